@@ -1,0 +1,124 @@
+-- Forgiving-base64 decode (Infra Standard, section 8), with the alphabet of RFC 4648, section 4.
+use Rattle.std.specs.Prelude.{ℕ, ◌+◌, ◌-◌, ◌*◌, ◌/◌, ◌%◌, ◌==◌, ◌&&◌, ◌||◌, min, Bool, not, cond, List, [], ◌∷◌, ◌++◌, length, take, drop, filter, map, replicate, Option, None, Some, codes, slice_index}
+use Rattle.std.specs.List.{find, list_all, list_any, range_with_len}
+use Rattle.std.specs.Int.{is_in_range}
+
+-- ASCII whitespace: tab, line feed, form feed, carriage return and space (Infra, section 4.6)
+abbrev pub is_ascii_whitespace : ℕ → Bool
+is_ascii_whitespace b = (b == 9) || ((b == 10) || ((b == 12) || ((b == 13) || (b == 32))))
+
+-- a symbol of the alphabet: 'A' to 'Z', 'a' to 'z', '0' to '9', '+' and '/'
+abbrev pub is_symbol : ℕ → Bool
+is_symbol b = is_in_range 65 90 b || (is_in_range 97 122 b || (is_in_range 48 57 b || ((b == 43) || (b == 47))))
+
+-- the value of a symbol: its place in the alphabet
+abbrev pub symbol_value : ℕ → ℕ
+symbol_value b = cond (is_in_range 65 90 b) (b - 65) (cond (is_in_range 97 122 b) (b - 71) (cond (is_in_range 48 57 b) (b + 4) (cond (b == 43) 62 63)))
+
+-- Which texts are valid
+
+-- the text without ASCII whitespace (step 1)
+unfoldable pub compact : List ℕ → List ℕ
+compact b = filter (λ c. not (is_ascii_whitespace c)) b
+
+-- the text without one '=' at its end, if there is one
+unfoldable pub without_sign : List ℕ → List ℕ
+without_sign [] = []
+without_sign (a ∷ []) = cond (a == 61) [] (a ∷ [])
+without_sign (a ∷ b ∷ rest) = a ∷ without_sign (b ∷ rest)
+
+-- where the length divides by four, the text without one or two '=' at its end (step 2)
+unfoldable pub unpadded : List ℕ → List ℕ
+unpadded s = cond (length s % 4 == 0) (without_sign (without_sign s)) s
+
+-- the rule of the whole text: no length of remainder one by four, and no byte that is no symbol (steps 3 and 4)
+unfoldable pub is_valid : List ℕ → Bool
+is_valid b = not (length (unpadded (compact b)) % 4 == 1) && list_all is_symbol (unpadded (compact b))
+
+-- What a text stands for
+
+-- four symbols' values as one number below 2 ^ 24
+abbrev pub group_number : ℕ → ℕ → ℕ → ℕ → ℕ
+group_number p q r s = ((p * 64 + q) * 64 + r) * 64 + s
+
+-- its three digits in base 256
+abbrev pub group_bytes : ℕ → List ℕ
+group_bytes n = n / 65536 ∷ n / 256 % 256 ∷ n % 256 ∷ []
+
+-- the bytes of the complete groups of four values
+unfoldable pub groups : List ℕ → List ℕ
+groups (p ∷ q ∷ r ∷ s ∷ rest) = group_bytes (group_number p q r s) ++ groups rest
+groups vs = []
+
+-- what is left over after the complete groups of four
+unfoldable pub after_groups : List ℕ → List ℕ
+after_groups (p ∷ q ∷ r ∷ s ∷ rest) = after_groups rest
+after_groups vs = vs
+
+-- the bytes of values left over: of three, 18 bits, the last two are dropped; of two, 12 bits, the last four
+abbrev pub rest_bytes : List ℕ → List ℕ
+rest_bytes (p ∷ q ∷ r ∷ rest) = ((p * 64 + q) * 64 + r) / 4 / 256 ∷ ((p * 64 + q) * 64 + r) / 4 % 256 ∷ []
+rest_bytes (p ∷ q ∷ []) = (p * 64 + q) / 16 ∷ []
+rest_bytes (p ∷ []) = []
+rest_bytes [] = []
+
+-- the values of the symbols of a text
+unfoldable pub values : List ℕ → List ℕ
+values b = map symbol_value (filter is_symbol b)
+
+-- the bytes that a valid text stands for (steps 5 to 10)
+unfoldable pub decoded : List ℕ → List ℕ
+decoded b = groups (values b) ++ rest_bytes (after_groups (values b))
+
+-- Where a text that is not valid goes wrong
+
+-- neither whitespace nor '=' nor a symbol
+abbrev pub is_unexpected : ℕ → Bool
+is_unexpected c = not (is_ascii_whitespace c || ((c == 61) || is_symbol c))
+
+-- the byte at the place is unexpected, or a symbol with an '=' somewhere before it
+abbrev pub is_fault : List ℕ → ℕ → Bool
+is_fault b i = is_unexpected (slice_index b i) || (is_symbol (slice_index b i) && list_any (λ c. c == 61) (take i b))
+
+-- the least place of a fault, where there is one
+unfoldable pub first_fault : List ℕ → Option ℕ
+first_fault b = find (is_fault b) (range_with_len 0 (length b))
+
+-- what stands before a place, or the whole where there is none
+abbrev pub before_place : List ℕ → Option ℕ → List ℕ
+before_place b None = b
+before_place b (Some i) = take i b
+
+-- the bytes of the groups that are complete before the first fault
+unfoldable pub done : List ℕ → List ℕ
+done b = groups (values (before_place b (first_fault b)))
+
+-- why a text is refused: a byte that may not stand there, a symbol behind padding, a symbol that is alone in its group, or signs that do not fit the symbols
+pub data Kind : Type 0 where
+  UnexpectedSymbol : ℕ → Kind
+  AlphabetSymbolAfterPadding : Kind
+  LoneAlphabetSymbol : Kind
+  Padding : Kind
+
+-- by the byte at the first fault, or else by the number of symbols
+abbrev pub kind_at : List ℕ → Option ℕ → Kind
+kind_at b None = cond (length (values b) % 4 == 1) LoneAlphabetSymbol Padding
+kind_at b (Some i) = cond (is_symbol (slice_index b i)) AlphabetSymbolAfterPadding (UnexpectedSymbol (slice_index b i))
+
+-- why a text that is not valid is refused
+unfoldable pub kind_of : List ℕ → Kind
+kind_of b = kind_at b (first_fault b)
+
+-- What is left of a text without a fault, to go on from
+
+-- the symbols that are left over after the complete groups
+unfoldable pub left_symbols : List ℕ → List ℕ
+left_symbols b = after_groups (filter is_symbol b)
+
+-- the number of '=', or 3 if there are more
+unfoldable pub left_padding : List ℕ → ℕ
+left_padding b = min (length (filter (λ c. c == 61) b)) 3
+
+-- the text of what is left: the symbols and then the signs
+abbrev pub left_text : List ℕ → ℕ → List ℕ
+left_text symbols padding = symbols ++ replicate padding 61

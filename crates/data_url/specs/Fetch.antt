@@ -1,0 +1,121 @@
+-- The data: URL processor (Fetch Standard, section 6), stage by stage over whole texts of bytes.
+use Rattle.std.specs.Prelude.{ℕ, ◌-◌, ◌==◌, Bool, cond, List, [], ◌∷◌, ◌++◌, length, take, drop, map, replicate, Option, None, Some, is_some, option_and_then, codes}
+use Rattle.std.specs.Option.{option_map}
+use Rattle.std.specs.Char.{to_ascii_lowercase}
+use Rattle.std.specs.Str.{bytes_eq}
+use Rattle.data_url.specs.Url.{after_scheme, before, behind, fragment, front, in_fragment_set, percent_encoded, serialised, trimmed, without_end, without_front}
+use Rattle.data_url.specs.Percent.{percent_decoded}
+use Rattle.data_url.specs.Base64.{Kind, decoded, done, is_valid, kind_of}
+
+-- Header and body
+
+-- the path and query of a text with the scheme, serialised (steps 1 to 4)
+unfoldable pub staged_front : List ℕ → Option (List ℕ)
+staged_front t = option_map (λ a. serialised (front a)) (after_scheme t)
+
+-- what stands before the first comma, where there is one
+abbrev pub before_comma : List ℕ → Option (List ℕ)
+before_comma s = option_map (λ rest. before 44 s) (behind 44 s)
+
+-- the header: what stands before the first comma of the serialised front (steps 5 to 7)
+unfoldable pub header_of : List ℕ → Option (List ℕ)
+header_of t = option_and_then before_comma (staged_front t)
+
+-- the encoded body: what stands behind that comma (steps 8 and 9)
+unfoldable pub encoded_body : List ℕ → Option (List ℕ)
+encoded_body t = option_and_then (behind 44) (staged_front t)
+
+-- what stands behind the first comma of the text as it was given, but for its ends
+unfoldable pub tail_of : List ℕ → Option (List ℕ)
+tail_of t = behind 44 (trimmed t)
+
+-- The base64 suffix
+
+abbrev pub is_space : ℕ → Bool
+is_space b = b == 32
+
+-- the header without spaces at both ends (step 6)
+unfoldable pub stripped : List ℕ → List ℕ
+stripped h = without_end is_space (without_front is_space h)
+
+-- the last n bytes, and what stands before them
+abbrev pub last : ℕ → List ℕ → List ℕ
+last n s = drop (length s - n) s
+
+abbrev pub before_last : ℕ → List ℕ → List ℕ
+before_last n s = take (length s - n) s
+
+-- what stands before "base64" at the end, in any ASCII case
+abbrev pub before_word : List ℕ → Option (List ℕ)
+before_word s = cond (bytes_eq (map to_ascii_lowercase (last 6 s)) (codes "base64")) (Some (before_last 6 s)) None
+
+-- what stands before ';' at the end
+abbrev pub before_semicolon : List ℕ → Option (List ℕ)
+before_semicolon s = cond (bytes_eq (last 1 s) (codes ";")) (Some (before_last 1 s)) None
+
+-- what stands before ';', any number of spaces and "base64" at the end, where it ends so (step 11)
+unfoldable pub before_base64 : List ℕ → Option (List ℕ)
+before_base64 s = option_and_then (λ m. before_semicolon (without_end is_space m)) (before_word s)
+
+-- the body is base64
+unfoldable pub has_base64_suffix : List ℕ → Bool
+has_base64_suffix h = is_some (before_base64 (stripped h))
+
+abbrev pub or_else : List ℕ → Option (List ℕ) → List ℕ
+or_else s None = s
+or_else s (Some m) = m
+
+-- the header without the suffix
+unfoldable pub media_of : List ℕ → List ℕ
+media_of h = or_else (stripped h) (before_base64 (stripped h))
+
+-- with "text/plain" in front of a leading ';' (step 12)
+abbrev pub with_plain : List ℕ → List ℕ
+with_plain [] = []
+with_plain (c ∷ s) = cond (c == 59) (codes "text/plain" ++ c ∷ s) (c ∷ s)
+
+-- the text whose record is that of the URL (steps 12 to 14): its code points are its bytes, all below 127
+unfoldable pub mime_text : List ℕ → List ℕ
+mime_text h = with_plain (media_of h)
+
+-- The body
+
+-- the body, or the bytes before a fault of base64 and that fault
+pub data Outcome : Type 0 where
+  Good : List ℕ → Outcome
+  Bad : List ℕ → Kind → Outcome
+
+-- a body as it is or, with the suffix, forgiving-base64 decoded (steps 10 and 11)
+unfoldable pub outcome : Bool → List ℕ → Outcome
+outcome flag x = cond flag (cond (is_valid x) (Good (decoded x)) (Bad (done x) (kind_of x))) (Good x)
+
+abbrev pub outcome_bytes : Outcome → List ℕ
+outcome_bytes (Good x) = x
+outcome_bytes (Bad x kind) = x
+
+-- The whole
+
+-- no scheme; a scheme and no comma; or the text whose record it has, the body and the encoded fragment
+pub data Staged : Type 0 where
+  NoScheme : Staged
+  NoComma : Staged
+  Accepted : List ℕ → Outcome → Option (List ℕ) → Staged
+
+-- of the fragment, the header and the encoded body
+abbrev pub staged_parts : Option (List ℕ) → Option (List ℕ) → Option (List ℕ) → Staged
+staged_parts fragment (Some header) (Some body) = Accepted (mime_text header) (outcome (has_base64_suffix header) (percent_decoded body)) (option_map (percent_encoded in_fragment_set) fragment)
+staged_parts fragment (Some header) None = NoComma
+staged_parts fragment None body = NoComma
+
+abbrev pub staged_after : List ℕ → Option (List ℕ) → Staged
+staged_after t None = NoScheme
+staged_after t (Some a) = staged_parts (fragment a) (header_of t) (encoded_body t)
+
+-- what the staged Standard makes of a text
+unfoldable pub staged : List ℕ → Staged
+staged t = staged_after t (after_scheme t)
+
+abbrev pub staged_fragment : Staged → Option (List ℕ)
+staged_fragment NoScheme = None
+staged_fragment NoComma = None
+staged_fragment (Accepted text body fragment) = fragment

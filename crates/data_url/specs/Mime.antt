@@ -1,0 +1,234 @@
+-- MIME types: the grammar of a text, the record that it gives, and the record's printed text (MIME Sniffing Standard, section 4). Texts are lists of code points.
+use Rattle.std.specs.Prelude.{◌≡◌, ◌≢◌, ◌⊎◌, ℕ, ◌==◌, ◌&&◌, ◌||◌, Bool, true, false, not, cond, List, [], ◌∷◌, ◌++◌, map, Option, None, Some, IsTrue, codes}
+use Rattle.std.specs.List.{AllByRecursion, flat_map, list_all, list_any}
+use Rattle.std.specs.Char.{to_ascii_lowercase}
+use Rattle.std.specs.Str.{bytes_eq}
+use Rattle.data_url.specs.CodePoints.{ends_name, is_http_whitespace, is_quotable, is_semicolon, is_token}
+
+-- Records
+
+-- a parameter that is kept: its name and its value
+abbrev pub Pair : Type 0
+Pair = List ℕ × List ℕ
+
+-- a MIME type record: its type, its subtype and its parameters in order
+pub record Record : Type 0 where
+  pub type_ : List ℕ
+  pub subtype : List ℕ
+  pub parameters : List Pair
+
+-- text/plain;charset=US-ASCII
+abbrev pub default_record : Record
+default_record = record { type_ = codes "text"; subtype = codes "plain"; parameters = (codes "charset", codes "US-ASCII") ∷ [] }
+
+-- Texts and tests
+
+-- each code point of the text passes
+abbrev pub Every : (ℕ → Bool) → List ℕ → Type 0
+Every p [] = Unit {0}
+Every p (c ∷ t) = (p c ≡ true) × Every p t
+
+-- no code point of the text passes
+abbrev pub Without : (ℕ → Bool) → List ℕ → Type 0
+Without p t = Every (λ c. not (p c)) t
+
+-- the text is empty, or its first code point does not pass
+abbrev pub DoesNotBegin : (ℕ → Bool) → List ℕ → Type 0
+DoesNotBegin p [] = Unit {0}
+DoesNotBegin p (c ∷ t) = p c ≡ false
+
+-- the text is empty, or its last code point does not pass
+abbrev pub DoesNotEnd : (ℕ → Bool) → List ℕ → Type 0
+DoesNotEnd p [] = Unit {0}
+DoesNotEnd p (c ∷ []) = p c ≡ false
+DoesNotEnd p (c ∷ d ∷ t) = DoesNotEnd p (d ∷ t)
+
+-- t is s without its longest front and its longest end of code points that pass
+pub record IsTrimmed (p : ℕ → Bool) (s t : List ℕ) : Type 0 where
+  pub front : List ℕ
+  pub back : List ℕ
+  pub joined : s ≡ front ++ (t ++ back)
+  pub at_front : Every p front
+  pub at_back : Every p back
+  pub begins : DoesNotBegin p t
+  pub ends : DoesNotEnd p t
+
+-- t is s without its longest end of code points that pass
+pub record IsTrimmedEnd (p : ℕ → Bool) (s t : List ℕ) : Type 0 where
+  pub back : List ℕ
+  pub joined : s ≡ t ++ back
+  pub at_back : Every p back
+  pub ends : DoesNotEnd p t
+
+-- nonempty and of token code points alone
+abbrev pub is_token_text : List ℕ → Bool
+is_token_text [] = false
+is_token_text (c ∷ t) = list_all is_token (c ∷ t)
+
+-- HTTP quoted strings (Fetch, section 2.2, with the quotes left out)
+
+-- a unit of a quoted string: a code point for itself, or one behind a '\'
+pub data QuotedUnit : Type 0 where
+  Plain : ℕ → QuotedUnit
+  Escaped : ℕ → QuotedUnit
+
+-- '"' and '\' stand only behind a '\'
+abbrev pub IsUnit : QuotedUnit → Type 0
+IsUnit (Plain c) = (c ≢ 34) × (c ≢ 92)
+IsUnit (Escaped c) = Unit {0}
+
+abbrev pub unit_text : QuotedUnit → List ℕ
+unit_text (Plain c) = c ∷ []
+unit_text (Escaped c) = 92 ∷ c ∷ []
+
+abbrev pub unit_value : QuotedUnit → ℕ
+unit_value (Plain c) = c
+unit_value (Escaped c) = c
+
+-- the text is a join of units, and the value the list of their values
+pub record Quoted (text value : List ℕ) : Type 0 where
+  pub units : List QuotedUnit
+  pub each : AllByRecursion IsUnit units
+  pub text_is : text ≡ flat_map unit_text units
+  pub value_is : value ≡ map unit_value units
+
+-- the same, or with one last lone '\', which stands for itself: the text ends before a closing quote
+abbrev pub QuotedOpen : List ℕ → List ℕ → Type 0
+QuotedOpen text value = Quoted text value ⊎ ((text' value' : List ℕ) × (text ≡ text' ++ 92 ∷ []) × (value ≡ value' ++ 92 ∷ []) × Quoted text' value')
+
+-- Parameters
+
+-- a parameter as it stands: its name and, where there is one, its value
+abbrev pub Item : Type 0
+Item = List ℕ × Option (List ℕ)
+
+-- a value, or none if it is empty
+abbrev pub unless_empty : List ℕ → Option (List ℕ)
+unless_empty [] = None
+unless_empty (c ∷ t) = Some (c ∷ t)
+
+abbrev pub is_quote : ℕ → Bool
+is_quote c = c == 34
+
+-- tail, which stands behind a name and before rest, gives the value
+pub data GivesValue : List ℕ → List ℕ → Option (List ℕ) → Type 0 where
+  -- no '='
+  nothing : {rest : List ℕ} → GivesValue [] rest None
+  -- '=' as the end of the whole
+  lone_equals : GivesValue (61 ∷ []) [] None
+  -- '=' and a text that begins with no '"', without HTTP whitespace at its end
+  plain : {rest : List ℕ} (text value : List ℕ) → Without is_semicolon text → DoesNotBegin is_quote text → IsTrimmedEnd is_http_whitespace text value → GivesValue (61 ∷ text) rest (unless_empty value)
+  -- '=', a quoted string in quotes, and anything up to the next ';'
+  quoted : {value rest : List ℕ} (text junk : List ℕ) → Quoted text value → Without is_semicolon junk → GivesValue (61 ∷ 34 ∷ (text ++ (34 ∷ junk))) rest (Some value)
+  -- '=' and a quoted string whose closing quote is missing, as the end of the whole
+  unclosed : {value : List ℕ} (text : List ℕ) → QuotedOpen text value → GivesValue (61 ∷ 34 ∷ text) [] (Some value)
+
+-- text, which stands before rest, is a parameter: ';', HTTP whitespace, a name and what gives its value
+pub record IsParameter (text rest : List ℕ) (item : Item) : Type 0 where
+  pub gap : List ℕ
+  pub name : List ℕ
+  pub tail : List ℕ
+  pub joined : text ≡ 59 ∷ (gap ++ (name ++ tail))
+  pub in_gap : Every is_http_whitespace gap
+  pub begins : DoesNotBegin is_http_whitespace name
+  pub in_name : Without ends_name name
+  pub name_is : item.0 ≡ map to_ascii_lowercase name
+  pub value_is : GivesValue tail rest item.1
+
+-- the text is a join of parameters, and the list has their items in order
+abbrev pub Items : List ℕ → List Item → Type 0
+Items r [] = r ≡ []
+Items r (item ∷ items) = (text rest : List ℕ) × (r ≡ text ++ rest) × IsParameter text rest item × Items rest items
+
+-- the item's pair, if its name is a nonempty text of token code points and it has a value of quoted-string code points alone
+abbrev pub valid_of : Item → List Pair
+valid_of (name, None) = []
+valid_of (name, Some value) = cond (is_token_text name && list_all is_quotable value) ((name, value) ∷ []) []
+
+abbrev pub valid_pairs : List Item → List Pair
+valid_pairs items = flat_map valid_of items
+
+abbrev pub has_name : List ℕ → List Pair → Bool
+has_name name pairs = list_any (λ (p : Pair). bytes_eq p.0 name) pairs
+
+-- the pairs that have no equal name among those before them
+abbrev pub first_of_each_name : List Pair → List Pair → List Pair
+first_of_each_name earlier [] = []
+first_of_each_name earlier (p ∷ ps) = cond (has_name p.0 earlier) (first_of_each_name (earlier ++ p ∷ []) ps) (p ∷ first_of_each_name (earlier ++ p ∷ []) ps)
+
+-- the valid pairs, of each name the first
+abbrev pub kept : List Item → List Pair
+kept items = first_of_each_name [] (valid_pairs items)
+
+-- Parse a MIME type (MIME Sniffing, section 4.4)
+
+-- the text is empty or begins with ';'
+abbrev pub BeginsParameters : List ℕ → Type 0
+BeginsParameters [] = Unit {0}
+BeginsParameters (c ∷ r) = c ≡ 59
+
+-- s, without HTTP whitespace at both ends, is a type, '/', a subtype, HTTP whitespace and its parameters' text
+pub record IsHead (s type_ subtype parameters : List ℕ) : Type 0 where
+  pub text : List ℕ
+  pub gap : List ℕ
+  pub trimmed : IsTrimmed is_http_whitespace s text
+  pub joined : text ≡ type_ ++ (47 ∷ (subtype ++ (gap ++ parameters)))
+  pub is_type : IsTrue (is_token_text type_)
+  pub is_subtype : IsTrue (is_token_text subtype)
+  pub in_gap : Every is_http_whitespace gap
+  pub begins : BeginsParameters parameters
+
+-- s is a MIME type, and m its record
+pub record Parses (s : List ℕ) (m : Record) : Type 0 where
+  pub type_ : List ℕ
+  pub subtype : List ℕ
+  pub parameters : List ℕ
+  pub items : List Item
+  pub head : IsHead s type_ subtype parameters
+  pub items_are : Items parameters items
+  pub type_is : m.type_ ≡ map to_ascii_lowercase type_
+  pub subtype_is : m.subtype ≡ map to_ascii_lowercase subtype
+  pub parameters_are : m.parameters ≡ kept items
+
+-- no record is that of the text
+abbrev pub HasNoRecord : List ℕ → Type 0
+HasNoRecord s = (m : Record) → Parses s m → ⊥
+
+-- the record of the text or, where it has none, the default
+abbrev pub IsRecordOf : List ℕ → Record → Type 0
+IsRecordOf s m = Parses s m ⊎ (HasNoRecord s × (m ≡ default_record))
+
+-- Serialize a MIME type (MIME Sniffing, section 4.5)
+
+-- with a '\' before '"' and '\'
+abbrev pub escaped : ℕ → List ℕ
+escaped c = cond ((c == 34) || (c == 92)) (92 ∷ c ∷ []) (c ∷ [])
+
+-- a nonempty text of token code points as it is, any other value in quotes
+abbrev pub printed_value : List ℕ → List ℕ
+printed_value v = cond (is_token_text v) v (34 ∷ (flat_map escaped v ++ 34 ∷ []))
+
+abbrev pub printed_pair : Pair → List ℕ
+printed_pair p = 59 ∷ (p.0 ++ (61 ∷ printed_value p.1))
+
+-- the printed text of any record, valid or not
+unfoldable pub printed : Record → List ℕ
+printed m = m.type_ ++ (47 ∷ (m.subtype ++ flat_map printed_pair m.parameters))
+
+-- Records that a parse can give
+
+-- a nonempty text of token code points without 'A' to 'Z'
+abbrev pub is_lowercase_name : List ℕ → Bool
+is_lowercase_name t = is_token_text t && bytes_eq (map to_ascii_lowercase t) t
+
+abbrev pub has_distinct_names : List Pair → Bool
+has_distinct_names [] = true
+has_distinct_names (p ∷ ps) = not (has_name p.0 ps) && has_distinct_names ps
+
+-- type, subtype and names are lower-case names, no name comes twice, and values have quoted-string code points alone
+pub record IsWellformed (m : Record) : Type 0 where
+  pub type_ : IsTrue (is_lowercase_name m.type_)
+  pub subtype : IsTrue (is_lowercase_name m.subtype)
+  pub names : IsTrue (list_all (λ (p : Pair). is_lowercase_name p.0) m.parameters)
+  pub distinct : IsTrue (has_distinct_names m.parameters)
+  pub values : IsTrue (list_all (λ (p : Pair). list_all is_quotable p.1) m.parameters)

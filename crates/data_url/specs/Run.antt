@@ -1,0 +1,32 @@
+-- The calls that a closure ran.
+use Rattle.std.specs.Prelude.{◌≡◌, ℕ, List, [], ◌∷◌, ◌++◌, Option, None, Some, Result, Ok, Err, IsErr}
+
+-- one call of a closure: the bytes that it was given, what it answered, and its state after it
+pub record Call (F : Type 0) (E : Type 0) : Type 0 where
+  pub piece : List ℕ
+  pub answer : Result (Unit {0}) E
+  pub after : F
+
+-- the calls lead from one state of the closure to another, and none follows one that was refused
+abbrev pub IsRun : {F E : Type 0} → (F → List ℕ → Result (Unit {0}) E → F → Type 0) → F → List (Call F E) → F → Type 0
+IsRun step f [] g = f ≡ g
+IsRun step f (c ∷ cs) g = step f c.piece c.answer c.after × (IsErr c.answer → cs ≡ []) × IsRun step c.after cs g
+
+-- the pieces of a run, joined, a refused last one included
+abbrev pub joined : {F E : Type 0} → List (Call F E) → List ℕ
+joined [] = []
+joined (c ∷ cs) = c.piece ++ joined cs
+
+-- the error of an answer, or else the second
+abbrev pub or_error : {E : Type 0} → Result (Unit {0}) E → Option E → Option E
+or_error (Ok x) o = o
+or_error (Err e) o = Some e
+
+-- the error that ended a run, where it was refused
+abbrev pub refusal : {F E : Type 0} → List (Call F E) → Option E
+refusal [] = None
+refusal (c ∷ cs) = or_error c.answer (refusal cs)
+
+-- the second text begins with the first, which may be empty or the whole
+abbrev pub IsPrefix : List ℕ → List ℕ → Type 0
+IsPrefix xs ys = (more : List ℕ) × (ys ≡ xs ++ more)

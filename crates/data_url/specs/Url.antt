@@ -1,0 +1,90 @@
+-- The parts of a data: URL's text, as the URL Standard cuts and writes them. Texts are lists of bytes.
+use Rattle.std.specs.Prelude.{ℕ, ◌-◌, ◌+◌, ◌/◌, ◌%◌, ◌==◌, ◌||◌, nat_le, nat_lt, Bool, not, cond, List, [], ◌∷◌, ◌++◌, length, take, drop, filter, map, Option, None, Some, codes}
+use Rattle.std.specs.List.{prefix_len, suffix_len, flat_map}
+use Rattle.std.specs.Str.{bytes_eq}
+use Rattle.std.specs.Char.{to_ascii_lowercase}
+
+-- the text without its longest front of bytes that pass the test
+abbrev pub without_front : (ℕ → Bool) → List ℕ → List ℕ
+without_front p s = drop (prefix_len p s) s
+
+-- the text without its longest end of bytes that pass the test
+abbrev pub without_end : (ℕ → Bool) → List ℕ → List ℕ
+without_end p s = take (length s - suffix_len p s) s
+
+-- a C0 control or a space (Infra, section 4.6)
+abbrev pub is_c0_control_or_space : ℕ → Bool
+is_c0_control_or_space b = nat_le b 32
+
+-- the text without C0 controls and spaces at both ends (URL, section 4.4, step 1)
+unfoldable pub trimmed : List ℕ → List ℕ
+trimmed t = without_end is_c0_control_or_space (without_front is_c0_control_or_space t)
+
+-- an ASCII tab or newline (Infra, section 4.6)
+abbrev pub is_tab_or_newline : ℕ → Bool
+is_tab_or_newline b = (b == 9) || ((b == 10) || (b == 13))
+
+-- the text without ASCII tabs and newlines (URL, section 4.4, step 3)
+unfoldable pub dropped : List ℕ → List ℕ
+dropped s = filter (λ b. not (is_tab_or_newline b)) s
+
+-- the text that the URL parser reads
+unfoldable pub cleaned : List ℕ → List ℕ
+cleaned t = dropped (trimmed t)
+
+-- what stands before the first c: the whole where there is none
+unfoldable pub before : ℕ → List ℕ → List ℕ
+before c [] = []
+before c (b ∷ bs) = cond (b == c) [] (b ∷ before c bs)
+
+-- what stands behind the first c, where there is one
+unfoldable pub behind : ℕ → List ℕ → Option (List ℕ)
+behind c [] = None
+behind c (b ∷ bs) = cond (b == c) (Some bs) (behind c bs)
+
+-- what follows the scheme "data:", spelled in any ASCII case; none where the text begins otherwise (URL, section 4.4, scheme state)
+unfoldable pub after_scheme : List ℕ → Option (List ℕ)
+after_scheme t = cond (bytes_eq (map to_ascii_lowercase (take 5 (cleaned t))) (codes "data:")) (Some (drop 5 (cleaned t))) None
+
+-- the opaque path with its query: what stands before the first '#' (URL, section 4.4, opaque path state and query state)
+unfoldable pub front : List ℕ → List ℕ
+front s = before 35 s
+
+-- the fragment: what stands behind the first '#', where there is one (URL, section 4.4, fragment state)
+unfoldable pub fragment : List ℕ → Option (List ℕ)
+fragment s = behind 35 s
+
+-- Percent-encoding (URL, section 1.3)
+
+-- the C0 control percent-encode set, of a path: C0 controls and bytes above '~'
+abbrev pub in_path_set : ℕ → Bool
+in_path_set b = nat_lt b 32 || nat_lt 126 b
+
+-- the query percent-encode set: the path's, and space, '"', '#', '<' and '>'
+abbrev pub in_query_set : ℕ → Bool
+in_query_set b = in_path_set b || ((b == 32) || ((b == 34) || ((b == 35) || ((b == 60) || (b == 62)))))
+
+-- the fragment percent-encode set: the path's, and space, '"', '<', '>' and '`'
+abbrev pub in_fragment_set : ℕ → Bool
+in_fragment_set b = in_path_set b || ((b == 32) || ((b == 34) || ((b == 60) || ((b == 62) || (b == 96)))))
+
+-- the upper-case hexadecimal digit of a number below 16
+abbrev pub hex_digit : ℕ → ℕ
+hex_digit d = cond (nat_lt d 10) (48 + d) (55 + d)
+
+-- a byte of the set as '%' and its two digits, any other as itself
+abbrev pub encoded_byte : (ℕ → Bool) → ℕ → List ℕ
+encoded_byte in_set b = cond (in_set b) (37 ∷ hex_digit (b / 16) ∷ hex_digit (b % 16) ∷ []) (b ∷ [])
+
+-- the text with each byte of the set percent-encoded
+unfoldable pub percent_encoded : (ℕ → Bool) → List ℕ → List ℕ
+percent_encoded in_set s = flat_map (encoded_byte in_set) s
+
+-- a path and, where there is one, '?' and its query, each encoded by its own set
+abbrev pub with_query : List ℕ → Option (List ℕ) → List ℕ
+with_query path None = percent_encoded in_path_set path
+with_query path (Some query) = percent_encoded in_path_set path ++ 63 ∷ percent_encoded in_query_set query
+
+-- an opaque path with its query, serialised: the first '?' ends the path (URL, section 4.5)
+unfoldable pub serialised : List ℕ → List ℕ
+serialised s = with_query (before 63 s) (behind 63 s)
