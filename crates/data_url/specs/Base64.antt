@@ -1,6 +1,7 @@
 -- Forgiving-base64 decode (Infra Standard, section 8), with the alphabet of RFC 4648, section 4.
 use Rattle.std.specs.Prelude.{ℕ, ◌+◌, ◌-◌, ◌*◌, ◌/◌, ◌%◌, ◌==◌, ◌&&◌, ◌||◌, min, Bool, not, cond, List, [], ◌∷◌, ◌++◌, length, take, drop, filter, map, replicate, Option, None, Some, codes, slice_index}
 use Rattle.std.specs.List.{find, list_all, list_any, range_with_len}
+use Rattle.std.specs.Fmt.{decimal}
 use Rattle.std.specs.Int.{is_in_range}
 
 -- ASCII whitespace: tab, line feed, form feed, carriage return and space (Infra, section 4.6)
@@ -122,3 +123,10 @@ left_padding b = min (length (filter (λ c. c == 61) b)) 3
 -- the text of what is left: the symbols and then the signs
 abbrev pub left_text : List ℕ → ℕ → List ℕ
 left_text symbols padding = symbols ++ replicate padding 61
+
+-- the text of a refusal
+abbrev pub kind_text : Kind → List ℕ
+kind_text (UnexpectedSymbol b) = codes "symbol with codepoint " ++ (decimal b ++ codes " not expected")
+kind_text AlphabetSymbolAfterPadding = codes "alphabet symbol present after padding"
+kind_text LoneAlphabetSymbol = codes "lone alphabet symbol present"
+kind_text Padding = codes "incorrect padding"

@@ -1,8 +1,11 @@
 pub mod Base64
 pub mod CodePoints
+pub mod ErrorText
 pub mod Fetch
 pub mod Laws
 pub mod Mime
 pub mod Percent
+pub mod Refusal
 pub mod Run
+pub mod Seen
 pub mod Url

@@ -1,0 +1,11 @@
+-- The texts of errors that hold another.
+use Rattle.std.specs.Prelude.{ℕ, List, ◌++◌, Option, None, Some, codes}
+use Rattle.std.specs.Option.{option_map}
+use Rattle.data_url.specs.Base64.{kind_text}
+use Rattle.data_url.specs.declared.forgiving_base64.DecodeError.{DecodeError}
+use Rattle.data_url.specs.declared.forgiving_base64.DecodeError.TheVariants.{InvalidBase64, WriteError}
+
+-- the text of an error, where the closure's error has one
+abbrev pub decode_error_text : {E : Type 0} → (E → Option (List ℕ)) → DecodeError E → Option (List ℕ)
+decode_error_text output (InvalidBase64 kind) = Some (codes "base64 not valid: " ++ kind_text kind)
+decode_error_text output (WriteError e) = option_map (λ text. codes "write error: " ++ text) (output e)

@@ -1,0 +1,75 @@
+//! Forgiving base64 (Infra Standard, section 8).
+
+ghost use Rattle.std.specs.Prelude.{◌++◌, Some, codes};
+
+use std::error::Error;
+use std::fmt;
+use std::marker::Model;
+
+/// Why a text is not valid base64: contracts see its kind.
+#[derive(Debug, Drop)]
+pub struct InvalidBase64 {
+    details: InvalidBase64Details,
+}
+
+#[derive(Debug, Drop)]
+enum InvalidBase64Details {
+    UnexpectedSymbol(u8),
+    AlphabetSymbolAfterPadding,
+    LoneAlphabetSymbol,
+    Padding,
+}
+
+impl Model for InvalidBase64 {
+    ghost use Rattle.data_url.specs.Base64.{Kind};
+    ghost use Rattle.data_url.specs.Refusal.{kind_of_details};
+
+    ghost Value = { Kind };
+
+    ghost view = { λ refusal. kind_of_details refusal.details };
+}
+
+impl fmt::Display for InvalidBase64 {
+    ghost use Rattle.data_url.specs.Base64.{kind_text};
+
+    ghost output = { λ kind. Some (kind_text kind) };
+
+    fn fmt<W: fmt::Write>(&self, f: &mut fmt::Formatter<W>) -> fmt::Result {
+        match &self.details {
+            InvalidBase64Details::UnexpectedSymbol(byte) => {
+                write!(f, "symbol with codepoint {byte} not expected")
+            }
+            InvalidBase64Details::AlphabetSymbolAfterPadding => {
+                write!(f, "alphabet symbol present after padding")
+            }
+            InvalidBase64Details::LoneAlphabetSymbol => write!(f, "lone alphabet symbol present"),
+            InvalidBase64Details::Padding => write!(f, "incorrect padding"),
+        }
+    }
+}
+
+impl Error for InvalidBase64 {}
+
+/// Why decoding ended early: the text is not valid base64, or the closure that was given the bytes refused them.
+#[derive(Debug, Drop)]
+pub enum DecodeError<E> {
+    /// The text is not valid base64.
+    InvalidBase64(InvalidBase64),
+    /// The closure's own error.
+    WriteError(E),
+}
+
+impl<E: fmt::Display> fmt::Display for DecodeError<E> {
+    ghost use Rattle.data_url.specs.ErrorText.{decode_error_text};
+
+    ghost output = { λ error. decode_error_text E.output error };
+
+    fn fmt<W: fmt::Write>(&self, f: &mut fmt::Formatter<W>) -> fmt::Result {
+        match self {
+            DecodeError::InvalidBase64(inner) => write!(f, "base64 not valid: {inner}"),
+            DecodeError::WriteError(inner) => write!(f, "write error: {inner}"),
+        }
+    }
+}
+
+impl<E: Error> Error for DecodeError<E> {}
