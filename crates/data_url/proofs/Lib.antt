@@ -1,0 +1,4 @@
+mod Base64Examples
+mod MimeExamples
+pub mod OnLiterals
+mod StagedExamples

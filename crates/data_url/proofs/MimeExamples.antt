@@ -1,0 +1,193 @@
+-- MIME texts with their records and printed texts: each record by a derivation in the grammar, each printed text computed.
+use Rattle.std.proofs.Common.{◌≡◌, ℕ, Bool, true, false, List, [], ◌∷◌, ◌++◌, Option, None, Some, inl, inr, codes, append-nil, eq-eqb, refl, subst, sym, ◌∙◌, ap, map}
+use Rattle.std.specs.Prelude.{◌==◌, IsTrue, ◌≢◌, ◌⊎◌, not, ◌&&◌, cond}
+use Rattle.std.specs.List.{AllByRecursion, flat_map, list_all}
+use Rattle.std.specs.Char.{to_ascii_lowercase}
+use Rattle.data_url.specs.CodePoints.{ends_name, is_http_whitespace, is_semicolon}
+use Rattle.data_url.specs.Mime.{BeginsParameters, DoesNotBegin, DoesNotEnd, Escaped, Every, GivesValue, IsHead, IsParameter, IsTrimmed, IsTrimmedEnd, IsUnit, Item, Items, Pair, Parses, Plain, Quoted, QuotedOpen, QuotedUnit, Record, Without, is_quote, is_token_text, kept, lone_equals, nothing, plain, printed, quoted, unclosed, unit_text, unit_value, unless_empty}
+use Rattle.data_url.proofs.OnLiterals.{on_literals}
+
+-- Derivations on literals
+
+both : (a b : Bool) → (a && b) ≡ true → (a ≡ true) × (b ≡ true)
+both true true h = (refl, refl)
+both true false h = (refl, h)
+both false b h = (h, elim b as (λ (v : Bool). v ≡ true) [ true ↦ refl | false ↦ h ])
+
+every : (p : ℕ → Bool) (t : List ℕ) → list_all p t ≡ true → Every p t
+every p [] h = tt
+every p (c ∷ t) h = let e = both (p c) (list_all p t) h in (e.0, every p t e.1)
+
+-- a text that has no whitespace at its ends
+untrimmed : (p : ℕ → Bool) (t : List ℕ) → DoesNotBegin p t → DoesNotEnd p t → IsTrimmed p t t
+untrimmed p t begins ends = record { front = []; back = []; joined = sym (append-nil t); at_front = tt; at_back = tt; begins = begins; ends = ends }
+
+untrimmed_end : (p : ℕ → Bool) (t : List ℕ) → DoesNotEnd p t → IsTrimmedEnd p t t
+untrimmed_end p t ends = record { back = []; joined = sym (append-nil t); at_back = tt; ends = ends }
+
+-- the text of a type, a subtype and parameters
+abbrev head_text : List ℕ → List ℕ → List ℕ → List ℕ
+head_text type_ subtype r = type_ ++ (47 ∷ (subtype ++ r))
+
+head : (type_ subtype r : List ℕ) → IsTrue (is_token_text type_) → IsTrue (is_token_text subtype) → BeginsParameters r → DoesNotBegin is_http_whitespace (head_text type_ subtype r) → DoesNotEnd is_http_whitespace (head_text type_ subtype r) → IsHead (head_text type_ subtype r) type_ subtype r
+head type_ subtype r t s b begins ends = record { text = head_text type_ subtype r; gap = []; trimmed = untrimmed is_http_whitespace (head_text type_ subtype r) begins ends; joined = refl; is_type = t; is_subtype = s; in_gap = tt; begins = b }
+
+-- ';', a name without whitespace before it, and what gives its value
+parameter : (name tail rest : List ℕ) (value : Option (List ℕ)) → DoesNotBegin is_http_whitespace name → list_all (λ c. not (ends_name c)) name ≡ true → GivesValue tail rest value → IsParameter (59 ∷ (name ++ tail)) rest (map to_ascii_lowercase name, value)
+parameter name tail rest value begins names gives = record { gap = []; name = name; tail = tail; joined = refl; in_gap = tt; begins = begins; in_name = every (λ c. not (ends_name c)) name names; name_is = refl; value_is = gives }
+
+-- '=' and a text without quotes and whitespace at its end
+plain_value : (text rest : List ℕ) → list_all (λ c. not (is_semicolon c)) text ≡ true → DoesNotBegin is_quote text → DoesNotEnd is_http_whitespace text → GivesValue (61 ∷ text) rest (unless_empty text)
+plain_value text rest semicolons quotes ends = plain text text (every (λ c. not (is_semicolon c)) text semicolons) quotes (untrimmed_end is_http_whitespace text ends)
+
+is_unit : QuotedUnit → Bool
+is_unit (Plain c) = not (c == 34) && not (c == 92)
+is_unit (Escaped c) = true
+
+differs : (c d : ℕ) → not (c == d) ≡ true → c ≢ d
+differs c d h e = let k : false ≡ true = sym (ap not (eq-eqb c d e)) ∙ h in cc
+
+are_units : (us : List QuotedUnit) → list_all is_unit us ≡ true → AllByRecursion IsUnit us
+unfolding is_unit
+are_units [] h = tt
+are_units (Plain c ∷ us) h =
+    let e = both (not (c == 34) && not (c == 92)) (list_all is_unit us) h in
+    let f = both (not (c == 34)) (not (c == 92)) e.0 in
+    ((differs c 34 f.0, differs c 92 f.1), are_units us e.1)
+are_units (Escaped c ∷ us) h = (tt, are_units us (both true (list_all is_unit us) h).1)
+
+quoted_units : (us : List QuotedUnit) → list_all is_unit us ≡ true → Quoted (flat_map unit_text us) (map unit_value us)
+quoted_units us h = record { units = us; each = are_units us h; text_is = refl; value_is = refl }
+
+-- the code points of a text, each for itself
+abbrev plainly : List ℕ → List QuotedUnit
+plainly t = map Plain t
+
+-- Examples
+
+-- a semicolon in quotes, a value that is missing, and one that is quoted and empty
+quotes : Parses (codes "TEXT/HTML;a=" ++ (34 ∷ codes "b;c" ++ (34 ∷ codes ";d=;e=" ++ (34 ∷ 34 ∷ [])))) (record { type_ = codes "text"; subtype = codes "html"; parameters = (codes "a", codes "b;c") ∷ (codes "e", []) ∷ [] })
+unfolding is_unit
+quotes = record {
+  type_ = codes "TEXT";
+  subtype = codes "HTML";
+  parameters = codes ";a=" ++ (34 ∷ codes "b;c" ++ (34 ∷ codes ";d=;e=" ++ (34 ∷ 34 ∷ [])));
+  items = (codes "a", Some (codes "b;c")) ∷ (codes "d", None) ∷ (codes "e", Some []) ∷ [];
+  head = head (codes "TEXT") (codes "HTML") (codes ";a=" ++ (34 ∷ codes "b;c" ++ (34 ∷ codes ";d=;e=" ++ (34 ∷ 34 ∷ [])))) refl refl refl refl refl;
+  items_are =
+    (codes ";a=" ++ (34 ∷ codes "b;c" ++ (34 ∷ [])), codes ";d=;e=" ++ (34 ∷ 34 ∷ []), refl,
+     parameter (codes "a") _ _ _ refl refl (quoted (codes "b;c") [] (quoted_units (plainly (codes "b;c")) refl) tt),
+     (codes ";d=", codes ";e=" ++ (34 ∷ 34 ∷ []), refl, parameter (codes "d") _ _ _ refl refl (plain_value [] _ refl tt tt),
+      (codes ";e=" ++ (34 ∷ 34 ∷ []), [], refl, parameter (codes "e") _ _ _ refl refl (quoted [] [] (quoted_units [] refl) tt), refl)));
+  type_is = refl;
+  subtype_is = refl;
+  parameters_are = refl;
+}
+
+-- the record x/x with these parameters
+abbrev x_x : List Pair → Record
+x_x pairs = record { type_ = codes "x"; subtype = codes "x"; parameters = pairs }
+
+-- a text of type and subtype x whose parameters have these items
+parses_x : (r : List ℕ) (items : List Item) → BeginsParameters r → DoesNotEnd is_http_whitespace (codes "x/x" ++ r) → Items r items → Parses (codes "x/x" ++ r) (x_x (kept items))
+parses_x r items begins ends are = record {
+  type_ = codes "x";
+  subtype = codes "x";
+  parameters = r;
+  items = items;
+  head = head (codes "x") (codes "x") r refl refl begins refl ends;
+  items_are = are;
+  type_is = refl;
+  subtype_is = refl;
+  parameters_are = refl;
+}
+
+-- names are lower-cased before they are compared, and the first pair of a name is kept
+repeated_name : Parses (codes "x/x;a=1;A=2") (x_x ((codes "a", codes "1") ∷ []))
+repeated_name = parses_x (codes ";a=1;A=2") ((codes "a", Some (codes "1")) ∷ (codes "a", Some (codes "2")) ∷ []) refl refl
+  (codes ";a=1", codes ";A=2", refl, parameter (codes "a") _ _ _ refl refl (plain_value (codes "1") _ refl refl refl),
+   (codes ";A=2", [], refl, parameter (codes "A") _ _ _ refl refl (plain_value (codes "2") _ refl refl refl), refl))
+
+-- what stands behind a closing quote is dropped, and does not count
+junk_behind_quote : Parses (codes "x/x;a=" ++ (34 ∷ 98 ∷ 34 ∷ 256 ∷ [])) (x_x ((codes "a", codes "b") ∷ []))
+unfolding is_unit
+junk_behind_quote = parses_x (codes ";a=" ++ (34 ∷ 98 ∷ 34 ∷ 256 ∷ [])) ((codes "a", Some (codes "b")) ∷ []) refl refl
+  (codes ";a=" ++ (34 ∷ 98 ∷ 34 ∷ 256 ∷ []), [], refl, parameter (codes "a") _ _ _ refl refl (quoted (codes "b") (256 ∷ []) (quoted_units (plainly (codes "b")) refl) (every (λ c. not (is_semicolon c)) (256 ∷ []) refl)), refl)
+
+-- a quoted value is judged as a whole: a semicolon belongs to it, and U+0100 makes its pair invalid
+code_point_above : Parses (codes "x/x;a=" ++ (34 ∷ 98 ∷ 59 ∷ 256 ∷ 34 ∷ [])) (x_x [])
+unfolding is_unit
+code_point_above = parses_x (codes ";a=" ++ (34 ∷ 98 ∷ 59 ∷ 256 ∷ 34 ∷ [])) ((codes "a", Some (98 ∷ 59 ∷ 256 ∷ [])) ∷ []) refl refl
+  (codes ";a=" ++ (34 ∷ 98 ∷ 59 ∷ 256 ∷ 34 ∷ []), [], refl, parameter (codes "a") _ _ _ refl refl (quoted (98 ∷ 59 ∷ 256 ∷ []) [] (quoted_units (plainly (98 ∷ 59 ∷ 256 ∷ [])) refl) tt), refl)
+
+-- a lone backslash at the end of the text stands for itself
+last_backslash : Parses (codes "x/x;a=" ++ (34 ∷ 92 ∷ [])) (x_x ((codes "a", 92 ∷ []) ∷ []))
+unfolding is_unit
+last_backslash = parses_x (codes ";a=" ++ (34 ∷ 92 ∷ [])) ((codes "a", Some (92 ∷ [])) ∷ []) refl refl
+  (codes ";a=" ++ (34 ∷ 92 ∷ []), [], refl, parameter (codes "a") _ _ _ refl refl (unclosed (92 ∷ []) (inr ([], [], refl, refl, quoted_units [] refl))), refl)
+
+-- escapes, a quote inside a plain value, and a quoted string that the end of the text closes
+abbrev escapes_text : List ℕ
+escapes_text = codes ";a=" ++ (34 ∷ 113 ∷ 92 ∷ 34 ∷ 114 ∷ 34 ∷ codes ";b=" ++ (34 ∷ 92 ∷ 97 ∷ 34 ∷ codes ";c=d" ++ (34 ∷ codes "e;f=" ++ (34 ∷ 103 ∷ []))))
+
+escapes : Parses (codes "x/x" ++ escapes_text) (x_x ((codes "a", 113 ∷ 34 ∷ 114 ∷ []) ∷ (codes "b", codes "a") ∷ (codes "c", 100 ∷ 34 ∷ 101 ∷ []) ∷ (codes "f", codes "g") ∷ []))
+unfolding is_unit
+escapes = parses_x escapes_text ((codes "a", Some (113 ∷ 34 ∷ 114 ∷ [])) ∷ (codes "b", Some (codes "a")) ∷ (codes "c", Some (100 ∷ 34 ∷ 101 ∷ [])) ∷ (codes "f", Some (codes "g")) ∷ []) refl refl
+  (codes ";a=" ++ (34 ∷ 113 ∷ 92 ∷ 34 ∷ 114 ∷ 34 ∷ []), codes ";b=" ++ (34 ∷ 92 ∷ 97 ∷ 34 ∷ codes ";c=d" ++ (34 ∷ codes "e;f=" ++ (34 ∷ 103 ∷ []))), refl,
+   parameter (codes "a") _ _ _ refl refl (quoted (113 ∷ 92 ∷ 34 ∷ 114 ∷ []) [] (quoted_units (Plain 113 ∷ Escaped 34 ∷ Plain 114 ∷ []) refl) tt),
+   (codes ";b=" ++ (34 ∷ 92 ∷ 97 ∷ 34 ∷ []), codes ";c=d" ++ (34 ∷ codes "e;f=" ++ (34 ∷ 103 ∷ [])), refl,
+    parameter (codes "b") _ _ _ refl refl (quoted (92 ∷ 97 ∷ []) [] (quoted_units (Escaped 97 ∷ []) refl) tt),
+    (codes ";c=d" ++ (34 ∷ 101 ∷ []), codes ";f=" ++ (34 ∷ 103 ∷ []), refl,
+     parameter (codes "c") _ _ _ refl refl (plain_value (100 ∷ 34 ∷ 101 ∷ []) _ refl refl refl),
+     (codes ";f=" ++ (34 ∷ 103 ∷ []), [], refl,
+      parameter (codes "f") _ _ _ refl refl (unclosed (103 ∷ []) (inl (quoted_units (plainly (codes "g")) refl))), refl))))
+
+-- a name that is empty and one that is no token take their quoted strings with them
+invalid_names : Parses (codes "x/x;=q;" ++ (233 ∷ codes "=" ++ (34 ∷ codes "a;b=c" ++ (34 ∷ codes ";d=e")))) (x_x ((codes "d", codes "e") ∷ []))
+unfolding is_unit
+invalid_names = parses_x (codes ";=q;" ++ (233 ∷ codes "=" ++ (34 ∷ codes "a;b=c" ++ (34 ∷ codes ";d=e")))) (([], Some (codes "q")) ∷ (233 ∷ [], Some (codes "a;b=c")) ∷ (codes "d", Some (codes "e")) ∷ []) refl refl
+  (codes ";=q", 59 ∷ 233 ∷ codes "=" ++ (34 ∷ codes "a;b=c" ++ (34 ∷ codes ";d=e")), refl,
+   parameter [] _ _ _ tt refl (plain_value (codes "q") _ refl refl refl),
+   (59 ∷ 233 ∷ codes "=" ++ (34 ∷ codes "a;b=c" ++ (34 ∷ [])), codes ";d=e", refl,
+    parameter (233 ∷ []) _ _ _ refl refl (quoted (codes "a;b=c") [] (quoted_units (plainly (codes "a;b=c")) refl) tt),
+    (codes ";d=e", [], refl, parameter (codes "d") _ _ _ refl refl (plain_value (codes "e") _ refl refl refl), refl)))
+
+-- whitespace at both ends, behind the subtype and before a name goes; a name has none left at its front alone
+whitespace : Parses (codes " a/b ; c=d ") (record { type_ = codes "a"; subtype = codes "b"; parameters = (codes "c", codes "d") ∷ [] })
+whitespace = record {
+  type_ = codes "a";
+  subtype = codes "b";
+  parameters = codes "; c=d";
+  items = (codes "c", Some (codes "d")) ∷ [];
+  head = record {
+    text = codes "a/b ; c=d";
+    gap = codes " ";
+    trimmed = record { front = codes " "; back = codes " "; joined = refl; at_front = every is_http_whitespace (codes " ") refl; at_back = every is_http_whitespace (codes " ") refl; begins = refl; ends = refl };
+    joined = refl;
+    is_type = refl;
+    is_subtype = refl;
+    in_gap = every is_http_whitespace (codes " ") refl;
+    begins = refl
+  };
+  items_are = (codes "; c=d", [], refl, record { gap = codes " "; name = codes "c"; tail = codes "=d"; joined = refl; in_gap = every is_http_whitespace (codes " ") refl; begins = refl; in_name = every (λ c. not (ends_name c)) (codes "c") refl; name_is = refl; value_is = plain_value (codes "d") _ refl refl refl }, refl);
+  type_is = refl;
+  subtype_is = refl;
+  parameters_are = refl;
+}
+
+-- Printed texts
+
+-- a value that needs quotes, and one that is empty
+printed_quotes : printed (record { type_ = codes "text"; subtype = codes "html"; parameters = (codes "a", codes "b;c") ∷ (codes "e", []) ∷ [] }) ≡ codes "text/html;a=" ++ (34 ∷ codes "b;c" ++ (34 ∷ codes ";e=" ++ (34 ∷ 34 ∷ [])))
+unfolding on_literals
+printed_quotes = refl
+
+-- '"' and '\' are escaped
+printed_escapes : printed (x_x ((codes "a", 113 ∷ 34 ∷ 114 ∷ []) ∷ (codes "b", 92 ∷ []) ∷ (codes "f", codes "g") ∷ [])) ≡ codes "x/x;a=" ++ (34 ∷ 113 ∷ 92 ∷ 34 ∷ 114 ∷ 34 ∷ codes ";b=" ++ (34 ∷ 92 ∷ 92 ∷ 34 ∷ codes ";f=g"))
+unfolding on_literals
+printed_escapes = refl
+
+-- a record that no text has is printed as it is
+printed_by_hand : printed (record { type_ = codes "a b"; subtype = []; parameters = ([], 233 ∷ []) ∷ [] }) ≡ codes "a b/;=" ++ (34 ∷ 233 ∷ 34 ∷ [])
+unfolding on_literals
+printed_by_hand = refl
