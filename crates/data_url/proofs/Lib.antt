@@ -1,0 +1,2 @@
+pub mod FaultLemmas
+pub mod ValidLemmas
