@@ -1,4 +1,6 @@
 mod Base64Examples
+pub mod FaultLemmas
 mod MimeExamples
 pub mod OnLiterals
 mod StagedExamples
+pub mod ValidLemmas

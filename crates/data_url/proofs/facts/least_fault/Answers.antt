@@ -1,0 +1,5 @@
+use Rattle.data_url.proofs.FaultLemmas.{first_fault_least}
+use Rattle.data_url.proofs.facts.least_fault.Goals as goal
+
+pub returns : goal.returns
+returns c = first_fault_least

@@ -1,0 +1,5 @@
+use Rattle.data_url.proofs.ValidLemmas.{padding_fits}
+use Rattle.data_url.proofs.facts.padding_fits.Goals as goal
+
+pub returns : goal.returns
+returns c = padding_fits
