@@ -39,7 +39,7 @@ reading (c ∷ t) = cond (c == 61) (reading_behind t) (record { value = None; re
 
 -- A text that gives a value reads so
 
-begins_no_value : (r : List ℕ) → BeginsParameters r → DoesNotBegin in_value r
+pub begins_no_value : (r : List ℕ) → BeginsParameters r → DoesNotBegin in_value r
 begins_no_value [] h = tt
 begins_no_value (c ∷ r) h = ap in_value h
 
@@ -154,7 +154,7 @@ pub record HasParameter (s : List ℕ) (item : Item) (rest : List ℕ) : Type 0 
   pub begins : BeginsParameters rest
   pub shorter : length rest ≤ length s
 
-not_begins_front : (p q : ℕ → Bool) (s : List ℕ) → DoesNotBegin p s → DoesNotBegin p (front_of q s)
+pub not_begins_front : (p q : ℕ → Bool) (s : List ℕ) → DoesNotBegin p s → DoesNotBegin p (front_of q s)
 not_begins_front p q [] h = tt
 not_begins_front p q (c ∷ s) h = cond_both (q c) (c ∷ front_of q s) [] (λ v. DoesNotBegin p v) (λ e. h) (λ e. tt)
 
@@ -188,7 +188,7 @@ has_parameter s = parameter_from s (reading (behind_name s)) (is_reading (behind
 
 -- A parameter text reads so
 
-ends_of_rest : (p : ℕ → Bool) → p 59 ≡ false → (rest : List ℕ) → BeginsParameters rest → DoesNotBegin p rest
+pub ends_of_rest : (p : ℕ → Bool) → p 59 ≡ false → (rest : List ℕ) → BeginsParameters rest → DoesNotBegin p rest
 ends_of_rest p e [] b = tt
 ends_of_rest p e (c ∷ r) b = ap p b ∙ e
 
@@ -199,7 +199,7 @@ ends_of_tail p e f _ _ _ (plain text value w d t) b = f
 ends_of_tail p e f _ _ _ (quoted text junk h w) b = f
 ends_of_tail p e f _ _ _ (unclosed text h) b = f
 
-not_begins_append : (p : ℕ → Bool) (a b : List ℕ) → DoesNotBegin p a → DoesNotBegin p b → DoesNotBegin p (a ++ b)
+pub not_begins_append : (p : ℕ → Bool) (a b : List ℕ) → DoesNotBegin p a → DoesNotBegin p b → DoesNotBegin p (a ++ b)
 not_begins_append p [] b h e = e
 not_begins_append p (c ∷ a) b h e = h
 
@@ -210,10 +210,10 @@ reading_of_parts gap name tail rest value g d n v b =
     let m = ends_of_tail in_name refl refl tail rest value v b in
     (ap (front_of in_name) e ∙ front_is in_name name (tail ++ rest) n m, ap (λ x. reading (behind_front in_name x)) e ∙ ap reading (behind_is in_name name (tail ++ rest) n m) ∙ reading_is tail rest value v b)
 
-append_four : (gap name tail rest : List ℕ) → (gap ++ (name ++ tail)) ++ rest ≡ gap ++ (name ++ (tail ++ rest))
+pub append_four : (gap name tail rest : List ℕ) → (gap ++ (name ++ tail)) ++ rest ≡ gap ++ (name ++ (tail ++ rest))
 append_four gap name tail rest = append_assoc gap (name ++ tail) rest ∙ ap (λ x. gap ++ x) (append_assoc name tail rest)
 
-tail_equal : (a b : ℕ) (s t : List ℕ) → a ∷ s ≡ b ∷ t → s ≡ t
+pub tail_equal : (a b : ℕ) (s t : List ℕ) → a ∷ s ≡ b ∷ t → s ≡ t
 tail_equal a b s t e = cc
 
 parts_of : (s text rest : List ℕ) (item : Item) (h : IsParameter text rest item) → 59 ∷ s ≡ text ++ rest → s ≡ h.gap ++ (h.name ++ (h.tail ++ rest))

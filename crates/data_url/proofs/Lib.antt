@@ -1,3 +1,4 @@
 pub mod TextLemmas
 pub mod QuotedLemmas
 pub mod ItemLemmas
+pub mod RecordLemmas

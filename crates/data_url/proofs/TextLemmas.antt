@@ -53,7 +53,7 @@ back_passes : (p : ℕ → Bool) (back : List ℕ) → Every p back → without_
 back_passes p [] h = refl
 back_passes p (c ∷ back) h = ap (keep_before p c) (back_passes p back h.1) ∙ cond-true (p c) [] (c ∷ []) h.0
 
-without_back_joined : (p : ℕ → Bool) (t back : List ℕ) → Every p back → DoesNotEnd p t → without_back p (t ++ back) ≡ t
+pub without_back_joined : (p : ℕ → Bool) (t back : List ℕ) → Every p back → DoesNotEnd p t → without_back p (t ++ back) ≡ t
 without_back_joined p [] back h e = back_passes p back h
 without_back_joined p (c ∷ []) back h e = ap (keep_before p c) (back_passes p back h) ∙ cond-false (p c) [] (c ∷ []) e
 without_back_joined p (c ∷ d ∷ t) back h e = ap (keep_before p c) (without_back_joined p (d ∷ t) back h e)
