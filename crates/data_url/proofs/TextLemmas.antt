@@ -1,0 +1,70 @@
+-- Texts cut at the first code point that passes no more, and ends taken off.
+use Rattle.std.proofs.Common.{◌≡◌, ℕ, suc, ◌≤◌, Bool, true, false, cond, List, [], ◌∷◌, ◌++◌, length, refl, sym, ap, ◌∙◌, arith}
+use Rattle.std.proofs.lemmas.Bool.{cond-true, cond-false, cond_both}
+use Rattle.data_url.specs.Mime.{DoesNotBegin, DoesNotEnd, Every, IsTrimmedEnd}
+
+-- the longest front of code points that pass
+abbrev pub front_of : (ℕ → Bool) → List ℕ → List ℕ
+front_of p [] = []
+front_of p (c ∷ t) = cond (p c) (c ∷ front_of p t) []
+
+-- what stands behind it
+abbrev pub behind_front : (ℕ → Bool) → List ℕ → List ℕ
+behind_front p [] = []
+behind_front p (c ∷ t) = cond (p c) (behind_front p t) (c ∷ t)
+
+pub front_is : (p : ℕ → Bool) (a b : List ℕ) → Every p a → DoesNotBegin p b → front_of p (a ++ b) ≡ a
+front_is p [] [] h e = refl
+front_is p [] (c ∷ b) h e = cond-false (p c) (c ∷ front_of p b) [] e
+front_is p (c ∷ a) b h e = cond-true (p c) (c ∷ front_of p (a ++ b)) [] h.0 ∙ ap (λ t. c ∷ t) (front_is p a b h.1 e)
+
+pub behind_is : (p : ℕ → Bool) (a b : List ℕ) → Every p a → DoesNotBegin p b → behind_front p (a ++ b) ≡ b
+behind_is p [] [] h e = refl
+behind_is p [] (c ∷ b) h e = cond-false (p c) (behind_front p b) (c ∷ b) e
+behind_is p (c ∷ a) b h e = cond-true (p c) (behind_front p (a ++ b)) (c ∷ (a ++ b)) h.0 ∙ behind_is p a b h.1 e
+
+pub front_joined : (p : ℕ → Bool) (s : List ℕ) → s ≡ front_of p s ++ behind_front p s
+front_joined p [] = refl
+front_joined p (c ∷ t) = elim (p c) as (λ v. c ∷ t ≡ cond v (c ∷ front_of p t) [] ++ cond v (behind_front p t) (c ∷ t)) [ true ↦ ap (λ u. c ∷ u) (front_joined p t) | false ↦ refl ]
+
+pub front_passes : (p : ℕ → Bool) (s : List ℕ) → Every p (front_of p s)
+front_passes p [] = tt
+front_passes p (c ∷ t) = cond_both (p c) (c ∷ front_of p t) [] (λ v. Every p v) (λ e. (e, front_passes p t)) (λ e. tt)
+
+pub behind_begins : (p : ℕ → Bool) (s : List ℕ) → DoesNotBegin p (behind_front p s)
+behind_begins p [] = tt
+behind_begins p (c ∷ t) = cond_both (p c) (behind_front p t) (c ∷ t) (λ v. DoesNotBegin p v) (λ e. behind_begins p t) (λ e. e)
+
+pub behind_length : (p : ℕ → Bool) (s : List ℕ) → length (behind_front p s) ≤ length s
+behind_length p [] = omega arith
+behind_length p (c ∷ t) = let h : length (behind_front p t) ≤ length t = behind_length p t in elim (p c) as (λ v. length (cond v (behind_front p t) (c ∷ t)) ≤ suc (length t)) [ true ↦ omega arith | false ↦ omega arith ]
+
+-- one more code point before what is left of a text
+abbrev pub keep_before : (ℕ → Bool) → ℕ → List ℕ → List ℕ
+keep_before p c [] = cond (p c) [] (c ∷ [])
+keep_before p c (d ∷ u) = c ∷ d ∷ u
+
+-- the text without its longest end of code points that pass
+abbrev pub without_back : (ℕ → Bool) → List ℕ → List ℕ
+without_back p [] = []
+without_back p (c ∷ t) = keep_before p c (without_back p t)
+
+back_passes : (p : ℕ → Bool) (back : List ℕ) → Every p back → without_back p back ≡ []
+back_passes p [] h = refl
+back_passes p (c ∷ back) h = ap (keep_before p c) (back_passes p back h.1) ∙ cond-true (p c) [] (c ∷ []) h.0
+
+pub without_back_joined : (p : ℕ → Bool) (t back : List ℕ) → Every p back → DoesNotEnd p t → without_back p (t ++ back) ≡ t
+without_back_joined p [] back h e = back_passes p back h
+without_back_joined p (c ∷ []) back h e = ap (keep_before p c) (back_passes p back h) ∙ cond-false (p c) [] (c ∷ []) e
+without_back_joined p (c ∷ d ∷ t) back h e = ap (keep_before p c) (without_back_joined p (d ∷ t) back h e)
+
+pub trimmed_end_is : (p : ℕ → Bool) (s t : List ℕ) → IsTrimmedEnd p s t → t ≡ without_back p s
+trimmed_end_is p s t h = sym (ap (without_back p) h.joined ∙ without_back_joined p t h.back h.at_back h.ends)
+
+trimmed_end_more : (p : ℕ → Bool) (c : ℕ) (t u : List ℕ) → IsTrimmedEnd p t u → IsTrimmedEnd p (c ∷ t) (keep_before p c u)
+trimmed_end_more p c t [] h = cond_both (p c) [] (c ∷ []) (λ v. IsTrimmedEnd p (c ∷ t) v) (λ e. record { back = c ∷ h.back; joined = ap (λ v. c ∷ v) h.joined; at_back = (e, h.at_back); ends = tt }) (λ e. record { back = h.back; joined = ap (λ v. c ∷ v) h.joined; at_back = h.at_back; ends = e })
+trimmed_end_more p c t (d ∷ u) h = record { back = h.back; joined = ap (λ v. c ∷ v) h.joined; at_back = h.at_back; ends = h.ends }
+
+pub is_trimmed_end : (p : ℕ → Bool) (s : List ℕ) → IsTrimmedEnd p s (without_back p s)
+is_trimmed_end p [] = record { back = []; joined = refl; at_back = tt; ends = tt }
+is_trimmed_end p (c ∷ t) = trimmed_end_more p c t (without_back p t) (is_trimmed_end p t)
