@@ -1,6 +1,6 @@
 -- Base64 texts and what the definitions make of them, computed.
-use Rattle.std.proofs.Common.{◌≡◌, ℕ, ◌*◌, Bool, true, false, List, [], ◌∷◌, ◌++◌, Option, None, Some, codes, replicate, refl}
-use Rattle.data_url.specs.Base64.{AlphabetSymbolAfterPadding, Kind, LoneAlphabetSymbol, Padding, UnexpectedSymbol, decoded, done, first_fault, is_valid, kind_of, left_padding, left_symbols, left_text}
+use Rattle.std.proofs.Common.{◌≡◌, ℕ, true, false, List, [], ◌∷◌, ◌++◌, None, Some, codes, replicate, refl}
+use Rattle.data_url.specs.Base64.{AlphabetSymbolAfterPadding, LoneAlphabetSymbol, Padding, UnexpectedSymbol, decoded, done, first_fault, is_valid, kind_of, left_padding, left_symbols, left_text}
 use Rattle.data_url.proofs.OnLiterals.{on_literals}
 
 bits_left_over : (is_valid (codes "YR") ≡ true) × (decoded (codes "YR") ≡ 97 ∷ [])

@@ -1,22 +1,15 @@
 -- MIME texts with their records and printed texts: each record by a derivation in the grammar, each printed text computed.
-use Rattle.std.proofs.Common.{◌≡◌, ℕ, Bool, true, false, List, [], ◌∷◌, ◌++◌, Option, None, Some, inl, inr, codes, append-nil, eq-eqb, refl, subst, sym, ◌∙◌, ap, map}
-use Rattle.std.specs.Prelude.{◌==◌, IsTrue, ◌≢◌, ◌⊎◌, not, ◌&&◌, cond}
+use Rattle.std.proofs.Common.{◌≡◌, ℕ, Bool, true, false, List, [], ◌∷◌, ◌++◌, Option, None, Some, inl, inr, codes, append-nil, eq-eqb, eqb, refl, subst, sym, ◌∙◌, ap, map}
+use Rattle.std.specs.Prelude.{◌==◌, IsTrue, ◌≢◌, not, ◌&&◌}
 use Rattle.std.specs.List.{AllByRecursion, flat_map, list_all}
 use Rattle.std.specs.Char.{to_ascii_lowercase}
 use Rattle.data_url.specs.CodePoints.{ends_name, is_http_whitespace, is_semicolon}
-use Rattle.data_url.specs.Mime.{BeginsParameters, DoesNotBegin, DoesNotEnd, Escaped, Every, GivesValue, IsHead, IsParameter, IsTrimmed, IsTrimmedEnd, IsUnit, Item, Items, Pair, Parses, Plain, Quoted, QuotedOpen, QuotedUnit, Record, Without, is_quote, is_token_text, kept, lone_equals, nothing, plain, printed, quoted, unclosed, unit_text, unit_value, unless_empty}
+use Rattle.data_url.specs.Mime.{BeginsParameters, DoesNotBegin, DoesNotEnd, Escaped, GivesValue, HasNoRecord, IsHead, IsParameter, IsRecordOf, IsTrimmed, IsTrimmedEnd, IsUnit, Item, Items, Pair, Parses, Plain, Quoted, QuotedUnit, Record, default_record, is_quote, is_token_text, kept, plain, printed, quoted, unclosed, unit_text, unit_value, unless_empty}
 use Rattle.data_url.proofs.OnLiterals.{on_literals}
+use Rattle.data_url.proofs.RecordLemmas.{every_from_all, has_parts, parameters_in, subtype_in, trimmed_of, type_in}
+use Rattle.std.proofs.lemmas.Bool.{and_parts}
 
 -- Derivations on literals
-
-both : (a b : Bool) → (a && b) ≡ true → (a ≡ true) × (b ≡ true)
-both true true h = (refl, refl)
-both true false h = (refl, h)
-both false b h = (h, elim b as (λ (v : Bool). v ≡ true) [ true ↦ refl | false ↦ h ])
-
-every : (p : ℕ → Bool) (t : List ℕ) → list_all p t ≡ true → Every p t
-every p [] h = tt
-every p (c ∷ t) h = let e = both (p c) (list_all p t) h in (e.0, every p t e.1)
 
 -- a text that has no whitespace at its ends
 untrimmed : (p : ℕ → Bool) (t : List ℕ) → DoesNotBegin p t → DoesNotEnd p t → IsTrimmed p t t
@@ -34,11 +27,11 @@ head type_ subtype r t s b begins ends = record { text = head_text type_ subtype
 
 -- ';', a name without whitespace before it, and what gives its value
 parameter : (name tail rest : List ℕ) (value : Option (List ℕ)) → DoesNotBegin is_http_whitespace name → list_all (λ c. not (ends_name c)) name ≡ true → GivesValue tail rest value → IsParameter (59 ∷ (name ++ tail)) rest (map to_ascii_lowercase name, value)
-parameter name tail rest value begins names gives = record { gap = []; name = name; tail = tail; joined = refl; in_gap = tt; begins = begins; in_name = every (λ c. not (ends_name c)) name names; name_is = refl; value_is = gives }
+parameter name tail rest value begins names gives = record { gap = []; name = name; tail = tail; joined = refl; in_gap = tt; begins = begins; in_name = every_from_all (λ c. not (ends_name c)) name names; name_is = refl; value_is = gives }
 
 -- '=' and a text without quotes and whitespace at its end
 plain_value : (text rest : List ℕ) → list_all (λ c. not (is_semicolon c)) text ≡ true → DoesNotBegin is_quote text → DoesNotEnd is_http_whitespace text → GivesValue (61 ∷ text) rest (unless_empty text)
-plain_value text rest semicolons quotes ends = plain text text (every (λ c. not (is_semicolon c)) text semicolons) quotes (untrimmed_end is_http_whitespace text ends)
+plain_value text rest semicolons quotes ends = plain text text (every_from_all (λ c. not (is_semicolon c)) text semicolons) quotes (untrimmed_end is_http_whitespace text ends)
 
 is_unit : QuotedUnit → Bool
 is_unit (Plain c) = not (c == 34) && not (c == 92)
@@ -51,10 +44,10 @@ are_units : (us : List QuotedUnit) → list_all is_unit us ≡ true → AllByRec
 unfolding is_unit
 are_units [] h = tt
 are_units (Plain c ∷ us) h =
-    let e = both (not (c == 34) && not (c == 92)) (list_all is_unit us) h in
-    let f = both (not (c == 34)) (not (c == 92)) e.0 in
+    let e = and_parts (not (c == 34) && not (c == 92)) (list_all is_unit us) h in
+    let f = and_parts (not (c == 34)) (not (c == 92)) e.0 in
     ((differs c 34 f.0, differs c 92 f.1), are_units us e.1)
-are_units (Escaped c ∷ us) h = (tt, are_units us (both true (list_all is_unit us) h).1)
+are_units (Escaped c ∷ us) h = (tt, are_units us (and_parts true (list_all is_unit us) h).1)
 
 quoted_units : (us : List QuotedUnit) → list_all is_unit us ≡ true → Quoted (flat_map unit_text us) (map unit_value us)
 quoted_units us h = record { units = us; each = are_units us h; text_is = refl; value_is = refl }
@@ -74,11 +67,19 @@ quotes = record {
   parameters = codes ";a=" ++ (34 ∷ codes "b;c" ++ (34 ∷ codes ";d=;e=" ++ (34 ∷ 34 ∷ [])));
   items = (codes "a", Some (codes "b;c")) ∷ (codes "d", None) ∷ (codes "e", Some []) ∷ [];
   head = head (codes "TEXT") (codes "HTML") (codes ";a=" ++ (34 ∷ codes "b;c" ++ (34 ∷ codes ";d=;e=" ++ (34 ∷ 34 ∷ [])))) refl refl refl refl refl;
-  items_are =
-    (codes ";a=" ++ (34 ∷ codes "b;c" ++ (34 ∷ [])), codes ";d=;e=" ++ (34 ∷ 34 ∷ []), refl,
-     parameter (codes "a") _ _ _ refl refl (quoted (codes "b;c") [] (quoted_units (plainly (codes "b;c")) refl) tt),
-     (codes ";d=", codes ";e=" ++ (34 ∷ 34 ∷ []), refl, parameter (codes "d") _ _ _ refl refl (plain_value [] _ refl tt tt),
-      (codes ";e=" ++ (34 ∷ 34 ∷ []), [], refl, parameter (codes "e") _ _ _ refl refl (quoted [] [] (quoted_units [] refl) tt), refl)));
+  items_are = (
+    codes ";a=" ++ (34 ∷ codes "b;c" ++ (34 ∷ [])),
+    codes ";d=;e=" ++ (34 ∷ 34 ∷ []),
+    refl,
+    parameter (codes "a") _ _ _ refl refl (quoted (codes "b;c") [] (quoted_units (plainly (codes "b;c")) refl) tt),
+    (
+      codes ";d=",
+      codes ";e=" ++ (34 ∷ 34 ∷ []),
+      refl,
+      parameter (codes "d") _ _ _ refl refl (plain_value [] _ refl tt tt),
+      (codes ";e=" ++ (34 ∷ 34 ∷ []), [], refl, parameter (codes "e") _ _ _ refl refl (quoted [] [] (quoted_units [] refl) tt), refl),
+    ),
+  );
   type_is = refl;
   subtype_is = refl;
   parameters_are = refl;
@@ -104,27 +105,31 @@ parses_x r items begins ends are = record {
 
 -- names are lower-cased before they are compared, and the first pair of a name is kept
 repeated_name : Parses (codes "x/x;a=1;A=2") (x_x ((codes "a", codes "1") ∷ []))
-repeated_name = parses_x (codes ";a=1;A=2") ((codes "a", Some (codes "1")) ∷ (codes "a", Some (codes "2")) ∷ []) refl refl
-  (codes ";a=1", codes ";A=2", refl, parameter (codes "a") _ _ _ refl refl (plain_value (codes "1") _ refl refl refl),
-   (codes ";A=2", [], refl, parameter (codes "A") _ _ _ refl refl (plain_value (codes "2") _ refl refl refl), refl))
+repeated_name = parses_x (codes ";a=1;A=2") ((codes "a", Some (codes "1")) ∷ (codes "a", Some (codes "2")) ∷ []) refl refl (
+  codes ";a=1",
+  codes ";A=2",
+  refl,
+  parameter (codes "a") _ _ _ refl refl (plain_value (codes "1") _ refl refl refl),
+  (codes ";A=2", [], refl, parameter (codes "A") _ _ _ refl refl (plain_value (codes "2") _ refl refl refl), refl),
+)
 
 -- what stands behind a closing quote is dropped, and does not count
 junk_behind_quote : Parses (codes "x/x;a=" ++ (34 ∷ 98 ∷ 34 ∷ 256 ∷ [])) (x_x ((codes "a", codes "b") ∷ []))
 unfolding is_unit
 junk_behind_quote = parses_x (codes ";a=" ++ (34 ∷ 98 ∷ 34 ∷ 256 ∷ [])) ((codes "a", Some (codes "b")) ∷ []) refl refl
-  (codes ";a=" ++ (34 ∷ 98 ∷ 34 ∷ 256 ∷ []), [], refl, parameter (codes "a") _ _ _ refl refl (quoted (codes "b") (256 ∷ []) (quoted_units (plainly (codes "b")) refl) (every (λ c. not (is_semicolon c)) (256 ∷ []) refl)), refl)
+    (codes ";a=" ++ (34 ∷ 98 ∷ 34 ∷ 256 ∷ []), [], refl, parameter (codes "a") _ _ _ refl refl (quoted (codes "b") (256 ∷ []) (quoted_units (plainly (codes "b")) refl) (every_from_all (λ c. not (is_semicolon c)) (256 ∷ []) refl)), refl)
 
 -- a quoted value is judged as a whole: a semicolon belongs to it, and U+0100 makes its pair invalid
 code_point_above : Parses (codes "x/x;a=" ++ (34 ∷ 98 ∷ 59 ∷ 256 ∷ 34 ∷ [])) (x_x [])
 unfolding is_unit
 code_point_above = parses_x (codes ";a=" ++ (34 ∷ 98 ∷ 59 ∷ 256 ∷ 34 ∷ [])) ((codes "a", Some (98 ∷ 59 ∷ 256 ∷ [])) ∷ []) refl refl
-  (codes ";a=" ++ (34 ∷ 98 ∷ 59 ∷ 256 ∷ 34 ∷ []), [], refl, parameter (codes "a") _ _ _ refl refl (quoted (98 ∷ 59 ∷ 256 ∷ []) [] (quoted_units (plainly (98 ∷ 59 ∷ 256 ∷ [])) refl) tt), refl)
+    (codes ";a=" ++ (34 ∷ 98 ∷ 59 ∷ 256 ∷ 34 ∷ []), [], refl, parameter (codes "a") _ _ _ refl refl (quoted (98 ∷ 59 ∷ 256 ∷ []) [] (quoted_units (plainly (98 ∷ 59 ∷ 256 ∷ [])) refl) tt), refl)
 
 -- a lone backslash at the end of the text stands for itself
 last_backslash : Parses (codes "x/x;a=" ++ (34 ∷ 92 ∷ [])) (x_x ((codes "a", 92 ∷ []) ∷ []))
 unfolding is_unit
 last_backslash = parses_x (codes ";a=" ++ (34 ∷ 92 ∷ [])) ((codes "a", Some (92 ∷ [])) ∷ []) refl refl
-  (codes ";a=" ++ (34 ∷ 92 ∷ []), [], refl, parameter (codes "a") _ _ _ refl refl (unclosed (92 ∷ []) (inr ([], [], refl, refl, quoted_units [] refl))), refl)
+    (codes ";a=" ++ (34 ∷ 92 ∷ []), [], refl, parameter (codes "a") _ _ _ refl refl (unclosed (92 ∷ []) (inr ([], [], refl, refl, quoted_units [] refl))), refl)
 
 -- escapes, a quote inside a plain value, and a quoted string that the end of the text closes
 abbrev escapes_text : List ℕ
@@ -132,27 +137,50 @@ escapes_text = codes ";a=" ++ (34 ∷ 113 ∷ 92 ∷ 34 ∷ 114 ∷ 34 ∷ codes
 
 escapes : Parses (codes "x/x" ++ escapes_text) (x_x ((codes "a", 113 ∷ 34 ∷ 114 ∷ []) ∷ (codes "b", codes "a") ∷ (codes "c", 100 ∷ 34 ∷ 101 ∷ []) ∷ (codes "f", codes "g") ∷ []))
 unfolding is_unit
-escapes = parses_x escapes_text ((codes "a", Some (113 ∷ 34 ∷ 114 ∷ [])) ∷ (codes "b", Some (codes "a")) ∷ (codes "c", Some (100 ∷ 34 ∷ 101 ∷ [])) ∷ (codes "f", Some (codes "g")) ∷ []) refl refl
-  (codes ";a=" ++ (34 ∷ 113 ∷ 92 ∷ 34 ∷ 114 ∷ 34 ∷ []), codes ";b=" ++ (34 ∷ 92 ∷ 97 ∷ 34 ∷ codes ";c=d" ++ (34 ∷ codes "e;f=" ++ (34 ∷ 103 ∷ []))), refl,
-   parameter (codes "a") _ _ _ refl refl (quoted (113 ∷ 92 ∷ 34 ∷ 114 ∷ []) [] (quoted_units (Plain 113 ∷ Escaped 34 ∷ Plain 114 ∷ []) refl) tt),
-   (codes ";b=" ++ (34 ∷ 92 ∷ 97 ∷ 34 ∷ []), codes ";c=d" ++ (34 ∷ codes "e;f=" ++ (34 ∷ 103 ∷ [])), refl,
+escapes = parses_x escapes_text ((codes "a", Some (113 ∷ 34 ∷ 114 ∷ [])) ∷ (codes "b", Some (codes "a")) ∷ (codes "c", Some (100 ∷ 34 ∷ 101 ∷ [])) ∷ (codes "f", Some (codes "g")) ∷ []) refl refl (
+  codes ";a=" ++ (34 ∷ 113 ∷ 92 ∷ 34 ∷ 114 ∷ 34 ∷ []),
+  codes ";b=" ++ (34 ∷ 92 ∷ 97 ∷ 34 ∷ codes ";c=d" ++ (34 ∷ codes "e;f=" ++ (34 ∷ 103 ∷ []))),
+  refl,
+  parameter (codes "a") _ _ _ refl refl (quoted (113 ∷ 92 ∷ 34 ∷ 114 ∷ []) [] (quoted_units (Plain 113 ∷ Escaped 34 ∷ Plain 114 ∷ []) refl) tt),
+  (
+    codes ";b=" ++ (34 ∷ 92 ∷ 97 ∷ 34 ∷ []),
+    codes ";c=d" ++ (34 ∷ codes "e;f=" ++ (34 ∷ 103 ∷ [])),
+    refl,
     parameter (codes "b") _ _ _ refl refl (quoted (92 ∷ 97 ∷ []) [] (quoted_units (Escaped 97 ∷ []) refl) tt),
-    (codes ";c=d" ++ (34 ∷ 101 ∷ []), codes ";f=" ++ (34 ∷ 103 ∷ []), refl,
-     parameter (codes "c") _ _ _ refl refl (plain_value (100 ∷ 34 ∷ 101 ∷ []) _ refl refl refl),
-     (codes ";f=" ++ (34 ∷ 103 ∷ []), [], refl,
-      parameter (codes "f") _ _ _ refl refl (unclosed (103 ∷ []) (inl (quoted_units (plainly (codes "g")) refl))), refl))))
+    (
+      codes ";c=d" ++ (34 ∷ 101 ∷ []),
+      codes ";f=" ++ (34 ∷ 103 ∷ []),
+      refl,
+      parameter (codes "c") _ _ _ refl refl (plain_value (100 ∷ 34 ∷ 101 ∷ []) _ refl refl refl),
+      (
+        codes ";f=" ++ (34 ∷ 103 ∷ []),
+        [],
+        refl,
+        parameter (codes "f") _ _ _ refl refl (unclosed (103 ∷ []) (inl (quoted_units (plainly (codes "g")) refl))),
+        refl,
+      ),
+    ),
+  ),
+)
 
 -- a name that is empty and one that is no token take their quoted strings with them
 invalid_names : Parses (codes "x/x;=q;" ++ (233 ∷ codes "=" ++ (34 ∷ codes "a;b=c" ++ (34 ∷ codes ";d=e")))) (x_x ((codes "d", codes "e") ∷ []))
 unfolding is_unit
-invalid_names = parses_x (codes ";=q;" ++ (233 ∷ codes "=" ++ (34 ∷ codes "a;b=c" ++ (34 ∷ codes ";d=e")))) (([], Some (codes "q")) ∷ (233 ∷ [], Some (codes "a;b=c")) ∷ (codes "d", Some (codes "e")) ∷ []) refl refl
-  (codes ";=q", 59 ∷ 233 ∷ codes "=" ++ (34 ∷ codes "a;b=c" ++ (34 ∷ codes ";d=e")), refl,
-   parameter [] _ _ _ tt refl (plain_value (codes "q") _ refl refl refl),
-   (59 ∷ 233 ∷ codes "=" ++ (34 ∷ codes "a;b=c" ++ (34 ∷ [])), codes ";d=e", refl,
+invalid_names = parses_x (codes ";=q;" ++ (233 ∷ codes "=" ++ (34 ∷ codes "a;b=c" ++ (34 ∷ codes ";d=e")))) (([], Some (codes "q")) ∷ (233 ∷ [], Some (codes "a;b=c")) ∷ (codes "d", Some (codes "e")) ∷ []) refl refl (
+  codes ";=q",
+  59 ∷ 233 ∷ codes "=" ++ (34 ∷ codes "a;b=c" ++ (34 ∷ codes ";d=e")),
+  refl,
+  parameter [] _ _ _ tt refl (plain_value (codes "q") _ refl refl refl),
+  (
+    59 ∷ 233 ∷ codes "=" ++ (34 ∷ codes "a;b=c" ++ (34 ∷ [])),
+    codes ";d=e",
+    refl,
     parameter (233 ∷ []) _ _ _ refl refl (quoted (codes "a;b=c") [] (quoted_units (plainly (codes "a;b=c")) refl) tt),
-    (codes ";d=e", [], refl, parameter (codes "d") _ _ _ refl refl (plain_value (codes "e") _ refl refl refl), refl)))
+    (codes ";d=e", [], refl, parameter (codes "d") _ _ _ refl refl (plain_value (codes "e") _ refl refl refl), refl),
+  ),
+)
 
--- whitespace at both ends, behind the subtype and before a name goes; a name has none left at its front alone
+-- whitespace at and_parts ends, behind the subtype and before a name goes; a name has none left at its front alone
 whitespace : Parses (codes " a/b ; c=d ") (record { type_ = codes "a"; subtype = codes "b"; parameters = (codes "c", codes "d") ∷ [] })
 whitespace = record {
   type_ = codes "a";
@@ -162,20 +190,59 @@ whitespace = record {
   head = record {
     text = codes "a/b ; c=d";
     gap = codes " ";
-    trimmed = record { front = codes " "; back = codes " "; joined = refl; at_front = every is_http_whitespace (codes " ") refl; at_back = every is_http_whitespace (codes " ") refl; begins = refl; ends = refl };
+    trimmed = record { front = codes " "; back = codes " "; joined = refl; at_front = every_from_all is_http_whitespace (codes " ") refl; at_back = every_from_all is_http_whitespace (codes " ") refl; begins = refl; ends = refl };
     joined = refl;
     is_type = refl;
     is_subtype = refl;
-    in_gap = every is_http_whitespace (codes " ") refl;
-    begins = refl
+    in_gap = every_from_all is_http_whitespace (codes " ") refl;
+    begins = refl;
   };
-  items_are = (codes "; c=d", [], refl, record { gap = codes " "; name = codes "c"; tail = codes "=d"; joined = refl; in_gap = every is_http_whitespace (codes " ") refl; begins = refl; in_name = every (λ c. not (ends_name c)) (codes "c") refl; name_is = refl; value_is = plain_value (codes "d") _ refl refl refl }, refl);
+  items_are = (codes "; c=d", [], refl, record { gap = codes " "; name = codes "c"; tail = codes "=d"; joined = refl; in_gap = every_from_all is_http_whitespace (codes " ") refl; begins = refl; in_name = every_from_all (λ c. not (ends_name c)) (codes "c") refl; name_is = refl; value_is = plain_value (codes "d") _ refl refl refl }, refl);
   type_is = refl;
   subtype_is = refl;
   parameters_are = refl;
 }
 
+-- Texts without a record
+
+no_type : (s : List ℕ) → type_in (trimmed_of is_http_whitespace s) ≡ [] → HasNoRecord s
+no_type s e m h = let k = subst (λ t. IsTrue (is_token_text t)) (sym (has_parts s h.type_ h.subtype h.parameters h.head).type_is ∙ e) h.head.is_type in cc
+
+no_subtype : (s : List ℕ) → subtype_in (trimmed_of is_http_whitespace s) ≡ [] → HasNoRecord s
+no_subtype s e m h = let k = subst (λ t. IsTrue (is_token_text t)) (sym (has_parts s h.type_ h.subtype h.parameters h.head).subtype_is ∙ e) h.head.is_subtype in cc
+
+-- what stands behind the subtype begins no parameter
+no_parameters : (s : List ℕ) (r : List ℕ) → parameters_in (trimmed_of is_http_whitespace s) ≡ r → (BeginsParameters r → ⊥) → HasNoRecord s
+no_parameters s r e n m h = n (subst BeginsParameters (sym (has_parts s h.type_ h.subtype h.parameters h.head).parameters_are ∙ e) h.head.begins)
+
+empty_text : HasNoRecord []
+empty_text = no_type [] refl
+
+no_slash : HasNoRecord (codes "a")
+no_slash = no_subtype (codes "a") refl
+
+empty_subtype : HasNoRecord (codes "a/")
+empty_subtype = no_subtype (codes "a/") refl
+
+empty_type : HasNoRecord (codes "/b")
+empty_type = no_type (codes "/b") refl
+
+space_in_subtype : HasNoRecord (codes "a/b c")
+space_in_subtype = no_parameters (codes "a/b c") (codes "c") refl (λ (e : ◌≡◌ {A = ℕ} 99 59). let k : eqb 99 59 ≡ true = eq-eqb 99 59 e in cc)
+
+-- '?' is no token code point, so a header with a query behind its subtype has the default record
+question_mark : IsRecordOf (codes "a/b?c") default_record
+question_mark = inr (no_parameters (codes "a/b?c") (codes "?c") refl (λ (e : ◌≡◌ {A = ℕ} 63 59). let k : eqb 63 59 ≡ true = eq-eqb 63 59 e in cc), refl)
+
+-- the empty header has it too
+empty_header : IsRecordOf [] default_record
+empty_header = inr (empty_text, refl)
+
 -- Printed texts
+
+printed_default : printed default_record ≡ codes "text/plain;charset=US-ASCII"
+unfolding on_literals
+printed_default = refl
 
 -- a value that needs quotes, and one that is empty
 printed_quotes : printed (record { type_ = codes "text"; subtype = codes "html"; parameters = (codes "a", codes "b;c") ∷ (codes "e", []) ∷ [] }) ≡ codes "text/html;a=" ++ (34 ∷ codes "b;c" ++ (34 ∷ codes ";e=" ++ (34 ∷ 34 ∷ [])))

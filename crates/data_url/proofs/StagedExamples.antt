@@ -1,6 +1,6 @@
 -- Whole texts and what the staged Standard makes of them, computed.
-use Rattle.std.proofs.Common.{◌≡◌, ℕ, List, [], ◌∷◌, ◌++◌, Option, None, Some, codes, refl}
-use Rattle.data_url.specs.Base64.{AlphabetSymbolAfterPadding, LoneAlphabetSymbol, Padding, UnexpectedSymbol}
+use Rattle.std.proofs.Common.{◌≡◌, [], ◌∷◌, ◌++◌, None, Some, codes, refl}
+use Rattle.data_url.specs.Base64.{Padding, UnexpectedSymbol}
 use Rattle.data_url.specs.Fetch.{Accepted, Bad, Good, NoComma, NoScheme, staged, tail_of}
 use Rattle.data_url.proofs.OnLiterals.{on_literals}
 

@@ -1,7 +1,6 @@
 -- The classes of code points of MIME types (MIME Sniffing Standard, section 3; Fetch Standard, section 2.2).
 use Rattle.std.specs.Prelude.{ℕ, ◌==◌, ◌||◌, Bool, codes}
 use Rattle.std.specs.Int.{is_in_range}
-use Rattle.std.specs.Str.{bytes_eq}
 use Rattle.std.specs.List.{list_any}
 
 -- HTTP whitespace: tab, line feed, carriage return and space

@@ -1,5 +1,5 @@
 -- The texts of errors that hold another.
-use Rattle.std.specs.Prelude.{ℕ, List, ◌++◌, Option, None, Some, codes}
+use Rattle.std.specs.Prelude.{ℕ, List, ◌++◌, Option, Some, codes}
 use Rattle.std.specs.Option.{option_map}
 use Rattle.data_url.specs.Base64.{kind_text}
 use Rattle.data_url.specs.declared.forgiving_base64.DecodeError.{DecodeError}

@@ -1,10 +1,7 @@
 -- Facts and laws about the definitions, as contracts cite them.
-use Rattle.std.specs.Prelude.{◌≡◌, ◌≢◌, ◌⊎◌, ◌↔◌, ◌<◌, ◌%◌, ℕ, List, [], ◌∷◌, ◌++◌, length, replicate, Option, None, Some, Bool, true, false, is_some, IsTrue, codes}
-use Rattle.data_url.specs.Base64.{compact, decoded, done, first_fault, is_fault, is_symbol, is_valid, kind_of, left_padding, left_symbols, left_text}
-use Rattle.data_url.specs.Fetch.{staged, staged_fragment}
-use Rattle.data_url.specs.Mime.{BeginsParameters, Every, Item, Items, Parses, Record}
-use Rattle.data_url.specs.Percent.{percent_decoded}
-use Rattle.data_url.specs.Url.{dropped, in_fragment_set, in_path_set, in_query_set, percent_encoded}
+use Rattle.std.specs.Prelude.{◌≡◌, ◌≢◌, ◌⊎◌, ◌↔◌, ◌<◌, ◌%◌, ℕ, List, ◌++◌, length, replicate, Option, None, Some, false, IsTrue}
+use Rattle.data_url.specs.Base64.{compact, is_fault, is_symbol, is_valid}
+use Rattle.data_url.specs.Mime.{Every, Item, Items, Parses, Record}
 
 -- each text that is empty or begins with ';' is a join of parameters, with one list of items
 pub record HasOneItemList (r : List ℕ) : Type 0 where

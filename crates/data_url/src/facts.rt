@@ -8,23 +8,19 @@ ghost use Rattle.data_url.specs.Laws.{HasAtMostOneRecord, HasOneItemList, IsFirs
 /// A text that is empty or begins with `;` has exactly one list of items.
 pub(crate) fn one_item_list()
     ensures { (r : List ℕ) → BeginsParameters r → HasOneItemList r }
-{
-}
+{}
 
 /// A text has at most one MIME type record.
 pub(crate) fn one_record()
     ensures { (s : List ℕ) → HasAtMostOneRecord s }
-{
-}
+{}
 
 /// Symbols and signs `=` make a valid text exactly if their numbers fit.
 pub(crate) fn padding_fits()
     ensures { (b : List ℕ) → PaddingFits b }
-{
-}
+{}
 
 /// The first fault is the least place of one, and is there where there is one.
 pub(crate) fn least_fault()
     ensures { (b : List ℕ) → IsFirstFault b (first_fault b) }
-{
-}
+{}
