@@ -36,6 +36,23 @@ split_escape : staged (codes "data:,%4" ++ (9 ∷ codes "1")) ≡ Accepted [] (G
 unfolding on_literals
 split_escape = refl
 
+split_by_return : staged (codes "data:,%4" ++ (13 ∷ codes "1")) ≡ Accepted [] (Good (codes "A")) None
+unfolding on_literals
+split_by_return = refl
+
+-- what an escape gave is no part of another
+escaped_percent : staged (codes "data:,%2541%254") ≡ Accepted [] (Good (codes "%41%4")) None
+unfolding on_literals
+escaped_percent = refl
+
+one_digit : staged (codes "data:,%4g%g4%") ≡ Accepted [] (Good (codes "%4g%g4%")) None
+unfolding on_literals
+one_digit = refl
+
+both_cases_of_digits : staged (codes "data:,%4a%4A%6f") ≡ Accepted [] (Good (codes "JJo")) None
+unfolding on_literals
+both_cases_of_digits = refl
+
 no_escapes : staged (codes "data:,%zz%4") ≡ Accepted [] (Good (codes "%zz%4")) None
 unfolding on_literals
 no_escapes = refl

@@ -2,6 +2,7 @@ pub mod Base64
 pub mod CodePoints
 pub mod ErrorText
 pub mod Fetch
+pub mod Front
 pub mod Laws
 pub mod Mime
 pub mod Percent

@@ -3,4 +3,5 @@
 
 mod facts;
 pub mod forgiving_base64;
+mod front;
 pub mod mime;

@@ -1,0 +1,209 @@
+-- Texts with some of their bytes percent-encoded: they decode alike, and their first commas stand at the same bytes.
+use Rattle.std.proofs.Common.{◌≡◌, ℕ, suc, ◌+◌, ◌*◌, ◌/◌, ◌%◌, ◌<◌, Bool, true, false, not, cond, List, [], ◌∷◌, ◌++◌, Option, None, Some, refl, sym, ap, ◌∙◌, inl, inr, subst, append_assoc, arith, eqb, eqb-true, eq-eqb, ltb}
+use Rattle.std.specs.Prelude.{◌==◌, ◌||◌, ◌&&◌, ◌⊎◌, nat_lt}
+use Rattle.std.specs.Char.{digit_value}
+use Rattle.std.specs.List.{AllByRecursion, flat_map}
+use Rattle.std.proofs.lemmas.Bool.{agree_below_at, and_left, and_parts, and_right, cases_Bool, cond-true, cond-false, cond_both, both_ways, ne_eqb, or_left, or_right}
+use Rattle.data_url.specs.Url.{before, behind, encoded_byte, hex_digit, in_path_set, in_query_set, percent_encoded, serialised, with_query}
+use Rattle.data_url.specs.Percent.{is_escape, is_hex, percent_decoded}
+use Rattle.data_url.proofs.UrlLemmas.{before-append, before_nil, before_other, before_same, behind_nil, behind_other, behind_same}
+
+abbrev pub IsBytes : List ℕ → Type 0
+IsBytes s = AllByRecursion (λ b. b < 256) s
+
+-- x is s with some bytes of the query's set percent-encoded
+pub data Recoded : List ℕ → List ℕ → Type 0 where
+  none : Recoded [] []
+  kept : {s x : List ℕ} (b : ℕ) → Recoded s x → Recoded (b ∷ s) (b ∷ x)
+  written : {s x : List ℕ} (b : ℕ) → in_query_set b ≡ true → b < 256 → Recoded s x → Recoded (b ∷ s) (37 ∷ hex_digit (b / 16) ∷ hex_digit (b % 16) ∷ x)
+
+-- Bytes
+
+abbrev no_hex : ℕ → Bool
+no_hex b = not (in_query_set b && is_hex b)
+
+-- a byte of the set is no hexadecimal digit
+set_no_hex : (b : ℕ) → b < 256 → in_query_set b ≡ true → is_hex b ≡ false
+set_no_hex b l h = elim (cases_Bool (is_hex b)) [
+    inl e ↦ absurd (both_ways (no_hex b) (ap (λ v. not (v && is_hex b)) h ∙ ap (λ v. not v) e) (agree_below_at no_hex (λ c. true) 256 b refl l))
+  | inr e ↦ e
+  ]
+
+-- and is neither '%' nor ','
+set_other : (b c : ℕ) → in_query_set c ≡ false → in_query_set b ≡ true → (b == c) ≡ false
+set_other b c e h = ne_eqb b c (λ (k : b ≡ c). both_ways (in_query_set b) (ap in_query_set k ∙ e) h)
+
+hex_digit_value : (d : ℕ) → d < 16 → digit_value (hex_digit d) ≡ d
+hex_digit_value d l = eqb-true (digit_value (hex_digit d)) d (agree_below_at (λ d. digit_value (hex_digit d) == d) (λ c. true) 16 d refl l)
+
+hex_digit_hex : (d : ℕ) → d < 16 → is_hex (hex_digit d) ≡ true
+hex_digit_hex d l = agree_below_at (λ d. is_hex (hex_digit d)) (λ c. true) 16 d refl l
+
+hex_digit_other : (d c : ℕ) → c < 48 → (hex_digit d == c) ≡ false
+hex_digit_other d c l = cond_both (nat_lt d 10) (48 + d) (55 + d) (λ v. (v == c) ≡ false) (λ e. ne_eqb (48 + d) c (λ k. omega arith)) (λ e. ne_eqb (55 + d) c (λ k. omega arith))
+
+-- Decoding by one byte
+
+-- the text begins with two hexadecimal digits
+abbrev two_digits : List ℕ → Bool
+two_digits [] = false
+two_digits (b ∷ []) = false
+two_digits (b ∷ c ∷ s) = is_hex b && is_hex c
+
+pub decoded_keeps : (a : ℕ) (s : List ℕ) → ((a == 37) && two_digits s) ≡ false → percent_decoded (a ∷ s) ≡ a ∷ percent_decoded s
+unfolding percent_decoded
+decoded_keeps a [] h = refl
+decoded_keeps a (b ∷ []) h = refl
+decoded_keeps a (b ∷ c ∷ s) h = cond-false (is_escape a b c) ((16 * digit_value b + digit_value c) ∷ percent_decoded s) (a ∷ percent_decoded (b ∷ c ∷ s)) h
+
+pub decoded_escape : (b c : ℕ) (s : List ℕ) → is_hex b ≡ true → is_hex c ≡ true → percent_decoded (37 ∷ b ∷ c ∷ s) ≡ (16 * digit_value b + digit_value c) ∷ percent_decoded s
+unfolding percent_decoded
+decoded_escape b c s h k = cond-true (is_escape 37 b c) ((16 * digit_value b + digit_value c) ∷ percent_decoded s) (37 ∷ percent_decoded (b ∷ c ∷ s)) (ap (λ v. v && is_hex c) h ∙ k)
+
+-- what is written again is decoded to the byte
+decoded_written : (b : ℕ) (x : List ℕ) → b < 256 → percent_decoded (37 ∷ hex_digit (b / 16) ∷ hex_digit (b % 16) ∷ x) ≡ b ∷ percent_decoded x
+decoded_written b x l =
+    let high : b / 16 < 16 = omega arith in
+    let low : b % 16 < 16 = omega arith in
+    decoded_escape (hex_digit (b / 16)) (hex_digit (b % 16)) x (hex_digit_hex (b / 16) high) (hex_digit_hex (b % 16) low)
+    ∙ ap (λ v. v ∷ percent_decoded x) (ap (λ v. 16 * v + digit_value (hex_digit (b % 16))) (hex_digit_value (b / 16) high) ∙ ap (λ v. 16 * (b / 16) + v) (hex_digit_value (b % 16) low) ∙ omega arith)
+
+same_digits : {s x : List ℕ} → Recoded s x → two_digits x ≡ two_digits s
+same_digits none = refl
+same_digits (kept b none) = refl
+same_digits (kept b (kept c r)) = refl
+same_digits (kept b (written c h l r)) = and_right (is_hex b) false refl ∙ sym (and_right (is_hex b) (is_hex c) (set_no_hex c l h))
+same_digits (written b h l none) = refl
+same_digits (written b h l (kept c r)) = sym (and_left (is_hex b) (is_hex c) (set_no_hex b l h))
+same_digits (written b h l (written c k m r)) = sym (and_left (is_hex b) (is_hex c) (set_no_hex b l h))
+
+-- a byte that is kept, before no escape
+keeps : {s x : List ℕ} (b : ℕ) → Recoded s x → ((b == 37) && two_digits s) ≡ false → percent_decoded x ≡ percent_decoded s → percent_decoded (b ∷ x) ≡ percent_decoded (b ∷ s)
+keeps {s} {x} b r h e = decoded_keeps b x (ap (λ v. (b == 37) && v) (same_digits r) ∙ h) ∙ ap (λ t. b ∷ t) e ∙ sym (decoded_keeps b s h)
+
+-- a '%' that is kept, before two digits
+escapes : (b c d : ℕ) (s x : List ℕ) → ((b == 37) && (is_hex c && is_hex d)) ≡ true → percent_decoded x ≡ percent_decoded s → percent_decoded (b ∷ c ∷ d ∷ x) ≡ percent_decoded (b ∷ c ∷ d ∷ s)
+escapes b c d s x h e =
+    let p = and_parts (b == 37) (is_hex c && is_hex d) h in
+    let q = and_parts (is_hex c) (is_hex d) p.1 in
+    let f : b ≡ 37 = eqb-true b 37 p.0 in
+    ap (λ v. percent_decoded (v ∷ c ∷ d ∷ x)) f ∙ decoded_escape c d x q.0 q.1 ∙ ap (λ t. (16 * digit_value c + digit_value d) ∷ t) e ∙ sym (decoded_escape c d s q.0 q.1) ∙ ap (λ v. percent_decoded (v ∷ c ∷ d ∷ s)) (sym f)
+
+-- no digit stands first or second where a byte of the set does
+no_escape : (b : ℕ) (v : Bool) → v ≡ false → ((b == 37) && v) ≡ false
+no_escape b v h = and_right (b == 37) v h
+
+first_no_digit : (c : ℕ) (s : List ℕ) → is_hex c ≡ false → two_digits (c ∷ s) ≡ false
+first_no_digit c [] h = refl
+first_no_digit c (d ∷ s) h = and_left (is_hex c) (is_hex d) h
+
+pub recoded-decoded : {s x : List ℕ} → Recoded s x → percent_decoded x ≡ percent_decoded s
+recoded-decoded none = refl
+recoded-decoded (written {s} {x} b h l r) = decoded_written b x l ∙ ap (λ t. b ∷ t) (recoded-decoded r) ∙ sym (decoded_keeps b s (and_left (b == 37) (two_digits s) (set_other b 37 refl h)))
+recoded-decoded (kept b none) = refl
+recoded-decoded (kept b (kept c none)) = refl
+recoded-decoded (kept b (written {s} c h l r)) = keeps b (written c h l r) (no_escape b (two_digits (c ∷ s)) (first_no_digit c s (set_no_hex c l h))) (recoded-decoded (written c h l r))
+recoded-decoded (kept b (kept c (written d h l r))) = keeps b (kept c (written d h l r)) (no_escape b (is_hex c && is_hex d) (and_right (is_hex c) (is_hex d) (set_no_hex d l h))) (recoded-decoded (kept c (written d h l r)))
+recoded-decoded (kept b (kept c (kept {s} {x} d r))) = elim (cases_Bool ((b == 37) && (is_hex c && is_hex d))) [
+    inl e ↦ escapes b c d s x e (recoded-decoded r)
+  | inr e ↦ keeps b (kept c (kept d r)) e (recoded-decoded (kept c (kept d r)))
+  ]
+
+-- Encodings
+
+pub recoded-append : {a b x y : List ℕ} → Recoded a x → Recoded b y → Recoded (a ++ b) (x ++ y)
+recoded-append none q = q
+recoded-append (kept b r) q = kept b (recoded-append r q)
+recoded-append (written b h l r) q = written b h l (recoded-append r q)
+
+pub encoded_nil : (p : ℕ → Bool) → percent_encoded p [] ≡ []
+unfolding percent_encoded
+encoded_nil p = refl
+
+pub encoded_cons : (p : ℕ → Bool) (b : ℕ) (s : List ℕ) → percent_encoded p (b ∷ s) ≡ encoded_byte p b ++ percent_encoded p s
+unfolding percent_encoded
+encoded_cons p b s = refl
+
+-- one byte before the rest, encoded or not
+recoded_byte : (p : ℕ → Bool) → ((b : ℕ) → p b ≡ true → in_query_set b ≡ true) → (b : ℕ) (s x : List ℕ) → b < 256 → Recoded s x → Recoded (b ∷ s) (encoded_byte p b ++ x)
+recoded_byte p within b s x l r = cond_both (p b) (37 ∷ hex_digit (b / 16) ∷ hex_digit (b % 16) ∷ []) (b ∷ []) (λ t. Recoded (b ∷ s) (t ++ x)) (λ e. written b (within b e) l r) (λ e. kept b r)
+
+pub is_recoded : (p : ℕ → Bool) → ((b : ℕ) → p b ≡ true → in_query_set b ≡ true) → (s : List ℕ) → IsBytes s → Recoded s (percent_encoded p s)
+is_recoded p within [] h = subst (λ x. Recoded [] x) (sym (encoded_nil p)) none
+is_recoded p within (b ∷ s) h = subst (λ x. Recoded (b ∷ s) x) (sym (encoded_cons p b s)) (recoded_byte p within b s (percent_encoded p s) h.0 (is_recoded p within s h.1))
+
+pub path_within_query : (b : ℕ) → in_path_set b ≡ true → in_query_set b ≡ true
+path_within_query b h = or_left (in_path_set b) ((b == 32) || ((b == 34) || ((b == 35) || ((b == 60) || (b == 62))))) h
+
+-- The serialised front, byte by byte
+
+pub serialised_nil : serialised [] ≡ []
+unfolding serialised before behind percent_encoded
+serialised_nil = refl
+
+pub serialised_query : (s : List ℕ) → serialised (63 ∷ s) ≡ 63 ∷ percent_encoded in_query_set s
+unfolding serialised
+serialised_query s = ap (λ v. with_query v (behind 63 (63 ∷ s))) (before_same 63 s) ∙ ap (λ v. with_query [] v) (behind_same 63 s) ∙ ap (λ v. v ++ 63 ∷ percent_encoded in_query_set s) (encoded_nil in_path_set)
+
+with_query_cons : (b : ℕ) (path : List ℕ) (query : Option (List ℕ)) → with_query (b ∷ path) query ≡ encoded_byte in_path_set b ++ with_query path query
+with_query_cons b path None = encoded_cons in_path_set b path
+with_query_cons b path (Some query) = ap (λ v. v ++ 63 ∷ percent_encoded in_query_set query) (encoded_cons in_path_set b path) ∙ append_assoc (encoded_byte in_path_set b) (percent_encoded in_path_set path) (63 ∷ percent_encoded in_query_set query)
+
+pub serialised_path : (b : ℕ) (s : List ℕ) → (b == 63) ≡ false → serialised (b ∷ s) ≡ encoded_byte in_path_set b ++ serialised s
+unfolding serialised
+serialised_path b s h = ap (λ v. with_query v (behind 63 (b ∷ s))) (before_other 63 b s h) ∙ ap (λ v. with_query (b ∷ before 63 s) v) (behind_other 63 b s h) ∙ with_query_cons b (before 63 s) (behind 63 s)
+
+pub serialised_recoded : (s : List ℕ) → IsBytes s → Recoded s (serialised s)
+serialised_recoded [] h = subst (λ x. Recoded [] x) (sym serialised_nil) none
+serialised_recoded (b ∷ s) h = elim (cases_Bool (b == 63)) [
+    inl e ↦ let f : b ≡ 63 = eqb-true b 63 e in subst (λ v. Recoded (v ∷ s) (serialised (v ∷ s))) (sym f) (subst (λ x. Recoded (63 ∷ s) x) (sym (serialised_query s)) (kept 63 (is_recoded in_query_set (λ b e. e) s h.1)))
+  | inr e ↦ subst (λ x. Recoded (b ∷ s) x) (sym (serialised_path b s e)) (recoded_byte in_path_set path_within_query b s (serialised s) h.0 (serialised_recoded s h.1))
+  ]
+
+-- The first comma
+
+-- what stands behind the first comma of both: nothing, or two texts of which one is the other recoded
+abbrev pub RecodedTails : Option (List ℕ) → Option (List ℕ) → Type 0
+RecodedTails None None = Unit {0}
+RecodedTails None (Some y) = ⊥
+RecodedTails (Some t) None = ⊥
+RecodedTails (Some t) (Some y) = Recoded t y
+
+behind_written : (b : ℕ) (x : List ℕ) → behind 44 (37 ∷ hex_digit (b / 16) ∷ hex_digit (b % 16) ∷ x) ≡ behind 44 x
+behind_written b x =
+    behind_other 44 37 (hex_digit (b / 16) ∷ hex_digit (b % 16) ∷ x) refl
+    ∙ behind_other 44 (hex_digit (b / 16)) (hex_digit (b % 16) ∷ x) (hex_digit_other (b / 16) 44 (omega arith))
+    ∙ behind_other 44 (hex_digit (b % 16)) x (hex_digit_other (b % 16) 44 (omega arith))
+
+pub recoded_tails : {s x : List ℕ} → Recoded s x → RecodedTails (behind 44 s) (behind 44 x)
+recoded_tails none = subst (λ v. RecodedTails v v) (sym (behind_nil 44)) tt
+recoded_tails (kept {s} {x} b r) = elim (cases_Bool (b == 44)) [
+    inl e ↦ let f : b ≡ 44 = eqb-true b 44 e in subst (λ v. RecodedTails (behind 44 (v ∷ s)) (behind 44 (v ∷ x))) (sym f) (subst (λ v. RecodedTails v (behind 44 (44 ∷ x))) (sym (behind_same 44 s)) (subst (λ v. RecodedTails (Some s) v) (sym (behind_same 44 x)) r))
+  | inr e ↦ subst (λ v. RecodedTails v (behind 44 (b ∷ x))) (sym (behind_other 44 b s e)) (subst (λ v. RecodedTails (behind 44 s) v) (sym (behind_other 44 b x e)) (recoded_tails r))
+  ]
+recoded_tails (written {s} {x} b h l r) = subst (λ v. RecodedTails v (behind 44 (37 ∷ hex_digit (b / 16) ∷ hex_digit (b % 16) ∷ x))) (sym (behind_other 44 b s (set_other b 44 refl h))) (subst (λ v. RecodedTails (behind 44 s) v) (sym (behind_written b x)) (recoded_tails r))
+
+-- what stands before the first comma of an encoded text is the encoding of what stands before the first comma
+
+encoded_byte_lacks : (p : ℕ → Bool) (b : ℕ) → (b == 44) ≡ false → behind 44 (encoded_byte p b) ≡ None
+encoded_byte_lacks p b h = cond_both (p b) (37 ∷ hex_digit (b / 16) ∷ hex_digit (b % 16) ∷ []) (b ∷ []) (λ t. behind 44 t ≡ None) (λ e. behind_written b [] ∙ behind_nil 44) (λ e. behind_other 44 b [] h ∙ behind_nil 44)
+
+encoded_comma : (p : ℕ → Bool) → p 44 ≡ false → (s : List ℕ) → encoded_byte p 44 ++ s ≡ 44 ∷ s
+encoded_comma p h s = ap (λ t. t ++ s) (cond-false (p 44) (37 ∷ hex_digit (44 / 16) ∷ hex_digit (44 % 16) ∷ []) (44 ∷ []) h)
+
+before_encoded : (p : ℕ → Bool) → p 44 ≡ false → (s : List ℕ) → before 44 (percent_encoded p s) ≡ percent_encoded p (before 44 s)
+before_encoded p h [] = ap (before 44) (encoded_nil p) ∙ before_nil 44 ∙ sym (ap (percent_encoded p) (before_nil 44) ∙ encoded_nil p)
+before_encoded p h (b ∷ s) = ap (before 44) (encoded_cons p b s) ∙ elim (cases_Bool (b == 44)) [
+    inl e ↦ let f : b ≡ 44 = eqb-true b 44 e in subst (λ v. before 44 (encoded_byte p v ++ percent_encoded p s) ≡ percent_encoded p (before 44 (v ∷ s))) (sym f) (ap (before 44) (encoded_comma p h (percent_encoded p s)) ∙ before_same 44 (percent_encoded p s) ∙ sym (ap (percent_encoded p) (before_same 44 s) ∙ encoded_nil p))
+  | inr e ↦ before-append 44 (encoded_byte p b) (percent_encoded p s) (encoded_byte_lacks p b e) ∙ ap (λ t. encoded_byte p b ++ t) (before_encoded p h s) ∙ sym (ap (percent_encoded p) (before_other 44 b s e) ∙ encoded_cons p b (before 44 s))
+  ]
+
+pub before-serialised : (s : List ℕ) → before 44 (serialised s) ≡ serialised (before 44 s)
+before-serialised [] = ap (before 44) serialised_nil ∙ before_nil 44 ∙ sym (ap serialised (before_nil 44) ∙ serialised_nil)
+before-serialised (b ∷ s) = elim (cases_Bool (b == 63)) [
+    inl e ↦ let f : b ≡ 63 = eqb-true b 63 e in subst (λ v. before 44 (serialised (v ∷ s)) ≡ serialised (before 44 (v ∷ s))) (sym f) (ap (before 44) (serialised_query s) ∙ before_other 44 63 (percent_encoded in_query_set s) refl ∙ ap (λ t. 63 ∷ t) (before_encoded in_query_set refl s) ∙ sym (ap serialised (before_other 44 63 s refl) ∙ serialised_query (before 44 s)))
+  | inr e ↦ ap (before 44) (serialised_path b s e) ∙ elim (cases_Bool (b == 44)) [
+        inl k ↦ let f : b ≡ 44 = eqb-true b 44 k in subst (λ v. before 44 (encoded_byte in_path_set v ++ serialised s) ≡ serialised (before 44 (v ∷ s))) (sym f) (before_same 44 (serialised s) ∙ sym (ap serialised (before_same 44 s) ∙ serialised_nil))
+      | inr k ↦ before-append 44 (encoded_byte in_path_set b) (serialised s) (encoded_byte_lacks in_path_set b k) ∙ ap (λ t. encoded_byte in_path_set b ++ t) (before-serialised s) ∙ sym (ap serialised (before_other 44 b s k) ∙ serialised_path b (before 44 s) e)
+      ]
+  ]

@@ -1,0 +1,25 @@
+-- What the front of a text is cut into, as it was given.
+use Rattle.std.specs.Prelude.{◌≡◌, ◌==◌, ◌||◌, ℕ, Bool, false, List, [], ◌∷◌, ◌++◌, take, map, None, codes}
+use Rattle.std.specs.Char.{to_ascii_lowercase}
+use Rattle.std.specs.Str.{bytes_eq}
+use Rattle.data_url.specs.Url.{behind, dropped}
+
+-- rest stands behind the scheme "data:", spelled in any ASCII case with tabs and newlines anywhere
+pub record IsSchemeAndRest (text rest : List ℕ) : Type 0 where
+  pub scheme : List ℕ
+  pub joined : text ≡ scheme ++ rest
+  pub spelled : map to_ascii_lowercase (dropped scheme) ≡ codes "data:"
+
+-- the text begins with no such scheme
+abbrev pub HasNoScheme : List ℕ → Type 0
+HasNoScheme text = bytes_eq (map to_ascii_lowercase (take 5 (dropped text))) (codes "data:") ≡ false
+
+-- ',' or '#'
+abbrev pub ends_header : ℕ → Bool
+ends_header b = (b == 44) || (b == 35)
+
+-- the text is the header, its first comma and the tail, and no '#' stands in the header
+pub record IsHeaderAndTail (text header tail : List ℕ) : Type 0 where
+  pub joined : text ≡ header ++ 44 ∷ tail
+  pub no_comma : behind 44 header ≡ None
+  pub no_fragment : behind 35 header ≡ None
