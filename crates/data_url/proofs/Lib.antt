@@ -1,4 +1,5 @@
 mod Base64Examples
+pub mod BodyLemmas
 pub mod CommaLemmas
 pub mod FaultLemmas
 pub mod HeaderLemmas

@@ -45,7 +45,7 @@ hex_digit_other d c l = cond_both (nat_lt d 10) (48 + d) (55 + d) (λ v. (v == c
 -- Decoding by one byte
 
 -- the text begins with two hexadecimal digits
-abbrev two_digits : List ℕ → Bool
+abbrev pub two_digits : List ℕ → Bool
 two_digits [] = false
 two_digits (b ∷ []) = false
 two_digits (b ∷ c ∷ s) = is_hex b && is_hex c

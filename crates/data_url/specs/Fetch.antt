@@ -3,7 +3,7 @@ use Rattle.std.specs.Prelude.{ℕ, ◌-◌, ◌==◌, Bool, cond, List, [], ◌�
 use Rattle.std.specs.Option.{option_map}
 use Rattle.std.specs.Char.{to_ascii_lowercase}
 use Rattle.std.specs.Str.{bytes_eq}
-use Rattle.data_url.specs.Url.{after_scheme, before, behind, fragment, front, in_fragment_set, percent_encoded, serialised, trimmed, without_end, without_front}
+use Rattle.data_url.specs.Url.{after_scheme, before, behind, dropped, fragment, front, in_fragment_set, percent_encoded, serialised, trimmed, without_end, without_front}
 use Rattle.data_url.specs.Percent.{percent_decoded}
 use Rattle.data_url.specs.Base64.{Kind, decoded, done, is_valid, kind_of}
 
@@ -28,6 +28,10 @@ encoded_body t = option_and_then (behind 44) (staged_front t)
 -- what stands behind the first comma of the text as it was given, but for its ends
 unfoldable pub tail_of : List ℕ → Option (List ℕ)
 tail_of t = behind 44 (trimmed t)
+
+-- the body that a tail holds, as it was given: up to the first '#', without tabs and newlines, percent-decoded
+unfoldable pub plain_body : List ℕ → List ℕ
+plain_body tail = percent_decoded (front (dropped tail))
 
 -- The base64 suffix
 

@@ -1,4 +1,5 @@
 pub mod Base64
+pub mod Body
 pub mod CodePoints
 pub mod ErrorText
 pub mod Fetch

@@ -1,6 +1,7 @@
 //! Data: URLs by the Fetch Standard.
 #![tactic(auto)]
 
+mod body;
 mod facts;
 pub mod forgiving_base64;
 mod front;
