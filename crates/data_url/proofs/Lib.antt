@@ -1,6 +1,7 @@
 mod Base64Examples
 pub mod BodyLemmas
 pub mod CommaLemmas
+pub mod DecodeLemmas
 pub mod FaultLemmas
 pub mod HeaderLemmas
 pub mod ItemLemmas
@@ -9,9 +10,11 @@ pub mod OnLiterals
 pub mod QuotedLemmas
 pub mod RecodedLemmas
 pub mod RecordLemmas
+pub mod RunLemmas
 pub mod SchemeLemmas
 mod StagedExamples
 pub mod TextCuts
 pub mod TextLemmas
 pub mod UrlLemmas
 pub mod ValidLemmas
+pub mod WalkLemmas

@@ -1,5 +1,5 @@
 -- What the walk over a tail finds at its front: a tail is what stands behind the comma of a text as it was given.
-use Rattle.std.specs.Prelude.{◌≡◌, ◌⊎◌, ℕ, ◌+◌, ◌*◌, ◌<◌, ◌&&◌, Bool, true, false, List, [], ◌∷◌, ◌++◌, length, Option, None, Some}
+use Rattle.std.specs.Prelude.{◌≡◌, ◌⊎◌, ℕ, ◌+◌, ◌*◌, ◌<◌, ◌≤◌, ◌&&◌, Bool, true, false, List, [], ◌∷◌, ◌++◌, length, drop, Option, None, Some}
 use Rattle.std.specs.Char.{digit_value}
 use Rattle.data_url.specs.Url.{behind, dropped, is_tab_or_newline}
 use Rattle.data_url.specs.Percent.{is_hex}
@@ -80,6 +80,12 @@ pub record EndsBody (tail rest : List ℕ) : Type 0 where
   pub begins : BeginsFragment rest
   pub body : plain_body tail ≡ []
   pub behind_is : behind 35 tail ≡ fragment_at rest
+
+-- the body of the tail ends at the place: there stands nothing, or '#' and the fragment
+pub record IsBodyEnd (tail : List ℕ) (place : ℕ) : Type 0 where
+  pub within : place ≤ length tail
+  pub begins : BeginsFragment (drop place tail)
+  pub behind_is : behind 35 tail ≡ fragment_at (drop place tail)
 
 abbrev pub IsStep : List ℕ → BodyStep → Type 0
 IsStep tail (Byte b rest) = TakesByte tail b rest.now

@@ -1,6 +1,7 @@
 pub mod Base64
 pub mod Body
 pub mod CodePoints
+pub mod Decodes
 pub mod ErrorText
 pub mod Fetch
 pub mod Front

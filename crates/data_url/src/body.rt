@@ -1,11 +1,15 @@
 //! The walk over a body as it was given: escapes are decoded (URL Standard, section 1.3) past tabs and newlines, up to the first `#`.
 
-ghost use Rattle.std.specs.Prelude.{◌≡◌, ◌+◌, ◌*◌, true, false, MatchOption, ℕ};
+ghost use Rattle.std.specs.Prelude.{◌≡◌, ◌+◌, ◌*◌, true, false, MatchOption, length};
 ghost use Rattle.std.specs.Char.{digit_value};
+ghost use Rattle.std.specs.Fn.{CalledAt};
 ghost use Rattle.data_url.specs.Url.{dropped};
-ghost use Rattle.data_url.specs.Body.{BeginsKept, IsPast, IsStep, begins_with_digit, HasDigit, HasNoEscape, IsEscape};
+ghost use Rattle.data_url.specs.Body.{BeginsKept, IsBodyEnd, IsPast, IsStep, begins_with_digit, HasDigit, HasNoEscape, IsEscape};
 ghost use Rattle.data_url.specs.Percent.{is_hex};
+ghost use Rattle.data_url.specs.Fetch.{Good, plain_body};
+ghost use Rattle.data_url.specs.Decodes.{Decodes};
 
+use crate::forgiving_base64::DecodeError;
 use crate::front::is_passed_over;
 
 /// What stands at the front of a tail.
@@ -76,4 +80,24 @@ fn past_dropped(text: &[u8]) -> &[u8]
         rest = after;
     }
     rest
+}
+
+/// Hands the body of a tail to a closure, byte by byte, and answers the place in the tail where the body ends.
+pub(crate) fn decode_plain<F, E>(tail: &[u8], mut write: F) -> (Result<usize, DecodeError<E>>, F)
+where
+    F: FnMut(&[u8]) -> Result<(), E>,
+    requires { F.IsAlwaysCallable write }
+    ensures { Decodes (CalledAt F.FnMut) write (length tail.now) (Good (plain_body tail.now))
+        (IsBodyEnd tail.now) result.0 result.1 }
+{
+    let mut rest = tail;
+    loop {
+        match step(rest) {
+            BodyStep::End(end) => return (Ok(tail.len() - end.len()), write),
+            BodyStep::Byte(byte, after) => match write(&[byte]) {
+                Ok(()) => rest = after,
+                Err(error) => return (Err(DecodeError::WriteError(error)), write),
+            },
+        }
+    }
 }
