@@ -7,12 +7,15 @@ pub mod HeaderLemmas
 pub mod ItemLemmas
 mod MimeExamples
 pub mod OnLiterals
+pub mod PrintableLemmas
 pub mod QuotedLemmas
 pub mod RecodedLemmas
 pub mod RecordLemmas
 pub mod RunLemmas
 pub mod SchemeLemmas
+pub mod SerialiseLemmas
 mod StagedExamples
+pub mod SuffixLemmas
 pub mod TextCuts
 pub mod TextLemmas
 pub mod UrlLemmas

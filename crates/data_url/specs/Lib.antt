@@ -5,10 +5,12 @@ pub mod Decodes
 pub mod ErrorText
 pub mod Fetch
 pub mod Front
+pub mod Header
 pub mod Laws
 pub mod Mime
 pub mod Percent
 pub mod Refusal
 pub mod Run
 pub mod Seen
+pub mod Sets
 pub mod Url

@@ -37,7 +37,7 @@ fn low_front_len(bytes: &[u8]) -> usize
 }
 
 /// How many bytes at the end are C0 controls or spaces.
-fn low_end_len(bytes: &[u8]) -> usize
+pub(crate) fn low_end_len(bytes: &[u8]) -> usize
     ensures { result ≡ suffix_len is_c0_control_or_space bytes.now }
 {
     bytes.iter().rev().take_while(|byte| **byte <= b' ').count()

@@ -5,4 +5,6 @@ mod body;
 mod facts;
 pub mod forgiving_base64;
 mod front;
+mod header;
 pub mod mime;
+mod percent;

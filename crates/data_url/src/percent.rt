@@ -1,0 +1,55 @@
+//! Percent-encoding (URL Standard, section 1.3).
+
+ghost use Rattle.std.specs.Prelude.{◌≡◌, ◌<◌, ◌++◌, OnOk, string_bytes};
+ghost use Rattle.data_url.specs.Url.{encoded_byte, hex_digit};
+ghost use Rattle.data_url.specs.Sets.{in_set};
+
+use std::alloc::AllocError;
+
+/// A percent-encode set.
+#[derive(Clone, Copy)]
+pub(crate) enum EncodeSet {
+    /// Of a path: the C0 control percent-encode set.
+    Path,
+    /// Of a query.
+    Query,
+    /// Of a fragment.
+    Fragment,
+}
+
+impl EncodeSet {
+    /// Whether the byte is to be encoded.
+    pub(crate) fn contains(self, byte: u8) -> bool
+        ensures { result ≡ in_set self byte }
+    {
+        if byte < b' ' || byte > b'~' {
+            return true;
+        }
+        match self {
+            EncodeSet::Path => false,
+            EncodeSet::Query => matches!(byte, b' ' | b'"' | b'#' | b'<' | b'>'),
+            EncodeSet::Fragment => matches!(byte, b' ' | b'"' | b'<' | b'>' | b'`'),
+        }
+    }
+}
+
+/// The upper-case hexadecimal digit of a number below 16.
+fn hex_digit_of(value: u8) -> u8
+    requires { value < 16 }
+    ensures value { result ≡ hex_digit value }
+    ensures ascii { result < 128 }
+{
+    if value < 10 { b'0' + value } else { b'A' - 10 + value }
+}
+
+/// Writes a byte at the end of a text, percent-encoded where the set contains it.
+pub(crate) fn push_encoded(text: &mut String, set: EncodeSet, byte: u8) -> Result<(), AllocError>
+    ensures { OnOk result (string_bytes text.new ≡ string_bytes text.old ++ encoded_byte (in_set set) byte) }
+{
+    if !set.contains(byte) {
+        return text.push(char::from(byte));
+    }
+    text.push('%')?;
+    text.push(char::from(hex_digit_of(byte / 16)))?;
+    text.push(char::from(hex_digit_of(byte % 16)))
+}
