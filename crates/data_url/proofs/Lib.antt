@@ -1,2 +1,5 @@
 pub mod FaultLemmas
+pub mod FeedLemmas
+pub mod TextLemmas
 pub mod ValidLemmas
+pub mod WalkLemmas
