@@ -1,10 +1,9 @@
 -- A text that is fed in two parts.
-use Rattle.std.proofs.Common.{◌≡◌, ℕ, suc, zero, ◌+◌, ◌%◌, ◌≤◌, Bool, true, false, eqb, cond, ◌||◌, List, [], ◌∷◌, ◌++◌, length, map, min, replicate, Option, None, Some, is_some, refl, ap, sym, ◌∙◌, arith, append_assoc, length-append}
+use Rattle.std.proofs.Common.{◌≡◌, ℕ, suc, zero, ◌+◌, ◌%◌, false, List, [], ◌∷◌, ◌++◌, length, map, min, replicate, Option, None, Some, is_some, refl, ap, sym, ◌∙◌, arith, append_assoc, length-append}
 use Rattle.std.specs.List.{filter, list_any}
 use Rattle.std.proofs.lemmas.List.{map-append, length-map, length-replicate}
 use Rattle.std.proofs.lemmas.List.Elements.{filter-append}
-use Rattle.std.proofs.lemmas.List.Folds.{list_any-append}
-use Rattle.data_url.specs.Base64.{after_groups, decoded, done, first_fault, groups, is_symbol, is_valid, kind_of, left_padding, left_symbols, left_text, rest_bytes, symbol_value, values}
+use Rattle.data_url.specs.Base64.{after_groups, decoded, done, groups, is_symbol, is_valid, left_padding, left_symbols, left_text, rest_bytes, symbol_value, values}
 use Rattle.data_url.specs.Laws.{GoesOn, TwoFeeds}
 use Rattle.data_url.specs.Mime.{Every}
 use Rattle.data_url.proofs.TextLemmas.{after_groups-append, after_groups-map, any_of_text, before-append, before_fault, before_none, done_is, every_after, fault-append, fault_byte, fault_invalid, fault_none, fault_some, fault_text, groups-append, is_sign, kind_by, kind_is, length_alike, no_fault_valid, signs_of_text, symbols_of_text}
@@ -39,7 +38,7 @@ min_alike m n k e = omega arith
 valid_by : (x y : List ℕ) → fault_byte false x ≡ fault_byte false y → length (filter is_symbol x) % 4 ≡ length (filter is_symbol y) % 4 → min (length (filter is_sign x)) 3 ≡ min (length (filter is_sign y)) 3 → is_valid x ≡ is_valid y
 valid_by x y e f g =
     elim (fault_byte false y) as (λ o. fault_byte false y ≡ o → is_valid x ≡ is_valid y) [
-        None ↦ λ h.
+      | None ↦ λ h.
           no_fault_valid x (e ∙ h)
           ∙ fits_min (length (filter is_symbol x) % 4) (length (filter is_sign x))
           ∙ ap (λ r. fits_with r (min (length (filter is_sign x)) 3)) f
@@ -133,7 +132,7 @@ module _ (a b w : List ℕ) (st : Stands a w) where
     symbols_left = left_both;
     padding_left = padding_both;
     valid_is = valid_by (a ++ b) (w ++ b) fault_both length_symbols length_signs;
-    decoded_is = decoded_both
+    decoded_is = decoded_both;
   }
 
 -- What is left stands for a text
@@ -156,7 +155,7 @@ left_stands a h =
       signs = ap (λ x. min (length x) 3) (signs_of_text q p every) ∙ ap (λ x. min x 3) (length-replicate p 61) ∙ min_min (length (filter is_sign a));
       seen = any_of_text q p every ∙ any_min (filter is_sign a) ∙ sym (any_filter is_sign a);
       no_fault = h;
-      none_left = fault_text q p every
+      none_left = fault_text q p every;
     }
 
 pub two_feeds : (a b : List ℕ) → TwoFeeds a b

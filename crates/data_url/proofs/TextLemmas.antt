@@ -1,11 +1,11 @@
 -- The definitions of base64 by a walk that remembers whether it has seen a sign.
-use Rattle.std.proofs.Common.{◌≡◌, ℕ, suc, zero, ◌+◌, ◌%◌, Bool, true, false, not, cond, eqb, ◌||◌, List, [], ◌∷◌, ◌++◌, length, map, min, replicate, Option, None, Some, is_some, refl, ap, sym, ◌∙◌, inl, inr, arith, append_assoc, length-append}
-use Rattle.std.specs.List.{filter, find, list_all, list_any, range_with_len}
-use Rattle.std.proofs.lemmas.List.{append-nil, length-map, map-append}
+use Rattle.std.proofs.Common.{◌≡◌, ℕ, suc, zero, ◌%◌, Bool, true, false, not, cond, eqb, ◌||◌, List, [], ◌∷◌, ◌++◌, length, map, replicate, Option, None, Some, is_some, refl, ap, sym, ◌∙◌, inl, inr, arith, append_assoc}
+use Rattle.std.specs.List.{filter, list_all, list_any}
+use Rattle.std.proofs.lemmas.List.{append-nil}
 use Rattle.std.proofs.lemmas.List.Elements.{filter-append}
-use Rattle.std.proofs.lemmas.List.Folds.{list_any-append, list_all-append}
-use Rattle.std.proofs.lemmas.Bool.{and_parts, cond-true, cond-false, eqb-true, false_from_ne_true, or_cases}
-use Rattle.data_url.specs.Base64.{AlphabetSymbolAfterPadding, Kind, LoneAlphabetSymbol, Padding, UnexpectedSymbol, after_groups, before_place, compact, done, first_fault, group_bytes, group_number, groups, is_ascii_whitespace, is_fault, is_symbol, is_valid, kind_at, kind_of, unpadded, values, without_sign}
+use Rattle.std.proofs.lemmas.List.Folds.{list_any-append}
+use Rattle.std.proofs.lemmas.Bool.{and_parts, eqb-true, false_from_ne_true, or_cases}
+use Rattle.data_url.specs.Base64.{AlphabetSymbolAfterPadding, Kind, LoneAlphabetSymbol, Padding, UnexpectedSymbol, after_groups, before_place, compact, done, first_fault, group_bytes, group_number, groups, is_ascii_whitespace, is_symbol, is_valid, kind_at, kind_of, unpadded, values, without_sign}
 use Rattle.data_url.specs.Laws.{IsSymbolsAndSigns}
 use Rattle.data_url.specs.Mime.{Every}
 use Rattle.data_url.proofs.ValidLemmas.{fits_with, symbols_signs_valid}
@@ -18,17 +18,17 @@ is_sign c = eqb c 61
 at_space : (c : ℕ) → is_ascii_whitespace c ≡ true → Class true (is_sign c) (is_symbol c)
 at_space c e =
     elim (or_cases (eqb c 9) (eqb c 10 || (eqb c 12 || (eqb c 13 || eqb c 32))) e) [
-        inl f ↦ rw (eqb-true c 9 f) of_space
+      | inl f ↦ rw (eqb-true c 9 f) of_space
       | inr e1 ↦ elim (or_cases (eqb c 10) (eqb c 12 || (eqb c 13 || eqb c 32)) e1) [
-            inl f ↦ rw (eqb-true c 10 f) of_space
-          | inr e2 ↦ elim (or_cases (eqb c 12) (eqb c 13 || eqb c 32) e2) [
-                inl f ↦ rw (eqb-true c 12 f) of_space
-              | inr e3 ↦ elim (or_cases (eqb c 13) (eqb c 32) e3) [
-                    inl f ↦ rw (eqb-true c 13 f) of_space
-                  | inr f ↦ rw (eqb-true c 32 f) of_space
-                ]
-            ]
+        | inl f ↦ rw (eqb-true c 10 f) of_space
+        | inr e2 ↦ elim (or_cases (eqb c 12) (eqb c 13 || eqb c 32) e2) [
+          | inl f ↦ rw (eqb-true c 12 f) of_space
+          | inr e3 ↦ elim (or_cases (eqb c 13) (eqb c 32) e3) [
+            | inl f ↦ rw (eqb-true c 13 f) of_space
+            | inr f ↦ rw (eqb-true c 32 f) of_space
+          ]
         ]
+      ]
     ]
 
 at_symbol : (z : Bool) → Class false false z
@@ -38,11 +38,11 @@ at_symbol false = of_none
 pub classes : (c : ℕ) → Class (is_ascii_whitespace c) (is_sign c) (is_symbol c)
 classes c =
     elim (is_ascii_whitespace c) as (λ x. is_ascii_whitespace c ≡ x → Class x (is_sign c) (is_symbol c)) [
-        true ↦ λ e. at_space c e
+      | true ↦ λ e. at_space c e
       | false ↦ λ e. elim (is_sign c) as (λ y. is_sign c ≡ y → Class false y (is_symbol c)) [
-            true ↦ λ f. rw (eqb-true c 61 f) of_sign
-          | false ↦ λ f. at_symbol (is_symbol c)
-        ] refl
+        | true ↦ λ f. rw (eqb-true c 61 f) of_sign
+        | false ↦ λ f. at_symbol (is_symbol c)
+      ] refl
     ] refl
 
 -- the byte at the first fault, where a sign may stand before the text
@@ -162,7 +162,7 @@ signs_are : (b : List ℕ) → filter is_sign b ≡ replicate (length (filter is
 signs_are [] = refl
 signs_are (c ∷ t) =
     elim (is_sign c) as (λ v. is_sign c ≡ v → cond v (c ∷ filter is_sign t) (filter is_sign t) ≡ replicate (length (cond v (c ∷ filter is_sign t) (filter is_sign t))) 61) [
-        true ↦ λ e. ap (λ (x : ℕ). x ∷ filter is_sign t) (eqb-true c 61 e) ∙ ap (λ (x : List ℕ). 61 ∷ x) (signs_are t)
+      | true ↦ λ e. ap (λ (x : ℕ). x ∷ filter is_sign t) (eqb-true c 61 e) ∙ ap (λ (x : List ℕ). 61 ∷ x) (signs_are t)
       | false ↦ λ e. signs_are t
     ] refl
 
@@ -171,7 +171,7 @@ pub no_fault_text : (b : List ℕ) → fault_byte false b ≡ None → IsSymbols
 unfolding fault_byte compact
 no_fault_text b h = record {
   symbols_are = filter_every is_symbol b;
-  compact_is = compact_walk is_ascii_whitespace is_sign is_symbol classes b false h ∙ ap (λ x. filter is_symbol b ++ x) (signs_are b)
+  compact_is = compact_walk is_ascii_whitespace is_sign is_symbol classes b false h ∙ ap (λ x. filter is_symbol b ++ x) (signs_are b);
 }
 
 pub no_fault_valid : (b : List ℕ) → fault_byte false b ≡ None → is_valid b ≡ fits_with (length (filter is_symbol b) % 4) (length (filter is_sign b))
@@ -205,7 +205,7 @@ unpadded_none : (s : List ℕ) → fault_byte false (unpadded s) ≡ None → fa
 unfolding unpadded
 unpadded_none s =
     elim (eqb (length s % 4) 0) as (λ v. fault_byte false (cond v (without_sign (without_sign s)) s) ≡ None → fault_byte false s ≡ None) [
-        true ↦ λ h. cut_none (cut_is s) (cut_none (cut_is (without_sign s)) h)
+      | true ↦ λ h. cut_none (cut_is s) (cut_none (cut_is (without_sign s)) h)
       | false ↦ λ h. h
     ]
 

@@ -1,5 +1,5 @@
 -- A walk over a text that remembers whether it has seen a sign, with the classes of bytes as variables.
-use Rattle.std.proofs.Common.{◌≡◌, ℕ, suc, zero, ◌+◌, Bool, true, false, not, cond, ◌&&◌, ◌||◌, List, [], ◌∷◌, ◌++◌, length, take, get_or, replicate, Option, None, Some, is_some, refl, ap, sym, ◌∙◌, inl, inr, append_assoc}
+use Rattle.std.proofs.Common.{◌≡◌, ℕ, suc, zero, ◌+◌, Bool, true, false, not, cond, ◌&&◌, ◌||◌, List, [], ◌∷◌, ◌++◌, length, take, get_or, replicate, Option, None, Some, refl, ap, sym, ◌∙◌, inl, inr, append_assoc}
 use Rattle.std.specs.List.{filter, find, list_any, range_with_len}
 use Rattle.std.proofs.lemmas.List.{append-nil, get_or_at, take_at, length_push}
 use Rattle.std.proofs.lemmas.List.Folds.{list_any-append}
@@ -121,7 +121,7 @@ module _ (space sign symbol : ℕ → Bool) where
   before_walk p [] n s e = refl
   before_walk p (c ∷ t) n s e =
       elim (is_bad s c) as (λ v. before_place (p ++ c ∷ t) (cond v (Some n) (stop_place (n + 1) (s || sign c) t)) ≡ p ++ cond v [] (c ∷ ahead (s || sign c) t)) [
-          true ↦ take_at p (c ∷ t) n e ∙ sym (append-nil p)
+        | true ↦ take_at p (c ∷ t) n e ∙ sym (append-nil p)
         | false ↦
             ap (λ (z : List ℕ). before_place z (stop_place (n + 1) (s || sign c) t)) (sym (append_assoc p (c ∷ []) t))
             ∙ before_walk (p ++ c ∷ []) t (n + 1) (s || sign c) (length_push p c ∙ ap (λ x. x + 1) e)
@@ -132,7 +132,7 @@ module _ (space sign symbol : ℕ → Bool) where
   byte_walk p [] n s e = refl
   byte_walk p (c ∷ t) n s e =
       elim (is_bad s c) as (λ v. byte_at (p ++ c ∷ t) (cond v (Some n) (stop_place (n + 1) (s || sign c) t)) ≡ cond v (Some c) (stop (s || sign c) t)) [
-          true ↦ ap Some (get_or_at p c t 0 n e)
+        | true ↦ ap Some (get_or_at p c t 0 n e)
         | false ↦
             ap (λ (z : List ℕ). byte_at z (stop_place (n + 1) (s || sign c) t)) (sym (append_assoc p (c ∷ []) t))
             ∙ byte_walk (p ++ c ∷ []) t (n + 1) (s || sign c) (length_push p c ∙ ap (λ x. x + 1) e)
@@ -145,7 +145,7 @@ module _ (space sign symbol : ℕ → Bool) where
   stop-append [] b s h = ap (λ x. stop x b) (sym (or_false s))
   stop-append (c ∷ t) b s h =
       elim (is_bad s c) as (λ v. cond v (Some c) (stop (s || sign c) t) ≡ None → cond v (Some c) (stop (s || sign c) (t ++ b)) ≡ stop (s || (sign c || list_any sign t)) b) [
-          true ↦ λ e. absurd (some_not_none c e)
+        | true ↦ λ e. absurd (some_not_none c e)
         | false ↦ λ e. stop-append t b (s || sign c) e ∙ ap (λ x. stop x b) (or_assoc s (sign c) (list_any sign t))
       ] h
 
@@ -153,7 +153,7 @@ module _ (space sign symbol : ℕ → Bool) where
   ahead-append [] b s h = ap (λ x. ahead x b) (sym (or_false s))
   ahead-append (c ∷ t) b s h =
       elim (is_bad s c) as (λ v. cond v (Some c) (stop (s || sign c) t) ≡ None → cond v [] (c ∷ ahead (s || sign c) (t ++ b)) ≡ c ∷ (t ++ ahead (s || (sign c || list_any sign t)) b)) [
-          true ↦ λ e. absurd (some_not_none c e)
+        | true ↦ λ e. absurd (some_not_none c e)
         | false ↦ λ e. ap (λ (x : List ℕ). c ∷ x) (ahead-append t b (s || sign c) e ∙ ap (λ x. t ++ ahead x b) (or_assoc s (sign c) (list_any sign t)))
       ] h
 
@@ -165,7 +165,7 @@ module _ (space sign symbol : ℕ → Bool) where
   stop-append_some [] b s x h = absurd (some_not_none x (sym h))
   stop-append_some (c ∷ t) b s x h =
       elim (is_bad s c) as (λ v. cond v (Some c) (stop (s || sign c) t) ≡ Some x → cond v (Some c) (stop (s || sign c) (t ++ b)) ≡ Some x) [
-          true ↦ λ e. e
+        | true ↦ λ e. e
         | false ↦ λ e. stop-append_some t b (s || sign c) x e
       ] h
 
@@ -173,7 +173,7 @@ module _ (space sign symbol : ℕ → Bool) where
   ahead-append_some [] b s x h = absurd (some_not_none x (sym h))
   ahead-append_some (c ∷ t) b s x h =
       elim (is_bad s c) as (λ v. cond v (Some c) (stop (s || sign c) t) ≡ Some x → cond v [] (c ∷ ahead (s || sign c) (t ++ b)) ≡ cond v [] (c ∷ ahead (s || sign c) t)) [
-          true ↦ λ e. refl
+        | true ↦ λ e. refl
         | false ↦ λ e. ap (λ (x : List ℕ). c ∷ x) (ahead-append_some t b (s || sign c) x e)
       ] h
 
@@ -188,7 +188,7 @@ module _ (space sign symbol : ℕ → Bool) where
     stop_compact [] s = refl
     stop_compact (c ∷ t) s =
         elim (cases_Bool (space c)) [
-            inl e ↦
+          | inl e ↦
               let f = space_alone (classes c) e in
               let g : sign c ≡ false = f.0 in
               let h : symbol c ≡ false = f.1 in
@@ -202,7 +202,7 @@ module _ (space sign symbol : ℕ → Bool) where
     seen_none [] h = refl
     seen_none (c ∷ t) h =
         elim (is_bad true c) as (λ v. is_bad true c ≡ v → cond v (Some c) (stop true t) ≡ None → filter symbol (c ∷ t) ≡ []) [
-            true ↦ λ e k. absurd (some_not_none c k)
+          | true ↦ λ e k. absurd (some_not_none c k)
           | false ↦ λ e k. seen_step c (filter symbol t) (classes c) e (seen_none t k)
         ] refl h
 
@@ -210,7 +210,7 @@ module _ (space sign symbol : ℕ → Bool) where
     compact_walk [] s h = refl
     compact_walk (c ∷ t) s h =
         elim (is_bad s c) as (λ v. is_bad s c ≡ v → cond v (Some c) (stop (s || sign c) t) ≡ None → filter is_not_space (c ∷ t) ≡ filter symbol (c ∷ t) ++ filter sign (c ∷ t)) [
-            true ↦ λ e k. absurd (some_not_none c k)
+          | true ↦ λ e k. absurd (some_not_none c k)
           | false ↦ λ e k. compact_step s c (filter is_not_space t) (filter symbol t) (filter sign t) (classes c) e (λ q. seen_none t (ap (λ x. stop x t) (sym q) ∙ k)) (compact_walk t (s || sign c) k)
         ] refl h
 
