@@ -1,5 +1,9 @@
+pub mod AlphabetLemmas
+pub mod ByteLemmas
+pub mod DecoderLemmas
 pub mod FaultLemmas
 pub mod FeedLemmas
+pub mod RunLemmas
 pub mod TextLemmas
 pub mod ValidLemmas
 pub mod WalkLemmas

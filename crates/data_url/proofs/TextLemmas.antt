@@ -121,6 +121,16 @@ pub before_none : (a : List ℕ) (s : Bool) → fault_byte s a ≡ None → befo
 unfolding fault_byte before_fault
 before_none a s h = ahead_none is_ascii_whitespace is_sign is_symbol a s h
 
+-- a fault settles what is handed out and the kind, whatever follows
+pub done_stays : (a b : List ℕ) (x : ℕ) → fault_byte false a ≡ Some x → done (a ++ b) ≡ done a
+done_stays a b x h = done_is (a ++ b) ∙ ap (λ z. groups (values z)) (before-append_some a b false x h) ∙ sym (done_is a)
+
+pub kind_fault : (a : List ℕ) (x : ℕ) → fault_byte false a ≡ Some x → kind_of a ≡ cond (is_symbol x) AlphabetSymbolAfterPadding (UnexpectedSymbol x)
+kind_fault a x h = kind_is a ∙ ap (kind_by (length (values a))) h
+
+pub kind_stays : (a b : List ℕ) (x : ℕ) → fault_byte false a ≡ Some x → kind_of a ≡ kind_of (a ++ b)
+kind_stays a b x h = kind_fault a x h ∙ sym (kind_fault (a ++ b) x (fault-append_some a b false x h))
+
 -- Symbols and then signs
 
 pub fault_symbols : (q b : List ℕ) → Every is_symbol q → fault_byte false (q ++ b) ≡ fault_byte false b
@@ -177,7 +187,7 @@ no_fault_text b h = record {
 pub no_fault_valid : (b : List ℕ) → fault_byte false b ≡ None → is_valid b ≡ fits_with (length (filter is_symbol b) % 4) (length (filter is_sign b))
 no_fault_valid b h = symbols_signs_valid b (filter is_symbol b) (length (filter is_sign b)) (no_fault_text b h)
 
-every_list_all : (q : List ℕ) → list_all is_symbol q ≡ true → Every is_symbol q
+pub every_list_all : (q : List ℕ) → list_all is_symbol q ≡ true → Every is_symbol q
 every_list_all [] h = tt
 every_list_all (c ∷ t) h = let k = and_parts (is_symbol c) (list_all is_symbol t) h in (k.0, every_list_all t k.1)
 

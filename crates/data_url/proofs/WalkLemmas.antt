@@ -33,19 +33,19 @@ pub data Class : Bool → Bool → Bool → Type 0 where
   of_symbol : Class false false true
   of_none : Class false false false
 
-space_alone : {x y z : Bool} → Class x y z → x ≡ true → (y ≡ false) × (z ≡ false)
+pub space_alone : {x y z : Bool} → Class x y z → x ≡ true → (y ≡ false) × (z ≡ false)
 space_alone of_space e = (refl, refl)
 space_alone of_sign e = absurd (false≢true e)
 space_alone of_symbol e = absurd (false≢true e)
 space_alone of_none e = absurd (false≢true e)
 
-symbol_alone : {x y z : Bool} → Class x y z → z ≡ true → (x ≡ false) × (y ≡ false)
+pub symbol_alone : {x y z : Bool} → Class x y z → z ≡ true → (x ≡ false) × (y ≡ false)
 symbol_alone of_space e = absurd (false≢true e)
 symbol_alone of_sign e = absurd (false≢true e)
 symbol_alone of_symbol e = (refl, refl)
 symbol_alone of_none e = absurd (false≢true e)
 
-sign_alone : {x y z : Bool} → Class x y z → y ≡ true → (x ≡ false) × (z ≡ false)
+pub sign_alone : {x y z : Bool} → Class x y z → y ≡ true → (x ≡ false) × (z ≡ false)
 sign_alone of_space e = absurd (false≢true e)
 sign_alone of_sign e = (refl, refl)
 sign_alone of_symbol e = absurd (false≢true e)

@@ -1,5 +1,7 @@
 pub mod Base64
 pub mod CodePoints
+pub mod DecoderState
+pub mod Decoding
 pub mod ErrorText
 pub mod Fetch
 pub mod Laws
@@ -8,4 +10,5 @@ pub mod Percent
 pub mod Refusal
 pub mod Run
 pub mod Seen
+pub mod Steps
 pub mod Url

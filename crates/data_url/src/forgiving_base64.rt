@@ -6,6 +6,11 @@ use std::error::Error;
 use std::fmt;
 use std::marker::Model;
 
+mod alphabet;
+mod decode;
+
+pub use decode::Decoder;
+
 /// Why a text is not valid base64: contracts see its kind.
 #[derive(Debug, Drop)]
 pub struct InvalidBase64 {

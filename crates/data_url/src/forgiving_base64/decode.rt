@@ -1,0 +1,143 @@
+//! Decoding piece by piece (Infra Standard, section 8).
+
+ghost use Rattle.std.specs.Prelude.{◌≡◌, ◌≤◌, [], ◌∷◌, IsTrue, take, true, false};
+ghost use Rattle.std.specs.List.{list_all};
+ghost use Rattle.data_url.specs.Base64.{is_symbol};
+
+use super::alphabet::{group_of, is_symbol};
+use super::{DecodeError, InvalidBase64, InvalidBase64Details};
+
+/// A decoder of forgiving base64 that hands each closed group of bytes to a closure.
+#[derive(Drop)]
+pub struct Decoder<F, E>
+where
+    F: FnMut(&[u8]) -> Result<(), E>,
+{
+    write_bytes: F,
+    symbols: [u8; 3],
+    pending: usize,
+    padding: u8,
+    failed: bool,
+    ghost few_pending: { pending ≤ 3 },
+    ghost pending_symbols: { IsTrue (list_all is_symbol (take pending symbols)) },
+    ghost few_signs: { padding ≤ 3 },
+}
+
+impl<F, E> Decoder<F, E>
+where
+    F: FnMut(&[u8]) -> Result<(), E>,
+{
+    ghost use Rattle.std.specs.Fn.{CalledAt};
+    ghost use Rattle.data_url.specs.Decoding.{Feeds, State};
+    ghost use Rattle.data_url.specs.DecoderState.{state_of};
+    ghost use Rattle.data_url.specs.Refusal.{kind_of_details};
+    ghost use Rattle.data_url.specs.Steps.{Writes};
+
+    /// A decoder that has seen nothing yet.
+    pub fn new(write_bytes: F) -> Self
+        requires { F.IsAlwaysCallable write_bytes }
+        ensures state { state_of result ≡ record { closure = write_bytes; symbols = []; padding = 0; failed = false } }
+        ensures callable { F.IsAlwaysCallable (state_of result).closure }
+    {
+        Decoder {
+            write_bytes,
+            symbols: [0; 3],
+            pending: 0,
+            padding: 0,
+            failed: false,
+        }
+    }
+
+    pub fn has_failed(&self) -> bool
+        ensures { result ≡ (state_of self.now).failed }
+    {
+        self.failed
+    }
+
+    pub fn into_closure(self) -> F
+        ensures { result ≡ (state_of self).closure }
+    {
+        let Decoder { write_bytes, symbols: _, pending: _, padding: _, failed: _ } = self;
+        write_bytes
+    }
+
+    /// Hands a piece to the closure.
+    fn write(&mut self, piece: &[u8]) -> Result<(), DecodeError<E>>
+        requires callable { F.IsAlwaysCallable (state_of self.old).closure }
+        requires going { (state_of self.old).failed ≡ false }
+        ensures callable { F.IsAlwaysCallable (state_of self.new).closure }
+        ensures wrote { Writes (CalledAt F.FnMut) (state_of self.old) piece.now result (state_of self.new) }
+    {
+        match (self.write_bytes)(piece) {
+            Ok(()) => Ok(()),
+            Err(error) => {
+                self.failed = true;
+                Err(DecodeError::WriteError(error))
+            }
+        }
+    }
+
+    /// Fails, with the reason as the answer.
+    fn refuse(&mut self, details: InvalidBase64Details) -> Result<(), DecodeError<E>>
+        ensures state { state_of self.new ≡ record (state_of self.old) { failed = true } }
+        ensures kind { result ≡ Err (DecodeError.InvalidBase64 (kind_of_details details)) }
+    {
+        self.failed = true;
+        Err(DecodeError::InvalidBase64(InvalidBase64 { details }))
+    }
+
+    /// Feeds a symbol.
+    fn take_symbol(&mut self, symbol: u8) -> Result<(), DecodeError<E>>
+        requires symbol { IsTrue (is_symbol symbol) }
+        requires callable { F.IsAlwaysCallable (state_of self.old).closure }
+        requires going { (state_of self.old).failed ≡ false }
+        ensures callable { F.IsAlwaysCallable (state_of self.new).closure }
+        ensures fed { Feeds (CalledAt F.FnMut) (state_of self.old) (symbol ∷ []) result (state_of self.new) }
+    {
+        if self.padding > 0 {
+            return self.refuse(InvalidBase64Details::AlphabetSymbolAfterPadding);
+        }
+        if self.pending < 3 {
+            self.symbols[self.pending] = symbol;
+            self.pending += 1;
+            return Ok(());
+        }
+        self.pending = 0;
+        let [first, second, third] = self.symbols;
+        self.write(&group_of(first, second, third, symbol))
+    }
+
+    /// Feeds one byte.
+    fn take_byte(&mut self, byte: u8) -> Result<(), DecodeError<E>>
+        requires callable { F.IsAlwaysCallable (state_of self.old).closure }
+        requires going { (state_of self.old).failed ≡ false }
+        ensures callable { F.IsAlwaysCallable (state_of self.new).closure }
+        ensures fed { Feeds (CalledAt F.FnMut) (state_of self.old) (byte ∷ []) result (state_of self.new) }
+    {
+        if is_symbol(byte) {
+            self.take_symbol(byte)
+        } else if byte == b'=' {
+            self.padding = (self.padding + 1).min(3);
+            Ok(())
+        } else if byte.is_ascii_whitespace() {
+            Ok(())
+        } else {
+            self.refuse(InvalidBase64Details::UnexpectedSymbol(byte))
+        }
+    }
+
+    /// Feeds a piece of the text.
+    pub fn feed(&mut self, input: &[u8]) -> Result<(), DecodeError<E>>
+        requires callable { F.IsAlwaysCallable (state_of self.old).closure }
+        requires going { (state_of self.old).failed ≡ false }
+        ensures callable { F.IsAlwaysCallable (state_of self.new).closure }
+        ensures fed { Feeds (CalledAt F.FnMut) (state_of self.old) input.now result (state_of self.new) }
+    {
+        for byte in input {
+            if let Err(error) = self.take_byte(*byte) {
+                return Err(error);
+            }
+        }
+        Ok(())
+    }
+}
