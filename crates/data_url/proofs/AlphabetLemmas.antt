@@ -1,7 +1,8 @@
 -- The table of symbols is the alphabet.
 use Rattle.std.proofs.Common.{◌≡◌, ℕ, ◌<◌, Bool, ltb, true, false, cond, eqb, get_or, refl, ap, sym, ◌∙◌, arith}
 use Rattle.std.proofs.lemmas.Bool.{agree_below_at, lt-ltb, le-ltb, cond-true, cond-false, eqb-true, ltb-true}
-use Rattle.data_url.specs.Base64.{is_symbol, symbol_value}
+use Rattle.std.specs.Char.{is_ascii_whitespace as std_whitespace}
+use Rattle.data_url.specs.Base64.{is_ascii_whitespace, is_symbol, symbol_value}
 use Rattle.data_url.specs.declared.forgiving_base64.alphabet.TheConstants.{NO_SYMBOL, VALUES}
 
 -- what the table is to have
@@ -31,3 +32,7 @@ symbol_is b l =
         true ↦ λ e. lt-ltb (get_or VALUES b 0) 64 (entry_lt b l e)
       | false ↦ λ e. le-ltb (get_or VALUES b 0) 64 (let k = entry_other b l e in omega (arith, k))
     ] refl
+
+-- the standard library's class of white space is that of forgiving base64
+pub space_is : (b : ℕ) → b < 256 → std_whitespace b ≡ is_ascii_whitespace b
+space_is b l = agree_below_at std_whitespace is_ascii_whitespace 256 b refl l

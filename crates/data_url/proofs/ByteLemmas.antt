@@ -288,8 +288,8 @@ module _ {F E : Type 0} (step : F → List ℕ → Result (Unit {0}) E → F →
       (ap (λ (s : State F). s.padding) same ∙ min_same d.padding signs) (ap (λ (s : State F). s.failed) same ∙ going)
 
   -- a sign
-  pub feeds_sign : {d d' : State F} → Every is_symbol d.symbols → length d.symbols ≤ 3 → d.failed ≡ false → d' ≡ record d { padding = min (d.padding + 1) 3 } → Feeds step d (61 ∷ []) (Ok tt) d'
-  feeds_sign {d} {d'} every few going same =
+  feeds_equals : {d d' : State F} → Every is_symbol d.symbols → length d.symbols ≤ 3 → d.failed ≡ false → d' ≡ record d { padding = min (d.padding + 1) 3 } → Feeds step d (61 ∷ []) (Ok tt) d'
+  feeds_equals {d} {d'} every few going same =
       feeds_quiet (61 ∷ []) [] 1 every
       (fault_signs 1 (has_sign d.padding))
       refl
@@ -297,6 +297,9 @@ module _ {F E : Type 0} (step : F → List ℕ → Result (Unit {0}) E → F →
       (rw append-nil few)
       (ap (λ (s : State F). s.closure) same) (ap (λ (s : State F). s.symbols) same ∙ sym (append-nil d.symbols))
       (ap (λ (s : State F). s.padding) same) (ap (λ (s : State F). s.failed) same ∙ going)
+
+  pub feeds_sign : {d d' : State F} (c : ℕ) → c ≡ 61 → Every is_symbol d.symbols → length d.symbols ≤ 3 → d.failed ≡ false → d' ≡ record d { padding = min (d.padding + 1) 3 } → Feeds step d (c ∷ []) (Ok tt) d'
+  feeds_sign {d} {d'} c e every few going same = let P : ℕ → Type 0 = λ x. Feeds step d (x ∷ []) (Ok tt) d' in subst P (sym e) (feeds_equals every few going same)
 
   -- One call
 

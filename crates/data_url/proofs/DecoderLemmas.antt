@@ -1,7 +1,7 @@
 -- Feeding a decoder, piece by piece.
-use Rattle.std.proofs.Common.{◌≡◌, ℕ, suc, zero, ◌+◌, ◌≤◌, Bool, true, false, List, [], ◌∷◌, ◌++◌, length, min, replicate, Option, None, Some, is_some, Result, Ok, Err, refl, ap, sym, ◌∙◌, subst, arith, append_assoc, length-append}
+use Rattle.std.proofs.Common.{◌≡◌, ℕ, suc, zero, ◌+◌, ◌<◌, ◌≤◌, drop, get_or, take, Bool, true, false, List, [], ◌∷◌, ◌++◌, length, min, replicate, Option, None, Some, is_some, Result, Ok, Err, refl, ap, sym, ◌∙◌, subst, arith, append_assoc, length-append}
 use Rattle.std.specs.Prelude.{MatchOption, MatchBool, is_err}
-use Rattle.std.proofs.lemmas.List.{append-nil}
+use Rattle.std.proofs.lemmas.List.{append-nil, take-append-drop, take_more}
 use Rattle.std.proofs.lemmas.Bool.{false≢true, true≢false}
 use Rattle.data_url.specs.Base64.{decoded, done, first_fault, groups, is_valid, kind_of, left_padding, left_symbols, left_text, values}
 use Rattle.data_url.specs.Decoding.{Feeds, Finishes, IsAll, IsLeft, IsRefused, IsTaken, State, left_over}
@@ -132,3 +132,13 @@ module _ {F E : Type 0} (step : F → List ℕ → Result (Unit {0}) E → F →
            (λ e h. record { bytes_begin = prefix_trans (joined f.run) (done (left_over d ++ a)) (done ((left_over d ++ a) ++ b)) h.bytes_begin (done_begins (left_over d ++ a) b); answer = h.answer })
            f.gave)
       }
+
+  -- A text, byte by byte
+
+  -- one byte more of the text s
+  pub feeds_more : {d d1 d2 : State F} {r : Result (Unit {0}) (DecodeError E)} (s : List ℕ) (i : ℕ) → i < length s → Feeds step d (take i s) (Ok tt) d1 → Feeds step d1 (get_or s i 0 ∷ []) r d2 → Feeds step d (take (i + 1) s) r d2
+  feeds_more {d} {d1} {d2} {r} s i l f g = let P : List ℕ → Type 0 = λ t. Feeds step d t r d2 in subst P (sym (take_more s i 0 l)) (feeds_then f g)
+
+  -- a beginning of s that is refused
+  pub feeds_stop : {d d' : State F} {x : DecodeError E} (s : List ℕ) (i : ℕ) → Feeds step d (take i s) (Err x) d' → Feeds step d s (Err x) d'
+  feeds_stop {d} {d'} {x} s i f = let P : List ℕ → Type 0 = λ t. Feeds step d t (Err x) d' in subst P (take-append-drop i s) (feeds_err (drop i s) f)
