@@ -1,5 +1,5 @@
 -- What little more text does behind what a decoder has left over, and what its end does.
-use Rattle.std.proofs.Common.{◌≡◌, ℕ, suc, zero, ◌+◌, ◌%◌, ◌≤◌, Bool, true, false, cond, eqb, get_or, take, List, [], ◌∷◌, ◌++◌, length, map, min, replicate, Option, None, Some, is_some, Result, Ok, Err, refl, ap, sym, ◌∙◌, subst, arith, append_assoc, length-append}
+use Rattle.std.proofs.Common.{◌≡◌, ◌≢◌, ◌⊎◌, inl, inr, ℕ, suc, zero, ◌+◌, ◌%◌, ◌≤◌, Bool, true, false, cond, eqb, get_or, take, List, [], ◌∷◌, ◌++◌, length, map, min, replicate, Option, None, Some, is_some, Result, Ok, Err, refl, ap, sym, ◌∙◌, subst, arith, append_assoc, length-append}
 use Rattle.std.specs.Prelude.{MatchOption, MatchBool, MatchResult, is_err}
 use Rattle.std.specs.List.{filter, list_any}
 use Rattle.std.proofs.lemmas.List.{append-nil, length-map, length-replicate}
@@ -187,6 +187,48 @@ three_items (a ∷ []) n l e = absurd (omega arith)
 three_items (a ∷ b ∷ []) n l e = absurd (omega arith)
 three_items (a ∷ b ∷ c ∷ f ∷ t) n l e = absurd (omega arith)
 
+pub two_items : (s : List ℕ) (n : ℕ) → length s ≡ 3 → n ≡ 2 → take n s ≡ get_or s 0 0 ∷ get_or s 1 0 ∷ []
+two_items (a ∷ b ∷ c ∷ []) n l e = rw e refl
+two_items [] n l e = absurd (omega arith)
+two_items (a ∷ []) n l e = absurd (omega arith)
+two_items (a ∷ b ∷ []) n l e = absurd (omega arith)
+two_items (a ∷ b ∷ c ∷ f ∷ t) n l e = absurd (omega arith)
+
+-- Which signs fit behind so many symbols
+
+pub zero_unfit : (p : ℕ) → p ≢ 0 → fits_with 0 p ≡ false
+zero_unfit zero h = absurd (h refl)
+zero_unfit (suc zero) h = refl
+zero_unfit (suc (suc zero)) h = refl
+zero_unfit (suc (suc (suc p))) h = refl
+
+one_unfit : (p : ℕ) → fits_with 1 p ≡ false
+one_unfit zero = refl
+one_unfit (suc zero) = refl
+one_unfit (suc (suc zero)) = refl
+one_unfit (suc (suc (suc p))) = refl
+
+pub two_unfit : (p : ℕ) → ¬ ((p ≡ 0) ⊎ (p ≡ 2)) → fits_with 2 p ≡ false
+two_unfit zero h = absurd (h (inl refl))
+two_unfit (suc zero) h = refl
+two_unfit (suc (suc zero)) h = absurd (h (inr refl))
+two_unfit (suc (suc (suc p))) h = refl
+
+pub two_fit : (p : ℕ) → (p ≡ 0) ⊎ (p ≡ 2) → fits_with 2 p ≡ true
+two_fit p (inl e) = rw e refl
+two_fit p (inr e) = rw e refl
+
+pub three_unfit : (p : ℕ) → 2 ≤ p → fits_with 3 p ≡ false
+three_unfit zero h = absurd (omega arith)
+three_unfit (suc zero) h = absurd (omega arith)
+three_unfit (suc (suc zero)) h = refl
+three_unfit (suc (suc (suc p))) h = refl
+
+pub three_fit : (p : ℕ) → p ≤ 1 → fits_with 3 p ≡ true
+three_fit zero h = refl
+three_fit (suc zero) h = refl
+three_fit (suc (suc p)) h = absurd (omega arith)
+
 -- What one call tells
 
 bool_at_true : (b : Bool) (P Q : Type 0) → b ≡ true → P → MatchBool b P Q
@@ -333,14 +375,26 @@ module _ {F E : Type 0} (step : F → List ℕ → Result (Unit {0}) E → F →
 
   -- The end
 
-  pub finishes_invalid : {d : State F} {f : F} → Every is_symbol d.symbols → fits_with (length d.symbols % 4) d.padding ≡ false → f ≡ d.closure → Finishes step d (Err (InvalidBase64 (cond (eqb (length d.symbols % 4) 1) LoneAlphabetSymbol Padding))) f
-  finishes_invalid {d} {f} every bad same = record {
+  finishes_invalid : {d d' : State F} {r : Result (Unit {0}) (DecodeError E)} → Every is_symbol d.symbols → fits_with (length d.symbols % 4) d.padding ≡ false → d' ≡ record d { failed = true } → r ≡ Err (InvalidBase64 (cond (eqb (length d.symbols % 4) 1) LoneAlphabetSymbol Padding)) → Finishes step d r d'.closure
+  finishes_invalid {d} {d'} {r} every bad same told = record {
     run = [];
-    ran = sym same;
+    ran = sym (ap (λ (s : State F). s.closure) same);
     calls = omega arith;
     gave = bool_at_false (is_valid (left_over d)) _ _ (valid_left d.symbols d.padding every ∙ bad)
-        (refl, ap (λ z. Err (InvalidBase64 z)) (sym (kind_left d.symbols d.padding every)))
+        (refl, told ∙ ap (λ z. Err (InvalidBase64 z)) (sym (kind_left d.symbols d.padding every)))
   }
+
+  -- a lone symbol
+  pub finishes_lone : {d d' : State F} {r : Result (Unit {0}) (DecodeError E)} → Every is_symbol d.symbols → length d.symbols ≡ 1 → d' ≡ record d { failed = true } → r ≡ Err (InvalidBase64 LoneAlphabetSymbol) → Finishes step d r d'.closure
+  finishes_lone {d} every one same told =
+      finishes_invalid every (ap (λ n. fits_with (n % 4) d.padding) one ∙ one_unfit d.padding) same
+      (told ∙ ap (λ n. Err (InvalidBase64 (cond (eqb (n % 4) 1) LoneAlphabetSymbol Padding))) (sym one))
+
+  -- signs that do not fit
+  pub finishes_padding : {d d' : State F} {r : Result (Unit {0}) (DecodeError E)} (n : ℕ) → Every is_symbol d.symbols → length d.symbols ≡ n → fits_with (n % 4) d.padding ≡ false → eqb (n % 4) 1 ≡ false → d' ≡ record d { failed = true } → r ≡ Err (InvalidBase64 Padding) → Finishes step d r d'.closure
+  finishes_padding {d} n every count unfit many same told =
+      finishes_invalid every (ap (λ m. fits_with (m % 4) d.padding) count ∙ unfit) same
+      (told ∙ ap (λ v. Err (InvalidBase64 (cond v LoneAlphabetSymbol Padding))) (sym many ∙ ap (λ m. eqb (m % 4) 1) (sym count)))
 
   pub finishes_quiet : {d : State F} {f : F} → Every is_symbol d.symbols → d.symbols ≡ [] → d.padding ≡ 0 → f ≡ d.closure → Finishes step d (Ok tt) f
   finishes_quiet {d} {f} every is_q is_p same =

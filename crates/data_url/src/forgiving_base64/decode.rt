@@ -4,7 +4,7 @@ ghost use Rattle.std.specs.Prelude.{◌≡◌, ◌≤◌, [], ◌∷◌, IsTrue,
 ghost use Rattle.std.specs.List.{list_all};
 ghost use Rattle.data_url.specs.Base64.{is_symbol};
 
-use super::alphabet::{group_of, is_symbol};
+use super::alphabet::{group_of, is_symbol, rest_of_three, rest_of_two};
 use super::{DecodeError, InvalidBase64, InvalidBase64Details};
 
 /// A decoder of forgiving base64 that hands each closed group of bytes to a closure.
@@ -28,7 +28,7 @@ where
     F: FnMut(&[u8]) -> Result<(), E>,
 {
     ghost use Rattle.std.specs.Fn.{CalledAt};
-    ghost use Rattle.data_url.specs.Decoding.{Feeds, State};
+    ghost use Rattle.data_url.specs.Decoding.{Feeds, Finishes, State};
     ghost use Rattle.data_url.specs.DecoderState.{state_of};
     ghost use Rattle.data_url.specs.Refusal.{kind_of_details};
     ghost use Rattle.data_url.specs.Steps.{Writes};
@@ -139,5 +139,42 @@ where
             }
         }
         Ok(())
+    }
+
+    /// Ends the text: hands out what the symbols left over stand for.
+    fn end(&mut self) -> Result<(), DecodeError<E>>
+        requires callable { F.IsAlwaysCallable (state_of self.old).closure }
+        requires going { (state_of self.old).failed ≡ false }
+        ensures callable { F.IsAlwaysCallable (state_of self.new).closure }
+        ensures finished { Finishes (CalledAt F.FnMut) (state_of self.old) result (state_of self.new).closure }
+    {
+        let [first, second, third] = self.symbols;
+        match (self.pending, self.padding) {
+            (0, 0) => Ok(()),
+            (1, _) => self.refuse(InvalidBase64Details::LoneAlphabetSymbol),
+            (2, 0 | 2) => self.write(&rest_of_two(first, second)),
+            (3, 0 | 1) => self.write(&rest_of_three(first, second, third)),
+            _ => self.refuse(InvalidBase64Details::Padding),
+        }
+    }
+
+    /// Ends the text.
+    pub fn finish(mut self) -> Result<(), DecodeError<E>>
+        requires callable { F.IsAlwaysCallable (state_of self).closure }
+        requires going { (state_of self).failed ≡ false }
+        ensures { (f : _) × Finishes (CalledAt F.FnMut) (state_of self) result f }
+    {
+        self.end()
+    }
+
+    /// Ends the text, and hands the closure back.
+    pub fn finish_with(mut self) -> (Result<(), DecodeError<E>>, F)
+        requires callable { F.IsAlwaysCallable (state_of self).closure }
+        requires going { (state_of self).failed ≡ false }
+        ensures callable { F.IsAlwaysCallable result.1 }
+        ensures finished { Finishes (CalledAt F.FnMut) (state_of self) result.0 result.1 }
+    {
+        let answer = self.end();
+        (answer, self.into_closure())
     }
 }
