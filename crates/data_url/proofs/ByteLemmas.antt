@@ -231,11 +231,11 @@ three_fit (suc (suc p)) h = absurd (omega arith)
 
 -- What one call tells
 
-bool_at_true : (b : Bool) (P Q : Type 0) → b ≡ true → P → MatchBool b P Q
+pub bool_at_true : (b : Bool) (P Q : Type 0) → b ≡ true → P → MatchBool b P Q
 bool_at_true true P Q e h = h
 bool_at_true false P Q e h = absurd (false≢true e)
 
-bool_at_false : (b : Bool) (P Q : Type 0) → b ≡ false → Q → MatchBool b P Q
+pub bool_at_false : (b : Bool) (P Q : Type 0) → b ≡ false → Q → MatchBool b P Q
 bool_at_false true P Q e h = absurd (true≢false e)
 bool_at_false false P Q e h = h
 

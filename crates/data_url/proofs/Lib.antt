@@ -7,3 +7,4 @@ pub mod RunLemmas
 pub mod TextLemmas
 pub mod ValidLemmas
 pub mod WalkLemmas
+pub mod WholeLemmas

@@ -11,7 +11,7 @@ ok_is_no_error : {E : Type 0} (r : Result (Unit {0}) E) (o : Option E) → or_er
 ok_is_no_error (Ok x) o h e = false≢true e
 ok_is_no_error (Err x) o h e = some_not_none x h
 
-later_none : {E : Type 0} (r : Result (Unit {0}) E) (o : Option E) → or_error r o ≡ None → o ≡ None
+pub later_none : {E : Type 0} (r : Result (Unit {0}) E) (o : Option E) → or_error r o ≡ None → o ≡ None
 later_none (Ok x) o h = h
 later_none (Err x) o h = absurd (some_not_none x h)
 

@@ -1,5 +1,5 @@
 -- What feeding and finishing a decoder does (Infra Standard, section 8), by the texts that it was given.
-use Rattle.std.specs.Prelude.{◌≡◌, ℕ, ◌≤◌, Bool, List, [], ◌++◌, length, MatchBool, MatchOption, Result, Ok, Err, is_err}
+use Rattle.std.specs.Prelude.{◌≡◌, ℕ, ◌+◌, ◌≤◌, Bool, cond, List, [], ◌++◌, length, MatchBool, MatchOption, Result, Ok, Err, is_err}
 use Rattle.data_url.specs.Base64.{decoded, done, first_fault, is_valid, kind_of, left_padding, left_symbols, left_text}
 use Rattle.data_url.specs.Run.{Call, IsPrefix, IsRun, joined, refusal}
 use Rattle.data_url.specs.declared.forgiving_base64.DecodeError.{DecodeError}
@@ -54,3 +54,12 @@ pub record Finishes {F E : Type 0} (step : F → List ℕ → Result (Unit {0}) 
   pub gave : MatchBool (is_valid (left_over d))
       (MatchOption (refusal run) (IsAll (left_over d) (joined run) r) (λ e. IsRefused (decoded (left_over d)) (joined run) e r))
       ((run ≡ []) × (r ≡ Err (InvalidBase64 (kind_of (left_over d)))))
+
+-- the whole text u was decoded: its bytes if it is valid, or else those of the groups before its first fault, or a beginning of these that the closure refused
+pub record Decodes {F E : Type 0} (step : F → List ℕ → Result (Unit {0}) E → F → Type 0) (f : F) (u : List ℕ) (r : Result (Unit {0}) (DecodeError E)) (f' : F) : Type 0 where
+  pub run : List (Call F E)
+  pub ran : IsRun step f run f'
+  pub calls : length run ≤ length u + 1
+  pub gave : MatchOption (refusal run)
+      (MatchBool (is_valid u) (IsAll u (joined run) r) ((joined run ≡ done u) × (r ≡ Err (InvalidBase64 (kind_of u)))))
+      (λ e. IsRefused (cond (is_valid u) (decoded u) (done u)) (joined run) e r)

@@ -12,3 +12,4 @@ pub mod Run
 pub mod Seen
 pub mod Steps
 pub mod Url
+pub mod VecError

@@ -1,6 +1,6 @@
 use Rattle.data_url.proofs.FeedLemmas.{two_feeds}
 use Rattle.data_url.proofs.DecoderLemmas.{feeds_then}
-use Rattle.data_url.proofs.ByteLemmas.{feeds_bad}
+use Rattle.data_url.proofs.WholeLemmas.{decodes_finished}
 use Rattle.data_url.proofs.facts.two_feeds.Goals as goal
 
 pub returns : goal.returns
