@@ -86,7 +86,7 @@ impl<E: Error> Error for DecodeError<E> {}
 pub enum DecodeToVecError {
     /// The text is not valid base64.
     InvalidBase64(InvalidBase64),
-    /// A growth was refused.
+    /// Memory was refused.
     OutOfMemory,
 }
 

@@ -1,4 +1,4 @@
-//! Decoding piece by piece (Infra Standard, section 8).
+//! Forgiving-base64 decode, piece by piece (Infra Standard, section 8).
 
 ghost use Rattle.std.specs.Prelude.{◌≡◌, ◌≤◌, [], ◌∷◌, IsTrue, take, true, false};
 ghost use Rattle.std.specs.List.{list_all};
@@ -7,15 +7,21 @@ ghost use Rattle.data_url.specs.Base64.{is_symbol};
 use super::alphabet::{group_of, is_symbol, rest_of_three, rest_of_two};
 use super::{DecodeError, InvalidBase64, InvalidBase64Details};
 
-/// A decoder of forgiving base64 that hands each closed group of bytes to a closure.
+/// A decoder of forgiving base64 (Infra Standard, section 8) that takes its text in pieces, cut anywhere, and hands bytes
+/// to a closure as soon as four symbols give them.
+///
+/// It takes no memory: it keeps at most three symbols, and counts the signs `=` up to three. Contracts see it as its
+/// closure, these symbols, that count and whether it has failed (`state_of`).
 #[derive(Drop)]
 pub struct Decoder<F, E>
 where
     F: FnMut(&[u8]) -> Result<(), E>,
 {
     write_bytes: F,
+    // The symbols that are left over: the first `pending` of these.
     symbols: [u8; 3],
     pending: usize,
+    // The number of signs, where 3 stands for more.
     padding: u8,
     failed: bool,
     ghost few_pending: { pending ≤ 3 },
@@ -33,7 +39,8 @@ where
     ghost use Rattle.data_url.specs.Refusal.{kind_of_details};
     ghost use Rattle.data_url.specs.Steps.{Writes};
 
-    /// A decoder that has seen nothing yet.
+    /// A decoder that has seen nothing yet, and hands its bytes to the closure. The closure has to be one that may be
+    /// called on any bytes, whatever it was called with before.
     pub fn new(write_bytes: F) -> Self
         requires { F.IsAlwaysCallable write_bytes }
         ensures state { state_of result ≡ record { closure = write_bytes; symbols = []; padding = 0; failed = false } }
@@ -48,12 +55,14 @@ where
         }
     }
 
+    /// Whether a piece was answered by an error. A decoder that has failed takes no further piece and no end.
     pub fn has_failed(&self) -> bool
         ensures { result ≡ (state_of self.now).failed }
     {
         self.failed
     }
 
+    /// The closure, as its last call left it, of a decoder that has failed or not. Nothing more is handed to it.
     pub fn into_closure(self) -> F
         ensures { result ≡ (state_of self).closure }
     {
@@ -126,7 +135,12 @@ where
         }
     }
 
-    /// Feeds a piece of the text.
+    /// Takes the next bytes of the text, in an encoding that ASCII is part of, and hands out the bytes of each group of four
+    /// symbols that they complete, in at most as many calls as there are bytes. ASCII whitespace is skipped.
+    ///
+    /// Where the closure refuses, that ends the call with `WriteError`. At a byte that is neither whitespace nor `=` nor a
+    /// symbol, and at a symbol behind an `=` of this piece or an earlier one, the answer is `InvalidBase64`, once the groups
+    /// before that byte were handed out. After an error the decoder has failed.
     pub fn feed(&mut self, input: &[u8]) -> Result<(), DecodeError<E>>
         requires callable { F.IsAlwaysCallable (state_of self.old).closure }
         requires going { (state_of self.old).failed ≡ false }
@@ -134,9 +148,7 @@ where
         ensures fed { Feeds (CalledAt F.FnMut) (state_of self.old) input.now result (state_of self.new) }
     {
         for byte in input {
-            if let Err(error) = self.take_byte(*byte) {
-                return Err(error);
-            }
+            self.take_byte(*byte)?;
         }
         Ok(())
     }
@@ -158,16 +170,21 @@ where
         }
     }
 
-    /// Ends the text.
-    pub fn finish(mut self) -> Result<(), DecodeError<E>>
+    /// Ends the text. Two or three symbols left over give one or two last bytes, in one call; the bits that they have
+    /// besides are dropped. Nothing else is handed out.
+    ///
+    /// The answer is `InvalidBase64`, and the closure is not called, where a lone symbol is left over or the signs `=` do
+    /// not fit: there may be none or, behind two symbols, two, or behind three, one. It is `WriteError` where the closure
+    /// refuses. `finish_with` also tells what became of the closure.
+    pub fn finish(self) -> Result<(), DecodeError<E>>
         requires callable { F.IsAlwaysCallable (state_of self).closure }
         requires going { (state_of self).failed ≡ false }
         ensures { (f : _) × Finishes (CalledAt F.FnMut) (state_of self) result f }
     {
-        self.end()
+        self.finish_with().0
     }
 
-    /// Ends the text, and hands the closure back.
+    /// Ends the text as `finish` does, and hands the closure back as its last call left it.
     pub fn finish_with(mut self) -> (Result<(), DecodeError<E>>, F)
         requires callable { F.IsAlwaysCallable (state_of self).closure }
         requires going { (state_of self).failed ≡ false }

@@ -1,4 +1,4 @@
-//! Decoding a text at once (Infra Standard, section 8).
+//! Forgiving-base64 decode of a whole text (Infra Standard, section 8).
 
 ghost use Rattle.std.specs.Prelude.{◌≡◌, IfErr, IfOk, IsOk, IsTrue};
 ghost use Rattle.std.specs.Fn.{CalledAt};
@@ -10,7 +10,7 @@ use std::alloc::{AllocError, Global};
 
 use super::{DecodeError, DecodeToVecError, Decoder};
 
-/// Decodes a text, and hands the closure back.
+/// Hands the bytes of a text to a closure, and the closure back.
 fn decode_whole<F, E>(input: &[u8], write_bytes: F) -> (Result<(), DecodeError<E>>, F)
 where
     F: FnMut(&[u8]) -> Result<(), E>,
@@ -24,7 +24,11 @@ where
     }
 }
 
-/// The bytes of a text.
+/// The bytes that a text of base64 stands for, by forgiving-base64 decode (Infra Standard, section 8). Room for them is
+/// taken once, by the length of the text.
+///
+/// The error is `InvalidBase64` for a text that is not valid, with the reason of its first fault, and `OutOfMemory` where
+/// memory was refused.
 pub fn decode_to_vec(alloc: Global, input: &[u8]) -> Result<Vec<u8>, DecodeToVecError>
     ensures valid { IsOk result → IsTrue (is_valid input.now) }
     ensures bytes { IfOk result (λ bytes. bytes.items ≡ decoded input.now) }
