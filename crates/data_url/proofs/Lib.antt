@@ -1,8 +1,12 @@
+pub mod AlphabetLemmas
 mod Base64Examples
 pub mod BodyLemmas
+pub mod ByteLemmas
 pub mod CommaLemmas
 pub mod DecodeLemmas
+pub mod DecoderLemmas
 pub mod FaultLemmas
+pub mod FeedLemmas
 pub mod HeaderLemmas
 pub mod ItemLemmas
 mod MimeExamples
@@ -14,6 +18,7 @@ pub mod RecordLemmas
 pub mod RunLemmas
 pub mod SchemeLemmas
 pub mod SerialiseLemmas
+pub mod SignLemmas
 mod StagedExamples
 pub mod SuffixLemmas
 pub mod TextCuts
@@ -21,3 +26,4 @@ pub mod TextLemmas
 pub mod UrlLemmas
 pub mod ValidLemmas
 pub mod WalkLemmas
+pub mod WholeLemmas

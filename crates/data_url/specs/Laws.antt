@@ -1,6 +1,6 @@
 -- Facts and laws about the definitions, as contracts cite them.
-use Rattle.std.specs.Prelude.{◌≡◌, ◌≢◌, ◌⊎◌, ◌↔◌, ◌<◌, ◌%◌, ℕ, List, ◌++◌, length, replicate, Option, None, Some, false, IsTrue}
-use Rattle.data_url.specs.Base64.{compact, is_fault, is_symbol, is_valid}
+use Rattle.std.specs.Prelude.{◌≡◌, ◌≢◌, ◌⊎◌, ◌↔◌, ◌<◌, ◌%◌, ℕ, List, ◌++◌, length, replicate, Option, None, Some, false, is_some, IsTrue}
+use Rattle.data_url.specs.Base64.{compact, decoded, done, first_fault, is_fault, is_symbol, is_valid, kind_of, left_padding, left_symbols, left_text}
 use Rattle.data_url.specs.Mime.{Every, Item, Items, Parses, Record}
 
 -- each text that is empty or begins with ';' is a join of parameters, with one list of items
@@ -29,3 +29,17 @@ PaddingFits b = (symbols : List ℕ) (signs : ℕ) → IsSymbolsAndSigns b symbo
 abbrev pub IsFirstFault : List ℕ → Option ℕ → Type 0
 IsFirstFault b None = (i : ℕ) → i < length b → is_fault b i ≡ false
 IsFirstFault b (Some i) = (i < length b) × IsTrue (is_fault b i) × ((k : ℕ) → k < i → is_fault b k ≡ false)
+
+-- what comes of a followed by b, by the text v of what a left and then b: the bytes, the fault and its kind, what is left, validity, and the bytes as a whole
+pub record GoesOn (a b v : List ℕ) : Type 0 where
+  pub done_is : done (a ++ b) ≡ done a ++ done v
+  pub fault_is : is_some (first_fault (a ++ b)) ≡ is_some (first_fault v)
+  pub kind_is : kind_of (a ++ b) ≡ kind_of v
+  pub symbols_left : left_symbols (a ++ b) ≡ left_symbols v
+  pub padding_left : left_padding (a ++ b) ≡ left_padding v
+  pub valid_is : is_valid (a ++ b) ≡ is_valid v
+  pub decoded_is : decoded (a ++ b) ≡ done a ++ decoded v
+
+-- a text may be fed in two parts, if the first has no fault
+abbrev pub TwoFeeds : List ℕ → List ℕ → Type 0
+TwoFeeds a b = first_fault a ≡ None → GoesOn a b (left_text (left_symbols a) (left_padding a) ++ b)

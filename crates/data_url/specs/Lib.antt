@@ -1,7 +1,9 @@
 pub mod Base64
 pub mod Body
 pub mod CodePoints
+pub mod DecoderState
 pub mod Decodes
+pub mod Decoding
 pub mod ErrorText
 pub mod Fetch
 pub mod Front
@@ -13,4 +15,6 @@ pub mod Refusal
 pub mod Run
 pub mod Seen
 pub mod Sets
+pub mod Steps
 pub mod Url
+pub mod VecError

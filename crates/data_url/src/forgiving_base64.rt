@@ -6,6 +6,13 @@ use std::error::Error;
 use std::fmt;
 use std::marker::Model;
 
+mod alphabet;
+mod decode;
+mod whole;
+
+pub use decode::Decoder;
+pub use whole::decode_to_vec;
+
 /// Why a text is not valid base64: contracts see its kind.
 #[derive(Debug, Drop)]
 pub struct InvalidBase64 {
@@ -73,3 +80,27 @@ impl<E: fmt::Display> fmt::Display for DecodeError<E> {
 }
 
 impl<E: Error> Error for DecodeError<E> {}
+
+/// Why a text was not decoded into a vector: it is not valid base64, or no memory was there.
+#[derive(Debug, Drop)]
+pub enum DecodeToVecError {
+    /// The text is not valid base64.
+    InvalidBase64(InvalidBase64),
+    /// Memory was refused.
+    OutOfMemory,
+}
+
+impl fmt::Display for DecodeToVecError {
+    ghost use Rattle.data_url.specs.VecError.{vec_error_text};
+
+    ghost output = { λ error. Some (vec_error_text error) };
+
+    fn fmt<W: fmt::Write>(&self, f: &mut fmt::Formatter<W>) -> fmt::Result {
+        match self {
+            DecodeToVecError::InvalidBase64(inner) => write!(f, "{inner}"),
+            DecodeToVecError::OutOfMemory => write!(f, "out of memory"),
+        }
+    }
+}
+
+impl Error for DecodeToVecError {}

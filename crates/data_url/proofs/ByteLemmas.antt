@@ -1,0 +1,422 @@
+-- What little more text does behind what a decoder has left over, and what its end does.
+use Rattle.std.proofs.Common.{◌≡◌, ◌≢◌, ◌⊎◌, inl, inr, ℕ, suc, zero, ◌+◌, ◌%◌, ◌≤◌, Bool, true, false, cond, eqb, get_or, take, List, [], ◌∷◌, ◌++◌, length, map, min, replicate, Option, None, Some, is_some, Result, Ok, Err, refl, ap, sym, ◌∙◌, subst, arith, append_assoc, length-append}
+use Rattle.std.specs.Prelude.{MatchOption, MatchBool, MatchResult, is_err}
+use Rattle.std.specs.List.{filter, list_any}
+use Rattle.std.proofs.lemmas.List.{append-nil, length-map, length-replicate}
+use Rattle.std.proofs.lemmas.List.Elements.{filter-append}
+use Rattle.std.proofs.lemmas.Bool.{false≢true, true≢false}
+use Rattle.data_url.specs.Base64.{AlphabetSymbolAfterPadding, LoneAlphabetSymbol, Padding, UnexpectedSymbol, after_groups, decoded, done, first_fault, group_bytes, group_number, groups, is_ascii_whitespace, is_symbol, is_valid, kind_of, left_padding, left_symbols, left_text, rest_bytes, symbol_value, values}
+use Rattle.data_url.specs.Decoding.{Feeds, Finishes, IsAll, IsLeft, IsRefused, IsTaken, State, left_over}
+use Rattle.data_url.specs.Mime.{Every}
+use Rattle.data_url.specs.Run.{Call, IsRun, joined, or_error, refusal}
+use Rattle.data_url.specs.declared.forgiving_base64.DecodeError.{DecodeError}
+use Rattle.data_url.specs.declared.forgiving_base64.DecodeError.TheVariants.{InvalidBase64, WriteError}
+use Rattle.data_url.proofs.RunLemmas.{match_alike, match_at, match_none, match_some, prefix_all}
+use Rattle.data_url.proofs.SignLemmas.{any_of_text, before-append, before_fault, before_none, classes, done_is, fault-append, fault_byte, fault_signs, fault_some, fault_text, is_sign, kind_by, kind_fault, kind_is, no_fault_valid, none_fault, signs_of_text, symbols_of_text}
+use Rattle.data_url.proofs.ValidLemmas.{fits_with}
+use Rattle.data_url.proofs.WalkLemmas.{bad, is_bad, some_not_none, space_alone, symbol_alone}
+
+pub groups_few : (x : List ℕ) → length x ≤ 3 → groups x ≡ []
+unfolding groups
+groups_few [] h = refl
+groups_few (a ∷ []) h = refl
+groups_few (a ∷ b ∷ []) h = refl
+groups_few (a ∷ b ∷ c ∷ []) h = refl
+groups_few (a ∷ b ∷ c ∷ e ∷ t) h = absurd (omega arith)
+
+pub after_few : (x : List ℕ) → length x ≤ 3 → after_groups x ≡ x
+unfolding after_groups
+after_few [] h = refl
+after_few (a ∷ []) h = refl
+after_few (a ∷ b ∷ []) h = refl
+after_few (a ∷ b ∷ c ∷ []) h = refl
+after_few (a ∷ b ∷ c ∷ e ∷ t) h = absurd (omega arith)
+
+-- a bad byte is where the text stops
+before_one : (c : ℕ) (s : Bool) → fault_byte s (c ∷ []) ≡ Some c → before_fault s (c ∷ []) ≡ []
+unfolding fault_byte before_fault
+before_one c s h =
+    elim (is_bad is_ascii_whitespace is_sign is_symbol s c) as (λ v. cond v (Some c) None ≡ Some c → cond v [] (c ∷ []) ≡ []) [ true ↦ λ e. refl | false ↦ λ e. absurd (some_not_none c (sym e)) ] h
+
+-- whether a sign stands among so many
+abbrev pub has_sign : ℕ → Bool
+has_sign p = list_any is_sign (replicate p 61)
+
+module _ (q : List ℕ) (p : ℕ) (every : Every is_symbol q) where
+  pub fault_more : (t : List ℕ) → fault_byte false (left_text q p ++ t) ≡ fault_byte (has_sign p) t
+  fault_more t = fault-append (left_text q p) t false (fault_text q p every) ∙ ap (λ s. fault_byte s t) (any_of_text q p every)
+
+  pub before_more : (t : List ℕ) → before_fault false (left_text q p ++ t) ≡ left_text q p ++ before_fault (has_sign p) t
+  before_more t = before-append (left_text q p) t false (fault_text q p every) ∙ ap (λ s. left_text q p ++ before_fault s t) (any_of_text q p every)
+
+  pub symbols_more : (t : List ℕ) → filter is_symbol (left_text q p ++ t) ≡ q ++ filter is_symbol t
+  symbols_more t = filter-append is_symbol (left_text q p) t ∙ ap (λ x. x ++ filter is_symbol t) (symbols_of_text q p every)
+
+  pub signs_more : (t : List ℕ) → length (filter is_sign (left_text q p ++ t)) ≡ p + length (filter is_sign t)
+  signs_more t =
+      ap length (filter-append is_sign (left_text q p) t)
+      ∙ length-append (filter is_sign (left_text q p)) (filter is_sign t)
+      ∙ ap (λ x. length x + length (filter is_sign t)) (signs_of_text q p every)
+      ∙ ap (λ x. x + length (filter is_sign t)) (length-replicate p 61)
+
+  pub values_more : (t : List ℕ) → values (left_text q p ++ t) ≡ map symbol_value (q ++ filter is_symbol t)
+  unfolding values
+  values_more t = ap (map symbol_value) (symbols_more t)
+
+  pub values_left : values (left_text q p) ≡ map symbol_value q
+  unfolding values
+  values_left = ap (map symbol_value) (symbols_of_text q p every)
+
+  -- what comes of some text t without a fault
+  pub done_more : (t : List ℕ) → fault_byte (has_sign p) t ≡ None → done (left_text q p ++ t) ≡ groups (map symbol_value (q ++ filter is_symbol t))
+  done_more t h =
+      done_is (left_text q p ++ t)
+      ∙ ap (λ x. groups (values x)) (before_none (left_text q p ++ t) false (fault_more t ∙ h))
+      ∙ ap groups (values_more t)
+
+  pub left_more : (t : List ℕ) → left_symbols (left_text q p ++ t) ≡ after_groups (q ++ filter is_symbol t)
+  unfolding left_symbols
+  left_more t = ap after_groups (symbols_more t)
+
+  pub padding_more : (t : List ℕ) → left_padding (left_text q p ++ t) ≡ min (p + length (filter is_sign t)) 3
+  unfolding left_padding
+  padding_more t = ap (λ x. min x 3) (signs_more t)
+
+  -- and of one bad byte
+  pub done_bad : (c : ℕ) → length q ≤ 3 → fault_byte (has_sign p) (c ∷ []) ≡ Some c → done (left_text q p ++ c ∷ []) ≡ []
+  done_bad c few h =
+      done_is (left_text q p ++ c ∷ [])
+      ∙ ap (λ x. groups (values x)) (before_more (c ∷ []) ∙ ap (λ x. left_text q p ++ x) (before_one c (has_sign p) h) ∙ append-nil (left_text q p))
+      ∙ ap groups values_left
+      ∙ groups_few (map symbol_value q) (omega (arith, few, length-map q symbol_value))
+
+  pub kind_bad : (c : ℕ) → fault_byte (has_sign p) (c ∷ []) ≡ Some c → kind_of (left_text q p ++ c ∷ []) ≡ cond (is_symbol c) AlphabetSymbolAfterPadding (UnexpectedSymbol c)
+  kind_bad c h = kind_fault (left_text q p ++ c ∷ []) c (fault_more (c ∷ []) ∙ h)
+
+  -- as the end
+  pub valid_left : is_valid (left_text q p) ≡ fits_with (length q % 4) p
+  valid_left =
+      no_fault_valid (left_text q p) (fault_text q p every)
+      ∙ ap (λ x. fits_with (length x % 4) (length (filter is_sign (left_text q p)))) (symbols_of_text q p every)
+      ∙ ap (λ x. fits_with (length q % 4) (length x)) (signs_of_text q p every)
+      ∙ ap (fits_with (length q % 4)) (length-replicate p 61)
+
+  pub decoded_left : decoded (left_text q p) ≡ groups (map symbol_value q) ++ rest_bytes (after_groups (map symbol_value q))
+  unfolding decoded
+  decoded_left = ap (λ x. groups x ++ rest_bytes (after_groups x)) values_left
+
+  pub kind_left : kind_of (left_text q p) ≡ cond (eqb (length q % 4) 1) LoneAlphabetSymbol Padding
+  kind_left =
+      kind_is (left_text q p)
+      ∙ ap (λ o. kind_by (length (values (left_text q p))) o) (fault_text q p every)
+      ∙ ap (λ x. cond (eqb (length x % 4) 1) LoneAlphabetSymbol Padding) values_left
+      ∙ ap (λ n. cond (eqb (n % 4) 1) LoneAlphabetSymbol Padding) (length-map q symbol_value)
+
+-- One byte, by its class
+
+bad_by : (x x' y y' z z' s : Bool) → x ≡ x' → y ≡ y' → z ≡ z' → bad x y z s ≡ bad x' y' z' s
+bad_by x x' y y' z z' s e f g = ap (λ v. bad v y z s) e ∙ ap (λ v. bad x' v z s) f ∙ ap (λ v. bad x' y' v s) g
+
+fault_one : (c : ℕ) (s x y z : Bool) → is_ascii_whitespace c ≡ x → is_sign c ≡ y → is_symbol c ≡ z → fault_byte s (c ∷ []) ≡ cond (bad x y z s) (Some c) None
+unfolding fault_byte
+fault_one c s x y z e f g = ap (λ v. cond v (Some c) None) (bad_by (is_ascii_whitespace c) x (is_sign c) y (is_symbol c) z s e f g)
+
+filter_one : (p : ℕ → Bool) (c : ℕ) (v : Bool) → p c ≡ v → filter p (c ∷ []) ≡ cond v (c ∷ []) []
+filter_one p c v e = ap (λ w. cond w (c ∷ []) []) e
+
+pub fault_space : (c : ℕ) (s : Bool) → is_ascii_whitespace c ≡ true → fault_byte s (c ∷ []) ≡ None
+fault_space c s e = let k = space_alone (classes c) e in fault_one c s true false false e k.0 k.1
+
+pub symbols_space : (c : ℕ) → is_ascii_whitespace c ≡ true → filter is_symbol (c ∷ []) ≡ []
+symbols_space c e = filter_one is_symbol c false (space_alone (classes c) e).1
+
+pub signs_space : (c : ℕ) → is_ascii_whitespace c ≡ true → filter is_sign (c ∷ []) ≡ []
+signs_space c e = filter_one is_sign c false (space_alone (classes c) e).0
+
+pub fault_symbol : (c : ℕ) → is_symbol c ≡ true → fault_byte false (c ∷ []) ≡ None
+fault_symbol c e = let k = symbol_alone (classes c) e in fault_one c false false false true k.0 k.1 e
+
+-- a symbol behind a sign
+pub fault_behind : (c : ℕ) → is_symbol c ≡ true → fault_byte true (c ∷ []) ≡ Some c
+fault_behind c e = let k = symbol_alone (classes c) e in fault_one c true false false true k.0 k.1 e
+
+pub symbols_symbol : (c : ℕ) → is_symbol c ≡ true → filter is_symbol (c ∷ []) ≡ c ∷ []
+symbols_symbol c e = filter_one is_symbol c true e
+
+pub signs_symbol : (c : ℕ) → is_symbol c ≡ true → filter is_sign (c ∷ []) ≡ []
+signs_symbol c e = filter_one is_sign c false (symbol_alone (classes c) e).1
+
+pub fault_other : (c : ℕ) (s : Bool) → is_ascii_whitespace c ≡ false → is_sign c ≡ false → is_symbol c ≡ false → fault_byte s (c ∷ []) ≡ Some c
+fault_other c s e f g = fault_one c s false false false e f g
+
+pub has_sign_some : (p : ℕ) → 1 ≤ p → has_sign p ≡ true
+has_sign_some zero h = absurd (omega arith)
+has_sign_some (suc p) h = refl
+
+-- Groups of four and what is left, written out
+
+four_groups : (a b c e : ℕ) → groups (a ∷ b ∷ c ∷ e ∷ []) ≡ group_bytes (group_number a b c e)
+unfolding groups
+four_groups a b c e = refl
+
+four_after : (a b c e : ℕ) → after_groups (a ∷ b ∷ c ∷ e ∷ []) ≡ []
+unfolding after_groups
+four_after a b c e = refl
+
+decoded_none : groups [] ++ rest_bytes (after_groups []) ≡ []
+unfolding groups after_groups
+decoded_none = refl
+
+decoded_few : (q : List ℕ) → length q ≤ 3 → groups (map symbol_value q) ++ rest_bytes (after_groups (map symbol_value q)) ≡ rest_bytes (map symbol_value q)
+decoded_few q few =
+    let short : length (map symbol_value q) ≤ 3 = omega (arith, few, length-map q symbol_value) in
+    ap (λ x. x ++ rest_bytes (after_groups (map symbol_value q))) (groups_few (map symbol_value q) short) ∙ ap rest_bytes (after_few (map symbol_value q) short)
+
+min_same : (p : ℕ) → p ≤ 3 → p ≡ min (p + 0) 3
+min_same p h = omega arith
+
+fault_nil : (s : Bool) → fault_byte s [] ≡ None
+unfolding fault_byte
+fault_nil s = refl
+
+-- three places, written out
+pub three_items : (s : List ℕ) (n : ℕ) → length s ≡ 3 → n ≡ 3 → take n s ≡ get_or s 0 0 ∷ get_or s 1 0 ∷ get_or s 2 0 ∷ []
+three_items (a ∷ b ∷ c ∷ []) n l e = rw e refl
+three_items [] n l e = absurd (omega arith)
+three_items (a ∷ []) n l e = absurd (omega arith)
+three_items (a ∷ b ∷ []) n l e = absurd (omega arith)
+three_items (a ∷ b ∷ c ∷ f ∷ t) n l e = absurd (omega arith)
+
+pub two_items : (s : List ℕ) (n : ℕ) → length s ≡ 3 → n ≡ 2 → take n s ≡ get_or s 0 0 ∷ get_or s 1 0 ∷ []
+two_items (a ∷ b ∷ c ∷ []) n l e = rw e refl
+two_items [] n l e = absurd (omega arith)
+two_items (a ∷ []) n l e = absurd (omega arith)
+two_items (a ∷ b ∷ []) n l e = absurd (omega arith)
+two_items (a ∷ b ∷ c ∷ f ∷ t) n l e = absurd (omega arith)
+
+-- Which signs fit behind so many symbols
+
+pub zero_unfit : (p : ℕ) → p ≢ 0 → fits_with 0 p ≡ false
+zero_unfit zero h = absurd (h refl)
+zero_unfit (suc zero) h = refl
+zero_unfit (suc (suc zero)) h = refl
+zero_unfit (suc (suc (suc p))) h = refl
+
+one_unfit : (p : ℕ) → fits_with 1 p ≡ false
+one_unfit zero = refl
+one_unfit (suc zero) = refl
+one_unfit (suc (suc zero)) = refl
+one_unfit (suc (suc (suc p))) = refl
+
+pub two_unfit : (p : ℕ) → ¬ ((p ≡ 0) ⊎ (p ≡ 2)) → fits_with 2 p ≡ false
+two_unfit zero h = absurd (h (inl refl))
+two_unfit (suc zero) h = refl
+two_unfit (suc (suc zero)) h = absurd (h (inr refl))
+two_unfit (suc (suc (suc p))) h = refl
+
+pub two_fit : (p : ℕ) → (p ≡ 0) ⊎ (p ≡ 2) → fits_with 2 p ≡ true
+two_fit p (inl e) = rw e refl
+two_fit p (inr e) = rw e refl
+
+pub three_unfit : (p : ℕ) → 2 ≤ p → fits_with 3 p ≡ false
+three_unfit zero h = absurd (omega arith)
+three_unfit (suc zero) h = absurd (omega arith)
+three_unfit (suc (suc zero)) h = refl
+three_unfit (suc (suc (suc p))) h = refl
+
+pub three_fit : (p : ℕ) → p ≤ 1 → fits_with 3 p ≡ true
+three_fit zero h = refl
+three_fit (suc zero) h = refl
+three_fit (suc (suc p)) h = absurd (omega arith)
+
+-- What one call tells
+
+pub bool_at_true : (b : Bool) (P Q : Type 0) → b ≡ true → P → MatchBool b P Q
+bool_at_true true P Q e h = h
+bool_at_true false P Q e h = absurd (false≢true e)
+
+pub bool_at_false : (b : Bool) (P Q : Type 0) → b ≡ false → Q → MatchBool b P Q
+bool_at_false true P Q e h = absurd (true≢false e)
+bool_at_false false P Q e h = h
+
+told_call : {E : Type 0} (answer : Result (Unit {0}) E) (r : Result (Unit {0}) (DecodeError E)) (P : Type 0) (all bytes : List ℕ) → bytes ≡ all → (r ≡ Ok tt → P) → MatchResult answer (λ u. r ≡ Ok tt) (λ e. r ≡ Err (WriteError e)) → MatchOption (or_error answer None) P (λ e. IsRefused all bytes e r)
+told_call (Ok x) r P all bytes q f h = f h
+told_call (Err e) r P all bytes q f h = record { bytes_begin = prefix_all bytes all q; answer = h }
+
+-- A decoder that calls nothing
+
+module _ {F E : Type 0} (step : F → List ℕ → Result (Unit {0}) E → F → Type 0) where
+  -- text t with the symbols k and n signs is taken without a call
+  pub feeds_quiet : {d d' : State F} (t k : List ℕ) (n : ℕ) → Every is_symbol d.symbols → fault_byte (has_sign d.padding) t ≡ None → filter is_symbol t ≡ k → length (filter is_sign t) ≡ n → length (d.symbols ++ k) ≤ 3 → d'.closure ≡ d.closure → d'.symbols ≡ d.symbols ++ k → d'.padding ≡ min (d.padding + n) 3 → d'.failed ≡ false → Feeds step d t (Ok tt) d'
+  feeds_quiet {d} {d'} t k n every good is_k is_n few same symbols padding failed =
+      let q = d.symbols in
+      let p = d.padding in
+      let none : first_fault (left_text q p ++ t) ≡ None = none_fault (left_text q p ++ t) (fault_more q p every t ∙ good) in
+      let group : groups (map symbol_value (q ++ filter is_symbol t)) ≡ [] =
+          ap (λ x. groups (map symbol_value (q ++ x))) is_k ∙ groups_few (map symbol_value (q ++ k)) (omega (arith, few, length-map (q ++ k) symbol_value)) in
+      record {
+        run = [];
+        ran = sym same;
+        calls = omega arith;
+        failed = failed;
+        gave = record {
+          bytes_are = sym (done_more q p every t good ∙ group);
+          answer = match_none (first_fault (left_text q p ++ t)) _ _ none (refl, record {
+            symbols_are = symbols ∙ sym (left_more q p every t ∙ ap (λ x. after_groups (q ++ x)) is_k ∙ after_few (q ++ k) few);
+            padding_is = padding ∙ sym (padding_more q p every t ∙ ap (λ x. min (p + x) 3) is_n)
+          })
+        }
+      }
+
+  -- a bad byte is refused without a call
+  pub feeds_bad : {d d' : State F} {r : Result (Unit {0}) (DecodeError E)} (c : ℕ) → Every is_symbol d.symbols → length d.symbols ≤ 3 → fault_byte (has_sign d.padding) (c ∷ []) ≡ Some c → d' ≡ record d { failed = true } → r ≡ Err (InvalidBase64 (cond (is_symbol c) AlphabetSymbolAfterPadding (UnexpectedSymbol c))) → Feeds step d (c ∷ []) r d'
+  feeds_bad {d} {d'} {r} c every few bad same told =
+      let q = d.symbols in
+      let p = d.padding in
+      let some : is_some (first_fault (left_text q p ++ c ∷ [])) ≡ true = fault_some (left_text q p ++ c ∷ []) ∙ ap is_some (fault_more q p every (c ∷ []) ∙ bad) in
+      record {
+        run = [];
+        ran = sym (ap (λ (s : State F). s.closure) same);
+        calls = omega arith;
+        failed = ap (λ (s : State F). s.failed) same ∙ sym (ap is_err told);
+        gave = record {
+          bytes_are = sym (done_bad q p every c few bad);
+          answer = match_some (first_fault (left_text q p ++ c ∷ [])) _ _ some (told ∙ ap (λ z. Err (InvalidBase64 z)) (sym (kind_bad q p every c bad)))
+        }
+      }
+
+  -- a symbol behind a sign
+  pub feeds_behind : {d d' : State F} {r : Result (Unit {0}) (DecodeError E)} (c : ℕ) → Every is_symbol d.symbols → length d.symbols ≤ 3 → 1 ≤ d.padding → is_symbol c ≡ true → d' ≡ record d { failed = true } → r ≡ Err (InvalidBase64 AlphabetSymbolAfterPadding) → Feeds step d (c ∷ []) r d'
+  feeds_behind {d} c every few signs symbol same told =
+      feeds_bad c every few (ap (λ s. fault_byte s (c ∷ [])) (has_sign_some d.padding signs) ∙ fault_behind c symbol) same
+      (told ∙ ap (λ v. Err (InvalidBase64 (cond v AlphabetSymbolAfterPadding (UnexpectedSymbol c)))) (sym symbol))
+
+  -- a byte of no class
+  pub feeds_other : {d d' : State F} {r : Result (Unit {0}) (DecodeError E)} (c : ℕ) → Every is_symbol d.symbols → length d.symbols ≤ 3 → is_ascii_whitespace c ≡ false → is_sign c ≡ false → is_symbol c ≡ false → d' ≡ record d { failed = true } → r ≡ Err (InvalidBase64 (UnexpectedSymbol c)) → Feeds step d (c ∷ []) r d'
+  feeds_other {d} c every few space sign symbol same told =
+      feeds_bad c every few (fault_other c (has_sign d.padding) space sign symbol) same
+      (told ∙ ap (λ v. Err (InvalidBase64 (cond v AlphabetSymbolAfterPadding (UnexpectedSymbol c)))) (sym symbol))
+
+  -- a symbol that is kept
+  pub feeds_kept : {d d' : State F} (c : ℕ) → Every is_symbol d.symbols → length d.symbols + 1 ≤ 3 → d.padding ≡ 0 → is_symbol c ≡ true → d'.closure ≡ d.closure → d'.symbols ≡ d.symbols ++ c ∷ [] → d'.padding ≡ d.padding → d'.failed ≡ false → Feeds step d (c ∷ []) (Ok tt) d'
+  feeds_kept {d} {d'} c every few none symbol same symbols padding failed =
+      feeds_quiet (c ∷ []) (c ∷ []) 0 every
+      (ap (λ p. fault_byte (has_sign p) (c ∷ [])) none ∙ fault_symbol c symbol)
+      (symbols_symbol c symbol)
+      (ap length (signs_symbol c symbol))
+      (omega (arith, few, length-append d.symbols (c ∷ [])))
+      same symbols (padding ∙ none ∙ ap (λ p. min (p + 0) 3) (sym none)) failed
+
+  -- a byte of white space
+  pub feeds_space : {d d' : State F} (c : ℕ) → Every is_symbol d.symbols → length d.symbols ≤ 3 → d.padding ≤ 3 → is_ascii_whitespace c ≡ true → d.failed ≡ false → d' ≡ d → Feeds step d (c ∷ []) (Ok tt) d'
+  feeds_space {d} {d'} c every few signs space going same =
+      feeds_quiet (c ∷ []) [] 0 every
+      (fault_space c (has_sign d.padding) space)
+      (symbols_space c space)
+      (ap length (signs_space c space))
+      (rw append-nil few)
+      (ap (λ (s : State F). s.closure) same) (ap (λ (s : State F). s.symbols) same ∙ sym (append-nil d.symbols))
+      (ap (λ (s : State F). s.padding) same ∙ min_same d.padding signs) (ap (λ (s : State F). s.failed) same ∙ going)
+
+  -- no text at all
+  pub feeds_none : {d d' : State F} → Every is_symbol d.symbols → length d.symbols ≤ 3 → d.padding ≤ 3 → d.failed ≡ false → d' ≡ d → Feeds step d [] (Ok tt) d'
+  feeds_none {d} {d'} every few signs going same =
+      feeds_quiet [] [] 0 every
+      (fault_nil (has_sign d.padding))
+      refl
+      refl
+      (rw append-nil few)
+      (ap (λ (s : State F). s.closure) same) (ap (λ (s : State F). s.symbols) same ∙ sym (append-nil d.symbols))
+      (ap (λ (s : State F). s.padding) same ∙ min_same d.padding signs) (ap (λ (s : State F). s.failed) same ∙ going)
+
+  -- a sign
+  feeds_equals : {d d' : State F} → Every is_symbol d.symbols → length d.symbols ≤ 3 → d.failed ≡ false → d' ≡ record d { padding = min (d.padding + 1) 3 } → Feeds step d (61 ∷ []) (Ok tt) d'
+  feeds_equals {d} {d'} every few going same =
+      feeds_quiet (61 ∷ []) [] 1 every
+      (fault_signs 1 (has_sign d.padding))
+      refl
+      refl
+      (rw append-nil few)
+      (ap (λ (s : State F). s.closure) same) (ap (λ (s : State F). s.symbols) same ∙ sym (append-nil d.symbols))
+      (ap (λ (s : State F). s.padding) same) (ap (λ (s : State F). s.failed) same ∙ going)
+
+  pub feeds_sign : {d d' : State F} (c : ℕ) → c ≡ 61 → Every is_symbol d.symbols → length d.symbols ≤ 3 → d.failed ≡ false → d' ≡ record d { padding = min (d.padding + 1) 3 } → Feeds step d (c ∷ []) (Ok tt) d'
+  feeds_sign {d} {d'} c e every few going same = let P : ℕ → Type 0 = λ x. Feeds step d (x ∷ []) (Ok tt) d' in subst P (sym e) (feeds_equals every few going same)
+
+  -- One call
+
+  -- a run of one call
+  pub one_call : (f g : F) (piece : List ℕ) (answer : Result (Unit {0}) E) → step f piece answer g → IsRun step f (record { piece = piece; answer = answer; after = g } ∷ []) g
+  one_call f g piece answer s = (s, λ e. refl, refl)
+
+  -- the fourth symbol hands out a group
+  pub feeds_group : {d d' : State F} {r : Result (Unit {0}) (DecodeError E)} (x y z c : ℕ) (piece : List ℕ) (answer : Result (Unit {0}) E) → Every is_symbol d.symbols → d.symbols ≡ x ∷ y ∷ z ∷ [] → d.padding ≡ 0 → is_symbol c ≡ true → piece ≡ group_bytes (group_number (symbol_value x) (symbol_value y) (symbol_value z) (symbol_value c)) → step d.closure piece answer d'.closure → d'.symbols ≡ [] → d'.padding ≡ 0 → d'.failed ≡ is_err r → MatchResult answer (λ u. r ≡ Ok tt) (λ e. r ≡ Err (WriteError e)) → Feeds step d (c ∷ []) r d'
+  feeds_group {d} {d'} {r} x y z c piece answer every is_q is_p symbol is_piece called symbols padding failed told =
+      let q = d.symbols in
+      let p = d.padding in
+      let sign : has_sign p ≡ false = ap has_sign is_p in
+      let good : fault_byte (has_sign p) (c ∷ []) ≡ None = ap (λ s. fault_byte s (c ∷ [])) sign ∙ fault_symbol c symbol in
+      let all : q ++ filter is_symbol (c ∷ []) ≡ x ∷ y ∷ z ∷ c ∷ [] = ap (λ k. k ++ filter is_symbol (c ∷ [])) is_q ∙ ap (λ (k : List ℕ). x ∷ y ∷ z ∷ k) (symbols_symbol c symbol) in
+      let bytes : piece ++ [] ≡ done (left_text q p ++ c ∷ []) =
+          append-nil piece ∙ is_piece ∙ sym (done_more q p every (c ∷ []) good ∙ ap (λ k. groups (map symbol_value k)) all ∙ four_groups (symbol_value x) (symbol_value y) (symbol_value z) (symbol_value c)) in
+      let none : first_fault (left_text q p ++ c ∷ []) ≡ None = none_fault (left_text q p ++ c ∷ []) (fault_more q p every (c ∷ []) ∙ good) in
+      let left : IsLeft (left_text q p ++ c ∷ []) d' = record {
+        symbols_are = symbols ∙ sym (left_more q p every (c ∷ []) ∙ ap after_groups all ∙ four_after x y z c);
+        padding_is = padding ∙ sym (padding_more q p every (c ∷ []) ∙ ap (λ k. min (k + length (filter is_sign (c ∷ []))) 3) is_p ∙ ap (λ k. min (0 + length k) 3) (signs_symbol c symbol))
+      } in
+      record {
+        run = record { piece = piece; answer = answer; after = d'.closure } ∷ [];
+        ran = one_call d.closure d'.closure piece answer called;
+        calls = omega arith;
+        failed = failed;
+        gave = told_call answer r (IsTaken (left_text q p ++ c ∷ []) (piece ++ []) r d') (done (left_text q p ++ c ∷ [])) (piece ++ []) bytes
+            (λ e. record { bytes_are = bytes; answer = match_none (first_fault (left_text q p ++ c ∷ [])) _ _ none (e, left) }) told
+      }
+
+  -- The end
+
+  finishes_invalid : {d d' : State F} {r : Result (Unit {0}) (DecodeError E)} → Every is_symbol d.symbols → fits_with (length d.symbols % 4) d.padding ≡ false → d' ≡ record d { failed = true } → r ≡ Err (InvalidBase64 (cond (eqb (length d.symbols % 4) 1) LoneAlphabetSymbol Padding)) → Finishes step d r d'.closure
+  finishes_invalid {d} {d'} {r} every bad same told = record {
+    run = [];
+    ran = sym (ap (λ (s : State F). s.closure) same);
+    calls = omega arith;
+    gave = bool_at_false (is_valid (left_over d)) _ _ (valid_left d.symbols d.padding every ∙ bad)
+        (refl, told ∙ ap (λ z. Err (InvalidBase64 z)) (sym (kind_left d.symbols d.padding every)))
+  }
+
+  -- a lone symbol
+  pub finishes_lone : {d d' : State F} {r : Result (Unit {0}) (DecodeError E)} → Every is_symbol d.symbols → length d.symbols ≡ 1 → d' ≡ record d { failed = true } → r ≡ Err (InvalidBase64 LoneAlphabetSymbol) → Finishes step d r d'.closure
+  finishes_lone {d} every one same told =
+      finishes_invalid every (ap (λ n. fits_with (n % 4) d.padding) one ∙ one_unfit d.padding) same
+      (told ∙ ap (λ n. Err (InvalidBase64 (cond (eqb (n % 4) 1) LoneAlphabetSymbol Padding))) (sym one))
+
+  -- signs that do not fit
+  pub finishes_padding : {d d' : State F} {r : Result (Unit {0}) (DecodeError E)} (n : ℕ) → Every is_symbol d.symbols → length d.symbols ≡ n → fits_with (n % 4) d.padding ≡ false → eqb (n % 4) 1 ≡ false → d' ≡ record d { failed = true } → r ≡ Err (InvalidBase64 Padding) → Finishes step d r d'.closure
+  finishes_padding {d} n every count unfit many same told =
+      finishes_invalid every (ap (λ m. fits_with (m % 4) d.padding) count ∙ unfit) same
+      (told ∙ ap (λ v. Err (InvalidBase64 (cond v LoneAlphabetSymbol Padding))) (sym many ∙ ap (λ m. eqb (m % 4) 1) (sym count)))
+
+  pub finishes_quiet : {d : State F} {f : F} → Every is_symbol d.symbols → d.symbols ≡ [] → d.padding ≡ 0 → f ≡ d.closure → Finishes step d (Ok tt) f
+  finishes_quiet {d} {f} every is_q is_p same =
+      let none : decoded (left_over d) ≡ [] = decoded_left d.symbols d.padding every ∙ ap (λ q. groups (map symbol_value q) ++ rest_bytes (after_groups (map symbol_value q))) is_q ∙ decoded_none in
+      record {
+        run = [];
+        ran = sym same;
+        calls = omega arith;
+        gave = bool_at_true (is_valid (left_over d)) _ _ (valid_left d.symbols d.padding every ∙ ap (λ q. fits_with (length q % 4) d.padding) is_q ∙ ap (fits_with 0) is_p)
+            (record { bytes_are = sym none; answer = refl })
+      }
+
+  pub finishes_call : {d : State F} {f : F} {r : Result (Unit {0}) (DecodeError E)} (q piece : List ℕ) (answer : Result (Unit {0}) E) → Every is_symbol d.symbols → d.symbols ≡ q → fits_with (length q % 4) d.padding ≡ true → length q ≤ 3 → piece ≡ rest_bytes (map symbol_value q) → step d.closure piece answer f → MatchResult answer (λ u. r ≡ Ok tt) (λ e. r ≡ Err (WriteError e)) → Finishes step d r f
+  finishes_call {d} {f} {r} q piece answer every is_q fits few is_piece called told =
+      let bytes : piece ++ [] ≡ decoded (left_over d) =
+          append-nil piece
+          ∙ is_piece
+          ∙ sym (decoded_left d.symbols d.padding every ∙ ap (λ q. groups (map symbol_value q) ++ rest_bytes (after_groups (map symbol_value q))) is_q ∙ decoded_few q few) in
+      record {
+        run = record { piece = piece; answer = answer; after = f } ∷ [];
+        ran = one_call d.closure f piece answer called;
+        calls = omega arith;
+        gave = bool_at_true (is_valid (left_over d)) _ _ (valid_left d.symbols d.padding every ∙ ap (λ q. fits_with (length q % 4) d.padding) is_q ∙ fits)
+            (told_call answer r (IsAll (left_over d) (piece ++ []) r) (decoded (left_over d)) (piece ++ []) bytes (λ e. record { bytes_are = bytes; answer = e }) told)
+      }

@@ -1,0 +1,84 @@
+//! The alphabet of base64 (RFC 4648, section 4).
+
+ghost use Rattle.std.specs.Prelude.{◌≡◌, ◌<◌, IsTrue, [], ◌∷◌};
+ghost use Rattle.data_url.specs.Base64.{group_bytes, group_number, is_symbol, rest_bytes, symbol_value};
+
+/// What the table has for a byte that is no symbol.
+const NO_SYMBOL: u8 = 64;
+
+/// The value of each symbol, by its byte.
+const VALUES: [u8; 256] = [
+    64, 64, 64, 64, 64, 64, 64, 64, 64, 64, 64, 64, 64, 64, 64, 64,
+    64, 64, 64, 64, 64, 64, 64, 64, 64, 64, 64, 64, 64, 64, 64, 64,
+    64, 64, 64, 64, 64, 64, 64, 64, 64, 64, 64, 62, 64, 64, 64, 63,
+    52, 53, 54, 55, 56, 57, 58, 59, 60, 61, 64, 64, 64, 64, 64, 64,
+    64, 0, 1, 2, 3, 4, 5, 6, 7, 8, 9, 10, 11, 12, 13, 14,
+    15, 16, 17, 18, 19, 20, 21, 22, 23, 24, 25, 64, 64, 64, 64, 64,
+    64, 26, 27, 28, 29, 30, 31, 32, 33, 34, 35, 36, 37, 38, 39, 40,
+    41, 42, 43, 44, 45, 46, 47, 48, 49, 50, 51, 64, 64, 64, 64, 64,
+    64, 64, 64, 64, 64, 64, 64, 64, 64, 64, 64, 64, 64, 64, 64, 64,
+    64, 64, 64, 64, 64, 64, 64, 64, 64, 64, 64, 64, 64, 64, 64, 64,
+    64, 64, 64, 64, 64, 64, 64, 64, 64, 64, 64, 64, 64, 64, 64, 64,
+    64, 64, 64, 64, 64, 64, 64, 64, 64, 64, 64, 64, 64, 64, 64, 64,
+    64, 64, 64, 64, 64, 64, 64, 64, 64, 64, 64, 64, 64, 64, 64, 64,
+    64, 64, 64, 64, 64, 64, 64, 64, 64, 64, 64, 64, 64, 64, 64, 64,
+    64, 64, 64, 64, 64, 64, 64, 64, 64, 64, 64, 64, 64, 64, 64, 64,
+    64, 64, 64, 64, 64, 64, 64, 64, 64, 64, 64, 64, 64, 64, 64, 64,
+];
+
+/// Whether a byte is a symbol.
+pub(crate) fn is_symbol(byte: u8) -> bool
+    ensures { result ≡ is_symbol byte }
+{
+    VALUES[byte as usize] < NO_SYMBOL
+}
+
+/// The six bits of a symbol.
+pub(crate) fn six_bits(symbol: u8) -> u32
+    requires { IsTrue (is_symbol symbol) }
+    ensures value { result ≡ symbol_value symbol }
+    ensures six { result < 64 }
+{
+    VALUES[symbol as usize] as u32
+}
+
+/// The three bytes of a group of four symbols.
+pub(crate) fn group_of(first: u8, second: u8, third: u8, fourth: u8) -> [u8; 3]
+    requires first { IsTrue (is_symbol first) }
+    requires second { IsTrue (is_symbol second) }
+    requires third { IsTrue (is_symbol third) }
+    requires fourth { IsTrue (is_symbol fourth) }
+    ensures {
+        let number = group_number (symbol_value first) (symbol_value second) (symbol_value third) (symbol_value fourth) in
+        result ≡ group_bytes number
+    }
+{
+    let half = six_bits(first) * 64 + six_bits(second);
+    let number = (half * 64 + six_bits(third)) * 64 + six_bits(fourth);
+    [
+        (number / 65536) as u8,
+        (number / 256 % 256) as u8,
+        (number % 256) as u8,
+    ]
+}
+
+/// The byte of two symbols left over: the last four bits are dropped.
+pub(crate) fn rest_of_two(first: u8, second: u8) -> [u8; 1]
+    requires first { IsTrue (is_symbol first) }
+    requires second { IsTrue (is_symbol second) }
+    ensures { result ≡ rest_bytes (symbol_value first ∷ symbol_value second ∷ []) }
+{
+    let number = six_bits(first) * 64 + six_bits(second);
+    [(number / 16) as u8]
+}
+
+/// The two bytes of three symbols left over: the last two bits are dropped.
+pub(crate) fn rest_of_three(first: u8, second: u8, third: u8) -> [u8; 2]
+    requires first { IsTrue (is_symbol first) }
+    requires second { IsTrue (is_symbol second) }
+    requires third { IsTrue (is_symbol third) }
+    ensures { result ≡ rest_bytes (symbol_value first ∷ symbol_value second ∷ symbol_value third ∷ []) }
+{
+    let number = ((six_bits(first) * 64 + six_bits(second)) * 64 + six_bits(third)) / 4;
+    [(number / 256) as u8, (number % 256) as u8]
+}

@@ -1,0 +1,197 @@
+//! Forgiving-base64 decode, piece by piece (Infra Standard, section 8).
+
+ghost use Rattle.std.specs.Prelude.{◌≡◌, ◌≤◌, [], ◌∷◌, IsTrue, take, true, false};
+ghost use Rattle.std.specs.List.{list_all};
+ghost use Rattle.data_url.specs.Base64.{is_symbol};
+
+use super::alphabet::{group_of, is_symbol, rest_of_three, rest_of_two};
+use super::{DecodeError, InvalidBase64, InvalidBase64Details};
+
+/// A decoder of forgiving base64 (Infra Standard, section 8) that takes its text in pieces, cut anywhere, and hands bytes
+/// to a closure as soon as four symbols give them.
+///
+/// It takes no memory: it keeps at most three symbols, and counts the signs `=` up to three. Contracts see it as its
+/// closure, these symbols, that count and whether it has failed (`state_of`).
+#[derive(Drop)]
+pub struct Decoder<F, E>
+where
+    F: FnMut(&[u8]) -> Result<(), E>,
+{
+    write_bytes: F,
+    // The symbols that are left over: the first `pending` of these.
+    symbols: [u8; 3],
+    pending: usize,
+    // The number of signs, where 3 stands for more.
+    padding: u8,
+    failed: bool,
+    ghost few_pending: { pending ≤ 3 },
+    ghost pending_symbols: { IsTrue (list_all is_symbol (take pending symbols)) },
+    ghost few_signs: { padding ≤ 3 },
+}
+
+impl<F, E> Decoder<F, E>
+where
+    F: FnMut(&[u8]) -> Result<(), E>,
+{
+    ghost use Rattle.std.specs.Fn.{CalledAt};
+    ghost use Rattle.data_url.specs.Decoding.{Feeds, Finishes, State};
+    ghost use Rattle.data_url.specs.DecoderState.{state_of};
+    ghost use Rattle.data_url.specs.Refusal.{kind_of_details};
+    ghost use Rattle.data_url.specs.Steps.{Writes};
+
+    /// A decoder that has seen nothing yet, and hands its bytes to the closure. The closure has to be one that may be
+    /// called on any bytes, whatever it was called with before.
+    pub fn new(write_bytes: F) -> Self
+        requires { F.IsAlwaysCallable write_bytes }
+        ensures state { state_of result ≡ record { closure = write_bytes; symbols = []; padding = 0; failed = false } }
+        ensures callable { F.IsAlwaysCallable (state_of result).closure }
+    {
+        Decoder {
+            write_bytes,
+            symbols: [0; 3],
+            pending: 0,
+            padding: 0,
+            failed: false,
+        }
+    }
+
+    /// Whether a piece was answered by an error. A decoder that has failed takes no further piece and no end.
+    pub fn has_failed(&self) -> bool
+        ensures { result ≡ (state_of self.now).failed }
+    {
+        self.failed
+    }
+
+    /// The closure, as its last call left it, of a decoder that has failed or not. Nothing more is handed to it.
+    pub fn into_closure(self) -> F
+        ensures { result ≡ (state_of self).closure }
+    {
+        let Decoder { write_bytes, symbols: _, pending: _, padding: _, failed: _ } = self;
+        write_bytes
+    }
+
+    /// Hands a piece to the closure.
+    fn write(&mut self, piece: &[u8]) -> Result<(), DecodeError<E>>
+        requires callable { F.IsAlwaysCallable (state_of self.old).closure }
+        requires going { (state_of self.old).failed ≡ false }
+        ensures callable { F.IsAlwaysCallable (state_of self.new).closure }
+        ensures wrote { Writes (CalledAt F.FnMut) (state_of self.old) piece.now result (state_of self.new) }
+    {
+        match (self.write_bytes)(piece) {
+            Ok(()) => Ok(()),
+            Err(error) => {
+                self.failed = true;
+                Err(DecodeError::WriteError(error))
+            }
+        }
+    }
+
+    /// Fails, with the reason as the answer.
+    fn refuse(&mut self, details: InvalidBase64Details) -> Result<(), DecodeError<E>>
+        ensures state { state_of self.new ≡ record (state_of self.old) { failed = true } }
+        ensures kind { result ≡ Err (DecodeError.InvalidBase64 (kind_of_details details)) }
+    {
+        self.failed = true;
+        Err(DecodeError::InvalidBase64(InvalidBase64 { details }))
+    }
+
+    /// Feeds a symbol.
+    fn take_symbol(&mut self, symbol: u8) -> Result<(), DecodeError<E>>
+        requires symbol { IsTrue (is_symbol symbol) }
+        requires callable { F.IsAlwaysCallable (state_of self.old).closure }
+        requires going { (state_of self.old).failed ≡ false }
+        ensures callable { F.IsAlwaysCallable (state_of self.new).closure }
+        ensures fed { Feeds (CalledAt F.FnMut) (state_of self.old) (symbol ∷ []) result (state_of self.new) }
+    {
+        if self.padding > 0 {
+            return self.refuse(InvalidBase64Details::AlphabetSymbolAfterPadding);
+        }
+        if self.pending < 3 {
+            self.symbols[self.pending] = symbol;
+            self.pending += 1;
+            return Ok(());
+        }
+        self.pending = 0;
+        let [first, second, third] = self.symbols;
+        self.write(&group_of(first, second, third, symbol))
+    }
+
+    /// Feeds one byte.
+    fn take_byte(&mut self, byte: u8) -> Result<(), DecodeError<E>>
+        requires callable { F.IsAlwaysCallable (state_of self.old).closure }
+        requires going { (state_of self.old).failed ≡ false }
+        ensures callable { F.IsAlwaysCallable (state_of self.new).closure }
+        ensures fed { Feeds (CalledAt F.FnMut) (state_of self.old) (byte ∷ []) result (state_of self.new) }
+    {
+        if is_symbol(byte) {
+            self.take_symbol(byte)
+        } else if byte == b'=' {
+            self.padding = (self.padding + 1).min(3);
+            Ok(())
+        } else if byte.is_ascii_whitespace() {
+            Ok(())
+        } else {
+            self.refuse(InvalidBase64Details::UnexpectedSymbol(byte))
+        }
+    }
+
+    /// Takes the next bytes of the text, in an encoding that ASCII is part of, and hands out the bytes of each group of four
+    /// symbols that they complete, in at most as many calls as there are bytes. ASCII whitespace is skipped.
+    ///
+    /// Where the closure refuses, that ends the call with `WriteError`. At a byte that is neither whitespace nor `=` nor a
+    /// symbol, and at a symbol behind an `=` of this piece or an earlier one, the answer is `InvalidBase64`, once the groups
+    /// before that byte were handed out. After an error the decoder has failed.
+    pub fn feed(&mut self, input: &[u8]) -> Result<(), DecodeError<E>>
+        requires callable { F.IsAlwaysCallable (state_of self.old).closure }
+        requires going { (state_of self.old).failed ≡ false }
+        ensures callable { F.IsAlwaysCallable (state_of self.new).closure }
+        ensures fed { Feeds (CalledAt F.FnMut) (state_of self.old) input.now result (state_of self.new) }
+    {
+        for byte in input {
+            self.take_byte(*byte)?;
+        }
+        Ok(())
+    }
+
+    /// Ends the text: hands out what the symbols left over stand for.
+    fn end(&mut self) -> Result<(), DecodeError<E>>
+        requires callable { F.IsAlwaysCallable (state_of self.old).closure }
+        requires going { (state_of self.old).failed ≡ false }
+        ensures callable { F.IsAlwaysCallable (state_of self.new).closure }
+        ensures finished { Finishes (CalledAt F.FnMut) (state_of self.old) result (state_of self.new).closure }
+    {
+        let [first, second, third] = self.symbols;
+        match (self.pending, self.padding) {
+            (0, 0) => Ok(()),
+            (1, _) => self.refuse(InvalidBase64Details::LoneAlphabetSymbol),
+            (2, 0 | 2) => self.write(&rest_of_two(first, second)),
+            (3, 0 | 1) => self.write(&rest_of_three(first, second, third)),
+            _ => self.refuse(InvalidBase64Details::Padding),
+        }
+    }
+
+    /// Ends the text. Two or three symbols left over give one or two last bytes, in one call; the bits that they have
+    /// besides are dropped. Nothing else is handed out.
+    ///
+    /// The answer is `InvalidBase64`, and the closure is not called, where a lone symbol is left over or the signs `=` do
+    /// not fit: there may be none or, behind two symbols, two, or behind three, one. It is `WriteError` where the closure
+    /// refuses. `finish_with` also tells what became of the closure.
+    pub fn finish(self) -> Result<(), DecodeError<E>>
+        requires callable { F.IsAlwaysCallable (state_of self).closure }
+        requires going { (state_of self).failed ≡ false }
+        ensures { (f : _) × Finishes (CalledAt F.FnMut) (state_of self) result f }
+    {
+        self.finish_with().0
+    }
+
+    /// Ends the text as `finish` does, and hands the closure back as its last call left it.
+    pub fn finish_with(mut self) -> (Result<(), DecodeError<E>>, F)
+        requires callable { F.IsAlwaysCallable (state_of self).closure }
+        requires going { (state_of self).failed ≡ false }
+        ensures callable { F.IsAlwaysCallable result.1 }
+        ensures finished { Finishes (CalledAt F.FnMut) (state_of self) result.0 result.1 }
+    {
+        let answer = self.end();
+        (answer, self.into_closure())
+    }
+}

@@ -1,0 +1,49 @@
+//! Forgiving-base64 decode of a whole text (Infra Standard, section 8).
+
+ghost use Rattle.std.specs.Prelude.{◌≡◌, IfErr, IfOk, IsOk, IsTrue};
+ghost use Rattle.std.specs.Fn.{CalledAt};
+ghost use Rattle.data_url.specs.Base64.{decoded, is_valid};
+ghost use Rattle.data_url.specs.Decoding.{Decodes};
+ghost use Rattle.data_url.specs.VecError.{IsErrorOf};
+
+use std::alloc::{AllocError, Global};
+
+use super::{DecodeError, DecodeToVecError, Decoder};
+
+/// Hands the bytes of a text to a closure, and the closure back.
+fn decode_whole<F, E>(input: &[u8], write_bytes: F) -> (Result<(), DecodeError<E>>, F)
+where
+    F: FnMut(&[u8]) -> Result<(), E>,
+    requires { F.IsAlwaysCallable write_bytes }
+    ensures { Decodes (CalledAt F.FnMut) write_bytes input.now result.0 result.1 }
+{
+    let mut decoder = Decoder::new(write_bytes);
+    match decoder.feed(input) {
+        Ok(()) => decoder.finish_with(),
+        Err(error) => (Err(error), decoder.into_closure()),
+    }
+}
+
+/// The bytes that a text of base64 stands for, by forgiving-base64 decode (Infra Standard, section 8). Room for them is
+/// taken once, by the length of the text.
+///
+/// The error is `InvalidBase64` for a text that is not valid, with the reason of its first fault, and `OutOfMemory` where
+/// memory was refused.
+pub fn decode_to_vec(alloc: Global, input: &[u8]) -> Result<Vec<u8>, DecodeToVecError>
+    ensures valid { IsOk result → IsTrue (is_valid input.now) }
+    ensures bytes { IfOk result (λ bytes. bytes.items ≡ decoded input.now) }
+    ensures error { IfErr result (IsErrorOf input.now) }
+{
+    let room = input.len() / 4 * 3 + input.len() % 4;
+    let Ok(mut bytes) = Vec::with_capacity(alloc, room) else {
+        return Err(DecodeToVecError::OutOfMemory);
+    };
+    let ended = decode_whole(input, |piece: &[u8]| -> Result<(), AllocError> {
+        bytes.extend_from_slice(piece)
+    });
+    match ended.0 {
+        Ok(()) => Ok(bytes),
+        Err(DecodeError::InvalidBase64(refusal)) => Err(DecodeToVecError::InvalidBase64(refusal)),
+        Err(DecodeError::WriteError(AllocError)) => Err(DecodeToVecError::OutOfMemory),
+    }
+}
