@@ -1,4 +1,5 @@
 pub mod AlphabetLemmas
+pub mod Base64BodyLemmas
 mod Base64Examples
 pub mod BodyLemmas
 pub mod ByteLemmas

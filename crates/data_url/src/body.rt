@@ -6,10 +6,10 @@ ghost use Rattle.std.specs.Fn.{CalledAt};
 ghost use Rattle.data_url.specs.Url.{dropped};
 ghost use Rattle.data_url.specs.Body.{BeginsKept, IsBodyEnd, IsPast, IsStep, begins_with_digit, HasDigit, HasNoEscape, IsEscape};
 ghost use Rattle.data_url.specs.Percent.{is_hex};
-ghost use Rattle.data_url.specs.Fetch.{Good, plain_body};
+ghost use Rattle.data_url.specs.Fetch.{Good, outcome, plain_body};
 ghost use Rattle.data_url.specs.Decodes.{Decodes};
 
-use crate::forgiving_base64::DecodeError;
+use crate::forgiving_base64::{DecodeError, Decoder};
 use crate::front::is_passed_over;
 
 /// What stands at the front of a tail.
@@ -97,6 +97,33 @@ where
             BodyStep::Byte(byte, after) => match write(&[byte]) {
                 Ok(()) => rest = after,
                 Err(error) => return (Err(DecodeError::WriteError(error)), write),
+            },
+        }
+    }
+}
+
+/// Hands the base64 body of a tail to a closure, and answers the place in the tail where the body ends.
+pub(crate) fn decode_base64<F, E>(tail: &[u8], write: F) -> (Result<usize, DecodeError<E>>, F)
+where
+    F: FnMut(&[u8]) -> Result<(), E>,
+    requires { F.IsAlwaysCallable write }
+    ensures { Decodes (CalledAt F.FnMut) write (length tail.now + 1) (outcome true (plain_body tail.now))
+        (IsBodyEnd tail.now) result.0 result.1 }
+{
+    let mut decoder = Decoder::new(write);
+    let mut rest = tail;
+    loop {
+        match step(rest) {
+            BodyStep::End(end) => {
+                let (answer, write) = decoder.finish_with();
+                return match answer {
+                    Ok(()) => (Ok(tail.len() - end.len()), write),
+                    Err(error) => (Err(error), write),
+                };
+            }
+            BodyStep::Byte(byte, after) => match decoder.feed(&[byte]) {
+                Ok(()) => rest = after,
+                Err(error) => return (Err(error), decoder.into_closure()),
             },
         }
     }
