@@ -2,6 +2,8 @@
 
 ghost use Rattle.std.specs.Prelude.{◌≡◌, ◌↔◌, IfOk, IsTrue, [], MatchOption, ℕ};
 
+mod tokens;
+
 use std::alloc::{AllocError, Global};
 
 /// A MIME type record: a type, a subtype and parameters in order. Nothing checks what stands in it.
