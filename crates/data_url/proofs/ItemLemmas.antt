@@ -84,7 +84,7 @@ pub record IsReading (x : List ℕ) (r : Reading) : Type 0 where
   pub gives : GivesValue tail r.rest r.value
   pub begins : BeginsParameters r.rest
 
-begins_from : (s : List ℕ) → DoesNotBegin in_value s → BeginsParameters s
+pub begins_from : (s : List ℕ) → DoesNotBegin in_value s → BeginsParameters s
 begins_from [] h = tt
 begins_from (c ∷ s) h = eqb-true c 59 (not-false (c == 59) h)
 

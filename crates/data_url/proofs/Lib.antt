@@ -1,5 +1,6 @@
 pub mod TextLemmas
 pub mod QuotedLemmas
 pub mod ItemLemmas
+pub mod CutLemmas
 pub mod RecordLemmas
 pub mod TokenLemmas

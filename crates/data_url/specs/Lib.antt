@@ -4,6 +4,7 @@ pub mod ErrorText
 pub mod Fetch
 pub mod Laws
 pub mod Mime
+pub mod Parsing
 pub mod Percent
 pub mod Refusal
 pub mod Run

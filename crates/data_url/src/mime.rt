@@ -2,6 +2,8 @@
 
 ghost use Rattle.std.specs.Prelude.{◌≡◌, ◌↔◌, IfOk, IsTrue, [], MatchOption, ℕ};
 
+mod cuts;
+mod parse;
 mod tokens;
 
 use std::alloc::{AllocError, Global};

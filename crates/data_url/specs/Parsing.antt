@@ -1,0 +1,53 @@
+-- What the steps of the MIME parser give, for its private contracts. Texts are lists of code points.
+use Rattle.std.specs.Prelude.{◌≡◌, ℕ, ◌&&◌, Bool, cond, List, [], ◌∷◌, ◌++◌, Option, None, Some, map}
+use Rattle.std.specs.Char.{to_ascii_lowercase}
+use Rattle.std.specs.Str.{chars}
+use Rattle.data_url.specs.CodePoints.{is_http_whitespace}
+use Rattle.data_url.specs.Mime.{BeginsParameters, DoesNotBegin, Every, GivesValue, IsHead, IsParameter, Item, Pair, QuotedOpen, has_name, valid_of}
+use Rattle.data_url.specs.declared.mime.parse.Parameter.{Parameter}
+use Rattle.data_url.specs.declared.mime.parse.Value.{Value}
+use Rattle.data_url.specs.declared.mime.parse.Value.TheVariants as slices
+
+-- t is s without its longest front of code points that pass
+pub record IsTrimmedFront (p : ℕ → Bool) (s t : List ℕ) : Type 0 where
+  pub front : List ℕ
+  pub joined : s ≡ front ++ t
+  pub at_front : Every p front
+  pub begins : DoesNotBegin p t
+
+-- x, which stands behind a name, is what gives the value and then the rest
+pub record HasValueBefore (x : List ℕ) (value : Option (List ℕ)) (rest : List ℕ) : Type 0 where
+  pub tail : List ℕ
+  pub joined : x ≡ tail ++ rest
+  pub gives : GivesValue tail rest value
+  pub begins : BeginsParameters rest
+
+-- s, which stands behind ';', is what makes the item with that ';', and then the rest
+pub record HasParameterBefore (s : List ℕ) (item : Item) (rest : List ℕ) : Type 0 where
+  pub text : List ℕ
+  pub joined : 59 ∷ s ≡ text ++ rest
+  pub is_parameter : IsParameter text rest item
+  pub begins : BeginsParameters rest
+
+-- the slices spell the value
+abbrev pub IsValue : Value → Option (List ℕ) → Type 0
+IsValue slices.Missing value = value ≡ None
+IsValue (slices.Plain text) value = value ≡ Some (chars text.now)
+IsValue (slices.Quoted text) value = (w : List ℕ) × (value ≡ Some w) × QuotedOpen (chars text.now) w
+
+-- the slices spell the item
+pub record IsItem (parameter : Parameter) (item : Item) : Type 0 where
+  pub name : item.0 ≡ map to_ascii_lowercase (chars parameter.name.now)
+  pub value : IsValue parameter.value item.1
+
+-- the pair that an item adds to those that are kept: none where its name is there
+abbrev pub unless_named : List Pair → List Pair → List Pair
+unless_named earlier [] = []
+unless_named earlier (p ∷ ps) = cond (has_name p.0 earlier) [] (p ∷ [])
+
+abbrev pub added : List Pair → Item → List Pair
+added earlier item = unless_named earlier (valid_of item)
+
+-- no head is that of the text
+abbrev pub HasNoHead : List ℕ → Type 0
+HasNoHead s = (type_ subtype parameters : List ℕ) → IsHead s type_ subtype parameters → ⊥

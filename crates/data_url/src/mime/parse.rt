@@ -1,0 +1,55 @@
+//! Reads a MIME type (MIME Sniffing Standard, section 4.4).
+
+ghost use Rattle.std.specs.Prelude.{◌≡◌, ◌++◌, ◌∷◌, List, ℕ, Option, MatchOption, IfOk, IsTrue, map};
+ghost use Rattle.std.specs.List.{list_all};
+ghost use Rattle.std.specs.Str.{chars};
+ghost use Rattle.data_url.specs.CodePoints.{is_quotable};
+ghost use Rattle.data_url.specs.Mime.{BeginsParameters, IsHead, Item, Items, Pair, Quoted, QuotedOpen, is_lowercase_name, kept};
+ghost use Rattle.data_url.specs.Parsing.{HasNoHead, HasParameterBefore, HasValueBefore, IsItem, IsValue, added};
+ghost use Rattle.data_url.specs.Seen.{code_points, pair_of};
+
+use super::cuts::{split_name, split_semicolon, without_end, without_front};
+use super::tokens::{is_token_text, split_tokens};
+use std::alloc::{AllocError, Global};
+
+/// The type, the subtype and the parameters of a text, as they stand there.
+pub(super) struct Head<'a> {
+    pub(super) type_: &'a str,
+    pub(super) subtype: &'a str,
+    pub(super) parameters: &'a str,
+}
+
+/// One parameter, as it stands in the text, and what stands behind it.
+struct Parameter<'a> {
+    name: &'a str,
+    value: Value<'a>,
+    rest: &'a str,
+}
+
+/// A value as it stands in the text.
+enum Value<'a> {
+    Missing,
+    Plain(&'a str),
+    /// What stands between the quotes, or behind the first one up to the end.
+    Quoted(&'a str),
+}
+
+/// The parts of a MIME type, if the text is one.
+pub(super) fn read_head(text: &str) -> Option<Head<'_>>
+    ensures { MatchOption result (HasNoHead (chars text.now)) (λ h. IsHead (chars text.now) (chars h.type_.now) (chars h.subtype.now) (chars h.parameters.now)) }
+{
+    let (type_, rest) = split_tokens(without_end(without_front(text)));
+    let (subtype, rest) = split_tokens(rest.strip_prefix('/')?);
+    let parameters = without_front(rest);
+    if type_.is_empty() || subtype.is_empty() {
+        return None;
+    }
+    if !parameters.is_empty() && !parameters.starts_with(';') {
+        return None;
+    }
+    Some(Head {
+        type_,
+        subtype,
+        parameters,
+    })
+}
