@@ -1,7 +1,7 @@
 -- Texts cut by what a pattern of std finds, as texts of code points.
 use Rattle.std.proofs.Common.{◌≡◌, ℕ, zero, suc, ◌+◌, ◌-◌, ◌<◌, ◌≤◌, ◌==◌, ◌||◌, ◌&&◌, Bool, true, false, not, List, [], ◌∷◌, ◌++◌, length, take, drop, Option, None, Some, encode_utf8, encode_utf8_all, refl, sym, ap, ap₂, ◌∙◌, subst, append_assoc, append-nil, arith, inl, inr, take-append-drop, drop_of_length-le, length-take-le, eqb-true, ⊎_elim}
 use Rattle.std.proofs.lemmas.Bool.{and_parts, both_ways, cases_eq, eq-eqb, false_from_ne_true, ne_eqb, not_from_false, not_from_true, or_cases}
-use Rattle.std.proofs.lemmas.Str.{IsCharBoundary-at_seam, IsUtf8-append, IsUtf8-drop, IsUtf8-from_ascii, IsUtf8-past_char, IsUtf8-take, chars-IsAscii, chars-append, chars-nil, chars_from_encodes, chars_past_char, encode_ascii, encodes-append, encodes-chars, len_utf8_bounds, scalars-chars}
+use Rattle.std.proofs.lemmas.Str.{IsCharBoundary-at_seam, IsUtf8-append, IsUtf8-drop, IsUtf8-from_ascii, IsUtf8-nil, IsUtf8-past_char, IsUtf8-take, chars-IsAscii, chars-append, chars-nil, chars_from_encodes, chars_past_char, encode_ascii, encodes-append, encodes-chars, len_utf8_bounds, scalars-chars}
 use Rattle.std.proofs.lemmas.Str.Ascii.{IsAscii-cons, IsAscii-nil}
 use lib.Utf8.{scalar}
 use Rattle.std.specs.Char.{IsScalar, char_set_contains, len_utf8}
@@ -32,6 +32,7 @@ pub record IsCut (t : ℕ → Bool) (s front behind : List ℕ) : Type 0 where
   pub joined : chars s ≡ chars front ++ chars behind
   pub in_front : Without t (chars front)
   pub begins : DoesNotBegin (λ c. not (t c)) (chars behind)
+  pub text : IsUtf8 front × IsUtf8 behind
 
 without_from_none : (t : ℕ → Bool) (cs : List ℕ) → NonePass t cs → Without t cs
 without_from_none t [] h = tt
@@ -47,13 +48,15 @@ pub cut_at : (t : ℕ → Bool) (s front behind : List ℕ) (i j c : ℕ) → Is
 cut_at t s front behind i j c u b n e h f g = rw (f, g) (record {
   joined = ap chars (sym (take-append-drop i s)) ∙ chars-append (take i s) (drop i s) (IsUtf8-take s i u b);
   in_front = without_chars t (take i s) (IsUtf8-take s i u b) n;
-  begins = subst (DoesNotBegin (λ d. not (t d))) (sym (chars_at s i j c (IsUtf8-drop s i u b) h)) (not_from_true (t c) e) })
+  begins = subst (DoesNotBegin (λ d. not (t d))) (sym (chars_at s i j c (IsUtf8-drop s i u b) h)) (not_from_true (t c) e);
+  text = (IsUtf8-take s i u b, IsUtf8-drop s i u b) })
 
 pub cut_none : (t : ℕ → Bool) (s : List ℕ) → IsUtf8 s → NoCharPasses t s → IsCut t s s []
 cut_none t s u n = record {
   joined = sym (ap (λ x. chars s ++ x) chars-nil ∙ append-nil (chars s));
   in_front = without_chars t s u n;
-  begins = subst (DoesNotBegin (λ d. not (t d))) (sym chars-nil) tt }
+  begins = subst (DoesNotBegin (λ d. not (t d))) (sym chars-nil) tt;
+  text = (u, IsUtf8-nil) }
 
 -- The front taken off
 

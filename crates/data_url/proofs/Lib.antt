@@ -4,3 +4,4 @@ pub mod ItemLemmas
 pub mod CutLemmas
 pub mod RecordLemmas
 pub mod TokenLemmas
+pub mod HeadLemmas

@@ -60,15 +60,15 @@ space_no_token : (c : ℕ) → is_http_whitespace c ≡ true → is_token c ≡ 
 unfolding is_token
 space_no_token c h = ⊎_elim (λ e. ap is_token (eqb-true c 9 e)) (λ h. ⊎_elim (λ e. ap is_token (eqb-true c 10 e)) (λ h. ⊎_elim (λ e. ap is_token (eqb-true c 13 e)) (λ e. ap is_token (eqb-true c 32 e)) (or_cases (c == 13) (c == 32) h)) (or_cases (c == 10) ((c == 13) || (c == 32)) h)) (or_cases (c == 9) ((c == 10) || ((c == 13) || (c == 32))) h)
 
-semicolon_no_token : is_token 59 ≡ false
+pub semicolon_no_token : is_token 59 ≡ false
 unfolding is_token
 semicolon_no_token = refl
 
-slash_no_token : is_token 47 ≡ false
+pub slash_no_token : is_token 47 ≡ false
 unfolding is_token
 slash_no_token = refl
 
-gap_no_token : (gap r : List ℕ) → Every is_http_whitespace gap → BeginsParameters r → DoesNotBegin is_token (gap ++ r)
+pub gap_no_token : (gap r : List ℕ) → Every is_http_whitespace gap → BeginsParameters r → DoesNotBegin is_token (gap ++ r)
 gap_no_token [] r g b = ends_of_rest is_token semicolon_no_token r b
 gap_no_token (c ∷ gap) r g b = space_no_token c g.0
 

@@ -83,6 +83,7 @@ pub record IsSplit (bs front behind : List ℕ) : Type 0 where
   pub joined : chars bs ≡ chars front ++ chars behind
   pub in_front : Every is_token (chars front)
   pub begins : DoesNotBegin is_token (chars behind)
+  pub text : IsUtf8 front × IsUtf8 behind
 
 tokens_front_ascii : (bs : List ℕ) → IsAscii (take (prefix_len is_token bs) bs)
 tokens_front_ascii bs = subst IsAscii (sym (take_front is_token bs)) (all_tokens_ascii (front_of is_token bs) (all_from_every is_token (front_of is_token bs) (front_passes is_token bs)))
@@ -94,7 +95,8 @@ pub is_split : (bs : List ℕ) → IsUtf8 bs → IsSplit bs (take (prefix_len is
 is_split bs u = record {
   joined = ap chars (sym (take-append-drop (prefix_len is_token bs) bs)) ∙ chars-append (take (prefix_len is_token bs) bs) (drop (prefix_len is_token bs) bs) (IsUtf8-from_ascii (take (prefix_len is_token bs) bs) (tokens_front_ascii bs));
   in_front = subst (Every is_token) (sym (chars-IsAscii (take (prefix_len is_token bs) bs) (tokens_front_ascii bs)) ) (subst (Every is_token) (sym (take_front is_token bs)) (front_passes is_token bs));
-  begins = not_begins_chars is_token token_below (drop (prefix_len is_token bs) bs) (IsUtf8-drop bs (prefix_len is_token bs) u (tokens_boundary bs u)) (subst (DoesNotBegin is_token) (sym (drop_front is_token bs)) (behind_begins is_token bs)) }
+  begins = not_begins_chars is_token token_below (drop (prefix_len is_token bs) bs) (IsUtf8-drop bs (prefix_len is_token bs) u (tokens_boundary bs u)) (subst (DoesNotBegin is_token) (sym (drop_front is_token bs)) (behind_begins is_token bs));
+  text = (IsUtf8-from_ascii (take (prefix_len is_token bs) bs) (tokens_front_ascii bs), IsUtf8-drop bs (prefix_len is_token bs) u (tokens_boundary bs u)) }
 
 pub tokens_boundary_at : (bs text : List ℕ) (n : ℕ) → IsUtf8 text → n ≡ prefix_len is_token bs → bs ≡ text → IsCharBoundary text n
 tokens_boundary_at bs text n u e b = subst (IsCharBoundary text) (sym (e ∙ ap (prefix_len is_token) b)) (tokens_boundary text u)

@@ -1,7 +1,7 @@
 //! Texts cut at a code point, and HTTP whitespace taken off.
 
 ghost use Rattle.std.specs.Prelude.{◌≡◌, ◌++◌, not};
-ghost use Rattle.std.specs.Str.{chars};
+ghost use Rattle.std.specs.Str.{IsUtf8, chars};
 ghost use Rattle.data_url.specs.CodePoints.{ends_name, is_http_whitespace, is_semicolon};
 ghost use Rattle.data_url.specs.Mime.{BeginsParameters, DoesNotBegin, IsTrimmedEnd, Without};
 ghost use Rattle.data_url.specs.Parsing.{IsTrimmedFront};
@@ -28,6 +28,7 @@ pub(super) fn split_name(text: &str) -> (&str, &str)
     ensures joined { chars text.now ≡ chars result.0.now ++ chars result.1.now }
     ensures front { Without ends_name (chars result.0.now) }
     ensures behind { DoesNotBegin (λ c. not (ends_name c)) (chars result.1.now) }
+    ensures text { IsUtf8 result.0.now × IsUtf8 result.1.now }
 {
     match text.find([';', '=']) {
         Some(place) => text.split_at(place),
@@ -40,6 +41,7 @@ pub(super) fn split_semicolon(text: &str) -> (&str, &str)
     ensures joined { chars text.now ≡ chars result.0.now ++ chars result.1.now }
     ensures front { Without is_semicolon (chars result.0.now) }
     ensures behind { BeginsParameters (chars result.1.now) }
+    ensures text { IsUtf8 result.0.now × IsUtf8 result.1.now }
 {
     match text.find(';') {
         Some(place) => text.split_at(place),

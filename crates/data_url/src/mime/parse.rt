@@ -1,6 +1,7 @@
 //! Reads a MIME type (MIME Sniffing Standard, section 4.4).
 
 ghost use Rattle.std.specs.Prelude.{◌≡◌, ◌++◌, ◌∷◌, List, ℕ, Option, MatchOption, IfOk, IsTrue, map};
+ghost use Rattle.std.specs.Bool.{MatchBool};
 ghost use Rattle.std.specs.List.{list_all};
 ghost use Rattle.std.specs.Str.{chars};
 ghost use Rattle.data_url.specs.CodePoints.{is_quotable};
@@ -41,10 +42,7 @@ pub(super) fn read_head(text: &str) -> Option<Head<'_>>
     let (type_, rest) = split_tokens(without_end(without_front(text)));
     let (subtype, rest) = split_tokens(rest.strip_prefix('/')?);
     let parameters = without_front(rest);
-    if type_.is_empty() || subtype.is_empty() {
-        return None;
-    }
-    if !parameters.is_empty() && !parameters.starts_with(';') {
+    if type_.is_empty() || subtype.is_empty() || !begins_parameters(parameters) {
         return None;
     }
     Some(Head {
@@ -52,4 +50,11 @@ pub(super) fn read_head(text: &str) -> Option<Head<'_>>
         subtype,
         parameters,
     })
+}
+
+// Whether a text is empty or begins with `;`.
+fn begins_parameters(text: &str) -> bool
+    ensures { MatchBool result (BeginsParameters (chars text.now)) (¬ (BeginsParameters (chars text.now))) }
+{
+    text.is_empty() || text.starts_with(';')
 }

@@ -2,7 +2,7 @@
 
 ghost use Rattle.std.specs.Prelude.{◌≡◌, ◌++◌};
 ghost use Rattle.std.specs.List.{prefix_len};
-ghost use Rattle.std.specs.Str.{chars};
+ghost use Rattle.std.specs.Str.{IsUtf8, chars};
 ghost use Rattle.data_url.specs.CodePoints.{is_token};
 ghost use Rattle.data_url.specs.Mime.{DoesNotBegin, Every, is_token_text};
 
@@ -59,6 +59,7 @@ pub(super) fn split_tokens(text: &str) -> (&str, &str)
     ensures joined { chars text.now ≡ chars result.0.now ++ chars result.1.now }
     ensures front { Every is_token (chars result.0.now) }
     ensures behind { DoesNotBegin is_token (chars result.1.now) }
+    ensures text { IsUtf8 result.0.now × IsUtf8 result.1.now }
 {
     text.split_at(first_other(text.as_bytes()))
 }

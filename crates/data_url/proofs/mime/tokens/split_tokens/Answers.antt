@@ -7,4 +7,4 @@ split_at-requires c = tokens_boundary_at c.as_bytes.result.now c.args.text.now c
 pub returns : goal.returns
 returns c =
     let s = split_at_other c.as_bytes.result.now c.args.text.now c.split_at.result.0.now c.split_at.result.1.now c.first_other.result c.utf8.text c.first_other.ensures c.as_bytes.ensures.value c.split_at.ensures.front c.split_at.ensures.back in
-    record { joined = s.joined; front = s.in_front; behind = s.begins }
+    record { joined = s.joined; front = s.in_front; behind = s.begins; text = s.text }
