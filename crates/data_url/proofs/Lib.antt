@@ -5,3 +5,4 @@ pub mod CutLemmas
 pub mod RecordLemmas
 pub mod TokenLemmas
 pub mod HeadLemmas
+pub mod QuoteLemmas

@@ -67,7 +67,7 @@ quoted_nil : Quoted [] []
 quoted_nil = record { units = []; each = tt; text_is = refl; value_is = refl }
 
 -- what stands before a text that is read behind a backslash or not
-abbrev flagged : Bool → List ℕ → List ℕ
+abbrev pub flagged : Bool → List ℕ → List ℕ
 flagged false s = s
 flagged true s = 92 ∷ s
 

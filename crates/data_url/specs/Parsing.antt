@@ -1,9 +1,9 @@
 -- What the steps of the MIME parser give, for its private contracts. Texts are lists of code points.
 use Rattle.std.specs.Prelude.{◌≡◌, ℕ, ◌&&◌, Bool, cond, List, [], ◌∷◌, ◌++◌, Option, None, Some, map}
 use Rattle.std.specs.Char.{to_ascii_lowercase}
-use Rattle.std.specs.Str.{chars}
+use Rattle.std.specs.Str.{IsUtf8, chars}
 use Rattle.data_url.specs.CodePoints.{is_http_whitespace}
-use Rattle.data_url.specs.Mime.{BeginsParameters, DoesNotBegin, Every, GivesValue, IsHead, IsParameter, Item, Pair, QuotedOpen, has_name, valid_of}
+use Rattle.data_url.specs.Mime.{BeginsParameters, DoesNotBegin, Every, GivesValue, IsHead, IsParameter, Item, Pair, Quoted, QuotedOpen, has_name, valid_of}
 use Rattle.data_url.specs.declared.mime.parse.Parameter.{Parameter}
 use Rattle.data_url.specs.declared.mime.parse.Value.{Value}
 use Rattle.data_url.specs.declared.mime.parse.Value.TheVariants as slices
@@ -28,6 +28,17 @@ pub record HasParameterBefore (s : List ℕ) (item : Item) (rest : List ℕ) : T
   pub joined : 59 ∷ s ≡ text ++ rest
   pub is_parameter : IsParameter text rest item
   pub begins : BeginsParameters rest
+
+-- a quoted string whose closing quote is missing
+abbrev pub IsOpen : List ℕ → Type 0
+IsOpen text = (value : List ℕ) × QuotedOpen text value
+
+-- of the bytes of a text: a quoted string, its closing quote, and what stands behind it
+pub record IsClosed (text quoted behind : List ℕ) : Type 0 where
+  pub value : List ℕ
+  pub is_quoted : Quoted (chars quoted) value
+  pub joined : chars text ≡ chars quoted ++ (34 ∷ chars behind)
+  pub utf8 : IsUtf8 behind
 
 -- the slices spell the value
 abbrev pub IsValue : Value → Option (List ℕ) → Type 0

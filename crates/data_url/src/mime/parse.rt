@@ -5,8 +5,8 @@ ghost use Rattle.std.specs.Bool.{MatchBool};
 ghost use Rattle.std.specs.List.{list_all};
 ghost use Rattle.std.specs.Str.{chars};
 ghost use Rattle.data_url.specs.CodePoints.{is_quotable};
-ghost use Rattle.data_url.specs.Mime.{BeginsParameters, IsHead, Item, Items, Pair, Quoted, QuotedOpen, is_lowercase_name, kept};
-ghost use Rattle.data_url.specs.Parsing.{HasNoHead, HasParameterBefore, HasValueBefore, IsItem, IsValue, added};
+ghost use Rattle.data_url.specs.Mime.{BeginsParameters, DoesNotBegin, IsHead, Item, Items, Pair, Quoted, QuotedOpen, is_lowercase_name, is_quote, kept};
+ghost use Rattle.data_url.specs.Parsing.{HasNoHead, HasParameterBefore, HasValueBefore, IsClosed, IsItem, IsOpen, IsValue, added};
 ghost use Rattle.data_url.specs.Seen.{code_points, pair_of};
 
 use super::cuts::{split_name, split_semicolon, without_end, without_front};
@@ -57,4 +57,62 @@ fn begins_parameters(text: &str) -> bool
     ensures { MatchBool result (BeginsParameters (chars text.now)) (¬ (BeginsParameters (chars text.now))) }
 {
     text.is_empty() || text.starts_with(';')
+}
+
+// The parameter that a text begins with, behind its `;`.
+fn read_parameter(text: &str) -> Parameter<'_>
+    ensures { (item : Item) × IsItem result item × HasParameterBefore (chars text.now) item (chars result.rest.now) }
+{
+    let (name, tail) = split_name(without_front(text));
+    let Some(value) = tail.strip_prefix('=') else {
+        return Parameter {
+            name,
+            value: Value::Missing,
+            rest: tail,
+        };
+    };
+    let (value, rest) = read_value(value);
+    Parameter { name, value, rest }
+}
+
+// The value that stands behind a `=`, and what stands behind it.
+fn read_value(text: &str) -> (Value<'_>, &str)
+    ensures { (value : Option (List ℕ)) × IsValue result.0 value × HasValueBefore (61 ∷ chars text.now) value (chars result.1.now) }
+{
+    let Some(quoted) = text.strip_prefix('"') else {
+        return read_plain(text);
+    };
+    let Some((value, behind)) = split_quote(quoted) else {
+        return (Value::Quoted(quoted), "");
+    };
+    let (_, rest) = split_semicolon(behind);
+    (Value::Quoted(value), rest)
+}
+
+// The same of a value that begins with no `"`.
+fn read_plain(text: &str) -> (Value<'_>, &str)
+    requires { DoesNotBegin is_quote (chars text.now) }
+    ensures { (value : Option (List ℕ)) × IsValue result.0 value × HasValueBefore (61 ∷ chars text.now) value (chars result.1.now) }
+{
+    let (value, rest) = split_semicolon(text);
+    let value = without_end(value);
+    if value.is_empty() {
+        (Value::Missing, rest)
+    } else {
+        (Value::Plain(value), rest)
+    }
+}
+
+// What stands before the quote that closes a quoted string, and behind it.
+fn split_quote(text: &str) -> Option<(&str, &str)>
+    ensures { MatchOption result (IsOpen (chars text.now)) (λ parts. IsClosed text.now parts.0.now parts.1.now) }
+{
+    let mut escaped = false;
+    for (place, byte) in text.as_bytes().iter().enumerate() {
+        if *byte == b'"' && !escaped {
+            return Some((&text[..place], &text[place + 1..]));
+        }
+        escaped = *byte == b'\\' && !escaped;
+    }
+    None
 }
