@@ -13,7 +13,7 @@ use Rattle.data_url.proofs.TextLemmas.{behind_front, behind_is, front_is, front_
 use Rattle.data_url.proofs.ItemLemmas.{ends_of_rest, tail_equal}
 use Rattle.data_url.proofs.RecordLemmas.{all_from_every, every_token, gap_no_token, slash_no_token, trimmed_is}
 
-not_begins_left : (p : ℕ → Bool) (a b : List ℕ) → DoesNotBegin p (a ++ b) → DoesNotBegin p a
+pub not_begins_left : (p : ℕ → Bool) (a b : List ℕ) → DoesNotBegin p (a ++ b) → DoesNotBegin p a
 not_begins_left p [] b h = tt
 not_begins_left p (c ∷ a) b h = h
 

@@ -125,7 +125,7 @@ equals_reading c t e = rw e (is_reading_behind t)
 no_reading : (c : ℕ) (t : List ℕ) → c ≡ 59 → IsReading (c ∷ t) (record { value = None; rest = c ∷ t })
 no_reading c t e = record { tail = []; joined = refl; gives = nothing; begins = e }
 
-semicolon_from : (c : ℕ) → in_name c ≡ false → (c == 61) ≡ false → c ≡ 59
+pub semicolon_from : (c : ℕ) → in_name c ≡ false → (c == 61) ≡ false → c ≡ 59
 semicolon_from c h e = ⊎_elim (λ l. eqb-true c 59 l) (λ r. absurd (both_ways (c == 61) e r)) (or_cases (c == 59) (c == 61) (not-false (ends_name c) h))
 
 pub is_reading : (x : List ℕ) → BeginsTail x → IsReading x (reading x)

@@ -6,3 +6,4 @@ pub mod RecordLemmas
 pub mod TokenLemmas
 pub mod HeadLemmas
 pub mod QuoteLemmas
+pub mod ParameterLemmas

@@ -1,17 +1,18 @@
-use Rattle.std.proofs.Common.{rules, ◌≡◌, ◌++◌, ◌∷◌, List, ℕ, Option, MatchOption, IfOk, IsTrue, map, ◌+◌, ◌-◌, ◌*◌, ◌<◌, ◌≤◌, length, ◌/◌, ◌%◌, Bool, true, false, nat_eq, nat_lt, [], slice_index_or, slice_set, bit_and, bit_or, Fits, w8, w32, w64, Bor, MutBor}
-use Rattle.std.specs.Bool.{MatchBool}
-use Rattle.std.specs.List.{list_all}
+use Rattle.std.proofs.Common.{None, map, refl}
+use Rattle.std.specs.Char.{to_ascii_lowercase}
 use Rattle.std.specs.Str.{chars}
-use Rattle.data_url.specs.CodePoints.{is_quotable}
-use Rattle.data_url.specs.Mime.{BeginsParameters, DoesNotBegin, IsHead, Item, Items, Pair, Quoted, QuotedOpen, is_lowercase_name, is_quote, kept}
-use Rattle.data_url.specs.Parsing.{HasNoHead, HasParameterBefore, HasValueBefore, IsClosed, IsItem, IsOpen, IsValue, added}
-use Rattle.data_url.specs.Seen.{code_points, pair_of}
+use Rattle.data_url.proofs.ParameterLemmas.{named_value_before, no_value, parameter_before, stripped_chars}
 use Rattle.data_url.proofs.mime.parse.read_parameter.Goals as goal
 
--- src/mime/parse.rt:68:9
 pub returns-in_default : goal.returns-in_default
-returns-in_default c = ?
+returns-in_default c =
+    let s = c.split_name.ensures in
+    let v = no_value c.split_name.result.1.now s.text.1 s.behind c.in_default.ensures.cases in
+    ((map to_ascii_lowercase (chars c.split_name.result.0.now), None), record { name = refl; value = refl }, parameter_before _ _ _ _ _ _ c.without_front.ensures s.joined s.front v)
 
--- src/mime/parse.rt:63:1
 pub returns : goal.returns
-returns c = ?
+returns c =
+    let s = c.split_name.ensures in
+    let e = stripped_chars c.split_name.result.1.now c.in-Some.value.now 61 _ s.text.1 c.in-Some.ensures.cases.1 c.in-Some.ensures.cases.2 in
+    let r = c.read_value.ensures in
+    ((map to_ascii_lowercase (chars c.split_name.result.0.now), r.0), record { name = refl; value = r.1 }, parameter_before _ _ _ _ _ _ c.without_front.ensures s.joined s.front (named_value_before _ _ _ _ e r.2))

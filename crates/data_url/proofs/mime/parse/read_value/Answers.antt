@@ -1,21 +1,20 @@
-use Rattle.std.proofs.Common.{rules, ◌≡◌, ◌++◌, ◌∷◌, List, ℕ, Option, MatchOption, IfOk, IsTrue, map, ◌+◌, ◌-◌, ◌*◌, ◌<◌, ◌≤◌, length, ◌/◌, ◌%◌, Bool, true, false, nat_eq, nat_lt, [], slice_index_or, slice_set, bit_and, bit_or, Fits, w8, w32, w64, Bor, MutBor}
-use Rattle.std.specs.Bool.{MatchBool}
-use Rattle.std.specs.List.{list_all}
+use Rattle.std.proofs.Common.{Some, inl, refl}
 use Rattle.std.specs.Str.{chars}
-use Rattle.data_url.specs.CodePoints.{is_quotable}
-use Rattle.data_url.specs.Mime.{BeginsParameters, DoesNotBegin, IsHead, Item, Items, Pair, Quoted, QuotedOpen, is_lowercase_name, is_quote, kept}
-use Rattle.data_url.specs.Parsing.{HasNoHead, HasParameterBefore, HasValueBefore, IsClosed, IsItem, IsOpen, IsValue, added}
-use Rattle.data_url.specs.Seen.{code_points, pair_of}
+use Rattle.data_url.proofs.ParameterLemmas.{closed_value_before, not_quote, open_value_before, stripped_chars}
 use Rattle.data_url.proofs.mime.parse.read_value.Goals as goal
 
--- src/mime/parse.rt:83:9
 pub read_plain-requires : goal.read_plain-requires
-read_plain-requires c = ?
+read_plain-requires c = not_quote c.args.text.now c.utf8.text c.in_default.ensures.cases
 
--- src/mime/parse.rt:86:9
 pub returns-in_default-split_quote : goal.returns-in_default-split_quote
-returns-in_default-split_quote c = ?
+returns-in_default-split_quote c =
+    let e = stripped_chars c.args.text.now c.in-Some.quoted.now 34 _ c.utf8.text c.in-Some.ensures.cases.1 c.in-Some.ensures.cases.2 in
+    let h = c.in_default-split_quote.ensures in
+    (Some h.0, (h.0, refl, h.1), open_value_before (chars c.args.text.now) (chars c.in-Some.quoted.now) h.0 e h.1)
 
--- src/mime/parse.rt:79:1
 pub returns : goal.returns
-returns c = ?
+returns c =
+    let e = stripped_chars c.args.text.now c.in-Some.quoted.now 34 _ c.utf8.text c.in-Some.ensures.cases.1 c.in-Some.ensures.cases.2 in
+    let h = c.in-Some-split_quote.ensures in
+    let s = c.split_semicolon.ensures in
+    (Some h.value, (h.value, refl, inl h.is_quoted), closed_value_before _ _ _ _ _ _ _ e h.joined h.is_quoted s.joined s.front s.behind)
