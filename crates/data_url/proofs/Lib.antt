@@ -7,3 +7,4 @@ pub mod TokenLemmas
 pub mod HeadLemmas
 pub mod QuoteLemmas
 pub mod ParameterLemmas
+pub mod ValueLemmas

@@ -1,12 +1,14 @@
 -- What the steps of the MIME parser give, for its private contracts. Texts are lists of code points.
-use Rattle.std.specs.Prelude.{◌≡◌, ℕ, ◌&&◌, Bool, cond, List, [], ◌∷◌, ◌++◌, Option, None, Some, map}
+use Rattle.std.specs.Prelude.{◌≡◌, ℕ, ◌==◌, ◌||◌, Bool, cond, List, [], ◌∷◌, ◌++◌, Option, None, Some, map}
 use Rattle.std.specs.Char.{to_ascii_lowercase}
+use Rattle.std.specs.Int.{is_in_range}
+use Rattle.std.specs.List.{list_all}
 use Rattle.std.specs.Str.{IsUtf8, chars}
-use Rattle.data_url.specs.CodePoints.{is_http_whitespace}
+use Rattle.data_url.specs.CodePoints.{is_quotable}
 use Rattle.data_url.specs.Mime.{BeginsParameters, DoesNotBegin, Every, GivesValue, IsHead, IsParameter, Item, Pair, Quoted, QuotedOpen, has_name, valid_of}
 use Rattle.data_url.specs.declared.mime.parse.Parameter.{Parameter}
-use Rattle.data_url.specs.declared.mime.parse.Value.{Value}
-use Rattle.data_url.specs.declared.mime.parse.Value.TheVariants as slices
+use Rattle.data_url.specs.declared.mime.values.Value.{Value}
+use Rattle.data_url.specs.declared.mime.values.Value.TheVariants as slices
 
 -- t is s without its longest front of code points that pass
 pub record IsTrimmedFront (p : ℕ → Bool) (s t : List ℕ) : Type 0 where
@@ -45,6 +47,15 @@ abbrev pub IsValue : Value → Option (List ℕ) → Type 0
 IsValue slices.Missing value = value ≡ None
 IsValue (slices.Plain text) value = value ≡ Some (chars text.now)
 IsValue (slices.Quoted text) value = (w : List ℕ) × (value ≡ Some w) × QuotedOpen (chars text.now) w
+
+-- a byte of the UTF-8 of quoted-string code points
+unfoldable pub is_quotable_byte : ℕ → Bool
+is_quotable_byte b = (b == 9) || is_in_range 32 126 b || is_in_range 128 195 b
+
+-- the value, if it has quoted-string code points alone
+abbrev pub quotable_value : Option (List ℕ) → Option (List ℕ)
+quotable_value None = None
+quotable_value (Some value) = cond (list_all is_quotable value) (Some value) None
 
 -- the slices spell the item
 pub record IsItem (parameter : Parameter) (item : Item) : Type 0 where

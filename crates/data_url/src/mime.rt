@@ -5,6 +5,7 @@ ghost use Rattle.std.specs.Prelude.{◌≡◌, ◌↔◌, IfOk, IsTrue, [], Matc
 mod cuts;
 mod parse;
 mod tokens;
+mod values;
 
 use std::alloc::{AllocError, Global};
 

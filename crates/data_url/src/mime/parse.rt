@@ -11,6 +11,7 @@ ghost use Rattle.data_url.specs.Seen.{code_points, pair_of};
 
 use super::cuts::{split_name, split_semicolon, without_end, without_front};
 use super::tokens::{is_token_text, split_tokens};
+use super::values::{Value, lowercased};
 use std::alloc::{AllocError, Global};
 
 /// The type, the subtype and the parameters of a text, as they stand there.
@@ -25,14 +26,6 @@ struct Parameter<'a> {
     name: &'a str,
     value: Value<'a>,
     rest: &'a str,
-}
-
-/// A value as it stands in the text.
-enum Value<'a> {
-    Missing,
-    Plain(&'a str),
-    /// What stands between the quotes, or behind the first one up to the end.
-    Quoted(&'a str),
 }
 
 /// The parts of a MIME type, if the text is one.
