@@ -1,16 +1,17 @@
 -- Values as texts of their own.
 use Rattle.std.proofs.Common.{◌≡◌, ℕ, suc, ◌+◌, ◌-◌, ◌*◌, ◌/◌, ◌%◌, ◌<◌, ◌≤◌, ◌==◌, ◌||◌, ◌&&◌, Bool, true, false, not, cond, List, [], ◌∷◌, ◌++◌, length, get_or, take, drop, Option, None, Some, encode_utf8, encode_utf8_all, refl, sym, ap, ap₂, ◌∙◌, subst, append_assoc, append-nil, arith, inl, inr, ⊎_elim, ltb, nat_le, drop-cons, drop_of_length-le}
-use Rattle.std.proofs.lemmas.Bool.{agree_below_at, and_left, and_parts, both_ways, cases_lt, cond-false, cond_both, eqb-true, false_from_ne_true, le-ltb, leb-true, or_cases}
+use Rattle.std.proofs.lemmas.Bool.{agree_below_at, cond-true, eq-eqb, ne_eqb, and_left, and_parts, both_ways, cases_lt, cond-false, cond_both, eqb-true, false_from_ne_true, le-ltb, leb-true, or_cases}
 use Rattle.std.proofs.lemmas.List.Folds.{list_all-append}
-use Rattle.std.proofs.lemmas.Str.{IsUtf8-encode, IsUtf8-past_char, chars-append, chars-nil, chars_past_char, encodes-chars}
+use Rattle.std.proofs.lemmas.Str.{IsUtf8-encode, IsUtf8-past_char, chars-append, chars-nil, chars_past_char, cons_from_encodes, encodes-chars}
 use Rattle.std.specs.Char.{IsScalar}
 use Rattle.std.specs.Int.{is_in_range}
 use Rattle.std.specs.List.{list_all}
-use Rattle.std.specs.Str.{IsUtf8, chars}
-use lib.Utf8.{encode, next}
+use Rattle.std.specs.Str.{IsUtf8, all_scalars, chars}
+use lib.Utf8.{encode, next, scalar}
 use Rattle.data_url.specs.CodePoints.{is_quotable}
+use Rattle.data_url.specs.Mime.{QuotedOpen}
 use Rattle.data_url.specs.Parsing.{is_quotable_byte}
-use Rattle.data_url.proofs.QuotedLemmas.{unescaped}
+use Rattle.data_url.proofs.QuotedLemmas.{unescaped, unescaped_is}
 
 -- The bytes of quoted-string code points
 
@@ -58,3 +59,56 @@ fails_at bs text i u b l h e =
 
 pub passes_to_end : (bs text : List ℕ) (i : ℕ) → IsUtf8 text → bs ≡ text → length bs ≤ i → list_all is_quotable_byte (drop i text) ≡ list_all is_quotable_byte text → true ≡ list_all is_quotable (chars text)
 passes_to_end bs text i u b l e = ap (list_all is_quotable_byte) (sym (drop_of_length-le text (subst (λ s. length s ≤ i) b l))) ∙ e ∙ quotable_chars text u
+
+-- The value of a quoted string, written code point by code point
+
+pub then_escaped : (c : ℕ) (e e' : Bool) → c ≡ 92 → e' ≡ not e → e' ≡ ((c == 92) && not e)
+then_escaped c e e' h k = k ∙ ap (λ b. b && not e) (sym (eq-eqb c 92 h))
+
+pub else_escaped : (c : ℕ) (e e' : Bool) → (c ≡ 92 → ⊥) → e' ≡ (c == 92) → e' ≡ ((c == 92) && not e)
+else_escaped c e e' h k = k ∙ ne_eqb c 92 h ∙ ap (λ b. b && not e) (sym (ne_eqb c 92 h))
+
+unescaped_step : (e : Bool) (c : ℕ) (t : List ℕ) → unescaped e (c ∷ t) ≡ cond ((c == 92) && not e) (unescaped true t) (c ∷ unescaped false t)
+unescaped_step true c t = refl
+unescaped_step false c t = refl
+
+scalar_first : (cs r : List ℕ) (c : ℕ) → all_scalars cs ≡ true → encode_utf8_all cs ≡ encode c ++ r → IsScalar c
+scalar_first cs r c s e = let k = cons_from_encodes cs r c e in (and_parts (scalar c) (all_scalars k.0) (ap all_scalars (sym k.1) ∙ s)).0
+
+-- the first code point of a text is one
+pub scalar_from : (r r' : List ℕ) (c : ℕ) → IsUtf8 r → r ≡ encode c ++ r' → IsScalar c
+scalar_from r r' c u e = scalar_first u.0 r' c u.1.0 (u.1.1 ∙ e)
+
+pub chars_encode : (c : ℕ) → IsScalar c → chars (encode c) ≡ c ∷ []
+chars_encode c s = chars_past_char (encode c) [] c (IsUtf8-encode c s) (sym (append-nil (encode c))) ∙ ap (λ t. c ∷ t) chars-nil
+
+pub chars_push : (v : List ℕ) (c : ℕ) → IsUtf8 v → IsScalar c → chars (v ++ encode c) ≡ chars v ++ (c ∷ [])
+chars_push v c u s = chars-append v (encode c) u ∙ ap (λ t. chars v ++ t) (chars_encode c s)
+
+pub unescape_starts : (v r q : List ℕ) → v ≡ [] → r ≡ q → chars v ++ unescaped false (chars r) ≡ unescaped false (chars q)
+unescape_starts v r q e f = rw (e, f, chars-nil) refl
+
+pub unescape_pushes : (v v' r r' whole : List ℕ) (c : ℕ) (e e' : Bool) → IsUtf8 v → IsUtf8 r → r ≡ encode c ++ r' → v' ≡ v ++ encode c → e' ≡ ((c == 92) && not e) → e' ≡ false → chars v ++ unescaped e (chars r) ≡ whole → chars v' ++ unescaped e' (chars r') ≡ whole
+unescape_pushes v v' r r' whole c e e' u w s g k f h =
+  ap₂ (λ x y. x ++ y) (ap chars g ∙ chars_push v c u (scalar_from r r' c w s)) (ap (λ b. unescaped b (chars r')) f)
+  ∙ append_assoc (chars v) (c ∷ []) (unescaped false (chars r'))
+  ∙ ap (λ x. chars v ++ x) (sym (ap (unescaped e) (chars_past_char r r' c w s) ∙ unescaped_step e c (chars r') ∙ cond-false ((c == 92) && not e) (unescaped true (chars r')) (c ∷ unescaped false (chars r')) (sym k ∙ f)))
+  ∙ h
+
+pub unescape_skips : (v r r' whole : List ℕ) (c : ℕ) (e e' : Bool) → IsUtf8 r → r ≡ encode c ++ r' → e' ≡ ((c == 92) && not e) → e' ≡ true → chars v ++ unescaped e (chars r) ≡ whole → chars v ++ unescaped e' (chars r') ≡ whole
+unescape_skips v r r' whole c e e' w s k f h =
+  ap (λ b. chars v ++ unescaped b (chars r')) f
+  ∙ ap (λ x. chars v ++ x) (sym (ap (unescaped e) (chars_past_char r r' c w s) ∙ unescaped_step e c (chars r') ∙ cond-true ((c == 92) && not e) (unescaped true (chars r')) (c ∷ unescaped false (chars r')) (sym k ∙ f)))
+  ∙ h
+
+no_chars : (r : List ℕ) → length r ≡ 0 → chars r ≡ []
+no_chars [] e = chars-nil
+no_chars (b ∷ r) e = absurd (omega arith)
+
+pub unescape_ends : (v v' r q value : List ℕ) (e : Bool) → IsUtf8 v → length r ≡ 0 → e ≡ true → v' ≡ v ++ encode 92 → chars v ++ unescaped e (chars r) ≡ unescaped false (chars q) → QuotedOpen (chars q) value → chars v' ≡ value
+unescape_ends v v' r q value e u l f g h k =
+  ap chars g ∙ chars_push v 92 u refl ∙ ap (λ b. chars v ++ unescaped b []) (sym f) ∙ ap (λ t. chars v ++ unescaped e t) (sym (no_chars r l)) ∙ h ∙ unescaped_is (chars q) value k
+
+pub unescape_ends_plain : (v r q value : List ℕ) (e : Bool) → length r ≡ 0 → e ≡ false → chars v ++ unescaped e (chars r) ≡ unescaped false (chars q) → QuotedOpen (chars q) value → chars v ≡ value
+unescape_ends_plain v r q value e l f h k =
+  sym (append-nil (chars v)) ∙ ap (λ b. chars v ++ unescaped b []) (sym f) ∙ ap (λ t. chars v ++ unescaped e t) (sym (no_chars r l)) ∙ h ∙ unescaped_is (chars q) value k
