@@ -1,16 +1,18 @@
 -- Values as texts of their own.
-use Rattle.std.proofs.Common.{◌≡◌, ℕ, suc, ◌+◌, ◌-◌, ◌*◌, ◌/◌, ◌%◌, ◌<◌, ◌≤◌, ◌==◌, ◌||◌, ◌&&◌, Bool, true, false, not, cond, List, [], ◌∷◌, ◌++◌, length, get_or, take, drop, Option, None, Some, encode_utf8, encode_utf8_all, refl, sym, ap, ap₂, ◌∙◌, subst, append_assoc, append-nil, arith, inl, inr, ⊎_elim, ltb, nat_le, drop-cons, drop_of_length-le}
+use Rattle.std.proofs.Common.{◌≡◌, ℕ, suc, ◌+◌, ◌-◌, ◌*◌, ◌/◌, ◌%◌, ◌<◌, ◌≤◌, ◌==◌, ◌||◌, ◌&&◌, Bool, true, false, not, cond, List, [], ◌∷◌, ◌++◌, length, get_or, take, drop, Option, None, Some, Bor, map, encode_utf8, encode_utf8_all, refl, sym, ap, ap₂, ◌∙◌, subst, append_assoc, append-nil, arith, inl, inr, ⊎_elim, ltb, nat_le, drop-cons, drop_of_length-le}
 use Rattle.std.proofs.lemmas.Bool.{agree_below_at, cond-true, eq-eqb, ne_eqb, and_left, and_parts, both_ways, cases_lt, cond-false, cond_both, eqb-true, false_from_ne_true, le-ltb, leb-true, or_cases}
 use Rattle.std.proofs.lemmas.List.Folds.{list_all-append}
 use Rattle.std.proofs.lemmas.Str.{IsUtf8-encode, IsUtf8-past_char, chars-append, chars-nil, chars_past_char, cons_from_encodes, encodes-chars}
 use Rattle.std.specs.Char.{IsScalar}
 use Rattle.std.specs.Int.{is_in_range}
-use Rattle.std.specs.List.{list_all}
+use Rattle.std.specs.List.{flat_map, list_all}
 use Rattle.std.specs.Str.{IsUtf8, all_scalars, chars}
 use lib.Utf8.{encode, next, scalar}
 use Rattle.data_url.specs.CodePoints.{is_quotable}
-use Rattle.data_url.specs.Mime.{QuotedOpen}
-use Rattle.data_url.specs.Parsing.{is_quotable_byte}
+use Rattle.data_url.specs.Mime.{Escaped, Plain, Quoted, QuotedOpen, QuotedUnit, unit_text, unit_value}
+use Rattle.data_url.specs.Parsing.{IsValue, is_quotable_byte, quotable_value}
+use Rattle.data_url.specs.declared.mime.values.Value.{Value}
+use Rattle.data_url.specs.declared.mime.values.Value.TheVariants as slices
 use Rattle.data_url.proofs.QuotedLemmas.{unescaped, unescaped_is}
 
 -- The bytes of quoted-string code points
@@ -112,3 +114,51 @@ unescape_ends v v' r q value e u l f g h k =
 pub unescape_ends_plain : (v r q value : List ℕ) (e : Bool) → length r ≡ 0 → e ≡ false → chars v ++ unescaped e (chars r) ≡ unescaped false (chars q) → QuotedOpen (chars q) value → chars v ≡ value
 unescape_ends_plain v r q value e l f h k =
   sym (append-nil (chars v)) ∙ ap (λ b. chars v ++ unescaped b []) (sym f) ∙ ap (λ t. chars v ++ unescaped e t) (sym (no_chars r l)) ∙ h ∙ unescaped_is (chars q) value k
+
+-- A quoted string may be asked for quoted-string code points before it is unescaped
+
+backslash_quotable : is_quotable 92 ≡ true
+unfolding is_quotable
+backslash_quotable = refl
+
+escaped_quotable : (c : ℕ) (b : Bool) → (is_quotable 92 && (is_quotable c && b)) ≡ (is_quotable c && b)
+escaped_quotable c b = ap (λ x. x && (is_quotable c && b)) backslash_quotable
+
+units_quotable : (units : List QuotedUnit) → list_all is_quotable (flat_map unit_text units) ≡ list_all is_quotable (map unit_value units)
+units_quotable [] = refl
+units_quotable (Plain c ∷ units) = ap (λ b. is_quotable c && b) (units_quotable units)
+units_quotable (Escaped c ∷ units) = escaped_quotable c (list_all is_quotable (flat_map unit_text units)) ∙ ap (λ b. is_quotable c && b) (units_quotable units)
+
+quoted_same : (q v : List ℕ) → Quoted q v → list_all is_quotable q ≡ list_all is_quotable v
+quoted_same q v h = rw (h.text_is, h.value_is) (units_quotable h.units)
+
+pub quoted_quotable : (q v : List ℕ) → QuotedOpen q v → list_all is_quotable q ≡ list_all is_quotable v
+quoted_quotable q v (inl h) = quoted_same q v h
+quoted_quotable q v (inr (q', v', t, e, h)) =
+  ap (list_all is_quotable) t ∙ list_all-append is_quotable q' (92 ∷ []) ∙ ap (λ b. b && list_all is_quotable (92 ∷ [])) (quoted_same q' v' h) ∙ sym (list_all-append is_quotable v' (92 ∷ [])) ∙ ap (list_all is_quotable) (sym e)
+
+-- What a value's own text is
+
+quotable_some : (v : List ℕ) → list_all is_quotable v ≡ true → quotable_value (Some v) ≡ Some v
+quotable_some v h = cond-true (list_all is_quotable v) (Some v) None h
+
+quotable_none : (v : List ℕ) → list_all is_quotable v ≡ false → quotable_value (Some v) ≡ None
+quotable_none v h = cond-false (list_all is_quotable v) (Some v) None h
+
+pub quoted_text : (self : Value) (text : Bor (List ℕ)) (value : Option (List ℕ)) (code : List ℕ) → self ≡ slices.Quoted text → IsValue self value → true ≡ list_all is_quotable (chars text.now) → ((v : List ℕ) → QuotedOpen (chars text.now) v → code ≡ v) → ◌≡◌ {A = Option (List ℕ)} (Some code) (quotable_value value)
+quoted_text self text value code e i q h =
+  let k = subst (λ s. IsValue s value) e i in
+  ap Some (h k.0 k.2) ∙ sym (ap quotable_value k.1 ∙ quotable_some k.0 (sym (quoted_quotable (chars text.now) k.0 k.2) ∙ sym q))
+
+pub no_quoted_text : (self : Value) (text : Bor (List ℕ)) (value : Option (List ℕ)) → self ≡ slices.Quoted text → IsValue self value → list_all is_quotable (chars text.now) ≡ false → None ≡ quotable_value value
+no_quoted_text self text value e i q =
+  let k = subst (λ s. IsValue s value) e i in
+  sym (ap quotable_value k.1 ∙ quotable_none k.0 (sym (quoted_quotable (chars text.now) k.0 k.2) ∙ q))
+
+pub no_plain_text : (self : Value) (text : Bor (List ℕ)) (value : Option (List ℕ)) → self ≡ slices.Plain text → IsValue self value → list_all is_quotable (chars text.now) ≡ false → None ≡ quotable_value value
+no_plain_text self text value e i q =
+  let k = subst (λ s. IsValue s value) e i in
+  sym (ap quotable_value k ∙ quotable_none (chars text.now) q)
+
+pub missing_text : (self : Value) (value : Option (List ℕ)) → self ≡ slices.Missing → IsValue self value → None ≡ quotable_value value
+missing_text self value e i = let k = subst (λ s. IsValue s value) e i in sym (ap quotable_value k)

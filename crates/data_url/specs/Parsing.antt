@@ -1,11 +1,11 @@
 -- What the steps of the MIME parser give, for its private contracts. Texts are lists of code points.
-use Rattle.std.specs.Prelude.{◌≡◌, ℕ, ◌==◌, ◌||◌, Bool, cond, List, [], ◌∷◌, ◌++◌, Option, None, Some, map}
+use Rattle.std.specs.Prelude.{◌≡◌, ℕ, ◌==◌, ◌||◌, Bool, cond, List, [], ◌∷◌, ◌++◌, Option, None, Some, IsTrue, map}
 use Rattle.std.specs.Char.{to_ascii_lowercase}
 use Rattle.std.specs.Int.{is_in_range}
 use Rattle.std.specs.List.{list_all}
 use Rattle.std.specs.Str.{IsUtf8, chars}
 use Rattle.data_url.specs.CodePoints.{is_quotable}
-use Rattle.data_url.specs.Mime.{BeginsParameters, DoesNotBegin, Every, GivesValue, IsHead, IsParameter, Item, Pair, Quoted, QuotedOpen, has_name, valid_of}
+use Rattle.data_url.specs.Mime.{BeginsParameters, DoesNotBegin, Every, GivesValue, IsHead, IsParameter, Item, Pair, Quoted, QuotedOpen, has_name, is_lowercase_name, valid_of}
 use Rattle.data_url.specs.declared.mime.parse.Parameter.{Parameter}
 use Rattle.data_url.specs.declared.mime.values.Value.{Value}
 use Rattle.data_url.specs.declared.mime.values.Value.TheVariants as slices
@@ -69,6 +69,10 @@ unless_named earlier (p ∷ ps) = cond (has_name p.0 earlier) [] (p ∷ [])
 
 abbrev pub added : List Pair → Item → List Pair
 added earlier item = unless_named earlier (valid_of item)
+
+-- each name is a lower-case one
+abbrev pub HasLowercaseNames : List Pair → Type 0
+HasLowercaseNames pairs = IsTrue (list_all (λ (p : Pair). is_lowercase_name p.0) pairs)
 
 -- no head is that of the text
 abbrev pub HasNoHead : List ℕ → Type 0

@@ -1,13 +1,13 @@
 //! Reads a MIME type (MIME Sniffing Standard, section 4.4).
 
-ghost use Rattle.std.specs.Prelude.{◌≡◌, ◌++◌, ◌∷◌, List, ℕ, Option, MatchOption, IfOk, IsTrue, map};
+
+ghost use Rattle.std.specs.Prelude.{◌≡◌, ◌++◌, ◌∷◌, List, ℕ, Option, MatchOption, IfOk, IsTrue, OnOk, map};
 ghost use Rattle.std.specs.Bool.{MatchBool};
-ghost use Rattle.std.specs.List.{list_all};
+ghost use Rattle.std.specs.Char.{to_ascii_lowercase};
 ghost use Rattle.std.specs.Str.{chars};
-ghost use Rattle.data_url.specs.CodePoints.{is_quotable};
-ghost use Rattle.data_url.specs.Mime.{BeginsParameters, DoesNotBegin, IsHead, Item, Items, Pair, Quoted, QuotedOpen, is_lowercase_name, is_quote, kept};
-ghost use Rattle.data_url.specs.Parsing.{HasNoHead, HasParameterBefore, HasValueBefore, IsClosed, IsItem, IsOpen, IsValue, added};
-ghost use Rattle.data_url.specs.Seen.{code_points, pair_of};
+ghost use Rattle.data_url.specs.Mime.{BeginsParameters, DoesNotBegin, IsHead, Item, Items, has_name, is_quote, is_token_text, kept};
+ghost use Rattle.data_url.specs.Parsing.{HasLowercaseNames, HasNoHead, HasParameterBefore, HasValueBefore, IsClosed, IsItem, IsOpen, IsValue, added};
+ghost use Rattle.data_url.specs.Seen.{pair_of};
 
 use super::cuts::{split_name, split_semicolon, without_end, without_front};
 use super::tokens::{is_token_text, split_tokens};
@@ -15,6 +15,7 @@ use super::values::{Value, lowercased};
 use std::alloc::{AllocError, Global};
 
 /// The type, the subtype and the parameters of a text, as they stand there.
+#[derive(Clone, Copy)]
 pub(super) struct Head<'a> {
     pub(super) type_: &'a str,
     pub(super) subtype: &'a str,
@@ -22,6 +23,7 @@ pub(super) struct Head<'a> {
 }
 
 /// One parameter, as it stands in the text, and what stands behind it.
+#[derive(Clone, Copy)]
 struct Parameter<'a> {
     name: &'a str,
     value: Value<'a>,
@@ -108,4 +110,53 @@ fn split_quote(text: &str) -> Option<(&str, &str)>
         escaped = *byte == b'\\' && !escaped;
     }
     None
+}
+
+/// The parameters that are kept of a text that is empty or begins with `;`.
+pub(super) fn read_parameters(alloc: Global, text: &str) -> Result<Vec<(String, String)>, AllocError>
+    requires { BeginsParameters (chars text.now) }
+    ensures { IfOk result (λ pairs. (items : List Item) × Items (chars text.now) items × (map (λ p. pair_of p) pairs.items ≡ kept items)) }
+{
+    let mut pairs = Vec::new(alloc);
+    let mut rest = text;
+    while let Some(text) = rest.strip_prefix(';') {
+        let parameter = read_parameter(text);
+        rest = parameter.rest;
+        keep(alloc, &mut pairs, &parameter)?;
+    }
+    Ok(pairs)
+}
+
+// Adds the pair of a parameter, if it is valid and its name is not there yet.
+fn keep(
+    alloc: Global,
+    pairs: &mut Vec<(String, String)>,
+    parameter: &Parameter<'_>,
+) -> Result<(), AllocError>
+    requires { HasLowercaseNames (map (λ p. pair_of p) pairs.old.items) }
+    ensures { OnOk result ((item : Item) → IsItem parameter.now item → map (λ p. pair_of p) pairs.new.items ≡ map (λ p. pair_of p) pairs.old.items ++ added (map (λ p. pair_of p) pairs.old.items) item) }
+{
+    let name = parameter.name;
+    if !is_token_text(name) || has_name(pairs, name) {
+        return Ok(());
+    }
+    let Some(value) = parameter.value.text(alloc)? else {
+        return Ok(());
+    };
+    pairs.push((lowercased(alloc, name)?, value))?;
+    Ok(())
+}
+
+// Whether one of the pairs has the name, in any ASCII case.
+fn has_name(pairs: &[(String, String)], name: &str) -> bool
+    requires lower { HasLowercaseNames (map (λ p. pair_of p) pairs.now) }
+    requires token { IsTrue (is_token_text (chars name.now)) }
+    ensures { result ≡ has_name (map to_ascii_lowercase (chars name.now)) (map (λ p. pair_of p) pairs.now) }
+{
+    for (key, _) in pairs {
+        if key.as_str().eq_ignore_ascii_case(name) {
+            return true;
+        }
+    }
+    false
 }

@@ -13,6 +13,7 @@ ghost use Rattle.data_url.specs.Seen.{code_points};
 use std::alloc::{AllocError, Global};
 
 /// A value as it stands in a text.
+#[derive(Clone, Copy)]
 pub(super) enum Value<'a> {
     Missing,
     Plain(&'a str),
