@@ -8,3 +8,4 @@ pub mod HeadLemmas
 pub mod QuoteLemmas
 pub mod ParameterLemmas
 pub mod ValueLemmas
+pub mod KeptLemmas
