@@ -1,12 +1,12 @@
 //! Values of parameters, as they stand in a text and as texts of their own.
 
-ghost use Rattle.std.specs.Prelude.{◌≡◌, List, ℕ, IfOk, map, string_bytes};
+ghost use Rattle.std.specs.Prelude.{◌≡◌, List, ℕ, IfOk, IsTrue, map};
 ghost use Rattle.std.specs.Char.{to_ascii_lowercase};
 ghost use Rattle.std.specs.List.{list_all};
 ghost use Rattle.std.specs.Option.{option_map};
 ghost use Rattle.std.specs.Str.{chars};
 ghost use Rattle.data_url.specs.CodePoints.{is_quotable};
-ghost use Rattle.data_url.specs.Mime.{QuotedOpen};
+ghost use Rattle.data_url.specs.Mime.{QuotedOpen, is_token_text};
 ghost use Rattle.data_url.specs.Parsing.{IsValue, is_quotable_byte, quotable_value};
 ghost use Rattle.data_url.specs.Seen.{code_points};
 
@@ -76,9 +76,10 @@ fn unescaped(alloc: Global, quoted: &str) -> Result<String, AllocError>
     Ok(value)
 }
 
-/// A text in ASCII lower case.
+/// A text of token code points, in ASCII lower case.
 pub(super) fn lowercased(alloc: Global, text: &str) -> Result<String, AllocError>
-    ensures { IfOk result (λ lower. string_bytes lower ≡ map to_ascii_lowercase text.now) }
+    requires { IsTrue (is_token_text (chars text.now)) }
+    ensures { IfOk result (λ lower. code_points lower ≡ map to_ascii_lowercase (chars text.now)) }
 {
     let mut lower = String::from_str(alloc, text)?;
     lower.make_ascii_lowercase();
