@@ -139,3 +139,10 @@ empty_by x b e h = empty_chars x (sym e ∙ h)
 
 pub nonempty_by : (x : List ℕ) (b : Bool) → IsUtf8 x → b ≡ (length x == 0) → b ≡ false → chars x ≡ [] → ⊥
 nonempty_by x b u e h k = nonempty_chars x u (sym e ∙ h) k
+
+no_semicolon_text : (x cs : List ℕ) → IsUtf8 x → BeginsParameters cs → ((rest : List ℕ) → x ≡ encode_utf8 59 ++ rest → ⊥) → chars x ≡ cs → cs ≡ []
+no_semicolon_text x [] u b h e = refl
+no_semicolon_text x (c ∷ cs) u b h e = absurd (h (encode_utf8_all cs) (begins_bytes x cs 59 u (e ∙ ap (λ d. d ∷ cs) b)))
+
+pub no_semicolon : (x : List ℕ) → IsUtf8 x → BeginsParameters (chars x) → ((rest : List ℕ) → x ≡ encode_utf8 59 ++ rest → ⊥) → chars x ≡ []
+no_semicolon x u b h = no_semicolon_text x (chars x) u b h refl

@@ -4,7 +4,7 @@
 ghost use Rattle.std.specs.Prelude.{◌≡◌, ◌++◌, ◌∷◌, List, ℕ, Option, MatchOption, IfOk, IsTrue, OnOk, map};
 ghost use Rattle.std.specs.Bool.{MatchBool};
 ghost use Rattle.std.specs.Char.{to_ascii_lowercase};
-ghost use Rattle.std.specs.Str.{chars};
+ghost use Rattle.std.specs.Str.{IsUtf8, chars};
 ghost use Rattle.data_url.specs.Mime.{BeginsParameters, DoesNotBegin, IsHead, Item, Items, has_name, is_quote, is_token_text, kept};
 ghost use Rattle.data_url.specs.Parsing.{HasLowercaseNames, HasNoHead, HasParameterBefore, HasValueBefore, IsClosed, IsItem, IsOpen, IsValue, added};
 ghost use Rattle.data_url.specs.Seen.{pair_of};
@@ -56,7 +56,8 @@ fn begins_parameters(text: &str) -> bool
 
 // The parameter that a text begins with, behind its `;`.
 fn read_parameter(text: &str) -> Parameter<'_>
-    ensures { (item : Item) × IsItem result item × HasParameterBefore (chars text.now) item (chars result.rest.now) }
+    ensures parameter { (item : Item) × IsItem result item × HasParameterBefore (chars text.now) item (chars result.rest.now) }
+    ensures text { IsUtf8 result.rest.now }
 {
     let (name, tail) = split_name(without_front(text));
     let Some(value) = tail.strip_prefix('=') else {
@@ -72,7 +73,8 @@ fn read_parameter(text: &str) -> Parameter<'_>
 
 // The value that stands behind a `=`, and what stands behind it.
 fn read_value(text: &str) -> (Value<'_>, &str)
-    ensures { (value : Option (List ℕ)) × IsValue result.0 value × HasValueBefore (61 ∷ chars text.now) value (chars result.1.now) }
+    ensures value { (value : Option (List ℕ)) × IsValue result.0 value × HasValueBefore (61 ∷ chars text.now) value (chars result.1.now) }
+    ensures text { IsUtf8 result.1.now }
 {
     let Some(quoted) = text.strip_prefix('"') else {
         return read_plain(text);
@@ -87,7 +89,8 @@ fn read_value(text: &str) -> (Value<'_>, &str)
 // The same of a value that begins with no `"`.
 fn read_plain(text: &str) -> (Value<'_>, &str)
     requires { DoesNotBegin is_quote (chars text.now) }
-    ensures { (value : Option (List ℕ)) × IsValue result.0 value × HasValueBefore (61 ∷ chars text.now) value (chars result.1.now) }
+    ensures value { (value : Option (List ℕ)) × IsValue result.0 value × HasValueBefore (61 ∷ chars text.now) value (chars result.1.now) }
+    ensures text { IsUtf8 result.1.now }
 {
     let (value, rest) = split_semicolon(text);
     let value = without_end(value);
@@ -119,8 +122,8 @@ pub(super) fn read_parameters(alloc: Global, text: &str) -> Result<Vec<(String, 
 {
     let mut pairs = Vec::new(alloc);
     let mut rest = text;
-    while let Some(text) = rest.strip_prefix(';') {
-        let parameter = read_parameter(text);
+    while let Some(behind) = rest.strip_prefix(';') {
+        let parameter = read_parameter(behind);
         rest = parameter.rest;
         keep(alloc, &mut pairs, &parameter)?;
     }
