@@ -9,3 +9,4 @@ pub mod QuoteLemmas
 pub mod ParameterLemmas
 pub mod ValueLemmas
 pub mod KeptLemmas
+pub mod WellformedLemmas

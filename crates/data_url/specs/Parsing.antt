@@ -1,11 +1,14 @@
 -- What the steps of the MIME parser give, for its private contracts. Texts are lists of code points.
-use Rattle.std.specs.Prelude.{◌≡◌, ℕ, ◌==◌, ◌||◌, Bool, cond, List, [], ◌∷◌, ◌++◌, Option, None, Some, IsTrue, map}
+use Rattle.std.specs.Prelude.{◌≡◌, ℕ, ◌==◌, ◌||◌, Bool, cond, List, [], ◌∷◌, ◌++◌, Option, None, Some, Result, Ok, Err, IsTrue, map}
 use Rattle.std.specs.Char.{to_ascii_lowercase}
 use Rattle.std.specs.Int.{is_in_range}
 use Rattle.std.specs.List.{list_all}
 use Rattle.std.specs.Str.{IsUtf8, chars}
 use Rattle.data_url.specs.CodePoints.{is_quotable}
-use Rattle.data_url.specs.Mime.{BeginsParameters, DoesNotBegin, Every, GivesValue, IsHead, IsParameter, Item, Pair, Quoted, QuotedOpen, has_name, is_lowercase_name, valid_of}
+use Rattle.data_url.specs.Mime.{BeginsParameters, DoesNotBegin, Every, GivesValue, IsHead, IsParameter, Item, Items, Pair, Quoted, QuotedOpen, Record, has_name, is_lowercase_name, kept, valid_of}
+use Rattle.data_url.specs.declared.mime.Mime.{Mime}
+use Rattle.data_url.specs.declared.mime.MimeFromStrError.{MimeFromStrError}
+use Rattle.data_url.specs.declared.mime.MimeFromStrError.TheVariants as errors
 use Rattle.data_url.specs.declared.mime.parse.Parameter.{Parameter}
 use Rattle.data_url.specs.declared.mime.values.Value.{Value}
 use Rattle.data_url.specs.declared.mime.values.Value.TheVariants as slices
@@ -77,3 +80,17 @@ HasLowercaseNames pairs = IsTrue (list_all (λ (p : Pair). is_lowercase_name p.0
 -- no head is that of the text
 abbrev pub HasNoHead : List ℕ → Type 0
 HasNoHead s = (type_ subtype parameters : List ℕ) → IsHead s type_ subtype parameters → ⊥
+
+-- m is the record of a type, a subtype and a parameters' text
+pub record IsRecordOfParts (type_ subtype parameters : List ℕ) (m : Record) : Type 0 where
+  pub items : List Item
+  pub items_are : Items parameters items
+  pub type_is : m.type_ ≡ map to_ascii_lowercase type_
+  pub subtype_is : m.subtype ≡ map to_ascii_lowercase subtype
+  pub parameters_are : m.parameters ≡ kept items
+
+-- the answer says that the text is no MIME type
+abbrev pub IsParsingError : Result Mime MimeFromStrError → Type 0
+IsParsingError (Ok m) = ⊥
+IsParsingError (Err (errors.Parsing e)) = Unit {0}
+IsParsingError (Err errors.OutOfMemory) = ⊥

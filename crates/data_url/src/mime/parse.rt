@@ -6,9 +6,10 @@ ghost use Rattle.std.specs.Bool.{MatchBool};
 ghost use Rattle.std.specs.Char.{to_ascii_lowercase};
 ghost use Rattle.std.specs.Str.{IsUtf8, chars};
 ghost use Rattle.data_url.specs.Mime.{BeginsParameters, DoesNotBegin, IsHead, Item, Items, has_name, is_quote, is_token_text, kept};
-ghost use Rattle.data_url.specs.Parsing.{HasLowercaseNames, HasNoHead, HasParameterBefore, HasValueBefore, IsClosed, IsItem, IsOpen, IsValue, added};
-ghost use Rattle.data_url.specs.Seen.{pair_of};
+ghost use Rattle.data_url.specs.Parsing.{HasLowercaseNames, HasNoHead, HasParameterBefore, HasValueBefore, IsClosed, IsItem, IsOpen, IsRecordOfParts, IsValue, added};
+ghost use Rattle.data_url.specs.Seen.{pair_of, seen};
 
+use super::Mime;
 use super::cuts::{split_name, split_semicolon, without_end, without_front};
 use super::tokens::{is_token_text, split_tokens};
 use super::values::{Value, lowercased};
@@ -28,6 +29,22 @@ struct Parameter<'a> {
     name: &'a str,
     value: Value<'a>,
     rest: &'a str,
+}
+
+impl<'a> Head<'a> {
+    /// The record of a MIME type of these parts. It takes memory for the record.
+    pub(super) fn record(self, alloc: Global) -> Result<Mime, AllocError>
+        requires type_ { IsTrue (is_token_text (chars self.type_.now)) }
+        requires subtype { IsTrue (is_token_text (chars self.subtype.now)) }
+        requires parameters { BeginsParameters (chars self.parameters.now) }
+        ensures { IfOk result (λ mime. IsRecordOfParts (chars self.entry.type_.now) (chars self.entry.subtype.now) (chars self.entry.parameters.now) (seen mime)) }
+    {
+        Ok(Mime {
+            type_: lowercased(alloc, self.type_)?,
+            subtype: lowercased(alloc, self.subtype)?,
+            parameters: read_parameters(alloc, self.parameters)?,
+        })
+    }
 }
 
 /// The parts of a MIME type, if the text is one.
