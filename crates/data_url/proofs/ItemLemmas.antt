@@ -84,7 +84,7 @@ pub record IsReading (x : List ℕ) (r : Reading) : Type 0 where
   pub gives : GivesValue tail r.rest r.value
   pub begins : BeginsParameters r.rest
 
-begins_from : (s : List ℕ) → DoesNotBegin in_value s → BeginsParameters s
+pub begins_from : (s : List ℕ) → DoesNotBegin in_value s → BeginsParameters s
 begins_from [] h = tt
 begins_from (c ∷ s) h = eqb-true c 59 (not-false (c == 59) h)
 
@@ -125,7 +125,7 @@ equals_reading c t e = rw e (is_reading_behind t)
 no_reading : (c : ℕ) (t : List ℕ) → c ≡ 59 → IsReading (c ∷ t) (record { value = None; rest = c ∷ t })
 no_reading c t e = record { tail = []; joined = refl; gives = nothing; begins = e }
 
-semicolon_from : (c : ℕ) → in_name c ≡ false → (c == 61) ≡ false → c ≡ 59
+pub semicolon_from : (c : ℕ) → in_name c ≡ false → (c == 61) ≡ false → c ≡ 59
 semicolon_from c h e = ⊎_elim (λ l. eqb-true c 59 l) (λ r. absurd (both_ways (c == 61) e r)) (or_cases (c == 59) (c == 61) (not-false (ends_name c) h))
 
 pub is_reading : (x : List ℕ) → BeginsTail x → IsReading x (reading x)

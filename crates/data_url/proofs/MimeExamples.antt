@@ -60,7 +60,7 @@ plainly t = map Plain t
 
 -- a semicolon in quotes, a value that is missing, and one that is quoted and empty
 quotes : Parses (codes "TEXT/HTML;a=" ++ (34 ∷ codes "b;c" ++ (34 ∷ codes ";d=;e=" ++ (34 ∷ 34 ∷ [])))) (record { type_ = codes "text"; subtype = codes "html"; parameters = (codes "a", codes "b;c") ∷ (codes "e", []) ∷ [] })
-unfolding is_unit
+unfolding is_unit on_literals
 quotes = record {
   type_ = codes "TEXT";
   subtype = codes "HTML";
@@ -91,6 +91,7 @@ x_x pairs = record { type_ = codes "x"; subtype = codes "x"; parameters = pairs 
 
 -- a text of type and subtype x whose parameters have these items
 parses_x : (r : List ℕ) (items : List Item) → BeginsParameters r → DoesNotEnd is_http_whitespace (codes "x/x" ++ r) → Items r items → Parses (codes "x/x" ++ r) (x_x (kept items))
+unfolding on_literals
 parses_x r items begins ends are = record {
   type_ = codes "x";
   subtype = codes "x";
@@ -105,6 +106,7 @@ parses_x r items begins ends are = record {
 
 -- names are lower-cased before they are compared, and the first pair of a name is kept
 repeated_name : Parses (codes "x/x;a=1;A=2") (x_x ((codes "a", codes "1") ∷ []))
+unfolding on_literals
 repeated_name = parses_x (codes ";a=1;A=2") ((codes "a", Some (codes "1")) ∷ (codes "a", Some (codes "2")) ∷ []) refl refl (
   codes ";a=1",
   codes ";A=2",
@@ -115,19 +117,19 @@ repeated_name = parses_x (codes ";a=1;A=2") ((codes "a", Some (codes "1")) ∷ (
 
 -- what stands behind a closing quote is dropped, and does not count
 junk_behind_quote : Parses (codes "x/x;a=" ++ (34 ∷ 98 ∷ 34 ∷ 256 ∷ [])) (x_x ((codes "a", codes "b") ∷ []))
-unfolding is_unit
+unfolding is_unit on_literals
 junk_behind_quote = parses_x (codes ";a=" ++ (34 ∷ 98 ∷ 34 ∷ 256 ∷ [])) ((codes "a", Some (codes "b")) ∷ []) refl refl
     (codes ";a=" ++ (34 ∷ 98 ∷ 34 ∷ 256 ∷ []), [], refl, parameter (codes "a") _ _ _ refl refl (quoted (codes "b") (256 ∷ []) (quoted_units (plainly (codes "b")) refl) (every_from_all (λ c. not (is_semicolon c)) (256 ∷ []) refl)), refl)
 
 -- a quoted value is judged as a whole: a semicolon belongs to it, and U+0100 makes its pair invalid
 code_point_above : Parses (codes "x/x;a=" ++ (34 ∷ 98 ∷ 59 ∷ 256 ∷ 34 ∷ [])) (x_x [])
-unfolding is_unit
+unfolding is_unit on_literals
 code_point_above = parses_x (codes ";a=" ++ (34 ∷ 98 ∷ 59 ∷ 256 ∷ 34 ∷ [])) ((codes "a", Some (98 ∷ 59 ∷ 256 ∷ [])) ∷ []) refl refl
     (codes ";a=" ++ (34 ∷ 98 ∷ 59 ∷ 256 ∷ 34 ∷ []), [], refl, parameter (codes "a") _ _ _ refl refl (quoted (98 ∷ 59 ∷ 256 ∷ []) [] (quoted_units (plainly (98 ∷ 59 ∷ 256 ∷ [])) refl) tt), refl)
 
 -- a lone backslash at the end of the text stands for itself
 last_backslash : Parses (codes "x/x;a=" ++ (34 ∷ 92 ∷ [])) (x_x ((codes "a", 92 ∷ []) ∷ []))
-unfolding is_unit
+unfolding is_unit on_literals
 last_backslash = parses_x (codes ";a=" ++ (34 ∷ 92 ∷ [])) ((codes "a", Some (92 ∷ [])) ∷ []) refl refl
     (codes ";a=" ++ (34 ∷ 92 ∷ []), [], refl, parameter (codes "a") _ _ _ refl refl (unclosed (92 ∷ []) (inr ([], [], refl, refl, quoted_units [] refl))), refl)
 
@@ -136,7 +138,7 @@ abbrev escapes_text : List ℕ
 escapes_text = codes ";a=" ++ (34 ∷ 113 ∷ 92 ∷ 34 ∷ 114 ∷ 34 ∷ codes ";b=" ++ (34 ∷ 92 ∷ 97 ∷ 34 ∷ codes ";c=d" ++ (34 ∷ codes "e;f=" ++ (34 ∷ 103 ∷ []))))
 
 escapes : Parses (codes "x/x" ++ escapes_text) (x_x ((codes "a", 113 ∷ 34 ∷ 114 ∷ []) ∷ (codes "b", codes "a") ∷ (codes "c", 100 ∷ 34 ∷ 101 ∷ []) ∷ (codes "f", codes "g") ∷ []))
-unfolding is_unit
+unfolding is_unit on_literals
 escapes = parses_x escapes_text ((codes "a", Some (113 ∷ 34 ∷ 114 ∷ [])) ∷ (codes "b", Some (codes "a")) ∷ (codes "c", Some (100 ∷ 34 ∷ 101 ∷ [])) ∷ (codes "f", Some (codes "g")) ∷ []) refl refl (
   codes ";a=" ++ (34 ∷ 113 ∷ 92 ∷ 34 ∷ 114 ∷ 34 ∷ []),
   codes ";b=" ++ (34 ∷ 92 ∷ 97 ∷ 34 ∷ codes ";c=d" ++ (34 ∷ codes "e;f=" ++ (34 ∷ 103 ∷ []))),
@@ -165,7 +167,7 @@ escapes = parses_x escapes_text ((codes "a", Some (113 ∷ 34 ∷ 114 ∷ [])) �
 
 -- a name that is empty and one that is no token take their quoted strings with them
 invalid_names : Parses (codes "x/x;=q;" ++ (233 ∷ codes "=" ++ (34 ∷ codes "a;b=c" ++ (34 ∷ codes ";d=e")))) (x_x ((codes "d", codes "e") ∷ []))
-unfolding is_unit
+unfolding is_unit on_literals
 invalid_names = parses_x (codes ";=q;" ++ (233 ∷ codes "=" ++ (34 ∷ codes "a;b=c" ++ (34 ∷ codes ";d=e")))) (([], Some (codes "q")) ∷ (233 ∷ [], Some (codes "a;b=c")) ∷ (codes "d", Some (codes "e")) ∷ []) refl refl (
   codes ";=q",
   59 ∷ 233 ∷ codes "=" ++ (34 ∷ codes "a;b=c" ++ (34 ∷ codes ";d=e")),
@@ -182,6 +184,7 @@ invalid_names = parses_x (codes ";=q;" ++ (233 ∷ codes "=" ++ (34 ∷ codes "a
 
 -- whitespace at and_parts ends, behind the subtype and before a name goes; a name has none left at its front alone
 whitespace : Parses (codes " a/b ; c=d ") (record { type_ = codes "a"; subtype = codes "b"; parameters = (codes "c", codes "d") ∷ [] })
+unfolding on_literals
 whitespace = record {
   type_ = codes "a";
   subtype = codes "b";
@@ -206,36 +209,46 @@ whitespace = record {
 -- Texts without a record
 
 no_type : (s : List ℕ) → type_in (trimmed_of is_http_whitespace s) ≡ [] → HasNoRecord s
+unfolding on_literals
 no_type s e m h = let k = subst (λ t. IsTrue (is_token_text t)) (sym (has_parts s h.type_ h.subtype h.parameters h.head).type_is ∙ e) h.head.is_type in cc
 
 no_subtype : (s : List ℕ) → subtype_in (trimmed_of is_http_whitespace s) ≡ [] → HasNoRecord s
+unfolding on_literals
 no_subtype s e m h = let k = subst (λ t. IsTrue (is_token_text t)) (sym (has_parts s h.type_ h.subtype h.parameters h.head).subtype_is ∙ e) h.head.is_subtype in cc
 
 -- what stands behind the subtype begins no parameter
 no_parameters : (s : List ℕ) (r : List ℕ) → parameters_in (trimmed_of is_http_whitespace s) ≡ r → (BeginsParameters r → ⊥) → HasNoRecord s
+unfolding on_literals
 no_parameters s r e n m h = n (subst BeginsParameters (sym (has_parts s h.type_ h.subtype h.parameters h.head).parameters_are ∙ e) h.head.begins)
 
 empty_text : HasNoRecord []
+unfolding on_literals
 empty_text = no_type [] refl
 
 no_slash : HasNoRecord (codes "a")
+unfolding on_literals
 no_slash = no_subtype (codes "a") refl
 
 empty_subtype : HasNoRecord (codes "a/")
+unfolding on_literals
 empty_subtype = no_subtype (codes "a/") refl
 
 empty_type : HasNoRecord (codes "/b")
+unfolding on_literals
 empty_type = no_type (codes "/b") refl
 
 space_in_subtype : HasNoRecord (codes "a/b c")
+unfolding on_literals
 space_in_subtype = no_parameters (codes "a/b c") (codes "c") refl (λ (e : ◌≡◌ {A = ℕ} 99 59). let k : eqb 99 59 ≡ true = eq-eqb 99 59 e in cc)
 
 -- '?' is no token code point, so a header with a query behind its subtype has the default record
 question_mark : IsRecordOf (codes "a/b?c") default_record
+unfolding on_literals
 question_mark = inr (no_parameters (codes "a/b?c") (codes "?c") refl (λ (e : ◌≡◌ {A = ℕ} 63 59). let k : eqb 63 59 ≡ true = eq-eqb 63 59 e in cc), refl)
 
 -- the empty header has it too
 empty_header : IsRecordOf [] default_record
+unfolding on_literals
 empty_header = inr (empty_text, refl)
 
 -- Printed texts

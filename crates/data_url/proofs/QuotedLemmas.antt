@@ -1,5 +1,5 @@
 -- A quoted string, read from behind its opening quote, with one flag for "behind a backslash".
-use Rattle.std.proofs.Common.{◌≡◌, ℕ, ◌==◌, Bool, true, false, cond, List, [], ◌∷◌, ◌++◌, Option, None, Some, map, refl, sym, ap, ◌∙◌, append_assoc, append-nil, eqb-true, inl, inr}
+use Rattle.std.proofs.Common.{◌≡◌, ℕ, ◌==◌, ◌&&◌, not, Bool, true, false, cond, List, [], ◌∷◌, ◌++◌, Option, None, Some, map, refl, sym, ap, ◌∙◌, append_assoc, append-nil, eqb-true, inl, inr}
 use Rattle.std.proofs.lemmas.Bool.{cond-false, eqb-false, ne_eqb}
 use Rattle.std.specs.List.{AllByRecursion, flat_map}
 use Rattle.data_url.specs.Mime.{Escaped, IsUnit, Plain, Quoted, QuotedOpen, QuotedUnit, unit_text, unit_value}
@@ -67,7 +67,7 @@ quoted_nil : Quoted [] []
 quoted_nil = record { units = []; each = tt; text_is = refl; value_is = refl }
 
 -- what stands before a text that is read behind a backslash or not
-abbrev flagged : Bool → List ℕ → List ℕ
+abbrev pub flagged : Bool → List ℕ → List ℕ
 flagged false s = s
 flagged true s = 92 ∷ s
 
@@ -82,3 +82,32 @@ is_read false [] = inl quoted_nil
 is_read true [] = inr ([], [], refl, refl, quoted_nil)
 is_read false (c ∷ t) = read_plain c t (is_read false t) (is_read true t) (c == 34) (c == 92) refl refl
 is_read true (c ∷ t) = read_more (Escaped c) t (quoted_value false t) (quoted_rest false t) tt (is_read false t)
+
+-- The value without a look at quotes, as it is written
+
+and_false : (b : Bool) → (b && false) ≡ false
+and_false true = refl
+and_false false = refl
+
+abbrev pub unescaped : Bool → List ℕ → List ℕ
+unescaped false [] = []
+unescaped true [] = 92 ∷ []
+unescaped escaped (c ∷ t) = cond ((c == 92) && not escaped) (unescaped true t) (c ∷ unescaped false t)
+
+unescaped_one : (c : ℕ) (t : List ℕ) → (c == 92) ≡ false → unescaped false (c ∷ t) ≡ c ∷ unescaped false t
+unescaped_one c t e = cond-false ((c == 92) && true) (unescaped true t) (c ∷ unescaped false t) (ap (λ b. b && true) e)
+
+unescaped_next : (c : ℕ) (t : List ℕ) → unescaped true (c ∷ t) ≡ c ∷ unescaped false t
+unescaped_next c t = cond-false ((c == 92) && false) (unescaped true t) (c ∷ unescaped false t) (and_false (c == 92))
+
+unescaped_units : (units : List QuotedUnit) (x : List ℕ) → AllByRecursion IsUnit units → unescaped false (flat_map unit_text units ++ x) ≡ map unit_value units ++ unescaped false x
+unescaped_units [] x h = refl
+unescaped_units (Plain c ∷ units) x h = unescaped_one c (flat_map unit_text units ++ x) (ne_eqb c 92 h.0.1) ∙ ap (λ v. c ∷ v) (unescaped_units units x h.1)
+unescaped_units (Escaped c ∷ units) x h = unescaped_next c (flat_map unit_text units ++ x) ∙ ap (λ v. c ∷ v) (unescaped_units units x h.1)
+
+unescaped_before : (q v x : List ℕ) → Quoted q v → unescaped false (q ++ x) ≡ v ++ unescaped false x
+unescaped_before q v x h = rw (h.text_is, h.value_is) (unescaped_units h.units x h.each)
+
+pub unescaped_is : (q v : List ℕ) → QuotedOpen q v → unescaped false q ≡ v
+unescaped_is q v (inl h) = ap (unescaped false) (sym (append-nil q)) ∙ (unescaped_before q v [] h ∙ append-nil v)
+unescaped_is q v (inr (q', v', t, e, h)) = ap (unescaped false) t ∙ (unescaped_before q' v' (92 ∷ []) h ∙ sym e)

@@ -57,10 +57,19 @@ parameters_in t = behind_front is_http_whitespace (behind_front is_token (behind
 
 -- no code point of HTTP whitespace is a token code point
 space_no_token : (c : ℕ) → is_http_whitespace c ≡ true → is_token c ≡ false
+unfolding is_token
 space_no_token c h = ⊎_elim (λ e. ap is_token (eqb-true c 9 e)) (λ h. ⊎_elim (λ e. ap is_token (eqb-true c 10 e)) (λ h. ⊎_elim (λ e. ap is_token (eqb-true c 13 e)) (λ e. ap is_token (eqb-true c 32 e)) (or_cases (c == 13) (c == 32) h)) (or_cases (c == 10) ((c == 13) || (c == 32)) h)) (or_cases (c == 9) ((c == 10) || ((c == 13) || (c == 32))) h)
 
-gap_no_token : (gap r : List ℕ) → Every is_http_whitespace gap → BeginsParameters r → DoesNotBegin is_token (gap ++ r)
-gap_no_token [] r g b = ends_of_rest is_token refl r b
+pub semicolon_no_token : is_token 59 ≡ false
+unfolding is_token
+semicolon_no_token = refl
+
+pub slash_no_token : is_token 47 ≡ false
+unfolding is_token
+slash_no_token = refl
+
+pub gap_no_token : (gap r : List ℕ) → Every is_http_whitespace gap → BeginsParameters r → DoesNotBegin is_token (gap ++ r)
+gap_no_token [] r g b = ends_of_rest is_token semicolon_no_token r b
 gap_no_token (c ∷ gap) r g b = space_no_token c g.0
 
 -- the parts of a text that is joined so
@@ -71,10 +80,10 @@ pub record HasParts (t type_ subtype parameters : List ℕ) : Type 0 where
 
 parts_joined : (type_ subtype gap r : List ℕ) → Every is_token type_ → Every is_token subtype → Every is_http_whitespace gap → BeginsParameters r → HasParts (type_ ++ (47 ∷ (subtype ++ (gap ++ r)))) type_ subtype r
 parts_joined type_ subtype gap r t s g b =
-    let slash = ap behind_first (behind_is is_token type_ (47 ∷ (subtype ++ (gap ++ r))) t refl) in
+    let slash = ap behind_first (behind_is is_token type_ (47 ∷ (subtype ++ (gap ++ r))) t slash_no_token) in
     let n = gap_no_token gap r g b in
     record {
-      type_is = front_is is_token type_ (47 ∷ (subtype ++ (gap ++ r))) t refl;
+      type_is = front_is is_token type_ (47 ∷ (subtype ++ (gap ++ r))) t slash_no_token;
       subtype_is = ap (front_of is_token) slash ∙ front_is is_token subtype (gap ++ r) s n;
       parameters_are = ap (λ x. behind_front is_http_whitespace (behind_front is_token x)) slash ∙ ap (behind_front is_http_whitespace) (behind_is is_token subtype (gap ++ r) s n) ∙ behind_is is_http_whitespace gap r g (ends_of_rest is_http_whitespace refl r b);
     }

@@ -10,6 +10,7 @@ pub mod Front
 pub mod Header
 pub mod Laws
 pub mod Mime
+pub mod Parsing
 pub mod Percent
 pub mod Refusal
 pub mod Run

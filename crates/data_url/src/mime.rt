@@ -1,8 +1,16 @@
 //! MIME types (MIME Sniffing Standard, section 4).
 
-ghost use Rattle.std.specs.Prelude.{◌≡◌, ◌↔◌, IfOk, IsTrue, [], MatchOption, ℕ};
+ghost use Rattle.std.specs.Prelude.{◌≡◌, ◌↔◌, IfOk, IsTrue, [], Some, codes};
 
+mod cuts;
+mod parse;
+mod tokens;
+mod values;
+
+use parse::read_head;
 use std::alloc::{AllocError, Global};
+use std::error::Error;
+use std::fmt;
 
 /// A MIME type record: a type, a subtype and parameters in order. Nothing checks what stands in it.
 ///
@@ -17,9 +25,60 @@ pub struct Mime {
     pub parameters: Vec<(String, String)>,
 }
 
+/// The text is no MIME type.
+#[derive(Debug, Drop)]
+pub struct MimeParsingError(());
+
+impl fmt::Display for MimeParsingError {
+    ghost output = { λ _. Some (codes "invalid mime type") };
+
+    fn fmt<W: fmt::Write>(&self, f: &mut fmt::Formatter<W>) -> fmt::Result {
+        write!(f, "invalid mime type")
+    }
+}
+
+impl Error for MimeParsingError {}
+
+/// Why a text gave no record.
+#[derive(Debug, Drop)]
+pub enum MimeFromStrError {
+    /// The text is no MIME type.
+    Parsing(MimeParsingError),
+    /// The record found no memory.
+    OutOfMemory,
+}
+
+impl fmt::Display for MimeFromStrError {
+    ghost use Rattle.data_url.specs.ErrorText.{mime_error_text};
+
+    ghost output = { λ error. Some (mime_error_text error) };
+
+    fn fmt<W: fmt::Write>(&self, f: &mut fmt::Formatter<W>) -> fmt::Result {
+        match self {
+            MimeFromStrError::Parsing(inner) => write!(f, "{inner}"),
+            MimeFromStrError::OutOfMemory => write!(f, "out of memory"),
+        }
+    }
+}
+
+impl Error for MimeFromStrError {}
+
+impl From<AllocError> for MimeFromStrError {
+    ghost use Rattle.data_url.specs.declared.mime.MimeFromStrError.TheVariants.{OutOfMemory};
+
+    ghost from_gives = { λ _ error. error ≡ OutOfMemory };
+
+    fn from(_error: AllocError) -> MimeFromStrError {
+        MimeFromStrError::OutOfMemory
+    }
+}
+
 impl Mime {
     ghost use Rattle.std.specs.Prelude.{string_bytes};
-    ghost use Rattle.data_url.specs.Seen.{value_of_name, as_option};
+    ghost use Rattle.std.specs.Str.{chars};
+    ghost use Rattle.data_url.specs.Mime.{HasNoRecord, IsWellformed, Parses};
+    ghost use Rattle.data_url.specs.Parsing.{IsParsingError};
+    ghost use Rattle.data_url.specs.Seen.{as_option, seen, value_of_name};
 
     /// The record of a type and a subtype as they are given, with no parameters. It takes memory for the two texts.
     pub fn new(alloc: Global, type_: &str, subtype: &str) -> Result<Mime, AllocError>
@@ -32,6 +91,22 @@ impl Mime {
             subtype: String::from_str(alloc, subtype)?,
             parameters: Vec::new(alloc),
         })
+    }
+
+    /// The record of a text (MIME Sniffing Standard, section 4.4).
+    ///
+    /// It answers `Parsing` exactly where the text is no MIME type, which it finds before it asks for memory, and
+    /// `OutOfMemory` where the text is one and its record finds no memory. It takes time in proportion to the length of the
+    /// text, times the number of distinct names that are kept.
+    pub fn from_str(alloc: Global, s: &str) -> Result<Mime, MimeFromStrError>
+        ensures parsed { IfOk result (λ mime. Parses (chars s.now) (seen mime)) }
+        ensures wellformed { IfOk result (λ mime. IsWellformed (seen mime)) }
+        ensures refused { IsParsingError result ↔ HasNoRecord (chars s.now) }
+    {
+        let Some(head) = read_head(s) else {
+            return Err(MimeFromStrError::Parsing(MimeParsingError(())));
+        };
+        Ok(head.record(alloc)?)
     }
 
     /// Whether type and subtype are exactly these texts, whatever the parameters are.

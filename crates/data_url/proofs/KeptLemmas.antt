@@ -1,0 +1,263 @@
+-- Which pairs are kept.
+use Rattle.std.proofs.Common.{◌≡◌, ℕ, suc, ◌+◌, ◌<◌, ◌≤◌, ◌==◌, ◌||◌, ◌&&◌, ◌⊎◌, Bool, true, false, not, cond, List, [], ◌∷◌, ◌++◌, length, get_or, drop, Option, None, Some, IsTrue, String, map, refl, sym, ap, ap₂, ◌∙◌, subst, append_assoc, append-nil, arith, inl, inr, string_bytes, drop-cons, add-one, length-append}
+use Rattle.std.proofs.lemmas.Bool.{agree_below_at, and_from, and_left, and_parts, and_right, cases_lt, cond-false, cond-true, cond_both, false_from_ne_true, false≢true, or_left, true_from_ne_false}
+use Rattle.std.proofs.lemmas.List.Folds.{list_all-append, list_all-map, list_all_at}
+use Rattle.std.proofs.lemmas.Grind.{flat_map-append}
+use Rattle.std.proofs.lemmas.List.{map-append}
+use Rattle.std.proofs.lemmas.Slice.Eq.{bytes_eq-Decides}
+use Rattle.std.proofs.lemmas.Str.{chars-IsAscii}
+use Rattle.std.proofs.lemmas.Str.Ascii.{IsAscii-map, lowercase-lowercase, lowercase_ascii, lowercase_is}
+use Rattle.std.specs.Char.{to_ascii_lowercase}
+use Rattle.std.specs.List.{flat_map, list_all, list_any}
+use Rattle.std.specs.Str.{IsUtf8, bytes_eq, chars}
+use Rattle.data_url.specs.CodePoints.{is_quotable, is_token}
+use Rattle.data_url.specs.Mime.{BeginsParameters, Item, Items, Pair, first_of_each_name, has_name, is_lowercase_name, is_token_text, kept, valid_of, valid_pairs}
+use Rattle.data_url.specs.Parsing.{HasLowercaseNames, HasParameterBefore, IsItem, added, quotable_value, unless_named}
+use Rattle.data_url.specs.declared.mime.parse.Parameter.{Parameter}
+use Rattle.data_url.specs.Seen.{code_points, pair_of}
+use Rattle.data_url.proofs.TokenLemmas.{bytes_of_ascii, token_text_ascii, token_text_chars}
+
+-- Equality of texts as a test
+
+pub equal_from_test : (a c : List ℕ) → bytes_eq a c ≡ true → a ≡ c
+equal_from_test a c h = (bytes_eq-Decides a c).0 h
+
+pub test_from_equal : (a c : List ℕ) → a ≡ c → bytes_eq a c ≡ true
+test_from_equal a c e = (bytes_eq-Decides a c).1 e
+
+pub test_from_different : (a c : List ℕ) → (a ≡ c → ⊥) → bytes_eq a c ≡ false
+test_from_different a c n = false_from_ne_true (bytes_eq a c) (λ h. n (equal_from_test a c h))
+
+-- Names in lower case
+
+low_token : (c : ℕ) → c < 128 → is_token (to_ascii_lowercase c) ≡ is_token c
+unfolding is_token
+low_token c l = agree_below_at (λ x. is_token (to_ascii_lowercase x)) is_token 128 c refl l
+
+pub token_lower : (c : ℕ) → is_token (to_ascii_lowercase c) ≡ is_token c
+token_lower c = elim (cases_lt c 128) [ inl l ↦ low_token c l | inr l ↦ ap is_token ((lowercase_is c).2 (omega arith)) ]
+
+all_token_lower : (t : List ℕ) → list_all is_token (map to_ascii_lowercase t) ≡ list_all is_token t
+all_token_lower [] = refl
+all_token_lower (c ∷ t) = ap₂ (λ x y. x && y) (token_lower c) (all_token_lower t)
+
+pub token_text_lower : (t : List ℕ) → is_token_text (map to_ascii_lowercase t) ≡ is_token_text t
+token_text_lower [] = refl
+token_text_lower (c ∷ t) = all_token_lower (c ∷ t)
+
+pub lower_twice : (t : List ℕ) → map to_ascii_lowercase (map to_ascii_lowercase t) ≡ map to_ascii_lowercase t
+lower_twice [] = refl
+lower_twice (c ∷ t) = ap₂ (λ x y. x ∷ y) (lowercase-lowercase c) (lower_twice t)
+
+pub lowercase_name : (t : List ℕ) → is_token_text t ≡ true → is_lowercase_name (map to_ascii_lowercase t) ≡ true
+lowercase_name t h = and_from (is_token_text (map to_ascii_lowercase t)) (bytes_eq (map to_ascii_lowercase (map to_ascii_lowercase t)) (map to_ascii_lowercase t)) (token_text_lower t ∙ h) (test_from_equal (map to_ascii_lowercase (map to_ascii_lowercase t)) (map to_ascii_lowercase t) (lower_twice t))
+
+-- a text of token code points, in lower case by its bytes
+pub lower_chars : (bs : List ℕ) → IsUtf8 bs → is_token_text (chars bs) ≡ true → chars (map to_ascii_lowercase bs) ≡ map to_ascii_lowercase (chars bs)
+lower_chars bs u h =
+  let a = token_text_ascii bs (token_text_chars bs u ∙ h) in
+  chars-IsAscii (map to_ascii_lowercase bs) (IsAscii-map to_ascii_lowercase bs lowercase_ascii a) ∙ ap (map to_ascii_lowercase) (sym (chars-IsAscii bs a))
+
+-- Names compared in any case
+
+pub name_bytes : (bs : List ℕ) → IsUtf8 bs → is_token_text (chars bs) ≡ true → bs ≡ chars bs
+name_bytes bs u h = bytes_of_ascii bs u (token_text_ascii (chars bs) h)
+
+pub lower_is_itself : (t : List ℕ) → is_lowercase_name t ≡ true → map to_ascii_lowercase t ≡ t
+lower_is_itself t h = equal_from_test (map to_ascii_lowercase t) t (and_parts (is_token_text t) (bytes_eq (map to_ascii_lowercase t) t) h).1
+
+lowercase_token : (t : List ℕ) → is_lowercase_name t ≡ true → is_token_text t ≡ true
+lowercase_token t h = (and_parts (is_token_text t) (bytes_eq (map to_ascii_lowercase t) t) h).0
+
+both_lower : (k n : List ℕ) → IsUtf8 k → IsUtf8 n → is_lowercase_name (chars k) ≡ true → is_token_text (chars n) ≡ true → (map to_ascii_lowercase k ≡ chars k) × (map to_ascii_lowercase n ≡ map to_ascii_lowercase (chars n))
+both_lower k n u w h t = (ap (map to_ascii_lowercase) (name_bytes k u (lowercase_token (chars k) h)) ∙ lower_is_itself (chars k) h, ap (map to_ascii_lowercase) (name_bytes n w t))
+
+pub names_equal : (k n : List ℕ) → IsUtf8 k → IsUtf8 n → is_lowercase_name (chars k) ≡ true → is_token_text (chars n) ≡ true → map to_ascii_lowercase k ≡ map to_ascii_lowercase n → bytes_eq (chars k) (map to_ascii_lowercase (chars n)) ≡ true
+names_equal k n u w h t e = let b = both_lower k n u w h t in test_from_equal (chars k) (map to_ascii_lowercase (chars n)) (sym b.0 ∙ e ∙ b.1)
+
+pub names_differ : (k n : List ℕ) → IsUtf8 k → IsUtf8 n → is_lowercase_name (chars k) ≡ true → is_token_text (chars n) ≡ true → (map to_ascii_lowercase k ≡ map to_ascii_lowercase n → ⊥) → bytes_eq (chars k) (map to_ascii_lowercase (chars n)) ≡ false
+names_differ k n u w h t e = let b = both_lower k n u w h t in test_from_different (chars k) (map to_ascii_lowercase (chars n)) (λ q. e (b.0 ∙ q ∙ sym b.1))
+
+-- One step of the look-up
+
+pub lowercase_at : {A B : Type 0} (pairs : List (String A × String B)) (i : ℕ) (item : String A × String B) → HasLowercaseNames (map (λ p. pair_of p) pairs) → i < length pairs → item ≡ get_or pairs i item → is_lowercase_name (code_points item.0) ≡ true
+lowercase_at pairs i item h l e =
+  let test : Pair → Bool = λ p. is_lowercase_name p.0 in
+  true_from_ne_false (is_lowercase_name (code_points item.0)) (λ f. false≢true (sym (list_all_at (λ p. test (pair_of p)) pairs i item l (ap (λ p. test (pair_of p)) (sym e) ∙ f)) ∙ sym (list_all-map test (λ p. pair_of p) pairs) ∙ h))
+
+look_step : {A B : Type 0} (n : List ℕ) (pairs : List (String A × String B)) (i : ℕ) (item : String A × String B) → i < length pairs → item ≡ get_or pairs i item → has_name n (map (λ p. pair_of p) (drop i pairs)) ≡ (bytes_eq (code_points item.0) n || has_name n (map (λ p. pair_of p) (drop (i + 1) pairs)))
+look_step n pairs i item l e = ap (λ s. has_name n (map (λ p. pair_of p) s)) (drop-cons pairs i item l) ∙ ap₂ (λ p k. bytes_eq (code_points p.0) n || has_name n (map (λ q. pair_of q) (drop k pairs))) (sym e) (sym (add-one i))
+
+pub look_finds : {A B : Type 0} (n : List ℕ) (pairs : List (String A × String B)) (i : ℕ) (item : String A × String B) → i < length pairs → item ≡ get_or pairs i item → bytes_eq (code_points item.0) n ≡ true → has_name n (map (λ p. pair_of p) (drop i pairs)) ≡ has_name n (map (λ p. pair_of p) pairs) → true ≡ has_name n (map (λ p. pair_of p) pairs)
+look_finds n pairs i item l e t h = sym (or_left (bytes_eq (code_points item.0) n) (has_name n (map (λ p. pair_of p) (drop (i + 1) pairs))) t) ∙ sym (look_step n pairs i item l e) ∙ h
+
+pub look_goes_on : {A B : Type 0} (n : List ℕ) (pairs : List (String A × String B)) (i : ℕ) (item : String A × String B) → i < length pairs → item ≡ get_or pairs i item → bytes_eq (code_points item.0) n ≡ false → has_name n (map (λ p. pair_of p) (drop i pairs)) ≡ has_name n (map (λ p. pair_of p) pairs) → has_name n (map (λ p. pair_of p) (drop (i + 1) pairs)) ≡ has_name n (map (λ p. pair_of p) pairs)
+look_goes_on n pairs i item l e t h = ap (λ b. b || has_name n (map (λ p. pair_of p) (drop (i + 1) pairs))) (sym t) ∙ sym (look_step n pairs i item l e) ∙ h
+
+-- What one more item adds
+
+pub no_pair_token : (item : Item) (xs : List Pair) → is_token_text item.0 ≡ false → added xs item ≡ []
+no_pair_token (name, None) xs h = refl
+no_pair_token (name, Some v) xs h = ap (unless_named xs) (cond-false (is_token_text name && list_all is_quotable v) ((name, v) ∷ []) [] (and_left (is_token_text name) (list_all is_quotable v) h))
+
+none_not_quotable : (v : List ℕ) (b : Bool) → ◌≡◌ {A = Option (List ℕ)} None (cond b (Some v) None) → b ≡ false
+none_not_quotable v true h = absurd (let k = h in cc)
+none_not_quotable v false h = refl
+
+pub no_pair_value : (item : Item) (xs : List Pair) → None ≡ quotable_value item.1 → added xs item ≡ []
+no_pair_value (name, None) xs h = refl
+no_pair_value (name, Some v) xs h = ap (unless_named xs) (cond-false (is_token_text name && list_all is_quotable v) ((name, v) ∷ []) [] (and_right (is_token_text name) (list_all is_quotable v) (none_not_quotable v (list_all is_quotable v) h)))
+
+unless_none : (xs : List Pair) (p : Pair) (b : Bool) → has_name p.0 xs ≡ true → unless_named xs (cond b (p ∷ []) []) ≡ []
+unless_none xs p true h = cond-true (has_name p.0 xs) [] (p ∷ []) h
+unless_none xs p false h = refl
+
+pub no_pair_named : (item : Item) (xs : List Pair) → has_name item.0 xs ≡ true → added xs item ≡ []
+no_pair_named (name, None) xs h = refl
+no_pair_named (name, Some v) xs h = unless_none xs (name, v) (is_token_text name && list_all is_quotable v) h
+
+some_equal : (a b : List ℕ) → Some a ≡ Some b → a ≡ b
+some_equal a b e = cc
+
+some_quotable : (v w : List ℕ) (b : Bool) → ◌≡◌ {A = Option (List ℕ)} (Some w) (cond b (Some v) None) → (b ≡ true) × (w ≡ v)
+some_quotable v w true h = (refl, some_equal w v h)
+some_quotable v w false h = absurd (let k = h in cc)
+
+pub one_pair : (item : Item) (xs : List Pair) (w : List ℕ) → is_token_text item.0 ≡ true → has_name item.0 xs ≡ false → Some w ≡ quotable_value item.1 → added xs item ≡ (item.0, w) ∷ []
+one_pair (name, None) xs w t n h = absurd (let k = h in cc)
+one_pair (name, Some v) xs w t n h =
+  let q = some_quotable v w (list_all is_quotable v) h in
+  ap (unless_named xs) (cond-true (is_token_text name && list_all is_quotable v) ((name, v) ∷ []) [] (and_from (is_token_text name) (list_all is_quotable v) t q.0)) ∙ cond-false (has_name name xs) [] ((name, v) ∷ []) n ∙ ap (λ x. (name, x) ∷ []) (sym q.1)
+
+-- The pairs kept of one more item
+
+or_assoc : (a b c : Bool) → ((a || b) || c) ≡ (a || (b || c))
+or_assoc true b c = refl
+or_assoc false b c = refl
+
+or_none : (b : Bool) → (b || false) ≡ b
+or_none true = refl
+or_none false = refl
+
+pub has_append : (n : List ℕ) (xs ys : List Pair) → has_name n (xs ++ ys) ≡ (has_name n xs || has_name n ys)
+has_append n [] ys = refl
+has_append n (p ∷ xs) ys = ap (λ b. bytes_eq p.0 n || b) (has_append n xs ys) ∙ sym (or_assoc (bytes_eq p.0 n) (has_name n xs) (has_name n ys))
+
+has_pushed : (n : List ℕ) (xs : List Pair) (p : Pair) → has_name n (xs ++ (p ∷ [])) ≡ (has_name n xs || bytes_eq p.0 n)
+has_pushed n xs p = has_append n xs (p ∷ []) ∙ ap (λ b. has_name n xs || b) (or_none (bytes_eq p.0 n))
+
+snoc_cases : (b : Bool) (p : Pair) (whole front back : List Pair) → whole ≡ front ++ back → cond b whole (p ∷ whole) ≡ cond b front (p ∷ front) ++ back
+snoc_cases true p whole front back h = h
+snoc_cases false p whole front back h = ap (λ x. p ∷ x) h
+
+first_snoc : (e ps : List Pair) (q : Pair) → first_of_each_name e (ps ++ (q ∷ [])) ≡ first_of_each_name e ps ++ cond (has_name q.0 (e ++ ps)) [] (q ∷ [])
+first_snoc e [] q = rw (append-nil e) refl
+first_snoc e (p ∷ ps) q =
+  let h = first_snoc (e ++ (p ∷ [])) ps q ∙ ap (λ x. first_of_each_name (e ++ (p ∷ [])) ps ++ cond (has_name q.0 x) [] (q ∷ [])) (append_assoc e (p ∷ []) ps) in
+  snoc_cases (has_name p.0 e) p (first_of_each_name (e ++ (p ∷ [])) (ps ++ (q ∷ []))) (first_of_each_name (e ++ (p ∷ [])) ps) (cond (has_name q.0 (e ++ (p ∷ ps))) [] (q ∷ [])) h
+
+-- a kept pair of an equal name answers for one that is not kept
+named : (n : List ℕ) (e : List Pair) (p : Pair) → has_name p.0 e ≡ true → bytes_eq p.0 n ≡ true → has_name n e ≡ true
+named n e p h t = ap (λ x. has_name x e) (sym (equal_from_test p.0 n t)) ∙ h
+
+skip_test : (a b x y : Bool) → (b ≡ true → a ≡ true) → ((a || b) || x) ≡ ((a || b) || y) → (a || x) ≡ (a || (b || y))
+skip_test true b x y k h = refl
+skip_test false true x y k h = absurd (false≢true (k refl))
+skip_test false false x y k h = h
+
+take_test : (a b x y : Bool) → ((a || b) || x) ≡ ((a || b) || y) → (a || (b || x)) ≡ (a || (b || y))
+take_test true b x y h = refl
+take_test false true x y h = refl
+take_test false false x y h = h
+
+first_cases : (n : List ℕ) (e : List Pair) (p : Pair) (kept_rest ps : List Pair) → ((has_name n e || bytes_eq p.0 n) || has_name n kept_rest) ≡ ((has_name n e || bytes_eq p.0 n) || has_name n ps) → (has_name n e || has_name n (cond (has_name p.0 e) kept_rest (p ∷ kept_rest))) ≡ (has_name n e || (bytes_eq p.0 n || has_name n ps))
+first_cases n e p kept_rest ps h = cond_both (has_name p.0 e) kept_rest (p ∷ kept_rest) (λ x. (has_name n e || has_name n x) ≡ (has_name n e || (bytes_eq p.0 n || has_name n ps)))
+  (λ k. skip_test (has_name n e) (bytes_eq p.0 n) (has_name n kept_rest) (has_name n ps) (named n e p k) h)
+  (λ k. take_test (has_name n e) (bytes_eq p.0 n) (has_name n kept_rest) (has_name n ps) h)
+
+has_first : (n : List ℕ) (e ps : List Pair) → (has_name n e || has_name n (first_of_each_name e ps)) ≡ (has_name n e || has_name n ps)
+has_first n e [] = refl
+has_first n e (p ∷ ps) = first_cases n e p (first_of_each_name (e ++ (p ∷ [])) ps) ps (ap (λ b. b || has_name n (first_of_each_name (e ++ (p ∷ [])) ps)) (sym (has_pushed n e p)) ∙ has_first n (e ++ (p ∷ [])) ps ∙ ap (λ b. b || has_name n ps) (has_pushed n e p))
+
+one_or_none : (b : Bool) (q : Pair) → (cond b (q ∷ []) [] ≡ []) ⊎ ((p : Pair) × (cond b (q ∷ []) [] ≡ p ∷ []))
+one_or_none true q = inr (q, refl)
+one_or_none false q = inl refl
+
+valid_one : (item : Item) → (valid_of item ≡ []) ⊎ ((p : Pair) × (valid_of item ≡ p ∷ []))
+valid_one (name, None) = inl refl
+valid_one (name, Some v) = one_or_none (is_token_text name && list_all is_quotable v) (name, v)
+
+kept_pairs : (ps qs : List Pair) → (qs ≡ []) ⊎ ((p : Pair) × (qs ≡ p ∷ [])) → first_of_each_name [] (ps ++ qs) ≡ first_of_each_name [] ps ++ unless_named (first_of_each_name [] ps) qs
+kept_pairs ps qs (inl e) = rw (e, append-nil ps) (sym (append-nil (first_of_each_name [] ps)))
+kept_pairs ps qs (inr (p, e)) = rw e (first_snoc [] ps p ∙ ap (λ b. first_of_each_name [] ps ++ cond b [] (p ∷ [])) (sym (has_first p.0 [] ps)))
+
+pub kept_more : (items : List Item) (item : Item) → kept (items ++ (item ∷ [])) ≡ kept items ++ added (kept items) item
+kept_more items item = ap (first_of_each_name []) (flat_map-append valid_of items (item ∷ []) ∙ ap (λ x. valid_pairs items ++ x) (append-nil (valid_of item))) ∙ kept_pairs (valid_pairs items) (valid_of item) (valid_one item)
+
+-- What the parser keeps of one parameter
+
+pub none_added : {A B : Type 0} (pairs : List (String A × String B)) (more : List Pair) → more ≡ [] → map (λ p. pair_of p) pairs ≡ map (λ p. pair_of p) pairs ++ more
+none_added pairs more e = sym (ap (λ x. map (λ p. pair_of p) pairs ++ x) e ∙ append-nil (map (λ p. pair_of p) pairs))
+
+pub one_added : {A B : Type 0} (pairs pairs' : List (String A × String B)) (name : String A) (value : String B) (more : List Pair) → pairs' ≡ pairs ++ ((name, value) ∷ []) → more ≡ (code_points name, code_points value) ∷ [] → map (λ p. pair_of p) pairs' ≡ map (λ p. pair_of p) pairs ++ more
+one_added pairs pairs' name value more e h = ap (map (λ p. pair_of p)) e ∙ map-append (λ p. pair_of p) pairs ((name, value) ∷ []) ∙ ap (λ x. map (λ p. pair_of p) pairs ++ x) (sym h)
+
+lower_after : (xs ys : List Pair) → HasLowercaseNames xs → HasLowercaseNames ys → HasLowercaseNames (xs ++ ys)
+lower_after xs ys h k = list_all-append (λ (p : Pair). is_lowercase_name p.0) xs ys ∙ and_from (list_all (λ (p : Pair). is_lowercase_name p.0) xs) (list_all (λ (p : Pair). is_lowercase_name p.0) ys) h k
+
+unless_lower : (xs ps : List Pair) → HasLowercaseNames ps → HasLowercaseNames (unless_named xs ps)
+unless_lower xs [] h = refl
+unless_lower xs (p ∷ ps) h = cond_both (has_name p.0 xs) [] (p ∷ []) HasLowercaseNames (λ e. refl) (λ e. and_from (is_lowercase_name p.0) true (and_parts (is_lowercase_name p.0) (list_all (λ (q : Pair). is_lowercase_name q.0) ps) h).0 refl)
+
+pub valid_lower : (name : List ℕ) (value : Option (List ℕ)) → (is_token_text name ≡ true → is_lowercase_name name ≡ true) → HasLowercaseNames (valid_of (name, value))
+valid_lower name None h = refl
+valid_lower name (Some v) h = cond_both (is_token_text name && list_all is_quotable v) ((name, v) ∷ []) [] HasLowercaseNames (λ e. and_from (is_lowercase_name name) true (h (and_parts (is_token_text name) (list_all is_quotable v) e).0) refl) (λ e. refl)
+
+module _ (parameter : Parameter) (item : Item) (is : IsItem parameter item) where
+  pub name_token : is_token_text item.0 ≡ is_token_text (chars parameter.name.now)
+  name_token = ap is_token_text is.name ∙ token_text_lower (chars parameter.name.now)
+
+  pub invalid_name : (xs : List Pair) (b : Bool) → b ≡ is_token_text (chars parameter.name.now) → b ≡ false → added xs item ≡ []
+  invalid_name xs b e h = no_pair_token item xs (name_token ∙ sym e ∙ h)
+
+  pub known_name : {A B : Type 0} (pairs pairs' : List (String A × String B)) (b : Bool) → b ≡ has_name (map to_ascii_lowercase (chars parameter.name.now)) (map (λ p. pair_of p) pairs') → pairs' ≡ pairs → b ≡ true → added (map (λ p. pair_of p) pairs) item ≡ []
+  known_name pairs pairs' b e d h = no_pair_named item (map (λ p. pair_of p) pairs) (ap (λ n. has_name n (map (λ p. pair_of p) pairs)) is.name ∙ ap (λ s. has_name (map to_ascii_lowercase (chars parameter.name.now)) (map (λ p. pair_of p) s)) (sym d) ∙ sym e ∙ h)
+
+  pub invalid_value : (xs : List Pair) (text : Option (List ℕ)) → text ≡ quotable_value item.1 → text ≡ None → added xs item ≡ []
+  invalid_value xs text e h = no_pair_value item xs (sym h ∙ e)
+
+  pub new_pair : {A B : Type 0} (pairs pairs' : List (String A × String B)) (name value : List ℕ) (b d : Bool) → b ≡ is_token_text (chars parameter.name.now) → b ≡ true → d ≡ has_name (map to_ascii_lowercase (chars parameter.name.now)) (map (λ p. pair_of p) pairs') → pairs' ≡ pairs → d ≡ false → name ≡ map to_ascii_lowercase (chars parameter.name.now) → Some value ≡ quotable_value item.1 → added (map (λ p. pair_of p) pairs) item ≡ (name, value) ∷ []
+  new_pair pairs pairs' name value b d e h f g k n v =
+    one_pair item (map (λ p. pair_of p) pairs) value (name_token ∙ sym e ∙ h) (ap (λ x. has_name x (map (λ p. pair_of p) pairs)) is.name ∙ ap (λ s. has_name (map to_ascii_lowercase (chars parameter.name.now)) (map (λ p. pair_of p) s)) (sym g) ∙ sym f ∙ k) v
+    ∙ ap (λ x. (x, value) ∷ []) (is.name ∙ sym n)
+
+  -- what is added has a lower-case name
+  pub added_lower : (xs : List Pair) → HasLowercaseNames xs → HasLowercaseNames (xs ++ added xs item)
+  added_lower xs h = lower_after xs (added xs item) h (unless_lower xs (valid_of item) (valid_lower item.0 item.1 (λ t. ap is_lowercase_name is.name ∙ lowercase_name (chars parameter.name.now) (sym name_token ∙ t))))
+
+-- The parser's loop over the parameters
+
+-- what is kept so far, and what the rest adds
+pub record KeepsOn (whole rest : List ℕ) (pairs : List Pair) : Type 0 where
+  pub items : List Item
+  pub goes_on : (more : List Item) → Items rest more → Items whole (items ++ more)
+  pub kept_is : pairs ≡ kept items
+  pub lower : HasLowercaseNames pairs
+  pub begins : BeginsParameters rest
+
+pub keeps_first : (whole : List ℕ) → BeginsParameters whole → KeepsOn whole whole []
+keeps_first whole b = record { items = []; goes_on = λ more h. h; kept_is = refl; lower = refl; begins = b }
+
+pub keeps_more : (whole rest s rest' : List ℕ) (pairs pairs' : List Pair) (parameter : Parameter) (item : Item) → KeepsOn whole rest pairs → rest ≡ 59 ∷ s → HasParameterBefore s item rest' → IsItem parameter item → pairs' ≡ pairs ++ added pairs item → KeepsOn whole rest' pairs'
+keeps_more whole rest s rest' pairs pairs' parameter item k e p i a = record {
+  items = k.items ++ (item ∷ []);
+  goes_on = λ more h. subst (Items whole) (sym (append_assoc k.items (item ∷ []) more)) (k.goes_on (item ∷ more) (p.text, rest', e ∙ p.joined, p.is_parameter, h));
+  kept_is = a ∙ ap₂ (λ x y. x ++ added y item) k.kept_is k.kept_is ∙ sym (kept_more k.items item);
+  lower = subst HasLowercaseNames (sym a) (added_lower parameter item i pairs k.lower);
+  begins = p.begins }
+
+pub keeps_end : (whole rest : List ℕ) (pairs : List Pair) → KeepsOn whole rest pairs → rest ≡ [] → (items : List Item) × Items whole items × (pairs ≡ kept items)
+keeps_end whole rest pairs k e = (k.items, subst (Items whole) (append-nil k.items) (k.goes_on [] e), k.kept_is)
+
+pub rest_shorter : (s rest : List ℕ) (item : Item) → HasParameterBefore s item rest → length rest ≤ length s
+rest_shorter s rest item h = omega (arith, ap length h.joined, length-append h.text rest, ap length h.is_parameter.joined)

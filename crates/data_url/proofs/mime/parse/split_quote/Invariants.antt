@@ -1,0 +1,7 @@
+-- What is left of the string reads as the whole does.
+use Rattle.std.proofs.Common.{◌≡◌, drop, false}
+use Rattle.data_url.proofs.QuotedLemmas.{quoted_rest}
+use Rattle.data_url.proofs.mime.parse.split_quote.Given as goal
+
+abbrev pub invariant-loop-place : goal.invariant-loop-place
+invariant-loop-place l = quoted_rest l.escaped (drop l.place l.text) ≡ quoted_rest false l.text

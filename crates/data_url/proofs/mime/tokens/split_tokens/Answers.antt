@@ -1,0 +1,10 @@
+use Rattle.data_url.proofs.TokenLemmas.{split_at_other, tokens_boundary_at}
+use Rattle.data_url.proofs.mime.tokens.split_tokens.Goals as goal
+
+pub split_at-requires : goal.split_at-requires
+split_at-requires c = tokens_boundary_at c.as_bytes.result.now c.args.text.now c.first_other.result c.utf8.text c.first_other.ensures c.as_bytes.ensures.value
+
+pub returns : goal.returns
+returns c =
+    let s = split_at_other c.as_bytes.result.now c.args.text.now c.split_at.result.0.now c.split_at.result.1.now c.first_other.result c.utf8.text c.first_other.ensures c.as_bytes.ensures.value c.split_at.ensures.front c.split_at.ensures.back in
+    record { joined = s.joined; front = s.in_front; behind = s.begins; text = s.text }

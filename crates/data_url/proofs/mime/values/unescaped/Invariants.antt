@@ -1,0 +1,10 @@
+-- What is written and what is left to read make up the value.
+use Rattle.std.proofs.Common.{◌≡◌, ◌++◌, false}
+use Rattle.std.specs.Str.{IsUtf8, chars}
+use Rattle.std.specs.Str.Iter.{chars_rest}
+use Rattle.data_url.specs.Seen.{code_points}
+use Rattle.data_url.proofs.QuotedLemmas.{unescaped}
+use Rattle.data_url.proofs.mime.values.unescaped.Given as goal
+
+abbrev pub invariant-loop-c : goal.invariant-loop-c
+invariant-loop-c l = IsUtf8 (chars_rest l.c-iterator) × (code_points l.value ++ unescaped l.escaped (chars (chars_rest l.c-iterator)) ≡ unescaped false (chars l.quoted))

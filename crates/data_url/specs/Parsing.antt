@@ -1,0 +1,96 @@
+-- What the steps of the MIME parser give, for its private contracts. Texts are lists of code points.
+use Rattle.std.specs.Prelude.{◌≡◌, ℕ, ◌==◌, ◌||◌, Bool, cond, List, [], ◌∷◌, ◌++◌, Option, None, Some, Result, Ok, Err, IsTrue, map}
+use Rattle.std.specs.Char.{to_ascii_lowercase}
+use Rattle.std.specs.Int.{is_in_range}
+use Rattle.std.specs.List.{list_all}
+use Rattle.std.specs.Str.{IsUtf8, chars}
+use Rattle.data_url.specs.CodePoints.{is_quotable}
+use Rattle.data_url.specs.Mime.{BeginsParameters, DoesNotBegin, Every, GivesValue, IsHead, IsParameter, Item, Items, Pair, Quoted, QuotedOpen, Record, has_name, is_lowercase_name, kept, valid_of}
+use Rattle.data_url.specs.declared.mime.Mime.{Mime}
+use Rattle.data_url.specs.declared.mime.MimeFromStrError.{MimeFromStrError}
+use Rattle.data_url.specs.declared.mime.MimeFromStrError.TheVariants as errors
+use Rattle.data_url.specs.declared.mime.parse.Parameter.{Parameter}
+use Rattle.data_url.specs.declared.mime.values.Value.{Value}
+use Rattle.data_url.specs.declared.mime.values.Value.TheVariants as slices
+
+-- t is s without its longest front of code points that pass
+pub record IsTrimmedFront (p : ℕ → Bool) (s t : List ℕ) : Type 0 where
+  pub front : List ℕ
+  pub joined : s ≡ front ++ t
+  pub at_front : Every p front
+  pub begins : DoesNotBegin p t
+
+-- x, which stands behind a name, is what gives the value and then the rest
+pub record HasValueBefore (x : List ℕ) (value : Option (List ℕ)) (rest : List ℕ) : Type 0 where
+  pub tail : List ℕ
+  pub joined : x ≡ tail ++ rest
+  pub gives : GivesValue tail rest value
+  pub begins : BeginsParameters rest
+
+-- s, which stands behind ';', is what makes the item with that ';', and then the rest
+pub record HasParameterBefore (s : List ℕ) (item : Item) (rest : List ℕ) : Type 0 where
+  pub text : List ℕ
+  pub joined : 59 ∷ s ≡ text ++ rest
+  pub is_parameter : IsParameter text rest item
+  pub begins : BeginsParameters rest
+
+-- a quoted string whose closing quote is missing
+abbrev pub IsOpen : List ℕ → Type 0
+IsOpen text = (value : List ℕ) × QuotedOpen text value
+
+-- of the bytes of a text: a quoted string, its closing quote, and what stands behind it
+pub record IsClosed (text quoted behind : List ℕ) : Type 0 where
+  pub value : List ℕ
+  pub is_quoted : Quoted (chars quoted) value
+  pub joined : chars text ≡ chars quoted ++ (34 ∷ chars behind)
+  pub utf8 : IsUtf8 behind
+
+-- the slices spell the value
+abbrev pub IsValue : Value → Option (List ℕ) → Type 0
+IsValue slices.Missing value = value ≡ None
+IsValue (slices.Plain text) value = value ≡ Some (chars text.now)
+IsValue (slices.Quoted text) value = (w : List ℕ) × (value ≡ Some w) × QuotedOpen (chars text.now) w
+
+-- a byte of the UTF-8 of quoted-string code points
+unfoldable pub is_quotable_byte : ℕ → Bool
+is_quotable_byte b = (b == 9) || is_in_range 32 126 b || is_in_range 128 195 b
+
+-- the value, if it has quoted-string code points alone
+abbrev pub quotable_value : Option (List ℕ) → Option (List ℕ)
+quotable_value None = None
+quotable_value (Some value) = cond (list_all is_quotable value) (Some value) None
+
+-- the slices spell the item
+pub record IsItem (parameter : Parameter) (item : Item) : Type 0 where
+  pub name : item.0 ≡ map to_ascii_lowercase (chars parameter.name.now)
+  pub value : IsValue parameter.value item.1
+
+-- the pair that an item adds to those that are kept: none where its name is there
+abbrev pub unless_named : List Pair → List Pair → List Pair
+unless_named earlier [] = []
+unless_named earlier (p ∷ ps) = cond (has_name p.0 earlier) [] (p ∷ [])
+
+abbrev pub added : List Pair → Item → List Pair
+added earlier item = unless_named earlier (valid_of item)
+
+-- each name is a lower-case one
+abbrev pub HasLowercaseNames : List Pair → Type 0
+HasLowercaseNames pairs = IsTrue (list_all (λ (p : Pair). is_lowercase_name p.0) pairs)
+
+-- no head is that of the text
+abbrev pub HasNoHead : List ℕ → Type 0
+HasNoHead s = (type_ subtype parameters : List ℕ) → IsHead s type_ subtype parameters → ⊥
+
+-- m is the record of a type, a subtype and a parameters' text
+pub record IsRecordOfParts (type_ subtype parameters : List ℕ) (m : Record) : Type 0 where
+  pub items : List Item
+  pub items_are : Items parameters items
+  pub type_is : m.type_ ≡ map to_ascii_lowercase type_
+  pub subtype_is : m.subtype ≡ map to_ascii_lowercase subtype
+  pub parameters_are : m.parameters ≡ kept items
+
+-- the answer says that the text is no MIME type
+abbrev pub IsParsingError : Result Mime MimeFromStrError → Type 0
+IsParsingError (Ok m) = ⊥
+IsParsingError (Err (errors.Parsing e)) = Unit {0}
+IsParsingError (Err errors.OutOfMemory) = ⊥

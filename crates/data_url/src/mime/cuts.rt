@@ -1,0 +1,50 @@
+//! Texts cut at a code point, and HTTP whitespace taken off.
+
+ghost use Rattle.std.specs.Prelude.{◌≡◌, ◌++◌, not};
+ghost use Rattle.std.specs.Str.{IsUtf8, chars};
+ghost use Rattle.data_url.specs.CodePoints.{ends_name, is_http_whitespace, is_semicolon};
+ghost use Rattle.data_url.specs.Mime.{BeginsParameters, DoesNotBegin, IsTrimmedEnd, Without};
+ghost use Rattle.data_url.specs.Parsing.{IsTrimmedFront};
+
+/// HTTP whitespace (Fetch Standard, section 2.2).
+const HTTP_WHITESPACE: [char; 4] = ['\t', '\n', '\r', ' '];
+
+/// The text without HTTP whitespace at its start.
+pub(super) fn without_front(text: &str) -> &str
+    ensures { IsTrimmedFront is_http_whitespace (chars text.now) (chars result.now) }
+{
+    text.trim_start_matches(HTTP_WHITESPACE)
+}
+
+/// The text without HTTP whitespace at its end.
+pub(super) fn without_end(text: &str) -> &str
+    ensures { IsTrimmedEnd is_http_whitespace (chars text.now) (chars result.now) }
+{
+    text.trim_end_matches(HTTP_WHITESPACE)
+}
+
+/// What stands before the first `;` or `=`, and the rest.
+pub(super) fn split_name(text: &str) -> (&str, &str)
+    ensures joined { chars text.now ≡ chars result.0.now ++ chars result.1.now }
+    ensures front { Without ends_name (chars result.0.now) }
+    ensures behind { DoesNotBegin (λ c. not (ends_name c)) (chars result.1.now) }
+    ensures text { IsUtf8 result.0.now × IsUtf8 result.1.now }
+{
+    match text.find([';', '=']) {
+        Some(place) => text.split_at(place),
+        None => (text, ""),
+    }
+}
+
+/// What stands before the first `;`, and the rest.
+pub(super) fn split_semicolon(text: &str) -> (&str, &str)
+    ensures joined { chars text.now ≡ chars result.0.now ++ chars result.1.now }
+    ensures front { Without is_semicolon (chars result.0.now) }
+    ensures behind { BeginsParameters (chars result.1.now) }
+    ensures text { IsUtf8 result.0.now × IsUtf8 result.1.now }
+{
+    match text.find(';') {
+        Some(place) => text.split_at(place),
+        None => (text, ""),
+    }
+}

@@ -1,0 +1,87 @@
+//! Values of parameters, as they stand in a text and as texts of their own.
+
+ghost use Rattle.std.specs.Prelude.{◌≡◌, List, ℕ, IfOk, IsTrue, map};
+ghost use Rattle.std.specs.Char.{to_ascii_lowercase};
+ghost use Rattle.std.specs.List.{list_all};
+ghost use Rattle.std.specs.Option.{option_map};
+ghost use Rattle.std.specs.Str.{chars};
+ghost use Rattle.data_url.specs.CodePoints.{is_quotable};
+ghost use Rattle.data_url.specs.Mime.{QuotedOpen, is_token_text};
+ghost use Rattle.data_url.specs.Parsing.{IsValue, is_quotable_byte, quotable_value};
+ghost use Rattle.data_url.specs.Seen.{code_points};
+
+use std::alloc::{AllocError, Global};
+
+/// A value as it stands in a text.
+#[derive(Clone, Copy)]
+pub(super) enum Value<'a> {
+    Missing,
+    Plain(&'a str),
+    /// What stands between the quotes, or behind the first one up to the end.
+    Quoted(&'a str),
+}
+
+impl<'a> Value<'a> {
+    ghost use Rattle.std.specs.Prelude.{Option};
+
+    /// The value as a text of its own, if it is there and has quoted-string code points alone. It takes memory for that text.
+    pub(super) fn text(&self, alloc: Global) -> Result<Option<String>, AllocError>
+        ensures { IfOk result (λ text. (value : Option (List ℕ)) → IsValue self.now value → option_map (λ t. code_points t) text ≡ quotable_value value) }
+    {
+        match self {
+            Value::Plain(text) if is_quotable(text) => Ok(Some(String::from_str(alloc, text)?)),
+            Value::Quoted(text) if is_quotable(text) => Ok(Some(unescaped(alloc, text)?)),
+            _ => Ok(None),
+        }
+    }
+}
+
+// Whether a byte stands in the UTF-8 of quoted-string code points: U+0080 to U+00FF begin with 0xC2 or 0xC3, and every
+// later code point begins with a greater byte.
+#[tactic(auto, unfolding(crate::specs::Parsing::is_quotable_byte))]
+fn is_quotable_byte(byte: u8) -> bool
+    ensures { result ≡ is_quotable_byte byte }
+{
+    matches!(byte, b'\t' | b' '..=b'~' | 0x80..=0xC3)
+}
+
+// Whether a text has quoted-string code points alone. What escapes the others is one too, so a quoted string may be
+// asked before it is unescaped.
+fn is_quotable(text: &str) -> bool
+    ensures { result ≡ list_all is_quotable (chars text.now) }
+{
+    for byte in text.as_bytes() {
+        if !is_quotable_byte(*byte) {
+            return false;
+        }
+    }
+    true
+}
+
+// The value of a quoted string: without the `\` before each code point that one stands before.
+fn unescaped(alloc: Global, quoted: &str) -> Result<String, AllocError>
+    ensures { IfOk result (λ text. (value : List ℕ) → QuotedOpen (chars quoted.now) value → code_points text ≡ value) }
+{
+    let mut value = String::with_capacity(alloc, quoted.len())?;
+    let mut escaped = false;
+    for c in quoted.chars() {
+        escaped = c == '\\' && !escaped;
+        if !escaped {
+            value.push(c)?;
+        }
+    }
+    if escaped {
+        value.push('\\')?;
+    }
+    Ok(value)
+}
+
+/// A text of token code points, in ASCII lower case.
+pub(super) fn lowercased(alloc: Global, text: &str) -> Result<String, AllocError>
+    requires { IsTrue (is_token_text (chars text.now)) }
+    ensures { IfOk result (λ lower. code_points lower ≡ map to_ascii_lowercase (chars text.now)) }
+{
+    let mut lower = String::from_str(alloc, text)?;
+    lower.make_ascii_lowercase();
+    Ok(lower)
+}
