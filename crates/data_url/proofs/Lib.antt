@@ -13,6 +13,7 @@ pub mod HeadLemmas
 pub mod HeaderLemmas
 pub mod ItemLemmas
 pub mod KeptLemmas
+pub mod MediaLemmas
 mod MimeExamples
 pub mod OnLiterals
 pub mod ParameterLemmas

@@ -1,6 +1,8 @@
 -- What the private steps of reading a header do.
-use Rattle.std.specs.Prelude.{◌≡◌, ℕ, ◌<◌, ◌≤◌, ◌==◌, cond, List, length, slice_index}
+use Rattle.std.specs.Prelude.{◌≡◌, ℕ, ◌<◌, ◌≤◌, ◌==◌, Bool, cond, List, length, slice_index}
 use Rattle.data_url.specs.Url.{dropped, in_fragment_set, in_query_set, percent_encoded, serialised}
+use Rattle.data_url.specs.Fetch.{has_base64_suffix, mime_text}
+use Rattle.data_url.specs.Mime.{IsRecordOf, IsWellformed, Record}
 use Rattle.data_url.specs.declared.percent.EncodeSet.{EncodeSet}
 use Rattle.data_url.specs.declared.percent.EncodeSet.TheVariants.{Fragment, Path, Query}
 
@@ -17,3 +19,13 @@ pub record HasChanges (header : List ℕ) (encoded dropped_count : ℕ) : Type 0
 -- each byte is printable ASCII or a space
 abbrev pub IsPrintable : List ℕ → Type 0
 IsPrintable s = (i : ℕ) → i < length s → (32 ≤ slice_index s i) × (slice_index s i < 127)
+
+-- the record of a text, or the default one, well-formed
+pub record IsRecordFor (text : List ℕ) (m : Record) : Type 0 where
+  pub is_record : IsRecordOf text m
+  pub wellformed : IsWellformed m
+
+-- the record of a serialised header, and whether its body is base64
+pub record IsHeaderOf (header : List ℕ) (m : Record) (base64 : Bool) : Type 0 where
+  pub record_is : IsRecordFor (mime_text header) m
+  pub base64_is : base64 ≡ has_base64_suffix header

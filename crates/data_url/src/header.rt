@@ -1,15 +1,20 @@
 //! The header of a data: URL (Fetch Standard, section 6), from its text as it was given.
 
 ghost use Rattle.std.specs.Prelude.{◌≡◌, IfOk, string_bytes};
+ghost use Rattle.std.specs.Str.{chars};
 ghost use Rattle.data_url.specs.Url.{dropped, serialised};
-ghost use Rattle.data_url.specs.Fetch.{before_base64};
-ghost use Rattle.data_url.specs.Header.{HasChanges, IsPrintable, next_set};
-ghost use Rattle.data_url.specs.Seen.{as_option};
+ghost use Rattle.data_url.specs.Fetch.{before_base64, with_plain};
+ghost use Rattle.data_url.specs.Mime.{default_record};
+ghost use Rattle.data_url.specs.Header.{HasChanges, IsHeaderOf, IsPrintable, IsRecordFor, next_set};
+ghost use Rattle.data_url.specs.Seen.{as_option, seen};
 
 use std::alloc::{AllocError, Global};
 
-use crate::front::{is_passed_over, low_end_len};
+use crate::front::{is_passed_over, low_end_len, trim};
+use crate::mime::{Mime, MimeFromStrError};
 use crate::percent::{EncodeSet, push_encoded};
+
+const PLAIN: &str = "text/plain";
 
 const SUFFIX: [u8; 6] = *b"base64";
 
@@ -21,6 +26,7 @@ fn set_behind(set: EncodeSet, byte: u8) -> EncodeSet
 }
 
 /// How a header's text changes as it is serialised.
+#[derive(Clone, Copy)]
 struct Changes {
     /// How many bytes are percent-encoded.
     encoded: usize,
@@ -80,4 +86,67 @@ fn without_suffix(header: &str) -> Option<&str>
         return None;
     }
     Some(&header[..semicolon])
+}
+
+/// The record of a header's text as it was given, and whether the body is base64.
+pub(crate) fn read_header(alloc: Global, header: &str) -> Result<(Mime, bool), AllocError>
+    ensures { IfOk result (λ found. IsHeaderOf (serialised (dropped header.now)) (seen found.0) found.1) }
+{
+    let bytes = header.as_bytes();
+    let changes = changes_of(bytes);
+    if changes.encoded == 0 && changes.dropped == 0 {
+        return read_serialised(alloc, header);
+    }
+    let len = changes.encoded.saturating_mul(2).saturating_add(bytes.len() - changes.dropped);
+    let text = serialise(alloc, bytes, len)?;
+    read_serialised(alloc, text.as_str())
+}
+
+/// The record of a serialised header, and whether the body is base64.
+fn read_serialised(alloc: Global, header: &str) -> Result<(Mime, bool), AllocError>
+    requires { IsPrintable header.now }
+    ensures { IfOk result (λ found. IsHeaderOf header.now (seen found.0) found.1) }
+{
+    let stripped = trim(header);
+    match without_suffix(stripped) {
+        Some(media) => Ok((read_media(alloc, media)?, true)),
+        None => Ok((read_media(alloc, stripped)?, false)),
+    }
+}
+
+/// The record of a header without its suffix: `text/plain` stands for a type that is left out.
+fn read_media(alloc: Global, media: &str) -> Result<Mime, AllocError>
+    requires { IsPrintable media.now }
+    ensures { IfOk result (λ mime. IsRecordFor (with_plain media.now) (seen mime)) }
+{
+    let bytes = media.as_bytes();
+    if bytes.is_empty() || bytes[0] != b';' {
+        return record_of(alloc, media);
+    }
+    let mut text = String::with_capacity(alloc, PLAIN.len().saturating_add(media.len()))?;
+    text.push_str(PLAIN)?;
+    text.push_str(media)?;
+    record_of(alloc, text.as_str())
+}
+
+/// The record of a text or, where it has none, the default one.
+fn record_of(alloc: Global, text: &str) -> Result<Mime, AllocError>
+    ensures { IfOk result (λ mime. IsRecordFor (chars text.now) (seen mime)) }
+{
+    match Mime::from_str(alloc, text) {
+        Ok(mime) => Ok(mime),
+        Err(MimeFromStrError::Parsing(_)) => default_mime(alloc),
+        Err(MimeFromStrError::OutOfMemory) => Err(AllocError),
+    }
+}
+
+/// `text/plain;charset=US-ASCII`.
+fn default_mime(alloc: Global) -> Result<Mime, AllocError>
+    ensures { IfOk result (λ mime. seen mime ≡ default_record) }
+{
+    let mut mime = Mime::new(alloc, "text", "plain")?;
+    let charset = String::from_str(alloc, "charset")?;
+    let value = String::from_str(alloc, "US-ASCII")?;
+    mime.parameters.push((charset, value))?;
+    Ok(mime)
 }

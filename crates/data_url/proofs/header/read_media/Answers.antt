@@ -1,0 +1,28 @@
+use Rattle.std.proofs.Common.{◌≡◌, ◌≢◌, ℕ, List, [], ◌++◌, codes, length, get_or, inl, inr, sym, ap, ◌∙◌, subst, eqb-true}
+use Rattle.std.specs.Prelude.{◌⊎◌, string_bytes}
+use Rattle.std.specs.Str.{chars}
+use Rattle.std.proofs.lemmas.List.{nil_from_length}
+use Rattle.std.proofs.lemmas.Result.{IfOk-weaker}
+use Rattle.data_url.specs.Fetch.{with_plain}
+use Rattle.data_url.specs.Header.{IsRecordFor}
+use Rattle.data_url.specs.Seen.{seen}
+use Rattle.data_url.proofs.MediaLemmas.{chars_plain, chars_printable, plain_added, plain_stays}
+use Rattle.data_url.proofs.header.read_media.Goals as goal
+use Rattle.data_url.proofs.header.read_media.Goals.{then-is_empty-via-then-is_empty, then-is_empty-via-else-is_empty+then-bytes-ne59}
+
+pub returns-then-is_empty : goal.returns-then-is_empty
+returns-then-is_empty c =
+    let bytes = c.as_bytes-bytes.ensures.value in
+    let unlike : (c.args.media.now ≡ []) ⊎ (get_or c.args.media.now 0 0 ≢ 59) = elim c.then-is_empty.branch [
+        then-is_empty-via-then-is_empty w ↦ inl (nil_from_length c.args.media.now (ap length (sym bytes) ∙ eqb-true (length c.as_bytes-bytes.result.now) 0 (sym c.is_empty.ensures ∙ w.if-is_empty.true)))
+      | then-is_empty-via-else-is_empty+then-bytes-ne59 w ↦ inr (λ e. w.if-bytes-ne59.true (ap (λ s. get_or s 0 0) bytes ∙ e))
+      ] in
+    let same : chars c.args.media.now ≡ with_plain c.args.media.now = chars_printable c.args.media.now c.requires ∙ sym (plain_stays c.args.media.now unlike) in
+    IfOk-weaker c.record_of.result _ _ (λ mime h. subst (λ s. IsRecordFor s (seen mime)) same h) c.record_of.ensures
+
+pub returns : goal.returns
+returns c =
+    let first : get_or c.args.media.now 0 0 ≡ 59 = ap (λ s. get_or s 0 0) (sym c.as_bytes-bytes.ensures.value) ∙ c.if-bytes-ne59.false in
+    let text : c.as_str.result.now ≡ codes "text/plain" ++ c.args.media.now = c.as_str.ensures.value ∙ c.in_ok-push_str-2.ensures.bytes ∙ ap (λ s. s ++ c.args.media.now) (c.in_ok-push_str.ensures.bytes ∙ ap (λ s. s ++ codes "text/plain") c.in_ok-text.ensures.bytes) in
+    let same : chars c.as_str.result.now ≡ with_plain c.args.media.now = ap chars text ∙ chars_plain c.args.media.now c.requires ∙ sym (plain_added c.args.media.now first) in
+    IfOk-weaker c.record_of-2.result _ _ (λ mime h. subst (λ s. IsRecordFor s (seen mime)) same h) c.record_of-2.ensures
