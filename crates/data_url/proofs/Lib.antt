@@ -18,6 +18,7 @@ mod MimeExamples
 pub mod OnLiterals
 pub mod ParameterLemmas
 pub mod PrintableLemmas
+pub mod ProcessLemmas
 pub mod QuoteLemmas
 pub mod QuotedLemmas
 pub mod RecodedLemmas

@@ -18,4 +18,5 @@ pub mod Seen
 pub mod Sets
 pub mod Steps
 pub mod Url
+pub mod UrlSeen
 pub mod VecError

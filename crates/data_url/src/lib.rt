@@ -1,5 +1,11 @@
-//! Data: URLs by the Fetch Standard.
+//! Data: URLs by the Fetch Standard, from a text rather than a parsed URL, to avoid copies.
 #![tactic(auto)]
+
+ghost use Rattle.std.specs.Prelude.{◌≡◌, ◌+◌, Some, codes, length};
+ghost use Rattle.std.specs.Fn.{CalledAt};
+ghost use Rattle.data_url.specs.Decodes.{Decodes};
+ghost use Rattle.data_url.specs.Body.{IsBodyEnd};
+ghost use Rattle.data_url.specs.UrlSeen.{IsFragmentOf, IsProcessed, mime_of, url_body, url_tail};
 
 mod body;
 mod facts;
@@ -8,3 +14,151 @@ mod front;
 mod header;
 pub mod mime;
 mod percent;
+
+use body::{decode_base64, decode_plain};
+use forgiving_base64::DecodeError;
+use front::{after_scheme, split_at_comma, trim};
+use header::read_header;
+use mime::Mime;
+use std::alloc::Global;
+use std::error::Error;
+use std::fmt;
+
+/// A data: URL: its MIME type, and its body and fragment as slices of the text that it was read from.
+#[derive(Drop)]
+pub struct DataUrl<'a> {
+    mime_type: Mime,
+    base64: bool,
+    tail: &'a str,
+}
+
+/// What stands behind the first `#` of a data: URL, as it was given, tabs and newlines included.
+#[derive(Clone, Copy)]
+pub struct FragmentIdentifier<'a> {
+    text: &'a str,
+}
+
+/// Why a text gave no data: URL.
+#[derive(Debug, Drop)]
+pub enum DataUrlError {
+    /// The text does not begin with the scheme `data:`.
+    NotADataUrl,
+    /// No comma stands before the fragment.
+    NoComma,
+    /// The MIME type found no memory.
+    OutOfMemory,
+}
+
+impl fmt::Display for DataUrlError {
+    ghost use Rattle.data_url.specs.ErrorText.{url_error_text};
+
+    ghost output = { λ error. Some (url_error_text error) };
+
+    fn fmt<W: fmt::Write>(&self, f: &mut fmt::Formatter<W>) -> fmt::Result {
+        match self {
+            DataUrlError::NotADataUrl => write!(f, "not a valid data url"),
+            DataUrlError::NoComma => {
+                write!(f, "data url is missing comma delimiting attributes and body")
+            }
+            DataUrlError::OutOfMemory => write!(f, "out of memory"),
+        }
+    }
+}
+
+impl Error for DataUrlError {}
+
+impl<'a> DataUrl<'a> {
+    /// The data: URL of a text (Fetch Standard, section 6, from a text with all behind `data:` as an opaque path).
+    ///
+    /// It answers `NotADataUrl` exactly where the text has no scheme `data:`, and `NoComma` exactly where it has that
+    /// scheme and no comma before its fragment; both are found before memory is asked for. `OutOfMemory` comes where the
+    /// MIME type finds no memory. A base64 body that is not valid is accepted: decoding tells the fault.
+    pub fn process(alloc: Global, input: &'a str) -> Result<DataUrl<'a>, DataUrlError>
+        ensures { IsProcessed input.entry.now result }
+    {
+        let Some(rest) = after_scheme(trim(input)) else {
+            return Err(DataUrlError::NotADataUrl);
+        };
+        let Some((header, tail)) = split_at_comma(rest) else {
+            return Err(DataUrlError::NoComma);
+        };
+        let Ok((mime_type, base64)) = read_header(alloc, header) else {
+            return Err(DataUrlError::OutOfMemory);
+        };
+        Ok(DataUrl {
+            mime_type,
+            base64,
+            tail,
+        })
+    }
+
+    /// The MIME type: that of the header or, where the header has none, `text/plain;charset=US-ASCII`.
+    pub fn mime_type(&self) -> &Mime
+        ensures { result.now ≡ mime_of self.now }
+    {
+        &self.mime_type
+    }
+
+    /// Hands the body to a closure and answers the place in the tail where the body ends.
+    fn decode_to_place<F, E>(&self, write: F) -> (Result<usize, DecodeError<E>>, F)
+    where
+        F: FnMut(&[u8]) -> Result<(), E>,
+        requires { F.IsAlwaysCallable write }
+        ensures { Decodes (CalledAt F.FnMut) write (length (url_tail self.now) + 1) (url_body self.now)
+            (IsBodyEnd (url_tail self.now)) result.0 result.1 }
+    {
+        let tail = self.tail.as_bytes();
+        if self.base64 { decode_base64(tail, write) } else { decode_plain(tail, write) }
+    }
+
+    /// The fragment of a URL whose body ends at the place.
+    fn fragment_at(&self, place: usize) -> Option<FragmentIdentifier<'a>>
+        requires { IsBodyEnd (url_tail self.now) place }
+        ensures { IsFragmentOf (url_tail self.now) result }
+    {
+        let bytes = self.tail.as_bytes();
+        if place == bytes.len() {
+            return None;
+        }
+        Some(FragmentIdentifier {
+            text: &self.tail[place + 1..],
+        })
+    }
+
+    /// Decodes the body as `decode` does, and hands the closure back as its last call left it.
+    pub fn decode_with<F, E>(
+        &self,
+        write_body_bytes: F,
+    ) -> (Result<Option<FragmentIdentifier<'a>>, DecodeError<E>>, F)
+    where
+        F: FnMut(&[u8]) -> Result<(), E>,
+        requires { F.IsAlwaysCallable write_body_bytes }
+        ensures { Decodes (CalledAt F.FnMut) write_body_bytes (length (url_tail self.now) + 1) (url_body self.now)
+            (IsFragmentOf (url_tail self.now)) result.0 result.1 }
+    {
+        let (answer, write) = self.decode_to_place(write_body_bytes);
+        match answer {
+            Ok(place) => (Ok(self.fragment_at(place)), write),
+            Err(error) => (Err(error), write),
+        }
+    }
+
+    /// Hands the body's bytes to a closure, piece by piece, and answers the fragment (Fetch Standard, section 6). It takes
+    /// no memory, and calls the closure at most once more than there are bytes behind the comma.
+    ///
+    /// It answers `WriteError` with the closure's error, after which there is no further call, and `InvalidBase64` for a
+    /// base64 body that is not valid, once the bytes before its first fault were handed out.
+    pub fn decode<F, E>(
+        &self,
+        write_body_bytes: F,
+    ) -> Result<Option<FragmentIdentifier<'a>>, DecodeError<E>>
+    where
+        F: FnMut(&[u8]) -> Result<(), E> + Drop,
+        requires { F.IsAlwaysCallable write_body_bytes }
+        ensures { (after : F) × Decodes (CalledAt F.FnMut) write_body_bytes (length (url_tail self.now) + 1)
+            (url_body self.now) (IsFragmentOf (url_tail self.now)) result after }
+    {
+        let (answer, _) = self.decode_with(write_body_bytes);
+        answer
+    }
+}

@@ -1,0 +1,21 @@
+use Rattle.std.proofs.Common.{◌≡◌, List, ℕ, Bool, Some, sym, ap, ◌∙◌, subst, arith}
+use Rattle.data_url.specs.Url.{behind, front, trimmed}
+use Rattle.data_url.specs.Front.{HasNoScheme, IsHeaderAndTail, IsSchemeAndRest}
+use Rattle.data_url.proofs.RecodedLemmas.{IsBytes}
+use Rattle.data_url.proofs.ProcessLemmas.{bytes_trimmed, is_acceptable, is_url_of, stages_no_comma, stages_no_scheme}
+use Rattle.data_url.proofs.DataUrl.process.Goals as goal
+
+pub returns-in_default : goal.returns-in_default
+returns-in_default c = stages_no_scheme c.args.input.now (subst HasNoScheme c.trim.ensures c.in_default.ensures.none)
+
+pub returns-in_default-split_at_comma : goal.returns-in_default-split_at_comma
+returns-in_default-split_at_comma c =
+    stages_no_comma c.args.input.now c.in-Some.rest.now (bytes_trimmed c.args.input.now (λ i. omega (arith, c.type_inv.input i))) (subst (λ t. IsSchemeAndRest t c.in-Some.rest.now) c.trim.ensures c.in-Some.ensures.found) c.in_default-split_at_comma.ensures.none
+
+pub returns-in_default-read_header : goal.returns-in_default-read_header
+returns-in_default-read_header c =
+    is_acceptable c.args.input.now c.in-Some.rest.now c.in-Some-split_at_comma.header.now c.in-Some-split_at_comma.tail.now (bytes_trimmed c.args.input.now (λ i. omega (arith, c.type_inv.input i))) (subst (λ t. IsSchemeAndRest t c.in-Some.rest.now) c.trim.ensures c.in-Some.ensures.found) c.in-Some-split_at_comma.ensures.found
+
+pub returns : goal.returns
+returns c =
+    is_url_of c.args.input.now c.in-Some.rest.now c.in-Some-split_at_comma.header.now _ (bytes_trimmed c.args.input.now (λ i. omega (arith, c.type_inv.input i))) (subst (λ t. IsSchemeAndRest t c.in-Some.rest.now) c.trim.ensures c.in-Some.ensures.found) c.in-Some-split_at_comma.ensures.found c.in-Ok.ensures

@@ -1,0 +1,59 @@
+-- What contracts see of a `DataUrl` and a `FragmentIdentifier`, and what `process` makes of a text (Fetch Standard, section 6).
+use Rattle.std.specs.Prelude.{◌≡◌, ℕ, Bool, List, Option, None, Some, Result, Ok, Err}
+use Rattle.std.specs.Option.{option_map}
+use Rattle.data_url.specs.Url.{behind, dropped, fragment, in_fragment_set, percent_encoded}
+use Rattle.data_url.specs.Mime.{IsRecordOf, IsWellformed}
+use Rattle.data_url.specs.Fetch.{Accepted, NoComma, NoScheme, Outcome, Staged, has_base64_suffix, header_of, mime_text, outcome, plain_body, staged, tail_of}
+use Rattle.data_url.specs.Seen.{seen}
+use Rattle.data_url.specs.declared.mime.Mime.{Mime}
+use Rattle.data_url.specs.declared.DataUrl.{DataUrl}
+use Rattle.data_url.specs.declared.FragmentIdentifier.{FragmentIdentifier}
+use Rattle.data_url.specs.declared.DataUrlError.{DataUrlError}
+use Rattle.data_url.specs.declared.DataUrlError.TheVariants.{NoComma as no_comma, NotADataUrl as no_scheme, OutOfMemory as no_memory}
+
+-- the MIME type record
+abbrev pub mime_of : DataUrl → Mime
+mime_of u = u.mime_type
+
+-- whether the body is base64
+abbrev pub is_base64 : DataUrl → Bool
+is_base64 u = u.base64
+
+-- what stands behind the first comma, as it was given
+abbrev pub url_tail : DataUrl → List ℕ
+url_tail u = u.tail.now
+
+-- the body, or the fault of its base64 with the bytes before it
+abbrev pub url_body : DataUrl → Outcome
+url_body u = outcome (is_base64 u) (plain_body (url_tail u))
+
+-- the text of a fragment: what stands behind '#', as it was given
+abbrev pub fragment_text : FragmentIdentifier → List ℕ
+fragment_text f = f.text.now
+
+-- the fragment of a tail: what stands behind its first '#', or none
+abbrev pub IsFragmentOf : List ℕ → Option FragmentIdentifier → Type 0
+IsFragmentOf tail found = option_map fragment_text found ≡ behind 35 tail
+
+-- the URL of a text that is accepted: its record is that of the header, and the Standard's body and fragment are those of its tail
+pub record IsUrlOf (t : List ℕ) (u : DataUrl) : Type 0 where
+  pub header : List ℕ
+  pub header_is : header_of t ≡ Some header
+  pub record_is : IsRecordOf (mime_text header) (seen (mime_of u))
+  pub wellformed : IsWellformed (seen (mime_of u))
+  pub base64_is : is_base64 u ≡ has_base64_suffix header
+  pub tail_is : tail_of t ≡ Some (url_tail u)
+  pub staged_is : staged t ≡ Accepted (mime_text header) (url_body u) (option_map (percent_encoded in_fragment_set) (fragment (dropped (url_tail u))))
+
+-- a scheme and a comma are there
+abbrev pub IsAcceptable : Staged → Type 0
+IsAcceptable NoScheme = ⊥
+IsAcceptable NoComma = ⊥
+IsAcceptable (Accepted text body fragment) = Unit {0}
+
+-- what is answered of a text: each refusal exactly where the Standard finds no scheme or no comma, and want of memory for no such text
+abbrev pub IsProcessed : List ℕ → Result DataUrl DataUrlError → Type 0
+IsProcessed t (Ok u) = IsUrlOf t u
+IsProcessed t (Err no_scheme) = staged t ≡ NoScheme
+IsProcessed t (Err no_comma) = staged t ≡ NoComma
+IsProcessed t (Err no_memory) = IsAcceptable (staged t)
