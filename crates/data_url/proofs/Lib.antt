@@ -9,4 +9,5 @@ pub mod QuoteLemmas
 pub mod ParameterLemmas
 pub mod ValueLemmas
 pub mod KeptLemmas
+pub mod PrintLemmas
 pub mod WellformedLemmas

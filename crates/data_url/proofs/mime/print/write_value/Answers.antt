@@ -1,14 +1,14 @@
-use Rattle.std.proofs.Common.{rules, ◌≡◌, ℕ, ◌+◌, ◌-◌, ◌*◌, ◌<◌, ◌≤◌, length, ◌/◌, ◌%◌, Bool, true, false, nat_eq, nat_lt, List, [], ◌∷◌, ◌++◌, slice_index_or, slice_set, bit_and, bit_or, Fits, w8, w32, w64, Bor, MutBor}
-use Rattle.std.specs.Fmt.{WritesOnOk}
-use Rattle.std.specs.List.{flat_map}
-use Rattle.std.specs.Str.{chars, encode_utf8_all}
-use Rattle.data_url.specs.Mime.{escaped, printed_pair, printed_value}
+use Rattle.std.proofs.Common.{refl}
+use Rattle.std.proofs.Output.{has_written_append, has_written_of_eq}
+use Rattle.data_url.proofs.PrintLemmas.{quoted_value_text, token_value}
 use Rattle.data_url.proofs.mime.print.write_value.Goals as goal
 
--- src/mime/print.rt:30:9
 pub returns-then-is_token_text : goal.returns-then-is_token_text
-returns-then-is_token_text g c = ?
+returns-then-is_token_text g c plain ok = has_written_of_eq _ _ _ _ _ (token_value c.args.value.now c.is_token_text.result c.utf8.value c.is_token_text.ensures c.if-is_token_text.true) (c.write_str.ensures.writes plain ok)
 
--- src/mime/print.rt:26:1
 pub returns : goal.returns
-returns g c = ?
+returns g c plain ok =
+    let one = c.in_ok-write_char.ensures.writes plain refl in
+    let two = c.in_ok-write_escaped.ensures one.plain refl in
+    let three = c.write_char-2.ensures.writes two.plain ok in
+    has_written_of_eq _ _ _ _ _ (quoted_value_text c.args.value.now c.is_token_text.result c.is_token_text.ensures c.if-is_token_text.false) (has_written_append _ _ _ _ _ _ (has_written_append _ _ _ _ _ _ one two) three)
