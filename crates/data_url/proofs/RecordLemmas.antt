@@ -1,13 +1,13 @@
 -- A text has at most one record.
-use Rattle.std.proofs.Common.{◌≡◌, ℕ, Bool, true, false, List, [], ◌∷◌, ◌++◌, IsTrue, map, refl, sym, ap, ◌∙◌, subst, append-nil, ◌==◌, ◌||◌, ⊎_elim, eqb-true}
+use Rattle.std.proofs.Common.{◌≡◌, ℕ, Bool, true, false, List, [], ◌∷◌, ◌++◌, map, refl, sym, ap, ◌∙◌, subst, append-nil, ◌==◌, ◌||◌, ⊎_elim, eqb-true}
 use Rattle.std.proofs.lemmas.Bool.{and_from, and_parts, or_cases}
 use Rattle.std.specs.List.{list_all}
 use Rattle.std.specs.Char.{to_ascii_lowercase}
 use Rattle.data_url.specs.CodePoints.{is_http_whitespace, is_token}
-use Rattle.data_url.specs.Mime.{BeginsParameters, DoesNotBegin, DoesNotEnd, Every, IsHead, IsTrimmed, Item, Items, Pair, Parses, Record, is_token_text, kept}
+use Rattle.data_url.specs.Mime.{BeginsParameters, DoesNotBegin, DoesNotEnd, Every, IsHead, IsTrimmed, Item, Items, Record, is_token_text, kept}
 use Rattle.data_url.specs.Laws.{HasAtMostOneRecord}
 use Rattle.data_url.proofs.TextLemmas.{behind_front, behind_is, front_is, front_of, without_back, without_back_joined}
-use Rattle.data_url.proofs.ItemLemmas.{ends_of_rest, not_begins_append, only_items}
+use Rattle.data_url.proofs.ItemLemmas.{ends_of_rest, only_items}
 
 pub every_from_all : (p : ℕ → Bool) (t : List ℕ) → list_all p t ≡ true → Every p t
 every_from_all p [] h = tt

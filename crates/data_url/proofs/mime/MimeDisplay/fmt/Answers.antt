@@ -1,4 +1,4 @@
-use Rattle.std.proofs.Common.{◌≡◌, ◌<◌, ◌≤◌, ◌++◌, length, encode_utf8_all, get_or, refl, sym, ap, ◌∙◌, subst}
+use Rattle.std.proofs.Common.{◌<◌, ◌≤◌, ◌++◌, length, encode_utf8_all, get_or, refl, ap, ◌∙◌, subst}
 use Rattle.std.proofs.Output.{has_written_append, has_written_of_eq}
 use Rattle.data_url.specs.Mime.{printed_pair}
 use Rattle.data_url.specs.Seen.{pair_of}
