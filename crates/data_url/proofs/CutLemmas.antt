@@ -1,13 +1,13 @@
 -- Texts cut by what a pattern of std finds, as texts of code points.
-use Rattle.std.proofs.Common.{◌≡◌, ℕ, zero, suc, ◌+◌, ◌-◌, ◌<◌, ◌≤◌, ◌==◌, ◌||◌, ◌&&◌, Bool, true, false, not, List, [], ◌∷◌, ◌++◌, length, take, drop, Option, None, Some, encode_utf8, encode_utf8_all, refl, sym, ap, ap₂, ◌∙◌, subst, append_assoc, append-nil, arith, inl, inr, take-append-drop, drop_of_length-le, length-take-le, eqb-true, ⊎_elim}
-use Rattle.std.proofs.lemmas.Bool.{and_parts, both_ways, cases_eq, eq-eqb, false_from_ne_true, ne_eqb, not_from_false, not_from_true, or_cases}
-use Rattle.std.proofs.lemmas.Str.{IsCharBoundary-at_seam, IsUtf8-append, IsUtf8-drop, IsUtf8-from_ascii, IsUtf8-nil, IsUtf8-past_char, IsUtf8-take, chars-IsAscii, chars-append, chars-nil, chars_from_encodes, chars_past_char, encode_ascii, encodes-append, encodes-chars, len_utf8_bounds, scalars-chars}
+use Rattle.std.proofs.Common.{◌≡◌, ℕ, ◌-◌, ◌<◌, ◌≤◌, ◌==◌, ◌||◌, Bool, true, false, not, List, [], ◌∷◌, ◌++◌, length, take, drop, Option, None, Some, encode_utf8, encode_utf8_all, refl, sym, ap, ap₂, ◌∙◌, subst, append_assoc, append-nil, arith, inl, inr, take-append-drop, drop_of_length-le, length-take-le, eqb-true, ⊎_elim}
+use Rattle.std.proofs.lemmas.Bool.{and_parts, cases_eq, ne_eqb, not_from_false, not_from_true, or_cases}
+use Rattle.std.proofs.lemmas.Str.{IsCharBoundary-at_seam, IsUtf8-drop, IsUtf8-from_ascii, IsUtf8-nil, IsUtf8-past_char, IsUtf8-take, chars-IsAscii, chars-append, chars-nil, chars_from_encodes, chars_past_char, encode_ascii, encodes-append, encodes-chars, len_utf8_bounds, scalars-chars}
 use Rattle.std.proofs.lemmas.Str.Ascii.{IsAscii-cons, IsAscii-nil}
 use lib.Utf8.{scalar}
-use Rattle.std.specs.Char.{IsScalar, char_set_contains, len_utf8}
+use Rattle.std.specs.Char.{IsScalar, char_set_contains}
 use Rattle.std.specs.Option.{IfSome}
 use Rattle.std.specs.Str.{IsCharBoundary, IsUtf8, NoCharPasses, NonePass, all_scalars, chars}
-use Rattle.std.specs.Str.Pattern.{CutsPrefixes, CutsSuffixes, FindsBy, FindsChar, MatchBeginsAt, FindsPrefixBy, FindsSuffixBy, HasCharAt, HasPassingCharAt, IsFullyTrimmed, IsTrimEndMatches, IsTrimStartMatches}
+use Rattle.std.specs.Str.Pattern.{CutsPrefixes, CutsSuffixes, FindsBy, FindsChar, MatchBeginsAt, FindsPrefixBy, FindsSuffixBy, HasCharAt, HasPassingCharAt, IsTrimEndMatches, IsTrimStartMatches}
 use Rattle.data_url.specs.CodePoints.{ends_name, is_http_whitespace, is_semicolon}
 use Rattle.data_url.specs.Mime.{DoesNotBegin, DoesNotEnd, Every, IsTrimmedEnd, Without}
 use Rattle.data_url.specs.Parsing.{IsTrimmedFront}
@@ -49,14 +49,16 @@ cut_at t s front behind i j c u b n e h f g = rw (f, g) (record {
   joined = ap chars (sym (take-append-drop i s)) ∙ chars-append (take i s) (drop i s) (IsUtf8-take s i u b);
   in_front = without_chars t (take i s) (IsUtf8-take s i u b) n;
   begins = subst (DoesNotBegin (λ d. not (t d))) (sym (chars_at s i j c (IsUtf8-drop s i u b) h)) (not_from_true (t c) e);
-  text = (IsUtf8-take s i u b, IsUtf8-drop s i u b) })
+  text = (IsUtf8-take s i u b, IsUtf8-drop s i u b);
+})
 
 pub cut_none : (t : ℕ → Bool) (s : List ℕ) → IsUtf8 s → NoCharPasses t s → IsCut t s s []
 cut_none t s u n = record {
   joined = sym (ap (λ x. chars s ++ x) chars-nil ∙ append-nil (chars s));
   in_front = without_chars t s u n;
   begins = subst (DoesNotBegin (λ d. not (t d))) (sym chars-nil) tt;
-  text = (u, IsUtf8-nil) }
+  text = (u, IsUtf8-nil);
+}
 
 -- The front taken off
 
@@ -69,12 +71,13 @@ record HasFront (t : ℕ → Bool) (s r : List ℕ) : Type 0 where
 
 front_more : (t : ℕ → Bool) (s m r : List ℕ) (n : ℕ) → HasFront t s m → HasPassingCharAt t m 0 n → r ≡ drop n m → HasFront t s r
 front_more t s m r n h p e =
-  let next = chars_past_char m (drop n m) p.0 h.text p.2.split in
-  subst (HasFront t s) (sym e) (record {
-    front = h.front ++ (p.0 ∷ []);
-    joined = h.joined ∙ ap (λ x. h.front ++ x) next ∙ sym (append_assoc h.front (p.0 ∷ []) (chars (drop n m)));
-    passes = every_append t h.front (p.0 ∷ []) h.passes (p.1, tt);
-    text = IsUtf8-past_char m (drop n m) p.0 h.text p.2.split })
+    let next = chars_past_char m (drop n m) p.0 h.text p.2.split in
+    subst (HasFront t s) (sym e) (record {
+      front = h.front ++ (p.0 ∷ []);
+      joined = h.joined ∙ ap (λ x. h.front ++ x) next ∙ sym (append_assoc h.front (p.0 ∷ []) (chars (drop n m)));
+      passes = every_append t h.front (p.0 ∷ []) h.passes (p.1, tt);
+      text = IsUtf8-past_char m (drop n m) p.0 h.text p.2.split;
+    })
 
 module _ (t : ℕ → Bool) (R : List ℕ → Option ℕ → Type 0) (by : (s : List ℕ) (o : Option ℕ) → R s o → FindsPrefixBy t s o) where
   has_front : (ns s r : List ℕ) → IsUtf8 s → CutsPrefixes R s ns r → HasFront t s r
@@ -91,8 +94,8 @@ module _ (t : ℕ → Bool) (R : List ℕ → Option ℕ → Type 0) (by : (s : 
 
   pub trimmed_front : (s r : List ℕ) → IsUtf8 s → IsTrimStartMatches R s r → IsTrimmedFront t (chars s) (chars r)
   trimmed_front s r u h =
-    let f = has_front h.0.0 s r u h.0.1 in
-    record { front = f.front; joined = f.joined; at_front = f.passes; begins = begins_chars r (chars r) h.1.0 (by r h.1.0 h.1.1) h.1.2 (scalars-chars r f.text) (sym (encodes-chars r f.text)) }
+      let f = has_front h.0.0 s r u h.0.1 in
+      record { front = f.front; joined = f.joined; at_front = f.passes; begins = begins_chars r (chars r) h.1.0 (by r h.1.0 h.1.1) h.1.2 (scalars-chars r f.text) (sym (encodes-chars r f.text)) }
 
 -- what a list of characters finds as a pattern
 abbrev pub SetPrefix : List ℕ → List ℕ → Option ℕ → Type 0
@@ -115,22 +118,23 @@ record HasBack (t : ℕ → Bool) (s r : List ℕ) : Type 0 where
 -- a text whose last code point is ASCII
 ascii_last : (m : List ℕ) (k c : ℕ) → IsUtf8 m → c < 128 → k ≤ length m → drop k m ≡ encode_utf8 c ++ drop (length m) m → (m ≡ take k m ++ (c ∷ [])) × IsUtf8 (take k m)
 ascii_last m k c u a l e =
-  let one : drop k m ≡ c ∷ [] = e ∙ ap₂ (λ x y. x ++ y) (encode_ascii c a) (drop_of_length-le m (omega arith)) in
-  let whole = sym (take-append-drop k m) ∙ ap (λ x. take k m ++ x) one in
-  let len : length (take k m) ≡ k = length-take-le k m l in
-  (whole, IsUtf8-take m k u (subst (IsCharBoundary m) len (IsCharBoundary-at_seam m (take k m) (c ∷ []) whole (IsUtf8-from_ascii (c ∷ []) (IsAscii-cons c [] a IsAscii-nil)))))
+    let one : drop k m ≡ c ∷ [] = e ∙ ap₂ (λ x y. x ++ y) (encode_ascii c a) (drop_of_length-le m (omega arith)) in
+    let whole = sym (take-append-drop k m) ∙ ap (λ x. take k m ++ x) one in
+    let len : length (take k m) ≡ k = length-take-le k m l in
+    (whole, IsUtf8-take m k u (subst (IsCharBoundary m) len (IsCharBoundary-at_seam m (take k m) (c ∷ []) whole (IsUtf8-from_ascii (c ∷ []) (IsAscii-cons c [] a IsAscii-nil)))))
 
 ascii_char : (c : ℕ) → c < 128 → chars (c ∷ []) ≡ c ∷ []
 ascii_char c a = chars-IsAscii (c ∷ []) (IsAscii-cons c [] a IsAscii-nil)
 
 back_more : (t : ℕ → Bool) → ((c : ℕ) → t c ≡ true → c < 128) → (s m r : List ℕ) (n : ℕ) → HasBack t s m → HasPassingCharAt t m (length m - n) (length m) → r ≡ take (length m - n) m → HasBack t s r
 back_more t a s m r n h p e =
-  let last = ascii_last m (length m - n) p.0 h.text (a p.0 p.1) (omega arith) p.2.split in
-  subst (HasBack t s) (sym e) (record {
-    back = p.0 ∷ h.back;
-    joined = h.joined ∙ ap (λ x. x ++ h.back) (ap chars last.0 ∙ chars-append (take (length m - n) m) (p.0 ∷ []) last.1 ∙ ap (λ x. chars (take (length m - n) m) ++ x) (ascii_char p.0 (a p.0 p.1))) ∙ append_assoc (chars (take (length m - n) m)) (p.0 ∷ []) h.back;
-    passes = (p.1, h.passes);
-    text = last.1 })
+    let last = ascii_last m (length m - n) p.0 h.text (a p.0 p.1) (omega arith) p.2.split in
+    subst (HasBack t s) (sym e) (record {
+      back = p.0 ∷ h.back;
+      joined = h.joined ∙ ap (λ x. x ++ h.back) (ap chars last.0 ∙ chars-append (take (length m - n) m) (p.0 ∷ []) last.1 ∙ ap (λ x. chars (take (length m - n) m) ++ x) (ascii_char p.0 (a p.0 p.1))) ∙ append_assoc (chars (take (length m - n) m)) (p.0 ∷ []) h.back;
+      passes = (p.1, h.passes);
+      text = last.1;
+    })
 
 not_ends : (p : ℕ → Bool) (front cs : List ℕ) → ((init : List ℕ) (c : ℕ) → front ++ cs ≡ init ++ (c ∷ []) → p c ≡ false) → DoesNotEnd p cs
 not_ends p front [] h = tt
@@ -155,12 +159,13 @@ module _ (t : ℕ → Bool) (ascii : (c : ℕ) → t c ≡ true → c < 128) (R 
 
   pub trimmed_end : (s r : List ℕ) → IsUtf8 s → IsTrimEndMatches R s r → IsTrimmedEnd t (chars s) (chars r)
   trimmed_end s r u h =
-    let f = has_back h.0.0 s r u h.0.1 in
-    record {
-      back = f.back;
-      joined = f.joined;
-      at_back = f.passes;
-      ends = not_ends t [] (chars r) (λ init c e. last_not r h.1.0 c (encode_utf8_all init) (by r h.1.0 h.1.1) h.1.2 (scalar_last init c (sym (ap all_scalars e) ∙ scalars-chars r f.text)) (sym (encodes-chars r f.text) ∙ ap encode_utf8_all e ∙ encodes_last init c)) }
+      let f = has_back h.0.0 s r u h.0.1 in
+      record {
+        back = f.back;
+        joined = f.joined;
+        at_back = f.passes;
+        ends = not_ends t [] (chars r) (λ init c e. last_not r h.1.0 c (encode_utf8_all init) (by r h.1.0 h.1.1) h.1.2 (scalar_last init c (sym (ap all_scalars e) ∙ scalars-chars r f.text)) (sym (encodes-chars r f.text) ∙ ap encode_utf8_all e ∙ encodes_last init c));
+      }
 
 whitespace_below : (c : ℕ) → is_http_whitespace c ≡ true → c < 128
 whitespace_below c h = ⊎_elim (λ e. let k = eqb-true c 9 e in omega arith) (λ h. ⊎_elim (λ e. let k = eqb-true c 10 e in omega arith) (λ h. ⊎_elim (λ e. let k = eqb-true c 13 e in omega arith) (λ e. let k = eqb-true c 32 e in omega arith) (or_cases (c == 13) (c == 32) h)) (or_cases (c == 10) ((c == 13) || (c == 32)) h)) (or_cases (c == 9) ((c == 10) || ((c == 13) || (c == 32))) h)
@@ -175,8 +180,8 @@ FindsSet set s r = (k : ℕ → Bool) → ((c : ℕ) → char_set_contains set c
 
 pub name_cut : (s front behind : List ℕ) (i : ℕ) → IsUtf8 s → MatchBeginsAt (FindsSet (59 ∷ 61 ∷ [])) s i → front ≡ take i s → behind ≡ drop i s → IsCut ends_name s front behind
 name_cut s front behind i u m f g =
-  let h = m.1 ends_name name_set in
-  cut_at ends_name s front behind i m.0 h.1.0 u m.3 h.0 h.1.1 h.1.2 f g
+    let h = m.1 ends_name name_set in
+    cut_at ends_name s front behind i m.0 h.1.0 u m.3 h.0 h.1.1 h.1.2 f g
 
 pub no_name_cut : (s : List ℕ) → IsUtf8 s → FindsSet (59 ∷ 61 ∷ []) s None → IsCut ends_name s s []
 no_name_cut s u m = cut_none ends_name s u (m ends_name name_set)

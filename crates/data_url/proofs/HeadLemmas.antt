@@ -1,9 +1,8 @@
 -- The head of a MIME type: what the parser cuts is it, and is it alone.
-use Rattle.std.proofs.Common.{◌≡◌, ℕ, ◌==◌, Bool, true, false, List, [], ◌∷◌, ◌++◌, length, drop, None, ◌<◌, IsTrue, encode_utf8, encode_utf8_all, refl, sym, ap, ◌∙◌, subst, append_assoc, append-nil, arith}
-use Rattle.std.proofs.lemmas.Bool.{both_ways, eqb-true, eqb-false, false≢true, ne_eqb}
-use Rattle.std.proofs.lemmas.Str.{IsUtf8-drop, chars-nil, chars_past_char, encode_ascii, encodes-chars, byte_from_char}
+use Rattle.std.proofs.Common.{◌≡◌, ℕ, ◌==◌, Bool, true, false, List, [], ◌∷◌, ◌++◌, length, drop, None, ◌<◌, IsTrue, encode_utf8, encode_utf8_all, refl, sym, ap, ◌∙◌, subst, arith}
+use Rattle.std.proofs.lemmas.Bool.{both_ways, false≢true, ne_eqb}
+use Rattle.std.proofs.lemmas.Str.{chars-nil, chars_past_char, encode_ascii, encodes-chars}
 use Rattle.std.specs.Bool.{MatchBool}
-use Rattle.std.specs.List.{list_all}
 use Rattle.std.specs.Str.{IsUtf8, chars}
 use Rattle.std.specs.Str.Pattern.{FindsCharPrefix, HasCharAt, HasPrefixMatch}
 use Rattle.data_url.specs.CodePoints.{is_http_whitespace, is_token}
@@ -25,12 +24,13 @@ trimmed_both p s a t f e = record {
   at_front = f.at_front;
   at_back = e.at_back;
   begins = not_begins_left p t e.back (subst (DoesNotBegin p) e.joined f.begins);
-  ends = e.ends }
+  ends = e.ends;
+}
 
 -- a text has one longest front that passes
 pub same_span : (p : ℕ → Bool) (a b c d : List ℕ) → a ++ b ≡ c ++ d → Every p a → DoesNotBegin p b → Every p c → DoesNotBegin p d → (a ≡ c) × (b ≡ d)
 same_span p a b c d e f g h k =
-  (sym (front_is p a b f g) ∙ ap (front_of p) e ∙ front_is p c d h k, sym (behind_is p a b f g) ∙ ap (behind_front p) e ∙ behind_is p c d h k)
+    (sym (front_is p a b f g) ∙ ap (front_of p) e ∙ front_is p c d h k, sym (behind_is p a b f g) ∙ ap (behind_front p) e ∙ behind_is p c d h k)
 
 -- What the parser cut: the type with what stands behind it, the subtype with what stands behind it, and the parameters
 pub record Cut (s ty x : List ℕ) : Type 0 where
@@ -49,12 +49,12 @@ pub record CutAgain (y su p : List ℕ) : Type 0 where
 
 pub head_forced : (s ty x a b c : List ℕ) → Cut s ty x → (h : IsHead s a b c) → (ty ≡ a) × (x ≡ 47 ∷ (b ++ (h.gap ++ c)))
 head_forced s ty x a b c k h =
-  same_span is_token ty x a (47 ∷ (b ++ (h.gap ++ c))) (sym k.joined ∙ trimmed_is is_http_whitespace s k.text k.trimmed ∙ sym (trimmed_is is_http_whitespace s h.text h.trimmed) ∙ h.joined) k.tokens k.begins (every_token a h.is_type) slash_no_token
+    same_span is_token ty x a (47 ∷ (b ++ (h.gap ++ c))) (sym k.joined ∙ trimmed_is is_http_whitespace s k.text k.trimmed ∙ sym (trimmed_is is_http_whitespace s h.text h.trimmed) ∙ h.joined) k.tokens k.begins (every_token a h.is_type) slash_no_token
 
 pub rest_forced : (s y su p a b c : List ℕ) → CutAgain y su p → (h : IsHead s a b c) → y ≡ b ++ (h.gap ++ c) → (su ≡ b) × (p ≡ c)
 rest_forced s y su p a b c k h e =
-  let w = same_span is_token su k.behind b (h.gap ++ c) (sym k.joined ∙ e) k.tokens k.begins (every_token b h.is_subtype) (gap_no_token h.gap c h.in_gap h.begins) in
-  (w.0, (same_span is_http_whitespace k.front.front p h.gap c (sym k.front.joined ∙ w.1) k.front.at_front k.front.begins h.in_gap (ends_of_rest is_http_whitespace refl c h.begins)).1)
+    let w = same_span is_token su k.behind b (h.gap ++ c) (sym k.joined ∙ e) k.tokens k.begins (every_token b h.is_subtype) (gap_no_token h.gap c h.in_gap h.begins) in
+    (w.0, (same_span is_http_whitespace k.front.front p h.gap c (sym k.front.joined ∙ w.1) k.front.at_front k.front.begins h.in_gap (ends_of_rest is_http_whitespace refl c h.begins)).1)
 
 not_empty : (a : List ℕ) → IsTrue (is_token_text a) → a ≡ [] → ⊥
 not_empty a h e = false≢true (sym (ap is_token_text e) ∙ h)
@@ -67,13 +67,13 @@ no_type s ty x k e a b c h = not_empty a h.is_type (sym (head_forced s ty x a b 
 
 pub no_subtype : (s ty y su p : List ℕ) → Cut s ty (47 ∷ y) → CutAgain y su p → su ≡ [] → HasNoHead s
 no_subtype s ty y su p k g e a b c h =
-  let f = rest_forced s y su p a b c g h (tail_equal 47 47 y (b ++ (h.gap ++ c)) (head_forced s ty (47 ∷ y) a b c k h).1) in
-  not_empty b h.is_subtype (sym f.0 ∙ e)
+    let f = rest_forced s y su p a b c g h (tail_equal 47 47 y (b ++ (h.gap ++ c)) (head_forced s ty (47 ∷ y) a b c k h).1) in
+    not_empty b h.is_subtype (sym f.0 ∙ e)
 
 pub no_parameters : (s ty y su p : List ℕ) → Cut s ty (47 ∷ y) → CutAgain y su p → ¬ (BeginsParameters p) → HasNoHead s
 no_parameters s ty y su p k g n a b c h =
-  let f = rest_forced s y su p a b c g h (tail_equal 47 47 y (b ++ (h.gap ++ c)) (head_forced s ty (47 ∷ y) a b c k h).1) in
-  n (subst BeginsParameters (sym f.1) h.begins)
+    let f = rest_forced s y su p a b c g h (tail_equal 47 47 y (b ++ (h.gap ++ c)) (head_forced s ty (47 ∷ y) a b c k h).1) in
+    n (subst BeginsParameters (sym f.1) h.begins)
 
 nonempty_tokens : (a : List ℕ) → Every is_token a → (a ≡ [] → ⊥) → IsTrue (is_token_text a)
 nonempty_tokens [] h n = absurd (n refl)
@@ -88,7 +88,8 @@ is_head s ty y su p k g t u b = record {
   is_type = nonempty_tokens ty k.tokens t;
   is_subtype = nonempty_tokens su g.tokens u;
   in_gap = g.front.at_front;
-  begins = b }
+  begins = b;
+}
 
 -- From bytes
 

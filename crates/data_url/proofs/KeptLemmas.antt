@@ -1,5 +1,5 @@
 -- Which pairs are kept.
-use Rattle.std.proofs.Common.{◌≡◌, ℕ, suc, ◌+◌, ◌<◌, ◌≤◌, ◌==◌, ◌||◌, ◌&&◌, ◌⊎◌, Bool, true, false, not, cond, List, [], ◌∷◌, ◌++◌, length, get_or, drop, Option, None, Some, IsTrue, String, map, refl, sym, ap, ap₂, ◌∙◌, subst, append_assoc, append-nil, arith, inl, inr, string_bytes, drop-cons, add-one, length-append}
+use Rattle.std.proofs.Common.{◌≡◌, ℕ, ◌+◌, ◌<◌, ◌≤◌, ◌||◌, ◌&&◌, ◌⊎◌, Bool, true, false, cond, List, [], ◌∷◌, ◌++◌, length, get_or, drop, Option, None, Some, String, map, refl, sym, ap, ap₂, ◌∙◌, subst, append_assoc, append-nil, arith, inl, inr, drop-cons, add-one, length-append}
 use Rattle.std.proofs.lemmas.Bool.{agree_below_at, and_from, and_left, and_parts, and_right, cases_lt, cond-false, cond-true, cond_both, false_from_ne_true, false≢true, or_left, true_from_ne_false}
 use Rattle.std.proofs.lemmas.List.Folds.{list_all-append, list_all-map, list_all_at}
 use Rattle.std.proofs.lemmas.Grind.{flat_map-append}
@@ -8,7 +8,7 @@ use Rattle.std.proofs.lemmas.Slice.Eq.{bytes_eq-Decides}
 use Rattle.std.proofs.lemmas.Str.{chars-IsAscii}
 use Rattle.std.proofs.lemmas.Str.Ascii.{IsAscii-map, lowercase-lowercase, lowercase_ascii, lowercase_is}
 use Rattle.std.specs.Char.{to_ascii_lowercase}
-use Rattle.std.specs.List.{flat_map, list_all, list_any}
+use Rattle.std.specs.List.{list_all}
 use Rattle.std.specs.Str.{IsUtf8, bytes_eq, chars}
 use Rattle.data_url.specs.CodePoints.{is_quotable, is_token}
 use Rattle.data_url.specs.Mime.{BeginsParameters, Item, Items, Pair, first_of_each_name, has_name, is_lowercase_name, is_token_text, kept, valid_of, valid_pairs}
@@ -55,8 +55,8 @@ lowercase_name t h = and_from (is_token_text (map to_ascii_lowercase t)) (bytes_
 -- a text of token code points, in lower case by its bytes
 pub lower_chars : (bs : List ℕ) → IsUtf8 bs → is_token_text (chars bs) ≡ true → chars (map to_ascii_lowercase bs) ≡ map to_ascii_lowercase (chars bs)
 lower_chars bs u h =
-  let a = token_text_ascii bs (token_text_chars bs u ∙ h) in
-  chars-IsAscii (map to_ascii_lowercase bs) (IsAscii-map to_ascii_lowercase bs lowercase_ascii a) ∙ ap (map to_ascii_lowercase) (sym (chars-IsAscii bs a))
+    let a = token_text_ascii bs (token_text_chars bs u ∙ h) in
+    chars-IsAscii (map to_ascii_lowercase bs) (IsAscii-map to_ascii_lowercase bs lowercase_ascii a) ∙ ap (map to_ascii_lowercase) (sym (chars-IsAscii bs a))
 
 -- Names compared in any case
 
@@ -82,8 +82,8 @@ names_differ k n u w h t e = let b = both_lower k n u w h t in test_from_differe
 
 pub lowercase_at : {A B : Type 0} (pairs : List (String A × String B)) (i : ℕ) (item : String A × String B) → HasLowercaseNames (map (λ p. pair_of p) pairs) → i < length pairs → item ≡ get_or pairs i item → is_lowercase_name (code_points item.0) ≡ true
 lowercase_at pairs i item h l e =
-  let test : Pair → Bool = λ p. is_lowercase_name p.0 in
-  true_from_ne_false (is_lowercase_name (code_points item.0)) (λ f. false≢true (sym (list_all_at (λ p. test (pair_of p)) pairs i item l (ap (λ p. test (pair_of p)) (sym e) ∙ f)) ∙ sym (list_all-map test (λ p. pair_of p) pairs) ∙ h))
+    let test : Pair → Bool = λ p. is_lowercase_name p.0 in
+    true_from_ne_false (is_lowercase_name (code_points item.0)) (λ f. false≢true (sym (list_all_at (λ p. test (pair_of p)) pairs i item l (ap (λ p. test (pair_of p)) (sym e) ∙ f)) ∙ sym (list_all-map test (λ p. pair_of p) pairs) ∙ h))
 
 look_step : {A B : Type 0} (n : List ℕ) (pairs : List (String A × String B)) (i : ℕ) (item : String A × String B) → i < length pairs → item ≡ get_or pairs i item → has_name n (map (λ p. pair_of p) (drop i pairs)) ≡ (bytes_eq (code_points item.0) n || has_name n (map (λ p. pair_of p) (drop (i + 1) pairs)))
 look_step n pairs i item l e = ap (λ s. has_name n (map (λ p. pair_of p) s)) (drop-cons pairs i item l) ∙ ap₂ (λ p k. bytes_eq (code_points p.0) n || has_name n (map (λ q. pair_of q) (drop k pairs))) (sym e) (sym (add-one i))
@@ -126,8 +126,8 @@ some_quotable v w false h = absurd (let k = h in cc)
 pub one_pair : (item : Item) (xs : List Pair) (w : List ℕ) → is_token_text item.0 ≡ true → has_name item.0 xs ≡ false → Some w ≡ quotable_value item.1 → added xs item ≡ (item.0, w) ∷ []
 one_pair (name, None) xs w t n h = absurd (let k = h in cc)
 one_pair (name, Some v) xs w t n h =
-  let q = some_quotable v w (list_all is_quotable v) h in
-  ap (unless_named xs) (cond-true (is_token_text name && list_all is_quotable v) ((name, v) ∷ []) [] (and_from (is_token_text name) (list_all is_quotable v) t q.0)) ∙ cond-false (has_name name xs) [] ((name, v) ∷ []) n ∙ ap (λ x. (name, x) ∷ []) (sym q.1)
+    let q = some_quotable v w (list_all is_quotable v) h in
+    ap (unless_named xs) (cond-true (is_token_text name && list_all is_quotable v) ((name, v) ∷ []) [] (and_from (is_token_text name) (list_all is_quotable v) t q.0)) ∙ cond-false (has_name name xs) [] ((name, v) ∷ []) n ∙ ap (λ x. (name, x) ∷ []) (sym q.1)
 
 -- The pairs kept of one more item
 
@@ -153,8 +153,8 @@ snoc_cases false p whole front back h = ap (λ x. p ∷ x) h
 first_snoc : (e ps : List Pair) (q : Pair) → first_of_each_name e (ps ++ (q ∷ [])) ≡ first_of_each_name e ps ++ cond (has_name q.0 (e ++ ps)) [] (q ∷ [])
 first_snoc e [] q = rw (append-nil e) refl
 first_snoc e (p ∷ ps) q =
-  let h = first_snoc (e ++ (p ∷ [])) ps q ∙ ap (λ x. first_of_each_name (e ++ (p ∷ [])) ps ++ cond (has_name q.0 x) [] (q ∷ [])) (append_assoc e (p ∷ []) ps) in
-  snoc_cases (has_name p.0 e) p (first_of_each_name (e ++ (p ∷ [])) (ps ++ (q ∷ []))) (first_of_each_name (e ++ (p ∷ [])) ps) (cond (has_name q.0 (e ++ (p ∷ ps))) [] (q ∷ [])) h
+    let h = first_snoc (e ++ (p ∷ [])) ps q ∙ ap (λ x. first_of_each_name (e ++ (p ∷ [])) ps ++ cond (has_name q.0 x) [] (q ∷ [])) (append_assoc e (p ∷ []) ps) in
+    snoc_cases (has_name p.0 e) p (first_of_each_name (e ++ (p ∷ [])) (ps ++ (q ∷ []))) (first_of_each_name (e ++ (p ∷ [])) ps) (cond (has_name q.0 (e ++ (p ∷ ps))) [] (q ∷ [])) h
 
 -- a kept pair of an equal name answers for one that is not kept
 named : (n : List ℕ) (e : List Pair) (p : Pair) → has_name p.0 e ≡ true → bytes_eq p.0 n ≡ true → has_name n e ≡ true
@@ -172,8 +172,8 @@ take_test false false x y h = h
 
 first_cases : (n : List ℕ) (e : List Pair) (p : Pair) (kept_rest ps : List Pair) → ((has_name n e || bytes_eq p.0 n) || has_name n kept_rest) ≡ ((has_name n e || bytes_eq p.0 n) || has_name n ps) → (has_name n e || has_name n (cond (has_name p.0 e) kept_rest (p ∷ kept_rest))) ≡ (has_name n e || (bytes_eq p.0 n || has_name n ps))
 first_cases n e p kept_rest ps h = cond_both (has_name p.0 e) kept_rest (p ∷ kept_rest) (λ x. (has_name n e || has_name n x) ≡ (has_name n e || (bytes_eq p.0 n || has_name n ps)))
-  (λ k. skip_test (has_name n e) (bytes_eq p.0 n) (has_name n kept_rest) (has_name n ps) (named n e p k) h)
-  (λ k. take_test (has_name n e) (bytes_eq p.0 n) (has_name n kept_rest) (has_name n ps) h)
+    (λ k. skip_test (has_name n e) (bytes_eq p.0 n) (has_name n kept_rest) (has_name n ps) (named n e p k) h)
+    (λ k. take_test (has_name n e) (bytes_eq p.0 n) (has_name n kept_rest) (has_name n ps) h)
 
 has_first : (n : List ℕ) (e ps : List Pair) → (has_name n e || has_name n (first_of_each_name e ps)) ≡ (has_name n e || has_name n ps)
 has_first n e [] = refl
@@ -228,8 +228,8 @@ module _ (parameter : Parameter) (item : Item) (is : IsItem parameter item) wher
 
   pub new_pair : {A B : Type 0} (pairs pairs' : List (String A × String B)) (name value : List ℕ) (b d : Bool) → b ≡ is_token_text (chars parameter.name.now) → b ≡ true → d ≡ has_name (map to_ascii_lowercase (chars parameter.name.now)) (map (λ p. pair_of p) pairs') → pairs' ≡ pairs → d ≡ false → name ≡ map to_ascii_lowercase (chars parameter.name.now) → Some value ≡ quotable_value item.1 → added (map (λ p. pair_of p) pairs) item ≡ (name, value) ∷ []
   new_pair pairs pairs' name value b d e h f g k n v =
-    one_pair item (map (λ p. pair_of p) pairs) value (name_token ∙ sym e ∙ h) (ap (λ x. has_name x (map (λ p. pair_of p) pairs)) is.name ∙ ap (λ s. has_name (map to_ascii_lowercase (chars parameter.name.now)) (map (λ p. pair_of p) s)) (sym g) ∙ sym f ∙ k) v
-    ∙ ap (λ x. (x, value) ∷ []) (is.name ∙ sym n)
+      one_pair item (map (λ p. pair_of p) pairs) value (name_token ∙ sym e ∙ h) (ap (λ x. has_name x (map (λ p. pair_of p) pairs)) is.name ∙ ap (λ s. has_name (map to_ascii_lowercase (chars parameter.name.now)) (map (λ p. pair_of p) s)) (sym g) ∙ sym f ∙ k) v
+      ∙ ap (λ x. (x, value) ∷ []) (is.name ∙ sym n)
 
   -- what is added has a lower-case name
   pub added_lower : (xs : List Pair) → HasLowercaseNames xs → HasLowercaseNames (xs ++ added xs item)
@@ -254,7 +254,8 @@ keeps_more whole rest s rest' pairs pairs' parameter item k e p i a = record {
   goes_on = λ more h. subst (Items whole) (sym (append_assoc k.items (item ∷ []) more)) (k.goes_on (item ∷ more) (p.text, rest', e ∙ p.joined, p.is_parameter, h));
   kept_is = a ∙ ap₂ (λ x y. x ++ added y item) k.kept_is k.kept_is ∙ sym (kept_more k.items item);
   lower = subst HasLowercaseNames (sym a) (added_lower parameter item i pairs k.lower);
-  begins = p.begins }
+  begins = p.begins;
+}
 
 pub keeps_end : (whole rest : List ℕ) (pairs : List Pair) → KeepsOn whole rest pairs → rest ≡ [] → (items : List Item) × Items whole items × (pairs ≡ kept items)
 keeps_end whole rest pairs k e = (k.items, subst (Items whole) (append-nil k.items) (k.goes_on [] e), k.kept_is)

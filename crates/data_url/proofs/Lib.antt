@@ -17,6 +17,7 @@ pub mod MediaLemmas
 mod MimeExamples
 pub mod OnLiterals
 pub mod ParameterLemmas
+pub mod PrintLemmas
 pub mod PrintableLemmas
 pub mod ProcessLemmas
 pub mod QuoteLemmas

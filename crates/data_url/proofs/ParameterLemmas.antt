@@ -1,14 +1,14 @@
 -- What the parser cuts of one parameter is one.
-use Rattle.std.proofs.Common.{◌≡◌, ℕ, ◌==◌, ◌||◌, Bool, true, false, not, List, [], ◌∷◌, ◌++◌, length, drop, Option, None, Some, map, encode_utf8, encode_utf8_all, refl, sym, ap, ◌∙◌, subst, append_assoc, append-nil}
-use Rattle.std.proofs.lemmas.Bool.{both_ways, eqb-true, false_from_ne_true, not-false, or_cases}
-use Rattle.std.proofs.lemmas.Str.{IsUtf8-past_char, chars-nil, chars_past_char}
+use Rattle.std.proofs.Common.{◌≡◌, ℕ, ◌==◌, not, List, [], ◌∷◌, ◌++◌, drop, Option, None, Some, map, encode_utf8, encode_utf8_all, refl, sym, ap, ◌∙◌, subst, append_assoc, append-nil}
+use Rattle.std.proofs.lemmas.Bool.{eqb-true, false_from_ne_true}
+use Rattle.std.proofs.lemmas.Str.{chars-nil, chars_past_char}
 use Rattle.std.specs.Char.{to_ascii_lowercase}
 use Rattle.std.specs.Str.{IsUtf8, chars}
 use Rattle.std.specs.Str.Pattern.{HasCharAt}
 use Rattle.data_url.specs.CodePoints.{ends_name, is_http_whitespace, is_semicolon}
-use Rattle.data_url.specs.Mime.{BeginsParameters, DoesNotBegin, GivesValue, IsTrimmedEnd, Quoted, QuotedOpen, Without, is_quote, nothing, plain, quoted, unclosed, unless_empty}
-use Rattle.data_url.specs.Parsing.{HasParameterBefore, HasValueBefore, IsClosed, IsOpen, IsTrimmedFront}
-use Rattle.data_url.proofs.HeadLemmas.{begins_bytes, empty_by, nonempty_by, not_begins_left}
+use Rattle.data_url.specs.Mime.{BeginsParameters, DoesNotBegin, IsTrimmedEnd, Quoted, QuotedOpen, Without, is_quote, nothing, plain, quoted, unclosed, unless_empty}
+use Rattle.data_url.specs.Parsing.{HasParameterBefore, HasValueBefore, IsTrimmedFront}
+use Rattle.data_url.proofs.HeadLemmas.{begins_bytes, not_begins_left}
 use Rattle.data_url.proofs.ItemLemmas.{semicolon_from}
 
 -- A value that begins with no '"'
@@ -18,7 +18,8 @@ plain_value s front behind value d j w b t = record {
   tail = 61 ∷ front;
   joined = ap (λ x. 61 ∷ x) j;
   gives = plain front value w (not_begins_left is_quote front behind (subst (DoesNotBegin is_quote) j d)) t;
-  begins = b }
+  begins = b;
+}
 
 some_unless_empty : (value : List ℕ) → (value ≡ [] → ⊥) → unless_empty value ≡ Some value
 some_unless_empty [] n = absurd (n refl)
@@ -48,14 +49,16 @@ open_value_before s q value e h = subst (HasValueBefore (61 ∷ s) (Some value))
   tail = 61 ∷ 34 ∷ q;
   joined = ap (λ x. 61 ∷ x) e ∙ ap (λ x. 61 ∷ 34 ∷ x) (sym (append-nil q));
   gives = unclosed q h;
-  begins = tt })
+  begins = tt;
+})
 
 pub closed_value_before : (s q raw w junk rest value : List ℕ) → s ≡ 34 ∷ q → q ≡ raw ++ (34 ∷ w) → Quoted raw value → w ≡ junk ++ rest → Without is_semicolon junk → BeginsParameters rest → HasValueBefore (61 ∷ s) (Some value) rest
 closed_value_before s q raw w junk rest value e j h k n b = record {
   tail = 61 ∷ 34 ∷ (raw ++ (34 ∷ junk));
   joined = ap (λ x. 61 ∷ x) (e ∙ ap (λ x. 34 ∷ x) (j ∙ ap (λ x. raw ++ (34 ∷ x)) k ∙ sym (append_assoc raw (34 ∷ junk) rest)));
   gives = quoted raw junk h n;
-  begins = b }
+  begins = b;
+}
 
 -- A name, and what stands behind it
 
@@ -79,8 +82,10 @@ parameter_before s a name x value rest f j n v = record {
     begins = not_begins_left is_http_whitespace name x (subst (DoesNotBegin is_http_whitespace) j f.begins);
     in_name = n;
     name_is = refl;
-    value_is = v.gives };
-  begins = v.begins }
+    value_is = v.gives;
+  };
+  begins = v.begins;
+}
 
 pub named_value_before : (x y : List ℕ) (value : Option (List ℕ)) (rest : List ℕ) → x ≡ 61 ∷ y → HasValueBefore (61 ∷ y) value rest → HasValueBefore x value rest
 named_value_before x y value rest e h = subst (λ t. HasValueBefore t value rest) (sym e) h

@@ -1,17 +1,16 @@
 -- The table of token code points, and texts of them.
-use Rattle.std.proofs.Common.{◌≡◌, ℕ, suc, ◌+◌, ◌<◌, ◌≤◌, ◌==◌, ◌||◌, Bool, true, false, not, cond, List, [], ◌∷◌, ◌++◌, length, get_or, take, drop, IsTrue, encode_utf8, encode_utf8_all, refl, sym, ap, ◌∙◌, subst, arith, one-add, take-append-drop, inl, inr, ⊎_elim, nat_le, nat_lt, codes, ◌&&◌, drop-cons, add-one}
+use Rattle.std.proofs.Common.{◌≡◌, ℕ, suc, ◌+◌, ◌<◌, ◌≤◌, ◌==◌, ◌||◌, Bool, true, false, cond, List, [], ◌∷◌, ◌++◌, length, get_or, take, drop, encode_utf8_all, refl, sym, ap, ◌∙◌, subst, arith, one-add, take-append-drop, inl, inr, ⊎_elim, nat_le, nat_lt, codes, ◌&&◌, drop-cons, add-one}
 use Rattle.std.proofs.lemmas.Bool.{agree_below_at, and_parts, both_ways, cases_Bool, eqb-true, false_from_ne_true, false≢true, leb-true, ltb-true, ne_eqb, or_cases, cases_eq, cond-true, cond-false, eq-eqb}
 use Rattle.std.proofs.lemmas.List.Sums.{prefix_len-drop_all, prefix_len-le-length}
 use Rattle.std.proofs.lemmas.Str.{IsCharBoundary-from_take, IsUtf8-drop, IsUtf8-from_ascii, chars-IsAscii, chars-append, encode_ascii, encodes-IsAscii, encodes-chars}
 use Rattle.std.proofs.lemmas.Str.Ascii.{IsAscii-cons, IsAscii-nil}
-use Rattle.std.proofs.lemmas.Grind.{common_steps}
 use Rattle.std.specs.Int.{is_in_range}
 use Rattle.std.specs.List.{list_all, list_any, prefix_len}
 use Rattle.std.specs.Str.{IsAscii, IsCharBoundary, IsUtf8, chars}
 use Rattle.data_url.specs.CodePoints.{is_token}
 use Rattle.data_url.specs.Mime.{DoesNotBegin, Every, is_token_text}
 use Rattle.data_url.specs.declared.mime.tokens.TheConstants.{TOKENS}
-use Rattle.data_url.proofs.RecordLemmas.{all_from_every, every_from_all}
+use Rattle.data_url.proofs.RecordLemmas.{all_from_every}
 use Rattle.data_url.proofs.TextLemmas.{behind_begins, behind_front, front_of, front_passes}
 
 -- its entries are the class
@@ -25,8 +24,8 @@ in_range_below low high c r l = let e = leb-true c high (and_parts (nat_le low c
 any_below : (c : ℕ) (marks : List ℕ) → list_all (λ m. nat_lt m 128) marks ≡ true → list_any (λ m. m == c) marks ≡ true → c < 128
 any_below c [] h e = absurd (false≢true e)
 any_below c (m ∷ marks) h e =
-  let p = and_parts (nat_lt m 128) (list_all (λ x. nat_lt x 128) marks) h in
-  ⊎_elim (λ q. let k = eqb-true m c q in let l = ltb-true m 128 p.0 in omega arith) (λ q. any_below c marks p.1 q) (or_cases (m == c) (list_any (λ x. x == c) marks) e)
+    let p = and_parts (nat_lt m 128) (list_all (λ x. nat_lt x 128) marks) h in
+    ⊎_elim (λ q. let k = eqb-true m c q in let l = ltb-true m 128 p.0 in omega arith) (λ q. any_below c marks p.1 q) (or_cases (m == c) (list_any (λ x. x == c) marks) e)
 
 -- a token code point is ASCII
 pub token_below : (c : ℕ) → is_token c ≡ true → c < 128
@@ -94,9 +93,10 @@ tokens_boundary bs u = IsCharBoundary-from_take bs (prefix_len is_token bs) u (p
 pub is_split : (bs : List ℕ) → IsUtf8 bs → IsSplit bs (take (prefix_len is_token bs) bs) (drop (prefix_len is_token bs) bs)
 is_split bs u = record {
   joined = ap chars (sym (take-append-drop (prefix_len is_token bs) bs)) ∙ chars-append (take (prefix_len is_token bs) bs) (drop (prefix_len is_token bs) bs) (IsUtf8-from_ascii (take (prefix_len is_token bs) bs) (tokens_front_ascii bs));
-  in_front = subst (Every is_token) (sym (chars-IsAscii (take (prefix_len is_token bs) bs) (tokens_front_ascii bs)) ) (subst (Every is_token) (sym (take_front is_token bs)) (front_passes is_token bs));
+  in_front = subst (Every is_token) (sym (chars-IsAscii (take (prefix_len is_token bs) bs) (tokens_front_ascii bs))) (subst (Every is_token) (sym (take_front is_token bs)) (front_passes is_token bs));
   begins = not_begins_chars is_token token_below (drop (prefix_len is_token bs) bs) (IsUtf8-drop bs (prefix_len is_token bs) u (tokens_boundary bs u)) (subst (DoesNotBegin is_token) (sym (drop_front is_token bs)) (behind_begins is_token bs));
-  text = (IsUtf8-from_ascii (take (prefix_len is_token bs) bs) (tokens_front_ascii bs), IsUtf8-drop bs (prefix_len is_token bs) u (tokens_boundary bs u)) }
+  text = (IsUtf8-from_ascii (take (prefix_len is_token bs) bs) (tokens_front_ascii bs), IsUtf8-drop bs (prefix_len is_token bs) u (tokens_boundary bs u));
+}
 
 pub tokens_boundary_at : (bs text : List ℕ) (n : ℕ) → IsUtf8 text → n ≡ prefix_len is_token bs → bs ≡ text → IsCharBoundary text n
 tokens_boundary_at bs text n u e b = subst (IsCharBoundary text) (sym (e ∙ ap (prefix_len is_token) b)) (tokens_boundary text u)

@@ -1,8 +1,8 @@
 -- Values as texts of their own.
-use Rattle.std.proofs.Common.{◌≡◌, ℕ, suc, ◌+◌, ◌-◌, ◌*◌, ◌/◌, ◌%◌, ◌<◌, ◌≤◌, ◌==◌, ◌||◌, ◌&&◌, Bool, true, false, not, cond, List, [], ◌∷◌, ◌++◌, length, get_or, take, drop, Option, None, Some, Bor, map, encode_utf8, encode_utf8_all, refl, sym, ap, ap₂, ◌∙◌, subst, append_assoc, append-nil, arith, inl, inr, ⊎_elim, ltb, nat_le, drop-cons, drop_of_length-le}
-use Rattle.std.proofs.lemmas.Bool.{agree_below_at, cond-true, eq-eqb, ne_eqb, and_left, and_parts, both_ways, cases_lt, cond-false, cond_both, eqb-true, false_from_ne_true, le-ltb, leb-true, or_cases}
+use Rattle.std.proofs.Common.{◌≡◌, ℕ, suc, ◌+◌, ◌/◌, ◌<◌, ◌≤◌, ◌==◌, ◌||◌, ◌&&◌, Bool, true, false, not, cond, List, [], ◌∷◌, ◌++◌, length, get_or, drop, Option, None, Some, Bor, map, encode_utf8_all, refl, sym, ap, ap₂, ◌∙◌, subst, append_assoc, append-nil, arith, inl, inr, ⊎_elim, ltb, nat_le, drop-cons, drop_of_length-le}
+use Rattle.std.proofs.lemmas.Bool.{agree_below_at, cond-true, eq-eqb, ne_eqb, and_left, and_parts, cases_lt, cond-false, cond_both, eqb-true, false_from_ne_true, le-ltb, leb-true, or_cases}
 use Rattle.std.proofs.lemmas.List.Folds.{list_all-append}
-use Rattle.std.proofs.lemmas.Str.{IsUtf8-encode, IsUtf8-past_char, chars-append, chars-nil, chars_past_char, cons_from_encodes, encodes-chars}
+use Rattle.std.proofs.lemmas.Str.{IsUtf8-encode, chars-append, chars-nil, chars_past_char, cons_from_encodes, encodes-chars}
 use Rattle.std.specs.Char.{IsScalar}
 use Rattle.std.specs.Int.{is_in_range}
 use Rattle.std.specs.List.{flat_map, list_all}
@@ -41,8 +41,8 @@ low_quotable c l = agree_below_at (λ x. list_all is_quotable_byte (encode x)) i
 high_quotable : (c : ℕ) → 2048 ≤ c → list_all is_quotable_byte (encode c) ≡ false
 unfolding encode
 high_quotable c l =
-  let P : List ℕ → Type 0 = λ x. list_all is_quotable_byte x ≡ false in
-  subst P (sym (cond-false (ltb c 128) (c ∷ []) _ (le-ltb c 128 (omega arith)))) (subst P (sym (cond-false (ltb c 2048) _ _ (le-ltb c 2048 l)))
+    let P : List ℕ → Type 0 = λ x. list_all is_quotable_byte x ≡ false in
+    subst P (sym (cond-false (ltb c 128) (c ∷ []) _ (le-ltb c 128 (omega arith)))) (subst P (sym (cond-false (ltb c 2048) _ _ (le-ltb c 2048 l)))
     (cond_both (ltb c 65536) _ _ P (λ k. high_byte (224 + c / 4096) (next (c / 64) ∷ next c ∷ []) (omega arith)) (λ k. high_byte (240 + c / 262144) (next (c / 4096) ∷ next (c / 64) ∷ next c ∷ []) (omega arith))))
 
 quotable_encoded : (c : ℕ) → list_all is_quotable_byte (encode c) ≡ is_quotable c
@@ -57,7 +57,7 @@ quotable_chars bs u = ap (list_all is_quotable_byte) (sym (encodes-chars bs u)) 
 
 pub fails_at : (bs text : List ℕ) (i : ℕ) → IsUtf8 text → bs ≡ text → i < length bs → is_quotable_byte (get_or bs i 0) ≡ false → list_all is_quotable_byte (drop i text) ≡ list_all is_quotable_byte text → false ≡ list_all is_quotable (chars text)
 fails_at bs text i u b l h e =
-  sym (sym (quotable_chars text u) ∙ sym e ∙ ap (λ s. list_all is_quotable_byte (drop i s)) (sym b) ∙ ap (list_all is_quotable_byte) (drop-cons bs i 0 l) ∙ and_left (is_quotable_byte (get_or bs i 0)) (list_all is_quotable_byte (drop (suc i) bs)) h)
+    sym (sym (quotable_chars text u) ∙ sym e ∙ ap (λ s. list_all is_quotable_byte (drop i s)) (sym b) ∙ ap (list_all is_quotable_byte) (drop-cons bs i 0 l) ∙ and_left (is_quotable_byte (get_or bs i 0)) (list_all is_quotable_byte (drop (suc i) bs)) h)
 
 pub passes_to_end : (bs text : List ℕ) (i : ℕ) → IsUtf8 text → bs ≡ text → length bs ≤ i → list_all is_quotable_byte (drop i text) ≡ list_all is_quotable_byte text → true ≡ list_all is_quotable (chars text)
 passes_to_end bs text i u b l e = ap (list_all is_quotable_byte) (sym (drop_of_length-le text (subst (λ s. length s ≤ i) b l))) ∙ e ∙ quotable_chars text u
@@ -92,16 +92,16 @@ unescape_starts v r q e f = rw (e, f, chars-nil) refl
 
 pub unescape_pushes : (v v' r r' whole : List ℕ) (c : ℕ) (e e' : Bool) → IsUtf8 v → IsUtf8 r → r ≡ encode c ++ r' → v' ≡ v ++ encode c → e' ≡ ((c == 92) && not e) → e' ≡ false → chars v ++ unescaped e (chars r) ≡ whole → chars v' ++ unescaped e' (chars r') ≡ whole
 unescape_pushes v v' r r' whole c e e' u w s g k f h =
-  ap₂ (λ x y. x ++ y) (ap chars g ∙ chars_push v c u (scalar_from r r' c w s)) (ap (λ b. unescaped b (chars r')) f)
-  ∙ append_assoc (chars v) (c ∷ []) (unescaped false (chars r'))
-  ∙ ap (λ x. chars v ++ x) (sym (ap (unescaped e) (chars_past_char r r' c w s) ∙ unescaped_step e c (chars r') ∙ cond-false ((c == 92) && not e) (unescaped true (chars r')) (c ∷ unescaped false (chars r')) (sym k ∙ f)))
-  ∙ h
+    ap₂ (λ x y. x ++ y) (ap chars g ∙ chars_push v c u (scalar_from r r' c w s)) (ap (λ b. unescaped b (chars r')) f)
+    ∙ append_assoc (chars v) (c ∷ []) (unescaped false (chars r'))
+    ∙ ap (λ x. chars v ++ x) (sym (ap (unescaped e) (chars_past_char r r' c w s) ∙ unescaped_step e c (chars r') ∙ cond-false ((c == 92) && not e) (unescaped true (chars r')) (c ∷ unescaped false (chars r')) (sym k ∙ f)))
+    ∙ h
 
 pub unescape_skips : (v r r' whole : List ℕ) (c : ℕ) (e e' : Bool) → IsUtf8 r → r ≡ encode c ++ r' → e' ≡ ((c == 92) && not e) → e' ≡ true → chars v ++ unescaped e (chars r) ≡ whole → chars v ++ unescaped e' (chars r') ≡ whole
 unescape_skips v r r' whole c e e' w s k f h =
-  ap (λ b. chars v ++ unescaped b (chars r')) f
-  ∙ ap (λ x. chars v ++ x) (sym (ap (unescaped e) (chars_past_char r r' c w s) ∙ unescaped_step e c (chars r') ∙ cond-true ((c == 92) && not e) (unescaped true (chars r')) (c ∷ unescaped false (chars r')) (sym k ∙ f)))
-  ∙ h
+    ap (λ b. chars v ++ unescaped b (chars r')) f
+    ∙ ap (λ x. chars v ++ x) (sym (ap (unescaped e) (chars_past_char r r' c w s) ∙ unescaped_step e c (chars r') ∙ cond-true ((c == 92) && not e) (unescaped true (chars r')) (c ∷ unescaped false (chars r')) (sym k ∙ f)))
+    ∙ h
 
 no_chars : (r : List ℕ) → length r ≡ 0 → chars r ≡ []
 no_chars [] e = chars-nil
@@ -109,11 +109,11 @@ no_chars (b ∷ r) e = absurd (omega arith)
 
 pub unescape_ends : (v v' r q value : List ℕ) (e : Bool) → IsUtf8 v → length r ≡ 0 → e ≡ true → v' ≡ v ++ encode 92 → chars v ++ unescaped e (chars r) ≡ unescaped false (chars q) → QuotedOpen (chars q) value → chars v' ≡ value
 unescape_ends v v' r q value e u l f g h k =
-  ap chars g ∙ chars_push v 92 u refl ∙ ap (λ b. chars v ++ unescaped b []) (sym f) ∙ ap (λ t. chars v ++ unescaped e t) (sym (no_chars r l)) ∙ h ∙ unescaped_is (chars q) value k
+    ap chars g ∙ chars_push v 92 u refl ∙ ap (λ b. chars v ++ unescaped b []) (sym f) ∙ ap (λ t. chars v ++ unescaped e t) (sym (no_chars r l)) ∙ h ∙ unescaped_is (chars q) value k
 
 pub unescape_ends_plain : (v r q value : List ℕ) (e : Bool) → length r ≡ 0 → e ≡ false → chars v ++ unescaped e (chars r) ≡ unescaped false (chars q) → QuotedOpen (chars q) value → chars v ≡ value
 unescape_ends_plain v r q value e l f h k =
-  sym (append-nil (chars v)) ∙ ap (λ b. chars v ++ unescaped b []) (sym f) ∙ ap (λ t. chars v ++ unescaped e t) (sym (no_chars r l)) ∙ h ∙ unescaped_is (chars q) value k
+    sym (append-nil (chars v)) ∙ ap (λ b. chars v ++ unescaped b []) (sym f) ∙ ap (λ t. chars v ++ unescaped e t) (sym (no_chars r l)) ∙ h ∙ unescaped_is (chars q) value k
 
 -- A quoted string may be asked for quoted-string code points before it is unescaped
 
@@ -135,7 +135,7 @@ quoted_same q v h = rw (h.text_is, h.value_is) (units_quotable h.units)
 pub quoted_quotable : (q v : List ℕ) → QuotedOpen q v → list_all is_quotable q ≡ list_all is_quotable v
 quoted_quotable q v (inl h) = quoted_same q v h
 quoted_quotable q v (inr (q', v', t, e, h)) =
-  ap (list_all is_quotable) t ∙ list_all-append is_quotable q' (92 ∷ []) ∙ ap (λ b. b && list_all is_quotable (92 ∷ [])) (quoted_same q' v' h) ∙ sym (list_all-append is_quotable v' (92 ∷ [])) ∙ ap (list_all is_quotable) (sym e)
+    ap (list_all is_quotable) t ∙ list_all-append is_quotable q' (92 ∷ []) ∙ ap (λ b. b && list_all is_quotable (92 ∷ [])) (quoted_same q' v' h) ∙ sym (list_all-append is_quotable v' (92 ∷ [])) ∙ ap (list_all is_quotable) (sym e)
 
 -- What a value's own text is
 
@@ -147,18 +147,18 @@ quotable_none v h = cond-false (list_all is_quotable v) (Some v) None h
 
 pub quoted_text : (self : Value) (text : Bor (List ℕ)) (value : Option (List ℕ)) (code : List ℕ) → self ≡ slices.Quoted text → IsValue self value → true ≡ list_all is_quotable (chars text.now) → ((v : List ℕ) → QuotedOpen (chars text.now) v → code ≡ v) → ◌≡◌ {A = Option (List ℕ)} (Some code) (quotable_value value)
 quoted_text self text value code e i q h =
-  let k = subst (λ s. IsValue s value) e i in
-  ap Some (h k.0 k.2) ∙ sym (ap quotable_value k.1 ∙ quotable_some k.0 (sym (quoted_quotable (chars text.now) k.0 k.2) ∙ sym q))
+    let k = subst (λ s. IsValue s value) e i in
+    ap Some (h k.0 k.2) ∙ sym (ap quotable_value k.1 ∙ quotable_some k.0 (sym (quoted_quotable (chars text.now) k.0 k.2) ∙ sym q))
 
 pub no_quoted_text : (self : Value) (text : Bor (List ℕ)) (value : Option (List ℕ)) → self ≡ slices.Quoted text → IsValue self value → list_all is_quotable (chars text.now) ≡ false → None ≡ quotable_value value
 no_quoted_text self text value e i q =
-  let k = subst (λ s. IsValue s value) e i in
-  sym (ap quotable_value k.1 ∙ quotable_none k.0 (sym (quoted_quotable (chars text.now) k.0 k.2) ∙ q))
+    let k = subst (λ s. IsValue s value) e i in
+    sym (ap quotable_value k.1 ∙ quotable_none k.0 (sym (quoted_quotable (chars text.now) k.0 k.2) ∙ q))
 
 pub no_plain_text : (self : Value) (text : Bor (List ℕ)) (value : Option (List ℕ)) → self ≡ slices.Plain text → IsValue self value → list_all is_quotable (chars text.now) ≡ false → None ≡ quotable_value value
 no_plain_text self text value e i q =
-  let k = subst (λ s. IsValue s value) e i in
-  sym (ap quotable_value k ∙ quotable_none (chars text.now) q)
+    let k = subst (λ s. IsValue s value) e i in
+    sym (ap quotable_value k ∙ quotable_none (chars text.now) q)
 
 pub missing_text : (self : Value) (value : Option (List ℕ)) → self ≡ slices.Missing → IsValue self value → None ≡ quotable_value value
 missing_text self value e i = let k = subst (λ s. IsValue s value) e i in sym (ap quotable_value k)

@@ -1,6 +1,6 @@
 -- Records that a text gives are well formed, and a text with a head gives one.
-use Rattle.std.proofs.Common.{◌≡◌, ℕ, ◌||◌, ◌&&◌, Bool, true, false, not, cond, List, [], ◌∷◌, ◌++◌, Option, None, Some, Result, Ok, Err, IsErrAnd, IsTrue, map, refl, sym, ap, ◌∙◌, subst}
-use Rattle.std.proofs.lemmas.Bool.{and_from, and_parts, both_ways, cond_both, false_from_ne_true, false≢true, not_from_false, or_left, or_right}
+use Rattle.std.proofs.Common.{◌≡◌, ℕ, ◌||◌, ◌&&◌, Bool, true, false, not, List, [], ◌∷◌, ◌++◌, Option, None, Some, Result, Ok, Err, IsErrAnd, map, refl, sym, ap, ◌∙◌, subst}
+use Rattle.std.proofs.lemmas.Bool.{and_from, and_parts, both_ways, cond_both, false_from_ne_true, not_from_false, or_left, or_right}
 use Rattle.std.proofs.lemmas.List.Folds.{list_all-append}
 use Rattle.std.specs.Char.{to_ascii_lowercase}
 use Rattle.std.specs.List.{list_all}
@@ -19,9 +19,9 @@ use Rattle.data_url.proofs.KeptLemmas.{equal_from_test, has_append, lowercase_na
 first_all : (p : Pair → Bool) (e ps : List Pair) → list_all p ps ≡ true → list_all p (first_of_each_name e ps) ≡ true
 first_all p e [] h = refl
 first_all p e (q ∷ ps) h =
-  let k = and_parts (p q) (list_all p ps) h in
-  let f = first_all p (e ++ (q ∷ [])) ps k.1 in
-  cond_both (has_name q.0 e) (first_of_each_name (e ++ (q ∷ [])) ps) (q ∷ first_of_each_name (e ++ (q ∷ [])) ps) (λ x. list_all p x ≡ true) (λ c. f) (λ c. and_from (p q) (list_all p (first_of_each_name (e ++ (q ∷ [])) ps)) k.0 f)
+    let k = and_parts (p q) (list_all p ps) h in
+    let f = first_all p (e ++ (q ∷ [])) ps k.1 in
+    cond_both (has_name q.0 e) (first_of_each_name (e ++ (q ∷ [])) ps) (q ∷ first_of_each_name (e ++ (q ∷ [])) ps) (λ x. list_all p x ≡ true) (λ c. f) (λ c. and_from (p q) (list_all p (first_of_each_name (e ++ (q ∷ [])) ps)) k.0 f)
 
 all_append : (p : Pair → Bool) (xs ys : List Pair) → list_all p xs ≡ true → list_all p ys ≡ true → list_all p (xs ++ ys) ≡ true
 all_append p xs ys h k = list_all-append p xs ys ∙ and_from (list_all p xs) (list_all p ys) h k
@@ -37,8 +37,8 @@ all_quotable (item ∷ items) = all_append (λ (p : Pair). list_all is_quotable 
 all_lower : (r : List ℕ) (items : List Item) → Items r items → HasLowercaseNames (valid_pairs items)
 all_lower r [] h = refl
 all_lower r (item ∷ items) h = all_append (λ (p : Pair). is_lowercase_name p.0) (valid_of item) (valid_pairs items)
-  (valid_lower item.0 item.1 (λ t. ap is_lowercase_name h.3.name_is ∙ lowercase_name h.3.name (sym (token_text_lower h.3.name) ∙ ap is_token_text (sym h.3.name_is) ∙ t)))
-  (all_lower h.1 items h.4)
+    (valid_lower item.0 item.1 (λ t. ap is_lowercase_name h.3.name_is ∙ lowercase_name h.3.name (sym (token_text_lower h.3.name) ∙ ap is_token_text (sym h.3.name_is) ∙ t)))
+    (all_lower h.1 items h.4)
 
 -- No name is kept twice
 
@@ -51,8 +51,8 @@ pushed_has n e q h = has_append n e (q ∷ []) ∙ or_left (has_name n e) (has_n
 none_again : (n : List ℕ) (e ps : List Pair) → has_name n e ≡ true → has_name n (first_of_each_name e ps) ≡ false
 none_again n e [] h = refl
 none_again n e (q ∷ ps) h =
-  let f = none_again n (e ++ (q ∷ [])) ps (pushed_has n e q h) in
-  cond_both (has_name q.0 e) (first_of_each_name (e ++ (q ∷ [])) ps) (q ∷ first_of_each_name (e ++ (q ∷ [])) ps) (λ x. has_name n x ≡ false) (λ c. f)
+    let f = none_again n (e ++ (q ∷ [])) ps (pushed_has n e q h) in
+    cond_both (has_name q.0 e) (first_of_each_name (e ++ (q ∷ [])) ps) (q ∷ first_of_each_name (e ++ (q ∷ [])) ps) (λ x. has_name n x ≡ false) (λ c. f)
     (λ c. ap (λ b. b || has_name n (first_of_each_name (e ++ (q ∷ [])) ps)) (false_from_ne_true (bytes_eq q.0 n) (λ t. has_itself n e q t c h)) ∙ f)
 
 own_name : (e : List Pair) (q : Pair) → has_name q.0 (e ++ (q ∷ [])) ≡ true
@@ -61,8 +61,8 @@ own_name e q = has_append q.0 e (q ∷ []) ∙ or_right (has_name q.0 e) (has_na
 first_distinct : (e ps : List Pair) → has_distinct_names (first_of_each_name e ps) ≡ true
 first_distinct e [] = refl
 first_distinct e (q ∷ ps) =
-  let f = first_distinct (e ++ (q ∷ [])) ps in
-  cond_both (has_name q.0 e) (first_of_each_name (e ++ (q ∷ [])) ps) (q ∷ first_of_each_name (e ++ (q ∷ [])) ps) (λ x. has_distinct_names x ≡ true) (λ c. f)
+    let f = first_distinct (e ++ (q ∷ [])) ps in
+    cond_both (has_name q.0 e) (first_of_each_name (e ++ (q ∷ [])) ps) (q ∷ first_of_each_name (e ++ (q ∷ [])) ps) (λ x. has_distinct_names x ≡ true) (λ c. f)
     (λ c. and_from (not (has_name q.0 (first_of_each_name (e ++ (q ∷ [])) ps))) (has_distinct_names (first_of_each_name (e ++ (q ∷ [])) ps)) (not_from_false (has_name q.0 (first_of_each_name (e ++ (q ∷ [])) ps)) (none_again q.0 (e ++ (q ∷ [])) ps (own_name e q))) f)
 
 -- Each record that a text gives is well formed
@@ -73,7 +73,8 @@ parses_wellformed s m h = record {
   subtype = ap is_lowercase_name h.subtype_is ∙ lowercase_name h.subtype h.head.is_subtype;
   names = ap (list_all (λ (p : Pair). is_lowercase_name p.0)) h.parameters_are ∙ first_all (λ (p : Pair). is_lowercase_name p.0) [] (valid_pairs h.items) (all_lower h.parameters h.items h.items_are);
   distinct = ap has_distinct_names h.parameters_are ∙ first_distinct [] (valid_pairs h.items);
-  values = ap (list_all (λ (p : Pair). list_all is_quotable p.1)) h.parameters_are ∙ first_all (λ (p : Pair). list_all is_quotable p.1) [] (valid_pairs h.items) (all_quotable h.items) }
+  values = ap (list_all (λ (p : Pair). list_all is_quotable p.1)) h.parameters_are ∙ first_all (λ (p : Pair). list_all is_quotable p.1) [] (valid_pairs h.items) (all_quotable h.items);
+}
 
 -- A head decides
 
@@ -82,8 +83,8 @@ parses_parts s a b c m h p = record { type_ = a; subtype = b; parameters = c; it
 
 pub has_record : (s a b c : List ℕ) → IsHead s a b c → HasNoRecord s → ⊥
 has_record s a b c h n =
-  let i = some_items c h.begins in
-  n (record { type_ = map to_ascii_lowercase a; subtype = map to_ascii_lowercase b; parameters = kept i.0 })
+    let i = some_items c h.begins in
+    n (record { type_ = map to_ascii_lowercase a; subtype = map to_ascii_lowercase b; parameters = kept i.0 })
     (record { type_ = a; subtype = b; parameters = c; items = i.0; head = h; items_are = i.1; type_is = refl; subtype_is = refl; parameters_are = refl })
 
 pub no_record : (s : List ℕ) → HasNoHead s → HasNoRecord s

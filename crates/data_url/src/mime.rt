@@ -4,10 +4,12 @@ ghost use Rattle.std.specs.Prelude.{◌≡◌, ◌↔◌, IfOk, IsTrue, [], Some
 
 mod cuts;
 mod parse;
+mod print;
 mod tokens;
 mod values;
 
 use parse::read_head;
+use print::write_parameter;
 use std::alloc::{AllocError, Global};
 use std::error::Error;
 use std::fmt;
@@ -23,6 +25,26 @@ pub struct Mime {
     pub subtype: String,
     /// Names and values.
     pub parameters: Vec<(String, String)>,
+}
+
+/// Writes a record (MIME Sniffing Standard, section 4.5), valid or not: a value that is empty or has a code point that is
+/// no token code point stands in quotes, with a `\` before each `"` and each `\`.
+impl fmt::Display for Mime {
+    ghost use Rattle.std.specs.Str.{encode_utf8_all};
+    ghost use Rattle.data_url.specs.Mime.{printed};
+    ghost use Rattle.data_url.specs.Seen.{seen};
+
+    ghost output = { λ mime. Some (encode_utf8_all (printed (seen mime))) };
+
+    fn fmt<W: fmt::Write>(&self, f: &mut fmt::Formatter<W>) -> fmt::Result {
+        f.write_str(&self.type_)?;
+        f.write_char('/')?;
+        f.write_str(&self.subtype)?;
+        for (name, value) in &self.parameters {
+            write_parameter(f, name, value)?;
+        }
+        Ok(())
+    }
 }
 
 /// The text is no MIME type.

@@ -1,6 +1,5 @@
 //! Reads a MIME type (MIME Sniffing Standard, section 4.4).
 
-
 ghost use Rattle.std.specs.Prelude.{◌≡◌, ◌++◌, ◌∷◌, List, ℕ, Option, MatchOption, IfOk, IsTrue, OnOk, map};
 ghost use Rattle.std.specs.Bool.{MatchBool};
 ghost use Rattle.std.specs.Char.{to_ascii_lowercase};
@@ -133,7 +132,10 @@ fn split_quote(text: &str) -> Option<(&str, &str)>
 }
 
 /// The parameters that are kept of a text that is empty or begins with `;`.
-pub(super) fn read_parameters(alloc: Global, text: &str) -> Result<Vec<(String, String)>, AllocError>
+pub(super) fn read_parameters(
+    alloc: Global,
+    text: &str,
+) -> Result<Vec<(String, String)>, AllocError>
     requires { BeginsParameters (chars text.now) }
     ensures { IfOk result (λ pairs. (items : List Item) × Items (chars text.now) items × (map (λ p. pair_of p) pairs.items ≡ kept items)) }
 {

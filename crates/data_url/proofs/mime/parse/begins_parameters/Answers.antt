@@ -1,4 +1,4 @@
-use Rattle.std.proofs.Common.{sym, ap, ◌∙◌, subst}
+use Rattle.std.proofs.Common.{sym, ◌∙◌}
 use Rattle.data_url.proofs.HeadLemmas.{begins_if, empty_begins}
 use Rattle.data_url.proofs.mime.parse.begins_parameters.Goals as goal
 

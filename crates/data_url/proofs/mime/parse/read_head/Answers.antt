@@ -1,4 +1,3 @@
-use Rattle.std.proofs.Common.{sym, ap, ◌∙◌}
 use Rattle.data_url.proofs.HeadLemmas.{cut_again, cut_from, empty_by, is_head, no_parameters, no_slash_bytes, no_subtype, no_type, nonempty_by, slash_cut}
 use Rattle.data_url.proofs.mime.parse.read_head.Goals as goal
 use Rattle.data_url.proofs.mime.parse.read_head.Goals.{then-is_empty-via-then-is_empty, then-is_empty-via-else-is_empty+then-is_empty-2, then-is_empty-via-else-is_empty+else-is_empty-2+then-not-begins_parameters}
@@ -21,7 +20,7 @@ returns-then-is_empty c =
     ]
 
 pub returns : goal.returns
-returns c = 
+returns c =
     let k = cut_from _ _ _ _ _ c.without_front.ensures c.without_end.ensures c.split_tokens.ensures.joined c.split_tokens.ensures.front c.split_tokens.ensures.behind in
     let e = c.in_ok-strip_prefix.ensures.cases in
     let k = slash_cut _ _ _ _ _ k c.split_tokens.ensures.text.1 e.1 e.2 in

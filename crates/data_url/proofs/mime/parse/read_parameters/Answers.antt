@@ -1,4 +1,4 @@
-use Rattle.std.proofs.Common.{◌<◌, ◌≤◌, ◌∷◌, length, arith, ap}
+use Rattle.std.proofs.Common.{◌<◌, ◌≤◌, length, arith, ap}
 use Rattle.std.specs.Str.{chars}
 use Rattle.data_url.proofs.HeadLemmas.{no_semicolon}
 use Rattle.data_url.proofs.KeptLemmas.{keeps_end, keeps_more, rest_shorter}

@@ -1,6 +1,5 @@
-use Rattle.std.proofs.Common.{◌≡◌, ◌==◌, ◌&&◌, ◌∙◌, not, ap, sym, string_bytes}
+use Rattle.std.proofs.Common.{◌≡◌, ◌==◌, ◌&&◌, ◌∙◌, not, ap, string_bytes}
 use Rattle.std.proofs.lemmas.Str.{IsUtf8-past_char, IsUtf8-string_bytes}
-use Rattle.std.specs.Str.{chars}
 use Rattle.std.specs.Str.Iter.{chars_rest}
 use Rattle.data_url.specs.Seen.{code_points}
 use Rattle.data_url.proofs.ValueLemmas.{else_escaped, then_escaped, unescape_ends, unescape_ends_plain, unescape_pushes, unescape_skips, unescape_starts}
@@ -24,6 +23,6 @@ loop-c-preserved c =
 
 pub returns : goal.returns
 returns c value open_ = elim c.if-escaped.branch [
-    | then-escaped+in_ok-push-2 w ↦ ap (λ s. code_points s) w.value-is ∙ unescape_ends (string_bytes c.loop-c.value) (string_bytes w.push-then-escaped.new.self) _ _ value _ (IsUtf8-string_bytes c.loop-c.value) c.in-None.ensures.steps.0.0 w.if-escaped.true w.in_ok-push-2.ensures.bytes c.loop-c.invariant.1 open_
-    | else-escaped w ↦ ap (λ s. code_points s) w.value-is ∙ unescape_ends_plain (string_bytes c.loop-c.value) _ _ value _ c.in-None.ensures.steps.0.0 w.if-escaped.false c.loop-c.invariant.1 open_
-  ]
+  | then-escaped+in_ok-push-2 w ↦ ap (λ s. code_points s) w.value-is ∙ unescape_ends (string_bytes c.loop-c.value) (string_bytes w.push-then-escaped.new.self) _ _ value _ (IsUtf8-string_bytes c.loop-c.value) c.in-None.ensures.steps.0.0 w.if-escaped.true w.in_ok-push-2.ensures.bytes c.loop-c.invariant.1 open_
+  | else-escaped w ↦ ap (λ s. code_points s) w.value-is ∙ unescape_ends_plain (string_bytes c.loop-c.value) _ _ value _ c.in-None.ensures.steps.0.0 w.if-escaped.false c.loop-c.invariant.1 open_
+]

@@ -1,4 +1,4 @@
-use Rattle.std.proofs.Common.{sym, ◌∙◌}
+use Rattle.std.proofs.Common.{sym}
 use Rattle.data_url.specs.Seen.{code_points}
 use Rattle.data_url.proofs.ValueLemmas.{missing_text, no_plain_text, no_quoted_text, quoted_text}
 use Rattle.data_url.proofs.mime.values.Value.text.Goals as goal
@@ -9,7 +9,7 @@ returns-in_ok-unescaped-in-Quoted c value i = quoted_text c.args.self.now c.in-Q
 
 pub returns-in_default : goal.returns-in_default
 returns-in_default c value i = elim c.in_default.branch [
-    | in_default-via-in-Plain+else-is_quotable w ↦ no_plain_text c.args.self.now w.in-Plain.text value w.in-Plain.is i (sym w.if-is_quotable.ensures)
-    | in_default-via-in-Quoted+else-is_quotable-2 w ↦ no_quoted_text c.args.self.now w.in-Quoted.text value w.in-Quoted.is i (sym w.if-is_quotable-2.ensures)
-    | in_default-via-in_default w ↦ missing_text c.args.self.now value w.in_default.is i
-  ]
+  | in_default-via-in-Plain+else-is_quotable w ↦ no_plain_text c.args.self.now w.in-Plain.text value w.in-Plain.is i (sym w.if-is_quotable.ensures)
+  | in_default-via-in-Quoted+else-is_quotable-2 w ↦ no_quoted_text c.args.self.now w.in-Quoted.text value w.in-Quoted.is i (sym w.if-is_quotable-2.ensures)
+  | in_default-via-in_default w ↦ missing_text c.args.self.now value w.in_default.is i
+]

@@ -1,0 +1,11 @@
+-- What is written and what is left to write make up the whole.
+use Rattle.std.proofs.Common.{◌≡◌, ℕ, List, ◌++◌, drop, encode_utf8_all}
+use Rattle.std.specs.Fmt.{HasWritten, IsPlainFormatter}
+use Rattle.data_url.specs.Mime.{printed}
+use Rattle.data_url.specs.Seen.{seen}
+use Rattle.data_url.proofs.PrintLemmas.{pairs_text}
+use Rattle.data_url.proofs.mime.MimeDisplay.fmt.Given as goal
+
+abbrev pub invariant-loop-name : goal.invariant-loop-name
+invariant-loop-name g l =
+    IsPlainFormatter l.fn.f → (done : List ℕ) × HasWritten g.W.Write.write_str_gives l.fn.f done l.f × (done ++ pairs_text (drop l.name-index l.self.parameters.items) ≡ encode_utf8_all (printed (seen l.self)))

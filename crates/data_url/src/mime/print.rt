@@ -1,0 +1,54 @@
+//! Writes a MIME type (MIME Sniffing Standard, section 4.5).
+
+ghost use Rattle.std.specs.Fmt.{WritesOnOk};
+ghost use Rattle.std.specs.List.{flat_map};
+ghost use Rattle.std.specs.Str.{chars, encode_utf8_all};
+ghost use Rattle.data_url.specs.Mime.{escaped, printed_pair, printed_value};
+
+use super::tokens::is_token_text;
+use std::fmt;
+
+/// Writes `;`, a name, `=` and a value.
+pub(super) fn write_parameter<W: fmt::Write>(
+    f: &mut fmt::Formatter<W>,
+    name: &str,
+    value: &str,
+) -> fmt::Result
+    ensures { WritesOnOk W.write_str_gives f.old result (encode_utf8_all (printed_pair (chars name.now, chars value.now))) f.new }
+{
+    f.write_char(';')?;
+    f.write_str(name)?;
+    f.write_char('=')?;
+    write_value(f, value)
+}
+
+// Writes a value: a nonempty text of token code points as it is, any other in quotes.
+fn write_value<W: fmt::Write>(f: &mut fmt::Formatter<W>, value: &str) -> fmt::Result
+    ensures { WritesOnOk W.write_str_gives f.old result (encode_utf8_all (printed_value (chars value.now))) f.new }
+{
+    if is_token_text(value) {
+        return f.write_str(value);
+    }
+    f.write_char('"')?;
+    write_escaped(f, value)?;
+    f.write_char('"')
+}
+
+// Writes a text with a `\` before each `"` and each `\`.
+fn write_escaped<W: fmt::Write>(f: &mut fmt::Formatter<W>, text: &str) -> fmt::Result
+    ensures { WritesOnOk W.write_str_gives f.old result (encode_utf8_all (flat_map escaped (chars text.now))) f.new }
+{
+    for c in text.chars() {
+        write_escaped_char(f, c)?;
+    }
+    Ok(())
+}
+
+fn write_escaped_char<W: fmt::Write>(f: &mut fmt::Formatter<W>, c: char) -> fmt::Result
+    ensures { WritesOnOk W.write_str_gives f.old result (encode_utf8_all (escaped c)) f.new }
+{
+    if c == '"' || c == '\\' {
+        f.write_char('\\')?;
+    }
+    f.write_char(c)
+}
