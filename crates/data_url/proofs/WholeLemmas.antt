@@ -9,7 +9,7 @@ use Rattle.data_url.specs.Laws.{GoesOn}
 use Rattle.data_url.specs.Run.{Call, IsPrefix, IsRun, joined, or_error, refusal}
 use Rattle.data_url.specs.declared.forgiving_base64.DecodeError.{DecodeError}
 use Rattle.data_url.specs.declared.forgiving_base64.DecodeError.TheVariants.{InvalidBase64}
-use Rattle.data_url.proofs.ByteLemmas.{bool_at_false, bool_at_true}
+use Rattle.data_url.proofs.ByteLemmas.{bool_at_false, bool_at_true, feeds_none}
 use Rattle.data_url.proofs.DecoderLemmas.{feeds_goes_on, feeds_took}
 use Rattle.data_url.proofs.FeedLemmas.{two_feeds}
 use Rattle.data_url.proofs.RunLemmas.{joined-append, later_none, match_at, match_at_none, match_map, match_none, prefix_all, prefix_behind, prefix_trans, refusal-append, run-append}
@@ -102,6 +102,10 @@ module _ {F E : Type 0} (step : F → List ℕ → Result (Unit {0}) E → F →
   -- a decoder that begins at a closure
   abbrev pub start : F → State F
   start f = record { closure = f; symbols = []; padding = 0; failed = false }
+
+  -- a new decoder was fed nothing
+  pub fed_nothing : {d : State F} {f : F} → d ≡ start f → Feeds step (start f) [] (Ok tt) d
+  fed_nothing {d} {f} e = feeds_none step tt (omega arith) (omega arith) refl e
 
   pub decodes_refused : {d d' : State F} {f : F} {u : List ℕ} {x : DecodeError E} → d ≡ start f → Feeds step d u (Err x) d' → Decodes step f u (Err x) d'.closure
   decodes_refused {d} {d'} {f} {u} {x} e g = let P : State F → Type 0 = λ s. Feeds step s u (Err x) d' in refused_fed (subst P e g) refl
