@@ -1,5 +1,5 @@
 -- The table of symbols is the alphabet.
-use Rattle.std.proofs.Common.{◌≡◌, ℕ, ◌<◌, Bool, ltb, true, false, cond, eqb, get_or, refl, ap, sym, ◌∙◌, arith}
+use Rattle.std.proofs.Common.{◌≡◌, ℕ, ◌<◌, ltb, true, false, cond, eqb, get_or, refl, sym, ◌∙◌, arith}
 use Rattle.std.proofs.lemmas.Bool.{agree_below_at, lt-ltb, le-ltb, cond-true, cond-false, eqb-true, ltb-true}
 use Rattle.std.specs.Char.{is_ascii_whitespace as std_whitespace}
 use Rattle.data_url.specs.Base64.{is_ascii_whitespace, is_symbol, symbol_value}
@@ -29,7 +29,7 @@ entry_lt b l h = let e = entry_symbol b l h in let k = value_lt b l h in omega (
 pub symbol_is : (b : ℕ) → b < 256 → ltb (get_or VALUES b 0) 64 ≡ is_symbol b
 symbol_is b l =
     elim (is_symbol b) as (λ v. is_symbol b ≡ v → ltb (get_or VALUES b 0) 64 ≡ v) [
-        true ↦ λ e. lt-ltb (get_or VALUES b 0) 64 (entry_lt b l e)
+      | true ↦ λ e. lt-ltb (get_or VALUES b 0) 64 (entry_lt b l e)
       | false ↦ λ e. le-ltb (get_or VALUES b 0) 64 (let k = entry_other b l e in omega (arith, k))
     ] refl
 

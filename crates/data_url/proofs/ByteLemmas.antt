@@ -1,5 +1,5 @@
 -- What little more text does behind what a decoder has left over, and what its end does.
-use Rattle.std.proofs.Common.{◌≡◌, ◌≢◌, ◌⊎◌, inl, inr, ℕ, suc, zero, ◌+◌, ◌%◌, ◌≤◌, Bool, true, false, cond, eqb, get_or, take, List, [], ◌∷◌, ◌++◌, length, map, min, replicate, Option, None, Some, is_some, Result, Ok, Err, refl, ap, sym, ◌∙◌, subst, arith, append_assoc, length-append}
+use Rattle.std.proofs.Common.{◌≡◌, ◌≢◌, ◌⊎◌, inl, inr, ℕ, suc, zero, ◌+◌, ◌%◌, ◌≤◌, Bool, true, false, cond, eqb, get_or, take, List, [], ◌∷◌, ◌++◌, length, map, min, replicate, None, Some, is_some, Result, Ok, Err, refl, ap, sym, ◌∙◌, subst, arith, length-append}
 use Rattle.std.specs.Prelude.{MatchOption, MatchBool, MatchResult, is_err}
 use Rattle.std.specs.List.{filter, list_any}
 use Rattle.std.proofs.lemmas.List.{append-nil, length-map, length-replicate}
@@ -8,10 +8,10 @@ use Rattle.std.proofs.lemmas.Bool.{false≢true, true≢false}
 use Rattle.data_url.specs.Base64.{AlphabetSymbolAfterPadding, LoneAlphabetSymbol, Padding, UnexpectedSymbol, after_groups, decoded, done, first_fault, group_bytes, group_number, groups, is_ascii_whitespace, is_symbol, is_valid, kind_of, left_padding, left_symbols, left_text, rest_bytes, symbol_value, values}
 use Rattle.data_url.specs.Decoding.{Feeds, Finishes, IsAll, IsLeft, IsRefused, IsTaken, State, left_over}
 use Rattle.data_url.specs.Mime.{Every}
-use Rattle.data_url.specs.Run.{Call, IsRun, joined, or_error, refusal}
+use Rattle.data_url.specs.Run.{IsRun, or_error}
 use Rattle.data_url.specs.declared.forgiving_base64.DecodeError.{DecodeError}
 use Rattle.data_url.specs.declared.forgiving_base64.DecodeError.TheVariants.{InvalidBase64, WriteError}
-use Rattle.data_url.proofs.RunLemmas.{match_alike, match_at, match_none, match_some, prefix_all}
+use Rattle.data_url.proofs.RunLemmas.{match_none, match_some, prefix_all}
 use Rattle.data_url.proofs.SignLemmas.{any_of_text, before-append, before_fault, before_none, classes, done_is, fault-append, fault_byte, fault_signs, fault_some, fault_text, is_sign, kind_by, kind_fault, kind_is, no_fault_valid, none_fault, signs_of_text, symbols_of_text}
 use Rattle.data_url.proofs.ValidLemmas.{fits_with}
 use Rattle.data_url.proofs.WalkLemmas.{bad, is_bad, some_not_none, space_alone, symbol_alone}
@@ -253,7 +253,7 @@ module _ {F E : Type 0} (step : F → List ℕ → Result (Unit {0}) E → F →
       let p = d.padding in
       let none : first_fault (left_text q p ++ t) ≡ None = none_fault (left_text q p ++ t) (fault_more q p every t ∙ good) in
       let group : groups (map symbol_value (q ++ filter is_symbol t)) ≡ [] =
-          ap (λ x. groups (map symbol_value (q ++ x))) is_k ∙ groups_few (map symbol_value (q ++ k)) (omega (arith, few, length-map (q ++ k) symbol_value)) in
+      ap (λ x. groups (map symbol_value (q ++ x))) is_k ∙ groups_few (map symbol_value (q ++ k)) (omega (arith, few, length-map (q ++ k) symbol_value)) in
       record {
         run = [];
         ran = sym same;
@@ -261,11 +261,14 @@ module _ {F E : Type 0} (step : F → List ℕ → Result (Unit {0}) E → F →
         failed = failed;
         gave = record {
           bytes_are = sym (done_more q p every t good ∙ group);
-          answer = match_none (first_fault (left_text q p ++ t)) _ _ none (refl, record {
-            symbols_are = symbols ∙ sym (left_more q p every t ∙ ap (λ x. after_groups (q ++ x)) is_k ∙ after_few (q ++ k) few);
-            padding_is = padding ∙ sym (padding_more q p every t ∙ ap (λ x. min (p + x) 3) is_n)
-          })
-        }
+          answer = match_none (first_fault (left_text q p ++ t)) _ _ none (
+            refl,
+            record {
+              symbols_are = symbols ∙ sym (left_more q p every t ∙ ap (λ x. after_groups (q ++ x)) is_k ∙ after_few (q ++ k) few);
+              padding_is = padding ∙ sym (padding_more q p every t ∙ ap (λ x. min (p + x) 3) is_n);
+            },
+          );
+        };
       }
 
   -- a bad byte is refused without a call
@@ -281,8 +284,8 @@ module _ {F E : Type 0} (step : F → List ℕ → Result (Unit {0}) E → F →
         failed = ap (λ (s : State F). s.failed) same ∙ sym (ap is_err told);
         gave = record {
           bytes_are = sym (done_bad q p every c few bad);
-          answer = match_some (first_fault (left_text q p ++ c ∷ [])) _ _ some (told ∙ ap (λ z. Err (InvalidBase64 z)) (sym (kind_bad q p every c bad)))
-        }
+          answer = match_some (first_fault (left_text q p ++ c ∷ [])) _ _ some (told ∙ ap (λ z. Err (InvalidBase64 z)) (sym (kind_bad q p every c bad)));
+        };
       }
 
   -- a symbol behind a sign
@@ -358,11 +361,11 @@ module _ {F E : Type 0} (step : F → List ℕ → Result (Unit {0}) E → F →
       let good : fault_byte (has_sign p) (c ∷ []) ≡ None = ap (λ s. fault_byte s (c ∷ [])) sign ∙ fault_symbol c symbol in
       let all : q ++ filter is_symbol (c ∷ []) ≡ x ∷ y ∷ z ∷ c ∷ [] = ap (λ k. k ++ filter is_symbol (c ∷ [])) is_q ∙ ap (λ (k : List ℕ). x ∷ y ∷ z ∷ k) (symbols_symbol c symbol) in
       let bytes : piece ++ [] ≡ done (left_text q p ++ c ∷ []) =
-          append-nil piece ∙ is_piece ∙ sym (done_more q p every (c ∷ []) good ∙ ap (λ k. groups (map symbol_value k)) all ∙ four_groups (symbol_value x) (symbol_value y) (symbol_value z) (symbol_value c)) in
+      append-nil piece ∙ is_piece ∙ sym (done_more q p every (c ∷ []) good ∙ ap (λ k. groups (map symbol_value k)) all ∙ four_groups (symbol_value x) (symbol_value y) (symbol_value z) (symbol_value c)) in
       let none : first_fault (left_text q p ++ c ∷ []) ≡ None = none_fault (left_text q p ++ c ∷ []) (fault_more q p every (c ∷ []) ∙ good) in
       let left : IsLeft (left_text q p ++ c ∷ []) d' = record {
         symbols_are = symbols ∙ sym (left_more q p every (c ∷ []) ∙ ap after_groups all ∙ four_after x y z c);
-        padding_is = padding ∙ sym (padding_more q p every (c ∷ []) ∙ ap (λ k. min (k + length (filter is_sign (c ∷ []))) 3) is_p ∙ ap (λ k. min (0 + length k) 3) (signs_symbol c symbol))
+        padding_is = padding ∙ sym (padding_more q p every (c ∷ []) ∙ ap (λ k. min (k + length (filter is_sign (c ∷ []))) 3) is_p ∙ ap (λ k. min (0 + length k) 3) (signs_symbol c symbol));
       } in
       record {
         run = record { piece = piece; answer = answer; after = d'.closure } ∷ [];
@@ -370,7 +373,7 @@ module _ {F E : Type 0} (step : F → List ℕ → Result (Unit {0}) E → F →
         calls = omega arith;
         failed = failed;
         gave = told_call answer r (IsTaken (left_text q p ++ c ∷ []) (piece ++ []) r d') (done (left_text q p ++ c ∷ [])) (piece ++ []) bytes
-            (λ e. record { bytes_are = bytes; answer = match_none (first_fault (left_text q p ++ c ∷ [])) _ _ none (e, left) }) told
+            (λ e. record { bytes_are = bytes; answer = match_none (first_fault (left_text q p ++ c ∷ [])) _ _ none (e, left) }) told;
       }
 
   -- The end
@@ -381,7 +384,7 @@ module _ {F E : Type 0} (step : F → List ℕ → Result (Unit {0}) E → F →
     ran = sym (ap (λ (s : State F). s.closure) same);
     calls = omega arith;
     gave = bool_at_false (is_valid (left_over d)) _ _ (valid_left d.symbols d.padding every ∙ bad)
-        (refl, told ∙ ap (λ z. Err (InvalidBase64 z)) (sym (kind_left d.symbols d.padding every)))
+        (refl, told ∙ ap (λ z. Err (InvalidBase64 z)) (sym (kind_left d.symbols d.padding every)));
   }
 
   -- a lone symbol
@@ -404,19 +407,19 @@ module _ {F E : Type 0} (step : F → List ℕ → Result (Unit {0}) E → F →
         ran = sym same;
         calls = omega arith;
         gave = bool_at_true (is_valid (left_over d)) _ _ (valid_left d.symbols d.padding every ∙ ap (λ q. fits_with (length q % 4) d.padding) is_q ∙ ap (fits_with 0) is_p)
-            (record { bytes_are = sym none; answer = refl })
+            (record { bytes_are = sym none; answer = refl });
       }
 
   pub finishes_call : {d : State F} {f : F} {r : Result (Unit {0}) (DecodeError E)} (q piece : List ℕ) (answer : Result (Unit {0}) E) → Every is_symbol d.symbols → d.symbols ≡ q → fits_with (length q % 4) d.padding ≡ true → length q ≤ 3 → piece ≡ rest_bytes (map symbol_value q) → step d.closure piece answer f → MatchResult answer (λ u. r ≡ Ok tt) (λ e. r ≡ Err (WriteError e)) → Finishes step d r f
   finishes_call {d} {f} {r} q piece answer every is_q fits few is_piece called told =
       let bytes : piece ++ [] ≡ decoded (left_over d) =
-          append-nil piece
-          ∙ is_piece
-          ∙ sym (decoded_left d.symbols d.padding every ∙ ap (λ q. groups (map symbol_value q) ++ rest_bytes (after_groups (map symbol_value q))) is_q ∙ decoded_few q few) in
+      append-nil piece
+      ∙ is_piece
+      ∙ sym (decoded_left d.symbols d.padding every ∙ ap (λ q. groups (map symbol_value q) ++ rest_bytes (after_groups (map symbol_value q))) is_q ∙ decoded_few q few) in
       record {
         run = record { piece = piece; answer = answer; after = f } ∷ [];
         ran = one_call d.closure f piece answer called;
         calls = omega arith;
         gave = bool_at_true (is_valid (left_over d)) _ _ (valid_left d.symbols d.padding every ∙ ap (λ q. fits_with (length q % 4) d.padding) is_q ∙ fits)
-            (told_call answer r (IsAll (left_over d) (piece ++ []) r) (decoded (left_over d)) (piece ++ []) bytes (λ e. record { bytes_are = bytes; answer = e }) told)
+            (told_call answer r (IsAll (left_over d) (piece ++ []) r) (decoded (left_over d)) (piece ++ []) bytes (λ e. record { bytes_are = bytes; answer = e }) told);
       }

@@ -1,18 +1,16 @@
 -- Feeding a decoder, piece by piece.
-use Rattle.std.proofs.Common.{◌≡◌, ℕ, suc, zero, ◌+◌, ◌<◌, ◌≤◌, drop, get_or, take, Bool, true, false, List, [], ◌∷◌, ◌++◌, length, min, replicate, Option, None, Some, is_some, Result, Ok, Err, refl, ap, sym, ◌∙◌, subst, arith, append_assoc, length-append}
-use Rattle.std.specs.Prelude.{MatchOption, MatchBool, is_err}
-use Rattle.std.proofs.lemmas.List.{append-nil, take-append-drop, take_more}
-use Rattle.std.proofs.lemmas.Bool.{false≢true, true≢false}
-use Rattle.data_url.specs.Base64.{decoded, done, first_fault, groups, is_valid, kind_of, left_padding, left_symbols, left_text, values}
-use Rattle.data_url.specs.Decoding.{Feeds, Finishes, IsAll, IsLeft, IsRefused, IsTaken, State, left_over}
+use Rattle.std.proofs.Common.{◌≡◌, ℕ, ◌+◌, ◌<◌, drop, get_or, take, false, List, [], ◌∷◌, ◌++◌, length, Option, None, Some, is_some, Result, Ok, Err, refl, ap, sym, ◌∙◌, subst, arith, append_assoc, length-append}
+use Rattle.std.specs.Prelude.{MatchOption}
+use Rattle.std.proofs.lemmas.List.{take-append-drop, take_more}
+use Rattle.data_url.specs.Base64.{done, first_fault, kind_of, left_padding, left_symbols, left_text}
+use Rattle.data_url.specs.Decoding.{Feeds, IsLeft, IsRefused, IsTaken, State, left_over}
 use Rattle.data_url.specs.Laws.{GoesOn}
-use Rattle.data_url.specs.Run.{Call, IsPrefix, IsRun, joined, refusal}
+use Rattle.data_url.specs.Run.{IsPrefix, joined, refusal}
 use Rattle.data_url.specs.declared.forgiving_base64.DecodeError.{DecodeError}
-use Rattle.data_url.specs.declared.forgiving_base64.DecodeError.TheVariants.{InvalidBase64, WriteError}
+use Rattle.data_url.specs.declared.forgiving_base64.DecodeError.TheVariants.{InvalidBase64}
 use Rattle.data_url.proofs.FeedLemmas.{two_feeds}
 use Rattle.data_url.proofs.RunLemmas.{joined-append, match_alike, match_at, match_map, match_at_none, prefix_all, prefix_behind, prefix_trans, refusal-append, run-append}
 use Rattle.data_url.proofs.SignLemmas.{done_stays, fault-append_some, fault_byte, fault_some, kind_stays, none_fault}
-use Rattle.data_url.proofs.WalkLemmas.{some_not_none}
 
 -- Accepted on a, and then on b
 
@@ -40,16 +38,16 @@ taken_on : {F E : Type 0} (u b v bytes : List ℕ) (r : Result (Unit {0}) (Decod
 taken_on u b v bytes r d g h = record {
   bytes_are = ap (λ x. done u ++ x) h.bytes_are ∙ sym g.done_is;
   answer =
-    match_alike (first_fault v) (first_fault (u ++ b)) _ _ _ _ (sym g.fault_is)
-    (λ k. (k.0, record { symbols_are = k.1.symbols_are ∙ sym g.symbols_left; padding_is = k.1.padding_is ∙ sym g.padding_left }))
-    (λ k. k ∙ ap (λ x. Err (InvalidBase64 x)) (sym g.kind_is))
-    h.answer
+      match_alike (first_fault v) (first_fault (u ++ b)) _ _ _ _ (sym g.fault_is)
+      (λ k. (k.0, record { symbols_are = k.1.symbols_are ∙ sym g.symbols_left; padding_is = k.1.padding_is ∙ sym g.padding_left }))
+      (λ k. k ∙ ap (λ x. Err (InvalidBase64 x)) (sym g.kind_is))
+      h.answer;
 }
 
 refused_on : {E : Type 0} (u all bytes whole : List ℕ) (e : E) (r : Result (Unit {0}) (DecodeError E)) → whole ≡ done u ++ all → IsRefused all bytes e r → IsRefused whole (done u ++ bytes) e r
 refused_on u all bytes whole e r q h = record {
   bytes_begin = prefix_trans (done u ++ bytes) (done u ++ all) whole (prefix_behind (done u) bytes all h.bytes_begin) (prefix_all (done u ++ all) whole (sym q));
-  answer = h.answer
+  answer = h.answer;
 }
 
 -- Refused on a, whatever follows
@@ -67,10 +65,10 @@ taken_cases u b bytes x d None h t = absurd (let k = match_at_none (first_fault 
 taken_cases u b bytes x d (Some c) h t = record {
   bytes_are = t.bytes_are ∙ sym (done_stays u b c h);
   answer =
-    match_alike (first_fault u) (first_fault (u ++ b)) _ _ _ _ (fault_some u ∙ ap is_some (h ∙ sym (fault-append_some u b false c h)) ∙ sym (fault_some (u ++ b)))
-    (λ k. absurd (let e = k.0 in cc))
-    (λ k. k ∙ ap (λ z. Err (InvalidBase64 z)) (kind_stays u b c h))
-    t.answer
+      match_alike (first_fault u) (first_fault (u ++ b)) _ _ _ _ (fault_some u ∙ ap is_some (h ∙ sym (fault-append_some u b false c h)) ∙ sym (fault_some (u ++ b)))
+      (λ k. absurd (let e = k.0 in cc))
+      (λ k. k ∙ ap (λ z. Err (InvalidBase64 z)) (kind_stays u b c h))
+      t.answer;
 }
 
 module _ {F E : Type 0} (step : F → List ℕ → Result (Unit {0}) E → F → Type 0) where
@@ -107,13 +105,13 @@ module _ {F E : Type 0} (step : F → List ℕ → Result (Unit {0}) E → F →
         calls = omega (arith, f.calls, g.calls, length-append f.run g.run, length-append a b);
         failed = g.failed;
         gave =
-          subst N (append_assoc (left_over d) a b)
-          (match_at (refusal g.run) (refusal (f.run ++ g.run)) _ _ (refusal-append f.run g.run k.0)
-           (subst M (sym bytes)
+            subst N (append_assoc (left_over d) a b)
+            (match_at (refusal g.run) (refusal (f.run ++ g.run)) _ _ (refusal-append f.run g.run k.0)
+            (subst M (sym bytes)
             (match_map (refusal g.run) _ _ _ _
-             (taken_on (left_over d ++ a) b (left_over d1 ++ b) (joined g.run) r d2 on)
-             (λ e. refused_on (left_over d ++ a) (done (left_over d1 ++ b)) (joined g.run) _ e r on.done_is)
-             g.gave)))
+            (taken_on (left_over d ++ a) b (left_over d1 ++ b) (joined g.run) r d2 on)
+            (λ e. refused_on (left_over d ++ a) (done (left_over d1 ++ b)) (joined g.run) _ e r on.done_is)
+            g.gave)));
       }
 
   -- what was refused on a is refused on a and b
@@ -126,11 +124,11 @@ module _ {F E : Type 0} (step : F → List ℕ → Result (Unit {0}) E → F →
         calls = omega (arith, f.calls, length-append a b);
         failed = f.failed;
         gave =
-          subst N (append_assoc (left_over d) a b)
-          (match_map (refusal f.run) _ _ _ _
-           (taken_cases (left_over d ++ a) b (joined f.run) x d' (fault_byte false (left_over d ++ a)) refl)
-           (λ e h. record { bytes_begin = prefix_trans (joined f.run) (done (left_over d ++ a)) (done ((left_over d ++ a) ++ b)) h.bytes_begin (done_begins (left_over d ++ a) b); answer = h.answer })
-           f.gave)
+            subst N (append_assoc (left_over d) a b)
+            (match_map (refusal f.run) _ _ _ _
+            (taken_cases (left_over d ++ a) b (joined f.run) x d' (fault_byte false (left_over d ++ a)) refl)
+            (λ e h. record { bytes_begin = prefix_trans (joined f.run) (done (left_over d ++ a)) (done ((left_over d ++ a) ++ b)) h.bytes_begin (done_begins (left_over d ++ a) b); answer = h.answer })
+            f.gave);
       }
 
   -- A text, byte by byte

@@ -1,5 +1,5 @@
 -- A whole text, fed and then finished.
-use Rattle.std.proofs.Common.{◌≡◌, ◌⊎◌, ℕ, ◌+◌, ◌≤◌, Bool, true, false, cond, List, [], ◌∷◌, ◌++◌, length, Option, None, Some, is_some, Result, Ok, Err, refl, ap, sym, ◌∙◌, subst, inl, inr, arith, append_assoc, length-append}
+use Rattle.std.proofs.Common.{◌≡◌, ◌⊎◌, ℕ, Bool, true, false, cond, List, [], ◌∷◌, ◌++◌, Option, None, Some, Result, Ok, Err, refl, ap, sym, ◌∙◌, subst, inl, inr, arith, append_assoc, length-append}
 use Rattle.std.specs.Prelude.{MatchBool, MatchOption}
 use Rattle.std.proofs.lemmas.List.{append-nil}
 use Rattle.std.proofs.lemmas.Bool.{cond-true}
@@ -8,8 +8,8 @@ use Rattle.data_url.specs.Decoding.{Decodes, Feeds, Finishes, IsAll, IsRefused, 
 use Rattle.data_url.specs.Laws.{GoesOn}
 use Rattle.data_url.specs.Run.{Call, IsPrefix, IsRun, joined, or_error, refusal}
 use Rattle.data_url.specs.declared.forgiving_base64.DecodeError.{DecodeError}
-use Rattle.data_url.specs.declared.forgiving_base64.DecodeError.TheVariants.{InvalidBase64, WriteError}
-use Rattle.data_url.proofs.ByteLemmas.{bool_at_false, bool_at_true}
+use Rattle.data_url.specs.declared.forgiving_base64.DecodeError.TheVariants.{InvalidBase64}
+use Rattle.data_url.proofs.ByteLemmas.{bool_at_false, bool_at_true, feeds_none}
 use Rattle.data_url.proofs.DecoderLemmas.{feeds_goes_on, feeds_took}
 use Rattle.data_url.proofs.FeedLemmas.{two_feeds}
 use Rattle.data_url.proofs.RunLemmas.{joined-append, later_none, match_at, match_at_none, match_map, match_none, prefix_all, prefix_behind, prefix_trans, refusal-append, run-append}
@@ -27,7 +27,7 @@ whole_bytes u = cond (is_valid u) (decoded u) (done u)
 done_whole : (u : List ℕ) → IsPrefix (done u) (whole_bytes u)
 done_whole u =
     elim (is_valid u) as (λ v. is_valid u ≡ v → IsPrefix (done u) (cond v (decoded u) (done u))) [
-        true ↦ λ e.
+      | true ↦ λ e.
           let g = two_feeds u [] (none_fault u (valid_no_fault u e)) in
           (decoded (left_text (left_symbols u) (left_padding u) ++ []), ap decoded (sym (append-nil u)) ∙ g.decoded_is)
       | false ↦ λ e. prefix_all (done u) (done u) refl
@@ -61,7 +61,7 @@ module _ {F E : Type 0} (step : F → List ℕ → Result (Unit {0}) E → F →
         gave = match_map (refusal f.run) _ _ _ _
             (taken_invalid u (joined f.run) (Err x) x d' (fault_byte false u) refl refl)
             (λ e h. record { bytes_begin = prefix_trans (joined f.run) (done u) (whole_bytes u) h.bytes_begin (done_whole u); answer = h.answer })
-            gave
+            gave;
       }
 
   -- fed and finished
@@ -81,27 +81,31 @@ module _ {F E : Type 0} (step : F → List ℕ → Result (Unit {0}) E → F →
         calls = omega (arith, f.calls, g.calls, length-append f.run g.run);
         gave = match_at (refusal g.run) (refusal (f.run ++ g.run)) _ _ (refusal-append f.run g.run k.0)
             (elim (split_bool (is_valid (left_over d')) _ _ g.gave) [
-                inl (v, h) ↦
+              | inl (v, h) ↦
                   let good : is_valid u ≡ true = valid ∙ v in
                   match_map (refusal g.run) _ _ _ _
                   (λ w. bool_at_true (is_valid u) _ _ good (record { bytes_are = bytes ∙ ap (λ x. done u ++ x) w.bytes_are ∙ sym all; answer = w.answer }))
                   (λ e w. record {
                     bytes_begin =
-                      prefix_trans (joined (f.run ++ g.run)) (done u ++ joined g.run) (whole_bytes u) (prefix_all (joined (f.run ++ g.run)) (done u ++ joined g.run) bytes)
-                      (prefix_trans (done u ++ joined g.run) (done u ++ decoded (left_over d')) (whole_bytes u) (prefix_behind (done u) (joined g.run) (decoded (left_over d')) w.bytes_begin)
-                       (prefix_all (done u ++ decoded (left_over d')) (whole_bytes u) (sym (cond-true (is_valid u) (decoded u) (done u) good ∙ all))));
-                    answer = w.answer
+                        prefix_trans (joined (f.run ++ g.run)) (done u ++ joined g.run) (whole_bytes u) (prefix_all (joined (f.run ++ g.run)) (done u ++ joined g.run) bytes)
+                        (prefix_trans (done u ++ joined g.run) (done u ++ decoded (left_over d')) (whole_bytes u) (prefix_behind (done u) (joined g.run) (decoded (left_over d')) w.bytes_begin)
+                        (prefix_all (done u ++ decoded (left_over d')) (whole_bytes u) (sym (cond-true (is_valid u) (decoded u) (done u) good ∙ all))));
+                    answer = w.answer;
                   })
                   h
               | inr (v, h) ↦
                   match_none (refusal g.run) _ _ (ap refusal h.0)
                   (bool_at_false (is_valid u) _ _ (valid ∙ v) (bytes ∙ ap (λ x. done u ++ joined x) h.0 ∙ append-nil (done u), h.1 ∙ ap (λ z. Err (InvalidBase64 z)) (sym kind)))
-            ])
+            ]);
       }
 
   -- a decoder that begins at a closure
   abbrev pub start : F → State F
   start f = record { closure = f; symbols = []; padding = 0; failed = false }
+
+  -- a new decoder was fed nothing
+  pub fed_nothing : {d : State F} {f : F} → d ≡ start f → Feeds step (start f) [] (Ok tt) d
+  fed_nothing {d} {f} e = feeds_none step tt (omega arith) (omega arith) refl e
 
   pub decodes_refused : {d d' : State F} {f : F} {u : List ℕ} {x : DecodeError E} → d ≡ start f → Feeds step d u (Err x) d' → Decodes step f u (Err x) d'.closure
   decodes_refused {d} {d'} {f} {u} {x} e g = let P : State F → Type 0 = λ s. Feeds step s u (Err x) d' in refused_fed (subst P e g) refl

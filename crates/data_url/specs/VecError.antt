@@ -1,5 +1,5 @@
 -- What the errors of decoding into a vector say.
-use Rattle.std.specs.Prelude.{◌≡◌, ℕ, List, Bool, false, codes, ⊤}
+use Rattle.std.specs.Prelude.{◌≡◌, ℕ, List, false, codes, ⊤}
 use Rattle.data_url.specs.Base64.{is_valid, kind_of, kind_text}
 use Rattle.data_url.specs.declared.forgiving_base64.DecodeToVecError.{DecodeToVecError}
 use Rattle.data_url.specs.declared.forgiving_base64.DecodeToVecError.TheVariants.{InvalidBase64, OutOfMemory}

@@ -66,7 +66,13 @@ where
     pub fn into_closure(self) -> F
         ensures { result ≡ (state_of self).closure }
     {
-        let Decoder { write_bytes, symbols: _, pending: _, padding: _, failed: _ } = self;
+        let Decoder {
+            write_bytes,
+            symbols: _,
+            pending: _,
+            padding: _,
+            failed: _,
+        } = self;
         write_bytes
     }
 

@@ -6,9 +6,8 @@ ghost use Rattle.data_url.specs.Base64.{decoded, is_valid};
 ghost use Rattle.data_url.specs.Decoding.{Decodes};
 ghost use Rattle.data_url.specs.VecError.{IsErrorOf};
 
-use std::alloc::{AllocError, Global};
-
 use super::{DecodeError, DecodeToVecError, Decoder};
+use std::alloc::{AllocError, Global};
 
 /// Hands the bytes of a text to a closure, and the closure back.
 fn decode_whole<F, E>(input: &[u8], write_bytes: F) -> (Result<(), DecodeError<E>>, F)

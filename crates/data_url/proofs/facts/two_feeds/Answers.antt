@@ -1,6 +1,4 @@
 use Rattle.data_url.proofs.FeedLemmas.{two_feeds}
-use Rattle.data_url.proofs.DecoderLemmas.{feeds_then}
-use Rattle.data_url.proofs.WholeLemmas.{decodes_finished}
 use Rattle.data_url.proofs.facts.two_feeds.Goals as goal
 
 pub returns : goal.returns

@@ -1,4 +1,4 @@
-use Rattle.std.proofs.Common.{refl, ap, ◌∙◌, ◌++◌, ◌≡◌, ℕ, List, Ok, rules}
+use Rattle.std.proofs.Common.{ap, ◌∙◌, ◌++◌, rules}
 use Rattle.data_url.specs.Base64.{decoded}
 use Rattle.data_url.specs.contracts.forgiving_base64.whole.fn.decode_to_vec.decode_whole as closure
 use Rattle.data_url.proofs.WholeLemmas.{decodes_keeps, decodes_reads}

@@ -1,6 +1,4 @@
-use Rattle.std.proofs.Common.{subst, sym}
 use Rattle.std.specs.Fn.{CalledAt}
-use Rattle.data_url.specs.Decoding.{Decodes}
 use Rattle.data_url.proofs.WholeLemmas.{decodes_finished, decodes_refused}
 use Rattle.data_url.proofs.forgiving_base64.whole.decode_whole.Goals as goal
 

@@ -1,4 +1,4 @@
-use Rattle.std.proofs.Common.{◌≡◌, ◌≢◌, ℕ, ◌≤◌, List, length, take, refl, arith, length-take}
+use Rattle.std.proofs.Common.{◌≡◌, take, refl, arith, length-take}
 use Rattle.std.specs.Fn.{CalledAt}
 use Rattle.data_url.proofs.ByteLemmas.{finishes_call, finishes_lone, finishes_padding, finishes_quiet, three_fit, three_items, three_unfit, two_fit, two_items, two_unfit, zero_unfit}
 use Rattle.data_url.proofs.SignLemmas.{every_list_all}
@@ -35,7 +35,7 @@ returns-in_default-clause-finished g c =
     let d = c.args.self.now in
     let every = every_list_all (take d.pending d.symbols) d.pending_symbols in
     elim c.in_default.branch [
-        in_default-via-in-0+in_default w ↦ finishes_padding (CalledAt g.F.FnMut) 0 every (omega (arith, length-take d.pending d.symbols, w.in_default.is-0)) (zero_unfit d.padding w.in_default.is-1.1) refl c.refuse-in_default.ensures.state c.refuse-in_default.ensures.kind
+      | in_default-via-in-0+in_default w ↦ finishes_padding (CalledAt g.F.FnMut) 0 every (omega (arith, length-take d.pending d.symbols, w.in_default.is-0)) (zero_unfit d.padding w.in_default.is-1.1) refl c.refuse-in_default.ensures.state c.refuse-in_default.ensures.kind
       | in_default-via-in-2+in_default w ↦ finishes_padding (CalledAt g.F.FnMut) 2 every (omega (arith, length-take d.pending d.symbols, w.in_default.is-0)) (two_unfit d.padding w.in_default.is-1.1) refl c.refuse-in_default.ensures.state c.refuse-in_default.ensures.kind
       | in_default-via-in-3+else-this-lt2 w ↦ finishes_padding (CalledAt g.F.FnMut) 3 every (omega (arith, length-take d.pending d.symbols)) (three_unfit d.padding (omega arith)) refl c.refuse-in_default.ensures.state c.refuse-in_default.ensures.kind
       | in_default-via-in_default w ↦ absurd (omega (arith, d.few_pending))

@@ -1,4 +1,4 @@
-use Rattle.std.proofs.Common.{◌+◌, length, take, refl, arith, length-take}
+use Rattle.std.proofs.Common.{◌+◌, take, refl, arith, length-take}
 use Rattle.std.proofs.lemmas.Result.{err_from_is_err_and}
 use Rattle.std.specs.Fn.{CalledAt}
 use Rattle.data_url.proofs.ByteLemmas.{feeds_none}
@@ -16,7 +16,7 @@ returns-in_err-take_byte-clause-fed g c =
     let p = err_from_is_err_and c.from_residual.result c.from_residual.ensures.1 in
     rw (p.1, p.2)
     (feeds_stop (CalledAt g.F.FnMut) c.args.input.now (c.loop-byte.byte-index + 1)
-     (feeds_more (CalledAt g.F.FnMut) c.args.input.now c.loop-byte.byte-index (omega arith) c.loop-byte.invariant.1 c.in_err-take_byte.ensures.fed))
+    (feeds_more (CalledAt g.F.FnMut) c.args.input.now c.loop-byte.byte-index (omega arith) c.loop-byte.invariant.1 c.in_err-take_byte.ensures.fed))
 
 pub loop-byte-preserved : goal.loop-byte-preserved
 loop-byte-preserved g c = (c.take_byte.ensures.callable, feeds_more (CalledAt g.F.FnMut) c.args.input.now c.loop-byte.byte-index (omega arith) c.loop-byte.invariant.1 c.in_ok-take_byte.ensures.fed)

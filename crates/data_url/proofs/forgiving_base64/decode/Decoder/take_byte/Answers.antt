@@ -1,8 +1,7 @@
-use Rattle.std.proofs.Common.{◌≡◌, ℕ, ◌≤◌, Bool, false, true, List, length, take, refl, ap, sym, ◌∙◌, arith, length-take}
+use Rattle.std.proofs.Common.{take, refl, ap, sym, ◌∙◌, arith, length-take}
 use Rattle.std.proofs.lemmas.Bool.{ne_eqb}
 use Rattle.std.specs.Fn.{CalledAt}
 use Rattle.data_url.specs.DecoderState.{state_of}
-use Rattle.data_url.specs.Base64.{is_ascii_whitespace, is_symbol}
 use Rattle.data_url.proofs.AlphabetLemmas.{space_is}
 use Rattle.data_url.proofs.ByteLemmas.{feeds_other, feeds_sign, feeds_space}
 use Rattle.data_url.proofs.SignLemmas.{every_list_all}

@@ -1,7 +1,6 @@
-use Rattle.std.proofs.Common.{◌≡◌, ℕ, ◌≤◌, List, length, take, set, refl, ap, sym, ◌∙◌, arith, length-take}
+use Rattle.std.proofs.Common.{take, refl, arith, length-take}
 use Rattle.std.proofs.lemmas.List.{take_more_set}
 use Rattle.std.specs.Fn.{CalledAt}
-use Rattle.data_url.specs.DecoderState.{state_of}
 use Rattle.data_url.proofs.ByteLemmas.{feeds_behind, feeds_group, feeds_kept, three_items}
 use Rattle.data_url.proofs.SignLemmas.{every_list_all}
 use Rattle.data_url.proofs.forgiving_base64.decode.Decoder.take_symbol.Goals as goal

@@ -1,7 +1,4 @@
-use Rattle.std.proofs.Common.{Ok, Err, refl, rules}
-use Rattle.std.specs.Fn.{CalledAt}
-use Rattle.data_url.specs.DecoderState.{state_of}
-use Rattle.data_url.specs.Steps.{Writes}
+use Rattle.std.proofs.Common.{Ok, Err, refl}
 use Rattle.data_url.proofs.forgiving_base64.decode.Decoder.write.Goals as goal
 
 pub returns-in-Ok-clause-wrote : goal.returns-in-Ok-clause-wrote
@@ -11,7 +8,7 @@ returns-in-Ok-clause-wrote g c = record {
   answer = refl;
   failed = c.requires.going;
   symbols_stay = refl;
-  padding_stays = refl
+  padding_stays = refl;
 }
 
 pub returns-in-Err-clause-wrote : goal.returns-in-Err-clause-wrote
@@ -21,5 +18,5 @@ returns-in-Err-clause-wrote g c = record {
   answer = refl;
   failed = refl;
   symbols_stay = refl;
-  padding_stays = refl
+  padding_stays = refl;
 }
