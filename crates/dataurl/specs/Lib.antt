@@ -1,0 +1,4 @@
+pub mod Command
+pub mod Output
+pub mod Status
+pub mod Transfer

@@ -1,0 +1,51 @@
+-- What the loops over a reader and a writer do.
+use Rattle.std.specs.Prelude.{◌≡◌, ◌⊎◌, ℕ, List, [], take, Option, None, Some, Result, Ok, Err, false}
+use Rattle.std.specs.Str.{is_utf8}
+use Rattle.data_url.specs.Fetch.{NoComma, NoScheme, staged}
+use Rattle.data_url.specs.UrlSeen.{IsAcceptable, IsUrlOf}
+use Rattle.data_url.specs.declared.DataUrl.{DataUrl}
+use Rattle.dataurl.specs.Output.{Output}
+use Rattle.std.specs.Io.KnownBytes.{Appends, Consumes, IsAtEnd}
+use Rattle.dataurl.specs.declared.fault.Fault.{Fault}
+use Rattle.dataurl.specs.declared.fault.Fault.TheVariants.{Memory, NoComma as NoCommaFault, NotADataUrl, NotUtf8, Read, Write}
+
+-- reading failed, or found no memory
+abbrev pub IsReadFault : Fault → Type 0
+IsReadFault fault = (fault ≡ Read) ⊎ (fault ≡ Memory)
+
+-- writing failed behind a beginning of the bytes
+pub record IsWriteFault (old new : Option (List ℕ)) (bytes : List ℕ) (fault : Fault) : Type 0 where
+  pub is_write : fault ≡ Write
+  pub count : ℕ
+  pub begins : Appends old new (take count bytes)
+
+-- the bytes that a reader gave, and that it has no more
+pub record ReadsAll (old new : Option (List ℕ)) (bytes : List ℕ) : Type 0 where
+  pub consumed : Consumes old new bytes
+  pub end : IsAtEnd new
+
+-- reading a text failed, found no memory, or gave bytes that are no UTF-8
+abbrev pub IsTextFault : Option (List ℕ) → Option (List ℕ) → Fault → Type 0
+IsTextFault old new fault = IsReadFault fault ⊎ ((fault ≡ NotUtf8) × ((bytes : List ℕ) × ReadsAll old new bytes × (is_utf8 bytes ≡ false)))
+
+-- the output was written, whole or, after a failed write, a beginning of it, and the end is its own; without memory nothing was written
+abbrev pub EndsAs : Output → Option (List ℕ) → Option (List ℕ) → Result (Unit {0}) Fault → Type 0
+EndsAs o old new (Ok u) = (o.fault ≡ None) × Appends old new o.bytes
+EndsAs o old new (Err Write) = (count : ℕ) × Appends old new (take count o.bytes)
+EndsAs o old new (Err Memory) = Appends old new []
+EndsAs o old new (Err Read) = ⊥
+EndsAs o old new (Err fault) = (o.fault ≡ Some fault) × Appends old new o.bytes
+
+-- what was written is an output that is given, or a beginning of it
+pub record Writes (gives : Output → Type 0) (old new : Option (List ℕ)) (r : Result (Unit {0}) Fault) : Type 0 where
+  pub output : Output
+  pub given : gives output
+  pub ends : EndsAs output old new r
+
+-- the URL of a text, or the fault in its place
+abbrev pub IsUrlOrFault : List ℕ → Result DataUrl Fault → Type 0
+IsUrlOrFault t (Ok u) = IsUrlOf t u
+IsUrlOrFault t (Err NotADataUrl) = staged t ≡ NoScheme
+IsUrlOrFault t (Err NoCommaFault) = staged t ≡ NoComma
+IsUrlOrFault t (Err Memory) = IsAcceptable (staged t)
+IsUrlOrFault t (Err fault) = ⊥
