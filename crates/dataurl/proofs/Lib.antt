@@ -1,1 +1,2 @@
+pub mod RunLemmas
 pub mod TransferLemmas

@@ -28,19 +28,27 @@ pub record ReadsAll (old new : Option (List ℕ)) (bytes : List ℕ) : Type 0 wh
 abbrev pub IsTextFault : Option (List ℕ) → Option (List ℕ) → Fault → Type 0
 IsTextFault old new fault = IsReadFault fault ⊎ ((fault ≡ NotUtf8) × ((bytes : List ℕ) × ReadsAll old new bytes × (is_utf8 bytes ≡ false)))
 
--- the output was written, whole or, after a failed write, a beginning of it, and the end is its own; without memory nothing was written
-abbrev pub EndsAs : Output → Option (List ℕ) → Option (List ℕ) → Result (Unit {0}) Fault → Type 0
-EndsAs o old new (Ok u) = (o.fault ≡ None) × Appends old new o.bytes
-EndsAs o old new (Err Write) = (count : ℕ) × Appends old new (take count o.bytes)
-EndsAs o old new (Err Memory) = Appends old new []
-EndsAs o old new (Err Read) = ⊥
-EndsAs o old new (Err fault) = (o.fault ≡ Some fault) × Appends old new o.bytes
-
--- what was written is an output that is given, or a beginning of it
-pub record Writes (gives : Output → Type 0) (old new : Option (List ℕ)) (r : Result (Unit {0}) Fault) : Type 0 where
+-- an output that is given, with this end, was written
+pub record Wrote (gives : Output → Type 0) (old new : Option (List ℕ)) (fault : Option Fault) : Type 0 where
   pub output : Output
   pub given : gives output
-  pub ends : EndsAs output old new r
+  pub fault_is : output.fault ≡ fault
+  pub appended : Appends old new output.bytes
+
+-- a beginning of an output that is given was written
+pub record Began (gives : Output → Type 0) (old new : Option (List ℕ)) : Type 0 where
+  pub output : Output
+  pub given : gives output
+  pub count : ℕ
+  pub appended : Appends old new (take count output.bytes)
+
+-- what was written is an output that is given, with its end; a beginning of one, where writing failed; and nothing, where memory was missing
+abbrev pub Writes : (Output → Type 0) → Option (List ℕ) → Option (List ℕ) → Result (Unit {0}) Fault → Type 0
+Writes gives old new (Ok u) = Wrote gives old new None
+Writes gives old new (Err Write) = Began gives old new
+Writes gives old new (Err Memory) = Appends old new []
+Writes gives old new (Err Read) = ⊥
+Writes gives old new (Err fault) = Wrote gives old new (Some fault)
 
 -- the URL of a text, or the fault in its place
 abbrev pub IsUrlOrFault : List ℕ → Result DataUrl Fault → Type 0
