@@ -1,2 +1,3 @@
+pub mod HandOutLemmas
 pub mod RunLemmas
 pub mod TransferLemmas

@@ -5,9 +5,9 @@ use Rattle.std.specs.Io.KnownBytes.{Appends}
 use Rattle.data_url.specs.Fetch.{Accepted, NoComma, NoScheme, Outcome, Staged, staged}
 use Rattle.data_url.specs.Mime.{HasNoRecord, IsRecordOf, Parses, Record}
 use Rattle.data_url.specs.Seen.{seen}
-use Rattle.data_url.specs.UrlSeen.{IsAcceptable, IsUrlOf, mime_of}
+use Rattle.data_url.specs.UrlSeen.{IsAcceptable, IsUrlOf, mime_of, url_body}
 use Rattle.data_url.specs.declared.DataUrl.{DataUrl}
-use Rattle.dataurl.specs.Output.{IsBodyOutput, IsMimeOutput, IsTypeOutput, Output, record_line, refuses, writes}
+use Rattle.dataurl.specs.Output.{IsBodyOutput, IsMimeOutput, IsTypeOutput, Output, record_line, body_output, refuses, writes}
 use Rattle.dataurl.specs.Transfer.{Began, IsUrlOrFault, IsWriteFault, Writes, Wrote}
 use Rattle.dataurl.specs.declared.fault.Fault.{Fault}
 use Rattle.dataurl.specs.declared.fault.Fault.TheVariants as faults
@@ -61,3 +61,7 @@ body_refused t a faults.Write h = absurd h
 -- the line of a URL's record
 pub mime_given : (t : List ℕ) (u : DataUrl) → IsUrlOf t u → (o : Output) → o ≡ writes (record_line (seen (mime_of u))) → IsMimeOutput (staged t) o
 mime_given t u h o e = subst (λ s. IsMimeOutput s o) (sym h.staged_is) (seen (mime_of u), h.record_is, e)
+
+-- a URL's body is its text's
+pub body_given : (t : List ℕ) (u : DataUrl) → IsUrlOf t u → (o : Output) → o ≡ body_output (url_body u) → IsBodyOutput (staged t) o
+body_given t u h o e = subst (λ s. IsBodyOutput s o) (sym h.staged_is) e

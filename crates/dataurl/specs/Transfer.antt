@@ -4,10 +4,12 @@ use Rattle.std.specs.Str.{is_utf8}
 use Rattle.data_url.specs.Fetch.{NoComma, NoScheme, staged}
 use Rattle.data_url.specs.UrlSeen.{IsAcceptable, IsUrlOf}
 use Rattle.data_url.specs.declared.DataUrl.{DataUrl}
+use Rattle.data_url.specs.declared.forgiving_base64.DecodeError.{DecodeError}
+use Rattle.data_url.specs.declared.forgiving_base64.DecodeError.TheVariants.{InvalidBase64, WriteError}
 use Rattle.dataurl.specs.Output.{Output}
 use Rattle.std.specs.Io.KnownBytes.{Appends, Consumes, IsAtEnd}
 use Rattle.dataurl.specs.declared.fault.Fault.{Fault}
-use Rattle.dataurl.specs.declared.fault.Fault.TheVariants.{Memory, NoComma as NoCommaFault, NotADataUrl, NotUtf8, Read, Write}
+use Rattle.dataurl.specs.declared.fault.Fault.TheVariants.{Base64, Memory, NoComma as NoCommaFault, NotADataUrl, NotUtf8, Read, Write}
 
 -- reading failed, or found no memory
 abbrev pub IsReadFault : Fault → Type 0
@@ -57,3 +59,12 @@ IsUrlOrFault t (Err NotADataUrl) = staged t ≡ NoScheme
 IsUrlOrFault t (Err NoCommaFault) = staged t ≡ NoComma
 IsUrlOrFault t (Err Memory) = IsAcceptable (staged t)
 IsUrlOrFault t (Err fault) = ⊥
+
+-- an answer that says no more than that all went well
+abbrev pub AnyAnswer : Unit {0} → Type 0
+AnyAnswer u = Unit {0}
+
+-- the fault of a decoding that failed
+abbrev pub fault_of_decoding : DecodeError Fault → Fault
+fault_of_decoding (InvalidBase64 kind) = Base64 kind
+fault_of_decoding (WriteError fault) = fault

@@ -1,15 +1,19 @@
 //! What the program does with its input.
 
-ghost use Rattle.std.specs.Prelude.{◌≡◌, map, string_bytes};
+ghost use Rattle.std.specs.Prelude.{◌≡◌, ◌+◌, length, map, string_bytes};
 ghost use Rattle.std.specs.Str.{chars};
+ghost use Rattle.std.specs.Fn.{CalledAt};
+ghost use Rattle.data_url.specs.Decodes.{Decodes};
 ghost use Rattle.data_url.specs.Fetch.{staged};
+ghost use Rattle.data_url.specs.UrlSeen.{url_body, url_tail};
 ghost use Rattle.data_url.specs.Seen.{seen};
 ghost use Rattle.dataurl.specs.Command.{command_of_words};
-ghost use Rattle.dataurl.specs.Output.{IsMimeOutput, IsTypeOutput, record_line, writes};
-ghost use Rattle.dataurl.specs.Transfer.{IsUrlOrFault, Writes};
+ghost use Rattle.dataurl.specs.Output.{IsBodyOutput, IsMimeOutput, IsTypeOutput, record_line, writes};
+ghost use Rattle.dataurl.specs.Transfer.{AnyAnswer, IsUrlOrFault, Writes, fault_of_decoding};
 
 use crate::fault::Fault;
 use crate::output::write_all;
+use data_url::forgiving_base64::DecodeError;
 use data_url::mime::{Mime, MimeFromStrError};
 use data_url::{DataUrl, DataUrlError};
 use std::alloc::Global;
@@ -84,5 +88,44 @@ fn write_mime<W: Write>(alloc: Global, text: &str, writer: &mut W) -> Result<(),
     match url_of(alloc, text) {
         Ok(url) => write_record(alloc, url.mime_type(), writer),
         Err(fault) => Err(fault),
+    }
+}
+
+/// Hands a URL's body to a closure, and the closure back. The answer leaves the fragment out, so that it borrows nothing.
+fn hand_out<F, E>(url: &DataUrl<'_>, write: F) -> (Result<(), DecodeError<E>>, F)
+where
+    F: FnMut(&[u8]) -> Result<(), E>,
+    requires { F.IsAlwaysCallable write }
+    ensures { Decodes (CalledAt F.FnMut) write (length (url_tail url.now) + 1) (url_body url.now) AnyAnswer result.0 result.1 }
+{
+    let (answer, write) = url.decode_with(write);
+    match answer {
+        Ok(_) => (Ok(()), write),
+        Err(error) => (Err(error), write),
+    }
+}
+
+/// The fault of a decoding that failed.
+fn decode_fault(error: DecodeError<Fault>) -> Fault
+    ensures { result ≡ fault_of_decoding error }
+{
+    match error {
+        DecodeError::InvalidBase64(refusal) => Fault::Base64(refusal),
+        DecodeError::WriteError(fault) => fault,
+    }
+}
+
+/// Writes the body of a data: URL.
+fn write_body<W: Write>(alloc: Global, text: &str, writer: &mut W) -> Result<(), Fault>
+    ensures { Writes (IsBodyOutput (staged text.now)) (W.contents writer.old) (W.contents writer.new) result }
+{
+    let url = match url_of(alloc, text) {
+        Ok(url) => url,
+        Err(fault) => return Err(fault),
+    };
+    let ended = hand_out(&url, |piece: &[u8]| -> Result<(), Fault> { write_all(writer, piece) });
+    match ended.0 {
+        Ok(()) => Ok(()),
+        Err(error) => Err(decode_fault(error)),
     }
 }
