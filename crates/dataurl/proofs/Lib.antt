@@ -1,3 +1,0 @@
-pub mod HandOutLemmas
-pub mod RunLemmas
-pub mod TransferLemmas

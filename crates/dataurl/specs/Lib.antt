@@ -1,4 +1,0 @@
-pub mod Command
-pub mod Output
-pub mod Status
-pub mod Transfer
