@@ -2,6 +2,7 @@ pub mod AlphabetLemmas
 pub mod Base64BodyLemmas
 mod Base64Examples
 pub mod BodyLemmas
+pub mod BodyVecLemmas
 pub mod ByteLemmas
 pub mod CommaLemmas
 pub mod CutLemmas

@@ -133,7 +133,7 @@ whole_ok true u bytes r q h = h.bytes_are
 whole_ok false u bytes r q h = absurd (let k = h.1 in cc)
 
 -- after an accepted run it has all their bytes behind its own
-run_reads : {F E : Type 0} (step : F → List ℕ → Result (Unit {0}) E → F → Type 0) (J : F → List ℕ) → ((g : F) (piece : List ℕ) (g' : F) → step g piece (Ok tt) g' → J g' ≡ J g ++ piece) → (cs : List (Call F E)) (f f' : F) → IsRun step f cs f' → refusal cs ≡ None → J f' ≡ J f ++ joined cs
+pub run_reads : {F E : Type 0} (step : F → List ℕ → Result (Unit {0}) E → F → Type 0) (J : F → List ℕ) → ((g : F) (piece : List ℕ) (g' : F) → step g piece (Ok tt) g' → J g' ≡ J g ++ piece) → (cs : List (Call F E)) (f f' : F) → IsRun step f cs f' → refusal cs ≡ None → J f' ≡ J f ++ joined cs
 run_reads step J keeps [] f f' ran n = ap J (sym ran) ∙ sym (append-nil (J f))
 run_reads step J keeps (c ∷ cs) f f' ran n = call_reads step J keeps c f (J f') (joined cs) ran.0 (accepted_call c.answer (refusal cs) n) (run_reads step J keeps cs c.after f' ran.2 (later_none c.answer (refusal cs) n))
 
@@ -144,7 +144,7 @@ decodes_reads {F} {E} {step} {f} {f'} {u} {r} h q J keeps =
     run_reads step J keeps h.run f f' h.ran k.0 ∙ ap (λ x. J f ++ x) (whole_ok (is_valid u) u (joined h.run) r q k.1)
 
 -- what each call keeps, a run keeps
-run_keeps : {F E A : Type 0} (step : F → List ℕ → Result (Unit {0}) E → F → Type 0) (K : F → A) → ((g : F) (piece : List ℕ) (r : Result (Unit {0}) E) (g' : F) → step g piece r g' → K g ≡ K g') → (cs : List (Call F E)) (f f' : F) → IsRun step f cs f' → K f ≡ K f'
+pub run_keeps : {F E A : Type 0} (step : F → List ℕ → Result (Unit {0}) E → F → Type 0) (K : F → A) → ((g : F) (piece : List ℕ) (r : Result (Unit {0}) E) (g' : F) → step g piece r g' → K g ≡ K g') → (cs : List (Call F E)) (f f' : F) → IsRun step f cs f' → K f ≡ K f'
 run_keeps step K keeps [] f f' ran = ap K ran
 run_keeps step K keeps (c ∷ cs) f f' ran = keeps f c.piece c.answer c.after ran.0 ∙ run_keeps step K keeps cs c.after f' ran.2
 

@@ -12,6 +12,7 @@ mod whole;
 
 pub use decode::Decoder;
 pub use whole::decode_to_vec;
+pub(crate) use whole::room_for;
 
 /// Why a text is not valid base64: contracts see its kind.
 #[derive(Debug, Drop)]

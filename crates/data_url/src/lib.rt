@@ -1,11 +1,13 @@
 //! Data: URLs by the Fetch Standard, from a text rather than a parsed URL, to avoid copies.
 #![tactic(auto)]
 
-ghost use Rattle.std.specs.Prelude.{◌≡◌, ◌+◌, Some, codes, length};
+ghost use Rattle.std.specs.Prelude.{◌≡◌, ◌+◌, IfErr, IfOk, Some, codes, length};
 ghost use Rattle.std.specs.Fn.{CalledAt};
 ghost use Rattle.data_url.specs.Decodes.{Decodes};
 ghost use Rattle.data_url.specs.Body.{IsBodyEnd};
+ghost use Rattle.data_url.specs.Fetch.{Good};
 ghost use Rattle.data_url.specs.UrlSeen.{IsFragmentOf, IsProcessed, mime_of, url_body, url_tail};
+ghost use Rattle.data_url.specs.VecError.{IsBodyErrorOf};
 
 mod body;
 mod facts;
@@ -16,11 +18,11 @@ pub mod mime;
 mod percent;
 
 use body::{decode_base64, decode_plain};
-use forgiving_base64::DecodeError;
+use forgiving_base64::{DecodeError, DecodeToVecError, room_for};
 use front::{after_scheme, split_at_comma, trim};
 use header::read_header;
 use mime::Mime;
-use std::alloc::Global;
+use std::alloc::{AllocError, Global};
 use std::error::Error;
 use std::fmt;
 
@@ -160,5 +162,35 @@ impl<'a> DataUrl<'a> {
     {
         let (answer, _) = self.decode_with(write_body_bytes);
         answer
+    }
+
+    /// The body's bytes and the fragment (Fetch Standard, section 6). Room for the bytes is taken once, by the length of
+    /// what stands behind the comma.
+    ///
+    /// The error is `InvalidBase64` for a base64 body that is not valid, with the reason of its first fault, and
+    /// `OutOfMemory` where memory was refused.
+    pub fn decode_to_vec(
+        &self,
+        alloc: Global,
+    ) -> Result<(Vec<u8>, Option<FragmentIdentifier<'a>>), DecodeToVecError>
+        ensures body { IfOk result (λ found. url_body self.now ≡ Good found.0.items) }
+        ensures fragment { IfOk result (λ found. IsFragmentOf (url_tail self.now) found.1) }
+        ensures error { IfErr result (IsBodyErrorOf (url_body self.now)) }
+    {
+        let len = self.tail.len();
+        let room = if self.base64 { room_for(len) } else { len };
+        let Ok(mut bytes) = Vec::with_capacity(alloc, room) else {
+            return Err(DecodeToVecError::OutOfMemory);
+        };
+        let ended = self.decode_to_place(|piece: &[u8]| -> Result<(), AllocError> {
+            bytes.extend_from_slice(piece)
+        });
+        match ended.0 {
+            Ok(place) => Ok((bytes, self.fragment_at(place))),
+            Err(DecodeError::InvalidBase64(refusal)) => {
+                Err(DecodeToVecError::InvalidBase64(refusal))
+            }
+            Err(DecodeError::WriteError(AllocError)) => Err(DecodeToVecError::OutOfMemory),
+        }
     }
 }

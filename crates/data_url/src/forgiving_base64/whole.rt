@@ -1,6 +1,6 @@
 //! Forgiving-base64 decode of a whole text (Infra Standard, section 8).
 
-ghost use Rattle.std.specs.Prelude.{◌≡◌, IfErr, IfOk, IsOk, IsTrue};
+ghost use Rattle.std.specs.Prelude.{◌≡◌, ◌*◌, ◌+◌, ◌/◌, ◌%◌, IfErr, IfOk, IsOk, IsTrue};
 ghost use Rattle.std.specs.Fn.{CalledAt};
 ghost use Rattle.data_url.specs.Base64.{decoded, is_valid};
 ghost use Rattle.data_url.specs.Decoding.{Decodes};
@@ -23,6 +23,13 @@ where
     }
 }
 
+/// Room for the bytes of a text of base64 of so many bytes.
+pub(crate) fn room_for(len: usize) -> usize
+    ensures { result ≡ len / 4 * 3 + len % 4 }
+{
+    len / 4 * 3 + len % 4
+}
+
 /// The bytes that a text of base64 stands for, by forgiving-base64 decode (Infra Standard, section 8). Room for them is
 /// taken once, by the length of the text.
 ///
@@ -33,8 +40,7 @@ pub fn decode_to_vec(alloc: Global, input: &[u8]) -> Result<Vec<u8>, DecodeToVec
     ensures bytes { IfOk result (λ bytes. bytes.items ≡ decoded input.now) }
     ensures error { IfErr result (IsErrorOf input.now) }
 {
-    let room = input.len() / 4 * 3 + input.len() % 4;
-    let Ok(mut bytes) = Vec::with_capacity(alloc, room) else {
+    let Ok(mut bytes) = Vec::with_capacity(alloc, room_for(input.len())) else {
         return Err(DecodeToVecError::OutOfMemory);
     };
     let ended = decode_whole(input, |piece: &[u8]| -> Result<(), AllocError> {
