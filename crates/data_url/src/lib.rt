@@ -19,9 +19,10 @@ mod percent;
 
 use body::{decode_base64, decode_plain};
 use forgiving_base64::{DecodeError, DecodeToVecError, room_for};
-use front::{after_scheme, split_at_comma, trim};
+use front::{after_scheme, is_passed_over, split_at_comma, trim};
 use header::read_header;
 use mime::Mime;
+use percent::{EncodeSet, encoded_width, push_encoded};
 use std::alloc::{AllocError, Global};
 use std::error::Error;
 use std::fmt;
@@ -68,6 +69,44 @@ impl fmt::Display for DataUrlError {
 }
 
 impl Error for DataUrlError {}
+
+impl<'a> FragmentIdentifier<'a> {
+    ghost use Rattle.std.specs.Prelude.{◌-◌, ◌^◌, min, string_bytes};
+    ghost use Rattle.data_url.specs.Url.{dropped, in_fragment_set, percent_encoded};
+    ghost use Rattle.data_url.specs.UrlSeen.{fragment_text};
+
+    /// How many bytes the encoded fragment takes, or the greatest number where they are more.
+    fn encoded_len(&self) -> usize
+        ensures { result
+            ≡ min (length (percent_encoded in_fragment_set (dropped (fragment_text self.now)))) (2 ^ 64 - 1) }
+    {
+        let mut len: usize = 0;
+        for byte in self.text.as_bytes() {
+            if !is_passed_over(*byte) {
+                len = len.saturating_add(encoded_width(EncodeSet::Fragment, *byte));
+            }
+        }
+        len
+    }
+
+    /// The fragment as the URL parser leaves it (URL Standard, section 4.4, fragment state): tabs and newlines go, and each
+    /// byte of the fragment percent-encode set is written as `%` and two upper-case hexadecimal digits. A `%` stays as it
+    /// is. Room for the text is taken once, at its exact length.
+    ///
+    /// The error comes where memory was refused.
+    pub fn to_percent_encoded(&self, alloc: Global) -> Result<String, AllocError>
+        ensures { IfOk result (λ text. string_bytes text
+            ≡ percent_encoded in_fragment_set (dropped (fragment_text self.now))) }
+    {
+        let mut text = String::with_capacity(alloc, self.encoded_len())?;
+        for byte in self.text.as_bytes() {
+            if !is_passed_over(*byte) {
+                push_encoded(&mut text, EncodeSet::Fragment, *byte)?;
+            }
+        }
+        Ok(text)
+    }
+}
 
 impl<'a> DataUrl<'a> {
     /// The data: URL of a text (Fetch Standard, section 6, from a text with all behind `data:` as an opaque path).

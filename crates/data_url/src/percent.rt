@@ -1,6 +1,6 @@
 //! Percent-encoding (URL Standard, section 1.3).
 
-ghost use Rattle.std.specs.Prelude.{◌≡◌, ◌<◌, ◌++◌, OnOk, string_bytes};
+ghost use Rattle.std.specs.Prelude.{◌≡◌, ◌<◌, ◌++◌, OnOk, length, string_bytes};
 ghost use Rattle.data_url.specs.Url.{encoded_byte, hex_digit};
 ghost use Rattle.data_url.specs.Sets.{in_set};
 
@@ -40,6 +40,13 @@ fn hex_digit_of(value: u8) -> u8
     ensures ascii { result < 128 }
 {
     if value < 10 { b'0' + value } else { b'A' - 10 + value }
+}
+
+/// How many bytes a byte is written as.
+pub(crate) fn encoded_width(set: EncodeSet, byte: u8) -> usize
+    ensures { result ≡ length (encoded_byte (in_set set) byte) }
+{
+    if set.contains(byte) { 3 } else { 1 }
 }
 
 /// Writes a byte at the end of a text, percent-encoded where the set contains it.
