@@ -27,6 +27,7 @@ pub mod QuotedLemmas
 pub mod RecodedLemmas
 pub mod RecordLemmas
 pub mod RunLemmas
+pub mod SameLemmas
 pub mod SchemeLemmas
 pub mod SerialiseLemmas
 pub mod SignLemmas

@@ -1,6 +1,8 @@
 -- What contracts see of a `Mime`.
-use Rattle.std.specs.Prelude.{ℕ, List, [], ◌∷◌, map, cond, Option, None, Some, String, string_bytes}
+use Rattle.std.specs.Prelude.{◌≡◌, ℕ, Bool, List, [], ◌∷◌, map, cond, Option, None, Some, String, string_bytes}
 use Rattle.std.specs.Borrow.{Bor}
+use Rattle.std.specs.Cmp.Lexicographic.{pointwise}
+use Rattle.std.specs.Ordering.{eq_of_both, on}
 use Rattle.std.specs.Str.{bytes_eq, chars}
 use Rattle.data_url.specs.Mime.{Pair, Record}
 use Rattle.data_url.specs.declared.mime.Mime.{Mime}
@@ -15,6 +17,24 @@ pair_of p = (code_points p.0, code_points p.1)
 -- the record as lists of code points
 abbrev pub seen : Mime → Record
 seen m = record { type_ = code_points m.type_; subtype = code_points m.subtype; parameters = map pair_of m.parameters.items }
+
+-- the bytes of a pair's texts
+abbrev pub texts_of_pair : {A B : Type 0} → String A × String B → List ℕ × List ℕ
+texts_of_pair p = (string_bytes p.0, string_bytes p.1)
+
+-- byte for byte the same texts, the pairs in the same order
+pub record SameTexts (m n : Mime) : Type 0 where
+  pub type_ : string_bytes m.type_ ≡ string_bytes n.type_
+  pub subtype : string_bytes m.subtype ≡ string_bytes n.subtype
+  pub parameters : map texts_of_pair m.parameters.items ≡ map texts_of_pair n.parameters.items
+
+-- the test for pairs of the same texts
+abbrev pub same_pair : {A B : Type 0} → String A × String B → String A × String B → Bool
+same_pair = eq_of_both (on (λ p. string_bytes p.0) bytes_eq) (on (λ p. string_bytes p.1) bytes_eq)
+
+-- the test for the same texts
+abbrev pub same_texts : Mime → Mime → Bool
+same_texts = eq_of_both (on (λ m. string_bytes m.type_) bytes_eq) (eq_of_both (on (λ m. string_bytes m.subtype) bytes_eq) (on (λ m. m.parameters.items) (pointwise same_pair)))
 
 -- the text behind a reference, where there is one
 abbrev pub as_option : Option (Bor (List ℕ)) → Option (List ℕ)

@@ -27,6 +27,48 @@ pub struct Mime {
     pub parameters: Vec<(String, String)>,
 }
 
+/// The copy has the record's texts, byte for byte, on the record's own allocator. The error comes where memory was refused.
+impl Clone for Mime {
+    ghost use Rattle.data_url.specs.Seen.{SameTexts, seen};
+
+    ghost is_clone = { λ mime copy. SameTexts copy mime × (seen copy ≡ seen mime) };
+
+    fn clone(&self) -> Result<Mime, AllocError> {
+        Ok(Mime {
+            type_: self.type_.clone()?,
+            subtype: self.subtype.clone()?,
+            parameters: self.parameters.clone()?,
+        })
+    }
+}
+
+/// Records are equal exactly if their texts are, byte for byte, and their parameters stand in the same order.
+impl PartialEq for Mime {
+    ghost use Rattle.std.proofs.Common.{rules};
+    ghost use Rattle.std.specs.Cmp.Rules.{comparing};
+    ghost use Rattle.data_url.specs.Seen.{SameTexts, same_texts};
+
+    ghost eq = { same_texts };
+
+    ghost laws = { Prim.search (comparing, rules) };
+
+    fn eq(&self, other: &Mime) -> bool
+        ensures value { result ≡ same_texts self.now other.now }
+        ensures same { IsTrue result ↔ SameTexts self.now other.now }
+    {
+        self.type_ == other.type_
+            && self.subtype == other.subtype
+            && self.parameters == other.parameters
+    }
+}
+
+impl Eq for Mime {
+    ghost use Rattle.std.proofs.Common.{rules};
+    ghost use Rattle.std.specs.Cmp.Rules.{comparing};
+
+    ghost laws = { Prim.search (comparing, rules) };
+}
+
 /// Writes a record (MIME Sniffing Standard, section 4.5), valid or not: a value that is empty or has a code point that is
 /// no token code point stands in quotes, with a `\` before each `"` and each `\`.
 impl fmt::Display for Mime {
