@@ -1,7 +1,8 @@
 -- What contracts see of a `Mime`.
 use Rattle.std.specs.Prelude.{◌≡◌, ℕ, Bool, List, [], ◌∷◌, map, cond, Option, None, Some, String, string_bytes}
 use Rattle.std.specs.Borrow.{Bor}
-use Rattle.std.specs.Cmp.Lexicographic.{pointwise}
+use Rattle.std.specs.Cmp.{IsEquivalence, and_equiv, on_equiv}
+use Rattle.std.specs.Cmp.Lexicographic.{lists_equiv, on_texts_equal, pointwise}
 use Rattle.std.specs.Ordering.{eq_of_both, on}
 use Rattle.std.specs.Str.{bytes_eq, chars}
 use Rattle.data_url.specs.Mime.{Pair, Record}
@@ -35,6 +36,10 @@ same_pair = eq_of_both (on (λ p. string_bytes p.0) bytes_eq) (on (λ p. string_
 -- the test for the same texts
 abbrev pub same_texts : Mime → Mime → Bool
 same_texts = eq_of_both (on (λ m. string_bytes m.type_) bytes_eq) (eq_of_both (on (λ m. string_bytes m.subtype) bytes_eq) (on (λ m. m.parameters.items) (pointwise same_pair)))
+
+-- the test is an equivalence
+pub same_texts_equiv : IsEquivalence same_texts
+same_texts_equiv = and_equiv (on_texts_equal (λ m. string_bytes m.type_)) (and_equiv (on_texts_equal (λ m. string_bytes m.subtype)) (on_equiv (λ m. m.parameters.items) (lists_equiv (and_equiv (on_texts_equal (λ p. string_bytes p.0)) (on_texts_equal (λ p. string_bytes p.1))))))
 
 -- the text behind a reference, where there is one
 abbrev pub as_option : Option (Bor (List ℕ)) → Option (List ℕ)

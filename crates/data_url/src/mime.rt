@@ -44,13 +44,12 @@ impl Clone for Mime {
 
 /// Records are equal exactly if their texts are, byte for byte, and their parameters stand in the same order.
 impl PartialEq for Mime {
-    ghost use Rattle.std.proofs.Common.{rules};
-    ghost use Rattle.std.specs.Cmp.Rules.{comparing};
-    ghost use Rattle.data_url.specs.Seen.{SameTexts, same_texts};
+    ghost use Rattle.std.specs.Cmp.{partial_equiv_from_equiv};
+    ghost use Rattle.data_url.specs.Seen.{SameTexts, same_texts, same_texts_equiv};
 
     ghost eq = { same_texts };
 
-    ghost laws = { Prim.search (comparing, rules) };
+    ghost laws = { partial_equiv_from_equiv same_texts_equiv };
 
     fn eq(&self, other: &Mime) -> bool
         ensures value { result ≡ same_texts self.now other.now }
@@ -63,10 +62,9 @@ impl PartialEq for Mime {
 }
 
 impl Eq for Mime {
-    ghost use Rattle.std.proofs.Common.{rules};
-    ghost use Rattle.std.specs.Cmp.Rules.{comparing};
+    ghost use Rattle.data_url.specs.Seen.{same_texts_equiv};
 
-    ghost laws = { Prim.search (comparing, rules) };
+    ghost laws = { same_texts_equiv };
 }
 
 /// Writes a record (MIME Sniffing Standard, section 4.5), valid or not: a value that is empty or has a code point that is
