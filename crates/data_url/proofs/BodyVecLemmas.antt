@@ -1,9 +1,9 @@
 -- A body that was decoded by a closure that keeps the bytes that it accepts.
-use Rattle.std.proofs.Common.{◌≡◌, ℕ, List, ◌++◌, Option, None, Some, Result, Ok, Err, refl, ap, sym, ◌∙◌}
+use Rattle.std.proofs.Common.{◌≡◌, ℕ, List, ◌++◌, Option, None, Some, Result, Ok, Err, refl, ap, sym}
 use Rattle.std.specs.Prelude.{MatchOption}
-use Rattle.data_url.specs.Decodes.{Answers, Decodes, HandsOut, IsRefusedBy}
-use Rattle.data_url.specs.Fetch.{Bad, Good, Outcome, outcome_bytes}
-use Rattle.data_url.specs.Run.{Call, IsRun, joined, refusal}
+use Rattle.data_url.specs.Decodes.{Decodes, HandsOut, IsRefusedBy}
+use Rattle.data_url.specs.Fetch.{Bad, Good, Outcome}
+use Rattle.data_url.specs.Run.{joined, refusal}
 use Rattle.data_url.specs.declared.forgiving_base64.DecodeError.{DecodeError}
 use Rattle.data_url.specs.declared.forgiving_base64.DecodeError.TheVariants.{InvalidBase64}
 use Rattle.data_url.proofs.WholeLemmas.{run_keeps, run_reads}

@@ -52,12 +52,14 @@ pub same_decides : (m n : Mime) → IsTrue (same_texts m n) ↔ SameTexts m n
 same_decides m n =
     let first = bytes_eq (string_bytes m.type_) (string_bytes n.type_) in
     let second = bytes_eq (string_bytes m.subtype) (string_bytes n.subtype) in
-    let third = pointwise same_pair m.parameters.items n.parameters.items in
-    (λ h. record {
-      type_ = bytes_same (string_bytes m.type_) (string_bytes n.type_) (first_so first (second && third) h);
-      subtype = bytes_same (string_bytes m.subtype) (string_bytes n.subtype) (first_so second third (second_so first (second && third) h));
-      parameters = pairs_same m.parameters.items n.parameters.items (second_so second third (second_so first (second && third) h));
-    }, λ h. both first (second && third) (same_bytes (string_bytes m.type_) (string_bytes n.type_) h.type_) (both second third (same_bytes (string_bytes m.subtype) (string_bytes n.subtype) h.subtype) (same_pairs m.parameters.items n.parameters.items h.parameters)))
+    let third = pointwise same_pair m.parameters.items n.parameters.items in (
+      λ h. record {
+        type_ = bytes_same (string_bytes m.type_) (string_bytes n.type_) (first_so first (second && third) h);
+        subtype = bytes_same (string_bytes m.subtype) (string_bytes n.subtype) (first_so second third (second_so first (second && third) h));
+        parameters = pairs_same m.parameters.items n.parameters.items (second_so second third (second_so first (second && third) h));
+      },
+      λ h. both first (second && third) (same_bytes (string_bytes m.type_) (string_bytes n.type_) h.type_) (both second third (same_bytes (string_bytes m.subtype) (string_bytes n.subtype) h.subtype) (same_pairs m.parameters.items n.parameters.items h.parameters)),
+    )
 
 -- copies
 

@@ -9,12 +9,12 @@ loop-byte-preserved c =
     let i = c.loop-byte.byte-index in
     let old = c.loop-byte.len in
     elim c.if-not-is_passed_over.branch [
-      then-not-is_passed_over w ↦
-        let h = counted_kept bytes i old c.loop-byte.invariant c.loop-byte-test.true (search (rules, w.if-not-is_passed_over, c.is_passed_over.ensures)) in
-        search (rules, h, w.len-is, w.saturating_add-len.ensures, w.encoded_width.ensures)
-    | else-not-is_passed_over w ↦
-        let h = counted_passed bytes i old c.loop-byte.invariant c.loop-byte-test.true (search (rules, w.if-not-is_passed_over, c.is_passed_over.ensures)) in
-        subst (CountedTo bytes (i + 1)) (sym w.len-is) h
+      | then-not-is_passed_over w ↦
+          let h = counted_kept bytes i old c.loop-byte.invariant c.loop-byte-test.true (search (rules, w.if-not-is_passed_over, c.is_passed_over.ensures)) in
+          search (rules, h, w.len-is, w.saturating_add-len.ensures, w.encoded_width.ensures)
+      | else-not-is_passed_over w ↦
+          let h = counted_passed bytes i old c.loop-byte.invariant c.loop-byte-test.true (search (rules, w.if-not-is_passed_over, c.is_passed_over.ensures)) in
+          subst (CountedTo bytes (i + 1)) (sym w.len-is) h
     ]
 
 pub returns : goal.returns

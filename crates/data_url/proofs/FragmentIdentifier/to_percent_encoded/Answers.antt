@@ -11,12 +11,12 @@ loop-byte-preserved c =
     let i = c.loop-byte.byte-index in
     let old = string_bytes c.loop-byte.text in
     elim c.if-not-is_passed_over.branch [
-      then-not-is_passed_over+in_ok-push_encoded w ↦
-        let h = wrote_kept bytes i old c.loop-byte.invariant c.loop-byte-test.true (search (rules, w.if-not-is_passed_over, c.is_passed_over.ensures)) in
-        search (rules, h, w.text-is, w.in_ok-push_encoded.ensures)
-    | else-not-is_passed_over w ↦
-        let h = wrote_passed bytes i old c.loop-byte.invariant c.loop-byte-test.true (search (rules, w.if-not-is_passed_over, c.is_passed_over.ensures)) in
-        search (rules, h, w.text-is)
+      | then-not-is_passed_over+in_ok-push_encoded w ↦
+          let h = wrote_kept bytes i old c.loop-byte.invariant c.loop-byte-test.true (search (rules, w.if-not-is_passed_over, c.is_passed_over.ensures)) in
+          search (rules, h, w.text-is, w.in_ok-push_encoded.ensures)
+      | else-not-is_passed_over w ↦
+          let h = wrote_passed bytes i old c.loop-byte.invariant c.loop-byte-test.true (search (rules, w.if-not-is_passed_over, c.is_passed_over.ensures)) in
+          search (rules, h, w.text-is)
     ]
 
 pub returns : goal.returns
