@@ -90,16 +90,16 @@ percent_nil = refl
 same_two_digits : (s : List ℕ) → begins_with_two_digits s ≡ false → two_digits (before 35 s) ≡ false
 same_two_digits [] h = ap two_digits (before_nil 35)
 same_two_digits (b ∷ []) h = elim (cases_Bool (b == 35)) [
-    inl e ↦ ap (λ x. two_digits (before 35 (x ∷ []))) (eqb-true b 35 e) ∙ ap two_digits (before_same 35 [])
+  | inl e ↦ ap (λ x. two_digits (before 35 (x ∷ []))) (eqb-true b 35 e) ∙ ap two_digits (before_same 35 [])
   | inr e ↦ ap two_digits (before_other 35 b [] e ∙ ap (λ t. b ∷ t) (before_nil 35))
-  ]
+]
 same_two_digits (b ∷ c ∷ s) h = elim (cases_Bool (b == 35)) [
-    inl e ↦ ap (λ x. two_digits (before 35 (x ∷ c ∷ s))) (eqb-true b 35 e) ∙ ap two_digits (before_same 35 (c ∷ s))
+  | inl e ↦ ap (λ x. two_digits (before 35 (x ∷ c ∷ s))) (eqb-true b 35 e) ∙ ap two_digits (before_same 35 (c ∷ s))
   | inr e ↦ ap two_digits (before_other 35 b (c ∷ s) e) ∙ elim (cases_Bool (c == 35)) [
-        inl f ↦ ap (λ x. two_digits (b ∷ before 35 (x ∷ s))) (eqb-true c 35 f) ∙ ap (λ t. two_digits (b ∷ t)) (before_same 35 s)
-      | inr f ↦ ap (λ t. two_digits (b ∷ t)) (before_other 35 c s f) ∙ h
-      ]
+    | inl f ↦ ap (λ x. two_digits (b ∷ before 35 (x ∷ s))) (eqb-true c 35 f) ∙ ap (λ t. two_digits (b ∷ t)) (before_same 35 s)
+    | inr f ↦ ap (λ t. two_digits (b ∷ t)) (before_other 35 c s f) ∙ h
   ]
+]
 
 -- a byte that stands for itself
 keeps_byte : (tail after : List ℕ) (b : ℕ) → dropped tail ≡ b ∷ dropped after → (b == 35) ≡ false → ((b == 37) && two_digits (before 35 (dropped after))) ≡ false → plain_body tail ≡ b ∷ plain_body after

@@ -59,9 +59,9 @@ pub at_none : (s : List ℕ) → position ends_header s ≡ None → behind 44 (
 unfolding front
 at_none s e =
     let fails = λ (k : ℕ) (l : k < length s). fails_before_first ends_header s k 0 (⊎_elim
-        (λ (h : position_or_len ends_header s < length s). absurd (let x : Some (position_or_len ends_header s) ≡ None = sym (cond-true (nat_lt (position_or_len ends_header s) (length s)) (Some (position_or_len ends_header s)) None (lt-ltb (position_or_len ends_header s) (length s) h)) ∙ e in cc))
-        (λ (h : length s ≤ position_or_len ends_header s). let x : k < position_or_len ends_header s = omega arith in x)
-        (cases_lt (position_or_len ends_header s) (length s))) in
+    (λ (h : position_or_len ends_header s < length s). absurd (let x : Some (position_or_len ends_header s) ≡ None = sym (cond-true (nat_lt (position_or_len ends_header s) (length s)) (Some (position_or_len ends_header s)) None (lt-ltb (position_or_len ends_header s) (length s) h)) ∙ e in cc))
+    (λ (h : length s ≤ position_or_len ends_header s). let x : k < position_or_len ends_header s = omega arith in x)
+    (cases_lt (position_or_len ends_header s) (length s))) in
     let no_comma = behind_none 44 s (λ k l. (or_parts (get_or s k 0 == 44) (get_or s k 0 == 35) (fails k l)).0) in
     let no_hash = behind_none 35 s (λ k l. (or_parts (get_or s k 0 == 44) (get_or s k 0 == 35) (fails k l)).1) in
     ap (behind 44) (before_all 35 s no_hash) ∙ no_comma

@@ -24,9 +24,9 @@ bytes_append (x ∷ a) b h = let k = bytes_append a b h.1 in ((h.0, k.0), k.1)
 pub bytes_dropped : (s : List ℕ) → IsBytes s → IsBytes (dropped s)
 bytes_dropped [] h = subst IsBytes (sym dropped_nil) tt
 bytes_dropped (b ∷ s) h = elim (cases_Bool (is_tab_or_newline b)) [
-    inl e ↦ subst IsBytes (sym (dropped_passes b s e)) (bytes_dropped s h.1)
+  | inl e ↦ subst IsBytes (sym (dropped_passes b s e)) (bytes_dropped s h.1)
   | inr e ↦ subst IsBytes (sym (dropped_keeps b s e)) (h.0, bytes_dropped s h.1)
-  ]
+]
 
 pub bytes_before : (c : ℕ) (s : List ℕ) → IsBytes s → IsBytes (before c s)
 unfolding before
@@ -45,13 +45,13 @@ lacks_comma (b ∷ d) h = let l = lacks 44 (to_ascii_lowercase b) (map to_ascii_
 lacks_before_dropping : (c : ℕ) → is_tab_or_newline c ≡ false → (s : List ℕ) → behind c (dropped s) ≡ None → behind c s ≡ None
 lacks_before_dropping c k [] h = behind_nil c
 lacks_before_dropping c k (b ∷ s) h = elim (cases_Bool (is_tab_or_newline b)) [
-    inl e ↦
+  | inl e ↦
       let other : (b == c) ≡ false = ne_eqb b c (λ (f : b ≡ c). both_ways (is_tab_or_newline b) (ap is_tab_or_newline f ∙ k) e) in
       behind_other c b s other ∙ lacks_before_dropping c k s (sym (ap (behind c) (dropped_passes b s e)) ∙ h)
   | inr e ↦
       let l = lacks c b (dropped s) (sym (ap (behind c) (dropped_keeps b s e)) ∙ h) in
       behind_other c b s l.here ∙ lacks_before_dropping c k s l.behind_it
-  ]
+]
 
 abbrev scheme_lacks : behind 44 (codes "data:") ≡ None
 unfolding behind
@@ -158,12 +158,12 @@ no_tail_of s x e h = no_tail_at (behind 44 s) (behind 44 x) e h where
 before-dropped : (c : ℕ) → is_tab_or_newline c ≡ false → (s : List ℕ) → before c (dropped s) ≡ dropped (before c s)
 before-dropped c k [] = ap (before c) dropped_nil ∙ before_nil c ∙ sym (ap dropped (before_nil c) ∙ dropped_nil)
 before-dropped c k (b ∷ s) = elim (cases_Bool (b == c)) [
-    inl e ↦ let f : b ≡ c = eqb-true b c e in subst (λ v. before c (dropped (v ∷ s)) ≡ dropped (before c (v ∷ s))) (sym f) (ap (before c) (dropped_keeps c s k) ∙ before_same c (dropped s) ∙ sym (ap dropped (before_same c s) ∙ dropped_nil))
+  | inl e ↦ let f : b ≡ c = eqb-true b c e in subst (λ v. before c (dropped (v ∷ s)) ≡ dropped (before c (v ∷ s))) (sym f) (ap (before c) (dropped_keeps c s k) ∙ before_same c (dropped s) ∙ sym (ap dropped (before_same c s) ∙ dropped_nil))
   | inr e ↦ elim (cases_Bool (is_tab_or_newline b)) [
-        inl d ↦ ap (before c) (dropped_passes b s d) ∙ before-dropped c k s ∙ sym (ap dropped (before_other c b s e) ∙ dropped_passes b (before c s) d)
-      | inr d ↦ ap (before c) (dropped_keeps b s d) ∙ before_other c b (dropped s) e ∙ ap (λ t. b ∷ t) (before-dropped c k s) ∙ sym (ap dropped (before_other c b s e) ∙ dropped_keeps b (before c s) d)
-      ]
+    | inl d ↦ ap (before c) (dropped_passes b s d) ∙ before-dropped c k s ∙ sym (ap dropped (before_other c b s e) ∙ dropped_passes b (before c s) d)
+    | inr d ↦ ap (before c) (dropped_keeps b s d) ∙ before_other c b (dropped s) e ∙ ap (λ t. b ∷ t) (before-dropped c k s) ∙ sym (ap dropped (before_other c b s e) ∙ dropped_keeps b (before c s) d)
   ]
+]
 
 front_lacks : (rest : List ℕ) → behind 44 (front rest) ≡ None → behind 44 (front (dropped rest)) ≡ None
 unfolding front

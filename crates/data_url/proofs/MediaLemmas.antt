@@ -19,10 +19,6 @@ use Rattle.data_url.proofs.HeaderLemmas.{bytes_dropped}
 use Rattle.data_url.proofs.PrintableLemmas.{printable_ascii, printable_take, serialised_printable}
 use Rattle.data_url.proofs.RecodedLemmas.{IsBytes}
 
-
-
-
-
 -- a list of bytes by its places
 pub bytes_by_place : (s : List ℕ) → ((i : ℕ) → get_or s i 0 < 256) → IsBytes s
 bytes_by_place [] h = tt

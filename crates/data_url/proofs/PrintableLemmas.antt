@@ -28,6 +28,7 @@ outside_path : (b : ℕ) → in_path_set b ≡ false → (32 ≤ b) × (b < 127)
 outside_path b h = let p = or_parts (nat_lt b 32) (nat_lt 126 b) h in (ltb-low b p.0, ltb-high b p.1) where
   ltb-low : (b : ℕ) → nat_lt b 32 ≡ false → 32 ≤ b
   ltb-low b e = ltb-false b 32 e
+
   ltb-high : (b : ℕ) → nat_lt 126 b ≡ false → b < 127
   ltb-high b e = let k = ltb-false 126 b e in omega arith
 
@@ -36,8 +37,8 @@ outside_query b h = outside_path b (or_parts (in_path_set b) ((b == 32) || ((b =
 
 byte_printable : (p : ℕ → Bool) → ((b : ℕ) → p b ≡ false → (32 ≤ b) × (b < 127)) → (b : ℕ) → b < 256 → printable (encoded_byte p b)
 byte_printable p outside b l = cond_both (p b) (37 ∷ hex_digit (b / 16) ∷ hex_digit (b % 16) ∷ []) (b ∷ []) printable
-  (λ e. let h = hex_printable (b / 16) (omega arith) in let k = hex_printable (b % 16) (omega arith) in (omega arith, omega arith, (h.0, h.1, (k.0, k.1, tt))))
-  (λ e. let h = outside b e in (h.0, h.1, tt))
+    (λ e. let h = hex_printable (b / 16) (omega arith) in let k = hex_printable (b % 16) (omega arith) in (omega arith, omega arith, (h.0, h.1, (k.0, k.1, tt))))
+    (λ e. let h = outside b e in (h.0, h.1, tt))
 
 encoded_printable : (p : ℕ → Bool) → ((b : ℕ) → p b ≡ false → (32 ≤ b) × (b < 127)) → (s : List ℕ) → IsBytes s → printable (percent_encoded p s)
 encoded_printable p outside [] h = subst printable (sym (encoded_nil p)) tt
@@ -46,9 +47,9 @@ encoded_printable p outside (b ∷ s) h = subst printable (sym (encoded_cons p b
 serialised_all : (s : List ℕ) → IsBytes s → printable (serialised s)
 serialised_all [] h = subst printable (sym serialised_nil) tt
 serialised_all (b ∷ s) h = elim (cases_Bool (b == 63)) [
-    inl e ↦ let f : b ≡ 63 = eqb-true b 63 e in subst (λ v. printable (serialised (v ∷ s))) (sym f) (subst printable (sym (serialised_query s)) (omega arith, omega arith, encoded_printable in_query_set outside_query s h.1))
+  | inl e ↦ let f : b ≡ 63 = eqb-true b 63 e in subst (λ v. printable (serialised (v ∷ s))) (sym f) (subst printable (sym (serialised_query s)) (omega arith, omega arith, encoded_printable in_query_set outside_query s h.1))
   | inr e ↦ subst printable (sym (serialised_path b s e)) (printable_append (encoded_byte in_path_set b) (serialised s) (byte_printable in_path_set outside_path b h.0) (serialised_all s h.1))
-  ]
+]
 
 printable_at : (s : List ℕ) → printable s → IsPrintable s
 printable_at [] h i l = absurd (omega arith)
@@ -84,9 +85,9 @@ printable_ascii s h i = ⊎_elim (λ (l : i < length s). let k = h i l in omega 
 
 low_is_space : (b : ℕ) → 32 ≤ b → is_c0_control_or_space b ≡ is_space b
 low_is_space b h = elim (cases_Bool (b == 32)) [
-    inl e ↦ le-leb b 32 (let f : b ≡ 32 = eqb-true b 32 e in omega arith) ∙ sym e
+  | inl e ↦ le-leb b 32 (let f : b ≡ 32 = eqb-true b 32 e in omega arith) ∙ sym e
   | inr e ↦ lt-leb b 32 (let n = eqb-false b 32 e in omega arith) ∙ sym e
-  ]
+]
 
 low_front : (s : List ℕ) → IsPrintable s → prefix_len is_c0_control_or_space s ≡ prefix_len is_space s
 low_front [] h = refl

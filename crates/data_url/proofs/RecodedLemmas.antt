@@ -25,9 +25,9 @@ no_hex b = not (in_query_set b && is_hex b)
 -- a byte of the set is no hexadecimal digit
 set_no_hex : (b : ℕ) → b < 256 → in_query_set b ≡ true → is_hex b ≡ false
 set_no_hex b l h = elim (cases_Bool (is_hex b)) [
-    inl e ↦ absurd (both_ways (no_hex b) (ap (λ v. not (v && is_hex b)) h ∙ ap (λ v. not v) e) (agree_below_at no_hex (λ c. true) 256 b refl l))
+  | inl e ↦ absurd (both_ways (no_hex b) (ap (λ v. not (v && is_hex b)) h ∙ ap (λ v. not v) e) (agree_below_at no_hex (λ c. true) 256 b refl l))
   | inr e ↦ e
-  ]
+]
 
 -- and is neither '%' nor ','
 set_other : (b c : ℕ) → in_query_set c ≡ false → in_query_set b ≡ true → (b == c) ≡ false
@@ -105,9 +105,9 @@ recoded-decoded (kept b (kept c none)) = refl
 recoded-decoded (kept b (written {s} c h l r)) = keeps b (written c h l r) (no_escape b (two_digits (c ∷ s)) (first_no_digit c s (set_no_hex c l h))) (recoded-decoded (written c h l r))
 recoded-decoded (kept b (kept c (written d h l r))) = keeps b (kept c (written d h l r)) (no_escape b (is_hex c && is_hex d) (and_right (is_hex c) (is_hex d) (set_no_hex d l h))) (recoded-decoded (kept c (written d h l r)))
 recoded-decoded (kept b (kept c (kept {s} {x} d r))) = elim (cases_Bool ((b == 37) && (is_hex c && is_hex d))) [
-    inl e ↦ escapes b c d s x e (recoded-decoded r)
+  | inl e ↦ escapes b c d s x e (recoded-decoded r)
   | inr e ↦ keeps b (kept c (kept d r)) e (recoded-decoded (kept c (kept d r)))
-  ]
+]
 
 -- Encodings
 
@@ -156,9 +156,9 @@ serialised_path b s h = ap (λ v. with_query v (behind 63 (b ∷ s))) (before_ot
 pub serialised_recoded : (s : List ℕ) → IsBytes s → Recoded s (serialised s)
 serialised_recoded [] h = subst (λ x. Recoded [] x) (sym serialised_nil) none
 serialised_recoded (b ∷ s) h = elim (cases_Bool (b == 63)) [
-    inl e ↦ let f : b ≡ 63 = eqb-true b 63 e in subst (λ v. Recoded (v ∷ s) (serialised (v ∷ s))) (sym f) (subst (λ x. Recoded (63 ∷ s) x) (sym (serialised_query s)) (kept 63 (is_recoded in_query_set (λ b e. e) s h.1)))
+  | inl e ↦ let f : b ≡ 63 = eqb-true b 63 e in subst (λ v. Recoded (v ∷ s) (serialised (v ∷ s))) (sym f) (subst (λ x. Recoded (63 ∷ s) x) (sym (serialised_query s)) (kept 63 (is_recoded in_query_set (λ b e. e) s h.1)))
   | inr e ↦ subst (λ x. Recoded (b ∷ s) x) (sym (serialised_path b s e)) (recoded_byte in_path_set path_within_query b s (serialised s) h.0 (serialised_recoded s h.1))
-  ]
+]
 
 -- The first comma
 
@@ -178,9 +178,9 @@ behind_written b x =
 pub recoded_tails : {s x : List ℕ} → Recoded s x → RecodedTails (behind 44 s) (behind 44 x)
 recoded_tails none = subst (λ v. RecodedTails v v) (sym (behind_nil 44)) tt
 recoded_tails (kept {s} {x} b r) = elim (cases_Bool (b == 44)) [
-    inl e ↦ let f : b ≡ 44 = eqb-true b 44 e in subst (λ v. RecodedTails (behind 44 (v ∷ s)) (behind 44 (v ∷ x))) (sym f) (subst (λ v. RecodedTails v (behind 44 (44 ∷ x))) (sym (behind_same 44 s)) (subst (λ v. RecodedTails (Some s) v) (sym (behind_same 44 x)) r))
+  | inl e ↦ let f : b ≡ 44 = eqb-true b 44 e in subst (λ v. RecodedTails (behind 44 (v ∷ s)) (behind 44 (v ∷ x))) (sym f) (subst (λ v. RecodedTails v (behind 44 (44 ∷ x))) (sym (behind_same 44 s)) (subst (λ v. RecodedTails (Some s) v) (sym (behind_same 44 x)) r))
   | inr e ↦ subst (λ v. RecodedTails v (behind 44 (b ∷ x))) (sym (behind_other 44 b s e)) (subst (λ v. RecodedTails (behind 44 s) v) (sym (behind_other 44 b x e)) (recoded_tails r))
-  ]
+]
 recoded_tails (written {s} {x} b h l r) = subst (λ v. RecodedTails v (behind 44 (37 ∷ hex_digit (b / 16) ∷ hex_digit (b % 16) ∷ x))) (sym (behind_other 44 b s (set_other b 44 refl h))) (subst (λ v. RecodedTails (behind 44 s) v) (sym (behind_written b x)) (recoded_tails r))
 
 -- what stands before the first comma of an encoded text is the encoding of what stands before the first comma
@@ -194,16 +194,16 @@ encoded_comma p h s = ap (λ t. t ++ s) (cond-false (p 44) (37 ∷ hex_digit (44
 before_encoded : (p : ℕ → Bool) → p 44 ≡ false → (s : List ℕ) → before 44 (percent_encoded p s) ≡ percent_encoded p (before 44 s)
 before_encoded p h [] = ap (before 44) (encoded_nil p) ∙ before_nil 44 ∙ sym (ap (percent_encoded p) (before_nil 44) ∙ encoded_nil p)
 before_encoded p h (b ∷ s) = ap (before 44) (encoded_cons p b s) ∙ elim (cases_Bool (b == 44)) [
-    inl e ↦ let f : b ≡ 44 = eqb-true b 44 e in subst (λ v. before 44 (encoded_byte p v ++ percent_encoded p s) ≡ percent_encoded p (before 44 (v ∷ s))) (sym f) (ap (before 44) (encoded_comma p h (percent_encoded p s)) ∙ before_same 44 (percent_encoded p s) ∙ sym (ap (percent_encoded p) (before_same 44 s) ∙ encoded_nil p))
+  | inl e ↦ let f : b ≡ 44 = eqb-true b 44 e in subst (λ v. before 44 (encoded_byte p v ++ percent_encoded p s) ≡ percent_encoded p (before 44 (v ∷ s))) (sym f) (ap (before 44) (encoded_comma p h (percent_encoded p s)) ∙ before_same 44 (percent_encoded p s) ∙ sym (ap (percent_encoded p) (before_same 44 s) ∙ encoded_nil p))
   | inr e ↦ before-append 44 (encoded_byte p b) (percent_encoded p s) (encoded_byte_lacks p b e) ∙ ap (λ t. encoded_byte p b ++ t) (before_encoded p h s) ∙ sym (ap (percent_encoded p) (before_other 44 b s e) ∙ encoded_cons p b (before 44 s))
-  ]
+]
 
 pub before-serialised : (s : List ℕ) → before 44 (serialised s) ≡ serialised (before 44 s)
 before-serialised [] = ap (before 44) serialised_nil ∙ before_nil 44 ∙ sym (ap serialised (before_nil 44) ∙ serialised_nil)
 before-serialised (b ∷ s) = elim (cases_Bool (b == 63)) [
-    inl e ↦ let f : b ≡ 63 = eqb-true b 63 e in subst (λ v. before 44 (serialised (v ∷ s)) ≡ serialised (before 44 (v ∷ s))) (sym f) (ap (before 44) (serialised_query s) ∙ before_other 44 63 (percent_encoded in_query_set s) refl ∙ ap (λ t. 63 ∷ t) (before_encoded in_query_set refl s) ∙ sym (ap serialised (before_other 44 63 s refl) ∙ serialised_query (before 44 s)))
+  | inl e ↦ let f : b ≡ 63 = eqb-true b 63 e in subst (λ v. before 44 (serialised (v ∷ s)) ≡ serialised (before 44 (v ∷ s))) (sym f) (ap (before 44) (serialised_query s) ∙ before_other 44 63 (percent_encoded in_query_set s) refl ∙ ap (λ t. 63 ∷ t) (before_encoded in_query_set refl s) ∙ sym (ap serialised (before_other 44 63 s refl) ∙ serialised_query (before 44 s)))
   | inr e ↦ ap (before 44) (serialised_path b s e) ∙ elim (cases_Bool (b == 44)) [
-        inl k ↦ let f : b ≡ 44 = eqb-true b 44 k in subst (λ v. before 44 (encoded_byte in_path_set v ++ serialised s) ≡ serialised (before 44 (v ∷ s))) (sym f) (before_same 44 (serialised s) ∙ sym (ap serialised (before_same 44 s) ∙ serialised_nil))
-      | inr k ↦ before-append 44 (encoded_byte in_path_set b) (serialised s) (encoded_byte_lacks in_path_set b k) ∙ ap (λ t. encoded_byte in_path_set b ++ t) (before-serialised s) ∙ sym (ap serialised (before_other 44 b s k) ∙ serialised_path b (before 44 s) e)
-      ]
+    | inl k ↦ let f : b ≡ 44 = eqb-true b 44 k in subst (λ v. before 44 (encoded_byte in_path_set v ++ serialised s) ≡ serialised (before 44 (v ∷ s))) (sym f) (before_same 44 (serialised s) ∙ sym (ap serialised (before_same 44 s) ∙ serialised_nil))
+    | inr k ↦ before-append 44 (encoded_byte in_path_set b) (serialised s) (encoded_byte_lacks in_path_set b k) ∙ ap (λ t. encoded_byte in_path_set b ++ t) (before-serialised s) ∙ sym (ap serialised (before_other 44 b s k) ∙ serialised_path b (before 44 s) e)
   ]
+]

@@ -33,9 +33,9 @@ written_nil Fragment h = absurd h
 
 written_cons : (set : EncodeSet) (b : ℕ) (s : List ℕ) → IsHeaderSet set → written set (b ∷ s) ≡ encoded_byte (in_set set) b ++ written (next_set set b) s
 written_cons Path b s h = elim (cases_Bool (b == 63)) [
-    inl e ↦ let f : b ≡ 63 = eqb-true b 63 e in subst (λ v. serialised (v ∷ s) ≡ encoded_byte in_path_set v ++ written (cond (v == 63) Query Path) s) (sym f) (serialised_query s)
+  | inl e ↦ let f : b ≡ 63 = eqb-true b 63 e in subst (λ v. serialised (v ∷ s) ≡ encoded_byte in_path_set v ++ written (cond (v == 63) Query Path) s) (sym f) (serialised_query s)
   | inr e ↦ serialised_path b s e ∙ ap (λ set. encoded_byte in_path_set b ++ written set s) (sym (cond-false (b == 63) Query Path e))
-  ]
+]
 written_cons Query b s h = encoded_cons in_query_set b s ∙ ap (λ set. encoded_byte in_query_set b ++ written set s) (elim (b == 63) as (λ v. Query ≡ cond v Query Query) [ true ↦ refl | false ↦ refl ])
 written_cons Fragment b s h = absurd h
 

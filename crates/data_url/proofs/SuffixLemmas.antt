@@ -51,7 +51,7 @@ behind_word s n spaces p h =
     let len : length (take n s) ≡ n = length-take-le n s (omega arith) in
     let same : suffix_len is_space (take n s) ≡ spaces = sym (low_end (take n s) (printable_take n s p)) ∙ sym h.spaces_are in
     let cut : without_end is_space (take n s) ≡ take (n - spaces) s =
-      ap (λ m. take (m - suffix_len is_space (take n s)) (take n s)) len ∙ ap (λ m. take (n - m) (take n s)) same ∙ take-take (n - spaces) n s (omega arith) in
+    ap (λ m. take (m - suffix_len is_space (take n s)) (take n s)) len ∙ ap (λ m. take (n - m) (take n s)) same ∙ take-take (n - spaces) n s (omega arith) in
     ap (option_and_then (λ m. before_semicolon (without_end is_space m))) (cond-true (bytes_eq (map to_ascii_lowercase (last 6 s)) word) (Some (before_last 6 s)) None ((bytes_eq-Decides (map to_ascii_lowercase (last 6 s)) word).1 whole))
     ∙ ap (λ m. before_semicolon (without_end is_space (take m s))) at
     ∙ ap before_semicolon cut
@@ -83,8 +83,8 @@ no_semicolon s n spaces m p h e ne =
     let within : m < length s = omega arith in
     behind_word s n spaces p h ∙ ap (λ k. before_semicolon (take k s)) e
     ∙ cond-false (bytes_eq (last 1 (take (m + 1) s)) semicolon) (Some (before_last 1 (take (m + 1) s))) None (false_from_ne_true (bytes_eq (last 1 (take (m + 1) s)) semicolon) (λ k.
-        let same : get_or s m 0 ∷ [] ≡ semicolon = sym (last_one s m within) ∙ (bytes_eq-Decides (last 1 (take (m + 1) s)) semicolon).0 k in
-        ne (ap (λ t. get_or t 0 0) same)))
+    let same : get_or s m 0 ∷ [] ≡ semicolon = sym (last_one s m within) ∙ (bytes_eq-Decides (last 1 (take (m + 1) s)) semicolon).0 k in
+    ne (ap (λ t. get_or t 0 0) same)))
 
 pub with_semicolon : (s : List ℕ) (n spaces m : ℕ) → IsPrintable s → HasWord s n spaces → n - spaces ≡ m + 1 → get_or s m 0 ≡ 59 → before_base64 s ≡ Some (take m s)
 with_semicolon s n spaces m p h e is =

@@ -69,7 +69,7 @@ pub record IsCut (c : ℕ) (s rest : List ℕ) : Type 0 where
 pub is_cut : (c : ℕ) (s rest : List ℕ) → behind c s ≡ Some rest → IsCut c s rest
 is_cut c [] rest h = absurd (let k : None ≡ Some rest = sym (behind_nil c) ∙ h in cc)
 is_cut c (b ∷ s) rest h = elim (cases_Bool (b == c)) [
-    inl e ↦
+  | inl e ↦
       let same : b ≡ c = eqb-true b c e in
       let front : before c (b ∷ s) ≡ [] = ap (λ x. before c (x ∷ s)) same ∙ before_same c s in
       let tail : Some s ≡ Some rest = sym (ap (λ x. behind c (x ∷ s)) same ∙ behind_same c s) ∙ h in
@@ -85,7 +85,7 @@ is_cut c (b ∷ s) rest h = elim (cases_Bool (b == c)) [
         joined = ap (λ t. b ∷ t) cut.joined ∙ ap (λ t. t ++ c ∷ rest) (sym front);
         lacks = ap (behind c) front ∙ behind_other c b (before c s) e ∙ cut.lacks;
       }
-  ]
+]
 
 -- no index holds the byte
 pub behind_none : (c : ℕ) (s : List ℕ) → ((k : ℕ) → k < length s → (get_or s k 0 == c) ≡ false) → behind c s ≡ None
@@ -115,9 +115,9 @@ dropped-append (b ∷ a) s = elim (is_tab_or_newline b) as (λ v. cond (not v) (
 pub behind-dropped_none : (c : ℕ) → is_tab_or_newline c ≡ false → (s : List ℕ) → behind c s ≡ None → behind c (dropped s) ≡ None
 behind-dropped_none c k [] h = ap (behind c) dropped_nil ∙ behind_nil c
 behind-dropped_none c k (b ∷ s) h = let l = lacks c b s h in elim (cases_Bool (is_tab_or_newline b)) [
-    inl e ↦ ap (behind c) (dropped_passes b s e) ∙ behind-dropped_none c k s l.behind_it
+  | inl e ↦ ap (behind c) (dropped_passes b s e) ∙ behind-dropped_none c k s l.behind_it
   | inr e ↦ ap (behind c) (dropped_keeps b s e) ∙ behind_other c b (dropped s) l.here ∙ behind-dropped_none c k s l.behind_it
-  ]
+]
 
 -- dropping, where a byte that is kept stands between
 pub dropped_around : (c : ℕ) → is_tab_or_newline c ≡ false → (a s : List ℕ) → dropped (a ++ c ∷ s) ≡ dropped a ++ c ∷ dropped s

@@ -8,11 +8,10 @@ ghost use Rattle.data_url.specs.Mime.{default_record};
 ghost use Rattle.data_url.specs.Header.{HasChanges, IsHeaderOf, IsPrintable, IsRecordFor, next_set};
 ghost use Rattle.data_url.specs.Seen.{as_option, seen};
 
-use std::alloc::{AllocError, Global};
-
 use crate::front::{is_passed_over, low_end_len, trim};
 use crate::mime::{Mime, MimeFromStrError};
 use crate::percent::{EncodeSet, push_encoded};
+use std::alloc::{AllocError, Global};
 
 const PLAIN: &str = "text/plain";
 
@@ -97,7 +96,10 @@ pub(crate) fn read_header(alloc: Global, header: &str) -> Result<(Mime, bool), A
     if changes.encoded == 0 && changes.dropped == 0 {
         return read_serialised(alloc, header);
     }
-    let len = changes.encoded.saturating_mul(2).saturating_add(bytes.len() - changes.dropped);
+    let len = changes
+        .encoded
+        .saturating_mul(2)
+        .saturating_add(bytes.len() - changes.dropped);
     let text = serialise(alloc, bytes, len)?;
     read_serialised(alloc, text.as_str())
 }

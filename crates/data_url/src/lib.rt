@@ -61,7 +61,10 @@ impl fmt::Display for DataUrlError {
         match self {
             DataUrlError::NotADataUrl => write!(f, "not a valid data url"),
             DataUrlError::NoComma => {
-                write!(f, "data url is missing comma delimiting attributes and body")
+                write!(
+                    f,
+                    "data url is missing comma delimiting attributes and body"
+                )
             }
             DataUrlError::OutOfMemory => write!(f, "out of memory"),
         }
@@ -149,7 +152,11 @@ impl<'a> DataUrl<'a> {
             (IsBodyEnd (url_tail self.now)) result.0 result.1 }
     {
         let tail = self.tail.as_bytes();
-        if self.base64 { decode_base64(tail, write) } else { decode_plain(tail, write) }
+        if self.base64 {
+            decode_base64(tail, write)
+        } else {
+            decode_plain(tail, write)
+        }
     }
 
     /// The fragment of a URL whose body ends at the place.

@@ -39,7 +39,11 @@ fn hex_digit_of(value: u8) -> u8
     ensures value { result ≡ hex_digit value }
     ensures ascii { result < 128 }
 {
-    if value < 10 { b'0' + value } else { b'A' - 10 + value }
+    if value < 10 {
+        b'0' + value
+    } else {
+        b'A' - 10 + value
+    }
 }
 
 /// How many bytes a byte is written as.

@@ -16,9 +16,9 @@ loop-byte-preserved c =
     let next = next_set set (get_or header i 0) in
     let set_is = next_is_header_set set (get_or header i 0) c.loop-byte.invariant.set_is in
     rw c.set_behind-set.ensures (elim c.if-is_passed_over.branch [
-      then-is_passed_over w ↦ subst (at next) (sym w.changes-is) (counted_dropped header i set next old.encoded old.dropped c.loop-byte.invariant set_is)
-    | else-is_passed_over+then-contains w ↦ subst (at next) (sym w.changes-is) (counted_encoded header i set next old.encoded old.dropped c.loop-byte.invariant set_is)
-    | else-is_passed_over+else-contains w ↦ subst (at next) (sym w.changes-is) (counted_kept header i set old.encoded old.dropped c.loop-byte.invariant c.loop-byte-test.true (sym w.if-is_passed_over.ensures) (sym w.if-contains.ensures))
+      | then-is_passed_over w ↦ subst (at next) (sym w.changes-is) (counted_dropped header i set next old.encoded old.dropped c.loop-byte.invariant set_is)
+      | else-is_passed_over+then-contains w ↦ subst (at next) (sym w.changes-is) (counted_encoded header i set next old.encoded old.dropped c.loop-byte.invariant set_is)
+      | else-is_passed_over+else-contains w ↦ subst (at next) (sym w.changes-is) (counted_kept header i set old.encoded old.dropped c.loop-byte.invariant c.loop-byte-test.true (sym w.if-is_passed_over.ensures) (sym w.if-contains.ensures))
     ])
 
 pub returns : goal.returns

@@ -14,9 +14,9 @@ pub returns-then-is_empty : goal.returns-then-is_empty
 returns-then-is_empty c =
     let bytes = c.as_bytes-bytes.ensures.value in
     let unlike : (c.args.media.now ≡ []) ⊎ (get_or c.args.media.now 0 0 ≢ 59) = elim c.then-is_empty.branch [
-        then-is_empty-via-then-is_empty w ↦ inl (nil_from_length c.args.media.now (ap length (sym bytes) ∙ eqb-true (length c.as_bytes-bytes.result.now) 0 (sym c.is_empty.ensures ∙ w.if-is_empty.true)))
+      | then-is_empty-via-then-is_empty w ↦ inl (nil_from_length c.args.media.now (ap length (sym bytes) ∙ eqb-true (length c.as_bytes-bytes.result.now) 0 (sym c.is_empty.ensures ∙ w.if-is_empty.true)))
       | then-is_empty-via-else-is_empty+then-bytes-ne59 w ↦ inr (λ e. w.if-bytes-ne59.true (ap (λ s. get_or s 0 0) bytes ∙ e))
-      ] in
+    ] in
     let same : chars c.args.media.now ≡ with_plain c.args.media.now = chars_printable c.args.media.now c.requires ∙ sym (plain_stays c.args.media.now unlike) in
     IfOk-weaker c.record_of.result _ _ (λ mime h. subst (λ s. IsRecordFor s (seen mime)) same h) c.record_of.ensures
 
