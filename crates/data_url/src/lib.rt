@@ -16,6 +16,8 @@ mod front;
 mod header;
 pub mod mime;
 mod percent;
+#[cfg(test)]
+mod tests;
 
 use body::{decode_base64, decode_plain};
 use forgiving_base64::{DecodeError, DecodeToVecError, room_for};
