@@ -3,7 +3,7 @@ use Rattle.std.proofs.Common.{◌≡◌, ℕ, suc, zero, ◌+◌, ◌%◌, false
 use Rattle.std.specs.List.{filter, list_any}
 use Rattle.std.proofs.lemmas.List.{map-append, length-map, length-replicate}
 use Rattle.std.proofs.lemmas.List.Elements.{filter-append}
-use Rattle.data_url.specs.Base64.{after_groups, decoded, done, groups, is_symbol, is_valid, left_padding, left_symbols, left_text, rest_bytes, symbol_value, values}
+use Rattle.data_url.specs.Base64.{after_groups, decoded, done, first_fault, groups, is_symbol, is_valid, left_padding, left_symbols, left_text, rest_bytes, symbol_value, values}
 use Rattle.data_url.specs.Laws.{GoesOn, TwoFeeds}
 use Rattle.data_url.specs.Mime.{Every}
 use Rattle.data_url.proofs.SignLemmas.{after_groups-append, after_groups-map, any_of_text, before-append, before_fault, before_none, done_is, every_after, fault-append, fault_byte, fault_invalid, fault_none, fault_some, fault_text, groups-append, is_sign, kind_by, kind_is, length_alike, no_fault_valid, signs_of_text, symbols_of_text}
@@ -158,5 +158,5 @@ left_stands a h =
       none_left = fault_text q p every;
     }
 
-pub two_feeds : (a b : List ℕ) → TwoFeeds a b
+pub two_feeds : (a b : List ℕ) → first_fault a ≡ None → TwoFeeds a b
 two_feeds a b h = goes_on a b (left_text (left_symbols a) (left_padding a)) (left_stands a (fault_none a h))

@@ -40,6 +40,6 @@ pub record GoesOn (a b v : List ℕ) : Type 0 where
   pub valid_is : is_valid (a ++ b) ≡ is_valid v
   pub decoded_is : decoded (a ++ b) ≡ done a ++ decoded v
 
--- a text may be fed in two parts, if the first has no fault
+-- a text without a fault, and then another: what the first leaves goes on with the second as the whole does
 abbrev pub TwoFeeds : List ℕ → List ℕ → Type 0
-TwoFeeds a b = first_fault a ≡ None → GoesOn a b (left_text (left_symbols a) (left_padding a) ++ b)
+TwoFeeds a b = GoesOn a b (left_text (left_symbols a) (left_padding a) ++ b)

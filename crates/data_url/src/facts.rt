@@ -3,7 +3,7 @@
 ghost use Rattle.std.specs.Prelude.{ℕ, List};
 ghost use Rattle.data_url.specs.Base64.{first_fault};
 ghost use Rattle.data_url.specs.Mime.{BeginsParameters};
-ghost use Rattle.data_url.specs.Laws.{HasAtMostOneRecord, HasOneItemList, IsFirstFault, PaddingFits, TwoFeeds};
+ghost use Rattle.data_url.specs.Laws.{HasAtMostOneRecord, HasOneItemList, IsFirstFault, PaddingFits};
 
 /// A text that is empty or begins with `;` has exactly one list of items.
 pub(crate) fn one_item_list()
@@ -23,9 +23,4 @@ pub(crate) fn padding_fits()
 /// The first fault is the least place of one, and is there where there is one.
 pub(crate) fn least_fault()
     ensures { (b : List ℕ) → IsFirstFault b (first_fault b) }
-{}
-
-/// A text may be fed in two parts: what the first left goes on with the second as the whole does.
-pub(crate) fn two_feeds()
-    ensures { (a b : List ℕ) → TwoFeeds a b }
 {}

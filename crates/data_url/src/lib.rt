@@ -14,6 +14,7 @@ mod facts;
 pub mod forgiving_base64;
 mod front;
 mod header;
+pub mod laws;
 pub mod mime;
 mod percent;
 #[cfg(test)]

@@ -1,0 +1,5 @@
+use Rattle.data_url.proofs.FeedLemmas.{two_feeds}
+use Rattle.data_url.proofs.laws.two_feeds.Goals as goal
+
+pub returns : goal.returns
+returns c = two_feeds c.args.first.now c.args.second.now c.requires

@@ -1,0 +1,21 @@
+//! Laws of the definitions that the contracts of this crate cite. Each is the contract of a function that does nothing.
+
+ghost use Rattle.std.specs.Prelude.{◌≡◌, None};
+ghost use Rattle.data_url.specs.Base64.{first_fault};
+ghost use Rattle.data_url.specs.Laws.{TwoFeeds};
+ghost use Rattle.data_url.specs.Percent.{percent_decoded};
+ghost use Rattle.data_url.specs.Url.{in_path_set, in_query_set, percent_encoded};
+
+/// A text of forgiving base64 may be fed in two parts (Infra Standard, section 8). Where the first part has no fault, what
+/// it leaves goes on with the second as the whole text does: the bytes, the fault or the rest, and validity are the same.
+pub fn two_feeds(first: &[u8], second: &[u8])
+    requires { first_fault first.now ≡ None }
+    ensures { TwoFeeds first.now second.now }
+{}
+
+/// Percent-encoding is undone by percent-decoding, and changes no escape that was there before (URL Standard, section 1.3):
+/// bytes decode to the same as their encoded form does, by the set of a path and by that of a query.
+pub fn encoding_first(bytes: &[u8])
+    ensures path { percent_decoded bytes.now ≡ percent_decoded (percent_encoded in_path_set bytes.now) }
+    ensures query { percent_decoded bytes.now ≡ percent_decoded (percent_encoded in_query_set bytes.now) }
+{}
