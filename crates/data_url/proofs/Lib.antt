@@ -10,6 +10,7 @@ pub mod DecodeLemmas
 pub mod DecoderLemmas
 pub mod FaultLemmas
 pub mod FeedLemmas
+pub mod FragmentAgainLemmas
 pub mod FragmentLemmas
 pub mod HeadLemmas
 pub mod HeaderLemmas

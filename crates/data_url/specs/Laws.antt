@@ -1,7 +1,10 @@
 -- Facts and laws about the definitions, as contracts cite them.
-use Rattle.std.specs.Prelude.{◌≡◌, ◌≢◌, ◌⊎◌, ◌↔◌, ◌<◌, ◌%◌, ℕ, List, ◌++◌, length, replicate, Option, None, Some, false, is_some, IsTrue}
+use Rattle.std.specs.Prelude.{◌≡◌, ◌≢◌, ◌⊎◌, ◌↔◌, ◌<◌, ◌%◌, ◌==◌, ◌&&◌, ◌||◌, ℕ, Bool, not, codes, List, ◌++◌, length, replicate, Option, None, Some, false, is_some, IsTrue}
+use Rattle.std.specs.Int.{is_in_range}
 use Rattle.data_url.specs.Base64.{compact, decoded, done, first_fault, is_fault, is_symbol, is_valid, kind_of, left_padding, left_symbols, left_text}
+use Rattle.data_url.specs.Fetch.{staged, staged_fragment}
 use Rattle.data_url.specs.Mime.{Every, Item, Items, Parses, Record}
+use Rattle.data_url.specs.Url.{dropped, in_fragment_set, percent_encoded}
 
 -- each text that is empty or begins with ';' is a join of parameters, with one list of items
 pub record HasOneItemList (r : List ℕ) : Type 0 where
@@ -43,3 +46,15 @@ pub record GoesOn (a b v : List ℕ) : Type 0 where
 -- a text without a fault, and then another: what the first leaves goes on with the second as the whole does
 abbrev pub TwoFeeds : List ℕ → List ℕ → Type 0
 TwoFeeds a b = GoesOn a b (left_text (left_symbols a) (left_padding a) ++ b)
+
+-- a byte that an encoded fragment may hold: U+0021 to U+007E without '"', '<', '>' and '`'
+abbrev pub is_fragment_byte : ℕ → Bool
+is_fragment_byte b = is_in_range 33 126 b && not ((b == 34) || ((b == 60) || ((b == 62) || (b == 96))))
+
+-- a fragment, encoded as the URL parser does
+abbrev pub encoded_fragment : List ℕ → List ℕ
+encoded_fragment s = percent_encoded in_fragment_set (dropped s)
+
+-- behind "data:,#" the text is a fragment that is encoded to itself
+abbrev pub IsReadAgain : List ℕ → Type 0
+IsReadAgain x = staged_fragment (staged (codes "data:,#" ++ x)) ≡ Some x

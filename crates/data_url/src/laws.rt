@@ -2,9 +2,17 @@
 
 ghost use Rattle.std.specs.Prelude.{◌≡◌, None};
 ghost use Rattle.data_url.specs.Base64.{first_fault};
-ghost use Rattle.data_url.specs.Laws.{TwoFeeds};
+ghost use Rattle.data_url.specs.Laws.{IsReadAgain, TwoFeeds, encoded_fragment, is_fragment_byte};
+ghost use Rattle.data_url.specs.Mime.{Every};
 ghost use Rattle.data_url.specs.Percent.{percent_decoded};
 ghost use Rattle.data_url.specs.Url.{in_path_set, in_query_set, percent_encoded};
+
+/// The encoded text of a fragment, read again behind `data:,#`, is encoded to itself (Fetch Standard, section 6, by the URL
+/// Standard, section 4.4, fragment state). It has U+0021 to U+007E alone, without `"`, `<`, `>` and the backquote.
+pub fn fragment_again(fragment: &str)
+    ensures again { IsReadAgain (encoded_fragment fragment.now) }
+    ensures bytes { Every is_fragment_byte (encoded_fragment fragment.now) }
+{}
 
 /// A text of forgiving base64 may be fed in two parts (Infra Standard, section 8). Where the first part has no fault, what
 /// it leaves goes on with the second as the whole text does: the bytes, the fault or the rest, and validity are the same.
