@@ -66,7 +66,7 @@ name_bytes bs u h = bytes_of_ascii bs u (token_text_ascii (chars bs) h)
 pub lower_is_itself : (t : List ℕ) → is_lowercase_name t ≡ true → map to_ascii_lowercase t ≡ t
 lower_is_itself t h = equal_from_test (map to_ascii_lowercase t) t (and_parts (is_token_text t) (bytes_eq (map to_ascii_lowercase t) t) h).1
 
-lowercase_token : (t : List ℕ) → is_lowercase_name t ≡ true → is_token_text t ≡ true
+pub lowercase_token : (t : List ℕ) → is_lowercase_name t ≡ true → is_token_text t ≡ true
 lowercase_token t h = (and_parts (is_token_text t) (bytes_eq (map to_ascii_lowercase t) t) h).0
 
 both_lower : (k n : List ℕ) → IsUtf8 k → IsUtf8 n → is_lowercase_name (chars k) ≡ true → is_token_text (chars n) ≡ true → (map to_ascii_lowercase k ≡ chars k) × (map to_ascii_lowercase n ≡ map to_ascii_lowercase (chars n))

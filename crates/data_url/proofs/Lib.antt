@@ -27,6 +27,7 @@ pub mod QuoteLemmas
 pub mod QuotedLemmas
 pub mod RecodedLemmas
 pub mod RecordLemmas
+pub mod RoundTripLemmas
 pub mod RunLemmas
 pub mod SameLemmas
 pub mod SchemeLemmas

@@ -44,7 +44,7 @@ parameter_text name value u =
 
 -- A record
 
-text_bytes : {A : Type 0} (s : String A) → string_bytes s ≡ encode_utf8_all (code_points s)
+pub text_bytes : {A : Type 0} (s : String A) → string_bytes s ≡ encode_utf8_all (code_points s)
 text_bytes s = sym (encodes-chars (string_bytes s) (IsUtf8-string_bytes s))
 
 -- what is left of the printed pairs

@@ -55,7 +55,7 @@ abbrev pub IsRead : List ℕ → List ℕ → Option (List ℕ) → Type 0
 IsRead s value None = QuotedOpen s value
 IsRead s value (Some w) = (q : List ℕ) × (s ≡ q ++ (34 ∷ w)) × Quoted q value
 
-quoted_more : (u : QuotedUnit) (q v : List ℕ) → IsUnit u → Quoted q v → Quoted (unit_text u ++ q) (unit_value u ∷ v)
+pub quoted_more : (u : QuotedUnit) (q v : List ℕ) → IsUnit u → Quoted q v → Quoted (unit_text u ++ q) (unit_value u ∷ v)
 quoted_more u q v i h = record { units = u ∷ h.units; each = (i, h.each); text_is = ap (λ t. unit_text u ++ t) h.text_is; value_is = ap (λ t. unit_value u ∷ t) h.value_is }
 
 read_more : (u : QuotedUnit) (s v : List ℕ) (r : Option (List ℕ)) → IsUnit u → IsRead s v r → IsRead (unit_text u ++ s) (unit_value u ∷ v) r
@@ -63,7 +63,7 @@ read_more u s v None i (inl h) = inl (quoted_more u s v i h)
 read_more u s v None i (inr (q, w, t, e, h)) = inr (unit_text u ++ q, unit_value u ∷ w, ap (λ x. unit_text u ++ x) t ∙ sym (append_assoc (unit_text u) q (92 ∷ [])), ap (λ x. unit_value u ∷ x) e, quoted_more u q w i h)
 read_more u s v (Some w) i h = (unit_text u ++ h.0, ap (λ x. unit_text u ++ x) h.1 ∙ sym (append_assoc (unit_text u) h.0 (34 ∷ w)), quoted_more u h.0 v i h.2)
 
-quoted_nil : Quoted [] []
+pub quoted_nil : Quoted [] []
 quoted_nil = record { units = []; each = tt; text_is = refl; value_is = refl }
 
 -- what stands before a text that is read behind a backslash or not

@@ -1,5 +1,5 @@
 -- Records of the same texts.
-use Rattle.std.proofs.Common.{◌≡◌, ℕ, Bool, true, false, List, [], ◌∷◌, refl, ap, sym, subst, ◌∙◌}
+use Rattle.std.proofs.Common.{◌≡◌, ℕ, Bool, true, false, List, [], ◌∷◌, refl, ap, ap₂, sym, subst, ◌∙◌, encode_utf8_all}
 use Rattle.std.specs.Prelude.{◌&&◌, ◌↔◌, IsTrue, String, map, string_bytes}
 use Rattle.std.specs.List.{AllZip}
 use Rattle.std.specs.Str.{bytes_eq, chars}
@@ -9,6 +9,7 @@ use Rattle.std.proofs.lemmas.Cmp.{nat_list_eq_equiv}
 use Rattle.data_url.specs.Mime.{Pair, Record}
 use Rattle.data_url.specs.Seen.{SameTexts, pair_of, same_pair, same_texts, seen, texts_of_pair}
 use Rattle.data_url.specs.declared.mime.Mime.{Mime}
+use Rattle.data_url.proofs.PrintLemmas.{text_bytes}
 
 bytes_same : (a b : List ℕ) → bytes_eq a b ≡ true → a ≡ b
 bytes_same a b h = same_text a b (sym h)
@@ -87,3 +88,19 @@ same_seen m n h =
     ap (λ a. record_of a (chars (string_bytes m.subtype)) (map pair_of m.parameters.items)) (ap chars h.type_)
     ∙ ap (λ b. record_of (chars (string_bytes n.type_)) b (map pair_of m.parameters.items)) (ap chars h.subtype)
     ∙ ap (λ c. record_of (chars (string_bytes n.type_)) (chars (string_bytes n.subtype)) c) pairs
+
+-- bytes follow from code points
+
+abbrev pair_spelled : Pair → List ℕ × List ℕ
+pair_spelled p = (encode_utf8_all p.0, encode_utf8_all p.1)
+
+pairs_spelled : {A B : Type 0} (ps : List (String A × String B)) → map texts_of_pair ps ≡ map pair_spelled (map pair_of ps)
+pairs_spelled [] = refl
+pairs_spelled (p ∷ ps) = ap₂ (λ a b. (a, b) ∷ map texts_of_pair ps) (text_bytes p.0) (text_bytes p.1) ∙ ap (λ xs. pair_spelled (pair_of p) ∷ xs) (pairs_spelled ps)
+
+pub seen_same : (m n : Mime) → seen m ≡ seen n → SameTexts m n
+seen_same m n h = record {
+  type_ = text_bytes m.type_ ∙ ap (λ (r : Record). encode_utf8_all r.type_) h ∙ sym (text_bytes n.type_);
+  subtype = text_bytes m.subtype ∙ ap (λ (r : Record). encode_utf8_all r.subtype) h ∙ sym (text_bytes n.subtype);
+  parameters = pairs_spelled m.parameters.items ∙ ap (λ (r : Record). map pair_spelled r.parameters) h ∙ sym (pairs_spelled n.parameters.items);
+}

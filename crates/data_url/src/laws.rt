@@ -1,11 +1,30 @@
 //! Laws of the definitions that the contracts of this crate cite. Each is the contract of a function that does nothing.
 
-ghost use Rattle.std.specs.Prelude.{◌≡◌, None};
+ghost use Rattle.std.specs.Prelude.{◌≡◌, ◌↔◌, None};
 ghost use Rattle.data_url.specs.Base64.{first_fault};
 ghost use Rattle.data_url.specs.Laws.{IsReadAgain, TwoFeeds, encoded_fragment, is_fragment_byte};
-ghost use Rattle.data_url.specs.Mime.{Every};
+ghost use Rattle.data_url.specs.Mime.{Every, IsWellformed, Parses, Record, printed};
 ghost use Rattle.data_url.specs.Percent.{percent_decoded};
+ghost use Rattle.data_url.specs.Seen.{SameTexts, seen};
 ghost use Rattle.data_url.specs.Url.{in_path_set, in_query_set, percent_encoded};
+
+use crate::mime::Mime;
+
+/// A record that a parse can give prints to a text that is a MIME type (MIME Sniffing Standard, sections 4.4 and 4.5), and
+/// that text has the record and no other.
+pub fn canonical(mime: &Mime)
+    requires { IsWellformed (seen mime.now) }
+    ensures parses { Parses (printed (seen mime.now)) (seen mime.now) }
+    ensures only { (other : Record) → Parses (printed (seen mime.now)) other → other ≡ seen mime.now }
+{}
+
+/// Two records that a parse can give are equal, as by `==`, exactly if their printed texts are (MIME Sniffing Standard,
+/// section 4.5).
+pub fn same_text(first: &Mime, second: &Mime)
+    requires first { IsWellformed (seen first.now) }
+    requires second { IsWellformed (seen second.now) }
+    ensures { SameTexts first.now second.now ↔ (printed (seen first.now) ≡ printed (seen second.now)) }
+{}
 
 /// The encoded text of a fragment, read again behind `data:,#`, is encoded to itself (Fetch Standard, section 6, by the URL
 /// Standard, section 4.4, fragment state). It has U+0021 to U+007E alone, without `"`, `<`, `>` and the backquote.

@@ -1,0 +1,9 @@
+use Rattle.data_url.specs.Seen.{seen}
+use Rattle.data_url.proofs.RoundTripLemmas.{printed_only, printed_parses}
+use Rattle.data_url.proofs.laws.canonical.Goals as goal
+
+pub returns-clause-parses : goal.returns-clause-parses
+returns-clause-parses c = printed_parses (seen c.args.mime.now) c.requires
+
+pub returns-clause-only : goal.returns-clause-only
+returns-clause-only c = printed_only (seen c.args.mime.now) c.requires
