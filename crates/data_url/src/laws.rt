@@ -40,8 +40,8 @@ pub fn two_feeds(first: &[u8], second: &[u8])
     ensures { TwoFeeds first.now second.now }
 {}
 
-/// Percent-encoding is undone by percent-decoding, and changes no escape that was there before (URL Standard, section 1.3):
-/// bytes decode to the same as their encoded form does, by the set of a path and by that of a query.
+/// Encoding bytes before they are percent-decoded changes nothing (URL Standard, section 1.3): bytes decode to the same as
+/// their encoded form does, by the set of a path and by that of a query.
 pub fn encoding_first(bytes: &[u8])
     ensures path { percent_decoded bytes.now ≡ percent_decoded (percent_encoded in_path_set bytes.now) }
     ensures query { percent_decoded bytes.now ≡ percent_decoded (percent_encoded in_query_set bytes.now) }

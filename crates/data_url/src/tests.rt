@@ -242,3 +242,41 @@ fn base64_in_pieces(rt: HostRuntime) -> Result<(), Fail> {
     assert!(rt; bytes.as_slice() == "ab".as_bytes());
     Ok(())
 }
+
+#[test]
+fn printed_again(rt: HostRuntime) -> Result<(), Fail> {
+    for text in [
+        "a/b;c=\"?x%20\"",
+        "TEXT/HTML;a=\"b;c\";d=;e=\"\"",
+        "x/x;a=1;A=2",
+        "x/x;a=\"\\",
+        "a/b;c=\"?%3C%22?%3E\"",
+        "x/x;a=\"q\\\"r\";b=\"\\a\";c=d\"e;f=\"g",
+    ] {
+        let mime = Mime::from_str(rt.alloc(), text)?;
+        let printed = format!(in rt.alloc(); "{mime}")?;
+        let again = Mime::from_str(rt.alloc(), printed.as_str())?;
+        assert!(rt; again == mime, "{text}");
+    }
+    Ok(())
+}
+
+/// The encoded fragment of a data: URL, or nothing.
+fn encoded_fragment(alloc: Global, text: &str) -> Result<String, Fail> {
+    let url = DataUrl::process(alloc, text)?;
+    let (_, fragment) = url.decode_to_vec(alloc)?;
+    match fragment {
+        Some(fragment) => Ok(fragment.to_percent_encoded(alloc)?),
+        None => Ok(String::new(alloc)),
+    }
+}
+
+#[test]
+fn fragment_read_again(rt: HostRuntime) -> Result<(), Fail> {
+    let encoded = encoded_fragment(rt.alloc(), "data:,#a\t`\u{e9}")?;
+    assert!(rt; encoded.as_str() == "a%60%C3%A9");
+    let text = format!(in rt.alloc(); "data:,#{encoded}")?;
+    let again = encoded_fragment(rt.alloc(), text.as_str())?;
+    assert!(rt; again == encoded);
+    Ok(())
+}
