@@ -1,5 +1,6 @@
 use crate::DataUrl;
 use crate::forgiving_base64::{self, DecodeError, Decoder};
+use crate::laws::{canonical, same_text};
 use crate::mime::Mime;
 use std::alloc::{AllocError, Global};
 use std::test::Fail;
@@ -256,6 +257,8 @@ fn printed_again(rt: HostRuntime) -> Result<(), Fail> {
         let mime = Mime::from_str(rt.alloc(), text)?;
         let printed = format!(in rt.alloc(); "{mime}")?;
         let again = Mime::from_str(rt.alloc(), printed.as_str())?;
+        canonical(&mime);
+        same_text(&mime, &again);
         assert!(rt; again == mime, "{text}");
     }
     Ok(())
