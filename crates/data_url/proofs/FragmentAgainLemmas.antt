@@ -1,18 +1,17 @@
 -- An encoded fragment is read again as it is.
-use Rattle.std.proofs.Common.{◌≡◌, ℕ, ◌-◌, ◌/◌, ◌%◌, ◌<◌, ◌≤◌, Bool, true, false, not, cond, List, [], ◌∷◌, ◌++◌, length, take, drop, reverse, map, Option, None, Some, codes, refl, sym, ap, ◌∙◌, subst, arith}
+use Rattle.std.proofs.Common.{◌≡◌, ℕ, ◌-◌, ◌/◌, ◌%◌, ◌<◌, ◌≤◌, Bool, true, false, not, cond, List, [], ◌∷◌, ◌++◌, length, take, drop, reverse, map, None, Some, codes, refl, sym, ap, ◌∙◌, subst, arith}
 use Rattle.std.specs.Prelude.{◌==◌, ◌||◌, ◌&&◌, nat_le, option_and_then}
 use Rattle.std.specs.Option.{option_map}
 use Rattle.std.specs.Char.{to_ascii_lowercase}
 use Rattle.std.specs.Int.{is_in_range}
 use Rattle.std.specs.List.{prefix_len, suffix_len}
 use Rattle.std.specs.Str.{bytes_eq}
-use Rattle.std.proofs.lemmas.Bool.{agree_below_at, and_left, and_parts, both_ways, cond-false, cond_both, false_from_ne_true, leb-true, not-false}
+use Rattle.std.proofs.lemmas.Bool.{agree_below_at, and_parts, both_ways, cond-false, cond_both, false_from_ne_true, leb-true}
 use Rattle.std.proofs.lemmas.List.{reverse-append, take_all}
-use Rattle.data_url.specs.Url.{after_scheme, before, behind, cleaned, dropped, encoded_byte, fragment, front, hex_digit, in_fragment_set, is_c0_control_or_space, is_tab_or_newline, percent_encoded, serialised, trimmed, without_end, without_front}
-use Rattle.data_url.specs.Fetch.{before_comma, encoded_body, has_base64_suffix, header_of, mime_text, outcome, staged, staged_after, staged_fragment, staged_front, staged_parts}
-use Rattle.data_url.specs.Laws.{IsReadAgain, encoded_fragment, is_fragment_byte}
-use Rattle.data_url.specs.Mime.{DoesNotBegin, Every}
-use Rattle.data_url.specs.Percent.{percent_decoded}
+use Rattle.data_url.specs.Url.{after_scheme, before, behind, cleaned, dropped, encoded_byte, fragment, front, hex_digit, in_fragment_set, is_c0_control_or_space, is_tab_or_newline, percent_encoded, serialised, trimmed, without_end}
+use Rattle.data_url.specs.Fetch.{before_comma, encoded_body, header_of, staged, staged_after, staged_fragment, staged_front, staged_parts}
+use Rattle.data_url.specs.Laws.{IsReadAgain, is_fragment_byte}
+use Rattle.data_url.specs.Mime.{Every}
 use Rattle.data_url.proofs.RecodedLemmas.{IsBytes, encoded_cons, encoded_nil}
 use Rattle.data_url.proofs.RecordLemmas.{every_append, every_from_all}
 use Rattle.data_url.proofs.UrlLemmas.{dropped_keeps, dropped_nil}

@@ -1,11 +1,10 @@
 -- The printed text of a record that a parse can give has that record.
-use Rattle.std.proofs.Common.{◌≡◌, ℕ, ◌==◌, ◌||◌, ◌&&◌, Bool, true, false, not, cond, List, [], ◌∷◌, ◌++◌, Option, None, Some, map, refl, sym, ap, ◌∙◌, subst, append-nil}
+use Rattle.std.proofs.Common.{◌≡◌, ℕ, ◌==◌, ◌||◌, ◌&&◌, Bool, true, false, not, List, [], ◌∷◌, ◌++◌, Some, map, refl, sym, ap, ◌∙◌, subst, append-nil}
 use Rattle.std.proofs.lemmas.Bool.{agree_below, agree_below_at, and_from, and_parts, both_ways, cond-false, cond-true, cond_both, eqb-false, false_from_ne_true, not-true, or_parts}
-use Rattle.std.specs.Char.{to_ascii_lowercase}
 use Rattle.std.specs.List.{AllByRecursion, flat_map, list_all}
 use Rattle.std.specs.Str.{bytes_eq}
 use Rattle.data_url.specs.CodePoints.{ends_name, is_http_whitespace, is_quotable, is_semicolon, is_token}
-use Rattle.data_url.specs.Mime.{BeginsParameters, DoesNotBegin, DoesNotEnd, Escaped, Every, GivesValue, IsHead, IsParameter, IsTrimmed, IsTrimmedEnd, IsWellformed, Item, Items, Pair, Parses, Plain, Quoted, Record, Without, escaped, first_of_each_name, has_distinct_names, has_name, is_lowercase_name, is_quote, is_token_text, kept, plain, printed, printed_pair, printed_value, quoted, unless_empty, valid_of, valid_pairs}
+use Rattle.data_url.specs.Mime.{BeginsParameters, DoesNotBegin, DoesNotEnd, Escaped, Every, GivesValue, IsHead, IsParameter, IsTrimmed, IsTrimmedEnd, IsWellformed, Item, Items, Pair, Parses, Plain, Quoted, Record, Without, escaped, first_of_each_name, has_distinct_names, has_name, is_lowercase_name, is_quote, is_token_text, kept, plain, printed, printed_pair, printed_value, quoted, unless_empty, valid_pairs}
 use Rattle.data_url.proofs.ItemLemmas.{not_begins_append}
 use Rattle.data_url.proofs.KeptLemmas.{has_append, lower_is_itself, lowercase_token, test_from_different, test_from_equal}
 use Rattle.data_url.proofs.QuotedLemmas.{quoted_more, quoted_nil}
