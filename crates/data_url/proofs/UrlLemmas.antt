@@ -2,7 +2,8 @@
 use Rattle.std.proofs.Common.{◌≡◌, ℕ, zero, suc, ◌+◌, ◌<◌, Bool, true, false, not, cond, List, [], ◌∷◌, ◌++◌, length, get_or, Option, None, Some, refl, sym, ap, ◌∙◌, inl, inr, arith, eqb, eqb-true, eq-eqb}
 use Rattle.std.specs.Prelude.{◌==◌}
 use Rattle.std.proofs.lemmas.Bool.{cases_Bool, cond-true, cond-false}
-use Rattle.data_url.specs.Url.{before, behind, dropped, is_tab_or_newline}
+use Rattle.std.specs.Option.{option_map}
+use Rattle.data_url.specs.Url.{before, behind, dropped, fragment, is_tab_or_newline}
 
 -- one byte on
 
@@ -122,3 +123,16 @@ behind-dropped_none c k (b ∷ s) h = let l = lacks c b s h in elim (cases_Bool 
 -- dropping, where a byte that is kept stands between
 pub dropped_around : (c : ℕ) → is_tab_or_newline c ≡ false → (a s : List ℕ) → dropped (a ++ c ∷ s) ≡ dropped a ++ c ∷ dropped s
 dropped_around c k a s = dropped-append a (c ∷ s) ∙ ap (λ t. dropped a ++ t) (dropped_keeps c s k)
+
+fragment_cases : (tail : List ℕ) (o : Option (List ℕ)) → behind 35 tail ≡ o → fragment (dropped tail) ≡ option_map dropped o
+unfolding fragment
+fragment_cases tail None h = behind-dropped_none 35 refl tail h
+fragment_cases tail (Some rest) h =
+    let cut = is_cut 35 tail rest h in
+    ap (λ t. behind 35 (dropped t)) cut.joined
+    ∙ ap (behind 35) (dropped_around 35 refl (before 35 tail) rest)
+    ∙ behind_at 35 (dropped (before 35 tail)) (dropped rest) (behind-dropped_none 35 refl (before 35 tail) cut.lacks)
+
+-- tabs and newlines may be dropped before the fragment is cut off or after it
+pub fragment_dropped : (tail : List ℕ) → fragment (dropped tail) ≡ option_map dropped (behind 35 tail)
+fragment_dropped tail = fragment_cases tail (behind 35 tail) refl

@@ -1,8 +1,10 @@
 //! Facts about the definitions, each the contract of a function that does nothing.
 
-ghost use Rattle.std.specs.Prelude.{ℕ, List};
+ghost use Rattle.std.specs.Prelude.{◌≡◌, ℕ, List};
+ghost use Rattle.std.specs.Option.{option_map};
 ghost use Rattle.data_url.specs.Base64.{first_fault};
 ghost use Rattle.data_url.specs.Mime.{BeginsParameters};
+ghost use Rattle.data_url.specs.Url.{behind, dropped, fragment};
 ghost use Rattle.data_url.specs.Laws.{HasAtMostOneRecord, HasOneItemList, IsFirstFault, PaddingFits};
 
 /// A text that is empty or begins with `;` has exactly one list of items.
@@ -23,4 +25,9 @@ pub(crate) fn padding_fits()
 /// The first fault is the least place of one, and is there where there is one.
 pub(crate) fn least_fault()
     ensures { (b : List ℕ) → IsFirstFault b (first_fault b) }
+{}
+
+/// Tabs and newlines may be dropped before the fragment is cut off or from the fragment itself.
+pub(crate) fn fragment_dropped()
+    ensures { (tail : List ℕ) → fragment (dropped tail) ≡ option_map dropped (behind 35 tail) }
 {}

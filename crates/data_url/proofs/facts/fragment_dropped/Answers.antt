@@ -1,0 +1,5 @@
+use Rattle.data_url.proofs.UrlLemmas as lemmas
+use Rattle.data_url.proofs.facts.fragment_dropped.Goals as goal
+
+pub returns : goal.returns
+returns c = lemmas.fragment_dropped
