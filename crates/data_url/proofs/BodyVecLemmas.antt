@@ -47,3 +47,7 @@ module _ {F E A : Type 0} {step : F → List ℕ → Result (Unit {0}) E → F �
 
   pub body_keeps : {B : Type 0} → Decodes step f most body good r f' → (K : F → B) → ((g : F) (piece : List ℕ) (s : Result (Unit {0}) E) (g' : F) → step g piece s g' → K g ≡ K g') → K f ≡ K f'
   body_keeps h K keeps = run_keeps step K keeps h.run f f' h.ran
+
+  -- an answer Ok comes of a good body
+  pub body_good : {x : A} → Decodes step f most body good r f' → r ≡ Ok x → (all : List ℕ) × (body ≡ Good all)
+  body_good {x} h q = let k = ok_given (refusal h.run) body good (joined h.run) r x q h.gave in (joined h.run, k.1.body_is)

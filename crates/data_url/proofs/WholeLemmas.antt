@@ -4,7 +4,7 @@ use Rattle.std.specs.Prelude.{MatchBool, MatchOption}
 use Rattle.std.proofs.lemmas.List.{append-nil}
 use Rattle.std.proofs.lemmas.Bool.{cond-true}
 use Rattle.data_url.specs.Base64.{decoded, done, first_fault, is_valid, kind_of, left_padding, left_symbols, left_text}
-use Rattle.data_url.specs.Decoding.{Decodes, Feeds, Finishes, IsAll, IsRefused, IsTaken, State, left_over}
+use Rattle.data_url.specs.Decoding.{Decodes, Feeds, Finishes, IsAll, IsRefused, IsTaken, State, left_over, start}
 use Rattle.data_url.specs.Laws.{GoesOn}
 use Rattle.data_url.specs.Run.{Call, IsPrefix, IsRun, joined, or_error, refusal}
 use Rattle.data_url.specs.declared.forgiving_base64.DecodeError.{DecodeError}
@@ -98,10 +98,6 @@ module _ {F E : Type 0} (step : F → List ℕ → Result (Unit {0}) E → F →
                   (bool_at_false (is_valid u) _ _ (valid ∙ v) (bytes ∙ ap (λ x. done u ++ joined x) h.0 ∙ append-nil (done u), h.1 ∙ ap (λ z. Err (InvalidBase64 z)) (sym kind)))
             ]);
       }
-
-  -- a decoder that begins at a closure
-  abbrev pub start : F → State F
-  start f = record { closure = f; symbols = []; padding = 0; failed = false }
 
   -- a new decoder was fed nothing
   pub fed_nothing : {d : State F} {f : F} → d ≡ start f → Feeds step (start f) [] (Ok tt) d

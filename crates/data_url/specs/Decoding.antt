@@ -1,5 +1,5 @@
 -- What feeding and finishing a decoder does (Infra Standard, section 8), by the texts that it was given.
-use Rattle.std.specs.Prelude.{◌≡◌, ℕ, ◌+◌, ◌≤◌, Bool, cond, List, [], ◌++◌, length, MatchBool, MatchOption, Result, Ok, Err, is_err}
+use Rattle.std.specs.Prelude.{◌≡◌, ℕ, ◌+◌, ◌≤◌, Bool, false, cond, List, [], ◌++◌, length, MatchBool, MatchOption, Result, Ok, Err, is_err}
 use Rattle.data_url.specs.Base64.{decoded, done, first_fault, is_valid, kind_of, left_padding, left_symbols, left_text}
 use Rattle.data_url.specs.Run.{Call, IsPrefix, IsRun, joined, refusal}
 use Rattle.data_url.specs.declared.forgiving_base64.DecodeError.{DecodeError}
@@ -11,6 +11,10 @@ pub record State (F : Type 0) : Type 0 where
   pub symbols : List ℕ
   pub padding : ℕ
   pub failed : Bool
+
+-- a decoder that has seen nothing yet, over a closure
+abbrev pub start : {F : Type 0} → F → State F
+start f = record { closure = f; symbols = []; padding = 0; failed = false }
 
 -- the text that a decoder has left over
 abbrev pub left_over : {F : Type 0} → State F → List ℕ

@@ -34,7 +34,7 @@ where
     F: FnMut(&[u8]) -> Result<(), E>,
 {
     ghost use Rattle.std.specs.Fn.{CalledAt};
-    ghost use Rattle.data_url.specs.Decoding.{Feeds, Finishes, State};
+    ghost use Rattle.data_url.specs.Decoding.{Feeds, Finishes, start};
     ghost use Rattle.data_url.specs.DecoderState.{state_of};
     ghost use Rattle.data_url.specs.Refusal.{kind_of_details};
     ghost use Rattle.data_url.specs.Steps.{Writes};
@@ -43,7 +43,7 @@ where
     /// called on any bytes, whatever it was called with before.
     pub fn new(write_bytes: F) -> Self
         requires { F.IsAlwaysCallable write_bytes }
-        ensures state { state_of result ≡ record { closure = write_bytes; symbols = []; padding = 0; failed = false } }
+        ensures state { state_of result ≡ start write_bytes }
         ensures callable { F.IsAlwaysCallable (state_of result).closure }
     {
         Decoder {
