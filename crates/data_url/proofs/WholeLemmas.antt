@@ -24,7 +24,8 @@ split_bool false P Q h = inr (refl, h)
 abbrev pub whole_bytes : List ℕ → List ℕ
 whole_bytes u = cond (is_valid u) (decoded u) (done u)
 
-done_whole : (u : List ℕ) → IsPrefix (done u) (whole_bytes u)
+-- what was handed out before a fault is a beginning of all
+pub done_whole : (u : List ℕ) → IsPrefix (done u) (whole_bytes u)
 done_whole u =
     elim (is_valid u) as (λ v. is_valid u ≡ v → IsPrefix (done u) (cond v (decoded u) (done u))) [
       | true ↦ λ e.

@@ -1,0 +1,59 @@
+-- Writing bytes, part by part.
+use Rattle.std.proofs.Common.{◌≡◌, ℕ, ◌<◌, List, [], ◌∷◌, ◌++◌, length, take, drop, Option, None, Some, Result, Ok, Err, refl, sym, ap, ◌∙◌, append_assoc, take-append-drop, take_all, length-drop, le_of_eq, ◌-◌, subst}
+use Rattle.std.proofs.lemmas.List.{append-nil}
+use Rattle.std.specs.Io.KnownBytes.{Appends, Keeps}
+use Rattle.data_url.specs.Run.{IsPrefix}
+use Rattle.dataurl.specs.Writing.{IsWritten, Writes, all, beginning}
+use Rattle.dataurl.specs.declared.fault.WriteFailed.{WriteFailed}
+
+pub appends_none : (old : Option (List ℕ)) → Appends old old []
+appends_none None = tt
+appends_none (Some xs) = sym (append-nil xs)
+
+pub appends_then : (a b c : Option (List ℕ)) (x y : List ℕ) → Appends a b x → Appends b c y → Appends a c (x ++ y)
+appends_then None b c x y h k = tt
+appends_then (Some p) None c x y h k = absurd h
+appends_then (Some p) (Some q) None x y h k = absurd k
+appends_then (Some p) (Some q) (Some r) x y h k = k ∙ ap (λ s. s ++ y) h ∙ append_assoc p x y
+
+pub appends_kept : (a b c : Option (List ℕ)) (x : List ℕ) → Appends a b x → Keeps b c → Appends a c x
+appends_kept None b c x h k = tt
+appends_kept (Some p) None c x h k = absurd h
+appends_kept (Some p) (Some q) None x h k = absurd k
+appends_kept (Some p) (Some q) (Some r) x h k = k ∙ h
+
+-- so much of the bytes was written, and the rest is not yet
+pub record Going (bytes rest : List ℕ) (old now : Option (List ℕ)) : Type 0 where
+  pub written : List ℕ
+  pub appended : Appends old now written
+  pub joined : bytes ≡ written ++ rest
+
+pub going_none : (bytes : List ℕ) (old : Option (List ℕ)) → Going bytes bytes old old
+going_none bytes old = record { written = []; appended = appends_none old; joined = refl }
+
+pub going_more : (bytes rest : List ℕ) (n : ℕ) (old now new : Option (List ℕ)) → Going bytes rest old now → Appends now new (take n rest) → Going bytes (drop n rest) old new
+going_more bytes rest n old now new g a = record {
+  written = g.written ++ take n rest;
+  appended = appends_then old now new g.written (take n rest) g.appended a;
+  joined = g.joined ∙ ap (λ s. g.written ++ s) (sym (take-append-drop n rest)) ∙ sym (append_assoc g.written (take n rest) (drop n rest));
+}
+
+pub going_ends : (bytes rest : List ℕ) (old now : Option (List ℕ)) → rest ≡ [] → Going bytes rest old now → Writes bytes old now (Ok tt)
+going_ends bytes rest old now e g =
+    let same : g.written ≡ bytes = sym (append-nil g.written) ∙ ap (λ s. g.written ++ s) (sym e) ∙ sym g.joined in
+    let P : List ℕ → Type 0 = λ w. IsWritten bytes w (Ok tt) in
+    record { written = g.written; appended = g.appended; is_written = subst P (sym same) all }
+
+pub going_fails : (bytes rest : List ℕ) (old now new : Option (List ℕ)) (failed : WriteFailed) → Keeps now new → Going bytes rest old now → Writes bytes old new (Err failed)
+going_fails bytes rest old now new failed k g =
+    record { written = g.written; appended = appends_kept old now new g.written g.appended k; is_written = beginning (rest, g.joined) }
+
+-- nothing was taken
+pub going_stops : (bytes rest : List ℕ) (n : ℕ) (old now new : Option (List ℕ)) (failed : WriteFailed) → Appends now new (take n rest) → Going bytes rest old now → Writes bytes old new (Err failed)
+going_stops bytes rest n old now new failed a g =
+    let m = going_more bytes rest n old now new g a in
+    record { written = m.written; appended = m.appended; is_written = beginning (drop n rest, m.joined) }
+
+-- a slice from a place to the end
+pub to_the_end : (n : ℕ) (s t : List ℕ) → t ≡ s → take (length t - n) (drop n s) ≡ drop n s
+to_the_end n s t e = ap (λ k. take (k - n) (drop n s)) (ap length e) ∙ take_all (length s - n) (drop n s) (le_of_eq (length-drop n s))

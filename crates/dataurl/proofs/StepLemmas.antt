@@ -1,0 +1,107 @@
+-- What the parts of a run write.
+use Rattle.std.proofs.Common.{◌≡◌, ℕ, List, [], ◌∷◌, ◌++◌, Option, None, Some, option_map, Result, Ok, Err, refl, sym, ap, ◌∙◌, subst, chars}
+use Rattle.std.specs.Io.KnownBytes.{Appends}
+use Rattle.data_url.specs.Base64.{Kind}
+use Rattle.data_url.specs.Decodes.{Decodes}
+use Rattle.data_url.specs.Fetch.{Bad, Good, Outcome, mime_text}
+use Rattle.data_url.specs.Mime.{HasNoRecord, Parses}
+use Rattle.data_url.specs.Parsing.{IsParsingError}
+use Rattle.data_url.specs.Seen.{seen}
+use Rattle.data_url.specs.Url.{behind, dropped, fragment, in_fragment_set, percent_encoded}
+use Rattle.data_url.specs.UrlSeen.{IsFragmentOf, IsUrlOf, fragment_text, mime_of, url_body, url_tail}
+use Rattle.data_url.specs.declared.DataUrl.{DataUrl}
+use Rattle.data_url.specs.declared.FragmentIdentifier.{FragmentIdentifier}
+use Rattle.data_url.specs.declared.forgiving_base64.DecodeError.{DecodeError}
+use Rattle.data_url.specs.declared.forgiving_base64.DecodeError.TheVariants.{InvalidBase64}
+use Rattle.data_url.specs.declared.mime.Mime.{Mime}
+use Rattle.data_url.specs.declared.mime.MimeFromStrError.{MimeFromStrError}
+use Rattle.data_url.specs.declared.mime.MimeFromStrError.TheVariants.{Parsing}
+use Rattle.data_url.specs.declared.mime.MimeParsingError.{MimeParsingError}
+use Rattle.data_url.proofs.BodyVecLemmas.{body_answer, body_fault, body_good}
+use Rattle.data_url.proofs.UrlLemmas.{fragment_dropped}
+use Rattle.dataurl.specs.Output.{End, IsFragmentOutput, IsTextOutput, IsTypeOutput, fragment_of_bad, record_line, record_of_text, some_fragment, type_of, without_fragment, without_record}
+use Rattle.dataurl.specs.Steps.{IsExactly, IsWrittenOf, WritesOf, cut_output, encoded_fragment, exactly, fragment_line, no_output, whole_output}
+use Rattle.dataurl.specs.Writing.{IsWritten, Writes, all, beginning}
+use Rattle.dataurl.specs.declared.fault.Fault.TheVariants.{Base64, Memory, Mime as no_mime, Write}
+use Rattle.dataurl.specs.declared.fault.WriteFailed.{WriteFailed}
+use Rattle.dataurl.specs.declared.run.Command.TheVariants.{Canonical}
+use Rattle.dataurl.proofs.OutputLemmas.{appends_none}
+
+written_map : {P Q : List ℕ → End → Type 0} → ((w : List ℕ) (e : End) → P w e → Q w e) → (w : List ℕ) (e : End) → IsWrittenOf P w e → IsWrittenOf Q w e
+written_map f w e (whole_output h) = whole_output (f w e h)
+written_map f w e (cut_output {whole = whole} {end = end} h p) = cut_output (f whole end h) p
+written_map f w e no_output = no_output
+
+-- what was written of an output is so of what that output means
+pub writes_map : {P Q : List ℕ → End → Type 0} {held now : Option (List ℕ)} {r : End} → ((w : List ℕ) (e : End) → P w e → Q w e) → WritesOf P held now r → WritesOf Q held now r
+writes_map {r = r} f h = record { written = h.written; appended = h.appended; is_written = written_map f h.written r h.is_written }
+
+exactly_is : (P : List ℕ → End → Type 0) (bytes w : List ℕ) (e : End) → P bytes (Ok tt) → IsExactly bytes w e → P w e
+exactly_is P bytes w e p exactly = p
+
+-- an output whose bytes are known
+pub writes_as : {P : List ℕ → End → Type 0} {bytes : List ℕ} {held now : Option (List ℕ)} {r : End} → P bytes (Ok tt) → WritesOf (IsExactly bytes) held now r → WritesOf P held now r
+writes_as {P} {bytes} p h = writes_map (λ w e x. exactly_is P bytes w e p x) h
+
+pub writes_nothing : {P : List ℕ → End → Type 0} {r : End} (held : Option (List ℕ)) → P [] r → WritesOf P held held r
+writes_nothing held p = record { written = []; appended = appends_none held; is_written = whole_output p }
+
+pub writes_no_memory : {P : List ℕ → End → Type 0} (held : Option (List ℕ)) → WritesOf P held held (Err Memory)
+writes_no_memory held = record { written = []; appended = appends_none held; is_written = no_output }
+
+exact_whole : (bytes w : List ℕ) (r : Result (Unit {0}) WriteFailed) → r ≡ Ok tt → IsWritten bytes w r → IsWrittenOf (IsExactly bytes) w (Ok tt)
+exact_whole bytes w r e all = whole_output exactly
+exact_whole bytes w r e (beginning p) = absurd (let k = e in cc)
+
+exact_cut : (bytes w : List ℕ) (r : Result (Unit {0}) WriteFailed) (failed : WriteFailed) → r ≡ Err failed → IsWritten bytes w r → IsWrittenOf (IsExactly bytes) w (Err Write)
+exact_cut bytes w r failed e all = absurd (let k = e in cc)
+exact_cut bytes w r failed e (beginning p) = cut_output exactly p
+
+pub writes_exactly : {bytes : List ℕ} {held now : Option (List ℕ)} → Writes bytes held now (Ok tt) → WritesOf (IsExactly bytes) held now (Ok tt)
+writes_exactly {bytes} h = record { written = h.written; appended = h.appended; is_written = exact_whole bytes h.written (Ok tt) refl h.is_written }
+
+pub writes_beginning : {bytes : List ℕ} {held now : Option (List ℕ)} {failed : WriteFailed} → Writes bytes held now (Err failed) → WritesOf (IsExactly bytes) held now (Err Write)
+writes_beginning {bytes} {failed = failed} h = record { written = h.written; appended = h.appended; is_written = exact_cut bytes h.written (Err failed) failed refl h.is_written }
+
+-- MIME types
+
+pub type_refused : (x : List ℕ) (r : Result Mime MimeFromStrError) (e : MimeFromStrError) (p : MimeParsingError) → r ≡ Err e → e ≡ Parsing p → (IsParsingError r → HasNoRecord (chars x)) → IsTextOutput x Canonical [] (Err no_mime)
+type_refused x r e p h k refused =
+    let P : MimeFromStrError → Type 0 = λ f. IsParsingError (Err f) in
+    type_of (without_record (refused (subst IsParsingError (sym h) (subst P (sym k) tt))))
+
+-- Fragments
+
+abbrev encoded_line : Option (List ℕ) → List ℕ
+encoded_line None = []
+encoded_line (Some f) = percent_encoded in_fragment_set f ++ 10 ∷ []
+
+line_is : (bytes : List ℕ) (f : Option (List ℕ)) → IsFragmentOutput (Good bytes) (option_map (percent_encoded in_fragment_set) f) (encoded_line f) (Ok tt)
+line_is bytes None = without_fragment
+line_is bytes (Some f) = some_fragment
+
+found_line : (tail bytes : List ℕ) (found : Option FragmentIdentifier) → IsFragmentOf tail found → IsFragmentOutput (Good bytes) (option_map (percent_encoded in_fragment_set) (fragment (dropped tail))) (encoded_line (option_map dropped (option_map fragment_text found))) (Ok tt)
+found_line tail bytes found h =
+    let same : option_map dropped (option_map fragment_text found) ≡ fragment (dropped tail) = ap (option_map dropped) h ∙ sym (fragment_dropped tail) in
+    let P : Option (List ℕ) → Type 0 = λ f. IsFragmentOutput (Good bytes) (option_map (percent_encoded in_fragment_set) f) (encoded_line (option_map dropped (option_map fragment_text found))) (Ok tt) in
+    subst P same (line_is bytes (option_map dropped (option_map fragment_text found)))
+
+module _ {F E : Type 0} {step : F → List ℕ → Result (Unit {0}) E → F → Type 0} {f g : F} {most : ℕ} {r : Result (Option FragmentIdentifier) (DecodeError E)} where
+  of_found : (url : DataUrl) {x : Option FragmentIdentifier} → Decodes step f most (url_body url) (IsFragmentOf (url_tail url)) r g → r ≡ Ok x → IsFragmentOutput (url_body url) (encoded_fragment url) (encoded_line (option_map dropped (option_map fragment_text x))) (Ok tt)
+  of_found url {x} h e =
+      let good = body_good h e in
+      let P : Outcome → Type 0 = λ o. IsFragmentOutput o (encoded_fragment url) (encoded_line (option_map dropped (option_map fragment_text x))) (Ok tt) in
+      subst P (sym good.1) (found_line (url_tail url) good.0 x (body_answer h e))
+
+  pub fragment_there : (url : DataUrl) {found : FragmentIdentifier} → Decodes step f most (url_body url) (IsFragmentOf (url_tail url)) r g → r ≡ Ok (Some found) → IsFragmentOutput (url_body url) (encoded_fragment url) (fragment_line found) (Ok tt)
+  fragment_there url h e = of_found url h e
+
+  pub fragment_missing : (url : DataUrl) → Decodes step f most (url_body url) (IsFragmentOf (url_tail url)) r g → r ≡ Ok None → IsFragmentOutput (url_body url) (encoded_fragment url) [] (Ok tt)
+  fragment_missing url h e = of_found url h e
+
+  pub fragment_refused : (url : DataUrl) {kind kind' : _} → Decodes step f most (url_body url) (IsFragmentOf (url_tail url)) r g → r ≡ Err (InvalidBase64 kind) → kind' ≡ kind → IsFragmentOutput (url_body url) (encoded_fragment url) [] (Err (Base64 kind'))
+  fragment_refused url {kind} {kind'} h e k =
+      let bad = body_fault h e in
+      let P : Outcome → Type 0 = λ o. IsFragmentOutput o (encoded_fragment url) [] (Err (Base64 kind')) in
+      let Q : Kind → Type 0 = λ j. IsFragmentOutput (Bad bad.0 j) (encoded_fragment url) [] (Err (Base64 kind')) in
+      subst P (sym bad.1) (subst Q k fragment_of_bad)

@@ -1,0 +1,35 @@
+-- The words of the commands.
+use Rattle.std.specs.Prelude.{ℕ, List, [], ◌∷◌, Option, None, Some, cond, codes}
+use Rattle.std.specs.Str.{bytes_eq}
+use Rattle.dataurl.specs.declared.run.Command.{Command}
+use Rattle.dataurl.specs.declared.run.Command.TheVariants.{Base64, Body, Canonical, Fragment, MimeType}
+
+-- the command of a word
+abbrev pub command_of_word : List ℕ → Option Command
+command_of_word word = cond (bytes_eq word (codes "body")) (Some Body)
+    (cond (bytes_eq word (codes "mime")) (Some MimeType)
+    (cond (bytes_eq word (codes "fragment")) (Some Fragment)
+    (cond (bytes_eq word (codes "type")) (Some Canonical)
+    (cond (bytes_eq word (codes "base64")) (Some Base64) None))))
+
+-- the command of the words behind the program's name: there has to be exactly one
+abbrev pub command_of_words : List (List ℕ) → Option Command
+command_of_words [] = None
+command_of_words (word ∷ []) = command_of_word word
+command_of_words (word ∷ other ∷ words) = None
+
+-- the command takes a data: URL
+abbrev pub TakesUrl : Command → Type 0
+TakesUrl Body = Unit {0}
+TakesUrl MimeType = Unit {0}
+TakesUrl Fragment = Unit {0}
+TakesUrl Canonical = ⊥
+TakesUrl Base64 = ⊥
+
+-- the command takes a text: its whole input is read into memory, and has to be UTF-8
+abbrev pub TakesText : Command → Type 0
+TakesText Body = Unit {0}
+TakesText MimeType = Unit {0}
+TakesText Fragment = Unit {0}
+TakesText Canonical = Unit {0}
+TakesText Base64 = ⊥

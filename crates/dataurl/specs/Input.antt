@@ -1,0 +1,30 @@
+-- What reading a whole input does.
+use Rattle.std.specs.Prelude.{◌≡◌, ℕ, List, Option, Result, Ok, Err, Vec, String, string_bytes, IsUtf8}
+use Rattle.std.specs.Global.{Global}
+use Rattle.std.specs.Io.KnownBytes.{Consumes, IsAtEnd}
+use Rattle.dataurl.specs.declared.fault.Fault.{Fault}
+use Rattle.dataurl.specs.declared.fault.Fault.TheVariants.{Memory, NotUtf8, Read}
+
+-- what was made of the bytes that were read, where left is what was not
+pub data IsRead (left : Option (List ℕ)) (input : List ℕ) : Result (Vec ℕ Global) Fault → Type 0 where
+  whole : {bytes : Vec ℕ Global} → bytes.items ≡ input → IsAtEnd left → IsRead left input (Ok bytes)
+  no_memory : IsRead left input (Err Memory)
+  read_failed : IsRead left input (Err Read)
+
+-- a reader gave bytes, and these came of them
+pub record ReadsAll (old new : Option (List ℕ)) (r : Result (Vec ℕ Global) Fault) : Type 0 where
+  pub input : List ℕ
+  pub consumed : Consumes old new input
+  pub is_read : IsRead new input r
+
+-- the same, of a text
+pub data IsReadText (left : Option (List ℕ)) (input : List ℕ) : Result (String Global) Fault → Type 0 where
+  whole_text : {text : String Global} → string_bytes text ≡ input → IsUtf8 input → IsAtEnd left → IsReadText left input (Ok text)
+  not_utf8 : (IsUtf8 input → ⊥) → IsAtEnd left → IsReadText left input (Err NotUtf8)
+  no_text_memory : IsReadText left input (Err Memory)
+  text_read_failed : IsReadText left input (Err Read)
+
+pub record ReadsText (old new : Option (List ℕ)) (r : Result (String Global) Fault) : Type 0 where
+  pub input : List ℕ
+  pub consumed : Consumes old new input
+  pub is_read : IsReadText new input r

@@ -1,0 +1,74 @@
+-- What the parts of a run do.
+use Rattle.std.specs.Prelude.{◌≡◌, ℕ, List, [], ◌∷◌, ◌++◌, Option, option_map, Result, Ok, Err}
+use Rattle.std.specs.Io.KnownBytes.{Appends, Consumes, IsAtEnd}
+use Rattle.data_url.specs.Decoding.{Decodes, Feeds, State, start}
+use Rattle.data_url.specs.Fetch.{NoComma as no_comma, NoScheme, staged}
+use Rattle.data_url.specs.Run.{IsPrefix}
+use Rattle.data_url.specs.Url.{dropped, fragment, in_fragment_set, percent_encoded}
+use Rattle.data_url.specs.UrlSeen.{IsUrlOf, fragment_text, url_tail}
+use Rattle.data_url.specs.declared.DataUrl.{DataUrl}
+use Rattle.data_url.specs.declared.FragmentIdentifier.{FragmentIdentifier}
+use Rattle.data_url.specs.declared.forgiving_base64.DecodeError.{DecodeError}
+use Rattle.dataurl.specs.Output.{End}
+use Rattle.dataurl.specs.Status.{decode_fault}
+use Rattle.dataurl.specs.declared.fault.Fault.{Fault}
+use Rattle.dataurl.specs.declared.fault.Fault.TheVariants.{Memory, NoComma, NotADataUrl, Read, Write}
+use Rattle.dataurl.specs.declared.fault.WriteFailed.{WriteFailed}
+
+-- any answer at all
+abbrev pub AnyAnswer : {A : Type 0} → A → Type 0
+AnyAnswer x = Unit {0}
+
+-- the URL of a text, or why there is none
+pub data IsUrlFor (x : List ℕ) : Result DataUrl Fault → Type 0 where
+  url_is : {url : DataUrl} → IsUrlOf x url → IsUrlFor x (Ok url)
+  no_scheme_is : staged x ≡ NoScheme → IsUrlFor x (Err NotADataUrl)
+  no_comma_is : staged x ≡ no_comma → IsUrlFor x (Err NoComma)
+  no_url_memory : IsUrlFor x (Err Memory)
+
+-- what was written of an output: all of it, a beginning that the writer took, or nothing for want of memory
+pub data IsWrittenOf (IsOutput : List ℕ → End → Type 0) : List ℕ → End → Type 0 where
+  whole_output : {written : List ℕ} {end : End} → IsOutput written end → IsWrittenOf IsOutput written end
+  cut_output : {written whole : List ℕ} {end : End} → IsOutput whole end → IsPrefix written whole → IsWrittenOf IsOutput written (Err Write)
+  no_output : IsWrittenOf IsOutput [] (Err Memory)
+
+-- a writer took of an output
+pub record WritesOf (IsOutput : List ℕ → End → Type 0) (held now : Option (List ℕ)) (r : End) : Type 0 where
+  pub written : List ℕ
+  pub appended : Appends held now written
+  pub is_written : IsWrittenOf IsOutput written r
+
+-- the bytes themselves, and a good end
+pub data IsExactly (bytes : List ℕ) : List ℕ → End → Type 0 where
+  exactly : IsExactly bytes bytes (Ok tt)
+
+-- the encoded fragment of a URL, where it has one
+abbrev pub encoded_fragment : DataUrl → Option (List ℕ)
+encoded_fragment url = option_map (percent_encoded in_fragment_set) (fragment (dropped (url_tail url)))
+
+-- a fragment, encoded, and a line feed
+abbrev pub fragment_line : FragmentIdentifier → List ℕ
+fragment_line found = percent_encoded in_fragment_set (dropped (fragment_text found)) ++ 10 ∷ []
+
+-- a decoder that begins at f was fed what was read: all of it, or up to an error, or to where the reader failed
+pub data IsFed {F : Type 0} (step : F → List ℕ → Result (Unit {0}) WriteFailed → F → Type 0) (f : F) (input : List ℕ) (d : State F) (left : Option (List ℕ)) : End → Type 0 where
+  fed_all : Feeds step (start f) input (Ok tt) d → IsAtEnd left → IsFed step f input d left (Ok tt)
+  fed_error : {error : DecodeError WriteFailed} → Feeds step (start f) input (Err error) d → IsFed step f input d left (Err (decode_fault error))
+  not_fed : Feeds step (start f) input (Ok tt) d → IsFed step f input d left (Err Read)
+
+pub record FeedsAll {F : Type 0} (step : F → List ℕ → Result (Unit {0}) WriteFailed → F → Type 0) (f : F) (d : State F) (unread left : Option (List ℕ)) (r : End) : Type 0 where
+  pub input : List ℕ
+  pub consumed : Consumes unread left input
+  pub is_fed : IsFed step f input d left r
+
+-- a closure was handed what was read, decoded: all of it and its end, or up to an error, or to where the reader failed
+pub data IsDecoded {F : Type 0} (step : F → List ℕ → Result (Unit {0}) WriteFailed → F → Type 0) (f : F) (input : List ℕ) (g : F) (left : Option (List ℕ)) : End → Type 0 where
+  decoded_all : Decodes step f input (Ok tt) g → IsAtEnd left → IsDecoded step f input g left (Ok tt)
+  end_refused : {error : DecodeError WriteFailed} → Decodes step f input (Err error) g → IsAtEnd left → IsDecoded step f input g left (Err (decode_fault error))
+  piece_refused : {error : DecodeError WriteFailed} {d : State F} → Feeds step (start f) input (Err error) d → d.closure ≡ g → IsDecoded step f input g left (Err (decode_fault error))
+  not_decoded : {d : State F} → Feeds step (start f) input (Ok tt) d → d.closure ≡ g → IsDecoded step f input g left (Err Read)
+
+pub record DecodesAll {F : Type 0} (step : F → List ℕ → Result (Unit {0}) WriteFailed → F → Type 0) (f g : F) (unread left : Option (List ℕ)) (r : End) : Type 0 where
+  pub input : List ℕ
+  pub consumed : Consumes unread left input
+  pub is_decoded : IsDecoded step f input g left r

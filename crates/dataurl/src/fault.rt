@@ -1,0 +1,94 @@
+//! Why a command ended early, and what is said of it.
+
+ghost use Rattle.std.specs.Prelude.{◌≡◌};
+ghost use Rattle.dataurl.specs.Status.{decode_end, decode_fault, status_of};
+
+use data_url::forgiving_base64::{DecodeError, InvalidBase64};
+use std::io::Write;
+use thiserror::Error;
+
+/// Why a command ended early. The text of each is the line that is written to standard error.
+#[derive(Debug, Drop, Error)]
+pub enum Fault {
+    /// The input does not begin with the scheme `data:`.
+    #[error("not a valid data url")]
+    NotADataUrl,
+    /// No comma stands before the input's fragment.
+    #[error("data url is missing comma delimiting attributes and body")]
+    NoComma,
+    /// The base64 of the input is not valid.
+    #[error("base64 not valid: {0}")]
+    Base64(InvalidBase64),
+    /// The input is no MIME type.
+    #[error("invalid mime type")]
+    Mime,
+    /// The input is not UTF-8.
+    #[error("input is not UTF-8")]
+    NotUtf8,
+    /// Memory was refused.
+    #[error("out of memory")]
+    Memory,
+    /// Standard input could not be read.
+    #[error("read failed")]
+    Read,
+    /// Standard output did not take all.
+    #[error("write failed")]
+    Write,
+}
+
+/// A writer did not take all that it was given.
+#[derive(Clone, Copy)]
+pub(crate) struct WriteFailed;
+
+impl Fault {
+    /// The exit status: 1 for what is wrong with the input, 3 for what is wrong with the machine.
+    fn status(&self) -> u8
+        ensures { result ≡ status_of self.now }
+    {
+        match self {
+            Fault::NotADataUrl | Fault::NoComma | Fault::Base64(_) | Fault::Mime | Fault::NotUtf8 =>
+                1,
+            Fault::Memory | Fault::Read | Fault::Write => 3,
+        }
+    }
+
+    /// The fault of decoding into a writer.
+    pub(crate) fn of_decoding(error: DecodeError<WriteFailed>) -> Fault
+        ensures { result ≡ decode_fault error }
+    {
+        match error {
+            DecodeError::InvalidBase64(refusal) => Fault::Base64(refusal),
+            DecodeError::WriteError(WriteFailed) => Fault::Write,
+        }
+    }
+}
+
+/// The end of a command that decodes into a writer.
+pub(crate) fn end_of(answer: Result<(), DecodeError<WriteFailed>>) -> Result<(), Fault>
+    ensures { result ≡ decode_end answer }
+{
+    match answer {
+        Ok(()) => Ok(()),
+        Err(error) => Err(Fault::of_decoding(error)),
+    }
+}
+
+/// Writes the line of a fault and answers the exit status. It takes no memory, and a failed write is passed over: there is
+/// nobody left to tell.
+pub fn report<W: Write>(fault: &Fault, writer: &mut W) -> u8
+    ensures { result ≡ status_of fault.now }
+{
+    let _passed_over = writeln!(writer, "{fault}");
+    fault.status()
+}
+
+/// Writes the line on how to call the program and answers the exit status 2. A failed write is passed over.
+pub fn usage<W: Write>(writer: &mut W) -> u8
+    ensures { result ≡ 2 }
+{
+    let _passed_over = writeln!(
+        writer,
+        "usage: dataurl body, mime, fragment, type or base64"
+    );
+    2
+}

@@ -1,0 +1,210 @@
+//! Runs a command: reads an input, and writes what it gives.
+
+ghost use Rattle.std.specs.Prelude.{◌≡◌, ◌+◌, length, map, string_bytes};
+ghost use Rattle.std.specs.Fn.{CalledAt};
+ghost use Rattle.data_url.specs.Decodes.{Decodes};
+ghost use Rattle.data_url.specs.Fetch.{mime_text};
+ghost use Rattle.data_url.specs.Seen.{seen};
+ghost use Rattle.data_url.specs.UrlSeen.{url_body, url_tail};
+ghost use Rattle.dataurl.specs.Command.{command_of_words};
+ghost use Rattle.dataurl.specs.Output.{IsBodyOutput, IsFragmentOutput, IsTextOutput, record_line};
+ghost use Rattle.dataurl.specs.Runs.{Runs};
+ghost use Rattle.dataurl.specs.Steps.{AnyAnswer, IsExactly, IsUrlFor, WritesOf, encoded_fragment, fragment_line};
+
+use crate::fault::{Fault, WriteFailed, end_of};
+use crate::input::read_text;
+use crate::output::write_all;
+use crate::stream::write_base64;
+use data_url::forgiving_base64::DecodeError;
+use data_url::mime::{Mime, MimeFromStrError};
+use data_url::{DataUrl, DataUrlError, FragmentIdentifier};
+use std::alloc::Global;
+use std::convert::Infallible;
+use std::io::{Read, Write};
+
+/// What the program is told to do with standard input.
+pub enum Command {
+    /// `body`: writes the body of a data: URL.
+    Body,
+    /// `mime`: writes the MIME type of a data: URL, and a line feed.
+    MimeType,
+    /// `fragment`: writes the encoded fragment of a data: URL, and a line feed.
+    Fragment,
+    /// `type`: writes a MIME type as it is printed, and a line feed.
+    Canonical,
+    /// `base64`: writes what forgiving base64 stands for.
+    Base64,
+}
+
+/// The command of the words behind the program's name: there has to be exactly one.
+pub fn command_of(words: &[String]) -> Option<Command>
+    ensures { result ≡ command_of_words (map string_bytes words.now) }
+{
+    let [word] = words else {
+        return None;
+    };
+    match word.as_str() {
+        "body" => Some(Command::Body),
+        "mime" => Some(Command::MimeType),
+        "fragment" => Some(Command::Fragment),
+        "type" => Some(Command::Canonical),
+        "base64" => Some(Command::Base64),
+        _ => None,
+    }
+}
+
+/// The URL of a text.
+fn url_of<'a>(alloc: Global, text: &'a str) -> Result<DataUrl<'a>, Fault>
+    ensures { IsUrlFor text.entry.now result }
+{
+    match DataUrl::process(alloc, text) {
+        Ok(url) => Ok(url),
+        Err(DataUrlError::NotADataUrl) => Err(Fault::NotADataUrl),
+        Err(DataUrlError::NoComma) => Err(Fault::NoComma),
+        Err(DataUrlError::OutOfMemory) => Err(Fault::Memory),
+    }
+}
+
+/// Hands the body of a URL to a closure, and the closure back. The fragment is let go.
+fn hand_out<F, E>(url: &DataUrl, answer: &mut Result<(), DecodeError<E>>, write: F) -> F
+where
+    F: FnMut(&[u8]) -> Result<(), E>,
+    E: Drop,
+    requires { F.IsAlwaysCallable write }
+    ensures { Decodes (CalledAt F.FnMut) write (length (url_tail url.now) + 1) (url_body url.now) AnyAnswer answer.new result }
+{
+    let (answered, write) = url.decode_with(write);
+    *answer = match answered {
+        Ok(_) => Ok(()),
+        Err(error) => Err(error),
+    };
+    write
+}
+
+/// Writes the body of a URL, piece by piece as it is decoded.
+fn write_body_of<W: Write>(url: &DataUrl, writer: &mut W) -> Result<(), Fault>
+    ensures { WritesOf (IsBodyOutput (url_body url.now)) (W.contents writer.old) (W.contents writer.new) result }
+{
+    let mut answer = Ok(());
+    hand_out(
+        url,
+        &mut answer,
+        |piece: &[u8]| -> Result<(), WriteFailed> { write_all(writer, piece) },
+    );
+    end_of(answer)
+}
+
+/// Writes bytes that make a whole output.
+fn write_output<W: Write>(writer: &mut W, bytes: &[u8]) -> Result<(), Fault>
+    ensures { WritesOf (IsExactly bytes.now) (W.contents writer.old) (W.contents writer.new) result }
+{
+    match write_all(writer, bytes) {
+        Ok(()) => Ok(()),
+        Err(WriteFailed) => Err(Fault::Write),
+    }
+}
+
+/// Writes the line of a record.
+fn write_record<W: Write>(alloc: Global, mime: &Mime, writer: &mut W) -> Result<(), Fault>
+    ensures { WritesOf (IsExactly (record_line (seen mime.now))) (W.contents writer.old) (W.contents writer.new) result }
+{
+    let Ok(line) = format!(in alloc; "{mime}\n") else {
+        return Err(Fault::Memory);
+    };
+    write_output(writer, line.as_bytes())
+}
+
+/// Writes the encoded fragment of a URL and a line feed, or nothing where there is none, once all of its body was decoded.
+fn write_fragment_of<W: Write>(alloc: Global, url: &DataUrl, writer: &mut W) -> Result<(), Fault>
+    ensures { WritesOf (IsFragmentOutput (url_body url.now) (encoded_fragment url.now)) (W.contents writer.old) (W.contents writer.new) result }
+{
+    match url.decode(|_piece: &[u8]| -> Result<(), Infallible> { Ok(()) }) {
+        Ok(Some(fragment)) => write_encoded(alloc, &fragment, writer),
+        Ok(None) => Ok(()),
+        Err(DecodeError::InvalidBase64(refusal)) => Err(Fault::Base64(refusal)),
+        Err(DecodeError::WriteError(never)) => match never {},
+    }
+}
+
+/// Writes a fragment, encoded, and a line feed.
+fn write_encoded<W: Write>(
+    alloc: Global,
+    fragment: &FragmentIdentifier,
+    writer: &mut W,
+) -> Result<(), Fault>
+    ensures { WritesOf (IsExactly (fragment_line fragment.now)) (W.contents writer.old) (W.contents writer.new) result }
+{
+    let Ok(mut line) = fragment.to_percent_encoded(alloc) else {
+        return Err(Fault::Memory);
+    };
+    let Ok(()) = line.push('\n') else {
+        return Err(Fault::Memory);
+    };
+    write_output(writer, line.as_bytes())
+}
+
+/// Writes the body of the URL of a text.
+fn write_body<W: Write>(alloc: Global, text: &str, writer: &mut W) -> Result<(), Fault>
+    ensures { WritesOf (IsTextOutput text.now Command.Body) (W.contents writer.old) (W.contents writer.new) result }
+{
+    match url_of(alloc, text) {
+        Ok(url) => write_body_of(&url, writer),
+        Err(fault) => Err(fault),
+    }
+}
+
+/// Writes the line of the record of the URL of a text. Its body is not decoded.
+fn write_mime<W: Write>(alloc: Global, text: &str, writer: &mut W) -> Result<(), Fault>
+    ensures { WritesOf (IsTextOutput text.now Command.MimeType) (W.contents writer.old) (W.contents writer.new) result }
+{
+    match url_of(alloc, text) {
+        Ok(url) => write_record(alloc, url.mime_type(), writer),
+        Err(fault) => Err(fault),
+    }
+}
+
+/// Writes the line of the fragment of the URL of a text.
+fn write_fragment<W: Write>(alloc: Global, text: &str, writer: &mut W) -> Result<(), Fault>
+    ensures { WritesOf (IsTextOutput text.now Command.Fragment) (W.contents writer.old) (W.contents writer.new) result }
+{
+    match url_of(alloc, text) {
+        Ok(url) => write_fragment_of(alloc, &url, writer),
+        Err(fault) => Err(fault),
+    }
+}
+
+/// Writes the line of the record of a text.
+fn write_type<W: Write>(alloc: Global, text: &str, writer: &mut W) -> Result<(), Fault>
+    ensures { WritesOf (IsTextOutput text.now Command.Canonical) (W.contents writer.old) (W.contents writer.new) result }
+{
+    match Mime::from_str(alloc, text) {
+        Ok(mime) => write_record(alloc, &mime, writer),
+        Err(MimeFromStrError::Parsing(_)) => Err(Fault::Mime),
+        Err(MimeFromStrError::OutOfMemory) => Err(Fault::Memory),
+    }
+}
+
+/// Reads an input and writes what a command gives of it, and nothing else. All commands but `base64` read the whole input
+/// into memory and then ask that it is UTF-8; `base64` takes no memory, and decodes pieces of at most 4,096 bytes as they
+/// are read, up to the first fault.
+///
+/// `body` and `base64` write what stands before a fault of the base64, and then answer it; of any other fault nothing was
+/// written before, but for `Write`, where the writer took a beginning of the output, and for `Read` in `base64`, where what
+/// was read is written, decoded. `Memory` comes where memory was refused, `Read` where a read failed or the reader had no
+/// end after 2^64 - 1 reads, and `Write` where a write failed or took nothing. No failed read or write is tried again.
+pub fn run<R: Read, W: Write>(
+    alloc: Global,
+    command: Command,
+    reader: &mut R,
+    writer: &mut W,
+) -> Result<(), Fault>
+    ensures { Runs command (R.remaining reader.old) (R.remaining reader.new) (W.contents writer.old) (W.contents writer.new) result }
+{
+    match command {
+        Command::Body => write_body(alloc, read_text(alloc, reader)?.as_str(), writer),
+        Command::MimeType => write_mime(alloc, read_text(alloc, reader)?.as_str(), writer),
+        Command::Fragment => write_fragment(alloc, read_text(alloc, reader)?.as_str(), writer),
+        Command::Canonical => write_type(alloc, read_text(alloc, reader)?.as_str(), writer),
+        Command::Base64 => write_base64(reader, writer),
+    }
+}
