@@ -7,6 +7,8 @@ mod input;
 mod output;
 mod run;
 mod stream;
+#[cfg(test)]
+mod tests;
 
 use fault::{Fault, report, usage};
 use run::{command_of, run};

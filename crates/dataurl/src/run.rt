@@ -23,6 +23,7 @@ use std::convert::Infallible;
 use std::io::{Read, Write};
 
 /// What the program is told to do with standard input.
+#[derive(Clone, Copy)]
 pub enum Command {
     /// `body`: writes the body of a data: URL.
     Body,

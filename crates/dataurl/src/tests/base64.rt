@@ -1,0 +1,186 @@
+//! Forgiving base64: whole texts and texts in pieces.
+
+use super::{assert_printed, repeated};
+use crate::run::{Command, run};
+use data_url::forgiving_base64::{DecodeError, Decoder, decode_to_vec};
+use std::alloc::{AllocError, Global};
+use std::io::{self, Read};
+use std::process::Abort;
+use std::test::Fail;
+
+/// Texts, what they stand for, and the line of their fault, or nothing.
+const TEXTS: [(&str, &str, &str); 16] = [
+    ("", "", ""),
+    ("YR", "a", ""),
+    ("Y Q = =", "a", ""),
+    ("YWJ=", "ab", ""),
+    ("QUJD", "ABC", ""),
+    ("Q\u{c}Q", "A", ""),
+    ("QQ==", "A", ""),
+    (" \t\n\u{c}\r", "", ""),
+    ("QUJDQUI", "ABCAB", ""),
+    ("ab=", "", "incorrect padding"),
+    ("=", "", "incorrect padding"),
+    ("QUJD=", "ABC", "incorrect padding"),
+    ("ab==c", "", "alphabet symbol present after padding"),
+    ("a", "", "lone alphabet symbol present"),
+    ("=!", "", "symbol with codepoint 33 not expected"),
+    ("QUJD!QUJD", "ABC", "symbol with codepoint 33 not expected"),
+];
+
+#[test]
+fn whole_texts(rt: HostRuntime) -> Result<(), Fail> {
+    for (text, bytes, line) in TEXTS {
+        match decode_to_vec(rt.alloc(), text.as_bytes()) {
+            Ok(decoded) => {
+                assert!(rt;
+                    decoded.as_slice() == bytes.as_bytes() && line.is_empty(),
+                    "{text}"
+                );
+            }
+            Err(error) => assert_printed(&rt, rt.alloc(), &error, line, text)?,
+        }
+    }
+    let mut byte = [255u8; 1];
+    byte[0] = 255;
+    match decode_to_vec(rt.alloc(), &byte) {
+        Ok(_bytes) => assert!(rt; false),
+        Err(error) => assert_printed(
+            &rt,
+            rt.alloc(),
+            &error,
+            "symbol with codepoint 255 not expected",
+            "FF",
+        )?,
+    }
+    let signs = repeated(rt.alloc(), "=", 258)?;
+    let text = format!(in rt.alloc(); "QQ{signs}")?;
+    match decode_to_vec(rt.alloc(), text.as_bytes()) {
+        Ok(_bytes) => assert!(rt; false),
+        Err(error) => assert_printed(&rt, rt.alloc(), &error, "incorrect padding", "many signs")?,
+    }
+    Ok(())
+}
+
+/// A reader that gives its first bytes in one read, and the others in reads of so many.
+#[derive(Drop)]
+struct Cut<'a> {
+    rest: &'a [u8],
+    first: usize,
+    others: usize,
+}
+
+impl<'a> Read for Cut<'a> {
+    fn read(&mut self, buf: &mut [u8]) -> io::Result<usize> {
+        let len = self.first.min(self.rest.len()).min(buf.len());
+        self.first = self.others;
+        buf[..len].copy_from_slice(&self.rest[..len]);
+        self.rest = &self.rest[len..];
+        Ok(len)
+    }
+}
+
+/// Asserts what comes of a text that is read in pieces.
+fn assert_pieces(
+    rt: &impl Abort,
+    alloc: Global,
+    mut reader: Cut,
+    bytes: &str,
+    line: &str,
+) -> Result<(), Fail> {
+    let mut written = Vec::new(alloc);
+    match run(alloc, Command::Base64, &mut reader, &mut written) {
+        Ok(()) => assert!(rt; line.is_empty()),
+        Err(fault) => {
+            let told = format!(in alloc; "base64 not valid: {line}")?;
+            assert_printed(rt, alloc, &fault, told.as_str(), line)?;
+        }
+    }
+    assert!(rt; written.as_slice() == bytes.as_bytes());
+    Ok(())
+}
+
+#[test]
+fn texts_in_pieces(rt: HostRuntime) -> Result<(), Fail> {
+    for (text, bytes, line) in TEXTS {
+        let rest = text.as_bytes();
+        let bytewise = Cut {
+            rest,
+            first: 1,
+            others: 1,
+        };
+        assert_pieces(&rt, rt.alloc(), bytewise, bytes, line)?;
+        for first in 1..rest.len() {
+            let cut = Cut {
+                rest,
+                first,
+                others: rest.len(),
+            };
+            assert_pieces(&rt, rt.alloc(), cut, bytes, line)?;
+        }
+    }
+    Ok(())
+}
+
+#[test]
+fn a_decoder_in_five_feeds(rt: HostRuntime) -> Result<(), Fail> {
+    let mut bytes = Vec::new(rt.alloc());
+    let mut decoder = Decoder::new(|piece: &[u8]| -> Result<(), AllocError> {
+        bytes.extend_from_slice(piece)
+    });
+    assert!(rt; decoder.feed("Y".as_bytes()).is_ok() && !decoder.has_failed());
+    assert!(rt; decoder.feed("W".as_bytes()).is_ok() && !decoder.has_failed());
+    assert!(rt; decoder.feed(" ".as_bytes()).is_ok() && !decoder.has_failed());
+    assert!(rt; decoder.feed("J".as_bytes()).is_ok() && !decoder.has_failed());
+    assert!(rt; decoder.feed("=".as_bytes()).is_ok() && !decoder.has_failed());
+    let ended = decoder.finish();
+    assert!(rt; ended.is_ok());
+    assert!(rt; bytes.as_slice() == "ab".as_bytes());
+    Ok(())
+}
+
+#[test]
+fn signs_in_two_feeds(rt: HostRuntime) -> Result<(), Fail> {
+    let mut bytes = Vec::new(rt.alloc());
+    let mut decoder = Decoder::new(|piece: &[u8]| -> Result<(), AllocError> {
+        bytes.extend_from_slice(piece)
+    });
+    assert!(rt; decoder.feed("QQ=".as_bytes()).is_ok() && !decoder.has_failed());
+    assert!(rt; decoder.feed("=".as_bytes()).is_ok() && !decoder.has_failed());
+    let ended = decoder.finish();
+    assert!(rt; ended.is_ok());
+    assert!(rt; bytes.as_slice() == "A".as_bytes());
+    Ok(())
+}
+
+#[test]
+fn no_call_before_a_refusal_at_the_end(rt: HostRuntime) -> Result<(), Fail> {
+    let mut calls: usize = 0;
+    let mut decoder = Decoder::new(|_piece: &[u8]| -> Result<(), usize> {
+        calls = calls.saturating_add(1);
+        Err(calls)
+    });
+    assert!(rt; decoder.feed("ab=".as_bytes()).is_ok() && !decoder.has_failed());
+    match decoder.finish() {
+        Err(DecodeError::InvalidBase64(error)) => {
+            assert_printed(&rt, rt.alloc(), &error, "incorrect padding", "ab=")?;
+        }
+        _ => assert!(rt; false),
+    }
+    assert!(rt; calls == 0);
+    Ok(())
+}
+
+#[test]
+fn a_decoder_tells_that_it_failed(rt: HostRuntime) -> Result<(), Fail> {
+    let mut calls: usize = 0;
+    let mut decoder = Decoder::new(|_piece: &[u8]| -> Result<(), usize> {
+        calls = calls.saturating_add(1);
+        Err(calls)
+    });
+    assert!(rt; !decoder.has_failed());
+    let ended = decoder.feed("QUJDQUJD".as_bytes());
+    assert!(rt; ended.is_err() && decoder.has_failed());
+    assert!(rt; calls == 1);
+    Ok(())
+}
