@@ -1,9 +1,9 @@
 -- What is written of base64 that is decoded as it is read.
-use Rattle.std.proofs.Common.{◌≡◌, ℕ, Bool, true, false, cond, List, [], ◌++◌, Option, None, Some, is_some, Result, Ok, Err, refl, sym, ap, ◌∙◌, subst}
+use Rattle.std.proofs.Common.{◌≡◌, ℕ, Bool, true, false, cond, List, Option, None, Some, is_some, Result, Ok, Err, refl, sym, ap, ◌∙◌, subst}
 use Rattle.std.specs.Prelude.{MatchBool, MatchOption}
 use Rattle.std.specs.Io.KnownBytes.{Appends, IsAtEnd}
 use Rattle.data_url.specs.Base64.{decoded, done, first_fault, is_valid, kind_of}
-use Rattle.data_url.specs.Decoding.{Decodes, Feeds, IsAll, IsRefused, IsTaken, State, start}
+use Rattle.data_url.specs.Decoding.{IsAll, IsRefused, IsTaken, State}
 use Rattle.data_url.specs.Run.{IsPrefix, joined, refusal}
 use Rattle.data_url.specs.declared.forgiving_base64.DecodeError.{DecodeError}
 use Rattle.data_url.specs.declared.forgiving_base64.DecodeError.TheVariants.{InvalidBase64, WriteError}
@@ -15,7 +15,7 @@ use Rattle.dataurl.specs.Runs.{IsRun, Runs, base64_not_read, complete, not_writt
 use Rattle.dataurl.specs.Status.{decode_fault}
 use Rattle.dataurl.specs.Steps.{DecodesAll, IsDecoded, decoded_all, end_refused, not_decoded, piece_refused}
 use Rattle.dataurl.specs.Writing.{Writes}
-use Rattle.dataurl.specs.declared.fault.Fault.TheVariants.{Base64, Read, Write}
+use Rattle.dataurl.specs.declared.fault.Fault.TheVariants.{Base64, Read}
 use Rattle.dataurl.specs.declared.fault.WriteFailed.{WriteFailed}
 use Rattle.dataurl.specs.declared.run.Command.TheVariants.{Base64 as base64}
 use Rattle.dataurl.proofs.ClosureLemmas.{RunWrites, run_writes}

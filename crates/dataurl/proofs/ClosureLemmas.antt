@@ -7,14 +7,13 @@ use Rattle.data_url.specs.Decodes.{Answers, Decodes, HandsOut, IsRefusedBy}
 use Rattle.data_url.specs.Fetch.{Bad, Good, Outcome, outcome_bytes}
 use Rattle.data_url.specs.Run.{Call, IsPrefix, IsRun, joined, or_error, refusal}
 use Rattle.data_url.specs.declared.forgiving_base64.DecodeError.{DecodeError}
-use Rattle.data_url.specs.declared.forgiving_base64.DecodeError.TheVariants.{InvalidBase64, WriteError}
 use Rattle.data_url.proofs.RunLemmas.{prefix_all, prefix_none, prefix_trans}
 use Rattle.data_url.proofs.WholeLemmas.{run_keeps}
 use Rattle.dataurl.specs.Output.{End, IsBodyOutput, bad_body, good_body}
 use Rattle.dataurl.specs.Status.{decode_end}
 use Rattle.dataurl.specs.Steps.{IsWrittenOf, WritesOf, cut_output, whole_output}
 use Rattle.dataurl.specs.Writing.{IsWritten, Writes, all, beginning}
-use Rattle.dataurl.specs.declared.fault.Fault.TheVariants.{Base64, Write}
+use Rattle.dataurl.specs.declared.fault.Fault.TheVariants.{Base64}
 use Rattle.dataurl.specs.declared.fault.WriteFailed.{WriteFailed}
 use Rattle.dataurl.proofs.OutputLemmas.{appends_none, appends_then}
 

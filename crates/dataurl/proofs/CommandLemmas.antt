@@ -1,9 +1,8 @@
 -- The words of the commands.
-use Rattle.std.proofs.Common.{◌≡◌, ℕ, ◌<◌, ◌≤◌, Bool, true, false, cond, List, [], ◌∷◌, get_or, length, map, Option, None, String, string_bytes, codes, refl, sym, ap, ◌∙◌, suc, not-suc-le-zero, le_of_suc-le-suc}
+use Rattle.std.proofs.Common.{◌≡◌, ℕ, ◌<◌, ◌≤◌, List, [], ◌∷◌, get_or, length, map, None, String, string_bytes, codes, sym, ap, ◌∙◌, not-suc-le-zero, le_of_suc-le-suc}
 use Rattle.std.proofs.lemmas.Bool.{cond-false}
 use Rattle.data_url.proofs.KeptLemmas.{test_from_different}
 use Rattle.dataurl.specs.Command.{command_of_word, command_of_words}
-use Rattle.dataurl.specs.declared.run.Command.{Command}
 
 one_word : {A : Type 0} (words : List A) (w : A) → 1 ≤ length words → length words < 2 → w ≡ get_or words 0 w → words ≡ w ∷ []
 one_word [] w some few e = absurd (not-suc-le-zero some)

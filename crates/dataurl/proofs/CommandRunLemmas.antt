@@ -1,8 +1,7 @@
 -- A command whose input was read whole.
-use Rattle.std.proofs.Common.{◌≡◌, ℕ, List, [], Option, None, Some, Result, Ok, Err, String, string_bytes, IsUtf8, refl, sym, ap, ◌∙◌, subst}
+use Rattle.std.proofs.Common.{◌≡◌, ℕ, List, [], Option, Result, Ok, Err, String, string_bytes, IsUtf8, refl, sym, ◌∙◌, subst}
 use Rattle.std.specs.Global.{Global}
 use Rattle.std.specs.Io.KnownBytes.{IsAtEnd}
-use Rattle.data_url.specs.Mime.{Record}
 use Rattle.data_url.specs.Seen.{seen}
 use Rattle.data_url.specs.UrlSeen.{IsUrlOf, mime_of as mime_type_of, url_body}
 use Rattle.data_url.specs.declared.DataUrl.{DataUrl}
@@ -15,7 +14,6 @@ use Rattle.dataurl.specs.Steps.{IsExactly, IsUrlFor, IsWrittenOf, WritesOf, cut_
 use Rattle.dataurl.specs.declared.fault.Fault.{Fault}
 use Rattle.dataurl.specs.declared.run.Command.{Command}
 use Rattle.dataurl.specs.declared.run.Command.TheVariants.{Body, Fragment, MimeType}
-use Rattle.dataurl.proofs.InputLemmas.{consumes_none}
 use Rattle.dataurl.proofs.OutputLemmas.{appends_none}
 use Rattle.dataurl.proofs.StepLemmas.{writes_as, writes_map, writes_no_memory, writes_nothing}
 
@@ -25,7 +23,7 @@ url_for : (x : List ℕ) (r : Result DataUrl Fault) (url : DataUrl) → r ≡ Ok
 url_for x r url e (url_is {url = u} h) = let same : u ≡ url = cc in subst (IsUrlOf x) same h
 url_for x r url e (no_scheme_is h) = absurd (let k = e in cc)
 url_for x r url e (no_comma_is h) = absurd (let k = e in cc)
-url_for x r url e no_url_memory = absurd (let k = e in cc)
+url_for x r url e (no_url_memory h) = absurd (let k = e in cc)
 
 pub body_writes_of : {x : List ℕ} {url : DataUrl} {held now : Option (List ℕ)} {r : End} → IsUrlFor x (Ok url) → WritesOf (IsBodyOutput (url_body url)) held now r → WritesOf (IsTextOutput x Body) held now r
 body_writes_of {x} {url} h w = let u = url_for x (Ok url) url refl h in writes_map (λ s e k. body_of u.staged_is k) w
@@ -43,7 +41,7 @@ refused_as : (x : List ℕ) (c : Command) (held : Option (List ℕ)) (r : Result
 refused_as x c held r fault t e (url_is h) = absurd (let k = e in cc)
 refused_as x c held r fault t e (no_scheme_is h) = let P : Fault → Type 0 = λ f. WritesOf (IsTextOutput x c) held held (Err f) in subst P (cc) (writes_nothing held (without_scheme t h))
 refused_as x c held r fault t e (no_comma_is h) = let P : Fault → Type 0 = λ f. WritesOf (IsTextOutput x c) held held (Err f) in subst P (cc) (writes_nothing held (without_comma t h))
-refused_as x c held r fault t e no_url_memory = let P : Fault → Type 0 = λ f. WritesOf (IsTextOutput x c) held held (Err f) in subst P (cc) (writes_no_memory held)
+refused_as x c held r fault t e (no_url_memory h) = let P : Fault → Type 0 = λ f. WritesOf (IsTextOutput x c) held held (Err f) in subst P (cc) (writes_no_memory held)
 
 pub refused_url : {x : List ℕ} {fault : Fault} (c : Command) (held : Option (List ℕ)) → TakesUrl c → IsUrlFor x (Err fault) → WritesOf (IsTextOutput x c) held held (Err fault)
 refused_url {x} {fault} c held t h = refused_as x c held (Err fault) fault t refl h

@@ -1,8 +1,7 @@
 -- Writing bytes, part by part.
-use Rattle.std.proofs.Common.{◌≡◌, ℕ, ◌<◌, List, [], ◌∷◌, ◌++◌, length, take, drop, Option, None, Some, Result, Ok, Err, refl, sym, ap, ◌∙◌, append_assoc, take-append-drop, take_all, length-drop, le_of_eq, ◌-◌, subst}
+use Rattle.std.proofs.Common.{◌≡◌, ℕ, List, [], ◌++◌, length, take, drop, Option, None, Some, Ok, Err, refl, sym, ap, ◌∙◌, append_assoc, take-append-drop, take_all, length-drop, le_of_eq, ◌-◌, subst}
 use Rattle.std.proofs.lemmas.List.{append-nil}
 use Rattle.std.specs.Io.KnownBytes.{Appends, Keeps}
-use Rattle.data_url.specs.Run.{IsPrefix}
 use Rattle.dataurl.specs.Writing.{IsWritten, Writes, all, beginning}
 use Rattle.dataurl.specs.declared.fault.WriteFailed.{WriteFailed}
 

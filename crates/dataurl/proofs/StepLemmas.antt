@@ -1,14 +1,12 @@
 -- What the parts of a run write.
 use Rattle.std.proofs.Common.{◌≡◌, ℕ, List, [], ◌∷◌, ◌++◌, Option, None, Some, option_map, Result, Ok, Err, refl, sym, ap, ◌∙◌, subst, chars}
-use Rattle.std.specs.Io.KnownBytes.{Appends}
 use Rattle.data_url.specs.Base64.{Kind}
 use Rattle.data_url.specs.Decodes.{Decodes}
-use Rattle.data_url.specs.Fetch.{Bad, Good, Outcome, mime_text}
-use Rattle.data_url.specs.Mime.{HasNoRecord, Parses}
+use Rattle.data_url.specs.Fetch.{Bad, Good, Outcome}
+use Rattle.data_url.specs.Mime.{HasNoRecord}
 use Rattle.data_url.specs.Parsing.{IsParsingError}
-use Rattle.data_url.specs.Seen.{seen}
-use Rattle.data_url.specs.Url.{behind, dropped, fragment, in_fragment_set, percent_encoded}
-use Rattle.data_url.specs.UrlSeen.{IsFragmentOf, IsUrlOf, fragment_text, mime_of, url_body, url_tail}
+use Rattle.data_url.specs.Url.{dropped, fragment, in_fragment_set, percent_encoded}
+use Rattle.data_url.specs.UrlSeen.{IsFragmentOf, fragment_text, url_body, url_tail}
 use Rattle.data_url.specs.declared.DataUrl.{DataUrl}
 use Rattle.data_url.specs.declared.FragmentIdentifier.{FragmentIdentifier}
 use Rattle.data_url.specs.declared.forgiving_base64.DecodeError.{DecodeError}
@@ -19,7 +17,7 @@ use Rattle.data_url.specs.declared.mime.MimeFromStrError.TheVariants.{Parsing}
 use Rattle.data_url.specs.declared.mime.MimeParsingError.{MimeParsingError}
 use Rattle.data_url.proofs.BodyVecLemmas.{body_answer, body_fault, body_good}
 use Rattle.data_url.proofs.UrlLemmas.{fragment_dropped}
-use Rattle.dataurl.specs.Output.{End, IsFragmentOutput, IsTextOutput, IsTypeOutput, fragment_of_bad, record_line, record_of_text, some_fragment, type_of, without_fragment, without_record}
+use Rattle.dataurl.specs.Output.{End, IsFragmentOutput, IsTextOutput, fragment_of_bad, some_fragment, type_of, without_fragment, without_record}
 use Rattle.dataurl.specs.Steps.{IsExactly, IsWrittenOf, WritesOf, cut_output, encoded_fragment, exactly, fragment_line, no_output, whole_output}
 use Rattle.dataurl.specs.Writing.{IsWritten, Writes, all, beginning}
 use Rattle.dataurl.specs.declared.fault.Fault.TheVariants.{Base64, Memory, Mime as no_mime, Write}

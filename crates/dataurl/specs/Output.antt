@@ -1,5 +1,5 @@
 -- What each command writes of an input, and how it ends.
-use Rattle.std.specs.Prelude.{◌≡◌, ℕ, Bool, true, false, List, [], ◌∷◌, ◌++◌, Option, None, Some, Result, Ok, Err, IsUtf8, chars, encode_utf8_all}
+use Rattle.std.specs.Prelude.{◌≡◌, ℕ, true, false, List, [], ◌∷◌, ◌++◌, Option, None, Some, Result, Ok, Err, IsUtf8, chars, encode_utf8_all}
 use Rattle.data_url.specs.Base64.{decoded, done, is_valid, kind_of}
 use Rattle.data_url.specs.Fetch.{Accepted, Bad, Good, NoComma as no_comma, NoScheme, Outcome, staged}
 use Rattle.data_url.specs.Mime.{HasNoRecord, IsRecordOf, Parses, Record, printed}

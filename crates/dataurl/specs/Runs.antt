@@ -1,5 +1,5 @@
 -- What running a command does to a reader and a writer.
-use Rattle.std.specs.Prelude.{◌≡◌, ℕ, true, List, [], Option, None, is_some, Result, Ok, Err}
+use Rattle.std.specs.Prelude.{◌≡◌, ℕ, true, List, [], Option, None, is_some, Err}
 use Rattle.std.specs.Io.KnownBytes.{Appends, Consumes, IsAtEnd}
 use Rattle.data_url.specs.Base64.{done, first_fault, kind_of}
 use Rattle.data_url.specs.Run.{IsPrefix}

@@ -5,7 +5,7 @@ use Rattle.data_url.specs.Decoding.{Decodes, Feeds, State, start}
 use Rattle.data_url.specs.Fetch.{NoComma as no_comma, NoScheme, staged}
 use Rattle.data_url.specs.Run.{IsPrefix}
 use Rattle.data_url.specs.Url.{dropped, fragment, in_fragment_set, percent_encoded}
-use Rattle.data_url.specs.UrlSeen.{IsUrlOf, fragment_text, url_tail}
+use Rattle.data_url.specs.UrlSeen.{IsAcceptable, IsUrlOf, fragment_text, url_tail}
 use Rattle.data_url.specs.declared.DataUrl.{DataUrl}
 use Rattle.data_url.specs.declared.FragmentIdentifier.{FragmentIdentifier}
 use Rattle.data_url.specs.declared.forgiving_base64.DecodeError.{DecodeError}
@@ -24,7 +24,7 @@ pub data IsUrlFor (x : List ℕ) : Result DataUrl Fault → Type 0 where
   url_is : {url : DataUrl} → IsUrlOf x url → IsUrlFor x (Ok url)
   no_scheme_is : staged x ≡ NoScheme → IsUrlFor x (Err NotADataUrl)
   no_comma_is : staged x ≡ no_comma → IsUrlFor x (Err NoComma)
-  no_url_memory : IsUrlFor x (Err Memory)
+  no_url_memory : IsAcceptable (staged x) → IsUrlFor x (Err Memory)
 
 -- what was written of an output: all of it, a beginning that the writer took, or nothing for want of memory
 pub data IsWrittenOf (IsOutput : List ℕ → End → Type 0) : List ℕ → End → Type 0 where

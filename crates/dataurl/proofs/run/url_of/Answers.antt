@@ -18,4 +18,6 @@ returns-in-Err-NoComma c =
     no_comma_is (subst P c.in-Err-NoComma.field-0-is c.in-Err-NoComma.ensures)
 
 pub returns-in-Err-OutOfMemory : goal.returns-in-Err-OutOfMemory
-returns-in-Err-OutOfMemory c = no_url_memory
+returns-in-Err-OutOfMemory c =
+    let P : DataUrlError → Type 0 = λ e. IsProcessed c.args.text.now (Err e) in
+    no_url_memory (subst P c.in-Err-OutOfMemory.field-0-is c.in-Err-OutOfMemory.ensures)
