@@ -39,7 +39,7 @@ pub struct DataUrl<'a> {
 }
 
 /// What stands behind the first `#` of a data: URL, as it was given, tabs and newlines included.
-#[derive(Clone, Copy)]
+#[derive(Drop)]
 pub struct FragmentIdentifier<'a> {
     text: &'a str,
 }

@@ -27,21 +27,6 @@ pub struct Mime {
     pub parameters: Vec<(String, String)>,
 }
 
-/// The copy has the record's texts, byte for byte, on the record's own allocator. The error comes where memory was refused.
-impl Clone for Mime {
-    ghost use Rattle.data_url.specs.Seen.{SameTexts, seen};
-
-    ghost is_clone = { λ mime copy. SameTexts copy mime × (seen copy ≡ seen mime) };
-
-    fn clone(&self) -> Result<Mime, AllocError> {
-        Ok(Mime {
-            type_: self.type_.clone()?,
-            subtype: self.subtype.clone()?,
-            parameters: self.parameters.clone()?,
-        })
-    }
-}
-
 /// Records are equal exactly if their texts are, byte for byte, and their parameters stand in the same order.
 impl PartialEq for Mime {
     ghost use Rattle.std.specs.Cmp.{partial_equiv_from_equiv};
@@ -140,7 +125,7 @@ impl Mime {
     ghost use Rattle.std.specs.Str.{chars};
     ghost use Rattle.data_url.specs.Mime.{HasNoRecord, IsWellformed, Parses};
     ghost use Rattle.data_url.specs.Parsing.{IsParsingError};
-    ghost use Rattle.data_url.specs.Seen.{as_option, seen, value_of_name};
+    ghost use Rattle.data_url.specs.Seen.{SameTexts, as_option, seen, value_of_name};
 
     /// The record of a type and a subtype as they are given, with no parameters. It takes memory for the two texts.
     pub fn new(alloc: Global, type_: &str, subtype: &str) -> Result<Mime, AllocError>
@@ -152,6 +137,18 @@ impl Mime {
             type_: String::from_str(alloc, type_)?,
             subtype: String::from_str(alloc, subtype)?,
             parameters: Vec::new(alloc),
+        })
+    }
+
+    /// A record of the same texts, byte for byte, on this record's own allocator. The error comes where memory was refused.
+    pub fn clone(&self) -> Result<Mime, AllocError>
+        ensures texts { IfOk result (λ copy. SameTexts copy self.now) }
+        ensures seen { IfOk result (λ copy. seen copy ≡ seen self.now) }
+    {
+        Ok(Mime {
+            type_: self.type_.clone()?,
+            subtype: self.subtype.clone()?,
+            parameters: self.parameters.clone()?,
         })
     }
 
