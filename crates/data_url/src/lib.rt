@@ -17,8 +17,6 @@ mod header;
 pub mod laws;
 pub mod mime;
 mod percent;
-#[cfg(test)]
-mod tests;
 
 use body::{decode_base64, decode_plain};
 use forgiving_base64::{DecodeError, DecodeToVecError, room_for};
