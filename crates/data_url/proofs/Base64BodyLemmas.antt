@@ -1,20 +1,20 @@
 -- A base64 body, fed to a decoder byte by byte.
-use Rattle.std.proofs.Common.{◌≡◌, ℕ, suc, ◌+◌, ◌-◌, ◌<◌, ◌≤◌, Bool, true, false, not, cond, ◌*◌, List, [], ◌∷◌, ◌++◌, length, Option, None, Some, Result, Ok, Err, refl, sym, ap, ◌∙◌, subst, append_assoc, arith, length-append}
+use Rattle.std.proofs.Common.{◌≡◌, ℕ, suc, ◌+◌, ◌-◌, ◌≤◌, Bool, true, false, not, cond, ◌*◌, List, [], ◌∷◌, ◌++◌, length, Option, None, Some, Result, Ok, Err, refl, sym, ap, ◌∙◌, subst, append_assoc, arith}
 use Rattle.std.specs.Prelude.{◌==◌, MatchBool, MatchOption}
 use Rattle.std.specs.Char.{digit_value}
 use Rattle.std.proofs.lemmas.List.{append-nil}
-use Rattle.data_url.specs.Base64.{Kind, decoded, done, is_valid, kind_of}
+use Rattle.data_url.specs.Base64.{decoded, done, is_valid, kind_of}
 use Rattle.data_url.specs.Url.{before, dropped, front, is_tab_or_newline}
 use Rattle.data_url.specs.Percent.{is_escape, percent_decoded}
-use Rattle.data_url.specs.Run.{IsPrefix, IsRun, joined, refusal}
-use Rattle.data_url.specs.Fetch.{Bad, Good, Outcome, outcome, outcome_bytes, plain_body}
+use Rattle.data_url.specs.Run.{joined, refusal}
+use Rattle.data_url.specs.Fetch.{Bad, Good, outcome, plain_body}
 use Rattle.data_url.specs.Body.{EndsBody, IsBodyEnd, TakesByte}
 use Rattle.data_url.specs.Decodes.{Answers, Decodes, HandsOut, IsRefusedBy}
 use Rattle.data_url.specs.Decoding.{Feeds, Finishes, IsAll, IsRefused, State}
 use Rattle.data_url.specs.Decoding as whole
 use Rattle.data_url.specs.declared.forgiving_base64.DecodeError.{DecodeError}
 use Rattle.data_url.specs.declared.forgiving_base64.DecodeError.TheVariants.{InvalidBase64, WriteError}
-use Rattle.data_url.proofs.DecodeLemmas.{IsRest, end_shorter, ends_at, rest_all, rest_more, takes_shorter}
+use Rattle.data_url.proofs.DecodeLemmas.{IsRest, ends_at, rest_all, rest_more}
 use Rattle.data_url.proofs.DecoderLemmas.{feeds_err, feeds_then}
 use Rattle.data_url.proofs.WholeLemmas.{decodes_finished, decodes_refused}
 

@@ -1,13 +1,12 @@
 -- A closure that runs over a body, byte by byte.
-use Rattle.std.proofs.Common.{◌≡◌, ℕ, suc, ◌+◌, ◌-◌, ◌<◌, ◌≤◌, List, [], ◌∷◌, ◌++◌, length, drop, Option, None, Some, Result, Ok, Err, refl, sym, ap, ◌∙◌, subst, append_assoc, arith, length-append}
-use Rattle.std.specs.Prelude.{IsErr, MatchOption}
+use Rattle.std.proofs.Common.{◌≡◌, ℕ, ◌+◌, ◌-◌, ◌<◌, ◌≤◌, List, [], ◌∷◌, ◌++◌, length, drop, Option, None, Some, Result, Ok, Err, refl, sym, ap, ◌∙◌, subst, append_assoc, arith, length-append}
+use Rattle.std.specs.Prelude.{MatchOption}
 use Rattle.std.proofs.lemmas.List.{append-nil, drop_at}
 use Rattle.data_url.specs.Url.{behind}
-use Rattle.data_url.specs.Run.{Call, IsPrefix, IsRun, joined, or_error, refusal}
-use Rattle.data_url.specs.Fetch.{Good, Outcome, plain_body}
+use Rattle.data_url.specs.Run.{Call, IsRun, joined, refusal}
+use Rattle.data_url.specs.Fetch.{Good, plain_body}
 use Rattle.data_url.specs.Body.{BeginsFragment, EndsBody, IsBodyEnd, TakesByte, fragment_at}
-use Rattle.data_url.specs.Decodes.{Answers, Decodes, HandsOut, IsRefusedBy}
-use Rattle.data_url.specs.declared.forgiving_base64.DecodeError.{DecodeError}
+use Rattle.data_url.specs.Decodes.{Decodes, HandsOut, IsRefusedBy}
 use Rattle.data_url.specs.declared.forgiving_base64.DecodeError.TheVariants.{WriteError}
 use Rattle.data_url.proofs.WalkLemmas.{some_not_none}
 use Rattle.data_url.proofs.RunLemmas.{joined-append, match_none, refusal-append, run-append}

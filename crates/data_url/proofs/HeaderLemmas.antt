@@ -1,9 +1,8 @@
 -- From the text as it was given, cut behind its scheme and at its first comma, to the stages of the Standard.
-use Rattle.std.proofs.Common.{◌≡◌, ℕ, ◌+◌, ◌<◌, Bool, true, false, cond, List, [], ◌∷◌, ◌++◌, length, take, drop, map, codes, Option, None, Some, refl, sym, ap, ◌∙◌, inl, inr, subst, append_assoc, arith, eqb, eqb-true, eq-eqb}
-use Rattle.std.specs.Prelude.{◌==◌, option_and_then, is_some, IsTrue}
+use Rattle.std.proofs.Common.{◌≡◌, ℕ, true, false, cond, List, [], ◌∷◌, ◌++◌, length, take, drop, map, codes, Option, None, Some, refl, sym, ap, ◌∙◌, inl, inr, subst, eqb-true}
+use Rattle.std.specs.Prelude.{◌==◌, option_and_then}
 use Rattle.std.specs.Option.{option_map}
 use Rattle.std.specs.Char.{to_ascii_lowercase}
-use Rattle.std.specs.List.{AllByRecursion}
 use Rattle.std.specs.Str.{bytes_eq}
 use Rattle.std.proofs.lemmas.Bool.{cases_Bool, cond-true, cond-false, both_ways, ne_eqb}
 use Rattle.std.proofs.lemmas.List.{drop_at, length-map, take_at}
@@ -12,7 +11,7 @@ use Rattle.data_url.specs.Url.{after_scheme, before, behind, cleaned, dropped, f
 use Rattle.data_url.specs.Percent.{percent_decoded}
 use Rattle.data_url.specs.Fetch.{before_comma, encoded_body, header_of, staged_front, tail_of}
 use Rattle.data_url.specs.Front.{HasNoScheme, IsHeaderAndTail, IsSchemeAndRest}
-use Rattle.data_url.proofs.UrlLemmas.{before-append, before_at, before_nil, before_other, before_same, behind-append, behind-dropped_none, behind_at, behind_nil, behind_other, behind_same, dropped-append, dropped_around, dropped_keeps, dropped_nil, dropped_passes, is_cut, lacks}
+use Rattle.data_url.proofs.UrlLemmas.{before-append, before_at, before_nil, before_other, before_same, behind-append, behind-dropped_none, behind_at, behind_nil, behind_other, dropped-append, dropped_around, dropped_keeps, dropped_nil, dropped_passes, lacks}
 use Rattle.data_url.proofs.RecodedLemmas.{IsBytes, Recoded, RecodedTails, before-serialised, recoded-decoded, recoded_tails, serialised_recoded}
 
 -- Bytes

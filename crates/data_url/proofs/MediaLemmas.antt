@@ -1,19 +1,16 @@
 -- The record of a header.
-use Rattle.std.proofs.Common.{◌≡◌, ◌≢◌, ℕ, zero, suc, ◌+◌, ◌<◌, ◌≤◌, Bool, true, false, cond, List, [], ◌∷◌, ◌++◌, length, get_or, map, codes, Option, None, Some, is_some, Result, Ok, Err, IfOk, refl, sym, ap, ◌∙◌, inl, inr, subst, ⊎_elim, ltb, arith}
+use Rattle.std.proofs.Common.{◌≡◌, ◌≢◌, ℕ, suc, ◌<◌, ◌≤◌, Bool, true, false, cond, List, [], ◌∷◌, ◌++◌, length, get_or, map, codes, Option, None, Some, is_some, refl, sym, ap, inl, inr, subst, ⊎_elim, ltb, arith}
 use Rattle.std.specs.Prelude.{◌==◌, ◌⊎◌, ◌-◌, option_and_then}
 use Rattle.std.specs.Str.{IsAscii, bytes_eq, chars}
 use Rattle.std.proofs.lemmas.Bool.{agree_below_at, cases_lt, cond-true, cond-false, eq-eqb, ltb-true, ne_eqb}
 use Rattle.std.proofs.lemmas.List.{get_or_past}
 use Rattle.std.proofs.lemmas.Str.{IsAscii-append, chars-IsAscii}
-use Rattle.data_url.specs.CodePoints.{is_quotable, is_token}
 use Rattle.std.specs.Char.{to_ascii_lowercase}
 use Rattle.std.specs.List.{suffix_len}
 use Rattle.data_url.specs.Fetch.{before_last, before_semicolon, before_word, is_space, last, before_base64, has_base64_suffix, media_of, mime_text, or_else, stripped, with_plain}
 use Rattle.data_url.specs.Url.{dropped, serialised, without_end}
-use Rattle.data_url.specs.Mime.{HasNoRecord, IsRecordOf, IsWellformed, Parses, Record, default_record}
+use Rattle.data_url.specs.Mime.{HasNoRecord, IsWellformed, Parses, Record, default_record}
 use Rattle.data_url.specs.Header.{IsHeaderOf, IsPrintable, IsRecordFor}
-use Rattle.data_url.specs.Seen.{seen}
-use Rattle.data_url.specs.declared.mime.Mime.{Mime}
 use Rattle.data_url.proofs.OnLiterals.{on_literals}
 use Rattle.data_url.proofs.HeaderLemmas.{bytes_dropped}
 use Rattle.data_url.proofs.PrintableLemmas.{printable_ascii, printable_take, serialised_printable}

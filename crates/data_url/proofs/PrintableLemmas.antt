@@ -1,15 +1,14 @@
 -- Serialised headers hold printable bytes alone, so that trimming them is stripping their spaces.
-use Rattle.std.proofs.Common.{◌≡◌, ℕ, zero, suc, ◌+◌, ◌-◌, ◌*◌, ◌/◌, ◌%◌, ◌<◌, ◌≤◌, Bool, true, false, cond, List, [], ◌∷◌, ◌++◌, length, get_or, take, drop, map, reverse, min, codes, refl, sym, ap, ◌∙◌, inl, inr, subst, ⊎_elim, arith, eqb, eqb-true}
-use Rattle.std.specs.Prelude.{◌==◌, ◌||◌, nat_le, nat_lt}
+use Rattle.std.proofs.Common.{◌≡◌, ℕ, zero, suc, ◌+◌, ◌-◌, ◌/◌, ◌%◌, ◌<◌, ◌≤◌, Bool, false, cond, List, [], ◌∷◌, ◌++◌, length, get_or, take, drop, reverse, refl, sym, ap, ◌∙◌, inl, inr, subst, ⊎_elim, arith, eqb-true}
+use Rattle.std.specs.Prelude.{◌==◌, ◌||◌, nat_lt}
 use Rattle.std.specs.List.{prefix_len, suffix_len}
 use Rattle.std.specs.Str.{IsAscii}
 use Rattle.std.proofs.lemmas.Bool.{cases_Bool, cases_lt, cond_both, eqb-false, le-leb, lt-leb, ltb-false, or_parts}
 use Rattle.std.proofs.lemmas.List.{get_or-drop, get_or-reverse, get_or-take, get_or_past, length-drop, length-reverse, length-take}
-use Rattle.std.proofs.lemmas.List.Sums.{prefix_len-le-length}
-use Rattle.data_url.specs.Url.{dropped, encoded_byte, hex_digit, in_path_set, in_query_set, is_c0_control_or_space, percent_encoded, serialised, trimmed, without_end, without_front}
+use Rattle.data_url.specs.Url.{encoded_byte, hex_digit, in_path_set, in_query_set, is_c0_control_or_space, percent_encoded, serialised, trimmed, without_end}
 use Rattle.data_url.specs.Fetch.{is_space, stripped}
 use Rattle.data_url.specs.Header.{IsPrintable}
-use Rattle.data_url.proofs.RecodedLemmas.{IsBytes, encoded_cons, encoded_nil, path_within_query, serialised_nil, serialised_path, serialised_query}
+use Rattle.data_url.proofs.RecodedLemmas.{IsBytes, encoded_cons, encoded_nil, serialised_nil, serialised_path, serialised_query}
 
 -- Serialised texts
 

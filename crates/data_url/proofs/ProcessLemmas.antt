@@ -1,20 +1,19 @@
 -- A text is refused or accepted as the staged Standard says.
-use Rattle.std.proofs.Common.{◌≡◌, ℕ, zero, suc, ◌+◌, ◌-◌, take, ◌<◌, ◌≤◌, Bool, true, false, List, [], ◌∷◌, ◌++◌, length, get_or, drop, Option, None, Some, Result, Ok, Err, refl, sym, ap, ◌∙◌, subst, arith}
+use Rattle.std.proofs.Common.{◌≡◌, ℕ, zero, suc, ◌+◌, ◌-◌, take, ◌<◌, Bool, false, List, [], ◌∷◌, length, get_or, drop, None, Some, Result, refl, sym, ap, ◌∙◌, subst, arith}
 use Rattle.std.specs.Option.{option_map}
 use Rattle.std.proofs.lemmas.List.{drop_all, drop_more}
-use Rattle.data_url.specs.Url.{after_scheme, behind, dropped, fragment, front, in_fragment_set, is_c0_control_or_space, percent_encoded, serialised, trimmed}
+use Rattle.data_url.specs.Url.{behind, dropped, fragment, front, in_fragment_set, is_c0_control_or_space, percent_encoded, serialised, trimmed}
 use Rattle.data_url.specs.Percent.{percent_decoded}
-use Rattle.data_url.specs.Fetch.{Accepted, Good, NoComma, NoScheme, Outcome, encoded_body, has_base64_suffix, header_of, mime_text, outcome, plain_body, staged, staged_after, staged_parts, tail_of}
+use Rattle.data_url.specs.Fetch.{Accepted, Good, NoComma, NoScheme, Outcome, encoded_body, has_base64_suffix, mime_text, outcome, plain_body, staged, staged_after, staged_parts}
 use Rattle.data_url.specs.Front.{HasNoScheme, IsHeaderAndTail, IsSchemeAndRest}
 use Rattle.data_url.specs.Body.{BeginsFragment, IsBodyEnd, fragment_at}
 use Rattle.data_url.specs.Decodes.{Decodes}
 use Rattle.data_url.specs.Header.{IsHeaderOf}
-use Rattle.data_url.specs.Mime.{Record}
 use Rattle.data_url.specs.Seen.{seen}
-use Rattle.data_url.specs.UrlSeen.{IsAcceptable, IsUrlOf, is_base64, mime_of, url_body, url_tail}
+use Rattle.data_url.specs.UrlSeen.{IsAcceptable, IsUrlOf, is_base64, mime_of, url_tail}
 use Rattle.data_url.specs.declared.DataUrl.{DataUrl}
 use Rattle.data_url.specs.declared.forgiving_base64.DecodeError.{DecodeError}
-use Rattle.data_url.proofs.HeaderLemmas.{IsAccepted, after_is, after_none, bytes_append, is_accepted, is_staged, no_header}
+use Rattle.data_url.proofs.HeaderLemmas.{after_is, after_none, bytes_append, is_accepted, is_staged, no_header}
 use Rattle.std.specs.List.{prefix_len, suffix_len}
 use Rattle.data_url.proofs.MediaLemmas.{bytes_by_place}
 use Rattle.data_url.proofs.RecodedLemmas.{IsBytes}

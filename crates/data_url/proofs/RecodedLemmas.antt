@@ -1,9 +1,9 @@
 -- Texts with some of their bytes percent-encoded: they decode alike, and their first commas stand at the same bytes.
-use Rattle.std.proofs.Common.{◌≡◌, ℕ, suc, ◌+◌, ◌*◌, ◌/◌, ◌%◌, ◌<◌, Bool, true, false, not, cond, List, [], ◌∷◌, ◌++◌, Option, None, Some, refl, sym, ap, ◌∙◌, inl, inr, subst, append_assoc, arith, eqb, eqb-true, eq-eqb, ltb}
-use Rattle.std.specs.Prelude.{◌==◌, ◌||◌, ◌&&◌, ◌⊎◌, nat_lt}
+use Rattle.std.proofs.Common.{◌≡◌, ℕ, ◌+◌, ◌*◌, ◌/◌, ◌%◌, ◌<◌, Bool, true, false, not, List, [], ◌∷◌, ◌++◌, Option, None, Some, refl, sym, ap, ◌∙◌, inl, inr, subst, append_assoc, arith, eqb-true}
+use Rattle.std.specs.Prelude.{◌==◌, ◌||◌, ◌&&◌, nat_lt}
 use Rattle.std.specs.Char.{digit_value}
-use Rattle.std.specs.List.{AllByRecursion, flat_map}
-use Rattle.std.proofs.lemmas.Bool.{agree_below_at, and_left, and_parts, and_right, cases_Bool, cond-true, cond-false, cond_both, both_ways, ne_eqb, or_left, or_right}
+use Rattle.std.specs.List.{AllByRecursion}
+use Rattle.std.proofs.lemmas.Bool.{agree_below_at, and_left, and_parts, and_right, cases_Bool, cond-true, cond-false, cond_both, both_ways, ne_eqb, or_left}
 use Rattle.data_url.specs.Url.{before, behind, encoded_byte, hex_digit, in_path_set, in_query_set, percent_encoded, serialised, with_query}
 use Rattle.data_url.specs.Percent.{is_escape, is_hex, percent_decoded}
 use Rattle.data_url.proofs.UrlLemmas.{before-append, before_nil, before_other, before_same, behind_nil, behind_other, behind_same}

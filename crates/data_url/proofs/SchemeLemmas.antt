@@ -1,5 +1,5 @@
 -- Spelling the scheme, one byte after the other.
-use Rattle.std.proofs.Common.{◌≡◌, ◌≢◌, ℕ, ◌+◌, ◌<◌, ◌≤◌, Bool, true, false, List, [], ◌∷◌, ◌++◌, length, get_or, take, drop, map, codes, min, ltb, refl, sym, ap, ◌∙◌, ⊎_elim, arith}
+use Rattle.std.proofs.Common.{◌≡◌, ◌≢◌, ℕ, ◌+◌, ◌<◌, ◌≤◌, true, false, List, [], ◌∷◌, ◌++◌, length, get_or, take, map, codes, min, ltb, refl, sym, ap, ◌∙◌, ⊎_elim, arith}
 use Rattle.std.specs.Char.{to_ascii_lowercase}
 use Rattle.std.specs.Str.{bytes_eq}
 use Rattle.std.proofs.lemmas.Bool.{agree_below_at, cases_lt, false_from_ne_true, ltb-true}
@@ -7,7 +7,7 @@ use Rattle.std.proofs.lemmas.Str.Ascii.{lowercase_is}
 use Rattle.std.proofs.lemmas.List.{get_or_at, get_or-take, length-map, length-take, map-append, take-map, take_more}
 use Rattle.std.proofs.lemmas.Slice.Eq.{bytes_eq-Decides}
 use Rattle.data_url.specs.Url.{dropped, is_tab_or_newline}
-use Rattle.data_url.specs.Front.{HasNoScheme, IsSchemeAndRest}
+use Rattle.data_url.specs.Front.{HasNoScheme}
 use Rattle.data_url.proofs.UrlLemmas.{append-nil, dropped-append, dropped_keeps, dropped_nil, dropped_passes}
 
 abbrev scheme : List ℕ

@@ -1,9 +1,9 @@
 -- Serialising a header, one byte after the other.
-use Rattle.std.proofs.Common.{◌≡◌, ℕ, suc, ◌+◌, ◌<◌, ◌≤◌, Bool, true, false, cond, List, [], ◌∷◌, ◌++◌, length, get_or, take, drop, refl, sym, ap, ◌∙◌, inl, inr, subst, append_assoc, arith, eqb, eqb-true}
+use Rattle.std.proofs.Common.{◌≡◌, ℕ, ◌+◌, ◌<◌, ◌≤◌, true, false, cond, List, [], ◌∷◌, ◌++◌, length, get_or, take, drop, refl, sym, ap, ◌∙◌, inl, inr, subst, append_assoc, arith, eqb-true}
 use Rattle.std.specs.Prelude.{◌==◌}
-use Rattle.std.proofs.lemmas.Bool.{cases_Bool, cond-true, cond-false}
+use Rattle.std.proofs.lemmas.Bool.{cases_Bool, cond-false}
 use Rattle.std.proofs.lemmas.List.{append-nil, drop_all, drop_more, take_all, take_more}
-use Rattle.data_url.specs.Url.{dropped, encoded_byte, in_path_set, in_query_set, in_fragment_set, is_tab_or_newline, percent_encoded, serialised, hex_digit}
+use Rattle.data_url.specs.Url.{dropped, encoded_byte, in_path_set, in_query_set, in_fragment_set, is_tab_or_newline, percent_encoded, serialised}
 use Rattle.data_url.specs.Sets.{in_set}
 use Rattle.data_url.specs.Header.{HasChanges, next_set}
 use Rattle.data_url.specs.declared.percent.EncodeSet.{EncodeSet}

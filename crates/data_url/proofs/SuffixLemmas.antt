@@ -1,15 +1,15 @@
 -- The base64 suffix, read from the end.
-use Rattle.std.proofs.Common.{◌≡◌, ◌≢◌, ℕ, suc, ◌+◌, ◌-◌, ◌<◌, ◌≤◌, Bool, true, false, cond, List, [], ◌∷◌, ◌++◌, length, get_or, take, drop, map, min, codes, Option, None, Some, refl, sym, ap, ◌∙◌, inl, inr, subst, arith, eqb, eqb-true, eq-eqb}
-use Rattle.std.specs.Prelude.{option_and_then, IsTrue, ◌↔◌}
+use Rattle.std.proofs.Common.{◌≡◌, ◌≢◌, ℕ, ◌+◌, ◌-◌, ◌<◌, ◌≤◌, List, [], ◌∷◌, length, get_or, take, drop, map, codes, None, Some, sym, ap, ◌∙◌, subst, arith}
+use Rattle.std.specs.Prelude.{option_and_then}
 use Rattle.std.specs.Char.{to_ascii_lowercase}
 use Rattle.std.specs.List.{suffix_len}
 use Rattle.std.specs.Str.{bytes_eq}
 use Rattle.std.proofs.lemmas.Bool.{cond-true, cond-false, false_from_ne_true}
-use Rattle.std.proofs.lemmas.List.{drop_all, drop_more, get_or-take, length-drop, length-map, length-take, length-take-le, take-take, take_all}
+use Rattle.std.proofs.lemmas.List.{drop_all, drop_more, get_or-take, length-drop, length-map, length-take, length-take-le, take-take}
 use Rattle.std.proofs.lemmas.List.Sums.{suffix_len-le-length}
 use Rattle.std.proofs.lemmas.Slice.Eq.{bytes_eq-Decides}
 use Rattle.data_url.specs.Url.{is_c0_control_or_space, without_end}
-use Rattle.data_url.specs.Fetch.{before_base64, before_last, before_semicolon, before_word, is_space, last}
+use Rattle.data_url.specs.Fetch.{before_base64, before_last, before_semicolon, is_space, last}
 use Rattle.data_url.specs.Header.{IsPrintable}
 use Rattle.data_url.proofs.PrintableLemmas.{low_end, printable_take}
 

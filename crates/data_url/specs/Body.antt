@@ -1,5 +1,5 @@
 -- What the walk over a tail finds at its front: a tail is what stands behind the comma of a text as it was given.
-use Rattle.std.specs.Prelude.{◌≡◌, ◌⊎◌, ℕ, ◌+◌, ◌*◌, ◌<◌, ◌≤◌, ◌&&◌, Bool, true, false, List, [], ◌∷◌, ◌++◌, length, drop, Option, None, Some}
+use Rattle.std.specs.Prelude.{◌≡◌, ℕ, ◌+◌, ◌*◌, ◌<◌, ◌≤◌, ◌&&◌, Bool, true, false, List, [], ◌∷◌, ◌++◌, length, drop, Option, None, Some}
 use Rattle.std.specs.Char.{digit_value}
 use Rattle.data_url.specs.Url.{behind, dropped, is_tab_or_newline}
 use Rattle.data_url.specs.Percent.{is_hex}

@@ -1,5 +1,5 @@
 -- What contracts see of a `DataUrl` and a `FragmentIdentifier`, and what `process` makes of a text (Fetch Standard, section 6).
-use Rattle.std.specs.Prelude.{◌≡◌, ℕ, Bool, List, Option, None, Some, Result, Ok, Err}
+use Rattle.std.specs.Prelude.{◌≡◌, ℕ, Bool, List, Option, Some, Result, Ok, Err}
 use Rattle.std.specs.Option.{option_map}
 use Rattle.data_url.specs.Url.{behind, dropped, fragment, in_fragment_set, percent_encoded}
 use Rattle.data_url.specs.Mime.{IsRecordOf, IsWellformed}

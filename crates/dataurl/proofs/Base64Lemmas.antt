@@ -17,7 +17,7 @@ use Rattle.dataurl.specs.Steps.{DecodesAll, IsDecoded, decoded_all, end_refused,
 use Rattle.dataurl.specs.Writing.{Writes}
 use Rattle.dataurl.specs.declared.fault.Fault.TheVariants.{Base64, Read}
 use Rattle.dataurl.specs.declared.fault.WriteFailed.{WriteFailed}
-use Rattle.dataurl.specs.declared.run.Command.TheVariants.{Base64 as base64}
+use Rattle.dataurl.specs.declared.command.Command.TheVariants.{Base64 as base64}
 use Rattle.dataurl.proofs.ClosureLemmas.{RunWrites, run_writes}
 
 -- the bytes of base64 and how it ends

@@ -12,8 +12,8 @@ use Rattle.dataurl.specs.Output.{End, IsBodyOutput, IsFragmentOutput, IsTextOutp
 use Rattle.dataurl.specs.Runs.{IsRun, Runs, complete, no_memory, not_read, not_written}
 use Rattle.dataurl.specs.Steps.{IsExactly, IsUrlFor, IsWrittenOf, WritesOf, cut_output, encoded_fragment, no_comma_is, no_output, no_scheme_is, no_url_memory, url_is, whole_output}
 use Rattle.dataurl.specs.declared.fault.Fault.{Fault}
-use Rattle.dataurl.specs.declared.run.Command.{Command}
-use Rattle.dataurl.specs.declared.run.Command.TheVariants.{Body, Fragment, MimeType}
+use Rattle.dataurl.specs.declared.command.Command.{Command}
+use Rattle.dataurl.specs.declared.command.Command.TheVariants.{Body, Fragment, MimeType}
 use Rattle.dataurl.proofs.OutputLemmas.{appends_none}
 use Rattle.dataurl.proofs.StepLemmas.{writes_as, writes_map, writes_no_memory, writes_nothing}
 

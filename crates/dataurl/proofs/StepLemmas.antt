@@ -22,7 +22,7 @@ use Rattle.dataurl.specs.Steps.{IsExactly, IsWrittenOf, WritesOf, cut_output, en
 use Rattle.dataurl.specs.Writing.{IsWritten, Writes, all, beginning}
 use Rattle.dataurl.specs.declared.fault.Fault.TheVariants.{Base64, Memory, Mime as no_mime, Write}
 use Rattle.dataurl.specs.declared.fault.WriteFailed.{WriteFailed}
-use Rattle.dataurl.specs.declared.run.Command.TheVariants.{Canonical}
+use Rattle.dataurl.specs.declared.command.Command.TheVariants.{Canonical}
 use Rattle.dataurl.proofs.OutputLemmas.{appends_none}
 
 written_map : {P Q : List ℕ → End → Type 0} → ((w : List ℕ) (e : End) → P w e → Q w e) → (w : List ℕ) (e : End) → IsWrittenOf P w e → IsWrittenOf Q w e

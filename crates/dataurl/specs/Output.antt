@@ -4,8 +4,8 @@ use Rattle.data_url.specs.Base64.{decoded, done, is_valid, kind_of}
 use Rattle.data_url.specs.Fetch.{Accepted, Bad, Good, NoComma as no_comma, NoScheme, Outcome, staged}
 use Rattle.data_url.specs.Mime.{HasNoRecord, IsRecordOf, Parses, Record, printed}
 use Rattle.dataurl.specs.Command.{TakesText, TakesUrl}
-use Rattle.dataurl.specs.declared.run.Command.{Command}
-use Rattle.dataurl.specs.declared.run.Command.TheVariants.{Base64 as base64, Body, Canonical, Fragment, MimeType}
+use Rattle.dataurl.specs.declared.command.Command.{Command}
+use Rattle.dataurl.specs.declared.command.Command.TheVariants.{Base64 as base64, Body, Canonical, Fragment, MimeType}
 use Rattle.dataurl.specs.declared.fault.Fault.{Fault}
 use Rattle.dataurl.specs.declared.fault.Fault.TheVariants.{Base64, Mime, NoComma, NotADataUrl, NotUtf8}
 

@@ -5,8 +5,8 @@ use Rattle.data_url.specs.Base64.{done, first_fault, kind_of}
 use Rattle.data_url.specs.Run.{IsPrefix}
 use Rattle.dataurl.specs.Command.{TakesText}
 use Rattle.dataurl.specs.Output.{End, IsOutput}
-use Rattle.dataurl.specs.declared.run.Command.{Command}
-use Rattle.dataurl.specs.declared.run.Command.TheVariants.{Base64 as base64}
+use Rattle.dataurl.specs.declared.command.Command.{Command}
+use Rattle.dataurl.specs.declared.command.Command.TheVariants.{Base64 as base64}
 use Rattle.dataurl.specs.declared.fault.Fault.TheVariants.{Base64, Memory, Read, Write}
 
 -- what was written of the bytes that were read, and the end, where left is what the reader still has

@@ -2,6 +2,7 @@
 //! standard output. The commands are `body`, `mime`, `fragment`, `type` and `base64`.
 #![tactic(auto)]
 
+mod command;
 mod fault;
 mod input;
 mod output;
@@ -10,8 +11,9 @@ mod stream;
 #[cfg(test)]
 mod tests;
 
+use command::command_of;
 use fault::{Fault, report, usage};
-use run::{command_of, run};
+use run::run;
 use std::env;
 use std::process::ExitCode;
 

@@ -1,16 +1,15 @@
 //! Runs a command: reads an input, and writes what it gives.
 
-ghost use Rattle.std.specs.Prelude.{◌≡◌, ◌+◌, length, map, string_bytes};
+ghost use Rattle.std.specs.Prelude.{◌+◌, length};
 ghost use Rattle.std.specs.Fn.{CalledAt};
 ghost use Rattle.data_url.specs.Decodes.{Decodes};
-ghost use Rattle.data_url.specs.Fetch.{mime_text};
 ghost use Rattle.data_url.specs.Seen.{seen};
 ghost use Rattle.data_url.specs.UrlSeen.{url_body, url_tail};
-ghost use Rattle.dataurl.specs.Command.{command_of_words};
 ghost use Rattle.dataurl.specs.Output.{IsBodyOutput, IsFragmentOutput, IsTextOutput, record_line};
 ghost use Rattle.dataurl.specs.Runs.{Runs};
 ghost use Rattle.dataurl.specs.Steps.{AnyAnswer, IsExactly, IsUrlFor, WritesOf, encoded_fragment, fragment_line};
 
+use crate::command::Command;
 use crate::fault::{Fault, WriteFailed, end_of};
 use crate::input::read_text;
 use crate::output::write_all;
@@ -21,38 +20,6 @@ use data_url::{DataUrl, DataUrlError, FragmentIdentifier};
 use std::alloc::Global;
 use std::convert::Infallible;
 use std::io::{Read, Write};
-
-/// What the program is told to do with standard input.
-#[derive(Clone, Copy)]
-pub enum Command {
-    /// `body`: writes the body of a data: URL.
-    Body,
-    /// `mime`: writes the MIME type of a data: URL, and a line feed.
-    MimeType,
-    /// `fragment`: writes the encoded fragment of a data: URL, and a line feed.
-    Fragment,
-    /// `type`: writes a MIME type as it is printed, and a line feed.
-    Canonical,
-    /// `base64`: writes what forgiving base64 stands for.
-    Base64,
-}
-
-/// The command of the words behind the program's name: there has to be exactly one.
-pub fn command_of(words: &[String]) -> Option<Command>
-    ensures { result ≡ command_of_words (map string_bytes words.now) }
-{
-    let [word] = words else {
-        return None;
-    };
-    match word.as_str() {
-        "body" => Some(Command::Body),
-        "mime" => Some(Command::MimeType),
-        "fragment" => Some(Command::Fragment),
-        "type" => Some(Command::Canonical),
-        "base64" => Some(Command::Base64),
-        _ => None,
-    }
-}
 
 /// The URL of a text.
 fn url_of<'a>(alloc: Global, text: &'a str) -> Result<DataUrl<'a>, Fault>

@@ -7,10 +7,10 @@ ghost use Rattle.data_url.specs.Decoding.{start};
 ghost use Rattle.dataurl.specs.Runs.{Runs};
 ghost use Rattle.dataurl.specs.Steps.{DecodesAll, FeedsAll};
 
+use crate::command::Command;
 use crate::fault::{Fault, WriteFailed, end_of};
 use crate::input::PIECE;
 use crate::output::write_all;
-use crate::run::Command;
 use data_url::forgiving_base64::Decoder;
 use std::io::{Read, Write};
 

@@ -1,7 +1,8 @@
 //! Forgiving base64: whole texts and texts in pieces.
 
 use super::{assert_printed, repeated};
-use crate::run::{Command, run};
+use crate::command::Command;
+use crate::run::run;
 use data_url::forgiving_base64::{DecodeError, Decoder, decode_to_vec};
 use std::alloc::{AllocError, Global};
 use std::io::{self, Read};

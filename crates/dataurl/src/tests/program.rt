@@ -1,7 +1,8 @@
 //! The program, over readers and writers in memory.
 
+use crate::command::command_of;
 use crate::fault::{Fault, report, usage};
-use crate::run::{command_of, run};
+use crate::run::run;
 use std::alloc::{AllocError, Global};
 use std::test::Fail;
 

@@ -1,4 +1,4 @@
-use Rattle.std.proofs.Common.{◌+◌, List, ℕ, length, subst}
+use Rattle.std.proofs.Common.{List, ℕ, length, subst}
 use Rattle.std.specs.Fn.{CalledAt}
 use Rattle.data_url.specs.Body.{IsBodyEnd}
 use Rattle.data_url.specs.Decodes.{Decodes}

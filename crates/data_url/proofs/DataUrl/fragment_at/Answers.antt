@@ -1,8 +1,7 @@
-use Rattle.std.proofs.Common.{◌≡◌, Some, List, ℕ, length, sym, ap, ◌∙◌, subst, arith}
+use Rattle.std.proofs.Common.{Some, List, ℕ, length, sym, ap, ◌∙◌, subst, arith}
 use Rattle.std.specs.Str.{IsUtf8}
 use Rattle.std.proofs.lemmas.Str.{IsCharBoundary-after_ascii}
-use Rattle.data_url.specs.UrlSeen.{url_tail}
-use Rattle.data_url.proofs.ProcessLemmas.{has_hash, no_fragment}
+use Rattle.data_url.proofs.ProcessLemmas.{has_hash}
 use Rattle.data_url.proofs.DataUrl.fragment_at.Goals as goal
 
 pub range_from-requires : goal.range_from-requires

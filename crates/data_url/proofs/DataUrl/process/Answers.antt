@@ -1,7 +1,5 @@
-use Rattle.std.proofs.Common.{◌≡◌, List, ℕ, Bool, Some, sym, ap, ◌∙◌, subst, arith}
-use Rattle.data_url.specs.Url.{behind, front, trimmed}
-use Rattle.data_url.specs.Front.{HasNoScheme, IsHeaderAndTail, IsSchemeAndRest}
-use Rattle.data_url.proofs.RecodedLemmas.{IsBytes}
+use Rattle.std.proofs.Common.{subst, arith}
+use Rattle.data_url.specs.Front.{HasNoScheme, IsSchemeAndRest}
 use Rattle.data_url.proofs.ProcessLemmas.{bytes_trimmed, is_acceptable, is_url_of, stages_no_comma, stages_no_scheme}
 use Rattle.data_url.proofs.DataUrl.process.Goals as goal
 

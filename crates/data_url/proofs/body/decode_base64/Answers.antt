@@ -1,7 +1,6 @@
-use Rattle.std.proofs.Common.{◌≡◌, ◌≤◌, ◌-◌, List, [], Ok, Err, false, length, refl, sym, ap, ◌∙◌, subst, arith}
+use Rattle.std.proofs.Common.{[], Ok, Err, false, refl, ap, arith}
 use Rattle.std.specs.Fn.{CalledAt}
 use Rattle.data_url.specs.DecoderState.{state_of}
-use Rattle.data_url.specs.Decoding.{State}
 use Rattle.data_url.proofs.ByteLemmas.{feeds_none}
 use Rattle.data_url.proofs.Base64BodyLemmas.{fed_ended, fed_more, fed_none, fed_refused}
 use Rattle.data_url.proofs.body.decode_base64.Goals as goal

@@ -1,4 +1,4 @@
-use Rattle.std.proofs.Common.{Ok, Err, refl, of_calls}
+use Rattle.std.proofs.Common.{refl, of_calls}
 use Rattle.std.specs.Fn.{CalledAt}
 use Rattle.data_url.proofs.DecodeLemmas.{going_ends, going_more, going_refused}
 use Rattle.data_url.proofs.body.decode_plain.Goals as goal

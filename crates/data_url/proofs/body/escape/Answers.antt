@@ -1,5 +1,5 @@
 use Rattle.std.proofs.Common.{refl}
-use Rattle.data_url.proofs.BodyLemmas.{has_escape, no_first, no_second}
+use Rattle.data_url.proofs.BodyLemmas.{has_escape}
 use Rattle.data_url.proofs.body.escape.Goals as goal
 
 pub returns : goal.returns

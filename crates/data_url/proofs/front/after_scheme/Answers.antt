@@ -1,8 +1,7 @@
-use Rattle.std.proofs.Common.{◌≡◌, ◌<◌, ◌≤◌, ◌+◌, ℕ, Bool, true, false, List, [], ◌∷◌, ◌++◌, length, get_or, take, drop, map, codes, sym, ap, ◌∙◌, subst, arith}
+use Rattle.std.proofs.Common.{◌≡◌, ◌<◌, ◌≤◌, ◌+◌, ℕ, Bool, true, false, List, ◌++◌, length, get_or, take, drop, map, codes, sym, ap, ◌∙◌, subst, arith}
 use Rattle.std.specs.Char.{to_ascii_lowercase}
 use Rattle.std.proofs.lemmas.List.{drop_more, take_all, take_more, take-append-drop}
 use Rattle.std.proofs.lemmas.Str.{IsCharBoundary-after_ascii}
-use Rattle.data_url.specs.Front.{HasNoScheme, IsSchemeAndRest}
 use Rattle.data_url.specs.Url.{dropped, is_tab_or_newline}
 use Rattle.data_url.proofs.SchemeLemmas.{Spells, differs, ends_early, scheme_is_ascii, spells_all, spells_more, spells_nothing, spells_passed}
 use Rattle.data_url.proofs.front.after_scheme.Goals as goal

@@ -1,4 +1,4 @@
-use Rattle.std.proofs.Common.{◌≡◌, ◌<◌, ◌+◌, ◌-◌, ℕ, Some, length, get_or, take, drop, position, sym, ap, ◌∙◌, arith, subst}
+use Rattle.std.proofs.Common.{◌≡◌, ◌-◌, get_or, take, position, sym, ap, ◌∙◌, arith, subst}
 use Rattle.std.proofs.lemmas.Str.{IsCharBoundary-after_ascii, IsCharBoundary-before_ascii}
 use Rattle.data_url.specs.Front.{IsHeaderAndTail, ends_header}
 use Rattle.data_url.proofs.CommaLemmas.{at_comma, at_hash, at_none, is_ascii_end, is_front_end}

@@ -1,6 +1,3 @@
-use Rattle.std.proofs.Common.{ℕ, ◌-◌, ◌≤◌, ◌<◌, length, arith, leb-true, ap, sym, ◌∙◌, subst}
-use Rattle.std.specs.Str.{IsCharBoundary}
-use Rattle.std.specs.List.{suffix_len}
 use Rattle.std.proofs.lemmas.List.Sums.{suffix_len-le-length}
 use Rattle.data_url.specs.Url.{is_c0_control_or_space}
 use Rattle.data_url.proofs.TextCuts.{boundary_before_end, is_low}

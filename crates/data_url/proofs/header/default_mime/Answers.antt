@@ -1,7 +1,4 @@
-use Rattle.std.proofs.Common.{ap, ◌∙◌, sym}
-use Rattle.std.specs.Prelude.{string_bytes, List, [], ◌∷◌, ◌++◌, map}
-use Rattle.data_url.specs.Seen.{pair_of}
-use Rattle.data_url.specs.Mime.{Record}
+use Rattle.std.specs.Prelude.{string_bytes}
 use Rattle.data_url.proofs.MediaLemmas.{default_is}
 use Rattle.data_url.proofs.header.default_mime.Goals as goal
 

@@ -1,8 +1,6 @@
-use Rattle.std.proofs.Common.{◌≡◌, sym, ap, ◌∙◌, subst, arith}
-use Rattle.std.specs.Prelude.{string_bytes}
+use Rattle.std.proofs.Common.{sym, ap, ◌∙◌, subst, arith}
 use Rattle.data_url.specs.Url.{dropped, serialised}
-use Rattle.data_url.specs.Header.{IsHeaderOf, IsPrintable}
-use Rattle.data_url.specs.Seen.{seen}
+use Rattle.data_url.specs.Header.{IsPrintable}
 use Rattle.data_url.proofs.MediaLemmas.{header_printable}
 use Rattle.data_url.proofs.header.read_header.Goals as goal
 

@@ -1,5 +1,5 @@
-use Rattle.std.proofs.Common.{◌≡◌, ◌≢◌, ℕ, List, [], ◌++◌, codes, length, get_or, inl, inr, sym, ap, ◌∙◌, subst, eqb-true}
-use Rattle.std.specs.Prelude.{◌⊎◌, string_bytes}
+use Rattle.std.proofs.Common.{◌≡◌, ◌≢◌, [], ◌++◌, codes, length, get_or, inl, inr, sym, ap, ◌∙◌, subst, eqb-true}
+use Rattle.std.specs.Prelude.{◌⊎◌}
 use Rattle.std.specs.Str.{chars}
 use Rattle.std.proofs.lemmas.List.{nil_from_length}
 use Rattle.std.proofs.lemmas.Result.{IfOk-weaker}

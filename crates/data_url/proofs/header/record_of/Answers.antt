@@ -2,8 +2,6 @@ use Rattle.std.proofs.Common.{Err, subst, sym}
 use Rattle.data_url.specs.Parsing.{IsParsingError}
 use Rattle.std.proofs.lemmas.Result.{IfOk-weaker}
 use Rattle.std.specs.Str.{chars}
-use Rattle.data_url.specs.Mime.{default_record}
-use Rattle.data_url.specs.Header.{IsRecordFor}
 use Rattle.data_url.specs.Seen.{seen}
 use Rattle.data_url.proofs.MediaLemmas.{default_for}
 use Rattle.data_url.proofs.header.record_of.Goals as goal

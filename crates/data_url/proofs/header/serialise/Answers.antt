@@ -1,9 +1,6 @@
-use Rattle.std.proofs.Common.{◌≡◌, ◌++◌, sym, ap, ◌∙◌, subst, get_or}
+use Rattle.std.proofs.Common.{sym, ◌∙◌}
 use Rattle.std.specs.Prelude.{string_bytes}
-use Rattle.data_url.specs.Url.{dropped, encoded_byte, is_tab_or_newline, serialised}
-use Rattle.data_url.specs.Header.{next_set}
-use Rattle.data_url.specs.Sets.{in_set}
-use Rattle.data_url.proofs.SerialiseLemmas.{Wrote, wrote_all, wrote_more, wrote_passed}
+use Rattle.data_url.proofs.SerialiseLemmas.{wrote_all, wrote_more, wrote_passed}
 use Rattle.data_url.proofs.header.serialise.Goals as goal
 
 pub loop-byte-preserved-then-is_passed_over : goal.loop-byte-preserved-then-is_passed_over

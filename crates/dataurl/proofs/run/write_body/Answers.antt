@@ -1,4 +1,4 @@
-use Rattle.dataurl.specs.declared.run.Command.TheVariants.{Body}
+use Rattle.dataurl.specs.declared.command.Command.TheVariants.{Body}
 use Rattle.dataurl.proofs.CommandRunLemmas.{body_writes_of, refused_url}
 use Rattle.dataurl.proofs.run.write_body.Goals as goal
 

@@ -1,4 +1,4 @@
-use Rattle.dataurl.specs.declared.run.Command.TheVariants.{Fragment}
+use Rattle.dataurl.specs.declared.command.Command.TheVariants.{Fragment}
 use Rattle.dataurl.proofs.CommandRunLemmas.{fragment_writes_of, refused_url}
 use Rattle.dataurl.proofs.run.write_fragment.Goals as goal
 

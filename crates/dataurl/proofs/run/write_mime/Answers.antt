@@ -1,4 +1,4 @@
-use Rattle.dataurl.specs.declared.run.Command.TheVariants.{MimeType}
+use Rattle.dataurl.specs.declared.command.Command.TheVariants.{MimeType}
 use Rattle.dataurl.proofs.CommandRunLemmas.{mime_writes_of, refused_url}
 use Rattle.dataurl.proofs.run.write_mime.Goals as goal
 

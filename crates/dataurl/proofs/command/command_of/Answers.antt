@@ -1,5 +1,5 @@
 use Rattle.dataurl.proofs.CommandLemmas.{no_command}
-use Rattle.dataurl.proofs.run.command_of.Goals as goal
+use Rattle.dataurl.proofs.command.command_of.Goals as goal
 
 pub returns-in_default-as_str : goal.returns-in_default-as_str
 returns-in_default-as_str c =

@@ -1,0 +1,36 @@
+//! The commands, and the words that name them.
+
+ghost use Rattle.std.specs.Prelude.{◌≡◌, map, string_bytes};
+ghost use Rattle.dataurl.specs.Command.{command_of_words};
+
+/// What the program is told to do with standard input.
+#[derive(Clone, Copy)]
+pub enum Command {
+    /// `body`: writes the body of a data: URL.
+    Body,
+    /// `mime`: writes the MIME type of a data: URL, and a line feed.
+    MimeType,
+    /// `fragment`: writes the encoded fragment of a data: URL, and a line feed.
+    Fragment,
+    /// `type`: writes a MIME type as it is printed, and a line feed.
+    Canonical,
+    /// `base64`: writes what forgiving base64 stands for.
+    Base64,
+}
+
+/// The command of the words behind the program's name: there has to be exactly one.
+pub fn command_of(words: &[String]) -> Option<Command>
+    ensures { result ≡ command_of_words (map string_bytes words.now) }
+{
+    let [word] = words else {
+        return None;
+    };
+    match word.as_str() {
+        "body" => Some(Command::Body),
+        "mime" => Some(Command::MimeType),
+        "fragment" => Some(Command::Fragment),
+        "type" => Some(Command::Canonical),
+        "base64" => Some(Command::Base64),
+        _ => None,
+    }
+}
