@@ -48,7 +48,7 @@ refused_run : (u bytes written : List ℕ) (left : Option (List ℕ)) (r : Resul
 refused_run u bytes written left r error failed q w h =
     let same : WriteError failed ≡ error = let k = h.answer in cc in
     let P : DecodeError WriteFailed → Type 0 = λ x. IsRun u left base64 written (Err (decode_fault x)) in
-    subst P same (not_written (base64_output u).1 (prefix_trans written bytes (cond (is_valid u) (decoded u) (done u)) w h.bytes_begin))
+    subst P same (not_written (λ t. absurd t) (base64_output u).1 (prefix_trans written bytes (cond (is_valid u) (decoded u) (done u)) w h.bytes_begin))
 
 whole_run : (u bytes : List ℕ) (held now : Option (List ℕ)) (left : Option (List ℕ)) (r : Result (Unit {0}) (DecodeError WriteFailed)) (o : Option WriteFailed) (w : RunWrites held now bytes o) → r ≡ Ok tt → IsAtEnd left → MatchOption o (MatchBool (is_valid u) (IsAll u bytes r) ((bytes ≡ done u) × (r ≡ Err (InvalidBase64 (kind_of u))))) (λ e. IsRefused (cond (is_valid u) (decoded u) (done u)) bytes e r) → IsRun u left base64 w.written (Ok tt)
 whole_run u bytes held now left r None w q end h = valid_run u bytes w.written left r (is_valid u) refl q (w.whole refl) end h

@@ -15,8 +15,8 @@ pub data IsRun (x : List ℕ) (left : Option (List ℕ)) : Command → List ℕ 
   complete : {c : Command} {written : List ℕ} {end : End} → IsAtEnd left → IsOutput x c written end → IsRun x left c written end
   -- base64 is read no further than a fault
   stopped : is_some (first_fault x) ≡ true → IsRun x left base64 (done x) (Err (Base64 (kind_of x)))
-  -- the writer took a beginning of the output
-  not_written : {c : Command} {written whole : List ℕ} {end : End} → IsOutput x c whole end → IsPrefix written whole → IsRun x left c written (Err Write)
+  -- the writer took a beginning of the output: of a whole input, where it is taken as a text
+  not_written : {c : Command} {written whole : List ℕ} {end : End} → (TakesText c → IsAtEnd left) → IsOutput x c whole end → IsPrefix written whole → IsRun x left c written (Err Write)
   -- the reader failed: base64 was written as far as it was read
   not_read : {c : Command} → TakesText c → IsRun x left c [] (Err Read)
   base64_not_read : first_fault x ≡ None → IsRun x left base64 (done x) (Err Read)
