@@ -185,3 +185,19 @@ fn a_decoder_tells_that_it_failed(rt: HostRuntime) -> Result<(), Fail> {
     assert!(rt; calls == 1);
     Ok(())
 }
+
+#[test]
+fn no_call_behind_a_refusal_of_the_last_bytes(rt: HostRuntime) -> Result<(), Fail> {
+    let mut calls: usize = 0;
+    let mut decoder = Decoder::new(|_piece: &[u8]| -> Result<(), usize> {
+        calls = calls.saturating_add(1);
+        Err(calls)
+    });
+    assert!(rt; decoder.feed("YWI".as_bytes()).is_ok() && !decoder.has_failed());
+    match decoder.finish() {
+        Err(DecodeError::WriteError(call)) => assert!(rt; call == 1),
+        _ => assert!(rt; false),
+    }
+    assert!(rt; calls == 1);
+    Ok(())
+}
