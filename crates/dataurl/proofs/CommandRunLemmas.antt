@@ -61,7 +61,7 @@ was_read left input r text e text_read_failed = absurd (let k = e in cc)
 
 text_run : {c : Command} {left : Option (List ℕ)} {input : List ℕ} → TakesText c → IsUtf8 input → IsAtEnd left → (written : List ℕ) (r : End) → IsWrittenOf (IsTextOutput input c) written r → IsRun input left c written r
 text_run t u end written r (whole_output h) = complete end (of_text u h)
-text_run t u end written r (cut_output h p) = not_written (λ _. end) (of_text u h) p
+text_run t u end written r (cut_output h p) = not_written end (of_text u h) p
 text_run t u end written r no_output = no_memory t
 
 pub text_runs : {c : Command} {unread left held now : Option (List ℕ)} {text : String Global} {r : End} (x : List ℕ) → TakesText c → ReadsText unread left (Ok text) → x ≡ string_bytes text → WritesOf (IsTextOutput x c) held now r → Runs c unread left held now r

@@ -1,5 +1,5 @@
 -- Writing bytes, part by part.
-use Rattle.std.proofs.Common.{◌≡◌, ℕ, List, [], ◌++◌, length, take, drop, Option, None, Some, Ok, Err, refl, sym, ap, ◌∙◌, append_assoc, take-append-drop, take_all, length-drop, le_of_eq, ◌-◌, subst}
+use Rattle.std.proofs.Common.{◌≡◌, ℕ, ◌<◌, List, [], ◌++◌, length, take, drop, Option, None, Some, Ok, Err, refl, sym, ap, ◌∙◌, append_assoc, take-append-drop, take_all, length-drop, le_of_eq, ◌-◌, subst}
 use Rattle.std.proofs.lemmas.List.{append-nil}
 use Rattle.std.specs.Io.KnownBytes.{Appends, Keeps}
 use Rattle.dataurl.specs.Writing.{IsWritten, Writes, all, beginning}
@@ -43,15 +43,17 @@ going_ends bytes rest old now e g =
     let P : List ℕ → Type 0 = λ w. IsWritten bytes w (Ok tt) in
     record { written = g.written; appended = g.appended; is_written = subst P (sym same) all }
 
-pub going_fails : (bytes rest : List ℕ) (old now new : Option (List ℕ)) (failed : WriteFailed) → Keeps now new → Going bytes rest old now → Writes bytes old new (Err failed)
-going_fails bytes rest old now new failed k g =
-    record { written = g.written; appended = appends_kept old now new g.written g.appended k; is_written = beginning (rest, g.joined) }
+pub going_fails : (bytes rest : List ℕ) (old now new : Option (List ℕ)) (failed : WriteFailed) → 0 < length rest → Keeps now new → Going bytes rest old now → Writes bytes old new (Err failed)
+going_fails bytes rest old now new failed some k g =
+    record { written = g.written; appended = appends_kept old now new g.written g.appended k; is_written = beginning (rest, g.joined, some) }
 
 -- nothing was taken
-pub going_stops : (bytes rest : List ℕ) (n : ℕ) (old now new : Option (List ℕ)) (failed : WriteFailed) → Appends now new (take n rest) → Going bytes rest old now → Writes bytes old new (Err failed)
-going_stops bytes rest n old now new failed a g =
+pub going_stops : (bytes rest : List ℕ) (n : ℕ) (old now new : Option (List ℕ)) (failed : WriteFailed) → n ≡ 0 → 0 < length rest → Appends now new (take n rest) → Going bytes rest old now → Writes bytes old new (Err failed)
+going_stops bytes rest n old now new failed z some a g =
     let m = going_more bytes rest n old now new g a in
-    record { written = m.written; appended = m.appended; is_written = beginning (drop n rest, m.joined) }
+    let P : ℕ → Type 0 = λ k. 0 < length (drop k rest) in
+    let left : 0 < length (drop n rest) = subst P (sym z) some in
+    record { written = m.written; appended = m.appended; is_written = beginning (drop n rest, m.joined, left) }
 
 -- a slice from a place to the end
 pub to_the_end : (n : ℕ) (s t : List ℕ) → t ≡ s → take (length t - n) (drop n s) ≡ drop n s

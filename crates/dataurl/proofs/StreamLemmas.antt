@@ -1,10 +1,10 @@
 -- Base64 that is decoded as it is read.
-use Rattle.std.proofs.Common.{◌≡◌, ℕ, ◌<◌, List, [], ◌++◌, length, take, Option, Result, Ok, Err, refl, sym, ap, ◌∙◌, subst}
+use Rattle.std.proofs.Common.{◌≡◌, ℕ, ◌<◌, ◌≤◌, List, [], ◌++◌, length, take, Option, Result, Ok, Err, refl, sym, ap, ◌∙◌, subst}
 use Rattle.std.specs.Io.KnownBytes.{Consumes, IsAtEnd, Keeps}
 use Rattle.std.proofs.lemmas.List.{append-nil}
 use Rattle.data_url.specs.Decoding.{Decodes, Feeds, Finishes, State, start}
 use Rattle.data_url.specs.declared.forgiving_base64.DecodeError.{DecodeError}
-use Rattle.data_url.proofs.DecoderLemmas.{feeds_then}
+use Rattle.data_url.proofs.DecoderLemmas.{feeds_then, feeds_took}
 use Rattle.data_url.proofs.WholeLemmas.{decodes_finished, fed_nothing}
 use Rattle.dataurl.specs.Output.{End}
 use Rattle.dataurl.specs.Status.{decode_end, decode_fault}
@@ -39,13 +39,13 @@ module _ {F : Type 0} (step : F → List ℕ → Result (Unit {0}) WriteFailed �
       let P : List ℕ → Type 0 = λ s. Consumes unread left s in
       record { input = h.input; consumed = subst P same all; is_fed = fed_all h.fed (r.1 z some) }
 
-  pub feeds_error : {f : F} {d d' : State F} {unread now left : Option (List ℕ)} {piece : List ℕ} {error : DecodeError WriteFailed} {fault : Fault} → Fed f d unread now → Consumes now left piece → Feeds step d piece (Err error) d' → fault ≡ decode_fault error → FeedsAll step f d' unread left (Err fault)
-  feeds_error {f} {d' = d'} {unread} {now} {left} {piece} h c k e =
+  pub feeds_error : {f : F} {d d' : State F} {unread now left : Option (List ℕ)} {piece : List ℕ} {error : DecodeError WriteFailed} {fault : Fault} → Fed f d unread now → Consumes now left piece → length piece ≤ 4096 → Feeds step d piece (Err error) d' → fault ≡ decode_fault error → FeedsAll step f d' unread left (Err fault)
+  feeds_error {f} {d' = d'} {unread} {now} {left} {piece} h c few k e =
       let P : Fault → Type 0 = λ x. FeedsAll step f d' unread left (Err x) in
       subst P (sym e) (record {
         input = h.input ++ piece;
         consumed = consumes_then unread now left h.input piece h.consumed c;
-        is_fed = fed_error (feeds_then step h.fed k);
+        is_fed = fed_error (feeds_then step h.fed k) (record { earlier = h.input; last = piece; joined = refl; is_sound = (feeds_took step h.fed).1.no_fault; is_piece = few });
       })
 
   pub feeds_not_read : {f : F} {d : State F} {unread now left : Option (List ℕ)} → Fed f d unread now → Keeps now left → FeedsAll step f d unread left (Err Read)
@@ -59,7 +59,7 @@ module _ {F : Type 0} (step : F → List ℕ → Result (Unit {0}) WriteFailed �
 
   fed_whole : (f : F) (input : List ℕ) (d : State F) (left : Option (List ℕ)) (r : End) → r ≡ Ok tt → IsFed step f input d left r → Feeds step (start f) input (Ok tt) d × IsAtEnd left
   fed_whole f input d left r e (fed_all h end) = (h, end)
-  fed_whole f input d left r e (fed_error h) = absurd (let k = e in cc)
+  fed_whole f input d left r e (fed_error h sound) = absurd (let k = e in cc)
   fed_whole f input d left r e (not_fed h) = absurd (let k = e in cc)
 
   ended_by : {f g : F} {left : Option (List ℕ)} (input : List ℕ) (r : Result (Unit {0}) (DecodeError WriteFailed)) → Decodes step f input r g → IsAtEnd left → IsDecoded step f input g left (decode_end r)
@@ -79,7 +79,7 @@ module _ {F : Type 0} (step : F → List ℕ → Result (Unit {0}) WriteFailed �
 
   stopped_at : (f g : F) (input : List ℕ) (d : State F) (left : Option (List ℕ)) (r : End) (fault : Fault) → r ≡ Err fault → d.closure ≡ g → IsFed step f input d left r → IsDecoded step f input g left r
   stopped_at f g input d left r fault e k (fed_all h end) = absurd (let x = e in cc)
-  stopped_at f g input d left r fault e k (fed_error h) = piece_refused h k
+  stopped_at f g input d left r fault e k (fed_error h sound) = piece_refused h sound k
   stopped_at f g input d left r fault e k (not_fed h) = not_decoded h k
 
   pub decodes_stopped : {f g : F} {d d' : State F} {unread left : Option (List ℕ)} {fault : Fault} → d ≡ start f → FeedsAll step d.closure d' unread left (Err fault) → g ≡ d'.closure → DecodesAll step f g unread left (Err fault)

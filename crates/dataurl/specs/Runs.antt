@@ -1,23 +1,33 @@
 -- What running a command does to a reader and a writer.
-use Rattle.std.specs.Prelude.{◌≡◌, ℕ, true, List, [], Option, None, is_some, Err}
+use Rattle.std.specs.Prelude.{◌≡◌, ℕ, ◌≤◌, true, List, [], ◌++◌, length, Option, None, is_some, Err}
 use Rattle.std.specs.Io.KnownBytes.{Appends, Consumes, IsAtEnd}
 use Rattle.data_url.specs.Base64.{done, first_fault, kind_of}
-use Rattle.data_url.specs.Run.{IsPrefix}
 use Rattle.dataurl.specs.Command.{TakesText}
 use Rattle.dataurl.specs.Output.{End, IsOutput}
+use Rattle.dataurl.specs.Writing.{IsBeginning}
 use Rattle.dataurl.specs.declared.command.Command.{Command}
 use Rattle.dataurl.specs.declared.command.Command.TheVariants.{Base64 as base64}
 use Rattle.dataurl.specs.declared.fault.Fault.TheVariants.{Base64, Memory, Read, Write}
+
+-- before its last piece, which is one read of at most 4,096 bytes, the base64 has no fault
+pub record IsSoundBeforeLastPiece (x : List ℕ) : Type 0 where
+  pub earlier : List ℕ
+  pub last : List ℕ
+  pub joined : x ≡ earlier ++ last
+  pub is_sound : first_fault earlier ≡ None
+  pub is_piece : length last ≤ 4096
 
 -- what was written of the bytes that were read, and the end, where left is what the reader still has
 pub data IsRun (x : List ℕ) (left : Option (List ℕ)) : Command → List ℕ → End → Type 0 where
   -- the whole input was read, and the output is the command's
   complete : {c : Command} {written : List ℕ} {end : End} → IsAtEnd left → IsOutput x c written end → IsRun x left c written end
-  -- base64 is read no further than a fault
-  stopped : is_some (first_fault x) ≡ true → IsRun x left base64 (done x) (Err (Base64 (kind_of x)))
-  -- the writer took a beginning of the output: of a whole input, where it is taken as a text
-  not_written : {c : Command} {written whole : List ℕ} {end : End} → (TakesText c → IsAtEnd left) → IsOutput x c whole end → IsPrefix written whole → IsRun x left c written (Err Write)
-  -- the reader failed: base64 was written as far as it was read
+  -- base64 is read no further than the piece that has the fault
+  stopped : IsSoundBeforeLastPiece x → is_some (first_fault x) ≡ true → IsRun x left base64 (done x) (Err (Base64 (kind_of x)))
+  -- the writer took a beginning of the output of the whole input, and not all
+  not_written : {c : Command} {written whole : List ℕ} {end : End} → IsAtEnd left → IsOutput x c whole end → IsBeginning written whole → IsRun x left c written (Err Write)
+  -- it took a beginning of what is decoded of base64 as far as it was read, and not all
+  base64_not_written : {written : List ℕ} → IsSoundBeforeLastPiece x → IsBeginning written (done x) → IsRun x left base64 written (Err Write)
+  -- the reader failed: of base64 the complete groups that were read are written, decoded
   not_read : {c : Command} → TakesText c → IsRun x left c [] (Err Read)
   base64_not_read : first_fault x ≡ None → IsRun x left base64 (done x) (Err Read)
   -- memory was refused, and nothing was written

@@ -3,13 +3,14 @@ use Rattle.std.specs.Prelude.{◌≡◌, ℕ, List, [], ◌∷◌, ◌++◌, Opt
 use Rattle.std.specs.Io.KnownBytes.{Appends, Consumes, IsAtEnd}
 use Rattle.data_url.specs.Decoding.{Decodes, Feeds, State, start}
 use Rattle.data_url.specs.Fetch.{NoComma as no_comma, NoScheme, staged}
-use Rattle.data_url.specs.Run.{IsPrefix}
 use Rattle.data_url.specs.Url.{dropped, fragment, in_fragment_set, percent_encoded}
 use Rattle.data_url.specs.UrlSeen.{IsAcceptable, IsUrlOf, fragment_text, url_tail}
 use Rattle.data_url.specs.declared.DataUrl.{DataUrl}
 use Rattle.data_url.specs.declared.FragmentIdentifier.{FragmentIdentifier}
 use Rattle.data_url.specs.declared.forgiving_base64.DecodeError.{DecodeError}
 use Rattle.dataurl.specs.Output.{End}
+use Rattle.dataurl.specs.Runs.{IsSoundBeforeLastPiece}
+use Rattle.dataurl.specs.Writing.{IsBeginning}
 use Rattle.dataurl.specs.Status.{decode_fault}
 use Rattle.dataurl.specs.declared.fault.Fault.{Fault}
 use Rattle.dataurl.specs.declared.fault.Fault.TheVariants.{Memory, NoComma, NotADataUrl, Read, Write}
@@ -26,10 +27,10 @@ pub data IsUrlFor (x : List ℕ) : Result DataUrl Fault → Type 0 where
   no_comma_is : staged x ≡ no_comma → IsUrlFor x (Err NoComma)
   no_url_memory : IsAcceptable (staged x) → IsUrlFor x (Err Memory)
 
--- what was written of an output: all of it, a beginning that the writer took, or nothing for want of memory
+-- what was written of an output: all of it, a beginning that is not all and that the writer took, or nothing for want of memory
 pub data IsWrittenOf (IsOutput : List ℕ → End → Type 0) : List ℕ → End → Type 0 where
   whole_output : {written : List ℕ} {end : End} → IsOutput written end → IsWrittenOf IsOutput written end
-  cut_output : {written whole : List ℕ} {end : End} → IsOutput whole end → IsPrefix written whole → IsWrittenOf IsOutput written (Err Write)
+  cut_output : {written whole : List ℕ} {end : End} → IsOutput whole end → IsBeginning written whole → IsWrittenOf IsOutput written (Err Write)
   no_output : IsWrittenOf IsOutput [] (Err Memory)
 
 -- a writer took of an output
@@ -53,7 +54,7 @@ fragment_line found = percent_encoded in_fragment_set (dropped (fragment_text fo
 -- a decoder that begins at f was fed what was read: all of it, or up to an error, or to where the reader failed
 pub data IsFed {F : Type 0} (step : F → List ℕ → Result (Unit {0}) WriteFailed → F → Type 0) (f : F) (input : List ℕ) (d : State F) (left : Option (List ℕ)) : End → Type 0 where
   fed_all : Feeds step (start f) input (Ok tt) d → IsAtEnd left → IsFed step f input d left (Ok tt)
-  fed_error : {error : DecodeError WriteFailed} → Feeds step (start f) input (Err error) d → IsFed step f input d left (Err (decode_fault error))
+  fed_error : {error : DecodeError WriteFailed} → Feeds step (start f) input (Err error) d → IsSoundBeforeLastPiece input → IsFed step f input d left (Err (decode_fault error))
   not_fed : Feeds step (start f) input (Ok tt) d → IsFed step f input d left (Err Read)
 
 pub record FeedsAll {F : Type 0} (step : F → List ℕ → Result (Unit {0}) WriteFailed → F → Type 0) (f : F) (d : State F) (unread left : Option (List ℕ)) (r : End) : Type 0 where
@@ -65,7 +66,7 @@ pub record FeedsAll {F : Type 0} (step : F → List ℕ → Result (Unit {0}) Wr
 pub data IsDecoded {F : Type 0} (step : F → List ℕ → Result (Unit {0}) WriteFailed → F → Type 0) (f : F) (input : List ℕ) (g : F) (left : Option (List ℕ)) : End → Type 0 where
   decoded_all : Decodes step f input (Ok tt) g → IsAtEnd left → IsDecoded step f input g left (Ok tt)
   end_refused : {error : DecodeError WriteFailed} → Decodes step f input (Err error) g → IsAtEnd left → IsDecoded step f input g left (Err (decode_fault error))
-  piece_refused : {error : DecodeError WriteFailed} {d : State F} → Feeds step (start f) input (Err error) d → d.closure ≡ g → IsDecoded step f input g left (Err (decode_fault error))
+  piece_refused : {error : DecodeError WriteFailed} {d : State F} → Feeds step (start f) input (Err error) d → IsSoundBeforeLastPiece input → d.closure ≡ g → IsDecoded step f input g left (Err (decode_fault error))
   not_decoded : {d : State F} → Feeds step (start f) input (Ok tt) d → d.closure ≡ g → IsDecoded step f input g left (Err Read)
 
 pub record DecodesAll {F : Type 0} (step : F → List ℕ → Result (Unit {0}) WriteFailed → F → Type 0) (f g : F) (unread left : Option (List ℕ)) (r : End) : Type 0 where

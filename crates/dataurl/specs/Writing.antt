@@ -1,13 +1,16 @@
 -- What writing bytes does to what a writer holds.
-use Rattle.std.specs.Prelude.{ℕ, List, Option, Result, Ok, Err}
+use Rattle.std.specs.Prelude.{◌≡◌, ℕ, ◌<◌, List, ◌++◌, length, Option, Result, Ok, Err}
 use Rattle.std.specs.Io.KnownBytes.{Appends}
-use Rattle.data_url.specs.Run.{IsPrefix}
 use Rattle.dataurl.specs.declared.fault.WriteFailed.{WriteFailed}
 
--- what was written of the bytes, by how it ended: all of them, or a beginning
+-- the second begins with the first, and goes on
+abbrev pub IsBeginning : List ℕ → List ℕ → Type 0
+IsBeginning xs ys = (more : List ℕ) × (ys ≡ xs ++ more) × (0 < length more)
+
+-- what was written of the bytes, by how it ended: all of them, or a beginning that is not all
 pub data IsWritten (bytes : List ℕ) : List ℕ → Result (Unit {0}) WriteFailed → Type 0 where
   all : IsWritten bytes bytes (Ok tt)
-  beginning : {written : List ℕ} {failed : WriteFailed} → IsPrefix written bytes → IsWritten bytes written (Err failed)
+  beginning : {written : List ℕ} {failed : WriteFailed} → IsBeginning written bytes → IsWritten bytes written (Err failed)
 
 -- a writer took some bytes behind those that it held, as far as these are known
 pub record Writes (bytes : List ℕ) (old new : Option (List ℕ)) (r : Result (Unit {0}) WriteFailed) : Type 0 where

@@ -2,6 +2,7 @@
 
 mod base64;
 mod errors;
+mod failing;
 mod mime;
 mod program;
 mod urls;

@@ -42,8 +42,7 @@ fn whole_texts(rt: HostRuntime) -> Result<(), Fail> {
             Err(error) => assert_printed(&rt, rt.alloc(), &error, line, text)?,
         }
     }
-    let mut byte = [255u8; 1];
-    byte[0] = 255;
+    let byte = [255u8];
     match decode_to_vec(rt.alloc(), &byte) {
         Ok(_bytes) => assert!(rt; false),
         Err(error) => assert_printed(
@@ -198,6 +197,39 @@ fn no_call_behind_a_refusal_of_the_last_bytes(rt: HostRuntime) -> Result<(), Fai
         Err(DecodeError::WriteError(call)) => assert!(rt; call == 1),
         _ => assert!(rt; false),
     }
+    assert!(rt; calls == 1);
+    Ok(())
+}
+
+#[test]
+fn a_sign_that_does_not_fit(rt: HostRuntime) -> Result<(), Fail> {
+    let mut bytes = Vec::new(rt.alloc());
+    let mut decoder = Decoder::new(|piece: &[u8]| -> Result<(), AllocError> {
+        bytes.extend_from_slice(piece)
+    });
+    assert!(rt; decoder.feed("QUJD=".as_bytes()).is_ok() && !decoder.has_failed());
+    let (answer, _) = decoder.finish_with();
+    match answer {
+        Ok(()) => assert!(rt; false),
+        Err(error) => {
+            let told = "base64 not valid: incorrect padding";
+            assert_printed(&rt, rt.alloc(), &error, told, "QUJD=")?;
+        }
+    }
+    assert!(rt; bytes.as_slice() == "ABC".as_bytes());
+    Ok(())
+}
+
+#[test]
+fn a_closure_that_is_taken_back(rt: HostRuntime) -> Result<(), Fail> {
+    let mut calls: usize = 0;
+    let mut decoder = Decoder::new(|_piece: &[u8]| -> Result<(), usize> {
+        calls = calls.saturating_add(1);
+        Ok(())
+    });
+    let answer = decoder.feed("QUJDQ!".as_bytes());
+    assert!(rt; answer.is_err() && decoder.has_failed());
+    let _write = decoder.into_closure();
     assert!(rt; calls == 1);
     Ok(())
 }

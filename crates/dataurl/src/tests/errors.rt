@@ -5,7 +5,7 @@ use crate::fault::Fault;
 use data_url::forgiving_base64::{DecodeError, DecodeToVecError, InvalidBase64, decode_to_vec};
 use data_url::mime::{Mime, MimeFromStrError};
 use data_url::{DataUrl, DataUrlError};
-use std::alloc::Global;
+use std::alloc::{AllocError, Global};
 use std::fmt;
 use std::test::Fail;
 
@@ -37,53 +37,36 @@ fn lines_of_urls(rt: HostRuntime) -> Result<(), Fail> {
     assert_printed(&rt, rt.alloc(), &Fault::NoComma, missing, "")
 }
 
-/// Why a text is no base64.
-fn refusal_of(alloc: Global, text: &str) -> Option<InvalidBase64> {
+/// Why a text is no base64; a text that is base64 fails the test.
+fn refusal_of(alloc: Global, text: &str) -> Result<InvalidBase64, Fail> {
     let decoded = decode_to_vec(alloc, text.as_bytes());
     match decoded {
-        Ok(_bytes) => None,
-        Err(DecodeToVecError::InvalidBase64(refusal)) => Some(refusal),
-        Err(DecodeToVecError::OutOfMemory) => None,
+        Ok(_bytes) => Err(Fail::from(AllocError)),
+        Err(DecodeToVecError::InvalidBase64(refusal)) => Ok(refusal),
+        Err(DecodeToVecError::OutOfMemory) => Err(Fail::from(AllocError)),
     }
 }
 
 #[test]
 fn lines_of_base64(rt: HostRuntime) -> Result<(), Fail> {
+    let alloc = rt.alloc();
     for (text, line) in [
         ("!", "symbol with codepoint 33 not expected"),
         ("=a", "alphabet symbol present after padding"),
         ("a", "lone alphabet symbol present"),
         ("=", "incorrect padding"),
     ] {
-        let behind = format!(in rt.alloc(); "base64 not valid: {line}")?;
-        let Some(refusal) = refusal_of(rt.alloc(), text) else {
-            assert!(rt; false, "{text}");
-            return Ok(());
-        };
-        assert_printed(&rt, rt.alloc(), &refusal, line, text)?;
-        let error = DecodeToVecError::InvalidBase64(refusal);
-        assert_printed(&rt, rt.alloc(), &error, line, text)?;
-        if let Some(refusal) = refusal_of(rt.alloc(), text) {
-            let error: DecodeError<fmt::Error> = DecodeError::InvalidBase64(refusal);
-            assert_printed(&rt, rt.alloc(), &error, behind.as_str(), text)?;
-        }
-        if let Some(refusal) = refusal_of(rt.alloc(), text) {
-            assert_printed(
-                &rt,
-                rt.alloc(),
-                &Fault::Base64(refusal),
-                behind.as_str(),
-                text,
-            )?;
-        }
+        let behind = format!(in alloc; "base64 not valid: {line}")?;
+        assert_printed(&rt, alloc, &refusal_of(alloc, text)?, line, text)?;
+        let error = DecodeToVecError::InvalidBase64(refusal_of(alloc, text)?);
+        assert_printed(&rt, alloc, &error, line, text)?;
+        let error: DecodeError<fmt::Error> = DecodeError::InvalidBase64(refusal_of(alloc, text)?);
+        assert_printed(&rt, alloc, &error, behind.as_str(), text)?;
+        let fault = Fault::Base64(refusal_of(alloc, text)?);
+        assert_printed(&rt, alloc, &fault, behind.as_str(), text)?;
     }
-    assert_printed(
-        &rt,
-        rt.alloc(),
-        &DecodeToVecError::OutOfMemory,
-        "out of memory",
-        "",
-    )
+    let error = DecodeToVecError::OutOfMemory;
+    assert_printed(&rt, alloc, &error, "out of memory", "")
 }
 
 #[test]

@@ -1,6 +1,7 @@
 //! MIME types: texts, records, and what is printed.
 
 use super::assert_printed;
+use data_url::DataUrl;
 use data_url::laws::{canonical, same_text};
 use data_url::mime::Mime;
 use std::alloc::{AllocError, Global};
@@ -91,6 +92,7 @@ fn printed_and_read_again(rt: HostRuntime) -> Result<(), Fail> {
         "TEXT/HTML;a=\"b;c\";d=;e=\"\"",
         "x/x;a=1;A=2",
         "x/x;a=\"b\"\u{100}",
+        "x/x;a=\"b;\u{100}\"",
         "x/x;a=\"\\",
         "a/b;c=\"?%3C%22?%3E\"",
         "a/b;c=\"d e\"",
@@ -102,6 +104,23 @@ fn printed_and_read_again(rt: HostRuntime) -> Result<(), Fail> {
         canonical(&mime);
         same_text(&mime, &again);
         assert!(rt; again == mime, "{text}");
+    }
+    Ok(())
+}
+
+#[test]
+fn records_of_urls_read_again(rt: HostRuntime) -> Result<(), Fail> {
+    for text in [
+        "data:a/b;c=?x ,Y",
+        "data:a/b;c=?<\"?>,Y\"",
+        "data:a/b;c=\"d e\",Y",
+        "data:,x",
+    ] {
+        let url = DataUrl::process(rt.alloc(), text)?;
+        let mime = url.mime_type();
+        let printed = format!(in rt.alloc(); "{mime}")?;
+        let again = Mime::from_str(rt.alloc(), printed.as_str())?;
+        assert!(rt; again == *mime, "{text}");
     }
     Ok(())
 }

@@ -2,6 +2,7 @@
 
 use super::{DEFAULT, assert_printed};
 use data_url::forgiving_base64::DecodeError;
+use data_url::laws::{encoding_first, fragment_again};
 use data_url::{DataUrl, DataUrlError};
 use std::alloc::{AllocError, Global};
 use std::process::Abort;
@@ -114,8 +115,11 @@ fn assert_faulty(
         pieces.extend_from_slice(piece)
     });
     match ended {
-        Err(DecodeError::InvalidBase64(error)) => assert_printed(rt, alloc, &error, line, text)?,
-        _ => assert!(rt; false, "{text}"),
+        Ok(_fragment) => assert!(rt; false, "{text}"),
+        Err(error) => {
+            let told = format!(in alloc; "base64 not valid: {line}")?;
+            assert_printed(rt, alloc, &error, told.as_str(), text)?;
+        }
     }
     assert!(rt; pieces.as_slice() == body.as_bytes(), "{text}");
     Ok(())
@@ -177,7 +181,15 @@ fn fragments(rt: HostRuntime) -> Result<(), Fail> {
             None => assert!(rt; false, "{text}"),
         }
     }
-    assert!(rt; fragment_of(rt.alloc(), "data:,x")?.is_none());
+    for text in [
+        "data:,x",
+        "data:,Hello%20World!",
+        "data:;base64,",
+        "data:a/b;c=?x ,Y",
+    ] {
+        assert!(rt; fragment_of(rt.alloc(), text)?.is_none(), "{text}");
+    }
+    fragment_again("a\t`\u{e9}");
     Ok(())
 }
 
@@ -244,10 +256,39 @@ fn no_call_behind_a_refusal(rt: HostRuntime) -> Result<(), Fail> {
     ] {
         let (all, _) = decode_refusing(rt.alloc(), text, 0)?;
         assert!(rt; all > 0, "{text}");
-        for refused in 1..all {
+        for refused in 1..=all {
             let (calls, answered) = decode_refusing(rt.alloc(), text, refused)?;
             assert!(rt; calls == refused && answered, "{text}");
         }
     }
+    Ok(())
+}
+
+#[test]
+fn the_record_of_an_empty_header(rt: HostRuntime) -> Result<(), Fail> {
+    let url = DataUrl::process(rt.alloc(), "data:,Hello%20World!")?;
+    let mime = url.mime_type();
+    assert!(rt; mime.matches("text", "plain"));
+    assert!(rt; mime.get_parameter("charset") == Some("US-ASCII"));
+    encoding_first("Hello%20World!".as_bytes());
+    Ok(())
+}
+
+#[test]
+fn a_closure_that_is_handed_back(rt: HostRuntime) -> Result<(), Fail> {
+    let url = DataUrl::process(rt.alloc(), "data:,a%41b#c")?;
+    let mut calls: usize = 0;
+    let (answer, _) = url.decode_with(|_piece: &[u8]| -> Result<(), usize> {
+        calls = calls.saturating_add(1);
+        Ok(())
+    });
+    match answer {
+        Ok(Some(fragment)) => {
+            let encoded = fragment.to_percent_encoded(rt.alloc())?;
+            assert!(rt; encoded.as_str() == "c");
+        }
+        _ => assert!(rt; false),
+    }
+    assert!(rt; calls > 0 && calls <= 8);
     Ok(())
 }

@@ -15,7 +15,7 @@ pub returns-then-len-eq0-clause-fed : goal.returns-then-len-eq0-clause-fed
 returns-then-len-eq0-clause-fed g c = feeds_end (CalledAt g.F.FnMut) c.in-Ok.len c.read.new.buf c.if-len-eq0.true (search rules) c.loop.invariant.1 c.in-Ok.ensures.bytes
 
 pub returns-in-Err-clause-fed : goal.returns-in-Err-clause-fed
-returns-in-Err-clause-fed g c = feeds_error (CalledAt g.F.FnMut) c.loop.invariant.1 c.in-Ok.ensures.bytes.0 c.in-Err.ensures.fed c.of_decoding.ensures
+returns-in-Err-clause-fed g c = feeds_error (CalledAt g.F.FnMut) c.loop.invariant.1 c.in-Ok.ensures.bytes.0 (search rules) c.in-Err.ensures.fed c.of_decoding.ensures
 
 pub loop-preserved : goal.loop-preserved
 loop-preserved g c = (c.feed.ensures.callable, fed_more (CalledAt g.F.FnMut) c.loop.invariant.1 c.in-Ok.ensures.bytes.0 c.in-Ok-feed.ensures.fed)
