@@ -110,16 +110,6 @@ impl fmt::Display for MimeFromStrError {
 
 impl Error for MimeFromStrError {}
 
-impl From<AllocError> for MimeFromStrError {
-    ghost use Rattle.data_url.specs.declared.mime.MimeFromStrError.TheVariants.{OutOfMemory};
-
-    ghost from_gives = { λ _ error. error ≡ OutOfMemory };
-
-    fn from(_error: AllocError) -> MimeFromStrError {
-        MimeFromStrError::OutOfMemory
-    }
-}
-
 impl Mime {
     ghost use Rattle.std.specs.Prelude.{string_bytes};
     ghost use Rattle.std.specs.Str.{chars};
@@ -165,7 +155,10 @@ impl Mime {
         let Some(head) = read_head(s) else {
             return Err(MimeFromStrError::Parsing(MimeParsingError(())));
         };
-        Ok(head.record(alloc)?)
+        match head.record(alloc) {
+            Ok(mime) => Ok(mime),
+            Err(AllocError) => Err(MimeFromStrError::OutOfMemory),
+        }
     }
 
     /// Whether type and subtype are exactly these texts, whatever the parameters are.
