@@ -1,6 +1,6 @@
 //! Forgiving base64 (Infra Standard, forgiving-base64 decode).
 
-ghost use Rattle.std.specs.Prelude.{◌++◌, Some, codes};
+ghost use Rattle.std.specs.Prelude.{Some};
 
 use std::error::Error;
 use std::fmt;

@@ -1,7 +1,7 @@
 //! Data: URLs by the Fetch Standard, from a text rather than a parsed URL, to avoid copies.
 #![tactic(auto)]
 
-ghost use Rattle.std.specs.Prelude.{◌≡◌, ◌+◌, IfErr, IfOk, Some, codes, length};
+ghost use Rattle.std.specs.Prelude.{◌≡◌, ◌+◌, IfErr, IfOk, Some, length};
 ghost use Rattle.std.specs.Fn.{CalledAt};
 ghost use Rattle.data_url.specs.Decodes.{Decodes};
 ghost use Rattle.data_url.specs.Body.{IsBodyEnd};
