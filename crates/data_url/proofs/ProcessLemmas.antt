@@ -1,8 +1,8 @@
 -- A text is refused or accepted as the staged Standard says.
-use Rattle.std.proofs.Common.{◌≡◌, ℕ, zero, suc, ◌+◌, ◌-◌, take, ◌<◌, Bool, false, List, [], ◌∷◌, length, get_or, drop, None, Some, Result, refl, sym, ap, ◌∙◌, subst, arith}
+use Rattle.std.proofs.Common.{◌≡◌, ℕ, zero, suc, ◌+◌, ◌-◌, take, ◌<◌, Bool, false, List, [], ◌∷◌, length, get_or, drop, Option, None, Some, Result, refl, sym, ap, ◌∙◌, subst, arith}
 use Rattle.std.specs.Option.{option_map}
 use Rattle.std.proofs.lemmas.List.{drop_all, drop_more}
-use Rattle.data_url.specs.Url.{behind, dropped, fragment, front, in_fragment_set, is_c0_control_or_space, percent_encoded, serialised, trimmed}
+use Rattle.data_url.specs.Url.{after_scheme, behind, dropped, fragment, front, in_fragment_set, is_c0_control_or_space, percent_encoded, serialised, trimmed}
 use Rattle.data_url.specs.Percent.{percent_decoded}
 use Rattle.data_url.specs.Fetch.{Accepted, Good, NoComma, NoScheme, Outcome, encoded_body, has_base64_suffix, mime_text, outcome, plain_body, staged, staged_after, staged_parts}
 use Rattle.data_url.specs.Front.{HasNoScheme, IsHeaderAndTail, IsSchemeAndRest}
@@ -13,7 +13,7 @@ use Rattle.data_url.specs.Seen.{seen}
 use Rattle.data_url.specs.UrlSeen.{IsAcceptable, IsUrlOf, is_base64, mime_of, url_tail}
 use Rattle.data_url.specs.declared.DataUrl.{DataUrl}
 use Rattle.data_url.specs.declared.forgiving_base64.DecodeError.{DecodeError}
-use Rattle.data_url.proofs.HeaderLemmas.{after_is, after_none, bytes_append, is_accepted, is_staged, no_header}
+use Rattle.data_url.proofs.HeaderLemmas.{IsAccepted, after_is, after_none, bytes_append, is_accepted, is_staged, no_header}
 use Rattle.std.specs.List.{prefix_len, suffix_len}
 use Rattle.data_url.proofs.MediaLemmas.{bytes_by_place}
 use Rattle.data_url.proofs.RecodedLemmas.{IsBytes}
@@ -47,6 +47,15 @@ stages_accepted t rest header tail b s h flag f =
 pub is_acceptable : (t rest header tail : List ℕ) → IsBytes (trimmed t) → IsSchemeAndRest (trimmed t) rest → IsHeaderAndTail rest header tail → IsAcceptable (staged t)
 is_acceptable t rest header tail b s h = subst IsAcceptable (sym (stages_accepted t rest header tail b s h (has_base64_suffix (serialised (dropped header))) refl)) tt
 
+-- the Standard's body, percent-decoded, is the one that the tail holds
+body_of : (t header tail : List ℕ) → IsAccepted t header tail → option_map percent_decoded (encoded_body t) ≡ Some (plain_body tail)
+unfolding plain_body
+body_of t header tail a = ap (option_map percent_decoded) a.body_is ∙ ap (λ (x : List ℕ). Some x) a.decoded_is
+
+-- the Standard's fragment, where there is one, is that of the tail
+fragment_of : (t rest header tail : List ℕ) → IsSchemeAndRest (trimmed t) rest → IsHeaderAndTail rest header tail → option_map fragment (after_scheme t) ≡ Some (fragment (dropped tail))
+fragment_of t rest header tail s h = ap (option_map fragment) (after_is t rest s) ∙ ap (λ (x : Option (List ℕ)). Some x) (is_staged rest header tail h).fragment_is
+
 pub is_url_of : (t rest header : List ℕ) (u : DataUrl) → IsBytes (trimmed t) → IsSchemeAndRest (trimmed t) rest → IsHeaderAndTail rest header (url_tail u) → IsHeaderOf (serialised (dropped header)) (seen (mime_of u)) (is_base64 u) → IsUrlOf t u
 is_url_of t rest header u b s h k =
     let a = is_accepted t rest header (url_tail u) (rest_bytes t rest b s) s h in
@@ -57,6 +66,8 @@ is_url_of t rest header u b s h k =
       wellformed = k.record_is.wellformed;
       base64_is = k.base64_is;
       tail_is = a.tail_is;
+      body_is = body_of t header (url_tail u) a;
+      fragment_is = fragment_of t rest header (url_tail u) s h;
       staged_is = stages_accepted t rest header (url_tail u) b s h (is_base64 u) k.base64_is;
     }
 

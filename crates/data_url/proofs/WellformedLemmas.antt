@@ -1,5 +1,5 @@
 -- Records that a text gives are well formed, and a text with a head gives one.
-use Rattle.std.proofs.Common.{◌≡◌, ℕ, ◌||◌, ◌&&◌, Bool, true, false, not, List, [], ◌∷◌, ◌++◌, Option, None, Some, Result, Ok, Err, IsErrAnd, map, refl, sym, ap, ◌∙◌, subst}
+use Rattle.std.proofs.Common.{◌≡◌, ℕ, ◌||◌, ◌&&◌, Bool, true, false, not, List, [], ◌∷◌, ◌++◌, Option, None, Some, map, refl, sym, ap, ◌∙◌}
 use Rattle.std.proofs.lemmas.Bool.{and_from, and_parts, both_ways, cond_both, false_from_ne_true, not_from_false, or_left, or_right}
 use Rattle.std.proofs.lemmas.List.Folds.{list_all-append}
 use Rattle.std.specs.Char.{to_ascii_lowercase}
@@ -7,10 +7,7 @@ use Rattle.std.specs.List.{list_all}
 use Rattle.std.specs.Str.{bytes_eq}
 use Rattle.data_url.specs.CodePoints.{is_quotable}
 use Rattle.data_url.specs.Mime.{HasNoRecord, IsHead, IsWellformed, Item, Items, Pair, Parses, Record, first_of_each_name, has_distinct_names, has_name, is_lowercase_name, is_token_text, kept, valid_of, valid_pairs}
-use Rattle.data_url.specs.Parsing.{HasLowercaseNames, HasNoHead, IsParsingError, IsRecordOfParts}
-use Rattle.data_url.specs.declared.mime.Mime.{Mime}
-use Rattle.data_url.specs.declared.mime.MimeFromStrError.{MimeFromStrError}
-use Rattle.data_url.specs.declared.mime.MimeFromStrError.TheVariants as errors
+use Rattle.data_url.specs.Parsing.{HasLowercaseNames, HasNoHead, IsRecordOfParts}
 use Rattle.data_url.proofs.ItemLemmas.{some_items}
 use Rattle.data_url.proofs.KeptLemmas.{equal_from_test, has_append, lowercase_name, test_from_equal, token_text_lower, valid_lower}
 
@@ -89,7 +86,3 @@ has_record s a b c h n =
 
 pub no_record : (s : List ℕ) → HasNoHead s → HasNoRecord s
 no_record s n m h = n h.type_ h.subtype h.parameters h.head
-
-pub not_parsing : (r : Result Mime MimeFromStrError) → IsErrAnd r (λ e. e ≡ errors.OutOfMemory) → IsParsingError r → ⊥
-not_parsing (Ok m) h k = k
-not_parsing (Err e) h k = subst (λ x. IsParsingError (Err x)) h k

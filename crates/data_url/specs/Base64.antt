@@ -1,4 +1,4 @@
--- Forgiving-base64 decode (Infra Standard, section 8), with the alphabet of RFC 4648, section 4.
+-- Forgiving base64 (Infra Standard, forgiving-base64 decode), with the alphabet of RFC 4648, section 4.
 use Rattle.std.specs.Prelude.{ℕ, ◌+◌, ◌-◌, ◌*◌, ◌/◌, ◌%◌, ◌==◌, ◌&&◌, ◌||◌, min, Bool, not, cond, List, [], ◌∷◌, ◌++◌, length, take, filter, map, replicate, Option, None, Some, codes, slice_index}
 use Rattle.std.specs.List.{find, list_all, list_any, range_with_len}
 use Rattle.std.specs.Fmt.{decimal}

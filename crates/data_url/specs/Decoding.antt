@@ -1,4 +1,4 @@
--- What feeding and finishing a decoder does (Infra Standard, section 8), by the texts that it was given.
+-- What feeding and finishing a decoder does (Infra Standard, forgiving-base64 decode), by the texts that it was given.
 use Rattle.std.specs.Prelude.{◌≡◌, ℕ, ◌+◌, ◌≤◌, Bool, false, cond, List, [], ◌++◌, length, MatchBool, MatchOption, Result, Ok, Err, is_err}
 use Rattle.data_url.specs.Base64.{decoded, done, first_fault, is_valid, kind_of, left_padding, left_symbols, left_text}
 use Rattle.data_url.specs.Run.{Call, IsPrefix, IsRun, joined, refusal}

@@ -1,9 +1,10 @@
 -- What contracts see of a `DataUrl` and a `FragmentIdentifier`, and what `process` makes of a text (Fetch Standard, section 6).
 use Rattle.std.specs.Prelude.{◌≡◌, ℕ, Bool, List, Option, Some, Result, Ok, Err}
 use Rattle.std.specs.Option.{option_map}
-use Rattle.data_url.specs.Url.{behind, dropped, fragment, in_fragment_set, percent_encoded}
+use Rattle.data_url.specs.Url.{after_scheme, behind, dropped, fragment, in_fragment_set, percent_encoded}
 use Rattle.data_url.specs.Mime.{IsRecordOf, IsWellformed}
-use Rattle.data_url.specs.Fetch.{Accepted, NoComma, NoScheme, Outcome, Staged, has_base64_suffix, header_of, mime_text, outcome, plain_body, staged, tail_of}
+use Rattle.data_url.specs.Percent.{percent_decoded}
+use Rattle.data_url.specs.Fetch.{Accepted, NoComma, NoScheme, Outcome, Staged, encoded_body, has_base64_suffix, header_of, mime_text, outcome, plain_body, staged, tail_of}
 use Rattle.data_url.specs.Seen.{seen}
 use Rattle.data_url.specs.declared.mime.Mime.{Mime}
 use Rattle.data_url.specs.declared.DataUrl.{DataUrl}
@@ -43,6 +44,10 @@ pub record IsUrlOf (t : List ℕ) (u : DataUrl) : Type 0 where
   pub wellformed : IsWellformed (seen (mime_of u))
   pub base64_is : is_base64 u ≡ has_base64_suffix header
   pub tail_is : tail_of t ≡ Some (url_tail u)
+  -- the Standard's body, percent-decoded, is the one that the tail holds
+  pub body_is : option_map percent_decoded (encoded_body t) ≡ Some (plain_body (url_tail u))
+  -- the Standard's fragment, where there is one, is that of the tail
+  pub fragment_is : option_map fragment (after_scheme t) ≡ Some (fragment (dropped (url_tail u)))
   pub staged_is : staged t ≡ Accepted (mime_text header) (url_body u) (option_map (percent_encoded in_fragment_set) (fragment (dropped (url_tail u))))
 
 -- a scheme and a comma are there

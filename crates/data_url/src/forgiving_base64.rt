@@ -1,6 +1,6 @@
-//! Forgiving base64 (Infra Standard, section 8).
+//! Forgiving base64 (Infra Standard, forgiving-base64 decode).
 
-ghost use Rattle.std.specs.Prelude.{◌++◌, Some, codes};
+ghost use Rattle.std.specs.Prelude.{Some};
 
 use std::error::Error;
 use std::fmt;
@@ -14,7 +14,12 @@ pub use decode::Decoder;
 pub use whole::decode_to_vec;
 pub(crate) use whole::room_for;
 
-/// Why a text is not valid base64: contracts see its kind.
+/// Why a text is not valid base64 (Infra Standard, forgiving-base64 decode), in four kinds: an unexpected symbol, with
+/// its byte, which is neither whitespace nor `=` nor of the alphabet; an alphabet symbol after padding, that is, with a
+/// `=` somewhere before it; a lone alphabet symbol, left over behind the groups of four; and padding, where the number
+/// of `=` does not fit.
+///
+/// Contracts see the kind.
 #[derive(Debug, Drop)]
 pub struct InvalidBase64 {
     details: InvalidBase64Details,
@@ -58,7 +63,8 @@ impl fmt::Display for InvalidBase64 {
 
 impl Error for InvalidBase64 {}
 
-/// Why decoding ended early: the text is not valid base64, or the closure that was given the bytes refused them.
+/// Why decoding ended early: the text is not valid base64 (Infra Standard, forgiving-base64 decode), or the closure
+/// that was given the bytes refused them.
 #[derive(Debug, Drop)]
 pub enum DecodeError<E> {
     /// The text is not valid base64.
@@ -82,7 +88,8 @@ impl<E: fmt::Display> fmt::Display for DecodeError<E> {
 
 impl<E: Error> Error for DecodeError<E> {}
 
-/// Why a text was not decoded into a vector: it is not valid base64, or no memory was there.
+/// Why a text was not decoded into a vector: it is not valid base64 (Infra Standard, forgiving-base64 decode), or
+/// memory was refused.
 #[derive(Debug, Drop)]
 pub enum DecodeToVecError {
     /// The text is not valid base64.

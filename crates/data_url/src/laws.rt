@@ -33,8 +33,9 @@ pub fn fragment_again(fragment: &str)
     ensures bytes { Every is_fragment_byte (encoded_fragment fragment.now) }
 {}
 
-/// A text of forgiving base64 may be fed in two parts (Infra Standard, section 8). Where the first part has no fault, what
-/// it leaves goes on with the second as the whole text does: the bytes, the fault or the rest, and validity are the same.
+/// A text of base64 may be fed in two parts (Infra Standard, forgiving-base64 decode). Where the first part has no
+/// fault, what it leaves goes on with the second as the whole text does: the bytes, the fault or the rest, and validity
+/// are the same.
 pub fn two_feeds(first: &[u8], second: &[u8])
     requires { first_fault first.now ≡ None }
     ensures { TwoFeeds first.now second.now }

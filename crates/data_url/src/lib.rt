@@ -1,7 +1,7 @@
 //! Data: URLs by the Fetch Standard, from a text rather than a parsed URL, to avoid copies.
 #![tactic(auto)]
 
-ghost use Rattle.std.specs.Prelude.{◌≡◌, ◌+◌, IfErr, IfOk, Some, codes, length};
+ghost use Rattle.std.specs.Prelude.{◌≡◌, ◌+◌, IfErr, IfOk, Some, length};
 ghost use Rattle.std.specs.Fn.{CalledAt};
 ghost use Rattle.data_url.specs.Decodes.{Decodes};
 ghost use Rattle.data_url.specs.Body.{IsBodyEnd};
@@ -28,7 +28,8 @@ use std::alloc::{AllocError, Global};
 use std::error::Error;
 use std::fmt;
 
-/// A data: URL: its MIME type, and its body and fragment as slices of the text that it was read from.
+/// A data: URL (Fetch Standard, section 6): its MIME type, and its body and fragment as slices of the text that it was
+/// read from.
 #[derive(Drop)]
 pub struct DataUrl<'a> {
     mime_type: Mime,
@@ -36,18 +37,19 @@ pub struct DataUrl<'a> {
     tail: &'a str,
 }
 
-/// What stands behind the first `#` of a data: URL, as it was given, tabs and newlines included.
+/// What stands behind the first `#` of a data: URL (URL Standard, section 4.4, fragment state), as it was given, tabs
+/// and newlines included.
 #[derive(Drop)]
 pub struct FragmentIdentifier<'a> {
     text: &'a str,
 }
 
-/// Why a text gave no data: URL.
+/// Why a text gave no data: URL (Fetch Standard, section 6).
 #[derive(Debug, Drop)]
 pub enum DataUrlError {
-    /// The text does not begin with the scheme `data:`.
+    /// The text does not begin with the scheme `data:` (URL Standard, section 4.4, scheme state).
     NotADataUrl,
-    /// No comma stands before the fragment.
+    /// No comma stands before the fragment (Fetch Standard, section 6).
     NoComma,
     /// The MIME type found no memory.
     OutOfMemory,
@@ -137,7 +139,8 @@ impl<'a> DataUrl<'a> {
         })
     }
 
-    /// The MIME type: that of the header or, where the header has none, `text/plain;charset=US-ASCII`.
+    /// The MIME type (Fetch Standard, section 6): that of the header or, where the header has none,
+    /// `text/plain;charset=US-ASCII`.
     pub fn mime_type(&self) -> &Mime
         ensures { result.now ≡ mime_of self.now }
     {
@@ -174,7 +177,13 @@ impl<'a> DataUrl<'a> {
         })
     }
 
-    /// Decodes the body as `decode` does, and hands the closure back as its last call left it.
+    /// Hands the body's bytes to a closure, piece by piece, answers the fragment (Fetch Standard, section 6), and hands
+    /// the closure back as its last call left it. It takes no memory, and calls the closure at most once more than
+    /// there are bytes behind the comma. The closure has to be one that may be called on any bytes, whatever it was
+    /// called with before.
+    ///
+    /// It answers `WriteError` with the closure's error, after which there is no further call, and `InvalidBase64` for
+    /// a base64 body that is not valid, once the bytes before its first fault were handed out.
     pub fn decode_with<F, E>(
         &self,
         write_body_bytes: F,
@@ -192,11 +201,13 @@ impl<'a> DataUrl<'a> {
         }
     }
 
-    /// Hands the body's bytes to a closure, piece by piece, and answers the fragment (Fetch Standard, section 6). It takes
-    /// no memory, and calls the closure at most once more than there are bytes behind the comma.
+    /// Hands the body's bytes to a closure, piece by piece, and answers the fragment (Fetch Standard, section 6). It
+    /// takes no memory. The closure has to be one that may be called on any bytes, whatever it was called with before.
     ///
-    /// It answers `WriteError` with the closure's error, after which there is no further call, and `InvalidBase64` for a
-    /// base64 body that is not valid, once the bytes before its first fault were handed out.
+    /// It answers `WriteError` with the closure's error, and `InvalidBase64` for a base64 body that is not valid, once
+    /// the bytes before its first fault were handed out. The run of the closure that the contract tells of has at most
+    /// one call more than there are bytes behind the comma, and none behind a refusal. That no call comes behind that
+    /// run is not proved here: `decode_with` hands back the closure that its run ends with.
     pub fn decode<F, E>(
         &self,
         write_body_bytes: F,

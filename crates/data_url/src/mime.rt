@@ -72,7 +72,7 @@ impl fmt::Display for Mime {
     }
 }
 
-/// The text is no MIME type.
+/// The text is no MIME type (MIME Sniffing Standard, section 4.4).
 #[derive(Debug, Drop)]
 pub struct MimeParsingError(());
 
@@ -86,7 +86,7 @@ impl fmt::Display for MimeParsingError {
 
 impl Error for MimeParsingError {}
 
-/// Why a text gave no record.
+/// Why a text gave no record (MIME Sniffing Standard, section 4.4).
 #[derive(Debug, Drop)]
 pub enum MimeFromStrError {
     /// The text is no MIME type.
@@ -110,16 +110,6 @@ impl fmt::Display for MimeFromStrError {
 
 impl Error for MimeFromStrError {}
 
-impl From<AllocError> for MimeFromStrError {
-    ghost use Rattle.data_url.specs.declared.mime.MimeFromStrError.TheVariants.{OutOfMemory};
-
-    ghost from_gives = { λ _ error. error ≡ OutOfMemory };
-
-    fn from(_error: AllocError) -> MimeFromStrError {
-        MimeFromStrError::OutOfMemory
-    }
-}
-
 impl Mime {
     ghost use Rattle.std.specs.Prelude.{string_bytes};
     ghost use Rattle.std.specs.Str.{chars};
@@ -127,7 +117,8 @@ impl Mime {
     ghost use Rattle.data_url.specs.Parsing.{IsParsingError};
     ghost use Rattle.data_url.specs.Seen.{SameTexts, as_option, seen, value_of_name};
 
-    /// The record of a type and a subtype as they are given, with no parameters. It takes memory for the two texts.
+    /// The record of a type and a subtype as they are given, with no parameters. It takes memory for the two texts, and
+    /// the error comes where memory was refused.
     pub fn new(alloc: Global, type_: &str, subtype: &str) -> Result<Mime, AllocError>
         ensures type_ { IfOk result (λ mime. string_bytes mime.type_ ≡ type_.now) }
         ensures subtype { IfOk result (λ mime. string_bytes mime.subtype ≡ subtype.now) }
@@ -155,8 +146,10 @@ impl Mime {
     /// The record of a text (MIME Sniffing Standard, section 4.4).
     ///
     /// It answers `Parsing` exactly where the text is no MIME type, which it finds before it asks for memory, and
-    /// `OutOfMemory` where the text is one and its record finds no memory. It takes time in proportion to the length of the
-    /// text, times the number of distinct names that are kept.
+    /// `OutOfMemory` where the text is one and its record finds no memory.
+    ///
+    /// Not proved: it takes time in proportion to the length of the text, times the number of distinct names that are
+    /// kept.
     pub fn from_str(alloc: Global, s: &str) -> Result<Mime, MimeFromStrError>
         ensures parsed { IfOk result (λ mime. Parses (chars s.now) (seen mime)) }
         ensures wellformed { IfOk result (λ mime. IsWellformed (seen mime)) }
@@ -165,7 +158,10 @@ impl Mime {
         let Some(head) = read_head(s) else {
             return Err(MimeFromStrError::Parsing(MimeParsingError(())));
         };
-        Ok(head.record(alloc)?)
+        match head.record(alloc) {
+            Ok(mime) => Ok(mime),
+            Err(AllocError) => Err(MimeFromStrError::OutOfMemory),
+        }
     }
 
     /// Whether type and subtype are exactly these texts, whatever the parameters are.

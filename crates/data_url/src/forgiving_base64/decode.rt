@@ -1,4 +1,4 @@
-//! Forgiving-base64 decode, piece by piece (Infra Standard, section 8).
+//! Decoding piece by piece (Infra Standard, forgiving-base64 decode).
 
 ghost use Rattle.std.specs.Prelude.{◌≡◌, ◌≤◌, [], ◌∷◌, IsTrue, take, true, false};
 ghost use Rattle.std.specs.List.{list_all};
@@ -7,8 +7,8 @@ ghost use Rattle.data_url.specs.Base64.{is_symbol};
 use super::alphabet::{group_of, is_symbol, rest_of_three, rest_of_two};
 use super::{DecodeError, InvalidBase64, InvalidBase64Details};
 
-/// A decoder of forgiving base64 (Infra Standard, section 8) that takes its text in pieces, cut anywhere, and hands bytes
-/// to a closure as soon as four symbols give them.
+/// A decoder of base64 (Infra Standard, forgiving-base64 decode) that takes its text in pieces, cut anywhere, and hands
+/// bytes to a closure as soon as four symbols give them.
 ///
 /// It takes no memory: it keeps at most three symbols, and counts the signs `=` up to three. Contracts see it as its
 /// closure, these symbols, that count and whether it has failed (`state_of`).
@@ -147,6 +147,8 @@ where
     /// Where the closure refuses, that ends the call with `WriteError`. At a byte that is neither whitespace nor `=` nor a
     /// symbol, and at a symbol behind an `=` of this piece or an earlier one, the answer is `InvalidBase64`, once the groups
     /// before that byte were handed out. After an error the decoder has failed.
+    ///
+    /// It may be called only while `has_failed` answers false.
     pub fn feed(&mut self, input: &[u8]) -> Result<(), DecodeError<E>>
         requires callable { F.IsAlwaysCallable (state_of self.old).closure }
         requires going { (state_of self.old).failed ≡ false }
@@ -182,6 +184,8 @@ where
     /// The answer is `InvalidBase64`, and the closure is not called, where a lone symbol is left over or the signs `=` do
     /// not fit: there may be none or, behind two symbols, two, or behind three, one. It is `WriteError` where the closure
     /// refuses. `finish_with` also tells what became of the closure.
+    ///
+    /// It may be called only while `has_failed` answers false.
     pub fn finish(self) -> Result<(), DecodeError<E>>
         requires callable { F.IsAlwaysCallable (state_of self).closure }
         requires going { (state_of self).failed ≡ false }
@@ -191,6 +195,8 @@ where
     }
 
     /// Ends the text as `finish` does, and hands the closure back as its last call left it.
+    ///
+    /// It may be called only while `has_failed` answers false.
     pub fn finish_with(mut self) -> (Result<(), DecodeError<E>>, F)
         requires callable { F.IsAlwaysCallable (state_of self).closure }
         requires going { (state_of self).failed ≡ false }

@@ -1,4 +1,4 @@
-//! Forgiving-base64 decode of a whole text (Infra Standard, section 8).
+//! Decoding a whole text (Infra Standard, forgiving-base64 decode).
 
 ghost use Rattle.std.specs.Prelude.{◌≡◌, ◌*◌, ◌+◌, ◌/◌, ◌%◌, IfErr, IfOk, IsOk, IsTrue};
 ghost use Rattle.std.specs.Fn.{CalledAt};
@@ -30,8 +30,8 @@ pub(crate) fn room_for(len: usize) -> usize
     len / 4 * 3 + len % 4
 }
 
-/// The bytes that a text of base64 stands for, by forgiving-base64 decode (Infra Standard, section 8). Room for them is
-/// taken once, by the length of the text.
+/// The bytes that a text of base64 stands for (Infra Standard, forgiving-base64 decode). Room for them is taken once, by
+/// the length of the text.
 ///
 /// The error is `InvalidBase64` for a text that is not valid, with the reason of its first fault, and `OutOfMemory` where
 /// memory was refused.
