@@ -73,8 +73,8 @@ pub(crate) fn end_of(answer: Result<(), DecodeError<WriteFailed>>) -> Result<(),
     }
 }
 
-/// Writes the line of a fault and answers the exit status. It takes no memory, and a failed write is passed over: there is
-/// nobody left to tell.
+/// Writes the line of a fault and answers the exit status: 1 for what is wrong with the input, 3 where memory was refused or
+/// a read or a write failed. It takes no memory, and a failed write is passed over: there is nobody left to tell.
 pub fn report<W: Write>(fault: &Fault, writer: &mut W) -> u8
     ensures { result ≡ status_of fault.now }
 {
@@ -82,7 +82,8 @@ pub fn report<W: Write>(fault: &Fault, writer: &mut W) -> u8
     fault.status()
 }
 
-/// Writes the line on how to call the program and answers the exit status 2. A failed write is passed over.
+/// Writes the line on how to call the program and answers the exit status 2. It takes no memory, and a failed write is
+/// passed over.
 pub fn usage<W: Write>(writer: &mut W) -> u8
     ensures { result ≡ 2 }
 {
