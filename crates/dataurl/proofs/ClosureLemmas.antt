@@ -3,14 +3,15 @@ use Rattle.std.proofs.Common.{◌≡◌, ℕ, List, [], ◌∷◌, ◌++◌, Opt
 use Rattle.std.specs.Prelude.{IsErr, MatchOption}
 use Rattle.std.specs.Io.KnownBytes.{Appends}
 use Rattle.std.proofs.lemmas.List.{append-nil}
-use Rattle.data_url.specs.Decodes.{Answers, Decodes, HandsOut, IsRefusedBy}
-use Rattle.data_url.specs.Fetch.{Bad, Good, Outcome, outcome_bytes}
+use Rattle.data_url.specs.Decodes.{Decodes, HandsOut, IsRefusedBy}
+use Rattle.data_url.specs.Fetch.{Bad, Good, Outcome}
 use Rattle.data_url.specs.Run.{Call, IsPrefix, IsRun, joined, or_error, refusal}
 use Rattle.data_url.specs.declared.forgiving_base64.DecodeError.{DecodeError}
-use Rattle.data_url.proofs.WholeLemmas.{run_keeps}
-use Rattle.dataurl.specs.Output.{End, IsBodyOutput, bad_body, good_body}
-use Rattle.dataurl.specs.Status.{decode_end}
-use Rattle.dataurl.specs.Steps.{IsWrittenOf, WritesOf, cut_output, whole_output}
+use Rattle.data_url.specs.declared.forgiving_base64.DecodeError.TheVariants.{InvalidBase64}
+use Rattle.data_url.proofs.BodyVecLemmas.{body_reads}
+use Rattle.data_url.proofs.WholeLemmas.{run_keeps, run_reads}
+use Rattle.data_url.specs.Base64.{Kind}
+use Rattle.dataurl.specs.Output.{IsBodyOutput, bad_body, good_body}
 use Rattle.dataurl.specs.Writing.{IsBeginning, IsWritten, Writes, all, beginning}
 use Rattle.dataurl.specs.declared.fault.Fault.TheVariants.{Base64}
 use Rattle.dataurl.specs.declared.fault.WriteFailed.{WriteFailed}
@@ -83,36 +84,37 @@ module _ {F : Type 0} (step : F → List ℕ → Result (Unit {0}) WriteFailed �
 
 -- Bodies
 
--- the end of a command that writes a body
-abbrev body_end : Outcome → End
-body_end (Good bytes) = Ok tt
-body_end (Bad bytes kind) = Err (Base64 kind)
+-- a bad body, where its fault was answered, was handed out as far as it goes
+bad_bytes : {E A : Type 0} (body : Outcome) (good : A → Type 0) (bytes : List ℕ) (r : Result A (DecodeError E)) (kind : Kind) → r ≡ Err (InvalidBase64 kind) → HandsOut body good bytes r → body ≡ Bad bytes kind
+bad_bytes (Good whole) good bytes (Ok y) kind q h = absurd (let k = q in cc)
+bad_bytes (Good whole) good bytes (Err e) kind q h = absurd h.answer
+bad_bytes (Bad whole kind') good bytes r kind q h =
+    let same : kind' ≡ kind = let k = h.answer in cc in
+    ap (λ x. Bad whole x) same ∙ ap (λ x. Bad x kind) (sym h.bytes_are)
 
-body_output : (body : Outcome) → IsBodyOutput body (outcome_bytes body) (body_end body)
-body_output (Good bytes) = good_body
-body_output (Bad bytes kind) = bad_body
+bad_run : {E A : Type 0} (o : Option E) (body : Outcome) (good : A → Type 0) (bytes : List ℕ) (r : Result A (DecodeError E)) (kind : Kind) → r ≡ Err (InvalidBase64 kind) → MatchOption o (HandsOut body good bytes r) (λ e. IsRefusedBy body bytes e r) → (o ≡ None) × (body ≡ Bad bytes kind)
+bad_run None body good bytes r kind q h = (refl, bad_bytes body good bytes r kind q h)
+bad_run (Some e) body good bytes r kind q h = absurd (let k = h.answer in cc)
 
-handed_end : {A : Type 0} (body : Outcome) (good : A → Type 0) (r : Result A (DecodeError WriteFailed)) → Answers body good r → body_end body ≡ decode_end r
-handed_end (Good bytes) good (Ok x) h = refl
-handed_end (Good bytes) good (Err e) h = absurd h
-handed_end (Bad bytes kind) good r h = ap (λ x. decode_end x) (sym h)
+module _ {F E A : Type 0} {step : F → List ℕ → Result (Unit {0}) E → F → Type 0} {f g : F} {most : ℕ} {body : Outcome} {good : A → Type 0} {r : Result A (DecodeError E)} where
+  -- what a closure that keeps its bytes has of a good body
+  pub good_kept : {x : A} → Decodes step f most body good r g → r ≡ Ok x → (kept : F → List ℕ) → ((p : F) (piece : List ℕ) (q : F) → step p piece (Ok tt) q → kept q ≡ kept p ++ piece) → kept f ≡ [] → IsBodyOutput body (kept g) (Ok tt)
+  good_kept d q kept keeps e =
+      let h = body_reads d q kept keeps in
+      let same : h.0 ≡ kept g = sym (h.2 ∙ ap (λ x. x ++ h.0) e) in
+      let P : List ℕ → Type 0 = λ x. IsBodyOutput body x (Ok tt) in
+      let Q : Outcome → Type 0 = λ o. IsBodyOutput o h.0 (Ok tt) in
+      subst P same (subst Q (sym h.1) good_body)
 
-body_writes : {A : Type 0} (o : Option WriteFailed) (body : Outcome) (good : A → Type 0) (bytes : List ℕ) (r : Result A (DecodeError WriteFailed)) (held now : Option (List ℕ)) → RunWrites held now bytes o → MatchOption o (HandsOut body good bytes r) (λ e. IsRefusedBy body bytes e r) → WritesOf (IsBodyOutput body) held now (decode_end r)
-body_writes None body good bytes r held now w h =
-    let same : outcome_bytes body ≡ w.written = sym (w.took ∙ h.bytes_are) in
-    let P : List ℕ → Type 0 = λ s. IsBodyOutput body s (body_end body) in
-    let Q : End → Type 0 = λ e. IsBodyOutput body w.written e in
-    record { written = w.written; appended = w.appended; is_written = whole_output (subst Q (handed_end body good r h.answer) (subst P same (body_output body))) }
-body_writes (Some e) body good bytes r held now w h =
-    let P : End → Type 0 = λ end. IsWrittenOf (IsBodyOutput body) w.written end in
-    record { written = w.written; appended = w.appended; is_written = subst P (ap (λ x. decode_end x) (sym h.answer)) (cut_output (body_output body) (beginning_of w.written bytes (outcome_bytes body) w.took h.bytes_begin)) }
+  -- and of a bad one
+  pub bad_kept : {kind : Kind} → Decodes step f most body good r g → r ≡ Err (InvalidBase64 kind) → (kept : F → List ℕ) → ((p : F) (piece : List ℕ) (q : F) → step p piece (Ok tt) q → kept q ≡ kept p ++ piece) → kept f ≡ [] → IsBodyOutput body (kept g) (Err (Base64 kind))
+  bad_kept {kind} d q kept keeps e =
+      let h = bad_run (refusal d.run) body good (joined d.run) r kind q d.gave in
+      let same : joined d.run ≡ kept g = sym (run_reads step kept keeps d.run f g d.ran h.0 ∙ ap (λ x. x ++ joined d.run) e) in
+      let P : List ℕ → Type 0 = λ x. IsBodyOutput body x (Err (Base64 kind)) in
+      let Q : Outcome → Type 0 = λ o. IsBodyOutput o (joined d.run) (Err (Base64 kind)) in
+      subst P same (subst Q (sym h.1) bad_body)
 
--- what a closure that writes has done where it was handed a body
-pub body_written : {F : Type 0} {step : F → List ℕ → Result (Unit {0}) WriteFailed → F → Type 0} {f g : F} {most : ℕ} {body : Outcome} {good : Unit {0} → Type 0} {r : Result (Unit {0}) (DecodeError WriteFailed)} {end : End} → Decodes step f most body good r g → end ≡ decode_end r → (holds : F → Option (List ℕ)) → ((p : F) (piece : List ℕ) (s : Result (Unit {0}) WriteFailed) (q : F) → step p piece s q → Writes piece (holds p) (holds q) s) → WritesOf (IsBodyOutput body) (holds f) (holds g) end
-body_written {F} {step} {f} {g} {most} {body} {good} {r} h e holds writes =
-    let P : End → Type 0 = λ x. WritesOf (IsBodyOutput body) (holds f) (holds g) x in
-    subst P (sym e) (body_writes (refusal h.run) body good (joined h.run) r (holds f) (holds g) (run_writes step holds writes h.run f g h.ran) h.gave)
-
--- what each call keeps, handing out a body keeps
-pub body_keeps : {F A B : Type 0} {step : F → List ℕ → Result (Unit {0}) WriteFailed → F → Type 0} {f g : F} {most : ℕ} {body : Outcome} {good : A → Type 0} {r : Result A (DecodeError WriteFailed)} → Decodes step f most body good r g → (kept : F → B) → ((p : F) (piece : List ℕ) (s : Result (Unit {0}) WriteFailed) (q : F) → step p piece s q → kept p ≡ kept q) → kept f ≡ kept g
-body_keeps {step = step} {f = f} {g = g} h kept keeps = run_keeps step kept keeps h.run f g h.ran
+  -- what each call keeps, handing out a body keeps
+  pub body_same : {B : Type 0} → Decodes step f most body good r g → (kept : F → B) → ((p : F) (piece : List ℕ) (s : Result (Unit {0}) E) (q : F) → step p piece s q → kept p ≡ kept q) → kept f ≡ kept g
+  body_same d kept keeps = run_keeps step kept keeps d.run f g d.ran

@@ -10,14 +10,14 @@ ghost use Rattle.dataurl.specs.Runs.{Runs};
 ghost use Rattle.dataurl.specs.Steps.{AnyAnswer, IsExactly, IsUrlFor, WritesOf, encoded_fragment, fragment_line};
 
 use crate::command::Command;
-use crate::fault::{Fault, WriteFailed, end_of};
+use crate::fault::{Fault, WriteFailed};
 use crate::input::read_text;
 use crate::output::write_all;
 use crate::stream::write_base64;
 use data_url::forgiving_base64::DecodeError;
 use data_url::mime::{Mime, MimeFromStrError};
 use data_url::{DataUrl, DataUrlError, FragmentIdentifier};
-use std::alloc::Global;
+use std::alloc::{AllocError, Global};
 use std::convert::Infallible;
 use std::io::{Read, Write};
 
@@ -49,19 +49,6 @@ where
     write
 }
 
-/// Writes the body of a URL, piece by piece as it is decoded.
-fn write_body_of<W: Write>(url: &DataUrl, writer: &mut W) -> Result<(), Fault>
-    ensures { WritesOf (IsBodyOutput (url_body url.now)) (W.contents writer.old) (W.contents writer.new) result }
-{
-    let mut answer = Ok(());
-    hand_out(
-        url,
-        &mut answer,
-        |piece: &[u8]| -> Result<(), WriteFailed> { write_all(writer, piece) },
-    );
-    end_of(answer)
-}
-
 /// Writes bytes that make a whole output.
 fn write_output<W: Write>(writer: &mut W, bytes: &[u8]) -> Result<(), Fault>
     ensures { WritesOf (IsExactly bytes.now) (W.contents writer.old) (W.contents writer.new) result }
@@ -69,6 +56,32 @@ fn write_output<W: Write>(writer: &mut W, bytes: &[u8]) -> Result<(), Fault>
     match write_all(writer, bytes) {
         Ok(()) => Ok(()),
         Err(WriteFailed) => Err(Fault::Write),
+    }
+}
+
+/// Writes the body of a URL, which has at most so many bytes: all of it at once, since it is handed out in small pieces.
+fn write_body_of<W: Write>(
+    alloc: Global,
+    url: &DataUrl,
+    most: usize,
+    writer: &mut W,
+) -> Result<(), Fault>
+    ensures { WritesOf (IsBodyOutput (url_body url.now)) (W.contents writer.old) (W.contents writer.new) result }
+{
+    let Ok(mut bytes) = Vec::with_capacity(alloc, most) else {
+        return Err(Fault::Memory);
+    };
+    let mut answer = Ok(());
+    hand_out(url, &mut answer, |piece: &[u8]| -> Result<(), AllocError> {
+        bytes.extend_from_slice(piece)
+    });
+    match answer {
+        Ok(()) => write_output(writer, &bytes),
+        Err(DecodeError::InvalidBase64(refusal)) => match write_output(writer, &bytes) {
+            Ok(()) => Err(Fault::Base64(refusal)),
+            Err(fault) => Err(fault),
+        },
+        Err(DecodeError::WriteError(AllocError)) => Err(Fault::Memory),
     }
 }
 
@@ -116,7 +129,7 @@ fn write_body<W: Write>(alloc: Global, text: &str, writer: &mut W) -> Result<(),
     ensures { WritesOf (IsTextOutput text.now Command.Body) (W.contents writer.old) (W.contents writer.new) result }
 {
     match url_of(alloc, text) {
-        Ok(url) => write_body_of(&url, writer),
+        Ok(url) => write_body_of(alloc, &url, text.len(), writer),
         Err(fault) => Err(fault),
     }
 }
