@@ -1,4 +1,4 @@
--- A closure that writes what it is given to a writer that it holds.
+-- Closures that keep what they are given, or write it to a writer that they hold.
 use Rattle.std.proofs.Common.{◌≡◌, ℕ, List, [], ◌∷◌, ◌++◌, Option, None, Some, Result, Ok, Err, refl, sym, ap, ◌∙◌, append_assoc, subst, arith, length, length-append}
 use Rattle.std.specs.Prelude.{IsErr, MatchOption}
 use Rattle.std.specs.Io.KnownBytes.{Appends}
