@@ -1,4 +1,4 @@
--- A base64 body, fed to a decoder byte by byte.
+-- A base64 body, fed to a decoder chunk by chunk.
 use Rattle.std.proofs.Common.{◌≡◌, ℕ, suc, ◌+◌, ◌-◌, ◌≤◌, Bool, true, false, not, cond, ◌*◌, List, [], ◌∷◌, ◌++◌, length, Option, None, Some, Result, Ok, Err, refl, sym, ap, ◌∙◌, subst, append_assoc, arith}
 use Rattle.std.specs.Prelude.{◌==◌, MatchBool, MatchOption}
 use Rattle.std.specs.Char.{digit_value}
@@ -8,13 +8,14 @@ use Rattle.data_url.specs.Url.{before, dropped, front, is_tab_or_newline}
 use Rattle.data_url.specs.Percent.{is_escape, percent_decoded}
 use Rattle.data_url.specs.Run.{joined, refusal}
 use Rattle.data_url.specs.Fetch.{Bad, Good, outcome, plain_body}
-use Rattle.data_url.specs.Body.{EndsBody, IsBodyEnd, TakesByte}
+use Rattle.data_url.specs.Pieces.{Walk, begins}
+use Rattle.data_url.specs.Steps.Tail.{IsBodyEnd}
 use Rattle.data_url.specs.Decodes.{Answers, Decodes, HandsOut, IsRefusedBy}
-use Rattle.data_url.specs.Decoding.{Feeds, Finishes, IsAll, IsRefused, State}
+use Rattle.data_url.specs.Decoding.{Feeds, Finishes, IsAll, IsRefused, State, start}
 use Rattle.data_url.specs.Decoding as whole
 use Rattle.data_url.specs.declared.forgiving_base64.DecodeError.{DecodeError}
 use Rattle.data_url.specs.declared.forgiving_base64.DecodeError.TheVariants.{InvalidBase64, WriteError}
-use Rattle.data_url.proofs.DecodeLemmas.{IsRest, ends_at, rest_all, rest_more}
+use Rattle.data_url.proofs.DecodeLemmas.{Takes}
 use Rattle.data_url.proofs.DecoderLemmas.{feeds_err, feeds_then}
 use Rattle.data_url.proofs.WholeLemmas.{decodes_finished, decodes_refused}
 
@@ -91,38 +92,36 @@ module _ {F E : Type 0} (step : F → List ℕ → Result (Unit {0}) E → F →
     gave = gives u (joined d.run) place good r (refusal d.run) (is_valid u) k d.gave;
   }
 
-  -- the decoder took the body as far as the rest
-  pub record Fed (d : State F) (tail rest : List ℕ) (d' : State F) : Type 0 where
+  -- the decoder took the body as far as the walk
+  pub record Fed (d : State F) (text : List ℕ) (w : Walk) (d' : State F) : Type 0 where
     pub read : List ℕ
     pub fed : Feeds step d read (Ok tt) d'
-    pub rest_is : IsRest tail rest
-    pub body : plain_body tail ≡ read ++ plain_body rest
+    pub text_is : w.text ≡ text
+    pub body : plain_body text ≡ read ++ w.rest
 
-  pub fed_none : (d d' : State F) (tail : List ℕ) → Feeds step d [] (Ok tt) d' → Fed d tail tail d'
-  fed_none d d' tail h = record { read = []; fed = h; rest_is = rest_all tail; body = refl }
+  pub fed_none : (d d' : State F) (text : List ℕ) → Feeds step d [] (Ok tt) d' → Fed d text (begins text) d'
+  fed_none d d' text h = record { read = []; fed = h; text_is = refl; body = refl }
 
-  one_more : (read rest after tail : List ℕ) (b : ℕ) → plain_body tail ≡ read ++ plain_body rest → TakesByte rest b after → plain_body tail ≡ (read ++ b ∷ []) ++ plain_body after
-  one_more read rest after tail b e t = e ∙ ap (λ x. read ++ x) t.body ∙ sym (append_assoc read (b ∷ []) (plain_body after))
-
-  pub fed_more : (d d1 d2 : State F) (tail rest after : List ℕ) (b : ℕ) → Fed d tail rest d1 → TakesByte rest b after → Feeds step d1 (b ∷ []) (Ok tt) d2 → Fed d tail after d2
-  fed_more d d1 d2 tail rest after b h t f = record {
-    read = h.read ++ b ∷ [];
+  pub fed_more : {d d1 d2 : State F} {text bytes : List ℕ} {w w' : Walk} → Fed d text w d1 → Takes w bytes w' → Feeds step d1 bytes (Ok tt) d2 → Fed d text w' d2
+  fed_more {d} {d1} {d2} {text} {bytes} {w} {w'} h t f = record {
+    read = h.read ++ bytes;
     fed = feeds_then step h.fed f;
-    rest_is = rest_more tail rest after b h.rest_is t;
-    body = one_more h.read rest after tail b h.body t;
+    text_is = t.text_stays ∙ h.text_is;
+    body = h.body ∙ ap (λ x. h.read ++ x) t.rest_is ∙ sym (append_assoc h.read bytes w'.rest);
   }
 
-  pub fed_refused : (d d1 d2 : State F) (f : F) (tail rest after : List ℕ) (b : ℕ) (x : DecodeError E) → d ≡ record { closure = f; symbols = []; padding = 0; failed = false } → Fed d tail rest d1 → TakesByte rest b after → Feeds step d1 (b ∷ []) (Err x) d2 → Decodes step f (length tail + 1) (outcome true (plain_body tail)) (IsBodyEnd tail) (Err x) d2.closure
-  fed_refused d d1 d2 f tail rest after b x s h t k =
-      let all : Feeds step d (plain_body tail) (Err x) d2 = subst (λ u. Feeds step d u (Err x) d2) (sym (one_more h.read rest after tail b h.body t)) (feeds_err step (plain_body after) (feeds_then step h.fed k)) in
-      let short = body_shorter tail in
-      decodes_outcome (plain_body tail) (length tail + 1) 0 (IsBodyEnd tail) (Err x) (decodes_refused step s all) (omega arith) (λ e. absurd (cc))
+  pub fed_refused : {d d1 d2 : State F} {f : F} {text bytes : List ℕ} {w w' : Walk} {x : DecodeError E} → d ≡ start f → Fed d text w d1 → Takes w bytes w' → Feeds step d1 bytes (Err x) d2 → Decodes step f (length text + 1) (outcome true (plain_body text)) (IsBodyEnd text) (Err x) d2.closure
+  fed_refused {d} {d1} {d2} {f} {text} {bytes} {w} {w'} {x} s h t k =
+      let whole : plain_body text ≡ (h.read ++ bytes) ++ w'.rest = h.body ∙ ap (λ x. h.read ++ x) t.rest_is ∙ sym (append_assoc h.read bytes w'.rest) in
+      let all : Feeds step d (plain_body text) (Err x) d2 = subst (λ u. Feeds step d u (Err x) d2) (sym whole) (feeds_err step w'.rest (feeds_then step h.fed k)) in
+      let short = body_shorter text in
+      decodes_outcome (plain_body text) (length text + 1) 0 (IsBodyEnd text) (Err x) (decodes_refused step s all) (omega arith) (λ e. absurd (cc))
 
-  pub fed_ends : (d d1 : State F) (f g : F) (tail rest end : List ℕ) (r : Result (Unit {0}) (DecodeError E)) → d ≡ record { closure = f; symbols = []; padding = 0; failed = false } → Fed d tail rest d1 → EndsBody rest end → Finishes step d1 r g → Decodes step f (length tail + 1) (outcome true (plain_body tail)) (IsBodyEnd tail) (at_place (length tail - length end) r) g
-  fed_ends d d1 f g tail rest end r s h e k =
-      let all : Feeds step d (plain_body tail) (Ok tt) d1 = subst (λ u. Feeds step d u (Ok tt) d1) (sym (h.body ∙ ap (λ x. h.read ++ x) e.body ∙ append-nil h.read)) h.fed in
-      let short = body_shorter tail in
-      decodes_outcome (plain_body tail) (length tail + 1) (length tail - length end) (IsBodyEnd tail) r (decodes_finished step s all k) (omega arith) (λ q. ends_at tail rest end h.rest_is e)
+  fed_all : {d d1 : State F} {text : List ℕ} {w : Walk} → Fed d text w d1 → w.rest ≡ [] → Feeds step d (plain_body text) (Ok tt) d1
+  fed_all {d} {d1} {text} {w} h e = subst (λ u. Feeds step d u (Ok tt) d1) (sym (h.body ∙ ap (λ x. h.read ++ x) e ∙ append-nil h.read)) h.fed
 
-  pub fed_ended : (d d1 : State F) (f g : F) (tail rest end : List ℕ) (r r' : Result (Unit {0}) (DecodeError E)) → d ≡ record { closure = f; symbols = []; padding = 0; failed = false } → Fed d tail rest d1 → EndsBody rest end → Finishes step d1 r g → r ≡ r' → Decodes step f (length tail + 1) (outcome true (plain_body tail)) (IsBodyEnd tail) (at_place (length tail - length end) r') g
-  fed_ended d d1 f g tail rest end r r' s h e k same = fed_ends d d1 f g tail rest end r' s h e (subst (λ q. Finishes step d1 q g) same k)
+  pub fed_ended : {d d1 : State F} {f g : F} {text : List ℕ} {w : Walk} (place : ℕ) {r r' : Result (Unit {0}) (DecodeError E)} → d ≡ start f → Fed d text w d1 → w.rest ≡ [] → (r' ≡ Ok tt → IsBodyEnd text place) → Finishes step d1 r g → r ≡ r' → Decodes step f (length text + 1) (outcome true (plain_body text)) (IsBodyEnd text) (at_place place r') g
+  fed_ended {d} {d1} {f} {g} {text} {w} place {r} {r'} s h e b k same =
+      let short = body_shorter text in
+      let finished : Finishes step d1 r' g = subst (λ q. Finishes step d1 q g) same k in
+      decodes_outcome (plain_body text) (length text + 1) place (IsBodyEnd text) r' (decodes_finished step s (fed_all h e) finished) (omega arith) b

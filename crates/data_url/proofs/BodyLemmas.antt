@@ -1,91 +1,134 @@
--- The walk over a tail, one step at a time, over plain lists.
-use Rattle.std.proofs.Common.{◌≡◌, ℕ, ◌+◌, ◌*◌, ◌<◌, true, false, List, [], ◌∷◌, ◌++◌, length, refl, sym, ap, ◌∙◌, inl, inr, subst, append_assoc, arith, eqb, eqb-true, eq-eqb}
+-- The body of a tail, by what the tail begins with.
+use Rattle.std.proofs.Common.{◌≡◌, ℕ, ◌+◌, ◌*◌, Bool, true, false, cond, List, [], ◌∷◌, Option, None, Some, refl, sym, ap, ◌∙◌, inl, inr, eqb, eqb-true, eq-eqb}
 use Rattle.std.specs.Prelude.{◌==◌, ◌&&◌, ◌≢◌}
 use Rattle.std.specs.Char.{digit_value}
-use Rattle.std.proofs.lemmas.Bool.{and_left, and_right, both_ways, cases_Bool, ne_eqb}
+use Rattle.std.proofs.lemmas.Bool.{and_left, and_right, both_ways, cases_Bool, cond-true, cond-false, ne_eqb}
 use Rattle.data_url.specs.Url.{before, behind, dropped, front, is_tab_or_newline}
 use Rattle.data_url.specs.Percent.{is_hex, percent_decoded}
 use Rattle.data_url.specs.Fetch.{plain_body}
-use Rattle.data_url.specs.Body.{BeginsFragment, BeginsKept, EndsBody, HasDigit, HasNoEscape, IsEscape, IsPast, TakesByte, begins_with_digit, begins_with_two_digits, fragment_at}
+use Rattle.data_url.specs.Pieces.{digit, escape, with_high_digit, with_low_digit}
+use Rattle.data_url.proofs.DigitLemmas.{digit_here, digit_nil, digit_tab}
 use Rattle.data_url.proofs.UrlLemmas.{before_nil, before_other, before_same, behind_nil, behind_other, behind_same, dropped_keeps, dropped_nil, dropped_passes}
 use Rattle.data_url.proofs.RecodedLemmas.{decoded_escape, decoded_keeps, two_digits}
 
--- Past tabs and newlines
-
-pub past_none : (text : List ℕ) → IsPast text text
-past_none text = record { passed = []; joined = refl; dropped_is = refl; behind_is = refl }
+-- Digits and escapes, in what is left without tabs and newlines
 
 -- a tab or newline is no '#'
 no_hash : (b : ℕ) → is_tab_or_newline b ≡ true → (b == 35) ≡ false
 no_hash b h = ne_eqb b 35 (λ (e : b ≡ 35). both_ways (is_tab_or_newline b) (ap is_tab_or_newline e) h)
 
-pub past_more : (text rest after : List ℕ) (b : ℕ) → IsPast text rest → rest ≡ b ∷ after → is_tab_or_newline b ≡ true → IsPast text after
-past_more text rest after b h e p = record {
-  passed = h.passed ++ b ∷ [];
-  joined = h.joined ∙ ap (λ s. h.passed ++ s) e ∙ sym (append_assoc h.passed (b ∷ []) after);
-  dropped_is = h.dropped_is ∙ ap dropped e ∙ dropped_passes b after p;
-  behind_is = h.behind_is ∙ ap (behind 35) e ∙ behind_other 35 b after (no_hash b p);
-}
-
-pub kept_here : (rest after : List ℕ) (b : ℕ) → rest ≡ b ∷ after → is_tab_or_newline b ≡ false → BeginsKept rest
-kept_here rest after b e h = subst BeginsKept (sym e) h
-
--- Digits
-
 hex_no_hash : (b : ℕ) → is_hex b ≡ true → (b == 35) ≡ false
 hex_no_hash b h = ne_eqb b 35 (λ (e : b ≡ 35). both_ways (is_hex b) (ap is_hex e) h)
 
-pub has_digit : (text rest after : List ℕ) (b v : ℕ) → IsPast text rest → BeginsKept rest → rest ≡ b ∷ after → is_hex b ≡ true → v ≡ digit_value b → HasDigit text v after
-has_digit text rest after b v p k e h d = record {
-  passed = p.passed ++ b ∷ [];
-  digit = b;
-  joined = p.joined ∙ ap (λ s. p.passed ++ s) e ∙ sym (append_assoc p.passed (b ∷ []) after);
-  hex = h;
-  value_is = d;
-  dropped_is = p.dropped_is ∙ ap dropped e ∙ dropped_keeps b after (subst BeginsKept e k);
-  behind_is = p.behind_is ∙ ap (behind 35) e ∙ behind_other 35 b after (hex_no_hash b h);
+-- a text that begins with a digit of the value, past tabs and newlines, and goes on with rest
+record HasDigit (s : List ℕ) (value : ℕ) (rest : List ℕ) : Type 0 where
+  pub at : ℕ
+  pub hex : is_hex at ≡ true
+  pub value_is : digit_value at ≡ value
+  pub dropped_is : dropped s ≡ at ∷ dropped rest
+  pub behind_is : behind 35 s ≡ behind 35 rest
+
+digit_at : (b : ℕ) (s : List ℕ) (value : ℕ) (rest : List ℕ) → is_tab_or_newline b ≡ false → is_hex b ≡ true → ◌≡◌ {A = Option (ℕ × List ℕ)} (Some (digit_value b, s)) (Some (value, rest)) → HasDigit (b ∷ s) value rest
+digit_at b s value rest t h e =
+    let both : ◌≡◌ {A = ℕ × List ℕ} (digit_value b, s) (value, rest) = cc in
+    let value_is : digit_value b ≡ value = ap (λ (p : ℕ × List ℕ). p.0) both in
+    let rest_is : s ≡ rest = ap (λ (p : ℕ × List ℕ). p.1) both in
+    record {
+      at = b;
+      hex = h;
+      value_is = value_is;
+      dropped_is = dropped_keeps b s t ∙ ap (λ r. b ∷ dropped r) rest_is;
+      behind_is = behind_other 35 b s (hex_no_hash b h) ∙ ap (behind 35) rest_is;
+    }
+
+has_digit : (s : List ℕ) (value : ℕ) (rest : List ℕ) → digit s ≡ Some (value, rest) → HasDigit s value rest
+has_digit [] value rest h = absurd (let k : ◌≡◌ {A = Option (ℕ × List ℕ)} None (Some (value, rest)) = sym digit_nil ∙ h in cc)
+has_digit (b ∷ s) value rest h = elim (cases_Bool (is_tab_or_newline b)) [
+  | inl e ↦
+      let k = has_digit s value rest (sym (digit_tab b s e) ∙ h) in
+      record {
+        at = k.at;
+        hex = k.hex;
+        value_is = k.value_is;
+        dropped_is = dropped_passes b s e ∙ k.dropped_is;
+        behind_is = behind_other 35 b s (no_hash b e) ∙ k.behind_is;
+      }
+  | inr e ↦ elim (cases_Bool (is_hex b)) [
+    | inl f ↦ digit_at b s value rest e f (sym (digit_here b s e ∙ cond-true (is_hex b) (Some (digit_value b, s)) None f) ∙ h)
+    | inr f ↦ absurd (let k : ◌≡◌ {A = Option (ℕ × List ℕ)} None (Some (value, rest)) = sym (digit_here b s e ∙ cond-false (is_hex b) (Some (digit_value b, s)) None f) ∙ h in cc)
+  ]
+]
+
+abbrev begins_with_digit : List ℕ → Bool
+begins_with_digit [] = false
+begins_with_digit (b ∷ s) = is_hex b
+
+no_digit : (s : List ℕ) → digit s ≡ None → begins_with_digit (dropped s) ≡ false
+no_digit [] h = ap begins_with_digit dropped_nil
+no_digit (b ∷ s) h = elim (cases_Bool (is_tab_or_newline b)) [
+  | inl e ↦ ap begins_with_digit (dropped_passes b s e) ∙ no_digit s (sym (digit_tab b s e) ∙ h)
+  | inr e ↦ ap begins_with_digit (dropped_keeps b s e) ∙ elim (cases_Bool (is_hex b)) [
+    | inl f ↦ absurd (let k : ◌≡◌ {A = Option (ℕ × List ℕ)} (Some (digit_value b, s)) None = sym (digit_here b s e ∙ cond-true (is_hex b) (Some (digit_value b, s)) None f) ∙ h in cc)
+    | inr f ↦ f
+  ]
+]
+
+-- a text that begins with two digits, past tabs and newlines
+record HasEscape (s : List ℕ) (value : ℕ) (rest : List ℕ) : Type 0 where
+  pub high : ℕ
+  pub low : ℕ
+  pub high_hex : is_hex high ≡ true
+  pub low_hex : is_hex low ≡ true
+  pub value_is : 16 * digit_value high + digit_value low ≡ value
+  pub dropped_is : dropped s ≡ high ∷ low ∷ dropped rest
+  pub behind_is : behind 35 s ≡ behind 35 rest
+
+both_digits : (s middle rest : List ℕ) (high low value : ℕ) → HasDigit s high middle → HasDigit middle low rest → 16 * high + low ≡ value → HasEscape s value rest
+both_digits s middle rest high low value a b e = record {
+  high = a.at;
+  low = b.at;
+  high_hex = a.hex;
+  low_hex = b.hex;
+  value_is = ap (λ v. 16 * v + digit_value b.at) a.value_is ∙ ap (λ v. 16 * high + v) b.value_is ∙ e;
+  dropped_is = a.dropped_is ∙ ap (λ t. a.at ∷ t) b.dropped_is;
+  behind_is = a.behind_is ∙ b.behind_is;
 }
 
-pub no_digit_here : (text rest after : List ℕ) (b : ℕ) → IsPast text rest → BeginsKept rest → rest ≡ b ∷ after → is_hex b ≡ false → begins_with_digit (dropped text) ≡ false
-no_digit_here text rest after b p k e h = ap begins_with_digit (p.dropped_is ∙ ap dropped e ∙ dropped_keeps b after (subst BeginsKept e k)) ∙ h
+low_cases : (s middle : List ℕ) (high value : ℕ) (rest : List ℕ) (o : Option (ℕ × List ℕ)) → HasDigit s high middle → digit middle ≡ o → with_low_digit high o ≡ Some (value, rest) → HasEscape s value rest
+low_cases s middle high value rest None a e h = absurd (cc)
+low_cases s middle high value rest (Some low) a e h =
+    let both : ◌≡◌ {A = ℕ × List ℕ} (16 * high + low.0, low.1) (value, rest) = cc in
+    let value_is : 16 * high + low.0 ≡ value = ap (λ (p : ℕ × List ℕ). p.0) both in
+    let rest_is : low.1 ≡ rest = ap (λ (p : ℕ × List ℕ). p.1) both in
+    both_digits s middle rest high low.0 value a (has_digit middle low.0 rest (e ∙ ap (λ r. Some (low.0, r)) rest_is)) value_is
 
-pub no_digit_left : (text rest : List ℕ) → IsPast text rest → rest ≡ [] → begins_with_digit (dropped text) ≡ false
-no_digit_left text rest p e = ap begins_with_digit (p.dropped_is ∙ ap dropped e ∙ dropped_nil)
+high_cases : (s : List ℕ) (value : ℕ) (rest : List ℕ) (o : Option (ℕ × List ℕ)) → digit s ≡ o → with_high_digit o ≡ Some (value, rest) → HasEscape s value rest
+high_cases s value rest None e h = absurd (cc)
+high_cases s value rest (Some high) e h = low_cases s high.1 high.0 value rest (digit high.1) (has_digit s high.0 high.1 e) refl h
 
--- Escapes
+has_escape : (s : List ℕ) (value : ℕ) (rest : List ℕ) → escape s ≡ Some (value, rest) → HasEscape s value rest
+unfolding escape
+has_escape s value rest h = high_cases s value rest (digit s) refl h
 
-pub has_escape : (text rest after : List ℕ) (v w byte : ℕ) → HasDigit text v rest → HasDigit rest w after → byte ≡ v * 16 + w → IsEscape text byte after
-has_escape text rest after v w byte h k e = record {
-  passed = h.passed ++ k.passed;
-  high = h.digit;
-  low = k.digit;
-  joined = h.joined ∙ ap (λ s. h.passed ++ s) k.joined ∙ sym (append_assoc h.passed k.passed after);
-  high_hex = h.hex;
-  low_hex = k.hex;
-  byte_is = e ∙ ap (λ x. x * 16 + w) h.value_is ∙ ap (λ x. digit_value h.digit * 16 + x) k.value_is ∙ omega arith;
-  dropped_is = h.dropped_is ∙ ap (λ s. h.digit ∷ s) k.dropped_is;
-  behind_is = h.behind_is ∙ k.behind_is;
-}
+abbrev begins_with_two_digits : List ℕ → Bool
+begins_with_two_digits [] = false
+begins_with_two_digits (b ∷ s) = is_hex b && begins_with_digit s
 
 first_no_digit : (s : List ℕ) → begins_with_digit s ≡ false → begins_with_two_digits s ≡ false
 first_no_digit [] h = refl
 first_no_digit (b ∷ s) h = and_left (is_hex b) (begins_with_digit s) h
 
-pub no_first : (text : List ℕ) → begins_with_digit (dropped text) ≡ false → HasNoEscape text
-no_first text h = first_no_digit (dropped text) h
+no_low_cases : (s middle : List ℕ) (high : ℕ) (o : Option (ℕ × List ℕ)) → HasDigit s high middle → digit middle ≡ o → with_low_digit high o ≡ None → begins_with_two_digits (dropped s) ≡ false
+no_low_cases s middle high None a e h = ap begins_with_two_digits a.dropped_is ∙ and_right (is_hex a.at) (begins_with_digit (dropped middle)) (no_digit middle e)
+no_low_cases s middle high (Some low) a e h = absurd (cc)
 
-pub no_second : (text rest : List ℕ) (v : ℕ) → HasDigit text v rest → begins_with_digit (dropped rest) ≡ false → HasNoEscape text
-no_second text rest v h n = ap begins_with_two_digits h.dropped_is ∙ and_right (is_hex h.digit) (begins_with_digit (dropped rest)) n
+no_high_cases : (s : List ℕ) (o : Option (ℕ × List ℕ)) → digit s ≡ o → with_high_digit o ≡ None → begins_with_two_digits (dropped s) ≡ false
+no_high_cases s None e h = first_no_digit (dropped s) (no_digit s e)
+no_high_cases s (Some high) e h = no_low_cases s high.1 high.0 (digit high.1) (has_digit s high.0 high.1 e) refl h
 
--- The body
-
-body_of : (tail s : List ℕ) → dropped tail ≡ s → plain_body tail ≡ percent_decoded (before 35 s)
-unfolding plain_body front
-body_of tail s e = ap (λ x. percent_decoded (before 35 x)) e
-
-percent_nil : percent_decoded [] ≡ []
-unfolding percent_decoded
-percent_nil = refl
+no_escape : (s : List ℕ) → escape s ≡ None → begins_with_two_digits (dropped s) ≡ false
+unfolding escape
+no_escape s h = no_high_cases s (digit s) refl h
 
 same_two_digits : (s : List ℕ) → begins_with_two_digits s ≡ false → two_digits (before 35 s) ≡ false
 same_two_digits [] h = ap two_digits (before_nil 35)
@@ -101,69 +144,57 @@ same_two_digits (b ∷ c ∷ s) h = elim (cases_Bool (b == 35)) [
   ]
 ]
 
+-- The body
+
+body_of : (tail s : List ℕ) → dropped tail ≡ s → plain_body tail ≡ percent_decoded (before 35 s)
+unfolding plain_body front
+body_of tail s e = ap (λ x. percent_decoded (before 35 x)) e
+
+percent_nil : percent_decoded [] ≡ []
+unfolding percent_decoded
+percent_nil = refl
+
+pub body_nil : plain_body [] ≡ []
+body_nil = body_of [] [] dropped_nil ∙ ap percent_decoded (before_nil 35) ∙ percent_nil
+
+pub body_hash : (s : List ℕ) → plain_body (35 ∷ s) ≡ []
+body_hash s = body_of (35 ∷ s) (35 ∷ dropped s) (dropped_keeps 35 s refl) ∙ ap percent_decoded (before_same 35 (dropped s)) ∙ percent_nil
+
+pub body_passes : (b : ℕ) (s : List ℕ) → is_tab_or_newline b ≡ true → plain_body (b ∷ s) ≡ plain_body s
+body_passes b s h = body_of (b ∷ s) (dropped s) (dropped_passes b s h) ∙ sym (body_of s (dropped s) refl)
+
+pub behind_passes : (b : ℕ) (s : List ℕ) → is_tab_or_newline b ≡ true → behind 35 (b ∷ s) ≡ behind 35 s
+behind_passes b s h = behind_other 35 b s (no_hash b h)
+
 -- a byte that stands for itself
-keeps_byte : (tail after : List ℕ) (b : ℕ) → dropped tail ≡ b ∷ dropped after → (b == 35) ≡ false → ((b == 37) && two_digits (before 35 (dropped after))) ≡ false → plain_body tail ≡ b ∷ plain_body after
-keeps_byte tail after b d n k = body_of tail (b ∷ dropped after) d ∙ ap percent_decoded (before_other 35 b (dropped after) n) ∙ decoded_keeps b (before 35 (dropped after)) k ∙ ap (λ t. b ∷ t) (sym (body_of after (dropped after) refl))
+keeps_byte : (b : ℕ) (s : List ℕ) → is_tab_or_newline b ≡ false → (b == 35) ≡ false → ((b == 37) && two_digits (before 35 (dropped s))) ≡ false → plain_body (b ∷ s) ≡ b ∷ plain_body s
+keeps_byte b s t n k =
+    body_of (b ∷ s) (b ∷ dropped s) (dropped_keeps b s t)
+    ∙ ap percent_decoded (before_other 35 b (dropped s) n)
+    ∙ decoded_keeps b (before 35 (dropped s)) k
+    ∙ ap (λ t. b ∷ t) (sym (body_of s (dropped s) refl))
 
--- the walk stands before a byte that is kept
-pub record Stands (tail rest after : List ℕ) (b : ℕ) : Type 0 where
-  pub past : IsPast tail rest
-  pub kept : BeginsKept rest
-  pub is : rest ≡ b ∷ after
+pub body_keeps : (b : ℕ) (s : List ℕ) → is_tab_or_newline b ≡ false → (b == 35) ≡ false → (b == 37) ≡ false → plain_body (b ∷ s) ≡ b ∷ plain_body s
+body_keeps b s t n p = keeps_byte b s t n (and_left (b == 37) (two_digits (before 35 (dropped s))) p)
 
-dropped_at : (tail rest after : List ℕ) (b : ℕ) → Stands tail rest after b → dropped tail ≡ b ∷ dropped after
-dropped_at tail rest after b h = h.past.dropped_is ∙ ap dropped h.is ∙ dropped_keeps b after (subst BeginsKept h.is h.kept)
+pub body_percent : (s : List ℕ) → escape s ≡ None → plain_body (37 ∷ s) ≡ 37 ∷ plain_body s
+body_percent s h = keeps_byte 37 s refl refl (same_two_digits (dropped s) (no_escape s h))
 
-joined_at : (tail rest after : List ℕ) (b : ℕ) (h : Stands tail rest after b) → tail ≡ (h.past.passed ++ b ∷ []) ++ after
-joined_at tail rest after b h = h.past.joined ∙ ap (λ s. h.past.passed ++ s) h.is ∙ sym (append_assoc h.past.passed (b ∷ []) after)
+pub body_escape : (s : List ℕ) (value : ℕ) (rest : List ℕ) → escape s ≡ Some (value, rest) → plain_body (37 ∷ s) ≡ value ∷ plain_body rest
+body_escape s value rest h =
+    let e = has_escape s value rest h in
+    let front_is : before 35 (dropped s) ≡ e.high ∷ e.low ∷ before 35 (dropped rest) =
+    ap (before 35) e.dropped_is
+    ∙ before_other 35 e.high (e.low ∷ dropped rest) (hex_no_hash e.high e.high_hex)
+    ∙ ap (λ t. e.high ∷ t) (before_other 35 e.low (dropped rest) (hex_no_hash e.low e.low_hex)) in
+    body_of (37 ∷ s) (37 ∷ dropped s) (dropped_keeps 37 s refl)
+    ∙ ap percent_decoded (before_other 35 37 (dropped s) refl ∙ ap (λ t. 37 ∷ t) front_is)
+    ∙ decoded_escape e.high e.low (before 35 (dropped rest)) e.high_hex e.low_hex
+    ∙ ap (λ x. x ∷ percent_decoded (before 35 (dropped rest))) e.value_is
+    ∙ ap (λ t. value ∷ t) (sym (body_of rest (dropped rest) refl))
 
-behind_past : (tail rest after : List ℕ) (b : ℕ) → Stands tail rest after b → (b == 35) ≡ false → behind 35 tail ≡ behind 35 after
-behind_past tail rest after b h n = h.past.behind_is ∙ ap (behind 35) h.is ∙ behind_other 35 b after n
+pub behind_percent : (s : List ℕ) → behind 35 (37 ∷ s) ≡ behind 35 s
+behind_percent s = behind_other 35 37 s refl
 
-nonempty : (s t : List ℕ) (b : ℕ) → 0 < length (s ++ b ∷ t)
-nonempty [] t b = omega arith
-nonempty (c ∷ s) t b = let h = nonempty s t b in omega arith
-
-pub takes_kept : (tail rest after : List ℕ) (b : ℕ) → Stands tail rest after b → b ≢ 35 → ((b == 37) && two_digits (before 35 (dropped after))) ≡ false → TakesByte tail b after
-takes_kept tail rest after b h n k = record {
-  taken = h.past.passed ++ b ∷ [];
-  joined = joined_at tail rest after b h;
-  some = nonempty h.past.passed [] b;
-  body = keeps_byte tail after b (dropped_at tail rest after b h) (ne_eqb b 35 n) k;
-  behind_is = behind_past tail rest after b h (ne_eqb b 35 n);
-}
-
-pub takes_other : (tail rest after : List ℕ) (b : ℕ) → Stands tail rest after b → b ≢ 35 → b ≢ 37 → TakesByte tail b after
-takes_other tail rest after b h n m = takes_kept tail rest after b h n (and_left (b == 37) (two_digits (before 35 (dropped after))) (ne_eqb b 37 m))
-
-pub takes_percent : (tail rest after : List ℕ) → Stands tail rest after 37 → HasNoEscape after → TakesByte tail 37 after
-takes_percent tail rest after h n = takes_kept tail rest after 37 h (λ (e : ◌≡◌ {A = ℕ} 37 35). let k : eqb 37 35 ≡ true = eq-eqb 37 35 e in cc) (same_two_digits (dropped after) n)
-
-pub takes_escape : (tail rest after further : List ℕ) (byte : ℕ) → Stands tail rest after 37 → IsEscape after byte further → TakesByte tail byte further
-takes_escape tail rest after further byte h e =
-    let front_is : before 35 (dropped after) ≡ e.high ∷ e.low ∷ before 35 (dropped further) = ap (before 35) e.dropped_is ∙ before_other 35 e.high (e.low ∷ dropped further) (hex_no_hash e.high e.high_hex) ∙ ap (λ t. e.high ∷ t) (before_other 35 e.low (dropped further) (hex_no_hash e.low e.low_hex)) in
-    record {
-      taken = (h.past.passed ++ 37 ∷ []) ++ e.passed;
-      joined = joined_at tail rest after 37 h ∙ ap (λ s. (h.past.passed ++ 37 ∷ []) ++ s) e.joined ∙ sym (append_assoc (h.past.passed ++ 37 ∷ []) e.passed further);
-      some = subst (λ s. 0 < length s) (sym (append_assoc h.past.passed (37 ∷ []) e.passed)) (nonempty h.past.passed e.passed 37);
-      body = body_of tail (37 ∷ dropped after) (dropped_at tail rest after 37 h) ∙ ap percent_decoded (before_other 35 37 (dropped after) refl ∙ ap (λ t. 37 ∷ t) front_is) ∙ decoded_escape e.high e.low (before 35 (dropped further)) e.high_hex e.low_hex ∙ ap (λ x. x ∷ percent_decoded (before 35 (dropped further))) (sym e.byte_is) ∙ ap (λ t. byte ∷ t) (sym (body_of further (dropped further) refl));
-      behind_is = behind_past tail rest after 37 h refl ∙ e.behind_is;
-    }
-
-pub ends_empty : (tail rest : List ℕ) → IsPast tail rest → rest ≡ [] → EndsBody tail rest
-ends_empty tail rest p e = record {
-  passed = p.passed;
-  joined = p.joined;
-  begins = subst BeginsFragment (sym e) tt;
-  body = body_of tail [] (p.dropped_is ∙ ap dropped e ∙ dropped_nil) ∙ ap percent_decoded (before_nil 35) ∙ percent_nil;
-  behind_is = p.behind_is ∙ ap (behind 35) e ∙ behind_nil 35 ∙ ap fragment_at (sym e);
-}
-
-pub ends_hash : (tail rest after : List ℕ) → IsPast tail rest → rest ≡ 35 ∷ after → EndsBody tail rest
-ends_hash tail rest after p e = record {
-  passed = p.passed;
-  joined = p.joined;
-  begins = subst BeginsFragment (sym e) refl;
-  body = body_of tail (35 ∷ dropped after) (p.dropped_is ∙ ap dropped e ∙ dropped_keeps 35 after refl) ∙ ap percent_decoded (before_same 35 (dropped after)) ∙ percent_nil;
-  behind_is = p.behind_is ∙ ap (behind 35) e ∙ behind_same 35 after ∙ ap fragment_at (sym e);
-}
+pub behind_escape : (s : List ℕ) (value : ℕ) (rest : List ℕ) → escape s ≡ Some (value, rest) → behind 35 (37 ∷ s) ≡ behind 35 rest
+behind_escape s value rest h = let e = has_escape s value rest h in behind_percent s ∙ e.behind_is

@@ -1,30 +1,38 @@
 pub mod AlphabetLemmas
 pub mod Base64BodyLemmas
 mod Base64Examples
+pub mod BlockLemmas
 pub mod BodyLemmas
 pub mod BodyVecLemmas
 pub mod ByteLemmas
 pub mod CommaLemmas
+pub mod CursorLemmas
 pub mod CutLemmas
 pub mod DecodeLemmas
 pub mod DecoderLemmas
+pub mod DigitLemmas
 pub mod FaultLemmas
 pub mod FeedLemmas
 pub mod FragmentAgainLemmas
 pub mod FragmentLemmas
+pub mod GatherLemmas
 pub mod HeadLemmas
 pub mod HeaderLemmas
 pub mod ItemLemmas
 pub mod KeptLemmas
+pub mod MarkLemmas
 pub mod MediaLemmas
 mod MimeExamples
+pub mod NextLemmas
 pub mod OnLiterals
 pub mod ParameterLemmas
+pub mod PieceLemmas
 pub mod PrintLemmas
 pub mod PrintableLemmas
 pub mod ProcessLemmas
 pub mod QuoteLemmas
 pub mod QuotedLemmas
+pub mod ReadLemmas
 pub mod RecodedLemmas
 pub mod RecordLemmas
 pub mod RoundTripLemmas
@@ -44,3 +52,4 @@ pub mod ValueLemmas
 pub mod WalkLemmas
 pub mod WellformedLemmas
 pub mod WholeLemmas
+pub mod WindowLemmas

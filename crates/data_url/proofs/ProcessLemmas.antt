@@ -6,7 +6,7 @@ use Rattle.data_url.specs.Url.{after_scheme, behind, dropped, fragment, front, i
 use Rattle.data_url.specs.Percent.{percent_decoded}
 use Rattle.data_url.specs.Fetch.{Accepted, Good, NoComma, NoScheme, Outcome, encoded_body, has_base64_suffix, mime_text, outcome, plain_body, staged, staged_after, staged_parts}
 use Rattle.data_url.specs.Front.{HasNoScheme, IsHeaderAndTail, IsSchemeAndRest}
-use Rattle.data_url.specs.Body.{BeginsFragment, IsBodyEnd, fragment_at}
+use Rattle.data_url.specs.Steps.Tail.{BeginsFragment, IsBodyEnd, fragment_at}
 use Rattle.data_url.specs.Decodes.{Decodes}
 use Rattle.data_url.specs.Header.{IsHeaderOf}
 use Rattle.data_url.specs.Seen.{seen}

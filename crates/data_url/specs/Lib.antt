@@ -1,5 +1,4 @@
 pub mod Base64
-pub mod Body
 pub mod CodePoints
 pub mod DecoderState
 pub mod Decodes
@@ -12,6 +11,7 @@ pub mod Laws
 pub mod Mime
 pub mod Parsing
 pub mod Percent
+pub mod Pieces
 pub mod Refusal
 pub mod Run
 pub mod Seen

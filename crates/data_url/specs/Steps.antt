@@ -1,4 +1,10 @@
 -- What the private steps of the library do.
+pub mod Chunks
+pub mod Digits
+pub mod Looks
+pub mod Tail
+pub mod Walk
+pub mod Window
 use Rattle.std.specs.Prelude.{◌≡◌, ℕ, List, MatchResult, Result, Ok, Err, is_err}
 use Rattle.data_url.specs.Decoding.{State}
 use Rattle.data_url.specs.declared.forgiving_base64.DecodeError.{DecodeError}

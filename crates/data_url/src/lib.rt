@@ -4,12 +4,13 @@
 ghost use Rattle.std.specs.Prelude.{◌≡◌, ◌+◌, IfErr, IfOk, Some, length};
 ghost use Rattle.std.specs.Fn.{CalledAt};
 ghost use Rattle.data_url.specs.Decodes.{Decodes};
-ghost use Rattle.data_url.specs.Body.{IsBodyEnd};
+ghost use Rattle.data_url.specs.Steps.Tail.{IsBodyEnd};
 ghost use Rattle.data_url.specs.Fetch.{Good};
 ghost use Rattle.data_url.specs.UrlSeen.{IsFragmentOf, IsProcessed, mime_of, url_body, url_tail};
 ghost use Rattle.data_url.specs.VecError.{IsBodyErrorOf};
 
 mod body;
+pub mod escapes;
 mod facts;
 pub mod forgiving_base64;
 mod front;
@@ -155,11 +156,10 @@ impl<'a> DataUrl<'a> {
         ensures { Decodes (CalledAt F.FnMut) write (length (url_tail self.now) + 1) (url_body self.now)
             (IsBodyEnd (url_tail self.now)) result.0 result.1 }
     {
-        let tail = self.tail.as_bytes();
         if self.base64 {
-            decode_base64(tail, write)
+            decode_base64(self.tail, write)
         } else {
-            decode_plain(tail, write)
+            decode_plain(self.tail, write)
         }
     }
 

@@ -1,22 +1,44 @@
-use Rattle.std.proofs.Common.{[], Ok, Err, false, refl, ap, arith}
+use Rattle.std.proofs.Common.{◌∙◌, List, ℕ, Bor, refl, ap, subst, arith}
 use Rattle.std.specs.Fn.{CalledAt}
+use Rattle.data_url.specs.Decoding.{start}
 use Rattle.data_url.specs.DecoderState.{state_of}
+use Rattle.data_url.specs.Steps.Tail.{IsBodyEnd}
 use Rattle.data_url.proofs.ByteLemmas.{feeds_none}
-use Rattle.data_url.proofs.Base64BodyLemmas.{fed_ended, fed_more, fed_none, fed_refused}
+use Rattle.data_url.proofs.Base64BodyLemmas.{Fed, fed_ended, fed_more, fed_none, fed_refused}
+use Rattle.data_url.proofs.DecodeLemmas.{Takes, takes_gathered, takes_slice, walk_over}
 use Rattle.data_url.proofs.body.decode_base64.Goals as goal
+use Rattle.data_url.proofs.body.decode_base64.Goals.{in-Slice, in-Gathered}
 
-pub loop-end-init : goal.loop-end-init
-loop-end-init g c =
-    (c.new-decoder.ensures.callable, ap (λ d. d.failed) c.new-decoder.ensures.state, fed_none (CalledAt g.F.FnMut) (record { closure = c.args.write; symbols = []; padding = 0; failed = false }) (state_of c.new-decoder.result) c.args.tail.now (feeds_none (CalledAt g.F.FnMut) tt (omega arith) (omega arith) refl c.new-decoder.ensures.state))
+pub chunks-init : goal.chunks-init
+chunks-init g c =
+    let step = CalledAt g.F.FnMut in
+    let fed = fed_none step (start c.args.write) (state_of c.new-decoder.result) c.args.tail.now (feeds_none step tt (omega arith) (omega arith) refl c.new-decoder.ensures.state) in
+    (c.new-decoder.ensures.callable, ap (λ d. d.failed) c.new-decoder.ensures.state, rw c.new-pieces.ensures fed)
 
-pub returns-in-Ok : goal.returns-in-Ok
-returns-in-Ok g c = fed_ended (CalledAt g.F.FnMut) (record { closure = c.args.write; symbols = []; padding = 0; failed = false }) (state_of c.loop-end.decoder) c.args.write c.finish_with-answer.result.1 c.args.tail.now c.loop-end.rest.now c.in-End.end.now c.finish_with-answer.result.0 (Ok tt) refl c.loop-end.invariant.2 c.in-End.ensures c.finish_with-answer.ensures.finished c.in-Ok.is
+pub chunks-preserved : goal.chunks-preserved
+chunks-preserved g c =
+    let takes : Takes c.chunks.pieces c.match-chunk.piece.now c.next_chunk-walk.result.0 = elim c.match-chunk.branch [
+      | in-Slice w ↦ takes_slice w.in-Slice.slice c.next_chunk-walk.ensures w.in-Slice.is (ap (λ (b : Bor (List ℕ)). b.now) w.piece-is)
+      | in-Gathered w ↦ takes_gathered w.in-Gathered.len c.next_chunk-walk.ensures w.in-Gathered.is (ap (λ (b : Bor (List ℕ)). b.now) w.piece-is)
+    ] in
+    (c.feed.ensures.callable, c.in-Ok.ensures.fed.failed, fed_more (CalledAt g.F.FnMut) c.chunks.invariant.2 takes c.in-Ok.ensures.fed)
 
 pub returns-in-Err : goal.returns-in-Err
-returns-in-Err g c = fed_ended (CalledAt g.F.FnMut) (record { closure = c.args.write; symbols = []; padding = 0; failed = false }) (state_of c.loop-end.decoder) c.args.write c.finish_with-answer.result.1 c.args.tail.now c.loop-end.rest.now c.in-End.end.now c.finish_with-answer.result.0 (Err c.in-Err.error) refl c.loop-end.invariant.2 c.in-End.ensures c.finish_with-answer.ensures.finished c.in-Err.is
+returns-in-Err g c =
+    let takes : Takes c.chunks.pieces c.match-chunk.piece.now c.next_chunk-walk.result.0 = elim c.match-chunk.branch [
+      | in-Slice w ↦ takes_slice w.in-Slice.slice c.next_chunk-walk.ensures w.in-Slice.is (ap (λ (b : Bor (List ℕ)). b.now) w.piece-is)
+      | in-Gathered w ↦ takes_gathered w.in-Gathered.len c.next_chunk-walk.ensures w.in-Gathered.is (ap (λ (b : Bor (List ℕ)). b.now) w.piece-is)
+    ] in
+    rw c.into_closure.ensures (fed_refused (CalledAt g.F.FnMut) refl c.chunks.invariant.2 takes c.in-Err.ensures.fed)
 
-pub loop-end-preserved : goal.loop-end-preserved
-loop-end-preserved g c = (c.feed.ensures.callable, c.in-Ok-feed.ensures.fed.failed, fed_more (CalledAt g.F.FnMut) (record { closure = c.args.write; symbols = []; padding = 0; failed = false }) (state_of c.loop-end.decoder) (state_of c.feed.new.self) c.args.tail.now c.loop-end.rest.now c.in-Byte.after.now c.in-Byte.byte c.loop-end.invariant.2 c.in-Byte.ensures c.in-Ok-feed.ensures.fed)
+pub returns-in-Ok-answer : goal.returns-in-Ok-answer
+returns-in-Ok-answer g c =
+    let over = walk_over c.next_chunk-walk.ensures c.in-End.is in
+    let P : List ℕ → Type 0 = λ t. IsBodyEnd t c.end.result in
+    let end : IsBodyEnd c.args.tail.now c.end.result = subst P (over.2 ∙ c.chunks.invariant.2.text_is) c.end.ensures in
+    fed_ended (CalledAt g.F.FnMut) c.end.result refl c.chunks.invariant.2 over.0 (λ _. end) c.finish_with-answer.ensures.finished c.in-Ok-answer.is
 
-pub returns-in-Err-feed : goal.returns-in-Err-feed
-returns-in-Err-feed g c = rw c.into_closure.ensures (fed_refused (CalledAt g.F.FnMut) (record { closure = c.args.write; symbols = []; padding = 0; failed = false }) (state_of c.loop-end.decoder) (state_of c.feed.new.self) c.args.write c.args.tail.now c.loop-end.rest.now c.in-Byte.after.now c.in-Byte.byte c.in-Err-feed.error refl c.loop-end.invariant.2 c.in-Byte.ensures c.in-Err-feed.ensures.fed)
+pub returns : goal.returns
+returns g c =
+    let over = walk_over c.next_chunk-walk.ensures c.in-End.is in
+    fed_ended (CalledAt g.F.FnMut) 0 refl c.chunks.invariant.2 over.0 (λ e. absurd (cc)) c.finish_with-answer.ensures.finished c.in-Err-answer.is

@@ -1,13 +1,21 @@
-use Rattle.std.proofs.Common.{refl, of_calls}
+use Rattle.std.proofs.Common.{List, ℕ, Bor, refl, of_calls, ap}
 use Rattle.std.specs.Fn.{CalledAt}
-use Rattle.data_url.proofs.DecodeLemmas.{going_ends, going_more, going_refused}
+use Rattle.data_url.proofs.DecodeLemmas.{Takes, going_more, going_refused, takes_gathered, takes_slice}
 use Rattle.data_url.proofs.body.decode_plain.Goals as goal
+use Rattle.data_url.proofs.body.decode_plain.Goals.{in-Slice, in-Gathered}
 
-pub returns-in-End : goal.returns-in-End
-returns-in-End g c = going_ends (CalledAt g.F.FnMut) c.args.write c.args.tail.now c.loop-end.rest.now c.in-End.end.now c.loop-end.write c.loop-end.invariant.1 c.in-End.ensures
-
-pub loop-end-preserved : goal.loop-end-preserved
-loop-end-preserved g c = (search of_calls, going_more (CalledAt g.F.FnMut) c.args.write c.args.tail.now c.loop-end.rest.now c.in-Byte.after.now c.loop-end.write c.write.new.self c.in-Byte.byte c.loop-end.invariant.1 c.in-Byte.ensures (record { shown = _; shows = refl; called = c.in-Ok.ensures }))
+pub loop-pieces-preserved : goal.loop-pieces-preserved
+loop-pieces-preserved g c =
+    let takes : Takes c.loop-pieces.pieces c.match-chunk.piece.now c.next_chunk-walk.result.0 = elim c.match-chunk.branch [
+      | in-Slice w ↦ takes_slice w.in-Slice.slice c.next_chunk-walk.ensures w.in-Slice.is (ap (λ (b : Bor (List ℕ)). b.now) w.piece-is)
+      | in-Gathered w ↦ takes_gathered w.in-Gathered.len c.next_chunk-walk.ensures w.in-Gathered.is (ap (λ (b : Bor (List ℕ)). b.now) w.piece-is)
+    ] in
+    (search of_calls, going_more (CalledAt g.F.FnMut) c.loop-pieces.invariant.1 takes (record { shown = _; shows = refl; called = c.in-Ok.ensures }))
 
 pub returns-in-Err : goal.returns-in-Err
-returns-in-Err g c = going_refused (CalledAt g.F.FnMut) c.args.write c.args.tail.now c.loop-end.rest.now c.in-Byte.after.now c.loop-end.write c.write.new.self c.in-Byte.byte c.in-Err.error c.loop-end.invariant.1 c.in-Byte.ensures (record { shown = _; shows = refl; called = c.in-Err.ensures })
+returns-in-Err g c =
+    let takes : Takes c.loop-pieces.pieces c.match-chunk.piece.now c.next_chunk-walk.result.0 = elim c.match-chunk.branch [
+      | in-Slice w ↦ takes_slice w.in-Slice.slice c.next_chunk-walk.ensures w.in-Slice.is (ap (λ (b : Bor (List ℕ)). b.now) w.piece-is)
+      | in-Gathered w ↦ takes_gathered w.in-Gathered.len c.next_chunk-walk.ensures w.in-Gathered.is (ap (λ (b : Bor (List ℕ)). b.now) w.piece-is)
+    ] in
+    going_refused (CalledAt g.F.FnMut) c.in-Err.error c.loop-pieces.invariant.1 takes (record { shown = _; shows = refl; called = c.in-Err.ensures })

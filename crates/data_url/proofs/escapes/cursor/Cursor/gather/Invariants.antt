@@ -1,0 +1,15 @@
+-- So many bytes were gathered, and what is known of the walk is that its body ends or nothing.
+use Rattle.std.proofs.Common.{◌≤◌, length}
+use Rattle.data_url.specs.Steps.Walk.{Gathers, IsPlain, KnowsAhead, has_ended, text_of}
+use Rattle.data_url.proofs.GatherLemmas.{measure}
+use Rattle.data_url.proofs.escapes.cursor.Cursor.gather.Given as goal
+
+abbrev pub invariant-loop-len : goal.invariant-loop-len
+invariant-loop-len l =
+    Gathers l.fn.self l.self l.fn.room l.room 0 l.len
+    × KnowsAhead l.self l.self.ahead
+    × IsPlain l.self.ahead
+    × (l.len ≤ 256)
+
+abbrev pub decreases-loop-len : goal.decreases-loop-len
+decreases-loop-len l = measure (length (text_of l.fn.self)) l.self.place (has_ended l.self.ahead)

@@ -1,0 +1,14 @@
+-- So many bytes were gathered, and the walk may gather on.
+use Rattle.std.proofs.Common.{◌≡◌, ◌-◌, ◌<◌, length, inl}
+use Rattle.std.specs.Prelude.{◌⊎◌}
+use Rattle.data_url.specs.Steps.Walk.{Gathers, MayGather}
+use Rattle.data_url.proofs.escapes.cursor.Cursor.gather_block.Given as goal
+
+abbrev pub invariant-loop-self : goal.invariant-loop-self
+invariant-loop-self l =
+    Gathers l.fn.self l.self l.fn.room l.room l.initial.len l.len
+    × MayGather l.self l.len
+    × (l.self.seen ≡ l.fn.self.seen)
+
+abbrev pub decreases-loop-self : goal.decreases-loop-self
+decreases-loop-self l = l.self.seen - l.self.place

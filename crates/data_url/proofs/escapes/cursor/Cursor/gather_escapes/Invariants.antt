@@ -1,0 +1,16 @@
+-- So many bytes were gathered, and the walk stands behind an escape.
+use Rattle.std.proofs.Common.{◌≡◌, ◌-◌, ◌≤◌, length}
+use Rattle.data_url.specs.Steps.Walk.{Gathers, HasRoom, Looking}
+use Rattle.data_url.specs.declared.escapes.cursor.Ahead.TheVariants.{Unknown}
+use Rattle.data_url.proofs.escapes.cursor.Cursor.gather_escapes.Given as goal
+
+abbrev pub invariant-loop-len : goal.invariant-loop-len
+invariant-loop-len l =
+    Gathers l.fn.self l.self l.fn.room l.room l.initial.len l.len
+    × Looking l.self l.self.place 3
+    × HasRoom l.self l.len
+    × (l.self.ahead ≡ Unknown)
+    × (l.self.seen ≡ l.fn.self.seen)
+
+abbrev pub decreases-loop-len : goal.decreases-loop-len
+decreases-loop-len l = 256 - l.len

@@ -1,0 +1,21 @@
+use Rattle.std.proofs.Common.{◌∙◌}
+use Rattle.data_url.specs.declared.escapes.cursor.Ahead.TheVariants.{BehindEscape, End, Escape}
+use Rattle.data_url.proofs.NextLemmas.{ahead_at, ahead_is, byte_behind, byte_known, goes_then, knows_on, moved_looking, over}
+use Rattle.data_url.proofs.escapes.cursor.Cursor.next.Goals as goal
+
+pub returns-in-Escape-clause-goes : goal.returns-in-Escape-clause-goes
+returns-in-Escape-clause-goes c =
+    let k = ahead_at c.args.self.now (Escape c.in-Escape.value c.in-Escape.end) c.requires.ahead_is c.in-Escape.is in
+    byte_known k.0
+
+pub returns-in-Escape-clause-knows : goal.returns-in-Escape-clause-knows
+returns-in-Escape-clause-knows c =
+    let k = ahead_at c.args.self.now (Escape c.in-Escape.value c.in-Escape.end) c.requires.ahead_is c.in-Escape.is in
+    knows_on c.requires (byte_known k.0) (moved_looking c.in-Escape.end BehindEscape k.1)
+
+pub returns-in-Some-clause-goes : goal.returns-in-Some-clause-goes
+returns-in-Some-clause-goes c = byte_behind c.in-Some.ensures.on c.in-Some.ensures.found.0
+
+pub returns-in-Some-clause-knows : goal.returns-in-Some-clause-knows
+returns-in-Some-clause-knows c =
+    knows_on c.requires (byte_behind c.in-Some.ensures.on c.in-Some.ensures.found.0) (ahead_is c.escape_here.new.self BehindEscape (c.in-Some.ensures.ahead ∙ c.in-BehindEscape.is) c.in-Some.ensures.found.1)

@@ -1,0 +1,75 @@
+-- A body in pieces (URL Standard, section 1.3, percent-decode): what contracts see of a walk over its text.
+use Rattle.std.specs.Prelude.{◌≡◌, ℕ, ◌+◌, ◌*◌, ◌==◌, ◌<◌, ◌≤◌, ◌&&◌, ◌||◌, Bool, true, false, cond, List, [], ◌∷◌, drop, Option, None, Some, is_some, slice_index, slice_range}
+use Rattle.std.specs.Char.{digit_value}
+use Rattle.data_url.specs.Url.{is_tab_or_newline}
+use Rattle.data_url.specs.Percent.{is_hex}
+use Rattle.data_url.specs.Fetch.{plain_body}
+use Rattle.data_url.specs.declared.escapes.Piece.{Piece}
+use Rattle.data_url.specs.declared.escapes.Piece.TheVariants.{Byte, Slice}
+
+-- the value of the hexadecimal digit that a text begins with, past tabs and newlines, and what follows it
+unfoldable pub digit : List ℕ → Option (ℕ × List ℕ)
+digit [] = None
+digit (b ∷ s) = cond (is_tab_or_newline b) (digit s) (cond (is_hex b) (Some (digit_value b, s)) None)
+
+-- the byte of a digit and the one that may follow it, and what follows both
+abbrev pub with_low_digit : ℕ → Option (ℕ × List ℕ) → Option (ℕ × List ℕ)
+with_low_digit high None = None
+with_low_digit high (Some low) = Some (16 * high + low.0, low.1)
+
+abbrev pub with_high_digit : Option (ℕ × List ℕ) → Option (ℕ × List ℕ)
+with_high_digit None = None
+with_high_digit (Some high) = with_low_digit high.0 (digit high.1)
+
+-- the value of the escape whose '%' stands before the text, and what follows it
+unfoldable pub escape : List ℕ → Option (ℕ × List ℕ)
+escape s = with_high_digit (digit s)
+
+-- where a slice may end: before a tab or newline, an escape, the first '#' or the end
+abbrev pub stops : List ℕ → Bool
+stops [] = true
+stops (b ∷ s) = is_tab_or_newline b || ((b == 35) || ((b == 37) && is_some (escape s)))
+
+-- a slice is a stretch of the text between two places, nonempty, and ends where it may
+pub record IsStretch (text : List ℕ) (from to : ℕ) (slice : List ℕ) : Type 0 where
+  pub start : ℕ
+  pub end : ℕ
+  pub from_le : from ≤ start
+  pub nonempty : start < end
+  pub to_le : end ≤ to
+  pub slice_is : slice ≡ slice_range text start end
+  pub stops_there : stops (drop end text) ≡ true
+
+-- a byte is the value of an escape that stands between two places and ends at the second
+pub record IsEscape (text : List ℕ) (from to : ℕ) (byte : ℕ) : Type 0 where
+  pub start : ℕ
+  pub from_le : from ≤ start
+  pub nonempty : start < to
+  pub percent : slice_index text start ≡ 37
+  pub value_is : escape (drop (start + 1) text) ≡ Some (byte, drop to text)
+
+abbrev pub IsPiece : List ℕ → ℕ → ℕ → Piece → Type 0
+IsPiece text from to (Slice slice) = IsStretch text from to slice.now
+IsPiece text from to (Byte byte) = IsEscape text from to byte
+
+-- the bytes that a piece stands for
+abbrev pub bytes_of : Piece → List ℕ
+bytes_of (Slice slice) = slice.now
+bytes_of (Byte byte) = byte ∷ []
+
+abbrev pub bytes_of_next : Option Piece → List ℕ
+bytes_of_next None = []
+bytes_of_next (Some piece) = bytes_of piece
+
+-- a walk: its text, its place there, the bytes that the pieces from there on join to, whether it has ended, and how many
+-- bytes were looked at
+pub record Walk : Type 0 where
+  pub text : List ℕ
+  pub place : ℕ
+  pub rest : List ℕ
+  pub ended : Bool
+  pub looks : ℕ
+
+-- a walk at the front of its text: the pieces join to the percent-decoded body (plain_body)
+abbrev pub begins : List ℕ → Walk
+begins text = record { text = text; place = 0; rest = plain_body text; ended = false; looks = 0 }

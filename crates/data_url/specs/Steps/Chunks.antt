@@ -1,0 +1,25 @@
+-- The bytes that a walk hands to the one who decodes a body.
+use Rattle.std.specs.Prelude.{◌≡◌, ℕ, ◌+◌, ◌<◌, ◌≤◌, true, List, [], ◌++◌, length, take}
+use Rattle.data_url.specs.Pieces.{Walk}
+use Rattle.data_url.specs.declared.escapes.Chunk.{Chunk}
+use Rattle.data_url.specs.declared.escapes.Chunk.TheVariants.{End, Gathered, Slice}
+
+-- the bytes of a chunk, where so many may stand in a room
+abbrev pub chunk_bytes : List ℕ → Chunk → List ℕ
+chunk_bytes room (Slice slice) = slice.now
+chunk_bytes room (Gathered len) = take len room
+chunk_bytes room End = []
+
+-- a chunk has bytes, of the room no more than it has, or the walk has ended
+abbrev pub IsFilled : List ℕ → Chunk → Walk → Type 0
+IsFilled room (Slice slice) w = 0 < length slice.now
+IsFilled room (Gathered len) w = (0 < len) × (len ≤ length room)
+IsFilled room End w = (w.ended ≡ true) × (w.rest ≡ [])
+
+-- the walk w gave a chunk, and is w' now
+pub record IsChunk (w : Walk) (room : List ℕ) (chunk : Chunk) (w' : Walk) : Type 0 where
+  pub text_stays : w'.text ≡ w.text
+  pub bytes : w.rest ≡ chunk_bytes room chunk ++ w'.rest
+  pub place : w.place + length (chunk_bytes room chunk) ≤ w'.place
+  pub within : w'.place ≤ length w'.text
+  pub filled : IsFilled room chunk w'

@@ -1,0 +1,38 @@
+-- Hexadecimal digits behind a '%', and the looks that finding them takes.
+use Rattle.std.specs.Prelude.{◌≡◌, ℕ, ◌+◌, ◌-◌, ◌<◌, ◌≤◌, cond, List, drop, length, None, Some}
+use Rattle.std.specs.Char.{digit_value}
+use Rattle.data_url.specs.Url.{is_tab_or_newline}
+use Rattle.data_url.specs.Percent.{is_hex}
+use Rattle.data_url.specs.Pieces.{digit, escape}
+use Rattle.data_url.specs.Steps.Looks.{before_percent}
+
+-- the value of a hexadecimal digit, 16 for a tab or newline, and 32 for any other byte
+abbrev pub digit_code : ℕ → ℕ
+digit_code b = cond (is_tab_or_newline b) 16 (cond (is_hex b) (digit_value b) 32)
+
+-- a digit from a place on, where it ends, and a look at each byte up to there
+pub record DigitFound (text : List ℕ) (place looks value end looks' : ℕ) : Type 0 where
+  pub some : place < end
+  pub within : end ≤ length text
+  pub small : value < 16
+  pub digit_is : digit (drop place text) ≡ Some (value, drop end text)
+  pub no_percent : before_percent (drop place text) ≡ (end - place) + before_percent (drop end text)
+  pub looks_are : looks' ≡ looks + (end - place)
+
+-- no digit: at most one look at the next '%', and else at bytes before it
+pub record NoDigit (text : List ℕ) (place looks looks' : ℕ) : Type 0 where
+  pub none_is : digit (drop place text) ≡ None
+  pub looks_grow : looks ≤ looks'
+  pub looks_are : looks' ≤ looks + 1 + before_percent (drop place text)
+
+-- two digits from a place on
+pub record DigitsFound (text : List ℕ) (place looks value end looks' : ℕ) : Type 0 where
+  pub two : place + 2 ≤ end
+  pub within : end ≤ length text
+  pub value_is : escape (drop place text) ≡ Some (value, drop end text)
+  pub looks_are : looks' ≡ looks + (end - place)
+
+pub record NoDigits (text : List ℕ) (place looks looks' : ℕ) : Type 0 where
+  pub none_is : escape (drop place text) ≡ None
+  pub looks_grow : looks ≤ looks'
+  pub looks_are : looks' ≤ looks + 1 + before_percent (drop place text)

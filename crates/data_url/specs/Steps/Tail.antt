@@ -1,0 +1,19 @@
+-- Where the body of a tail ends: a tail is what stands behind the comma of a text as it was given.
+use Rattle.std.specs.Prelude.{◌≡◌, ℕ, ◌≤◌, List, [], ◌∷◌, length, drop, Option, None, Some}
+use Rattle.data_url.specs.Url.{behind}
+
+-- nothing, or a '#'
+abbrev pub BeginsFragment : List ℕ → Type 0
+BeginsFragment [] = Unit {0}
+BeginsFragment (b ∷ s) = b ≡ 35
+
+-- the fragment, where the text begins with its '#'
+abbrev pub fragment_at : List ℕ → Option (List ℕ)
+fragment_at [] = None
+fragment_at (b ∷ s) = Some s
+
+-- the body of the tail ends at the place: there stands nothing, or '#' and the fragment
+pub record IsBodyEnd (tail : List ℕ) (place : ℕ) : Type 0 where
+  pub within : place ≤ length tail
+  pub begins : BeginsFragment (drop place tail)
+  pub behind_is : behind 35 tail ≡ fragment_at (drop place tail)

@@ -1,0 +1,7 @@
+-- The bytes at which a body is not simply its text.
+use Rattle.std.specs.Prelude.{ℕ, ◌==◌, ◌||◌, Bool}
+use Rattle.data_url.specs.Url.{is_tab_or_newline}
+
+-- a tab, a newline, '#' or '%'
+abbrev pub is_marked : ℕ → Bool
+is_marked b = is_tab_or_newline b || ((b == 35) || (b == 37))

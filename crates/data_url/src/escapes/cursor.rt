@@ -1,0 +1,461 @@
+//! The walk over the text of a body.
+
+ghost use Rattle.std.specs.Prelude.{ℕ, ◌≡◌, ◌+◌, ◌-◌, ◌^◌, ◌<◌, ◌≤◌, IsTrue, MatchOption, length, slice_index, slice_range, true, false};
+ghost use Rattle.std.specs.Option.{option_map};
+ghost use Rattle.data_url.specs.Pieces.{IsPiece, IsStretch, bytes_of};
+ghost use Rattle.data_url.specs.Url.{behind};
+ghost use Rattle.data_url.specs.Steps.Walk.{Ended, EscapeAt, Gathers, GoesOn, HasRoom, IsGathered, IsNear, IsNextMark, IsPlain, IsStop, IsWide, KeepsBlock, Knows, KnowsAhead, Looking, LooksOn, MayGather, Moves, Stays, has_ended, text_of};
+ghost use Rattle.data_url.specs.Steps.Window.{is_marked};
+
+use super::Piece;
+use super::lanes::BLOCK;
+use super::source::Source;
+
+/// How many bytes are gathered at the most.
+pub(crate) const ROOM: usize = 256;
+
+/// How many marks of a block make it likely that its escapes follow one another.
+const MANY: u32 = 14;
+
+/// What is known of the text at the place of a walk.
+#[derive(Drop)]
+pub(super) enum Ahead {
+    /// Nothing.
+    Unknown,
+    /// An escape ends there, so the next one is tried at once.
+    BehindEscape,
+    /// An escape begins there: its value, and the place behind it.
+    Escape(u8, usize),
+    /// The body ends there.
+    End,
+}
+
+/// What stands at a marked byte.
+pub(super) enum Stop {
+    /// A `%` that begins no escape.
+    Stays,
+    /// A tab or a newline.
+    Passed,
+    /// An escape: its value, and the place behind it.
+    Escape(u8, usize),
+    /// The `#` before the fragment, or the end of the text.
+    End,
+}
+
+/// A walk: its text, the block that was looked at last with its marks, its place, and what is known there.
+#[derive(Drop)]
+pub(super) struct Cursor<'a> {
+    source: Source<'a>,
+    // The block from `base` up to `seen`, and its marks.
+    base: usize,
+    seen: usize,
+    marks: u64,
+    place: usize,
+    ahead: Ahead,
+}
+
+impl<'a> Cursor<'a> {
+    /// A walk that begins at the front of a text.
+    pub(super) fn new(text: &'a str) -> Self
+        ensures text { text_of result ≡ text.entry.now }
+        ensures place { result.place ≡ 0 }
+        ensures looks { result.source.looks ≡ 0 }
+        ensures ended { has_ended result.ahead ≡ false }
+        ensures knows { Knows result }
+    {
+        Cursor {
+            source: Source::new(text),
+            base: 0,
+            seen: 0,
+            marks: 0,
+            place: 0,
+            ahead: Ahead::Unknown,
+        }
+    }
+
+    /// Looks at the block that begins at a place.
+    #[inline(always)]
+    fn look_on(&mut self, place: usize)
+        requires unseen { self.old.seen ≤ place }
+        requires looking { Looking self.old place 0 }
+        ensures looking { Looking self.new place 0 }
+        ensures stays { Stays self.old self.new }
+        ensures begins { self.new.base ≡ place }
+        ensures seen { place < length (text_of self.old) → place < self.new.seen }
+    {
+        self.marks = self.source.look_block(place);
+        self.base = place;
+        self.seen = place + (self.source.len() - place).min(BLOCK);
+    }
+
+    /// Looks at the block at a place, unless that was done before.
+    #[inline(always)]
+    fn see(&mut self, place: usize)
+        requires within { place < length (text_of self.old) }
+        requires looking { Looking self.old place 0 }
+        ensures looking { Looking self.new place 0 }
+        ensures stays { Stays self.old self.new }
+        ensures seen { place < self.new.seen }
+    {
+        if place >= self.seen {
+            self.look_on(place);
+        }
+    }
+
+    /// The place of the first marked byte from a place on, or the end of the text.
+    #[inline(always)]
+    fn next_mark(&mut self, from: usize) -> usize
+        requires { Looking self.old from 0 }
+        ensures looking { Looking self.new result 0 }
+        ensures stays { Stays self.old self.new }
+        ensures mark { IsNextMark (text_of self.old) from result }
+        ensures bound { length (text_of self.old) < 2 ^ 64 }
+    {
+        let mut place = from;
+        while place < self.source.len() {
+            self.see(place);
+            let marks = self.marks >> (place - self.base);
+            if marks != 0 {
+                return place + marks.trailing_zeros() as usize;
+            }
+            place = self.seen;
+        }
+        place
+    }
+
+    /// What stands at a marked byte.
+    #[inline(always)]
+    fn stop_at(&mut self, mark: usize) -> Stop
+        requires within { mark < length (text_of self.old) }
+        requires marked { is_marked (slice_index (text_of self.old) mark) ≡ true }
+        requires looking { Looking self.old mark 0 }
+        ensures stop { IsStop self.new mark result }
+        ensures keeps { KeepsBlock self.old self.new }
+    {
+        let byte = self.source.look(mark);
+        if byte == b'%' {
+            return match self.source.escaped_byte(mark + 1) {
+                Some((value, end)) => Stop::Escape(value, end),
+                None => Stop::Stays,
+            };
+        }
+        if byte == b'#' {
+            Stop::End
+        } else {
+            Stop::Passed
+        }
+    }
+
+    /// What stands at a marked byte, or at the end of the text.
+    #[inline(always)]
+    fn stop_from(&mut self, mark: usize) -> Stop
+        requires marked { mark < length (text_of self.old)
+            → is_marked (slice_index (text_of self.old) mark) ≡ true }
+        requires looking { Looking self.old mark 0 }
+        ensures stop { IsStop self.new mark result }
+        ensures keeps { KeepsBlock self.old self.new }
+    {
+        if mark < self.source.len() {
+            self.stop_at(mark)
+        } else {
+            Stop::End
+        }
+    }
+
+    /// The value of an escape without tabs and newlines at the place, which is right behind another one. The walk goes
+    /// behind it.
+    #[inline(always)]
+    fn escape_here(&mut self) -> Option<u8>
+        requires { Looking self.old self.old.place 3 }
+        ensures block { (self.new.base ≡ self.old.base) × (self.new.seen ≡ self.old.seen)
+            × (self.new.marks ≡ self.old.marks) }
+        ensures ahead { self.new.ahead ≡ self.old.ahead }
+        ensures on { LooksOn self.old self.new }
+        ensures found { MatchOption result
+            ((self.new.place ≡ self.old.place) × Looking self.new self.new.place 0)
+            (λ value. EscapeAt (text_of self.old) self.old.place value self.new.place
+            × Looking self.new self.new.place 3) }
+    {
+        let place = self.place;
+        if self.source.len() - place < 3 || self.source.look(place) != b'%' {
+            return None;
+        }
+        let value = self.source.two_digits(place + 1)?;
+        self.place = place + 3;
+        Some(value)
+    }
+
+    /// The next piece.
+    #[inline(always)]
+    pub(super) fn next(&mut self) -> Option<Piece<'a>>
+        requires { Knows self.old }
+        ensures goes { GoesOn self.old result self.new }
+        ensures knows { Knows self.new }
+    {
+        match self.ahead {
+            Ahead::End => return None,
+            Ahead::Escape(value, end) => {
+                self.place = end;
+                self.ahead = Ahead::BehindEscape;
+                return Some(Piece::Byte(value));
+            }
+            Ahead::BehindEscape => {
+                if let Some(value) = self.escape_here() {
+                    return Some(Piece::Byte(value));
+                }
+            }
+            Ahead::Unknown => {}
+        }
+        self.next_stretch()
+    }
+
+    /// The next piece, of which nothing is known.
+    #[inline(always)]
+    fn next_stretch(&mut self) -> Option<Piece<'a>>
+        requires { Looking self.old self.old.place 0 }
+        ensures goes { GoesOn self.old result self.new }
+        ensures knows { KnowsAhead self.new self.new.ahead }
+    {
+        let mut from = self.place;
+        loop {
+            let mark = self.next_mark(from);
+            match self.stop_from(mark) {
+                Stop::Stays => from = mark + 1,
+                Stop::Passed if mark == self.place => {
+                    self.place = mark + 1;
+                    from = mark + 1;
+                }
+                Stop::Passed => return Some(self.slice_to(mark, mark + 1, Ahead::Unknown)),
+                Stop::Escape(value, end) if mark == self.place => {
+                    self.place = end;
+                    self.ahead = Ahead::BehindEscape;
+                    return Some(Piece::Byte(value));
+                }
+                Stop::Escape(value, end) => {
+                    return Some(self.slice_to(mark, mark, Ahead::Escape(value, end)));
+                }
+                Stop::End if mark == self.place => {
+                    self.ahead = Ahead::End;
+                    return None;
+                }
+                Stop::End => return Some(self.slice_to(mark, mark, Ahead::End)),
+            }
+        }
+    }
+
+    /// The stretch from the place up to a mark. The walk goes on at another place, of which something is known.
+    #[inline(always)]
+    fn slice_to(&mut self, mark: usize, next: usize, ahead: Ahead) -> Piece<'a>
+        requires forward { self.old.place ≤ mark }
+        requires within { mark ≤ length (text_of self.old) }
+        ensures walk { self.new ≡ record self.old { place = next; ahead = ahead } }
+        ensures piece { bytes_of result ≡ slice_range (text_of self.old) self.old.place mark }
+        ensures slice { (from to : ℕ) → IsStretch (text_of self.old) from to (bytes_of result)
+            → IsPiece (text_of self.old) from to result }
+    {
+        let slice = self.source.cut(self.place, mark);
+        self.place = next;
+        self.ahead = ahead;
+        Piece::Slice(slice)
+    }
+
+    /// Gathers the bytes of the next pieces in a room while they come in short stretches, and answers how many. None are
+    /// gathered where the body ends or a long stretch begins.
+    #[inline(always)]
+    pub(super) fn gather(&mut self, room: &mut [u8; ROOM]) -> usize
+        requires { Knows self.old }
+        ensures gathers { Gathers self.old self.new room.old room.new 0 result }
+        ensures few { result ≤ 256 }
+        ensures knows { Knows self.new }
+    {
+        let mut len = self.gather_known(room);
+        while len <= ROOM - 2 * BLOCK && self.is_mark_near() {
+            len = if self.source.len() - self.seen < BLOCK {
+                self.gather_block(room, len, false, true)
+            } else if self.marks.count_ones() >= MANY {
+                self.gather_block(room, len, true, true)
+            } else {
+                self.gather_block(room, len, true, false)
+            };
+        }
+        len
+    }
+
+    /// Gathers the escape that is known to stand at the place.
+    #[inline(always)]
+    fn gather_known(&mut self, room: &mut [u8; ROOM]) -> usize
+        requires { KnowsAhead self.old self.old.ahead }
+        ensures gathers { Gathers self.old self.new room.old room.new 0 result }
+        ensures few { result ≤ 1 }
+        ensures plain { IsPlain self.new.ahead }
+        ensures knows { KnowsAhead self.new self.new.ahead }
+    {
+        match self.ahead {
+            Ahead::Escape(value, end) => {
+                room[0] = value;
+                self.place = end;
+                self.ahead = Ahead::Unknown;
+                1
+            }
+            Ahead::BehindEscape => {
+                self.ahead = Ahead::Unknown;
+                0
+            }
+            Ahead::Unknown | Ahead::End => 0,
+        }
+    }
+
+    /// Whether a mark or the end of the text stands less than a block behind the place. The block at the place is looked at.
+    #[inline(always)]
+    fn is_mark_near(&mut self) -> bool
+        requires plain { IsPlain self.old.ahead }
+        requires knows { KnowsAhead self.old self.old.ahead }
+        ensures plain { IsPlain self.new.ahead }
+        ensures knows { KnowsAhead self.new self.new.ahead }
+        ensures on { LooksOn self.old self.new }
+        ensures place { self.new.place ≡ self.old.place }
+        ensures near { IsTrue result → IsNear self.new × (self.old.ahead ≡ Ahead.Unknown) }
+    {
+        let place = self.place;
+        if matches!(self.ahead, Ahead::End) {
+            return false;
+        }
+        if place >= self.source.len() {
+            self.ahead = Ahead::End;
+            return false;
+        }
+        self.see(place);
+        self.seen - place < BLOCK || self.marks != 0
+    }
+
+    /// Gathers what is left of the block that was looked at, behind so many bytes that were gathered before. A wide block has
+    /// another one behind it, and in a dense one escapes follow one another.
+    #[inline(always)]
+    fn gather_block(&mut self, room: &mut [u8; ROOM], len: usize, wide: bool, dense: bool) -> usize
+        requires may { MayGather self.old len }
+        requires here { self.old.place < self.old.seen }
+        requires wide { IsWide self.old wide }
+        ensures gathers { Gathers self.old self.new room.old room.new len result }
+        ensures few { result ≤ 256 }
+        ensures plain { IsPlain self.new.ahead }
+        ensures knows { KnowsAhead self.new self.new.ahead }
+        ensures moves { Moves self.old self.new }
+    {
+        let mut len = len;
+        while self.place < self.seen {
+            let (more, ended) = self.gather_stretch(room, len, wide, dense);
+            len = more;
+            if ended {
+                return len;
+            }
+        }
+        len
+    }
+
+    /// Gathers the bytes of the block up to its next mark, and what stands there. Answers how many were gathered, and whether
+    /// the body ends.
+    #[inline(always)]
+    fn gather_stretch(
+        &mut self,
+        room: &mut [u8; ROOM],
+        len: usize,
+        wide: bool,
+        dense: bool,
+    ) -> (usize, bool)
+        requires may { MayGather self.old len }
+        requires here { self.old.place < self.old.seen }
+        requires wide { IsWide self.old wide }
+        ensures gathers { Gathers self.old self.new room.old room.new len result.0 }
+        ensures goes { IsGathered self.old self.new result.0 result.1 }
+    {
+        let place = self.place;
+        let marks = self.marks >> (place - self.base);
+        if marks == 0 {
+            let width = self.seen - place;
+            self.source.copy(place, width, room, len, wide);
+            self.place = self.seen;
+            return (len + width, false);
+        }
+        let width = marks.trailing_zeros() as usize;
+        self.source.copy(place, width, room, len, wide);
+        self.place = place + width;
+        self.gather_stop(room, len + width, dense)
+    }
+
+    /// Gathers what stands at the mark at the place.
+    #[inline(always)]
+    fn gather_stop(&mut self, room: &mut [u8; ROOM], len: usize, dense: bool) -> (usize, bool)
+        requires may { MayGather self.old len }
+        requires here { self.old.place < self.old.seen }
+        requires marked { is_marked (slice_index (text_of self.old) self.old.place) ≡ true }
+        ensures gathers { Gathers self.old self.new room.old room.new len result.0 }
+        ensures goes { IsGathered self.old self.new result.0 result.1 }
+    {
+        let mark = self.place;
+        match self.stop_at(mark) {
+            Stop::Stays => {
+                room[len] = b'%';
+                self.place = mark + 1;
+                (len + 1, false)
+            }
+            Stop::Passed => {
+                self.place = mark + 1;
+                (len, false)
+            }
+            Stop::Escape(value, end) => {
+                room[len] = value;
+                self.place = end;
+                let len = if dense {
+                    self.gather_escapes(room, len + 1)
+                } else {
+                    len + 1
+                };
+                (len, false)
+            }
+            Stop::End => {
+                self.ahead = Ahead::End;
+                (len, true)
+            }
+        }
+    }
+
+    /// Gathers the values of escapes that follow one another behind an escape.
+    #[inline(always)]
+    fn gather_escapes(&mut self, room: &mut [u8; ROOM], len: usize) -> usize
+        requires unknown { self.old.ahead ≡ Ahead.Unknown }
+        requires looking { Looking self.old self.old.place 3 }
+        requires room { HasRoom self.old len }
+        ensures gathers { Gathers self.old self.new room.old room.new len result }
+        ensures may { MayGather self.new result }
+        ensures block { self.new.seen ≡ self.old.seen }
+    {
+        let mut len = len;
+        while len < ROOM {
+            let Some(value) = self.escape_here() else {
+                return len;
+            };
+            room[len] = value;
+            len += 1;
+        }
+        len
+    }
+
+    /// The place.
+    pub(super) fn place(&self) -> usize
+        ensures { result ≡ self.now.place }
+    {
+        self.place
+    }
+
+    /// The fragment behind the place, at which the body ends.
+    pub(super) fn fragment(&self) -> Option<&'a str>
+        requires knows { Knows self.now }
+        requires ended { has_ended self.now.ahead ≡ true }
+        ensures { option_map (λ s. s.now) result ≡ behind 35 (text_of self.now) }
+    {
+        if self.place == self.source.len() {
+            return None;
+        }
+        Some(self.source.behind(self.place))
+    }
+}

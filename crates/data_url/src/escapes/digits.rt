@@ -1,0 +1,125 @@
+//! Hexadecimal digits behind a `%`, past tabs and newlines.
+
+ghost use Rattle.std.specs.Prelude.{◌≡◌, ◌+◌, ◌≤◌, IfSome, MatchOption, length};
+ghost use Rattle.data_url.specs.Steps.Digits.{DigitFound, DigitsFound, NoDigit, NoDigits, digit_code};
+
+use super::source::Source;
+
+/// What the table has for a tab or a newline.
+const PASSED: u8 = 16;
+
+/// By its byte the value of a hexadecimal digit, `PASSED`, or a greater number for any other byte.
+const DIGITS: [u8; 256] = [
+    32, 32, 32, 32, 32, 32, 32, 32, 32, 16, 16, 32, 32, 16, 32, 32, 32, 32, 32, 32, 32, 32, 32, 32,
+    32, 32, 32, 32, 32, 32, 32, 32, 32, 32, 32, 32, 32, 32, 32, 32, 32, 32, 32, 32, 32, 32, 32, 32,
+    0, 1, 2, 3, 4, 5, 6, 7, 8, 9, 32, 32, 32, 32, 32, 32, 32, 10, 11, 12, 13, 14, 15, 32, 32, 32,
+    32, 32, 32, 32, 32, 32, 32, 32, 32, 32, 32, 32, 32, 32, 32, 32, 32, 32, 32, 32, 32, 32, 32, 10,
+    11, 12, 13, 14, 15, 32, 32, 32, 32, 32, 32, 32, 32, 32, 32, 32, 32, 32, 32, 32, 32, 32, 32, 32,
+    32, 32, 32, 32, 32, 32, 32, 32, 32, 32, 32, 32, 32, 32, 32, 32, 32, 32, 32, 32, 32, 32, 32, 32,
+    32, 32, 32, 32, 32, 32, 32, 32, 32, 32, 32, 32, 32, 32, 32, 32, 32, 32, 32, 32, 32, 32, 32, 32,
+    32, 32, 32, 32, 32, 32, 32, 32, 32, 32, 32, 32, 32, 32, 32, 32, 32, 32, 32, 32, 32, 32, 32, 32,
+    32, 32, 32, 32, 32, 32, 32, 32, 32, 32, 32, 32, 32, 32, 32, 32, 32, 32, 32, 32, 32, 32, 32, 32,
+    32, 32, 32, 32, 32, 32, 32, 32, 32, 32, 32, 32, 32, 32, 32, 32, 32, 32, 32, 32, 32, 32, 32, 32,
+    32, 32, 32, 32, 32, 32, 32, 32, 32, 32, 32, 32, 32, 32,
+];
+
+/// What the table has for a byte.
+#[inline(always)]
+fn digit_code(byte: u8) -> u8
+    ensures { result ≡ digit_code byte }
+{
+    DIGITS[byte as usize]
+}
+
+impl<'a> Source<'a> {
+    /// The byte that two hexadecimal digits from a place on stand for, past tabs and newlines, and the place behind them.
+    #[inline(always)]
+    pub(super) fn escaped_byte(&mut self, place: usize) -> Option<(u8, usize)>
+        requires { place ≤ length self.old.text.now }
+        ensures text { self.new.text.now ≡ self.old.text.now }
+        ensures found { let text = self.old.text.now in
+            MatchOption result (NoDigits text place self.old.looks self.new.looks)
+            (λ found. DigitsFound text place self.old.looks found.0 found.1 self.new.looks) }
+    {
+        let (high, behind) = self.digit(place)?;
+        let (low, end) = self.digit(behind)?;
+        Some((high * 16 + low, end))
+    }
+
+    /// The byte that two hexadecimal digits at a place stand for, where they stand there.
+    #[inline(always)]
+    pub(super) fn two_digits(&mut self, place: usize) -> Option<u8>
+        requires { place + 2 ≤ length self.old.text.now }
+        ensures text { self.new.text.now ≡ self.old.text.now }
+        ensures looks { self.new.looks ≡ self.old.looks + 2 }
+        ensures found { IfSome result (λ value.
+            DigitsFound self.old.text.now place self.old.looks value (place + 2) self.new.looks) }
+    {
+        let high = digit_code(self.look(place));
+        let low = digit_code(self.look(place + 1));
+        if (high | low) >= PASSED {
+            return None;
+        }
+        Some(high * 16 + low)
+    }
+
+    /// The value of the hexadecimal digit from a place on, past tabs and newlines, and the place behind it.
+    #[inline(always)]
+    fn digit(&mut self, place: usize) -> Option<(u8, usize)>
+        requires { place ≤ length self.old.text.now }
+        ensures text { self.new.text.now ≡ self.old.text.now }
+        ensures found { let text = self.old.text.now in
+            MatchOption result (NoDigit text place self.old.looks self.new.looks)
+            (λ found. DigitFound text place self.old.looks found.0 found.1 self.new.looks) }
+    {
+        if place >= self.len() {
+            return None;
+        }
+        let value = digit_code(self.look(place));
+        if value < PASSED {
+            return Some((value, place + 1));
+        }
+        if value == PASSED {
+            self.digit_past(place + 1)
+        } else {
+            None
+        }
+    }
+
+    /// The same, where a tab or newline was passed. The text is looked at through a value of its own, so that the walk's
+    /// can stay in registers.
+    #[inline(always)]
+    fn digit_past(&mut self, place: usize) -> Option<(u8, usize)>
+        requires { place ≤ length self.old.text.now }
+        ensures text { self.new.text.now ≡ self.old.text.now }
+        ensures found { let text = self.old.text.now in
+            MatchOption result (NoDigit text place self.old.looks self.new.looks)
+            (λ found. DigitFound text place self.old.looks found.0 found.1 self.new.looks) }
+    {
+        let mut source = self.take();
+        let found = source.digit_further(place);
+        *self = source;
+        found
+    }
+
+    /// The value of the hexadecimal digit from a place on, with a loop over tabs and newlines.
+    #[inline(never)]
+    fn digit_further(&mut self, place: usize) -> Option<(u8, usize)>
+        requires { place ≤ length self.old.text.now }
+        ensures text { self.new.text.now ≡ self.old.text.now }
+        ensures found { let text = self.old.text.now in
+            MatchOption result (NoDigit text place self.old.looks self.new.looks)
+            (λ found. DigitFound text place self.old.looks found.0 found.1 self.new.looks) }
+    {
+        for at in place..self.len() {
+            let value = digit_code(self.look(at));
+            if value < PASSED {
+                return Some((value, at + 1));
+            }
+            if value > PASSED {
+                return None;
+            }
+        }
+        None
+    }
+}

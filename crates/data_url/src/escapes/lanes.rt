@@ -1,0 +1,28 @@
+//! The bytes at which a body is not simply its text, found 64 at a time.
+
+ghost use Rattle.std.specs.Prelude.{◌≡◌, map};
+ghost use Rattle.std.specs.Simd.Lanes.{mask_l};
+ghost use Rattle.data_url.specs.Steps.Window.{is_marked};
+
+use std::simd::prelude::*;
+
+/// How many bytes are looked at together.
+pub(super) const BLOCK: usize = 64;
+
+/// By the low half of a byte the marked byte with that half, or else a byte with another half.
+const MARKED: [u8; 64] = [
+    1, 0, 0, 35, 0, 37, 0, 0, 0, 9, 10, 0, 0, 13, 0, 0, 1, 0, 0, 35, 0, 37, 0, 0, 0, 9, 10, 0, 0,
+    13, 0, 0, 1, 0, 0, 35, 0, 37, 0, 0, 0, 9, 10, 0, 0, 13, 0, 0, 1, 0, 0, 35, 0, 37, 0, 0, 0, 9,
+    10, 0, 0, 13, 0, 0,
+];
+
+/// The marks of 64 bytes: bit k is set where byte k is a tab, a newline, `#` or `%`.
+#[inline(always)]
+pub(super) fn marks_of(bytes: u8x64) -> u64
+    ensures { result ≡ mask_l (map is_marked bytes) }
+{
+    u8x64::from_array(MARKED)
+        .swizzle_dyn_within::<16>(bytes & u8x64::splat(15))
+        .simd_eq(bytes)
+        .to_bitmask()
+}

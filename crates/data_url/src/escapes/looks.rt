@@ -1,0 +1,64 @@
+//! A count that takes no bytes: how many bytes of a text were examined.
+
+ghost use Rattle.std.specs.Prelude.{◌≡◌, ◌+◌};
+
+use std::marker::Model;
+use std::mem::{replace, size_of};
+use std::snapshot::Snapshot;
+
+/// A look at so many bytes, behind the looks before it.
+#[derive(Drop)]
+struct Mark {
+    bytes: usize,
+    before: Option<Snapshot<Mark>>,
+}
+
+/// How many bytes were looked at: a number without an upper end that contracts alone see.
+#[derive(Drop)]
+pub(super) struct Looks {
+    last: Snapshot<Mark>,
+}
+
+const _: () = prove!(size_of::<Looks>() == 0);
+
+impl Model for Looks {
+    ghost use Rattle.std.specs.Prelude.{ℕ};
+    ghost use Rattle.data_url.specs.Steps.Looks.{bytes_looked_at};
+
+    ghost Value = { ℕ };
+
+    ghost view = { λ looks. bytes_looked_at looks.last.value };
+}
+
+impl Looks {
+    /// No look yet.
+    #[inline(always)]
+    pub(super) fn new() -> Looks
+        ensures { result ≡ 0 }
+    {
+        let first = Mark {
+            bytes: 0,
+            before: None,
+        };
+        Looks {
+            last: Snapshot::of(&first),
+        }
+    }
+
+    /// Counts a look at so many bytes.
+    #[inline(always)]
+    pub(super) fn count(&mut self, bytes: usize)
+        ensures { self.new ≡ self.old + bytes }
+    {
+        let first = Mark {
+            bytes: 0,
+            before: None,
+        };
+        let before = replace(&mut self.last, Snapshot::of(&first));
+        let mark = Mark {
+            bytes,
+            before: Some(before),
+        };
+        self.last = Snapshot::of(&mark);
+    }
+}

@@ -1,0 +1,141 @@
+//! The text of a body, whose bytes are examined through counted looks alone.
+
+ghost use Rattle.std.specs.Prelude.{◌≡◌, IsTrue, ◌+◌, ◌-◌, ◌^◌, ◌++◌, ◌<◌, ◌≤◌, drop, length, map, min, slice_index, slice_range, take};
+ghost use Rattle.std.specs.Simd.Lanes.{mask_l};
+ghost use Rattle.data_url.specs.Steps.Window.{is_marked};
+
+use super::cursor::ROOM;
+use super::lanes::{BLOCK, marks_of};
+use super::looks::Looks;
+use std::mem::replace;
+use std::simd::prelude::*;
+
+/// A text that is looked at through a count.
+#[derive(Drop)]
+pub(super) struct Source<'a> {
+    text: &'a str,
+    looks: Looks,
+}
+
+impl<'a> Source<'a> {
+    /// A text that was not looked at yet.
+    #[inline(always)]
+    pub(super) fn new(text: &'a str) -> Self
+        ensures text { result.text.now ≡ text.entry.now }
+        ensures looks { result.looks ≡ 0 }
+    {
+        Source {
+            text,
+            looks: Looks::new(),
+        }
+    }
+
+    /// The text with its looks so far, which leaves the text without a look.
+    #[inline(always)]
+    pub(super) fn take(&mut self) -> Source<'a>
+        ensures text { result.text.now ≡ self.old.text.now }
+        ensures looks { result.looks ≡ self.old.looks }
+        ensures left { self.new.text.now ≡ self.old.text.now }
+    {
+        let text = self.text;
+        replace(self, Source::new(text))
+    }
+
+    /// The number of its bytes.
+    #[inline(always)]
+    pub(super) fn len(&self) -> usize
+        ensures { result ≡ length self.now.text.now }
+    {
+        self.text.len()
+    }
+
+    /// The byte at a place, which counts as one look.
+    #[inline(always)]
+    pub(super) fn look(&mut self, place: usize) -> u8
+        requires { place < length self.old.text.now }
+        ensures byte { result ≡ slice_index self.old.text.now place }
+        ensures bound { place + 1 < 2 ^ 64 }
+        ensures text { self.new.text.now ≡ self.old.text.now }
+        ensures looks { self.new.looks ≡ self.old.looks + 1 }
+    {
+        self.looks.count(1);
+        self.text.as_bytes()[place]
+    }
+
+    /// The marks of the block of at most 64 bytes that begins at a place. Each of its bytes counts as a look.
+    #[inline(always)]
+    pub(super) fn look_block(&mut self, place: usize) -> u64
+        requires { place ≤ length self.old.text.now }
+        ensures marks { let end = min (place + 64) (length self.old.text.now) in
+            result ≡ mask_l (map is_marked (slice_range self.old.text.now place end)) }
+        ensures text { self.new.text.now ≡ self.old.text.now }
+        ensures looks { let end = min (place + 64) (length self.old.text.now) in
+            self.new.looks ≡ self.old.looks + (end - place) }
+    {
+        let rest = &self.text.as_bytes()[place..];
+        if rest.len() < BLOCK {
+            self.looks.count(rest.len());
+            return last_marks(rest);
+        }
+        self.looks.count(BLOCK);
+        marks_of(u8x64::from_slice(&rest[..BLOCK]))
+    }
+
+    /// A stretch of the text, to be handed out. None of its bytes is looked at.
+    #[inline(always)]
+    pub(super) fn cut(&self, start: usize, end: usize) -> &'a [u8]
+        requires forward { start ≤ end }
+        requires within { end ≤ length self.now.text.now }
+        ensures { result.now ≡ slice_range self.now.text.now start end }
+    {
+        &self.text.as_bytes()[start..end]
+    }
+
+    /// Copies a stretch of fewer than 64 bytes into a room. None of its bytes is looked at. What stands behind it in the
+    /// room may be lost.
+    #[inline(always)]
+    pub(super) fn copy(
+        &self,
+        start: usize,
+        width: usize,
+        room: &mut [u8; ROOM],
+        len: usize,
+        wide: bool,
+    )
+        requires short { width ≤ 64 }
+        requires within { start + width ≤ length self.now.text.now }
+        requires wide { IsTrue wide → start + 64 ≤ length self.now.text.now }
+        requires room { len + 64 ≤ 256 }
+        ensures { take (len + width) room.new
+            ≡ take len room.old ++ slice_range self.now.text.now start (start + width) }
+    {
+        let bytes = self.text.as_bytes();
+        if wide {
+            let block = u8x64::from_slice(&bytes[start..start + BLOCK]);
+            block.copy_to_slice(&mut room[len..len + BLOCK]);
+        } else {
+            room[len..len + width].copy_from_slice(&bytes[start..start + width]);
+        }
+    }
+
+    /// What follows a place where an ASCII byte stands.
+    pub(super) fn behind(&self, place: usize) -> &'a str
+        requires within { place < length self.now.text.now }
+        requires ascii { slice_index self.now.text.now place < 128 }
+        ensures { result.now ≡ drop (place + 1) self.now.text.now }
+    {
+        let _bytes = self.text.as_bytes();
+        &self.text[place + 1..]
+    }
+}
+
+/// The marks of fewer than 64 bytes.
+#[inline(never)]
+fn last_marks(rest: &[u8]) -> u64
+    requires { length rest.now < 64 }
+    ensures { result ≡ mask_l (map is_marked rest.now) }
+{
+    let mut block = [0; BLOCK];
+    block[..rest.len()].copy_from_slice(rest);
+    marks_of(u8x64::from_array(block))
+}
