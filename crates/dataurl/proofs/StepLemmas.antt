@@ -19,6 +19,7 @@ use Rattle.data_url.proofs.BodyVecLemmas.{body_answer, body_fault, body_good}
 use Rattle.data_url.proofs.UrlLemmas.{fragment_dropped}
 use Rattle.dataurl.specs.Output.{End, IsFragmentOutput, IsTextOutput, fragment_of_bad, some_fragment, type_of, without_fragment, without_record}
 use Rattle.dataurl.specs.Steps.{IsExactly, IsWrittenOf, WritesOf, cut_output, encoded_fragment, exactly, fragment_line, no_output, whole_output}
+use Rattle.dataurl.specs.Steps.Gathering.{IsStreamed, Streams, all_streamed, cut_short}
 use Rattle.dataurl.specs.Writing.{IsBeginning, IsWritten, Writes, all, beginning}
 use Rattle.dataurl.specs.declared.fault.Fault.{Fault}
 use Rattle.dataurl.specs.declared.fault.Fault.TheVariants.{Base64, Memory, Mime as no_mime, Write}
@@ -34,6 +35,14 @@ written_map f w e no_output = no_output
 -- what was written of an output is so of what that output means
 pub writes_map : {P Q : List ℕ → End → Type 0} {held now : Option (List ℕ)} {r : End} → ((w : List ℕ) (e : End) → P w e → Q w e) → WritesOf P held now r → WritesOf Q held now r
 writes_map {r = r} f h = record { written = h.written; appended = h.appended; is_written = written_map f h.written r h.is_written }
+
+streamed_written : {P : List ℕ → End → Type 0} (w : List ℕ) (e : End) → IsStreamed P w e → IsWrittenOf P w e
+streamed_written w e (all_streamed h) = whole_output h
+streamed_written w e (cut_short h b) = cut_output h b
+
+-- what was streamed of an output was written of it
+pub writes_streamed : {P : List ℕ → End → Type 0} {held now : Option (List ℕ)} {r : End} → Streams P held now r → WritesOf P held now r
+writes_streamed {r = r} h = record { written = h.written; appended = h.appended; is_written = streamed_written h.written r h.is_streamed }
 
 exactly_is : (P : List ℕ → End → Type 0) (bytes w : List ℕ) (e : End) → P bytes (Ok tt) → IsExactly bytes w e → P w e
 exactly_is P bytes w e p exactly = p
