@@ -8,7 +8,7 @@ use Rattle.data_url.specs.Decoding.{Decodes as DecodesText, IsAll, IsRefused, Is
 use Rattle.data_url.specs.Fetch.{Bad, Good, Outcome, outcome_bytes}
 use Rattle.data_url.specs.Run.{Call, IsRun, joined, refusal}
 use Rattle.data_url.specs.declared.forgiving_base64.DecodeError.{DecodeError}
-use Rattle.data_url.specs.declared.forgiving_base64.DecodeError.TheVariants.{InvalidBase64, WriteError}
+use Rattle.data_url.specs.declared.forgiving_base64.DecodeError.TheVariants.{InvalidBase64}
 use Rattle.data_url.proofs.WholeLemmas.{run_keeps}
 use Rattle.dataurl.specs.Output.{End, IsBodyOutput, bad_body, good_body}
 use Rattle.dataurl.specs.Steps.{AnyAnswer}
@@ -17,7 +17,7 @@ use Rattle.dataurl.specs.Steps.Gathering.{Gathers, IsFlushed, IsSettled, IsStrea
 use Rattle.dataurl.specs.Writing.{IsBeginning}
 use Rattle.dataurl.specs.declared.fault.Fault.TheVariants.{Base64, Write}
 use Rattle.dataurl.specs.declared.fault.WriteFailed.{WriteFailed}
-use Rattle.dataurl.proofs.GatherLemmas.{RunGathers, run_gathers}
+use Rattle.dataurl.proofs.GatherLemmas.{run_gathers}
 use Rattle.dataurl.proofs.OutputLemmas.{appends_then, beginning_behind, beginning_of}
 
 -- Outputs

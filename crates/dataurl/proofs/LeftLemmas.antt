@@ -1,95 +1,68 @@
--- What a text of base64 leaves, byte by byte.
-use Rattle.std.proofs.Common.{◌≡◌, ℕ, zero, suc, ◌+◌, ◌<◌, ◌≤◌, Bool, true, false, cond, List, [], ◌∷◌, ◌++◌, length, take, min, eqb, refl, sym, ap, ◌∙◌, arith, get_or, length-append, length-take, subst, add-one, take_all}
+-- What a text of base64 leaves.
+use Rattle.std.proofs.Common.{◌≡◌, ℕ, zero, suc, ◌+◌, ◌%◌, ◌<◌, ◌≤◌, Bool, true, cond, List, [], ◌∷◌, ◌++◌, length, take, drop, min, set, eqb, refl, sym, ap, ◌∙◌, arith, get_or, length-append, length-take, length-drop, drop-cons, add-one, take_all}
 use Rattle.std.specs.Prelude.{replicate}
 use Rattle.std.specs.List.{filter}
 use borrow.Rule.Slice.PartMut.{post_of, put_mid}
-use Rattle.std.proofs.Math.Seq.{take-append-add, take-suc}
-use Rattle.std.proofs.lemmas.Bool.{eqb-true}
-use Rattle.std.proofs.lemmas.List.{append-nil, length-take-le, nil_from_length, take-append-le}
-use Rattle.std.proofs.lemmas.Slice.{take-put_mid}
+use Rattle.std.proofs.Math.Seq.{take-append-add, take-set-lt}
+use Rattle.std.proofs.lemmas.List.{drop-set, length-take-le, nil_from_length, take-append-drop, take-append-le}
 use Rattle.std.proofs.lemmas.List.Elements.{filter-append}
+use Rattle.std.proofs.lemmas.Slice.{take-put_mid}
 use Rattle.data_url.specs.Base64.{after_groups, is_symbol, left_padding, left_symbols, left_text}
 use Rattle.data_url.proofs.ByteLemmas.{after_few}
-use Rattle.data_url.proofs.SignLemmas.{after_groups-append, is_sign, length-after_groups}
+use Rattle.data_url.proofs.SignLemmas.{after_groups-append, length-after_groups}
 
--- One byte more
+-- The last symbols, found from the end on
 
-one_more : (s : List ℕ) (i b : ℕ) → i < length s → b ≡ get_or s i 0 → take (i + 1) s ≡ take i s ++ b ∷ []
-one_more s i b l e = rw (add-one, take-suc s i 0) (ap (λ x. take i s ++ x ∷ []) (sym e))
+filter_first : (b : ℕ) (bs : List ℕ) (v : Bool) → is_symbol b ≡ v → filter is_symbol (b ∷ bs) ≡ cond v (b ∷ filter is_symbol bs) (filter is_symbol bs)
+filter_first b bs v e = ap (λ v. cond v (b ∷ filter is_symbol bs) (filter is_symbol bs)) e
 
-filter_one : (p : ℕ → Bool) (b : ℕ) (v : Bool) → p b ≡ v → filter p (b ∷ []) ≡ cond v (b ∷ []) []
-filter_one p b v e = ap (λ v. cond v (b ∷ []) []) e
+-- the byte before the place
+filter_before : (s : List ℕ) (i b : ℕ) (v : Bool) → i < length s → b ≡ get_or s i 0 → is_symbol b ≡ v → filter is_symbol (drop i s) ≡ cond v (b ∷ filter is_symbol (drop (i + 1) s)) (filter is_symbol (drop (i + 1) s))
+filter_before s i b v l q e =
+    let first : drop i s ≡ b ∷ drop (i + 1) s = rw (add-one, drop-cons s i 0) (ap (λ x. x ∷ drop (suc i) s) (sym q)) in
+    ap (filter is_symbol) first ∙ filter_first b (drop (i + 1) s) v e
 
-symbols_then : (u : List ℕ) (b : ℕ) (v : Bool) → is_symbol b ≡ v → left_symbols (u ++ b ∷ []) ≡ after_groups (left_symbols u ++ cond v (b ∷ []) [])
+-- a symbol is put before those that were found
+found_one : (xs : List ℕ) (count m b : ℕ) → m < count → count ≤ length xs → drop m (take count (set xs m b)) ≡ b ∷ drop (m + 1) (take count xs)
+found_one xs count m b l k =
+    let few : length (take count xs) ≡ count = length-take-le count xs k in
+    ap (drop m) (take-set-lt count xs m b l) ∙ drop-set (take count xs) m b (omega arith)
+
+pub found_symbol : (s xs : List ℕ) (count missing at m i b : ℕ) → m + 1 ≡ missing → i + 1 ≡ at → at ≤ length s → b ≡ get_or s i 0 → is_symbol b ≡ true → missing ≤ count → count ≤ length xs → drop missing (take count xs) ≡ filter is_symbol (drop at s) → drop m (take count (set xs m b)) ≡ filter is_symbol (drop i s)
+found_symbol s xs count missing at m i b j k l q e n f h =
+    found_one xs count m b (omega arith) f
+    ∙ ap (λ x. b ∷ drop x (take count xs)) j
+    ∙ ap (λ x. b ∷ x) (h ∙ ap (λ x. filter is_symbol (drop x s)) (sym k))
+    ∙ sym (filter_before s i b true (omega arith) q e)
+
+-- as long as some are missing, the place is not the first
+pub not_first : (s xs : List ℕ) (count missing at : ℕ) → drop missing (take count xs) ≡ filter is_symbol (drop at s) → count ≤ length (filter is_symbol s) → count ≤ length xs → missing ≤ count → 0 < missing → 0 < at
+not_first s xs count missing zero h k n q p = absurd (let l = ap length h in omega (arith, length-drop missing (take count xs), length-take count xs))
+not_first s xs count missing (suc at) h k n q p = omega arith
+
+-- all were found
+pub found_all : (s last : List ℕ) (missing at : ℕ) → missing ≡ 0 → drop missing last ≡ filter is_symbol (drop at s) → (front : List ℕ) × (filter is_symbol s ≡ front ++ last)
+found_all s last missing at z h =
+    (filter is_symbol (take at s),
+     ap (filter is_symbol) (sym (take-append-drop at s))
+     ∙ filter-append is_symbol (take at s) (drop at s)
+     ∙ ap (λ x. filter is_symbol (take at s) ++ x) (sym h ∙ ap (λ n. drop n last) z))
+
+-- what is left
+
+behind_groups : (front last : List ℕ) → length last ≤ 3 → length (front ++ last) % 4 ≡ length last → after_groups (front ++ last) ≡ last
+behind_groups front last few e =
+    let whole : length (after_groups front) ≡ 0 = omega (arith, length-after_groups front, length-append front last) in
+    after_groups-append front last ∙ ap (λ x. after_groups (x ++ last)) (nil_from_length (after_groups front) whole) ∙ after_few last few
+
+pub left_symbols_are : (s last : List ℕ) → length last ≡ length (filter is_symbol s) % 4 → (front : List ℕ) × (filter is_symbol s ≡ front ++ last) → last ≡ left_symbols s
 unfolding left_symbols
-symbols_then u b v e =
-    ap after_groups (filter-append is_symbol u (b ∷ []) ∙ ap (λ s. filter is_symbol u ++ s) (filter_one is_symbol b v e))
-    ∙ after_groups-append (filter is_symbol u) (cond v (b ∷ []) [])
+left_symbols_are s last e h =
+    sym (ap after_groups h.1 ∙ behind_groups h.0 last (omega (arith, e)) (ap (λ x. length x % 4) (sym h.1) ∙ sym e))
 
-min_more : (n k : ℕ) → min (n + k) 3 ≡ min (min n 3 + k) 3
-min_more n k = omega arith
-
-signs_then : (u : List ℕ) (b : ℕ) (v : Bool) → is_sign b ≡ v → left_padding (u ++ b ∷ []) ≡ min (left_padding u + length (cond v (b ∷ []) [])) 3
+pub left_padding_is : (s : List ℕ) → min (length (filter (λ c. eqb c 61) s)) 3 ≡ left_padding s
 unfolding left_padding
-signs_then u b v e =
-    ap (λ n. min n 3) (ap length (filter-append is_sign u (b ∷ []) ∙ ap (λ s. filter is_sign u ++ s) (filter_one is_sign b v e)) ∙ length-append (filter is_sign u) (cond v (b ∷ []) []))
-    ∙ min_more (length (filter is_sign u)) (length (cond v (b ∷ []) []))
-
-few_left : (u : List ℕ) → length (left_symbols u) ≤ 3
-unfolding left_symbols
-few_left u = omega (arith, length-after_groups (filter is_symbol u))
-
-symbol_no_sign : (b : ℕ) (v : Bool) → is_sign b ≡ v → is_symbol b ≡ true → is_sign b ≡ false
-symbol_no_sign b false e h = e
-symbol_no_sign b true e h = absurd (let k : is_symbol 61 ≡ is_symbol b = ap is_symbol (sym (eqb-true b 61 e)) in let n : false ≡ true = k ∙ h in cc)
-
-no_sign_by : (b : ℕ) (v : Bool) → is_sign b ≡ v → (b ≡ 61 → ⊥) → is_sign b ≡ false
-no_sign_by b false e h = e
-no_sign_by b true e h = absurd (h (eqb-true b 61 e))
-
-pub no_sign : (b : ℕ) → (b ≡ 61 → ⊥) → is_sign b ≡ false
-no_sign b h = no_sign_by b (is_sign b) refl h
-
-few_signs : (u : List ℕ) → left_padding u ≤ 3
-unfolding left_padding
-few_signs u = omega arith
-
-same_signs : (u : List ℕ) (b : ℕ) → is_sign b ≡ false → left_padding u ≡ left_padding (u ++ b ∷ [])
-same_signs u b e = let k = signs_then u b false e in let f = few_signs u in omega arith
-
--- The cases of the loop
-
-module _ (s : List ℕ) (i b : ℕ) (inside : i < length s) (is_b : b ≡ get_or s i 0) where
-  at_next : (P : List ℕ → Type 0) → P (take i s ++ b ∷ []) → P (take (i + 1) s)
-  at_next P h = subst P (sym (one_more s i b inside is_b)) h
-
-  -- a group is complete
-  pub complete_symbols : (kept now : List ℕ) → is_symbol b ≡ true → kept ≡ left_symbols (take i s) → length kept ≡ 3 → now ≡ [] → now ≡ left_symbols (take (i + 1) s)
-  complete_symbols kept now e k n z =
-      let all : List ℕ = left_symbols (take i s) ++ b ∷ [] in
-      let four : length all ≡ 4 = length-append (left_symbols (take i s)) (b ∷ []) ∙ ap (λ x. length x + 1) (sym k) ∙ ap (λ x. x + 1) n in
-      let none : after_groups all ≡ [] = nil_from_length (after_groups all) (omega (arith, length-after_groups all)) in
-      at_next (λ t. now ≡ left_symbols t) (z ∙ sym (symbols_then (take i s) b true e ∙ none))
-
-  -- a symbol more waits for its group
-  pub more_symbols : (kept now : List ℕ) → is_symbol b ≡ true → kept ≡ left_symbols (take i s) → length kept ≤ 2 → now ≡ kept ++ b ∷ [] → now ≡ left_symbols (take (i + 1) s)
-  more_symbols kept now e k n h =
-      let few : length (kept ++ b ∷ []) ≤ 3 = omega (arith, length-append kept (b ∷ [])) in
-      at_next (λ t. now ≡ left_symbols t) (h ∙ sym (symbols_then (take i s) b true e ∙ ap (λ x. after_groups (x ++ b ∷ [])) (sym k) ∙ after_few (kept ++ b ∷ []) few))
-
-  -- no symbol
-  pub same_symbols : (kept : List ℕ) → is_symbol b ≡ false → kept ≡ left_symbols (take i s) → kept ≡ left_symbols (take (i + 1) s)
-  same_symbols kept e k =
-      at_next (λ t. kept ≡ left_symbols t) (k ∙ sym (symbols_then (take i s) b false e ∙ ap after_groups (append-nil (left_symbols (take i s))) ∙ after_few (left_symbols (take i s)) (few_left (take i s))))
-
-  pub symbol_signs : (n : ℕ) → is_symbol b ≡ true → n ≡ left_padding (take i s) → n ≡ left_padding (take (i + 1) s)
-  symbol_signs n e k = at_next (λ t. n ≡ left_padding t) (k ∙ same_signs (take i s) b (symbol_no_sign b (is_sign b) refl e))
-
-  pub other_signs : (n : ℕ) → is_sign b ≡ false → n ≡ left_padding (take i s) → n ≡ left_padding (take (i + 1) s)
-  other_signs n e k = at_next (λ t. n ≡ left_padding t) (k ∙ same_signs (take i s) b e)
-
-  pub more_signs : (n m : ℕ) → is_sign b ≡ true → n ≡ left_padding (take i s) → m ≡ min (n + 1) 3 → m ≡ left_padding (take (i + 1) s)
-  more_signs n m e k h = at_next (λ t. m ≡ left_padding t) (h ∙ ap (λ x. min (x + 1) 3) k ∙ sym (signs_then (take i s) b true e))
+left_padding_is s = refl
 
 -- The signs
 

@@ -1,5 +1,5 @@
 -- Base64 that is decoded as it is read.
-use Rattle.std.proofs.Common.{◌≡◌, ℕ, ◌<◌, ◌≤◌, true, false, cond, List, [], ◌++◌, length, take, Option, None, Some, is_some, Result, Ok, Err, refl, sym, ap, ◌∙◌, subst}
+use Rattle.std.proofs.Common.{◌≡◌, ℕ, ◌≤◌, List, [], ◌++◌, length, Option, None, Some, is_some, Result, Ok, Err, refl, sym, ap, ◌∙◌, subst}
 use Rattle.std.specs.Io.KnownBytes.{Appends, Consumes, IsAtEnd, Keeps}
 use Rattle.std.proofs.lemmas.List.{append-nil}
 use Rattle.data_url.specs.Base64.{after_groups, decoded, done, first_fault, groups, is_valid, kind_of, left_padding, left_symbols, left_text, values}
@@ -13,11 +13,11 @@ use Rattle.dataurl.specs.Steps.Base64.{FeedsText, IsGroups, IsLast, faulty_group
 use Rattle.dataurl.specs.Steps.Gathering.{IsStreamed, Streams, all_streamed, cut_short}
 use Rattle.dataurl.specs.Writing.{IsBeginning}
 use Rattle.dataurl.specs.declared.fault.Fault.{Fault}
-use Rattle.dataurl.specs.declared.fault.Fault.TheVariants.{Base64, Read, Write}
+use Rattle.dataurl.specs.declared.fault.Fault.TheVariants.{Base64, Read}
 use Rattle.dataurl.specs.declared.fault.WriteFailed.{WriteFailed}
 use Rattle.dataurl.specs.declared.command.Command.TheVariants.{Base64 as base64}
 use Rattle.dataurl.proofs.InputLemmas.{consumes_kept, consumes_none, consumes_then}
-use Rattle.dataurl.proofs.OutputLemmas.{appends_kept, appends_none, appends_then, beginning_behind}
+use Rattle.dataurl.proofs.OutputLemmas.{appends_none, appends_then, beginning_behind}
 
 none_by : (a b : Option ℕ) → b ≡ None → is_some a ≡ is_some b → a ≡ None
 none_by None b e h = refl

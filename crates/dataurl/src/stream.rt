@@ -1,6 +1,6 @@
 //! Decodes base64 as it is read.
 
-ghost use Rattle.std.specs.Prelude.{◌≡◌, ◌+◌, ◌≤◌, length, take};
+ghost use Rattle.std.specs.Prelude.{◌≡◌, ◌++◌, ◌==◌, ◌≤◌, List, ℕ, filter, length, take};
 ghost use Rattle.std.specs.Fn.{CalledAt};
 ghost use Rattle.data_url.specs.Base64.{is_symbol, left_padding, left_symbols, left_text};
 ghost use Rattle.data_url.specs.Decoding.{Decodes};
@@ -33,7 +33,48 @@ struct Left {
 fn is_symbol_byte(byte: u8) -> bool
     ensures { result ≡ is_symbol byte }
 {
-    byte.is_ascii_alphanumeric() || byte == b'+' || byte == b'/'
+    byte.is_ascii_alphanumeric() | (byte == b'+') | (byte == b'/')
+}
+
+/// How many symbols a text has.
+fn symbol_count(text: &[u8]) -> usize
+    ensures { result ≡ length (filter is_symbol text.now) }
+{
+    let mut count = 0;
+    for byte in text {
+        count += usize::from(is_symbol_byte(*byte));
+    }
+    count
+}
+
+/// How many signs a text has.
+fn sign_count(text: &[u8]) -> usize
+    ensures { result ≡ length (filter (λ c. c == 61) text.now) }
+{
+    let mut count = 0;
+    for byte in text {
+        count += usize::from(*byte == b'=');
+    }
+    count
+}
+
+/// So many symbols, the last ones of a text, from its end on.
+fn last_symbols(text: &[u8], count: usize) -> [u8; 3]
+    requires few { count ≤ 3 }
+    requires there { count ≤ length (filter is_symbol text.now) }
+    ensures { (front : List ℕ) × (filter is_symbol text.now ≡ front ++ take count result) }
+{
+    let mut symbols = [0; 3];
+    let mut missing = count;
+    let mut at = text.len();
+    while missing > 0 {
+        at -= 1;
+        if is_symbol_byte(text[at]) {
+            missing -= 1;
+            symbols[missing] = text[at];
+        }
+    }
+    symbols
 }
 
 /// What a text leaves.
@@ -43,25 +84,11 @@ fn left_of(text: &[u8]) -> Left
     ensures pending { result.pending ≤ 3 }
     ensures few { result.signs ≤ 3 }
 {
-    let mut symbols = [0; 3];
-    let mut pending = 0;
-    let mut signs: usize = 0;
-    for byte in text {
-        if is_symbol_byte(*byte) {
-            if pending == 3 {
-                pending = 0;
-            } else {
-                symbols[pending] = *byte;
-                pending += 1;
-            }
-        } else if *byte == b'=' {
-            signs = (signs + 1).min(3);
-        }
-    }
+    let pending = symbol_count(text) % 4;
     Left {
-        symbols,
+        symbols: last_symbols(text, pending),
         pending,
-        signs,
+        signs: sign_count(text).min(3),
     }
 }
 

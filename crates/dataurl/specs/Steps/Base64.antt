@@ -1,5 +1,5 @@
 -- What decoding a part of a text of base64 does.
-use Rattle.std.specs.Prelude.{◌≡◌, ℕ, true, false, List, Option, None, is_some, Result, Ok, Err}
+use Rattle.std.specs.Prelude.{◌≡◌, ℕ, true, false, List, None, is_some, Result, Ok, Err}
 use Rattle.data_url.specs.Base64.{decoded, done, first_fault, is_valid, kind_of}
 use Rattle.data_url.specs.Decoding.{Feeds, State, start}
 use Rattle.data_url.specs.declared.forgiving_base64.DecodeError.{DecodeError}

@@ -1,5 +1,5 @@
-use Rattle.std.proofs.Common.{◌∙◌, ◌+◌, ◌-◌, ap, arith, rules, length-take, take}
-use Rattle.data_url.specs.Base64.{left_padding, left_symbols, left_text}
+use Rattle.std.proofs.Common.{◌∙◌, ◌+◌, ◌-◌, ap, rules, take}
+use Rattle.data_url.specs.Base64.{left_symbols, left_text}
 use Rattle.dataurl.proofs.LeftLemmas.{kept_front}
 use Rattle.dataurl.proofs.stream.keep_left.Goals as goal
 
