@@ -42,11 +42,12 @@ not_first s xs count missing (suc at) h k n q p = omega arith
 
 -- all were found
 pub found_all : (s last : List ℕ) (missing at : ℕ) → missing ≡ 0 → drop missing last ≡ filter is_symbol (drop at s) → (front : List ℕ) × (filter is_symbol s ≡ front ++ last)
-found_all s last missing at z h =
-    (filter is_symbol (take at s),
-     ap (filter is_symbol) (sym (take-append-drop at s))
-     ∙ filter-append is_symbol (take at s) (drop at s)
-     ∙ ap (λ x. filter is_symbol (take at s) ++ x) (sym h ∙ ap (λ n. drop n last) z))
+found_all s last missing at z h = (
+  filter is_symbol (take at s),
+  ap (filter is_symbol) (sym (take-append-drop at s))
+      ∙ filter-append is_symbol (take at s) (drop at s)
+      ∙ ap (λ x. filter is_symbol (take at s) ++ x) (sym h ∙ ap (λ n. drop n last) z),
+)
 
 -- what is left
 
