@@ -86,8 +86,7 @@ impl Gathered {
         }
     }
 
-    /// Ends an output whose bytes were decoded with this answer: what waits is written first, but nothing is where a write
-    /// has failed.
+    /// Ends an output that was decoded with this answer: what waits is written first, and behind a failed write nothing is.
     pub(crate) fn settle<W: Write>(
         &mut self,
         answer: Result<(), DecodeError<WriteFailed>>,
@@ -97,10 +96,10 @@ impl Gathered {
     {
         match answer {
             Ok(()) => self.flush_before(Ok(()), writer),
-            Err(DecodeError::InvalidBase64(refusal)) => self.flush_before(
-                Err(Fault::Base64(refusal)),
-                writer,
-            ),
+            Err(DecodeError::InvalidBase64(refusal)) => {
+                let end = Err(Fault::Base64(refusal));
+                self.flush_before(end, writer)
+            }
             Err(DecodeError::WriteError(WriteFailed)) => Err(Fault::Write),
         }
     }
