@@ -1,120 +1,142 @@
--- Closures that keep what they are given, or write it to a writer that they hold.
-use Rattle.std.proofs.Common.{◌≡◌, ℕ, List, [], ◌∷◌, ◌++◌, Option, None, Some, Result, Ok, Err, refl, sym, ap, ◌∙◌, append_assoc, subst, arith, length, length-append}
-use Rattle.std.specs.Prelude.{IsErr, MatchOption}
-use Rattle.std.specs.Io.KnownBytes.{Appends}
+-- What is handed to a closure that gathers its pieces.
+use Rattle.std.proofs.Common.{◌≡◌, ℕ, Bool, true, false, cond, List, [], ◌++◌, Option, None, Some, is_some, Result, Ok, Err, refl, sym, ap, ◌∙◌, subst}
+use Rattle.std.specs.Prelude.{MatchBool, MatchOption}
 use Rattle.std.proofs.lemmas.List.{append-nil}
+use Rattle.data_url.specs.Base64.{decoded, done, first_fault, is_valid, kind_of}
 use Rattle.data_url.specs.Decodes.{Decodes, HandsOut, IsRefusedBy}
-use Rattle.data_url.specs.Fetch.{Bad, Good, Outcome}
-use Rattle.data_url.specs.Run.{Call, IsPrefix, IsRun, joined, or_error, refusal}
+use Rattle.data_url.specs.Decoding.{Decodes as DecodesText, IsAll, IsRefused, IsTaken, State}
+use Rattle.data_url.specs.Fetch.{Bad, Good, Outcome, outcome_bytes}
+use Rattle.data_url.specs.Run.{Call, IsRun, joined, refusal}
 use Rattle.data_url.specs.declared.forgiving_base64.DecodeError.{DecodeError}
 use Rattle.data_url.specs.declared.forgiving_base64.DecodeError.TheVariants.{InvalidBase64}
-use Rattle.data_url.proofs.BodyVecLemmas.{body_reads}
-use Rattle.data_url.proofs.WholeLemmas.{run_keeps, run_reads}
-use Rattle.data_url.specs.Base64.{Kind}
-use Rattle.dataurl.specs.Output.{IsBodyOutput, bad_body, good_body}
-use Rattle.dataurl.specs.Writing.{IsBeginning, IsWritten, Writes, all, beginning}
-use Rattle.dataurl.specs.declared.fault.Fault.TheVariants.{Base64}
+use Rattle.data_url.proofs.WholeLemmas.{run_keeps}
+use Rattle.dataurl.specs.Output.{End, IsBodyOutput, bad_body, good_body}
+use Rattle.dataurl.specs.Steps.{AnyAnswer}
+use Rattle.dataurl.specs.Steps.Base64.{FeedsText, IsGroups, IsLast, faulty_groups, last_invalid, last_valid, sound_groups}
+use Rattle.dataurl.specs.Steps.Gathering.{Gathers, IsFlushed, IsSettled, IsStreamed, Settles, Streams, all_streamed, cut_short, flushed, not_flushed}
+use Rattle.dataurl.specs.Writing.{IsBeginning}
+use Rattle.dataurl.specs.declared.fault.Fault.TheVariants.{Base64, Write}
 use Rattle.dataurl.specs.declared.fault.WriteFailed.{WriteFailed}
-use Rattle.dataurl.proofs.OutputLemmas.{appends_none, appends_then}
+use Rattle.dataurl.proofs.GatherLemmas.{run_gathers}
+use Rattle.dataurl.proofs.OutputLemmas.{appends_then, beginning_behind, beginning_of}
 
--- Beginnings
+-- Outputs
 
--- what is a beginning, and not all, of a beginning is so of the whole
-pub beginning_of : (xs ys zs : List ℕ) → IsBeginning xs ys → IsPrefix ys zs → IsBeginning xs zs
-beginning_of xs ys zs b p =
-    (b.0 ++ p.0, p.1 ∙ ap (λ s. s ++ p.0) b.1 ∙ append_assoc xs b.0 p.0, omega (arith, b.2, length-append b.0 p.0))
+-- of an output so much was written, and then what waited was flushed
+pub output_flushed : (P : List ℕ → End → Type 0) (bytes after w k : List ℕ) (good end : End) → P bytes good → bytes ≡ w ++ after → IsFlushed after good k end → IsStreamed P (w ++ k) end
+output_flushed P bytes after w k good end p e flushed = let Q : List ℕ → Type 0 = λ s. P s good in all_streamed (subst Q e p)
+output_flushed P bytes after w k good end p e (not_flushed b) =
+    let Q : List ℕ → Type 0 = λ s. IsBeginning (w ++ k) s in
+    cut_short p (subst Q (sym e) (beginning_behind w k after b))
 
-no_beginning : (xs ys : List ℕ) → ys ≡ [] → IsBeginning xs ys → ⊥
-no_beginning xs ys e b = let l = ap length (sym e ∙ b.1) ∙ length-append xs b.0 in let k = b.2 in omega arith
-
--- One write
-
-written_all : (bytes written : List ℕ) (r : Result (Unit {0}) WriteFailed) → r ≡ Ok tt → IsWritten bytes written r → written ≡ bytes
-written_all bytes written r e all = refl
-written_all bytes written r e (beginning p) = absurd (let k = e in cc)
-
-written_some : (bytes written : List ℕ) (r : Result (Unit {0}) WriteFailed) (failed : WriteFailed) → r ≡ Err failed → IsWritten bytes written r → IsBeginning written bytes
-written_some bytes written r failed e all = absurd (let k = e in cc)
-written_some bytes written r failed e (beginning p) = p
-
--- Runs
-
--- what a writer took of the pieces of a run: all, or a beginning where one was refused
-pub record RunWrites (held now : Option (List ℕ)) (bytes : List ℕ) (refused : Option WriteFailed) : Type 0 where
-  pub written : List ℕ
-  pub appended : Appends held now written
-  pub took : MatchOption refused (written ≡ bytes) (λ failed. IsBeginning written bytes)
-
--- of no bytes nothing was taken
-took_nothing : (refused : Option WriteFailed) (written bytes : List ℕ) → bytes ≡ [] → MatchOption refused (written ≡ bytes) (λ failed. IsBeginning written bytes) → written ≡ []
-took_nothing None written bytes e h = h ∙ e
-took_nothing (Some failed) written bytes e h = absurd (no_beginning written bytes e h)
-
--- and then those of more
-took_more : (refused : Option WriteFailed) (front written bytes : List ℕ) → MatchOption refused (written ≡ bytes) (λ failed. IsBeginning written bytes) → MatchOption refused (front ++ written ≡ front ++ bytes) (λ failed. IsBeginning (front ++ written) (front ++ bytes))
-took_more None front written bytes h = ap (λ s. front ++ s) h
-took_more (Some failed) front written bytes h = (h.0, ap (λ s. front ++ s) h.1 ∙ sym (append_assoc front written h.0), h.2)
-
-run_more : (r : Result (Unit {0}) WriteFailed) (piece rest : List ℕ) (later : Option WriteFailed) (a b d : Option (List ℕ)) → Writes piece a b r → (IsErr r → rest ≡ []) → RunWrites b d rest later → RunWrites a d (piece ++ rest) (or_error r later)
-run_more (Ok tt) piece rest later a b d w last k =
-    let e : w.written ≡ piece = written_all piece w.written (Ok tt) refl w.is_written in
-    let P : List ℕ → Type 0 = λ s. MatchOption later (w.written ++ k.written ≡ s ++ rest) (λ failed. IsBeginning (w.written ++ k.written) (s ++ rest)) in
-    record {
-      written = w.written ++ k.written;
-      appended = appends_then a b d w.written k.written w.appended k.appended;
-      took = subst P e (took_more later w.written k.written rest k.took);
-    }
-run_more (Err failed) piece rest later a b d w last k =
-    let nothing : k.written ≡ [] = took_nothing later k.written rest (last refl) k.took in
-    let same : w.written ++ k.written ≡ w.written = ap (λ s. w.written ++ s) nothing ∙ append-nil w.written in
-    let P : List ℕ → Type 0 = λ s. IsBeginning s (piece ++ rest) in
-    record {
-      written = w.written ++ k.written;
-      appended = appends_then a b d w.written k.written w.appended k.appended;
-      took = subst P (sym same) (beginning_of w.written piece (piece ++ rest) (written_some piece w.written (Err failed) failed refl w.is_written) (rest, refl));
-    }
-
-module _ {F : Type 0} (step : F → List ℕ → Result (Unit {0}) WriteFailed → F → Type 0) (holds : F → Option (List ℕ)) (writes : (f : F) (piece : List ℕ) (r : Result (Unit {0}) WriteFailed) (g : F) → step f piece r g → Writes piece (holds f) (holds g) r) where
-  pub run_writes : (cs : List (Call F WriteFailed)) (f g : F) → IsRun step f cs g → RunWrites (holds f) (holds g) (joined cs) (refusal cs)
-  run_writes [] f g ran =
-      let P : F → Type 0 = λ s. Appends (holds f) (holds s) [] in
-      record { written = []; appended = subst P ran (appends_none (holds f)); took = refl }
-  run_writes (c ∷ cs) f g ran =
-      run_more c.answer c.piece (joined cs) (refusal cs) (holds f) (holds c.after) (holds g) (writes f c.piece c.answer c.after ran.0) (λ e. ap joined (ran.1 e)) (run_writes cs c.after g ran.2)
+-- a write failed before that
+pub output_stopped : (P : List ℕ → End → Type 0) (whole w k : List ℕ) (whole_end end : End) → P whole whole_end → IsBeginning w whole → k ≡ [] → end ≡ Err Write → IsStreamed P (w ++ k) end
+output_stopped P whole w k whole_end end p b e q =
+    let Q : List ℕ → Type 0 = λ s. IsBeginning (w ++ s) whole in
+    let R : List ℕ → Type 0 = λ s. IsBeginning s whole in
+    let S : End → Type 0 = λ x. IsStreamed P (w ++ k) x in
+    subst S (sym q) (cut_short p (subst Q (sym e) (subst R (sym (append-nil w)) b)))
 
 -- Bodies
 
--- a bad body, where its fault was answered, was handed out as far as it goes
-bad_bytes : {E A : Type 0} (body : Outcome) (good : A → Type 0) (bytes : List ℕ) (r : Result A (DecodeError E)) (kind : Kind) → r ≡ Err (InvalidBase64 kind) → HandsOut body good bytes r → body ≡ Bad bytes kind
-bad_bytes (Good whole) good bytes (Ok y) kind q h = absurd (let k = q in cc)
-bad_bytes (Good whole) good bytes (Err e) kind q h = absurd h.answer
-bad_bytes (Bad whole kind') good bytes r kind q h =
-    let same : kind' ≡ kind = let k = h.answer in cc in
-    ap (λ x. Bad whole x) same ∙ ap (λ x. Bad x kind) (sym h.bytes_are)
+body_output : (body : Outcome) → (end : End) × IsBodyOutput body (outcome_bytes body) end
+body_output (Good bytes) = (Ok tt, good_body)
+body_output (Bad bytes kind) = (Err (Base64 kind), bad_body)
 
-bad_run : {E A : Type 0} (o : Option E) (body : Outcome) (good : A → Type 0) (bytes : List ℕ) (r : Result A (DecodeError E)) (kind : Kind) → r ≡ Err (InvalidBase64 kind) → MatchOption o (HandsOut body good bytes r) (λ e. IsRefusedBy body bytes e r) → (o ≡ None) × (body ≡ Bad bytes kind)
-bad_run None body good bytes r kind q h = (refl, bad_bytes body good bytes r kind q h)
-bad_run (Some e) body good bytes r kind q h = absurd (let k = h.answer in cc)
+body_handed : (body : Outcome) (bytes after w k : List ℕ) (r : Result (Unit {0}) (DecodeError WriteFailed)) (end : End) → HandsOut body AnyAnswer bytes r → bytes ≡ w ++ after → IsSettled r after k end → IsStreamed (IsBodyOutput body) (w ++ k) end
+body_handed (Good all) bytes after w k (Ok x) end h e s = output_flushed (IsBodyOutput (Good all)) all after w k (Ok tt) end good_body (sym h.bytes_are ∙ e) s
+body_handed (Good all) bytes after w k (Err error) end h e s = absurd h.answer
+body_handed (Bad all kind) bytes after w k r end h e s =
+    let P : Result (Unit {0}) (DecodeError WriteFailed) → Type 0 = λ x. IsSettled x after k end in
+    output_flushed (IsBodyOutput (Bad all kind)) all after w k (Err (Base64 kind)) end bad_body (sym h.bytes_are ∙ e) (subst P h.answer s)
 
-module _ {F E A : Type 0} {step : F → List ℕ → Result (Unit {0}) E → F → Type 0} {f g : F} {most : ℕ} {body : Outcome} {good : A → Type 0} {r : Result A (DecodeError E)} where
-  -- what a closure that keeps its bytes has of a good body
-  pub good_kept : {x : A} → Decodes step f most body good r g → r ≡ Ok x → (kept : F → List ℕ) → ((p : F) (piece : List ℕ) (q : F) → step p piece (Ok tt) q → kept q ≡ kept p ++ piece) → kept f ≡ [] → IsBodyOutput body (kept g) (Ok tt)
-  good_kept d q kept keeps e =
-      let h = body_reads d q kept keeps in
-      let same : h.0 ≡ kept g = sym (h.2 ∙ ap (λ x. x ++ h.0) e) in
-      let P : List ℕ → Type 0 = λ x. IsBodyOutput body x (Ok tt) in
-      let Q : Outcome → Type 0 = λ o. IsBodyOutput o h.0 (Ok tt) in
-      subst P same (subst Q (sym h.1) good_body)
+body_ended : (refused : Option WriteFailed) (body : Outcome) (bytes after w k : List ℕ) (r : Result (Unit {0}) (DecodeError WriteFailed)) (end : End) → MatchOption refused (HandsOut body AnyAnswer bytes r) (λ failed. IsRefusedBy body bytes failed r) → MatchOption refused (bytes ≡ w ++ after) (λ failed. IsBeginning w bytes) → IsSettled r after k end → IsStreamed (IsBodyOutput body) (w ++ k) end
+body_ended None body bytes after w k r end h e s = body_handed body bytes after w k r end h e s
+body_ended (Some failed) body bytes after w k r end h b s =
+    let P : Result (Unit {0}) (DecodeError WriteFailed) → Type 0 = λ x. IsSettled x after k end in
+    let stopped = subst P h.answer s in
+    output_stopped (IsBodyOutput body) (outcome_bytes body) w k (body_output body).0 end (body_output body).1 (beginning_of w bytes (outcome_bytes body) b h.bytes_begin) stopped.0 stopped.1
 
-  -- and of a bad one
-  pub bad_kept : {kind : Kind} → Decodes step f most body good r g → r ≡ Err (InvalidBase64 kind) → (kept : F → List ℕ) → ((p : F) (piece : List ℕ) (q : F) → step p piece (Ok tt) q → kept q ≡ kept p ++ piece) → kept f ≡ [] → IsBodyOutput body (kept g) (Err (Base64 kind))
-  bad_kept {kind} d q kept keeps e =
-      let h = bad_run (refusal d.run) body good (joined d.run) r kind q d.gave in
-      let same : joined d.run ≡ kept g = sym (run_reads step kept keeps d.run f g d.ran h.0 ∙ ap (λ x. x ++ joined d.run) e) in
-      let P : List ℕ → Type 0 = λ x. IsBodyOutput body x (Err (Base64 kind)) in
-      let Q : Outcome → Type 0 = λ o. IsBodyOutput o (joined d.run) (Err (Base64 kind)) in
-      subst P same (subst Q (sym h.1) bad_body)
+-- Base64
 
-  -- what each call keeps, handing out a body keeps
-  pub body_same : {B : Type 0} → Decodes step f most body good r g → (kept : F → B) → ((p : F) (piece : List ℕ) (s : Result (Unit {0}) E) (q : F) → step p piece s q → kept p ≡ kept q) → kept f ≡ kept g
-  body_same d kept keeps = run_keeps step kept keeps d.run f g d.ran
+groups_output : (text : List ℕ) (o : Option ℕ) → first_fault text ≡ o → (end : End) × IsGroups text (done text) end
+groups_output text None e = (Ok tt, sound_groups e)
+groups_output text (Some place) e = (Err (Base64 (kind_of text)), faulty_groups (ap is_some e))
+
+groups_handed : (text bytes after w k : List ℕ) (r : Result (Unit {0}) (DecodeError WriteFailed)) (end : End) (P : Type 0) (o : Option ℕ) → first_fault text ≡ o → bytes ≡ done text → MatchOption o ((r ≡ Ok tt) × P) (λ place. r ≡ Err (InvalidBase64 (kind_of text))) → bytes ≡ w ++ after → IsSettled r after k end → IsStreamed (IsGroups text) (w ++ k) end
+groups_handed text bytes after w k r end P None f b h e s =
+    let Q : Result (Unit {0}) (DecodeError WriteFailed) → Type 0 = λ x. IsSettled x after k end in
+    output_flushed (IsGroups text) (done text) after w k (Ok tt) end (sound_groups f) (sym b ∙ e) (subst Q h.0 s)
+groups_handed text bytes after w k r end P (Some place) f b h e s =
+    let Q : Result (Unit {0}) (DecodeError WriteFailed) → Type 0 = λ x. IsSettled x after k end in
+    output_flushed (IsGroups text) (done text) after w k (Err (Base64 (kind_of text))) end (faulty_groups (ap is_some f)) (sym b ∙ e) (subst Q h s)
+
+groups_ended : {F : Type 0} (refused : Option WriteFailed) (text bytes after w k : List ℕ) (r : Result (Unit {0}) (DecodeError WriteFailed)) (d : State F) (end : End) → MatchOption refused (IsTaken text bytes r d) (λ failed. IsRefused (done text) bytes failed r) → MatchOption refused (bytes ≡ w ++ after) (λ failed. IsBeginning w bytes) → IsSettled r after k end → IsStreamed (IsGroups text) (w ++ k) end
+groups_ended None text bytes after w k r d end h e s = groups_handed text bytes after w k r end _ (first_fault text) refl h.bytes_are h.answer e s
+groups_ended (Some failed) text bytes after w k r d end h b s =
+    let P : Result (Unit {0}) (DecodeError WriteFailed) → Type 0 = λ x. IsSettled x after k end in
+    let stopped = subst P h.answer s in
+    let all = groups_output text (first_fault text) refl in
+    output_stopped (IsGroups text) (done text) w k all.0 end all.1 (beginning_of w bytes (done text) b h.bytes_begin) stopped.0 stopped.1
+
+last_output : (text : List ℕ) (v : Bool) → is_valid text ≡ v → (end : End) × IsLast text (cond v (decoded text) (done text)) end
+last_output text true e = (Ok tt, last_valid e)
+last_output text false e = (Err (Base64 (kind_of text)), last_invalid e)
+
+last_handed : (text bytes after w k : List ℕ) (r : Result (Unit {0}) (DecodeError WriteFailed)) (end : End) (v : Bool) → is_valid text ≡ v → MatchBool v (IsAll text bytes r) ((bytes ≡ done text) × (r ≡ Err (InvalidBase64 (kind_of text)))) → bytes ≡ w ++ after → IsSettled r after k end → IsStreamed (IsLast text) (w ++ k) end
+last_handed text bytes after w k r end true v h e s =
+    let P : Result (Unit {0}) (DecodeError WriteFailed) → Type 0 = λ x. IsSettled x after k end in
+    output_flushed (IsLast text) (decoded text) after w k (Ok tt) end (last_valid v) (sym h.bytes_are ∙ e) (subst P h.answer s)
+last_handed text bytes after w k r end false v h e s =
+    let P : Result (Unit {0}) (DecodeError WriteFailed) → Type 0 = λ x. IsSettled x after k end in
+    output_flushed (IsLast text) (done text) after w k (Err (Base64 (kind_of text))) end (last_invalid v) (sym h.0 ∙ e) (subst P h.1 s)
+
+last_ended : (refused : Option WriteFailed) (text bytes after w k : List ℕ) (r : Result (Unit {0}) (DecodeError WriteFailed)) (end : End) → MatchOption refused (MatchBool (is_valid text) (IsAll text bytes r) ((bytes ≡ done text) × (r ≡ Err (InvalidBase64 (kind_of text))))) (λ failed. IsRefused (cond (is_valid text) (decoded text) (done text)) bytes failed r) → MatchOption refused (bytes ≡ w ++ after) (λ failed. IsBeginning w bytes) → IsSettled r after k end → IsStreamed (IsLast text) (w ++ k) end
+last_ended None text bytes after w k r end h e s = last_handed text bytes after w k r end (is_valid text) refl h e s
+last_ended (Some failed) text bytes after w k r end h b s =
+    let P : Result (Unit {0}) (DecodeError WriteFailed) → Type 0 = λ x. IsSettled x after k end in
+    let stopped = subst P h.answer s in
+    let all = last_output text (is_valid text) refl in
+    output_stopped (IsLast text) (cond (is_valid text) (decoded text) (done text)) w k all.0 end all.1 (beginning_of w bytes (cond (is_valid text) (decoded text) (done text)) b h.bytes_begin) stopped.0 stopped.1
+
+-- Closures
+
+module _ {F : Type 0} (step : F → List ℕ → Result (Unit {0}) WriteFailed → F → Type 0) (holds : F → Option (List ℕ)) (waits : F → List ℕ) (gathers : (p : F) (piece : List ℕ) (s : Result (Unit {0}) WriteFailed) (q : F) → step p piece s q → Gathers piece (waits p) (waits q) (holds p) (holds q) s) where
+  -- pieces that were gathered by a closure with nothing waiting before, and settled
+  streams_by : (P : List ℕ → End → Type 0) (cs : List (Call F WriteFailed)) (f g : F) (r : Result (Unit {0}) (DecodeError WriteFailed)) (now : Option (List ℕ)) (end : End) → IsRun step f cs g → waits f ≡ [] → Settles r (waits g) (holds g) now end → ((w k : List ℕ) → MatchOption (refusal cs) (joined cs ≡ w ++ waits g) (λ failed. IsBeginning w (joined cs)) → IsSettled r (waits g) k end → IsStreamed P (w ++ k) end) → Streams P (holds f) now end
+  streams_by P cs f g r now end ran e s ends =
+      let w = run_gathers step holds waits gathers cs f g ran in
+      let Q : List ℕ → Type 0 = λ before. MatchOption (refusal cs) (before ++ joined cs ≡ w.written ++ waits g) (λ failed. IsBeginning w.written (before ++ joined cs)) in
+      record {
+        written = w.written ++ s.written;
+        appended = appends_then (holds f) (holds g) now w.written s.written w.appended s.appended;
+        is_streamed = ends w.written s.written (subst Q e w.took) s.is_settled;
+      }
+
+module _ {F : Type 0} {step : F → List ℕ → Result (Unit {0}) WriteFailed → F → Type 0} {f g : F} {r : Result (Unit {0}) (DecodeError WriteFailed)} {now : Option (List ℕ)} {end : End} where
+  -- a body
+  pub body_streams : {most : ℕ} {body : Outcome} → Decodes step f most body AnyAnswer r g → (holds : F → Option (List ℕ)) (waits : F → List ℕ) → ((p : F) (piece : List ℕ) (s : Result (Unit {0}) WriteFailed) (q : F) → step p piece s q → Gathers piece (waits p) (waits q) (holds p) (holds q) s) → waits f ≡ [] → Settles r (waits g) (holds g) now end → Streams (IsBodyOutput body) (holds f) now end
+  body_streams {body = body} d holds waits gathers e s =
+      streams_by step holds waits gathers (IsBodyOutput body) d.run f g r now end d.ran e s (λ w k took settled. body_ended (refusal d.run) body (joined d.run) (waits g) w k r end d.gave took settled)
+
+  -- a text of base64
+  pub last_streams : {text : List ℕ} → DecodesText step f text r g → (holds : F → Option (List ℕ)) (waits : F → List ℕ) → ((p : F) (piece : List ℕ) (s : Result (Unit {0}) WriteFailed) (q : F) → step p piece s q → Gathers piece (waits p) (waits q) (holds p) (holds q) s) → waits f ≡ [] → Settles r (waits g) (holds g) now end → Streams (IsLast text) (holds f) now end
+  last_streams {text} d holds waits gathers e s =
+      streams_by step holds waits gathers (IsLast text) d.run f g r now end d.ran e s (λ w k took settled. last_ended (refusal d.run) text (joined d.run) (waits g) w k r end d.gave took settled)
+
+  -- its groups alone
+  pub groups_streams : {text : List ℕ} → FeedsText step f text r g → (holds : F → Option (List ℕ)) (waits : F → List ℕ) → ((p : F) (piece : List ℕ) (s : Result (Unit {0}) WriteFailed) (q : F) → step p piece s q → Gathers piece (waits p) (waits q) (holds p) (holds q) s) → waits f ≡ [] → Settles r (waits g) (holds g) now end → Streams (IsGroups text) (holds f) now end
+  groups_streams {text} d holds waits gathers e s =
+      let P : F → Type 0 = λ x. IsRun step f d.fed.run x in
+      streams_by step holds waits gathers (IsGroups text) d.fed.run f g r now end (subst P d.closure_is d.fed.ran) e s (λ w k took settled. groups_ended (refusal d.fed.run) text (joined d.fed.run) (waits g) w k r d.state end d.fed.gave took settled)
+
+module _ {F : Type 0} {step : F → List ℕ → Result (Unit {0}) WriteFailed → F → Type 0} {f g : F} {r : Result (Unit {0}) (DecodeError WriteFailed)} where
+  -- what each call keeps, all of them keep
+  pub body_keeps : {B : Type 0} {most : ℕ} {body : Outcome} → Decodes step f most body AnyAnswer r g → (kept : F → B) → ((p : F) (piece : List ℕ) (s : Result (Unit {0}) WriteFailed) (q : F) → step p piece s q → kept p ≡ kept q) → kept f ≡ kept g
+  body_keeps d kept keeps = run_keeps step kept keeps d.run f g d.ran
+
+  pub last_keeps : {B : Type 0} {text : List ℕ} → DecodesText step f text r g → (kept : F → B) → ((p : F) (piece : List ℕ) (s : Result (Unit {0}) WriteFailed) (q : F) → step p piece s q → kept p ≡ kept q) → kept f ≡ kept g
+  last_keeps d kept keeps = run_keeps step kept keeps d.run f g d.ran
+
+  pub groups_keep : {B : Type 0} {text : List ℕ} → FeedsText step f text r g → (kept : F → B) → ((p : F) (piece : List ℕ) (s : Result (Unit {0}) WriteFailed) (q : F) → step p piece s q → kept p ≡ kept q) → kept f ≡ kept g
+  groups_keep d kept keeps = run_keeps step kept keeps d.fed.run f d.state.closure d.fed.ran ∙ ap kept d.closure_is

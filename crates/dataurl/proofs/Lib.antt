@@ -1,8 +1,9 @@
-pub mod Base64Lemmas
 pub mod ClosureLemmas
+pub mod GatherLemmas
 pub mod CommandLemmas
 pub mod CommandRunLemmas
 pub mod InputLemmas
+pub mod LeftLemmas
 pub mod OutputLemmas
 pub mod StepLemmas
 pub mod StreamLemmas

@@ -19,8 +19,8 @@ use Rattle.data_url.proofs.BodyVecLemmas.{body_answer, body_fault, body_good}
 use Rattle.data_url.proofs.UrlLemmas.{fragment_dropped}
 use Rattle.dataurl.specs.Output.{End, IsFragmentOutput, IsTextOutput, fragment_of_bad, some_fragment, type_of, without_fragment, without_record}
 use Rattle.dataurl.specs.Steps.{IsExactly, IsWrittenOf, WritesOf, cut_output, encoded_fragment, exactly, fragment_line, no_output, whole_output}
-use Rattle.dataurl.specs.Writing.{IsBeginning, IsWritten, Writes, all, beginning}
-use Rattle.dataurl.specs.declared.fault.Fault.{Fault}
+use Rattle.dataurl.specs.Steps.Gathering.{IsStreamed, Streams, all_streamed, cut_short}
+use Rattle.dataurl.specs.Writing.{IsWritten, Writes, all, beginning}
 use Rattle.dataurl.specs.declared.fault.Fault.TheVariants.{Base64, Memory, Mime as no_mime, Write}
 use Rattle.dataurl.specs.declared.fault.WriteFailed.{WriteFailed}
 use Rattle.dataurl.specs.declared.command.Command.TheVariants.{Canonical}
@@ -34,6 +34,14 @@ written_map f w e no_output = no_output
 -- what was written of an output is so of what that output means
 pub writes_map : {P Q : List ℕ → End → Type 0} {held now : Option (List ℕ)} {r : End} → ((w : List ℕ) (e : End) → P w e → Q w e) → WritesOf P held now r → WritesOf Q held now r
 writes_map {r = r} f h = record { written = h.written; appended = h.appended; is_written = written_map f h.written r h.is_written }
+
+streamed_written : {P : List ℕ → End → Type 0} (w : List ℕ) (e : End) → IsStreamed P w e → IsWrittenOf P w e
+streamed_written w e (all_streamed h) = whole_output h
+streamed_written w e (cut_short h b) = cut_output h b
+
+-- what was streamed of an output was written of it
+pub writes_streamed : {P : List ℕ → End → Type 0} {held now : Option (List ℕ)} {r : End} → Streams P held now r → WritesOf P held now r
+writes_streamed {r = r} h = record { written = h.written; appended = h.appended; is_written = streamed_written h.written r h.is_streamed }
 
 exactly_is : (P : List ℕ → End → Type 0) (bytes w : List ℕ) (e : End) → P bytes (Ok tt) → IsExactly bytes w e → P w e
 exactly_is P bytes w e p exactly = p
@@ -61,26 +69,6 @@ writes_exactly {bytes} h = record { written = h.written; appended = h.appended; 
 
 pub writes_beginning : {bytes : List ℕ} {held now : Option (List ℕ)} {failed : WriteFailed} → Writes bytes held now (Err failed) → WritesOf (IsExactly bytes) held now (Err Write)
 writes_beginning {bytes} {failed = failed} h = record { written = h.written; appended = h.appended; is_written = exact_cut bytes h.written (Err failed) failed refl h.is_written }
-
--- all the bytes of an output were written, and then it ends so
-then_ends : {P : List ℕ → End → Type 0} (bytes w : List ℕ) (e end : End) → e ≡ Ok tt → P bytes end → IsWrittenOf (IsExactly bytes) w e → IsWrittenOf P w end
-then_ends {P} bytes w e end q p (whole_output h) = let Q : List ℕ → End → Type 0 = λ s _. P s end in whole_output (exactly_is Q bytes w e p h)
-then_ends bytes w e end q p (cut_output h c) = absurd (let k = q in cc)
-then_ends bytes w e end q p no_output = absurd (let k = q in cc)
-
-pub writes_then : {P : List ℕ → End → Type 0} {bytes : List ℕ} {held now : Option (List ℕ)} {end : End} → P bytes end → WritesOf (IsExactly bytes) held now (Ok tt) → WritesOf P held now end
-writes_then {bytes = bytes} {end = end} p h = record { written = h.written; appended = h.appended; is_written = then_ends bytes h.written (Ok tt) end refl p h.is_written }
-
-exact_is_cut : {P : List ℕ → End → Type 0} (bytes whole w : List ℕ) (e end : End) → P bytes end → IsExactly bytes whole e → IsBeginning w whole → IsWrittenOf P w (Err Write)
-exact_is_cut bytes whole w e end p exactly c = cut_output p c
-
-then_fails : {P : List ℕ → End → Type 0} (bytes w : List ℕ) (e end : End) (fault : Fault) → e ≡ Err fault → P bytes end → IsWrittenOf (IsExactly bytes) w e → IsWrittenOf P w e
-then_fails bytes w e end fault q p (whole_output exactly) = absurd (let k = q in cc)
-then_fails bytes w e end fault q p (cut_output {whole = whole} {end = end'} h c) = exact_is_cut bytes whole w end' end p h c
-then_fails bytes w e end fault q p no_output = no_output
-
-pub writes_failing : {P : List ℕ → End → Type 0} {bytes : List ℕ} {held now : Option (List ℕ)} {fault : Fault} (end : End) → P bytes end → WritesOf (IsExactly bytes) held now (Err fault) → WritesOf P held now (Err fault)
-writes_failing {bytes = bytes} {fault = fault} end p h = record { written = h.written; appended = h.appended; is_written = then_fails bytes h.written (Err fault) end fault refl p h.is_written }
 
 -- MIME types
 

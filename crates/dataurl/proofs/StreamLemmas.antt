@@ -1,88 +1,147 @@
 -- Base64 that is decoded as it is read.
-use Rattle.std.proofs.Common.{◌≡◌, ℕ, ◌<◌, ◌≤◌, List, [], ◌++◌, length, take, Option, Result, Ok, Err, refl, sym, ap, ◌∙◌, subst}
-use Rattle.std.specs.Io.KnownBytes.{Consumes, IsAtEnd, Keeps}
+use Rattle.std.proofs.Common.{◌≡◌, ℕ, ◌≤◌, List, [], ◌++◌, length, Option, None, Some, is_some, Result, Ok, Err, refl, sym, ap, ◌∙◌, subst}
+use Rattle.std.specs.Io.KnownBytes.{Appends, Consumes, IsAtEnd, Keeps}
 use Rattle.std.proofs.lemmas.List.{append-nil}
-use Rattle.data_url.specs.Decoding.{Decodes, Feeds, Finishes, State, start}
+use Rattle.data_url.specs.Base64.{after_groups, decoded, done, first_fault, groups, is_valid, kind_of, left_padding, left_symbols, left_text, values}
+use Rattle.data_url.specs.Decoding.{Feeds, State, start}
+use Rattle.data_url.specs.Laws.{GoesOn}
 use Rattle.data_url.specs.declared.forgiving_base64.DecodeError.{DecodeError}
-use Rattle.data_url.proofs.DecoderLemmas.{feeds_then, feeds_took}
-use Rattle.data_url.proofs.WholeLemmas.{decodes_finished, fed_nothing}
-use Rattle.dataurl.specs.Output.{End}
-use Rattle.dataurl.specs.Status.{decode_end, decode_fault}
-use Rattle.dataurl.specs.Steps.{DecodesAll, FeedsAll, IsDecoded, IsFed, decoded_all, end_refused, fed_all, fed_error, not_decoded, not_fed, piece_refused}
+use Rattle.data_url.proofs.FeedLemmas.{two_feeds}
+use Rattle.dataurl.specs.Output.{End, IsOutput, of_base64, of_no_base64}
+use Rattle.dataurl.specs.Runs.{IsRun, IsSoundBeforeLastPiece, Runs, base64_not_read, base64_not_written, complete, not_written, stopped}
+use Rattle.dataurl.specs.Steps.Base64.{FeedsText, IsGroups, IsLast, faulty_groups, last_invalid, last_valid, sound_groups}
+use Rattle.dataurl.specs.Steps.Gathering.{IsStreamed, Streams, all_streamed, cut_short}
+use Rattle.dataurl.specs.Writing.{IsBeginning}
 use Rattle.dataurl.specs.declared.fault.Fault.{Fault}
-use Rattle.dataurl.specs.declared.fault.Fault.TheVariants.{Read}
+use Rattle.dataurl.specs.declared.fault.Fault.TheVariants.{Base64, Read}
 use Rattle.dataurl.specs.declared.fault.WriteFailed.{WriteFailed}
+use Rattle.dataurl.specs.declared.command.Command.TheVariants.{Base64 as base64}
 use Rattle.dataurl.proofs.InputLemmas.{consumes_kept, consumes_none, consumes_then}
+use Rattle.dataurl.proofs.OutputLemmas.{appends_none, appends_then, beginning_behind}
 
-module _ {F : Type 0} (step : F → List ℕ → Result (Unit {0}) WriteFailed → F → Type 0) where
-  -- a decoder that began at f was fed what was read so far
-  pub record Fed (f : F) (d : State F) (unread left : Option (List ℕ)) : Type 0 where
-    pub input : List ℕ
-    pub consumed : Consumes unread left input
-    pub fed : Feeds step (start f) input (Ok tt) d
+none_by : (a b : Option ℕ) → b ≡ None → is_some a ≡ is_some b → a ≡ None
+none_by None b e h = refl
+none_by (Some x) b e h = absurd (let k = h ∙ ap is_some e in cc)
 
-  pub fed_none : (f : F) (d : State F) (unread : Option (List ℕ)) → d ≡ start f → Fed f d unread unread
-  fed_none f d unread e = record { input = []; consumed = consumes_none unread; fed = fed_nothing step e }
+-- A decoder that was new
 
-  pub fed_more : {f : F} {d d' : State F} {unread now left : Option (List ℕ)} {piece : List ℕ} → Fed f d unread now → Consumes now left piece → Feeds step d piece (Ok tt) d' → Fed f d' unread left
-  fed_more {unread = unread} {now = now} {left = left} {piece = piece} h c k = record {
-    input = h.input ++ piece;
-    consumed = consumes_then unread now left h.input piece h.consumed c;
-    fed = feeds_then step h.fed k;
-  }
+pub feeds_text : {F : Type 0} (step : F → List ℕ → Result (Unit {0}) WriteFailed → F → Type 0) {f g : F} {d d' : State F} {text : List ℕ} {r : Result (Unit {0}) (DecodeError WriteFailed)} → d ≡ start f → Feeds step d text r d' → g ≡ d'.closure → FeedsText step f text r g
+feeds_text {F} step {d' = d'} {text} {r} new fed e =
+    let P : State F → Type 0 = λ x. Feeds step x text r d' in
+    record { state = d'; fed = subst P new fed; closure_is = sym e }
 
-  -- a read that took nothing is the end
-  pub feeds_end : {f : F} {d : State F} {unread now left : Option (List ℕ)} (n : ℕ) (buf : List ℕ) → n ≡ 0 → 0 < length buf → Fed f d unread now → Consumes now left (take n buf) × (n ≡ 0 → 0 < length buf → IsAtEnd left) → FeedsAll step f d unread left (Ok tt)
-  feeds_end {unread = unread} {now = now} {left = left} n buf z some h r =
-      let all = consumes_then unread now left h.input (take n buf) h.consumed r.0 in
-      let same : h.input ++ take n buf ≡ h.input = ap (λ k. h.input ++ take k buf) z ∙ append-nil h.input in
-      let P : List ℕ → Type 0 = λ s. Consumes unread left s in
-      record { input = h.input; consumed = subst P same all; is_fed = fed_all h.fed (r.1 z some) }
+-- What a text leaves goes on
 
-  pub feeds_error : {f : F} {d d' : State F} {unread now left : Option (List ℕ)} {piece : List ℕ} {error : DecodeError WriteFailed} {fault : Fault} → Fed f d unread now → Consumes now left piece → length piece ≤ 4096 → Feeds step d piece (Err error) d' → fault ≡ decode_fault error → FeedsAll step f d' unread left (Err fault)
-  feeds_error {f} {d' = d'} {unread} {now} {left} {piece} h c few k e =
-      let P : Fault → Type 0 = λ x. FeedsAll step f d' unread left (Err x) in
-      subst P (sym e) (record {
+-- what a text without a fault leaves, and then a piece
+goes_on : (u piece v : List ℕ) → first_fault u ≡ None → v ≡ left_text (left_symbols u) (left_padding u) ++ piece → GoesOn u piece v
+goes_on u piece v f e = let P : List ℕ → Type 0 = λ s. GoesOn u piece s in subst P (sym e) (two_feeds u piece f)
+
+-- nothing behind it
+ends_with : (u v : List ℕ) → first_fault u ≡ None → v ≡ left_text (left_symbols u) (left_padding u) → GoesOn u [] v
+ends_with u v f e = goes_on u [] v f (e ∙ sym (append-nil _))
+
+-- Parts of a text
+
+groups_bytes : (v w : List ℕ) (end : End) → IsGroups v w end → w ≡ done v
+groups_bytes v w end (sound_groups f) = refl
+groups_bytes v w end (faulty_groups f) = refl
+
+sound_by : (v w : List ℕ) (end : End) → end ≡ Ok tt → IsGroups v w end → (first_fault v ≡ None) × (w ≡ done v)
+sound_by v w end e (sound_groups f) = (f, refl)
+sound_by v w end e (faulty_groups f) = absurd (let k = e in cc)
+
+groups_sound : (v w : List ℕ) (end : End) → end ≡ Ok tt → IsStreamed (IsGroups v) w end → (first_fault v ≡ None) × (w ≡ done v)
+groups_sound v w end e (all_streamed h) = sound_by v w end e h
+groups_sound v w end e (cut_short h b) = absurd (let k = e in cc)
+
+fault_by : (u piece v w : List ℕ) (left : Option (List ℕ)) (fault : Fault) (end : End) → end ≡ Err fault → GoesOn u piece v → IsSoundBeforeLastPiece (u ++ piece) → IsGroups v w end → IsRun (u ++ piece) left base64 (done u ++ w) end
+fault_by u piece v w left fault end e g sound (sound_groups f) = absurd (let k = e in cc)
+fault_by u piece v w left fault end e g sound (faulty_groups f) =
+    let P : List ℕ → Type 0 = λ s. IsRun (u ++ piece) left base64 s (Err (Base64 (kind_of v))) in
+    let Q : _ → Type 0 = λ kind. IsRun (u ++ piece) left base64 (done (u ++ piece)) (Err (Base64 kind)) in
+    subst P g.done_is (subst Q g.kind_is (stopped sound (g.fault_is ∙ f)))
+
+groups_stop : (u piece v w : List ℕ) (left : Option (List ℕ)) (fault : Fault) (end : End) → end ≡ Err fault → GoesOn u piece v → IsSoundBeforeLastPiece (u ++ piece) → IsStreamed (IsGroups v) w end → IsRun (u ++ piece) left base64 (done u ++ w) end
+groups_stop u piece v w left fault end e g sound (all_streamed h) = fault_by u piece v w left fault end e g sound h
+groups_stop u piece v w left fault end e g sound (cut_short {whole = whole} {end = end'} h b) =
+    let P : List ℕ → Type 0 = λ s. IsBeginning (done u ++ w) s in
+    base64_not_written sound (subst P (ap (λ s. done u ++ s) (groups_bytes v whole end' h) ∙ sym g.done_is) (beginning_behind (done u) w whole b))
+
+-- The last part
+
+last_whole : (u v w : List ℕ) (end : End) → GoesOn u [] v → IsLast v w end → IsOutput u base64 (done u ++ w) end
+last_whole u v w end g (last_valid f) =
+    let P : List ℕ → Type 0 = λ s. IsOutput u base64 s (Ok tt) in
+    subst P (ap decoded (sym (append-nil u)) ∙ g.decoded_is) (of_base64 (ap is_valid (sym (append-nil u)) ∙ g.valid_is ∙ f))
+last_whole u v w end g (last_invalid f) =
+    let P : List ℕ → Type 0 = λ s. IsOutput u base64 s (Err (Base64 (kind_of v))) in
+    let Q : _ → Type 0 = λ kind. IsOutput u base64 (done u) (Err (Base64 kind)) in
+    subst P (ap done (sym (append-nil u)) ∙ g.done_is) (subst Q (ap kind_of (sym (append-nil u)) ∙ g.kind_is) (of_no_base64 (ap is_valid (sym (append-nil u)) ∙ g.valid_is ∙ f)))
+
+last_ends : (u v w : List ℕ) (left : Option (List ℕ)) (end : End) → GoesOn u [] v → IsAtEnd left → IsStreamed (IsLast v) w end → IsRun u left base64 (done u ++ w) end
+last_ends u v w left end g over (all_streamed h) = complete over (last_whole u v w end g h)
+last_ends u v w left end g over (cut_short {whole = whole} {end = end'} h b) = not_written over (last_whole u v whole end' g h) (beginning_behind (done u) w whole b)
+
+-- The loop
+
+-- what was read has no fault, its groups were written, and what it leaves is kept
+pub record Reading (unread now held then : Option (List ℕ)) (kept : List ℕ) : Type 0 where
+  pub input : List ℕ
+  pub consumed : Consumes unread now input
+  pub appended : Appends held then (done input)
+  pub no_fault : first_fault input ≡ None
+  pub kept_is : kept ≡ left_text (left_symbols input) (left_padding input)
+
+pub reading_none : (unread held : Option (List ℕ)) → Reading unread unread held held []
+unfolding after_groups done first_fault groups left_padding left_symbols values
+reading_none unread held = record { input = []; consumed = consumes_none unread; appended = appends_none held; no_fault = refl; kept_is = refl }
+
+module _ {unread now left held then later : Option (List ℕ)} {kept : List ℕ} where
+  -- one more piece
+  pub reading_more : {kept' text : List ℕ} (piece : List ℕ) → Reading unread now held then kept → Consumes now left piece → text ≡ kept ++ piece → Streams (IsGroups text) then later (Ok tt) → kept' ≡ left_text (left_symbols text) (left_padding text) → Reading unread left held later kept'
+  reading_more {kept'} {text} piece h c e w k =
+      let g = goes_on h.input piece text h.no_fault (e ∙ ap (λ s. s ++ piece) h.kept_is) in
+      let sound = groups_sound text w.written (Ok tt) refl w.is_streamed in
+      let same : done h.input ++ w.written ≡ done (h.input ++ piece) = ap (λ s. done h.input ++ s) sound.1 ∙ sym g.done_is in
+      let P : List ℕ → Type 0 = λ s. Appends held later s in
+      record {
         input = h.input ++ piece;
         consumed = consumes_then unread now left h.input piece h.consumed c;
-        is_fed = fed_error (feeds_then step h.fed k) (record { earlier = h.input; last = piece; joined = refl; is_sound = (feeds_took step h.fed).1.no_fault; is_piece = few });
-      })
+        appended = subst P same (appends_then held then later (done h.input) w.written h.appended w.appended);
+        no_fault = none_by (first_fault (h.input ++ piece)) (first_fault text) sound.0 g.fault_is;
+        kept_is = k ∙ ap (λ q. left_text q (left_padding text)) (sym g.symbols_left) ∙ ap (λ p. left_text (left_symbols (h.input ++ piece)) p) (sym g.padding_left);
+      }
 
-  pub feeds_not_read : {f : F} {d : State F} {unread now left : Option (List ℕ)} → Fed f d unread now → Keeps now left → FeedsAll step f d unread left (Err Read)
-  feeds_not_read {unread = unread} {now = now} {left = left} h k =
-      record { input = h.input; consumed = consumes_kept unread now left h.input h.consumed k; is_fed = not_fed h.fed }
+  -- a piece with a fault, or whose bytes were not written
+  pub reading_stops : {text : List ℕ} {fault : Fault} (piece : List ℕ) → Reading unread now held then kept → Consumes now left piece → length piece ≤ 4096 → text ≡ kept ++ piece → Streams (IsGroups text) then later (Err fault) → Runs base64 unread left held later (Err fault)
+  reading_stops {text} {fault} piece h c few e w =
+      let g = goes_on h.input piece text h.no_fault (e ∙ ap (λ s. s ++ piece) h.kept_is) in
+      let sound : IsSoundBeforeLastPiece (h.input ++ piece) = record { earlier = h.input; last = piece; joined = refl; is_sound = h.no_fault; is_piece = few } in
+      record {
+        input = h.input ++ piece;
+        written = done h.input ++ w.written;
+        consumed = consumes_then unread now left h.input piece h.consumed c;
+        appended = appends_then held then later (done h.input) w.written h.appended w.appended;
+        is_run = groups_stop h.input piece text w.written left fault (Err fault) refl g sound w.is_streamed;
+      }
 
-  pub feeds_no_end : {f : F} {d : State F} {unread left : Option (List ℕ)} → Fed f d unread left → FeedsAll step f d unread left (Err Read)
-  feeds_no_end h = record { input = h.input; consumed = h.consumed; is_fed = not_fed h.fed }
+  -- the end
+  pub reading_ends : {text : List ℕ} {end : End} (piece : List ℕ) → Reading unread now held then kept → Consumes now left piece → piece ≡ [] → IsAtEnd left → text ≡ kept → Streams (IsLast text) then later end → Runs base64 unread left held later end
+  reading_ends {text} {end} piece h c z over e w =
+      let g = ends_with h.input text h.no_fault (e ∙ h.kept_is) in
+      let all = consumes_then unread now left h.input piece h.consumed c in
+      let same : h.input ++ piece ≡ h.input = ap (λ s. h.input ++ s) z ∙ append-nil h.input in
+      let P : List ℕ → Type 0 = λ s. Consumes unread left s in
+      record {
+        input = h.input;
+        written = done h.input ++ w.written;
+        consumed = subst P same all;
+        appended = appends_then held then later (done h.input) w.written h.appended w.appended;
+        is_run = last_ends h.input text w.written left end g over w.is_streamed;
+      }
 
-  -- The end
+pub reading_fails : {unread now left held then : Option (List ℕ)} {kept : List ℕ} → Reading unread now held then kept → Keeps now left → Runs base64 unread left held then (Err Read)
+reading_fails {unread} {now} {left} h k = record { input = h.input; written = done h.input; consumed = consumes_kept unread now left h.input h.consumed k; appended = h.appended; is_run = base64_not_read h.no_fault }
 
-  fed_whole : (f : F) (input : List ℕ) (d : State F) (left : Option (List ℕ)) (r : End) → r ≡ Ok tt → IsFed step f input d left r → Feeds step (start f) input (Ok tt) d × IsAtEnd left
-  fed_whole f input d left r e (fed_all h end) = (h, end)
-  fed_whole f input d left r e (fed_error h sound) = absurd (let k = e in cc)
-  fed_whole f input d left r e (not_fed h) = absurd (let k = e in cc)
-
-  ended_by : {f g : F} {left : Option (List ℕ)} (input : List ℕ) (r : Result (Unit {0}) (DecodeError WriteFailed)) → Decodes step f input r g → IsAtEnd left → IsDecoded step f input g left (decode_end r)
-  ended_by input (Ok tt) h end = decoded_all h end
-  ended_by input (Err error) h end = end_refused h end
-
-  -- a decoder that begins at f
-  begins_at : {f : F} {d d' : State F} {unread left : Option (List ℕ)} {r : End} → d ≡ start f → FeedsAll step d.closure d' unread left r → FeedsAll step f d' unread left r
-  begins_at {d' = d'} {unread = unread} {left = left} {r = r} e h = let P : F → Type 0 = λ x. FeedsAll step x d' unread left r in subst P (ap (λ (s : State F). s.closure) e) h
-
-  pub decodes_end : {f g : F} {d d' : State F} {unread left : Option (List ℕ)} {r : Result (Unit {0}) (DecodeError WriteFailed)} {end : End} → d ≡ start f → FeedsAll step d.closure d' unread left (Ok tt) → Finishes step d' r g → end ≡ decode_end r → DecodesAll step f g unread left end
-  decodes_end {f} {g} {d} {d'} {unread} {left} {r} new fed k e =
-      let h = begins_at new fed in
-      let w = fed_whole f h.input d' left (Ok tt) refl h.is_fed in
-      let P : End → Type 0 = λ x. DecodesAll step f g unread left x in
-      subst P (sym e) (record { input = h.input; consumed = h.consumed; is_decoded = ended_by h.input r (decodes_finished step refl w.0 k) w.1 })
-
-  stopped_at : (f g : F) (input : List ℕ) (d : State F) (left : Option (List ℕ)) (r : End) (fault : Fault) → r ≡ Err fault → d.closure ≡ g → IsFed step f input d left r → IsDecoded step f input g left r
-  stopped_at f g input d left r fault e k (fed_all h end) = absurd (let x = e in cc)
-  stopped_at f g input d left r fault e k (fed_error h sound) = piece_refused h sound k
-  stopped_at f g input d left r fault e k (not_fed h) = not_decoded h k
-
-  pub decodes_stopped : {f g : F} {d d' : State F} {unread left : Option (List ℕ)} {fault : Fault} → d ≡ start f → FeedsAll step d.closure d' unread left (Err fault) → g ≡ d'.closure → DecodesAll step f g unread left (Err fault)
-  decodes_stopped {f} {g} {d} {d'} {unread} {left} {fault} new fed k =
-      let h = begins_at new fed in
-      record { input = h.input; consumed = h.consumed; is_decoded = stopped_at f g h.input d' left (Err fault) fault refl (sym k) h.is_fed }
+pub reading_too_long : {unread now held then : Option (List ℕ)} {kept : List ℕ} → Reading unread now held then kept → Runs base64 unread now held then (Err Read)
+reading_too_long h = record { input = h.input; written = done h.input; consumed = h.consumed; appended = h.appended; is_run = base64_not_read h.no_fault }

@@ -1,20 +1,17 @@
 -- What the parts of a run do.
 use Rattle.std.specs.Prelude.{◌≡◌, ℕ, List, [], ◌∷◌, ◌++◌, Option, option_map, Result, Ok, Err}
-use Rattle.std.specs.Io.KnownBytes.{Appends, Consumes, IsAtEnd}
-use Rattle.data_url.specs.Decoding.{Decodes, Feeds, State, start}
+use Rattle.std.specs.Io.KnownBytes.{Appends}
 use Rattle.data_url.specs.Fetch.{NoComma as no_comma, NoScheme, staged}
 use Rattle.data_url.specs.Url.{dropped, fragment, in_fragment_set, percent_encoded}
 use Rattle.data_url.specs.UrlSeen.{IsAcceptable, IsUrlOf, fragment_text, url_tail}
 use Rattle.data_url.specs.declared.DataUrl.{DataUrl}
 use Rattle.data_url.specs.declared.FragmentIdentifier.{FragmentIdentifier}
-use Rattle.data_url.specs.declared.forgiving_base64.DecodeError.{DecodeError}
 use Rattle.dataurl.specs.Output.{End}
-use Rattle.dataurl.specs.Runs.{IsSoundBeforeLastPiece}
 use Rattle.dataurl.specs.Writing.{IsBeginning}
-use Rattle.dataurl.specs.Status.{decode_fault}
 use Rattle.dataurl.specs.declared.fault.Fault.{Fault}
-use Rattle.dataurl.specs.declared.fault.Fault.TheVariants.{Memory, NoComma, NotADataUrl, Read, Write}
-use Rattle.dataurl.specs.declared.fault.WriteFailed.{WriteFailed}
+use Rattle.dataurl.specs.declared.fault.Fault.TheVariants.{Memory, NoComma, NotADataUrl, Write}
+pub mod Base64
+pub mod Gathering
 
 -- any answer at all
 abbrev pub AnyAnswer : {A : Type 0} → A → Type 0
@@ -50,26 +47,3 @@ encoded_fragment url = option_map (percent_encoded in_fragment_set) (fragment (d
 -- a fragment, encoded, and a line feed
 abbrev pub fragment_line : FragmentIdentifier → List ℕ
 fragment_line found = percent_encoded in_fragment_set (dropped (fragment_text found)) ++ 10 ∷ []
-
--- a decoder that begins at f was fed what was read: all of it, or up to an error, or to where the reader failed
-pub data IsFed {F : Type 0} (step : F → List ℕ → Result (Unit {0}) WriteFailed → F → Type 0) (f : F) (input : List ℕ) (d : State F) (left : Option (List ℕ)) : End → Type 0 where
-  fed_all : Feeds step (start f) input (Ok tt) d → IsAtEnd left → IsFed step f input d left (Ok tt)
-  fed_error : {error : DecodeError WriteFailed} → Feeds step (start f) input (Err error) d → IsSoundBeforeLastPiece input → IsFed step f input d left (Err (decode_fault error))
-  not_fed : Feeds step (start f) input (Ok tt) d → IsFed step f input d left (Err Read)
-
-pub record FeedsAll {F : Type 0} (step : F → List ℕ → Result (Unit {0}) WriteFailed → F → Type 0) (f : F) (d : State F) (unread left : Option (List ℕ)) (r : End) : Type 0 where
-  pub input : List ℕ
-  pub consumed : Consumes unread left input
-  pub is_fed : IsFed step f input d left r
-
--- a closure was handed what was read, decoded: all of it and its end, or up to an error, or to where the reader failed
-pub data IsDecoded {F : Type 0} (step : F → List ℕ → Result (Unit {0}) WriteFailed → F → Type 0) (f : F) (input : List ℕ) (g : F) (left : Option (List ℕ)) : End → Type 0 where
-  decoded_all : Decodes step f input (Ok tt) g → IsAtEnd left → IsDecoded step f input g left (Ok tt)
-  end_refused : {error : DecodeError WriteFailed} → Decodes step f input (Err error) g → IsAtEnd left → IsDecoded step f input g left (Err (decode_fault error))
-  piece_refused : {error : DecodeError WriteFailed} {d : State F} → Feeds step (start f) input (Err error) d → IsSoundBeforeLastPiece input → d.closure ≡ g → IsDecoded step f input g left (Err (decode_fault error))
-  not_decoded : {d : State F} → Feeds step (start f) input (Ok tt) d → d.closure ≡ g → IsDecoded step f input g left (Err Read)
-
-pub record DecodesAll {F : Type 0} (step : F → List ℕ → Result (Unit {0}) WriteFailed → F → Type 0) (f g : F) (unread left : Option (List ℕ)) (r : End) : Type 0 where
-  pub input : List ℕ
-  pub consumed : Consumes unread left input
-  pub is_decoded : IsDecoded step f input g left r

@@ -1,9 +1,9 @@
 //! Why a command ended early, and what is said of it.
 
 ghost use Rattle.std.specs.Prelude.{◌≡◌};
-ghost use Rattle.dataurl.specs.Status.{decode_end, decode_fault, status_of};
+ghost use Rattle.dataurl.specs.Status.{status_of};
 
-use data_url::forgiving_base64::{DecodeError, InvalidBase64};
+use data_url::forgiving_base64::InvalidBase64;
 use std::io::Write;
 use thiserror::Error;
 
@@ -50,26 +50,6 @@ impl Fault {
                 1,
             Fault::Memory | Fault::Read | Fault::Write => 3,
         }
-    }
-
-    /// The fault of decoding into a writer.
-    pub(crate) fn of_decoding(error: DecodeError<WriteFailed>) -> Fault
-        ensures { result ≡ decode_fault error }
-    {
-        match error {
-            DecodeError::InvalidBase64(refusal) => Fault::Base64(refusal),
-            DecodeError::WriteError(WriteFailed) => Fault::Write,
-        }
-    }
-}
-
-/// The end of a command that decodes into a writer.
-pub(crate) fn end_of(answer: Result<(), DecodeError<WriteFailed>>) -> Result<(), Fault>
-    ensures { result ≡ decode_end answer }
-{
-    match answer {
-        Ok(()) => Ok(()),
-        Err(error) => Err(Fault::of_decoding(error)),
     }
 }
 

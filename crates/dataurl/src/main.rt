@@ -4,6 +4,7 @@
 
 mod command;
 mod fault;
+mod gather;
 mod input;
 mod output;
 mod run;

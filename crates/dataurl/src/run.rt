@@ -7,17 +7,19 @@ ghost use Rattle.data_url.specs.Seen.{seen};
 ghost use Rattle.data_url.specs.UrlSeen.{url_body, url_tail};
 ghost use Rattle.dataurl.specs.Output.{IsBodyOutput, IsFragmentOutput, IsTextOutput, record_line};
 ghost use Rattle.dataurl.specs.Runs.{Runs};
+ghost use Rattle.dataurl.specs.Steps.Gathering.{Streams};
 ghost use Rattle.dataurl.specs.Steps.{AnyAnswer, IsExactly, IsUrlFor, WritesOf, encoded_fragment, fragment_line};
 
 use crate::command::Command;
 use crate::fault::{Fault, WriteFailed};
+use crate::gather::Gathered;
 use crate::input::read_text;
 use crate::output::write_all;
 use crate::stream::write_base64;
 use data_url::forgiving_base64::DecodeError;
 use data_url::mime::{Mime, MimeFromStrError};
 use data_url::{DataUrl, DataUrlError, FragmentIdentifier};
-use std::alloc::{AllocError, Global};
+use std::alloc::Global;
 use std::convert::Infallible;
 use std::io::{Read, Write};
 
@@ -59,30 +61,19 @@ fn write_output<W: Write>(writer: &mut W, bytes: &[u8]) -> Result<(), Fault>
     }
 }
 
-/// Writes the body of a URL, which has at most so many bytes: all of it at once, since it is handed out in small pieces.
-fn write_body_of<W: Write>(
-    alloc: Global,
-    url: &DataUrl,
-    most: usize,
-    writer: &mut W,
-) -> Result<(), Fault>
-    ensures { WritesOf (IsBodyOutput (url_body url.now)) (W.contents writer.old) (W.contents writer.new) result }
+/// Writes the body of a URL as it is decoded. It takes no memory: short pieces are gathered, and long ones are written as
+/// they are.
+fn write_body_of<W: Write>(url: &DataUrl, writer: &mut W) -> Result<(), Fault>
+    ensures { Streams (IsBodyOutput (url_body url.now)) (W.contents writer.old) (W.contents writer.new) result }
 {
-    let Ok(mut bytes) = Vec::with_capacity(alloc, most) else {
-        return Err(Fault::Memory);
-    };
+    let mut gathered = Gathered::new();
     let mut answer = Ok(());
-    hand_out(url, &mut answer, |piece: &[u8]| -> Result<(), AllocError> {
-        bytes.extend_from_slice(piece)
-    });
-    match answer {
-        Ok(()) => write_output(writer, &bytes),
-        Err(DecodeError::InvalidBase64(refusal)) => match write_output(writer, &bytes) {
-            Ok(()) => Err(Fault::Base64(refusal)),
-            Err(fault) => Err(fault),
-        },
-        Err(DecodeError::WriteError(AllocError)) => Err(Fault::Memory),
-    }
+    hand_out(
+        url,
+        &mut answer,
+        |piece: &[u8]| -> Result<(), WriteFailed> { gathered.take(piece, writer) },
+    );
+    gathered.settle(answer, writer)
 }
 
 /// Writes the line of a record.
@@ -129,7 +120,7 @@ fn write_body<W: Write>(alloc: Global, text: &str, writer: &mut W) -> Result<(),
     ensures { WritesOf (IsTextOutput text.now Command.Body) (W.contents writer.old) (W.contents writer.new) result }
 {
     match url_of(alloc, text) {
-        Ok(url) => write_body_of(alloc, &url, text.len(), writer),
+        Ok(url) => write_body_of(&url, writer),
         Err(fault) => Err(fault),
     }
 }

@@ -5,6 +5,7 @@ mod errors;
 mod failing;
 mod mime;
 mod program;
+mod streams;
 mod urls;
 
 use std::alloc::{AllocError, Global};

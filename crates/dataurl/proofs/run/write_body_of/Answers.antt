@@ -1,35 +1,13 @@
-use Rattle.std.proofs.Common.{Err, Ok, ap, rules, ◌∙◌}
-use Rattle.data_url.specs.UrlSeen.{url_body}
-use Rattle.dataurl.specs.Output.{IsBodyOutput}
+use Rattle.std.proofs.Common.{rules}
+use Rattle.dataurl.specs.Steps.Gathering.{Settles, waiting}
 use Rattle.dataurl.specs.contracts.run.fn.write_body_of.hand_out as closure
-use Rattle.dataurl.specs.declared.fault.Fault.TheVariants.{Base64}
-use Rattle.dataurl.proofs.ClosureLemmas.{bad_kept, body_same, good_kept}
-use Rattle.dataurl.proofs.StepLemmas.{writes_as, writes_failing, writes_no_memory, writes_then}
+use Rattle.dataurl.proofs.ClosureLemmas.{body_keeps, body_streams}
 use Rattle.dataurl.proofs.run.write_body_of.Goals as goal
 
-pub returns-in_default : goal.returns-in_default
-returns-in_default g c = writes_no_memory (g.W.Write.contents c.args.writer.now)
-
-pub returns-in-Ok-answer : goal.returns-in-Ok-answer
-returns-in-Ok-answer g c =
-    let same = body_same c.hand_out.ensures (λ f. f.0.ghost_name) (λ f p r f' k. search rules) in
-    let kept = good_kept c.hand_out.ensures c.in-Ok-answer.is (λ f. (closure.captures f).bytes.items) (λ f p f' k. search rules) c.in-Ok.ensures.items in
-    let output : IsBodyOutput (url_body c.args.url.now) c.deref.result.now (Ok tt) = search (rules, same, kept) in
-    writes_as output c.write_output.ensures
-
-pub returns-in-Ok-write_output : goal.returns-in-Ok-write_output
-returns-in-Ok-write_output g c =
-    let same = body_same c.hand_out.ensures (λ f. f.0.ghost_name) (λ f p r f' k. search rules) in
-    let kept = bad_kept c.hand_out.ensures (c.in-Err-InvalidBase64.is ∙ ap (λ x. Err x) c.in-Err-InvalidBase64.field-0-is) (λ f. (closure.captures f).bytes.items) (λ f p f' k. search rules) c.in-Ok.ensures.items in
-    let output : IsBodyOutput (url_body c.args.url.now) c.deref-in-Err-InvalidBase64.result.now (Err (Base64 c.in-Err-InvalidBase64.refusal)) = search (rules, same, kept) in
-    writes_then output c.in-Ok-write_output.ensures
-
-pub returns-in-Err-InvalidBase64 : goal.returns-in-Err-InvalidBase64
-returns-in-Err-InvalidBase64 g c =
-    let same = body_same c.hand_out.ensures (λ f. f.0.ghost_name) (λ f p r f' k. search rules) in
-    let kept = bad_kept c.hand_out.ensures (c.in-Err-InvalidBase64.is ∙ ap (λ x. Err x) c.in-Err-InvalidBase64.field-0-is) (λ f. (closure.captures f).bytes.items) (λ f p f' k. search rules) c.in-Ok.ensures.items in
-    let output : IsBodyOutput (url_body c.args.url.now) c.deref-in-Err-InvalidBase64.result.now (Err (Base64 c.in-Err-InvalidBase64.refusal)) = search (rules, same, kept) in
-    writes_failing (Err (Base64 c.in-Err-InvalidBase64.refusal)) output c.in-Err.ensures
-
 pub returns : goal.returns
-returns g c = writes_no_memory (g.W.Write.contents c.args.writer.now)
+returns g c =
+    let over : closure.Over = record { W = g.row.W; W-Write = g.W.Write; W-Write-dict = g.W.Write-dict } in
+    let array = body_keeps c.hand_out.ensures (λ f. f.0.ghost_name) (λ f p r f' k. search rules) in
+    let writer = body_keeps c.hand_out.ensures (λ f. f.1.ghost_name) (λ f p r f' k. search rules) in
+    let settled : Settles c.hand_out.new.answer (waiting c.hand_out.result.0.now) (g.W.Write.contents c.hand_out.result.1.now) (g.W.Write.contents c.settle.new.writer) c.settle.result = search (rules, array, writer, c.settle.ensures) in
+    body_streams c.hand_out.ensures (λ f. g.W.Write.contents (closure.captures over f).writer.now) (λ f. waiting (closure.captures over f).gathered) (λ f p r f' k. search rules) c.new-gathered.ensures settled

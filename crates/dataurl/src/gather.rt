@@ -1,0 +1,106 @@
+//! Gathers the short pieces of an output, so that they are written together.
+
+ghost use Rattle.std.specs.Prelude.{◌≤◌};
+
+use crate::fault::{Fault, WriteFailed};
+use crate::output::write_all;
+use data_url::forgiving_base64::DecodeError;
+use std::io::Write;
+
+/// The most bytes that wait to be written.
+pub(crate) const ROOM: usize = 4096;
+
+/// The bytes of an output that were gathered and are not written yet.
+#[derive(Drop)]
+pub(crate) struct Gathered {
+    bytes: [u8; ROOM],
+    len: usize,
+    ghost within: { len ≤ 4096 },
+}
+
+impl Gathered {
+    ghost use Rattle.std.specs.Prelude.{◌≡◌, ◌++◌, ◌+◌, [], length};
+    ghost use Rattle.dataurl.specs.Steps.Gathering.{Flushes, Gathers, Settles, waiting};
+    ghost use Rattle.dataurl.specs.Writing.{Writes};
+
+    /// Nothing is gathered yet.
+    pub(crate) fn new() -> Gathered
+        ensures { waiting result ≡ [] }
+    {
+        Gathered {
+            bytes: [0; ROOM],
+            len: 0,
+        }
+    }
+
+    /// Gathers a piece that fits behind what waits.
+    fn push(&mut self, piece: &[u8])
+        requires { self.old.len + length piece.now ≤ 4096 }
+        ensures { waiting self.new ≡ waiting self.old ++ piece.now }
+    {
+        let end = self.len + piece.len();
+        self.bytes[self.len..end].copy_from_slice(piece);
+        self.len = end;
+    }
+
+    /// Writes what waits. A write that fails is not tried again.
+    fn flush<W: Write>(&mut self, writer: &mut W) -> Result<(), WriteFailed>
+        ensures wrote { Writes (waiting self.old) (W.contents writer.old) (W.contents writer.new) result }
+        ensures empty { self.new.len ≡ 0 }
+    {
+        let len = self.len;
+        self.len = 0;
+        write_all(writer, &self.bytes[..len])
+    }
+
+    /// Takes a piece of an output: one that fits is gathered. Before any other is taken, what waits is written, and a
+    /// piece at least as long as the room goes to the writer as it is.
+    pub(crate) fn take<W: Write>(&mut self, piece: &[u8], writer: &mut W) -> Result<(), WriteFailed>
+        ensures { Gathers piece.now (waiting self.old) (waiting self.new) (W.contents writer.old) (W.contents writer.new) result }
+    {
+        if piece.len() <= ROOM - self.len {
+            self.push(piece);
+            return Ok(());
+        }
+        match self.flush(writer) {
+            Ok(()) if piece.len() < ROOM => {
+                self.push(piece);
+                Ok(())
+            }
+            Ok(()) => write_all(writer, piece),
+            Err(failed) => Err(failed),
+        }
+    }
+
+    /// Writes what waits, and then answers the end.
+    fn flush_before<W: Write>(
+        &mut self,
+        end: Result<(), Fault>,
+        writer: &mut W,
+    ) -> Result<(), Fault>
+        ensures { Flushes (waiting self.old) end (W.contents writer.old) (W.contents writer.new) result }
+    {
+        match self.flush(writer) {
+            Ok(()) => end,
+            Err(WriteFailed) => Err(Fault::Write),
+        }
+    }
+
+    /// Ends an output that was decoded with this answer: what waits is written first, and behind a failed write nothing is.
+    pub(crate) fn settle<W: Write>(
+        &mut self,
+        answer: Result<(), DecodeError<WriteFailed>>,
+        writer: &mut W,
+    ) -> Result<(), Fault>
+        ensures { Settles answer (waiting self.old) (W.contents writer.old) (W.contents writer.new) result }
+    {
+        match answer {
+            Ok(()) => self.flush_before(Ok(()), writer),
+            Err(DecodeError::InvalidBase64(refusal)) => {
+                let end = Err(Fault::Base64(refusal));
+                self.flush_before(end, writer)
+            }
+            Err(DecodeError::WriteError(WriteFailed)) => Err(Fault::Write),
+        }
+    }
+}
