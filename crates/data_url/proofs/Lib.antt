@@ -1,6 +1,7 @@
 pub mod AlphabetLemmas
 pub mod Base64BodyLemmas
 mod Base64Examples
+pub mod BlockLemmas
 pub mod BodyLemmas
 pub mod BodyVecLemmas
 pub mod ByteLemmas
@@ -10,12 +11,15 @@ pub mod DecodeLemmas
 pub mod DecoderLemmas
 pub mod FaultLemmas
 pub mod FeedLemmas
+pub mod FillLemmas
 pub mod FragmentAgainLemmas
 pub mod FragmentLemmas
 pub mod HeadLemmas
 pub mod HeaderLemmas
+pub mod HoldLemmas
 pub mod ItemLemmas
 pub mod KeptLemmas
+pub mod LaneLemmas
 pub mod MediaLemmas
 mod MimeExamples
 pub mod OnLiterals

@@ -1,4 +1,8 @@
 -- What the private steps of the library do.
+pub mod Blocks
+pub mod HeldState
+pub mod Holding
+pub mod Lanes
 use Rattle.std.specs.Prelude.{◌≡◌, ℕ, List, MatchResult, Result, Ok, Err, is_err}
 use Rattle.data_url.specs.Decoding.{State}
 use Rattle.data_url.specs.declared.forgiving_base64.DecodeError.{DecodeError}
