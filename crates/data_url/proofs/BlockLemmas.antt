@@ -1,119 +1,363 @@
--- Blocks of a text: their marks, and stretches that are copied into a room.
-use Rattle.std.proofs.Common.{◌≡◌, ℕ, zero, suc, ◌+◌, ◌*◌, ◌-◌, ◌/◌, ◌^◌, ◌<◌, ◌≤◌, Bool, true, false, cond, List, [], ◌∷◌, ◌++◌, length, take, drop, get_or, map, min, replicate, refl, sym, ap, ◌∙◌, subst, append_assoc, arith, length-append}
-use Rattle.std.specs.Prelude.{slice_range}
-use Rattle.std.specs.Simd.Lanes.{chunk, mask_l, put_chunk}
-use Rattle.std.proofs.lemmas.List.{append-nil, length-drop, length-map, drop-replicate, length-take-le, map-append, take_rest, take-append-le, take-take, take_all, drop-map, drop-drop}
-use Rattle.std.proofs.Math.Nat.{div-div-eq-div-mul, mul_comm, pow-suc}
-use Rattle.std.proofs.lemmas.Simd.{put_chunk_whole}
-use borrow.Rule.Slice.PartMut.{mid_of, post_of, put_mid}
-use Rattle.data_url.specs.Steps.Window.{is_marked}
+-- Blocks of four rows.
+use Rattle.std.proofs.Common.{◌≡◌, ℕ, suc, zero, ◌+◌, ◌-◌, ◌*◌, ◌%◌, ◌^◌, ◌<◌, ◌≤◌, Bool, true, false, not, ◌&&◌, cond, eqb, ltb, List, [], ◌∷◌, ◌++◌, map, length, get_or, take, drop, Fits, bit_or, refl, sym, ap, ap₂, ◌∙◌, subst, inl, inr, arith, append_assoc, length-append, length-take-le, length-drop, take-add, ltb-true, w8}
+use Rattle.std.specs.List.{list_all, prefix_len, range_with_len}
+use Rattle.std.proofs.lemmas.Bool.{agree_below_at, cases_eq, cases_lt, eq-eqb, le-ltb, lt-ltb, ne_eqb}
+use Rattle.std.proofs.lemmas.List.{get_or-append_right, get_or-drop, get_or-take, get_or_append_left, length-map, map-append, take_all}
+use Rattle.std.proofs.lemmas.List.Folds.{list_all-append}
+use Rattle.std.proofs.lemmas.Nat.{and_le_l, and_le_r, or_lt}
+use Rattle.std.proofs.lemmas.Simd.{bitmask_splat, chunk-fits, leading_from_mask_l, length-zip2, map-map, mask_l-lt, pick_l_whole, trailing_mask_l}
+use Rattle.std.proofs.Math.Nat.{pow-succ'}
+use lib.Bits.{or_add_and}
+use lib.Count.{count_trailing_zeros}
+use lib.Lanes.{Each1, mask_l, pick_l, sel_l, top, zip2}
+use Rattle.data_url.specs.Base64.{after_groups, groups, is_symbol}
+use Rattle.data_url.specs.Steps.Blocks.{without}
+use Rattle.data_url.specs.Steps.Lanes.{mark_of, value_of}
+use Rattle.data_url.proofs.LaneLemmas.{chosen, mark_is, row}
+use Rattle.data_url.proofs.SignLemmas.{groups-append, length-after_groups}
 
--- a list taken past its first part
-pub take_past : (p q : List ℕ) (n m : ℕ) → length p ≡ n → take (n + m) (p ++ q) ≡ p ++ take m q
-take_past [] q n m e = let z : n + m ≡ m = let l : 0 ≡ n = e in omega arith in ap (λ k. take k q) z
-take_past (x ∷ p) q n m e =
-    let l : n ≡ suc (length p) = sym e in
-    let z : n + m ≡ suc (length p + m) = omega arith in
-    ap (λ k. take k (x ∷ (p ++ q))) z ∙ ap (λ t. x ∷ t) (take_past p q (length p) m refl)
+-- What is no symbol
 
--- a stretch of which a whole block was copied
-pub copied : (room text mid post block : List ℕ) (len width start : ℕ) → len ≤ length room → width ≤ 64 → start + 64 ≤ length text → length mid ≡ 64 → block ≡ take 64 (drop start text)
-    → take (len + width) (take len room ++ (put_chunk 0 mid block ++ post)) ≡ take len room ++ slice_range text start (start + width)
-copied room text mid post block len width start l w h m b =
-    let d = length-drop start text in
-    let long : length (take 64 (drop start text)) ≡ 64 = length-take-le 64 (drop start text) (omega arith) in
-    let size : length block ≡ 64 = ap length b ∙ long in
-    let whole : put_chunk 0 mid block ≡ block = put_chunk_whole mid block (m ∙ sym size) in
-    let n : start + width - start ≡ width = omega arith in
-    take_past (take len room) (put_chunk 0 mid block ++ post) len width (length-take-le len room l)
-    ∙ ap (λ s. take len room ++ s)
-    (take-append-le width (put_chunk 0 mid block) post (let e = ap length whole in omega arith)
-    ∙ ap (take width) (whole ∙ b)
-    ∙ take-take width 64 (drop start text) w
-    ∙ ap (λ k. take k (drop start text)) (sym n))
+pub map_agree : {A : Type 0} (f g : ℕ → A) → ((b : ℕ) → b < 256 → f b ≡ g b) → (v : List ℕ) → Each1 (Fits w8) v → map f v ≡ map g v
+map_agree f g h [] fits = refl
+map_agree f g h (b ∷ v) fits = ap₂ (λ x (y : List _). x ∷ y) (h b fits.0.fits) (map_agree f g h v fits.1)
 
-pub copied_wide : (room bytes text : List ℕ) (len width start : ℕ) → length room ≡ 256 → len + 64 ≤ 256 → width ≤ 64 → start + 64 ≤ length text → bytes ≡ text
-    → take (len + width) (put_mid len (len + 64 - len) room (put_chunk 0 (mid_of len (len + 64 - len) room) (chunk 0 64 (take (start + 64 - start) (drop start bytes))))) ≡ take len room ++ slice_range text start (start + width)
-copied_wide room bytes text len width start long l w h e =
-    let n : len + 64 - len ≡ 64 = omega arith in
-    let k : start + 64 - start ≡ 64 = omega arith in
-    let d = length-drop len room in
-    let mid : length (mid_of len (len + 64 - len) room) ≡ 64 = length-take-le (len + 64 - len) (drop len room) (omega arith) ∙ n in
-    let block : chunk 0 64 (take (start + 64 - start) (drop start bytes)) ≡ take 64 (drop start text) =
-    ap (λ i. take 64 (take i (drop start bytes))) k ∙ take-take 64 64 (drop start bytes) (omega arith) ∙ ap (λ s. take 64 (drop start s)) e in
-    copied room text (mid_of len (len + 64 - len) room) (post_of len (len + 64 - len) room) (chunk 0 64 (take (start + 64 - start) (drop start bytes))) len width start (omega arith) w h mid block
+abbrev pub differs : ℕ → ℕ → Bool
+differs a b = not (eqb a b)
 
--- marks behind the text's end are none
-no_marks : (k : ℕ) → mask_l (map is_marked (replicate k 0)) ≡ 0
-no_marks zero = refl
-no_marks (suc k) = let e = no_marks k in omega arith
+abbrev pub is_other : ℕ → Bool
+is_other b = not (is_symbol b)
 
-pub marks_padded : (xs : List ℕ) (k : ℕ) → mask_l (map is_marked (xs ++ replicate k 0)) ≡ mask_l (map is_marked xs)
-marks_padded [] k = no_marks k
-marks_padded (x ∷ xs) k = ap (λ m. cond (is_marked x) 1 0 + 2 * m) (marks_padded xs k)
+pub others_is : (v marks : List ℕ) → length v ≡ 16 → Each1 (Fits w8) v → marks ≡ map mark_of v
+    → mask_l (map (top 7) (zip2 (λ a b. cond (differs a b) 255 0) marks (0 ∷ 0 ∷ 0 ∷ 0 ∷ 0 ∷ 0 ∷ 0 ∷ 0 ∷ 0 ∷ 0 ∷ 0 ∷ 0 ∷ 0 ∷ 0 ∷ 0 ∷ 0 ∷ []))) % 2 ^ 64 ≡ mask_l (map is_other v)
+others_is v marks long fits e =
+    bitmask_splat w8 differs marks 16 0 (ap length e ∙ length-map v mark_of ∙ long) (omega arith)
+    ∙ ap (λ l. mask_l (map (λ x. differs x 0) l)) e
+    ∙ ap mask_l (map-map (λ x. differs x 0) mark_of v)
+    ∙ ap mask_l (map_agree (λ x. differs (mark_of x) 0) is_other mark_is v fits)
 
-pub marks_of_rest : (rest new zeros : List ℕ) (r k : ℕ) → new ≡ rest → zeros ≡ replicate 64 0 → k ≡ length rest → r ≡ mask_l (map is_marked (put_mid 0 k zeros new)) → r ≡ mask_l (map is_marked rest)
-marks_of_rest rest new zeros r k e z l h =
-    let tail : drop k zeros ≡ replicate (64 - k) 0 = ap (drop k) z ∙ drop-replicate k 64 0 in
-    h
-    ∙ ap (λ s. mask_l (map is_marked (s ++ drop k zeros))) e
-    ∙ ap (λ s. mask_l (map is_marked (rest ++ s))) tail
-    ∙ marks_padded rest (64 - k)
+-- Rows of a text
 
--- of the whole block that a text has left
-pub marks_whole : (text bytes : List ℕ) (place r : ℕ) → bytes ≡ text → 64 ≤ length (take (length bytes - place) (drop place bytes)) → r ≡ mask_l (map is_marked (chunk 0 64 (take (64 - 0) (drop 0 (take (length bytes - place) (drop place bytes))))))
-    → r ≡ mask_l (map is_marked (slice_range text place (min (place + 64) (length text))))
-marks_whole text bytes place r e long h =
-    let all : take (length bytes - place) (drop place bytes) ≡ drop place text = take_rest bytes place ∙ ap (drop place) e in
-    let n = ap length all in
-    let d = length-drop place text in
-    let k : 64 ≡ min (place + 64) (length text) - place = omega arith in
-    h
-    ∙ ap (λ s. mask_l (map is_marked (take 64 (take 64 s)))) all
-    ∙ ap (λ s. mask_l (map is_marked s)) (take-take 64 64 (drop place text) (omega arith))
-    ∙ ap (λ i. mask_l (map is_marked (take i (drop place text)))) k
+pub row_length : (text : List ℕ) (at : ℕ) → at + 16 ≤ length text → length (take 16 (drop at text)) ≡ 16
+row_length text at h = length-take-le 16 (drop at text) (omega (arith, length-drop at text))
 
--- of the part of one
-pub marks_part : (text bytes : List ℕ) (place r : ℕ) → bytes ≡ text → length (take (length bytes - place) (drop place bytes)) < 64 → place ≤ length text → r ≡ mask_l (map is_marked (take (length bytes - place) (drop place bytes)))
-    → r ≡ mask_l (map is_marked (slice_range text place (min (place + 64) (length text))))
-marks_part text bytes place r e short within h =
-    let all : take (length bytes - place) (drop place bytes) ≡ drop place text = take_rest bytes place ∙ ap (drop place) e in
-    let n = ap length all in
-    let d = length-drop place text in
-    let k : length text - place ≡ min (place + 64) (length text) - place = omega arith in
-    h
-    ∙ ap (λ s. mask_l (map is_marked s)) (all ∙ sym (take_rest text place))
-    ∙ ap (λ i. mask_l (map is_marked (take i (drop place text)))) k
+pub split_block : (text : List ℕ) → take 64 text ≡ take 16 (drop 0 text) ++ (take 16 (drop 16 text) ++ (take 16 (drop 32 text) ++ take 16 (drop 48 text)))
+split_block text = take-add 48 16 text ∙ ap (λ x. x ++ take 16 (drop 48 text)) (take-add 32 16 text) ∙ ap (λ x. (x ++ take 16 (drop 32 text)) ++ take 16 (drop 48 text)) (take-add 16 16 text)
+    ∙ append_assoc (take 16 text ++ take 16 (drop 16 text)) (take 16 (drop 32 text)) (take 16 (drop 48 text))
+    ∙ append_assoc (take 16 text) (take 16 (drop 16 text)) (take 16 (drop 32 text) ++ take 16 (drop 48 text))
 
--- a shifted mask is the mask of what is left
-mask_half : (b : Bool) (bs : List Bool) → mask_l (b ∷ bs) / 2 ≡ mask_l bs
-mask_half true bs = omega arith
-mask_half false bs = omega arith
+-- The mask of four rows
 
-pub mask_later : (bs : List Bool) (k : ℕ) → mask_l bs / 2 ^ k ≡ mask_l (drop k bs)
-mask_later bs zero = omega arith
-mask_later [] (suc k) = omega arith
-mask_later (b ∷ bs) (suc k) =
-    let p : 2 ^ suc k ≡ 2 * 2 ^ k = pow-suc 2 k ∙ mul_comm (2 ^ k) 2 in
-    ap (λ n. mask_l (b ∷ bs) / n) p ∙ sym (div-div-eq-div-mul (mask_l (b ∷ bs)) 2 (2 ^ k)) ∙ ap (λ n. n / 2 ^ k) (mask_half b bs) ∙ mask_later bs k
+pow_more : (n m : ℕ) → 2 ^ suc n * m ≡ 2 * (2 ^ n * m)
+pow_more n m = rw (pow-succ' 2 n) (omega arith)
 
-pub take_none : (k : ℕ) → ◌≡◌ {A = List ℕ} [] (take k [])
-take_none zero = refl
-take_none (suc k) = refl
+mask_l-append : (a b : List Bool) → mask_l (a ++ b) ≡ mask_l a + 2 ^ length a * mask_l b
+mask_l-append [] b = omega arith
+mask_l-append (x ∷ a) b = omega (arith, mask_l-append a b, pow_more (length a) (mask_l b))
 
-drop_taken : (k n : ℕ) (xs : List ℕ) → drop k (take n xs) ≡ take (n - k) (drop k xs)
-drop_taken zero n xs = let e : n - zero ≡ n = omega arith in ap (λ i. take i xs) (sym e)
-drop_taken (suc k) zero xs = let e : zero - suc k ≡ zero = omega arith in ap (λ i. take i (drop (suc k) xs)) (sym e)
-drop_taken (suc k) (suc n) [] = take_none (suc n - suc k)
-drop_taken (suc k) (suc n) (x ∷ xs) = let e : suc n - suc k ≡ n - k = omega arith in drop_taken k n xs ∙ ap (λ i. take i (drop k xs)) (sym e)
+abbrev pub others_mask : List ℕ → ℕ
+others_mask v = mask_l (map is_other v)
 
--- the marks of what is left of a block
-pub marks_later : (text : List ℕ) (base seen place : ℕ) → base ≤ place → place ≤ seen → mask_l (map is_marked (slice_range text base seen)) / 2 ^ (place - base) ≡ mask_l (map is_marked (slice_range text place seen))
-marks_later text base seen place l h =
-    let k : base + (place - base) ≡ place = omega arith in
-    let n : seen - base - (place - base) ≡ seen - place = omega arith in
-    mask_later (map is_marked (slice_range text base seen)) (place - base)
-    ∙ ap mask_l (drop-map is_marked (place - base) (slice_range text base seen)
-    ∙ ap (map is_marked) (drop_taken (place - base) (seen - base) (drop base text)
-    ∙ ap (take (seen - base - (place - base))) (drop-drop (place - base) base text ∙ ap (λ i. drop i text) k)
-    ∙ ap (λ i. take i (drop place text)) n))
+pub mask_lt : (v : List ℕ) → length v ≡ 16 → others_mask v < 65536
+mask_lt v long = let P : ℕ → Type 0 = λ n. others_mask v < 2 ^ n in subst P (length-map v is_other ∙ long) (mask_l-lt (map is_other v))
+
+mask_more : (a b : List ℕ) → length a ≡ 16 → others_mask (a ++ b) ≡ others_mask a + 65536 * others_mask b
+mask_more a b long =
+    ap mask_l (map-append is_other a b)
+    ∙ mask_l-append (map is_other a) (map is_other b)
+    ∙ ap (λ n. others_mask a + 2 ^ n * others_mask b) (length-map a is_other ∙ long)
+
+-- the four masks, put together
+abbrev pub four_masks : ℕ → ℕ → ℕ → ℕ → ℕ
+four_masks x y z w = (x + y * 65536 % 18446744073709551616) + (z + w * 65536 % 18446744073709551616) * 4294967296 % 18446744073709551616
+
+masks_sum : (x y z w : ℕ) → x < 65536 → y < 65536 → z < 65536 → w < 65536 → four_masks x y z w ≡ x + 65536 * (y + 65536 * (z + 65536 * w))
+masks_sum x y z w p q r s = omega arith
+
+pub masks_are : (a b c d : List ℕ) → length a ≡ 16 → length b ≡ 16 → length c ≡ 16 → length d ≡ 16
+    → four_masks (others_mask a) (others_mask b) (others_mask c) (others_mask d) ≡ others_mask (a ++ (b ++ (c ++ d)))
+masks_are a b c d p q r s =
+    masks_sum (others_mask a) (others_mask b) (others_mask c) (others_mask d) (mask_lt a p) (mask_lt b q) (mask_lt c r) (mask_lt d s)
+    ∙ sym (mask_more a (b ++ (c ++ d)) p
+    ∙ ap (λ m. others_mask a + 65536 * m) (mask_more b (c ++ d) q ∙ ap (λ m. others_mask b + 65536 * m) (mask_more c d r)))
+
+pub block_mask : (text r1 r2 r3 r4 : List ℕ) (m1 m2 m3 m4 : ℕ) → 64 ≤ length text
+    → r1 ≡ take 16 (drop 0 text) → r2 ≡ take 16 (drop 16 text) → r3 ≡ take 16 (drop 32 text) → r4 ≡ take 16 (drop 48 text)
+    → m1 ≡ others_mask r1 → m2 ≡ others_mask r2 → m3 ≡ others_mask r3 → m4 ≡ others_mask r4
+    → four_masks m1 m2 m3 m4 ≡ others_mask (take 64 text)
+block_mask text r1 r2 r3 r4 m1 m2 m3 m4 long a b c d p q r s =
+    let first = p ∙ ap others_mask a in
+    let second = q ∙ ap others_mask b in
+    let third = r ∙ ap others_mask c in
+    let fourth = s ∙ ap others_mask d in
+    ap₂ (λ x y. four_masks x y m3 m4) first second
+    ∙ ap₂ (λ x y. four_masks (others_mask (take 16 (drop 0 text))) (others_mask (take 16 (drop 16 text))) x y) third fourth
+    ∙ masks_are (take 16 (drop 0 text)) (take 16 (drop 16 text)) (take 16 (drop 32 text)) (take 16 (drop 48 text))
+    (row_length text 0 (omega arith)) (row_length text 16 (omega arith)) (row_length text 32 (omega arith)) (row_length text 48 (omega arith))
+    ∙ ap others_mask (sym (split_block text))
+
+not_not : (b : Bool) → not (not b) ≡ b
+not_not true = refl
+not_not false = refl
+
+prefix_not_not : (p : ℕ → Bool) (xs : List ℕ) → prefix_len (λ x. not (not (p x))) xs ≡ prefix_len p xs
+prefix_not_not p [] = refl
+prefix_not_not p (x ∷ xs) = ap₂ (λ t n. cond t (1 + n) 0) (not_not (p x)) (prefix_not_not p xs)
+
+pub none_ahead : (v : List ℕ) → length v ≡ 64 → others_mask v ≡ 0 → 64 ≡ prefix_len is_symbol v
+none_ahead v long e = sym long ∙ sym (leading_from_mask_l is_other v e) ∙ prefix_not_not is_symbol v
+
+pub first_ahead : (v : List ℕ) → length v ≡ 64 → 0 < others_mask v → count_trailing_zeros 64 (others_mask v) ≡ prefix_len is_symbol v
+first_ahead v long h = trailing_mask_l is_other 64 v (omega arith) h ∙ prefix_not_not is_symbol v
+
+-- No mark in four rows
+
+abbrev unmarked : ℕ → Bool
+unmarked m = eqb m 0
+
+unmarked_mask : (xs : List ℕ) → eqb (mask_l (map (λ m. differs m 0) xs)) 0 ≡ list_all unmarked xs
+unmarked_mask [] = refl
+unmarked_mask (x ∷ xs) =
+    elim (eqb x 0) as (λ t. eqb (cond (not t) 1 0 + 2 * mask_l (map (λ m. differs m 0) xs)) 0 ≡ (t && list_all unmarked xs)) [
+      | true ↦ half (mask_l (map (λ m. differs m 0) xs)) ∙ unmarked_mask xs
+      | false ↦ odd (mask_l (map (λ m. differs m 0) xs))
+    ]
+  where
+    half : (n : ℕ) → eqb (0 + 2 * n) 0 ≡ eqb n 0
+    half n = elim (cases_eq n 0) [ inl e ↦ eq-eqb (0 + 2 * n) 0 (omega arith) ∙ sym (eq-eqb n 0 e) | inr e ↦ ne_eqb (0 + 2 * n) 0 (λ f. e (omega arith)) ∙ sym (ne_eqb n 0 e) ]
+
+    odd : (n : ℕ) → eqb (1 + 2 * n) 0 ≡ false
+    odd n = ne_eqb (1 + 2 * n) 0 (λ e. omega arith)
+
+or_unmarked : (x y : ℕ) → x < 256 → y < 256 → unmarked (bit_or x y) ≡ (unmarked x && unmarked y)
+or_unmarked x y a b =
+    elim (cases_eq x 0) [
+      | inl p ↦ elim (cases_eq y 0) [
+        | inl q ↦ eq-eqb (bit_or x y) 0 (omega (arith, or_add_and x y)) ∙ sym (ap₂ (λ s t. s && t) (eq-eqb x 0 p) (eq-eqb y 0 q))
+        | inr q ↦ ne_eqb (bit_or x y) 0 (λ e. q (omega (arith, or_add_and x y, and_le_l x y, and_le_r x y))) ∙ sym (ap₂ (λ s t. s && t) (eq-eqb x 0 p) (ne_eqb y 0 q))
+      ]
+      | inr p ↦ ne_eqb (bit_or x y) 0 (λ e. p (omega (arith, or_add_and x y, and_le_l x y, and_le_r x y))) ∙ sym (ap (λ s. s && unmarked y) (ne_eqb x 0 p))
+    ]
+
+regroup : (p q r s : Bool) → ((p && q) && (r && s)) ≡ ((p && r) && (q && s))
+regroup true true r s = refl
+regroup true false true s = refl
+regroup true false false s = refl
+regroup false q r s = refl
+
+unmarked_or : (xs ys : List ℕ) → length xs ≡ length ys → Each1 (λ x. x < 256) xs → Each1 (λ x. x < 256) ys → list_all unmarked (zip2 bit_or xs ys) ≡ (list_all unmarked xs && list_all unmarked ys)
+unmarked_or [] [] e f g = refl
+unmarked_or [] (y ∷ ys) e f g = absurd (omega arith)
+unmarked_or (x ∷ xs) [] e f g = absurd (omega arith)
+unmarked_or (x ∷ xs) (y ∷ ys) e f g =
+    ap₂ (λ s t. s && t) (or_unmarked x y f.0 g.0) (unmarked_or xs ys (omega arith) f.1 g.1)
+    ∙ regroup (unmarked x) (unmarked y) (list_all unmarked xs) (list_all unmarked ys)
+
+-- Groups of rows
+
+pub groups_whole : (x y : List ℕ) → length x % 4 ≡ 0 → groups (x ++ y) ≡ groups x ++ groups y
+groups_whole x y h = groups-append x y ∙ ap (λ z. groups x ++ groups (z ++ y)) (nothing (after_groups x) (length-after_groups x ∙ h))
+  where
+    nothing : (l : List ℕ) → length l ≡ 0 → l ≡ []
+    nothing [] e = refl
+    nothing (b ∷ l) e = absurd (omega arith)
+
+-- A whole block
+
+mark_lt : (b : ℕ) → b < 256 → mark_of b < 256
+mark_lt b l = ltb-true (mark_of b) 256 (agree_below_at (λ b. ltb (mark_of b) 256) (λ b. true) 256 b refl l)
+
+marks_lt : (v : List ℕ) → Each1 (Fits w8) v → Each1 (λ x. x < 256) (map mark_of v)
+marks_lt [] h = tt
+marks_lt (b ∷ v) h = (mark_lt b h.0.fits, marks_lt v h.1)
+
+all_unmarked : (v : List ℕ) → Each1 (Fits w8) v → list_all unmarked (map mark_of v) ≡ list_all is_symbol v
+all_unmarked [] h = refl
+all_unmarked (b ∷ v) h = ap₂ (λ s t. s && t) (agree_below_at (λ b. unmarked (mark_of b)) is_symbol 256 b refl h.0.fits) (all_unmarked v h.1)
+
+and_assoc : (p q r : Bool) → ((p && q) && r) ≡ (p && (q && r))
+and_assoc true q r = refl
+and_assoc false q r = refl
+
+zip_lt : (xs ys : List ℕ) → length xs ≡ length ys → Each1 (λ x. x < 256) xs → Each1 (λ x. x < 256) ys → Each1 (λ x. x < 256) (zip2 bit_or xs ys)
+zip_lt [] [] e f g = tt
+zip_lt [] (y ∷ ys) e f g = tt
+zip_lt (x ∷ xs) [] e f g = tt
+zip_lt (x ∷ xs) (y ∷ ys) e f g = (or_lt 8 x y f.0 g.0, zip_lt xs ys (omega arith) f.1 g.1)
+
+abbrev zeros : List ℕ
+zeros = 0 ∷ 0 ∷ 0 ∷ 0 ∷ 0 ∷ 0 ∷ 0 ∷ 0 ∷ 0 ∷ 0 ∷ 0 ∷ 0 ∷ 0 ∷ 0 ∷ 0 ∷ 0 ∷ []
+
+abbrev pub all_marks : List ℕ → List ℕ → List ℕ → List ℕ → List ℕ
+all_marks a b c d = zip2 bit_or (zip2 bit_or a b) (zip2 bit_or c d)
+
+marks_whole : (r0 r1 r2 r3 : List ℕ) → length r0 ≡ 16 → length r1 ≡ 16 → length r2 ≡ 16 → length r3 ≡ 16
+    → Each1 (Fits w8) r0 → Each1 (Fits w8) r1 → Each1 (Fits w8) r2 → Each1 (Fits w8) r3
+    → list_all unmarked (all_marks (map mark_of r0) (map mark_of r1) (map mark_of r2) (map mark_of r3)) ≡ list_all is_symbol (r0 ++ (r1 ++ (r2 ++ r3)))
+marks_whole r0 r1 r2 r3 l0 l1 l2 l3 f0 f1 f2 f3 =
+    let e0 = length-map r0 mark_of ∙ l0 in
+    let e1 = length-map r1 mark_of ∙ l1 in
+    let e2 = length-map r2 mark_of ∙ l2 in
+    let e3 = length-map r3 mark_of ∙ l3 in
+    let u = map mark_of r0 in
+    let v = map mark_of r1 in
+    let x = map mark_of r2 in
+    let y = map mark_of r3 in
+    let lu = length-zip2 bit_or u v (e0 ∙ sym e1) ∙ e0 in
+    let lx = length-zip2 bit_or x y (e2 ∙ sym e3) ∙ e2 in
+    unmarked_or (zip2 bit_or u v) (zip2 bit_or x y) (lu ∙ sym lx) (zip_lt u v (e0 ∙ sym e1) (marks_lt r0 f0) (marks_lt r1 f1)) (zip_lt x y (e2 ∙ sym e3) (marks_lt r2 f2) (marks_lt r3 f3))
+    ∙ ap₂ (λ s t. s && t)
+    (unmarked_or u v (e0 ∙ sym e1) (marks_lt r0 f0) (marks_lt r1 f1) ∙ ap₂ (λ s t. s && t) (all_unmarked r0 f0) (all_unmarked r1 f1))
+    (unmarked_or x y (e2 ∙ sym e3) (marks_lt r2 f2) (marks_lt r3 f3) ∙ ap₂ (λ s t. s && t) (all_unmarked r2 f2) (all_unmarked r3 f3))
+    ∙ and_assoc (list_all is_symbol r0) (list_all is_symbol r1) (list_all is_symbol r2 && list_all is_symbol r3)
+    ∙ sym (list_all-append is_symbol r0 (r1 ++ (r2 ++ r3))
+    ∙ ap (λ t. list_all is_symbol r0 && t) (list_all-append is_symbol r1 (r2 ++ r3) ∙ ap (λ t. list_all is_symbol r1 && t) (list_all-append is_symbol r2 r3)))
+
+pub whole_is : (text m0 m1 m2 m3 r0 r1 r2 r3 : List ℕ) → 64 ≤ length text → ((i : ℕ) → Fits w8 (get_or text i 0))
+    → r0 ≡ take 16 (drop 0 text) → r1 ≡ take 16 (drop 16 text) → r2 ≡ take 16 (drop 32 text) → r3 ≡ take 16 (drop 48 text)
+    → m0 ≡ map mark_of r0 → m1 ≡ map mark_of r1 → m2 ≡ map mark_of r2 → m3 ≡ map mark_of r3
+    → eqb (mask_l (map (top 7) (zip2 (λ a b. cond (differs a b) 255 0) (all_marks m0 m1 m2 m3) zeros)) % 2 ^ 64) 0 ≡ list_all is_symbol (take 64 text)
+whole_is text m0 m1 m2 m3 r0 r1 r2 r3 long fits a b c d p q r s =
+    let e0 : m0 ≡ map mark_of (take 16 (drop 0 text)) = p ∙ ap (map mark_of) a in
+    let e1 : m1 ≡ map mark_of (take 16 (drop 16 text)) = q ∙ ap (map mark_of) b in
+    let e2 : m2 ≡ map mark_of (take 16 (drop 32 text)) = r ∙ ap (map mark_of) c in
+    let e3 : m3 ≡ map mark_of (take 16 (drop 48 text)) = s ∙ ap (map mark_of) d in
+    let same = ap₂ (zip2 bit_or) (ap₂ (zip2 bit_or) e0 e1) (ap₂ (zip2 bit_or) e2 e3) in
+    let l0 = row_length text 0 (omega arith) in
+    let l1 = row_length text 16 (omega arith) in
+    let l2 = row_length text 32 (omega arith) in
+    let l3 = row_length text 48 (omega arith) in
+    let n0 = length-map (take 16 (drop 0 text)) mark_of ∙ l0 in
+    let n1 = length-map (take 16 (drop 16 text)) mark_of ∙ l1 in
+    let n2 = length-map (take 16 (drop 32 text)) mark_of ∙ l2 in
+    let n3 = length-map (take 16 (drop 48 text)) mark_of ∙ l3 in
+    let u = map mark_of (take 16 (drop 0 text)) in
+    let v = map mark_of (take 16 (drop 16 text)) in
+    let x = map mark_of (take 16 (drop 32 text)) in
+    let y = map mark_of (take 16 (drop 48 text)) in
+    let lu = length-zip2 bit_or u v (n0 ∙ sym n1) ∙ n0 in
+    let lx = length-zip2 bit_or x y (n2 ∙ sym n3) ∙ n2 in
+    let ln = length-zip2 bit_or (zip2 bit_or u v) (zip2 bit_or x y) (lu ∙ sym lx) ∙ lu in
+    ap (λ l. eqb (mask_l (map (top 7) (zip2 (λ a b. cond (differs a b) 255 0) l zeros)) % 2 ^ 64) 0) same
+    ∙ ap (λ n. eqb n 0) (bitmask_splat w8 differs (all_marks u v x y) 16 0 ln (omega arith))
+    ∙ unmarked_mask (all_marks u v x y)
+    ∙ marks_whole (take 16 (drop 0 text)) (take 16 (drop 16 text)) (take 16 (drop 32 text)) (take 16 (drop 48 text)) l0 l1 l2 l3
+    (chunk-fits w8 0 16 text fits) (chunk-fits w8 16 16 text fits) (chunk-fits w8 32 16 text fits) (chunk-fits w8 48 16 text fits)
+    ∙ ap (list_all is_symbol) (sym (split_block text))
+
+-- Sixteen groups
+
+abbrev pub shuffled : List ℕ → List ℕ → List ℕ → List ℕ → List ℕ
+shuffled a b c d =
+    (pick_l 0 (a ++ b) (0 ∷ 1 ∷ 2 ∷ 3 ∷ 4 ∷ 5 ∷ 6 ∷ 7 ∷ 8 ∷ 9 ∷ 10 ∷ 11 ∷ 16 ∷ 17 ∷ 18 ∷ 19 ∷ [])
+    ++ pick_l 0 (b ++ c) (4 ∷ 5 ∷ 6 ∷ 7 ∷ 8 ∷ 9 ∷ 10 ∷ 11 ∷ 16 ∷ 17 ∷ 18 ∷ 19 ∷ 20 ∷ 21 ∷ 22 ∷ 23 ∷ []))
+    ++ pick_l 0 (c ++ d) (8 ∷ 9 ∷ 10 ∷ 11 ∷ 16 ∷ 17 ∷ 18 ∷ 19 ∷ 20 ∷ 21 ∷ 22 ∷ 23 ∷ 24 ∷ 25 ∷ 26 ∷ 27 ∷ [])
+
+shuffled_rows : (f g h k : ℕ → ℕ) → shuffled (row f) (row g) (row h) (row k) ≡ take 12 (row f) ++ (take 12 (row g) ++ (take 12 (row h) ++ take 12 (row k)))
+shuffled_rows f g h k = refl
+
+shuffled_is : (a b c d : List ℕ) → length a ≡ 16 → length b ≡ 16 → length c ≡ 16 → length d ≡ 16 → shuffled a b c d ≡ take 12 a ++ (take 12 b ++ (take 12 c ++ take 12 d))
+shuffled_is a b c d p q r s =
+    let A : List ℕ → Type 0 = λ l. shuffled l b c d ≡ take 12 l ++ (take 12 b ++ (take 12 c ++ take 12 d)) in
+    let f = λ (k : ℕ). get_or a k 0 in
+    let g = λ (k : ℕ). get_or b k 0 in
+    let h = λ (k : ℕ). get_or c k 0 in
+    let i = λ (k : ℕ). get_or d k 0 in
+    let B : List ℕ → Type 0 = λ l. shuffled (row f) l c d ≡ take 12 (row f) ++ (take 12 l ++ (take 12 c ++ take 12 d)) in
+    let C : List ℕ → Type 0 = λ l. shuffled (row f) (row g) l d ≡ take 12 (row f) ++ (take 12 (row g) ++ (take 12 l ++ take 12 d)) in
+    let D : List ℕ → Type 0 = λ l. shuffled (row f) (row g) (row h) l ≡ take 12 (row f) ++ (take 12 (row g) ++ (take 12 (row h) ++ take 12 l)) in
+    subst A (pick_l_whole 0 a 16 p) (subst B (pick_l_whole 0 b 16 q) (subst C (pick_l_whole 0 c 16 r) (subst D (pick_l_whole 0 d 16 s) (shuffled_rows f g h i))))
+
+groups_of_rows : (w x y z : List ℕ) → length w ≡ 16 → length x ≡ 16 → length y ≡ 16 → groups (w ++ (x ++ (y ++ z))) ≡ groups w ++ (groups x ++ (groups y ++ groups z))
+groups_of_rows w x y z p q r =
+    groups_whole w (x ++ (y ++ z)) (omega arith)
+    ∙ ap (λ l. groups w ++ l) (groups_whole x (y ++ z) (omega arith) ∙ ap (λ l. groups x ++ l) (groups_whole y z (omega arith)))
+
+values_of_rows : (text : List ℕ) → 64 ≤ length text → groups (map value_of (take 64 text))
+    ≡ groups (map value_of (take 16 (drop 0 text))) ++ (groups (map value_of (take 16 (drop 16 text))) ++ (groups (map value_of (take 16 (drop 32 text))) ++ groups (map value_of (take 16 (drop 48 text)))))
+values_of_rows text long =
+    let w = take 16 (drop 0 text) in
+    let x = take 16 (drop 16 text) in
+    let y = take 16 (drop 32 text) in
+    let z = take 16 (drop 48 text) in
+    ap (λ l. groups (map value_of l)) (split_block text)
+    ∙ ap groups (map-append value_of w (x ++ (y ++ z)) ∙ ap (λ l. map value_of w ++ l) (map-append value_of x (y ++ z) ∙ ap (λ l. map value_of x ++ l) (map-append value_of y z)))
+    ∙ groups_of_rows (map value_of w) (map value_of x) (map value_of y) (map value_of z)
+    (length-map w value_of ∙ row_length text 0 (omega arith)) (length-map x value_of ∙ row_length text 16 (omega arith)) (length-map y value_of ∙ row_length text 32 (omega arith))
+
+-- rows that were put one behind another
+pub put_three : (b1 b2 b3 x y z : List ℕ) → take 16 b1 ≡ x → take (16 + 16) b2 ≡ take 16 b1 ++ y → take (32 + 16) b3 ≡ take 32 b2 ++ z → length b3 ≡ 48 → b3 ≡ (x ++ y) ++ z
+put_three b1 b2 b3 x y z p q r long = sym (take_all 48 b3 (omega arith)) ∙ r ∙ ap (λ l. l ++ z) (q ∙ ap (λ l. l ++ y) p)
+
+pub decoded_block : (text a b c d r0 r1 r2 r3 bytes : List ℕ) → 64 ≤ length text → length a ≡ 16 → length b ≡ 16 → length c ≡ 16 → length d ≡ 16
+    → r0 ≡ take 16 (drop 0 text) → r1 ≡ take 16 (drop 16 text) → r2 ≡ take 16 (drop 32 text) → r3 ≡ take 16 (drop 48 text)
+    → take 12 a ≡ groups (map value_of r0) → take 12 b ≡ groups (map value_of r1) → take 12 c ≡ groups (map value_of r2) → take 12 d ≡ groups (map value_of r3)
+    → bytes ≡ shuffled a b c d → bytes ≡ groups (map value_of (take 64 text))
+decoded_block text a b c d r0 r1 r2 r3 bytes long la lb lc ld e0 e1 e2 e3 p q r s e =
+    let of : List ℕ → List ℕ = λ l. groups (map value_of l) in
+    e ∙ shuffled_is a b c d la lb lc ld
+    ∙ ap₂ (λ (x y : List ℕ). x ++ y) (p ∙ ap of e0) (ap₂ (λ (x y : List ℕ). x ++ y) (q ∙ ap of e1) (ap₂ (λ (x y : List ℕ). x ++ y) (r ∙ ap of e2) (s ∙ ap of e3)))
+    ∙ sym (values_of_rows text long)
+
+-- A text without a gap
+
+map_range : (f g : ℕ → ℕ) (a n : ℕ) → ((k : ℕ) → a ≤ k → k < a + n → f k ≡ g k) → map f (range_with_len a n) ≡ map g (range_with_len a n)
+map_range f g a zero h = refl
+map_range f g a (suc n) h = ap₂ (λ x (y : List ℕ). x ∷ y) (h a (omega arith) (omega arith)) (map_range f g (a + 1) n (λ k p q. h k (omega arith) (omega arith)))
+
+map_row : (f g : ℕ → ℕ) → ((k : ℕ) → k < 16 → f k ≡ g k) → row f ≡ row g
+map_row f g h = map_range f g 0 16 (λ k p q. h k (omega arith))
+
+row_text : (text : List ℕ) (at : ℕ) → at + 16 ≤ length text → take 16 (drop at text) ≡ row (λ k. get_or text (at + k) 0)
+row_text text at h =
+    let v = take 16 (drop at text) in
+    sym (pick_l_whole 0 v 16 (row_length text at h))
+    ∙ map_row (λ k. get_or v k 0) (λ k. get_or text (at + k) 0) (λ k l. get_or-take 16 (drop at text) k 0 l ∙ get_or-drop at text k 0)
+
+without_at : (text : List ℕ) (place gap j : ℕ) → place ≤ length text → get_or (without place gap text) j 0 ≡ cond (ltb j place) (get_or text j 0) (get_or text (j + gap) 0)
+without_at text place gap j h =
+    let long : length (take place text) ≡ place = length-take-le place text h in
+    elim (cases_lt j place) [
+      | inl l ↦
+          get_or_append_left (take place text) (drop (place + gap) text) 0 j (omega (arith, long))
+          ∙ get_or-take place text j 0 l
+          ∙ sym (ap (λ t. cond t (get_or text j 0) (get_or text (j + gap) 0)) (lt-ltb j place l))
+      | inr l ↦
+          get_or-append_right (take place text) (drop (place + gap) text) place j 0 long l
+          ∙ get_or-drop (place + gap) text (j - place) 0
+          ∙ ap (λ n. get_or text n 0) (omega arith)
+          ∙ sym (ap (λ t. cond t (get_or text j 0) (get_or text (j + gap) 0)) (le-ltb j place l))
+    ]
+
+length-without : (text : List ℕ) (place gap : ℕ) → place + gap ≤ length text → length (without place gap text) + gap ≡ length text
+length-without text place gap h =
+    omega (arith, length-append (take place text) (drop (place + gap) text), length-take-le place text (omega arith), length-drop (place + gap) text)
+
+abbrev pub is_before : ℕ → ℕ → ℕ → Bool
+is_before at place k = top 7 (cond (ltb ((k + at) % 256) place) 255 0)
+
+before_is : (at place k : ℕ) → at ≤ 48 → k < 16 → is_before at place k ≡ ltb (at + k) place
+before_is at place k h l =
+    let same : (k + at) % 256 ≡ at + k = omega arith in
+    ap (λ n. top 7 (cond (ltb n place) 255 0)) same ∙ elim (ltb (at + k) place) as (λ t. top 7 (cond t 255 0) ≡ t) [ true ↦ refl | false ↦ refl ]
+
+pub row_without_is : (text xs ys : List ℕ) (at place gap : ℕ) → 64 + gap ≤ length text → at ≤ 48 → place ≤ 64
+    → xs ≡ take 16 (drop at text) → ys ≡ take 16 (drop (at + gap) text)
+    → sel_l (map (is_before at place) (range_with_len 0 16)) xs ys ≡ take 16 (drop at (without place gap text))
+row_without_is text xs ys at place gap long early few p q =
+    let size = length-without text place gap (omega arith) in
+    chosen (is_before at place) (λ k. get_or text (at + k) 0) (λ k. get_or text (at + gap + k) 0) (range_with_len 0 16) refl (p ∙ row_text text at (omega arith)) (q ∙ row_text text (at + gap) (omega arith))
+    ∙ map_row (λ k. cond (is_before at place k) (get_or text (at + k) 0) (get_or text (at + gap + k) 0)) (λ k. get_or (without place gap text) (at + k) 0)
+    (λ k l.
+    let far : at + gap + k ≡ at + k + gap = omega arith in
+    ap₂ (λ t n. cond t (get_or text (at + k) 0) (get_or text n 0)) (before_is at place k early l) far
+    ∙ sym (without_at text place gap (at + k) (omega arith)))
+    ∙ sym (row_text (without place gap text) at (omega (arith, size)))
+
+pub put_four : (b1 b2 b3 b4 w x y z text : List ℕ) → take 16 b1 ≡ w → take (16 + 16) b2 ≡ take 16 b1 ++ x → take (32 + 16) b3 ≡ take 32 b2 ++ y → take (48 + 16) b4 ≡ take 48 b3 ++ z → length b4 ≡ 64
+    → w ≡ take 16 (drop 0 text) → x ≡ take 16 (drop 16 text) → y ≡ take 16 (drop 32 text) → z ≡ take 16 (drop 48 text) → b4 ≡ take 64 text
+put_four b1 b2 b3 b4 w x y z text p q r s long d e f g =
+    sym (take_all 64 b4 (omega arith)) ∙ s ∙ ap (λ l. l ++ z) (r ∙ ap (λ l. l ++ y) (q ∙ ap (λ l. l ++ x) p))
+    ∙ append_assoc (w ++ x) y z ∙ append_assoc w x (y ++ z)
+    ∙ ap₂ (λ (l m : List ℕ). l ++ m) d (ap₂ (λ (l m : List ℕ). l ++ m) e (ap₂ (λ (l m : List ℕ). l ++ m) f g))
+    ∙ sym (split_block text)

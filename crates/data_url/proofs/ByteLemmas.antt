@@ -1,17 +1,18 @@
 -- What little more text does behind what a decoder has left over, and what its end does.
-use Rattle.std.proofs.Common.{◌≡◌, ◌≢◌, ◌⊎◌, inl, inr, ℕ, suc, zero, ◌+◌, ◌%◌, ◌≤◌, Bool, true, false, cond, eqb, get_or, take, List, [], ◌∷◌, ◌++◌, length, map, min, replicate, None, Some, is_some, Result, Ok, Err, refl, ap, sym, ◌∙◌, subst, arith, length-append}
-use Rattle.std.specs.Prelude.{MatchOption, MatchBool, MatchResult, is_err}
+use Rattle.std.proofs.Common.{◌≡◌, ◌≢◌, ◌⊎◌, inl, inr, ℕ, suc, zero, ◌+◌, ◌*◌, ◌%◌, ◌≤◌, Bool, true, false, cond, eqb, get_or, take, List, [], ◌∷◌, ◌++◌, length, map, min, replicate, None, Some, is_some, Result, Ok, Err, refl, ap, sym, ◌∙◌, subst, arith, length-append}
+use Rattle.std.specs.Prelude.{MatchOption, MatchBool, MatchResult}
 use Rattle.std.specs.List.{filter, list_any}
 use Rattle.std.proofs.lemmas.List.{append-nil, length-map, length-replicate}
 use Rattle.std.proofs.lemmas.List.Elements.{filter-append}
 use Rattle.std.proofs.lemmas.Bool.{false≢true, true≢false}
-use Rattle.data_url.specs.Base64.{AlphabetSymbolAfterPadding, LoneAlphabetSymbol, Padding, UnexpectedSymbol, after_groups, decoded, done, first_fault, group_bytes, group_number, groups, is_ascii_whitespace, is_symbol, is_valid, kind_of, left_padding, left_symbols, left_text, rest_bytes, symbol_value, values}
-use Rattle.data_url.specs.Decoding.{Feeds, Finishes, IsAll, IsLeft, IsRefused, IsTaken, State, left_over}
+use Rattle.data_url.specs.Base64.{AlphabetSymbolAfterPadding, Kind, LoneAlphabetSymbol, Padding, UnexpectedSymbol, after_groups, decoded, done, first_fault, group_bytes, group_number, groups, is_ascii_whitespace, is_symbol, is_valid, kind_of, left_padding, left_symbols, left_text, rest_bytes, symbol_value, values}
+use Rattle.data_url.specs.Decoding.{Feeds, Finishes, IsAll, IsRefused, State, left_over}
 use Rattle.data_url.specs.Mime.{Every}
 use Rattle.data_url.specs.Run.{IsRun, or_error}
+use Rattle.data_url.specs.Steps.Holding.{Adds, Refuses}
 use Rattle.data_url.specs.declared.forgiving_base64.DecodeError.{DecodeError}
 use Rattle.data_url.specs.declared.forgiving_base64.DecodeError.TheVariants.{InvalidBase64, WriteError}
-use Rattle.data_url.proofs.RunLemmas.{match_none, match_some, prefix_all}
+use Rattle.data_url.proofs.RunLemmas.{match_none, prefix_all}
 use Rattle.data_url.proofs.SignLemmas.{any_of_text, before-append, before_fault, before_none, classes, done_is, fault-append, fault_byte, fault_signs, fault_some, fault_text, is_sign, kind_by, kind_fault, kind_is, no_fault_valid, none_fault, signs_of_text, symbols_of_text}
 use Rattle.data_url.proofs.ValidLemmas.{fits_with}
 use Rattle.data_url.proofs.WalkLemmas.{bad, is_bad, some_not_none, space_alone, symbol_alone}
@@ -239,71 +240,41 @@ pub bool_at_false : (b : Bool) (P Q : Type 0) → b ≡ false → Q → MatchBoo
 bool_at_false true P Q e h = absurd (true≢false e)
 bool_at_false false P Q e h = h
 
-told_call : {E : Type 0} (answer : Result (Unit {0}) E) (r : Result (Unit {0}) (DecodeError E)) (P : Type 0) (all bytes : List ℕ) → bytes ≡ all → (r ≡ Ok tt → P) → MatchResult answer (λ u. r ≡ Ok tt) (λ e. r ≡ Err (WriteError e)) → MatchOption (or_error answer None) P (λ e. IsRefused all bytes e r)
+pub told_call : {E : Type 0} (answer : Result (Unit {0}) E) (r : Result (Unit {0}) (DecodeError E)) (P : Type 0) (all bytes : List ℕ) → bytes ≡ all → (r ≡ Ok tt → P) → MatchResult answer (λ u. r ≡ Ok tt) (λ e. r ≡ Err (WriteError e)) → MatchOption (or_error answer None) P (λ e. IsRefused all bytes e r)
 told_call (Ok x) r P all bytes q f h = f h
 told_call (Err e) r P all bytes q f h = record { bytes_begin = prefix_all bytes all q; answer = h }
 
--- A decoder that calls nothing
+-- A decoder that takes a little text
 
-module _ {F E : Type 0} (step : F → List ℕ → Result (Unit {0}) E → F → Type 0) where
-  -- text t with the symbols k and n signs is taken without a call
-  pub feeds_quiet : {d d' : State F} (t k : List ℕ) (n : ℕ) → Every is_symbol d.symbols → fault_byte (has_sign d.padding) t ≡ None → filter is_symbol t ≡ k → length (filter is_sign t) ≡ n → length (d.symbols ++ k) ≤ 3 → d'.closure ≡ d.closure → d'.symbols ≡ d.symbols ++ k → d'.padding ≡ min (d.padding + n) 3 → d'.failed ≡ false → Feeds step d t (Ok tt) d'
-  feeds_quiet {d} {d'} t k n every good is_k is_n few same symbols padding failed =
+module _ {F : Type 0} where
+  -- text t with the symbols k and n signs
+  pub adds_text : {d d' : State F} (t k bytes : List ℕ) (n : ℕ) → Every is_symbol d.symbols → fault_byte (has_sign d.padding) t ≡ None → filter is_symbol t ≡ k → length (filter is_sign t) ≡ n → bytes ≡ groups (map symbol_value (d.symbols ++ k)) → length bytes ≤ 3 * length t → d'.closure ≡ d.closure → d'.symbols ≡ after_groups (d.symbols ++ k) → d'.padding ≡ min (d.padding + n) 3 → d'.failed ≡ false → Adds d t bytes d'
+  adds_text {d} {d'} t k bytes n every good is_k is_n is_bytes few same symbols padding failed =
       let q = d.symbols in
       let p = d.padding in
-      let none : first_fault (left_text q p ++ t) ≡ None = none_fault (left_text q p ++ t) (fault_more q p every t ∙ good) in
-      let group : groups (map symbol_value (q ++ filter is_symbol t)) ≡ [] =
-      ap (λ x. groups (map symbol_value (q ++ x))) is_k ∙ groups_few (map symbol_value (q ++ k)) (omega (arith, few, length-map (q ++ k) symbol_value)) in
       record {
-        run = [];
-        ran = sym same;
-        calls = omega arith;
-        failed = failed;
-        gave = record {
-          bytes_are = sym (done_more q p every t good ∙ group);
-          answer = match_none (first_fault (left_text q p ++ t)) _ _ none (
-            refl,
-            record {
-              symbols_are = symbols ∙ sym (left_more q p every t ∙ ap (λ x. after_groups (q ++ x)) is_k ∙ after_few (q ++ k) few);
-              padding_is = padding ∙ sym (padding_more q p every t ∙ ap (λ x. min (p + x) 3) is_n);
-            },
-          );
+        no_fault = none_fault (left_text q p ++ t) (fault_more q p every t ∙ good);
+        bytes_are = is_bytes ∙ sym (done_more q p every t good ∙ ap (λ x. groups (map symbol_value (q ++ x))) is_k);
+        left = record {
+          symbols_are = symbols ∙ sym (left_more q p every t ∙ ap (λ x. after_groups (q ++ x)) is_k);
+          padding_is = padding ∙ sym (padding_more q p every t ∙ ap (λ x. min (p + x) 3) is_n);
         };
+        few = few;
+        closure_stays = same;
+        going = failed;
       }
 
-  -- a bad byte is refused without a call
-  pub feeds_bad : {d d' : State F} {r : Result (Unit {0}) (DecodeError E)} (c : ℕ) → Every is_symbol d.symbols → length d.symbols ≤ 3 → fault_byte (has_sign d.padding) (c ∷ []) ≡ Some c → d' ≡ record d { failed = true } → r ≡ Err (InvalidBase64 (cond (is_symbol c) AlphabetSymbolAfterPadding (UnexpectedSymbol c))) → Feeds step d (c ∷ []) r d'
-  feeds_bad {d} {d'} {r} c every few bad same told =
-      let q = d.symbols in
-      let p = d.padding in
-      let some : is_some (first_fault (left_text q p ++ c ∷ [])) ≡ true = fault_some (left_text q p ++ c ∷ []) ∙ ap is_some (fault_more q p every (c ∷ []) ∙ bad) in
-      record {
-        run = [];
-        ran = sym (ap (λ (s : State F). s.closure) same);
-        calls = omega arith;
-        failed = ap (λ (s : State F). s.failed) same ∙ sym (ap is_err told);
-        gave = record {
-          bytes_are = sym (done_bad q p every c few bad);
-          answer = match_some (first_fault (left_text q p ++ c ∷ [])) _ _ some (told ∙ ap (λ z. Err (InvalidBase64 z)) (sym (kind_bad q p every c bad)));
-        };
-      }
-
-  -- a symbol behind a sign
-  pub feeds_behind : {d d' : State F} {r : Result (Unit {0}) (DecodeError E)} (c : ℕ) → Every is_symbol d.symbols → length d.symbols ≤ 3 → 1 ≤ d.padding → is_symbol c ≡ true → d' ≡ record d { failed = true } → r ≡ Err (InvalidBase64 AlphabetSymbolAfterPadding) → Feeds step d (c ∷ []) r d'
-  feeds_behind {d} c every few signs symbol same told =
-      feeds_bad c every few (ap (λ s. fault_byte s (c ∷ [])) (has_sign_some d.padding signs) ∙ fault_behind c symbol) same
-      (told ∙ ap (λ v. Err (InvalidBase64 (cond v AlphabetSymbolAfterPadding (UnexpectedSymbol c)))) (sym symbol))
-
-  -- a byte of no class
-  pub feeds_other : {d d' : State F} {r : Result (Unit {0}) (DecodeError E)} (c : ℕ) → Every is_symbol d.symbols → length d.symbols ≤ 3 → is_ascii_whitespace c ≡ false → is_sign c ≡ false → is_symbol c ≡ false → d' ≡ record d { failed = true } → r ≡ Err (InvalidBase64 (UnexpectedSymbol c)) → Feeds step d (c ∷ []) r d'
-  feeds_other {d} c every few space sign symbol same told =
-      feeds_bad c every few (fault_other c (has_sign d.padding) space sign symbol) same
-      (told ∙ ap (λ v. Err (InvalidBase64 (cond v AlphabetSymbolAfterPadding (UnexpectedSymbol c)))) (sym symbol))
+  -- which completes no group
+  adds_quiet : {d d' : State F} (t k : List ℕ) (n : ℕ) → Every is_symbol d.symbols → fault_byte (has_sign d.padding) t ≡ None → filter is_symbol t ≡ k → length (filter is_sign t) ≡ n → length (d.symbols ++ k) ≤ 3 → d'.closure ≡ d.closure → d'.symbols ≡ d.symbols ++ k → d'.padding ≡ min (d.padding + n) 3 → d'.failed ≡ false → Adds d t [] d'
+  adds_quiet {d} t k n every good is_k is_n few same symbols padding failed =
+      adds_text t k [] n every good is_k is_n
+      (sym (groups_few (map symbol_value (d.symbols ++ k)) (omega (arith, few, length-map (d.symbols ++ k) symbol_value)))) (omega arith)
+      same (symbols ∙ sym (after_few (d.symbols ++ k) few)) padding failed
 
   -- a symbol that is kept
-  pub feeds_kept : {d d' : State F} (c : ℕ) → Every is_symbol d.symbols → length d.symbols + 1 ≤ 3 → d.padding ≡ 0 → is_symbol c ≡ true → d'.closure ≡ d.closure → d'.symbols ≡ d.symbols ++ c ∷ [] → d'.padding ≡ d.padding → d'.failed ≡ false → Feeds step d (c ∷ []) (Ok tt) d'
-  feeds_kept {d} {d'} c every few none symbol same symbols padding failed =
-      feeds_quiet (c ∷ []) (c ∷ []) 0 every
+  pub adds_kept : {d d' : State F} (c : ℕ) → Every is_symbol d.symbols → length d.symbols + 1 ≤ 3 → d.padding ≡ 0 → is_symbol c ≡ true → d'.closure ≡ d.closure → d'.symbols ≡ d.symbols ++ c ∷ [] → d'.padding ≡ d.padding → d'.failed ≡ false → Adds d (c ∷ []) [] d'
+  adds_kept {d} c every few none symbol same symbols padding failed =
+      adds_quiet (c ∷ []) (c ∷ []) 0 every
       (ap (λ p. fault_byte (has_sign p) (c ∷ [])) none ∙ fault_symbol c symbol)
       (symbols_symbol c symbol)
       (ap length (signs_symbol c symbol))
@@ -311,31 +282,29 @@ module _ {F E : Type 0} (step : F → List ℕ → Result (Unit {0}) E → F →
       same symbols (padding ∙ none ∙ ap (λ p. min (p + 0) 3) (sym none)) failed
 
   -- a byte of white space
-  pub feeds_space : {d d' : State F} (c : ℕ) → Every is_symbol d.symbols → length d.symbols ≤ 3 → d.padding ≤ 3 → is_ascii_whitespace c ≡ true → d.failed ≡ false → d' ≡ d → Feeds step d (c ∷ []) (Ok tt) d'
-  feeds_space {d} {d'} c every few signs space going same =
-      feeds_quiet (c ∷ []) [] 0 every
+  pub adds_space : {d : State F} (c : ℕ) → Every is_symbol d.symbols → length d.symbols ≤ 3 → d.padding ≤ 3 → is_ascii_whitespace c ≡ true → d.failed ≡ false → Adds d (c ∷ []) [] d
+  adds_space {d} c every few signs space going =
+      adds_quiet (c ∷ []) [] 0 every
       (fault_space c (has_sign d.padding) space)
       (symbols_space c space)
       (ap length (signs_space c space))
       (rw append-nil few)
-      (ap (λ (s : State F). s.closure) same) (ap (λ (s : State F). s.symbols) same ∙ sym (append-nil d.symbols))
-      (ap (λ (s : State F). s.padding) same ∙ min_same d.padding signs) (ap (λ (s : State F). s.failed) same ∙ going)
+      refl (sym (append-nil d.symbols)) (min_same d.padding signs) going
 
   -- no text at all
-  pub feeds_none : {d d' : State F} → Every is_symbol d.symbols → length d.symbols ≤ 3 → d.padding ≤ 3 → d.failed ≡ false → d' ≡ d → Feeds step d [] (Ok tt) d'
-  feeds_none {d} {d'} every few signs going same =
-      feeds_quiet [] [] 0 every
+  pub adds_none : {d : State F} → Every is_symbol d.symbols → length d.symbols ≤ 3 → d.padding ≤ 3 → d.failed ≡ false → Adds d [] [] d
+  adds_none {d} every few signs going =
+      adds_quiet [] [] 0 every
       (fault_nil (has_sign d.padding))
       refl
       refl
       (rw append-nil few)
-      (ap (λ (s : State F). s.closure) same) (ap (λ (s : State F). s.symbols) same ∙ sym (append-nil d.symbols))
-      (ap (λ (s : State F). s.padding) same ∙ min_same d.padding signs) (ap (λ (s : State F). s.failed) same ∙ going)
+      refl (sym (append-nil d.symbols)) (min_same d.padding signs) going
 
   -- a sign
-  feeds_equals : {d d' : State F} → Every is_symbol d.symbols → length d.symbols ≤ 3 → d.failed ≡ false → d' ≡ record d { padding = min (d.padding + 1) 3 } → Feeds step d (61 ∷ []) (Ok tt) d'
-  feeds_equals {d} {d'} every few going same =
-      feeds_quiet (61 ∷ []) [] 1 every
+  adds_equals : {d d' : State F} → Every is_symbol d.symbols → length d.symbols ≤ 3 → d.failed ≡ false → d' ≡ record d { padding = min (d.padding + 1) 3 } → Adds d (61 ∷ []) [] d'
+  adds_equals {d} {d'} every few going same =
+      adds_quiet (61 ∷ []) [] 1 every
       (fault_signs 1 (has_sign d.padding))
       refl
       refl
@@ -343,38 +312,66 @@ module _ {F E : Type 0} (step : F → List ℕ → Result (Unit {0}) E → F →
       (ap (λ (s : State F). s.closure) same) (ap (λ (s : State F). s.symbols) same ∙ sym (append-nil d.symbols))
       (ap (λ (s : State F). s.padding) same) (ap (λ (s : State F). s.failed) same ∙ going)
 
-  pub feeds_sign : {d d' : State F} (c : ℕ) → c ≡ 61 → Every is_symbol d.symbols → length d.symbols ≤ 3 → d.failed ≡ false → d' ≡ record d { padding = min (d.padding + 1) 3 } → Feeds step d (c ∷ []) (Ok tt) d'
-  feeds_sign {d} {d'} c e every few going same = let P : ℕ → Type 0 = λ x. Feeds step d (x ∷ []) (Ok tt) d' in subst P (sym e) (feeds_equals every few going same)
+  pub adds_sign : {d d' : State F} (c : ℕ) → c ≡ 61 → Every is_symbol d.symbols → length d.symbols ≤ 3 → d.failed ≡ false → d' ≡ record d { padding = min (d.padding + 1) 3 } → Adds d (c ∷ []) [] d'
+  adds_sign {d} {d'} c e every few going same = let P : ℕ → Type 0 = λ x. Adds d (x ∷ []) [] d' in subst P (sym e) (adds_equals every few going same)
+
+  -- the fourth symbol completes a group
+  pub adds_group : {d d' : State F} (x y z c : ℕ) (group : List ℕ) → Every is_symbol d.symbols → d.symbols ≡ x ∷ y ∷ z ∷ [] → d.padding ≡ 0 → is_symbol c ≡ true → group ≡ group_bytes (group_number (symbol_value x) (symbol_value y) (symbol_value z) (symbol_value c)) → d'.closure ≡ d.closure → d'.symbols ≡ [] → d'.padding ≡ 0 → d'.failed ≡ false → Adds d (c ∷ []) group d'
+  adds_group {d} {d'} x y z c group every is_q is_p symbol is_group same symbols padding failed =
+      let all : d.symbols ++ c ∷ [] ≡ x ∷ y ∷ z ∷ c ∷ [] = ap (λ k. k ++ c ∷ []) is_q in
+      adds_text (c ∷ []) (c ∷ []) group 0 every
+      (ap (λ p. fault_byte (has_sign p) (c ∷ [])) is_p ∙ fault_symbol c symbol)
+      (symbols_symbol c symbol)
+      (ap length (signs_symbol c symbol))
+      (is_group ∙ sym (ap (λ k. groups (map symbol_value k)) all ∙ four_groups (symbol_value x) (symbol_value y) (symbol_value z) (symbol_value c)))
+      (omega (arith, ap length is_group))
+      same (symbols ∙ sym (ap after_groups all ∙ four_after x y z c))
+      (padding ∙ ap (λ p. min (p + 0) 3) (sym is_p)) failed
+
+  -- a bad byte
+  refuses_bad : {d d' : State F} {kind : Kind} (c : ℕ) → Every is_symbol d.symbols → length d.symbols ≤ 3 → fault_byte (has_sign d.padding) (c ∷ []) ≡ Some c → d' ≡ d → kind ≡ cond (is_symbol c) AlphabetSymbolAfterPadding (UnexpectedSymbol c) → Refuses d c kind d'
+  refuses_bad {d} c every few bad same told =
+      let q = d.symbols in
+      let p = d.padding in
+      record {
+        fault = fault_some (left_text q p ++ c ∷ []) ∙ ap is_some (fault_more q p every (c ∷ []) ∙ bad);
+        kind_is = kind_bad q p every c bad ∙ sym told;
+        none_done = done_bad q p every c few bad;
+        stays = same;
+      }
+
+  -- a symbol behind a sign
+  pub refuses_behind : {d d' : State F} (c : ℕ) → Every is_symbol d.symbols → length d.symbols ≤ 3 → 1 ≤ d.padding → is_symbol c ≡ true → d' ≡ d → Refuses d c AlphabetSymbolAfterPadding d'
+  refuses_behind {d} c every few signs symbol same =
+      refuses_bad c every few (ap (λ s. fault_byte s (c ∷ [])) (has_sign_some d.padding signs) ∙ fault_behind c symbol) same
+      (ap (λ v. cond v AlphabetSymbolAfterPadding (UnexpectedSymbol c)) (sym symbol))
+
+  -- a byte of no class
+  pub refuses_other : {d d' : State F} (c : ℕ) → Every is_symbol d.symbols → length d.symbols ≤ 3 → is_ascii_whitespace c ≡ false → is_sign c ≡ false → is_symbol c ≡ false → d' ≡ d → Refuses d c (UnexpectedSymbol c) d'
+  refuses_other {d} c every few space sign symbol same =
+      refuses_bad c every few (fault_other c (has_sign d.padding) space sign symbol) same
+      (ap (λ v. cond v AlphabetSymbolAfterPadding (UnexpectedSymbol c)) (sym symbol))
+
+module _ {F E : Type 0} (step : F → List ℕ → Result (Unit {0}) E → F → Type 0) where
+  -- what completes no group is fed without a call
+  pub adds_feeds : {d d' : State F} {t : List ℕ} → Adds d t [] d' → Feeds step d t (Ok tt) d'
+  adds_feeds {d} {d'} {t} a = record {
+    run = [];
+    ran = sym a.closure_stays;
+    calls = omega arith;
+    failed = a.going;
+    gave = record { bytes_are = a.bytes_are; answer = match_none (first_fault (left_over d ++ t)) _ _ a.no_fault (refl, a.left) };
+  }
+
+  -- no text at all
+  pub feeds_none : {d d' : State F} → Every is_symbol d.symbols → length d.symbols ≤ 3 → d.padding ≤ 3 → d.failed ≡ false → d' ≡ d → Feeds step d [] (Ok tt) d'
+  feeds_none {d} {d'} every few signs going same = let P : State F → Type 0 = λ s. Feeds step d [] (Ok tt) s in subst P (sym same) (adds_feeds (adds_none every few signs going))
 
   -- One call
 
   -- a run of one call
   pub one_call : (f g : F) (piece : List ℕ) (answer : Result (Unit {0}) E) → step f piece answer g → IsRun step f (record { piece = piece; answer = answer; after = g } ∷ []) g
   one_call f g piece answer s = (s, λ e. refl, refl)
-
-  -- the fourth symbol hands out a group
-  pub feeds_group : {d d' : State F} {r : Result (Unit {0}) (DecodeError E)} (x y z c : ℕ) (piece : List ℕ) (answer : Result (Unit {0}) E) → Every is_symbol d.symbols → d.symbols ≡ x ∷ y ∷ z ∷ [] → d.padding ≡ 0 → is_symbol c ≡ true → piece ≡ group_bytes (group_number (symbol_value x) (symbol_value y) (symbol_value z) (symbol_value c)) → step d.closure piece answer d'.closure → d'.symbols ≡ [] → d'.padding ≡ 0 → d'.failed ≡ is_err r → MatchResult answer (λ u. r ≡ Ok tt) (λ e. r ≡ Err (WriteError e)) → Feeds step d (c ∷ []) r d'
-  feeds_group {d} {d'} {r} x y z c piece answer every is_q is_p symbol is_piece called symbols padding failed told =
-      let q = d.symbols in
-      let p = d.padding in
-      let sign : has_sign p ≡ false = ap has_sign is_p in
-      let good : fault_byte (has_sign p) (c ∷ []) ≡ None = ap (λ s. fault_byte s (c ∷ [])) sign ∙ fault_symbol c symbol in
-      let all : q ++ filter is_symbol (c ∷ []) ≡ x ∷ y ∷ z ∷ c ∷ [] = ap (λ k. k ++ filter is_symbol (c ∷ [])) is_q ∙ ap (λ (k : List ℕ). x ∷ y ∷ z ∷ k) (symbols_symbol c symbol) in
-      let bytes : piece ++ [] ≡ done (left_text q p ++ c ∷ []) =
-      append-nil piece ∙ is_piece ∙ sym (done_more q p every (c ∷ []) good ∙ ap (λ k. groups (map symbol_value k)) all ∙ four_groups (symbol_value x) (symbol_value y) (symbol_value z) (symbol_value c)) in
-      let none : first_fault (left_text q p ++ c ∷ []) ≡ None = none_fault (left_text q p ++ c ∷ []) (fault_more q p every (c ∷ []) ∙ good) in
-      let left : IsLeft (left_text q p ++ c ∷ []) d' = record {
-        symbols_are = symbols ∙ sym (left_more q p every (c ∷ []) ∙ ap after_groups all ∙ four_after x y z c);
-        padding_is = padding ∙ sym (padding_more q p every (c ∷ []) ∙ ap (λ k. min (k + length (filter is_sign (c ∷ []))) 3) is_p ∙ ap (λ k. min (0 + length k) 3) (signs_symbol c symbol));
-      } in
-      record {
-        run = record { piece = piece; answer = answer; after = d'.closure } ∷ [];
-        ran = one_call d.closure d'.closure piece answer called;
-        calls = omega arith;
-        failed = failed;
-        gave = told_call answer r (IsTaken (left_text q p ++ c ∷ []) (piece ++ []) r d') (done (left_text q p ++ c ∷ [])) (piece ++ []) bytes
-            (λ e. record { bytes_are = bytes; answer = match_none (first_fault (left_text q p ++ c ∷ [])) _ _ none (e, left) }) told;
-      }
 
   -- The end
 

@@ -71,21 +71,24 @@ taken_cases u b bytes x d (Some c) h t = record {
       t.answer;
 }
 
+left_over_is : {F : Type 0} {d : State F} (u : List ℕ) → IsLeft u d → left_over d ≡ left_text (left_symbols u) (left_padding u)
+left_over_is {d = d} u h = ap (λ q. left_text q d.padding) h.symbols_are ∙ ap (λ p. left_text (left_symbols u) p) h.padding_is
+
+-- behind a text without a fault, b goes on as it does behind what is left of the text
+pub left_goes_on : {F : Type 0} {d : State F} (u b : List ℕ) → first_fault u ≡ None → IsLeft u d → GoesOn u b (left_over d ++ b)
+left_goes_on u b none left =
+    let G : List ℕ → Type 0 = λ w. GoesOn u b (w ++ b) in
+    subst G (sym (left_over_is u left)) (two_feeds u b none)
+
 module _ {F E : Type 0} (step : F → List ℕ → Result (Unit {0}) E → F → Type 0) where
   pub feeds_took : {d d' : State F} {a : List ℕ} (f : Feeds step d a (Ok tt) d') → (refusal f.run ≡ None) × Took (left_over d ++ a) (joined f.run) d'
   feeds_took {d} {d'} {a} f =
       let k = refused_ok (refusal f.run) _ (done (left_over d ++ a)) (joined f.run) f.gave in
       (k.0, taken_ok (left_over d ++ a) (joined f.run) d' k.1)
 
-  left_over_is : {d : State F} (u : List ℕ) → IsLeft u d → left_over d ≡ left_text (left_symbols u) (left_padding u)
-  left_over_is {d} u h = ap (λ q. left_text q d.padding) h.symbols_are ∙ ap (λ p. left_text (left_symbols u) p) h.padding_is
-
   -- where a was accepted, b goes on as the text does
   pub feeds_goes_on : {d d' : State F} {a : List ℕ} (b : List ℕ) (f : Feeds step d a (Ok tt) d') → GoesOn (left_over d ++ a) b (left_over d' ++ b)
-  feeds_goes_on {d} {d'} {a} b f =
-      let t = (feeds_took f).1 in
-      let G : List ℕ → Type 0 = λ w. GoesOn (left_over d ++ a) b (w ++ b) in
-      subst G (sym (left_over_is (left_over d ++ a) t.left)) (two_feeds (left_over d ++ a) b t.no_fault)
+  feeds_goes_on {d} {d'} {a} b f = let t = (feeds_took f).1 in left_goes_on (left_over d ++ a) b t.no_fault t.left
 
   -- what a decoder gives on u, as it runs
   abbrev Gives : List ℕ → Option E → List ℕ → Result (Unit {0}) (DecodeError E) → State F → Type 0

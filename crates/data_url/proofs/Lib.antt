@@ -13,13 +13,16 @@ pub mod DecoderLemmas
 pub mod DigitLemmas
 pub mod FaultLemmas
 pub mod FeedLemmas
+pub mod FillLemmas
 pub mod FragmentAgainLemmas
 pub mod FragmentLemmas
 pub mod GatherLemmas
 pub mod HeadLemmas
 pub mod HeaderLemmas
+pub mod HoldLemmas
 pub mod ItemLemmas
 pub mod KeptLemmas
+pub mod LaneLemmas
 pub mod MarkLemmas
 pub mod MediaLemmas
 mod MimeExamples
@@ -43,6 +46,7 @@ pub mod SerialiseLemmas
 pub mod SignLemmas
 mod StagedExamples
 pub mod SuffixLemmas
+pub mod TextBlockLemmas
 pub mod TextCuts
 pub mod TextLemmas
 pub mod TokenLemmas

@@ -12,7 +12,7 @@ use Rattle.data_url.specs.declared.escapes.Piece.TheVariants.{Byte, Slice}
 use Rattle.data_url.specs.declared.escapes.cursor.Ahead.{Ahead}
 use Rattle.data_url.specs.declared.escapes.cursor.Ahead.TheVariants.{BehindEscape, End, Escape, Unknown}
 use Rattle.data_url.specs.declared.escapes.cursor.Cursor.{Cursor}
-use Rattle.data_url.proofs.BlockLemmas.{take_none}
+use Rattle.data_url.proofs.TextBlockLemmas.{take_none}
 use Rattle.data_url.proofs.CursorLemmas.{looking_as}
 use Rattle.data_url.proofs.ReadLemmas.{reads_clear, reads_escape, reads_none, reads_passed, reads_percent, reads_then}
 use Rattle.data_url.proofs.UrlLemmas.{behind_nil, behind_same}

@@ -12,7 +12,7 @@ use Rattle.data_url.specs.Steps.Looks.{paid}
 use Rattle.data_url.specs.Steps.Walk.{IsBlock, IsClear, IsNextMark, Looking, LooksOn, Stays, text_of}
 use Rattle.data_url.specs.Steps.Window.{is_marked}
 use Rattle.data_url.specs.declared.escapes.cursor.Cursor.{Cursor}
-use Rattle.data_url.proofs.BlockLemmas.{marks_later}
+use Rattle.data_url.proofs.TextBlockLemmas.{marks_later}
 use Rattle.data_url.proofs.ReadLemmas.{paid_clear}
 
 -- where no lane passes, the mask is 0

@@ -1,6 +1,10 @@
 -- What the private steps of the library do.
+pub mod Blocks
 pub mod Chunks
 pub mod Digits
+pub mod HeldState
+pub mod Holding
+pub mod Lanes
 pub mod Looks
 pub mod Tail
 pub mod Walk

@@ -7,7 +7,10 @@ use std::fmt;
 use std::marker::Model;
 
 mod alphabet;
+mod blocks;
 mod decode;
+mod held;
+mod lanes;
 mod whole;
 
 pub use decode::Decoder;

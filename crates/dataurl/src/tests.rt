@@ -1,6 +1,7 @@
 //! Worked examples, through the public calls of the library and the program.
 
 mod base64;
+mod base64_blocks;
 mod errors;
 mod failing;
 mod mime;

@@ -1,11 +1,15 @@
 //! Decoding piece by piece (Infra Standard, forgiving-base64 decode).
 
-ghost use Rattle.std.specs.Prelude.{◌≡◌, ◌≤◌, [], ◌∷◌, IsTrue, take, true, false};
+ghost use Rattle.std.specs.Prelude.{◌≡◌, ◌<◌, ◌≤◌, [], ◌∷◌, IsTrue, MatchResult, length, slice_index, take, true, false};
 ghost use Rattle.std.specs.List.{list_all};
 ghost use Rattle.data_url.specs.Base64.{is_symbol};
 
 use super::alphabet::{group_of, is_symbol, rest_of_three, rest_of_two};
+use super::held::{Held, ROOM};
 use super::{DecodeError, InvalidBase64, InvalidBase64Details};
+
+/// The shortest text that is looked at as a block.
+const SHORTEST: usize = 8;
 
 /// A decoder of base64 (Infra Standard, forgiving-base64 decode) that takes its text in pieces, cut anywhere, and hands
 /// bytes to a closure as soon as four symbols give them.
@@ -38,6 +42,8 @@ where
     ghost use Rattle.data_url.specs.DecoderState.{state_of};
     ghost use Rattle.data_url.specs.Refusal.{kind_of_details};
     ghost use Rattle.data_url.specs.Steps.{Writes};
+    ghost use Rattle.data_url.specs.Steps.HeldState.{held_bytes};
+    ghost use Rattle.data_url.specs.Steps.Holding.{Adds, Flushes, Gains, Refuses, bytes_in};
 
     /// A decoder that has seen nothing yet, and hands its bytes to the closure. The closure has to be one that may be
     /// called on any bytes, whatever it was called with before.
@@ -101,44 +107,163 @@ where
         Err(DecodeError::InvalidBase64(InvalidBase64 { details }))
     }
 
-    /// Feeds a symbol.
-    fn take_symbol(&mut self, symbol: u8) -> Result<(), DecodeError<E>>
+    /// Takes a symbol, and answers the bytes of the group that it completes.
+    fn take_symbol(&mut self, symbol: u8) -> Result<Option<[u8; 3]>, InvalidBase64Details>
         requires symbol { IsTrue (is_symbol symbol) }
-        requires callable { F.IsAlwaysCallable (state_of self.old).closure }
         requires going { (state_of self.old).failed ≡ false }
-        ensures callable { F.IsAlwaysCallable (state_of self.new).closure }
-        ensures fed { Feeds (CalledAt F.FnMut) (state_of self.old) (symbol ∷ []) result (state_of self.new) }
+        ensures { MatchResult result
+            (λ group. Adds (state_of self.old) (symbol ∷ []) (bytes_in group) (state_of self.new))
+            (λ details. Refuses (state_of self.old) symbol (kind_of_details details) (state_of self.new)) }
     {
         if self.padding > 0 {
-            return self.refuse(InvalidBase64Details::AlphabetSymbolAfterPadding);
+            return Err(InvalidBase64Details::AlphabetSymbolAfterPadding);
         }
         if self.pending < 3 {
             self.symbols[self.pending] = symbol;
             self.pending += 1;
-            return Ok(());
+            return Ok(None);
         }
         self.pending = 0;
         let [first, second, third] = self.symbols;
-        self.write(&group_of(first, second, third, symbol))
+        Ok(Some(group_of(first, second, third, symbol)))
     }
 
-    /// Feeds one byte.
-    fn take_byte(&mut self, byte: u8) -> Result<(), DecodeError<E>>
-        requires callable { F.IsAlwaysCallable (state_of self.old).closure }
-        requires going { (state_of self.old).failed ≡ false }
-        ensures callable { F.IsAlwaysCallable (state_of self.new).closure }
-        ensures fed { Feeds (CalledAt F.FnMut) (state_of self.old) (byte ∷ []) result (state_of self.new) }
+    /// Takes one byte, and answers the bytes of the group that it completes.
+    fn take_byte(&mut self, byte: u8) -> Result<Option<[u8; 3]>, InvalidBase64Details>
+        requires { (state_of self.old).failed ≡ false }
+        ensures { MatchResult result
+            (λ group. Adds (state_of self.old) (byte ∷ []) (bytes_in group) (state_of self.new))
+            (λ details. Refuses (state_of self.old) byte (kind_of_details details) (state_of self.new)) }
     {
         if is_symbol(byte) {
             self.take_symbol(byte)
         } else if byte == b'=' {
             self.padding = (self.padding + 1).min(3);
-            Ok(())
+            Ok(None)
         } else if byte.is_ascii_whitespace() {
-            Ok(())
+            Ok(None)
         } else {
-            self.refuse(InvalidBase64Details::UnexpectedSymbol(byte))
+            Err(InvalidBase64Details::UnexpectedSymbol(byte))
         }
+    }
+
+    /// Takes one byte, and holds the bytes of the group that it completes. It answers how many bytes it took.
+    #[inline(always)]
+    fn take_one(&mut self, byte: u8, held: &mut Held) -> Result<usize, InvalidBase64Details>
+        requires room { held.old.groups < 16 }
+        requires going { (state_of self.old).failed ≡ false }
+        ensures { MatchResult result
+            (λ taken. Gains (state_of self.old) (held_bytes held.old) (byte ∷ []) taken
+            (state_of self.new) (held_bytes held.new))
+            (λ details. Refuses (state_of self.old) byte (kind_of_details details) (state_of self.new)
+            × (held_bytes held.new ≡ held_bytes held.old)) }
+    {
+        if let Some(group) = self.take_byte(byte)? {
+            held.append(&group, 1);
+        }
+        Ok(1)
+    }
+
+    /// Holds the bytes of whole groups that a text begins with, where nothing came before them that they could belong to,
+    /// and answers how many bytes of the text they take.
+    #[inline(always)]
+    fn take_groups(&self, text: &[u8], held: &mut Held) -> usize
+        requires { (state_of self.now).failed ≡ false }
+        ensures none { result ≡ 0
+            → (held_bytes held.new ≡ held_bytes held.old) × (held.new.groups ≡ held.old.groups) }
+        ensures some { 0 < result
+            → Gains (state_of self.now) (held_bytes held.old) text.now result (state_of self.now) (held_bytes held.new) }
+    {
+        if self.pending == 0 && self.padding == 0 && text.len() >= SHORTEST && is_symbol(text[0]) {
+            held.fill(text)
+        } else {
+            0
+        }
+    }
+
+    /// Takes the next bytes of a text: whole groups if it begins with some, or else one byte. It answers how many.
+    #[inline(always)]
+    fn take_some(&mut self, text: &[u8], held: &mut Held) -> Result<usize, InvalidBase64Details>
+        requires some { 1 ≤ length text.now }
+        requires room { held.old.groups < 16 }
+        requires going { (state_of self.old).failed ≡ false }
+        ensures { MatchResult result
+            (λ taken. Gains (state_of self.old) (held_bytes held.old) text.now taken
+            (state_of self.new) (held_bytes held.new))
+            (λ details. Refuses (state_of self.old) (slice_index text.now 0) (kind_of_details details) (state_of self.new)
+            × (held_bytes held.new ≡ held_bytes held.old)) }
+    {
+        let taken = self.take_groups(text, held);
+        if taken > 0 {
+            return Ok(taken);
+        }
+        self.take_one(text[0], held)
+    }
+
+    /// Hands out what is held, if anything is.
+    #[inline(always)]
+    fn flush(&mut self, held: &Held) -> Result<(), DecodeError<E>>
+        requires callable { F.IsAlwaysCallable (state_of self.old).closure }
+        requires going { (state_of self.old).failed ≡ false }
+        ensures callable { F.IsAlwaysCallable (state_of self.new).closure }
+        ensures flushed { Flushes (CalledAt F.FnMut) (state_of self.old) (held_bytes held.now) result (state_of self.new) }
+    {
+        if held.groups == 0 {
+            return Ok(());
+        }
+        self.write(held.as_slice())
+    }
+
+    /// Feeds one byte.
+    fn feed_byte(&mut self, byte: u8) -> Result<(), DecodeError<E>>
+        requires callable { F.IsAlwaysCallable (state_of self.old).closure }
+        requires going { (state_of self.old).failed ≡ false }
+        ensures callable { F.IsAlwaysCallable (state_of self.new).closure }
+        ensures fed { Feeds (CalledAt F.FnMut) (state_of self.old) (byte ∷ []) result (state_of self.new) }
+    {
+        match self.take_byte(byte) {
+            Ok(None) => Ok(()),
+            Ok(Some(group)) => self.write(&group),
+            Err(details) => self.refuse(details),
+        }
+    }
+
+    /// Feeds a text that is too short to complete two groups, a byte at a time.
+    fn feed_few(&mut self, input: &[u8]) -> Result<(), DecodeError<E>>
+        requires callable { F.IsAlwaysCallable (state_of self.old).closure }
+        requires going { (state_of self.old).failed ≡ false }
+        ensures callable { F.IsAlwaysCallable (state_of self.new).closure }
+        ensures fed { Feeds (CalledAt F.FnMut) (state_of self.old) input.now result (state_of self.new) }
+    {
+        for byte in input {
+            self.feed_byte(*byte)?;
+        }
+        Ok(())
+    }
+
+    /// Feeds a text, and hands out the bytes of up to sixteen groups as one piece.
+    fn feed_many(&mut self, input: &[u8]) -> Result<(), DecodeError<E>>
+        requires callable { F.IsAlwaysCallable (state_of self.old).closure }
+        requires going { (state_of self.old).failed ≡ false }
+        ensures callable { F.IsAlwaysCallable (state_of self.new).closure }
+        ensures fed { Feeds (CalledAt F.FnMut) (state_of self.old) input.now result (state_of self.new) }
+    {
+        let mut held = Held::new();
+        let mut at = 0;
+        while at < input.len() {
+            match self.take_some(&input[at..], &mut held) {
+                Ok(taken) => at += taken,
+                Err(details) => {
+                    self.flush(&held)?;
+                    return self.refuse(details);
+                }
+            }
+            if held.groups == ROOM {
+                self.flush(&held)?;
+                held.clear();
+            }
+        }
+        self.flush(&held)
     }
 
     /// Takes the next bytes of the text, in an encoding that ASCII is part of, and hands out the bytes of each group of four
@@ -155,10 +280,11 @@ where
         ensures callable { F.IsAlwaysCallable (state_of self.new).closure }
         ensures fed { Feeds (CalledAt F.FnMut) (state_of self.old) input.now result (state_of self.new) }
     {
-        for byte in input {
-            self.take_byte(*byte)?;
+        if self.pending + input.len() < 8 {
+            self.feed_few(input)
+        } else {
+            self.feed_many(input)
         }
-        Ok(())
     }
 
     /// Ends the text: hands out what the symbols left over stand for.

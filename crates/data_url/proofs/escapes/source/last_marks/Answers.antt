@@ -1,5 +1,5 @@
 use Rattle.std.proofs.Common.{refl}
-use Rattle.data_url.proofs.BlockLemmas.{marks_of_rest}
+use Rattle.data_url.proofs.TextBlockLemmas.{marks_of_rest}
 use Rattle.data_url.proofs.escapes.source.last_marks.Goals as goal
 
 pub returns : goal.returns

@@ -1,5 +1,5 @@
 use Rattle.std.proofs.Common.{arith}
-use Rattle.data_url.proofs.BlockLemmas.{copied_wide}
+use Rattle.data_url.proofs.TextBlockLemmas.{copied_wide}
 use Rattle.data_url.proofs.escapes.source.Source.copy.Goals as goal
 
 pub returns-then-wide : goal.returns-then-wide

@@ -1,0 +1,303 @@
+-- Feeding while bytes wait to be handed out together.
+use Rattle.std.proofs.Common.{◌≡◌, ℕ, ◌+◌, ◌-◌, ◌%◌, ◌<◌, ◌≤◌, Bool, true, false, cond, min, ◌||◌, inl, inr, List, [], ◌∷◌, ◌++◌, length, map, drop, get_or, take, take-add, Option, None, Some, is_some, Result, Ok, Err, refl, ap, ap₂, sym, ◌∙◌, subst, arith, append_assoc, length-append}
+use Rattle.std.specs.Prelude.{MatchResult, is_err}
+use Rattle.std.specs.List.{filter, list_all}
+use Rattle.std.proofs.lemmas.Bool.{and_parts, or_cases, true≢false}
+use Rattle.std.proofs.lemmas.List.{append-nil, get_or-drop, length-map, take_all, take_more, take_rest}
+use Rattle.data_url.specs.Base64.{Kind, after_groups, done, first_fault, groups, is_ascii_whitespace, is_symbol, kind_of, left_padding, left_symbols, left_text, symbol_value, values}
+use Rattle.data_url.specs.Decoding.{Feeds, IsTaken, State, left_over}
+use Rattle.data_url.specs.Mime.{Every}
+use Rattle.data_url.specs.Run.{Call, IsRun, joined, or_error, refusal}
+use Rattle.data_url.specs.Steps.{Writes}
+use Rattle.data_url.specs.Steps.Blocks.{AreGroups, Fills, is_symbol_or_space}
+use Rattle.data_url.specs.Steps.Holding.{Adds, Flushes, Gains, Holds, Refuses}
+use Rattle.data_url.specs.Refusal.{kind_of_details}
+use Rattle.data_url.specs.declared.forgiving_base64.InvalidBase64Details.{InvalidBase64Details}
+use Rattle.data_url.specs.declared.forgiving_base64.DecodeError.{DecodeError}
+use Rattle.data_url.specs.declared.forgiving_base64.DecodeError.TheVariants.{InvalidBase64, WriteError}
+use Rattle.data_url.proofs.ByteLemmas.{adds_text, fault_space, fault_symbol, has_sign, one_call, told_call}
+use Rattle.data_url.proofs.DecoderLemmas.{feeds_stop, feeds_then, left_goes_on}
+use Rattle.data_url.proofs.FillLemmas.{groups_length}
+use Rattle.data_url.proofs.RunLemmas.{joined-append, match_at, match_none, match_some, refusal-append, run-append}
+use Rattle.data_url.proofs.SignLemmas.{classes, fault-append, fault_byte, is_sign, length-after_groups}
+use Rattle.data_url.proofs.WalkLemmas.{space_alone, symbol_alone}
+
+-- A text of symbols and white space has no fault and no sign
+
+one_allowed : (c : ℕ) → is_symbol_or_space c ≡ true → (fault_byte false (c ∷ []) ≡ None) × (is_sign c ≡ false)
+one_allowed c h =
+    elim (or_cases (is_symbol c) (is_ascii_whitespace c) h) [
+      | inl s ↦ (fault_symbol c s, (symbol_alone (classes c) s).1)
+      | inr w ↦ (fault_space c false w, (space_alone (classes c) w).0)
+    ]
+
+allowed_fault : (t : List ℕ) → list_all is_symbol_or_space t ≡ true → fault_byte false t ≡ None
+unfolding fault_byte
+allowed_fault [] h = refl
+allowed_fault (c ∷ t) h =
+    let p = and_parts (is_symbol_or_space c) (list_all is_symbol_or_space t) h in
+    let one = one_allowed c p.0 in
+    fault-append (c ∷ []) t false one.0 ∙ ap (λ s. fault_byte s t) (nothing one.1) ∙ allowed_fault t p.1
+  where
+    nothing : {s : Bool} → s ≡ false → (false || (s || false)) ≡ false
+    nothing e = rw e refl
+
+allowed_signs : (t : List ℕ) → list_all is_symbol_or_space t ≡ true → filter is_sign t ≡ []
+allowed_signs [] h = refl
+allowed_signs (c ∷ t) h =
+    let p = and_parts (is_symbol_or_space c) (list_all is_symbol_or_space t) h in
+    ap (λ s. cond s (c ∷ filter is_sign t) (filter is_sign t)) (one_allowed c p.0).1 ∙ allowed_signs t p.1
+
+filter_length : (t : List ℕ) → length (filter is_symbol t) ≤ length t
+filter_length [] = omega arith
+filter_length (c ∷ t) = elim (is_symbol c) as (λ s. length (cond s (c ∷ filter is_symbol t) (filter is_symbol t)) ≤ length (c ∷ t)) [ true ↦ omega (arith, filter_length t) | false ↦ omega (arith, filter_length t) ]
+
+no_items : (l : List ℕ) → length l ≡ 0 → l ≡ []
+no_items [] e = refl
+no_items (b ∷ l) e = absurd (omega arith)
+
+-- whole groups, where nothing came before them
+pub adds_groups : {F : Type 0} {d : State F} (t more : List ℕ) → d.symbols ≡ [] → d.padding ≡ 0 → d.failed ≡ false → AreGroups t more → Adds d t more d
+unfolding values
+adds_groups {d = d} t more is_q is_p going g =
+    let k = filter is_symbol t in
+    let same : d.symbols ++ k ≡ k = ap (λ q. q ++ k) is_q in
+    let size : length k % 4 ≡ 0 = omega (arith, g.whole, length-map k symbol_value) in
+    let Q : List ℕ → Type 0 = λ q. Every is_symbol q in
+    adds_text t k more 0 (subst Q (sym is_q) tt)
+    (ap (λ p. fault_byte (has_sign p) t) is_p ∙ allowed_fault t g.alone)
+    refl (ap length (allowed_signs t g.alone))
+    (g.bytes_are ∙ ap (λ q. groups (map symbol_value q)) (sym same))
+    (omega (arith, ap length g.bytes_are, groups_length (map symbol_value k), length-map k symbol_value, filter_length t))
+    refl (is_q ∙ sym (ap after_groups same ∙ no_items (after_groups k) (length-after_groups k ∙ size)))
+    (is_p ∙ ap (λ p. min (p + 0) 3) (sym is_p)) going
+
+-- Holding
+
+none_from : {A : Type 0} (o : Option A) → is_some o ≡ false → o ≡ None
+none_from None e = refl
+none_from (Some x) e = absurd (true≢false e)
+
+told_ok : {E : Type 0} (told : Result (Unit {0}) E) (r : Result (Unit {0}) (DecodeError E)) → r ≡ Ok tt → MatchResult told (λ u. r ≡ Ok tt) (λ e. r ≡ Err (WriteError e)) → or_error told None ≡ None
+told_ok (Ok x) r e h = refl
+told_ok (Err x) r e h = absurd (cc)
+
+module _ {F E : Type 0} (step : F → List ℕ → Result (Unit {0}) E → F → Type 0) where
+  -- without a call
+  pub holds_from : {d d' : State F} {t more : List ℕ} → Adds d t more d' → Holds step d t more d'
+  holds_from a = record {
+    run = [];
+    ran = sym a.closure_stays;
+    accepted = refl;
+    bytes_are = a.bytes_are;
+    no_fault = a.no_fault;
+    left = a.left;
+    calls = omega (arith, a.few);
+    going = a.going;
+  }
+
+  -- and then more text
+  pub holds_adds : {d d1 d2 : State F} {a b held more : List ℕ} → Holds step d a held d1 → Adds d1 b more d2 → Holds step d (a ++ b) (held ++ more) d2
+  holds_adds {d} {d1} {d2} {a} {b} {held} {more} h k =
+      let u = left_over d ++ a in
+      let on = left_goes_on u b h.no_fault h.left in
+      let same : u ++ b ≡ left_over d ++ (a ++ b) = append_assoc (left_over d) a b in
+      let R : F → Type 0 = λ f. IsRun step d.closure h.run f in
+      record {
+        run = h.run;
+        ran = subst R (sym k.closure_stays) h.ran;
+        accepted = h.accepted;
+        bytes_are =
+            sym (append_assoc (joined h.run) held more)
+            ∙ ap (λ x. x ++ more) h.bytes_are
+            ∙ ap (λ x. done u ++ x) k.bytes_are
+            ∙ sym on.done_is
+            ∙ ap done same;
+        no_fault = ap first_fault (sym same) ∙ none_from (first_fault (u ++ b)) (on.fault_is ∙ ap is_some k.no_fault);
+        left = record {
+          symbols_are = k.left.symbols_are ∙ sym on.symbols_left ∙ ap left_symbols same;
+          padding_is = k.left.padding_is ∙ sym on.padding_left ∙ ap left_padding same;
+        };
+        calls = omega (arith, h.calls, k.few, length-append a b, length-append held more);
+        going = k.going;
+      }
+
+  -- what one call makes of the run
+  called_run : {d d1 d2 : State F} {t held : List ℕ} {r : Result (Unit {0}) (DecodeError E)} (h : Holds step d t held d1) (w : Writes step d1 held r d2) → IsRun step d.closure (h.run ++ record { piece = held; answer = w.told; after = d2.closure } ∷ []) d2.closure
+  called_run {d} {d1} {d2} {held = held} h w = run-append step h.run (record { piece = held; answer = w.told; after = d2.closure } ∷ []) d.closure d1.closure d2.closure h.ran h.accepted (one_call step d1.closure d2.closure held w.told w.called)
+
+  called_bytes : {d d1 : State F} {t held : List ℕ} (h : Holds step d t held d1) (told : Result (Unit {0}) E) (g : F) → joined (h.run ++ record { piece = held; answer = told; after = g } ∷ []) ≡ done (left_over d ++ t)
+  called_bytes {held = held} h told g = joined-append h.run (record { piece = held; answer = told; after = g } ∷ []) ∙ ap (λ x. joined h.run ++ x) (append-nil held) ∙ h.bytes_are
+
+  -- the end, or a fault: all that is held is handed out, in one call
+  pub written_feeds : {d d1 d2 : State F} {t held : List ℕ} {r : Result (Unit {0}) (DecodeError E)} (h : Holds step d t held d1) → length h.run + 1 ≤ length t → Writes step d1 held r d2 → Feeds step d t r d2
+  written_feeds {d} {d1} {d2} {t} {held} {r} h few w =
+      let u = left_over d ++ t in
+      let call : Call F E = record { piece = held; answer = w.told; after = d2.closure } in
+      let bytes = called_bytes h w.told d2.closure in
+      record {
+        run = h.run ++ call ∷ [];
+        ran = called_run h w;
+        calls = omega (arith, few, length-append h.run (call ∷ []));
+        failed = w.failed;
+        gave = match_at (or_error w.told None) (refusal (h.run ++ call ∷ [])) _ _ (refusal-append h.run (call ∷ []) h.accepted)
+            (told_call w.told r (IsTaken u (joined (h.run ++ call ∷ [])) r d2) (done u) (joined (h.run ++ call ∷ [])) bytes
+            (λ e. record { bytes_are = bytes; answer = match_none (first_fault u) _ _ h.no_fault (e, record { symbols_are = w.symbols_stay ∙ h.left.symbols_are; padding_is = w.padding_stays ∙ h.left.padding_is }) })
+            w.answer);
+      }
+
+  quiet_feeds : {d d1 d2 : State F} {t : List ℕ} {r : Result (Unit {0}) (DecodeError E)} → Holds step d t [] d1 → r ≡ Ok tt → d2 ≡ d1 → Feeds step d t r d2
+  quiet_feeds {d} {d1} {d2} {t} {r} h e same =
+      let u = left_over d ++ t in
+      let P : State F → Type 0 = λ s. Feeds step d t (Ok tt) s in
+      let Q : Result (Unit {0}) (DecodeError E) → Type 0 = λ x. Feeds step d t x d2 in
+      subst Q (sym e) (subst P (sym same) (record {
+        run = h.run;
+        ran = h.ran;
+        calls = omega (arith, h.calls);
+        failed = h.going;
+        gave = match_none (refusal h.run) _ _ h.accepted (record { bytes_are = sym (append-nil (joined h.run)) ∙ h.bytes_are; answer = match_none (first_fault u) _ _ h.no_fault (refl, h.left) });
+      }))
+
+  pub flushed_feeds : {d d1 d2 : State F} {t : List ℕ} {r : Result (Unit {0}) (DecodeError E)} (held : List ℕ) → Holds step d t held d1 → Flushes step d1 held r d2 → Feeds step d t r d2
+  flushed_feeds [] h f = quiet_feeds h f.0 f.1
+  flushed_feeds (b ∷ bs) h f = written_feeds h (omega (arith, h.calls)) f
+
+  written_holds : {d d1 d2 : State F} {t held : List ℕ} → length held ≡ 48 → Holds step d t held d1 → Writes step d1 held (Ok tt) d2 → Holds step d t [] d2
+  written_holds {d} {d1} {d2} {t} {held} full h w =
+      let call : Call F E = record { piece = held; answer = w.told; after = d2.closure } in
+      record {
+        run = h.run ++ call ∷ [];
+        ran = called_run h w;
+        accepted = refusal-append h.run (call ∷ []) h.accepted ∙ told_ok w.told (Ok tt) refl w.answer;
+        bytes_are = append-nil (joined (h.run ++ call ∷ [])) ∙ called_bytes h w.told d2.closure;
+        no_fault = h.no_fault;
+        left = record { symbols_are = w.symbols_stay ∙ h.left.symbols_are; padding_is = w.padding_stays ∙ h.left.padding_is };
+        calls = omega (arith, h.calls, length-append h.run (call ∷ []));
+        going = w.failed;
+      }
+
+  -- a full piece goes out
+  pub flushed_holds : {d d1 d2 : State F} {t : List ℕ} (held : List ℕ) → length held ≡ 48 → Holds step d t held d1 → Flushes step d1 held (Ok tt) d2 → Holds step d t [] d2
+  flushed_holds [] full h f = absurd (omega arith)
+  flushed_holds (b ∷ bs) full h f = written_holds full h f
+
+  flushed_left : (d d' : State F) (r : Result (Unit {0}) (DecodeError E)) (held : List ℕ) → Flushes step d held r d' → left_over d' ≡ left_over d
+  flushed_left d d' r [] f = ap left_over f.1
+  flushed_left d d' r (b ∷ bs) w = ap₂ left_text w.symbols_stay w.padding_stays
+
+  -- A fault
+
+  pub refuses_feeds : {d d' : State F} {r : Result (Unit {0}) (DecodeError E)} {kind : Kind} (left : List ℕ) (c : ℕ) → left_over d ≡ left → is_some (first_fault (left ++ c ∷ [])) ≡ true → kind_of (left ++ c ∷ []) ≡ kind → done (left ++ c ∷ []) ≡ [] → d' ≡ record d { failed = true } → r ≡ Err (InvalidBase64 kind) → Feeds step d (c ∷ []) r d'
+  refuses_feeds {d} {d'} {r} {kind} left c e fault is_kind nothing same told =
+      let u : left_over d ++ c ∷ [] ≡ left ++ c ∷ [] = ap (λ l. l ++ c ∷ []) e in
+      record {
+        run = [];
+        ran = sym (ap (λ (s : State F). s.closure) same);
+        calls = omega arith;
+        failed = ap (λ (s : State F). s.failed) same ∙ sym (ap is_err told);
+        gave = record {
+          bytes_are = sym (ap done u ∙ nothing);
+          answer = match_some (first_fault (left_over d ++ c ∷ [])) _ _ (ap (λ t. is_some (first_fault t)) u ∙ fault) (told ∙ ap (λ z. Err (InvalidBase64 z)) (sym (ap kind_of u ∙ is_kind)));
+        };
+      }
+
+  -- behind what was fed and flushed
+  pub refused_feeds : {d d1 d2 d4 : State F} (d3 : State F) {r : Result (Unit {0}) (DecodeError E)} {kind : Kind} (t held : List ℕ) (c : ℕ) → Holds step d t held d1 → Refuses d1 c kind d2 → Flushes step d2 held (Ok tt) d3 → d4 ≡ record d3 { failed = true } → r ≡ Err (InvalidBase64 kind) → Feeds step d (t ++ c ∷ []) r d4
+  refused_feeds {d} {d1} {d2} d3 t held c h f flushed same told =
+      let P : State F → Type 0 = λ s. Holds step d t held s in
+      let left : left_over d3 ≡ left_over d1 = flushed_left d2 d3 (Ok tt) held flushed ∙ ap left_over f.stays in
+      feeds_then step (flushed_feeds held (subst P (sym f.stays) h) flushed) (refuses_feeds (left_over d1) c left f.fault f.kind_is f.none_done same told)
+
+-- Some more text
+
+-- whole groups that the text begins with
+pub gains_groups : {F : Type 0} {d : State F} {held text held' : List ℕ} (taken : ℕ) → 0 < taken → d.symbols ≡ [] → d.padding ≡ 0 → d.failed ≡ false → Fills held text taken held' → Gains d held text taken d held'
+gains_groups {text = text} taken some is_q is_p going f = record {
+  some = omega arith;
+  within = f.within;
+  more = f.more;
+  adds = adds_groups (take taken text) f.more is_q is_p going f.are;
+  held_are = f.held_are;
+}
+
+-- none
+pub fills_none : {held text held' : List ℕ} (taken : ℕ) → taken ≡ 0 → Fills held text taken held' → held' ≡ held
+unfolding values groups
+fills_none {held} {text} taken e f =
+    let nothing : take taken text ≡ [] = ap (λ n. take n text) e in
+    f.held_are ∙ ap (λ m. held ++ m) (f.are.bytes_are ∙ ap (λ t. groups (values t)) nothing) ∙ append-nil held
+
+-- one byte
+pub gains_one : {F : Type 0} {d d' : State F} {held held' : List ℕ} (byte : ℕ) (more : List ℕ) → Adds d (byte ∷ []) more d' → held' ≡ held ++ more → Gains d held (byte ∷ []) 1 d' held'
+gains_one byte more a e = record { some = omega arith; within = omega arith; more = more; adds = a; held_are = e }
+
+first_byte : (text : List ℕ) → 1 ≤ length text → take 1 text ≡ get_or text 0 0 ∷ []
+first_byte [] h = absurd (omega arith)
+first_byte (b ∷ text) h = refl
+
+pub gains_first : {F : Type 0} {d d' : State F} {held held' text : List ℕ} {taken : ℕ} → 1 ≤ length text → Gains d held (get_or text 0 0 ∷ []) taken d' held' → Gains d held text taken d' held'
+gains_first {d = d} {d' = d'} {text = text} {taken = taken} h g =
+    let one : taken ≡ 1 = omega (arith, g.some, g.within) in
+    let same : take taken (get_or text 0 0 ∷ []) ≡ take taken text = ap (λ n. take n (get_or text 0 0 ∷ [])) one ∙ sym (ap (λ n. take n text) one ∙ first_byte text h) in
+    let A : List ℕ → Type 0 = λ t. Adds d t g.more d' in
+    record { some = g.some; within = omega arith; more = g.more; adds = subst A same g.adds; held_are = g.held_are }
+
+pub first_matches : {F : Type 0} (d d' : State F) (held held' text : List ℕ) (r : Result ℕ InvalidBase64Details) → 1 ≤ length text
+    → MatchResult r (λ taken. Gains d held (get_or text 0 0 ∷ []) taken d' held') (λ details. Refuses d (get_or text 0 0) (kind_of_details details) d' × (held' ≡ held))
+    → MatchResult r (λ taken. Gains d held text taken d' held') (λ details. Refuses d (get_or text 0 0) (kind_of_details details) d' × (held' ≡ held))
+first_matches d d' held held' text (Ok taken) some h = gains_first some h
+first_matches d d' held held' text (Err details) some h = h
+
+-- The steps of a feed
+
+pub byte_at : (s : List ℕ) (at : ℕ) → at < length s → get_or (take (length s - at) (drop at s)) 0 0 ≡ get_or s at 0
+byte_at s at h = ap (λ t. get_or t 0 0) (take_rest s at) ∙ get_or-drop at s 0 0 ∙ ap (λ n. get_or s n 0) (omega arith)
+
+module _ {F E : Type 0} (step : F → List ℕ → Result (Unit {0}) E → F → Type 0) where
+  -- a byte that is refused where nothing is held
+  pub refused_alone : {d d2 d3 : State F} {r : Result (Unit {0}) (DecodeError E)} {kind : Kind} (c : ℕ) → Refuses d c kind d2 → d3 ≡ record d2 { failed = true } → r ≡ Err (InvalidBase64 kind) → Feeds step d (c ∷ []) r d3
+  refused_alone {d} c f same told = refuses_feeds step (left_over d) c refl f.fault f.kind_is f.none_done (same ∙ ap (λ (s : State F). record s { failed = true }) f.stays) told
+
+  -- a group that is handed out at once
+  pub group_feeds : {d d1 d2 : State F} {t : List ℕ} {r : Result (Unit {0}) (DecodeError E)} (group : List ℕ) → 1 ≤ length t → Adds d t group d1 → Writes step d1 group r d2 → Feeds step d t r d2
+  unfolding holds_from
+  group_feeds group some a w = let none : length (holds_from step a).run ≡ 0 = refl in written_feeds step (holds_from step a) (omega arith) w
+
+  -- what is held stays where the next byte is refused
+  pub stays_holds : {d d1 d2 : State F} {t held held' : List ℕ} {c : ℕ} {kind : Kind} → Holds step d t held d1 → Refuses d1 c kind d2 → held' ≡ held → Holds step d t held' d2
+  stays_holds {d} {d1} {d2} {t} {held} {held'} h f e =
+      let P : State F → Type 0 = λ s. Holds step d t held' s in
+      let Q : List ℕ → Type 0 = λ l. Holds step d t l d1 in
+      subst P (sym f.stays) (subst Q (sym e) h)
+
+  -- some more of the text s
+  pub gains_holds : {d d1 d2 : State F} {held held' : List ℕ} {taken : ℕ} (s : List ℕ) (at : ℕ) → Holds step d (take at s) held d1 → Gains d1 held (take (length s - at) (drop at s)) taken d2 held' → Holds step d (take (at + taken) s) held' d2
+  gains_holds {d} {d1} {d2} {held} {held'} {taken} s at h g =
+      let same : take taken (take (length s - at) (drop at s)) ≡ take taken (drop at s) = ap (take taken) (take_rest s at) in
+      let P : List ℕ → Type 0 = λ t. Holds step d t held' d2 in
+      let Q : List ℕ → Type 0 = λ l. Holds step d (take at s ++ take taken (drop at s)) l d2 in
+      let A : List ℕ → Type 0 = λ t. Adds d1 t g.more d2 in
+      subst P (sym (take-add at taken s)) (subst Q (sym g.held_are) (holds_adds step h (subst A same g.adds)))
+
+  -- the flush was refused
+  pub flush_refused : {d d1 d2 : State F} {x : DecodeError E} (s : List ℕ) (at : ℕ) (held : List ℕ) → Holds step d (take at s) held d1 → Flushes step d1 held (Err x) d2 → Feeds step d s (Err x) d2
+  flush_refused s at held h f = feeds_stop step s at (flushed_feeds step held h f)
+
+  -- a fault, behind which nothing is read
+  pub fault_feeds : {d d1 d2 d4 : State F} (d3 : State F) {r : Result (Unit {0}) (DecodeError E)} {kind : Kind} (s held held' : List ℕ) (at c : ℕ) → at < length s → c ≡ get_or s at 0
+      → Holds step d (take at s) held d1 → Refuses d1 c kind d2 → held' ≡ held → Flushes step d2 held' (Ok tt) d3 → d4 ≡ record d3 { failed = true } → r ≡ Err (InvalidBase64 kind) → Feeds step d s r d4
+  fault_feeds {d} {d1} {d2} {d4} d3 {r} {kind} s held held' at c inside is h f same flushed failed told =
+      let A : List ℕ → Type 0 = λ l. Holds step d (take at s) l d1 in
+      let P : List ℕ → Type 0 = λ t. Feeds step d t (Err (InvalidBase64 kind)) d4 in
+      let Q : Result (Unit {0}) (DecodeError E) → Type 0 = λ x. Feeds step d s x d4 in
+      let more : take at s ++ c ∷ [] ≡ take (at + 1) s = ap (λ b. take at s ++ b ∷ []) is ∙ sym (take_more s at 0 inside) in
+      subst Q (sym told) (feeds_stop step s (at + 1) (subst P more (refused_feeds step d3 (take at s) held' c (subst A (sym same) h) f flushed failed refl)))
+
+  -- all that is held is a full piece
+  pub full_holds : {d d1 d2 : State F} {t : List ℕ} (held held' : List ℕ) → length held ≡ 48 → held' ≡ [] → Holds step d t held d1 → Flushes step d1 held (Ok tt) d2 → Holds step d t held' d2
+  full_holds {d} {d1} {d2} {t} held held' full e h f = let P : List ℕ → Type 0 = λ l. Holds step d t l d2 in subst P (sym e) (flushed_holds step held full h f)
+
+  -- the end of the text
+  pub end_feeds : {d d1 d2 : State F} {r : Result (Unit {0}) (DecodeError E)} (s : List ℕ) (at : ℕ) (held : List ℕ) → length s ≤ at → Holds step d (take at s) held d1 → Flushes step d1 held r d2 → Feeds step d s r d2
+  end_feeds {d} {d1} {d2} {r} s at held over h f = let P : List ℕ → Type 0 = λ t. Feeds step d t r d2 in subst P (take_all at s over) (flushed_feeds step held h f)

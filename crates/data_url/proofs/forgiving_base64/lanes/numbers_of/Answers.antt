@@ -1,0 +1,13 @@
+use Rattle.std.proofs.lemmas.Simd.{dot4_Fits}
+use Rattle.data_url.specs.declared.forgiving_base64.lanes.TheConstants.{LOWER_WEIGHTS, UPPER_WEIGHTS}
+use Rattle.data_url.proofs.LaneLemmas.{numbers_is}
+use Rattle.data_url.proofs.forgiving_base64.lanes.numbers_of.Goals as goal
+
+pub dot4-upper : goal.dot4-upper
+dot4-upper c = (dot4_Fits c.args.values UPPER_WEIGHTS c.fits-values.1 tt, tt)
+
+pub dot4-lower : goal.dot4-lower
+dot4-lower c = (dot4_Fits c.args.values LOWER_WEIGHTS c.fits-values.1 tt, tt)
+
+pub returns : goal.returns
+returns c = numbers_is c.args.values c.fits-values.0 c.requires

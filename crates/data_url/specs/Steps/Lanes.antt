@@ -1,0 +1,17 @@
+-- What a vector makes of one byte, and of a row of values.
+use Rattle.std.specs.Prelude.{ℕ, ◌+◌, ◌/◌, ◌%◌, ◌==◌, cond, bit_and, slice_index, List, [], ◌∷◌}
+use Rattle.data_url.specs.Base64.{group_number}
+use Rattle.data_url.specs.declared.forgiving_base64.lanes.TheConstants.{HIGH_HALVES, LOW_HALVES, OFFSETS}
+
+-- 0 exactly for a symbol, by the two halves of the byte
+abbrev pub mark_of : ℕ → ℕ
+mark_of b = bit_and (slice_index LOW_HALVES (bit_and b 15)) (slice_index HIGH_HALVES (b / 16))
+
+-- the value of a symbol, and some number below 64 for another byte
+abbrev pub value_of : ℕ → ℕ
+value_of b = bit_and ((b + slice_index OFFSETS (cond (b == 47) 1 (b / 16))) % 256) 63
+
+-- the number of each whole group of four values
+abbrev pub numbers : List ℕ → List ℕ
+numbers (p ∷ q ∷ r ∷ s ∷ rest) = group_number p q r s ∷ numbers rest
+numbers vs = []

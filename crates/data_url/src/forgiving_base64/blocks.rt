@@ -1,0 +1,125 @@
+//! Blocks of 64 bytes of a text of base64 (RFC 4648, section 4), as four rows of sixteen.
+
+ghost use Rattle.std.specs.Prelude.{◌≡◌, ◌+◌, ◌<◌, ◌≤◌, ◌++◌, drop, length, map, not, take};
+ghost use Rattle.std.specs.List.{list_all, prefix_len};
+ghost use Rattle.std.specs.Simd.Lanes.{mask_l};
+ghost use Rattle.data_url.specs.Base64.{groups, is_symbol};
+ghost use Rattle.data_url.specs.Steps.Blocks.{without};
+ghost use Rattle.data_url.specs.Steps.Lanes.{value_of};
+
+use super::lanes::{decode_row, marks_of};
+use std::simd::prelude::*;
+
+/// The places of the bytes of a row.
+const PLACES: [u8; 16] = [0, 1, 2, 3, 4, 5, 6, 7, 8, 9, 10, 11, 12, 13, 14, 15];
+
+/// The row of a text that begins at a place.
+#[inline(always)]
+fn row(text: &[u8], at: usize) -> u8x16
+    requires { at + 16 ≤ length text.now }
+    ensures { result ≡ take 16 (drop at text.now) }
+{
+    u8x16::from_slice(&text[at..])
+}
+
+/// Whether all of the first 64 bytes are symbols.
+#[inline(always)]
+pub(crate) fn is_whole(text: &[u8]) -> bool
+    requires { 64 ≤ length text.now }
+    ensures { result ≡ list_all is_symbol (take 64 text.now) }
+{
+    let upper = marks_of(row(text, 0)) | marks_of(row(text, 16));
+    let lower = marks_of(row(text, 32)) | marks_of(row(text, 48));
+    (upper | lower).simd_ne(u8x16::splat(0)).to_bitmask() == 0
+}
+
+/// A bit for each byte of a row, which is set where it is no symbol.
+#[inline(always)]
+fn others(bytes: u8x16) -> u64
+    ensures few { result < 65536 }
+    ensures mask { result ≡ mask_l (map (λ b. not (is_symbol b)) bytes) }
+{
+    marks_of(bytes).simd_ne(u8x16::splat(0)).to_bitmask()
+}
+
+/// How many of the first 64 bytes stand before the first of them that is no symbol.
+#[inline(always)]
+pub(crate) fn symbols_ahead(text: &[u8]) -> usize
+    requires { 64 ≤ length text.now }
+    ensures { result ≡ prefix_len is_symbol (take 64 text.now) }
+{
+    let upper = others(row(text, 0)) + (others(row(text, 16)) << 16);
+    let lower = others(row(text, 32)) + (others(row(text, 48)) << 16);
+    let all = upper + (lower << 32);
+    if all == 0 {
+        64
+    } else {
+        all.trailing_zeros() as usize
+    }
+}
+
+/// Writes a row at a place.
+#[inline(always)]
+fn put(bytes: &mut [u8], at: usize, row: u8x16)
+    requires { at + 16 ≤ length bytes.old }
+    ensures { take (at + 16) bytes.new ≡ take at bytes.old ++ row }
+{
+    row.copy_to_slice(&mut bytes[at..]);
+}
+
+/// The bytes of the sixteen groups of the first 64 bytes, which count as symbols.
+#[inline(always)]
+pub(crate) fn decode(text: &[u8]) -> [u8; 48]
+    requires { 64 ≤ length text.now }
+    ensures { result ≡ groups (map value_of (take 64 text.now)) }
+{
+    let first = decode_row(row(text, 0));
+    let second = decode_row(row(text, 16));
+    let third = decode_row(row(text, 32));
+    let fourth = decode_row(row(text, 48));
+    let front = first.shuffle(
+        second,
+        [0, 1, 2, 3, 4, 5, 6, 7, 8, 9, 10, 11, 16, 17, 18, 19],
+    );
+    let middle = second.shuffle(
+        third,
+        [4, 5, 6, 7, 8, 9, 10, 11, 16, 17, 18, 19, 20, 21, 22, 23],
+    );
+    let end = third.shuffle(
+        fourth,
+        [8, 9, 10, 11, 16, 17, 18, 19, 20, 21, 22, 23, 24, 25, 26, 27],
+    );
+    let mut bytes = [0; 48];
+    put(&mut bytes, 0, front);
+    put(&mut bytes, 16, middle);
+    put(&mut bytes, 32, end);
+    bytes
+}
+
+/// The row that begins at a place of a text without a gap: before the gap the text's own, and behind it what stands so
+/// much later.
+#[inline(always)]
+fn row_without(text: &[u8], at: usize, place: usize, gap: usize) -> u8x16
+    requires within { 64 + gap ≤ length text.now }
+    requires early { (at ≤ 48) × (place ≤ 64) }
+    ensures { result ≡ take 16 (drop at (without place gap text.now)) }
+{
+    let places = u8x16::from_array(PLACES) + u8x16::splat(at as u8);
+    let is_before = places.simd_lt(u8x16::splat(place as u8));
+    is_before.select(row(text, at), row(text, at + gap))
+}
+
+/// The first 64 bytes of a text without the gap at a place.
+#[inline(always)]
+pub(crate) fn block_without(text: &[u8], place: usize, gap: usize) -> [u8; 64]
+    requires within { 64 + gap ≤ length text.now }
+    requires early { place ≤ 64 }
+    ensures { result ≡ take 64 (without place gap text.now) }
+{
+    let mut bytes = [0; 64];
+    put(&mut bytes, 0, row_without(text, 0, place, gap));
+    put(&mut bytes, 16, row_without(text, 16, place, gap));
+    put(&mut bytes, 32, row_without(text, 32, place, gap));
+    put(&mut bytes, 48, row_without(text, 48, place, gap));
+    bytes
+}

@@ -1,0 +1,67 @@
+//! Sixteen bytes of a text at a time: which are symbols, and what they stand for (RFC 4648, section 4).
+
+ghost use Rattle.std.specs.Prelude.{◌≡◌, ◌<◌, length, map, take};
+ghost use Rattle.std.specs.Simd.Lanes.{Each1};
+ghost use Rattle.data_url.specs.Base64.{groups};
+ghost use Rattle.data_url.specs.Steps.Lanes.{mark_of, numbers, value_of};
+
+use std::simd::prelude::*;
+
+/// By the low half of a byte, the rows of the alphabet in which it is no symbol, a bit for each row.
+const LOW_HALVES: [u8; 16] = [
+    21, 17, 17, 17, 17, 17, 17, 17, 17, 17, 19, 26, 27, 27, 27, 26,
+];
+
+/// By the high half of a byte, the bit of its row.
+const HIGH_HALVES: [u8; 16] = [16, 16, 1, 2, 4, 8, 4, 8, 16, 16, 16, 16, 16, 16, 16, 16];
+
+/// By the high half of a symbol, and by 1 for '/', what added to the symbol gives its value, up to a multiple of 64.
+const OFFSETS: [u8; 16] = [0, 16, 19, 4, 191, 191, 185, 185, 0, 0, 0, 0, 0, 0, 0, 0];
+
+/// The weights of the first two values of a group, in half a number.
+const UPPER_WEIGHTS: [u8; 16] = [64, 1, 0, 0, 64, 1, 0, 0, 64, 1, 0, 0, 64, 1, 0, 0];
+
+/// The weights of the last two.
+const LOWER_WEIGHTS: [u8; 16] = [0, 0, 64, 1, 0, 0, 64, 1, 0, 0, 64, 1, 0, 0, 64, 1];
+
+/// Marks each byte that is no symbol by a number that is not 0.
+#[inline(always)]
+pub(crate) fn marks_of(bytes: u8x16) -> u8x16
+    ensures { result ≡ map mark_of bytes }
+{
+    let low = u8x16::from_array(LOW_HALVES).swizzle_dyn(bytes & u8x16::splat(15));
+    let high = u8x16::from_array(HIGH_HALVES).swizzle_dyn(bytes >> u8x16::splat(4));
+    low & high
+}
+
+/// The value of each symbol. A byte that is no symbol has some value too.
+#[inline(always)]
+fn values_of(bytes: u8x16) -> u8x16
+    ensures { result ≡ map value_of bytes }
+{
+    let is_slash = bytes.simd_eq(u8x16::splat(b'/'));
+    let rows = is_slash.select(u8x16::splat(1), bytes >> u8x16::splat(4));
+    (bytes + u8x16::from_array(OFFSETS).swizzle_dyn(rows)) & u8x16::splat(63)
+}
+
+/// The number of each group of four values.
+#[inline(always)]
+fn numbers_of(values: u8x16) -> u32x4
+    requires { Each1 (λ v. v < 64) values }
+    ensures { result ≡ numbers values }
+{
+    let upper = values.dot4(u8x16::from_array(UPPER_WEIGHTS));
+    let lower = values.dot4(u8x16::from_array(LOWER_WEIGHTS));
+    (upper << u32x4::splat(12)) + lower
+}
+
+/// The bytes of a row's four groups, and four bytes more that say nothing.
+#[inline(always)]
+pub(crate) fn decode_row(bytes: u8x16) -> u8x16
+    ensures len { length result ≡ 16 }
+    ensures bytes { take 12 result ≡ groups (map value_of bytes) }
+{
+    numbers_of(values_of(bytes))
+        .to_le_bytes()
+        .swizzle([2, 1, 0, 6, 5, 4, 10, 9, 8, 14, 13, 12, 15, 15, 15, 15])
+}
