@@ -5,6 +5,7 @@ mod base64_blocks;
 mod errors;
 mod failing;
 mod mime;
+mod pieces;
 mod program;
 mod streams;
 mod urls;
