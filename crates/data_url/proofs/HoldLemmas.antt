@@ -11,8 +11,6 @@ use Rattle.data_url.specs.Run.{Call, IsRun, joined, or_error, refusal}
 use Rattle.data_url.specs.Steps.{Writes}
 use Rattle.data_url.specs.Steps.Blocks.{AreGroups, Fills, is_symbol_or_space}
 use Rattle.data_url.specs.Steps.Holding.{Adds, Flushes, Gains, Holds, Refuses}
-use Rattle.data_url.specs.Refusal.{kind_of_details}
-use Rattle.data_url.specs.declared.forgiving_base64.InvalidBase64Details.{InvalidBase64Details}
 use Rattle.data_url.specs.declared.forgiving_base64.DecodeError.{DecodeError}
 use Rattle.data_url.specs.declared.forgiving_base64.DecodeError.TheVariants.{InvalidBase64, WriteError}
 use Rattle.data_url.proofs.ByteLemmas.{adds_text, fault_space, fault_symbol, has_sign, one_call, told_call}
@@ -220,34 +218,6 @@ gains_groups {text = text} taken some is_q is_p going f = record {
   adds = adds_groups (take taken text) f.more is_q is_p going f.are;
   held_are = f.held_are;
 }
-
--- none
-pub fills_none : {held text held' : List ℕ} (taken : ℕ) → taken ≡ 0 → Fills held text taken held' → held' ≡ held
-unfolding values groups
-fills_none {held} {text} taken e f =
-    let nothing : take taken text ≡ [] = ap (λ n. take n text) e in
-    f.held_are ∙ ap (λ m. held ++ m) (f.are.bytes_are ∙ ap (λ t. groups (values t)) nothing) ∙ append-nil held
-
--- one byte
-pub gains_one : {F : Type 0} {d d' : State F} {held held' : List ℕ} (byte : ℕ) (more : List ℕ) → Adds d (byte ∷ []) more d' → held' ≡ held ++ more → Gains d held (byte ∷ []) 1 d' held'
-gains_one byte more a e = record { some = omega arith; within = omega arith; more = more; adds = a; held_are = e }
-
-first_byte : (text : List ℕ) → 1 ≤ length text → take 1 text ≡ get_or text 0 0 ∷ []
-first_byte [] h = absurd (omega arith)
-first_byte (b ∷ text) h = refl
-
-pub gains_first : {F : Type 0} {d d' : State F} {held held' text : List ℕ} {taken : ℕ} → 1 ≤ length text → Gains d held (get_or text 0 0 ∷ []) taken d' held' → Gains d held text taken d' held'
-gains_first {d = d} {d' = d'} {text = text} {taken = taken} h g =
-    let one : taken ≡ 1 = omega (arith, g.some, g.within) in
-    let same : take taken (get_or text 0 0 ∷ []) ≡ take taken text = ap (λ n. take n (get_or text 0 0 ∷ [])) one ∙ sym (ap (λ n. take n text) one ∙ first_byte text h) in
-    let A : List ℕ → Type 0 = λ t. Adds d t g.more d' in
-    record { some = g.some; within = omega arith; more = g.more; adds = subst A same g.adds; held_are = g.held_are }
-
-pub first_matches : {F : Type 0} (d d' : State F) (held held' text : List ℕ) (r : Result ℕ InvalidBase64Details) → 1 ≤ length text
-    → MatchResult r (λ taken. Gains d held (get_or text 0 0 ∷ []) taken d' held') (λ details. Refuses d (get_or text 0 0) (kind_of_details details) d' × (held' ≡ held))
-    → MatchResult r (λ taken. Gains d held text taken d' held') (λ details. Refuses d (get_or text 0 0) (kind_of_details details) d' × (held' ≡ held))
-first_matches d d' held held' text (Ok taken) some h = gains_first some h
-first_matches d d' held held' text (Err details) some h = h
 
 -- The steps of a feed
 

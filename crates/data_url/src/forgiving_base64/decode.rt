@@ -113,7 +113,8 @@ where
         requires going { (state_of self.old).failed ≡ false }
         ensures { MatchResult result
             (λ group. Adds (state_of self.old) (symbol ∷ []) (bytes_in group) (state_of self.new))
-            (λ details. Refuses (state_of self.old) symbol (kind_of_details details) (state_of self.new)) }
+            (λ details.
+            Refuses (state_of self.old) symbol (kind_of_details details) (state_of self.new)) }
     {
         if self.padding > 0 {
             return Err(InvalidBase64Details::AlphabetSymbolAfterPadding);
@@ -133,7 +134,8 @@ where
         requires { (state_of self.old).failed ≡ false }
         ensures { MatchResult result
             (λ group. Adds (state_of self.old) (byte ∷ []) (bytes_in group) (state_of self.new))
-            (λ details. Refuses (state_of self.old) byte (kind_of_details details) (state_of self.new)) }
+            (λ details.
+            Refuses (state_of self.old) byte (kind_of_details details) (state_of self.new)) }
     {
         if is_symbol(byte) {
             self.take_symbol(byte)
@@ -155,7 +157,8 @@ where
         ensures { MatchResult result
             (λ taken. Gains (state_of self.old) (held_bytes held.old) (byte ∷ []) taken
             (state_of self.new) (held_bytes held.new))
-            (λ details. Refuses (state_of self.old) byte (kind_of_details details) (state_of self.new)
+            (λ details.
+            Refuses (state_of self.old) byte (kind_of_details details) (state_of self.new)
             × (held_bytes held.new ≡ held_bytes held.old)) }
     {
         if let Some(group) = self.take_byte(byte)? {
@@ -172,7 +175,8 @@ where
         ensures none { result ≡ 0
             → (held_bytes held.new ≡ held_bytes held.old) × (held.new.groups ≡ held.old.groups) }
         ensures some { 0 < result
-            → Gains (state_of self.now) (held_bytes held.old) text.now result (state_of self.now) (held_bytes held.new) }
+            → Gains (state_of self.now) (held_bytes held.old) text.now result
+            (state_of self.now) (held_bytes held.new) }
     {
         if self.pending == 0 && self.padding == 0 && text.len() >= SHORTEST && is_symbol(text[0]) {
             held.fill(text)
@@ -190,7 +194,9 @@ where
         ensures { MatchResult result
             (λ taken. Gains (state_of self.old) (held_bytes held.old) text.now taken
             (state_of self.new) (held_bytes held.new))
-            (λ details. Refuses (state_of self.old) (slice_index text.now 0) (kind_of_details details) (state_of self.new)
+            (λ details.
+            Refuses (state_of self.old) (slice_index text.now 0) (kind_of_details details)
+            (state_of self.new)
             × (held_bytes held.new ≡ held_bytes held.old)) }
     {
         let taken = self.take_groups(text, held);
@@ -206,7 +212,8 @@ where
         requires callable { F.IsAlwaysCallable (state_of self.old).closure }
         requires going { (state_of self.old).failed ≡ false }
         ensures callable { F.IsAlwaysCallable (state_of self.new).closure }
-        ensures flushed { Flushes (CalledAt F.FnMut) (state_of self.old) (held_bytes held.now) result (state_of self.new) }
+        ensures flushed { Flushes (CalledAt F.FnMut) (state_of self.old) (held_bytes held.now) result
+            (state_of self.new) }
     {
         if held.groups == 0 {
             return Ok(());
