@@ -1,6 +1,6 @@
 -- The body of a tail, by what the tail begins with.
-use Rattle.std.proofs.Common.{◌≡◌, ℕ, ◌+◌, ◌*◌, Bool, true, false, cond, List, [], ◌∷◌, Option, None, Some, refl, sym, ap, ◌∙◌, inl, inr, eqb, eqb-true, eq-eqb}
-use Rattle.std.specs.Prelude.{◌==◌, ◌&&◌, ◌≢◌}
+use Rattle.std.proofs.Common.{◌≡◌, ℕ, ◌+◌, ◌*◌, Bool, true, false, List, [], ◌∷◌, Option, None, Some, refl, sym, ap, ◌∙◌, inl, inr, eqb-true}
+use Rattle.std.specs.Prelude.{◌==◌, ◌&&◌}
 use Rattle.std.specs.Char.{digit_value}
 use Rattle.std.proofs.lemmas.Bool.{and_left, and_right, both_ways, cases_Bool, cond-true, cond-false, ne_eqb}
 use Rattle.data_url.specs.Url.{before, behind, dropped, front, is_tab_or_newline}
@@ -8,7 +8,7 @@ use Rattle.data_url.specs.Percent.{is_hex, percent_decoded}
 use Rattle.data_url.specs.Fetch.{plain_body}
 use Rattle.data_url.specs.Pieces.{digit, escape, with_high_digit, with_low_digit}
 use Rattle.data_url.proofs.DigitLemmas.{digit_here, digit_nil, digit_tab}
-use Rattle.data_url.proofs.UrlLemmas.{before_nil, before_other, before_same, behind_nil, behind_other, behind_same, dropped_keeps, dropped_nil, dropped_passes}
+use Rattle.data_url.proofs.UrlLemmas.{before_nil, before_other, before_same, behind_other, dropped_keeps, dropped_nil, dropped_passes}
 use Rattle.data_url.proofs.RecodedLemmas.{decoded_escape, decoded_keeps, two_digits}
 
 -- Digits and escapes, in what is left without tabs and newlines

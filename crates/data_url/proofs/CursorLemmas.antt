@@ -1,14 +1,13 @@
 -- The steps of a walk.
-use Rattle.std.proofs.Common.{◌≡◌, ℕ, suc, ◌+◌, ◌*◌, ◌-◌, ◌<◌, ◌≤◌, Bool, true, false, not, ◌||◌, List, [], ◌∷◌, ◌++◌, length, take, drop, get_or, Option, None, Some, refl, sym, ap, ◌∙◌, subst, arith, eqb-true}
-use Rattle.std.specs.Prelude.{◌==◌, IfSome, slice_range}
+use Rattle.std.proofs.Common.{◌≡◌, ℕ, ◌+◌, ◌<◌, ◌≤◌, Bool, true, false, not, ◌||◌, List, [], ◌∷◌, length, drop, get_or, refl, sym, ap, ◌∙◌, subst, arith}
+use Rattle.std.specs.Prelude.{◌==◌}
 use Rattle.std.proofs.lemmas.Bool.{ne_eqb}
 use Rattle.std.proofs.lemmas.List.{drop_all, drop_more}
-use Rattle.data_url.specs.Url.{behind, is_tab_or_newline}
-use Rattle.data_url.specs.Pieces.{escape}
+use Rattle.data_url.specs.Url.{is_tab_or_newline}
 use Rattle.data_url.specs.Steps.Digits.{DigitsFound, NoDigits}
-use Rattle.data_url.specs.Steps.Looks.{before_percent, paid}
+use Rattle.data_url.specs.Steps.Looks.{paid}
 use Rattle.data_url.specs.Steps.Tail.{BeginsFragment}
-use Rattle.data_url.specs.Steps.Walk.{Ended, EndsAt, EscapeAt, IsBlock, IsPassed, IsStop, KeepsBlock, LonePercent, Looking, LooksOn, Reads, Stays, text_of}
+use Rattle.data_url.specs.Steps.Walk.{Ended, EscapeAt, IsBlock, IsPassed, KeepsBlock, LonePercent, Looking, text_of}
 use Rattle.data_url.specs.Steps.Window.{is_marked}
 use Rattle.data_url.specs.declared.escapes.cursor.Cursor.{Cursor}
 use Rattle.data_url.proofs.ReadLemmas.{paid_byte, paid_le, paid_percent}

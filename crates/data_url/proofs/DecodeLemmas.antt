@@ -1,11 +1,11 @@
 -- A closure that runs over a body, chunk by chunk.
-use Rattle.std.proofs.Common.{◌≡◌, ℕ, ◌+◌, ◌-◌, ◌<◌, ◌≤◌, List, [], ◌∷◌, ◌++◌, Bor, true, length, take, Option, None, Some, Result, Ok, Err, refl, sym, ap, ◌∙◌, subst, append_assoc, arith, length-append}
+use Rattle.std.proofs.Common.{◌≡◌, ℕ, ◌+◌, ◌<◌, ◌≤◌, List, [], ◌∷◌, ◌++◌, Bor, true, length, take, Option, None, Some, Result, Ok, Err, refl, sym, ap, ◌∙◌, subst, append_assoc, arith, length-append}
 use Rattle.std.specs.Prelude.{MatchOption}
 use Rattle.std.proofs.lemmas.List.{append-nil, length-take-le}
 use Rattle.data_url.specs.Run.{Call, IsRun, joined, refusal}
 use Rattle.data_url.specs.Fetch.{Good, plain_body}
 use Rattle.data_url.specs.Pieces.{Walk, begins}
-use Rattle.data_url.specs.Steps.Chunks.{IsChunk, chunk_bytes}
+use Rattle.data_url.specs.Steps.Chunks.{IsChunk}
 use Rattle.data_url.specs.Steps.Tail.{IsBodyEnd}
 use Rattle.data_url.specs.Decodes.{Decodes, HandsOut, IsRefusedBy}
 use Rattle.data_url.specs.declared.escapes.Chunk.{Chunk}

@@ -1,10 +1,9 @@
 -- Bytes that are gathered in a room.
-use Rattle.std.proofs.Common.{◌≡◌, ℕ, zero, suc, ◌+◌, ◌*◌, ◌-◌, ◌<◌, ◌≤◌, Bool, true, false, cond, List, [], ◌∷◌, ◌++◌, length, take, drop, get_or, set, refl, sym, ap, ◌∙◌, subst, inl, inr, arith, append_assoc, length-append}
+use Rattle.std.proofs.Common.{◌≡◌, ℕ, ◌+◌, ◌*◌, ◌-◌, ◌<◌, ◌≤◌, Bool, true, false, cond, List, [], ◌∷◌, ◌++◌, length, take, drop, set, refl, sym, ap, ◌∙◌, subst, arith, append_assoc, length-append}
 use Rattle.std.specs.Prelude.{MatchBool, slice_range}
-use Rattle.std.proofs.lemmas.List.{append-nil, take_more_set, length-set, length-take-le, length-drop}
-use Rattle.data_url.specs.Steps.Walk.{Ended, EscapeAt, Gathers, HasRoom, IsClear, IsGathered, IsPassed, KeepsBlock, Knows, KnowsAhead, LonePercent, Looking, LooksOn, MayGather, Moves, Reads, Stays, has_ended, text_of}
-use Rattle.data_url.specs.declared.escapes.cursor.Ahead.{Ahead}
-use Rattle.data_url.specs.declared.escapes.cursor.Ahead.TheVariants.{BehindEscape, End, Escape, Unknown}
+use Rattle.std.proofs.lemmas.List.{append-nil, take_more_set, length-take-le, length-drop}
+use Rattle.data_url.specs.Steps.Walk.{EscapeAt, Gathers, HasRoom, IsClear, IsPassed, LonePercent, LooksOn, MayGather, Moves, Reads, has_ended, text_of}
+use Rattle.data_url.specs.declared.escapes.cursor.Ahead.TheVariants.{Unknown}
 use Rattle.data_url.specs.declared.escapes.cursor.Cursor.{Cursor}
 use Rattle.data_url.proofs.NextLemmas.{moved_looking, on_then, reads_in}
 use Rattle.data_url.proofs.WindowLemmas.{looking_clear}

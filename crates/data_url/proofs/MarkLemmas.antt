@@ -1,10 +1,10 @@
 -- The marks of a block: lanes that are looked up in a table and compared.
-use Rattle.std.proofs.Common.{◌≡◌, ℕ, ◌+◌, ◌*◌, ◌/◌, ◌%◌, ◌^◌, ◌<◌, ◌≤◌, Bool, true, cond, eqb, List, [], ◌∷◌, length, get_or, map, replicate, refl, sym, ap, ◌∙◌, subst, arith, bit_and, w8, Fits}
+use Rattle.std.proofs.Common.{◌≡◌, ℕ, ◌+◌, ◌*◌, ◌/◌, ◌%◌, ◌^◌, ◌<◌, true, cond, eqb, List, [], ◌∷◌, length, get_or, map, replicate, refl, sym, ap, ◌∙◌, subst, arith, bit_and, w8, Fits}
 use Rattle.std.specs.Simd.Lanes.{Each1, mask_l, top, zip2}
 use Rattle.std.proofs.lemmas.Bool.{agree_below_at, eqb-true}
 use Rattle.std.proofs.lemmas.List.{ext_get_or, get_or-map, length-map, map-id}
 use Rattle.std.proofs.lemmas.Nat.{and_mask}
-use Rattle.std.proofs.lemmas.Simd.{Each1-get_or, SwzOk, SwzOk-from_below, get_or-swz_l_below, length-swz_l, mask_l-mod, swz_l, tops_compared, zip2_of_maps, zip2_splat}
+use Rattle.std.proofs.lemmas.Simd.{SwzOk, SwzOk-from_below, get_or-swz_l_below, length-swz_l, mask_l-mod, swz_l, tops_compared, zip2_of_maps, zip2_splat}
 use Rattle.data_url.specs.Steps.Window.{is_marked}
 use Rattle.data_url.specs.declared.escapes.lanes.TheConstants.{MARKED}
 

@@ -1,12 +1,12 @@
 -- The next piece of a walk.
-use Rattle.std.proofs.Common.{◌≡◌, ◌≢◌, ℕ, zero, suc, ◌+◌, ◌*◌, ◌-◌, ◌<◌, ◌≤◌, Bool, true, false, ◌||◌, ◌&&◌, List, [], ◌∷◌, ◌++◌, length, take, drop, get_or, Option, None, Some, is_some, refl, sym, ap, ◌∙◌, subst, inl, inr, arith, append_assoc}
+use Rattle.std.proofs.Common.{◌≡◌, ◌≢◌, ℕ, zero, suc, ◌+◌, ◌-◌, ◌<◌, ◌≤◌, Bool, true, false, ◌||◌, ◌&&◌, List, [], ◌∷◌, ◌++◌, length, take, drop, get_or, Option, None, Some, is_some, refl, sym, ap, ◌∙◌, subst, inl, inr, arith}
 use Rattle.std.specs.Prelude.{◌==◌, IfSome, slice_range}
-use Rattle.std.proofs.lemmas.Bool.{cases_lt, or_left}
-use Rattle.std.proofs.lemmas.List.{append-nil, drop_all, drop_more, drop-drop, length-drop, take-append-drop}
+use Rattle.std.proofs.lemmas.Bool.{cases_lt}
+use Rattle.std.proofs.lemmas.List.{append-nil, drop_all, drop_more, drop-drop}
 use Rattle.data_url.specs.Url.{behind, is_tab_or_newline}
 use Rattle.data_url.specs.Pieces.{IsEscape, IsPiece, IsStretch, bytes_of, bytes_of_next, escape, stops}
 use Rattle.data_url.specs.Steps.Tail.{BeginsFragment, IsBodyEnd, fragment_at}
-use Rattle.data_url.specs.Steps.Walk.{Ended, EndsAt, EscapeAt, GoesOn, IsClear, IsNextMark, IsPassed, KeepsBlock, Knows, KnowsAhead, LonePercent, Looking, LooksOn, Reads, Stays, has_ended, text_of}
+use Rattle.data_url.specs.Steps.Walk.{Ended, EscapeAt, GoesOn, IsClear, IsNextMark, IsPassed, KeepsBlock, Knows, KnowsAhead, LonePercent, Looking, LooksOn, Reads, Stays, has_ended, text_of}
 use Rattle.data_url.specs.declared.escapes.Piece.{Piece}
 use Rattle.data_url.specs.declared.escapes.Piece.TheVariants.{Byte, Slice}
 use Rattle.data_url.specs.declared.escapes.cursor.Ahead.{Ahead}

@@ -1,5 +1,5 @@
 -- What a walk promises to the one who uses it.
-use Rattle.std.proofs.Common.{◌≡◌, ℕ, ◌+◌, ◌*◌, ◌-◌, ◌<◌, ◌≤◌, true, List, [], ◌∷◌, ◌++◌, length, take, drop, set, Option, None, Some, refl, sym, ap, ◌∙◌, subst, arith, length-append}
+use Rattle.std.proofs.Common.{◌≡◌, ℕ, ◌+◌, ◌*◌, ◌-◌, ◌<◌, ◌≤◌, true, List, [], ◌++◌, length, take, drop, set, Option, None, Some, refl, sym, ap, ◌∙◌, subst, arith, length-append}
 use Rattle.std.specs.Prelude.{IfNone}
 use Rattle.std.proofs.lemmas.List.{length-drop, length-set, length-take-le, nil_from_length, take_more_set}
 use Rattle.data_url.specs.Fetch.{plain_body}

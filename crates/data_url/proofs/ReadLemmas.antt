@@ -1,12 +1,10 @@
 -- What a walk reads between two places of its text, one after the other, and the looks that are paid for.
-use Rattle.std.proofs.Common.{◌≡◌, ℕ, zero, suc, ◌+◌, ◌*◌, ◌-◌, ◌<◌, ◌≤◌, Bool, true, false, not, cond, ◌||◌, List, [], ◌∷◌, ◌++◌, length, take, drop, get_or, Some, None, refl, sym, ap, ◌∙◌, inl, inr, subst, append_assoc, arith, eqb-true, length-append}
+use Rattle.std.proofs.Common.{◌≡◌, ℕ, zero, suc, ◌+◌, ◌*◌, ◌-◌, ◌<◌, ◌≤◌, Bool, true, false, not, ◌||◌, List, [], ◌∷◌, ◌++◌, length, take, drop, get_or, refl, sym, ap, ◌∙◌, subst, append_assoc, arith, length-append}
 use Rattle.std.specs.Prelude.{◌==◌, slice_range}
-use Rattle.std.proofs.lemmas.Bool.{cases_Bool, or_left}
-use Rattle.std.proofs.lemmas.List.{append-nil, drop_more, drop_all, drop-drop, length-take-le, take_more, length-drop}
-use Rattle.std.proofs.lemmas.List.Sums.{prefix_len-drop_yes, prefix_len-drop_no, prefix_len-drop_all, prefix_len-le-length}
+use Rattle.std.proofs.lemmas.List.{drop_more, length-drop}
+use Rattle.std.proofs.lemmas.List.Sums.{prefix_len-drop_yes, prefix_len-drop_no, prefix_len-le-length}
 use Rattle.data_url.specs.Url.{behind, is_tab_or_newline}
 use Rattle.data_url.specs.Fetch.{plain_body}
-use Rattle.data_url.specs.Pieces.{escape}
 use Rattle.data_url.specs.Steps.Looks.{before_percent, paid}
 use Rattle.data_url.specs.Steps.Tail.{BeginsFragment}
 use Rattle.data_url.specs.Steps.Walk.{EndsAt, EscapeAt, IsClear, LonePercent, Reads}

@@ -1,8 +1,8 @@
 -- Blocks of a text: their marks, and stretches that are copied into a room.
-use Rattle.std.proofs.Common.{◌≡◌, ℕ, zero, suc, ◌+◌, ◌*◌, ◌-◌, ◌/◌, ◌^◌, ◌<◌, ◌≤◌, Bool, true, false, cond, List, [], ◌∷◌, ◌++◌, length, take, drop, get_or, map, min, replicate, refl, sym, ap, ◌∙◌, subst, append_assoc, arith, length-append}
+use Rattle.std.proofs.Common.{◌≡◌, ℕ, zero, suc, ◌+◌, ◌*◌, ◌-◌, ◌/◌, ◌^◌, ◌<◌, ◌≤◌, Bool, true, false, cond, List, [], ◌∷◌, ◌++◌, length, take, drop, map, min, replicate, refl, sym, ap, ◌∙◌, arith}
 use Rattle.std.specs.Prelude.{slice_range}
 use Rattle.std.specs.Simd.Lanes.{chunk, mask_l, put_chunk}
-use Rattle.std.proofs.lemmas.List.{append-nil, length-drop, length-map, drop-replicate, length-take-le, map-append, take_rest, take-append-le, take-take, take_all, drop-map, drop-drop}
+use Rattle.std.proofs.lemmas.List.{length-drop, drop-replicate, length-take-le, take_rest, take-append-le, take-take, drop-map, drop-drop}
 use Rattle.std.proofs.Math.Nat.{div-div-eq-div-mul, mul_comm, pow-suc}
 use Rattle.std.proofs.lemmas.Simd.{put_chunk_whole}
 use borrow.Rule.Slice.PartMut.{mid_of, post_of, put_mid}

@@ -180,7 +180,8 @@ impl<'a> DataUrl<'a> {
     /// Hands the body's bytes to a closure, piece by piece, answers the fragment (Fetch Standard, section 6), and hands
     /// the closure back as its last call left it. It takes no memory, and calls the closure at most once more than
     /// there are bytes behind the comma. The closure has to be one that may be called on any bytes, whatever it was
-    /// called with before.
+    /// called with before. Where the bytes are cut is free: today a long stretch of the text comes as it stands there,
+    /// shorter ones and the values of escapes in pieces of up to 256 bytes, and base64 in pieces of up to 48 bytes.
     ///
     /// It answers `WriteError` with the closure's error, after which there is no further call, and `InvalidBase64` for
     /// a base64 body that is not valid, once the bytes before its first fault were handed out.
@@ -203,6 +204,7 @@ impl<'a> DataUrl<'a> {
 
     /// Hands the body's bytes to a closure, piece by piece, and answers the fragment (Fetch Standard, section 6). It
     /// takes no memory. The closure has to be one that may be called on any bytes, whatever it was called with before.
+    /// Where the bytes are cut is free, as `decode_with` tells.
     ///
     /// It answers `WriteError` with the closure's error, and `InvalidBase64` for a base64 body that is not valid, once
     /// the bytes before its first fault were handed out. The run of the closure that the contract tells of has at most
@@ -223,7 +225,7 @@ impl<'a> DataUrl<'a> {
     }
 
     /// The body's bytes and the fragment (Fetch Standard, section 6). Room for the bytes is taken once, by the length of
-    /// what stands behind the comma.
+    /// what stands behind the comma, and the vector grows by the pieces of `decode`.
     ///
     /// The error is `InvalidBase64` for a base64 body that is not valid, with the reason of its first fault, and
     /// `OutOfMemory` where memory was refused.

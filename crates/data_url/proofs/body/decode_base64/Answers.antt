@@ -4,7 +4,7 @@ use Rattle.data_url.specs.Decoding.{start}
 use Rattle.data_url.specs.DecoderState.{state_of}
 use Rattle.data_url.specs.Steps.Tail.{IsBodyEnd}
 use Rattle.data_url.proofs.ByteLemmas.{feeds_none}
-use Rattle.data_url.proofs.Base64BodyLemmas.{Fed, fed_ended, fed_more, fed_none, fed_refused}
+use Rattle.data_url.proofs.Base64BodyLemmas.{fed_ended, fed_more, fed_none, fed_refused}
 use Rattle.data_url.proofs.DecodeLemmas.{Takes, takes_gathered, takes_slice, walk_over}
 use Rattle.data_url.proofs.body.decode_base64.Goals as goal
 use Rattle.data_url.proofs.body.decode_base64.Goals.{in-Slice, in-Gathered}

@@ -1,5 +1,4 @@
 use Rattle.std.proofs.Common.{ap, ◌∙◌, subst, List, ℕ}
-use Rattle.data_url.specs.Pieces.{Walk}
 use Rattle.data_url.specs.Steps.Tail.{IsBodyEnd}
 use Rattle.data_url.proofs.NextLemmas.{body_end, ended_of}
 use Rattle.data_url.proofs.escapes.Pieces.end.Goals as goal

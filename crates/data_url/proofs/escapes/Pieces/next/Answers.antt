@@ -1,4 +1,4 @@
-use Rattle.std.proofs.Common.{ap, ◌∙◌, sym}
+use Rattle.std.proofs.Common.{ap, ◌∙◌}
 use Rattle.data_url.proofs.PieceLemmas.{again, few_looks, over_rest}
 use Rattle.data_url.proofs.escapes.Pieces.next.Goals as goal
 

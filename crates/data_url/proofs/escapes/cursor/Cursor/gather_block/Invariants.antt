@@ -1,6 +1,5 @@
 -- So many bytes were gathered, and the walk may gather on.
-use Rattle.std.proofs.Common.{◌≡◌, ◌-◌, ◌<◌, length, inl}
-use Rattle.std.specs.Prelude.{◌⊎◌}
+use Rattle.std.proofs.Common.{◌≡◌, ◌-◌}
 use Rattle.data_url.specs.Steps.Walk.{Gathers, MayGather}
 use Rattle.data_url.proofs.escapes.cursor.Cursor.gather_block.Given as goal
 

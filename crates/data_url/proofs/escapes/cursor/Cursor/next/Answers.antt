@@ -1,6 +1,6 @@
 use Rattle.std.proofs.Common.{◌∙◌}
-use Rattle.data_url.specs.declared.escapes.cursor.Ahead.TheVariants.{BehindEscape, End, Escape}
-use Rattle.data_url.proofs.NextLemmas.{ahead_at, ahead_is, byte_behind, byte_known, goes_then, knows_on, moved_looking, over}
+use Rattle.data_url.specs.declared.escapes.cursor.Ahead.TheVariants.{BehindEscape, Escape}
+use Rattle.data_url.proofs.NextLemmas.{ahead_at, ahead_is, byte_behind, byte_known, knows_on, moved_looking}
 use Rattle.data_url.proofs.escapes.cursor.Cursor.next.Goals as goal
 
 pub returns-in-Escape-clause-goes : goal.returns-in-Escape-clause-goes

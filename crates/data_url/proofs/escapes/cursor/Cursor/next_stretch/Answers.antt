@@ -1,5 +1,5 @@
-use Rattle.std.proofs.Common.{ap, refl, sym, ◌∙◌, length, arith}
-use Rattle.data_url.proofs.NextLemmas.{byte_here, end_here, goes_as, reached, search_passed, search_percent, searching_none, slice_end, slice_escape, slice_passed}
+use Rattle.std.proofs.Common.{ap, refl, ◌∙◌, length, arith}
+use Rattle.data_url.proofs.NextLemmas.{byte_here, goes_as, reached, search_passed, search_percent, slice_end, slice_escape, slice_passed}
 use Rattle.data_url.proofs.escapes.cursor.Cursor.next_stretch.Goals as goal
 
 pub overflow_add-from : goal.overflow_add-from

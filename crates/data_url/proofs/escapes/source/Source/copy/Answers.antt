@@ -1,4 +1,3 @@
-use Rattle.std.proofs.Common.{arith}
 use Rattle.data_url.proofs.TextBlockLemmas.{copied_wide}
 use Rattle.data_url.proofs.escapes.source.Source.copy.Goals as goal
 

@@ -1,4 +1,4 @@
-use Rattle.data_url.proofs.TextBlockLemmas.{marks_part, marks_whole}
+use Rattle.data_url.proofs.TextBlockLemmas.{marks_whole}
 use Rattle.data_url.proofs.escapes.source.Source.look_block.Goals as goal
 
 pub returns-clause-marks : goal.returns-clause-marks
