@@ -23,11 +23,11 @@ where
     }
 }
 
-/// Room for the bytes of a text of base64 of so many bytes.
+/// How many bytes a text of base64 of so many bytes gives at most.
 pub(crate) fn room_for(len: usize) -> usize
-    ensures { result ≡ len / 4 * 3 + len % 4 }
+    ensures { result ≡ len / 4 * 3 + len % 4 * 3 / 4 }
 {
-    len / 4 * 3 + len % 4
+    len / 4 * 3 + len % 4 * 3 / 4
 }
 
 /// The bytes that a text of base64 stands for (Infra Standard, forgiving-base64 decode). Room for them is taken once, by
