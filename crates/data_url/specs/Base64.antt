@@ -1,4 +1,5 @@
--- Forgiving base64 (Infra Standard, forgiving-base64 decode), with the alphabet of RFC 4648, section 4.
+-- Forgiving base64 (Infra Standard, forgiving-base64 decode), with the alphabet of RFC 4648,
+-- section 4.
 use Rattle.std.specs.Prelude.{ℕ, ◌+◌, ◌-◌, ◌*◌, ◌/◌, ◌%◌, ◌==◌, ◌&&◌, ◌||◌, min, Bool, not, cond, List, [], ◌∷◌, ◌++◌, length, take, filter, map, replicate, Option, None, Some, codes, slice_index}
 use Rattle.std.specs.List.{find, list_all, list_any, range_with_len}
 use Rattle.std.specs.Fmt.{decimal}
@@ -10,11 +11,14 @@ is_ascii_whitespace b = (b == 9) || ((b == 10) || ((b == 12) || ((b == 13) || (b
 
 -- a symbol of the alphabet: 'A' to 'Z', 'a' to 'z', '0' to '9', '+' and '/'
 abbrev pub is_symbol : ℕ → Bool
-is_symbol b = is_in_range 65 90 b || (is_in_range 97 122 b || (is_in_range 48 57 b || ((b == 43) || (b == 47))))
+is_symbol b = is_in_range 65 90 b
+    || (is_in_range 97 122 b || (is_in_range 48 57 b || ((b == 43) || (b == 47))))
 
 -- the value of a symbol: its place in the alphabet
 abbrev pub symbol_value : ℕ → ℕ
-symbol_value b = cond (is_in_range 65 90 b) (b - 65) (cond (is_in_range 97 122 b) (b - 71) (cond (is_in_range 48 57 b) (b + 4) (cond (b == 43) 62 63)))
+symbol_value b = cond (is_in_range 65 90 b) (b - 65)
+    (cond (is_in_range 97 122 b) (b - 71)
+    (cond (is_in_range 48 57 b) (b + 4) (cond (b == 43) 62 63)))
 
 -- Which texts are valid
 
@@ -32,9 +36,11 @@ without_sign (a ∷ b ∷ rest) = a ∷ without_sign (b ∷ rest)
 unfoldable pub unpadded : List ℕ → List ℕ
 unpadded s = cond (length s % 4 == 0) (without_sign (without_sign s)) s
 
--- the rule of the whole text: no length of remainder one by four, and no byte that is no symbol (steps 3 and 4)
+-- the rule of the whole text: no length of remainder one by four, and no byte that is no symbol
+-- (steps 3 and 4)
 unfoldable pub is_valid : List ℕ → Bool
-is_valid b = not (length (unpadded (compact b)) % 4 == 1) && list_all is_symbol (unpadded (compact b))
+is_valid b = not (length (unpadded (compact b)) % 4 == 1)
+    && list_all is_symbol (unpadded (compact b))
 
 -- What a text stands for
 
@@ -56,9 +62,11 @@ unfoldable pub after_groups : List ℕ → List ℕ
 after_groups (p ∷ q ∷ r ∷ s ∷ rest) = after_groups rest
 after_groups vs = vs
 
--- the bytes of values left over: of three, 18 bits, the last two are dropped; of two, 12 bits, the last four
+-- the bytes of values left over: of three, 18 bits, the last two are dropped; of two, 12 bits, the
+-- last four
 abbrev pub rest_bytes : List ℕ → List ℕ
-rest_bytes (p ∷ q ∷ r ∷ rest) = ((p * 64 + q) * 64 + r) / 4 / 256 ∷ ((p * 64 + q) * 64 + r) / 4 % 256 ∷ []
+rest_bytes (p ∷ q ∷ r ∷ rest) =
+    ((p * 64 + q) * 64 + r) / 4 / 256 ∷ ((p * 64 + q) * 64 + r) / 4 % 256 ∷ []
 rest_bytes (p ∷ q ∷ []) = (p * 64 + q) / 16 ∷ []
 rest_bytes (p ∷ []) = []
 rest_bytes [] = []
@@ -79,7 +87,8 @@ is_unexpected c = not (is_ascii_whitespace c || ((c == 61) || is_symbol c))
 
 -- the byte at the place is unexpected, or a symbol with an '=' somewhere before it
 abbrev pub is_fault : List ℕ → ℕ → Bool
-is_fault b i = is_unexpected (slice_index b i) || (is_symbol (slice_index b i) && list_any (λ c. c == 61) (take i b))
+is_fault b i = is_unexpected (slice_index b i)
+    || (is_symbol (slice_index b i) && list_any (λ c. c == 61) (take i b))
 
 -- the least place of a fault, where there is one
 unfoldable pub first_fault : List ℕ → Option ℕ
@@ -94,7 +103,8 @@ before_place b (Some i) = take i b
 unfoldable pub done : List ℕ → List ℕ
 done b = groups (values (before_place b (first_fault b)))
 
--- why a text is refused: a byte that may not stand there, a symbol behind padding, a symbol that is alone in its group, or signs that do not fit the symbols
+-- why a text is refused: a byte that may not stand there, a symbol behind padding, a symbol that is
+-- alone in its group, or signs that do not fit the symbols
 pub data Kind : Type 0 where
   UnexpectedSymbol : ℕ → Kind
   AlphabetSymbolAfterPadding : Kind
@@ -104,7 +114,8 @@ pub data Kind : Type 0 where
 -- by the byte at the first fault, or else by the number of symbols
 abbrev pub kind_at : List ℕ → Option ℕ → Kind
 kind_at b None = cond (length (values b) % 4 == 1) LoneAlphabetSymbol Padding
-kind_at b (Some i) = cond (is_symbol (slice_index b i)) AlphabetSymbolAfterPadding (UnexpectedSymbol (slice_index b i))
+kind_at b (Some i) = cond (is_symbol (slice_index b i)) AlphabetSymbolAfterPadding
+    (UnexpectedSymbol (slice_index b i))
 
 -- why a text that is not valid is refused
 unfoldable pub kind_of : List ℕ → Kind
@@ -126,7 +137,8 @@ left_text symbols padding = symbols ++ replicate padding 61
 
 -- the text of a refusal
 abbrev pub kind_text : Kind → List ℕ
-kind_text (UnexpectedSymbol b) = codes "symbol with codepoint " ++ (decimal b ++ codes " not expected")
+kind_text (UnexpectedSymbol b) =
+    codes "symbol with codepoint " ++ (decimal b ++ codes " not expected")
 kind_text AlphabetSymbolAfterPadding = codes "alphabet symbol present after padding"
 kind_text LoneAlphabetSymbol = codes "lone alphabet symbol present"
 kind_text Padding = codes "incorrect padding"

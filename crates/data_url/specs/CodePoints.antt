@@ -1,4 +1,5 @@
--- The classes of code points of MIME types (MIME Sniffing Standard, section 3; Fetch Standard, section 2.2).
+-- The classes of code points of MIME types (MIME Sniffing Standard, section 3; Fetch Standard,
+-- section 2.2).
 use Rattle.std.specs.Prelude.{ℕ, ◌==◌, ◌||◌, Bool, codes}
 use Rattle.std.specs.Int.{is_in_range}
 use Rattle.std.specs.List.{list_any}
@@ -9,7 +10,8 @@ is_http_whitespace c = (c == 9) || ((c == 10) || ((c == 13) || (c == 32)))
 
 -- an HTTP token code point: an ASCII letter, a digit or one of fifteen marks
 unfoldable pub is_token : ℕ → Bool
-is_token c = is_in_range 65 90 c || is_in_range 97 122 c || is_in_range 48 57 c || list_any (λ m. m == c) (codes "!#$%&'*+-.^_`|~")
+is_token c = is_in_range 65 90 c || is_in_range 97 122 c || is_in_range 48 57 c
+    || list_any (λ m. m == c) (codes "!#$%&'*+-.^_`|~")
 
 -- an HTTP quoted-string token code point: tab, U+0020 to U+007E and U+0080 to U+00FF
 unfoldable pub is_quotable : ℕ → Bool

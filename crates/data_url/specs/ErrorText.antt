@@ -10,9 +10,11 @@ use Rattle.data_url.specs.declared.mime.MimeFromStrError.{MimeFromStrError}
 use Rattle.data_url.specs.declared.mime.MimeFromStrError.TheVariants.{OutOfMemory, Parsing}
 
 -- the text of an error, where the closure's error has one
-abbrev pub decode_error_text : {E : Type 0} → (E → Option (List ℕ)) → DecodeError E → Option (List ℕ)
+abbrev pub decode_error_text : {E : Type 0} → (E → Option (List ℕ)) → DecodeError E
+    → Option (List ℕ)
 decode_error_text output (InvalidBase64 kind) = Some (codes "base64 not valid: " ++ kind_text kind)
-decode_error_text output (WriteError e) = option_map (λ text. codes "write error: " ++ text) (output e)
+decode_error_text output (WriteError e) =
+    option_map (λ text. codes "write error: " ++ text) (output e)
 
 -- the text of an error of `from_str`
 abbrev pub mime_error_text : MimeFromStrError → List ℕ

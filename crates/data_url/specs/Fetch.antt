@@ -29,7 +29,8 @@ encoded_body t = option_and_then (behind 44) (staged_front t)
 unfoldable pub tail_of : List ℕ → Option (List ℕ)
 tail_of t = behind 44 (trimmed t)
 
--- the body that a tail holds, as it was given: up to the first '#', without tabs and newlines, percent-decoded
+-- the body that a tail holds, as it was given: up to the first '#', without tabs and newlines,
+-- percent-decoded
 unfoldable pub plain_body : List ℕ → List ℕ
 plain_body tail = percent_decoded (front (dropped tail))
 
@@ -51,7 +52,8 @@ before_last n s = take (length s - n) s
 
 -- what stands before "base64" at the end, in any ASCII case
 abbrev pub before_word : List ℕ → Option (List ℕ)
-before_word s = cond (bytes_eq (map to_ascii_lowercase (last 6 s)) (codes "base64")) (Some (before_last 6 s)) None
+before_word s = cond (bytes_eq (map to_ascii_lowercase (last 6 s)) (codes "base64"))
+    (Some (before_last 6 s)) None
 
 -- what stands before ';' at the end
 abbrev pub before_semicolon : List ℕ → Option (List ℕ)
@@ -78,7 +80,8 @@ abbrev pub with_plain : List ℕ → List ℕ
 with_plain [] = []
 with_plain (c ∷ s) = cond (c == 59) (codes "text/plain" ++ c ∷ s) (c ∷ s)
 
--- the text whose record is that of the URL (steps 12 to 14): its code points are its bytes, all below 127
+-- the text whose record is that of the URL (steps 12 to 14): its code points are its bytes, all
+-- below 127
 unfoldable pub mime_text : List ℕ → List ℕ
 mime_text h = with_plain (media_of h)
 
@@ -91,7 +94,8 @@ pub data Outcome : Type 0 where
 
 -- a body as it is or, with the suffix, forgiving-base64 decoded (steps 10 and 11)
 unfoldable pub outcome : Bool → List ℕ → Outcome
-outcome flag x = cond flag (cond (is_valid x) (Good (decoded x)) (Bad (done x) (kind_of x))) (Good x)
+outcome flag x = cond flag (cond (is_valid x) (Good (decoded x)) (Bad (done x) (kind_of x)))
+    (Good x)
 
 abbrev pub outcome_bytes : Outcome → List ℕ
 outcome_bytes (Good x) = x
@@ -99,7 +103,8 @@ outcome_bytes (Bad x kind) = x
 
 -- The whole
 
--- no scheme; a scheme and no comma; or the text whose record it has, the body and the encoded fragment
+-- no scheme; a scheme and no comma; or the text whose record it has, the body and the encoded
+-- fragment
 pub data Staged : Type 0 where
   NoScheme : Staged
   NoComma : Staged
@@ -107,7 +112,9 @@ pub data Staged : Type 0 where
 
 -- of the fragment, the header and the encoded body
 abbrev pub staged_parts : Option (List ℕ) → Option (List ℕ) → Option (List ℕ) → Staged
-staged_parts fragment (Some header) (Some body) = Accepted (mime_text header) (outcome (has_base64_suffix header) (percent_decoded body)) (option_map (percent_encoded in_fragment_set) fragment)
+staged_parts fragment (Some header) (Some body) =
+    Accepted (mime_text header) (outcome (has_base64_suffix header) (percent_decoded body))
+    (option_map (percent_encoded in_fragment_set) fragment)
 staged_parts fragment (Some header) None = NoComma
 staged_parts fragment None body = NoComma
 

@@ -10,7 +10,8 @@ use Rattle.data_url.specs.declared.percent.EncodeSet.TheVariants.{Query}
 abbrev pub next_set : EncodeSet → ℕ → EncodeSet
 next_set set b = cond (b == 63) Query set
 
--- a text with so many bytes that are encoded and so many that are dropped: without any it is serialised to itself
+-- a text with so many bytes that are encoded and so many that are dropped: without any it is
+-- serialised to itself
 pub record HasChanges (header : List ℕ) (encoded dropped_count : ℕ) : Type 0 where
   pub few_encoded : encoded ≤ length header
   pub few_dropped : dropped_count ≤ length header

@@ -26,14 +26,17 @@ Fits k p = ((p ≡ 0) × (k % 4 ≢ 1)) ⊎ ((p ≡ 1) × (k % 4 ≡ 3)) ⊎ ((p
 
 -- symbols and signs are valid exactly if their numbers fit
 abbrev pub PaddingFits : List ℕ → Type 0
-PaddingFits b = (symbols : List ℕ) (signs : ℕ) → IsSymbolsAndSigns b symbols signs → IsTrue (is_valid b) ↔ Fits (length symbols) signs
+PaddingFits b = (symbols : List ℕ) (signs : ℕ) → IsSymbolsAndSigns b symbols signs
+    → IsTrue (is_valid b) ↔ Fits (length symbols) signs
 
 -- the place is the least of a fault or, where it is none, there is no fault
 abbrev pub IsFirstFault : List ℕ → Option ℕ → Type 0
 IsFirstFault b None = (i : ℕ) → i < length b → is_fault b i ≡ false
-IsFirstFault b (Some i) = (i < length b) × IsTrue (is_fault b i) × ((k : ℕ) → k < i → is_fault b k ≡ false)
+IsFirstFault b (Some i) = (i < length b) × IsTrue (is_fault b i)
+    × ((k : ℕ) → k < i → is_fault b k ≡ false)
 
--- what comes of a followed by b, by the text v of what a left and then b: the bytes, the fault and its kind, what is left, validity, and the bytes as a whole
+-- what comes of a followed by b, by the text v of what a left and then b: the bytes, the fault and
+-- its kind, what is left, validity, and the bytes as a whole
 pub record GoesOn (a b v : List ℕ) : Type 0 where
   pub done_is : done (a ++ b) ≡ done a ++ done v
   pub fault_is : is_some (first_fault (a ++ b)) ≡ is_some (first_fault v)
@@ -43,13 +46,15 @@ pub record GoesOn (a b v : List ℕ) : Type 0 where
   pub valid_is : is_valid (a ++ b) ≡ is_valid v
   pub decoded_is : decoded (a ++ b) ≡ done a ++ decoded v
 
--- a text without a fault, and then another: what the first leaves goes on with the second as the whole does
+-- a text without a fault, and then another: what the first leaves goes on with the second as the
+-- whole does
 abbrev pub TwoFeeds : List ℕ → List ℕ → Type 0
 TwoFeeds a b = GoesOn a b (left_text (left_symbols a) (left_padding a) ++ b)
 
 -- a byte that an encoded fragment may hold: U+0021 to U+007E without '"', '<', '>' and '`'
 abbrev pub is_fragment_byte : ℕ → Bool
-is_fragment_byte b = is_in_range 33 126 b && not ((b == 34) || ((b == 60) || ((b == 62) || (b == 96))))
+is_fragment_byte b = is_in_range 33 126 b
+    && not ((b == 34) || ((b == 60) || ((b == 62) || (b == 96))))
 
 -- a fragment, encoded as the URL parser does
 abbrev pub encoded_fragment : List ℕ → List ℕ

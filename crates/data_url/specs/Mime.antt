@@ -1,4 +1,5 @@
--- MIME types: the grammar of a text, the record that it gives, and the record's printed text (MIME Sniffing Standard, section 4). Texts are lists of code points.
+-- MIME types: the grammar of a text, the record that it gives, and the record's printed text (MIME
+-- Sniffing Standard, section 4). Texts are lists of code points.
 use Rattle.std.specs.Prelude.{◌≡◌, ◌≢◌, ◌⊎◌, ℕ, ◌==◌, ◌&&◌, ◌||◌, Bool, true, false, not, cond, List, [], ◌∷◌, ◌++◌, map, Option, None, Some, IsTrue, codes}
 use Rattle.std.specs.List.{AllByRecursion, flat_map, list_all, list_any}
 use Rattle.std.specs.Char.{to_ascii_lowercase}
@@ -19,7 +20,11 @@ pub record Record : Type 0 where
 
 -- text/plain;charset=US-ASCII
 abbrev pub default_record : Record
-default_record = record { type_ = codes "text"; subtype = codes "plain"; parameters = (codes "charset", codes "US-ASCII") ∷ [] }
+default_record = record {
+  type_ = codes "text";
+  subtype = codes "plain";
+  parameters = (codes "charset", codes "US-ASCII") ∷ [];
+}
 
 -- Texts and tests
 
@@ -92,9 +97,12 @@ pub record Quoted (text value : List ℕ) : Type 0 where
   pub text_is : text ≡ flat_map unit_text units
   pub value_is : value ≡ map unit_value units
 
--- the same, or with one last lone '\', which stands for itself: the text ends before a closing quote
+-- the same, or with one last lone '\', which stands for itself: the text ends before a closing
+-- quote
 abbrev pub QuotedOpen : List ℕ → List ℕ → Type 0
-QuotedOpen text value = Quoted text value ⊎ ((text' value' : List ℕ) × (text ≡ text' ++ 92 ∷ []) × (value ≡ value' ++ 92 ∷ []) × Quoted text' value')
+QuotedOpen text value = Quoted text value
+    ⊎ ((text' value' : List ℕ) × (text ≡ text' ++ 92 ∷ []) × (value ≡ value' ++ 92 ∷ [])
+    × Quoted text' value')
 
 -- Parameters
 
@@ -117,13 +125,18 @@ pub data GivesValue : List ℕ → List ℕ → Option (List ℕ) → Type 0 whe
   -- '=' as the end of the whole
   lone_equals : GivesValue (61 ∷ []) [] None
   -- '=' and a text that begins with no '"', without HTTP whitespace at its end
-  plain : {rest : List ℕ} (text value : List ℕ) → Without is_semicolon text → DoesNotBegin is_quote text → IsTrimmedEnd is_http_whitespace text value → GivesValue (61 ∷ text) rest (unless_empty value)
+  plain : {rest : List ℕ} (text value : List ℕ) → Without is_semicolon text
+      → DoesNotBegin is_quote text → IsTrimmedEnd is_http_whitespace text value
+      → GivesValue (61 ∷ text) rest (unless_empty value)
   -- '=', a quoted string in quotes, and anything up to the next ';'
-  quoted : {value rest : List ℕ} (text junk : List ℕ) → Quoted text value → Without is_semicolon junk → GivesValue (61 ∷ 34 ∷ (text ++ (34 ∷ junk))) rest (Some value)
+  quoted : {value rest : List ℕ} (text junk : List ℕ) → Quoted text value
+      → Without is_semicolon junk → GivesValue (61 ∷ 34 ∷ (text ++ (34 ∷ junk))) rest (Some value)
   -- '=' and a quoted string whose closing quote is missing, as the end of the whole
-  unclosed : {value : List ℕ} (text : List ℕ) → QuotedOpen text value → GivesValue (61 ∷ 34 ∷ text) [] (Some value)
+  unclosed : {value : List ℕ} (text : List ℕ) → QuotedOpen text value
+      → GivesValue (61 ∷ 34 ∷ text) [] (Some value)
 
--- text, which stands before rest, is a parameter: ';', HTTP whitespace, a name and what gives its value
+-- text, which stands before rest, is a parameter: ';', HTTP whitespace, a name and what gives its
+-- value
 pub record IsParameter (text rest : List ℕ) (item : Item) : Type 0 where
   pub gap : List ℕ
   pub name : List ℕ
@@ -138,12 +151,15 @@ pub record IsParameter (text rest : List ℕ) (item : Item) : Type 0 where
 -- the text is a join of parameters, and the list has their items in order
 abbrev pub Items : List ℕ → List Item → Type 0
 Items r [] = r ≡ []
-Items r (item ∷ items) = (text rest : List ℕ) × (r ≡ text ++ rest) × IsParameter text rest item × Items rest items
+Items r (item ∷ items) = (text rest : List ℕ) × (r ≡ text ++ rest) × IsParameter text rest item
+    × Items rest items
 
--- the item's pair, if its name is a nonempty text of token code points and it has a value of quoted-string code points alone
+-- the item's pair, if its name is a nonempty text of token code points and it has a value of
+-- quoted-string code points alone
 abbrev pub valid_of : Item → List Pair
 valid_of (name, None) = []
-valid_of (name, Some value) = cond (is_token_text name && list_all is_quotable value) ((name, value) ∷ []) []
+valid_of (name, Some value) =
+    cond (is_token_text name && list_all is_quotable value) ((name, value) ∷ []) []
 
 abbrev pub valid_pairs : List Item → List Pair
 valid_pairs items = flat_map valid_of items
@@ -154,7 +170,9 @@ has_name name pairs = list_any (λ (p : Pair). bytes_eq p.0 name) pairs
 -- the pairs that have no equal name among those before them
 abbrev pub first_of_each_name : List Pair → List Pair → List Pair
 first_of_each_name earlier [] = []
-first_of_each_name earlier (p ∷ ps) = cond (has_name p.0 earlier) (first_of_each_name (earlier ++ p ∷ []) ps) (p ∷ first_of_each_name (earlier ++ p ∷ []) ps)
+first_of_each_name earlier (p ∷ ps) =
+    cond (has_name p.0 earlier) (first_of_each_name (earlier ++ p ∷ []) ps)
+    (p ∷ first_of_each_name (earlier ++ p ∷ []) ps)
 
 -- the valid pairs, of each name the first
 abbrev pub kept : List Item → List Pair
@@ -167,7 +185,8 @@ abbrev pub BeginsParameters : List ℕ → Type 0
 BeginsParameters [] = Unit {0}
 BeginsParameters (c ∷ r) = c ≡ 59
 
--- s, without HTTP whitespace at both ends, is a type, '/', a subtype, HTTP whitespace and its parameters' text
+-- s, without HTTP whitespace at both ends, is a type, '/', a subtype, HTTP whitespace and its
+-- parameters' text
 pub record IsHead (s type_ subtype parameters : List ℕ) : Type 0 where
   pub text : List ℕ
   pub gap : List ℕ
@@ -225,7 +244,8 @@ abbrev pub has_distinct_names : List Pair → Bool
 has_distinct_names [] = true
 has_distinct_names (p ∷ ps) = not (has_name p.0 ps) && has_distinct_names ps
 
--- type, subtype and names are lower-case names, no name comes twice, and values have quoted-string code points alone
+-- type, subtype and names are lower-case names, no name comes twice, and values have quoted-string
+-- code points alone
 pub record IsWellformed (m : Record) : Type 0 where
   pub type_ : IsTrue (is_lowercase_name m.type_)
   pub subtype : IsTrue (is_lowercase_name m.subtype)

@@ -1,4 +1,5 @@
--- What the steps of the MIME parser give, for its private contracts. Texts are lists of code points.
+-- What the steps of the MIME parser give, for its private contracts. Texts are lists of code
+-- points.
 use Rattle.std.specs.Prelude.{◌≡◌, ℕ, ◌==◌, ◌||◌, Bool, cond, List, [], ◌∷◌, ◌++◌, Option, None, Some, Result, Ok, Err, IsTrue, map}
 use Rattle.std.specs.Char.{to_ascii_lowercase}
 use Rattle.std.specs.Int.{is_in_range}

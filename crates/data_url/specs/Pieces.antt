@@ -1,4 +1,5 @@
--- A body in pieces (URL Standard, section 1.3, percent-decode): what contracts see of a walk over its text.
+-- A body in pieces (URL Standard, section 1.3, percent-decode): what contracts see of a walk over
+-- its text.
 use Rattle.std.specs.Prelude.{◌≡◌, ℕ, ◌+◌, ◌*◌, ◌==◌, ◌<◌, ◌≤◌, ◌&&◌, ◌||◌, Bool, true, false, cond, List, [], ◌∷◌, drop, Option, None, Some, is_some, slice_index, slice_range}
 use Rattle.std.specs.Char.{digit_value}
 use Rattle.data_url.specs.Url.{is_tab_or_newline}
@@ -7,10 +8,12 @@ use Rattle.data_url.specs.Fetch.{plain_body}
 use Rattle.data_url.specs.declared.escapes.Piece.{Piece}
 use Rattle.data_url.specs.declared.escapes.Piece.TheVariants.{Byte, Slice}
 
--- the value of the hexadecimal digit that a text begins with, past tabs and newlines, and what follows it
+-- the value of the hexadecimal digit that a text begins with, past tabs and newlines, and what
+-- follows it
 unfoldable pub digit : List ℕ → Option (ℕ × List ℕ)
 digit [] = None
-digit (b ∷ s) = cond (is_tab_or_newline b) (digit s) (cond (is_hex b) (Some (digit_value b, s)) None)
+digit (b ∷ s) = cond (is_tab_or_newline b) (digit s)
+    (cond (is_hex b) (Some (digit_value b, s)) None)
 
 -- the byte of a digit and the one that may follow it, and what follows both
 abbrev pub with_low_digit : ℕ → Option (ℕ × List ℕ) → Option (ℕ × List ℕ)
@@ -61,8 +64,8 @@ abbrev pub bytes_of_next : Option Piece → List ℕ
 bytes_of_next None = []
 bytes_of_next (Some piece) = bytes_of piece
 
--- a walk: its text, its place there, the bytes that the pieces from there on join to, whether it has ended, and how many
--- bytes were looked at
+-- a walk: its text, its place there, the bytes that the pieces from there on join to, whether it
+-- has ended, and how many bytes were looked at
 pub record Walk : Type 0 where
   pub text : List ℕ
   pub place : ℕ

@@ -8,9 +8,11 @@ pub record Call (F : Type 0) (E : Type 0) : Type 0 where
   pub after : F
 
 -- the calls lead from one state of the closure to another, and none follows one that was refused
-abbrev pub IsRun : {F E : Type 0} → (F → List ℕ → Result (Unit {0}) E → F → Type 0) → F → List (Call F E) → F → Type 0
+abbrev pub IsRun : {F E : Type 0} → (F → List ℕ → Result (Unit {0}) E → F → Type 0) → F
+    → List (Call F E) → F → Type 0
 IsRun step f [] g = f ≡ g
-IsRun step f (c ∷ cs) g = step f c.piece c.answer c.after × (IsErr c.answer → cs ≡ []) × IsRun step c.after cs g
+IsRun step f (c ∷ cs) g = step f c.piece c.answer c.after × (IsErr c.answer → cs ≡ [])
+    × IsRun step c.after cs g
 
 -- the pieces of a run, joined, a refused last one included
 abbrev pub joined : {F E : Type 0} → List (Call F E) → List ℕ

@@ -17,7 +17,11 @@ pair_of p = (code_points p.0, code_points p.1)
 
 -- the record as lists of code points
 abbrev pub seen : Mime → Record
-seen m = record { type_ = code_points m.type_; subtype = code_points m.subtype; parameters = map pair_of m.parameters.items }
+seen m = record {
+  type_ = code_points m.type_;
+  subtype = code_points m.subtype;
+  parameters = map pair_of m.parameters.items;
+}
 
 -- the bytes of a pair's texts
 abbrev pub texts_of_pair : {A B : Type 0} → String A × String B → List ℕ × List ℕ
@@ -35,11 +39,17 @@ same_pair = eq_of_both (on (λ p. string_bytes p.0) bytes_eq) (on (λ p. string_
 
 -- the test for the same texts
 abbrev pub same_texts : Mime → Mime → Bool
-same_texts = eq_of_both (on (λ m. string_bytes m.type_) bytes_eq) (eq_of_both (on (λ m. string_bytes m.subtype) bytes_eq) (on (λ m. m.parameters.items) (pointwise same_pair)))
+same_texts = eq_of_both (on (λ m. string_bytes m.type_) bytes_eq)
+    (eq_of_both (on (λ m. string_bytes m.subtype) bytes_eq)
+    (on (λ m. m.parameters.items) (pointwise same_pair)))
 
 -- the test is an equivalence
 pub same_texts_equiv : IsEquivalence same_texts
-same_texts_equiv = and_equiv (on_texts_equal (λ m. string_bytes m.type_)) (and_equiv (on_texts_equal (λ m. string_bytes m.subtype)) (on_equiv (λ m. m.parameters.items) (lists_equiv (and_equiv (on_texts_equal (λ p. string_bytes p.0)) (on_texts_equal (λ p. string_bytes p.1))))))
+same_texts_equiv = and_equiv (on_texts_equal (λ m. string_bytes m.type_))
+    (and_equiv (on_texts_equal (λ m. string_bytes m.subtype))
+    (on_equiv (λ m. m.parameters.items)
+    (lists_equiv (and_equiv (on_texts_equal (λ p. string_bytes p.0))
+    (on_texts_equal (λ p. string_bytes p.1))))))
 
 -- the text behind a reference, where there is one
 abbrev pub as_option : Option (Bor (List ℕ)) → Option (List ℕ)
@@ -49,4 +59,5 @@ as_option (Some s) = Some s.now
 -- the value of the first pair of that name, in bytes
 abbrev pub value_of_name : {A B : Type 0} → List ℕ → List (String A × String B) → Option (List ℕ)
 value_of_name name [] = None
-value_of_name name (p ∷ ps) = cond (bytes_eq (string_bytes p.0) name) (Some (string_bytes p.1)) (value_of_name name ps)
+value_of_name name (p ∷ ps) =
+    cond (bytes_eq (string_bytes p.0) name) (Some (string_bytes p.1)) (value_of_name name ps)

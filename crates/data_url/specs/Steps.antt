@@ -15,7 +15,9 @@ use Rattle.data_url.specs.declared.forgiving_base64.DecodeError.{DecodeError}
 use Rattle.data_url.specs.declared.forgiving_base64.DecodeError.TheVariants.{WriteError}
 
 -- d called its closure once, on the piece, failed if that refused, and is otherwise unchanged
-pub record Writes {F E : Type 0} (step : F → List ℕ → Result (Unit {0}) E → F → Type 0) (d : State F) (piece : List ℕ) (r : Result (Unit {0}) (DecodeError E)) (d' : State F) : Type 0 where
+pub record Writes {F E : Type 0} (step : F → List ℕ → Result (Unit {0}) E → F → Type 0)
+    (d : State F) (piece : List ℕ) (r : Result (Unit {0}) (DecodeError E)) (d' : State F)
+    : Type 0 where
   pub told : Result (Unit {0}) E
   pub called : step d.closure piece told d'.closure
   pub answer : MatchResult told (λ u. r ≡ Ok tt) (λ e. r ≡ Err (WriteError e))

@@ -1,4 +1,5 @@
--- The parts of a data: URL's text, as the URL Standard cuts and writes them. Texts are lists of bytes.
+-- The parts of a data: URL's text, as the URL Standard cuts and writes them. Texts are lists of
+-- bytes.
 use Rattle.std.specs.Prelude.{ℕ, ◌-◌, ◌+◌, ◌/◌, ◌%◌, ◌==◌, ◌||◌, nat_le, nat_lt, Bool, not, cond, List, [], ◌∷◌, ◌++◌, length, take, drop, filter, map, Option, None, Some, codes}
 use Rattle.std.specs.List.{prefix_len, suffix_len, flat_map}
 use Rattle.std.specs.Str.{bytes_eq}
@@ -42,15 +43,19 @@ unfoldable pub behind : ℕ → List ℕ → Option (List ℕ)
 behind c [] = None
 behind c (b ∷ bs) = cond (b == c) (Some bs) (behind c bs)
 
--- what follows the scheme "data:", spelled in any ASCII case; none where the text begins otherwise (URL, section 4.4, scheme state)
+-- what follows the scheme "data:", spelled in any ASCII case; none where the text begins otherwise
+-- (URL, section 4.4, scheme state)
 unfoldable pub after_scheme : List ℕ → Option (List ℕ)
-after_scheme t = cond (bytes_eq (map to_ascii_lowercase (take 5 (cleaned t))) (codes "data:")) (Some (drop 5 (cleaned t))) None
+after_scheme t = cond (bytes_eq (map to_ascii_lowercase (take 5 (cleaned t))) (codes "data:"))
+    (Some (drop 5 (cleaned t))) None
 
--- the opaque path with its query: what stands before the first '#' (URL, section 4.4, opaque path state and query state)
+-- the opaque path with its query: what stands before the first '#' (URL, section 4.4, opaque path
+-- state and query state)
 unfoldable pub front : List ℕ → List ℕ
 front s = before 35 s
 
--- the fragment: what stands behind the first '#', where there is one (URL, section 4.4, fragment state)
+-- the fragment: what stands behind the first '#', where there is one (URL, section 4.4, fragment
+-- state)
 unfoldable pub fragment : List ℕ → Option (List ℕ)
 fragment s = behind 35 s
 
@@ -62,11 +67,13 @@ in_path_set b = nat_lt b 32 || nat_lt 126 b
 
 -- the query percent-encode set: the path's, and space, '"', '#', '<' and '>'
 abbrev pub in_query_set : ℕ → Bool
-in_query_set b = in_path_set b || ((b == 32) || ((b == 34) || ((b == 35) || ((b == 60) || (b == 62)))))
+in_query_set b = in_path_set b
+    || ((b == 32) || ((b == 34) || ((b == 35) || ((b == 60) || (b == 62)))))
 
 -- the fragment percent-encode set: the path's, and space, '"', '<', '>' and '`'
 abbrev pub in_fragment_set : ℕ → Bool
-in_fragment_set b = in_path_set b || ((b == 32) || ((b == 34) || ((b == 60) || ((b == 62) || (b == 96)))))
+in_fragment_set b = in_path_set b
+    || ((b == 32) || ((b == 34) || ((b == 60) || ((b == 62) || (b == 96)))))
 
 -- the upper-case hexadecimal digit of a number below 16
 abbrev pub hex_digit : ℕ → ℕ
@@ -83,7 +90,8 @@ percent_encoded in_set s = flat_map (encoded_byte in_set) s
 -- a path and, where there is one, '?' and its query, each encoded by its own set
 abbrev pub with_query : List ℕ → Option (List ℕ) → List ℕ
 with_query path None = percent_encoded in_path_set path
-with_query path (Some query) = percent_encoded in_path_set path ++ 63 ∷ percent_encoded in_query_set query
+with_query path (Some query) =
+    percent_encoded in_path_set path ++ 63 ∷ percent_encoded in_query_set query
 
 -- an opaque path with its query, serialised: the first '?' ends the path (URL, section 4.5)
 unfoldable pub serialised : List ℕ → List ℕ

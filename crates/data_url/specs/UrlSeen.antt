@@ -1,4 +1,5 @@
--- What contracts see of a `DataUrl` and a `FragmentIdentifier`, and what `process` makes of a text (Fetch Standard, section 6).
+-- What contracts see of a `DataUrl` and a `FragmentIdentifier`, and what `process` makes of a text
+-- (Fetch Standard, section 6).
 use Rattle.std.specs.Prelude.{◌≡◌, ℕ, Bool, List, Option, Some, Result, Ok, Err}
 use Rattle.std.specs.Option.{option_map}
 use Rattle.data_url.specs.Url.{after_scheme, behind, dropped, fragment, in_fragment_set, percent_encoded}
@@ -36,7 +37,8 @@ fragment_text f = f.text.now
 abbrev pub IsFragmentOf : List ℕ → Option FragmentIdentifier → Type 0
 IsFragmentOf tail found = option_map fragment_text found ≡ behind 35 tail
 
--- the URL of a text that is accepted: its record is that of the header, and the Standard's body and fragment are those of its tail
+-- the URL of a text that is accepted: its record is that of the header, and the Standard's body and
+-- fragment are those of its tail
 pub record IsUrlOf (t : List ℕ) (u : DataUrl) : Type 0 where
   pub header : List ℕ
   pub header_is : header_of t ≡ Some header
@@ -48,7 +50,8 @@ pub record IsUrlOf (t : List ℕ) (u : DataUrl) : Type 0 where
   pub body_is : option_map percent_decoded (encoded_body t) ≡ Some (plain_body (url_tail u))
   -- the Standard's fragment, where there is one, is that of the tail
   pub fragment_is : option_map fragment (after_scheme t) ≡ Some (fragment (dropped (url_tail u)))
-  pub staged_is : staged t ≡ Accepted (mime_text header) (url_body u) (option_map (percent_encoded in_fragment_set) (fragment (dropped (url_tail u))))
+  pub staged_is : staged t ≡ Accepted (mime_text header) (url_body u)
+      (option_map (percent_encoded in_fragment_set) (fragment (dropped (url_tail u))))
 
 -- a scheme and a comma are there
 abbrev pub IsAcceptable : Staged → Type 0
@@ -56,7 +59,8 @@ IsAcceptable NoScheme = ⊥
 IsAcceptable NoComma = ⊥
 IsAcceptable (Accepted text body fragment) = Unit {0}
 
--- what is answered of a text: each refusal exactly where the Standard finds no scheme or no comma, and want of memory for no such text
+-- what is answered of a text: each refusal exactly where the Standard finds no scheme or no comma,
+-- and want of memory for no such text
 abbrev pub IsProcessed : List ℕ → Result DataUrl DataUrlError → Type 0
 IsProcessed t (Ok u) = IsUrlOf t u
 IsProcessed t (Err no_scheme) = staged t ≡ NoScheme

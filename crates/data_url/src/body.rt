@@ -39,8 +39,8 @@ pub(crate) fn decode_base64<F, E>(tail: &str, write: F) -> (Result<usize, Decode
 where
     F: FnMut(&[u8]) -> Result<(), E>,
     requires { F.IsAlwaysCallable write }
-    ensures { Decodes (CalledAt F.FnMut) write (length tail.now + 1) (outcome true (plain_body tail.now))
-        (IsBodyEnd tail.now) result.0 result.1 }
+    ensures { Decodes (CalledAt F.FnMut) write (length tail.now + 1)
+        (outcome true (plain_body tail.now)) (IsBodyEnd tail.now) result.0 result.1 }
 {
     let mut decoder = Decoder::new(write);
     let mut pieces = Pieces::new(tail);

@@ -89,7 +89,8 @@ fn without_suffix(header: &str) -> Option<&str>
 
 /// The record of a header's text as it was given, and whether the body is base64.
 pub(crate) fn read_header(alloc: Global, header: &str) -> Result<(Mime, bool), AllocError>
-    ensures { IfOk result (λ found. IsHeaderOf (serialised (dropped header.now)) (seen found.0) found.1) }
+    ensures { IfOk result (λ found.
+        IsHeaderOf (serialised (dropped header.now)) (seen found.0) found.1) }
 {
     let bytes = header.as_bytes();
     let changes = changes_of(bytes);

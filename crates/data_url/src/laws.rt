@@ -15,7 +15,8 @@ use crate::mime::Mime;
 pub fn canonical(mime: &Mime)
     requires { IsWellformed (seen mime.now) }
     ensures parses { Parses (printed (seen mime.now)) (seen mime.now) }
-    ensures only { (other : Record) → Parses (printed (seen mime.now)) other → other ≡ seen mime.now }
+    ensures only { (other : Record) → Parses (printed (seen mime.now)) other
+        → other ≡ seen mime.now }
 {}
 
 /// Two records that a parse can give are equal, as by `==`, exactly if their printed texts are (MIME Sniffing Standard,
@@ -23,7 +24,8 @@ pub fn canonical(mime: &Mime)
 pub fn same_text(first: &Mime, second: &Mime)
     requires first { IsWellformed (seen first.now) }
     requires second { IsWellformed (seen second.now) }
-    ensures { SameTexts first.now second.now ↔ (printed (seen first.now) ≡ printed (seen second.now)) }
+    ensures { SameTexts first.now second.now ↔
+        (printed (seen first.now) ≡ printed (seen second.now)) }
 {}
 
 /// The encoded text of a fragment, read again behind `data:,#`, is encoded to itself (Fetch Standard, section 6, by the URL
@@ -44,6 +46,8 @@ pub fn two_feeds(first: &[u8], second: &[u8])
 /// Encoding bytes before they are percent-decoded changes nothing (URL Standard, section 1.3): bytes decode to the same as
 /// their encoded form does, by the set of a path and by that of a query.
 pub fn encoding_first(bytes: &[u8])
-    ensures path { percent_decoded bytes.now ≡ percent_decoded (percent_encoded in_path_set bytes.now) }
-    ensures query { percent_decoded bytes.now ≡ percent_decoded (percent_encoded in_query_set bytes.now) }
+    ensures path { percent_decoded bytes.now
+        ≡ percent_decoded (percent_encoded in_path_set bytes.now) }
+    ensures query { percent_decoded bytes.now
+        ≡ percent_decoded (percent_encoded in_query_set bytes.now) }
 {}

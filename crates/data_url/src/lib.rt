@@ -85,7 +85,8 @@ impl<'a> FragmentIdentifier<'a> {
     /// How many bytes the encoded fragment takes, or the greatest number where they are more.
     fn encoded_len(&self) -> usize
         ensures { result
-            ≡ min (length (percent_encoded in_fragment_set (dropped (fragment_text self.now)))) (2 ^ 64 - 1) }
+            ≡ min (length (percent_encoded in_fragment_set (dropped (fragment_text self.now))))
+            (2 ^ 64 - 1) }
     {
         let mut len: usize = 0;
         for byte in self.text.as_bytes() {
@@ -153,8 +154,8 @@ impl<'a> DataUrl<'a> {
     where
         F: FnMut(&[u8]) -> Result<(), E>,
         requires { F.IsAlwaysCallable write }
-        ensures { Decodes (CalledAt F.FnMut) write (length (url_tail self.now) + 1) (url_body self.now)
-            (IsBodyEnd (url_tail self.now)) result.0 result.1 }
+        ensures { Decodes (CalledAt F.FnMut) write (length (url_tail self.now) + 1)
+            (url_body self.now) (IsBodyEnd (url_tail self.now)) result.0 result.1 }
     {
         if self.base64 {
             decode_base64(self.tail, write)
@@ -192,8 +193,8 @@ impl<'a> DataUrl<'a> {
     where
         F: FnMut(&[u8]) -> Result<(), E>,
         requires { F.IsAlwaysCallable write_body_bytes }
-        ensures { Decodes (CalledAt F.FnMut) write_body_bytes (length (url_tail self.now) + 1) (url_body self.now)
-            (IsFragmentOf (url_tail self.now)) result.0 result.1 }
+        ensures { Decodes (CalledAt F.FnMut) write_body_bytes (length (url_tail self.now) + 1)
+            (url_body self.now) (IsFragmentOf (url_tail self.now)) result.0 result.1 }
     {
         let (answer, write) = self.decode_to_place(write_body_bytes);
         match answer {
@@ -217,8 +218,9 @@ impl<'a> DataUrl<'a> {
     where
         F: FnMut(&[u8]) -> Result<(), E> + Drop,
         requires { F.IsAlwaysCallable write_body_bytes }
-        ensures { (after : F) × Decodes (CalledAt F.FnMut) write_body_bytes (length (url_tail self.now) + 1)
-            (url_body self.now) (IsFragmentOf (url_tail self.now)) result after }
+        ensures { (after : F) × Decodes (CalledAt F.FnMut) write_body_bytes
+            (length (url_tail self.now) + 1) (url_body self.now)
+            (IsFragmentOf (url_tail self.now)) result after }
     {
         let (answer, _) = self.decode_with(write_body_bytes);
         answer

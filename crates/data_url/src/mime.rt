@@ -167,7 +167,8 @@ impl Mime {
     /// Whether type and subtype are exactly these texts, whatever the parameters are.
     pub fn matches(&self, type_: &str, subtype: &str) -> bool
         ensures { IsTrue result
-            ↔ ((string_bytes self.now.type_ ≡ type_.now) × (string_bytes self.now.subtype ≡ subtype.now)) }
+            ↔ ((string_bytes self.now.type_ ≡ type_.now)
+            × (string_bytes self.now.subtype ≡ subtype.now)) }
     {
         self.type_.as_str() == type_ && self.subtype.as_str() == subtype
     }

@@ -55,7 +55,8 @@ pub(crate) fn encoded_width(set: EncodeSet, byte: u8) -> usize
 
 /// Writes a byte at the end of a text, percent-encoded where the set contains it.
 pub(crate) fn push_encoded(text: &mut String, set: EncodeSet, byte: u8) -> Result<(), AllocError>
-    ensures { OnOk result (string_bytes text.new ≡ string_bytes text.old ++ encoded_byte (in_set set) byte) }
+    ensures { OnOk result (string_bytes text.new
+        ≡ string_bytes text.old ++ encoded_byte (in_set set) byte) }
 {
     if !set.contains(byte) {
         return text.push(char::from(byte));

@@ -6,7 +6,8 @@ use Rattle.dataurl.specs.declared.fault.Fault.{Fault}
 use Rattle.dataurl.specs.declared.fault.Fault.TheVariants.{Memory, NotUtf8, Read}
 
 -- what was made of the bytes that were read, where left is what was not
-pub data IsRead (left : Option (List ℕ)) (input : List ℕ) : Result (Vec ℕ Global) Fault → Type 0 where
+pub data IsRead (left : Option (List ℕ)) (input : List ℕ) : Result (Vec ℕ Global) Fault
+    → Type 0 where
   whole : {bytes : Vec ℕ Global} → bytes.items ≡ input → IsAtEnd left → IsRead left input (Ok bytes)
   no_memory : IsRead left input (Err Memory)
   read_failed : IsRead left input (Err Read)
@@ -18,8 +19,10 @@ pub record ReadsAll (old new : Option (List ℕ)) (r : Result (Vec ℕ Global) F
   pub is_read : IsRead new input r
 
 -- the same, of a text
-pub data IsReadText (left : Option (List ℕ)) (input : List ℕ) : Result (String Global) Fault → Type 0 where
-  whole_text : {text : String Global} → string_bytes text ≡ input → IsUtf8 input → IsAtEnd left → IsReadText left input (Ok text)
+pub data IsReadText (left : Option (List ℕ)) (input : List ℕ) : Result (String Global) Fault
+    → Type 0 where
+  whole_text : {text : String Global} → string_bytes text ≡ input → IsUtf8 input → IsAtEnd left
+      → IsReadText left input (Ok text)
   not_utf8 : (IsUtf8 input → ⊥) → IsAtEnd left → IsReadText left input (Err NotUtf8)
   no_text_memory : IsReadText left input (Err Memory)
   text_read_failed : IsReadText left input (Err Read)

@@ -26,11 +26,14 @@ record_line m = encode_utf8_all (printed m) ++ 10 ∷ []
 pub data IsRecordOutput (text : List ℕ) : List ℕ → End → Type 0 where
   record_of_url : {m : Record} → IsRecordOf text m → IsRecordOutput text (record_line m) (Ok tt)
 
--- the encoded fragment and a line feed, or nothing where there is none; of a body whose base64 has a fault nothing, and the fault
+-- the encoded fragment and a line feed, or nothing where there is none; of a body whose base64 has
+-- a fault nothing, and the fault
 pub data IsFragmentOutput : Outcome → Option (List ℕ) → List ℕ → End → Type 0 where
-  some_fragment : {bytes fragment : List ℕ} → IsFragmentOutput (Good bytes) (Some fragment) (fragment ++ 10 ∷ []) (Ok tt)
+  some_fragment : {bytes fragment : List ℕ}
+      → IsFragmentOutput (Good bytes) (Some fragment) (fragment ++ 10 ∷ []) (Ok tt)
   without_fragment : {bytes : List ℕ} → IsFragmentOutput (Good bytes) None [] (Ok tt)
-  fragment_of_bad : {bytes : List ℕ} {kind : _} {fragment : Option (List ℕ)} → IsFragmentOutput (Bad bytes kind) fragment [] (Err (Base64 kind))
+  fragment_of_bad : {bytes : List ℕ} {kind : _} {fragment : Option (List ℕ)}
+      → IsFragmentOutput (Bad bytes kind) fragment [] (Err (Base64 kind))
 
 -- the line of the record of a text of code points, or nothing where it has none
 pub data IsTypeOutput (text : List ℕ) : List ℕ → End → Type 0 where
@@ -39,16 +42,26 @@ pub data IsTypeOutput (text : List ℕ) : List ℕ → End → Type 0 where
 
 -- of a text: by what the staged Standard makes of it, or by its MIME type
 pub data IsTextOutput (x : List ℕ) : Command → List ℕ → End → Type 0 where
-  without_scheme : {c : Command} → TakesUrl c → staged x ≡ NoScheme → IsTextOutput x c [] (Err NotADataUrl)
-  without_comma : {c : Command} → TakesUrl c → staged x ≡ no_comma → IsTextOutput x c [] (Err NoComma)
-  body_of : {text written : List ℕ} {body : Outcome} {fragment : Option (List ℕ)} {end : End} → staged x ≡ Accepted text body fragment → IsBodyOutput body written end → IsTextOutput x Body written end
-  mime_of : {text written : List ℕ} {body : Outcome} {fragment : Option (List ℕ)} {end : End} → staged x ≡ Accepted text body fragment → IsRecordOutput text written end → IsTextOutput x MimeType written end
-  fragment_of : {text written : List ℕ} {body : Outcome} {fragment : Option (List ℕ)} {end : End} → staged x ≡ Accepted text body fragment → IsFragmentOutput body fragment written end → IsTextOutput x Fragment written end
-  type_of : {written : List ℕ} {end : End} → IsTypeOutput (chars x) written end → IsTextOutput x Canonical written end
+  without_scheme : {c : Command} → TakesUrl c → staged x ≡ NoScheme
+      → IsTextOutput x c [] (Err NotADataUrl)
+  without_comma : {c : Command} → TakesUrl c → staged x ≡ no_comma
+      → IsTextOutput x c [] (Err NoComma)
+  body_of : {text written : List ℕ} {body : Outcome} {fragment : Option (List ℕ)} {end : End}
+      → staged x ≡ Accepted text body fragment → IsBodyOutput body written end
+      → IsTextOutput x Body written end
+  mime_of : {text written : List ℕ} {body : Outcome} {fragment : Option (List ℕ)} {end : End}
+      → staged x ≡ Accepted text body fragment → IsRecordOutput text written end
+      → IsTextOutput x MimeType written end
+  fragment_of : {text written : List ℕ} {body : Outcome} {fragment : Option (List ℕ)} {end : End}
+      → staged x ≡ Accepted text body fragment → IsFragmentOutput body fragment written end
+      → IsTextOutput x Fragment written end
+  type_of : {written : List ℕ} {end : End} → IsTypeOutput (chars x) written end
+      → IsTextOutput x Canonical written end
 
 -- of any input
 pub data IsOutput (x : List ℕ) : Command → List ℕ → End → Type 0 where
-  of_text : {c : Command} {written : List ℕ} {end : End} → IsUtf8 x → IsTextOutput x c written end → IsOutput x c written end
+  of_text : {c : Command} {written : List ℕ} {end : End} → IsUtf8 x → IsTextOutput x c written end
+      → IsOutput x c written end
   of_no_text : {c : Command} → TakesText c → (IsUtf8 x → ⊥) → IsOutput x c [] (Err NotUtf8)
   of_base64 : is_valid x ≡ true → IsOutput x base64 (decoded x) (Ok tt)
   of_no_base64 : is_valid x ≡ false → IsOutput x base64 (done x) (Err (Base64 (kind_of x)))

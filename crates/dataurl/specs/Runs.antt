@@ -17,16 +17,21 @@ pub record IsSoundBeforeLastPiece (x : List ℕ) : Type 0 where
   pub is_sound : first_fault earlier ≡ None
   pub is_piece : length last ≤ 4096
 
--- what was written of the bytes that were read, and the end, where left is what the reader still has
+-- what was written of the bytes that were read, and the end, where left is what the reader still
+-- has
 pub data IsRun (x : List ℕ) (left : Option (List ℕ)) : Command → List ℕ → End → Type 0 where
   -- the whole input was read, and the output is the command's
-  complete : {c : Command} {written : List ℕ} {end : End} → IsAtEnd left → IsOutput x c written end → IsRun x left c written end
+  complete : {c : Command} {written : List ℕ} {end : End} → IsAtEnd left → IsOutput x c written end
+      → IsRun x left c written end
   -- base64 is read no further than the piece that has the fault
-  stopped : IsSoundBeforeLastPiece x → is_some (first_fault x) ≡ true → IsRun x left base64 (done x) (Err (Base64 (kind_of x)))
+  stopped : IsSoundBeforeLastPiece x → is_some (first_fault x) ≡ true
+      → IsRun x left base64 (done x) (Err (Base64 (kind_of x)))
   -- the writer took a beginning of the output of the whole input, and not all
-  not_written : {c : Command} {written whole : List ℕ} {end : End} → IsAtEnd left → IsOutput x c whole end → IsBeginning written whole → IsRun x left c written (Err Write)
+  not_written : {c : Command} {written whole : List ℕ} {end : End} → IsAtEnd left
+      → IsOutput x c whole end → IsBeginning written whole → IsRun x left c written (Err Write)
   -- it took a beginning of what is decoded of base64 as far as it was read, and not all
-  base64_not_written : {written : List ℕ} → IsSoundBeforeLastPiece x → IsBeginning written (done x) → IsRun x left base64 written (Err Write)
+  base64_not_written : {written : List ℕ} → IsSoundBeforeLastPiece x → IsBeginning written (done x)
+      → IsRun x left base64 written (Err Write)
   -- the reader failed: of base64 the complete groups that were read are written, decoded
   not_read : {c : Command} → TakesText c → IsRun x left c [] (Err Read)
   base64_not_read : first_fault x ≡ None → IsRun x left base64 (done x) (Err Read)
@@ -34,7 +39,8 @@ pub data IsRun (x : List ℕ) (left : Option (List ℕ)) : Command → List ℕ 
   no_memory : {c : Command} → TakesText c → IsRun x left c [] (Err Memory)
 
 -- a command read an input and wrote bytes, as far as those of the reader and the writer are known
-pub record Runs (c : Command) (unread left : Option (List ℕ)) (held now : Option (List ℕ)) (r : End) : Type 0 where
+pub record Runs (c : Command) (unread left : Option (List ℕ)) (held now : Option (List ℕ)) (r : End)
+    : Type 0 where
   pub input : List ℕ
   pub written : List ℕ
   pub consumed : Consumes unread left input

@@ -24,14 +24,18 @@ pub data IsUrlFor (x : List ℕ) : Result DataUrl Fault → Type 0 where
   no_comma_is : staged x ≡ no_comma → IsUrlFor x (Err NoComma)
   no_url_memory : IsAcceptable (staged x) → IsUrlFor x (Err Memory)
 
--- what was written of an output: all of it, a beginning that is not all and that the writer took, or nothing for want of memory
+-- what was written of an output: all of it, a beginning that is not all and that the writer took,
+-- or nothing for want of memory
 pub data IsWrittenOf (IsOutput : List ℕ → End → Type 0) : List ℕ → End → Type 0 where
-  whole_output : {written : List ℕ} {end : End} → IsOutput written end → IsWrittenOf IsOutput written end
-  cut_output : {written whole : List ℕ} {end : End} → IsOutput whole end → IsBeginning written whole → IsWrittenOf IsOutput written (Err Write)
+  whole_output : {written : List ℕ} {end : End} → IsOutput written end
+      → IsWrittenOf IsOutput written end
+  cut_output : {written whole : List ℕ} {end : End} → IsOutput whole end → IsBeginning written whole
+      → IsWrittenOf IsOutput written (Err Write)
   no_output : IsWrittenOf IsOutput [] (Err Memory)
 
 -- a writer took of an output
-pub record WritesOf (IsOutput : List ℕ → End → Type 0) (held now : Option (List ℕ)) (r : End) : Type 0 where
+pub record WritesOf (IsOutput : List ℕ → End → Type 0) (held now : Option (List ℕ)) (r : End)
+    : Type 0 where
   pub written : List ℕ
   pub appended : Appends held now written
   pub is_written : IsWrittenOf IsOutput written r
@@ -42,7 +46,8 @@ pub data IsExactly (bytes : List ℕ) : List ℕ → End → Type 0 where
 
 -- the encoded fragment of a URL, where it has one
 abbrev pub encoded_fragment : DataUrl → Option (List ℕ)
-encoded_fragment url = option_map (percent_encoded in_fragment_set) (fragment (dropped (url_tail url)))
+encoded_fragment url = option_map (percent_encoded in_fragment_set)
+    (fragment (dropped (url_tail url)))
 
 -- a fragment, encoded, and a line feed
 abbrev pub fragment_line : FragmentIdentifier → List ℕ

@@ -41,7 +41,8 @@ where
     F: FnMut(&[u8]) -> Result<(), E>,
     E: Drop,
     requires { F.IsAlwaysCallable write }
-    ensures { Decodes (CalledAt F.FnMut) write (length (url_tail url.now) + 1) (url_body url.now) AnyAnswer answer.new result }
+    ensures { Decodes (CalledAt F.FnMut) write (length (url_tail url.now) + 1) (url_body url.now)
+        AnyAnswer answer.new result }
 {
     let (answered, write) = url.decode_with(write);
     *answer = match answered {
@@ -53,7 +54,8 @@ where
 
 /// Writes bytes that make a whole output.
 fn write_output<W: Write>(writer: &mut W, bytes: &[u8]) -> Result<(), Fault>
-    ensures { WritesOf (IsExactly bytes.now) (W.contents writer.old) (W.contents writer.new) result }
+    ensures { WritesOf (IsExactly bytes.now) (W.contents writer.old) (W.contents writer.new)
+        result }
 {
     match write_all(writer, bytes) {
         Ok(()) => Ok(()),
@@ -64,7 +66,8 @@ fn write_output<W: Write>(writer: &mut W, bytes: &[u8]) -> Result<(), Fault>
 /// Writes the body of a URL as it is decoded. It takes no memory: short pieces are gathered, and long ones are written as
 /// they are.
 fn write_body_of<W: Write>(url: &DataUrl, writer: &mut W) -> Result<(), Fault>
-    ensures { Streams (IsBodyOutput (url_body url.now)) (W.contents writer.old) (W.contents writer.new) result }
+    ensures { Streams (IsBodyOutput (url_body url.now)) (W.contents writer.old)
+        (W.contents writer.new) result }
 {
     let mut gathered = Gathered::new();
     let mut answer = Ok(());
@@ -78,7 +81,8 @@ fn write_body_of<W: Write>(url: &DataUrl, writer: &mut W) -> Result<(), Fault>
 
 /// Writes the line of a record.
 fn write_record<W: Write>(alloc: Global, mime: &Mime, writer: &mut W) -> Result<(), Fault>
-    ensures { WritesOf (IsExactly (record_line (seen mime.now))) (W.contents writer.old) (W.contents writer.new) result }
+    ensures { WritesOf (IsExactly (record_line (seen mime.now))) (W.contents writer.old)
+        (W.contents writer.new) result }
 {
     let Ok(line) = format!(in alloc; "{mime}\n") else {
         return Err(Fault::Memory);
@@ -88,7 +92,8 @@ fn write_record<W: Write>(alloc: Global, mime: &Mime, writer: &mut W) -> Result<
 
 /// Writes the encoded fragment of a URL and a line feed, or nothing where there is none, once all of its body was decoded.
 fn write_fragment_of<W: Write>(alloc: Global, url: &DataUrl, writer: &mut W) -> Result<(), Fault>
-    ensures { WritesOf (IsFragmentOutput (url_body url.now) (encoded_fragment url.now)) (W.contents writer.old) (W.contents writer.new) result }
+    ensures { WritesOf (IsFragmentOutput (url_body url.now) (encoded_fragment url.now))
+        (W.contents writer.old) (W.contents writer.new) result }
 {
     match url.decode(|_piece: &[u8]| -> Result<(), Infallible> { Ok(()) }) {
         Ok(Some(fragment)) => write_encoded(alloc, &fragment, writer),
@@ -104,7 +109,8 @@ fn write_encoded<W: Write>(
     fragment: &FragmentIdentifier,
     writer: &mut W,
 ) -> Result<(), Fault>
-    ensures { WritesOf (IsExactly (fragment_line fragment.now)) (W.contents writer.old) (W.contents writer.new) result }
+    ensures { WritesOf (IsExactly (fragment_line fragment.now)) (W.contents writer.old)
+        (W.contents writer.new) result }
 {
     let Ok(mut line) = fragment.to_percent_encoded(alloc) else {
         return Err(Fault::Memory);
@@ -117,7 +123,8 @@ fn write_encoded<W: Write>(
 
 /// Writes the body of the URL of a text.
 fn write_body<W: Write>(alloc: Global, text: &str, writer: &mut W) -> Result<(), Fault>
-    ensures { WritesOf (IsTextOutput text.now Command.Body) (W.contents writer.old) (W.contents writer.new) result }
+    ensures { WritesOf (IsTextOutput text.now Command.Body) (W.contents writer.old)
+        (W.contents writer.new) result }
 {
     match url_of(alloc, text) {
         Ok(url) => write_body_of(&url, writer),
@@ -127,7 +134,8 @@ fn write_body<W: Write>(alloc: Global, text: &str, writer: &mut W) -> Result<(),
 
 /// Writes the line of the record of the URL of a text. Its body is not decoded.
 fn write_mime<W: Write>(alloc: Global, text: &str, writer: &mut W) -> Result<(), Fault>
-    ensures { WritesOf (IsTextOutput text.now Command.MimeType) (W.contents writer.old) (W.contents writer.new) result }
+    ensures { WritesOf (IsTextOutput text.now Command.MimeType) (W.contents writer.old)
+        (W.contents writer.new) result }
 {
     match url_of(alloc, text) {
         Ok(url) => write_record(alloc, url.mime_type(), writer),
@@ -137,7 +145,8 @@ fn write_mime<W: Write>(alloc: Global, text: &str, writer: &mut W) -> Result<(),
 
 /// Writes the line of the fragment of the URL of a text.
 fn write_fragment<W: Write>(alloc: Global, text: &str, writer: &mut W) -> Result<(), Fault>
-    ensures { WritesOf (IsTextOutput text.now Command.Fragment) (W.contents writer.old) (W.contents writer.new) result }
+    ensures { WritesOf (IsTextOutput text.now Command.Fragment) (W.contents writer.old)
+        (W.contents writer.new) result }
 {
     match url_of(alloc, text) {
         Ok(url) => write_fragment_of(alloc, &url, writer),
@@ -147,7 +156,8 @@ fn write_fragment<W: Write>(alloc: Global, text: &str, writer: &mut W) -> Result
 
 /// Writes the line of the record of a text.
 fn write_type<W: Write>(alloc: Global, text: &str, writer: &mut W) -> Result<(), Fault>
-    ensures { WritesOf (IsTextOutput text.now Command.Canonical) (W.contents writer.old) (W.contents writer.new) result }
+    ensures { WritesOf (IsTextOutput text.now Command.Canonical) (W.contents writer.old)
+        (W.contents writer.new) result }
 {
     match Mime::from_str(alloc, text) {
         Ok(mime) => write_record(alloc, &mime, writer),
@@ -175,7 +185,8 @@ pub fn run<R: Read, W: Write>(
     reader: &mut R,
     writer: &mut W,
 ) -> Result<(), Fault>
-    ensures { Runs command (R.remaining reader.old) (R.remaining reader.new) (W.contents writer.old) (W.contents writer.new) result }
+    ensures { Runs command (R.remaining reader.old) (R.remaining reader.new) (W.contents writer.old)
+        (W.contents writer.new) result }
 {
     match command {
         Command::Body => write_body(alloc, read_text(alloc, reader)?.as_str(), writer),

@@ -95,7 +95,8 @@ fn left_of(text: &[u8]) -> Left
 /// Moves what the first bytes leave to the front, and answers how many bytes that takes.
 fn keep_left(text: &mut [u8; ROOM], len: usize) -> usize
     requires { len ≤ 4102 }
-    ensures kept { take result text.new ≡ left_text (left_symbols (take len text.old)) (left_padding (take len text.old)) }
+    ensures kept { take result text.new
+        ≡ left_text (left_symbols (take len text.old)) (left_padding (take len text.old)) }
     ensures few { result ≤ 6 }
 {
     let Left {
@@ -173,7 +174,8 @@ fn write_last<W: Write>(text: &[u8], writer: &mut W) -> Result<(), Fault>
 /// Writes what a reader's base64 stands for, as it is read: what a piece completes is written before the next is read. It
 /// takes no memory.
 pub(crate) fn write_base64<R: Read, W: Write>(reader: &mut R, writer: &mut W) -> Result<(), Fault>
-    ensures { Runs Command.Base64 (R.remaining reader.old) (R.remaining reader.new) (W.contents writer.old) (W.contents writer.new) result }
+    ensures { Runs Command.Base64 (R.remaining reader.old) (R.remaining reader.new)
+        (W.contents writer.old) (W.contents writer.new) result }
 {
     let mut text = [0; ROOM];
     let mut left = 0;

@@ -10,7 +10,8 @@ without place gap text = take place text ++ drop (place + gap) text
 abbrev pub is_symbol_or_space : ℕ → Bool
 is_symbol_or_space b = is_symbol b || is_ascii_whitespace b
 
--- the text is of symbols and white space alone, its symbols are whole groups, and these are their bytes
+-- the text is of symbols and white space alone, its symbols are whole groups, and these are their
+-- bytes
 pub record AreGroups (text bytes : List ℕ) : Type 0 where
   pub alone : IsTrue (list_all is_symbol_or_space text)
   pub whole : length (values text) % 4 ≡ 0

@@ -6,7 +6,8 @@ use Rattle.data_url.specs.Run.{Call, IsRun, joined, refusal}
 use Rattle.data_url.specs.Steps.{Writes}
 use Rattle.data_url.specs.declared.forgiving_base64.DecodeError.{DecodeError}
 
--- d took the text with no call: these are the bytes of the groups that it completed, and d' has left over what it leaves
+-- d took the text with no call: these are the bytes of the groups that it completed, and d' has
+-- left over what it leaves
 pub record Adds {F : Type 0} (d : State F) (text bytes : List ℕ) (d' : State F) : Type 0 where
   pub no_fault : first_fault (left_over d ++ text) ≡ None
   pub bytes_are : bytes ≡ done (left_over d ++ text)
@@ -15,7 +16,8 @@ pub record Adds {F : Type 0} (d : State F) (text bytes : List ℕ) (d' : State F
   pub closure_stays : d'.closure ≡ d.closure
   pub going : d'.failed ≡ false
 
--- the byte is a fault of that kind behind what d has left over, which completes no group, and d stays as it is
+-- the byte is a fault of that kind behind what d has left over, which completes no group, and d
+-- stays as it is
 pub record Refuses {F : Type 0} (d : State F) (byte : ℕ) (kind : Kind) (d' : State F) : Type 0 where
   pub fault : is_some (first_fault (left_over d ++ byte ∷ [])) ≡ true
   pub kind_is : kind_of (left_over d ++ byte ∷ []) ≡ kind
@@ -27,8 +29,10 @@ abbrev pub bytes_in : Option (List ℕ) → List ℕ
 bytes_in None = []
 bytes_in (Some group) = group
 
--- d took so many bytes of the text, at least one, and the bytes of their groups stand behind those that were held
-pub record Gains {F : Type 0} (d : State F) (held text : List ℕ) (taken : ℕ) (d' : State F) (held' : List ℕ) : Type 0 where
+-- d took so many bytes of the text, at least one, and the bytes of their groups stand behind those
+-- that were held
+pub record Gains {F : Type 0} (d : State F) (held text : List ℕ) (taken : ℕ) (d' : State F)
+    (held' : List ℕ) : Type 0 where
   pub some : 1 ≤ taken
   pub within : taken ≤ length text
   pub more : List ℕ
@@ -36,12 +40,15 @@ pub record Gains {F : Type 0} (d : State F) (held text : List ℕ) (taken : ℕ)
   pub held_are : held' ≡ held ++ more
 
 -- d called its closure once on the bytes that are held, or not at all where none are
-abbrev pub Flushes : {F E : Type 0} → (F → List ℕ → Result (Unit {0}) E → F → Type 0) → State F → List ℕ → Result (Unit {0}) (DecodeError E) → State F → Type 0
+abbrev pub Flushes : {F E : Type 0} → (F → List ℕ → Result (Unit {0}) E → F → Type 0) → State F
+    → List ℕ → Result (Unit {0}) (DecodeError E) → State F → Type 0
 Flushes step d [] r d' = (r ≡ Ok tt) × (d' ≡ d)
 Flushes step d (b ∷ bs) r d' = Writes step d (b ∷ bs) r d'
 
--- d took the text, ran its closure on all pieces of 48 bytes but what is held, which was accepted, and is d' now
-pub record Holds {F E : Type 0} (step : F → List ℕ → Result (Unit {0}) E → F → Type 0) (d : State F) (text held : List ℕ) (d' : State F) : Type 0 where
+-- d took the text, ran its closure on all pieces of 48 bytes but what is held, which was accepted,
+-- and is d' now
+pub record Holds {F E : Type 0} (step : F → List ℕ → Result (Unit {0}) E → F → Type 0) (d : State F)
+    (text held : List ℕ) (d' : State F) : Type 0 where
   pub run : List (Call F E)
   pub ran : IsRun step d.closure run d'.closure
   pub accepted : refusal run ≡ None

@@ -62,7 +62,8 @@ pub record IsNextMark (text : List ℕ) (from to : ℕ) : Type 0 where
 abbrev pub text_of : Cursor → List ℕ
 text_of c = c.source.text.now
 
--- the walk may look at its text from a place on: its block begins before, and its looks, and so many more, are paid for
+-- the walk may look at its text from a place on: its block begins before, and its looks, and so
+-- many more, are paid for
 pub record Looking (c : Cursor) (place more : ℕ) : Type 0 where
   pub block : IsBlock (text_of c) c.base c.seen c.marks
   pub base_le : c.base ≤ place
@@ -184,7 +185,8 @@ pub record IsNear (c : Cursor) : Type 0 where
 abbrev pub Moves : Cursor → Cursor → Type 0
 Moves c c' = MatchBool (has_ended c'.ahead) (Unit {0}) (c.place < c'.place)
 
--- a stretch was gathered, and what stands behind it: the body ends there, or the walk goes on in the block
+-- a stretch was gathered, and what stands behind it: the body ends there, or the walk goes on in
+-- the block
 abbrev pub IsGathered : Cursor → Cursor → ℕ → Bool → Type 0
 IsGathered c c' len ended =
     MatchBool ended

@@ -43,7 +43,8 @@ pub(crate) fn group_of(first: u8, second: u8, third: u8, fourth: u8) -> [u8; 3]
     requires second { IsTrue (is_symbol second) }
     requires third { IsTrue (is_symbol third) }
     requires fourth { IsTrue (is_symbol fourth) }
-    ensures { let number = group_number (symbol_value first) (symbol_value second) (symbol_value third) (symbol_value fourth) in
+    ensures { let number = group_number (symbol_value first) (symbol_value second)
+        (symbol_value third) (symbol_value fourth) in
         result ≡ group_bytes number }
 {
     let half = six_bits(first) * 64 + six_bits(second);
@@ -70,7 +71,8 @@ pub(crate) fn rest_of_three(first: u8, second: u8, third: u8) -> [u8; 2]
     requires first { IsTrue (is_symbol first) }
     requires second { IsTrue (is_symbol second) }
     requires third { IsTrue (is_symbol third) }
-    ensures { result ≡ rest_bytes (symbol_value first ∷ symbol_value second ∷ symbol_value third ∷ []) }
+    ensures { result ≡ rest_bytes
+        (symbol_value first ∷ symbol_value second ∷ symbol_value third ∷ []) }
 {
     let number = ((six_bits(first) * 64 + six_bits(second)) * 64 + six_bits(third)) / 4;
     [(number / 256) as u8, (number % 256) as u8]

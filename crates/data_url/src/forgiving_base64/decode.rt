@@ -87,7 +87,8 @@ where
         requires callable { F.IsAlwaysCallable (state_of self.old).closure }
         requires going { (state_of self.old).failed ≡ false }
         ensures callable { F.IsAlwaysCallable (state_of self.new).closure }
-        ensures wrote { Writes (CalledAt F.FnMut) (state_of self.old) piece.now result (state_of self.new) }
+        ensures wrote { Writes (CalledAt F.FnMut) (state_of self.old) piece.now result
+            (state_of self.new) }
     {
         match (self.write_bytes)(piece) {
             Ok(()) => Ok(()),
@@ -212,8 +213,8 @@ where
         requires callable { F.IsAlwaysCallable (state_of self.old).closure }
         requires going { (state_of self.old).failed ≡ false }
         ensures callable { F.IsAlwaysCallable (state_of self.new).closure }
-        ensures flushed { Flushes (CalledAt F.FnMut) (state_of self.old) (held_bytes held.now) result
-            (state_of self.new) }
+        ensures flushed { Flushes (CalledAt F.FnMut) (state_of self.old) (held_bytes held.now)
+            result (state_of self.new) }
     {
         if held.groups == 0 {
             return Ok(());
@@ -226,7 +227,8 @@ where
         requires callable { F.IsAlwaysCallable (state_of self.old).closure }
         requires going { (state_of self.old).failed ≡ false }
         ensures callable { F.IsAlwaysCallable (state_of self.new).closure }
-        ensures fed { Feeds (CalledAt F.FnMut) (state_of self.old) (byte ∷ []) result (state_of self.new) }
+        ensures fed { Feeds (CalledAt F.FnMut) (state_of self.old) (byte ∷ []) result
+            (state_of self.new) }
     {
         match self.take_byte(byte) {
             Ok(None) => Ok(()),
@@ -240,7 +242,8 @@ where
         requires callable { F.IsAlwaysCallable (state_of self.old).closure }
         requires going { (state_of self.old).failed ≡ false }
         ensures callable { F.IsAlwaysCallable (state_of self.new).closure }
-        ensures fed { Feeds (CalledAt F.FnMut) (state_of self.old) input.now result (state_of self.new) }
+        ensures fed { Feeds (CalledAt F.FnMut) (state_of self.old) input.now result
+            (state_of self.new) }
     {
         for byte in input {
             self.feed_byte(*byte)?;
@@ -253,7 +256,8 @@ where
         requires callable { F.IsAlwaysCallable (state_of self.old).closure }
         requires going { (state_of self.old).failed ≡ false }
         ensures callable { F.IsAlwaysCallable (state_of self.new).closure }
-        ensures fed { Feeds (CalledAt F.FnMut) (state_of self.old) input.now result (state_of self.new) }
+        ensures fed { Feeds (CalledAt F.FnMut) (state_of self.old) input.now result
+            (state_of self.new) }
     {
         let mut held = Held::new();
         let mut at = 0;
@@ -285,7 +289,8 @@ where
         requires callable { F.IsAlwaysCallable (state_of self.old).closure }
         requires going { (state_of self.old).failed ≡ false }
         ensures callable { F.IsAlwaysCallable (state_of self.new).closure }
-        ensures fed { Feeds (CalledAt F.FnMut) (state_of self.old) input.now result (state_of self.new) }
+        ensures fed { Feeds (CalledAt F.FnMut) (state_of self.old) input.now result
+            (state_of self.new) }
     {
         if self.pending + input.len() < 8 {
             self.feed_few(input)
@@ -299,7 +304,8 @@ where
         requires callable { F.IsAlwaysCallable (state_of self.old).closure }
         requires going { (state_of self.old).failed ≡ false }
         ensures callable { F.IsAlwaysCallable (state_of self.new).closure }
-        ensures finished { Finishes (CalledAt F.FnMut) (state_of self.old) result (state_of self.new).closure }
+        ensures finished { Finishes (CalledAt F.FnMut) (state_of self.old) result
+            (state_of self.new).closure }
     {
         let [first, second, third] = self.symbols;
         match (self.pending, self.padding) {

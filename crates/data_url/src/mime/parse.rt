@@ -36,7 +36,9 @@ impl<'a> Head<'a> {
         requires type_ { IsTrue (is_token_text (chars self.type_.now)) }
         requires subtype { IsTrue (is_token_text (chars self.subtype.now)) }
         requires parameters { BeginsParameters (chars self.parameters.now) }
-        ensures { IfOk result (λ mime. IsRecordOfParts (chars self.entry.type_.now) (chars self.entry.subtype.now) (chars self.entry.parameters.now) (seen mime)) }
+        ensures { IfOk result (λ mime.
+            IsRecordOfParts (chars self.entry.type_.now) (chars self.entry.subtype.now)
+            (chars self.entry.parameters.now) (seen mime)) }
     {
         Ok(Mime {
             type_: lowercased(alloc, self.type_)?,
@@ -48,7 +50,9 @@ impl<'a> Head<'a> {
 
 /// The parts of a MIME type, if the text is one.
 pub(super) fn read_head(text: &str) -> Option<Head<'_>>
-    ensures { MatchOption result (HasNoHead (chars text.now)) (λ h. IsHead (chars text.now) (chars h.type_.now) (chars h.subtype.now) (chars h.parameters.now)) }
+    ensures { MatchOption result (HasNoHead (chars text.now))
+        (λ h. IsHead (chars text.now) (chars h.type_.now) (chars h.subtype.now)
+        (chars h.parameters.now)) }
 {
     let (type_, rest) = split_tokens(without_end(without_front(text)));
     let (subtype, rest) = split_tokens(rest.strip_prefix('/')?);
@@ -65,14 +69,16 @@ pub(super) fn read_head(text: &str) -> Option<Head<'_>>
 
 // Whether a text is empty or begins with `;`.
 fn begins_parameters(text: &str) -> bool
-    ensures { MatchBool result (BeginsParameters (chars text.now)) (¬ (BeginsParameters (chars text.now))) }
+    ensures { MatchBool result (BeginsParameters (chars text.now))
+        (¬ (BeginsParameters (chars text.now))) }
 {
     text.is_empty() || text.starts_with(';')
 }
 
 // The parameter that a text begins with, behind its `;`.
 fn read_parameter(text: &str) -> Parameter<'_>
-    ensures parameter { (item : Item) × IsItem result item × HasParameterBefore (chars text.now) item (chars result.rest.now) }
+    ensures parameter { (item : Item) × IsItem result item
+        × HasParameterBefore (chars text.now) item (chars result.rest.now) }
     ensures text { IsUtf8 result.rest.now }
 {
     let (name, tail) = split_name(without_front(text));
@@ -89,7 +95,8 @@ fn read_parameter(text: &str) -> Parameter<'_>
 
 // The value that stands behind a `=`, and what stands behind it.
 fn read_value(text: &str) -> (Value<'_>, &str)
-    ensures value { (value : Option (List ℕ)) × IsValue result.0 value × HasValueBefore (61 ∷ chars text.now) value (chars result.1.now) }
+    ensures value { (value : Option (List ℕ)) × IsValue result.0 value
+        × HasValueBefore (61 ∷ chars text.now) value (chars result.1.now) }
     ensures text { IsUtf8 result.1.now }
 {
     let Some(quoted) = text.strip_prefix('"') else {
@@ -105,7 +112,8 @@ fn read_value(text: &str) -> (Value<'_>, &str)
 // The same of a value that begins with no `"`.
 fn read_plain(text: &str) -> (Value<'_>, &str)
     requires { DoesNotBegin is_quote (chars text.now) }
-    ensures value { (value : Option (List ℕ)) × IsValue result.0 value × HasValueBefore (61 ∷ chars text.now) value (chars result.1.now) }
+    ensures value { (value : Option (List ℕ)) × IsValue result.0 value
+        × HasValueBefore (61 ∷ chars text.now) value (chars result.1.now) }
     ensures text { IsUtf8 result.1.now }
 {
     let (value, rest) = split_semicolon(text);
@@ -119,7 +127,8 @@ fn read_plain(text: &str) -> (Value<'_>, &str)
 
 // What stands before the quote that closes a quoted string, and behind it.
 fn split_quote(text: &str) -> Option<(&str, &str)>
-    ensures { MatchOption result (IsOpen (chars text.now)) (λ parts. IsClosed text.now parts.0.now parts.1.now) }
+    ensures { MatchOption result (IsOpen (chars text.now))
+        (λ parts. IsClosed text.now parts.0.now parts.1.now) }
 {
     let mut escaped = false;
     for (place, byte) in text.as_bytes().iter().enumerate() {
@@ -137,7 +146,8 @@ pub(super) fn read_parameters(
     text: &str,
 ) -> Result<Vec<(String, String)>, AllocError>
     requires { BeginsParameters (chars text.now) }
-    ensures { IfOk result (λ pairs. (items : List Item) × Items (chars text.now) items × (map (λ p. pair_of p) pairs.items ≡ kept items)) }
+    ensures { IfOk result (λ pairs. (items : List Item) × Items (chars text.now) items
+        × (map (λ p. pair_of p) pairs.items ≡ kept items)) }
 {
     let mut pairs = Vec::new(alloc);
     let mut rest = text;
@@ -156,7 +166,10 @@ fn keep(
     parameter: &Parameter<'_>,
 ) -> Result<(), AllocError>
     requires { HasLowercaseNames (map (λ p. pair_of p) pairs.old.items) }
-    ensures { OnOk result ((item : Item) → IsItem parameter.now item → map (λ p. pair_of p) pairs.new.items ≡ map (λ p. pair_of p) pairs.old.items ++ added (map (λ p. pair_of p) pairs.old.items) item) }
+    ensures { OnOk result ((item : Item) → IsItem parameter.now item
+        → map (λ p. pair_of p) pairs.new.items
+        ≡ map (λ p. pair_of p) pairs.old.items
+        ++ added (map (λ p. pair_of p) pairs.old.items) item) }
 {
     let name = parameter.name;
     if !is_token_text(name) || has_name(pairs, name) {
@@ -173,7 +186,8 @@ fn keep(
 fn has_name(pairs: &[(String, String)], name: &str) -> bool
     requires lower { HasLowercaseNames (map (λ p. pair_of p) pairs.now) }
     requires token { IsTrue (is_token_text (chars name.now)) }
-    ensures { result ≡ has_name (map to_ascii_lowercase (chars name.now)) (map (λ p. pair_of p) pairs.now) }
+    ensures { result ≡ has_name (map to_ascii_lowercase (chars name.now))
+        (map (λ p. pair_of p) pairs.now) }
 {
     for (key, _) in pairs {
         if key.as_str().eq_ignore_ascii_case(name) {

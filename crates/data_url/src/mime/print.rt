@@ -14,7 +14,8 @@ pub(super) fn write_parameter<W: fmt::Write>(
     name: &str,
     value: &str,
 ) -> fmt::Result
-    ensures { WritesOnOk W.write_str_gives f.old result (encode_utf8_all (printed_pair (chars name.now, chars value.now))) f.new }
+    ensures { WritesOnOk W.write_str_gives f.old result
+        (encode_utf8_all (printed_pair (chars name.now, chars value.now))) f.new }
 {
     f.write_char(';')?;
     f.write_str(name)?;
@@ -24,7 +25,8 @@ pub(super) fn write_parameter<W: fmt::Write>(
 
 // Writes a value: a nonempty text of token code points as it is, any other in quotes.
 fn write_value<W: fmt::Write>(f: &mut fmt::Formatter<W>, value: &str) -> fmt::Result
-    ensures { WritesOnOk W.write_str_gives f.old result (encode_utf8_all (printed_value (chars value.now))) f.new }
+    ensures { WritesOnOk W.write_str_gives f.old result
+        (encode_utf8_all (printed_value (chars value.now))) f.new }
 {
     if is_token_text(value) {
         return f.write_str(value);
@@ -36,7 +38,8 @@ fn write_value<W: fmt::Write>(f: &mut fmt::Formatter<W>, value: &str) -> fmt::Re
 
 // Writes a text with a `\` before each `"` and each `\`.
 fn write_escaped<W: fmt::Write>(f: &mut fmt::Formatter<W>, text: &str) -> fmt::Result
-    ensures { WritesOnOk W.write_str_gives f.old result (encode_utf8_all (flat_map escaped (chars text.now))) f.new }
+    ensures { WritesOnOk W.write_str_gives f.old result
+        (encode_utf8_all (flat_map escaped (chars text.now))) f.new }
 {
     for c in text.chars() {
         write_escaped_char(f, c)?;

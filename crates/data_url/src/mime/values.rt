@@ -26,7 +26,8 @@ impl<'a> Value<'a> {
 
     /// The value as a text of its own, if it is there and has quoted-string code points alone. It takes memory for that text.
     pub(super) fn text(&self, alloc: Global) -> Result<Option<String>, AllocError>
-        ensures { IfOk result (λ text. (value : Option (List ℕ)) → IsValue self.now value → option_map (λ t. code_points t) text ≡ quotable_value value) }
+        ensures { IfOk result (λ text. (value : Option (List ℕ)) → IsValue self.now value
+            → option_map (λ t. code_points t) text ≡ quotable_value value) }
     {
         match self {
             Value::Plain(text) if is_quotable(text) => Ok(Some(String::from_str(alloc, text)?)),
@@ -60,7 +61,8 @@ fn is_quotable(text: &str) -> bool
 
 // The value of a quoted string: without the `\` before each code point that one stands before.
 fn unescaped(alloc: Global, quoted: &str) -> Result<String, AllocError>
-    ensures { IfOk result (λ text. (value : List ℕ) → QuotedOpen (chars quoted.now) value → code_points text ≡ value) }
+    ensures { IfOk result (λ text. (value : List ℕ) → QuotedOpen (chars quoted.now) value
+        → code_points text ≡ value) }
 {
     let mut value = String::with_capacity(alloc, quoted.len())?;
     let mut escaped = false;

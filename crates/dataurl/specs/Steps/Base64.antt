@@ -8,7 +8,8 @@ use Rattle.dataurl.specs.declared.fault.Fault.TheVariants.{Base64}
 use Rattle.dataurl.specs.declared.fault.WriteFailed.{WriteFailed}
 
 -- a new decoder over the closure f was fed the text, and its closure is g now
-pub record FeedsText {F : Type 0} (step : F → List ℕ → Result (Unit {0}) WriteFailed → F → Type 0) (f : F) (text : List ℕ) (r : Result (Unit {0}) (DecodeError WriteFailed)) (g : F) : Type 0 where
+pub record FeedsText {F : Type 0} (step : F → List ℕ → Result (Unit {0}) WriteFailed → F → Type 0)
+    (f : F) (text : List ℕ) (r : Result (Unit {0}) (DecodeError WriteFailed)) (g : F) : Type 0 where
   pub state : State F
   pub fed : Feeds step (start f) text r state
   pub closure_is : state.closure ≡ g
@@ -16,7 +17,8 @@ pub record FeedsText {F : Type 0} (step : F → List ℕ → Result (Unit {0}) W
 -- the bytes of a text's groups before its first fault, and that fault
 pub data IsGroups (text : List ℕ) : List ℕ → End → Type 0 where
   sound_groups : first_fault text ≡ None → IsGroups text (done text) (Ok tt)
-  faulty_groups : is_some (first_fault text) ≡ true → IsGroups text (done text) (Err (Base64 (kind_of text)))
+  faulty_groups : is_some (first_fault text) ≡ true
+      → IsGroups text (done text) (Err (Base64 (kind_of text)))
 
 -- the bytes of a text that goes no further
 pub data IsLast (text : List ℕ) : List ℕ → End → Type 0 where

@@ -13,19 +13,25 @@ use Rattle.dataurl.specs.declared.gather.Gathered.{Gathered}
 abbrev pub waiting : Gathered → List ℕ
 waiting g = take g.len g.bytes
 
--- a piece was taken: what was written and what waits now are what waited before and the piece; or a write failed, and what was written is a beginning of these and not all
-pub record Gathers (piece before after : List ℕ) (old new : Option (List ℕ)) (r : Result (Unit {0}) WriteFailed) : Type 0 where
+-- a piece was taken: what was written and what waits now are what waited before and the piece; or a
+-- write failed, and what was written is a beginning of these and not all
+pub record Gathers (piece before after : List ℕ) (old new : Option (List ℕ))
+    (r : Result (Unit {0}) WriteFailed) : Type 0 where
   pub written : List ℕ
   pub appended : Appends old new written
-  pub took : MatchResult r (λ x. before ++ piece ≡ written ++ after) (λ failed. IsBeginning written (before ++ piece))
+  pub took : MatchResult r (λ x. before ++ piece ≡ written ++ after)
+      (λ failed. IsBeginning written (before ++ piece))
 
 -- of an output all was written, or a beginning that is not all and that the writer took
 pub data IsStreamed (IsOutput : List ℕ → End → Type 0) : List ℕ → End → Type 0 where
-  all_streamed : {written : List ℕ} {end : End} → IsOutput written end → IsStreamed IsOutput written end
-  cut_short : {written whole : List ℕ} {end : End} → IsOutput whole end → IsBeginning written whole → IsStreamed IsOutput written (Err Write)
+  all_streamed : {written : List ℕ} {end : End} → IsOutput written end
+      → IsStreamed IsOutput written end
+  cut_short : {written whole : List ℕ} {end : End} → IsOutput whole end → IsBeginning written whole
+      → IsStreamed IsOutput written (Err Write)
 
 -- a writer took of an output
-pub record Streams (IsOutput : List ℕ → End → Type 0) (old new : Option (List ℕ)) (r : End) : Type 0 where
+pub record Streams (IsOutput : List ℕ → End → Type 0) (old new : Option (List ℕ)) (r : End)
+    : Type 0 where
   pub written : List ℕ
   pub appended : Appends old new written
   pub is_streamed : IsStreamed IsOutput written r
@@ -33,20 +39,24 @@ pub record Streams (IsOutput : List ℕ → End → Type 0) (old new : Option (L
 -- what waited was written, and then comes the end; or a write failed before that
 pub data IsFlushed (bytes : List ℕ) (end : End) : List ℕ → End → Type 0 where
   flushed : IsFlushed bytes end bytes end
-  not_flushed : {written : List ℕ} → IsBeginning written bytes → IsFlushed bytes end written (Err Write)
+  not_flushed : {written : List ℕ} → IsBeginning written bytes
+      → IsFlushed bytes end written (Err Write)
 
 pub record Flushes (bytes : List ℕ) (end : End) (old new : Option (List ℕ)) (r : End) : Type 0 where
   pub written : List ℕ
   pub appended : Appends old new written
   pub is_flushed : IsFlushed bytes end written r
 
--- behind an answer of decoding: after a failed write nothing more is written, and else what waited is
+-- behind an answer of decoding: after a failed write nothing more is written, and else what waited
+-- is
 abbrev pub IsSettled : Result (Unit {0}) (DecodeError WriteFailed) → List ℕ → List ℕ → End → Type 0
 IsSettled (Ok x) bytes written end = IsFlushed bytes (Ok tt) written end
-IsSettled (Err (InvalidBase64 kind)) bytes written end = IsFlushed bytes (Err (Base64 kind)) written end
+IsSettled (Err (InvalidBase64 kind)) bytes written end =
+    IsFlushed bytes (Err (Base64 kind)) written end
 IsSettled (Err (WriteError failed)) bytes written end = (written ≡ []) × (end ≡ Err Write)
 
-pub record Settles (answer : Result (Unit {0}) (DecodeError WriteFailed)) (bytes : List ℕ) (old new : Option (List ℕ)) (r : End) : Type 0 where
+pub record Settles (answer : Result (Unit {0}) (DecodeError WriteFailed)) (bytes : List ℕ)
+    (old new : Option (List ℕ)) (r : End) : Type 0 where
   pub written : List ℕ
   pub appended : Appends old new written
   pub is_settled : IsSettled answer bytes written r
