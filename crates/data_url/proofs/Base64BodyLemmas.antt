@@ -7,12 +7,13 @@ use Rattle.data_url.specs.Base64.{decoded, done, is_valid, kind_of}
 use Rattle.data_url.specs.Url.{before, dropped, front, is_tab_or_newline}
 use Rattle.data_url.specs.Percent.{is_escape, percent_decoded}
 use Rattle.data_url.specs.Run.{joined, refusal}
-use Rattle.data_url.specs.Fetch.{Bad, Good, outcome, plain_body}
+use Rattle.data_url.specs.Fetch.{Bad, Good, outcome, outcome_bytes, plain_body}
 use Rattle.data_url.specs.Pieces.{Walk, begins}
 use Rattle.data_url.specs.Steps.Tail.{IsBodyEnd}
-use Rattle.data_url.specs.Decodes.{Answers, Decodes, HandsOut, IsRefusedBy}
-use Rattle.data_url.specs.Decoding.{Feeds, Finishes, IsAll, IsRefused, State, start}
-use Rattle.data_url.specs.Decoding as whole
+use Rattle.data_url.specs.DataUrl.{Answers, Decodes, HandsOut}
+use Rattle.data_url.specs.Decoder.{Feeds, Finishes, IsAll, State, start}
+use Rattle.data_url.specs.Errors.{IsRefused}
+use Rattle.data_url.specs.Steps.Whole.{DecodesText}
 use Rattle.data_url.specs.declared.forgiving_base64.DecodeError.{DecodeError}
 use Rattle.data_url.specs.declared.forgiving_base64.DecodeError.TheVariants.{InvalidBase64, WriteError}
 use Rattle.data_url.proofs.DecodeLemmas.{Takes}
@@ -67,23 +68,23 @@ at_err place (Err y) x e = let same : y ≡ x = cc in ap (λ z. Err z) same
 module _ {F E : Type 0} (step : F → List ℕ → Result (Unit {0}) E → F → Type 0) where
   gives_valid : (u bytes : List ℕ) (place : ℕ) (good : ℕ → Type 0) (r : Result (Unit {0}) (DecodeError E)) (o : Option E) → (r ≡ Ok tt → good place)
       → MatchOption o (IsAll u bytes r) (λ e. IsRefused (decoded u) bytes e r)
-      → MatchOption o (HandsOut (Good (decoded u)) good bytes (at_place place r)) (λ e. IsRefusedBy (Good (decoded u)) bytes e (at_place place r))
+      → MatchOption o (HandsOut (Good (decoded u)) good bytes (at_place place r)) (λ e. IsRefused (outcome_bytes (Good (decoded u))) bytes e (at_place place r))
   gives_valid u bytes place good r None g h = record { bytes_are = h.bytes_are; answer = at_ok place r (decoded u) good h.answer (g h.answer) }
   gives_valid u bytes place good r (Some e) g h = record { bytes_begin = h.bytes_begin; answer = at_err place r (WriteError e) h.answer }
 
   gives_invalid : (u bytes : List ℕ) (place : ℕ) (good : ℕ → Type 0) (r : Result (Unit {0}) (DecodeError E)) (o : Option E)
       → MatchOption o ((bytes ≡ done u) × (r ≡ Err (InvalidBase64 (kind_of u)))) (λ e. IsRefused (done u) bytes e r)
-      → MatchOption o (HandsOut (Bad (done u) (kind_of u)) good bytes (at_place place r)) (λ e. IsRefusedBy (Bad (done u) (kind_of u)) bytes e (at_place place r))
+      → MatchOption o (HandsOut (Bad (done u) (kind_of u)) good bytes (at_place place r)) (λ e. IsRefused (outcome_bytes (Bad (done u) (kind_of u))) bytes e (at_place place r))
   gives_invalid u bytes place good r None h = record { bytes_are = h.0; answer = at_err place r (InvalidBase64 (kind_of u)) h.1 }
   gives_invalid u bytes place good r (Some e) h = record { bytes_begin = h.bytes_begin; answer = at_err place r (WriteError e) h.answer }
 
   gives : (u bytes : List ℕ) (place : ℕ) (good : ℕ → Type 0) (r : Result (Unit {0}) (DecodeError E)) (o : Option E) (v : Bool) → (r ≡ Ok tt → good place)
       → MatchOption o (MatchBool v (IsAll u bytes r) ((bytes ≡ done u) × (r ≡ Err (InvalidBase64 (kind_of u))))) (λ e. IsRefused (cond v (decoded u) (done u)) bytes e r)
-      → MatchOption o (HandsOut (cond v (Good (decoded u)) (Bad (done u) (kind_of u))) good bytes (at_place place r)) (λ e. IsRefusedBy (cond v (Good (decoded u)) (Bad (done u) (kind_of u))) bytes e (at_place place r))
+      → MatchOption o (HandsOut (cond v (Good (decoded u)) (Bad (done u) (kind_of u))) good bytes (at_place place r)) (λ e. IsRefused (outcome_bytes (cond v (Good (decoded u)) (Bad (done u) (kind_of u)))) bytes e (at_place place r))
   gives u bytes place good r o true g h = gives_valid u bytes place good r o g h
   gives u bytes place good r o false g h = gives_invalid u bytes place good r o h
 
-  pub decodes_outcome : {f g : F} (u : List ℕ) (most place : ℕ) (good : ℕ → Type 0) (r : Result (Unit {0}) (DecodeError E)) → whole.Decodes step f u r g → length u + 1 ≤ most → (r ≡ Ok tt → good place) → Decodes step f most (outcome true u) good (at_place place r) g
+  pub decodes_outcome : {f g : F} (u : List ℕ) (most place : ℕ) (good : ℕ → Type 0) (r : Result (Unit {0}) (DecodeError E)) → DecodesText step f u r g → length u + 1 ≤ most → (r ≡ Ok tt → good place) → Decodes step f most (outcome true u) good (at_place place r) g
   unfolding outcome
   decodes_outcome u most place good r d l k = record {
     run = d.run;

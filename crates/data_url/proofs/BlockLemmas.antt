@@ -14,7 +14,7 @@ use Rattle.data_url.specs.Base64.{after_groups, groups, is_symbol}
 use Rattle.data_url.specs.Steps.Blocks.{without}
 use Rattle.data_url.specs.Steps.Lanes.{mark_of, value_of}
 use Rattle.data_url.proofs.LaneLemmas.{chosen, mark_is, row}
-use Rattle.data_url.proofs.SignLemmas.{groups-append, length-after_groups}
+use Rattle.data_url.proofs.PaddingLemmas.{groups-append, length-after_groups}
 
 -- What is no symbol
 

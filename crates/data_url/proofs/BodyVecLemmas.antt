@@ -1,8 +1,9 @@
 -- A body that was decoded by a closure that keeps the bytes that it accepts.
 use Rattle.std.proofs.Common.{◌≡◌, ℕ, List, ◌++◌, Option, None, Some, Result, Ok, Err, refl, ap, sym}
 use Rattle.std.specs.Prelude.{MatchOption}
-use Rattle.data_url.specs.Decodes.{Decodes, HandsOut, IsRefusedBy}
-use Rattle.data_url.specs.Fetch.{Bad, Good, Outcome}
+use Rattle.data_url.specs.Errors.{IsRefused}
+use Rattle.data_url.specs.DataUrl.{Decodes, HandsOut}
+use Rattle.data_url.specs.Fetch.{Bad, Good, Outcome, outcome_bytes}
 use Rattle.data_url.specs.Run.{joined, refusal}
 use Rattle.data_url.specs.declared.forgiving_base64.DecodeError.{DecodeError}
 use Rattle.data_url.specs.declared.forgiving_base64.DecodeError.TheVariants.{InvalidBase64}
@@ -19,7 +20,7 @@ good_answer (Good all) good bytes (Err e) x q h = absurd h.answer
 good_answer (Bad all kind) good bytes r x q h = absurd (let k = h.answer in cc)
 
 -- an answer Ok comes of a run that was not refused
-ok_given : {E A : Type 0} (o : Option E) (body : Outcome) (good : A → Type 0) (bytes : List ℕ) (r : Result A (DecodeError E)) (x : A) → r ≡ Ok x → MatchOption o (HandsOut body good bytes r) (λ e. IsRefusedBy body bytes e r) → (o ≡ None) × WasGood body good bytes x
+ok_given : {E A : Type 0} (o : Option E) (body : Outcome) (good : A → Type 0) (bytes : List ℕ) (r : Result A (DecodeError E)) (x : A) → r ≡ Ok x → MatchOption o (HandsOut body good bytes r) (λ e. IsRefused (outcome_bytes body) bytes e r) → (o ≡ None) × WasGood body good bytes x
 ok_given None body good bytes r x q h = (refl, good_answer body good bytes r x q h)
 ok_given (Some e) body good bytes r x q h = absurd (let k = h.answer in cc)
 
@@ -28,7 +29,7 @@ bad_answer (Good all) good bytes (Ok y) kind q h = absurd (let k = q in cc)
 bad_answer (Good all) good bytes (Err e) kind q h = absurd h.answer
 bad_answer (Bad all kind') good bytes r kind q h = let k = h.answer in let e : kind' ≡ kind = cc in (all, ap (λ x. Bad all x) e)
 
-bad_given : {E A : Type 0} (o : Option E) (body : Outcome) (good : A → Type 0) (bytes : List ℕ) (r : Result A (DecodeError E)) (kind : _) → r ≡ Err (InvalidBase64 kind) → MatchOption o (HandsOut body good bytes r) (λ e. IsRefusedBy body bytes e r) → (all : List ℕ) × (body ≡ Bad all kind)
+bad_given : {E A : Type 0} (o : Option E) (body : Outcome) (good : A → Type 0) (bytes : List ℕ) (r : Result A (DecodeError E)) (kind : _) → r ≡ Err (InvalidBase64 kind) → MatchOption o (HandsOut body good bytes r) (λ e. IsRefused (outcome_bytes body) bytes e r) → (all : List ℕ) × (body ≡ Bad all kind)
 bad_given None body good bytes r kind q h = bad_answer body good bytes r kind q h
 bad_given (Some e) body good bytes r kind q h = absurd (let k = h.answer in cc)
 

@@ -6,14 +6,15 @@ use Rattle.std.proofs.lemmas.List.{append-nil, length-map, length-replicate}
 use Rattle.std.proofs.lemmas.List.Elements.{filter-append}
 use Rattle.std.proofs.lemmas.Bool.{false≢true, true≢false}
 use Rattle.data_url.specs.Base64.{AlphabetSymbolAfterPadding, Kind, LoneAlphabetSymbol, Padding, UnexpectedSymbol, after_groups, decoded, done, first_fault, group_bytes, group_number, groups, is_ascii_whitespace, is_symbol, is_valid, kind_of, left_padding, left_symbols, left_text, rest_bytes, symbol_value, values}
-use Rattle.data_url.specs.Decoding.{Feeds, Finishes, IsAll, IsRefused, State, left_over}
+use Rattle.data_url.specs.Decoder.{Feeds, Finishes, IsAll, State, left_over}
+use Rattle.data_url.specs.Errors.{IsRefused}
 use Rattle.data_url.specs.Mime.{Every}
 use Rattle.data_url.specs.Run.{IsRun, or_error}
 use Rattle.data_url.specs.Steps.Holding.{Adds, Refuses}
 use Rattle.data_url.specs.declared.forgiving_base64.DecodeError.{DecodeError}
 use Rattle.data_url.specs.declared.forgiving_base64.DecodeError.TheVariants.{InvalidBase64, WriteError}
 use Rattle.data_url.proofs.RunLemmas.{match_none, prefix_all}
-use Rattle.data_url.proofs.SignLemmas.{any_of_text, before-append, before_fault, before_none, classes, done_is, fault-append, fault_byte, fault_signs, fault_some, fault_text, is_sign, kind_by, kind_fault, kind_is, no_fault_valid, none_fault, signs_of_text, symbols_of_text}
+use Rattle.data_url.proofs.PaddingLemmas.{any_of_text, before-append, before_fault, before_none, classes, done_is, fault-append, fault_byte, fault_signs, fault_some, fault_text, is_sign, kind_by, kind_fault, kind_is, no_fault_valid, none_fault, signs_of_text, symbols_of_text}
 use Rattle.data_url.proofs.ValidLemmas.{fits_with}
 use Rattle.data_url.proofs.WalkLemmas.{bad, is_bad, some_not_none, space_alone, symbol_alone}
 

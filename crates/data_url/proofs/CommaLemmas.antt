@@ -7,7 +7,7 @@ use Rattle.std.proofs.lemmas.List.{drop_more, get_or-take, length-take, take-app
 use Rattle.std.proofs.lemmas.List.Quantifiers.{position-Some}
 use Rattle.std.proofs.lemmas.List.Sums.{fails_before_first}
 use Rattle.data_url.specs.Url.{before, behind, front}
-use Rattle.data_url.specs.Front.{IsHeaderAndTail, ends_header}
+use Rattle.data_url.specs.Steps.Front.{IsHeaderAndTail, ends_header}
 use Rattle.data_url.proofs.UrlLemmas.{before_all, before_at, behind_none}
 
 -- a text without the byte at the places below n lacks it before n

@@ -10,7 +10,7 @@ use Rattle.std.specs.Str.{IsCharBoundary, IsUtf8, NoCharPasses, NonePass, all_sc
 use Rattle.std.specs.Str.Pattern.{CutsPrefixes, CutsSuffixes, FindsBy, FindsChar, MatchBeginsAt, FindsPrefixBy, FindsSuffixBy, HasCharAt, HasPassingCharAt, IsTrimEndMatches, IsTrimStartMatches}
 use Rattle.data_url.specs.CodePoints.{ends_name, is_http_whitespace, is_semicolon}
 use Rattle.data_url.specs.Mime.{DoesNotBegin, DoesNotEnd, Every, IsTrimmedEnd, Without}
-use Rattle.data_url.specs.Parsing.{IsTrimmedFront}
+use Rattle.data_url.specs.Steps.Parsing.{IsTrimmedFront}
 use Rattle.data_url.proofs.RecordLemmas.{every_append}
 
 eqb_turned : (a b : ℕ) → (a == b) ≡ (b == a)

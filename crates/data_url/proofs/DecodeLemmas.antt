@@ -2,12 +2,13 @@
 use Rattle.std.proofs.Common.{◌≡◌, ℕ, ◌+◌, ◌<◌, ◌≤◌, List, [], ◌∷◌, ◌++◌, Bor, true, length, take, Option, None, Some, Result, Ok, Err, refl, sym, ap, ◌∙◌, subst, append_assoc, arith, length-append}
 use Rattle.std.specs.Prelude.{MatchOption}
 use Rattle.std.proofs.lemmas.List.{append-nil, length-take-le}
+use Rattle.data_url.specs.Errors.{IsRefused}
 use Rattle.data_url.specs.Run.{Call, IsRun, joined, refusal}
-use Rattle.data_url.specs.Fetch.{Good, plain_body}
+use Rattle.data_url.specs.Fetch.{Good, outcome_bytes, plain_body}
 use Rattle.data_url.specs.Pieces.{Walk, begins}
 use Rattle.data_url.specs.Steps.Chunks.{IsChunk}
 use Rattle.data_url.specs.Steps.Tail.{IsBodyEnd}
-use Rattle.data_url.specs.Decodes.{Decodes, HandsOut, IsRefusedBy}
+use Rattle.data_url.specs.DataUrl.{Decodes, HandsOut}
 use Rattle.data_url.specs.declared.escapes.Chunk.{Chunk}
 use Rattle.data_url.specs.declared.escapes.Chunk.TheVariants.{End, Gathered, Slice}
 use Rattle.data_url.specs.declared.forgiving_base64.DecodeError.TheVariants.{WriteError}
@@ -113,5 +114,5 @@ module _ {F E : Type 0} (step : F → List ℕ → Result (Unit {0}) E → F →
         run = k.run ++ call;
         ran = run-append step k.run call f g h k.ran k.accepted (s, λ e. refl, refl);
         calls = omega arith;
-        gave = match_is_some (refusal (k.run ++ call)) e (HandsOut (Good (plain_body text)) (IsBodyEnd text) (joined (k.run ++ call)) (Err (WriteError e))) (λ e'. IsRefusedBy {A = ℕ} (Good (plain_body text)) (joined (k.run ++ call)) e' (Err (WriteError e))) last (record { bytes_begin = (w'.rest, k.body ∙ ap (λ x. joined k.run ++ x) t.rest_is ∙ sym (append_assoc (joined k.run) bytes w'.rest) ∙ ap (λ x. x ++ w'.rest) (sym all)); answer = refl });
+        gave = match_is_some (refusal (k.run ++ call)) e (HandsOut (Good (plain_body text)) (IsBodyEnd text) (joined (k.run ++ call)) (Err (WriteError e))) (λ e'. IsRefused {A = ℕ} (outcome_bytes (Good (plain_body text))) (joined (k.run ++ call)) e' (Err (WriteError e))) last (record { bytes_begin = (w'.rest, k.body ∙ ap (λ x. joined k.run ++ x) t.rest_is ∙ sym (append_assoc (joined k.run) bytes w'.rest) ∙ ap (λ x. x ++ w'.rest) (sym all)); answer = refl });
       }

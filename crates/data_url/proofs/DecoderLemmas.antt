@@ -3,14 +3,15 @@ use Rattle.std.proofs.Common.{◌≡◌, ℕ, ◌+◌, ◌<◌, drop, get_or, ta
 use Rattle.std.specs.Prelude.{MatchOption}
 use Rattle.std.proofs.lemmas.List.{take-append-drop, take_more}
 use Rattle.data_url.specs.Base64.{done, first_fault, kind_of, left_padding, left_symbols, left_text}
-use Rattle.data_url.specs.Decoding.{Feeds, IsLeft, IsRefused, IsTaken, State, left_over}
+use Rattle.data_url.specs.Decoder.{Feeds, IsLeft, IsTaken, State, left_over}
+use Rattle.data_url.specs.Errors.{IsRefused}
 use Rattle.data_url.specs.Laws.{GoesOn}
 use Rattle.data_url.specs.Run.{IsPrefix, joined, refusal}
 use Rattle.data_url.specs.declared.forgiving_base64.DecodeError.{DecodeError}
 use Rattle.data_url.specs.declared.forgiving_base64.DecodeError.TheVariants.{InvalidBase64}
 use Rattle.data_url.proofs.FeedLemmas.{two_feeds}
 use Rattle.data_url.proofs.RunLemmas.{joined-append, match_alike, match_at, match_map, match_at_none, prefix_all, prefix_behind, prefix_trans, refusal-append, run-append}
-use Rattle.data_url.proofs.SignLemmas.{done_stays, fault-append_some, fault_byte, fault_some, kind_stays, none_fault}
+use Rattle.data_url.proofs.PaddingLemmas.{done_stays, fault-append_some, fault_byte, fault_some, kind_stays, none_fault}
 
 -- Accepted on a, and then on b
 
@@ -29,7 +30,7 @@ taken_ok {E = E} u bytes d h =
     let k = ok_no_fault {E = E} (first_fault u) (Ok tt) (Err (InvalidBase64 (kind_of u))) (InvalidBase64 (kind_of u)) refl refl h.answer in
     record { no_fault = k.0; bytes_are = h.bytes_are; left = k.1.1 }
 
-refused_ok : {E : Type 0} (o : Option E) (P : Type 0) (all bytes : List ℕ) → MatchOption o P (λ e. IsRefused all bytes e (Ok tt)) → (o ≡ None) × P
+refused_ok : {E : Type 0} (o : Option E) (P : Type 0) (all bytes : List ℕ) → MatchOption o P (λ e. IsRefused {A = Unit {0}} all bytes e (Ok tt)) → (o ≡ None) × P
 refused_ok None P all bytes h = (refl, h)
 refused_ok (Some e) P all bytes h = absurd (let k = h.answer in cc)
 

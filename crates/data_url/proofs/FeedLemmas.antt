@@ -6,7 +6,7 @@ use Rattle.std.proofs.lemmas.List.Elements.{filter-append}
 use Rattle.data_url.specs.Base64.{after_groups, decoded, done, first_fault, groups, is_symbol, is_valid, left_padding, left_symbols, left_text, rest_bytes, symbol_value, values}
 use Rattle.data_url.specs.Laws.{GoesOn, TwoFeeds}
 use Rattle.data_url.specs.Mime.{Every}
-use Rattle.data_url.proofs.SignLemmas.{after_groups-append, after_groups-map, any_of_text, before-append, before_fault, before_none, done_is, every_after, fault-append, fault_byte, fault_invalid, fault_none, fault_some, fault_text, groups-append, is_sign, kind_by, kind_is, length_alike, no_fault_valid, signs_of_text, symbols_of_text}
+use Rattle.data_url.proofs.PaddingLemmas.{after_groups-append, after_groups-map, any_of_text, before-append, before_fault, before_none, done_is, every_after, fault-append, fault_byte, fault_invalid, fault_none, fault_some, fault_text, groups-append, is_sign, kind_by, kind_is, length_alike, no_fault_valid, signs_of_text, symbols_of_text}
 use Rattle.data_url.proofs.ValidLemmas.{fits_with}
 use Rattle.data_url.proofs.WalkLemmas.{any_filter, filter_every, is_nonempty}
 

@@ -14,7 +14,7 @@ use Rattle.data_url.specs.Steps.Lanes.{value_of}
 use Rattle.data_url.proofs.BlockLemmas.{groups_whole}
 use Rattle.data_url.proofs.FeedLemmas.{values-append}
 use Rattle.data_url.proofs.LaneLemmas.{value_is}
-use Rattle.data_url.proofs.SignLemmas.{classes, every_list_all}
+use Rattle.data_url.proofs.PaddingLemmas.{classes, every_list_all}
 use Rattle.data_url.proofs.WalkLemmas.{filter_all, space_alone}
 
 -- How many bytes groups have

@@ -7,7 +7,7 @@ use Rattle.std.specs.Str.{IsUtf8, chars}
 use Rattle.std.specs.Str.Pattern.{FindsCharPrefix, HasCharAt, HasPrefixMatch}
 use Rattle.data_url.specs.CodePoints.{is_http_whitespace, is_token}
 use Rattle.data_url.specs.Mime.{BeginsParameters, DoesNotBegin, Every, IsHead, IsTrimmed, IsTrimmedEnd, is_token_text}
-use Rattle.data_url.specs.Parsing.{HasNoHead, IsTrimmedFront}
+use Rattle.data_url.specs.Steps.Parsing.{HasNoHead, IsTrimmedFront}
 use Rattle.data_url.proofs.TextLemmas.{behind_front, behind_is, front_is, front_of}
 use Rattle.data_url.proofs.ItemLemmas.{ends_of_rest, tail_equal}
 use Rattle.data_url.proofs.RecordLemmas.{all_from_every, every_token, gap_no_token, slash_no_token, trimmed_is}

@@ -5,10 +5,10 @@ use Rattle.std.specs.List.{filter, list_all}
 use Rattle.std.proofs.lemmas.Bool.{and_parts, or_cases, true≢false}
 use Rattle.std.proofs.lemmas.List.{append-nil, get_or-drop, length-map, take_all, take_more, take_rest}
 use Rattle.data_url.specs.Base64.{Kind, after_groups, done, first_fault, groups, is_ascii_whitespace, is_symbol, kind_of, left_padding, left_symbols, left_text, symbol_value, values}
-use Rattle.data_url.specs.Decoding.{Feeds, IsTaken, State, left_over}
+use Rattle.data_url.specs.Decoder.{Feeds, IsTaken, State, left_over}
 use Rattle.data_url.specs.Mime.{Every}
 use Rattle.data_url.specs.Run.{Call, IsRun, joined, or_error, refusal}
-use Rattle.data_url.specs.Steps.{Writes}
+use Rattle.data_url.specs.Steps.Calls.{CallsOnce}
 use Rattle.data_url.specs.Steps.Blocks.{AreGroups, Fills, is_symbol_or_space}
 use Rattle.data_url.specs.Steps.Holding.{Adds, Flushes, Gains, Holds, Refuses}
 use Rattle.data_url.specs.declared.forgiving_base64.DecodeError.{DecodeError}
@@ -17,7 +17,7 @@ use Rattle.data_url.proofs.ByteLemmas.{adds_text, fault_space, fault_symbol, has
 use Rattle.data_url.proofs.DecoderLemmas.{feeds_stop, feeds_then, left_goes_on}
 use Rattle.data_url.proofs.FillLemmas.{groups_length}
 use Rattle.data_url.proofs.RunLemmas.{joined-append, match_at, match_none, match_some, refusal-append, run-append}
-use Rattle.data_url.proofs.SignLemmas.{classes, fault-append, fault_byte, is_sign, length-after_groups}
+use Rattle.data_url.proofs.PaddingLemmas.{classes, fault-append, fault_byte, is_sign, length-after_groups}
 use Rattle.data_url.proofs.WalkLemmas.{space_alone, symbol_alone}
 
 -- A text of symbols and white space has no fault and no sign
@@ -121,14 +121,14 @@ module _ {F E : Type 0} (step : F → List ℕ → Result (Unit {0}) E → F →
       }
 
   -- what one call makes of the run
-  called_run : {d d1 d2 : State F} {t held : List ℕ} {r : Result (Unit {0}) (DecodeError E)} (h : Holds step d t held d1) (w : Writes step d1 held r d2) → IsRun step d.closure (h.run ++ record { piece = held; answer = w.told; after = d2.closure } ∷ []) d2.closure
+  called_run : {d d1 d2 : State F} {t held : List ℕ} {r : Result (Unit {0}) (DecodeError E)} (h : Holds step d t held d1) (w : CallsOnce step d1 held r d2) → IsRun step d.closure (h.run ++ record { piece = held; answer = w.told; after = d2.closure } ∷ []) d2.closure
   called_run {d} {d1} {d2} {held = held} h w = run-append step h.run (record { piece = held; answer = w.told; after = d2.closure } ∷ []) d.closure d1.closure d2.closure h.ran h.accepted (one_call step d1.closure d2.closure held w.told w.called)
 
   called_bytes : {d d1 : State F} {t held : List ℕ} (h : Holds step d t held d1) (told : Result (Unit {0}) E) (g : F) → joined (h.run ++ record { piece = held; answer = told; after = g } ∷ []) ≡ done (left_over d ++ t)
   called_bytes {held = held} h told g = joined-append h.run (record { piece = held; answer = told; after = g } ∷ []) ∙ ap (λ x. joined h.run ++ x) (append-nil held) ∙ h.bytes_are
 
   -- the end, or a fault: all that is held is handed out, in one call
-  pub written_feeds : {d d1 d2 : State F} {t held : List ℕ} {r : Result (Unit {0}) (DecodeError E)} (h : Holds step d t held d1) → length h.run + 1 ≤ length t → Writes step d1 held r d2 → Feeds step d t r d2
+  pub written_feeds : {d d1 d2 : State F} {t held : List ℕ} {r : Result (Unit {0}) (DecodeError E)} (h : Holds step d t held d1) → length h.run + 1 ≤ length t → CallsOnce step d1 held r d2 → Feeds step d t r d2
   written_feeds {d} {d1} {d2} {t} {held} {r} h few w =
       let u = left_over d ++ t in
       let call : Call F E = record { piece = held; answer = w.told; after = d2.closure } in
@@ -161,7 +161,7 @@ module _ {F E : Type 0} (step : F → List ℕ → Result (Unit {0}) E → F →
   flushed_feeds [] h f = quiet_feeds h f.0 f.1
   flushed_feeds (b ∷ bs) h f = written_feeds h (omega (arith, h.calls)) f
 
-  written_holds : {d d1 d2 : State F} {t held : List ℕ} → length held ≡ 48 → Holds step d t held d1 → Writes step d1 held (Ok tt) d2 → Holds step d t [] d2
+  written_holds : {d d1 d2 : State F} {t held : List ℕ} → length held ≡ 48 → Holds step d t held d1 → CallsOnce step d1 held (Ok tt) d2 → Holds step d t [] d2
   written_holds {d} {d1} {d2} {t} {held} full h w =
       let call : Call F E = record { piece = held; answer = w.told; after = d2.closure } in
       record {
@@ -230,7 +230,7 @@ module _ {F E : Type 0} (step : F → List ℕ → Result (Unit {0}) E → F →
   refused_alone {d} c f same told = refuses_feeds step (left_over d) c refl f.fault f.kind_is f.none_done (same ∙ ap (λ (s : State F). record s { failed = true }) f.stays) told
 
   -- a group that is handed out at once
-  pub group_feeds : {d d1 d2 : State F} {t : List ℕ} {r : Result (Unit {0}) (DecodeError E)} (group : List ℕ) → 1 ≤ length t → Adds d t group d1 → Writes step d1 group r d2 → Feeds step d t r d2
+  pub group_feeds : {d d1 d2 : State F} {t : List ℕ} {r : Result (Unit {0}) (DecodeError E)} (group : List ℕ) → 1 ≤ length t → Adds d t group d1 → CallsOnce step d1 group r d2 → Feeds step d t r d2
   unfolding holds_from
   group_feeds group some a w = let none : length (holds_from step a).run ≡ 0 = refl in written_feeds step (holds_from step a) (omega arith) w
 

@@ -12,9 +12,9 @@ use Rattle.std.specs.List.{list_all}
 use Rattle.std.specs.Str.{IsUtf8, bytes_eq, chars}
 use Rattle.data_url.specs.CodePoints.{is_quotable, is_token}
 use Rattle.data_url.specs.Mime.{BeginsParameters, Item, Items, Pair, first_of_each_name, has_name, is_lowercase_name, is_token_text, kept, valid_of, valid_pairs}
-use Rattle.data_url.specs.Parsing.{HasLowercaseNames, HasParameterBefore, IsItem, added, quotable_value, unless_named}
+use Rattle.data_url.specs.Steps.Parsing.{HasLowercaseNames, HasParameterBefore, IsItem, added, quotable_value, unless_named}
 use Rattle.data_url.specs.declared.mime.parse.Parameter.{Parameter}
-use Rattle.data_url.specs.Seen.{code_points, pair_of}
+use Rattle.data_url.specs.MimeType.{code_points, pair_of}
 use Rattle.data_url.proofs.TokenLemmas.{bytes_of_ascii, token_text_ascii, token_text_chars}
 
 -- Equality of texts as a test

@@ -43,7 +43,7 @@ pub mod RunLemmas
 pub mod SameLemmas
 pub mod SchemeLemmas
 pub mod SerialiseLemmas
-pub mod SignLemmas
+pub mod PaddingLemmas
 mod StagedExamples
 pub mod SuffixLemmas
 pub mod TextBlockLemmas

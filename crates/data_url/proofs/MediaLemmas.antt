@@ -7,10 +7,10 @@ use Rattle.std.proofs.lemmas.List.{get_or_past}
 use Rattle.std.proofs.lemmas.Str.{IsAscii-append, chars-IsAscii}
 use Rattle.std.specs.Char.{to_ascii_lowercase}
 use Rattle.std.specs.List.{suffix_len}
-use Rattle.data_url.specs.Fetch.{before_last, before_semicolon, before_word, is_space, last, before_base64, has_base64_suffix, media_of, mime_text, or_else, stripped, with_plain}
+use Rattle.data_url.specs.Fetch.{before_base64, before_last, before_semicolon, before_word, has_base64_suffix, is_space, last, media_of, mime_text, or_else, stripped, with_plain}
 use Rattle.data_url.specs.Url.{dropped, serialised, without_end}
 use Rattle.data_url.specs.Mime.{HasNoRecord, IsWellformed, Parses, Record, default_record}
-use Rattle.data_url.specs.Header.{IsHeaderOf, IsPrintable, IsRecordFor}
+use Rattle.data_url.specs.Steps.Header.{IsHeaderOf, IsPrintable, IsRecordFor}
 use Rattle.data_url.proofs.OnLiterals.{on_literals}
 use Rattle.data_url.proofs.HeaderLemmas.{bytes_dropped}
 use Rattle.data_url.proofs.PrintableLemmas.{printable_ascii, printable_take, serialised_printable}

@@ -7,7 +7,7 @@ use Rattle.std.specs.Str.{IsUtf8, chars}
 use Rattle.std.specs.Str.Pattern.{HasCharAt}
 use Rattle.data_url.specs.CodePoints.{ends_name, is_http_whitespace, is_semicolon}
 use Rattle.data_url.specs.Mime.{BeginsParameters, DoesNotBegin, IsTrimmedEnd, Quoted, QuotedOpen, Without, is_quote, nothing, plain, quoted, unclosed, unless_empty}
-use Rattle.data_url.specs.Parsing.{HasParameterBefore, HasValueBefore, IsTrimmedFront}
+use Rattle.data_url.specs.Steps.Parsing.{HasParameterBefore, HasValueBefore, IsTrimmedFront}
 use Rattle.data_url.proofs.HeadLemmas.{begins_bytes, not_begins_left}
 use Rattle.data_url.proofs.ItemLemmas.{semicolon_from}
 

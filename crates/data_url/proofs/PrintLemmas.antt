@@ -5,7 +5,7 @@ use Rattle.std.proofs.lemmas.Str.{IsUtf8-string_bytes, chars-nil, chars_past_cha
 use Rattle.std.specs.List.{flat_map}
 use Rattle.std.specs.Str.{IsUtf8, chars}
 use Rattle.data_url.specs.Mime.{escaped, is_token_text, printed, printed_pair, printed_value}
-use Rattle.data_url.specs.Seen.{code_points, pair_of, seen}
+use Rattle.data_url.specs.MimeType.{code_points, pair_of, seen}
 use Rattle.data_url.specs.declared.mime.Mime.{Mime}
 
 -- Escaped text

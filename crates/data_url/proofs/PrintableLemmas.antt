@@ -7,7 +7,7 @@ use Rattle.std.proofs.lemmas.Bool.{cases_Bool, cases_lt, cond_both, eqb-false, l
 use Rattle.std.proofs.lemmas.List.{get_or-drop, get_or-reverse, get_or-take, get_or_past, length-drop, length-reverse, length-take}
 use Rattle.data_url.specs.Url.{encoded_byte, hex_digit, in_path_set, in_query_set, is_c0_control_or_space, percent_encoded, serialised, trimmed, without_end}
 use Rattle.data_url.specs.Fetch.{is_space, stripped}
-use Rattle.data_url.specs.Header.{IsPrintable}
+use Rattle.data_url.specs.Steps.Header.{IsPrintable}
 use Rattle.data_url.proofs.RecodedLemmas.{IsBytes, encoded_cons, encoded_nil, serialised_nil, serialised_path, serialised_query}
 
 -- Serialised texts

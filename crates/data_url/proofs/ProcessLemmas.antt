@@ -5,12 +5,11 @@ use Rattle.std.proofs.lemmas.List.{drop_all, drop_more}
 use Rattle.data_url.specs.Url.{after_scheme, behind, dropped, fragment, front, in_fragment_set, is_c0_control_or_space, percent_encoded, serialised, trimmed}
 use Rattle.data_url.specs.Percent.{percent_decoded}
 use Rattle.data_url.specs.Fetch.{Accepted, Good, NoComma, NoScheme, Outcome, encoded_body, has_base64_suffix, mime_text, outcome, plain_body, staged, staged_after, staged_parts}
-use Rattle.data_url.specs.Front.{HasNoScheme, IsHeaderAndTail, IsSchemeAndRest}
+use Rattle.data_url.specs.Steps.Front.{HasNoScheme, IsHeaderAndTail, IsSchemeAndRest}
 use Rattle.data_url.specs.Steps.Tail.{BeginsFragment, IsBodyEnd, fragment_at}
-use Rattle.data_url.specs.Decodes.{Decodes}
-use Rattle.data_url.specs.Header.{IsHeaderOf}
-use Rattle.data_url.specs.Seen.{seen}
-use Rattle.data_url.specs.UrlSeen.{IsAcceptable, IsUrlOf, is_base64, mime_of, url_tail}
+use Rattle.data_url.specs.DataUrl.{Decodes, IsAcceptable, IsUrlOf, is_base64, mime_of, url_tail}
+use Rattle.data_url.specs.Steps.Header.{IsHeaderOf}
+use Rattle.data_url.specs.MimeType.{seen}
 use Rattle.data_url.specs.declared.DataUrl.{DataUrl}
 use Rattle.data_url.specs.declared.forgiving_base64.DecodeError.{DecodeError}
 use Rattle.data_url.proofs.HeaderLemmas.{IsAccepted, after_is, after_none, bytes_append, is_accepted, is_staged, no_header}

@@ -7,7 +7,7 @@ use Rattle.std.specs.Option.{option_map}
 use Rattle.std.specs.Str.{IsUtf8, all_scalars, chars}
 use lib.Utf8.{encode, next, scalar}
 use Rattle.data_url.specs.Mime.{Quoted}
-use Rattle.data_url.specs.Parsing.{IsClosed, IsOpen}
+use Rattle.data_url.specs.Steps.Parsing.{IsClosed, IsOpen}
 use Rattle.data_url.proofs.QuotedLemmas.{IsRead, is_read, quoted_rest, quoted_value}
 
 -- no byte is ASCII

@@ -7,7 +7,7 @@ use Rattle.std.specs.Cmp.{first_so, second_so}
 use Rattle.std.specs.Cmp.Lexicographic.{pointwise, same_text}
 use Rattle.std.proofs.lemmas.Cmp.{nat_list_eq_equiv}
 use Rattle.data_url.specs.Mime.{Pair, Record}
-use Rattle.data_url.specs.Seen.{SameTexts, pair_of, same_pair, same_texts, seen, texts_of_pair}
+use Rattle.data_url.specs.MimeType.{SameTexts, pair_of, same_pair, same_texts, seen, texts_of_pair}
 use Rattle.data_url.specs.declared.mime.Mime.{Mime}
 use Rattle.data_url.proofs.PrintLemmas.{text_bytes}
 

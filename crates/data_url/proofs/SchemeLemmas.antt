@@ -7,7 +7,7 @@ use Rattle.std.proofs.lemmas.Str.Ascii.{lowercase_is}
 use Rattle.std.proofs.lemmas.List.{get_or_at, get_or-take, length-map, length-take, map-append, take-map, take_more}
 use Rattle.std.proofs.lemmas.Slice.Eq.{bytes_eq-Decides}
 use Rattle.data_url.specs.Url.{dropped, is_tab_or_newline}
-use Rattle.data_url.specs.Front.{HasNoScheme}
+use Rattle.data_url.specs.Steps.Front.{HasNoScheme}
 use Rattle.data_url.proofs.UrlLemmas.{append-nil, dropped-append, dropped_keeps, dropped_nil, dropped_passes}
 
 abbrev scheme : List ℕ

@@ -3,9 +3,9 @@ use Rattle.std.proofs.Common.{◌≡◌, ℕ, ◌+◌, ◌<◌, ◌≤◌, true,
 use Rattle.std.specs.Prelude.{◌==◌}
 use Rattle.std.proofs.lemmas.Bool.{cases_Bool, cond-false}
 use Rattle.std.proofs.lemmas.List.{append-nil, drop_all, drop_more, take_all, take_more}
-use Rattle.data_url.specs.Url.{dropped, encoded_byte, in_path_set, in_query_set, in_fragment_set, is_tab_or_newline, percent_encoded, serialised}
-use Rattle.data_url.specs.Sets.{in_set}
-use Rattle.data_url.specs.Header.{HasChanges, next_set}
+use Rattle.data_url.specs.Url.{dropped, encoded_byte, in_fragment_set, in_path_set, in_query_set, is_tab_or_newline, percent_encoded, serialised}
+use Rattle.data_url.specs.Steps.Sets.{in_set}
+use Rattle.data_url.specs.Steps.Header.{HasChanges, next_set}
 use Rattle.data_url.specs.declared.percent.EncodeSet.{EncodeSet}
 use Rattle.data_url.specs.declared.percent.EncodeSet.TheVariants.{Fragment, Path, Query}
 use Rattle.data_url.proofs.UrlLemmas.{dropped_keeps, dropped_nil, dropped_passes}

@@ -89,9 +89,9 @@ base64_fault : staged (codes "data:;base64,QUJD!") ≡ Accepted [] (Bad (codes "
 unfolding on_literals
 base64_fault = refl
 
-encoded_fragment : staged (codes "data:,#a" ++ (9 ∷ 96 ∷ 195 ∷ 169 ∷ [])) ≡ Accepted [] (Good []) (Some (codes "a%60%C3%A9"))
+fragment_is_encoded : staged (codes "data:,#a" ++ (9 ∷ 96 ∷ 195 ∷ 169 ∷ [])) ≡ Accepted [] (Good []) (Some (codes "a%60%C3%A9"))
 unfolding on_literals
-encoded_fragment = refl
+fragment_is_encoded = refl
 
 fragment_keeps_percent : staged (codes "data:,#%#" ++ (34 ∷ codes "<>")) ≡ Accepted [] (Good []) (Some (codes "%#%22%3C%3E"))
 unfolding on_literals

@@ -10,7 +10,7 @@ use Rattle.std.proofs.lemmas.List.Sums.{suffix_len-le-length}
 use Rattle.std.proofs.lemmas.Slice.Eq.{bytes_eq-Decides}
 use Rattle.data_url.specs.Url.{is_c0_control_or_space, without_end}
 use Rattle.data_url.specs.Fetch.{before_base64, before_last, before_semicolon, is_space, last}
-use Rattle.data_url.specs.Header.{IsPrintable}
+use Rattle.data_url.specs.Steps.Header.{IsPrintable}
 use Rattle.data_url.proofs.PrintableLemmas.{low_end, printable_take}
 
 abbrev word : List ℕ

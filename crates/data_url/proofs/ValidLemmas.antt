@@ -3,8 +3,8 @@ use Rattle.std.proofs.Common.{◌≡◌, ℕ, suc, zero, ◌+◌, ◌%◌, Bool,
 use Rattle.std.specs.List.{list_all}
 use Rattle.std.proofs.lemmas.List.{append-nil, length-replicate}
 use Rattle.std.proofs.lemmas.Bool.{eqb-true, eq-eqb, ne_eqb, eqb-false, not-true, not_from_false, false≢true, cond-false, cond_both, and_from, and_right}
-use Rattle.data_url.specs.Base64.{is_symbol, is_valid, unpadded, without_sign}
-use Rattle.data_url.specs.Laws.{Fits, IsSymbolsAndSigns, PaddingFits}
+use Rattle.data_url.specs.Base64.{is_symbol, is_valid, unpadded, without_last_padding}
+use Rattle.data_url.specs.Steps.Facts.{Fits, IsSymbolsAndPadding, PaddingFits}
 use Rattle.data_url.specs.Mime.{Every}
 
 -- whether so many signs fit, by the remainder of the number of symbols
@@ -27,20 +27,20 @@ is_symbol_sign = refl
 pub symbol_no_sign : (c : ℕ) → is_symbol c ≡ true → eqb c 61 ≡ false
 symbol_no_sign c h = ne_eqb c 61 (λ e. false≢true (sym is_symbol_sign ∙ ap is_symbol (sym e) ∙ h))
 
-pub without_sign_symbols : (q : List ℕ) → Every is_symbol q → without_sign q ≡ q
-unfolding without_sign
+pub without_sign_symbols : (q : List ℕ) → Every is_symbol q → without_last_padding q ≡ q
+unfolding without_last_padding
 without_sign_symbols [] h = refl
 without_sign_symbols (a ∷ []) h = cond-false (eqb a 61) [] (a ∷ []) (symbol_no_sign a h.0)
 without_sign_symbols (a ∷ b ∷ t) h = ap (λ x. a ∷ x) (without_sign_symbols (b ∷ t) h.1)
 
-without_sign_more : (a : ℕ) (t : List ℕ) → without_sign (a ∷ t ++ 61 ∷ []) ≡ a ∷ without_sign (t ++ 61 ∷ [])
-unfolding without_sign
+without_sign_more : (a : ℕ) (t : List ℕ) → without_last_padding (a ∷ t ++ 61 ∷ []) ≡ a ∷ without_last_padding (t ++ 61 ∷ [])
+unfolding without_last_padding
 without_sign_more a [] = refl
 without_sign_more a (b ∷ t) = refl
 
 -- one sign is taken off
-pub without_sign_push : (q : List ℕ) → without_sign (q ++ 61 ∷ []) ≡ q
-unfolding without_sign
+pub without_sign_push : (q : List ℕ) → without_last_padding (q ++ 61 ∷ []) ≡ q
+unfolding without_last_padding
 without_sign_push [] = refl
 without_sign_push (a ∷ t) = without_sign_more a t ∙ ap (λ x. a ∷ x) (without_sign_push t)
 
@@ -48,9 +48,9 @@ pub replicate_push : (n : ℕ) → replicate {A = ℕ} (suc n) 61 ≡ replicate 
 replicate_push zero = refl
 replicate_push (suc n) = ap (λ (x : List ℕ). 61 ∷ x) (replicate_push n)
 
-pub without_sign_signs : (q : List ℕ) (n : ℕ) → without_sign (q ++ replicate (suc n) 61) ≡ q ++ replicate n 61
+pub without_sign_signs : (q : List ℕ) (n : ℕ) → without_last_padding (q ++ replicate (suc n) 61) ≡ q ++ replicate n 61
 without_sign_signs q n =
-    ap (λ x. without_sign (q ++ x)) (replicate_push n) ∙ ap without_sign (sym (append_assoc q (replicate n 61) (61 ∷ []))) ∙ without_sign_push (q ++ replicate n 61)
+    ap (λ x. without_last_padding (q ++ x)) (replicate_push n) ∙ ap without_last_padding (sym (append_assoc q (replicate n 61) (61 ∷ []))) ∙ without_sign_push (q ++ replicate n 61)
 
 -- Symbols and signs
 
@@ -78,7 +78,7 @@ passes_cond false r u w h good bad = h ∙ sym (bad refl)
 
 unpadded_symbols : (q : List ℕ) → Every is_symbol q → unpadded q ≡ q
 unfolding unpadded
-unpadded_symbols q h = cond_both (eqb (length q % 4) 0) (without_sign (without_sign q)) q (λ x. x ≡ q) (λ e. ap without_sign (without_sign_symbols q h) ∙ without_sign_symbols q h) (λ e. refl)
+unpadded_symbols q h = cond_both (eqb (length q % 4) 0) (without_last_padding (without_last_padding q)) q (λ x. x ≡ q) (λ e. ap without_last_padding (without_sign_symbols q h) ∙ without_sign_symbols q h) (λ e. refl)
 
 length_signs : (q : List ℕ) (n : ℕ) → length (q ++ replicate n 61) ≡ length q + n
 length_signs q n = length-append q (replicate n 61) ∙ ap (λ x. length q + x) (length-replicate n 61)
@@ -108,25 +108,25 @@ two_false k m l e = ne_eqb (k % 4) 2 (λ h. eqb-false (m % 4) 0 e (omega (arith,
 one_passes : (q : List ℕ) → Every is_symbol q → passes (unpadded (q ++ replicate 1 61)) ≡ fits_with (length q % 4) 1
 unfolding unpadded
 one_passes q h =
-    passes_cond (eqb (length (q ++ replicate 1 61) % 4) 0) _ (without_sign (without_sign (q ++ replicate 1 61))) (q ++ replicate 1 61)
+    passes_cond (eqb (length (q ++ replicate 1 61) % 4) 0) _ (without_last_padding (without_last_padding (q ++ replicate 1 61))) (q ++ replicate 1 61)
     (passes_signs q 0)
-    (λ e. ap (λ x. passes (without_sign x)) (without_sign_signs q 0 ∙ append-nil q) ∙ ap passes (without_sign_symbols q h) ∙ passes_symbols q _ h (one_true (length q) _ (length_signs q 1) e))
+    (λ e. ap (λ x. passes (without_last_padding x)) (without_sign_signs q 0 ∙ append-nil q) ∙ ap passes (without_sign_symbols q h) ∙ passes_symbols q _ h (one_true (length q) _ (length_signs q 1) e))
     (λ e. one_false (length q) _ (length_signs q 1) e)
 
 two_passes : (q : List ℕ) → Every is_symbol q → passes (unpadded (q ++ replicate 2 61)) ≡ fits_with (length q % 4) 2
 unfolding unpadded
 two_passes q h =
-    passes_cond (eqb (length (q ++ replicate 2 61) % 4) 0) _ (without_sign (without_sign (q ++ replicate 2 61))) (q ++ replicate 2 61)
+    passes_cond (eqb (length (q ++ replicate 2 61) % 4) 0) _ (without_last_padding (without_last_padding (q ++ replicate 2 61))) (q ++ replicate 2 61)
     (passes_signs q 1)
-    (λ e. ap (λ x. passes (without_sign x)) (without_sign_signs q 1) ∙ ap passes (without_sign_signs q 0 ∙ append-nil q) ∙ passes_symbols q _ h (two_true (length q) _ (length_signs q 2) e))
+    (λ e. ap (λ x. passes (without_last_padding x)) (without_sign_signs q 1) ∙ ap passes (without_sign_signs q 0 ∙ append-nil q) ∙ passes_symbols q _ h (two_true (length q) _ (length_signs q 2) e))
     (λ e. two_false (length q) _ (length_signs q 2) e)
 
 more_passes : (q : List ℕ) (n : ℕ) → passes (unpadded (q ++ replicate (suc (suc (suc n))) 61)) ≡ false
 unfolding unpadded
 more_passes q n =
-    passes_cond (eqb (length (q ++ replicate (suc (suc (suc n))) 61) % 4) 0) false (without_sign (without_sign (q ++ replicate (suc (suc (suc n))) 61))) (q ++ replicate (suc (suc (suc n))) 61)
+    passes_cond (eqb (length (q ++ replicate (suc (suc (suc n))) 61) % 4) 0) false (without_last_padding (without_last_padding (q ++ replicate (suc (suc (suc n))) 61))) (q ++ replicate (suc (suc (suc n))) 61)
     (passes_signs q (suc (suc n)))
-    (λ e. ap (λ x. passes (without_sign x)) (without_sign_signs q (suc (suc n))) ∙ ap passes (without_sign_signs q (suc n)) ∙ passes_signs q n)
+    (λ e. ap (λ x. passes (without_last_padding x)) (without_sign_signs q (suc (suc n))) ∙ ap passes (without_sign_signs q (suc n)) ∙ passes_signs q n)
     (λ e. refl)
 
 symbols_signs_pass : (q : List ℕ) (p : ℕ) → Every is_symbol q → passes (unpadded (q ++ replicate p 61)) ≡ fits_with (length q % 4) p
@@ -136,7 +136,7 @@ symbols_signs_pass q (suc (suc zero)) h = two_passes q h
 symbols_signs_pass q (suc (suc (suc n))) h = more_passes q n
 
 -- symbols and signs, with white space anywhere, are valid by their numbers
-pub symbols_signs_valid : (b q : List ℕ) (p : ℕ) → IsSymbolsAndSigns b q p → is_valid b ≡ fits_with (length q % 4) p
+pub symbols_signs_valid : (b q : List ℕ) (p : ℕ) → IsSymbolsAndPadding b q p → is_valid b ≡ fits_with (length q % 4) p
 unfolding is_valid
 symbols_signs_valid b q p h = ap (λ x. passes (unpadded x)) h.compact_is ∙ symbols_signs_pass q p h.symbols_are
 

@@ -10,7 +10,7 @@ use Rattle.std.specs.Str.{IsUtf8, all_scalars, chars}
 use lib.Utf8.{encode, next, scalar}
 use Rattle.data_url.specs.CodePoints.{is_quotable}
 use Rattle.data_url.specs.Mime.{Escaped, Plain, Quoted, QuotedOpen, QuotedUnit, unit_text, unit_value}
-use Rattle.data_url.specs.Parsing.{IsValue, is_quotable_byte, quotable_value}
+use Rattle.data_url.specs.Steps.Parsing.{IsValue, is_quotable_byte, quotable_value}
 use Rattle.data_url.specs.declared.mime.values.Value.{Value}
 use Rattle.data_url.specs.declared.mime.values.Value.TheVariants as slices
 use Rattle.data_url.proofs.QuotedLemmas.{unescaped, unescaped_is}

@@ -7,7 +7,7 @@ use Rattle.std.specs.List.{list_all}
 use Rattle.std.specs.Str.{bytes_eq}
 use Rattle.data_url.specs.CodePoints.{is_quotable}
 use Rattle.data_url.specs.Mime.{HasNoRecord, IsHead, IsWellformed, Item, Items, Pair, Parses, Record, first_of_each_name, has_distinct_names, has_name, is_lowercase_name, is_token_text, kept, valid_of, valid_pairs}
-use Rattle.data_url.specs.Parsing.{HasLowercaseNames, HasNoHead, IsRecordOfParts}
+use Rattle.data_url.specs.Steps.Parsing.{HasLowercaseNames, HasNoHead, IsRecordOfParts}
 use Rattle.data_url.proofs.ItemLemmas.{some_items}
 use Rattle.data_url.proofs.KeptLemmas.{equal_from_test, has_append, lowercase_name, test_from_equal, token_text_lower, valid_lower}
 

@@ -4,7 +4,9 @@ use Rattle.std.specs.Prelude.{MatchBool, MatchOption}
 use Rattle.std.proofs.lemmas.List.{append-nil}
 use Rattle.std.proofs.lemmas.Bool.{cond-true}
 use Rattle.data_url.specs.Base64.{decoded, done, first_fault, is_valid, kind_of, left_padding, left_symbols, left_text}
-use Rattle.data_url.specs.Decoding.{Decodes, Feeds, Finishes, IsAll, IsRefused, IsTaken, State, left_over, start}
+use Rattle.data_url.specs.Steps.Whole.{DecodesText}
+use Rattle.data_url.specs.Decoder.{Feeds, Finishes, IsAll, IsTaken, State, left_over, start}
+use Rattle.data_url.specs.Errors.{IsRefused}
 use Rattle.data_url.specs.Laws.{GoesOn}
 use Rattle.data_url.specs.Run.{Call, IsPrefix, IsRun, joined, or_error, refusal}
 use Rattle.data_url.specs.declared.forgiving_base64.DecodeError.{DecodeError}
@@ -13,7 +15,7 @@ use Rattle.data_url.proofs.ByteLemmas.{bool_at_false, bool_at_true, feeds_none}
 use Rattle.data_url.proofs.DecoderLemmas.{feeds_goes_on, feeds_took}
 use Rattle.data_url.proofs.FeedLemmas.{two_feeds}
 use Rattle.data_url.proofs.RunLemmas.{joined-append, later_none, match_at, match_at_none, match_map, match_none, prefix_all, prefix_behind, prefix_trans, refusal-append, run-append}
-use Rattle.data_url.proofs.SignLemmas.{fault_byte, fault_invalid, none_fault, valid_no_fault}
+use Rattle.data_url.proofs.PaddingLemmas.{fault_byte, fault_invalid, none_fault, valid_no_fault}
 use Rattle.data_url.proofs.WalkLemmas.{some_not_none}
 
 split_bool : (b : Bool) (P Q : Type 0) → MatchBool b P Q → ((b ≡ true) × P) ⊎ ((b ≡ false) × Q)
@@ -51,9 +53,9 @@ module _ {F E : Type 0} (step : F → List ℕ → Result (Unit {0}) E → F →
       (λ e. IsRefused (whole_bytes u) bytes e r)
 
   -- refused as it was fed
-  refused_fed : {d d' : State F} {u : List ℕ} {x : DecodeError E} → Feeds step d u (Err x) d' → left_over d ++ u ≡ u → Decodes step d.closure u (Err x) d'.closure
+  refused_fed : {d d' : State F} {u : List ℕ} {x : DecodeError E} → Feeds step d u (Err x) d' → left_over d ++ u ≡ u → DecodesText step d.closure u (Err x) d'.closure
   refused_fed {d} {d'} {u} {x} f same =
-      let G : List ℕ → Type 0 = λ w. MatchOption (refusal f.run) (IsTaken w (joined f.run) (Err x) d') (λ e. IsRefused (done w) (joined f.run) e (Err x)) in
+      let G : List ℕ → Type 0 = λ w. MatchOption (refusal f.run) (IsTaken w (joined f.run) (Err x) d') (λ e. IsRefused {A = Unit {0}} (done w) (joined f.run) e (Err x)) in
       let gave : G u = subst G same f.gave in
       record {
         run = f.run;
@@ -66,7 +68,7 @@ module _ {F E : Type 0} (step : F → List ℕ → Result (Unit {0}) E → F →
       }
 
   -- fed and finished
-  fed_finished : {d d' : State F} {u : List ℕ} {r : Result (Unit {0}) (DecodeError E)} {f' : F} → Feeds step d u (Ok tt) d' → left_over d ++ u ≡ u → Finishes step d' r f' → Decodes step d.closure u r f'
+  fed_finished : {d d' : State F} {u : List ℕ} {r : Result (Unit {0}) (DecodeError E)} {f' : F} → Feeds step d u (Ok tt) d' → left_over d ++ u ≡ u → Finishes step d' r f' → DecodesText step d.closure u r f'
   fed_finished {d} {d'} {u} {r} {f'} f same g =
       let k = feeds_took step f in
       let taken : joined f.run ≡ done u = k.1.bytes_are ∙ ap done same in
@@ -104,10 +106,10 @@ module _ {F E : Type 0} (step : F → List ℕ → Result (Unit {0}) E → F →
   pub fed_nothing : {d : State F} {f : F} → d ≡ start f → Feeds step (start f) [] (Ok tt) d
   fed_nothing {d} {f} e = feeds_none step tt (omega arith) (omega arith) refl e
 
-  pub decodes_refused : {d d' : State F} {f : F} {u : List ℕ} {x : DecodeError E} → d ≡ start f → Feeds step d u (Err x) d' → Decodes step f u (Err x) d'.closure
+  pub decodes_refused : {d d' : State F} {f : F} {u : List ℕ} {x : DecodeError E} → d ≡ start f → Feeds step d u (Err x) d' → DecodesText step f u (Err x) d'.closure
   decodes_refused {d} {d'} {f} {u} {x} e g = let P : State F → Type 0 = λ s. Feeds step s u (Err x) d' in refused_fed (subst P e g) refl
 
-  pub decodes_finished : {d d' : State F} {f f' : F} {u : List ℕ} {r : Result (Unit {0}) (DecodeError E)} → d ≡ start f → Feeds step d u (Ok tt) d' → Finishes step d' r f' → Decodes step f u r f'
+  pub decodes_finished : {d d' : State F} {f f' : F} {u : List ℕ} {r : Result (Unit {0}) (DecodeError E)} → d ≡ start f → Feeds step d u (Ok tt) d' → Finishes step d' r f' → DecodesText step f u r f'
   decodes_finished {d} {d'} {f} {f'} {u} e g h = let P : State F → Type 0 = λ s. Feeds step s u (Ok tt) d' in fed_finished (subst P e g) refl h
 
 -- A closure that keeps the bytes that it accepts
@@ -135,7 +137,7 @@ run_reads step J keeps [] f f' ran n = ap J (sym ran) ∙ sym (append-nil (J f))
 run_reads step J keeps (c ∷ cs) f f' ran n = call_reads step J keeps c f (J f') (joined cs) ran.0 (accepted_call c.answer (refusal cs) n) (run_reads step J keeps cs c.after f' ran.2 (later_none c.answer (refusal cs) n))
 
 -- what a closure that keeps its bytes has after a text that was decoded
-pub decodes_reads : {F E : Type 0} {step : F → List ℕ → Result (Unit {0}) E → F → Type 0} {f f' : F} {u : List ℕ} {r : Result (Unit {0}) (DecodeError E)} → Decodes step f u r f' → r ≡ Ok tt → (J : F → List ℕ) → ((g : F) (piece : List ℕ) (g' : F) → step g piece (Ok tt) g' → J g' ≡ J g ++ piece) → J f' ≡ J f ++ decoded u
+pub decodes_reads : {F E : Type 0} {step : F → List ℕ → Result (Unit {0}) E → F → Type 0} {f f' : F} {u : List ℕ} {r : Result (Unit {0}) (DecodeError E)} → DecodesText step f u r f' → r ≡ Ok tt → (J : F → List ℕ) → ((g : F) (piece : List ℕ) (g' : F) → step g piece (Ok tt) g' → J g' ≡ J g ++ piece) → J f' ≡ J f ++ decoded u
 decodes_reads {F} {E} {step} {f} {f'} {u} {r} h q J keeps =
     let k = all_ok (refusal h.run) _ (whole_bytes u) (joined h.run) r q h.gave in
     run_reads step J keeps h.run f f' h.ran k.0 ∙ ap (λ x. J f ++ x) (whole_ok (is_valid u) u (joined h.run) r q k.1)
@@ -145,5 +147,5 @@ pub run_keeps : {F E A : Type 0} (step : F → List ℕ → Result (Unit {0}) E 
 run_keeps step K keeps [] f f' ran = ap K ran
 run_keeps step K keeps (c ∷ cs) f f' ran = keeps f c.piece c.answer c.after ran.0 ∙ run_keeps step K keeps cs c.after f' ran.2
 
-pub decodes_keeps : {F E A : Type 0} {step : F → List ℕ → Result (Unit {0}) E → F → Type 0} {f f' : F} {u : List ℕ} {r : Result (Unit {0}) (DecodeError E)} → Decodes step f u r f' → (K : F → A) → ((g : F) (piece : List ℕ) (r : Result (Unit {0}) E) (g' : F) → step g piece r g' → K g ≡ K g') → K f ≡ K f'
+pub decodes_keeps : {F E A : Type 0} {step : F → List ℕ → Result (Unit {0}) E → F → Type 0} {f f' : F} {u : List ℕ} {r : Result (Unit {0}) (DecodeError E)} → DecodesText step f u r f' → (K : F → A) → ((g : F) (piece : List ℕ) (r : Result (Unit {0}) E) (g' : F) → step g piece r g' → K g ≡ K g') → K f ≡ K f'
 decodes_keeps {step = step} {f = f} {f' = f'} h K keeps = run_keeps step K keeps h.run f f' h.ran

@@ -1,9 +1,9 @@
 -- Forgiving base64 (Infra Standard, forgiving-base64 decode), with the alphabet of RFC 4648,
 -- section 4.
-use Rattle.std.specs.Prelude.{ℕ, ◌+◌, ◌-◌, ◌*◌, ◌/◌, ◌%◌, ◌==◌, ◌&&◌, ◌||◌, min, Bool, not, cond, List, [], ◌∷◌, ◌++◌, length, take, filter, map, replicate, Option, None, Some, codes, slice_index}
-use Rattle.std.specs.List.{find, list_all, list_any, range_with_len}
 use Rattle.std.specs.Fmt.{decimal}
 use Rattle.std.specs.Int.{is_in_range}
+use Rattle.std.specs.List.{find, list_all, list_any, range_with_len}
+use Rattle.std.specs.Prelude.{[], ◌%◌, ◌&&◌, ◌*◌, ◌++◌, ◌+◌, ◌-◌, ◌/◌, ◌==◌, ◌||◌, ◌∷◌, Bool, List, None, Option, Some, codes, cond, filter, length, map, min, not, replicate, slice_index, take, ℕ}
 
 -- ASCII whitespace: tab, line feed, form feed, carriage return and space (Infra, section 4.6)
 abbrev pub is_ascii_whitespace : ℕ → Bool
@@ -27,14 +27,14 @@ unfoldable pub compact : List ℕ → List ℕ
 compact b = filter (λ c. not (is_ascii_whitespace c)) b
 
 -- the text without one '=' at its end, if there is one
-unfoldable pub without_sign : List ℕ → List ℕ
-without_sign [] = []
-without_sign (a ∷ []) = cond (a == 61) [] (a ∷ [])
-without_sign (a ∷ b ∷ rest) = a ∷ without_sign (b ∷ rest)
+unfoldable pub without_last_padding : List ℕ → List ℕ
+without_last_padding [] = []
+without_last_padding (a ∷ []) = cond (a == 61) [] (a ∷ [])
+without_last_padding (a ∷ b ∷ rest) = a ∷ without_last_padding (b ∷ rest)
 
 -- where the length divides by four, the text without one or two '=' at its end (step 2)
 unfoldable pub unpadded : List ℕ → List ℕ
-unpadded s = cond (length s % 4 == 0) (without_sign (without_sign s)) s
+unpadded s = cond (length s % 4 == 0) (without_last_padding (without_last_padding s)) s
 
 -- the rule of the whole text: no length of remainder one by four, and no byte that is no symbol
 -- (steps 3 and 4)

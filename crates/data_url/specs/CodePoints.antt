@@ -1,8 +1,8 @@
 -- The classes of code points of MIME types (MIME Sniffing Standard, section 3; Fetch Standard,
 -- section 2.2).
-use Rattle.std.specs.Prelude.{ℕ, ◌==◌, ◌||◌, Bool, codes}
 use Rattle.std.specs.Int.{is_in_range}
 use Rattle.std.specs.List.{list_any}
+use Rattle.std.specs.Prelude.{◌==◌, ◌||◌, Bool, codes, ℕ}
 
 -- HTTP whitespace: tab, line feed, carriage return and space
 abbrev pub is_http_whitespace : ℕ → Bool

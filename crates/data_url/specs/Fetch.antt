@@ -1,11 +1,11 @@
 -- The data: URL processor (Fetch Standard, section 6), stage by stage over whole texts of bytes.
-use Rattle.std.specs.Prelude.{ℕ, ◌-◌, ◌==◌, Bool, cond, List, [], ◌∷◌, ◌++◌, length, take, drop, map, Option, None, Some, is_some, option_and_then, codes}
-use Rattle.std.specs.Option.{option_map}
 use Rattle.std.specs.Char.{to_ascii_lowercase}
+use Rattle.std.specs.Option.{option_map}
+use Rattle.std.specs.Prelude.{[], ◌++◌, ◌-◌, ◌==◌, ◌∷◌, Bool, List, None, Option, Some, codes, cond, drop, is_some, length, map, option_and_then, take, ℕ}
 use Rattle.std.specs.Str.{bytes_eq}
-use Rattle.data_url.specs.Url.{after_scheme, before, behind, dropped, fragment, front, in_fragment_set, percent_encoded, serialised, trimmed, without_end, without_front}
-use Rattle.data_url.specs.Percent.{percent_decoded}
 use Rattle.data_url.specs.Base64.{Kind, decoded, done, is_valid, kind_of}
+use Rattle.data_url.specs.Percent.{percent_decoded}
+use Rattle.data_url.specs.Url.{after_scheme, before, behind, dropped, fragment, front, in_fragment_set, percent_encoded, serialised, trimmed, without_end, without_front}
 
 -- Header and body
 

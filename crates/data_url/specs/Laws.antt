@@ -1,39 +1,8 @@
--- Facts and laws about the definitions, as contracts cite them.
-use Rattle.std.specs.Prelude.{◌≡◌, ◌≢◌, ◌⊎◌, ◌↔◌, ◌<◌, ◌%◌, ◌==◌, ◌&&◌, ◌||◌, ℕ, Bool, not, codes, List, ◌++◌, length, replicate, Option, None, Some, false, is_some, IsTrue}
+-- Laws about the definitions, as the contracts of `laws` cite them.
 use Rattle.std.specs.Int.{is_in_range}
-use Rattle.data_url.specs.Base64.{compact, decoded, done, first_fault, is_fault, is_symbol, is_valid, kind_of, left_padding, left_symbols, left_text}
+use Rattle.std.specs.Prelude.{◌&&◌, ◌++◌, ◌==◌, ◌||◌, ◌≡◌, Bool, List, Some, codes, is_some, not, ℕ}
+use Rattle.data_url.specs.Base64.{decoded, done, first_fault, is_valid, kind_of, left_padding, left_symbols, left_text}
 use Rattle.data_url.specs.Fetch.{staged, staged_fragment}
-use Rattle.data_url.specs.Mime.{Every, Item, Items, Parses, Record}
-use Rattle.data_url.specs.Url.{dropped, in_fragment_set, percent_encoded}
-
--- each text that is empty or begins with ';' is a join of parameters, with one list of items
-pub record HasOneItemList (r : List ℕ) : Type 0 where
-  pub some : (items : List Item) × Items r items
-  pub only : (a b : List Item) → Items r a → Items r b → a ≡ b
-
--- a text has at most one record
-abbrev pub HasAtMostOneRecord : List ℕ → Type 0
-HasAtMostOneRecord s = (m n : Record) → Parses s m → Parses s n → m ≡ n
-
--- b is these symbols and then so many signs '=', and nothing else but whitespace
-pub record IsSymbolsAndSigns (b symbols : List ℕ) (signs : ℕ) : Type 0 where
-  pub symbols_are : Every is_symbol symbols
-  pub compact_is : compact b ≡ symbols ++ replicate signs 61
-
--- the numbers of symbols and signs that make a valid text
-abbrev pub Fits : ℕ → ℕ → Type 0
-Fits k p = ((p ≡ 0) × (k % 4 ≢ 1)) ⊎ ((p ≡ 1) × (k % 4 ≡ 3)) ⊎ ((p ≡ 2) × (k % 4 ≡ 2))
-
--- symbols and signs are valid exactly if their numbers fit
-abbrev pub PaddingFits : List ℕ → Type 0
-PaddingFits b = (symbols : List ℕ) (signs : ℕ) → IsSymbolsAndSigns b symbols signs
-    → IsTrue (is_valid b) ↔ Fits (length symbols) signs
-
--- the place is the least of a fault or, where it is none, there is no fault
-abbrev pub IsFirstFault : List ℕ → Option ℕ → Type 0
-IsFirstFault b None = (i : ℕ) → i < length b → is_fault b i ≡ false
-IsFirstFault b (Some i) = (i < length b) × IsTrue (is_fault b i)
-    × ((k : ℕ) → k < i → is_fault b k ≡ false)
 
 -- what comes of a followed by b, by the text v of what a left and then b: the bytes, the fault and
 -- its kind, what is left, validity, and the bytes as a whole
@@ -55,10 +24,6 @@ TwoFeeds a b = GoesOn a b (left_text (left_symbols a) (left_padding a) ++ b)
 abbrev pub is_fragment_byte : ℕ → Bool
 is_fragment_byte b = is_in_range 33 126 b
     && not ((b == 34) || ((b == 60) || ((b == 62) || (b == 96))))
-
--- a fragment, encoded as the URL parser does
-abbrev pub encoded_fragment : List ℕ → List ℕ
-encoded_fragment s = percent_encoded in_fragment_set (dropped s)
 
 -- behind "data:,#" the text is a fragment that is encoded to itself
 abbrev pub IsReadAgain : List ℕ → Type 0

@@ -1,6 +1,6 @@
 -- Percent-decoding (URL Standard, section 1.3).
-use Rattle.std.specs.Prelude.{ℕ, ◌+◌, ◌*◌, ◌==◌, ◌&&◌, nat_lt, Bool, cond, List, [], ◌∷◌}
 use Rattle.std.specs.Char.{digit_value}
+use Rattle.std.specs.Prelude.{[], ◌&&◌, ◌*◌, ◌+◌, ◌==◌, ◌∷◌, Bool, List, cond, nat_lt, ℕ}
 
 -- an ASCII hexadecimal digit, of either case
 abbrev pub is_hex : ℕ → Bool

@@ -1,12 +1,12 @@
 -- A body in pieces (URL Standard, section 1.3, percent-decode): what contracts see of a walk over
 -- its text.
-use Rattle.std.specs.Prelude.{◌≡◌, ℕ, ◌+◌, ◌*◌, ◌==◌, ◌<◌, ◌≤◌, ◌&&◌, ◌||◌, Bool, true, false, cond, List, [], ◌∷◌, drop, Option, None, Some, is_some, slice_index, slice_range}
 use Rattle.std.specs.Char.{digit_value}
-use Rattle.data_url.specs.Url.{is_tab_or_newline}
-use Rattle.data_url.specs.Percent.{is_hex}
+use Rattle.std.specs.Prelude.{[], ◌&&◌, ◌*◌, ◌+◌, ◌<◌, ◌==◌, ◌||◌, ◌∷◌, ◌≡◌, ◌≤◌, Bool, List, None, Option, Some, cond, drop, false, is_some, slice_index, slice_range, true, ℕ}
 use Rattle.data_url.specs.Fetch.{plain_body}
-use Rattle.data_url.specs.declared.escapes.Piece.{Piece}
+use Rattle.data_url.specs.Percent.{is_hex}
+use Rattle.data_url.specs.Url.{is_tab_or_newline}
 use Rattle.data_url.specs.declared.escapes.Piece.TheVariants.{Byte, Slice}
+use Rattle.data_url.specs.declared.escapes.Piece.{Piece}
 
 -- the value of the hexadecimal digit that a text begins with, past tabs and newlines, and what
 -- follows it

@@ -1,5 +1,5 @@
 -- The calls that a closure ran.
-use Rattle.std.specs.Prelude.{◌≡◌, ℕ, List, [], ◌∷◌, ◌++◌, Option, None, Some, Result, Ok, Err, IsErr}
+use Rattle.std.specs.Prelude.{[], ◌++◌, ◌∷◌, ◌≡◌, Err, IsErr, List, None, Ok, Option, Result, Some, ℕ}
 
 -- one call of a closure: the bytes that it was given, what it answered, and its state after it
 pub record Call (F : Type 0) (E : Type 0) : Type 0 where

@@ -1,9 +1,9 @@
 -- The parts of a data: URL's text, as the URL Standard cuts and writes them. Texts are lists of
 -- bytes.
-use Rattle.std.specs.Prelude.{ℕ, ◌-◌, ◌+◌, ◌/◌, ◌%◌, ◌==◌, ◌||◌, nat_le, nat_lt, Bool, not, cond, List, [], ◌∷◌, ◌++◌, length, take, drop, filter, map, Option, None, Some, codes}
-use Rattle.std.specs.List.{prefix_len, suffix_len, flat_map}
-use Rattle.std.specs.Str.{bytes_eq}
 use Rattle.std.specs.Char.{to_ascii_lowercase}
+use Rattle.std.specs.List.{flat_map, prefix_len, suffix_len}
+use Rattle.std.specs.Prelude.{[], ◌%◌, ◌++◌, ◌+◌, ◌-◌, ◌/◌, ◌==◌, ◌||◌, ◌∷◌, Bool, List, None, Option, Some, codes, cond, drop, filter, length, map, nat_le, nat_lt, not, take, ℕ}
+use Rattle.std.specs.Str.{bytes_eq}
 
 -- the text without its longest front of bytes that pass the test
 abbrev pub without_front : (ℕ → Bool) → List ℕ → List ℕ
@@ -86,6 +86,10 @@ encoded_byte in_set b = cond (in_set b) (37 ∷ hex_digit (b / 16) ∷ hex_digit
 -- the text with each byte of the set percent-encoded
 unfoldable pub percent_encoded : (ℕ → Bool) → List ℕ → List ℕ
 percent_encoded in_set s = flat_map (encoded_byte in_set) s
+
+-- a fragment as the URL parser leaves it: without tabs and newlines, and encoded by its set
+abbrev pub encoded_fragment : List ℕ → List ℕ
+encoded_fragment s = percent_encoded in_fragment_set (dropped s)
 
 -- a path and, where there is one, '?' and its query, each encoded by its own set
 abbrev pub with_query : List ℕ → Option (List ℕ) → List ℕ

@@ -4,7 +4,7 @@ ghost use Rattle.std.specs.Prelude.{◌+◌, length, true};
 ghost use Rattle.std.specs.Fn.{CalledAt};
 ghost use Rattle.data_url.specs.Steps.Tail.{IsBodyEnd};
 ghost use Rattle.data_url.specs.Fetch.{Good, outcome, plain_body};
-ghost use Rattle.data_url.specs.Decodes.{Decodes};
+ghost use Rattle.data_url.specs.DataUrl.{Decodes};
 
 use crate::escapes::{Chunk, Pieces, ROOM};
 use crate::forgiving_base64::{DecodeError, Decoder};

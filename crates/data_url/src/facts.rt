@@ -5,7 +5,7 @@ ghost use Rattle.std.specs.Option.{option_map};
 ghost use Rattle.data_url.specs.Base64.{first_fault};
 ghost use Rattle.data_url.specs.Mime.{BeginsParameters};
 ghost use Rattle.data_url.specs.Url.{behind, dropped, fragment};
-ghost use Rattle.data_url.specs.Laws.{HasAtMostOneRecord, HasOneItemList, IsFirstFault, PaddingFits};
+ghost use Rattle.data_url.specs.Steps.Facts.{HasAtMostOneRecord, HasOneItemList, IsFirstFault, PaddingFits};
 
 /// A text that is empty or begins with `;` has exactly one list of items.
 pub(crate) fn one_item_list()

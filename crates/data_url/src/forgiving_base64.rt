@@ -38,7 +38,7 @@ enum InvalidBase64Details {
 
 impl Model for InvalidBase64 {
     ghost use Rattle.data_url.specs.Base64.{Kind};
-    ghost use Rattle.data_url.specs.Refusal.{kind_of_details};
+    ghost use Rattle.data_url.specs.InvalidBase64.{kind_of_details};
 
     ghost Value = { Kind };
 
@@ -77,7 +77,7 @@ pub enum DecodeError<E> {
 }
 
 impl<E: fmt::Display> fmt::Display for DecodeError<E> {
-    ghost use Rattle.data_url.specs.ErrorText.{decode_error_text};
+    ghost use Rattle.data_url.specs.Errors.{decode_error_text};
 
     ghost output = { λ error. decode_error_text E.output error };
 
@@ -102,7 +102,7 @@ pub enum DecodeToVecError {
 }
 
 impl fmt::Display for DecodeToVecError {
-    ghost use Rattle.data_url.specs.VecError.{vec_error_text};
+    ghost use Rattle.data_url.specs.Errors.{vec_error_text};
 
     ghost output = { λ error. Some (vec_error_text error) };
 

@@ -3,7 +3,7 @@
 ghost use Rattle.std.specs.Prelude.{◌≡◌, None, IfSome, IfNone};
 ghost use Rattle.std.specs.List.{position, prefix_len, suffix_len};
 ghost use Rattle.data_url.specs.Url.{behind, front, is_c0_control_or_space, is_tab_or_newline, trimmed, without_end, without_front};
-ghost use Rattle.data_url.specs.Front.{ends_header, IsSchemeAndRest, HasNoScheme, IsHeaderAndTail};
+ghost use Rattle.data_url.specs.Steps.Front.{HasNoScheme, IsHeaderAndTail, IsSchemeAndRest, ends_header};
 
 const SCHEME: [u8; 5] = *b"data:";
 
@@ -44,7 +44,7 @@ pub(crate) fn low_end_len(bytes: &[u8]) -> usize
 }
 
 /// Whether the URL parser passes over the byte, as if it were not there.
-pub(crate) fn is_passed_over(byte: u8) -> bool
+pub(crate) fn is_tab_or_newline(byte: u8) -> bool
     ensures { result ≡ is_tab_or_newline byte }
 {
     matches!(byte, b'\t' | b'\n' | b'\r')
@@ -57,7 +57,7 @@ pub(crate) fn after_scheme(text: &str) -> Option<&str>
 {
     let mut matched = 0;
     for (place, byte) in text.as_bytes().iter().enumerate() {
-        if is_passed_over(*byte) {
+        if is_tab_or_newline(*byte) {
             continue;
         }
         if byte.to_ascii_lowercase() != SCHEME[matched] {

@@ -5,10 +5,10 @@ ghost use Rattle.std.specs.Str.{chars};
 ghost use Rattle.data_url.specs.Url.{dropped, serialised};
 ghost use Rattle.data_url.specs.Fetch.{before_base64, with_plain};
 ghost use Rattle.data_url.specs.Mime.{default_record};
-ghost use Rattle.data_url.specs.Header.{HasChanges, IsHeaderOf, IsPrintable, IsRecordFor, next_set};
-ghost use Rattle.data_url.specs.Seen.{as_option, seen};
+ghost use Rattle.data_url.specs.Steps.Header.{HasChanges, IsHeaderOf, IsPrintable, IsRecordFor, next_set};
+ghost use Rattle.data_url.specs.MimeType.{as_option, seen};
 
-use crate::front::{is_passed_over, low_end_len, trim};
+use crate::front::{is_tab_or_newline, low_end_len, trim};
 use crate::mime::{Mime, MimeFromStrError};
 use crate::percent::{EncodeSet, push_encoded};
 use std::alloc::{AllocError, Global};
@@ -43,7 +43,7 @@ fn changes_of(header: &[u8]) -> Changes
     };
     let mut set = EncodeSet::Path;
     for byte in header {
-        if is_passed_over(*byte) {
+        if is_tab_or_newline(*byte) {
             changes.dropped += 1;
         } else if set.contains(*byte) {
             changes.encoded += 1;
@@ -60,7 +60,7 @@ fn serialise(alloc: Global, header: &[u8], len: usize) -> Result<String, AllocEr
     let mut text = String::with_capacity(alloc, len)?;
     let mut set = EncodeSet::Path;
     for byte in header {
-        if is_passed_over(*byte) {
+        if is_tab_or_newline(*byte) {
             continue;
         }
         push_encoded(&mut text, set, *byte)?;

@@ -2,11 +2,11 @@
 
 ghost use Rattle.std.specs.Prelude.{◌≡◌, ◌↔◌, None};
 ghost use Rattle.data_url.specs.Base64.{first_fault};
-ghost use Rattle.data_url.specs.Laws.{IsReadAgain, TwoFeeds, encoded_fragment, is_fragment_byte};
+ghost use Rattle.data_url.specs.Laws.{IsReadAgain, TwoFeeds, is_fragment_byte};
 ghost use Rattle.data_url.specs.Mime.{Every, IsWellformed, Parses, Record, printed};
 ghost use Rattle.data_url.specs.Percent.{percent_decoded};
-ghost use Rattle.data_url.specs.Seen.{SameTexts, seen};
-ghost use Rattle.data_url.specs.Url.{in_path_set, in_query_set, percent_encoded};
+ghost use Rattle.data_url.specs.MimeType.{SameTexts, seen};
+ghost use Rattle.data_url.specs.Url.{encoded_fragment, in_path_set, in_query_set, percent_encoded};
 
 use crate::mime::Mime;
 

@@ -3,11 +3,10 @@
 
 ghost use Rattle.std.specs.Prelude.{◌≡◌, ◌+◌, IfErr, IfOk, Some, length};
 ghost use Rattle.std.specs.Fn.{CalledAt};
-ghost use Rattle.data_url.specs.Decodes.{Decodes};
+ghost use Rattle.data_url.specs.DataUrl.{Decodes, IsFragmentOf, IsProcessed, mime_of, url_body, url_tail};
 ghost use Rattle.data_url.specs.Steps.Tail.{IsBodyEnd};
 ghost use Rattle.data_url.specs.Fetch.{Good};
-ghost use Rattle.data_url.specs.UrlSeen.{IsFragmentOf, IsProcessed, mime_of, url_body, url_tail};
-ghost use Rattle.data_url.specs.VecError.{IsBodyErrorOf};
+ghost use Rattle.data_url.specs.Errors.{IsBodyErrorOf};
 
 mod body;
 pub mod escapes;
@@ -21,7 +20,7 @@ mod percent;
 
 use body::{decode_base64, decode_plain};
 use forgiving_base64::{DecodeError, DecodeToVecError, room_for};
-use front::{after_scheme, is_passed_over, split_at_comma, trim};
+use front::{after_scheme, is_tab_or_newline, split_at_comma, trim};
 use header::read_header;
 use mime::Mime;
 use percent::{EncodeSet, encoded_width, push_encoded};
@@ -57,7 +56,7 @@ pub enum DataUrlError {
 }
 
 impl fmt::Display for DataUrlError {
-    ghost use Rattle.data_url.specs.ErrorText.{url_error_text};
+    ghost use Rattle.data_url.specs.Errors.{url_error_text};
 
     ghost output = { λ error. Some (url_error_text error) };
 
@@ -79,18 +78,17 @@ impl Error for DataUrlError {}
 
 impl<'a> FragmentIdentifier<'a> {
     ghost use Rattle.std.specs.Prelude.{◌-◌, ◌^◌, min, string_bytes};
-    ghost use Rattle.data_url.specs.Url.{dropped, in_fragment_set, percent_encoded};
-    ghost use Rattle.data_url.specs.UrlSeen.{fragment_text};
+    ghost use Rattle.data_url.specs.Url.{encoded_fragment};
+    ghost use Rattle.data_url.specs.DataUrl.{fragment_text};
 
     /// How many bytes the encoded fragment takes, or the greatest number where they are more.
     fn encoded_len(&self) -> usize
         ensures { result
-            ≡ min (length (percent_encoded in_fragment_set (dropped (fragment_text self.now))))
-            (2 ^ 64 - 1) }
+            ≡ min (length (encoded_fragment (fragment_text self.now))) (2 ^ 64 - 1) }
     {
         let mut len: usize = 0;
         for byte in self.text.as_bytes() {
-            if !is_passed_over(*byte) {
+            if !is_tab_or_newline(*byte) {
                 len = len.saturating_add(encoded_width(EncodeSet::Fragment, *byte));
             }
         }
@@ -103,12 +101,12 @@ impl<'a> FragmentIdentifier<'a> {
     ///
     /// The error comes where memory was refused.
     pub fn to_percent_encoded(&self, alloc: Global) -> Result<String, AllocError>
-        ensures { IfOk result (λ text. string_bytes text
-            ≡ percent_encoded in_fragment_set (dropped (fragment_text self.now))) }
+        ensures { IfOk result (λ text.
+            string_bytes text ≡ encoded_fragment (fragment_text self.now)) }
     {
         let mut text = String::with_capacity(alloc, self.encoded_len())?;
         for byte in self.text.as_bytes() {
-            if !is_passed_over(*byte) {
+            if !is_tab_or_newline(*byte) {
                 push_encoded(&mut text, EncodeSet::Fragment, *byte)?;
             }
         }

@@ -30,7 +30,7 @@ pub struct Mime {
 /// Records are equal exactly if their texts are, byte for byte, and their parameters stand in the same order.
 impl PartialEq for Mime {
     ghost use Rattle.std.specs.Cmp.{partial_equiv_from_equiv};
-    ghost use Rattle.data_url.specs.Seen.{SameTexts, same_texts, same_texts_equiv};
+    ghost use Rattle.data_url.specs.MimeType.{SameTexts, same_texts, same_texts_equiv};
 
     ghost eq = { same_texts };
 
@@ -47,7 +47,7 @@ impl PartialEq for Mime {
 }
 
 impl Eq for Mime {
-    ghost use Rattle.data_url.specs.Seen.{same_texts_equiv};
+    ghost use Rattle.data_url.specs.MimeType.{same_texts_equiv};
 
     ghost laws = { same_texts_equiv };
 }
@@ -57,7 +57,7 @@ impl Eq for Mime {
 impl fmt::Display for Mime {
     ghost use Rattle.std.specs.Str.{encode_utf8_all};
     ghost use Rattle.data_url.specs.Mime.{printed};
-    ghost use Rattle.data_url.specs.Seen.{seen};
+    ghost use Rattle.data_url.specs.MimeType.{seen};
 
     ghost output = { λ mime. Some (encode_utf8_all (printed (seen mime))) };
 
@@ -96,7 +96,7 @@ pub enum MimeFromStrError {
 }
 
 impl fmt::Display for MimeFromStrError {
-    ghost use Rattle.data_url.specs.ErrorText.{mime_error_text};
+    ghost use Rattle.data_url.specs.Errors.{mime_error_text};
 
     ghost output = { λ error. Some (mime_error_text error) };
 
@@ -114,8 +114,8 @@ impl Mime {
     ghost use Rattle.std.specs.Prelude.{string_bytes};
     ghost use Rattle.std.specs.Str.{chars};
     ghost use Rattle.data_url.specs.Mime.{HasNoRecord, IsWellformed, Parses};
-    ghost use Rattle.data_url.specs.Parsing.{IsParsingError};
-    ghost use Rattle.data_url.specs.Seen.{SameTexts, as_option, seen, value_of_name};
+    ghost use Rattle.data_url.specs.Errors.{IsParsingError};
+    ghost use Rattle.data_url.specs.MimeType.{SameTexts, as_option, seen, value_of_name};
 
     /// The record of a type and a subtype as they are given, with no parameters. It takes memory for the two texts, and
     /// the error comes where memory was refused.

@@ -2,7 +2,7 @@
 
 ghost use Rattle.std.specs.Prelude.{◌≡◌, ◌<◌, ◌++◌, OnOk, length, string_bytes};
 ghost use Rattle.data_url.specs.Url.{encoded_byte, hex_digit};
-ghost use Rattle.data_url.specs.Sets.{in_set};
+ghost use Rattle.data_url.specs.Steps.Sets.{in_set};
 
 use std::alloc::AllocError;
 

@@ -3,18 +3,20 @@ use Rattle.std.proofs.Common.{◌≡◌, ℕ, Bool, true, false, cond, List, [],
 use Rattle.std.specs.Prelude.{MatchBool, MatchOption}
 use Rattle.std.proofs.lemmas.List.{append-nil}
 use Rattle.data_url.specs.Base64.{decoded, done, first_fault, is_valid, kind_of}
-use Rattle.data_url.specs.Decodes.{Decodes, HandsOut, IsRefusedBy}
-use Rattle.data_url.specs.Decoding.{Decodes as DecodesText, IsAll, IsRefused, IsTaken, State}
+use Rattle.data_url.specs.DataUrl.{Decodes, HandsOut}
+use Rattle.data_url.specs.Steps.Whole.{DecodesText as DecodesText}
+use Rattle.data_url.specs.Decoder.{IsAll, IsTaken, State}
+use Rattle.data_url.specs.Errors.{IsRefused}
 use Rattle.data_url.specs.Fetch.{Bad, Good, Outcome, outcome_bytes}
 use Rattle.data_url.specs.Run.{Call, IsRun, joined, refusal}
 use Rattle.data_url.specs.declared.forgiving_base64.DecodeError.{DecodeError}
 use Rattle.data_url.specs.declared.forgiving_base64.DecodeError.TheVariants.{InvalidBase64}
 use Rattle.data_url.proofs.WholeLemmas.{run_keeps}
 use Rattle.dataurl.specs.Output.{End, IsBodyOutput, bad_body, good_body}
-use Rattle.dataurl.specs.Steps.{AnyAnswer}
+use Rattle.dataurl.specs.Steps.Parts.{AnyAnswer}
 use Rattle.dataurl.specs.Steps.Base64.{FeedsText, IsGroups, IsLast, faulty_groups, last_invalid, last_valid, sound_groups}
 use Rattle.dataurl.specs.Steps.Gathering.{Gathers, IsFlushed, IsSettled, IsStreamed, Settles, Streams, all_streamed, cut_short, flushed, not_flushed}
-use Rattle.dataurl.specs.Writing.{IsBeginning}
+use Rattle.dataurl.specs.Runs.{IsProperPrefix}
 use Rattle.dataurl.specs.declared.fault.Fault.TheVariants.{Base64, Write}
 use Rattle.dataurl.specs.declared.fault.WriteFailed.{WriteFailed}
 use Rattle.dataurl.proofs.GatherLemmas.{run_gathers}
@@ -26,14 +28,14 @@ use Rattle.dataurl.proofs.OutputLemmas.{appends_then, beginning_behind, beginnin
 pub output_flushed : (P : List ℕ → End → Type 0) (bytes after w k : List ℕ) (good end : End) → P bytes good → bytes ≡ w ++ after → IsFlushed after good k end → IsStreamed P (w ++ k) end
 output_flushed P bytes after w k good end p e flushed = let Q : List ℕ → Type 0 = λ s. P s good in all_streamed (subst Q e p)
 output_flushed P bytes after w k good end p e (not_flushed b) =
-    let Q : List ℕ → Type 0 = λ s. IsBeginning (w ++ k) s in
+    let Q : List ℕ → Type 0 = λ s. IsProperPrefix (w ++ k) s in
     cut_short p (subst Q (sym e) (beginning_behind w k after b))
 
 -- a write failed before that
-pub output_stopped : (P : List ℕ → End → Type 0) (whole w k : List ℕ) (whole_end end : End) → P whole whole_end → IsBeginning w whole → k ≡ [] → end ≡ Err Write → IsStreamed P (w ++ k) end
+pub output_stopped : (P : List ℕ → End → Type 0) (whole w k : List ℕ) (whole_end end : End) → P whole whole_end → IsProperPrefix w whole → k ≡ [] → end ≡ Err Write → IsStreamed P (w ++ k) end
 output_stopped P whole w k whole_end end p b e q =
-    let Q : List ℕ → Type 0 = λ s. IsBeginning (w ++ s) whole in
-    let R : List ℕ → Type 0 = λ s. IsBeginning s whole in
+    let Q : List ℕ → Type 0 = λ s. IsProperPrefix (w ++ s) whole in
+    let R : List ℕ → Type 0 = λ s. IsProperPrefix s whole in
     let S : End → Type 0 = λ x. IsStreamed P (w ++ k) x in
     subst S (sym q) (cut_short p (subst Q (sym e) (subst R (sym (append-nil w)) b)))
 
@@ -50,7 +52,7 @@ body_handed (Bad all kind) bytes after w k r end h e s =
     let P : Result (Unit {0}) (DecodeError WriteFailed) → Type 0 = λ x. IsSettled x after k end in
     output_flushed (IsBodyOutput (Bad all kind)) all after w k (Err (Base64 kind)) end bad_body (sym h.bytes_are ∙ e) (subst P h.answer s)
 
-body_ended : (refused : Option WriteFailed) (body : Outcome) (bytes after w k : List ℕ) (r : Result (Unit {0}) (DecodeError WriteFailed)) (end : End) → MatchOption refused (HandsOut body AnyAnswer bytes r) (λ failed. IsRefusedBy body bytes failed r) → MatchOption refused (bytes ≡ w ++ after) (λ failed. IsBeginning w bytes) → IsSettled r after k end → IsStreamed (IsBodyOutput body) (w ++ k) end
+body_ended : (refused : Option WriteFailed) (body : Outcome) (bytes after w k : List ℕ) (r : Result (Unit {0}) (DecodeError WriteFailed)) (end : End) → MatchOption refused (HandsOut body AnyAnswer bytes r) (λ failed. IsRefused (outcome_bytes body) bytes failed r) → MatchOption refused (bytes ≡ w ++ after) (λ failed. IsProperPrefix w bytes) → IsSettled r after k end → IsStreamed (IsBodyOutput body) (w ++ k) end
 body_ended None body bytes after w k r end h e s = body_handed body bytes after w k r end h e s
 body_ended (Some failed) body bytes after w k r end h b s =
     let P : Result (Unit {0}) (DecodeError WriteFailed) → Type 0 = λ x. IsSettled x after k end in
@@ -71,7 +73,7 @@ groups_handed text bytes after w k r end P (Some place) f b h e s =
     let Q : Result (Unit {0}) (DecodeError WriteFailed) → Type 0 = λ x. IsSettled x after k end in
     output_flushed (IsGroups text) (done text) after w k (Err (Base64 (kind_of text))) end (faulty_groups (ap is_some f)) (sym b ∙ e) (subst Q h s)
 
-groups_ended : {F : Type 0} (refused : Option WriteFailed) (text bytes after w k : List ℕ) (r : Result (Unit {0}) (DecodeError WriteFailed)) (d : State F) (end : End) → MatchOption refused (IsTaken text bytes r d) (λ failed. IsRefused (done text) bytes failed r) → MatchOption refused (bytes ≡ w ++ after) (λ failed. IsBeginning w bytes) → IsSettled r after k end → IsStreamed (IsGroups text) (w ++ k) end
+groups_ended : {F : Type 0} (refused : Option WriteFailed) (text bytes after w k : List ℕ) (r : Result (Unit {0}) (DecodeError WriteFailed)) (d : State F) (end : End) → MatchOption refused (IsTaken text bytes r d) (λ failed. IsRefused (done text) bytes failed r) → MatchOption refused (bytes ≡ w ++ after) (λ failed. IsProperPrefix w bytes) → IsSettled r after k end → IsStreamed (IsGroups text) (w ++ k) end
 groups_ended None text bytes after w k r d end h e s = groups_handed text bytes after w k r end _ (first_fault text) refl h.bytes_are h.answer e s
 groups_ended (Some failed) text bytes after w k r d end h b s =
     let P : Result (Unit {0}) (DecodeError WriteFailed) → Type 0 = λ x. IsSettled x after k end in
@@ -91,7 +93,7 @@ last_handed text bytes after w k r end false v h e s =
     let P : Result (Unit {0}) (DecodeError WriteFailed) → Type 0 = λ x. IsSettled x after k end in
     output_flushed (IsLast text) (done text) after w k (Err (Base64 (kind_of text))) end (last_invalid v) (sym h.0 ∙ e) (subst P h.1 s)
 
-last_ended : (refused : Option WriteFailed) (text bytes after w k : List ℕ) (r : Result (Unit {0}) (DecodeError WriteFailed)) (end : End) → MatchOption refused (MatchBool (is_valid text) (IsAll text bytes r) ((bytes ≡ done text) × (r ≡ Err (InvalidBase64 (kind_of text))))) (λ failed. IsRefused (cond (is_valid text) (decoded text) (done text)) bytes failed r) → MatchOption refused (bytes ≡ w ++ after) (λ failed. IsBeginning w bytes) → IsSettled r after k end → IsStreamed (IsLast text) (w ++ k) end
+last_ended : (refused : Option WriteFailed) (text bytes after w k : List ℕ) (r : Result (Unit {0}) (DecodeError WriteFailed)) (end : End) → MatchOption refused (MatchBool (is_valid text) (IsAll text bytes r) ((bytes ≡ done text) × (r ≡ Err (InvalidBase64 (kind_of text))))) (λ failed. IsRefused (cond (is_valid text) (decoded text) (done text)) bytes failed r) → MatchOption refused (bytes ≡ w ++ after) (λ failed. IsProperPrefix w bytes) → IsSettled r after k end → IsStreamed (IsLast text) (w ++ k) end
 last_ended None text bytes after w k r end h e s = last_handed text bytes after w k r end (is_valid text) refl h e s
 last_ended (Some failed) text bytes after w k r end h b s =
     let P : Result (Unit {0}) (DecodeError WriteFailed) → Type 0 = λ x. IsSettled x after k end in
@@ -103,10 +105,10 @@ last_ended (Some failed) text bytes after w k r end h b s =
 
 module _ {F : Type 0} (step : F → List ℕ → Result (Unit {0}) WriteFailed → F → Type 0) (holds : F → Option (List ℕ)) (waits : F → List ℕ) (gathers : (p : F) (piece : List ℕ) (s : Result (Unit {0}) WriteFailed) (q : F) → step p piece s q → Gathers piece (waits p) (waits q) (holds p) (holds q) s) where
   -- pieces that were gathered by a closure with nothing waiting before, and settled
-  streams_by : (P : List ℕ → End → Type 0) (cs : List (Call F WriteFailed)) (f g : F) (r : Result (Unit {0}) (DecodeError WriteFailed)) (now : Option (List ℕ)) (end : End) → IsRun step f cs g → waits f ≡ [] → Settles r (waits g) (holds g) now end → ((w k : List ℕ) → MatchOption (refusal cs) (joined cs ≡ w ++ waits g) (λ failed. IsBeginning w (joined cs)) → IsSettled r (waits g) k end → IsStreamed P (w ++ k) end) → Streams P (holds f) now end
+  streams_by : (P : List ℕ → End → Type 0) (cs : List (Call F WriteFailed)) (f g : F) (r : Result (Unit {0}) (DecodeError WriteFailed)) (now : Option (List ℕ)) (end : End) → IsRun step f cs g → waits f ≡ [] → Settles r (waits g) (holds g) now end → ((w k : List ℕ) → MatchOption (refusal cs) (joined cs ≡ w ++ waits g) (λ failed. IsProperPrefix w (joined cs)) → IsSettled r (waits g) k end → IsStreamed P (w ++ k) end) → Streams P (holds f) now end
   streams_by P cs f g r now end ran e s ends =
       let w = run_gathers step holds waits gathers cs f g ran in
-      let Q : List ℕ → Type 0 = λ before. MatchOption (refusal cs) (before ++ joined cs ≡ w.written ++ waits g) (λ failed. IsBeginning w.written (before ++ joined cs)) in
+      let Q : List ℕ → Type 0 = λ before. MatchOption (refusal cs) (before ++ joined cs ≡ w.written ++ waits g) (λ failed. IsProperPrefix w.written (before ++ joined cs)) in
       record {
         written = w.written ++ s.written;
         appended = appends_then (holds f) (holds g) now w.written s.written w.appended s.appended;

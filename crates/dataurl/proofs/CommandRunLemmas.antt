@@ -2,15 +2,15 @@
 use Rattle.std.proofs.Common.{◌≡◌, ℕ, List, [], Option, Result, Ok, Err, String, string_bytes, IsUtf8, refl, sym, ◌∙◌, subst}
 use Rattle.std.specs.Global.{Global}
 use Rattle.std.specs.Io.KnownBytes.{IsAtEnd}
-use Rattle.data_url.specs.Seen.{seen}
-use Rattle.data_url.specs.UrlSeen.{IsUrlOf, mime_of as mime_type_of, url_body}
+use Rattle.data_url.specs.MimeType.{seen}
+use Rattle.data_url.specs.DataUrl.{IsUrlOf, mime_of as mime_type_of, url_body}
 use Rattle.data_url.specs.declared.DataUrl.{DataUrl}
 use Rattle.data_url.specs.declared.mime.Mime.{Mime}
 use Rattle.dataurl.specs.Command.{TakesText, TakesUrl}
-use Rattle.dataurl.specs.Input.{IsReadText, ReadsText, no_text_memory, not_utf8, text_read_failed, whole_text}
+use Rattle.dataurl.specs.Steps.Input.{IsReadText, ReadsText, no_text_memory, not_utf8, text_read_failed, whole_text}
 use Rattle.dataurl.specs.Output.{End, IsBodyOutput, IsFragmentOutput, IsTextOutput, body_of, fragment_of, mime_of, of_no_text, of_text, record_line, record_of_url, without_comma, without_scheme}
-use Rattle.dataurl.specs.Runs.{IsRun, Runs, complete, no_memory, not_read, not_written}
-use Rattle.dataurl.specs.Steps.{IsExactly, IsUrlFor, IsWrittenOf, WritesOf, cut_output, encoded_fragment, no_comma_is, no_output, no_scheme_is, no_url_memory, url_is, whole_output}
+use Rattle.dataurl.specs.Runs.{IsResult, Runs, complete, no_memory, not_read, not_written}
+use Rattle.dataurl.specs.Steps.Parts.{IsExactly, IsUrlFor, IsWrittenOf, WritesOf, cut_output, no_comma_is, no_output, no_scheme_is, no_url_memory, url_fragment, url_is, whole_output}
 use Rattle.dataurl.specs.declared.fault.Fault.{Fault}
 use Rattle.dataurl.specs.declared.command.Command.{Command}
 use Rattle.dataurl.specs.declared.command.Command.TheVariants.{Body, Fragment, MimeType}
@@ -28,7 +28,7 @@ url_for x r url e (no_url_memory h) = absurd (let k = e in cc)
 pub body_writes_of : {x : List ℕ} {url : DataUrl} {held now : Option (List ℕ)} {r : End} → IsUrlFor x (Ok url) → WritesOf (IsBodyOutput (url_body url)) held now r → WritesOf (IsTextOutput x Body) held now r
 body_writes_of {x} {url} h w = let u = url_for x (Ok url) url refl h in writes_map (λ s e k. body_of u.staged_is k) w
 
-pub fragment_writes_of : {x : List ℕ} {url : DataUrl} {held now : Option (List ℕ)} {r : End} → IsUrlFor x (Ok url) → WritesOf (IsFragmentOutput (url_body url) (encoded_fragment url)) held now r → WritesOf (IsTextOutput x Fragment) held now r
+pub fragment_writes_of : {x : List ℕ} {url : DataUrl} {held now : Option (List ℕ)} {r : End} → IsUrlFor x (Ok url) → WritesOf (IsFragmentOutput (url_body url) (url_fragment url)) held now r → WritesOf (IsTextOutput x Fragment) held now r
 fragment_writes_of {x} {url} h w = let u = url_for x (Ok url) url refl h in writes_map (λ s e k. fragment_of u.staged_is k) w
 
 pub mime_writes_of : {x : List ℕ} {url : DataUrl} {held now : Option (List ℕ)} {r : End} (mime : Mime) → IsUrlFor x (Ok url) → mime ≡ mime_type_of url → WritesOf (IsExactly (record_line (seen mime))) held now r → WritesOf (IsTextOutput x MimeType) held now r
@@ -59,7 +59,7 @@ was_read left input r text e (not_utf8 u end) = absurd (let k = e in cc)
 was_read left input r text e no_text_memory = absurd (let k = e in cc)
 was_read left input r text e text_read_failed = absurd (let k = e in cc)
 
-text_run : {c : Command} {left : Option (List ℕ)} {input : List ℕ} → TakesText c → IsUtf8 input → IsAtEnd left → (written : List ℕ) (r : End) → IsWrittenOf (IsTextOutput input c) written r → IsRun input left c written r
+text_run : {c : Command} {left : Option (List ℕ)} {input : List ℕ} → TakesText c → IsUtf8 input → IsAtEnd left → (written : List ℕ) (r : End) → IsWrittenOf (IsTextOutput input c) written r → IsResult input left c written r
 text_run t u end written r (whole_output h) = complete end (of_text u h)
 text_run t u end written r (cut_output h p) = not_written end (of_text u h) p
 text_run t u end written r no_output = no_memory t
@@ -76,11 +76,11 @@ text_runs {c} {unread} {left} {held} {now} {text} {r} x t h e w =
       is_run = text_run t k.utf8 k.end w.written r (subst P (e ∙ k.bytes_are) w.is_written);
     }
 
-unread_run : (c : Command) (left : Option (List ℕ)) (input : List ℕ) (r : Result (String Global) Fault) (fault : Fault) → TakesText c → r ≡ Err fault → IsReadText left input r → IsRun input left c [] (Err fault)
+unread_run : (c : Command) (left : Option (List ℕ)) (input : List ℕ) (r : Result (String Global) Fault) (fault : Fault) → TakesText c → r ≡ Err fault → IsReadText left input r → IsResult input left c [] (Err fault)
 unread_run c left input r fault t e (whole_text b u end) = absurd (let k = e in cc)
-unread_run c left input r fault t e (not_utf8 u end) = let P : Fault → Type 0 = λ f. IsRun input left c [] (Err f) in subst P (cc) (complete end (of_no_text t u))
-unread_run c left input r fault t e no_text_memory = let P : Fault → Type 0 = λ f. IsRun input left c [] (Err f) in subst P (cc) (no_memory t)
-unread_run c left input r fault t e text_read_failed = let P : Fault → Type 0 = λ f. IsRun input left c [] (Err f) in subst P (cc) (not_read t)
+unread_run c left input r fault t e (not_utf8 u end) = let P : Fault → Type 0 = λ f. IsResult input left c [] (Err f) in subst P (cc) (complete end (of_no_text t u))
+unread_run c left input r fault t e no_text_memory = let P : Fault → Type 0 = λ f. IsResult input left c [] (Err f) in subst P (cc) (no_memory t)
+unread_run c left input r fault t e text_read_failed = let P : Fault → Type 0 = λ f. IsResult input left c [] (Err f) in subst P (cc) (not_read t)
 
 pub text_not_read : {c : Command} {unread left : Option (List ℕ)} {fault : Fault} (held : Option (List ℕ)) → TakesText c → ReadsText unread left (Err fault) → Runs c unread left held held (Err fault)
 text_not_read {c} {unread} {left} {fault} held t h =

@@ -6,21 +6,22 @@ use Rattle.std.proofs.lemmas.List.{append-nil}
 use Rattle.data_url.specs.Run.{Call, IsRun, joined, or_error, refusal}
 use Rattle.dataurl.specs.Output.{End}
 use Rattle.dataurl.specs.Steps.Gathering.{Flushes, Gathers, IsFlushed, flushed, not_flushed}
-use Rattle.dataurl.specs.Writing.{IsBeginning, IsWritten, Writes}
+use Rattle.dataurl.specs.Runs.{IsProperPrefix}
+use Rattle.dataurl.specs.Steps.Writing.{IsWritten, Writes}
 use Rattle.dataurl.specs.declared.fault.Fault.TheVariants.{Write}
 use Rattle.dataurl.specs.declared.fault.WriteFailed.{WriteFailed}
 use Rattle.dataurl.proofs.OutputLemmas.{appends_none, appends_then, beginning_behind, beginning_of, written_all, written_some}
 
 -- One piece
 
-by_one : (before piece w k after : List ℕ) (r : Result (Unit {0}) WriteFailed) → w ≡ before → after ≡ [] → IsWritten piece k r → MatchResult r (λ x. before ++ piece ≡ (w ++ k) ++ after) (λ failed. IsBeginning (w ++ k) (before ++ piece))
+by_one : (before piece w k after : List ℕ) (r : Result (Unit {0}) WriteFailed) → w ≡ before → after ≡ [] → IsWritten piece k r → MatchResult r (λ x. before ++ piece ≡ (w ++ k) ++ after) (λ failed. IsProperPrefix (w ++ k) (before ++ piece))
 by_one before piece w k after (Ok tt) e z h =
     ap (λ s. s ++ piece) (sym e)
     ∙ ap (λ s. w ++ s) (sym (written_all piece k (Ok tt) refl h))
     ∙ sym (append-nil (w ++ k))
     ∙ ap (λ s. (w ++ k) ++ s) (sym z)
 by_one before piece w k after (Err failed) e z h =
-    let P : List ℕ → Type 0 = λ s. IsBeginning (w ++ k) (s ++ piece) in
+    let P : List ℕ → Type 0 = λ s. IsProperPrefix (w ++ k) (s ++ piece) in
     subst P e (beginning_behind w k piece (written_some piece k (Err failed) failed refl h))
 
 -- what waited was written, and then the piece as it is; nothing waits now
@@ -56,10 +57,10 @@ flushes_some {bytes} {failed = failed} end w = record { written = w.written; app
 pub record RunGathers (held now : Option (List ℕ)) (before after bytes : List ℕ) (refused : Option WriteFailed) : Type 0 where
   pub written : List ℕ
   pub appended : Appends held now written
-  pub took : MatchOption refused (before ++ bytes ≡ written ++ after) (λ failed. IsBeginning written (before ++ bytes))
+  pub took : MatchOption refused (before ++ bytes ≡ written ++ after) (λ failed. IsProperPrefix written (before ++ bytes))
 
 -- first one piece, and then more
-then_more : (later : Option WriteFailed) (before piece rest mid after w k : List ℕ) → before ++ piece ≡ w ++ mid → MatchOption later (mid ++ rest ≡ k ++ after) (λ failed. IsBeginning k (mid ++ rest)) → MatchOption later (before ++ (piece ++ rest) ≡ (w ++ k) ++ after) (λ failed. IsBeginning (w ++ k) (before ++ (piece ++ rest)))
+then_more : (later : Option WriteFailed) (before piece rest mid after w k : List ℕ) → before ++ piece ≡ w ++ mid → MatchOption later (mid ++ rest ≡ k ++ after) (λ failed. IsProperPrefix k (mid ++ rest)) → MatchOption later (before ++ (piece ++ rest) ≡ (w ++ k) ++ after) (λ failed. IsProperPrefix (w ++ k) (before ++ (piece ++ rest)))
 then_more None before piece rest mid after w k e h =
     sym (append_assoc before piece rest)
     ∙ ap (λ s. s ++ rest) e
@@ -68,7 +69,7 @@ then_more None before piece rest mid after w k e h =
     ∙ sym (append_assoc w k after)
 then_more (Some failed) before piece rest mid after w k e h =
     let same : w ++ (mid ++ rest) ≡ before ++ (piece ++ rest) = sym (append_assoc w mid rest) ∙ ap (λ s. s ++ rest) (sym e) ∙ append_assoc before piece rest in
-    let P : List ℕ → Type 0 = λ s. IsBeginning (w ++ k) s in
+    let P : List ℕ → Type 0 = λ s. IsProperPrefix (w ++ k) s in
     subst P same (beginning_behind w k (mid ++ rest) h)
 
 gather_more : (r : Result (Unit {0}) WriteFailed) (piece rest before mid after : List ℕ) (later : Option WriteFailed) (a b d : Option (List ℕ)) → Gathers piece before mid a b r → (IsErr r → b ≡ d) → RunGathers b d mid after rest later → RunGathers a d before after (piece ++ rest) (or_error r later)

@@ -5,7 +5,7 @@ use Rattle.std.proofs.lemmas.Str.{IsUtf8-string_bytes}
 use Rattle.std.specs.Global.{Global}
 use Rattle.std.specs.Io.KnownBytes.{Consumes, IsAtEnd, Keeps}
 use Rattle.std.specs.Prelude.{IsUtf8, String, string_bytes}
-use Rattle.dataurl.specs.Input.{IsRead, IsReadText, ReadsAll, ReadsText, no_memory, no_text_memory, not_utf8, read_failed, text_read_failed, whole, whole_text}
+use Rattle.dataurl.specs.Steps.Input.{IsRead, IsReadText, ReadsAll, ReadsText, no_memory, no_text_memory, not_utf8, read_failed, text_read_failed, whole, whole_text}
 use Rattle.dataurl.specs.declared.fault.Fault.{Fault}
 use Rattle.dataurl.specs.declared.fault.Fault.TheVariants.{Base64, Memory, Mime, NoComma, NotADataUrl, NotUtf8, Read, Write}
 

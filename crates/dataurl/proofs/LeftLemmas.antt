@@ -9,7 +9,7 @@ use Rattle.std.proofs.lemmas.List.Elements.{filter-append}
 use Rattle.std.proofs.lemmas.Slice.{take-put_mid}
 use Rattle.data_url.specs.Base64.{after_groups, is_symbol, left_padding, left_symbols, left_text}
 use Rattle.data_url.proofs.ByteLemmas.{after_few}
-use Rattle.data_url.proofs.SignLemmas.{after_groups-append, length-after_groups}
+use Rattle.data_url.proofs.PaddingLemmas.{after_groups-append, length-after_groups}
 
 -- The last symbols, found from the end on
 

@@ -3,7 +3,8 @@ use Rattle.std.proofs.Common.{◌≡◌, ℕ, ◌<◌, List, [], ◌++◌, lengt
 use Rattle.std.proofs.lemmas.List.{append-nil}
 use Rattle.std.specs.Io.KnownBytes.{Appends, Keeps}
 use Rattle.data_url.specs.Run.{IsPrefix}
-use Rattle.dataurl.specs.Writing.{IsBeginning, IsWritten, Writes, all, beginning}
+use Rattle.dataurl.specs.Runs.{IsProperPrefix}
+use Rattle.dataurl.specs.Steps.Writing.{IsWritten, Writes, all, beginning}
 use Rattle.dataurl.specs.declared.fault.WriteFailed.{WriteFailed}
 
 pub appends_none : (old : Option (List ℕ)) → Appends old old []
@@ -63,12 +64,12 @@ to_the_end n s t e = ap (λ k. take (k - n) (drop n s)) (ap length e) ∙ take_a
 -- Beginnings
 
 -- what is a beginning, and not all, of a beginning is so of the whole
-pub beginning_of : (xs ys zs : List ℕ) → IsBeginning xs ys → IsPrefix ys zs → IsBeginning xs zs
+pub beginning_of : (xs ys zs : List ℕ) → IsProperPrefix xs ys → IsPrefix ys zs → IsProperPrefix xs zs
 beginning_of xs ys zs b p =
     (b.0 ++ p.0, p.1 ∙ ap (λ s. s ++ p.0) b.1 ∙ append_assoc xs b.0 p.0, omega (arith, b.2, length-append b.0 p.0))
 
 -- behind other bytes it is one too
-pub beginning_behind : (front xs ys : List ℕ) → IsBeginning xs ys → IsBeginning (front ++ xs) (front ++ ys)
+pub beginning_behind : (front xs ys : List ℕ) → IsProperPrefix xs ys → IsProperPrefix (front ++ xs) (front ++ ys)
 beginning_behind front xs ys b = (b.0, ap (λ s. front ++ s) b.1 ∙ sym (append_assoc front xs b.0), b.2)
 
 -- One write
@@ -77,6 +78,6 @@ pub written_all : (bytes written : List ℕ) (r : Result (Unit {0}) WriteFailed)
 written_all bytes written r e all = refl
 written_all bytes written r e (beginning p) = absurd (let k = e in cc)
 
-pub written_some : (bytes written : List ℕ) (r : Result (Unit {0}) WriteFailed) (failed : WriteFailed) → r ≡ Err failed → IsWritten bytes written r → IsBeginning written bytes
+pub written_some : (bytes written : List ℕ) (r : Result (Unit {0}) WriteFailed) (failed : WriteFailed) → r ≡ Err failed → IsWritten bytes written r → IsProperPrefix written bytes
 written_some bytes written r failed e all = absurd (let k = e in cc)
 written_some bytes written r failed e (beginning p) = p

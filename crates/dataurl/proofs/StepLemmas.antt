@@ -1,12 +1,11 @@
 -- What the parts of a run write.
 use Rattle.std.proofs.Common.{◌≡◌, ℕ, List, [], ◌∷◌, ◌++◌, Option, None, Some, option_map, Result, Ok, Err, refl, sym, ap, ◌∙◌, subst, chars}
 use Rattle.data_url.specs.Base64.{Kind}
-use Rattle.data_url.specs.Decodes.{Decodes}
+use Rattle.data_url.specs.DataUrl.{Decodes, IsFragmentOf, fragment_text, url_body, url_tail}
 use Rattle.data_url.specs.Fetch.{Bad, Good, Outcome}
 use Rattle.data_url.specs.Mime.{HasNoRecord}
-use Rattle.data_url.specs.Parsing.{IsParsingError}
+use Rattle.data_url.specs.Errors.{IsParsingError}
 use Rattle.data_url.specs.Url.{dropped, fragment, in_fragment_set, percent_encoded}
-use Rattle.data_url.specs.UrlSeen.{IsFragmentOf, fragment_text, url_body, url_tail}
 use Rattle.data_url.specs.declared.DataUrl.{DataUrl}
 use Rattle.data_url.specs.declared.FragmentIdentifier.{FragmentIdentifier}
 use Rattle.data_url.specs.declared.forgiving_base64.DecodeError.{DecodeError}
@@ -18,9 +17,9 @@ use Rattle.data_url.specs.declared.mime.MimeParsingError.{MimeParsingError}
 use Rattle.data_url.proofs.BodyVecLemmas.{body_answer, body_fault, body_good}
 use Rattle.data_url.proofs.UrlLemmas.{fragment_dropped}
 use Rattle.dataurl.specs.Output.{End, IsFragmentOutput, IsTextOutput, fragment_of_bad, some_fragment, type_of, without_fragment, without_record}
-use Rattle.dataurl.specs.Steps.{IsExactly, IsWrittenOf, WritesOf, cut_output, encoded_fragment, exactly, fragment_line, no_output, whole_output}
+use Rattle.dataurl.specs.Steps.Parts.{IsExactly, IsWrittenOf, WritesOf, cut_output, exactly, fragment_line, no_output, url_fragment, whole_output}
 use Rattle.dataurl.specs.Steps.Gathering.{IsStreamed, Streams, all_streamed, cut_short}
-use Rattle.dataurl.specs.Writing.{IsWritten, Writes, all, beginning}
+use Rattle.dataurl.specs.Steps.Writing.{IsWritten, Writes, all, beginning}
 use Rattle.dataurl.specs.declared.fault.Fault.TheVariants.{Base64, Memory, Mime as no_mime, Write}
 use Rattle.dataurl.specs.declared.fault.WriteFailed.{WriteFailed}
 use Rattle.dataurl.specs.declared.command.Command.TheVariants.{Canonical}
@@ -94,21 +93,21 @@ found_line tail bytes found h =
     subst P same (line_is bytes (option_map dropped (option_map fragment_text found)))
 
 module _ {F E : Type 0} {step : F → List ℕ → Result (Unit {0}) E → F → Type 0} {f g : F} {most : ℕ} {r : Result (Option FragmentIdentifier) (DecodeError E)} where
-  of_found : (url : DataUrl) {x : Option FragmentIdentifier} → Decodes step f most (url_body url) (IsFragmentOf (url_tail url)) r g → r ≡ Ok x → IsFragmentOutput (url_body url) (encoded_fragment url) (encoded_line (option_map dropped (option_map fragment_text x))) (Ok tt)
+  of_found : (url : DataUrl) {x : Option FragmentIdentifier} → Decodes step f most (url_body url) (IsFragmentOf (url_tail url)) r g → r ≡ Ok x → IsFragmentOutput (url_body url) (url_fragment url) (encoded_line (option_map dropped (option_map fragment_text x))) (Ok tt)
   of_found url {x} h e =
       let good = body_good h e in
-      let P : Outcome → Type 0 = λ o. IsFragmentOutput o (encoded_fragment url) (encoded_line (option_map dropped (option_map fragment_text x))) (Ok tt) in
+      let P : Outcome → Type 0 = λ o. IsFragmentOutput o (url_fragment url) (encoded_line (option_map dropped (option_map fragment_text x))) (Ok tt) in
       subst P (sym good.1) (found_line (url_tail url) good.0 x (body_answer h e))
 
-  pub fragment_there : (url : DataUrl) {found : FragmentIdentifier} → Decodes step f most (url_body url) (IsFragmentOf (url_tail url)) r g → r ≡ Ok (Some found) → IsFragmentOutput (url_body url) (encoded_fragment url) (fragment_line found) (Ok tt)
+  pub fragment_there : (url : DataUrl) {found : FragmentIdentifier} → Decodes step f most (url_body url) (IsFragmentOf (url_tail url)) r g → r ≡ Ok (Some found) → IsFragmentOutput (url_body url) (url_fragment url) (fragment_line found) (Ok tt)
   fragment_there url h e = of_found url h e
 
-  pub fragment_missing : (url : DataUrl) → Decodes step f most (url_body url) (IsFragmentOf (url_tail url)) r g → r ≡ Ok None → IsFragmentOutput (url_body url) (encoded_fragment url) [] (Ok tt)
+  pub fragment_missing : (url : DataUrl) → Decodes step f most (url_body url) (IsFragmentOf (url_tail url)) r g → r ≡ Ok None → IsFragmentOutput (url_body url) (url_fragment url) [] (Ok tt)
   fragment_missing url h e = of_found url h e
 
-  pub fragment_refused : (url : DataUrl) {kind kind' : _} → Decodes step f most (url_body url) (IsFragmentOf (url_tail url)) r g → r ≡ Err (InvalidBase64 kind) → kind' ≡ kind → IsFragmentOutput (url_body url) (encoded_fragment url) [] (Err (Base64 kind'))
+  pub fragment_refused : (url : DataUrl) {kind kind' : _} → Decodes step f most (url_body url) (IsFragmentOf (url_tail url)) r g → r ≡ Err (InvalidBase64 kind) → kind' ≡ kind → IsFragmentOutput (url_body url) (url_fragment url) [] (Err (Base64 kind'))
   fragment_refused url {kind} {kind'} h e k =
       let bad = body_fault h e in
-      let P : Outcome → Type 0 = λ o. IsFragmentOutput o (encoded_fragment url) [] (Err (Base64 kind')) in
-      let Q : Kind → Type 0 = λ j. IsFragmentOutput (Bad bad.0 j) (encoded_fragment url) [] (Err (Base64 kind')) in
+      let P : Outcome → Type 0 = λ o. IsFragmentOutput o (url_fragment url) [] (Err (Base64 kind')) in
+      let Q : Kind → Type 0 = λ j. IsFragmentOutput (Bad bad.0 j) (url_fragment url) [] (Err (Base64 kind')) in
       subst P (sym bad.1) (subst Q k fragment_of_bad)

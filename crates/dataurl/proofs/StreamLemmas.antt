@@ -3,15 +3,14 @@ use Rattle.std.proofs.Common.{◌≡◌, ℕ, ◌≤◌, List, [], ◌++◌, len
 use Rattle.std.specs.Io.KnownBytes.{Appends, Consumes, IsAtEnd, Keeps}
 use Rattle.std.proofs.lemmas.List.{append-nil}
 use Rattle.data_url.specs.Base64.{after_groups, decoded, done, first_fault, groups, is_valid, kind_of, left_padding, left_symbols, left_text, values}
-use Rattle.data_url.specs.Decoding.{Feeds, State, start}
+use Rattle.data_url.specs.Decoder.{Feeds, State, start}
 use Rattle.data_url.specs.Laws.{GoesOn}
 use Rattle.data_url.specs.declared.forgiving_base64.DecodeError.{DecodeError}
 use Rattle.data_url.proofs.FeedLemmas.{two_feeds}
 use Rattle.dataurl.specs.Output.{End, IsOutput, of_base64, of_no_base64}
-use Rattle.dataurl.specs.Runs.{IsRun, IsSoundBeforeLastPiece, Runs, base64_not_read, base64_not_written, complete, not_written, stopped}
+use Rattle.dataurl.specs.Runs.{IsProperPrefix, IsResult, IsSoundBeforeLastPiece, Runs, base64_not_read, base64_not_written, complete, not_written, stopped}
 use Rattle.dataurl.specs.Steps.Base64.{FeedsText, IsGroups, IsLast, faulty_groups, last_invalid, last_valid, sound_groups}
 use Rattle.dataurl.specs.Steps.Gathering.{IsStreamed, Streams, all_streamed, cut_short}
-use Rattle.dataurl.specs.Writing.{IsBeginning}
 use Rattle.dataurl.specs.declared.fault.Fault.{Fault}
 use Rattle.dataurl.specs.declared.fault.Fault.TheVariants.{Base64, Read}
 use Rattle.dataurl.specs.declared.fault.WriteFailed.{WriteFailed}
@@ -54,17 +53,17 @@ groups_sound : (v w : List ℕ) (end : End) → end ≡ Ok tt → IsStreamed (Is
 groups_sound v w end e (all_streamed h) = sound_by v w end e h
 groups_sound v w end e (cut_short h b) = absurd (let k = e in cc)
 
-fault_by : (u piece v w : List ℕ) (left : Option (List ℕ)) (fault : Fault) (end : End) → end ≡ Err fault → GoesOn u piece v → IsSoundBeforeLastPiece (u ++ piece) → IsGroups v w end → IsRun (u ++ piece) left base64 (done u ++ w) end
+fault_by : (u piece v w : List ℕ) (left : Option (List ℕ)) (fault : Fault) (end : End) → end ≡ Err fault → GoesOn u piece v → IsSoundBeforeLastPiece (u ++ piece) → IsGroups v w end → IsResult (u ++ piece) left base64 (done u ++ w) end
 fault_by u piece v w left fault end e g sound (sound_groups f) = absurd (let k = e in cc)
 fault_by u piece v w left fault end e g sound (faulty_groups f) =
-    let P : List ℕ → Type 0 = λ s. IsRun (u ++ piece) left base64 s (Err (Base64 (kind_of v))) in
-    let Q : _ → Type 0 = λ kind. IsRun (u ++ piece) left base64 (done (u ++ piece)) (Err (Base64 kind)) in
+    let P : List ℕ → Type 0 = λ s. IsResult (u ++ piece) left base64 s (Err (Base64 (kind_of v))) in
+    let Q : _ → Type 0 = λ kind. IsResult (u ++ piece) left base64 (done (u ++ piece)) (Err (Base64 kind)) in
     subst P g.done_is (subst Q g.kind_is (stopped sound (g.fault_is ∙ f)))
 
-groups_stop : (u piece v w : List ℕ) (left : Option (List ℕ)) (fault : Fault) (end : End) → end ≡ Err fault → GoesOn u piece v → IsSoundBeforeLastPiece (u ++ piece) → IsStreamed (IsGroups v) w end → IsRun (u ++ piece) left base64 (done u ++ w) end
+groups_stop : (u piece v w : List ℕ) (left : Option (List ℕ)) (fault : Fault) (end : End) → end ≡ Err fault → GoesOn u piece v → IsSoundBeforeLastPiece (u ++ piece) → IsStreamed (IsGroups v) w end → IsResult (u ++ piece) left base64 (done u ++ w) end
 groups_stop u piece v w left fault end e g sound (all_streamed h) = fault_by u piece v w left fault end e g sound h
 groups_stop u piece v w left fault end e g sound (cut_short {whole = whole} {end = end'} h b) =
-    let P : List ℕ → Type 0 = λ s. IsBeginning (done u ++ w) s in
+    let P : List ℕ → Type 0 = λ s. IsProperPrefix (done u ++ w) s in
     base64_not_written sound (subst P (ap (λ s. done u ++ s) (groups_bytes v whole end' h) ∙ sym g.done_is) (beginning_behind (done u) w whole b))
 
 -- The last part
@@ -78,7 +77,7 @@ last_whole u v w end g (last_invalid f) =
     let Q : _ → Type 0 = λ kind. IsOutput u base64 (done u) (Err (Base64 kind)) in
     subst P (ap done (sym (append-nil u)) ∙ g.done_is) (subst Q (ap kind_of (sym (append-nil u)) ∙ g.kind_is) (of_no_base64 (ap is_valid (sym (append-nil u)) ∙ g.valid_is ∙ f)))
 
-last_ends : (u v w : List ℕ) (left : Option (List ℕ)) (end : End) → GoesOn u [] v → IsAtEnd left → IsStreamed (IsLast v) w end → IsRun u left base64 (done u ++ w) end
+last_ends : (u v w : List ℕ) (left : Option (List ℕ)) (end : End) → GoesOn u [] v → IsAtEnd left → IsStreamed (IsLast v) w end → IsResult u left base64 (done u ++ w) end
 last_ends u v w left end g over (all_streamed h) = complete over (last_whole u v w end g h)
 last_ends u v w left end g over (cut_short {whole = whole} {end = end'} h b) = not_written over (last_whole u v whole end' g h) (beginning_behind (done u) w whole b)
 

@@ -1,8 +1,8 @@
 -- The words of the commands.
-use Rattle.std.specs.Prelude.{ℕ, List, [], ◌∷◌, Option, None, Some, cond, codes}
+use Rattle.std.specs.Prelude.{[], ◌∷◌, List, None, Option, Some, codes, cond, ℕ}
 use Rattle.std.specs.Str.{bytes_eq}
-use Rattle.dataurl.specs.declared.command.Command.{Command}
 use Rattle.dataurl.specs.declared.command.Command.TheVariants.{Base64, Body, Canonical, Fragment, MimeType}
+use Rattle.dataurl.specs.declared.command.Command.{Command}
 
 -- the command of a word
 abbrev pub command_of_word : List ℕ → Option Command

@@ -1,13 +1,13 @@
 -- What each command writes of an input, and how it ends.
-use Rattle.std.specs.Prelude.{◌≡◌, ℕ, true, false, List, [], ◌∷◌, ◌++◌, Option, None, Some, Result, Ok, Err, IsUtf8, chars, encode_utf8_all}
+use Rattle.std.specs.Prelude.{[], ◌++◌, ◌∷◌, ◌≡◌, Err, IsUtf8, List, None, Ok, Option, Result, Some, chars, encode_utf8_all, false, true, ℕ}
 use Rattle.data_url.specs.Base64.{decoded, done, is_valid, kind_of}
 use Rattle.data_url.specs.Fetch.{Accepted, Bad, Good, NoComma as no_comma, NoScheme, Outcome, staged}
 use Rattle.data_url.specs.Mime.{HasNoRecord, IsRecordOf, Parses, Record, printed}
 use Rattle.dataurl.specs.Command.{TakesText, TakesUrl}
-use Rattle.dataurl.specs.declared.command.Command.{Command}
 use Rattle.dataurl.specs.declared.command.Command.TheVariants.{Base64 as base64, Body, Canonical, Fragment, MimeType}
-use Rattle.dataurl.specs.declared.fault.Fault.{Fault}
+use Rattle.dataurl.specs.declared.command.Command.{Command}
 use Rattle.dataurl.specs.declared.fault.Fault.TheVariants.{Base64, Mime, NoComma, NotADataUrl, NotUtf8}
+use Rattle.dataurl.specs.declared.fault.Fault.{Fault}
 
 -- how a command ends
 abbrev pub End : Type 0

@@ -1,13 +1,16 @@
 -- What running a command does to a reader and a writer.
-use Rattle.std.specs.Prelude.{◌≡◌, ℕ, ◌≤◌, true, List, [], ◌++◌, length, Option, None, is_some, Err}
 use Rattle.std.specs.Io.KnownBytes.{Appends, Consumes, IsAtEnd}
+use Rattle.std.specs.Prelude.{[], ◌++◌, ◌<◌, ◌≡◌, ◌≤◌, Err, List, None, Option, is_some, length, true, ℕ}
 use Rattle.data_url.specs.Base64.{done, first_fault, kind_of}
 use Rattle.dataurl.specs.Command.{TakesText}
 use Rattle.dataurl.specs.Output.{End, IsOutput}
-use Rattle.dataurl.specs.Writing.{IsBeginning}
-use Rattle.dataurl.specs.declared.command.Command.{Command}
 use Rattle.dataurl.specs.declared.command.Command.TheVariants.{Base64 as base64}
+use Rattle.dataurl.specs.declared.command.Command.{Command}
 use Rattle.dataurl.specs.declared.fault.Fault.TheVariants.{Base64, Memory, Read, Write}
+
+-- the second begins with the first, and goes on
+abbrev pub IsProperPrefix : List ℕ → List ℕ → Type 0
+IsProperPrefix xs ys = (more : List ℕ) × (ys ≡ xs ++ more) × (0 < length more)
 
 -- before its last piece, which is one read of at most 4,096 bytes, the base64 has no fault
 pub record IsSoundBeforeLastPiece (x : List ℕ) : Type 0 where
@@ -19,24 +22,24 @@ pub record IsSoundBeforeLastPiece (x : List ℕ) : Type 0 where
 
 -- what was written of the bytes that were read, and the end, where left is what the reader still
 -- has
-pub data IsRun (x : List ℕ) (left : Option (List ℕ)) : Command → List ℕ → End → Type 0 where
+pub data IsResult (x : List ℕ) (left : Option (List ℕ)) : Command → List ℕ → End → Type 0 where
   -- the whole input was read, and the output is the command's
   complete : {c : Command} {written : List ℕ} {end : End} → IsAtEnd left → IsOutput x c written end
-      → IsRun x left c written end
+      → IsResult x left c written end
   -- base64 is read no further than the piece that has the fault
   stopped : IsSoundBeforeLastPiece x → is_some (first_fault x) ≡ true
-      → IsRun x left base64 (done x) (Err (Base64 (kind_of x)))
+      → IsResult x left base64 (done x) (Err (Base64 (kind_of x)))
   -- the writer took a beginning of the output of the whole input, and not all
   not_written : {c : Command} {written whole : List ℕ} {end : End} → IsAtEnd left
-      → IsOutput x c whole end → IsBeginning written whole → IsRun x left c written (Err Write)
+      → IsOutput x c whole end → IsProperPrefix written whole → IsResult x left c written (Err Write)
   -- it took a beginning of what is decoded of base64 as far as it was read, and not all
-  base64_not_written : {written : List ℕ} → IsSoundBeforeLastPiece x → IsBeginning written (done x)
-      → IsRun x left base64 written (Err Write)
+  base64_not_written : {written : List ℕ} → IsSoundBeforeLastPiece x → IsProperPrefix written (done x)
+      → IsResult x left base64 written (Err Write)
   -- the reader failed: of base64 the complete groups that were read are written, decoded
-  not_read : {c : Command} → TakesText c → IsRun x left c [] (Err Read)
-  base64_not_read : first_fault x ≡ None → IsRun x left base64 (done x) (Err Read)
+  not_read : {c : Command} → TakesText c → IsResult x left c [] (Err Read)
+  base64_not_read : first_fault x ≡ None → IsResult x left base64 (done x) (Err Read)
   -- memory was refused, and nothing was written
-  no_memory : {c : Command} → TakesText c → IsRun x left c [] (Err Memory)
+  no_memory : {c : Command} → TakesText c → IsResult x left c [] (Err Memory)
 
 -- a command read an input and wrote bytes, as far as those of the reader and the writer are known
 pub record Runs (c : Command) (unread left : Option (List ℕ)) (held now : Option (List ℕ)) (r : End)
@@ -45,4 +48,4 @@ pub record Runs (c : Command) (unread left : Option (List ℕ)) (held now : Opti
   pub written : List ℕ
   pub consumed : Consumes unread left input
   pub appended : Appends held now written
-  pub is_run : IsRun input left c written r
+  pub is_run : IsResult input left c written r

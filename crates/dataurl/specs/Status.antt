@@ -1,7 +1,7 @@
 -- The exit status of each fault.
 use Rattle.std.specs.Prelude.{ℕ}
-use Rattle.dataurl.specs.declared.fault.Fault.{Fault}
 use Rattle.dataurl.specs.declared.fault.Fault.TheVariants.{Base64, Memory, Mime, NoComma, NotADataUrl, NotUtf8, Read, Write}
+use Rattle.dataurl.specs.declared.fault.Fault.{Fault}
 
 -- 1 for what is wrong with the input, 3 for what is wrong with the machine
 abbrev pub status_of : Fault → ℕ

@@ -1,54 +1,6 @@
--- What the parts of a run do.
-use Rattle.std.specs.Prelude.{◌≡◌, ℕ, List, [], ◌∷◌, ◌++◌, Option, option_map, Result, Ok, Err}
-use Rattle.std.specs.Io.KnownBytes.{Appends}
-use Rattle.data_url.specs.Fetch.{NoComma as no_comma, NoScheme, staged}
-use Rattle.data_url.specs.Url.{dropped, fragment, in_fragment_set, percent_encoded}
-use Rattle.data_url.specs.UrlSeen.{IsAcceptable, IsUrlOf, fragment_text, url_tail}
-use Rattle.data_url.specs.declared.DataUrl.{DataUrl}
-use Rattle.data_url.specs.declared.FragmentIdentifier.{FragmentIdentifier}
-use Rattle.dataurl.specs.Output.{End}
-use Rattle.dataurl.specs.Writing.{IsBeginning}
-use Rattle.dataurl.specs.declared.fault.Fault.{Fault}
-use Rattle.dataurl.specs.declared.fault.Fault.TheVariants.{Memory, NoComma, NotADataUrl, Write}
+-- What the private steps do: words that no contract of a public call cites.
 pub mod Base64
 pub mod Gathering
-
--- any answer at all
-abbrev pub AnyAnswer : {A : Type 0} → A → Type 0
-AnyAnswer x = Unit {0}
-
--- the URL of a text, or why there is none
-pub data IsUrlFor (x : List ℕ) : Result DataUrl Fault → Type 0 where
-  url_is : {url : DataUrl} → IsUrlOf x url → IsUrlFor x (Ok url)
-  no_scheme_is : staged x ≡ NoScheme → IsUrlFor x (Err NotADataUrl)
-  no_comma_is : staged x ≡ no_comma → IsUrlFor x (Err NoComma)
-  no_url_memory : IsAcceptable (staged x) → IsUrlFor x (Err Memory)
-
--- what was written of an output: all of it, a beginning that is not all and that the writer took,
--- or nothing for want of memory
-pub data IsWrittenOf (IsOutput : List ℕ → End → Type 0) : List ℕ → End → Type 0 where
-  whole_output : {written : List ℕ} {end : End} → IsOutput written end
-      → IsWrittenOf IsOutput written end
-  cut_output : {written whole : List ℕ} {end : End} → IsOutput whole end → IsBeginning written whole
-      → IsWrittenOf IsOutput written (Err Write)
-  no_output : IsWrittenOf IsOutput [] (Err Memory)
-
--- a writer took of an output
-pub record WritesOf (IsOutput : List ℕ → End → Type 0) (held now : Option (List ℕ)) (r : End)
-    : Type 0 where
-  pub written : List ℕ
-  pub appended : Appends held now written
-  pub is_written : IsWrittenOf IsOutput written r
-
--- the bytes themselves, and a good end
-pub data IsExactly (bytes : List ℕ) : List ℕ → End → Type 0 where
-  exactly : IsExactly bytes bytes (Ok tt)
-
--- the encoded fragment of a URL, where it has one
-abbrev pub encoded_fragment : DataUrl → Option (List ℕ)
-encoded_fragment url = option_map (percent_encoded in_fragment_set)
-    (fragment (dropped (url_tail url)))
-
--- a fragment, encoded, and a line feed
-abbrev pub fragment_line : FragmentIdentifier → List ℕ
-fragment_line found = percent_encoded in_fragment_set (dropped (fragment_text found)) ++ 10 ∷ []
+pub mod Input
+pub mod Parts
+pub mod Writing

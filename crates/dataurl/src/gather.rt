@@ -21,7 +21,7 @@ pub(crate) struct Gathered {
 impl Gathered {
     ghost use Rattle.std.specs.Prelude.{◌≡◌, ◌++◌, ◌+◌, [], length};
     ghost use Rattle.dataurl.specs.Steps.Gathering.{Flushes, Gathers, Settles, waiting};
-    ghost use Rattle.dataurl.specs.Writing.{Writes};
+    ghost use Rattle.dataurl.specs.Steps.Writing.{Writes};
 
     /// Nothing is gathered yet.
     pub(crate) fn new() -> Gathered

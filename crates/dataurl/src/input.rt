@@ -1,6 +1,6 @@
 //! Reads a whole input.
 
-ghost use Rattle.dataurl.specs.Input.{ReadsAll, ReadsText};
+ghost use Rattle.dataurl.specs.Steps.Input.{ReadsAll, ReadsText};
 
 use crate::fault::Fault;
 use std::alloc::Global;

@@ -1,6 +1,6 @@
 //! Writes bytes to the end.
 
-ghost use Rattle.dataurl.specs.Writing.{Writes};
+ghost use Rattle.dataurl.specs.Steps.Writing.{Writes};
 
 use crate::fault::WriteFailed;
 use std::io::Write;

@@ -2,13 +2,12 @@
 
 ghost use Rattle.std.specs.Prelude.{◌+◌, length};
 ghost use Rattle.std.specs.Fn.{CalledAt};
-ghost use Rattle.data_url.specs.Decodes.{Decodes};
-ghost use Rattle.data_url.specs.Seen.{seen};
-ghost use Rattle.data_url.specs.UrlSeen.{url_body, url_tail};
+ghost use Rattle.data_url.specs.DataUrl.{Decodes, url_body, url_tail};
+ghost use Rattle.data_url.specs.MimeType.{seen};
 ghost use Rattle.dataurl.specs.Output.{IsBodyOutput, IsFragmentOutput, IsTextOutput, record_line};
 ghost use Rattle.dataurl.specs.Runs.{Runs};
 ghost use Rattle.dataurl.specs.Steps.Gathering.{Streams};
-ghost use Rattle.dataurl.specs.Steps.{AnyAnswer, IsExactly, IsUrlFor, WritesOf, encoded_fragment, fragment_line};
+ghost use Rattle.dataurl.specs.Steps.Parts.{AnyAnswer, IsExactly, IsUrlFor, WritesOf, fragment_line, url_fragment};
 
 use crate::command::Command;
 use crate::fault::{Fault, WriteFailed};
@@ -92,7 +91,7 @@ fn write_record<W: Write>(alloc: Global, mime: &Mime, writer: &mut W) -> Result<
 
 /// Writes the encoded fragment of a URL and a line feed, or nothing where there is none, once all of its body was decoded.
 fn write_fragment_of<W: Write>(alloc: Global, url: &DataUrl, writer: &mut W) -> Result<(), Fault>
-    ensures { WritesOf (IsFragmentOutput (url_body url.now) (encoded_fragment url.now))
+    ensures { WritesOf (IsFragmentOutput (url_body url.now) (url_fragment url.now))
         (W.contents writer.old) (W.contents writer.new) result }
 {
     match url.decode(|_piece: &[u8]| -> Result<(), Infallible> { Ok(()) }) {

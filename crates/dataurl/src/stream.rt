@@ -1,9 +1,9 @@
-//! Decodes base64 as it is read.
+//! DecodesText base64 as it is read.
 
 ghost use Rattle.std.specs.Prelude.{◌≡◌, ◌++◌, ◌==◌, ◌≤◌, List, ℕ, filter, length, take};
 ghost use Rattle.std.specs.Fn.{CalledAt};
 ghost use Rattle.data_url.specs.Base64.{is_symbol, left_padding, left_symbols, left_text};
-ghost use Rattle.data_url.specs.Decoding.{Decodes};
+ghost use Rattle.data_url.specs.Steps.Whole.{DecodesText};
 ghost use Rattle.dataurl.specs.Runs.{Runs};
 ghost use Rattle.dataurl.specs.Steps.Base64.{FeedsText, IsGroups, IsLast};
 ghost use Rattle.dataurl.specs.Steps.Gathering.{Streams};
@@ -122,12 +122,12 @@ where
     decoder.into_closure()
 }
 
-/// Decodes a whole text, and hands the closure back.
+/// DecodesText a whole text, and hands the closure back.
 fn decode_text<F>(text: &[u8], answer: &mut Result<(), DecodeError<WriteFailed>>, write: F) -> F
 where
     F: FnMut(&[u8]) -> Result<(), WriteFailed>,
     requires { F.IsAlwaysCallable write }
-    ensures { Decodes (CalledAt F.FnMut) write text.now answer.new result }
+    ensures { DecodesText (CalledAt F.FnMut) write text.now answer.new result }
 {
     let mut decoder = Decoder::new(write);
     match decoder.feed(text) {

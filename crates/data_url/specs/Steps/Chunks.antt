@@ -1,8 +1,8 @@
 -- The bytes that a walk hands to the one who decodes a body.
-use Rattle.std.specs.Prelude.{◌≡◌, ℕ, ◌+◌, ◌<◌, ◌≤◌, true, List, [], ◌++◌, length, take}
+use Rattle.std.specs.Prelude.{[], ◌++◌, ◌+◌, ◌<◌, ◌≡◌, ◌≤◌, List, length, take, true, ℕ}
 use Rattle.data_url.specs.Pieces.{Walk}
-use Rattle.data_url.specs.declared.escapes.Chunk.{Chunk}
 use Rattle.data_url.specs.declared.escapes.Chunk.TheVariants.{End, Gathered, Slice}
+use Rattle.data_url.specs.declared.escapes.Chunk.{Chunk}
 
 -- the bytes of a chunk, where so many may stand in a room
 abbrev pub chunk_bytes : List ℕ → Chunk → List ℕ

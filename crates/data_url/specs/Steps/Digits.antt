@@ -1,10 +1,10 @@
 -- Hexadecimal digits behind a '%', and the looks that finding them takes.
-use Rattle.std.specs.Prelude.{◌≡◌, ℕ, ◌+◌, ◌-◌, ◌<◌, ◌≤◌, cond, List, drop, length, None, Some}
 use Rattle.std.specs.Char.{digit_value}
-use Rattle.data_url.specs.Url.{is_tab_or_newline}
+use Rattle.std.specs.Prelude.{◌+◌, ◌-◌, ◌<◌, ◌≡◌, ◌≤◌, List, None, Some, cond, drop, length, ℕ}
 use Rattle.data_url.specs.Percent.{is_hex}
 use Rattle.data_url.specs.Pieces.{digit, escape}
 use Rattle.data_url.specs.Steps.Looks.{before_percent}
+use Rattle.data_url.specs.Url.{is_tab_or_newline}
 
 -- the value of a hexadecimal digit, 16 for a tab or newline, and 32 for any other byte
 abbrev pub digit_code : ℕ → ℕ

@@ -1,5 +1,5 @@
 -- What contracts see of a `Held`.
-use Rattle.std.specs.Prelude.{ℕ, ◌*◌, List, take}
+use Rattle.std.specs.Prelude.{◌*◌, List, take, ℕ}
 use Rattle.data_url.specs.declared.forgiving_base64.held.Held.{Held}
 
 -- the bytes that wait to be handed out

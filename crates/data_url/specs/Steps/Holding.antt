@@ -1,9 +1,9 @@
 -- What a decoder makes of some text while bytes wait to be handed out together.
-use Rattle.std.specs.Prelude.{◌≡◌, ℕ, ◌+◌, ◌*◌, ◌≤◌, false, true, List, [], ◌∷◌, ◌++◌, Option, None, Some, is_some, Result, Ok, length, take}
+use Rattle.std.specs.Prelude.{[], ◌*◌, ◌++◌, ◌+◌, ◌∷◌, ◌≡◌, ◌≤◌, List, None, Ok, Option, Result, Some, false, is_some, length, take, true, ℕ}
 use Rattle.data_url.specs.Base64.{Kind, done, first_fault, kind_of}
-use Rattle.data_url.specs.Decoding.{IsLeft, State, left_over}
+use Rattle.data_url.specs.Decoder.{IsLeft, State, left_over}
 use Rattle.data_url.specs.Run.{Call, IsRun, joined, refusal}
-use Rattle.data_url.specs.Steps.{Writes}
+use Rattle.data_url.specs.Steps.Calls.{CallsOnce}
 use Rattle.data_url.specs.declared.forgiving_base64.DecodeError.{DecodeError}
 
 -- d took the text with no call: these are the bytes of the groups that it completed, and d' has
@@ -43,7 +43,7 @@ pub record Gains {F : Type 0} (d : State F) (held text : List ℕ) (taken : ℕ)
 abbrev pub Flushes : {F E : Type 0} → (F → List ℕ → Result (Unit {0}) E → F → Type 0) → State F
     → List ℕ → Result (Unit {0}) (DecodeError E) → State F → Type 0
 Flushes step d [] r d' = (r ≡ Ok tt) × (d' ≡ d)
-Flushes step d (b ∷ bs) r d' = Writes step d (b ∷ bs) r d'
+Flushes step d (b ∷ bs) r d' = CallsOnce step d (b ∷ bs) r d'
 
 -- d took the text, ran its closure on all pieces of 48 bytes but what is held, which was accepted,
 -- and is d' now

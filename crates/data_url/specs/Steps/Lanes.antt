@@ -1,5 +1,5 @@
 -- What a vector makes of one byte, and of a row of values.
-use Rattle.std.specs.Prelude.{ℕ, ◌+◌, ◌/◌, ◌%◌, ◌==◌, cond, bit_and, slice_index, List, [], ◌∷◌}
+use Rattle.std.specs.Prelude.{[], ◌%◌, ◌+◌, ◌/◌, ◌==◌, ◌∷◌, List, bit_and, cond, slice_index, ℕ}
 use Rattle.data_url.specs.Base64.{group_number}
 use Rattle.data_url.specs.declared.forgiving_base64.lanes.TheConstants.{HIGH_HALVES, LOW_HALVES, OFFSETS}
 

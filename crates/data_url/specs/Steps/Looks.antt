@@ -1,9 +1,9 @@
 -- How many bytes were looked at.
-use Rattle.std.specs.Prelude.{ℕ, ◌+◌, ◌*◌, ◌==◌, not, List, drop, Option, None, Some}
 use Rattle.std.specs.List.{prefix_len}
+use Rattle.std.specs.Prelude.{◌*◌, ◌+◌, ◌==◌, List, None, Option, Some, drop, not, ℕ}
 use Rattle.std.specs.declared.snapshot.Snapshot.{Snapshot}
-use Rattle.data_url.specs.declared.escapes.looks.Mark.{Mark, Mark-F}
 use Rattle.data_url.specs.declared.escapes.looks.Mark.TheFolds.{fold-Mark}
+use Rattle.data_url.specs.declared.escapes.looks.Mark.{Mark, Mark-F}
 
 -- the bytes of the looks before one
 abbrev pub bytes_before : Option (Snapshot ℕ) → ℕ

@@ -1,5 +1,5 @@
 -- Where the body of a tail ends: a tail is what stands behind the comma of a text as it was given.
-use Rattle.std.specs.Prelude.{◌≡◌, ℕ, ◌≤◌, List, [], ◌∷◌, length, drop, Option, None, Some}
+use Rattle.std.specs.Prelude.{[], ◌∷◌, ◌≡◌, ◌≤◌, List, None, Option, Some, drop, length, ℕ}
 use Rattle.data_url.specs.Url.{behind}
 
 -- nothing, or a '#'

@@ -1,19 +1,18 @@
 -- A walk over the text of a body: what its steps find and what they keep.
-use Rattle.std.specs.Prelude.{◌≡◌, ℕ, ◌+◌, ◌-◌, ◌*◌, ◌<◌, ◌≤◌, Bool, true, false, List, ◌++◌, length, take, drop, Option, None, Some, IfNone, IfSome, MatchBool, slice_index, slice_range}
-use Rattle.std.specs.Prelude.{map}
+use Rattle.std.specs.Prelude.{◌*◌, ◌++◌, ◌+◌, ◌-◌, ◌<◌, ◌≡◌, ◌≤◌, Bool, IfNone, IfSome, List, MatchBool, None, Option, Some, drop, false, length, map, slice_index, slice_range, take, true, ℕ}
 use Rattle.std.specs.Simd.Lanes.{mask_l}
-use Rattle.data_url.specs.Url.{behind, is_tab_or_newline}
 use Rattle.data_url.specs.Fetch.{plain_body}
 use Rattle.data_url.specs.Pieces.{IsPiece, Walk, bytes_of_next, escape}
 use Rattle.data_url.specs.Steps.Looks.{paid}
 use Rattle.data_url.specs.Steps.Tail.{BeginsFragment}
 use Rattle.data_url.specs.Steps.Window.{is_marked}
+use Rattle.data_url.specs.Url.{behind, is_tab_or_newline}
 use Rattle.data_url.specs.declared.escapes.Piece.{Piece}
-use Rattle.data_url.specs.declared.escapes.cursor.Ahead.{Ahead}
 use Rattle.data_url.specs.declared.escapes.cursor.Ahead.TheVariants.{BehindEscape, End, Escape, Unknown}
+use Rattle.data_url.specs.declared.escapes.cursor.Ahead.{Ahead}
 use Rattle.data_url.specs.declared.escapes.cursor.Cursor.{Cursor}
-use Rattle.data_url.specs.declared.escapes.cursor.Stop.{Stop}
 use Rattle.data_url.specs.declared.escapes.cursor.Stop.TheVariants as stop
+use Rattle.data_url.specs.declared.escapes.cursor.Stop.{Stop}
 
 -- Texts
 

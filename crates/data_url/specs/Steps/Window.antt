@@ -1,5 +1,5 @@
 -- The bytes at which a body is not simply its text.
-use Rattle.std.specs.Prelude.{ℕ, ◌==◌, ◌||◌, Bool}
+use Rattle.std.specs.Prelude.{◌==◌, ◌||◌, Bool, ℕ}
 use Rattle.data_url.specs.Url.{is_tab_or_newline}
 
 -- a tab, a newline, '#' or '%'

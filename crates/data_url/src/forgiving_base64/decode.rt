@@ -38,10 +38,9 @@ where
     F: FnMut(&[u8]) -> Result<(), E>,
 {
     ghost use Rattle.std.specs.Fn.{CalledAt};
-    ghost use Rattle.data_url.specs.Decoding.{Feeds, Finishes, start};
-    ghost use Rattle.data_url.specs.DecoderState.{state_of};
-    ghost use Rattle.data_url.specs.Refusal.{kind_of_details};
-    ghost use Rattle.data_url.specs.Steps.{Writes};
+    ghost use Rattle.data_url.specs.Decoder.{Feeds, Finishes, start, state_of};
+    ghost use Rattle.data_url.specs.InvalidBase64.{kind_of_details};
+    ghost use Rattle.data_url.specs.Steps.Calls.{CallsOnce};
     ghost use Rattle.data_url.specs.Steps.HeldState.{held_bytes};
     ghost use Rattle.data_url.specs.Steps.Holding.{Adds, Flushes, Gains, Refuses, bytes_in};
 
@@ -87,7 +86,7 @@ where
         requires callable { F.IsAlwaysCallable (state_of self.old).closure }
         requires going { (state_of self.old).failed ≡ false }
         ensures callable { F.IsAlwaysCallable (state_of self.new).closure }
-        ensures wrote { Writes (CalledAt F.FnMut) (state_of self.old) piece.now result
+        ensures wrote { CallsOnce (CalledAt F.FnMut) (state_of self.old) piece.now result
             (state_of self.new) }
     {
         match (self.write_bytes)(piece) {

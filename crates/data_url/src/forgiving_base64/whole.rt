@@ -3,8 +3,8 @@
 ghost use Rattle.std.specs.Prelude.{◌≡◌, ◌*◌, ◌+◌, ◌/◌, ◌%◌, IfErr, IfOk, IsOk, IsTrue};
 ghost use Rattle.std.specs.Fn.{CalledAt};
 ghost use Rattle.data_url.specs.Base64.{decoded, is_valid};
-ghost use Rattle.data_url.specs.Decoding.{Decodes};
-ghost use Rattle.data_url.specs.VecError.{IsErrorOf};
+ghost use Rattle.data_url.specs.Steps.Whole.{DecodesText};
+ghost use Rattle.data_url.specs.Errors.{IsErrorOf};
 
 use super::{DecodeError, DecodeToVecError, Decoder};
 use std::alloc::{AllocError, Global};
@@ -14,7 +14,7 @@ fn decode_whole<F, E>(input: &[u8], write_bytes: F) -> (Result<(), DecodeError<E
 where
     F: FnMut(&[u8]) -> Result<(), E>,
     requires { F.IsAlwaysCallable write_bytes }
-    ensures { Decodes (CalledAt F.FnMut) write_bytes input.now result.0 result.1 }
+    ensures { DecodesText (CalledAt F.FnMut) write_bytes input.now result.0 result.1 }
 {
     let mut decoder = Decoder::new(write_bytes);
     match decoder.feed(input) {

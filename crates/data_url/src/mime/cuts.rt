@@ -4,7 +4,7 @@ ghost use Rattle.std.specs.Prelude.{◌≡◌, ◌++◌, not};
 ghost use Rattle.std.specs.Str.{IsUtf8, chars};
 ghost use Rattle.data_url.specs.CodePoints.{ends_name, is_http_whitespace, is_semicolon};
 ghost use Rattle.data_url.specs.Mime.{BeginsParameters, DoesNotBegin, IsTrimmedEnd, Without};
-ghost use Rattle.data_url.specs.Parsing.{IsTrimmedFront};
+ghost use Rattle.data_url.specs.Steps.Parsing.{IsTrimmedFront};
 
 /// HTTP whitespace (Fetch Standard, section 2.2).
 const HTTP_WHITESPACE: [char; 4] = ['\t', '\n', '\r', ' '];

@@ -7,8 +7,8 @@ ghost use Rattle.std.specs.Option.{option_map};
 ghost use Rattle.std.specs.Str.{chars};
 ghost use Rattle.data_url.specs.CodePoints.{is_quotable};
 ghost use Rattle.data_url.specs.Mime.{QuotedOpen, is_token_text};
-ghost use Rattle.data_url.specs.Parsing.{IsValue, is_quotable_byte, quotable_value};
-ghost use Rattle.data_url.specs.Seen.{code_points};
+ghost use Rattle.data_url.specs.Steps.Parsing.{IsValue, is_quotable_byte, quotable_value};
+ghost use Rattle.data_url.specs.MimeType.{code_points};
 
 use std::alloc::{AllocError, Global};
 
@@ -39,7 +39,7 @@ impl<'a> Value<'a> {
 
 // Whether a byte stands in the UTF-8 of quoted-string code points: U+0080 to U+00FF begin with 0xC2 or 0xC3, and every
 // later code point begins with a greater byte.
-#[tactic(auto, unfolding(crate::specs::Parsing::is_quotable_byte))]
+#[tactic(auto, unfolding(crate::specs::Steps::Parsing::is_quotable_byte))]
 fn is_quotable_byte(byte: u8) -> bool
     ensures { result ≡ is_quotable_byte byte }
 {

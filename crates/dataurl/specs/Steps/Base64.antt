@@ -1,7 +1,7 @@
 -- What decoding a part of a text of base64 does.
-use Rattle.std.specs.Prelude.{◌≡◌, ℕ, true, false, List, None, is_some, Result, Ok, Err}
+use Rattle.std.specs.Prelude.{◌≡◌, Err, List, None, Ok, Result, false, is_some, true, ℕ}
 use Rattle.data_url.specs.Base64.{decoded, done, first_fault, is_valid, kind_of}
-use Rattle.data_url.specs.Decoding.{Feeds, State, start}
+use Rattle.data_url.specs.Decoder.{Feeds, State, start}
 use Rattle.data_url.specs.declared.forgiving_base64.DecodeError.{DecodeError}
 use Rattle.dataurl.specs.Output.{End}
 use Rattle.dataurl.specs.declared.fault.Fault.TheVariants.{Base64}

@@ -1,10 +1,10 @@
 -- What gathering the pieces of an output does: short ones wait until they are written together.
-use Rattle.std.specs.Prelude.{◌≡◌, ℕ, List, [], ◌++◌, take, Option, Result, Ok, Err, MatchResult}
 use Rattle.std.specs.Io.KnownBytes.{Appends}
-use Rattle.data_url.specs.declared.forgiving_base64.DecodeError.{DecodeError}
+use Rattle.std.specs.Prelude.{[], ◌++◌, ◌≡◌, Err, List, MatchResult, Ok, Option, Result, take, ℕ}
 use Rattle.data_url.specs.declared.forgiving_base64.DecodeError.TheVariants.{InvalidBase64, WriteError}
+use Rattle.data_url.specs.declared.forgiving_base64.DecodeError.{DecodeError}
 use Rattle.dataurl.specs.Output.{End}
-use Rattle.dataurl.specs.Writing.{IsBeginning}
+use Rattle.dataurl.specs.Runs.{IsProperPrefix}
 use Rattle.dataurl.specs.declared.fault.Fault.TheVariants.{Base64, Write}
 use Rattle.dataurl.specs.declared.fault.WriteFailed.{WriteFailed}
 use Rattle.dataurl.specs.declared.gather.Gathered.{Gathered}
@@ -20,13 +20,13 @@ pub record Gathers (piece before after : List ℕ) (old new : Option (List ℕ))
   pub written : List ℕ
   pub appended : Appends old new written
   pub took : MatchResult r (λ x. before ++ piece ≡ written ++ after)
-      (λ failed. IsBeginning written (before ++ piece))
+      (λ failed. IsProperPrefix written (before ++ piece))
 
 -- of an output all was written, or a beginning that is not all and that the writer took
 pub data IsStreamed (IsOutput : List ℕ → End → Type 0) : List ℕ → End → Type 0 where
   all_streamed : {written : List ℕ} {end : End} → IsOutput written end
       → IsStreamed IsOutput written end
-  cut_short : {written whole : List ℕ} {end : End} → IsOutput whole end → IsBeginning written whole
+  cut_short : {written whole : List ℕ} {end : End} → IsOutput whole end → IsProperPrefix written whole
       → IsStreamed IsOutput written (Err Write)
 
 -- a writer took of an output
@@ -39,7 +39,7 @@ pub record Streams (IsOutput : List ℕ → End → Type 0) (old new : Option (L
 -- what waited was written, and then comes the end; or a write failed before that
 pub data IsFlushed (bytes : List ℕ) (end : End) : List ℕ → End → Type 0 where
   flushed : IsFlushed bytes end bytes end
-  not_flushed : {written : List ℕ} → IsBeginning written bytes
+  not_flushed : {written : List ℕ} → IsProperPrefix written bytes
       → IsFlushed bytes end written (Err Write)
 
 pub record Flushes (bytes : List ℕ) (end : End) (old new : Option (List ℕ)) (r : End) : Type 0 where

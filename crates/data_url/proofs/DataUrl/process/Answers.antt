@@ -1,5 +1,5 @@
 use Rattle.std.proofs.Common.{subst, arith}
-use Rattle.data_url.specs.Front.{HasNoScheme, IsSchemeAndRest}
+use Rattle.data_url.specs.Steps.Front.{HasNoScheme, IsSchemeAndRest}
 use Rattle.data_url.proofs.ProcessLemmas.{bytes_trimmed, is_acceptable, is_url_of, stages_no_comma, stages_no_scheme}
 use Rattle.data_url.proofs.DataUrl.process.Goals as goal
 

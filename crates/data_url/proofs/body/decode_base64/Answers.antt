@@ -1,7 +1,6 @@
 use Rattle.std.proofs.Common.{◌∙◌, List, ℕ, Bor, refl, ap, subst, arith}
 use Rattle.std.specs.Fn.{CalledAt}
-use Rattle.data_url.specs.Decoding.{start}
-use Rattle.data_url.specs.DecoderState.{state_of}
+use Rattle.data_url.specs.Decoder.{start, state_of}
 use Rattle.data_url.specs.Steps.Tail.{IsBodyEnd}
 use Rattle.data_url.proofs.ByteLemmas.{feeds_none}
 use Rattle.data_url.proofs.Base64BodyLemmas.{fed_ended, fed_more, fed_none, fed_refused}

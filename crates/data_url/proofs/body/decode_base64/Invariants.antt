@@ -1,8 +1,7 @@
 -- The decoder may be fed, and took the body as far as the walk.
 use Rattle.std.proofs.Common.{◌≡◌, ◌-◌, length, false}
 use Rattle.std.specs.Fn.{CalledAt, always_mut}
-use Rattle.data_url.specs.DecoderState.{state_of}
-use Rattle.data_url.specs.Decoding.{start}
+use Rattle.data_url.specs.Decoder.{start, state_of}
 use Rattle.data_url.proofs.Base64BodyLemmas.{Fed}
 use Rattle.data_url.proofs.body.decode_base64.Given as goal
 

@@ -9,11 +9,11 @@ use Rattle.data_url.proofs.front.after_scheme.Goals as goal
 pub loop-place-init : goal.loop-place-init
 loop-place-init c = spells_nothing
 
-pub loop-place-preserved-then-is_passed_over : goal.loop-place-preserved-then-is_passed_over
-loop-place-preserved-then-is_passed_over c =
+pub loop-place-preserved-then-is_tab_or_newline : goal.loop-place-preserved-then-is_tab_or_newline
+loop-place-preserved-then-is_tab_or_newline c =
     let text = c.as_bytes-byte-items.ensures.value in
     let within : c.loop-place.place < length c.args.text.now = subst (λ s. c.loop-place.place < length s) text c.loop-place-test.true in
-    let byte : is_tab_or_newline (get_or c.args.text.now c.loop-place.place 0) ≡ true = ap (λ s. is_tab_or_newline (get_or s c.loop-place.place 0)) (sym text) ∙ sym c.is_passed_over.ensures ∙ c.if-is_passed_over.true in
+    let byte : is_tab_or_newline (get_or c.args.text.now c.loop-place.place 0) ≡ true = ap (λ s. is_tab_or_newline (get_or s c.loop-place.place 0)) (sym text) ∙ sym c.is_tab_or_newline.ensures ∙ c.if-is_tab_or_newline.true in
     subst (λ s. Spells s c.loop-place.matched) (sym (take_more c.args.text.now c.loop-place.place 0 within)) (spells_passed (take c.loop-place.place c.args.text.now) c.loop-place.matched (get_or c.args.text.now c.loop-place.place 0) c.loop-place.invariant byte)
 
 -- what is known of a byte that is not passed over
@@ -26,7 +26,7 @@ byte_of c =
     let text = c.as_bytes-byte-items.ensures.value in
     record {
       within = subst (λ s. c.loop-place.place < length s) text c.loop-place-test.true;
-      stays = ap (λ s. is_tab_or_newline (get_or s c.loop-place.place 0)) (sym text) ∙ sym c.is_passed_over.ensures ∙ c.if-is_passed_over.false;
+      stays = ap (λ s. is_tab_or_newline (get_or s c.loop-place.place 0)) (sym text) ∙ sym c.is_tab_or_newline.ensures ∙ c.if-is_tab_or_newline.false;
     }
 
 pub returns-then-to_ascii_lowercase-matched-clause-none : goal.returns-then-to_ascii_lowercase-matched-clause-none
@@ -50,12 +50,12 @@ spelled text items place n low passed e l p f q h = record {
 
 pub range_from-requires : goal.range_from-requires
 range_from-requires c =
-    let b = spelled c.args.text.now c.as_bytes-byte-items.result.now c.loop-place.place c.loop-place.matched c.to_ascii_lowercase.result c.is_passed_over.result c.as_bytes-byte-items.ensures.value c.loop-place-test.true c.is_passed_over.ensures c.if-is_passed_over.false c.to_ascii_lowercase.ensures.value c.if-to_ascii_lowercase-matched.false in
+    let b = spelled c.args.text.now c.as_bytes-byte-items.result.now c.loop-place.place c.loop-place.matched c.to_ascii_lowercase.result c.is_tab_or_newline.result c.as_bytes-byte-items.ensures.value c.loop-place-test.true c.is_tab_or_newline.ensures c.if-is_tab_or_newline.false c.to_ascii_lowercase.ensures.value c.if-to_ascii_lowercase-matched.false in
     λ _. IsCharBoundary-after_ascii c.args.text.now c.loop-place.place c.utf8.text b.within (scheme_is_ascii c.loop-place.matched (get_or c.args.text.now c.loop-place.place 0) c.loop-place.invariant.open_at b.same)
 
 pub returns-then-matched-eq5-clause-found : goal.returns-then-matched-eq5-clause-found
 returns-then-matched-eq5-clause-found c =
-    let b = spelled c.args.text.now c.as_bytes-byte-items.result.now c.loop-place.place c.loop-place.matched c.to_ascii_lowercase.result c.is_passed_over.result c.as_bytes-byte-items.ensures.value c.loop-place-test.true c.is_passed_over.ensures c.if-is_passed_over.false c.to_ascii_lowercase.ensures.value c.if-to_ascii_lowercase-matched.false in
+    let b = spelled c.args.text.now c.as_bytes-byte-items.result.now c.loop-place.place c.loop-place.matched c.to_ascii_lowercase.result c.is_tab_or_newline.result c.as_bytes-byte-items.ensures.value c.loop-place-test.true c.is_tab_or_newline.ensures c.if-is_tab_or_newline.false c.to_ascii_lowercase.ensures.value c.if-to_ascii_lowercase-matched.false in
     record {
       scheme = take (c.loop-place.place + 1) c.args.text.now;
       joined = sym (take-append-drop (c.loop-place.place + 1) c.args.text.now) ∙ ap (λ s. take (c.loop-place.place + 1) c.args.text.now ++ s) (sym c.range_from.ensures.value);
@@ -64,7 +64,7 @@ returns-then-matched-eq5-clause-found c =
 
 pub loop-place-preserved : goal.loop-place-preserved
 loop-place-preserved c =
-    let b = spelled c.args.text.now c.as_bytes-byte-items.result.now c.loop-place.place c.loop-place.matched c.to_ascii_lowercase.result c.is_passed_over.result c.as_bytes-byte-items.ensures.value c.loop-place-test.true c.is_passed_over.ensures c.if-is_passed_over.false c.to_ascii_lowercase.ensures.value c.if-to_ascii_lowercase-matched.false in
+    let b = spelled c.args.text.now c.as_bytes-byte-items.result.now c.loop-place.place c.loop-place.matched c.to_ascii_lowercase.result c.is_tab_or_newline.result c.as_bytes-byte-items.ensures.value c.loop-place-test.true c.is_tab_or_newline.ensures c.if-is_tab_or_newline.false c.to_ascii_lowercase.ensures.value c.if-to_ascii_lowercase-matched.false in
     subst (λ s. Spells s (c.loop-place.matched + 1)) (sym (take_more c.args.text.now c.loop-place.place 0 b.within)) (spells_more (take c.loop-place.place c.args.text.now) c.loop-place.matched (get_or c.args.text.now c.loop-place.place 0) c.loop-place.invariant b.stays b.same c.if-matched-eq5.false)
 
 pub returns-clause-none : goal.returns-clause-none

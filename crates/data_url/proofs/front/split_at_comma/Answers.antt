@@ -1,6 +1,6 @@
 use Rattle.std.proofs.Common.{◌≡◌, ◌-◌, get_or, take, position, sym, ap, ◌∙◌, arith, subst}
 use Rattle.std.proofs.lemmas.Str.{IsCharBoundary-after_ascii, IsCharBoundary-before_ascii}
-use Rattle.data_url.specs.Front.{IsHeaderAndTail, ends_header}
+use Rattle.data_url.specs.Steps.Front.{IsHeaderAndTail, ends_header}
 use Rattle.data_url.proofs.CommaLemmas.{at_comma, at_hash, at_none, is_ascii_end, is_front_end}
 use Rattle.data_url.proofs.front.split_at_comma.Goals as goal
 

@@ -1,6 +1,6 @@
 use Rattle.std.proofs.Common.{sym, ap, ◌∙◌, subst, arith}
 use Rattle.data_url.specs.Url.{dropped, serialised}
-use Rattle.data_url.specs.Header.{IsPrintable}
+use Rattle.data_url.specs.Steps.Header.{IsPrintable}
 use Rattle.data_url.proofs.MediaLemmas.{header_printable}
 use Rattle.data_url.proofs.header.read_header.Goals as goal
 

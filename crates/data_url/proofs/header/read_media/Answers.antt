@@ -4,8 +4,8 @@ use Rattle.std.specs.Str.{chars}
 use Rattle.std.proofs.lemmas.List.{nil_from_length}
 use Rattle.std.proofs.lemmas.Result.{IfOk-weaker}
 use Rattle.data_url.specs.Fetch.{with_plain}
-use Rattle.data_url.specs.Header.{IsRecordFor}
-use Rattle.data_url.specs.Seen.{seen}
+use Rattle.data_url.specs.Steps.Header.{IsRecordFor}
+use Rattle.data_url.specs.MimeType.{seen}
 use Rattle.data_url.proofs.MediaLemmas.{chars_plain, chars_printable, plain_added, plain_stays}
 use Rattle.data_url.proofs.header.read_media.Goals as goal
 use Rattle.data_url.proofs.header.read_media.Goals.{then-is_empty-via-then-is_empty, then-is_empty-via-else-is_empty+then-bytes-ne59}

@@ -1,7 +1,7 @@
 use Rattle.std.proofs.Common.{sym, ap, ◌∙◌, subst}
 use Rattle.data_url.specs.Fetch.{before_base64, stripped, with_plain}
-use Rattle.data_url.specs.Header.{IsPrintable, IsRecordFor}
-use Rattle.data_url.specs.Seen.{seen}
+use Rattle.data_url.specs.Steps.Header.{IsPrintable, IsRecordFor}
+use Rattle.data_url.specs.MimeType.{seen}
 use Rattle.data_url.proofs.MediaLemmas.{no_suffix, printable_media, with_suffix}
 use Rattle.data_url.proofs.PrintableLemmas.{printable_stripped, trimmed_is_stripped}
 use Rattle.data_url.proofs.header.read_serialised.Goals as goal

@@ -1,8 +1,8 @@
 use Rattle.std.proofs.Common.{Err, subst, sym}
-use Rattle.data_url.specs.Parsing.{IsParsingError}
+use Rattle.data_url.specs.Errors.{IsParsingError}
 use Rattle.std.proofs.lemmas.Result.{IfOk-weaker}
 use Rattle.std.specs.Str.{chars}
-use Rattle.data_url.specs.Seen.{seen}
+use Rattle.data_url.specs.MimeType.{seen}
 use Rattle.data_url.proofs.MediaLemmas.{default_for}
 use Rattle.data_url.proofs.header.record_of.Goals as goal
 

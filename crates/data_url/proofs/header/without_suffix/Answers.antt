@@ -5,8 +5,8 @@ use Rattle.std.proofs.lemmas.Bool.{both_ways}
 use Rattle.std.proofs.lemmas.List.{length-take, take_rest}
 use Rattle.std.proofs.lemmas.List.Sums.{suffix_len-le-length}
 use Rattle.data_url.specs.Fetch.{before_base64}
-use Rattle.data_url.specs.Header.{IsPrintable}
-use Rattle.data_url.specs.Seen.{as_option}
+use Rattle.data_url.specs.Steps.Header.{IsPrintable}
+use Rattle.data_url.specs.MimeType.{as_option}
 use Rattle.data_url.specs.Url.{is_c0_control_or_space}
 use Rattle.data_url.proofs.SuffixLemmas.{HasWord, no_semicolon, nothing_left, other_word, too_short, with_semicolon}
 use Rattle.data_url.proofs.header.without_suffix.Goals as goal

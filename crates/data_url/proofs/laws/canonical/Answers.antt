@@ -1,4 +1,4 @@
-use Rattle.data_url.specs.Seen.{seen}
+use Rattle.data_url.specs.MimeType.{seen}
 use Rattle.data_url.proofs.RoundTripLemmas.{printed_only, printed_parses}
 use Rattle.data_url.proofs.laws.canonical.Goals as goal
 

@@ -1,6 +1,6 @@
 use Rattle.std.proofs.Common.{arith}
 use Rattle.data_url.specs.Url.{dropped}
-use Rattle.data_url.specs.Laws.{encoded_fragment}
+use Rattle.data_url.specs.Url.{encoded_fragment}
 use Rattle.data_url.proofs.FragmentAgainLemmas.{fragment_bytes, read_again}
 use Rattle.data_url.proofs.HeaderLemmas.{bytes_dropped}
 use Rattle.data_url.proofs.MediaLemmas.{bytes_by_place}

@@ -1,6 +1,6 @@
 use Rattle.std.proofs.Common.{ap}
 use Rattle.data_url.specs.Mime.{printed}
-use Rattle.data_url.specs.Seen.{seen}
+use Rattle.data_url.specs.MimeType.{seen}
 use Rattle.data_url.proofs.RoundTripLemmas.{printed_same}
 use Rattle.data_url.proofs.SameLemmas.{same_seen, seen_same}
 use Rattle.data_url.proofs.laws.same_text.Goals as goal

@@ -1,7 +1,7 @@
 use Rattle.std.proofs.Common.{Err, subst}
-use Rattle.data_url.specs.UrlSeen.{IsProcessed}
+use Rattle.data_url.specs.DataUrl.{IsProcessed}
 use Rattle.data_url.specs.declared.DataUrlError.{DataUrlError}
-use Rattle.dataurl.specs.Steps.{no_comma_is, no_scheme_is, no_url_memory, url_is}
+use Rattle.dataurl.specs.Steps.Parts.{no_comma_is, no_scheme_is, no_url_memory, url_is}
 use Rattle.dataurl.proofs.run.url_of.Goals as goal
 
 pub returns-in-Ok : goal.returns-in-Ok

@@ -1,4 +1,4 @@
-use Rattle.data_url.specs.Seen.{seen}
+use Rattle.data_url.specs.MimeType.{seen}
 use Rattle.dataurl.specs.Output.{record_of_text, type_of}
 use Rattle.dataurl.proofs.StepLemmas.{type_refused, writes_as, writes_no_memory, writes_nothing}
 use Rattle.dataurl.proofs.run.write_type.Goals as goal

@@ -1,4 +1,4 @@
-use Rattle.data_url.specs.Seen.{SameTexts}
+use Rattle.data_url.specs.MimeType.{SameTexts}
 use Rattle.data_url.specs.declared.mime.Mime.{Mime}
 use Rattle.data_url.proofs.SameLemmas.{copied_pairs, same_seen}
 use Rattle.data_url.proofs.mime.Mime.clone.Goals as goal

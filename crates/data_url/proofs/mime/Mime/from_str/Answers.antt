@@ -1,5 +1,5 @@
 use Rattle.std.specs.Str.{chars}
-use Rattle.data_url.specs.Seen.{seen}
+use Rattle.data_url.specs.MimeType.{seen}
 use Rattle.data_url.proofs.WellformedLemmas.{has_record, no_record, parses_parts, parses_wellformed}
 use Rattle.data_url.proofs.mime.Mime.from_str.Goals as goal
 

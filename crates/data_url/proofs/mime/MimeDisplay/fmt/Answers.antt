@@ -1,7 +1,7 @@
 use Rattle.std.proofs.Common.{◌<◌, ◌≤◌, ◌++◌, length, encode_utf8_all, get_or, refl, ap, ◌∙◌, subst}
 use Rattle.std.proofs.Output.{has_written_append, has_written_of_eq}
 use Rattle.data_url.specs.Mime.{printed_pair}
-use Rattle.data_url.specs.Seen.{pair_of}
+use Rattle.data_url.specs.MimeType.{pair_of}
 use Rattle.data_url.proofs.PrintLemmas.{pair_by, record_ends, record_more, record_starts_by}
 use Rattle.data_url.proofs.mime.MimeDisplay.fmt.Goals as goal
 

@@ -2,7 +2,7 @@
 use Rattle.std.proofs.Common.{◌≡◌, ℕ, List, ◌++◌, drop, encode_utf8_all}
 use Rattle.std.specs.Fmt.{HasWritten, IsPlainFormatter}
 use Rattle.data_url.specs.Mime.{printed}
-use Rattle.data_url.specs.Seen.{seen}
+use Rattle.data_url.specs.MimeType.{seen}
 use Rattle.data_url.proofs.PrintLemmas.{pairs_text}
 use Rattle.data_url.proofs.mime.MimeDisplay.fmt.Given as goal
 

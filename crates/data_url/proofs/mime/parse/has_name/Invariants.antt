@@ -3,7 +3,7 @@ use Rattle.std.proofs.Common.{◌≡◌, drop, map}
 use Rattle.std.specs.Char.{to_ascii_lowercase}
 use Rattle.std.specs.Str.{chars}
 use Rattle.data_url.specs.Mime.{has_name}
-use Rattle.data_url.specs.Seen.{pair_of}
+use Rattle.data_url.specs.MimeType.{pair_of}
 use Rattle.data_url.proofs.mime.parse.has_name.Given as goal
 
 abbrev pub invariant-loop-key : goal.invariant-loop-key

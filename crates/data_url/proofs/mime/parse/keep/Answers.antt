@@ -1,6 +1,6 @@
 use Rattle.std.proofs.Common.{sym, ap, ◌∙◌}
 use Rattle.std.specs.Option.{option_map}
-use Rattle.data_url.specs.Seen.{code_points}
+use Rattle.data_url.specs.MimeType.{code_points}
 use Rattle.data_url.proofs.KeptLemmas.{invalid_name, known_name, new_pair, none_added, one_added}
 use Rattle.data_url.proofs.mime.parse.keep.Goals as goal
 use Rattle.data_url.proofs.mime.parse.keep.Goals.{then-not-is_token_text-via-then-not-is_token_text, then-not-is_token_text-via-else-not-is_token_text+then-has_name}

@@ -3,7 +3,7 @@ use Rattle.std.proofs.Common.{length, map}
 use denote.Text.{Utf8}
 use denote.Shadow.{shadow}
 use Rattle.std.specs.Str.{chars}
-use Rattle.data_url.specs.Seen.{pair_of}
+use Rattle.data_url.specs.MimeType.{pair_of}
 use Rattle.data_url.proofs.KeptLemmas.{KeepsOn}
 use Rattle.data_url.proofs.mime.parse.read_parameters.Given as goal
 

@@ -1,7 +1,7 @@
 -- What is left decides.
 use Rattle.std.proofs.Common.{◌≡◌, drop}
 use Rattle.std.specs.List.{list_all}
-use Rattle.data_url.specs.Parsing.{is_quotable_byte}
+use Rattle.data_url.specs.Steps.Parsing.{is_quotable_byte}
 use Rattle.data_url.proofs.mime.values.is_quotable.Given as goal
 
 abbrev pub invariant-loop-byte : goal.invariant-loop-byte

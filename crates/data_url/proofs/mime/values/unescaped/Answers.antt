@@ -1,7 +1,7 @@
 use Rattle.std.proofs.Common.{◌≡◌, ◌==◌, ◌&&◌, ◌∙◌, not, ap, string_bytes}
 use Rattle.std.proofs.lemmas.Str.{IsUtf8-past_char, IsUtf8-string_bytes}
 use Rattle.std.specs.Str.Iter.{chars_rest}
-use Rattle.data_url.specs.Seen.{code_points}
+use Rattle.data_url.specs.MimeType.{code_points}
 use Rattle.data_url.proofs.ValueLemmas.{else_escaped, then_escaped, unescape_ends, unescape_ends_plain, unescape_pushes, unescape_skips, unescape_starts}
 use Rattle.data_url.proofs.mime.values.unescaped.Goals as goal
 use Rattle.data_url.proofs.mime.values.unescaped.Goals.{then-c-eq92, else-c-eq92, then-escaped+in_ok-push-2, else-escaped}

@@ -2,7 +2,7 @@
 use Rattle.std.proofs.Common.{◌≡◌, ◌++◌, false}
 use Rattle.std.specs.Str.{IsUtf8, chars}
 use Rattle.std.specs.Str.Iter.{chars_rest}
-use Rattle.data_url.specs.Seen.{code_points}
+use Rattle.data_url.specs.MimeType.{code_points}
 use Rattle.data_url.proofs.QuotedLemmas.{unescaped}
 use Rattle.data_url.proofs.mime.values.unescaped.Given as goal
 

@@ -1,7 +1,7 @@
 use Rattle.std.proofs.Common.{◌≡◌, take, refl, arith, length-take}
 use Rattle.std.specs.Fn.{CalledAt}
 use Rattle.data_url.proofs.ByteLemmas.{finishes_call, finishes_lone, finishes_padding, finishes_quiet, three_fit, three_items, three_unfit, two_fit, two_items, two_unfit, zero_unfit}
-use Rattle.data_url.proofs.SignLemmas.{every_list_all}
+use Rattle.data_url.proofs.PaddingLemmas.{every_list_all}
 use Rattle.data_url.proofs.forgiving_base64.decode.Decoder.end.Goals as goal
 use Rattle.data_url.proofs.forgiving_base64.decode.Decoder.end.Goals.{in_default-via-in-0+in_default, in_default-via-in-2+in_default, in_default-via-in-3+else-this-lt2, in_default-via-in_default}
 

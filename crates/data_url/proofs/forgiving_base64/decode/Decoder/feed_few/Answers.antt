@@ -3,7 +3,7 @@ use Rattle.std.proofs.lemmas.Result.{err_from_is_err_and}
 use Rattle.std.specs.Fn.{CalledAt}
 use Rattle.data_url.proofs.ByteLemmas.{feeds_none}
 use Rattle.data_url.proofs.DecoderLemmas.{feeds_more, feeds_stop}
-use Rattle.data_url.proofs.SignLemmas.{every_list_all}
+use Rattle.data_url.proofs.PaddingLemmas.{every_list_all}
 use Rattle.data_url.proofs.forgiving_base64.decode.Decoder.feed_few.Goals as goal
 
 pub loop-byte-init : goal.loop-byte-init

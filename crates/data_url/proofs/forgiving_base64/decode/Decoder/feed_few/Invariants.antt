@@ -1,7 +1,6 @@
 use Rattle.std.proofs.Common.{take, Ok}
 use Rattle.std.specs.Fn.{CalledAt, always_mut}
-use Rattle.data_url.specs.Decoding.{Feeds}
-use Rattle.data_url.specs.DecoderState.{state_of}
+use Rattle.data_url.specs.Decoder.{Feeds, state_of}
 use Rattle.data_url.proofs.forgiving_base64.decode.Decoder.feed_few.Given as goal
 
 -- what was read was taken

@@ -1,12 +1,12 @@
 use Rattle.std.proofs.Common.{◌≡◌, ◌+◌, ◌*◌, List, [], ℕ, length, take, sym, subst, arith, rules, length-take, length-drop}
 use Rattle.std.proofs.lemmas.Result.{err_from_is_err_and}
 use Rattle.std.specs.Fn.{CalledAt}
-use Rattle.data_url.specs.DecoderState.{state_of}
+use Rattle.data_url.specs.Decoder.{state_of}
 use Rattle.data_url.specs.Steps.HeldState.{held_bytes}
 use Rattle.data_url.specs.Steps.Holding.{Holds}
 use Rattle.data_url.proofs.ByteLemmas.{adds_none}
 use Rattle.data_url.proofs.HoldLemmas.{byte_at, end_feeds, fault_feeds, flush_refused, full_holds, gains_holds, holds_from, stays_holds}
-use Rattle.data_url.proofs.SignLemmas.{every_list_all}
+use Rattle.data_url.proofs.PaddingLemmas.{every_list_all}
 use Rattle.data_url.proofs.forgiving_base64.decode.Decoder.feed_many.Goals as goal
 
 pub loop-at-init : goal.loop-at-init

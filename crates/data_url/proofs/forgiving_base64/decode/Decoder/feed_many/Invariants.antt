@@ -1,6 +1,6 @@
 use Rattle.std.proofs.Common.{◌-◌, ◌<◌, ◌≤◌, length, take}
 use Rattle.std.specs.Fn.{CalledAt, always_mut}
-use Rattle.data_url.specs.DecoderState.{state_of}
+use Rattle.data_url.specs.Decoder.{state_of}
 use Rattle.data_url.specs.Steps.HeldState.{held_bytes}
 use Rattle.data_url.specs.Steps.Holding.{Holds}
 use Rattle.data_url.proofs.forgiving_base64.decode.Decoder.feed_many.Given as goal

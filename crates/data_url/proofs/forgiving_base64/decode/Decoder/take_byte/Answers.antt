@@ -1,9 +1,9 @@
 use Rattle.std.proofs.Common.{take, refl, ap, sym, ◌∙◌, arith, length-take}
 use Rattle.std.proofs.lemmas.Bool.{ne_eqb}
-use Rattle.data_url.specs.DecoderState.{state_of}
+use Rattle.data_url.specs.Decoder.{state_of}
 use Rattle.data_url.proofs.AlphabetLemmas.{space_is}
 use Rattle.data_url.proofs.ByteLemmas.{adds_sign, adds_space, refuses_other}
-use Rattle.data_url.proofs.SignLemmas.{every_list_all}
+use Rattle.data_url.proofs.PaddingLemmas.{every_list_all}
 use Rattle.data_url.proofs.forgiving_base64.decode.Decoder.take_byte.Goals as goal
 
 pub returns-then-byte-eq61 : goal.returns-then-byte-eq61

@@ -1,7 +1,7 @@
 use Rattle.std.proofs.Common.{take, refl, arith, length-take}
 use Rattle.std.proofs.lemmas.List.{take_more_set}
 use Rattle.data_url.proofs.ByteLemmas.{adds_group, adds_kept, refuses_behind, three_items}
-use Rattle.data_url.proofs.SignLemmas.{every_list_all}
+use Rattle.data_url.proofs.PaddingLemmas.{every_list_all}
 use Rattle.data_url.proofs.forgiving_base64.decode.Decoder.take_symbol.Goals as goal
 
 pub returns-then-self-gt0 : goal.returns-then-self-gt0

@@ -1,5 +1,5 @@
 use Rattle.std.proofs.Common.{sym}
-use Rattle.data_url.specs.Seen.{code_points}
+use Rattle.data_url.specs.MimeType.{code_points}
 use Rattle.data_url.proofs.ValueLemmas.{missing_text, no_plain_text, no_quoted_text, quoted_text}
 use Rattle.data_url.proofs.mime.values.Value.text.Goals as goal
 use Rattle.data_url.proofs.mime.values.Value.text.Goals.{in_default-via-in-Plain+else-is_quotable, in_default-via-in-Quoted+else-is_quotable-2, in_default-via-in_default}

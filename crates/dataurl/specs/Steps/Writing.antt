@@ -1,16 +1,13 @@
 -- What writing bytes does to what a writer holds.
-use Rattle.std.specs.Prelude.{◌≡◌, ℕ, ◌<◌, List, ◌++◌, length, Option, Result, Ok, Err}
 use Rattle.std.specs.Io.KnownBytes.{Appends}
+use Rattle.std.specs.Prelude.{Err, List, Ok, Option, Result, ℕ}
+use Rattle.dataurl.specs.Runs.{IsProperPrefix}
 use Rattle.dataurl.specs.declared.fault.WriteFailed.{WriteFailed}
-
--- the second begins with the first, and goes on
-abbrev pub IsBeginning : List ℕ → List ℕ → Type 0
-IsBeginning xs ys = (more : List ℕ) × (ys ≡ xs ++ more) × (0 < length more)
 
 -- what was written of the bytes, by how it ended: all of them, or a beginning that is not all
 pub data IsWritten (bytes : List ℕ) : List ℕ → Result (Unit {0}) WriteFailed → Type 0 where
   all : IsWritten bytes bytes (Ok tt)
-  beginning : {written : List ℕ} {failed : WriteFailed} → IsBeginning written bytes
+  beginning : {written : List ℕ} {failed : WriteFailed} → IsProperPrefix written bytes
       → IsWritten bytes written (Err failed)
 
 -- a writer took some bytes behind those that it held, as far as these are known

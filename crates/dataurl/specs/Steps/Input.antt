@@ -1,9 +1,9 @@
 -- What reading a whole input does.
-use Rattle.std.specs.Prelude.{◌≡◌, ℕ, List, Option, Result, Ok, Err, Vec, String, string_bytes, IsUtf8}
 use Rattle.std.specs.Global.{Global}
 use Rattle.std.specs.Io.KnownBytes.{Consumes, IsAtEnd}
-use Rattle.dataurl.specs.declared.fault.Fault.{Fault}
+use Rattle.std.specs.Prelude.{◌≡◌, Err, IsUtf8, List, Ok, Option, Result, String, Vec, string_bytes, ℕ}
 use Rattle.dataurl.specs.declared.fault.Fault.TheVariants.{Memory, NotUtf8, Read}
+use Rattle.dataurl.specs.declared.fault.Fault.{Fault}
 
 -- what was made of the bytes that were read, where left is what was not
 pub data IsRead (left : Option (List ℕ)) (input : List ℕ) : Result (Vec ℕ Global) Fault

@@ -5,8 +5,8 @@ use Rattle.std.proofs.lemmas.List.{append-nil}
 use Rattle.std.proofs.lemmas.List.Elements.{filter-append}
 use Rattle.std.proofs.lemmas.List.Folds.{list_any-append}
 use Rattle.std.proofs.lemmas.Bool.{and_parts, eqb-true, false_from_ne_true, or_cases}
-use Rattle.data_url.specs.Base64.{AlphabetSymbolAfterPadding, Kind, LoneAlphabetSymbol, Padding, UnexpectedSymbol, after_groups, before_place, compact, done, first_fault, group_bytes, group_number, groups, is_ascii_whitespace, is_symbol, is_valid, kind_at, kind_of, unpadded, values, without_sign}
-use Rattle.data_url.specs.Laws.{IsSymbolsAndSigns}
+use Rattle.data_url.specs.Base64.{AlphabetSymbolAfterPadding, Kind, LoneAlphabetSymbol, Padding, UnexpectedSymbol, after_groups, before_place, compact, done, first_fault, group_bytes, group_number, groups, is_ascii_whitespace, is_symbol, is_valid, kind_at, kind_of, unpadded, values, without_last_padding}
+use Rattle.data_url.specs.Steps.Facts.{IsSymbolsAndPadding}
 use Rattle.data_url.specs.Mime.{Every}
 use Rattle.data_url.proofs.ValidLemmas.{fits_with, symbols_signs_valid}
 use Rattle.data_url.proofs.WalkLemmas.{Class, of_space, of_sign, of_symbol, of_none, ahead, ahead-append, ahead-append_some, ahead_none, any_symbols, before_walk, byte_at, byte_walk, compact_walk, filter_all, filter_every, filter_signs, filter_symbols, find_walk, some_not_none, stop, stop-append, stop-append_some, stop_compact, stop_place, stop_signs, stop_symbols}
@@ -177,7 +177,7 @@ signs_are (c ∷ t) =
     ] refl
 
 -- a text without a fault is its symbols and then its signs
-pub no_fault_text : (b : List ℕ) → fault_byte false b ≡ None → IsSymbolsAndSigns b (filter is_symbol b) (length (filter is_sign b))
+pub no_fault_text : (b : List ℕ) → fault_byte false b ≡ None → IsSymbolsAndPadding b (filter is_symbol b) (length (filter is_sign b))
 unfolding fault_byte compact
 no_fault_text b h = record {
   symbols_are = filter_every is_symbol b;
@@ -200,11 +200,11 @@ Cut-more : (c : ℕ) (s u : List ℕ) → Cut s u → Cut (c ∷ s) (c ∷ u)
 Cut-more c s u same = same
 Cut-more c s u sign = sign
 
-cut_is : (s : List ℕ) → Cut s (without_sign s)
-unfolding without_sign
+cut_is : (s : List ℕ) → Cut s (without_last_padding s)
+unfolding without_last_padding
 cut_is [] = same
 cut_is (a ∷ []) = elim (is_sign a) as (λ v. is_sign a ≡ v → Cut (a ∷ []) (cond v [] (a ∷ []))) [ true ↦ λ e. rw (eqb-true a 61 e) (sign {s = []}) | false ↦ λ e. same ] refl
-cut_is (a ∷ b ∷ t) = Cut-more a (b ∷ t) (without_sign (b ∷ t)) (cut_is (b ∷ t))
+cut_is (a ∷ b ∷ t) = Cut-more a (b ∷ t) (without_last_padding (b ∷ t)) (cut_is (b ∷ t))
 
 -- symbols with signs cut off have no fault
 cut_none : {s u : List ℕ} → Cut s u → fault_byte false u ≡ None → fault_byte false s ≡ None
@@ -214,8 +214,8 @@ cut_none {s} {u} sign h = fault-append u (61 ∷ []) false h ∙ fault_signs 1 (
 unpadded_none : (s : List ℕ) → fault_byte false (unpadded s) ≡ None → fault_byte false s ≡ None
 unfolding unpadded
 unpadded_none s =
-    elim (eqb (length s % 4) 0) as (λ v. fault_byte false (cond v (without_sign (without_sign s)) s) ≡ None → fault_byte false s ≡ None) [
-      | true ↦ λ h. cut_none (cut_is s) (cut_none (cut_is (without_sign s)) h)
+    elim (eqb (length s % 4) 0) as (λ v. fault_byte false (cond v (without_last_padding (without_last_padding s)) s) ≡ None → fault_byte false s ≡ None) [
+      | true ↦ λ h. cut_none (cut_is s) (cut_none (cut_is (without_last_padding s)) h)
       | false ↦ λ h. h
     ]
 

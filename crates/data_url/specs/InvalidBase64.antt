@@ -1,7 +1,7 @@
--- Why base64 was refused, as contracts see it.
+-- What contracts see of an `InvalidBase64`: why base64 was refused.
 use Rattle.data_url.specs.Base64.{AlphabetSymbolAfterPadding, Kind, LoneAlphabetSymbol, Padding, UnexpectedSymbol}
-use Rattle.data_url.specs.declared.forgiving_base64.InvalidBase64Details.{InvalidBase64Details}
 use Rattle.data_url.specs.declared.forgiving_base64.InvalidBase64Details.TheVariants as details
+use Rattle.data_url.specs.declared.forgiving_base64.InvalidBase64Details.{InvalidBase64Details}
 
 abbrev pub kind_of_details : InvalidBase64Details → Kind
 kind_of_details (details.UnexpectedSymbol b) = UnexpectedSymbol b

@@ -1,10 +1,12 @@
--- What feeding and finishing a decoder does (Infra Standard, forgiving-base64 decode), by the texts
--- that it was given.
-use Rattle.std.specs.Prelude.{◌≡◌, ℕ, ◌+◌, ◌≤◌, Bool, false, cond, List, [], ◌++◌, length, MatchBool, MatchOption, Result, Ok, Err, is_err}
+-- What contracts see of a `Decoder`, and what feeding and finishing one does (Infra Standard,
+-- forgiving-base64 decode), by the texts that it was given.
+use Rattle.std.specs.Prelude.{[], ◌++◌, ◌+◌, ◌≡◌, ◌≤◌, Bool, Err, List, MatchBool, MatchOption, Ok, Result, false, is_err, length, take, ℕ}
 use Rattle.data_url.specs.Base64.{decoded, done, first_fault, is_valid, kind_of, left_padding, left_symbols, left_text}
-use Rattle.data_url.specs.Run.{Call, IsPrefix, IsRun, joined, refusal}
+use Rattle.data_url.specs.Errors.{IsRefused}
+use Rattle.data_url.specs.Run.{Call, IsRun, joined, refusal}
+use Rattle.data_url.specs.declared.forgiving_base64.DecodeError.TheVariants.{InvalidBase64}
 use Rattle.data_url.specs.declared.forgiving_base64.DecodeError.{DecodeError}
-use Rattle.data_url.specs.declared.forgiving_base64.DecodeError.TheVariants.{InvalidBase64, WriteError}
+use Rattle.data_url.specs.declared.forgiving_base64.decode.Decoder.{Decoder}
 
 -- a decoder, as contracts see it: its closure, the symbols that are left over, the number of '=' (3
 -- stands for more), and whether it has failed
@@ -13,6 +15,15 @@ pub record State (F : Type 0) : Type 0 where
   pub symbols : List ℕ
   pub padding : ℕ
   pub failed : Bool
+
+-- what a decoder shows of its fields
+abbrev pub state_of : {F E : Type 0} → Decoder F E → State F
+state_of d = record {
+  closure = d.write_bytes;
+  symbols = take d.pending d.symbols;
+  padding = d.padding;
+  failed = d.failed;
+}
 
 -- a decoder that has seen nothing yet, over a closure
 abbrev pub start : {F : Type 0} → F → State F
@@ -34,12 +45,6 @@ pub record IsTaken {F E : Type 0} (u bytes : List ℕ) (r : Result (Unit {0}) (D
   pub bytes_are : bytes ≡ done u
   pub answer : MatchOption (first_fault u) ((r ≡ Ok tt) × IsLeft u d)
       (λ place. r ≡ Err (InvalidBase64 (kind_of u)))
-
--- the closure refused with e what was a beginning of these bytes
-pub record IsRefused {E : Type 0} (all bytes : List ℕ) (e : E)
-    (r : Result (Unit {0}) (DecodeError E)) : Type 0 where
-  pub bytes_begin : IsPrefix bytes all
-  pub answer : r ≡ Err (WriteError e)
 
 -- d took the input b, ran its closure on at most as many pieces as b has bytes, answered r, and is
 -- d' now
@@ -70,15 +75,3 @@ pub record Finishes {F E : Type 0} (step : F → List ℕ → Result (Unit {0}) 
       (MatchOption (refusal run) (IsAll (left_over d) (joined run) r)
       (λ e. IsRefused (decoded (left_over d)) (joined run) e r))
       ((run ≡ []) × (r ≡ Err (InvalidBase64 (kind_of (left_over d)))))
-
--- the whole text u was decoded: its bytes if it is valid, or else those of the groups before its
--- first fault, or a beginning of these that the closure refused
-pub record Decodes {F E : Type 0} (step : F → List ℕ → Result (Unit {0}) E → F → Type 0) (f : F)
-    (u : List ℕ) (r : Result (Unit {0}) (DecodeError E)) (f' : F) : Type 0 where
-  pub run : List (Call F E)
-  pub ran : IsRun step f run f'
-  pub calls : length run ≤ length u + 1
-  pub gave : MatchOption (refusal run)
-      (MatchBool (is_valid u) (IsAll u (joined run) r)
-      ((joined run ≡ done u) × (r ≡ Err (InvalidBase64 (kind_of u)))))
-      (λ e. IsRefused (cond (is_valid u) (decoded u) (done u)) (joined run) e r)

@@ -1,18 +1,15 @@
 -- What the steps of the MIME parser give, for its private contracts. Texts are lists of code
 -- points.
-use Rattle.std.specs.Prelude.{◌≡◌, ℕ, ◌==◌, ◌||◌, Bool, cond, List, [], ◌∷◌, ◌++◌, Option, None, Some, Result, Ok, Err, IsTrue, map}
 use Rattle.std.specs.Char.{to_ascii_lowercase}
 use Rattle.std.specs.Int.{is_in_range}
 use Rattle.std.specs.List.{list_all}
+use Rattle.std.specs.Prelude.{[], ◌++◌, ◌==◌, ◌||◌, ◌∷◌, ◌≡◌, Bool, IsTrue, List, None, Option, Some, cond, map, ℕ}
 use Rattle.std.specs.Str.{IsUtf8, chars}
 use Rattle.data_url.specs.CodePoints.{is_quotable}
 use Rattle.data_url.specs.Mime.{BeginsParameters, DoesNotBegin, Every, GivesValue, IsHead, IsParameter, Item, Items, Pair, Quoted, QuotedOpen, Record, has_name, is_lowercase_name, kept, valid_of}
-use Rattle.data_url.specs.declared.mime.Mime.{Mime}
-use Rattle.data_url.specs.declared.mime.MimeFromStrError.{MimeFromStrError}
-use Rattle.data_url.specs.declared.mime.MimeFromStrError.TheVariants as errors
 use Rattle.data_url.specs.declared.mime.parse.Parameter.{Parameter}
-use Rattle.data_url.specs.declared.mime.values.Value.{Value}
 use Rattle.data_url.specs.declared.mime.values.Value.TheVariants as slices
+use Rattle.data_url.specs.declared.mime.values.Value.{Value}
 
 -- t is s without its longest front of code points that pass
 pub record IsTrimmedFront (p : ℕ → Bool) (s t : List ℕ) : Type 0 where
@@ -89,9 +86,3 @@ pub record IsRecordOfParts (type_ subtype parameters : List ℕ) (m : Record) : 
   pub type_is : m.type_ ≡ map to_ascii_lowercase type_
   pub subtype_is : m.subtype ≡ map to_ascii_lowercase subtype
   pub parameters_are : m.parameters ≡ kept items
-
--- the answer says that the text is no MIME type
-abbrev pub IsParsingError : Result Mime MimeFromStrError → Type 0
-IsParsingError (Ok m) = ⊥
-IsParsingError (Err (errors.Parsing e)) = Unit {0}
-IsParsingError (Err errors.OutOfMemory) = ⊥

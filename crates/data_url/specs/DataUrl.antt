@@ -1,17 +1,21 @@
--- What contracts see of a `DataUrl` and a `FragmentIdentifier`, and what `process` makes of a text
--- (Fetch Standard, section 6).
-use Rattle.std.specs.Prelude.{◌≡◌, ℕ, Bool, List, Option, Some, Result, Ok, Err}
+-- What contracts see of a `DataUrl` and a `FragmentIdentifier`, what `process` makes of a text, and what
+-- decoding a body does (Fetch Standard, section 6).
 use Rattle.std.specs.Option.{option_map}
-use Rattle.data_url.specs.Url.{after_scheme, behind, dropped, fragment, in_fragment_set, percent_encoded}
+use Rattle.std.specs.Prelude.{◌≡◌, ◌≤◌, Bool, Err, List, MatchOption, Ok, Option, Result, Some, length, ℕ}
+use Rattle.data_url.specs.Errors.{IsRefused}
+use Rattle.data_url.specs.Fetch.{Accepted, Bad, Good, NoComma, NoScheme, Outcome, Staged, encoded_body, has_base64_suffix, header_of, mime_text, outcome, outcome_bytes, plain_body, staged, tail_of}
 use Rattle.data_url.specs.Mime.{IsRecordOf, IsWellformed}
+use Rattle.data_url.specs.MimeType.{seen}
 use Rattle.data_url.specs.Percent.{percent_decoded}
-use Rattle.data_url.specs.Fetch.{Accepted, NoComma, NoScheme, Outcome, Staged, encoded_body, has_base64_suffix, header_of, mime_text, outcome, plain_body, staged, tail_of}
-use Rattle.data_url.specs.Seen.{seen}
-use Rattle.data_url.specs.declared.mime.Mime.{Mime}
+use Rattle.data_url.specs.Run.{Call, IsRun, joined, refusal}
+use Rattle.data_url.specs.Url.{after_scheme, behind, dropped, fragment, in_fragment_set, percent_encoded}
 use Rattle.data_url.specs.declared.DataUrl.{DataUrl}
-use Rattle.data_url.specs.declared.FragmentIdentifier.{FragmentIdentifier}
-use Rattle.data_url.specs.declared.DataUrlError.{DataUrlError}
 use Rattle.data_url.specs.declared.DataUrlError.TheVariants.{NoComma as no_comma, NotADataUrl as no_scheme, OutOfMemory as no_memory}
+use Rattle.data_url.specs.declared.DataUrlError.{DataUrlError}
+use Rattle.data_url.specs.declared.FragmentIdentifier.{FragmentIdentifier}
+use Rattle.data_url.specs.declared.forgiving_base64.DecodeError.TheVariants.{InvalidBase64}
+use Rattle.data_url.specs.declared.forgiving_base64.DecodeError.{DecodeError}
+use Rattle.data_url.specs.declared.mime.Mime.{Mime}
 
 -- the MIME type record
 abbrev pub mime_of : DataUrl → Mime
@@ -66,3 +70,26 @@ IsProcessed t (Ok u) = IsUrlOf t u
 IsProcessed t (Err no_scheme) = staged t ≡ NoScheme
 IsProcessed t (Err no_comma) = staged t ≡ NoComma
 IsProcessed t (Err no_memory) = IsAcceptable (staged t)
+
+-- the answer where no call was refused: of a good body an Ok that good says, of a bad one the
+-- reason
+abbrev pub Answers : {E A : Type 0} → Outcome → (A → Type 0) → Result A (DecodeError E) → Type 0
+Answers (Good bytes) good (Ok x) = good x
+Answers (Good bytes) good (Err e) = ⊥
+Answers (Bad bytes kind) good r = r ≡ Err (InvalidBase64 kind)
+
+-- all bytes of the outcome were handed out
+pub record HandsOut {E A : Type 0} (body : Outcome) (good : A → Type 0) (bytes : List ℕ)
+    (r : Result A (DecodeError E)) : Type 0 where
+  pub bytes_are : bytes ≡ outcome_bytes body
+  pub answer : Answers body good r
+
+-- the closure f ran on at most so many pieces and is g now; the answer is r
+pub record Decodes {F E A : Type 0} (step : F → List ℕ → Result (Unit {0}) E → F → Type 0) (f : F)
+    (most : ℕ) (body : Outcome) (good : A → Type 0) (r : Result A (DecodeError E)) (g : F)
+    : Type 0 where
+  pub run : List (Call F E)
+  pub ran : IsRun step f run g
+  pub calls : length run ≤ most
+  pub gave : MatchOption (refusal run) (HandsOut body good (joined run) r)
+      (λ e. IsRefused (outcome_bytes body) (joined run) e r)

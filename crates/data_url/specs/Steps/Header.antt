@@ -1,10 +1,10 @@
 -- What the private steps of reading a header do.
-use Rattle.std.specs.Prelude.{◌≡◌, ℕ, ◌<◌, ◌≤◌, ◌==◌, Bool, cond, List, length, slice_index}
-use Rattle.data_url.specs.Url.{dropped, serialised}
+use Rattle.std.specs.Prelude.{◌<◌, ◌==◌, ◌≡◌, ◌≤◌, Bool, List, cond, length, slice_index, ℕ}
 use Rattle.data_url.specs.Fetch.{has_base64_suffix, mime_text}
 use Rattle.data_url.specs.Mime.{IsRecordOf, IsWellformed, Record}
-use Rattle.data_url.specs.declared.percent.EncodeSet.{EncodeSet}
+use Rattle.data_url.specs.Url.{dropped, serialised}
 use Rattle.data_url.specs.declared.percent.EncodeSet.TheVariants.{Query}
+use Rattle.data_url.specs.declared.percent.EncodeSet.{EncodeSet}
 
 -- the set behind a byte: the first '?' begins the query
 abbrev pub next_set : EncodeSet → ℕ → EncodeSet

@@ -1,0 +1,20 @@
+-- What decoding a whole text of base64 does.
+use Rattle.std.specs.Prelude.{◌+◌, ◌≡◌, ◌≤◌, Err, List, MatchBool, MatchOption, Result, cond, length, ℕ}
+use Rattle.data_url.specs.Base64.{decoded, done, is_valid, kind_of}
+use Rattle.data_url.specs.Decoder.{IsAll}
+use Rattle.data_url.specs.Errors.{IsRefused}
+use Rattle.data_url.specs.Run.{Call, IsRun, joined, refusal}
+use Rattle.data_url.specs.declared.forgiving_base64.DecodeError.TheVariants.{InvalidBase64}
+use Rattle.data_url.specs.declared.forgiving_base64.DecodeError.{DecodeError}
+
+-- the whole text u was decoded: its bytes if it is valid, or else those of the groups before its
+-- first fault, or a beginning of these that the closure refused
+pub record DecodesText {F E : Type 0} (step : F → List ℕ → Result (Unit {0}) E → F → Type 0) (f : F)
+    (u : List ℕ) (r : Result (Unit {0}) (DecodeError E)) (f' : F) : Type 0 where
+  pub run : List (Call F E)
+  pub ran : IsRun step f run f'
+  pub calls : length run ≤ length u + 1
+  pub gave : MatchOption (refusal run)
+      (MatchBool (is_valid u) (IsAll u (joined run) r)
+      ((joined run ≡ done u) × (r ≡ Err (InvalidBase64 (kind_of u)))))
+      (λ e. IsRefused (cond (is_valid u) (decoded u) (done u)) (joined run) e r)
