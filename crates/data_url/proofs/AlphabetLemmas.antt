@@ -1,8 +1,8 @@
 -- The table of symbols is the alphabet.
 use Rattle.std.proofs.Common.{◌≡◌, ℕ, ◌<◌, ltb, true, false, cond, eqb, get_or, refl, sym, ◌∙◌, arith}
 use Rattle.std.proofs.lemmas.Bool.{agree_below_at, lt-ltb, le-ltb, cond-true, cond-false, eqb-true, ltb-true}
-use Rattle.std.specs.Char.{is_ascii_whitespace as std_whitespace}
-use Rattle.data_url.specs.Base64.{is_ascii_whitespace, is_symbol, symbol_value}
+use Rattle.std.specs.Char.{is_ascii_whitespace as std_whitespace, is_ascii_whitespace}
+use Rattle.data_url.specs.Base64.{is_symbol, symbol_value}
 use Rattle.data_url.specs.declared.forgiving_base64.alphabet.TheConstants.{NO_SYMBOL, VALUES}
 
 -- what the table is to have

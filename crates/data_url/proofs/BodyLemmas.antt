@@ -1,10 +1,10 @@
 -- The body of a tail, by what the tail begins with.
 use Rattle.std.proofs.Common.{◌≡◌, ℕ, ◌+◌, ◌*◌, Bool, true, false, List, [], ◌∷◌, Option, None, Some, refl, sym, ap, ◌∙◌, inl, inr, eqb-true}
 use Rattle.std.specs.Prelude.{◌==◌, ◌&&◌}
-use Rattle.std.specs.Char.{digit_value}
+use Rattle.std.specs.Char.{digit_value, is_ascii_hexdigit}
 use Rattle.std.proofs.lemmas.Bool.{and_left, and_right, both_ways, cases_Bool, cond-true, cond-false, ne_eqb}
 use Rattle.data_url.specs.Url.{before, behind, dropped, front, is_tab_or_newline}
-use Rattle.data_url.specs.Percent.{is_hex, percent_decoded}
+use Rattle.data_url.specs.Percent.{percent_decoded}
 use Rattle.data_url.specs.Fetch.{plain_body}
 use Rattle.data_url.specs.Pieces.{digit, escape, with_high_digit, with_low_digit}
 use Rattle.data_url.proofs.DigitLemmas.{digit_here, digit_nil, digit_tab}
@@ -17,18 +17,18 @@ use Rattle.data_url.proofs.RecodedLemmas.{decoded_escape, decoded_keeps, two_dig
 no_hash : (b : ℕ) → is_tab_or_newline b ≡ true → (b == 35) ≡ false
 no_hash b h = ne_eqb b 35 (λ (e : b ≡ 35). both_ways (is_tab_or_newline b) (ap is_tab_or_newline e) h)
 
-hex_no_hash : (b : ℕ) → is_hex b ≡ true → (b == 35) ≡ false
-hex_no_hash b h = ne_eqb b 35 (λ (e : b ≡ 35). both_ways (is_hex b) (ap is_hex e) h)
+hex_no_hash : (b : ℕ) → is_ascii_hexdigit b ≡ true → (b == 35) ≡ false
+hex_no_hash b h = ne_eqb b 35 (λ (e : b ≡ 35). both_ways (is_ascii_hexdigit b) (ap is_ascii_hexdigit e) h)
 
 -- a text that begins with a digit of the value, past tabs and newlines, and goes on with rest
 record HasDigit (s : List ℕ) (value : ℕ) (rest : List ℕ) : Type 0 where
   pub at : ℕ
-  pub hex : is_hex at ≡ true
+  pub hex : is_ascii_hexdigit at ≡ true
   pub value_is : digit_value at ≡ value
   pub dropped_is : dropped s ≡ at ∷ dropped rest
   pub behind_is : behind 35 s ≡ behind 35 rest
 
-digit_at : (b : ℕ) (s : List ℕ) (value : ℕ) (rest : List ℕ) → is_tab_or_newline b ≡ false → is_hex b ≡ true → ◌≡◌ {A = Option (ℕ × List ℕ)} (Some (digit_value b, s)) (Some (value, rest)) → HasDigit (b ∷ s) value rest
+digit_at : (b : ℕ) (s : List ℕ) (value : ℕ) (rest : List ℕ) → is_tab_or_newline b ≡ false → is_ascii_hexdigit b ≡ true → ◌≡◌ {A = Option (ℕ × List ℕ)} (Some (digit_value b, s)) (Some (value, rest)) → HasDigit (b ∷ s) value rest
 digit_at b s value rest t h e =
     let both : ◌≡◌ {A = ℕ × List ℕ} (digit_value b, s) (value, rest) = cc in
     let value_is : digit_value b ≡ value = ap (λ (p : ℕ × List ℕ). p.0) both in
@@ -53,22 +53,22 @@ has_digit (b ∷ s) value rest h = elim (cases_Bool (is_tab_or_newline b)) [
         dropped_is = dropped_passes b s e ∙ k.dropped_is;
         behind_is = behind_other 35 b s (no_hash b e) ∙ k.behind_is;
       }
-  | inr e ↦ elim (cases_Bool (is_hex b)) [
-    | inl f ↦ digit_at b s value rest e f (sym (digit_here b s e ∙ cond-true (is_hex b) (Some (digit_value b, s)) None f) ∙ h)
-    | inr f ↦ absurd (let k : ◌≡◌ {A = Option (ℕ × List ℕ)} None (Some (value, rest)) = sym (digit_here b s e ∙ cond-false (is_hex b) (Some (digit_value b, s)) None f) ∙ h in cc)
+  | inr e ↦ elim (cases_Bool (is_ascii_hexdigit b)) [
+    | inl f ↦ digit_at b s value rest e f (sym (digit_here b s e ∙ cond-true (is_ascii_hexdigit b) (Some (digit_value b, s)) None f) ∙ h)
+    | inr f ↦ absurd (let k : ◌≡◌ {A = Option (ℕ × List ℕ)} None (Some (value, rest)) = sym (digit_here b s e ∙ cond-false (is_ascii_hexdigit b) (Some (digit_value b, s)) None f) ∙ h in cc)
   ]
 ]
 
 abbrev begins_with_digit : List ℕ → Bool
 begins_with_digit [] = false
-begins_with_digit (b ∷ s) = is_hex b
+begins_with_digit (b ∷ s) = is_ascii_hexdigit b
 
 no_digit : (s : List ℕ) → digit s ≡ None → begins_with_digit (dropped s) ≡ false
 no_digit [] h = ap begins_with_digit dropped_nil
 no_digit (b ∷ s) h = elim (cases_Bool (is_tab_or_newline b)) [
   | inl e ↦ ap begins_with_digit (dropped_passes b s e) ∙ no_digit s (sym (digit_tab b s e) ∙ h)
-  | inr e ↦ ap begins_with_digit (dropped_keeps b s e) ∙ elim (cases_Bool (is_hex b)) [
-    | inl f ↦ absurd (let k : ◌≡◌ {A = Option (ℕ × List ℕ)} (Some (digit_value b, s)) None = sym (digit_here b s e ∙ cond-true (is_hex b) (Some (digit_value b, s)) None f) ∙ h in cc)
+  | inr e ↦ ap begins_with_digit (dropped_keeps b s e) ∙ elim (cases_Bool (is_ascii_hexdigit b)) [
+    | inl f ↦ absurd (let k : ◌≡◌ {A = Option (ℕ × List ℕ)} (Some (digit_value b, s)) None = sym (digit_here b s e ∙ cond-true (is_ascii_hexdigit b) (Some (digit_value b, s)) None f) ∙ h in cc)
     | inr f ↦ f
   ]
 ]
@@ -77,8 +77,8 @@ no_digit (b ∷ s) h = elim (cases_Bool (is_tab_or_newline b)) [
 record HasEscape (s : List ℕ) (value : ℕ) (rest : List ℕ) : Type 0 where
   pub high : ℕ
   pub low : ℕ
-  pub high_hex : is_hex high ≡ true
-  pub low_hex : is_hex low ≡ true
+  pub high_hex : is_ascii_hexdigit high ≡ true
+  pub low_hex : is_ascii_hexdigit low ≡ true
   pub value_is : 16 * digit_value high + digit_value low ≡ value
   pub dropped_is : dropped s ≡ high ∷ low ∷ dropped rest
   pub behind_is : behind 35 s ≡ behind 35 rest
@@ -112,14 +112,14 @@ has_escape s value rest h = high_cases s value rest (digit s) refl h
 
 abbrev begins_with_two_digits : List ℕ → Bool
 begins_with_two_digits [] = false
-begins_with_two_digits (b ∷ s) = is_hex b && begins_with_digit s
+begins_with_two_digits (b ∷ s) = is_ascii_hexdigit b && begins_with_digit s
 
 first_no_digit : (s : List ℕ) → begins_with_digit s ≡ false → begins_with_two_digits s ≡ false
 first_no_digit [] h = refl
-first_no_digit (b ∷ s) h = and_left (is_hex b) (begins_with_digit s) h
+first_no_digit (b ∷ s) h = and_left (is_ascii_hexdigit b) (begins_with_digit s) h
 
 no_low_cases : (s middle : List ℕ) (high : ℕ) (o : Option (ℕ × List ℕ)) → HasDigit s high middle → digit middle ≡ o → with_low_digit high o ≡ None → begins_with_two_digits (dropped s) ≡ false
-no_low_cases s middle high None a e h = ap begins_with_two_digits a.dropped_is ∙ and_right (is_hex a.at) (begins_with_digit (dropped middle)) (no_digit middle e)
+no_low_cases s middle high None a e h = ap begins_with_two_digits a.dropped_is ∙ and_right (is_ascii_hexdigit a.at) (begins_with_digit (dropped middle)) (no_digit middle e)
 no_low_cases s middle high (Some low) a e h = absurd (cc)
 
 no_high_cases : (s : List ℕ) (o : Option (ℕ × List ℕ)) → digit s ≡ o → with_high_digit o ≡ None → begins_with_two_digits (dropped s) ≡ false

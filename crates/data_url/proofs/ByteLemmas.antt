@@ -5,7 +5,8 @@ use Rattle.std.specs.List.{filter, list_any}
 use Rattle.std.proofs.lemmas.List.{append-nil, length-map, length-replicate}
 use Rattle.std.proofs.lemmas.List.Elements.{filter-append}
 use Rattle.std.proofs.lemmas.Bool.{false≢true, true≢false}
-use Rattle.data_url.specs.Base64.{AlphabetSymbolAfterPadding, Kind, LoneAlphabetSymbol, Padding, UnexpectedSymbol, after_groups, decoded, done, first_fault, group_bytes, group_number, groups, is_ascii_whitespace, is_symbol, is_valid, kind_of, left_padding, left_symbols, left_text, rest_bytes, symbol_value, values}
+use Rattle.data_url.specs.Base64.{AlphabetSymbolAfterPadding, Kind, LoneAlphabetSymbol, Padding, UnexpectedSymbol, after_groups, decoded, done, first_fault, group_bytes, group_number, groups, is_symbol, is_valid, kind_of, left_padding, left_symbols, left_text, rest_bytes, symbol_value, values}
+use Rattle.std.specs.Char.{is_ascii_whitespace}
 use Rattle.data_url.specs.Decoder.{Feeds, Finishes, IsAll, State, left_over}
 use Rattle.data_url.specs.Errors.{IsRefused}
 use Rattle.data_url.specs.Mime.{Every}

@@ -12,19 +12,16 @@ use Rattle.data_url.specs.CodePoints.{ends_name, is_http_whitespace, is_semicolo
 use Rattle.data_url.specs.Mime.{DoesNotBegin, DoesNotEnd, Every, IsTrimmedEnd, Without}
 use Rattle.data_url.specs.Steps.Parsing.{IsTrimmedFront}
 use Rattle.data_url.proofs.RecordLemmas.{every_append}
+use Rattle.std.proofs.Math.Bool.{or-false}
 
 eqb_turned : (a b : ℕ) → (a == b) ≡ (b == a)
 eqb_turned a b = elim (cases_eq a b) [ inl e ↦ rw e refl | inr e ↦ ne_eqb a b e ∙ sym (ne_eqb b a (λ k. e (sym k))) ]
 
-or_false : (b : Bool) → (b || false) ≡ b
-or_false true = refl
-or_false false = refl
-
 pub whitespace_set : (c : ℕ) → char_set_contains (9 ∷ 10 ∷ 13 ∷ 32 ∷ []) c ≡ is_http_whitespace c
-whitespace_set c = rw (eqb_turned 9 c, eqb_turned 10 c, eqb_turned 13 c, eqb_turned 32 c, or_false (c == 32)) refl
+whitespace_set c = rw (eqb_turned 9 c, eqb_turned 10 c, eqb_turned 13 c, eqb_turned 32 c, or-false (c == 32)) refl
 
 pub name_set : (c : ℕ) → char_set_contains (59 ∷ 61 ∷ []) c ≡ ends_name c
-name_set c = rw (eqb_turned 59 c, eqb_turned 61 c, or_false (c == 61)) refl
+name_set c = rw (eqb_turned 59 c, eqb_turned 61 c, or-false (c == 61)) refl
 
 -- A cut at the first code point that passes
 

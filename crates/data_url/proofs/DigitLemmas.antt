@@ -1,13 +1,12 @@
 -- Hexadecimal digits in a text, past tabs and newlines, and the looks that they take.
 use Rattle.std.proofs.Common.{◌≡◌, ℕ, ◌+◌, ◌*◌, ◌-◌, ◌<◌, ◌≤◌, Bool, true, false, not, cond, ◌&&◌, eqb, ltb, List, [], ◌∷◌, length, drop, get_or, Option, None, Some, refl, sym, ap, ◌∙◌, arith, eqb-true}
 use Rattle.std.specs.Prelude.{◌==◌, MatchOption}
-use Rattle.std.specs.Char.{digit_value}
+use Rattle.std.specs.Char.{digit_value, is_ascii_hexdigit}
 use Rattle.std.proofs.lemmas.Bool.{agree_below_at, cond-true, cond-false, lt-ltb}
 use Rattle.std.proofs.lemmas.List.{drop_more, drop_all}
 use Rattle.std.proofs.lemmas.List.Sums.{prefix_len-drop_yes}
 use Rattle.std.proofs.Common.{subst}
 use Rattle.data_url.specs.Url.{is_tab_or_newline}
-use Rattle.data_url.specs.Percent.{is_hex}
 use Rattle.data_url.specs.Pieces.{digit, escape, with_high_digit, with_low_digit}
 use Rattle.data_url.specs.Steps.Digits.{DigitFound, DigitsFound, NoDigit, NoDigits, digit_code}
 use Rattle.data_url.specs.Steps.Looks.{before_percent}
@@ -24,8 +23,8 @@ code_is b l = eqb-true (get_or DIGITS b 0) (digit_code b) (agree_below_at (λ b.
 tab_code : (b : ℕ) → b < 256 → eqb (digit_code b) 16 ≡ is_tab_or_newline b
 tab_code b l = agree_below_at (λ b. eqb (digit_code b) 16) is_tab_or_newline 256 b refl l
 
-hex_code : (b : ℕ) → b < 256 → ltb (digit_code b) 16 ≡ (not (is_tab_or_newline b) && is_hex b)
-hex_code b l = agree_below_at (λ b. ltb (digit_code b) 16) (λ b. not (is_tab_or_newline b) && is_hex b) 256 b refl l
+hex_code : (b : ℕ) → b < 256 → ltb (digit_code b) 16 ≡ (not (is_tab_or_newline b) && is_ascii_hexdigit b)
+hex_code b l = agree_below_at (λ b. ltb (digit_code b) 16) (λ b. not (is_tab_or_newline b) && is_ascii_hexdigit b) 256 b refl l
 
 -- neither a tab or newline nor a digit is a '%'
 not_percent : (b : ℕ) → b < 256 → digit_code b < 32 → not (b == 37) ≡ true
@@ -36,7 +35,7 @@ not_percent b l h =
 is_tab : (b : ℕ) → b < 256 → digit_code b ≡ 16 → is_tab_or_newline b ≡ true
 is_tab b l h = sym (tab_code b l) ∙ ap (λ v. eqb v 16) h
 
-is_digit : (b : ℕ) → b < 256 → digit_code b < 16 → (not (is_tab_or_newline b) && is_hex b) ≡ true
+is_digit : (b : ℕ) → b < 256 → digit_code b < 16 → (not (is_tab_or_newline b) && is_ascii_hexdigit b) ≡ true
 is_digit b l h = sym (hex_code b l) ∙ lt-ltb (digit_code b) 16 h
 
 not_true : (p : Bool) → not p ≡ true → p ≡ false
@@ -59,29 +58,29 @@ digit_nil = refl
 
 pub digit_tab : (b : ℕ) (s : List ℕ) → is_tab_or_newline b ≡ true → digit (b ∷ s) ≡ digit s
 unfolding digit
-digit_tab b s h = cond-true (is_tab_or_newline b) (digit s) (cond (is_hex b) (Some (digit_value b, s)) None) h
+digit_tab b s h = cond-true (is_tab_or_newline b) (digit s) (cond (is_ascii_hexdigit b) (Some (digit_value b, s)) None) h
 
-pub digit_here : (b : ℕ) (s : List ℕ) → is_tab_or_newline b ≡ false → digit (b ∷ s) ≡ cond (is_hex b) (Some (digit_value b, s)) None
+pub digit_here : (b : ℕ) (s : List ℕ) → is_tab_or_newline b ≡ false → digit (b ∷ s) ≡ cond (is_ascii_hexdigit b) (Some (digit_value b, s)) None
 unfolding digit
-digit_here b s h = cond-false (is_tab_or_newline b) (digit s) (cond (is_hex b) (Some (digit_value b, s)) None) h
+digit_here b s h = cond-false (is_tab_or_newline b) (digit s) (cond (is_ascii_hexdigit b) (Some (digit_value b, s)) None) h
 
 digit_found : (b : ℕ) (s : List ℕ) → b < 256 → digit_code b < 16 → digit (b ∷ s) ≡ Some (digit_code b, s)
 digit_found b s l h =
     let k = is_digit b l h in
-    let tab = both_left (is_tab_or_newline b) (is_hex b) k in
-    let hex = both_right (is_tab_or_newline b) (is_hex b) k in
-    let code : digit_code b ≡ digit_value b = cond-false (is_tab_or_newline b) 16 (cond (is_hex b) (digit_value b) 32) tab ∙ cond-true (is_hex b) (digit_value b) 32 hex in
-    digit_here b s tab ∙ cond-true (is_hex b) (Some (digit_value b, s)) None hex ∙ ap (λ v. Some (v, s)) (sym code)
+    let tab = both_left (is_tab_or_newline b) (is_ascii_hexdigit b) k in
+    let hex = both_right (is_tab_or_newline b) (is_ascii_hexdigit b) k in
+    let code : digit_code b ≡ digit_value b = cond-false (is_tab_or_newline b) 16 (cond (is_ascii_hexdigit b) (digit_value b) 32) tab ∙ cond-true (is_ascii_hexdigit b) (digit_value b) 32 hex in
+    digit_here b s tab ∙ cond-true (is_ascii_hexdigit b) (Some (digit_value b, s)) None hex ∙ ap (λ v. Some (v, s)) (sym code)
 
-other_test : (b : ℕ) → b < 256 → 16 < digit_code b → cond (ltb 16 (digit_code b)) (not (is_tab_or_newline b) && not (is_hex b)) true ≡ true
-other_test b l h = agree_below_at (λ b. cond (ltb 16 (digit_code b)) (not (is_tab_or_newline b) && not (is_hex b)) true) (λ b. true) 256 b refl l
+other_test : (b : ℕ) → b < 256 → 16 < digit_code b → cond (ltb 16 (digit_code b)) (not (is_tab_or_newline b) && not (is_ascii_hexdigit b)) true ≡ true
+other_test b l h = agree_below_at (λ b. cond (ltb 16 (digit_code b)) (not (is_tab_or_newline b) && not (is_ascii_hexdigit b)) true) (λ b. true) 256 b refl l
 
 digit_other : (b : ℕ) (s : List ℕ) → b < 256 → 16 < digit_code b → digit (b ∷ s) ≡ None
 digit_other b s l h =
-    let k : (not (is_tab_or_newline b) && not (is_hex b)) ≡ true = sym (cond-true (ltb 16 (digit_code b)) (not (is_tab_or_newline b) && not (is_hex b)) true (lt-ltb 16 (digit_code b) h)) ∙ other_test b l h in
-    let tab = both_left (is_tab_or_newline b) (not (is_hex b)) k in
-    let hex : is_hex b ≡ false = not_true (is_hex b) (both_right (is_tab_or_newline b) (not (is_hex b)) k) in
-    digit_here b s tab ∙ cond-false (is_hex b) (Some (digit_value b, s)) None hex
+    let k : (not (is_tab_or_newline b) && not (is_ascii_hexdigit b)) ≡ true = sym (cond-true (ltb 16 (digit_code b)) (not (is_tab_or_newline b) && not (is_ascii_hexdigit b)) true (lt-ltb 16 (digit_code b) h)) ∙ other_test b l h in
+    let tab = both_left (is_tab_or_newline b) (not (is_ascii_hexdigit b)) k in
+    let hex : is_ascii_hexdigit b ≡ false = not_true (is_ascii_hexdigit b) (both_right (is_tab_or_newline b) (not (is_ascii_hexdigit b)) k) in
+    digit_here b s tab ∙ cond-false (is_ascii_hexdigit b) (Some (digit_value b, s)) None hex
 
 -- digits from a place on
 

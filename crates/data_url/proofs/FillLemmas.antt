@@ -8,7 +8,8 @@ use Rattle.std.proofs.lemmas.List.Folds.{list_all-append}
 use Rattle.std.proofs.lemmas.List.Sums.{list_all-from_AllPass, prefix_len-le-length, prefix_len_passes}
 use Rattle.std.proofs.lemmas.Simd.{get_or-replicate}
 use Rattle.std.proofs.Math.Seq.{take-append-add}
-use Rattle.data_url.specs.Base64.{groups, is_ascii_whitespace, is_symbol, symbol_value, values}
+use Rattle.data_url.specs.Base64.{groups, is_symbol, symbol_value, values}
+use Rattle.std.specs.Char.{is_ascii_whitespace}
 use Rattle.data_url.specs.Steps.Blocks.{AreGroups, Fills, is_symbol_or_space, without}
 use Rattle.data_url.specs.Steps.Lanes.{value_of}
 use Rattle.data_url.proofs.BlockLemmas.{groups_whole}

@@ -4,7 +4,8 @@ use Rattle.std.specs.Prelude.{MatchResult, is_err}
 use Rattle.std.specs.List.{filter, list_all}
 use Rattle.std.proofs.lemmas.Bool.{and_parts, or_cases, true≢false}
 use Rattle.std.proofs.lemmas.List.{append-nil, get_or-drop, length-map, take_all, take_more, take_rest}
-use Rattle.data_url.specs.Base64.{Kind, after_groups, done, first_fault, groups, is_ascii_whitespace, is_symbol, kind_of, left_padding, left_symbols, left_text, symbol_value, values}
+use Rattle.data_url.specs.Base64.{Kind, after_groups, done, first_fault, groups, is_symbol, kind_of, left_padding, left_symbols, left_text, symbol_value, values}
+use Rattle.std.specs.Char.{is_ascii_whitespace}
 use Rattle.data_url.specs.Decoder.{Feeds, IsTaken, State, left_over}
 use Rattle.data_url.specs.Mime.{Every}
 use Rattle.data_url.specs.Run.{Call, IsRun, joined, or_error, refusal}

@@ -5,6 +5,7 @@ use Rattle.std.specs.Char.{to_ascii_lowercase}
 use Rattle.data_url.specs.CodePoints.{ends_name, is_http_whitespace, is_semicolon}
 use Rattle.data_url.specs.Mime.{BeginsParameters, DoesNotBegin, Every, GivesValue, IsParameter, IsTrimmedEnd, Item, Items, Quoted, QuotedOpen, is_quote, lone_equals, nothing, plain, quoted, unclosed, unless_empty}
 use Rattle.data_url.specs.Steps.Facts.{HasOneItemList}
+use Rattle.data_url.specs.Steps.Parsing.{HasParameterBefore}
 use Rattle.data_url.proofs.TextLemmas.{behind_begins, behind_front, behind_is, behind_length, front_is, front_joined, front_of, front_passes, is_trimmed_end, trimmed_end_is, without_back}
 use Rattle.data_url.proofs.QuotedLemmas.{IsRead, closed_rest, closed_value, is_read, open_rest, open_value, quoted_rest, quoted_value}
 
@@ -146,14 +147,6 @@ item_in s = (map to_ascii_lowercase (name_in s), (reading (behind_name s)).value
 abbrev pub rest_in : List ℕ → List ℕ
 rest_in s = (reading (behind_name s)).rest
 
--- what stands before the rest is a parameter of the item
-pub record HasParameter (s : List ℕ) (item : Item) (rest : List ℕ) : Type 0 where
-  pub text : List ℕ
-  pub joined : 59 ∷ s ≡ text ++ rest
-  pub is_parameter : IsParameter text rest item
-  pub begins : BeginsParameters rest
-  pub shorter : length rest ≤ length s
-
 pub not_begins_front : (p q : ℕ → Bool) (s : List ℕ) → DoesNotBegin p s → DoesNotBegin p (front_of q s)
 not_begins_front p q [] h = tt
 not_begins_front p q (c ∷ s) h = cond_both (q c) (c ∷ front_of q s) [] (λ v. DoesNotBegin p v) (λ e. h) (λ e. tt)
@@ -161,10 +154,7 @@ not_begins_front p q (c ∷ s) h = cond_both (q c) (c ∷ front_of q s) [] (λ v
 parameter_joined : (s : List ℕ) (r : Reading) (i : IsReading (behind_name s) r) → s ≡ (front_of is_http_whitespace s ++ (name_in s ++ i.tail)) ++ r.rest
 parameter_joined s r i = front_joined is_http_whitespace s ∙ ap (λ x. front_of is_http_whitespace s ++ x) (front_joined in_name (behind_front is_http_whitespace s) ∙ ap (λ x. name_in s ++ x) i.joined ∙ sym (append_assoc (name_in s) i.tail r.rest)) ∙ sym (append_assoc (front_of is_http_whitespace s) (name_in s ++ i.tail) r.rest)
 
-reading_length : (x : List ℕ) (r : Reading) → IsReading x r → length r.rest ≤ length x
-reading_length x r i = omega (arith, length-append i.tail r.rest, ap length i.joined)
-
-parameter_from : (s : List ℕ) (r : Reading) → IsReading (behind_name s) r → HasParameter s (map to_ascii_lowercase (name_in s), r.value) r.rest
+parameter_from : (s : List ℕ) (r : Reading) → IsReading (behind_name s) r → HasParameterBefore s (map to_ascii_lowercase (name_in s), r.value) r.rest
 parameter_from s r i = record {
   text = 59 ∷ (front_of is_http_whitespace s ++ (name_in s ++ i.tail));
   joined = ap (λ x. 59 ∷ x) (parameter_joined s r i);
@@ -180,10 +170,12 @@ parameter_from s r i = record {
     value_is = i.gives;
   };
   begins = i.begins;
-  shorter = omega (arith, reading_length (behind_name s) r i, behind_length in_name (behind_front is_http_whitespace s), behind_length is_http_whitespace s);
 }
 
-pub has_parameter : (s : List ℕ) → HasParameter s (item_in s) (rest_in s)
+pub rest_shorter : (s rest : List ℕ) (item : Item) → HasParameterBefore s item rest → length rest ≤ length s
+rest_shorter s rest item h = omega (arith, ap length h.joined, length-append h.text rest, ap length h.is_parameter.joined)
+
+pub has_parameter : (s : List ℕ) → HasParameterBefore s (item_in s) (rest_in s)
 has_parameter s = parameter_from s (reading (behind_name s)) (is_reading (behind_name s) (behind_begins in_name (behind_front is_http_whitespace s)))
 
 -- A parameter text reads so
@@ -278,7 +270,8 @@ items_below zero r l b = absurd (omega arith)
 items_below (suc n) [] l b = ([], refl)
 items_below (suc n) (c ∷ s) l b =
     let p = has_parameter s in
-    let below : length (rest_in s) < n = omega arith in
+    let shorter : length (rest_in s) ≤ length s = rest_shorter s (rest_in s) (item_in s) p in
+    let below : length (rest_in s) < n = omega (arith, shorter) in
     let i = items_below n (rest_in s) below p.begins in
     subst (λ x. (items : List Item) × Items (x ∷ s) items) (sym b) (item_in s ∷ i.0, items_more s i.0 i.1)
 

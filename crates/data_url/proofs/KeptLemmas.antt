@@ -16,6 +16,8 @@ use Rattle.data_url.specs.Steps.Parsing.{HasLowercaseNames, HasParameterBefore, 
 use Rattle.data_url.specs.declared.mime.parse.Parameter.{Parameter}
 use Rattle.data_url.specs.MimeType.{code_points, pair_of}
 use Rattle.data_url.proofs.TokenLemmas.{bytes_of_ascii, token_text_ascii, token_text_chars}
+use Rattle.std.proofs.Math.Bool.{or_assoc}
+use Rattle.data_url.proofs.TextLemmas.{some_equal}
 
 -- Equality of texts as a test
 
@@ -116,9 +118,6 @@ pub no_pair_named : (item : Item) (xs : List Pair) → has_name item.0 xs ≡ tr
 no_pair_named (name, None) xs h = refl
 no_pair_named (name, Some v) xs h = unless_none xs (name, v) (is_token_text name && list_all is_quotable v) h
 
-some_equal : (a b : List ℕ) → Some a ≡ Some b → a ≡ b
-some_equal a b e = cc
-
 some_quotable : (v w : List ℕ) (b : Bool) → ◌≡◌ {A = Option (List ℕ)} (Some w) (cond b (Some v) None) → (b ≡ true) × (w ≡ v)
 some_quotable v w true h = (refl, some_equal w v h)
 some_quotable v w false h = absurd (let k = h in cc)
@@ -130,10 +129,6 @@ one_pair (name, Some v) xs w t n h =
     ap (unless_named xs) (cond-true (is_token_text name && list_all is_quotable v) ((name, v) ∷ []) [] (and_from (is_token_text name) (list_all is_quotable v) t q.0)) ∙ cond-false (has_name name xs) [] ((name, v) ∷ []) n ∙ ap (λ x. (name, x) ∷ []) (sym q.1)
 
 -- The pairs kept of one more item
-
-or_assoc : (a b c : Bool) → ((a || b) || c) ≡ (a || (b || c))
-or_assoc true b c = refl
-or_assoc false b c = refl
 
 or_none : (b : Bool) → (b || false) ≡ b
 or_none true = refl
@@ -259,6 +254,3 @@ keeps_more whole rest s rest' pairs pairs' parameter item k e p i a = record {
 
 pub keeps_end : (whole rest : List ℕ) (pairs : List Pair) → KeepsOn whole rest pairs → rest ≡ [] → (items : List Item) × Items whole items × (pairs ≡ kept items)
 keeps_end whole rest pairs k e = (k.items, subst (Items whole) (append-nil k.items) (k.goes_on [] e), k.kept_is)
-
-pub rest_shorter : (s rest : List ℕ) (item : Item) → HasParameterBefore s item rest → length rest ≤ length s
-rest_shorter s rest item h = omega (arith, ap length h.joined, length-append h.text rest, ap length h.is_parameter.joined)

@@ -1,13 +1,13 @@
 -- The record of a header.
 use Rattle.std.proofs.Common.{◌≡◌, ◌≢◌, ℕ, suc, ◌<◌, ◌≤◌, Bool, true, false, cond, List, [], ◌∷◌, ◌++◌, length, get_or, map, codes, Option, None, Some, is_some, refl, sym, ap, inl, inr, subst, ⊎_elim, ltb, arith}
-use Rattle.std.specs.Prelude.{◌==◌, ◌⊎◌, ◌-◌, option_and_then}
+use Rattle.std.specs.Prelude.{◌==◌, ◌⊎◌, ◌-◌, option_and_then, unwrap_or}
 use Rattle.std.specs.Str.{IsAscii, bytes_eq, chars}
 use Rattle.std.proofs.lemmas.Bool.{agree_below_at, cases_lt, cond-true, cond-false, eq-eqb, ltb-true, ne_eqb}
 use Rattle.std.proofs.lemmas.List.{get_or_past}
 use Rattle.std.proofs.lemmas.Str.{IsAscii-append, chars-IsAscii}
 use Rattle.std.specs.Char.{to_ascii_lowercase}
 use Rattle.std.specs.List.{suffix_len}
-use Rattle.data_url.specs.Fetch.{before_base64, before_last, before_semicolon, before_word, has_base64_suffix, is_space, last, media_of, mime_text, or_else, stripped, with_plain}
+use Rattle.data_url.specs.Fetch.{before_base64, before_last, before_semicolon, before_word, has_base64_suffix, is_space, last, media_of, mime_text, stripped, with_plain}
 use Rattle.data_url.specs.Url.{dropped, serialised, without_end}
 use Rattle.data_url.specs.Mime.{HasNoRecord, IsWellformed, Parses, Record, default_record}
 use Rattle.data_url.specs.Steps.Header.{IsHeaderOf, IsPrintable, IsRecordFor}
@@ -68,14 +68,14 @@ chars_plain media h = chars-IsAscii (codes "text/plain" ++ media) (IsAscii-appen
 pub with_suffix : (header media : List ℕ) (m : Record) → before_base64 (stripped header) ≡ Some media → IsRecordFor (with_plain media) m → IsHeaderOf header m true
 unfolding mime_text media_of has_base64_suffix
 with_suffix header media m e h = record {
-  record_is = subst (λ s. IsRecordFor (with_plain s) m) (sym (ap (or_else (stripped header)) e)) h;
+  record_is = subst (λ s. IsRecordFor (with_plain s) m) (sym (ap (λ o. unwrap_or o (stripped header)) e)) h;
   base64_is = sym (ap is_some e);
 }
 
 pub no_suffix : (header : List ℕ) (m : Record) → before_base64 (stripped header) ≡ None → IsRecordFor (with_plain (stripped header)) m → IsHeaderOf header m false
 unfolding mime_text media_of has_base64_suffix
 no_suffix header m e h = record {
-  record_is = subst (λ s. IsRecordFor (with_plain s) m) (sym (ap (or_else (stripped header)) e)) h;
+  record_is = subst (λ s. IsRecordFor (with_plain s) m) (sym (ap (λ o. unwrap_or o (stripped header)) e)) h;
   base64_is = sym (ap is_some e);
 }
 

@@ -65,24 +65,26 @@ quotes = record {
   type_ = codes "TEXT";
   subtype = codes "HTML";
   parameters = codes ";a=" ++ (34 ∷ codes "b;c" ++ (34 ∷ codes ";d=;e=" ++ (34 ∷ 34 ∷ [])));
-  items = (codes "a", Some (codes "b;c")) ∷ (codes "d", None) ∷ (codes "e", Some []) ∷ [];
   head = head (codes "TEXT") (codes "HTML") (codes ";a=" ++ (34 ∷ codes "b;c" ++ (34 ∷ codes ";d=;e=" ++ (34 ∷ 34 ∷ [])))) refl refl refl refl refl;
-  items_are = (
-    codes ";a=" ++ (34 ∷ codes "b;c" ++ (34 ∷ [])),
-    codes ";d=;e=" ++ (34 ∷ 34 ∷ []),
-    refl,
-    parameter (codes "a") _ _ _ refl refl (quoted (codes "b;c") [] (quoted_units (plainly (codes "b;c")) refl) tt),
-    (
-      codes ";d=",
-      codes ";e=" ++ (34 ∷ 34 ∷ []),
+  record_is = record {
+    items = (codes "a", Some (codes "b;c")) ∷ (codes "d", None) ∷ (codes "e", Some []) ∷ [];
+    items_are = (
+      codes ";a=" ++ (34 ∷ codes "b;c" ++ (34 ∷ [])),
+      codes ";d=;e=" ++ (34 ∷ 34 ∷ []),
       refl,
-      parameter (codes "d") _ _ _ refl refl (plain_value [] _ refl tt tt),
-      (codes ";e=" ++ (34 ∷ 34 ∷ []), [], refl, parameter (codes "e") _ _ _ refl refl (quoted [] [] (quoted_units [] refl) tt), refl),
-    ),
-  );
-  type_is = refl;
-  subtype_is = refl;
-  parameters_are = refl;
+      parameter (codes "a") _ _ _ refl refl (quoted (codes "b;c") [] (quoted_units (plainly (codes "b;c")) refl) tt),
+      (
+        codes ";d=",
+        codes ";e=" ++ (34 ∷ 34 ∷ []),
+        refl,
+        parameter (codes "d") _ _ _ refl refl (plain_value [] _ refl tt tt),
+        (codes ";e=" ++ (34 ∷ 34 ∷ []), [], refl, parameter (codes "e") _ _ _ refl refl (quoted [] [] (quoted_units [] refl) tt), refl),
+      ),
+    );
+    type_is = refl;
+    subtype_is = refl;
+    parameters_are = refl;
+  };
 }
 
 -- the record x/x with these parameters
@@ -96,12 +98,14 @@ parses_x r items begins ends are = record {
   type_ = codes "x";
   subtype = codes "x";
   parameters = r;
-  items = items;
   head = head (codes "x") (codes "x") r refl refl begins refl ends;
-  items_are = are;
-  type_is = refl;
-  subtype_is = refl;
-  parameters_are = refl;
+  record_is = record {
+    items = items;
+    items_are = are;
+    type_is = refl;
+    subtype_is = refl;
+    parameters_are = refl;
+  };
 }
 
 -- names are lower-cased before they are compared, and the first pair of a name is kept
@@ -189,7 +193,6 @@ whitespace = record {
   type_ = codes "a";
   subtype = codes "b";
   parameters = codes "; c=d";
-  items = (codes "c", Some (codes "d")) ∷ [];
   head = record {
     text = codes "a/b ; c=d";
     gap = codes " ";
@@ -200,10 +203,13 @@ whitespace = record {
     in_gap = every_from_all is_http_whitespace (codes " ") refl;
     begins = refl;
   };
-  items_are = (codes "; c=d", [], refl, record { gap = codes " "; name = codes "c"; tail = codes "=d"; joined = refl; in_gap = every_from_all is_http_whitespace (codes " ") refl; begins = refl; in_name = every_from_all (λ c. not (ends_name c)) (codes "c") refl; name_is = refl; value_is = plain_value (codes "d") _ refl refl refl }, refl);
-  type_is = refl;
-  subtype_is = refl;
-  parameters_are = refl;
+  record_is = record {
+    items = (codes "c", Some (codes "d")) ∷ [];
+    items_are = (codes "; c=d", [], refl, record { gap = codes " "; name = codes "c"; tail = codes "=d"; joined = refl; in_gap = every_from_all is_http_whitespace (codes " ") refl; begins = refl; in_name = every_from_all (λ c. not (ends_name c)) (codes "c") refl; name_is = refl; value_is = plain_value (codes "d") _ refl refl refl }, refl);
+    type_is = refl;
+    subtype_is = refl;
+    parameters_are = refl;
+  };
 }
 
 -- Texts without a record

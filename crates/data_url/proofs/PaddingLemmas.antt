@@ -1,11 +1,14 @@
 -- The definitions of base64 by a walk that remembers whether it has seen a sign.
-use Rattle.std.proofs.Common.{◌≡◌, ℕ, suc, zero, ◌%◌, Bool, true, false, not, cond, eqb, ◌||◌, List, [], ◌∷◌, ◌++◌, length, map, replicate, Option, None, Some, is_some, refl, ap, sym, ◌∙◌, inl, inr, arith, append_assoc}
+use Rattle.std.proofs.Common.{◌≡◌, ℕ, suc, zero, ◌%◌, ◌<◌, ◌≤◌, ◌&&◌, Bool, true, false, not, cond, eqb, ◌||◌, List, [], ◌∷◌, ◌++◌, length, map, replicate, Option, None, Some, is_some, refl, subst, ap, sym, ◌∙◌, inl, inr, arith, append_assoc}
 use Rattle.std.specs.List.{filter, list_all, list_any}
 use Rattle.std.proofs.lemmas.List.{append-nil}
 use Rattle.std.proofs.lemmas.List.Elements.{filter-append}
 use Rattle.std.proofs.lemmas.List.Folds.{list_any-append}
-use Rattle.std.proofs.lemmas.Bool.{and_parts, eqb-true, false_from_ne_true, or_cases}
-use Rattle.data_url.specs.Base64.{AlphabetSymbolAfterPadding, Kind, LoneAlphabetSymbol, Padding, UnexpectedSymbol, after_groups, before_place, compact, done, first_fault, group_bytes, group_number, groups, is_ascii_whitespace, is_symbol, is_valid, kind_at, kind_of, unpadded, values, without_last_padding}
+use Rattle.std.specs.Int.{is_in_range}
+use Rattle.data_url.proofs.TextLemmas.{range_high}
+use Rattle.std.proofs.lemmas.Bool.{agree_below_at, and_parts, eqb-true, false_from_ne_true, or_cases}
+use Rattle.data_url.specs.Base64.{AlphabetSymbolAfterPadding, Kind, LoneAlphabetSymbol, Padding, UnexpectedSymbol, after_groups, before_place, compact, done, first_fault, group_bytes, group_number, groups, is_symbol, is_valid, kind_at, kind_of, unpadded, values, without_last_padding}
+use Rattle.std.specs.Char.{is_ascii_whitespace}
 use Rattle.data_url.specs.Steps.Facts.{IsSymbolsAndPadding}
 use Rattle.data_url.specs.Mime.{Every}
 use Rattle.data_url.proofs.ValidLemmas.{fits_with, symbols_signs_valid}
@@ -14,22 +17,23 @@ use Rattle.data_url.proofs.WalkLemmas.{Class, of_space, of_sign, of_symbol, of_n
 abbrev pub is_sign : ℕ → Bool
 is_sign c = eqb c 61
 
+whitespace_low : (c : ℕ) → is_ascii_whitespace c ≡ true → c < 33
+whitespace_low c e =
+    elim (or_cases (is_in_range 9 10 c || is_in_range 12 13 c) (is_in_range 32 32 c) e) [
+      | inl r ↦ elim (or_cases (is_in_range 9 10 c) (is_in_range 12 13 c) r) [
+        | inl r ↦ let k = range_high 9 10 c r in omega arith
+        | inr r ↦ let k = range_high 12 13 c r in omega arith
+      ]
+      | inr r ↦ let k = range_high 32 32 c r in omega arith
+    ]
+
 -- each byte is in at most one class
 at_space : (c : ℕ) → is_ascii_whitespace c ≡ true → Class true (is_sign c) (is_symbol c)
 at_space c e =
-    elim (or_cases (eqb c 9) (eqb c 10 || (eqb c 12 || (eqb c 13 || eqb c 32))) e) [
-      | inl f ↦ rw (eqb-true c 9 f) of_space
-      | inr e1 ↦ elim (or_cases (eqb c 10) (eqb c 12 || (eqb c 13 || eqb c 32)) e1) [
-        | inl f ↦ rw (eqb-true c 10 f) of_space
-        | inr e2 ↦ elim (or_cases (eqb c 12) (eqb c 13 || eqb c 32) e2) [
-          | inl f ↦ rw (eqb-true c 12 f) of_space
-          | inr e3 ↦ elim (or_cases (eqb c 13) (eqb c 32) e3) [
-            | inl f ↦ rw (eqb-true c 13 f) of_space
-            | inr f ↦ rw (eqb-true c 32 f) of_space
-          ]
-        ]
-      ]
-    ]
+    let low : c < 33 = whitespace_low c e in
+    let sign : is_sign c ≡ false = ap (λ v. v && is_sign c) (sym e) ∙ agree_below_at (λ c. is_ascii_whitespace c && is_sign c) (λ c. false) 33 c refl low in
+    let symbol : is_symbol c ≡ false = ap (λ v. v && is_symbol c) (sym e) ∙ agree_below_at (λ c. is_ascii_whitespace c && is_symbol c) (λ c. false) 33 c refl low in
+    subst (λ y. Class true y (is_symbol c)) (sym sign) (subst (λ z. Class true false z) (sym symbol) of_space)
 
 at_symbol : (z : Bool) → Class false false z
 at_symbol true = of_symbol

@@ -7,6 +7,7 @@ use Rattle.std.specs.Str.{IsUtf8, chars}
 use Rattle.data_url.specs.Mime.{escaped, is_token_text, printed, printed_pair, printed_value}
 use Rattle.data_url.specs.MimeType.{code_points, pair_of, seen}
 use Rattle.data_url.specs.declared.mime.Mime.{Mime}
+use Rattle.data_url.proofs.TextLemmas.{no_chars}
 
 -- Escaped text
 
@@ -15,10 +16,6 @@ escaped_more r r' done whole c u e h =
     append_assoc done (encode_utf8_all (escaped c)) (encode_utf8_all (flat_map escaped (chars r')))
     ∙ ap (λ x. done ++ x) (sym (ap (λ x. encode_utf8_all (flat_map escaped x)) (chars_past_char r r' c u e) ∙ encodes-append (escaped c) (flat_map escaped (chars r'))))
     ∙ h
-
-no_chars : (r : List ℕ) → length r ≡ 0 → chars r ≡ []
-no_chars [] e = chars-nil
-no_chars (b ∷ r) e = absurd (omega arith)
 
 pub escaped_end : (r done whole : List ℕ) → length r ≡ 0 → done ++ encode_utf8_all (flat_map escaped (chars r)) ≡ whole → done ≡ whole
 escaped_end r done whole l h = sym (append-nil done) ∙ ap (λ x. done ++ encode_utf8_all (flat_map escaped x)) (sym (no_chars r l)) ∙ h

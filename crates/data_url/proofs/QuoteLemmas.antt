@@ -9,6 +9,7 @@ use lib.Utf8.{encode, next, scalar}
 use Rattle.data_url.specs.Mime.{Quoted}
 use Rattle.data_url.specs.Steps.Parsing.{IsClosed, IsOpen}
 use Rattle.data_url.proofs.QuotedLemmas.{IsRead, is_read, quoted_rest, quoted_value}
+use Rattle.data_url.proofs.TextLemmas.{some_equal}
 
 -- no byte is ASCII
 abbrev IsHigh : List ℕ → Type 0
@@ -78,9 +79,6 @@ is_open bs text i e u b l h =
 scalars_behind : (q w : List ℕ) → all_scalars (q ++ w) ≡ true → all_scalars w ≡ true
 scalars_behind [] w h = h
 scalars_behind (c ∷ q) w h = scalars_behind q w (and_parts (scalar c) (all_scalars (q ++ w)) h).1
-
-some_equal : (a b : List ℕ) → Some a ≡ Some b → a ≡ b
-some_equal a b e = cc
 
 closed_if : (bs raw behind v : List ℕ) (o : Option (List ℕ)) → IsRead (chars bs) v o → option_map encode_utf8_all o ≡ Some behind → all_scalars (chars bs) ≡ true → chars bs ≡ chars raw ++ (34 ∷ chars behind) → IsUtf8 behind → IsClosed bs raw behind
 closed_if bs raw behind v None h e s j u = absurd (let k = e in cc)

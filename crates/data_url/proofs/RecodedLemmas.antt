@@ -1,11 +1,11 @@
 -- Texts with some of their bytes percent-encoded: they decode alike, and their first commas stand at the same bytes.
 use Rattle.std.proofs.Common.{◌≡◌, ℕ, ◌+◌, ◌*◌, ◌/◌, ◌%◌, ◌<◌, Bool, true, false, not, List, [], ◌∷◌, ◌++◌, Option, None, Some, refl, sym, ap, ◌∙◌, inl, inr, subst, append_assoc, arith, eqb-true}
 use Rattle.std.specs.Prelude.{◌==◌, ◌||◌, ◌&&◌, nat_lt}
-use Rattle.std.specs.Char.{digit_value}
+use Rattle.std.specs.Char.{digit_value, is_ascii_hexdigit}
 use Rattle.std.specs.List.{AllByRecursion}
 use Rattle.std.proofs.lemmas.Bool.{agree_below_at, and_left, and_parts, and_right, cases_Bool, cond-true, cond-false, cond_both, both_ways, ne_eqb, or_left}
 use Rattle.data_url.specs.Url.{before, behind, encoded_byte, hex_digit, in_path_set, in_query_set, percent_encoded, serialised, with_query}
-use Rattle.data_url.specs.Percent.{is_escape, is_hex, percent_decoded}
+use Rattle.data_url.specs.Percent.{is_escape, percent_decoded}
 use Rattle.data_url.proofs.UrlLemmas.{before-append, before_nil, before_other, before_same, behind_nil, behind_other, behind_same}
 
 abbrev pub IsBytes : List ℕ → Type 0
@@ -20,12 +20,12 @@ pub data Recoded : List ℕ → List ℕ → Type 0 where
 -- Bytes
 
 abbrev no_hex : ℕ → Bool
-no_hex b = not (in_query_set b && is_hex b)
+no_hex b = not (in_query_set b && is_ascii_hexdigit b)
 
 -- a byte of the set is no hexadecimal digit
-set_no_hex : (b : ℕ) → b < 256 → in_query_set b ≡ true → is_hex b ≡ false
-set_no_hex b l h = elim (cases_Bool (is_hex b)) [
-  | inl e ↦ absurd (both_ways (no_hex b) (ap (λ v. not (v && is_hex b)) h ∙ ap (λ v. not v) e) (agree_below_at no_hex (λ c. true) 256 b refl l))
+set_no_hex : (b : ℕ) → b < 256 → in_query_set b ≡ true → is_ascii_hexdigit b ≡ false
+set_no_hex b l h = elim (cases_Bool (is_ascii_hexdigit b)) [
+  | inl e ↦ absurd (both_ways (no_hex b) (ap (λ v. not (v && is_ascii_hexdigit b)) h ∙ ap (λ v. not v) e) (agree_below_at no_hex (λ c. true) 256 b refl l))
   | inr e ↦ e
 ]
 
@@ -36,8 +36,8 @@ set_other b c e h = ne_eqb b c (λ (k : b ≡ c). both_ways (in_query_set b) (ap
 hex_digit_value : (d : ℕ) → d < 16 → digit_value (hex_digit d) ≡ d
 hex_digit_value d l = eqb-true (digit_value (hex_digit d)) d (agree_below_at (λ d. digit_value (hex_digit d) == d) (λ c. true) 16 d refl l)
 
-hex_digit_hex : (d : ℕ) → d < 16 → is_hex (hex_digit d) ≡ true
-hex_digit_hex d l = agree_below_at (λ d. is_hex (hex_digit d)) (λ c. true) 16 d refl l
+hex_digit_hex : (d : ℕ) → d < 16 → is_ascii_hexdigit (hex_digit d) ≡ true
+hex_digit_hex d l = agree_below_at (λ d. is_ascii_hexdigit (hex_digit d)) (λ c. true) 16 d refl l
 
 hex_digit_other : (d c : ℕ) → c < 48 → (hex_digit d == c) ≡ false
 hex_digit_other d c l = cond_both (nat_lt d 10) (48 + d) (55 + d) (λ v. (v == c) ≡ false) (λ e. ne_eqb (48 + d) c (λ k. omega arith)) (λ e. ne_eqb (55 + d) c (λ k. omega arith))
@@ -48,7 +48,7 @@ hex_digit_other d c l = cond_both (nat_lt d 10) (48 + d) (55 + d) (λ v. (v == c
 abbrev pub two_digits : List ℕ → Bool
 two_digits [] = false
 two_digits (b ∷ []) = false
-two_digits (b ∷ c ∷ s) = is_hex b && is_hex c
+two_digits (b ∷ c ∷ s) = is_ascii_hexdigit b && is_ascii_hexdigit c
 
 pub decoded_keeps : (a : ℕ) (s : List ℕ) → ((a == 37) && two_digits s) ≡ false → percent_decoded (a ∷ s) ≡ a ∷ percent_decoded s
 unfolding percent_decoded
@@ -56,9 +56,9 @@ decoded_keeps a [] h = refl
 decoded_keeps a (b ∷ []) h = refl
 decoded_keeps a (b ∷ c ∷ s) h = cond-false (is_escape a b c) ((16 * digit_value b + digit_value c) ∷ percent_decoded s) (a ∷ percent_decoded (b ∷ c ∷ s)) h
 
-pub decoded_escape : (b c : ℕ) (s : List ℕ) → is_hex b ≡ true → is_hex c ≡ true → percent_decoded (37 ∷ b ∷ c ∷ s) ≡ (16 * digit_value b + digit_value c) ∷ percent_decoded s
+pub decoded_escape : (b c : ℕ) (s : List ℕ) → is_ascii_hexdigit b ≡ true → is_ascii_hexdigit c ≡ true → percent_decoded (37 ∷ b ∷ c ∷ s) ≡ (16 * digit_value b + digit_value c) ∷ percent_decoded s
 unfolding percent_decoded
-decoded_escape b c s h k = cond-true (is_escape 37 b c) ((16 * digit_value b + digit_value c) ∷ percent_decoded s) (37 ∷ percent_decoded (b ∷ c ∷ s)) (ap (λ v. v && is_hex c) h ∙ k)
+decoded_escape b c s h k = cond-true (is_escape 37 b c) ((16 * digit_value b + digit_value c) ∷ percent_decoded s) (37 ∷ percent_decoded (b ∷ c ∷ s)) (ap (λ v. v && is_ascii_hexdigit c) h ∙ k)
 
 -- what is written again is decoded to the byte
 decoded_written : (b : ℕ) (x : List ℕ) → b < 256 → percent_decoded (37 ∷ hex_digit (b / 16) ∷ hex_digit (b % 16) ∷ x) ≡ b ∷ percent_decoded x
@@ -72,20 +72,20 @@ same_digits : {s x : List ℕ} → Recoded s x → two_digits x ≡ two_digits s
 same_digits none = refl
 same_digits (kept b none) = refl
 same_digits (kept b (kept c r)) = refl
-same_digits (kept b (written c h l r)) = and_right (is_hex b) false refl ∙ sym (and_right (is_hex b) (is_hex c) (set_no_hex c l h))
+same_digits (kept b (written c h l r)) = and_right (is_ascii_hexdigit b) false refl ∙ sym (and_right (is_ascii_hexdigit b) (is_ascii_hexdigit c) (set_no_hex c l h))
 same_digits (written b h l none) = refl
-same_digits (written b h l (kept c r)) = sym (and_left (is_hex b) (is_hex c) (set_no_hex b l h))
-same_digits (written b h l (written c k m r)) = sym (and_left (is_hex b) (is_hex c) (set_no_hex b l h))
+same_digits (written b h l (kept c r)) = sym (and_left (is_ascii_hexdigit b) (is_ascii_hexdigit c) (set_no_hex b l h))
+same_digits (written b h l (written c k m r)) = sym (and_left (is_ascii_hexdigit b) (is_ascii_hexdigit c) (set_no_hex b l h))
 
 -- a byte that is kept, before no escape
 keeps : {s x : List ℕ} (b : ℕ) → Recoded s x → ((b == 37) && two_digits s) ≡ false → percent_decoded x ≡ percent_decoded s → percent_decoded (b ∷ x) ≡ percent_decoded (b ∷ s)
 keeps {s} {x} b r h e = decoded_keeps b x (ap (λ v. (b == 37) && v) (same_digits r) ∙ h) ∙ ap (λ t. b ∷ t) e ∙ sym (decoded_keeps b s h)
 
 -- a '%' that is kept, before two digits
-escapes : (b c d : ℕ) (s x : List ℕ) → ((b == 37) && (is_hex c && is_hex d)) ≡ true → percent_decoded x ≡ percent_decoded s → percent_decoded (b ∷ c ∷ d ∷ x) ≡ percent_decoded (b ∷ c ∷ d ∷ s)
+escapes : (b c d : ℕ) (s x : List ℕ) → ((b == 37) && (is_ascii_hexdigit c && is_ascii_hexdigit d)) ≡ true → percent_decoded x ≡ percent_decoded s → percent_decoded (b ∷ c ∷ d ∷ x) ≡ percent_decoded (b ∷ c ∷ d ∷ s)
 escapes b c d s x h e =
-    let p = and_parts (b == 37) (is_hex c && is_hex d) h in
-    let q = and_parts (is_hex c) (is_hex d) p.1 in
+    let p = and_parts (b == 37) (is_ascii_hexdigit c && is_ascii_hexdigit d) h in
+    let q = and_parts (is_ascii_hexdigit c) (is_ascii_hexdigit d) p.1 in
     let f : b ≡ 37 = eqb-true b 37 p.0 in
     ap (λ v. percent_decoded (v ∷ c ∷ d ∷ x)) f ∙ decoded_escape c d x q.0 q.1 ∙ ap (λ t. (16 * digit_value c + digit_value d) ∷ t) e ∙ sym (decoded_escape c d s q.0 q.1) ∙ ap (λ v. percent_decoded (v ∷ c ∷ d ∷ s)) (sym f)
 
@@ -93,9 +93,9 @@ escapes b c d s x h e =
 no_escape : (b : ℕ) (v : Bool) → v ≡ false → ((b == 37) && v) ≡ false
 no_escape b v h = and_right (b == 37) v h
 
-first_no_digit : (c : ℕ) (s : List ℕ) → is_hex c ≡ false → two_digits (c ∷ s) ≡ false
+first_no_digit : (c : ℕ) (s : List ℕ) → is_ascii_hexdigit c ≡ false → two_digits (c ∷ s) ≡ false
 first_no_digit c [] h = refl
-first_no_digit c (d ∷ s) h = and_left (is_hex c) (is_hex d) h
+first_no_digit c (d ∷ s) h = and_left (is_ascii_hexdigit c) (is_ascii_hexdigit d) h
 
 pub recoded-decoded : {s x : List ℕ} → Recoded s x → percent_decoded x ≡ percent_decoded s
 recoded-decoded none = refl
@@ -103,8 +103,8 @@ recoded-decoded (written {s} {x} b h l r) = decoded_written b x l ∙ ap (λ t. 
 recoded-decoded (kept b none) = refl
 recoded-decoded (kept b (kept c none)) = refl
 recoded-decoded (kept b (written {s} c h l r)) = keeps b (written c h l r) (no_escape b (two_digits (c ∷ s)) (first_no_digit c s (set_no_hex c l h))) (recoded-decoded (written c h l r))
-recoded-decoded (kept b (kept c (written d h l r))) = keeps b (kept c (written d h l r)) (no_escape b (is_hex c && is_hex d) (and_right (is_hex c) (is_hex d) (set_no_hex d l h))) (recoded-decoded (kept c (written d h l r)))
-recoded-decoded (kept b (kept c (kept {s} {x} d r))) = elim (cases_Bool ((b == 37) && (is_hex c && is_hex d))) [
+recoded-decoded (kept b (kept c (written d h l r))) = keeps b (kept c (written d h l r)) (no_escape b (is_ascii_hexdigit c && is_ascii_hexdigit d) (and_right (is_ascii_hexdigit c) (is_ascii_hexdigit d) (set_no_hex d l h))) (recoded-decoded (kept c (written d h l r)))
+recoded-decoded (kept b (kept c (kept {s} {x} d r))) = elim (cases_Bool ((b == 37) && (is_ascii_hexdigit c && is_ascii_hexdigit d))) [
   | inl e ↦ escapes b c d s x e (recoded-decoded r)
   | inr e ↦ keeps b (kept c (kept d r)) e (recoded-decoded (kept c (kept d r)))
 ]

@@ -105,6 +105,6 @@ has_at_most_one_record s m n h k =
     let p = has_parts s h.type_ h.subtype h.parameters h.head in
     let q = has_parts s k.type_ k.subtype k.parameters k.head in
     record_equal m n
-    (h.type_is ∙ ap (map to_ascii_lowercase) (sym p.type_is ∙ q.type_is) ∙ sym k.type_is)
-    (h.subtype_is ∙ ap (map to_ascii_lowercase) (sym p.subtype_is ∙ q.subtype_is) ∙ sym k.subtype_is)
-    (h.parameters_are ∙ ap kept (same_items h.parameters k.parameters h.items k.items (sym p.parameters_are ∙ q.parameters_are) h.items_are k.items_are) ∙ sym k.parameters_are)
+    (h.record_is.type_is ∙ ap (map to_ascii_lowercase) (sym p.type_is ∙ q.type_is) ∙ sym k.record_is.type_is)
+    (h.record_is.subtype_is ∙ ap (map to_ascii_lowercase) (sym p.subtype_is ∙ q.subtype_is) ∙ sym k.record_is.subtype_is)
+    (h.record_is.parameters_are ∙ ap kept (same_items h.parameters k.parameters h.record_is.items k.record_is.items (sym p.parameters_are ∙ q.parameters_are) h.record_is.items_are k.record_is.items_are) ∙ sym k.record_is.parameters_are)

@@ -212,12 +212,14 @@ printed_parses m w = record {
   type_ = m.type_;
   subtype = m.subtype;
   parameters = flat_map printed_pair m.parameters;
-  items = map item_of m.parameters;
   head = printed_head m w;
-  items_are = printed_items m.parameters w.names;
-  type_is = sym (lower_is_itself m.type_ w.type_);
-  subtype_is = sym (lower_is_itself m.subtype w.subtype);
-  parameters_are = all_kept m w;
+  record_is = record {
+    items = map item_of m.parameters;
+    items_are = printed_items m.parameters w.names;
+    type_is = sym (lower_is_itself m.type_ w.type_);
+    subtype_is = sym (lower_is_itself m.subtype w.subtype);
+    parameters_are = all_kept m w;
+  };
 }
 
 pub printed_only : (m : Record) → IsWellformed m → (n : Record) → Parses (printed m) n → n ≡ m

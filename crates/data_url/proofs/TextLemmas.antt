@@ -1,7 +1,20 @@
 -- Texts cut at the first code point that passes no more, and ends taken off.
-use Rattle.std.proofs.Common.{◌≡◌, ℕ, suc, ◌≤◌, Bool, true, false, cond, List, [], ◌∷◌, ◌++◌, length, refl, sym, ap, ◌∙◌, arith}
-use Rattle.std.proofs.lemmas.Bool.{cond-true, cond-false, cond_both}
+use Rattle.std.proofs.Common.{◌≡◌, ℕ, suc, ◌<◌, ◌≤◌, nat_le, Bool, true, false, cond, Some, List, [], ◌∷◌, ◌++◌, length, refl, sym, ap, ◌∙◌, arith}
+use Rattle.std.proofs.lemmas.Bool.{and_parts, cond-true, cond-false, cond_both, leb-true}
+use Rattle.std.proofs.lemmas.Str.{chars-nil}
+use Rattle.std.specs.Int.{is_in_range}
+use Rattle.std.specs.Str.{chars}
 use Rattle.data_url.specs.Mime.{DoesNotBegin, DoesNotEnd, Every, IsTrimmedEnd}
+
+pub some_equal : (a b : List ℕ) → Some a ≡ Some b → a ≡ b
+some_equal a b e = cc
+
+pub no_chars : (r : List ℕ) → length r ≡ 0 → chars r ≡ []
+no_chars [] e = chars-nil
+no_chars (b ∷ r) e = absurd (omega arith)
+
+pub range_high : (low high c : ℕ) → is_in_range low high c ≡ true → c ≤ high
+range_high low high c r = leb-true c high (and_parts (nat_le low c) (nat_le c high) r).1
 
 -- the longest front of code points that pass
 abbrev pub front_of : (ℕ → Bool) → List ℕ → List ℕ

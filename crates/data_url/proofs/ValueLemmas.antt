@@ -14,11 +14,9 @@ use Rattle.data_url.specs.Steps.Parsing.{IsValue, is_quotable_byte, quotable_val
 use Rattle.data_url.specs.declared.mime.values.Value.{Value}
 use Rattle.data_url.specs.declared.mime.values.Value.TheVariants as slices
 use Rattle.data_url.proofs.QuotedLemmas.{unescaped, unescaped_is}
+use Rattle.data_url.proofs.TextLemmas.{no_chars, range_high}
 
 -- The bytes of quoted-string code points
-
-range_high : (low high c : ℕ) → is_in_range low high c ≡ true → c ≤ high
-range_high low high c r = leb-true c high (and_parts (nat_le low c) (nat_le c high) r).1
 
 quotable_below : (c : ℕ) → is_quotable c ≡ true → c < 256
 unfolding is_quotable
@@ -102,10 +100,6 @@ unescape_skips v r r' whole c e e' w s k f h =
     ap (λ b. chars v ++ unescaped b (chars r')) f
     ∙ ap (λ x. chars v ++ x) (sym (ap (unescaped e) (chars_past_char r r' c w s) ∙ unescaped_step e c (chars r') ∙ cond-true ((c == 92) && not e) (unescaped true (chars r')) (c ∷ unescaped false (chars r')) (sym k ∙ f)))
     ∙ h
-
-no_chars : (r : List ℕ) → length r ≡ 0 → chars r ≡ []
-no_chars [] e = chars-nil
-no_chars (b ∷ r) e = absurd (omega arith)
 
 pub unescape_ends : (v v' r q value : List ℕ) (e : Bool) → IsUtf8 v → length r ≡ 0 → e ≡ true → v' ≡ v ++ encode 92 → chars v ++ unescaped e (chars r) ≡ unescaped false (chars q) → QuotedOpen (chars q) value → chars v' ≡ value
 unescape_ends v v' r q value e u l f g h k =

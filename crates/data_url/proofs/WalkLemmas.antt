@@ -6,14 +6,7 @@ use Rattle.std.proofs.lemmas.List.Folds.{list_any-append}
 use Rattle.std.proofs.lemmas.Bool.{cases_Bool, false≢true, true≢false}
 use Rattle.data_url.specs.Base64.{before_place}
 use Rattle.data_url.specs.Mime.{Every}
-
-pub or_false : (b : Bool) → (b || false) ≡ b
-or_false true = refl
-or_false false = refl
-
-pub or_assoc : (a b c : Bool) → ((a || b) || c) ≡ (a || (b || c))
-or_assoc true b c = refl
-or_assoc false b c = refl
+use Rattle.std.proofs.Math.Bool.{or-false, or_assoc}
 
 pub some_not_none : {A : Type 0} (x : A) → Some x ≡ None → ⊥
 some_not_none x e = cc
@@ -96,7 +89,7 @@ module _ (space sign symbol : ℕ → Bool) where
   byte_at b (Some i) = Some (get_or b i 0)
 
   any_push : (p : List ℕ) (c : ℕ) → list_any sign (p ++ c ∷ []) ≡ (list_any sign p || sign c)
-  any_push p c = list_any-append sign p (c ∷ []) ∙ ap (λ x. list_any sign p || x) (or_false (sign c))
+  any_push p c = list_any-append sign p (c ∷ []) ∙ ap (λ x. list_any sign p || x) (or-false (sign c))
 
   bad_here : (p t : List ℕ) (c : ℕ) → is_bad_at (p ++ c ∷ t) (length p) ≡ is_bad (list_any sign p) c
   bad_here p t c =
@@ -142,7 +135,7 @@ module _ (space sign symbol : ℕ → Bool) where
 
   -- a walk that does not stop in the first text goes on in the second
   pub stop-append : (a b : List ℕ) (s : Bool) → stop s a ≡ None → stop s (a ++ b) ≡ stop (s || list_any sign a) b
-  stop-append [] b s h = ap (λ x. stop x b) (sym (or_false s))
+  stop-append [] b s h = ap (λ x. stop x b) (sym (or-false s))
   stop-append (c ∷ t) b s h =
       elim (is_bad s c) as (λ v. cond v (Some c) (stop (s || sign c) t) ≡ None → cond v (Some c) (stop (s || sign c) (t ++ b)) ≡ stop (s || (sign c || list_any sign t)) b) [
         | true ↦ λ e. absurd (some_not_none c e)
@@ -150,7 +143,7 @@ module _ (space sign symbol : ℕ → Bool) where
       ] h
 
   pub ahead-append : (a b : List ℕ) (s : Bool) → stop s a ≡ None → ahead s (a ++ b) ≡ a ++ ahead (s || list_any sign a) b
-  ahead-append [] b s h = ap (λ x. ahead x b) (sym (or_false s))
+  ahead-append [] b s h = ap (λ x. ahead x b) (sym (or-false s))
   ahead-append (c ∷ t) b s h =
       elim (is_bad s c) as (λ v. cond v (Some c) (stop (s || sign c) t) ≡ None → cond v [] (c ∷ ahead (s || sign c) (t ++ b)) ≡ c ∷ (t ++ ahead (s || (sign c || list_any sign t)) b)) [
         | true ↦ λ e. absurd (some_not_none c e)
@@ -192,7 +185,7 @@ module _ (space sign symbol : ℕ → Bool) where
               let f = space_alone (classes c) e in
               let g : sign c ≡ false = f.0 in
               let h : symbol c ≡ false = f.1 in
-              rw (e, g, h) (stop_compact t s ∙ ap (λ x. stop x t) (sym (or_false s)))
+              rw (e, g, h) (stop_compact t s ∙ ap (λ x. stop x t) (sym (or-false s)))
           | inr e ↦
               ap (λ v. stop s (cond (not v) (c ∷ filter is_not_space t) (filter is_not_space t))) e
               ∙ ap (λ (x : Option ℕ). cond (is_bad s c) (Some c) x) (stop_compact t (s || sign c))

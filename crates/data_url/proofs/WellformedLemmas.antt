@@ -6,8 +6,8 @@ use Rattle.std.specs.Char.{to_ascii_lowercase}
 use Rattle.std.specs.List.{list_all}
 use Rattle.std.specs.Str.{bytes_eq}
 use Rattle.data_url.specs.CodePoints.{is_quotable}
-use Rattle.data_url.specs.Mime.{HasNoRecord, IsHead, IsWellformed, Item, Items, Pair, Parses, Record, first_of_each_name, has_distinct_names, has_name, is_lowercase_name, is_token_text, kept, valid_of, valid_pairs}
-use Rattle.data_url.specs.Steps.Parsing.{HasLowercaseNames, HasNoHead, IsRecordOfParts}
+use Rattle.data_url.specs.Mime.{HasNoRecord, IsHead, IsWellformed, Item, Items, Pair, Parses, Record, first_of_each_name, has_distinct_names, has_name, is_lowercase_name, is_token_text, kept, valid_of, valid_pairs, IsRecordOfParts}
+use Rattle.data_url.specs.Steps.Parsing.{HasLowercaseNames, HasNoHead}
 use Rattle.data_url.proofs.ItemLemmas.{some_items}
 use Rattle.data_url.proofs.KeptLemmas.{equal_from_test, has_append, lowercase_name, test_from_equal, token_text_lower, valid_lower}
 
@@ -66,23 +66,23 @@ first_distinct e (q ∷ ps) =
 
 pub parses_wellformed : (s : List ℕ) (m : Record) → Parses s m → IsWellformed m
 parses_wellformed s m h = record {
-  type_ = ap is_lowercase_name h.type_is ∙ lowercase_name h.type_ h.head.is_type;
-  subtype = ap is_lowercase_name h.subtype_is ∙ lowercase_name h.subtype h.head.is_subtype;
-  names = ap (list_all (λ (p : Pair). is_lowercase_name p.0)) h.parameters_are ∙ first_all (λ (p : Pair). is_lowercase_name p.0) [] (valid_pairs h.items) (all_lower h.parameters h.items h.items_are);
-  distinct = ap has_distinct_names h.parameters_are ∙ first_distinct [] (valid_pairs h.items);
-  values = ap (list_all (λ (p : Pair). list_all is_quotable p.1)) h.parameters_are ∙ first_all (λ (p : Pair). list_all is_quotable p.1) [] (valid_pairs h.items) (all_quotable h.items);
+  type_ = ap is_lowercase_name h.record_is.type_is ∙ lowercase_name h.type_ h.head.is_type;
+  subtype = ap is_lowercase_name h.record_is.subtype_is ∙ lowercase_name h.subtype h.head.is_subtype;
+  names = ap (list_all (λ (p : Pair). is_lowercase_name p.0)) h.record_is.parameters_are ∙ first_all (λ (p : Pair). is_lowercase_name p.0) [] (valid_pairs h.record_is.items) (all_lower h.parameters h.record_is.items h.record_is.items_are);
+  distinct = ap has_distinct_names h.record_is.parameters_are ∙ first_distinct [] (valid_pairs h.record_is.items);
+  values = ap (list_all (λ (p : Pair). list_all is_quotable p.1)) h.record_is.parameters_are ∙ first_all (λ (p : Pair). list_all is_quotable p.1) [] (valid_pairs h.record_is.items) (all_quotable h.record_is.items);
 }
 
 -- A head decides
 
 pub parses_parts : (s a b c : List ℕ) (m : Record) → IsHead s a b c → IsRecordOfParts a b c m → Parses s m
-parses_parts s a b c m h p = record { type_ = a; subtype = b; parameters = c; items = p.items; head = h; items_are = p.items_are; type_is = p.type_is; subtype_is = p.subtype_is; parameters_are = p.parameters_are }
+parses_parts s a b c m h p = record { type_ = a; subtype = b; parameters = c; head = h; record_is = p }
 
 pub has_record : (s a b c : List ℕ) → IsHead s a b c → HasNoRecord s → ⊥
 has_record s a b c h n =
     let i = some_items c h.begins in
     n (record { type_ = map to_ascii_lowercase a; subtype = map to_ascii_lowercase b; parameters = kept i.0 })
-    (record { type_ = a; subtype = b; parameters = c; items = i.0; head = h; items_are = i.1; type_is = refl; subtype_is = refl; parameters_are = refl })
+    (record { type_ = a; subtype = b; parameters = c; head = h; record_is = record { items = i.0; items_are = i.1; type_is = refl; subtype_is = refl; parameters_are = refl } })
 
 pub no_record : (s : List ℕ) → HasNoHead s → HasNoRecord s
 no_record s n m h = n h.type_ h.subtype h.parameters h.head

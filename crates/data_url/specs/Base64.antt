@@ -1,13 +1,10 @@
 -- Forgiving base64 (Infra Standard, forgiving-base64 decode), with the alphabet of RFC 4648,
 -- section 4.
+use Rattle.std.specs.Char.{is_ascii_whitespace}
 use Rattle.std.specs.Fmt.{decimal}
 use Rattle.std.specs.Int.{is_in_range}
 use Rattle.std.specs.List.{find, list_all, list_any, range_with_len}
-use Rattle.std.specs.Prelude.{[], ◌%◌, ◌&&◌, ◌*◌, ◌++◌, ◌+◌, ◌-◌, ◌/◌, ◌==◌, ◌||◌, ◌∷◌, Bool, List, None, Option, Some, codes, cond, filter, length, map, min, not, replicate, slice_index, take, ℕ}
-
--- ASCII whitespace: tab, line feed, form feed, carriage return and space (Infra, section 4.6)
-abbrev pub is_ascii_whitespace : ℕ → Bool
-is_ascii_whitespace b = (b == 9) || ((b == 10) || ((b == 12) || ((b == 13) || (b == 32))))
+use Rattle.std.specs.Prelude.{[], if◌then◌else◌, ◌%◌, ◌&&◌, ◌*◌, ◌++◌, ◌+◌, ◌-◌, ◌/◌, ◌==◌, ◌||◌, ◌∷◌, Bool, List, None, Option, Some, codes, filter, length, map, min, not, replicate, slice_index, take, ℕ}
 
 -- a symbol of the alphabet: 'A' to 'Z', 'a' to 'z', '0' to '9', '+' and '/'
 abbrev pub is_symbol : ℕ → Bool
@@ -16,25 +13,28 @@ is_symbol b = is_in_range 65 90 b
 
 -- the value of a symbol: its place in the alphabet
 abbrev pub symbol_value : ℕ → ℕ
-symbol_value b = cond (is_in_range 65 90 b) (b - 65)
-    (cond (is_in_range 97 122 b) (b - 71)
-    (cond (is_in_range 48 57 b) (b + 4) (cond (b == 43) 62 63)))
+symbol_value b = if is_in_range 65 90 b then b - 65
+    else if is_in_range 97 122 b then b - 71
+    else if is_in_range 48 57 b then b + 4
+    else if b == 43 then 62
+    else 63
 
 -- Which texts are valid
 
--- the text without ASCII whitespace (step 1)
+-- the text without ASCII whitespace: tab, line feed, form feed, carriage return and space (step 1;
+-- Infra, section 4.6)
 unfoldable pub compact : List ℕ → List ℕ
 compact b = filter (λ c. not (is_ascii_whitespace c)) b
 
 -- the text without one '=' at its end, if there is one
 unfoldable pub without_last_padding : List ℕ → List ℕ
 without_last_padding [] = []
-without_last_padding (a ∷ []) = cond (a == 61) [] (a ∷ [])
+without_last_padding (a ∷ []) = if a == 61 then [] else a ∷ []
 without_last_padding (a ∷ b ∷ rest) = a ∷ without_last_padding (b ∷ rest)
 
 -- where the length divides by four, the text without one or two '=' at its end (step 2)
 unfoldable pub unpadded : List ℕ → List ℕ
-unpadded s = cond (length s % 4 == 0) (without_last_padding (without_last_padding s)) s
+unpadded s = if length s % 4 == 0 then without_last_padding (without_last_padding s) else s
 
 -- the rule of the whole text: no length of remainder one by four, and no byte that is no symbol
 -- (steps 3 and 4)
@@ -113,9 +113,9 @@ pub data Kind : Type 0 where
 
 -- by the byte at the first fault, or else by the number of symbols
 abbrev pub kind_at : List ℕ → Option ℕ → Kind
-kind_at b None = cond (length (values b) % 4 == 1) LoneAlphabetSymbol Padding
-kind_at b (Some i) = cond (is_symbol (slice_index b i)) AlphabetSymbolAfterPadding
-    (UnexpectedSymbol (slice_index b i))
+kind_at b None = if length (values b) % 4 == 1 then LoneAlphabetSymbol else Padding
+kind_at b (Some i) = if is_symbol (slice_index b i) then AlphabetSymbolAfterPadding
+    else UnexpectedSymbol (slice_index b i)
 
 -- why a text that is not valid is refused
 unfoldable pub kind_of : List ℕ → Kind

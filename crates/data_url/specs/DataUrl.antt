@@ -1,5 +1,5 @@
--- What contracts see of a `DataUrl` and a `FragmentIdentifier`, what `process` makes of a text, and what
--- decoding a body does (Fetch Standard, section 6).
+-- What contracts see of a `DataUrl` and a `FragmentIdentifier`, what `process` makes of a text, and
+-- what decoding a body does (Fetch Standard, section 6).
 use Rattle.std.specs.Option.{option_map}
 use Rattle.std.specs.Prelude.{◌≡◌, ◌≤◌, Bool, Err, List, MatchOption, Ok, Option, Result, Some, length, ℕ}
 use Rattle.data_url.specs.Errors.{IsRefused}

@@ -1,7 +1,7 @@
 -- The data: URL processor (Fetch Standard, section 6), stage by stage over whole texts of bytes.
 use Rattle.std.specs.Char.{to_ascii_lowercase}
 use Rattle.std.specs.Option.{option_map}
-use Rattle.std.specs.Prelude.{[], ◌++◌, ◌-◌, ◌==◌, ◌∷◌, Bool, List, None, Option, Some, codes, cond, drop, is_some, length, map, option_and_then, take, ℕ}
+use Rattle.std.specs.Prelude.{[], if◌then◌else◌, ◌++◌, ◌-◌, ◌==◌, ◌∷◌, Bool, List, None, Option, Some, codes, drop, is_some, length, map, option_and_then, take, unwrap_or, ℕ}
 use Rattle.std.specs.Str.{bytes_eq}
 use Rattle.data_url.specs.Base64.{Kind, decoded, done, is_valid, kind_of}
 use Rattle.data_url.specs.Percent.{percent_decoded}
@@ -52,12 +52,13 @@ before_last n s = take (length s - n) s
 
 -- what stands before "base64" at the end, in any ASCII case
 abbrev pub before_word : List ℕ → Option (List ℕ)
-before_word s = cond (bytes_eq (map to_ascii_lowercase (last 6 s)) (codes "base64"))
-    (Some (before_last 6 s)) None
+before_word s =
+    if bytes_eq (map to_ascii_lowercase (last 6 s)) (codes "base64") then Some (before_last 6 s)
+    else None
 
 -- what stands before ';' at the end
 abbrev pub before_semicolon : List ℕ → Option (List ℕ)
-before_semicolon s = cond (bytes_eq (last 1 s) (codes ";")) (Some (before_last 1 s)) None
+before_semicolon s = if bytes_eq (last 1 s) (codes ";") then Some (before_last 1 s) else None
 
 -- what stands before ';', any number of spaces and "base64" at the end, where it ends so (step 11)
 unfoldable pub before_base64 : List ℕ → Option (List ℕ)
@@ -67,18 +68,14 @@ before_base64 s = option_and_then (λ m. before_semicolon (without_end is_space 
 unfoldable pub has_base64_suffix : List ℕ → Bool
 has_base64_suffix h = is_some (before_base64 (stripped h))
 
-abbrev pub or_else : List ℕ → Option (List ℕ) → List ℕ
-or_else s None = s
-or_else s (Some m) = m
-
 -- the header without the suffix
 unfoldable pub media_of : List ℕ → List ℕ
-media_of h = or_else (stripped h) (before_base64 (stripped h))
+media_of h = unwrap_or (before_base64 (stripped h)) (stripped h)
 
 -- with "text/plain" in front of a leading ';' (step 12)
 abbrev pub with_plain : List ℕ → List ℕ
 with_plain [] = []
-with_plain (c ∷ s) = cond (c == 59) (codes "text/plain" ++ c ∷ s) (c ∷ s)
+with_plain (c ∷ s) = if c == 59 then codes "text/plain" ++ c ∷ s else c ∷ s
 
 -- the text whose record is that of the URL (steps 12 to 14): its code points are its bytes, all
 -- below 127
@@ -94,8 +91,9 @@ pub data Outcome : Type 0 where
 
 -- a body as it is or, with the suffix, forgiving-base64 decoded (steps 10 and 11)
 unfoldable pub outcome : Bool → List ℕ → Outcome
-outcome flag x = cond flag (cond (is_valid x) (Good (decoded x)) (Bad (done x) (kind_of x)))
-    (Good x)
+outcome flag x =
+    if flag then (if is_valid x then Good (decoded x) else Bad (done x) (kind_of x))
+    else Good x
 
 abbrev pub outcome_bytes : Outcome → List ℕ
 outcome_bytes (Good x) = x

@@ -2,7 +2,7 @@
 -- Sniffing Standard, section 4). Texts are lists of code points.
 use Rattle.std.specs.Char.{to_ascii_lowercase}
 use Rattle.std.specs.List.{AllByRecursion, flat_map, list_all, list_any}
-use Rattle.std.specs.Prelude.{[], ◌&&◌, ◌++◌, ◌==◌, ◌||◌, ◌∷◌, ◌≡◌, ◌≢◌, ◌⊎◌, Bool, IsTrue, List, None, Option, Some, codes, cond, false, map, not, true, ℕ}
+use Rattle.std.specs.Prelude.{[], if◌then◌else◌, ◌&&◌, ◌++◌, ◌==◌, ◌||◌, ◌∷◌, ◌≡◌, ◌≢◌, ◌⊎◌, Bool, IsTrue, List, None, Option, Some, codes, false, map, not, true, ℕ}
 use Rattle.std.specs.Str.{bytes_eq}
 use Rattle.data_url.specs.CodePoints.{ends_name, is_http_whitespace, is_quotable, is_semicolon, is_token}
 
@@ -159,7 +159,8 @@ Items r (item ∷ items) = (text rest : List ℕ) × (r ≡ text ++ rest) × IsP
 abbrev pub valid_of : Item → List Pair
 valid_of (name, None) = []
 valid_of (name, Some value) =
-    cond (is_token_text name && list_all is_quotable value) ((name, value) ∷ []) []
+    if is_token_text name && list_all is_quotable value then (name, value) ∷ []
+    else []
 
 abbrev pub valid_pairs : List Item → List Pair
 valid_pairs items = flat_map valid_of items
@@ -171,8 +172,8 @@ has_name name pairs = list_any (λ (p : Pair). bytes_eq p.0 name) pairs
 abbrev pub first_of_each_name : List Pair → List Pair → List Pair
 first_of_each_name earlier [] = []
 first_of_each_name earlier (p ∷ ps) =
-    cond (has_name p.0 earlier) (first_of_each_name (earlier ++ p ∷ []) ps)
-    (p ∷ first_of_each_name (earlier ++ p ∷ []) ps)
+    if has_name p.0 earlier then first_of_each_name (earlier ++ p ∷ []) ps
+    else p ∷ first_of_each_name (earlier ++ p ∷ []) ps
 
 -- the valid pairs, of each name the first
 abbrev pub kept : List Item → List Pair
@@ -197,17 +198,21 @@ pub record IsHead (s type_ subtype parameters : List ℕ) : Type 0 where
   pub in_gap : Every is_http_whitespace gap
   pub begins : BeginsParameters parameters
 
+-- m is the record of a type, a subtype and a parameters' text
+pub record IsRecordOfParts (type_ subtype parameters : List ℕ) (m : Record) : Type 0 where
+  pub items : List Item
+  pub items_are : Items parameters items
+  pub type_is : m.type_ ≡ map to_ascii_lowercase type_
+  pub subtype_is : m.subtype ≡ map to_ascii_lowercase subtype
+  pub parameters_are : m.parameters ≡ kept items
+
 -- s is a MIME type, and m its record
 pub record Parses (s : List ℕ) (m : Record) : Type 0 where
   pub type_ : List ℕ
   pub subtype : List ℕ
   pub parameters : List ℕ
-  pub items : List Item
   pub head : IsHead s type_ subtype parameters
-  pub items_are : Items parameters items
-  pub type_is : m.type_ ≡ map to_ascii_lowercase type_
-  pub subtype_is : m.subtype ≡ map to_ascii_lowercase subtype
-  pub parameters_are : m.parameters ≡ kept items
+  pub record_is : IsRecordOfParts type_ subtype parameters m
 
 -- no record is that of the text
 abbrev pub HasNoRecord : List ℕ → Type 0
@@ -221,11 +226,11 @@ IsRecordOf s m = Parses s m ⊎ (HasNoRecord s × (m ≡ default_record))
 
 -- with a '\' before '"' and '\'
 abbrev pub escaped : ℕ → List ℕ
-escaped c = cond ((c == 34) || (c == 92)) (92 ∷ c ∷ []) (c ∷ [])
+escaped c = if (c == 34) || (c == 92) then 92 ∷ c ∷ [] else c ∷ []
 
 -- a nonempty text of token code points as it is, any other value in quotes
 abbrev pub printed_value : List ℕ → List ℕ
-printed_value v = cond (is_token_text v) v (34 ∷ (flat_map escaped v ++ 34 ∷ []))
+printed_value v = if is_token_text v then v else 34 ∷ (flat_map escaped v ++ 34 ∷ [])
 
 abbrev pub printed_pair : Pair → List ℕ
 printed_pair p = 59 ∷ (p.0 ++ (61 ∷ printed_value p.1))

@@ -3,7 +3,7 @@ use Rattle.std.specs.Borrow.{Bor}
 use Rattle.std.specs.Cmp.Lexicographic.{lists_equiv, on_texts_equal, pointwise}
 use Rattle.std.specs.Cmp.{IsEquivalence, and_equiv, on_equiv}
 use Rattle.std.specs.Ordering.{eq_of_both, on}
-use Rattle.std.specs.Prelude.{[], ◌∷◌, ◌≡◌, Bool, List, None, Option, Some, String, cond, map, string_bytes, ℕ}
+use Rattle.std.specs.Prelude.{[], if◌then◌else◌, ◌∷◌, ◌≡◌, Bool, List, None, Option, Some, String, map, string_bytes, ℕ}
 use Rattle.std.specs.Str.{bytes_eq, chars}
 use Rattle.data_url.specs.Mime.{Pair, Record}
 use Rattle.data_url.specs.declared.mime.Mime.{Mime}
@@ -59,5 +59,5 @@ as_option (Some s) = Some s.now
 -- the value of the first pair of that name, in bytes
 abbrev pub value_of_name : {A B : Type 0} → List ℕ → List (String A × String B) → Option (List ℕ)
 value_of_name name [] = None
-value_of_name name (p ∷ ps) =
-    cond (bytes_eq (string_bytes p.0) name) (Some (string_bytes p.1)) (value_of_name name ps)
+value_of_name name (p ∷ ps) = if bytes_eq (string_bytes p.0) name then Some (string_bytes p.1)
+    else value_of_name name ps

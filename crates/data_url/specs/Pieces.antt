@@ -1,9 +1,8 @@
 -- A body in pieces (URL Standard, section 1.3, percent-decode): what contracts see of a walk over
 -- its text.
-use Rattle.std.specs.Char.{digit_value}
-use Rattle.std.specs.Prelude.{[], ◌&&◌, ◌*◌, ◌+◌, ◌<◌, ◌==◌, ◌||◌, ◌∷◌, ◌≡◌, ◌≤◌, Bool, List, None, Option, Some, cond, drop, false, is_some, slice_index, slice_range, true, ℕ}
+use Rattle.std.specs.Char.{digit_value, is_ascii_hexdigit}
+use Rattle.std.specs.Prelude.{[], if◌then◌else◌, ◌&&◌, ◌*◌, ◌+◌, ◌<◌, ◌==◌, ◌||◌, ◌∷◌, ◌≡◌, ◌≤◌, Bool, List, None, Option, Some, drop, false, is_some, slice_index, slice_range, true, ℕ}
 use Rattle.data_url.specs.Fetch.{plain_body}
-use Rattle.data_url.specs.Percent.{is_hex}
 use Rattle.data_url.specs.Url.{is_tab_or_newline}
 use Rattle.data_url.specs.declared.escapes.Piece.TheVariants.{Byte, Slice}
 use Rattle.data_url.specs.declared.escapes.Piece.{Piece}
@@ -12,8 +11,9 @@ use Rattle.data_url.specs.declared.escapes.Piece.{Piece}
 -- follows it
 unfoldable pub digit : List ℕ → Option (ℕ × List ℕ)
 digit [] = None
-digit (b ∷ s) = cond (is_tab_or_newline b) (digit s)
-    (cond (is_hex b) (Some (digit_value b, s)) None)
+digit (b ∷ s) = if is_tab_or_newline b then digit s
+    else if is_ascii_hexdigit b then Some (digit_value b, s)
+    else None
 
 -- the byte of a digit and the one that may follow it, and what follows both
 abbrev pub with_low_digit : ℕ → Option (ℕ × List ℕ) → Option (ℕ × List ℕ)

@@ -2,7 +2,7 @@
 -- bytes.
 use Rattle.std.specs.Char.{to_ascii_lowercase}
 use Rattle.std.specs.List.{flat_map, prefix_len, suffix_len}
-use Rattle.std.specs.Prelude.{[], ◌%◌, ◌++◌, ◌+◌, ◌-◌, ◌/◌, ◌==◌, ◌||◌, ◌∷◌, Bool, List, None, Option, Some, codes, cond, drop, filter, length, map, nat_le, nat_lt, not, take, ℕ}
+use Rattle.std.specs.Prelude.{[], if◌then◌else◌, ◌%◌, ◌++◌, ◌+◌, ◌-◌, ◌/◌, ◌==◌, ◌||◌, ◌∷◌, Bool, List, None, Option, Some, codes, drop, filter, length, map, nat_le, nat_lt, not, take, ℕ}
 use Rattle.std.specs.Str.{bytes_eq}
 
 -- the text without its longest front of bytes that pass the test
@@ -36,18 +36,20 @@ cleaned t = dropped (trimmed t)
 -- what stands before the first c: the whole where there is none
 unfoldable pub before : ℕ → List ℕ → List ℕ
 before c [] = []
-before c (b ∷ bs) = cond (b == c) [] (b ∷ before c bs)
+before c (b ∷ bs) = if b == c then [] else b ∷ before c bs
 
 -- what stands behind the first c, where there is one
 unfoldable pub behind : ℕ → List ℕ → Option (List ℕ)
 behind c [] = None
-behind c (b ∷ bs) = cond (b == c) (Some bs) (behind c bs)
+behind c (b ∷ bs) = if b == c then Some bs else behind c bs
 
 -- what follows the scheme "data:", spelled in any ASCII case; none where the text begins otherwise
 -- (URL, section 4.4, scheme state)
 unfoldable pub after_scheme : List ℕ → Option (List ℕ)
-after_scheme t = cond (bytes_eq (map to_ascii_lowercase (take 5 (cleaned t))) (codes "data:"))
-    (Some (drop 5 (cleaned t))) None
+after_scheme t =
+    if bytes_eq (map to_ascii_lowercase (take 5 (cleaned t))) (codes "data:")
+    then Some (drop 5 (cleaned t))
+    else None
 
 -- the opaque path with its query: what stands before the first '#' (URL, section 4.4, opaque path
 -- state and query state)
@@ -77,11 +79,12 @@ in_fragment_set b = in_path_set b
 
 -- the upper-case hexadecimal digit of a number below 16
 abbrev pub hex_digit : ℕ → ℕ
-hex_digit d = cond (nat_lt d 10) (48 + d) (55 + d)
+hex_digit d = if nat_lt d 10 then 48 + d else 55 + d
 
 -- a byte of the set as '%' and its two digits, any other as itself
 abbrev pub encoded_byte : (ℕ → Bool) → ℕ → List ℕ
-encoded_byte in_set b = cond (in_set b) (37 ∷ hex_digit (b / 16) ∷ hex_digit (b % 16) ∷ []) (b ∷ [])
+encoded_byte in_set b = if in_set b then 37 ∷ hex_digit (b / 16) ∷ hex_digit (b % 16) ∷ []
+    else b ∷ []
 
 -- the text with each byte of the set percent-encoded
 unfoldable pub percent_encoded : (ℕ → Bool) → List ℕ → List ℕ

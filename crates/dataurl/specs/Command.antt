@@ -1,16 +1,17 @@
 -- The words of the commands.
-use Rattle.std.specs.Prelude.{[], ◌∷◌, List, None, Option, Some, codes, cond, ℕ}
+use Rattle.std.specs.Prelude.{[], if◌then◌else◌, ◌∷◌, List, None, Option, Some, codes, ℕ}
 use Rattle.std.specs.Str.{bytes_eq}
 use Rattle.dataurl.specs.declared.command.Command.TheVariants.{Base64, Body, Canonical, Fragment, MimeType}
 use Rattle.dataurl.specs.declared.command.Command.{Command}
 
 -- the command of a word
 abbrev pub command_of_word : List ℕ → Option Command
-command_of_word word = cond (bytes_eq word (codes "body")) (Some Body)
-    (cond (bytes_eq word (codes "mime")) (Some MimeType)
-    (cond (bytes_eq word (codes "fragment")) (Some Fragment)
-    (cond (bytes_eq word (codes "type")) (Some Canonical)
-    (cond (bytes_eq word (codes "base64")) (Some Base64) None))))
+command_of_word word = if bytes_eq word (codes "body") then Some Body
+    else if bytes_eq word (codes "mime") then Some MimeType
+    else if bytes_eq word (codes "fragment") then Some Fragment
+    else if bytes_eq word (codes "type") then Some Canonical
+    else if bytes_eq word (codes "base64") then Some Base64
+    else None
 
 -- the command of the words behind the program's name: there has to be exactly one
 abbrev pub command_of_words : List (List ℕ) → Option Command

@@ -31,9 +31,11 @@ pub data IsResult (x : List ℕ) (left : Option (List ℕ)) : Command → List �
       → IsResult x left base64 (done x) (Err (Base64 (kind_of x)))
   -- the writer took a beginning of the output of the whole input, and not all
   not_written : {c : Command} {written whole : List ℕ} {end : End} → IsAtEnd left
-      → IsOutput x c whole end → IsProperPrefix written whole → IsResult x left c written (Err Write)
+      → IsOutput x c whole end → IsProperPrefix written whole
+      → IsResult x left c written (Err Write)
   -- it took a beginning of what is decoded of base64 as far as it was read, and not all
-  base64_not_written : {written : List ℕ} → IsSoundBeforeLastPiece x → IsProperPrefix written (done x)
+  base64_not_written : {written : List ℕ} → IsSoundBeforeLastPiece x
+      → IsProperPrefix written (done x)
       → IsResult x left base64 written (Err Write)
   -- the reader failed: of base64 the complete groups that were read are written, decoded
   not_read : {c : Command} → TakesText c → IsResult x left c [] (Err Read)

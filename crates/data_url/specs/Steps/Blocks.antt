@@ -1,7 +1,8 @@
 -- Whole groups that a text begins with.
+use Rattle.std.specs.Char.{is_ascii_whitespace}
 use Rattle.std.specs.List.{list_all}
 use Rattle.std.specs.Prelude.{◌%◌, ◌++◌, ◌+◌, ◌||◌, ◌≡◌, ◌≤◌, Bool, IsTrue, List, drop, length, take, ℕ}
-use Rattle.data_url.specs.Base64.{groups, is_ascii_whitespace, is_symbol, values}
+use Rattle.data_url.specs.Base64.{groups, is_symbol, values}
 
 -- the text without so many bytes at a place
 abbrev pub without : ℕ → ℕ → List ℕ → List ℕ

@@ -1,14 +1,15 @@
 -- Hexadecimal digits behind a '%', and the looks that finding them takes.
-use Rattle.std.specs.Char.{digit_value}
-use Rattle.std.specs.Prelude.{◌+◌, ◌-◌, ◌<◌, ◌≡◌, ◌≤◌, List, None, Some, cond, drop, length, ℕ}
-use Rattle.data_url.specs.Percent.{is_hex}
+use Rattle.std.specs.Char.{digit_value, is_ascii_hexdigit}
+use Rattle.std.specs.Prelude.{if◌then◌else◌, ◌+◌, ◌-◌, ◌<◌, ◌≡◌, ◌≤◌, List, None, Some, drop, length, ℕ}
 use Rattle.data_url.specs.Pieces.{digit, escape}
 use Rattle.data_url.specs.Steps.Looks.{before_percent}
 use Rattle.data_url.specs.Url.{is_tab_or_newline}
 
 -- the value of a hexadecimal digit, 16 for a tab or newline, and 32 for any other byte
 abbrev pub digit_code : ℕ → ℕ
-digit_code b = cond (is_tab_or_newline b) 16 (cond (is_hex b) (digit_value b) 32)
+digit_code b = if is_tab_or_newline b then 16
+    else if is_ascii_hexdigit b then digit_value b
+    else 32
 
 -- a digit from a place on, where it ends, and a look at each byte up to there
 pub record DigitFound (text : List ℕ) (place looks value end looks' : ℕ) : Type 0 where

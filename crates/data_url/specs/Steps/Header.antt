@@ -1,5 +1,5 @@
 -- What the private steps of reading a header do.
-use Rattle.std.specs.Prelude.{◌<◌, ◌==◌, ◌≡◌, ◌≤◌, Bool, List, cond, length, slice_index, ℕ}
+use Rattle.std.specs.Prelude.{if◌then◌else◌, ◌<◌, ◌==◌, ◌≡◌, ◌≤◌, Bool, List, length, slice_index, ℕ}
 use Rattle.data_url.specs.Fetch.{has_base64_suffix, mime_text}
 use Rattle.data_url.specs.Mime.{IsRecordOf, IsWellformed, Record}
 use Rattle.data_url.specs.Url.{dropped, serialised}
@@ -8,7 +8,7 @@ use Rattle.data_url.specs.declared.percent.EncodeSet.{EncodeSet}
 
 -- the set behind a byte: the first '?' begins the query
 abbrev pub next_set : EncodeSet → ℕ → EncodeSet
-next_set set b = cond (b == 63) Query set
+next_set set b = if b == 63 then Query else set
 
 -- a text with so many bytes that are encoded and so many that are dropped: without any it is
 -- serialised to itself

@@ -1,5 +1,5 @@
 -- What a vector makes of one byte, and of a row of values.
-use Rattle.std.specs.Prelude.{[], ◌%◌, ◌+◌, ◌/◌, ◌==◌, ◌∷◌, List, bit_and, cond, slice_index, ℕ}
+use Rattle.std.specs.Prelude.{[], if◌then◌else◌, ◌%◌, ◌+◌, ◌/◌, ◌==◌, ◌∷◌, List, bit_and, slice_index, ℕ}
 use Rattle.data_url.specs.Base64.{group_number}
 use Rattle.data_url.specs.declared.forgiving_base64.lanes.TheConstants.{HIGH_HALVES, LOW_HALVES, OFFSETS}
 
@@ -9,7 +9,7 @@ mark_of b = bit_and (slice_index LOW_HALVES (bit_and b 15)) (slice_index HIGH_HA
 
 -- the value of a symbol, and some number below 64 for another byte
 abbrev pub value_of : ℕ → ℕ
-value_of b = bit_and ((b + slice_index OFFSETS (cond (b == 47) 1 (b / 16))) % 256) 63
+value_of b = bit_and ((b + slice_index OFFSETS (if b == 47 then 1 else b / 16)) % 256) 63
 
 -- the number of each whole group of four values
 abbrev pub numbers : List ℕ → List ℕ

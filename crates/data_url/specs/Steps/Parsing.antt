@@ -3,10 +3,10 @@
 use Rattle.std.specs.Char.{to_ascii_lowercase}
 use Rattle.std.specs.Int.{is_in_range}
 use Rattle.std.specs.List.{list_all}
-use Rattle.std.specs.Prelude.{[], ◌++◌, ◌==◌, ◌||◌, ◌∷◌, ◌≡◌, Bool, IsTrue, List, None, Option, Some, cond, map, ℕ}
+use Rattle.std.specs.Prelude.{[], if◌then◌else◌, ◌++◌, ◌==◌, ◌||◌, ◌∷◌, ◌≡◌, Bool, IsTrue, List, None, Option, Some, map, ℕ}
 use Rattle.std.specs.Str.{IsUtf8, chars}
 use Rattle.data_url.specs.CodePoints.{is_quotable}
-use Rattle.data_url.specs.Mime.{BeginsParameters, DoesNotBegin, Every, GivesValue, IsHead, IsParameter, Item, Items, Pair, Quoted, QuotedOpen, Record, has_name, is_lowercase_name, kept, valid_of}
+use Rattle.data_url.specs.Mime.{BeginsParameters, DoesNotBegin, Every, GivesValue, IsHead, IsParameter, Item, Pair, Quoted, QuotedOpen, has_name, is_lowercase_name, valid_of}
 use Rattle.data_url.specs.declared.mime.parse.Parameter.{Parameter}
 use Rattle.data_url.specs.declared.mime.values.Value.TheVariants as slices
 use Rattle.data_url.specs.declared.mime.values.Value.{Value}
@@ -56,7 +56,7 @@ is_quotable_byte b = (b == 9) || is_in_range 32 126 b || is_in_range 128 195 b
 -- the value, if it has quoted-string code points alone
 abbrev pub quotable_value : Option (List ℕ) → Option (List ℕ)
 quotable_value None = None
-quotable_value (Some value) = cond (list_all is_quotable value) (Some value) None
+quotable_value (Some value) = if list_all is_quotable value then Some value else None
 
 -- the slices spell the item
 pub record IsItem (parameter : Parameter) (item : Item) : Type 0 where
@@ -66,7 +66,7 @@ pub record IsItem (parameter : Parameter) (item : Item) : Type 0 where
 -- the pair that an item adds to those that are kept: none where its name is there
 abbrev pub unless_named : List Pair → List Pair → List Pair
 unless_named earlier [] = []
-unless_named earlier (p ∷ ps) = cond (has_name p.0 earlier) [] (p ∷ [])
+unless_named earlier (p ∷ ps) = if has_name p.0 earlier then [] else p ∷ []
 
 abbrev pub added : List Pair → Item → List Pair
 added earlier item = unless_named earlier (valid_of item)
@@ -78,11 +78,3 @@ HasLowercaseNames pairs = IsTrue (list_all (λ (p : Pair). is_lowercase_name p.0
 -- no head is that of the text
 abbrev pub HasNoHead : List ℕ → Type 0
 HasNoHead s = (type_ subtype parameters : List ℕ) → IsHead s type_ subtype parameters → ⊥
-
--- m is the record of a type, a subtype and a parameters' text
-pub record IsRecordOfParts (type_ subtype parameters : List ℕ) (m : Record) : Type 0 where
-  pub items : List Item
-  pub items_are : Items parameters items
-  pub type_is : m.type_ ≡ map to_ascii_lowercase type_
-  pub subtype_is : m.subtype ≡ map to_ascii_lowercase subtype
-  pub parameters_are : m.parameters ≡ kept items

@@ -1,5 +1,5 @@
 -- What decoding a whole text of base64 does.
-use Rattle.std.specs.Prelude.{◌+◌, ◌≡◌, ◌≤◌, Err, List, MatchBool, MatchOption, Result, cond, length, ℕ}
+use Rattle.std.specs.Prelude.{if◌then◌else◌, ◌+◌, ◌≡◌, ◌≤◌, Err, List, MatchBool, MatchOption, Result, length, ℕ}
 use Rattle.data_url.specs.Base64.{decoded, done, is_valid, kind_of}
 use Rattle.data_url.specs.Decoder.{IsAll}
 use Rattle.data_url.specs.Errors.{IsRefused}
@@ -17,4 +17,4 @@ pub record DecodesText {F E : Type 0} (step : F → List ℕ → Result (Unit {0
   pub gave : MatchOption (refusal run)
       (MatchBool (is_valid u) (IsAll u (joined run) r)
       ((joined run ≡ done u) × (r ≡ Err (InvalidBase64 (kind_of u)))))
-      (λ e. IsRefused (cond (is_valid u) (decoded u) (done u)) (joined run) e r)
+      (λ e. IsRefused (if is_valid u then decoded u else done u) (joined run) e r)

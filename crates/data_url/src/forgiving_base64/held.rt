@@ -2,7 +2,8 @@
 
 ghost use Rattle.std.specs.Prelude.{◌≡◌, ◌+◌, ◌*◌, ◌≤◌, ◌<◌, ◌++◌, [], IsTrue, drop, length, slice_index, take};
 ghost use Rattle.std.specs.List.{list_all};
-ghost use Rattle.data_url.specs.Base64.{is_ascii_whitespace, is_symbol};
+ghost use Rattle.data_url.specs.Base64.{is_symbol};
+ghost use Rattle.std.specs.Char.{is_ascii_whitespace};
 ghost use Rattle.data_url.specs.Steps.Blocks.{Fills};
 
 use super::blocks::{block_without, decode, is_whole, symbols_ahead};

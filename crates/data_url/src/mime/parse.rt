@@ -4,8 +4,8 @@ ghost use Rattle.std.specs.Prelude.{◌≡◌, ◌++◌, ◌∷◌, List, ℕ, O
 ghost use Rattle.std.specs.Bool.{MatchBool};
 ghost use Rattle.std.specs.Char.{to_ascii_lowercase};
 ghost use Rattle.std.specs.Str.{IsUtf8, chars};
-ghost use Rattle.data_url.specs.Mime.{BeginsParameters, DoesNotBegin, IsHead, Item, Items, has_name, is_quote, is_token_text, kept};
-ghost use Rattle.data_url.specs.Steps.Parsing.{HasLowercaseNames, HasNoHead, HasParameterBefore, HasValueBefore, IsClosed, IsItem, IsOpen, IsRecordOfParts, IsValue, added};
+ghost use Rattle.data_url.specs.Mime.{BeginsParameters, DoesNotBegin, IsHead, Item, Items, has_name, is_quote, is_token_text, kept, IsRecordOfParts};
+ghost use Rattle.data_url.specs.Steps.Parsing.{HasLowercaseNames, HasNoHead, HasParameterBefore, HasValueBefore, IsClosed, IsItem, IsOpen, IsValue, added};
 ghost use Rattle.data_url.specs.MimeType.{pair_of, seen};
 
 use super::Mime;

@@ -26,7 +26,8 @@ pub record Gathers (piece before after : List ℕ) (old new : Option (List ℕ))
 pub data IsStreamed (IsOutput : List ℕ → End → Type 0) : List ℕ → End → Type 0 where
   all_streamed : {written : List ℕ} {end : End} → IsOutput written end
       → IsStreamed IsOutput written end
-  cut_short : {written whole : List ℕ} {end : End} → IsOutput whole end → IsProperPrefix written whole
+  cut_short : {written whole : List ℕ} {end : End} → IsOutput whole end
+      → IsProperPrefix written whole
       → IsStreamed IsOutput written (Err Write)
 
 -- a writer took of an output

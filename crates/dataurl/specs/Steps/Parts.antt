@@ -27,7 +27,8 @@ pub data IsUrlFor (x : List ℕ) : Result DataUrl Fault → Type 0 where
 pub data IsWrittenOf (IsOutput : List ℕ → End → Type 0) : List ℕ → End → Type 0 where
   whole_output : {written : List ℕ} {end : End} → IsOutput written end
       → IsWrittenOf IsOutput written end
-  cut_output : {written whole : List ℕ} {end : End} → IsOutput whole end → IsProperPrefix written whole
+  cut_output : {written whole : List ℕ} {end : End} → IsOutput whole end
+      → IsProperPrefix written whole
       → IsWrittenOf IsOutput written (Err Write)
   no_output : IsWrittenOf IsOutput [] (Err Memory)
 

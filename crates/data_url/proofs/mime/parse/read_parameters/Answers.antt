@@ -1,7 +1,8 @@
 use Rattle.std.proofs.Common.{◌<◌, ◌≤◌, length, arith, ap}
 use Rattle.std.specs.Str.{chars}
 use Rattle.data_url.proofs.HeadLemmas.{no_semicolon}
-use Rattle.data_url.proofs.KeptLemmas.{keeps_end, keeps_more, rest_shorter}
+use Rattle.data_url.proofs.KeptLemmas.{keeps_end, keeps_more}
+use Rattle.data_url.proofs.ItemLemmas.{rest_shorter}
 use Rattle.data_url.proofs.ParameterLemmas.{stripped_chars}
 use Rattle.data_url.proofs.mime.parse.read_parameters.Goals as goal
 
