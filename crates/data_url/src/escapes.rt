@@ -28,8 +28,8 @@ pub enum Piece<'a> {
     Byte(u8),
 }
 
-/// The pieces of a body, from what stands behind the comma of a data: URL, tabs, newlines and the fragment included (URL
-/// Standard, sections 1.3 and 4.4).
+/// The pieces of a body, from what stands behind the comma of a data: URL, tabs, newlines and the fragment included
+/// ([URL Standard, sections 1.3 and 4.4](https://url.spec.whatwg.org/#percent-encoded-bytes)).
 ///
 /// Contracts see a walk: the text, the place in it in bytes, the bytes that the pieces from there on join to, whether it has
 /// ended, and how many bytes of the text were looked at, which is never more than three times its length.
@@ -69,9 +69,10 @@ impl<'a> Pieces<'a> {
         }
     }
 
-    /// The next piece of the body, or None where it has ended, and from then on. The pieces until None join to the text before
-    /// its first `#`, without tabs and newlines, percent-decoded (URL Standard, section 1.3). There are at most as many as the
-    /// text has bytes. A slice goes as far as it can.
+    /// The next piece of the body, or None where it has ended, and from then on. The pieces until None join to the text
+    /// before its first `#`, without tabs and newlines, percent-decoded
+    /// ([URL Standard, section 1.3](https://url.spec.whatwg.org/#percent-encoded-bytes)). There are at most as many as
+    /// the text has bytes. A slice goes as far as it can.
     pub fn next(&mut self) -> Option<Piece<'a>>
         ensures text { self.new.text ≡ self.old.text }
         ensures bytes { self.old.rest ≡ bytes_of_next result ++ self.new.rest }
@@ -87,8 +88,9 @@ impl<'a> Pieces<'a> {
         self.cursor.next()
     }
 
-    /// What stands behind the first `#` of the text, as it was given (URL Standard, section 4.4, fragment state), or None where
-    /// there is no `#`. It may be called once `next` has answered None.
+    /// What stands behind the first `#` of the text, as it was given
+    /// ([URL Standard, section 4.4, fragment state](https://url.spec.whatwg.org/#fragment-state)), or None where there
+    /// is no `#`. It may be called once `next` has answered None.
     pub fn fragment(&self) -> Option<&'a str>
         requires { IsTrue self.now.ended }
         ensures { option_map (λ fragment. fragment.now) result ≡ behind 35 self.now.text }

@@ -17,10 +17,11 @@ pub use decode::Decoder;
 pub use whole::decode_to_vec;
 pub(crate) use whole::room_for;
 
-/// Why a text is not valid base64 (Infra Standard, forgiving-base64 decode), in four kinds: an unexpected symbol, with
-/// its byte, which is neither whitespace nor `=` nor of the alphabet; an alphabet symbol after padding, that is, with a
-/// `=` somewhere before it; a lone alphabet symbol, left over behind the groups of four; and padding, where the number
-/// of `=` does not fit.
+/// Why a text is not valid base64
+/// ([Infra Standard, forgiving-base64 decode](https://infra.spec.whatwg.org/#forgiving-base64-decode)), in four kinds:
+/// an unexpected symbol, with its byte, which is neither whitespace nor `=` nor of the alphabet; an alphabet symbol
+/// after padding, that is, with a `=` somewhere before it; a lone alphabet symbol, left over behind the groups of four;
+/// and padding, where the number of `=` does not fit.
 ///
 /// Contracts see the kind.
 #[derive(Debug, Drop)]
@@ -66,7 +67,8 @@ impl fmt::Display for InvalidBase64 {
 
 impl Error for InvalidBase64 {}
 
-/// Why decoding ended early: the text is not valid base64 (Infra Standard, forgiving-base64 decode), or the closure
+/// Why decoding ended early: the text is not valid base64
+/// ([Infra Standard, forgiving-base64 decode](https://infra.spec.whatwg.org/#forgiving-base64-decode)), or the closure
 /// that was given the bytes refused them.
 #[derive(Debug, Drop)]
 pub enum DecodeError<E> {
@@ -91,8 +93,9 @@ impl<E: fmt::Display> fmt::Display for DecodeError<E> {
 
 impl<E: Error> Error for DecodeError<E> {}
 
-/// Why a text was not decoded into a vector: it is not valid base64 (Infra Standard, forgiving-base64 decode), or
-/// memory was refused.
+/// Why a text was not decoded into a vector: it is not valid base64
+/// ([Infra Standard, forgiving-base64 decode](https://infra.spec.whatwg.org/#forgiving-base64-decode)), or memory was
+/// refused.
 #[derive(Debug, Drop)]
 pub enum DecodeToVecError {
     /// The text is not valid base64.

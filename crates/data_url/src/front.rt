@@ -1,54 +1,13 @@
-//! The front of a data: URL's text as it was given: its ends, its scheme and its first comma (URL Standard, section 4.4).
+//! The front of a data: URL's text as it was given: its scheme and its first comma (URL Standard, section 4.4).
 
 ghost use Rattle.std.specs.Prelude.{◌≡◌, None, IfSome, IfNone};
-ghost use Rattle.std.specs.List.{position, prefix_len, suffix_len};
-ghost use Rattle.data_url.specs.Url.{behind, front, is_c0_control_or_space, is_tab_or_newline, trimmed, without_end, without_front};
+ghost use Rattle.std.specs.List.{position};
+ghost use Rattle.data_url.specs.Url.{behind, front};
 ghost use Rattle.data_url.specs.Steps.Front.{HasNoScheme, IsHeaderAndTail, IsSchemeAndRest, ends_header};
 
+use crate::ascii::is_tab_or_newline;
+
 const SCHEME: [u8; 5] = *b"data:";
-
-/// The text without C0 controls and spaces at both ends.
-#[tactic(auto, unfolding(crate::specs::Url::trimmed))]
-pub(crate) fn trim(text: &str) -> &str
-    ensures { result.now ≡ trimmed text.now }
-{
-    trim_end(trim_start(text))
-}
-
-fn trim_start(text: &str) -> &str
-    ensures { result.now ≡ without_front is_c0_control_or_space text.now }
-{
-    let low = low_front_len(text.as_bytes());
-    &text[low..]
-}
-
-fn trim_end(text: &str) -> &str
-    ensures { result.now ≡ without_end is_c0_control_or_space text.now }
-{
-    let low = low_end_len(text.as_bytes());
-    &text[..text.len() - low]
-}
-
-/// How many bytes at the front are C0 controls or spaces.
-fn low_front_len(bytes: &[u8]) -> usize
-    ensures { result ≡ prefix_len is_c0_control_or_space bytes.now }
-{
-    bytes.iter().take_while(|byte| **byte <= b' ').count()
-}
-
-/// How many bytes at the end are C0 controls or spaces.
-pub(crate) fn low_end_len(bytes: &[u8]) -> usize
-    ensures { result ≡ suffix_len is_c0_control_or_space bytes.now }
-{
-    bytes.iter().rev().take_while(|byte| **byte <= b' ').count()
-}
-
-/// Whether the URL parser passes over the byte, as if it were not there.
-pub(crate) fn is_tab_or_newline(byte: u8) -> bool
-    ensures { result ≡ is_tab_or_newline byte }
-{
-    matches!(byte, b'\t' | b'\n' | b'\r')
-}
 
 /// What follows the scheme `data:` of a trimmed text, spelled in any ASCII case, with tabs and newlines anywhere.
 pub(crate) fn after_scheme(text: &str) -> Option<&str>

@@ -8,7 +8,7 @@ ghost use Rattle.data_url.specs.Mime.{default_record};
 ghost use Rattle.data_url.specs.Steps.Header.{HasChanges, IsHeaderOf, IsPrintable, IsRecordFor, next_set};
 ghost use Rattle.data_url.specs.MimeType.{as_option, seen};
 
-use crate::front::{is_tab_or_newline, low_end_len, trim};
+use crate::ascii::{is_tab_or_newline, low_end_len, trim};
 use crate::mime::{Mime, MimeFromStrError};
 use crate::percent::{EncodeSet, push_encoded};
 use std::alloc::{AllocError, Global};

@@ -10,8 +10,9 @@ ghost use Rattle.data_url.specs.Url.{encoded_fragment, in_path_set, in_query_set
 
 use crate::mime::Mime;
 
-/// A record that a parse can give prints to a text that is a MIME type (MIME Sniffing Standard, sections 4.4 and 4.5), and
-/// that text has the record and no other.
+/// A record that a parse can give prints to a text that is a MIME type
+/// ([MIME Sniffing Standard, sections 4.4 and 4.5](https://mimesniff.spec.whatwg.org/#parsing-a-mime-type)), and that
+/// text has the record and no other.
 pub fn canonical(mime: &Mime)
     requires { IsWellformed (seen mime.now) }
     ensures parses { Parses (printed (seen mime.now)) (seen mime.now) }
@@ -19,8 +20,8 @@ pub fn canonical(mime: &Mime)
         → other ≡ seen mime.now }
 {}
 
-/// Two records that a parse can give are equal, as by `==`, exactly if their printed texts are (MIME Sniffing Standard,
-/// section 4.5).
+/// Two records that a parse can give are equal, as by `==`, exactly if their printed texts are
+/// ([MIME Sniffing Standard, section 4.5](https://mimesniff.spec.whatwg.org/#serializing-a-mime-type)).
 pub fn same_text(first: &Mime, second: &Mime)
     requires first { IsWellformed (seen first.now) }
     requires second { IsWellformed (seen second.now) }
@@ -28,23 +29,27 @@ pub fn same_text(first: &Mime, second: &Mime)
         (printed (seen first.now) ≡ printed (seen second.now)) }
 {}
 
-/// The encoded text of a fragment, read again behind `data:,#`, is encoded to itself (Fetch Standard, section 6, by the URL
-/// Standard, section 4.4, fragment state). It has U+0021 to U+007E alone, without `"`, `<`, `>` and the backquote.
+/// The encoded text of a fragment, read again behind `data:,#`, is encoded to itself
+/// ([Fetch Standard, section 6](https://fetch.spec.whatwg.org/#data-url-processor), by the
+/// [URL Standard, section 4.4, fragment state](https://url.spec.whatwg.org/#fragment-state)). It has U+0021 to U+007E
+/// alone, without `"`, `<`, `>` and the backquote.
 pub fn fragment_again(fragment: &str)
     ensures again { IsReadAgain (encoded_fragment fragment.now) }
     ensures bytes { Every is_fragment_byte (encoded_fragment fragment.now) }
 {}
 
-/// A text of base64 may be fed in two parts (Infra Standard, forgiving-base64 decode). Where the first part has no
-/// fault, what it leaves goes on with the second as the whole text does: the bytes, the fault or the rest, and validity
-/// are the same.
+/// A text of base64 may be fed in two parts
+/// ([Infra Standard, forgiving-base64 decode](https://infra.spec.whatwg.org/#forgiving-base64-decode)). Where the first
+/// part has no fault, what it leaves goes on with the second as the whole text does: the bytes, the fault or the rest,
+/// and validity are the same.
 pub fn two_feeds(first: &[u8], second: &[u8])
     requires { first_fault first.now ≡ None }
     ensures { TwoFeeds first.now second.now }
 {}
 
-/// Encoding bytes before they are percent-decoded changes nothing (URL Standard, section 1.3): bytes decode to the same as
-/// their encoded form does, by the set of a path and by that of a query.
+/// Encoding bytes before they are percent-decoded changes nothing
+/// ([URL Standard, section 1.3](https://url.spec.whatwg.org/#percent-encoded-bytes)): bytes decode to the same as their
+/// encoded form does, by the set of a path and by that of a query.
 pub fn encoding_first(bytes: &[u8])
     ensures path { percent_decoded bytes.now
         ≡ percent_decoded (percent_encoded in_path_set bytes.now) }

@@ -8,28 +8,31 @@ ghost use Rattle.data_url.specs.Steps.Tail.{IsBodyEnd};
 ghost use Rattle.data_url.specs.Fetch.{Good};
 ghost use Rattle.data_url.specs.Errors.{IsBodyErrorOf};
 
+mod ascii;
 mod body;
 pub mod escapes;
 mod facts;
 pub mod forgiving_base64;
+mod fragment;
 mod front;
 mod header;
 pub mod laws;
 pub mod mime;
 mod percent;
 
+use ascii::trim;
 use body::{decode_base64, decode_plain};
 use forgiving_base64::{DecodeError, DecodeToVecError, room_for};
-use front::{after_scheme, is_tab_or_newline, split_at_comma, trim};
+pub use fragment::FragmentIdentifier;
+use front::{after_scheme, split_at_comma};
 use header::read_header;
 use mime::Mime;
-use percent::{EncodeSet, encoded_width, push_encoded};
 use std::alloc::{AllocError, Global};
 use std::error::Error;
 use std::fmt;
 
-/// A data: URL (Fetch Standard, section 6): its MIME type, and its body and fragment as slices of the text that it was
-/// read from.
+/// A data: URL ([Fetch Standard, section 6](https://fetch.spec.whatwg.org/#data-url-processor)): its MIME type, and its
+/// body and fragment as slices of the text that it was read from.
 #[derive(Drop)]
 pub struct DataUrl<'a> {
     mime_type: Mime,
@@ -37,14 +40,7 @@ pub struct DataUrl<'a> {
     tail: &'a str,
 }
 
-/// What stands behind the first `#` of a data: URL (URL Standard, section 4.4, fragment state), as it was given, tabs
-/// and newlines included.
-#[derive(Drop)]
-pub struct FragmentIdentifier<'a> {
-    text: &'a str,
-}
-
-/// Why a text gave no data: URL (Fetch Standard, section 6).
+/// Why a text gave no data: URL ([Fetch Standard, section 6](https://fetch.spec.whatwg.org/#data-url-processor)).
 #[derive(Debug, Drop)]
 pub enum DataUrlError {
     /// The text does not begin with the scheme `data:` (URL Standard, section 4.4, scheme state).
@@ -76,46 +72,9 @@ impl fmt::Display for DataUrlError {
 
 impl Error for DataUrlError {}
 
-impl<'a> FragmentIdentifier<'a> {
-    ghost use Rattle.std.specs.Prelude.{◌-◌, ◌^◌, min, string_bytes};
-    ghost use Rattle.data_url.specs.Url.{encoded_fragment};
-    ghost use Rattle.data_url.specs.DataUrl.{fragment_text};
-
-    /// How many bytes the encoded fragment takes, or the greatest number where they are more.
-    fn encoded_len(&self) -> usize
-        ensures { result
-            ≡ min (length (encoded_fragment (fragment_text self.now))) (2 ^ 64 - 1) }
-    {
-        let mut len: usize = 0;
-        for byte in self.text.as_bytes() {
-            if !is_tab_or_newline(*byte) {
-                len = len.saturating_add(encoded_width(EncodeSet::Fragment, *byte));
-            }
-        }
-        len
-    }
-
-    /// The fragment as the URL parser leaves it (URL Standard, section 4.4, fragment state): tabs and newlines go, and each
-    /// byte of the fragment percent-encode set is written as `%` and two upper-case hexadecimal digits. A `%` stays as it
-    /// is. Room for the text is taken once, at its exact length.
-    ///
-    /// The error comes where memory was refused.
-    pub fn to_percent_encoded(&self, alloc: Global) -> Result<String, AllocError>
-        ensures { IfOk result (λ text.
-            string_bytes text ≡ encoded_fragment (fragment_text self.now)) }
-    {
-        let mut text = String::with_capacity(alloc, self.encoded_len())?;
-        for byte in self.text.as_bytes() {
-            if !is_tab_or_newline(*byte) {
-                push_encoded(&mut text, EncodeSet::Fragment, *byte)?;
-            }
-        }
-        Ok(text)
-    }
-}
-
 impl<'a> DataUrl<'a> {
-    /// The data: URL of a text (Fetch Standard, section 6, from a text with all behind `data:` as an opaque path).
+    /// The data: URL of a text ([Fetch Standard, section 6](https://fetch.spec.whatwg.org/#data-url-processor), from a
+    /// text with all behind `data:` as an opaque path).
     ///
     /// It answers `NotADataUrl` exactly where the text has no scheme `data:`, and `NoComma` exactly where it has that
     /// scheme and no comma before its fragment; both are found before memory is asked for. `OutOfMemory` comes where the
@@ -139,8 +98,8 @@ impl<'a> DataUrl<'a> {
         })
     }
 
-    /// The MIME type (Fetch Standard, section 6): that of the header or, where the header has none,
-    /// `text/plain;charset=US-ASCII`.
+    /// The MIME type ([Fetch Standard, section 6](https://fetch.spec.whatwg.org/#data-url-processor)): that of the
+    /// header or, where the header has none, `text/plain;charset=US-ASCII`.
     pub fn mime_type(&self) -> &Mime
         ensures { result.now ≡ mime_of self.now }
     {
@@ -171,16 +130,15 @@ impl<'a> DataUrl<'a> {
         if place == bytes.len() {
             return None;
         }
-        Some(FragmentIdentifier {
-            text: &self.tail[place + 1..],
-        })
+        Some(FragmentIdentifier::new(&self.tail[place + 1..]))
     }
 
-    /// Hands the body's bytes to a closure, piece by piece, answers the fragment (Fetch Standard, section 6), and hands
-    /// the closure back as its last call left it. It takes no memory, and calls the closure at most once more than
-    /// there are bytes behind the comma. The closure has to be one that may be called on any bytes, whatever it was
-    /// called with before. Where the bytes are cut is free: today a long stretch of the text comes as it stands there,
-    /// shorter ones and the values of escapes in pieces of up to 256 bytes, and base64 in pieces of up to 48 bytes.
+    /// Hands the body's bytes to a closure, piece by piece, answers the fragment
+    /// ([Fetch Standard, section 6](https://fetch.spec.whatwg.org/#data-url-processor)), and hands the closure back as
+    /// its last call left it. It takes no memory, and calls the closure at most once more than there are bytes behind
+    /// the comma. The closure has to be one that may be called on any bytes, whatever it was called with before. Where
+    /// the bytes are cut is free: today a long stretch of the text comes as it stands there, shorter ones and the
+    /// values of escapes in pieces of up to 256 bytes, and base64 in pieces of up to 48 bytes.
     ///
     /// It answers `WriteError` with the closure's error, after which there is no further call, and `InvalidBase64` for
     /// a base64 body that is not valid, once the bytes before its first fault were handed out.
@@ -201,9 +159,10 @@ impl<'a> DataUrl<'a> {
         }
     }
 
-    /// Hands the body's bytes to a closure, piece by piece, and answers the fragment (Fetch Standard, section 6). It
-    /// takes no memory. The closure has to be one that may be called on any bytes, whatever it was called with before.
-    /// Where the bytes are cut is free, as `decode_with` tells.
+    /// Hands the body's bytes to a closure, piece by piece, and answers the fragment
+    /// ([Fetch Standard, section 6](https://fetch.spec.whatwg.org/#data-url-processor)). It takes no memory. The
+    /// closure has to be one that may be called on any bytes, whatever it was called with before. Where the bytes are
+    /// cut is free, as `decode_with` tells.
     ///
     /// It answers `WriteError` with the closure's error, and `InvalidBase64` for a base64 body that is not valid, once
     /// the bytes before its first fault were handed out. The run of the closure that the contract tells of has at most
@@ -224,8 +183,9 @@ impl<'a> DataUrl<'a> {
         answer
     }
 
-    /// The body's bytes and the fragment (Fetch Standard, section 6). Room for the bytes is taken once, by the length of
-    /// what stands behind the comma, and the vector grows by the pieces of `decode`.
+    /// The body's bytes and the fragment
+    /// ([Fetch Standard, section 6](https://fetch.spec.whatwg.org/#data-url-processor)). Room for the bytes is taken
+    /// once, by the length of what stands behind the comma, and the vector grows by the pieces of `decode`.
     ///
     /// The error is `InvalidBase64` for a base64 body that is not valid, with the reason of its first fault, and
     /// `OutOfMemory` where memory was refused.

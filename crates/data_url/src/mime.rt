@@ -52,8 +52,9 @@ impl Eq for Mime {
     ghost laws = { same_texts_equiv };
 }
 
-/// Writes a record (MIME Sniffing Standard, section 4.5), valid or not: a value that is empty or has a code point that is
-/// no token code point stands in quotes, with a `\` before each `"` and each `\`.
+/// Writes a record ([MIME Sniffing Standard, section 4.5](https://mimesniff.spec.whatwg.org/#serializing-a-mime-type)),
+/// valid or not: a value that is empty or has a code point that is no token code point stands in quotes, with a `\`
+/// before each `"` and each `\`.
 impl fmt::Display for Mime {
     ghost use Rattle.std.specs.Str.{encode_utf8_all};
     ghost use Rattle.data_url.specs.Mime.{printed};
@@ -72,7 +73,8 @@ impl fmt::Display for Mime {
     }
 }
 
-/// The text is no MIME type (MIME Sniffing Standard, section 4.4).
+/// The text is no MIME type
+/// ([MIME Sniffing Standard, section 4.4](https://mimesniff.spec.whatwg.org/#parsing-a-mime-type)).
 #[derive(Debug, Drop)]
 pub struct MimeParsingError(());
 
@@ -86,7 +88,8 @@ impl fmt::Display for MimeParsingError {
 
 impl Error for MimeParsingError {}
 
-/// Why a text gave no record (MIME Sniffing Standard, section 4.4).
+/// Why a text gave no record
+/// ([MIME Sniffing Standard, section 4.4](https://mimesniff.spec.whatwg.org/#parsing-a-mime-type)).
 #[derive(Debug, Drop)]
 pub enum MimeFromStrError {
     /// The text is no MIME type.
@@ -143,7 +146,8 @@ impl Mime {
         })
     }
 
-    /// The record of a text (MIME Sniffing Standard, section 4.4).
+    /// The record of a text
+    /// ([MIME Sniffing Standard, section 4.4](https://mimesniff.spec.whatwg.org/#parsing-a-mime-type)).
     ///
     /// It answers `Parsing` exactly where the text is no MIME type, which it finds before it asks for memory, and
     /// `OutOfMemory` where the text is one and its record finds no memory.

@@ -7,7 +7,7 @@ use Rattle.data_url.specs.Mime.{HasNoRecord}
 use Rattle.data_url.specs.Errors.{IsParsingError}
 use Rattle.data_url.specs.Url.{dropped, fragment, in_fragment_set, percent_encoded}
 use Rattle.data_url.specs.declared.DataUrl.{DataUrl}
-use Rattle.data_url.specs.declared.FragmentIdentifier.{FragmentIdentifier}
+use Rattle.data_url.specs.declared.fragment.FragmentIdentifier.{FragmentIdentifier}
 use Rattle.data_url.specs.declared.forgiving_base64.DecodeError.{DecodeError}
 use Rattle.data_url.specs.declared.forgiving_base64.DecodeError.TheVariants.{InvalidBase64}
 use Rattle.data_url.specs.declared.mime.Mime.{Mime}

@@ -169,10 +169,12 @@ fn write_type<W: Write>(alloc: Global, text: &str, writer: &mut W) -> Result<(),
 /// into memory and then ask that it is UTF-8; `base64` takes no memory, and decodes pieces of at most 4,096 bytes as they
 /// are read, up to the first fault.
 ///
-/// Of what is wrong with the input, `NotUtf8` comes exactly where a text is asked for and the input is none; `NotADataUrl`
-/// and `NoComma` exactly where the Fetch Standard finds no scheme or no comma (section 6); `Mime` exactly where `type` is
-/// given a text that is no MIME type (MIME Sniffing Standard, section 4.4); `Base64` for a fault of the base64, before
-/// which `body` and `base64` have written what stands before it. Before the others nothing was written.
+/// Of what is wrong with the input, `NotUtf8` comes exactly where a text is asked for and the input is none;
+/// `NotADataUrl` and `NoComma` exactly where the Fetch Standard finds no scheme or no comma (section 6); `Mime` exactly
+/// where `type` is given a text that is no MIME type
+/// ([MIME Sniffing Standard, section 4.4](https://mimesniff.spec.whatwg.org/#parsing-a-mime-type)); `Base64` for a
+/// fault of the base64, before which `body` and `base64` have written what stands before it. Before the others nothing
+/// was written.
 ///
 /// `Memory` comes where memory was refused, before anything was written; `Read` where a read failed or the reader had no end
 /// after 2^64 - 1 reads, when nothing was written but by `base64`, which has written the complete groups that were read;

@@ -11,8 +11,9 @@ use super::{DecodeError, InvalidBase64, InvalidBase64Details};
 /// The shortest text that is looked at as a block.
 const SHORTEST: usize = 8;
 
-/// A decoder of base64 (Infra Standard, forgiving-base64 decode) that takes its text in pieces, cut anywhere, and hands
-/// bytes to a closure as soon as four symbols give them.
+/// A decoder of base64
+/// ([Infra Standard, forgiving-base64 decode](https://infra.spec.whatwg.org/#forgiving-base64-decode)) that takes its
+/// text in pieces, cut anywhere, and hands bytes to a closure as soon as four symbols give them.
 ///
 /// It takes no memory: it keeps at most three symbols, and counts the signs `=` up to three. Contracts see it as its
 /// closure, these symbols, that count and whether it has failed (`state_of`).
@@ -71,14 +72,7 @@ where
     pub fn into_closure(self) -> F
         ensures { result ≡ (state_of self).closure }
     {
-        let Decoder {
-            write_bytes,
-            symbols: _,
-            pending: _,
-            padding: _,
-            failed: _,
-        } = self;
-        write_bytes
+        self.write_bytes
     }
 
     /// Hands a piece to the closure.

@@ -30,8 +30,9 @@ pub(crate) fn room_for(len: usize) -> usize
     len / 4 * 3 + len % 4 * 3 / 4
 }
 
-/// The bytes that a text of base64 stands for (Infra Standard, forgiving-base64 decode). Room for them is taken once, by
-/// the length of the text.
+/// The bytes that a text of base64 stands for
+/// ([Infra Standard, forgiving-base64 decode](https://infra.spec.whatwg.org/#forgiving-base64-decode)). Room for them
+/// is taken once, by the length of the text.
 ///
 /// The error is `InvalidBase64` for a text that is not valid, with the reason of its first fault, and `OutOfMemory` where
 /// memory was refused.

@@ -67,7 +67,7 @@ pub(super) fn read_head(text: &str) -> Option<Head<'_>>
     })
 }
 
-// Whether a text is empty or begins with `;`.
+/// Whether a text is empty or begins with `;`.
 fn begins_parameters(text: &str) -> bool
     ensures { MatchBool result (BeginsParameters (chars text.now))
         (¬ (BeginsParameters (chars text.now))) }
@@ -75,7 +75,7 @@ fn begins_parameters(text: &str) -> bool
     text.is_empty() || text.starts_with(';')
 }
 
-// The parameter that a text begins with, behind its `;`.
+/// The parameter that a text begins with, behind its `;`.
 fn read_parameter(text: &str) -> Parameter<'_>
     ensures parameter { (item : Item) × IsItem result item
         × HasParameterBefore (chars text.now) item (chars result.rest.now) }
@@ -93,7 +93,7 @@ fn read_parameter(text: &str) -> Parameter<'_>
     Parameter { name, value, rest }
 }
 
-// The value that stands behind a `=`, and what stands behind it.
+/// The value that stands behind a `=`, and what stands behind it.
 fn read_value(text: &str) -> (Value<'_>, &str)
     ensures value { (value : Option (List ℕ)) × IsValue result.0 value
         × HasValueBefore (61 ∷ chars text.now) value (chars result.1.now) }
@@ -109,7 +109,7 @@ fn read_value(text: &str) -> (Value<'_>, &str)
     (Value::Quoted(value), rest)
 }
 
-// The same of a value that begins with no `"`.
+/// The same of a value that begins with no `"`.
 fn read_plain(text: &str) -> (Value<'_>, &str)
     requires { DoesNotBegin is_quote (chars text.now) }
     ensures value { (value : Option (List ℕ)) × IsValue result.0 value
@@ -125,7 +125,7 @@ fn read_plain(text: &str) -> (Value<'_>, &str)
     }
 }
 
-// What stands before the quote that closes a quoted string, and behind it.
+/// What stands before the quote that closes a quoted string, and behind it.
 fn split_quote(text: &str) -> Option<(&str, &str)>
     ensures { MatchOption result (IsOpen (chars text.now))
         (λ parts. IsClosed text.now parts.0.now parts.1.now) }
@@ -159,7 +159,7 @@ pub(super) fn read_parameters(
     Ok(pairs)
 }
 
-// Adds the pair of a parameter, if it is valid and its name is not there yet.
+/// Adds the pair of a parameter, if it is valid and its name is not there yet.
 fn keep(
     alloc: Global,
     pairs: &mut Vec<(String, String)>,
@@ -182,7 +182,7 @@ fn keep(
     Ok(())
 }
 
-// Whether one of the pairs has the name, in any ASCII case.
+/// Whether one of the pairs has the name, in any ASCII case.
 fn has_name(pairs: &[(String, String)], name: &str) -> bool
     requires lower { HasLowercaseNames (map (λ p. pair_of p) pairs.now) }
     requires token { IsTrue (is_token_text (chars name.now)) }

@@ -23,7 +23,7 @@ pub(super) fn write_parameter<W: fmt::Write>(
     write_value(f, value)
 }
 
-// Writes a value: a nonempty text of token code points as it is, any other in quotes.
+/// Writes a value: a nonempty text of token code points as it is, any other in quotes.
 fn write_value<W: fmt::Write>(f: &mut fmt::Formatter<W>, value: &str) -> fmt::Result
     ensures { WritesOnOk W.write_str_gives f.old result
         (encode_utf8_all (printed_value (chars value.now))) f.new }
@@ -36,7 +36,7 @@ fn write_value<W: fmt::Write>(f: &mut fmt::Formatter<W>, value: &str) -> fmt::Re
     f.write_char('"')
 }
 
-// Writes a text with a `\` before each `"` and each `\`.
+/// Writes a text with a `\` before each `"` and each `\`.
 fn write_escaped<W: fmt::Write>(f: &mut fmt::Formatter<W>, text: &str) -> fmt::Result
     ensures { WritesOnOk W.write_str_gives f.old result
         (encode_utf8_all (flat_map escaped (chars text.now))) f.new }

@@ -6,7 +6,7 @@ ghost use Rattle.std.specs.Str.{IsUtf8, chars};
 ghost use Rattle.data_url.specs.CodePoints.{is_token};
 ghost use Rattle.data_url.specs.Mime.{DoesNotBegin, Every, is_token_text};
 
-// The class of token code points: an ASCII letter, a digit or one of fifteen marks.
+/// The class of token code points: an ASCII letter, a digit or one of fifteen marks.
 #[rattlefmt::skip]
 const TOKENS: [bool; 256] = [
     false, false, false, false, false, false, false, false, false, false, false, false, false, false, false, false,
@@ -27,7 +27,7 @@ const TOKENS: [bool; 256] = [
     false, false, false, false, false, false, false, false, false, false, false, false, false, false, false, false,
 ];
 
-// Whether a byte is a token code point.
+/// Whether a byte is a token code point.
 #[tactic(auto, using(crate::proofs::TokenLemmas::token_entry))]
 fn is_token(byte: u8) -> bool
     ensures { result ≡ is_token byte }
@@ -35,16 +35,11 @@ fn is_token(byte: u8) -> bool
     TOKENS[byte as usize]
 }
 
-// The place of the first byte that is no token code point, or the length.
+/// The place of the first byte that is no token code point, or the length.
 fn first_other(bytes: &[u8]) -> usize
     ensures { result ≡ prefix_len is_token bytes.now }
 {
-    for (place, byte) in bytes.iter().enumerate() {
-        if !is_token(*byte) {
-            return place;
-        }
-    }
-    bytes.len()
+    bytes.iter().take_while(|byte| is_token(**byte)).count()
 }
 
 /// Whether a text is nonempty and of token code points alone.

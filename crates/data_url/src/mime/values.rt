@@ -37,8 +37,8 @@ impl<'a> Value<'a> {
     }
 }
 
-// Whether a byte stands in the UTF-8 of quoted-string code points: U+0080 to U+00FF begin with 0xC2 or 0xC3, and every
-// later code point begins with a greater byte.
+/// Whether a byte stands in the UTF-8 of quoted-string code points: U+0080 to U+00FF begin with 0xC2 or 0xC3, and every
+/// later code point begins with a greater byte.
 #[tactic(auto, unfolding(crate::specs::Steps::Parsing::is_quotable_byte))]
 fn is_quotable_byte(byte: u8) -> bool
     ensures { result ≡ is_quotable_byte byte }
@@ -46,8 +46,8 @@ fn is_quotable_byte(byte: u8) -> bool
     matches!(byte, b'\t' | b' '..=b'~' | 0x80..=0xC3)
 }
 
-// Whether a text has quoted-string code points alone. What escapes the others is one too, so a quoted string may be
-// asked before it is unescaped.
+/// Whether a text has quoted-string code points alone. What escapes the others is one too, so a quoted string may be
+/// asked before it is unescaped.
 fn is_quotable(text: &str) -> bool
     ensures { result ≡ list_all is_quotable (chars text.now) }
 {
@@ -59,7 +59,7 @@ fn is_quotable(text: &str) -> bool
     true
 }
 
-// The value of a quoted string: without the `\` before each code point that one stands before.
+/// The value of a quoted string: without the `\` before each code point that one stands before.
 fn unescaped(alloc: Global, quoted: &str) -> Result<String, AllocError>
     ensures { IfOk result (λ text. (value : List ℕ) → QuotedOpen (chars quoted.now) value
         → code_points text ≡ value) }

@@ -5,7 +5,7 @@ use Rattle.data_url.specs.DataUrl.{IsAcceptable, IsUrlOf, fragment_text, url_tai
 use Rattle.data_url.specs.Fetch.{NoComma as no_comma, NoScheme, staged}
 use Rattle.data_url.specs.Url.{dropped, encoded_fragment, fragment, in_fragment_set, percent_encoded}
 use Rattle.data_url.specs.declared.DataUrl.{DataUrl}
-use Rattle.data_url.specs.declared.FragmentIdentifier.{FragmentIdentifier}
+use Rattle.data_url.specs.declared.fragment.FragmentIdentifier.{FragmentIdentifier}
 use Rattle.dataurl.specs.Output.{End}
 use Rattle.dataurl.specs.Runs.{IsProperPrefix}
 use Rattle.dataurl.specs.declared.fault.Fault.TheVariants.{Memory, NoComma, NotADataUrl, Write}

@@ -11,4 +11,4 @@ range_from-requires c =
     λ _. IsCharBoundary-after_ascii c.args.self.now.tail.now c.args.place (subst IsUtf8 c.as_bytes-bytes.ensures.value c.as_bytes-bytes.ensures.utf8) h.within (omega arith)
 
 pub returns : goal.returns
-returns c = ap (λ (s : List ℕ). Some s) c.range_from.ensures.value ∙ sym (has_hash c.args.self.now.tail.now c.args.place c.requires (λ e. c.if-place-bytes.false (e ∙ ap length (sym c.as_bytes-bytes.ensures.value)))).fragment_is
+returns c = ap (λ (s : List ℕ). Some s) (c.new.ensures ∙ c.range_from.ensures.value) ∙ sym (has_hash c.args.self.now.tail.now c.args.place c.requires (λ e. c.if-place-bytes.false (e ∙ ap length (sym c.as_bytes-bytes.ensures.value)))).fragment_is

@@ -2,8 +2,8 @@ use Rattle.std.proofs.Common.{◌∙◌, ap, rules}
 use Rattle.std.specs.Prelude.{string_bytes}
 use Rattle.data_url.specs.Url.{dropped, in_fragment_set, percent_encoded}
 use Rattle.data_url.proofs.FragmentLemmas.{wrote_all, wrote_kept, wrote_passed}
-use Rattle.data_url.proofs.FragmentIdentifier.to_percent_encoded.Goals as goal
-use Rattle.data_url.proofs.FragmentIdentifier.to_percent_encoded.Goals.{then-not-is_tab_or_newline+in_ok-push_encoded, else-not-is_tab_or_newline}
+use Rattle.data_url.proofs.fragment.FragmentIdentifier.to_percent_encoded.Goals as goal
+use Rattle.data_url.proofs.fragment.FragmentIdentifier.to_percent_encoded.Goals.{then-not-is_tab_or_newline+in_ok-push_encoded, else-not-is_tab_or_newline}
 
 pub loop-byte-preserved : goal.loop-byte-preserved
 loop-byte-preserved c =

@@ -1,7 +1,7 @@
 use Rattle.std.proofs.Common.{◌+◌, ◌∙◌, ap, rules, subst, sym}
 use Rattle.data_url.proofs.FragmentLemmas.{CountedTo, counted_all, counted_kept, counted_passed, counted_total}
-use Rattle.data_url.proofs.FragmentIdentifier.encoded_len.Goals as goal
-use Rattle.data_url.proofs.FragmentIdentifier.encoded_len.Goals.{then-not-is_tab_or_newline, else-not-is_tab_or_newline}
+use Rattle.data_url.proofs.fragment.FragmentIdentifier.encoded_len.Goals as goal
+use Rattle.data_url.proofs.fragment.FragmentIdentifier.encoded_len.Goals.{then-not-is_tab_or_newline, else-not-is_tab_or_newline}
 
 pub loop-byte-preserved : goal.loop-byte-preserved
 loop-byte-preserved c =

@@ -1,0 +1,61 @@
+//! Fragments of data: URLs (URL Standard, section 4.4, fragment state).
+
+ghost use Rattle.std.specs.Prelude.{◌≡◌, IfOk, length};
+
+use crate::ascii::is_tab_or_newline;
+use crate::percent::{EncodeSet, encoded_width, push_encoded};
+use std::alloc::{AllocError, Global};
+
+/// What stands behind the first `#` of a data: URL
+/// ([URL Standard, section 4.4, fragment state](https://url.spec.whatwg.org/#fragment-state)), as it was given, tabs
+/// and newlines included.
+#[derive(Drop)]
+pub struct FragmentIdentifier<'a> {
+    text: &'a str,
+}
+
+impl<'a> FragmentIdentifier<'a> {
+    ghost use Rattle.std.specs.Prelude.{◌-◌, ◌^◌, min, string_bytes};
+    ghost use Rattle.data_url.specs.Url.{encoded_fragment};
+    ghost use Rattle.data_url.specs.DataUrl.{fragment_text};
+
+    /// The fragment whose text is this.
+    pub(crate) fn new(text: &'a str) -> Self
+        ensures { fragment_text result ≡ text.entry.now }
+    {
+        FragmentIdentifier { text }
+    }
+
+    /// How many bytes the encoded fragment takes, or the greatest number where they are more.
+    fn encoded_len(&self) -> usize
+        ensures { result
+            ≡ min (length (encoded_fragment (fragment_text self.now))) (2 ^ 64 - 1) }
+    {
+        let mut len: usize = 0;
+        for byte in self.text.as_bytes() {
+            if !is_tab_or_newline(*byte) {
+                len = len.saturating_add(encoded_width(EncodeSet::Fragment, *byte));
+            }
+        }
+        len
+    }
+
+    /// The fragment as the URL parser leaves it
+    /// ([URL Standard, section 4.4, fragment state](https://url.spec.whatwg.org/#fragment-state)): tabs and newlines
+    /// go, and each byte of the fragment percent-encode set is written as `%` and two upper-case hexadecimal digits. A
+    /// `%` stays as it is. Room for the text is taken once, at its exact length.
+    ///
+    /// The error comes where memory was refused.
+    pub fn to_percent_encoded(&self, alloc: Global) -> Result<String, AllocError>
+        ensures { IfOk result (λ text.
+            string_bytes text ≡ encoded_fragment (fragment_text self.now)) }
+    {
+        let mut text = String::with_capacity(alloc, self.encoded_len())?;
+        for byte in self.text.as_bytes() {
+            if !is_tab_or_newline(*byte) {
+                push_encoded(&mut text, EncodeSet::Fragment, *byte)?;
+            }
+        }
+        Ok(text)
+    }
+}
