@@ -1,22 +1,15 @@
-//! Worked examples, through the public calls of the library and the program.
+//! Worked examples of the program.
 
-mod base64;
-mod base64_blocks;
+mod cuts;
 mod errors;
 mod failing;
-mod mime;
-mod pieces;
 mod program;
 mod streams;
-mod urls;
 
 use std::alloc::{AllocError, Global};
 use std::fmt;
 use std::process::Abort;
 use std::test::Fail;
-
-/// The record that is used where the header has none.
-const DEFAULT: &str = "text/plain;charset=US-ASCII";
 
 /// Asserts that a value is printed so.
 fn assert_printed<D: fmt::Display>(

@@ -1,11 +1,8 @@
 //! Forgiving base64: whole texts and texts in pieces.
 
 use super::{assert_printed, repeated};
-use crate::command::Command;
-use crate::run::run;
 use data_url::forgiving_base64::{DecodeError, Decoder, decode_to_vec};
 use std::alloc::{AllocError, Global};
-use std::io::{self, Read};
 use std::process::Abort;
 use std::test::Fail;
 
@@ -58,66 +55,6 @@ fn whole_texts(rt: HostRuntime) -> Result<(), Fail> {
     match decode_to_vec(rt.alloc(), text.as_bytes()) {
         Ok(_bytes) => assert!(rt; false),
         Err(error) => assert_printed(&rt, rt.alloc(), &error, "incorrect padding", "many signs")?,
-    }
-    Ok(())
-}
-
-/// A reader that gives its first bytes in one read, and the others in reads of so many.
-#[derive(Drop)]
-struct Cut<'a> {
-    rest: &'a [u8],
-    first: usize,
-    others: usize,
-}
-
-impl<'a> Read for Cut<'a> {
-    fn read(&mut self, buf: &mut [u8]) -> io::Result<usize> {
-        let len = self.first.min(self.rest.len()).min(buf.len());
-        self.first = self.others;
-        buf[..len].copy_from_slice(&self.rest[..len]);
-        self.rest = &self.rest[len..];
-        Ok(len)
-    }
-}
-
-/// Asserts what comes of a text that is read in pieces.
-fn assert_pieces(
-    rt: &impl Abort,
-    alloc: Global,
-    mut reader: Cut,
-    bytes: &str,
-    line: &str,
-) -> Result<(), Fail> {
-    let mut written = Vec::new(alloc);
-    match run(alloc, Command::Base64, &mut reader, &mut written) {
-        Ok(()) => assert!(rt; line.is_empty()),
-        Err(fault) => {
-            let told = format!(in alloc; "base64 not valid: {line}")?;
-            assert_printed(rt, alloc, &fault, told.as_str(), line)?;
-        }
-    }
-    assert!(rt; written.as_slice() == bytes.as_bytes());
-    Ok(())
-}
-
-#[test]
-fn texts_in_pieces(rt: HostRuntime) -> Result<(), Fail> {
-    for (text, bytes, line) in TEXTS {
-        let rest = text.as_bytes();
-        let bytewise = Cut {
-            rest,
-            first: 1,
-            others: 1,
-        };
-        assert_pieces(&rt, rt.alloc(), bytewise, bytes, line)?;
-        for first in 1..rest.len() {
-            let cut = Cut {
-                rest,
-                first,
-                others: rest.len(),
-            };
-            assert_pieces(&rt, rt.alloc(), cut, bytes, line)?;
-        }
     }
     Ok(())
 }
