@@ -104,7 +104,7 @@ unfoldable pub done : List ℕ → List ℕ
 done b = groups (values (before_place b (first_fault b)))
 
 -- why a text is refused: a byte that may not stand there, a symbol behind padding, a symbol that is
--- alone in its group, or signs that do not fit the symbols
+-- alone in its group, or padding that does not fit the symbols
 pub data Kind : Type 0 where
   UnexpectedSymbol : ℕ → Kind
   AlphabetSymbolAfterPadding : Kind
@@ -131,7 +131,7 @@ left_symbols b = after_groups (filter is_symbol b)
 unfoldable pub left_padding : List ℕ → ℕ
 left_padding b = min (length (filter (λ c. c == 61) b)) 3
 
--- the text of what is left: the symbols and then the signs
+-- the text of what is left: the symbols and then the padding
 abbrev pub left_text : List ℕ → ℕ → List ℕ
 left_text symbols padding = symbols ++ replicate padding 61
 

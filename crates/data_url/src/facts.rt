@@ -17,7 +17,7 @@ pub(crate) fn one_record()
     ensures { (s : List ℕ) → HasAtMostOneRecord s }
 {}
 
-/// Symbols and signs `=` make a valid text exactly if their numbers fit.
+/// Symbols and padding make a valid text exactly if their numbers fit.
 pub(crate) fn padding_fits()
     ensures { (b : List ℕ) → PaddingFits b }
 {}

@@ -1,5 +1,5 @@
 -- A command whose input was read whole.
-use Rattle.std.proofs.Common.{◌≡◌, ℕ, List, [], Option, Result, Ok, Err, String, string_bytes, IsUtf8, refl, sym, ◌∙◌, subst}
+use Rattle.std.proofs.Common.{◌≡◌, ◌≢◌, ℕ, List, [], Option, Result, Ok, Err, String, string_bytes, IsUtf8, refl, sym, ◌∙◌, subst}
 use Rattle.std.specs.Global.{Global}
 use Rattle.std.specs.Io.KnownBytes.{IsAtEnd}
 use Rattle.data_url.specs.MimeType.{seen}
@@ -13,7 +13,7 @@ use Rattle.dataurl.specs.Runs.{IsResult, Runs, complete, no_memory, not_read, no
 use Rattle.dataurl.specs.Steps.Parts.{IsExactly, IsUrlFor, IsWrittenOf, WritesOf, cut_output, no_comma_is, no_output, no_scheme_is, no_url_memory, url_fragment, url_is, whole_output}
 use Rattle.dataurl.specs.declared.fault.Fault.{Fault}
 use Rattle.dataurl.specs.declared.command.Command.{Command}
-use Rattle.dataurl.specs.declared.command.Command.TheVariants.{Body, Fragment, MimeType}
+use Rattle.dataurl.specs.declared.command.Command.TheVariants.{Base64, Body, Canonical, Fragment, MimeType}
 use Rattle.dataurl.proofs.OutputLemmas.{appends_none}
 use Rattle.dataurl.proofs.StepLemmas.{writes_as, writes_map, writes_no_memory, writes_nothing}
 
@@ -86,5 +86,10 @@ pub text_not_read : {c : Command} {unread left : Option (List ℕ)} {fault : Fau
 text_not_read {c} {unread} {left} {fault} held t h =
     record { input = h.input; written = []; consumed = h.consumed; appended = appends_none held; is_run = unread_run c left h.input (Err fault) fault t refl h.is_read }
 
-pub runs_at : {c c' : Command} {unread left held now : Option (List ℕ)} {r : End} → c' ≡ c → Runs c unread left held now r → Runs c' unread left held now r
-runs_at {unread = unread} {left = left} {held = held} {now = now} {r = r} e h = let P : Command → Type 0 = λ k. Runs k unread left held now r in subst P (sym e) h
+-- every command but base64 takes a text
+pub takes_text : (c : Command) → c ≢ Base64 → TakesText c
+takes_text Body other = tt
+takes_text MimeType other = tt
+takes_text Fragment other = tt
+takes_text Canonical other = tt
+takes_text Base64 other = absurd (other refl)

@@ -65,14 +65,14 @@ pub left_padding_is : (s : List ℕ) → min (length (filter (λ c. eqb c 61) s)
 unfolding left_padding
 left_padding_is s = refl
 
--- The signs
+-- The padding
 
-pub take_signs : (n : ℕ) → n ≤ 3 → take {A = ℕ} n (61 ∷ 61 ∷ 61 ∷ []) ≡ replicate n 61
-take_signs zero h = refl
-take_signs (suc zero) h = refl
-take_signs (suc (suc zero)) h = refl
-take_signs (suc (suc (suc zero))) h = refl
-take_signs (suc (suc (suc (suc n)))) h = absurd (omega arith)
+pub take_padding : (n : ℕ) → n ≤ 3 → take {A = ℕ} n (61 ∷ 61 ∷ 61 ∷ []) ≡ replicate n 61
+take_padding zero h = refl
+take_padding (suc zero) h = refl
+take_padding (suc (suc zero)) h = refl
+take_padding (suc (suc (suc zero))) h = refl
+take_padding (suc (suc (suc (suc n)))) h = absurd (omega arith)
 
 -- Places of a text
 
@@ -86,10 +86,10 @@ text_behind a n k xs ys f g =
     ∙ take-append-add front rest n
     ∙ ap (λ s. front ++ s) (take-append-le n ys (post_of a k xs) g)
 
--- symbols at the front, and signs behind them
-pub kept_front : (p n k : ℕ) (symbols signs all rest : List ℕ) → symbols ≡ take p all → length symbols ≡ p → signs ≡ take n (61 ∷ 61 ∷ 61 ∷ []) → n ≤ 3 → take (p + n) (put_mid p k (symbols ++ rest) signs) ≡ left_text (take p all) n
-kept_front p n k symbols signs all rest e l f h =
-    let many : length signs ≡ n = ap length f ∙ length-take-le n (61 ∷ 61 ∷ 61 ∷ []) h in
-    take-put_mid p k (symbols ++ rest) signs (p + n) (omega arith) (omega (arith, length-append symbols rest))
-    ∙ ap (λ s. s ++ signs) (take-append-le p symbols rest (omega arith) ∙ take_all p symbols (omega arith) ∙ e)
-    ∙ ap (λ s. take p all ++ s) (f ∙ take_signs n h)
+-- symbols at the front, and padding behind them
+pub kept_front : (p n k : ℕ) (symbols padding all rest : List ℕ) → symbols ≡ take p all → length symbols ≡ p → padding ≡ take n (61 ∷ 61 ∷ 61 ∷ []) → n ≤ 3 → take (p + n) (put_mid p k (symbols ++ rest) padding) ≡ left_text (take p all) n
+kept_front p n k symbols padding all rest e l f h =
+    let many : length padding ≡ n = ap length f ∙ length-take-le n (61 ∷ 61 ∷ 61 ∷ []) h in
+    take-put_mid p k (symbols ++ rest) padding (p + n) (omega arith) (omega (arith, length-append symbols rest))
+    ∙ ap (λ s. s ++ padding) (take-append-le p symbols rest (omega arith) ∙ take_all p symbols (omega arith) ∙ e)
+    ∙ ap (λ s. take p all ++ s) (f ∙ take_padding n h)

@@ -4,6 +4,7 @@ ghost use Rattle.std.specs.Prelude.{◌+◌, length};
 ghost use Rattle.std.specs.Fn.{CalledAt};
 ghost use Rattle.data_url.specs.DataUrl.{Decodes, url_body, url_tail};
 ghost use Rattle.data_url.specs.MimeType.{seen};
+ghost use Rattle.dataurl.specs.Command.{TakesText};
 ghost use Rattle.dataurl.specs.Output.{IsBodyOutput, IsFragmentOutput, IsTextOutput, record_line};
 ghost use Rattle.dataurl.specs.Runs.{Runs};
 ghost use Rattle.dataurl.specs.Steps.Gathering.{Streams};
@@ -125,10 +126,7 @@ fn write_body<W: Write>(alloc: Global, text: &str, writer: &mut W) -> Result<(),
     ensures { WritesOf (IsTextOutput text.now Command.Body) (W.contents writer.old)
         (W.contents writer.new) result }
 {
-    match url_of(alloc, text) {
-        Ok(url) => write_body_of(&url, writer),
-        Err(fault) => Err(fault),
-    }
+    write_body_of(&url_of(alloc, text)?, writer)
 }
 
 /// Writes the line of the record of the URL of a text. Its body is not decoded.
@@ -136,10 +134,7 @@ fn write_mime<W: Write>(alloc: Global, text: &str, writer: &mut W) -> Result<(),
     ensures { WritesOf (IsTextOutput text.now Command.MimeType) (W.contents writer.old)
         (W.contents writer.new) result }
 {
-    match url_of(alloc, text) {
-        Ok(url) => write_record(alloc, url.mime_type(), writer),
-        Err(fault) => Err(fault),
-    }
+    write_record(alloc, url_of(alloc, text)?.mime_type(), writer)
 }
 
 /// Writes the line of the fragment of the URL of a text.
@@ -147,10 +142,7 @@ fn write_fragment<W: Write>(alloc: Global, text: &str, writer: &mut W) -> Result
     ensures { WritesOf (IsTextOutput text.now Command.Fragment) (W.contents writer.old)
         (W.contents writer.new) result }
 {
-    match url_of(alloc, text) {
-        Ok(url) => write_fragment_of(alloc, &url, writer),
-        Err(fault) => Err(fault),
-    }
+    write_fragment_of(alloc, &url_of(alloc, text)?, writer)
 }
 
 /// Writes the line of the record of a text.
@@ -162,6 +154,26 @@ fn write_type<W: Write>(alloc: Global, text: &str, writer: &mut W) -> Result<(),
         Ok(mime) => write_record(alloc, &mime, writer),
         Err(MimeFromStrError::Parsing(_)) => Err(Fault::Mime),
         Err(MimeFromStrError::OutOfMemory) => Err(Fault::Memory),
+    }
+}
+
+/// Writes what a command that takes a text gives of it.
+fn write_text<W: Write>(
+    alloc: Global,
+    command: Command,
+    text: &str,
+    writer: &mut W,
+) -> Result<(), Fault>
+    requires { TakesText command }
+    ensures { WritesOf (IsTextOutput text.now command) (W.contents writer.old) (W.contents writer.new)
+        result }
+{
+    match command {
+        Command::Body => write_body(alloc, text, writer),
+        Command::MimeType => write_mime(alloc, text, writer),
+        Command::Fragment => write_fragment(alloc, text, writer),
+        Command::Canonical => write_type(alloc, text, writer),
+        Command::Base64 => unreachable!(),
     }
 }
 
@@ -190,10 +202,7 @@ pub fn run<R: Read, W: Write>(
         (W.contents writer.new) result }
 {
     match command {
-        Command::Body => write_body(alloc, read_text(alloc, reader)?.as_str(), writer),
-        Command::MimeType => write_mime(alloc, read_text(alloc, reader)?.as_str(), writer),
-        Command::Fragment => write_fragment(alloc, read_text(alloc, reader)?.as_str(), writer),
-        Command::Canonical => write_type(alloc, read_text(alloc, reader)?.as_str(), writer),
         Command::Base64 => write_base64(reader, writer),
+        _ => write_text(alloc, command, read_text(alloc, reader)?.as_str(), writer),
     }
 }

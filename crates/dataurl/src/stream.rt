@@ -15,18 +15,18 @@ use crate::input::PIECE;
 use data_url::forgiving_base64::{DecodeError, Decoder};
 use std::io::{Read, Write};
 
-/// Room for what a text leaves, three symbols and three signs at most, and a piece behind it.
+/// Room for what a text leaves, three symbols and three `=` at most, and a piece behind it.
 const ROOM: usize = PIECE + 6;
 
-/// The most signs that a text leaves.
-const SIGNS: [u8; 3] = [b'='; 3];
+/// The most padding that a text leaves.
+const PADDING: [u8; 3] = [b'='; 3];
 
 /// What a text of base64 leaves for the text behind it: the symbols behind its complete groups of four, and the number of
-/// its signs `=`, where 3 stands for more.
+/// its padding `=`, where 3 stands for more.
 struct Left {
     symbols: [u8; 3],
     pending: usize,
-    signs: usize,
+    padding: usize,
 }
 
 /// Whether a byte is a symbol of the alphabet.
@@ -47,8 +47,8 @@ fn symbol_count(text: &[u8]) -> usize
     count
 }
 
-/// How many signs a text has.
-fn sign_count(text: &[u8]) -> usize
+/// How many `=` a text has.
+fn padding_count(text: &[u8]) -> usize
     ensures { result ≡ length (filter (λ c. c == 61) text.now) }
 {
     let mut count = 0;
@@ -80,15 +80,15 @@ fn last_symbols(text: &[u8], count: usize) -> [u8; 3]
 /// What a text leaves.
 fn left_of(text: &[u8]) -> Left
     ensures symbols { take result.pending result.symbols ≡ left_symbols text.now }
-    ensures signs { result.signs ≡ left_padding text.now }
+    ensures padding { result.padding ≡ left_padding text.now }
     ensures pending { result.pending ≤ 3 }
-    ensures few { result.signs ≤ 3 }
+    ensures few { result.padding ≤ 3 }
 {
     let pending = symbol_count(text) % 4;
     Left {
         symbols: last_symbols(text, pending),
         pending,
-        signs: sign_count(text).min(3),
+        padding: padding_count(text).min(3),
     }
 }
 
@@ -102,11 +102,11 @@ fn keep_left(text: &mut [u8; ROOM], len: usize) -> usize
     let Left {
         symbols,
         pending,
-        signs,
+        padding,
     } = left_of(&text[..len]);
-    let end = pending + signs;
+    let end = pending + padding;
     text[..pending].copy_from_slice(&symbols[..pending]);
-    text[pending..end].copy_from_slice(&SIGNS[..signs]);
+    text[pending..end].copy_from_slice(&PADDING[..padding]);
     end
 }
 

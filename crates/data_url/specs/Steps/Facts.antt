@@ -12,19 +12,19 @@ pub record HasOneItemList (r : List ℕ) : Type 0 where
 abbrev pub HasAtMostOneRecord : List ℕ → Type 0
 HasAtMostOneRecord s = (m n : Record) → Parses s m → Parses s n → m ≡ n
 
--- b is these symbols and then so many signs '=', and nothing else but whitespace
-pub record IsSymbolsAndPadding (b symbols : List ℕ) (signs : ℕ) : Type 0 where
+-- b is these symbols and then so many '=', and nothing else but whitespace
+pub record IsSymbolsAndPadding (b symbols : List ℕ) (padding : ℕ) : Type 0 where
   pub symbols_are : Every is_symbol symbols
-  pub compact_is : compact b ≡ symbols ++ replicate signs 61
+  pub compact_is : compact b ≡ symbols ++ replicate padding 61
 
--- the numbers of symbols and signs that make a valid text
+-- the numbers of symbols and of '=' that make a valid text
 abbrev pub Fits : ℕ → ℕ → Type 0
 Fits k p = ((p ≡ 0) × (k % 4 ≢ 1)) ⊎ ((p ≡ 1) × (k % 4 ≡ 3)) ⊎ ((p ≡ 2) × (k % 4 ≡ 2))
 
--- symbols and signs are valid exactly if their numbers fit
+-- symbols and padding are valid exactly if their numbers fit
 abbrev pub PaddingFits : List ℕ → Type 0
-PaddingFits b = (symbols : List ℕ) (signs : ℕ) → IsSymbolsAndPadding b symbols signs
-    → IsTrue (is_valid b) ↔ Fits (length symbols) signs
+PaddingFits b = (symbols : List ℕ) (padding : ℕ) → IsSymbolsAndPadding b symbols padding
+    → IsTrue (is_valid b) ↔ Fits (length symbols) padding
 
 -- the place is the least of a fault or, where it is none, there is no fault
 abbrev pub IsFirstFault : List ℕ → Option ℕ → Type 0

@@ -15,7 +15,7 @@ const SHORTEST: usize = 8;
 /// ([Infra Standard, forgiving-base64 decode](https://infra.spec.whatwg.org/#forgiving-base64-decode)) that takes its
 /// text in pieces, cut anywhere, and hands bytes to a closure as soon as four symbols give them.
 ///
-/// It takes no memory: it keeps at most three symbols, and counts the signs `=` up to three. Contracts see it as its
+/// It takes no memory: it keeps at most three symbols, and counts the padding `=` up to three. Contracts see it as its
 /// closure, these symbols, that count and whether it has failed (`state_of`).
 #[derive(Drop)]
 pub struct Decoder<F, E>
@@ -26,12 +26,12 @@ where
     // The symbols that are left over: the first `pending` of these.
     symbols: [u8; 3],
     pending: usize,
-    // The number of signs, where 3 stands for more.
+    // The number of `=`, where 3 stands for more.
     padding: u8,
     failed: bool,
     ghost few_pending: { pending ≤ 3 },
     ghost pending_symbols: { IsTrue (list_all is_symbol (take pending symbols)) },
-    ghost few_signs: { padding ≤ 3 },
+    ghost few_padding: { padding ≤ 3 },
 }
 
 impl<F, E> Decoder<F, E>
@@ -313,8 +313,8 @@ where
     /// Ends the text. Two or three symbols left over give one or two last bytes, in one call; the bits that they have
     /// besides are dropped. Nothing else is handed out.
     ///
-    /// The answer is `InvalidBase64`, and the closure is not called, where a lone symbol is left over or the signs `=` do
-    /// not fit: there may be none or, behind two symbols, two, or behind three, one. It is `WriteError` where the closure
+    /// The answer is `InvalidBase64`, and the closure is not called, where a lone symbol is left over or the padding
+    /// does not fit: there may be no `=` or, behind two symbols, two, or behind three, one. It is `WriteError` where the closure
     /// refuses. `finish_with` also tells what became of the closure.
     ///
     /// It may be called only while `has_failed` answers false.

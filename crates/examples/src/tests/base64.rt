@@ -50,11 +50,11 @@ fn whole_texts(rt: HostRuntime) -> Result<(), Fail> {
             "FF",
         )?,
     }
-    let signs = repeated(rt.alloc(), "=", 258)?;
-    let text = format!(in rt.alloc(); "QQ{signs}")?;
+    let padding = repeated(rt.alloc(), "=", 258)?;
+    let text = format!(in rt.alloc(); "QQ{padding}")?;
     match decode_to_vec(rt.alloc(), text.as_bytes()) {
         Ok(_bytes) => assert!(rt; false),
-        Err(error) => assert_printed(&rt, rt.alloc(), &error, "incorrect padding", "many signs")?,
+        Err(error) => assert_printed(&rt, rt.alloc(), &error, "incorrect padding", "many padding")?,
     }
     Ok(())
 }
@@ -77,7 +77,7 @@ fn a_decoder_in_five_feeds(rt: HostRuntime) -> Result<(), Fail> {
 }
 
 #[test]
-fn signs_in_two_feeds(rt: HostRuntime) -> Result<(), Fail> {
+fn padding_in_two_feeds(rt: HostRuntime) -> Result<(), Fail> {
     let mut bytes = Vec::new(rt.alloc());
     let mut decoder = Decoder::new(|piece: &[u8]| -> Result<(), AllocError> {
         bytes.extend_from_slice(piece)
@@ -139,7 +139,7 @@ fn no_call_behind_a_refusal_of_the_last_bytes(rt: HostRuntime) -> Result<(), Fai
 }
 
 #[test]
-fn a_sign_that_does_not_fit(rt: HostRuntime) -> Result<(), Fail> {
+fn padding_that_does_not_fit(rt: HostRuntime) -> Result<(), Fail> {
     let mut bytes = Vec::new(rt.alloc());
     let mut decoder = Decoder::new(|piece: &[u8]| -> Result<(), AllocError> {
         bytes.extend_from_slice(piece)

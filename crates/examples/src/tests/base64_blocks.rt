@@ -16,7 +16,7 @@ fn expected(alloc: Global, text: &[u8]) -> Result<(Vec<u8>, String), Fail> {
     let mut bytes = Vec::new(alloc);
     let mut number: u32 = 0;
     let mut pending: u8 = 0;
-    let mut signs: u8 = 0;
+    let mut padding: u8 = 0;
     for byte in text {
         let value = match *byte {
             b'A'..=b'Z' => *byte - b'A',
@@ -25,8 +25,8 @@ fn expected(alloc: Global, text: &[u8]) -> Result<(Vec<u8>, String), Fail> {
             b'+' => 62,
             b'/' => 63,
             b'=' => {
-                if signs < 3 {
-                    signs += 1;
+                if padding < 3 {
+                    padding += 1;
                 }
                 continue;
             }
@@ -36,7 +36,7 @@ fn expected(alloc: Global, text: &[u8]) -> Result<(Vec<u8>, String), Fail> {
                 format!(in alloc; "symbol with codepoint {byte} not expected")?,
             )),
         };
-        if signs > 0 {
+        if padding > 0 {
             return Ok((
                 bytes,
                 format!(in alloc; "alphabet symbol present after padding")?,
@@ -52,7 +52,7 @@ fn expected(alloc: Global, text: &[u8]) -> Result<(Vec<u8>, String), Fail> {
             bytes.push((number % 256) as u8)?;
         }
     }
-    match (pending, signs) {
+    match (pending, padding) {
         (0, 0) => {}
         (2, 0 | 2) => bytes.push((number / 16 % 256) as u8)?,
         (3, 0 | 1) => {

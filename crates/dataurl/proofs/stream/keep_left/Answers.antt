@@ -7,6 +7,6 @@ pub returns-clause-kept : goal.returns-clause-kept
 returns-clause-kept c =
     let left = c.left_of-pending.result in
     let told = c.left_of-pending.ensures in
-    kept_front left.pending left.signs (left.pending + left.signs - left.pending) c.copy_from_slice.new.self c.copy_from_slice-2.new.self left.symbols _ (search rules) (search rules) (search rules) told.few
-    ∙ ap (λ q. left_text q left.signs) told.symbols
-    ∙ ap (λ p. left_text (left_symbols (take c.args.len c.args.text.now)) p) told.signs
+    kept_front left.pending left.padding (left.pending + left.padding - left.pending) c.copy_from_slice.new.self c.copy_from_slice-2.new.self left.symbols _ (search rules) (search rules) (search rules) told.few
+    ∙ ap (λ q. left_text q left.padding) told.symbols
+    ∙ ap (λ p. left_text (left_symbols (take c.args.len c.args.text.now)) p) told.padding

@@ -9,7 +9,7 @@ use Rattle.data_url.proofs.forgiving_base64.decode.Decoder.feed_few.Goals as goa
 pub loop-byte-init : goal.loop-byte-init
 loop-byte-init g c =
     let d = c.args.self.now in
-    (c.requires.callable, feeds_none (CalledAt g.F.FnMut) (every_list_all (take d.pending d.symbols) d.pending_symbols) (omega (arith, length-take d.pending d.symbols, d.few_pending)) d.few_signs c.requires.going refl)
+    (c.requires.callable, feeds_none (CalledAt g.F.FnMut) (every_list_all (take d.pending d.symbols) d.pending_symbols) (omega (arith, length-take d.pending d.symbols, d.few_pending)) d.few_padding c.requires.going refl)
 
 pub returns-in_err-feed_byte-clause-fed : goal.returns-in_err-feed_byte-clause-fed
 returns-in_err-feed_byte-clause-fed g c =

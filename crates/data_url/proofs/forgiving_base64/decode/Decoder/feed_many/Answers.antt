@@ -17,7 +17,7 @@ loop-at-init g c =
       callable = c.requires.callable;
       within = omega arith;
       room = omega (arith, c.new-held.ensures.none);
-      holds = subst P (sym c.new-held.ensures.bytes) (holds_from (CalledAt g.F.FnMut) (adds_none (every_list_all (take d.pending d.symbols) d.pending_symbols) (omega (arith, length-take d.pending d.symbols, d.few_pending)) d.few_signs c.requires.going));
+      holds = subst P (sym c.new-held.ensures.bytes) (holds_from (CalledAt g.F.FnMut) (adds_none (every_list_all (take d.pending d.symbols) d.pending_symbols) (omega (arith, length-take d.pending d.symbols, d.few_pending)) d.few_padding c.requires.going));
     }
 
 pub returns-in_err-flush-in-Err-clause-fed : goal.returns-in_err-flush-in-Err-clause-fed

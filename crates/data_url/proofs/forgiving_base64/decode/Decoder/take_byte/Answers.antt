@@ -15,7 +15,7 @@ returns-then-byte-eq61 g c =
 pub returns-then-is_ascii_whitespace : goal.returns-then-is_ascii_whitespace
 returns-then-is_ascii_whitespace g c =
     let d = c.args.self.now in
-    adds_space c.args.byte (every_list_all (take d.pending d.symbols) d.pending_symbols) (omega (arith, length-take d.pending d.symbols, d.few_pending)) d.few_signs
+    adds_space c.args.byte (every_list_all (take d.pending d.symbols) d.pending_symbols) (omega (arith, length-take d.pending d.symbols, d.few_pending)) d.few_padding
     (sym (space_is c.args.byte (omega arith)) ∙ sym c.is_ascii_whitespace.ensures.value ∙ c.if-is_ascii_whitespace.true)
     c.requires
 

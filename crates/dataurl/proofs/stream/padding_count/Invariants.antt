@@ -1,6 +1,6 @@
 use Rattle.std.proofs.Common.{◌≡◌, ◌≤◌, eqb, length, take}
 use Rattle.std.specs.List.{filter}
-use Rattle.dataurl.proofs.stream.sign_count.Given as goal
+use Rattle.dataurl.proofs.stream.padding_count.Given as goal
 
 -- the bytes so far were counted
 abbrev pub invariant-loop-byte : goal.invariant-loop-byte
