@@ -36,9 +36,7 @@ pub(crate) fn split_at_comma(text: &str) -> Option<(&str, &str)>
     ensures none { IfNone result (behind 44 (front text.now) ≡ None) }
 {
     let bytes = text.as_bytes();
-    let Some(place) = front_end(bytes) else {
-        return None;
-    };
+    let place = front_end(bytes)?;
     if bytes[place] == b'#' {
         return None;
     }
