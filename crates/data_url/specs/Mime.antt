@@ -30,8 +30,7 @@ default_record = record {
 
 -- each code point of the text passes
 abbrev pub Every : (ℕ → Bool) → List ℕ → Type 0
-Every p [] = Unit {0}
-Every p (c ∷ t) = (p c ≡ true) × Every p t
+Every p t = AllByRecursion (λ c. p c ≡ true) t
 
 -- no code point of the text passes
 abbrev pub Without : (ℕ → Bool) → List ℕ → Type 0
