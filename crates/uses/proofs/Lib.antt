@@ -1,0 +1,2 @@
+pub mod BodyLemmas
+pub mod SinkLemmas

@@ -1,0 +1,5 @@
+//! Callers of `data_url`, as users write them: each is proved from the library's public contracts.
+#![tactic(auto)]
+
+pub mod body;
+pub mod loader;
