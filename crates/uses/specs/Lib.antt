@@ -1,2 +1,3 @@
 pub mod Bodies
+pub mod Fetches
 pub mod Loads

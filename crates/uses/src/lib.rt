@@ -2,4 +2,5 @@
 #![tactic(auto)]
 
 pub mod body;
+pub mod fetch;
 pub mod loader;

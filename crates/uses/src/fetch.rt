@@ -1,0 +1,56 @@
+//! A fetch layer (Fetch Standard, scheme fetch of `data`): the response that a data: URL stands for.
+
+ghost use Rattle.uses.specs.Fetches.{Fetches};
+
+use data_url::forgiving_base64::DecodeToVecError;
+use data_url::{DataUrl, DataUrlError};
+use std::alloc::Global;
+
+/// The response to a request for a data: URL.
+#[derive(Drop)]
+pub struct Response {
+    /// Always 200.
+    pub status: u16,
+    /// The value of the header `Content-Type`.
+    pub content_type: String,
+    /// The body's bytes.
+    pub body: Vec<u8>,
+}
+
+/// Why there is no response.
+#[derive(Debug, Drop)]
+pub enum FetchError {
+    /// The text has no scheme `data:` or no comma before its fragment, or its base64 body is not valid.
+    Network,
+    /// The response found no memory.
+    OutOfMemory,
+}
+
+/// The response to a request for a data: URL (Fetch Standard, section 6, and scheme fetch): status 200, the printed MIME
+/// type and the whole body.
+///
+/// The error is `Network` where the Standard answers a network error, and then alone; a base64 body that is not valid
+/// fails as a whole. `OutOfMemory` comes where memory was refused, of a text with a scheme and a comma.
+pub fn fetch(alloc: Global, text: &str) -> Result<Response, FetchError>
+    ensures { Fetches text.now result }
+{
+    let url = match DataUrl::process(alloc, text) {
+        Ok(url) => url,
+        Err(DataUrlError::OutOfMemory) => return Err(FetchError::OutOfMemory),
+        Err(_) => return Err(FetchError::Network),
+    };
+    let body = match url.decode_to_vec(alloc) {
+        Ok((body, _)) => body,
+        Err(DecodeToVecError::InvalidBase64(_)) => return Err(FetchError::Network),
+        Err(DecodeToVecError::OutOfMemory) => return Err(FetchError::OutOfMemory),
+    };
+    let mime = url.mime_type();
+    let Ok(content_type) = format!(in alloc; "{mime}") else {
+        return Err(FetchError::OutOfMemory);
+    };
+    Ok(Response {
+        status: 200,
+        content_type,
+        body,
+    })
+}
