@@ -1,2 +1,3 @@
 pub mod BodyLemmas
+pub mod RankLemmas
 pub mod SinkLemmas

@@ -1,3 +1,4 @@
 pub mod Bodies
 pub mod Fetches
 pub mod Loads
+pub mod Ranks

@@ -4,3 +4,4 @@
 pub mod body;
 pub mod fetch;
 pub mod loader;
+pub mod negotiation;
