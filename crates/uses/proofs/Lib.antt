@@ -1,3 +1,4 @@
 pub mod BodyLemmas
+pub mod PageLemmas
 pub mod RankLemmas
 pub mod SinkLemmas

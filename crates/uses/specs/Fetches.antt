@@ -1,18 +1,20 @@
 -- The response to a request for a data: URL (Fetch Standard, section 6, and scheme fetch of "data").
 use Rattle.std.specs.Prelude.{◌≡◌, ℕ, List, Option, Result, Ok, Err, string_bytes, encode_utf8_all}
-use Rattle.data_url.specs.Fetch.{Accepted, Bad, Good, NoComma, NoScheme, Staged, staged}
+use Rattle.data_url.specs.Fetch.{Accepted, Bad, Good, NoComma as no_comma, NoScheme, Staged, staged}
 use Rattle.data_url.specs.Mime.{IsRecordOf, Record, printed}
 use Rattle.data_url.specs.UrlSeen.{IsAcceptable}
 use Rattle.uses.specs.declared.fetch.FetchError.{FetchError}
 use Rattle.uses.specs.declared.fetch.FetchError.TheVariants.{Network, OutOfMemory}
+use Rattle.uses.specs.declared.fetch.Reason.{Reason}
+use Rattle.uses.specs.declared.fetch.Reason.TheVariants.{InvalidBase64, NoComma, NotADataUrl}
 use Rattle.uses.specs.declared.fetch.Response.{Response}
 
--- the processor fails: no scheme, no comma, or base64 that is not valid
-abbrev pub IsFailure : Staged → Type 0
-IsFailure NoScheme = Unit {0}
-IsFailure NoComma = Unit {0}
-IsFailure (Accepted type_text (Good bytes) fragment) = ⊥
-IsFailure (Accepted type_text (Bad bytes kind) fragment) = Unit {0}
+-- why the processor fails: no scheme, no comma, or base64 that is not valid
+abbrev pub IsReasonOf : Staged → Reason → Type 0
+IsReasonOf s NotADataUrl = s ≡ NoScheme
+IsReasonOf s NoComma = s ≡ no_comma
+IsReasonOf s (InvalidBase64 kind) =
+    (type_text bytes : List ℕ) × (fragment : Option (List ℕ)) × (s ≡ Accepted type_text (Bad bytes kind) fragment)
 
 -- the response to a text: its status, the record of its type as it is printed, and its whole body
 pub record IsResponseTo (t : List ℕ) (r : Response) : Type 0 where
@@ -27,5 +29,5 @@ pub record IsResponseTo (t : List ℕ) (r : Response) : Type 0 where
 -- what is answered to a text
 abbrev pub Fetches : List ℕ → Result Response FetchError → Type 0
 Fetches t (Ok r) = IsResponseTo t r
-Fetches t (Err Network) = IsFailure (staged t)
+Fetches t (Err (Network reason)) = IsReasonOf (staged t) reason
 Fetches t (Err OutOfMemory) = IsAcceptable (staged t)

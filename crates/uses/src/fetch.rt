@@ -2,7 +2,7 @@
 
 ghost use Rattle.uses.specs.Fetches.{Fetches};
 
-use data_url::forgiving_base64::DecodeToVecError;
+use data_url::forgiving_base64::{DecodeToVecError, InvalidBase64};
 use data_url::{DataUrl, DataUrlError};
 use std::alloc::Global;
 
@@ -17,11 +17,22 @@ pub struct Response {
     pub body: Vec<u8>,
 }
 
+/// Why a request for a data: URL ends in a network error.
+#[derive(Debug, Drop)]
+pub enum Reason {
+    /// The text has no scheme `data:`.
+    NotADataUrl,
+    /// No comma stands before the fragment.
+    NoComma,
+    /// The body is base64 that is not valid.
+    InvalidBase64(InvalidBase64),
+}
+
 /// Why there is no response.
 #[derive(Debug, Drop)]
 pub enum FetchError {
-    /// The text has no scheme `data:` or no comma before its fragment, or its base64 body is not valid.
-    Network,
+    /// The Standard answers a network error.
+    Network(Reason),
     /// The response found no memory.
     OutOfMemory,
 }
@@ -29,19 +40,22 @@ pub enum FetchError {
 /// The response to a request for a data: URL (Fetch Standard, section 6, and scheme fetch): status 200, the printed MIME
 /// type and the whole body.
 ///
-/// The error is `Network` where the Standard answers a network error, and then alone; a base64 body that is not valid
+/// The error is `Network`, with the reason, where the Standard answers a network error, and then alone; a base64 body that is not valid
 /// fails as a whole. `OutOfMemory` comes where memory was refused, of a text with a scheme and a comma.
 pub fn fetch(alloc: Global, text: &str) -> Result<Response, FetchError>
     ensures { Fetches text.now result }
 {
     let url = match DataUrl::process(alloc, text) {
         Ok(url) => url,
+        Err(DataUrlError::NotADataUrl) => return Err(FetchError::Network(Reason::NotADataUrl)),
+        Err(DataUrlError::NoComma) => return Err(FetchError::Network(Reason::NoComma)),
         Err(DataUrlError::OutOfMemory) => return Err(FetchError::OutOfMemory),
-        Err(_) => return Err(FetchError::Network),
     };
     let body = match url.decode_to_vec(alloc) {
         Ok((body, _)) => body,
-        Err(DecodeToVecError::InvalidBase64(_)) => return Err(FetchError::Network),
+        Err(DecodeToVecError::InvalidBase64(refusal)) => {
+            return Err(FetchError::Network(Reason::InvalidBase64(refusal)));
+        }
         Err(DecodeToVecError::OutOfMemory) => return Err(FetchError::OutOfMemory),
     };
     let mime = url.mime_type();

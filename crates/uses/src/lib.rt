@@ -3,5 +3,6 @@
 
 pub mod body;
 pub mod fetch;
+pub mod inliner;
 pub mod loader;
 pub mod negotiation;
