@@ -1,8 +1,9 @@
 -- The response to a request for a data: URL (Fetch Standard, section 6, and scheme fetch of "data").
-use Rattle.std.specs.Prelude.{◌≡◌, ℕ, List, Option, Result, Ok, Err, string_bytes, encode_utf8_all}
+use Rattle.std.specs.Prelude.{◌≡◌, ℕ, List, length, Option, Result, Ok, Err, string_bytes, encode_utf8_all}
 use Rattle.data_url.specs.Fetch.{Accepted, Bad, Good, NoComma as no_comma, NoScheme, Staged, staged}
 use Rattle.data_url.specs.Mime.{IsRecordOf, Record, printed}
-use Rattle.data_url.specs.UrlSeen.{IsAcceptable}
+use Rattle.data_url.specs.UrlSeen.{IsAcceptable, IsUrlOf}
+use Rattle.data_url.specs.declared.DataUrl.{DataUrl}
 use Rattle.uses.specs.declared.fetch.FetchError.{FetchError}
 use Rattle.uses.specs.declared.fetch.FetchError.TheVariants.{Network, OutOfMemory}
 use Rattle.uses.specs.declared.fetch.Reason.{Reason}
@@ -31,3 +32,17 @@ abbrev pub Fetches : List ℕ → Result Response FetchError → Type 0
 Fetches t (Ok r) = IsResponseTo t r
 Fetches t (Err (Network reason)) = IsReasonOf (staged t) reason
 Fetches t (Err OutOfMemory) = IsAcceptable (staged t)
+
+-- the URL of a text, or why there is none
+abbrev pub Opens : List ℕ → Result DataUrl FetchError → Type 0
+Opens t (Ok url) = IsUrlOf t url
+Opens t (Err (Network reason)) = IsReasonOf (staged t) reason
+Opens t (Err OutOfMemory) = IsAcceptable (staged t)
+
+-- the length of the body of the response to a text, in bytes
+abbrev pub HasLength : List ℕ → Result ℕ FetchError → Type 0
+HasLength t (Ok len) =
+    (type_text bytes : List ℕ) × (fragment : Option (List ℕ))
+    × (staged t ≡ Accepted type_text (Good bytes) fragment) × (len ≡ length bytes)
+HasLength t (Err (Network reason)) = IsReasonOf (staged t) reason
+HasLength t (Err OutOfMemory) = IsAcceptable (staged t)

@@ -1,7 +1,8 @@
 //! A fetch layer (Fetch Standard, scheme fetch of `data`): the response that a data: URL stands for.
 
-ghost use Rattle.uses.specs.Fetches.{Fetches};
+ghost use Rattle.uses.specs.Fetches.{Fetches, HasLength, Opens};
 
+use crate::body::body_len;
 use data_url::forgiving_base64::{DecodeToVecError, InvalidBase64};
 use data_url::{DataUrl, DataUrlError};
 use std::alloc::Global;
@@ -37,6 +38,18 @@ pub enum FetchError {
     OutOfMemory,
 }
 
+/// The URL of a text.
+fn open<'a>(alloc: Global, text: &'a str) -> Result<DataUrl<'a>, FetchError>
+    ensures { Opens text.entry.now result }
+{
+    match DataUrl::process(alloc, text) {
+        Ok(url) => Ok(url),
+        Err(DataUrlError::NotADataUrl) => Err(FetchError::Network(Reason::NotADataUrl)),
+        Err(DataUrlError::NoComma) => Err(FetchError::Network(Reason::NoComma)),
+        Err(DataUrlError::OutOfMemory) => Err(FetchError::OutOfMemory),
+    }
+}
+
 /// The response to a request for a data: URL (Fetch Standard, section 6, and scheme fetch): status 200, the printed MIME
 /// type and the whole body.
 ///
@@ -45,11 +58,9 @@ pub enum FetchError {
 pub fn fetch(alloc: Global, text: &str) -> Result<Response, FetchError>
     ensures { Fetches text.now result }
 {
-    let url = match DataUrl::process(alloc, text) {
+    let url = match open(alloc, text) {
         Ok(url) => url,
-        Err(DataUrlError::NotADataUrl) => return Err(FetchError::Network(Reason::NotADataUrl)),
-        Err(DataUrlError::NoComma) => return Err(FetchError::Network(Reason::NoComma)),
-        Err(DataUrlError::OutOfMemory) => return Err(FetchError::OutOfMemory),
+        Err(error) => return Err(error),
     };
     let body = match url.decode_to_vec(alloc) {
         Ok((body, _)) => body,
@@ -67,4 +78,19 @@ pub fn fetch(alloc: Global, text: &str) -> Result<Response, FetchError>
         content_type,
         body,
     })
+}
+
+/// How many bytes the body of that response has. It takes no memory for them.
+///
+/// The errors are those of `fetch`.
+pub fn content_length(alloc: Global, text: &str) -> Result<usize, FetchError>
+    ensures { HasLength text.now result }
+{
+    match open(alloc, text) {
+        Ok(url) => match body_len(&url) {
+            Ok(len) => Ok(len),
+            Err(refusal) => Err(FetchError::Network(Reason::InvalidBase64(refusal))),
+        },
+        Err(error) => Err(error),
+    }
 }
