@@ -26,7 +26,7 @@ opened page place end m = record {
   rest = drop end page;
   split = m.1.split;
   first = λ xs ys e. elim (cases_lt (length xs) place) [
-    inl h ↦ absurd (m.0 (length xs) h ys (at_seam page xs (opening ++ ys) e))
+    | inl h ↦ absurd (m.0 (length xs) h ys (at_seam page xs (opening ++ ys) e))
     | inr h ↦ h
   ];
 }
@@ -50,7 +50,7 @@ none_ended page rest place o r none = λ xs ys zs e.
     let at : (place + 2) + k ≡ length xs + (7 + length ys) = omega arith in
     let long : length page ≡ length xs + (7 + (length ys + (1 + length zs))) = omega (arith, ap length e, length-append xs (opening ++ (ys ++ (34 ∷ zs))), length-append ys (34 ∷ zs)) in
     none k (omega (arith, ap length r, length-drop (place + 2) page))
-      (ap (λ s. get_or s k 0) r ∙ get_or-drop (place + 2) page k 0 ∙ ap (λ n. get_or page n 0) at ∙ ap (λ s. get_or s (length xs + (7 + length ys)) 0) e ∙ quote_at xs ys zs)
+    (ap (λ s. get_or s k 0) r ∙ get_or-drop (place + 2) page k 0 ∙ ap (λ n. get_or page n 0) at ∙ ap (λ s. get_or s (length xs + (7 + length ys)) 0) e ∙ quote_at xs ys zs)
 
 -- what ends at a quote has the whole scheme
 scheme_front : (k : ℕ) (s : List ℕ) → get_or (codes "data:" ++ s) k 0 ≡ 34 → (rest : List ℕ) × (take k (codes "data:" ++ s) ≡ codes "data:" ++ rest)

@@ -119,7 +119,7 @@ pub streamed : {F : Type 0} {step : F → List ℕ → Result (Unit {0}) Refusal
     → Streamed body (room f) (holds f) (holds g) s
 streamed {f = f} {g = g} {body = body} {s = s} d e room holds writes =
     streamed_by room holds (room f) (holds f) g body s
-      (body_ends d e (Kept room holds (room f) (holds f)) (Stopped holds (room f) (holds f))
-        (λ bytes p piece q k c. let w = writes p piece (Ok tt) q c in (omega (arith, w.0, k.0, length-append bytes piece), appends_then (holds f) (holds p) (holds q) bytes piece k.1 w.1))
-        (λ bytes p piece a q k c. stops room holds (room f) (holds f) bytes piece a p q k (writes p piece (Err a) q c))
-        (omega arith, appends_none (holds f)))
+    (body_ends d e (Kept room holds (room f) (holds f)) (Stopped holds (room f) (holds f))
+    (λ bytes p piece q k c. let w = writes p piece (Ok tt) q c in (omega (arith, w.0, k.0, length-append bytes piece), appends_then (holds f) (holds p) (holds q) bytes piece k.1 w.1))
+    (λ bytes p piece a q k c. stops room holds (room f) (holds f) bytes piece a p q k (writes p piece (Err a) q c))
+    (omega arith, appends_none (holds f)))

@@ -41,14 +41,10 @@ pub fn body_len(url: &DataUrl) -> Result<usize, InvalidBase64>
 {
     let mut len: usize = 0;
     let mut answer = Ok(());
-    decode_body(
-        url,
-        &mut answer,
-        |piece: &[u8]| -> Result<(), Infallible> {
-            len = len.saturating_add(piece.len());
-            Ok(())
-        },
-    );
+    decode_body(url, &mut answer, |piece: &[u8]| -> Result<(), Infallible> {
+        len = len.saturating_add(piece.len());
+        Ok(())
+    });
     match answer {
         Ok(()) => Ok(len),
         Err(DecodeError::InvalidBase64(refusal)) => Err(refusal),
@@ -64,11 +60,9 @@ pub fn append_body(url: &DataUrl, bytes: &mut Vec<u8>) -> Result<(), DecodeToVec
     ensures { Appends (url_body url.now) bytes.old.items bytes.new.items result }
 {
     let mut answer = Ok(());
-    decode_body(
-        url,
-        &mut answer,
-        |piece: &[u8]| -> Result<(), AllocError> { bytes.extend_from_slice(piece) },
-    );
+    decode_body(url, &mut answer, |piece: &[u8]| -> Result<(), AllocError> {
+        bytes.extend_from_slice(piece)
+    });
     match answer {
         Ok(()) => Ok(()),
         Err(DecodeError::InvalidBase64(refusal)) => Err(DecodeToVecError::InvalidBase64(refusal)),

@@ -70,11 +70,9 @@ fn stream_body<W: Write>(url: &DataUrl, limit: usize, sink: &mut W) -> Result<()
 {
     let mut room = limit;
     let mut answer = Ok(());
-    decode_body(
-        url,
-        &mut answer,
-        |piece: &[u8]| -> Result<(), Refusal> { write_within(sink, &mut room, piece) },
-    );
+    decode_body(url, &mut answer, |piece: &[u8]| -> Result<(), Refusal> {
+        write_within(sink, &mut room, piece)
+    });
     match answer {
         Ok(()) => Ok(()),
         Err(DecodeError::InvalidBase64(refusal)) => Err(LoadError::InvalidBase64(refusal)),
