@@ -64,9 +64,9 @@ pub run_extends : {F E : Type 0} (step : F → List ℕ → Result (Unit {0}) E 
     → measure g ≡ measure f ++ joined cs
 run_extends step cs f g ran n measure extends =
     accepted_at cs (measure g ≡ measure f ++ joined cs) (λ e. Unit {0}) n
-      (run_ends step cs f g ran (λ bytes p. measure p ≡ measure f ++ bytes) (λ bytes e p. Unit {0})
-        (λ bytes p piece q k s. extends p piece q s ∙ ap (λ x. x ++ piece) k ∙ append_assoc (measure f) bytes piece)
-        (λ bytes p piece e q k s. tt) (sym (append-nil (measure f))))
+    (run_ends step cs f g ran (λ bytes p. measure p ≡ measure f ++ bytes) (λ bytes e p. Unit {0})
+    (λ bytes p piece q k s. extends p piece q s ∙ ap (λ x. x ++ piece) k ∙ append_assoc (measure f) bytes piece)
+    (λ bytes p piece e q k s. tt) (sym (append-nil (measure f))))
 
 -- a count to which each accepted piece adds its length has added the length of the whole run
 pub run_counts : {F E : Type 0} (step : F → List ℕ → Result (Unit {0}) E → F → Type 0) (cs : List (Call F E)) (f g : F) → IsRun step f cs g → refusal cs ≡ None → (count : F → ℕ)
@@ -74,9 +74,9 @@ pub run_counts : {F E : Type 0} (step : F → List ℕ → Result (Unit {0}) E �
     → count g ≡ count f + length (joined cs)
 run_counts step cs f g ran n count adds =
     accepted_at cs (count g ≡ count f + length (joined cs)) (λ e. Unit {0}) n
-      (run_ends step cs f g ran (λ bytes p. count p ≡ count f + length bytes) (λ bytes e p. Unit {0})
-        (λ bytes p piece q k s. let h = adds p piece q s in omega (arith, h, k, length-append bytes piece))
-        (λ bytes p piece e q k s. tt) (omega arith))
+    (run_ends step cs f g ran (λ bytes p. count p ≡ count f + length bytes) (λ bytes e p. Unit {0})
+    (λ bytes p piece q k s. let h = adds p piece q s in omega (arith, h, k, length-append bytes piece))
+    (λ bytes p piece e q k s. tt) (omega arith))
 
 -- the same of a count that stops at a most
 pub run_counts_up_to : {F E : Type 0} (step : F → List ℕ → Result (Unit {0}) E → F → Type 0) (cs : List (Call F E)) (f g : F) (most : ℕ) → IsRun step f cs g → refusal cs ≡ None → (count : F → ℕ) → count f ≤ most
@@ -84,9 +84,9 @@ pub run_counts_up_to : {F E : Type 0} (step : F → List ℕ → Result (Unit {0
     → count g ≡ min (count f + length (joined cs)) most
 run_counts_up_to step cs f g most ran n count few adds =
     accepted_at cs (count g ≡ min (count f + length (joined cs)) most) (λ e. Unit {0}) n
-      (run_ends step cs f g ran (λ bytes p. count p ≡ min (count f + length bytes) most) (λ bytes e p. Unit {0})
-        (λ bytes p piece q k s. let h = adds p piece q s in omega (arith, h, k, length-append bytes piece))
-        (λ bytes p piece e q k s. tt) (omega arith))
+    (run_ends step cs f g ran (λ bytes p. count p ≡ min (count f + length bytes) most) (λ bytes e p. Unit {0})
+    (λ bytes p piece q k s. let h = adds p piece q s in omega (arith, h, k, length-append bytes piece))
+    (λ bytes p piece e q k s. tt) (omega arith))
 
 -- Bodies
 
@@ -125,11 +125,11 @@ pub body_extends : {F E A : Type 0} {step : F → List ℕ → Result (Unit {0})
     → EndsWith (λ bytes q. measure q ≡ measure f ++ bytes) (λ bytes e q. (part : List ℕ) × IsPrefix part bytes × (measure q ≡ measure f ++ part)) body good g s
 body_extends {f = f} d e measure accepts refuses =
     body_ends d e (λ bytes q. measure q ≡ measure f ++ bytes) (λ bytes e q. (part : List ℕ) × IsPrefix part bytes × (measure q ≡ measure f ++ part))
-      (λ bytes p piece q k s. accepts p piece q s ∙ ap (λ x. x ++ piece) k ∙ append_assoc (measure f) bytes piece)
-      (λ bytes p piece e q k s.
-          let h = refuses p piece e q s in
-          (bytes ++ h.0, prefix_behind bytes h.0 piece h.1, h.2 ∙ ap (λ x. x ++ h.0) k ∙ append_assoc (measure f) bytes h.0))
-      (sym (append-nil (measure f)))
+    (λ bytes p piece q k s. accepts p piece q s ∙ ap (λ x. x ++ piece) k ∙ append_assoc (measure f) bytes piece)
+    (λ bytes p piece e q k s.
+    let h = refuses p piece e q s in
+    (bytes ++ h.0, prefix_behind bytes h.0 piece h.1, h.2 ∙ ap (λ x. x ++ h.0) k ∙ append_assoc (measure f) bytes h.0))
+    (sym (append-nil (measure f)))
 
 -- How long a body is
 
@@ -184,7 +184,7 @@ unfolding behind
 behind_shorter c [] rest e = absurd (let k = e in cc)
 behind_shorter c (b ∷ s) rest e =
     elim (b == c) as (λ v. cond v (Some s) (behind c s) ≡ Some rest → length rest ≤ suc (length s)) [
-      true ↦ λ (h : Some s ≡ Some rest). let same : s ≡ rest = cc in omega (arith, ap length same)
+      | true ↦ λ (h : Some s ≡ Some rest). let same : s ≡ rest = cc in omega (arith, ap length same)
       | false ↦ λ (h : behind c s ≡ Some rest). omega (arith, behind_shorter c s rest h)
     ] e
 

@@ -1,9 +1,9 @@
 -- The first of the highest rank, as far as the ranks were looked at.
-use Rattle.std.proofs.Common.{◌≡◌, ℕ, suc, ◌<◌, ◌≤◌, ◌+◌, List, [], ◌∷◌, length, map, get_or, Option, None, Some, refl, sym, ap, ◌∙◌, arith}
+use Rattle.std.proofs.Common.{◌≡◌, ℕ, ◌<◌, ◌≤◌, ◌+◌, List, length, map, get_or, Option, None, Some, refl, sym, ap, ◌∙◌, arith}
 use borrow.Author.Count.{below_more}
 use Rattle.std.specs.Prelude.{slice_index}
 use Rattle.std.proofs.lemmas.List.{get_or-map}
-use Rattle.uses.specs.Ranks.{IsBest, IsBestAt}
+use Rattle.uses.specs.Ranks.{IsBest}
 
 -- none of the ranks below i is more than 0, or this is the first of the highest
 abbrev pub IsLeader : List ℕ → ℕ → ℕ → Option ℕ → Type 0

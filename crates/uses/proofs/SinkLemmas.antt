@@ -1,5 +1,5 @@
 -- What a sink takes of a piece, and of the pieces of a body.
-use Rattle.std.proofs.Common.{◌≡◌, ℕ, ◌<◌, ◌≤◌, ◌+◌, ◌-◌, List, [], ◌++◌, length, take, drop, Option, None, Some, Result, Ok, Err, refl, sym, ap, ◌∙◌, append_assoc, take-append-drop, take_all, length-drop, le_of_eq, subst, arith, length-append}
+use Rattle.std.proofs.Common.{◌≡◌, ℕ, ◌<◌, ◌+◌, ◌-◌, List, [], ◌++◌, length, take, drop, Option, None, Some, Result, Ok, Err, refl, sym, ap, ◌∙◌, append_assoc, take-append-drop, take_all, length-drop, le_of_eq, subst, arith, length-append}
 use Rattle.std.proofs.lemmas.List.{append-nil}
 use Rattle.std.specs.Io.KnownBytes.{Appends, Keeps}
 use Rattle.data_url.specs.Decodes.{Decodes}
@@ -10,7 +10,7 @@ use Rattle.data_url.specs.declared.forgiving_base64.DecodeError.TheVariants.{Inv
 use Rattle.data_url.proofs.RunLemmas.{prefix_behind, prefix_trans}
 use Rattle.data_url.proofs.RunMeasures.{EndsWith, body_ends}
 use Rattle.uses.specs.Bodies.{AnyAnswer}
-use Rattle.uses.specs.Loads.{StreamsBody, TakesPrefix, TakesWithin, Writes, WritesWithin}
+use Rattle.uses.specs.Loads.{StreamsBody, TakesWithin, Writes, WritesWithin}
 use Rattle.uses.specs.declared.loader.LoadError.TheVariants as errors
 use Rattle.uses.specs.declared.loader.Refusal.{Refusal}
 use Rattle.uses.specs.declared.loader.Refusal.TheVariants.{OverLimit, SinkFailed}

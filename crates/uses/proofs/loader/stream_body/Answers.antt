@@ -1,4 +1,4 @@
-use Rattle.std.proofs.Common.{rules, ◌≡◌, ℕ, List, Option, Result, Ok, Err, subst}
+use Rattle.std.proofs.Common.{rules, ◌≡◌, ℕ, List, Option, Ok, Err, subst}
 use Rattle.data_url.specs.UrlSeen.{url_body}
 use Rattle.data_url.specs.declared.forgiving_base64.DecodeError.TheVariants.{InvalidBase64, WriteError}
 use Rattle.data_url.proofs.BodyVecLemmas.{body_keeps}
