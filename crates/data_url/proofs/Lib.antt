@@ -40,6 +40,7 @@ pub mod RecodedLemmas
 pub mod RecordLemmas
 pub mod RoundTripLemmas
 pub mod RunLemmas
+pub mod RunMeasures
 pub mod SameLemmas
 pub mod SchemeLemmas
 pub mod SerialiseLemmas

@@ -1,0 +1,5 @@
+pub mod BodyLemmas
+pub mod LengthLemmas
+pub mod PageLemmas
+pub mod RankLemmas
+pub mod SinkLemmas

@@ -1,0 +1,6 @@
+pub mod Bodies
+pub mod Fetches
+pub mod Loads
+pub mod Pages
+pub mod Ranks
+pub mod Steps

@@ -1,0 +1,54 @@
+-- The references of a page, and its parts.
+use Rattle.std.specs.Prelude.{[], ◌++◌, ◌∷◌, ◌≡◌, ◌≢◌, ◌≤◌, List, codes, length, ℕ}
+use Rattle.data_url.specs.Fetch.{staged}
+use Rattle.uses.specs.Fetches.{IsReasonOf, IsResponseTo}
+use Rattle.uses.specs.declared.inliner.Part.TheVariants.{Inlined, Refused, Text}
+use Rattle.uses.specs.declared.inliner.Part.{Part}
+
+-- what opens a reference, '=' and '"', and the scheme that it begins with
+abbrev pub opening : List ℕ
+opening = 61 ∷ 34 ∷ codes "data:"
+
+-- the first reference of a page: it is opened first, begins with the scheme and ends before the
+-- next '"'
+pub record IsReference (page before reference behind : List ℕ) : Type 0 where
+  pub joined : page ≡ before ++ (reference ++ behind)
+  pub start : List ℕ
+  pub before_is : before ≡ start ++ (61 ∷ 34 ∷ [])
+  pub rest : List ℕ
+  pub reference_is : reference ≡ codes "data:" ++ rest
+  pub more : List ℕ
+  pub behind_is : behind ≡ 34 ∷ more
+  pub no_quote : (xs ys : List ℕ) → reference ≢ xs ++ (34 ∷ ys)
+  pub first : (xs ys : List ℕ) → page ≡ xs ++ (opening ++ ys) → length start ≤ length xs
+
+-- nowhere is a reference opened and ended
+abbrev pub HasNoReference : List ℕ → Type 0
+HasNoReference page = (xs ys zs : List ℕ) → page ≢ xs ++ (opening ++ (ys ++ (34 ∷ zs)))
+
+-- the text of a part, as it stands in the page
+abbrev pub source_of : Part → List ℕ
+source_of (Text text) = text.now
+source_of (Inlined reference response) = reference.now
+source_of (Refused reference reason) = reference.now
+
+-- the part is this text
+abbrev pub IsText : List ℕ → Part → Type 0
+IsText text (Text s) = s.now ≡ text
+IsText text (Inlined reference response) = ⊥
+IsText text (Refused reference reason) = ⊥
+
+-- the part of a reference: the response to it, or why it is refused
+abbrev pub Inlines : List ℕ → Part → Type 0
+Inlines reference (Text s) = ⊥
+Inlines reference (Inlined s response) = (s.now ≡ reference) × IsResponseTo reference response
+Inlines reference (Refused s reason) = (s.now ≡ reference) × IsReasonOf (staged reference) reason
+
+-- the parts of a page: text up to its first reference, that reference, and the parts of what stands
+-- behind it; or the whole text
+abbrev pub IsPage : List ℕ → List Part → Type 0
+IsPage page [] = ⊥
+IsPage page (text ∷ []) = IsText page text × HasNoReference page
+IsPage page (text ∷ part ∷ parts) =
+    (before reference behind : List ℕ) × IsReference page before reference behind
+    × IsText before text × Inlines reference part × IsPage behind parts
