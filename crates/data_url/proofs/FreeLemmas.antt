@@ -12,7 +12,7 @@ use Rattle.data_url.specs.Pieces.{Walk}
 use Rattle.data_url.specs.Url.{behind, is_tab_or_newline}
 use Rattle.data_url.specs.Steps.Chunks.{IsBase64Chunk, IsChunk, chunk_bytes}
 use Rattle.data_url.specs.Steps.Looks.{paid}
-use Rattle.data_url.specs.Steps.Walk.{IsFreeTo, Knows, Looking, LooksOn, ReadsSpaced, Spans, Stays, text_of, walk_of}
+use Rattle.data_url.specs.Steps.Walk.{IsClear, IsFreeTo, Knows, Looking, LooksOn, ReadsSpaced, Spans, Stays, text_of, walk_of}
 use Rattle.data_url.specs.Steps.Window.{IsFree, is_marked, is_stop}
 use Rattle.data_url.specs.declared.escapes.Chunk.{Chunk}
 use Rattle.data_url.specs.declared.escapes.Chunk.TheVariants as chunk
@@ -21,8 +21,10 @@ use Rattle.data_url.specs.declared.escapes.cursor.Cursor.{Cursor}
 use Rattle.data_url.proofs.BodyLemmas.{body_keeps, body_passes}
 use Rattle.data_url.proofs.NextLemmas.{ahead_is}
 use Rattle.data_url.proofs.ReadLemmas.{paid_byte}
-use Rattle.data_url.proofs.TextBlockLemmas.{marks_part}
+use Rattle.data_url.proofs.TextBlockLemmas.{marks_part, marks_whole}
 use Rattle.data_url.proofs.UrlLemmas.{behind_other}
+use Rattle.data_url.proofs.WindowLemmas.{IsFound, found, looking_clear, mark_in}
+use Rattle.std.specs.Int.Count.{count_trailing_zeros}
 
 -- Blocks
 
@@ -90,6 +92,33 @@ free_part text bytes place marks e short w h z =
     let end = min (place + 64) (length text) in
     let all = marks_part text bytes place marks e short w h in
     λ k a b. no_mark (is_tab_or_newline (get_or text k 0)) (is_stop (get_or text k 0)) (none_from_empty_mask is_marked text place (end - place) 0 (omega arith) (sym all ∙ z) k a (omega arith))
+
+-- blocks without a mark
+pub clear_part : (text bytes : List ℕ) (place marks : ℕ) → bytes ≡ text → length (take (length bytes - place) (drop place bytes)) < 64 → place ≤ length text → marks ≡ mask_l (map is_marked (take (length bytes - place) (drop place bytes))) → marks ≡ 0
+    → IsClear text place (min (place + 64) (length text))
+clear_part text bytes place marks e short w h z =
+    let end = min (place + 64) (length text) in
+    let all = marks_part text bytes place marks e short w h in
+    λ k a b. none_from_empty_mask is_marked text place (end - place) 0 (omega arith) (sym all ∙ z) k a (omega arith)
+
+pub clear_whole : (text bytes : List ℕ) (place : ℕ) (r : Bool) → bytes ≡ text → 64 ≤ length (take (length bytes - place) (drop place bytes))
+    → r ≡ not (eqb (mask_l (map is_marked (chunk 0 64 (take (64 - 0) (drop 0 (take (length bytes - place) (drop place bytes))))))) 0) → r ≡ false → IsClear text place (min (place + 64) (length text))
+clear_whole text bytes place r e long h z =
+    let end = min (place + 64) (length text) in
+    let all = marks_whole text bytes place (mask_l (map is_marked (chunk 0 64 (take (64 - 0) (drop 0 (take (length bytes - place) (drop place bytes))))))) e long refl in
+    let none = none_zero _ (sym h ∙ z) in
+    λ k a b. none_from_empty_mask is_marked text place (end - place) 0 (omega arith) (sym all ∙ none) k a (omega arith)
+
+pub some_mark : {r : Bool} {m marks : ℕ} → r ≡ not (eqb m 0) → r ≡ true → marks ≡ m → (marks ≡ 0 → ⊥)
+some_mark {r} {m} {marks} h t e z =
+    let zero_m : m ≡ 0 = sym e ∙ z in
+    absurd (true≢false (sym t ∙ h ∙ ap (λ x. not (eqb x 0)) zero_m))
+
+unmarked_stop : (text : List ℕ) (from to : ℕ) → IsClear text from to → IsFree text from to
+unmarked_stop text from to h = λ k a b. no_mark (is_tab_or_newline (get_or text k 0)) (is_stop (get_or text k 0)) (h k a b)
+
+pub clear_free : {text : List ℕ} {from to : ℕ} → from ≤ to → to ≤ length text → IsClear text from to → IsFreeTo text from to
+clear_free {text} {from} {to} l w h = record { forward = l; within = w; free = unmarked_stop text from to h }
 
 -- Looks
 
@@ -160,6 +189,20 @@ looking_block {c} {c'} {place} end k u l w s eb es em et el =
       within = omega arith;
       looks_are_paid = omega arith;
     }
+
+-- the first mark of a block that has one
+pub block_found : {text : List ℕ} {place marks width : ℕ} (end : ℕ) → place ≤ end → end ≤ length text → end ≤ place + 64 → end ≡ min (place + 64) (length text)
+    → (marks ≡ mask_l (map is_marked (slice_range text place (min (place + 64) (length text))))) × (marks ≡ 0 → ⊥) → width ≡ count_trailing_zeros 64 marks → IsFound text place end width
+block_found {text} {place} end l w s same h e =
+    found (record { within = w; forward = l; short = s; marks_are = h.0 ∙ ap (λ t. mask_l (map is_marked (slice_range text place t))) (sym same) }) h.1 e
+
+pub looking_found : {c c' : Cursor} {place width : ℕ} (end : ℕ) → Looking c place 0 → c.seen ≤ place → place ≤ end → end ≤ length (text_of c) → end ≤ place + 64 → end ≡ min (place + 64) (length (text_of c))
+    → (c'.marks ≡ mask_l (map is_marked (slice_range (text_of c) place (min (place + 64) (length (text_of c)))))) × (c'.marks ≡ 0 → ⊥) → text_of c' ≡ text_of c → c'.source.looks ≡ c.source.looks + (min (place + 64) (length (text_of c)) - place)
+    → IsFound (text_of c) place end width → c'.base ≡ place → c'.seen ≡ end → Looking c' (place + width) 0
+looking_found {c} {c'} {place} {width} end k u l w s same h et el f eb es =
+    let at : Looking c' place 0 = looking_block end k u l w s eb es (h.0 ∙ ap (λ t. mask_l (map is_marked (slice_range (text_of c) place t))) (sym same)) et (el ∙ ap (λ t. c.source.looks + (t - place)) (sym same)) in
+    let m = mark_in (sym et) f.mark in
+    looking_clear (place + width) at m.forward m.within m.clear
 
 -- behind a block
 pub free_on : {text same : List ℕ} {from place end : ℕ} → IsFreeTo text from place → same ≡ text → IsFreeTo same place end → IsFreeTo text from end

@@ -111,14 +111,41 @@ impl<'a> Cursor<'a> {
         ensures mark { IsNextMark (text_of self.old) from result }
         ensures bound { length (text_of self.old) < 2 ^ 64 }
     {
+        let _len = self.source.len();
         let mut place = from;
-        while place < self.source.len() {
-            self.see(place);
+        if place < self.seen {
             let marks = self.marks >> (place - self.base);
             if marks != 0 {
                 return place + marks.trailing_zeros() as usize;
             }
             place = self.seen;
+        }
+        self.next_unseen_mark(place)
+    }
+
+    /// The same, where the walk looked at no byte from the place on. The block that is kept is that with the mark, and no
+    /// block before it.
+    #[inline(always)]
+    fn next_unseen_mark(&mut self, from: usize) -> usize
+        requires unseen { self.old.seen ≤ from }
+        requires looking { Looking self.old from 0 }
+        ensures looking { Looking self.new result 0 }
+        ensures stays { Stays self.old self.new }
+        ensures mark { IsNextMark (text_of self.old) from result }
+        ensures bound { length (text_of self.old) < 2 ^ 64 }
+    {
+        let mut place = from;
+        while place < self.source.len() {
+            let end = place + (self.source.len() - place).min(BLOCK);
+            match self.source.look_for_marks(place) {
+                None => place = end,
+                Some(marks) => {
+                    self.base = place;
+                    self.seen = end;
+                    self.marks = marks;
+                    return place + marks.trailing_zeros() as usize;
+                }
+            }
         }
         place
     }
