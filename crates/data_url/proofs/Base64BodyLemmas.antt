@@ -1,13 +1,13 @@
 -- A base64 body, fed to a decoder chunk by chunk.
-use Rattle.std.proofs.Common.{◌≡◌, ℕ, suc, ◌+◌, ◌≤◌, Bool, true, false, not, cond, ◌*◌, List, [], ◌∷◌, ◌++◌, length, Option, None, Some, Result, Ok, Err, refl, sym, ap, ◌∙◌, subst, append_assoc, arith}
+use Rattle.std.proofs.Common.{◌≡◌, ℕ, suc, ◌+◌, ◌≤◌, Bool, true, false, not, cond, ◌*◌, List, [], ◌∷◌, ◌++◌, length, drop, Option, None, Some, Result, Ok, Err, refl, sym, ap, ◌∙◌, subst, append_assoc, arith, length-append, length-drop}
 use Rattle.std.specs.Prelude.{◌==◌, MatchBool, MatchOption}
 use Rattle.std.specs.Char.{digit_value}
 use Rattle.std.proofs.lemmas.List.{append-nil}
-use Rattle.data_url.specs.Base64.{decoded, done, is_valid, kind_of}
+use Rattle.data_url.specs.Base64.{compact, decoded, done, is_valid, kind_of}
 use Rattle.data_url.specs.Url.{before, dropped, front, is_tab_or_newline}
 use Rattle.data_url.specs.Percent.{is_escape, percent_decoded}
 use Rattle.data_url.specs.Run.{joined, refusal}
-use Rattle.data_url.specs.Fetch.{Bad, Good, outcome, outcome_bytes, plain_body}
+use Rattle.data_url.specs.Fetch.{Bad, Good, Outcome, outcome, outcome_bytes, plain_body}
 use Rattle.data_url.specs.Pieces.{Walk, begins}
 use Rattle.data_url.specs.Steps.Tail.{IsBodyEnd}
 use Rattle.data_url.specs.DataUrl.{Answers, Decodes, HandsOut}
@@ -16,7 +16,9 @@ use Rattle.data_url.specs.Errors.{IsRefused}
 use Rattle.data_url.specs.Steps.Whole.{DecodesText}
 use Rattle.data_url.specs.declared.forgiving_base64.DecodeError.{DecodeError}
 use Rattle.data_url.specs.declared.forgiving_base64.DecodeError.TheVariants.{InvalidBase64, WriteError}
-use Rattle.data_url.proofs.DecodeLemmas.{Takes}
+use Rattle.data_url.proofs.CompactLemmas.{outcome_alike}
+use Rattle.data_url.proofs.DecodeLemmas.{TakesSpaced}
+use Rattle.data_url.proofs.FreeLemmas.{compact-append}
 use Rattle.data_url.proofs.DecoderLemmas.{feeds_err, feeds_then}
 use Rattle.data_url.proofs.WholeLemmas.{decodes_finished, decodes_refused}
 
@@ -93,36 +95,55 @@ module _ {F E : Type 0} (step : F → List ℕ → Result (Unit {0}) E → F →
     gave = gives u (joined d.run) place good r (refusal d.run) (is_valid u) k d.gave;
   }
 
-  -- the decoder took the body as far as the walk
+  -- the decoder took the body as far as the walk, but for white space
   pub record Fed (d : State F) (text : List ℕ) (w : Walk) (d' : State F) : Type 0 where
     pub read : List ℕ
     pub fed : Feeds step d read (Ok tt) d'
     pub text_is : w.text ≡ text
-    pub body : plain_body text ≡ read ++ w.rest
+    pub body : compact (plain_body text) ≡ compact read ++ compact w.rest
+    pub few : length read ≤ w.place
+    pub within : w.place ≤ length text
 
   pub fed_none : (d d' : State F) (text : List ℕ) → Feeds step d [] (Ok tt) d' → Fed d text (begins text) d'
-  fed_none d d' text h = record { read = []; fed = h; text_is = refl; body = refl }
+  unfolding compact
+  fed_none d d' text h = record { read = []; fed = h; text_is = refl; body = refl; few = omega arith; within = omega arith }
 
-  pub fed_more : {d d1 d2 : State F} {text bytes : List ℕ} {w w' : Walk} → Fed d text w d1 → Takes w bytes w' → Feeds step d1 bytes (Ok tt) d2 → Fed d text w' d2
+  fed_bytes : {d d1 : State F} {text bytes : List ℕ} {w w' : Walk} (h : Fed d text w d1) → TakesSpaced w bytes w' → compact (plain_body text) ≡ compact (h.read ++ bytes) ++ compact w'.rest
+  fed_bytes {bytes = bytes} {w' = w'} h t =
+      h.body
+      ∙ ap (λ x. compact h.read ++ x) t.rest_is
+      ∙ sym (append_assoc (compact h.read) (compact bytes) (compact w'.rest))
+      ∙ ap (λ x. x ++ compact w'.rest) (sym (compact-append h.read bytes))
+
+  pub fed_more : {d d1 d2 : State F} {text bytes : List ℕ} {w w' : Walk} → Fed d text w d1 → TakesSpaced w bytes w' → Feeds step d1 bytes (Ok tt) d2 → Fed d text w' d2
   fed_more {d} {d1} {d2} {text} {bytes} {w} {w'} h t f = record {
     read = h.read ++ bytes;
     fed = feeds_then step h.fed f;
     text_is = t.text_stays ∙ h.text_is;
-    body = h.body ∙ ap (λ x. h.read ++ x) t.rest_is ∙ sym (append_assoc h.read bytes w'.rest);
+    body = fed_bytes h t;
+    few = omega (arith, h.few, t.place, length-append h.read bytes);
+    within = omega (arith, t.within, ap length (t.text_stays ∙ h.text_is));
   }
 
-  pub fed_refused : {d d1 d2 : State F} {f : F} {text bytes : List ℕ} {w w' : Walk} {x : DecodeError E} → d ≡ start f → Fed d text w d1 → Takes w bytes w' → Feeds step d1 bytes (Err x) d2 → Decodes step f (length text + 1) (outcome true (plain_body text)) (IsBodyEnd text) (Err x) d2.closure
+  -- the outcome of what was read is that of the body
+  outcome_at : {f g : F} {text : List ℕ} {r : Result ℕ (DecodeError E)} (u : List ℕ) → compact u ≡ compact (plain_body text) → Decodes step f (length text + 1) (outcome true u) (IsBodyEnd text) r g → Decodes step f (length text + 1) (outcome true (plain_body text)) (IsBodyEnd text) r g
+  outcome_at {f} {g} {text} {r} u e d = let P : Outcome → Type 0 = λ o. Decodes step f (length text + 1) o (IsBodyEnd text) r g in subst P (outcome_alike u (plain_body text) e) d
+
+  pub fed_refused : {d d1 d2 : State F} {f : F} {text bytes : List ℕ} {w w' : Walk} {x : DecodeError E} → d ≡ start f → Fed d text w d1 → TakesSpaced w bytes w' → Feeds step d1 bytes (Err x) d2 → Decodes step f (length text + 1) (outcome true (plain_body text)) (IsBodyEnd text) (Err x) d2.closure
   fed_refused {d} {d1} {d2} {f} {text} {bytes} {w} {w'} {x} s h t k =
-      let whole : plain_body text ≡ (h.read ++ bytes) ++ w'.rest = h.body ∙ ap (λ x. h.read ++ x) t.rest_is ∙ sym (append_assoc h.read bytes w'.rest) in
-      let all : Feeds step d (plain_body text) (Err x) d2 = subst (λ u. Feeds step d u (Err x) d2) (sym whole) (feeds_err step w'.rest (feeds_then step h.fed k)) in
-      let short = body_shorter text in
-      decodes_outcome (plain_body text) (length text + 1) 0 (IsBodyEnd text) (Err x) (decodes_refused step s all) (omega arith) (λ e. absurd (cc))
+      let read = h.read ++ bytes in
+      let u = read ++ w'.rest in
+      let whole : compact u ≡ compact (plain_body text) = compact-append read w'.rest ∙ sym (fed_bytes h t) in
+      let all : Feeds step d u (Err x) d2 = feeds_err step w'.rest (feeds_then step h.fed k) in
+      let long : length w'.text ≡ length text = ap length (t.text_stays ∙ h.text_is) in
+      let rest : length w'.rest + w'.place ≤ length text =
+      omega (arith, ap length t.rest_of, body_shorter (drop w'.place w'.text), length-drop w'.place w'.text, t.within, long) in
+      let short : length u ≤ length text = omega (arith, rest, h.few, t.place, length-append read w'.rest, length-append h.read bytes) in
+      outcome_at u whole (decodes_outcome u (length text + 1) 0 (IsBodyEnd text) (Err x) (decodes_refused step s all) (omega arith) (λ e. absurd (cc)))
 
-  fed_all : {d d1 : State F} {text : List ℕ} {w : Walk} → Fed d text w d1 → w.rest ≡ [] → Feeds step d (plain_body text) (Ok tt) d1
-  fed_all {d} {d1} {text} {w} h e = subst (λ u. Feeds step d u (Ok tt) d1) (sym (h.body ∙ ap (λ x. h.read ++ x) e ∙ append-nil h.read)) h.fed
-
-  pub fed_ended : {d d1 : State F} {f g : F} {text : List ℕ} {w : Walk} (place : ℕ) {r r' : Result (Unit {0}) (DecodeError E)} → d ≡ start f → Fed d text w d1 → w.rest ≡ [] → (r' ≡ Ok tt → IsBodyEnd text place) → Finishes step d1 r g → r ≡ r' → Decodes step f (length text + 1) (outcome true (plain_body text)) (IsBodyEnd text) (at_place place r') g
+  pub fed_ended : {d d1 : State F} {f g : F} {text : List ℕ} {w : Walk} (place : ℕ) {r r' : Result (Unit {0}) (DecodeError E)} → d ≡ start f → Fed d text w d1 → compact w.rest ≡ [] → (r' ≡ Ok tt → IsBodyEnd text place) → Finishes step d1 r g → r ≡ r' → Decodes step f (length text + 1) (outcome true (plain_body text)) (IsBodyEnd text) (at_place place r') g
   fed_ended {d} {d1} {f} {g} {text} {w} place {r} {r'} s h e b k same =
-      let short = body_shorter text in
+      let whole : compact h.read ≡ compact (plain_body text) = sym (h.body ∙ ap (λ x. compact h.read ++ x) e ∙ append-nil (compact h.read)) in
+      let short : length h.read ≤ length text = omega (arith, h.few, h.within) in
       let finished : Finishes step d1 r' g = subst (λ q. Finishes step d1 q g) same k in
-      decodes_outcome (plain_body text) (length text + 1) place (IsBodyEnd text) r' (decodes_finished step s (fed_all h e) finished) (omega arith) b
+      outcome_at h.read whole (decodes_outcome h.read (length text + 1) place (IsBodyEnd text) r' (decodes_finished step s h.fed finished) (omega arith) b)

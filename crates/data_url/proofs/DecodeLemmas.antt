@@ -1,12 +1,13 @@
 -- A closure that runs over a body, chunk by chunk.
-use Rattle.std.proofs.Common.{◌≡◌, ℕ, ◌+◌, ◌<◌, ◌≤◌, List, [], ◌∷◌, ◌++◌, Bor, true, length, take, Option, None, Some, Result, Ok, Err, refl, sym, ap, ◌∙◌, subst, append_assoc, arith, length-append}
+use Rattle.std.proofs.Common.{◌≡◌, ℕ, ◌+◌, ◌<◌, ◌≤◌, List, [], ◌∷◌, ◌++◌, Bor, true, length, take, drop, Option, None, Some, Result, Ok, Err, refl, sym, ap, ◌∙◌, subst, append_assoc, arith, length-append}
 use Rattle.std.specs.Prelude.{MatchOption}
 use Rattle.std.proofs.lemmas.List.{append-nil, length-take-le}
 use Rattle.data_url.specs.Errors.{IsRefused}
 use Rattle.data_url.specs.Run.{Call, IsRun, joined, refusal}
 use Rattle.data_url.specs.Fetch.{Good, outcome_bytes, plain_body}
 use Rattle.data_url.specs.Pieces.{Walk, begins}
-use Rattle.data_url.specs.Steps.Chunks.{IsChunk}
+use Rattle.data_url.specs.Base64.{compact}
+use Rattle.data_url.specs.Steps.Chunks.{IsBase64Chunk, IsChunk}
 use Rattle.data_url.specs.Steps.Tail.{IsBodyEnd}
 use Rattle.data_url.specs.DataUrl.{Decodes, HandsOut}
 use Rattle.data_url.specs.declared.escapes.Chunk.{Chunk}
@@ -44,6 +45,38 @@ walk_over {w} {w'} {room} {chunk} h e =
     let C : Chunk → Type 0 = λ x. IsChunk w room x w' in
     let k : IsChunk w room End w' = subst C e h in
     (k.bytes ∙ k.filled.1, k.filled.0, k.text_stays)
+
+-- a chunk of base64 is the bytes of the body that come next, but for white space
+pub record TakesSpaced (w : Walk) (bytes : List ℕ) (w' : Walk) : Type 0 where
+  pub text_stays : w'.text ≡ w.text
+  pub rest_is : compact w.rest ≡ compact bytes ++ compact w'.rest
+  pub rest_of : w'.rest ≡ plain_body (drop w'.place w'.text)
+  pub place : w.place + length bytes ≤ w'.place
+  pub within : w'.place ≤ length w'.text
+  pub some : 0 < length bytes
+
+pub spaced_slice : {w w' : Walk} {room piece : List ℕ} {chunk : Chunk} (slice : Bor (List ℕ)) → IsBase64Chunk w room chunk w' → chunk ≡ Slice slice → piece ≡ slice.now → TakesSpaced w piece w'
+spaced_slice {w} {w'} {room} {piece} {chunk} slice h e p =
+    let C : Chunk → Type 0 = λ x. IsBase64Chunk w room x w' in
+    let k : IsBase64Chunk w room (Slice slice) w' = subst C e h in
+    let T : List ℕ → Type 0 = λ x. TakesSpaced w x w' in
+    subst T (sym p) (record { text_stays = k.text_stays; rest_is = k.bytes; rest_of = k.rest_is; place = k.place; within = k.within; some = k.filled })
+
+pub spaced_gathered : {w w' : Walk} {room piece : List ℕ} {chunk : Chunk} (len : ℕ) → IsBase64Chunk w room chunk w' → chunk ≡ Gathered len → piece ≡ take len room → TakesSpaced w piece w'
+spaced_gathered {w} {w'} {room} {piece} {chunk} len h e p =
+    let C : Chunk → Type 0 = λ x. IsBase64Chunk w room x w' in
+    let k : IsBase64Chunk w room (Gathered len) w' = subst C e h in
+    let T : List ℕ → Type 0 = λ x. TakesSpaced w x w' in
+    let f = k.filled in
+    let long : length (take len room) ≡ len = length-take-le len room f.1 in
+    subst T (sym p) (record { text_stays = k.text_stays; rest_is = k.bytes; rest_of = k.rest_is; place = k.place; within = k.within; some = omega (arith, f.0, long) })
+
+pub spaced_over : {w w' : Walk} {room : List ℕ} {chunk : Chunk} → IsBase64Chunk w room chunk w' → chunk ≡ End → (compact w.rest ≡ []) × (w'.ended ≡ true) × (w'.text ≡ w.text)
+unfolding compact
+spaced_over {w} {w'} {room} {chunk} h e =
+    let C : Chunk → Type 0 = λ x. IsBase64Chunk w room x w' in
+    let k : IsBase64Chunk w room End w' = subst C e h in
+    (k.bytes ∙ ap compact k.filled.1, k.filled.0, k.text_stays)
 
 pub match_is_some : {A : Type 0} (o : Option A) (x : A) (P : Type 0) (Q : A → Type 0) → o ≡ Some x → Q x → MatchOption o P Q
 match_is_some None x P Q e q = absurd (some_not_none x (sym e))

@@ -28,7 +28,7 @@ groups_length (p ∷ q ∷ []) = omega arith
 groups_length (p ∷ q ∷ r ∷ []) = omega arith
 groups_length (p ∷ q ∷ r ∷ s ∷ rest) = omega (arith, groups_length rest)
 
-whole_length : (x : List ℕ) → length x % 4 ≡ 0 → 4 * length (groups x) ≡ 3 * length x
+pub whole_length : (x : List ℕ) → length x % 4 ≡ 0 → 4 * length (groups x) ≡ 3 * length x
 unfolding groups
 whole_length [] h = omega arith
 whole_length (p ∷ []) h = absurd (omega arith)

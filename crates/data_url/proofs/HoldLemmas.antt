@@ -1,5 +1,5 @@
 -- Feeding while bytes wait to be handed out together.
-use Rattle.std.proofs.Common.{◌≡◌, ℕ, ◌+◌, ◌-◌, ◌%◌, ◌<◌, ◌≤◌, Bool, true, false, cond, min, ◌||◌, inl, inr, List, [], ◌∷◌, ◌++◌, length, map, drop, get_or, take, take-add, Option, None, Some, is_some, Result, Ok, Err, refl, ap, ap₂, sym, ◌∙◌, subst, arith, append_assoc, length-append}
+use Rattle.std.proofs.Common.{◌≡◌, ℕ, ◌+◌, ◌-◌, ◌%◌, ◌<◌, ◌≤◌, Fits, w8, length-drop, length-take, length-take-le, Bool, true, false, cond, min, ◌||◌, inl, inr, List, [], ◌∷◌, ◌++◌, length, map, drop, get_or, take, take-add, Option, None, Some, is_some, Result, Ok, Err, refl, ap, ap₂, sym, ◌∙◌, subst, arith, append_assoc, length-append}
 use Rattle.std.specs.Prelude.{MatchResult, is_err}
 use Rattle.std.specs.List.{filter, list_all}
 use Rattle.std.proofs.lemmas.Bool.{and_parts, or_cases, true≢false}
@@ -16,7 +16,8 @@ use Rattle.data_url.specs.declared.forgiving_base64.DecodeError.{DecodeError}
 use Rattle.data_url.specs.declared.forgiving_base64.DecodeError.TheVariants.{InvalidBase64, WriteError}
 use Rattle.data_url.proofs.ByteLemmas.{adds_text, fault_space, fault_symbol, has_sign, one_call, told_call}
 use Rattle.data_url.proofs.DecoderLemmas.{feeds_stop, feeds_then, left_goes_on}
-use Rattle.data_url.proofs.FillLemmas.{groups_length}
+use Rattle.data_url.specs.Steps.Lanes.{value_of}
+use Rattle.data_url.proofs.FillLemmas.{fill_symbols, groups_length, whole_length}
 use Rattle.data_url.proofs.RunLemmas.{joined-append, match_at, match_none, match_some, refusal-append, run-append}
 use Rattle.data_url.proofs.PaddingLemmas.{classes, fault-append, fault_byte, is_sign, length-after_groups}
 use Rattle.data_url.proofs.WalkLemmas.{space_alone, symbol_alone}
@@ -272,3 +273,36 @@ module _ {F E : Type 0} (step : F → List ℕ → Result (Unit {0}) E → F →
   -- the end of the text
   pub end_feeds : {d d1 d2 : State F} {r : Result (Unit {0}) (DecodeError E)} (s : List ℕ) (at : ℕ) (held : List ℕ) → length s ≤ at → Holds step d (take at s) held d1 → Flushes step d1 held r d2 → Feeds step d s r d2
   end_feeds {d} {d1} {d2} {r} s at held over h f = let P : List ℕ → Type 0 = λ t. Feeds step d t r d2 in subst P (take_all at s over) (flushed_feeds step held h f)
+
+  -- a block of symbols, where nothing is held and nothing came before it that it could belong to
+  pub block_gains : {d d1 : State F} {bytes : List ℕ} (s : List ℕ) (at : ℕ) → ((i : ℕ) → Fits w8 (get_or s i 0)) → Holds step d (take at s) [] d1 → d1.symbols ≡ [] → d1.padding ≡ 0 → at + 64 ≤ length s
+      → true ≡ list_all is_symbol (take 64 (take (length s - at) (drop at s))) → bytes ≡ groups (map value_of (take 64 (take (length s - at) (drop at s)))) → Holds step d (take (at + 64) s) bytes d1
+  block_gains {d} {d1} {bytes} s at fits h is_q is_p far all is =
+      let block = take (length s - at) (drop at s) in
+      let same : block ≡ drop at s = take_rest s at in
+      let long : 64 ≤ length block = omega (arith, ap length same, length-drop at s) in
+      let fit : (i : ℕ) → Fits w8 (get_or block i 0) = λ i. subst (Fits w8) (sym (ap (λ l. get_or l i 0) same ∙ get_or-drop at s i 0)) (fits (at + i)) in
+      let made = groups (map value_of (take 64 block)) in
+      let short : length made ≤ 48 = omega (arith, groups_length (map value_of (take 64 block)), length-map (take 64 block) value_of, length-take 64 block) in
+      let P : List ℕ → Type 0 = λ l. Fills [] block 64 l in
+      gains_holds s at h (gains_groups 64 (omega arith) is_q is_p h.going (subst P (take_all 48 made short ∙ sym is) (fill_symbols [] block 16 long (omega arith) fit (sym all))))
+
+  block_full : {bytes : List ℕ} (block : List ℕ) → 64 ≤ length block → bytes ≡ groups (map value_of (take 64 block)) → length bytes ≡ 48
+  block_full {bytes} block long is = omega (arith, ap length is, whole_length (map value_of (take 64 block)) (omega (arith, length-map (take 64 block) value_of, length-take-le 64 block long)), length-map (take 64 block) value_of, length-take-le 64 block long)
+
+  -- a block that was handed out
+  pub block_holds : {d d1 d2 : State F} {bytes : List ℕ} (s : List ℕ) (at : ℕ) → ((i : ℕ) → Fits w8 (get_or s i 0)) → Holds step d (take at s) [] d1 → d1.symbols ≡ [] → d1.padding ≡ 0 → at + 64 ≤ length s
+      → true ≡ list_all is_symbol (take 64 (take (length s - at) (drop at s))) → bytes ≡ groups (map value_of (take 64 (take (length s - at) (drop at s)))) → CallsOnce step d1 bytes (Ok tt) d2 → Holds step d (take (at + 64) s) [] d2
+  block_holds s at fits h is_q is_p far all is w =
+      let block = take (length s - at) (drop at s) in
+      let long : 64 ≤ length block = omega (arith, ap length (take_rest s at), length-drop at s) in
+      written_holds step (block_full block long is) (block_gains s at fits h is_q is_p far all is) w
+
+  -- a block that was refused
+  pub block_refused : {d d1 d2 : State F} {bytes : List ℕ} {x : DecodeError E} (s : List ℕ) (at : ℕ) → ((i : ℕ) → Fits w8 (get_or s i 0)) → Holds step d (take at s) [] d1 → d1.symbols ≡ [] → d1.padding ≡ 0 → at + 64 ≤ length s
+      → true ≡ list_all is_symbol (take 64 (take (length s - at) (drop at s))) → bytes ≡ groups (map value_of (take 64 (take (length s - at) (drop at s)))) → CallsOnce step d1 bytes (Err x) d2 → Feeds step d s (Err x) d2
+  block_refused {bytes = bytes} s at fits h is_q is_p far all is w =
+      let block = take (length s - at) (drop at s) in
+      let long : 64 ≤ length block = omega (arith, ap length (take_rest s at), length-drop at s) in
+      let held = block_gains s at fits h is_q is_p far all is in
+      feeds_stop step s (at + 64) (written_feeds step held (omega (arith, held.calls, block_full block long is)) w)

@@ -7,7 +7,7 @@ use Rattle.std.proofs.lemmas.Nat.{and_le_r}
 use Rattle.std.proofs.lemmas.Simd.{SwzOk, SwzOk-from_below, get_or_narrower, get_or-swz_l_below, length-swz_l, pick_l_whole, swz_l}
 use lib.Lanes.{Each1, digits_l, number_l, pair_sums, pick_l, products, sel_l, zip2}
 use Rattle.data_url.specs.Base64.{group_bytes, group_number, groups, is_symbol, symbol_value}
-use Rattle.data_url.specs.Steps.Lanes.{mark_of, numbers, value_of}
+use Rattle.data_url.specs.Steps.Lanes.{mark_of, numbers, offset_row, value_of}
 use Rattle.data_url.specs.declared.forgiving_base64.lanes.TheConstants.{OFFSETS}
 
 -- Lanes that were computed from v
@@ -74,7 +74,7 @@ value_is b l s =
     eqb-true (value_of b) (symbol_value b) (sym (ap (λ t. cond t (eqb (value_of b) (symbol_value b)) true) s) ∙ same)
 
 value_below : (b : ℕ) → value_of b < 64
-value_below b = omega (arith, and_le_r ((b + get_or OFFSETS (cond (eqb b 47) 1 (b / 16)) 0) % 256) 63)
+value_below b = omega (arith, and_le_r ((b + get_or OFFSETS (offset_row b) 0) % 256) 63)
 
 pub values_below : (v : List ℕ) → Each1 (λ x. x < 64) (map value_of v)
 values_below [] = tt

@@ -6,6 +6,7 @@ pub mod BodyLemmas
 pub mod BodyVecLemmas
 pub mod ByteLemmas
 pub mod CommaLemmas
+pub mod CompactLemmas
 pub mod CursorLemmas
 pub mod CutLemmas
 pub mod DecodeLemmas
@@ -16,6 +17,7 @@ pub mod FeedLemmas
 pub mod FillLemmas
 pub mod FragmentAgainLemmas
 pub mod FragmentLemmas
+pub mod FreeLemmas
 pub mod GatherLemmas
 pub mod HeadLemmas
 pub mod HeaderLemmas

@@ -67,6 +67,7 @@ chunk_gathered {c} {c'} {room0} {room} {len} g some few =
     record {
       text_stays = g.on.text_stays;
       bytes = g.reads.body ∙ ap (λ s. s ++ plain_body (drop c'.place (text_of c))) (sym bytes) ∙ ap (λ t. take len room ++ plain_body (drop c'.place t)) (sym g.on.text_stays);
+      rest_is = refl;
       place = omega arith;
       within = omega arith;
       filled = (some, few);
@@ -93,6 +94,7 @@ chunk_of {c} {c1} {c2} {room0} {room} {len} {next} given room' g e h b f =
     record {
       text_stays = text;
       bytes = r.body ∙ ap (λ s. s ++ plain_body (drop c2.place (text_of c))) (sym b) ∙ ap (λ t. chunk_bytes room' given ++ plain_body (drop c2.place t)) (sym text);
+      rest_is = refl;
       place = omega arith;
       within = omega arith;
       filled = f;

@@ -46,7 +46,7 @@ where
     let mut pieces = Pieces::new(tail);
     let mut room = [0; ROOM];
     'chunks: loop {
-        let (walk, chunk) = pieces.next_chunk(&mut room);
+        let (walk, chunk) = pieces.next_base64_chunk(&mut room);
         pieces = walk;
         let piece = match chunk {
             Chunk::End => break 'chunks,

@@ -5,7 +5,7 @@ ghost use Rattle.std.specs.Prelude.{◌≡◌, ◌+◌, ◌*◌, ◌≤◌, ◌+
 ghost use Rattle.std.specs.Option.{option_map};
 ghost use Rattle.data_url.specs.Pieces.{IsPiece, begins, bytes_of_next};
 ghost use Rattle.data_url.specs.Url.{behind};
-ghost use Rattle.data_url.specs.Steps.Chunks.{IsChunk};
+ghost use Rattle.data_url.specs.Steps.Chunks.{IsBase64Chunk, IsChunk};
 ghost use Rattle.data_url.specs.Steps.Tail.{IsBodyEnd};
 
 mod cursor;
@@ -114,6 +114,17 @@ impl<'a> Pieces<'a> {
                 room[0] = byte;
                 (self, Chunk::Gathered(1))
             }
+        }
+    }
+
+    /// The next bytes of a body that is base64, where white space means nothing: a stretch of the text with the tabs and
+    /// newlines in it, or what `next_chunk` gives.
+    pub(crate) fn next_base64_chunk(mut self, room: &mut [u8; ROOM]) -> (Pieces<'a>, Chunk<'a>)
+        ensures { IsBase64Chunk self.entry room.new result.1 result.0 }
+    {
+        match self.cursor.next_span() {
+            Some(slice) => (self, Chunk::Slice(slice)),
+            None => self.next_chunk(room),
         }
     }
 

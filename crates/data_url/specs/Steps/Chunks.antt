@@ -1,5 +1,7 @@
 -- The bytes that a walk hands to the one who decodes a body.
-use Rattle.std.specs.Prelude.{[], ◌++◌, ◌+◌, ◌<◌, ◌≡◌, ◌≤◌, List, length, take, true, ℕ}
+use Rattle.std.specs.Prelude.{[], ◌++◌, ◌+◌, ◌<◌, ◌≡◌, ◌≤◌, List, drop, length, take, true, ℕ}
+use Rattle.data_url.specs.Base64.{compact}
+use Rattle.data_url.specs.Fetch.{plain_body}
 use Rattle.data_url.specs.Pieces.{Walk}
 use Rattle.data_url.specs.declared.escapes.Chunk.TheVariants.{End, Gathered, Slice}
 use Rattle.data_url.specs.declared.escapes.Chunk.{Chunk}
@@ -20,6 +22,16 @@ IsFilled room End w = (w.ended ≡ true) × (w.rest ≡ [])
 pub record IsChunk (w : Walk) (room : List ℕ) (chunk : Chunk) (w' : Walk) : Type 0 where
   pub text_stays : w'.text ≡ w.text
   pub bytes : w.rest ≡ chunk_bytes room chunk ++ w'.rest
+  pub rest_is : w'.rest ≡ plain_body (drop w'.place w'.text)
+  pub place : w.place + length (chunk_bytes room chunk) ≤ w'.place
+  pub within : w'.place ≤ length w'.text
+  pub filled : IsFilled room chunk w'
+
+-- the walk w gave a chunk of base64, which is right but for white space, and is w' now
+pub record IsBase64Chunk (w : Walk) (room : List ℕ) (chunk : Chunk) (w' : Walk) : Type 0 where
+  pub text_stays : w'.text ≡ w.text
+  pub bytes : compact w.rest ≡ compact (chunk_bytes room chunk) ++ compact w'.rest
+  pub rest_is : w'.rest ≡ plain_body (drop w'.place w'.text)
   pub place : w.place + length (chunk_bytes room chunk) ≤ w'.place
   pub within : w'.place ≤ length w'.text
   pub filled : IsFilled room chunk w'

@@ -57,3 +57,10 @@ pub record Holds {F E : Type 0} (step : F → List ℕ → Result (Unit {0}) E �
   pub left : IsLeft (left_over d ++ text) d'
   pub calls : 48 * length run + length held ≤ 3 * length text
   pub going : d'.failed ≡ false
+
+-- d took the first so many bytes of the text and handed out all their groups, which was accepted,
+-- and is d' now
+pub record FeedsBlocks {F E : Type 0} (step : F → List ℕ → Result (Unit {0}) E → F → Type 0)
+    (d : State F) (text : List ℕ) (taken : ℕ) (d' : State F) : Type 0 where
+  pub within : taken ≤ length text
+  pub holds : Holds step d (take taken text) [] d'

@@ -7,9 +7,13 @@ use Rattle.data_url.specs.declared.forgiving_base64.lanes.TheConstants.{HIGH_HAL
 abbrev pub mark_of : ℕ → ℕ
 mark_of b = bit_and (slice_index LOW_HALVES (bit_and b 15)) (slice_index HIGH_HALVES (b / 16))
 
+-- the place of the offset of a byte: its high half, which is 2 for '/', or else 1 for '/'
+abbrev pub offset_row : ℕ → ℕ
+offset_row b = (b / 16 + (if b == 47 then 255 else 0)) % 256
+
 -- the value of a symbol, and some number below 64 for another byte
 abbrev pub value_of : ℕ → ℕ
-value_of b = bit_and ((b + slice_index OFFSETS (if b == 47 then 1 else b / 16)) % 256) 63
+value_of b = bit_and ((b + slice_index OFFSETS (offset_row b)) % 256) 63
 
 -- the number of each whole group of four values
 abbrev pub numbers : List ℕ → List ℕ

@@ -4,7 +4,7 @@ ghost use Rattle.std.specs.Prelude.{ℕ, ◌≡◌, ◌+◌, ◌-◌, ◌^◌, �
 ghost use Rattle.std.specs.Option.{option_map};
 ghost use Rattle.data_url.specs.Pieces.{IsPiece, IsStretch, bytes_of};
 ghost use Rattle.data_url.specs.Url.{behind};
-ghost use Rattle.data_url.specs.Steps.Walk.{Ended, EscapeAt, Gathers, GoesOn, HasRoom, IsGathered, IsNear, IsNextMark, IsPlain, IsStop, IsWide, KeepsBlock, Knows, KnowsAhead, Looking, LooksOn, MayGather, Moves, Stays, has_ended, text_of};
+ghost use Rattle.data_url.specs.Steps.Walk.{Ended, EscapeAt, Gathers, GoesOn, HasRoom, IsGathered, IsNear, IsNextMark, IsPlain, IsStop, IsFreeTo, IsWide, KeepsBlock, Knows, KnowsAhead, Looking, LooksOn, MayGather, Moves, Spans, Stays, has_ended, text_of};
 ghost use Rattle.data_url.specs.Steps.Window.{is_marked};
 
 use super::Piece;
@@ -111,14 +111,41 @@ impl<'a> Cursor<'a> {
         ensures mark { IsNextMark (text_of self.old) from result }
         ensures bound { length (text_of self.old) < 2 ^ 64 }
     {
+        let _len = self.source.len();
         let mut place = from;
-        while place < self.source.len() {
-            self.see(place);
+        if place < self.seen {
             let marks = self.marks >> (place - self.base);
             if marks != 0 {
                 return place + marks.trailing_zeros() as usize;
             }
             place = self.seen;
+        }
+        self.next_unseen_mark(place)
+    }
+
+    /// The same, where the walk looked at no byte from the place on. The block that is kept is that with the mark, and no
+    /// block before it.
+    #[inline(always)]
+    fn next_unseen_mark(&mut self, from: usize) -> usize
+        requires unseen { self.old.seen ≤ from }
+        requires looking { Looking self.old from 0 }
+        ensures looking { Looking self.new result 0 }
+        ensures stays { Stays self.old self.new }
+        ensures mark { IsNextMark (text_of self.old) from result }
+        ensures bound { length (text_of self.old) < 2 ^ 64 }
+    {
+        let mut place = from;
+        while place < self.source.len() {
+            let end = place + (self.source.len() - place).min(BLOCK);
+            match self.source.look_for_marks(place) {
+                None => place = end,
+                Some(marks) => {
+                    self.base = place;
+                    self.seen = end;
+                    self.marks = marks;
+                    return place + marks.trailing_zeros() as usize;
+                }
+            }
         }
         place
     }
@@ -257,6 +284,51 @@ impl<'a> Cursor<'a> {
         self.place = next;
         self.ahead = ahead;
         Piece::Slice(slice)
+    }
+
+    /// A place up to which the text has neither `#` nor `%`, from the place on. It is the end, or that of a block with one.
+    #[inline(always)]
+    fn free_end(&mut self) -> usize
+        requires unseen { self.old.seen ≤ self.old.place }
+        requires looking { Looking self.old self.old.place 0 }
+        ensures looking { Looking self.new result 0 }
+        ensures stays { Stays self.old self.new }
+        ensures free { IsFreeTo (text_of self.old) self.old.place result }
+    {
+        let mut place = self.place;
+        while place < self.source.len() {
+            let end = place + (self.source.len() - place).min(BLOCK);
+            match self.source.look_past(place) {
+                None => place = end,
+                Some(marks) => {
+                    self.base = place;
+                    self.seen = end;
+                    self.marks = marks;
+                    return place;
+                }
+            }
+        }
+        place
+    }
+
+    /// The text from the place on, tabs and newlines included, up to a place before which no `#` and no `%` stands: of base64,
+    /// where white space means nothing. None where it is not known that there is such a text.
+    #[inline(always)]
+    pub(super) fn next_span(&mut self) -> Option<&'a [u8]>
+        requires { Knows self.old }
+        ensures knows { Knows self.new }
+        ensures spans { Spans self.old result self.new }
+    {
+        let place = self.place;
+        if !matches!(self.ahead, Ahead::Unknown) || place < self.seen {
+            return None;
+        }
+        let end = self.free_end();
+        if end == place {
+            return None;
+        }
+        self.place = end;
+        Some(self.source.cut(place, end))
     }
 
     /// Gathers the bytes of the next pieces in a room while they come in short stretches, and answers how many. None are

@@ -1,11 +1,12 @@
 //! The text of a body, whose bytes are examined through counted looks alone.
 
-ghost use Rattle.std.specs.Prelude.{◌≡◌, IsTrue, ◌+◌, ◌-◌, ◌^◌, ◌++◌, ◌<◌, ◌≤◌, drop, length, map, min, slice_index, slice_range, take};
+ghost use Rattle.std.specs.Prelude.{◌≡◌, ◌≢◌, IsTrue, MatchOption, ◌+◌, ◌-◌, ◌^◌, ◌++◌, ◌<◌, ◌≤◌, drop, length, map, min, slice_index, slice_range, take};
 ghost use Rattle.std.specs.Simd.Lanes.{mask_l};
-ghost use Rattle.data_url.specs.Steps.Window.{is_marked};
+ghost use Rattle.data_url.specs.Steps.Window.{IsFree, is_marked};
+ghost use Rattle.data_url.specs.Steps.Walk.{IsClear};
 
 use super::cursor::ROOM;
-use super::lanes::{BLOCK, marks_of};
+use super::lanes::{BLOCK, has_marks, marks_of, may_stop};
 use super::looks::Looks;
 use std::mem::replace;
 use std::simd::prelude::*;
@@ -79,6 +80,57 @@ impl<'a> Source<'a> {
         }
         self.looks.count(BLOCK);
         marks_of(u8x64::from_slice(&rest[..BLOCK]))
+    }
+
+    /// The same where the block has a mark, or None where it has none. Each of its bytes counts as a look.
+    #[inline(always)]
+    pub(super) fn look_for_marks(&mut self, place: usize) -> Option<u64>
+        requires { place ≤ length self.old.text.now }
+        ensures marks { let end = min (place + 64) (length self.old.text.now) in
+            MatchOption result (IsClear self.old.text.now place end)
+            (λ marks. (marks ≡ mask_l (map is_marked (slice_range self.old.text.now place end)))
+            × (marks ≢ 0)) }
+        ensures text { self.new.text.now ≡ self.old.text.now }
+        ensures looks { let end = min (place + 64) (length self.old.text.now) in
+            self.new.looks ≡ self.old.looks + (end - place) }
+    {
+        let rest = &self.text.as_bytes()[place..];
+        self.looks.count(rest.len().min(BLOCK));
+        if rest.len() < BLOCK {
+            let marks = last_marks(rest);
+            return if marks == 0 { None } else { Some(marks) };
+        }
+        let block = u8x64::from_slice(&rest[..BLOCK]);
+        if has_marks(block) {
+            Some(marks_of(block))
+        } else {
+            None
+        }
+    }
+
+    /// The marks of such a block where it has `#` or `%`, or None where it has neither. Each of its bytes counts as a look.
+    #[inline(always)]
+    pub(super) fn look_past(&mut self, place: usize) -> Option<u64>
+        requires { place ≤ length self.old.text.now }
+        ensures marks { let end = min (place + 64) (length self.old.text.now) in
+            MatchOption result (IsFree self.old.text.now place end)
+            (λ marks. marks ≡ mask_l (map is_marked (slice_range self.old.text.now place end))) }
+        ensures text { self.new.text.now ≡ self.old.text.now }
+        ensures looks { let end = min (place + 64) (length self.old.text.now) in
+            self.new.looks ≡ self.old.looks + (end - place) }
+    {
+        let rest = &self.text.as_bytes()[place..];
+        self.looks.count(rest.len().min(BLOCK));
+        if rest.len() < BLOCK {
+            let marks = last_marks(rest);
+            return if marks == 0 { None } else { Some(marks) };
+        }
+        let block = u8x64::from_slice(&rest[..BLOCK]);
+        if may_stop(block) {
+            Some(marks_of(block))
+        } else {
+            None
+        }
     }
 
     /// A stretch of the text, to be handed out. None of its bytes is looked at.

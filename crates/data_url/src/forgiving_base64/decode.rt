@@ -5,6 +5,7 @@ ghost use Rattle.std.specs.List.{list_all};
 ghost use Rattle.data_url.specs.Base64.{is_symbol};
 
 use super::alphabet::{group_of, is_symbol, rest_of_three, rest_of_two};
+use super::blocks::{decode, is_whole};
 use super::held::{Held, ROOM};
 use super::{DecodeError, InvalidBase64, InvalidBase64Details};
 
@@ -43,7 +44,7 @@ where
     ghost use Rattle.data_url.specs.InvalidBase64.{kind_of_details};
     ghost use Rattle.data_url.specs.Steps.Calls.{CallsOnce};
     ghost use Rattle.data_url.specs.Steps.HeldState.{held_bytes};
-    ghost use Rattle.data_url.specs.Steps.Holding.{Adds, Flushes, Gains, Refuses, bytes_in};
+    ghost use Rattle.data_url.specs.Steps.Holding.{Adds, FeedsBlocks, Flushes, Gains, Refuses, bytes_in};
 
     /// A decoder that has seen nothing yet, and hands its bytes to the closure. The closure has to be one that may be
     /// called on any bytes, whatever it was called with before.
@@ -244,6 +245,36 @@ where
         Ok(())
     }
 
+    /// Hands out the blocks of 64 symbols that a text begins with, each as one piece, where nothing came before them that
+    /// they could belong to. It answers how many bytes of the text they take.
+    #[inline(always)]
+    fn feed_blocks(&mut self, text: &[u8]) -> Result<usize, DecodeError<E>>
+        requires callable { F.IsAlwaysCallable (state_of self.old).closure }
+        requires going { (state_of self.old).failed ≡ false }
+        ensures callable { F.IsAlwaysCallable (state_of self.new).closure }
+        ensures fed { MatchResult result
+            (λ taken. FeedsBlocks (CalledAt F.FnMut) (state_of self.old) text.now taken
+            (state_of self.new))
+            (λ error. Feeds (CalledAt F.FnMut) (state_of self.old) text.now (Err error)
+            (state_of self.new)) }
+    {
+        let mut at = 0;
+        if self.pending > 0 || self.padding > 0 {
+            return Ok(0);
+        }
+        while text.len() - at >= 64 {
+            let rest = &text[at..];
+            if !is_whole(rest) {
+                return Ok(at);
+            }
+            match self.write(&decode(rest)) {
+                Ok(()) => at += 64,
+                Err(error) => return Err(error),
+            }
+        }
+        Ok(at)
+    }
+
     /// Feeds a text, and hands out the bytes of up to sixteen groups as one piece.
     fn feed_many(&mut self, input: &[u8]) -> Result<(), DecodeError<E>>
         requires callable { F.IsAlwaysCallable (state_of self.old).closure }
@@ -252,8 +283,11 @@ where
         ensures fed { Feeds (CalledAt F.FnMut) (state_of self.old) input.now result
             (state_of self.new) }
     {
+        let mut at = match self.feed_blocks(input) {
+            Ok(taken) => taken,
+            Err(error) => return Err(error),
+        };
         let mut held = Held::new();
-        let mut at = 0;
         while at < input.len() {
             match self.take_some(&input[at..], &mut held) {
                 Ok(taken) => at += taken,

@@ -40,7 +40,7 @@ fn values_of(bytes: u8x16) -> u8x16
     ensures { result ≡ map value_of bytes }
 {
     let is_slash = bytes.simd_eq(u8x16::splat(b'/'));
-    let rows = is_slash.select(u8x16::splat(1), bytes >> u8x16::splat(4));
+    let rows = (bytes >> u8x16::splat(4)) + is_slash.select(u8x16::splat(255), u8x16::splat(0));
     (bytes + u8x16::from_array(OFFSETS).swizzle_dyn(rows)) & u8x16::splat(63)
 }
 

@@ -4,7 +4,7 @@ use Rattle.data_url.specs.Decoder.{start, state_of}
 use Rattle.data_url.specs.Steps.Tail.{IsBodyEnd}
 use Rattle.data_url.proofs.ByteLemmas.{feeds_none}
 use Rattle.data_url.proofs.Base64BodyLemmas.{fed_ended, fed_more, fed_none, fed_refused}
-use Rattle.data_url.proofs.DecodeLemmas.{Takes, takes_gathered, takes_slice, walk_over}
+use Rattle.data_url.proofs.DecodeLemmas.{TakesSpaced, spaced_gathered, spaced_over, spaced_slice}
 use Rattle.data_url.proofs.body.decode_base64.Goals as goal
 use Rattle.data_url.proofs.body.decode_base64.Goals.{in-Slice, in-Gathered}
 
@@ -16,28 +16,28 @@ chunks-init g c =
 
 pub chunks-preserved : goal.chunks-preserved
 chunks-preserved g c =
-    let takes : Takes c.chunks.pieces c.match-chunk.piece.now c.next_chunk-walk.result.0 = elim c.match-chunk.branch [
-      | in-Slice w ↦ takes_slice w.in-Slice.slice c.next_chunk-walk.ensures w.in-Slice.is (ap (λ (b : Bor (List ℕ)). b.now) w.piece-is)
-      | in-Gathered w ↦ takes_gathered w.in-Gathered.len c.next_chunk-walk.ensures w.in-Gathered.is (ap (λ (b : Bor (List ℕ)). b.now) w.piece-is)
+    let takes : TakesSpaced c.chunks.pieces c.match-chunk.piece.now c.next_base64_chunk-walk.result.0 = elim c.match-chunk.branch [
+      | in-Slice w ↦ spaced_slice w.in-Slice.slice c.next_base64_chunk-walk.ensures w.in-Slice.is (ap (λ (b : Bor (List ℕ)). b.now) w.piece-is)
+      | in-Gathered w ↦ spaced_gathered w.in-Gathered.len c.next_base64_chunk-walk.ensures w.in-Gathered.is (ap (λ (b : Bor (List ℕ)). b.now) w.piece-is)
     ] in
     (c.feed.ensures.callable, c.in-Ok.ensures.fed.failed, fed_more (CalledAt g.F.FnMut) c.chunks.invariant.2 takes c.in-Ok.ensures.fed)
 
 pub returns-in-Err : goal.returns-in-Err
 returns-in-Err g c =
-    let takes : Takes c.chunks.pieces c.match-chunk.piece.now c.next_chunk-walk.result.0 = elim c.match-chunk.branch [
-      | in-Slice w ↦ takes_slice w.in-Slice.slice c.next_chunk-walk.ensures w.in-Slice.is (ap (λ (b : Bor (List ℕ)). b.now) w.piece-is)
-      | in-Gathered w ↦ takes_gathered w.in-Gathered.len c.next_chunk-walk.ensures w.in-Gathered.is (ap (λ (b : Bor (List ℕ)). b.now) w.piece-is)
+    let takes : TakesSpaced c.chunks.pieces c.match-chunk.piece.now c.next_base64_chunk-walk.result.0 = elim c.match-chunk.branch [
+      | in-Slice w ↦ spaced_slice w.in-Slice.slice c.next_base64_chunk-walk.ensures w.in-Slice.is (ap (λ (b : Bor (List ℕ)). b.now) w.piece-is)
+      | in-Gathered w ↦ spaced_gathered w.in-Gathered.len c.next_base64_chunk-walk.ensures w.in-Gathered.is (ap (λ (b : Bor (List ℕ)). b.now) w.piece-is)
     ] in
     rw c.into_closure.ensures (fed_refused (CalledAt g.F.FnMut) refl c.chunks.invariant.2 takes c.in-Err.ensures.fed)
 
 pub returns-in-Ok-answer : goal.returns-in-Ok-answer
 returns-in-Ok-answer g c =
-    let over = walk_over c.next_chunk-walk.ensures c.in-End.is in
+    let over = spaced_over c.next_base64_chunk-walk.ensures c.in-End.is in
     let P : List ℕ → Type 0 = λ t. IsBodyEnd t c.end.result in
     let end : IsBodyEnd c.args.tail.now c.end.result = subst P (over.2 ∙ c.chunks.invariant.2.text_is) c.end.ensures in
     fed_ended (CalledAt g.F.FnMut) c.end.result refl c.chunks.invariant.2 over.0 (λ _. end) c.finish_with-answer.ensures.finished c.in-Ok-answer.is
 
 pub returns : goal.returns
 returns g c =
-    let over = walk_over c.next_chunk-walk.ensures c.in-End.is in
+    let over = spaced_over c.next_base64_chunk-walk.ensures c.in-End.is in
     fed_ended (CalledAt g.F.FnMut) 0 refl c.chunks.invariant.2 over.0 (λ e. absurd (cc)) c.finish_with-answer.ensures.finished c.in-Err-answer.is

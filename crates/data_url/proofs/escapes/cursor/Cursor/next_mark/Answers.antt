@@ -1,29 +1,39 @@
-use Rattle.std.proofs.Common.{ap, ◌∙◌, length, refl, arith}
-use Rattle.data_url.specs.Steps.Walk.{text_of}
-use Rattle.data_url.proofs.WindowLemmas.{clear_in, clear_then, found, found_none, has_marks, looking_clear, mark_in, mark_then, stays_then}
+use Rattle.std.proofs.Common.{ℕ, arith, refl, subst, sym}
+use Rattle.data_url.specs.Steps.Walk.{IsNextMark, Looking, text_of}
+use Rattle.data_url.proofs.WindowLemmas.{found, found_none, has_marks, looking_clear, mark_then}
 use Rattle.data_url.proofs.escapes.cursor.Cursor.next_mark.Goals as goal
+use Rattle.data_url.proofs.escapes.cursor.Cursor.next_mark.Goals.{then-place-self+else-marks-ne0, else-place-self}
 
 pub overflow_add-result : goal.overflow_add-result
 overflow_add-result c =
-    let f = found (has_marks c.see.ensures.looking (omega arith) refl) c.if-marks-ne0.true refl in
+    let f = found (has_marks c.requires (omega (arith, c.if-place-self.true)) refl) c.if-marks-ne0.true refl in
     let w = f.mark.within in
-    let e = ap length c.see.ensures.stays.on.text_stays in
-    omega arith
+    omega (arith, w, c.len-len.ensures)
 
 pub returns-then-marks-ne0-clause-looking : goal.returns-then-marks-ne0-clause-looking
 returns-then-marks-ne0-clause-looking c =
-    let f = found (has_marks c.see.ensures.looking (omega arith) refl) c.if-marks-ne0.true refl in
-    looking_clear _ c.see.ensures.looking f.mark.forward f.mark.within f.mark.clear
+    let f = found (has_marks c.requires (omega (arith, c.if-place-self.true)) refl) c.if-marks-ne0.true refl in
+    looking_clear _ c.requires f.mark.forward f.mark.within f.mark.clear
 
 pub returns-then-marks-ne0-clause-mark : goal.returns-then-marks-ne0-clause-mark
 returns-then-marks-ne0-clause-mark c =
-    let f = found (has_marks c.see.ensures.looking (omega arith) refl) c.if-marks-ne0.true refl in
-    let same = c.see.ensures.stays.on.text_stays ∙ c.loop-place.invariant.1.on.text_stays in
-    mark_then c.loop-place.invariant.2 c.loop-place.invariant.3 (mark_in same f.mark)
+    let f = found (has_marks c.requires (omega (arith, c.if-place-self.true)) refl) c.if-marks-ne0.true refl in
+    f.mark
 
-pub loop-place-preserved : goal.loop-place-preserved
-loop-place-preserved c =
-    let none = found_none (has_marks c.see.ensures.looking (omega arith) refl) c.if-marks-ne0.false in
-    let same = c.see.ensures.stays.on.text_stays ∙ c.loop-place.invariant.1.on.text_stays in
-    let seen = c.see.new.self.seen in
-    (looking_clear seen c.see.ensures.looking (omega arith) c.see.ensures.looking.block.seen_le none, stays_then c.loop-place.invariant.1 c.see.ensures.stays, omega arith, clear_then (text_of c.args.self.now) c.args.from c.loop-place.place seen c.loop-place.invariant.3 (clear_in c.loop-place.place seen same none))
+pub next_unseen_mark-requires-clause-looking : goal.next_unseen_mark-requires-clause-looking
+next_unseen_mark-requires-clause-looking c = elim c.if-place-self.branch [
+  | then-place-self+else-marks-ne0 w ↦
+      let none = found_none (has_marks c.requires (omega (arith, w.if-place-self.true)) refl) w.if-marks-ne0.false in
+      let P : ℕ → Type 0 = λ p. Looking c.args.self.now p 0 in
+      subst P (sym w.place-is) (looking_clear c.args.self.now.seen c.requires (omega (arith, w.if-place-self.true)) c.requires.block.seen_le none)
+  | else-place-self w ↦ let P : ℕ → Type 0 = λ p. Looking c.args.self.now p 0 in subst P (sym w.place-is) c.requires
+]
+
+pub returns-clause-mark : goal.returns-clause-mark
+returns-clause-mark c = elim c.if-place-self.branch [
+  | then-place-self+else-marks-ne0 w ↦
+      let none = found_none (has_marks c.requires (omega (arith, w.if-place-self.true)) refl) w.if-marks-ne0.false in
+      let P : ℕ → Type 0 = λ p. IsNextMark (text_of c.args.self.now) p c.next_unseen_mark.result in
+      mark_then (omega (arith, w.if-place-self.true)) none (subst P w.place-is c.next_unseen_mark.ensures.mark)
+  | else-place-self w ↦ let P : ℕ → Type 0 = λ p. IsNextMark (text_of c.args.self.now) p c.next_unseen_mark.result in subst P w.place-is c.next_unseen_mark.ensures.mark
+]

@@ -1,0 +1,260 @@
+//! The rows of the table, each with its text.
+
+use crate::{ours, theirs, Call};
+
+pub struct Row {
+    pub name: String,
+    pub text: Vec<u8>,
+    pub ours: Call,
+    pub theirs: Call,
+    /// Calls that show what the timed ones found, where those show nothing.
+    pub shows_ours: Call,
+    pub shows_theirs: Call,
+    /// Whether the timed call is given room, as one whose closure writes there.
+    pub is_timed_with_room: bool,
+    /// Whether one call takes seconds.
+    pub is_slow: bool,
+}
+
+const SIZES: [(usize, &str); 3] = [(1 << 10, "1K"), (1 << 16, "64K"), (1 << 22, "4M")];
+
+const ALPHABET: &[u8; 64] = b"ABCDEFGHIJKLMNOPQRSTUVWXYZabcdefghijklmnopqrstuvwxyz0123456789+/";
+
+/// Numbers that look random, the same at each run.
+struct Numbers(u64);
+
+impl Numbers {
+    fn below(&mut self, end: usize) -> usize {
+        self.0 = self
+            .0
+            .wrapping_mul(6364136223846793005)
+            .wrapping_add(1442695040888963407);
+        (self.0 >> 33) as usize % end
+    }
+
+    fn letter(&mut self) -> u8 {
+        b' ' + 6 + self.below(80) as u8
+    }
+
+    fn escape(&mut self) -> [u8; 3] {
+        let digits = b"0123456789ABCDEF";
+        [b'%', digits[self.below(16)], digits[self.below(16)]]
+    }
+}
+
+/// Base64 of so many symbols, a multiple of four, in lines of so many, or in one line.
+fn base64(len: usize, line: usize) -> Vec<u8> {
+    let mut numbers = Numbers(7);
+    let mut text = vec![];
+    for place in 0..len / 4 * 4 {
+        if line > 0 && place > 0 && place % line == 0 {
+            text.push(b'\n');
+        }
+        text.push(ALPHABET[numbers.below(64)]);
+    }
+    text
+}
+
+/// A body of so many bytes, of which about so many in a hundred that it stands for are escapes.
+fn escaped(len: usize, percent: usize) -> Vec<u8> {
+    let mut numbers = Numbers(11);
+    let mut text = vec![];
+    while text.len() < len {
+        if numbers.below(100) < percent {
+            text.extend(numbers.escape());
+        } else {
+            text.push(numbers.letter());
+        }
+    }
+    text
+}
+
+/// A percent-encoded drawing: escapes with 3 to 20 bytes between them.
+fn svg(len: usize) -> Vec<u8> {
+    let mut numbers = Numbers(13);
+    let mut text = vec![];
+    while text.len() < len {
+        text.extend([&b"%3C"[..], b"%22", b"%20", b"%3E"][numbers.below(4)]);
+        for _ in 0..3 + numbers.below(18) {
+            text.push(numbers.letter());
+        }
+    }
+    text
+}
+
+/// A fragment in which about every eighth character has to be encoded.
+fn fragment(len: usize) -> Vec<u8> {
+    let mut numbers = Numbers(17);
+    let mut text = String::new();
+    while text.len() < len {
+        match numbers.below(24) {
+            0 => text.push(' '),
+            1 => text.push('"'),
+            2 => text.push('é'),
+            _ => text.push(numbers.letter() as char),
+        }
+    }
+    text.into_bytes()
+}
+
+fn url(header: &str, body: &[u8]) -> Vec<u8> {
+    [b"data:", header.as_bytes(), b",", body].concat()
+}
+
+fn row(name: String, text: Vec<u8>, ours: Call, theirs: Call) -> Row {
+    Row {
+        name,
+        text,
+        ours,
+        theirs,
+        shows_ours: ours,
+        shows_theirs: theirs,
+        is_timed_with_room: false,
+        is_slow: false,
+    }
+}
+
+/// A row whose closure writes to the room.
+fn into_room(name: String, text: Vec<u8>, ours: Call, theirs: Call) -> Row {
+    Row {
+        is_timed_with_room: true,
+        ..row(name, text, ours, theirs)
+    }
+}
+
+/// Rows of a body: by `decode` and by `decode_to_vec`.
+fn push_bodies(rows: &mut Vec<Row>, name: &str, size: &str, text: Vec<u8>) {
+    let copy = text.clone();
+    rows.push(into_room(
+        format!("{name} {size} decode"),
+        copy,
+        ours::decode,
+        theirs::decode,
+    ));
+    let name = format!("{name} {size} decode_to_vec");
+    rows.push(row(name, text, ours::decode_to_vec, theirs::decode_to_vec));
+}
+
+fn push_processed(rows: &mut Vec<Row>, name: &str, text: Vec<u8>) {
+    rows.push(Row {
+        shows_ours: ours::process_mime,
+        shows_theirs: theirs::process_mime,
+        ..row(
+            format!("{name} process"),
+            text,
+            ours::process,
+            theirs::process,
+        )
+    });
+}
+
+fn push_base64(rows: &mut Vec<Row>) {
+    for (line, kind) in [(0, "clean"), (76, "lines")] {
+        for (len, size) in SIZES {
+            let name = format!("base64 {kind} {size}");
+            let text = base64(len, line);
+            let copy = text.clone();
+            rows.push(row(
+                format!("{name} decode_to_vec"),
+                copy,
+                ours::base64_to_vec,
+                theirs::base64_to_vec,
+            ));
+            rows.push(into_room(
+                format!("{name} feed"),
+                text,
+                ours::base64_feed,
+                theirs::base64_feed,
+            ));
+        }
+    }
+    for (line, kind) in [(0, "clean"), (76, "lines")] {
+        for (len, size) in SIZES {
+            let text = url("image/png;base64", &base64(len, line));
+            push_bodies(rows, &format!("url base64 {kind}"), size, text);
+        }
+    }
+}
+
+fn push_mimes(rows: &mut Vec<Row>) {
+    let five = "text/html;charset=utf-8;a=one;b=two;c=\"three four\";d=five";
+    for (name, text) in [("mime", "text/html;charset=utf-8"), ("mime five", five)] {
+        let text = text.as_bytes().to_vec();
+        let name = format!("{name} parse and print");
+        rows.push(row(name, text, ours::mime_printed, theirs::mime_printed));
+    }
+    push_processed(rows, "header five", url(five, b"x"));
+}
+
+/// A MIME type with so many parameters of different names.
+fn push_parameters(rows: &mut Vec<Row>, count: usize) {
+    let mut text = String::from("a/b");
+    for number in 0..count {
+        text.push_str(&format!(";p{number}=v"));
+    }
+    rows.push(Row {
+        shows_ours: ours::mime_printed,
+        shows_theirs: theirs::mime_printed,
+        is_slow: count > 10_000,
+        ..row(
+            format!("parameters {count}"),
+            text.into_bytes(),
+            ours::mime,
+            theirs::mime,
+        )
+    });
+}
+
+pub fn rows() -> Vec<Row> {
+    let mut rows = vec![];
+    push_base64(&mut rows);
+    for (len, size) in SIZES {
+        push_bodies(
+            &mut rows,
+            "plain",
+            size,
+            url("text/plain", &escaped(len, 0)),
+        );
+        push_bodies(
+            &mut rows,
+            "escapes10",
+            size,
+            url("text/plain", &escaped(len, 10)),
+        );
+        push_bodies(
+            &mut rows,
+            "escapes100",
+            size,
+            url("text/plain", &escaped(len, 100)),
+        );
+        push_bodies(&mut rows, "svg", size, url("image/svg+xml", &svg(len)));
+    }
+    for (name, text) in [
+        ("short plain", "data:,Hello,World!"),
+        (
+            "short escapes",
+            "data:text/html;charset=utf-8,%3Ch1%3EHello%3C%2Fh1%3E",
+        ),
+        (
+            "short base64",
+            "data:text/plain;base64,SGVsbG8sIFdvcmxkIQ==",
+        ),
+    ] {
+        let text = text.as_bytes().to_vec();
+        push_processed(&mut rows, name, text.clone());
+        push_bodies(&mut rows, name, "process,", text);
+    }
+    push_mimes(&mut rows);
+    for (len, size) in SIZES {
+        let text = [b"data:,#", &fragment(len)[..]].concat();
+        rows.push(row(
+            format!("fragment {size}"),
+            text,
+            ours::fragment,
+            theirs::fragment,
+        ));
+    }
+    push_parameters(&mut rows, 100);
+    push_parameters(&mut rows, 100_000);
+    rows
+}

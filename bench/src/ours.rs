@@ -1,0 +1,36 @@
+//! The calls of the library of this repository, as `data_url_bench` exports them.
+
+/// A slice as the library takes it: a pointer and a length. `Global`, the first parameter of most exports, takes no bytes.
+macro_rules! exports {
+    ($($name:ident = $export:ident;)*) => {
+        extern "C" {
+            $(fn $export(text: *const u8, len: usize, out: *mut u8, room: usize) -> usize;)*
+        }
+        $(pub fn $name(text: &[u8], out: &mut [u8]) -> usize {
+            unsafe { $export(text.as_ptr(), text.len(), out.as_mut_ptr(), out.len()) }
+        })*
+    };
+}
+
+exports! {
+    base64_to_vec = data_url_base64_to_vec;
+    base64_feed = data_url_base64_feed;
+    process_mime = data_url_process_mime;
+    decode = data_url_decode;
+    decode_to_vec = data_url_decode_to_vec;
+    fragment = data_url_fragment;
+    mime_printed = data_url_mime_printed;
+}
+
+extern "C" {
+    fn data_url_process(text: *const u8, len: usize) -> usize;
+    fn data_url_mime(text: *const u8, len: usize) -> usize;
+}
+
+pub fn process(text: &[u8], _: &mut [u8]) -> usize {
+    unsafe { data_url_process(text.as_ptr(), text.len()) }
+}
+
+pub fn mime(text: &[u8], _: &mut [u8]) -> usize {
+    unsafe { data_url_mime(text.as_ptr(), text.len()) }
+}

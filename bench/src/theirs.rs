@@ -1,0 +1,110 @@
+//! The same calls of the Rust crate. What stands here has the form of the library's exports.
+
+use data_url::forgiving_base64::{decode_to_vec as base64, Decoder};
+use data_url::mime::Mime;
+use data_url::DataUrl;
+
+const REFUSED: usize = usize::MAX;
+
+struct Buffer<'a> {
+    room: &'a mut [u8],
+    len: usize,
+}
+
+impl Buffer<'_> {
+    #[inline(always)]
+    fn append(&mut self, piece: &[u8]) -> Result<(), ()> {
+        let end = self.len.saturating_add(piece.len());
+        if end > self.room.len() {
+            return Err(());
+        }
+        self.room[self.len..end].copy_from_slice(piece);
+        self.len = end;
+        Ok(())
+    }
+}
+
+fn show(bytes: &[u8], out: &mut [u8]) -> usize {
+    let len = bytes.len().min(out.len());
+    out[..len].copy_from_slice(&bytes[..len]);
+    bytes.len()
+}
+
+fn text_of(text: &[u8]) -> &str {
+    unsafe { std::str::from_utf8_unchecked(text) }
+}
+
+pub fn base64_to_vec(input: &[u8], out: &mut [u8]) -> usize {
+    match base64(input) {
+        Ok(bytes) => show(&bytes, out),
+        Err(_) => REFUSED,
+    }
+}
+
+pub fn base64_feed(input: &[u8], out: &mut [u8]) -> usize {
+    let mut buffer = Buffer { room: out, len: 0 };
+    let mut decoder = Decoder::new(|piece: &[u8]| buffer.append(piece));
+    if decoder.feed(input).is_err() || decoder.finish().is_err() {
+        return REFUSED;
+    }
+    buffer.len
+}
+
+pub fn process(text: &[u8], _: &mut [u8]) -> usize {
+    match DataUrl::process(text_of(text)) {
+        Ok(url) => url.mime_type().parameters.len(),
+        Err(_) => REFUSED,
+    }
+}
+
+pub fn process_mime(text: &[u8], out: &mut [u8]) -> usize {
+    match DataUrl::process(text_of(text)) {
+        Ok(url) => show(url.mime_type().to_string().as_bytes(), out),
+        Err(_) => REFUSED,
+    }
+}
+
+pub fn decode(text: &[u8], out: &mut [u8]) -> usize {
+    let Ok(url) = DataUrl::process(text_of(text)) else {
+        return REFUSED;
+    };
+    let mut buffer = Buffer { room: out, len: 0 };
+    match url.decode(|piece: &[u8]| buffer.append(piece)) {
+        Ok(_) => buffer.len,
+        Err(_) => REFUSED,
+    }
+}
+
+pub fn decode_to_vec(text: &[u8], out: &mut [u8]) -> usize {
+    let Ok(url) = DataUrl::process(text_of(text)) else {
+        return REFUSED;
+    };
+    match url.decode_to_vec() {
+        Ok((bytes, _)) => show(&bytes, out),
+        Err(_) => REFUSED,
+    }
+}
+
+pub fn fragment(text: &[u8], out: &mut [u8]) -> usize {
+    let Ok(url) = DataUrl::process(text_of(text)) else {
+        return REFUSED;
+    };
+    match url.decode(|_: &[u8]| Ok::<(), ()>(())) {
+        Ok(Some(fragment)) => show(fragment.to_percent_encoded().as_bytes(), out),
+        _ => REFUSED,
+    }
+}
+
+pub fn mime(text: &[u8], _: &mut [u8]) -> usize {
+    match text_of(text).parse::<Mime>() {
+        Ok(mime) => mime.parameters.len(),
+        Err(_) => REFUSED,
+    }
+}
+
+pub fn mime_printed(text: &[u8], out: &mut [u8]) -> usize {
+    match text_of(text).parse::<Mime>() {
+        Ok(mime) => show(mime.to_string().as_bytes(), out),
+        Err(_) => REFUSED,
+    }
+}

@@ -1,0 +1,83 @@
+-- Base64 of texts that are the same but for white space.
+use Rattle.std.proofs.Common.{◌≡◌, ℕ, ◌%◌, Bool, true, false, not, cond, eqb, ◌&&◌, ◌||◌, List, [], ◌∷◌, ◌++◌, length, map, refl, ap, ap₂, sym, ◌∙◌, inl, inr}
+use Rattle.std.specs.List.{filter, list_all}
+use Rattle.std.proofs.lemmas.Bool.{cases_Bool}
+use Rattle.data_url.specs.Base64.{after_groups, compact, decoded, done, groups, is_symbol, is_valid, kind_of, rest_bytes, symbol_value, unpadded, values}
+use Rattle.std.specs.Char.{is_ascii_whitespace}
+use Rattle.data_url.specs.Fetch.{outcome}
+use Rattle.data_url.proofs.PaddingLemmas.{before_fault, classes, done_is, fault_byte, is_sign, kind_by, kind_is}
+use Rattle.data_url.proofs.WalkLemmas.{Class, ahead, is_bad, space_alone, stop_compact}
+use Rattle.std.proofs.Math.Bool.{or-false}
+
+module _ (space sign symbol : ℕ → Bool) (classes : (c : ℕ) → Class (space c) (sign c) (symbol c)) where
+  abbrev is_not_space : ℕ → Bool
+  is_not_space c = not (space c)
+
+  symbols_compact : (b : List ℕ) → filter symbol (filter is_not_space b) ≡ filter symbol b
+  symbols_compact [] = refl
+  symbols_compact (c ∷ t) =
+      elim (cases_Bool (space c)) [
+        | inl e ↦
+            let h : symbol c ≡ false = (space_alone (classes c) e).1 in
+            rw (e, h) (symbols_compact t)
+        | inr e ↦
+            ap (λ v. filter symbol (cond (not v) (c ∷ filter is_not_space t) (filter is_not_space t))) e
+            ∙ ap (λ (x : List ℕ). cond (symbol c) (c ∷ x) x) (symbols_compact t)
+      ]
+
+  passed : (c : ℕ) (t : List ℕ) → symbol c ≡ false → filter symbol (c ∷ t) ≡ filter symbol t
+  passed c t h = ap (λ v. cond v (c ∷ filter symbol t) (filter symbol t)) h
+
+  -- the symbols before the first bad byte
+  ahead_compact : (b : List ℕ) (s : Bool) → filter symbol (ahead space sign symbol s (filter is_not_space b)) ≡ filter symbol (ahead space sign symbol s b)
+  ahead_compact [] s = refl
+  ahead_compact (c ∷ t) s =
+      elim (cases_Bool (space c)) [
+        | inl e ↦
+            let f = space_alone (classes c) e in
+            let g : sign c ≡ false = f.0 in
+            let h : symbol c ≡ false = f.1 in
+            rw (e, g, h) (ahead_compact t s ∙ ap (λ x. filter symbol (ahead space sign symbol x t)) (sym (or-false s)) ∙ sym (passed c (ahead space sign symbol (s || false) t) h))
+        | inr e ↦
+            ap (λ v. filter symbol (ahead space sign symbol s (cond (not v) (c ∷ filter is_not_space t) (filter is_not_space t)))) e
+            ∙ elim (is_bad space sign symbol s c) as (λ v. filter symbol (cond v [] (c ∷ ahead space sign symbol (s || sign c) (filter is_not_space t))) ≡ filter symbol (cond v [] (c ∷ ahead space sign symbol (s || sign c) t))) [
+              | true ↦ refl
+              | false ↦ ap (λ (x : List ℕ). cond (symbol c) (c ∷ x) x) (ahead_compact t (s || sign c))
+            ]
+      ]
+
+fault_compact : (b : List ℕ) → fault_byte false (compact b) ≡ fault_byte false b
+unfolding fault_byte compact
+fault_compact b = stop_compact is_ascii_whitespace is_sign is_symbol classes b false
+
+values_compact : (b : List ℕ) → values (compact b) ≡ values b
+unfolding values compact
+values_compact b = ap (map symbol_value) (symbols_compact is_ascii_whitespace is_sign is_symbol classes b)
+
+before_compact : (b : List ℕ) → values (before_fault false (compact b)) ≡ values (before_fault false b)
+unfolding values before_fault compact
+before_compact b = ap (map symbol_value) (ahead_compact is_ascii_whitespace is_sign is_symbol classes b false)
+
+done_compact : (b : List ℕ) → done (compact b) ≡ done b
+done_compact b = done_is (compact b) ∙ ap groups (before_compact b) ∙ sym (done_is b)
+
+kind_compact : (b : List ℕ) → kind_of (compact b) ≡ kind_of b
+kind_compact b = kind_is (compact b) ∙ ap₂ (λ n o. kind_by n o) (ap length (values_compact b)) (fault_compact b) ∙ sym (kind_is b)
+
+decoded_compact : (b : List ℕ) → decoded (compact b) ≡ decoded b
+unfolding decoded
+decoded_compact b = ap (λ v. groups v ++ rest_bytes (after_groups v)) (values_compact b)
+
+valid_alike : (a b : List ℕ) → compact a ≡ compact b → is_valid a ≡ is_valid b
+unfolding is_valid
+valid_alike a b e = ap (λ s. not (eqb (length (unpadded s) % 4) 1) && list_all is_symbol (unpadded s)) e
+
+-- texts that are the same but for white space have one outcome
+pub outcome_alike : (a b : List ℕ) → compact a ≡ compact b → outcome true a ≡ outcome true b
+unfolding outcome
+outcome_alike a b e =
+    let v = valid_alike a b e in
+    let d : decoded a ≡ decoded b = sym (decoded_compact a) ∙ ap decoded e ∙ decoded_compact b in
+    let n : done a ≡ done b = sym (done_compact a) ∙ ap done e ∙ done_compact b in
+    let k : kind_of a ≡ kind_of b = sym (kind_compact a) ∙ ap kind_of e ∙ kind_compact b in
+    cc

@@ -1,0 +1,15 @@
+-- What was passed has neither '#' nor '%'.
+use Rattle.std.proofs.Common.{◌-◌, ◌≤◌, length}
+use Rattle.data_url.specs.Steps.Walk.{IsFreeTo, Looking, Stays, text_of}
+use Rattle.data_url.proofs.escapes.cursor.Cursor.free_end.Given as goal
+
+abbrev pub invariant-loop-place : goal.invariant-loop-place
+invariant-loop-place l = record {
+  looking : Looking l.self l.place 0;
+  stays : Stays l.fn.self l.self;
+  unseen : l.self.seen ≤ l.place;
+  free : IsFreeTo (text_of l.fn.self) l.fn.self.place l.place;
+}
+
+abbrev pub decreases-loop-place : goal.decreases-loop-place
+decreases-loop-place l = length (text_of l.fn.self) - l.place

@@ -1,0 +1,16 @@
+-- No mark stands before the place, and no byte behind it was looked at.
+use Rattle.std.proofs.Common.{◌≤◌, ◌-◌, length}
+use Rattle.data_url.specs.Steps.Walk.{IsClear, Looking, Stays, text_of}
+use Rattle.data_url.proofs.escapes.cursor.Cursor.next_unseen_mark.Given as goal
+
+abbrev pub invariant-loop-place : goal.invariant-loop-place
+invariant-loop-place l = record {
+  looking : Looking l.self l.place 0;
+  stays : Stays l.fn.self l.self;
+  unseen : l.self.seen ≤ l.place;
+  forward : l.from ≤ l.place;
+  clear : IsClear (text_of l.fn.self) l.from l.place;
+}
+
+abbrev pub decreases-loop-place : goal.decreases-loop-place
+decreases-loop-place l = length (text_of l.fn.self) - l.place

@@ -1,0 +1,156 @@
+//! The public calls of `data_url`, each whole, for a driver outside of Rattle that times them (`bench` at the top of the
+//! repository).
+//!
+//! Each export answers how many bytes the call gave, or `REFUSED`, and shows them in `out` as far as they fit there: a driver
+//! that compares gives room, and one that times gives none, so that nothing is copied. Where the call hands its bytes to a
+//! closure, `out` is where the closure puts them.
+#![tactic(auto)]
+
+ghost use Rattle.std.specs.Prelude.{◌≡◌, length};
+ghost use Rattle.std.specs.Str.{IsUtf8};
+
+mod buffer;
+
+use buffer::Buffer;
+use data_url::DataUrl;
+use data_url::forgiving_base64::{Decoder, decode_to_vec};
+use data_url::mime::Mime;
+use std::alloc::Global;
+
+/// The answer for a call that was refused.
+const REFUSED: usize = usize::MAX;
+
+/// Shows bytes as far as there is room, and answers how many they are.
+fn show(bytes: &[u8], out: &mut [u8]) -> usize
+    ensures { result ≡ length bytes.now }
+{
+    let len = bytes.len().min(out.len());
+    out[..len].copy_from_slice(&bytes[..len]);
+    bytes.len()
+}
+
+/// `forgiving_base64::decode_to_vec`.
+#[unsafe(no_mangle)]
+pub extern "C" fn data_url_base64_to_vec(alloc: Global, input: &[u8], out: &mut [u8]) -> usize {
+    match decode_to_vec(alloc, input) {
+        Ok(bytes) => show(&bytes, out),
+        Err(_) => REFUSED,
+    }
+}
+
+/// A `forgiving_base64::Decoder` that is fed once.
+#[unsafe(no_mangle)]
+pub extern "C" fn data_url_base64_feed(input: &[u8], out: &mut [u8]) -> usize {
+    let mut buffer = Buffer::new(out);
+    let mut decoder = Decoder::new(|piece: &[u8]| -> Result<(), ()> { buffer.append(piece) });
+    if decoder.feed(input).is_err() {
+        return REFUSED;
+    }
+    if decoder.finish().is_err() {
+        return REFUSED;
+    }
+    buffer.len()
+}
+
+/// `DataUrl::process`; the answer is the number of parameters of the MIME type.
+#[unsafe(no_mangle)]
+pub extern "C" fn data_url_process(alloc: Global, text: &[u8]) -> usize
+    requires { IsUtf8 text.now }
+{
+    let text = unsafe { str::from_utf8_unchecked(text) };
+    match DataUrl::process(alloc, text) {
+        Ok(url) => url.mime_type().parameters.len(),
+        Err(_) => REFUSED,
+    }
+}
+
+/// `DataUrl::process`, and its MIME type printed.
+#[unsafe(no_mangle)]
+pub extern "C" fn data_url_process_mime(alloc: Global, text: &[u8], out: &mut [u8]) -> usize
+    requires { IsUtf8 text.now }
+{
+    let text = unsafe { str::from_utf8_unchecked(text) };
+    let Ok(url) = DataUrl::process(alloc, text) else {
+        return REFUSED;
+    };
+    match format!(in alloc; "{}", url.mime_type()) {
+        Ok(line) => show(line.as_bytes(), out),
+        Err(_) => REFUSED,
+    }
+}
+
+/// `DataUrl::process` and `DataUrl::decode`.
+#[unsafe(no_mangle)]
+pub extern "C" fn data_url_decode(alloc: Global, text: &[u8], out: &mut [u8]) -> usize
+    requires { IsUtf8 text.now }
+{
+    let text = unsafe { str::from_utf8_unchecked(text) };
+    let Ok(url) = DataUrl::process(alloc, text) else {
+        return REFUSED;
+    };
+    let mut buffer = Buffer::new(out);
+    match url.decode(|piece: &[u8]| -> Result<(), ()> { buffer.append(piece) }) {
+        Ok(_) => buffer.len(),
+        Err(_) => REFUSED,
+    }
+}
+
+/// `DataUrl::process` and `DataUrl::decode_to_vec`.
+#[unsafe(no_mangle)]
+pub extern "C" fn data_url_decode_to_vec(alloc: Global, text: &[u8], out: &mut [u8]) -> usize
+    requires { IsUtf8 text.now }
+{
+    let text = unsafe { str::from_utf8_unchecked(text) };
+    let Ok(url) = DataUrl::process(alloc, text) else {
+        return REFUSED;
+    };
+    match url.decode_to_vec(alloc) {
+        Ok(found) => show(&found.0, out),
+        Err(_) => REFUSED,
+    }
+}
+
+/// `DataUrl::process`, `DataUrl::decode` and the fragment's `to_percent_encoded`.
+#[unsafe(no_mangle)]
+pub extern "C" fn data_url_fragment(alloc: Global, text: &[u8], out: &mut [u8]) -> usize
+    requires { IsUtf8 text.now }
+{
+    let text = unsafe { str::from_utf8_unchecked(text) };
+    let Ok(url) = DataUrl::process(alloc, text) else {
+        return REFUSED;
+    };
+    let Ok(Some(fragment)) = url.decode(|_: &[u8]| -> Result<(), ()> { Ok(()) }) else {
+        return REFUSED;
+    };
+    match fragment.to_percent_encoded(alloc) {
+        Ok(encoded) => show(encoded.as_bytes(), out),
+        Err(_) => REFUSED,
+    }
+}
+
+/// `Mime::from_str`; the answer is the number of parameters.
+#[unsafe(no_mangle)]
+pub extern "C" fn data_url_mime(alloc: Global, text: &[u8]) -> usize
+    requires { IsUtf8 text.now }
+{
+    let text = unsafe { str::from_utf8_unchecked(text) };
+    match Mime::from_str(alloc, text) {
+        Ok(mime) => mime.parameters.len(),
+        Err(_) => REFUSED,
+    }
+}
+
+/// `Mime::from_str`, and the record printed.
+#[unsafe(no_mangle)]
+pub extern "C" fn data_url_mime_printed(alloc: Global, text: &[u8], out: &mut [u8]) -> usize
+    requires { IsUtf8 text.now }
+{
+    let text = unsafe { str::from_utf8_unchecked(text) };
+    let Ok(mime) = Mime::from_str(alloc, text) else {
+        return REFUSED;
+    };
+    match format!(in alloc; "{mime}") {
+        Ok(line) => show(line.as_bytes(), out),
+        Err(_) => REFUSED,
+    }
+}
