@@ -15,7 +15,8 @@ abbrev pub IsReasonOf : Staged → Reason → Type 0
 IsReasonOf s NotADataUrl = s ≡ NoScheme
 IsReasonOf s NoComma = s ≡ no_comma
 IsReasonOf s (InvalidBase64 kind) =
-    (type_text bytes : List ℕ) × (fragment : Option (List ℕ)) × (s ≡ Accepted type_text (Bad bytes kind) fragment)
+    (type_text bytes : List ℕ) × (fragment : Option (List ℕ))
+    × (s ≡ Accepted type_text (Bad bytes kind) fragment)
 
 -- the response to a text: its status, the record of its type as it is printed, and its whole body
 pub record IsResponseTo (t : List ℕ) (r : Response) : Type 0 where

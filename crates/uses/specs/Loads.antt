@@ -12,34 +12,38 @@ use Rattle.uses.specs.declared.loader.LoadError.TheVariants.{InvalidBase64, NoCo
 use Rattle.uses.specs.declared.loader.Refusal.{Refusal}
 use Rattle.uses.specs.declared.loader.Refusal.TheVariants as refused
 
+-- what a sink holds, where that is known
+abbrev pub Held : Type 0
+Held = Option (List ℕ)
+
 -- a sink took these bytes behind those that it held, as far as these are known: a beginning of a text
-pub record TakesPrefix (text : List ℕ) (old new : Option (List ℕ)) : Type 0 where
+pub record TakesPrefix (text : List ℕ) (old new : Held) : Type 0 where
   pub bytes : List ℕ
   pub taken : Appends old new bytes
   pub begins : IsPrefix bytes text
 
 -- a whole piece was written, or a beginning of it
-abbrev pub Writes : List ℕ → Option (List ℕ) → Option (List ℕ) → Result (Unit {0}) Refusal → Type 0
+abbrev pub Writes : List ℕ → Held → Held → Result (Unit {0}) Refusal → Type 0
 Writes piece old new (Ok x) = Appends old new piece
 Writes piece old new (Err refused.SinkFailed) = TakesPrefix piece old new
 Writes piece old new (Err refused.OverLimit) = ⊥
 
 -- a piece was written and taken off the room; it did not fit, and nothing was written; or a beginning of it was
-abbrev pub WritesWithin : List ℕ → ℕ → ℕ → Option (List ℕ) → Option (List ℕ) → Result (Unit {0}) Refusal → Type 0
+abbrev pub WritesWithin : List ℕ → ℕ → ℕ → Held → Held → Result (Unit {0}) Refusal → Type 0
 WritesWithin piece room left old new (Ok x) = (room ≡ left + length piece) × Appends old new piece
 WritesWithin piece room left old new (Err refused.OverLimit) = (room < length piece) × (new ≡ old)
 WritesWithin piece room left old new (Err refused.SinkFailed) =
     (length piece ≤ room) × TakesPrefix piece old new
 
 -- at most so many bytes of a text, and a beginning of it, were taken
-pub record TakesWithin (text : List ℕ) (limit : ℕ) (old new : Option (List ℕ)) : Type 0 where
+pub record TakesWithin (text : List ℕ) (limit : ℕ) (old new : Held) : Type 0 where
   pub bytes : List ℕ
   pub taken : Appends old new bytes
   pub begins : IsPrefix bytes text
   pub within : length bytes ≤ limit
 
 -- what was written of a body under a limit, by how it ended; no refusal of a URL comes here
-abbrev pub StreamsBody : Outcome → ℕ → Option (List ℕ) → Option (List ℕ) → Result (Unit {0}) LoadError → Type 0
+abbrev pub StreamsBody : Outcome → ℕ → Held → Held → Result (Unit {0}) LoadError → Type 0
 StreamsBody body limit old new (Ok x) =
     (bytes : List ℕ) × (body ≡ Good bytes) × (length bytes ≤ limit) × Appends old new bytes
 StreamsBody body limit old new (Err (InvalidBase64 kind)) =
@@ -57,14 +61,15 @@ pub record IsResource (t type_text : List ℕ) (body : Outcome) : Type 0 where
   pub staged_is : staged t ≡ Accepted type_text body fragment
 
 -- the text is a URL whose body was written so
-pub record LoadsBody (t : List ℕ) (limit : ℕ) (old new : Option (List ℕ)) (r : Result (Unit {0}) LoadError) : Type 0 where
+pub record LoadsBody (t : List ℕ) (limit : ℕ) (old new : Held) (r : Result (Unit {0}) LoadError)
+    : Type 0 where
   pub type_text : List ℕ
   pub body : Outcome
   pub resource : IsResource t type_text body
   pub streamed : StreamsBody body limit old new r
 
 -- the same, with the record of its type
-pub record LoadsWhole (t : List ℕ) (limit : ℕ) (old new : Option (List ℕ)) (mime : Mime) : Type 0 where
+pub record LoadsWhole (t : List ℕ) (limit : ℕ) (old new : Held) (mime : Mime) : Type 0 where
   pub type_text : List ℕ
   pub body : Outcome
   pub resource : IsResource t type_text body
@@ -72,11 +77,12 @@ pub record LoadsWhole (t : List ℕ) (limit : ℕ) (old new : Option (List ℕ))
   pub streamed : StreamsBody body limit old new (Ok tt)
 
 -- what loading a text did to the sink, by its answer
-abbrev pub Loads : List ℕ → ℕ → Option (List ℕ) → Option (List ℕ) → Result Mime LoadError → Type 0
+abbrev pub Loads : List ℕ → ℕ → Held → Held → Result Mime LoadError → Type 0
 Loads t limit old new (Ok mime) = LoadsWhole t limit old new mime
 Loads t limit old new (Err NotADataUrl) = (staged t ≡ NoScheme) × Keeps old new
 Loads t limit old new (Err NoComma) = (staged t ≡ no_comma) × Keeps old new
 Loads t limit old new (Err OutOfMemory) = IsAcceptable (staged t) × Keeps old new
-Loads t limit old new (Err (InvalidBase64 kind)) = LoadsBody t limit old new (Err (InvalidBase64 kind))
+Loads t limit old new (Err (InvalidBase64 kind)) =
+    LoadsBody t limit old new (Err (InvalidBase64 kind))
 Loads t limit old new (Err OverLimit) = LoadsBody t limit old new (Err OverLimit)
 Loads t limit old new (Err SinkFailed) = LoadsBody t limit old new (Err SinkFailed)

@@ -12,7 +12,8 @@ is_nil (x ∷ xs) = false
 abbrev pub has_essence : List ℕ → List ℕ → Mime → Bool
 has_essence type_ subtype accepted =
     is_nil accepted.parameters.items
-    && (bytes_eq (string_bytes accepted.type_) type_ && bytes_eq (string_bytes accepted.subtype) subtype)
+    && (bytes_eq (string_bytes accepted.type_) type_
+    && bytes_eq (string_bytes accepted.subtype) subtype)
 
 -- how well an accepted type stands for a record: the same with its parameters, the same without any, type/*, */*, or not at all
 abbrev pub rank_for : Mime → Mime → ℕ

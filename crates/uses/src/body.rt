@@ -22,8 +22,8 @@ where
     F: FnMut(&[u8]) -> Result<(), E>,
     E: Drop,
     requires { F.IsAlwaysCallable write }
-    ensures { Decodes (CalledAt F.FnMut) write (length (url_tail url.now) + 1) (url_body url.now) AnyAnswer
-        answer.new result }
+    ensures { Decodes (CalledAt F.FnMut) write (length (url_tail url.now) + 1) (url_body url.now)
+        AnyAnswer answer.new result }
 {
     let (answered, write) = url.decode_with(write);
     *answer = match answered {

@@ -55,7 +55,8 @@ fn write_piece<W: Write>(sink: &mut W, piece: &[u8]) -> Result<(), Refusal>
 
 /// Writes a whole piece that fits in the room, in bytes, and takes it off the room. One that does not fit is refused.
 fn write_within<W: Write>(sink: &mut W, room: &mut usize, piece: &[u8]) -> Result<(), Refusal>
-    ensures { WritesWithin piece.now room.old room.new (W.contents sink.old) (W.contents sink.new) result }
+    ensures { WritesWithin piece.now room.old room.new (W.contents sink.old) (W.contents sink.new)
+        result }
 {
     if *room < piece.len() {
         return Err(Refusal::OverLimit);
@@ -66,7 +67,8 @@ fn write_within<W: Write>(sink: &mut W, room: &mut usize, piece: &[u8]) -> Resul
 
 /// Writes the body of a URL as it is decoded, up to a limit of bytes. It takes no memory.
 fn stream_body<W: Write>(url: &DataUrl, limit: usize, sink: &mut W) -> Result<(), LoadError>
-    ensures { StreamsBody (url_body url.now) limit (W.contents sink.old) (W.contents sink.new) result }
+    ensures { StreamsBody (url_body url.now) limit (W.contents sink.old) (W.contents sink.new)
+        result }
 {
     let mut room = limit;
     let mut answer = Ok(());
