@@ -16,7 +16,7 @@ use Rattle.uses.specs.declared.loader.Refusal.TheVariants as refused
 abbrev pub Held : Type 0
 Held = Option (List ℕ)
 
--- a sink took these bytes behind those that it held, as far as these are known: a beginning of a text
+-- a sink took a beginning of a text, behind what it held
 pub record TakesPrefix (text : List ℕ) (old new : Held) : Type 0 where
   pub bytes : List ℕ
   pub taken : Appends old new bytes
@@ -35,7 +35,7 @@ WritesWithin piece room left old new (Err refused.OverLimit) = (room < length pi
 WritesWithin piece room left old new (Err refused.SinkFailed) =
     (length piece ≤ room) × TakesPrefix piece old new
 
--- at most so many bytes of a text, and a beginning of it, were taken
+-- a sink took a beginning of a text, of so many bytes at most
 pub record TakesWithin (text : List ℕ) (limit : ℕ) (old new : Held) : Type 0 where
   pub bytes : List ℕ
   pub taken : Appends old new bytes
@@ -55,12 +55,12 @@ StreamsBody body limit old new (Err NotADataUrl) = ⊥
 StreamsBody body limit old new (Err NoComma) = ⊥
 StreamsBody body limit old new (Err OutOfMemory) = ⊥
 
--- the text is a URL of this type's text and body
+-- the text is a URL, with the text of its type and its body
 pub record IsResource (t type_text : List ℕ) (body : Outcome) : Type 0 where
   pub fragment : Option (List ℕ)
   pub staged_is : staged t ≡ Accepted type_text body fragment
 
--- the text is a URL whose body was written so
+-- the text is a URL, and its body was written under a limit
 pub record LoadsBody (t : List ℕ) (limit : ℕ) (old new : Held) (r : Result (Unit {0}) LoadError)
     : Type 0 where
   pub type_text : List ℕ
