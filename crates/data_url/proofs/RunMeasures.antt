@@ -79,7 +79,7 @@ run_counts step cs f g ran n count adds =
     (λ bytes p piece q k s. let h = adds p piece q s in omega (arith, h, k, length-append bytes piece))
     (λ bytes p piece e q k s. tt) (omega arith))
 
--- the same of a count that stops at a most
+-- the same of a count that goes no further than a greatest number
 pub run_counts_up_to : {F E : Type 0} (step : F → List ℕ → Result (Unit {0}) E → F → Type 0) (cs : List (Call F E)) (f g : F) (most : ℕ) → IsRun step f cs g → refusal cs ≡ None → (count : F → ℕ) → count f ≤ most
     → ((p : F) (piece : List ℕ) (q : F) → step p piece (Ok tt) q → count q ≡ min (count p + length piece) most)
     → count g ≡ min (count f + length (joined cs)) most
@@ -133,12 +133,6 @@ body_extends {f = f} d e measure accepts refuses =
     (sym (append-nil (measure f)))
 
 -- How long a body is
-
-rest_shorter : (x : List ℕ) → length x ≤ 3 → length (rest_bytes x) ≤ length x
-rest_shorter [] h = omega arith
-rest_shorter (p ∷ []) h = omega arith
-rest_shorter (p ∷ q ∷ []) h = omega arith
-rest_shorter (p ∷ q ∷ r ∷ x) h = omega arith
 
 symbols_shorter : (s : List ℕ) → length (filter is_symbol s) ≤ length s
 symbols_shorter [] = omega arith

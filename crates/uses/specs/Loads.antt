@@ -10,16 +10,19 @@ use Rattle.data_url.specs.declared.mime.Mime.{Mime}
 use Rattle.uses.specs.declared.loader.LoadError.TheVariants.{InvalidBase64, NoComma, NotADataUrl, OutOfMemory, OverLimit, SinkFailed}
 use Rattle.uses.specs.declared.loader.LoadError.{LoadError}
 
--- at most so many bytes of a text, and a beginning of it, were taken
-pub record TakesWithin (text : List ℕ) (limit : ℕ) (old new : Option (List ℕ)) : Type 0 where
+-- what a sink holds, where that is known
+abbrev pub Held : Type 0
+Held = Option (List ℕ)
+
+-- a sink took a beginning of a text, of so many bytes at most
+pub record TakesWithin (text : List ℕ) (limit : ℕ) (old new : Held) : Type 0 where
   pub bytes : List ℕ
   pub taken : Appends old new bytes
   pub begins : IsPrefix bytes text
   pub within : length bytes ≤ limit
 
 -- what was written of a body under a limit, by how it ended; no refusal of a URL comes here
-abbrev pub StreamsBody : Outcome → ℕ → Option (List ℕ) → Option (List ℕ)
-    → Result (Unit {0}) LoadError → Type 0
+abbrev pub StreamsBody : Outcome → ℕ → Held → Held → Result (Unit {0}) LoadError → Type 0
 StreamsBody body limit old new (Ok x) =
     (bytes : List ℕ) × (body ≡ Good bytes) × (length bytes ≤ limit) × Appends old new bytes
 StreamsBody body limit old new (Err (InvalidBase64 kind)) =
@@ -31,22 +34,21 @@ StreamsBody body limit old new (Err NotADataUrl) = ⊥
 StreamsBody body limit old new (Err NoComma) = ⊥
 StreamsBody body limit old new (Err OutOfMemory) = ⊥
 
--- the text is a URL of this type's text and body
+-- the text is a URL, with the text of its type and its body
 pub record IsResource (t type_text : List ℕ) (body : Outcome) : Type 0 where
   pub fragment : Option (List ℕ)
   pub staged_is : staged t ≡ Accepted type_text body fragment
 
--- the text is a URL whose body was written so
-pub record LoadsBody (t : List ℕ) (limit : ℕ) (old new : Option (List ℕ))
-    (r : Result (Unit {0}) LoadError) : Type 0 where
+-- the text is a URL, and its body was written under a limit
+pub record LoadsBody (t : List ℕ) (limit : ℕ) (old new : Held) (r : Result (Unit {0}) LoadError)
+    : Type 0 where
   pub type_text : List ℕ
   pub body : Outcome
   pub resource : IsResource t type_text body
   pub streamed : StreamsBody body limit old new r
 
 -- the same, with the record of its type
-pub record LoadsWhole (t : List ℕ) (limit : ℕ) (old new : Option (List ℕ)) (mime : Mime)
-    : Type 0 where
+pub record LoadsWhole (t : List ℕ) (limit : ℕ) (old new : Held) (mime : Mime) : Type 0 where
   pub type_text : List ℕ
   pub body : Outcome
   pub resource : IsResource t type_text body
@@ -54,7 +56,7 @@ pub record LoadsWhole (t : List ℕ) (limit : ℕ) (old new : Option (List ℕ))
   pub streamed : StreamsBody body limit old new (Ok tt)
 
 -- what loading a text did to the sink, by its answer
-abbrev pub Loads : List ℕ → ℕ → Option (List ℕ) → Option (List ℕ) → Result Mime LoadError → Type 0
+abbrev pub Loads : List ℕ → ℕ → Held → Held → Result Mime LoadError → Type 0
 Loads t limit old new (Ok mime) = LoadsWhole t limit old new mime
 Loads t limit old new (Err NotADataUrl) = (staged t ≡ NoScheme) × Keeps old new
 Loads t limit old new (Err NoComma) = (staged t ≡ no_comma) × Keeps old new

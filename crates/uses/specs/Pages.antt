@@ -9,8 +9,8 @@ use Rattle.uses.specs.declared.inliner.Part.{Part}
 abbrev pub opening : List ℕ
 opening = 61 ∷ 34 ∷ codes "data:"
 
--- the first reference of a page: it is opened first, begins with the scheme and ends before the
--- next '"'
+-- the first reference of a page: none is opened before it, it begins with the scheme, and it ends
+-- before the next '"'
 pub record IsReference (page before reference behind : List ℕ) : Type 0 where
   pub joined : page ≡ before ++ (reference ++ behind)
   pub start : List ℕ
@@ -22,7 +22,7 @@ pub record IsReference (page before reference behind : List ℕ) : Type 0 where
   pub no_quote : (xs ys : List ℕ) → reference ≢ xs ++ (34 ∷ ys)
   pub first : (xs ys : List ℕ) → page ≡ xs ++ (opening ++ ys) → length start ≤ length xs
 
--- nowhere is a reference opened and ended
+-- nowhere in the page is a reference opened and, later on, ended
 abbrev pub HasNoReference : List ℕ → Type 0
 HasNoReference page = (xs ys zs : List ℕ) → page ≢ xs ++ (opening ++ (ys ++ (34 ∷ zs)))
 

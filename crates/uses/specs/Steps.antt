@@ -7,29 +7,28 @@ use Rattle.data_url.specs.Fetch.{staged}
 use Rattle.data_url.specs.Run.{IsPrefix}
 use Rattle.data_url.specs.declared.DataUrl.{DataUrl}
 use Rattle.uses.specs.Fetches.{IsReasonOf}
+use Rattle.uses.specs.Loads.{Held}
 use Rattle.uses.specs.Pages.{HasNoReference, IsReference}
 use Rattle.uses.specs.declared.fetch.FetchError.TheVariants.{Network, OutOfMemory}
 use Rattle.uses.specs.declared.fetch.FetchError.{FetchError}
 use Rattle.uses.specs.declared.loader.Refusal.TheVariants as refused
 use Rattle.uses.specs.declared.loader.Refusal.{Refusal}
 
--- a sink took these bytes behind those that it held, as far as these are known: a beginning of a
--- text
-pub record TakesPrefix (text : List ℕ) (old new : Option (List ℕ)) : Type 0 where
+-- a sink took a beginning of a text, behind what it held
+pub record TakesPrefix (text : List ℕ) (old new : Held) : Type 0 where
   pub bytes : List ℕ
   pub taken : Appends old new bytes
   pub begins : IsPrefix bytes text
 
 -- a whole piece was written, or a beginning of it
-abbrev pub Writes : List ℕ → Option (List ℕ) → Option (List ℕ) → Result (Unit {0}) Refusal → Type 0
+abbrev pub Writes : List ℕ → Held → Held → Result (Unit {0}) Refusal → Type 0
 Writes piece old new (Ok x) = Appends old new piece
 Writes piece old new (Err refused.SinkFailed) = TakesPrefix piece old new
 Writes piece old new (Err refused.OverLimit) = ⊥
 
 -- a piece was written and taken off the room; it did not fit, and nothing was written; or a
 -- beginning of it was
-abbrev pub WritesWithin : List ℕ → ℕ → ℕ → Option (List ℕ) → Option (List ℕ)
-    → Result (Unit {0}) Refusal → Type 0
+abbrev pub WritesWithin : List ℕ → ℕ → ℕ → Held → Held → Result (Unit {0}) Refusal → Type 0
 WritesWithin piece room left old new (Ok x) = (room ≡ left + length piece) × Appends old new piece
 WritesWithin piece room left old new (Err refused.OverLimit) = (room < length piece) × (new ≡ old)
 WritesWithin piece room left old new (Err refused.SinkFailed) =

@@ -12,8 +12,8 @@ use std::alloc::AllocError;
 use std::convert::Infallible;
 
 /// Hands the body of a URL to a closure, piece by piece, and hands the closure back as its last call left it. It takes no
-/// memory, and lets the fragment go. The answer stands in a place of its own, so that a caller still knows, by its cases,
-/// what its closure captured.
+/// memory, and lets the fragment go. The answer stands in a place of its own, whatever stood there before, so that a caller
+/// still knows, by the answer's cases, what its closure captured.
 ///
 /// The answer is `WriteError` with the closure's error, after which there is no further call, and `InvalidBase64` for a
 /// base64 body that is not valid, once the bytes before its first fault were handed out.
@@ -23,8 +23,7 @@ where
     E: Drop,
     requires { F.IsAlwaysCallable write }
     ensures { Decodes (CalledAt F.FnMut) write (length (url_tail url.now) + 1) (url_body url.now)
-        AnyAnswer
-        answer.new result }
+        AnyAnswer answer.new result }
 {
     let (answered, write) = url.decode_with(write);
     *answer = match answered {

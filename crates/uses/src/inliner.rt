@@ -21,7 +21,7 @@ pub enum Part<'a> {
     Refused(&'a str, Reason),
 }
 
-/// The text before the first reference, the reference, and the text from its closing quote on.
+/// The text up to the first reference, the reference, and the text from its closing quote on. None where there is none.
 fn next_reference<'a>(page: &'a str) -> Option<(&'a str, &'a str, &'a str)>
     ensures { FindsReference page.entry.now result }
 {
