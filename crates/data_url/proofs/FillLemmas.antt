@@ -59,7 +59,7 @@ symbols_alone : (s : List ℕ) → list_all is_symbol s ≡ true → list_all is
 symbols_alone [] h = refl
 symbols_alone (b ∷ s) h = let p = and_parts (is_symbol b) (list_all is_symbol s) h in ap₂ (λ x y. x && y) (ap (λ t. t || is_ascii_whitespace b) p.0) (symbols_alone s p.1)
 
-fits_take : (n : ℕ) (s : List ℕ) → ((i : ℕ) → Fits w8 (get_or s i 0)) → (i : ℕ) → Fits w8 (get_or (take n s) i 0)
+pub fits_take : (n : ℕ) (s : List ℕ) → ((i : ℕ) → Fits w8 (get_or s i 0)) → (i : ℕ) → Fits w8 (get_or (take n s) i 0)
 fits_take n s fits i =
     elim (cases_lt i n) [
       | inl l ↦ subst (Fits w8) (sym (get_or-take n s i 0 l)) (fits i)

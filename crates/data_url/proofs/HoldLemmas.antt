@@ -1,23 +1,23 @@
 -- Feeding while bytes wait to be handed out together.
-use Rattle.std.proofs.Common.{◌≡◌, ℕ, ◌+◌, ◌-◌, ◌%◌, ◌<◌, ◌≤◌, Fits, w8, length-drop, length-take, length-take-le, Bool, true, false, cond, min, ◌||◌, inl, inr, List, [], ◌∷◌, ◌++◌, length, map, drop, get_or, take, take-add, Option, None, Some, is_some, Result, Ok, Err, refl, ap, ap₂, sym, ◌∙◌, subst, arith, append_assoc, length-append}
+use Rattle.std.proofs.Common.{◌≡◌, ℕ, ◌+◌, ◌-◌, ◌%◌, ◌<◌, ◌≤◌, Fits, w8, length-take, length-take-le, Bool, true, false, cond, min, ◌||◌, inl, inr, List, [], ◌∷◌, ◌++◌, length, map, drop, get_or, take, take-add, Option, None, Some, is_some, Result, Ok, Err, refl, ap, ap₂, sym, ◌∙◌, subst, arith, append_assoc, length-append}
 use Rattle.std.specs.Prelude.{MatchResult, is_err}
 use Rattle.std.specs.List.{filter, list_all}
-use Rattle.std.proofs.lemmas.Bool.{and_parts, or_cases, true≢false}
-use Rattle.std.proofs.lemmas.List.{append-nil, get_or-drop, length-map, take_all, take_more, take_rest}
+use Rattle.std.proofs.lemmas.Bool.{and_parts, cases_lt, or_cases, true≢false}
+use Rattle.std.proofs.lemmas.List.{append-nil, get_or-append_right, get_or_append_left, get_or-drop, length-map, take_all, take_more, take_rest}
 use Rattle.data_url.specs.Base64.{Kind, after_groups, done, first_fault, groups, is_symbol, kind_of, left_padding, left_symbols, left_text, symbol_value, values}
 use Rattle.std.specs.Char.{is_ascii_whitespace}
 use Rattle.data_url.specs.Decoder.{Feeds, IsTaken, State, left_over}
 use Rattle.data_url.specs.Mime.{Every}
 use Rattle.data_url.specs.Run.{Call, IsRun, joined, or_error, refusal}
 use Rattle.data_url.specs.Steps.Calls.{CallsOnce}
-use Rattle.data_url.specs.Steps.Blocks.{AreGroups, Fills, is_symbol_or_space}
-use Rattle.data_url.specs.Steps.Holding.{Adds, Flushes, Gains, Holds, Refuses}
+use Rattle.data_url.specs.Steps.Blocks.{AreGroups, Fills, is_symbol_or_space, without}
+use Rattle.data_url.specs.Steps.Holding.{Adds, FeedsBlock, Flushes, Gains, Holds, Refuses}
 use Rattle.data_url.specs.declared.forgiving_base64.DecodeError.{DecodeError}
 use Rattle.data_url.specs.declared.forgiving_base64.DecodeError.TheVariants.{InvalidBase64, WriteError}
 use Rattle.data_url.proofs.ByteLemmas.{adds_text, fault_space, fault_symbol, has_sign, one_call, told_call}
 use Rattle.data_url.proofs.DecoderLemmas.{feeds_stop, feeds_then, left_goes_on}
 use Rattle.data_url.specs.Steps.Lanes.{value_of}
-use Rattle.data_url.proofs.FillLemmas.{fill_symbols, groups_length, whole_length}
+use Rattle.data_url.proofs.FillLemmas.{fill_past, fits_take, fill_symbols, groups_length, whole_length}
 use Rattle.data_url.proofs.RunLemmas.{joined-append, match_at, match_none, match_some, refusal-append, run-append}
 use Rattle.data_url.proofs.PaddingLemmas.{classes, fault-append, fault_byte, is_sign, length-after_groups}
 use Rattle.data_url.proofs.WalkLemmas.{space_alone, symbol_alone}
@@ -221,6 +221,27 @@ gains_groups {text = text} taken some is_q is_p going f = record {
   held_are = f.held_are;
 }
 
+-- a block of symbols, where nothing is held
+whole_fills : {bytes : List ℕ} (block : List ℕ) → ((i : ℕ) → Fits w8 (get_or block i 0)) → 64 ≤ length block → true ≡ list_all is_symbol (take 64 block) → bytes ≡ groups (map value_of (take 64 block)) → Fills [] block 64 bytes
+whole_fills {bytes} block fits long all is =
+    let made = groups (map value_of (take 64 block)) in
+    let short : length made ≤ 48 = omega (arith, groups_length (map value_of (take 64 block)), length-map (take 64 block) value_of, length-take 64 block) in
+    let P : List ℕ → Type 0 = λ l. Fills [] block 64 l in
+    subst P (take_all 48 made short ∙ sym is) (fill_symbols [] block 16 long (omega arith) fits (sym all))
+
+-- the bytes of a text without a gap
+fits_without : (text : List ℕ) (place gap : ℕ) → ((i : ℕ) → Fits w8 (get_or text i 0)) → (i : ℕ) → Fits w8 (get_or (without place gap text) i 0)
+fits_without text place gap fits i =
+    let front = take place text in
+    let back = drop (place + gap) text in
+    elim (cases_lt i (length front)) [
+      | inl l ↦ subst (Fits w8) (sym (get_or_append_left front back 0 i l)) (fits_take place text fits i)
+      | inr l ↦ subst (Fits w8) (sym (get_or-append_right front back (length front) i 0 refl l ∙ get_or-drop (place + gap) text (i - length front) 0)) (fits (place + gap + (i - length front)))
+    ]
+
+whole_full : {bytes : List ℕ} (block : List ℕ) → 64 ≤ length block → bytes ≡ groups (map value_of (take 64 block)) → length bytes ≡ 48
+whole_full {bytes} block long is = omega (arith, ap length is, whole_length (map value_of (take 64 block)) (omega (arith, length-map (take 64 block) value_of, length-take-le 64 block long)), length-map (take 64 block) value_of, length-take-le 64 block long)
+
 -- The steps of a feed
 
 pub byte_at : (s : List ℕ) (at : ℕ) → at < length s → get_or (take (length s - at) (drop at s)) 0 0 ≡ get_or s at 0
@@ -274,35 +295,36 @@ module _ {F E : Type 0} (step : F → List ℕ → Result (Unit {0}) E → F →
   pub end_feeds : {d d1 d2 : State F} {r : Result (Unit {0}) (DecodeError E)} (s : List ℕ) (at : ℕ) (held : List ℕ) → length s ≤ at → Holds step d (take at s) held d1 → Flushes step d1 held r d2 → Feeds step d s r d2
   end_feeds {d} {d1} {d2} {r} s at held over h f = let P : List ℕ → Type 0 = λ t. Feeds step d t r d2 in subst P (take_all at s over) (flushed_feeds step held h f)
 
-  -- a block of symbols, where nothing is held and nothing came before it that it could belong to
-  pub block_gains : {d d1 : State F} {bytes : List ℕ} (s : List ℕ) (at : ℕ) → ((i : ℕ) → Fits w8 (get_or s i 0)) → Holds step d (take at s) [] d1 → d1.symbols ≡ [] → d1.padding ≡ 0 → at + 64 ≤ length s
-      → true ≡ list_all is_symbol (take 64 (take (length s - at) (drop at s))) → bytes ≡ groups (map value_of (take 64 (take (length s - at) (drop at s)))) → Holds step d (take (at + 64) s) bytes d1
-  block_gains {d} {d1} {bytes} s at fits h is_q is_p far all is =
-      let block = take (length s - at) (drop at s) in
-      let same : block ≡ drop at s = take_rest s at in
-      let long : 64 ≤ length block = omega (arith, ap length same, length-drop at s) in
-      let fit : (i : ℕ) → Fits w8 (get_or block i 0) = λ i. subst (Fits w8) (sym (ap (λ l. get_or l i 0) same ∙ get_or-drop at s i 0)) (fits (at + i)) in
-      let made = groups (map value_of (take 64 block)) in
-      let short : length made ≤ 48 = omega (arith, groups_length (map value_of (take 64 block)), length-map (take 64 block) value_of, length-take 64 block) in
-      let P : List ℕ → Type 0 = λ l. Fills [] block 64 l in
-      gains_holds s at h (gains_groups 64 (omega arith) is_q is_p h.going (subst P (take_all 48 made short ∙ sym is) (fill_symbols [] block 16 long (omega arith) fit (sym all))))
-
-  block_full : {bytes : List ℕ} (block : List ℕ) → 64 ≤ length block → bytes ≡ groups (map value_of (take 64 block)) → length bytes ≡ 48
-  block_full {bytes} block long is = omega (arith, ap length is, whole_length (map value_of (take 64 block)) (omega (arith, length-map (take 64 block) value_of, length-take-le 64 block long)), length-map (take 64 block) value_of, length-take-le 64 block long)
-
   -- a block that was handed out
-  pub block_holds : {d d1 d2 : State F} {bytes : List ℕ} (s : List ℕ) (at : ℕ) → ((i : ℕ) → Fits w8 (get_or s i 0)) → Holds step d (take at s) [] d1 → d1.symbols ≡ [] → d1.padding ≡ 0 → at + 64 ≤ length s
-      → true ≡ list_all is_symbol (take 64 (take (length s - at) (drop at s))) → bytes ≡ groups (map value_of (take 64 (take (length s - at) (drop at s)))) → CallsOnce step d1 bytes (Ok tt) d2 → Holds step d (take (at + 64) s) [] d2
-  block_holds s at fits h is_q is_p far all is w =
-      let block = take (length s - at) (drop at s) in
-      let long : 64 ≤ length block = omega (arith, ap length (take_rest s at), length-drop at s) in
-      written_holds step (block_full block long is) (block_gains s at fits h is_q is_p far all is) w
+  pub block_holds : {d d1 d2 : State F} {taken : ℕ} (s : List ℕ) (at : ℕ) → Holds step d (take at s) [] d1 → FeedsBlock step d1 (take (length s - at) (drop at s)) taken (Ok tt) d2 → Holds step d (take (at + taken) s) [] d2
+  block_holds s at h b = written_holds step b.full (gains_holds s at h b.gains) b.wrote
 
   -- a block that was refused
-  pub block_refused : {d d1 d2 : State F} {bytes : List ℕ} {x : DecodeError E} (s : List ℕ) (at : ℕ) → ((i : ℕ) → Fits w8 (get_or s i 0)) → Holds step d (take at s) [] d1 → d1.symbols ≡ [] → d1.padding ≡ 0 → at + 64 ≤ length s
-      → true ≡ list_all is_symbol (take 64 (take (length s - at) (drop at s))) → bytes ≡ groups (map value_of (take 64 (take (length s - at) (drop at s)))) → CallsOnce step d1 bytes (Err x) d2 → Feeds step d s (Err x) d2
-  block_refused {bytes = bytes} s at fits h is_q is_p far all is w =
-      let block = take (length s - at) (drop at s) in
-      let long : 64 ≤ length block = omega (arith, ap length (take_rest s at), length-drop at s) in
-      let held = block_gains s at fits h is_q is_p far all is in
-      feeds_stop step s (at + 64) (written_feeds step held (omega (arith, held.calls, block_full block long is)) w)
+  pub block_refused : {d d1 d2 : State F} {x : DecodeError E} (taken : ℕ) (s : List ℕ) (at : ℕ) → Holds step d (take at s) [] d1 → FeedsBlock step d1 (take (length s - at) (drop at s)) taken (Err x) d2 → Feeds step d s (Err x) d2
+  block_refused taken s at h b =
+      let held = gains_holds s at h b.gains in
+      feeds_stop step s (at + taken) (written_feeds step held (omega (arith, held.calls, b.full)) b.wrote)
+
+  -- a block of symbols is a full piece
+  pub block_feeds : {d d2 : State F} {bytes : List ℕ} {r : Result (Unit {0}) (DecodeError E)} (block : List ℕ) → ((i : ℕ) → Fits w8 (get_or block i 0)) → d.symbols ≡ [] → d.padding ≡ 0 → d.failed ≡ false → 64 ≤ length block
+      → true ≡ list_all is_symbol (take 64 block) → bytes ≡ groups (map value_of (take 64 block)) → CallsOnce step d bytes r d2 → FeedsBlock step d block 64 r d2
+  block_feeds {bytes = bytes} block fits is_q is_p going long all is w = record {
+    bytes = bytes;
+    gains = gains_groups 64 (omega arith) is_q is_p going (whole_fills block fits long all is);
+    full = whole_full block long is;
+    wrote = w;
+  }
+
+  -- and so is one with a gap
+  pub past_feeds : {d d2 : State F} {bytes : List ℕ} {r : Result (Unit {0}) (DecodeError E)} (text block : List ℕ) (place gap : ℕ) → ((i : ℕ) → Fits w8 (get_or text i 0)) → d.symbols ≡ [] → d.padding ≡ 0 → d.failed ≡ false
+      → 64 + gap ≤ length text → place ≤ 64 → list_all is_ascii_whitespace (take gap (drop place text)) ≡ true → block ≡ take 64 (without place gap text) → 64 ≤ length block
+      → true ≡ list_all is_symbol (take 64 block) → bytes ≡ groups (map value_of (take 64 block)) → CallsOnce step d bytes r d2 → FeedsBlock step d text (64 + gap) r d2
+  past_feeds {bytes = bytes} text block place gap fits is_q is_p going within early white made long all is w =
+      let F : List ℕ → Type 0 = λ l. (i : ℕ) → Fits w8 (get_or l i 0) in
+      let fit : (i : ℕ) → Fits w8 (get_or block i 0) = subst F (sym made) (fits_take 64 (without place gap text) (fits_without text place gap fits)) in
+      record {
+        bytes = bytes;
+        gains = gains_groups (64 + gap) (omega arith) is_q is_p going (fill_past [] text block bytes place gap 64 within early white made early (omega arith) (whole_fills block fit long all is));
+        full = whole_full block long is;
+        wrote = w;
+      }

@@ -58,6 +58,15 @@ pub record Holds {F E : Type 0} (step : F → List ℕ → Result (Unit {0}) E �
   pub calls : 48 * length run + length held ≤ 3 * length text
   pub going : d'.failed ≡ false
 
+-- d handed out the groups of the first so many bytes of the text as one full piece
+pub record FeedsBlock {F E : Type 0} (step : F → List ℕ → Result (Unit {0}) E → F → Type 0)
+    (d : State F) (text : List ℕ) (taken : ℕ) (r : Result (Unit {0}) (DecodeError E)) (d' : State F)
+    : Type 0 where
+  pub bytes : List ℕ
+  pub gains : Gains d [] text taken d bytes
+  pub full : length bytes ≡ 48
+  pub wrote : CallsOnce step d bytes r d'
+
 -- d took the first so many bytes of the text and handed out all their groups, which was accepted,
 -- and is d' now
 pub record FeedsBlocks {F E : Type 0} (step : F → List ℕ → Result (Unit {0}) E → F → Type 0)

@@ -7,7 +7,7 @@ use Rattle.data_url.specs.declared.forgiving_base64.lanes.TheConstants.{HIGH_HAL
 abbrev pub mark_of : ℕ → ℕ
 mark_of b = bit_and (slice_index LOW_HALVES (bit_and b 15)) (slice_index HIGH_HALVES (b / 16))
 
--- the place of the offset of a byte: its high half, which is 2 for '/', or else 1 for '/'
+-- the place of the offset of a byte: its high half or, for '/', one less
 abbrev pub offset_row : ℕ → ℕ
 offset_row b = (b / 16 + (if b == 47 then 255 else 0)) % 256
 

@@ -1,12 +1,13 @@
 //! Decoding piece by piece (Infra Standard, forgiving-base64 decode).
 
-ghost use Rattle.std.specs.Prelude.{◌≡◌, ◌<◌, ◌≤◌, [], ◌∷◌, IsTrue, MatchResult, length, slice_index, take, true, false};
+ghost use Rattle.std.specs.Prelude.{◌≡◌, ℕ, ◌<◌, ◌≤◌, [], ◌∷◌, ◌+◌, Err, IsTrue, MatchResult, Ok, drop, length, slice_index, take, true, false};
 ghost use Rattle.std.specs.List.{list_all};
+ghost use Rattle.std.specs.Char.{is_ascii_whitespace};
 ghost use Rattle.data_url.specs.Base64.{is_symbol};
 
 use super::alphabet::{group_of, is_symbol, rest_of_three, rest_of_two};
-use super::blocks::{decode, is_whole};
-use super::held::{Held, ROOM};
+use super::blocks::{block_without, decode, is_whole, symbols_ahead};
+use super::held::{Held, ROOM, gap_at};
 use super::{DecodeError, InvalidBase64, InvalidBase64Details};
 
 /// The shortest text that is looked at as a block.
@@ -44,7 +45,7 @@ where
     ghost use Rattle.data_url.specs.InvalidBase64.{kind_of_details};
     ghost use Rattle.data_url.specs.Steps.Calls.{CallsOnce};
     ghost use Rattle.data_url.specs.Steps.HeldState.{held_bytes};
-    ghost use Rattle.data_url.specs.Steps.Holding.{Adds, FeedsBlocks, Flushes, Gains, Refuses, bytes_in};
+    ghost use Rattle.data_url.specs.Steps.Holding.{Adds, FeedsBlock, FeedsBlocks, Flushes, Gains, Refuses, bytes_in};
 
     /// A decoder that has seen nothing yet, and hands its bytes to the closure. The closure has to be one that may be
     /// called on any bytes, whatever it was called with before.
@@ -245,8 +246,92 @@ where
         Ok(())
     }
 
+    /// Hands out the groups of a block of 64 symbols with a gap of white space behind so many of them, as one piece. It answers
+    /// how many bytes of the text they take, or 0 where it does not begin with such a block.
+    #[inline(always)]
+    fn feed_without(
+        &mut self,
+        text: &[u8],
+        symbols: usize,
+        gap: usize,
+    ) -> Result<usize, DecodeError<E>>
+        requires callable { F.IsAlwaysCallable (state_of self.old).closure }
+        requires going { (state_of self.old).failed ≡ false }
+        requires none { ((state_of self.old).symbols ≡ []) × ((state_of self.old).padding ≡ 0) }
+        requires within { 64 + gap ≤ length text.now }
+        requires early { symbols ≤ 64 }
+        requires white { IsTrue (list_all is_ascii_whitespace (take gap (drop symbols text.now))) }
+        ensures callable { F.IsAlwaysCallable (state_of self.new).closure }
+        ensures fed { MatchResult result
+            (λ taken. (taken ≡ 0 → state_of self.new ≡ state_of self.old) × (0 < taken
+            → FeedsBlock (CalledAt F.FnMut) (state_of self.old) text.now taken (Ok tt)
+            (state_of self.new)))
+            (λ error. (taken : ℕ) × FeedsBlock (CalledAt F.FnMut) (state_of self.old) text.now
+            taken (Err error) (state_of self.new)) }
+    {
+        let block = block_without(text, symbols, gap);
+        if !is_whole(&block) {
+            return Ok(0);
+        }
+        match self.write(&decode(&block)) {
+            Ok(()) => Ok(64 + gap),
+            Err(error) => Err(error),
+        }
+    }
+
+    /// The same with a gap of one or two bytes, as a line break is.
+    #[inline(always)]
+    fn feed_past(&mut self, text: &[u8]) -> Result<usize, DecodeError<E>>
+        requires callable { F.IsAlwaysCallable (state_of self.old).closure }
+        requires going { (state_of self.old).failed ≡ false }
+        requires none { ((state_of self.old).symbols ≡ []) × ((state_of self.old).padding ≡ 0) }
+        requires long { 64 ≤ length text.now }
+        ensures callable { F.IsAlwaysCallable (state_of self.new).closure }
+        ensures fed { MatchResult result
+            (λ taken. (taken ≡ 0 → state_of self.new ≡ state_of self.old) × (0 < taken
+            → FeedsBlock (CalledAt F.FnMut) (state_of self.old) text.now taken (Ok tt)
+            (state_of self.new)))
+            (λ error. (taken : ℕ) × FeedsBlock (CalledAt F.FnMut) (state_of self.old) text.now
+            taken (Err error) (state_of self.new)) }
+    {
+        if text.len() < 66 {
+            return Ok(0);
+        }
+        let symbols = symbols_ahead(text);
+        match gap_at(text, symbols) {
+            1 => self.feed_without(text, symbols, 1),
+            2 => self.feed_without(text, symbols, 2),
+            _ => Ok(0),
+        }
+    }
+
+    /// Hands out a block of 64 symbols as one piece, or one with a gap in it. It answers how many bytes of the text they take,
+    /// or 0 where it does not begin with such a block.
+    #[inline(always)]
+    fn feed_block(&mut self, text: &[u8]) -> Result<usize, DecodeError<E>>
+        requires callable { F.IsAlwaysCallable (state_of self.old).closure }
+        requires going { (state_of self.old).failed ≡ false }
+        requires none { ((state_of self.old).symbols ≡ []) × ((state_of self.old).padding ≡ 0) }
+        requires long { 64 ≤ length text.now }
+        ensures callable { F.IsAlwaysCallable (state_of self.new).closure }
+        ensures fed { MatchResult result
+            (λ taken. (taken ≡ 0 → state_of self.new ≡ state_of self.old) × (0 < taken
+            → FeedsBlock (CalledAt F.FnMut) (state_of self.old) text.now taken (Ok tt)
+            (state_of self.new)))
+            (λ error. (taken : ℕ) × FeedsBlock (CalledAt F.FnMut) (state_of self.old) text.now
+            taken (Err error) (state_of self.new)) }
+    {
+        if !is_whole(text) {
+            return self.feed_past(text);
+        }
+        match self.write(&decode(text)) {
+            Ok(()) => Ok(64),
+            Err(error) => Err(error),
+        }
+    }
+
     /// Hands out the blocks of 64 symbols that a text begins with, each as one piece, where nothing came before them that
-    /// they could belong to. It answers how many bytes of the text they take.
+    /// they could belong to. It answers how many bytes of the text they take, with the gaps in them.
     #[inline(always)]
     fn feed_blocks(&mut self, text: &[u8]) -> Result<usize, DecodeError<E>>
         requires callable { F.IsAlwaysCallable (state_of self.old).closure }
@@ -263,12 +348,9 @@ where
             return Ok(0);
         }
         while text.len() - at >= 64 {
-            let rest = &text[at..];
-            if !is_whole(rest) {
-                return Ok(at);
-            }
-            match self.write(&decode(rest)) {
-                Ok(()) => at += 64,
+            match self.feed_block(&text[at..]) {
+                Ok(0) => return Ok(at),
+                Ok(taken) => at += taken,
                 Err(error) => return Err(error),
             }
         }

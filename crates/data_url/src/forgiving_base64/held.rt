@@ -150,9 +150,10 @@ impl Held {
 
 /// How many bytes of white space stand at a place, where a line break has one or two.
 #[inline(always)]
-fn gap_at(text: &[u8], place: usize) -> usize
+pub(crate) fn gap_at(text: &[u8], place: usize) -> usize
     requires { place + 1 < length text.now }
-    ensures { IsTrue (list_all is_ascii_whitespace (take result (drop place text.now))) }
+    ensures white { IsTrue (list_all is_ascii_whitespace (take result (drop place text.now))) }
+    ensures few { result ≤ 2 }
 {
     if !text[place].is_ascii_whitespace() {
         0

@@ -1,4 +1,4 @@
-use Rattle.std.proofs.Common.{◌≡◌, ◌+◌, ◌≤◌, ap, arith, length, length-take, take, ◌∙◌}
+use Rattle.std.proofs.Common.{◌≡◌, ap, arith, length-drop, length-take, take, ◌∙◌}
 use Rattle.std.specs.Fn.{CalledAt}
 use Rattle.data_url.proofs.ByteLemmas.{adds_none}
 use Rattle.data_url.proofs.HoldLemmas.{block_holds, block_refused, holds_from}
@@ -28,17 +28,16 @@ loop-at-init g c =
 pub loop-at-preserved : goal.loop-at-preserved
 loop-at-preserved g c =
     let i = c.loop-at.invariant in
-    let far : c.loop-at.at + 64 ≤ length c.args.text.now = omega (arith, c.loop-at-test.true) in
+    let b = c.in-Ok.ensures.fed.1 (omega arith) in
     record {
       callable = c.in-Ok.ensures.callable;
-      within = far;
-      symbols = c.in-Ok.ensures.wrote.symbols_stay ∙ i.symbols;
-      padding = c.in-Ok.ensures.wrote.padding_stays ∙ i.padding;
-      holds = block_holds (CalledAt g.F.FnMut) c.args.text.now c.loop-at.at c.type_inv.text i.holds i.symbols i.padding far c.if-not-is_whole.ensures c.decode.ensures c.in-Ok.ensures.wrote;
+      within = omega (arith, b.gains.within, length-drop c.loop-at.at c.args.text.now, c.loop-at-test.true);
+      symbols = b.wrote.symbols_stay ∙ i.symbols;
+      padding = b.wrote.padding_stays ∙ i.padding;
+      holds = block_holds (CalledAt g.F.FnMut) c.args.text.now c.loop-at.at i.holds b;
     }
 
 pub returns-in-Err-clause-fed : goal.returns-in-Err-clause-fed
 returns-in-Err-clause-fed g c =
-    let i = c.loop-at.invariant in
-    let far : c.loop-at.at + 64 ≤ length c.args.text.now = omega (arith, c.loop-at-test.true) in
-    block_refused (CalledAt g.F.FnMut) c.args.text.now c.loop-at.at c.type_inv.text i.holds i.symbols i.padding far c.if-not-is_whole.ensures c.decode.ensures c.in-Err.ensures.wrote
+    let b = c.in-Err.ensures.fed in
+    block_refused (CalledAt g.F.FnMut) b.0 c.args.text.now c.loop-at.at c.loop-at.invariant.holds b.1
