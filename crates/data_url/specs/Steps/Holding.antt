@@ -1,5 +1,5 @@
 -- What a decoder makes of some text while bytes wait to be handed out together.
-use Rattle.std.specs.Prelude.{[], ◌*◌, ◌++◌, ◌+◌, ◌∷◌, ◌≡◌, ◌≤◌, List, None, Ok, Option, Result, Some, false, is_some, length, take, true, ℕ}
+use Rattle.std.specs.Prelude.{[], ◌*◌, ◌++◌, ◌+◌, ◌∷◌, ◌<◌, ◌≡◌, ◌≤◌, Err, List, MatchResult, None, Ok, Option, Result, Some, false, is_some, length, take, true, ℕ}
 use Rattle.data_url.specs.Base64.{Kind, done, first_fault, kind_of}
 use Rattle.data_url.specs.Decoder.{IsLeft, State, left_over}
 use Rattle.data_url.specs.Run.{Call, IsRun, joined, refusal}
@@ -66,6 +66,13 @@ pub record FeedsBlock {F E : Type 0} (step : F → List ℕ → Result (Unit {0}
   pub gains : Gains d [] text taken d bytes
   pub full : length bytes ≡ 48
   pub wrote : CallsOnce step d bytes r d'
+
+-- d fed a block that the text begins with, and answered how many bytes it takes; or 0, and d stays
+abbrev pub TriesBlock : {F E : Type 0} → (F → List ℕ → Result (Unit {0}) E → F → Type 0) → State F
+    → List ℕ → Result ℕ (DecodeError E) → State F → Type 0
+TriesBlock step d text r d' = MatchResult r
+    (λ taken. (taken ≡ 0 → d' ≡ d) × (0 < taken → FeedsBlock step d text taken (Ok tt) d'))
+    (λ error. (taken : ℕ) × FeedsBlock step d text taken (Err error) d')
 
 -- d took the first so many bytes of the text and handed out all their groups, which was accepted,
 -- and is d' now

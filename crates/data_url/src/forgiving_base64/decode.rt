@@ -1,6 +1,6 @@
 //! Decoding piece by piece (Infra Standard, forgiving-base64 decode).
 
-ghost use Rattle.std.specs.Prelude.{◌≡◌, ℕ, ◌<◌, ◌≤◌, [], ◌∷◌, ◌+◌, Err, IsTrue, MatchResult, Ok, drop, length, slice_index, take, true, false};
+ghost use Rattle.std.specs.Prelude.{◌≡◌, ◌<◌, ◌≤◌, [], ◌∷◌, ◌+◌, Err, IsTrue, MatchResult, Ok, drop, length, slice_index, take, true, false};
 ghost use Rattle.std.specs.List.{list_all};
 ghost use Rattle.std.specs.Char.{is_ascii_whitespace};
 ghost use Rattle.data_url.specs.Base64.{is_symbol};
@@ -45,7 +45,7 @@ where
     ghost use Rattle.data_url.specs.InvalidBase64.{kind_of_details};
     ghost use Rattle.data_url.specs.Steps.Calls.{CallsOnce};
     ghost use Rattle.data_url.specs.Steps.HeldState.{held_bytes};
-    ghost use Rattle.data_url.specs.Steps.Holding.{Adds, FeedsBlock, FeedsBlocks, Flushes, Gains, Refuses, bytes_in};
+    ghost use Rattle.data_url.specs.Steps.Holding.{Adds, FeedsBlocks, Flushes, Gains, Refuses, TriesBlock, bytes_in};
 
     /// A decoder that has seen nothing yet, and hands its bytes to the closure. The closure has to be one that may be
     /// called on any bytes, whatever it was called with before.
@@ -262,12 +262,8 @@ where
         requires early { symbols ≤ 64 }
         requires white { IsTrue (list_all is_ascii_whitespace (take gap (drop symbols text.now))) }
         ensures callable { F.IsAlwaysCallable (state_of self.new).closure }
-        ensures fed { MatchResult result
-            (λ taken. (taken ≡ 0 → state_of self.new ≡ state_of self.old) × (0 < taken
-            → FeedsBlock (CalledAt F.FnMut) (state_of self.old) text.now taken (Ok tt)
-            (state_of self.new)))
-            (λ error. (taken : ℕ) × FeedsBlock (CalledAt F.FnMut) (state_of self.old) text.now
-            taken (Err error) (state_of self.new)) }
+        ensures fed { TriesBlock (CalledAt F.FnMut) (state_of self.old) text.now result
+            (state_of self.new) }
     {
         let block = block_without(text, symbols, gap);
         if !is_whole(&block) {
@@ -287,12 +283,8 @@ where
         requires none { ((state_of self.old).symbols ≡ []) × ((state_of self.old).padding ≡ 0) }
         requires long { 64 ≤ length text.now }
         ensures callable { F.IsAlwaysCallable (state_of self.new).closure }
-        ensures fed { MatchResult result
-            (λ taken. (taken ≡ 0 → state_of self.new ≡ state_of self.old) × (0 < taken
-            → FeedsBlock (CalledAt F.FnMut) (state_of self.old) text.now taken (Ok tt)
-            (state_of self.new)))
-            (λ error. (taken : ℕ) × FeedsBlock (CalledAt F.FnMut) (state_of self.old) text.now
-            taken (Err error) (state_of self.new)) }
+        ensures fed { TriesBlock (CalledAt F.FnMut) (state_of self.old) text.now result
+            (state_of self.new) }
     {
         if text.len() < 66 {
             return Ok(0);
@@ -314,12 +306,8 @@ where
         requires none { ((state_of self.old).symbols ≡ []) × ((state_of self.old).padding ≡ 0) }
         requires long { 64 ≤ length text.now }
         ensures callable { F.IsAlwaysCallable (state_of self.new).closure }
-        ensures fed { MatchResult result
-            (λ taken. (taken ≡ 0 → state_of self.new ≡ state_of self.old) × (0 < taken
-            → FeedsBlock (CalledAt F.FnMut) (state_of self.old) text.now taken (Ok tt)
-            (state_of self.new)))
-            (λ error. (taken : ℕ) × FeedsBlock (CalledAt F.FnMut) (state_of self.old) text.now
-            taken (Err error) (state_of self.new)) }
+        ensures fed { TriesBlock (CalledAt F.FnMut) (state_of self.old) text.now result
+            (state_of self.new) }
     {
         if !is_whole(text) {
             return self.feed_past(text);
