@@ -5,7 +5,7 @@ ghost use Rattle.std.specs.List.{list_all};
 ghost use Rattle.data_url.specs.Base64.{is_ascii_whitespace, is_symbol};
 
 use super::alphabet::{group_of, is_symbol, rest_of_three, rest_of_two};
-use super::blocks::{block_without, decode, is_whole, symbols_ahead};
+use super::blocks::{block_without, decode, is_whole, others_ahead};
 use super::held::{Held, ROOM, gap_at};
 use super::{DecodeError, InvalidBase64, InvalidBase64Details};
 
@@ -43,6 +43,7 @@ where
     ghost use Rattle.data_url.specs.DecoderState.{state_of};
     ghost use Rattle.data_url.specs.Refusal.{kind_of_details};
     ghost use Rattle.data_url.specs.Steps.{Writes};
+    ghost use Rattle.data_url.specs.Steps.Blocks.{without};
     ghost use Rattle.data_url.specs.Steps.HeldState.{held_bytes};
     ghost use Rattle.data_url.specs.Steps.Holding.{Adds, FeedsBlock, FeedsBlocks, Flushes, Gains, Refuses, bytes_in};
 
@@ -253,7 +254,7 @@ where
     }
 
     /// Hands out the groups of a block of 64 symbols with a gap of white space behind so many of them, as one piece. It answers
-    /// how many bytes of the text they take, or 0 where it does not begin with such a block.
+    /// how many bytes of the text they take.
     #[inline(always)]
     fn feed_without(
         &mut self,
@@ -267,6 +268,7 @@ where
         requires within { 64 + gap ≤ length text.now }
         requires early { symbols ≤ 64 }
         requires white { IsTrue (list_all is_ascii_whitespace (take gap (drop symbols text.now))) }
+        requires whole { IsTrue (list_all is_symbol (take 64 (without symbols gap text.now))) }
         ensures callable { F.IsAlwaysCallable (state_of self.new).closure }
         ensures fed { MatchResult result
             (λ taken. (taken ≡ 0 → state_of self.new ≡ state_of self.old) × (0 < taken
@@ -275,17 +277,13 @@ where
             (λ error. (taken : ℕ) × FeedsBlock (CalledAt F.FnMut) (state_of self.old) text.now
             taken (Err error) (state_of self.new)) }
     {
-        let block = block_without(text, symbols, gap);
-        if !is_whole(&block) {
-            return Ok(0);
-        }
-        match self.write(&decode(&block)) {
+        match self.write(&decode(&block_without(text, symbols, gap))) {
             Ok(()) => Ok(64 + gap),
             Err(error) => Err(error),
         }
     }
 
-    /// The same with a gap of one or two bytes, as a line break is.
+    /// The same with a gap of one or two bytes, as a line break is, or 0 where the text does not begin with such a block.
     #[inline(always)]
     fn feed_past(&mut self, text: &[u8]) -> Result<usize, DecodeError<E>>
         requires callable { F.IsAlwaysCallable (state_of self.old).closure }
@@ -303,10 +301,17 @@ where
         if text.len() < 66 {
             return Ok(0);
         }
-        let symbols = symbols_ahead(text);
+        let others = others_ahead(text);
+        if others == 0 {
+            return Ok(0);
+        }
+        let symbols = others.trailing_zeros() as usize;
+        let behind = others >> symbols;
         match gap_at(text, symbols) {
-            1 => self.feed_without(text, symbols, 1),
-            2 => self.feed_without(text, symbols, 2),
+            1 if behind < 2 && is_symbol(text[64]) => self.feed_without(text, symbols, 1),
+            2 if behind < 4 && is_symbol(text[64]) && is_symbol(text[65]) => {
+                self.feed_without(text, symbols, 2)
+            }
             _ => Ok(0),
         }
     }
