@@ -18,6 +18,7 @@ pub mod FillLemmas
 pub mod FragmentAgainLemmas
 pub mod FragmentLemmas
 pub mod FreeLemmas
+pub mod GapLemmas
 pub mod GatherLemmas
 pub mod HeadLemmas
 pub mod HeaderLemmas

@@ -101,7 +101,7 @@ pub take_none : (k : ℕ) → ◌≡◌ {A = List ℕ} [] (take k [])
 take_none zero = refl
 take_none (suc k) = refl
 
-drop_taken : (k n : ℕ) (xs : List ℕ) → drop k (take n xs) ≡ take (n - k) (drop k xs)
+pub drop_taken : (k n : ℕ) (xs : List ℕ) → drop k (take n xs) ≡ take (n - k) (drop k xs)
 drop_taken zero n xs = let e : n - zero ≡ n = omega arith in ap (λ i. take i xs) (sym e)
 drop_taken (suc k) zero xs = let e : zero - suc k ≡ zero = omega arith in ap (λ i. take i (drop (suc k) xs)) (sym e)
 drop_taken (suc k) (suc n) [] = take_none (suc n - suc k)

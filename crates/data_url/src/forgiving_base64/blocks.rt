@@ -42,15 +42,24 @@ fn others(bytes: u8x16) -> u64
     marks_of(bytes).simd_ne(u8x16::splat(0)).to_bitmask()
 }
 
+/// A bit for each of the first 64 bytes, which is set where it is no symbol.
+#[inline(always)]
+pub(crate) fn others_ahead(text: &[u8]) -> u64
+    requires { 64 ≤ length text.now }
+    ensures { result ≡ mask_l (map (λ b. not (is_symbol b)) (take 64 text.now)) }
+{
+    let upper = others(row(text, 0)) + (others(row(text, 16)) << 16);
+    let lower = others(row(text, 32)) + (others(row(text, 48)) << 16);
+    upper + (lower << 32)
+}
+
 /// How many of the first 64 bytes stand before the first of them that is no symbol.
 #[inline(always)]
 pub(crate) fn symbols_ahead(text: &[u8]) -> usize
     requires { 64 ≤ length text.now }
     ensures { result ≡ prefix_len is_symbol (take 64 text.now) }
 {
-    let upper = others(row(text, 0)) + (others(row(text, 16)) << 16);
-    let lower = others(row(text, 32)) + (others(row(text, 48)) << 16);
-    let all = upper + (lower << 32);
+    let all = others_ahead(text);
     if all == 0 {
         64
     } else {

@@ -6,7 +6,7 @@ ghost use Rattle.std.specs.Char.{is_ascii_whitespace};
 ghost use Rattle.data_url.specs.Base64.{is_symbol};
 
 use super::alphabet::{group_of, is_symbol, rest_of_three, rest_of_two};
-use super::blocks::{block_without, decode, is_whole, symbols_ahead};
+use super::blocks::{block_without, decode, is_whole, others_ahead};
 use super::held::{Held, ROOM, gap_at};
 use super::{DecodeError, InvalidBase64, InvalidBase64Details};
 
@@ -44,6 +44,7 @@ where
     ghost use Rattle.data_url.specs.Decoder.{Feeds, Finishes, start, state_of};
     ghost use Rattle.data_url.specs.InvalidBase64.{kind_of_details};
     ghost use Rattle.data_url.specs.Steps.Calls.{CallsOnce};
+    ghost use Rattle.data_url.specs.Steps.Blocks.{without};
     ghost use Rattle.data_url.specs.Steps.HeldState.{held_bytes};
     ghost use Rattle.data_url.specs.Steps.Holding.{Adds, FeedsBlocks, Flushes, Gains, Refuses, TriesBlock, bytes_in};
 
@@ -247,7 +248,7 @@ where
     }
 
     /// Hands out the groups of a block of 64 symbols with a gap of white space behind so many of them, as one piece. It answers
-    /// how many bytes of the text they take, or 0 where it does not begin with such a block.
+    /// how many bytes of the text they take.
     #[inline(always)]
     fn feed_without(
         &mut self,
@@ -261,21 +262,18 @@ where
         requires within { 64 + gap ≤ length text.now }
         requires early { symbols ≤ 64 }
         requires white { IsTrue (list_all is_ascii_whitespace (take gap (drop symbols text.now))) }
+        requires whole { IsTrue (list_all is_symbol (take 64 (without symbols gap text.now))) }
         ensures callable { F.IsAlwaysCallable (state_of self.new).closure }
         ensures fed { TriesBlock (CalledAt F.FnMut) (state_of self.old) text.now result
             (state_of self.new) }
     {
-        let block = block_without(text, symbols, gap);
-        if !is_whole(&block) {
-            return Ok(0);
-        }
-        match self.write(&decode(&block)) {
+        match self.write(&decode(&block_without(text, symbols, gap))) {
             Ok(()) => Ok(64 + gap),
             Err(error) => Err(error),
         }
     }
 
-    /// The same with a gap of one or two bytes, as a line break is.
+    /// The same with a gap of one or two bytes, as a line break is, or 0 where the text does not begin with such a block.
     #[inline(always)]
     fn feed_past(&mut self, text: &[u8]) -> Result<usize, DecodeError<E>>
         requires callable { F.IsAlwaysCallable (state_of self.old).closure }
@@ -289,10 +287,17 @@ where
         if text.len() < 66 {
             return Ok(0);
         }
-        let symbols = symbols_ahead(text);
+        let others = others_ahead(text);
+        if others == 0 {
+            return Ok(0);
+        }
+        let symbols = others.trailing_zeros() as usize;
+        let behind = others >> symbols;
         match gap_at(text, symbols) {
-            1 => self.feed_without(text, symbols, 1),
-            2 => self.feed_without(text, symbols, 2),
+            1 if behind < 2 && is_symbol(text[64]) => self.feed_without(text, symbols, 1),
+            2 if behind < 4 && is_symbol(text[64]) && is_symbol(text[65]) => {
+                self.feed_without(text, symbols, 2)
+            }
             _ => Ok(0),
         }
     }
