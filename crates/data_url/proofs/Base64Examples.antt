@@ -11,9 +11,9 @@ spaces : (is_valid (codes "Y Q = =") ≡ true) × (decoded (codes "Y Q = =") ≡
 unfolding on_literals
 spaces = (refl, refl)
 
-one_sign_for_two : (is_valid (codes "ab=") ≡ false) × (kind_of (codes "ab=") ≡ Padding)
+one_pad_for_two : (is_valid (codes "ab=") ≡ false) × (kind_of (codes "ab=") ≡ Padding)
 unfolding on_literals
-one_sign_for_two = (refl, refl)
+one_pad_for_two = (refl, refl)
 
 symbol_after_padding : (is_valid (codes "ab==c") ≡ false) × (first_fault (codes "ab==c") ≡ Some 4) × (kind_of (codes "ab==c") ≡ AlphabetSymbolAfterPadding)
 unfolding on_literals
@@ -23,10 +23,10 @@ lone_symbol : (is_valid (codes "a") ≡ false) × (first_fault (codes "a") ≡ N
 unfolding on_literals
 lone_symbol = (refl, refl, refl)
 
-abbrev many_signs : List ℕ
-many_signs = codes "QQ" ++ replicate 258 61
+abbrev many_pads : List ℕ
+many_pads = codes "QQ" ++ replicate 258 61
 
-padding_does_not_wrap : (is_valid many_signs ≡ false) × (kind_of many_signs ≡ Padding)
+padding_does_not_wrap : (is_valid many_pads ≡ false) × (kind_of many_pads ≡ Padding)
 unfolding on_literals
 padding_does_not_wrap = (refl, refl)
 
@@ -38,15 +38,15 @@ form_feed : (is_valid (codes "Q" ++ 12 ∷ codes "Q") ≡ true) × (decoded (cod
 unfolding on_literals
 form_feed = (refl, refl)
 
--- the group before a wrong sign is done
-whole_group_and_sign : (is_valid (codes "QUJD=") ≡ false) × (done (codes "QUJD=") ≡ codes "ABC") × (kind_of (codes "QUJD=") ≡ Padding)
+-- the group before a wrong pad is done
+whole_group_and_pad : (is_valid (codes "QUJD=") ≡ false) × (done (codes "QUJD=") ≡ codes "ABC") × (kind_of (codes "QUJD=") ≡ Padding)
 unfolding on_literals
-whole_group_and_sign = (refl, refl, refl)
+whole_group_and_pad = (refl, refl, refl)
 
--- an unexpected byte is the fault, also behind a sign
-unexpected_behind_sign : (first_fault (codes "=!") ≡ Some 1) × (kind_of (codes "=!") ≡ UnexpectedSymbol 33)
+-- an unexpected byte is the fault, also behind a pad
+unexpected_behind_pad : (first_fault (codes "=!") ≡ Some 1) × (kind_of (codes "=!") ≡ UnexpectedSymbol 33)
 unfolding on_literals
-unexpected_behind_sign = (refl, refl)
+unexpected_behind_pad = (refl, refl)
 
 above_ascii : (first_fault (255 ∷ []) ≡ Some 0) × (kind_of (255 ∷ []) ≡ UnexpectedSymbol 255)
 unfolding on_literals
@@ -66,7 +66,7 @@ alphabet : (decoded (codes "AZaz09+/") ≡ 1 ∷ 150 ∷ 179 ∷ 211 ∷ 223 ∷
 unfolding on_literals
 alphabet = refl
 
--- what is left of a text: symbols in their order, and signs counted up to three
-left : (left_text (left_symbols (codes "QUJDY W=")) (left_padding (codes "QUJDY W=")) ≡ codes "YW=") × (left_padding many_signs ≡ 3)
+-- what is left of a text: symbols in their order, and pads counted up to three
+left : (left_text (left_symbols (codes "QUJDY W=")) (left_padding (codes "QUJDY W=")) ≡ codes "YW=") × (left_padding many_pads ≡ 3)
 unfolding on_literals
 left = (refl, refl)

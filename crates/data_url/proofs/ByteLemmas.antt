@@ -15,7 +15,7 @@ use Rattle.data_url.specs.Steps.Holding.{Adds, Refuses}
 use Rattle.data_url.specs.declared.forgiving_base64.DecodeError.{DecodeError}
 use Rattle.data_url.specs.declared.forgiving_base64.DecodeError.TheVariants.{InvalidBase64, WriteError}
 use Rattle.data_url.proofs.RunLemmas.{match_none, prefix_all}
-use Rattle.data_url.proofs.PaddingLemmas.{any_of_text, before-append, before_fault, before_none, classes, done_is, fault-append, fault_byte, fault_signs, fault_some, fault_text, is_sign, kind_by, kind_fault, kind_is, no_fault_valid, none_fault, signs_of_text, symbols_of_text}
+use Rattle.data_url.proofs.PaddingLemmas.{any_of_text, before-append, before_fault, before_none, classes, done_is, fault-append, fault_byte, fault_pads, fault_some, fault_text, is_pad, kind_by, kind_fault, kind_is, no_fault_valid, none_fault, pads_of_text, symbols_of_text}
 use Rattle.data_url.proofs.ValidLemmas.{fits_with}
 use Rattle.data_url.proofs.WalkLemmas.{bad, is_bad, some_not_none, space_alone, symbol_alone}
 
@@ -39,28 +39,28 @@ after_few (a ∷ b ∷ c ∷ e ∷ t) h = absurd (omega arith)
 before_one : (c : ℕ) (s : Bool) → fault_byte s (c ∷ []) ≡ Some c → before_fault s (c ∷ []) ≡ []
 unfolding fault_byte before_fault
 before_one c s h =
-    elim (is_bad is_ascii_whitespace is_sign is_symbol s c) as (λ v. cond v (Some c) None ≡ Some c → cond v [] (c ∷ []) ≡ []) [ true ↦ λ e. refl | false ↦ λ e. absurd (some_not_none c (sym e)) ] h
+    elim (is_bad is_ascii_whitespace is_pad is_symbol s c) as (λ v. cond v (Some c) None ≡ Some c → cond v [] (c ∷ []) ≡ []) [ true ↦ λ e. refl | false ↦ λ e. absurd (some_not_none c (sym e)) ] h
 
--- whether a sign stands among so many
-abbrev pub has_sign : ℕ → Bool
-has_sign p = list_any is_sign (replicate p 61)
+-- whether a pad stands among so many
+abbrev pub has_pad : ℕ → Bool
+has_pad p = list_any is_pad (replicate p 61)
 
 module _ (q : List ℕ) (p : ℕ) (every : Every is_symbol q) where
-  pub fault_more : (t : List ℕ) → fault_byte false (left_text q p ++ t) ≡ fault_byte (has_sign p) t
+  pub fault_more : (t : List ℕ) → fault_byte false (left_text q p ++ t) ≡ fault_byte (has_pad p) t
   fault_more t = fault-append (left_text q p) t false (fault_text q p every) ∙ ap (λ s. fault_byte s t) (any_of_text q p every)
 
-  pub before_more : (t : List ℕ) → before_fault false (left_text q p ++ t) ≡ left_text q p ++ before_fault (has_sign p) t
+  pub before_more : (t : List ℕ) → before_fault false (left_text q p ++ t) ≡ left_text q p ++ before_fault (has_pad p) t
   before_more t = before-append (left_text q p) t false (fault_text q p every) ∙ ap (λ s. left_text q p ++ before_fault s t) (any_of_text q p every)
 
   pub symbols_more : (t : List ℕ) → filter is_symbol (left_text q p ++ t) ≡ q ++ filter is_symbol t
   symbols_more t = filter-append is_symbol (left_text q p) t ∙ ap (λ x. x ++ filter is_symbol t) (symbols_of_text q p every)
 
-  pub signs_more : (t : List ℕ) → length (filter is_sign (left_text q p ++ t)) ≡ p + length (filter is_sign t)
-  signs_more t =
-      ap length (filter-append is_sign (left_text q p) t)
-      ∙ length-append (filter is_sign (left_text q p)) (filter is_sign t)
-      ∙ ap (λ x. length x + length (filter is_sign t)) (signs_of_text q p every)
-      ∙ ap (λ x. x + length (filter is_sign t)) (length-replicate p 61)
+  pub pads_more : (t : List ℕ) → length (filter is_pad (left_text q p ++ t)) ≡ p + length (filter is_pad t)
+  pads_more t =
+      ap length (filter-append is_pad (left_text q p) t)
+      ∙ length-append (filter is_pad (left_text q p)) (filter is_pad t)
+      ∙ ap (λ x. length x + length (filter is_pad t)) (pads_of_text q p every)
+      ∙ ap (λ x. x + length (filter is_pad t)) (length-replicate p 61)
 
   pub values_more : (t : List ℕ) → values (left_text q p ++ t) ≡ map symbol_value (q ++ filter is_symbol t)
   unfolding values
@@ -71,7 +71,7 @@ module _ (q : List ℕ) (p : ℕ) (every : Every is_symbol q) where
   values_left = ap (map symbol_value) (symbols_of_text q p every)
 
   -- what comes of some text t without a fault
-  pub done_more : (t : List ℕ) → fault_byte (has_sign p) t ≡ None → done (left_text q p ++ t) ≡ groups (map symbol_value (q ++ filter is_symbol t))
+  pub done_more : (t : List ℕ) → fault_byte (has_pad p) t ≡ None → done (left_text q p ++ t) ≡ groups (map symbol_value (q ++ filter is_symbol t))
   done_more t h =
       done_is (left_text q p ++ t)
       ∙ ap (λ x. groups (values x)) (before_none (left_text q p ++ t) false (fault_more t ∙ h))
@@ -81,27 +81,27 @@ module _ (q : List ℕ) (p : ℕ) (every : Every is_symbol q) where
   unfolding left_symbols
   left_more t = ap after_groups (symbols_more t)
 
-  pub padding_more : (t : List ℕ) → left_padding (left_text q p ++ t) ≡ min (p + length (filter is_sign t)) 3
+  pub padding_more : (t : List ℕ) → left_padding (left_text q p ++ t) ≡ min (p + length (filter is_pad t)) 3
   unfolding left_padding
-  padding_more t = ap (λ x. min x 3) (signs_more t)
+  padding_more t = ap (λ x. min x 3) (pads_more t)
 
   -- and of one bad byte
-  pub done_bad : (c : ℕ) → length q ≤ 3 → fault_byte (has_sign p) (c ∷ []) ≡ Some c → done (left_text q p ++ c ∷ []) ≡ []
+  pub done_bad : (c : ℕ) → length q ≤ 3 → fault_byte (has_pad p) (c ∷ []) ≡ Some c → done (left_text q p ++ c ∷ []) ≡ []
   done_bad c few h =
       done_is (left_text q p ++ c ∷ [])
-      ∙ ap (λ x. groups (values x)) (before_more (c ∷ []) ∙ ap (λ x. left_text q p ++ x) (before_one c (has_sign p) h) ∙ append-nil (left_text q p))
+      ∙ ap (λ x. groups (values x)) (before_more (c ∷ []) ∙ ap (λ x. left_text q p ++ x) (before_one c (has_pad p) h) ∙ append-nil (left_text q p))
       ∙ ap groups values_left
       ∙ groups_few (map symbol_value q) (omega (arith, few, length-map q symbol_value))
 
-  pub kind_bad : (c : ℕ) → fault_byte (has_sign p) (c ∷ []) ≡ Some c → kind_of (left_text q p ++ c ∷ []) ≡ cond (is_symbol c) AlphabetSymbolAfterPadding (UnexpectedSymbol c)
+  pub kind_bad : (c : ℕ) → fault_byte (has_pad p) (c ∷ []) ≡ Some c → kind_of (left_text q p ++ c ∷ []) ≡ cond (is_symbol c) AlphabetSymbolAfterPadding (UnexpectedSymbol c)
   kind_bad c h = kind_fault (left_text q p ++ c ∷ []) c (fault_more (c ∷ []) ∙ h)
 
   -- as the end
   pub valid_left : is_valid (left_text q p) ≡ fits_with (length q % 4) p
   valid_left =
       no_fault_valid (left_text q p) (fault_text q p every)
-      ∙ ap (λ x. fits_with (length x % 4) (length (filter is_sign (left_text q p)))) (symbols_of_text q p every)
-      ∙ ap (λ x. fits_with (length q % 4) (length x)) (signs_of_text q p every)
+      ∙ ap (λ x. fits_with (length x % 4) (length (filter is_pad (left_text q p)))) (symbols_of_text q p every)
+      ∙ ap (λ x. fits_with (length q % 4) (length x)) (pads_of_text q p every)
       ∙ ap (fits_with (length q % 4)) (length-replicate p 61)
 
   pub decoded_left : decoded (left_text q p) ≡ groups (map symbol_value q) ++ rest_bytes (after_groups (map symbol_value q))
@@ -120,9 +120,9 @@ module _ (q : List ℕ) (p : ℕ) (every : Every is_symbol q) where
 bad_by : (x x' y y' z z' s : Bool) → x ≡ x' → y ≡ y' → z ≡ z' → bad x y z s ≡ bad x' y' z' s
 bad_by x x' y y' z z' s e f g = ap (λ v. bad v y z s) e ∙ ap (λ v. bad x' v z s) f ∙ ap (λ v. bad x' y' v s) g
 
-fault_one : (c : ℕ) (s x y z : Bool) → is_ascii_whitespace c ≡ x → is_sign c ≡ y → is_symbol c ≡ z → fault_byte s (c ∷ []) ≡ cond (bad x y z s) (Some c) None
+fault_one : (c : ℕ) (s x y z : Bool) → is_ascii_whitespace c ≡ x → is_pad c ≡ y → is_symbol c ≡ z → fault_byte s (c ∷ []) ≡ cond (bad x y z s) (Some c) None
 unfolding fault_byte
-fault_one c s x y z e f g = ap (λ v. cond v (Some c) None) (bad_by (is_ascii_whitespace c) x (is_sign c) y (is_symbol c) z s e f g)
+fault_one c s x y z e f g = ap (λ v. cond v (Some c) None) (bad_by (is_ascii_whitespace c) x (is_pad c) y (is_symbol c) z s e f g)
 
 filter_one : (p : ℕ → Bool) (c : ℕ) (v : Bool) → p c ≡ v → filter p (c ∷ []) ≡ cond v (c ∷ []) []
 filter_one p c v e = ap (λ w. cond w (c ∷ []) []) e
@@ -133,28 +133,28 @@ fault_space c s e = let k = space_alone (classes c) e in fault_one c s true fals
 pub symbols_space : (c : ℕ) → is_ascii_whitespace c ≡ true → filter is_symbol (c ∷ []) ≡ []
 symbols_space c e = filter_one is_symbol c false (space_alone (classes c) e).1
 
-pub signs_space : (c : ℕ) → is_ascii_whitespace c ≡ true → filter is_sign (c ∷ []) ≡ []
-signs_space c e = filter_one is_sign c false (space_alone (classes c) e).0
+pub pads_space : (c : ℕ) → is_ascii_whitespace c ≡ true → filter is_pad (c ∷ []) ≡ []
+pads_space c e = filter_one is_pad c false (space_alone (classes c) e).0
 
 pub fault_symbol : (c : ℕ) → is_symbol c ≡ true → fault_byte false (c ∷ []) ≡ None
 fault_symbol c e = let k = symbol_alone (classes c) e in fault_one c false false false true k.0 k.1 e
 
--- a symbol behind a sign
+-- a symbol behind a pad
 pub fault_behind : (c : ℕ) → is_symbol c ≡ true → fault_byte true (c ∷ []) ≡ Some c
 fault_behind c e = let k = symbol_alone (classes c) e in fault_one c true false false true k.0 k.1 e
 
 pub symbols_symbol : (c : ℕ) → is_symbol c ≡ true → filter is_symbol (c ∷ []) ≡ c ∷ []
 symbols_symbol c e = filter_one is_symbol c true e
 
-pub signs_symbol : (c : ℕ) → is_symbol c ≡ true → filter is_sign (c ∷ []) ≡ []
-signs_symbol c e = filter_one is_sign c false (symbol_alone (classes c) e).1
+pub pads_symbol : (c : ℕ) → is_symbol c ≡ true → filter is_pad (c ∷ []) ≡ []
+pads_symbol c e = filter_one is_pad c false (symbol_alone (classes c) e).1
 
-pub fault_other : (c : ℕ) (s : Bool) → is_ascii_whitespace c ≡ false → is_sign c ≡ false → is_symbol c ≡ false → fault_byte s (c ∷ []) ≡ Some c
+pub fault_other : (c : ℕ) (s : Bool) → is_ascii_whitespace c ≡ false → is_pad c ≡ false → is_symbol c ≡ false → fault_byte s (c ∷ []) ≡ Some c
 fault_other c s e f g = fault_one c s false false false e f g
 
-pub has_sign_some : (p : ℕ) → 1 ≤ p → has_sign p ≡ true
-has_sign_some zero h = absurd (omega arith)
-has_sign_some (suc p) h = refl
+pub has_pad_some : (p : ℕ) → 1 ≤ p → has_pad p ≡ true
+has_pad_some zero h = absurd (omega arith)
+has_pad_some (suc p) h = refl
 
 -- Groups of four and what is left, written out
 
@@ -197,7 +197,7 @@ two_items (a ∷ []) n l e = absurd (omega arith)
 two_items (a ∷ b ∷ []) n l e = absurd (omega arith)
 two_items (a ∷ b ∷ c ∷ f ∷ t) n l e = absurd (omega arith)
 
--- Which signs fit behind so many symbols
+-- Which pads fit behind so many symbols
 
 pub zero_unfit : (p : ℕ) → p ≢ 0 → fits_with 0 p ≡ false
 zero_unfit zero h = absurd (h refl)
@@ -249,8 +249,8 @@ told_call (Err e) r P all bytes q f h = record { bytes_begin = prefix_all bytes 
 -- A decoder that takes a little text
 
 module _ {F : Type 0} where
-  -- text t with the symbols k and n signs
-  pub adds_text : {d d' : State F} (t k bytes : List ℕ) (n : ℕ) → Every is_symbol d.symbols → fault_byte (has_sign d.padding) t ≡ None → filter is_symbol t ≡ k → length (filter is_sign t) ≡ n → bytes ≡ groups (map symbol_value (d.symbols ++ k)) → length bytes ≤ 3 * length t → d'.closure ≡ d.closure → d'.symbols ≡ after_groups (d.symbols ++ k) → d'.padding ≡ min (d.padding + n) 3 → d'.failed ≡ false → Adds d t bytes d'
+  -- text t with the symbols k and n pads
+  pub adds_text : {d d' : State F} (t k bytes : List ℕ) (n : ℕ) → Every is_symbol d.symbols → fault_byte (has_pad d.padding) t ≡ None → filter is_symbol t ≡ k → length (filter is_pad t) ≡ n → bytes ≡ groups (map symbol_value (d.symbols ++ k)) → length bytes ≤ 3 * length t → d'.closure ≡ d.closure → d'.symbols ≡ after_groups (d.symbols ++ k) → d'.padding ≡ min (d.padding + n) 3 → d'.failed ≡ false → Adds d t bytes d'
   adds_text {d} {d'} t k bytes n every good is_k is_n is_bytes few same symbols padding failed =
       let q = d.symbols in
       let p = d.padding in
@@ -267,7 +267,7 @@ module _ {F : Type 0} where
       }
 
   -- which completes no group
-  adds_quiet : {d d' : State F} (t k : List ℕ) (n : ℕ) → Every is_symbol d.symbols → fault_byte (has_sign d.padding) t ≡ None → filter is_symbol t ≡ k → length (filter is_sign t) ≡ n → length (d.symbols ++ k) ≤ 3 → d'.closure ≡ d.closure → d'.symbols ≡ d.symbols ++ k → d'.padding ≡ min (d.padding + n) 3 → d'.failed ≡ false → Adds d t [] d'
+  adds_quiet : {d d' : State F} (t k : List ℕ) (n : ℕ) → Every is_symbol d.symbols → fault_byte (has_pad d.padding) t ≡ None → filter is_symbol t ≡ k → length (filter is_pad t) ≡ n → length (d.symbols ++ k) ≤ 3 → d'.closure ≡ d.closure → d'.symbols ≡ d.symbols ++ k → d'.padding ≡ min (d.padding + n) 3 → d'.failed ≡ false → Adds d t [] d'
   adds_quiet {d} t k n every good is_k is_n few same symbols padding failed =
       adds_text t k [] n every good is_k is_n
       (sym (groups_few (map symbol_value (d.symbols ++ k)) (omega (arith, few, length-map (d.symbols ++ k) symbol_value)))) (omega arith)
@@ -277,61 +277,61 @@ module _ {F : Type 0} where
   pub adds_kept : {d d' : State F} (c : ℕ) → Every is_symbol d.symbols → length d.symbols + 1 ≤ 3 → d.padding ≡ 0 → is_symbol c ≡ true → d'.closure ≡ d.closure → d'.symbols ≡ d.symbols ++ c ∷ [] → d'.padding ≡ d.padding → d'.failed ≡ false → Adds d (c ∷ []) [] d'
   adds_kept {d} c every few none symbol same symbols padding failed =
       adds_quiet (c ∷ []) (c ∷ []) 0 every
-      (ap (λ p. fault_byte (has_sign p) (c ∷ [])) none ∙ fault_symbol c symbol)
+      (ap (λ p. fault_byte (has_pad p) (c ∷ [])) none ∙ fault_symbol c symbol)
       (symbols_symbol c symbol)
-      (ap length (signs_symbol c symbol))
+      (ap length (pads_symbol c symbol))
       (omega (arith, few, length-append d.symbols (c ∷ [])))
       same symbols (padding ∙ none ∙ ap (λ p. min (p + 0) 3) (sym none)) failed
 
   -- a byte of white space
   pub adds_space : {d : State F} (c : ℕ) → Every is_symbol d.symbols → length d.symbols ≤ 3 → d.padding ≤ 3 → is_ascii_whitespace c ≡ true → d.failed ≡ false → Adds d (c ∷ []) [] d
-  adds_space {d} c every few signs space going =
+  adds_space {d} c every few pads space going =
       adds_quiet (c ∷ []) [] 0 every
-      (fault_space c (has_sign d.padding) space)
+      (fault_space c (has_pad d.padding) space)
       (symbols_space c space)
-      (ap length (signs_space c space))
+      (ap length (pads_space c space))
       (rw append-nil few)
-      refl (sym (append-nil d.symbols)) (min_same d.padding signs) going
+      refl (sym (append-nil d.symbols)) (min_same d.padding pads) going
 
   -- no text at all
   pub adds_none : {d : State F} → Every is_symbol d.symbols → length d.symbols ≤ 3 → d.padding ≤ 3 → d.failed ≡ false → Adds d [] [] d
-  adds_none {d} every few signs going =
+  adds_none {d} every few pads going =
       adds_quiet [] [] 0 every
-      (fault_nil (has_sign d.padding))
+      (fault_nil (has_pad d.padding))
       refl
       refl
       (rw append-nil few)
-      refl (sym (append-nil d.symbols)) (min_same d.padding signs) going
+      refl (sym (append-nil d.symbols)) (min_same d.padding pads) going
 
-  -- a sign
+  -- a pad
   adds_equals : {d d' : State F} → Every is_symbol d.symbols → length d.symbols ≤ 3 → d.failed ≡ false → d' ≡ record d { padding = min (d.padding + 1) 3 } → Adds d (61 ∷ []) [] d'
   adds_equals {d} {d'} every few going same =
       adds_quiet (61 ∷ []) [] 1 every
-      (fault_signs 1 (has_sign d.padding))
+      (fault_pads 1 (has_pad d.padding))
       refl
       refl
       (rw append-nil few)
       (ap (λ (s : State F). s.closure) same) (ap (λ (s : State F). s.symbols) same ∙ sym (append-nil d.symbols))
       (ap (λ (s : State F). s.padding) same) (ap (λ (s : State F). s.failed) same ∙ going)
 
-  pub adds_sign : {d d' : State F} (c : ℕ) → c ≡ 61 → Every is_symbol d.symbols → length d.symbols ≤ 3 → d.failed ≡ false → d' ≡ record d { padding = min (d.padding + 1) 3 } → Adds d (c ∷ []) [] d'
-  adds_sign {d} {d'} c e every few going same = let P : ℕ → Type 0 = λ x. Adds d (x ∷ []) [] d' in subst P (sym e) (adds_equals every few going same)
+  pub adds_pad : {d d' : State F} (c : ℕ) → c ≡ 61 → Every is_symbol d.symbols → length d.symbols ≤ 3 → d.failed ≡ false → d' ≡ record d { padding = min (d.padding + 1) 3 } → Adds d (c ∷ []) [] d'
+  adds_pad {d} {d'} c e every few going same = let P : ℕ → Type 0 = λ x. Adds d (x ∷ []) [] d' in subst P (sym e) (adds_equals every few going same)
 
   -- the fourth symbol completes a group
   pub adds_group : {d d' : State F} (x y z c : ℕ) (group : List ℕ) → Every is_symbol d.symbols → d.symbols ≡ x ∷ y ∷ z ∷ [] → d.padding ≡ 0 → is_symbol c ≡ true → group ≡ group_bytes (group_number (symbol_value x) (symbol_value y) (symbol_value z) (symbol_value c)) → d'.closure ≡ d.closure → d'.symbols ≡ [] → d'.padding ≡ 0 → d'.failed ≡ false → Adds d (c ∷ []) group d'
   adds_group {d} {d'} x y z c group every is_q is_p symbol is_group same symbols padding failed =
       let all : d.symbols ++ c ∷ [] ≡ x ∷ y ∷ z ∷ c ∷ [] = ap (λ k. k ++ c ∷ []) is_q in
       adds_text (c ∷ []) (c ∷ []) group 0 every
-      (ap (λ p. fault_byte (has_sign p) (c ∷ [])) is_p ∙ fault_symbol c symbol)
+      (ap (λ p. fault_byte (has_pad p) (c ∷ [])) is_p ∙ fault_symbol c symbol)
       (symbols_symbol c symbol)
-      (ap length (signs_symbol c symbol))
+      (ap length (pads_symbol c symbol))
       (is_group ∙ sym (ap (λ k. groups (map symbol_value k)) all ∙ four_groups (symbol_value x) (symbol_value y) (symbol_value z) (symbol_value c)))
       (omega (arith, ap length is_group))
       same (symbols ∙ sym (ap after_groups all ∙ four_after x y z c))
       (padding ∙ ap (λ p. min (p + 0) 3) (sym is_p)) failed
 
   -- a bad byte
-  refuses_bad : {d d' : State F} {kind : Kind} (c : ℕ) → Every is_symbol d.symbols → length d.symbols ≤ 3 → fault_byte (has_sign d.padding) (c ∷ []) ≡ Some c → d' ≡ d → kind ≡ cond (is_symbol c) AlphabetSymbolAfterPadding (UnexpectedSymbol c) → Refuses d c kind d'
+  refuses_bad : {d d' : State F} {kind : Kind} (c : ℕ) → Every is_symbol d.symbols → length d.symbols ≤ 3 → fault_byte (has_pad d.padding) (c ∷ []) ≡ Some c → d' ≡ d → kind ≡ cond (is_symbol c) AlphabetSymbolAfterPadding (UnexpectedSymbol c) → Refuses d c kind d'
   refuses_bad {d} c every few bad same told =
       let q = d.symbols in
       let p = d.padding in
@@ -342,16 +342,16 @@ module _ {F : Type 0} where
         stays = same;
       }
 
-  -- a symbol behind a sign
+  -- a symbol behind a pad
   pub refuses_behind : {d d' : State F} (c : ℕ) → Every is_symbol d.symbols → length d.symbols ≤ 3 → 1 ≤ d.padding → is_symbol c ≡ true → d' ≡ d → Refuses d c AlphabetSymbolAfterPadding d'
-  refuses_behind {d} c every few signs symbol same =
-      refuses_bad c every few (ap (λ s. fault_byte s (c ∷ [])) (has_sign_some d.padding signs) ∙ fault_behind c symbol) same
+  refuses_behind {d} c every few pads symbol same =
+      refuses_bad c every few (ap (λ s. fault_byte s (c ∷ [])) (has_pad_some d.padding pads) ∙ fault_behind c symbol) same
       (ap (λ v. cond v AlphabetSymbolAfterPadding (UnexpectedSymbol c)) (sym symbol))
 
   -- a byte of no class
-  pub refuses_other : {d d' : State F} (c : ℕ) → Every is_symbol d.symbols → length d.symbols ≤ 3 → is_ascii_whitespace c ≡ false → is_sign c ≡ false → is_symbol c ≡ false → d' ≡ d → Refuses d c (UnexpectedSymbol c) d'
-  refuses_other {d} c every few space sign symbol same =
-      refuses_bad c every few (fault_other c (has_sign d.padding) space sign symbol) same
+  pub refuses_other : {d d' : State F} (c : ℕ) → Every is_symbol d.symbols → length d.symbols ≤ 3 → is_ascii_whitespace c ≡ false → is_pad c ≡ false → is_symbol c ≡ false → d' ≡ d → Refuses d c (UnexpectedSymbol c) d'
+  refuses_other {d} c every few space pad symbol same =
+      refuses_bad c every few (fault_other c (has_pad d.padding) space pad symbol) same
       (ap (λ v. cond v AlphabetSymbolAfterPadding (UnexpectedSymbol c)) (sym symbol))
 
 module _ {F E : Type 0} (step : F → List ℕ → Result (Unit {0}) E → F → Type 0) where
@@ -367,7 +367,7 @@ module _ {F E : Type 0} (step : F → List ℕ → Result (Unit {0}) E → F →
 
   -- no text at all
   pub feeds_none : {d d' : State F} → Every is_symbol d.symbols → length d.symbols ≤ 3 → d.padding ≤ 3 → d.failed ≡ false → d' ≡ d → Feeds step d [] (Ok tt) d'
-  feeds_none {d} {d'} every few signs going same = let P : State F → Type 0 = λ s. Feeds step d [] (Ok tt) s in subst P (sym same) (adds_feeds (adds_none every few signs going))
+  feeds_none {d} {d'} every few pads going same = let P : State F → Type 0 = λ s. Feeds step d [] (Ok tt) s in subst P (sym same) (adds_feeds (adds_none every few pads going))
 
   -- One call
 
@@ -392,7 +392,7 @@ module _ {F E : Type 0} (step : F → List ℕ → Result (Unit {0}) E → F →
       finishes_invalid every (ap (λ n. fits_with (n % 4) d.padding) one ∙ one_unfit d.padding) same
       (told ∙ ap (λ n. Err (InvalidBase64 (cond (eqb (n % 4) 1) LoneAlphabetSymbol Padding))) (sym one))
 
-  -- signs that do not fit
+  -- pads that do not fit
   pub finishes_padding : {d d' : State F} {r : Result (Unit {0}) (DecodeError E)} (n : ℕ) → Every is_symbol d.symbols → length d.symbols ≡ n → fits_with (n % 4) d.padding ≡ false → eqb (n % 4) 1 ≡ false → d' ≡ record d { failed = true } → r ≡ Err (InvalidBase64 Padding) → Finishes step d r d'.closure
   finishes_padding {d} n every count unfit many same told =
       finishes_invalid every (ap (λ m. fits_with (m % 4) d.padding) count ∙ unfit) same

@@ -5,11 +5,11 @@ use Rattle.std.proofs.lemmas.Bool.{cases_Bool}
 use Rattle.data_url.specs.Base64.{after_groups, compact, decoded, done, groups, is_symbol, is_valid, kind_of, rest_bytes, symbol_value, unpadded, values}
 use Rattle.std.specs.Char.{is_ascii_whitespace}
 use Rattle.data_url.specs.Fetch.{outcome}
-use Rattle.data_url.proofs.PaddingLemmas.{before_fault, classes, done_is, fault_byte, is_sign, kind_by, kind_is}
+use Rattle.data_url.proofs.PaddingLemmas.{before_fault, classes, done_is, fault_byte, is_pad, kind_by, kind_is}
 use Rattle.data_url.proofs.WalkLemmas.{Class, ahead, is_bad, space_alone, stop_compact}
 use Rattle.std.proofs.Math.Bool.{or-false}
 
-module _ (space sign symbol : ℕ → Bool) (classes : (c : ℕ) → Class (space c) (sign c) (symbol c)) where
+module _ (space pad symbol : ℕ → Bool) (classes : (c : ℕ) → Class (space c) (pad c) (symbol c)) where
   abbrev is_not_space : ℕ → Bool
   is_not_space c = not (space c)
 
@@ -29,34 +29,34 @@ module _ (space sign symbol : ℕ → Bool) (classes : (c : ℕ) → Class (spac
   passed c t h = ap (λ v. cond v (c ∷ filter symbol t) (filter symbol t)) h
 
   -- the symbols before the first bad byte
-  ahead_compact : (b : List ℕ) (s : Bool) → filter symbol (ahead space sign symbol s (filter is_not_space b)) ≡ filter symbol (ahead space sign symbol s b)
+  ahead_compact : (b : List ℕ) (s : Bool) → filter symbol (ahead space pad symbol s (filter is_not_space b)) ≡ filter symbol (ahead space pad symbol s b)
   ahead_compact [] s = refl
   ahead_compact (c ∷ t) s =
       elim (cases_Bool (space c)) [
         | inl e ↦
             let f = space_alone (classes c) e in
-            let g : sign c ≡ false = f.0 in
+            let g : pad c ≡ false = f.0 in
             let h : symbol c ≡ false = f.1 in
-            rw (e, g, h) (ahead_compact t s ∙ ap (λ x. filter symbol (ahead space sign symbol x t)) (sym (or-false s)) ∙ sym (passed c (ahead space sign symbol (s || false) t) h))
+            rw (e, g, h) (ahead_compact t s ∙ ap (λ x. filter symbol (ahead space pad symbol x t)) (sym (or-false s)) ∙ sym (passed c (ahead space pad symbol (s || false) t) h))
         | inr e ↦
-            ap (λ v. filter symbol (ahead space sign symbol s (cond (not v) (c ∷ filter is_not_space t) (filter is_not_space t)))) e
-            ∙ elim (is_bad space sign symbol s c) as (λ v. filter symbol (cond v [] (c ∷ ahead space sign symbol (s || sign c) (filter is_not_space t))) ≡ filter symbol (cond v [] (c ∷ ahead space sign symbol (s || sign c) t))) [
+            ap (λ v. filter symbol (ahead space pad symbol s (cond (not v) (c ∷ filter is_not_space t) (filter is_not_space t)))) e
+            ∙ elim (is_bad space pad symbol s c) as (λ v. filter symbol (cond v [] (c ∷ ahead space pad symbol (s || pad c) (filter is_not_space t))) ≡ filter symbol (cond v [] (c ∷ ahead space pad symbol (s || pad c) t))) [
               | true ↦ refl
-              | false ↦ ap (λ (x : List ℕ). cond (symbol c) (c ∷ x) x) (ahead_compact t (s || sign c))
+              | false ↦ ap (λ (x : List ℕ). cond (symbol c) (c ∷ x) x) (ahead_compact t (s || pad c))
             ]
       ]
 
 fault_compact : (b : List ℕ) → fault_byte false (compact b) ≡ fault_byte false b
 unfolding fault_byte compact
-fault_compact b = stop_compact is_ascii_whitespace is_sign is_symbol classes b false
+fault_compact b = stop_compact is_ascii_whitespace is_pad is_symbol classes b false
 
 values_compact : (b : List ℕ) → values (compact b) ≡ values b
 unfolding values compact
-values_compact b = ap (map symbol_value) (symbols_compact is_ascii_whitespace is_sign is_symbol classes b)
+values_compact b = ap (map symbol_value) (symbols_compact is_ascii_whitespace is_pad is_symbol classes b)
 
 before_compact : (b : List ℕ) → values (before_fault false (compact b)) ≡ values (before_fault false b)
 unfolding values before_fault compact
-before_compact b = ap (map symbol_value) (ahead_compact is_ascii_whitespace is_sign is_symbol classes b false)
+before_compact b = ap (map symbol_value) (ahead_compact is_ascii_whitespace is_pad is_symbol classes b false)
 
 done_compact : (b : List ℕ) → done (compact b) ≡ done b
 done_compact b = done_is (compact b) ∙ ap groups (before_compact b) ∙ sym (done_is b)

@@ -1,4 +1,4 @@
--- The first fault of a text: it is the least place of one, and a walk that remembers whether it has seen a sign finds it.
+-- The first fault of a text: it is the least place of one, and a walk that remembers whether it has seen a pad finds it.
 use Rattle.std.proofs.Common.{◌≡◌, ℕ, suc, zero, ◌+◌, ◌<◌, ◌≤◌, Bool, true, false, cond, List, length, Option, None, Some, refl, inl, inr, arith}
 use Rattle.std.specs.List.{find, range_with_len}
 use Rattle.std.proofs.lemmas.Bool.{cases_eq}

@@ -6,15 +6,15 @@ use Rattle.std.proofs.lemmas.List.Elements.{filter-append}
 use Rattle.data_url.specs.Base64.{after_groups, decoded, done, first_fault, groups, is_symbol, is_valid, left_padding, left_symbols, left_text, rest_bytes, symbol_value, values}
 use Rattle.data_url.specs.Laws.{GoesOn, TwoFeeds}
 use Rattle.data_url.specs.Mime.{Every}
-use Rattle.data_url.proofs.PaddingLemmas.{after_groups-append, after_groups-map, any_of_text, before-append, before_fault, before_none, done_is, every_after, fault-append, fault_byte, fault_invalid, fault_none, fault_some, fault_text, groups-append, is_sign, kind_by, kind_is, length_alike, no_fault_valid, signs_of_text, symbols_of_text}
+use Rattle.data_url.proofs.PaddingLemmas.{after_groups-append, after_groups-map, any_of_text, before-append, before_fault, before_none, done_is, every_after, fault-append, fault_byte, fault_invalid, fault_none, fault_some, fault_text, groups-append, is_pad, kind_by, kind_is, length_alike, no_fault_valid, pads_of_text, symbols_of_text}
 use Rattle.data_url.proofs.ValidLemmas.{fits_with}
 use Rattle.data_url.proofs.WalkLemmas.{any_filter, filter_every, is_nonempty}
 
 -- the text w stands for what a left
 pub record Stands (a w : List ℕ) : Type 0 where
   pub symbols : filter is_symbol w ≡ after_groups (filter is_symbol a)
-  pub signs : min (length (filter is_sign w)) 3 ≡ min (length (filter is_sign a)) 3
-  pub seen : list_any is_sign w ≡ list_any is_sign a
+  pub pads : min (length (filter is_pad w)) 3 ≡ min (length (filter is_pad a)) 3
+  pub seen : list_any is_pad w ≡ list_any is_pad a
   pub no_fault : fault_byte false a ≡ None
   pub none_left : fault_byte false w ≡ None
 
@@ -35,15 +35,15 @@ fits_min r (suc (suc (suc p))) = let e : min (suc (suc (suc p))) 3 ≡ 3 = omega
 min_alike : (m n k : ℕ) → min m 3 ≡ min n 3 → min (m + k) 3 ≡ min (n + k) 3
 min_alike m n k e = omega arith
 
-valid_by : (x y : List ℕ) → fault_byte false x ≡ fault_byte false y → length (filter is_symbol x) % 4 ≡ length (filter is_symbol y) % 4 → min (length (filter is_sign x)) 3 ≡ min (length (filter is_sign y)) 3 → is_valid x ≡ is_valid y
+valid_by : (x y : List ℕ) → fault_byte false x ≡ fault_byte false y → length (filter is_symbol x) % 4 ≡ length (filter is_symbol y) % 4 → min (length (filter is_pad x)) 3 ≡ min (length (filter is_pad y)) 3 → is_valid x ≡ is_valid y
 valid_by x y e f g =
     elim (fault_byte false y) as (λ o. fault_byte false y ≡ o → is_valid x ≡ is_valid y) [
       | None ↦ λ h.
           no_fault_valid x (e ∙ h)
-          ∙ fits_min (length (filter is_symbol x) % 4) (length (filter is_sign x))
-          ∙ ap (λ r. fits_with r (min (length (filter is_sign x)) 3)) f
+          ∙ fits_min (length (filter is_symbol x) % 4) (length (filter is_pad x))
+          ∙ ap (λ r. fits_with r (min (length (filter is_pad x)) 3)) f
           ∙ ap (fits_with (length (filter is_symbol y) % 4)) g
-          ∙ sym (fits_min (length (filter is_symbol y) % 4) (length (filter is_sign y)))
+          ∙ sym (fits_min (length (filter is_symbol y) % 4) (length (filter is_pad y)))
           ∙ sym (no_fault_valid y h)
       | Some c ↦ λ h. fault_invalid x c (e ∙ h) ∙ sym (fault_invalid y c h)
     ] refl
@@ -75,13 +75,13 @@ module _ (a b w : List ℕ) (st : Stands a w) where
       ∙ length_symbols
       ∙ ap (λ x. x % 4) (sym (length-map (filter is_symbol (w ++ b)) symbol_value))
 
-  length_signs : min (length (filter is_sign (a ++ b))) 3 ≡ min (length (filter is_sign (w ++ b))) 3
-  length_signs =
-      ap (λ x. min (length x) 3) (filter-append is_sign a b)
-      ∙ ap (λ x. min x 3) (length-append (filter is_sign a) (filter is_sign b))
-      ∙ min_alike (length (filter is_sign a)) (length (filter is_sign w)) (length (filter is_sign b)) (sym st.signs)
-      ∙ ap (λ x. min x 3) (sym (length-append (filter is_sign w) (filter is_sign b)))
-      ∙ ap (λ x. min (length x) 3) (sym (filter-append is_sign w b))
+  length_pads : min (length (filter is_pad (a ++ b))) 3 ≡ min (length (filter is_pad (w ++ b))) 3
+  length_pads =
+      ap (λ x. min (length x) 3) (filter-append is_pad a b)
+      ∙ ap (λ x. min x 3) (length-append (filter is_pad a) (filter is_pad b))
+      ∙ min_alike (length (filter is_pad a)) (length (filter is_pad w)) (length (filter is_pad b)) (sym st.pads)
+      ∙ ap (λ x. min x 3) (sym (length-append (filter is_pad w) (filter is_pad b)))
+      ∙ ap (λ x. min (length x) 3) (sym (filter-append is_pad w b))
 
   done_first : done a ≡ groups (values a)
   done_first = done_is a ∙ ap (λ x. groups (values x)) (before_none a false st.no_fault)
@@ -98,7 +98,7 @@ module _ (a b w : List ℕ) (st : Stands a w) where
   done_both =
       done_is (a ++ b)
       ∙ ap (λ x. groups (values x)) (before-append a b false st.no_fault)
-      ∙ groups_both (before_fault (list_any is_sign a) b)
+      ∙ groups_both (before_fault (list_any is_pad a) b)
       ∙ ap (λ s. done a ++ groups (values (w ++ before_fault s b))) (sym st.seen)
       ∙ ap (λ x. done a ++ groups (values x)) (sym (before-append w b false st.none_left))
       ∙ ap (λ x. done a ++ x) (sym (done_is (w ++ b)))
@@ -122,7 +122,7 @@ module _ (a b w : List ℕ) (st : Stands a w) where
 
   padding_both : left_padding (a ++ b) ≡ left_padding (w ++ b)
   unfolding left_padding
-  padding_both = length_signs
+  padding_both = length_pads
 
   pub goes_on : GoesOn a b (w ++ b)
   goes_on = record {
@@ -131,7 +131,7 @@ module _ (a b w : List ℕ) (st : Stands a w) where
     kind_is = kind_is (a ++ b) ∙ ap (kind_by (length (values (a ++ b)))) fault_both ∙ kind_alike (length (values (a ++ b))) (length (values (w ++ b))) (fault_byte false (w ++ b)) length_values ∙ sym (kind_is (w ++ b));
     symbols_left = left_both;
     padding_left = padding_both;
-    valid_is = valid_by (a ++ b) (w ++ b) fault_both length_symbols length_signs;
+    valid_is = valid_by (a ++ b) (w ++ b) fault_both length_symbols length_pads;
     decoded_is = decoded_both;
   }
 
@@ -140,7 +140,7 @@ module _ (a b w : List ℕ) (st : Stands a w) where
 min_min : (n : ℕ) → min (min n 3) 3 ≡ min n 3
 min_min n = omega arith
 
-any_min : (t : List ℕ) → list_any is_sign (replicate (min (length t) 3) 61) ≡ is_nonempty t
+any_min : (t : List ℕ) → list_any is_pad (replicate (min (length t) 3) 61) ≡ is_nonempty t
 any_min [] = refl
 any_min (c ∷ t) = let e : min (suc (length t)) 3 ≡ suc (min (length t) 2) = omega arith in rw e refl
 
@@ -148,12 +148,12 @@ pub left_stands : (a : List ℕ) → fault_byte false a ≡ None → Stands a (l
 unfolding left_symbols left_padding
 left_stands a h =
     let q : List ℕ = after_groups (filter is_symbol a) in
-    let p : ℕ = min (length (filter is_sign a)) 3 in
+    let p : ℕ = min (length (filter is_pad a)) 3 in
     let every : Every is_symbol q = every_after (filter is_symbol a) (filter_every is_symbol a) in
     record {
       symbols = symbols_of_text q p every;
-      signs = ap (λ x. min (length x) 3) (signs_of_text q p every) ∙ ap (λ x. min x 3) (length-replicate p 61) ∙ min_min (length (filter is_sign a));
-      seen = any_of_text q p every ∙ any_min (filter is_sign a) ∙ sym (any_filter is_sign a);
+      pads = ap (λ x. min (length x) 3) (pads_of_text q p every) ∙ ap (λ x. min x 3) (length-replicate p 61) ∙ min_min (length (filter is_pad a));
+      seen = any_of_text q p every ∙ any_min (filter is_pad a) ∙ sym (any_filter is_pad a);
       no_fault = h;
       none_left = fault_text q p every;
     }

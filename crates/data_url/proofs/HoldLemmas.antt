@@ -14,17 +14,17 @@ use Rattle.data_url.specs.Steps.Blocks.{AreGroups, Fills, is_symbol_or_space, wi
 use Rattle.data_url.specs.Steps.Holding.{Adds, FeedsBlock, Flushes, Gains, Holds, Refuses}
 use Rattle.data_url.specs.declared.forgiving_base64.DecodeError.{DecodeError}
 use Rattle.data_url.specs.declared.forgiving_base64.DecodeError.TheVariants.{InvalidBase64, WriteError}
-use Rattle.data_url.proofs.ByteLemmas.{adds_text, fault_space, fault_symbol, has_sign, one_call, told_call}
+use Rattle.data_url.proofs.ByteLemmas.{adds_text, fault_space, fault_symbol, has_pad, one_call, told_call}
 use Rattle.data_url.proofs.DecoderLemmas.{feeds_stop, feeds_then, left_goes_on}
 use Rattle.data_url.specs.Steps.Lanes.{value_of}
 use Rattle.data_url.proofs.FillLemmas.{fill_past, fits_take, fill_symbols, groups_length, whole_length}
 use Rattle.data_url.proofs.RunLemmas.{joined-append, match_at, match_none, match_some, refusal-append, run-append}
-use Rattle.data_url.proofs.PaddingLemmas.{classes, fault-append, fault_byte, is_sign, length-after_groups}
+use Rattle.data_url.proofs.PaddingLemmas.{classes, fault-append, fault_byte, is_pad, length-after_groups}
 use Rattle.data_url.proofs.WalkLemmas.{space_alone, symbol_alone}
 
--- A text of symbols and white space has no fault and no sign
+-- A text of symbols and white space has no fault and no pad
 
-one_allowed : (c : ℕ) → is_symbol_or_space c ≡ true → (fault_byte false (c ∷ []) ≡ None) × (is_sign c ≡ false)
+one_allowed : (c : ℕ) → is_symbol_or_space c ≡ true → (fault_byte false (c ∷ []) ≡ None) × (is_pad c ≡ false)
 one_allowed c h =
     elim (or_cases (is_symbol c) (is_ascii_whitespace c) h) [
       | inl s ↦ (fault_symbol c s, (symbol_alone (classes c) s).1)
@@ -42,11 +42,11 @@ allowed_fault (c ∷ t) h =
     nothing : {s : Bool} → s ≡ false → (false || (s || false)) ≡ false
     nothing e = rw e refl
 
-allowed_signs : (t : List ℕ) → list_all is_symbol_or_space t ≡ true → filter is_sign t ≡ []
-allowed_signs [] h = refl
-allowed_signs (c ∷ t) h =
+allowed_pads : (t : List ℕ) → list_all is_symbol_or_space t ≡ true → filter is_pad t ≡ []
+allowed_pads [] h = refl
+allowed_pads (c ∷ t) h =
     let p = and_parts (is_symbol_or_space c) (list_all is_symbol_or_space t) h in
-    ap (λ s. cond s (c ∷ filter is_sign t) (filter is_sign t)) (one_allowed c p.0).1 ∙ allowed_signs t p.1
+    ap (λ s. cond s (c ∷ filter is_pad t) (filter is_pad t)) (one_allowed c p.0).1 ∙ allowed_pads t p.1
 
 filter_length : (t : List ℕ) → length (filter is_symbol t) ≤ length t
 filter_length [] = omega arith
@@ -65,8 +65,8 @@ adds_groups {d = d} t more is_q is_p going g =
     let size : length k % 4 ≡ 0 = omega (arith, g.whole, length-map k symbol_value) in
     let Q : List ℕ → Type 0 = λ q. Every is_symbol q in
     adds_text t k more 0 (subst Q (sym is_q) tt)
-    (ap (λ p. fault_byte (has_sign p) t) is_p ∙ allowed_fault t g.alone)
-    refl (ap length (allowed_signs t g.alone))
+    (ap (λ p. fault_byte (has_pad p) t) is_p ∙ allowed_fault t g.alone)
+    refl (ap length (allowed_pads t g.alone))
     (g.bytes_are ∙ ap (λ q. groups (map symbol_value q)) (sym same))
     (omega (arith, ap length g.bytes_are, groups_length (map symbol_value k), length-map k symbol_value, filter_length t))
     refl (is_q ∙ sym (ap after_groups same ∙ no_items (after_groups k) (length-after_groups k ∙ size)))

@@ -5,7 +5,7 @@ use Rattle.std.proofs.lemmas.Bool.{cases_lt}
 use Rattle.std.proofs.lemmas.List.{append-nil, drop_all, drop_more, drop-drop}
 use Rattle.data_url.specs.Url.{behind, is_tab_or_newline}
 use Rattle.data_url.specs.Pieces.{IsEscape, IsPiece, IsStretch, bytes_of, bytes_of_next, escape, stops}
-use Rattle.data_url.specs.Steps.Tail.{BeginsFragment, IsBodyEnd, fragment_at}
+use Rattle.data_url.specs.Steps.Tail.{BeginsFragment, IsBodyEnd, rest_fragment}
 use Rattle.data_url.specs.Steps.Walk.{Ended, EscapeAt, GoesOn, IsClear, IsNextMark, IsPassed, KeepsBlock, Knows, KnowsAhead, LonePercent, Looking, LooksOn, Reads, Stays, has_ended, text_of}
 use Rattle.data_url.specs.declared.escapes.Piece.{Piece}
 use Rattle.data_url.specs.declared.escapes.Piece.TheVariants.{Byte, Slice}
@@ -310,7 +310,7 @@ ended_of {c} k e = ended_cases c.ahead k.ahead_is e
 pub over : {c : Cursor} → Ended c c.place → has_ended c.ahead ≡ true → GoesOn c None c
 over {c} h e = record { on = record { text_stays = refl; looks_grow = omega arith }; reads = reads_none (text_of c) c.place h.ends.within; piece = tt; ended = e }
 
-begun_fragment : (s : List ℕ) → BeginsFragment s → behind 35 s ≡ fragment_at s
+begun_fragment : (s : List ℕ) → BeginsFragment s → behind 35 s ≡ rest_fragment s
 begun_fragment [] h = behind_nil 35
 begun_fragment (b ∷ s) h = ap (λ v. behind 35 (v ∷ s)) h ∙ behind_same 35 s
 
@@ -331,7 +331,7 @@ hash_at {c} h n =
 pub some_fragment : {c : Cursor} → Knows c → Ended c c.place → (c.place ≡ length (text_of c) → ⊥) → Some (drop (c.place + 1) (text_of c)) ≡ behind 35 (text_of c)
 some_fragment {c} k h n =
     let at = hash_at h n in
-    sym (k.behind_is ∙ begun_fragment (drop c.place (text_of c)) h.ends.begins ∙ ap fragment_at (drop_more (text_of c) c.place 0 at.0))
+    sym (k.behind_is ∙ begun_fragment (drop c.place (text_of c)) h.ends.begins ∙ ap rest_fragment (drop_more (text_of c) c.place 0 at.0))
 
 pub moved_looking : {c : Cursor} {place more : ℕ} (p : ℕ) (a : Ahead) → Looking c place more → Looking (record c { place = p; ahead = a }) place more
 moved_looking p a k = record { block = k.block; base_le = k.base_le; within = k.within; looks_are_paid = k.looks_are_paid }

@@ -1,4 +1,4 @@
--- The definitions of base64 by a walk that remembers whether it has seen a sign.
+-- The definitions of base64 by a walk that remembers whether it has seen a pad.
 use Rattle.std.proofs.Common.{◌≡◌, ℕ, suc, zero, ◌%◌, ◌<◌, ◌≤◌, ◌&&◌, Bool, true, false, not, cond, eqb, ◌||◌, List, [], ◌∷◌, ◌++◌, length, map, replicate, Option, None, Some, is_some, refl, subst, ap, sym, ◌∙◌, inl, inr, arith, append_assoc}
 use Rattle.std.specs.List.{filter, list_all, list_any}
 use Rattle.std.proofs.lemmas.List.{append-nil}
@@ -11,11 +11,11 @@ use Rattle.data_url.specs.Base64.{AlphabetSymbolAfterPadding, Kind, LoneAlphabet
 use Rattle.std.specs.Char.{is_ascii_whitespace}
 use Rattle.data_url.specs.Steps.Facts.{IsSymbolsAndPadding}
 use Rattle.data_url.specs.Mime.{Every}
-use Rattle.data_url.proofs.ValidLemmas.{fits_with, symbols_signs_valid}
-use Rattle.data_url.proofs.WalkLemmas.{Class, of_space, of_sign, of_symbol, of_none, ahead, ahead-append, ahead-append_some, ahead_none, any_symbols, before_walk, byte_at, byte_walk, compact_walk, filter_all, filter_every, filter_signs, filter_symbols, find_walk, some_not_none, stop, stop-append, stop-append_some, stop_compact, stop_place, stop_signs, stop_symbols}
+use Rattle.data_url.proofs.ValidLemmas.{fits_with, symbols_pads_valid}
+use Rattle.data_url.proofs.WalkLemmas.{Class, of_space, of_pad, of_symbol, of_none, ahead, ahead-append, ahead-append_some, ahead_none, any_symbols, before_walk, byte_at, byte_walk, compact_walk, filter_all, filter_every, filter_pads, filter_symbols, find_walk, some_not_none, stop, stop-append, stop-append_some, stop_compact, stop_place, stop_pads, stop_symbols}
 
-abbrev pub is_sign : ℕ → Bool
-is_sign c = eqb c 61
+abbrev pub is_pad : ℕ → Bool
+is_pad c = eqb c 61
 
 whitespace_low : (c : ℕ) → is_ascii_whitespace c ≡ true → c < 33
 whitespace_low c e =
@@ -28,57 +28,57 @@ whitespace_low c e =
     ]
 
 -- each byte is in at most one class
-at_space : (c : ℕ) → is_ascii_whitespace c ≡ true → Class true (is_sign c) (is_symbol c)
+at_space : (c : ℕ) → is_ascii_whitespace c ≡ true → Class true (is_pad c) (is_symbol c)
 at_space c e =
     let low : c < 33 = whitespace_low c e in
-    let sign : is_sign c ≡ false = ap (λ v. v && is_sign c) (sym e) ∙ agree_below_at (λ c. is_ascii_whitespace c && is_sign c) (λ c. false) 33 c refl low in
+    let pad : is_pad c ≡ false = ap (λ v. v && is_pad c) (sym e) ∙ agree_below_at (λ c. is_ascii_whitespace c && is_pad c) (λ c. false) 33 c refl low in
     let symbol : is_symbol c ≡ false = ap (λ v. v && is_symbol c) (sym e) ∙ agree_below_at (λ c. is_ascii_whitespace c && is_symbol c) (λ c. false) 33 c refl low in
-    subst (λ y. Class true y (is_symbol c)) (sym sign) (subst (λ z. Class true false z) (sym symbol) of_space)
+    subst (λ y. Class true y (is_symbol c)) (sym pad) (subst (λ z. Class true false z) (sym symbol) of_space)
 
 at_symbol : (z : Bool) → Class false false z
 at_symbol true = of_symbol
 at_symbol false = of_none
 
-pub classes : (c : ℕ) → Class (is_ascii_whitespace c) (is_sign c) (is_symbol c)
+pub classes : (c : ℕ) → Class (is_ascii_whitespace c) (is_pad c) (is_symbol c)
 classes c =
-    elim (is_ascii_whitespace c) as (λ x. is_ascii_whitespace c ≡ x → Class x (is_sign c) (is_symbol c)) [
+    elim (is_ascii_whitespace c) as (λ x. is_ascii_whitespace c ≡ x → Class x (is_pad c) (is_symbol c)) [
       | true ↦ λ e. at_space c e
-      | false ↦ λ e. elim (is_sign c) as (λ y. is_sign c ≡ y → Class false y (is_symbol c)) [
-        | true ↦ λ f. rw (eqb-true c 61 f) of_sign
+      | false ↦ λ e. elim (is_pad c) as (λ y. is_pad c ≡ y → Class false y (is_symbol c)) [
+        | true ↦ λ f. rw (eqb-true c 61 f) of_pad
         | false ↦ λ f. at_symbol (is_symbol c)
       ] refl
     ] refl
 
--- the byte at the first fault, where a sign may stand before the text
+-- the byte at the first fault, where a pad may stand before the text
 unfoldable pub fault_byte : Bool → List ℕ → Option ℕ
-fault_byte seen b = stop is_ascii_whitespace is_sign is_symbol seen b
+fault_byte seen b = stop is_ascii_whitespace is_pad is_symbol seen b
 
 -- what stands before it
 unfoldable pub before_fault : Bool → List ℕ → List ℕ
-before_fault seen b = ahead is_ascii_whitespace is_sign is_symbol seen b
+before_fault seen b = ahead is_ascii_whitespace is_pad is_symbol seen b
 
 -- why a text is refused, by the byte at its fault and by how many symbols it has
 abbrev pub kind_by : ℕ → Option ℕ → Kind
 kind_by n None = cond (eqb (n % 4) 1) LoneAlphabetSymbol Padding
 kind_by n (Some c) = cond (is_symbol c) AlphabetSymbolAfterPadding (UnexpectedSymbol c)
 
-first_fault_walk : (b : List ℕ) → first_fault b ≡ stop_place is_ascii_whitespace is_sign is_symbol 0 false b
+first_fault_walk : (b : List ℕ) → first_fault b ≡ stop_place is_ascii_whitespace is_pad is_symbol 0 false b
 unfolding first_fault
-first_fault_walk b = find_walk is_ascii_whitespace is_sign is_symbol [] b
+first_fault_walk b = find_walk is_ascii_whitespace is_pad is_symbol [] b
 
-byte_is : (b : List ℕ) → byte_at is_ascii_whitespace is_sign is_symbol b (first_fault b) ≡ fault_byte false b
+byte_is : (b : List ℕ) → byte_at is_ascii_whitespace is_pad is_symbol b (first_fault b) ≡ fault_byte false b
 unfolding fault_byte
-byte_is b = ap (byte_at is_ascii_whitespace is_sign is_symbol b) (first_fault_walk b) ∙ byte_walk is_ascii_whitespace is_sign is_symbol [] b 0 false refl
+byte_is b = ap (byte_at is_ascii_whitespace is_pad is_symbol b) (first_fault_walk b) ∙ byte_walk is_ascii_whitespace is_pad is_symbol [] b 0 false refl
 
-some_byte : (b : List ℕ) (o : Option ℕ) → is_some o ≡ is_some (byte_at is_ascii_whitespace is_sign is_symbol b o)
+some_byte : (b : List ℕ) (o : Option ℕ) → is_some o ≡ is_some (byte_at is_ascii_whitespace is_pad is_symbol b o)
 some_byte b None = refl
 some_byte b (Some i) = refl
 
-none_byte : (b : List ℕ) (o : Option ℕ) → byte_at is_ascii_whitespace is_sign is_symbol b o ≡ None → o ≡ None
+none_byte : (b : List ℕ) (o : Option ℕ) → byte_at is_ascii_whitespace is_pad is_symbol b o ≡ None → o ≡ None
 none_byte b None e = refl
 none_byte b (Some i) e = absurd (cc)
 
-kind_byte : (b : List ℕ) (o : Option ℕ) → kind_at b o ≡ kind_by (length (values b)) (byte_at is_ascii_whitespace is_sign is_symbol b o)
+kind_byte : (b : List ℕ) (o : Option ℕ) → kind_at b o ≡ kind_by (length (values b)) (byte_at is_ascii_whitespace is_pad is_symbol b o)
 kind_byte b None = refl
 kind_byte b (Some i) = refl
 
@@ -86,7 +86,7 @@ pub fault_some : (b : List ℕ) → is_some (first_fault b) ≡ is_some (fault_b
 fault_some b = some_byte b (first_fault b) ∙ ap is_some (byte_is b)
 
 pub fault_none : (b : List ℕ) → first_fault b ≡ None → fault_byte false b ≡ None
-fault_none b e = sym (byte_is b) ∙ ap (byte_at is_ascii_whitespace is_sign is_symbol b) e
+fault_none b e = sym (byte_is b) ∙ ap (byte_at is_ascii_whitespace is_pad is_symbol b) e
 
 pub none_fault : (b : List ℕ) → fault_byte false b ≡ None → first_fault b ≡ None
 none_fault b e = none_byte b (first_fault b) (byte_is b ∙ e)
@@ -97,7 +97,7 @@ kind_is b = kind_byte b (first_fault b) ∙ ap (kind_by (length (values b))) (by
 
 pub before_is : (b : List ℕ) → before_place b (first_fault b) ≡ before_fault false b
 unfolding before_fault
-before_is b = ap (before_place b) (first_fault_walk b) ∙ before_walk is_ascii_whitespace is_sign is_symbol [] b 0 false refl
+before_is b = ap (before_place b) (first_fault_walk b) ∙ before_walk is_ascii_whitespace is_pad is_symbol [] b 0 false refl
 
 pub done_is : (b : List ℕ) → done b ≡ groups (values (before_fault false b))
 unfolding done
@@ -105,25 +105,25 @@ done_is b = ap (λ x. groups (values x)) (before_is b)
 
 -- Two texts
 
-pub fault-append : (a b : List ℕ) (s : Bool) → fault_byte s a ≡ None → fault_byte s (a ++ b) ≡ fault_byte (s || list_any is_sign a) b
+pub fault-append : (a b : List ℕ) (s : Bool) → fault_byte s a ≡ None → fault_byte s (a ++ b) ≡ fault_byte (s || list_any is_pad a) b
 unfolding fault_byte
-fault-append a b s h = stop-append is_ascii_whitespace is_sign is_symbol a b s h
+fault-append a b s h = stop-append is_ascii_whitespace is_pad is_symbol a b s h
 
 pub fault-append_some : (a b : List ℕ) (s : Bool) (x : ℕ) → fault_byte s a ≡ Some x → fault_byte s (a ++ b) ≡ Some x
 unfolding fault_byte
-fault-append_some a b s x h = stop-append_some is_ascii_whitespace is_sign is_symbol a b s x h
+fault-append_some a b s x h = stop-append_some is_ascii_whitespace is_pad is_symbol a b s x h
 
-pub before-append : (a b : List ℕ) (s : Bool) → fault_byte s a ≡ None → before_fault s (a ++ b) ≡ a ++ before_fault (s || list_any is_sign a) b
+pub before-append : (a b : List ℕ) (s : Bool) → fault_byte s a ≡ None → before_fault s (a ++ b) ≡ a ++ before_fault (s || list_any is_pad a) b
 unfolding fault_byte before_fault
-before-append a b s h = ahead-append is_ascii_whitespace is_sign is_symbol a b s h
+before-append a b s h = ahead-append is_ascii_whitespace is_pad is_symbol a b s h
 
 pub before-append_some : (a b : List ℕ) (s : Bool) (x : ℕ) → fault_byte s a ≡ Some x → before_fault s (a ++ b) ≡ before_fault s a
 unfolding fault_byte before_fault
-before-append_some a b s x h = ahead-append_some is_ascii_whitespace is_sign is_symbol a b s x h
+before-append_some a b s x h = ahead-append_some is_ascii_whitespace is_pad is_symbol a b s x h
 
 pub before_none : (a : List ℕ) (s : Bool) → fault_byte s a ≡ None → before_fault s a ≡ a
 unfolding fault_byte before_fault
-before_none a s h = ahead_none is_ascii_whitespace is_sign is_symbol a s h
+before_none a s h = ahead_none is_ascii_whitespace is_pad is_symbol a s h
 
 -- a fault settles what is handed out and the kind, whatever follows
 pub done_stays : (a b : List ℕ) (x : ℕ) → fault_byte false a ≡ Some x → done (a ++ b) ≡ done a
@@ -135,85 +135,85 @@ kind_fault a x h = kind_is a ∙ ap (kind_by (length (values a))) h
 pub kind_stays : (a b : List ℕ) (x : ℕ) → fault_byte false a ≡ Some x → kind_of a ≡ kind_of (a ++ b)
 kind_stays a b x h = kind_fault a x h ∙ sym (kind_fault (a ++ b) x (fault-append_some a b false x h))
 
--- Symbols and then signs
+-- Symbols and then pads
 
 pub fault_symbols : (q b : List ℕ) → Every is_symbol q → fault_byte false (q ++ b) ≡ fault_byte false b
 unfolding fault_byte
-fault_symbols q b h = stop_symbols is_ascii_whitespace is_sign is_symbol classes q b h
+fault_symbols q b h = stop_symbols is_ascii_whitespace is_pad is_symbol classes q b h
 
-pub fault_signs : (n : ℕ) (s : Bool) → fault_byte s (replicate n 61) ≡ None
+pub fault_pads : (n : ℕ) (s : Bool) → fault_byte s (replicate n 61) ≡ None
 unfolding fault_byte
-fault_signs n s = stop_signs is_ascii_whitespace is_sign is_symbol classes n 61 s refl
+fault_pads n s = stop_pads is_ascii_whitespace is_pad is_symbol classes n 61 s refl
 
 pub fault_text : (q : List ℕ) (n : ℕ) → Every is_symbol q → fault_byte false (q ++ replicate n 61) ≡ None
-fault_text q n h = fault_symbols q (replicate n 61) h ∙ fault_signs n false
+fault_text q n h = fault_symbols q (replicate n 61) h ∙ fault_pads n false
 
-pub any_signs : (n : ℕ) → list_any is_sign (replicate (suc n) 61) ≡ true
-any_signs n = refl
+pub any_pads : (n : ℕ) → list_any is_pad (replicate (suc n) 61) ≡ true
+any_pads n = refl
 
-pub symbols_of_signs : (n : ℕ) → filter is_symbol (replicate n 61) ≡ []
-symbols_of_signs n = filter_signs is_ascii_whitespace is_sign is_symbol classes n 61 refl
+pub symbols_of_pads : (n : ℕ) → filter is_symbol (replicate n 61) ≡ []
+symbols_of_pads n = filter_pads is_ascii_whitespace is_pad is_symbol classes n 61 refl
 
 pub symbols_of_text : (q : List ℕ) (n : ℕ) → Every is_symbol q → filter is_symbol (q ++ replicate n 61) ≡ q
-symbols_of_text q n h = filter-append is_symbol q (replicate n 61) ∙ ap (λ x. filter is_symbol q ++ x) (symbols_of_signs n) ∙ append-nil (filter is_symbol q) ∙ filter_all is_symbol q h
+symbols_of_text q n h = filter-append is_symbol q (replicate n 61) ∙ ap (λ x. filter is_symbol q ++ x) (symbols_of_pads n) ∙ append-nil (filter is_symbol q) ∙ filter_all is_symbol q h
 
-signs_of_signs : (n : ℕ) → filter is_sign (replicate n 61) ≡ replicate n 61
-signs_of_signs zero = refl
-signs_of_signs (suc n) = ap (λ (x : List ℕ). 61 ∷ x) (signs_of_signs n)
+pads_of_pads : (n : ℕ) → filter is_pad (replicate n 61) ≡ replicate n 61
+pads_of_pads zero = refl
+pads_of_pads (suc n) = ap (λ (x : List ℕ). 61 ∷ x) (pads_of_pads n)
 
-pub signs_of_text : (q : List ℕ) (n : ℕ) → Every is_symbol q → filter is_sign (q ++ replicate n 61) ≡ replicate n 61
-signs_of_text q n h =
-    filter-append is_sign q (replicate n 61)
-    ∙ ap (λ x. x ++ filter is_sign (replicate n 61)) (filter_symbols is_ascii_whitespace is_sign is_symbol classes q h)
-    ∙ signs_of_signs n
+pub pads_of_text : (q : List ℕ) (n : ℕ) → Every is_symbol q → filter is_pad (q ++ replicate n 61) ≡ replicate n 61
+pads_of_text q n h =
+    filter-append is_pad q (replicate n 61)
+    ∙ ap (λ x. x ++ filter is_pad (replicate n 61)) (filter_symbols is_ascii_whitespace is_pad is_symbol classes q h)
+    ∙ pads_of_pads n
 
-pub any_of_text : (q : List ℕ) (n : ℕ) → Every is_symbol q → list_any is_sign (q ++ replicate n 61) ≡ list_any is_sign (replicate n 61)
-any_of_text q n h = list_any-append is_sign q (replicate n 61) ∙ ap (λ x. x || list_any is_sign (replicate n 61)) (any_symbols is_ascii_whitespace is_sign is_symbol classes q h)
+pub any_of_text : (q : List ℕ) (n : ℕ) → Every is_symbol q → list_any is_pad (q ++ replicate n 61) ≡ list_any is_pad (replicate n 61)
+any_of_text q n h = list_any-append is_pad q (replicate n 61) ∙ ap (λ x. x || list_any is_pad (replicate n 61)) (any_symbols is_ascii_whitespace is_pad is_symbol classes q h)
 
 -- Validity
 
-signs_are : (b : List ℕ) → filter is_sign b ≡ replicate (length (filter is_sign b)) 61
-signs_are [] = refl
-signs_are (c ∷ t) =
-    elim (is_sign c) as (λ v. is_sign c ≡ v → cond v (c ∷ filter is_sign t) (filter is_sign t) ≡ replicate (length (cond v (c ∷ filter is_sign t) (filter is_sign t))) 61) [
-      | true ↦ λ e. ap (λ (x : ℕ). x ∷ filter is_sign t) (eqb-true c 61 e) ∙ ap (λ (x : List ℕ). 61 ∷ x) (signs_are t)
-      | false ↦ λ e. signs_are t
+pads_are : (b : List ℕ) → filter is_pad b ≡ replicate (length (filter is_pad b)) 61
+pads_are [] = refl
+pads_are (c ∷ t) =
+    elim (is_pad c) as (λ v. is_pad c ≡ v → cond v (c ∷ filter is_pad t) (filter is_pad t) ≡ replicate (length (cond v (c ∷ filter is_pad t) (filter is_pad t))) 61) [
+      | true ↦ λ e. ap (λ (x : ℕ). x ∷ filter is_pad t) (eqb-true c 61 e) ∙ ap (λ (x : List ℕ). 61 ∷ x) (pads_are t)
+      | false ↦ λ e. pads_are t
     ] refl
 
--- a text without a fault is its symbols and then its signs
-pub no_fault_text : (b : List ℕ) → fault_byte false b ≡ None → IsSymbolsAndPadding b (filter is_symbol b) (length (filter is_sign b))
+-- a text without a fault is its symbols and then its pads
+pub no_fault_text : (b : List ℕ) → fault_byte false b ≡ None → IsSymbolsAndPadding b (filter is_symbol b) (length (filter is_pad b))
 unfolding fault_byte compact
 no_fault_text b h = record {
   symbols_are = filter_every is_symbol b;
-  compact_is = compact_walk is_ascii_whitespace is_sign is_symbol classes b false h ∙ ap (λ x. filter is_symbol b ++ x) (signs_are b);
+  compact_is = compact_walk is_ascii_whitespace is_pad is_symbol classes b false h ∙ ap (λ x. filter is_symbol b ++ x) (pads_are b);
 }
 
-pub no_fault_valid : (b : List ℕ) → fault_byte false b ≡ None → is_valid b ≡ fits_with (length (filter is_symbol b) % 4) (length (filter is_sign b))
-no_fault_valid b h = symbols_signs_valid b (filter is_symbol b) (length (filter is_sign b)) (no_fault_text b h)
+pub no_fault_valid : (b : List ℕ) → fault_byte false b ≡ None → is_valid b ≡ fits_with (length (filter is_symbol b) % 4) (length (filter is_pad b))
+no_fault_valid b h = symbols_pads_valid b (filter is_symbol b) (length (filter is_pad b)) (no_fault_text b h)
 
 pub every_list_all : (q : List ℕ) → list_all is_symbol q ≡ true → Every is_symbol q
 every_list_all [] h = tt
 every_list_all (c ∷ t) h = let k = and_parts (is_symbol c) (list_all is_symbol t) h in (k.0, every_list_all t k.1)
 
--- at most one sign stood at the end
+-- at most one pad stood at the end
 data Cut : List ℕ → List ℕ → Type 0 where
   same : {s : List ℕ} → Cut s s
-  sign : {s : List ℕ} → Cut (s ++ 61 ∷ []) s
+  pad : {s : List ℕ} → Cut (s ++ 61 ∷ []) s
 
 Cut-more : (c : ℕ) (s u : List ℕ) → Cut s u → Cut (c ∷ s) (c ∷ u)
 Cut-more c s u same = same
-Cut-more c s u sign = sign
+Cut-more c s u pad = pad
 
 cut_is : (s : List ℕ) → Cut s (without_last_padding s)
 unfolding without_last_padding
 cut_is [] = same
-cut_is (a ∷ []) = elim (is_sign a) as (λ v. is_sign a ≡ v → Cut (a ∷ []) (cond v [] (a ∷ []))) [ true ↦ λ e. rw (eqb-true a 61 e) (sign {s = []}) | false ↦ λ e. same ] refl
+cut_is (a ∷ []) = elim (is_pad a) as (λ v. is_pad a ≡ v → Cut (a ∷ []) (cond v [] (a ∷ []))) [ true ↦ λ e. rw (eqb-true a 61 e) (pad {s = []}) | false ↦ λ e. same ] refl
 cut_is (a ∷ b ∷ t) = Cut-more a (b ∷ t) (without_last_padding (b ∷ t)) (cut_is (b ∷ t))
 
--- symbols with signs cut off have no fault
+-- symbols with pads cut off have no fault
 cut_none : {s u : List ℕ} → Cut s u → fault_byte false u ≡ None → fault_byte false s ≡ None
 cut_none {s} {u} same h = h
-cut_none {s} {u} sign h = fault-append u (61 ∷ []) false h ∙ fault_signs 1 (list_any is_sign u)
+cut_none {s} {u} pad h = fault-append u (61 ∷ []) false h ∙ fault_pads 1 (list_any is_pad u)
 
 unpadded_none : (s : List ℕ) → fault_byte false (unpadded s) ≡ None → fault_byte false s ≡ None
 unfolding unpadded
@@ -228,7 +228,7 @@ fault_every q h = ap (fault_byte false) (sym (append-nil q)) ∙ fault_text q 0 
 
 fault_compact : (b : List ℕ) → fault_byte false (compact b) ≡ fault_byte false b
 unfolding fault_byte compact
-fault_compact b = stop_compact is_ascii_whitespace is_sign is_symbol classes b false
+fault_compact b = stop_compact is_ascii_whitespace is_pad is_symbol classes b false
 
 -- a valid text has no fault
 pub valid_no_fault : (b : List ℕ) → is_valid b ≡ true → fault_byte false b ≡ None

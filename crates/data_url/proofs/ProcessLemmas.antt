@@ -6,7 +6,7 @@ use Rattle.data_url.specs.Url.{after_scheme, behind, dropped, fragment, front, i
 use Rattle.data_url.specs.Percent.{percent_decoded}
 use Rattle.data_url.specs.Fetch.{Accepted, Good, NoComma, NoScheme, Outcome, encoded_body, has_base64_suffix, mime_text, outcome, plain_body, staged, staged_after, staged_parts}
 use Rattle.data_url.specs.Steps.Front.{HasNoScheme, IsHeaderAndTail, IsSchemeAndRest}
-use Rattle.data_url.specs.Steps.Tail.{BeginsFragment, IsBodyEnd, fragment_at}
+use Rattle.data_url.specs.Steps.Tail.{BeginsFragment, IsBodyEnd, rest_fragment}
 use Rattle.data_url.specs.DataUrl.{Decodes, IsAcceptable, IsUrlOf, is_base64, mime_of, url_tail}
 use Rattle.data_url.specs.Steps.Header.{IsHeaderOf}
 use Rattle.data_url.specs.MimeType.{seen}
@@ -82,7 +82,7 @@ one_more_call step f g n body body' good r e d = subst (λ b. Decodes step f (n 
 -- The fragment
 
 pub no_fragment : (tail : List ℕ) (place : ℕ) → IsBodyEnd tail place → place ≡ length tail → None ≡ behind 35 tail
-no_fragment tail place h e = sym (h.behind_is ∙ ap fragment_at (drop_all place tail (omega arith)))
+no_fragment tail place h e = sym (h.behind_is ∙ ap rest_fragment (drop_all place tail (omega arith)))
 
 -- a '#' stands at the place
 pub record HasHash (tail : List ℕ) (place : ℕ) : Type 0 where
@@ -98,7 +98,7 @@ has_hash tail place h n =
     record {
       within = within;
       is = subst BeginsFragment here h.begins;
-      fragment_is = h.behind_is ∙ ap fragment_at here;
+      fragment_is = h.behind_is ∙ ap rest_fragment here;
     }
 
 bytes_drop : (n : ℕ) (s : List ℕ) → IsBytes s → IsBytes (drop n s)

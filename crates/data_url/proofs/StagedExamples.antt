@@ -105,9 +105,9 @@ empty_base64 : staged (codes "data:;base64,") ≡ Accepted [] (Good []) None
 unfolding on_literals
 empty_base64 = refl
 
-lone_sign : staged (codes "data:;base64,=") ≡ Accepted [] (Bad [] Padding) None
+lone_pad : staged (codes "data:;base64,=") ≡ Accepted [] (Bad [] Padding) None
 unfolding on_literals
-lone_sign = refl
+lone_pad = refl
 
 suffix_in_capitals : staged (codes "data:text/html;BASE64 ,QQ") ≡ Accepted (codes "text/html") (Good (codes "A")) None
 unfolding on_literals

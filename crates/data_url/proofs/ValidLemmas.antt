@@ -1,4 +1,4 @@
--- Which texts are valid, by the number of their symbols and of their signs.
+-- Which texts are valid, by the number of their symbols and of their pads.
 use Rattle.std.proofs.Common.{◌≡◌, ℕ, suc, zero, ◌+◌, ◌%◌, Bool, true, false, not, cond, ◌&&◌, eqb, List, [], ◌∷◌, ◌++◌, length, replicate, refl, ap, sym, ◌∙◌, inl, inr, arith, append_assoc, length-append}
 use Rattle.std.specs.List.{list_all}
 use Rattle.std.proofs.lemmas.List.{append-nil, length-replicate}
@@ -7,7 +7,7 @@ use Rattle.data_url.specs.Base64.{is_symbol, is_valid, unpadded, without_last_pa
 use Rattle.data_url.specs.Steps.Facts.{Fits, IsSymbolsAndPadding, PaddingFits}
 use Rattle.data_url.specs.Mime.{Every}
 
--- whether so many signs fit, by the remainder of the number of symbols
+-- whether so many pads fit, by the remainder of the number of symbols
 abbrev pub fits_with : ℕ → ℕ → Bool
 fits_with r zero = not (eqb r 1)
 fits_with r (suc zero) = eqb r 3
@@ -18,59 +18,59 @@ and_true : (b : Bool) → (b && true) ≡ b
 and_true true = refl
 and_true false = refl
 
--- Taking signs off the end
+-- Taking pads off the end
 
-pub is_symbol_sign : is_symbol 61 ≡ false
-is_symbol_sign = refl
+pub is_symbol_pad : is_symbol 61 ≡ false
+is_symbol_pad = refl
 
--- a symbol is no sign
-pub symbol_no_sign : (c : ℕ) → is_symbol c ≡ true → eqb c 61 ≡ false
-symbol_no_sign c h = ne_eqb c 61 (λ e. false≢true (sym is_symbol_sign ∙ ap is_symbol (sym e) ∙ h))
+-- a symbol is no pad
+pub symbol_no_pad : (c : ℕ) → is_symbol c ≡ true → eqb c 61 ≡ false
+symbol_no_pad c h = ne_eqb c 61 (λ e. false≢true (sym is_symbol_pad ∙ ap is_symbol (sym e) ∙ h))
 
-pub without_sign_symbols : (q : List ℕ) → Every is_symbol q → without_last_padding q ≡ q
+pub without_pad_symbols : (q : List ℕ) → Every is_symbol q → without_last_padding q ≡ q
 unfolding without_last_padding
-without_sign_symbols [] h = refl
-without_sign_symbols (a ∷ []) h = cond-false (eqb a 61) [] (a ∷ []) (symbol_no_sign a h.0)
-without_sign_symbols (a ∷ b ∷ t) h = ap (λ x. a ∷ x) (without_sign_symbols (b ∷ t) h.1)
+without_pad_symbols [] h = refl
+without_pad_symbols (a ∷ []) h = cond-false (eqb a 61) [] (a ∷ []) (symbol_no_pad a h.0)
+without_pad_symbols (a ∷ b ∷ t) h = ap (λ x. a ∷ x) (without_pad_symbols (b ∷ t) h.1)
 
-without_sign_more : (a : ℕ) (t : List ℕ) → without_last_padding (a ∷ t ++ 61 ∷ []) ≡ a ∷ without_last_padding (t ++ 61 ∷ [])
+without_pad_more : (a : ℕ) (t : List ℕ) → without_last_padding (a ∷ t ++ 61 ∷ []) ≡ a ∷ without_last_padding (t ++ 61 ∷ [])
 unfolding without_last_padding
-without_sign_more a [] = refl
-without_sign_more a (b ∷ t) = refl
+without_pad_more a [] = refl
+without_pad_more a (b ∷ t) = refl
 
--- one sign is taken off
-pub without_sign_push : (q : List ℕ) → without_last_padding (q ++ 61 ∷ []) ≡ q
+-- one pad is taken off
+pub without_pad_push : (q : List ℕ) → without_last_padding (q ++ 61 ∷ []) ≡ q
 unfolding without_last_padding
-without_sign_push [] = refl
-without_sign_push (a ∷ t) = without_sign_more a t ∙ ap (λ x. a ∷ x) (without_sign_push t)
+without_pad_push [] = refl
+without_pad_push (a ∷ t) = without_pad_more a t ∙ ap (λ x. a ∷ x) (without_pad_push t)
 
 pub replicate_push : (n : ℕ) → replicate {A = ℕ} (suc n) 61 ≡ replicate n 61 ++ 61 ∷ []
 replicate_push zero = refl
 replicate_push (suc n) = ap (λ (x : List ℕ). 61 ∷ x) (replicate_push n)
 
-pub without_sign_signs : (q : List ℕ) (n : ℕ) → without_last_padding (q ++ replicate (suc n) 61) ≡ q ++ replicate n 61
-without_sign_signs q n =
-    ap (λ x. without_last_padding (q ++ x)) (replicate_push n) ∙ ap without_last_padding (sym (append_assoc q (replicate n 61) (61 ∷ []))) ∙ without_sign_push (q ++ replicate n 61)
+pub without_pad_pads : (q : List ℕ) (n : ℕ) → without_last_padding (q ++ replicate (suc n) 61) ≡ q ++ replicate n 61
+without_pad_pads q n =
+    ap (λ x. without_last_padding (q ++ x)) (replicate_push n) ∙ ap without_last_padding (sym (append_assoc q (replicate n 61) (61 ∷ []))) ∙ without_pad_push (q ++ replicate n 61)
 
--- Symbols and signs
+-- Symbols and pads
 
 list_all_every : (q : List ℕ) → Every is_symbol q → list_all is_symbol q ≡ true
 list_all_every [] h = refl
 list_all_every (a ∷ t) h = and_from (is_symbol a) (list_all is_symbol t) h.0 (list_all_every t h.1)
 
-list_all_signs : (q : List ℕ) (n : ℕ) → list_all is_symbol (q ++ replicate (suc n) 61) ≡ false
-list_all_signs [] n = refl
-list_all_signs (a ∷ t) n = and_right (is_symbol a) (list_all is_symbol (t ++ replicate (suc n) 61)) (list_all_signs t n)
+list_all_pads : (q : List ℕ) (n : ℕ) → list_all is_symbol (q ++ replicate (suc n) 61) ≡ false
+list_all_pads [] n = refl
+list_all_pads (a ∷ t) n = and_right (is_symbol a) (list_all is_symbol (t ++ replicate (suc n) 61)) (list_all_pads t n)
 
--- the text left after signs were taken off passes
+-- the text left after pads were taken off passes
 abbrev passes : List ℕ → Bool
 passes u = not (eqb (length u % 4) 1) && list_all is_symbol u
 
 passes_symbols : (q : List ℕ) (r : Bool) → Every is_symbol q → not (eqb (length q % 4) 1) ≡ r → passes q ≡ r
 passes_symbols q r h e = ap (λ x. not (eqb (length q % 4) 1) && x) (list_all_every q h) ∙ and_true (not (eqb (length q % 4) 1)) ∙ e
 
-passes_signs : (q : List ℕ) (n : ℕ) → passes (q ++ replicate (suc n) 61) ≡ false
-passes_signs q n = and_right (not (eqb (length (q ++ replicate (suc n) 61) % 4) 1)) (list_all is_symbol (q ++ replicate (suc n) 61)) (list_all_signs q n)
+passes_pads : (q : List ℕ) (n : ℕ) → passes (q ++ replicate (suc n) 61) ≡ false
+passes_pads q n = and_right (not (eqb (length (q ++ replicate (suc n) 61) % 4) 1)) (list_all is_symbol (q ++ replicate (suc n) 61)) (list_all_pads q n)
 
 passes_cond : (t r : Bool) (u w : List ℕ) → passes w ≡ false → (t ≡ true → passes u ≡ r) → (t ≡ false → r ≡ false) → passes (cond t u w) ≡ r
 passes_cond true r u w h good bad = good refl
@@ -78,12 +78,12 @@ passes_cond false r u w h good bad = h ∙ sym (bad refl)
 
 unpadded_symbols : (q : List ℕ) → Every is_symbol q → unpadded q ≡ q
 unfolding unpadded
-unpadded_symbols q h = cond_both (eqb (length q % 4) 0) (without_last_padding (without_last_padding q)) q (λ x. x ≡ q) (λ e. ap without_last_padding (without_sign_symbols q h) ∙ without_sign_symbols q h) (λ e. refl)
+unpadded_symbols q h = cond_both (eqb (length q % 4) 0) (without_last_padding (without_last_padding q)) q (λ x. x ≡ q) (λ e. ap without_last_padding (without_pad_symbols q h) ∙ without_pad_symbols q h) (λ e. refl)
 
-length_signs : (q : List ℕ) (n : ℕ) → length (q ++ replicate n 61) ≡ length q + n
-length_signs q n = length-append q (replicate n 61) ∙ ap (λ x. length q + x) (length-replicate n 61)
+length_pads : (q : List ℕ) (n : ℕ) → length (q ++ replicate n 61) ≡ length q + n
+length_pads q n = length-append q (replicate n 61) ∙ ap (λ x. length q + x) (length-replicate n 61)
 
--- with no sign
+-- with no pad
 none_passes : (q : List ℕ) → Every is_symbol q → passes (unpadded (q ++ [])) ≡ fits_with (length q % 4) 0
 none_passes q h = ap (λ x. passes (unpadded x)) (append-nil q) ∙ ap passes (unpadded_symbols q h) ∙ passes_symbols q _ h refl
 
@@ -109,36 +109,36 @@ one_passes : (q : List ℕ) → Every is_symbol q → passes (unpadded (q ++ rep
 unfolding unpadded
 one_passes q h =
     passes_cond (eqb (length (q ++ replicate 1 61) % 4) 0) _ (without_last_padding (without_last_padding (q ++ replicate 1 61))) (q ++ replicate 1 61)
-    (passes_signs q 0)
-    (λ e. ap (λ x. passes (without_last_padding x)) (without_sign_signs q 0 ∙ append-nil q) ∙ ap passes (without_sign_symbols q h) ∙ passes_symbols q _ h (one_true (length q) _ (length_signs q 1) e))
-    (λ e. one_false (length q) _ (length_signs q 1) e)
+    (passes_pads q 0)
+    (λ e. ap (λ x. passes (without_last_padding x)) (without_pad_pads q 0 ∙ append-nil q) ∙ ap passes (without_pad_symbols q h) ∙ passes_symbols q _ h (one_true (length q) _ (length_pads q 1) e))
+    (λ e. one_false (length q) _ (length_pads q 1) e)
 
 two_passes : (q : List ℕ) → Every is_symbol q → passes (unpadded (q ++ replicate 2 61)) ≡ fits_with (length q % 4) 2
 unfolding unpadded
 two_passes q h =
     passes_cond (eqb (length (q ++ replicate 2 61) % 4) 0) _ (without_last_padding (without_last_padding (q ++ replicate 2 61))) (q ++ replicate 2 61)
-    (passes_signs q 1)
-    (λ e. ap (λ x. passes (without_last_padding x)) (without_sign_signs q 1) ∙ ap passes (without_sign_signs q 0 ∙ append-nil q) ∙ passes_symbols q _ h (two_true (length q) _ (length_signs q 2) e))
-    (λ e. two_false (length q) _ (length_signs q 2) e)
+    (passes_pads q 1)
+    (λ e. ap (λ x. passes (without_last_padding x)) (without_pad_pads q 1) ∙ ap passes (without_pad_pads q 0 ∙ append-nil q) ∙ passes_symbols q _ h (two_true (length q) _ (length_pads q 2) e))
+    (λ e. two_false (length q) _ (length_pads q 2) e)
 
 more_passes : (q : List ℕ) (n : ℕ) → passes (unpadded (q ++ replicate (suc (suc (suc n))) 61)) ≡ false
 unfolding unpadded
 more_passes q n =
     passes_cond (eqb (length (q ++ replicate (suc (suc (suc n))) 61) % 4) 0) false (without_last_padding (without_last_padding (q ++ replicate (suc (suc (suc n))) 61))) (q ++ replicate (suc (suc (suc n))) 61)
-    (passes_signs q (suc (suc n)))
-    (λ e. ap (λ x. passes (without_last_padding x)) (without_sign_signs q (suc (suc n))) ∙ ap passes (without_sign_signs q (suc n)) ∙ passes_signs q n)
+    (passes_pads q (suc (suc n)))
+    (λ e. ap (λ x. passes (without_last_padding x)) (without_pad_pads q (suc (suc n))) ∙ ap passes (without_pad_pads q (suc n)) ∙ passes_pads q n)
     (λ e. refl)
 
-symbols_signs_pass : (q : List ℕ) (p : ℕ) → Every is_symbol q → passes (unpadded (q ++ replicate p 61)) ≡ fits_with (length q % 4) p
-symbols_signs_pass q zero h = none_passes q h
-symbols_signs_pass q (suc zero) h = one_passes q h
-symbols_signs_pass q (suc (suc zero)) h = two_passes q h
-symbols_signs_pass q (suc (suc (suc n))) h = more_passes q n
+symbols_pads_pass : (q : List ℕ) (p : ℕ) → Every is_symbol q → passes (unpadded (q ++ replicate p 61)) ≡ fits_with (length q % 4) p
+symbols_pads_pass q zero h = none_passes q h
+symbols_pads_pass q (suc zero) h = one_passes q h
+symbols_pads_pass q (suc (suc zero)) h = two_passes q h
+symbols_pads_pass q (suc (suc (suc n))) h = more_passes q n
 
--- symbols and signs, with white space anywhere, are valid by their numbers
-pub symbols_signs_valid : (b q : List ℕ) (p : ℕ) → IsSymbolsAndPadding b q p → is_valid b ≡ fits_with (length q % 4) p
+-- symbols and pads, with white space anywhere, are valid by their numbers
+pub symbols_pads_valid : (b q : List ℕ) (p : ℕ) → IsSymbolsAndPadding b q p → is_valid b ≡ fits_with (length q % 4) p
 unfolding is_valid
-symbols_signs_valid b q p h = ap (λ x. passes (unpadded x)) h.compact_is ∙ symbols_signs_pass q p h.symbols_are
+symbols_pads_valid b q p h = ap (λ x. passes (unpadded x)) h.compact_is ∙ symbols_pads_pass q p h.symbols_are
 
 -- The numbers that fit
 
@@ -154,4 +154,4 @@ from_fits k p (inr (inl (z, n))) = rw z (eq-eqb (k % 4) 3 n)
 from_fits k p (inr (inr (z, n))) = rw z (eq-eqb (k % 4) 2 n)
 
 pub padding_fits : (b : List ℕ) → PaddingFits b
-padding_fits b q p h = (λ v. fits_from (length q) p (sym (symbols_signs_valid b q p h) ∙ v), λ f. symbols_signs_valid b q p h ∙ from_fits (length q) p f)
+padding_fits b q p h = (λ v. fits_from (length q) p (sym (symbols_pads_valid b q p h) ∙ v), λ f. symbols_pads_valid b q p h ∙ from_fits (length q) p f)

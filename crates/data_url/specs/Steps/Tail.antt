@@ -8,12 +8,12 @@ BeginsFragment [] = Unit {0}
 BeginsFragment (b ∷ s) = b ≡ 35
 
 -- the fragment, where the text begins with its '#'
-abbrev pub fragment_at : List ℕ → Option (List ℕ)
-fragment_at [] = None
-fragment_at (b ∷ s) = Some s
+abbrev pub rest_fragment : List ℕ → Option (List ℕ)
+rest_fragment [] = None
+rest_fragment (b ∷ s) = Some s
 
 -- the body of the tail ends at the place: there stands nothing, or '#' and the fragment
 pub record IsBodyEnd (tail : List ℕ) (place : ℕ) : Type 0 where
   pub within : place ≤ length tail
   pub begins : BeginsFragment (drop place tail)
-  pub behind_is : behind 35 tail ≡ fragment_at (drop place tail)
+  pub behind_is : behind 35 tail ≡ rest_fragment (drop place tail)

@@ -10,14 +10,14 @@ ghost use Rattle.data_url.specs.Steps.Parsing.{IsTrimmedFront};
 const HTTP_WHITESPACE: [char; 4] = ['\t', '\n', '\r', ' '];
 
 /// The text without HTTP whitespace at its start.
-pub(super) fn without_front(text: &str) -> &str
+pub(super) fn without_leading_whitespace(text: &str) -> &str
     ensures { IsTrimmedFront is_http_whitespace (chars text.now) (chars result.now) }
 {
     text.trim_start_matches(HTTP_WHITESPACE)
 }
 
 /// The text without HTTP whitespace at its end.
-pub(super) fn without_end(text: &str) -> &str
+pub(super) fn without_trailing_whitespace(text: &str) -> &str
     ensures { IsTrimmedEnd is_http_whitespace (chars text.now) (chars result.now) }
 {
     text.trim_end_matches(HTTP_WHITESPACE)

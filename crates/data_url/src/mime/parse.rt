@@ -9,7 +9,9 @@ ghost use Rattle.data_url.specs.Steps.Parsing.{HasLowercaseNames, HasNoHead, Has
 ghost use Rattle.data_url.specs.MimeType.{pair_of, seen};
 
 use super::Mime;
-use super::cuts::{split_name, split_semicolon, without_end, without_front};
+use super::cuts::{
+    split_name, split_semicolon, without_leading_whitespace, without_trailing_whitespace,
+};
 use super::tokens::{is_token_text, split_tokens};
 use super::values::{Value, lowercased};
 use std::alloc::{AllocError, Global};
@@ -54,9 +56,9 @@ pub(super) fn read_head(text: &str) -> Option<Head<'_>>
         (λ h. IsHead (chars text.now) (chars h.type_.now) (chars h.subtype.now)
         (chars h.parameters.now)) }
 {
-    let (type_, rest) = split_tokens(without_end(without_front(text)));
+    let (type_, rest) = split_tokens(without_trailing_whitespace(without_leading_whitespace(text)));
     let (subtype, rest) = split_tokens(rest.strip_prefix('/')?);
-    let parameters = without_front(rest);
+    let parameters = without_leading_whitespace(rest);
     if type_.is_empty() || subtype.is_empty() || !begins_parameters(parameters) {
         return None;
     }
@@ -81,7 +83,7 @@ fn read_parameter(text: &str) -> Parameter<'_>
         × HasParameterBefore (chars text.now) item (chars result.rest.now) }
     ensures text { IsUtf8 result.rest.now }
 {
-    let (name, tail) = split_name(without_front(text));
+    let (name, tail) = split_name(without_leading_whitespace(text));
     let Some(value) = tail.strip_prefix('=') else {
         return Parameter {
             name,
@@ -117,7 +119,7 @@ fn read_plain(text: &str) -> (Value<'_>, &str)
     ensures text { IsUtf8 result.1.now }
 {
     let (value, rest) = split_semicolon(text);
-    let value = without_end(value);
+    let value = without_trailing_whitespace(value);
     if value.is_empty() {
         (Value::Missing, rest)
     } else {

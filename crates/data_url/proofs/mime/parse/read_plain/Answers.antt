@@ -6,10 +6,10 @@ use Rattle.data_url.proofs.mime.parse.read_plain.Goals as goal
 
 pub returns-then-is_empty : goal.returns-then-is_empty
 returns-then-is_empty c =
-    let h = plain_value _ _ _ _ c.requires c.split_semicolon.ensures.joined c.split_semicolon.ensures.front c.split_semicolon.ensures.behind c.without_end-value.ensures in
-    record { value = (None, refl, missing_value (chars c.args.text.now) (chars c.split_semicolon.result.0.now) _ _ (empty_by c.without_end-value.result.now c.is_empty.result c.is_empty.ensures c.if-is_empty.true) h); text = c.split_semicolon.ensures.text.1 }
+    let h = plain_value _ _ _ _ c.requires c.split_semicolon.ensures.joined c.split_semicolon.ensures.front c.split_semicolon.ensures.behind c.without_trailing_whitespace-value.ensures in
+    record { value = (None, refl, missing_value (chars c.args.text.now) (chars c.split_semicolon.result.0.now) _ _ (empty_by c.without_trailing_whitespace-value.result.now c.is_empty.result c.is_empty.ensures c.if-is_empty.true) h); text = c.split_semicolon.ensures.text.1 }
 
 pub returns-else-is_empty : goal.returns-else-is_empty
 returns-else-is_empty c =
-    let h = plain_value _ _ _ _ c.requires c.split_semicolon.ensures.joined c.split_semicolon.ensures.front c.split_semicolon.ensures.behind c.without_end-value.ensures in
-    record { value = (Some (chars c.without_end-value.result.now), refl, some_value (chars c.args.text.now) (chars c.split_semicolon.result.0.now) _ _ (nonempty_by c.without_end-value.result.now c.is_empty.result c.without_end-value.utf8 c.is_empty.ensures c.if-is_empty.false) h); text = c.split_semicolon.ensures.text.1 }
+    let h = plain_value _ _ _ _ c.requires c.split_semicolon.ensures.joined c.split_semicolon.ensures.front c.split_semicolon.ensures.behind c.without_trailing_whitespace-value.ensures in
+    record { value = (Some (chars c.without_trailing_whitespace-value.result.now), refl, some_value (chars c.args.text.now) (chars c.split_semicolon.result.0.now) _ _ (nonempty_by c.without_trailing_whitespace-value.result.now c.is_empty.result c.without_trailing_whitespace-value.utf8 c.is_empty.ensures c.if-is_empty.false) h); text = c.split_semicolon.ensures.text.1 }
