@@ -68,18 +68,18 @@ groups_stop u piece v w left fault end e g sound (cut_short {whole = whole} {end
 
 -- The last part
 
-last_whole : (u v w : List ℕ) (end : End) → GoesOn u [] v → IsLast v w end → IsOutput u base64 (done u ++ w) end
-last_whole u v w end g (last_valid f) =
+last_whole : (u v w : List ℕ) (end : End) → first_fault u ≡ None → GoesOn u [] v → IsLast v w end → IsOutput u base64 (done u ++ w) end
+last_whole u v w end sound g (last_valid f) =
     let P : List ℕ → Type 0 = λ s. IsOutput u base64 s (Ok tt) in
     subst P (ap decoded (sym (append-nil u)) ∙ g.decoded_is) (of_base64 (ap is_valid (sym (append-nil u)) ∙ g.valid_is ∙ f))
-last_whole u v w end g (last_invalid f) =
+last_whole u v w end sound g (last_invalid f) =
     let P : List ℕ → Type 0 = λ s. IsOutput u base64 s (Err (Base64 (kind_of v))) in
     let Q : _ → Type 0 = λ kind. IsOutput u base64 (done u) (Err (Base64 kind)) in
-    subst P (ap done (sym (append-nil u)) ∙ g.done_is) (subst Q (ap kind_of (sym (append-nil u)) ∙ g.kind_is) (of_no_base64 (ap is_valid (sym (append-nil u)) ∙ g.valid_is ∙ f)))
+    subst P (ap done (sym (append-nil u)) ∙ g.done_is) (subst Q (ap kind_of (sym (append-nil u)) ∙ g.kind_is) (of_no_base64 sound (ap is_valid (sym (append-nil u)) ∙ g.valid_is ∙ f)))
 
-last_ends : (u v w : List ℕ) (left : Option (List ℕ)) (end : End) → GoesOn u [] v → IsAtEnd left → IsStreamed (IsLast v) w end → IsResult u left base64 (done u ++ w) end
-last_ends u v w left end g over (all_streamed h) = complete over (last_whole u v w end g h)
-last_ends u v w left end g over (cut_short {whole = whole} {end = end'} h b) = not_written over (last_whole u v whole end' g h) (beginning_behind (done u) w whole b)
+last_ends : (u v w : List ℕ) (left : Option (List ℕ)) (end : End) → first_fault u ≡ None → GoesOn u [] v → IsAtEnd left → IsStreamed (IsLast v) w end → IsResult u left base64 (done u ++ w) end
+last_ends u v w left end sound g over (all_streamed h) = complete over (last_whole u v w end sound g h)
+last_ends u v w left end sound g over (cut_short {whole = whole} {end = end'} h b) = not_written over (last_whole u v whole end' sound g h) (beginning_behind (done u) w whole b)
 
 -- The loop
 
@@ -136,7 +136,7 @@ module _ {unread now left held then later : Option (List ℕ)} {kept : List ℕ}
         written = done h.input ++ w.written;
         consumed = subst P same all;
         appended = appends_then held then later (done h.input) w.written h.appended w.appended;
-        is_run = last_ends h.input text w.written left end g over w.is_streamed;
+        is_run = last_ends h.input text w.written left end h.no_fault g over w.is_streamed;
       }
 
 pub reading_fails : {unread now left held then : Option (List ℕ)} {kept : List ℕ} → Reading unread now held then kept → Keeps now left → Runs base64 unread left held then (Err Read)

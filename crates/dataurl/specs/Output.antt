@@ -1,6 +1,6 @@
 -- What each command writes of an input, and how it ends.
 use Rattle.std.specs.Prelude.{[], ◌++◌, ◌∷◌, ◌≡◌, Err, IsUtf8, List, None, Ok, Option, Result, Some, chars, encode_utf8_all, false, true, ℕ}
-use Rattle.data_url.specs.Base64.{decoded, done, is_valid, kind_of}
+use Rattle.data_url.specs.Base64.{decoded, done, first_fault, is_valid, kind_of}
 use Rattle.data_url.specs.Fetch.{Accepted, Bad, Good, NoComma as no_comma, NoScheme, Outcome, staged}
 use Rattle.data_url.specs.Mime.{HasNoRecord, IsRecordOf, Parses, Record, printed}
 use Rattle.dataurl.specs.Command.{TakesText, TakesUrl}
@@ -58,10 +58,11 @@ pub data IsTextOutput (x : List ℕ) : Command → List ℕ → End → Type 0 w
   type_of : {written : List ℕ} {end : End} → IsTypeOutput (chars x) written end
       → IsTextOutput x Canonical written end
 
--- of any input
+-- of any input; one of base64 with a fault is not read to its end, so that it has no whole output
 pub data IsOutput (x : List ℕ) : Command → List ℕ → End → Type 0 where
   of_text : {c : Command} {written : List ℕ} {end : End} → IsUtf8 x → IsTextOutput x c written end
       → IsOutput x c written end
   of_no_text : {c : Command} → TakesText c → (IsUtf8 x → ⊥) → IsOutput x c [] (Err NotUtf8)
   of_base64 : is_valid x ≡ true → IsOutput x base64 (decoded x) (Ok tt)
-  of_no_base64 : is_valid x ≡ false → IsOutput x base64 (done x) (Err (Base64 (kind_of x)))
+  of_no_base64 : first_fault x ≡ None → is_valid x ≡ false
+      → IsOutput x base64 (done x) (Err (Base64 (kind_of x)))
