@@ -5,5 +5,6 @@ pub mod CommandRunLemmas
 pub mod InputLemmas
 pub mod LeftLemmas
 pub mod OutputLemmas
+pub mod ProgramLemmas
 pub mod StepLemmas
 pub mod StreamLemmas

@@ -7,14 +7,14 @@ mod fault;
 mod gather;
 mod input;
 mod output;
+mod program;
 mod run;
 mod stream;
 #[cfg(test)]
 mod tests;
 
-use command::command_of;
-use fault::{Fault, report, usage};
-use run::run;
+use fault::Fault;
+use program::execute;
 use std::env;
 use std::process::ExitCode;
 
@@ -33,15 +33,11 @@ fn arguments(rt: &HostRuntime) -> Result<Vec<String>, Fault> {
 }
 
 fn main(rt: HostRuntime) -> ExitCode {
-    let words = match arguments(&rt) {
-        Ok(words) => words,
-        Err(fault) => return ExitCode::from(report(&fault, &mut rt.stderr())),
-    };
-    let Some(command) = command_of(&words) else {
-        return ExitCode::from(usage(&mut rt.stderr()));
-    };
-    match run(rt.alloc(), command, &mut rt.stdin(), &mut rt.stdout()) {
-        Ok(()) => ExitCode::SUCCESS,
-        Err(fault) => ExitCode::from(report(&fault, &mut rt.stderr())),
-    }
+    ExitCode::from(execute(
+        rt.alloc(),
+        arguments(&rt),
+        &mut rt.stdin(),
+        &mut rt.stdout(),
+        &mut rt.stderr(),
+    ))
 }
