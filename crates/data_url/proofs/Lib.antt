@@ -12,11 +12,11 @@ pub mod CutLemmas
 pub mod DecodeLemmas
 pub mod DecoderLemmas
 pub mod DigitLemmas
+pub mod EncodeLemmas
 pub mod FaultLemmas
 pub mod FeedLemmas
 pub mod FillLemmas
 pub mod FragmentAgainLemmas
-pub mod FragmentLemmas
 pub mod FreeLemmas
 pub mod GapLemmas
 pub mod GatherLemmas

@@ -1,7 +1,7 @@
 -- What is written is the printed text.
-use Rattle.std.proofs.Common.{◌≡◌, ℕ, ◌+◌, ◌<◌, ◌≤◌, Bool, true, false, List, [], ◌∷◌, ◌++◌, length, get_or, drop, String, string_bytes, map, encode_utf8, encode_utf8_all, sym, ap, ap₂, ◌∙◌, append_assoc, append-nil, arith, drop-cons, drop_of_length-le, add-one}
+use Rattle.std.proofs.Common.{◌≡◌, ℕ, ◌+◌, ◌<◌, ◌≤◌, Bool, true, false, List, [], ◌∷◌, ◌++◌, length, get_or, drop, String, string_bytes, map, encode_utf8, encode_utf8_all, sym, ap, ap₂, ◌∙◌, append_assoc, append-nil, drop-cons, drop_of_length-le, add-one}
 use Rattle.std.proofs.lemmas.Bool.{cond-false, cond-true}
-use Rattle.std.proofs.lemmas.Str.{IsUtf8-string_bytes, chars-nil, chars_past_char, encodes-append, encodes-chars}
+use Rattle.std.proofs.lemmas.Str.{IsUtf8-string_bytes, chars_past_char, encodes-append, encodes-chars}
 use Rattle.std.specs.List.{flat_map}
 use Rattle.std.specs.Str.{IsUtf8, chars}
 use Rattle.data_url.specs.Mime.{escaped, is_token_text, printed, printed_pair, printed_value}

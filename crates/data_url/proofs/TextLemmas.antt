@@ -1,5 +1,5 @@
 -- Texts cut at the first code point that passes no more, and ends taken off.
-use Rattle.std.proofs.Common.{◌≡◌, ℕ, suc, ◌<◌, ◌≤◌, nat_le, Bool, true, false, cond, Some, List, [], ◌∷◌, ◌++◌, length, refl, sym, ap, ◌∙◌, arith}
+use Rattle.std.proofs.Common.{◌≡◌, ℕ, suc, ◌≤◌, nat_le, Bool, true, false, cond, Some, List, [], ◌∷◌, ◌++◌, length, refl, sym, ap, ◌∙◌, arith}
 use Rattle.std.proofs.lemmas.Bool.{and_parts, cond-true, cond-false, cond_both, leb-true}
 use Rattle.std.proofs.lemmas.Str.{chars-nil}
 use Rattle.std.specs.Int.{is_in_range}

@@ -1,6 +1,6 @@
 -- Values as texts of their own.
-use Rattle.std.proofs.Common.{◌≡◌, ℕ, suc, ◌+◌, ◌/◌, ◌<◌, ◌≤◌, ◌==◌, ◌||◌, ◌&&◌, Bool, true, false, not, cond, List, [], ◌∷◌, ◌++◌, length, get_or, drop, Option, None, Some, Bor, map, encode_utf8_all, refl, sym, ap, ap₂, ◌∙◌, subst, append_assoc, append-nil, arith, inl, inr, ⊎_elim, ltb, nat_le, drop-cons, drop_of_length-le}
-use Rattle.std.proofs.lemmas.Bool.{agree_below_at, cond-true, eq-eqb, ne_eqb, and_left, and_parts, cases_lt, cond-false, cond_both, eqb-true, false_from_ne_true, le-ltb, leb-true, or_cases}
+use Rattle.std.proofs.Common.{◌≡◌, ℕ, suc, ◌+◌, ◌/◌, ◌<◌, ◌≤◌, ◌==◌, ◌||◌, ◌&&◌, Bool, true, false, not, cond, List, [], ◌∷◌, ◌++◌, length, get_or, drop, Option, None, Some, Bor, map, encode_utf8_all, refl, sym, ap, ap₂, ◌∙◌, subst, append_assoc, append-nil, arith, inl, inr, ⊎_elim, ltb, drop-cons, drop_of_length-le}
+use Rattle.std.proofs.lemmas.Bool.{agree_below_at, cond-true, eq-eqb, ne_eqb, and_left, and_parts, cases_lt, cond-false, cond_both, eqb-true, false_from_ne_true, le-ltb, or_cases}
 use Rattle.std.proofs.lemmas.List.Folds.{list_all-append}
 use Rattle.std.proofs.lemmas.Str.{IsUtf8-encode, chars-append, chars-nil, chars_past_char, cons_from_encodes, encodes-chars}
 use Rattle.std.specs.Char.{IsScalar}

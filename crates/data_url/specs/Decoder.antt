@@ -1,6 +1,6 @@
 -- What contracts see of a `Decoder`, and what feeding and finishing one does (Infra Standard,
 -- forgiving-base64 decode), by the texts that it was given.
-use Rattle.std.specs.Prelude.{[], ◌++◌, ◌+◌, ◌≡◌, ◌≤◌, Bool, Err, List, MatchBool, MatchOption, Ok, Result, false, is_err, length, take, ℕ}
+use Rattle.std.specs.Prelude.{[], ◌++◌, ◌≡◌, ◌≤◌, Bool, Err, List, MatchBool, MatchOption, Ok, Result, false, is_err, length, take, ℕ}
 use Rattle.data_url.specs.Base64.{decoded, done, first_fault, is_valid, kind_of, left_padding, left_symbols, left_text}
 use Rattle.data_url.specs.Errors.{IsRefused}
 use Rattle.data_url.specs.Run.{Call, IsRun, joined, refusal}

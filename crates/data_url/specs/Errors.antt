@@ -1,6 +1,6 @@
 -- When each error comes, and its text.
 use Rattle.std.specs.Option.{option_map}
-use Rattle.std.specs.Prelude.{◌++◌, ◌+◌, ◌≡◌, Err, List, Ok, Option, Result, Some, codes, false, ℕ, ⊤}
+use Rattle.std.specs.Prelude.{◌++◌, ◌≡◌, Err, List, Ok, Option, Result, Some, codes, false, ℕ, ⊤}
 use Rattle.data_url.specs.Base64.{is_valid, kind_of, kind_text}
 use Rattle.data_url.specs.Fetch.{Bad, Outcome}
 use Rattle.data_url.specs.Run.{IsPrefix}

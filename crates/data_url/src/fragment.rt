@@ -1,9 +1,8 @@
 //! Fragments of data: URLs (URL Standard, section 4.4, fragment state).
 
-ghost use Rattle.std.specs.Prelude.{◌≡◌, IfOk, length};
+ghost use Rattle.std.specs.Prelude.{◌≡◌, IfOk};
 
-use crate::ascii::is_tab_or_newline;
-use crate::percent::{EncodeSet, encoded_width, push_encoded};
+use crate::percent::{EncodeSet, encoded_len, push_encoded};
 use std::alloc::{AllocError, Global};
 
 /// What stands behind the first `#` of a data: URL
@@ -15,7 +14,7 @@ pub struct FragmentIdentifier<'a> {
 }
 
 impl<'a> FragmentIdentifier<'a> {
-    ghost use Rattle.std.specs.Prelude.{◌-◌, ◌^◌, min, string_bytes};
+    ghost use Rattle.std.specs.Prelude.{string_bytes};
     ghost use Rattle.data_url.specs.Url.{encoded_fragment};
     ghost use Rattle.data_url.specs.DataUrl.{fragment_text};
 
@@ -24,20 +23,6 @@ impl<'a> FragmentIdentifier<'a> {
         ensures { fragment_text result ≡ text.entry.now }
     {
         FragmentIdentifier { text }
-    }
-
-    /// How many bytes the encoded fragment takes, or the greatest number where they are more.
-    fn encoded_len(&self) -> usize
-        ensures { result
-            ≡ min (length (encoded_fragment (fragment_text self.now))) (2 ^ 64 - 1) }
-    {
-        let mut len: usize = 0;
-        for byte in self.text.as_bytes() {
-            if !is_tab_or_newline(*byte) {
-                len = len.saturating_add(encoded_width(EncodeSet::Fragment, *byte));
-            }
-        }
-        len
     }
 
     /// The fragment as the URL parser leaves it
@@ -50,12 +35,9 @@ impl<'a> FragmentIdentifier<'a> {
         ensures { IfOk result (λ text.
             string_bytes text ≡ encoded_fragment (fragment_text self.now)) }
     {
-        let mut text = String::with_capacity(alloc, self.encoded_len())?;
-        for byte in self.text.as_bytes() {
-            if !is_tab_or_newline(*byte) {
-                push_encoded(&mut text, EncodeSet::Fragment, *byte)?;
-            }
-        }
+        let bytes = self.text.as_bytes();
+        let mut text = String::with_capacity(alloc, encoded_len(EncodeSet::Fragment, bytes))?;
+        push_encoded(&mut text, EncodeSet::Fragment, bytes)?;
         Ok(text)
     }
 }

@@ -1,71 +1,46 @@
 //! The header of a data: URL (Fetch Standard, section 6), from its text as it was given.
 
 ghost use Rattle.std.specs.Prelude.{◌≡◌, IfOk, string_bytes};
+ghost use Rattle.std.specs.List.{prefix_len};
 ghost use Rattle.std.specs.Str.{chars};
 ghost use Rattle.data_url.specs.Url.{dropped, serialised};
 ghost use Rattle.data_url.specs.Fetch.{before_base64, with_plain};
 ghost use Rattle.data_url.specs.Mime.{default_record};
-ghost use Rattle.data_url.specs.Steps.Header.{HasChanges, IsHeaderOf, IsPrintable, IsRecordFor, next_set};
+ghost use Rattle.data_url.specs.Steps.Header.{IsHeaderOf, IsPathAndQuery, IsPrintable, IsRecordFor, encoded_parts, is_no_question_mark};
 ghost use Rattle.data_url.specs.MimeType.{as_option, seen};
 
-use crate::ascii::{is_tab_or_newline, low_end_len, trim};
+use crate::ascii::{low_end_len, trim};
 use crate::mime::{Mime, MimeFromStrError};
-use crate::percent::{EncodeSet, push_encoded};
+use crate::percent::{EncodeSet, encoded_len, is_encoded, push_encoded};
 use std::alloc::{AllocError, Global};
 
 const PLAIN: &str = "text/plain";
 
 const SUFFIX: [u8; 6] = *b"base64";
 
-/// The set that holds behind a byte of a path or query: the first `?` ends the path.
-fn set_behind(set: EncodeSet, byte: u8) -> EncodeSet
-    ensures { result ≡ next_set set byte }
+/// The path of a header, and behind it the query with its `?`, where there is one.
+fn split_query(header: &[u8]) -> (&[u8], &[u8])
+    ensures { IsPathAndQuery header.now result.0.now result.1.now }
 {
-    if byte == b'?' { EncodeSet::Query } else { set }
+    header.split_at(path_len(header))
 }
 
-/// How a header's text changes as it is serialised.
-#[derive(Clone, Copy)]
-struct Changes {
-    /// How many bytes are percent-encoded.
-    encoded: usize,
-    /// How many bytes are tabs and newlines, which go.
-    dropped: usize,
+/// How many bytes stand before the first `?`.
+fn path_len(header: &[u8]) -> usize
+    ensures { result ≡ prefix_len is_no_question_mark header.now }
+{
+    header.iter().take_while(|byte| **byte != b'?').count()
 }
 
-/// What serialising a header changes in it.
-fn changes_of(header: &[u8]) -> Changes
-    ensures { HasChanges header.now result.encoded result.dropped }
+/// A path with its query, serialised. Room for the text is taken once, at its exact length.
+fn serialise(alloc: Global, path: &[u8], query: &[u8]) -> Result<String, AllocError>
+    ensures { IfOk result (λ text. string_bytes text ≡ encoded_parts path.now query.now) }
 {
-    let mut changes = Changes {
-        encoded: 0,
-        dropped: 0,
-    };
-    let mut set = EncodeSet::Path;
-    for byte in header {
-        if is_tab_or_newline(*byte) {
-            changes.dropped += 1;
-        } else if set.contains(*byte) {
-            changes.encoded += 1;
-        }
-        set = set_behind(set, *byte);
-    }
-    changes
-}
-
-/// The header's text, serialised, where that takes so many bytes.
-fn serialise(alloc: Global, header: &[u8], len: usize) -> Result<String, AllocError>
-    ensures { IfOk result (λ text. string_bytes text ≡ serialised (dropped header.now)) }
-{
+    let len = encoded_len(EncodeSet::Path, path);
+    let len = len.saturating_add(encoded_len(EncodeSet::Query, query));
     let mut text = String::with_capacity(alloc, len)?;
-    let mut set = EncodeSet::Path;
-    for byte in header {
-        if is_tab_or_newline(*byte) {
-            continue;
-        }
-        push_encoded(&mut text, set, *byte)?;
-        set = set_behind(set, *byte);
-    }
+    push_encoded(&mut text, EncodeSet::Path, path)?;
+    push_encoded(&mut text, EncodeSet::Query, query)?;
     Ok(text)
 }
 
@@ -92,17 +67,11 @@ pub(crate) fn read_header(alloc: Global, header: &str) -> Result<(Mime, bool), A
     ensures { IfOk result (λ found.
         IsHeaderOf (serialised (dropped header.now)) (seen found.0) found.1) }
 {
-    let bytes = header.as_bytes();
-    let changes = changes_of(bytes);
-    if changes.encoded == 0 && changes.dropped == 0 {
+    let (path, query) = split_query(header.as_bytes());
+    if is_encoded(EncodeSet::Path, path) && is_encoded(EncodeSet::Query, query) {
         return read_serialised(alloc, header);
     }
-    let len = changes
-        .encoded
-        .saturating_mul(2)
-        .saturating_add(bytes.len() - changes.dropped);
-    let text = serialise(alloc, bytes, len)?;
-    read_serialised(alloc, text.as_str())
+    read_serialised(alloc, serialise(alloc, path, query)?.as_str())
 }
 
 /// The record of a serialised header, and whether the body is base64.

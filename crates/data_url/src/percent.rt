@@ -1,9 +1,10 @@
 //! Percent-encoding (URL Standard, section 1.3).
 
-ghost use Rattle.std.specs.Prelude.{◌≡◌, ◌<◌, ◌++◌, OnOk, length, string_bytes};
-ghost use Rattle.data_url.specs.Url.{encoded_byte, hex_digit};
+ghost use Rattle.std.specs.Prelude.{◌≡◌, ◌<◌, ◌++◌, ◌-◌, ◌^◌, OnOk, length, min, string_bytes, true};
+ghost use Rattle.data_url.specs.Url.{dropped, encoded_byte, hex_digit, percent_encoded};
 ghost use Rattle.data_url.specs.Steps.Sets.{in_set};
 
+use crate::ascii::is_tab_or_newline;
 use std::alloc::AllocError;
 
 /// A percent-encode set.
@@ -47,14 +48,14 @@ fn hex_digit_of(value: u8) -> u8
 }
 
 /// How many bytes a byte is written as.
-pub(crate) fn encoded_width(set: EncodeSet, byte: u8) -> usize
+fn encoded_width(set: EncodeSet, byte: u8) -> usize
     ensures { result ≡ length (encoded_byte (in_set set) byte) }
 {
     if set.contains(byte) { 3 } else { 1 }
 }
 
 /// Writes a byte at the end of a text, percent-encoded where the set contains it.
-pub(crate) fn push_encoded(text: &mut String, set: EncodeSet, byte: u8) -> Result<(), AllocError>
+fn push_byte(text: &mut String, set: EncodeSet, byte: u8) -> Result<(), AllocError>
     ensures { OnOk result (string_bytes text.new
         ≡ string_bytes text.old ++ encoded_byte (in_set set) byte) }
 {
@@ -64,4 +65,48 @@ pub(crate) fn push_encoded(text: &mut String, set: EncodeSet, byte: u8) -> Resul
     text.push('%')?;
     text.push(char::from(hex_digit_of(byte / 16)))?;
     text.push(char::from(hex_digit_of(byte % 16)))
+}
+
+/// Whether bytes have no tab or newline and none that the set contains, so that they are written as they stand.
+pub(crate) fn is_encoded(set: EncodeSet, bytes: &[u8]) -> bool
+    ensures { result ≡ true → percent_encoded (in_set set) (dropped bytes.now) ≡ bytes.now }
+{
+    for byte in bytes {
+        if is_tab_or_newline(*byte) || set.contains(*byte) {
+            return false;
+        }
+    }
+    true
+}
+
+/// How many bytes are written of others, without their tabs and newlines and percent-encoded, or the greatest number where
+/// they are more.
+pub(crate) fn encoded_len(set: EncodeSet, bytes: &[u8]) -> usize
+    ensures { result
+        ≡ min (length (percent_encoded (in_set set) (dropped bytes.now))) (2 ^ 64 - 1) }
+{
+    let mut len: usize = 0;
+    for byte in bytes {
+        if !is_tab_or_newline(*byte) {
+            len = len.saturating_add(encoded_width(set, *byte));
+        }
+    }
+    len
+}
+
+/// Writes bytes at the end of a text, without their tabs and newlines and percent-encoded.
+pub(crate) fn push_encoded(
+    text: &mut String,
+    set: EncodeSet,
+    bytes: &[u8],
+) -> Result<(), AllocError>
+    ensures { OnOk result (string_bytes text.new
+        ≡ string_bytes text.old ++ percent_encoded (in_set set) (dropped bytes.now)) }
+{
+    for byte in bytes {
+        if !is_tab_or_newline(*byte) {
+            push_byte(text, set, *byte)?;
+        }
+    }
+    Ok(())
 }

@@ -1,21 +1,23 @@
 -- What the private steps of reading a header do.
-use Rattle.std.specs.Prelude.{if◌then◌else◌, ◌<◌, ◌==◌, ◌≡◌, ◌≤◌, Bool, List, length, slice_index, ℕ}
+use Rattle.std.specs.Prelude.{[], ◌++◌, ◌∷◌, ◌⊎◌, ◌<◌, ◌==◌, ◌≡◌, ◌≤◌, Bool, List, None, length, not, slice_index, ℕ}
 use Rattle.data_url.specs.Fetch.{has_base64_suffix, mime_text}
 use Rattle.data_url.specs.Mime.{IsRecordOf, IsWellformed, Record}
-use Rattle.data_url.specs.Url.{dropped, serialised}
-use Rattle.data_url.specs.declared.percent.EncodeSet.TheVariants.{Query}
-use Rattle.data_url.specs.declared.percent.EncodeSet.{EncodeSet}
+use Rattle.data_url.specs.Url.{behind, dropped, in_path_set, in_query_set, percent_encoded}
 
--- the set behind a byte: the first '?' begins the query
-abbrev pub next_set : EncodeSet → ℕ → EncodeSet
-next_set set b = if b == 63 then Query else set
+-- no '?', which ends a path
+abbrev pub is_no_question_mark : ℕ → Bool
+is_no_question_mark b = not (b == 63)
 
--- a text with so many bytes that are encoded and so many that are dropped: without any it is
--- serialised to itself
-pub record HasChanges (header : List ℕ) (encoded dropped_count : ℕ) : Type 0 where
-  pub few_encoded : encoded ≤ length header
-  pub few_dropped : dropped_count ≤ length header
-  pub unchanged : encoded ≡ 0 → dropped_count ≡ 0 → serialised (dropped header) ≡ header
+-- a text is its path, which has no '?', and its query, which is empty or begins with the '?'
+pub record IsPathAndQuery (text path query : List ℕ) : Type 0 where
+  pub joined : text ≡ path ++ query
+  pub path_ends : behind 63 path ≡ None
+  pub query_begins : (query ≡ []) ⊎ ((rest : List ℕ) × (query ≡ 63 ∷ rest))
+
+-- a path and its query without tabs and newlines, each encoded by its own set
+abbrev pub encoded_parts : List ℕ → List ℕ → List ℕ
+encoded_parts path query = percent_encoded in_path_set (dropped path)
+    ++ percent_encoded in_query_set (dropped query)
 
 -- each byte is printable ASCII or a space
 abbrev pub IsPrintable : List ℕ → Type 0
