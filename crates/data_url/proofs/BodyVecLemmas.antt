@@ -1,12 +1,13 @@
 -- A body that was decoded by a closure that keeps the bytes that it accepts.
 use Rattle.std.proofs.Common.{◌≡◌, ℕ, List, ◌++◌, Option, None, Some, Result, Ok, Err, refl, ap, sym}
 use Rattle.std.specs.Prelude.{MatchOption}
-use Rattle.data_url.specs.Errors.{IsRefused}
+use Rattle.data_url.specs.Errors.{IsBodyErrorOf, IsRefused}
+use Rattle.data_url.specs.Steps.Whole.{vec_error}
 use Rattle.data_url.specs.DataUrl.{Decodes, HandsOut}
 use Rattle.data_url.specs.Fetch.{Bad, Good, Outcome, outcome_bytes}
 use Rattle.data_url.specs.Run.{joined, refusal}
 use Rattle.data_url.specs.declared.forgiving_base64.DecodeError.{DecodeError}
-use Rattle.data_url.specs.declared.forgiving_base64.DecodeError.TheVariants.{InvalidBase64}
+use Rattle.data_url.specs.declared.forgiving_base64.DecodeError.TheVariants.{InvalidBase64, WriteError}
 use Rattle.data_url.proofs.WholeLemmas.{run_keeps, run_reads}
 
 -- the body is good, and these are its bytes
@@ -52,3 +53,8 @@ module _ {F E A : Type 0} {step : F → List ℕ → Result (Unit {0}) E → F �
   -- an answer Ok comes of a good body
   pub body_good : {x : A} → Decodes step f most body good r f' → r ≡ Ok x → (all : List ℕ) × (body ≡ Good all)
   body_good {x} h q = let k = ok_given (refusal h.run) body good (joined h.run) r x q h.gave in (joined h.run, k.1.body_is)
+
+  -- the error of a vector that was to have the body's bytes
+  pub body_error : (x : DecodeError E) → Decodes step f most body good r f' → r ≡ Err x → IsBodyErrorOf body (vec_error x)
+  body_error (InvalidBase64 kind) h q = body_fault h q
+  body_error (WriteError e) h q = tt

@@ -2,6 +2,7 @@
 
 ghost use Rattle.std.specs.Prelude.{Some};
 
+use std::alloc::AllocError;
 use std::error::Error;
 use std::fmt;
 use std::marker::Model;
@@ -102,6 +103,21 @@ pub enum DecodeToVecError {
     InvalidBase64(InvalidBase64),
     /// Memory was refused.
     OutOfMemory,
+}
+
+impl DecodeToVecError {
+    ghost use Rattle.std.specs.Prelude.{◌≡◌};
+    ghost use Rattle.data_url.specs.Steps.Whole.{vec_error};
+
+    /// The error of a vector that is filled by a closure: what that refuses is memory.
+    pub(crate) fn of(error: DecodeError<AllocError>) -> Self
+        ensures { result ≡ vec_error error }
+    {
+        match error {
+            DecodeError::InvalidBase64(refusal) => DecodeToVecError::InvalidBase64(refusal),
+            DecodeError::WriteError(AllocError) => DecodeToVecError::OutOfMemory,
+        }
+    }
 }
 
 impl fmt::Display for DecodeToVecError {

@@ -211,10 +211,7 @@ impl<'a> DataUrl<'a> {
         });
         match ended.0 {
             Ok(place) => Ok((bytes, self.fragment_at(place))),
-            Err(DecodeError::InvalidBase64(refusal)) => {
-                Err(DecodeToVecError::InvalidBase64(refusal))
-            }
-            Err(DecodeError::WriteError(AllocError)) => Err(DecodeToVecError::OutOfMemory),
+            Err(error) => Err(DecodeToVecError::of(error)),
         }
     }
 }

@@ -4,8 +4,10 @@ use Rattle.data_url.specs.Base64.{decoded, done, is_valid, kind_of}
 use Rattle.data_url.specs.Decoder.{IsAll}
 use Rattle.data_url.specs.Errors.{IsRefused}
 use Rattle.data_url.specs.Run.{Call, IsRun, joined, refusal}
-use Rattle.data_url.specs.declared.forgiving_base64.DecodeError.TheVariants.{InvalidBase64}
+use Rattle.data_url.specs.declared.forgiving_base64.DecodeError.TheVariants.{InvalidBase64, WriteError}
 use Rattle.data_url.specs.declared.forgiving_base64.DecodeError.{DecodeError}
+use Rattle.data_url.specs.declared.forgiving_base64.DecodeToVecError.TheVariants as to_vec
+use Rattle.data_url.specs.declared.forgiving_base64.DecodeToVecError.{DecodeToVecError}
 
 -- the whole text u was decoded: its bytes if it is valid, or else those of the groups before its
 -- first fault, or a beginning of these that the closure refused
@@ -18,3 +20,8 @@ pub record DecodesText {F E : Type 0} (step : F → List ℕ → Result (Unit {0
       (MatchBool (is_valid u) (IsAll u (joined run) r)
       ((joined run ≡ done u) × (r ≡ Err (InvalidBase64 (kind_of u)))))
       (λ e. IsRefused (if is_valid u then decoded u else done u) (joined run) e r)
+
+-- the error of a vector that is filled by a closure: what that refuses is memory
+abbrev pub vec_error : {E : Type 0} → DecodeError E → DecodeToVecError
+vec_error (InvalidBase64 kind) = to_vec.InvalidBase64 kind
+vec_error (WriteError e) = to_vec.OutOfMemory

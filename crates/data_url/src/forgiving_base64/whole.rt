@@ -49,7 +49,6 @@ pub fn decode_to_vec(alloc: Global, input: &[u8]) -> Result<Vec<u8>, DecodeToVec
     });
     match ended.0 {
         Ok(()) => Ok(bytes),
-        Err(DecodeError::InvalidBase64(refusal)) => Err(DecodeToVecError::InvalidBase64(refusal)),
-        Err(DecodeError::WriteError(AllocError)) => Err(DecodeToVecError::OutOfMemory),
+        Err(error) => Err(DecodeToVecError::of(error)),
     }
 }
