@@ -1,5 +1,5 @@
 -- What the program does with its words.
-use Rattle.std.proofs.Common.{◌≡◌, ℕ, List, Option, None, Some, Result, Ok, Err, Vec, String, map, string_bytes, refl, sym, ap, ◌∙◌, subst}
+use Rattle.std.proofs.Common.{◌≡◌, ℕ, List, Option, Some, Ok, Vec, String, map, string_bytes, sym, ap, ◌∙◌, subst}
 use Rattle.std.specs.Global.{Global}
 use Rattle.dataurl.specs.Command.{command_of_words}
 use Rattle.dataurl.specs.Output.{End}

@@ -1,122 +1,234 @@
-//! The program, over a reader and a writer that fail.
+//! Each read and each write that fails.
 
-use crate::command::Command;
-use crate::fault::Fault;
-use crate::run::run;
+use super::peers::{BYTEWISE, Peers, SOUND, outcome_of};
+use super::repeated;
 use std::alloc::Global;
-use std::io::{self, Read, Write};
+use std::process::Abort;
 use std::test::Fail;
 
-/// A reader that gives some bytes, and then fails.
-#[derive(Drop)]
-struct FailingReader<'a> {
-    rest: &'a [u8],
-}
-
-impl<'a> Read for FailingReader<'a> {
-    fn read(&mut self, buf: &mut [u8]) -> io::Result<usize> {
-        if self.rest.is_empty() {
-            return Err(io::Error::from(io::ErrorKind::Other));
-        }
-        let len = self.rest.len().min(buf.len());
-        buf[..len].copy_from_slice(&self.rest[..len]);
-        self.rest = &self.rest[len..];
-        Ok(len)
-    }
-}
-
-/// A writer that takes one byte at a time, so many in all, and then fails or takes nothing.
-#[derive(Drop)]
-struct FailingWriter {
-    taken: Vec<u8>,
-    room: usize,
-    answers_zero: bool,
-}
-
-impl Write for FailingWriter {
-    fn write(&mut self, buf: &[u8]) -> io::Result<usize> {
-        if self.room == 0 && !self.answers_zero {
-            return Err(io::Error::from(io::ErrorKind::Other));
-        }
-        if self.room == 0 || buf.is_empty() {
-            return Ok(0);
-        }
-        self.room -= 1;
-        self.taken.push(buf[0])?;
-        Ok(1)
-    }
-
-    fn flush(&mut self) -> io::Result<()> {
-        Ok(())
-    }
-}
+/// The command, the input, how its reader and writer behave, what is written, and the line on standard error.
+const ROWS: [(&str, &str, Peers, &str, &str); 8] = [
+    (
+        "base64",
+        "QUJDQ",
+        Peers {
+            failing_read: 2,
+            ..SOUND
+        },
+        "ABC",
+        "read failed\n",
+    ),
+    (
+        "body",
+        "data:,Hello%20World!",
+        Peers {
+            taken: 1,
+            failing_write: 2,
+            ..SOUND
+        },
+        "H",
+        "write failed\n",
+    ),
+    (
+        "body",
+        "data:,Hello%20World!",
+        Peers {
+            taken: 1,
+            failing_write: 2,
+            takes_nothing: true,
+            ..SOUND
+        },
+        "H",
+        "write failed\n",
+    ),
+    (
+        "body",
+        "data:,Hello%20World!",
+        Peers {
+            first: 7,
+            failing_read: 2,
+            ..SOUND
+        },
+        "",
+        "read failed\n",
+    ),
+    (
+        "mime",
+        "data:,H",
+        Peers {
+            failing_read: 2,
+            ..SOUND
+        },
+        "",
+        "read failed\n",
+    ),
+    (
+        "base64",
+        "QUJDREVGRw",
+        Peers {
+            piece: 3,
+            first: 3,
+            failing_read: 5,
+            ..SOUND
+        },
+        "ABCDEF",
+        "read failed\n",
+    ),
+    (
+        "base64",
+        "QUI",
+        Peers {
+            failing_read: 2,
+            ..SOUND
+        },
+        "",
+        "read failed\n",
+    ),
+    (
+        "base64",
+        "QUJDQUI",
+        Peers {
+            taken: 1,
+            failing_write: 4,
+            ..SOUND
+        },
+        "ABC",
+        "write failed\n",
+    ),
+];
 
 #[test]
-fn a_reader_that_fails(rt: HostRuntime) -> Result<(), Fail> {
-    for (command, input, written) in [
-        (Command::Base64, "QUJDQ", "ABC"),
-        (Command::Base64, "QUI", ""),
-        (Command::Body, "data:,H", ""),
-        (Command::MimeType, "data:,H", ""),
-        (Command::Fragment, "data:,#f", ""),
-        (Command::Canonical, "a/b", ""),
-    ] {
-        let mut reader = FailingReader {
-            rest: input.as_bytes(),
-        };
-        let mut output = Vec::new(rt.alloc());
-        match run(rt.alloc(), command, &mut reader, &mut output) {
-            Err(Fault::Read) => {}
-            _ => assert!(rt; false, "{input}"),
-        }
-        assert!(rt; output.as_slice() == written.as_bytes(), "{input}");
+fn rows(rt: HostRuntime) -> Result<(), Fail> {
+    for (words, input, peers, written, line) in ROWS {
+        let ended = outcome_of(rt.alloc(), words, input.as_bytes(), peers)?;
+        assert!(rt;
+            ended.written.as_slice() == written.as_bytes(),
+            "{words}: {input}"
+        );
+        assert!(rt;
+            ended.line.as_slice() == line.as_bytes(),
+            "{words}: {input}"
+        );
+        assert!(rt; ended.status == 3, "{words}: {input}");
     }
     Ok(())
 }
 
-/// Runs a command whose writer fails behind so many bytes, and tells what was written and whether `Write` was answered.
-fn written_before_failing(
+/// How many bytes a command has written before its nth read, where each read gives one byte: of base64 whole groups.
+fn written_before(words: &str, read: usize) -> usize {
+    if words == "base64" {
+        read.saturating_sub(1) / 4 * 3
+    } else {
+        0
+    }
+}
+
+/// Asserts how a command ends that writes an output, where each of its reads fails in turn, and each of its writes.
+fn assert_failing(
+    rt: &impl Abort,
     alloc: Global,
-    command: Command,
-    input: &str,
-    failing: (usize, bool),
-) -> (Vec<u8>, bool) {
-    let (room, answers_zero) = failing;
-    let mut writer = FailingWriter {
-        taken: Vec::new(alloc),
-        room,
-        answers_zero,
-    };
-    let mut reader = input.as_bytes();
-    let is_write = match run(alloc, command, &mut reader, &mut writer) {
-        Err(Fault::Write) => true,
-        _ => false,
-    };
-    let FailingWriter {
-        taken,
-        room: _,
-        answers_zero: _,
-    } = writer;
-    (taken, is_write)
+    words: &str,
+    input: &[u8],
+    output: &[u8],
+) -> Result<(), Fail> {
+    let sound = outcome_of(alloc, words, input, BYTEWISE)?;
+    assert!(rt;
+        sound.written.as_slice() == output && sound.writes == output.len(),
+        "{words}"
+    );
+    for failing_read in 1..=sound.reads {
+        let peers = Peers {
+            failing_read,
+            ..BYTEWISE
+        };
+        let ended = outcome_of(alloc, words, input, peers)?;
+        let len = written_before(words, failing_read);
+        assert!(rt;
+            output.get(..len) == Some(ended.written.as_slice()),
+            "{words}"
+        );
+        assert!(rt;
+            ended.line.as_slice() == "read failed\n".as_bytes(),
+            "{words}"
+        );
+        assert!(rt; ended.status == 3 && ended.reads == failing_read, "{words}");
+    }
+    for failing_write in 1..=sound.writes {
+        for takes_nothing in [false, true] {
+            let peers = Peers {
+                failing_write,
+                takes_nothing,
+                ..BYTEWISE
+            };
+            let ended = outcome_of(alloc, words, input, peers)?;
+            let len = failing_write.saturating_sub(1);
+            assert!(rt;
+                output.get(..len) == Some(ended.written.as_slice()),
+                "{words}"
+            );
+            assert!(rt;
+                ended.line.as_slice() == "write failed\n".as_bytes(),
+                "{words}"
+            );
+            assert!(rt;
+                ended.status == 3 && ended.writes == failing_write,
+                "{words}"
+            );
+        }
+    }
+    Ok(())
 }
 
 #[test]
-fn a_writer_that_fails(rt: HostRuntime) -> Result<(), Fail> {
-    for (command, input, whole) in [
-        (Command::Body, "data:,Hello%20World!", "Hello World!"),
-        (Command::Body, "data:;base64,QUJDQUI", "ABCAB"),
-        (Command::MimeType, "data:A/B;C=D,x\n", "a/b;c=D\n"),
-        (Command::Fragment, "data:,x#y", "y\n"),
-        (Command::Canonical, "A/B", "a/b\n"),
-        (Command::Base64, "QUJDQUI", "ABCAB"),
+fn each_call_fails_in_turn(rt: HostRuntime) -> Result<(), Fail> {
+    for (words, input, output) in [
+        ("body", "data:,Hello%20World!", "Hello World!"),
+        ("body", "data:;base64,QUJDQUI", "ABCAB"),
+        ("mime", "data:A/B;C=D,x\n", "a/b;c=D\n"),
+        ("fragment", "data:,x#\n", "\n"),
+        ("fragment", "data:,x", ""),
+        ("base64", "QUJD!", "ABC"),
+        ("base64", "QUJDQUI", "ABCAB"),
+        (
+            "type",
+            "TEXT/HTML;a=\"b;c\";d=;e=\"\"",
+            "text/html;a=\"b;c\";e=\"\"\n",
+        ),
     ] {
-        let bytes = whole.as_bytes();
-        for room in 0..bytes.len() {
-            for answers_zero in [false, true] {
-                let failing = (room, answers_zero);
-                let (taken, is_write) = written_before_failing(rt.alloc(), command, input, failing);
-                assert!(rt; is_write && taken.as_slice() == &bytes[..room], "{input}");
-            }
+        assert_failing(&rt, rt.alloc(), words, input.as_bytes(), output.as_bytes())?;
+    }
+    Ok(())
+}
+
+#[test]
+fn writes_of_large_outputs(rt: HostRuntime) -> Result<(), Fail> {
+    let alloc = rt.alloc();
+    let body = repeated(alloc, "Abcdefghij", 1000)?;
+    let escaped = repeated(alloc, "%41bcdefghij", 1000)?;
+    let url = format!(in alloc; "data:,{escaped}")?;
+    let text = repeated(alloc, "QUJD", 3000)?;
+    let bytes = repeated(alloc, "ABC", 3000)?;
+    for (words, input, whole) in [("body", &url, &body), ("base64", &text, &bytes)] {
+        let all = outcome_of(alloc, words, input.as_bytes(), SOUND)?;
+        assert!(rt;
+            all.status == 0 && all.writes > 2 && all.writes < 10,
+            "{words}"
+        );
+        for failing_write in 1..=all.writes {
+            let peers = Peers {
+                failing_write,
+                ..SOUND
+            };
+            let ended = outcome_of(alloc, words, input.as_bytes(), peers)?;
+            assert!(rt;
+                ended.written.len() < whole.len() && ended.status == 3,
+                "{words}"
+            );
+            assert!(rt; whole.as_bytes().starts_with(&ended.written), "{words}");
+            assert!(rt;
+                ended.line.as_slice() == "write failed\n".as_bytes(),
+                "{words}"
+            );
         }
     }
     Ok(())

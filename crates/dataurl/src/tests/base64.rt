@@ -1,0 +1,140 @@
+//! `base64` over readers that cut their text anywhere, and a picture in base64.
+
+use super::peers::{BYTEWISE, Peers, SOUND, outcome_of};
+use super::repeated;
+use std::alloc::{AllocError, Global};
+use std::process::Abort;
+use std::test::Fail;
+
+/// Texts, what they stand for, and the line of their fault, or nothing.
+const TEXTS: [(&str, &str, &str); 16] = [
+    ("", "", ""),
+    ("YR", "a", ""),
+    ("Y Q = =", "a", ""),
+    ("YWJ=", "ab", ""),
+    ("QUJD", "ABC", ""),
+    ("Q\u{c}Q", "A", ""),
+    ("QQ==", "A", ""),
+    (" \t\n\u{c}\r", "", ""),
+    ("QUJDQUI", "ABCAB", ""),
+    ("ab=", "", "incorrect padding"),
+    ("=", "", "incorrect padding"),
+    ("QUJD=", "ABC", "incorrect padding"),
+    ("ab==c", "", "alphabet symbol present after padding"),
+    ("a", "", "lone alphabet symbol present"),
+    ("=!", "", "symbol with codepoint 33 not expected"),
+    ("QUJD!QUJD", "ABC", "symbol with codepoint 33 not expected"),
+];
+
+/// Asserts what comes of a text that is read in pieces.
+fn assert_pieces(
+    rt: &impl Abort,
+    alloc: Global,
+    row: (&str, &str, &str),
+    peers: Peers,
+) -> Result<(), Fail> {
+    let (text, bytes, fault) = row;
+    let ended = outcome_of(alloc, "base64", text.as_bytes(), peers)?;
+    assert!(rt; ended.written.as_slice() == bytes.as_bytes(), "{text}");
+    let line = format!(in alloc; "base64 not valid: {fault}\n")?;
+    if fault.is_empty() {
+        assert!(rt; ended.line.is_empty() && ended.status == 0, "{text}");
+    } else {
+        assert!(rt;
+            ended.line.as_slice() == line.as_bytes() && ended.status == 1,
+            "{text}"
+        );
+    }
+    Ok(())
+}
+
+#[test]
+fn texts_in_pieces(rt: HostRuntime) -> Result<(), Fail> {
+    for row in TEXTS {
+        assert_pieces(&rt, rt.alloc(), row, BYTEWISE)?;
+        let (text, _, _) = row;
+        for first in 1..text.len() {
+            let peers = Peers { first, ..SOUND };
+            assert_pieces(&rt, rt.alloc(), row, peers)?;
+        }
+    }
+    Ok(())
+}
+
+#[test]
+fn each_read_is_written(rt: HostRuntime) -> Result<(), Fail> {
+    let alloc = rt.alloc();
+    for groups in [1, 1000, 1365, 1366, 2731, 5462] {
+        let text = repeated(alloc, "QUJD", groups)?;
+        let bytes = repeated(alloc, "ABC", groups)?;
+        for piece in [3, 100, 4095, 4096] {
+            let peers = Peers {
+                first: piece,
+                piece,
+                ..SOUND
+            };
+            let ended = outcome_of(alloc, "base64", text.as_bytes(), peers)?;
+            assert!(rt;
+                ended.written.as_slice() == bytes.as_bytes(),
+                "{groups}, {piece}"
+            );
+            assert!(rt; ended.writes <= ended.reads, "{groups}, {piece}");
+        }
+    }
+    Ok(())
+}
+
+/// What stands before the rows of the picture: the signature, the header chunk of 102 by 103 grey pixels, and the beginning
+/// of a data chunk that is stored and not compressed (PNG, section 5; RFC 1950; RFC 1951, section 3.2.4).
+const BEFORE_ROWS: [u8; 48] = [
+    137, 80, 78, 71, 13, 10, 26, 10, 0, 0, 0, 13, 73, 72, 68, 82, 0, 0, 0, 102, 0, 0, 0, 103, 8, 0,
+    0, 0, 0, 215, 232, 104, 27, 0, 0, 41, 124, 73, 68, 65, 84, 120, 1, 1, 113, 41, 142, 214,
+];
+
+/// What stands behind the rows: their Adler-32, the chunk's CRC, and the end chunk.
+const BEHIND_ROWS: [u8; 20] = [
+    126, 98, 70, 104, 243, 135, 190, 33, 0, 0, 0, 0, 73, 69, 78, 68, 174, 66, 96, 130,
+];
+
+/// A picture, as a PNG file.
+fn picture(alloc: Global) -> Result<Vec<u8>, AllocError> {
+    let mut file = Vec::new(alloc);
+    file.extend_from_slice(&BEFORE_ROWS)?;
+    for row in 0..103u8 {
+        file.push(0)?;
+        for column in 0..102u8 {
+            file.push(row + column)?;
+        }
+    }
+    file.extend_from_slice(&BEHIND_ROWS)?;
+    Ok(file)
+}
+
+const ALPHABET: [u8; 64] = *b"ABCDEFGHIJKLMNOPQRSTUVWXYZabcdefghijklmnopqrstuvwxyz0123456789+/";
+
+/// The base64 of bytes whose number divides by three.
+fn encoded(alloc: Global, bytes: &[u8]) -> Result<Vec<u8>, AllocError> {
+    let mut text = Vec::new(alloc);
+    for group in bytes.chunks_exact(3) {
+        let [first, second, third] = [group[0] as usize, group[1] as usize, group[2] as usize];
+        text.push(ALPHABET[first / 4])?;
+        text.push(ALPHABET[first % 4 * 16 + second / 16])?;
+        text.push(ALPHABET[second % 16 * 4 + third / 64])?;
+        text.push(ALPHABET[third % 64])?;
+    }
+    Ok(text)
+}
+
+#[test]
+fn a_picture(rt: HostRuntime) -> Result<(), Fail> {
+    let file = picture(rt.alloc())?;
+    assert!(rt; file.len() == 10677);
+    let mut url = Vec::new(rt.alloc());
+    url.extend_from_slice("data:image/png;base64,".as_bytes())?;
+    url.extend_from_slice(&encoded(rt.alloc(), &file)?)?;
+    let body = outcome_of(rt.alloc(), "body", &url, SOUND)?;
+    assert!(rt; body.status == 0 && body.written == file);
+    let mime = outcome_of(rt.alloc(), "mime", &url, SOUND)?;
+    assert!(rt; mime.written.as_slice() == "image/png\n".as_bytes());
+    Ok(())
+}

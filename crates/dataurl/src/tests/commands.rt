@@ -1,0 +1,112 @@
+//! Each command, what is wrong with its input, and the words of the command line.
+
+use super::peers::{SOUND, outcome_of};
+use crate::fault::{Fault, report};
+use crate::program::execute;
+use std::test::Fail;
+
+const USAGE: &str = "usage: dataurl body, mime, fragment, type or base64\n";
+
+const BAD: &str = "base64 not valid: symbol with codepoint 33 not expected\n";
+
+const COMMA: &str = "data url is missing comma delimiting attributes and body\n";
+
+/// The words, the input, what is written, the line on standard error, and the status.
+const ROWS: [(&str, &str, &str, &str, u8); 24] = [
+    ("body", "data:,Hello%20World!", "Hello World!", "", 0),
+    ("body", "date:,x", "", "not a valid data url\n", 1),
+    ("body", "data:#,x", "", COMMA, 1),
+    ("body", "data:;base64,QUJD!", "ABC", BAD, 1),
+    ("mime", "data:A/B;C=D,x\n", "a/b;c=D\n", "", 0),
+    ("mime", "data:,x", "text/plain;charset=US-ASCII\n", "", 0),
+    ("mime", "data:a/b;c= ?x,Y", "a/b;c=\" ?x\"\n", "", 0),
+    ("mime", "data:a/b;base64,!", "a/b\n", "", 0),
+    ("fragment", "data:,x#\n", "\n", "", 0),
+    ("fragment", "data:,x", "", "", 0),
+    ("fragment", "data:;base64,!#x", "", BAD, 1),
+    ("fragment", "data:,x#y z", "y%20z\n", "", 0),
+    (
+        "type",
+        "TEXT/HTML;a=\"b;c\";d=;e=\"\"",
+        "text/html;a=\"b;c\";e=\"\"\n",
+        "",
+        0,
+    ),
+    ("type", "text", "", "invalid mime type\n", 1),
+    ("base64", "QUJD!", "ABC", BAD, 1),
+    ("base64", "QUJD", "ABC", "", 0),
+    ("bodies", "data:,x", "", USAGE, 2),
+    ("Body", "data:,x", "", USAGE, 2),
+    ("", "data:,x", "", USAGE, 2),
+    ("body ", "data:,x", "", USAGE, 2),
+    ("body body", "data:,x", "", USAGE, 2),
+    ("body mime", "data:,x", "", USAGE, 2),
+    (" body", "data:,x", "", USAGE, 2),
+    ("--help", "data:,x", "", USAGE, 2),
+];
+
+#[test]
+fn rows(rt: HostRuntime) -> Result<(), Fail> {
+    for (words, input, written, line, status) in ROWS {
+        let ended = outcome_of(rt.alloc(), words, input.as_bytes(), SOUND)?;
+        assert!(rt;
+            ended.written.as_slice() == written.as_bytes(),
+            "{words}: {input}"
+        );
+        assert!(rt;
+            ended.line.as_slice() == line.as_bytes(),
+            "{words}: {input}"
+        );
+        assert!(rt; ended.status == status, "{words}: {input}");
+        assert!(rt; (ended.reads == 0) == (status == 2), "{words}: {input}");
+    }
+    Ok(())
+}
+
+#[test]
+fn input_that_is_no_text(rt: HostRuntime) -> Result<(), Fail> {
+    for words in ["body", "mime", "fragment", "type"] {
+        let ended = outcome_of(rt.alloc(), words, &[255], SOUND)?;
+        assert!(rt; ended.written.is_empty() && ended.status == 1, "{words}");
+        assert!(rt;
+            ended.line.as_slice() == "input is not UTF-8\n".as_bytes(),
+            "{words}"
+        );
+    }
+    Ok(())
+}
+
+#[test]
+fn words_that_are_missing(rt: HostRuntime) -> Result<(), Fail> {
+    let mut reader = "data:,x".as_bytes();
+    let mut written = Vec::new(rt.alloc());
+    let mut line = Vec::new(rt.alloc());
+    let none = Ok(Vec::new(rt.alloc()));
+    let status = execute(rt.alloc(), none, &mut reader, &mut written, &mut line);
+    assert!(rt; status == 2 && written.is_empty());
+    assert!(rt; line.as_slice() == USAGE.as_bytes());
+    let mut line = Vec::new(rt.alloc());
+    let unread = Err(Fault::Read);
+    let status = execute(rt.alloc(), unread, &mut reader, &mut written, &mut line);
+    assert!(rt; status == 3 && written.is_empty() && reader.len() == 7);
+    assert!(rt; line.as_slice() == "read failed\n".as_bytes());
+    Ok(())
+}
+
+#[test]
+fn lines_of_faults(rt: HostRuntime) -> Result<(), Fail> {
+    for (fault, line, status) in [
+        (Fault::NotADataUrl, "not a valid data url\n", 1),
+        (Fault::NoComma, COMMA, 1),
+        (Fault::Mime, "invalid mime type\n", 1),
+        (Fault::NotUtf8, "input is not UTF-8\n", 1),
+        (Fault::Memory, "out of memory\n", 3),
+        (Fault::Read, "read failed\n", 3),
+        (Fault::Write, "write failed\n", 3),
+    ] {
+        let mut said = Vec::new(rt.alloc());
+        assert!(rt; report(&fault, &mut said) == status, "{line}");
+        assert!(rt; said.as_slice() == line.as_bytes(), "{line}");
+    }
+    Ok(())
+}

@@ -1,0 +1,142 @@
+//! Readers and writers in memory that cut, count and fail.
+
+use crate::program::execute;
+use std::alloc::{AllocError, Global};
+use std::io::{self, Read, Write};
+use std::test::Fail;
+
+/// How a reader and a writer behave: how many bytes the first read gives and each other one, which read fails, how many
+/// bytes a write takes, and which write fails or takes nothing. Calls are counted from 1, and 0 stands for none.
+#[derive(Clone, Copy)]
+pub(super) struct Peers {
+    pub(super) first: usize,
+    pub(super) piece: usize,
+    pub(super) failing_read: usize,
+    pub(super) taken: usize,
+    pub(super) failing_write: usize,
+    pub(super) takes_nothing: bool,
+}
+
+/// All that is asked for, and nothing fails.
+pub(super) const SOUND: Peers = Peers {
+    first: usize::MAX,
+    piece: usize::MAX,
+    failing_read: 0,
+    taken: usize::MAX,
+    failing_write: 0,
+    takes_nothing: false,
+};
+
+/// One byte at a time, and nothing fails.
+pub(super) const BYTEWISE: Peers = Peers {
+    first: 1,
+    piece: 1,
+    failing_read: 0,
+    taken: 1,
+    failing_write: 0,
+    takes_nothing: false,
+};
+
+#[derive(Drop)]
+struct CutReader<'a> {
+    rest: &'a [u8],
+    peers: Peers,
+    calls: usize,
+}
+
+impl<'a> Read for CutReader<'a> {
+    fn read(&mut self, buf: &mut [u8]) -> io::Result<usize> {
+        self.calls = self.calls.wrapping_add(1);
+        if self.calls == self.peers.failing_read {
+            return Err(io::Error::from(io::ErrorKind::Other));
+        }
+        let most = if self.calls == 1 {
+            self.peers.first
+        } else {
+            self.peers.piece
+        };
+        let len = self.rest.len().min(buf.len()).min(most);
+        buf[..len].copy_from_slice(&self.rest[..len]);
+        self.rest = &self.rest[len..];
+        Ok(len)
+    }
+}
+
+#[derive(Drop)]
+struct CutWriter {
+    bytes: Vec<u8>,
+    peers: Peers,
+    calls: usize,
+}
+
+impl Write for CutWriter {
+    fn write(&mut self, buf: &[u8]) -> io::Result<usize> {
+        self.calls = self.calls.wrapping_add(1);
+        if self.calls == self.peers.failing_write {
+            if self.peers.takes_nothing {
+                return Ok(0);
+            }
+            return Err(io::Error::from(io::ErrorKind::Other));
+        }
+        let len = buf.len().min(self.peers.taken);
+        self.bytes.extend_from_slice(&buf[..len])?;
+        Ok(len)
+    }
+
+    fn flush(&mut self) -> io::Result<()> {
+        Ok(())
+    }
+}
+
+/// What the program wrote on standard output and on standard error, its status, and how often it read and wrote.
+#[derive(Drop)]
+pub(super) struct Ended {
+    pub(super) written: Vec<u8>,
+    pub(super) line: Vec<u8>,
+    pub(super) status: u8,
+    pub(super) reads: usize,
+    pub(super) writes: usize,
+}
+
+/// The words of a command line: those of a text, which spaces part.
+pub(super) fn words_of(alloc: Global, text: &str) -> Result<Vec<String>, AllocError> {
+    let mut words = Vec::new(alloc);
+    for word in text.split(' ') {
+        words.push(String::from_str(alloc, word)?)?;
+    }
+    Ok(words)
+}
+
+/// Runs the program with these words on an input.
+pub(super) fn outcome_of(
+    alloc: Global,
+    words: &str,
+    input: &[u8],
+    peers: Peers,
+) -> Result<Ended, Fail> {
+    let mut reader = CutReader {
+        rest: input,
+        peers,
+        calls: 0,
+    };
+    let mut writer = CutWriter {
+        bytes: Vec::new(alloc),
+        peers,
+        calls: 0,
+    };
+    let mut line = Vec::new(alloc);
+    let words = words_of(alloc, words)?;
+    let status = execute(alloc, Ok(words), &mut reader, &mut writer, &mut line);
+    let CutWriter {
+        bytes: written,
+        peers: _,
+        calls: writes,
+    } = writer;
+    Ok(Ended {
+        written,
+        line,
+        status,
+        reads: reader.calls,
+        writes,
+    })
+}

@@ -1,0 +1,105 @@
+//! Inputs of every size: one byte at a time, around the room that is gathered, and large.
+
+use super::peers::{BYTEWISE, Peers, SOUND, outcome_of};
+use super::repeated;
+use std::alloc::Global;
+use std::process::Abort;
+use std::test::Fail;
+
+/// Asserts what a command writes of an input.
+fn assert_written(
+    rt: &impl Abort,
+    alloc: Global,
+    words: &str,
+    input: &str,
+    output: &str,
+    peers: Peers,
+) -> Result<(), Fail> {
+    let ended = outcome_of(alloc, words, input.as_bytes(), peers)?;
+    let len = input.len();
+    assert!(rt;
+        ended.written.as_slice() == output.as_bytes(),
+        "{words}, {len}"
+    );
+    assert!(rt;
+        ended.line.is_empty() && ended.status == 0,
+        "{words}, {len}"
+    );
+    Ok(())
+}
+
+/// Asserts what each command writes where header, body, fragment and value are so long.
+fn assert_sizes(rt: &impl Abort, alloc: Global, len: usize, peers: Peers) -> Result<(), Fail> {
+    let value = repeated(alloc, "d", len)?;
+    let body = repeated(alloc, "e", len)?;
+    let fragment = repeated(alloc, "f", len)?;
+    let url = format!(in alloc; "data:a/b;c={value},{body}#{fragment}")?;
+    let line = format!(in alloc; "a/b;c={value}\n")?;
+    assert_written(rt, alloc, "body", url.as_str(), body.as_str(), peers)?;
+    assert_written(rt, alloc, "mime", url.as_str(), line.as_str(), peers)?;
+    assert_written(rt, alloc, "type", line.trim(), line.as_str(), peers)?;
+    let encoded = format!(in alloc; "{fragment}\n")?;
+    assert_written(rt, alloc, "fragment", url.as_str(), encoded.as_str(), peers)?;
+    let text = repeated(alloc, "QUJD", len)?;
+    let bytes = repeated(alloc, "ABC", len)?;
+    assert_written(rt, alloc, "base64", text.as_str(), bytes.as_str(), peers)
+}
+
+#[test]
+fn sizes(rt: HostRuntime) -> Result<(), Fail> {
+    let mut len: usize = 1;
+    for _ in 0..21 {
+        assert_sizes(&rt, rt.alloc(), len, SOUND)?;
+        len = len.wrapping_mul(2);
+    }
+    assert_sizes(&rt, rt.alloc(), 6000, BYTEWISE)
+}
+
+#[test]
+fn a_read_that_fails_behind_many(rt: HostRuntime) -> Result<(), Fail> {
+    let text = repeated(rt.alloc(), "QUJD", 1500)?;
+    let url = format!(in rt.alloc(); "data:,{text}")?;
+    let peers = Peers {
+        failing_read: 5001,
+        ..BYTEWISE
+    };
+    for words in ["body", "mime", "fragment", "type", "base64"] {
+        let input = if words == "base64" { &text } else { &url };
+        let ended = outcome_of(rt.alloc(), words, input.as_bytes(), peers)?;
+        let len = if words == "base64" { 3750 } else { 0 };
+        assert!(rt;
+            ended.written.len() == len && ended.reads == 5001,
+            "{words}"
+        );
+        assert!(rt;
+            ended.line.as_slice() == "read failed\n".as_bytes(),
+            "{words}"
+        );
+    }
+    Ok(())
+}
+
+#[test]
+fn a_thousand_parameters(rt: HostRuntime) -> Result<(), Fail> {
+    let alloc = rt.alloc();
+    let mut text = String::from_str(alloc, "x/x")?;
+    for number in 1..=1000 {
+        let parameter = format!(in alloc; ";p{number}=v")?;
+        text.push_str(parameter.as_str())?;
+    }
+    let line = format!(in alloc; "{text}\n")?;
+    assert_written(&rt, alloc, "type", text.as_str(), line.as_str(), SOUND)
+}
+
+#[test]
+fn few_writes_of_bodies(rt: HostRuntime) -> Result<(), Fail> {
+    let alloc = rt.alloc();
+    for len in [0, 1, 4095, 4096, 4097, 8191, 8192, 8193, 20000] {
+        let body = repeated(alloc, "x", len)?;
+        let url = format!(in alloc; "data:,{body}")?;
+        let ended = outcome_of(alloc, "body", url.as_bytes(), SOUND)?;
+        assert!(rt; ended.written.as_slice() == body.as_bytes(), "{len}");
+        assert!(rt; ended.writes <= len / 2048 + 2, "{len}");
+    }
+    Ok(())
+}
