@@ -1,37 +1,39 @@
 -- Which names the first pairs and the set of later names have.
-use Rattle.std.proofs.Common.{◌≡◌, ℕ, ◌<◌, ◌≤◌, ◌||◌, Bool, true, false, cond, List, [], ◌∷◌, ◌++◌, length, drop, take, String, map, refl, sym, ap, ◌∙◌, subst, arith, string_bytes}
-use Rattle.std.proofs.lemmas.Bool.{and_from, or_left}
-use Rattle.std.proofs.lemmas.List.{drop-append-le, drop-map, length-append, map-append, take-append-drop}
+use Rattle.std.proofs.Common.{◌≡◌, ℕ, ◌<◌, ◌≤◌, ◌||◌, Bool, true, false, cond, not, List, [], ◌∷◌, ◌++◌, length, drop, String, refl, sym, ap, ◌∙◌, subst, arith, string_bytes}
+use Rattle.std.proofs.lemmas.Bool.{and_from, cond-false, cond-true, or_left}
+use Rattle.std.proofs.lemmas.List.{drop-append-le, length-append, take-append-drop}
 use Rattle.std.proofs.lemmas.Map.Text.{btree_set_updates_text}
 use Rattle.std.proofs.lemmas.Str.{IsUtf8-string_bytes}
 use Rattle.std.proofs.Math.ListN.{drop_of_length-le}
-use Rattle.std.specs.BTreeSet.{BTreeSet, UpdatesBy, contains_text}
+use Rattle.std.specs.BTreeSet.{BTreeSet, UpdatesBy, contains, contains_text}
 use Rattle.std.specs.Cmp.Lexicographic.{slice_cmp}
 use Rattle.std.specs.Ordering.{nat_cmp}
 use Rattle.std.specs.String.{string_cmp}
 use Rattle.std.specs.Str.{bytes_eq}
 use Rattle.data_url.specs.Mime.{Pair, has_name, is_lowercase_name}
-use Rattle.data_url.specs.MimeType.{code_points, pair_of}
-use Rattle.data_url.specs.Steps.Kept.{HasLaterNames, IsIndexed, pairs_of}
-use Rattle.data_url.specs.Steps.Parsing.{HasLowercaseNames}
+use Rattle.data_url.specs.MimeType.{code_points}
+use Rattle.data_url.specs.Steps.Kept.{HasLaterNames, IsIndexed, first_of, pairs_of}
+use Rattle.data_url.specs.Steps.Parsing.{HasLowercaseNames, unless_named}
 use Rattle.data_url.specs.declared.mime.kept.KeptParameters.{KeptParameters}
 use Rattle.data_url.specs.declared.mime.kept.TheConstants.{LOOKED_THROUGH}
 use Rattle.data_url.proofs.KeptLemmas.{has_append, has_pushed, lower_after, lowercase_token, name_bytes}
 
--- Some first pairs and the others
+-- The first pairs and the others
 
-has_parts : {A B : Type 0} (n : List ℕ) (pairs : List (String A × String B)) (k : ℕ) → has_name n (map (λ p. pair_of p) pairs) ≡ (has_name n (map (λ p. pair_of p) (take k pairs)) || has_name n (drop k (map (λ p. pair_of p) pairs)))
-has_parts n pairs k =
-    ap (λ s. has_name n (map (λ p. pair_of p) s)) (sym (take-append-drop k pairs))
-    ∙ ap (has_name n) (map-append (λ p. pair_of p) (take k pairs) (drop k pairs))
-    ∙ has_append n (map (λ p. pair_of p) (take k pairs)) (map (λ p. pair_of p) (drop k pairs))
-    ∙ ap (λ s. has_name n (map (λ p. pair_of p) (take k pairs)) || has_name n s) (sym (drop-map (λ p. pair_of p) k pairs))
+first_or_later : (n : List ℕ) (pairs : List Pair) → has_name n pairs ≡ (has_name n (first_of pairs) || has_name n (drop LOOKED_THROUGH pairs))
+first_or_later n pairs = ap (has_name n) (sym (take-append-drop LOOKED_THROUGH pairs)) ∙ has_append n (first_of pairs) (drop LOOKED_THROUGH pairs)
 
-pub named_first : {A B : Type 0} (n : List ℕ) (pairs : List (String A × String B)) (k : ℕ) → has_name n (map (λ p. pair_of p) (take k pairs)) ≡ true → true ≡ has_name n (map (λ p. pair_of p) pairs)
-named_first n pairs k h = sym (has_parts n pairs k ∙ or_left (has_name n (map (λ p. pair_of p) (take k pairs))) (has_name n (drop k (map (λ p. pair_of p) pairs))) h)
+pub named_first : (n : List ℕ) (pairs : List Pair) → has_name n (first_of pairs) ≡ true → has_name n pairs ≡ true
+named_first n pairs h = first_or_later n pairs ∙ or_left (has_name n (first_of pairs)) (has_name n (drop LOOKED_THROUGH pairs)) h
 
-pub named_later : {A B : Type 0} (n : List ℕ) (pairs : List (String A × String B)) (k : ℕ) → has_name n (map (λ p. pair_of p) (take k pairs)) ≡ false → has_name n (drop k (map (λ p. pair_of p) pairs)) ≡ has_name n (map (λ p. pair_of p) pairs)
-named_later n pairs k h = sym (has_parts n pairs k ∙ ap (λ b. b || has_name n (drop k (map (λ p. pair_of p) pairs))) h)
+pub named_later : (n : List ℕ) (pairs : List Pair) → has_name n (first_of pairs) ≡ false → has_name n pairs ≡ has_name n (drop LOOKED_THROUGH pairs)
+named_later n pairs h = first_or_later n pairs ∙ ap (λ b. b || has_name n (drop LOOKED_THROUGH pairs)) h
+
+pub unless_known : (pairs : List Pair) (p : Pair) → has_name p.0 pairs ≡ true → unless_named pairs (p ∷ []) ≡ []
+unless_known pairs p h = cond-true (has_name p.0 pairs) [] (p ∷ []) h
+
+pub unless_new : (pairs : List Pair) (p : Pair) → has_name p.0 pairs ≡ false → unless_named pairs (p ∷ []) ≡ p ∷ []
+unless_new pairs p h = cond-false (has_name p.0 pairs) [] (p ∷ []) h
 
 -- The set of later names
 
@@ -46,6 +48,10 @@ few_names n pairs l = ap (has_name n) (drop_of_length-le pairs l)
 -- one of the first pairs more
 pub first_names : {A : Type 0} (later : BTreeSet (String A)) (pairs : List Pair) (p : Pair) → length pairs < LOOKED_THROUGH → HasLaterNames later pairs → HasLaterNames later (pairs ++ (p ∷ []))
 first_names later pairs p l h n = h n ∙ few_names n pairs (omega arith) ∙ sym (few_names n (pairs ++ (p ∷ [])) (simp length-append (omega arith)))
+
+-- where none of the first pairs has the name, the set is asked
+pub set_knows : {A : Type 0} (later : BTreeSet (String A)) (pairs : List Pair) (p : Pair) (name : String A) (b : Bool) → HasLaterNames later pairs → string_bytes name ≡ p.0 → has_name p.0 (first_of pairs) ≡ false → b ≡ not (contains string_cmp later name) → b ≡ not (has_name p.0 pairs)
+set_knows later pairs p name b h e f a = a ∙ ap not (h (string_bytes name) ∙ ap (λ n. has_name n (drop LOOKED_THROUGH pairs)) e ∙ sym (named_later p.0 pairs f))
 
 or_cond : (b x : Bool) → cond b true x ≡ (x || b)
 or_cond true true = refl

@@ -102,14 +102,6 @@ pub no_pair_token : (item : Item) (xs : List Pair) → is_token_text item.0 ≡ 
 no_pair_token (name, None) xs h = refl
 no_pair_token (name, Some v) xs h = ap (unless_named xs) (cond-false (is_token_text name && list_all is_quotable v) ((name, v) ∷ []) [] (and_left (is_token_text name) (list_all is_quotable v) h))
 
-none_not_quotable : (v : List ℕ) (b : Bool) → ◌≡◌ {A = Option (List ℕ)} None (cond b (Some v) None) → b ≡ false
-none_not_quotable v true h = absurd (let k = h in cc)
-none_not_quotable v false h = refl
-
-pub no_pair_value : (item : Item) (xs : List Pair) → None ≡ quotable_value item.1 → added xs item ≡ []
-no_pair_value (name, None) xs h = refl
-no_pair_value (name, Some v) xs h = ap (unless_named xs) (cond-false (is_token_text name && list_all is_quotable v) ((name, v) ∷ []) [] (and_right (is_token_text name) (list_all is_quotable v) (none_not_quotable v (list_all is_quotable v) h)))
-
 unless_none : (xs : List Pair) (p : Pair) (b : Bool) → has_name p.0 xs ≡ true → unless_named xs (cond b (p ∷ []) []) ≡ []
 unless_none xs p true h = cond-true (has_name p.0 xs) [] (p ∷ []) h
 unless_none xs p false h = refl
@@ -122,11 +114,11 @@ some_quotable : (v w : List ℕ) (b : Bool) → ◌≡◌ {A = Option (List ℕ)
 some_quotable v w true h = (refl, some_equal w v h)
 some_quotable v w false h = absurd (let k = h in cc)
 
-pub one_pair : (item : Item) (xs : List Pair) (w : List ℕ) → is_token_text item.0 ≡ true → has_name item.0 xs ≡ false → Some w ≡ quotable_value item.1 → added xs item ≡ (item.0, w) ∷ []
-one_pair (name, None) xs w t n h = absurd (let k = h in cc)
-one_pair (name, Some v) xs w t n h =
+pub valid_pair : (item : Item) (w : List ℕ) → is_token_text item.0 ≡ true → Some w ≡ quotable_value item.1 → valid_of item ≡ (item.0, w) ∷ []
+valid_pair (name, None) w t h = absurd (let k = h in cc)
+valid_pair (name, Some v) w t h =
     let q = some_quotable v w (list_all is_quotable v) h in
-    ap (unless_named xs) (cond-true (is_token_text name && list_all is_quotable v) ((name, v) ∷ []) [] (and_from (is_token_text name) (list_all is_quotable v) t q.0)) ∙ cond-false (has_name name xs) [] ((name, v) ∷ []) n ∙ ap (λ x. (name, x) ∷ []) (sym q.1)
+    cond-true (is_token_text name && list_all is_quotable v) ((name, v) ∷ []) [] (and_from (is_token_text name) (list_all is_quotable v) t q.0) ∙ ap (λ x. (name, x) ∷ []) (sym q.1)
 
 -- The pairs kept of one more item
 
@@ -211,16 +203,11 @@ module _ (parameter : Parameter) (item : Item) (is : IsItem parameter item) wher
   pub invalid_name : (xs : List Pair) (b : Bool) → b ≡ is_token_text (chars parameter.name.now) → b ≡ false → added xs item ≡ []
   invalid_name xs b e h = no_pair_token item xs (name_token ∙ sym e ∙ h)
 
-  pub known_name : (xs : List Pair) (b : Bool) → b ≡ has_name (map to_ascii_lowercase (chars parameter.name.now)) xs → b ≡ true → added xs item ≡ []
-  known_name xs b e h = no_pair_named item xs (ap (λ n. has_name n xs) is.name ∙ sym e ∙ h)
+  pub known_name : (xs : List Pair) → has_name (map to_ascii_lowercase (chars parameter.name.now)) xs ≡ true → added xs item ≡ []
+  known_name xs h = no_pair_named item xs (ap (λ n. has_name n xs) is.name ∙ h)
 
-  pub invalid_value : (xs : List Pair) (text : Option (List ℕ)) → text ≡ quotable_value item.1 → text ≡ None → added xs item ≡ []
-  invalid_value xs text e h = no_pair_value item xs (sym h ∙ e)
-
-  pub new_pair : (xs : List Pair) (name value : List ℕ) (b d : Bool) → b ≡ is_token_text (chars parameter.name.now) → b ≡ true → d ≡ has_name (map to_ascii_lowercase (chars parameter.name.now)) xs → d ≡ false → name ≡ map to_ascii_lowercase (chars parameter.name.now) → Some value ≡ quotable_value item.1 → added xs item ≡ (name, value) ∷ []
-  new_pair xs name value b d e h f k n v =
-      one_pair item xs value (name_token ∙ sym e ∙ h) (ap (λ x. has_name x xs) is.name ∙ sym f ∙ k) v
-      ∙ ap (λ x. (x, value) ∷ []) (is.name ∙ sym n)
+  pub new_pair : (name value : List ℕ) (b : Bool) → b ≡ is_token_text (chars parameter.name.now) → b ≡ true → name ≡ map to_ascii_lowercase (chars parameter.name.now) → Some value ≡ quotable_value item.1 → valid_of item ≡ (name, value) ∷ []
+  new_pair name value b e h n v = valid_pair item value (name_token ∙ sym e ∙ h) v ∙ ap (λ x. (x, value) ∷ []) (is.name ∙ sym n)
 
 -- The parser's loop over the parameters
 

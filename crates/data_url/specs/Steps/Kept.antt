@@ -1,6 +1,6 @@
 -- What the private contracts of the MIME parser see of the parameters that are kept so far.
 use Rattle.std.specs.BTreeSet.{BTreeSet, contains_text}
-use Rattle.std.specs.Prelude.{◌≡◌, List, String, drop, map, ℕ}
+use Rattle.std.specs.Prelude.{◌≡◌, List, String, drop, map, take, ℕ}
 use Rattle.data_url.specs.Mime.{Pair, has_name}
 use Rattle.data_url.specs.MimeType.{pair_of}
 use Rattle.data_url.specs.Steps.Parsing.{HasLowercaseNames}
@@ -10,6 +10,10 @@ use Rattle.data_url.specs.declared.mime.kept.TheConstants.{LOOKED_THROUGH}
 -- the pairs as lists of code points
 abbrev pub pairs_of : KeptParameters → List Pair
 pairs_of kept = map (λ p. pair_of p) kept.pairs.items
+
+-- the first pairs
+abbrev pub first_of : List Pair → List Pair
+first_of pairs = take LOOKED_THROUGH pairs
 
 -- the set has the names of the pairs behind the first ones, and no other text
 abbrev pub HasLaterNames : {A : Type 0} → BTreeSet (String A) → List Pair → Type 0

@@ -1,14 +1,13 @@
 //! The parameters that are kept while a MIME type is read: of each name the first.
 
-ghost use Rattle.std.specs.Prelude.{◌≡◌, ◌++◌, ◌∷◌, [], IfOk, IsTrue, OnOk, map};
+ghost use Rattle.std.specs.Prelude.{false, ◌≡◌, ◌++◌, ◌∷◌, [], IsTrue, OnOk, map};
 ghost use Rattle.std.specs.Char.{to_ascii_lowercase};
 ghost use Rattle.std.specs.Str.{chars};
 ghost use Rattle.data_url.specs.Mime.{has_name, is_lowercase_name, is_token_text};
 ghost use Rattle.data_url.specs.MimeType.{code_points, pair_of};
-ghost use Rattle.data_url.specs.Steps.Parsing.{HasLowercaseNames};
-ghost use Rattle.data_url.specs.Steps.Kept.{IsIndexed, pairs_of};
+ghost use Rattle.data_url.specs.Steps.Parsing.{HasLowercaseNames, unless_named};
+ghost use Rattle.data_url.specs.Steps.Kept.{IsIndexed, first_of, pairs_of};
 
-use super::values::lowercased;
 use std::alloc::{AllocError, Global};
 use std::collections::BTreeSet;
 
@@ -42,34 +41,27 @@ impl KeptParameters {
         self.pairs
     }
 
-    /// Whether a pair has the name, in any ASCII case. It takes memory only behind the first pairs.
-    pub(super) fn has_name(&self, alloc: Global, name: &str) -> Result<bool, AllocError>
+    /// Whether one of the first pairs has the name, in any ASCII case.
+    pub(super) fn is_among_first(&self, name: &str) -> bool
         requires indexed { IsIndexed self.now }
         requires token { IsTrue (is_token_text (chars name.now)) }
-        ensures { IfOk result (λ found.
-            found ≡ has_name (map to_ascii_lowercase (chars name.now)) (pairs_of self.now)) }
+        ensures { result ≡ has_name (map to_ascii_lowercase (chars name.now))
+            (first_of (pairs_of self.now)) }
     {
-        let first = self.pairs.len().min(LOOKED_THROUGH);
-        if any_is_named(&self.pairs[..first], name) {
-            return Ok(true);
-        }
-        if self.pairs.len() <= LOOKED_THROUGH {
-            return Ok(false);
-        }
-        let lower = lowercased(alloc, name)?;
-        Ok(self.later_names.contains(lower.as_str()))
+        any_is_named(&self.pairs[..LOOKED_THROUGH.min(self.pairs.len())], name)
     }
 
-    /// Adds a pair.
+    /// Adds a pair whose name none of the first ones has, unless a later one has it.
     pub(super) fn push(&mut self, name: String, value: String) -> Result<(), AllocError>
         requires indexed { IsIndexed self.old }
         requires lower { IsTrue (is_lowercase_name (code_points name)) }
-        ensures pairs { OnOk result (pairs_of self.new
-            ≡ pairs_of self.old ++ (code_points name, code_points value) ∷ []) }
+        requires new { has_name (code_points name) (first_of (pairs_of self.old)) ≡ false }
+        ensures pairs { OnOk result (pairs_of self.new ≡ pairs_of self.old
+            ++ unless_named (pairs_of self.old) ((code_points name, code_points value) ∷ [])) }
         ensures indexed { OnOk result (IsIndexed self.new) }
     {
-        if self.pairs.len() >= LOOKED_THROUGH {
-            self.later_names.insert(name.clone()?)?;
+        if self.pairs.len() >= LOOKED_THROUGH && !self.later_names.insert(name.clone()?)? {
+            return Ok(());
         }
         self.pairs.push((name, value))?;
         Ok(())

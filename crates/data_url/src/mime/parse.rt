@@ -175,7 +175,7 @@ fn keep(
     ensures indexed { OnOk result (IsIndexed kept.new) }
 {
     let name = parameter.name;
-    if !is_token_text(name) || kept.has_name(alloc, name)? {
+    if !is_token_text(name) || kept.is_among_first(name) {
         return Ok(());
     }
     let Some(value) = parameter.value.text(alloc)? else {
