@@ -1,17 +1,19 @@
 -- Which names the first pairs and the set of later names have.
-use Rattle.std.proofs.Common.{◌≡◌, ℕ, ◌<◌, ◌≤◌, ◌||◌, Bool, true, false, cond, not, List, [], ◌∷◌, ◌++◌, length, drop, String, refl, sym, ap, ◌∙◌, subst, arith, string_bytes}
-use Rattle.std.proofs.lemmas.Bool.{and_from, cond-false, cond-true, or_left}
-use Rattle.std.proofs.lemmas.List.{drop-append-le, length-append, take-append-drop}
+use Rattle.std.proofs.Common.{◌≡◌, ℕ, ◌<◌, ◌≤◌, ◌||◌, Bool, true, false, cond, not, List, [], ◌∷◌, ◌++◌, length, drop, String, map, take, refl, sym, ap, ◌∙◌, subst, arith, string_bytes}
+use Rattle.std.proofs.lemmas.Bool.{and_from, and_parts, cond-false, cond-true, or_left}
+use Rattle.std.proofs.lemmas.List.Folds.{list_all-append}
+use Rattle.std.proofs.lemmas.List.{drop-append-le, length-append, take-append-drop, take-map}
 use Rattle.std.proofs.lemmas.Map.Text.{btree_set_updates_text}
 use Rattle.std.proofs.lemmas.Str.{IsUtf8-string_bytes}
 use Rattle.std.proofs.Math.ListN.{drop_of_length-le}
 use Rattle.std.specs.BTreeSet.{BTreeSet, UpdatesBy, contains, contains_text}
 use Rattle.std.specs.Cmp.Lexicographic.{slice_cmp}
+use Rattle.std.specs.List.{list_all}
 use Rattle.std.specs.Ordering.{nat_cmp}
 use Rattle.std.specs.String.{string_cmp}
 use Rattle.std.specs.Str.{bytes_eq}
 use Rattle.data_url.specs.Mime.{Pair, has_name, is_lowercase_name}
-use Rattle.data_url.specs.MimeType.{code_points}
+use Rattle.data_url.specs.MimeType.{code_points, pair_of}
 use Rattle.data_url.specs.Steps.Kept.{HasLaterNames, IsIndexed, first_of, pairs_of}
 use Rattle.data_url.specs.Steps.Parsing.{HasLowercaseNames, unless_named}
 use Rattle.data_url.specs.declared.mime.kept.KeptParameters.{KeptParameters}
@@ -19,6 +21,13 @@ use Rattle.data_url.specs.declared.mime.kept.TheConstants.{LOOKED_THROUGH}
 use Rattle.data_url.proofs.KeptLemmas.{has_append, has_pushed, lower_after, lowercase_token, name_bytes}
 
 -- The first pairs and the others
+
+pub lower_first : {A B : Type 0} (pairs : List (String A × String B)) (k : ℕ) → HasLowercaseNames (map (λ p. pair_of p) pairs) → HasLowercaseNames (map (λ p. pair_of p) (take k pairs))
+lower_first pairs k h =
+    let test : Pair → Bool = λ p. is_lowercase_name p.0 in
+    let all = map (λ p. pair_of p) pairs in
+    let e = sym (list_all-append test (take k all) (drop k all)) ∙ ap (list_all test) (take-append-drop k all) ∙ h in
+    ap (list_all test) (sym (take-map (λ p. pair_of p) k pairs)) ∙ (and_parts (list_all test (take k all)) (list_all test (drop k all)) e).0
 
 first_or_later : (n : List ℕ) (pairs : List Pair) → has_name n pairs ≡ (has_name n (first_of pairs) || has_name n (drop LOOKED_THROUGH pairs))
 first_or_later n pairs = ap (has_name n) (sym (take-append-drop LOOKED_THROUGH pairs)) ∙ has_append n (first_of pairs) (drop LOOKED_THROUGH pairs)

@@ -1,6 +1,6 @@
 -- Which pairs are kept.
 use Rattle.std.proofs.Common.{◌≡◌, ℕ, ◌+◌, ◌<◌, ◌||◌, ◌&&◌, ◌⊎◌, Bool, true, false, cond, List, [], ◌∷◌, ◌++◌, length, get_or, drop, Option, None, Some, String, map, refl, sym, ap, ap₂, ◌∙◌, subst, append_assoc, append-nil, arith, inl, inr, drop-cons, add-one}
-use Rattle.std.proofs.lemmas.Bool.{agree_below_at, and_from, and_left, and_parts, and_right, cases_lt, cond-false, cond-true, cond_both, false_from_ne_true, false≢true, or_left, true_from_ne_false}
+use Rattle.std.proofs.lemmas.Bool.{agree_below_at, and_from, and_left, and_parts, cases_lt, cond-false, cond-true, cond_both, false_from_ne_true, false≢true, or_left, true_from_ne_false}
 use Rattle.std.proofs.lemmas.List.Folds.{list_all-append, list_all-map, list_all_at}
 use Rattle.std.proofs.lemmas.Grind.{flat_map-append}
 use Rattle.std.proofs.lemmas.List.{map-append}
@@ -217,9 +217,6 @@ pub record KeepsOn (whole rest : List ℕ) (pairs : List Pair) : Type 0 where
   pub goes_on : (more : List Item) → Items rest more → Items whole (items ++ more)
   pub kept_is : pairs ≡ kept items
   pub begins : BeginsParameters rest
-
-pub keeps_first : (whole : List ℕ) → BeginsParameters whole → KeepsOn whole whole []
-keeps_first whole b = record { items = []; goes_on = λ more h. h; kept_is = refl; begins = b }
 
 pub keeps_more : (whole rest s rest' : List ℕ) (pairs pairs' : List Pair) (item : Item) → KeepsOn whole rest pairs → rest ≡ 59 ∷ s → HasParameterBefore s item rest' → pairs' ≡ pairs ++ added pairs item → KeepsOn whole rest' pairs'
 keeps_more whole rest s rest' pairs pairs' item k e p a = record {

@@ -12,7 +12,7 @@ use std::alloc::{AllocError, Global};
 use std::collections::BTreeSet;
 
 /// How many pairs are looked through one by one, which is faster for so few than a search in a set.
-const LOOKED_THROUGH: usize = 16;
+const LOOKED_THROUGH: usize = 32;
 
 /// The pairs that are kept, and the names of those behind the first ones once more, to be found
 /// among many.

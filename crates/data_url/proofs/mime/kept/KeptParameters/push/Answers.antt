@@ -1,9 +1,9 @@
-use Rattle.std.proofs.Common.{◌<◌, ◌≡◌, ◌≤◌, ◌∷◌, ◌++◌, [], Bool, ap, arith, false, length, not, refl, sym, true, ◌∙◌}
+use Rattle.std.proofs.Common.{◌<◌, ◌≡◌, ◌≤◌, ◌∷◌, ◌++◌, [], ap, arith, false, length, refl, sym, ◌∙◌}
 use Rattle.std.proofs.lemmas.Bool.{not-false, not-true}
 use Rattle.std.proofs.lemmas.List.{length-map}
 use Rattle.std.specs.BTreeSet.{contains_text}
 use Rattle.data_url.specs.Mime.{Pair, has_name}
-use Rattle.data_url.specs.MimeType.{code_points, pair_of}
+use Rattle.data_url.specs.MimeType.{pair_of}
 use Rattle.data_url.specs.Steps.Kept.{HasLaterNames, pairs_of}
 use Rattle.data_url.specs.declared.mime.kept.KeptParameters.{KeptParameters}
 use Rattle.data_url.specs.declared.mime.kept.TheConstants.{LOOKED_THROUGH}
