@@ -1,6 +1,6 @@
 -- Which pairs are kept.
 use Rattle.std.proofs.Common.{◌≡◌, ℕ, ◌+◌, ◌<◌, ◌||◌, ◌&&◌, ◌⊎◌, Bool, true, false, cond, List, [], ◌∷◌, ◌++◌, length, get_or, drop, Option, None, Some, String, map, refl, sym, ap, ap₂, ◌∙◌, subst, append_assoc, append-nil, arith, inl, inr, drop-cons, add-one}
-use Rattle.std.proofs.lemmas.Bool.{agree_below_at, and_from, and_left, and_parts, and_right, cases_lt, cond-false, cond-true, cond_both, false_from_ne_true, false≢true, or_left, true_from_ne_false}
+use Rattle.std.proofs.lemmas.Bool.{agree_below_at, and_from, and_left, and_parts, cases_lt, cond-false, cond-true, cond_both, false_from_ne_true, false≢true, or_left, true_from_ne_false}
 use Rattle.std.proofs.lemmas.List.Folds.{list_all-append, list_all-map, list_all_at}
 use Rattle.std.proofs.lemmas.Grind.{flat_map-append}
 use Rattle.std.proofs.lemmas.List.{map-append}
@@ -102,14 +102,6 @@ pub no_pair_token : (item : Item) (xs : List Pair) → is_token_text item.0 ≡ 
 no_pair_token (name, None) xs h = refl
 no_pair_token (name, Some v) xs h = ap (unless_named xs) (cond-false (is_token_text name && list_all is_quotable v) ((name, v) ∷ []) [] (and_left (is_token_text name) (list_all is_quotable v) h))
 
-none_not_quotable : (v : List ℕ) (b : Bool) → ◌≡◌ {A = Option (List ℕ)} None (cond b (Some v) None) → b ≡ false
-none_not_quotable v true h = absurd (let k = h in cc)
-none_not_quotable v false h = refl
-
-pub no_pair_value : (item : Item) (xs : List Pair) → None ≡ quotable_value item.1 → added xs item ≡ []
-no_pair_value (name, None) xs h = refl
-no_pair_value (name, Some v) xs h = ap (unless_named xs) (cond-false (is_token_text name && list_all is_quotable v) ((name, v) ∷ []) [] (and_right (is_token_text name) (list_all is_quotable v) (none_not_quotable v (list_all is_quotable v) h)))
-
 unless_none : (xs : List Pair) (p : Pair) (b : Bool) → has_name p.0 xs ≡ true → unless_named xs (cond b (p ∷ []) []) ≡ []
 unless_none xs p true h = cond-true (has_name p.0 xs) [] (p ∷ []) h
 unless_none xs p false h = refl
@@ -122,11 +114,11 @@ some_quotable : (v w : List ℕ) (b : Bool) → ◌≡◌ {A = Option (List ℕ)
 some_quotable v w true h = (refl, some_equal w v h)
 some_quotable v w false h = absurd (let k = h in cc)
 
-pub one_pair : (item : Item) (xs : List Pair) (w : List ℕ) → is_token_text item.0 ≡ true → has_name item.0 xs ≡ false → Some w ≡ quotable_value item.1 → added xs item ≡ (item.0, w) ∷ []
-one_pair (name, None) xs w t n h = absurd (let k = h in cc)
-one_pair (name, Some v) xs w t n h =
+pub valid_pair : (item : Item) (w : List ℕ) → is_token_text item.0 ≡ true → Some w ≡ quotable_value item.1 → valid_of item ≡ (item.0, w) ∷ []
+valid_pair (name, None) w t h = absurd (let k = h in cc)
+valid_pair (name, Some v) w t h =
     let q = some_quotable v w (list_all is_quotable v) h in
-    ap (unless_named xs) (cond-true (is_token_text name && list_all is_quotable v) ((name, v) ∷ []) [] (and_from (is_token_text name) (list_all is_quotable v) t q.0)) ∙ cond-false (has_name name xs) [] ((name, v) ∷ []) n ∙ ap (λ x. (name, x) ∷ []) (sym q.1)
+    cond-true (is_token_text name && list_all is_quotable v) ((name, v) ∷ []) [] (and_from (is_token_text name) (list_all is_quotable v) t q.0) ∙ ap (λ x. (name, x) ∷ []) (sym q.1)
 
 -- The pairs kept of one more item
 
@@ -138,7 +130,7 @@ pub has_append : (n : List ℕ) (xs ys : List Pair) → has_name n (xs ++ ys) �
 has_append n [] ys = refl
 has_append n (p ∷ xs) ys = ap (λ b. bytes_eq p.0 n || b) (has_append n xs ys) ∙ sym (or_assoc (bytes_eq p.0 n) (has_name n xs) (has_name n ys))
 
-has_pushed : (n : List ℕ) (xs : List Pair) (p : Pair) → has_name n (xs ++ (p ∷ [])) ≡ (has_name n xs || bytes_eq p.0 n)
+pub has_pushed : (n : List ℕ) (xs : List Pair) (p : Pair) → has_name n (xs ++ (p ∷ [])) ≡ (has_name n xs || bytes_eq p.0 n)
 has_pushed n xs p = has_append n xs (p ∷ []) ∙ ap (λ b. has_name n xs || b) (or_none (bytes_eq p.0 n))
 
 snoc_cases : (b : Bool) (p : Pair) (whole front back : List Pair) → whole ≡ front ++ back → cond b whole (p ∷ whole) ≡ cond b front (p ∷ front) ++ back
@@ -197,12 +189,8 @@ none_added pairs more e = sym (ap (λ x. map (λ p. pair_of p) pairs ++ x) e ∙
 pub one_added : {A B : Type 0} (pairs pairs' : List (String A × String B)) (name : String A) (value : String B) (more : List Pair) → pairs' ≡ pairs ++ ((name, value) ∷ []) → more ≡ (code_points name, code_points value) ∷ [] → map (λ p. pair_of p) pairs' ≡ map (λ p. pair_of p) pairs ++ more
 one_added pairs pairs' name value more e h = ap (map (λ p. pair_of p)) e ∙ map-append (λ p. pair_of p) pairs ((name, value) ∷ []) ∙ ap (λ x. map (λ p. pair_of p) pairs ++ x) (sym h)
 
-lower_after : (xs ys : List Pair) → HasLowercaseNames xs → HasLowercaseNames ys → HasLowercaseNames (xs ++ ys)
+pub lower_after : (xs ys : List Pair) → HasLowercaseNames xs → HasLowercaseNames ys → HasLowercaseNames (xs ++ ys)
 lower_after xs ys h k = list_all-append (λ (p : Pair). is_lowercase_name p.0) xs ys ∙ and_from (list_all (λ (p : Pair). is_lowercase_name p.0) xs) (list_all (λ (p : Pair). is_lowercase_name p.0) ys) h k
-
-unless_lower : (xs ps : List Pair) → HasLowercaseNames ps → HasLowercaseNames (unless_named xs ps)
-unless_lower xs [] h = refl
-unless_lower xs (p ∷ ps) h = cond_both (has_name p.0 xs) [] (p ∷ []) HasLowercaseNames (λ e. refl) (λ e. and_from (is_lowercase_name p.0) true (and_parts (is_lowercase_name p.0) (list_all (λ (q : Pair). is_lowercase_name q.0) ps) h).0 refl)
 
 pub valid_lower : (name : List ℕ) (value : Option (List ℕ)) → (is_token_text name ≡ true → is_lowercase_name name ≡ true) → HasLowercaseNames (valid_of (name, value))
 valid_lower name None h = refl
@@ -215,20 +203,11 @@ module _ (parameter : Parameter) (item : Item) (is : IsItem parameter item) wher
   pub invalid_name : (xs : List Pair) (b : Bool) → b ≡ is_token_text (chars parameter.name.now) → b ≡ false → added xs item ≡ []
   invalid_name xs b e h = no_pair_token item xs (name_token ∙ sym e ∙ h)
 
-  pub known_name : {A B : Type 0} (pairs pairs' : List (String A × String B)) (b : Bool) → b ≡ has_name (map to_ascii_lowercase (chars parameter.name.now)) (map (λ p. pair_of p) pairs') → pairs' ≡ pairs → b ≡ true → added (map (λ p. pair_of p) pairs) item ≡ []
-  known_name pairs pairs' b e d h = no_pair_named item (map (λ p. pair_of p) pairs) (ap (λ n. has_name n (map (λ p. pair_of p) pairs)) is.name ∙ ap (λ s. has_name (map to_ascii_lowercase (chars parameter.name.now)) (map (λ p. pair_of p) s)) (sym d) ∙ sym e ∙ h)
+  pub known_name : (xs : List Pair) → has_name (map to_ascii_lowercase (chars parameter.name.now)) xs ≡ true → added xs item ≡ []
+  known_name xs h = no_pair_named item xs (ap (λ n. has_name n xs) is.name ∙ h)
 
-  pub invalid_value : (xs : List Pair) (text : Option (List ℕ)) → text ≡ quotable_value item.1 → text ≡ None → added xs item ≡ []
-  invalid_value xs text e h = no_pair_value item xs (sym h ∙ e)
-
-  pub new_pair : {A B : Type 0} (pairs pairs' : List (String A × String B)) (name value : List ℕ) (b d : Bool) → b ≡ is_token_text (chars parameter.name.now) → b ≡ true → d ≡ has_name (map to_ascii_lowercase (chars parameter.name.now)) (map (λ p. pair_of p) pairs') → pairs' ≡ pairs → d ≡ false → name ≡ map to_ascii_lowercase (chars parameter.name.now) → Some value ≡ quotable_value item.1 → added (map (λ p. pair_of p) pairs) item ≡ (name, value) ∷ []
-  new_pair pairs pairs' name value b d e h f g k n v =
-      one_pair item (map (λ p. pair_of p) pairs) value (name_token ∙ sym e ∙ h) (ap (λ x. has_name x (map (λ p. pair_of p) pairs)) is.name ∙ ap (λ s. has_name (map to_ascii_lowercase (chars parameter.name.now)) (map (λ p. pair_of p) s)) (sym g) ∙ sym f ∙ k) v
-      ∙ ap (λ x. (x, value) ∷ []) (is.name ∙ sym n)
-
-  -- what is added has a lower-case name
-  pub added_lower : (xs : List Pair) → HasLowercaseNames xs → HasLowercaseNames (xs ++ added xs item)
-  added_lower xs h = lower_after xs (added xs item) h (unless_lower xs (valid_of item) (valid_lower item.0 item.1 (λ t. ap is_lowercase_name is.name ∙ lowercase_name (chars parameter.name.now) (sym name_token ∙ t))))
+  pub new_pair : (name value : List ℕ) (b : Bool) → b ≡ is_token_text (chars parameter.name.now) → b ≡ true → name ≡ map to_ascii_lowercase (chars parameter.name.now) → Some value ≡ quotable_value item.1 → valid_of item ≡ (name, value) ∷ []
+  new_pair name value b e h n v = valid_pair item value (name_token ∙ sym e ∙ h) v ∙ ap (λ x. (x, value) ∷ []) (is.name ∙ sym n)
 
 -- The parser's loop over the parameters
 
@@ -237,18 +216,13 @@ pub record KeepsOn (whole rest : List ℕ) (pairs : List Pair) : Type 0 where
   pub items : List Item
   pub goes_on : (more : List Item) → Items rest more → Items whole (items ++ more)
   pub kept_is : pairs ≡ kept items
-  pub lower : HasLowercaseNames pairs
   pub begins : BeginsParameters rest
 
-pub keeps_first : (whole : List ℕ) → BeginsParameters whole → KeepsOn whole whole []
-keeps_first whole b = record { items = []; goes_on = λ more h. h; kept_is = refl; lower = refl; begins = b }
-
-pub keeps_more : (whole rest s rest' : List ℕ) (pairs pairs' : List Pair) (parameter : Parameter) (item : Item) → KeepsOn whole rest pairs → rest ≡ 59 ∷ s → HasParameterBefore s item rest' → IsItem parameter item → pairs' ≡ pairs ++ added pairs item → KeepsOn whole rest' pairs'
-keeps_more whole rest s rest' pairs pairs' parameter item k e p i a = record {
+pub keeps_more : (whole rest s rest' : List ℕ) (pairs pairs' : List Pair) (item : Item) → KeepsOn whole rest pairs → rest ≡ 59 ∷ s → HasParameterBefore s item rest' → pairs' ≡ pairs ++ added pairs item → KeepsOn whole rest' pairs'
+keeps_more whole rest s rest' pairs pairs' item k e p a = record {
   items = k.items ++ (item ∷ []);
   goes_on = λ more h. subst (Items whole) (sym (append_assoc k.items (item ∷ []) more)) (k.goes_on (item ∷ more) (p.text, rest', e ∙ p.joined, p.is_parameter, h));
   kept_is = a ∙ ap₂ (λ x y. x ++ added y item) k.kept_is k.kept_is ∙ sym (kept_more k.items item);
-  lower = subst HasLowercaseNames (sym a) (added_lower parameter item i pairs k.lower);
   begins = p.begins;
 }
 

@@ -23,6 +23,7 @@ pub mod GatherLemmas
 pub mod HeadLemmas
 pub mod HeaderLemmas
 pub mod HoldLemmas
+pub mod IndexLemmas
 pub mod ItemLemmas
 pub mod KeptLemmas
 pub mod LaneLemmas

@@ -8,6 +8,7 @@ pub mod Front
 pub mod Header
 pub mod HeldState
 pub mod Holding
+pub mod Kept
 pub mod Lanes
 pub mod Looks
 pub mod Parsing

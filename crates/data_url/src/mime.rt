@@ -3,6 +3,7 @@
 ghost use Rattle.std.specs.Prelude.{◌≡◌, ◌↔◌, IfOk, IsTrue, [], Some, codes};
 
 mod cuts;
+mod kept;
 mod parse;
 mod print;
 mod tokens;
@@ -152,8 +153,8 @@ impl Mime {
     /// It answers `Parsing` exactly where the text is no MIME type, which it finds before it asks for memory, and
     /// `OutOfMemory` where the text is one and its record finds no memory.
     ///
-    /// Not proved: it takes time in proportion to the length of the text, times the number of distinct names that are
-    /// kept.
+    /// Not proved: it takes time in proportion to the length of the text, times the logarithm of the
+    /// number of names that are kept, and memory in proportion to the text.
     pub fn from_str(alloc: Global, s: &str) -> Result<Mime, MimeFromStrError>
         ensures parsed { IfOk result (λ mime. Parses (chars s.now) (seen mime)) }
         ensures wellformed { IfOk result (λ mime. IsWellformed (seen mime)) }

@@ -4,14 +4,16 @@ ghost use Rattle.std.specs.Prelude.{◌≡◌, ◌++◌, ◌∷◌, List, ℕ, O
 ghost use Rattle.std.specs.Bool.{MatchBool};
 ghost use Rattle.std.specs.Char.{to_ascii_lowercase};
 ghost use Rattle.std.specs.Str.{IsUtf8, chars};
-ghost use Rattle.data_url.specs.Mime.{BeginsParameters, DoesNotBegin, IsHead, Item, Items, has_name, is_quote, is_token_text, kept, IsRecordOfParts};
-ghost use Rattle.data_url.specs.Steps.Parsing.{HasLowercaseNames, HasNoHead, HasParameterBefore, HasValueBefore, IsClosed, IsItem, IsOpen, IsValue, added};
+ghost use Rattle.data_url.specs.Mime.{BeginsParameters, DoesNotBegin, IsHead, Item, Items, is_quote, is_token_text, kept, IsRecordOfParts};
+ghost use Rattle.data_url.specs.Steps.Parsing.{HasNoHead, HasParameterBefore, HasValueBefore, IsClosed, IsItem, IsOpen, IsValue, added};
+ghost use Rattle.data_url.specs.Steps.Kept.{IsIndexed, pairs_of};
 ghost use Rattle.data_url.specs.MimeType.{pair_of, seen};
 
 use super::Mime;
 use super::cuts::{
     split_name, split_semicolon, without_leading_whitespace, without_trailing_whitespace,
 };
+use super::kept::KeptParameters;
 use super::tokens::{is_token_text, split_tokens};
 use super::values::{Value, lowercased};
 use std::alloc::{AllocError, Global};
@@ -151,50 +153,33 @@ pub(super) fn read_parameters(
     ensures { IfOk result (λ pairs. (items : List Item) × Items (chars text.now) items
         × (map (λ p. pair_of p) pairs.items ≡ kept items)) }
 {
-    let mut pairs = Vec::new(alloc);
+    let mut kept = KeptParameters::new(alloc);
     let mut rest = text;
     while let Some(behind) = rest.strip_prefix(';') {
         let parameter = read_parameter(behind);
         rest = parameter.rest;
-        keep(alloc, &mut pairs, &parameter)?;
+        keep(alloc, &mut kept, &parameter)?;
     }
-    Ok(pairs)
+    Ok(kept.into_pairs())
 }
 
 /// Adds the pair of a parameter, if it is valid and its name is not there yet.
 fn keep(
     alloc: Global,
-    pairs: &mut Vec<(String, String)>,
+    kept: &mut KeptParameters,
     parameter: &Parameter<'_>,
 ) -> Result<(), AllocError>
-    requires { HasLowercaseNames (map (λ p. pair_of p) pairs.old.items) }
-    ensures { OnOk result ((item : Item) → IsItem parameter.now item
-        → map (λ p. pair_of p) pairs.new.items
-        ≡ map (λ p. pair_of p) pairs.old.items
-        ++ added (map (λ p. pair_of p) pairs.old.items) item) }
+    requires { IsIndexed kept.old }
+    ensures pairs { OnOk result ((item : Item) → IsItem parameter.now item
+        → pairs_of kept.new ≡ pairs_of kept.old ++ added (pairs_of kept.old) item) }
+    ensures indexed { OnOk result (IsIndexed kept.new) }
 {
     let name = parameter.name;
-    if !is_token_text(name) || has_name(pairs, name) {
+    if !is_token_text(name) || kept.is_among_first(name) {
         return Ok(());
     }
     let Some(value) = parameter.value.text(alloc)? else {
         return Ok(());
     };
-    pairs.push((lowercased(alloc, name)?, value))?;
-    Ok(())
-}
-
-/// Whether one of the pairs has the name, in any ASCII case.
-fn has_name(pairs: &[(String, String)], name: &str) -> bool
-    requires lower { HasLowercaseNames (map (λ p. pair_of p) pairs.now) }
-    requires token { IsTrue (is_token_text (chars name.now)) }
-    ensures { result ≡ has_name (map to_ascii_lowercase (chars name.now))
-        (map (λ p. pair_of p) pairs.now) }
-{
-    for (key, _) in pairs {
-        if key.as_str().eq_ignore_ascii_case(name) {
-            return true;
-        }
-    }
-    false
+    kept.push(lowercased(alloc, name)?, value)
 }

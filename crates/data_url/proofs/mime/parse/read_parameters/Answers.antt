@@ -1,4 +1,4 @@
-use Rattle.std.proofs.Common.{◌<◌, ◌≤◌, length, arith, ap}
+use Rattle.std.proofs.Common.{◌<◌, ◌≤◌, length, arith, ap, ◌∙◌}
 use Rattle.std.specs.Str.{chars}
 use Rattle.data_url.proofs.HeadLemmas.{no_semicolon}
 use Rattle.data_url.proofs.KeptLemmas.{keeps_end, keeps_more}
@@ -19,7 +19,9 @@ pub loop-behind-preserved : goal.loop-behind-preserved
 loop-behind-preserved c =
     let e = stripped_chars c.loop-behind.rest.now c.in-Some.behind.now 59 _ c.loop-behind.invariant.0 c.in-Some.ensures.cases.1 c.in-Some.ensures.cases.2 in
     let p = c.read_parameter-parameter.ensures.parameter in
-    (c.read_parameter-parameter.ensures.text, keeps_more _ _ _ _ _ _ c.read_parameter-parameter.result p.0 c.loop-behind.invariant.1 e p.2 p.1 (c.in_ok-keep.ensures p.0 p.1))
+    (c.read_parameter-parameter.ensures.text, keeps_more _ _ _ _ _ _ p.0 c.loop-behind.invariant.1 e p.2 (c.in_ok-keep.ensures.pairs p.0 p.1), c.in_ok-keep.ensures.indexed)
 
 pub returns : goal.returns
-returns c = keeps_end (chars c.args.text.now) (chars c.loop-behind.rest.now) _ c.loop-behind.invariant.1 (no_semicolon c.loop-behind.rest.now c.loop-behind.invariant.0 c.loop-behind.invariant.1.begins c.in_default.ensures.cases)
+returns c =
+    let k = keeps_end (chars c.args.text.now) (chars c.loop-behind.rest.now) _ c.loop-behind.invariant.1 (no_semicolon c.loop-behind.rest.now c.loop-behind.invariant.0 c.loop-behind.invariant.1.begins c.in_default.ensures.cases) in
+    (k.0, k.1, c.into_pairs.ensures ∙ k.2)

@@ -4,7 +4,7 @@ use Rattle.std.proofs.lemmas.Str.{IsUtf8-string_bytes}
 use Rattle.std.specs.Char.{to_ascii_lowercase}
 use Rattle.std.specs.Str.{chars}
 use Rattle.data_url.proofs.KeptLemmas.{look_finds, look_goes_on, lowercase_at, names_differ, names_equal}
-use Rattle.data_url.proofs.mime.parse.has_name.Goals as goal
+use Rattle.data_url.proofs.mime.kept.any_is_named.Goals as goal
 
 pub returns-then-eq_ignore_ascii_case : goal.returns-then-eq_ignore_ascii_case
 returns-then-eq_ignore_ascii_case c =

@@ -1,0 +1,84 @@
+//! The parameters that are kept while a MIME type is read: of each name the first.
+
+ghost use Rattle.std.specs.Prelude.{false, ◌≡◌, ◌++◌, ◌∷◌, [], IsTrue, OnOk, map};
+ghost use Rattle.std.specs.Char.{to_ascii_lowercase};
+ghost use Rattle.std.specs.Str.{chars};
+ghost use Rattle.data_url.specs.Mime.{has_name, is_lowercase_name, is_token_text};
+ghost use Rattle.data_url.specs.MimeType.{code_points, pair_of};
+ghost use Rattle.data_url.specs.Steps.Parsing.{HasLowercaseNames, unless_named};
+ghost use Rattle.data_url.specs.Steps.Kept.{IsIndexed, first_of, pairs_of};
+
+use std::alloc::{AllocError, Global};
+use std::collections::BTreeSet;
+
+/// How many pairs are looked through one by one, which is faster for so few than a search in a set.
+const LOOKED_THROUGH: usize = 32;
+
+/// The pairs that are kept, and the names of those behind the first ones once more, to be found
+/// among many.
+#[derive(Drop)]
+pub(super) struct KeptParameters {
+    pairs: Vec<(String, String)>,
+    later_names: BTreeSet<String>,
+}
+
+impl KeptParameters {
+    /// No pairs. It takes no memory.
+    pub(super) fn new(alloc: Global) -> KeptParameters
+        ensures none { pairs_of result ≡ [] }
+        ensures indexed { IsIndexed result }
+    {
+        KeptParameters {
+            pairs: Vec::new(alloc),
+            later_names: BTreeSet::new(alloc),
+        }
+    }
+
+    /// The pairs alone.
+    pub(super) fn into_pairs(self) -> Vec<(String, String)>
+        ensures { map (λ p. pair_of p) result.items ≡ pairs_of self }
+    {
+        self.pairs
+    }
+
+    /// Whether one of the first pairs has the name, in any ASCII case.
+    pub(super) fn is_among_first(&self, name: &str) -> bool
+        requires indexed { IsIndexed self.now }
+        requires token { IsTrue (is_token_text (chars name.now)) }
+        ensures { result ≡ has_name (map to_ascii_lowercase (chars name.now))
+            (first_of (pairs_of self.now)) }
+    {
+        any_is_named(&self.pairs[..LOOKED_THROUGH.min(self.pairs.len())], name)
+    }
+
+    /// Adds a pair whose name none of the first ones has, unless a later one has it.
+    pub(super) fn push(&mut self, name: String, value: String) -> Result<(), AllocError>
+        requires indexed { IsIndexed self.old }
+        requires lower { IsTrue (is_lowercase_name (code_points name)) }
+        requires new { has_name (code_points name) (first_of (pairs_of self.old)) ≡ false }
+        ensures pairs { OnOk result (pairs_of self.new ≡ pairs_of self.old
+            ++ unless_named (pairs_of self.old) ((code_points name, code_points value) ∷ [])) }
+        ensures indexed { OnOk result (IsIndexed self.new) }
+    {
+        if self.pairs.len() >= LOOKED_THROUGH && !self.later_names.insert(name.clone()?)? {
+            return Ok(());
+        }
+        self.pairs.push((name, value))?;
+        Ok(())
+    }
+}
+
+/// Whether one of the pairs has the name, in any ASCII case.
+fn any_is_named(pairs: &[(String, String)], name: &str) -> bool
+    requires lower { HasLowercaseNames (map (λ p. pair_of p) pairs.now) }
+    requires token { IsTrue (is_token_text (chars name.now)) }
+    ensures { result ≡ has_name (map to_ascii_lowercase (chars name.now))
+        (map (λ p. pair_of p) pairs.now) }
+{
+    for (key, _) in pairs {
+        if key.as_str().eq_ignore_ascii_case(name) {
+            return true;
+        }
+    }
+    false
+}
