@@ -56,17 +56,14 @@ impl fmt::Display for DataUrlError {
 
     ghost output = { λ error. Some (url_error_text error) };
 
+    ghost styled_output = { λ error spec. Some (url_error_text error) };
+
     fn fmt<W: fmt::Write>(&self, f: &mut fmt::Formatter<W>) -> fmt::Result {
-        match self {
-            DataUrlError::NotADataUrl => write!(f, "not a valid data url"),
-            DataUrlError::NoComma => {
-                write!(
-                    f,
-                    "data url is missing comma delimiting attributes and body"
-                )
-            }
-            DataUrlError::OutOfMemory => write!(f, "out of memory"),
-        }
+        f.write_str(match self {
+            DataUrlError::NotADataUrl => "not a valid data url",
+            DataUrlError::NoComma => "data url is missing comma delimiting attributes and body",
+            DataUrlError::OutOfMemory => "out of memory",
+        })
     }
 }
 

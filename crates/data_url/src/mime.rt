@@ -82,8 +82,10 @@ pub struct MimeParsingError(());
 impl fmt::Display for MimeParsingError {
     ghost output = { λ _. Some (codes "invalid mime type") };
 
+    ghost styled_output = { λ _ spec. Some (codes "invalid mime type") };
+
     fn fmt<W: fmt::Write>(&self, f: &mut fmt::Formatter<W>) -> fmt::Result {
-        write!(f, "invalid mime type")
+        f.write_str("invalid mime type")
     }
 }
 
@@ -104,10 +106,12 @@ impl fmt::Display for MimeFromStrError {
 
     ghost output = { λ error. Some (mime_error_text error) };
 
+    ghost styled_output = { λ error spec. Some (mime_error_text error) };
+
     fn fmt<W: fmt::Write>(&self, f: &mut fmt::Formatter<W>) -> fmt::Result {
         match self {
-            MimeFromStrError::Parsing(inner) => write!(f, "{inner}"),
-            MimeFromStrError::OutOfMemory => write!(f, "out of memory"),
+            MimeFromStrError::Parsing(inner) => fmt::Display::fmt(inner, f),
+            MimeFromStrError::OutOfMemory => f.write_str("out of memory"),
         }
     }
 }
