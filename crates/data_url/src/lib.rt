@@ -134,8 +134,9 @@ impl<'a> DataUrl<'a> {
     /// ([Fetch Standard, section 6](https://fetch.spec.whatwg.org/#data-url-processor)), and hands the closure back as
     /// its last call left it. It takes no memory, and calls the closure at most once more than there are bytes behind
     /// the comma. The closure has to be one that may be called on any bytes, whatever it was called with before. Where
-    /// the bytes are cut is free: today a long stretch of the text comes as it stands there, shorter ones and the
-    /// values of escapes in pieces of up to 256 bytes, and base64 in pieces of up to 48 bytes.
+    /// the bytes are cut is free, empty pieces included: today a long stretch of the text comes as it stands there,
+    /// shorter ones and the values of escapes in pieces of up to 256 bytes, base64 in pieces of up to 48 bytes, and no
+    /// piece is empty.
     ///
     /// It answers `WriteError` with the closure's error, after which there is no further call, and `InvalidBase64` for
     /// a base64 body that is not valid, once the bytes before its first fault were handed out.
@@ -174,14 +175,13 @@ impl<'a> DataUrl<'a> {
         write_body_bytes: F,
     ) -> Result<Option<FragmentIdentifier<'a>>, DecodeError<E>>
     where
-        F: FnMut(&[u8]) -> Result<(), E> + Drop,
+        F: FnMut(&[u8]) -> Result<(), E>,
         requires { F.IsAlwaysCallable write_body_bytes }
         ensures { (after : F) × Decodes (CalledAt F.FnMut) write_body_bytes
             (length (url_tail self.now) + 1) (url_body self.now)
             (IsFragmentOf (url_tail self.now)) result after }
     {
-        let (answer, _) = self.decode_with(write_body_bytes);
-        answer
+        self.decode_with(write_body_bytes).0
     }
 
     /// The body's bytes and the fragment
