@@ -108,6 +108,40 @@ parses_x r items begins ends are = record {
   };
 }
 
+-- every mark of the token code points stands in a name
+token_marks : Parses (codes "x/x;!#$%&'*+-.^_`|~=v") (x_x ((codes "!#$%&'*+-.^_`|~", codes "v") ∷ []))
+unfolding on_literals
+token_marks = parses_x (codes ";!#$%&'*+-.^_`|~=v") ((codes "!#$%&'*+-.^_`|~", Some (codes "v")) ∷ []) refl refl (
+  codes ";!#$%&'*+-.^_`|~=v",
+  [],
+  refl,
+  parameter (codes "!#$%&'*+-.^_`|~") _ _ _ refl refl (plain_value (codes "v") _ refl refl refl),
+  refl,
+)
+
+-- U+007F and U+0100 stand in no value, U+0080 and U+00FF do
+edges_of_values : Parses (codes "x/x;a=" ++ (127 ∷ codes ";b=" ++ (128 ∷ codes ";c=" ++ (255 ∷ codes ";d=" ++ (256 ∷ []))))) (x_x ((codes "b", 128 ∷ []) ∷ (codes "c", 255 ∷ []) ∷ []))
+unfolding on_literals
+edges_of_values = parses_x (codes ";a=" ++ (127 ∷ codes ";b=" ++ (128 ∷ codes ";c=" ++ (255 ∷ codes ";d=" ++ (256 ∷ []))))) ((codes "a", Some (127 ∷ [])) ∷ (codes "b", Some (128 ∷ [])) ∷ (codes "c", Some (255 ∷ [])) ∷ (codes "d", Some (256 ∷ [])) ∷ []) refl refl (
+  codes ";a=" ++ (127 ∷ []),
+  codes ";b=" ++ (128 ∷ codes ";c=" ++ (255 ∷ codes ";d=" ++ (256 ∷ []))),
+  refl,
+  parameter (codes "a") _ _ _ refl refl (plain_value (127 ∷ []) _ refl refl refl),
+  (
+    codes ";b=" ++ (128 ∷ []),
+    codes ";c=" ++ (255 ∷ codes ";d=" ++ (256 ∷ [])),
+    refl,
+    parameter (codes "b") _ _ _ refl refl (plain_value (128 ∷ []) _ refl refl refl),
+    (
+      codes ";c=" ++ (255 ∷ []),
+      codes ";d=" ++ (256 ∷ []),
+      refl,
+      parameter (codes "c") _ _ _ refl refl (plain_value (255 ∷ []) _ refl refl refl),
+      (codes ";d=" ++ (256 ∷ []), [], refl, parameter (codes "d") _ _ _ refl refl (plain_value (256 ∷ []) _ refl refl refl), refl),
+    ),
+  ),
+)
+
 -- names are lower-cased before they are compared, and the first pair of a name is kept
 repeated_name : Parses (codes "x/x;a=1;A=2") (x_x ((codes "a", codes "1") ∷ []))
 unfolding on_literals

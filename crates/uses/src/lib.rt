@@ -2,6 +2,7 @@
 #![tactic(auto)]
 
 pub mod body;
+pub mod chunks;
 pub mod fetch;
 pub mod inliner;
 pub mod loader;

@@ -1,12 +1,15 @@
 //! Worked examples of the callers.
 
 use crate::body::{append_body, body_len};
+use crate::chunks::feed_chunks;
 use crate::fetch::{FetchError, Reason, content_length, fetch};
 use crate::inliner::{Part, inline};
 use crate::loader::{LoadError, load};
 use crate::negotiation::best;
 use data_url::DataUrl;
+use data_url::forgiving_base64::Decoder;
 use data_url::mime::Mime;
+use std::alloc::AllocError;
 use std::io::{self, Write};
 use std::test::Fail;
 
@@ -44,6 +47,33 @@ fn bodies_are_counted(rt: HostRuntime) -> Result<(), Fail> {
     }
     let url = DataUrl::process(rt.alloc(), "data:;base64,QUJD!")?;
     assert!(rt; body_len(&url).is_err());
+    Ok(())
+}
+
+#[test]
+fn chunks_are_fed_up_to_a_fault(rt: HostRuntime) -> Result<(), Fail> {
+    for (chunks, is_sound, decoded) in [
+        (["QU", "JD", "QUI"], true, "ABC"),
+        (["QUJD", "Q!", "QUJD"], false, "ABC"),
+        (["QUJD=", "QUJD", "QUJD"], false, "ABC"),
+        (["", "", ""], true, ""),
+    ] {
+        let [first, second, third] = chunks;
+        let mut bytes = Vec::new(rt.alloc());
+        let mut decoder = Decoder::new(|piece: &[u8]| -> Result<(), AllocError> {
+            bytes.extend_from_slice(piece)
+        });
+        let fed = feed_chunks(
+            &mut decoder,
+            &[first.as_bytes(), second.as_bytes(), third.as_bytes()],
+        );
+        assert!(rt;
+            fed == is_sound && decoder.has_failed() != is_sound,
+            "{first}"
+        );
+        let _closure = decoder.into_closure();
+        assert_eq!(rt; bytes.as_slice(), decoded.as_bytes(), "{first}");
+    }
     Ok(())
 }
 
