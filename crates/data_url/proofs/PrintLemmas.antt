@@ -1,7 +1,9 @@
 -- What is written is the printed text.
-use Rattle.std.proofs.Common.{◌≡◌, ℕ, ◌+◌, ◌<◌, ◌≤◌, Bool, true, false, List, [], ◌∷◌, ◌++◌, length, get_or, drop, String, string_bytes, map, encode_utf8, encode_utf8_all, sym, ap, ap₂, ◌∙◌, append_assoc, append-nil, drop-cons, drop_of_length-le, add-one}
+use Rattle.std.proofs.Common.{◌≡◌, ℕ, ◌+◌, ◌<◌, ◌≤◌, Bool, true, false, List, [], ◌∷◌, ◌++◌, length, get_or, drop, String, string_bytes, map, encode_utf8, encode_utf8_all, sym, ap, ap₂, ◌∙◌, subst, append_assoc, append-nil, drop-cons, drop_of_length-le, add-one}
 use Rattle.std.proofs.lemmas.Bool.{cond-false, cond-true}
 use Rattle.std.proofs.lemmas.Str.{IsUtf8-string_bytes, chars_past_char, encodes-append, encodes-chars}
+use Rattle.std.specs.declared.fmt.Formatter.{Formatter}
+use Rattle.std.specs.Fmt.{HasWritten, HasWrittenStyled, IsDefaultSpec, IsPlainFormatter}
 use Rattle.std.specs.List.{flat_map}
 use Rattle.std.specs.Str.{IsUtf8, chars}
 use Rattle.data_url.specs.Mime.{escaped, is_token_text, printed, printed_pair, printed_value}
@@ -73,3 +75,7 @@ record_starts_by m a b e f = ap₂ (λ x y. ((x ++ encode_utf8 47) ++ y) ++ pair
 
 pub pair_by : {A B : Type 0} (item : String A × String B) (a b : List ℕ) → a ≡ string_bytes item.0 → b ≡ string_bytes item.1 → encode_utf8_all (printed_pair (chars a, chars b)) ≡ encode_utf8_all (printed_pair (pair_of item))
 pair_by item a b e f = ap₂ (λ x y. encode_utf8_all (printed_pair (chars x, chars y))) e f
+
+-- what is written under any options is written under none
+pub written_plain : {W : Type 0} {took : W → List ℕ → W → Type 0} {f g : Formatter W} {bs : List ℕ} → IsPlainFormatter f → HasWrittenStyled took f bs g → HasWritten took f bs g
+written_plain {f = f} plain h = record { wrote = h.wrote; plain = record { bare = subst IsDefaultSpec (sym h.spec) plain.bare; flush = h.flush } }

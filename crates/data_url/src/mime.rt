@@ -63,6 +63,8 @@ impl fmt::Display for Mime {
 
     ghost output = { λ mime. Some (encode_utf8_all (printed (seen mime))) };
 
+    ghost styled_output = { λ mime spec. Some (encode_utf8_all (printed (seen mime))) };
+
     fn fmt<W: fmt::Write>(&self, f: &mut fmt::Formatter<W>) -> fmt::Result {
         f.write_str(&self.type_)?;
         f.write_char('/')?;

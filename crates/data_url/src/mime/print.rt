@@ -1,6 +1,6 @@
 //! Writes a MIME type (MIME Sniffing Standard, section 4.5).
 
-ghost use Rattle.std.specs.Fmt.{WritesOnOk};
+ghost use Rattle.std.specs.Fmt.{WritesStyledOnOk};
 ghost use Rattle.std.specs.List.{flat_map};
 ghost use Rattle.std.specs.Str.{chars, encode_utf8_all};
 ghost use Rattle.data_url.specs.Mime.{escaped, printed_pair, printed_value};
@@ -14,7 +14,7 @@ pub(super) fn write_parameter<W: fmt::Write>(
     name: &str,
     value: &str,
 ) -> fmt::Result
-    ensures { WritesOnOk W.write_str_gives f.old result
+    ensures { WritesStyledOnOk W.write_str_gives f.old result
         (encode_utf8_all (printed_pair (chars name.now, chars value.now))) f.new }
 {
     f.write_char(';')?;
@@ -25,7 +25,7 @@ pub(super) fn write_parameter<W: fmt::Write>(
 
 /// Writes a value: a nonempty text of token code points as it is, any other in quotes.
 fn write_value<W: fmt::Write>(f: &mut fmt::Formatter<W>, value: &str) -> fmt::Result
-    ensures { WritesOnOk W.write_str_gives f.old result
+    ensures { WritesStyledOnOk W.write_str_gives f.old result
         (encode_utf8_all (printed_value (chars value.now))) f.new }
 {
     if is_token_text(value) {
@@ -38,7 +38,7 @@ fn write_value<W: fmt::Write>(f: &mut fmt::Formatter<W>, value: &str) -> fmt::Re
 
 /// Writes a text with a `\` before each `"` and each `\`.
 fn write_escaped<W: fmt::Write>(f: &mut fmt::Formatter<W>, text: &str) -> fmt::Result
-    ensures { WritesOnOk W.write_str_gives f.old result
+    ensures { WritesStyledOnOk W.write_str_gives f.old result
         (encode_utf8_all (flat_map escaped (chars text.now))) f.new }
 {
     for c in text.chars() {
@@ -47,11 +47,13 @@ fn write_escaped<W: fmt::Write>(f: &mut fmt::Formatter<W>, text: &str) -> fmt::R
     Ok(())
 }
 
+/// Writes a code point, with a `\` before a `"` or a `\`.
 fn write_escaped_char<W: fmt::Write>(f: &mut fmt::Formatter<W>, c: char) -> fmt::Result
-    ensures { WritesOnOk W.write_str_gives f.old result (encode_utf8_all (escaped c)) f.new }
+    ensures { WritesStyledOnOk W.write_str_gives f.old result (encode_utf8_all (escaped c)) f.new }
 {
-    if c == '"' || c == '\\' {
-        f.write_char('\\')?;
+    match c {
+        '"' => f.write_str("\\\""),
+        '\\' => f.write_str("\\\\"),
+        _ => f.write_char(c),
     }
-    f.write_char(c)
 }
