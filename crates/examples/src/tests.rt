@@ -1,29 +1,34 @@
-//! Worked examples, through the public calls of the library.
+//! Worked examples, through the public calls of the library: tables of texts and answers, over few helpers, since each
+//! function is proved before it runs.
 
 mod base64;
 mod base64_blocks;
 mod mime;
 mod pieces;
+mod recorder;
+mod sizes;
 mod urls;
+mod writers;
 
 use std::alloc::{AllocError, Global};
 use std::fmt;
 use std::process::Abort;
-use std::test::Fail;
 
-/// The record that is used where the header has none.
-const DEFAULT: &str = "text/plain;charset=US-ASCII";
+/// Asserts that bytes are these.
+fn assert_same(rt: &impl Abort, about: &str, found: &[u8], wanted: &[u8]) {
+    assert!(rt; found == wanted, "{about}");
+}
 
 /// Asserts that a value is printed so.
 fn assert_printed<D: fmt::Display>(
     rt: &impl Abort,
     alloc: Global,
-    value: &D,
-    text: &str,
     about: &str,
-) -> Result<(), Fail> {
+    value: &D,
+    wanted: &str,
+) -> Result<(), AllocError> {
     let printed = format!(in alloc; "{value}")?;
-    assert!(rt; printed.as_str() == text, "{about}: {printed}");
+    assert_same(rt, about, printed.as_bytes(), wanted.as_bytes());
     Ok(())
 }
 

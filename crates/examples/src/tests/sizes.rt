@@ -1,0 +1,115 @@
+//! Large inputs, which nothing refuses by their size.
+
+use super::base64::assert_whole;
+use super::mime::{assert_mime, assert_read_again};
+use super::urls::{DEFAULT, assert_url};
+use super::{assert_printed, repeated};
+use data_url::mime::Mime;
+use std::alloc::{AllocError, Global};
+use std::process::Abort;
+use std::test::Fail;
+
+/// Many bytes: the 20th power of two.
+const MANY: usize = 1_048_576;
+
+/// A text with so many times its middle.
+fn with_run(alloc: Global, parts: [&str; 3], count: usize) -> Result<String, AllocError> {
+    let [front, part, behind] = parts;
+    let run = repeated(alloc, part, count)?;
+    format!(in alloc; "{front}{run}{behind}")
+}
+
+#[test]
+fn parts_of_urls(rt: HostRuntime) -> Result<(), Fail> {
+    for power in 0..=20_u32 {
+        let size = 1_usize << power;
+        let record = with_run(rt.alloc(), ["a/b;c=", "d", ""], size)?;
+        let body = repeated(rt.alloc(), "e", size)?;
+        let answer = with_run(rt.alloc(), ["#", "f", ""], size)?;
+        let text = format!(in rt.alloc(); "data:{record},{body}{answer}")?;
+        let row = [
+            text.as_str(),
+            record.as_str(),
+            body.as_str(),
+            answer.as_str(),
+        ];
+        assert_url(&rt, rt.alloc(), row)?;
+        assert_mime(&rt, rt.alloc(), "long", record.as_str(), record.as_str())?;
+    }
+    Ok(())
+}
+
+#[test]
+fn base64(rt: HostRuntime) -> Result<(), Fail> {
+    for power in 0..=18_u32 {
+        let size = 1_usize << power;
+        let symbols = repeated(rt.alloc(), "QUJD", size)?;
+        let body = repeated(rt.alloc(), "ABC", size)?;
+        let text = format!(in rt.alloc(); "data:;base64,{symbols}")?;
+        let row = [text.as_str(), DEFAULT, body.as_str(), ""];
+        assert_url(&rt, rt.alloc(), row)?;
+        assert_whole(
+            &rt,
+            rt.alloc(),
+            "long",
+            symbols.as_bytes(),
+            body.as_bytes(),
+            "",
+        )?;
+    }
+    Ok(())
+}
+
+/// Asserts the body of a text with a run in it.
+fn assert_run(
+    rt: &impl Abort,
+    alloc: Global,
+    count: usize,
+    text: [&str; 3],
+    body: [&str; 3],
+) -> Result<(), Fail> {
+    let text = with_run(alloc, text, count)?;
+    let body = with_run(alloc, body, count)?;
+    assert_url(rt, alloc, [text.as_str(), DEFAULT, body.as_str(), ""])
+}
+
+#[test]
+fn runs_in_urls(rt: HostRuntime) -> Result<(), Fail> {
+    let alloc = rt.alloc();
+    let tabs = with_run(alloc, ["%", "\t", ""], 1000)?;
+    let texts = ["data:,x", tabs.as_str(), "y"];
+    assert_run(&rt, alloc, 10_000, ["data:,", "%", ""], ["", "%", ""])?;
+    assert_run(&rt, alloc, 10_000, ["d", "\t", "ata:,x"], ["x", "", ""])?;
+    assert_run(&rt, alloc, 1000, texts, ["x", "%", "y"])
+}
+
+#[test]
+fn runs_in_mime_types(rt: HostRuntime) -> Result<(), Fail> {
+    for (text, count, printed) in [
+        (["x/x;a=\"", "\\", ""], 10_001, ["x/x;a=\"", "\\", "\\\""]),
+        (["x/x", ";", ""], 10_000, ["x/x", "", ""]),
+    ] {
+        let text = with_run(rt.alloc(), text, count)?;
+        let printed = with_run(rt.alloc(), printed, count)?;
+        assert_mime(&rt, rt.alloc(), "long", text.as_str(), printed.as_str())?;
+    }
+    Ok(())
+}
+
+#[test]
+fn a_record_of_a_long_type(rt: HostRuntime) -> Result<(), Fail> {
+    let type_ = repeated(rt.alloc(), "d", MANY)?;
+    let mime = Mime::new(rt.alloc(), type_.as_str(), "b")?;
+    let printed = format!(in rt.alloc(); "{type_}/b")?;
+    assert_printed(&rt, rt.alloc(), "long", &mime, printed.as_str())?;
+    assert_read_again(&rt, rt.alloc(), "long", &mime)
+}
+
+#[test]
+fn a_thousand_parameters(rt: HostRuntime) -> Result<(), Fail> {
+    let mut text = String::from_str(rt.alloc(), "x/x")?;
+    for number in 1..=1000_u32 {
+        write!(text, ";p{number}=v")?;
+    }
+    assert_mime(&rt, rt.alloc(), "long", text.as_str(), text.as_str())
+}
