@@ -40,3 +40,10 @@ fn repeated(alloc: Global, text: &str, count: usize) -> Result<String, AllocErro
     }
     Ok(all)
 }
+
+/// A text with so many times its middle.
+fn with_run(alloc: Global, parts: [&str; 3], count: usize) -> Result<String, AllocError> {
+    let [front, part, behind] = parts;
+    let run = repeated(alloc, part, count)?;
+    format!(in alloc; "{front}{run}{behind}")
+}

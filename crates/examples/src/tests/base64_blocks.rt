@@ -1,8 +1,8 @@
 //! Forgiving base64 by blocks: where pieces are cut, and each byte at each place.
 
-use super::base64::{BEHIND_PADDING, EXCLAMATION, LONE, PADDING, assert_base64};
+use super::base64::{BEHIND_PADDING, EXCLAMATION, LONE, PADDING, assert_base64, assert_whole};
 use super::recorder::Source;
-use super::repeated;
+use super::{repeated, with_run};
 use std::alloc::{AllocError, Global};
 use std::process::Abort;
 use std::test::Fail;
@@ -103,30 +103,32 @@ fn each_cut_in_two(rt: HostRuntime) -> Result<(), Fail> {
     Ok(())
 }
 
-/// Groups before a text, that text, its own bytes, the answer, and the lengths of the pieces.
-const CUTS: [(usize, &str, &str, &str, &[usize]); 9] = [
+/// How many times `QUJD` stands before a text, that text, its own bytes, the line, and the lengths of the pieces.
+type Row<'a> = (usize, &'a str, &'a str, &'a str, &'a [usize]);
+
+/// Texts and their pieces: whole groups go out together, up to 48 bytes, and what is left over at the end by itself.
+const CUTS: [Row<'static>; 14] = [
     (17, "!", "", EXCLAMATION, &[48, 3]),
     (17, "", "", "", &[48, 3]),
     (16, "", "", "", &[48]),
     (4, "Q", "", LONE, &[12]),
     (4, "QQ", "A", "", &[12, 1]),
     (2, "", "", "", &[6]),
+    (1, "", "", "", &[3]),
     (0, "QUJ D", "ABC", "", &[3]),
     (0, "Q U J", "AB", "", &[2]),
+    (0, "QUI=", "AB", "", &[2]),
+    (0, "QQ", "A", "", &[1]),
+    (0, "QQ==", "A", "", &[1]),
+    (0, "", "", "", &[]),
     (0, "!", "", EXCLAMATION, &[]),
 ];
 
 /// Asserts the lengths of the pieces of each text of a table.
-fn assert_cuts(
-    rt: &impl Abort,
-    alloc: Global,
-    rows: &[(usize, &str, &str, &str, &[usize])],
-) -> Result<(), AllocError> {
+fn assert_cuts(rt: &impl Abort, alloc: Global, rows: &[Row]) -> Result<(), AllocError> {
     for (groups, behind, its_bytes, line, lengths) in rows {
-        let mut text = repeated(alloc, "QUJD", *groups)?;
-        text.push_str(behind)?;
-        let mut bytes = repeated(alloc, "ABC", *groups)?;
-        bytes.push_str(its_bytes)?;
+        let text = with_run(alloc, ["", "QUJD", behind], *groups)?;
+        let bytes = with_run(alloc, ["", "ABC", its_bytes], *groups)?;
         let source = Source::Base64(&[text.as_bytes()]);
         let record = source.assert_is(rt, alloc, behind, bytes.as_bytes(), line)?;
         assert!(rt; record.lengths.as_slice() == *lengths, "{behind}");
@@ -135,7 +137,22 @@ fn assert_cuts(
 }
 
 #[test]
-fn groups_go_out_together(rt: HostRuntime) -> Result<(), Fail> {
+fn pieces_of_texts(rt: HostRuntime) -> Result<(), Fail> {
     assert_cuts(&rt, rt.alloc(), &CUTS)?;
+    Ok(())
+}
+
+#[test]
+fn a_thousand_groups_with_spaces(rt: HostRuntime) -> Result<(), Fail> {
+    let text = repeated(rt.alloc(), "Q U J D", 1000)?;
+    let bytes = repeated(rt.alloc(), "ABC", 1000)?;
+    assert_whole(
+        &rt,
+        rt.alloc(),
+        "spaces",
+        text.as_bytes(),
+        bytes.as_bytes(),
+        "",
+    )?;
     Ok(())
 }

@@ -150,16 +150,22 @@ fn record_of(alloc: Global, texts: [&str; 4]) -> Result<Mime, AllocError> {
 }
 
 #[test]
-fn records_built_by_hand(rt: HostRuntime) -> Result<(), Fail> {
+fn a_record_that_no_text_gives(rt: HostRuntime) -> Result<(), Fail> {
     let odd = record_of(rt.alloc(), ["a b", "", "", "\u{e9}"])?;
-    assert_printed(&rt, rt.alloc(), "built by hand", &odd, "a b/;=\"\u{e9}\"")?;
+    assert_printed(&rt, rt.alloc(), "odd", &odd, "a b/;=\"\u{e9}\"")?;
+    Ok(())
+}
+
+#[test]
+fn records_built_by_hand(rt: HostRuntime) -> Result<(), Fail> {
     let html = record_of(rt.alloc(), ["text", "html", "one", "two"])?;
-    assert!(rt; html.matches("text", "html") && !html.matches("text", "plain") && html != odd);
+    assert!(rt; html.matches("text", "html") & !html.matches("text", "plain"));
     assert!(rt; html.get_parameter("one") == Some("two"));
     assert!(rt; html.get_parameter("two").is_none());
     let plain = Mime::new(rt.alloc(), "text", "plain")?;
     let copy = plain.clone()?;
-    assert!(rt; plain.matches("text", "plain") && copy.matches("text", "plain") && copy == plain);
+    assert!(rt; plain.matches("text", "plain") & copy.matches("text", "plain"));
+    assert!(rt; copy == plain && html != plain);
     Ok(())
 }
 

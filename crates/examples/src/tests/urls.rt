@@ -159,7 +159,7 @@ fn texts(rt: HostRuntime) -> Result<(), Fail> {
     assert_urls(&rt, rt.alloc(), &URLS)
 }
 
-/// The record, the body and the answer of a beginning of the whole text, by its length.
+/// The record, the body and the answer of a beginning of the whole text, by its length, which is less than that of all.
 fn of_beginning(len: usize) -> [&'static str; 3] {
     let record = "text/plain;charset=x";
     match len {
@@ -171,7 +171,6 @@ fn of_beginning(len: usize) -> [&'static str; 3] {
         30 => [record, "", "base64 not valid: incorrect padding"],
         32 => [record, "a", "#"],
         33 | 34 => [record, "a", "#x"],
-        35 => [record, "a", "#x%20y"],
         _ => [
             record,
             "",
@@ -188,7 +187,6 @@ fn beginnings(rt: HostRuntime) -> Result<(), Fail> {
         assert_url(&rt, rt.alloc(), [text.as_str(), record, body, answer])?;
         text.push(next)?;
     }
-    assert!(rt; text.len() == 35);
     Ok(())
 }
 

@@ -1,15 +1,17 @@
 //! Printing to a writer that fails, and under options.
 
 use super::assert_printed;
+use super::sizes::with_parameters;
 use data_url::DataUrlError;
-use data_url::forgiving_base64::{
-    DecodeError, DecodeToVecError, Decoder, InvalidBase64, decode_to_vec,
-};
-use data_url::mime::{Mime, MimeFromStrError, MimeParsingError};
+use data_url::forgiving_base64::{DecodeError, DecodeToVecError, decode_to_vec};
+use data_url::mime::{Mime, MimeFromStrError};
 use std::alloc::{AllocError, Global};
 use std::fmt::{self, Write};
 use std::process::Abort;
 use std::test::Fail;
+
+/// More writes than any of the values makes.
+const PLENTY: usize = 1_000_000;
 
 /// A writer that takes so many texts, and then fails.
 #[derive(Drop)]
@@ -27,7 +29,14 @@ impl Write for Room {
     }
 }
 
-/// Asserts how a value is printed, under `#` too, and that it fails where its writer does, at each of its writes.
+/// Whether a value is printed to a writer with room for so many texts, and how many more it would have taken.
+fn write_to<D: fmt::Display>(value: &D, left: usize) -> (bool, usize) {
+    let mut room = Room { left };
+    let is_written = write!(room, "{value}").is_ok();
+    (is_written, room.left)
+}
+
+/// Asserts how a value is printed, the same under options, and that printing fails where a write fails, whichever it is.
 fn assert_display<D: fmt::Display>(
     rt: &impl Abort,
     alloc: Global,
@@ -35,22 +44,25 @@ fn assert_display<D: fmt::Display>(
     wanted: &str,
 ) -> Result<(), AllocError> {
     assert_printed(rt, alloc, wanted, value, wanted)?;
-    let alternate = format!(in alloc; "{value:#}")?;
-    assert!(rt; alternate.as_str() == wanted, "{wanted}");
-    let wide = format!(in alloc; "{value:5}")?;
-    assert!(rt; wide.as_str() == wanted, "{wanted}");
-    let mut all = Room { left: 100_000 };
-    assert!(rt; write!(all, "{value}").is_ok(), "{wanted}");
-    for left in 0..100_000_usize.saturating_sub(all.left) {
-        let mut room = Room { left };
-        assert!(rt; write!(room, "{value}").is_err(), "{wanted}");
+    assert_printed(rt, alloc, wanted, &format_args!("{value:#}"), wanted)?;
+    assert_printed(rt, alloc, wanted, &format_args!("{value:>99.1}"), wanted)?;
+    let (is_written, left) = write_to(value, PLENTY);
+    assert!(rt; is_written & (left < PLENTY), "{wanted}");
+    for fewer in left..PLENTY {
+        let (is_written, _) = write_to(value, PLENTY - fewer - 1);
+        assert!(rt; !is_written, "{wanted}");
     }
     Ok(())
 }
 
 #[test]
 fn records(rt: HostRuntime) -> Result<(), Fail> {
-    for text in ["a/b", "a/b;c=d", "x/x;a=\"q\\\"r\";b=\"\";c=d;e=\"f g\""] {
+    let many = with_parameters(rt.alloc(), 100)?;
+    for text in [
+        "a/b",
+        "x/x;a=\"q\\\"r\\\\\";b=\"\";c=d;e=\"f g\"",
+        many.as_str(),
+    ] {
         let mime = Mime::from_str(rt.alloc(), text)?;
         assert_display(&rt, rt.alloc(), &mime, text)?;
     }
@@ -58,20 +70,67 @@ fn records(rt: HostRuntime) -> Result<(), Fail> {
 }
 
 #[test]
-fn errors_of_urls(rt: HostRuntime) -> Result<(), Fail> {
-    let no_comma = "data url is missing comma delimiting attributes and body";
-    let memory = "out of memory";
+fn errors_of_urls_and_closures(rt: HostRuntime) -> Result<(), Fail> {
+    let alloc = rt.alloc();
+    let comma = "data url is missing comma delimiting attributes and body";
     assert_display(
         &rt,
-        rt.alloc(),
+        alloc,
         &DataUrlError::NotADataUrl,
         "not a valid data url",
     )?;
-    assert_display(&rt, rt.alloc(), &DataUrlError::NoComma, no_comma)?;
-    assert_display(&rt, rt.alloc(), &DataUrlError::OutOfMemory, memory)?;
-    assert_display(&rt, rt.alloc(), &MimeFromStrError::OutOfMemory, memory)?;
-    assert_display(&rt, rt.alloc(), &DecodeToVecError::OutOfMemory, memory)?;
+    assert_display(&rt, alloc, &DataUrlError::NoComma, comma)?;
+    assert_display(&rt, alloc, &DataUrlError::OutOfMemory, "out of memory")?;
     let refused: DecodeError<usize> = DecodeError::WriteError(7);
-    assert_display(&rt, rt.alloc(), &refused, "write error: 7")?;
+    assert_display(&rt, alloc, &refused, "write error: 7")?;
+    assert_display(&rt, alloc, &DecodeToVecError::OutOfMemory, "out of memory")?;
+    Ok(())
+}
+
+/// Asserts how the fault of a text of base64 is printed, alone and in each error that holds it.
+fn assert_fault(rt: &impl Abort, alloc: Global, text: &str, line: &str) -> Result<(), AllocError> {
+    let behind = format!(in alloc; "base64 not valid: {line}")?;
+    match decode_to_vec(alloc, text.as_bytes()) {
+        Err(DecodeToVecError::InvalidBase64(fault)) => {
+            assert_display(rt, alloc, &fault, line)?;
+            let error: DecodeError<usize> = DecodeError::InvalidBase64(fault);
+            assert_display(rt, alloc, &error, behind.as_str())
+        }
+        _ => {
+            assert!(rt; false, "{text}");
+            Ok(())
+        }
+    }
+}
+
+#[test]
+fn faults_of_base64(rt: HostRuntime) -> Result<(), Fail> {
+    for (text, line) in [
+        ("!", "symbol with codepoint 33 not expected"),
+        ("=a", "alphabet symbol present after padding"),
+        ("a", "lone alphabet symbol present"),
+        ("=", "incorrect padding"),
+    ] {
+        assert_fault(&rt, rt.alloc(), text, line)?;
+        match decode_to_vec(rt.alloc(), text.as_bytes()) {
+            Ok(_bytes) => assert!(rt; false, "{text}"),
+            Err(error) => assert_display(&rt, rt.alloc(), &error, line)?,
+        }
+    }
+    Ok(())
+}
+
+#[test]
+fn errors_of_mime_types(rt: HostRuntime) -> Result<(), Fail> {
+    let alloc = rt.alloc();
+    assert_display(&rt, alloc, &MimeFromStrError::OutOfMemory, "out of memory")?;
+    match Mime::from_str(alloc, "text") {
+        Err(MimeFromStrError::Parsing(error)) => {
+            assert_display(&rt, alloc, &error, "invalid mime type")?;
+            let error = MimeFromStrError::Parsing(error);
+            assert_display(&rt, alloc, &error, "invalid mime type")?;
+        }
+        _ => assert!(rt; false),
+    }
     Ok(())
 }
