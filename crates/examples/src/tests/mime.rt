@@ -165,7 +165,7 @@ fn records_built_by_hand(rt: HostRuntime) -> Result<(), Fail> {
     let plain = Mime::new(rt.alloc(), "text", "plain")?;
     let copy = plain.clone()?;
     assert!(rt; plain.matches("text", "plain") & copy.matches("text", "plain"));
-    assert!(rt; copy == plain && html != plain);
+    assert!(rt; (copy == plain) & (html != plain));
     Ok(())
 }
 

@@ -21,43 +21,36 @@ pub fn with_parameters(alloc: Global, count: u32) -> Result<String, AllocError> 
     Ok(text)
 }
 
-#[test]
-fn parts_of_urls(rt: HostRuntime) -> Result<(), Fail> {
-    for power in 0..=20_u32 {
-        let size = 1_usize << power;
-        let record = with_run(rt.alloc(), ["a/b;c=", "d", ""], size)?;
-        let body = repeated(rt.alloc(), "e", size)?;
-        let answer = with_run(rt.alloc(), ["#", "f", ""], size)?;
-        let text = format!(in rt.alloc(); "data:{record},{body}{answer}")?;
-        let row = [
-            text.as_str(),
-            record.as_str(),
-            body.as_str(),
-            answer.as_str(),
-        ];
-        assert_url(&rt, rt.alloc(), row)?;
-        assert_mime(&rt, rt.alloc(), "long", record.as_str(), record.as_str())?;
-    }
-    Ok(())
+/// Asserts the parts of a text with so many bytes in each.
+fn assert_parts(rt: &impl Abort, alloc: Global, size: usize) -> Result<(), Fail> {
+    let record = with_run(alloc, ["a/b;c=", "d", ""], size)?;
+    let body = repeated(alloc, "e", size)?;
+    let answer = with_run(alloc, ["#", "f", ""], size)?;
+    let text = format!(in alloc; "data:{record},{body}{answer}")?;
+    let row = [
+        text.as_str(),
+        record.as_str(),
+        body.as_str(),
+        answer.as_str(),
+    ];
+    assert_url(rt, alloc, row)
+}
+
+/// Asserts the body of a text with so many groups of base64.
+fn assert_groups(rt: &impl Abort, alloc: Global, size: usize) -> Result<(), Fail> {
+    let symbols = repeated(alloc, "QUJD", size)?;
+    let body = repeated(alloc, "ABC", size)?;
+    assert_whole(rt, alloc, "long", symbols.as_bytes(), body.as_bytes(), "")?;
+    let text = format!(in alloc; "data:;base64,{symbols}")?;
+    assert_url(rt, alloc, [text.as_str(), DEFAULT, body.as_str(), ""])
 }
 
 #[test]
-fn base64(rt: HostRuntime) -> Result<(), Fail> {
-    for power in 0..=18_u32 {
+fn powers_of_two(rt: HostRuntime) -> Result<(), Fail> {
+    for power in 0..=20_u32 {
         let size = 1_usize << power;
-        let symbols = repeated(rt.alloc(), "QUJD", size)?;
-        let body = repeated(rt.alloc(), "ABC", size)?;
-        let text = format!(in rt.alloc(); "data:;base64,{symbols}")?;
-        let row = [text.as_str(), DEFAULT, body.as_str(), ""];
-        assert_url(&rt, rt.alloc(), row)?;
-        assert_whole(
-            &rt,
-            rt.alloc(),
-            "long",
-            symbols.as_bytes(),
-            body.as_bytes(),
-            "",
-        )?;
+        assert_parts(&rt, rt.alloc(), size)?;
+        assert_groups(&rt, rt.alloc(), size / 4)?;
     }
     Ok(())
 }
