@@ -1,5 +1,5 @@
-//! Worked examples, through the public calls of the library: tables of texts and answers, over few helpers, since each
-//! function is proved before it runs.
+//! Worked examples, through the public calls of the library: tables of texts and answers, over few
+//! helpers, since each function is proved before it runs.
 
 mod base64;
 mod base64_blocks;
@@ -32,18 +32,9 @@ fn assert_printed<D: fmt::Display>(
     Ok(())
 }
 
-/// So many times a text.
-fn repeated(alloc: Global, text: &str, count: usize) -> Result<String, AllocError> {
-    let mut all = String::new(alloc);
-    for _ in 0..count {
-        all.push_str(text)?;
-    }
-    Ok(all)
-}
-
 /// A text with so many times its middle.
 fn with_run(alloc: Global, parts: [&str; 3], count: usize) -> Result<String, AllocError> {
     let [front, part, behind] = parts;
-    let run = repeated(alloc, part, count)?;
+    let run = part.repeat(alloc, count)?;
     format!(in alloc; "{front}{run}{behind}")
 }

@@ -1,7 +1,7 @@
 //! Forgiving base64: whole texts, and texts in pieces.
 
+use super::assert_same;
 use super::recorder::Source;
-use super::{assert_same, repeated};
 use data_url::forgiving_base64::decode_to_vec;
 use std::alloc::{AllocError, Global};
 use std::process::Abort;
@@ -19,9 +19,9 @@ pub const BEHIND_PADDING: &str = "base64 not valid: alphabet symbol present afte
 /// The line of an exclamation mark.
 pub const EXCLAMATION: &str = "base64 not valid: symbol with codepoint 33 not expected";
 
-/// Texts, what they stand for up to their first fault, and its line, or nothing. The end of a text meets each number of
-/// pending symbols and of padding.
-const TEXTS: [[&str; 3]; 36] = [
+/// Texts, what they stand for up to their first fault, and its line, or nothing. The end of a text
+/// meets each number of pending symbols and of padding.
+const TEXTS: [[&str; 3]; 37] = [
     ["", "", ""],
     ["YR", "a", ""],
     ["Y Q = =", "a", ""],
@@ -57,6 +57,7 @@ const TEXTS: [[&str; 3]; 36] = [
     ["!", "", EXCLAMATION],
     ["QUJD!", "ABC", EXCLAMATION],
     ["QUJD!QUJD", "ABC", EXCLAMATION],
+    ["QUJDQ!", "ABC", EXCLAMATION],
     ["QUJDQUJDQUJDQUJDQUJD!", "ABCABCABCABCABC", EXCLAMATION],
 ];
 
@@ -118,7 +119,7 @@ fn texts(rt: HostRuntime) -> Result<(), Fail> {
 
 #[test]
 fn much_padding(rt: HostRuntime) -> Result<(), Fail> {
-    let padding = repeated(rt.alloc(), "=", 256)?;
+    let padding = "=".repeat(rt.alloc(), 256)?;
     let behind = format!(in rt.alloc(); "QQ=={padding}")?;
     assert_base64(&rt, rt.alloc(), "256 =", padding.as_bytes(), &[], PADDING)?;
     assert_base64(&rt, rt.alloc(), "258 =", behind.as_bytes(), &[], PADDING)?;

@@ -2,14 +2,16 @@
 
 use super::base64::{BEHIND_PADDING, EXCLAMATION, LONE, PADDING, assert_base64, assert_whole};
 use super::recorder::Source;
-use super::{repeated, with_run};
+use super::with_run;
 use std::alloc::{AllocError, Global};
 use std::process::Abort;
 use std::test::Fail;
 
 /// A text of 200 bytes with line breaks, other white space, and padding.
 const SPACED: &str =
-    "gtD7fGUOv8fwNfBb0jXxUJR4QQAAabVVloZaXZxmCu1VShIqmArIntn9oX98WHgCtzC1uwB5FXZP\r\nf7stg7NvlE3LaruSrjLnonWKTn9UGKzEesg61SHE/qaQQ0NV3vTH1lS6V6+o9jl8\nzSOwW/r \tXL+iuItEnuj+h\u{c}lrWB8gpj7ktsjs0sW5=              =";
+    "gtD7fGUOv8fwNfBb0jXxUJR4QQAAabVVloZaXZxmCu1VShIqmArIntn9oX98WHgCtzC1uwB5FXZP\r\n\
+     f7stg7NvlE3LaruSrjLnonWKTn9UGKzEesg61SHE/qaQQ0NV3vTH1lS6V6+o9jl8\n\
+     zSOwW/r \tXL+iuItEnuj+h\u{c}lrWB8gpj7ktsjs0sW5=              =";
 
 /// The six bits of a symbol.
 fn six_bits(byte: u8) -> Option<u8> {
@@ -23,8 +25,8 @@ fn six_bits(byte: u8) -> Option<u8> {
     }
 }
 
-/// The six bits of each symbol of a text up to its first fault, and the line of that, or nothing: by the steps of
-/// forgiving-base64 decode, a byte at a time.
+/// The six bits of each symbol of a text up to its first fault, and the line of that, or nothing:
+/// by the steps of forgiving-base64 decode, a byte at a time.
 fn read(alloc: Global, text: &[u8]) -> Result<(Vec<u8>, String), AllocError> {
     let mut values = Vec::new(alloc);
     let mut padding: usize = 0;
@@ -48,7 +50,8 @@ fn read(alloc: Global, text: &[u8]) -> Result<(Vec<u8>, String), AllocError> {
     Ok((values, String::from_str(alloc, line)?))
 }
 
-/// The bytes of groups of four symbols by their six bits, and of what is left over where the text is whole.
+/// The bytes of groups of four symbols by their six bits, and of what is left over where the text
+/// is whole.
 fn bytes_of(alloc: Global, values: &[u8], is_whole: bool) -> Result<Vec<u8>, AllocError> {
     let mut bytes = Vec::new(alloc);
     for group in values.chunks(4) {
@@ -72,7 +75,7 @@ fn bytes_of(alloc: Global, values: &[u8], is_whole: bool) -> Result<Vec<u8>, All
 #[test]
 fn each_byte_at_each_place(rt: HostRuntime) -> Result<(), Fail> {
     let alloc = rt.alloc();
-    let letters = repeated(alloc, "ABCDEFGHIJKLMNOPQRSTUVWXYZ", 5)?;
+    let letters = "ABCDEFGHIJKLMNOPQRSTUVWXYZ".repeat(alloc, 5)?;
     let (front, _) = letters.as_bytes().split_at(130.min(letters.len()));
     for choice in 0..130 * 256_usize {
         let mut text = Vec::new(alloc);
@@ -103,11 +106,13 @@ fn each_cut_in_two(rt: HostRuntime) -> Result<(), Fail> {
     Ok(())
 }
 
-/// How many times `QUJD` stands before a text, that text, its own bytes, the line, and the lengths of the pieces.
+/// How many times `QUJD` stands before a text, that text, its own bytes, the line, and the lengths
+/// of the pieces.
 type Row<'a> = (usize, &'a str, &'a str, &'a str, &'a [usize]);
 
-/// Texts and their pieces: whole groups go out together, up to 48 bytes, and what is left over at the end by itself.
-const CUTS: [Row<'static>; 14] = [
+/// Texts and their pieces: whole groups go out together, up to 48 bytes, and what is left over at
+/// the end by itself.
+const CUTS: [Row<'static>; 15] = [
     (17, "!", "", EXCLAMATION, &[48, 3]),
     (17, "", "", "", &[48, 3]),
     (16, "", "", "", &[48]),
@@ -116,6 +121,7 @@ const CUTS: [Row<'static>; 14] = [
     (2, "", "", "", &[6]),
     (1, "", "", "", &[3]),
     (0, "QUJ D", "ABC", "", &[3]),
+    (0, "Q UJDQUJDQUJDQUJD", "ABCABCABCABC", "", &[12]),
     (0, "Q U J", "AB", "", &[2]),
     (0, "QUI=", "AB", "", &[2]),
     (0, "QQ", "A", "", &[1]),
@@ -144,8 +150,8 @@ fn pieces_of_texts(rt: HostRuntime) -> Result<(), Fail> {
 
 #[test]
 fn a_thousand_groups_with_spaces(rt: HostRuntime) -> Result<(), Fail> {
-    let text = repeated(rt.alloc(), "Q U J D", 1000)?;
-    let bytes = repeated(rt.alloc(), "ABC", 1000)?;
+    let text = "Q U J D".repeat(rt.alloc(), 1000)?;
+    let bytes = "ABC".repeat(rt.alloc(), 1000)?;
     assert_whole(
         &rt,
         rt.alloc(),

@@ -77,7 +77,8 @@ pub fn assert_read_again(
     Ok(())
 }
 
-/// Asserts how a text's record is printed, and that it is read again so, or the line of a text without one.
+/// Asserts how a text's record is printed, and that it is read again so, or the line of a text
+/// without one.
 pub fn assert_mime(
     rt: &impl Abort,
     alloc: Global,

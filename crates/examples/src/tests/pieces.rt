@@ -1,14 +1,16 @@
-//! Bodies in pieces: stretches that end where they may, escapes, and texts around the edges of a block.
+//! Bodies in pieces: stretches that end where they may, escapes, and texts around the edges of a
+//! block.
 
+use super::assert_same;
 use super::recorder::Source;
-use super::{assert_same, repeated};
 use data_url::DataUrl;
 use data_url::escapes::{Piece, Pieces};
 use std::alloc::{AllocError, Global};
 use std::process::Abort;
 use std::test::Fail;
 
-/// A text, what its pieces join to, its fragment, and the length of each slice, with 0 for an escape.
+/// A text, what its pieces join to, its fragment, and the length of each slice, with 0 for an
+/// escape.
 type Row<'a> = (&'a str, &'a str, Option<&'a str>, &'a [usize]);
 
 /// Texts and their pieces.
@@ -28,7 +30,8 @@ const TEXTS: [Row<'static>; 13] = [
     ("a%4", "a%4", None, &[3]),
 ];
 
-/// What the pieces of a text join to, the length of each slice, with 0 for an escape, and the fragment.
+/// What the pieces of a text join to, the length of each slice, with 0 for an escape, and the
+/// fragment.
 #[derive(Drop)]
 struct Walked<'a> {
     bytes: Vec<u8>,
@@ -110,7 +113,8 @@ fn escape(bytes: &[u8]) -> Option<u8> {
     Some((high.wrapping_mul(16).wrapping_add(low) & 0xff) as u8)
 }
 
-/// The body by the rule alone: up to the first `#`, without tabs and newlines, and then percent-decoded, byte by byte.
+/// The body by the rule alone: up to the first `#`, without tabs and newlines, and then
+/// percent-decoded, byte by byte.
 fn body_of(alloc: Global, text: &str) -> Result<Vec<u8>, AllocError> {
     let bytes = clean(alloc, text)?;
     let mut body = Vec::new(alloc);
@@ -129,7 +133,8 @@ fn body_of(alloc: Global, text: &str) -> Result<Vec<u8>, AllocError> {
     Ok(body)
 }
 
-/// Asserts that the calls that decode give the body of a text behind a comma, and its pieces join to it.
+/// Asserts that the calls that decode give the body of a text behind a comma, and its pieces join
+/// to it.
 fn assert_body(rt: &impl Abort, alloc: Global, text: &str) -> Result<(), Fail> {
     let body = body_of(alloc, text)?;
     let found = walk(rt, alloc, text)?;
@@ -155,7 +160,7 @@ fn assert_at_place(
     specials: &[&str],
 ) -> Result<(), Fail> {
     for special in specials {
-        let mut text = repeated(alloc, "a", place)?;
+        let mut text = "a".repeat(alloc, place)?;
         text.push_str(special)?;
         text.push_str(BEHIND)?;
         assert_body(rt, alloc, text.as_str())?;

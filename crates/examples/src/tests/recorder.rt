@@ -51,7 +51,8 @@ impl Record {
         }
     }
 
-    /// Takes a piece, and refuses the call that is to be refused. The error is 0 where memory is wanting.
+    /// Takes a piece, and refuses the call that is to be refused. The error is 0 where memory is
+    /// wanting.
     fn take(&mut self, piece: &[u8]) -> Result<(), usize> {
         let kept = self.bytes.extend_from_slice(piece).is_ok();
         if !kept || self.lengths.push(piece.len()).is_err() {
@@ -116,7 +117,8 @@ fn record_body(
     Ok(record)
 }
 
-/// What a text of base64 is handed out as. The decoder tells that it has failed exactly behind an error.
+/// What a text of base64 is handed out as. The decoder tells that it has failed exactly behind an
+/// error.
 fn record_base64(
     rt: &impl Abort,
     alloc: Global,
@@ -180,7 +182,8 @@ impl<'a> Source<'a> {
         Ok(dropped)
     }
 
-    /// Asserts what is handed out, and that a refusal of each call, the first hundred of them, is answered and ends the calls.
+    /// Asserts what is handed out, and that a refusal of each call, the first hundred of them, is
+    /// answered and ends the calls; a refusal of the next call, which never comes, changes nothing.
     pub fn assert_is(
         &self,
         rt: &impl Abort,
@@ -191,6 +194,9 @@ impl<'a> Source<'a> {
     ) -> Result<Record, AllocError> {
         let whole = self.record_both(rt, alloc, about, 0)?;
         whole.assert_is(rt, about, bytes, answer);
+        let beyond = whole.lengths.len().saturating_add(1);
+        let never_refused = self.record_both(rt, alloc, about, beyond)?;
+        never_refused.assert_equals(rt, about, &whole);
         for refused in 1..=whole.lengths.len().min(REFUSALS) {
             let record = self.record_both(rt, alloc, about, refused)?;
             let line = format!(in alloc; "write error: {refused}")?;

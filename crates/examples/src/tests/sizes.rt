@@ -3,7 +3,7 @@
 use super::base64::assert_whole;
 use super::mime::{assert_mime, assert_read_again};
 use super::urls::{DEFAULT, assert_url};
-use super::{assert_printed, repeated, with_run};
+use super::{assert_printed, with_run};
 use data_url::mime::Mime;
 use std::alloc::{AllocError, Global};
 use std::process::Abort;
@@ -24,7 +24,7 @@ pub fn with_parameters(alloc: Global, count: u32) -> Result<String, AllocError> 
 /// Asserts the parts of a text with so many bytes in each.
 fn assert_parts(rt: &impl Abort, alloc: Global, size: usize) -> Result<(), Fail> {
     let record = with_run(alloc, ["a/b;c=", "d", ""], size)?;
-    let body = repeated(alloc, "e", size)?;
+    let body = "e".repeat(alloc, size)?;
     let answer = with_run(alloc, ["#", "f", ""], size)?;
     let text = format!(in alloc; "data:{record},{body}{answer}")?;
     let row = [
@@ -38,19 +38,25 @@ fn assert_parts(rt: &impl Abort, alloc: Global, size: usize) -> Result<(), Fail>
 
 /// Asserts the body of a text with so many groups of base64.
 fn assert_groups(rt: &impl Abort, alloc: Global, size: usize) -> Result<(), Fail> {
-    let symbols = repeated(alloc, "QUJD", size)?;
-    let body = repeated(alloc, "ABC", size)?;
+    let symbols = "QUJD".repeat(alloc, size)?;
+    let body = "ABC".repeat(alloc, size)?;
     assert_whole(rt, alloc, "long", symbols.as_bytes(), body.as_bytes(), "")?;
     let text = format!(in alloc; "data:;base64,{symbols}")?;
     assert_url(rt, alloc, [text.as_str(), DEFAULT, body.as_str(), ""])
 }
 
 #[test]
-fn powers_of_two(rt: HostRuntime) -> Result<(), Fail> {
+fn long_parts(rt: HostRuntime) -> Result<(), Fail> {
     for power in 0..=20_u32 {
-        let size = 1_usize << power;
-        assert_parts(&rt, rt.alloc(), size)?;
-        assert_groups(&rt, rt.alloc(), size / 4)?;
+        assert_parts(&rt, rt.alloc(), 1 << power)?;
+    }
+    Ok(())
+}
+
+#[test]
+fn many_groups(rt: HostRuntime) -> Result<(), Fail> {
+    for power in 0..=18_u32 {
+        assert_groups(&rt, rt.alloc(), 1 << power)?;
     }
     Ok(())
 }
@@ -89,7 +95,7 @@ fn runs_in_mime_types(rt: HostRuntime) -> Result<(), Fail> {
 
 #[test]
 fn a_record_of_a_long_type(rt: HostRuntime) -> Result<(), Fail> {
-    let type_ = repeated(rt.alloc(), "d", MANY)?;
+    let type_ = "d".repeat(rt.alloc(), MANY)?;
     let mime = Mime::new(rt.alloc(), type_.as_str(), "b")?;
     let printed = format!(in rt.alloc(); "{type_}/b")?;
     assert_printed(&rt, rt.alloc(), "long", &mime, printed.as_str())?;

@@ -18,8 +18,8 @@ const NO_SCHEME: &str = "not a valid data url";
 /// The line of a text without a comma.
 const NO_COMMA: &str = "data url is missing comma delimiting attributes and body";
 
-/// Texts, their printed records, the bytes of their bodies up to the first fault, and the line of the error, or `#` and the
-/// fragment, or nothing.
+/// Texts, their printed records, the bytes of their bodies up to the first fault, and the line of
+/// the error, or `#` and the fragment, or nothing.
 const URLS: [[&str; 4]; 56] = [
     ["data:,Hello%20World!", DEFAULT, "Hello World!", ""],
     ["\0 DA\tTA:\n,x \u{1f}", DEFAULT, "x", ""],
@@ -159,7 +159,8 @@ fn texts(rt: HostRuntime) -> Result<(), Fail> {
     assert_urls(&rt, rt.alloc(), &URLS)
 }
 
-/// The record, the body and the answer of a beginning of the whole text, by its length, which is less than that of all.
+/// The record, the body and the answer of a beginning of the whole text, by its length, which is
+/// less than that of all.
 fn of_beginning(len: usize) -> [&'static str; 3] {
     let record = "text/plain;charset=x";
     match len {

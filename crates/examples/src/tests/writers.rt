@@ -13,30 +13,34 @@ use std::test::Fail;
 /// More writes than any of the values makes.
 const PLENTY: usize = 1_000_000;
 
-/// A writer that takes so many texts, and then fails.
+/// A writer that fails once, behind so many writes.
 #[derive(Drop)]
-struct Room {
+struct FailingWriter {
     left: usize,
 }
 
-impl Write for Room {
+impl Write for FailingWriter {
     fn write_str(&mut self, _text: &str) -> fmt::Result {
-        if self.left == 0 {
-            return Err(fmt::Error);
-        }
-        self.left -= 1;
-        Ok(())
+        let answer = if self.left == 0 {
+            Err(fmt::Error)
+        } else {
+            Ok(())
+        };
+        self.left = self.left.wrapping_sub(1);
+        answer
     }
 }
 
-/// Whether a value is printed to a writer with room for so many texts, and how many more it would have taken.
+/// Whether a value is printed to a writer that fails behind so many writes, and how many more there
+/// may have been.
 fn write_to<D: fmt::Display>(value: &D, left: usize) -> (bool, usize) {
-    let mut room = Room { left };
-    let is_written = write!(room, "{value}").is_ok();
-    (is_written, room.left)
+    let mut writer = FailingWriter { left };
+    let is_written = write!(writer, "{value}").is_ok();
+    (is_written, writer.left)
 }
 
-/// Asserts how a value is printed, the same under options, and that printing fails where a write fails, whichever it is.
+/// Asserts how a value is printed, the same under options, and that printing fails where a write
+/// fails, whichever it is.
 fn assert_display<D: fmt::Display>(
     rt: &impl Abort,
     alloc: Global,
