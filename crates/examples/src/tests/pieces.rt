@@ -9,77 +9,65 @@ use std::alloc::{AllocError, Global};
 use std::process::Abort;
 use std::test::Fail;
 
-/// A text, what its pieces join to, its fragment, and the length of each slice, with 0 for an
-/// escape.
-type Row<'a> = (&'a str, &'a str, Option<&'a str>, &'a [usize]);
-
-/// Texts and their pieces.
-const TEXTS: [Row<'static>; 13] = [
-    ("a%41b#c", "aAb", Some("c"), &[1, 0, 1]),
-    ("", "", None, &[]),
-    ("%\n4\r\t1%4\t", "A%4", None, &[0, 2]),
-    ("\t\n#", "", Some(""), &[]),
-    ("%zz%4", "%zz%4", None, &[5]),
-    ("%%341", "%41", None, &[1, 0, 1]),
-    ("%%41", "%A", None, &[1, 0]),
-    ("a\tb", "ab", None, &[1, 1]),
-    ("%4#1", "%4", Some("1"), &[2]),
-    ("%\t\t#", "%", Some(""), &[1]),
-    ("%41%42%43", "ABC", None, &[0, 0, 0]),
-    ("#%41", "", Some("%41"), &[]),
-    ("a%4", "a%4", None, &[3]),
+/// Texts, and their pieces, a slice in brackets and an escape by its number, and behind them `#`
+/// and
+/// the fragment.
+const TEXTS: [[&str; 2]; 13] = [
+    ["a%41b#c", "[a]65[b]#c"],
+    ["", ""],
+    ["%\n4\r\t1%4\t", "65[%4]"],
+    ["\t\n#", "#"],
+    ["%zz%4", "[%zz%4]"],
+    ["%%341", "[%]52[1]"],
+    ["%%41", "[%]65"],
+    ["a\tb", "[a][b]"],
+    ["%4#1", "[%4]#1"],
+    ["%\t\t#", "[%]#"],
+    ["%41%42%43", "656667"],
+    ["#%41", "#%41"],
+    ["a%4", "[a%4]"],
 ];
 
-/// What the pieces of a text join to, the length of each slice, with 0 for an escape, and the
-/// fragment.
-#[derive(Drop)]
-struct Walked<'a> {
-    bytes: Vec<u8>,
-    lengths: Vec<usize>,
-    fragment: Option<&'a str>,
-}
-
-impl<'a> Walked<'a> {
-    /// Adds the bytes of a piece.
-    fn add(&mut self, bytes: &[u8], length: usize) -> Result<(), AllocError> {
-        self.bytes.extend_from_slice(bytes)?;
-        self.lengths.push(length)?;
-        Ok(())
-    }
-}
-
-/// Walks through a text. No slice is empty, and nothing comes behind the end.
-fn walk<'a>(rt: &impl Abort, alloc: Global, text: &'a str) -> Result<Walked<'a>, AllocError> {
-    let mut walked = Walked {
-        bytes: Vec::new(alloc),
-        lengths: Vec::new(alloc),
-        fragment: None,
-    };
-    let mut pieces = Pieces::new(text);
-    for _ in 0..=text.len() {
-        match pieces.next() {
-            Some(Piece::Slice(slice)) => {
-                assert!(rt; !slice.is_empty());
-                walked.add(slice, slice.len())?;
-            }
-            Some(Piece::Byte(byte)) => walked.add(&[byte], 0)?,
-            None => {
-                assert!(rt; pieces.next().is_none());
-                walked.fragment = pieces.fragment();
-                break;
-            }
+/// Writes a piece: a slice in brackets, or the number of an escape.
+fn write_piece(alloc: Global, all: &mut Vec<u8>, piece: &Piece) -> Result<(), AllocError> {
+    match piece {
+        Piece::Slice(slice) => {
+            all.push(b'[')?;
+            all.extend_from_slice(slice)?;
+            all.push(b']')?;
+        }
+        Piece::Byte(byte) => {
+            let number = format!(in alloc; "{byte}")?;
+            all.extend_from_slice(number.as_bytes())?;
         }
     }
-    Ok(walked)
+    Ok(())
+}
+
+/// The pieces of a text, that nothing comes behind them, and its fragment.
+fn written(rt: &impl Abort, alloc: Global, text: &str) -> Result<Vec<u8>, AllocError> {
+    let mut all = Vec::new(alloc);
+    let mut pieces = Pieces::new(text);
+    for _ in 0..=text.len() {
+        if let Some(piece) = pieces.next() {
+            write_piece(alloc, &mut all, &piece)?;
+            continue;
+        }
+        assert!(rt; pieces.next().is_none(), "{text}");
+        if let Some(fragment) = pieces.fragment() {
+            all.push(b'#')?;
+            all.extend_from_slice(fragment.as_bytes())?;
+        }
+        break;
+    }
+    Ok(all)
 }
 
 /// Asserts the pieces of each text of a table.
-fn assert_pieces(rt: &impl Abort, alloc: Global, rows: &[Row]) -> Result<(), AllocError> {
-    for (text, bytes, fragment, lengths) in rows {
-        let found = walk(rt, alloc, text)?;
-        assert_same(rt, text, found.bytes.as_slice(), bytes.as_bytes());
-        assert!(rt; found.lengths.as_slice() == *lengths, "{text}");
-        assert!(rt; found.fragment == *fragment, "{text}");
+fn assert_pieces(rt: &impl Abort, alloc: Global, rows: &[[&str; 2]]) -> Result<(), AllocError> {
+    for [text, wanted] in rows {
+        let all = written(rt, alloc, text)?;
+        assert_same(rt, text, all.as_slice(), wanted.as_bytes());
     }
     Ok(())
 }
@@ -90,55 +78,78 @@ fn pieces_of_texts(rt: HostRuntime) -> Result<(), Fail> {
     Ok(())
 }
 
-/// The bytes of a text before its first `#`, without tabs and newlines.
-fn clean(alloc: Global, text: &str) -> Result<Vec<u8>, AllocError> {
-    let mut kept = Vec::new(alloc);
-    for byte in text.as_bytes() {
-        match *byte {
-            b'#' => break,
-            b'\t' | b'\n' | b'\r' => {}
-            byte => kept.push(byte)?,
-        }
-    }
-    Ok(kept)
-}
-
-/// The value of the escape that bytes begin with.
-fn escape(bytes: &[u8]) -> Option<u8> {
-    let [b'%', high, low, ..] = bytes else {
-        return None;
-    };
-    let high = char::from(*high).to_digit(16)?;
-    let low = char::from(*low).to_digit(16)?;
-    Some((high.wrapping_mul(16).wrapping_add(low) & 0xff) as u8)
+/// What was read of an escape.
+#[derive(Clone, Copy)]
+enum Read {
+    Nothing,
+    Percent,
+    High(u8, u32),
 }
 
 /// The body by the rule alone: up to the first `#`, without tabs and newlines, and then
 /// percent-decoded, byte by byte.
 fn body_of(alloc: Global, text: &str) -> Result<Vec<u8>, AllocError> {
-    let bytes = clean(alloc, text)?;
     let mut body = Vec::new(alloc);
-    let mut digits: usize = 0;
-    for (place, byte) in bytes.iter().enumerate() {
-        if digits > 0 {
-            digits -= 1;
+    let mut read = Read::Nothing;
+    for byte in text.as_bytes() {
+        if *byte == b'#' {
+            break;
+        }
+        if matches!(*byte, b'\t' | b'\n' | b'\r') {
             continue;
         }
-        let value = escape(&bytes[place..]);
-        if value.is_some() {
-            digits = 2;
+        match (read, char::from(*byte).to_digit(16)) {
+            (Read::Percent, Some(high)) => {
+                read = Read::High(*byte, high);
+                continue;
+            }
+            (Read::High(_, high), Some(low)) => {
+                body.extend_from_slice(&[(high.wrapping_mul(16).wrapping_add(low) & 0xff) as u8])?;
+                read = Read::Nothing;
+                continue;
+            }
+            (Read::Nothing, _) => {}
+            (Read::Percent, None) => body.extend_from_slice(b"%")?,
+            (Read::High(first, _), None) => body.extend_from_slice(&[b'%', first])?,
         }
-        body.push(value.unwrap_or(*byte))?;
+        read = Read::Nothing;
+        if *byte == b'%' {
+            read = Read::Percent;
+        } else {
+            body.extend_from_slice(&[*byte])?;
+        }
+    }
+    match read {
+        Read::Nothing => {}
+        Read::Percent => body.extend_from_slice(b"%")?,
+        Read::High(first, _) => body.extend_from_slice(&[b'%', first])?,
     }
     Ok(body)
+}
+
+/// What the pieces of a text join to. No slice is empty.
+fn joined(rt: &impl Abort, alloc: Global, text: &str) -> Result<Vec<u8>, AllocError> {
+    let mut all = Vec::new(alloc);
+    let mut pieces = Pieces::new(text);
+    for _ in 0..=text.len() {
+        match pieces.next() {
+            Some(Piece::Slice(slice)) => {
+                assert!(rt; !slice.is_empty());
+                all.extend_from_slice(slice)?;
+            }
+            Some(Piece::Byte(byte)) => all.push(byte)?,
+            None => break,
+        }
+    }
+    Ok(all)
 }
 
 /// Asserts that the calls that decode give the body of a text behind a comma, and its pieces join
 /// to it.
 fn assert_body(rt: &impl Abort, alloc: Global, text: &str) -> Result<(), Fail> {
     let body = body_of(alloc, text)?;
-    let found = walk(rt, alloc, text)?;
-    assert_same(rt, text, found.bytes.as_slice(), body.as_slice());
+    let of_pieces = joined(rt, alloc, text)?;
+    assert_same(rt, text, of_pieces.as_slice(), body.as_slice());
     let whole = format!(in alloc; "data:,{text}")?;
     let url = DataUrl::process(alloc, whole.as_str())?;
     let (bytes, _) = url.decode_to_vec(alloc)?;
