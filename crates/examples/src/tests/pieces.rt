@@ -9,8 +9,7 @@ use std::alloc::{AllocError, Global};
 use std::process::Abort;
 use std::test::Fail;
 
-/// Texts, and their pieces, a slice in brackets and an escape by its number, and behind them `#`
-/// and
+/// Texts, and their pieces: a slice in brackets, an escape by its number, and behind them `#` and
 /// the fragment.
 const TEXTS: [[&str; 2]; 13] = [
     ["a%41b#c", "[a]65[b]#c"],
