@@ -1,37 +1,40 @@
-//! Worked examples, through the public calls of the library.
+//! Worked examples, through the public calls of the library: tables of texts and answers, over few
+//! helpers, since each function is proved before it runs.
 
 mod base64;
 mod base64_blocks;
 mod mime;
 mod pieces;
+mod recorder;
+mod sizes;
 mod urls;
+mod writers;
 
 use std::alloc::{AllocError, Global};
 use std::fmt;
 use std::process::Abort;
-use std::test::Fail;
 
-/// The record that is used where the header has none.
-const DEFAULT: &str = "text/plain;charset=US-ASCII";
+/// Asserts that bytes are these.
+fn assert_same(rt: &impl Abort, about: &str, found: &[u8], wanted: &[u8]) {
+    assert!(rt; found == wanted, "{about}");
+}
 
 /// Asserts that a value is printed so.
 fn assert_printed<D: fmt::Display>(
     rt: &impl Abort,
     alloc: Global,
-    value: &D,
-    text: &str,
     about: &str,
-) -> Result<(), Fail> {
+    value: &D,
+    wanted: &str,
+) -> Result<(), AllocError> {
     let printed = format!(in alloc; "{value}")?;
-    assert!(rt; printed.as_str() == text, "{about}: {printed}");
+    assert_same(rt, about, printed.as_bytes(), wanted.as_bytes());
     Ok(())
 }
 
-/// So many times a text.
-fn repeated(alloc: Global, text: &str, count: usize) -> Result<String, AllocError> {
-    let mut all = String::new(alloc);
-    for _ in 0..count {
-        all.push_str(text)?;
-    }
-    Ok(all)
+/// A text with so many times its middle.
+fn with_run(alloc: Global, parts: [&str; 3], count: usize) -> Result<String, AllocError> {
+    let [front, part, behind] = parts;
+    let run = part.repeat(alloc, count)?;
+    format!(in alloc; "{front}{run}{behind}")
 }

@@ -1,172 +1,127 @@
-//! Forgiving base64: whole texts and texts in pieces.
+//! Forgiving base64: whole texts, and texts in pieces.
 
-use super::{assert_printed, repeated};
-use data_url::forgiving_base64::{DecodeError, Decoder, decode_to_vec};
+use super::assert_same;
+use super::recorder::Source;
+use data_url::forgiving_base64::decode_to_vec;
 use std::alloc::{AllocError, Global};
 use std::process::Abort;
 use std::test::Fail;
 
-/// Texts, what they stand for, and the line of their fault, or nothing.
-const TEXTS: [(&str, &str, &str); 16] = [
-    ("", "", ""),
-    ("YR", "a", ""),
-    ("Y Q = =", "a", ""),
-    ("YWJ=", "ab", ""),
-    ("QUJD", "ABC", ""),
-    ("Q\u{c}Q", "A", ""),
-    ("QQ==", "A", ""),
-    (" \t\n\u{c}\r", "", ""),
-    ("QUJDQUI", "ABCAB", ""),
-    ("ab=", "", "incorrect padding"),
-    ("=", "", "incorrect padding"),
-    ("QUJD=", "ABC", "incorrect padding"),
-    ("ab==c", "", "alphabet symbol present after padding"),
-    ("a", "", "lone alphabet symbol present"),
-    ("=!", "", "symbol with codepoint 33 not expected"),
-    ("QUJD!QUJD", "ABC", "symbol with codepoint 33 not expected"),
+/// The line of padding that does not fit.
+pub const PADDING: &str = "base64 not valid: incorrect padding";
+
+/// The line of a symbol that is left over.
+pub const LONE: &str = "base64 not valid: lone alphabet symbol present";
+
+/// The line of a symbol behind padding.
+pub const BEHIND_PADDING: &str = "base64 not valid: alphabet symbol present after padding";
+
+/// The line of an exclamation mark.
+pub const EXCLAMATION: &str = "base64 not valid: symbol with codepoint 33 not expected";
+
+/// Texts, what they stand for up to their first fault, and its line, or nothing. The end of a text
+/// meets each number of pending symbols and of padding.
+const TEXTS: [[&str; 3]; 37] = [
+    ["", "", ""],
+    ["YR", "a", ""],
+    ["Y Q = =", "a", ""],
+    ["YW J=", "ab", ""],
+    ["YWJ=", "ab", ""],
+    ["Q\u{c}Q", "A", ""],
+    [" \t\n\u{c}\r", "", ""],
+    ["QUJD", "ABC", ""],
+    ["QUJDQUI", "ABCAB", ""],
+    ["QUJDQUJD", "ABCABC", ""],
+    ["Q U J D", "ABC", ""],
+    ["QUI", "AB", ""],
+    ["QUI=", "AB", ""],
+    ["QQ", "A", ""],
+    ["QQ==", "A", ""],
+    ["=", "", PADDING],
+    ["==", "", PADDING],
+    ["===", "", PADDING],
+    ["QQ=", "", PADDING],
+    ["QQ===", "", PADDING],
+    ["QUI==", "", PADDING],
+    ["QUI===", "", PADDING],
+    ["QUJD=", "ABC", PADDING],
+    ["QUJD==", "ABC", PADDING],
+    ["QUJDQUI==", "ABC", PADDING],
+    ["ab=", "", PADDING],
+    ["a", "", LONE],
+    ["Q=", "", LONE],
+    ["Q==", "", LONE],
+    ["Q===", "", LONE],
+    ["ab==c", "", BEHIND_PADDING],
+    ["=!", "", EXCLAMATION],
+    ["!", "", EXCLAMATION],
+    ["QUJD!", "ABC", EXCLAMATION],
+    ["QUJD!QUJD", "ABC", EXCLAMATION],
+    ["QUJDQ!", "ABC", EXCLAMATION],
+    ["QUJDQUJDQUJDQUJDQUJD!", "ABCABCABCABCABC", EXCLAMATION],
 ];
 
-#[test]
-fn whole_texts(rt: HostRuntime) -> Result<(), Fail> {
-    for (text, bytes, line) in TEXTS {
-        match decode_to_vec(rt.alloc(), text.as_bytes()) {
-            Ok(decoded) => {
-                assert!(rt;
-                    decoded.as_slice() == bytes.as_bytes() && line.is_empty(),
-                    "{text}"
-                );
-            }
-            Err(error) => assert_printed(&rt, rt.alloc(), &error, line, text)?,
+/// Asserts what a whole text stands for up to its first fault, and the line of that.
+pub fn assert_whole(
+    rt: &impl Abort,
+    alloc: Global,
+    about: &str,
+    text: &[u8],
+    bytes: &[u8],
+    line: &str,
+) -> Result<(), AllocError> {
+    let told = match decode_to_vec(alloc, text) {
+        Ok(decoded) => {
+            assert_same(rt, about, decoded.as_slice(), bytes);
+            String::new(alloc)
         }
+        Err(error) => format!(in alloc; "base64 not valid: {error}")?,
+    };
+    assert_same(rt, about, told.as_bytes(), line.as_bytes());
+    Source::Base64(&[text]).assert_is(rt, alloc, about, bytes, line)?;
+    Ok(())
+}
+
+/// Asserts the same of a text that is fed byte by byte, and in two pieces.
+pub fn assert_base64(
+    rt: &impl Abort,
+    alloc: Global,
+    about: &str,
+    text: &[u8],
+    bytes: &[u8],
+    line: &str,
+) -> Result<(), AllocError> {
+    assert_whole(rt, alloc, about, text, bytes, line)?;
+    let single: Vec<&[u8]> = text.chunks(1).collect(alloc)?;
+    Source::Base64(single.as_slice()).assert_is(rt, alloc, about, bytes, line)?;
+    for at in 0..=text.len() {
+        let (front, behind) = text.split_at(at);
+        Source::Base64(&[front, behind]).assert_is(rt, alloc, about, bytes, line)?;
     }
-    let byte = [255u8];
-    match decode_to_vec(rt.alloc(), &byte) {
-        Ok(_bytes) => assert!(rt; false),
-        Err(error) => assert_printed(
-            &rt,
-            rt.alloc(),
-            &error,
-            "symbol with codepoint 255 not expected",
-            "FF",
-        )?,
-    }
-    let padding = repeated(rt.alloc(), "=", 258)?;
-    let text = format!(in rt.alloc(); "QQ{padding}")?;
-    match decode_to_vec(rt.alloc(), text.as_bytes()) {
-        Ok(_bytes) => assert!(rt; false),
-        Err(error) => assert_printed(&rt, rt.alloc(), &error, "incorrect padding", "many padding")?,
+    Ok(())
+}
+
+/// Asserts what each text of a table stands for.
+fn assert_texts(rt: &impl Abort, alloc: Global, rows: &[[&str; 3]]) -> Result<(), AllocError> {
+    for [text, bytes, line] in rows {
+        assert_base64(rt, alloc, text, text.as_bytes(), bytes.as_bytes(), line)?;
     }
     Ok(())
 }
 
 #[test]
-fn a_decoder_in_five_feeds(rt: HostRuntime) -> Result<(), Fail> {
-    let mut bytes = Vec::new(rt.alloc());
-    let mut decoder = Decoder::new(|piece: &[u8]| -> Result<(), AllocError> {
-        bytes.extend_from_slice(piece)
-    });
-    assert!(rt; decoder.feed("Y".as_bytes()).is_ok() && !decoder.has_failed());
-    assert!(rt; decoder.feed("W".as_bytes()).is_ok() && !decoder.has_failed());
-    assert!(rt; decoder.feed(" ".as_bytes()).is_ok() && !decoder.has_failed());
-    assert!(rt; decoder.feed("J".as_bytes()).is_ok() && !decoder.has_failed());
-    assert!(rt; decoder.feed("=".as_bytes()).is_ok() && !decoder.has_failed());
-    let ended = decoder.finish();
-    assert!(rt; ended.is_ok());
-    assert!(rt; bytes.as_slice() == "ab".as_bytes());
+fn texts(rt: HostRuntime) -> Result<(), Fail> {
+    assert_texts(&rt, rt.alloc(), &TEXTS)?;
+    let unexpected = "base64 not valid: symbol with codepoint 255 not expected";
+    assert_base64(&rt, rt.alloc(), "the byte 255", &[255], &[], unexpected)?;
     Ok(())
 }
 
 #[test]
-fn padding_in_two_feeds(rt: HostRuntime) -> Result<(), Fail> {
-    let mut bytes = Vec::new(rt.alloc());
-    let mut decoder = Decoder::new(|piece: &[u8]| -> Result<(), AllocError> {
-        bytes.extend_from_slice(piece)
-    });
-    assert!(rt; decoder.feed("QQ=".as_bytes()).is_ok() && !decoder.has_failed());
-    assert!(rt; decoder.feed("=".as_bytes()).is_ok() && !decoder.has_failed());
-    let ended = decoder.finish();
-    assert!(rt; ended.is_ok());
-    assert!(rt; bytes.as_slice() == "A".as_bytes());
-    Ok(())
-}
-
-#[test]
-fn no_call_before_a_refusal_at_the_end(rt: HostRuntime) -> Result<(), Fail> {
-    let mut calls: usize = 0;
-    let mut decoder = Decoder::new(|_piece: &[u8]| -> Result<(), usize> {
-        calls = calls.saturating_add(1);
-        Err(calls)
-    });
-    assert!(rt; decoder.feed("ab=".as_bytes()).is_ok() && !decoder.has_failed());
-    match decoder.finish() {
-        Err(DecodeError::InvalidBase64(error)) => {
-            assert_printed(&rt, rt.alloc(), &error, "incorrect padding", "ab=")?;
-        }
-        _ => assert!(rt; false),
-    }
-    assert!(rt; calls == 0);
-    Ok(())
-}
-
-#[test]
-fn a_decoder_tells_that_it_failed(rt: HostRuntime) -> Result<(), Fail> {
-    let mut calls: usize = 0;
-    let mut decoder = Decoder::new(|_piece: &[u8]| -> Result<(), usize> {
-        calls = calls.saturating_add(1);
-        Err(calls)
-    });
-    assert!(rt; !decoder.has_failed());
-    let ended = decoder.feed("QUJDQUJD".as_bytes());
-    assert!(rt; ended.is_err() && decoder.has_failed());
-    assert!(rt; calls == 1);
-    Ok(())
-}
-
-#[test]
-fn no_call_behind_a_refusal_of_the_last_bytes(rt: HostRuntime) -> Result<(), Fail> {
-    let mut calls: usize = 0;
-    let mut decoder = Decoder::new(|_piece: &[u8]| -> Result<(), usize> {
-        calls = calls.saturating_add(1);
-        Err(calls)
-    });
-    assert!(rt; decoder.feed("YWI".as_bytes()).is_ok() && !decoder.has_failed());
-    match decoder.finish() {
-        Err(DecodeError::WriteError(call)) => assert!(rt; call == 1),
-        _ => assert!(rt; false),
-    }
-    assert!(rt; calls == 1);
-    Ok(())
-}
-
-#[test]
-fn padding_that_does_not_fit(rt: HostRuntime) -> Result<(), Fail> {
-    let mut bytes = Vec::new(rt.alloc());
-    let mut decoder = Decoder::new(|piece: &[u8]| -> Result<(), AllocError> {
-        bytes.extend_from_slice(piece)
-    });
-    assert!(rt; decoder.feed("QUJD=".as_bytes()).is_ok() && !decoder.has_failed());
-    let (answer, _) = decoder.finish_with();
-    match answer {
-        Ok(()) => assert!(rt; false),
-        Err(error) => {
-            let told = "base64 not valid: incorrect padding";
-            assert_printed(&rt, rt.alloc(), &error, told, "QUJD=")?;
-        }
-    }
-    assert!(rt; bytes.as_slice() == "ABC".as_bytes());
-    Ok(())
-}
-
-#[test]
-fn a_closure_that_is_taken_back(rt: HostRuntime) -> Result<(), Fail> {
-    let mut calls: usize = 0;
-    let mut decoder = Decoder::new(|_piece: &[u8]| -> Result<(), usize> {
-        calls = calls.saturating_add(1);
-        Ok(())
-    });
-    let answer = decoder.feed("QUJDQ!".as_bytes());
-    assert!(rt; answer.is_err() && decoder.has_failed());
-    let _write = decoder.into_closure();
-    assert!(rt; calls == 1);
+fn much_padding(rt: HostRuntime) -> Result<(), Fail> {
+    let padding = "=".repeat(rt.alloc(), 256)?;
+    let behind = format!(in rt.alloc(); "QQ=={padding}")?;
+    assert_base64(&rt, rt.alloc(), "256 =", padding.as_bytes(), &[], PADDING)?;
+    assert_base64(&rt, rt.alloc(), "258 =", behind.as_bytes(), &[], PADDING)?;
     Ok(())
 }

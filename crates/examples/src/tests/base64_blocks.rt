@@ -1,116 +1,97 @@
 //! Forgiving base64 by blocks: where pieces are cut, and each byte at each place.
 
-use super::{assert_printed, repeated};
-use data_url::forgiving_base64::{DecodeError, Decoder, decode_to_vec};
+use super::base64::{BEHIND_PADDING, EXCLAMATION, LONE, PADDING, assert_base64, assert_whole};
+use super::recorder::Source;
+use super::with_run;
 use std::alloc::{AllocError, Global};
 use std::process::Abort;
 use std::test::Fail;
 
 /// A text of 200 bytes with line breaks, other white space, and padding.
 const SPACED: &str =
-    "gtD7fGUOv8fwNfBb0jXxUJR4QQAAabVVloZaXZxmCu1VShIqmArIntn9oX98WHgCtzC1uwB5FXZP\r\nf7stg7NvlE3LaruSrjLnonWKTn9UGKzEesg61SHE/qaQQ0NV3vTH1lS6V6+o9jl8\nzSOwW/r \tXL+iuItEnuj+h\u{c}lrWB8gpj7ktsjs0sW5=              =";
+    "gtD7fGUOv8fwNfBb0jXxUJR4QQAAabVVloZaXZxmCu1VShIqmArIntn9oX98WHgCtzC1uwB5FXZP\r\n\
+     f7stg7NvlE3LaruSrjLnonWKTn9UGKzEesg61SHE/qaQQ0NV3vTH1lS6V6+o9jl8\n\
+     zSOwW/r \tXL+iuItEnuj+h\u{c}lrWB8gpj7ktsjs0sW5=              =";
 
-/// What a text of base64 stands for up to its first fault, and the line of its fault, or nothing: a byte at a time, by
-/// the steps of forgiving-base64 decode.
-fn expected(alloc: Global, text: &[u8]) -> Result<(Vec<u8>, String), Fail> {
-    let mut bytes = Vec::new(alloc);
-    let mut number: u32 = 0;
-    let mut pending: u8 = 0;
-    let mut padding: u8 = 0;
-    for byte in text {
-        let value = match *byte {
-            b'A'..=b'Z' => *byte - b'A',
-            b'a'..=b'z' => *byte - b'a' + 26,
-            b'0'..=b'9' => *byte - b'0' + 52,
-            b'+' => 62,
-            b'/' => 63,
-            b'=' => {
-                if padding < 3 {
-                    padding += 1;
-                }
-                continue;
-            }
-            9 | 10 | 12 | 13 | 32 => continue,
-            _ => return Ok((
-                bytes,
-                format!(in alloc; "symbol with codepoint {byte} not expected")?,
-            )),
-        };
-        if padding > 0 {
-            return Ok((
-                bytes,
-                format!(in alloc; "alphabet symbol present after padding")?,
-            ));
-        }
-        number = number % 262_144 * 64 + u32::from(value);
-        if pending < 3 {
-            pending += 1;
-        } else {
-            pending = 0;
-            bytes.push((number / 65_536 % 256) as u8)?;
-            bytes.push((number / 256 % 256) as u8)?;
-            bytes.push((number % 256) as u8)?;
-        }
+/// The six bits of a symbol.
+fn six_bits(byte: u8) -> Option<u8> {
+    match byte {
+        b'A'..=b'Z' => Some(byte - b'A'),
+        b'a'..=b'z' => Some(byte - b'a' + 26),
+        b'0'..=b'9' => Some(byte - b'0' + 52),
+        b'+' => Some(62),
+        b'/' => Some(63),
+        _ => None,
     }
-    match (pending, padding) {
-        (0, 0) => {}
-        (2, 0 | 2) => bytes.push((number / 16 % 256) as u8)?,
-        (3, 0 | 1) => {
-            bytes.push((number / 1024 % 256) as u8)?;
-            bytes.push((number / 4 % 256) as u8)?;
-        }
-        (1, _) => return Ok((bytes, format!(in alloc; "lone alphabet symbol present")?)),
-        _ => return Ok((bytes, format!(in alloc; "incorrect padding")?)),
-    }
-    Ok((bytes, String::new(alloc)))
 }
 
-/// Asserts what comes of a text that is fed in two parts.
-fn assert_fed(
-    rt: &impl Abort,
-    alloc: Global,
-    first: &[u8],
-    second: &[u8],
-    wanted: &(Vec<u8>, String),
-) -> Result<(), Fail> {
-    let mut bytes = Vec::new(alloc);
-    let mut decoder = Decoder::new(|piece: &[u8]| -> Result<(), AllocError> {
-        bytes.extend_from_slice(piece)
-    });
-    let mut fed = decoder.feed(first);
-    if fed.is_ok() {
-        fed = decoder.feed(second);
-    }
-    if fed.is_ok() {
-        fed = decoder.finish();
-    }
-    match fed {
-        Ok(()) => assert!(rt; wanted.1.is_empty()),
-        Err(DecodeError::InvalidBase64(error)) => {
-            assert_printed(rt, alloc, &error, wanted.1.as_str(), wanted.1.as_str())?;
+/// The six bits of each symbol of a text up to its first fault, and the line of that, or nothing:
+/// by the steps of forgiving-base64 decode, a byte at a time.
+fn read(alloc: Global, text: &[u8]) -> Result<(Vec<u8>, String), AllocError> {
+    let mut values = Vec::new(alloc);
+    let mut padding: usize = 0;
+    for byte in text {
+        match six_bits(*byte) {
+            Some(value) if padding == 0 => values.push(value)?,
+            Some(_) => return Ok((values, String::from_str(alloc, BEHIND_PADDING)?)),
+            None if *byte == b'=' => padding = padding.saturating_add(1),
+            None if byte.is_ascii_whitespace() => {}
+            None => {
+                let line = "base64 not valid: symbol with codepoint";
+                return Ok((values, format!(in alloc; "{line} {byte} not expected")?));
+            }
         }
-        Err(DecodeError::WriteError(AllocError)) => return Err(Fail::from(AllocError)),
     }
-    assert!(rt; bytes.as_slice() == wanted.0.as_slice(), "{}", wanted.1);
-    Ok(())
+    let line = match (values.len() % 4, padding) {
+        (0, 0) | (2, 0 | 2) | (3, 0 | 1) => "",
+        (1, _) => LONE,
+        _ => PADDING,
+    };
+    Ok((values, String::from_str(alloc, line)?))
+}
+
+/// The bytes of groups of four symbols by their six bits, and of what is left over where the text
+/// is whole.
+fn bytes_of(alloc: Global, values: &[u8], is_whole: bool) -> Result<Vec<u8>, AllocError> {
+    let mut bytes = Vec::new(alloc);
+    for group in values.chunks(4) {
+        match group {
+            [a, b, c, d] => bytes.extend_from_slice(&[
+                *a << 2 | *b >> 4,
+                *b << 4 | *c >> 2,
+                *c << 6 | *d,
+            ])?,
+            [a, b, c] if is_whole => bytes.extend_from_slice(&[
+                *a << 2 | *b >> 4,
+                *b << 4 | *c >> 2,
+            ])?,
+            [a, b] if is_whole => bytes.extend_from_slice(&[*a << 2 | *b >> 4])?,
+            _ => {}
+        }
+    }
+    Ok(bytes)
 }
 
 #[test]
 fn each_byte_at_each_place(rt: HostRuntime) -> Result<(), Fail> {
-    for place in 0..130 {
-        for value in 0..256_u16 {
-            let value = value as u8;
-            let mut text = [b'A'; 130];
-            for (i, byte) in text.iter_mut().enumerate() {
-                *byte = if i == place {
-                    value
-                } else {
-                    b'A' + (i % 26) as u8
-                };
-            }
-            let wanted = expected(rt.alloc(), &text)?;
-            assert_fed(&rt, rt.alloc(), &text, &[], &wanted)?;
+    let alloc = rt.alloc();
+    let letters = "ABCDEFGHIJKLMNOPQRSTUVWXYZ".repeat(alloc, 5)?;
+    let (front, _) = letters.as_bytes().split_at(130.min(letters.len()));
+    for choice in 0..130 * 256_usize {
+        let mut text = Vec::new(alloc);
+        text.extend_from_slice(front)?;
+        if let Some(byte) = text.get_mut(choice / 256) {
+            *byte = (choice % 256) as u8;
         }
+        let (values, line) = read(alloc, text.as_slice())?;
+        let bytes = bytes_of(alloc, values.as_slice(), line.is_empty())?;
+        Source::Base64(&[text.as_slice()]).assert_is(
+            &rt,
+            alloc,
+            line.as_str(),
+            bytes.as_slice(),
+            line.as_str(),
+        )?;
     }
     Ok(())
 }
@@ -118,80 +99,66 @@ fn each_byte_at_each_place(rt: HostRuntime) -> Result<(), Fail> {
 #[test]
 fn each_cut_in_two(rt: HostRuntime) -> Result<(), Fail> {
     let text = SPACED.as_bytes();
-    let wanted = expected(rt.alloc(), text)?;
-    assert!(rt; text.len() == 200 && wanted.0.len() == 133 && wanted.1.is_empty());
-    for at in 0..text.len() {
-        assert_fed(&rt, rt.alloc(), &text[..at], &text[at..], &wanted)?;
-    }
-    assert_fed(&rt, rt.alloc(), text, &[], &wanted)
+    let (values, line) = read(rt.alloc(), text)?;
+    let bytes = bytes_of(rt.alloc(), values.as_slice(), line.is_empty())?;
+    assert!(rt; text.len() == 200 && bytes.len() == 133 && line.is_empty());
+    assert_base64(&rt, rt.alloc(), SPACED, text, bytes.as_slice(), "")?;
+    Ok(())
 }
 
-/// Asserts the lengths of the pieces of a text that is fed at once, and what it is refused with, or nothing.
-fn assert_cut(
-    rt: &impl Abort,
-    alloc: Global,
-    text: &str,
-    wanted: &[usize],
-    line: &str,
-) -> Result<(), Fail> {
-    let mut lengths = Vec::new(alloc);
-    let mut decoder = Decoder::new(|piece: &[u8]| -> Result<(), AllocError> {
-        lengths.push(piece.len())?;
-        Ok(())
-    });
-    match decoder.feed(text.as_bytes()) {
-        Err(DecodeError::InvalidBase64(error)) => assert_printed(rt, alloc, &error, line, text)?,
-        answer => assert!(rt; answer.is_ok() && line.is_empty(), "{text}"),
+/// How many times `QUJD` stands before a text, that text, its own bytes, the line, and the lengths
+/// of the pieces.
+type Row<'a> = (usize, &'a str, &'a str, &'a str, &'a [usize]);
+
+/// Texts and their pieces: whole groups go out together, up to 48 bytes, and what is left over at
+/// the end by itself.
+const CUTS: [Row<'static>; 15] = [
+    (17, "!", "", EXCLAMATION, &[48, 3]),
+    (17, "", "", "", &[48, 3]),
+    (16, "", "", "", &[48]),
+    (4, "Q", "", LONE, &[12]),
+    (4, "QQ", "A", "", &[12, 1]),
+    (2, "", "", "", &[6]),
+    (1, "", "", "", &[3]),
+    (0, "QUJ D", "ABC", "", &[3]),
+    (0, "Q UJDQUJDQUJDQUJD", "ABCABCABCABC", "", &[12]),
+    (0, "Q U J", "AB", "", &[2]),
+    (0, "QUI=", "AB", "", &[2]),
+    (0, "QQ", "A", "", &[1]),
+    (0, "QQ==", "A", "", &[1]),
+    (0, "", "", "", &[]),
+    (0, "!", "", EXCLAMATION, &[]),
+];
+
+/// Asserts the lengths of the pieces of each text of a table.
+fn assert_cuts(rt: &impl Abort, alloc: Global, rows: &[Row]) -> Result<(), AllocError> {
+    for (groups, behind, its_bytes, line, lengths) in rows {
+        let text = with_run(alloc, ["", "QUJD", behind], *groups)?;
+        let bytes = with_run(alloc, ["", "ABC", its_bytes], *groups)?;
+        let source = Source::Base64(&[text.as_bytes()]);
+        let record = source.assert_is(rt, alloc, behind, bytes.as_bytes(), line)?;
+        assert!(rt; record.lengths.as_slice() == *lengths, "{behind}");
     }
-    assert!(rt; lengths.as_slice() == wanted, "{text}");
     Ok(())
 }
 
 #[test]
-fn groups_go_out_together(rt: HostRuntime) -> Result<(), Fail> {
-    let unexpected = "symbol with codepoint 33 not expected";
-    let seventeen = repeated(rt.alloc(), "QUJD", 17)?;
-    let refused = format!(in rt.alloc(); "{seventeen}!")?;
-    assert_cut(&rt, rt.alloc(), refused.as_str(), &[48, 3], unexpected)?;
-    assert_cut(&rt, rt.alloc(), seventeen.as_str(), &[48, 3], "")?;
-    let sixteen = repeated(rt.alloc(), "QUJD", 16)?;
-    assert_cut(&rt, rt.alloc(), sixteen.as_str(), &[48], "")?;
-    assert_cut(&rt, rt.alloc(), "QUJDQUJDQUJDQUJDQ", &[12], "")?;
-    assert_cut(&rt, rt.alloc(), "QUJDQUJD", &[6], "")?;
-    assert_cut(&rt, rt.alloc(), "QUJ D", &[3], "")?;
-    assert_cut(&rt, rt.alloc(), "Q U J", &[], "")?;
-    assert_cut(&rt, rt.alloc(), "!", &[], unexpected)
-}
-
-#[test]
-fn a_refusal_of_what_is_handed_out_before_a_fault(rt: HostRuntime) -> Result<(), Fail> {
-    for (text, handed_out) in [
-        ("QUJD!", "ABC"),
-        ("QUJDQUJD", "ABCABC"),
-        ("QUJDQUJDQUJDQUJDQUJD!", "ABCABCABCABCABC"),
-    ] {
-        let mut bytes = Vec::new(rt.alloc());
-        let mut decoder = Decoder::new(|piece: &[u8]| -> Result<(), u8> {
-            let _kept = bytes.extend_from_slice(piece);
-            Err(7)
-        });
-        match decoder.feed(text.as_bytes()) {
-            Err(DecodeError::WriteError(error)) => assert!(rt; error == 7),
-            _ => assert!(rt; false, "{text}"),
-        }
-        assert!(rt; decoder.has_failed());
-        assert!(rt; bytes.as_slice() == handed_out.as_bytes(), "{text}");
-    }
+fn pieces_of_texts(rt: HostRuntime) -> Result<(), Fail> {
+    assert_cuts(&rt, rt.alloc(), &CUTS)?;
     Ok(())
 }
 
 #[test]
 fn a_thousand_groups_with_spaces(rt: HostRuntime) -> Result<(), Fail> {
-    let text = repeated(rt.alloc(), "Q U J D", 1000)?;
-    let wanted = repeated(rt.alloc(), "ABC", 1000)?;
-    match decode_to_vec(rt.alloc(), text.as_bytes()) {
-        Ok(bytes) => assert!(rt; bytes.as_slice() == wanted.as_bytes()),
-        Err(_error) => assert!(rt; false),
-    }
+    let text = "Q U J D".repeat(rt.alloc(), 1000)?;
+    let bytes = "ABC".repeat(rt.alloc(), 1000)?;
+    assert_whole(
+        &rt,
+        rt.alloc(),
+        "spaces",
+        text.as_bytes(),
+        bytes.as_bytes(),
+        "",
+    )?;
     Ok(())
 }

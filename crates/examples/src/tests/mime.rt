@@ -1,47 +1,139 @@
 //! MIME types: texts, records, and what is printed.
 
 use super::assert_printed;
-use data_url::DataUrl;
 use data_url::laws::{canonical, same_text};
 use data_url::mime::Mime;
 use std::alloc::{AllocError, Global};
+use std::process::Abort;
 use std::test::Fail;
 
-#[test]
-fn printed_records(rt: HostRuntime) -> Result<(), Fail> {
-    for (text, printed) in [
-        (
-            "TEXT/HTML;a=\"b;c\";d=;e=\"\"",
-            "text/html;a=\"b;c\";e=\"\"",
-        ),
-        ("x/x;a=1;A=2", "x/x;a=1"),
-        ("x/x;a=\"b\"\u{100}", "x/x;a=b"),
-        ("x/x;a=\"b;\u{100}\"", "x/x"),
-        ("x/x;a=\"\\", "x/x;a=\"\\\\\""),
-        (" a/b ; c=d ", "a/b;c=d"),
-        (
-            "x/x;a=\"q\\\"r\";b=\"\\a\";c=d\"e;f=\"g",
-            "x/x;a=\"q\\\"r\";b=a;c=\"d\\\"e\";f=g",
-        ),
-        ("x/x;=q;a=\"1;b=2", "x/x;a=\"1;b=2\""),
-        ("x/x;\u{e9}=\"a;b=c\";d=e", "x/x;d=e"),
-        ("x/x;a;b=;c==d", "x/x;c=\"=d\""),
-        ("x/x; a = b", "x/x"),
-        ("x/x;a=\u{100};a=2", "x/x;a=2"),
-    ] {
-        let mime = Mime::from_str(rt.alloc(), text)?;
-        assert_printed(&rt, rt.alloc(), &mime, printed, text)?;
+/// The line of a text that is no MIME type.
+const NO_TYPE: &str = "invalid mime type";
+
+/// Each mark that a token may have.
+const MARKS: &str = "!#$%&'*+-.^_`|~";
+
+/// Texts, and how their records are printed, or the line of a text without a record.
+const TEXTS: [[&str; 2]; 40] = [
+    [
+        "TEXT/HTML;a=\"b;c\";d=;e=\"\"",
+        "text/html;a=\"b;c\";e=\"\"",
+    ],
+    ["x/x;a=1;A=2", "x/x;a=1"],
+    ["x/x;a=\"b\"\u{100}", "x/x;a=b"],
+    ["x/x;a=\"b;\u{100}\"", "x/x"],
+    ["x/x;a=\"\\", "x/x;a=\"\\\\\""],
+    [" a/b ; c=d ", "a/b;c=d"],
+    [
+        "x/x;a=\"q\\\"r\";b=\"\\a\";c=d\"e;f=\"g",
+        "x/x;a=\"q\\\"r\";b=a;c=\"d\\\"e\";f=g",
+    ],
+    ["x/x;=q;a=\"1;b=2", "x/x;a=\"1;b=2\""],
+    ["x/x;\u{e9}=\"a;b=c\";d=e", "x/x;d=e"],
+    ["x/x;a;b=;c==d", "x/x;c=\"=d\""],
+    ["x/x; a = b", "x/x"],
+    ["x/x;a=\u{100};a=2", "x/x;a=2"],
+    ["a/b;c=\"?x%20\"", "a/b;c=\"?x%20\""],
+    ["a/b;c=\" ?x\"", "a/b;c=\" ?x\""],
+    ["a/b;c=\"?%3C%22?%3E\"", "a/b;c=\"?%3C%22?%3E\""],
+    ["a/b;c=\"d e\"", "a/b;c=\"d e\""],
+    ["x/x;a=1;b=2", "x/x;a=1;b=2"],
+    ["x/x;b=2;a=1", "x/x;b=2;a=1"],
+    ["x/x;a=\u{7f};b=c", "x/x;b=c"],
+    ["x/x;a=\"\u{7f}\";b=c", "x/x;b=c"],
+    ["x/x;a=\u{80}", "x/x;a=\"\u{80}\""],
+    ["x/x;a=\u{ff}", "x/x;a=\"\u{ff}\""],
+    ["x/x;a=\u{100}", "x/x"],
+    ["x/x;a=\"\t \u{1f}\"", "x/x"],
+    ["x/x;a=\"\t ~\"", "x/x;a=\"\t ~\""],
+    ["x/x;a\u{7f}=b", "x/x"],
+    ["x/x;a\u{80}=b", "x/x"],
+    ["x/x;a=v\tv", "x/x;a=\"v\tv\""],
+    ["x/x;a=v ;b=c", "x/x;a=v;b=c"],
+    ["\t\r\nx/x\n", "x/x"],
+    ["\u{c}x/x", NO_TYPE],
+    ["x/x\u{c}", NO_TYPE],
+    ["", NO_TYPE],
+    ["a", NO_TYPE],
+    ["a/", NO_TYPE],
+    ["/b", NO_TYPE],
+    ["a/b c", NO_TYPE],
+    ["a/b/c", NO_TYPE],
+    ["\u{e9}/b", NO_TYPE],
+    ["a/\u{7f}", NO_TYPE],
+];
+
+/// Asserts that a record's printed text is read as that record.
+pub fn assert_read_again(
+    rt: &impl Abort,
+    alloc: Global,
+    about: &str,
+    mime: &Mime,
+) -> Result<(), Fail> {
+    let printed = format!(in alloc; "{mime}")?;
+    let again = Mime::from_str(alloc, printed.as_str())?;
+    let copy = mime.clone()?;
+    assert!(rt; again == *mime && copy == *mime, "{about}");
+    Ok(())
+}
+
+/// Asserts how a text's record is printed, and that it is read again so, or the line of a text
+/// without one.
+pub fn assert_mime(
+    rt: &impl Abort,
+    alloc: Global,
+    about: &str,
+    text: &str,
+    wanted: &str,
+) -> Result<(), Fail> {
+    match Mime::from_str(alloc, text) {
+        Ok(mime) => {
+            assert_printed(rt, alloc, about, &mime, wanted)?;
+            assert_read_again(rt, alloc, about, &mime)
+        }
+        Err(error) => {
+            assert_printed(rt, alloc, about, &error, wanted)?;
+            Ok(())
+        }
+    }
+}
+
+/// Asserts how the record of each text of a table is printed.
+fn assert_mimes(rt: &impl Abort, alloc: Global, rows: &[[&str; 2]]) -> Result<(), Fail> {
+    for [text, wanted] in rows {
+        assert_mime(rt, alloc, text, text, wanted)?;
     }
     Ok(())
 }
 
 #[test]
-fn texts_without_a_record(rt: HostRuntime) -> Result<(), Fail> {
-    for text in ["", "a", "a/", "/b", "a/b c"] {
-        match Mime::from_str(rt.alloc(), text) {
-            Ok(_mime) => assert!(rt; false, "{text}"),
-            Err(error) => assert_printed(&rt, rt.alloc(), &error, "invalid mime type", text)?,
-        }
+fn texts(rt: HostRuntime) -> Result<(), Fail> {
+    assert_mimes(&rt, rt.alloc(), &TEXTS)
+}
+
+#[test]
+fn each_mark_of_a_token(rt: HostRuntime) -> Result<(), Fail> {
+    for mark in MARKS.chars() {
+        let text = format!(in rt.alloc(); "{mark}/{mark};{mark}={mark}")?;
+        assert_mime(&rt, rt.alloc(), text.as_str(), text.as_str(), text.as_str())?;
+    }
+    Ok(())
+}
+
+#[test]
+fn each_mark_of_no_token(rt: HostRuntime) -> Result<(), Fail> {
+    for mark in "(),/:<>?@[]{}".chars() {
+        let text = format!(in rt.alloc(); "x/x;a=v{mark};b{mark}=v;c=d")?;
+        let wanted = format!(in rt.alloc(); "x/x;a=\"v{mark}\";c=d")?;
+        assert_mime(
+            &rt,
+            rt.alloc(),
+            text.as_str(),
+            text.as_str(),
+            wanted.as_str(),
+        )?;
+        let text = format!(in rt.alloc(); "x{mark}/x")?;
+        assert_mime(&rt, rt.alloc(), text.as_str(), text.as_str(), NO_TYPE)?;
     }
     Ok(())
 }
@@ -59,17 +151,22 @@ fn record_of(alloc: Global, texts: [&str; 4]) -> Result<Mime, AllocError> {
 }
 
 #[test]
-fn records_built_by_hand(rt: HostRuntime) -> Result<(), Fail> {
+fn a_record_that_no_text_gives(rt: HostRuntime) -> Result<(), Fail> {
     let odd = record_of(rt.alloc(), ["a b", "", "", "\u{e9}"])?;
-    assert_printed(&rt, rt.alloc(), &odd, "a b/;=\"\u{e9}\"", "built by hand")?;
-    let plain = Mime::new(rt.alloc(), "text", "plain")?;
-    assert!(rt; plain.matches("text", "plain") && !plain.matches("text", "html"));
-    let copy = plain.clone()?;
-    assert!(rt; copy.matches("text", "plain") && copy == plain);
+    assert_printed(&rt, rt.alloc(), "odd", &odd, "a b/;=\"\u{e9}\"")?;
+    Ok(())
+}
+
+#[test]
+fn records_built_by_hand(rt: HostRuntime) -> Result<(), Fail> {
     let html = record_of(rt.alloc(), ["text", "html", "one", "two"])?;
-    assert!(rt; html.matches("text", "html") && html != plain);
+    assert!(rt; html.matches("text", "html") & !html.matches("text", "plain"));
     assert!(rt; html.get_parameter("one") == Some("two"));
     assert!(rt; html.get_parameter("two").is_none());
+    let plain = Mime::new(rt.alloc(), "text", "plain")?;
+    let copy = plain.clone()?;
+    assert!(rt; plain.matches("text", "plain") & copy.matches("text", "plain"));
+    assert!(rt; (copy == plain) & (html != plain));
     Ok(())
 }
 
@@ -78,49 +175,7 @@ fn the_order_of_parameters_counts(rt: HostRuntime) -> Result<(), Fail> {
     let first = Mime::from_str(rt.alloc(), "x/x;a=1;b=2")?;
     let second = Mime::from_str(rt.alloc(), "x/x;b=2;a=1")?;
     assert!(rt; first != second);
-    let first_again = first.clone()?;
-    let second_again = second.clone()?;
-    assert!(rt; first_again == first && second_again == second);
-    Ok(())
-}
-
-#[test]
-fn printed_and_read_again(rt: HostRuntime) -> Result<(), Fail> {
-    for text in [
-        "a/b;c=\"?x%20\"",
-        "a/b;c=\" ?x\"",
-        "TEXT/HTML;a=\"b;c\";d=;e=\"\"",
-        "x/x;a=1;A=2",
-        "x/x;a=\"b\"\u{100}",
-        "x/x;a=\"b;\u{100}\"",
-        "x/x;a=\"\\",
-        "a/b;c=\"?%3C%22?%3E\"",
-        "a/b;c=\"d e\"",
-        "x/x;a=\"q\\\"r\";b=\"\\a\";c=d\"e;f=\"g",
-    ] {
-        let mime = Mime::from_str(rt.alloc(), text)?;
-        let printed = format!(in rt.alloc(); "{mime}")?;
-        let again = Mime::from_str(rt.alloc(), printed.as_str())?;
-        canonical(&mime);
-        same_text(&mime, &again);
-        assert!(rt; again == mime, "{text}");
-    }
-    Ok(())
-}
-
-#[test]
-fn records_of_urls_read_again(rt: HostRuntime) -> Result<(), Fail> {
-    for text in [
-        "data:a/b;c=?x ,Y",
-        "data:a/b;c=?<\"?>,Y\"",
-        "data:a/b;c=\"d e\",Y",
-        "data:,x",
-    ] {
-        let url = DataUrl::process(rt.alloc(), text)?;
-        let mime = url.mime_type();
-        let printed = format!(in rt.alloc(); "{mime}")?;
-        let again = Mime::from_str(rt.alloc(), printed.as_str())?;
-        assert!(rt; again == *mime, "{text}");
-    }
+    canonical(&first);
+    same_text(&first, &second);
     Ok(())
 }

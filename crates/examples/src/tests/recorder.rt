@@ -1,0 +1,209 @@
+//! What the calls that decode hand to a closure.
+
+use super::assert_same;
+use data_url::forgiving_base64::{DecodeError, Decoder};
+use data_url::{DataUrl, FragmentIdentifier};
+use std::alloc::{AllocError, Global};
+use std::process::Abort;
+
+/// How many calls at most are refused in turn.
+const REFUSALS: usize = 100;
+
+/// What hands out bytes.
+#[derive(Drop)]
+pub enum Source<'a> {
+    /// A URL's body.
+    Body(&'a DataUrl<'a>),
+    /// A text of base64, fed to a decoder in pieces.
+    Base64(&'a [&'a [u8]]),
+}
+
+/// What becomes of the closure.
+#[derive(Drop)]
+pub enum Closure {
+    /// It is dropped, by `decode` and by `finish`.
+    Dropped,
+    /// It is handed back, by `decode_with`, `finish_with` and `into_closure`.
+    HandedBack,
+}
+
+/// The calls of a closure, and the answer behind them.
+#[derive(Drop)]
+pub struct Record {
+    /// The pieces, joined.
+    pub bytes: Vec<u8>,
+    /// The length of each piece.
+    pub lengths: Vec<usize>,
+    /// The call that is refused, with its number as the error, or 0 for none.
+    refused: usize,
+    /// The line of the error, or `#` and the fragment, or nothing.
+    pub answer: String,
+}
+
+impl Record {
+    /// A record of no call yet.
+    fn new(alloc: Global, refused: usize) -> Record {
+        Record {
+            bytes: Vec::new(alloc),
+            lengths: Vec::new(alloc),
+            refused,
+            answer: String::new(alloc),
+        }
+    }
+
+    /// Takes a piece, and refuses the call that is to be refused. The error is 0 where memory is
+    /// wanting.
+    fn take(&mut self, piece: &[u8]) -> Result<(), usize> {
+        let kept = self.bytes.extend_from_slice(piece).is_ok();
+        if !kept || self.lengths.push(piece.len()).is_err() {
+            return Err(0);
+        }
+        let calls = self.lengths.len();
+        if calls == self.refused {
+            Err(calls)
+        } else {
+            Ok(())
+        }
+    }
+
+    /// Asserts that these bytes came, in no empty piece, and this answer.
+    pub fn assert_is(&self, rt: &impl Abort, about: &str, bytes: &[u8], answer: &str) {
+        assert_same(rt, about, self.bytes.as_slice(), bytes);
+        assert_same(rt, about, self.answer.as_bytes(), answer.as_bytes());
+        assert!(rt; !self.lengths.as_slice().contains(&0), "{about}");
+    }
+
+    /// Asserts that another record is the same, piece for piece.
+    fn assert_equals(&self, rt: &impl Abort, about: &str, other: &Record) {
+        self.assert_is(rt, about, other.bytes.as_slice(), other.answer.as_str());
+        assert!(rt; self.lengths == other.lengths, "{about}");
+    }
+}
+
+/// `#` and a fragment, encoded, or nothing where there is none.
+pub fn fragment_text(
+    alloc: Global,
+    fragment: Option<FragmentIdentifier>,
+) -> Result<String, AllocError> {
+    match fragment {
+        Some(fragment) => {
+            let encoded = fragment.to_percent_encoded(alloc)?;
+            format!(in alloc; "#{encoded}")
+        }
+        None => Ok(String::new(alloc)),
+    }
+}
+
+/// What a URL's body is handed out as.
+fn record_body(
+    alloc: Global,
+    url: &DataUrl,
+    closure: &Closure,
+    refused: usize,
+) -> Result<Record, AllocError> {
+    let mut record = Record::new(alloc, refused);
+    let write = |piece: &[u8]| -> Result<(), usize> { record.take(piece) };
+    let ended = match closure {
+        Closure::Dropped => url.decode(write),
+        Closure::HandedBack => {
+            let (ended, _) = url.decode_with(write);
+            ended
+        }
+    };
+    record.answer = match ended {
+        Ok(fragment) => fragment_text(alloc, fragment)?,
+        Err(error) => format!(in alloc; "{error}")?,
+    };
+    Ok(record)
+}
+
+/// What a text of base64 is handed out as. The decoder tells that it has failed exactly behind an
+/// error.
+fn record_base64(
+    rt: &impl Abort,
+    alloc: Global,
+    pieces: &[&[u8]],
+    closure: &Closure,
+    refused: usize,
+) -> Result<Record, AllocError> {
+    let mut record = Record::new(alloc, refused);
+    let mut decoder = Decoder::new(|piece: &[u8]| -> Result<(), usize> { record.take(piece) });
+    let mut ended = Ok(());
+    for piece in pieces {
+        if decoder.has_failed() {
+            break;
+        }
+        ended = decoder.feed(piece);
+        assert!(rt; decoder.has_failed() == ended.is_err());
+    }
+    match closure {
+        Closure::HandedBack if decoder.has_failed() => {
+            let _ = decoder.into_closure();
+        }
+        Closure::HandedBack => {
+            let (last, _) = decoder.finish_with();
+            ended = last;
+        }
+        Closure::Dropped if decoder.has_failed() => {}
+        Closure::Dropped => ended = decoder.finish(),
+    }
+    if let Err(error) = ended {
+        record.answer = format!(in alloc; "{error}")?;
+    }
+    Ok(record)
+}
+
+impl<'a> Source<'a> {
+    /// What is handed out where this call is refused, or none for 0.
+    pub fn record(
+        &self,
+        rt: &impl Abort,
+        alloc: Global,
+        closure: &Closure,
+        refused: usize,
+    ) -> Result<Record, AllocError> {
+        match self {
+            Source::Body(url) => record_body(alloc, url, closure, refused),
+            Source::Base64(pieces) => record_base64(rt, alloc, pieces, closure, refused),
+        }
+    }
+
+    /// What is handed out, to a closure that is dropped and to one that is handed back alike.
+    pub fn record_both(
+        &self,
+        rt: &impl Abort,
+        alloc: Global,
+        about: &str,
+        refused: usize,
+    ) -> Result<Record, AllocError> {
+        let handed_back = self.record(rt, alloc, &Closure::HandedBack, refused)?;
+        let dropped = self.record(rt, alloc, &Closure::Dropped, refused)?;
+        dropped.assert_equals(rt, about, &handed_back);
+        Ok(dropped)
+    }
+
+    /// Asserts what is handed out, and that a refusal of each call, the first hundred of them, is
+    /// answered and ends the calls; a refusal of the next call, which never comes, changes nothing.
+    pub fn assert_is(
+        &self,
+        rt: &impl Abort,
+        alloc: Global,
+        about: &str,
+        bytes: &[u8],
+        answer: &str,
+    ) -> Result<Record, AllocError> {
+        let whole = self.record_both(rt, alloc, about, 0)?;
+        whole.assert_is(rt, about, bytes, answer);
+        let beyond = whole.lengths.len().saturating_add(1);
+        let never_refused = self.record_both(rt, alloc, about, beyond)?;
+        never_refused.assert_equals(rt, about, &whole);
+        for refused in 1..=whole.lengths.len().min(REFUSALS) {
+            let record = self.record_both(rt, alloc, about, refused)?;
+            let line = format!(in alloc; "write error: {refused}")?;
+            assert_same(rt, about, record.answer.as_bytes(), line.as_bytes());
+            assert!(rt; record.lengths.len() == refused, "{about}");
+            assert!(rt; bytes.starts_with(record.bytes.as_slice()), "{about}");
+        }
+        Ok(whole)
+    }
+}

@@ -1,0 +1,109 @@
+//! Large inputs, which nothing refuses by their size.
+
+use super::base64::assert_whole;
+use super::mime::{assert_mime, assert_read_again};
+use super::urls::{DEFAULT, assert_url};
+use super::{assert_printed, with_run};
+use data_url::mime::Mime;
+use std::alloc::{AllocError, Global};
+use std::process::Abort;
+use std::test::Fail;
+
+/// Many bytes: the 20th power of two.
+const MANY: usize = 1_048_576;
+
+/// A MIME type with so many parameters.
+pub fn with_parameters(alloc: Global, count: u32) -> Result<String, AllocError> {
+    let mut text = String::from_str(alloc, "x/x")?;
+    for number in 1..=count {
+        write!(text, ";p{number}=v")?;
+    }
+    Ok(text)
+}
+
+/// Asserts the parts of a text with so many bytes in each.
+fn assert_parts(rt: &impl Abort, alloc: Global, size: usize) -> Result<(), Fail> {
+    let record = with_run(alloc, ["a/b;c=", "d", ""], size)?;
+    let body = "e".repeat(alloc, size)?;
+    let answer = with_run(alloc, ["#", "f", ""], size)?;
+    let text = format!(in alloc; "data:{record},{body}{answer}")?;
+    let row = [
+        text.as_str(),
+        record.as_str(),
+        body.as_str(),
+        answer.as_str(),
+    ];
+    assert_url(rt, alloc, row)
+}
+
+/// Asserts the body of a text with so many groups of base64.
+fn assert_groups(rt: &impl Abort, alloc: Global, size: usize) -> Result<(), Fail> {
+    let symbols = "QUJD".repeat(alloc, size)?;
+    let body = "ABC".repeat(alloc, size)?;
+    assert_whole(rt, alloc, "long", symbols.as_bytes(), body.as_bytes(), "")?;
+    let text = format!(in alloc; "data:;base64,{symbols}")?;
+    assert_url(rt, alloc, [text.as_str(), DEFAULT, body.as_str(), ""])
+}
+
+#[test]
+fn long_parts(rt: HostRuntime) -> Result<(), Fail> {
+    for power in 0..=20_u32 {
+        assert_parts(&rt, rt.alloc(), 1 << power)?;
+    }
+    Ok(())
+}
+
+#[test]
+fn many_groups(rt: HostRuntime) -> Result<(), Fail> {
+    for power in 0..=18_u32 {
+        assert_groups(&rt, rt.alloc(), 1 << power)?;
+    }
+    Ok(())
+}
+
+/// Asserts the body of a text with a run in it.
+fn assert_run(
+    rt: &impl Abort,
+    alloc: Global,
+    count: usize,
+    text: [&str; 3],
+    body: [&str; 3],
+) -> Result<(), Fail> {
+    let text = with_run(alloc, text, count)?;
+    let body = with_run(alloc, body, count)?;
+    assert_url(rt, alloc, [text.as_str(), DEFAULT, body.as_str(), ""])
+}
+
+#[test]
+fn runs_in_urls(rt: HostRuntime) -> Result<(), Fail> {
+    let alloc = rt.alloc();
+    let tabs = with_run(alloc, ["%", "\t", ""], 1000)?;
+    let texts = ["data:,x", tabs.as_str(), "y"];
+    assert_run(&rt, alloc, 10_000, ["data:,", "%", ""], ["", "%", ""])?;
+    assert_run(&rt, alloc, 10_000, ["d", "\t", "ata:,x"], ["x", "", ""])?;
+    assert_run(&rt, alloc, 1000, texts, ["x", "%", "y"])
+}
+
+#[test]
+fn runs_in_mime_types(rt: HostRuntime) -> Result<(), Fail> {
+    let text = with_run(rt.alloc(), ["x/x;a=\"", "\\", ""], 10_001)?;
+    let printed = with_run(rt.alloc(), ["x/x;a=\"", "\\", "\""], 10_002)?;
+    assert_mime(&rt, rt.alloc(), "many \\", text.as_str(), printed.as_str())?;
+    let text = with_run(rt.alloc(), ["x/x", ";", ""], 10_000)?;
+    assert_mime(&rt, rt.alloc(), "many ;", text.as_str(), "x/x")
+}
+
+#[test]
+fn a_record_of_a_long_type(rt: HostRuntime) -> Result<(), Fail> {
+    let type_ = "d".repeat(rt.alloc(), MANY)?;
+    let mime = Mime::new(rt.alloc(), type_.as_str(), "b")?;
+    let printed = format!(in rt.alloc(); "{type_}/b")?;
+    assert_printed(&rt, rt.alloc(), "long", &mime, printed.as_str())?;
+    assert_read_again(&rt, rt.alloc(), "long", &mime)
+}
+
+#[test]
+fn a_thousand_parameters(rt: HostRuntime) -> Result<(), Fail> {
+    let text = with_parameters(rt.alloc(), 1000)?;
+    assert_mime(&rt, rt.alloc(), "long", text.as_str(), text.as_str())
+}

@@ -1,0 +1,140 @@
+//! Printing to a writer that fails, and under options.
+
+use super::assert_printed;
+use super::sizes::with_parameters;
+use data_url::DataUrlError;
+use data_url::forgiving_base64::{DecodeError, DecodeToVecError, decode_to_vec};
+use data_url::mime::{Mime, MimeFromStrError};
+use std::alloc::{AllocError, Global};
+use std::fmt::{self, Write};
+use std::process::Abort;
+use std::test::Fail;
+
+/// More writes than any of the values makes.
+const PLENTY: usize = 1_000_000;
+
+/// A writer that fails once, behind so many writes.
+#[derive(Drop)]
+struct FailingWriter {
+    left: usize,
+}
+
+impl Write for FailingWriter {
+    fn write_str(&mut self, _text: &str) -> fmt::Result {
+        let answer = if self.left == 0 {
+            Err(fmt::Error)
+        } else {
+            Ok(())
+        };
+        self.left = self.left.wrapping_sub(1);
+        answer
+    }
+}
+
+/// Whether a value is printed to a writer that fails behind so many writes, and how many more there
+/// may have been.
+fn write_to<D: fmt::Display>(value: &D, left: usize) -> (bool, usize) {
+    let mut writer = FailingWriter { left };
+    let is_written = write!(writer, "{value}").is_ok();
+    (is_written, writer.left)
+}
+
+/// Asserts how a value is printed, the same under options, and that printing fails where a write
+/// fails, whichever it is.
+fn assert_display<D: fmt::Display>(
+    rt: &impl Abort,
+    alloc: Global,
+    value: &D,
+    wanted: &str,
+) -> Result<(), AllocError> {
+    assert_printed(rt, alloc, wanted, value, wanted)?;
+    assert_printed(rt, alloc, wanted, &format_args!("{value:#}"), wanted)?;
+    assert_printed(rt, alloc, wanted, &format_args!("{value:>99.1}"), wanted)?;
+    let (is_written, left) = write_to(value, PLENTY);
+    assert!(rt; is_written & (left < PLENTY), "{wanted}");
+    for fewer in left..PLENTY {
+        let (is_written, _) = write_to(value, PLENTY - fewer - 1);
+        assert!(rt; !is_written, "{wanted}");
+    }
+    Ok(())
+}
+
+#[test]
+fn records(rt: HostRuntime) -> Result<(), Fail> {
+    let many = with_parameters(rt.alloc(), 100)?;
+    for text in [
+        "a/b",
+        "x/x;a=\"q\\\"r\\\\\";b=\"\";c=d;e=\"f g\"",
+        many.as_str(),
+    ] {
+        let mime = Mime::from_str(rt.alloc(), text)?;
+        assert_display(&rt, rt.alloc(), &mime, text)?;
+    }
+    Ok(())
+}
+
+#[test]
+fn errors_of_urls_and_closures(rt: HostRuntime) -> Result<(), Fail> {
+    let alloc = rt.alloc();
+    let comma = "data url is missing comma delimiting attributes and body";
+    assert_display(
+        &rt,
+        alloc,
+        &DataUrlError::NotADataUrl,
+        "not a valid data url",
+    )?;
+    assert_display(&rt, alloc, &DataUrlError::NoComma, comma)?;
+    assert_display(&rt, alloc, &DataUrlError::OutOfMemory, "out of memory")?;
+    let refused: DecodeError<usize> = DecodeError::WriteError(7);
+    assert_display(&rt, alloc, &refused, "write error: 7")?;
+    assert_display(&rt, alloc, &DecodeToVecError::OutOfMemory, "out of memory")?;
+    Ok(())
+}
+
+/// Asserts how the fault of a text of base64 is printed, alone and in each error that holds it.
+fn assert_fault(rt: &impl Abort, alloc: Global, text: &str, line: &str) -> Result<(), AllocError> {
+    let behind = format!(in alloc; "base64 not valid: {line}")?;
+    match decode_to_vec(alloc, text.as_bytes()) {
+        Err(DecodeToVecError::InvalidBase64(fault)) => {
+            assert_display(rt, alloc, &fault, line)?;
+            let error: DecodeError<usize> = DecodeError::InvalidBase64(fault);
+            assert_display(rt, alloc, &error, behind.as_str())
+        }
+        _ => {
+            assert!(rt; false, "{text}");
+            Ok(())
+        }
+    }
+}
+
+#[test]
+fn faults_of_base64(rt: HostRuntime) -> Result<(), Fail> {
+    for (text, line) in [
+        ("!", "symbol with codepoint 33 not expected"),
+        ("=a", "alphabet symbol present after padding"),
+        ("a", "lone alphabet symbol present"),
+        ("=", "incorrect padding"),
+    ] {
+        assert_fault(&rt, rt.alloc(), text, line)?;
+        match decode_to_vec(rt.alloc(), text.as_bytes()) {
+            Ok(_bytes) => assert!(rt; false, "{text}"),
+            Err(error) => assert_display(&rt, rt.alloc(), &error, line)?,
+        }
+    }
+    Ok(())
+}
+
+#[test]
+fn errors_of_mime_types(rt: HostRuntime) -> Result<(), Fail> {
+    let alloc = rt.alloc();
+    assert_display(&rt, alloc, &MimeFromStrError::OutOfMemory, "out of memory")?;
+    match Mime::from_str(alloc, "text") {
+        Err(MimeFromStrError::Parsing(error)) => {
+            assert_display(&rt, alloc, &error, "invalid mime type")?;
+            let error = MimeFromStrError::Parsing(error);
+            assert_display(&rt, alloc, &error, "invalid mime type")?;
+        }
+        _ => assert!(rt; false),
+    }
+    Ok(())
+}
