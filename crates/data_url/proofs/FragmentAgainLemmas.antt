@@ -8,7 +8,7 @@ use Rattle.std.specs.List.{prefix_len, suffix_len}
 use Rattle.std.specs.Str.{bytes_eq}
 use Rattle.std.proofs.lemmas.Bool.{agree_below_at, and_parts, both_ways, cond-false, cond_both, false_from_ne_true, leb-true}
 use Rattle.std.proofs.lemmas.List.{reverse-append, take_all}
-use Rattle.data_url.specs.Url.{after_scheme, before, behind, cleaned, dropped, encoded_byte, fragment, front, hex_digit, in_fragment_set, is_c0_control_or_space, is_tab_or_newline, percent_encoded, serialised, trimmed, without_end}
+use Rattle.data_url.specs.Url.{after_scheme, before, behind, cleaned, dropped, encoded_byte, encoded_path, fragment, front, hex_digit, in_fragment_set, is_c0_control_or_space, is_tab_or_newline, percent_encoded, serialised, trimmed, without_end}
 use Rattle.data_url.specs.Fetch.{before_comma, encoded_body, header_of, staged, staged_after, staged_fragment, staged_front, staged_parts}
 use Rattle.data_url.specs.Laws.{IsReadAgain, is_fragment_byte}
 use Rattle.data_url.specs.Mime.{Every}
@@ -98,7 +98,7 @@ after_data t x h =
     subst P (sym h) refl
 
 front_comma : (x : List ℕ) → serialised (front (44 ∷ 35 ∷ x)) ≡ 44 ∷ []
-unfolding front before behind serialised percent_encoded
+unfolding front before behind serialised encoded_path percent_encoded
 front_comma x = refl
 
 fragment_behind : (x : List ℕ) → fragment (44 ∷ 35 ∷ x) ≡ Some x

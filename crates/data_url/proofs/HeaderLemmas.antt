@@ -11,6 +11,7 @@ use Rattle.data_url.specs.Url.{after_scheme, before, behind, cleaned, dropped, f
 use Rattle.data_url.specs.Percent.{percent_decoded}
 use Rattle.data_url.specs.Fetch.{before_comma, encoded_body, header_of, staged_front, tail_of}
 use Rattle.data_url.specs.Steps.Front.{HasNoScheme, IsHeaderAndTail, IsSchemeAndRest}
+use Rattle.data_url.specs.Steps.Header.{header_text}
 use Rattle.data_url.proofs.UrlLemmas.{before-append, before_at, before_nil, before_other, before_same, behind-append, behind-dropped_none, behind_at, behind_nil, behind_other, dropped-append, dropped_around, dropped_keeps, dropped_nil, dropped_passes, lacks}
 use Rattle.data_url.proofs.RecodedLemmas.{IsBytes, Recoded, RecodedTails, before-serialised, recoded-decoded, recoded_tails, serialised_recoded}
 
@@ -117,7 +118,7 @@ has_tail s header t b e h = has_tail_of (behind 44 (serialised s)) (serialised s
 -- the stages of a text that is accepted, by its raw header and tail
 pub record IsAccepted (t header tail : List ℕ) : Type 0 where
   pub body : List ℕ
-  pub header_is : header_of t ≡ Some (serialised (dropped header))
+  pub header_is : header_of t ≡ Some (header_text (dropped header))
   pub body_is : encoded_body t ≡ Some body
   pub decoded_is : percent_decoded body ≡ percent_decoded (front (dropped tail))
   pub tail_is : tail_of t ≡ Some tail
@@ -138,7 +139,7 @@ is_accepted t rest header tail b s h =
     let k = has_tail (front (dropped rest)) (dropped header) (front (dropped tail)) bytes staged.front_is staged.lacks_comma in
     record {
       body = k.rest;
-      header_is = ap (option_and_then before_comma) f ∙ ap (option_map (λ r. before 44 (serialised (front (dropped rest))))) k.is ∙ ap (λ (x : List ℕ). Some x) (before-serialised (front (dropped rest)) ∙ ap (λ x. serialised (before 44 x)) staged.front_is ∙ ap serialised (before_at 44 (dropped header) (front (dropped tail)) staged.lacks_comma));
+      header_is = ap (option_and_then before_comma) f ∙ ap (option_map (λ r. before 44 (serialised (front (dropped rest))))) k.is ∙ ap (λ (x : List ℕ). Some x) (ap (λ x. before 44 (serialised x)) staged.front_is ∙ before-serialised (dropped header) (front (dropped tail)) staged.lacks_comma);
       body_is = ap (option_and_then (behind 44)) f ∙ k.is;
       decoded_is = recoded-decoded k.recoded;
       tail_is = tail_is_of t rest header tail s h;

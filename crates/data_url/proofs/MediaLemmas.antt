@@ -8,12 +8,12 @@ use Rattle.std.proofs.lemmas.Str.{IsAscii-append, chars-IsAscii}
 use Rattle.std.specs.Char.{to_ascii_lowercase}
 use Rattle.std.specs.List.{suffix_len}
 use Rattle.data_url.specs.Fetch.{before_base64, before_last, before_semicolon, before_word, has_base64_suffix, is_space, last, media_of, mime_text, stripped, with_plain}
-use Rattle.data_url.specs.Url.{dropped, serialised, without_end}
+use Rattle.data_url.specs.Url.{dropped, without_end}
 use Rattle.data_url.specs.Mime.{HasNoRecord, IsWellformed, Parses, Record, default_record}
-use Rattle.data_url.specs.Steps.Header.{IsHeaderOf, IsPrintable, IsRecordFor}
+use Rattle.data_url.specs.Steps.Header.{IsHeaderOf, IsPrintable, IsRecordFor, header_text}
 use Rattle.data_url.proofs.OnLiterals.{on_literals}
 use Rattle.data_url.proofs.HeaderLemmas.{bytes_dropped}
-use Rattle.data_url.proofs.PrintableLemmas.{printable_ascii, printable_take, serialised_printable}
+use Rattle.data_url.proofs.PrintableLemmas.{printable_ascii, printable_take, header_text_printable}
 use Rattle.data_url.proofs.RecodedLemmas.{IsBytes}
 
 -- a list of bytes by its places
@@ -21,8 +21,8 @@ pub bytes_by_place : (s : List ℕ) → ((i : ℕ) → get_or s i 0 < 256) → I
 bytes_by_place [] h = tt
 bytes_by_place (b ∷ s) h = (h 0, bytes_by_place s (λ i. h (suc i)))
 
-pub header_printable : (s : List ℕ) → ((i : ℕ) → get_or s i 0 < 256) → IsPrintable (serialised (dropped s))
-header_printable s h = serialised_printable (dropped s) (bytes_dropped s (bytes_by_place s h))
+pub header_printable : (s : List ℕ) → ((i : ℕ) → get_or s i 0 < 256) → IsPrintable (header_text (dropped s))
+header_printable s h = header_text_printable (dropped s) (bytes_dropped s (bytes_by_place s h))
 
 -- The default record
 

@@ -1,14 +1,14 @@
 -- Serialised headers hold printable bytes alone, so that trimming them is stripping their spaces.
-use Rattle.std.proofs.Common.{◌≡◌, ℕ, zero, suc, ◌+◌, ◌-◌, ◌/◌, ◌%◌, ◌<◌, ◌≤◌, Bool, false, cond, List, [], ◌∷◌, ◌++◌, length, get_or, take, drop, reverse, refl, sym, ap, ◌∙◌, inl, inr, subst, ⊎_elim, arith, eqb-true}
+use Rattle.std.proofs.Common.{◌≡◌, ℕ, zero, suc, ◌+◌, ◌-◌, ◌/◌, ◌%◌, ◌<◌, ◌≤◌, Bool, false, cond, List, [], ◌∷◌, ◌++◌, length, get_or, take, drop, reverse, Option, None, Some, refl, sym, ap, ◌∙◌, inl, inr, subst, ⊎_elim, arith, eqb-true}
 use Rattle.std.specs.Prelude.{◌==◌, ◌||◌, nat_lt}
 use Rattle.std.specs.List.{prefix_len, suffix_len}
 use Rattle.std.specs.Str.{IsAscii}
 use Rattle.std.proofs.lemmas.Bool.{cases_Bool, cases_lt, cond_both, eqb-false, le-leb, lt-leb, ltb-false, or_parts}
 use Rattle.std.proofs.lemmas.List.{get_or-drop, get_or-reverse, get_or-take, get_or_past, length-drop, length-reverse, length-take}
-use Rattle.data_url.specs.Url.{encoded_byte, hex_digit, in_path_set, in_query_set, is_c0_control_or_space, percent_encoded, serialised, trimmed, without_end}
+use Rattle.data_url.specs.Url.{before, behind, encoded_byte, hex_digit, in_path_set, in_query_set, is_c0_control_or_space, percent_encoded, trimmed, without_end}
 use Rattle.data_url.specs.Fetch.{is_space, stripped}
-use Rattle.data_url.specs.Steps.Header.{IsPrintable}
-use Rattle.data_url.proofs.RecodedLemmas.{IsBytes, encoded_cons, encoded_nil, serialised_nil, serialised_path, serialised_query}
+use Rattle.data_url.specs.Steps.Header.{IsPrintable, header_text}
+use Rattle.data_url.proofs.RecodedLemmas.{IsBytes, encoded_cons, encoded_nil, header_byte_set, header_nil, header_path, header_query, path_byte_set}
 
 -- Serialised texts
 
@@ -43,11 +43,21 @@ encoded_printable : (p : ℕ → Bool) → ((b : ℕ) → p b ≡ false → (32 
 encoded_printable p outside [] h = subst printable (sym (encoded_nil p)) tt
 encoded_printable p outside (b ∷ s) h = subst printable (sym (encoded_cons p b s)) (printable_append (encoded_byte p b) (percent_encoded p s) (byte_printable p outside b h.0) (encoded_printable p outside s h.1))
 
-serialised_all : (s : List ℕ) → IsBytes s → printable (serialised s)
-serialised_all [] h = subst printable (sym serialised_nil) tt
-serialised_all (b ∷ s) h = elim (cases_Bool (b == 63)) [
-  | inl e ↦ let f : b ≡ 63 = eqb-true b 63 e in subst (λ v. printable (serialised (v ∷ s))) (sym f) (subst printable (sym (serialised_query s)) (omega arith, omega arith, encoded_printable in_query_set outside_query s h.1))
-  | inr e ↦ subst printable (sym (serialised_path b s e)) (printable_append (encoded_byte in_path_set b) (serialised s) (byte_printable in_path_set outside_path b h.0) (serialised_all s h.1))
+outside_path_byte : (path : List ℕ) (b : ℕ) → path_byte_set path b ≡ false → (32 ≤ b) × (b < 127)
+outside_path_byte [] b h = outside_path b (or_parts (in_path_set b) (b == 32) h).0
+outside_path_byte (c ∷ s) b h = outside_path b h
+
+outside_header_byte : (path : List ℕ) (query : Option (List ℕ)) (b : ℕ) → header_byte_set path query b ≡ false → (32 ≤ b) × (b < 127)
+outside_header_byte path None b h = outside_path b h
+outside_header_byte path (Some query) b h = outside_path_byte path b h
+
+header_all : (s : List ℕ) → IsBytes s → printable (header_text s)
+header_all [] h = subst printable (sym header_nil) tt
+header_all (b ∷ s) h = elim (cases_Bool (b == 63)) [
+  | inl e ↦ let f : b ≡ 63 = eqb-true b 63 e in subst (λ v. printable (header_text (v ∷ s))) (sym f) (subst printable (sym (header_query s)) (omega arith, omega arith, encoded_printable in_query_set outside_query s h.1))
+  | inr e ↦
+      let set = header_byte_set (before 63 s) (behind 63 s) in
+      subst printable (sym (header_path b s e)) (printable_append (encoded_byte set b) (header_text s) (byte_printable set (outside_header_byte (before 63 s) (behind 63 s)) b h.0) (header_all s h.1))
 ]
 
 printable_at : (s : List ℕ) → printable s → IsPrintable s
@@ -55,8 +65,8 @@ printable_at [] h i l = absurd (omega arith)
 printable_at (b ∷ s) h zero l = (h.0, h.1)
 printable_at (b ∷ s) h (suc i) l = printable_at s h.2 i (omega arith)
 
-pub serialised_printable : (s : List ℕ) → IsBytes s → IsPrintable (serialised s)
-serialised_printable s h = printable_at (serialised s) (serialised_all s h)
+pub header_text_printable : (s : List ℕ) → IsBytes s → IsPrintable (header_text s)
+header_text_printable s h = printable_at (header_text s) (header_all s h)
 
 -- Parts of printable texts
 

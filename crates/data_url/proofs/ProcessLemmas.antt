@@ -8,7 +8,7 @@ use Rattle.data_url.specs.Fetch.{Accepted, Good, NoComma, NoScheme, Outcome, enc
 use Rattle.data_url.specs.Steps.Front.{HasNoScheme, IsHeaderAndTail, IsSchemeAndRest}
 use Rattle.data_url.specs.Steps.Tail.{BeginsFragment, IsBodyEnd, rest_fragment}
 use Rattle.data_url.specs.DataUrl.{Decodes, IsAcceptable, IsUrlOf, is_base64, mime_of, url_tail}
-use Rattle.data_url.specs.Steps.Header.{IsHeaderOf}
+use Rattle.data_url.specs.Steps.Header.{IsHeaderOf, header_text}
 use Rattle.data_url.specs.MimeType.{seen}
 use Rattle.data_url.specs.declared.DataUrl.{DataUrl}
 use Rattle.data_url.specs.declared.forgiving_base64.DecodeError.{DecodeError}
@@ -31,11 +31,11 @@ stages_no_comma t rest b s h =
     ∙ ap (λ o. staged_parts (fragment (dropped rest)) o (encoded_body t)) (no_header t rest (rest_bytes t rest b s) s h)
 
 -- the body and the fragment of what is accepted are those of its tail
-pub stages_accepted : (t rest header tail : List ℕ) → IsBytes (trimmed t) → IsSchemeAndRest (trimmed t) rest → IsHeaderAndTail rest header tail → (flag : Bool) → flag ≡ has_base64_suffix (serialised (dropped header)) → staged t ≡ Accepted (mime_text (serialised (dropped header))) (outcome flag (plain_body tail)) (option_map (percent_encoded in_fragment_set) (fragment (dropped tail)))
+pub stages_accepted : (t rest header tail : List ℕ) → IsBytes (trimmed t) → IsSchemeAndRest (trimmed t) rest → IsHeaderAndTail rest header tail → (flag : Bool) → flag ≡ has_base64_suffix (header_text (dropped header)) → staged t ≡ Accepted (mime_text (header_text (dropped header))) (outcome flag (plain_body tail)) (option_map (percent_encoded in_fragment_set) (fragment (dropped tail)))
 unfolding staged plain_body
 stages_accepted t rest header tail b s h flag f =
     let a = is_accepted t rest header tail (rest_bytes t rest b s) s h in
-    let text = serialised (dropped header) in
+    let text = header_text (dropped header) in
     ap (staged_after t) (after_is t rest s)
     ∙ ap (λ o. staged_parts (fragment (dropped rest)) o (encoded_body t)) a.header_is
     ∙ ap (staged_parts (fragment (dropped rest)) (Some text)) a.body_is
@@ -44,7 +44,7 @@ stages_accepted t rest header tail b s h flag f =
     ∙ ap (λ v. Accepted (mime_text text) (outcome v (percent_decoded (front (dropped tail)))) (option_map (percent_encoded in_fragment_set) (fragment (dropped tail)))) (sym f)
 
 pub is_acceptable : (t rest header tail : List ℕ) → IsBytes (trimmed t) → IsSchemeAndRest (trimmed t) rest → IsHeaderAndTail rest header tail → IsAcceptable (staged t)
-is_acceptable t rest header tail b s h = subst IsAcceptable (sym (stages_accepted t rest header tail b s h (has_base64_suffix (serialised (dropped header))) refl)) tt
+is_acceptable t rest header tail b s h = subst IsAcceptable (sym (stages_accepted t rest header tail b s h (has_base64_suffix (header_text (dropped header))) refl)) tt
 
 -- the Standard's body, percent-decoded, is the one that the tail holds
 body_of : (t header tail : List ℕ) → IsAccepted t header tail → option_map percent_decoded (encoded_body t) ≡ Some (plain_body tail)
@@ -55,11 +55,11 @@ body_of t header tail a = ap (option_map percent_decoded) a.body_is ∙ ap (λ (
 fragment_of : (t rest header tail : List ℕ) → IsSchemeAndRest (trimmed t) rest → IsHeaderAndTail rest header tail → option_map fragment (after_scheme t) ≡ Some (fragment (dropped tail))
 fragment_of t rest header tail s h = ap (option_map fragment) (after_is t rest s) ∙ ap (λ (x : Option (List ℕ)). Some x) (is_staged rest header tail h).fragment_is
 
-pub is_url_of : (t rest header : List ℕ) (u : DataUrl) → IsBytes (trimmed t) → IsSchemeAndRest (trimmed t) rest → IsHeaderAndTail rest header (url_tail u) → IsHeaderOf (serialised (dropped header)) (seen (mime_of u)) (is_base64 u) → IsUrlOf t u
+pub is_url_of : (t rest header : List ℕ) (u : DataUrl) → IsBytes (trimmed t) → IsSchemeAndRest (trimmed t) rest → IsHeaderAndTail rest header (url_tail u) → IsHeaderOf (header_text (dropped header)) (seen (mime_of u)) (is_base64 u) → IsUrlOf t u
 is_url_of t rest header u b s h k =
     let a = is_accepted t rest header (url_tail u) (rest_bytes t rest b s) s h in
     record {
-      header = serialised (dropped header);
+      header = header_text (dropped header);
       header_is = a.header_is;
       record_is = k.record_is.is_record;
       wellformed = k.record_is.wellformed;

@@ -1,12 +1,13 @@
 -- Texts with some of their bytes percent-encoded: they decode alike, and their first commas stand at the same bytes.
-use Rattle.std.proofs.Common.{◌≡◌, ℕ, ◌+◌, ◌*◌, ◌/◌, ◌%◌, ◌<◌, Bool, true, false, not, List, [], ◌∷◌, ◌++◌, Option, None, Some, refl, sym, ap, ◌∙◌, inl, inr, subst, append_assoc, arith, eqb-true}
+use Rattle.std.proofs.Common.{◌≡◌, ℕ, ◌+◌, ◌*◌, ◌/◌, ◌%◌, ◌<◌, Bool, true, false, not, List, [], ◌∷◌, ◌++◌, Option, None, Some, refl, sym, ap, ◌∙◌, inl, inr, subst, ⊎_elim, append-nil, append_assoc, arith, eqb-true}
 use Rattle.std.specs.Prelude.{◌==◌, ◌||◌, ◌&&◌, nat_lt}
 use Rattle.std.specs.Char.{digit_value, is_ascii_hexdigit}
 use Rattle.std.specs.List.{AllByRecursion}
-use Rattle.std.proofs.lemmas.Bool.{agree_below_at, and_left, and_parts, and_right, cases_Bool, cond-true, cond-false, cond_both, both_ways, ne_eqb, or_left}
-use Rattle.data_url.specs.Url.{before, behind, encoded_byte, hex_digit, in_path_set, in_query_set, percent_encoded, serialised, with_query}
+use Rattle.std.proofs.lemmas.Bool.{agree_below_at, and_left, and_parts, and_right, cases_Bool, cond-true, cond-false, cond_both, both_ways, ne_eqb, or_cases, or_left}
+use Rattle.data_url.specs.Url.{before, behind, encoded_byte, encoded_path, hex_digit, in_path_end_set, in_path_set, in_query_set, percent_encoded, serialised, with_query}
+use Rattle.data_url.specs.Steps.Header.{header_parts, header_text}
 use Rattle.data_url.specs.Percent.{is_escape, percent_decoded}
-use Rattle.data_url.proofs.UrlLemmas.{before-append, before_nil, before_other, before_same, behind_nil, behind_other, behind_same}
+use Rattle.data_url.proofs.UrlLemmas.{before-append, before_at, before_nil, before_other, before_same, behind_nil, behind_other, behind_same, lacks}
 
 abbrev pub IsBytes : List ℕ → Type 0
 IsBytes s = AllByRecursion (λ b. b < 256) s
@@ -137,19 +138,40 @@ path_within_query b h = or_left (in_path_set b) ((b == 32) || ((b == 34) || ((b 
 
 -- The serialised front, byte by byte
 
+-- the set of a byte before the rest of its path
+abbrev pub path_byte_set : List ℕ → ℕ → Bool
+path_byte_set [] = in_path_end_set
+path_byte_set (c ∷ s) = in_path_set
+
+pub path_nil : encoded_path [] ≡ []
+unfolding encoded_path
+path_nil = refl
+
+pub path_cons : (b : ℕ) (path : List ℕ) → encoded_path (b ∷ path) ≡ encoded_byte (path_byte_set path) b ++ encoded_path path
+unfolding encoded_path
+path_cons b [] = sym (append-nil (encoded_byte in_path_end_set b))
+path_cons b (c ∷ s) = refl
+
+pub end_within_query : (b : ℕ) → in_path_end_set b ≡ true → in_query_set b ≡ true
+end_within_query b h = ⊎_elim (λ k. path_within_query b k) (λ k. subst (λ v. in_query_set v ≡ true) (sym (eqb-true b 32 k)) refl) (or_cases (in_path_set b) (b == 32) h)
+
+pub path_byte_within : (path : List ℕ) (b : ℕ) → path_byte_set path b ≡ true → in_query_set b ≡ true
+path_byte_within [] b h = end_within_query b h
+path_byte_within (c ∷ s) b h = path_within_query b h
+
 pub serialised_nil : serialised [] ≡ []
-unfolding serialised before behind percent_encoded
+unfolding serialised before behind encoded_path
 serialised_nil = refl
 
 pub serialised_query : (s : List ℕ) → serialised (63 ∷ s) ≡ 63 ∷ percent_encoded in_query_set s
 unfolding serialised
-serialised_query s = ap (λ v. with_query v (behind 63 (63 ∷ s))) (before_same 63 s) ∙ ap (λ v. with_query [] v) (behind_same 63 s) ∙ ap (λ v. v ++ 63 ∷ percent_encoded in_query_set s) (encoded_nil in_path_set)
+serialised_query s = ap (λ v. with_query v (behind 63 (63 ∷ s))) (before_same 63 s) ∙ ap (λ v. with_query [] v) (behind_same 63 s) ∙ ap (λ v. v ++ 63 ∷ percent_encoded in_query_set s) path_nil
 
-with_query_cons : (b : ℕ) (path : List ℕ) (query : Option (List ℕ)) → with_query (b ∷ path) query ≡ encoded_byte in_path_set b ++ with_query path query
-with_query_cons b path None = encoded_cons in_path_set b path
-with_query_cons b path (Some query) = ap (λ v. v ++ 63 ∷ percent_encoded in_query_set query) (encoded_cons in_path_set b path) ∙ append_assoc (encoded_byte in_path_set b) (percent_encoded in_path_set path) (63 ∷ percent_encoded in_query_set query)
+with_query_cons : (b : ℕ) (path : List ℕ) (query : Option (List ℕ)) → with_query (b ∷ path) query ≡ encoded_byte (path_byte_set path) b ++ with_query path query
+with_query_cons b path None = path_cons b path
+with_query_cons b path (Some query) = ap (λ v. v ++ 63 ∷ percent_encoded in_query_set query) (path_cons b path) ∙ append_assoc (encoded_byte (path_byte_set path) b) (encoded_path path) (63 ∷ percent_encoded in_query_set query)
 
-pub serialised_path : (b : ℕ) (s : List ℕ) → (b == 63) ≡ false → serialised (b ∷ s) ≡ encoded_byte in_path_set b ++ serialised s
+pub serialised_path : (b : ℕ) (s : List ℕ) → (b == 63) ≡ false → serialised (b ∷ s) ≡ encoded_byte (path_byte_set (before 63 s)) b ++ serialised s
 unfolding serialised
 serialised_path b s h = ap (λ v. with_query v (behind 63 (b ∷ s))) (before_other 63 b s h) ∙ ap (λ v. with_query (b ∷ before 63 s) v) (behind_other 63 b s h) ∙ with_query_cons b (before 63 s) (behind 63 s)
 
@@ -157,7 +179,7 @@ pub serialised_recoded : (s : List ℕ) → IsBytes s → Recoded s (serialised 
 serialised_recoded [] h = subst (λ x. Recoded [] x) (sym serialised_nil) none
 serialised_recoded (b ∷ s) h = elim (cases_Bool (b == 63)) [
   | inl e ↦ let f : b ≡ 63 = eqb-true b 63 e in subst (λ v. Recoded (v ∷ s) (serialised (v ∷ s))) (sym f) (subst (λ x. Recoded (63 ∷ s) x) (sym (serialised_query s)) (kept 63 (is_recoded in_query_set (λ b e. e) s h.1)))
-  | inr e ↦ subst (λ x. Recoded (b ∷ s) x) (sym (serialised_path b s e)) (recoded_byte in_path_set path_within_query b s (serialised s) h.0 (serialised_recoded s h.1))
+  | inr e ↦ subst (λ x. Recoded (b ∷ s) x) (sym (serialised_path b s e)) (recoded_byte (path_byte_set (before 63 s)) (path_byte_within (before 63 s)) b s (serialised s) h.0 (serialised_recoded s h.1))
 ]
 
 -- The first comma
@@ -198,12 +220,63 @@ before_encoded p h (b ∷ s) = ap (before 44) (encoded_cons p b s) ∙ elim (cas
   | inr e ↦ before-append 44 (encoded_byte p b) (percent_encoded p s) (encoded_byte_lacks p b e) ∙ ap (λ t. encoded_byte p b ++ t) (before_encoded p h s) ∙ sym (ap (percent_encoded p) (before_other 44 b s e) ∙ encoded_cons p b (before 44 s))
 ]
 
-pub before-serialised : (s : List ℕ) → before 44 (serialised s) ≡ serialised (before 44 s)
-before-serialised [] = ap (before 44) serialised_nil ∙ before_nil 44 ∙ sym (ap serialised (before_nil 44) ∙ serialised_nil)
-before-serialised (b ∷ s) = elim (cases_Bool (b == 63)) [
-  | inl e ↦ let f : b ≡ 63 = eqb-true b 63 e in subst (λ v. before 44 (serialised (v ∷ s)) ≡ serialised (before 44 (v ∷ s))) (sym f) (ap (before 44) (serialised_query s) ∙ before_other 44 63 (percent_encoded in_query_set s) refl ∙ ap (λ t. 63 ∷ t) (before_encoded in_query_set refl s) ∙ sym (ap serialised (before_other 44 63 s refl) ∙ serialised_query (before 44 s)))
-  | inr e ↦ ap (before 44) (serialised_path b s e) ∙ elim (cases_Bool (b == 44)) [
-    | inl k ↦ let f : b ≡ 44 = eqb-true b 44 k in subst (λ v. before 44 (encoded_byte in_path_set v ++ serialised s) ≡ serialised (before 44 (v ∷ s))) (sym f) (before_same 44 (serialised s) ∙ sym (ap serialised (before_same 44 s) ∙ serialised_nil))
-    | inr k ↦ before-append 44 (encoded_byte in_path_set b) (serialised s) (encoded_byte_lacks in_path_set b k) ∙ ap (λ t. encoded_byte in_path_set b ++ t) (before-serialised s) ∙ sym (ap serialised (before_other 44 b s k) ∙ serialised_path b (before 44 s) e)
-  ]
+-- the header's text, byte by byte
+
+pub header_nil : header_text [] ≡ []
+unfolding header_text before behind percent_encoded
+header_nil = refl
+
+pub header_query : (s : List ℕ) → header_text (63 ∷ s) ≡ 63 ∷ percent_encoded in_query_set s
+unfolding header_text
+header_query s = ap (λ v. header_parts v (behind 63 (63 ∷ s))) (before_same 63 s) ∙ ap (λ v. header_parts [] v) (behind_same 63 s) ∙ ap (λ v. v ++ 63 ∷ percent_encoded in_query_set s) path_nil
+
+-- the set of a byte before the rest of a header, without or with a query
+abbrev pub header_byte_set : List ℕ → Option (List ℕ) → ℕ → Bool
+header_byte_set path None = in_path_set
+header_byte_set path (Some query) = path_byte_set path
+
+header_cons : (b : ℕ) (path : List ℕ) (query : Option (List ℕ)) → header_parts (b ∷ path) query ≡ encoded_byte (header_byte_set path query) b ++ header_parts path query
+header_cons b path None = encoded_cons in_path_set b path
+header_cons b path (Some query) = with_query_cons b path (Some query)
+
+pub header_path : (b : ℕ) (s : List ℕ) → (b == 63) ≡ false → header_text (b ∷ s) ≡ encoded_byte (header_byte_set (before 63 s) (behind 63 s)) b ++ header_text s
+unfolding header_text
+header_path b s h = ap (λ v. header_parts v (behind 63 (b ∷ s))) (before_other 63 b s h) ∙ ap (λ v. header_parts (b ∷ before 63 s) v) (behind_other 63 b s h) ∙ header_cons b (before 63 s) (behind 63 s)
+
+-- what follows the header leaves the sets of its bytes as they are
+same_set : (h rest : List ℕ) (o : Option (List ℕ)) → behind 63 h ≡ o → path_byte_set (before 63 (h ++ 44 ∷ rest)) ≡ header_byte_set (before 63 h) o
+same_set [] rest None e = ap path_byte_set (before_other 63 44 rest refl)
+same_set [] rest (Some query) e = absurd (let k = sym (behind_nil 63) ∙ e in cc)
+same_set (c ∷ h) rest None e = let k = lacks 63 c h e in ap path_byte_set (before_other 63 c (h ++ 44 ∷ rest) k.here)
+same_set (c ∷ h) rest (Some query) e = elim (cases_Bool (c == 63)) [
+  | inl f ↦ let g : c ≡ 63 = eqb-true c 63 f in subst (λ v. path_byte_set (before 63 (v ∷ (h ++ 44 ∷ rest))) ≡ path_byte_set (before 63 (v ∷ h))) (sym g) (ap path_byte_set (before_same 63 (h ++ 44 ∷ rest) ∙ sym (before_same 63 h)))
+  | inr f ↦ ap path_byte_set (before_other 63 c (h ++ 44 ∷ rest) f) ∙ sym (ap path_byte_set (before_other 63 c h f))
 ]
+
+end_lacks_comma : (path : List ℕ) → path_byte_set path 44 ≡ false
+end_lacks_comma [] = refl
+end_lacks_comma (c ∷ s) = refl
+
+pub before-serialised : (h rest : List ℕ) → behind 44 h ≡ None → before 44 (serialised (h ++ 44 ∷ rest)) ≡ header_text h
+before-serialised [] rest e =
+    ap (before 44) (serialised_path 44 rest refl ∙ encoded_comma (path_byte_set (before 63 rest)) (end_lacks_comma (before 63 rest)) (serialised rest))
+    ∙ before_same 44 (serialised rest)
+    ∙ sym header_nil
+before-serialised (b ∷ h) rest e =
+    let k = lacks 44 b h e in
+    elim (cases_Bool (b == 63)) [
+      | inl f ↦
+          let g : b ≡ 63 = eqb-true b 63 f in
+          subst (λ v. before 44 (serialised (v ∷ (h ++ 44 ∷ rest))) ≡ header_text (v ∷ h)) (sym g)
+          (ap (before 44) (serialised_query (h ++ 44 ∷ rest))
+          ∙ before_other 44 63 (percent_encoded in_query_set (h ++ 44 ∷ rest)) refl
+          ∙ ap (λ t. 63 ∷ t) (before_encoded in_query_set refl (h ++ 44 ∷ rest) ∙ ap (percent_encoded in_query_set) (before_at 44 h rest k.behind_it))
+          ∙ sym (header_query h))
+      | inr f ↦
+          let set = path_byte_set (before 63 (h ++ 44 ∷ rest)) in
+          ap (before 44) (serialised_path b (h ++ 44 ∷ rest) f)
+          ∙ before-append 44 (encoded_byte set b) (serialised (h ++ 44 ∷ rest)) (encoded_byte_lacks set b k.here)
+          ∙ ap (λ t. encoded_byte set b ++ t) (before-serialised h rest k.behind_it)
+          ∙ ap (λ p. encoded_byte p b ++ header_text h) (same_set h rest (behind 63 h) refl)
+          ∙ sym (header_path b h f)
+    ]

@@ -97,7 +97,7 @@ fragment_keeps_percent : staged (codes "data:,#%#" ++ (34 ∷ codes "<>")) ≡ A
 unfolding on_literals
 fragment_keeps_percent = refl
 
-path_space_before_query : staged (codes "data:a/b;c= ?x,Y") ≡ Accepted (codes "a/b;c= ?x") (Good (codes "Y")) None
+path_space_before_query : staged (codes "data:a/b;c= ?x,Y") ≡ Accepted (codes "a/b;c=%20?x") (Good (codes "Y")) None
 unfolding on_literals
 path_space_before_query = refl
 

@@ -13,11 +13,11 @@ use Rattle.data_url.specs.Fetch.{before_base64, before_last, before_semicolon, i
 use Rattle.data_url.specs.Steps.Header.{IsPrintable}
 use Rattle.data_url.proofs.PrintableLemmas.{low_end, printable_take}
 
-abbrev word : List ℕ
+abbrev pub word : List ℕ
 word = codes "base64"
 
 -- the last six bytes are not the word
-no_word : (s : List ℕ) → (map to_ascii_lowercase (last 6 s) ≡ word → ⊥) → before_base64 s ≡ None
+pub no_word : (s : List ℕ) → (map to_ascii_lowercase (last 6 s) ≡ word → ⊥) → before_base64 s ≡ None
 unfolding before_base64
 no_word s h = ap (option_and_then (λ m. before_semicolon (without_end is_space m))) (cond-false (bytes_eq (map to_ascii_lowercase (last 6 s)) word) (Some (before_last 6 s)) None (false_from_ne_true (bytes_eq (map to_ascii_lowercase (last 6 s)) word) (λ e. h ((bytes_eq-Decides (map to_ascii_lowercase (last 6 s)) word).0 e))))
 

@@ -94,11 +94,21 @@ percent_encoded in_set s = flat_map (encoded_byte in_set) s
 abbrev pub encoded_fragment : List ℕ → List ℕ
 encoded_fragment s = percent_encoded in_fragment_set (dropped s)
 
+-- the set of the last byte of a path: the path's, and space
+abbrev pub in_path_end_set : ℕ → Bool
+in_path_end_set b = in_path_set b || (b == 32)
+
+-- an opaque path, encoded: a space at its end too, behind which stands '?' or '#', since the text
+-- that the URL parser reads ends with no space; of a run of spaces only the last is encoded
+unfoldable pub encoded_path : List ℕ → List ℕ
+encoded_path [] = []
+encoded_path (b ∷ []) = encoded_byte in_path_end_set b
+encoded_path (b ∷ c ∷ s) = encoded_byte in_path_set b ++ encoded_path (c ∷ s)
+
 -- a path and, where there is one, '?' and its query, each encoded by its own set
 abbrev pub with_query : List ℕ → Option (List ℕ) → List ℕ
-with_query path None = percent_encoded in_path_set path
-with_query path (Some query) =
-    percent_encoded in_path_set path ++ 63 ∷ percent_encoded in_query_set query
+with_query path None = encoded_path path
+with_query path (Some query) = encoded_path path ++ 63 ∷ percent_encoded in_query_set query
 
 -- an opaque path with its query, serialised: the first '?' ends the path (URL, section 4.5)
 unfoldable pub serialised : List ℕ → List ℕ

@@ -1,8 +1,9 @@
 //! Facts about the definitions, each the contract of a function that does nothing.
 
-ghost use Rattle.std.specs.Prelude.{◌≡◌, ℕ, List};
+ghost use Rattle.std.specs.Prelude.{◌++◌, ◌∷◌, ◌≡◌, ℕ, List};
 ghost use Rattle.std.specs.Option.{option_map};
 ghost use Rattle.data_url.specs.Base64.{first_fault};
+ghost use Rattle.data_url.specs.Fetch.{has_base64_suffix};
 ghost use Rattle.data_url.specs.Mime.{BeginsParameters};
 ghost use Rattle.data_url.specs.Url.{behind, dropped, fragment};
 ghost use Rattle.data_url.specs.Steps.Facts.{HasAtMostOneRecord, HasOneItemList, IsFirstFault, PaddingFits};
@@ -30,4 +31,10 @@ pub(crate) fn least_fault()
 /// Tabs and newlines may be dropped before the fragment is cut off or from the fragment itself.
 pub(crate) fn fragment_dropped()
     ensures { (tail : List ℕ) → fragment (dropped tail) ≡ option_map dropped (behind 35 tail) }
+{}
+
+/// Nothing that stands before the `?` of a header changes its base64 flag, so that a space there is written `%20` or not.
+pub(crate) fn flag_behind_query()
+    ensures { (front other query : List ℕ) → has_base64_suffix (front ++ 63 ∷ query)
+        ≡ has_base64_suffix (other ++ 63 ∷ query) }
 {}

@@ -1,15 +1,15 @@
 //! The header of a data: URL (Fetch Standard, section 6), from its text as it was given.
 
-ghost use Rattle.std.specs.Prelude.{◌≡◌, IfOk, string_bytes};
-ghost use Rattle.std.specs.List.{prefix_len};
+ghost use Rattle.std.specs.Prelude.{[], ◌++◌, ◌≡◌, IfNone, IfOk, IfSome, string_bytes, true};
+ghost use Rattle.std.specs.List.{prefix_len, suffix_len};
 ghost use Rattle.std.specs.Str.{chars};
-ghost use Rattle.data_url.specs.Url.{dropped, serialised};
+ghost use Rattle.data_url.specs.Url.{dropped, is_tab_or_newline};
 ghost use Rattle.data_url.specs.Fetch.{before_base64, with_plain};
 ghost use Rattle.data_url.specs.Mime.{default_record};
-ghost use Rattle.data_url.specs.Steps.Header.{IsHeaderOf, IsPathAndQuery, IsPrintable, IsRecordFor, encoded_parts, is_no_question_mark};
+ghost use Rattle.data_url.specs.Steps.Header.{HasNoLastSpace, IsHeaderOf, IsParts, IsPathAndQuery, IsPrintable, IsRecordFor, WithoutSpace, encoded_parts, header_text, is_no_question_mark};
 ghost use Rattle.data_url.specs.MimeType.{as_option, seen};
 
-use crate::ascii::{low_end_len, trim};
+use crate::ascii::{is_tab_or_newline, low_end_len, trim};
 use crate::mime::{Mime, MimeFromStrError};
 use crate::percent::{EncodeSet, encoded_len, is_encoded, push_encoded};
 use std::alloc::{AllocError, Global};
@@ -18,11 +18,17 @@ const PLAIN: &str = "text/plain";
 
 const SUFFIX: [u8; 6] = *b"base64";
 
-/// The path of a header, and behind it the query with its `?`, where there is one.
-fn split_query(header: &[u8]) -> (&[u8], &[u8])
-    ensures { IsPathAndQuery header.now result.0.now result.1.now }
-{
-    header.split_at(path_len(header))
+const ENCODED_SPACE: &str = "%20";
+
+/// The text of a header as it was given, in parts.
+#[derive(Clone, Copy)]
+struct Parts<'a> {
+    /// What stands before the first `?`, without a space at its end.
+    path: &'a [u8],
+    /// That space as it is written, where there is one and the `?` stands behind it.
+    space: &'static str,
+    /// The query with its `?`, where there is one.
+    query: &'a [u8],
 }
 
 /// How many bytes stand before the first `?`.
@@ -32,16 +38,81 @@ fn path_len(header: &[u8]) -> usize
     header.iter().take_while(|byte| **byte != b'?').count()
 }
 
-/// A path with its query, serialised. Room for the text is taken once, at its exact length.
-fn serialise(alloc: Global, path: &[u8], query: &[u8]) -> Result<String, AllocError>
-    ensures { IfOk result (λ text. string_bytes text ≡ encoded_parts path.now query.now) }
+/// The path of a header, and behind it the query with its `?`, where there is one.
+fn split_query(header: &[u8]) -> (&[u8], &[u8])
+    ensures { IsPathAndQuery header.now result.0.now result.1.now }
 {
-    let len = encoded_len(EncodeSet::Path, path);
-    let len = len.saturating_add(encoded_len(EncodeSet::Query, query));
-    let mut text = String::with_capacity(alloc, len)?;
-    push_encoded(&mut text, EncodeSet::Path, path)?;
-    push_encoded(&mut text, EncodeSet::Query, query)?;
-    Ok(text)
+    header.split_at(path_len(header))
+}
+
+/// How many bytes at the end are tabs and newlines.
+fn dropped_end_len(path: &[u8]) -> usize
+    ensures { result ≡ suffix_len is_tab_or_newline path.now }
+{
+    path.iter()
+        .rev()
+        .take_while(|byte| is_tab_or_newline(**byte))
+        .count()
+}
+
+/// What stands before a space that is the last byte of a path, tabs and newlines aside.
+fn without_last_space(path: &[u8]) -> Option<&[u8]>
+    ensures found { IfSome result (λ front. WithoutSpace path.now front.now) }
+    ensures none { IfNone result (HasNoLastSpace path.now) }
+{
+    let end = path.len() - dropped_end_len(path);
+    let space = end.checked_sub(1)?;
+    if path[space] != b' ' {
+        return None;
+    }
+    Some(&path[..space])
+}
+
+/// The parts of a header.
+fn parts_of(header: &[u8]) -> Parts<'_>
+    ensures { IsParts header.now result.path.now result.space.now result.query.now }
+{
+    let (path, query) = split_query(header);
+    match without_last_space(path) {
+        Some(path) if !query.is_empty() => Parts {
+            path,
+            space: ENCODED_SPACE,
+            query,
+        },
+        _ => Parts {
+            path,
+            space: "",
+            query,
+        },
+    }
+}
+
+impl Parts<'_> {
+    /// Whether the header is written as it stands.
+    fn is_encoded(&self) -> bool
+        ensures kept { result ≡ true → encoded_parts self.now.path.now self.now.space.now
+            self.now.query.now ≡ self.now.path.now ++ self.now.query.now }
+        ensures none { result ≡ true → self.now.space.now ≡ [] }
+    {
+        self.space.is_empty()
+            && is_encoded(EncodeSet::Path, self.path)
+            && is_encoded(EncodeSet::Query, self.query)
+    }
+
+    /// The text, serialised. Room for it is taken once, at its exact length.
+    fn serialised(&self, alloc: Global) -> Result<String, AllocError>
+        ensures { IfOk result (λ text. string_bytes text
+            ≡ encoded_parts self.now.path.now self.now.space.now self.now.query.now) }
+    {
+        let len = encoded_len(EncodeSet::Path, self.path);
+        let len = len.saturating_add(self.space.len());
+        let len = len.saturating_add(encoded_len(EncodeSet::Query, self.query));
+        let mut text = String::with_capacity(alloc, len)?;
+        push_encoded(&mut text, EncodeSet::Path, self.path)?;
+        text.push_str(self.space)?;
+        push_encoded(&mut text, EncodeSet::Query, self.query)?;
+        Ok(text)
+    }
 }
 
 /// What stands before `;`, spaces and `base64` at the end of a header, in any ASCII case, where it ends so.
@@ -65,13 +136,13 @@ fn without_suffix(header: &str) -> Option<&str>
 /// The record of a header's text as it was given, and whether the body is base64.
 pub(crate) fn read_header(alloc: Global, header: &str) -> Result<(Mime, bool), AllocError>
     ensures { IfOk result (λ found.
-        IsHeaderOf (serialised (dropped header.now)) (seen found.0) found.1) }
+        IsHeaderOf (header_text (dropped header.now)) (seen found.0) found.1) }
 {
-    let (path, query) = split_query(header.as_bytes());
-    if is_encoded(EncodeSet::Path, path) && is_encoded(EncodeSet::Query, query) {
+    let parts = parts_of(header.as_bytes());
+    if parts.is_encoded() {
         return read_serialised(alloc, header);
     }
-    read_serialised(alloc, serialise(alloc, path, query)?.as_str())
+    read_serialised(alloc, parts.serialised(alloc)?.as_str())
 }
 
 /// The record of a serialised header, and whether the body is base64.

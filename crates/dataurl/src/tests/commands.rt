@@ -19,7 +19,7 @@ const ROWS: [(&str, &str, &str, &str, u8); 24] = [
     ("body", "data:;base64,QUJD!", "ABC", BAD, 1),
     ("mime", "data:A/B;C=D,x\n", "a/b;c=D\n", "", 0),
     ("mime", "data:,x", "text/plain;charset=US-ASCII\n", "", 0),
-    ("mime", "data:a/b;c= ?x,Y", "a/b;c=\" ?x\"\n", "", 0),
+    ("mime", "data:a/b;c= ?x,Y", "a/b;c=\"%20?x\"\n", "", 0),
     ("mime", "data:a/b;base64,!", "a/b\n", "", 0),
     ("fragment", "data:,x#\n", "\n", "", 0),
     ("fragment", "data:,x", "", "", 0),

@@ -57,7 +57,7 @@ const URLS: [[&str; 4]; 56] = [
     ["data:,#%#\"<>", DEFAULT, "", "#%#%22%3C%3E"],
     ["data:,a%41b", DEFAULT, "aAb", ""],
     ["data:,a%41b#c", DEFAULT, "aAb", "#c"],
-    ["data:a/b;c= ?x,Y", "a/b;c=\" ?x\"", "Y", ""],
+    ["data:a/b;c= ?x,Y", "a/b;c=\"%20?x\"", "Y", ""],
     ["data:;base64,", DEFAULT, "", ""],
     ["data:;base64,#", DEFAULT, "", "#"],
     [
@@ -86,9 +86,9 @@ const URLS: [[&str; 4]; 56] = [
     ["data:,x #f", DEFAULT, "x ", "#f"],
     ["data:,a ?b", DEFAULT, "a ?b", ""],
     ["data: ?,x", DEFAULT, "x", ""],
-    ["data:a/b;c=x  ?y,Y", "a/b;c=\"x  ?y\"", "Y", ""],
-    ["data:a/b;c= \t?x,Y", "a/b;c=\" ?x\"", "Y", ""],
-    ["data:a/b;c=\" ?\",Y", "a/b;c=\" ?%22\"", "Y", ""],
+    ["data:a/b;c=x  ?y,Y", "a/b;c=\"x %20?y\"", "Y", ""],
+    ["data:a/b;c= \t?x,Y", "a/b;c=\"%20?x\"", "Y", ""],
+    ["data:a/b;c=\" ?\",Y", "a/b;c=\"%20?%22\"", "Y", ""],
     ["data:;base64,Y%0CQ", DEFAULT, "a", ""],
     [
         "data:;base64,%5",

@@ -1,26 +1,28 @@
 use Rattle.std.proofs.Common.{sym, ap, ◌∙◌, subst, arith}
-use Rattle.data_url.specs.Url.{dropped, serialised}
-use Rattle.data_url.specs.Steps.Header.{IsPrintable}
+use Rattle.data_url.specs.Url.{dropped}
+use Rattle.data_url.specs.Steps.Header.{IsPrintable, header_text}
 use Rattle.data_url.proofs.MediaLemmas.{header_printable}
-use Rattle.data_url.proofs.SerialiseLemmas.{parts_kept, parts_serialised}
+use Rattle.data_url.proofs.SerialiseLemmas.{parts_kept}
 use Rattle.data_url.proofs.header.read_header.Goals as goal
 
 pub read_serialised-requires : goal.read_serialised-requires
 read_serialised-requires c =
-    let same = parts_kept c.args.header.now c.as_bytes.result.now c.split_query.result.0.now c.split_query.result.1.now c.as_bytes.ensures.value c.split_query.ensures (c.is_encoded.ensures c.if-is_encoded.true) (c.is_encoded-then-is_encoded.ensures c.if-is_encoded-2.true) in
+    let parts = c.parts_of-parts.result in
+    let same = parts_kept c.args.header.now c.as_bytes.result.now parts.path.now parts.space.now parts.query.now c.as_bytes.ensures.value c.parts_of-parts.ensures (c.is_encoded.ensures.kept c.if-is_encoded.true) (c.is_encoded.ensures.none c.if-is_encoded.true) in
     subst IsPrintable same (header_printable c.args.header.now (λ i. omega (arith, c.type_inv.header i)))
 
-pub returns-then-is_encoded-2 : goal.returns-then-is_encoded-2
-returns-then-is_encoded-2 c =
-    let same = parts_kept c.args.header.now c.as_bytes.result.now c.split_query.result.0.now c.split_query.result.1.now c.as_bytes.ensures.value c.split_query.ensures (c.is_encoded.ensures c.if-is_encoded.true) (c.is_encoded-then-is_encoded.ensures c.if-is_encoded-2.true) in
+pub returns-then-is_encoded : goal.returns-then-is_encoded
+returns-then-is_encoded c =
+    let parts = c.parts_of-parts.result in
+    let same = parts_kept c.args.header.now c.as_bytes.result.now parts.path.now parts.space.now parts.query.now c.as_bytes.ensures.value c.parts_of-parts.ensures (c.is_encoded.ensures.kept c.if-is_encoded.true) (c.is_encoded.ensures.none c.if-is_encoded.true) in
     rw same c.read_serialised.ensures
 
 pub read_serialised-requires-2 : goal.read_serialised-requires-2
 read_serialised-requires-2 c =
-    let parts = parts_serialised c.as_bytes.result.now c.split_query.result.0.now c.split_query.result.1.now c.split_query.ensures in
-    subst IsPrintable (sym (c.as_str.ensures.value ∙ c.in_ok-serialise.ensures ∙ parts ∙ ap (λ s. serialised (dropped s)) c.as_bytes.ensures.value)) (header_printable c.args.header.now (λ i. omega (arith, c.type_inv.header i)))
+    let text = c.in_ok-serialised.ensures in
+    subst IsPrintable (sym (c.as_str.ensures.value ∙ text ∙ c.parts_of-parts.ensures.text_is ∙ ap (λ s. header_text (dropped s)) c.as_bytes.ensures.value)) (header_printable c.args.header.now (λ i. omega (arith, c.type_inv.header i)))
 
 pub returns : goal.returns
 returns c =
-    let parts = parts_serialised c.as_bytes.result.now c.split_query.result.0.now c.split_query.result.1.now c.split_query.ensures in
-    rw (sym (c.as_str.ensures.value ∙ c.in_ok-serialise.ensures ∙ parts ∙ ap (λ s. serialised (dropped s)) c.as_bytes.ensures.value)) c.read_serialised-2.ensures
+    let text = c.in_ok-serialised.ensures in
+    rw (sym (c.as_str.ensures.value ∙ text ∙ c.parts_of-parts.ensures.text_is ∙ ap (λ s. header_text (dropped s)) c.as_bytes.ensures.value)) c.read_serialised-2.ensures
