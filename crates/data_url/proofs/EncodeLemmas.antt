@@ -1,75 +1,210 @@
--- Percent-encoding a text without its tabs and newlines, one byte after the other.
-use Rattle.std.proofs.Common.{◌≡◌, ℕ, ◌+◌, ◌-◌, ◌<◌, ◌≤◌, ◌^◌, Bool, true, false, List, [], ◌∷◌, ◌++◌, length, get_or, take, drop, sym, ap, ◌∙◌, subst, append_assoc, arith, length-append}
-use Rattle.std.specs.Prelude.{min}
-use Rattle.std.proofs.lemmas.Bool.{cond-false}
-use Rattle.std.proofs.lemmas.List.{append-nil, drop_all, drop_more, take_all, take_more}
-use Rattle.data_url.specs.Url.{dropped, encoded_byte, is_tab_or_newline, percent_encoded}
-use Rattle.data_url.proofs.UrlLemmas.{dropped_keeps, dropped_nil, dropped_passes}
+-- Percent-encoding a text without its tabs and newlines: byte by byte, and part by part.
+use Rattle.std.proofs.Common.{◌≡◌, ℕ, suc, ◌+◌, ◌*◌, ◌-◌, ◌<◌, ◌≤◌, ◌^◌, Bool, true, false, List, [], ◌∷◌, ◌++◌, length, get_or, take, drop, refl, sym, ap, ◌∙◌, subst, append_assoc, arith, inl, inr, length-append, take-append-drop}
+use Rattle.std.specs.Prelude.{◌==◌, min, nat_lt, slice_index}
+use Rattle.std.specs.List.{list_all}
+use Rattle.std.specs.Str.{IsAscii, IsUtf8}
+use Rattle.std.proofs.Math.Seq.{take-append-add}
+use Rattle.std.proofs.lemmas.Bool.{agree_below_at, and_parts, cases_Bool, cond-false, cond-true, eqb-false, eqb-true, ltb-true}
+use Rattle.std.proofs.lemmas.Grind.{flat_map-append}
+use Rattle.std.proofs.lemmas.List.{append-nil, drop_all, drop_more, length-take-le, nil_from_length, take-take, take_all, take_more}
+use Rattle.std.proofs.lemmas.Str.{IsAscii-append, IsUtf8-from_ascii}
+use Rattle.std.proofs.lemmas.Str.Ascii.{IsAscii-cons, IsAscii-nil}
+use Rattle.data_url.specs.Url.{dropped, encoded_byte, in_fragment_set, in_path_set, in_query_set, is_tab_or_newline, percent_encoded}
+use Rattle.data_url.specs.Steps.Sets.{IsRow, in_set, written}
+use Rattle.data_url.specs.declared.percent.EncodeSet.TheVariants.{Fragment, Path, Query}
+use Rattle.data_url.specs.declared.percent.EncodeSet.{EncodeSet}
+use Rattle.data_url.proofs.UrlLemmas.{dropped-append, dropped_keeps, dropped_nil, dropped_passes}
 use Rattle.data_url.proofs.RecodedLemmas.{encoded_cons, encoded_nil}
 
--- what the text from byte i on is encoded to
+-- what a text is written as
+abbrev pub encoded : (ℕ → Bool) → List ℕ → List ℕ
+encoded p s = percent_encoded p (dropped s)
+
+encoded_empty : (p : ℕ → Bool) → encoded p [] ≡ []
+encoded_empty p = ap (percent_encoded p) dropped_nil ∙ encoded_nil p
+
+written_first : (p : ℕ → Bool) (b : ℕ) (s : List ℕ) → encoded p (b ∷ s) ≡ written p b ++ encoded p s
+written_first p b s = elim (cases_Bool (is_tab_or_newline b)) [
+  | inl e ↦ ap (percent_encoded p) (dropped_passes b s e) ∙ sym (ap (λ t. t ++ encoded p s) (cond-true (is_tab_or_newline b) [] (encoded_byte p b) e))
+  | inr e ↦ ap (percent_encoded p) (dropped_keeps b s e) ∙ encoded_cons p b (dropped s) ∙ sym (ap (λ t. t ++ encoded p s) (cond-false (is_tab_or_newline b) [] (encoded_byte p b) e))
+]
+
+percent_encoded-append : (p : ℕ → Bool) (s t : List ℕ) → percent_encoded p (s ++ t) ≡ percent_encoded p s ++ percent_encoded p t
+unfolding percent_encoded
+percent_encoded-append p s t = flat_map-append (encoded_byte p) s t
+
+-- a text is written as its two parts are
+pub encoded_cut : (p : ℕ → Bool) (s : List ℕ) (n : ℕ) → encoded p s ≡ encoded p (take n s) ++ encoded p (drop n s)
+encoded_cut p s n = ap (encoded p) (sym (take-append-drop n s)) ∙ ap (percent_encoded p) (dropped-append (take n s) (drop n s)) ∙ percent_encoded-append p (dropped (take n s)) (dropped (drop n s))
+
+-- Byte by byte
+
+-- what the text from byte i on is written as
 abbrev pub encoded_from : (ℕ → Bool) → List ℕ → ℕ → List ℕ
-encoded_from p s i = percent_encoded p (dropped (drop i s))
+encoded_from p s i = encoded p (drop i s)
 
-pub from_passed : (p : ℕ → Bool) (s : List ℕ) (i : ℕ) → i < length s → is_tab_or_newline (get_or s i 0) ≡ true → encoded_from p s i ≡ encoded_from p s (i + 1)
-from_passed p s i l e = ap (λ t. percent_encoded p t) (ap dropped (drop_more s i 0 l) ∙ dropped_passes (get_or s i 0) (drop (i + 1) s) e)
-
-pub from_kept : (p : ℕ → Bool) (s : List ℕ) (i : ℕ) → i < length s → is_tab_or_newline (get_or s i 0) ≡ false → encoded_from p s i ≡ encoded_byte p (get_or s i 0) ++ encoded_from p s (i + 1)
-from_kept p s i l e = ap (λ t. percent_encoded p t) (ap dropped (drop_more s i 0 l) ∙ dropped_keeps (get_or s i 0) (drop (i + 1) s) e) ∙ encoded_cons p (get_or s i 0) (dropped (drop (i + 1) s))
+from_more : (p : ℕ → Bool) (s : List ℕ) (i : ℕ) → i < length s → encoded_from p s i ≡ written p (get_or s i 0) ++ encoded_from p s (i + 1)
+from_more p s i l = ap (encoded p) (drop_more s i 0 l) ∙ written_first p (get_or s i 0) (drop (i + 1) s)
 
 from_end : (p : ℕ → Bool) (s : List ℕ) (i : ℕ) → length s ≤ i → encoded_from p s i ≡ []
-from_end p s i l = ap (λ t. percent_encoded p (dropped t)) (drop_all i s l) ∙ ap (λ t. percent_encoded p t) dropped_nil ∙ encoded_nil p
+from_end p s i l = ap (encoded p) (drop_all i s l) ∙ encoded_empty p
 
--- what was written up to byte i behind a text
-abbrev pub WroteTo : (ℕ → Bool) → List ℕ → ℕ → List ℕ → List ℕ → Type 0
-WroteTo p s i old text = text ++ encoded_from p s i ≡ old ++ encoded_from p s 0
+-- this was written up to byte i
+abbrev pub WroteTo : (ℕ → Bool) → List ℕ → ℕ → List ℕ → Type 0
+WroteTo p s i text = text ++ encoded_from p s i ≡ encoded p s
 
-pub wrote_passed : (p : ℕ → Bool) (s : List ℕ) (i : ℕ) (old text : List ℕ) → WroteTo p s i old text → i < length s → is_tab_or_newline (get_or s i 0) ≡ true → WroteTo p s (i + 1) old text
-wrote_passed p s i old text w l e = ap (λ t. text ++ t) (sym (from_passed p s i l e)) ∙ w
+wrote_more : (p : ℕ → Bool) (s : List ℕ) (i : ℕ) (text : List ℕ) → WroteTo p s i text → i < length s → WroteTo p s (i + 1) (text ++ written p (get_or s i 0))
+wrote_more p s i text w l = append_assoc text (written p (get_or s i 0)) (encoded_from p s (i + 1)) ∙ ap (λ t. text ++ t) (sym (from_more p s i l)) ∙ w
 
-pub wrote_kept : (p : ℕ → Bool) (s : List ℕ) (i : ℕ) (old text : List ℕ) → WroteTo p s i old text → i < length s → is_tab_or_newline (get_or s i 0) ≡ false → WroteTo p s (i + 1) old (text ++ encoded_byte p (get_or s i 0))
-wrote_kept p s i old text w l e = append_assoc text (encoded_byte p (get_or s i 0)) (encoded_from p s (i + 1)) ∙ ap (λ t. text ++ t) (sym (from_kept p s i l e)) ∙ w
+pub wrote_all : (p : ℕ → Bool) (s : List ℕ) (i : ℕ) (text : List ℕ) → WroteTo p s i text → length s ≤ i → text ≡ encoded p s
+wrote_all p s i text w l = sym (append-nil text) ∙ ap (λ t. text ++ t) (sym (from_end p s i l)) ∙ w
 
-pub wrote_all : (p : ℕ → Bool) (s : List ℕ) (i : ℕ) (old text : List ℕ) → WroteTo p s i old text → length s ≤ i → text ≡ old ++ encoded_from p s 0
-wrote_all p s i old text w l = sym (append-nil text) ∙ ap (λ t. text ++ t) (sym (from_end p s i l)) ∙ w
+-- Rows
+
+none_written : (p : ℕ → Bool) (b : ℕ) → is_tab_or_newline b ≡ true → written p b ≡ []
+none_written p b e = cond-true (is_tab_or_newline b) [] (encoded_byte p b) e
+
+byte_written : (p : ℕ → Bool) (b : ℕ) → is_tab_or_newline b ≡ false → written p b ≡ encoded_byte p b
+byte_written p b e = cond-false (is_tab_or_newline b) [] (encoded_byte p b) e
+
+three_written : (p : ℕ → Bool) (b : ℕ) → p b ≡ true → length (encoded_byte p b) ≡ 3
+three_written p b e = ap length (cond-true (p b) _ (b ∷ []) e)
+
+one_written : (p : ℕ → Bool) (b : ℕ) → p b ≡ false → encoded_byte p b ≡ b ∷ []
+one_written p b e = cond-false (p b) _ (b ∷ []) e
+
+written_short : (p : ℕ → Bool) (b : ℕ) → length (written p b) ≤ 3
+written_short p b = elim (cases_Bool (is_tab_or_newline b)) [
+  | inl e ↦ let k : length (written p b) ≡ 0 = ap length (none_written p b e) in omega arith
+  | inr e ↦ elim (cases_Bool (p b)) [
+    | inl f ↦ let k : length (written p b) ≡ 3 = ap length (byte_written p b e) ∙ three_written p b f in omega arith
+    | inr f ↦ let k : length (written p b) ≡ 1 = ap length (byte_written p b e ∙ one_written p b f) in omega arith
+  ]
+]
+
+pub row_short : (p : ℕ → Bool) (b : ℕ) (row : List ℕ) → IsRow p b row → slice_index row 3 ≤ 3
+row_short p b row r = let k = written_short p b in let e = r.len_is in omega arith
+
+-- a byte that is written as one is written as itself
+itself : (p : ℕ → Bool) (b : ℕ) → length (written p b) ≡ 1 → written p b ≡ b ∷ []
+itself p b h = elim (cases_Bool (is_tab_or_newline b)) [
+  | inl e ↦ absurd (let k : length (written p b) ≡ 0 = ap length (none_written p b e) in omega arith)
+  | inr e ↦ elim (cases_Bool (p b)) [
+    | inl f ↦ absurd (let k : length (written p b) ≡ 3 = ap length (byte_written p b e) ∙ three_written p b f in omega arith)
+    | inr f ↦ byte_written p b e ∙ one_written p b f
+  ]
+]
 
 -- up to byte i the text is written as it stands
 abbrev pub KeptTo : (ℕ → Bool) → List ℕ → ℕ → Type 0
-KeptTo p s i = WroteTo p s i [] (take i s)
+KeptTo p s i = WroteTo p s i (take i s)
 
-pub kept_more : (p : ℕ → Bool) (s : List ℕ) (i : ℕ) → KeptTo p s i → i < length s → is_tab_or_newline (get_or s i 0) ≡ false → p (get_or s i 0) ≡ false → KeptTo p s (i + 1)
-kept_more p s i w l e k =
+pub kept_more : (p : ℕ → Bool) (s : List ℕ) (i : ℕ) (row : List ℕ) → KeptTo p s i → i < length s → IsRow p (get_or s i 0) row → slice_index row 3 ≡ 1 → KeptTo p s (i + 1)
+kept_more p s i row w l r one =
     let b = get_or s i 0 in
-    let itself : take i s ++ encoded_byte p b ≡ take (i + 1) s = ap (λ t. take i s ++ t) (cond-false (p b) _ (b ∷ []) k) ∙ sym (take_more s i 0 l) in
-    subst (WroteTo p s (i + 1) []) itself (wrote_kept p s i [] (take i s) w l e)
+    let same : take i s ++ written p b ≡ take (i + 1) s = ap (λ t. take i s ++ t) (itself p b (sym r.len_is ∙ one)) ∙ sym (take_more s i 0 l) in
+    subst (WroteTo p s (i + 1)) same (wrote_more p s i (take i s) w l)
 
-pub kept_all : (p : ℕ → Bool) (s : List ℕ) (i : ℕ) → KeptTo p s i → length s ≤ i → percent_encoded p (dropped s) ≡ s
-kept_all p s i w l = sym (wrote_all p s i [] (take i s) w l) ∙ take_all i s l
+pub kept_all : (p : ℕ → Bool) (s : List ℕ) (i : ℕ) → KeptTo p s i → length s ≤ i → encoded p s ≡ s
+kept_all p s i w l = sym (wrote_all p s i (take i s) w l) ∙ take_all i s l
 
--- what was counted up to byte i
+-- so many bytes are written up to byte i
+pub record MeasuredTo (p : ℕ → Bool) (s : List ℕ) (i len : ℕ) : Type 0 where
+  pub few : len ≤ 3 * i
+  pub sum : len + length (encoded_from p s i) ≡ length (encoded p s)
+
+pub measured_more : (p : ℕ → Bool) (s : List ℕ) (i len : ℕ) (row : List ℕ) → MeasuredTo p s i len → i < length s → IsRow p (get_or s i 0) row → MeasuredTo p s (i + 1) (len + slice_index row 3)
+measured_more p s i len row m l r =
+    let short = row_short p (get_or s i 0) row r in
+    let f = m.few in
+    let e = m.sum in
+    let n = r.len_is in
+    let k : length (encoded_from p s i) ≡ length (written p (get_or s i 0)) + length (encoded_from p s (i + 1)) = ap length (from_more p s i l) ∙ length-append (written p (get_or s i 0)) (encoded_from p s (i + 1)) in
+    record { few = omega arith; sum = omega arith }
+
+pub measured_all : (p : ℕ → Bool) (s : List ℕ) (i len : ℕ) → MeasuredTo p s i len → length s ≤ i → len ≡ length (encoded p s)
+measured_all p s i len m l =
+    let e = m.sum in
+    let none : length (encoded_from p s i) ≡ 0 = ap length (from_end p s i l) in
+    omega arith
+
+-- the bytes up to byte i are written at the front of the room
+pub record PutTo (p : ℕ → Bool) (s : List ℕ) (i : ℕ) (room : List ℕ) (at : ℕ) : Type 0 where
+  pub few : at ≤ 3 * i
+  pub long : length room ≡ 256
+  pub wrote : WroteTo p s i (take at room)
+
+pub put_more : (p : ℕ → Bool) (s : List ℕ) (i : ℕ) (room : List ℕ) (at : ℕ) (row room' : List ℕ) → PutTo p s i room at → i < length s → at ≤ 256 → IsRow p (get_or s i 0) row → length room' ≡ 256 → take (at + 4) room' ≡ take at room ++ row → PutTo p s (i + 1) room' (at + slice_index row 3)
+put_more p s i room at row room' m l within r n h =
+    let long_room = m.long in
+    let width = slice_index row 3 in
+    let short = row_short p (get_or s i 0) row r in
+    let f = m.few in
+    let long : length (take at room) ≡ at = length-take-le at room (omega arith) in
+    let front : take (at + width) room' ≡ take at room ++ written p (get_or s i 0) =
+    sym (take-take (at + width) (at + 4) room' (omega arith))
+    ∙ ap (take (at + width)) h
+    ∙ ap (λ n. take (n + width) (take at room ++ row)) (sym long)
+    ∙ take-append-add (take at room) row width
+    ∙ ap (λ t. take at room ++ t) r.begins in
+    record { few = omega arith; long = n; wrote = subst (WroteTo p s (i + 1)) (sym front) (wrote_more p s i (take at room) m.wrote l) }
+
+-- Part by part
+
 abbrev pub most : ℕ
 most = 2 ^ 64 - 1
 
-abbrev pub counted_total : (ℕ → Bool) → List ℕ → ℕ
-counted_total p s = min (length (encoded_from p s 0)) most
+-- so many bytes are written before the rest
+pub record CountedBefore (p : ℕ → Bool) (s rest : List ℕ) (len : ℕ) : Type 0 where
+  pub few : len ≤ most
+  pub sum : min (len + length (encoded p rest)) most ≡ min (length (encoded p s)) most
 
-abbrev pub CountedTo : (ℕ → Bool) → List ℕ → ℕ → ℕ → Type 0
-CountedTo p s i len = (len ≤ most) × (min (len + length (encoded_from p s i)) most ≡ counted_total p s)
+pub counted_more : (p : ℕ → Bool) (s rest : List ℕ) (len n : ℕ) → CountedBefore p s rest len → CountedBefore p s (drop n rest) (min (len + length (encoded p (take n rest))) most)
+counted_more p s rest len n c =
+    let k : length (encoded p rest) ≡ length (encoded p (take n rest)) + length (encoded p (drop n rest)) = ap length (encoded_cut p rest n) ∙ length-append (encoded p (take n rest)) (encoded p (drop n rest)) in
+    let e = c.sum in
+    record { few = omega arith; sum = omega arith }
 
-pub counted_passed : (p : ℕ → Bool) (s : List ℕ) (i len : ℕ) → CountedTo p s i len → i < length s → is_tab_or_newline (get_or s i 0) ≡ true → CountedTo p s (i + 1) len
-counted_passed p s i len w l e = (w.0, ap (λ t. min (len + length t) most) (sym (from_passed p s i l e)) ∙ w.1)
-
-cut_sum : (len width rest : ℕ) → min (min (len + width) most + rest) most ≡ min (len + (width + rest)) most
-cut_sum len width rest = omega arith
-
-pub counted_kept : (p : ℕ → Bool) (s : List ℕ) (i len : ℕ) → CountedTo p s i len → i < length s → is_tab_or_newline (get_or s i 0) ≡ false → CountedTo p s (i + 1) (min (len + length (encoded_byte p (get_or s i 0))) most)
-counted_kept p s i len w l e =
-    let byte = encoded_byte p (get_or s i 0) in
-    (omega arith, cut_sum len (length byte) (length (encoded_from p s (i + 1))) ∙ ap (λ n. min (len + n) most) (sym (ap length (from_kept p s i l e) ∙ length-append byte (encoded_from p s (i + 1)))) ∙ w.1)
-
-pub counted_all : (p : ℕ → Bool) (s : List ℕ) (i len : ℕ) → CountedTo p s i len → length s ≤ i → len ≡ counted_total p s
-counted_all p s i len w l =
-    let none : length (encoded_from p s i) ≡ 0 = ap length (from_end p s i l) in
-    let few : len ≤ most = w.0 in
-    let same : min (len + length (encoded_from p s i)) most ≡ counted_total p s = w.1 in
+pub counted_all : (p : ℕ → Bool) (s rest : List ℕ) (len : ℕ) → CountedBefore p s rest len → rest ≡ [] → len ≡ min (length (encoded p s)) most
+counted_all p s rest len c h =
+    let none : length (encoded p rest) ≡ 0 = ap length (ap (encoded p) h ∙ encoded_empty p) in
+    let f = c.few in
+    let e = c.sum in
     omega arith
+
+-- what was written behind a text before the rest
+abbrev pub WroteBefore : (ℕ → Bool) → List ℕ → List ℕ → List ℕ → List ℕ → Type 0
+WroteBefore p s rest old text = text ++ encoded p rest ≡ old ++ encoded p s
+
+pub wrote_part : (p : ℕ → Bool) (s rest old text part : List ℕ) (n : ℕ) → WroteBefore p s rest old text → part ≡ encoded p (take n rest) → WroteBefore p s (drop n rest) old (text ++ part)
+wrote_part p s rest old text part n w h = append_assoc text part (encoded p (drop n rest)) ∙ ap (λ t. text ++ t) (ap (λ t. t ++ encoded p (drop n rest)) h ∙ sym (encoded_cut p rest n)) ∙ w
+
+pub wrote_parts : (p : ℕ → Bool) (s rest old text : List ℕ) → WroteBefore p s rest old text → rest ≡ [] → text ≡ old ++ encoded p s
+wrote_parts p s rest old text w h = sym (append-nil text) ∙ ap (λ t. text ++ t) (sym (ap (encoded p) h ∙ encoded_empty p)) ∙ w
+
+-- What is written is ASCII
+
+abbrev are_ascii : List ℕ → Bool
+are_ascii s = list_all (λ c. nat_lt c 128) s
+
+ascii_all : (s : List ℕ) → are_ascii s ≡ true → IsAscii s
+ascii_all [] h = IsAscii-nil
+ascii_all (c ∷ s) h = let e = and_parts (nat_lt c 128) (are_ascii s) h in IsAscii-cons c s (ltb-true c 128 e.0) (ascii_all s e.1)
+
+written_ascii : (set : EncodeSet) (b : ℕ) → b < 256 → IsAscii (written (in_set set) b)
+written_ascii Path b l = ascii_all (written in_path_set b) (agree_below_at (λ b. are_ascii (written in_path_set b)) (λ b. true) 256 b refl l)
+written_ascii Query b l = ascii_all (written in_query_set b) (agree_below_at (λ b. are_ascii (written in_query_set b)) (λ b. true) 256 b refl l)
+written_ascii Fragment b l = ascii_all (written in_fragment_set b) (agree_below_at (λ b. are_ascii (written in_fragment_set b)) (λ b. true) 256 b refl l)
+
+encoded_ascii : (set : EncodeSet) (s : List ℕ) → ((i : ℕ) → get_or s i 0 < 256) → IsAscii (encoded (in_set set) s)
+encoded_ascii set [] h = subst IsAscii (sym (encoded_empty (in_set set))) IsAscii-nil
+encoded_ascii set (b ∷ s) h = subst IsAscii (sym (written_first (in_set set) b s)) (IsAscii-append (written (in_set set) b) (encoded (in_set set) s) (written_ascii set b (h 0)) (encoded_ascii set s (λ i. h (suc i))))
+
+pub encoded_text : (set : EncodeSet) (s text : List ℕ) → ((i : ℕ) → get_or s i 0 < 256) → text ≡ encoded (in_set set) s → IsUtf8 text
+encoded_text set s text h e = subst IsUtf8 (sym e) (IsUtf8-from_ascii (encoded (in_set set) s) (encoded_ascii set s h))
+
+pub none_left : (s : List ℕ) (r : Bool) → r ≡ (length s == 0) → r ≡ true → s ≡ []
+none_left s r e h = nil_from_length s (eqb-true (length s) 0 (sym e ∙ h))
+
+pub some_left : (s : List ℕ) (r : Bool) → r ≡ (length s == 0) → r ≡ false → 0 < length s
+some_left s r e h = let k = eqb-false (length s) 0 (sym e ∙ h) in omega arith

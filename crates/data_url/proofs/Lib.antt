@@ -44,6 +44,7 @@ pub mod ReadLemmas
 pub mod RecodedLemmas
 pub mod RecordLemmas
 pub mod RoundTripLemmas
+pub mod RowLemmas
 pub mod RunLemmas
 pub mod RunMeasures
 pub mod SameLemmas

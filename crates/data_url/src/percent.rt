@@ -1,11 +1,15 @@
 //! Percent-encoding (URL Standard, section 1.3).
 
-ghost use Rattle.std.specs.Prelude.{◌≡◌, ◌<◌, ◌++◌, ◌-◌, ◌^◌, OnOk, length, min, string_bytes, true};
-ghost use Rattle.data_url.specs.Url.{dropped, encoded_byte, hex_digit, percent_encoded};
+ghost use Rattle.std.specs.Prelude.{◌≡◌, ◌≤◌, ◌+◌, ◌++◌, ◌-◌, ◌^◌, OnOk, length, min, string_bytes, take, true};
+ghost use Rattle.std.specs.Str.{IsUtf8};
+ghost use Rattle.data_url.specs.Url.{dropped, percent_encoded};
 ghost use Rattle.data_url.specs.Steps.Sets.{in_set};
 
-use crate::ascii::is_tab_or_newline;
+mod rows;
+
+use rows::row;
 use std::alloc::AllocError;
+use std::str;
 
 /// A percent-encode set.
 #[derive(Clone, Copy)]
@@ -18,83 +22,85 @@ pub(crate) enum EncodeSet {
     Fragment,
 }
 
-impl EncodeSet {
-    /// Whether the byte is to be encoded.
-    pub(crate) fn contains(self, byte: u8) -> bool
-        ensures { result ≡ in_set self byte }
-    {
-        if byte < b' ' || byte > b'~' {
-            return true;
-        }
-        match self {
-            EncodeSet::Path => false,
-            EncodeSet::Query => matches!(byte, b' ' | b'"' | b'#' | b'<' | b'>'),
-            EncodeSet::Fragment => matches!(byte, b' ' | b'"' | b'<' | b'>' | b'`'),
-        }
-    }
-}
+/// How many bytes are encoded at a time.
+const PART: usize = 64;
 
-/// The upper-case hexadecimal digit of a number below 16.
-fn hex_digit_of(value: u8) -> u8
-    requires { value < 16 }
-    ensures value { result ≡ hex_digit value }
-    ensures ascii { result < 128 }
-{
-    if value < 10 {
-        b'0' + value
-    } else {
-        b'A' - 10 + value
-    }
-}
+/// How many bytes there is room for, which is more than a part is written as.
+const ROOM: usize = 256;
 
-/// How many bytes a byte is written as.
-fn encoded_width(set: EncodeSet, byte: u8) -> usize
-    ensures { result ≡ length (encoded_byte (in_set set) byte) }
-{
-    if set.contains(byte) { 3 } else { 1 }
-}
-
-/// Writes a byte at the end of a text, percent-encoded where the set contains it.
-fn push_byte(text: &mut String, set: EncodeSet, byte: u8) -> Result<(), AllocError>
-    ensures { OnOk result (string_bytes text.new
-        ≡ string_bytes text.old ++ encoded_byte (in_set set) byte) }
-{
-    if !set.contains(byte) {
-        return text.push(char::from(byte));
-    }
-    text.push('%')?;
-    text.push(char::from(hex_digit_of(byte / 16)))?;
-    text.push(char::from(hex_digit_of(byte % 16)))
-}
-
-/// Whether bytes have no tab or newline and none that the set contains, so that they are written as they stand.
+/// Whether bytes have no tab or newline and none that the set contains, so that they are written as
+/// they stand.
 pub(crate) fn is_encoded(set: EncodeSet, bytes: &[u8]) -> bool
     ensures { result ≡ true → percent_encoded (in_set set) (dropped bytes.now) ≡ bytes.now }
 {
     for byte in bytes {
-        if is_tab_or_newline(*byte) || set.contains(*byte) {
+        if row(set, *byte)[3] != 1 {
             return false;
         }
     }
     true
 }
 
-/// How many bytes are written of others, without their tabs and newlines and percent-encoded, or the greatest number where
-/// they are more.
+/// How many bytes a part is written as.
+#[inline(always)]
+fn part_len(set: EncodeSet, part: &[u8]) -> usize
+    requires { length part.now ≤ 64 }
+    ensures { result ≡ length (percent_encoded (in_set set) (dropped part.now)) }
+{
+    let mut len = 0;
+    for byte in part {
+        len += usize::from(row(set, *byte)[3]);
+    }
+    len
+}
+
+/// How many bytes are written of others, without their tabs and newlines and percent-encoded, or
+/// the greatest number where they are more.
+#[inline(always)]
 pub(crate) fn encoded_len(set: EncodeSet, bytes: &[u8]) -> usize
     ensures { result
         ≡ min (length (percent_encoded (in_set set) (dropped bytes.now))) (2 ^ 64 - 1) }
 {
     let mut len: usize = 0;
-    for byte in bytes {
-        if !is_tab_or_newline(*byte) {
-            len = len.saturating_add(encoded_width(set, *byte));
-        }
+    let mut rest = bytes;
+    while !rest.is_empty() {
+        let (part, behind) = rest.split_at(rest.len().min(PART));
+        len = len.saturating_add(part_len(set, part));
+        rest = behind;
     }
     len
 }
 
+/// Writes a row to a place in the room.
+#[inline(always)]
+fn put(room: &mut [u8; ROOM], at: usize, row: &[u8])
+    requires room { at + 4 ≤ 256 }
+    requires row { length row.now ≡ 4 }
+    ensures { take (at + 4) room.new ≡ take at room.old ++ row.now }
+{
+    room[at..at + 4].copy_from_slice(row);
+}
+
+/// Writes a part to the front of the room, without its tabs and newlines and percent-encoded, and
+/// answers how many bytes that takes.
+#[inline(always)]
+fn encode_part(set: EncodeSet, part: &[u8], room: &mut [u8; ROOM]) -> usize
+    requires { length part.now ≤ 64 }
+    ensures few { result ≤ 256 }
+    ensures written { take result room.new ≡ percent_encoded (in_set set) (dropped part.now) }
+    ensures text { IsUtf8 (take result room.new) }
+{
+    let mut at = 0;
+    for byte in part {
+        let row = row(set, *byte);
+        put(room, at, row);
+        at += usize::from(row[3]);
+    }
+    at
+}
+
 /// Writes bytes at the end of a text, without their tabs and newlines and percent-encoded.
+#[inline(always)]
 pub(crate) fn push_encoded(
     text: &mut String,
     set: EncodeSet,
@@ -103,10 +109,13 @@ pub(crate) fn push_encoded(
     ensures { OnOk result (string_bytes text.new
         ≡ string_bytes text.old ++ percent_encoded (in_set set) (dropped bytes.now)) }
 {
-    for byte in bytes {
-        if !is_tab_or_newline(*byte) {
-            push_byte(text, set, *byte)?;
-        }
+    let mut room = [0; ROOM];
+    let mut rest = bytes;
+    while !rest.is_empty() {
+        let (part, behind) = rest.split_at(rest.len().min(PART));
+        let len = encode_part(set, part, &mut room);
+        text.push_str(unsafe { str::from_utf8_unchecked(&room[..len]) })?;
+        rest = behind;
     }
     Ok(())
 }

@@ -1,6 +1,7 @@
--- The percent-encode sets by their names in the code (URL Standard, section 1.3).
-use Rattle.std.specs.Prelude.{Bool, ℕ}
-use Rattle.data_url.specs.Url.{in_fragment_set, in_path_set, in_query_set}
+-- The percent-encode sets by their names in the code (URL Standard, section 1.3), and the rows of
+-- their tables.
+use Rattle.std.specs.Prelude.{[], if◌then◌else◌, ◌≡◌, Bool, List, length, slice_index, take, ℕ}
+use Rattle.data_url.specs.Url.{encoded_byte, in_fragment_set, in_path_set, in_query_set, is_tab_or_newline}
 use Rattle.data_url.specs.declared.percent.EncodeSet.TheVariants.{Fragment, Path, Query}
 use Rattle.data_url.specs.declared.percent.EncodeSet.{EncodeSet}
 
@@ -8,3 +9,13 @@ abbrev pub in_set : EncodeSet → ℕ → Bool
 in_set Path = in_path_set
 in_set Query = in_query_set
 in_set Fragment = in_fragment_set
+
+-- what a byte is written as: nothing for a tab or newline
+abbrev pub written : (ℕ → Bool) → ℕ → List ℕ
+written p b = if is_tab_or_newline b then [] else encoded_byte p b
+
+-- a row of four bytes begins with what its byte is written as, and ends with how long that is
+pub record IsRow (p : ℕ → Bool) (b : ℕ) (row : List ℕ) : Type 0 where
+  pub four : length row ≡ 4
+  pub len_is : slice_index row 3 ≡ length (written p b)
+  pub begins : take (slice_index row 3) row ≡ written p b

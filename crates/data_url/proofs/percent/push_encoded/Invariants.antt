@@ -1,8 +1,11 @@
--- The bytes were written as far as they were read.
-use Rattle.std.specs.Prelude.{string_bytes}
+-- What stands before the rest is written.
+use Rattle.std.specs.Prelude.{length, string_bytes}
 use Rattle.data_url.specs.Steps.Sets.{in_set}
-use Rattle.data_url.proofs.EncodeLemmas.{WroteTo}
+use Rattle.data_url.proofs.EncodeLemmas.{WroteBefore}
 use Rattle.data_url.proofs.percent.push_encoded.Given as goal
 
-abbrev pub invariant-loop-byte : goal.invariant-loop-byte
-invariant-loop-byte l = WroteTo (in_set l.fn.set) l.fn.bytes l.byte-index (string_bytes l.fn.text) (string_bytes l.text)
+abbrev pub invariant-loop-rest : goal.invariant-loop-rest
+invariant-loop-rest l = WroteBefore (in_set l.fn.set) l.fn.bytes l.rest (string_bytes l.fn.text) (string_bytes l.text)
+
+abbrev pub decreases-loop-rest : goal.decreases-loop-rest
+decreases-loop-rest l = length l.rest
