@@ -35,10 +35,9 @@ parts_serialised text path query h = ⊎_elim
     (λ some. ap (encoded_parts path) some.1 ∙ path_and_query path some.0 h.path_ends ∙ ap (λ s. serialised (dropped s)) (sym (h.joined ∙ ap (λ s. path ++ s) some.1)))
     h.query_begins
 
--- parts that are written as they stand
-pub parts_kept : (header text path query : List ℕ) → text ≡ header → IsPathAndQuery text path query → percent_encoded in_path_set (dropped path) ≡ path → percent_encoded in_query_set (dropped query) ≡ query → serialised (dropped header) ≡ header
-parts_kept header text path query e h p q =
-    subst (λ s. serialised (dropped s) ≡ s) e (sym (parts_serialised text path query h) ∙ ap (λ s. s ++ percent_encoded in_query_set (dropped query)) p ∙ ap (λ s. path ++ s) q ∙ sym h.joined)
+-- a header whose bytes are serialised as they stand
+pub stays : (header text : List ℕ) → text ≡ header → serialised (dropped text) ≡ text → serialised (dropped header) ≡ header
+stays header text e h = subst (λ s. serialised (dropped s) ≡ s) e h
 
 is_false : (b : Bool) → not b ≡ true → b ≡ false
 is_false true h = absurd (let k = h in cc)

@@ -1,6 +1,6 @@
 //! The header of a data: URL (Fetch Standard, section 6), from its text as it was given.
 
-ghost use Rattle.std.specs.Prelude.{◌≡◌, IfOk, string_bytes};
+ghost use Rattle.std.specs.Prelude.{◌≡◌, IfOk, string_bytes, true};
 ghost use Rattle.std.specs.List.{prefix_len};
 ghost use Rattle.std.specs.Str.{chars};
 ghost use Rattle.data_url.specs.Url.{dropped, serialised};
@@ -11,7 +11,7 @@ ghost use Rattle.data_url.specs.MimeType.{as_option, seen};
 
 use crate::ascii::{low_end_len, trim};
 use crate::mime::{Mime, MimeFromStrError};
-use crate::percent::{EncodeSet, encoded_len, is_encoded, push_encoded};
+use crate::percent::{EncodeSet, encoded_len, is_kept, push_encoded};
 use std::alloc::{AllocError, Global};
 
 const PLAIN: &str = "text/plain";
@@ -30,6 +30,18 @@ fn path_len(header: &[u8]) -> usize
     ensures { result ≡ prefix_len is_no_question_mark header.now }
 {
     header.iter().take_while(|byte| **byte != b'?').count()
+}
+
+/// Whether a header has no query and is serialised as it stands, as most are.
+fn is_serialised_path(header: &[u8]) -> bool
+    ensures { result ≡ true → serialised (dropped header.now) ≡ header.now }
+{
+    for byte in header {
+        if *byte == b'?' || !is_kept(EncodeSet::Path, *byte) {
+            return false;
+        }
+    }
+    true
 }
 
 /// A path with its query, serialised. Room for the text is taken once, at its exact length.
@@ -67,10 +79,11 @@ pub(crate) fn read_header(alloc: Global, header: &str) -> Result<(Mime, bool), A
     ensures { IfOk result (λ found.
         IsHeaderOf (serialised (dropped header.now)) (seen found.0) found.1) }
 {
-    let (path, query) = split_query(header.as_bytes());
-    if is_encoded(EncodeSet::Path, path) && is_encoded(EncodeSet::Query, query) {
+    let bytes = header.as_bytes();
+    if is_serialised_path(bytes) {
         return read_serialised(alloc, header);
     }
+    let (path, query) = split_query(bytes);
     read_serialised(alloc, serialise(alloc, path, query)?.as_str())
 }
 
@@ -92,7 +105,10 @@ fn read_media(alloc: Global, media: &str) -> Result<Mime, AllocError>
     ensures { IfOk result (λ mime. IsRecordFor (with_plain media.now) (seen mime)) }
 {
     let bytes = media.as_bytes();
-    if bytes.is_empty() || bytes[0] != b';' {
+    if bytes.is_empty() {
+        return default_mime(alloc);
+    }
+    if bytes[0] != b';' {
         return record_of(alloc, media);
     }
     let mut text = String::with_capacity(alloc, PLAIN.len().saturating_add(media.len()))?;
