@@ -1,19 +1,20 @@
 -- Percent-encoding a text without its tabs and newlines: byte by byte, and part by part.
-use Rattle.std.proofs.Common.{◌≡◌, ℕ, suc, ◌+◌, ◌*◌, ◌-◌, ◌<◌, ◌≤◌, ◌^◌, Bool, true, false, List, [], ◌∷◌, ◌++◌, length, get_or, take, drop, refl, sym, ap, ◌∙◌, subst, append_assoc, arith, inl, inr, length-append, take-append-drop}
+use Rattle.std.proofs.Common.{◌≡◌, ℕ, suc, ◌+◌, ◌*◌, ◌-◌, ◌<◌, ◌≤◌, ◌^◌, ◌≢◌, Bool, true, false, List, [], ◌∷◌, ◌++◌, length, get_or, take, drop, refl, sym, ap, ◌∙◌, subst, append_assoc, arith, inl, inr, ⊎_elim, length-append, take-append-drop}
 use Rattle.std.specs.Prelude.{◌==◌, min, nat_lt, slice_index}
 use Rattle.std.specs.List.{list_all}
 use Rattle.std.specs.Str.{IsAscii, IsUtf8}
 use Rattle.std.proofs.Math.Seq.{take-append-add}
-use Rattle.std.proofs.lemmas.Bool.{agree_below_at, and_parts, cases_Bool, cond-false, cond-true, eqb-false, eqb-true, ltb-true}
+use Rattle.std.proofs.lemmas.Bool.{agree_below_at, and_parts, cases_Bool, cases_lt, cond-false, cond-true, eqb-false, eqb-true, ltb-true, ne_eqb}
 use Rattle.std.proofs.lemmas.Grind.{flat_map-append}
 use Rattle.std.proofs.lemmas.List.{append-nil, drop_all, drop_more, length-take-le, nil_from_length, take-take, take_all, take_more}
 use Rattle.std.proofs.lemmas.Str.{IsAscii-append, IsUtf8-from_ascii}
 use Rattle.std.proofs.lemmas.Str.Ascii.{IsAscii-cons, IsAscii-nil}
-use Rattle.data_url.specs.Url.{dropped, encoded_byte, in_fragment_set, in_path_set, in_query_set, is_tab_or_newline, percent_encoded}
+use Rattle.data_url.specs.Url.{before, dropped, encoded_byte, in_fragment_set, in_path_set, in_query_set, is_tab_or_newline, percent_encoded}
+use Rattle.data_url.specs.Steps.Header.{header_parts, header_text}
 use Rattle.data_url.specs.Steps.Sets.{IsRow, in_set, written}
 use Rattle.data_url.specs.declared.percent.EncodeSet.TheVariants.{Fragment, Path, Query}
 use Rattle.data_url.specs.declared.percent.EncodeSet.{EncodeSet}
-use Rattle.data_url.proofs.UrlLemmas.{dropped-append, dropped_keeps, dropped_nil, dropped_passes}
+use Rattle.data_url.proofs.UrlLemmas.{before_all, behind-dropped_none, behind_none, dropped-append, dropped_keeps, dropped_nil, dropped_passes}
 use Rattle.data_url.proofs.RecodedLemmas.{encoded_cons, encoded_nil}
 
 -- what a text is written as
@@ -95,18 +96,36 @@ itself p b h = elim (cases_Bool (is_tab_or_newline b)) [
   ]
 ]
 
--- up to byte i the text is written as it stands
-abbrev pub KeptTo : (ℕ → Bool) → List ℕ → ℕ → Type 0
-KeptTo p s i = WroteTo p s i (take i s)
+-- a row of one byte is that of a byte that is written as itself
+pub row_kept : (p : ℕ → Bool) (b : ℕ) (row : List ℕ) (r : Bool) → IsRow p b row → r ≡ (slice_index row 3 == 1) → r ≡ true → written p b ≡ b ∷ []
+row_kept p b row r h e t = itself p b (sym h.len_is ∙ eqb-true (slice_index row 3) 1 (sym e ∙ t))
 
-pub kept_more : (p : ℕ → Bool) (s : List ℕ) (i : ℕ) (row : List ℕ) → KeptTo p s i → i < length s → IsRow p (get_or s i 0) row → slice_index row 3 ≡ 1 → KeptTo p s (i + 1)
-kept_more p s i row w l r one =
+-- up to byte i the text is written as it stands, and has no '?'
+pub record KeptTo (s : List ℕ) (i : ℕ) : Type 0 where
+  pub kept : WroteTo in_path_set s i (take i s)
+  pub no_query : (k : ℕ) → k < i → (get_or s k 0 == 63) ≡ false
+
+pub kept_none : (s : List ℕ) → KeptTo s 0
+kept_none s = record { kept = refl; no_query = λ k l. absurd (omega arith) }
+
+pub kept_more : (s : List ℕ) (i : ℕ) → KeptTo s i → i < length s → get_or s i 0 ≢ 63 → written in_path_set (get_or s i 0) ≡ get_or s i 0 ∷ [] → KeptTo s (i + 1)
+kept_more s i w l n h =
     let b = get_or s i 0 in
-    let same : take i s ++ written p b ≡ take (i + 1) s = ap (λ t. take i s ++ t) (itself p b (sym r.len_is ∙ one)) ∙ sym (take_more s i 0 l) in
-    subst (WroteTo p s (i + 1)) same (wrote_more p s i (take i s) w l)
+    let same : take i s ++ written in_path_set b ≡ take (i + 1) s = ap (λ t. take i s ++ t) h ∙ sym (take_more s i 0 l) in
+    record {
+      kept = subst (WroteTo in_path_set s (i + 1)) same (wrote_more in_path_set s i (take i s) w.kept l);
+      no_query = λ k m. ⊎_elim (λ (e : k < i). w.no_query k e) (λ (e : i ≤ k). let f : k ≡ i = omega arith in ap (λ j. get_or s j 0 == 63) f ∙ ne_eqb b 63 n) (cases_lt k i);
+    }
 
-pub kept_all : (p : ℕ → Bool) (s : List ℕ) (i : ℕ) → KeptTo p s i → length s ≤ i → encoded p s ≡ s
-kept_all p s i w l = sym (wrote_all p s i (take i s) w l) ∙ take_all i s l
+-- a path that is written as it stands is serialised so
+pub kept_all : (s : List ℕ) (i : ℕ) → KeptTo s i → length s ≤ i → header_text (dropped s) ≡ s
+unfolding header_text
+kept_all s i w l =
+    let none = behind-dropped_none 63 refl s (behind_none 63 s (λ k m. w.no_query k (omega arith))) in
+    ap (λ o. header_parts (before 63 (dropped s)) o) none
+    ∙ ap (percent_encoded in_path_set) (before_all 63 (dropped s) none)
+    ∙ sym (wrote_all in_path_set s i (take i s) w.kept l)
+    ∙ take_all i s l
 
 -- so many bytes are written up to byte i
 pub record MeasuredTo (p : ℕ → Bool) (s : List ℕ) (i len : ℕ) : Type 0 where
@@ -184,10 +203,10 @@ wrote_parts p s rest old text w h = sym (append-nil text) ∙ ap (λ t. text ++ 
 
 -- What is written is ASCII
 
-abbrev are_ascii : List ℕ → Bool
+abbrev pub are_ascii : List ℕ → Bool
 are_ascii s = list_all (λ c. nat_lt c 128) s
 
-ascii_all : (s : List ℕ) → are_ascii s ≡ true → IsAscii s
+pub ascii_all : (s : List ℕ) → are_ascii s ≡ true → IsAscii s
 ascii_all [] h = IsAscii-nil
 ascii_all (c ∷ s) h = let e = and_parts (nat_lt c 128) (are_ascii s) h in IsAscii-cons c s (ltb-true c 128 e.0) (ascii_all s e.1)
 

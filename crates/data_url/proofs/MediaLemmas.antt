@@ -1,6 +1,6 @@
 -- The record of a header.
 use Rattle.std.proofs.Common.{◌≡◌, ◌≢◌, ℕ, suc, ◌<◌, ◌≤◌, Bool, true, false, cond, List, [], ◌∷◌, ◌++◌, length, get_or, map, codes, Option, None, Some, is_some, refl, sym, ap, inl, inr, subst, ⊎_elim, ltb, arith}
-use Rattle.std.specs.Prelude.{◌==◌, ◌⊎◌, ◌-◌, option_and_then, unwrap_or}
+use Rattle.std.specs.Prelude.{◌==◌, ◌-◌, option_and_then, unwrap_or}
 use Rattle.std.specs.Str.{IsAscii, bytes_eq, chars}
 use Rattle.std.proofs.lemmas.Bool.{agree_below_at, cases_lt, cond-true, cond-false, eq-eqb, ltb-true, ne_eqb}
 use Rattle.std.proofs.lemmas.List.{get_or_past}
@@ -42,10 +42,9 @@ default_is type_ subtype charset value a b c d = λ i. record { type_ = chars (a
 
 -- A type that is left out
 
-pub plain_stays : (media : List ℕ) → (media ≡ []) ⊎ (get_or media 0 0 ≢ 59) → with_plain media ≡ media
-plain_stays [] h = refl
-plain_stays (c ∷ s) (inl e) = absurd (let k : c ∷ s ≡ [] = e in cc)
-plain_stays (c ∷ s) (inr n) = cond-false (c == 59) (codes "text/plain" ++ c ∷ s) (c ∷ s) (ne_eqb c 59 n)
+pub plain_stays : (media : List ℕ) → get_or media 0 0 ≢ 59 → with_plain media ≡ media
+plain_stays [] n = refl
+plain_stays (c ∷ s) n = cond-false (c == 59) (codes "text/plain" ++ c ∷ s) (c ∷ s) (ne_eqb c 59 n)
 
 pub plain_added : (media : List ℕ) → get_or media 0 0 ≡ 59 → with_plain media ≡ codes "text/plain" ++ media
 plain_added [] h = absurd (omega (arith, h))

@@ -261,7 +261,7 @@ no_parameters : (s : List ℕ) (r : List ℕ) → parameters_in (trimmed_of is_h
 unfolding on_literals
 no_parameters s r e n m h = n (subst BeginsParameters (sym (has_parts s h.type_ h.subtype h.parameters h.head).parameters_are ∙ e) h.head.begins)
 
-empty_text : HasNoRecord []
+pub empty_text : HasNoRecord []
 unfolding on_literals
 empty_text = no_type [] refl
 

@@ -1,13 +1,18 @@
 -- Spelling the scheme, one byte after the other.
-use Rattle.std.proofs.Common.{◌≡◌, ◌≢◌, ℕ, ◌+◌, ◌<◌, ◌≤◌, true, false, List, [], ◌∷◌, ◌++◌, length, get_or, take, map, codes, min, ltb, refl, sym, ap, ◌∙◌, ⊎_elim, arith}
+use Rattle.std.proofs.Common.{◌≡◌, ◌≢◌, ℕ, ◌+◌, ◌<◌, ◌≤◌, Bool, true, false, List, [], ◌∷◌, ◌++◌, length, get_or, take, drop, map, nat_eq, subst, length-append, codes, min, ltb, refl, sym, ap, ◌∙◌, ⊎_elim, arith}
 use Rattle.std.specs.Char.{to_ascii_lowercase}
 use Rattle.std.specs.Str.{bytes_eq}
 use Rattle.std.proofs.lemmas.Bool.{agree_below_at, cases_lt, false_from_ne_true, ltb-true}
 use Rattle.std.proofs.lemmas.Str.Ascii.{lowercase_is}
-use Rattle.std.proofs.lemmas.List.{get_or_at, get_or-take, length-map, length-take, map-append, take-map, take_more}
-use Rattle.std.proofs.lemmas.Slice.Eq.{bytes_eq-Decides}
+use Rattle.std.proofs.lemmas.List.{get_or_at, get_or-take, length-map, length-take, map-append, take-append-le, take-map, take_more}
+use Rattle.std.proofs.lemmas.Slice.Eq.{bytes_eq-Decides, starts_is}
+use Rattle.std.specs.List.{starts_with}
+use Rattle.std.specs.Str.{IsCharBoundary, IsUtf8}
+use Rattle.std.proofs.lemmas.Bool.Decides.{Decides-eqb}
+use Rattle.std.proofs.lemmas.Str.{IsCharBoundary-from_take, IsUtf8-from_ascii}
 use Rattle.data_url.specs.Url.{dropped, is_tab_or_newline}
-use Rattle.data_url.specs.Steps.Front.{HasNoScheme}
+use Rattle.data_url.specs.Steps.Front.{HasNoScheme, IsSchemeAndRest}
+use Rattle.data_url.proofs.EncodeLemmas.{ascii_all}
 use Rattle.data_url.proofs.UrlLemmas.{append-nil, dropped-append, dropped_keeps, dropped_nil, dropped_passes}
 
 abbrev scheme : List ℕ
@@ -70,3 +75,21 @@ pub scheme_is_ascii : (n b : ℕ) → n < 5 → to_ascii_lowercase b ≡ get_or 
 scheme_is_ascii n b l e =
     let low : get_or scheme n 0 < 128 = ltb-true (get_or scheme n 0) 128 (agree_below_at (λ n. ltb (get_or scheme n 0) 128) (λ n. true) 5 n refl l) in
     ⊎_elim (λ h. h) (λ (h : 128 ≤ b). let stays : to_ascii_lowercase b ≡ b = (lowercase_is b).2 (omega arith) in omega arith) (cases_lt b 128)
+
+-- The scheme as it is commonly spelled
+
+common_spelled : map to_ascii_lowercase (dropped scheme) ≡ scheme
+unfolding dropped
+common_spelled = refl
+
+pub common_front : (text items : List ℕ) (r : Bool) → items ≡ text → r ≡ starts_with nat_eq items scheme → r ≡ true → text ≡ scheme ++ drop 5 text
+common_front text items r e f h = subst (λ s. s ≡ scheme ++ drop 5 s) e ((starts_is Decides-eqb items scheme r f).0 h)
+
+pub common_boundary : (text : List ℕ) → IsUtf8 text → text ≡ scheme ++ drop 5 text → IsCharBoundary text 5
+common_boundary text u h =
+    let front : take 5 text ≡ scheme = ap (take 5) h ∙ take-append-le 5 scheme (drop 5 text) (omega arith) in
+    let long : 5 ≤ length text = omega (arith, ap length h, length-append scheme (drop 5 text)) in
+    IsCharBoundary-from_take text 5 u long (subst IsUtf8 (sym front) (IsUtf8-from_ascii scheme (ascii_all scheme refl)))
+
+pub common_scheme : (text rest : List ℕ) → text ≡ scheme ++ drop 5 text → rest ≡ drop 5 text → IsSchemeAndRest text rest
+common_scheme text rest h e = record { scheme = scheme; joined = h ∙ ap (λ s. scheme ++ s) (sym e); spelled = common_spelled }

@@ -7,7 +7,7 @@ use Rattle.std.proofs.lemmas.Bool.{cases_lt, ne_eqb}
 use Rattle.std.proofs.lemmas.List.{append-nil, drop_all, drop_more, get_or-drop, get_or-reverse, get_or-take, length-drop, length-reverse, length-take, take-append-drop}
 use Rattle.std.proofs.lemmas.List.Sums.{prefix_len_passes, prefix_len_stops}
 use Rattle.data_url.specs.Url.{before, behind, dropped, encoded_byte, encoded_path, hex_digit, in_path_end_set, in_path_set, in_query_set, is_tab_or_newline, percent_encoded}
-use Rattle.data_url.specs.Steps.Header.{HasNoLastSpace, IsParts, IsPathAndQuery, WithoutSpace, encoded_parts, header_parts, header_text, is_no_question_mark}
+use Rattle.data_url.specs.Steps.Header.{HasNoLastSpace, IsPathAndQuery, WithoutSpace, encoded_parts, header_parts, header_text, is_no_question_mark}
 use Rattle.data_url.proofs.UrlLemmas.{before_all, before_at, behind-dropped_none, behind_at, behind_none, dropped-append, dropped_around, dropped_keeps, dropped_nil, dropped_passes}
 use Rattle.data_url.proofs.RecodedLemmas.{encoded_cons, encoded_nil, path_cons, path_nil}
 
@@ -118,44 +118,37 @@ some_bytes [] v e f n = absurd (let k : true ≡ false = sym e ∙ f in cc)
 some_bytes (b ∷ s) v e f n = absurd (let k = n in cc)
 
 -- where there is no last space, or no query
-pub parts_whole : (header path query : List ℕ) → IsPathAndQuery header path query → (query ≡ []) ⊎ HasNoLastSpace path → IsParts header path [] query
-parts_whole header path query h end = record {
-  joined = λ e. h.joined;
-  text_is = ⊎_elim
-      (λ none.
-      ap (encoded_parts path []) none ∙ nothing_behind path ∙ sym (header_alone path h.path_ends)
-      ∙ ap (λ s. header_text (dropped s)) (sym (h.joined ∙ ap (λ s. path ++ s) none ∙ append-nil path)))
-      (λ some.
-      ⊎_elim
-      (λ none. absurd (let k : 63 ∷ some.0 ≡ [] = sym some.1 ∙ none in cc))
-      (λ other.
-      ap (encoded_parts path []) some.1
-      ∙ ap (λ s. s ++ percent_encoded in_query_set (dropped (63 ∷ some.0))) (sym other)
-      ∙ sym (header_and_query path some.0 h.path_ends)
-      ∙ ap (λ s. header_text (dropped s)) (sym (h.joined ∙ ap (λ s. path ++ s) some.1)))
-      end)
-      h.query_begins;
-}
+pub parts_whole : (header path query : List ℕ) → IsPathAndQuery header path query → (query ≡ []) ⊎ HasNoLastSpace path → encoded_parts path [] query ≡ header_text (dropped header)
+parts_whole header path query h end = ⊎_elim
+    (λ none.
+    ap (encoded_parts path []) none ∙ nothing_behind path ∙ sym (header_alone path h.path_ends)
+    ∙ ap (λ s. header_text (dropped s)) (sym (h.joined ∙ ap (λ s. path ++ s) none ∙ append-nil path)))
+    (λ some.
+    ⊎_elim
+    (λ none. absurd (let k : 63 ∷ some.0 ≡ [] = sym some.1 ∙ none in cc))
+    (λ other.
+    ap (encoded_parts path []) some.1
+    ∙ ap (λ s. s ++ percent_encoded in_query_set (dropped (63 ∷ some.0))) (sym other)
+    ∙ sym (header_and_query path some.0 h.path_ends)
+    ∙ ap (λ s. header_text (dropped s)) (sym (h.joined ∙ ap (λ s. path ++ s) some.1)))
+    end)
+    h.query_begins
 
 -- where there is
-pub parts_spaced : (header path front query : List ℕ) → IsPathAndQuery header path query → query ≢ [] → WithoutSpace path front → IsParts header front (codes "%20") query
-parts_spaced header path front query h there w = record {
-  joined = λ e. absurd (let k = e in cc);
-  text_is = ⊎_elim
-      (λ none. absurd (there none))
-      (λ some.
-      ap (encoded_parts front (codes "%20")) some.1
-      ∙ sym (append_assoc (percent_encoded in_path_set (dropped front)) (codes "%20") (percent_encoded in_query_set (dropped (63 ∷ some.0))))
-      ∙ ap (λ s. s ++ percent_encoded in_query_set (dropped (63 ∷ some.0))) (sym (ap encoded_path w ∙ path_space (dropped front)))
-      ∙ sym (header_and_query path some.0 h.path_ends)
-      ∙ ap (λ s. header_text (dropped s)) (sym (h.joined ∙ ap (λ s. path ++ s) some.1)))
-      h.query_begins;
-}
+pub parts_spaced : (header path front query : List ℕ) → IsPathAndQuery header path query → query ≢ [] → WithoutSpace path front → encoded_parts front (codes "%20") query ≡ header_text (dropped header)
+parts_spaced header path front query h there w = ⊎_elim
+    (λ none. absurd (there none))
+    (λ some.
+    ap (encoded_parts front (codes "%20")) some.1
+    ∙ sym (append_assoc (percent_encoded in_path_set (dropped front)) (codes "%20") (percent_encoded in_query_set (dropped (63 ∷ some.0))))
+    ∙ ap (λ s. s ++ percent_encoded in_query_set (dropped (63 ∷ some.0))) (sym (ap encoded_path w ∙ path_space (dropped front)))
+    ∙ sym (header_and_query path some.0 h.path_ends)
+    ∙ ap (λ s. header_text (dropped s)) (sym (h.joined ∙ ap (λ s. path ++ s) some.1)))
+    h.query_begins
 
--- parts that are written as they stand
-pub parts_kept : (header text path space query : List ℕ) → text ≡ header → IsParts text path space query → encoded_parts path space query ≡ path ++ query → space ≡ [] → header_text (dropped header) ≡ header
-parts_kept header text path space query e h kept none =
-    subst (λ s. header_text (dropped s) ≡ s) e (sym h.text_is ∙ kept ∙ sym (h.joined none))
+-- a header whose bytes are serialised as they stand
+pub stays : (header text : List ℕ) → text ≡ header → header_text (dropped text) ≡ text → header_text (dropped header) ≡ header
+stays header text e h = subst (λ s. header_text (dropped s) ≡ s) e h
 
 is_false : (b : Bool) → not b ≡ true → b ≡ false
 is_false true h = absurd (let k = h in cc)

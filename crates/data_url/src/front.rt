@@ -14,6 +14,17 @@ pub(crate) fn after_scheme(text: &str) -> Option<&str>
     ensures found { IfSome result (λ rest. IsSchemeAndRest text.now rest.now) }
     ensures none { IfNone result (HasNoScheme text.now) }
 {
+    if text.as_bytes().starts_with(&SCHEME) {
+        return Some(&text[SCHEME.len()..]);
+    }
+    after_respelled_scheme(text)
+}
+
+/// The same of a text whose scheme need not be spelled as it commonly is.
+fn after_respelled_scheme(text: &str) -> Option<&str>
+    ensures found { IfSome result (λ rest. IsSchemeAndRest text.now rest.now) }
+    ensures none { IfNone result (HasNoScheme text.now) }
+{
     let mut matched = 0;
     for (place, byte) in text.as_bytes().iter().enumerate() {
         if is_tab_or_newline(*byte) {

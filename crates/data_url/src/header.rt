@@ -1,17 +1,17 @@
 //! The header of a data: URL (Fetch Standard, section 6), from its text as it was given.
 
-ghost use Rattle.std.specs.Prelude.{[], ◌++◌, ◌≡◌, IfNone, IfOk, IfSome, string_bytes, true};
+ghost use Rattle.std.specs.Prelude.{◌≡◌, IfNone, IfOk, IfSome, string_bytes, true};
 ghost use Rattle.std.specs.List.{prefix_len, suffix_len};
 ghost use Rattle.std.specs.Str.{chars};
 ghost use Rattle.data_url.specs.Url.{dropped, is_tab_or_newline};
 ghost use Rattle.data_url.specs.Fetch.{before_base64, with_plain};
 ghost use Rattle.data_url.specs.Mime.{default_record};
-ghost use Rattle.data_url.specs.Steps.Header.{HasNoLastSpace, IsHeaderOf, IsParts, IsPathAndQuery, IsPrintable, IsRecordFor, WithoutSpace, encoded_parts, header_text, is_no_question_mark};
+ghost use Rattle.data_url.specs.Steps.Header.{HasNoLastSpace, IsHeaderOf, IsPathAndQuery, IsPrintable, IsRecordFor, WithoutSpace, encoded_parts, header_text, is_no_question_mark};
 ghost use Rattle.data_url.specs.MimeType.{as_option, seen};
 
 use crate::ascii::{is_tab_or_newline, low_end_len, trim};
 use crate::mime::{Mime, MimeFromStrError};
-use crate::percent::{EncodeSet, encoded_len, is_encoded, push_encoded};
+use crate::percent::{EncodeSet, encoded_len, is_kept, push_encoded};
 use std::alloc::{AllocError, Global};
 
 const PLAIN: &str = "text/plain";
@@ -19,6 +19,18 @@ const PLAIN: &str = "text/plain";
 const SUFFIX: [u8; 6] = *b"base64";
 
 const ENCODED_SPACE: &str = "%20";
+
+/// Whether a header has no query and is serialised as it stands, as most are.
+fn is_serialised_path(header: &[u8]) -> bool
+    ensures { result ≡ true → header_text (dropped header.now) ≡ header.now }
+{
+    for byte in header {
+        if *byte == b'?' || !is_kept(EncodeSet::Path, *byte) {
+            return false;
+        }
+    }
+    true
+}
 
 /// The text of a header as it was given, in parts.
 #[derive(Clone, Copy)]
@@ -70,7 +82,8 @@ fn without_last_space(path: &[u8]) -> Option<&[u8]>
 
 /// The parts of a header.
 fn parts_of(header: &[u8]) -> Parts<'_>
-    ensures { IsParts header.now result.path.now result.space.now result.query.now }
+    ensures { encoded_parts result.path.now result.space.now result.query.now
+        ≡ header_text (dropped header.now) }
 {
     let (path, query) = split_query(header);
     match without_last_space(path) {
@@ -88,17 +101,6 @@ fn parts_of(header: &[u8]) -> Parts<'_>
 }
 
 impl Parts<'_> {
-    /// Whether the header is written as it stands.
-    fn is_encoded(&self) -> bool
-        ensures kept { result ≡ true → encoded_parts self.now.path.now self.now.space.now
-            self.now.query.now ≡ self.now.path.now ++ self.now.query.now }
-        ensures none { result ≡ true → self.now.space.now ≡ [] }
-    {
-        self.space.is_empty()
-            && is_encoded(EncodeSet::Path, self.path)
-            && is_encoded(EncodeSet::Query, self.query)
-    }
-
     /// The text, serialised. Room for it is taken once, at its exact length.
     fn serialised(&self, alloc: Global) -> Result<String, AllocError>
         ensures { IfOk result (λ text. string_bytes text
@@ -138,11 +140,11 @@ pub(crate) fn read_header(alloc: Global, header: &str) -> Result<(Mime, bool), A
     ensures { IfOk result (λ found.
         IsHeaderOf (header_text (dropped header.now)) (seen found.0) found.1) }
 {
-    let parts = parts_of(header.as_bytes());
-    if parts.is_encoded() {
+    let bytes = header.as_bytes();
+    if is_serialised_path(bytes) {
         return read_serialised(alloc, header);
     }
-    read_serialised(alloc, parts.serialised(alloc)?.as_str())
+    read_serialised(alloc, parts_of(bytes).serialised(alloc)?.as_str())
 }
 
 /// The record of a serialised header, and whether the body is base64.
@@ -163,7 +165,10 @@ fn read_media(alloc: Global, media: &str) -> Result<Mime, AllocError>
     ensures { IfOk result (λ mime. IsRecordFor (with_plain media.now) (seen mime)) }
 {
     let bytes = media.as_bytes();
-    if bytes.is_empty() || bytes[0] != b';' {
+    if bytes.is_empty() {
+        return default_mime(alloc);
+    }
+    if bytes[0] != b';' {
         return record_of(alloc, media);
     }
     let mut text = String::with_capacity(alloc, PLAIN.len().saturating_add(media.len()))?;

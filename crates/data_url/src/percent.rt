@@ -1,9 +1,9 @@
 //! Percent-encoding (URL Standard, section 1.3).
 
-ghost use Rattle.std.specs.Prelude.{◌≡◌, ◌≤◌, ◌+◌, ◌++◌, ◌-◌, ◌^◌, OnOk, length, min, string_bytes, take, true};
+ghost use Rattle.std.specs.Prelude.{◌≡◌, ◌≤◌, ◌+◌, ◌++◌, ◌-◌, ◌^◌, ◌∷◌, [], OnOk, length, min, string_bytes, take, true};
 ghost use Rattle.std.specs.Str.{IsUtf8};
 ghost use Rattle.data_url.specs.Url.{dropped, percent_encoded};
-ghost use Rattle.data_url.specs.Steps.Sets.{in_set};
+ghost use Rattle.data_url.specs.Steps.Sets.{in_set, written};
 
 mod rows;
 
@@ -28,17 +28,12 @@ const PART: usize = 64;
 /// How many bytes there is room for, which is more than a part is written as.
 const ROOM: usize = 256;
 
-/// Whether bytes have no tab or newline and none that the set contains, so that they are written as
-/// they stand.
-pub(crate) fn is_encoded(set: EncodeSet, bytes: &[u8]) -> bool
-    ensures { result ≡ true → percent_encoded (in_set set) (dropped bytes.now) ≡ bytes.now }
+/// Whether a byte is neither a tab or newline nor in the set, so that it is written as it stands.
+#[inline(always)]
+pub(crate) fn is_kept(set: EncodeSet, byte: u8) -> bool
+    ensures { result ≡ true → written (in_set set) byte ≡ byte ∷ [] }
 {
-    for byte in bytes {
-        if row(set, *byte)[3] != 1 {
-            return false;
-        }
-    }
-    true
+    row(set, byte)[3] == 1
 }
 
 /// How many bytes a part is written as.

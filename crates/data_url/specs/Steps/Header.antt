@@ -29,11 +29,6 @@ abbrev pub encoded_parts : List ℕ → List ℕ → List ℕ → List ℕ
 encoded_parts path space query = percent_encoded in_path_set (dropped path)
     ++ (space ++ percent_encoded in_query_set (dropped query))
 
--- the parts make up the header's text, and without a last space the header
-pub record IsParts (header path space query : List ℕ) : Type 0 where
-  pub text_is : encoded_parts path space query ≡ header_text (dropped header)
-  pub joined : space ≡ [] → header ≡ path ++ query
-
 -- a path without its last space, behind which at most tabs and newlines stand
 abbrev pub WithoutSpace : List ℕ → List ℕ → Type 0
 WithoutSpace path front = dropped path ≡ dropped front ++ 32 ∷ []

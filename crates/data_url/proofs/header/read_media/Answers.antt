@@ -1,22 +1,25 @@
-use Rattle.std.proofs.Common.{◌≡◌, ◌≢◌, [], ◌++◌, codes, length, get_or, inl, inr, sym, ap, ◌∙◌, subst, eqb-true}
-use Rattle.std.specs.Prelude.{◌⊎◌}
+use Rattle.std.proofs.Common.{◌≡◌, ◌≢◌, [], ◌++◌, codes, length, get_or, sym, ap, ◌∙◌, subst, eqb-true}
 use Rattle.std.specs.Str.{chars}
 use Rattle.std.proofs.lemmas.List.{nil_from_length}
 use Rattle.std.proofs.lemmas.Result.{IfOk-weaker}
 use Rattle.data_url.specs.Fetch.{with_plain}
+use Rattle.data_url.specs.Mime.{HasNoRecord}
 use Rattle.data_url.specs.Steps.Header.{IsRecordFor}
 use Rattle.data_url.specs.MimeType.{seen}
-use Rattle.data_url.proofs.MediaLemmas.{chars_plain, chars_printable, plain_added, plain_stays}
+use Rattle.data_url.proofs.MediaLemmas.{chars_plain, chars_printable, default_for, plain_added, plain_stays}
+use Rattle.data_url.proofs.MimeExamples.{empty_text}
 use Rattle.data_url.proofs.header.read_media.Goals as goal
-use Rattle.data_url.proofs.header.read_media.Goals.{then-is_empty-via-then-is_empty, then-is_empty-via-else-is_empty+then-bytes-ne59}
 
 pub returns-then-is_empty : goal.returns-then-is_empty
 returns-then-is_empty c =
     let bytes = c.as_bytes-bytes.ensures.value in
-    let unlike : (c.args.media.now ≡ []) ⊎ (get_or c.args.media.now 0 0 ≢ 59) = elim c.then-is_empty.branch [
-      | then-is_empty-via-then-is_empty w ↦ inl (nil_from_length c.args.media.now (ap length (sym bytes) ∙ eqb-true (length c.as_bytes-bytes.result.now) 0 (sym c.is_empty.ensures ∙ w.if-is_empty.true)))
-      | then-is_empty-via-else-is_empty+then-bytes-ne59 w ↦ inr (λ e. w.if-bytes-ne59.true (ap (λ s. get_or s 0 0) bytes ∙ e))
-    ] in
+    let none : c.args.media.now ≡ [] = nil_from_length c.args.media.now (ap length (sym bytes) ∙ eqb-true (length c.as_bytes-bytes.result.now) 0 (sym c.is_empty.ensures ∙ c.if-is_empty.true)) in
+    IfOk-weaker c.default_mime.result _ _ (λ mime h. default_for (with_plain c.args.media.now) (seen mime) (subst (λ s. HasNoRecord (with_plain s)) (sym none) empty_text) h) c.default_mime.ensures
+
+pub returns-then-bytes-ne59 : goal.returns-then-bytes-ne59
+returns-then-bytes-ne59 c =
+    let bytes = c.as_bytes-bytes.ensures.value in
+    let unlike : get_or c.args.media.now 0 0 ≢ 59 = λ e. c.if-bytes-ne59.true (ap (λ s. get_or s 0 0) bytes ∙ e) in
     let same : chars c.args.media.now ≡ with_plain c.args.media.now = chars_printable c.args.media.now c.requires ∙ sym (plain_stays c.args.media.now unlike) in
     IfOk-weaker c.record_of.result _ _ (λ mime h. subst (λ s. IsRecordFor s (seen mime)) same h) c.record_of.ensures
 
