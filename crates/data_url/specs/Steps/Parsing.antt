@@ -3,7 +3,7 @@
 use Rattle.std.specs.Char.{to_ascii_lowercase}
 use Rattle.std.specs.Int.{is_in_range}
 use Rattle.std.specs.List.{list_all}
-use Rattle.std.specs.Prelude.{[], if◌then◌else◌, ◌++◌, ◌==◌, ◌||◌, ◌∷◌, ◌≡◌, Bool, IsTrue, List, None, Option, Some, map, ℕ}
+use Rattle.std.specs.Prelude.{[], if◌then◌else◌, ◌&&◌, ◌++◌, ◌==◌, ◌||◌, ◌∷◌, ◌≡◌, Bool, IsTrue, List, None, Option, Some, map, not, ℕ}
 use Rattle.std.specs.Str.{IsUtf8, chars}
 use Rattle.data_url.specs.CodePoints.{is_quotable}
 use Rattle.data_url.specs.Mime.{BeginsParameters, DoesNotBegin, Every, GivesValue, IsHead, IsParameter, Item, Pair, Quoted, QuotedOpen, has_name, is_lowercase_name, valid_of}
@@ -78,3 +78,7 @@ HasLowercaseNames pairs = IsTrue (list_all (λ (p : Pair). is_lowercase_name p.0
 -- no head is that of the text
 abbrev pub HasNoHead : List ℕ → Type 0
 HasNoHead s = (type_ subtype parameters : List ℕ) → IsHead s type_ subtype parameters → ⊥
+
+-- neither '"' nor '\', before which a '\' is written
+abbrev pub is_plain : ℕ → Bool
+is_plain c = not (c == 34) && not (c == 92)

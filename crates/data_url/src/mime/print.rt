@@ -1,9 +1,11 @@
 //! Writes a MIME type (MIME Sniffing Standard, section 4.5).
 
 ghost use Rattle.std.specs.Fmt.{WritesStyledOnOk};
-ghost use Rattle.std.specs.List.{flat_map};
+ghost use Rattle.std.specs.Prelude.{◌≡◌};
+ghost use Rattle.std.specs.List.{flat_map, prefix_len};
 ghost use Rattle.std.specs.Str.{chars, encode_utf8_all};
 ghost use Rattle.data_url.specs.Mime.{escaped, printed_pair, printed_value};
+ghost use Rattle.data_url.specs.Steps.Parsing.{is_plain};
 
 use super::tokens::is_token_text;
 use std::fmt;
@@ -38,6 +40,27 @@ fn write_value<W: fmt::Write>(f: &mut fmt::Formatter<W>, value: &str) -> fmt::Re
 
 /// Writes a text with a `\` before each `"` and each `\`.
 fn write_escaped<W: fmt::Write>(f: &mut fmt::Formatter<W>, text: &str) -> fmt::Result
+    ensures { WritesStyledOnOk W.write_str_gives f.old result
+        (encode_utf8_all (flat_map escaped (chars text.now))) f.new }
+{
+    if plain_len(text.as_bytes()) == text.len() {
+        return f.write_str(text);
+    }
+    write_each_escaped(f, text)
+}
+
+/// How many bytes stand before the first `"` or `\`.
+fn plain_len(bytes: &[u8]) -> usize
+    ensures { result ≡ prefix_len is_plain bytes.now }
+{
+    bytes
+        .iter()
+        .take_while(|byte| **byte != b'"' && **byte != b'\\')
+        .count()
+}
+
+/// The same code point by code point.
+fn write_each_escaped<W: fmt::Write>(f: &mut fmt::Formatter<W>, text: &str) -> fmt::Result
     ensures { WritesStyledOnOk W.write_str_gives f.old result
         (encode_utf8_all (flat_map escaped (chars text.now))) f.new }
 {

@@ -5,7 +5,7 @@ use Rattle.std.specs.List.{flat_map}
 use Rattle.std.specs.Str.{IsUtf8, chars}
 use Rattle.std.specs.Str.Iter.{chars_rest}
 use Rattle.data_url.specs.Mime.{escaped}
-use Rattle.data_url.proofs.mime.print.write_escaped.Given as goal
+use Rattle.data_url.proofs.mime.print.write_each_escaped.Given as goal
 
 abbrev pub invariant-loop-c : goal.invariant-loop-c
 invariant-loop-c g l =
