@@ -35,10 +35,6 @@ parts_serialised text path query h = ⊎_elim
     (λ some. ap (encoded_parts path) some.1 ∙ path_and_query path some.0 h.path_ends ∙ ap (λ s. serialised (dropped s)) (sym (h.joined ∙ ap (λ s. path ++ s) some.1)))
     h.query_begins
 
--- a header whose bytes are serialised as they stand
-pub stays : (header text : List ℕ) → text ≡ header → serialised (dropped text) ≡ text → serialised (dropped header) ≡ header
-stays header text e h = subst (λ s. serialised (dropped s) ≡ s) e h
-
 is_false : (b : Bool) → not b ≡ true → b ≡ false
 is_false true h = absurd (let k = h in cc)
 is_false false h = refl

@@ -11,7 +11,7 @@ ghost use Rattle.data_url.specs.MimeType.{as_option, seen};
 
 use crate::ascii::{low_end_len, trim};
 use crate::mime::{Mime, MimeFromStrError};
-use crate::percent::{EncodeSet, encoded_len, is_kept, push_encoded};
+use crate::percent::{EncodeSet, encoded_len, push_encoded};
 use std::alloc::{AllocError, Global};
 
 const PLAIN: &str = "text/plain";
@@ -30,18 +30,6 @@ fn path_len(header: &[u8]) -> usize
     ensures { result ≡ prefix_len is_no_question_mark header.now }
 {
     header.iter().take_while(|byte| **byte != b'?').count()
-}
-
-/// Whether a header has no query and is serialised as it stands, as most are.
-fn is_serialised_path(header: &[u8]) -> bool
-    ensures { result ≡ true → serialised (dropped header.now) ≡ header.now }
-{
-    for byte in header {
-        if *byte == b'?' || !is_kept(EncodeSet::Path, *byte) {
-            return false;
-        }
-    }
-    true
 }
 
 /// A path with its query, serialised. Room for the text is taken once, at its exact length.
@@ -75,15 +63,19 @@ fn without_suffix(header: &str) -> Option<&str>
 }
 
 /// The record of a header's text as it was given, and whether the body is base64.
-pub(crate) fn read_header(alloc: Global, header: &str) -> Result<(Mime, bool), AllocError>
+pub(crate) fn read_header(
+    alloc: Global,
+    header: &str,
+    is_plain: bool,
+) -> Result<(Mime, bool), AllocError>
+    requires { is_plain ≡ true → serialised (dropped header.now) ≡ header.now }
     ensures { IfOk result (λ found.
         IsHeaderOf (serialised (dropped header.now)) (seen found.0) found.1) }
 {
-    let bytes = header.as_bytes();
-    if is_serialised_path(bytes) {
+    if is_plain {
         return read_serialised(alloc, header);
     }
-    let (path, query) = split_query(bytes);
+    let (path, query) = split_query(header.as_bytes());
     read_serialised(alloc, serialise(alloc, path, query)?.as_str())
 }
 
