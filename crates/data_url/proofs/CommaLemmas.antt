@@ -1,13 +1,15 @@
 -- The first comma or '#' of a text.
-use Rattle.std.proofs.Common.{◌≡◌, ◌≢◌, ℕ, ◌+◌, ◌<◌, ◌≤◌, false, List, ◌∷◌, ◌++◌, length, get_or, take, drop, None, Some, position, sym, ap, ◌∙◌, inl, inr, ⊎_elim, ◌⊎◌, arith, eqb-true}
-use Rattle.std.specs.Prelude.{◌==◌, nat_lt}
-use Rattle.std.specs.List.{position_or_len}
+use Rattle.std.proofs.Common.{◌≡◌, ◌≢◌, ℕ, ◌+◌, ◌-◌, ◌<◌, ◌≤◌, true, false, List, ◌∷◌, ◌++◌, length, get_or, take, drop, Option, None, Some, position, sym, ap, ap₂, ◌∙◌, subst, inl, inr, ⊎_elim, ◌⊎◌, arith, eqb-true}
+use Rattle.std.specs.Prelude.{◌==◌, ◌||◌, nat_lt}
+use Rattle.std.specs.List.{position_or_len, prefix_len}
 use Rattle.std.proofs.lemmas.Bool.{cases_lt, cond-true, lt-ltb, or_cases, or_parts}
-use Rattle.std.proofs.lemmas.List.{drop_more, get_or-take, length-take, take-append-drop}
+use Rattle.std.proofs.lemmas.List.{drop_more, get_or-drop, get_or-take, length-drop, length-take, take-append-drop, take_all}
 use Rattle.std.proofs.lemmas.List.Quantifiers.{position-Some}
-use Rattle.std.proofs.lemmas.List.Sums.{fails_before_first}
-use Rattle.data_url.specs.Url.{before, behind, front}
-use Rattle.data_url.specs.Steps.Front.{IsHeaderAndTail, ends_header}
+use Rattle.std.proofs.lemmas.List.Sums.{fails_before_first, prefix_len_passes}
+use Rattle.data_url.specs.Url.{before, behind, dropped, front}
+use Rattle.data_url.specs.Steps.Header.{header_text}
+use Rattle.data_url.specs.Steps.Front.{IsHeaderAndTail, ends_header, is_plain_path}
+use Rattle.data_url.proofs.EncodeLemmas.{Plain, plain_byte, plain_serialised}
 use Rattle.data_url.proofs.UrlLemmas.{before_all, before_at, behind_none}
 
 -- a text without the byte at the places below n lacks it before n
@@ -26,19 +28,33 @@ pub record IsFrontEnd (s : List ℕ) (n : ℕ) : Type 0 where
   pub no_comma : behind 44 (take n s) ≡ None
   pub no_hash : behind 35 (take n s) ≡ None
 
-pub is_front_end : (s : List ℕ) (n : ℕ) → position ends_header s ≡ Some n → IsFrontEnd s n
-is_front_end s n e =
-    let p = position-Some ends_header s n 0 e in
+-- neither stands before the place
+abbrev pub NoEndBefore : List ℕ → ℕ → Type 0
+NoEndBefore s n = (k : ℕ) → k < n → ends_header (get_or s k 0) ≡ false
+
+further_on : (s : List ℕ) (m k : ℕ) → NoEndBefore s m → NoEndBefore (drop m s) k → NoEndBefore s (m + k)
+further_on s m k h g j l = ⊎_elim
+    (λ (a : j < m). h j a)
+    (λ (a : m ≤ j).
+    let back : m + (j - m) ≡ j = omega arith in
+    ap ends_header (ap (λ i. get_or s i 0) (sym back) ∙ sym (get_or-drop m s (j - m) 0)) ∙ g (j - m) (omega arith))
+    (cases_lt j m)
+
+pub front_end_from : (s : List ℕ) (m k : ℕ) → NoEndBefore s m → position ends_header (drop m s) ≡ Some k → IsFrontEnd s (m + k)
+front_end_from s m k h e =
+    let n = m + k in
+    let p = position-Some ends_header (drop m s) k 0 e in
+    let before = further_on s m k h p.2 in
+    let end : ends_header (get_or s n 0) ≡ true = ap ends_header (sym (get_or-drop m s k 0)) ∙ p.1 in
     record {
-      within = p.0;
-      is = ⊎_elim (λ h. inl (eqb-true (get_or s n 0) 44 h)) (λ h. inr (eqb-true (get_or s n 0) 35 h)) (or_cases (get_or s n 0 == 44) (get_or s n 0 == 35) p.1);
-      no_comma = lacks_in_take 44 s n (λ k l. (or_parts (get_or s k 0 == 44) (get_or s k 0 == 35) (p.2 k l)).0);
-      no_hash = lacks_in_take 35 s n (λ k l. (or_parts (get_or s k 0 == 44) (get_or s k 0 == 35) (p.2 k l)).1);
+      within = omega (arith, p.0, length-drop m s);
+      is = ⊎_elim (λ h. inl (eqb-true (get_or s n 0) 44 h)) (λ h. inr (eqb-true (get_or s n 0) 35 h)) (or_cases (get_or s n 0 == 44) (get_or s n 0 == 35) end);
+      no_comma = lacks_in_take 44 s n (λ k l. (or_parts (get_or s k 0 == 44) (get_or s k 0 == 35) (before k l)).0);
+      no_hash = lacks_in_take 35 s n (λ k l. (or_parts (get_or s k 0 == 44) (get_or s k 0 == 35) (before k l)).1);
     }
 
-pub at_comma : (s : List ℕ) (n : ℕ) → position ends_header s ≡ Some n → get_or s n 0 ≢ 35 → IsHeaderAndTail s (take n s) (drop (n + 1) s)
-at_comma s n e ne =
-    let f = is_front_end s n e in
+pub at_comma : (s : List ℕ) (n : ℕ) → IsFrontEnd s n → get_or s n 0 ≢ 35 → IsHeaderAndTail s (take n s) (drop (n + 1) s)
+at_comma s n f ne =
     let comma : get_or s n 0 ≡ 44 = ⊎_elim (λ h. h) (λ h. absurd (ne h)) f.is in
     record {
       joined = cut_at s n f.within ∙ ap (λ b. take n s ++ b ∷ drop (n + 1) s) comma;
@@ -47,24 +63,58 @@ at_comma s n e ne =
     }
 
 -- a '#' comes first
-pub at_hash : (s : List ℕ) (n : ℕ) → position ends_header s ≡ Some n → get_or s n 0 ≡ 35 → behind 44 (front s) ≡ None
+pub at_hash : (s : List ℕ) (n : ℕ) → IsFrontEnd s n → get_or s n 0 ≡ 35 → behind 44 (front s) ≡ None
 unfolding front
-at_hash s n e h =
-    let f = is_front_end s n e in
+at_hash s n f h =
     let parts : s ≡ take n s ++ 35 ∷ drop (n + 1) s = cut_at s n f.within ∙ ap (λ b. take n s ++ b ∷ drop (n + 1) s) h in
     ap (λ x. behind 44 (before 35 x)) parts ∙ ap (behind 44) (before_at 35 (take n s) (drop (n + 1) s) f.no_hash) ∙ f.no_comma
 
 -- neither is there
-pub at_none : (s : List ℕ) → position ends_header s ≡ None → behind 44 (front s) ≡ None
+pub at_none : (s : List ℕ) (m : ℕ) → NoEndBefore s m → position ends_header (drop m s) ≡ None → behind 44 (front s) ≡ None
 unfolding front
-at_none s e =
-    let fails = λ (k : ℕ) (l : k < length s). fails_before_first ends_header s k 0 (⊎_elim
-    (λ (h : position_or_len ends_header s < length s). absurd (let x : Some (position_or_len ends_header s) ≡ None = sym (cond-true (nat_lt (position_or_len ends_header s) (length s)) (Some (position_or_len ends_header s)) None (lt-ltb (position_or_len ends_header s) (length s) h)) ∙ e in cc))
-    (λ (h : length s ≤ position_or_len ends_header s). let x : k < position_or_len ends_header s = omega arith in x)
-    (cases_lt (position_or_len ends_header s) (length s))) in
+at_none s m h e =
+    let rest = drop m s in
+    let none : NoEndBefore rest (length rest) = λ k l. fails_before_first ends_header rest k 0 (⊎_elim
+    (λ (h : position_or_len ends_header rest < length rest). absurd (let x : Some (position_or_len ends_header rest) ≡ None = sym (cond-true (nat_lt (position_or_len ends_header rest) (length rest)) (Some (position_or_len ends_header rest)) None (lt-ltb (position_or_len ends_header rest) (length rest) h)) ∙ e in cc))
+    (λ (h : length rest ≤ position_or_len ends_header rest). let x : k < position_or_len ends_header rest = omega arith in x)
+    (cases_lt (position_or_len ends_header rest) (length rest))) in
+    let all = further_on s m (length rest) h none in
+    let fails : NoEndBefore s (length s) = λ k l. all k (omega (arith, length-drop m s)) in
     let no_comma = behind_none 44 s (λ k l. (or_parts (get_or s k 0 == 44) (get_or s k 0 == 35) (fails k l)).0) in
     let no_hash = behind_none 35 s (λ k l. (or_parts (get_or s k 0 == 44) (get_or s k 0 == 35) (fails k l)).1) in
     ap (behind 44) (before_all 35 s no_hash) ∙ no_comma
 
-pub is_ascii_end : (s : List ℕ) (n : ℕ) → position ends_header s ≡ Some n → get_or s n 0 < 128
-is_ascii_end s n e = ⊎_elim (λ h. omega arith) (λ h. omega arith) (is_front_end s n e).is
+pub is_ascii_end : (s : List ℕ) (n : ℕ) → IsFrontEnd s n → get_or s n 0 < 128
+is_ascii_end s n f = ⊎_elim (λ h. omega arith) (λ h. omega arith) f.is
+
+-- The bytes of a path that are serialised as they stand
+
+pub plain_front : (s items : List ℕ) (n : ℕ) → items ≡ s → n ≡ prefix_len is_plain_path items → ((i : ℕ) → get_or s i 0 < 256) → (k : ℕ) → k < n → Plain (get_or s k 0)
+plain_front s items n e f h k l = plain_byte (get_or s k 0) (h k) (prefix_len_passes is_plain_path s k 0 (subst (λ m. k < m) (f ∙ ap (prefix_len is_plain_path) e) l))
+
+pub plain_no_end : (s : List ℕ) (n : ℕ) → ((k : ℕ) → k < n → Plain (get_or s k 0)) → NoEndBefore s n
+plain_no_end s n h k l = let p = h k l in ap₂ (λ x y. x || y) p.no_comma p.no_hash
+
+pub plain_header : (s header : List ℕ) (n : ℕ) → ((k : ℕ) → k < n → Plain (get_or s k 0)) → header ≡ take n s → header_text (dropped header) ≡ header
+plain_header s header n h e = subst (λ t. header_text (dropped t) ≡ t) (sym e) (plain_serialised (take n s) (λ k l.
+    let below : k < n = omega (arith, length-take n s) in
+    subst Plain (sym (get_or-take n s k 0 below)) (h k below)))
+
+abbrev FitsBytes : List ℕ → Type 0
+FitsBytes s = (i : ℕ) → get_or s i 0 < 256
+
+no_end_ahead : (s items : List ℕ) (n : ℕ) → items ≡ s → n ≡ prefix_len is_plain_path items → FitsBytes s → NoEndBefore s n
+no_end_ahead s items n e f h = plain_no_end s n (plain_front s items n e f h)
+
+ends_ahead : (s items : List ℕ) (n : ℕ) (r : Option ℕ) → items ≡ s → r ≡ position ends_header (take (length items - n) (drop n items)) → position ends_header (drop n s) ≡ r
+ends_ahead s items n r e p = ap (λ t. position ends_header (drop n t)) (sym e) ∙ ap (position ends_header) (sym (take_all (length items - n) (drop n items) (omega (arith, length-drop n items)))) ∙ sym p
+
+pub front_end_at : (s items : List ℕ) (n k : ℕ) (r : Option ℕ) → items ≡ s → n ≡ prefix_len is_plain_path items → FitsBytes s → r ≡ position ends_header (take (length items - n) (drop n items)) → r ≡ Some k → IsFrontEnd s (n + k)
+front_end_at s items n k r e f h p g = front_end_from s n k (no_end_ahead s items n e f h) (ends_ahead s items n r e p ∙ g)
+
+pub no_front_end : (s items : List ℕ) (n : ℕ) (r : Option ℕ) → items ≡ s → n ≡ prefix_len is_plain_path items → FitsBytes s → r ≡ position ends_header (take (length items - n) (drop n items)) → r ≡ None → behind 44 (front s) ≡ None
+no_front_end s items n r e f h p g = at_none s n (no_end_ahead s items n e f h) (ends_ahead s items n r e p ∙ g)
+
+-- what stands before the comma where it comes right behind the plain bytes
+pub plain_before : (s items header : List ℕ) (n k : ℕ) → items ≡ s → n ≡ prefix_len is_plain_path items → FitsBytes s → header ≡ take (n + k) s → n + k ≡ n → header_text (dropped header) ≡ header
+plain_before s items header n k e f h is same = plain_header s header n (plain_front s items n e f h) (is ∙ ap (λ m. take m s) same)

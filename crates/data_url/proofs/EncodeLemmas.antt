@@ -1,16 +1,17 @@
 -- Percent-encoding a text without its tabs and newlines: byte by byte, and part by part.
-use Rattle.std.proofs.Common.{◌≡◌, ℕ, suc, ◌+◌, ◌*◌, ◌-◌, ◌<◌, ◌≤◌, ◌^◌, ◌≢◌, Bool, true, false, List, [], ◌∷◌, ◌++◌, length, get_or, take, drop, refl, sym, ap, ◌∙◌, subst, append_assoc, arith, inl, inr, ⊎_elim, length-append, take-append-drop}
-use Rattle.std.specs.Prelude.{◌==◌, min, nat_lt, slice_index}
+use Rattle.std.proofs.Common.{◌≡◌, ℕ, zero, suc, add-one, cond, ◌+◌, ◌*◌, ◌-◌, ◌<◌, ◌≤◌, ◌^◌, Bool, true, false, List, [], ◌∷◌, ◌++◌, length, get_or, take, drop, refl, sym, ap, ◌∙◌, subst, append_assoc, arith, inl, inr, ⊎_elim, length-append, take-append-drop}
+use Rattle.std.specs.Prelude.{◌==◌, ◌||◌, min, nat_lt, slice_index}
 use Rattle.std.specs.List.{list_all}
 use Rattle.std.specs.Str.{IsAscii, IsUtf8}
 use Rattle.std.proofs.Math.Seq.{take-append-add}
-use Rattle.std.proofs.lemmas.Bool.{agree_below_at, and_parts, cases_Bool, cases_lt, cond-false, cond-true, eqb-false, eqb-true, ltb-true, ne_eqb}
+use Rattle.std.proofs.lemmas.Bool.{agree_below_at, and_parts, cases_Bool, cases_lt, cond-false, cond-true, eqb-false, eqb-true, ltb-true, or_parts}
 use Rattle.std.proofs.lemmas.Grind.{flat_map-append}
 use Rattle.std.proofs.lemmas.List.{append-nil, drop_all, drop_more, length-take-le, nil_from_length, take-take, take_all, take_more}
 use Rattle.std.proofs.lemmas.Str.{IsAscii-append, IsUtf8-from_ascii}
 use Rattle.std.proofs.lemmas.Str.Ascii.{IsAscii-cons, IsAscii-nil}
 use Rattle.data_url.specs.Url.{before, dropped, encoded_byte, in_fragment_set, in_path_set, in_query_set, is_tab_or_newline, percent_encoded}
 use Rattle.data_url.specs.Steps.Header.{header_parts, header_text}
+use Rattle.data_url.specs.Steps.Front.{is_plain_path}
 use Rattle.data_url.specs.Steps.Sets.{IsRow, in_set, written}
 use Rattle.data_url.specs.declared.percent.EncodeSet.TheVariants.{Fragment, Path, Query}
 use Rattle.data_url.specs.declared.percent.EncodeSet.{EncodeSet}
@@ -86,39 +87,25 @@ written_short p b = elim (cases_Bool (is_tab_or_newline b)) [
 pub row_short : (p : ℕ → Bool) (b : ℕ) (row : List ℕ) → IsRow p b row → slice_index row 3 ≤ 3
 row_short p b row r = let k = written_short p b in let e = r.len_is in omega arith
 
--- a byte that is written as one is written as itself
-itself : (p : ℕ → Bool) (b : ℕ) → length (written p b) ≡ 1 → written p b ≡ b ∷ []
-itself p b h = elim (cases_Bool (is_tab_or_newline b)) [
-  | inl e ↦ absurd (let k : length (written p b) ≡ 0 = ap length (none_written p b e) in omega arith)
-  | inr e ↦ elim (cases_Bool (p b)) [
-    | inl f ↦ absurd (let k : length (written p b) ≡ 3 = ap length (byte_written p b e) ∙ three_written p b f in omega arith)
-    | inr f ↦ byte_written p b e ∙ one_written p b f
-  ]
-]
-
--- a row of one byte is that of a byte that is written as itself
-pub row_kept : (p : ℕ → Bool) (b : ℕ) (row : List ℕ) (r : Bool) → IsRow p b row → r ≡ (slice_index row 3 == 1) → r ≡ true → written p b ≡ b ∷ []
-row_kept p b row r h e t = itself p b (sym h.len_is ∙ eqb-true (slice_index row 3) 1 (sym e ∙ t))
-
 -- up to byte i the text is written as it stands, and has no '?'
 pub record KeptTo (s : List ℕ) (i : ℕ) : Type 0 where
   pub kept : WroteTo in_path_set s i (take i s)
   pub no_query : (k : ℕ) → k < i → (get_or s k 0 == 63) ≡ false
 
-pub kept_none : (s : List ℕ) → KeptTo s 0
+kept_none : (s : List ℕ) → KeptTo s 0
 kept_none s = record { kept = refl; no_query = λ k l. absurd (omega arith) }
 
-pub kept_more : (s : List ℕ) (i : ℕ) → KeptTo s i → i < length s → get_or s i 0 ≢ 63 → written in_path_set (get_or s i 0) ≡ get_or s i 0 ∷ [] → KeptTo s (i + 1)
+kept_more : (s : List ℕ) (i : ℕ) → KeptTo s i → i < length s → (get_or s i 0 == 63) ≡ false → written in_path_set (get_or s i 0) ≡ get_or s i 0 ∷ [] → KeptTo s (i + 1)
 kept_more s i w l n h =
     let b = get_or s i 0 in
     let same : take i s ++ written in_path_set b ≡ take (i + 1) s = ap (λ t. take i s ++ t) h ∙ sym (take_more s i 0 l) in
     record {
       kept = subst (WroteTo in_path_set s (i + 1)) same (wrote_more in_path_set s i (take i s) w.kept l);
-      no_query = λ k m. ⊎_elim (λ (e : k < i). w.no_query k e) (λ (e : i ≤ k). let f : k ≡ i = omega arith in ap (λ j. get_or s j 0 == 63) f ∙ ne_eqb b 63 n) (cases_lt k i);
+      no_query = λ k m. ⊎_elim (λ (e : k < i). w.no_query k e) (λ (e : i ≤ k). let f : k ≡ i = omega arith in ap (λ j. get_or s j 0 == 63) f ∙ n) (cases_lt k i);
     }
 
 -- a path that is written as it stands is serialised so
-pub kept_all : (s : List ℕ) (i : ℕ) → KeptTo s i → length s ≤ i → header_text (dropped s) ≡ s
+kept_all : (s : List ℕ) (i : ℕ) → KeptTo s i → length s ≤ i → header_text (dropped s) ≡ s
 unfolding header_text
 kept_all s i w l =
     let none = behind-dropped_none 63 refl s (behind_none 63 s (λ k m. w.no_query k (omega arith))) in
@@ -126,6 +113,38 @@ kept_all s i w l =
     ∙ ap (percent_encoded in_path_set) (before_all 63 (dropped s) none)
     ∙ sym (wrote_all in_path_set s i (take i s) w.kept l)
     ∙ take_all i s l
+
+-- a text of plain bytes is serialised as it stands
+
+abbrev other_than_plain : ℕ → Bool
+other_than_plain b = is_tab_or_newline b || (in_path_set b || ((b == 35) || ((b == 44) || (b == 63))))
+
+plain_is_none : (b : ℕ) → b < 256 → is_plain_path b ≡ true → other_than_plain b ≡ false
+plain_is_none b l h = sym (cond-true (is_plain_path b) (other_than_plain b) false h) ∙ agree_below_at (λ b. cond (is_plain_path b) (other_than_plain b) false) (λ b. false) 256 b refl l
+
+-- what is known of a plain byte
+pub record Plain (b : ℕ) : Type 0 where
+  pub written_is : written in_path_set b ≡ b ∷ []
+  pub no_hash : (b == 35) ≡ false
+  pub no_comma : (b == 44) ≡ false
+  pub no_query : (b == 63) ≡ false
+
+pub plain_byte : (b : ℕ) → b < 256 → is_plain_path b ≡ true → Plain b
+plain_byte b l h =
+    let p = or_parts (is_tab_or_newline b) (in_path_set b || ((b == 35) || ((b == 44) || (b == 63)))) (plain_is_none b l h) in
+    let q = or_parts (in_path_set b) ((b == 35) || ((b == 44) || (b == 63))) p.1 in
+    let r = or_parts (b == 35) ((b == 44) || (b == 63)) q.1 in
+    let t = or_parts (b == 44) (b == 63) r.1 in
+    record { written_is = byte_written in_path_set b p.0 ∙ one_written in_path_set b q.0; no_hash = r.0; no_comma = t.0; no_query = t.1 }
+
+kept_to : (s : List ℕ) → ((k : ℕ) → k < length s → Plain (get_or s k 0)) → (i : ℕ) → i ≤ length s → KeptTo s i
+kept_to s h zero l = kept_none s
+kept_to s h (suc i) l =
+    let b = h i (omega arith) in
+    subst (KeptTo s) (add-one i) (kept_more s i (kept_to s h i (omega arith)) (omega arith) b.no_query b.written_is)
+
+pub plain_serialised : (s : List ℕ) → ((k : ℕ) → k < length s → Plain (get_or s k 0)) → header_text (dropped s) ≡ s
+plain_serialised s h = kept_all s (length s) (kept_to s h (length s) (omega arith)) (omega arith)
 
 -- so many bytes are written up to byte i
 pub record MeasuredTo (p : ℕ → Bool) (s : List ℕ) (i len : ℕ) : Type 0 where

@@ -1,11 +1,13 @@
 -- The rows of the tables that say what each byte of a URL is written as.
-use Rattle.std.proofs.Common.{◌≡◌, ℕ, ◌*◌, ◌+◌, ◌-◌, ◌<◌, ◌&&◌, Bool, true, List, length, take, drop, refl}
+use Rattle.std.proofs.Common.{◌≡◌, ℕ, ◌*◌, ◌+◌, ◌-◌, ◌<◌, ◌&&◌, Bool, true, List, length, take, drop, refl, get_or, false}
 use Rattle.std.specs.Prelude.{◌==◌, slice_index}
 use Rattle.std.specs.Str.{bytes_eq}
 use Rattle.std.proofs.lemmas.Bool.{agree_below_at, and_parts, eqb-true}
 use Rattle.std.proofs.lemmas.Slice.Eq.{bytes_eq-Decides}
 use Rattle.data_url.specs.Url.{in_fragment_set, in_path_set, in_query_set}
+use Rattle.data_url.specs.Steps.Front.{is_plain_path}
 use Rattle.data_url.specs.Steps.Sets.{IsRow, written}
+use Rattle.data_url.specs.declared.front.TheConstants.{PLAIN_PATH}
 use Rattle.data_url.specs.declared.percent.rows.TheConstants.{FRAGMENT, PATH, QUERY}
 
 -- the row of a byte in a table
@@ -33,3 +35,7 @@ query_row b l = row_of_test in_query_set b (row_at QUERY b) (agree_below_at (λ 
 
 pub fragment_row : (b : ℕ) → b < 256 → IsRow in_fragment_set b (row_at FRAGMENT b)
 fragment_row b l = row_of_test in_fragment_set b (row_at FRAGMENT b) (agree_below_at (λ b. is_row in_fragment_set b (row_at FRAGMENT b)) (λ b. true) 256 b refl l)
+
+-- the table of plain bytes
+pub plain_entry : (b : ℕ) → b < 256 → get_or PLAIN_PATH b false ≡ is_plain_path b
+plain_entry b l = agree_below_at (λ x. get_or PLAIN_PATH x false) is_plain_path 256 b refl l

@@ -146,10 +146,6 @@ parts_spaced header path front query h there w = ⊎_elim
     ∙ ap (λ s. header_text (dropped s)) (sym (h.joined ∙ ap (λ s. path ++ s) some.1)))
     h.query_begins
 
--- a header whose bytes are serialised as they stand
-pub stays : (header text : List ℕ) → text ≡ header → header_text (dropped text) ≡ text → header_text (dropped header) ≡ header
-stays header text e h = subst (λ s. header_text (dropped s) ≡ s) e h
-
 is_false : (b : Bool) → not b ≡ true → b ≡ false
 is_false true h = absurd (let k = h in cc)
 is_false false h = refl

@@ -1,13 +1,36 @@
 //! The front of a data: URL's text as it was given: its scheme and its first comma (URL Standard, section 4.4).
 
-ghost use Rattle.std.specs.Prelude.{◌≡◌, None, IfSome, IfNone};
-ghost use Rattle.std.specs.List.{position};
-ghost use Rattle.data_url.specs.Url.{behind, front};
-ghost use Rattle.data_url.specs.Steps.Front.{HasNoScheme, IsHeaderAndTail, IsSchemeAndRest, ends_header};
+ghost use Rattle.std.specs.Prelude.{◌≡◌, ◌≤◌, length, None, IfSome, IfNone, true};
+ghost use Rattle.std.specs.List.{position, prefix_len};
+ghost use Rattle.data_url.specs.Url.{behind, dropped, front};
+ghost use Rattle.data_url.specs.Steps.Header.{header_text};
+ghost use Rattle.data_url.specs.Steps.Front.{HasNoScheme, IsHeaderAndTail, IsSchemeAndRest, ends_header, is_plain_path};
 
 use crate::ascii::is_tab_or_newline;
 
 const SCHEME: [u8; 5] = *b"data:";
+
+/// The bytes of a path that are serialised as they stand: printable ASCII and spaces, but for `#`,
+/// `,` and `?`.
+#[rattlefmt::skip]
+const PLAIN_PATH: [bool; 256] = [
+    false, false, false, false, false, false, false, false, false, false, false, false, false, false, false, false,
+    false, false, false, false, false, false, false, false, false, false, false, false, false, false, false, false,
+    true, true, true, false, true, true, true, true, true, true, true, true, false, true, true, true,
+    true, true, true, true, true, true, true, true, true, true, true, true, true, true, true, false,
+    true, true, true, true, true, true, true, true, true, true, true, true, true, true, true, true,
+    true, true, true, true, true, true, true, true, true, true, true, true, true, true, true, true,
+    true, true, true, true, true, true, true, true, true, true, true, true, true, true, true, true,
+    true, true, true, true, true, true, true, true, true, true, true, true, true, true, true, false,
+    false, false, false, false, false, false, false, false, false, false, false, false, false, false, false, false,
+    false, false, false, false, false, false, false, false, false, false, false, false, false, false, false, false,
+    false, false, false, false, false, false, false, false, false, false, false, false, false, false, false, false,
+    false, false, false, false, false, false, false, false, false, false, false, false, false, false, false, false,
+    false, false, false, false, false, false, false, false, false, false, false, false, false, false, false, false,
+    false, false, false, false, false, false, false, false, false, false, false, false, false, false, false, false,
+    false, false, false, false, false, false, false, false, false, false, false, false, false, false, false, false,
+    false, false, false, false, false, false, false, false, false, false, false, false, false, false, false, false,
+];
 
 /// What follows the scheme `data:` of a trimmed text, spelled in any ASCII case, with tabs and newlines anywhere.
 pub(crate) fn after_scheme(text: &str) -> Option<&str>
@@ -41,17 +64,56 @@ fn after_respelled_scheme(text: &str) -> Option<&str>
     None
 }
 
-/// What stands before and behind the first comma, unless a `#` comes before it.
-pub(crate) fn split_at_comma(text: &str) -> Option<(&str, &str)>
-    ensures found { IfSome result (λ parts. IsHeaderAndTail text.now parts.0.now parts.1.now) }
+/// A text cut at its first comma.
+#[derive(Clone, Copy)]
+pub(crate) struct Front<'a> {
+    /// What stands before the comma.
+    pub(crate) header: &'a str,
+    /// What stands behind it.
+    pub(crate) tail: &'a str,
+    /// Whether the header is known to be serialised as it stands.
+    pub(crate) is_plain: bool,
+}
+
+/// Whether a byte of a path is serialised as it stands, and neither ends it nor the header.
+#[inline(always)]
+#[tactic(auto, using(crate::proofs::RowLemmas::plain_entry))]
+fn is_plain_path(byte: u8) -> bool
+    ensures { result ≡ is_plain_path byte }
+{
+    PLAIN_PATH[byte as usize]
+}
+
+/// How many such bytes stand at the front.
+fn plain_len(bytes: &[u8]) -> usize
+    ensures front { result ≡ prefix_len is_plain_path bytes.now }
+    ensures within { result ≤ length bytes.now }
+{
+    bytes
+        .iter()
+        .take_while(|byte| is_plain_path(**byte))
+        .count()
+}
+
+/// The text cut at its first comma, unless a `#` comes before it.
+pub(crate) fn split_at_comma(text: &str) -> Option<Front<'_>>
+    ensures found { IfSome result (λ f. IsHeaderAndTail text.now f.header.now f.tail.now) }
+    ensures plain { IfSome result (λ f. f.is_plain ≡ true
+        → header_text (dropped f.header.now) ≡ f.header.now) }
     ensures none { IfNone result (behind 44 (front text.now) ≡ None) }
 {
     let bytes = text.as_bytes();
-    let place = front_end(bytes)?;
+    let plain = plain_len(bytes);
+    let further = front_end(&bytes[plain..])?;
+    let place = plain + further;
     if bytes[place] == b'#' {
         return None;
     }
-    Some((&text[..place], &text[place + 1..]))
+    Some(Front {
+        header: &text[..place],
+        tail: &text[place + 1..],
+        is_plain: place == plain,
+    })
 }
 
 /// The place of the first comma or `#`.

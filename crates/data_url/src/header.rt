@@ -11,7 +11,7 @@ ghost use Rattle.data_url.specs.MimeType.{as_option, seen};
 
 use crate::ascii::{is_tab_or_newline, low_end_len, trim};
 use crate::mime::{Mime, MimeFromStrError};
-use crate::percent::{EncodeSet, encoded_len, is_kept, push_encoded};
+use crate::percent::{EncodeSet, encoded_len, push_encoded};
 use std::alloc::{AllocError, Global};
 
 const PLAIN: &str = "text/plain";
@@ -19,18 +19,6 @@ const PLAIN: &str = "text/plain";
 const SUFFIX: [u8; 6] = *b"base64";
 
 const ENCODED_SPACE: &str = "%20";
-
-/// Whether a header has no query and is serialised as it stands, as most are.
-fn is_serialised_path(header: &[u8]) -> bool
-    ensures { result ≡ true → header_text (dropped header.now) ≡ header.now }
-{
-    for byte in header {
-        if *byte == b'?' || !is_kept(EncodeSet::Path, *byte) {
-            return false;
-        }
-    }
-    true
-}
 
 /// The text of a header as it was given, in parts.
 #[derive(Clone, Copy)]
@@ -136,15 +124,20 @@ fn without_suffix(header: &str) -> Option<&str>
 }
 
 /// The record of a header's text as it was given, and whether the body is base64.
-pub(crate) fn read_header(alloc: Global, header: &str) -> Result<(Mime, bool), AllocError>
+pub(crate) fn read_header(
+    alloc: Global,
+    header: &str,
+    is_plain: bool,
+) -> Result<(Mime, bool), AllocError>
+    requires { is_plain ≡ true → header_text (dropped header.now) ≡ header.now }
     ensures { IfOk result (λ found.
         IsHeaderOf (header_text (dropped header.now)) (seen found.0) found.1) }
 {
-    let bytes = header.as_bytes();
-    if is_serialised_path(bytes) {
+    if is_plain {
         return read_serialised(alloc, header);
     }
-    read_serialised(alloc, parts_of(bytes).serialised(alloc)?.as_str())
+    let parts = parts_of(header.as_bytes());
+    read_serialised(alloc, parts.serialised(alloc)?.as_str())
 }
 
 /// The record of a serialised header, and whether the body is base64.

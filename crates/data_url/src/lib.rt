@@ -82,16 +82,16 @@ impl<'a> DataUrl<'a> {
         let Some(rest) = after_scheme(trim(input)) else {
             return Err(DataUrlError::NotADataUrl);
         };
-        let Some((header, tail)) = split_at_comma(rest) else {
+        let Some(front) = split_at_comma(rest) else {
             return Err(DataUrlError::NoComma);
         };
-        let Ok((mime_type, base64)) = read_header(alloc, header) else {
+        let Ok((mime_type, base64)) = read_header(alloc, front.header, front.is_plain) else {
             return Err(DataUrlError::OutOfMemory);
         };
         Ok(DataUrl {
             mime_type,
             base64,
-            tail,
+            tail: front.tail,
         })
     }
 

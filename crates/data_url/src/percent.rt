@@ -1,9 +1,9 @@
 //! Percent-encoding (URL Standard, section 1.3).
 
-ghost use Rattle.std.specs.Prelude.{◌≡◌, ◌≤◌, ◌+◌, ◌++◌, ◌-◌, ◌^◌, ◌∷◌, [], OnOk, length, min, string_bytes, take, true};
+ghost use Rattle.std.specs.Prelude.{◌≡◌, ◌≤◌, ◌+◌, ◌++◌, ◌-◌, ◌^◌, OnOk, length, min, string_bytes, take};
 ghost use Rattle.std.specs.Str.{IsUtf8};
 ghost use Rattle.data_url.specs.Url.{dropped, percent_encoded};
-ghost use Rattle.data_url.specs.Steps.Sets.{in_set, written};
+ghost use Rattle.data_url.specs.Steps.Sets.{in_set};
 
 mod rows;
 
@@ -27,14 +27,6 @@ const PART: usize = 64;
 
 /// How many bytes there is room for, which is more than a part is written as.
 const ROOM: usize = 256;
-
-/// Whether a byte is neither a tab or newline nor in the set, so that it is written as it stands.
-#[inline(always)]
-pub(crate) fn is_kept(set: EncodeSet, byte: u8) -> bool
-    ensures { result ≡ true → written (in_set set) byte ≡ byte ∷ [] }
-{
-    row(set, byte)[3] == 1
-}
 
 /// How many bytes a part is written as.
 #[inline(always)]

@@ -43,7 +43,7 @@ impl<'a> Value<'a> {
 fn is_quotable_byte(byte: u8) -> bool
     ensures { result ≡ is_quotable_byte byte }
 {
-    matches!(byte, b' '..=b'~' | b'\t' | 0x80..=0xC3)
+    matches!(byte, b'\t' | b' '..=b'~' | 0x80..=0xC3)
 }
 
 /// Whether a text has quoted-string code points alone. What escapes the others is one too, so a quoted string may be

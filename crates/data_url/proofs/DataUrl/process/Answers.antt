@@ -12,8 +12,8 @@ returns-in_default-split_at_comma c =
 
 pub returns-in_default-read_header : goal.returns-in_default-read_header
 returns-in_default-read_header c =
-    is_acceptable c.args.input.now c.in-Some.rest.now c.in-Some-split_at_comma.header.now c.in-Some-split_at_comma.tail.now (bytes_trimmed c.args.input.now (λ i. omega (arith, c.type_inv.input i))) (subst (λ t. IsSchemeAndRest t c.in-Some.rest.now) c.trim.ensures c.in-Some.ensures.found) c.in-Some-split_at_comma.ensures.found
+    is_acceptable c.args.input.now c.in-Some.rest.now c.in-Some-split_at_comma.front.header.now c.in-Some-split_at_comma.front.tail.now (bytes_trimmed c.args.input.now (λ i. omega (arith, c.type_inv.input i))) (subst (λ t. IsSchemeAndRest t c.in-Some.rest.now) c.trim.ensures c.in-Some.ensures.found) c.in-Some-split_at_comma.ensures.found
 
 pub returns : goal.returns
 returns c =
-    is_url_of c.args.input.now c.in-Some.rest.now c.in-Some-split_at_comma.header.now _ (bytes_trimmed c.args.input.now (λ i. omega (arith, c.type_inv.input i))) (subst (λ t. IsSchemeAndRest t c.in-Some.rest.now) c.trim.ensures c.in-Some.ensures.found) c.in-Some-split_at_comma.ensures.found c.in-Ok.ensures
+    is_url_of c.args.input.now c.in-Some.rest.now c.in-Some-split_at_comma.front.header.now _ (bytes_trimmed c.args.input.now (λ i. omega (arith, c.type_inv.input i))) (subst (λ t. IsSchemeAndRest t c.in-Some.rest.now) c.trim.ensures c.in-Some.ensures.found) c.in-Some-split_at_comma.ensures.found c.in-Ok.ensures
