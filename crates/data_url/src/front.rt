@@ -1,4 +1,5 @@
-//! The front of a data: URL's text as it was given: its scheme and its first comma (URL Standard, section 4.4).
+//! The front of a data: URL's text as it was given: its scheme and its first comma (URL Standard,
+//! section 4.4).
 
 ghost use Rattle.std.specs.Prelude.{◌≡◌, ◌≤◌, length, None, IfSome, IfNone, true};
 ghost use Rattle.std.specs.List.{position, prefix_len};
@@ -14,25 +15,42 @@ const SCHEME: [u8; 5] = *b"data:";
 /// `,` and `?`.
 #[rattlefmt::skip]
 const PLAIN_PATH: [bool; 256] = [
-    false, false, false, false, false, false, false, false, false, false, false, false, false, false, false, false,
-    false, false, false, false, false, false, false, false, false, false, false, false, false, false, false, false,
-    true, true, true, false, true, true, true, true, true, true, true, true, false, true, true, true,
-    true, true, true, true, true, true, true, true, true, true, true, true, true, true, true, false,
-    true, true, true, true, true, true, true, true, true, true, true, true, true, true, true, true,
-    true, true, true, true, true, true, true, true, true, true, true, true, true, true, true, true,
-    true, true, true, true, true, true, true, true, true, true, true, true, true, true, true, true,
-    true, true, true, true, true, true, true, true, true, true, true, true, true, true, true, false,
-    false, false, false, false, false, false, false, false, false, false, false, false, false, false, false, false,
-    false, false, false, false, false, false, false, false, false, false, false, false, false, false, false, false,
-    false, false, false, false, false, false, false, false, false, false, false, false, false, false, false, false,
-    false, false, false, false, false, false, false, false, false, false, false, false, false, false, false, false,
-    false, false, false, false, false, false, false, false, false, false, false, false, false, false, false, false,
-    false, false, false, false, false, false, false, false, false, false, false, false, false, false, false, false,
-    false, false, false, false, false, false, false, false, false, false, false, false, false, false, false, false,
-    false, false, false, false, false, false, false, false, false, false, false, false, false, false, false, false,
+    false, false, false, false, false, false, false, false,
+    false, false, false, false, false, false, false, false,
+    false, false, false, false, false, false, false, false,
+    false, false, false, false, false, false, false, false,
+    true, true, true, false, true, true, true, true,
+    true, true, true, true, false, true, true, true,
+    true, true, true, true, true, true, true, true,
+    true, true, true, true, true, true, true, false,
+    true, true, true, true, true, true, true, true,
+    true, true, true, true, true, true, true, true,
+    true, true, true, true, true, true, true, true,
+    true, true, true, true, true, true, true, true,
+    true, true, true, true, true, true, true, true,
+    true, true, true, true, true, true, true, true,
+    true, true, true, true, true, true, true, true,
+    true, true, true, true, true, true, true, false,
+    false, false, false, false, false, false, false, false,
+    false, false, false, false, false, false, false, false,
+    false, false, false, false, false, false, false, false,
+    false, false, false, false, false, false, false, false,
+    false, false, false, false, false, false, false, false,
+    false, false, false, false, false, false, false, false,
+    false, false, false, false, false, false, false, false,
+    false, false, false, false, false, false, false, false,
+    false, false, false, false, false, false, false, false,
+    false, false, false, false, false, false, false, false,
+    false, false, false, false, false, false, false, false,
+    false, false, false, false, false, false, false, false,
+    false, false, false, false, false, false, false, false,
+    false, false, false, false, false, false, false, false,
+    false, false, false, false, false, false, false, false,
+    false, false, false, false, false, false, false, false,
 ];
 
-/// What follows the scheme `data:` of a trimmed text, spelled in any ASCII case, with tabs and newlines anywhere.
+/// What follows the scheme `data:` of a trimmed text, spelled in any ASCII case, with tabs and
+/// newlines anywhere.
 pub(crate) fn after_scheme(text: &str) -> Option<&str>
     ensures found { IfSome result (λ rest. IsSchemeAndRest text.now rest.now) }
     ensures none { IfNone result (HasNoScheme text.now) }
@@ -43,7 +61,7 @@ pub(crate) fn after_scheme(text: &str) -> Option<&str>
     after_respelled_scheme(text)
 }
 
-/// The same of a text whose scheme need not be spelled as it commonly is.
+/// The same, byte by byte, of a text whose scheme is not spelled as it commonly is.
 fn after_respelled_scheme(text: &str) -> Option<&str>
     ensures found { IfSome result (λ rest. IsSchemeAndRest text.now rest.now) }
     ensures none { IfNone result (HasNoScheme text.now) }

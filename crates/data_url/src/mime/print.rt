@@ -43,14 +43,14 @@ fn write_escaped<W: fmt::Write>(f: &mut fmt::Formatter<W>, text: &str) -> fmt::R
     ensures { WritesStyledOnOk W.write_str_gives f.old result
         (encode_utf8_all (flat_map escaped (chars text.now))) f.new }
 {
-    if plain_len(text.as_bytes()) == text.len() {
+    if unescaped_len(text.as_bytes()) == text.len() {
         return f.write_str(text);
     }
     write_each_escaped(f, text)
 }
 
 /// How many bytes stand before the first `"` or `\`.
-fn plain_len(bytes: &[u8]) -> usize
+fn unescaped_len(bytes: &[u8]) -> usize
     ensures { result ≡ prefix_len is_plain bytes.now }
 {
     bytes
@@ -59,7 +59,7 @@ fn plain_len(bytes: &[u8]) -> usize
         .count()
 }
 
-/// The same code point by code point.
+/// The same of a text with some of these.
 fn write_each_escaped<W: fmt::Write>(f: &mut fmt::Formatter<W>, text: &str) -> fmt::Result
     ensures { WritesStyledOnOk W.write_str_gives f.old result
         (encode_utf8_all (flat_map escaped (chars text.now))) f.new }
