@@ -101,6 +101,30 @@ path_space_before_query : staged (codes "data:a/b;c= ?x,Y") ≡ Accepted (codes 
 unfolding on_literals
 path_space_before_query = refl
 
+last_space_of_a_run : staged (codes "data:a/b;c=x  ?y,Y") ≡ Accepted (codes "a/b;c=x %20?y") (Good (codes "Y")) None
+unfolding on_literals
+last_space_of_a_run = refl
+
+path_space_before_a_tab : staged (codes "data:a/b;c= " ++ (9 ∷ codes "?x,Y")) ≡ Accepted (codes "a/b;c=%20?x") (Good (codes "Y")) None
+unfolding on_literals
+path_space_before_a_tab = refl
+
+path_space_in_quotes : staged (codes "data:a/b;c=" ++ (34 ∷ codes " ?" ++ (34 ∷ codes ",Y"))) ≡ Accepted (codes "a/b;c=" ++ (34 ∷ codes "%20?%22")) (Good (codes "Y")) None
+unfolding on_literals
+path_space_in_quotes = refl
+
+body_space_before_fragment : staged (codes "data:,x #f") ≡ Accepted [] (Good (codes "x ")) (Some (codes "f"))
+unfolding on_literals
+body_space_before_fragment = refl
+
+body_space_before_query : staged (codes "data:,a ?b") ≡ Accepted [] (Good (codes "a ?b")) None
+unfolding on_literals
+body_space_before_query = refl
+
+space_alone_before_query : staged (codes "data: ?,x") ≡ Accepted (codes "%20?") (Good (codes "x")) None
+unfolding on_literals
+space_alone_before_query = refl
+
 empty_base64 : staged (codes "data:;base64,") ≡ Accepted [] (Good []) None
 unfolding on_literals
 empty_base64 = refl
