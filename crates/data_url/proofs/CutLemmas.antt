@@ -1,17 +1,22 @@
 -- Texts cut by what a pattern of std finds, as texts of code points.
-use Rattle.std.proofs.Common.{◌≡◌, ℕ, ◌-◌, ◌<◌, ◌≤◌, ◌==◌, ◌||◌, Bool, true, false, not, List, [], ◌∷◌, ◌++◌, length, take, drop, Option, None, Some, encode_utf8, encode_utf8_all, refl, sym, ap, ap₂, ◌∙◌, subst, append_assoc, append-nil, arith, inl, inr, take-append-drop, drop_of_length-le, length-take-le, eqb-true, ⊎_elim}
-use Rattle.std.proofs.lemmas.Bool.{and_parts, cases_eq, ne_eqb, not_from_false, not_from_true, or_cases}
-use Rattle.std.proofs.lemmas.Str.{IsCharBoundary-at_seam, IsUtf8-drop, IsUtf8-from_ascii, IsUtf8-nil, IsUtf8-past_char, IsUtf8-take, chars-IsAscii, chars-append, chars-nil, chars_from_encodes, chars_past_char, encode_ascii, encodes-append, encodes-chars, len_utf8_bounds, scalars-chars}
+use Rattle.std.proofs.Common.{◌≡◌, ℕ, ◌-◌, ◌<◌, ◌≤◌, ◌==◌, ◌||◌, Bool, true, false, not, List, [], ◌∷◌, ◌++◌, length, get_or, take, drop, Option, None, Some, encode_utf8, encode_utf8_all, refl, sym, ap, ap₂, ◌∙◌, subst, append_assoc, append-nil, arith, inl, inr, take-append-drop, drop_of_length-le, length-take-le, eqb-true, ⊎_elim}
+use Rattle.std.proofs.lemmas.Bool.{and_parts, cases_Bool, cases_eq, cases_lt, ne_eqb, not-false, not_from_false, or_cases}
+use Rattle.std.proofs.lemmas.List.Folds.{list_all-append}
+use Rattle.std.proofs.lemmas.List.Sums.{prefix_len-le-length, prefix_len_stops}
+use Rattle.std.specs.List.{list_all, prefix_len}
+use Rattle.data_url.proofs.TextLemmas.{behind_begins, front_of, front_passes}
+use Rattle.data_url.proofs.TokenLemmas.{drop_front, take_front}
+use Rattle.std.proofs.lemmas.Str.{IsCharBoundary-at_seam, IsCharBoundary-before_ascii, IsUtf8-drop, IsUtf8-from_ascii, IsUtf8-past_char, IsUtf8-take, chars-IsAscii, chars-append, chars-nil, chars_past_char, encode_ascii, encodes-append, encodes-chars, len_utf8_bounds, scalars-chars}
 use Rattle.std.proofs.lemmas.Str.Ascii.{IsAscii-cons, IsAscii-nil}
 use lib.Utf8.{scalar}
 use Rattle.std.specs.Char.{IsScalar, char_set_contains}
 use Rattle.std.specs.Option.{IfSome}
-use Rattle.std.specs.Str.{IsCharBoundary, IsUtf8, NoCharPasses, NonePass, all_scalars, chars}
-use Rattle.std.specs.Str.Pattern.{CutsPrefixes, CutsSuffixes, FindsBy, FindsChar, MatchBeginsAt, FindsPrefixBy, FindsSuffixBy, HasCharAt, HasPassingCharAt, IsTrimEndMatches, IsTrimStartMatches}
+use Rattle.std.specs.Str.{IsCharBoundary, IsUtf8, all_scalars, chars}
+use Rattle.std.specs.Str.Pattern.{CutsPrefixes, CutsSuffixes, FindsPrefixBy, FindsSuffixBy, HasPassingCharAt, IsTrimEndMatches, IsTrimStartMatches}
 use Rattle.data_url.specs.CodePoints.{ends_name, is_http_whitespace, is_semicolon}
 use Rattle.data_url.specs.Mime.{DoesNotBegin, DoesNotEnd, Every, IsTrimmedEnd, Without}
 use Rattle.data_url.specs.Steps.Parsing.{IsTrimmedFront}
-use Rattle.data_url.proofs.RecordLemmas.{every_append}
+use Rattle.data_url.proofs.RecordLemmas.{all_from_every, every_append}
 use Rattle.std.proofs.Math.Bool.{or-false}
 
 eqb_turned : (a b : ℕ) → (a == b) ≡ (b == a)
@@ -20,10 +25,7 @@ eqb_turned a b = elim (cases_eq a b) [ inl e ↦ rw e refl | inr e ↦ ne_eqb a 
 pub whitespace_set : (c : ℕ) → char_set_contains (9 ∷ 10 ∷ 13 ∷ 32 ∷ []) c ≡ is_http_whitespace c
 whitespace_set c = rw (eqb_turned 9 c, eqb_turned 10 c, eqb_turned 13 c, eqb_turned 32 c, or-false (c == 32)) refl
 
-pub name_set : (c : ℕ) → char_set_contains (59 ∷ 61 ∷ []) c ≡ ends_name c
-name_set c = rw (eqb_turned 59 c, eqb_turned 61 c, or-false (c == 61)) refl
-
--- A cut at the first code point that passes
+-- A cut at the first byte that passes, of an ASCII class
 
 pub record IsCut (t : ℕ → Bool) (s front behind : List ℕ) : Type 0 where
   pub joined : chars s ≡ chars front ++ chars behind
@@ -31,31 +33,57 @@ pub record IsCut (t : ℕ → Bool) (s front behind : List ℕ) : Type 0 where
   pub begins : DoesNotBegin (λ c. not (t c)) (chars behind)
   pub text : IsUtf8 front × IsUtf8 behind
 
-without_from_none : (t : ℕ → Bool) (cs : List ℕ) → NonePass t cs → Without t cs
-without_from_none t [] h = tt
-without_from_none t (c ∷ cs) h = (not_from_false (t c) h.0, without_from_none t cs h.1)
+module _ (t : ℕ → Bool) (ascii : (c : ℕ) → t c ≡ true → c < 128) where
+  fails : (b : ℕ) → not (t b) ≡ false → t b ≡ true
+  fails b h = not-false (t b) h
 
-without_chars : (t : ℕ → Bool) (bs : List ℕ) → IsUtf8 bs → NoCharPasses t bs → Without t (chars bs)
-without_chars t bs u h = subst (Without t) (chars_from_encodes h.0 bs u h.1) (without_from_none t h.0 h.2)
+  char_fails : (c : ℕ) → list_all (λ b. not (t b)) (encode_utf8 c) ≡ true → not (t c) ≡ true
+  char_fails c h = elim (cases_Bool (t c)) [
+    | inl e ↦ (and_parts (not (t c)) true (sym (ap (list_all (λ b. not (t b))) (encode_ascii c (ascii c e))) ∙ h)).0
+    | inr e ↦ not_from_false (t c) e
+  ]
 
-chars_at : (s : List ℕ) (i j c : ℕ) → IsUtf8 (drop i s) → HasCharAt c s i j → chars (drop i s) ≡ c ∷ chars (drop j s)
-chars_at s i j c u h = chars_past_char (drop i s) (drop j s) c u h.split
+  chars_fail : (cs : List ℕ) → list_all (λ b. not (t b)) (encode_utf8_all cs) ≡ true → Without t cs
+  chars_fail [] h = tt
+  chars_fail (c ∷ cs) h =
+      let p = and_parts (list_all (λ b. not (t b)) (encode_utf8 c)) (list_all (λ b. not (t b)) (encode_utf8_all cs)) (sym (list_all-append (λ b. not (t b)) (encode_utf8 c) (encode_utf8_all cs)) ∙ h) in
+      (char_fails c p.0, chars_fail cs p.1)
 
-pub cut_at : (t : ℕ → Bool) (s front behind : List ℕ) (i j c : ℕ) → IsUtf8 s → IsCharBoundary s i → NoCharPasses t (take i s) → t c ≡ true → HasCharAt c s i j → front ≡ take i s → behind ≡ drop i s → IsCut t s front behind
-cut_at t s front behind i j c u b n e h f g = rw (f, g) (record {
-  joined = ap chars (sym (take-append-drop i s)) ∙ chars-append (take i s) (drop i s) (IsUtf8-take s i u b);
-  in_front = without_chars t (take i s) (IsUtf8-take s i u b) n;
-  begins = subst (DoesNotBegin (λ d. not (t d))) (sym (chars_at s i j c (IsUtf8-drop s i u b) h)) (not_from_true (t c) e);
-  text = (IsUtf8-take s i u b, IsUtf8-drop s i u b);
-})
+  begins_with : (bs : List ℕ) → IsUtf8 bs → DoesNotBegin (λ b. not (t b)) bs → DoesNotBegin (λ c. not (t c)) (chars bs)
+  begins_with [] u h = subst (DoesNotBegin (λ c. not (t c))) (sym chars-nil) tt
+  begins_with (b ∷ bs) u h = subst (DoesNotBegin (λ c. not (t c))) (sym (chars_past_char (b ∷ bs) bs b u (ap (λ e. e ++ bs) (sym (encode_ascii b (ascii b (fails b h))))))) h
 
-pub cut_none : (t : ℕ → Bool) (s : List ℕ) → IsUtf8 s → NoCharPasses t s → IsCut t s s []
-cut_none t s u n = record {
-  joined = sym (ap (λ x. chars s ++ x) chars-nil ∙ append-nil (chars s));
-  in_front = without_chars t s u n;
-  begins = subst (DoesNotBegin (λ d. not (t d))) (sym chars-nil) tt;
-  text = (u, IsUtf8-nil);
-}
+  module _ (s : List ℕ) (u : IsUtf8 s) where
+    pub cut_boundary : IsCharBoundary s (prefix_len (λ b. not (t b)) s)
+    cut_boundary = elim (cases_lt (prefix_len (λ b. not (t b)) s) (length s)) [
+      | inl l ↦ IsCharBoundary-before_ascii s (prefix_len (λ b. not (t b)) s) l (ascii (get_or s (prefix_len (λ b. not (t b)) s) 0) (fails (get_or s (prefix_len (λ b. not (t b)) s) 0) (prefix_len_stops (λ b. not (t b)) s 0 l)))
+      | inr l ↦ (prefix_len-le-length (λ b. not (t b)) s, λ k. absurd (omega (arith, l, k)))
+    ]
+
+    pub is_cut : IsCut t s (take (prefix_len (λ b. not (t b)) s) s) (drop (prefix_len (λ b. not (t b)) s) s)
+    is_cut =
+        let p : ℕ → Bool = λ b. not (t b) in
+        let n = prefix_len p s in
+        let front = IsUtf8-take s n u cut_boundary in
+        let behind = IsUtf8-drop s n u cut_boundary in
+        record {
+          joined = ap chars (sym (take-append-drop n s)) ∙ chars-append (take n s) (drop n s) front;
+          in_front = chars_fail (chars (take n s)) (ap (list_all p) (encodes-chars (take n s) front ∙ take_front p s) ∙ all_from_every p (front_of p s) (front_passes p s));
+          begins = begins_with (drop n s) behind (subst (DoesNotBegin p) (sym (drop_front p s)) (behind_begins p s));
+          text = (front, behind);
+        }
+
+  pub boundary_by : (s bytes : List ℕ) (n : ℕ) → IsUtf8 s → n ≡ prefix_len (λ b. not (t b)) bytes → bytes ≡ s → IsCharBoundary s n
+  boundary_by s bytes n u e b = subst (IsCharBoundary s) (sym (e ∙ ap (prefix_len (λ b. not (t b))) b)) (cut_boundary s u)
+
+  pub cut_by : (s bytes front behind : List ℕ) (n : ℕ) → IsUtf8 s → n ≡ prefix_len (λ b. not (t b)) bytes → bytes ≡ s → front ≡ take n s → behind ≡ drop n s → IsCut t s front behind
+  cut_by s bytes front behind n u e b f g = let k = e ∙ ap (prefix_len (λ b. not (t b))) b in rw (f, g, k) (is_cut s u)
+
+pub semicolon_below : (c : ℕ) → is_semicolon c ≡ true → c < 128
+semicolon_below c h = let k = eqb-true c 59 h in omega arith
+
+pub name_end_below : (c : ℕ) → ends_name c ≡ true → c < 128
+name_end_below c h = ⊎_elim (λ e. let k = eqb-true c 59 e in omega arith) (λ e. let k = eqb-true c 61 e in omega arith) (or_cases (c == 59) (c == 61) h)
 
 -- The front taken off
 
@@ -169,22 +197,3 @@ whitespace_below c h = ⊎_elim (λ e. let k = eqb-true c 9 e in omega arith) (�
 
 pub whitespace_end : (s r : List ℕ) → IsUtf8 s → IsTrimEndMatches (SetSuffix (9 ∷ 10 ∷ 13 ∷ 32 ∷ [])) s r → IsTrimmedEnd is_http_whitespace (chars s) (chars r)
 whitespace_end s r u h = trimmed_end is_http_whitespace whitespace_below (SetSuffix (9 ∷ 10 ∷ 13 ∷ 32 ∷ [])) (λ s o h. h is_http_whitespace whitespace_set) s r u h
-
--- What `find` of ';' or '=' and of ';' gives
-
-abbrev pub FindsSet : List ℕ → List ℕ → Option (ℕ × ℕ) → Type 0
-FindsSet set s r = (k : ℕ → Bool) → ((c : ℕ) → char_set_contains set c ≡ k c) → FindsBy k s r
-
-pub name_cut : (s front behind : List ℕ) (i : ℕ) → IsUtf8 s → MatchBeginsAt (FindsSet (59 ∷ 61 ∷ [])) s i → front ≡ take i s → behind ≡ drop i s → IsCut ends_name s front behind
-name_cut s front behind i u m f g =
-    let h = m.1 ends_name name_set in
-    cut_at ends_name s front behind i m.0 h.1.0 u m.3 h.0 h.1.1 h.1.2 f g
-
-pub no_name_cut : (s : List ℕ) → IsUtf8 s → FindsSet (59 ∷ 61 ∷ []) s None → IsCut ends_name s s []
-no_name_cut s u m = cut_none ends_name s u (m ends_name name_set)
-
-pub semicolon_cut : (s front behind : List ℕ) (i : ℕ) → IsUtf8 s → MatchBeginsAt (FindsChar 59) s i → front ≡ take i s → behind ≡ drop i s → IsCut is_semicolon s front behind
-semicolon_cut s front behind i u m f g = cut_at is_semicolon s front behind i m.0 59 u m.3 m.1.0 refl m.1.1 f g
-
-pub no_semicolon_cut : (s : List ℕ) → IsUtf8 s → FindsChar 59 s None → IsCut is_semicolon s s []
-no_semicolon_cut s u m = cut_none is_semicolon s u m

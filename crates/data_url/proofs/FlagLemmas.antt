@@ -1,5 +1,5 @@
 -- The base64 suffix of a header with a query stands behind its '?'.
-use Rattle.std.proofs.Common.{◌≡◌, ◌≢◌, ℕ, suc, ◌+◌, ◌-◌, ◌<◌, ◌≤◌, Bool, true, false, cond, not, List, [], ◌∷◌, ◌++◌, length, length-append, get_or, take, drop, reverse, map, codes, Option, None, Some, is_some, refl, sym, ap, ◌∙◌, subst, inl, inr, ⊎_elim, append_assoc, arith, eqb}
+use Rattle.std.proofs.Common.{◌≡◌, ◌≢◌, ℕ, suc, ◌+◌, ◌-◌, ◌<◌, ◌≤◌, Bool, true, false, cond, List, [], ◌∷◌, ◌++◌, length, length-append, get_or, take, drop, reverse, map, codes, Option, None, Some, is_some, refl, sym, ap, ◌∙◌, subst, ⊎_elim, append_assoc, arith, eqb}
 use Rattle.std.specs.Prelude.{◌==◌, option_and_then}
 use Rattle.std.specs.Option.{option_map}
 use Rattle.std.specs.Char.{to_ascii_lowercase}
@@ -10,7 +10,7 @@ use Rattle.std.proofs.lemmas.Bool.{agree_below_at, both_ways, cases_lt, cond_bot
 use Rattle.std.proofs.lemmas.List.{drop-append-le, get_or-drop, get_or-map, get_or_past, length-drop, reverse-append}
 use Rattle.std.proofs.lemmas.List.Folds.{prefix_len-append}
 use Rattle.std.proofs.lemmas.List.Sums.{prefix_len-drop_no, prefix_len-le-length, suffix_len-le-length}
-use Rattle.data_url.specs.Url.{without_end, without_front}
+use Rattle.data_url.specs.Url.{without_end}
 use Rattle.data_url.specs.Fetch.{before_base64, before_last, before_semicolon, before_word, has_base64_suffix, is_space, last, stripped}
 use Rattle.data_url.proofs.SuffixLemmas.{no_word, word}
 

@@ -12,7 +12,7 @@ use Rattle.data_url.specs.Percent.{percent_decoded}
 use Rattle.data_url.specs.Fetch.{before_comma, encoded_body, header_of, staged_front, tail_of}
 use Rattle.data_url.specs.Steps.Front.{HasNoScheme, IsHeaderAndTail, IsSchemeAndRest}
 use Rattle.data_url.specs.Steps.Header.{header_text}
-use Rattle.data_url.proofs.UrlLemmas.{before-append, before_at, before_nil, before_other, before_same, behind-append, behind-dropped_none, behind_at, behind_nil, behind_other, dropped-append, dropped_around, dropped_keeps, dropped_nil, dropped_passes, lacks}
+use Rattle.data_url.proofs.UrlLemmas.{before-append, before_nil, before_other, before_same, behind-append, behind-dropped_none, behind_at, behind_nil, behind_other, dropped-append, dropped_around, dropped_keeps, dropped_nil, dropped_passes, lacks}
 use Rattle.data_url.proofs.RecodedLemmas.{IsBytes, Recoded, RecodedTails, before-serialised, recoded-decoded, recoded_tails, serialised_recoded}
 
 -- Bytes

@@ -2,7 +2,7 @@
 use Rattle.std.proofs.Common.{◌≡◌, ℕ, zero, suc, ◌+◌, ◌-◌, take, ◌<◌, Bool, false, List, [], ◌∷◌, length, get_or, drop, Option, None, Some, Result, refl, sym, ap, ◌∙◌, subst, arith}
 use Rattle.std.specs.Option.{option_map}
 use Rattle.std.proofs.lemmas.List.{drop_all, drop_more}
-use Rattle.data_url.specs.Url.{after_scheme, behind, dropped, fragment, front, in_fragment_set, is_c0_control_or_space, percent_encoded, serialised, trimmed}
+use Rattle.data_url.specs.Url.{after_scheme, behind, dropped, fragment, front, in_fragment_set, is_c0_control_or_space, percent_encoded, trimmed}
 use Rattle.data_url.specs.Percent.{percent_decoded}
 use Rattle.data_url.specs.Fetch.{Accepted, Good, NoComma, NoScheme, Outcome, encoded_body, has_base64_suffix, mime_text, outcome, plain_body, staged, staged_after, staged_parts}
 use Rattle.data_url.specs.Steps.Front.{HasNoScheme, IsHeaderAndTail, IsSchemeAndRest}

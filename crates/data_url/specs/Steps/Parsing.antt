@@ -60,7 +60,7 @@ quotable_value (Some value) = if list_all is_quotable value then Some value else
 
 -- the slices spell the item
 pub record IsItem (parameter : Parameter) (item : Item) : Type 0 where
-  pub name : item.0 ≡ map to_ascii_lowercase (chars parameter.name.now)
+  pub name : item.0 ≡ map to_ascii_lowercase (chars parameter.name.text.now)
   pub value : IsValue parameter.value item.1
 
 -- the pair that an item adds to those that are kept: none where its name is there
@@ -82,3 +82,7 @@ HasNoHead s = (type_ subtype parameters : List ℕ) → IsHead s type_ subtype p
 -- neither '"' nor '\', before which a '\' is written
 abbrev pub is_plain : ℕ → Bool
 is_plain c = not (c == 34) && not (c == 92)
+
+-- '\', behind which a code point stands for itself
+abbrev pub is_backslash : ℕ → Bool
+is_backslash c = c == 92

@@ -1,6 +1,7 @@
 //! Texts cut at a code point, and HTTP whitespace taken off.
 
 ghost use Rattle.std.specs.Prelude.{◌≡◌, ◌++◌, not};
+ghost use Rattle.std.specs.List.{prefix_len};
 ghost use Rattle.std.specs.Str.{IsUtf8, chars};
 ghost use Rattle.data_url.specs.CodePoints.{ends_name, is_http_whitespace, is_semicolon};
 ghost use Rattle.data_url.specs.Mime.{BeginsParameters, DoesNotBegin, IsTrimmedEnd, Without};
@@ -23,6 +24,23 @@ pub(super) fn without_trailing_whitespace(text: &str) -> &str
     text.trim_end_matches(HTTP_WHITESPACE)
 }
 
+/// How many bytes stand before the first `;` or `=`.
+fn name_len(bytes: &[u8]) -> usize
+    ensures { result ≡ prefix_len (λ b. not (ends_name b)) bytes.now }
+{
+    bytes
+        .iter()
+        .take_while(|byte| **byte != b';' && **byte != b'=')
+        .count()
+}
+
+/// How many bytes stand before the first `;`.
+fn parameter_len(bytes: &[u8]) -> usize
+    ensures { result ≡ prefix_len (λ b. not (is_semicolon b)) bytes.now }
+{
+    bytes.iter().take_while(|byte| **byte != b';').count()
+}
+
 /// What stands before the first `;` or `=`, and the rest.
 pub(super) fn split_name(text: &str) -> (&str, &str)
     ensures joined { chars text.now ≡ chars result.0.now ++ chars result.1.now }
@@ -30,10 +48,7 @@ pub(super) fn split_name(text: &str) -> (&str, &str)
     ensures behind { DoesNotBegin (λ c. not (ends_name c)) (chars result.1.now) }
     ensures text { IsUtf8 result.0.now × IsUtf8 result.1.now }
 {
-    match text.find([';', '=']) {
-        Some(place) => text.split_at(place),
-        None => (text, ""),
-    }
+    text.split_at(name_len(text.as_bytes()))
 }
 
 /// What stands before the first `;`, and the rest.
@@ -43,8 +58,5 @@ pub(super) fn split_semicolon(text: &str) -> (&str, &str)
     ensures behind { BeginsParameters (chars result.1.now) }
     ensures text { IsUtf8 result.0.now × IsUtf8 result.1.now }
 {
-    match text.find(';') {
-        Some(place) => text.split_at(place),
-        None => (text, ""),
-    }
+    text.split_at(parameter_len(text.as_bytes()))
 }

@@ -1,6 +1,6 @@
 //! The parameters that are kept while a MIME type is read: of each name the first.
 
-ghost use Rattle.std.specs.Prelude.{false, ◌≡◌, ◌++◌, ◌∷◌, [], IsTrue, OnOk, map};
+ghost use Rattle.std.specs.Prelude.{false, ◌≡◌, ◌++◌, ◌∷◌, [], IfOk, IsTrue, OnOk, map};
 ghost use Rattle.std.specs.Char.{to_ascii_lowercase};
 ghost use Rattle.std.specs.Str.{chars};
 ghost use Rattle.data_url.specs.Mime.{has_name, is_lowercase_name, is_token_text};
@@ -23,15 +23,18 @@ pub(super) struct KeptParameters {
 }
 
 impl KeptParameters {
-    /// No pairs. It takes no memory.
-    pub(super) fn new(alloc: Global) -> KeptParameters
-        ensures none { pairs_of result ≡ [] }
-        ensures indexed { IsIndexed result }
+    /// No pairs, and room for so many.
+    pub(super) fn with_capacity(
+        alloc: Global,
+        capacity: usize,
+    ) -> Result<KeptParameters, AllocError>
+        ensures none { IfOk result (λ kept. pairs_of kept ≡ []) }
+        ensures indexed { IfOk result (λ kept. IsIndexed kept) }
     {
-        KeptParameters {
-            pairs: Vec::new(alloc),
+        Ok(KeptParameters {
+            pairs: Vec::with_capacity(alloc, capacity)?,
             later_names: BTreeSet::new(alloc),
-        }
+        })
     }
 
     /// The pairs alone.

@@ -1,10 +1,11 @@
 //! Reads a MIME type (MIME Sniffing Standard, section 4.4).
 
-ghost use Rattle.std.specs.Prelude.{◌≡◌, ◌++◌, ◌∷◌, List, ℕ, Option, MatchOption, IfOk, IsTrue, OnOk, map};
+ghost use Rattle.std.specs.Prelude.{◌≡◌, ◌++◌, ◌∷◌, List, ℕ, Option, MatchOption, IfOk, IsTrue, OnOk, map, not};
 ghost use Rattle.std.specs.Bool.{MatchBool};
 ghost use Rattle.std.specs.Char.{to_ascii_lowercase};
 ghost use Rattle.std.specs.Str.{IsUtf8, chars};
-ghost use Rattle.data_url.specs.Mime.{BeginsParameters, DoesNotBegin, IsHead, Item, Items, is_quote, is_token_text, kept, IsRecordOfParts};
+ghost use Rattle.data_url.specs.CodePoints.{ends_name};
+ghost use Rattle.data_url.specs.Mime.{BeginsParameters, DoesNotBegin, IsHead, Item, Items, Without, is_quote, is_token_text, kept, IsRecordOfParts};
 ghost use Rattle.data_url.specs.Steps.Parsing.{HasNoHead, HasParameterBefore, HasValueBefore, IsClosed, IsItem, IsOpen, IsValue, added};
 ghost use Rattle.data_url.specs.Steps.Kept.{IsIndexed, pairs_of};
 ghost use Rattle.data_url.specs.MimeType.{pair_of, seen};
@@ -26,10 +27,18 @@ pub(super) struct Head<'a> {
     pub(super) parameters: &'a str,
 }
 
+/// The name of a parameter, as it stands in the text.
+#[derive(Clone, Copy)]
+struct Name<'a> {
+    text: &'a str,
+    /// Whether it is nonempty and of token code points alone.
+    is_valid: bool,
+}
+
 /// One parameter, as it stands in the text, and what stands behind it.
 #[derive(Clone, Copy)]
 struct Parameter<'a> {
-    name: &'a str,
+    name: Name<'a>,
     value: Value<'a>,
     rest: &'a str,
 }
@@ -79,13 +88,50 @@ fn begins_parameters(text: &str) -> bool
     text.is_empty() || text.starts_with(';')
 }
 
+/// Whether a text is empty or begins with `;` or `=`.
+fn begins_behind_name(text: &str) -> bool
+    ensures { IsTrue result → DoesNotBegin (λ c. not (ends_name c)) (chars text.now) }
+{
+    text.is_empty() || text.starts_with('=') || text.starts_with(';')
+}
+
+/// The name that a text begins with, and what stands behind it.
+fn read_name(text: &str) -> (Name<'_>, &str)
+    ensures joined { chars text.now ≡ chars result.0.text.now ++ chars result.1.now }
+    ensures front { Without ends_name (chars result.0.text.now) }
+    ensures behind { DoesNotBegin (λ c. not (ends_name c)) (chars result.1.now) }
+    ensures valid { result.0.is_valid ≡ is_token_text (chars result.0.text.now) }
+    ensures text { IsUtf8 result.1.now }
+{
+    let (tokens, rest) = split_tokens(text);
+    if begins_behind_name(rest) {
+        let is_valid = !tokens.is_empty();
+        return (
+            Name {
+                text: tokens,
+                is_valid,
+            },
+            rest,
+        );
+    }
+    let (name, rest) = split_name(text);
+    (
+        Name {
+            text: name,
+            is_valid: is_token_text(name),
+        },
+        rest,
+    )
+}
+
 /// The parameter that a text begins with, behind its `;`.
 fn read_parameter(text: &str) -> Parameter<'_>
     ensures parameter { (item : Item) × IsItem result item
         × HasParameterBefore (chars text.now) item (chars result.rest.now) }
+    ensures valid { result.name.is_valid ≡ is_token_text (chars result.name.text.now) }
     ensures text { IsUtf8 result.rest.now }
 {
-    let (name, tail) = split_name(without_leading_whitespace(text));
+    let (name, tail) = read_name(without_leading_whitespace(text));
     let Some(value) = tail.strip_prefix('=') else {
         return Parameter {
             name,
@@ -144,6 +190,17 @@ fn split_quote(text: &str) -> Option<(&str, &str)>
     None
 }
 
+/// About how many bytes of a text a parameter takes.
+const TYPICAL_LEN: usize = 8;
+
+/// For how many parameters there is room at once at the most.
+const MOST: usize = 32;
+
+/// For how many parameters there is room at once.
+fn capacity_for(text: &str) -> usize {
+    (text.len() / TYPICAL_LEN + 1).min(MOST)
+}
+
 /// The parameters that are kept of a text that is empty or begins with `;`.
 pub(super) fn read_parameters(
     alloc: Global,
@@ -153,7 +210,10 @@ pub(super) fn read_parameters(
     ensures { IfOk result (λ pairs. (items : List Item) × Items (chars text.now) items
         × (map (λ p. pair_of p) pairs.items ≡ kept items)) }
 {
-    let mut kept = KeptParameters::new(alloc);
+    if text.is_empty() {
+        return Ok(Vec::new(alloc));
+    }
+    let mut kept = KeptParameters::with_capacity(alloc, capacity_for(text))?;
     let mut rest = text;
     while let Some(behind) = rest.strip_prefix(';') {
         let parameter = read_parameter(behind);
@@ -169,13 +229,15 @@ fn keep(
     kept: &mut KeptParameters,
     parameter: &Parameter<'_>,
 ) -> Result<(), AllocError>
-    requires { IsIndexed kept.old }
+    requires indexed { IsIndexed kept.old }
+    requires valid { parameter.now.name.is_valid
+        ≡ is_token_text (chars parameter.now.name.text.now) }
     ensures pairs { OnOk result ((item : Item) → IsItem parameter.now item
         → pairs_of kept.new ≡ pairs_of kept.old ++ added (pairs_of kept.old) item) }
     ensures indexed { OnOk result (IsIndexed kept.new) }
 {
-    let name = parameter.name;
-    if !is_token_text(name) || kept.is_among_first(name) {
+    let name = parameter.name.text;
+    if !parameter.name.is_valid || kept.is_among_first(name) {
         return Ok(());
     }
     let Some(value) = parameter.value.text(alloc)? else {

@@ -1,16 +1,37 @@
 //! Values of parameters, as they stand in a text and as texts of their own.
 
 ghost use Rattle.std.specs.Prelude.{◌≡◌, List, ℕ, IfOk, IsTrue, map};
-ghost use Rattle.std.specs.Char.{to_ascii_lowercase};
-ghost use Rattle.std.specs.List.{list_all};
+ghost use Rattle.std.specs.Char.{is_ascii_uppercase, to_ascii_lowercase};
+ghost use Rattle.std.specs.List.{list_all, list_any};
 ghost use Rattle.std.specs.Option.{option_map};
 ghost use Rattle.std.specs.Str.{chars};
 ghost use Rattle.data_url.specs.CodePoints.{is_quotable};
 ghost use Rattle.data_url.specs.Mime.{QuotedOpen, is_token_text};
-ghost use Rattle.data_url.specs.Steps.Parsing.{IsValue, is_quotable_byte, quotable_value};
+ghost use Rattle.data_url.specs.Steps.Parsing.{IsValue, is_backslash, is_quotable_byte, quotable_value};
 ghost use Rattle.data_url.specs.MimeType.{code_points};
 
 use std::alloc::{AllocError, Global};
+
+/// The bytes that stand in the UTF-8 of quoted-string code points.
+#[rattlefmt::skip]
+const QUOTABLE: [bool; 256] = [
+    false, false, false, false, false, false, false, false, false, true, false, false, false, false, false, false,
+    false, false, false, false, false, false, false, false, false, false, false, false, false, false, false, false,
+    true, true, true, true, true, true, true, true, true, true, true, true, true, true, true, true,
+    true, true, true, true, true, true, true, true, true, true, true, true, true, true, true, true,
+    true, true, true, true, true, true, true, true, true, true, true, true, true, true, true, true,
+    true, true, true, true, true, true, true, true, true, true, true, true, true, true, true, true,
+    true, true, true, true, true, true, true, true, true, true, true, true, true, true, true, true,
+    true, true, true, true, true, true, true, true, true, true, true, true, true, true, true, false,
+    true, true, true, true, true, true, true, true, true, true, true, true, true, true, true, true,
+    true, true, true, true, true, true, true, true, true, true, true, true, true, true, true, true,
+    true, true, true, true, true, true, true, true, true, true, true, true, true, true, true, true,
+    true, true, true, true, true, true, true, true, true, true, true, true, true, true, true, true,
+    true, true, true, true, false, false, false, false, false, false, false, false, false, false, false, false,
+    false, false, false, false, false, false, false, false, false, false, false, false, false, false, false, false,
+    false, false, false, false, false, false, false, false, false, false, false, false, false, false, false, false,
+    false, false, false, false, false, false, false, false, false, false, false, false, false, false, false, false,
+];
 
 /// A value as it stands in a text.
 #[derive(Clone, Copy)]
@@ -39,11 +60,11 @@ impl<'a> Value<'a> {
 
 /// Whether a byte stands in the UTF-8 of quoted-string code points: U+0080 to U+00FF begin with 0xC2 or 0xC3, and every
 /// later code point begins with a greater byte.
-#[tactic(auto, unfolding(crate::specs::Steps::Parsing::is_quotable_byte))]
+#[tactic(auto, using(crate::proofs::ValueLemmas::quotable_entry))]
 fn is_quotable_byte(byte: u8) -> bool
     ensures { result ≡ is_quotable_byte byte }
 {
-    matches!(byte, b'\t' | b' '..=b'~' | 0x80..=0xC3)
+    QUOTABLE[byte as usize]
 }
 
 /// Whether a text has quoted-string code points alone. What escapes the others is one too, so a quoted string may be
@@ -59,8 +80,27 @@ fn is_quotable(text: &str) -> bool
     true
 }
 
+/// Whether a `\` is among the bytes.
+fn has_backslash(bytes: &[u8]) -> bool
+    ensures { result ≡ list_any is_backslash bytes.now }
+{
+    bytes.iter().any(|byte| *byte == b'\\')
+}
+
 /// The value of a quoted string: without the `\` before each code point that one stands before.
 fn unescaped(alloc: Global, quoted: &str) -> Result<String, AllocError>
+    ensures { IfOk result (λ text. (value : List ℕ) → QuotedOpen (chars quoted.now) value
+        → code_points text ≡ value) }
+{
+    if has_backslash(quoted.as_bytes()) {
+        without_backslashes(alloc, quoted)
+    } else {
+        String::from_str(alloc, quoted)
+    }
+}
+
+/// The same of a quoted string, code point by code point.
+fn without_backslashes(alloc: Global, quoted: &str) -> Result<String, AllocError>
     ensures { IfOk result (λ text. (value : List ℕ) → QuotedOpen (chars quoted.now) value
         → code_points text ≡ value) }
 {
@@ -78,11 +118,21 @@ fn unescaped(alloc: Global, quoted: &str) -> Result<String, AllocError>
     Ok(value)
 }
 
+/// Whether an ASCII upper-case letter is among the bytes.
+fn has_uppercase(bytes: &[u8]) -> bool
+    ensures { result ≡ list_any is_ascii_uppercase bytes.now }
+{
+    bytes.iter().any(|byte| byte.is_ascii_uppercase())
+}
+
 /// A text of token code points, in ASCII lower case.
 pub(super) fn lowercased(alloc: Global, text: &str) -> Result<String, AllocError>
     requires { IsTrue (is_token_text (chars text.now)) }
     ensures { IfOk result (λ lower. code_points lower ≡ map to_ascii_lowercase (chars text.now)) }
 {
+    if !has_uppercase(text.as_bytes()) {
+        return String::from_str(alloc, text);
+    }
     let mut lower = String::from_str(alloc, text)?;
     lower.make_ascii_lowercase();
     Ok(lower)

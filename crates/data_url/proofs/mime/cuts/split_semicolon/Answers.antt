@@ -1,15 +1,13 @@
-use Rattle.std.proofs.Common.{[]}
 use Rattle.std.specs.Str.{chars}
-use Rattle.data_url.proofs.CutLemmas.{no_semicolon_cut, semicolon_cut}
 use Rattle.data_url.proofs.ItemLemmas.{begins_from}
+use Rattle.data_url.specs.CodePoints.{is_semicolon}
+use Rattle.data_url.proofs.CutLemmas.{boundary_by, cut_by, semicolon_below}
 use Rattle.data_url.proofs.mime.cuts.split_semicolon.Goals as goal
 
-pub returns-in-Some : goal.returns-in-Some
-returns-in-Some c =
-    let s = semicolon_cut c.args.text.now c.split_at.result.0.now c.split_at.result.1.now c.in-Some.place c.utf8.text c.in-Some.ensures.cases c.split_at.ensures.front c.split_at.ensures.back in
-    record { joined = s.joined; front = s.in_front; behind = begins_from (chars c.split_at.result.1.now) s.begins; text = s.text }
+pub split_at-requires : goal.split_at-requires
+split_at-requires c = boundary_by is_semicolon semicolon_below c.args.text.now c.as_bytes.result.now c.parameter_len.result c.utf8.text c.parameter_len.ensures c.as_bytes.ensures.value
 
-pub returns-in-None : goal.returns-in-None
-returns-in-None c =
-    let s = no_semicolon_cut c.args.text.now c.utf8.text c.in-None.ensures.cases in
-    record { joined = s.joined; front = s.in_front; behind = begins_from (chars []) s.begins; text = s.text }
+pub returns : goal.returns
+returns c =
+    let s = cut_by is_semicolon semicolon_below c.args.text.now c.as_bytes.result.now c.split_at.result.0.now c.split_at.result.1.now c.parameter_len.result c.utf8.text c.parameter_len.ensures c.as_bytes.ensures.value c.split_at.ensures.front c.split_at.ensures.back in
+    record { joined = s.joined; front = s.in_front; behind = begins_from (chars c.split_at.result.1.now) s.begins; text = s.text }

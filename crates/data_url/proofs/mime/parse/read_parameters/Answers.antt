@@ -1,10 +1,14 @@
-use Rattle.std.proofs.Common.{◌<◌, ◌≤◌, length, arith, ap, ◌∙◌}
+use Rattle.std.proofs.Common.{◌<◌, ◌≤◌, length, map, [], arith, ap, ◌∙◌}
 use Rattle.std.specs.Str.{chars}
-use Rattle.data_url.proofs.HeadLemmas.{no_semicolon}
+use Rattle.data_url.specs.MimeType.{pair_of}
+use Rattle.data_url.proofs.HeadLemmas.{empty_by, no_semicolon}
 use Rattle.data_url.proofs.KeptLemmas.{keeps_end, keeps_more}
 use Rattle.data_url.proofs.ItemLemmas.{rest_shorter}
 use Rattle.data_url.proofs.ParameterLemmas.{stripped_chars}
 use Rattle.data_url.proofs.mime.parse.read_parameters.Goals as goal
+
+pub returns-then-is_empty : goal.returns-then-is_empty
+returns-then-is_empty c = ([], empty_by c.args.text.now c.is_empty.result c.is_empty.ensures c.if-is_empty.true, ap (map (λ p. pair_of p)) c.new.ensures.items)
 
 pub loop-behind-smaller : goal.loop-behind-smaller
 loop-behind-smaller c =
