@@ -1,12 +1,15 @@
 -- What is written is the printed text.
-use Rattle.std.proofs.Common.{◌≡◌, ℕ, ◌+◌, ◌<◌, ◌≤◌, Bool, true, false, List, [], ◌∷◌, ◌++◌, length, get_or, drop, String, string_bytes, map, encode_utf8, encode_utf8_all, refl, inl, inr, ⊎_elim, sym, ap, ap₂, ◌∙◌, subst, append_assoc, append-nil, drop-cons, drop_of_length-le, add-one}
+use Rattle.std.proofs.Common.{◌≡◌, ℕ, ◌+◌, ◌<◌, ◌≤◌, Bool, true, false, List, [], ◌∷◌, ◌++◌, length, get_or, take, drop, String, string_bytes, map, encode_utf8, encode_utf8_all, refl, inl, inr, ⊎_elim, sym, ap, ap₂, ◌∙◌, subst, append_assoc, append-nil, drop-cons, drop_of_length-le, add-one, arith}
 use Rattle.std.specs.Prelude.{◌==◌, ◌||◌}
 use lib.Utf8.{encode}
 use Rattle.std.proofs.lemmas.Bool.{and_parts, both_ways, cases_Bool, cond-false, cond-true, eq-eqb, eqb-true, or_cases}
 use Rattle.std.proofs.lemmas.List.Folds.{list_all-append}
-use Rattle.std.proofs.lemmas.Str.{IsUtf8-string_bytes, chars_past_char, encodes-append, encodes-chars}
+use Rattle.std.proofs.lemmas.Str.{IsUtf8-append, IsUtf8-string_bytes, chars_past_char, encode_ascii, encodes-append, encodes-chars}
 use Rattle.std.specs.declared.fmt.Formatter.{Formatter}
-use Rattle.std.specs.Fmt.{HasWritten, HasWrittenStyled, IsDefaultSpec, IsPlainFormatter}
+use Rattle.std.proofs.Output.{has_written_styled_append, has_written_styled_nil, has_written_styled_of_eq}
+use Rattle.std.specs.Fmt.{HasWritten, HasWrittenStyled, IsDefaultSpec, IsFlush, IsPlainFormatter}
+use Rattle.data_url.specs.Steps.Printing.{HasAdded, IsHeld, held}
+use Rattle.data_url.specs.declared.mime.line.Line.{Line}
 use Rattle.std.specs.List.{flat_map, list_all, prefix_len}
 use Rattle.std.specs.Str.{IsUtf8, chars}
 use Rattle.data_url.specs.Mime.{escaped, is_token_text, printed, printed_pair, printed_value}
@@ -58,17 +61,19 @@ plain_text v bytes n u b e h =
 pub token_value : (v : List ℕ) (b : Bool) → IsUtf8 v → b ≡ is_token_text (chars v) → b ≡ true → v ≡ encode_utf8_all (printed_value (chars v))
 token_value v b u e h = sym (encodes-chars v u) ∙ ap encode_utf8_all (sym (cond-true (is_token_text (chars v)) (chars v) (34 ∷ (flat_map escaped (chars v) ++ (34 ∷ []))) (sym e ∙ h)))
 
-pub quoted_value_text : (v : List ℕ) (b : Bool) → b ≡ is_token_text (chars v) → b ≡ false → (encode_utf8 34 ++ encode_utf8_all (flat_map escaped (chars v))) ++ encode_utf8 34 ≡ encode_utf8_all (printed_value (chars v))
+pub quoted_value_text : (v : List ℕ) (b : Bool) → b ≡ is_token_text (chars v) → b ≡ false → ((34 ∷ []) ++ encode_utf8_all (flat_map escaped (chars v))) ++ (34 ∷ []) ≡ encode_utf8_all (printed_value (chars v))
 quoted_value_text v b e h =
-    append_assoc (encode_utf8 34) (encode_utf8_all (flat_map escaped (chars v))) (encode_utf8 34)
+    ap (λ x. (x ++ encode_utf8_all (flat_map escaped (chars v))) ++ x) (sym (encode_ascii 34 (omega arith)))
+    ∙ append_assoc (encode_utf8 34) (encode_utf8_all (flat_map escaped (chars v))) (encode_utf8 34)
     ∙ ap (λ x. encode_utf8 34 ++ x) (ap (λ x. encode_utf8_all (flat_map escaped (chars v)) ++ x) (sym (append-nil (encode_utf8 34))) ∙ sym (encodes-append (flat_map escaped (chars v)) (34 ∷ [])))
     ∙ ap encode_utf8_all (sym (cond-false (is_token_text (chars v)) (chars v) (34 ∷ (flat_map escaped (chars v) ++ (34 ∷ []))) (sym e ∙ h)))
 
 -- A parameter
 
-pub parameter_text : (name value : List ℕ) → IsUtf8 name → ((encode_utf8 59 ++ name) ++ encode_utf8 61) ++ encode_utf8_all (printed_value (chars value)) ≡ encode_utf8_all (printed_pair (chars name, chars value))
+pub parameter_text : (name value : List ℕ) → IsUtf8 name → (((59 ∷ []) ++ name) ++ (61 ∷ [])) ++ encode_utf8_all (printed_value (chars value)) ≡ encode_utf8_all (printed_pair (chars name, chars value))
 parameter_text name value u =
-    append_assoc (encode_utf8 59 ++ name) (encode_utf8 61) (encode_utf8_all (printed_value (chars value)))
+    ap₂ (λ x y. ((x ++ name) ++ y) ++ encode_utf8_all (printed_value (chars value))) (sym (encode_ascii 59 (omega arith))) (sym (encode_ascii 61 (omega arith)))
+    ∙ append_assoc (encode_utf8 59 ++ name) (encode_utf8 61) (encode_utf8_all (printed_value (chars value)))
     ∙ append_assoc (encode_utf8 59) name (encode_utf8 61 ++ encode_utf8_all (printed_value (chars value)))
     ∙ ap (λ x. encode_utf8 59 ++ x) (ap (λ x. x ++ (encode_utf8 61 ++ encode_utf8_all (printed_value (chars value)))) (sym (encodes-chars name u)) ∙ sym (encodes-append (chars name) (61 ∷ printed_value (chars value))))
 
@@ -101,8 +106,8 @@ record_ends pairs i done whole l h = sym (append-nil done) ∙ ap (λ x. done ++
 
 -- the same by what a reference reads
 
-pub record_starts_by : (m : Mime) (a b : List ℕ) → a ≡ string_bytes m.type_ → b ≡ string_bytes m.subtype → ((a ++ encode_utf8 47) ++ b) ++ pairs_text m.parameters.items ≡ encode_utf8_all (printed (seen m))
-record_starts_by m a b e f = ap₂ (λ x y. ((x ++ encode_utf8 47) ++ y) ++ pairs_text m.parameters.items) e f ∙ record_starts m
+pub record_starts_by : (m : Mime) (a b : List ℕ) → a ≡ string_bytes m.type_ → b ≡ string_bytes m.subtype → ((a ++ (47 ∷ [])) ++ b) ++ pairs_text m.parameters.items ≡ encode_utf8_all (printed (seen m))
+record_starts_by m a b e f = ap (λ x. ((a ++ x) ++ b) ++ pairs_text m.parameters.items) (sym (encode_ascii 47 (omega arith))) ∙ ap₂ (λ x y. ((x ++ encode_utf8 47) ++ y) ++ pairs_text m.parameters.items) e f ∙ record_starts m
 
 pub pair_by : {A B : Type 0} (item : String A × String B) (a b : List ℕ) → a ≡ string_bytes item.0 → b ≡ string_bytes item.1 → encode_utf8_all (printed_pair (chars a, chars b)) ≡ encode_utf8_all (printed_pair (pair_of item))
 pair_by item a b e f = ap₂ (λ x y. encode_utf8_all (printed_pair (chars x, chars y))) e f
@@ -110,3 +115,45 @@ pair_by item a b e f = ap₂ (λ x y. encode_utf8_all (printed_pair (chars x, ch
 -- what is written under any options is written under none
 pub written_plain : {W : Type 0} {took : W → List ℕ → W → Type 0} {f g : Formatter W} {bs : List ℕ} → IsPlainFormatter f → HasWrittenStyled took f bs g → HasWritten took f bs g
 written_plain {f = f} plain h = record { wrote = h.wrote; plain = record { bare = subst IsDefaultSpec (sym h.spec) plain.bare; flush = h.flush } }
+
+-- A line that is held back
+
+pub held_none : (l : Line) → l.len ≡ 0 → held l ≡ []
+held_none l e = ap (λ n. take n l.room) e
+
+pub held_more : (l m : Line) (a : List ℕ) → IsUtf8 (held l) → IsUtf8 a → held m ≡ held l ++ a → m.len ≤ 128 → IsHeld m
+held_more l m a u w e h = record { fits = h; text = subst IsUtf8 (sym e) (IsUtf8-append (held l) a u w) }
+
+module _ {W : Type 0} {took : W → List ℕ → W → Type 0} where
+  pub added_held : (f : Formatter W) (l m : Line) (a : List ℕ) → IsFlush f → held m ≡ held l ++ a → HasAdded took f l a f m
+  added_held f l m a flush e = record { written = []; wrote = has_written_styled_nil _ f flush; joined = sym e }
+
+  pub added_append : (f g h : Formatter W) (l m n : Line) (a b : List ℕ) → HasAdded took f l a g m → HasAdded took g m b h n → HasAdded took f l (a ++ b) h n
+  added_append f g h l m n a b x y = record {
+    written = x.written ++ y.written;
+    wrote = has_written_styled_append _ _ _ _ _ _ x.wrote y.wrote;
+    joined = sym (append_assoc (held l) a b) ∙ ap (λ t. t ++ b) x.joined ∙ append_assoc x.written (held m) b ∙ ap (λ t. x.written ++ t) y.joined ∙ sym (append_assoc x.written y.written (held n));
+  }
+
+  pub added_of_eq : (f g : Formatter W) (l m : Line) (a b : List ℕ) → a ≡ b → HasAdded took f l a g m → HasAdded took f l b g m
+  added_of_eq f g l m a b e = subst (λ (t : List ℕ). HasAdded took f l t g m) e
+
+  -- what is held is written, and then a text
+  pub added_written : (f g h : Formatter W) (l m : Line) (a : List ℕ) → HasWrittenStyled took f (held l) g → HasWrittenStyled took g a h → m.len ≡ 0 → HasAdded took f l a h m
+  added_written f g h l m a x y e = record {
+    written = held l ++ a;
+    wrote = has_written_styled_append _ _ _ _ _ _ x y;
+    joined = sym (append-nil (held l ++ a)) ∙ ap (λ t. (held l ++ a) ++ t) (sym (held_none m e));
+  }
+
+  -- what is held is written, and then a text is held
+  pub added_behind : (f g : Formatter W) (l m n : Line) (a : List ℕ) → HasWrittenStyled took f (held l) g → m.len ≡ 0 → held n ≡ held m ++ a → HasAdded took f l a g n
+  added_behind f g l m n a x e h = record {
+    written = held l;
+    wrote = x;
+    joined = ap (λ t. held l ++ t) (sym (h ∙ ap (λ t. t ++ a) (held_none m e)));
+  }
+
+  -- a whole that is added to an empty line is written once what is held is
+  pub added_then_written : (f g h : Formatter W) (l m : Line) (a : List ℕ) → held l ≡ [] → HasAdded took f l a g m → HasWrittenStyled took g (held m) h → HasWrittenStyled took f a h
+  added_then_written f g h l m a e x y = has_written_styled_of_eq _ _ _ _ _ (sym x.joined ∙ ap (λ t. t ++ a) e) (has_written_styled_append _ _ _ _ _ _ x.wrote y)

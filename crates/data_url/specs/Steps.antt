@@ -12,6 +12,7 @@ pub mod Kept
 pub mod Lanes
 pub mod Looks
 pub mod Parsing
+pub mod Printing
 pub mod Sets
 pub mod Tail
 pub mod Walk

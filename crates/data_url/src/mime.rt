@@ -4,13 +4,15 @@ ghost use Rattle.std.specs.Prelude.{◌≡◌, ◌↔◌, IfOk, IsTrue, [], Some
 
 mod cuts;
 mod kept;
+mod line;
 mod parse;
 mod print;
 mod tokens;
 mod values;
 
+use line::Line;
 use parse::read_head;
-use print::write_parameter;
+use print::push_parameter;
 use std::alloc::{AllocError, Global};
 use std::error::Error;
 use std::fmt;
@@ -66,13 +68,14 @@ impl fmt::Display for Mime {
     ghost styled_output = { λ mime spec. Some (encode_utf8_all (printed (seen mime))) };
 
     fn fmt<W: fmt::Write>(&self, f: &mut fmt::Formatter<W>) -> fmt::Result {
-        f.write_str(&self.type_)?;
-        f.write_char('/')?;
-        f.write_str(&self.subtype)?;
+        let mut line = Line::new();
+        line.push(f, &self.type_)?;
+        line.push(f, "/")?;
+        line.push(f, &self.subtype)?;
         for (name, value) in &self.parameters {
-            write_parameter(f, name, value)?;
+            push_parameter(&mut line, f, name, value)?;
         }
-        Ok(())
+        line.flush(f)
     }
 }
 

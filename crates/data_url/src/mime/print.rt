@@ -6,46 +6,60 @@ ghost use Rattle.std.specs.List.{flat_map, prefix_len};
 ghost use Rattle.std.specs.Str.{chars, encode_utf8_all};
 ghost use Rattle.data_url.specs.Mime.{escaped, printed_pair, printed_value};
 ghost use Rattle.data_url.specs.Steps.Parsing.{is_plain};
+ghost use Rattle.data_url.specs.Steps.Printing.{AddsOnOk, IsHeld};
 
+use super::line::Line;
 use super::tokens::is_token_text;
 use std::fmt;
 
-/// Writes `;`, a name, `=` and a value.
-pub(super) fn write_parameter<W: fmt::Write>(
+/// Adds `;`, a name, `=` and a value.
+pub(super) fn push_parameter<W: fmt::Write>(
+    line: &mut Line,
     f: &mut fmt::Formatter<W>,
     name: &str,
     value: &str,
 ) -> fmt::Result
-    ensures { WritesStyledOnOk W.write_str_gives f.old result
-        (encode_utf8_all (printed_pair (chars name.now, chars value.now))) f.new }
+    requires { IsHeld line.old }
+    ensures added { AddsOnOk W.write_str_gives f.old line.old result
+        (encode_utf8_all (printed_pair (chars name.now, chars value.now))) f.new line.new }
+    ensures held { IsHeld line.new }
 {
-    f.write_char(';')?;
-    f.write_str(name)?;
-    f.write_char('=')?;
-    write_value(f, value)
+    line.push(f, ";")?;
+    line.push(f, name)?;
+    line.push(f, "=")?;
+    push_value(line, f, value)
 }
 
-/// Writes a value: a nonempty text of token code points as it is, any other in quotes.
-fn write_value<W: fmt::Write>(f: &mut fmt::Formatter<W>, value: &str) -> fmt::Result
-    ensures { WritesStyledOnOk W.write_str_gives f.old result
-        (encode_utf8_all (printed_value (chars value.now))) f.new }
+/// Adds a value: a nonempty text of token code points as it is, any other in quotes.
+fn push_value<W: fmt::Write>(line: &mut Line, f: &mut fmt::Formatter<W>, value: &str) -> fmt::Result
+    requires { IsHeld line.old }
+    ensures added { AddsOnOk W.write_str_gives f.old line.old result
+        (encode_utf8_all (printed_value (chars value.now))) f.new line.new }
+    ensures held { IsHeld line.new }
 {
     if is_token_text(value) {
-        return f.write_str(value);
+        return line.push(f, value);
     }
-    f.write_char('"')?;
-    write_escaped(f, value)?;
-    f.write_char('"')
+    line.push(f, "\"")?;
+    push_escaped(line, f, value)?;
+    line.push(f, "\"")
 }
 
-/// Writes a text with a `\` before each `"` and each `\`.
-fn write_escaped<W: fmt::Write>(f: &mut fmt::Formatter<W>, text: &str) -> fmt::Result
-    ensures { WritesStyledOnOk W.write_str_gives f.old result
-        (encode_utf8_all (flat_map escaped (chars text.now))) f.new }
+/// Adds a text with a `\` before each `"` and each `\`.
+fn push_escaped<W: fmt::Write>(
+    line: &mut Line,
+    f: &mut fmt::Formatter<W>,
+    text: &str,
+) -> fmt::Result
+    requires { IsHeld line.old }
+    ensures added { AddsOnOk W.write_str_gives f.old line.old result
+        (encode_utf8_all (flat_map escaped (chars text.now))) f.new line.new }
+    ensures held { IsHeld line.new }
 {
     if unescaped_len(text.as_bytes()) == text.len() {
-        return f.write_str(text);
+        return line.push(f, text);
     }
+    line.flush(f)?;
     write_each_escaped(f, text)
 }
 
@@ -59,7 +73,7 @@ fn unescaped_len(bytes: &[u8]) -> usize
         .count()
 }
 
-/// The same of a text with some of these.
+/// Writes a text with a `\` before each `"` and each `\`.
 fn write_each_escaped<W: fmt::Write>(f: &mut fmt::Formatter<W>, text: &str) -> fmt::Result
     ensures { WritesStyledOnOk W.write_str_gives f.old result
         (encode_utf8_all (flat_map escaped (chars text.now))) f.new }

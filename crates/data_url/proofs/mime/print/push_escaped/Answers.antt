@@ -1,0 +1,11 @@
+use Rattle.std.proofs.Common.{refl}
+use Rattle.data_url.proofs.PrintLemmas.{added_of_eq, added_written, plain_text}
+use Rattle.data_url.proofs.mime.print.push_escaped.Goals as goal
+
+pub returns-then-unescaped_len-text-clause-added : goal.returns-then-unescaped_len-text-clause-added
+returns-then-unescaped_len-text-clause-added g c plain ok = added_of_eq _ _ _ _ _ _ (plain_text c.args.text.now c.as_bytes.result.now c.unescaped_len.result c.utf8.text c.as_bytes.ensures.value c.unescaped_len.ensures c.if-unescaped_len-text.true) (c.push.ensures.added plain ok)
+
+pub returns-clause-added : goal.returns-clause-added
+returns-clause-added g c plain ok =
+    let one = c.in_ok-flush.ensures.written plain refl in
+    added_written _ _ _ _ _ _ one (c.write_each_escaped.ensures one.flush ok) c.in_ok-flush.ensures.none

@@ -1,0 +1,92 @@
+//! A line that is written in few calls.
+
+ghost use Rattle.std.specs.Fmt.{WritesStyledOnOk};
+ghost use Rattle.std.specs.Prelude.{◌≡◌, ◌+◌, ◌++◌, ◌≤◌, [], length};
+ghost use Rattle.data_url.specs.Steps.Printing.{AddsOnOk, IsHeld, held};
+
+use std::{fmt, str};
+
+/// How many bytes are held back at the most.
+const ROOM: usize = 128;
+
+/// The end of what is to be written, held back so that short texts are written as one.
+#[derive(Drop)]
+pub(super) struct Line {
+    room: [u8; ROOM],
+    len: usize,
+}
+
+impl Line {
+    /// A line of which nothing is held.
+    #[inline(always)]
+    pub(super) fn new() -> Line
+        ensures none { held result ≡ [] }
+        ensures held { IsHeld result }
+    {
+        Line {
+            room: [0; ROOM],
+            len: 0,
+        }
+    }
+
+    /// Holds a text that there is room for.
+    #[inline(always)]
+    fn hold(&mut self, text: &str)
+        requires { self.old.len + length text.now ≤ 128 }
+        ensures text { held self.new ≡ held self.old ++ text.now }
+        ensures fits { self.new.len ≤ 128 }
+    {
+        let end = self.len + text.len();
+        self.room[self.len..end].copy_from_slice(text.as_bytes());
+        self.len = end;
+    }
+
+    /// Adds a text.
+    #[inline(always)]
+    pub(super) fn push<W: fmt::Write>(
+        &mut self,
+        f: &mut fmt::Formatter<W>,
+        text: &str,
+    ) -> fmt::Result
+        requires { IsHeld self.old }
+        ensures added { AddsOnOk W.write_str_gives f.old self.old result text.now f.new self.new }
+        ensures held { IsHeld self.new }
+    {
+        if text.len() > ROOM - self.len {
+            return self.push_past_room(f, text);
+        }
+        self.hold(text);
+        Ok(())
+    }
+
+    /// Adds a text that there is no room for until what is held is written.
+    #[inline(never)]
+    fn push_past_room<W: fmt::Write>(
+        &mut self,
+        f: &mut fmt::Formatter<W>,
+        text: &str,
+    ) -> fmt::Result
+        requires { IsHeld self.old }
+        ensures added { AddsOnOk W.write_str_gives f.old self.old result text.now f.new self.new }
+        ensures held { IsHeld self.new }
+    {
+        self.flush(f)?;
+        if text.len() > ROOM {
+            return f.write_str(text);
+        }
+        self.hold(text);
+        Ok(())
+    }
+
+    /// Writes what is held.
+    pub(super) fn flush<W: fmt::Write>(&mut self, f: &mut fmt::Formatter<W>) -> fmt::Result
+        requires { IsHeld self.old }
+        ensures written { WritesStyledOnOk W.write_str_gives f.old result (held self.old) f.new }
+        ensures none { self.new.len ≡ 0 }
+        ensures held { IsHeld self.new }
+    {
+        let len = self.len;
+        self.len = 0;
+        f.write_str(unsafe { str::from_utf8_unchecked(&self.room[..len]) })
+    }
+}
