@@ -9,7 +9,7 @@ use Rattle.data_url.specs.Percent.{is_escape, percent_decoded}
 use Rattle.data_url.specs.Run.{joined, refusal}
 use Rattle.data_url.specs.Fetch.{Bad, Good, Outcome, outcome, outcome_bytes, plain_body}
 use Rattle.data_url.specs.Pieces.{Walk, begins}
-use Rattle.data_url.specs.Steps.Tail.{IsBodyEnd}
+use Rattle.data_url.specs.Steps.Tail.{IsBodyEnd, IsSlice}
 use Rattle.data_url.specs.DataUrl.{Answers, Decodes, HandsOut}
 use Rattle.data_url.specs.Decoder.{Feeds, Finishes, IsAll, State, start}
 use Rattle.data_url.specs.Errors.{IsRefused}
@@ -147,3 +147,12 @@ module _ {F E : Type 0} (step : F → List ℕ → Result (Unit {0}) E → F →
       let short : length h.read ≤ length text = omega (arith, h.few, h.within) in
       let finished : Finishes step d1 r' g = subst (λ q. Finishes step d1 q g) same k in
       outcome_at h.read whole (decodes_outcome h.read (length text + 1) place (IsBodyEnd text) r' (decodes_finished step s h.fed finished) (omega arith) b)
+
+  -- a body that is one slice
+  pub slice_decoded : {f g : F} {text u : List ℕ} (place : ℕ) {r r' : Result (Unit {0}) (DecodeError E)} → IsSlice text → u ≡ text → (r' ≡ Ok tt → place ≡ length text) → DecodesText step f u r g → r ≡ r' → Decodes step f (length text + 1) (outcome true (plain_body text)) (IsBodyEnd text) (at_place place r') g
+  slice_decoded {f} {g} {text} {u} place {r} {r'} s e p h q =
+      let P : ℕ → Type 0 = λ n. IsBodyEnd text n in
+      let size = ap length e in
+      let D : Result (Unit {0}) (DecodeError E) → Type 0 = λ x. DecodesText step f u x g in
+      let O : List ℕ → Type 0 = λ t. Decodes step f (length text + 1) (outcome true t) (IsBodyEnd text) (at_place place r') g in
+      subst O (e ∙ sym s.body) (decodes_outcome u (length text + 1) place (IsBodyEnd text) r' (subst D q h) (omega arith) (λ k. subst P (sym (p k)) s.ends))

@@ -8,7 +8,7 @@ use Rattle.data_url.specs.Fetch.{Good, outcome_bytes, plain_body}
 use Rattle.data_url.specs.Pieces.{Walk, begins}
 use Rattle.data_url.specs.Base64.{compact}
 use Rattle.data_url.specs.Steps.Chunks.{IsBase64Chunk, IsChunk}
-use Rattle.data_url.specs.Steps.Tail.{IsBodyEnd}
+use Rattle.data_url.specs.Steps.Tail.{IsBodyEnd, IsSlice}
 use Rattle.data_url.specs.DataUrl.{Decodes, HandsOut}
 use Rattle.data_url.specs.declared.escapes.Chunk.{Chunk}
 use Rattle.data_url.specs.declared.escapes.Chunk.TheVariants.{End, Gathered, Slice}
@@ -149,3 +149,18 @@ module _ {F E : Type 0} (step : F → List ℕ → Result (Unit {0}) E → F →
         calls = omega arith;
         gave = match_is_some (refusal (k.run ++ call)) e (HandsOut (Good (plain_body text)) (IsBodyEnd text) (joined (k.run ++ call)) (Err (WriteError e))) (λ e'. IsRefused {A = ℕ} (outcome_bytes (Good (plain_body text))) (joined (k.run ++ call)) e' (Err (WriteError e))) last (record { bytes_begin = (w'.rest, k.body ∙ ap (λ x. joined k.run ++ x) t.rest_is ∙ sym (append_assoc (joined k.run) bytes w'.rest) ∙ ap (λ x. x ++ w'.rest) (sym all)); answer = refl });
       }
+
+  -- a body that is one slice
+  slice_taken : {text bytes : List ℕ} → IsSlice text → bytes ≡ text → Takes (begins text) bytes (record { text = text; place = length text; rest = []; ended = true; looks = 0 })
+  slice_taken {text} {bytes} s e =
+      let some = s.some in
+      let size = ap length e in
+      record { text_stays = refl; rest_is = s.body ∙ sym e ∙ sym (append-nil bytes); place = omega arith; within = omega arith; some = omega arith }
+
+  pub slice_decodes : {f g : F} {text bytes : List ℕ} {place : ℕ} → IsSlice text → bytes ≡ text → place ≡ length text → step f bytes (Ok tt) g → Decodes step f (length text) (Good (plain_body text)) (IsBodyEnd text) (Ok place) g
+  slice_decodes {f} {g} {text} s e p h =
+      let P : ℕ → Type 0 = λ n. IsBodyEnd text n in
+      going_ends (going_more (going_none f text) (slice_taken s e) h) refl (subst P (sym p) s.ends)
+
+  pub slice_refused : {f g : F} {text bytes : List ℕ} (x : E) → IsSlice text → bytes ≡ text → step f bytes (Err x) g → Decodes step f (length text) (Good (plain_body text)) (IsBodyEnd text) (Err (WriteError x)) g
+  slice_refused {f} {g} {text} x s e h = going_refused x (going_none f text) (slice_taken s e) h

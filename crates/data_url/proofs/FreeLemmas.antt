@@ -3,7 +3,7 @@ use Rattle.std.proofs.Common.{◌≡◌, ℕ, zero, suc, ◌+◌, ◌*◌, ◌-�
 use Rattle.std.specs.Prelude.{◌==◌, slice_range}
 use Rattle.std.specs.Simd.Lanes.{Each1, chunk, mask_l, top, zip2}
 use Rattle.std.proofs.lemmas.Bool.{agree_below_at, cases_lt, eqb-true, or_cases, true≢false}
-use Rattle.std.proofs.lemmas.List.{drop_more, length-drop, length-map, length-take-le, take_rest, take-take}
+use Rattle.std.proofs.lemmas.List.{drop_more, length-drop, length-map, length-take-le, take_all, take_rest, take-take}
 use Rattle.std.proofs.lemmas.List.Elements.{filter-append}
 use Rattle.std.proofs.lemmas.Simd.{map-map, mask_l-mod, none_from_empty_mask, tops_compared, zip2_splat}
 use Rattle.data_url.specs.Base64.{compact}
@@ -101,6 +101,11 @@ clear_part text bytes place marks e short w h z =
     let end = min (place + 64) (length text) in
     let all = marks_part text bytes place marks e short w h in
     λ k a b. none_from_empty_mask is_marked text place (end - place) 0 (omega arith) (sym all ∙ z) k a (omega arith)
+
+pub clear_text : (text bytes : List ℕ) (marks : ℕ) → bytes ≡ text → marks ≡ mask_l (map is_marked bytes) → marks ≡ 0 → IsClear text 0 (length text)
+clear_text text bytes marks e h z =
+    let none = ap (λ s. mask_l (map is_marked s)) (take_all (length text) text (omega arith) ∙ sym e) ∙ sym h ∙ z in
+    λ k a b. none_from_empty_mask is_marked text 0 (length text) 0 (omega arith) none k a (omega arith)
 
 pub clear_whole : (text bytes : List ℕ) (place : ℕ) (r : Bool) → bytes ≡ text → 64 ≤ length (take (length bytes - place) (drop place bytes))
     → r ≡ not (eqb (mask_l (map is_marked (chunk 0 64 (take (64 - 0) (drop 0 (take (length bytes - place) (drop place bytes))))))) 0) → r ≡ false → IsClear text place (min (place + 64) (length text))

@@ -2,15 +2,45 @@
 
 ghost use Rattle.std.specs.Prelude.{◌+◌, length, true};
 ghost use Rattle.std.specs.Fn.{CalledAt};
-ghost use Rattle.data_url.specs.Steps.Tail.{IsBodyEnd};
+ghost use Rattle.data_url.specs.Steps.Tail.{IsBodyEnd, IsSlice};
 ghost use Rattle.data_url.specs.Fetch.{Good, outcome, plain_body};
 ghost use Rattle.data_url.specs.DataUrl.{Decodes};
 
-use crate::escapes::{Chunk, Pieces, ROOM};
-use crate::forgiving_base64::{DecodeError, Decoder};
+use crate::escapes::{Chunk, Pieces, ROOM, is_slice};
+use crate::forgiving_base64::{DecodeError, Decoder, decode_whole};
 
 /// Hands the body of a tail to a closure, and answers the place in the tail where the body ends.
-pub(crate) fn decode_plain<F, E>(tail: &str, mut write: F) -> (Result<usize, DecodeError<E>>, F)
+pub(crate) fn decode_plain<F, E>(tail: &str, write: F) -> (Result<usize, DecodeError<E>>, F)
+where
+    F: FnMut(&[u8]) -> Result<(), E>,
+    requires { F.IsAlwaysCallable write }
+    ensures { Decodes (CalledAt F.FnMut) write (length tail.now) (Good (plain_body tail.now))
+        (IsBodyEnd tail.now) result.0 result.1 }
+{
+    if is_slice(tail) {
+        decode_plain_slice(tail, write)
+    } else {
+        decode_plain_pieces(tail, write)
+    }
+}
+
+/// The same of a tail that is one slice.
+fn decode_plain_slice<F, E>(tail: &str, mut write: F) -> (Result<usize, DecodeError<E>>, F)
+where
+    F: FnMut(&[u8]) -> Result<(), E>,
+    requires callable { F.IsAlwaysCallable write }
+    requires slice { IsSlice tail.now }
+    ensures { Decodes (CalledAt F.FnMut) write (length tail.now) (Good (plain_body tail.now))
+        (IsBodyEnd tail.now) result.0 result.1 }
+{
+    match write(tail.as_bytes()) {
+        Ok(()) => (Ok(tail.len()), write),
+        Err(error) => (Err(DecodeError::WriteError(error)), write),
+    }
+}
+
+/// The same, piece by piece.
+fn decode_plain_pieces<F, E>(tail: &str, mut write: F) -> (Result<usize, DecodeError<E>>, F)
 where
     F: FnMut(&[u8]) -> Result<(), E>,
     requires { F.IsAlwaysCallable write }
@@ -36,6 +66,37 @@ where
 
 /// Hands the base64 body of a tail to a closure, and answers the place in the tail where the body ends.
 pub(crate) fn decode_base64<F, E>(tail: &str, write: F) -> (Result<usize, DecodeError<E>>, F)
+where
+    F: FnMut(&[u8]) -> Result<(), E>,
+    requires { F.IsAlwaysCallable write }
+    ensures { Decodes (CalledAt F.FnMut) write (length tail.now + 1)
+        (outcome true (plain_body tail.now)) (IsBodyEnd tail.now) result.0 result.1 }
+{
+    if is_slice(tail) {
+        decode_base64_slice(tail, write)
+    } else {
+        decode_base64_pieces(tail, write)
+    }
+}
+
+/// The same of a tail that is one slice.
+fn decode_base64_slice<F, E>(tail: &str, write: F) -> (Result<usize, DecodeError<E>>, F)
+where
+    F: FnMut(&[u8]) -> Result<(), E>,
+    requires callable { F.IsAlwaysCallable write }
+    requires slice { IsSlice tail.now }
+    ensures { Decodes (CalledAt F.FnMut) write (length tail.now + 1)
+        (outcome true (plain_body tail.now)) (IsBodyEnd tail.now) result.0 result.1 }
+{
+    let (answer, write) = decode_whole(tail.as_bytes(), write);
+    match answer {
+        Ok(()) => (Ok(tail.len()), write),
+        Err(error) => (Err(error), write),
+    }
+}
+
+/// The same, piece by piece.
+fn decode_base64_pieces<F, E>(tail: &str, write: F) -> (Result<usize, DecodeError<E>>, F)
 where
     F: FnMut(&[u8]) -> Result<(), E>,
     requires { F.IsAlwaysCallable write }

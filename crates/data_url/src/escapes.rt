@@ -6,7 +6,7 @@ ghost use Rattle.std.specs.Option.{option_map};
 ghost use Rattle.data_url.specs.Pieces.{IsPiece, begins, bytes_of_next};
 ghost use Rattle.data_url.specs.Url.{behind};
 ghost use Rattle.data_url.specs.Steps.Chunks.{IsBase64Chunk, IsChunk};
-ghost use Rattle.data_url.specs.Steps.Tail.{IsBodyEnd};
+ghost use Rattle.data_url.specs.Steps.Tail.{IsBodyEnd, IsSlice};
 
 mod cursor;
 mod digits;
@@ -16,6 +16,7 @@ mod source;
 
 use cursor::Cursor;
 pub(crate) use cursor::ROOM;
+use source::is_short_and_clear;
 use std::marker::Model;
 
 /// A piece of a body.
@@ -57,6 +58,13 @@ pub(crate) enum Chunk<'a> {
     Gathered(usize),
     /// Nothing: the body has ended.
     End,
+}
+
+/// Whether a text is known to be one slice, which is found at once where it is short.
+pub(crate) fn is_slice(text: &str) -> bool
+    ensures { IsTrue result → IsSlice text.now }
+{
+    is_short_and_clear(text.as_bytes())
 }
 
 impl<'a> Pieces<'a> {

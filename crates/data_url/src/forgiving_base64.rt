@@ -16,7 +16,7 @@ mod whole;
 
 pub use decode::Decoder;
 pub use whole::decode_to_vec;
-pub(crate) use whole::room_for;
+pub(crate) use whole::{decode_whole, room_for};
 
 /// Why a text is not valid base64
 /// ([Infra Standard, forgiving-base64 decode](https://infra.spec.whatwg.org/#forgiving-base64-decode)), in four kinds:

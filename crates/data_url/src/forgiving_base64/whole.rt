@@ -10,7 +10,7 @@ use super::{DecodeError, DecodeToVecError, Decoder};
 use std::alloc::{AllocError, Global};
 
 /// Hands the bytes of a text to a closure, and the closure back.
-fn decode_whole<F, E>(input: &[u8], write_bytes: F) -> (Result<(), DecodeError<E>>, F)
+pub(crate) fn decode_whole<F, E>(input: &[u8], write_bytes: F) -> (Result<(), DecodeError<E>>, F)
 where
     F: FnMut(&[u8]) -> Result<(), E>,
     requires { F.IsAlwaysCallable write_bytes }

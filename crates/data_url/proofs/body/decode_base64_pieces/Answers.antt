@@ -5,8 +5,8 @@ use Rattle.data_url.specs.Steps.Tail.{IsBodyEnd}
 use Rattle.data_url.proofs.ByteLemmas.{feeds_none}
 use Rattle.data_url.proofs.Base64BodyLemmas.{fed_ended, fed_more, fed_none, fed_refused}
 use Rattle.data_url.proofs.DecodeLemmas.{TakesSpaced, spaced_gathered, spaced_over, spaced_slice}
-use Rattle.data_url.proofs.body.decode_base64.Goals as goal
-use Rattle.data_url.proofs.body.decode_base64.Goals.{in-Slice, in-Gathered}
+use Rattle.data_url.proofs.body.decode_base64_pieces.Goals as goal
+use Rattle.data_url.proofs.body.decode_base64_pieces.Goals.{in-Slice, in-Gathered}
 
 pub chunks-init : goal.chunks-init
 chunks-init g c =

@@ -2,7 +2,7 @@
 use Rattle.std.proofs.Common.{◌-◌, length}
 use Rattle.std.specs.Fn.{CalledAt, always_mut}
 use Rattle.data_url.proofs.DecodeLemmas.{Going}
-use Rattle.data_url.proofs.body.decode_plain.Given as goal
+use Rattle.data_url.proofs.body.decode_plain_pieces.Given as goal
 
 abbrev pub invariant-loop-pieces : goal.invariant-loop-pieces
 invariant-loop-pieces g l = always_mut g.F.FnMut l.write × Going (CalledAt g.F.FnMut) l.fn.write l.tail l.pieces l.write

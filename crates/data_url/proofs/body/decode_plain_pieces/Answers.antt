@@ -1,8 +1,8 @@
 use Rattle.std.proofs.Common.{List, ℕ, Bor, refl, of_calls, ap}
 use Rattle.std.specs.Fn.{CalledAt}
 use Rattle.data_url.proofs.DecodeLemmas.{Takes, going_more, going_refused, takes_gathered, takes_slice}
-use Rattle.data_url.proofs.body.decode_plain.Goals as goal
-use Rattle.data_url.proofs.body.decode_plain.Goals.{in-Slice, in-Gathered}
+use Rattle.data_url.proofs.body.decode_plain_pieces.Goals as goal
+use Rattle.data_url.proofs.body.decode_plain_pieces.Goals.{in-Slice, in-Gathered}
 
 pub loop-pieces-preserved : goal.loop-pieces-preserved
 loop-pieces-preserved g c =
