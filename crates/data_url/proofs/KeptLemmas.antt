@@ -1,14 +1,14 @@
 -- Which pairs are kept.
-use Rattle.std.proofs.Common.{◌≡◌, ℕ, ◌+◌, ◌<◌, nat_le, ◌||◌, ◌&&◌, ◌⊎◌, Bool, true, false, cond, List, [], ◌∷◌, ◌++◌, length, get_or, drop, Option, None, Some, String, map, refl, sym, ap, ap₂, ◌∙◌, subst, append_assoc, append-nil, arith, inl, inr, drop-cons, add-one}
-use Rattle.std.proofs.lemmas.Bool.{agree_below_at, and_from, both_ways, le-leb, or_parts, and_left, and_parts, cases_lt, cond-false, cond-true, cond_both, false_from_ne_true, false≢true, or_left, true_from_ne_false}
+use Rattle.std.proofs.Common.{◌≡◌, ℕ, ◌+◌, ◌<◌, ◌||◌, ◌&&◌, ◌⊎◌, Bool, true, false, cond, List, [], ◌∷◌, ◌++◌, length, get_or, drop, Option, None, Some, String, map, refl, sym, ap, ap₂, ◌∙◌, subst, append_assoc, append-nil, arith, inl, inr, drop-cons, add-one}
+use Rattle.std.proofs.lemmas.Bool.{agree_below_at, and_from, and_left, and_parts, cases_lt, cond-false, cond-true, cond_both, false_from_ne_true, false≢true, or_left, true_from_ne_false}
 use Rattle.std.proofs.lemmas.List.Folds.{list_all-append, list_all-map, list_all_at}
 use Rattle.std.proofs.lemmas.Grind.{flat_map-append}
 use Rattle.std.proofs.lemmas.List.{map-append}
 use Rattle.std.proofs.lemmas.Slice.Eq.{bytes_eq-Decides}
 use Rattle.std.proofs.lemmas.Str.{chars-IsAscii}
 use Rattle.std.proofs.lemmas.Str.Ascii.{IsAscii-map, lowercase-lowercase, lowercase_ascii, lowercase_is}
-use Rattle.std.specs.Char.{is_ascii_uppercase, to_ascii_lowercase}
-use Rattle.std.specs.List.{list_all, list_any}
+use Rattle.std.specs.Char.{to_ascii_lowercase}
+use Rattle.std.specs.List.{list_all}
 use Rattle.std.specs.Str.{IsUtf8, bytes_eq, chars}
 use Rattle.data_url.specs.CodePoints.{is_quotable, is_token}
 use Rattle.data_url.specs.Mime.{BeginsParameters, Item, Items, Pair, first_of_each_name, has_name, is_lowercase_name, is_token_text, kept, valid_of, valid_pairs}
@@ -59,20 +59,6 @@ pub lower_chars : (bs : List ℕ) → IsUtf8 bs → is_token_text (chars bs) ≡
 lower_chars bs u h =
     let a = token_text_ascii bs (token_text_chars bs u ∙ h) in
     chars-IsAscii (map to_ascii_lowercase bs) (IsAscii-map to_ascii_lowercase bs lowercase_ascii a) ∙ ap (map to_ascii_lowercase) (sym (chars-IsAscii bs a))
-
--- bytes without an upper-case letter stay
-no_uppercase : (c : ℕ) → is_ascii_uppercase c ≡ false → to_ascii_lowercase c ≡ c
-no_uppercase c h = elim (cases_lt c 65) [
-  | inl l ↦ (lowercase_is c).1 l
-  | inr l ↦ elim (cases_lt 90 c) [
-    | inl m ↦ (lowercase_is c).2 m
-    | inr m ↦ absurd (both_ways (is_ascii_uppercase c) h (and_from (nat_le 65 c) (nat_le c 90) (le-leb 65 c l) (le-leb c 90 m)))
-  ]
-]
-
-pub stays_lower : (bs : List ℕ) → list_any is_ascii_uppercase bs ≡ false → map to_ascii_lowercase bs ≡ bs
-stays_lower [] h = refl
-stays_lower (b ∷ bs) h = let p = or_parts (is_ascii_uppercase b) (list_any is_ascii_uppercase bs) h in ap₂ (λ x y. x ∷ y) (no_uppercase b p.0) (stays_lower bs p.1)
 
 -- Names compared in any case
 
@@ -211,16 +197,16 @@ valid_lower name None h = refl
 valid_lower name (Some v) h = cond_both (is_token_text name && list_all is_quotable v) ((name, v) ∷ []) [] HasLowercaseNames (λ e. and_from (is_lowercase_name name) true (h (and_parts (is_token_text name) (list_all is_quotable v) e).0) refl) (λ e. refl)
 
 module _ (parameter : Parameter) (item : Item) (is : IsItem parameter item) where
-  pub name_token : is_token_text item.0 ≡ is_token_text (chars parameter.name.text.now)
-  name_token = ap is_token_text is.name ∙ token_text_lower (chars parameter.name.text.now)
+  pub name_token : is_token_text item.0 ≡ is_token_text (chars parameter.name.word.text.now)
+  name_token = ap is_token_text is.name ∙ token_text_lower (chars parameter.name.word.text.now)
 
-  pub invalid_name : (xs : List Pair) (b : Bool) → b ≡ is_token_text (chars parameter.name.text.now) → b ≡ false → added xs item ≡ []
+  pub invalid_name : (xs : List Pair) (b : Bool) → b ≡ is_token_text (chars parameter.name.word.text.now) → b ≡ false → added xs item ≡ []
   invalid_name xs b e h = no_pair_token item xs (name_token ∙ sym e ∙ h)
 
-  pub known_name : (xs : List Pair) → has_name (map to_ascii_lowercase (chars parameter.name.text.now)) xs ≡ true → added xs item ≡ []
+  pub known_name : (xs : List Pair) → has_name (map to_ascii_lowercase (chars parameter.name.word.text.now)) xs ≡ true → added xs item ≡ []
   known_name xs h = no_pair_named item xs (ap (λ n. has_name n xs) is.name ∙ h)
 
-  pub new_pair : (name value : List ℕ) (b : Bool) → b ≡ is_token_text (chars parameter.name.text.now) → b ≡ true → name ≡ map to_ascii_lowercase (chars parameter.name.text.now) → Some value ≡ quotable_value item.1 → valid_of item ≡ (name, value) ∷ []
+  pub new_pair : (name value : List ℕ) (b : Bool) → b ≡ is_token_text (chars parameter.name.word.text.now) → b ≡ true → name ≡ map to_ascii_lowercase (chars parameter.name.word.text.now) → Some value ≡ quotable_value item.1 → valid_of item ≡ (name, value) ∷ []
   new_pair name value b e h n v = valid_pair item value (name_token ∙ sym e ∙ h) v ∙ ap (λ x. (x, value) ∷ []) (is.name ∙ sym n)
 
 -- The parser's loop over the parameters

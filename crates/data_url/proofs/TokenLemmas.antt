@@ -1,15 +1,17 @@
 -- The table of token code points, and texts of them.
-use Rattle.std.proofs.Common.{◌≡◌, ℕ, suc, ◌+◌, ◌<◌, ◌≤◌, ◌==◌, ◌||◌, Bool, true, false, cond, List, [], ◌∷◌, ◌++◌, length, get_or, take, drop, encode_utf8_all, refl, sym, ap, ◌∙◌, subst, arith, one-add, take-append-drop, inl, inr, ⊎_elim, nat_le, nat_lt, codes, ◌&&◌, drop-cons, add-one}
-use Rattle.std.proofs.lemmas.Bool.{agree_below_at, and_parts, both_ways, cases_Bool, eqb-true, false_from_ne_true, false≢true, leb-true, ltb-true, ne_eqb, or_cases, cases_eq, cond-true, cond-false, eq-eqb}
+use Rattle.std.proofs.Common.{◌≡◌, ℕ, suc, ◌+◌, ◌<◌, ◌≤◌, ◌==◌, ◌||◌, Bool, true, false, cond, List, [], ◌∷◌, ◌++◌, length, get_or, take, drop, encode_utf8_all, refl, sym, ap, ◌∙◌, subst, arith, one-add, take-append-drop, inl, inr, ⊎_elim, nat_le, nat_lt, codes, ◌&&◌, drop-cons, add-one, ap₂, map, not}
+use Rattle.std.proofs.lemmas.Bool.{agree_below_at, and_from, and_parts, both_ways, cases_Bool, cases_lt, le-leb, not-true, eqb-true, false_from_ne_true, false≢true, leb-true, ltb-true, ne_eqb, or_cases, cases_eq, cond-true, cond-false, eq-eqb}
 use Rattle.std.proofs.lemmas.List.Sums.{prefix_len-drop_all, prefix_len-le-length}
 use Rattle.std.proofs.lemmas.Str.{IsCharBoundary-from_take, IsUtf8-drop, IsUtf8-from_ascii, chars-IsAscii, chars-append, encode_ascii, encodes-IsAscii, encodes-chars}
-use Rattle.std.proofs.lemmas.Str.Ascii.{IsAscii-cons, IsAscii-nil}
+use Rattle.std.proofs.lemmas.Str.Ascii.{IsAscii-cons, IsAscii-nil, lowercase_is}
+use Rattle.std.specs.Char.{is_ascii_uppercase, to_ascii_lowercase}
 use Rattle.std.specs.Int.{is_in_range}
 use Rattle.std.specs.List.{list_all, list_any, prefix_len}
 use Rattle.std.specs.Str.{IsAscii, IsCharBoundary, IsUtf8, chars}
 use Rattle.data_url.specs.CodePoints.{is_token}
 use Rattle.data_url.specs.Mime.{DoesNotBegin, Every, is_token_text}
-use Rattle.data_url.specs.declared.mime.tokens.TheConstants.{TOKENS}
+use Rattle.data_url.specs.Steps.Parsing.{is_lower_token}
+use Rattle.data_url.specs.declared.mime.tokens.TheConstants.{LOWER_TOKENS, TOKENS}
 use Rattle.data_url.proofs.RecordLemmas.{all_from_every}
 use Rattle.data_url.proofs.TextLemmas.{behind_begins, behind_front, front_of, front_passes}
 
@@ -17,6 +19,30 @@ use Rattle.data_url.proofs.TextLemmas.{behind_begins, behind_front, front_of, fr
 pub token_entry : (b : ℕ) → b < 256 → get_or TOKENS b false ≡ is_token b
 unfolding is_token
 token_entry b h = agree_below_at (λ x. get_or TOKENS x false) is_token 256 b refl h
+
+-- the same of the table without upper-case letters
+pub lower_entry : (b : ℕ) → b < 256 → get_or LOWER_TOKENS b false ≡ is_lower_token b
+unfolding is_token
+lower_entry b h = agree_below_at (λ x. get_or LOWER_TOKENS x false) is_lower_token 256 b refl h
+
+no_uppercase : (c : ℕ) → is_ascii_uppercase c ≡ false → to_ascii_lowercase c ≡ c
+no_uppercase c h = elim (cases_lt c 65) [
+  | inl l ↦ (lowercase_is c).1 l
+  | inr l ↦ elim (cases_lt 90 c) [
+    | inl m ↦ (lowercase_is c).2 m
+    | inr m ↦ absurd (both_ways (is_ascii_uppercase c) h (and_from (nat_le 65 c) (nat_le c 90) (le-leb 65 c l) (le-leb c 90 m)))
+  ]
+]
+
+lower_is_token : (c : ℕ) → is_lower_token c ≡ true → is_token c ≡ true
+lower_is_token c h = (and_parts (is_token c) (not (is_ascii_uppercase c)) h).0
+
+lower_stays : (c : ℕ) → is_lower_token c ≡ true → to_ascii_lowercase c ≡ c
+lower_stays c h = no_uppercase c (not-true (is_ascii_uppercase c) (and_parts (is_token c) (not (is_ascii_uppercase c)) h).1)
+
+all_lower_stay : (cs : List ℕ) → Every is_lower_token cs → map to_ascii_lowercase cs ≡ cs
+all_lower_stay [] h = refl
+all_lower_stay (c ∷ cs) h = ap₂ (λ x y. x ∷ y) (lower_stays c h.0) (all_lower_stay cs h.1)
 
 in_range_below : (low high c : ℕ) → is_in_range low high c ≡ true → high < 128 → c < 128
 in_range_below low high c r l = let e = leb-true c high (and_parts (nat_le low c) (nat_le c high) r).1 in omega arith
@@ -98,11 +124,46 @@ is_split bs u = record {
   text = (IsUtf8-from_ascii (take (prefix_len is_token bs) bs) (tokens_front_ascii bs), IsUtf8-drop bs (prefix_len is_token bs) u (tokens_boundary bs u));
 }
 
-pub tokens_boundary_at : (bs text : List ℕ) (n : ℕ) → IsUtf8 text → n ≡ prefix_len is_token bs → bs ≡ text → IsCharBoundary text n
-tokens_boundary_at bs text n u e b = subst (IsCharBoundary text) (sym (e ∙ ap (prefix_len is_token) b)) (tokens_boundary text u)
+-- the front is found in two parts: what is in lower case, and the rest
+prefix_parts : (s : List ℕ) → prefix_len is_token s ≡ prefix_len is_lower_token s + prefix_len is_token (drop (prefix_len is_lower_token s) s)
+prefix_parts [] = refl
+prefix_parts (c ∷ s) = elim (cases_Bool (is_lower_token c)) [
+  | inl e ↦
+      let n = cond-true (is_lower_token c) (1 + prefix_len is_lower_token s) 0 e in
+      let m = cond-true (is_token c) (1 + prefix_len is_token s) 0 (lower_is_token c e) in
+      let k : 1 + prefix_len is_lower_token s ≡ suc (prefix_len is_lower_token s) = omega arith in
+      let d : prefix_len is_token (drop (prefix_len is_lower_token (c ∷ s)) (c ∷ s)) ≡ prefix_len is_token (drop (prefix_len is_lower_token s) s) = ap (λ i. prefix_len is_token (drop i (c ∷ s))) (n ∙ k) in
+      let h = prefix_parts s in
+      omega (arith, n, m, d, h)
+  | inr e ↦
+      let n = cond-false (is_lower_token c) (1 + prefix_len is_lower_token s) 0 e in
+      let d : prefix_len is_token (drop (prefix_len is_lower_token (c ∷ s)) (c ∷ s)) ≡ prefix_len is_token (c ∷ s) = ap (λ i. prefix_len is_token (drop i (c ∷ s))) n in
+      omega (arith, n, d)
+]
 
-pub split_at_other : (bs text front behind : List ℕ) (n : ℕ) → IsUtf8 text → n ≡ prefix_len is_token bs → bs ≡ text → front ≡ take n text → behind ≡ drop n text → IsSplit text front behind
-split_at_other bs text front behind n u e b f g = let k = e ∙ ap (prefix_len is_token) b in rw (f, g, k) (is_split text u)
+-- what the two parts are in a text
+pub record TwoParts (text bytes : List ℕ) (lower more : ℕ) : Type 0 where
+  pub lower_is : lower ≡ prefix_len is_lower_token text
+  pub len_is : lower + more ≡ prefix_len is_token text
+
+pub two_parts : (text bytes behind : List ℕ) (lower more : ℕ) → bytes ≡ text → lower ≡ prefix_len is_lower_token bytes → behind ≡ drop lower bytes → more ≡ prefix_len is_token behind → TwoParts text bytes lower more
+two_parts text bytes behind lower more b l d m =
+    let k = l ∙ ap (prefix_len is_lower_token) b in
+    let n = m ∙ ap (prefix_len is_token) (d ∙ ap (drop lower) b ∙ ap (λ i. drop i text) k) in
+    record { lower_is = k; len_is = omega (arith, k, n, prefix_parts text) }
+
+pub tokens_boundary_at : (text : List ℕ) (n : ℕ) → IsUtf8 text → n ≡ prefix_len is_token text → IsCharBoundary text n
+tokens_boundary_at text n u e = subst (IsCharBoundary text) (sym e) (tokens_boundary text u)
+
+pub split_at_other : (text front behind : List ℕ) (n : ℕ) → IsUtf8 text → n ≡ prefix_len is_token text → front ≡ take n text → behind ≡ drop n text → IsSplit text front behind
+split_at_other text front behind n u k f g = rw (f, g, k) (is_split text u)
+
+pub lower_front : (text front : List ℕ) (n lower : ℕ) → IsUtf8 text → n ≡ prefix_len is_token text → front ≡ take n text → lower ≡ prefix_len is_lower_token text → n ≡ lower → map to_ascii_lowercase (chars front) ≡ chars front
+lower_front text front n lower u e f l k =
+    let a : front ≡ take (prefix_len is_token text) text = f ∙ ap (λ i. take i text) e in
+    let b : front ≡ front_of is_lower_token text = f ∙ ap (λ i. take i text) (k ∙ l) ∙ take_front is_lower_token text in
+    let c : chars front ≡ front = chars-IsAscii front (subst IsAscii (sym a) (tokens_front_ascii text)) in
+    ap (map to_ascii_lowercase) (c ∙ b) ∙ all_lower_stay (front_of is_lower_token text) (front_passes is_lower_token text) ∙ sym (c ∙ b)
 
 suc_test : (a b : ℕ) → (1 + a == suc b) ≡ (a == b)
 suc_test a b = elim (cases_eq a b) [ inl e ↦ rw e (eq-eqb (1 + b) (suc b) (omega arith) ∙ sym (eq-eqb b b refl)) | inr e ↦ ne_eqb (1 + a) (suc b) (λ k. e (omega arith)) ∙ sym (ne_eqb a b e) ]

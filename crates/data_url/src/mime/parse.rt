@@ -1,12 +1,12 @@
 //! Reads a MIME type (MIME Sniffing Standard, section 4.4).
 
-ghost use Rattle.std.specs.Prelude.{◌≡◌, ◌++◌, ◌∷◌, List, ℕ, Option, MatchOption, IfOk, IsTrue, OnOk, map, not};
+ghost use Rattle.std.specs.Prelude.{◌≡◌, ◌++◌, ◌∷◌, List, ℕ, Option, MatchOption, IfOk, IfSome, IsTrue, OnOk, map, not};
 ghost use Rattle.std.specs.Bool.{MatchBool};
 ghost use Rattle.std.specs.Char.{to_ascii_lowercase};
 ghost use Rattle.std.specs.Str.{IsUtf8, chars};
 ghost use Rattle.data_url.specs.CodePoints.{ends_name};
 ghost use Rattle.data_url.specs.Mime.{BeginsParameters, DoesNotBegin, IsHead, Item, Items, Without, is_quote, is_token_text, kept, IsRecordOfParts};
-ghost use Rattle.data_url.specs.Steps.Parsing.{HasNoHead, HasParameterBefore, HasValueBefore, IsClosed, IsItem, IsOpen, IsValue, added};
+ghost use Rattle.data_url.specs.Steps.Parsing.{HasNoHead, HasParameterBefore, HasValueBefore, IsClosed, IsItem, IsOpen, IsValue, IsWord, added};
 ghost use Rattle.data_url.specs.Steps.Kept.{IsIndexed, pairs_of};
 ghost use Rattle.data_url.specs.MimeType.{pair_of, seen};
 
@@ -15,22 +15,22 @@ use super::cuts::{
     split_name, split_semicolon, without_leading_whitespace, without_trailing_whitespace,
 };
 use super::kept::KeptParameters;
-use super::tokens::{is_token_text, split_tokens};
+use super::tokens::{Word, is_token_text, split_tokens};
 use super::values::{Value, lowercased};
 use std::alloc::{AllocError, Global};
 
 /// The type, the subtype and the parameters of a text, as they stand there.
 #[derive(Clone, Copy)]
 pub(super) struct Head<'a> {
-    pub(super) type_: &'a str,
-    pub(super) subtype: &'a str,
+    pub(super) type_: Word<'a>,
+    pub(super) subtype: Word<'a>,
     pub(super) parameters: &'a str,
 }
 
 /// The name of a parameter, as it stands in the text.
 #[derive(Clone, Copy)]
 struct Name<'a> {
-    text: &'a str,
+    word: Word<'a>,
     /// Whether it is nonempty and of token code points alone.
     is_valid: bool,
 }
@@ -46,16 +46,17 @@ struct Parameter<'a> {
 impl<'a> Head<'a> {
     /// The record of a MIME type of these parts. It takes memory for the record.
     pub(super) fn record(self, alloc: Global) -> Result<Mime, AllocError>
-        requires type_ { IsTrue (is_token_text (chars self.type_.now)) }
-        requires subtype { IsTrue (is_token_text (chars self.subtype.now)) }
+        requires type_ { IsTrue (is_token_text (chars self.type_.text.now)) }
+        requires subtype { IsTrue (is_token_text (chars self.subtype.text.now)) }
+        requires words { IsWord self.type_ × IsWord self.subtype }
         requires parameters { BeginsParameters (chars self.parameters.now) }
         ensures { IfOk result (λ mime.
-            IsRecordOfParts (chars self.entry.type_.now) (chars self.entry.subtype.now)
+            IsRecordOfParts (chars self.entry.type_.text.now) (chars self.entry.subtype.text.now)
             (chars self.entry.parameters.now) (seen mime)) }
     {
         Ok(Mime {
-            type_: lowercased(alloc, self.type_)?,
-            subtype: lowercased(alloc, self.subtype)?,
+            type_: lowercased(alloc, self.type_.text, self.type_.is_lower)?,
+            subtype: lowercased(alloc, self.subtype.text, self.subtype.is_lower)?,
             parameters: read_parameters(alloc, self.parameters)?,
         })
     }
@@ -63,14 +64,15 @@ impl<'a> Head<'a> {
 
 /// The parts of a MIME type, if the text is one.
 pub(super) fn read_head(text: &str) -> Option<Head<'_>>
-    ensures { MatchOption result (HasNoHead (chars text.now))
-        (λ h. IsHead (chars text.now) (chars h.type_.now) (chars h.subtype.now)
+    ensures head { MatchOption result (HasNoHead (chars text.now))
+        (λ h. IsHead (chars text.now) (chars h.type_.text.now) (chars h.subtype.text.now)
         (chars h.parameters.now)) }
+    ensures words { IfSome result (λ h. IsWord h.type_ × IsWord h.subtype) }
 {
     let (type_, rest) = split_tokens(without_trailing_whitespace(without_leading_whitespace(text)));
     let (subtype, rest) = split_tokens(rest.strip_prefix('/')?);
     let parameters = without_leading_whitespace(rest);
-    if type_.is_empty() || subtype.is_empty() || !begins_parameters(parameters) {
+    if type_.text.is_empty() || subtype.text.is_empty() || !begins_parameters(parameters) {
         return None;
     }
     Some(Head {
@@ -97,38 +99,33 @@ fn begins_behind_name(text: &str) -> bool
 
 /// The name that a text begins with, and what stands behind it.
 fn read_name(text: &str) -> (Name<'_>, &str)
-    ensures joined { chars text.now ≡ chars result.0.text.now ++ chars result.1.now }
-    ensures front { Without ends_name (chars result.0.text.now) }
+    ensures joined { chars text.now ≡ chars result.0.word.text.now ++ chars result.1.now }
+    ensures front { Without ends_name (chars result.0.word.text.now) }
     ensures behind { DoesNotBegin (λ c. not (ends_name c)) (chars result.1.now) }
-    ensures valid { result.0.is_valid ≡ is_token_text (chars result.0.text.now) }
+    ensures valid { result.0.is_valid ≡ is_token_text (chars result.0.word.text.now) }
+    ensures word { IsWord result.0.word }
     ensures text { IsUtf8 result.1.now }
 {
-    let (tokens, rest) = split_tokens(text);
+    let (word, rest) = split_tokens(text);
     if begins_behind_name(rest) {
-        let is_valid = !tokens.is_empty();
-        return (
-            Name {
-                text: tokens,
-                is_valid,
-            },
-            rest,
-        );
+        let is_valid = !word.text.is_empty();
+        return (Name { word, is_valid }, rest);
     }
     let (name, rest) = split_name(text);
-    (
-        Name {
-            text: name,
-            is_valid: is_token_text(name),
-        },
-        rest,
-    )
+    let word = Word {
+        text: name,
+        is_lower: false,
+    };
+    let is_valid = is_token_text(name);
+    (Name { word, is_valid }, rest)
 }
 
 /// The parameter that a text begins with, behind its `;`.
 fn read_parameter(text: &str) -> Parameter<'_>
     ensures parameter { (item : Item) × IsItem result item
         × HasParameterBefore (chars text.now) item (chars result.rest.now) }
-    ensures valid { result.name.is_valid ≡ is_token_text (chars result.name.text.now) }
+    ensures valid { result.name.is_valid ≡ is_token_text (chars result.name.word.text.now) }
+    ensures word { IsWord result.name.word }
     ensures text { IsUtf8 result.rest.now }
 {
     let (name, tail) = read_name(without_leading_whitespace(text));
@@ -231,17 +228,19 @@ fn keep(
 ) -> Result<(), AllocError>
     requires indexed { IsIndexed kept.old }
     requires valid { parameter.now.name.is_valid
-        ≡ is_token_text (chars parameter.now.name.text.now) }
+        ≡ is_token_text (chars parameter.now.name.word.text.now) }
+    requires word { IsWord parameter.now.name.word }
     ensures pairs { OnOk result ((item : Item) → IsItem parameter.now item
         → pairs_of kept.new ≡ pairs_of kept.old ++ added (pairs_of kept.old) item) }
     ensures indexed { OnOk result (IsIndexed kept.new) }
 {
-    let name = parameter.name.text;
+    let name = parameter.name.word.text;
+    let is_lower = parameter.name.word.is_lower;
     if !parameter.name.is_valid || kept.is_among_first(name) {
         return Ok(());
     }
     let Some(value) = parameter.value.text(alloc)? else {
         return Ok(());
     };
-    kept.push(lowercased(alloc, name)?, value)
+    kept.push(lowercased(alloc, name, is_lower)?, value)
 }

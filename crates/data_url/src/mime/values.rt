@@ -1,7 +1,7 @@
 //! Values of parameters, as they stand in a text and as texts of their own.
 
 ghost use Rattle.std.specs.Prelude.{◌≡◌, List, ℕ, IfOk, IsTrue, map};
-ghost use Rattle.std.specs.Char.{is_ascii_uppercase, to_ascii_lowercase};
+ghost use Rattle.std.specs.Char.{to_ascii_lowercase};
 ghost use Rattle.std.specs.List.{list_all, list_any};
 ghost use Rattle.std.specs.Option.{option_map};
 ghost use Rattle.std.specs.Str.{chars};
@@ -118,19 +118,14 @@ fn without_backslashes(alloc: Global, quoted: &str) -> Result<String, AllocError
     Ok(value)
 }
 
-/// Whether an ASCII upper-case letter is among the bytes.
-fn has_uppercase(bytes: &[u8]) -> bool
-    ensures { result ≡ list_any is_ascii_uppercase bytes.now }
-{
-    bytes.iter().any(|byte| byte.is_ascii_uppercase())
-}
-
-/// A text of token code points, in ASCII lower case.
-pub(super) fn lowercased(alloc: Global, text: &str) -> Result<String, AllocError>
-    requires { IsTrue (is_token_text (chars text.now)) }
+/// A text of token code points, in ASCII lower case, which may be known to leave it as it is.
+pub(super) fn lowercased(alloc: Global, text: &str, is_lower: bool) -> Result<String, AllocError>
+    requires token { IsTrue (is_token_text (chars text.now)) }
+    requires lower { IsTrue is_lower
+        → map to_ascii_lowercase (chars text.now) ≡ chars text.now }
     ensures { IfOk result (λ lower. code_points lower ≡ map to_ascii_lowercase (chars text.now)) }
 {
-    if !has_uppercase(text.as_bytes()) {
+    if is_lower {
         return String::from_str(alloc, text);
     }
     let mut lower = String::from_str(alloc, text)?;

@@ -18,7 +18,7 @@ returns-then-not-parameter-clause-pairs c item is = elim c.then-not-parameter.br
 ]
 
 pub push-requires-clause-lower : goal.push-requires-clause-lower
-push-requires-clause-lower c = ap is_lowercase_name c.in_ok-lowercased.ensures ∙ lowercase_name (chars c.args.parameter.now.name.text.now) (sym c.requires.valid ∙ c.if-not-parameter.false)
+push-requires-clause-lower c = ap is_lowercase_name c.in_ok-lowercased.ensures ∙ lowercase_name (chars c.args.parameter.now.name.word.text.now) (sym c.requires.valid ∙ c.if-not-parameter.false)
 
 pub returns-clause-pairs : goal.returns-clause-pairs
 returns-clause-pairs c =

@@ -1,10 +1,21 @@
-use Rattle.data_url.proofs.TokenLemmas.{split_at_other, tokens_boundary_at}
+use Rattle.std.proofs.Common.{◌+◌, eqb-true}
+use Rattle.std.proofs.lemmas.List.{take_rest}
+use Rattle.data_url.proofs.TokenLemmas.{lower_front, split_at_other, tokens_boundary_at, two_parts}
 use Rattle.data_url.proofs.mime.tokens.split_tokens.Goals as goal
 
 pub split_at-requires : goal.split_at-requires
-split_at-requires c = tokens_boundary_at c.as_bytes.result.now c.args.text.now c.first_other.result c.utf8.text c.first_other.ensures c.as_bytes.ensures.value
+split_at-requires c =
+    let p = two_parts c.args.text.now c.as_bytes-bytes.result.now _ c.first_other_than_lower-lower.result c.first_other.result c.as_bytes-bytes.ensures.value c.first_other_than_lower-lower.ensures.front (take_rest c.as_bytes-bytes.result.now c.first_other_than_lower-lower.result) c.first_other.ensures.front in
+    tokens_boundary_at c.args.text.now (c.first_other_than_lower-lower.result + c.first_other.result) c.utf8.text p.len_is
 
 pub returns : goal.returns
 returns c =
-    let s = split_at_other c.as_bytes.result.now c.args.text.now c.split_at.result.0.now c.split_at.result.1.now c.first_other.result c.utf8.text c.first_other.ensures c.as_bytes.ensures.value c.split_at.ensures.front c.split_at.ensures.back in
-    record { joined = s.joined; front = s.in_front; behind = s.begins; text = s.text }
+    let p = two_parts c.args.text.now c.as_bytes-bytes.result.now _ c.first_other_than_lower-lower.result c.first_other.result c.as_bytes-bytes.ensures.value c.first_other_than_lower-lower.ensures.front (take_rest c.as_bytes-bytes.result.now c.first_other_than_lower-lower.result) c.first_other.ensures.front in
+    let s = split_at_other c.args.text.now c.split_at.result.0.now c.split_at.result.1.now (c.first_other_than_lower-lower.result + c.first_other.result) c.utf8.text p.len_is c.split_at.ensures.front c.split_at.ensures.back in
+    record {
+      joined = s.joined;
+      front = s.in_front;
+      behind = s.begins;
+      word = λ e. lower_front c.args.text.now c.split_at.result.0.now (c.first_other_than_lower-lower.result + c.first_other.result) c.first_other_than_lower-lower.result c.utf8.text p.len_is c.split_at.ensures.front p.lower_is (eqb-true (c.first_other_than_lower-lower.result + c.first_other.result) c.first_other_than_lower-lower.result e);
+      text = s.text;
+    }
