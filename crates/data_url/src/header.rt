@@ -5,12 +5,12 @@ ghost use Rattle.std.specs.List.{prefix_len, suffix_len};
 ghost use Rattle.std.specs.Str.{chars};
 ghost use Rattle.data_url.specs.Url.{dropped, is_tab_or_newline};
 ghost use Rattle.data_url.specs.Fetch.{before_base64, with_plain};
-ghost use Rattle.data_url.specs.Mime.{default_record};
-ghost use Rattle.data_url.specs.Steps.Header.{HasNoLastSpace, IsHeaderOf, IsPathAndQuery, IsPrintable, IsRecordFor, WithoutSpace, encoded_parts, header_text, is_no_question_mark};
+ghost use Rattle.data_url.specs.Mime.{Record, default_record};
+ghost use Rattle.data_url.specs.Steps.Header.{HasNoLastSpace, IsHeaderOf, IsPathAndQuery, IsPrintable, IsRecordFor, IsSerialised, WithoutSpace, encoded_parts, header_text, is_no_question_mark};
 ghost use Rattle.data_url.specs.MimeType.{as_option, seen};
 
 use crate::ascii::{is_tab_or_newline, low_end_len, trim};
-use crate::mime::{Mime, MimeFromStrError};
+use crate::mime::{Mime, read_head};
 use crate::percent::{EncodeSet, encoded_len, push_encoded};
 use std::alloc::{AllocError, Global};
 
@@ -123,37 +123,62 @@ fn without_suffix(header: &str) -> Option<&str>
     Some(&header[..semicolon])
 }
 
-/// The record of a header's text as it was given, and whether the body is base64.
-pub(crate) fn read_header(
+/// The text of a header, serialised, unless it is known to be so as it stands.
+pub(crate) fn serialise(
     alloc: Global,
     header: &str,
     is_plain: bool,
-) -> Result<(Mime, bool), AllocError>
+) -> Result<Option<String>, AllocError>
     requires { is_plain ≡ true → header_text (dropped header.now) ≡ header.now }
-    ensures { IfOk result (λ found.
-        IsHeaderOf (header_text (dropped header.now)) (seen found.0) found.1) }
+    ensures { IfOk result (IsSerialised header.now) }
 {
     if is_plain {
-        return read_serialised(alloc, header);
+        return Ok(None);
     }
-    let parts = parts_of(header.as_bytes());
-    read_serialised(alloc, parts.serialised(alloc)?.as_str())
+    Ok(Some(parts_of(header.as_bytes()).serialised(alloc)?))
 }
 
-/// The record of a serialised header, and whether the body is base64.
-fn read_serialised(alloc: Global, header: &str) -> Result<(Mime, bool), AllocError>
+/// The serialised text of a header.
+pub(crate) fn serialised_text<'a>(text: &'a Option<String>, header: &'a str) -> &'a str
+    requires { IsSerialised header.now text.now }
+    ensures text { result.now ≡ header_text (dropped header.now) }
+    ensures printable { IsPrintable result.now }
+{
+    match text {
+        Some(text) => text.as_str(),
+        None => header,
+    }
+}
+
+/// A header without its suffix, and whether it has one, so that the body is base64.
+#[derive(Clone, Copy)]
+pub(crate) struct Media<'a> {
+    pub(crate) text: &'a str,
+    pub(crate) is_base64: bool,
+}
+
+/// The parts of a serialised header.
+pub(crate) fn split_suffix(header: &str) -> Media<'_>
     requires { IsPrintable header.now }
-    ensures { IfOk result (λ found. IsHeaderOf header.now (seen found.0) found.1) }
+    ensures header { (m : Record) → IsRecordFor (with_plain result.text.now) m
+        → IsHeaderOf header.now m result.is_base64 }
+    ensures printable { IsPrintable result.text.now }
 {
     let stripped = trim(header);
     match without_suffix(stripped) {
-        Some(media) => Ok((read_media(alloc, media)?, true)),
-        None => Ok((read_media(alloc, stripped)?, false)),
+        Some(text) => Media {
+            text,
+            is_base64: true,
+        },
+        None => Media {
+            text: stripped,
+            is_base64: false,
+        },
     }
 }
 
 /// The record of a header without its suffix: `text/plain` stands for a type that is left out.
-fn read_media(alloc: Global, media: &str) -> Result<Mime, AllocError>
+pub(crate) fn read_media(alloc: Global, media: &str) -> Result<Mime, AllocError>
     requires { IsPrintable media.now }
     ensures { IfOk result (λ mime. IsRecordFor (with_plain media.now) (seen mime)) }
 {
@@ -174,10 +199,9 @@ fn read_media(alloc: Global, media: &str) -> Result<Mime, AllocError>
 fn record_of(alloc: Global, text: &str) -> Result<Mime, AllocError>
     ensures { IfOk result (λ mime. IsRecordFor (chars text.now) (seen mime)) }
 {
-    match Mime::from_str(alloc, text) {
-        Ok(mime) => Ok(mime),
-        Err(MimeFromStrError::Parsing(_)) => default_mime(alloc),
-        Err(MimeFromStrError::OutOfMemory) => Err(AllocError),
+    match read_head(text) {
+        Some(head) => head.record(alloc),
+        None => default_mime(alloc),
     }
 }
 
@@ -185,9 +209,15 @@ fn record_of(alloc: Global, text: &str) -> Result<Mime, AllocError>
 fn default_mime(alloc: Global) -> Result<Mime, AllocError>
     ensures { IfOk result (λ mime. seen mime ≡ default_record) }
 {
-    let mut mime = Mime::new(alloc, "text", "plain")?;
+    let type_ = String::from_str(alloc, "text")?;
+    let subtype = String::from_str(alloc, "plain")?;
     let charset = String::from_str(alloc, "charset")?;
     let value = String::from_str(alloc, "US-ASCII")?;
-    mime.parameters.push((charset, value))?;
-    Ok(mime)
+    let mut parameters = Vec::with_capacity(alloc, 1)?;
+    parameters.push((charset, value))?;
+    Ok(Mime {
+        type_,
+        subtype,
+        parameters,
+    })
 }

@@ -25,7 +25,7 @@ use body::{decode_base64, decode_plain};
 use forgiving_base64::{DecodeError, DecodeToVecError, room_for};
 pub use fragment::FragmentIdentifier;
 use front::{after_scheme, split_at_comma};
-use header::read_header;
+use header::{read_media, serialise, serialised_text, split_suffix};
 use mime::Mime;
 use std::alloc::{AllocError, Global};
 use std::error::Error;
@@ -85,12 +85,16 @@ impl<'a> DataUrl<'a> {
         let Some(front) = split_at_comma(rest) else {
             return Err(DataUrlError::NoComma);
         };
-        let Ok((mime_type, base64)) = read_header(alloc, front.header, front.is_plain) else {
+        let Ok(text) = serialise(alloc, front.header, front.is_plain) else {
+            return Err(DataUrlError::OutOfMemory);
+        };
+        let media = split_suffix(serialised_text(&text, front.header));
+        let Ok(mime_type) = read_media(alloc, media.text) else {
             return Err(DataUrlError::OutOfMemory);
         };
         Ok(DataUrl {
             mime_type,
-            base64,
+            base64: media.is_base64,
             tail: front.tail,
         })
     }

@@ -1,5 +1,5 @@
 -- What the private steps of reading a header do.
-use Rattle.std.specs.Prelude.{[], ◌++◌, ◌∷◌, ◌⊎◌, ◌<◌, ◌==◌, ◌≡◌, ◌≤◌, Bool, List, None, Option, Some, length, not, slice_index, ℕ}
+use Rattle.std.specs.Prelude.{[], ◌++◌, ◌∷◌, ◌⊎◌, ◌<◌, ◌==◌, ◌≡◌, ◌≤◌, Bool, List, None, Option, Some, String, length, not, slice_index, string_bytes, ℕ}
 use Rattle.data_url.specs.Fetch.{has_base64_suffix, mime_text}
 use Rattle.data_url.specs.Mime.{IsRecordOf, IsWellformed, Record}
 use Rattle.data_url.specs.Url.{before, behind, dropped, encoded_path, in_path_set, in_query_set, percent_encoded}
@@ -50,3 +50,8 @@ pub record IsRecordFor (text : List ℕ) (m : Record) : Type 0 where
 pub record IsHeaderOf (header : List ℕ) (m : Record) (base64 : Bool) : Type 0 where
   pub record_is : IsRecordFor (mime_text header) m
   pub base64_is : base64 ≡ has_base64_suffix header
+
+-- the text of a header, serialised, or none where it is so as it stands
+abbrev pub IsSerialised : {A : Type 0} → List ℕ → Option (String A) → Type 0
+IsSerialised header None = header_text (dropped header) ≡ header
+IsSerialised header (Some text) = string_bytes text ≡ header_text (dropped header)

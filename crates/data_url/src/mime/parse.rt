@@ -21,7 +21,7 @@ use std::alloc::{AllocError, Global};
 
 /// The type, the subtype and the parameters of a text, as they stand there.
 #[derive(Clone, Copy)]
-pub(super) struct Head<'a> {
+pub(crate) struct Head<'a> {
     pub(super) type_: Word<'a>,
     pub(super) subtype: Word<'a>,
     pub(super) parameters: &'a str,
@@ -45,7 +45,7 @@ struct Parameter<'a> {
 
 impl<'a> Head<'a> {
     /// The record of a MIME type of these parts. It takes memory for the record.
-    pub(super) fn record(self, alloc: Global) -> Result<Mime, AllocError>
+    pub(crate) fn record(self, alloc: Global) -> Result<Mime, AllocError>
         requires type_ { IsTrue (is_token_text (chars self.type_.text.now)) }
         requires subtype { IsTrue (is_token_text (chars self.subtype.text.now)) }
         requires words { IsWord self.type_ × IsWord self.subtype }
@@ -63,7 +63,7 @@ impl<'a> Head<'a> {
 }
 
 /// The parts of a MIME type, if the text is one.
-pub(super) fn read_head(text: &str) -> Option<Head<'_>>
+pub(crate) fn read_head(text: &str) -> Option<Head<'_>>
     ensures head { MatchOption result (HasNoHead (chars text.now))
         (λ h. IsHead (chars text.now) (chars h.type_.text.now) (chars h.subtype.text.now)
         (chars h.parameters.now)) }
