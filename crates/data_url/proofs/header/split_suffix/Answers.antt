@@ -1,5 +1,5 @@
 use Rattle.std.proofs.Common.{sym, ap, ◌∙◌, subst}
-use Rattle.data_url.specs.Fetch.{before_base64, stripped, with_plain}
+use Rattle.data_url.specs.Fetch.{before_base64, stripped_header, with_plain}
 use Rattle.data_url.specs.Steps.Header.{IsPrintable, IsRecordFor}
 use Rattle.data_url.proofs.MediaLemmas.{no_suffix, printable_media, with_suffix}
 use Rattle.data_url.proofs.PrintableLemmas.{printable_stripped, trimmed_is_stripped}
@@ -14,7 +14,7 @@ returns-in-Some c =
     let before = ap before_base64 (sym stripped_is) ∙ sym c.in-Some.ensures in
     record {
       header = λ m h. with_suffix c.args.header.now c.in-Some.text.now m before h;
-      printable = printable_media (stripped c.args.header.now) c.in-Some.text.now (printable_stripped c.args.header.now c.requires) before;
+      printable = printable_media (stripped_header c.args.header.now) c.in-Some.text.now (printable_stripped c.args.header.now c.requires) before;
     }
 
 pub returns-in-None : goal.returns-in-None
