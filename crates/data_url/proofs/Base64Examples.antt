@@ -1,6 +1,6 @@
 -- Base64 texts and what the definitions make of them, computed.
 use Rattle.std.proofs.Common.{◌≡◌, ℕ, true, false, List, [], ◌∷◌, ◌++◌, None, Some, codes, replicate, refl}
-use Rattle.data_url.specs.Base64.{AlphabetSymbolAfterPadding, LoneAlphabetSymbol, Padding, UnexpectedSymbol, decoded, done, first_fault, is_valid, kind_of, left_padding, left_symbols, left_text}
+use Rattle.data_url.specs.Base64.{AlphabetSymbolAfterPadding, LoneAlphabetSymbol, Padding, UnexpectedSymbol, decoded, complete_bytes, first_fault, is_valid, kind_of, left_padding, left_symbols, left_text}
 use Rattle.data_url.proofs.OnLiterals.{on_literals}
 
 bits_left_over : (is_valid (codes "YR") ≡ true) × (decoded (codes "YR") ≡ 97 ∷ [])
@@ -39,7 +39,7 @@ unfolding on_literals
 form_feed = (refl, refl)
 
 -- the group before a wrong pad is done
-whole_group_and_pad : (is_valid (codes "QUJD=") ≡ false) × (done (codes "QUJD=") ≡ codes "ABC") × (kind_of (codes "QUJD=") ≡ Padding)
+whole_group_and_pad : (is_valid (codes "QUJD=") ≡ false) × (complete_bytes (codes "QUJD=") ≡ codes "ABC") × (kind_of (codes "QUJD=") ≡ Padding)
 unfolding on_literals
 whole_group_and_pad = (refl, refl, refl)
 
@@ -53,7 +53,7 @@ unfolding on_literals
 above_ascii = (refl, refl)
 
 -- only what stands before the first fault is done
-done_before_fault : (done (codes "QUJDQ!UJDQUJD") ≡ codes "ABC") × (kind_of (codes "QUJDQ!UJDQUJD") ≡ UnexpectedSymbol 33)
+done_before_fault : (complete_bytes (codes "QUJDQ!UJDQUJD") ≡ codes "ABC") × (kind_of (codes "QUJDQ!UJDQUJD") ≡ UnexpectedSymbol 33)
 unfolding on_literals
 done_before_fault = (refl, refl)
 

@@ -3,8 +3,8 @@ use Rattle.std.proofs.Common.{◌≡◌, ℕ, ◌+◌, ◌*◌, Bool, true, fals
 use Rattle.std.specs.Prelude.{◌==◌, ◌&&◌}
 use Rattle.std.specs.Char.{digit_value, is_ascii_hexdigit}
 use Rattle.std.proofs.lemmas.Bool.{and_left, and_right, both_ways, cases_Bool, cond-true, cond-false, ne_eqb}
-use Rattle.data_url.specs.Url.{before, behind, dropped, front, is_tab_or_newline}
-use Rattle.data_url.specs.Percent.{percent_decoded}
+use Rattle.data_url.specs.Url.{before, behind, without_tabs_and_newlines, front, is_tab_or_newline}
+use Rattle.data_url.specs.Percent.{percent_decoding}
 use Rattle.data_url.specs.Fetch.{plain_body}
 use Rattle.data_url.specs.Pieces.{digit, escape, with_high_digit, with_low_digit}
 use Rattle.data_url.proofs.DigitLemmas.{digit_here, digit_nil, digit_tab}
@@ -25,7 +25,7 @@ record HasDigit (s : List ℕ) (value : ℕ) (rest : List ℕ) : Type 0 where
   pub at : ℕ
   pub hex : is_ascii_hexdigit at ≡ true
   pub value_is : digit_value at ≡ value
-  pub dropped_is : dropped s ≡ at ∷ dropped rest
+  pub dropped_is : without_tabs_and_newlines s ≡ at ∷ without_tabs_and_newlines rest
   pub behind_is : behind 35 s ≡ behind 35 rest
 
 digit_at : (b : ℕ) (s : List ℕ) (value : ℕ) (rest : List ℕ) → is_tab_or_newline b ≡ false → is_ascii_hexdigit b ≡ true → ◌≡◌ {A = Option (ℕ × List ℕ)} (Some (digit_value b, s)) (Some (value, rest)) → HasDigit (b ∷ s) value rest
@@ -37,7 +37,7 @@ digit_at b s value rest t h e =
       at = b;
       hex = h;
       value_is = value_is;
-      dropped_is = dropped_keeps b s t ∙ ap (λ r. b ∷ dropped r) rest_is;
+      dropped_is = dropped_keeps b s t ∙ ap (λ r. b ∷ without_tabs_and_newlines r) rest_is;
       behind_is = behind_other 35 b s (hex_no_hash b h) ∙ ap (behind 35) rest_is;
     }
 
@@ -63,7 +63,7 @@ abbrev begins_with_digit : List ℕ → Bool
 begins_with_digit [] = false
 begins_with_digit (b ∷ s) = is_ascii_hexdigit b
 
-no_digit : (s : List ℕ) → digit s ≡ None → begins_with_digit (dropped s) ≡ false
+no_digit : (s : List ℕ) → digit s ≡ None → begins_with_digit (without_tabs_and_newlines s) ≡ false
 no_digit [] h = ap begins_with_digit dropped_nil
 no_digit (b ∷ s) h = elim (cases_Bool (is_tab_or_newline b)) [
   | inl e ↦ ap begins_with_digit (dropped_passes b s e) ∙ no_digit s (sym (digit_tab b s e) ∙ h)
@@ -80,7 +80,7 @@ record HasEscape (s : List ℕ) (value : ℕ) (rest : List ℕ) : Type 0 where
   pub high_hex : is_ascii_hexdigit high ≡ true
   pub low_hex : is_ascii_hexdigit low ≡ true
   pub value_is : 16 * digit_value high + digit_value low ≡ value
-  pub dropped_is : dropped s ≡ high ∷ low ∷ dropped rest
+  pub dropped_is : without_tabs_and_newlines s ≡ high ∷ low ∷ without_tabs_and_newlines rest
   pub behind_is : behind 35 s ≡ behind 35 rest
 
 both_digits : (s middle rest : List ℕ) (high low value : ℕ) → HasDigit s high middle → HasDigit middle low rest → 16 * high + low ≡ value → HasEscape s value rest
@@ -118,15 +118,15 @@ first_no_digit : (s : List ℕ) → begins_with_digit s ≡ false → begins_wit
 first_no_digit [] h = refl
 first_no_digit (b ∷ s) h = and_left (is_ascii_hexdigit b) (begins_with_digit s) h
 
-no_low_cases : (s middle : List ℕ) (high : ℕ) (o : Option (ℕ × List ℕ)) → HasDigit s high middle → digit middle ≡ o → with_low_digit high o ≡ None → begins_with_two_digits (dropped s) ≡ false
-no_low_cases s middle high None a e h = ap begins_with_two_digits a.dropped_is ∙ and_right (is_ascii_hexdigit a.at) (begins_with_digit (dropped middle)) (no_digit middle e)
+no_low_cases : (s middle : List ℕ) (high : ℕ) (o : Option (ℕ × List ℕ)) → HasDigit s high middle → digit middle ≡ o → with_low_digit high o ≡ None → begins_with_two_digits (without_tabs_and_newlines s) ≡ false
+no_low_cases s middle high None a e h = ap begins_with_two_digits a.dropped_is ∙ and_right (is_ascii_hexdigit a.at) (begins_with_digit (without_tabs_and_newlines middle)) (no_digit middle e)
 no_low_cases s middle high (Some low) a e h = absurd (cc)
 
-no_high_cases : (s : List ℕ) (o : Option (ℕ × List ℕ)) → digit s ≡ o → with_high_digit o ≡ None → begins_with_two_digits (dropped s) ≡ false
-no_high_cases s None e h = first_no_digit (dropped s) (no_digit s e)
+no_high_cases : (s : List ℕ) (o : Option (ℕ × List ℕ)) → digit s ≡ o → with_high_digit o ≡ None → begins_with_two_digits (without_tabs_and_newlines s) ≡ false
+no_high_cases s None e h = first_no_digit (without_tabs_and_newlines s) (no_digit s e)
 no_high_cases s (Some high) e h = no_low_cases s high.1 high.0 (digit high.1) (has_digit s high.0 high.1 e) refl h
 
-no_escape : (s : List ℕ) → escape s ≡ None → begins_with_two_digits (dropped s) ≡ false
+no_escape : (s : List ℕ) → escape s ≡ None → begins_with_two_digits (without_tabs_and_newlines s) ≡ false
 unfolding escape
 no_escape s h = no_high_cases s (digit s) refl h
 
@@ -146,52 +146,52 @@ same_two_digits (b ∷ c ∷ s) h = elim (cases_Bool (b == 35)) [
 
 -- The body
 
-body_of : (tail s : List ℕ) → dropped tail ≡ s → plain_body tail ≡ percent_decoded (before 35 s)
+body_of : (tail s : List ℕ) → without_tabs_and_newlines tail ≡ s → plain_body tail ≡ percent_decoding (before 35 s)
 unfolding plain_body front
-body_of tail s e = ap (λ x. percent_decoded (before 35 x)) e
+body_of tail s e = ap (λ x. percent_decoding (before 35 x)) e
 
-percent_nil : percent_decoded [] ≡ []
-unfolding percent_decoded
+percent_nil : percent_decoding [] ≡ []
+unfolding percent_decoding
 percent_nil = refl
 
 pub body_nil : plain_body [] ≡ []
-body_nil = body_of [] [] dropped_nil ∙ ap percent_decoded (before_nil 35) ∙ percent_nil
+body_nil = body_of [] [] dropped_nil ∙ ap percent_decoding (before_nil 35) ∙ percent_nil
 
 pub body_hash : (s : List ℕ) → plain_body (35 ∷ s) ≡ []
-body_hash s = body_of (35 ∷ s) (35 ∷ dropped s) (dropped_keeps 35 s refl) ∙ ap percent_decoded (before_same 35 (dropped s)) ∙ percent_nil
+body_hash s = body_of (35 ∷ s) (35 ∷ without_tabs_and_newlines s) (dropped_keeps 35 s refl) ∙ ap percent_decoding (before_same 35 (without_tabs_and_newlines s)) ∙ percent_nil
 
 pub body_passes : (b : ℕ) (s : List ℕ) → is_tab_or_newline b ≡ true → plain_body (b ∷ s) ≡ plain_body s
-body_passes b s h = body_of (b ∷ s) (dropped s) (dropped_passes b s h) ∙ sym (body_of s (dropped s) refl)
+body_passes b s h = body_of (b ∷ s) (without_tabs_and_newlines s) (dropped_passes b s h) ∙ sym (body_of s (without_tabs_and_newlines s) refl)
 
 pub behind_passes : (b : ℕ) (s : List ℕ) → is_tab_or_newline b ≡ true → behind 35 (b ∷ s) ≡ behind 35 s
 behind_passes b s h = behind_other 35 b s (no_hash b h)
 
 -- a byte that stands for itself
-keeps_byte : (b : ℕ) (s : List ℕ) → is_tab_or_newline b ≡ false → (b == 35) ≡ false → ((b == 37) && two_digits (before 35 (dropped s))) ≡ false → plain_body (b ∷ s) ≡ b ∷ plain_body s
+keeps_byte : (b : ℕ) (s : List ℕ) → is_tab_or_newline b ≡ false → (b == 35) ≡ false → ((b == 37) && two_digits (before 35 (without_tabs_and_newlines s))) ≡ false → plain_body (b ∷ s) ≡ b ∷ plain_body s
 keeps_byte b s t n k =
-    body_of (b ∷ s) (b ∷ dropped s) (dropped_keeps b s t)
-    ∙ ap percent_decoded (before_other 35 b (dropped s) n)
-    ∙ decoded_keeps b (before 35 (dropped s)) k
-    ∙ ap (λ t. b ∷ t) (sym (body_of s (dropped s) refl))
+    body_of (b ∷ s) (b ∷ without_tabs_and_newlines s) (dropped_keeps b s t)
+    ∙ ap percent_decoding (before_other 35 b (without_tabs_and_newlines s) n)
+    ∙ decoded_keeps b (before 35 (without_tabs_and_newlines s)) k
+    ∙ ap (λ t. b ∷ t) (sym (body_of s (without_tabs_and_newlines s) refl))
 
 pub body_keeps : (b : ℕ) (s : List ℕ) → is_tab_or_newline b ≡ false → (b == 35) ≡ false → (b == 37) ≡ false → plain_body (b ∷ s) ≡ b ∷ plain_body s
-body_keeps b s t n p = keeps_byte b s t n (and_left (b == 37) (two_digits (before 35 (dropped s))) p)
+body_keeps b s t n p = keeps_byte b s t n (and_left (b == 37) (two_digits (before 35 (without_tabs_and_newlines s))) p)
 
 pub body_percent : (s : List ℕ) → escape s ≡ None → plain_body (37 ∷ s) ≡ 37 ∷ plain_body s
-body_percent s h = keeps_byte 37 s refl refl (same_two_digits (dropped s) (no_escape s h))
+body_percent s h = keeps_byte 37 s refl refl (same_two_digits (without_tabs_and_newlines s) (no_escape s h))
 
 pub body_escape : (s : List ℕ) (value : ℕ) (rest : List ℕ) → escape s ≡ Some (value, rest) → plain_body (37 ∷ s) ≡ value ∷ plain_body rest
 body_escape s value rest h =
     let e = has_escape s value rest h in
-    let front_is : before 35 (dropped s) ≡ e.high ∷ e.low ∷ before 35 (dropped rest) =
+    let front_is : before 35 (without_tabs_and_newlines s) ≡ e.high ∷ e.low ∷ before 35 (without_tabs_and_newlines rest) =
     ap (before 35) e.dropped_is
-    ∙ before_other 35 e.high (e.low ∷ dropped rest) (hex_no_hash e.high e.high_hex)
-    ∙ ap (λ t. e.high ∷ t) (before_other 35 e.low (dropped rest) (hex_no_hash e.low e.low_hex)) in
-    body_of (37 ∷ s) (37 ∷ dropped s) (dropped_keeps 37 s refl)
-    ∙ ap percent_decoded (before_other 35 37 (dropped s) refl ∙ ap (λ t. 37 ∷ t) front_is)
-    ∙ decoded_escape e.high e.low (before 35 (dropped rest)) e.high_hex e.low_hex
-    ∙ ap (λ x. x ∷ percent_decoded (before 35 (dropped rest))) e.value_is
-    ∙ ap (λ t. value ∷ t) (sym (body_of rest (dropped rest) refl))
+    ∙ before_other 35 e.high (e.low ∷ without_tabs_and_newlines rest) (hex_no_hash e.high e.high_hex)
+    ∙ ap (λ t. e.high ∷ t) (before_other 35 e.low (without_tabs_and_newlines rest) (hex_no_hash e.low e.low_hex)) in
+    body_of (37 ∷ s) (37 ∷ without_tabs_and_newlines s) (dropped_keeps 37 s refl)
+    ∙ ap percent_decoding (before_other 35 37 (without_tabs_and_newlines s) refl ∙ ap (λ t. 37 ∷ t) front_is)
+    ∙ decoded_escape e.high e.low (before 35 (without_tabs_and_newlines rest)) e.high_hex e.low_hex
+    ∙ ap (λ x. x ∷ percent_decoding (before 35 (without_tabs_and_newlines rest))) e.value_is
+    ∙ ap (λ t. value ∷ t) (sym (body_of rest (without_tabs_and_newlines rest) refl))
 
 pub behind_percent : (s : List ℕ) → behind 35 (37 ∷ s) ≡ behind 35 s
 behind_percent s = behind_other 35 37 s refl

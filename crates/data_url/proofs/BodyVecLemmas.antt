@@ -5,7 +5,7 @@ use Rattle.data_url.specs.Errors.{IsBodyErrorOf, IsRefused}
 use Rattle.data_url.specs.Steps.Whole.{vec_error}
 use Rattle.data_url.specs.DataUrl.{Decodes, HandsOut}
 use Rattle.data_url.specs.Fetch.{Bad, Good, Outcome, outcome_bytes}
-use Rattle.data_url.specs.Run.{joined, refusal}
+use Rattle.data_url.specs.Run.{joined_pieces, refusal}
 use Rattle.data_url.specs.declared.forgiving_base64.DecodeError.{DecodeError}
 use Rattle.data_url.specs.declared.forgiving_base64.DecodeError.TheVariants.{InvalidBase64, WriteError}
 use Rattle.data_url.proofs.WholeLemmas.{run_keeps, run_reads}
@@ -38,21 +38,21 @@ module _ {F E A : Type 0} {step : F → List ℕ → Result (Unit {0}) E → F �
   -- what a closure that keeps its bytes has after a body that was decoded
   pub body_reads : {x : A} → Decodes step f most body good r f' → r ≡ Ok x → (J : F → List ℕ) → ((g : F) (piece : List ℕ) (g' : F) → step g piece (Ok tt) g' → J g' ≡ J g ++ piece) → (all : List ℕ) × (body ≡ Good all) × (J f' ≡ J f ++ all)
   body_reads {x} h q J keeps =
-      let k = ok_given (refusal h.run) body good (joined h.run) r x q h.gave in
-      (joined h.run, k.1.body_is, run_reads step J keeps h.run f f' h.ran k.0)
+      let k = ok_given (refusal h.run) body good (joined_pieces h.run) r x q h.gave in
+      (joined_pieces h.run, k.1.body_is, run_reads step J keeps h.run f f' h.ran k.0)
 
   pub body_answer : {x : A} → Decodes step f most body good r f' → r ≡ Ok x → good x
-  body_answer {x} h q = (ok_given (refusal h.run) body good (joined h.run) r x q h.gave).1.answer
+  body_answer {x} h q = (ok_given (refusal h.run) body good (joined_pieces h.run) r x q h.gave).1.answer
 
   pub body_fault : {kind : _} → Decodes step f most body good r f' → r ≡ Err (InvalidBase64 kind) → (all : List ℕ) × (body ≡ Bad all kind)
-  body_fault {kind} h q = bad_given (refusal h.run) body good (joined h.run) r kind q h.gave
+  body_fault {kind} h q = bad_given (refusal h.run) body good (joined_pieces h.run) r kind q h.gave
 
   pub body_keeps : {B : Type 0} → Decodes step f most body good r f' → (K : F → B) → ((g : F) (piece : List ℕ) (s : Result (Unit {0}) E) (g' : F) → step g piece s g' → K g ≡ K g') → K f ≡ K f'
   body_keeps h K keeps = run_keeps step K keeps h.run f f' h.ran
 
   -- an answer Ok comes of a good body
   pub body_good : {x : A} → Decodes step f most body good r f' → r ≡ Ok x → (all : List ℕ) × (body ≡ Good all)
-  body_good {x} h q = let k = ok_given (refusal h.run) body good (joined h.run) r x q h.gave in (joined h.run, k.1.body_is)
+  body_good {x} h q = let k = ok_given (refusal h.run) body good (joined_pieces h.run) r x q h.gave in (joined_pieces h.run, k.1.body_is)
 
   -- the error of a vector that was to have the body's bytes
   pub body_error : (x : DecodeError E) → Decodes step f most body good r f' → r ≡ Err x → IsBodyErrorOf body (vec_error x)

@@ -5,7 +5,7 @@ use Rattle.std.specs.List.{filter, list_any}
 use Rattle.std.proofs.lemmas.List.{append-nil, length-map, length-replicate}
 use Rattle.std.proofs.lemmas.List.Elements.{filter-append}
 use Rattle.std.proofs.lemmas.Bool.{false≢true, true≢false}
-use Rattle.data_url.specs.Base64.{AlphabetSymbolAfterPadding, Kind, LoneAlphabetSymbol, Padding, UnexpectedSymbol, after_groups, decoded, done, first_fault, group_bytes, group_number, groups, is_symbol, is_valid, kind_of, left_padding, left_symbols, left_text, rest_bytes, symbol_value, values}
+use Rattle.data_url.specs.Base64.{AlphabetSymbolAfterPadding, Kind, LoneAlphabetSymbol, Padding, UnexpectedSymbol, after_groups, decoded, complete_bytes, first_fault, group_bytes, group_number, groups, is_symbol, is_valid, kind_of, left_padding, left_symbols, left_text, rest_bytes, symbol_value, values}
 use Rattle.std.specs.Char.{is_ascii_whitespace}
 use Rattle.data_url.specs.Decoder.{Feeds, Finishes, IsAll, State, left_over}
 use Rattle.data_url.specs.Errors.{IsRefused}
@@ -71,7 +71,7 @@ module _ (q : List ℕ) (p : ℕ) (every : Every is_symbol q) where
   values_left = ap (map symbol_value) (symbols_of_text q p every)
 
   -- what comes of some text t without a fault
-  pub done_more : (t : List ℕ) → fault_byte (has_pad p) t ≡ None → done (left_text q p ++ t) ≡ groups (map symbol_value (q ++ filter is_symbol t))
+  pub done_more : (t : List ℕ) → fault_byte (has_pad p) t ≡ None → complete_bytes (left_text q p ++ t) ≡ groups (map symbol_value (q ++ filter is_symbol t))
   done_more t h =
       done_is (left_text q p ++ t)
       ∙ ap (λ x. groups (values x)) (before_none (left_text q p ++ t) false (fault_more t ∙ h))
@@ -86,7 +86,7 @@ module _ (q : List ℕ) (p : ℕ) (every : Every is_symbol q) where
   padding_more t = ap (λ x. min x 3) (pads_more t)
 
   -- and of one bad byte
-  pub done_bad : (c : ℕ) → length q ≤ 3 → fault_byte (has_pad p) (c ∷ []) ≡ Some c → done (left_text q p ++ c ∷ []) ≡ []
+  pub done_bad : (c : ℕ) → length q ≤ 3 → fault_byte (has_pad p) (c ∷ []) ≡ Some c → complete_bytes (left_text q p ++ c ∷ []) ≡ []
   done_bad c few h =
       done_is (left_text q p ++ c ∷ [])
       ∙ ap (λ x. groups (values x)) (before_more (c ∷ []) ∙ ap (λ x. left_text q p ++ x) (before_one c (has_pad p) h) ∙ append-nil (left_text q p))

@@ -6,7 +6,7 @@ use Rattle.std.proofs.lemmas.Bool.{cases_lt, cond-true, lt-ltb, or_cases, or_par
 use Rattle.std.proofs.lemmas.List.{drop_more, get_or-drop, get_or-take, length-drop, length-take, take-append-drop, take_all}
 use Rattle.std.proofs.lemmas.List.Quantifiers.{position-Some}
 use Rattle.std.proofs.lemmas.List.Sums.{fails_before_first, prefix_len_passes}
-use Rattle.data_url.specs.Url.{before, behind, dropped, front}
+use Rattle.data_url.specs.Url.{before, behind, without_tabs_and_newlines, front}
 use Rattle.data_url.specs.Steps.Header.{header_text}
 use Rattle.data_url.specs.Steps.Front.{IsHeaderAndTail, ends_header, is_plain_path}
 use Rattle.data_url.proofs.EncodeLemmas.{Plain, plain_byte, plain_serialised}
@@ -95,8 +95,8 @@ plain_front s items n e f h k l = plain_byte (get_or s k 0) (h k) (prefix_len_pa
 pub plain_no_end : (s : List ℕ) (n : ℕ) → ((k : ℕ) → k < n → Plain (get_or s k 0)) → NoEndBefore s n
 plain_no_end s n h k l = let p = h k l in ap₂ (λ x y. x || y) p.no_comma p.no_hash
 
-pub plain_header : (s header : List ℕ) (n : ℕ) → ((k : ℕ) → k < n → Plain (get_or s k 0)) → header ≡ take n s → header_text (dropped header) ≡ header
-plain_header s header n h e = subst (λ t. header_text (dropped t) ≡ t) (sym e) (plain_serialised (take n s) (λ k l.
+pub plain_header : (s header : List ℕ) (n : ℕ) → ((k : ℕ) → k < n → Plain (get_or s k 0)) → header ≡ take n s → header_text (without_tabs_and_newlines header) ≡ header
+plain_header s header n h e = subst (λ t. header_text (without_tabs_and_newlines t) ≡ t) (sym e) (plain_serialised (take n s) (λ k l.
     let below : k < n = omega (arith, length-take n s) in
     subst Plain (sym (get_or-take n s k 0 below)) (h k below)))
 
@@ -116,5 +116,5 @@ pub no_front_end : (s items : List ℕ) (n : ℕ) (r : Option ℕ) → items ≡
 no_front_end s items n r e f h p g = at_none s n (no_end_ahead s items n e f h) (ends_ahead s items n r e p ∙ g)
 
 -- what stands before the comma where it comes right behind the plain bytes
-pub plain_before : (s items header : List ℕ) (n k : ℕ) → items ≡ s → n ≡ prefix_len is_plain_path items → FitsBytes s → header ≡ take (n + k) s → n + k ≡ n → header_text (dropped header) ≡ header
+pub plain_before : (s items header : List ℕ) (n k : ℕ) → items ≡ s → n ≡ prefix_len is_plain_path items → FitsBytes s → header ≡ take (n + k) s → n + k ≡ n → header_text (without_tabs_and_newlines header) ≡ header
 plain_before s items header n k e f h is same = plain_header s header n (plain_front s items n e f h) (is ∙ ap (λ m. take m s) same)

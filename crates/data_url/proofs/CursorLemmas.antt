@@ -5,7 +5,7 @@ use Rattle.std.proofs.lemmas.Bool.{ne_eqb}
 use Rattle.std.proofs.lemmas.List.{drop_all, drop_more}
 use Rattle.data_url.specs.Url.{is_tab_or_newline}
 use Rattle.data_url.specs.Steps.Digits.{DigitsFound, NoDigits}
-use Rattle.data_url.specs.Steps.Looks.{paid}
+use Rattle.data_url.specs.Steps.Looks.{paid_looks}
 use Rattle.data_url.specs.Steps.Tail.{BeginsFragment}
 use Rattle.data_url.specs.Steps.Walk.{Ended, EscapeAt, IsBlock, IsPassed, KeepsBlock, LonePercent, Looking, text_of}
 use Rattle.data_url.specs.Steps.Window.{is_marked}
@@ -21,17 +21,17 @@ block_as {text} {text'} {base} {base'} {seen} {seen'} {marks} {marks'} t b s m k
     let S : ℕ → Type 0 = λ x. IsBlock text base seen x in
     subst P (sym t) (subst Q (sym b) (subst R (sym s) (subst S (sym m) k)))
 
-pub looking_as : {c c' : Cursor} {place more : ℕ} (place' more' : ℕ) → Looking c place more → text_of c' ≡ text_of c → c'.base ≡ c.base → c'.seen ≡ c.seen → c'.marks ≡ c.marks → place ≤ place' → place' ≤ length (text_of c) → c'.source.looks + more' ≤ paid (text_of c) c.seen place' → Looking c' place' more'
+pub looking_as : {c c' : Cursor} {place more : ℕ} (place' more' : ℕ) → Looking c place more → text_of c' ≡ text_of c → c'.base ≡ c.base → c'.seen ≡ c.seen → c'.marks ≡ c.marks → place ≤ place' → place' ≤ length (text_of c) → c'.source.looks + more' ≤ paid_looks (text_of c) c.seen place' → Looking c' place' more'
 looking_as {c} {c'} {place} {more} place' more' k t b s m f w l =
     let e = k.base_le in
     let n = ap length t in
-    let p : paid (text_of c') c'.seen place' ≡ paid (text_of c) c.seen place' = ap (λ x. paid x c'.seen place') t ∙ ap (λ x. paid (text_of c) x place') s in
+    let p : paid_looks (text_of c') c'.seen place' ≡ paid_looks (text_of c) c.seen place' = ap (λ x. paid_looks x c'.seen place') t ∙ ap (λ x. paid_looks (text_of c) x place') s in
     record { block = block_as t b s m k.block; base_le = omega arith; within = omega arith; looks_are_paid = omega arith }
 
 pub keeps : {c c' : Cursor} → text_of c' ≡ text_of c → c.source.looks ≤ c'.source.looks → c'.base ≡ c.base → c'.seen ≡ c.seen → c'.marks ≡ c.marks → c'.place ≡ c.place → c'.ahead ≡ c.ahead → KeepsBlock c c'
 keeps t l b s m p a = record { stays = record { on = record { text_stays = t; looks_grow = l }; place_stays = p; ahead_stays = a }; base_stays = b; seen_stays = s; marks_stay = m }
 
-looking_kept : {c c' : Cursor} {place more : ℕ} (place' more' : ℕ) → Looking c place more → KeepsBlock c c' → place ≤ place' → place' ≤ length (text_of c) → c'.source.looks + more' ≤ paid (text_of c) c.seen place' → Looking c' place' more'
+looking_kept : {c c' : Cursor} {place more : ℕ} (place' more' : ℕ) → Looking c place more → KeepsBlock c c' → place ≤ place' → place' ≤ length (text_of c) → c'.source.looks + more' ≤ paid_looks (text_of c) c.seen place' → Looking c' place' more'
 looking_kept place' more' k h f w l = looking_as place' more' k h.stays.on.text_stays h.base_stays h.seen_stays h.marks_stay f w l
 
 -- What stands at a mark

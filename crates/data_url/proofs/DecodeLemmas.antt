@@ -3,10 +3,10 @@ use Rattle.std.proofs.Common.{◌≡◌, ℕ, ◌+◌, ◌<◌, ◌≤◌, List,
 use Rattle.std.specs.Prelude.{MatchOption}
 use Rattle.std.proofs.lemmas.List.{append-nil, length-take-le}
 use Rattle.data_url.specs.Errors.{IsRefused}
-use Rattle.data_url.specs.Run.{Call, IsRun, joined, refusal}
+use Rattle.data_url.specs.Run.{Call, IsRun, joined_pieces, refusal}
 use Rattle.data_url.specs.Fetch.{Good, outcome_bytes, plain_body}
 use Rattle.data_url.specs.Pieces.{Walk, begins}
-use Rattle.data_url.specs.Base64.{compact}
+use Rattle.data_url.specs.Base64.{without_whitespace}
 use Rattle.data_url.specs.Steps.Chunks.{IsBase64Chunk, IsChunk}
 use Rattle.data_url.specs.Steps.Tail.{IsBodyEnd}
 use Rattle.data_url.specs.DataUrl.{Decodes, HandsOut}
@@ -14,7 +14,7 @@ use Rattle.data_url.specs.declared.escapes.Chunk.{Chunk}
 use Rattle.data_url.specs.declared.escapes.Chunk.TheVariants.{End, Gathered, Slice}
 use Rattle.data_url.specs.declared.forgiving_base64.DecodeError.TheVariants.{WriteError}
 use Rattle.data_url.proofs.WalkLemmas.{some_not_none}
-use Rattle.data_url.proofs.RunLemmas.{joined-append, match_none, refusal-append, run-append}
+use Rattle.data_url.proofs.RunLemmas.{joined_pieces-append, match_none, refusal-append, run-append}
 
 -- a chunk is the bytes of the body that come next
 pub record Takes (w : Walk) (bytes : List ℕ) (w' : Walk) : Type 0 where
@@ -49,7 +49,7 @@ walk_over {w} {w'} {room} {chunk} h e =
 -- a chunk of base64 is the bytes of the body that come next, but for white space
 pub record TakesSpaced (w : Walk) (bytes : List ℕ) (w' : Walk) : Type 0 where
   pub text_stays : w'.text ≡ w.text
-  pub rest_is : compact w.rest ≡ compact bytes ++ compact w'.rest
+  pub rest_is : without_whitespace w.rest ≡ without_whitespace bytes ++ without_whitespace w'.rest
   pub rest_of : w'.rest ≡ plain_body (drop w'.place w'.text)
   pub place : w.place + length bytes ≤ w'.place
   pub within : w'.place ≤ length w'.text
@@ -71,12 +71,12 @@ spaced_gathered {w} {w'} {room} {piece} {chunk} len h e p =
     let long : length (take len room) ≡ len = length-take-le len room f.1 in
     subst T (sym p) (record { text_stays = k.text_stays; rest_is = k.bytes; rest_of = k.rest_is; place = k.place; within = k.within; some = omega (arith, f.0, long) })
 
-pub spaced_over : {w w' : Walk} {room : List ℕ} {chunk : Chunk} → IsBase64Chunk w room chunk w' → chunk ≡ End → (compact w.rest ≡ []) × (w'.ended ≡ true) × (w'.text ≡ w.text)
-unfolding compact
+pub spaced_over : {w w' : Walk} {room : List ℕ} {chunk : Chunk} → IsBase64Chunk w room chunk w' → chunk ≡ End → (without_whitespace w.rest ≡ []) × (w'.ended ≡ true) × (w'.text ≡ w.text)
+unfolding without_whitespace
 spaced_over {w} {w'} {room} {chunk} h e =
     let C : Chunk → Type 0 = λ x. IsBase64Chunk w room x w' in
     let k : IsBase64Chunk w room End w' = subst C e h in
-    (k.bytes ∙ ap compact k.filled.1, k.filled.0, k.text_stays)
+    (k.bytes ∙ ap without_whitespace k.filled.1, k.filled.0, k.text_stays)
 
 pub match_is_some : {A : Type 0} (o : Option A) (x : A) (P : Type 0) (Q : A → Type 0) → o ≡ Some x → Q x → MatchOption o P Q
 match_is_some None x P Q e q = absurd (some_not_none x (sym e))
@@ -93,7 +93,7 @@ module _ {F E : Type 0} (step : F → List ℕ → Result (Unit {0}) E → F →
     pub text_is : w.text ≡ text
     pub place : w.place ≤ length text
     pub calls : length run ≤ w.place
-    pub body : plain_body text ≡ joined run ++ w.rest
+    pub body : plain_body text ≡ joined_pieces run ++ w.rest
 
   pub going_none : (f : F) (text : List ℕ) → Going f text (begins text) f
   going_none f text = record { run = []; ran = refl; accepted = refl; text_is = refl; place = omega arith; calls = omega arith; body = refl }
@@ -116,8 +116,8 @@ module _ {F E : Type 0} (step : F → List ℕ → Result (Unit {0}) E → F →
         place = omega arith;
         calls = omega arith;
         body =
-            k.body ∙ ap (λ x. joined k.run ++ x) t.rest_is ∙ sym (append_assoc (joined k.run) bytes w'.rest)
-            ∙ ap (λ x. x ++ w'.rest) (ap (λ x. joined k.run ++ x) (sym (append-nil bytes)) ∙ sym (joined-append k.run call));
+            k.body ∙ ap (λ x. joined_pieces k.run ++ x) t.rest_is ∙ sym (append_assoc (joined_pieces k.run) bytes w'.rest)
+            ∙ ap (λ x. x ++ w'.rest) (ap (λ x. joined_pieces k.run ++ x) (sym (append-nil bytes)) ∙ sym (joined_pieces-append k.run call));
       }
 
   pub going_ends : {f g : F} {text : List ℕ} {w : Walk} {place : ℕ} → Going f text w g → w.rest ≡ [] → IsBodyEnd text place → Decodes step f (length text) (Good (plain_body text)) (IsBodyEnd text) (Ok place) g
@@ -128,7 +128,7 @@ module _ {F E : Type 0} (step : F → List ℕ → Result (Unit {0}) E → F →
         run = k.run;
         ran = k.ran;
         calls = omega arith;
-        gave = match_none (refusal k.run) _ _ k.accepted (record { bytes_are = sym (k.body ∙ ap (λ x. joined k.run ++ x) e ∙ append-nil (joined k.run)); answer = b });
+        gave = match_none (refusal k.run) _ _ k.accepted (record { bytes_are = sym (k.body ∙ ap (λ x. joined_pieces k.run ++ x) e ∙ append-nil (joined_pieces k.run)); answer = b });
       }
 
   pub going_refused : {f g h : F} {text bytes : List ℕ} {w w' : Walk} (e : E) → Going f text w g → Takes w bytes w' → step g bytes (Err e) h → Decodes step f (length text) (Good (plain_body text)) (IsBodyEnd text) (Err (WriteError e)) h
@@ -142,10 +142,10 @@ module _ {F E : Type 0} (step : F → List ℕ → Result (Unit {0}) E → F →
       let size = ap length same in
       let within = t.within in
       let last : refusal (k.run ++ call) ≡ Some e = refusal-append k.run call k.accepted in
-      let all : joined (k.run ++ call) ≡ joined k.run ++ bytes = joined-append k.run call ∙ ap (λ x. joined k.run ++ x) (append-nil bytes) in
+      let all : joined_pieces (k.run ++ call) ≡ joined_pieces k.run ++ bytes = joined_pieces-append k.run call ∙ ap (λ x. joined_pieces k.run ++ x) (append-nil bytes) in
       record {
         run = k.run ++ call;
         ran = run-append step k.run call f g h k.ran k.accepted (s, λ e. refl, refl);
         calls = omega arith;
-        gave = match_is_some (refusal (k.run ++ call)) e (HandsOut (Good (plain_body text)) (IsBodyEnd text) (joined (k.run ++ call)) (Err (WriteError e))) (λ e'. IsRefused {A = ℕ} (outcome_bytes (Good (plain_body text))) (joined (k.run ++ call)) e' (Err (WriteError e))) last (record { bytes_begin = (w'.rest, k.body ∙ ap (λ x. joined k.run ++ x) t.rest_is ∙ sym (append_assoc (joined k.run) bytes w'.rest) ∙ ap (λ x. x ++ w'.rest) (sym all)); answer = refl });
+        gave = match_is_some (refusal (k.run ++ call)) e (HandsOut (Good (plain_body text)) (IsBodyEnd text) (joined_pieces (k.run ++ call)) (Err (WriteError e))) (λ e'. IsRefused {A = ℕ} (outcome_bytes (Good (plain_body text))) (joined_pieces (k.run ++ call)) e' (Err (WriteError e))) last (record { bytes_begin = (w'.rest, k.body ∙ ap (λ x. joined_pieces k.run ++ x) t.rest_is ∙ sym (append_assoc (joined_pieces k.run) bytes w'.rest) ∙ ap (λ x. x ++ w'.rest) (sym all)); answer = refl });
       }

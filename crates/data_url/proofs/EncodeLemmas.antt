@@ -9,35 +9,35 @@ use Rattle.std.proofs.lemmas.Grind.{flat_map-append}
 use Rattle.std.proofs.lemmas.List.{append-nil, drop_all, drop_more, length-take-le, nil_from_length, take-take, take_all, take_more}
 use Rattle.std.proofs.lemmas.Str.{IsAscii-append, IsUtf8-from_ascii}
 use Rattle.std.proofs.lemmas.Str.Ascii.{IsAscii-cons, IsAscii-nil}
-use Rattle.data_url.specs.Url.{before, dropped, encoded_byte, in_fragment_set, in_path_set, in_query_set, is_tab_or_newline, percent_encoded}
+use Rattle.data_url.specs.Url.{before, without_tabs_and_newlines, encoded_byte, in_fragment_set, in_path_set, in_query_set, is_tab_or_newline, percent_encoding}
 use Rattle.data_url.specs.Steps.Header.{header_parts, header_text}
 use Rattle.data_url.specs.Steps.Front.{is_plain_path}
 use Rattle.data_url.specs.Steps.Sets.{IsRow, in_set, written}
 use Rattle.data_url.specs.declared.percent.EncodeSet.TheVariants.{Fragment, Path, Query}
 use Rattle.data_url.specs.declared.percent.EncodeSet.{EncodeSet}
-use Rattle.data_url.proofs.UrlLemmas.{before_all, behind-dropped_none, behind_none, dropped-append, dropped_keeps, dropped_nil, dropped_passes}
+use Rattle.data_url.proofs.UrlLemmas.{before_all, behind-dropped_none, behind_none, without_tabs_and_newlines-append, dropped_keeps, dropped_nil, dropped_passes}
 use Rattle.data_url.proofs.RecodedLemmas.{encoded_cons, encoded_nil}
 
 -- what a text is written as
 abbrev pub encoded : (ℕ → Bool) → List ℕ → List ℕ
-encoded p s = percent_encoded p (dropped s)
+encoded p s = percent_encoding p (without_tabs_and_newlines s)
 
 encoded_empty : (p : ℕ → Bool) → encoded p [] ≡ []
-encoded_empty p = ap (percent_encoded p) dropped_nil ∙ encoded_nil p
+encoded_empty p = ap (percent_encoding p) dropped_nil ∙ encoded_nil p
 
 written_first : (p : ℕ → Bool) (b : ℕ) (s : List ℕ) → encoded p (b ∷ s) ≡ written p b ++ encoded p s
 written_first p b s = elim (cases_Bool (is_tab_or_newline b)) [
-  | inl e ↦ ap (percent_encoded p) (dropped_passes b s e) ∙ sym (ap (λ t. t ++ encoded p s) (cond-true (is_tab_or_newline b) [] (encoded_byte p b) e))
-  | inr e ↦ ap (percent_encoded p) (dropped_keeps b s e) ∙ encoded_cons p b (dropped s) ∙ sym (ap (λ t. t ++ encoded p s) (cond-false (is_tab_or_newline b) [] (encoded_byte p b) e))
+  | inl e ↦ ap (percent_encoding p) (dropped_passes b s e) ∙ sym (ap (λ t. t ++ encoded p s) (cond-true (is_tab_or_newline b) [] (encoded_byte p b) e))
+  | inr e ↦ ap (percent_encoding p) (dropped_keeps b s e) ∙ encoded_cons p b (without_tabs_and_newlines s) ∙ sym (ap (λ t. t ++ encoded p s) (cond-false (is_tab_or_newline b) [] (encoded_byte p b) e))
 ]
 
-percent_encoded-append : (p : ℕ → Bool) (s t : List ℕ) → percent_encoded p (s ++ t) ≡ percent_encoded p s ++ percent_encoded p t
-unfolding percent_encoded
-percent_encoded-append p s t = flat_map-append (encoded_byte p) s t
+percent_encoding-append : (p : ℕ → Bool) (s t : List ℕ) → percent_encoding p (s ++ t) ≡ percent_encoding p s ++ percent_encoding p t
+unfolding percent_encoding
+percent_encoding-append p s t = flat_map-append (encoded_byte p) s t
 
 -- a text is written as its two parts are
 pub encoded_cut : (p : ℕ → Bool) (s : List ℕ) (n : ℕ) → encoded p s ≡ encoded p (take n s) ++ encoded p (drop n s)
-encoded_cut p s n = ap (encoded p) (sym (take-append-drop n s)) ∙ ap (percent_encoded p) (dropped-append (take n s) (drop n s)) ∙ percent_encoded-append p (dropped (take n s)) (dropped (drop n s))
+encoded_cut p s n = ap (encoded p) (sym (take-append-drop n s)) ∙ ap (percent_encoding p) (without_tabs_and_newlines-append (take n s) (drop n s)) ∙ percent_encoding-append p (without_tabs_and_newlines (take n s)) (without_tabs_and_newlines (drop n s))
 
 -- Byte by byte
 
@@ -105,12 +105,12 @@ kept_more s i w l n h =
     }
 
 -- a path that is written as it stands is serialised so
-kept_all : (s : List ℕ) (i : ℕ) → KeptTo s i → length s ≤ i → header_text (dropped s) ≡ s
+kept_all : (s : List ℕ) (i : ℕ) → KeptTo s i → length s ≤ i → header_text (without_tabs_and_newlines s) ≡ s
 unfolding header_text
 kept_all s i w l =
     let none = behind-dropped_none 63 refl s (behind_none 63 s (λ k m. w.no_query k (omega arith))) in
-    ap (λ o. header_parts (before 63 (dropped s)) o) none
-    ∙ ap (percent_encoded in_path_set) (before_all 63 (dropped s) none)
+    ap (λ o. header_parts (before 63 (without_tabs_and_newlines s)) o) none
+    ∙ ap (percent_encoding in_path_set) (before_all 63 (without_tabs_and_newlines s) none)
     ∙ sym (wrote_all in_path_set s i (take i s) w.kept l)
     ∙ take_all i s l
 
@@ -143,7 +143,7 @@ kept_to s h (suc i) l =
     let b = h i (omega arith) in
     subst (KeptTo s) (add-one i) (kept_more s i (kept_to s h i (omega arith)) (omega arith) b.no_query b.written_is)
 
-pub plain_serialised : (s : List ℕ) → ((k : ℕ) → k < length s → Plain (get_or s k 0)) → header_text (dropped s) ≡ s
+pub plain_serialised : (s : List ℕ) → ((k : ℕ) → k < length s → Plain (get_or s k 0)) → header_text (without_tabs_and_newlines s) ≡ s
 plain_serialised s h = kept_all s (length s) (kept_to s h (length s) (omega arith)) (omega arith)
 
 -- so many bytes are written up to byte i

@@ -3,7 +3,7 @@ use Rattle.std.proofs.Common.{◌≡◌, ℕ, suc, zero, ◌+◌, ◌%◌, false
 use Rattle.std.specs.List.{filter, list_any}
 use Rattle.std.proofs.lemmas.List.{map-append, length-map, length-replicate}
 use Rattle.std.proofs.lemmas.List.Elements.{filter-append}
-use Rattle.data_url.specs.Base64.{after_groups, decoded, done, first_fault, groups, is_symbol, is_valid, left_padding, left_symbols, left_text, rest_bytes, symbol_value, values}
+use Rattle.data_url.specs.Base64.{after_groups, decoded, complete_bytes, first_fault, groups, is_symbol, is_valid, left_padding, left_symbols, left_text, rest_bytes, symbol_value, values}
 use Rattle.data_url.specs.Laws.{GoesOn, TwoFeeds}
 use Rattle.data_url.specs.Mime.{Every}
 use Rattle.data_url.proofs.PaddingLemmas.{after_groups-append, after_groups-map, any_of_text, before-append, before_fault, before_none, done_is, every_after, fault-append, fault_byte, fault_invalid, fault_none, fault_some, fault_text, groups-append, is_pad, kind_by, kind_is, length_alike, no_fault_valid, pads_of_text, symbols_of_text}
@@ -83,35 +83,35 @@ module _ (a b w : List ℕ) (st : Stands a w) where
       ∙ ap (λ x. min x 3) (sym (length-append (filter is_pad w) (filter is_pad b)))
       ∙ ap (λ x. min (length x) 3) (sym (filter-append is_pad w b))
 
-  done_first : done a ≡ groups (values a)
+  done_first : complete_bytes a ≡ groups (values a)
   done_first = done_is a ∙ ap (λ x. groups (values x)) (before_none a false st.no_fault)
 
   -- the groups of a and then t
-  groups_both : (t : List ℕ) → groups (values (a ++ t)) ≡ done a ++ groups (values (w ++ t))
+  groups_both : (t : List ℕ) → groups (values (a ++ t)) ≡ complete_bytes a ++ groups (values (w ++ t))
   groups_both t =
       ap groups (values-append a t)
       ∙ groups-append (values a) (values t)
       ∙ ap (λ x. x ++ groups (after_groups (values a) ++ values t)) (sym done_first)
-      ∙ ap (λ x. done a ++ groups x) (sym (values_left t))
+      ∙ ap (λ x. complete_bytes a ++ groups x) (sym (values_left t))
 
-  done_both : done (a ++ b) ≡ done a ++ done (w ++ b)
+  done_both : complete_bytes (a ++ b) ≡ complete_bytes a ++ complete_bytes (w ++ b)
   done_both =
       done_is (a ++ b)
       ∙ ap (λ x. groups (values x)) (before-append a b false st.no_fault)
       ∙ groups_both (before_fault (list_any is_pad a) b)
-      ∙ ap (λ s. done a ++ groups (values (w ++ before_fault s b))) (sym st.seen)
-      ∙ ap (λ x. done a ++ groups (values x)) (sym (before-append w b false st.none_left))
-      ∙ ap (λ x. done a ++ x) (sym (done_is (w ++ b)))
+      ∙ ap (λ s. complete_bytes a ++ groups (values (w ++ before_fault s b))) (sym st.seen)
+      ∙ ap (λ x. complete_bytes a ++ groups (values x)) (sym (before-append w b false st.none_left))
+      ∙ ap (λ x. complete_bytes a ++ x) (sym (done_is (w ++ b)))
 
   after_both : after_groups (values (a ++ b)) ≡ after_groups (values (w ++ b))
   after_both = ap after_groups (values-append a b) ∙ after_groups-append (values a) (values b) ∙ ap after_groups (sym (values_left b))
 
-  decoded_both : decoded (a ++ b) ≡ done a ++ decoded (w ++ b)
+  decoded_both : decoded (a ++ b) ≡ complete_bytes a ++ decoded (w ++ b)
   unfolding decoded
   decoded_both =
       ap (λ x. x ++ rest_bytes (after_groups (values (a ++ b)))) (groups_both b)
-      ∙ append_assoc (done a) (groups (values (w ++ b))) (rest_bytes (after_groups (values (a ++ b))))
-      ∙ ap (λ x. done a ++ (groups (values (w ++ b)) ++ rest_bytes x)) after_both
+      ∙ append_assoc (complete_bytes a) (groups (values (w ++ b))) (rest_bytes (after_groups (values (a ++ b))))
+      ∙ ap (λ x. complete_bytes a ++ (groups (values (w ++ b)) ++ rest_bytes x)) after_both
 
   left_both : left_symbols (a ++ b) ≡ left_symbols (w ++ b)
   unfolding left_symbols

@@ -11,7 +11,7 @@ use Rattle.std.proofs.lemmas.List.{drop-append-le, get_or-drop, get_or-map, get_
 use Rattle.std.proofs.lemmas.List.Folds.{prefix_len-append}
 use Rattle.std.proofs.lemmas.List.Sums.{prefix_len-drop_no, prefix_len-le-length, suffix_len-le-length}
 use Rattle.data_url.specs.Url.{without_end, without_front}
-use Rattle.data_url.specs.Fetch.{before_base64, before_last, before_semicolon, before_word, has_base64_suffix, is_space, last, stripped}
+use Rattle.data_url.specs.Fetch.{before_base64, before_last, before_semicolon, before_word, has_base64_suffix, is_space, last, stripped_header}
 use Rattle.data_url.proofs.SuffixLemmas.{no_word, word}
 
 -- Spaces at the ends
@@ -39,8 +39,8 @@ end_behind x q =
     let at : length (x ++ 63 ∷ q) - suffix_len is_space (x ++ 63 ∷ q) ≡ length x + suc (length q - spaces) = ap (λ n. length (x ++ 63 ∷ q) - n) (suffix_stop is_space x q 63 refl) ∙ omega (arith, few, length-append x (63 ∷ q)) in
     ap (λ n. take n (x ++ 63 ∷ q)) at ∙ take-append-add x (63 ∷ q) (suc (length q - spaces))
 
-stripped_behind : (x q : List ℕ) → stripped (x ++ 63 ∷ q) ≡ drop (prefix_len is_space (x ++ 63 ∷ q)) x ++ 63 ∷ without_end is_space q
-unfolding stripped
+stripped_behind : (x q : List ℕ) → stripped_header (x ++ 63 ∷ q) ≡ drop (prefix_len is_space (x ++ 63 ∷ q)) x ++ 63 ∷ without_end is_space q
+unfolding stripped_header
 stripped_behind x q =
     let n = prefix_len is_space (x ++ 63 ∷ q) in
     ap (without_end is_space) (drop-append-le n x (63 ∷ q) (front_stop is_space x q 63 refl)) ∙ end_behind (drop n x) q

@@ -8,7 +8,7 @@ use Rattle.std.specs.List.{prefix_len, suffix_len}
 use Rattle.std.specs.Str.{bytes_eq}
 use Rattle.std.proofs.lemmas.Bool.{agree_below_at, and_parts, both_ways, cond-false, cond_both, false_from_ne_true, leb-true}
 use Rattle.std.proofs.lemmas.List.{reverse-append, take_all}
-use Rattle.data_url.specs.Url.{after_scheme, before, behind, cleaned, dropped, encoded_byte, encoded_path, fragment, front, hex_digit, in_fragment_set, is_c0_control_or_space, is_tab_or_newline, percent_encoded, serialised, trimmed, without_end}
+use Rattle.data_url.specs.Url.{after_scheme, before, behind, cleaned_text, without_tabs_and_newlines, encoded_byte, encoded_path, fragment, front, hex_digit, in_fragment_set, is_c0_control_or_space, is_tab_or_newline, percent_encoding, serialised, trimmed_text, without_end}
 use Rattle.data_url.specs.Fetch.{before_comma, encoded_body, header_of, staged, staged_after, staged_fragment, staged_front, staged_parts}
 use Rattle.data_url.specs.Laws.{IsReadAgain, is_fragment_byte}
 use Rattle.data_url.specs.Mime.{Every}
@@ -29,9 +29,9 @@ byte_encoded b l = cond_both (in_fragment_set b) (37 ∷ hex_digit (b / 16) ∷ 
     (λ e. (refl, (digit_byte (b / 16) (omega arith), (digit_byte (b % 16) (omega arith), tt))))
     (λ e. (outside_set b l e, tt))
 
-pub fragment_bytes : (s : List ℕ) → IsBytes s → Every is_fragment_byte (percent_encoded in_fragment_set s)
+pub fragment_bytes : (s : List ℕ) → IsBytes s → Every is_fragment_byte (percent_encoding in_fragment_set s)
 fragment_bytes [] h = subst (Every is_fragment_byte) (sym (encoded_nil in_fragment_set)) tt
-fragment_bytes (b ∷ s) h = subst (Every is_fragment_byte) (sym (encoded_cons in_fragment_set b s)) (every_append is_fragment_byte (encoded_byte in_fragment_set b) (percent_encoded in_fragment_set s) (byte_encoded b h.0) (fragment_bytes s h.1))
+fragment_bytes (b ∷ s) h = subst (Every is_fragment_byte) (sym (encoded_cons in_fragment_set b s)) (every_append is_fragment_byte (encoded_byte in_fragment_set b) (percent_encoding in_fragment_set s) (byte_encoded b h.0) (fragment_bytes s h.1))
 
 -- Such bytes stay as they are
 
@@ -56,14 +56,14 @@ not_low b h = excluded is_c0_control_or_space b (agree_below_at (excludes is_c0_
 not_dropped : (b : ℕ) → is_fragment_byte b ≡ true → is_tab_or_newline b ≡ false
 not_dropped b h = excluded is_tab_or_newline b (agree_below_at (excludes is_tab_or_newline) (λ c. true) 256 b refl (byte_below b h)) h
 
-encoded_itself : (x : List ℕ) → Every is_fragment_byte x → percent_encoded in_fragment_set x ≡ x
+encoded_itself : (x : List ℕ) → Every is_fragment_byte x → percent_encoding in_fragment_set x ≡ x
 encoded_itself [] h = encoded_nil in_fragment_set
 encoded_itself (b ∷ x) h =
     encoded_cons in_fragment_set b x
-    ∙ ap (λ t. t ++ percent_encoded in_fragment_set x) (cond-false (in_fragment_set b) (37 ∷ hex_digit (b / 16) ∷ hex_digit (b % 16) ∷ []) (b ∷ []) (not_in_set b h.0))
+    ∙ ap (λ t. t ++ percent_encoding in_fragment_set x) (cond-false (in_fragment_set b) (37 ∷ hex_digit (b / 16) ∷ hex_digit (b % 16) ∷ []) (b ∷ []) (not_in_set b h.0))
     ∙ ap (λ t. b ∷ t) (encoded_itself x h.1)
 
-dropped_itself : (t : List ℕ) → Every is_fragment_byte t → dropped t ≡ t
+dropped_itself : (t : List ℕ) → Every is_fragment_byte t → without_tabs_and_newlines t ≡ t
 dropped_itself [] h = dropped_nil
 dropped_itself (b ∷ t) h = dropped_keeps b t (not_dropped b h.0) ∙ ap (λ s. b ∷ s) (dropped_itself t h.1)
 
@@ -78,27 +78,27 @@ every_reverse (b ∷ t) h = subst (Every is_fragment_byte) (sym (reverse-append 
 no_low_end : (t : List ℕ) → Every is_fragment_byte t → suffix_len is_c0_control_or_space t ≡ 0
 no_low_end t h = no_low_front (reverse t) (every_reverse t h)
 
-trimmed_itself : (t : List ℕ) → Every is_fragment_byte t → trimmed t ≡ t
-unfolding trimmed
+trimmed_itself : (t : List ℕ) → Every is_fragment_byte t → trimmed_text t ≡ t
+unfolding trimmed_text
 trimmed_itself t h =
     ap (without_end is_c0_control_or_space) (ap (λ n. drop n t) (no_low_front t h))
     ∙ ap (λ n. take (length t - n) t) (no_low_end t h)
     ∙ take_all (length t - 0) t (omega arith)
 
-cleaned_itself : (t : List ℕ) → Every is_fragment_byte t → cleaned t ≡ t
-unfolding cleaned
-cleaned_itself t h = ap dropped (trimmed_itself t h) ∙ dropped_itself t h
+cleaned_itself : (t : List ℕ) → Every is_fragment_byte t → cleaned_text t ≡ t
+unfolding cleaned_text
+cleaned_itself t h = ap without_tabs_and_newlines (trimmed_itself t h) ∙ dropped_itself t h
 
 -- The stages of the text
 
-after_data : (t x : List ℕ) → cleaned t ≡ codes "data:,#" ++ x → after_scheme t ≡ Some (44 ∷ 35 ∷ x)
+after_data : (t x : List ℕ) → cleaned_text t ≡ codes "data:,#" ++ x → after_scheme t ≡ Some (44 ∷ 35 ∷ x)
 unfolding after_scheme
 after_data t x h =
     let P : List ℕ → Type 0 = λ s. cond (bytes_eq (map to_ascii_lowercase (take 5 s)) (codes "data:")) (Some (drop 5 s)) None ≡ Some (44 ∷ 35 ∷ x) in
     subst P (sym h) refl
 
 front_comma : (x : List ℕ) → serialised (front (44 ∷ 35 ∷ x)) ≡ 44 ∷ []
-unfolding front before behind serialised encoded_path percent_encoded
+unfolding front before behind serialised encoded_path percent_encoding
 front_comma x = refl
 
 fragment_behind : (x : List ℕ) → fragment (44 ∷ 35 ∷ x) ≡ Some x
@@ -117,7 +117,7 @@ body_empty : (t : List ℕ) → staged_front t ≡ Some (44 ∷ []) → encoded_
 unfolding encoded_body behind
 body_empty t h = ap (option_and_then (behind 44)) h
 
-staged_again : (t x : List ℕ) → after_scheme t ≡ Some (44 ∷ 35 ∷ x) → staged_fragment (staged t) ≡ Some (percent_encoded in_fragment_set x)
+staged_again : (t x : List ℕ) → after_scheme t ≡ Some (44 ∷ 35 ∷ x) → staged_fragment (staged t) ≡ Some (percent_encoding in_fragment_set x)
 unfolding staged
 staged_again t x h =
     let f = front_of_comma t x h in

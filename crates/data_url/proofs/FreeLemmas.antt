@@ -6,13 +6,13 @@ use Rattle.std.proofs.lemmas.Bool.{agree_below_at, cases_lt, eqb-true, or_cases,
 use Rattle.std.proofs.lemmas.List.{drop_more, length-drop, length-map, length-take-le, take_rest, take-take}
 use Rattle.std.proofs.lemmas.List.Elements.{filter-append}
 use Rattle.std.proofs.lemmas.Simd.{map-map, mask_l-mod, none_from_empty_mask, tops_compared, zip2_splat}
-use Rattle.data_url.specs.Base64.{compact}
+use Rattle.data_url.specs.Base64.{without_whitespace}
 use Rattle.std.specs.Char.{is_ascii_whitespace}
 use Rattle.data_url.specs.Fetch.{plain_body}
 use Rattle.data_url.specs.Pieces.{Walk}
 use Rattle.data_url.specs.Url.{behind, is_tab_or_newline}
 use Rattle.data_url.specs.Steps.Chunks.{IsBase64Chunk, IsChunk, chunk_bytes}
-use Rattle.data_url.specs.Steps.Looks.{paid}
+use Rattle.data_url.specs.Steps.Looks.{paid_looks}
 use Rattle.data_url.specs.Steps.Walk.{IsClear, IsFreeTo, Knows, Looking, LooksOn, ReadsSpaced, Spans, Stays, text_of, walk_of}
 use Rattle.data_url.specs.Steps.Window.{IsFree, is_marked, is_stop}
 use Rattle.data_url.specs.declared.escapes.Chunk.{Chunk}
@@ -129,27 +129,27 @@ not_percent false true e = absurd (let k : true ≡ false = e in cc)
 not_percent false false e = refl
 
 -- bytes that are no '%' pay for a look each
-paid_for : (text : List ℕ) (seen from n : ℕ) → from + n ≤ length text → IsFree text from (from + n) → paid text seen (from + n) ≡ paid text seen from + n
+paid_for : (text : List ℕ) (seen from n : ℕ) → from + n ≤ length text → IsFree text from (from + n) → paid_looks text seen (from + n) ≡ paid_looks text seen from + n
 paid_for text seen from zero l h =
     let e : from + zero ≡ from = omega arith in
-    let k : paid text seen (from + zero) ≡ paid text seen from = ap (paid text seen) e in
+    let k : paid_looks text seen (from + zero) ≡ paid_looks text seen from = ap (paid_looks text seen) e in
     omega arith
 paid_for text seen from (suc n) l h =
     let b = get_or text from 0 in
     let first = paid_byte text seen from (omega arith) (not_percent (b == 35) (b == 37) (h from (omega arith) (omega arith))) in
     let more = paid_for text seen (from + 1) n (omega arith) (λ i a c. h i (omega arith) (omega arith)) in
     let k : from + 1 + n ≡ from + suc n = omega arith in
-    let e = ap (paid text seen) k in
+    let e = ap (paid_looks text seen) k in
     omega arith
 
-pub paid_free : (text : List ℕ) (seen from to : ℕ) → IsFreeTo text from to → paid text seen to ≡ paid text seen from + (to - from)
+pub paid_free : (text : List ℕ) (seen from to : ℕ) → IsFreeTo text from to → paid_looks text seen to ≡ paid_looks text seen from + (to - from)
 paid_free text seen from to f =
     let l = f.forward in
     let w = f.within in
     let e : from + (to - from) ≡ to = omega arith in
     let F : ℕ → Type 0 = λ t. IsFree text from t in
     let k = paid_for text seen from (to - from) (omega arith) (subst F (sym e) f.free) in
-    ap (paid text seen) (sym e) ∙ k
+    ap (paid_looks text seen) (sym e) ∙ k
 
 -- a walk that looked at a block without '#' and '%', and goes on behind it
 pub looking_free : {c c' : Cursor} {place : ℕ} (end : ℕ) → Looking c place 0 → c'.base ≡ c.base → c'.seen ≡ c.seen → c'.marks ≡ c.marks → text_of c' ≡ text_of c → c'.source.looks ≡ c.source.looks + (end - place) → IsFreeTo (text_of c) place end → Looking c' end 0
@@ -159,7 +159,7 @@ looking_free {c} {c'} {place} end k eb es em et el f =
     let b = k.base_le in
     let m = k.looks_are_paid in
     let t : length (text_of c') ≡ length (text_of c) = ap length et in
-    let q : paid (text_of c') c'.seen end ≡ paid (text_of c) c.seen end = ap (λ x. paid x c'.seen end) et ∙ ap (λ s. paid (text_of c) s end) es in
+    let q : paid_looks (text_of c') c'.seen end ≡ paid_looks (text_of c) c.seen end = ap (λ x. paid_looks x c'.seen end) et ∙ ap (λ s. paid_looks (text_of c) s end) es in
     record {
       block = record {
         base_le = let x = k.block.base_le in omega arith;
@@ -178,7 +178,7 @@ pub looking_block : {c c' : Cursor} {place : ℕ} (end : ℕ) → Looking c plac
 looking_block {c} {c'} {place} end k u l w s eb es em et el =
     let m = k.looks_are_paid in
     let t : length (text_of c') ≡ length (text_of c) = ap length et in
-    let q : paid (text_of c') c'.seen place ≡ paid (text_of c) end place = ap (λ x. paid x c'.seen place) et ∙ ap (λ s. paid (text_of c) s place) es in
+    let q : paid_looks (text_of c') c'.seen place ≡ paid_looks (text_of c) end place = ap (λ x. paid_looks x c'.seen place) et ∙ ap (λ s. paid_looks (text_of c) s place) es in
     record {
       block = record {
         base_le = omega arith;
@@ -220,9 +220,9 @@ free_on {text} {same} {from} {place} {end} f e h =
 
 -- Reading
 
-compact_kept : (b : ℕ) (x y z : List ℕ) → compact x ≡ compact y ++ compact z → compact (b ∷ x) ≡ compact (b ∷ y) ++ compact z
-unfolding compact
-compact_kept b x y z h = elim (is_ascii_whitespace b) as (λ v. cond (not v) (b ∷ compact x) (compact x) ≡ cond (not v) (b ∷ compact y) (compact y) ++ compact z) [ true ↦ h | false ↦ ap (λ t. b ∷ t) h ]
+compact_kept : (b : ℕ) (x y z : List ℕ) → without_whitespace x ≡ without_whitespace y ++ without_whitespace z → without_whitespace (b ∷ x) ≡ without_whitespace (b ∷ y) ++ without_whitespace z
+unfolding without_whitespace
+compact_kept b x y z h = elim (is_ascii_whitespace b) as (λ v. cond (not v) (b ∷ without_whitespace x) (without_whitespace x) ≡ cond (not v) (b ∷ without_whitespace y) (without_whitespace y) ++ without_whitespace z) [ true ↦ h | false ↦ ap (λ t. b ∷ t) h ]
 
 white_tab : (b : ℕ) → is_tab_or_newline b ≡ true → is_ascii_whitespace b ≡ true
 white_tab b h =
@@ -234,40 +234,40 @@ white_tab b h =
       ]
     ]
 
-compact_passed : (b : ℕ) (y : List ℕ) → is_tab_or_newline b ≡ true → compact (b ∷ y) ≡ compact y
-unfolding compact
-compact_passed b y h = ap (λ v. cond (not v) (b ∷ compact y) (compact y)) (white_tab b h)
+compact_passed : (b : ℕ) (y : List ℕ) → is_tab_or_newline b ≡ true → without_whitespace (b ∷ y) ≡ without_whitespace y
+unfolding without_whitespace
+compact_passed b y h = ap (λ v. cond (not v) (b ∷ without_whitespace y) (without_whitespace y)) (white_tab b h)
 
 hash_no : (h p : Bool) → (h || p) ≡ false → (h ≡ false) × (p ≡ false)
 hash_no true p e = absurd (let k : true ≡ false = e in cc)
 hash_no false p e = (refl, e)
 
 -- one byte
-body_byte : (b : ℕ) (s y z : List ℕ) → is_stop b ≡ false → compact (plain_body s) ≡ compact y ++ compact z → compact (plain_body (b ∷ s)) ≡ compact (b ∷ y) ++ compact z
+body_byte : (b : ℕ) (s y z : List ℕ) → is_stop b ≡ false → without_whitespace (plain_body s) ≡ without_whitespace y ++ without_whitespace z → without_whitespace (plain_body (b ∷ s)) ≡ without_whitespace (b ∷ y) ++ without_whitespace z
 body_byte b s y z n h =
     let p = hash_no (b == 35) (b == 37) n in
-    elim (is_tab_or_newline b) as (λ v. is_tab_or_newline b ≡ v → compact (plain_body (b ∷ s)) ≡ compact (b ∷ y) ++ compact z) [
-      | true ↦ λ e. ap compact (body_passes b s e) ∙ h ∙ ap (λ t. t ++ compact z) (sym (compact_passed b y e))
-      | false ↦ λ e. ap compact (body_keeps b s e p.0 p.1) ∙ compact_kept b (plain_body s) y z h
+    elim (is_tab_or_newline b) as (λ v. is_tab_or_newline b ≡ v → without_whitespace (plain_body (b ∷ s)) ≡ without_whitespace (b ∷ y) ++ without_whitespace z) [
+      | true ↦ λ e. ap without_whitespace (body_passes b s e) ∙ h ∙ ap (λ t. t ++ without_whitespace z) (sym (compact_passed b y e))
+      | false ↦ λ e. ap without_whitespace (body_keeps b s e p.0 p.1) ∙ compact_kept b (plain_body s) y z h
     ] refl
 
-compact_nil : (z : List ℕ) → compact z ≡ compact [] ++ compact z
-unfolding compact
+compact_nil : (z : List ℕ) → without_whitespace z ≡ without_whitespace [] ++ without_whitespace z
+unfolding without_whitespace
 compact_nil z = refl
 
-spaced_for : (text : List ℕ) (from n : ℕ) → from + n ≤ length text → IsFree text from (from + n) → (compact (plain_body (drop from text)) ≡ compact (take n (drop from text)) ++ compact (plain_body (drop (from + n) text))) × (behind 35 (drop from text) ≡ behind 35 (drop (from + n) text))
+spaced_for : (text : List ℕ) (from n : ℕ) → from + n ≤ length text → IsFree text from (from + n) → (without_whitespace (plain_body (drop from text)) ≡ without_whitespace (take n (drop from text)) ++ without_whitespace (plain_body (drop (from + n) text))) × (behind 35 (drop from text) ≡ behind 35 (drop (from + n) text))
 spaced_for text from zero l h =
     let e : from ≡ from + zero = omega arith in
-    (compact_nil (plain_body (drop from text)) ∙ ap (λ k. compact [] ++ compact (plain_body (drop k text))) e, ap (λ k. behind 35 (drop k text)) e)
+    (compact_nil (plain_body (drop from text)) ∙ ap (λ k. without_whitespace [] ++ without_whitespace (plain_body (drop k text))) e, ap (λ k. behind 35 (drop k text)) e)
 spaced_for text from (suc n) l h =
     let b = get_or text from 0 in
     let here : drop from text ≡ b ∷ drop (from + 1) text = drop_more text from 0 (omega arith) in
     let no = h from (omega arith) (omega arith) in
     let more = spaced_for text (from + 1) n (omega arith) (λ i x y. h i (omega arith) (omega arith)) in
     let k : from + 1 + n ≡ from + suc n = omega arith in (
-      ap (λ t. compact (plain_body t)) here
+      ap (λ t. without_whitespace (plain_body t)) here
           ∙ body_byte b (drop (from + 1) text) (take n (drop (from + 1) text)) (plain_body (drop (from + 1 + n) text)) no more.0
-          ∙ ap₂ (λ x y. compact x ++ compact (plain_body (drop y text))) (sym (ap (take (suc n)) here)) k,
+          ∙ ap₂ (λ x y. without_whitespace x ++ without_whitespace (plain_body (drop y text))) (sym (ap (take (suc n)) here)) k,
       ap (behind 35) here ∙ behind_other 35 b (drop (from + 1) text) (hash_no (b == 35) (b == 37) no).0 ∙ more.1 ∙ ap (λ i. behind 35 (drop i text)) k,
     )
 
@@ -281,7 +281,7 @@ reads_free {text} {from} {to} f =
     record {
       forward = l;
       within = w;
-      body = r.0 ∙ ap (λ k. compact (slice_range text from to) ++ compact (plain_body (drop k text))) e;
+      body = r.0 ∙ ap (λ k. without_whitespace (slice_range text from to) ++ without_whitespace (plain_body (drop k text))) e;
       behind_is = r.1 ∙ ap (λ k. behind 35 (drop k text)) e;
     }
 
@@ -306,9 +306,9 @@ span_is {c} {c1} end s f n e =
 
 -- Chunks
 
-pub compact-append : (a b : List ℕ) → compact (a ++ b) ≡ compact a ++ compact b
-unfolding compact
-compact-append a b = filter-append (λ c. not (is_ascii_whitespace c)) a b
+pub without_whitespace-append : (a b : List ℕ) → without_whitespace (a ++ b) ≡ without_whitespace a ++ without_whitespace b
+unfolding without_whitespace
+without_whitespace-append a b = filter-append (λ c. not (is_ascii_whitespace c)) a b
 
 -- a stretch of the text
 pub chunk_span : {c c' : Cursor} {room : List ℕ} (slice : Bor (List ℕ)) → Spans c (Some slice) c' → IsBase64Chunk (walk_of c) room (chunk.Slice slice) (walk_of c')
@@ -322,7 +322,7 @@ chunk_span {c} {c'} slice s =
     let n = s.gave.1 in
     record {
       text_stays = text;
-      bytes = r.body ∙ ap₂ (λ x y. compact x ++ compact (plain_body (drop c'.place y))) (sym s.gave.2) (sym text);
+      bytes = r.body ∙ ap₂ (λ x y. without_whitespace x ++ without_whitespace (plain_body (drop c'.place y))) (sym s.gave.2) (sym text);
       rest_is = refl;
       place = omega arith;
       within = omega arith;
@@ -338,9 +338,9 @@ chunk_spaced {c} {c1} {w'} {room} {given} s h =
     record {
       text_stays = h.text_stays ∙ text;
       bytes =
-          ap₂ (λ x y. compact (plain_body (drop x y))) (sym p) (sym text)
-          ∙ ap compact h.bytes
-          ∙ compact-append (chunk_bytes room given) w'.rest;
+          ap₂ (λ x y. without_whitespace (plain_body (drop x y))) (sym p) (sym text)
+          ∙ ap without_whitespace h.bytes
+          ∙ without_whitespace-append (chunk_bytes room given) w'.rest;
       rest_is = h.rest_is;
       place = omega arith;
       within = h.within;

@@ -7,12 +7,12 @@ use Rattle.std.specs.Str.{bytes_eq}
 use Rattle.std.proofs.lemmas.Bool.{cases_Bool, cond-true, cond-false, both_ways, ne_eqb}
 use Rattle.std.proofs.lemmas.List.{drop_at, length-map, take_at}
 use Rattle.std.proofs.lemmas.Slice.Eq.{bytes_eq-Decides}
-use Rattle.data_url.specs.Url.{after_scheme, before, behind, cleaned, dropped, fragment, front, is_tab_or_newline, serialised, trimmed}
-use Rattle.data_url.specs.Percent.{percent_decoded}
+use Rattle.data_url.specs.Url.{after_scheme, before, behind, cleaned_text, without_tabs_and_newlines, fragment, front, is_tab_or_newline, serialised, trimmed_text}
+use Rattle.data_url.specs.Percent.{percent_decoding}
 use Rattle.data_url.specs.Fetch.{before_comma, encoded_body, header_of, staged_front, tail_of}
 use Rattle.data_url.specs.Steps.Front.{HasNoScheme, IsHeaderAndTail, IsSchemeAndRest}
 use Rattle.data_url.specs.Steps.Header.{header_text}
-use Rattle.data_url.proofs.UrlLemmas.{before-append, before_at, before_nil, before_other, before_same, behind-append, behind-dropped_none, behind_at, behind_nil, behind_other, dropped-append, dropped_around, dropped_keeps, dropped_nil, dropped_passes, lacks}
+use Rattle.data_url.proofs.UrlLemmas.{before-append, before_at, before_nil, before_other, before_same, behind-append, behind-dropped_none, behind_at, behind_nil, behind_other, without_tabs_and_newlines-append, dropped_around, dropped_keeps, dropped_nil, dropped_passes, lacks}
 use Rattle.data_url.proofs.RecodedLemmas.{IsBytes, Recoded, RecodedTails, before-serialised, recoded-decoded, recoded_tails, serialised_recoded}
 
 -- Bytes
@@ -21,7 +21,7 @@ pub bytes_append : (a b : List ℕ) → IsBytes (a ++ b) → IsBytes a × IsByte
 bytes_append [] b h = (tt, h)
 bytes_append (x ∷ a) b h = let k = bytes_append a b h.1 in ((h.0, k.0), k.1)
 
-pub bytes_dropped : (s : List ℕ) → IsBytes s → IsBytes (dropped s)
+pub bytes_dropped : (s : List ℕ) → IsBytes s → IsBytes (without_tabs_and_newlines s)
 bytes_dropped [] h = subst IsBytes (sym dropped_nil) tt
 bytes_dropped (b ∷ s) h = elim (cases_Bool (is_tab_or_newline b)) [
   | inl e ↦ subst IsBytes (sym (dropped_passes b s e)) (bytes_dropped s h.1)
@@ -42,14 +42,14 @@ lacks_comma : (d : List ℕ) → behind 44 (map to_ascii_lowercase d) ≡ None �
 lacks_comma [] h = h
 lacks_comma (b ∷ d) h = let l = lacks 44 (to_ascii_lowercase b) (map to_ascii_lowercase d) h in behind_other 44 b d (lowercase_comma b l.here) ∙ lacks_comma d l.behind_it
 
-lacks_before_dropping : (c : ℕ) → is_tab_or_newline c ≡ false → (s : List ℕ) → behind c (dropped s) ≡ None → behind c s ≡ None
+lacks_before_dropping : (c : ℕ) → is_tab_or_newline c ≡ false → (s : List ℕ) → behind c (without_tabs_and_newlines s) ≡ None → behind c s ≡ None
 lacks_before_dropping c k [] h = behind_nil c
 lacks_before_dropping c k (b ∷ s) h = elim (cases_Bool (is_tab_or_newline b)) [
   | inl e ↦
       let other : (b == c) ≡ false = ne_eqb b c (λ (f : b ≡ c). both_ways (is_tab_or_newline b) (ap is_tab_or_newline f ∙ k) e) in
       behind_other c b s other ∙ lacks_before_dropping c k s (sym (ap (behind c) (dropped_passes b s e)) ∙ h)
   | inr e ↦
-      let l = lacks c b (dropped s) (sym (ap (behind c) (dropped_keeps b s e)) ∙ h) in
+      let l = lacks c b (without_tabs_and_newlines s) (sym (ap (behind c) (dropped_keeps b s e)) ∙ h) in
       behind_other c b s l.here ∙ lacks_before_dropping c k s l.behind_it
 ]
 
@@ -57,45 +57,45 @@ abbrev scheme_lacks : behind 44 (codes "data:") ≡ None
 unfolding behind
 scheme_lacks = refl
 
-pub scheme_has_no_comma : (scheme : List ℕ) → map to_ascii_lowercase (dropped scheme) ≡ codes "data:" → behind 44 scheme ≡ None
-scheme_has_no_comma scheme e = lacks_before_dropping 44 refl scheme (lacks_comma (dropped scheme) (ap (behind 44) e ∙ scheme_lacks))
+pub scheme_has_no_comma : (scheme : List ℕ) → map to_ascii_lowercase (without_tabs_and_newlines scheme) ≡ codes "data:" → behind 44 scheme ≡ None
+scheme_has_no_comma scheme e = lacks_before_dropping 44 refl scheme (lacks_comma (without_tabs_and_newlines scheme) (ap (behind 44) e ∙ scheme_lacks))
 
 -- Behind the scheme
 
-scheme_length : (scheme : List ℕ) → map to_ascii_lowercase (dropped scheme) ≡ codes "data:" → length (dropped scheme) ≡ 5
-scheme_length scheme e = sym (length-map (dropped scheme) to_ascii_lowercase) ∙ ap length e
+scheme_length : (scheme : List ℕ) → map to_ascii_lowercase (without_tabs_and_newlines scheme) ≡ codes "data:" → length (without_tabs_and_newlines scheme) ≡ 5
+scheme_length scheme e = sym (length-map (without_tabs_and_newlines scheme) to_ascii_lowercase) ∙ ap length e
 
-pub after_is : (t rest : List ℕ) (h : IsSchemeAndRest (trimmed t) rest) → after_scheme t ≡ Some (dropped rest)
-unfolding after_scheme cleaned
+pub after_is : (t rest : List ℕ) (h : IsSchemeAndRest (trimmed_text t) rest) → after_scheme t ≡ Some (without_tabs_and_newlines rest)
+unfolding after_scheme cleaned_text
 after_is t rest h =
-    let parts : dropped (trimmed t) ≡ dropped h.scheme ++ dropped rest = ap dropped h.joined ∙ dropped-append h.scheme rest in
+    let parts : without_tabs_and_newlines (trimmed_text t) ≡ without_tabs_and_newlines h.scheme ++ without_tabs_and_newlines rest = ap without_tabs_and_newlines h.joined ∙ without_tabs_and_newlines-append h.scheme rest in
     let five = scheme_length h.scheme h.spelled in
-    let first : map to_ascii_lowercase (take 5 (dropped (trimmed t))) ≡ codes "data:" = ap (λ s. map to_ascii_lowercase (take 5 s)) parts ∙ ap (map to_ascii_lowercase) (take_at (dropped h.scheme) (dropped rest) 5 five) ∙ h.spelled in
-    let others : drop 5 (dropped (trimmed t)) ≡ dropped rest = ap (drop 5) parts ∙ drop_at (dropped h.scheme) (dropped rest) 5 five in
-    cond-true (bytes_eq (map to_ascii_lowercase (take 5 (dropped (trimmed t)))) (codes "data:")) (Some (drop 5 (dropped (trimmed t)))) None ((bytes_eq-Decides (map to_ascii_lowercase (take 5 (dropped (trimmed t)))) (codes "data:")).1 first)
+    let first : map to_ascii_lowercase (take 5 (without_tabs_and_newlines (trimmed_text t))) ≡ codes "data:" = ap (λ s. map to_ascii_lowercase (take 5 s)) parts ∙ ap (map to_ascii_lowercase) (take_at (without_tabs_and_newlines h.scheme) (without_tabs_and_newlines rest) 5 five) ∙ h.spelled in
+    let others : drop 5 (without_tabs_and_newlines (trimmed_text t)) ≡ without_tabs_and_newlines rest = ap (drop 5) parts ∙ drop_at (without_tabs_and_newlines h.scheme) (without_tabs_and_newlines rest) 5 five in
+    cond-true (bytes_eq (map to_ascii_lowercase (take 5 (without_tabs_and_newlines (trimmed_text t)))) (codes "data:")) (Some (drop 5 (without_tabs_and_newlines (trimmed_text t)))) None ((bytes_eq-Decides (map to_ascii_lowercase (take 5 (without_tabs_and_newlines (trimmed_text t)))) (codes "data:")).1 first)
     ∙ ap (λ (s : List ℕ). Some s) others
 
-pub after_none : (t : List ℕ) → HasNoScheme (trimmed t) → after_scheme t ≡ None
-unfolding after_scheme cleaned
-after_none t h = cond-false (bytes_eq (map to_ascii_lowercase (take 5 (dropped (trimmed t)))) (codes "data:")) (Some (drop 5 (dropped (trimmed t)))) None h
+pub after_none : (t : List ℕ) → HasNoScheme (trimmed_text t) → after_scheme t ≡ None
+unfolding after_scheme cleaned_text
+after_none t h = cond-false (bytes_eq (map to_ascii_lowercase (take 5 (without_tabs_and_newlines (trimmed_text t)))) (codes "data:")) (Some (drop 5 (without_tabs_and_newlines (trimmed_text t)))) None h
 
 -- Header, body and fragment
 
 -- what stands behind a scheme, cut at its first comma
 pub record IsStaged (rest header tail : List ℕ) : Type 0 where
-  pub front_is : front (dropped rest) ≡ dropped header ++ 44 ∷ front (dropped tail)
-  pub lacks_comma : behind 44 (dropped header) ≡ None
-  pub fragment_is : fragment (dropped rest) ≡ fragment (dropped tail)
+  pub front_is : front (without_tabs_and_newlines rest) ≡ without_tabs_and_newlines header ++ 44 ∷ front (without_tabs_and_newlines tail)
+  pub lacks_comma : behind 44 (without_tabs_and_newlines header) ≡ None
+  pub fragment_is : fragment (without_tabs_and_newlines rest) ≡ fragment (without_tabs_and_newlines tail)
 
 pub is_staged : (rest header tail : List ℕ) → IsHeaderAndTail rest header tail → IsStaged rest header tail
 unfolding front fragment
 is_staged rest header tail h =
-    let parts : dropped rest ≡ dropped header ++ 44 ∷ dropped tail = ap dropped h.joined ∙ dropped_around 44 refl header tail in
+    let parts : without_tabs_and_newlines rest ≡ without_tabs_and_newlines header ++ 44 ∷ without_tabs_and_newlines tail = ap without_tabs_and_newlines h.joined ∙ dropped_around 44 refl header tail in
     let no_hash = behind-dropped_none 35 refl header h.no_fragment in
     record {
-      front_is = ap (before 35) parts ∙ before-append 35 (dropped header) (44 ∷ dropped tail) no_hash ∙ ap (λ s. dropped header ++ s) (before_other 35 44 (dropped tail) refl);
+      front_is = ap (before 35) parts ∙ before-append 35 (without_tabs_and_newlines header) (44 ∷ without_tabs_and_newlines tail) no_hash ∙ ap (λ s. without_tabs_and_newlines header ++ s) (before_other 35 44 (without_tabs_and_newlines tail) refl);
       lacks_comma = behind-dropped_none 44 refl header h.no_comma;
-      fragment_is = ap (behind 35) parts ∙ behind-append 35 (dropped header) (44 ∷ dropped tail) no_hash ∙ behind_other 35 44 (dropped tail) refl;
+      fragment_is = ap (behind 35) parts ∙ behind-append 35 (without_tabs_and_newlines header) (44 ∷ without_tabs_and_newlines tail) no_hash ∙ behind_other 35 44 (without_tabs_and_newlines tail) refl;
     }
 
 pub front_of : (t a : List ℕ) → after_scheme t ≡ Some a → staged_front t ≡ Some (serialised (front a))
@@ -118,28 +118,28 @@ has_tail s header t b e h = has_tail_of (behind 44 (serialised s)) (serialised s
 -- the stages of a text that is accepted, by its raw header and tail
 pub record IsAccepted (t header tail : List ℕ) : Type 0 where
   pub body : List ℕ
-  pub header_is : header_of t ≡ Some (header_text (dropped header))
+  pub header_is : header_of t ≡ Some (header_text (without_tabs_and_newlines header))
   pub body_is : encoded_body t ≡ Some body
-  pub decoded_is : percent_decoded body ≡ percent_decoded (front (dropped tail))
+  pub decoded_is : percent_decoding body ≡ percent_decoding (front (without_tabs_and_newlines tail))
   pub tail_is : tail_of t ≡ Some tail
 
-tail_is_of : (t rest header tail : List ℕ) → IsSchemeAndRest (trimmed t) rest → IsHeaderAndTail rest header tail → tail_of t ≡ Some tail
+tail_is_of : (t rest header tail : List ℕ) → IsSchemeAndRest (trimmed_text t) rest → IsHeaderAndTail rest header tail → tail_of t ≡ Some tail
 unfolding tail_of
 tail_is_of t rest header tail s h =
     ap (behind 44) (s.joined ∙ ap (λ r. s.scheme ++ r) h.joined)
     ∙ behind-append 44 s.scheme (header ++ 44 ∷ tail) (scheme_has_no_comma s.scheme s.spelled)
     ∙ behind_at 44 header tail h.no_comma
 
-pub is_accepted : (t rest header tail : List ℕ) → IsBytes rest → IsSchemeAndRest (trimmed t) rest → IsHeaderAndTail rest header tail → IsAccepted t header tail
+pub is_accepted : (t rest header tail : List ℕ) → IsBytes rest → IsSchemeAndRest (trimmed_text t) rest → IsHeaderAndTail rest header tail → IsAccepted t header tail
 unfolding header_of encoded_body front
 is_accepted t rest header tail b s h =
     let staged = is_staged rest header tail h in
-    let f = front_of t (dropped rest) (after_is t rest s) in
-    let bytes = bytes_before 35 (dropped rest) (bytes_dropped rest b) in
-    let k = has_tail (front (dropped rest)) (dropped header) (front (dropped tail)) bytes staged.front_is staged.lacks_comma in
+    let f = front_of t (without_tabs_and_newlines rest) (after_is t rest s) in
+    let bytes = bytes_before 35 (without_tabs_and_newlines rest) (bytes_dropped rest b) in
+    let k = has_tail (front (without_tabs_and_newlines rest)) (without_tabs_and_newlines header) (front (without_tabs_and_newlines tail)) bytes staged.front_is staged.lacks_comma in
     record {
       body = k.rest;
-      header_is = ap (option_and_then before_comma) f ∙ ap (option_map (λ r. before 44 (serialised (front (dropped rest))))) k.is ∙ ap (λ (x : List ℕ). Some x) (ap (λ x. before 44 (serialised x)) staged.front_is ∙ before-serialised (dropped header) (front (dropped tail)) staged.lacks_comma);
+      header_is = ap (option_and_then before_comma) f ∙ ap (option_map (λ r. before 44 (serialised (front (without_tabs_and_newlines rest))))) k.is ∙ ap (λ (x : List ℕ). Some x) (ap (λ x. before 44 (serialised x)) staged.front_is ∙ before-serialised (without_tabs_and_newlines header) (front (without_tabs_and_newlines tail)) staged.lacks_comma);
       body_is = ap (option_and_then (behind 44)) f ∙ k.is;
       decoded_is = recoded-decoded k.recoded;
       tail_is = tail_is_of t rest header tail s h;
@@ -155,24 +155,24 @@ no_tail_of s x e h = no_tail_at (behind 44 s) (behind 44 x) e h where
   no_tail_at (Some t) p e h = cc
 
 -- cutting at a byte that is kept, and dropping, come to one
-before-dropped : (c : ℕ) → is_tab_or_newline c ≡ false → (s : List ℕ) → before c (dropped s) ≡ dropped (before c s)
-before-dropped c k [] = ap (before c) dropped_nil ∙ before_nil c ∙ sym (ap dropped (before_nil c) ∙ dropped_nil)
-before-dropped c k (b ∷ s) = elim (cases_Bool (b == c)) [
-  | inl e ↦ let f : b ≡ c = eqb-true b c e in subst (λ v. before c (dropped (v ∷ s)) ≡ dropped (before c (v ∷ s))) (sym f) (ap (before c) (dropped_keeps c s k) ∙ before_same c (dropped s) ∙ sym (ap dropped (before_same c s) ∙ dropped_nil))
+before-without_tabs_and_newlines : (c : ℕ) → is_tab_or_newline c ≡ false → (s : List ℕ) → before c (without_tabs_and_newlines s) ≡ without_tabs_and_newlines (before c s)
+before-without_tabs_and_newlines c k [] = ap (before c) dropped_nil ∙ before_nil c ∙ sym (ap without_tabs_and_newlines (before_nil c) ∙ dropped_nil)
+before-without_tabs_and_newlines c k (b ∷ s) = elim (cases_Bool (b == c)) [
+  | inl e ↦ let f : b ≡ c = eqb-true b c e in subst (λ v. before c (without_tabs_and_newlines (v ∷ s)) ≡ without_tabs_and_newlines (before c (v ∷ s))) (sym f) (ap (before c) (dropped_keeps c s k) ∙ before_same c (without_tabs_and_newlines s) ∙ sym (ap without_tabs_and_newlines (before_same c s) ∙ dropped_nil))
   | inr e ↦ elim (cases_Bool (is_tab_or_newline b)) [
-    | inl d ↦ ap (before c) (dropped_passes b s d) ∙ before-dropped c k s ∙ sym (ap dropped (before_other c b s e) ∙ dropped_passes b (before c s) d)
-    | inr d ↦ ap (before c) (dropped_keeps b s d) ∙ before_other c b (dropped s) e ∙ ap (λ t. b ∷ t) (before-dropped c k s) ∙ sym (ap dropped (before_other c b s e) ∙ dropped_keeps b (before c s) d)
+    | inl d ↦ ap (before c) (dropped_passes b s d) ∙ before-without_tabs_and_newlines c k s ∙ sym (ap without_tabs_and_newlines (before_other c b s e) ∙ dropped_passes b (before c s) d)
+    | inr d ↦ ap (before c) (dropped_keeps b s d) ∙ before_other c b (without_tabs_and_newlines s) e ∙ ap (λ t. b ∷ t) (before-without_tabs_and_newlines c k s) ∙ sym (ap without_tabs_and_newlines (before_other c b s e) ∙ dropped_keeps b (before c s) d)
   ]
 ]
 
-front_lacks : (rest : List ℕ) → behind 44 (front rest) ≡ None → behind 44 (front (dropped rest)) ≡ None
+front_lacks : (rest : List ℕ) → behind 44 (front rest) ≡ None → behind 44 (front (without_tabs_and_newlines rest)) ≡ None
 unfolding front
-front_lacks rest h = ap (behind 44) (before-dropped 35 refl rest) ∙ behind-dropped_none 44 refl (before 35 rest) h
+front_lacks rest h = ap (behind 44) (before-without_tabs_and_newlines 35 refl rest) ∙ behind-dropped_none 44 refl (before 35 rest) h
 
 -- a text with the scheme whose front has no comma has no header
-pub no_header : (t rest : List ℕ) → IsBytes rest → IsSchemeAndRest (trimmed t) rest → behind 44 (front rest) ≡ None → header_of t ≡ None
+pub no_header : (t rest : List ℕ) → IsBytes rest → IsSchemeAndRest (trimmed_text t) rest → behind 44 (front rest) ≡ None → header_of t ≡ None
 unfolding header_of front
 no_header t rest b s h =
-    let raw : behind 44 (front (dropped rest)) ≡ None = front_lacks rest h in
-    let bytes = bytes_before 35 (dropped rest) (bytes_dropped rest b) in
-    ap (option_and_then before_comma) (front_of t (dropped rest) (after_is t rest s)) ∙ ap (option_map (λ r. before 44 (serialised (front (dropped rest))))) (no_tail_of (front (dropped rest)) (serialised (front (dropped rest))) raw (recoded_tails (serialised_recoded (front (dropped rest)) bytes)))
+    let raw : behind 44 (front (without_tabs_and_newlines rest)) ≡ None = front_lacks rest h in
+    let bytes = bytes_before 35 (without_tabs_and_newlines rest) (bytes_dropped rest b) in
+    ap (option_and_then before_comma) (front_of t (without_tabs_and_newlines rest) (after_is t rest s)) ∙ ap (option_map (λ r. before 44 (serialised (front (without_tabs_and_newlines rest))))) (no_tail_of (front (without_tabs_and_newlines rest)) (serialised (front (without_tabs_and_newlines rest))) raw (recoded_tails (serialised_recoded (front (without_tabs_and_newlines rest)) bytes)))

@@ -4,11 +4,11 @@ use Rattle.std.specs.Prelude.{MatchResult, is_err}
 use Rattle.std.specs.List.{filter, list_all}
 use Rattle.std.proofs.lemmas.Bool.{and_parts, cases_lt, or_cases, true≢false}
 use Rattle.std.proofs.lemmas.List.{append-nil, get_or-append_right, get_or_append_left, get_or-drop, length-map, take_all, take_more, take_rest}
-use Rattle.data_url.specs.Base64.{Kind, after_groups, done, first_fault, groups, is_symbol, kind_of, left_padding, left_symbols, left_text, symbol_value, values}
+use Rattle.data_url.specs.Base64.{Kind, after_groups, complete_bytes, first_fault, groups, is_symbol, kind_of, left_padding, left_symbols, left_text, symbol_value, values}
 use Rattle.std.specs.Char.{is_ascii_whitespace}
 use Rattle.data_url.specs.Decoder.{Feeds, IsTaken, State, left_over}
 use Rattle.data_url.specs.Mime.{Every}
-use Rattle.data_url.specs.Run.{Call, IsRun, joined, or_error, refusal}
+use Rattle.data_url.specs.Run.{Call, IsRun, joined_pieces, or_error, refusal}
 use Rattle.data_url.specs.Steps.Calls.{CallsOnce}
 use Rattle.data_url.specs.Steps.Blocks.{AreGroups, Fills, is_symbol_or_space, without}
 use Rattle.data_url.specs.Steps.Holding.{Adds, FeedsBlock, Flushes, Gains, Holds, Refuses}
@@ -18,7 +18,7 @@ use Rattle.data_url.proofs.ByteLemmas.{adds_text, fault_space, fault_symbol, has
 use Rattle.data_url.proofs.DecoderLemmas.{feeds_stop, feeds_then, left_goes_on}
 use Rattle.data_url.specs.Steps.Lanes.{value_of}
 use Rattle.data_url.proofs.FillLemmas.{fill_past, fits_take, fill_symbols, groups_length, whole_length}
-use Rattle.data_url.proofs.RunLemmas.{joined-append, match_at, match_none, match_some, refusal-append, run-append}
+use Rattle.data_url.proofs.RunLemmas.{joined_pieces-append, match_at, match_none, match_some, refusal-append, run-append}
 use Rattle.data_url.proofs.PaddingLemmas.{classes, fault-append, fault_byte, is_pad, length-after_groups}
 use Rattle.data_url.proofs.WalkLemmas.{space_alone, symbol_alone}
 
@@ -108,11 +108,11 @@ module _ {F E : Type 0} (step : F → List ℕ → Result (Unit {0}) E → F →
         ran = subst R (sym k.closure_stays) h.ran;
         accepted = h.accepted;
         bytes_are =
-            sym (append_assoc (joined h.run) held more)
+            sym (append_assoc (joined_pieces h.run) held more)
             ∙ ap (λ x. x ++ more) h.bytes_are
-            ∙ ap (λ x. done u ++ x) k.bytes_are
+            ∙ ap (λ x. complete_bytes u ++ x) k.bytes_are
             ∙ sym on.done_is
-            ∙ ap done same;
+            ∙ ap complete_bytes same;
         no_fault = ap first_fault (sym same) ∙ none_from (first_fault (u ++ b)) (on.fault_is ∙ ap is_some k.no_fault);
         left = record {
           symbols_are = k.left.symbols_are ∙ sym on.symbols_left ∙ ap left_symbols same;
@@ -126,8 +126,8 @@ module _ {F E : Type 0} (step : F → List ℕ → Result (Unit {0}) E → F →
   called_run : {d d1 d2 : State F} {t held : List ℕ} {r : Result (Unit {0}) (DecodeError E)} (h : Holds step d t held d1) (w : CallsOnce step d1 held r d2) → IsRun step d.closure (h.run ++ record { piece = held; answer = w.told; after = d2.closure } ∷ []) d2.closure
   called_run {d} {d1} {d2} {held = held} h w = run-append step h.run (record { piece = held; answer = w.told; after = d2.closure } ∷ []) d.closure d1.closure d2.closure h.ran h.accepted (one_call step d1.closure d2.closure held w.told w.called)
 
-  called_bytes : {d d1 : State F} {t held : List ℕ} (h : Holds step d t held d1) (told : Result (Unit {0}) E) (g : F) → joined (h.run ++ record { piece = held; answer = told; after = g } ∷ []) ≡ done (left_over d ++ t)
-  called_bytes {held = held} h told g = joined-append h.run (record { piece = held; answer = told; after = g } ∷ []) ∙ ap (λ x. joined h.run ++ x) (append-nil held) ∙ h.bytes_are
+  called_bytes : {d d1 : State F} {t held : List ℕ} (h : Holds step d t held d1) (told : Result (Unit {0}) E) (g : F) → joined_pieces (h.run ++ record { piece = held; answer = told; after = g } ∷ []) ≡ complete_bytes (left_over d ++ t)
+  called_bytes {held = held} h told g = joined_pieces-append h.run (record { piece = held; answer = told; after = g } ∷ []) ∙ ap (λ x. joined_pieces h.run ++ x) (append-nil held) ∙ h.bytes_are
 
   -- the end, or a fault: all that is held is handed out, in one call
   pub written_feeds : {d d1 d2 : State F} {t held : List ℕ} {r : Result (Unit {0}) (DecodeError E)} (h : Holds step d t held d1) → length h.run + 1 ≤ length t → CallsOnce step d1 held r d2 → Feeds step d t r d2
@@ -141,7 +141,7 @@ module _ {F E : Type 0} (step : F → List ℕ → Result (Unit {0}) E → F →
         calls = omega (arith, few, length-append h.run (call ∷ []));
         failed = w.failed;
         gave = match_at (or_error w.told None) (refusal (h.run ++ call ∷ [])) _ _ (refusal-append h.run (call ∷ []) h.accepted)
-            (told_call w.told r (IsTaken u (joined (h.run ++ call ∷ [])) r d2) (done u) (joined (h.run ++ call ∷ [])) bytes
+            (told_call w.told r (IsTaken u (joined_pieces (h.run ++ call ∷ [])) r d2) (complete_bytes u) (joined_pieces (h.run ++ call ∷ [])) bytes
             (λ e. record { bytes_are = bytes; answer = match_none (first_fault u) _ _ h.no_fault (e, record { symbols_are = w.symbols_stay ∙ h.left.symbols_are; padding_is = w.padding_stays ∙ h.left.padding_is }) })
             w.answer);
       }
@@ -156,7 +156,7 @@ module _ {F E : Type 0} (step : F → List ℕ → Result (Unit {0}) E → F →
         ran = h.ran;
         calls = omega (arith, h.calls);
         failed = h.going;
-        gave = match_none (refusal h.run) _ _ h.accepted (record { bytes_are = sym (append-nil (joined h.run)) ∙ h.bytes_are; answer = match_none (first_fault u) _ _ h.no_fault (refl, h.left) });
+        gave = match_none (refusal h.run) _ _ h.accepted (record { bytes_are = sym (append-nil (joined_pieces h.run)) ∙ h.bytes_are; answer = match_none (first_fault u) _ _ h.no_fault (refl, h.left) });
       }))
 
   pub flushed_feeds : {d d1 d2 : State F} {t : List ℕ} {r : Result (Unit {0}) (DecodeError E)} (held : List ℕ) → Holds step d t held d1 → Flushes step d1 held r d2 → Feeds step d t r d2
@@ -170,7 +170,7 @@ module _ {F E : Type 0} (step : F → List ℕ → Result (Unit {0}) E → F →
         run = h.run ++ call ∷ [];
         ran = called_run h w;
         accepted = refusal-append h.run (call ∷ []) h.accepted ∙ told_ok w.told (Ok tt) refl w.answer;
-        bytes_are = append-nil (joined (h.run ++ call ∷ [])) ∙ called_bytes h w.told d2.closure;
+        bytes_are = append-nil (joined_pieces (h.run ++ call ∷ [])) ∙ called_bytes h w.told d2.closure;
         no_fault = h.no_fault;
         left = record { symbols_are = w.symbols_stay ∙ h.left.symbols_are; padding_is = w.padding_stays ∙ h.left.padding_is };
         calls = omega (arith, h.calls, length-append h.run (call ∷ []));
@@ -188,7 +188,7 @@ module _ {F E : Type 0} (step : F → List ℕ → Result (Unit {0}) E → F →
 
   -- A fault
 
-  pub refuses_feeds : {d d' : State F} {r : Result (Unit {0}) (DecodeError E)} {kind : Kind} (left : List ℕ) (c : ℕ) → left_over d ≡ left → is_some (first_fault (left ++ c ∷ [])) ≡ true → kind_of (left ++ c ∷ []) ≡ kind → done (left ++ c ∷ []) ≡ [] → d' ≡ record d { failed = true } → r ≡ Err (InvalidBase64 kind) → Feeds step d (c ∷ []) r d'
+  pub refuses_feeds : {d d' : State F} {r : Result (Unit {0}) (DecodeError E)} {kind : Kind} (left : List ℕ) (c : ℕ) → left_over d ≡ left → is_some (first_fault (left ++ c ∷ [])) ≡ true → kind_of (left ++ c ∷ []) ≡ kind → complete_bytes (left ++ c ∷ []) ≡ [] → d' ≡ record d { failed = true } → r ≡ Err (InvalidBase64 kind) → Feeds step d (c ∷ []) r d'
   refuses_feeds {d} {d'} {r} {kind} left c e fault is_kind nothing same told =
       let u : left_over d ++ c ∷ [] ≡ left ++ c ∷ [] = ap (λ l. l ++ c ∷ []) e in
       record {
@@ -197,7 +197,7 @@ module _ {F E : Type 0} (step : F → List ℕ → Result (Unit {0}) E → F →
         calls = omega arith;
         failed = ap (λ (s : State F). s.failed) same ∙ sym (ap is_err told);
         gave = record {
-          bytes_are = sym (ap done u ∙ nothing);
+          bytes_are = sym (ap complete_bytes u ∙ nothing);
           answer = match_some (first_fault (left_over d ++ c ∷ [])) _ _ (ap (λ t. is_some (first_fault t)) u ∙ fault) (told ∙ ap (λ z. Err (InvalidBase64 z)) (sym (ap kind_of u ∙ is_kind)));
         };
       }

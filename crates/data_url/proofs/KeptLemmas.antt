@@ -11,8 +11,8 @@ use Rattle.std.specs.Char.{to_ascii_lowercase}
 use Rattle.std.specs.List.{list_all}
 use Rattle.std.specs.Str.{IsUtf8, bytes_eq, chars}
 use Rattle.data_url.specs.CodePoints.{is_quotable, is_token}
-use Rattle.data_url.specs.Mime.{BeginsParameters, Item, Items, Pair, first_of_each_name, has_name, is_lowercase_name, is_token_text, kept, valid_of, valid_pairs}
-use Rattle.data_url.specs.Steps.Parsing.{HasLowercaseNames, HasParameterBefore, IsItem, added, quotable_value, unless_named}
+use Rattle.data_url.specs.Mime.{BeginsParameters, Item, Items, Pair, first_of_each_name, has_name, is_lowercase_name, is_token_text, kept_pairs, valid_of, valid_pairs}
+use Rattle.data_url.specs.Steps.Parsing.{HasLowercaseNames, HasParameterBefore, IsItem, added_pairs, quotable_value, unless_named}
 use Rattle.data_url.specs.declared.mime.parse.Parameter.{Parameter}
 use Rattle.data_url.specs.MimeType.{code_points, pair_of}
 use Rattle.data_url.proofs.TokenLemmas.{bytes_of_ascii, token_text_ascii, token_text_chars}
@@ -98,7 +98,7 @@ look_goes_on n pairs i item l e t h = ap (λ b. b || has_name n (map (λ p. pair
 
 -- What one more item adds
 
-pub no_pair_token : (item : Item) (xs : List Pair) → is_token_text item.0 ≡ false → added xs item ≡ []
+pub no_pair_token : (item : Item) (xs : List Pair) → is_token_text item.0 ≡ false → added_pairs xs item ≡ []
 no_pair_token (name, None) xs h = refl
 no_pair_token (name, Some v) xs h = ap (unless_named xs) (cond-false (is_token_text name && list_all is_quotable v) ((name, v) ∷ []) [] (and_left (is_token_text name) (list_all is_quotable v) h))
 
@@ -106,7 +106,7 @@ unless_none : (xs : List Pair) (p : Pair) (b : Bool) → has_name p.0 xs ≡ tru
 unless_none xs p true h = cond-true (has_name p.0 xs) [] (p ∷ []) h
 unless_none xs p false h = refl
 
-pub no_pair_named : (item : Item) (xs : List Pair) → has_name item.0 xs ≡ true → added xs item ≡ []
+pub no_pair_named : (item : Item) (xs : List Pair) → has_name item.0 xs ≡ true → added_pairs xs item ≡ []
 no_pair_named (name, None) xs h = refl
 no_pair_named (name, Some v) xs h = unless_none xs (name, v) (is_token_text name && list_all is_quotable v) h
 
@@ -174,12 +174,12 @@ valid_one : (item : Item) → (valid_of item ≡ []) ⊎ ((p : Pair) × (valid_o
 valid_one (name, None) = inl refl
 valid_one (name, Some v) = one_or_none (is_token_text name && list_all is_quotable v) (name, v)
 
-kept_pairs : (ps qs : List Pair) → (qs ≡ []) ⊎ ((p : Pair) × (qs ≡ p ∷ [])) → first_of_each_name [] (ps ++ qs) ≡ first_of_each_name [] ps ++ unless_named (first_of_each_name [] ps) qs
-kept_pairs ps qs (inl e) = rw (e, append-nil ps) (sym (append-nil (first_of_each_name [] ps)))
-kept_pairs ps qs (inr (p, e)) = rw e (first_snoc [] ps p ∙ ap (λ b. first_of_each_name [] ps ++ cond b [] (p ∷ [])) (sym (has_first p.0 [] ps)))
+kept_with_one : (ps qs : List Pair) → (qs ≡ []) ⊎ ((p : Pair) × (qs ≡ p ∷ [])) → first_of_each_name [] (ps ++ qs) ≡ first_of_each_name [] ps ++ unless_named (first_of_each_name [] ps) qs
+kept_with_one ps qs (inl e) = rw (e, append-nil ps) (sym (append-nil (first_of_each_name [] ps)))
+kept_with_one ps qs (inr (p, e)) = rw e (first_snoc [] ps p ∙ ap (λ b. first_of_each_name [] ps ++ cond b [] (p ∷ [])) (sym (has_first p.0 [] ps)))
 
-pub kept_more : (items : List Item) (item : Item) → kept (items ++ (item ∷ [])) ≡ kept items ++ added (kept items) item
-kept_more items item = ap (first_of_each_name []) (flat_map-append valid_of items (item ∷ []) ∙ ap (λ x. valid_pairs items ++ x) (append-nil (valid_of item))) ∙ kept_pairs (valid_pairs items) (valid_of item) (valid_one item)
+pub kept_more : (items : List Item) (item : Item) → kept_pairs (items ++ (item ∷ [])) ≡ kept_pairs items ++ added_pairs (kept_pairs items) item
+kept_more items item = ap (first_of_each_name []) (flat_map-append valid_of items (item ∷ []) ∙ ap (λ x. valid_pairs items ++ x) (append-nil (valid_of item))) ∙ kept_with_one (valid_pairs items) (valid_of item) (valid_one item)
 
 -- What the parser keeps of one parameter
 
@@ -200,10 +200,10 @@ module _ (parameter : Parameter) (item : Item) (is : IsItem parameter item) wher
   pub name_token : is_token_text item.0 ≡ is_token_text (chars parameter.name.now)
   name_token = ap is_token_text is.name ∙ token_text_lower (chars parameter.name.now)
 
-  pub invalid_name : (xs : List Pair) (b : Bool) → b ≡ is_token_text (chars parameter.name.now) → b ≡ false → added xs item ≡ []
+  pub invalid_name : (xs : List Pair) (b : Bool) → b ≡ is_token_text (chars parameter.name.now) → b ≡ false → added_pairs xs item ≡ []
   invalid_name xs b e h = no_pair_token item xs (name_token ∙ sym e ∙ h)
 
-  pub known_name : (xs : List Pair) → has_name (map to_ascii_lowercase (chars parameter.name.now)) xs ≡ true → added xs item ≡ []
+  pub known_name : (xs : List Pair) → has_name (map to_ascii_lowercase (chars parameter.name.now)) xs ≡ true → added_pairs xs item ≡ []
   known_name xs h = no_pair_named item xs (ap (λ n. has_name n xs) is.name ∙ h)
 
   pub new_pair : (name value : List ℕ) (b : Bool) → b ≡ is_token_text (chars parameter.name.now) → b ≡ true → name ≡ map to_ascii_lowercase (chars parameter.name.now) → Some value ≡ quotable_value item.1 → valid_of item ≡ (name, value) ∷ []
@@ -215,16 +215,16 @@ module _ (parameter : Parameter) (item : Item) (is : IsItem parameter item) wher
 pub record KeepsOn (whole rest : List ℕ) (pairs : List Pair) : Type 0 where
   pub items : List Item
   pub goes_on : (more : List Item) → Items rest more → Items whole (items ++ more)
-  pub kept_is : pairs ≡ kept items
+  pub kept_is : pairs ≡ kept_pairs items
   pub begins : BeginsParameters rest
 
-pub keeps_more : (whole rest s rest' : List ℕ) (pairs pairs' : List Pair) (item : Item) → KeepsOn whole rest pairs → rest ≡ 59 ∷ s → HasParameterBefore s item rest' → pairs' ≡ pairs ++ added pairs item → KeepsOn whole rest' pairs'
+pub keeps_more : (whole rest s rest' : List ℕ) (pairs pairs' : List Pair) (item : Item) → KeepsOn whole rest pairs → rest ≡ 59 ∷ s → HasParameterBefore s item rest' → pairs' ≡ pairs ++ added_pairs pairs item → KeepsOn whole rest' pairs'
 keeps_more whole rest s rest' pairs pairs' item k e p a = record {
   items = k.items ++ (item ∷ []);
   goes_on = λ more h. subst (Items whole) (sym (append_assoc k.items (item ∷ []) more)) (k.goes_on (item ∷ more) (p.text, rest', e ∙ p.joined, p.is_parameter, h));
-  kept_is = a ∙ ap₂ (λ x y. x ++ added y item) k.kept_is k.kept_is ∙ sym (kept_more k.items item);
+  kept_is = a ∙ ap₂ (λ x y. x ++ added_pairs y item) k.kept_is k.kept_is ∙ sym (kept_more k.items item);
   begins = p.begins;
 }
 
-pub keeps_end : (whole rest : List ℕ) (pairs : List Pair) → KeepsOn whole rest pairs → rest ≡ [] → (items : List Item) × Items whole items × (pairs ≡ kept items)
+pub keeps_end : (whole rest : List ℕ) (pairs : List Pair) → KeepsOn whole rest pairs → rest ≡ [] → (items : List Item) × Items whole items × (pairs ≡ kept_pairs items)
 keeps_end whole rest pairs k e = (k.items, subst (Items whole) (append-nil k.items) (k.goes_on [] e), k.kept_is)

@@ -7,8 +7,8 @@ use Rattle.std.proofs.lemmas.List.{get_or_past}
 use Rattle.std.proofs.lemmas.Str.{IsAscii-append, chars-IsAscii}
 use Rattle.std.specs.Char.{to_ascii_lowercase}
 use Rattle.std.specs.List.{suffix_len}
-use Rattle.data_url.specs.Fetch.{before_base64, before_last, before_semicolon, before_word, has_base64_suffix, is_space, last, media_of, mime_text, stripped, with_plain}
-use Rattle.data_url.specs.Url.{dropped, without_end}
+use Rattle.data_url.specs.Fetch.{before_base64, before_last, before_semicolon, before_word, has_base64_suffix, is_space, last, media_of, mime_text, stripped_header, with_plain}
+use Rattle.data_url.specs.Url.{without_tabs_and_newlines, without_end}
 use Rattle.data_url.specs.Mime.{HasNoRecord, IsWellformed, Parses, Record, default_record}
 use Rattle.data_url.specs.Steps.Header.{IsHeaderOf, IsPrintable, IsRecordFor, header_text}
 use Rattle.data_url.proofs.OnLiterals.{on_literals}
@@ -21,8 +21,8 @@ pub bytes_by_place : (s : List ℕ) → ((i : ℕ) → get_or s i 0 < 256) → I
 bytes_by_place [] h = tt
 bytes_by_place (b ∷ s) h = (h 0, bytes_by_place s (λ i. h (suc i)))
 
-pub header_printable : (s : List ℕ) → ((i : ℕ) → get_or s i 0 < 256) → IsPrintable (header_text (dropped s))
-header_printable s h = header_text_printable (dropped s) (bytes_dropped s (bytes_by_place s h))
+pub header_printable : (s : List ℕ) → ((i : ℕ) → get_or s i 0 < 256) → IsPrintable (header_text (without_tabs_and_newlines s))
+header_printable s h = header_text_printable (without_tabs_and_newlines s) (bytes_dropped s (bytes_by_place s h))
 
 -- The default record
 
@@ -64,17 +64,17 @@ chars_plain media h = chars-IsAscii (codes "text/plain" ++ media) (IsAscii-appen
 
 -- The suffix
 
-pub with_suffix : (header media : List ℕ) (m : Record) → before_base64 (stripped header) ≡ Some media → IsRecordFor (with_plain media) m → IsHeaderOf header m true
+pub with_suffix : (header media : List ℕ) (m : Record) → before_base64 (stripped_header header) ≡ Some media → IsRecordFor (with_plain media) m → IsHeaderOf header m true
 unfolding mime_text media_of has_base64_suffix
 with_suffix header media m e h = record {
-  record_is = subst (λ s. IsRecordFor (with_plain s) m) (sym (ap (λ o. unwrap_or o (stripped header)) e)) h;
+  record_is = subst (λ s. IsRecordFor (with_plain s) m) (sym (ap (λ o. unwrap_or o (stripped_header header)) e)) h;
   base64_is = sym (ap is_some e);
 }
 
-pub no_suffix : (header : List ℕ) (m : Record) → before_base64 (stripped header) ≡ None → IsRecordFor (with_plain (stripped header)) m → IsHeaderOf header m false
+pub no_suffix : (header : List ℕ) (m : Record) → before_base64 (stripped_header header) ≡ None → IsRecordFor (with_plain (stripped_header header)) m → IsHeaderOf header m false
 unfolding mime_text media_of has_base64_suffix
 no_suffix header m e h = record {
-  record_is = subst (λ s. IsRecordFor (with_plain s) m) (sym (ap (λ o. unwrap_or o (stripped header)) e)) h;
+  record_is = subst (λ s. IsRecordFor (with_plain s) m) (sym (ap (λ o. unwrap_or o (stripped_header header)) e)) h;
   base64_is = sym (ap is_some e);
 }
 

@@ -4,7 +4,7 @@ use Rattle.std.specs.Prelude.{◌==◌, IsTrue, ◌≢◌, not, ◌&&◌}
 use Rattle.std.specs.List.{AllByRecursion, flat_map, list_all}
 use Rattle.std.specs.Char.{to_ascii_lowercase}
 use Rattle.data_url.specs.CodePoints.{ends_name, is_http_whitespace, is_semicolon}
-use Rattle.data_url.specs.Mime.{BeginsParameters, DoesNotBegin, DoesNotEnd, Escaped, GivesValue, HasNoRecord, IsHead, IsParameter, IsRecordOf, IsTrimmed, IsTrimmedEnd, IsUnit, Item, Items, Pair, Parses, Plain, Quoted, QuotedUnit, Record, default_record, is_quote, is_token_text, kept, plain, printed, quoted, unclosed, unit_text, unit_value, unless_empty}
+use Rattle.data_url.specs.Mime.{BeginsParameters, DoesNotBegin, DoesNotEnd, Escaped, GivesValue, HasNoRecord, IsHead, IsParameter, IsRecordOf, IsTrimmed, IsTrimmedEnd, IsUnit, Item, Items, Pair, Parses, Plain, Quoted, QuotedUnit, Record, default_record, is_quote, is_token_text, kept_pairs, plain, printed, quoted, unclosed, unit_text, unit_value, unless_empty}
 use Rattle.data_url.proofs.OnLiterals.{on_literals}
 use Rattle.data_url.proofs.RecordLemmas.{every_from_all, has_parts, parameters_in, subtype_in, trimmed_of, type_in}
 use Rattle.std.proofs.lemmas.Bool.{and_parts}
@@ -92,7 +92,7 @@ abbrev x_x : List Pair → Record
 x_x pairs = record { type_ = codes "x"; subtype = codes "x"; parameters = pairs }
 
 -- a text of type and subtype x whose parameters have these items
-parses_x : (r : List ℕ) (items : List Item) → BeginsParameters r → DoesNotEnd is_http_whitespace (codes "x/x" ++ r) → Items r items → Parses (codes "x/x" ++ r) (x_x (kept items))
+parses_x : (r : List ℕ) (items : List Item) → BeginsParameters r → DoesNotEnd is_http_whitespace (codes "x/x" ++ r) → Items r items → Parses (codes "x/x" ++ r) (x_x (kept_pairs items))
 unfolding on_literals
 parses_x r items begins ends are = record {
   type_ = codes "x";

@@ -7,7 +7,7 @@ use Rattle.std.proofs.lemmas.List.Folds.{list_any-append}
 use Rattle.std.specs.Int.{is_in_range}
 use Rattle.data_url.proofs.TextLemmas.{range_high}
 use Rattle.std.proofs.lemmas.Bool.{agree_below_at, and_parts, eqb-true, false_from_ne_true, or_cases}
-use Rattle.data_url.specs.Base64.{AlphabetSymbolAfterPadding, Kind, LoneAlphabetSymbol, Padding, UnexpectedSymbol, after_groups, before_place, compact, done, first_fault, group_bytes, group_number, groups, is_symbol, is_valid, kind_at, kind_of, unpadded, values, without_last_padding}
+use Rattle.data_url.specs.Base64.{AlphabetSymbolAfterPadding, Kind, LoneAlphabetSymbol, Padding, UnexpectedSymbol, after_groups, before_place, without_whitespace, complete_bytes, first_fault, group_bytes, group_number, groups, is_symbol, is_valid, kind_at, kind_of, without_padding, values, without_last_padding}
 use Rattle.std.specs.Char.{is_ascii_whitespace}
 use Rattle.data_url.specs.Steps.Facts.{IsSymbolsAndPadding}
 use Rattle.data_url.specs.Mime.{Every}
@@ -99,8 +99,8 @@ pub before_is : (b : List ℕ) → before_place b (first_fault b) ≡ before_fau
 unfolding before_fault
 before_is b = ap (before_place b) (first_fault_walk b) ∙ before_walk is_ascii_whitespace is_pad is_symbol [] b 0 false refl
 
-pub done_is : (b : List ℕ) → done b ≡ groups (values (before_fault false b))
-unfolding done
+pub done_is : (b : List ℕ) → complete_bytes b ≡ groups (values (before_fault false b))
+unfolding complete_bytes
 done_is b = ap (λ x. groups (values x)) (before_is b)
 
 -- Two texts
@@ -126,7 +126,7 @@ unfolding fault_byte before_fault
 before_none a s h = ahead_none is_ascii_whitespace is_pad is_symbol a s h
 
 -- a fault settles what is handed out and the kind, whatever follows
-pub done_stays : (a b : List ℕ) (x : ℕ) → fault_byte false a ≡ Some x → done (a ++ b) ≡ done a
+pub done_stays : (a b : List ℕ) (x : ℕ) → fault_byte false a ≡ Some x → complete_bytes (a ++ b) ≡ complete_bytes a
 done_stays a b x h = done_is (a ++ b) ∙ ap (λ z. groups (values z)) (before-append_some a b false x h) ∙ sym (done_is a)
 
 pub kind_fault : (a : List ℕ) (x : ℕ) → fault_byte false a ≡ Some x → kind_of a ≡ cond (is_symbol x) AlphabetSymbolAfterPadding (UnexpectedSymbol x)
@@ -182,7 +182,7 @@ pads_are (c ∷ t) =
 
 -- a text without a fault is its symbols and then its pads
 pub no_fault_text : (b : List ℕ) → fault_byte false b ≡ None → IsSymbolsAndPadding b (filter is_symbol b) (length (filter is_pad b))
-unfolding fault_byte compact
+unfolding fault_byte without_whitespace
 no_fault_text b h = record {
   symbols_are = filter_every is_symbol b;
   compact_is = compact_walk is_ascii_whitespace is_pad is_symbol classes b false h ∙ ap (λ x. filter is_symbol b ++ x) (pads_are b);
@@ -215,8 +215,8 @@ cut_none : {s u : List ℕ} → Cut s u → fault_byte false u ≡ None → faul
 cut_none {s} {u} same h = h
 cut_none {s} {u} pad h = fault-append u (61 ∷ []) false h ∙ fault_pads 1 (list_any is_pad u)
 
-unpadded_none : (s : List ℕ) → fault_byte false (unpadded s) ≡ None → fault_byte false s ≡ None
-unfolding unpadded
+unpadded_none : (s : List ℕ) → fault_byte false (without_padding s) ≡ None → fault_byte false s ≡ None
+unfolding without_padding
 unpadded_none s =
     elim (eqb (length s % 4) 0) as (λ v. fault_byte false (cond v (without_last_padding (without_last_padding s)) s) ≡ None → fault_byte false s ≡ None) [
       | true ↦ λ h. cut_none (cut_is s) (cut_none (cut_is (without_last_padding s)) h)
@@ -226,16 +226,16 @@ unpadded_none s =
 fault_every : (q : List ℕ) → Every is_symbol q → fault_byte false q ≡ None
 fault_every q h = ap (fault_byte false) (sym (append-nil q)) ∙ fault_text q 0 h
 
-fault_compact : (b : List ℕ) → fault_byte false (compact b) ≡ fault_byte false b
-unfolding fault_byte compact
+fault_compact : (b : List ℕ) → fault_byte false (without_whitespace b) ≡ fault_byte false b
+unfolding fault_byte without_whitespace
 fault_compact b = stop_compact is_ascii_whitespace is_pad is_symbol classes b false
 
 -- a valid text has no fault
 pub valid_no_fault : (b : List ℕ) → is_valid b ≡ true → fault_byte false b ≡ None
 unfolding is_valid
 valid_no_fault b h =
-    let parts = and_parts (not (eqb (length (unpadded (compact b)) % 4) 1)) (list_all is_symbol (unpadded (compact b))) h in
-    sym (fault_compact b) ∙ unpadded_none (compact b) (fault_every (unpadded (compact b)) (every_list_all (unpadded (compact b)) parts.1))
+    let parts = and_parts (not (eqb (length (without_padding (without_whitespace b)) % 4) 1)) (list_all is_symbol (without_padding (without_whitespace b))) h in
+    sym (fault_compact b) ∙ unpadded_none (without_whitespace b) (fault_every (without_padding (without_whitespace b)) (every_list_all (without_padding (without_whitespace b)) parts.1))
 
 pub fault_invalid : (b : List ℕ) (x : ℕ) → fault_byte false b ≡ Some x → is_valid b ≡ false
 fault_invalid b x h = false_from_ne_true (is_valid b) (λ v. absurd (some_not_none x (sym h ∙ valid_no_fault b v)))

@@ -9,23 +9,23 @@ use Rattle.std.specs.declared.fmt.Formatter.{Formatter}
 use Rattle.std.specs.Fmt.{HasWritten, HasWrittenStyled, IsDefaultSpec, IsPlainFormatter}
 use Rattle.std.specs.List.{flat_map, list_all, prefix_len}
 use Rattle.std.specs.Str.{IsUtf8, chars}
-use Rattle.data_url.specs.Mime.{escaped, is_token_text, printed, printed_pair, printed_value}
+use Rattle.data_url.specs.Mime.{escaped_code_point, is_token_text, printed, printed_pair, printed_value}
 use Rattle.data_url.specs.Steps.Parsing.{is_plain}
-use Rattle.data_url.specs.MimeType.{code_points, pair_of, seen}
+use Rattle.data_url.specs.MimeType.{code_points, pair_of, record_of}
 use Rattle.data_url.specs.declared.mime.Mime.{Mime}
 use Rattle.data_url.proofs.TextLemmas.{no_chars}
 use Rattle.data_url.proofs.TokenLemmas.{whole_front}
 
 -- Escaped text
 
-pub escaped_more : (r r' done whole : List ℕ) (c : ℕ) → IsUtf8 r → r ≡ encode_utf8 c ++ r' → done ++ encode_utf8_all (flat_map escaped (chars r)) ≡ whole → (done ++ encode_utf8_all (escaped c)) ++ encode_utf8_all (flat_map escaped (chars r')) ≡ whole
+pub escaped_more : (r r' done whole : List ℕ) (c : ℕ) → IsUtf8 r → r ≡ encode_utf8 c ++ r' → done ++ encode_utf8_all (flat_map escaped_code_point (chars r)) ≡ whole → (done ++ encode_utf8_all (escaped_code_point c)) ++ encode_utf8_all (flat_map escaped_code_point (chars r')) ≡ whole
 escaped_more r r' done whole c u e h =
-    append_assoc done (encode_utf8_all (escaped c)) (encode_utf8_all (flat_map escaped (chars r')))
-    ∙ ap (λ x. done ++ x) (sym (ap (λ x. encode_utf8_all (flat_map escaped x)) (chars_past_char r r' c u e) ∙ encodes-append (escaped c) (flat_map escaped (chars r'))))
+    append_assoc done (encode_utf8_all (escaped_code_point c)) (encode_utf8_all (flat_map escaped_code_point (chars r')))
+    ∙ ap (λ x. done ++ x) (sym (ap (λ x. encode_utf8_all (flat_map escaped_code_point x)) (chars_past_char r r' c u e) ∙ encodes-append (escaped_code_point c) (flat_map escaped_code_point (chars r'))))
     ∙ h
 
-pub escaped_end : (r done whole : List ℕ) → length r ≡ 0 → done ++ encode_utf8_all (flat_map escaped (chars r)) ≡ whole → done ≡ whole
-escaped_end r done whole l h = sym (append-nil done) ∙ ap (λ x. done ++ encode_utf8_all (flat_map escaped x)) (sym (no_chars r l)) ∙ h
+pub escaped_end : (r done whole : List ℕ) → length r ≡ 0 → done ++ encode_utf8_all (flat_map escaped_code_point (chars r)) ≡ whole → done ≡ whole
+escaped_end r done whole l h = sym (append-nil done) ∙ ap (λ x. done ++ encode_utf8_all (flat_map escaped_code_point x)) (sym (no_chars r l)) ∙ h
 
 -- A text with nothing to escape
 
@@ -36,19 +36,19 @@ escaped_is_there c h = ⊎_elim
     (λ q. let k : c ≡ 92 = eqb-true c 92 q in ap (λ v. list_all is_plain (encode v)) k)
     (or_cases (c == 34) (c == 92) h)
 
-plain_char : (c : ℕ) → list_all is_plain (encode c) ≡ true → escaped c ≡ c ∷ []
+plain_char : (c : ℕ) → list_all is_plain (encode c) ≡ true → escaped_code_point c ≡ c ∷ []
 plain_char c h = elim (cases_Bool ((c == 34) || (c == 92))) [
   | inl e ↦ absurd (both_ways (list_all is_plain (encode c)) (escaped_is_there c e) h)
   | inr e ↦ cond-false ((c == 34) || (c == 92)) (92 ∷ c ∷ []) (c ∷ []) e
 ]
 
-plain_chars : (cs : List ℕ) → list_all is_plain (encode_utf8_all cs) ≡ true → flat_map escaped cs ≡ cs
+plain_chars : (cs : List ℕ) → list_all is_plain (encode_utf8_all cs) ≡ true → flat_map escaped_code_point cs ≡ cs
 plain_chars [] h = refl
 plain_chars (c ∷ cs) h =
     let p = and_parts (list_all is_plain (encode c)) (list_all is_plain (encode_utf8_all cs)) (sym (list_all-append is_plain (encode c) (encode_utf8_all cs)) ∙ h) in
     ap₂ (λ x y. x ++ y) (plain_char c p.0) (plain_chars cs p.1)
 
-pub plain_text : (v bytes : List ℕ) (n : ℕ) → IsUtf8 v → bytes ≡ v → n ≡ prefix_len is_plain bytes → n ≡ length v → v ≡ encode_utf8_all (flat_map escaped (chars v))
+pub plain_text : (v bytes : List ℕ) (n : ℕ) → IsUtf8 v → bytes ≡ v → n ≡ prefix_len is_plain bytes → n ≡ length v → v ≡ encode_utf8_all (flat_map escaped_code_point (chars v))
 plain_text v bytes n u b e h =
     let whole : list_all is_plain v ≡ true = whole_front is_plain v ∙ eq-eqb (prefix_len is_plain v) (length v) (sym (e ∙ ap (prefix_len is_plain) b) ∙ h) in
     sym (encodes-chars v u) ∙ ap encode_utf8_all (sym (plain_chars (chars v) (ap (list_all is_plain) (encodes-chars v u) ∙ whole)))
@@ -56,13 +56,13 @@ plain_text v bytes n u b e h =
 -- A value
 
 pub token_value : (v : List ℕ) (b : Bool) → IsUtf8 v → b ≡ is_token_text (chars v) → b ≡ true → v ≡ encode_utf8_all (printed_value (chars v))
-token_value v b u e h = sym (encodes-chars v u) ∙ ap encode_utf8_all (sym (cond-true (is_token_text (chars v)) (chars v) (34 ∷ (flat_map escaped (chars v) ++ (34 ∷ []))) (sym e ∙ h)))
+token_value v b u e h = sym (encodes-chars v u) ∙ ap encode_utf8_all (sym (cond-true (is_token_text (chars v)) (chars v) (34 ∷ (flat_map escaped_code_point (chars v) ++ (34 ∷ []))) (sym e ∙ h)))
 
-pub quoted_value_text : (v : List ℕ) (b : Bool) → b ≡ is_token_text (chars v) → b ≡ false → (encode_utf8 34 ++ encode_utf8_all (flat_map escaped (chars v))) ++ encode_utf8 34 ≡ encode_utf8_all (printed_value (chars v))
+pub quoted_value_text : (v : List ℕ) (b : Bool) → b ≡ is_token_text (chars v) → b ≡ false → (encode_utf8 34 ++ encode_utf8_all (flat_map escaped_code_point (chars v))) ++ encode_utf8 34 ≡ encode_utf8_all (printed_value (chars v))
 quoted_value_text v b e h =
-    append_assoc (encode_utf8 34) (encode_utf8_all (flat_map escaped (chars v))) (encode_utf8 34)
-    ∙ ap (λ x. encode_utf8 34 ++ x) (ap (λ x. encode_utf8_all (flat_map escaped (chars v)) ++ x) (sym (append-nil (encode_utf8 34))) ∙ sym (encodes-append (flat_map escaped (chars v)) (34 ∷ [])))
-    ∙ ap encode_utf8_all (sym (cond-false (is_token_text (chars v)) (chars v) (34 ∷ (flat_map escaped (chars v) ++ (34 ∷ []))) (sym e ∙ h)))
+    append_assoc (encode_utf8 34) (encode_utf8_all (flat_map escaped_code_point (chars v))) (encode_utf8 34)
+    ∙ ap (λ x. encode_utf8 34 ++ x) (ap (λ x. encode_utf8_all (flat_map escaped_code_point (chars v)) ++ x) (sym (append-nil (encode_utf8 34))) ∙ sym (encodes-append (flat_map escaped_code_point (chars v)) (34 ∷ [])))
+    ∙ ap encode_utf8_all (sym (cond-false (is_token_text (chars v)) (chars v) (34 ∷ (flat_map escaped_code_point (chars v) ++ (34 ∷ []))) (sym e ∙ h)))
 
 -- A parameter
 
@@ -81,7 +81,7 @@ text_bytes s = sym (encodes-chars (string_bytes s) (IsUtf8-string_bytes s))
 abbrev pub pairs_text : {A B : Type 0} → List (String A × String B) → List ℕ
 pairs_text pairs = encode_utf8_all (flat_map printed_pair (map (λ p. pair_of p) pairs))
 
-pub record_starts : (m : Mime) → ((string_bytes m.type_ ++ encode_utf8 47) ++ string_bytes m.subtype) ++ pairs_text m.parameters.items ≡ encode_utf8_all (printed (seen m))
+pub record_starts : (m : Mime) → ((string_bytes m.type_ ++ encode_utf8 47) ++ string_bytes m.subtype) ++ pairs_text m.parameters.items ≡ encode_utf8_all (printed (record_of m))
 unfolding printed
 record_starts m =
     append_assoc (string_bytes m.type_ ++ encode_utf8 47) (string_bytes m.subtype) (pairs_text m.parameters.items)
@@ -101,7 +101,7 @@ record_ends pairs i done whole l h = sym (append-nil done) ∙ ap (λ x. done ++
 
 -- the same by what a reference reads
 
-pub record_starts_by : (m : Mime) (a b : List ℕ) → a ≡ string_bytes m.type_ → b ≡ string_bytes m.subtype → ((a ++ encode_utf8 47) ++ b) ++ pairs_text m.parameters.items ≡ encode_utf8_all (printed (seen m))
+pub record_starts_by : (m : Mime) (a b : List ℕ) → a ≡ string_bytes m.type_ → b ≡ string_bytes m.subtype → ((a ++ encode_utf8 47) ++ b) ++ pairs_text m.parameters.items ≡ encode_utf8_all (printed (record_of m))
 record_starts_by m a b e f = ap₂ (λ x y. ((x ++ encode_utf8 47) ++ y) ++ pairs_text m.parameters.items) e f ∙ record_starts m
 
 pub pair_by : {A B : Type 0} (item : String A × String B) (a b : List ℕ) → a ≡ string_bytes item.0 → b ≡ string_bytes item.1 → encode_utf8_all (printed_pair (chars a, chars b)) ≡ encode_utf8_all (printed_pair (pair_of item))

@@ -5,8 +5,8 @@ use Rattle.std.specs.List.{prefix_len, suffix_len}
 use Rattle.std.specs.Str.{IsAscii}
 use Rattle.std.proofs.lemmas.Bool.{cases_Bool, cases_lt, cond_both, eqb-false, le-leb, lt-leb, ltb-false, or_parts}
 use Rattle.std.proofs.lemmas.List.{get_or-drop, get_or-reverse, get_or-take, get_or_past, length-drop, length-reverse, length-take}
-use Rattle.data_url.specs.Url.{before, behind, encoded_byte, hex_digit, in_path_set, in_query_set, is_c0_control_or_space, percent_encoded, trimmed, without_end}
-use Rattle.data_url.specs.Fetch.{is_space, stripped}
+use Rattle.data_url.specs.Url.{before, behind, encoded_byte, hex_digit, in_path_set, in_query_set, is_c0_control_or_space, percent_encoding, trimmed_text, without_end}
+use Rattle.data_url.specs.Fetch.{is_space, stripped_header}
 use Rattle.data_url.specs.Steps.Header.{IsPrintable, header_text}
 use Rattle.data_url.proofs.RecodedLemmas.{IsBytes, encoded_cons, encoded_nil, header_byte_set, header_nil, header_path, header_query, path_byte_set}
 
@@ -39,9 +39,9 @@ byte_printable p outside b l = cond_both (p b) (37 ∷ hex_digit (b / 16) ∷ he
     (λ e. let h = hex_printable (b / 16) (omega arith) in let k = hex_printable (b % 16) (omega arith) in (omega arith, omega arith, (h.0, h.1, (k.0, k.1, tt))))
     (λ e. let h = outside b e in (h.0, h.1, tt))
 
-encoded_printable : (p : ℕ → Bool) → ((b : ℕ) → p b ≡ false → (32 ≤ b) × (b < 127)) → (s : List ℕ) → IsBytes s → printable (percent_encoded p s)
+encoded_printable : (p : ℕ → Bool) → ((b : ℕ) → p b ≡ false → (32 ≤ b) × (b < 127)) → (s : List ℕ) → IsBytes s → printable (percent_encoding p s)
 encoded_printable p outside [] h = subst printable (sym (encoded_nil p)) tt
-encoded_printable p outside (b ∷ s) h = subst printable (sym (encoded_cons p b s)) (printable_append (encoded_byte p b) (percent_encoded p s) (byte_printable p outside b h.0) (encoded_printable p outside s h.1))
+encoded_printable p outside (b ∷ s) h = subst printable (sym (encoded_cons p b s)) (printable_append (encoded_byte p b) (percent_encoding p s) (byte_printable p outside b h.0) (encoded_printable p outside s h.1))
 
 outside_path_byte : (path : List ℕ) (b : ℕ) → path_byte_set path b ≡ false → (32 ≤ b) × (b < 127)
 outside_path_byte [] b h = outside_path b (or_parts (in_path_set b) (b == 32) h).0
@@ -107,14 +107,14 @@ low_front (b ∷ s) h =
 pub low_end : (s : List ℕ) → IsPrintable s → suffix_len is_c0_control_or_space s ≡ suffix_len is_space s
 low_end s h = low_front (reverse s) (printable_reverse s h)
 
-pub trimmed_is_stripped : (s : List ℕ) → IsPrintable s → trimmed s ≡ stripped s
-unfolding trimmed stripped
+pub trimmed_is_stripped : (s : List ℕ) → IsPrintable s → trimmed_text s ≡ stripped_header s
+unfolding trimmed_text stripped_header
 trimmed_is_stripped s h =
     ap (without_end is_c0_control_or_space) (ap (λ n. drop n s) (low_front s h))
     ∙ ap (λ n. take (length (drop (prefix_len is_space s) s) - n) (drop (prefix_len is_space s) s)) (low_end (drop (prefix_len is_space s) s) (printable_drop (prefix_len is_space s) s h))
 
-pub printable_stripped : (s : List ℕ) → IsPrintable s → IsPrintable (stripped s)
-unfolding stripped
+pub printable_stripped : (s : List ℕ) → IsPrintable s → IsPrintable (stripped_header s)
+unfolding stripped_header
 printable_stripped s h =
     let front = drop (prefix_len is_space s) s in
     printable_take (length front - suffix_len is_space front) front (printable_drop (prefix_len is_space s) s h)

@@ -5,7 +5,7 @@ use Rattle.std.proofs.lemmas.List.{drop_more, length-drop}
 use Rattle.std.proofs.lemmas.List.Sums.{prefix_len-drop_yes, prefix_len-drop_no, prefix_len-le-length}
 use Rattle.data_url.specs.Url.{behind, is_tab_or_newline}
 use Rattle.data_url.specs.Fetch.{plain_body}
-use Rattle.data_url.specs.Steps.Looks.{before_percent, paid}
+use Rattle.data_url.specs.Steps.Looks.{before_percent, paid_looks}
 use Rattle.data_url.specs.Steps.Tail.{BeginsFragment}
 use Rattle.data_url.specs.Steps.Walk.{EndsAt, EscapeAt, IsClear, LonePercent, Reads}
 use Rattle.data_url.specs.Steps.Window.{is_marked}
@@ -127,28 +127,28 @@ ends_empty {text} {place} h = ends_cases (drop place text) h.begins
 -- Paid looks
 
 -- what is paid for is at most three times the text
-pub paid_le : (text : List ℕ) (seen place : ℕ) → seen ≤ length text → place ≤ length text → paid text seen place ≤ 3 * length text
+pub paid_le : (text : List ℕ) (seen place : ℕ) → seen ≤ length text → place ≤ length text → paid_looks text seen place ≤ 3 * length text
 paid_le text seen place s p =
     let l = prefix_len-le-length (λ b. not (b == 37)) (drop place text) in
     let d = length-drop place text in
     omega arith
 
 -- a byte that is no '%' pays for one look
-pub paid_byte : (text : List ℕ) (seen place : ℕ) → place < length text → not (get_or text place 0 == 37) ≡ true → paid text seen (place + 1) ≡ paid text seen place + 1
+pub paid_byte : (text : List ℕ) (seen place : ℕ) → place < length text → not (get_or text place 0 == 37) ≡ true → paid_looks text seen (place + 1) ≡ paid_looks text seen place + 1
 paid_byte text seen place l h =
     let e : before_percent (drop place text) ≡ 1 + before_percent (drop (place + 1) text) = prefix_len-drop_yes (λ b. not (b == 37)) text place 0 l h in
     omega arith
 
 -- a '%' pays for two, and for the bytes behind it up to the next one
-pub paid_percent : (text : List ℕ) (seen place to : ℕ) → place < length text → get_or text place 0 ≡ 37 → paid text seen place ≡ seen + 2 * place
+pub paid_percent : (text : List ℕ) (seen place to : ℕ) → place < length text → get_or text place 0 ≡ 37 → paid_looks text seen place ≡ seen + 2 * place
 paid_percent text seen place to l h =
     let e : before_percent (drop place text) ≡ 0 = prefix_len-drop_no (λ b. not (b == 37)) text place 0 l (ap (λ b. not (b == 37)) h) in
     omega arith
 
-paid_for : (text : List ℕ) (seen from n : ℕ) → from + n ≤ length text → IsClear text from (from + n) → paid text seen from ≤ paid text seen (from + n)
+paid_for : (text : List ℕ) (seen from n : ℕ) → from + n ≤ length text → IsClear text from (from + n) → paid_looks text seen from ≤ paid_looks text seen (from + n)
 paid_for text seen from zero l h =
     let e : from + zero ≡ from = omega arith in
-    let k : paid text seen (from + zero) ≡ paid text seen from = ap (paid text seen) e in
+    let k : paid_looks text seen (from + zero) ≡ paid_looks text seen from = ap (paid_looks text seen) e in
     omega arith
 paid_for text seen from (suc n) l h =
     let w : from < length text = omega arith in
@@ -157,14 +157,14 @@ paid_for text seen from (suc n) l h =
     let first = paid_byte text seen from w (ap (λ v. not v) no) in
     let more = paid_for text seen (from + 1) n (omega arith) (λ i a b. h i (omega arith) (omega arith)) in
     let k : from + 1 + n ≡ from + suc n = omega arith in
-    let e = ap (paid text seen) k in
+    let e = ap (paid_looks text seen) k in
     omega arith
 
 -- so do bytes without marks
-pub paid_clear : (text : List ℕ) (seen from to : ℕ) → from ≤ to → to ≤ length text → IsClear text from to → paid text seen from ≤ paid text seen to
+pub paid_clear : (text : List ℕ) (seen from to : ℕ) → from ≤ to → to ≤ length text → IsClear text from to → paid_looks text seen from ≤ paid_looks text seen to
 paid_clear text seen from to l w h =
     let e : from + (to - from) ≡ to = omega arith in
     let C : ℕ → Type 0 = λ t. IsClear text from t in
     let k = paid_for text seen from (to - from) (omega arith) (subst C (sym e) h) in
-    let f = ap (paid text seen) e in
+    let f = ap (paid_looks text seen) e in
     omega arith

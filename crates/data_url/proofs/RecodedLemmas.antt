@@ -4,9 +4,9 @@ use Rattle.std.specs.Prelude.{◌==◌, ◌||◌, ◌&&◌, nat_lt}
 use Rattle.std.specs.Char.{digit_value, is_ascii_hexdigit}
 use Rattle.std.specs.List.{AllByRecursion}
 use Rattle.std.proofs.lemmas.Bool.{agree_below_at, and_left, and_parts, and_right, cases_Bool, cond-true, cond-false, cond_both, both_ways, ne_eqb, or_cases, or_left}
-use Rattle.data_url.specs.Url.{before, behind, encoded_byte, encoded_path, hex_digit, in_path_end_set, in_path_set, in_query_set, percent_encoded, serialised, with_query}
+use Rattle.data_url.specs.Url.{before, behind, encoded_byte, encoded_path, hex_digit, in_path_end_set, in_path_set, in_query_set, percent_encoding, serialised, with_query}
 use Rattle.data_url.specs.Steps.Header.{header_parts, header_text}
-use Rattle.data_url.specs.Percent.{is_escape, percent_decoded}
+use Rattle.data_url.specs.Percent.{is_escape, percent_decoding}
 use Rattle.data_url.proofs.UrlLemmas.{before-append, before_at, before_nil, before_other, before_same, behind_nil, behind_other, behind_same, lacks}
 
 abbrev pub IsBytes : List ℕ → Type 0
@@ -51,23 +51,23 @@ two_digits [] = false
 two_digits (b ∷ []) = false
 two_digits (b ∷ c ∷ s) = is_ascii_hexdigit b && is_ascii_hexdigit c
 
-pub decoded_keeps : (a : ℕ) (s : List ℕ) → ((a == 37) && two_digits s) ≡ false → percent_decoded (a ∷ s) ≡ a ∷ percent_decoded s
-unfolding percent_decoded
+pub decoded_keeps : (a : ℕ) (s : List ℕ) → ((a == 37) && two_digits s) ≡ false → percent_decoding (a ∷ s) ≡ a ∷ percent_decoding s
+unfolding percent_decoding
 decoded_keeps a [] h = refl
 decoded_keeps a (b ∷ []) h = refl
-decoded_keeps a (b ∷ c ∷ s) h = cond-false (is_escape a b c) ((16 * digit_value b + digit_value c) ∷ percent_decoded s) (a ∷ percent_decoded (b ∷ c ∷ s)) h
+decoded_keeps a (b ∷ c ∷ s) h = cond-false (is_escape a b c) ((16 * digit_value b + digit_value c) ∷ percent_decoding s) (a ∷ percent_decoding (b ∷ c ∷ s)) h
 
-pub decoded_escape : (b c : ℕ) (s : List ℕ) → is_ascii_hexdigit b ≡ true → is_ascii_hexdigit c ≡ true → percent_decoded (37 ∷ b ∷ c ∷ s) ≡ (16 * digit_value b + digit_value c) ∷ percent_decoded s
-unfolding percent_decoded
-decoded_escape b c s h k = cond-true (is_escape 37 b c) ((16 * digit_value b + digit_value c) ∷ percent_decoded s) (37 ∷ percent_decoded (b ∷ c ∷ s)) (ap (λ v. v && is_ascii_hexdigit c) h ∙ k)
+pub decoded_escape : (b c : ℕ) (s : List ℕ) → is_ascii_hexdigit b ≡ true → is_ascii_hexdigit c ≡ true → percent_decoding (37 ∷ b ∷ c ∷ s) ≡ (16 * digit_value b + digit_value c) ∷ percent_decoding s
+unfolding percent_decoding
+decoded_escape b c s h k = cond-true (is_escape 37 b c) ((16 * digit_value b + digit_value c) ∷ percent_decoding s) (37 ∷ percent_decoding (b ∷ c ∷ s)) (ap (λ v. v && is_ascii_hexdigit c) h ∙ k)
 
 -- what is written again is decoded to the byte
-decoded_written : (b : ℕ) (x : List ℕ) → b < 256 → percent_decoded (37 ∷ hex_digit (b / 16) ∷ hex_digit (b % 16) ∷ x) ≡ b ∷ percent_decoded x
+decoded_written : (b : ℕ) (x : List ℕ) → b < 256 → percent_decoding (37 ∷ hex_digit (b / 16) ∷ hex_digit (b % 16) ∷ x) ≡ b ∷ percent_decoding x
 decoded_written b x l =
     let high : b / 16 < 16 = omega arith in
     let low : b % 16 < 16 = omega arith in
     decoded_escape (hex_digit (b / 16)) (hex_digit (b % 16)) x (hex_digit_hex (b / 16) high) (hex_digit_hex (b % 16) low)
-    ∙ ap (λ v. v ∷ percent_decoded x) (ap (λ v. 16 * v + digit_value (hex_digit (b % 16))) (hex_digit_value (b / 16) high) ∙ ap (λ v. 16 * (b / 16) + v) (hex_digit_value (b % 16) low) ∙ omega arith)
+    ∙ ap (λ v. v ∷ percent_decoding x) (ap (λ v. 16 * v + digit_value (hex_digit (b % 16))) (hex_digit_value (b / 16) high) ∙ ap (λ v. 16 * (b / 16) + v) (hex_digit_value (b % 16) low) ∙ omega arith)
 
 same_digits : {s x : List ℕ} → Recoded s x → two_digits x ≡ two_digits s
 same_digits none = refl
@@ -79,16 +79,16 @@ same_digits (written b h l (kept c r)) = sym (and_left (is_ascii_hexdigit b) (is
 same_digits (written b h l (written c k m r)) = sym (and_left (is_ascii_hexdigit b) (is_ascii_hexdigit c) (set_no_hex b l h))
 
 -- a byte that is kept, before no escape
-keeps : {s x : List ℕ} (b : ℕ) → Recoded s x → ((b == 37) && two_digits s) ≡ false → percent_decoded x ≡ percent_decoded s → percent_decoded (b ∷ x) ≡ percent_decoded (b ∷ s)
+keeps : {s x : List ℕ} (b : ℕ) → Recoded s x → ((b == 37) && two_digits s) ≡ false → percent_decoding x ≡ percent_decoding s → percent_decoding (b ∷ x) ≡ percent_decoding (b ∷ s)
 keeps {s} {x} b r h e = decoded_keeps b x (ap (λ v. (b == 37) && v) (same_digits r) ∙ h) ∙ ap (λ t. b ∷ t) e ∙ sym (decoded_keeps b s h)
 
 -- a '%' that is kept, before two digits
-escapes : (b c d : ℕ) (s x : List ℕ) → ((b == 37) && (is_ascii_hexdigit c && is_ascii_hexdigit d)) ≡ true → percent_decoded x ≡ percent_decoded s → percent_decoded (b ∷ c ∷ d ∷ x) ≡ percent_decoded (b ∷ c ∷ d ∷ s)
+escapes : (b c d : ℕ) (s x : List ℕ) → ((b == 37) && (is_ascii_hexdigit c && is_ascii_hexdigit d)) ≡ true → percent_decoding x ≡ percent_decoding s → percent_decoding (b ∷ c ∷ d ∷ x) ≡ percent_decoding (b ∷ c ∷ d ∷ s)
 escapes b c d s x h e =
     let p = and_parts (b == 37) (is_ascii_hexdigit c && is_ascii_hexdigit d) h in
     let q = and_parts (is_ascii_hexdigit c) (is_ascii_hexdigit d) p.1 in
     let f : b ≡ 37 = eqb-true b 37 p.0 in
-    ap (λ v. percent_decoded (v ∷ c ∷ d ∷ x)) f ∙ decoded_escape c d x q.0 q.1 ∙ ap (λ t. (16 * digit_value c + digit_value d) ∷ t) e ∙ sym (decoded_escape c d s q.0 q.1) ∙ ap (λ v. percent_decoded (v ∷ c ∷ d ∷ s)) (sym f)
+    ap (λ v. percent_decoding (v ∷ c ∷ d ∷ x)) f ∙ decoded_escape c d x q.0 q.1 ∙ ap (λ t. (16 * digit_value c + digit_value d) ∷ t) e ∙ sym (decoded_escape c d s q.0 q.1) ∙ ap (λ v. percent_decoding (v ∷ c ∷ d ∷ s)) (sym f)
 
 -- no digit stands first or second where a byte of the set does
 no_escape : (b : ℕ) (v : Bool) → v ≡ false → ((b == 37) && v) ≡ false
@@ -98,7 +98,7 @@ first_no_digit : (c : ℕ) (s : List ℕ) → is_ascii_hexdigit c ≡ false → 
 first_no_digit c [] h = refl
 first_no_digit c (d ∷ s) h = and_left (is_ascii_hexdigit c) (is_ascii_hexdigit d) h
 
-pub recoded-decoded : {s x : List ℕ} → Recoded s x → percent_decoded x ≡ percent_decoded s
+pub recoded-decoded : {s x : List ℕ} → Recoded s x → percent_decoding x ≡ percent_decoding s
 recoded-decoded none = refl
 recoded-decoded (written {s} {x} b h l r) = decoded_written b x l ∙ ap (λ t. b ∷ t) (recoded-decoded r) ∙ sym (decoded_keeps b s (and_left (b == 37) (two_digits s) (set_other b 37 refl h)))
 recoded-decoded (kept b none) = refl
@@ -117,21 +117,21 @@ recoded-append none q = q
 recoded-append (kept b r) q = kept b (recoded-append r q)
 recoded-append (written b h l r) q = written b h l (recoded-append r q)
 
-pub encoded_nil : (p : ℕ → Bool) → percent_encoded p [] ≡ []
-unfolding percent_encoded
+pub encoded_nil : (p : ℕ → Bool) → percent_encoding p [] ≡ []
+unfolding percent_encoding
 encoded_nil p = refl
 
-pub encoded_cons : (p : ℕ → Bool) (b : ℕ) (s : List ℕ) → percent_encoded p (b ∷ s) ≡ encoded_byte p b ++ percent_encoded p s
-unfolding percent_encoded
+pub encoded_cons : (p : ℕ → Bool) (b : ℕ) (s : List ℕ) → percent_encoding p (b ∷ s) ≡ encoded_byte p b ++ percent_encoding p s
+unfolding percent_encoding
 encoded_cons p b s = refl
 
 -- one byte before the rest, encoded or not
 recoded_byte : (p : ℕ → Bool) → ((b : ℕ) → p b ≡ true → in_query_set b ≡ true) → (b : ℕ) (s x : List ℕ) → b < 256 → Recoded s x → Recoded (b ∷ s) (encoded_byte p b ++ x)
 recoded_byte p within b s x l r = cond_both (p b) (37 ∷ hex_digit (b / 16) ∷ hex_digit (b % 16) ∷ []) (b ∷ []) (λ t. Recoded (b ∷ s) (t ++ x)) (λ e. written b (within b e) l r) (λ e. kept b r)
 
-pub is_recoded : (p : ℕ → Bool) → ((b : ℕ) → p b ≡ true → in_query_set b ≡ true) → (s : List ℕ) → IsBytes s → Recoded s (percent_encoded p s)
+pub is_recoded : (p : ℕ → Bool) → ((b : ℕ) → p b ≡ true → in_query_set b ≡ true) → (s : List ℕ) → IsBytes s → Recoded s (percent_encoding p s)
 is_recoded p within [] h = subst (λ x. Recoded [] x) (sym (encoded_nil p)) none
-is_recoded p within (b ∷ s) h = subst (λ x. Recoded (b ∷ s) x) (sym (encoded_cons p b s)) (recoded_byte p within b s (percent_encoded p s) h.0 (is_recoded p within s h.1))
+is_recoded p within (b ∷ s) h = subst (λ x. Recoded (b ∷ s) x) (sym (encoded_cons p b s)) (recoded_byte p within b s (percent_encoding p s) h.0 (is_recoded p within s h.1))
 
 pub path_within_query : (b : ℕ) → in_path_set b ≡ true → in_query_set b ≡ true
 path_within_query b h = or_left (in_path_set b) ((b == 32) || ((b == 34) || ((b == 35) || ((b == 60) || (b == 62))))) h
@@ -163,13 +163,13 @@ pub serialised_nil : serialised [] ≡ []
 unfolding serialised before behind encoded_path
 serialised_nil = refl
 
-pub serialised_query : (s : List ℕ) → serialised (63 ∷ s) ≡ 63 ∷ percent_encoded in_query_set s
+pub serialised_query : (s : List ℕ) → serialised (63 ∷ s) ≡ 63 ∷ percent_encoding in_query_set s
 unfolding serialised
-serialised_query s = ap (λ v. with_query v (behind 63 (63 ∷ s))) (before_same 63 s) ∙ ap (λ v. with_query [] v) (behind_same 63 s) ∙ ap (λ v. v ++ 63 ∷ percent_encoded in_query_set s) path_nil
+serialised_query s = ap (λ v. with_query v (behind 63 (63 ∷ s))) (before_same 63 s) ∙ ap (λ v. with_query [] v) (behind_same 63 s) ∙ ap (λ v. v ++ 63 ∷ percent_encoding in_query_set s) path_nil
 
 with_query_cons : (b : ℕ) (path : List ℕ) (query : Option (List ℕ)) → with_query (b ∷ path) query ≡ encoded_byte (path_byte_set path) b ++ with_query path query
 with_query_cons b path None = path_cons b path
-with_query_cons b path (Some query) = ap (λ v. v ++ 63 ∷ percent_encoded in_query_set query) (path_cons b path) ∙ append_assoc (encoded_byte (path_byte_set path) b) (encoded_path path) (63 ∷ percent_encoded in_query_set query)
+with_query_cons b path (Some query) = ap (λ v. v ++ 63 ∷ percent_encoding in_query_set query) (path_cons b path) ∙ append_assoc (encoded_byte (path_byte_set path) b) (encoded_path path) (63 ∷ percent_encoding in_query_set query)
 
 pub serialised_path : (b : ℕ) (s : List ℕ) → (b == 63) ≡ false → serialised (b ∷ s) ≡ encoded_byte (path_byte_set (before 63 s)) b ++ serialised s
 unfolding serialised
@@ -213,22 +213,22 @@ encoded_byte_lacks p b h = cond_both (p b) (37 ∷ hex_digit (b / 16) ∷ hex_di
 encoded_comma : (p : ℕ → Bool) → p 44 ≡ false → (s : List ℕ) → encoded_byte p 44 ++ s ≡ 44 ∷ s
 encoded_comma p h s = ap (λ t. t ++ s) (cond-false (p 44) (37 ∷ hex_digit (44 / 16) ∷ hex_digit (44 % 16) ∷ []) (44 ∷ []) h)
 
-before_encoded : (p : ℕ → Bool) → p 44 ≡ false → (s : List ℕ) → before 44 (percent_encoded p s) ≡ percent_encoded p (before 44 s)
-before_encoded p h [] = ap (before 44) (encoded_nil p) ∙ before_nil 44 ∙ sym (ap (percent_encoded p) (before_nil 44) ∙ encoded_nil p)
+before_encoded : (p : ℕ → Bool) → p 44 ≡ false → (s : List ℕ) → before 44 (percent_encoding p s) ≡ percent_encoding p (before 44 s)
+before_encoded p h [] = ap (before 44) (encoded_nil p) ∙ before_nil 44 ∙ sym (ap (percent_encoding p) (before_nil 44) ∙ encoded_nil p)
 before_encoded p h (b ∷ s) = ap (before 44) (encoded_cons p b s) ∙ elim (cases_Bool (b == 44)) [
-  | inl e ↦ let f : b ≡ 44 = eqb-true b 44 e in subst (λ v. before 44 (encoded_byte p v ++ percent_encoded p s) ≡ percent_encoded p (before 44 (v ∷ s))) (sym f) (ap (before 44) (encoded_comma p h (percent_encoded p s)) ∙ before_same 44 (percent_encoded p s) ∙ sym (ap (percent_encoded p) (before_same 44 s) ∙ encoded_nil p))
-  | inr e ↦ before-append 44 (encoded_byte p b) (percent_encoded p s) (encoded_byte_lacks p b e) ∙ ap (λ t. encoded_byte p b ++ t) (before_encoded p h s) ∙ sym (ap (percent_encoded p) (before_other 44 b s e) ∙ encoded_cons p b (before 44 s))
+  | inl e ↦ let f : b ≡ 44 = eqb-true b 44 e in subst (λ v. before 44 (encoded_byte p v ++ percent_encoding p s) ≡ percent_encoding p (before 44 (v ∷ s))) (sym f) (ap (before 44) (encoded_comma p h (percent_encoding p s)) ∙ before_same 44 (percent_encoding p s) ∙ sym (ap (percent_encoding p) (before_same 44 s) ∙ encoded_nil p))
+  | inr e ↦ before-append 44 (encoded_byte p b) (percent_encoding p s) (encoded_byte_lacks p b e) ∙ ap (λ t. encoded_byte p b ++ t) (before_encoded p h s) ∙ sym (ap (percent_encoding p) (before_other 44 b s e) ∙ encoded_cons p b (before 44 s))
 ]
 
 -- the header's text, byte by byte
 
 pub header_nil : header_text [] ≡ []
-unfolding header_text before behind percent_encoded
+unfolding header_text before behind percent_encoding
 header_nil = refl
 
-pub header_query : (s : List ℕ) → header_text (63 ∷ s) ≡ 63 ∷ percent_encoded in_query_set s
+pub header_query : (s : List ℕ) → header_text (63 ∷ s) ≡ 63 ∷ percent_encoding in_query_set s
 unfolding header_text
-header_query s = ap (λ v. header_parts v (behind 63 (63 ∷ s))) (before_same 63 s) ∙ ap (λ v. header_parts [] v) (behind_same 63 s) ∙ ap (λ v. v ++ 63 ∷ percent_encoded in_query_set s) path_nil
+header_query s = ap (λ v. header_parts v (behind 63 (63 ∷ s))) (before_same 63 s) ∙ ap (λ v. header_parts [] v) (behind_same 63 s) ∙ ap (λ v. v ++ 63 ∷ percent_encoding in_query_set s) path_nil
 
 -- the set of a byte before the rest of a header, without or with a query
 abbrev pub header_byte_set : List ℕ → Option (List ℕ) → ℕ → Bool
@@ -269,8 +269,8 @@ before-serialised (b ∷ h) rest e =
           let g : b ≡ 63 = eqb-true b 63 f in
           subst (λ v. before 44 (serialised (v ∷ (h ++ 44 ∷ rest))) ≡ header_text (v ∷ h)) (sym g)
           (ap (before 44) (serialised_query (h ++ 44 ∷ rest))
-          ∙ before_other 44 63 (percent_encoded in_query_set (h ++ 44 ∷ rest)) refl
-          ∙ ap (λ t. 63 ∷ t) (before_encoded in_query_set refl (h ++ 44 ∷ rest) ∙ ap (percent_encoded in_query_set) (before_at 44 h rest k.behind_it))
+          ∙ before_other 44 63 (percent_encoding in_query_set (h ++ 44 ∷ rest)) refl
+          ∙ ap (λ t. 63 ∷ t) (before_encoded in_query_set refl (h ++ 44 ∷ rest) ∙ ap (percent_encoding in_query_set) (before_at 44 h rest k.behind_it))
           ∙ sym (header_query h))
       | inr f ↦
           let set = path_byte_set (before 63 (h ++ 44 ∷ rest)) in

@@ -4,7 +4,7 @@ use Rattle.std.proofs.lemmas.Bool.{and_from, and_parts, or_cases}
 use Rattle.std.specs.List.{list_all}
 use Rattle.std.specs.Char.{to_ascii_lowercase}
 use Rattle.data_url.specs.CodePoints.{is_http_whitespace, is_token}
-use Rattle.data_url.specs.Mime.{BeginsParameters, DoesNotBegin, DoesNotEnd, Every, IsHead, IsTrimmed, Item, Items, Record, is_token_text, kept}
+use Rattle.data_url.specs.Mime.{BeginsParameters, DoesNotBegin, DoesNotEnd, Every, IsHead, IsTrimmed, Item, Items, Record, is_token_text, kept_pairs}
 use Rattle.data_url.specs.Steps.Facts.{HasAtMostOneRecord}
 use Rattle.data_url.proofs.TextLemmas.{behind_front, behind_is, front_is, front_of, without_back, without_back_joined}
 use Rattle.data_url.proofs.ItemLemmas.{ends_of_rest, only_items}
@@ -107,4 +107,4 @@ has_at_most_one_record s m n h k =
     record_equal m n
     (h.record_is.type_is ∙ ap (map to_ascii_lowercase) (sym p.type_is ∙ q.type_is) ∙ sym k.record_is.type_is)
     (h.record_is.subtype_is ∙ ap (map to_ascii_lowercase) (sym p.subtype_is ∙ q.subtype_is) ∙ sym k.record_is.subtype_is)
-    (h.record_is.parameters_are ∙ ap kept (same_items h.parameters k.parameters h.record_is.items k.record_is.items (sym p.parameters_are ∙ q.parameters_are) h.record_is.items_are k.record_is.items_are) ∙ sym k.record_is.parameters_are)
+    (h.record_is.parameters_are ∙ ap kept_pairs (same_items h.parameters k.parameters h.record_is.items k.record_is.items (sym p.parameters_are ∙ q.parameters_are) h.record_is.items_are k.record_is.items_are) ∙ sym k.record_is.parameters_are)

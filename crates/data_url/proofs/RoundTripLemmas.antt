@@ -4,7 +4,7 @@ use Rattle.std.proofs.lemmas.Bool.{agree_below, agree_below_at, and_from, and_pa
 use Rattle.std.specs.List.{AllByRecursion, flat_map, list_all}
 use Rattle.std.specs.Str.{bytes_eq}
 use Rattle.data_url.specs.CodePoints.{ends_name, is_http_whitespace, is_quotable, is_semicolon, is_token}
-use Rattle.data_url.specs.Mime.{BeginsParameters, DoesNotBegin, DoesNotEnd, Escaped, Every, GivesValue, IsHead, IsParameter, IsTrimmed, IsTrimmedEnd, IsWellformed, Item, Items, Pair, Parses, Plain, Quoted, Record, Without, escaped, first_of_each_name, has_distinct_names, has_name, is_lowercase_name, is_quote, is_token_text, kept, plain, printed, printed_pair, printed_value, quoted, unless_empty, valid_pairs}
+use Rattle.data_url.specs.Mime.{BeginsParameters, DoesNotBegin, DoesNotEnd, Escaped, Every, GivesValue, IsHead, IsParameter, IsTrimmed, IsTrimmedEnd, IsWellformed, Item, Items, Pair, Parses, Plain, Quoted, Record, Without, escaped_code_point, first_of_each_name, has_distinct_names, has_name, is_lowercase_name, is_quote, is_token_text, kept_pairs, plain, printed, printed_pair, printed_value, quoted, unless_empty, valid_pairs}
 use Rattle.data_url.proofs.ItemLemmas.{not_begins_append}
 use Rattle.data_url.proofs.KeptLemmas.{has_append, lower_is_itself, lowercase_token, test_from_different, test_from_equal}
 use Rattle.data_url.proofs.QuotedLemmas.{quoted_more, quoted_nil}
@@ -64,11 +64,11 @@ not_ends_last p c h (d ∷ e ∷ a) = not_ends_last p c h (e ∷ a)
 
 -- A value
 
-quoted_escaped : (v : List ℕ) → Quoted (flat_map escaped v) v
+quoted_escaped : (v : List ℕ) → Quoted (flat_map escaped_code_point v) v
 quoted_escaped [] = quoted_nil
-quoted_escaped (c ∷ v) = cond_both ((c == 34) || (c == 92)) (92 ∷ c ∷ []) (c ∷ []) (λ t. Quoted (t ++ flat_map escaped v) (c ∷ v))
-    (λ e. quoted_more (Escaped c) (flat_map escaped v) v tt (quoted_escaped v))
-    (λ e. let p = or_parts (c == 34) (c == 92) e in quoted_more (Plain c) (flat_map escaped v) v (eqb-false c 34 p.0, eqb-false c 92 p.1) (quoted_escaped v))
+quoted_escaped (c ∷ v) = cond_both ((c == 34) || (c == 92)) (92 ∷ c ∷ []) (c ∷ []) (λ t. Quoted (t ++ flat_map escaped_code_point v) (c ∷ v))
+    (λ e. quoted_more (Escaped c) (flat_map escaped_code_point v) v tt (quoted_escaped v))
+    (λ e. let p = or_parts (c == 34) (c == 92) e in quoted_more (Plain c) (flat_map escaped_code_point v) v (eqb-false c 34 p.0, eqb-false c 92 p.1) (quoted_escaped v))
 
 is_nonempty : (v : List ℕ) → is_token_text v ≡ true → unless_empty v ≡ Some v
 is_nonempty [] h = absurd (both_ways false refl h)
@@ -83,12 +83,12 @@ plain_value v rest h =
     subst (GivesValue (61 ∷ v) rest) (is_nonempty v h) (plain v v (tokens_without is_semicolon token_not_semicolon v t) (tokens_not_begin is_quote token_not_quote v t) (itself_trimmed is_http_whitespace v (tokens_not_end is_http_whitespace token_not_space v t)))
 
 gives_value : (v rest : List ℕ) → GivesValue (61 ∷ printed_value v) rest (Some v)
-gives_value v rest = cond_both (is_token_text v) v (34 ∷ (flat_map escaped v ++ (34 ∷ []))) (λ t. GivesValue (61 ∷ t) rest (Some v)) (λ e. plain_value v rest e) (λ e. quoted (flat_map escaped v) [] (quoted_escaped v) tt)
+gives_value v rest = cond_both (is_token_text v) v (34 ∷ (flat_map escaped_code_point v ++ (34 ∷ []))) (λ t. GivesValue (61 ∷ t) rest (Some v)) (λ e. plain_value v rest e) (λ e. quoted (flat_map escaped_code_point v) [] (quoted_escaped v) tt)
 
 value_not_end : (v : List ℕ) → DoesNotEnd is_http_whitespace (printed_value v)
-value_not_end v = cond_both (is_token_text v) v (34 ∷ (flat_map escaped v ++ (34 ∷ []))) (λ t. DoesNotEnd is_http_whitespace t)
+value_not_end v = cond_both (is_token_text v) v (34 ∷ (flat_map escaped_code_point v ++ (34 ∷ []))) (λ t. DoesNotEnd is_http_whitespace t)
     (λ e. tokens_not_end is_http_whitespace token_not_space v (every_token v e))
-    (λ e. not_ends_last is_http_whitespace 34 refl (34 ∷ flat_map escaped v))
+    (λ e. not_ends_last is_http_whitespace 34 refl (34 ∷ flat_map escaped_code_point v))
 
 -- A parameter
 
@@ -175,7 +175,7 @@ first_itself earlier (p ∷ pairs) h k =
     cond-false (has_name p.0 earlier) (first_of_each_name (earlier ++ (p ∷ [])) pairs) (p ∷ first_of_each_name (earlier ++ (p ∷ [])) pairs) h.0
     ∙ ap (λ x. p ∷ x) (first_itself (earlier ++ (p ∷ [])) pairs (apart_more earlier p pairs h.1 (not-true (has_name p.0 pairs) d.0)) d.1)
 
-all_kept : (m : Record) → IsWellformed m → m.parameters ≡ kept (map item_of m.parameters)
+all_kept : (m : Record) → IsWellformed m → m.parameters ≡ kept_pairs (map item_of m.parameters)
 all_kept m w = sym (ap (first_of_each_name []) (all_valid m.parameters w.names w.values) ∙ first_itself [] m.parameters (apart_none m.parameters) w.distinct)
 
 -- The whole

@@ -4,7 +4,7 @@ use Rattle.std.proofs.Common.{subst, true}
 use Rattle.std.proofs.lemmas.List.{append-nil}
 use Rattle.std.specs.Prelude.{IsErr, MatchOption}
 use Rattle.std.proofs.lemmas.Bool.{false≢true, true≢false}
-use Rattle.data_url.specs.Run.{Call, IsPrefix, IsRun, joined, or_error, refusal}
+use Rattle.data_url.specs.Run.{Call, IsPrefix, IsRun, joined_pieces, or_error, refusal}
 use Rattle.data_url.proofs.WalkLemmas.{some_not_none}
 
 ok_is_no_error : {E : Type 0} (r : Result (Unit {0}) E) (o : Option E) → or_error r o ≡ None → IsErr r → ⊥
@@ -28,9 +28,9 @@ pub refusal-append : {F E : Type 0} (xs ys : List (Call F E)) → refusal xs ≡
 refusal-append [] ys n = refl
 refusal-append (c ∷ cs) ys n = or_same c.answer (refusal cs) (refusal (cs ++ ys)) n ∙ refusal-append cs ys (later_none c.answer (refusal cs) n)
 
-pub joined-append : {F E : Type 0} (xs ys : List (Call F E)) → joined (xs ++ ys) ≡ joined xs ++ joined ys
-joined-append [] ys = refl
-joined-append (c ∷ cs) ys = ap (λ x. c.piece ++ x) (joined-append cs ys) ∙ sym (append_assoc c.piece (joined cs) (joined ys))
+pub joined_pieces-append : {F E : Type 0} (xs ys : List (Call F E)) → joined_pieces (xs ++ ys) ≡ joined_pieces xs ++ joined_pieces ys
+joined_pieces-append [] ys = refl
+joined_pieces-append (c ∷ cs) ys = ap (λ x. c.piece ++ x) (joined_pieces-append cs ys) ∙ sym (append_assoc c.piece (joined_pieces cs) (joined_pieces ys))
 
 -- Cases of an option
 

@@ -3,12 +3,12 @@ use Rattle.std.proofs.Common.{◌≡◌, ℕ, suc, ◌+◌, ◌-◌, ◌≤◌, 
 use Rattle.std.proofs.lemmas.List.{append-nil, length-map}
 use Rattle.std.specs.List.{prefix_len, suffix_len}
 use Rattle.std.specs.Prelude.{IsErr, MatchOption}
-use Rattle.data_url.specs.Base64.{after_groups, before_place, decoded, done, first_fault, groups, is_symbol, is_valid, kind_of, rest_bytes, symbol_value, values}
+use Rattle.data_url.specs.Base64.{after_groups, before_place, decoded, complete_bytes, first_fault, groups, is_symbol, is_valid, kind_of, rest_bytes, symbol_value, values}
 use Rattle.data_url.specs.DataUrl.{Decodes, HandsOut}
 use Rattle.data_url.specs.Errors.{IsRefused}
 use Rattle.data_url.specs.Fetch.{Bad, Good, Outcome, outcome, outcome_bytes, plain_body, tail_of}
-use Rattle.data_url.specs.Run.{Call, IsPrefix, IsRun, joined, or_error, refusal}
-use Rattle.data_url.specs.Url.{behind, is_c0_control_or_space, trimmed, without_front}
+use Rattle.data_url.specs.Run.{Call, IsPrefix, IsRun, joined_pieces, or_error, refusal}
+use Rattle.data_url.specs.Url.{behind, is_c0_control_or_space, trimmed_text, without_front}
 use Rattle.data_url.specs.DataUrl.{IsUrlOf, is_base64, url_body, url_tail}
 use Rattle.data_url.specs.declared.DataUrl.{DataUrl}
 use Rattle.data_url.specs.declared.forgiving_base64.DecodeError.{DecodeError}
@@ -29,18 +29,18 @@ module _ {F E : Type 0} (step : F → List ℕ → Result (Unit {0}) E → F →
     (refuses : (bytes : List ℕ) (f : F) (piece : List ℕ) (e : E) (g : F) → kept bytes f → step f piece (Err e) g → stopped (bytes ++ piece) e g) where
   -- behind one call and those that follow it
   one_more : (r : Result (Unit {0}) E) (bytes piece : List ℕ) (f after g : F) (cs : List (Call F E)) → kept bytes f → step f piece r after → (IsErr r → cs ≡ []) → IsRun step after cs g
-      → (kept (bytes ++ piece) after → MatchOption (refusal cs) (kept ((bytes ++ piece) ++ joined cs) g) (λ e. stopped ((bytes ++ piece) ++ joined cs) e g))
-      → MatchOption (or_error r (refusal cs)) (kept (bytes ++ (piece ++ joined cs)) g) (λ e. stopped (bytes ++ (piece ++ joined cs)) e g)
+      → (kept (bytes ++ piece) after → MatchOption (refusal cs) (kept ((bytes ++ piece) ++ joined_pieces cs) g) (λ e. stopped ((bytes ++ piece) ++ joined_pieces cs) e g))
+      → MatchOption (or_error r (refusal cs)) (kept (bytes ++ (piece ++ joined_pieces cs)) g) (λ e. stopped (bytes ++ (piece ++ joined_pieces cs)) e g)
   one_more (Ok tt) bytes piece f after g cs k s last ran more =
       let P : List ℕ → Type 0 = λ x. MatchOption (refusal cs) (kept x g) (λ e. stopped x e g) in
-      subst P (append_assoc bytes piece (joined cs)) (more (accepts bytes f piece after k s))
+      subst P (append_assoc bytes piece (joined_pieces cs)) (more (accepts bytes f piece after k s))
   one_more (Err e) bytes piece f after g cs k s last ran more =
       let none = last refl in
       let P : List ℕ → Type 0 = λ x. stopped (bytes ++ x) e g in
       let Q : F → Type 0 = λ x. stopped (bytes ++ piece) e x in
-      subst P (sym (ap (λ x. piece ++ joined x) none ∙ append-nil piece)) (subst Q (run_stops step cs after g none ran) (refuses bytes f piece e after k s))
+      subst P (sym (ap (λ x. piece ++ joined_pieces x) none ∙ append-nil piece)) (subst Q (run_stops step cs after g none ran) (refuses bytes f piece e after k s))
 
-  run_ends_from : (cs : List (Call F E)) (bytes : List ℕ) (f g : F) → kept bytes f → IsRun step f cs g → MatchOption (refusal cs) (kept (bytes ++ joined cs) g) (λ e. stopped (bytes ++ joined cs) e g)
+  run_ends_from : (cs : List (Call F E)) (bytes : List ℕ) (f g : F) → kept bytes f → IsRun step f cs g → MatchOption (refusal cs) (kept (bytes ++ joined_pieces cs) g) (λ e. stopped (bytes ++ joined_pieces cs) e g)
   run_ends_from [] bytes f g k ran =
       let P : F → Type 0 = λ x. kept (bytes ++ []) x in
       let Q : List ℕ → Type 0 = λ x. kept x f in
@@ -51,7 +51,7 @@ module _ {F E : Type 0} (step : F → List ℕ → Result (Unit {0}) E → F →
 pub run_ends : {F E : Type 0} (step : F → List ℕ → Result (Unit {0}) E → F → Type 0) (cs : List (Call F E)) (f g : F) → IsRun step f cs g → (kept : List ℕ → F → Type 0) (stopped : List ℕ → E → F → Type 0)
     → ((bytes : List ℕ) (p : F) (piece : List ℕ) (q : F) → kept bytes p → step p piece (Ok tt) q → kept (bytes ++ piece) q)
     → ((bytes : List ℕ) (p : F) (piece : List ℕ) (e : E) (q : F) → kept bytes p → step p piece (Err e) q → stopped (bytes ++ piece) e q)
-    → kept [] f → MatchOption (refusal cs) (kept (joined cs) g) (λ e. stopped (joined cs) e g)
+    → kept [] f → MatchOption (refusal cs) (kept (joined_pieces cs) g) (λ e. stopped (joined_pieces cs) e g)
 run_ends step cs f g ran kept stopped accepts refuses start = run_ends_from step kept stopped accepts refuses cs [] f g start ran
 
 -- Measures
@@ -62,9 +62,9 @@ accepted_at {E = E} cs P Q n h = let M : Option E → Type 0 = λ o. MatchOption
 -- a measure that each accepted piece extends is extended by the whole run
 pub run_extends : {F E : Type 0} (step : F → List ℕ → Result (Unit {0}) E → F → Type 0) (cs : List (Call F E)) (f g : F) → IsRun step f cs g → refusal cs ≡ None → (measure : F → List ℕ)
     → ((p : F) (piece : List ℕ) (q : F) → step p piece (Ok tt) q → measure q ≡ measure p ++ piece)
-    → measure g ≡ measure f ++ joined cs
+    → measure g ≡ measure f ++ joined_pieces cs
 run_extends step cs f g ran n measure extends =
-    accepted_at cs (measure g ≡ measure f ++ joined cs) (λ e. Unit {0}) n
+    accepted_at cs (measure g ≡ measure f ++ joined_pieces cs) (λ e. Unit {0}) n
     (run_ends step cs f g ran (λ bytes p. measure p ≡ measure f ++ bytes) (λ bytes e p. Unit {0})
     (λ bytes p piece q k s. extends p piece q s ∙ ap (λ x. x ++ piece) k ∙ append_assoc (measure f) bytes piece)
     (λ bytes p piece e q k s. tt) (sym (append-nil (measure f))))
@@ -72,9 +72,9 @@ run_extends step cs f g ran n measure extends =
 -- a count to which each accepted piece adds its length has added the length of the whole run
 pub run_counts : {F E : Type 0} (step : F → List ℕ → Result (Unit {0}) E → F → Type 0) (cs : List (Call F E)) (f g : F) → IsRun step f cs g → refusal cs ≡ None → (count : F → ℕ)
     → ((p : F) (piece : List ℕ) (q : F) → step p piece (Ok tt) q → count q ≡ count p + length piece)
-    → count g ≡ count f + length (joined cs)
+    → count g ≡ count f + length (joined_pieces cs)
 run_counts step cs f g ran n count adds =
-    accepted_at cs (count g ≡ count f + length (joined cs)) (λ e. Unit {0}) n
+    accepted_at cs (count g ≡ count f + length (joined_pieces cs)) (λ e. Unit {0}) n
     (run_ends step cs f g ran (λ bytes p. count p ≡ count f + length bytes) (λ bytes e p. Unit {0})
     (λ bytes p piece q k s. let h = adds p piece q s in omega (arith, h, k, length-append bytes piece))
     (λ bytes p piece e q k s. tt) (omega arith))
@@ -82,9 +82,9 @@ run_counts step cs f g ran n count adds =
 -- the same of a count that goes no further than a greatest number
 pub run_counts_up_to : {F E : Type 0} (step : F → List ℕ → Result (Unit {0}) E → F → Type 0) (cs : List (Call F E)) (f g : F) (most : ℕ) → IsRun step f cs g → refusal cs ≡ None → (count : F → ℕ) → count f ≤ most
     → ((p : F) (piece : List ℕ) (q : F) → step p piece (Ok tt) q → count q ≡ min (count p + length piece) most)
-    → count g ≡ min (count f + length (joined cs)) most
+    → count g ≡ min (count f + length (joined_pieces cs)) most
 run_counts_up_to step cs f g most ran n count few adds =
-    accepted_at cs (count g ≡ min (count f + length (joined cs)) most) (λ e. Unit {0}) n
+    accepted_at cs (count g ≡ min (count f + length (joined_pieces cs)) most) (λ e. Unit {0}) n
     (run_ends step cs f g ran (λ bytes p. count p ≡ min (count f + length bytes) most) (λ bytes e p. Unit {0})
     (λ bytes p piece q k s. let h = adds p piece q s in omega (arith, h, k, length-append bytes piece))
     (λ bytes p piece e q k s. tt) (omega arith))
@@ -117,7 +117,7 @@ pub body_ends : {F E A : Type 0} {step : F → List ℕ → Result (Unit {0}) E 
     → ((bytes : List ℕ) (p : F) (piece : List ℕ) (e : E) (q : F) → kept bytes p → step p piece (Err e) q → stopped (bytes ++ piece) e q)
     → kept [] f → EndsWith kept stopped body good g s
 body_ends {step = step} {f = f} {g = g} {body = body} {good = good} {r = r} {s = s} d e kept stopped accepts refuses start =
-    ended_at kept stopped good g body s r (sym e) (ended_by kept stopped good g (refusal d.run) body (joined d.run) r d.gave (run_ends step d.run f g d.ran kept stopped accepts refuses start))
+    ended_at kept stopped good g body s r (sym e) (ended_by kept stopped good g (refusal d.run) body (joined_pieces d.run) r d.gave (run_ends step d.run f g d.ran kept stopped accepts refuses start))
 
 -- a measure that each accepted piece extends, and each refused one by a beginning of it, is extended by what was handed out, or a beginning of that
 pub body_extends : {F E A : Type 0} {step : F → List ℕ → Result (Unit {0}) E → F → Type 0} {f g : F} {most : ℕ} {body : Outcome} {good : A → Type 0} {r s : Result A (DecodeError E)} → Decodes step f most body good r g → r ≡ s → (measure : F → List ℕ)
@@ -158,8 +158,8 @@ before_place_shorter : (s : List ℕ) (o : Option ℕ) → length (before_place 
 before_place_shorter s None = omega arith
 before_place_shorter s (Some i) = omega (arith, length-take i s)
 
-done_shorter : (s : List ℕ) → length (done s) ≤ length s
-unfolding done
+done_shorter : (s : List ℕ) → length (complete_bytes s) ≤ length s
+unfolding complete_bytes
 done_shorter s = let t : List ℕ = before_place s (first_fault s) in omega (arith, groups_length (values t), values_shorter t, before_place_shorter s (first_fault s))
 
 outcome_shorter : (flag : Bool) (s : List ℕ) → length (outcome_bytes (outcome flag s)) ≤ length s
@@ -168,7 +168,7 @@ outcome_shorter false s = omega arith
 outcome_shorter true s =
     let a = decoded_shorter s in
     let b = done_shorter s in
-    elim (is_valid s) as (λ v. length (outcome_bytes (cond v (Good (decoded s)) (Bad (done s) (kind_of s)))) ≤ length s) [ true ↦ a | false ↦ b ]
+    elim (is_valid s) as (λ v. length (outcome_bytes (cond v (Good (decoded s)) (Bad (complete_bytes s) (kind_of s)))) ≤ length s) [ true ↦ a | false ↦ b ]
 
 -- a body, and what stands before its fault, has no more bytes than its tail
 pub body_within_tail : (url : DataUrl) → length (outcome_bytes (url_body url)) ≤ length (url_tail url)
@@ -183,8 +183,8 @@ behind_shorter c (b ∷ s) rest e =
       | false ↦ λ (h : behind c s ≡ Some rest). omega (arith, behind_shorter c s rest h)
     ] e
 
-trimmed_shorter : (t : List ℕ) → length (trimmed t) ≤ length t
-unfolding trimmed
+trimmed_shorter : (t : List ℕ) → length (trimmed_text t) ≤ length t
+unfolding trimmed_text
 trimmed_shorter t =
     let p = is_c0_control_or_space in
     let s : List ℕ = without_front p t in
@@ -192,7 +192,7 @@ trimmed_shorter t =
 
 tail_shorter : (t tail : List ℕ) → tail_of t ≡ Some tail → length tail ≤ length t
 unfolding tail_of
-tail_shorter t tail e = omega (arith, behind_shorter 44 (trimmed t) tail e, trimmed_shorter t)
+tail_shorter t tail e = omega (arith, behind_shorter 44 (trimmed_text t) tail e, trimmed_shorter t)
 
 -- nor more than the text of its URL
 pub body_within_text : {t : List ℕ} {url : DataUrl} → IsUrlOf t url → length (outcome_bytes (url_body url)) ≤ length t

@@ -7,7 +7,7 @@ use Rattle.std.specs.Cmp.{first_so, second_so}
 use Rattle.std.specs.Cmp.Lexicographic.{pointwise, same_text}
 use Rattle.std.proofs.lemmas.Cmp.{nat_list_eq_equiv}
 use Rattle.data_url.specs.Mime.{Pair, Record}
-use Rattle.data_url.specs.MimeType.{SameTexts, pair_of, same_pair, same_texts, seen, texts_of_pair}
+use Rattle.data_url.specs.MimeType.{SameTexts, pair_of, same_pair, same_texts, record_of, texts_of_pair}
 use Rattle.data_url.specs.declared.mime.Mime.{Mime}
 use Rattle.data_url.proofs.PrintLemmas.{text_bytes}
 
@@ -79,15 +79,15 @@ pairs_seen : {A B : Type 0} (ps : List (String A × String B)) → map pair_of p
 pairs_seen [] = refl
 pairs_seen (p ∷ ps) = ap (λ xs. pair_of p ∷ xs) (pairs_seen ps)
 
-abbrev record_of : List ℕ → List ℕ → List Pair → Record
-record_of a b c = record { type_ = a; subtype = b; parameters = c }
+abbrev record_with : List ℕ → List ℕ → List Pair → Record
+record_with a b c = record { type_ = a; subtype = b; parameters = c }
 
-pub same_seen : (m n : Mime) → SameTexts m n → seen m ≡ seen n
+pub same_seen : (m n : Mime) → SameTexts m n → record_of m ≡ record_of n
 same_seen m n h =
     let pairs : map pair_of m.parameters.items ≡ map pair_of n.parameters.items = pairs_seen m.parameters.items ∙ ap (map pair_seen) h.parameters ∙ sym (pairs_seen n.parameters.items) in
-    ap (λ a. record_of a (chars (string_bytes m.subtype)) (map pair_of m.parameters.items)) (ap chars h.type_)
-    ∙ ap (λ b. record_of (chars (string_bytes n.type_)) b (map pair_of m.parameters.items)) (ap chars h.subtype)
-    ∙ ap (λ c. record_of (chars (string_bytes n.type_)) (chars (string_bytes n.subtype)) c) pairs
+    ap (λ a. record_with a (chars (string_bytes m.subtype)) (map pair_of m.parameters.items)) (ap chars h.type_)
+    ∙ ap (λ b. record_with (chars (string_bytes n.type_)) b (map pair_of m.parameters.items)) (ap chars h.subtype)
+    ∙ ap (λ c. record_with (chars (string_bytes n.type_)) (chars (string_bytes n.subtype)) c) pairs
 
 -- bytes follow from code points
 
@@ -98,7 +98,7 @@ pairs_spelled : {A B : Type 0} (ps : List (String A × String B)) → map texts_
 pairs_spelled [] = refl
 pairs_spelled (p ∷ ps) = ap₂ (λ a b. (a, b) ∷ map texts_of_pair ps) (text_bytes p.0) (text_bytes p.1) ∙ ap (λ xs. pair_spelled (pair_of p) ∷ xs) (pairs_spelled ps)
 
-pub seen_same : (m n : Mime) → seen m ≡ seen n → SameTexts m n
+pub seen_same : (m n : Mime) → record_of m ≡ record_of n → SameTexts m n
 seen_same m n h = record {
   type_ = text_bytes m.type_ ∙ ap (λ (r : Record). encode_utf8_all r.type_) h ∙ sym (text_bytes n.type_);
   subtype = text_bytes m.subtype ∙ ap (λ (r : Record). encode_utf8_all r.subtype) h ∙ sym (text_bytes n.subtype);

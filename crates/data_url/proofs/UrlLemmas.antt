@@ -3,7 +3,7 @@ use Rattle.std.proofs.Common.{◌≡◌, ℕ, suc, ◌<◌, true, false, not, co
 use Rattle.std.specs.Prelude.{◌==◌}
 use Rattle.std.proofs.lemmas.Bool.{cases_Bool, cond-true, cond-false}
 use Rattle.std.specs.Option.{option_map}
-use Rattle.data_url.specs.Url.{before, behind, dropped, fragment, is_tab_or_newline}
+use Rattle.data_url.specs.Url.{before, behind, without_tabs_and_newlines, fragment, is_tab_or_newline}
 
 -- one byte on
 
@@ -95,44 +95,44 @@ behind_none c (b ∷ s) h = behind_other c b s (h 0 (omega arith)) ∙ behind_no
 
 -- Dropping
 
-pub dropped_nil : dropped [] ≡ []
-unfolding dropped
+pub dropped_nil : without_tabs_and_newlines [] ≡ []
+unfolding without_tabs_and_newlines
 dropped_nil = refl
 
-pub dropped_passes : (b : ℕ) (s : List ℕ) → is_tab_or_newline b ≡ true → dropped (b ∷ s) ≡ dropped s
-unfolding dropped
-dropped_passes b s h = ap (λ v. cond (not v) (b ∷ dropped s) (dropped s)) h
+pub dropped_passes : (b : ℕ) (s : List ℕ) → is_tab_or_newline b ≡ true → without_tabs_and_newlines (b ∷ s) ≡ without_tabs_and_newlines s
+unfolding without_tabs_and_newlines
+dropped_passes b s h = ap (λ v. cond (not v) (b ∷ without_tabs_and_newlines s) (without_tabs_and_newlines s)) h
 
-pub dropped_keeps : (b : ℕ) (s : List ℕ) → is_tab_or_newline b ≡ false → dropped (b ∷ s) ≡ b ∷ dropped s
-unfolding dropped
-dropped_keeps b s h = ap (λ v. cond (not v) (b ∷ dropped s) (dropped s)) h
+pub dropped_keeps : (b : ℕ) (s : List ℕ) → is_tab_or_newline b ≡ false → without_tabs_and_newlines (b ∷ s) ≡ b ∷ without_tabs_and_newlines s
+unfolding without_tabs_and_newlines
+dropped_keeps b s h = ap (λ v. cond (not v) (b ∷ without_tabs_and_newlines s) (without_tabs_and_newlines s)) h
 
-pub dropped-append : (a s : List ℕ) → dropped (a ++ s) ≡ dropped a ++ dropped s
-unfolding dropped
-dropped-append [] s = refl
-dropped-append (b ∷ a) s = elim (is_tab_or_newline b) as (λ v. cond (not v) (b ∷ dropped (a ++ s)) (dropped (a ++ s)) ≡ cond (not v) (b ∷ dropped a) (dropped a) ++ dropped s) [ true ↦ dropped-append a s | false ↦ ap (λ t. b ∷ t) (dropped-append a s) ]
+pub without_tabs_and_newlines-append : (a s : List ℕ) → without_tabs_and_newlines (a ++ s) ≡ without_tabs_and_newlines a ++ without_tabs_and_newlines s
+unfolding without_tabs_and_newlines
+without_tabs_and_newlines-append [] s = refl
+without_tabs_and_newlines-append (b ∷ a) s = elim (is_tab_or_newline b) as (λ v. cond (not v) (b ∷ without_tabs_and_newlines (a ++ s)) (without_tabs_and_newlines (a ++ s)) ≡ cond (not v) (b ∷ without_tabs_and_newlines a) (without_tabs_and_newlines a) ++ without_tabs_and_newlines s) [ true ↦ without_tabs_and_newlines-append a s | false ↦ ap (λ t. b ∷ t) (without_tabs_and_newlines-append a s) ]
 
 -- a byte that is kept is there exactly if it was there before
-pub behind-dropped_none : (c : ℕ) → is_tab_or_newline c ≡ false → (s : List ℕ) → behind c s ≡ None → behind c (dropped s) ≡ None
+pub behind-dropped_none : (c : ℕ) → is_tab_or_newline c ≡ false → (s : List ℕ) → behind c s ≡ None → behind c (without_tabs_and_newlines s) ≡ None
 behind-dropped_none c k [] h = ap (behind c) dropped_nil ∙ behind_nil c
 behind-dropped_none c k (b ∷ s) h = let l = lacks c b s h in elim (cases_Bool (is_tab_or_newline b)) [
   | inl e ↦ ap (behind c) (dropped_passes b s e) ∙ behind-dropped_none c k s l.behind_it
-  | inr e ↦ ap (behind c) (dropped_keeps b s e) ∙ behind_other c b (dropped s) l.here ∙ behind-dropped_none c k s l.behind_it
+  | inr e ↦ ap (behind c) (dropped_keeps b s e) ∙ behind_other c b (without_tabs_and_newlines s) l.here ∙ behind-dropped_none c k s l.behind_it
 ]
 
 -- dropping, where a byte that is kept stands between
-pub dropped_around : (c : ℕ) → is_tab_or_newline c ≡ false → (a s : List ℕ) → dropped (a ++ c ∷ s) ≡ dropped a ++ c ∷ dropped s
-dropped_around c k a s = dropped-append a (c ∷ s) ∙ ap (λ t. dropped a ++ t) (dropped_keeps c s k)
+pub dropped_around : (c : ℕ) → is_tab_or_newline c ≡ false → (a s : List ℕ) → without_tabs_and_newlines (a ++ c ∷ s) ≡ without_tabs_and_newlines a ++ c ∷ without_tabs_and_newlines s
+dropped_around c k a s = without_tabs_and_newlines-append a (c ∷ s) ∙ ap (λ t. without_tabs_and_newlines a ++ t) (dropped_keeps c s k)
 
-fragment_cases : (tail : List ℕ) (o : Option (List ℕ)) → behind 35 tail ≡ o → fragment (dropped tail) ≡ option_map dropped o
+fragment_cases : (tail : List ℕ) (o : Option (List ℕ)) → behind 35 tail ≡ o → fragment (without_tabs_and_newlines tail) ≡ option_map without_tabs_and_newlines o
 unfolding fragment
 fragment_cases tail None h = behind-dropped_none 35 refl tail h
 fragment_cases tail (Some rest) h =
     let cut = is_cut 35 tail rest h in
-    ap (λ t. behind 35 (dropped t)) cut.joined
+    ap (λ t. behind 35 (without_tabs_and_newlines t)) cut.joined
     ∙ ap (behind 35) (dropped_around 35 refl (before 35 tail) rest)
-    ∙ behind_at 35 (dropped (before 35 tail)) (dropped rest) (behind-dropped_none 35 refl (before 35 tail) cut.lacks)
+    ∙ behind_at 35 (without_tabs_and_newlines (before 35 tail)) (without_tabs_and_newlines rest) (behind-dropped_none 35 refl (before 35 tail) cut.lacks)
 
 -- tabs and newlines may be dropped before the fragment is cut off or after it
-pub fragment_dropped : (tail : List ℕ) → fragment (dropped tail) ≡ option_map dropped (behind 35 tail)
+pub fragment_dropped : (tail : List ℕ) → fragment (without_tabs_and_newlines tail) ≡ option_map without_tabs_and_newlines (behind 35 tail)
 fragment_dropped tail = fragment_cases tail (behind 35 tail) refl

@@ -3,7 +3,7 @@ use Rattle.std.proofs.Common.{◌≡◌, ℕ, suc, zero, ◌+◌, ◌%◌, Bool,
 use Rattle.std.specs.List.{list_all}
 use Rattle.std.proofs.lemmas.List.{append-nil, length-replicate}
 use Rattle.std.proofs.lemmas.Bool.{eqb-true, eq-eqb, ne_eqb, eqb-false, not-true, not_from_false, false≢true, cond-false, cond_both, and_from, and_right}
-use Rattle.data_url.specs.Base64.{is_symbol, is_valid, unpadded, without_last_padding}
+use Rattle.data_url.specs.Base64.{is_symbol, is_valid, without_padding, without_last_padding}
 use Rattle.data_url.specs.Steps.Facts.{Fits, IsSymbolsAndPadding, PaddingFits}
 use Rattle.data_url.specs.Mime.{Every}
 
@@ -76,16 +76,16 @@ passes_cond : (t r : Bool) (u w : List ℕ) → passes w ≡ false → (t ≡ tr
 passes_cond true r u w h good bad = good refl
 passes_cond false r u w h good bad = h ∙ sym (bad refl)
 
-unpadded_symbols : (q : List ℕ) → Every is_symbol q → unpadded q ≡ q
-unfolding unpadded
+unpadded_symbols : (q : List ℕ) → Every is_symbol q → without_padding q ≡ q
+unfolding without_padding
 unpadded_symbols q h = cond_both (eqb (length q % 4) 0) (without_last_padding (without_last_padding q)) q (λ x. x ≡ q) (λ e. ap without_last_padding (without_pad_symbols q h) ∙ without_pad_symbols q h) (λ e. refl)
 
 length_pads : (q : List ℕ) (n : ℕ) → length (q ++ replicate n 61) ≡ length q + n
 length_pads q n = length-append q (replicate n 61) ∙ ap (λ x. length q + x) (length-replicate n 61)
 
 -- with no pad
-none_passes : (q : List ℕ) → Every is_symbol q → passes (unpadded (q ++ [])) ≡ fits_with (length q % 4) 0
-none_passes q h = ap (λ x. passes (unpadded x)) (append-nil q) ∙ ap passes (unpadded_symbols q h) ∙ passes_symbols q _ h refl
+none_passes : (q : List ℕ) → Every is_symbol q → passes (without_padding (q ++ [])) ≡ fits_with (length q % 4) 0
+none_passes q h = ap (λ x. passes (without_padding x)) (append-nil q) ∙ ap passes (unpadded_symbols q h) ∙ passes_symbols q _ h refl
 
 one_true : (k m : ℕ) → m ≡ k + 1 → eqb (m % 4) 0 ≡ true → not (eqb (k % 4) 1) ≡ eqb (k % 4) 3
 one_true k m l e =
@@ -105,31 +105,31 @@ two_true k m l e =
 two_false : (k m : ℕ) → m ≡ k + 2 → eqb (m % 4) 0 ≡ false → eqb (k % 4) 2 ≡ false
 two_false k m l e = ne_eqb (k % 4) 2 (λ h. eqb-false (m % 4) 0 e (omega (arith, h)))
 
-one_passes : (q : List ℕ) → Every is_symbol q → passes (unpadded (q ++ replicate 1 61)) ≡ fits_with (length q % 4) 1
-unfolding unpadded
+one_passes : (q : List ℕ) → Every is_symbol q → passes (without_padding (q ++ replicate 1 61)) ≡ fits_with (length q % 4) 1
+unfolding without_padding
 one_passes q h =
     passes_cond (eqb (length (q ++ replicate 1 61) % 4) 0) _ (without_last_padding (without_last_padding (q ++ replicate 1 61))) (q ++ replicate 1 61)
     (passes_pads q 0)
     (λ e. ap (λ x. passes (without_last_padding x)) (without_pad_pads q 0 ∙ append-nil q) ∙ ap passes (without_pad_symbols q h) ∙ passes_symbols q _ h (one_true (length q) _ (length_pads q 1) e))
     (λ e. one_false (length q) _ (length_pads q 1) e)
 
-two_passes : (q : List ℕ) → Every is_symbol q → passes (unpadded (q ++ replicate 2 61)) ≡ fits_with (length q % 4) 2
-unfolding unpadded
+two_passes : (q : List ℕ) → Every is_symbol q → passes (without_padding (q ++ replicate 2 61)) ≡ fits_with (length q % 4) 2
+unfolding without_padding
 two_passes q h =
     passes_cond (eqb (length (q ++ replicate 2 61) % 4) 0) _ (without_last_padding (without_last_padding (q ++ replicate 2 61))) (q ++ replicate 2 61)
     (passes_pads q 1)
     (λ e. ap (λ x. passes (without_last_padding x)) (without_pad_pads q 1) ∙ ap passes (without_pad_pads q 0 ∙ append-nil q) ∙ passes_symbols q _ h (two_true (length q) _ (length_pads q 2) e))
     (λ e. two_false (length q) _ (length_pads q 2) e)
 
-more_passes : (q : List ℕ) (n : ℕ) → passes (unpadded (q ++ replicate (suc (suc (suc n))) 61)) ≡ false
-unfolding unpadded
+more_passes : (q : List ℕ) (n : ℕ) → passes (without_padding (q ++ replicate (suc (suc (suc n))) 61)) ≡ false
+unfolding without_padding
 more_passes q n =
     passes_cond (eqb (length (q ++ replicate (suc (suc (suc n))) 61) % 4) 0) false (without_last_padding (without_last_padding (q ++ replicate (suc (suc (suc n))) 61))) (q ++ replicate (suc (suc (suc n))) 61)
     (passes_pads q (suc (suc n)))
     (λ e. ap (λ x. passes (without_last_padding x)) (without_pad_pads q (suc (suc n))) ∙ ap passes (without_pad_pads q (suc n)) ∙ passes_pads q n)
     (λ e. refl)
 
-symbols_pads_pass : (q : List ℕ) (p : ℕ) → Every is_symbol q → passes (unpadded (q ++ replicate p 61)) ≡ fits_with (length q % 4) p
+symbols_pads_pass : (q : List ℕ) (p : ℕ) → Every is_symbol q → passes (without_padding (q ++ replicate p 61)) ≡ fits_with (length q % 4) p
 symbols_pads_pass q zero h = none_passes q h
 symbols_pads_pass q (suc zero) h = one_passes q h
 symbols_pads_pass q (suc (suc zero)) h = two_passes q h
@@ -138,7 +138,7 @@ symbols_pads_pass q (suc (suc (suc n))) h = more_passes q n
 -- symbols and pads, with white space anywhere, are valid by their numbers
 pub symbols_pads_valid : (b q : List ℕ) (p : ℕ) → IsSymbolsAndPadding b q p → is_valid b ≡ fits_with (length q % 4) p
 unfolding is_valid
-symbols_pads_valid b q p h = ap (λ x. passes (unpadded x)) h.compact_is ∙ symbols_pads_pass q p h.symbols_are
+symbols_pads_valid b q p h = ap (λ x. passes (without_padding x)) h.compact_is ∙ symbols_pads_pass q p h.symbols_are
 
 -- The numbers that fit
 

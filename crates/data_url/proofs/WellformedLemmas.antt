@@ -6,7 +6,7 @@ use Rattle.std.specs.Char.{to_ascii_lowercase}
 use Rattle.std.specs.List.{list_all}
 use Rattle.std.specs.Str.{bytes_eq}
 use Rattle.data_url.specs.CodePoints.{is_quotable}
-use Rattle.data_url.specs.Mime.{HasNoRecord, IsHead, IsWellformed, Item, Items, Pair, Parses, Record, first_of_each_name, has_distinct_names, has_name, is_lowercase_name, is_token_text, kept, valid_of, valid_pairs, IsRecordOfParts}
+use Rattle.data_url.specs.Mime.{HasNoRecord, IsHead, IsWellformed, Item, Items, Pair, Parses, Record, first_of_each_name, has_distinct_names, has_name, is_lowercase_name, is_token_text, kept_pairs, valid_of, valid_pairs, IsRecordOfParts}
 use Rattle.data_url.specs.Steps.Parsing.{HasLowercaseNames, HasNoHead}
 use Rattle.data_url.proofs.ItemLemmas.{some_items}
 use Rattle.data_url.proofs.KeptLemmas.{equal_from_test, has_append, lowercase_name, test_from_equal, token_text_lower, valid_lower}
@@ -81,7 +81,7 @@ parses_parts s a b c m h p = record { type_ = a; subtype = b; parameters = c; he
 pub has_record : (s a b c : List ℕ) → IsHead s a b c → HasNoRecord s → ⊥
 has_record s a b c h n =
     let i = some_items c h.begins in
-    n (record { type_ = map to_ascii_lowercase a; subtype = map to_ascii_lowercase b; parameters = kept i.0 })
+    n (record { type_ = map to_ascii_lowercase a; subtype = map to_ascii_lowercase b; parameters = kept_pairs i.0 })
     (record { type_ = a; subtype = b; parameters = c; head = h; record_is = record { items = i.0; items_are = i.1; type_is = refl; subtype_is = refl; parameters_are = refl } })
 
 pub no_record : (s : List ℕ) → HasNoHead s → HasNoRecord s

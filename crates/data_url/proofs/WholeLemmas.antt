@@ -3,18 +3,18 @@ use Rattle.std.proofs.Common.{◌≡◌, ◌⊎◌, ℕ, Bool, true, false, cond
 use Rattle.std.specs.Prelude.{MatchBool, MatchOption}
 use Rattle.std.proofs.lemmas.List.{append-nil}
 use Rattle.std.proofs.lemmas.Bool.{cond-true}
-use Rattle.data_url.specs.Base64.{decoded, done, first_fault, is_valid, kind_of, left_padding, left_symbols, left_text}
+use Rattle.data_url.specs.Base64.{decoded, complete_bytes, first_fault, is_valid, kind_of, left_padding, left_symbols, left_text}
 use Rattle.data_url.specs.Steps.Whole.{DecodesText, vec_error}
 use Rattle.data_url.specs.Decoder.{Feeds, Finishes, IsAll, IsTaken, State, left_over, start}
 use Rattle.data_url.specs.Errors.{IsErrorOf, IsRefused}
 use Rattle.data_url.specs.Laws.{GoesOn}
-use Rattle.data_url.specs.Run.{Call, IsPrefix, IsRun, joined, or_error, refusal}
+use Rattle.data_url.specs.Run.{Call, IsPrefix, IsRun, joined_pieces, or_error, refusal}
 use Rattle.data_url.specs.declared.forgiving_base64.DecodeError.{DecodeError}
 use Rattle.data_url.specs.declared.forgiving_base64.DecodeError.TheVariants.{InvalidBase64, WriteError}
 use Rattle.data_url.proofs.ByteLemmas.{bool_at_false, bool_at_true, feeds_none}
 use Rattle.data_url.proofs.DecoderLemmas.{feeds_goes_on, feeds_took}
 use Rattle.data_url.proofs.FeedLemmas.{two_feeds}
-use Rattle.data_url.proofs.RunLemmas.{joined-append, later_none, match_at, match_at_none, match_map, match_none, prefix_all, prefix_behind, prefix_trans, refusal-append, run-append}
+use Rattle.data_url.proofs.RunLemmas.{joined_pieces-append, later_none, match_at, match_at_none, match_map, match_none, prefix_all, prefix_behind, prefix_trans, refusal-append, run-append}
 use Rattle.data_url.proofs.PaddingLemmas.{fault_byte, fault_invalid, none_fault, valid_no_fault}
 use Rattle.data_url.proofs.WalkLemmas.{some_not_none}
 
@@ -24,16 +24,16 @@ split_bool false P Q h = inr (refl, h)
 
 -- all that an accepting closure gets of a text
 abbrev pub whole_bytes : List ℕ → List ℕ
-whole_bytes u = cond (is_valid u) (decoded u) (done u)
+whole_bytes u = cond (is_valid u) (decoded u) (complete_bytes u)
 
 -- what was handed out before a fault is a beginning of all
-pub done_whole : (u : List ℕ) → IsPrefix (done u) (whole_bytes u)
+pub done_whole : (u : List ℕ) → IsPrefix (complete_bytes u) (whole_bytes u)
 done_whole u =
-    elim (is_valid u) as (λ v. is_valid u ≡ v → IsPrefix (done u) (cond v (decoded u) (done u))) [
+    elim (is_valid u) as (λ v. is_valid u ≡ v → IsPrefix (complete_bytes u) (cond v (decoded u) (complete_bytes u))) [
       | true ↦ λ e.
           let g = two_feeds u [] (none_fault u (valid_no_fault u e)) in
           (decoded (left_text (left_symbols u) (left_padding u) ++ []), ap decoded (sym (append-nil u)) ∙ g.decoded_is)
-      | false ↦ λ e. prefix_all (done u) (done u) refl
+      | false ↦ λ e. prefix_all (complete_bytes u) (complete_bytes u) refl
     ] refl
 
 match_either : {A : Type 0} (o : Option A) (P Q : Type 0) → MatchOption o P (λ i. Q) → (P → Q) → Q
@@ -41,7 +41,7 @@ match_either None P Q m f = f m
 match_either (Some i) P Q m f = m
 
 -- a text that was refused as it was fed is not valid
-taken_invalid : {F E : Type 0} (u bytes : List ℕ) (r : Result (Unit {0}) (DecodeError E)) (x : DecodeError E) (d : State F) (o : Option ℕ) → r ≡ Err x → fault_byte false u ≡ o → IsTaken u bytes r d → MatchBool (is_valid u) (IsAll u bytes r) ((bytes ≡ done u) × (r ≡ Err (InvalidBase64 (kind_of u))))
+taken_invalid : {F E : Type 0} (u bytes : List ℕ) (r : Result (Unit {0}) (DecodeError E)) (x : DecodeError E) (d : State F) (o : Option ℕ) → r ≡ Err x → fault_byte false u ≡ o → IsTaken u bytes r d → MatchBool (is_valid u) (IsAll u bytes r) ((bytes ≡ complete_bytes u) × (r ≡ Err (InvalidBase64 (kind_of u))))
 taken_invalid u bytes r x d None q h t = absurd (let k = match_at_none (first_fault u) _ _ (none_fault u h) t.answer in let e = k.0 in cc)
 taken_invalid u bytes r x d (Some c) q h t = bool_at_false (is_valid u) _ _ (fault_invalid u c h) (t.bytes_are, match_either (first_fault u) _ _ t.answer (λ k. absurd (let e = k.0 in cc)))
 
@@ -49,21 +49,21 @@ module _ {F E : Type 0} (step : F → List ℕ → Result (Unit {0}) E → F →
   -- what a decoder gives of a whole text, as it runs
   abbrev Whole : List ℕ → Option E → List ℕ → Result (Unit {0}) (DecodeError E) → Type 0
   Whole u o bytes r =
-      MatchOption o (MatchBool (is_valid u) (IsAll u bytes r) ((bytes ≡ done u) × (r ≡ Err (InvalidBase64 (kind_of u)))))
+      MatchOption o (MatchBool (is_valid u) (IsAll u bytes r) ((bytes ≡ complete_bytes u) × (r ≡ Err (InvalidBase64 (kind_of u)))))
       (λ e. IsRefused (whole_bytes u) bytes e r)
 
   -- refused as it was fed
   refused_fed : {d d' : State F} {u : List ℕ} {x : DecodeError E} → Feeds step d u (Err x) d' → left_over d ++ u ≡ u → DecodesText step d.closure u (Err x) d'.closure
   refused_fed {d} {d'} {u} {x} f same =
-      let G : List ℕ → Type 0 = λ w. MatchOption (refusal f.run) (IsTaken w (joined f.run) (Err x) d') (λ e. IsRefused {A = Unit {0}} (done w) (joined f.run) e (Err x)) in
+      let G : List ℕ → Type 0 = λ w. MatchOption (refusal f.run) (IsTaken w (joined_pieces f.run) (Err x) d') (λ e. IsRefused {A = Unit {0}} (complete_bytes w) (joined_pieces f.run) e (Err x)) in
       let gave : G u = subst G same f.gave in
       record {
         run = f.run;
         ran = f.ran;
         calls = omega (arith, f.calls);
         gave = match_map (refusal f.run) _ _ _ _
-            (taken_invalid u (joined f.run) (Err x) x d' (fault_byte false u) refl refl)
-            (λ e h. record { bytes_begin = prefix_trans (joined f.run) (done u) (whole_bytes u) h.bytes_begin (done_whole u); answer = h.answer })
+            (taken_invalid u (joined_pieces f.run) (Err x) x d' (fault_byte false u) refl refl)
+            (λ e h. record { bytes_begin = prefix_trans (joined_pieces f.run) (complete_bytes u) (whole_bytes u) h.bytes_begin (done_whole u); answer = h.answer })
             gave;
       }
 
@@ -71,13 +71,13 @@ module _ {F E : Type 0} (step : F → List ℕ → Result (Unit {0}) E → F →
   fed_finished : {d d' : State F} {u : List ℕ} {r : Result (Unit {0}) (DecodeError E)} {f' : F} → Feeds step d u (Ok tt) d' → left_over d ++ u ≡ u → Finishes step d' r f' → DecodesText step d.closure u r f'
   fed_finished {d} {d'} {u} {r} {f'} f same g =
       let k = feeds_took step f in
-      let taken : joined f.run ≡ done u = k.1.bytes_are ∙ ap done same in
+      let taken : joined_pieces f.run ≡ complete_bytes u = k.1.bytes_are ∙ ap complete_bytes same in
       let G : List ℕ → Type 0 = λ w. GoesOn w [] (left_over d' ++ []) in
       let on : G u = subst G same (feeds_goes_on step [] f) in
       let valid : is_valid u ≡ is_valid (left_over d') = ap is_valid (sym (append-nil u)) ∙ on.valid_is ∙ ap is_valid (append-nil (left_over d')) in
       let kind : kind_of u ≡ kind_of (left_over d') = ap kind_of (sym (append-nil u)) ∙ on.kind_is ∙ ap kind_of (append-nil (left_over d')) in
-      let all : decoded u ≡ done u ++ decoded (left_over d') = ap decoded (sym (append-nil u)) ∙ on.decoded_is ∙ ap (λ w. done u ++ decoded w) (append-nil (left_over d')) in
-      let bytes : joined (f.run ++ g.run) ≡ done u ++ joined g.run = joined-append f.run g.run ∙ ap (λ x. x ++ joined g.run) taken in
+      let all : decoded u ≡ complete_bytes u ++ decoded (left_over d') = ap decoded (sym (append-nil u)) ∙ on.decoded_is ∙ ap (λ w. complete_bytes u ++ decoded w) (append-nil (left_over d')) in
+      let bytes : joined_pieces (f.run ++ g.run) ≡ complete_bytes u ++ joined_pieces g.run = joined_pieces-append f.run g.run ∙ ap (λ x. x ++ joined_pieces g.run) taken in
       record {
         run = f.run ++ g.run;
         ran = run-append step f.run g.run d.closure d'.closure f' f.ran k.0 g.ran;
@@ -87,18 +87,18 @@ module _ {F E : Type 0} (step : F → List ℕ → Result (Unit {0}) E → F →
               | inl (v, h) ↦
                   let good : is_valid u ≡ true = valid ∙ v in
                   match_map (refusal g.run) _ _ _ _
-                  (λ w. bool_at_true (is_valid u) _ _ good (record { bytes_are = bytes ∙ ap (λ x. done u ++ x) w.bytes_are ∙ sym all; answer = w.answer }))
+                  (λ w. bool_at_true (is_valid u) _ _ good (record { bytes_are = bytes ∙ ap (λ x. complete_bytes u ++ x) w.bytes_are ∙ sym all; answer = w.answer }))
                   (λ e w. record {
                     bytes_begin =
-                        prefix_trans (joined (f.run ++ g.run)) (done u ++ joined g.run) (whole_bytes u) (prefix_all (joined (f.run ++ g.run)) (done u ++ joined g.run) bytes)
-                        (prefix_trans (done u ++ joined g.run) (done u ++ decoded (left_over d')) (whole_bytes u) (prefix_behind (done u) (joined g.run) (decoded (left_over d')) w.bytes_begin)
-                        (prefix_all (done u ++ decoded (left_over d')) (whole_bytes u) (sym (cond-true (is_valid u) (decoded u) (done u) good ∙ all))));
+                        prefix_trans (joined_pieces (f.run ++ g.run)) (complete_bytes u ++ joined_pieces g.run) (whole_bytes u) (prefix_all (joined_pieces (f.run ++ g.run)) (complete_bytes u ++ joined_pieces g.run) bytes)
+                        (prefix_trans (complete_bytes u ++ joined_pieces g.run) (complete_bytes u ++ decoded (left_over d')) (whole_bytes u) (prefix_behind (complete_bytes u) (joined_pieces g.run) (decoded (left_over d')) w.bytes_begin)
+                        (prefix_all (complete_bytes u ++ decoded (left_over d')) (whole_bytes u) (sym (cond-true (is_valid u) (decoded u) (complete_bytes u) good ∙ all))));
                     answer = w.answer;
                   })
                   h
               | inr (v, h) ↦
                   match_none (refusal g.run) _ _ (ap refusal h.0)
-                  (bool_at_false (is_valid u) _ _ (valid ∙ v) (bytes ∙ ap (λ x. done u ++ joined x) h.0 ∙ append-nil (done u), h.1 ∙ ap (λ z. Err (InvalidBase64 z)) (sym kind)))
+                  (bool_at_false (is_valid u) _ _ (valid ∙ v) (bytes ∙ ap (λ x. complete_bytes u ++ joined_pieces x) h.0 ∙ append-nil (complete_bytes u), h.1 ∙ ap (λ z. Err (InvalidBase64 z)) (sym kind)))
             ]);
       }
 
@@ -127,22 +127,22 @@ call_reads {F} {E} step J keeps c f last rest s e h =
     let P : Result (Unit {0}) E → Type 0 = λ r. step f c.piece r c.after in
     h ∙ ap (λ x. x ++ rest) (keeps f c.piece c.after (subst P e s)) ∙ append_assoc (J f) c.piece rest
 
-whole_ok : {E : Type 0} (v : Bool) (u bytes : List ℕ) (r : Result (Unit {0}) (DecodeError E)) → r ≡ Ok tt → MatchBool v (IsAll u bytes r) ((bytes ≡ done u) × (r ≡ Err (InvalidBase64 (kind_of u)))) → bytes ≡ decoded u
+whole_ok : {E : Type 0} (v : Bool) (u bytes : List ℕ) (r : Result (Unit {0}) (DecodeError E)) → r ≡ Ok tt → MatchBool v (IsAll u bytes r) ((bytes ≡ complete_bytes u) × (r ≡ Err (InvalidBase64 (kind_of u)))) → bytes ≡ decoded u
 whole_ok true u bytes r q h = h.bytes_are
 whole_ok false u bytes r q h = absurd (let k = h.1 in cc)
 
 -- after an accepted run it has all their bytes behind its own
-pub run_reads : {F E : Type 0} (step : F → List ℕ → Result (Unit {0}) E → F → Type 0) (J : F → List ℕ) → ((g : F) (piece : List ℕ) (g' : F) → step g piece (Ok tt) g' → J g' ≡ J g ++ piece) → (cs : List (Call F E)) (f f' : F) → IsRun step f cs f' → refusal cs ≡ None → J f' ≡ J f ++ joined cs
+pub run_reads : {F E : Type 0} (step : F → List ℕ → Result (Unit {0}) E → F → Type 0) (J : F → List ℕ) → ((g : F) (piece : List ℕ) (g' : F) → step g piece (Ok tt) g' → J g' ≡ J g ++ piece) → (cs : List (Call F E)) (f f' : F) → IsRun step f cs f' → refusal cs ≡ None → J f' ≡ J f ++ joined_pieces cs
 run_reads step J keeps [] f f' ran n = ap J (sym ran) ∙ sym (append-nil (J f))
-run_reads step J keeps (c ∷ cs) f f' ran n = call_reads step J keeps c f (J f') (joined cs) ran.0 (accepted_call c.answer (refusal cs) n) (run_reads step J keeps cs c.after f' ran.2 (later_none c.answer (refusal cs) n))
+run_reads step J keeps (c ∷ cs) f f' ran n = call_reads step J keeps c f (J f') (joined_pieces cs) ran.0 (accepted_call c.answer (refusal cs) n) (run_reads step J keeps cs c.after f' ran.2 (later_none c.answer (refusal cs) n))
 
 -- what a closure that keeps its bytes has after a text that was decoded
 pub decodes_reads : {F E : Type 0} {step : F → List ℕ → Result (Unit {0}) E → F → Type 0} {f f' : F} {u : List ℕ} {r : Result (Unit {0}) (DecodeError E)} → DecodesText step f u r f' → r ≡ Ok tt → (J : F → List ℕ) → ((g : F) (piece : List ℕ) (g' : F) → step g piece (Ok tt) g' → J g' ≡ J g ++ piece) → J f' ≡ J f ++ decoded u
 decodes_reads {F} {E} {step} {f} {f'} {u} {r} h q J keeps =
-    let k = all_ok (refusal h.run) _ (whole_bytes u) (joined h.run) r q h.gave in
-    run_reads step J keeps h.run f f' h.ran k.0 ∙ ap (λ x. J f ++ x) (whole_ok (is_valid u) u (joined h.run) r q k.1)
+    let k = all_ok (refusal h.run) _ (whole_bytes u) (joined_pieces h.run) r q h.gave in
+    run_reads step J keeps h.run f f' h.ran k.0 ∙ ap (λ x. J f ++ x) (whole_ok (is_valid u) u (joined_pieces h.run) r q k.1)
 
-whole_err : {E : Type 0} (v : Bool) (u bytes : List ℕ) (r : Result (Unit {0}) (DecodeError E)) (kind : _) → r ≡ Err (InvalidBase64 kind) → MatchBool v (IsAll u bytes r) ((bytes ≡ done u) × (r ≡ Err (InvalidBase64 (kind_of u)))) → (v ≡ false) × (kind ≡ kind_of u)
+whole_err : {E : Type 0} (v : Bool) (u bytes : List ℕ) (r : Result (Unit {0}) (DecodeError E)) (kind : _) → r ≡ Err (InvalidBase64 kind) → MatchBool v (IsAll u bytes r) ((bytes ≡ complete_bytes u) × (r ≡ Err (InvalidBase64 (kind_of u)))) → (v ≡ false) × (kind ≡ kind_of u)
 whole_err true u bytes r kind q h = absurd (let k = h.answer in cc)
 whole_err false u bytes r kind q h = (refl, let k = h.1 in cc)
 
@@ -152,7 +152,7 @@ given_err (Some e) P all bytes r kind q h = absurd (let k = h.answer in cc)
 
 -- the error of a vector that was to have the bytes
 pub text_error : {F E : Type 0} {step : F → List ℕ → Result (Unit {0}) E → F → Type 0} {f f' : F} {u : List ℕ} {r : Result (Unit {0}) (DecodeError E)} (x : DecodeError E) → DecodesText step f u r f' → r ≡ Err x → IsErrorOf u (vec_error x)
-text_error {u = u} {r = r} (InvalidBase64 kind) h q = whole_err (is_valid u) u (joined h.run) r kind q (given_err (refusal h.run) _ (whole_bytes u) (joined h.run) r kind q h.gave)
+text_error {u = u} {r = r} (InvalidBase64 kind) h q = whole_err (is_valid u) u (joined_pieces h.run) r kind q (given_err (refusal h.run) _ (whole_bytes u) (joined_pieces h.run) r kind q h.gave)
 text_error (WriteError e) h q = tt
 
 -- what each call keeps, a run keeps

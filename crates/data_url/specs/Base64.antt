@@ -23,8 +23,8 @@ symbol_value b = if is_in_range 65 90 b then b - 65
 
 -- the text without ASCII whitespace: tab, line feed, form feed, carriage return and space (step 1;
 -- Infra, section 4.6)
-unfoldable pub compact : List ℕ → List ℕ
-compact b = filter (λ c. not (is_ascii_whitespace c)) b
+unfoldable pub without_whitespace : List ℕ → List ℕ
+without_whitespace b = filter (λ c. not (is_ascii_whitespace c)) b
 
 -- the text without one '=' at its end, if there is one
 unfoldable pub without_last_padding : List ℕ → List ℕ
@@ -33,14 +33,14 @@ without_last_padding (a ∷ []) = if a == 61 then [] else a ∷ []
 without_last_padding (a ∷ b ∷ rest) = a ∷ without_last_padding (b ∷ rest)
 
 -- where the length divides by four, the text without one or two '=' at its end (step 2)
-unfoldable pub unpadded : List ℕ → List ℕ
-unpadded s = if length s % 4 == 0 then without_last_padding (without_last_padding s) else s
+unfoldable pub without_padding : List ℕ → List ℕ
+without_padding s = if length s % 4 == 0 then without_last_padding (without_last_padding s) else s
 
 -- the rule of the whole text: no length of remainder one by four, and no byte that is no symbol
 -- (steps 3 and 4)
 unfoldable pub is_valid : List ℕ → Bool
-is_valid b = not (length (unpadded (compact b)) % 4 == 1)
-    && list_all is_symbol (unpadded (compact b))
+is_valid b = not (length (without_padding (without_whitespace b)) % 4 == 1)
+    && list_all is_symbol (without_padding (without_whitespace b))
 
 -- What a text stands for
 
@@ -100,8 +100,8 @@ before_place b None = b
 before_place b (Some i) = take i b
 
 -- the bytes of the groups that are complete before the first fault
-unfoldable pub done : List ℕ → List ℕ
-done b = groups (values (before_place b (first_fault b)))
+unfoldable pub complete_bytes : List ℕ → List ℕ
+complete_bytes b = groups (values (before_place b (first_fault b)))
 
 -- why a text is refused: a byte that may not stand there, a symbol behind padding, a symbol that is
 -- alone in its group, or padding that does not fit the symbols

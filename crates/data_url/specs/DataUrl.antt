@@ -5,10 +5,10 @@ use Rattle.std.specs.Prelude.{◌≡◌, ◌≤◌, Bool, Err, List, MatchOption
 use Rattle.data_url.specs.Errors.{IsRefused}
 use Rattle.data_url.specs.Fetch.{Accepted, Bad, Good, NoComma, NoScheme, Outcome, Staged, encoded_body, has_base64_suffix, header_of, mime_text, outcome, outcome_bytes, plain_body, staged, tail_of}
 use Rattle.data_url.specs.Mime.{IsRecordOf, IsWellformed}
-use Rattle.data_url.specs.MimeType.{seen}
-use Rattle.data_url.specs.Percent.{percent_decoded}
-use Rattle.data_url.specs.Run.{Call, IsRun, joined, refusal}
-use Rattle.data_url.specs.Url.{after_scheme, behind, dropped, fragment, in_fragment_set, percent_encoded}
+use Rattle.data_url.specs.MimeType.{record_of}
+use Rattle.data_url.specs.Percent.{percent_decoding}
+use Rattle.data_url.specs.Run.{Call, IsRun, joined_pieces, refusal}
+use Rattle.data_url.specs.Url.{after_scheme, behind, without_tabs_and_newlines, fragment, in_fragment_set, percent_encoding}
 use Rattle.data_url.specs.declared.DataUrl.{DataUrl}
 use Rattle.data_url.specs.declared.DataUrlError.TheVariants.{NoComma as no_comma, NotADataUrl as no_scheme, OutOfMemory as no_memory}
 use Rattle.data_url.specs.declared.DataUrlError.{DataUrlError}
@@ -46,16 +46,18 @@ IsFragmentOf tail found = option_map fragment_text found ≡ behind 35 tail
 pub record IsUrlOf (t : List ℕ) (u : DataUrl) : Type 0 where
   pub header : List ℕ
   pub header_is : header_of t ≡ Some header
-  pub record_is : IsRecordOf (mime_text header) (seen (mime_of u))
-  pub wellformed : IsWellformed (seen (mime_of u))
+  pub record_is : IsRecordOf (mime_text header) (record_of (mime_of u))
+  pub wellformed : IsWellformed (record_of (mime_of u))
   pub base64_is : is_base64 u ≡ has_base64_suffix header
   pub tail_is : tail_of t ≡ Some (url_tail u)
   -- the Standard's body, percent-decoded, is the one that the tail holds
-  pub body_is : option_map percent_decoded (encoded_body t) ≡ Some (plain_body (url_tail u))
+  pub body_is : option_map percent_decoding (encoded_body t) ≡ Some (plain_body (url_tail u))
   -- the Standard's fragment, where there is one, is that of the tail
-  pub fragment_is : option_map fragment (after_scheme t) ≡ Some (fragment (dropped (url_tail u)))
+  pub fragment_is : option_map fragment (after_scheme t)
+    ≡ Some (fragment (without_tabs_and_newlines (url_tail u)))
   pub staged_is : staged t ≡ Accepted (mime_text header) (url_body u)
-      (option_map (percent_encoded in_fragment_set) (fragment (dropped (url_tail u))))
+      (option_map (percent_encoding in_fragment_set)
+        (fragment (without_tabs_and_newlines (url_tail u))))
 
 -- a scheme and a comma are there
 abbrev pub IsAcceptable : Staged → Type 0
@@ -91,5 +93,5 @@ pub record Decodes {F E A : Type 0} (step : F → List ℕ → Result (Unit {0})
   pub run : List (Call F E)
   pub ran : IsRun step f run g
   pub calls : length run ≤ most
-  pub gave : MatchOption (refusal run) (HandsOut body good (joined run) r)
-      (λ e. IsRefused (outcome_bytes body) (joined run) e r)
+  pub gave : MatchOption (refusal run) (HandsOut body good (joined_pieces run) r)
+      (λ e. IsRefused (outcome_bytes body) (joined_pieces run) e r)

@@ -1,9 +1,9 @@
 -- What contracts see of a `Decoder`, and what feeding and finishing one does (Infra Standard,
 -- forgiving-base64 decode), by the texts that it was given.
 use Rattle.std.specs.Prelude.{[], ◌++◌, ◌≡◌, ◌≤◌, Bool, Err, List, MatchBool, MatchOption, Ok, Result, false, is_err, length, take, ℕ}
-use Rattle.data_url.specs.Base64.{decoded, done, first_fault, is_valid, kind_of, left_padding, left_symbols, left_text}
+use Rattle.data_url.specs.Base64.{decoded, complete_bytes, first_fault, is_valid, kind_of, left_padding, left_symbols, left_text}
 use Rattle.data_url.specs.Errors.{IsRefused}
-use Rattle.data_url.specs.Run.{Call, IsRun, joined, refusal}
+use Rattle.data_url.specs.Run.{Call, IsRun, joined_pieces, refusal}
 use Rattle.data_url.specs.declared.forgiving_base64.DecodeError.TheVariants.{InvalidBase64}
 use Rattle.data_url.specs.declared.forgiving_base64.DecodeError.{DecodeError}
 use Rattle.data_url.specs.declared.forgiving_base64.decode.Decoder.{Decoder}
@@ -42,7 +42,7 @@ pub record IsLeft {F : Type 0} (u : List ℕ) (d : State F) : Type 0 where
 -- left over what u leaves
 pub record IsTaken {F E : Type 0} (u bytes : List ℕ) (r : Result (Unit {0}) (DecodeError E))
     (d : State F) : Type 0 where
-  pub bytes_are : bytes ≡ done u
+  pub bytes_are : bytes ≡ complete_bytes u
   pub answer : MatchOption (first_fault u) ((r ≡ Ok tt) × IsLeft u d)
       (λ place. r ≡ Err (InvalidBase64 (kind_of u)))
 
@@ -55,8 +55,8 @@ pub record Feeds {F E : Type 0} (step : F → List ℕ → Result (Unit {0}) E �
   pub calls : length run ≤ length b
   pub failed : d'.failed ≡ is_err r
   pub gave : MatchOption (refusal run)
-      (IsTaken (left_over d ++ b) (joined run) r d')
-      (λ e. IsRefused (done (left_over d ++ b)) (joined run) e r)
+      (IsTaken (left_over d ++ b) (joined_pieces run) r d')
+      (λ e. IsRefused (complete_bytes (left_over d ++ b)) (joined_pieces run) e r)
 
 -- all the bytes of a valid text were handed out
 pub record IsAll {E : Type 0} (u bytes : List ℕ) (r : Result (Unit {0}) (DecodeError E))
@@ -72,6 +72,6 @@ pub record Finishes {F E : Type 0} (step : F → List ℕ → Result (Unit {0}) 
   pub ran : IsRun step d.closure run f
   pub calls : length run ≤ 1
   pub gave : MatchBool (is_valid (left_over d))
-      (MatchOption (refusal run) (IsAll (left_over d) (joined run) r)
-      (λ e. IsRefused (decoded (left_over d)) (joined run) e r))
+      (MatchOption (refusal run) (IsAll (left_over d) (joined_pieces run) r)
+      (λ e. IsRefused (decoded (left_over d)) (joined_pieces run) e r))
       ((run ≡ []) × (r ≡ Err (InvalidBase64 (kind_of (left_over d)))))

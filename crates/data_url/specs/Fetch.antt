@@ -3,9 +3,9 @@ use Rattle.std.specs.Char.{to_ascii_lowercase}
 use Rattle.std.specs.Option.{option_map}
 use Rattle.std.specs.Prelude.{[], if◌then◌else◌, ◌++◌, ◌-◌, ◌==◌, ◌∷◌, Bool, List, None, Option, Some, codes, drop, is_some, length, map, option_and_then, take, unwrap_or, ℕ}
 use Rattle.std.specs.Str.{bytes_eq}
-use Rattle.data_url.specs.Base64.{Kind, decoded, done, is_valid, kind_of}
-use Rattle.data_url.specs.Percent.{percent_decoded}
-use Rattle.data_url.specs.Url.{after_scheme, before, behind, dropped, fragment, front, in_fragment_set, percent_encoded, serialised, trimmed, without_end, without_front}
+use Rattle.data_url.specs.Base64.{Kind, decoded, complete_bytes, is_valid, kind_of}
+use Rattle.data_url.specs.Percent.{percent_decoding}
+use Rattle.data_url.specs.Url.{after_scheme, before, behind, without_tabs_and_newlines, fragment, front, in_fragment_set, percent_encoding, serialised, trimmed_text, without_end, without_front}
 
 -- Header and body
 
@@ -27,12 +27,12 @@ encoded_body t = option_and_then (behind 44) (staged_front t)
 
 -- what stands behind the first comma of the text as it was given, but for its ends
 unfoldable pub tail_of : List ℕ → Option (List ℕ)
-tail_of t = behind 44 (trimmed t)
+tail_of t = behind 44 (trimmed_text t)
 
 -- the body that a tail holds, as it was given: up to the first '#', without tabs and newlines,
 -- percent-decoded
 unfoldable pub plain_body : List ℕ → List ℕ
-plain_body tail = percent_decoded (front (dropped tail))
+plain_body tail = percent_decoding (front (without_tabs_and_newlines tail))
 
 -- The base64 suffix
 
@@ -40,8 +40,8 @@ abbrev pub is_space : ℕ → Bool
 is_space b = b == 32
 
 -- the header without spaces at both ends (step 6)
-unfoldable pub stripped : List ℕ → List ℕ
-stripped h = without_end is_space (without_front is_space h)
+unfoldable pub stripped_header : List ℕ → List ℕ
+stripped_header h = without_end is_space (without_front is_space h)
 
 -- the last n bytes, and what stands before them
 abbrev pub last : ℕ → List ℕ → List ℕ
@@ -66,11 +66,11 @@ before_base64 s = option_and_then (λ m. before_semicolon (without_end is_space 
 
 -- the body is base64
 unfoldable pub has_base64_suffix : List ℕ → Bool
-has_base64_suffix h = is_some (before_base64 (stripped h))
+has_base64_suffix h = is_some (before_base64 (stripped_header h))
 
 -- the header without the suffix
 unfoldable pub media_of : List ℕ → List ℕ
-media_of h = unwrap_or (before_base64 (stripped h)) (stripped h)
+media_of h = unwrap_or (before_base64 (stripped_header h)) (stripped_header h)
 
 -- with "text/plain" in front of a leading ';' (step 12)
 abbrev pub with_plain : List ℕ → List ℕ
@@ -92,7 +92,7 @@ pub data Outcome : Type 0 where
 -- a body as it is or, with the suffix, forgiving-base64 decoded (steps 10 and 11)
 unfoldable pub outcome : Bool → List ℕ → Outcome
 outcome flag x =
-    if flag then (if is_valid x then Good (decoded x) else Bad (done x) (kind_of x))
+    if flag then (if is_valid x then Good (decoded x) else Bad (complete_bytes x) (kind_of x))
     else Good x
 
 abbrev pub outcome_bytes : Outcome → List ℕ
@@ -111,8 +111,8 @@ pub data Staged : Type 0 where
 -- of the fragment, the header and the encoded body
 abbrev pub staged_parts : Option (List ℕ) → Option (List ℕ) → Option (List ℕ) → Staged
 staged_parts fragment (Some header) (Some body) =
-    Accepted (mime_text header) (outcome (has_base64_suffix header) (percent_decoded body))
-    (option_map (percent_encoded in_fragment_set) fragment)
+    Accepted (mime_text header) (outcome (has_base64_suffix header) (percent_decoding body))
+    (option_map (percent_encoding in_fragment_set) fragment)
 staged_parts fragment (Some header) None = NoComma
 staged_parts fragment None body = NoComma
 

@@ -1,19 +1,19 @@
 -- Laws about the definitions, as the contracts of `laws` cite them.
 use Rattle.std.specs.Int.{is_in_range}
 use Rattle.std.specs.Prelude.{◌&&◌, ◌++◌, ◌==◌, ◌||◌, ◌≡◌, Bool, List, Some, codes, is_some, not, ℕ}
-use Rattle.data_url.specs.Base64.{decoded, done, first_fault, is_valid, kind_of, left_padding, left_symbols, left_text}
+use Rattle.data_url.specs.Base64.{decoded, complete_bytes, first_fault, is_valid, kind_of, left_padding, left_symbols, left_text}
 use Rattle.data_url.specs.Fetch.{staged, staged_fragment}
 
 -- what comes of a followed by b, by the text v of what a left and then b: the bytes, the fault and
 -- its kind, what is left, validity, and the bytes as a whole
 pub record GoesOn (a b v : List ℕ) : Type 0 where
-  pub done_is : done (a ++ b) ≡ done a ++ done v
+  pub done_is : complete_bytes (a ++ b) ≡ complete_bytes a ++ complete_bytes v
   pub fault_is : is_some (first_fault (a ++ b)) ≡ is_some (first_fault v)
   pub kind_is : kind_of (a ++ b) ≡ kind_of v
   pub symbols_left : left_symbols (a ++ b) ≡ left_symbols v
   pub padding_left : left_padding (a ++ b) ≡ left_padding v
   pub valid_is : is_valid (a ++ b) ≡ is_valid v
-  pub decoded_is : decoded (a ++ b) ≡ done a ++ decoded v
+  pub decoded_is : decoded (a ++ b) ≡ complete_bytes a ++ decoded v
 
 -- a text without a fault, and then another: what the first leaves goes on with the second as the
 -- whole does

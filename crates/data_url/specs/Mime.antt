@@ -175,8 +175,8 @@ first_of_each_name earlier (p ∷ ps) =
     else p ∷ first_of_each_name (earlier ++ p ∷ []) ps
 
 -- the valid pairs, of each name the first
-abbrev pub kept : List Item → List Pair
-kept items = first_of_each_name [] (valid_pairs items)
+abbrev pub kept_pairs : List Item → List Pair
+kept_pairs items = first_of_each_name [] (valid_pairs items)
 
 -- Parse a MIME type (MIME Sniffing, section 4.4)
 
@@ -203,7 +203,7 @@ pub record IsRecordOfParts (type_ subtype parameters : List ℕ) (m : Record) : 
   pub items_are : Items parameters items
   pub type_is : m.type_ ≡ map to_ascii_lowercase type_
   pub subtype_is : m.subtype ≡ map to_ascii_lowercase subtype
-  pub parameters_are : m.parameters ≡ kept items
+  pub parameters_are : m.parameters ≡ kept_pairs items
 
 -- s is a MIME type, and m its record
 pub record Parses (s : List ℕ) (m : Record) : Type 0 where
@@ -224,12 +224,12 @@ IsRecordOf s m = Parses s m ⊎ (HasNoRecord s × (m ≡ default_record))
 -- Serialize a MIME type (MIME Sniffing, section 4.5)
 
 -- with a '\' before '"' and '\'
-abbrev pub escaped : ℕ → List ℕ
-escaped c = if (c == 34) || (c == 92) then 92 ∷ c ∷ [] else c ∷ []
+abbrev pub escaped_code_point : ℕ → List ℕ
+escaped_code_point c = if (c == 34) || (c == 92) then 92 ∷ c ∷ [] else c ∷ []
 
 -- a nonempty text of token code points as it is, any other value in quotes
 abbrev pub printed_value : List ℕ → List ℕ
-printed_value v = if is_token_text v then v else 34 ∷ (flat_map escaped v ++ 34 ∷ [])
+printed_value v = if is_token_text v then v else 34 ∷ (flat_map escaped_code_point v ++ 34 ∷ [])
 
 abbrev pub printed_pair : Pair → List ℕ
 printed_pair p = 59 ∷ (p.0 ++ (61 ∷ printed_value p.1))

@@ -16,8 +16,8 @@ abbrev pub pair_of : {A B : Type 0} → String A × String B → Pair
 pair_of p = (code_points p.0, code_points p.1)
 
 -- the record as lists of code points
-abbrev pub seen : Mime → Record
-seen m = record {
+abbrev pub record_of : Mime → Record
+record_of m = record {
   type_ = code_points m.type_;
   subtype = code_points m.subtype;
   parameters = map pair_of m.parameters.items;

@@ -8,10 +8,10 @@ is_escape a b c = (a == 37) && (is_ascii_hexdigit b && is_ascii_hexdigit c)
 
 -- the text with each '%' and two hexadecimal digits read as one byte, from the left and once; all
 -- else stays
-unfoldable pub percent_decoded : List ℕ → List ℕ
-percent_decoded [] = []
-percent_decoded (a ∷ []) = a ∷ []
-percent_decoded (a ∷ b ∷ []) = a ∷ b ∷ []
-percent_decoded (a ∷ b ∷ c ∷ rest) =
-    if is_escape a b c then (16 * digit_value b + digit_value c) ∷ percent_decoded rest
-    else a ∷ percent_decoded (b ∷ c ∷ rest)
+unfoldable pub percent_decoding : List ℕ → List ℕ
+percent_decoding [] = []
+percent_decoding (a ∷ []) = a ∷ []
+percent_decoding (a ∷ b ∷ []) = a ∷ b ∷ []
+percent_decoding (a ∷ b ∷ c ∷ rest) =
+    if is_escape a b c then (16 * digit_value b + digit_value c) ∷ percent_decoding rest
+    else a ∷ percent_decoding (b ∷ c ∷ rest)

@@ -15,9 +15,9 @@ IsRun step f (c ∷ cs) g = step f c.piece c.answer c.after × (IsErr c.answer �
     × IsRun step c.after cs g
 
 -- the pieces of a run, joined, a refused last one included
-abbrev pub joined : {F E : Type 0} → List (Call F E) → List ℕ
-joined [] = []
-joined (c ∷ cs) = c.piece ++ joined cs
+abbrev pub joined_pieces : {F E : Type 0} → List (Call F E) → List ℕ
+joined_pieces [] = []
+joined_pieces (c ∷ cs) = c.piece ++ joined_pieces cs
 
 -- the error of an answer, or else the second
 abbrev pub or_error : {E : Type 0} → Result (Unit {0}) E → Option E → Option E

@@ -18,20 +18,20 @@ abbrev pub is_c0_control_or_space : ℕ → Bool
 is_c0_control_or_space b = nat_le b 32
 
 -- the text without C0 controls and spaces at both ends (URL, section 4.4, step 1)
-unfoldable pub trimmed : List ℕ → List ℕ
-trimmed t = without_end is_c0_control_or_space (without_front is_c0_control_or_space t)
+unfoldable pub trimmed_text : List ℕ → List ℕ
+trimmed_text t = without_end is_c0_control_or_space (without_front is_c0_control_or_space t)
 
 -- an ASCII tab or newline (Infra, section 4.6)
 abbrev pub is_tab_or_newline : ℕ → Bool
 is_tab_or_newline b = (b == 9) || ((b == 10) || (b == 13))
 
 -- the text without ASCII tabs and newlines (URL, section 4.4, step 3)
-unfoldable pub dropped : List ℕ → List ℕ
-dropped s = filter (λ b. not (is_tab_or_newline b)) s
+unfoldable pub without_tabs_and_newlines : List ℕ → List ℕ
+without_tabs_and_newlines s = filter (λ b. not (is_tab_or_newline b)) s
 
 -- the text that the URL parser reads
-unfoldable pub cleaned : List ℕ → List ℕ
-cleaned t = dropped (trimmed t)
+unfoldable pub cleaned_text : List ℕ → List ℕ
+cleaned_text t = without_tabs_and_newlines (trimmed_text t)
 
 -- what stands before the first c: the whole where there is none
 unfoldable pub before : ℕ → List ℕ → List ℕ
@@ -47,8 +47,8 @@ behind c (b ∷ bs) = if b == c then Some bs else behind c bs
 -- (URL, section 4.4, scheme state)
 unfoldable pub after_scheme : List ℕ → Option (List ℕ)
 after_scheme t =
-    if bytes_eq (map to_ascii_lowercase (take 5 (cleaned t))) (codes "data:")
-    then Some (drop 5 (cleaned t))
+    if bytes_eq (map to_ascii_lowercase (take 5 (cleaned_text t))) (codes "data:")
+    then Some (drop 5 (cleaned_text t))
     else None
 
 -- the opaque path with its query: what stands before the first '#' (URL, section 4.4, opaque path
@@ -87,12 +87,12 @@ encoded_byte in_set b = if in_set b then 37 ∷ hex_digit (b / 16) ∷ hex_digit
     else b ∷ []
 
 -- the text with each byte of the set percent-encoded
-unfoldable pub percent_encoded : (ℕ → Bool) → List ℕ → List ℕ
-percent_encoded in_set s = flat_map (encoded_byte in_set) s
+unfoldable pub percent_encoding : (ℕ → Bool) → List ℕ → List ℕ
+percent_encoding in_set s = flat_map (encoded_byte in_set) s
 
 -- a fragment as the URL parser leaves it: without tabs and newlines, and encoded by its set
 abbrev pub encoded_fragment : List ℕ → List ℕ
-encoded_fragment s = percent_encoded in_fragment_set (dropped s)
+encoded_fragment s = percent_encoding in_fragment_set (without_tabs_and_newlines s)
 
 -- the set of the last byte of a path: the path's, and space
 abbrev pub in_path_end_set : ℕ → Bool
@@ -108,7 +108,7 @@ encoded_path (b ∷ c ∷ s) = encoded_byte in_path_set b ++ encoded_path (c ∷
 -- a path and, where there is one, '?' and its query, each encoded by its own set
 abbrev pub with_query : List ℕ → Option (List ℕ) → List ℕ
 with_query path None = encoded_path path
-with_query path (Some query) = encoded_path path ++ 63 ∷ percent_encoded in_query_set query
+with_query path (Some query) = encoded_path path ++ 63 ∷ percent_encoding in_query_set query
 
 -- an opaque path with its query, serialised: the first '?' ends the path (URL, section 4.5)
 unfoldable pub serialised : List ℕ → List ℕ

@@ -3,7 +3,7 @@
 
 ghost use Rattle.std.specs.Prelude.{◌≡◌};
 ghost use Rattle.std.specs.List.{prefix_len, suffix_len};
-ghost use Rattle.data_url.specs.Url.{is_c0_control_or_space, is_tab_or_newline, trimmed, without_end, without_front};
+ghost use Rattle.data_url.specs.Url.{is_c0_control_or_space, is_tab_or_newline, trimmed_text, without_end, without_front};
 
 /// Whether the byte is an ASCII tab or newline, which the URL parser passes over (Infra Standard, section 4.6).
 pub(crate) fn is_tab_or_newline(byte: u8) -> bool
@@ -13,9 +13,9 @@ pub(crate) fn is_tab_or_newline(byte: u8) -> bool
 }
 
 /// The text without C0 controls and spaces at both ends.
-#[tactic(auto, unfolding(crate::specs::Url::trimmed))]
+#[tactic(auto, unfolding(crate::specs::Url::trimmed_text))]
 pub(crate) fn trim(text: &str) -> &str
-    ensures { result.now ≡ trimmed text.now }
+    ensures { result.now ≡ trimmed_text text.now }
 {
     trim_end(trim_start(text))
 }

@@ -5,7 +5,7 @@ ghost use Rattle.std.specs.Option.{option_map};
 ghost use Rattle.data_url.specs.Base64.{first_fault};
 ghost use Rattle.data_url.specs.Fetch.{has_base64_suffix};
 ghost use Rattle.data_url.specs.Mime.{BeginsParameters};
-ghost use Rattle.data_url.specs.Url.{behind, dropped, fragment};
+ghost use Rattle.data_url.specs.Url.{behind, without_tabs_and_newlines, fragment};
 ghost use Rattle.data_url.specs.Steps.Facts.{HasAtMostOneRecord, HasOneItemList, IsFirstFault, PaddingFits};
 
 /// A text that is empty or begins with `;` has exactly one list of items.
@@ -30,7 +30,8 @@ pub(crate) fn least_fault()
 
 /// Tabs and newlines may be dropped before the fragment is cut off or from the fragment itself.
 pub(crate) fn fragment_dropped()
-    ensures { (tail : List ℕ) → fragment (dropped tail) ≡ option_map dropped (behind 35 tail) }
+    ensures { (tail : List ℕ) → fragment (without_tabs_and_newlines tail)
+        ≡ option_map without_tabs_and_newlines (behind 35 tail) }
 {}
 
 /// Nothing that stands before the `?` of a header changes its base64 flag, so that a space there is written `%20` or not.

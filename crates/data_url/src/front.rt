@@ -3,7 +3,7 @@
 
 ghost use Rattle.std.specs.Prelude.{◌≡◌, ◌≤◌, length, None, IfSome, IfNone, true};
 ghost use Rattle.std.specs.List.{position, prefix_len};
-ghost use Rattle.data_url.specs.Url.{behind, dropped, front};
+ghost use Rattle.data_url.specs.Url.{behind, without_tabs_and_newlines, front};
 ghost use Rattle.data_url.specs.Steps.Header.{header_text};
 ghost use Rattle.data_url.specs.Steps.Front.{HasNoScheme, IsHeaderAndTail, IsSchemeAndRest, ends_header, is_plain_path};
 
@@ -117,7 +117,7 @@ fn plain_len(bytes: &[u8]) -> usize
 pub(crate) fn split_at_comma(text: &str) -> Option<Front<'_>>
     ensures found { IfSome result (λ f. IsHeaderAndTail text.now f.header.now f.tail.now) }
     ensures plain { IfSome result (λ f. f.is_plain ≡ true
-        → header_text (dropped f.header.now) ≡ f.header.now) }
+        → header_text (without_tabs_and_newlines f.header.now) ≡ f.header.now) }
     ensures none { IfNone result (behind 44 (front text.now) ≡ None) }
 {
     let bytes = text.as_bytes();

@@ -3,11 +3,11 @@
 ghost use Rattle.std.specs.Prelude.{◌≡◌, IfNone, IfOk, IfSome, string_bytes, true};
 ghost use Rattle.std.specs.List.{prefix_len, suffix_len};
 ghost use Rattle.std.specs.Str.{chars};
-ghost use Rattle.data_url.specs.Url.{dropped, is_tab_or_newline};
+ghost use Rattle.data_url.specs.Url.{without_tabs_and_newlines, is_tab_or_newline};
 ghost use Rattle.data_url.specs.Fetch.{before_base64, with_plain};
 ghost use Rattle.data_url.specs.Mime.{default_record};
 ghost use Rattle.data_url.specs.Steps.Header.{HasNoLastSpace, IsHeaderOf, IsPathAndQuery, IsPrintable, IsRecordFor, WithoutSpace, encoded_parts, header_text, is_no_question_mark};
-ghost use Rattle.data_url.specs.MimeType.{as_option, seen};
+ghost use Rattle.data_url.specs.MimeType.{as_option, record_of};
 
 use crate::ascii::{is_tab_or_newline, low_end_len, trim};
 use crate::mime::{Mime, MimeFromStrError};
@@ -71,7 +71,7 @@ fn without_last_space(path: &[u8]) -> Option<&[u8]>
 /// The parts of a header.
 fn parts_of(header: &[u8]) -> Parts<'_>
     ensures { encoded_parts result.path.now result.space.now result.query.now
-        ≡ header_text (dropped header.now) }
+        ≡ header_text (without_tabs_and_newlines header.now) }
 {
     let (path, query) = split_query(header);
     match without_last_space(path) {
@@ -129,9 +129,10 @@ pub(crate) fn read_header(
     header: &str,
     is_plain: bool,
 ) -> Result<(Mime, bool), AllocError>
-    requires { is_plain ≡ true → header_text (dropped header.now) ≡ header.now }
+    requires { is_plain ≡ true → header_text (without_tabs_and_newlines header.now) ≡ header.now }
     ensures { IfOk result (λ found.
-        IsHeaderOf (header_text (dropped header.now)) (seen found.0) found.1) }
+        IsHeaderOf (header_text (without_tabs_and_newlines header.now))
+            (record_of found.0) found.1) }
 {
     if is_plain {
         return read_serialised(alloc, header);
@@ -143,7 +144,7 @@ pub(crate) fn read_header(
 /// The record of a serialised header, and whether the body is base64.
 fn read_serialised(alloc: Global, header: &str) -> Result<(Mime, bool), AllocError>
     requires { IsPrintable header.now }
-    ensures { IfOk result (λ found. IsHeaderOf header.now (seen found.0) found.1) }
+    ensures { IfOk result (λ found. IsHeaderOf header.now (record_of found.0) found.1) }
 {
     let stripped = trim(header);
     match without_suffix(stripped) {
@@ -155,24 +156,24 @@ fn read_serialised(alloc: Global, header: &str) -> Result<(Mime, bool), AllocErr
 /// The record of a header without its suffix: `text/plain` stands for a type that is left out.
 fn read_media(alloc: Global, media: &str) -> Result<Mime, AllocError>
     requires { IsPrintable media.now }
-    ensures { IfOk result (λ mime. IsRecordFor (with_plain media.now) (seen mime)) }
+    ensures { IfOk result (λ mime. IsRecordFor (with_plain media.now) (record_of mime)) }
 {
     let bytes = media.as_bytes();
     if bytes.is_empty() {
         return default_mime(alloc);
     }
     if bytes[0] != b';' {
-        return record_of(alloc, media);
+        return parse_or_default(alloc, media);
     }
     let mut text = String::with_capacity(alloc, PLAIN.len().saturating_add(media.len()))?;
     text.push_str(PLAIN)?;
     text.push_str(media)?;
-    record_of(alloc, text.as_str())
+    parse_or_default(alloc, text.as_str())
 }
 
 /// The record of a text or, where it has none, the default one.
-fn record_of(alloc: Global, text: &str) -> Result<Mime, AllocError>
-    ensures { IfOk result (λ mime. IsRecordFor (chars text.now) (seen mime)) }
+fn parse_or_default(alloc: Global, text: &str) -> Result<Mime, AllocError>
+    ensures { IfOk result (λ mime. IsRecordFor (chars text.now) (record_of mime)) }
 {
     match Mime::from_str(alloc, text) {
         Ok(mime) => Ok(mime),
@@ -183,7 +184,7 @@ fn record_of(alloc: Global, text: &str) -> Result<Mime, AllocError>
 
 /// `text/plain;charset=US-ASCII`.
 fn default_mime(alloc: Global) -> Result<Mime, AllocError>
-    ensures { IfOk result (λ mime. seen mime ≡ default_record) }
+    ensures { IfOk result (λ mime. record_of mime ≡ default_record) }
 {
     let mut mime = Mime::new(alloc, "text", "plain")?;
     let charset = String::from_str(alloc, "charset")?;

@@ -4,9 +4,9 @@ ghost use Rattle.std.specs.Prelude.{◌≡◌, ◌↔◌, None};
 ghost use Rattle.data_url.specs.Base64.{first_fault};
 ghost use Rattle.data_url.specs.Laws.{IsReadAgain, TwoFeeds, is_fragment_byte};
 ghost use Rattle.data_url.specs.Mime.{Every, IsWellformed, Parses, Record, printed};
-ghost use Rattle.data_url.specs.Percent.{percent_decoded};
-ghost use Rattle.data_url.specs.MimeType.{SameTexts, seen};
-ghost use Rattle.data_url.specs.Url.{encoded_fragment, in_path_set, in_query_set, percent_encoded};
+ghost use Rattle.data_url.specs.Percent.{percent_decoding};
+ghost use Rattle.data_url.specs.MimeType.{SameTexts, record_of};
+ghost use Rattle.data_url.specs.Url.{encoded_fragment, in_path_set, in_query_set, percent_encoding};
 
 use crate::mime::Mime;
 
@@ -14,19 +14,19 @@ use crate::mime::Mime;
 /// ([MIME Sniffing Standard, sections 4.4 and 4.5](https://mimesniff.spec.whatwg.org/#parsing-a-mime-type)), and that
 /// text has the record and no other.
 pub fn canonical(mime: &Mime)
-    requires { IsWellformed (seen mime.now) }
-    ensures parses { Parses (printed (seen mime.now)) (seen mime.now) }
-    ensures only { (other : Record) → Parses (printed (seen mime.now)) other
-        → other ≡ seen mime.now }
+    requires { IsWellformed (record_of mime.now) }
+    ensures parses { Parses (printed (record_of mime.now)) (record_of mime.now) }
+    ensures only { (other : Record) → Parses (printed (record_of mime.now)) other
+        → other ≡ record_of mime.now }
 {}
 
 /// Two records that a parse can give are equal, as by `==`, exactly if their printed texts are
 /// ([MIME Sniffing Standard, section 4.5](https://mimesniff.spec.whatwg.org/#serializing-a-mime-type)).
 pub fn same_text(first: &Mime, second: &Mime)
-    requires first { IsWellformed (seen first.now) }
-    requires second { IsWellformed (seen second.now) }
+    requires first { IsWellformed (record_of first.now) }
+    requires second { IsWellformed (record_of second.now) }
     ensures { SameTexts first.now second.now ↔
-        (printed (seen first.now) ≡ printed (seen second.now)) }
+        (printed (record_of first.now) ≡ printed (record_of second.now)) }
 {}
 
 /// The encoded text of a fragment, read again behind `data:,#`, is encoded to itself
@@ -51,8 +51,8 @@ pub fn two_feeds(first: &[u8], second: &[u8])
 /// ([URL Standard, section 1.3](https://url.spec.whatwg.org/#percent-encoded-bytes)): bytes decode to the same as their
 /// encoded form does, by the set of a path and by that of a query.
 pub fn encoding_first(bytes: &[u8])
-    ensures path { percent_decoded bytes.now
-        ≡ percent_decoded (percent_encoded in_path_set bytes.now) }
-    ensures query { percent_decoded bytes.now
-        ≡ percent_decoded (percent_encoded in_query_set bytes.now) }
+    ensures path { percent_decoding bytes.now
+        ≡ percent_decoding (percent_encoding in_path_set bytes.now) }
+    ensures query { percent_decoding bytes.now
+        ≡ percent_decoding (percent_encoding in_query_set bytes.now) }
 {}

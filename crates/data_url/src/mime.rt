@@ -17,7 +17,7 @@ use std::fmt;
 
 /// A MIME type record: a type, a subtype and parameters in order. Nothing checks what stands in it.
 ///
-/// Contracts see a record as three lists of code points, `seen` of it.
+/// Contracts see a record as three lists of code points, `record_of` of it.
 #[derive(Debug, Drop)]
 pub struct Mime {
     /// The type, as `text` of `text/html`.
@@ -59,11 +59,11 @@ impl Eq for Mime {
 impl fmt::Display for Mime {
     ghost use Rattle.std.specs.Str.{encode_utf8_all};
     ghost use Rattle.data_url.specs.Mime.{printed};
-    ghost use Rattle.data_url.specs.MimeType.{seen};
+    ghost use Rattle.data_url.specs.MimeType.{record_of};
 
-    ghost output = { λ mime. Some (encode_utf8_all (printed (seen mime))) };
+    ghost output = { λ mime. Some (encode_utf8_all (printed (record_of mime))) };
 
-    ghost styled_output = { λ mime spec. Some (encode_utf8_all (printed (seen mime))) };
+    ghost styled_output = { λ mime spec. Some (encode_utf8_all (printed (record_of mime))) };
 
     fn fmt<W: fmt::Write>(&self, f: &mut fmt::Formatter<W>) -> fmt::Result {
         f.write_str(&self.type_)?;
@@ -125,7 +125,7 @@ impl Mime {
     ghost use Rattle.std.specs.Str.{chars};
     ghost use Rattle.data_url.specs.Mime.{HasNoRecord, IsWellformed, Parses};
     ghost use Rattle.data_url.specs.Errors.{IsParsingError};
-    ghost use Rattle.data_url.specs.MimeType.{SameTexts, as_option, seen, value_of_name};
+    ghost use Rattle.data_url.specs.MimeType.{SameTexts, as_option, record_of, value_of_name};
 
     /// The record of a type and a subtype as they are given, with no parameters. It takes memory for the two texts, and
     /// the error comes where memory was refused.
@@ -144,7 +144,7 @@ impl Mime {
     /// A record of the same texts, byte for byte, on this record's own allocator. The error comes where memory was refused.
     pub fn clone(&self) -> Result<Mime, AllocError>
         ensures texts { IfOk result (λ copy. SameTexts copy self.now) }
-        ensures seen { IfOk result (λ copy. seen copy ≡ seen self.now) }
+        ensures seen { IfOk result (λ copy. record_of copy ≡ record_of self.now) }
     {
         Ok(Mime {
             type_: self.type_.clone()?,
@@ -162,8 +162,8 @@ impl Mime {
     /// Not proved: it takes time in proportion to the length of the text, times the logarithm of the
     /// number of names that are kept, and memory in proportion to the text.
     pub fn from_str(alloc: Global, s: &str) -> Result<Mime, MimeFromStrError>
-        ensures parsed { IfOk result (λ mime. Parses (chars s.now) (seen mime)) }
-        ensures wellformed { IfOk result (λ mime. IsWellformed (seen mime)) }
+        ensures parsed { IfOk result (λ mime. Parses (chars s.now) (record_of mime)) }
+        ensures wellformed { IfOk result (λ mime. IsWellformed (record_of mime)) }
         ensures refused { IsParsingError result ↔ HasNoRecord (chars s.now) }
     {
         let Some(head) = read_head(s) else {

@@ -2,7 +2,7 @@
 
 ghost use Rattle.std.specs.Prelude.{◌≡◌, ◌≤◌, ◌+◌, ◌++◌, ◌-◌, ◌^◌, OnOk, length, min, string_bytes, take};
 ghost use Rattle.std.specs.Str.{IsUtf8};
-ghost use Rattle.data_url.specs.Url.{dropped, percent_encoded};
+ghost use Rattle.data_url.specs.Url.{without_tabs_and_newlines, percent_encoding};
 ghost use Rattle.data_url.specs.Steps.Sets.{in_set};
 
 mod rows;
@@ -32,7 +32,7 @@ const ROOM: usize = 256;
 #[inline(always)]
 fn part_len(set: EncodeSet, part: &[u8]) -> usize
     requires { length part.now ≤ 64 }
-    ensures { result ≡ length (percent_encoded (in_set set) (dropped part.now)) }
+    ensures { result ≡ length (percent_encoding (in_set set) (without_tabs_and_newlines part.now)) }
 {
     let mut len = 0;
     for byte in part {
@@ -46,7 +46,8 @@ fn part_len(set: EncodeSet, part: &[u8]) -> usize
 #[inline(always)]
 pub(crate) fn encoded_len(set: EncodeSet, bytes: &[u8]) -> usize
     ensures { result
-        ≡ min (length (percent_encoded (in_set set) (dropped bytes.now))) (2 ^ 64 - 1) }
+        ≡ min (length (percent_encoding (in_set set) (without_tabs_and_newlines bytes.now)))
+            (2 ^ 64 - 1) }
 {
     let mut len: usize = 0;
     let mut rest = bytes;
@@ -74,7 +75,8 @@ fn put(room: &mut [u8; ROOM], at: usize, row: &[u8])
 fn encode_part(set: EncodeSet, part: &[u8], room: &mut [u8; ROOM]) -> usize
     requires { length part.now ≤ 64 }
     ensures few { result ≤ 256 }
-    ensures written { take result room.new ≡ percent_encoded (in_set set) (dropped part.now) }
+    ensures written { take result room.new
+        ≡ percent_encoding (in_set set) (without_tabs_and_newlines part.now) }
     ensures text { IsUtf8 (take result room.new) }
 {
     let mut at = 0;
@@ -94,7 +96,8 @@ pub(crate) fn push_encoded(
     bytes: &[u8],
 ) -> Result<(), AllocError>
     ensures { OnOk result (string_bytes text.new
-        ≡ string_bytes text.old ++ percent_encoded (in_set set) (dropped bytes.now)) }
+        ≡ string_bytes text.old
+            ++ percent_encoding (in_set set) (without_tabs_and_newlines bytes.now)) }
 {
     let mut room = [0; ROOM];
     let mut rest = bytes;

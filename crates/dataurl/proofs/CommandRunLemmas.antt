@@ -2,7 +2,7 @@
 use Rattle.std.proofs.Common.{◌≡◌, ◌≢◌, ℕ, List, [], Option, Result, Ok, Err, String, string_bytes, IsUtf8, refl, ◌∙◌, subst}
 use Rattle.std.specs.Global.{Global}
 use Rattle.std.specs.Io.KnownBytes.{IsAtEnd}
-use Rattle.data_url.specs.MimeType.{seen}
+use Rattle.data_url.specs.MimeType.{record_of}
 use Rattle.data_url.specs.DataUrl.{IsUrlOf, mime_of as mime_type_of, url_body}
 use Rattle.data_url.specs.declared.DataUrl.{DataUrl}
 use Rattle.data_url.specs.declared.mime.Mime.{Mime}
@@ -31,11 +31,11 @@ body_writes_of {x} {url} h w = let u = url_for x (Ok url) url refl h in writes_m
 pub fragment_writes_of : {x : List ℕ} {url : DataUrl} {held now : Option (List ℕ)} {r : End} → IsUrlFor x (Ok url) → WritesOf (IsFragmentOutput (url_body url) (url_fragment url)) held now r → WritesOf (IsTextOutput x Fragment) held now r
 fragment_writes_of {x} {url} h w = let u = url_for x (Ok url) url refl h in writes_map (λ s e k. fragment_of u.staged_is k) w
 
-pub mime_writes_of : {x : List ℕ} {url : DataUrl} {held now : Option (List ℕ)} {r : End} (mime : Mime) → IsUrlFor x (Ok url) → mime ≡ mime_type_of url → WritesOf (IsExactly (record_line (seen mime))) held now r → WritesOf (IsTextOutput x MimeType) held now r
+pub mime_writes_of : {x : List ℕ} {url : DataUrl} {held now : Option (List ℕ)} {r : End} (mime : Mime) → IsUrlFor x (Ok url) → mime ≡ mime_type_of url → WritesOf (IsExactly (record_line (record_of mime))) held now r → WritesOf (IsTextOutput x MimeType) held now r
 mime_writes_of {x} {url} {held} {now} {r} mime h e w =
     let u = url_for x (Ok url) url refl h in
-    let P : Mime → Type 0 = λ m. WritesOf (IsExactly (record_line (seen m))) held now r in
-    writes_as (mime_of u.staged_is (record_of_url {m = seen (mime_type_of url)} u.record_is)) (subst P e w)
+    let P : Mime → Type 0 = λ m. WritesOf (IsExactly (record_line (record_of m))) held now r in
+    writes_as (mime_of u.staged_is (record_of_url {m = record_of (mime_type_of url)} u.record_is)) (subst P e w)
 
 refused_as : (x : List ℕ) (c : Command) (held : Option (List ℕ)) (r : Result DataUrl Fault) (fault : Fault) → TakesUrl c → r ≡ Err fault → IsUrlFor x r → WritesOf (IsTextOutput x c) held held (Err fault)
 refused_as x c held r fault t e (url_is h) = absurd (let k = e in cc)

@@ -3,7 +3,7 @@ use Rattle.std.proofs.Common.{◌≡◌, ℕ, List, [], ◌∷◌, ◌++◌, tak
 use Rattle.std.specs.Prelude.{IsErr, MatchOption, MatchResult}
 use Rattle.std.specs.Io.KnownBytes.{Appends}
 use Rattle.std.proofs.lemmas.List.{append-nil}
-use Rattle.data_url.specs.Run.{Call, IsRun, joined, or_error, refusal}
+use Rattle.data_url.specs.Run.{Call, IsRun, joined_pieces, or_error, refusal}
 use Rattle.dataurl.specs.Output.{End}
 use Rattle.dataurl.specs.Steps.Gathering.{Flushes, Gathers, IsFlushed, flushed, not_flushed}
 use Rattle.dataurl.specs.Runs.{IsProperPrefix}
@@ -91,9 +91,9 @@ module _ {F : Type 0} (step : F → List ℕ → Result (Unit {0}) WriteFailed �
   run_stops [] f g e ran = ran
   run_stops (c ∷ cs) f g e ran = absurd (let k = e in cc)
 
-  pub run_gathers : (cs : List (Call F WriteFailed)) (f g : F) → IsRun step f cs g → RunGathers (holds f) (holds g) (waits f) (waits g) (joined cs) (refusal cs)
+  pub run_gathers : (cs : List (Call F WriteFailed)) (f g : F) → IsRun step f cs g → RunGathers (holds f) (holds g) (waits f) (waits g) (joined_pieces cs) (refusal cs)
   run_gathers [] f g ran =
       let P : F → Type 0 = λ s. Appends (holds f) (holds s) [] in
       record { written = []; appended = subst P ran (appends_none (holds f)); took = append-nil (waits f) ∙ ap waits ran }
   run_gathers (c ∷ cs) f g ran =
-      gather_more c.answer c.piece (joined cs) (waits f) (waits c.after) (waits g) (refusal cs) (holds f) (holds c.after) (holds g) (gathers f c.piece c.answer c.after ran.0) (λ e. ap holds (run_stops cs c.after g (ran.1 e) ran.2)) (run_gathers cs c.after g ran.2)
+      gather_more c.answer c.piece (joined_pieces cs) (waits f) (waits c.after) (waits g) (refusal cs) (holds f) (holds c.after) (holds g) (gathers f c.piece c.answer c.after ran.0) (λ e. ap holds (run_stops cs c.after g (ran.1 e) ran.2)) (run_gathers cs c.after g ran.2)

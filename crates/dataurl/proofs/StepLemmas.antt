@@ -5,7 +5,7 @@ use Rattle.data_url.specs.DataUrl.{Decodes, IsFragmentOf, fragment_text, url_bod
 use Rattle.data_url.specs.Fetch.{Bad, Good, Outcome}
 use Rattle.data_url.specs.Mime.{HasNoRecord}
 use Rattle.data_url.specs.Errors.{IsParsingError}
-use Rattle.data_url.specs.Url.{dropped, fragment, in_fragment_set, percent_encoded}
+use Rattle.data_url.specs.Url.{without_tabs_and_newlines, fragment, in_fragment_set, percent_encoding}
 use Rattle.data_url.specs.declared.DataUrl.{DataUrl}
 use Rattle.data_url.specs.declared.fragment.FragmentIdentifier.{FragmentIdentifier}
 use Rattle.data_url.specs.declared.forgiving_base64.DecodeError.{DecodeError}
@@ -80,23 +80,23 @@ type_refused x r e p h k refused =
 
 abbrev encoded_line : Option (List ℕ) → List ℕ
 encoded_line None = []
-encoded_line (Some f) = percent_encoded in_fragment_set f ++ 10 ∷ []
+encoded_line (Some f) = percent_encoding in_fragment_set f ++ 10 ∷ []
 
-line_is : (bytes : List ℕ) (f : Option (List ℕ)) → IsFragmentOutput (Good bytes) (option_map (percent_encoded in_fragment_set) f) (encoded_line f) (Ok tt)
+line_is : (bytes : List ℕ) (f : Option (List ℕ)) → IsFragmentOutput (Good bytes) (option_map (percent_encoding in_fragment_set) f) (encoded_line f) (Ok tt)
 line_is bytes None = without_fragment
 line_is bytes (Some f) = some_fragment
 
-found_line : (tail bytes : List ℕ) (found : Option FragmentIdentifier) → IsFragmentOf tail found → IsFragmentOutput (Good bytes) (option_map (percent_encoded in_fragment_set) (fragment (dropped tail))) (encoded_line (option_map dropped (option_map fragment_text found))) (Ok tt)
+found_line : (tail bytes : List ℕ) (found : Option FragmentIdentifier) → IsFragmentOf tail found → IsFragmentOutput (Good bytes) (option_map (percent_encoding in_fragment_set) (fragment (without_tabs_and_newlines tail))) (encoded_line (option_map without_tabs_and_newlines (option_map fragment_text found))) (Ok tt)
 found_line tail bytes found h =
-    let same : option_map dropped (option_map fragment_text found) ≡ fragment (dropped tail) = ap (option_map dropped) h ∙ sym (fragment_dropped tail) in
-    let P : Option (List ℕ) → Type 0 = λ f. IsFragmentOutput (Good bytes) (option_map (percent_encoded in_fragment_set) f) (encoded_line (option_map dropped (option_map fragment_text found))) (Ok tt) in
-    subst P same (line_is bytes (option_map dropped (option_map fragment_text found)))
+    let same : option_map without_tabs_and_newlines (option_map fragment_text found) ≡ fragment (without_tabs_and_newlines tail) = ap (option_map without_tabs_and_newlines) h ∙ sym (fragment_dropped tail) in
+    let P : Option (List ℕ) → Type 0 = λ f. IsFragmentOutput (Good bytes) (option_map (percent_encoding in_fragment_set) f) (encoded_line (option_map without_tabs_and_newlines (option_map fragment_text found))) (Ok tt) in
+    subst P same (line_is bytes (option_map without_tabs_and_newlines (option_map fragment_text found)))
 
 module _ {F E : Type 0} {step : F → List ℕ → Result (Unit {0}) E → F → Type 0} {f g : F} {most : ℕ} {r : Result (Option FragmentIdentifier) (DecodeError E)} where
-  of_found : (url : DataUrl) {x : Option FragmentIdentifier} → Decodes step f most (url_body url) (IsFragmentOf (url_tail url)) r g → r ≡ Ok x → IsFragmentOutput (url_body url) (url_fragment url) (encoded_line (option_map dropped (option_map fragment_text x))) (Ok tt)
+  of_found : (url : DataUrl) {x : Option FragmentIdentifier} → Decodes step f most (url_body url) (IsFragmentOf (url_tail url)) r g → r ≡ Ok x → IsFragmentOutput (url_body url) (url_fragment url) (encoded_line (option_map without_tabs_and_newlines (option_map fragment_text x))) (Ok tt)
   of_found url {x} h e =
       let good = body_good h e in
-      let P : Outcome → Type 0 = λ o. IsFragmentOutput o (url_fragment url) (encoded_line (option_map dropped (option_map fragment_text x))) (Ok tt) in
+      let P : Outcome → Type 0 = λ o. IsFragmentOutput o (url_fragment url) (encoded_line (option_map without_tabs_and_newlines (option_map fragment_text x))) (Ok tt) in
       subst P (sym good.1) (found_line (url_tail url) good.0 x (body_answer h e))
 
   pub fragment_there : (url : DataUrl) {found : FragmentIdentifier} → Decodes step f most (url_body url) (IsFragmentOf (url_tail url)) r g → r ≡ Ok (Some found) → IsFragmentOutput (url_body url) (url_fragment url) (fragment_line found) (Ok tt)

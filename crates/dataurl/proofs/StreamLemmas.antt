@@ -2,7 +2,7 @@
 use Rattle.std.proofs.Common.{◌≡◌, ℕ, ◌≤◌, List, [], ◌++◌, length, Option, None, Some, is_some, Result, Ok, Err, refl, sym, ap, ◌∙◌, subst}
 use Rattle.std.specs.Io.KnownBytes.{Appends, Consumes, IsAtEnd, Keeps}
 use Rattle.std.proofs.lemmas.List.{append-nil}
-use Rattle.data_url.specs.Base64.{after_groups, decoded, done, first_fault, groups, is_valid, kind_of, left_padding, left_symbols, left_text, values}
+use Rattle.data_url.specs.Base64.{after_groups, decoded, complete_bytes, first_fault, groups, is_valid, kind_of, left_padding, left_symbols, left_text, values}
 use Rattle.data_url.specs.Decoder.{Feeds, State, start}
 use Rattle.data_url.specs.Laws.{GoesOn}
 use Rattle.data_url.specs.declared.forgiving_base64.DecodeError.{DecodeError}
@@ -41,45 +41,45 @@ ends_with u v f e = goes_on u [] v f (e ∙ sym (append-nil _))
 
 -- Parts of a text
 
-groups_bytes : (v w : List ℕ) (end : End) → IsGroups v w end → w ≡ done v
+groups_bytes : (v w : List ℕ) (end : End) → IsGroups v w end → w ≡ complete_bytes v
 groups_bytes v w end (sound_groups f) = refl
 groups_bytes v w end (faulty_groups f) = refl
 
-sound_by : (v w : List ℕ) (end : End) → end ≡ Ok tt → IsGroups v w end → (first_fault v ≡ None) × (w ≡ done v)
+sound_by : (v w : List ℕ) (end : End) → end ≡ Ok tt → IsGroups v w end → (first_fault v ≡ None) × (w ≡ complete_bytes v)
 sound_by v w end e (sound_groups f) = (f, refl)
 sound_by v w end e (faulty_groups f) = absurd (let k = e in cc)
 
-groups_sound : (v w : List ℕ) (end : End) → end ≡ Ok tt → IsStreamed (IsGroups v) w end → (first_fault v ≡ None) × (w ≡ done v)
+groups_sound : (v w : List ℕ) (end : End) → end ≡ Ok tt → IsStreamed (IsGroups v) w end → (first_fault v ≡ None) × (w ≡ complete_bytes v)
 groups_sound v w end e (all_streamed h) = sound_by v w end e h
 groups_sound v w end e (cut_short h b) = absurd (let k = e in cc)
 
-fault_by : (u piece v w : List ℕ) (left : Option (List ℕ)) (fault : Fault) (end : End) → end ≡ Err fault → GoesOn u piece v → IsSoundBeforeLastPiece (u ++ piece) → IsGroups v w end → IsResult (u ++ piece) left base64 (done u ++ w) end
+fault_by : (u piece v w : List ℕ) (left : Option (List ℕ)) (fault : Fault) (end : End) → end ≡ Err fault → GoesOn u piece v → IsSoundBeforeLastPiece (u ++ piece) → IsGroups v w end → IsResult (u ++ piece) left base64 (complete_bytes u ++ w) end
 fault_by u piece v w left fault end e g sound (sound_groups f) = absurd (let k = e in cc)
 fault_by u piece v w left fault end e g sound (faulty_groups f) =
     let P : List ℕ → Type 0 = λ s. IsResult (u ++ piece) left base64 s (Err (Base64 (kind_of v))) in
-    let Q : _ → Type 0 = λ kind. IsResult (u ++ piece) left base64 (done (u ++ piece)) (Err (Base64 kind)) in
+    let Q : _ → Type 0 = λ kind. IsResult (u ++ piece) left base64 (complete_bytes (u ++ piece)) (Err (Base64 kind)) in
     subst P g.done_is (subst Q g.kind_is (stopped sound (g.fault_is ∙ f)))
 
-groups_stop : (u piece v w : List ℕ) (left : Option (List ℕ)) (fault : Fault) (end : End) → end ≡ Err fault → GoesOn u piece v → IsSoundBeforeLastPiece (u ++ piece) → IsStreamed (IsGroups v) w end → IsResult (u ++ piece) left base64 (done u ++ w) end
+groups_stop : (u piece v w : List ℕ) (left : Option (List ℕ)) (fault : Fault) (end : End) → end ≡ Err fault → GoesOn u piece v → IsSoundBeforeLastPiece (u ++ piece) → IsStreamed (IsGroups v) w end → IsResult (u ++ piece) left base64 (complete_bytes u ++ w) end
 groups_stop u piece v w left fault end e g sound (all_streamed h) = fault_by u piece v w left fault end e g sound h
 groups_stop u piece v w left fault end e g sound (cut_short {whole = whole} {end = end'} h b) =
-    let P : List ℕ → Type 0 = λ s. IsProperPrefix (done u ++ w) s in
-    base64_not_written sound (subst P (ap (λ s. done u ++ s) (groups_bytes v whole end' h) ∙ sym g.done_is) (beginning_behind (done u) w whole b))
+    let P : List ℕ → Type 0 = λ s. IsProperPrefix (complete_bytes u ++ w) s in
+    base64_not_written sound (subst P (ap (λ s. complete_bytes u ++ s) (groups_bytes v whole end' h) ∙ sym g.done_is) (beginning_behind (complete_bytes u) w whole b))
 
 -- The last part
 
-last_whole : (u v w : List ℕ) (end : End) → first_fault u ≡ None → GoesOn u [] v → IsLast v w end → IsOutput u base64 (done u ++ w) end
+last_whole : (u v w : List ℕ) (end : End) → first_fault u ≡ None → GoesOn u [] v → IsLast v w end → IsOutput u base64 (complete_bytes u ++ w) end
 last_whole u v w end sound g (last_valid f) =
     let P : List ℕ → Type 0 = λ s. IsOutput u base64 s (Ok tt) in
     subst P (ap decoded (sym (append-nil u)) ∙ g.decoded_is) (of_base64 (ap is_valid (sym (append-nil u)) ∙ g.valid_is ∙ f))
 last_whole u v w end sound g (last_invalid f) =
     let P : List ℕ → Type 0 = λ s. IsOutput u base64 s (Err (Base64 (kind_of v))) in
-    let Q : _ → Type 0 = λ kind. IsOutput u base64 (done u) (Err (Base64 kind)) in
-    subst P (ap done (sym (append-nil u)) ∙ g.done_is) (subst Q (ap kind_of (sym (append-nil u)) ∙ g.kind_is) (of_no_base64 sound (ap is_valid (sym (append-nil u)) ∙ g.valid_is ∙ f)))
+    let Q : _ → Type 0 = λ kind. IsOutput u base64 (complete_bytes u) (Err (Base64 kind)) in
+    subst P (ap complete_bytes (sym (append-nil u)) ∙ g.done_is) (subst Q (ap kind_of (sym (append-nil u)) ∙ g.kind_is) (of_no_base64 sound (ap is_valid (sym (append-nil u)) ∙ g.valid_is ∙ f)))
 
-last_ends : (u v w : List ℕ) (left : Option (List ℕ)) (end : End) → first_fault u ≡ None → GoesOn u [] v → IsAtEnd left → IsStreamed (IsLast v) w end → IsResult u left base64 (done u ++ w) end
+last_ends : (u v w : List ℕ) (left : Option (List ℕ)) (end : End) → first_fault u ≡ None → GoesOn u [] v → IsAtEnd left → IsStreamed (IsLast v) w end → IsResult u left base64 (complete_bytes u ++ w) end
 last_ends u v w left end sound g over (all_streamed h) = complete over (last_whole u v w end sound g h)
-last_ends u v w left end sound g over (cut_short {whole = whole} {end = end'} h b) = not_written over (last_whole u v whole end' sound g h) (beginning_behind (done u) w whole b)
+last_ends u v w left end sound g over (cut_short {whole = whole} {end = end'} h b) = not_written over (last_whole u v whole end' sound g h) (beginning_behind (complete_bytes u) w whole b)
 
 -- The loop
 
@@ -87,12 +87,12 @@ last_ends u v w left end sound g over (cut_short {whole = whole} {end = end'} h 
 pub record Reading (unread now held then : Option (List ℕ)) (kept : List ℕ) : Type 0 where
   pub input : List ℕ
   pub consumed : Consumes unread now input
-  pub appended : Appends held then (done input)
+  pub appended : Appends held then (complete_bytes input)
   pub no_fault : first_fault input ≡ None
   pub kept_is : kept ≡ left_text (left_symbols input) (left_padding input)
 
 pub reading_none : (unread held : Option (List ℕ)) → Reading unread unread held held []
-unfolding after_groups done first_fault groups left_padding left_symbols values
+unfolding after_groups complete_bytes first_fault groups left_padding left_symbols values
 reading_none unread held = record { input = []; consumed = consumes_none unread; appended = appends_none held; no_fault = refl; kept_is = refl }
 
 module _ {unread now left held then later : Option (List ℕ)} {kept : List ℕ} where
@@ -101,12 +101,12 @@ module _ {unread now left held then later : Option (List ℕ)} {kept : List ℕ}
   reading_more {kept'} {text} piece h c e w k =
       let g = goes_on h.input piece text h.no_fault (e ∙ ap (λ s. s ++ piece) h.kept_is) in
       let sound = groups_sound text w.written (Ok tt) refl w.is_streamed in
-      let same : done h.input ++ w.written ≡ done (h.input ++ piece) = ap (λ s. done h.input ++ s) sound.1 ∙ sym g.done_is in
+      let same : complete_bytes h.input ++ w.written ≡ complete_bytes (h.input ++ piece) = ap (λ s. complete_bytes h.input ++ s) sound.1 ∙ sym g.done_is in
       let P : List ℕ → Type 0 = λ s. Appends held later s in
       record {
         input = h.input ++ piece;
         consumed = consumes_then unread now left h.input piece h.consumed c;
-        appended = subst P same (appends_then held then later (done h.input) w.written h.appended w.appended);
+        appended = subst P same (appends_then held then later (complete_bytes h.input) w.written h.appended w.appended);
         no_fault = none_by (first_fault (h.input ++ piece)) (first_fault text) sound.0 g.fault_is;
         kept_is = k ∙ ap (λ q. left_text q (left_padding text)) (sym g.symbols_left) ∙ ap (λ p. left_text (left_symbols (h.input ++ piece)) p) (sym g.padding_left);
       }
@@ -118,9 +118,9 @@ module _ {unread now left held then later : Option (List ℕ)} {kept : List ℕ}
       let sound : IsSoundBeforeLastPiece (h.input ++ piece) = record { earlier = h.input; last = piece; joined = refl; is_sound = h.no_fault; is_piece = few } in
       record {
         input = h.input ++ piece;
-        written = done h.input ++ w.written;
+        written = complete_bytes h.input ++ w.written;
         consumed = consumes_then unread now left h.input piece h.consumed c;
-        appended = appends_then held then later (done h.input) w.written h.appended w.appended;
+        appended = appends_then held then later (complete_bytes h.input) w.written h.appended w.appended;
         is_run = groups_stop h.input piece text w.written left fault (Err fault) refl g sound w.is_streamed;
       }
 
@@ -133,14 +133,14 @@ module _ {unread now left held then later : Option (List ℕ)} {kept : List ℕ}
       let P : List ℕ → Type 0 = λ s. Consumes unread left s in
       record {
         input = h.input;
-        written = done h.input ++ w.written;
+        written = complete_bytes h.input ++ w.written;
         consumed = subst P same all;
-        appended = appends_then held then later (done h.input) w.written h.appended w.appended;
+        appended = appends_then held then later (complete_bytes h.input) w.written h.appended w.appended;
         is_run = last_ends h.input text w.written left end h.no_fault g over w.is_streamed;
       }
 
 pub reading_fails : {unread now left held then : Option (List ℕ)} {kept : List ℕ} → Reading unread now held then kept → Keeps now left → Runs base64 unread left held then (Err Read)
-reading_fails {unread} {now} {left} h k = record { input = h.input; written = done h.input; consumed = consumes_kept unread now left h.input h.consumed k; appended = h.appended; is_run = base64_not_read h.no_fault }
+reading_fails {unread} {now} {left} h k = record { input = h.input; written = complete_bytes h.input; consumed = consumes_kept unread now left h.input h.consumed k; appended = h.appended; is_run = base64_not_read h.no_fault }
 
 pub reading_too_long : {unread now held then : Option (List ℕ)} {kept : List ℕ} → Reading unread now held then kept → Runs base64 unread now held then (Err Read)
-reading_too_long h = record { input = h.input; written = done h.input; consumed = h.consumed; appended = h.appended; is_run = base64_not_read h.no_fault }
+reading_too_long h = record { input = h.input; written = complete_bytes h.input; consumed = h.consumed; appended = h.appended; is_run = base64_not_read h.no_fault }

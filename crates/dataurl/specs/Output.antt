@@ -1,6 +1,6 @@
 -- What each command writes of an input, and how it ends.
 use Rattle.std.specs.Prelude.{[], ◌++◌, ◌∷◌, ◌≡◌, Err, IsUtf8, List, None, Ok, Option, Result, Some, chars, encode_utf8_all, false, true, ℕ}
-use Rattle.data_url.specs.Base64.{decoded, done, first_fault, is_valid, kind_of}
+use Rattle.data_url.specs.Base64.{decoded, complete_bytes, first_fault, is_valid, kind_of}
 use Rattle.data_url.specs.Fetch.{Accepted, Bad, Good, NoComma as no_comma, NoScheme, Outcome, staged}
 use Rattle.data_url.specs.Mime.{HasNoRecord, IsRecordOf, Parses, Record, printed}
 use Rattle.dataurl.specs.Command.{TakesText, TakesUrl}
@@ -65,4 +65,4 @@ pub data IsOutput (x : List ℕ) : Command → List ℕ → End → Type 0 where
   of_no_text : {c : Command} → TakesText c → (IsUtf8 x → ⊥) → IsOutput x c [] (Err NotUtf8)
   of_base64 : is_valid x ≡ true → IsOutput x base64 (decoded x) (Ok tt)
   of_no_base64 : first_fault x ≡ None → is_valid x ≡ false
-      → IsOutput x base64 (done x) (Err (Base64 (kind_of x)))
+      → IsOutput x base64 (complete_bytes x) (Err (Base64 (kind_of x)))

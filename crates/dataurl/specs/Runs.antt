@@ -1,7 +1,7 @@
 -- What running a command does to a reader and a writer.
 use Rattle.std.specs.Io.KnownBytes.{Appends, Consumes, IsAtEnd}
 use Rattle.std.specs.Prelude.{[], ◌++◌, ◌<◌, ◌≡◌, ◌≤◌, Err, List, None, Option, is_some, length, true, ℕ}
-use Rattle.data_url.specs.Base64.{done, first_fault, kind_of}
+use Rattle.data_url.specs.Base64.{complete_bytes, first_fault, kind_of}
 use Rattle.dataurl.specs.Command.{TakesText}
 use Rattle.dataurl.specs.Output.{End, IsOutput}
 use Rattle.dataurl.specs.declared.command.Command.TheVariants.{Base64 as base64}
@@ -28,18 +28,18 @@ pub data IsResult (x : List ℕ) (left : Option (List ℕ)) : Command → List �
       → IsResult x left c written end
   -- base64 is read no further than the piece that has the fault
   stopped : IsSoundBeforeLastPiece x → is_some (first_fault x) ≡ true
-      → IsResult x left base64 (done x) (Err (Base64 (kind_of x)))
+      → IsResult x left base64 (complete_bytes x) (Err (Base64 (kind_of x)))
   -- the writer took a beginning of the output of the whole input, and not all
   not_written : {c : Command} {written whole : List ℕ} {end : End} → IsAtEnd left
       → IsOutput x c whole end → IsProperPrefix written whole
       → IsResult x left c written (Err Write)
   -- it took a beginning of what is decoded of base64 as far as it was read, and not all
   base64_not_written : {written : List ℕ} → IsSoundBeforeLastPiece x
-      → IsProperPrefix written (done x)
+      → IsProperPrefix written (complete_bytes x)
       → IsResult x left base64 written (Err Write)
   -- the reader failed: of base64 the complete groups that were read are written, decoded
   not_read : {c : Command} → TakesText c → IsResult x left c [] (Err Read)
-  base64_not_read : first_fault x ≡ None → IsResult x left base64 (done x) (Err Read)
+  base64_not_read : first_fault x ≡ None → IsResult x left base64 (complete_bytes x) (Err Read)
   -- memory was refused, and nothing was written
   no_memory : {c : Command} → TakesText c → IsResult x left c [] (Err Memory)
 

@@ -20,12 +20,12 @@ pub(crate) struct Gathered {
 
 impl Gathered {
     ghost use Rattle.std.specs.Prelude.{◌≡◌, ◌++◌, ◌+◌, [], length};
-    ghost use Rattle.dataurl.specs.Steps.Gathering.{Flushes, Gathers, Settles, waiting};
+    ghost use Rattle.dataurl.specs.Steps.Gathering.{Flushes, Gathers, Settles, waiting_bytes};
     ghost use Rattle.dataurl.specs.Steps.Writing.{Writes};
 
     /// Nothing is gathered yet.
     pub(crate) fn new() -> Gathered
-        ensures { waiting result ≡ [] }
+        ensures { waiting_bytes result ≡ [] }
     {
         Gathered {
             bytes: [0; ROOM],
@@ -36,7 +36,7 @@ impl Gathered {
     /// Gathers a piece that fits behind what waits.
     fn push(&mut self, piece: &[u8])
         requires { self.old.len + length piece.now ≤ 4096 }
-        ensures { waiting self.new ≡ waiting self.old ++ piece.now }
+        ensures { waiting_bytes self.new ≡ waiting_bytes self.old ++ piece.now }
     {
         let end = self.len + piece.len();
         self.bytes[self.len..end].copy_from_slice(piece);
@@ -45,8 +45,8 @@ impl Gathered {
 
     /// Writes what waits. A write that fails is not tried again.
     fn flush<W: Write>(&mut self, writer: &mut W) -> Result<(), WriteFailed>
-        ensures wrote { Writes (waiting self.old) (W.contents writer.old) (W.contents writer.new)
-            result }
+        ensures wrote { Writes (waiting_bytes self.old)
+            (W.contents writer.old) (W.contents writer.new) result }
         ensures empty { self.new.len ≡ 0 }
     {
         let len = self.len;
@@ -57,8 +57,8 @@ impl Gathered {
     /// Takes a piece of an output: one that fits is gathered. Before any other is taken, what waits is written, and a
     /// piece at least as long as the room goes to the writer as it is.
     pub(crate) fn take<W: Write>(&mut self, piece: &[u8], writer: &mut W) -> Result<(), WriteFailed>
-        ensures { Gathers piece.now (waiting self.old) (waiting self.new) (W.contents writer.old)
-            (W.contents writer.new) result }
+        ensures { Gathers piece.now (waiting_bytes self.old) (waiting_bytes self.new)
+            (W.contents writer.old) (W.contents writer.new) result }
     {
         if piece.len() <= ROOM - self.len {
             self.push(piece);
@@ -80,8 +80,8 @@ impl Gathered {
         end: Result<(), Fault>,
         writer: &mut W,
     ) -> Result<(), Fault>
-        ensures { Flushes (waiting self.old) end (W.contents writer.old) (W.contents writer.new)
-            result }
+        ensures { Flushes (waiting_bytes self.old) end
+            (W.contents writer.old) (W.contents writer.new) result }
     {
         match self.flush(writer) {
             Ok(()) => end,
@@ -95,8 +95,8 @@ impl Gathered {
         answer: Result<(), DecodeError<WriteFailed>>,
         writer: &mut W,
     ) -> Result<(), Fault>
-        ensures { Settles answer (waiting self.old) (W.contents writer.old) (W.contents writer.new)
-            result }
+        ensures { Settles answer (waiting_bytes self.old)
+            (W.contents writer.old) (W.contents writer.new) result }
     {
         match answer {
             Ok(()) => self.flush_before(Ok(()), writer),

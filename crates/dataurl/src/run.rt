@@ -3,7 +3,7 @@
 ghost use Rattle.std.specs.Prelude.{◌+◌, length};
 ghost use Rattle.std.specs.Fn.{CalledAt};
 ghost use Rattle.data_url.specs.DataUrl.{Decodes, url_body, url_tail};
-ghost use Rattle.data_url.specs.MimeType.{seen};
+ghost use Rattle.data_url.specs.MimeType.{record_of};
 ghost use Rattle.dataurl.specs.Command.{TakesText};
 ghost use Rattle.dataurl.specs.Output.{IsBodyOutput, IsFragmentOutput, IsTextOutput, record_line};
 ghost use Rattle.dataurl.specs.Runs.{Runs};
@@ -81,7 +81,7 @@ fn write_body_of<W: Write>(url: &DataUrl, writer: &mut W) -> Result<(), Fault>
 
 /// Writes the line of a record.
 fn write_record<W: Write>(alloc: Global, mime: &Mime, writer: &mut W) -> Result<(), Fault>
-    ensures { WritesOf (IsExactly (record_line (seen mime.now))) (W.contents writer.old)
+    ensures { WritesOf (IsExactly (record_line (record_of mime.now))) (W.contents writer.old)
         (W.contents writer.new) result }
 {
     let Ok(line) = format!(in alloc; "{mime}\n") else {
@@ -165,7 +165,8 @@ fn write_text<W: Write>(
     writer: &mut W,
 ) -> Result<(), Fault>
     requires { TakesText command }
-    ensures { WritesOf (IsTextOutput text.now command) (W.contents writer.old) (W.contents writer.new)
+    ensures { WritesOf (IsTextOutput text.now command)
+        (W.contents writer.old) (W.contents writer.new)
         result }
 {
     match command {

@@ -4,7 +4,7 @@ use Rattle.std.specs.Prelude.{◌<◌, ◌≡◌, ◌≤◌, Err, List, Ok, Opti
 use Rattle.data_url.specs.DataUrl.{IsAcceptable}
 use Rattle.data_url.specs.Fetch.{Accepted, Bad, Good, NoComma as no_comma, NoScheme, Outcome, outcome_bytes, staged}
 use Rattle.data_url.specs.Mime.{IsRecordOf}
-use Rattle.data_url.specs.MimeType.{seen}
+use Rattle.data_url.specs.MimeType.{record_of}
 use Rattle.data_url.specs.Run.{IsPrefix}
 use Rattle.data_url.specs.declared.mime.Mime.{Mime}
 use Rattle.uses.specs.declared.loader.LoadError.TheVariants.{InvalidBase64, NoComma, NotADataUrl, OutOfMemory, OverLimit, SinkFailed}
@@ -52,7 +52,7 @@ pub record LoadsWhole (t : List ℕ) (limit : ℕ) (old new : Held) (mime : Mime
   pub type_text : List ℕ
   pub body : Outcome
   pub resource : IsResource t type_text body
-  pub record_is : IsRecordOf type_text (seen mime)
+  pub record_is : IsRecordOf type_text (record_of mime)
   pub streamed : StreamsBody body limit old new (Ok tt)
 
 -- what loading a text did to the sink, by its answer

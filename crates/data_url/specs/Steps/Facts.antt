@@ -1,6 +1,6 @@
 -- Facts about the definitions.
 use Rattle.std.specs.Prelude.{◌%◌, ◌++◌, ◌<◌, ◌↔◌, ◌≡◌, ◌≢◌, ◌⊎◌, IsTrue, List, None, Option, Some, false, length, replicate, ℕ}
-use Rattle.data_url.specs.Base64.{compact, is_fault, is_symbol, is_valid}
+use Rattle.data_url.specs.Base64.{without_whitespace, is_fault, is_symbol, is_valid}
 use Rattle.data_url.specs.Mime.{Every, Item, Items, Parses, Record}
 
 -- each text that is empty or begins with ';' is a join of parameters, with one list of items
@@ -15,7 +15,7 @@ HasAtMostOneRecord s = (m n : Record) → Parses s m → Parses s n → m ≡ n
 -- b is these symbols and then so many '=', and nothing else but whitespace
 pub record IsSymbolsAndPadding (b symbols : List ℕ) (padding : ℕ) : Type 0 where
   pub symbols_are : Every is_symbol symbols
-  pub compact_is : compact b ≡ symbols ++ replicate padding 61
+  pub compact_is : without_whitespace b ≡ symbols ++ replicate padding 61
 
 -- the numbers of symbols and of '=' that make a valid text
 abbrev pub Fits : ℕ → ℕ → Type 0

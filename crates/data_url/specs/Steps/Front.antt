@@ -3,17 +3,20 @@ use Rattle.std.specs.Char.{to_ascii_lowercase}
 use Rattle.std.specs.Int.{is_in_range}
 use Rattle.std.specs.Prelude.{◌&&◌, ◌++◌, ◌==◌, ◌||◌, ◌∷◌, ◌≡◌, Bool, List, None, codes, false, map, take, not, ℕ}
 use Rattle.std.specs.Str.{bytes_eq}
-use Rattle.data_url.specs.Url.{behind, dropped}
+use Rattle.data_url.specs.Url.{behind, without_tabs_and_newlines}
 
 -- rest stands behind the scheme "data:", spelled in any ASCII case with tabs and newlines anywhere
 pub record IsSchemeAndRest (text rest : List ℕ) : Type 0 where
   pub scheme : List ℕ
   pub joined : text ≡ scheme ++ rest
-  pub spelled : map to_ascii_lowercase (dropped scheme) ≡ codes "data:"
+  pub spelled : map to_ascii_lowercase (without_tabs_and_newlines scheme) ≡ codes "data:"
 
 -- the text begins with no such scheme
 abbrev pub HasNoScheme : List ℕ → Type 0
-HasNoScheme text = bytes_eq (map to_ascii_lowercase (take 5 (dropped text))) (codes "data:") ≡ false
+HasNoScheme text =
+    bytes_eq (map to_ascii_lowercase (take 5 (without_tabs_and_newlines text)))
+        (codes "data:")
+    ≡ false
 
 -- ',' or '#'
 abbrev pub ends_header : ℕ → Bool

@@ -2,7 +2,7 @@
 use Rattle.std.specs.Prelude.{[], ◌++◌, ◌∷◌, ◌⊎◌, ◌<◌, ◌==◌, ◌≡◌, ◌≤◌, Bool, List, None, Option, Some, length, not, slice_index, ℕ}
 use Rattle.data_url.specs.Fetch.{has_base64_suffix, mime_text}
 use Rattle.data_url.specs.Mime.{IsRecordOf, IsWellformed, Record}
-use Rattle.data_url.specs.Url.{before, behind, dropped, encoded_path, in_path_set, in_query_set, percent_encoded}
+use Rattle.data_url.specs.Url.{before, behind, without_tabs_and_newlines, encoded_path, in_path_set, in_query_set, percent_encoding}
 
 -- no '?', which ends a path
 abbrev pub is_no_question_mark : ℕ → Bool
@@ -17,8 +17,8 @@ pub record IsPathAndQuery (text path query : List ℕ) : Type 0 where
 -- the serialised text of a header without tabs and newlines: the end of its path is there only
 -- where its query is
 abbrev pub header_parts : List ℕ → Option (List ℕ) → List ℕ
-header_parts path None = percent_encoded in_path_set path
-header_parts path (Some query) = encoded_path path ++ 63 ∷ percent_encoded in_query_set query
+header_parts path None = percent_encoding in_path_set path
+header_parts path (Some query) = encoded_path path ++ 63 ∷ percent_encoding in_query_set query
 
 unfoldable pub header_text : List ℕ → List ℕ
 header_text s = header_parts (before 63 s) (behind 63 s)
@@ -26,16 +26,19 @@ header_text s = header_parts (before 63 s) (behind 63 s)
 -- what is written of the parts of a header: the path without its last space, that space, and the
 -- query
 abbrev pub encoded_parts : List ℕ → List ℕ → List ℕ → List ℕ
-encoded_parts path space query = percent_encoded in_path_set (dropped path)
-    ++ (space ++ percent_encoded in_query_set (dropped query))
+encoded_parts path space query = percent_encoding in_path_set (without_tabs_and_newlines path)
+    ++ (space ++ percent_encoding in_query_set (without_tabs_and_newlines query))
 
 -- a path without its last space, behind which at most tabs and newlines stand
 abbrev pub WithoutSpace : List ℕ → List ℕ → Type 0
-WithoutSpace path front = dropped path ≡ dropped front ++ 32 ∷ []
+WithoutSpace path front =
+    without_tabs_and_newlines path ≡ without_tabs_and_newlines front ++ 32 ∷ []
 
 -- without tabs and newlines the path does not end with a space
 abbrev pub HasNoLastSpace : List ℕ → Type 0
-HasNoLastSpace path = encoded_path (dropped path) ≡ percent_encoded in_path_set (dropped path)
+HasNoLastSpace path =
+    encoded_path (without_tabs_and_newlines path)
+    ≡ percent_encoding in_path_set (without_tabs_and_newlines path)
 
 -- each byte is printable ASCII or a space
 abbrev pub IsPrintable : List ℕ → Type 0

@@ -1,8 +1,8 @@
 -- What a decoder makes of some text while bytes wait to be handed out together.
 use Rattle.std.specs.Prelude.{[], ◌*◌, ◌++◌, ◌+◌, ◌∷◌, ◌<◌, ◌≡◌, ◌≤◌, Err, List, MatchResult, None, Ok, Option, Result, Some, false, is_some, length, take, true, ℕ}
-use Rattle.data_url.specs.Base64.{Kind, done, first_fault, kind_of}
+use Rattle.data_url.specs.Base64.{Kind, complete_bytes, first_fault, kind_of}
 use Rattle.data_url.specs.Decoder.{IsLeft, State, left_over}
-use Rattle.data_url.specs.Run.{Call, IsRun, joined, refusal}
+use Rattle.data_url.specs.Run.{Call, IsRun, joined_pieces, refusal}
 use Rattle.data_url.specs.Steps.Calls.{CallsOnce}
 use Rattle.data_url.specs.declared.forgiving_base64.DecodeError.{DecodeError}
 
@@ -10,7 +10,7 @@ use Rattle.data_url.specs.declared.forgiving_base64.DecodeError.{DecodeError}
 -- left over what it leaves
 pub record Adds {F : Type 0} (d : State F) (text bytes : List ℕ) (d' : State F) : Type 0 where
   pub no_fault : first_fault (left_over d ++ text) ≡ None
-  pub bytes_are : bytes ≡ done (left_over d ++ text)
+  pub bytes_are : bytes ≡ complete_bytes (left_over d ++ text)
   pub left : IsLeft (left_over d ++ text) d'
   pub few : length bytes ≤ 3 * length text
   pub closure_stays : d'.closure ≡ d.closure
@@ -21,7 +21,7 @@ pub record Adds {F : Type 0} (d : State F) (text bytes : List ℕ) (d' : State F
 pub record Refuses {F : Type 0} (d : State F) (byte : ℕ) (kind : Kind) (d' : State F) : Type 0 where
   pub fault : is_some (first_fault (left_over d ++ byte ∷ [])) ≡ true
   pub kind_is : kind_of (left_over d ++ byte ∷ []) ≡ kind
-  pub none_done : done (left_over d ++ byte ∷ []) ≡ []
+  pub none_done : complete_bytes (left_over d ++ byte ∷ []) ≡ []
   pub stays : d' ≡ d
 
 -- the bytes of a group, where there is one
@@ -52,7 +52,7 @@ pub record Holds {F E : Type 0} (step : F → List ℕ → Result (Unit {0}) E �
   pub run : List (Call F E)
   pub ran : IsRun step d.closure run d'.closure
   pub accepted : refusal run ≡ None
-  pub bytes_are : joined run ++ held ≡ done (left_over d ++ text)
+  pub bytes_are : joined_pieces run ++ held ≡ complete_bytes (left_over d ++ text)
   pub no_fault : first_fault (left_over d ++ text) ≡ None
   pub left : IsLeft (left_over d ++ text) d'
   pub calls : 48 * length run + length held ≤ 3 * length text

@@ -23,5 +23,5 @@ abbrev pub before_percent : List ℕ → ℕ
 before_percent s = prefix_len (λ b. not (b == 37)) s
 
 -- how many looks are paid for, where the text was seen up to a place and the walk stands at another
-abbrev pub paid : List ℕ → ℕ → ℕ → ℕ
-paid text seen place = seen + 2 * place + before_percent (drop place text)
+abbrev pub paid_looks : List ℕ → ℕ → ℕ → ℕ
+paid_looks text seen place = seen + 2 * place + before_percent (drop place text)

@@ -68,8 +68,8 @@ abbrev pub unless_named : List Pair → List Pair → List Pair
 unless_named earlier [] = []
 unless_named earlier (p ∷ ps) = if has_name p.0 earlier then [] else p ∷ []
 
-abbrev pub added : List Pair → Item → List Pair
-added earlier item = unless_named earlier (valid_of item)
+abbrev pub added_pairs : List Pair → Item → List Pair
+added_pairs earlier item = unless_named earlier (valid_of item)
 
 -- each name is a lower-case one
 abbrev pub HasLowercaseNames : List Pair → Type 0

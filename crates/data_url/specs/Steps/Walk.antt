@@ -2,10 +2,10 @@
 use Rattle.std.specs.Borrow.{Bor}
 use Rattle.std.specs.Prelude.{◌*◌, ◌++◌, ◌+◌, ◌-◌, ◌<◌, ◌≡◌, ◌≤◌, Bool, IfNone, IfSome, List, MatchBool, MatchOption, None, Option, Some, drop, false, length, map, slice_index, slice_range, take, true, ℕ}
 use Rattle.std.specs.Simd.Lanes.{mask_l}
-use Rattle.data_url.specs.Base64.{compact}
+use Rattle.data_url.specs.Base64.{without_whitespace}
 use Rattle.data_url.specs.Fetch.{plain_body}
 use Rattle.data_url.specs.Pieces.{IsPiece, Walk, bytes_of_next, escape}
-use Rattle.data_url.specs.Steps.Looks.{paid}
+use Rattle.data_url.specs.Steps.Looks.{paid_looks}
 use Rattle.data_url.specs.Steps.Tail.{BeginsFragment}
 use Rattle.data_url.specs.Steps.Window.{IsFree, is_marked}
 use Rattle.data_url.specs.Url.{behind, is_tab_or_newline}
@@ -30,8 +30,9 @@ pub record Reads (text : List ℕ) (from to : ℕ) (bytes : List ℕ) : Type 0 w
 pub record ReadsSpaced (text : List ℕ) (from to : ℕ) : Type 0 where
   pub forward : from ≤ to
   pub within : to ≤ length text
-  pub body : compact (plain_body (drop from text))
-      ≡ compact (slice_range text from to) ++ compact (plain_body (drop to text))
+  pub body : without_whitespace (plain_body (drop from text))
+      ≡ without_whitespace (slice_range text from to)
+        ++ without_whitespace (plain_body (drop to text))
   pub behind_is : behind 35 (drop from text) ≡ behind 35 (drop to text)
 
 -- an escape of the value stands at one place and ends at another
@@ -84,7 +85,7 @@ pub record Looking (c : Cursor) (place more : ℕ) : Type 0 where
   pub block : IsBlock (text_of c) c.base c.seen c.marks
   pub base_le : c.base ≤ place
   pub within : place ≤ length (text_of c)
-  pub looks_are_paid : c.source.looks + more ≤ paid (text_of c) c.seen place
+  pub looks_are_paid : c.source.looks + more ≤ paid_looks (text_of c) c.seen place
 
 -- the text stays, and looks are only added
 pub record LooksOn (c c' : Cursor) : Type 0 where

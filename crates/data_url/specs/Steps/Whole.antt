@@ -1,9 +1,9 @@
 -- What decoding a whole text of base64 does.
 use Rattle.std.specs.Prelude.{if◌then◌else◌, ◌+◌, ◌≡◌, ◌≤◌, Err, List, MatchBool, MatchOption, Result, length, ℕ}
-use Rattle.data_url.specs.Base64.{decoded, done, is_valid, kind_of}
+use Rattle.data_url.specs.Base64.{decoded, complete_bytes, is_valid, kind_of}
 use Rattle.data_url.specs.Decoder.{IsAll}
 use Rattle.data_url.specs.Errors.{IsRefused}
-use Rattle.data_url.specs.Run.{Call, IsRun, joined, refusal}
+use Rattle.data_url.specs.Run.{Call, IsRun, joined_pieces, refusal}
 use Rattle.data_url.specs.declared.forgiving_base64.DecodeError.TheVariants.{InvalidBase64, WriteError}
 use Rattle.data_url.specs.declared.forgiving_base64.DecodeError.{DecodeError}
 use Rattle.data_url.specs.declared.forgiving_base64.DecodeToVecError.TheVariants as to_vec
@@ -17,9 +17,9 @@ pub record DecodesText {F E : Type 0} (step : F → List ℕ → Result (Unit {0
   pub ran : IsRun step f run f'
   pub calls : length run ≤ length u + 1
   pub gave : MatchOption (refusal run)
-      (MatchBool (is_valid u) (IsAll u (joined run) r)
-      ((joined run ≡ done u) × (r ≡ Err (InvalidBase64 (kind_of u)))))
-      (λ e. IsRefused (if is_valid u then decoded u else done u) (joined run) e r)
+      (MatchBool (is_valid u) (IsAll u (joined_pieces run) r)
+      ((joined_pieces run ≡ complete_bytes u) × (r ≡ Err (InvalidBase64 (kind_of u)))))
+      (λ e. IsRefused (if is_valid u then decoded u else complete_bytes u) (joined_pieces run) e r)
 
 -- the error of a vector that is filled by a closure: what that refuses is memory
 abbrev pub vec_error : {E : Type 0} → DecodeError E → DecodeToVecError

@@ -4,10 +4,10 @@ ghost use Rattle.std.specs.Prelude.{◌≡◌, ◌++◌, ◌∷◌, List, ℕ, O
 ghost use Rattle.std.specs.Bool.{MatchBool};
 ghost use Rattle.std.specs.Char.{to_ascii_lowercase};
 ghost use Rattle.std.specs.Str.{IsUtf8, chars};
-ghost use Rattle.data_url.specs.Mime.{BeginsParameters, DoesNotBegin, IsHead, Item, Items, is_quote, is_token_text, kept, IsRecordOfParts};
-ghost use Rattle.data_url.specs.Steps.Parsing.{HasNoHead, HasParameterBefore, HasValueBefore, IsClosed, IsItem, IsOpen, IsValue, added};
+ghost use Rattle.data_url.specs.Mime.{BeginsParameters, DoesNotBegin, IsHead, Item, Items, is_quote, is_token_text, kept_pairs, IsRecordOfParts};
+ghost use Rattle.data_url.specs.Steps.Parsing.{HasNoHead, HasParameterBefore, HasValueBefore, IsClosed, IsItem, IsOpen, IsValue, added_pairs};
 ghost use Rattle.data_url.specs.Steps.Kept.{IsIndexed, pairs_of};
-ghost use Rattle.data_url.specs.MimeType.{pair_of, seen};
+ghost use Rattle.data_url.specs.MimeType.{pair_of, record_of};
 
 use super::Mime;
 use super::cuts::{
@@ -42,7 +42,7 @@ impl<'a> Head<'a> {
         requires parameters { BeginsParameters (chars self.parameters.now) }
         ensures { IfOk result (λ mime.
             IsRecordOfParts (chars self.entry.type_.now) (chars self.entry.subtype.now)
-            (chars self.entry.parameters.now) (seen mime)) }
+            (chars self.entry.parameters.now) (record_of mime)) }
     {
         Ok(Mime {
             type_: lowercased(alloc, self.type_)?,
@@ -151,7 +151,7 @@ pub(super) fn read_parameters(
 ) -> Result<Vec<(String, String)>, AllocError>
     requires { BeginsParameters (chars text.now) }
     ensures { IfOk result (λ pairs. (items : List Item) × Items (chars text.now) items
-        × (map (λ p. pair_of p) pairs.items ≡ kept items)) }
+        × (map (λ p. pair_of p) pairs.items ≡ kept_pairs items)) }
 {
     let mut kept = KeptParameters::new(alloc);
     let mut rest = text;
@@ -171,7 +171,7 @@ fn keep(
 ) -> Result<(), AllocError>
     requires { IsIndexed kept.old }
     ensures pairs { OnOk result ((item : Item) → IsItem parameter.now item
-        → pairs_of kept.new ≡ pairs_of kept.old ++ added (pairs_of kept.old) item) }
+        → pairs_of kept.new ≡ pairs_of kept.old ++ added_pairs (pairs_of kept.old) item) }
     ensures indexed { OnOk result (IsIndexed kept.new) }
 {
     let name = parameter.name;

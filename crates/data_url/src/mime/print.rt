@@ -4,7 +4,7 @@ ghost use Rattle.std.specs.Fmt.{WritesStyledOnOk};
 ghost use Rattle.std.specs.Prelude.{◌≡◌};
 ghost use Rattle.std.specs.List.{flat_map, prefix_len};
 ghost use Rattle.std.specs.Str.{chars, encode_utf8_all};
-ghost use Rattle.data_url.specs.Mime.{escaped, printed_pair, printed_value};
+ghost use Rattle.data_url.specs.Mime.{escaped_code_point, printed_pair, printed_value};
 ghost use Rattle.data_url.specs.Steps.Parsing.{is_plain};
 
 use super::tokens::is_token_text;
@@ -41,7 +41,7 @@ fn write_value<W: fmt::Write>(f: &mut fmt::Formatter<W>, value: &str) -> fmt::Re
 /// Writes a text with a `\` before each `"` and each `\`.
 fn write_escaped<W: fmt::Write>(f: &mut fmt::Formatter<W>, text: &str) -> fmt::Result
     ensures { WritesStyledOnOk W.write_str_gives f.old result
-        (encode_utf8_all (flat_map escaped (chars text.now))) f.new }
+        (encode_utf8_all (flat_map escaped_code_point (chars text.now))) f.new }
 {
     if unescaped_len(text.as_bytes()) == text.len() {
         return f.write_str(text);
@@ -62,7 +62,7 @@ fn unescaped_len(bytes: &[u8]) -> usize
 /// The same of a text with some of these.
 fn write_each_escaped<W: fmt::Write>(f: &mut fmt::Formatter<W>, text: &str) -> fmt::Result
     ensures { WritesStyledOnOk W.write_str_gives f.old result
-        (encode_utf8_all (flat_map escaped (chars text.now))) f.new }
+        (encode_utf8_all (flat_map escaped_code_point (chars text.now))) f.new }
 {
     for c in text.chars() {
         write_escaped_char(f, c)?;
@@ -72,7 +72,8 @@ fn write_each_escaped<W: fmt::Write>(f: &mut fmt::Formatter<W>, text: &str) -> f
 
 /// Writes a code point, with a `\` before a `"` or a `\`.
 fn write_escaped_char<W: fmt::Write>(f: &mut fmt::Formatter<W>, c: char) -> fmt::Result
-    ensures { WritesStyledOnOk W.write_str_gives f.old result (encode_utf8_all (escaped c)) f.new }
+    ensures { WritesStyledOnOk W.write_str_gives f.old result
+        (encode_utf8_all (escaped_code_point c)) f.new }
 {
     match c {
         '"' => f.write_str("\\\""),

@@ -10,8 +10,8 @@ use Rattle.dataurl.specs.declared.fault.WriteFailed.{WriteFailed}
 use Rattle.dataurl.specs.declared.gather.Gathered.{Gathered}
 
 -- the bytes that were gathered and are not written yet
-abbrev pub waiting : Gathered → List ℕ
-waiting g = take g.len g.bytes
+abbrev pub waiting_bytes : Gathered → List ℕ
+waiting_bytes g = take g.len g.bytes
 
 -- a piece was taken: what was written and what waits now are what waited before and the piece; or a
 -- write failed, and what was written is a beginning of these and not all

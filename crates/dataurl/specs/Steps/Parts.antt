@@ -3,7 +3,7 @@ use Rattle.std.specs.Io.KnownBytes.{Appends}
 use Rattle.std.specs.Prelude.{[], ◌++◌, ◌∷◌, ◌≡◌, Err, List, Ok, Option, Result, option_map, ℕ}
 use Rattle.data_url.specs.DataUrl.{IsAcceptable, IsUrlOf, fragment_text, url_tail}
 use Rattle.data_url.specs.Fetch.{NoComma as no_comma, NoScheme, staged}
-use Rattle.data_url.specs.Url.{dropped, encoded_fragment, fragment, in_fragment_set, percent_encoded}
+use Rattle.data_url.specs.Url.{without_tabs_and_newlines, encoded_fragment, fragment, in_fragment_set, percent_encoding}
 use Rattle.data_url.specs.declared.DataUrl.{DataUrl}
 use Rattle.data_url.specs.declared.fragment.FragmentIdentifier.{FragmentIdentifier}
 use Rattle.dataurl.specs.Output.{End}
@@ -45,8 +45,8 @@ pub data IsExactly (bytes : List ℕ) : List ℕ → End → Type 0 where
 
 -- the encoded fragment of a URL, where it has one
 abbrev pub url_fragment : DataUrl → Option (List ℕ)
-url_fragment url = option_map (percent_encoded in_fragment_set)
-    (fragment (dropped (url_tail url)))
+url_fragment url = option_map (percent_encoding in_fragment_set)
+    (fragment (without_tabs_and_newlines (url_tail url)))
 
 -- a fragment, encoded, and a line feed
 abbrev pub fragment_line : FragmentIdentifier → List ℕ

@@ -2,7 +2,7 @@ use Rattle.std.proofs.Common.{◌≡◌, ◌<◌, ◌≤◌, ◌+◌, ℕ, Bool,
 use Rattle.std.specs.Char.{to_ascii_lowercase}
 use Rattle.std.proofs.lemmas.List.{drop_more, take_all, take_more, take-append-drop}
 use Rattle.std.proofs.lemmas.Str.{IsCharBoundary-after_ascii}
-use Rattle.data_url.specs.Url.{dropped, is_tab_or_newline}
+use Rattle.data_url.specs.Url.{without_tabs_and_newlines, is_tab_or_newline}
 use Rattle.data_url.proofs.SchemeLemmas.{Spells, differs, ends_early, scheme_is_ascii, spells_all, spells_more, spells_nothing, spells_passed}
 use Rattle.data_url.proofs.front.after_respelled_scheme.Goals as goal
 
@@ -59,7 +59,7 @@ returns-then-matched-eq5-clause-found c =
     record {
       scheme = take (c.loop-place.place + 1) c.args.text.now;
       joined = sym (take-append-drop (c.loop-place.place + 1) c.args.text.now) ∙ ap (λ s. take (c.loop-place.place + 1) c.args.text.now ++ s) (sym c.range_from.ensures.value);
-      spelled = ap (λ s. map to_ascii_lowercase (dropped s)) (take_more c.args.text.now c.loop-place.place 0 b.within) ∙ spells_all (take c.loop-place.place c.args.text.now) c.loop-place.matched (get_or c.args.text.now c.loop-place.place 0) c.loop-place.invariant b.stays b.same c.if-matched-eq5.true;
+      spelled = ap (λ s. map to_ascii_lowercase (without_tabs_and_newlines s)) (take_more c.args.text.now c.loop-place.place 0 b.within) ∙ spells_all (take c.loop-place.place c.args.text.now) c.loop-place.matched (get_or c.args.text.now c.loop-place.place 0) c.loop-place.invariant b.stays b.same c.if-matched-eq5.true;
     }
 
 pub loop-place-preserved : goal.loop-place-preserved

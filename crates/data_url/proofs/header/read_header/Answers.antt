@@ -1,5 +1,5 @@
 use Rattle.std.proofs.Common.{sym, ap, ◌∙◌, subst, arith}
-use Rattle.data_url.specs.Url.{dropped}
+use Rattle.data_url.specs.Url.{without_tabs_and_newlines}
 use Rattle.data_url.specs.Steps.Header.{IsPrintable, header_text}
 use Rattle.data_url.proofs.MediaLemmas.{header_printable}
 use Rattle.data_url.proofs.header.read_header.Goals as goal
@@ -17,9 +17,9 @@ returns-then-is_plain c =
 pub read_serialised-requires-2 : goal.read_serialised-requires-2
 read_serialised-requires-2 c =
     let text = c.in_ok-serialised.ensures in
-    subst IsPrintable (sym (c.as_str.ensures.value ∙ text ∙ c.parts_of-parts.ensures ∙ ap (λ s. header_text (dropped s)) c.as_bytes.ensures.value)) (header_printable c.args.header.now (λ i. omega (arith, c.type_inv.header i)))
+    subst IsPrintable (sym (c.as_str.ensures.value ∙ text ∙ c.parts_of-parts.ensures ∙ ap (λ s. header_text (without_tabs_and_newlines s)) c.as_bytes.ensures.value)) (header_printable c.args.header.now (λ i. omega (arith, c.type_inv.header i)))
 
 pub returns : goal.returns
 returns c =
     let text = c.in_ok-serialised.ensures in
-    rw (sym (c.as_str.ensures.value ∙ text ∙ c.parts_of-parts.ensures ∙ ap (λ s. header_text (dropped s)) c.as_bytes.ensures.value)) c.read_serialised-2.ensures
+    rw (sym (c.as_str.ensures.value ∙ text ∙ c.parts_of-parts.ensures ∙ ap (λ s. header_text (without_tabs_and_newlines s)) c.as_bytes.ensures.value)) c.read_serialised-2.ensures

@@ -1,7 +1,7 @@
 use Rattle.std.proofs.Common.{sym, ap, ◌∙◌, subst}
-use Rattle.data_url.specs.Fetch.{before_base64, stripped, with_plain}
+use Rattle.data_url.specs.Fetch.{before_base64, stripped_header, with_plain}
 use Rattle.data_url.specs.Steps.Header.{IsPrintable, IsRecordFor}
-use Rattle.data_url.specs.MimeType.{seen}
+use Rattle.data_url.specs.MimeType.{record_of}
 use Rattle.data_url.proofs.MediaLemmas.{no_suffix, printable_media, with_suffix}
 use Rattle.data_url.proofs.PrintableLemmas.{printable_stripped, trimmed_is_stripped}
 use Rattle.data_url.proofs.header.read_serialised.Goals as goal
@@ -12,7 +12,7 @@ without_suffix-requires c = subst IsPrintable (sym (c.trim-stripped.ensures ∙ 
 pub read_media-requires : goal.read_media-requires
 read_media-requires c =
     let stripped_is = c.trim-stripped.ensures ∙ trimmed_is_stripped c.args.header.now c.requires in
-    printable_media (stripped c.args.header.now) c.in-Some.media.now (printable_stripped c.args.header.now c.requires) (ap before_base64 (sym stripped_is) ∙ sym c.in-Some.ensures)
+    printable_media (stripped_header c.args.header.now) c.in-Some.media.now (printable_stripped c.args.header.now c.requires) (ap before_base64 (sym stripped_is) ∙ sym c.in-Some.ensures)
 
 pub read_media-requires-in-None : goal.read_media-requires-in-None
 read_media-requires-in-None c = subst IsPrintable (sym (c.trim-stripped.ensures ∙ trimmed_is_stripped c.args.header.now c.requires)) (printable_stripped c.args.header.now c.requires)
@@ -20,9 +20,9 @@ read_media-requires-in-None c = subst IsPrintable (sym (c.trim-stripped.ensures 
 pub returns-in_ok-read_media-in-Some : goal.returns-in_ok-read_media-in-Some
 returns-in_ok-read_media-in-Some c =
     let stripped_is = c.trim-stripped.ensures ∙ trimmed_is_stripped c.args.header.now c.requires in
-    with_suffix c.args.header.now c.in-Some.media.now (seen c.in_ok-read_media-in-Some.field-0) (ap before_base64 (sym stripped_is) ∙ sym c.in-Some.ensures) c.in_ok-read_media-in-Some.ensures
+    with_suffix c.args.header.now c.in-Some.media.now (record_of c.in_ok-read_media-in-Some.field-0) (ap before_base64 (sym stripped_is) ∙ sym c.in-Some.ensures) c.in_ok-read_media-in-Some.ensures
 
 pub returns-in_ok-read_media-in-None : goal.returns-in_ok-read_media-in-None
 returns-in_ok-read_media-in-None c =
     let stripped_is = c.trim-stripped.ensures ∙ trimmed_is_stripped c.args.header.now c.requires in
-    no_suffix c.args.header.now (seen c.in_ok-read_media-in-None.field-0) (ap before_base64 (sym stripped_is) ∙ sym c.in-None.ensures) (subst (λ s. IsRecordFor (with_plain s) (seen c.in_ok-read_media-in-None.field-0)) stripped_is c.in_ok-read_media-in-None.ensures)
+    no_suffix c.args.header.now (record_of c.in_ok-read_media-in-None.field-0) (ap before_base64 (sym stripped_is) ∙ sym c.in-None.ensures) (subst (λ s. IsRecordFor (with_plain s) (record_of c.in_ok-read_media-in-None.field-0)) stripped_is c.in_ok-read_media-in-None.ensures)

@@ -1,10 +1,10 @@
-use Rattle.data_url.specs.MimeType.{seen}
+use Rattle.data_url.specs.MimeType.{record_of}
 use Rattle.dataurl.specs.Output.{record_of_text, type_of}
 use Rattle.dataurl.proofs.StepLemmas.{type_refused, writes_as, writes_no_memory, writes_nothing}
 use Rattle.dataurl.proofs.run.write_type.Goals as goal
 
 pub returns-in-Ok : goal.returns-in-Ok
-returns-in-Ok g c = writes_as (type_of (record_of_text {m = seen c.in-Ok.mime} c.in-Ok.ensures.parsed)) c.write_record.ensures
+returns-in-Ok g c = writes_as (type_of (record_of_text {m = record_of c.in-Ok.mime} c.in-Ok.ensures.parsed)) c.write_record.ensures
 
 pub returns-in-Err-Parsing : goal.returns-in-Err-Parsing
 returns-in-Err-Parsing g c =

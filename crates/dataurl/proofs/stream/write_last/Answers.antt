@@ -1,5 +1,5 @@
 use Rattle.std.proofs.Common.{rules}
-use Rattle.dataurl.specs.Steps.Gathering.{Settles, waiting}
+use Rattle.dataurl.specs.Steps.Gathering.{Settles, waiting_bytes}
 use Rattle.dataurl.specs.contracts.stream.fn.write_last.decode_text as closure
 use Rattle.dataurl.proofs.ClosureLemmas.{last_keeps, last_streams}
 use Rattle.dataurl.proofs.stream.write_last.Goals as goal
@@ -9,5 +9,5 @@ returns g c =
     let over : closure.Over = record { W = g.row.W; W-Write = g.W.Write; W-Write-dict = g.W.Write-dict } in
     let array = last_keeps c.decode_text.ensures (λ f. f.0.ghost_name) (λ f p r f' k. search rules) in
     let writer = last_keeps c.decode_text.ensures (λ f. f.1.ghost_name) (λ f p r f' k. search rules) in
-    let settled : Settles c.decode_text.new.answer (waiting c.decode_text.result.0.now) (g.W.Write.contents c.decode_text.result.1.now) (g.W.Write.contents c.settle.new.writer) c.settle.result = search (rules, array, writer, c.settle.ensures) in
-    last_streams c.decode_text.ensures (λ f. g.W.Write.contents (closure.captures over f).writer.now) (λ f. waiting (closure.captures over f).gathered) (λ f p r f' k. search rules) c.new-gathered.ensures settled
+    let settled : Settles c.decode_text.new.answer (waiting_bytes c.decode_text.result.0.now) (g.W.Write.contents c.decode_text.result.1.now) (g.W.Write.contents c.settle.new.writer) c.settle.result = search (rules, array, writer, c.settle.ensures) in
+    last_streams c.decode_text.ensures (λ f. g.W.Write.contents (closure.captures over f).writer.now) (λ f. waiting_bytes (closure.captures over f).gathered) (λ f p r f' k. search rules) c.new-gathered.ensures settled
