@@ -8,7 +8,7 @@ use Rattle.data_url.specs.Url.{before, without_tabs_and_newlines, front, is_tab_
 use Rattle.data_url.specs.Percent.{is_escape, percent_decoding}
 use Rattle.data_url.specs.Run.{joined_pieces, refusal}
 use Rattle.data_url.specs.Fetch.{Bad, Good, Outcome, outcome, outcome_bytes, plain_body}
-use Rattle.data_url.specs.Pieces.{Walk, begins}
+use Rattle.data_url.specs.Pieces.{Walk, walk_at_front}
 use Rattle.data_url.specs.Steps.Tail.{IsBodyEnd}
 use Rattle.data_url.specs.DataUrl.{Answers, Decodes, HandsOut}
 use Rattle.data_url.specs.Decoder.{Feeds, Finishes, IsAll, State, start}
@@ -104,7 +104,7 @@ module _ {F E : Type 0} (step : F → List ℕ → Result (Unit {0}) E → F →
     pub few : length read ≤ w.place
     pub within : w.place ≤ length text
 
-  pub fed_none : (d d' : State F) (text : List ℕ) → Feeds step d [] (Ok tt) d' → Fed d text (begins text) d'
+  pub fed_none : (d d' : State F) (text : List ℕ) → Feeds step d [] (Ok tt) d' → Fed d text (walk_at_front text) d'
   unfolding without_whitespace
   fed_none d d' text h = record { read = []; fed = h; text_is = refl; body = refl; few = omega arith; within = omega arith }
 

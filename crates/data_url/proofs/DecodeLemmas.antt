@@ -5,7 +5,7 @@ use Rattle.std.proofs.lemmas.List.{append-nil, length-take-le}
 use Rattle.data_url.specs.Errors.{IsRefused}
 use Rattle.data_url.specs.Run.{Call, IsRun, joined_pieces, refusal}
 use Rattle.data_url.specs.Fetch.{Good, outcome_bytes, plain_body}
-use Rattle.data_url.specs.Pieces.{Walk, begins}
+use Rattle.data_url.specs.Pieces.{Walk, walk_at_front}
 use Rattle.data_url.specs.Base64.{without_whitespace}
 use Rattle.data_url.specs.Steps.Chunks.{IsBase64Chunk, IsChunk}
 use Rattle.data_url.specs.Steps.Tail.{IsBodyEnd}
@@ -95,7 +95,7 @@ module _ {F E : Type 0} (step : F → List ℕ → Result (Unit {0}) E → F →
     pub calls : length run ≤ w.place
     pub body : plain_body text ≡ joined_pieces run ++ w.rest
 
-  pub going_none : (f : F) (text : List ℕ) → Going f text (begins text) f
+  pub going_none : (f : F) (text : List ℕ) → Going f text (walk_at_front text) f
   going_none f text = record { run = []; ran = refl; accepted = refl; text_is = refl; place = omega arith; calls = omega arith; body = refl }
 
   pub going_more : {f g h : F} {text bytes : List ℕ} {w w' : Walk} → Going f text w g → Takes w bytes w' → step g bytes (Ok tt) h → Going f text w' h

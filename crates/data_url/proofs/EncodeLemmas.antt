@@ -12,7 +12,7 @@ use Rattle.std.proofs.lemmas.Str.Ascii.{IsAscii-cons, IsAscii-nil}
 use Rattle.data_url.specs.Url.{before, without_tabs_and_newlines, encoded_byte, in_fragment_set, in_path_set, in_query_set, is_tab_or_newline, percent_encoding}
 use Rattle.data_url.specs.Steps.Header.{header_parts, header_text}
 use Rattle.data_url.specs.Steps.Front.{is_plain_path}
-use Rattle.data_url.specs.Steps.Sets.{IsRow, in_set, written}
+use Rattle.data_url.specs.Steps.Sets.{IsRow, in_set, byte_encoding}
 use Rattle.data_url.specs.declared.percent.EncodeSet.TheVariants.{Fragment, Path, Query}
 use Rattle.data_url.specs.declared.percent.EncodeSet.{EncodeSet}
 use Rattle.data_url.proofs.UrlLemmas.{before_all, behind-dropped_none, behind_none, without_tabs_and_newlines-append, dropped_keeps, dropped_nil, dropped_passes}
@@ -25,7 +25,7 @@ encoded p s = percent_encoding p (without_tabs_and_newlines s)
 encoded_empty : (p : ℕ → Bool) → encoded p [] ≡ []
 encoded_empty p = ap (percent_encoding p) dropped_nil ∙ encoded_nil p
 
-written_first : (p : ℕ → Bool) (b : ℕ) (s : List ℕ) → encoded p (b ∷ s) ≡ written p b ++ encoded p s
+written_first : (p : ℕ → Bool) (b : ℕ) (s : List ℕ) → encoded p (b ∷ s) ≡ byte_encoding p b ++ encoded p s
 written_first p b s = elim (cases_Bool (is_tab_or_newline b)) [
   | inl e ↦ ap (percent_encoding p) (dropped_passes b s e) ∙ sym (ap (λ t. t ++ encoded p s) (cond-true (is_tab_or_newline b) [] (encoded_byte p b) e))
   | inr e ↦ ap (percent_encoding p) (dropped_keeps b s e) ∙ encoded_cons p b (without_tabs_and_newlines s) ∙ sym (ap (λ t. t ++ encoded p s) (cond-false (is_tab_or_newline b) [] (encoded_byte p b) e))
@@ -45,7 +45,7 @@ encoded_cut p s n = ap (encoded p) (sym (take-append-drop n s)) ∙ ap (percent_
 abbrev pub encoded_from : (ℕ → Bool) → List ℕ → ℕ → List ℕ
 encoded_from p s i = encoded p (drop i s)
 
-from_more : (p : ℕ → Bool) (s : List ℕ) (i : ℕ) → i < length s → encoded_from p s i ≡ written p (get_or s i 0) ++ encoded_from p s (i + 1)
+from_more : (p : ℕ → Bool) (s : List ℕ) (i : ℕ) → i < length s → encoded_from p s i ≡ byte_encoding p (get_or s i 0) ++ encoded_from p s (i + 1)
 from_more p s i l = ap (encoded p) (drop_more s i 0 l) ∙ written_first p (get_or s i 0) (drop (i + 1) s)
 
 from_end : (p : ℕ → Bool) (s : List ℕ) (i : ℕ) → length s ≤ i → encoded_from p s i ≡ []
@@ -55,18 +55,18 @@ from_end p s i l = ap (encoded p) (drop_all i s l) ∙ encoded_empty p
 abbrev pub WroteTo : (ℕ → Bool) → List ℕ → ℕ → List ℕ → Type 0
 WroteTo p s i text = text ++ encoded_from p s i ≡ encoded p s
 
-wrote_more : (p : ℕ → Bool) (s : List ℕ) (i : ℕ) (text : List ℕ) → WroteTo p s i text → i < length s → WroteTo p s (i + 1) (text ++ written p (get_or s i 0))
-wrote_more p s i text w l = append_assoc text (written p (get_or s i 0)) (encoded_from p s (i + 1)) ∙ ap (λ t. text ++ t) (sym (from_more p s i l)) ∙ w
+wrote_more : (p : ℕ → Bool) (s : List ℕ) (i : ℕ) (text : List ℕ) → WroteTo p s i text → i < length s → WroteTo p s (i + 1) (text ++ byte_encoding p (get_or s i 0))
+wrote_more p s i text w l = append_assoc text (byte_encoding p (get_or s i 0)) (encoded_from p s (i + 1)) ∙ ap (λ t. text ++ t) (sym (from_more p s i l)) ∙ w
 
 pub wrote_all : (p : ℕ → Bool) (s : List ℕ) (i : ℕ) (text : List ℕ) → WroteTo p s i text → length s ≤ i → text ≡ encoded p s
 wrote_all p s i text w l = sym (append-nil text) ∙ ap (λ t. text ++ t) (sym (from_end p s i l)) ∙ w
 
 -- Rows
 
-none_written : (p : ℕ → Bool) (b : ℕ) → is_tab_or_newline b ≡ true → written p b ≡ []
+none_written : (p : ℕ → Bool) (b : ℕ) → is_tab_or_newline b ≡ true → byte_encoding p b ≡ []
 none_written p b e = cond-true (is_tab_or_newline b) [] (encoded_byte p b) e
 
-byte_written : (p : ℕ → Bool) (b : ℕ) → is_tab_or_newline b ≡ false → written p b ≡ encoded_byte p b
+byte_written : (p : ℕ → Bool) (b : ℕ) → is_tab_or_newline b ≡ false → byte_encoding p b ≡ encoded_byte p b
 byte_written p b e = cond-false (is_tab_or_newline b) [] (encoded_byte p b) e
 
 three_written : (p : ℕ → Bool) (b : ℕ) → p b ≡ true → length (encoded_byte p b) ≡ 3
@@ -75,12 +75,12 @@ three_written p b e = ap length (cond-true (p b) _ (b ∷ []) e)
 one_written : (p : ℕ → Bool) (b : ℕ) → p b ≡ false → encoded_byte p b ≡ b ∷ []
 one_written p b e = cond-false (p b) _ (b ∷ []) e
 
-written_short : (p : ℕ → Bool) (b : ℕ) → length (written p b) ≤ 3
+written_short : (p : ℕ → Bool) (b : ℕ) → length (byte_encoding p b) ≤ 3
 written_short p b = elim (cases_Bool (is_tab_or_newline b)) [
-  | inl e ↦ let k : length (written p b) ≡ 0 = ap length (none_written p b e) in omega arith
+  | inl e ↦ let k : length (byte_encoding p b) ≡ 0 = ap length (none_written p b e) in omega arith
   | inr e ↦ elim (cases_Bool (p b)) [
-    | inl f ↦ let k : length (written p b) ≡ 3 = ap length (byte_written p b e) ∙ three_written p b f in omega arith
-    | inr f ↦ let k : length (written p b) ≡ 1 = ap length (byte_written p b e ∙ one_written p b f) in omega arith
+    | inl f ↦ let k : length (byte_encoding p b) ≡ 3 = ap length (byte_written p b e) ∙ three_written p b f in omega arith
+    | inr f ↦ let k : length (byte_encoding p b) ≡ 1 = ap length (byte_written p b e ∙ one_written p b f) in omega arith
   ]
 ]
 
@@ -95,10 +95,10 @@ pub record KeptTo (s : List ℕ) (i : ℕ) : Type 0 where
 kept_none : (s : List ℕ) → KeptTo s 0
 kept_none s = record { kept = refl; no_query = λ k l. absurd (omega arith) }
 
-kept_more : (s : List ℕ) (i : ℕ) → KeptTo s i → i < length s → (get_or s i 0 == 63) ≡ false → written in_path_set (get_or s i 0) ≡ get_or s i 0 ∷ [] → KeptTo s (i + 1)
+kept_more : (s : List ℕ) (i : ℕ) → KeptTo s i → i < length s → (get_or s i 0 == 63) ≡ false → byte_encoding in_path_set (get_or s i 0) ≡ get_or s i 0 ∷ [] → KeptTo s (i + 1)
 kept_more s i w l n h =
     let b = get_or s i 0 in
-    let same : take i s ++ written in_path_set b ≡ take (i + 1) s = ap (λ t. take i s ++ t) h ∙ sym (take_more s i 0 l) in
+    let same : take i s ++ byte_encoding in_path_set b ≡ take (i + 1) s = ap (λ t. take i s ++ t) h ∙ sym (take_more s i 0 l) in
     record {
       kept = subst (WroteTo in_path_set s (i + 1)) same (wrote_more in_path_set s i (take i s) w.kept l);
       no_query = λ k m. ⊎_elim (λ (e : k < i). w.no_query k e) (λ (e : i ≤ k). let f : k ≡ i = omega arith in ap (λ j. get_or s j 0 == 63) f ∙ n) (cases_lt k i);
@@ -124,7 +124,7 @@ plain_is_none b l h = sym (cond-true (is_plain_path b) (other_than_plain b) fals
 
 -- what is known of a plain byte
 pub record Plain (b : ℕ) : Type 0 where
-  pub written_is : written in_path_set b ≡ b ∷ []
+  pub written_is : byte_encoding in_path_set b ≡ b ∷ []
   pub no_hash : (b == 35) ≡ false
   pub no_comma : (b == 44) ≡ false
   pub no_query : (b == 63) ≡ false
@@ -157,7 +157,7 @@ measured_more p s i len row m l r =
     let f = m.few in
     let e = m.sum in
     let n = r.len_is in
-    let k : length (encoded_from p s i) ≡ length (written p (get_or s i 0)) + length (encoded_from p s (i + 1)) = ap length (from_more p s i l) ∙ length-append (written p (get_or s i 0)) (encoded_from p s (i + 1)) in
+    let k : length (encoded_from p s i) ≡ length (byte_encoding p (get_or s i 0)) + length (encoded_from p s (i + 1)) = ap length (from_more p s i l) ∙ length-append (byte_encoding p (get_or s i 0)) (encoded_from p s (i + 1)) in
     record { few = omega arith; sum = omega arith }
 
 pub measured_all : (p : ℕ → Bool) (s : List ℕ) (i len : ℕ) → MeasuredTo p s i len → length s ≤ i → len ≡ length (encoded p s)
@@ -179,7 +179,7 @@ put_more p s i room at row room' m l within r n h =
     let short = row_short p (get_or s i 0) row r in
     let f = m.few in
     let long : length (take at room) ≡ at = length-take-le at room (omega arith) in
-    let front : take (at + width) room' ≡ take at room ++ written p (get_or s i 0) =
+    let front : take (at + width) room' ≡ take at room ++ byte_encoding p (get_or s i 0) =
     sym (take-take (at + width) (at + 4) room' (omega arith))
     ∙ ap (take (at + width)) h
     ∙ ap (λ n. take (n + width) (take at room ++ row)) (sym long)
@@ -229,14 +229,14 @@ pub ascii_all : (s : List ℕ) → are_ascii s ≡ true → IsAscii s
 ascii_all [] h = IsAscii-nil
 ascii_all (c ∷ s) h = let e = and_parts (nat_lt c 128) (are_ascii s) h in IsAscii-cons c s (ltb-true c 128 e.0) (ascii_all s e.1)
 
-written_ascii : (set : EncodeSet) (b : ℕ) → b < 256 → IsAscii (written (in_set set) b)
-written_ascii Path b l = ascii_all (written in_path_set b) (agree_below_at (λ b. are_ascii (written in_path_set b)) (λ b. true) 256 b refl l)
-written_ascii Query b l = ascii_all (written in_query_set b) (agree_below_at (λ b. are_ascii (written in_query_set b)) (λ b. true) 256 b refl l)
-written_ascii Fragment b l = ascii_all (written in_fragment_set b) (agree_below_at (λ b. are_ascii (written in_fragment_set b)) (λ b. true) 256 b refl l)
+written_ascii : (set : EncodeSet) (b : ℕ) → b < 256 → IsAscii (byte_encoding (in_set set) b)
+written_ascii Path b l = ascii_all (byte_encoding in_path_set b) (agree_below_at (λ b. are_ascii (byte_encoding in_path_set b)) (λ b. true) 256 b refl l)
+written_ascii Query b l = ascii_all (byte_encoding in_query_set b) (agree_below_at (λ b. are_ascii (byte_encoding in_query_set b)) (λ b. true) 256 b refl l)
+written_ascii Fragment b l = ascii_all (byte_encoding in_fragment_set b) (agree_below_at (λ b. are_ascii (byte_encoding in_fragment_set b)) (λ b. true) 256 b refl l)
 
 encoded_ascii : (set : EncodeSet) (s : List ℕ) → ((i : ℕ) → get_or s i 0 < 256) → IsAscii (encoded (in_set set) s)
 encoded_ascii set [] h = subst IsAscii (sym (encoded_empty (in_set set))) IsAscii-nil
-encoded_ascii set (b ∷ s) h = subst IsAscii (sym (written_first (in_set set) b s)) (IsAscii-append (written (in_set set) b) (encoded (in_set set) s) (written_ascii set b (h 0)) (encoded_ascii set s (λ i. h (suc i))))
+encoded_ascii set (b ∷ s) h = subst IsAscii (sym (written_first (in_set set) b s)) (IsAscii-append (byte_encoding (in_set set) b) (encoded (in_set set) s) (written_ascii set b (h 0)) (encoded_ascii set s (λ i. h (suc i))))
 
 pub encoded_text : (set : EncodeSet) (s text : List ℕ) → ((i : ℕ) → get_or s i 0 < 256) → text ≡ encoded (in_set set) s → IsUtf8 text
 encoded_text set s text h e = subst IsUtf8 (sym e) (IsUtf8-from_ascii (encoded (in_set set) s) (encoded_ascii set s h))

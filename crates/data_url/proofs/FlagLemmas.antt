@@ -11,7 +11,7 @@ use Rattle.std.proofs.lemmas.List.{drop-append-le, get_or-drop, get_or-map, get_
 use Rattle.std.proofs.lemmas.List.Folds.{prefix_len-append}
 use Rattle.std.proofs.lemmas.List.Sums.{prefix_len-drop_no, prefix_len-le-length, suffix_len-le-length}
 use Rattle.data_url.specs.Url.{without_end, without_front}
-use Rattle.data_url.specs.Fetch.{before_base64, before_last, before_semicolon, before_word, has_base64_suffix, is_space, last, stripped_header}
+use Rattle.data_url.specs.Fetch.{before_base64, before_last, before_semicolon, before_word, has_base64_suffix, is_space, last_bytes, stripped_header}
 use Rattle.data_url.proofs.SuffixLemmas.{no_word, word}
 
 -- Spaces at the ends
@@ -47,7 +47,7 @@ stripped_behind x q =
 
 -- The word
 
-last_behind : (y q : List ℕ) (n : ℕ) → n ≤ length q → last n (y ++ q) ≡ last n q
+last_behind : (y q : List ℕ) (n : ℕ) → n ≤ length q → last_bytes n (y ++ q) ≡ last_bytes n q
 last_behind y q n l =
     let at : length (y ++ q) - n ≡ length y + (length q - n) = omega (arith, length-append y q) in
     ap (λ m. drop m (y ++ q)) at ∙ drop-append-add y q (length q - n)
@@ -65,8 +65,8 @@ word_behind : (y q : List ℕ) → 6 ≤ length q → before_word (y ++ q) ≡ o
 word_behind y q l =
     let is_word : List ℕ → Bool = λ s. bytes_eq (map to_ascii_lowercase s) word in
     ap (λ s. cond (is_word s) (Some (before_last 6 (y ++ q))) None) (last_behind y q 6 l)
-    ∙ ap (λ m. cond (is_word (last 6 q)) (Some m) None) (before_last_behind y q 6 l)
-    ∙ map_cond (is_word (last 6 q)) y (before_last 6 q)
+    ∙ ap (λ m. cond (is_word (last_bytes 6 q)) (Some m) None) (before_last_behind y q 6 l)
+    ∙ map_cond (is_word (last_bytes 6 q)) y (before_last 6 q)
 
 -- no '?' stands in the word
 no_mark : (i : ℕ) → get_or word i 0 ≢ 63
@@ -96,13 +96,13 @@ some_cond : (v : Bool) (a : List ℕ) → is_some (cond v (Some a) None) ≡ v
 some_cond true a = refl
 some_cond false a = refl
 
-semicolon_behind : (x r : List ℕ) → is_some (before_semicolon (x ++ 63 ∷ r)) ≡ bytes_eq (last 1 (63 ∷ r)) (codes ";")
-semicolon_behind x r = some_cond (bytes_eq (last 1 (x ++ 63 ∷ r)) (codes ";")) (before_last 1 (x ++ 63 ∷ r)) ∙ ap (λ s. bytes_eq s (codes ";")) (last_behind x (63 ∷ r) 1 (omega arith))
+semicolon_behind : (x r : List ℕ) → is_some (before_semicolon (x ++ 63 ∷ r)) ≡ bytes_eq (last_bytes 1 (63 ∷ r)) (codes ";")
+semicolon_behind x r = some_cond (bytes_eq (last_bytes 1 (x ++ 63 ∷ r)) (codes ";")) (before_last 1 (x ++ 63 ∷ r)) ∙ ap (λ s. bytes_eq s (codes ";")) (last_behind x (63 ∷ r) 1 (omega arith))
 
 -- what the suffix hangs on
 abbrev behind_mark : Option (List ℕ) → Bool
 behind_mark None = false
-behind_mark (Some m) = bytes_eq (last 1 (63 ∷ without_end is_space m)) (codes ";")
+behind_mark (Some m) = bytes_eq (last_bytes 1 (63 ∷ without_end is_space m)) (codes ";")
 
 by_word : (x : List ℕ) (o : Option (List ℕ)) → is_some (option_and_then (λ m. before_semicolon (without_end is_space m)) (option_map (λ m. (x ++ 63 ∷ []) ++ m) o)) ≡ behind_mark o
 by_word x None = refl

@@ -7,7 +7,7 @@ use Rattle.std.proofs.lemmas.List.{get_or_past}
 use Rattle.std.proofs.lemmas.Str.{IsAscii-append, chars-IsAscii}
 use Rattle.std.specs.Char.{to_ascii_lowercase}
 use Rattle.std.specs.List.{suffix_len}
-use Rattle.data_url.specs.Fetch.{before_base64, before_last, before_semicolon, before_word, has_base64_suffix, is_space, last, media_of, mime_text, stripped_header, with_plain}
+use Rattle.data_url.specs.Fetch.{before_base64, before_last, before_semicolon, before_word, has_base64_suffix, is_space, last_bytes, media_of, mime_text, stripped_header, with_plain}
 use Rattle.data_url.specs.Url.{without_tabs_and_newlines, without_end}
 use Rattle.data_url.specs.Mime.{HasNoRecord, IsWellformed, Parses, Record, default_record}
 use Rattle.data_url.specs.Steps.Header.{IsHeaderOf, IsPrintable, IsRecordFor, header_text}
@@ -80,13 +80,13 @@ no_suffix header m e h = record {
 
 -- what stands before the suffix is a beginning of the header
 word_begins : (s m : List ℕ) → before_word s ≡ Some m → IsPrintable s → IsPrintable m
-word_begins s m e h = cut (bytes_eq (map to_ascii_lowercase (last 6 s)) (codes "base64")) e where
+word_begins s m e h = cut (bytes_eq (map to_ascii_lowercase (last_bytes 6 s)) (codes "base64")) e where
   cut : (v : Bool) → cond v (Some (before_last 6 s)) None ≡ Some m → IsPrintable m
   cut true k = let same : before_last 6 s ≡ m = cc in subst IsPrintable same (printable_take (length s - 6) s h)
   cut false k = absurd (cc)
 
 semicolon_begins : (s m : List ℕ) → before_semicolon s ≡ Some m → IsPrintable s → IsPrintable m
-semicolon_begins s m e h = cut (bytes_eq (last 1 s) (codes ";")) e where
+semicolon_begins s m e h = cut (bytes_eq (last_bytes 1 s) (codes ";")) e where
   cut : (v : Bool) → cond v (Some (before_last 1 s)) None ≡ Some m → IsPrintable m
   cut true k = let same : before_last 1 s ≡ m = cc in subst IsPrintable same (printable_take (length s - 1) s h)
   cut false k = absurd (cc)

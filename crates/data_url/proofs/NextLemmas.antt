@@ -4,7 +4,7 @@ use Rattle.std.specs.Prelude.{◌==◌, IfSome, slice_range}
 use Rattle.std.proofs.lemmas.Bool.{cases_lt}
 use Rattle.std.proofs.lemmas.List.{append-nil, drop_all, drop_more, drop-drop}
 use Rattle.data_url.specs.Url.{behind, is_tab_or_newline}
-use Rattle.data_url.specs.Pieces.{IsEscape, IsPiece, IsStretch, bytes_of, bytes_of_next, escape, stops}
+use Rattle.data_url.specs.Pieces.{IsEscape, IsPiece, IsStretch, bytes_of, bytes_of_next, escape, is_slice_end}
 use Rattle.data_url.specs.Steps.Tail.{BeginsFragment, IsBodyEnd, rest_fragment}
 use Rattle.data_url.specs.Steps.Walk.{Ended, EscapeAt, GoesOn, IsClear, IsNextMark, IsPassed, KeepsBlock, Knows, KnowsAhead, LonePercent, Looking, LooksOn, Reads, Stays, has_ended, text_of}
 use Rattle.data_url.specs.declared.escapes.Piece.{Piece}
@@ -129,22 +129,22 @@ search_passed {c0} {c} c' {mark} r p k e t n b s m a =
 
 -- Pieces
 
-stops_tab : (s : List ℕ) (b : ℕ) (rest : List ℕ) → s ≡ b ∷ rest → is_tab_or_newline b ≡ true → stops s ≡ true
-stops_tab s b rest e h = ap stops e ∙ ap (λ v. v || ((b == 35) || ((b == 37) && is_some (escape rest)))) h
+stops_tab : (s : List ℕ) (b : ℕ) (rest : List ℕ) → s ≡ b ∷ rest → is_tab_or_newline b ≡ true → is_slice_end s ≡ true
+stops_tab s b rest e h = ap is_slice_end e ∙ ap (λ v. v || ((b == 35) || ((b == 37) && is_some (escape rest)))) h
 
 or_true : (b : Bool) → (b || true) ≡ true
 or_true true = refl
 or_true false = refl
 
-stops_percent : (s rest : List ℕ) (found : ℕ × List ℕ) → s ≡ 37 ∷ rest → escape rest ≡ Some found → stops s ≡ true
-stops_percent s rest found e h = ap stops e ∙ ap is_some h
+stops_percent : (s rest : List ℕ) (found : ℕ × List ℕ) → s ≡ 37 ∷ rest → escape rest ≡ Some found → is_slice_end s ≡ true
+stops_percent s rest found e h = ap is_slice_end e ∙ ap is_some h
 
-stops_end : (s : List ℕ) → BeginsFragment s → stops s ≡ true
+stops_end : (s : List ℕ) → BeginsFragment s → is_slice_end s ≡ true
 stops_end [] h = refl
-stops_end (b ∷ s) h = ap (λ v. stops (v ∷ s)) h
+stops_end (b ∷ s) h = ap (λ v. is_slice_end (v ∷ s)) h
 
 -- the stretch up to the mark, as a piece
-slice_piece : {c0 c : Cursor} {mark to : ℕ} {bytes : List ℕ} → Reached c0 c mark → mark ≢ c.place → mark ≤ to → bytes ≡ slice_range (text_of c) c.place mark → stops (drop mark (text_of c0)) ≡ true → IsStretch (text_of c0) c0.place to bytes
+slice_piece : {c0 c : Cursor} {mark to : ℕ} {bytes : List ℕ} → Reached c0 c mark → mark ≢ c.place → mark ≤ to → bytes ≡ slice_range (text_of c) c.place mark → is_slice_end (drop mark (text_of c0)) ≡ true → IsStretch (text_of c0) c0.place to bytes
 slice_piece {c0} {c} {mark} {to} {bytes} r n l e h =
     let f = r.passed.few in
     let g = r.stretch.few in

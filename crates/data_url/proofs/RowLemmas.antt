@@ -6,7 +6,7 @@ use Rattle.std.proofs.lemmas.Bool.{agree_below_at, and_parts, eqb-true}
 use Rattle.std.proofs.lemmas.Slice.Eq.{bytes_eq-Decides}
 use Rattle.data_url.specs.Url.{in_fragment_set, in_path_set, in_query_set}
 use Rattle.data_url.specs.Steps.Front.{is_plain_path}
-use Rattle.data_url.specs.Steps.Sets.{IsRow, written}
+use Rattle.data_url.specs.Steps.Sets.{IsRow, byte_encoding}
 use Rattle.data_url.specs.declared.front.TheConstants.{PLAIN_PATH}
 use Rattle.data_url.specs.declared.percent.rows.TheConstants.{FRAGMENT, PATH, QUERY}
 
@@ -15,16 +15,16 @@ abbrev pub row_at : List ℕ → ℕ → List ℕ
 row_at rows b = take (4 * b + 4 - 4 * b) (drop (4 * b) rows)
 
 abbrev is_row : (ℕ → Bool) → ℕ → List ℕ → Bool
-is_row p b row = (length row == 4) && ((slice_index row 3 == length (written p b)) && bytes_eq (take (slice_index row 3) row) (written p b))
+is_row p b row = (length row == 4) && ((slice_index row 3 == length (byte_encoding p b)) && bytes_eq (take (slice_index row 3) row) (byte_encoding p b))
 
 row_of_test : (p : ℕ → Bool) (b : ℕ) (row : List ℕ) → is_row p b row ≡ true → IsRow p b row
 row_of_test p b row h =
-    let e = and_parts (length row == 4) ((slice_index row 3 == length (written p b)) && bytes_eq (take (slice_index row 3) row) (written p b)) h in
-    let f = and_parts (slice_index row 3 == length (written p b)) (bytes_eq (take (slice_index row 3) row) (written p b)) e.1 in
+    let e = and_parts (length row == 4) ((slice_index row 3 == length (byte_encoding p b)) && bytes_eq (take (slice_index row 3) row) (byte_encoding p b)) h in
+    let f = and_parts (slice_index row 3 == length (byte_encoding p b)) (bytes_eq (take (slice_index row 3) row) (byte_encoding p b)) e.1 in
     record {
       four = eqb-true (length row) 4 e.0;
-      len_is = eqb-true (slice_index row 3) (length (written p b)) f.0;
-      begins = (bytes_eq-Decides (take (slice_index row 3) row) (written p b)).0 f.1;
+      len_is = eqb-true (slice_index row 3) (length (byte_encoding p b)) f.0;
+      begins = (bytes_eq-Decides (take (slice_index row 3) row) (byte_encoding p b)).0 f.1;
     }
 
 pub path_row : (b : ℕ) → b < 256 → IsRow in_path_set b (row_at PATH b)

@@ -9,7 +9,7 @@ use Rattle.std.proofs.lemmas.List.{drop_all, drop_more, get_or-take, length-drop
 use Rattle.std.proofs.lemmas.List.Sums.{suffix_len-le-length}
 use Rattle.std.proofs.lemmas.Slice.Eq.{bytes_eq-Decides}
 use Rattle.data_url.specs.Url.{is_c0_control_or_space, without_end}
-use Rattle.data_url.specs.Fetch.{before_base64, before_last, before_semicolon, is_space, last}
+use Rattle.data_url.specs.Fetch.{before_base64, before_last, before_semicolon, is_space, last_bytes}
 use Rattle.data_url.specs.Steps.Header.{IsPrintable}
 use Rattle.data_url.proofs.PrintableLemmas.{low_end, printable_take}
 
@@ -17,15 +17,15 @@ abbrev pub word : List ℕ
 word = codes "base64"
 
 -- the last six bytes are not the word
-pub no_word : (s : List ℕ) → (map to_ascii_lowercase (last 6 s) ≡ word → ⊥) → before_base64 s ≡ None
+pub no_word : (s : List ℕ) → (map to_ascii_lowercase (last_bytes 6 s) ≡ word → ⊥) → before_base64 s ≡ None
 unfolding before_base64
-no_word s h = ap (option_and_then (λ m. before_semicolon (without_end is_space m))) (cond-false (bytes_eq (map to_ascii_lowercase (last 6 s)) word) (Some (before_last 6 s)) None (false_from_ne_true (bytes_eq (map to_ascii_lowercase (last 6 s)) word) (λ e. h ((bytes_eq-Decides (map to_ascii_lowercase (last 6 s)) word).0 e))))
+no_word s h = ap (option_and_then (λ m. before_semicolon (without_end is_space m))) (cond-false (bytes_eq (map to_ascii_lowercase (last_bytes 6 s)) word) (Some (before_last 6 s)) None (false_from_ne_true (bytes_eq (map to_ascii_lowercase (last_bytes 6 s)) word) (λ e. h ((bytes_eq-Decides (map to_ascii_lowercase (last_bytes 6 s)) word).0 e))))
 
 -- the text is too short for it
 pub too_short : (s : List ℕ) → length s < 6 → before_base64 s ≡ None
 too_short s l = no_word s (λ e.
-    let six : length (map to_ascii_lowercase (last 6 s)) ≡ 6 = ap length e in
-    let len : length (map to_ascii_lowercase (last 6 s)) ≡ length s - (length s - 6) = length-map (last 6 s) to_ascii_lowercase ∙ length-drop (length s - 6) s in
+    let six : length (map to_ascii_lowercase (last_bytes 6 s)) ≡ 6 = ap length e in
+    let len : length (map to_ascii_lowercase (last_bytes 6 s)) ≡ length s - (length s - 6) = length-map (last_bytes 6 s) to_ascii_lowercase ∙ length-drop (length s - 6) s in
     omega (arith, six, len))
 
 pub other_word : (s : List ℕ) (n : ℕ) → n + 6 ≡ length s → (map to_ascii_lowercase (drop n s) ≡ word → ⊥) → before_base64 s ≡ None
@@ -46,13 +46,13 @@ unfolding before_base64
 behind_word s n spaces p h =
     let six = h.six in
     let at : length s - 6 ≡ n = omega arith in
-    let whole : map to_ascii_lowercase (last 6 s) ≡ word = ap (λ m. map to_ascii_lowercase (drop m s)) at ∙ h.is in
+    let whole : map to_ascii_lowercase (last_bytes 6 s) ≡ word = ap (λ m. map to_ascii_lowercase (drop m s)) at ∙ h.is in
     let few = few_spaces s n spaces h in
     let len : length (take n s) ≡ n = length-take-le n s (omega arith) in
     let same : suffix_len is_space (take n s) ≡ spaces = sym (low_end (take n s) (printable_take n s p)) ∙ sym h.spaces_are in
     let cut : without_end is_space (take n s) ≡ take (n - spaces) s =
     ap (λ m. take (m - suffix_len is_space (take n s)) (take n s)) len ∙ ap (λ m. take (n - m) (take n s)) same ∙ take-take (n - spaces) n s (omega arith) in
-    ap (option_and_then (λ m. before_semicolon (without_end is_space m))) (cond-true (bytes_eq (map to_ascii_lowercase (last 6 s)) word) (Some (before_last 6 s)) None ((bytes_eq-Decides (map to_ascii_lowercase (last 6 s)) word).1 whole))
+    ap (option_and_then (λ m. before_semicolon (without_end is_space m))) (cond-true (bytes_eq (map to_ascii_lowercase (last_bytes 6 s)) word) (Some (before_last 6 s)) None ((bytes_eq-Decides (map to_ascii_lowercase (last_bytes 6 s)) word).1 whole))
     ∙ ap (λ m. before_semicolon (without_end is_space (take m s))) at
     ∙ ap before_semicolon cut
 
@@ -64,7 +64,7 @@ pub nothing_left : (s : List ℕ) (n spaces : ℕ) → IsPrintable s → HasWord
 nothing_left s n spaces p h e = behind_word s n spaces p h ∙ ap (λ m. before_semicolon (take m s)) e
 
 -- the last of n + 1 bytes
-last_one : (s : List ℕ) (n : ℕ) → n < length s → last 1 (take (n + 1) s) ≡ get_or s n 0 ∷ []
+last_one : (s : List ℕ) (n : ℕ) → n < length s → last_bytes 1 (take (n + 1) s) ≡ get_or s n 0 ∷ []
 last_one s n l =
     let len : length (take (n + 1) s) ≡ n + 1 = length-take-le (n + 1) s (omega arith) in
     let at : length (take (n + 1) s) - 1 ≡ n = omega (arith, len) in
@@ -82,8 +82,8 @@ no_semicolon s n spaces m p h e ne =
     let six = h.six in
     let within : m < length s = omega arith in
     behind_word s n spaces p h ∙ ap (λ k. before_semicolon (take k s)) e
-    ∙ cond-false (bytes_eq (last 1 (take (m + 1) s)) semicolon) (Some (before_last 1 (take (m + 1) s))) None (false_from_ne_true (bytes_eq (last 1 (take (m + 1) s)) semicolon) (λ k.
-    let same : get_or s m 0 ∷ [] ≡ semicolon = sym (last_one s m within) ∙ (bytes_eq-Decides (last 1 (take (m + 1) s)) semicolon).0 k in
+    ∙ cond-false (bytes_eq (last_bytes 1 (take (m + 1) s)) semicolon) (Some (before_last 1 (take (m + 1) s))) None (false_from_ne_true (bytes_eq (last_bytes 1 (take (m + 1) s)) semicolon) (λ k.
+    let same : get_or s m 0 ∷ [] ≡ semicolon = sym (last_one s m within) ∙ (bytes_eq-Decides (last_bytes 1 (take (m + 1) s)) semicolon).0 k in
     ne (ap (λ t. get_or t 0 0) same)))
 
 pub with_semicolon : (s : List ℕ) (n spaces m : ℕ) → IsPrintable s → HasWord s n spaces → n - spaces ≡ m + 1 → get_or s m 0 ≡ 59 → before_base64 s ≡ Some (take m s)
@@ -91,5 +91,5 @@ with_semicolon s n spaces m p h e is =
     let six = h.six in
     let within : m < length s = omega arith in
     behind_word s n spaces p h ∙ ap (λ k. before_semicolon (take k s)) e
-    ∙ cond-true (bytes_eq (last 1 (take (m + 1) s)) semicolon) (Some (before_last 1 (take (m + 1) s))) None ((bytes_eq-Decides (last 1 (take (m + 1) s)) semicolon).1 (last_one s m within ∙ ap (λ b. b ∷ []) is))
+    ∙ cond-true (bytes_eq (last_bytes 1 (take (m + 1) s)) semicolon) (Some (before_last 1 (take (m + 1) s))) None ((bytes_eq-Decides (last_bytes 1 (take (m + 1) s)) semicolon).1 (last_one s m within ∙ ap (λ b. b ∷ []) is))
     ∙ ap (λ (t : List ℕ). Some t) (before_one s m within)

@@ -44,8 +44,8 @@ unfoldable pub stripped_header : List ℕ → List ℕ
 stripped_header h = without_end is_space (without_front is_space h)
 
 -- the last n bytes, and what stands before them
-abbrev pub last : ℕ → List ℕ → List ℕ
-last n s = drop (length s - n) s
+abbrev pub last_bytes : ℕ → List ℕ → List ℕ
+last_bytes n s = drop (length s - n) s
 
 abbrev pub before_last : ℕ → List ℕ → List ℕ
 before_last n s = take (length s - n) s
@@ -53,12 +53,12 @@ before_last n s = take (length s - n) s
 -- what stands before "base64" at the end, in any ASCII case
 abbrev pub before_word : List ℕ → Option (List ℕ)
 before_word s =
-    if bytes_eq (map to_ascii_lowercase (last 6 s)) (codes "base64") then Some (before_last 6 s)
+    if bytes_eq (map to_ascii_lowercase (last_bytes 6 s)) (codes "base64") then Some (before_last 6 s)
     else None
 
 -- what stands before ';' at the end
 abbrev pub before_semicolon : List ℕ → Option (List ℕ)
-before_semicolon s = if bytes_eq (last 1 s) (codes ";") then Some (before_last 1 s) else None
+before_semicolon s = if bytes_eq (last_bytes 1 s) (codes ";") then Some (before_last 1 s) else None
 
 -- what stands before ';', any number of spaces and "base64" at the end, where it ends so (step 11)
 unfoldable pub before_base64 : List ℕ → Option (List ℕ)

@@ -29,9 +29,9 @@ unfoldable pub escape : List ℕ → Option (ℕ × List ℕ)
 escape s = with_high_digit (digit s)
 
 -- where a slice may end: before a tab or newline, an escape, the first '#' or the end
-abbrev pub stops : List ℕ → Bool
-stops [] = true
-stops (b ∷ s) = is_tab_or_newline b || ((b == 35) || ((b == 37) && is_some (escape s)))
+abbrev pub is_slice_end : List ℕ → Bool
+is_slice_end [] = true
+is_slice_end (b ∷ s) = is_tab_or_newline b || ((b == 35) || ((b == 37) && is_some (escape s)))
 
 -- a slice is a stretch of the text between two places, nonempty, and ends where it may
 pub record IsStretch (text : List ℕ) (from to : ℕ) (slice : List ℕ) : Type 0 where
@@ -41,7 +41,7 @@ pub record IsStretch (text : List ℕ) (from to : ℕ) (slice : List ℕ) : Type
   pub nonempty : start < end
   pub to_le : end ≤ to
   pub slice_is : slice ≡ slice_range text start end
-  pub stops_there : stops (drop end text) ≡ true
+  pub stops_there : is_slice_end (drop end text) ≡ true
 
 -- a byte is the value of an escape that stands between two places and ends at the second
 pub record IsEscape (text : List ℕ) (from to : ℕ) (byte : ℕ) : Type 0 where
@@ -74,5 +74,5 @@ pub record Walk : Type 0 where
   pub looks : ℕ
 
 -- a walk at the front of its text: the pieces join to the percent-decoded body (plain_body)
-abbrev pub begins : List ℕ → Walk
-begins text = record { text = text; place = 0; rest = plain_body text; ended = false; looks = 0 }
+abbrev pub walk_at_front : List ℕ → Walk
+walk_at_front text = record { text = text; place = 0; rest = plain_body text; ended = false; looks = 0 }

@@ -3,7 +3,7 @@
 
 ghost use Rattle.std.specs.Prelude.{◌≡◌, ◌+◌, ◌*◌, ◌≤◌, ◌++◌, [], IfNone, IfSome, IsTrue, None, length};
 ghost use Rattle.std.specs.Option.{option_map};
-ghost use Rattle.data_url.specs.Pieces.{IsPiece, begins, bytes_of_next};
+ghost use Rattle.data_url.specs.Pieces.{IsPiece, walk_at_front, bytes_of_next};
 ghost use Rattle.data_url.specs.Url.{behind};
 ghost use Rattle.data_url.specs.Steps.Chunks.{IsBase64Chunk, IsChunk};
 ghost use Rattle.data_url.specs.Steps.Tail.{IsBodyEnd};
@@ -62,7 +62,7 @@ pub(crate) enum Chunk<'a> {
 impl<'a> Pieces<'a> {
     /// The pieces of a text, from its front on. The text is what stands behind the comma of a data: URL.
     pub fn new(text: &'a str) -> Self
-        ensures { result ≡ begins text.entry.now }
+        ensures { result ≡ walk_at_front text.entry.now }
     {
         Pieces {
             cursor: Cursor::new(text),

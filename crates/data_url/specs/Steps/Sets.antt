@@ -11,11 +11,11 @@ in_set Query = in_query_set
 in_set Fragment = in_fragment_set
 
 -- what a byte is written as: nothing for a tab or newline
-abbrev pub written : (ℕ → Bool) → ℕ → List ℕ
-written p b = if is_tab_or_newline b then [] else encoded_byte p b
+abbrev pub byte_encoding : (ℕ → Bool) → ℕ → List ℕ
+byte_encoding p b = if is_tab_or_newline b then [] else encoded_byte p b
 
 -- a row of four bytes begins with what its byte is written as, and ends with how long that is
 pub record IsRow (p : ℕ → Bool) (b : ℕ) (row : List ℕ) : Type 0 where
   pub four : length row ≡ 4
-  pub len_is : slice_index row 3 ≡ length (written p b)
-  pub begins : take (slice_index row 3) row ≡ written p b
+  pub len_is : slice_index row 3 ≡ length (byte_encoding p b)
+  pub begins : take (slice_index row 3) row ≡ byte_encoding p b
