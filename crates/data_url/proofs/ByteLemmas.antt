@@ -1,22 +1,26 @@
 -- What little more text does behind what a decoder has left over, and what its end does.
-use Rattle.std.proofs.Common.{◌≡◌, ◌≢◌, ◌⊎◌, inl, inr, ℕ, suc, zero, ◌+◌, ◌*◌, ◌%◌, ◌≤◌, Bool, true, false, cond, eqb, get_or, take, List, [], ◌∷◌, ◌++◌, length, map, min, replicate, None, Some, is_some, Result, Ok, Err, refl, ap, sym, ◌∙◌, subst, arith, length-append}
+use Rattle.std.proofs.Common.{◌≡◌, ◌≢◌, ℕ, suc, zero, ◌+◌, ◌*◌, ◌%◌, ◌<◌, ◌≤◌, Bool, true, false, cond, eqb, get_or, take, List, [], ◌∷◌, ◌++◌, length, map, min, replicate, None, Some, is_some, Result, Ok, Err, refl, ap, sym, ◌∙◌, subst, arith, length-append}
 use Rattle.std.specs.Prelude.{MatchOption, MatchBool, MatchResult}
 use Rattle.std.specs.List.{filter, list_any}
 use Rattle.std.proofs.lemmas.List.{append-nil, length-map, length-replicate}
 use Rattle.std.proofs.lemmas.List.Elements.{filter-append}
-use Rattle.std.proofs.lemmas.Bool.{false≢true, true≢false}
+use Rattle.std.proofs.lemmas.Bool.{false≢true, true≢false, ne_eqb}
 use Rattle.data_url.specs.Base64.{AlphabetSymbolAfterPadding, Kind, LoneAlphabetSymbol, Padding, UnexpectedSymbol, after_groups, decoded, complete_bytes, first_fault, group_bytes, group_number, groups, is_symbol, is_valid, kind_of, left_padding, left_symbols, left_text, rest_bytes, symbol_value, values}
 use Rattle.std.specs.Char.{is_ascii_whitespace}
 use Rattle.data_url.specs.Decoder.{Feeds, Finishes, IsAll, State, left_over}
 use Rattle.data_url.specs.Errors.{IsRefused}
 use Rattle.data_url.specs.Mime.{Every}
 use Rattle.data_url.specs.Run.{IsRun, or_error}
-use Rattle.data_url.specs.Steps.Holding.{Adds, Refuses}
+use Rattle.data_url.specs.Steps.Holding.{Adds, Flushes, Refuses}
 use Rattle.data_url.specs.declared.forgiving_base64.DecodeError.{DecodeError}
-use Rattle.data_url.specs.declared.forgiving_base64.DecodeError.TheVariants.{InvalidBase64, WriteError}
+use Rattle.data_url.specs.declared.forgiving_base64.DecodeError.TheVariants.{WriteError}
 use Rattle.data_url.proofs.RunLemmas.{match_none, prefix_all}
 use Rattle.data_url.proofs.PaddingLemmas.{any_of_text, before-append, before_fault, before_none, classes, done_is, fault-append, fault_byte, fault_pads, fault_some, fault_text, is_pad, kind_by, kind_fault, kind_is, no_fault_valid, none_fault, pads_of_text, symbols_of_text}
-use Rattle.data_url.proofs.ValidLemmas.{fits_with}
+use Rattle.data_url.proofs.ValidLemmas.{fits_with, from_fits, from_unfit}
+use Rattle.data_url.specs.Steps.Calls.{CallsOnce}
+use Rattle.data_url.specs.Steps.Ending.{IsFaultAtEnd}
+use Rattle.data_url.specs.Steps.Facts.{Fits}
+use Rattle.data_url.specs.declared.forgiving_base64.InvalidBase64Details.TheVariants.{LoneAlphabetSymbol as LoneAlphabetSymbolDetails, Padding as PaddingDetails}
 use Rattle.data_url.proofs.WalkLemmas.{bad, is_bad, some_not_none, space_alone, symbol_alone}
 
 pub groups_few : (x : List ℕ) → length x ≤ 3 → groups x ≡ []
@@ -199,38 +203,11 @@ two_items (a ∷ b ∷ c ∷ f ∷ t) n l e = absurd (omega arith)
 
 -- Which pads fit behind so many symbols
 
-pub zero_unfit : (p : ℕ) → p ≢ 0 → fits_with 0 p ≡ false
-zero_unfit zero h = absurd (h refl)
-zero_unfit (suc zero) h = refl
-zero_unfit (suc (suc zero)) h = refl
-zero_unfit (suc (suc (suc p))) h = refl
-
 one_unfit : (p : ℕ) → fits_with 1 p ≡ false
 one_unfit zero = refl
 one_unfit (suc zero) = refl
 one_unfit (suc (suc zero)) = refl
 one_unfit (suc (suc (suc p))) = refl
-
-pub two_unfit : (p : ℕ) → ¬ ((p ≡ 0) ⊎ (p ≡ 2)) → fits_with 2 p ≡ false
-two_unfit zero h = absurd (h (inl refl))
-two_unfit (suc zero) h = refl
-two_unfit (suc (suc zero)) h = absurd (h (inr refl))
-two_unfit (suc (suc (suc p))) h = refl
-
-pub two_fit : (p : ℕ) → (p ≡ 0) ⊎ (p ≡ 2) → fits_with 2 p ≡ true
-two_fit p (inl e) = rw e refl
-two_fit p (inr e) = rw e refl
-
-pub three_unfit : (p : ℕ) → 2 ≤ p → fits_with 3 p ≡ false
-three_unfit zero h = absurd (omega arith)
-three_unfit (suc zero) h = absurd (omega arith)
-three_unfit (suc (suc zero)) h = refl
-three_unfit (suc (suc (suc p))) h = refl
-
-pub three_fit : (p : ℕ) → p ≤ 1 → fits_with 3 p ≡ true
-three_fit zero h = refl
-three_fit (suc zero) h = refl
-three_fit (suc (suc p)) h = absurd (omega arith)
 
 -- What one call tells
 
@@ -377,48 +354,60 @@ module _ {F E : Type 0} (step : F → List ℕ → Result (Unit {0}) E → F →
 
   -- The end
 
-  finishes_invalid : {d d' : State F} {r : Result (Unit {0}) (DecodeError E)} → Every is_symbol d.symbols → fits_with (length d.symbols % 4) d.padding ≡ false → d' ≡ record d { failed = true } → r ≡ Err (InvalidBase64 (cond (eqb (length d.symbols % 4) 1) LoneAlphabetSymbol Padding)) → Finishes step d r d'.closure
-  finishes_invalid {d} {d'} {r} every bad same told = record {
+  pub valid_fits : (d : State F) (k : ℕ) → Every is_symbol d.symbols → length d.symbols ≡ k → Fits k d.padding → is_valid (left_over d) ≡ true
+  valid_fits d k every count h = valid_left d.symbols d.padding every ∙ ap (λ n. fits_with (n % 4) d.padding) count ∙ from_fits k d.padding h
+
+  invalid_unfit : (d : State F) (k : ℕ) → Every is_symbol d.symbols → length d.symbols ≡ k → (Fits k d.padding → ⊥) → is_valid (left_over d) ≡ false
+  invalid_unfit d k every count h = valid_left d.symbols d.padding every ∙ ap (λ n. fits_with (n % 4) d.padding) count ∙ from_unfit k d.padding h
+
+  -- a lone symbol
+  pub lone_fault : (d : State F) (k : ℕ) → Every is_symbol d.symbols → length d.symbols ≡ k → k ≡ 1 → (Fits k d.padding → ⊥) → IsFaultAtEnd d (Some LoneAlphabetSymbolDetails)
+  lone_fault d k every count one h = (invalid_unfit d k every count h, sym (kind_left d.symbols d.padding every ∙ ap (λ n. cond (eqb (n % 4) 1) LoneAlphabetSymbol Padding) (count ∙ one)))
+
+  -- padding that does not fit
+  pub padding_fault : (d : State F) (k : ℕ) → Every is_symbol d.symbols → length d.symbols ≡ k → k ≤ 3 → k ≢ 1 → (Fits k d.padding → ⊥) → IsFaultAtEnd d (Some PaddingDetails)
+  padding_fault d k every count few many h =
+      (invalid_unfit d k every count h, sym (kind_left d.symbols d.padding every ∙ ap (λ n. cond (eqb (n % 4) 1) LoneAlphabetSymbol Padding) count ∙ ap (λ v. cond v LoneAlphabetSymbol Padding) (ne_eqb (k % 4) 1 (λ e. many (omega (arith, e))))))
+
+  flushes_call : (d d' : State F) {r : Result (Unit {0}) (DecodeError E)} (piece : List ℕ) → 0 < length piece → CallsOnce step d piece r d' → Flushes step d piece r d'
+  flushes_call d d' [] some w = absurd (omega arith)
+  flushes_call d d' (b ∷ bs) some w = w
+
+  decoded_rest : (d : State F) (q : List ℕ) → Every is_symbol d.symbols → d.symbols ≡ q → length q ≤ 3 → decoded (left_over d) ≡ rest_bytes (map symbol_value q)
+  decoded_rest d q every is_q few = decoded_left d.symbols d.padding every ∙ ap (λ q. groups (map symbol_value q) ++ rest_bytes (after_groups (map symbol_value q))) is_q ∙ decoded_few q few
+
+  -- what is left over was handed out
+  pub flushes_rest : (d d' : State F) {r : Result (Unit {0}) (DecodeError E)} (q piece : List ℕ) → Every is_symbol d.symbols → d.symbols ≡ q → length q ≤ 3 → piece ≡ rest_bytes (map symbol_value q) → 0 < length piece → CallsOnce step d piece r d' → Flushes step d (decoded (left_over d)) r d'
+  flushes_rest d d' {r} q piece every is_q few is_piece some w =
+      subst (λ b. Flushes step d b r d') (is_piece ∙ sym (decoded_rest d q every is_q few)) (flushes_call d d' piece some w)
+
+  no_items : (s : List ℕ) → length s ≡ 0 → s ≡ []
+  no_items [] h = refl
+  no_items (a ∷ s) h = absurd (omega arith)
+
+  -- nothing is left over
+  pub flushes_nothing : (d : State F) (k : ℕ) → Every is_symbol d.symbols → length d.symbols ≡ k → k ≤ 1 → is_valid (left_over d) ≡ true → Flushes step d (decoded (left_over d)) (Ok tt) d
+  flushes_nothing d zero every count few valid = subst (λ b. Flushes step d b (Ok tt) d) (sym (decoded_rest d [] every (no_items d.symbols count) (omega arith))) (refl, refl)
+  flushes_nothing d (suc zero) every count few valid = absurd (false≢true (sym (valid_left d.symbols d.padding every ∙ ap (λ n. fits_with (n % 4) d.padding) count ∙ one_unfit d.padding) ∙ valid))
+  flushes_nothing d (suc (suc k)) every count few valid = absurd (omega arith)
+
+  flushed_finishes : (d d' : State F) {r : Result (Unit {0}) (DecodeError E)} (bytes : List ℕ) → bytes ≡ decoded (left_over d) → is_valid (left_over d) ≡ true → Flushes step d bytes r d' → Finishes step d r d'.closure
+  flushed_finishes d d' {r} [] e valid (told, same) = record {
     run = [];
     ran = sym (ap (λ (s : State F). s.closure) same);
     calls = omega arith;
-    gave = bool_at_false (is_valid (left_over d)) _ _ (valid_left d.symbols d.padding every ∙ bad)
-        (refl, told ∙ ap (λ z. Err (InvalidBase64 z)) (sym (kind_left d.symbols d.padding every)));
+    gave = bool_at_true (is_valid (left_over d)) _ _ valid (record { bytes_are = e; answer = told });
   }
-
-  -- a lone symbol
-  pub finishes_lone : {d d' : State F} {r : Result (Unit {0}) (DecodeError E)} → Every is_symbol d.symbols → length d.symbols ≡ 1 → d' ≡ record d { failed = true } → r ≡ Err (InvalidBase64 LoneAlphabetSymbol) → Finishes step d r d'.closure
-  finishes_lone {d} every one same told =
-      finishes_invalid every (ap (λ n. fits_with (n % 4) d.padding) one ∙ one_unfit d.padding) same
-      (told ∙ ap (λ n. Err (InvalidBase64 (cond (eqb (n % 4) 1) LoneAlphabetSymbol Padding))) (sym one))
-
-  -- pads that do not fit
-  pub finishes_padding : {d d' : State F} {r : Result (Unit {0}) (DecodeError E)} (n : ℕ) → Every is_symbol d.symbols → length d.symbols ≡ n → fits_with (n % 4) d.padding ≡ false → eqb (n % 4) 1 ≡ false → d' ≡ record d { failed = true } → r ≡ Err (InvalidBase64 Padding) → Finishes step d r d'.closure
-  finishes_padding {d} n every count unfit many same told =
-      finishes_invalid every (ap (λ m. fits_with (m % 4) d.padding) count ∙ unfit) same
-      (told ∙ ap (λ v. Err (InvalidBase64 (cond v LoneAlphabetSymbol Padding))) (sym many ∙ ap (λ m. eqb (m % 4) 1) (sym count)))
-
-  pub finishes_quiet : {d : State F} {f : F} → Every is_symbol d.symbols → d.symbols ≡ [] → d.padding ≡ 0 → f ≡ d.closure → Finishes step d (Ok tt) f
-  finishes_quiet {d} {f} every is_q is_p same =
-      let none : decoded (left_over d) ≡ [] = decoded_left d.symbols d.padding every ∙ ap (λ q. groups (map symbol_value q) ++ rest_bytes (after_groups (map symbol_value q))) is_q ∙ decoded_none in
+  flushed_finishes d d' {r} (b ∷ bs) e valid w =
+      let bytes : (b ∷ bs) ++ [] ≡ decoded (left_over d) = append-nil (b ∷ bs) ∙ e in
       record {
-        run = [];
-        ran = sym same;
+        run = record { piece = b ∷ bs; answer = w.told; after = d'.closure } ∷ [];
+        ran = one_call d.closure d'.closure (b ∷ bs) w.told w.called;
         calls = omega arith;
-        gave = bool_at_true (is_valid (left_over d)) _ _ (valid_left d.symbols d.padding every ∙ ap (λ q. fits_with (length q % 4) d.padding) is_q ∙ ap (fits_with 0) is_p)
-            (record { bytes_are = sym none; answer = refl });
+        gave = bool_at_true (is_valid (left_over d)) _ _ valid
+            (told_call w.told r (IsAll (left_over d) ((b ∷ bs) ++ []) r) (decoded (left_over d)) ((b ∷ bs) ++ []) bytes (λ x. record { bytes_are = bytes; answer = x }) w.answer);
       }
 
-  pub finishes_call : {d : State F} {f : F} {r : Result (Unit {0}) (DecodeError E)} (q piece : List ℕ) (answer : Result (Unit {0}) E) → Every is_symbol d.symbols → d.symbols ≡ q → fits_with (length q % 4) d.padding ≡ true → length q ≤ 3 → piece ≡ rest_bytes (map symbol_value q) → step d.closure piece answer f → MatchResult answer (λ u. r ≡ Ok tt) (λ e. r ≡ Err (WriteError e)) → Finishes step d r f
-  finishes_call {d} {f} {r} q piece answer every is_q fits few is_piece called told =
-      let bytes : piece ++ [] ≡ decoded (left_over d) =
-      append-nil piece
-      ∙ is_piece
-      ∙ sym (decoded_left d.symbols d.padding every ∙ ap (λ q. groups (map symbol_value q) ++ rest_bytes (after_groups (map symbol_value q))) is_q ∙ decoded_few q few) in
-      record {
-        run = record { piece = piece; answer = answer; after = f } ∷ [];
-        ran = one_call d.closure f piece answer called;
-        calls = omega arith;
-        gave = bool_at_true (is_valid (left_over d)) _ _ (valid_left d.symbols d.padding every ∙ ap (λ q. fits_with (length q % 4) d.padding) is_q ∙ fits)
-            (told_call answer r (IsAll (left_over d) (piece ++ []) r) (decoded (left_over d)) (piece ++ []) bytes (λ e. record { bytes_are = bytes; answer = e }) told);
-      }
+  -- the end of a valid text
+  pub finishes_flushed : (d d' : State F) {r : Result (Unit {0}) (DecodeError E)} → is_valid (left_over d) ≡ true → Flushes step d (decoded (left_over d)) r d' → Finishes step d r d'.closure
+  finishes_flushed d d' valid w = flushed_finishes d d' (decoded (left_over d)) refl valid w

@@ -174,12 +174,12 @@ valid_one : (item : Item) → (valid_of item ≡ []) ⊎ ((p : Pair) × (valid_o
 valid_one (name, None) = inl refl
 valid_one (name, Some v) = one_or_none (is_token_text name && list_all is_quotable v) (name, v)
 
-kept_pairs : (ps qs : List Pair) → (qs ≡ []) ⊎ ((p : Pair) × (qs ≡ p ∷ [])) → first_of_each_name [] (ps ++ qs) ≡ first_of_each_name [] ps ++ unless_named (first_of_each_name [] ps) qs
-kept_pairs ps qs (inl e) = rw (e, append-nil ps) (sym (append-nil (first_of_each_name [] ps)))
-kept_pairs ps qs (inr (p, e)) = rw e (first_snoc [] ps p ∙ ap (λ b. first_of_each_name [] ps ++ cond b [] (p ∷ [])) (sym (has_first p.0 [] ps)))
+kept_with_one : (ps qs : List Pair) → (qs ≡ []) ⊎ ((p : Pair) × (qs ≡ p ∷ [])) → first_of_each_name [] (ps ++ qs) ≡ first_of_each_name [] ps ++ unless_named (first_of_each_name [] ps) qs
+kept_with_one ps qs (inl e) = rw (e, append-nil ps) (sym (append-nil (first_of_each_name [] ps)))
+kept_with_one ps qs (inr (p, e)) = rw e (first_snoc [] ps p ∙ ap (λ b. first_of_each_name [] ps ++ cond b [] (p ∷ [])) (sym (has_first p.0 [] ps)))
 
 pub kept_more : (items : List Item) (item : Item) → kept_pairs (items ++ (item ∷ [])) ≡ kept_pairs items ++ added_pairs (kept_pairs items) item
-kept_more items item = ap (first_of_each_name []) (flat_map-append valid_of items (item ∷ []) ∙ ap (λ x. valid_pairs items ++ x) (append-nil (valid_of item))) ∙ kept_pairs (valid_pairs items) (valid_of item) (valid_one item)
+kept_more items item = ap (first_of_each_name []) (flat_map-append valid_of items (item ∷ []) ∙ ap (λ x. valid_pairs items ++ x) (append-nil (valid_of item))) ∙ kept_with_one (valid_pairs items) (valid_of item) (valid_one item)
 
 -- What the parser keeps of one parameter
 

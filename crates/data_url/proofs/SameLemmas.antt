@@ -79,15 +79,15 @@ pairs_seen : {A B : Type 0} (ps : List (String A × String B)) → map pair_of p
 pairs_seen [] = refl
 pairs_seen (p ∷ ps) = ap (λ xs. pair_of p ∷ xs) (pairs_seen ps)
 
-abbrev record_of : List ℕ → List ℕ → List Pair → Record
-record_of a b c = record { type_ = a; subtype = b; parameters = c }
+abbrev record_with : List ℕ → List ℕ → List Pair → Record
+record_with a b c = record { type_ = a; subtype = b; parameters = c }
 
 pub same_seen : (m n : Mime) → SameTexts m n → record_of m ≡ record_of n
 same_seen m n h =
     let pairs : map pair_of m.parameters.items ≡ map pair_of n.parameters.items = pairs_seen m.parameters.items ∙ ap (map pair_seen) h.parameters ∙ sym (pairs_seen n.parameters.items) in
-    ap (λ a. record_of a (chars (string_bytes m.subtype)) (map pair_of m.parameters.items)) (ap chars h.type_)
-    ∙ ap (λ b. record_of (chars (string_bytes n.type_)) b (map pair_of m.parameters.items)) (ap chars h.subtype)
-    ∙ ap (λ c. record_of (chars (string_bytes n.type_)) (chars (string_bytes n.subtype)) c) pairs
+    ap (λ a. record_with a (chars (string_bytes m.subtype)) (map pair_of m.parameters.items)) (ap chars h.type_)
+    ∙ ap (λ b. record_with (chars (string_bytes n.type_)) b (map pair_of m.parameters.items)) (ap chars h.subtype)
+    ∙ ap (λ c. record_with (chars (string_bytes n.type_)) (chars (string_bytes n.subtype)) c) pairs
 
 -- bytes follow from code points
 

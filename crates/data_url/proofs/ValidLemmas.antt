@@ -2,7 +2,7 @@
 use Rattle.std.proofs.Common.{◌≡◌, ℕ, suc, zero, ◌+◌, ◌%◌, Bool, true, false, not, cond, ◌&&◌, eqb, List, [], ◌∷◌, ◌++◌, length, replicate, refl, ap, sym, ◌∙◌, inl, inr, arith, append_assoc, length-append}
 use Rattle.std.specs.List.{list_all}
 use Rattle.std.proofs.lemmas.List.{append-nil, length-replicate}
-use Rattle.std.proofs.lemmas.Bool.{eqb-true, eq-eqb, ne_eqb, eqb-false, not-true, not_from_false, false≢true, cond-false, cond_both, and_from, and_right}
+use Rattle.std.proofs.lemmas.Bool.{eqb-true, eq-eqb, ne_eqb, eqb-false, not-true, not_from_false, false≢true, cond-false, cond_both, and_from, and_right, false_from_ne_true}
 use Rattle.data_url.specs.Base64.{is_symbol, is_valid, without_padding, without_last_padding}
 use Rattle.data_url.specs.Steps.Facts.{Fits, IsSymbolsAndPadding, PaddingFits}
 use Rattle.data_url.specs.Mime.{Every}
@@ -148,10 +148,13 @@ fits_from k (suc zero) e = inr (inl (refl, eqb-true (k % 4) 3 e))
 fits_from k (suc (suc zero)) e = inr (inr (refl, eqb-true (k % 4) 2 e))
 fits_from k (suc (suc (suc n))) e = absurd (false≢true e)
 
-from_fits : (k p : ℕ) → Fits k p → fits_with (k % 4) p ≡ true
+pub from_fits : (k p : ℕ) → Fits k p → fits_with (k % 4) p ≡ true
 from_fits k p (inl (z, n)) = rw z (not_from_false (eqb (k % 4) 1) (ne_eqb (k % 4) 1 n))
 from_fits k p (inr (inl (z, n))) = rw z (eq-eqb (k % 4) 3 n)
 from_fits k p (inr (inr (z, n))) = rw z (eq-eqb (k % 4) 2 n)
+
+pub from_unfit : (k p : ℕ) → (Fits k p → ⊥) → fits_with (k % 4) p ≡ false
+from_unfit k p h = false_from_ne_true (fits_with (k % 4) p) (λ e. h (fits_from k p e))
 
 pub padding_fits : (b : List ℕ) → PaddingFits b
 padding_fits b q p h = (λ v. fits_from (length q) p (sym (symbols_pads_valid b q p h) ∙ v), λ f. symbols_pads_valid b q p h ∙ from_fits (length q) p f)

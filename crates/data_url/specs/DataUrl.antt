@@ -53,9 +53,11 @@ pub record IsUrlOf (t : List ℕ) (u : DataUrl) : Type 0 where
   -- the Standard's body, percent-decoded, is the one that the tail holds
   pub body_is : option_map percent_decoding (encoded_body t) ≡ Some (plain_body (url_tail u))
   -- the Standard's fragment, where there is one, is that of the tail
-  pub fragment_is : option_map fragment (after_scheme t) ≡ Some (fragment (without_tabs_and_newlines (url_tail u)))
+  pub fragment_is : option_map fragment (after_scheme t)
+      ≡ Some (fragment (without_tabs_and_newlines (url_tail u)))
   pub staged_is : staged t ≡ Accepted (mime_text header) (url_body u)
-      (option_map (percent_encoding in_fragment_set) (fragment (without_tabs_and_newlines (url_tail u))))
+      (option_map (percent_encoding in_fragment_set)
+      (fragment (without_tabs_and_newlines (url_tail u))))
 
 -- a scheme and a comma are there
 abbrev pub IsAcceptable : Staged → Type 0

@@ -3,6 +3,7 @@ pub mod Blocks
 pub mod Calls
 pub mod Chunks
 pub mod Digits
+pub mod Ending
 pub mod Facts
 pub mod Front
 pub mod Header

@@ -30,7 +30,8 @@ pub(crate) fn least_fault()
 
 /// Tabs and newlines may be dropped before the fragment is cut off or from the fragment itself.
 pub(crate) fn fragment_dropped()
-    ensures { (tail : List ℕ) → fragment (without_tabs_and_newlines tail) ≡ option_map without_tabs_and_newlines (behind 35 tail) }
+    ensures { (tail : List ℕ) → fragment (without_tabs_and_newlines tail)
+        ≡ option_map without_tabs_and_newlines (behind 35 tail) }
 {}
 
 /// Nothing that stands before the `?` of a header changes its base64 flag, so that a space there is written `%20` or not.

@@ -19,7 +19,7 @@ use std::fmt;
 
 /// A MIME type record: a type, a subtype and parameters in order. Nothing checks what stands in it.
 ///
-/// Contracts see a record as three lists of code points, `seen` of it.
+/// Contracts see a record as three lists of code points, `record_of` of it.
 #[derive(Debug, Drop)]
 pub struct Mime {
     /// The type, as `text` of `text/html`.

@@ -46,7 +46,8 @@ fn part_len(set: EncodeSet, part: &[u8]) -> usize
 #[inline(always)]
 pub(crate) fn encoded_len(set: EncodeSet, bytes: &[u8]) -> usize
     ensures { result
-        ≡ min (length (percent_encoding (in_set set) (without_tabs_and_newlines bytes.now))) (2 ^ 64 - 1) }
+        ≡ min (length (percent_encoding (in_set set) (without_tabs_and_newlines bytes.now)))
+        (2 ^ 64 - 1) }
 {
     let mut len: usize = 0;
     let mut rest = bytes;
@@ -74,7 +75,8 @@ fn put(room: &mut [u8; ROOM], at: usize, row: &[u8])
 fn encode_part(set: EncodeSet, part: &[u8], room: &mut [u8; ROOM]) -> usize
     requires { length part.now ≤ 64 }
     ensures few { result ≤ 256 }
-    ensures written { take result room.new ≡ percent_encoding (in_set set) (without_tabs_and_newlines part.now) }
+    ensures written { take result room.new
+        ≡ percent_encoding (in_set set) (without_tabs_and_newlines part.now) }
     ensures text { IsUtf8 (take result room.new) }
 {
     let mut at = 0;
@@ -94,7 +96,8 @@ pub(crate) fn push_encoded(
     bytes: &[u8],
 ) -> Result<(), AllocError>
     ensures { OnOk result (string_bytes text.new
-        ≡ string_bytes text.old ++ percent_encoding (in_set set) (without_tabs_and_newlines bytes.now)) }
+        ≡ string_bytes text.old
+        ++ percent_encoding (in_set set) (without_tabs_and_newlines bytes.now)) }
 {
     let mut room = [0; ROOM];
     let mut rest = bytes;

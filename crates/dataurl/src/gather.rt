@@ -45,8 +45,8 @@ impl Gathered {
 
     /// Writes what waits. A write that fails is not tried again.
     fn flush<W: Write>(&mut self, writer: &mut W) -> Result<(), WriteFailed>
-        ensures wrote { Writes (waiting_bytes self.old) (W.contents writer.old) (W.contents writer.new)
-            result }
+        ensures wrote { Writes (waiting_bytes self.old)
+            (W.contents writer.old) (W.contents writer.new) result }
         ensures empty { self.new.len ≡ 0 }
     {
         let len = self.len;
@@ -57,8 +57,8 @@ impl Gathered {
     /// Takes a piece of an output: one that fits is gathered. Before any other is taken, what waits is written, and a
     /// piece at least as long as the room goes to the writer as it is.
     pub(crate) fn take<W: Write>(&mut self, piece: &[u8], writer: &mut W) -> Result<(), WriteFailed>
-        ensures { Gathers piece.now (waiting_bytes self.old) (waiting_bytes self.new) (W.contents writer.old)
-            (W.contents writer.new) result }
+        ensures { Gathers piece.now (waiting_bytes self.old) (waiting_bytes self.new)
+            (W.contents writer.old) (W.contents writer.new) result }
     {
         if piece.len() <= ROOM - self.len {
             self.push(piece);
@@ -80,8 +80,8 @@ impl Gathered {
         end: Result<(), Fault>,
         writer: &mut W,
     ) -> Result<(), Fault>
-        ensures { Flushes (waiting_bytes self.old) end (W.contents writer.old) (W.contents writer.new)
-            result }
+        ensures { Flushes (waiting_bytes self.old) end
+            (W.contents writer.old) (W.contents writer.new) result }
     {
         match self.flush(writer) {
             Ok(()) => end,
@@ -95,8 +95,8 @@ impl Gathered {
         answer: Result<(), DecodeError<WriteFailed>>,
         writer: &mut W,
     ) -> Result<(), Fault>
-        ensures { Settles answer (waiting_bytes self.old) (W.contents writer.old) (W.contents writer.new)
-            result }
+        ensures { Settles answer (waiting_bytes self.old)
+            (W.contents writer.old) (W.contents writer.new) result }
     {
         match answer {
             Ok(()) => self.flush_before(Ok(()), writer),

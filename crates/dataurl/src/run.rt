@@ -165,7 +165,8 @@ fn write_text<W: Write>(
     writer: &mut W,
 ) -> Result<(), Fault>
     requires { TakesText command }
-    ensures { WritesOf (IsTextOutput text.now command) (W.contents writer.old) (W.contents writer.new)
+    ensures { WritesOf (IsTextOutput text.now command)
+        (W.contents writer.old) (W.contents writer.new)
         result }
 {
     match command {

@@ -30,7 +30,8 @@ pub record IsChunk (w : Walk) (room : List ℕ) (chunk : Chunk) (w' : Walk) : Ty
 -- the walk w gave a chunk of base64, which is right but for white space, and is w' now
 pub record IsBase64Chunk (w : Walk) (room : List ℕ) (chunk : Chunk) (w' : Walk) : Type 0 where
   pub text_stays : w'.text ≡ w.text
-  pub bytes : without_whitespace w.rest ≡ without_whitespace (chunk_bytes room chunk) ++ without_whitespace w'.rest
+  pub bytes : without_whitespace w.rest
+      ≡ without_whitespace (chunk_bytes room chunk) ++ without_whitespace w'.rest
   pub rest_is : w'.rest ≡ plain_body (drop w'.place w'.text)
   pub place : w.place + length (chunk_bytes room chunk) ≤ w'.place
   pub within : w'.place ≤ length w'.text

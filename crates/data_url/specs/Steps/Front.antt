@@ -13,7 +13,10 @@ pub record IsSchemeAndRest (text rest : List ℕ) : Type 0 where
 
 -- the text begins with no such scheme
 abbrev pub HasNoScheme : List ℕ → Type 0
-HasNoScheme text = bytes_eq (map to_ascii_lowercase (take 5 (without_tabs_and_newlines text))) (codes "data:") ≡ false
+HasNoScheme text =
+    bytes_eq (map to_ascii_lowercase (take 5 (without_tabs_and_newlines text)))
+    (codes "data:")
+    ≡ false
 
 -- ',' or '#'
 abbrev pub ends_header : ℕ → Bool

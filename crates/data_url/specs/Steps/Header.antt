@@ -31,11 +31,14 @@ encoded_parts path space query = percent_encoding in_path_set (without_tabs_and_
 
 -- a path without its last space, behind which at most tabs and newlines stand
 abbrev pub WithoutSpace : List ℕ → List ℕ → Type 0
-WithoutSpace path front = without_tabs_and_newlines path ≡ without_tabs_and_newlines front ++ 32 ∷ []
+WithoutSpace path front =
+    without_tabs_and_newlines path ≡ without_tabs_and_newlines front ++ 32 ∷ []
 
 -- without tabs and newlines the path does not end with a space
 abbrev pub HasNoLastSpace : List ℕ → Type 0
-HasNoLastSpace path = encoded_path (without_tabs_and_newlines path) ≡ percent_encoding in_path_set (without_tabs_and_newlines path)
+HasNoLastSpace path =
+    encoded_path (without_tabs_and_newlines path)
+    ≡ percent_encoding in_path_set (without_tabs_and_newlines path)
 
 -- each byte is printable ASCII or a space
 abbrev pub IsPrintable : List ℕ → Type 0

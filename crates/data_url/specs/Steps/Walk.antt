@@ -31,7 +31,8 @@ pub record ReadsSpaced (text : List ℕ) (from to : ℕ) : Type 0 where
   pub forward : from ≤ to
   pub within : to ≤ length text
   pub body : without_whitespace (plain_body (drop from text))
-      ≡ without_whitespace (slice_range text from to) ++ without_whitespace (plain_body (drop to text))
+      ≡ without_whitespace (slice_range text from to)
+      ++ without_whitespace (plain_body (drop to text))
   pub behind_is : behind 35 (drop from text) ≡ behind 35 (drop to text)
 
 -- an escape of the value stands at one place and ends at another

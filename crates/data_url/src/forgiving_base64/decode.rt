@@ -1,6 +1,6 @@
 //! Decoding piece by piece (Infra Standard, forgiving-base64 decode).
 
-ghost use Rattle.std.specs.Prelude.{◌≡◌, ◌<◌, ◌≤◌, [], ◌∷◌, ◌+◌, Err, IsTrue, MatchResult, Ok, drop, length, slice_index, take, true, false};
+ghost use Rattle.std.specs.Prelude.{◌≡◌, ◌<◌, ◌≤◌, [], ◌∷◌, ◌+◌, Err, IsTrue, MatchResult, None, Ok, drop, length, slice_index, take, true, false};
 ghost use Rattle.std.specs.List.{list_all};
 ghost use Rattle.std.specs.Char.{is_ascii_whitespace};
 ghost use Rattle.data_url.specs.Base64.{is_symbol};
@@ -41,9 +41,12 @@ where
     F: FnMut(&[u8]) -> Result<(), E>,
 {
     ghost use Rattle.std.specs.Fn.{CalledAt};
-    ghost use Rattle.data_url.specs.Decoder.{Feeds, Finishes, start, state_of};
+    ghost use Rattle.data_url.specs.Decoder.{Feeds, Finishes, left_over, start, state_of};
     ghost use Rattle.data_url.specs.InvalidBase64.{kind_of_details};
+    ghost use Rattle.data_url.specs.Base64.{decoded};
     ghost use Rattle.data_url.specs.Steps.Calls.{CallsOnce};
+    ghost use Rattle.data_url.specs.Steps.Ending.{IsFaultAtEnd};
+    ghost use Rattle.data_url.specs.Steps.Facts.{Fits};
     ghost use Rattle.data_url.specs.Steps.Blocks.{without};
     ghost use Rattle.data_url.specs.Steps.HeldState.{held_bytes};
     ghost use Rattle.data_url.specs.Steps.Holding.{Adds, FeedsBlocks, Flushes, Gains, Refuses, TriesBlock, bytes_in};
@@ -402,6 +405,46 @@ where
         }
     }
 
+    /// Whether there is as much padding as fits the symbols left over: none but behind a lone one, one `=` behind three,
+    /// or two behind two.
+    fn has_fitting_padding(&self) -> bool
+        ensures fits { result ≡ true → Fits self.now.pending self.now.padding }
+        ensures unfit { result ≡ false → Fits self.now.pending self.now.padding → ⊥ }
+    {
+        let padding = usize::from(self.padding);
+        (padding == 0 && self.pending != 1) || (padding < 3 && self.pending + padding == 4)
+    }
+
+    /// The fault of what is left over, where it ends no valid text.
+    fn fault_at_end(&self) -> Option<InvalidBase64Details>
+        ensures { IsFaultAtEnd (state_of self.now) result }
+    {
+        if self.has_fitting_padding() {
+            None
+        } else if self.pending == 1 {
+            Some(InvalidBase64Details::LoneAlphabetSymbol)
+        } else {
+            Some(InvalidBase64Details::Padding)
+        }
+    }
+
+    /// Hands out what the symbols left over stand for, if there are any.
+    fn write_rest(&mut self) -> Result<(), DecodeError<E>>
+        requires callable { F.IsAlwaysCallable (state_of self.old).closure }
+        requires going { (state_of self.old).failed ≡ false }
+        requires valid { IsFaultAtEnd (state_of self.old) None }
+        ensures callable { F.IsAlwaysCallable (state_of self.new).closure }
+        ensures flushed { Flushes (CalledAt F.FnMut) (state_of self.old)
+            (decoded (left_over (state_of self.old))) result (state_of self.new) }
+    {
+        let [first, second, third] = self.symbols;
+        match self.pending {
+            2 => self.write(&rest_of_two(first, second)),
+            3 => self.write(&rest_of_three(first, second, third)),
+            _ => Ok(()),
+        }
+    }
+
     /// Ends the text: hands out what the symbols left over stand for.
     fn end(&mut self) -> Result<(), DecodeError<E>>
         requires callable { F.IsAlwaysCallable (state_of self.old).closure }
@@ -410,13 +453,9 @@ where
         ensures finished { Finishes (CalledAt F.FnMut) (state_of self.old) result
             (state_of self.new).closure }
     {
-        let [first, second, third] = self.symbols;
-        match (self.pending, self.padding) {
-            (0, 0) => Ok(()),
-            (1, _) => self.refuse(InvalidBase64Details::LoneAlphabetSymbol),
-            (2, 0 | 2) => self.write(&rest_of_two(first, second)),
-            (3, 0 | 1) => self.write(&rest_of_three(first, second, third)),
-            _ => self.refuse(InvalidBase64Details::Padding),
+        match self.fault_at_end() {
+            None => self.write_rest(),
+            Some(details) => self.refuse(details),
         }
     }
 

@@ -23,4 +23,5 @@ pub data IsGroups (text : List ℕ) : List ℕ → End → Type 0 where
 -- the bytes of a text that goes no further
 pub data IsLast (text : List ℕ) : List ℕ → End → Type 0 where
   last_valid : is_valid text ≡ true → IsLast text (decoded text) (Ok tt)
-  last_invalid : is_valid text ≡ false → IsLast text (complete_bytes text) (Err (Base64 (kind_of text)))
+  last_invalid : is_valid text ≡ false
+      → IsLast text (complete_bytes text) (Err (Base64 (kind_of text)))

@@ -11,7 +11,7 @@ use std::test::Fail;
 
 /// Texts, and their pieces: a slice in brackets, an escape by its number, and behind them `#` and
 /// the fragment.
-const TEXTS: [[&str; 2]; 13] = [
+const TEXTS: [[&str; 2]; 15] = [
     ["a%41b#c", "[a]65[b]#c"],
     ["", ""],
     ["%\n4\r\t1%4\t", "65[%4]"],
@@ -25,6 +25,8 @@ const TEXTS: [[&str; 2]; 13] = [
     ["%41%42%43", "656667"],
     ["#%41", "#%41"],
     ["a%4", "[a%4]"],
+    ["%2541", "37[41]"],
+    ["%25%2541", "3737[41]"],
 ];
 
 /// Writes a piece: a slice in brackets, or the number of an escape.

@@ -20,7 +20,7 @@ const NO_COMMA: &str = "data url is missing comma delimiting attributes and body
 
 /// Texts, their printed records, the bytes of their bodies up to the first fault, and the line of
 /// the error, or `#` and the fragment, or nothing.
-const URLS: [[&str; 4]; 56] = [
+const URLS: [[&str; 4]; 58] = [
     ["data:,Hello%20World!", DEFAULT, "Hello World!", ""],
     ["\0 DA\tTA:\n,x \u{1f}", DEFAULT, "x", ""],
     ["da ta:,x", "", "", NO_SCHEME],
@@ -33,6 +33,8 @@ const URLS: [[&str; 4]; 56] = [
     ["data:,%4\t1", DEFAULT, "A", ""],
     ["data:,%zz%4", DEFAULT, "%zz%4", ""],
     ["data:,%%34\n1", DEFAULT, "%41", ""],
+    ["data:,%2541", DEFAULT, "%41", ""],
+    ["data:,%25%2541%2525", DEFAULT, "%%41%25", ""],
     ["data:,%\t\t#", DEFAULT, "%", "#"],
     ["data:,%4#1", DEFAULT, "%4", "#1"],
     ["data:a/b;c=?x ,Y", "a/b;c=\"?x%20\"", "Y", ""],
