@@ -1,7 +1,7 @@
 -- What a call gives of its bytes, by what its steps give.
-use Rattle.std.proofs.Common.{◌≡◌, ℕ, Bool, true, false, List, [], ◌++◌, Option, None, Some, Result, Ok, Err, refl, sym, ap, ◌∙◌, subst}
+use Rattle.std.proofs.Common.{◌≡◌, ℕ, Bool, true, false, List, ◌++◌, Option, None, Some, Result, Ok, Err, refl, sym, ap, ◌∙◌, subst}
 use Rattle.std.specs.Prelude.{IsUtf8, MatchBool, MatchOption, chars, option_map}
-use Rattle.data_url.specs.Base64.{Kind, decoded, done, is_valid, kind_of}
+use Rattle.data_url.specs.Base64.{Kind, done, is_valid, kind_of}
 use Rattle.data_url.specs.DataUrl.{IsAcceptable, IsUrlOf, mime_of, url_body, url_tail}
 use Rattle.data_url.specs.Decoder.{IsAll}
 use Rattle.data_url.specs.Errors.{IsParsingError, IsRefused}

@@ -1,6 +1,6 @@
 -- What the private steps give: words that no contract of an export cites.
-use Rattle.std.specs.Prelude.{[], ◌≡◌, Err, IsUtf8, List, None, Ok, Option, Result, Some, encode_utf8_all, option_map, ℕ}
-use Rattle.data_url.specs.DataUrl.{IsUrlOf, fragment_text, url_body, url_tail}
+use Rattle.std.specs.Prelude.{[], ◌≡◌, Err, IsUtf8, List, None, Ok, Result, Some, encode_utf8_all, option_map, ℕ}
+use Rattle.data_url.specs.DataUrl.{IsUrlOf, url_body, url_tail}
 use Rattle.data_url.specs.Fetch.{Bad, Good, Outcome}
 use Rattle.data_url.specs.Mime.{Record, printed}
 use Rattle.data_url.specs.Url.{behind, encoded_fragment}

@@ -1,9 +1,6 @@
-use Rattle.std.proofs.Common.{Err, ap, rules, sym, ◌≡◌, ◌∙◌}
-use Rattle.data_url.specs.Fetch.{Bad, Good}
-use Rattle.data_url.specs.Run.{IsPrefix}
+use Rattle.std.proofs.Common.{Err, rules, ◌≡◌}
 use Rattle.data_url.specs.declared.forgiving_base64.DecodeError.TheVariants.{InvalidBase64}
 use Rattle.data_url.proofs.BodyVecLemmas.{body_keeps}
-use Rattle.data_url.proofs.RunLemmas.{prefix_none}
 use Rattle.data_url.proofs.RunMeasures.{body_ends}
 use Rattle.data_url_c.specs.contracts.url.fn.bytes_of.decode_body as closure
 use Rattle.data_url_c.proofs.url.bytes_of.Goals as goal

@@ -1,4 +1,3 @@
-use Rattle.std.proofs.Common.{rules}
 use Rattle.data_url_c.proofs.GivenLemmas.{gives_mime}
 use Rattle.data_url_c.proofs.url.mime.Goals as goal
 

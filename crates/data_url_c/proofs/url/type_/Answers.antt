@@ -1,4 +1,3 @@
-use Rattle.std.proofs.Common.{rules, ◌∙◌}
 use Rattle.data_url.specs.MimeType.{seen}
 use Rattle.data_url_c.proofs.GivenLemmas.{gives_type, no_record, some_record}
 use Rattle.data_url_c.proofs.url.type_.Goals as goal
