@@ -25,7 +25,7 @@ ghost use Rattle.data_url_c.specs.Gives.{GivesBase64, GivesBody, GivesFragment, 
 mod answer;
 mod base64;
 mod refusal;
-mod url;
+mod texts;
 
 pub use answer::DataUrlAnswer;
 use answer::answer;
@@ -38,7 +38,7 @@ use std::alloc::Global;
 pub extern "C" fn dataurl_body(alloc: Global, url: &[u8], out: &mut [u8]) -> DataUrlAnswer
     ensures { Answers (GivesBody url.now) out.old out.new result }
 {
-    answer(url::body(alloc, url), out)
+    answer(texts::body(alloc, url), out)
 }
 
 /// The MIME type of a data: URL, as it is printed
@@ -48,7 +48,7 @@ pub extern "C" fn dataurl_body(alloc: Global, url: &[u8], out: &mut [u8]) -> Dat
 pub extern "C" fn dataurl_mime(alloc: Global, url: &[u8], out: &mut [u8]) -> DataUrlAnswer
     ensures { Answers (GivesMime url.now) out.old out.new result }
 {
-    answer(url::mime(alloc, url), out)
+    answer(texts::mime(alloc, url), out)
 }
 
 /// The fragment of a data: URL, percent-encoded
@@ -58,7 +58,7 @@ pub extern "C" fn dataurl_mime(alloc: Global, url: &[u8], out: &mut [u8]) -> Dat
 pub extern "C" fn dataurl_fragment(alloc: Global, url: &[u8], out: &mut [u8]) -> DataUrlAnswer
     ensures { Answers (GivesFragment url.now) out.old out.new result }
 {
-    answer(url::fragment(alloc, url), out)
+    answer(texts::fragment(alloc, url), out)
 }
 
 /// A MIME type, parsed and printed
@@ -67,7 +67,7 @@ pub extern "C" fn dataurl_fragment(alloc: Global, url: &[u8], out: &mut [u8]) ->
 pub extern "C" fn dataurl_type(alloc: Global, text: &[u8], out: &mut [u8]) -> DataUrlAnswer
     ensures { Answers (GivesType text.now) out.old out.new result }
 {
-    answer(url::type_(alloc, text), out)
+    answer(texts::type_(alloc, text), out)
 }
 
 /// The bytes that base64 stands for

@@ -1,4 +1,4 @@
-//! What the calls take of a data: URL.
+//! What the calls take of texts: data: URLs and MIME types.
 
 ghost use Rattle.std.specs.Prelude.{◌+◌, ◌≡◌, IsUtf8, MatchOption, length};
 ghost use Rattle.std.specs.Fn.{CalledAt};
