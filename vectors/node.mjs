@@ -3,8 +3,8 @@
 //   node vectors/node.mjs
 //
 // URLs go through `fetch`, MIME types through `MIMEType` of node:util, and base64 through `atob`. Where these fail they tell
-// neither why nor what came before, so any failure agrees with any refusal. The status is 0 where each difference is of a
-// class that docs/OTHERS.md tells of.
+// neither why nor what came before, so any failure agrees with any refusal. Nothing is fetched from a network. The status is
+// 1 where node 20, of which docs/OTHERS.md tells, has a difference that is of no class there.
 import { readdirSync, readFileSync } from 'node:fs';
 import { MIMEType } from 'node:util';
 
@@ -61,4 +61,4 @@ for (const [kind, call, keys] of kinds) {
 }
 for (const [of, times] of found) console.log(`${of}: ${times}`);
 console.log(`node ${process.version}: ${count} vectors, ${found.get('of no class') ?? 0} differences of no class`);
-process.exitCode = found.has('of no class') ? 1 : 0;
+process.exitCode = process.version.startsWith('v20.') && found.has('of no class') ? 1 : 0;

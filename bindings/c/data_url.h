@@ -20,10 +20,10 @@
  * holds before the call is never read. A call writes the bytes of its answer to its front and nothing behind them; it
  * writes none at all where it answers DATA_URL_OUTPUT_TOO_SMALL or a length of 0.
  *
- * ANSWERS. `len` is how many bytes the answer has. Where `room` is less, the status is DATA_URL_OUTPUT_TOO_SMALL, and a
- * call with that much room gives the answer. So a call with no room asks for the length; an answer of 0 bytes needs none,
- * and comes at once with its own status. A body has no more bytes than the text of its URL, and the bytes of base64 are no
- * more than its text.
+ * ANSWERS. `len` is how many bytes the answer has. Where `room` is less, the status is DATA_URL_OUTPUT_TOO_SMALL, whatever
+ * it would be else, and a call with that much room gives the answer. So a call with no room asks for the length; an answer
+ * of 0 bytes needs none, and comes at once with its own status. A body has no more bytes than the text of its URL, and the
+ * bytes of base64 are no more than its text.
  *
  * BASE64 THAT IS NOT VALID. data_url_body and data_url_base64 give the bytes before the first fault, with its status;
  * data_url_fragment gives none. data_url_mime decodes no body, and so tells no fault of one.
@@ -33,8 +33,9 @@
  * no state: calls may run on many threads at once. It may not be called from a signal handler, nor from the forked child of
  * a process with threads.
  *
- * LINKING. Link libdata_url.a, which `bindings/build` makes; it needs nothing besides the C library. It is for x86-64
- * processors of at least the level x86-64-v2 (SSE4.2 and POPCNT), and for the calling convention of Linux.
+ * LINKING. This file is for C99 and C++11, and those after. Link libdata_url.a, which `bindings/build` makes; it needs
+ * nothing besides the C library. It is for x86-64 processors of at least the level x86-64-v2 (SSE4.2 and POPCNT), and for
+ * the calling convention of Linux.
  *
  * What does not cross: texts that are known to be UTF-8 (each call looks for itself), callbacks (a body comes whole, not in
  * pieces) and handles (each call reads its text anew).

@@ -155,6 +155,22 @@ static void nothing(void) {
     }
 }
 
+/* Outputs that hold nothing yet: valgrind tells where they are read. */
+static void fresh_outputs(void) {
+    const char *texts[] = {"data:,Hello%20World!#f", "data:;base64,QUJD!", "data:", "QUJDQ", "a/b;c=d"};
+    const Call calls[] = {data_url_body, data_url_mime, data_url_fragment, data_url_type, data_url_base64};
+    for (size_t i = 0; i < sizeof texts / sizeof *texts; i++)
+        for (size_t j = 0; j < sizeof calls / sizeof *calls; j++) {
+            uint8_t *out = __real_malloc(64);
+            if (!out) abort();
+            struct data_url_answer answer = calls[j](texts[i], strlen(texts[i]), out, 64);
+            size_t bits = 0;
+            for (size_t k = 0; k < answer.len; k++) bits |= out[k];
+            check(answer.len <= 64 && (bits != 0) == (answer.len != 0), "fresh output", texts[i]);
+            free(out);
+        }
+}
+
 /* A text of so many bytes: a head, one unit again and again, and an end. */
 static uint8_t *repeated(const char *head, const char *unit, size_t times, const char *end, size_t *len) {
     size_t head_len = strlen(head), unit_len = strlen(unit), end_len = strlen(end);
@@ -223,6 +239,7 @@ int main(void) {
     refusals();
     faults();
     nothing();
+    fresh_outputs();
     long_bodies();
     refused_growths();
     printf("c: %d checks, %d wrong\n", checks, wrong);
