@@ -1,6 +1,6 @@
 -- What each call gives of the bytes that it is handed.
 use Rattle.std.specs.Prelude.{[], ◌≡◌, Err, IsUtf8, List, None, Ok, Option, Some, chars, encode_utf8_all, false, true, ℕ}
-use Rattle.data_url.specs.Base64.{decoded, done, is_valid, kind_of}
+use Rattle.data_url.specs.Base64.{decoded, complete_bytes, is_valid, kind_of}
 use Rattle.data_url.specs.DataUrl.{IsAcceptable}
 use Rattle.data_url.specs.Fetch.{Accepted, Bad, Good, NoComma as no_comma, NoScheme, Outcome, staged}
 use Rattle.data_url.specs.Mime.{HasNoRecord, IsRecordOf, Parses, Record, printed}
@@ -75,7 +75,7 @@ GivesType x (Err (InvalidBase64 kind before)) = ⊥
 abbrev pub GivesBase64 : List ℕ → Given → Type 0
 GivesBase64 x (Ok bytes) = (is_valid x ≡ true) × (bytes.items ≡ decoded x)
 GivesBase64 x (Err (InvalidBase64 kind before)) =
-    (is_valid x ≡ false) × (kind ≡ kind_of x) × (before.items ≡ done x)
+    (is_valid x ≡ false) × (kind ≡ kind_of x) × (before.items ≡ complete_bytes x)
 GivesBase64 x (Err OutOfMemory) = Unit {0}
 GivesBase64 x (Err NotUtf8) = ⊥
 GivesBase64 x (Err NotADataUrl) = ⊥

@@ -3,7 +3,7 @@
 ghost use Rattle.std.specs.Prelude.{◌+◌, ◌≡◌, IsUtf8, MatchOption, length};
 ghost use Rattle.std.specs.Fn.{CalledAt};
 ghost use Rattle.data_url.specs.DataUrl.{Decodes, url_body, url_tail};
-ghost use Rattle.data_url.specs.MimeType.{seen};
+ghost use Rattle.data_url.specs.MimeType.{record_of};
 ghost use Rattle.data_url_c.specs.Gives.{GivesBody, GivesFragment, GivesMime, GivesType};
 ghost use Rattle.data_url_c.specs.Steps.{AnyAnswer, HasBody, HasFragment, HasText, IsUrlFor};
 
@@ -72,7 +72,7 @@ fn bytes_of(alloc: Global, url: &DataUrl) -> Result<Vec<u8>, Refusal>
 
 /// The printed text of a record.
 fn printed_of(alloc: Global, mime: &Mime) -> Result<Vec<u8>, Refusal>
-    ensures { HasText (seen mime.now) result }
+    ensures { HasText (record_of mime.now) result }
 {
     match format!(in alloc; "{mime}") {
         Ok(text) => Ok(text.into_bytes()),
