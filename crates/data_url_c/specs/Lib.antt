@@ -1,0 +1,3 @@
+pub mod Answers
+pub mod Gives
+pub mod Steps

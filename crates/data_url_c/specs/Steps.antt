@@ -1,0 +1,45 @@
+-- What the private steps give: words that no contract of an export cites.
+use Rattle.std.specs.Prelude.{[], ◌≡◌, Err, IsUtf8, List, None, Ok, Result, Some, encode_utf8_all, option_map, ℕ}
+use Rattle.data_url.specs.DataUrl.{IsUrlOf, url_body, url_tail}
+use Rattle.data_url.specs.Fetch.{Bad, Good, Outcome}
+use Rattle.data_url.specs.Mime.{Record, printed}
+use Rattle.data_url.specs.Url.{behind, encoded_fragment}
+use Rattle.data_url.specs.declared.DataUrl.{DataUrl}
+use Rattle.data_url_c.specs.Answers.{Given}
+use Rattle.data_url_c.specs.Gives.{RefusesUrl}
+use Rattle.data_url_c.specs.declared.refusal.Refusal.TheVariants.{InvalidBase64, NoFragment, OutOfMemory}
+use Rattle.data_url_c.specs.declared.refusal.Refusal.{Refusal}
+
+-- any answer at all
+abbrev pub AnyAnswer : {A : Type 0} → A → Type 0
+AnyAnswer x = Unit {0}
+
+-- the URL of the bytes, or why there is none
+abbrev pub IsUrlFor : List ℕ → Result DataUrl Refusal → Type 0
+IsUrlFor x (Ok url) = IsUtf8 x × IsUrlOf x url
+IsUrlFor x (Err refusal) = RefusesUrl x refusal
+
+-- the body, or the fault of its base64 with the bytes before it
+abbrev pub HasBody : Outcome → Given → Type 0
+HasBody body (Ok bytes) = body ≡ Good bytes.items
+HasBody body (Err (InvalidBase64 kind before)) = body ≡ Bad before.items kind
+HasBody body (Err OutOfMemory) = Unit {0}
+HasBody body (Err refusal) = ⊥
+
+-- a record's printed text
+abbrev pub HasText : Record → Given → Type 0
+HasText mime (Ok text) = text.items ≡ encode_utf8_all (printed mime)
+HasText mime (Err OutOfMemory) = Unit {0}
+HasText mime (Err refusal) = ⊥
+
+-- the encoded fragment of a URL
+abbrev pub HasFragment : DataUrl → Given → Type 0
+HasFragment url (Ok text) =
+    (bytes : List ℕ) × (url_body url ≡ Good bytes)
+    × (option_map encoded_fragment (behind 35 (url_tail url)) ≡ Some text.items)
+HasFragment url (Err NoFragment) =
+    (bytes : List ℕ) × (url_body url ≡ Good bytes) × (behind 35 (url_tail url) ≡ None)
+HasFragment url (Err (InvalidBase64 kind none)) =
+    (bytes : List ℕ) × (url_body url ≡ Bad bytes kind) × (none.items ≡ [])
+HasFragment url (Err OutOfMemory) = Unit {0}
+HasFragment url (Err refusal) = ⊥

@@ -1,0 +1,81 @@
+//! The calls of `data_url` for C and for languages that call C: what a data: URL, a MIME type or base64 gives, put into an
+//! output that the caller owns. `bindings/c/data_url.h` declares them.
+//!
+//! A slice crosses as a pointer, which is not null, and a length; `Global` crosses as nothing. No call asks anything more of
+//! its bytes: any bytes may come. Each answers a status and a length:
+//!
+//! | Status | Meaning | Length |
+//! |---|---|---|
+//! | 0 | done | of the answer, which stands at the front of the output |
+//! | 1 | no scheme `data:` | 0 |
+//! | 2 | no comma before the fragment | 0 |
+//! | 3 | memory was refused | 0 |
+//! | 4 | the text is not UTF-8 | 0 |
+//! | 5 | the output is too small, and as it was | that is needed |
+//! | 6 | no MIME type | 0 |
+//! | 7 | the URL has no fragment | 0 |
+//! | 8, 9, 10, 256 and a byte | base64 with padding that does not fit, a lone symbol, a symbol behind padding, an unexpected byte | of what stands before the fault, at the front of the output |
+//!
+//! What stands in the output behind the bytes of an answer is as it was; where the length is 0, all of it.
+#![tactic(auto)]
+
+ghost use Rattle.data_url_c.specs.Answers.{Answers};
+ghost use Rattle.data_url_c.specs.Gives.{GivesBase64, GivesBody, GivesFragment, GivesMime, GivesType};
+
+mod answer;
+mod base64;
+mod refusal;
+mod texts;
+
+pub use answer::DataUrlAnswer;
+use answer::answer;
+pub use refusal::Refusal;
+use std::alloc::Global;
+
+/// The body of a data: URL ([Fetch Standard, section 6](https://fetch.spec.whatwg.org/#data-url-processor)). Of base64 that
+/// is not valid the output has the bytes before the first fault.
+#[unsafe(no_mangle)]
+pub extern "C" fn dataurl_body(alloc: Global, url: &[u8], out: &mut [u8]) -> DataUrlAnswer
+    ensures { Answers (GivesBody url.now) out.old out.new result }
+{
+    answer(texts::body(alloc, url), out)
+}
+
+/// The MIME type of a data: URL, as it is printed
+/// ([MIME Sniffing Standard, section 4.5](https://mimesniff.spec.whatwg.org/#serializing-a-mime-type)). Its body is not
+/// decoded.
+#[unsafe(no_mangle)]
+pub extern "C" fn dataurl_mime(alloc: Global, url: &[u8], out: &mut [u8]) -> DataUrlAnswer
+    ensures { Answers (GivesMime url.now) out.old out.new result }
+{
+    answer(texts::mime(alloc, url), out)
+}
+
+/// The fragment of a data: URL, percent-encoded
+/// ([URL Standard, section 4.4, fragment state](https://url.spec.whatwg.org/#fragment-state)). Of base64 that is not valid
+/// there is none, and nothing is put into the output.
+#[unsafe(no_mangle)]
+pub extern "C" fn dataurl_fragment(alloc: Global, url: &[u8], out: &mut [u8]) -> DataUrlAnswer
+    ensures { Answers (GivesFragment url.now) out.old out.new result }
+{
+    answer(texts::fragment(alloc, url), out)
+}
+
+/// A MIME type, parsed and printed
+/// ([MIME Sniffing Standard, sections 4.4 and 4.5](https://mimesniff.spec.whatwg.org/#parsing-a-mime-type)).
+#[unsafe(no_mangle)]
+pub extern "C" fn dataurl_type(alloc: Global, text: &[u8], out: &mut [u8]) -> DataUrlAnswer
+    ensures { Answers (GivesType text.now) out.old out.new result }
+{
+    answer(texts::type_(alloc, text), out)
+}
+
+/// The bytes that base64 stands for
+/// ([Infra Standard, forgiving-base64 decode](https://infra.spec.whatwg.org/#forgiving-base64-decode)). Of base64 that is
+/// not valid the output has the bytes before the first fault. The text may be any bytes.
+#[unsafe(no_mangle)]
+pub extern "C" fn dataurl_base64(alloc: Global, text: &[u8], out: &mut [u8]) -> DataUrlAnswer
+    ensures { Answers (GivesBase64 text.now) out.old out.new result }
+{
+    answer(base64::base64(alloc, text), out)
+}

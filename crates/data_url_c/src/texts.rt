@@ -1,0 +1,142 @@
+//! What the calls take of texts: data: URLs and MIME types.
+
+ghost use Rattle.std.specs.Prelude.{◌+◌, ◌≡◌, IsUtf8, MatchOption, length};
+ghost use Rattle.std.specs.Fn.{CalledAt};
+ghost use Rattle.data_url.specs.DataUrl.{Decodes, url_body, url_tail};
+ghost use Rattle.data_url.specs.MimeType.{record_of};
+ghost use Rattle.data_url_c.specs.Gives.{GivesBody, GivesFragment, GivesMime, GivesType};
+ghost use Rattle.data_url_c.specs.Steps.{AnyAnswer, HasBody, HasFragment, HasText, IsUrlFor};
+
+use crate::refusal::Refusal;
+use data_url::forgiving_base64::DecodeError;
+use data_url::mime::{Mime, MimeFromStrError};
+use data_url::{DataUrl, DataUrlError};
+use std::alloc::{AllocError, Global};
+use std::convert::Infallible;
+
+/// The text of bytes, where they are UTF-8.
+fn text_of(bytes: &[u8]) -> Option<&str>
+    ensures { MatchOption result (IsUtf8 bytes.now → ⊥) (λ text. IsUtf8 bytes.now
+        × (text.now ≡ bytes.now)) }
+{
+    str::from_utf8(bytes).ok()
+}
+
+/// The URL of a text.
+fn url_of<'a>(alloc: Global, bytes: &'a [u8]) -> Result<DataUrl<'a>, Refusal>
+    ensures { IsUrlFor bytes.entry.now result }
+{
+    let Some(text) = text_of(bytes) else {
+        return Err(Refusal::NotUtf8);
+    };
+    match DataUrl::process(alloc, text) {
+        Ok(url) => Ok(url),
+        Err(DataUrlError::NotADataUrl) => Err(Refusal::NotADataUrl),
+        Err(DataUrlError::NoComma) => Err(Refusal::NoComma),
+        Err(DataUrlError::OutOfMemory) => Err(Refusal::OutOfMemory),
+    }
+}
+
+/// Hands the body of a URL to a closure, and the closure back. The fragment is let go.
+fn decode_body<F, E>(url: &DataUrl, answer: &mut Result<(), DecodeError<E>>, write: F) -> F
+where
+    F: FnMut(&[u8]) -> Result<(), E>,
+    E: Drop,
+    requires { F.IsAlwaysCallable write }
+    ensures { Decodes (CalledAt F.FnMut) write (length (url_tail url.now) + 1) (url_body url.now)
+        AnyAnswer answer.new result }
+{
+    let (answered, write) = url.decode_with(write);
+    *answer = match answered {
+        Ok(_) => Ok(()),
+        Err(error) => Err(error),
+    };
+    write
+}
+
+/// The body of a URL, or the fault of its base64 with the bytes before it.
+fn bytes_of(alloc: Global, url: &DataUrl) -> Result<Vec<u8>, Refusal>
+    ensures { HasBody (url_body url.now) result }
+{
+    let mut bytes = Vec::new(alloc);
+    let mut answer = Ok(());
+    decode_body(url, &mut answer, |piece: &[u8]| -> Result<(), AllocError> {
+        bytes.extend_from_slice(piece)
+    });
+    match answer {
+        Ok(()) => Ok(bytes),
+        Err(DecodeError::InvalidBase64(refusal)) => Err(Refusal::InvalidBase64(refusal, bytes)),
+        Err(DecodeError::WriteError(AllocError)) => Err(Refusal::OutOfMemory),
+    }
+}
+
+/// The printed text of a record.
+fn printed_of(alloc: Global, mime: &Mime) -> Result<Vec<u8>, Refusal>
+    ensures { HasText (record_of mime.now) result }
+{
+    match format!(in alloc; "{mime}") {
+        Ok(text) => Ok(text.into_bytes()),
+        Err(_) => Err(Refusal::OutOfMemory),
+    }
+}
+
+/// The encoded fragment of a URL, whose whole body is decoded first.
+fn encoded_fragment_of(alloc: Global, url: &DataUrl) -> Result<Vec<u8>, Refusal>
+    ensures { HasFragment url.now result }
+{
+    match url.decode(|_piece: &[u8]| -> Result<(), Infallible> { Ok(()) }) {
+        Ok(Some(fragment)) => match fragment.to_percent_encoded(alloc) {
+            Ok(text) => Ok(text.into_bytes()),
+            Err(AllocError) => Err(Refusal::OutOfMemory),
+        },
+        Ok(None) => Err(Refusal::NoFragment),
+        Err(DecodeError::InvalidBase64(refusal)) => {
+            Err(Refusal::InvalidBase64(refusal, Vec::new(alloc)))
+        }
+        Err(DecodeError::WriteError(never)) => match never {},
+    }
+}
+
+/// The body of the URL of a text.
+pub(crate) fn body(alloc: Global, url: &[u8]) -> Result<Vec<u8>, Refusal>
+    ensures { GivesBody url.now result }
+{
+    match url_of(alloc, url) {
+        Ok(url) => bytes_of(alloc, &url),
+        Err(refusal) => Err(refusal),
+    }
+}
+
+/// The printed MIME type of the URL of a text.
+pub(crate) fn mime(alloc: Global, url: &[u8]) -> Result<Vec<u8>, Refusal>
+    ensures { GivesMime url.now result }
+{
+    match url_of(alloc, url) {
+        Ok(url) => printed_of(alloc, url.mime_type()),
+        Err(refusal) => Err(refusal),
+    }
+}
+
+/// The encoded fragment of the URL of a text.
+pub(crate) fn fragment(alloc: Global, url: &[u8]) -> Result<Vec<u8>, Refusal>
+    ensures { GivesFragment url.now result }
+{
+    match url_of(alloc, url) {
+        Ok(url) => encoded_fragment_of(alloc, &url),
+        Err(refusal) => Err(refusal),
+    }
+}
+
+/// The printed text of a MIME type.
+pub(crate) fn type_(alloc: Global, text: &[u8]) -> Result<Vec<u8>, Refusal>
+    ensures { GivesType text.now result }
+{
+    let Some(text) = text_of(text) else {
+        return Err(Refusal::NotUtf8);
+    };
+    match Mime::from_str(alloc, text) {
+        Ok(mime) => printed_of(alloc, &mime),
+        Err(MimeFromStrError::Parsing(_)) => Err(Refusal::NotAMimeType),
+        Err(MimeFromStrError::OutOfMemory) => Err(Refusal::OutOfMemory),
+    }
+}
