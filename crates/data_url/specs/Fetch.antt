@@ -53,7 +53,8 @@ before_last n s = take (length s - n) s
 -- what stands before "base64" at the end, in any ASCII case
 abbrev pub before_word : List ℕ → Option (List ℕ)
 before_word s =
-    if bytes_eq (map to_ascii_lowercase (last_bytes 6 s)) (codes "base64") then Some (before_last 6 s)
+    if bytes_eq (map to_ascii_lowercase (last_bytes 6 s)) (codes "base64")
+    then Some (before_last 6 s)
     else None
 
 -- what stands before ';' at the end

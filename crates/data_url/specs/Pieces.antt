@@ -75,4 +75,5 @@ pub record Walk : Type 0 where
 
 -- a walk at the front of its text: the pieces join to the percent-decoded body (plain_body)
 abbrev pub walk_at_front : List ℕ → Walk
-walk_at_front text = record { text = text; place = 0; rest = plain_body text; ended = false; looks = 0 }
+walk_at_front text =
+    record { text = text; place = 0; rest = plain_body text; ended = false; looks = 0 }

@@ -65,7 +65,8 @@ is_lower_token c = is_token c && not (is_ascii_uppercase c)
 
 -- the word stays in lower case where it says so
 abbrev pub IsWord : Word → Type 0
-IsWord word = IsTrue word.is_lower → map to_ascii_lowercase (chars word.text.now) ≡ chars word.text.now
+IsWord word = IsTrue word.is_lower
+    → map to_ascii_lowercase (chars word.text.now) ≡ chars word.text.now
 
 -- the slices spell the item
 pub record IsItem (parameter : Parameter) (item : Item) : Type 0 where

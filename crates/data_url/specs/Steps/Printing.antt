@@ -18,11 +18,13 @@ pub record IsHeld (line : Line) : Type 0 where
 
 -- from f and a line to g and another, a text is added: a beginning of it is written, behind what
 -- was held, and the rest is held
-pub record HasAdded {W : Type 0} (took : W → List ℕ → W → Type 0) (f : Formatter W) (line : Line) (text : List ℕ) (g : Formatter W) (after : Line) : Type 0 where
+pub record HasAdded {W : Type 0} (took : W → List ℕ → W → Type 0) (f : Formatter W) (line : Line)
+    (text : List ℕ) (g : Formatter W) (after : Line) : Type 0 where
   pub written : List ℕ
   pub wrote : HasWrittenStyled took f written g
   pub joined : held line ++ text ≡ written ++ held after
 
 -- the same where the answer is `Ok`
-abbrev pub AddsOnOk : {W : Type 0} → (W → List ℕ → W → Type 0) → Formatter W → Line → Result (Unit {0}) Error → List ℕ → Formatter W → Line → Type 0
+abbrev pub AddsOnOk : {W : Type 0} → (W → List ℕ → W → Type 0) → Formatter W → Line
+    → Result (Unit {0}) Error → List ℕ → Formatter W → Line → Type 0
 AddsOnOk took f line r text g after = IsFlush f → IsOk r → HasAdded took f line text g after

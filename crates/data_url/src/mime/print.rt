@@ -86,7 +86,8 @@ fn write_each_escaped<W: fmt::Write>(f: &mut fmt::Formatter<W>, text: &str) -> f
 
 /// Writes a code point, with a `\` before a `"` or a `\`.
 fn write_escaped_char<W: fmt::Write>(f: &mut fmt::Formatter<W>, c: char) -> fmt::Result
-    ensures { WritesStyledOnOk W.write_str_gives f.old result (encode_utf8_all (escaped_code_point c)) f.new }
+    ensures { WritesStyledOnOk W.write_str_gives f.old result
+        (encode_utf8_all (escaped_code_point c)) f.new }
 {
     match c {
         '"' => f.write_str("\\\""),
