@@ -2,11 +2,12 @@
 use Rattle.std.proofs.Common.{◌≡◌, ℕ, suc, zero, ◌+◌, ◌-◌, ◌*◌, ◌%◌, ◌^◌, ◌<◌, ◌≤◌, Bool, true, false, not, ◌&&◌, cond, eqb, ltb, List, [], ◌∷◌, ◌++◌, map, length, get_or, take, drop, Fits, bit_or, refl, sym, ap, ap₂, ◌∙◌, subst, inl, inr, arith, append_assoc, length-append, length-take-le, length-drop, take-add, ltb-true, w8}
 use Rattle.std.specs.List.{list_all, prefix_len, range_with_len}
 use Rattle.std.proofs.lemmas.Bool.{agree_below_at, cases_eq, cases_lt, eq-eqb, le-ltb, lt-ltb, ne_eqb}
-use Rattle.std.proofs.lemmas.List.{get_or-append_right, get_or-drop, get_or-take, get_or_append_left, length-map, map-append, take_all}
+use Rattle.std.proofs.lemmas.List.{get_or-append_right, get_or-drop, get_or-take, get_or_append_left, length-map, map-append, take-take, take_all}
 use Rattle.std.proofs.lemmas.List.Folds.{list_all-append}
 use Rattle.std.proofs.lemmas.Nat.{and_le_l, and_le_r, or_lt}
 use Rattle.std.proofs.lemmas.Simd.{bitmask_splat, chunk-fits, leading_from_mask_l, length-zip2, map-map, mask_l-lt, pick_l_whole, trailing_mask_l}
 use Rattle.std.proofs.Math.Nat.{pow-succ'}
+use Rattle.std.proofs.Math.Seq.{take-append-add}
 use lib.Bits.{or_add_and}
 use lib.Count.{count_trailing_zeros}
 use lib.Lanes.{Each1, mask_l, pick_l, sel_l, top, zip2}
@@ -104,11 +105,11 @@ prefix_not_not : (p : ℕ → Bool) (xs : List ℕ) → prefix_len (λ x. not (n
 prefix_not_not p [] = refl
 prefix_not_not p (x ∷ xs) = ap₂ (λ t n. cond t (1 + n) 0) (not_not (p x)) (prefix_not_not p xs)
 
-pub none_ahead : (v : List ℕ) → length v ≡ 64 → others_mask v ≡ 0 → 64 ≡ prefix_len is_symbol v
+pub none_ahead : {n : ℕ} (v : List ℕ) → length v ≡ n → others_mask v ≡ 0 → n ≡ prefix_len is_symbol v
 none_ahead v long e = sym long ∙ sym (leading_from_mask_l is_other v e) ∙ prefix_not_not is_symbol v
 
-pub first_ahead : (v : List ℕ) → length v ≡ 64 → 0 < others_mask v → count_trailing_zeros 64 (others_mask v) ≡ prefix_len is_symbol v
-first_ahead v long h = trailing_mask_l is_other 64 v (omega arith) h ∙ prefix_not_not is_symbol v
+pub first_ahead : (v : List ℕ) → length v ≤ 64 → 0 < others_mask v → count_trailing_zeros 64 (others_mask v) ≡ prefix_len is_symbol v
+first_ahead v long h = trailing_mask_l is_other 64 v long h ∙ prefix_not_not is_symbol v
 
 -- No mark in four rows
 
@@ -288,6 +289,16 @@ values_of_rows text long =
 -- rows that were put one behind another
 pub put_three : (b1 b2 b3 x y z : List ℕ) → take 16 b1 ≡ x → take (16 + 16) b2 ≡ take 16 b1 ++ y → take (32 + 16) b3 ≡ take 32 b2 ++ z → length b3 ≡ 48 → b3 ≡ (x ++ y) ++ z
 put_three b1 b2 b3 x y z p q r long = sym (take_all 48 b3 (omega arith)) ∙ r ∙ ap (λ l. l ++ z) (q ∙ ap (λ l. l ++ y) p)
+
+-- a row of which the first twelve bytes count
+pub row_put : (at : ℕ) (old new row bytes : List ℕ) → at + 16 ≤ length old → take (at + 16) new ≡ take at old ++ row → take 12 row ≡ bytes → take (at + 12) new ≡ take at old ++ bytes
+row_put at old new row bytes room e is =
+    let size : at + 12 ≡ length (take at old) + 12 = omega (arith, length-take-le at old (omega arith)) in
+    sym (take-take (at + 12) (at + 16) new (omega arith))
+    ∙ ap (take (at + 12)) e
+    ∙ ap (λ n. take n (take at old ++ row)) size
+    ∙ take-append-add (take at old) row 12
+    ∙ ap (λ l. take at old ++ l) is
 
 pub decoded_block : (text a b c d r0 r1 r2 r3 bytes : List ℕ) → 64 ≤ length text → length a ≡ 16 → length b ≡ 16 → length c ≡ 16 → length d ≡ 16
     → r0 ≡ take 16 (drop 0 text) → r1 ≡ take 16 (drop 16 text) → r2 ≡ take 16 (drop 32 text) → r3 ≡ take 16 (drop 48 text)

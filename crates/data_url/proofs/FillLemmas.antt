@@ -2,13 +2,13 @@
 use Rattle.std.proofs.Common.{inl, inr, ◌≡◌, ℕ, suc, ◌+◌, ◌-◌, ◌*◌, ◌%◌, ◌<◌, ◌≤◌, Bool, true, false, ◌&&◌, ◌||◌, cond, List, [], ◌∷◌, ◌++◌, map, length, get_or, take, drop, replicate, Fits, w8, refl, sym, ap, ap₂, ◌∙◌, subst, arith, length-take, length-take-le, take-add}
 use Rattle.std.specs.List.{filter, list_all, prefix_len}
 use Rattle.std.proofs.lemmas.Bool.{and_parts, cases_lt, false≢true}
-use Rattle.std.proofs.lemmas.List.{drop-drop, get_or-append_right, get_or-drop, get_or-take, get_or_past, length-map, take-append-drop, take-append-le, take-map, take-take, take_at}
+use Rattle.std.proofs.lemmas.List.{append-nil, drop-drop, get_or-append_right, get_or-drop, get_or-take, get_or_past, length-map, take-append-drop, take-append-le, take-map, take-take, take_at}
 use Rattle.std.proofs.lemmas.List.Elements.{All-from_get_or}
 use Rattle.std.proofs.lemmas.List.Folds.{list_all-append}
 use Rattle.std.proofs.lemmas.List.Sums.{list_all-from_AllPass, prefix_len-le-length, prefix_len_passes}
 use Rattle.std.proofs.lemmas.Simd.{get_or-replicate}
 use Rattle.std.proofs.Math.Seq.{take-append-add}
-use Rattle.data_url.specs.Base64.{groups, is_symbol, symbol_value, values}
+use Rattle.data_url.specs.Base64.{group_bytes, group_number, groups, is_symbol, symbol_value, values}
 use Rattle.std.specs.Char.{is_ascii_whitespace}
 use Rattle.data_url.specs.Steps.Blocks.{AreGroups, Fills, is_symbol_or_space, without}
 use Rattle.data_url.specs.Steps.Lanes.{value_of}
@@ -66,21 +66,64 @@ fits_take n s fits i =
       | inr l ↦ subst (Fits w8) (sym (get_or_past (take n s) i 0 (omega (arith, length-take n s)))) (record { fits = omega arith })
     ]
 
-pub fill_symbols : (held block : List ℕ) (m : ℕ) → 64 ≤ length block → m ≤ 16 → ((i : ℕ) → Fits w8 (get_or block i 0)) → list_all is_symbol (take (4 * m) block) ≡ true
-    → Fills held block (4 * m) (held ++ take (3 * m) (groups (map value_of (take 64 block))))
-fill_symbols held block m long few fits all =
+-- the groups of the first symbols of n bytes
+pub fill_symbols : (held block : List ℕ) (n m : ℕ) → n ≤ length block → 4 * m ≤ n → ((i : ℕ) → Fits w8 (get_or block i 0)) → list_all is_symbol (take (4 * m) block) ≡ true
+    → Fills held block (4 * m) (held ++ take (3 * m) (groups (map value_of (take n block))))
+fill_symbols held block n m long few fits all =
     let text = take (4 * m) block in
     let size : length text ≡ 4 * m = length-take-le (4 * m) block (omega arith) in
     let is = values_symbols text all in
     record {
       within = omega arith;
-      more = take (3 * m) (groups (map value_of (take 64 block)));
+      more = take (3 * m) (groups (map value_of (take n block)));
       are = record {
         alone = symbols_alone text all;
         whole = omega (arith, ap length is, length-map text symbol_value, size);
         bytes_are =
-            take_groups m (map value_of (take 64 block)) (omega (arith, length-map (take 64 block) value_of, length-take-le 64 block long))
-            ∙ ap groups (take-map value_of (4 * m) (take 64 block) ∙ ap (map value_of) (take-take (4 * m) 64 block (omega arith)) ∙ symbols_values text (fits_take (4 * m) block fits) all ∙ sym is);
+            take_groups m (map value_of (take n block)) (omega (arith, length-map (take n block) value_of, length-take-le n block long))
+            ∙ ap groups (take-map value_of (4 * m) (take n block) ∙ ap (map value_of) (take-take (4 * m) n block few) ∙ symbols_values text (fits_take (4 * m) block fits) all ∙ sym is);
+      };
+      held_are = refl;
+    }
+
+-- so many groups of a row that was written behind others
+pub row_held : (old new bytes : List ℕ) (g c : ℕ) → take (3 * g + 12) new ≡ take (3 * g) old ++ bytes → 3 * g ≤ length old → c ≤ 4 → take (3 * (g + c)) new ≡ take (3 * g) old ++ take (3 * c) bytes
+row_held old new bytes g c e within few =
+    let size : 3 * (g + c) ≡ length (take (3 * g) old) + 3 * c = omega (arith, length-take-le (3 * g) old within) in
+    sym (take-take (3 * (g + c)) (3 * g + 12) new (omega arith))
+    ∙ ap (take (3 * (g + c))) e
+    ∙ ap (λ n. take n (take (3 * g) old ++ bytes)) size
+    ∙ take-append-add (take (3 * g) old) bytes (3 * c)
+
+-- no group
+pub fill_none : (held text : List ℕ) → Fills held text 0 held
+unfolding groups values
+fill_none held text = record {
+  within = omega arith;
+  more = [];
+  are = record { alone = refl; whole = refl; bytes_are = refl };
+  held_are = sym (append-nil held);
+}
+
+-- one group
+pub fill_one : (held text bytes : List ℕ) → 4 ≤ length text → list_all is_symbol (take 4 text) ≡ true
+    → bytes ≡ group_bytes (group_number (symbol_value (get_or text 0 0)) (symbol_value (get_or text 1 0)) (symbol_value (get_or text 2 0)) (symbol_value (get_or text 3 0)))
+    → Fills held text 4 (held ++ take 3 bytes)
+unfolding groups
+fill_one held [] bytes h all e = absurd (omega arith)
+fill_one held (p ∷ []) bytes h all e = absurd (omega arith)
+fill_one held (p ∷ q ∷ []) bytes h all e = absurd (omega arith)
+fill_one held (p ∷ q ∷ r ∷ []) bytes h all e = absurd (omega arith)
+fill_one held (p ∷ q ∷ r ∷ s ∷ rest) bytes h all e =
+    let text : List ℕ = p ∷ q ∷ r ∷ s ∷ [] in
+    let is = values_symbols text all in
+    record {
+      within = h;
+      more = take 3 bytes;
+      are = record {
+        alone = symbols_alone text all;
+        whole = ap (λ l. length l % 4) is;
+        bytes_are = ap (take 3) e ∙ sym (ap groups is);
       };
       held_are = refl;
     }
@@ -94,6 +137,11 @@ ahead_all s =
     let l : k < n = omega (arith, length-take n s) in
     subst (λ x. is_symbol x ≡ true) (sym (get_or-take n s k 0 l)) (prefix_len_passes is_symbol s k 0 l)))
 
+pub row_ahead : (row : List ℕ) (n : ℕ) → n ≡ prefix_len is_symbol (take 16 row) → (n ≤ 16) × (list_all is_symbol (take n row) ≡ true)
+row_ahead row n e =
+    let l : n ≤ 16 = omega (arith, e, prefix_len-le-length is_symbol (take 16 row), length-take 16 row) in
+    (l, ap (list_all is_symbol) (sym (take-take n 16 row l)) ∙ ap (λ k. list_all is_symbol (take k (take 16 row))) e ∙ ahead_all (take 16 row))
+
 pub block_ahead : (block : List ℕ) (n : ℕ) → n ≡ prefix_len is_symbol (take 64 block) → (n ≤ 64) × (list_all is_symbol (take n block) ≡ true)
 block_ahead block n e =
     let l : n ≤ 64 = omega (arith, e, prefix_len-le-length is_symbol (take 64 block), length-take 64 block) in
@@ -105,29 +153,6 @@ all_before block m n h all =
     let back : m + (n - m) ≡ n = omega arith in
     (and_parts (list_all is_symbol (take m block)) (list_all is_symbol rest)
     (sym (list_all-append is_symbol (take m block) rest) ∙ ap (list_all is_symbol) (sym (take-add m (n - m) block) ∙ ap (λ k. take k block) back) ∙ all)).0
-
--- The end of a text
-
-pub zero_behind : (text : List ℕ) (n : ℕ) → length text ≡ n → n < 64 → get_or (text ++ drop n (replicate 64 0)) n 0 ≡ 0
-zero_behind text n e l = get_or-append_right text (drop n (replicate 64 0)) n n 0 e (omega arith) ∙ get_or-drop n (replicate 64 0) (n - n) 0 ∙ get_or-replicate 64 (n + (n - n)) 0 0 (omega arith)
-
--- no symbol ahead is behind a zero
-pub ahead_of_zero : (text block : List ℕ) (n : ℕ) → length text < 64 → take (length text) block ≡ text → get_or block (length text) 0 ≡ 0 → n ≡ prefix_len is_symbol (take 64 block) → n ≤ length text
-ahead_of_zero text block n l front none e =
-    elim (cases_lt (length text) n) [
-      | inl far ↦
-          let here : is_symbol (get_or (take 64 block) (length text) 0) ≡ true = prefix_len_passes is_symbol (take 64 block) (length text) 0 (omega (arith, e)) in
-          absurd (false≢true (ap is_symbol (sym (get_or-take 64 block (length text) 0 l ∙ none)) ∙ here))
-      | inr near ↦ near
-    ]
-
-pub fill_last : (held text block held' : List ℕ) (n taken : ℕ) → length text < 64 → take (length text) block ≡ text → get_or block (length text) 0 ≡ 0 → n ≡ prefix_len is_symbol (take 64 block)
-    → taken ≤ n → Fills held block taken held' → Fills held text taken held'
-fill_last held text block held' n taken l front none e few f =
-    let near : taken ≤ length text = omega (arith, ahead_of_zero text block n l front none e) in
-    let same : take taken block ≡ take taken text = sym (take-take taken (length text) block near) ∙ ap (take taken) front in
-    let A : List ℕ → Type 0 = λ t. AreGroups t f.more in
-    record { within = near; more = f.more; are = subst A same f.are; held_are = f.held_are }
 
 -- A gap of white space
 

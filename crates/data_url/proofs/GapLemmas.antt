@@ -39,7 +39,7 @@ pub whole_gap : (text : List ℕ) (others s gap : ℕ) → 66 ≤ length text �
 whole_gap text others s gap long few mask some ctz behind guard =
     let block = take 64 text in
     let size : length block ≡ 64 = length-take-le 64 text (omega arith) in
-    let prefix : s ≡ prefix_len is_symbol block = ctz ∙ ap (count_trailing_zeros 64) mask ∙ first_ahead block size (positive (others_mask block) (λ e. some (mask ∙ e))) in
+    let prefix : s ≡ prefix_len is_symbol block = ctz ∙ ap (count_trailing_zeros 64) mask ∙ first_ahead block (omega (arith, size)) (positive (others_mask block) (λ e. some (mask ∙ e))) in
     let early : s ≤ 64 = omega (arith, prefix, prefix_len-le-length is_symbol block, size) in
     let front = take s text in
     let back = drop (s + gap) text in

@@ -227,7 +227,7 @@ whole_fills {bytes} block fits long all is =
     let made = groups (map value_of (take 64 block)) in
     let short : length made ≤ 48 = omega (arith, groups_length (map value_of (take 64 block)), length-map (take 64 block) value_of, length-take 64 block) in
     let P : List ℕ → Type 0 = λ l. Fills [] block 64 l in
-    subst P (take_all 48 made short ∙ sym is) (fill_symbols [] block 16 long (omega arith) fits (sym all))
+    subst P (take_all 48 made short ∙ sym is) (fill_symbols [] block 64 16 long (omega arith) fits (sym all))
 
 -- the bytes of a text without a gap
 fits_without : (text : List ℕ) (place gap : ℕ) → ((i : ℕ) → Fits w8 (get_or text i 0)) → (i : ℕ) → Fits w8 (get_or (without place gap text) i 0)

@@ -67,6 +67,20 @@ pub(crate) fn symbols_ahead(text: &[u8]) -> usize
     }
 }
 
+/// How many of the first 16 bytes stand before the first of them that is no symbol.
+#[inline(always)]
+pub(crate) fn symbols_in_row(text: &[u8]) -> usize
+    requires { 16 ≤ length text.now }
+    ensures { result ≡ prefix_len is_symbol (take 16 text.now) }
+{
+    let all = others(row(text, 0));
+    if all == 0 {
+        16
+    } else {
+        all.trailing_zeros() as usize
+    }
+}
+
 /// Writes a row at a place.
 #[inline(always)]
 fn put(bytes: &mut [u8], at: usize, row: u8x16)
@@ -74,6 +88,17 @@ fn put(bytes: &mut [u8], at: usize, row: u8x16)
     ensures { take (at + 16) bytes.new ≡ take at bytes.old ++ row }
 {
     row.copy_to_slice(&mut bytes[at..]);
+}
+
+/// Writes the bytes of the four groups of the first 16 bytes, which count as symbols, at a place, and four bytes more.
+#[inline(always)]
+pub(crate) fn put_row(bytes: &mut [u8], at: usize, text: &[u8])
+    requires room { at + 16 ≤ length bytes.old }
+    requires row { 16 ≤ length text.now }
+    ensures { take (at + 12) bytes.new
+        ≡ take at bytes.old ++ groups (map value_of (take 16 text.now)) }
+{
+    put(bytes, at, decode_row(row(text, 0)));
 }
 
 /// The bytes of the sixteen groups of the first 64 bytes, which count as symbols.

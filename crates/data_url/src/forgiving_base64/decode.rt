@@ -10,8 +10,8 @@ use super::blocks::{block_without, decode, is_whole, others_ahead};
 use super::held::{Held, ROOM, gap_at};
 use super::{DecodeError, InvalidBase64, InvalidBase64Details};
 
-/// The shortest text that is looked at as a block.
-const SHORTEST: usize = 8;
+/// How many symbols a group has.
+const GROUP: usize = 4;
 
 /// A decoder of base64
 /// ([Infra Standard, forgiving-base64 decode](https://infra.spec.whatwg.org/#forgiving-base64-decode)) that takes its
@@ -171,14 +171,15 @@ where
     /// and answers how many bytes of the text they take.
     #[inline(always)]
     fn take_groups(&self, text: &[u8], held: &mut Held) -> usize
-        requires { (state_of self.now).failed ≡ false }
+        requires room { held.old.groups < 16 }
+        requires going { (state_of self.now).failed ≡ false }
         ensures none { result ≡ 0
             → (held_bytes held.new ≡ held_bytes held.old) × (held.new.groups ≡ held.old.groups) }
         ensures some { 0 < result
             → Gains (state_of self.now) (held_bytes held.old) text.now result
             (state_of self.now) (held_bytes held.new) }
     {
-        if self.pending == 0 && self.padding == 0 && text.len() >= SHORTEST && is_symbol(text[0]) {
+        if self.pending == 0 && self.padding == 0 && text.len() >= GROUP && is_symbol(text[0]) {
             held.fill(text)
         } else {
             0

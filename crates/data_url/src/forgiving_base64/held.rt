@@ -6,10 +6,16 @@ ghost use Rattle.data_url.specs.Base64.{is_symbol};
 ghost use Rattle.std.specs.Char.{is_ascii_whitespace};
 ghost use Rattle.data_url.specs.Steps.Blocks.{Fills};
 
-use super::blocks::{block_without, decode, is_whole, symbols_ahead};
+use super::alphabet::{group_of, is_symbol};
+use super::blocks::{
+    block_without, decode, is_whole, put_row, symbols_ahead, symbols_in_row,
+};
 
 /// How many groups there is room for, which a block of 64 symbols has.
 pub(crate) const ROOM: usize = 16;
+
+/// With how many groups there is still room for the sixteen bytes that a row is written as.
+const ROOM_FOR_ROW: usize = 10;
 
 /// The bytes of up to sixteen groups.
 #[derive(Drop)]
@@ -111,21 +117,53 @@ impl Held {
         if taken <= symbols { taken } else { taken + gap }
     }
 
-    /// Adds groups of a text that is shorter than a block.
+    /// Adds the groups of the symbols that a row of sixteen bytes begins with, and answers how many bytes they take.
     #[inline(always)]
-    fn fill_last(&mut self, text: &[u8]) -> usize
-        requires { length text.now < 64 }
+    fn fill_row(&mut self, text: &[u8]) -> usize
+        requires row { 16 ≤ length text.now }
+        requires room { self.old.groups ≤ 10 }
         ensures none { result ≡ 0 → self.new.groups ≡ self.old.groups }
         ensures fills { Fills (held_bytes self.old) text.now result (held_bytes self.new) }
     {
-        let block = padded(text);
-        self.fill_block(&block, symbols_ahead(&block))
+        let count = symbols_in_row(text) / 4;
+        put_row(&mut self.bytes, 3 * self.groups, text);
+        self.groups += count;
+        4 * count
+    }
+
+    /// Adds the group that a text begins with, if it begins with one.
+    #[inline(always)]
+    fn fill_group(&mut self, text: &[u8]) -> usize
+        requires room { self.old.groups < 16 }
+        ensures none { result ≡ 0 → self.new.groups ≡ self.old.groups }
+        ensures fills { Fills (held_bytes self.old) text.now result (held_bytes self.new) }
+    {
+        if text.len() < 4 || !begins_with_group(text) {
+            return 0;
+        }
+        self.append(&group_of(text[0], text[1], text[2], text[3]), 1);
+        4
+    }
+
+    /// Adds groups of a text that is shorter than a block.
+    #[inline(always)]
+    fn fill_last(&mut self, text: &[u8]) -> usize
+        requires room { self.old.groups < 16 }
+        ensures none { result ≡ 0 → self.new.groups ≡ self.old.groups }
+        ensures fills { Fills (held_bytes self.old) text.now result (held_bytes self.new) }
+    {
+        if text.len() >= 16 && self.groups <= ROOM_FOR_ROW {
+            self.fill_row(text)
+        } else {
+            self.fill_group(text)
+        }
     }
 
     /// Adds whole groups that the text begins with, up to the room that is left, and answers how many bytes they take. A
     /// gap of one or two bytes of white space, as a line break is, may stand in them.
     #[inline(always)]
     pub(crate) fn fill(&mut self, text: &[u8]) -> usize
+        requires room { self.old.groups < 16 }
         ensures none { result ≡ 0 → self.new.groups ≡ self.old.groups }
         ensures fills { Fills (held_bytes self.old) text.now result (held_bytes self.new) }
     {
@@ -164,14 +202,11 @@ pub(crate) fn gap_at(text: &[u8], place: usize) -> usize
     }
 }
 
-/// A text that is shorter than a block, with zeros behind it, which are no symbols.
+/// Whether the first four bytes are symbols.
 #[inline(always)]
-fn padded(text: &[u8]) -> [u8; 64]
-    requires { length text.now < 64 }
-    ensures text { take (length text.now) result ≡ text.now }
-    ensures zero { slice_index result (length text.now) ≡ 0 }
+fn begins_with_group(text: &[u8]) -> bool
+    requires { 4 ≤ length text.now }
+    ensures { result ≡ list_all is_symbol (take 4 text.now) }
 {
-    let mut block = [0; 64];
-    block[..text.len()].copy_from_slice(text);
-    block
+    is_symbol(text[0]) && is_symbol(text[1]) && is_symbol(text[2]) && is_symbol(text[3])
 }

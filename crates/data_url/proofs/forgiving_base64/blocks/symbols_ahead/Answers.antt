@@ -12,4 +12,4 @@ pub returns-else-all-eq0 : goal.returns-else-all-eq0
 returns-else-all-eq0 c =
     let text = c.args.text.now in
     let some : 0 < others_mask (take 64 text) = omega (arith, c.others_ahead-all.ensures, c.if-all-eq0.false) in
-    ap (count_trailing_zeros 64) c.others_ahead-all.ensures ∙ first_ahead (take 64 text) (length-take-le 64 text c.requires) some
+    ap (count_trailing_zeros 64) c.others_ahead-all.ensures ∙ first_ahead (take 64 text) (omega (arith, length-take-le 64 text c.requires)) some

@@ -15,4 +15,4 @@ returns-clause-fills c =
     let all : list_all is_symbol (take (4 * m) block) ≡ true = all_before block (4 * m) c.args.symbols few c.requires.symbols.1 in
     let P : List ℕ → Type 0 = λ l. Fills held block (4 * m) l in
     let e = c.append.ensures.bytes ∙ ap (λ l. held ++ take (3 * m) l) c.decode.ensures in
-    subst P (sym e) (fill_symbols held block m c.requires.block (omega arith) c.type_inv.block all)
+    subst P (sym e) (fill_symbols held block 64 m c.requires.block (omega arith) c.type_inv.block all)

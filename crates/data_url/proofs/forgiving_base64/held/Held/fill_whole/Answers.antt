@@ -11,4 +11,4 @@ returns c =
     let P : List ℕ → Type 0 = λ l. Fills l block 64 (l ++ take 48 c.decode-self.result) in
     let Q : List ℕ → Type 0 = λ l. Fills [] block 64 (take 48 l) in
     let R : List ℕ → Type 0 = λ l. Fills l block 64 (take 48 c.decode-self.result) in
-    subst R (sym none) (subst Q (sym c.decode-self.ensures) (fill_symbols [] block 16 c.requires.block (omega arith) c.type_inv.block c.requires.symbols))
+    subst R (sym none) (subst Q (sym c.decode-self.ensures) (fill_symbols [] block 64 16 c.requires.block (omega arith) c.type_inv.block c.requires.symbols))
