@@ -9,6 +9,7 @@ use Rattle.data_url.specs.Percent.{is_escape, percent_decoding}
 use Rattle.data_url.specs.Run.{joined_pieces, refusal}
 use Rattle.data_url.specs.Fetch.{Bad, Good, Outcome, outcome, outcome_bytes, plain_body}
 use Rattle.data_url.specs.Pieces.{Walk, walk_at_front}
+use Rattle.data_url.specs.Steps.Chunks.{IsAtFront}
 use Rattle.data_url.specs.Steps.Tail.{IsBodyEnd, IsSlice}
 use Rattle.data_url.specs.DataUrl.{Answers, Decodes, HandsOut}
 use Rattle.data_url.specs.Decoder.{Feeds, Finishes, IsAll, State, start}
@@ -104,9 +105,9 @@ module _ {F E : Type 0} (step : F → List ℕ → Result (Unit {0}) E → F →
     pub few : length read ≤ w.place
     pub within : w.place ≤ length text
 
-  pub fed_none : (d d' : State F) (text : List ℕ) → Feeds step d [] (Ok tt) d' → Fed d text (walk_at_front text) d'
+  pub fed_none : (d d' : State F) (text : List ℕ) {w : Walk} → IsAtFront text w → Feeds step d [] (Ok tt) d' → Fed d text w d'
   unfolding without_whitespace
-  fed_none d d' text h = record { read = []; fed = h; text_is = refl; body = refl; few = omega arith; within = omega arith }
+  fed_none d d' text front h = record { read = []; fed = h; text_is = front.text_is; body = ap without_whitespace (sym front.rest_is); few = omega arith; within = omega (arith, front.place_is) }
 
   fed_bytes : {d d1 : State F} {text bytes : List ℕ} {w w' : Walk} (h : Fed d text w d1) → TakesSpaced w bytes w' → without_whitespace (plain_body text) ≡ without_whitespace (h.read ++ bytes) ++ without_whitespace w'.rest
   fed_bytes {bytes = bytes} {w' = w'} h t =

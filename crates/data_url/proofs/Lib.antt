@@ -19,6 +19,7 @@ pub mod FillLemmas
 pub mod FlagLemmas
 pub mod FragmentAgainLemmas
 pub mod FreeLemmas
+pub mod FrontLemmas
 pub mod GapLemmas
 pub mod GatherLemmas
 pub mod HeadLemmas

@@ -2,11 +2,12 @@
 
 ghost use Rattle.std.specs.Prelude.{◌+◌, length, true};
 ghost use Rattle.std.specs.Fn.{CalledAt};
+ghost use Rattle.data_url.specs.Steps.Chunks.{IsAtFront};
 ghost use Rattle.data_url.specs.Steps.Tail.{IsBodyEnd, IsSlice};
 ghost use Rattle.data_url.specs.Fetch.{Good, outcome, plain_body};
 ghost use Rattle.data_url.specs.DataUrl.{Decodes};
 
-use crate::escapes::{Chunk, Pieces, ROOM, is_slice};
+use crate::escapes::{Chunk, Pieces, ROOM};
 use crate::forgiving_base64::{DecodeError, Decoder, decode_whole};
 
 /// Hands the body of a tail to a closure, and answers the place in the tail where the body ends.
@@ -17,10 +18,11 @@ where
     ensures { Decodes (CalledAt F.FnMut) write (length tail.now) (Good (plain_body tail.now))
         (IsBodyEnd tail.now) result.0 result.1 }
 {
-    if is_slice(tail) {
+    let front = Pieces::looking(tail);
+    if front.is_slice() {
         decode_plain_slice(tail, write)
     } else {
-        decode_plain_pieces(tail, write)
+        decode_plain_pieces(front, write)
     }
 }
 
@@ -40,14 +42,15 @@ where
 }
 
 /// The same, piece by piece.
-fn decode_plain_pieces<F, E>(tail: &str, mut write: F) -> (Result<usize, DecodeError<E>>, F)
+fn decode_plain_pieces<F, E>(front: Pieces<'_>, mut write: F) -> (Result<usize, DecodeError<E>>, F)
 where
     F: FnMut(&[u8]) -> Result<(), E>,
-    requires { F.IsAlwaysCallable write }
-    ensures { Decodes (CalledAt F.FnMut) write (length tail.now) (Good (plain_body tail.now))
-        (IsBodyEnd tail.now) result.0 result.1 }
+    requires callable { F.IsAlwaysCallable write }
+    requires front { IsAtFront front.text front }
+    ensures { Decodes (CalledAt F.FnMut) write (length front.entry.text)
+        (Good (plain_body front.entry.text)) (IsBodyEnd front.entry.text) result.0 result.1 }
 {
-    let mut pieces = Pieces::new(tail);
+    let mut pieces = front;
     let mut room = [0; ROOM];
     loop {
         let (walk, chunk) = pieces.next_chunk(&mut room);
@@ -72,10 +75,11 @@ where
     ensures { Decodes (CalledAt F.FnMut) write (length tail.now + 1)
         (outcome true (plain_body tail.now)) (IsBodyEnd tail.now) result.0 result.1 }
 {
-    if is_slice(tail) {
+    let front = Pieces::looking(tail);
+    if front.is_slice() {
         decode_base64_slice(tail, write)
     } else {
-        decode_base64_pieces(tail, write)
+        decode_base64_pieces(front, write)
     }
 }
 
@@ -96,15 +100,16 @@ where
 }
 
 /// The same, piece by piece.
-fn decode_base64_pieces<F, E>(tail: &str, write: F) -> (Result<usize, DecodeError<E>>, F)
+fn decode_base64_pieces<F, E>(front: Pieces<'_>, write: F) -> (Result<usize, DecodeError<E>>, F)
 where
     F: FnMut(&[u8]) -> Result<(), E>,
-    requires { F.IsAlwaysCallable write }
-    ensures { Decodes (CalledAt F.FnMut) write (length tail.now + 1)
-        (outcome true (plain_body tail.now)) (IsBodyEnd tail.now) result.0 result.1 }
+    requires callable { F.IsAlwaysCallable write }
+    requires front { IsAtFront front.text front }
+    ensures { Decodes (CalledAt F.FnMut) write (length front.entry.text + 1)
+        (outcome true (plain_body front.entry.text)) (IsBodyEnd front.entry.text) result.0 result.1 }
 {
     let mut decoder = Decoder::new(write);
-    let mut pieces = Pieces::new(tail);
+    let mut pieces = front;
     let mut room = [0; ROOM];
     'chunks: loop {
         let (walk, chunk) = pieces.next_base64_chunk(&mut room);

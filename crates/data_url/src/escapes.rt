@@ -1,11 +1,11 @@
 //! The body of a data: URL as it was given, in pieces: stretches of the text, and the values of escapes (URL Standard,
 //! section 1.3, percent-decode). The module takes no memory.
 
-ghost use Rattle.std.specs.Prelude.{◌≡◌, ◌+◌, ◌*◌, ◌≤◌, ◌++◌, [], IfNone, IfSome, IsTrue, None, length};
+ghost use Rattle.std.specs.Prelude.{◌≡◌, ◌+◌, ◌*◌, ◌≤◌, ◌++◌, [], IfNone, IfSome, IsTrue, None, false, length};
 ghost use Rattle.std.specs.Option.{option_map};
 ghost use Rattle.data_url.specs.Pieces.{IsPiece, walk_at_front, bytes_of_next};
 ghost use Rattle.data_url.specs.Url.{behind};
-ghost use Rattle.data_url.specs.Steps.Chunks.{IsBase64Chunk, IsChunk};
+ghost use Rattle.data_url.specs.Steps.Chunks.{IsAtFront, IsBase64Chunk, IsChunk};
 ghost use Rattle.data_url.specs.Steps.Tail.{IsBodyEnd, IsSlice};
 
 mod cursor;
@@ -16,7 +16,6 @@ mod source;
 
 use cursor::Cursor;
 pub(crate) use cursor::ROOM;
-use source::is_short_and_clear;
 use std::marker::Model;
 
 /// A piece of a body.
@@ -60,13 +59,6 @@ pub(crate) enum Chunk<'a> {
     End,
 }
 
-/// Whether a text is known to be one slice, which is found at once where it is short.
-pub(crate) fn is_slice(text: &str) -> bool
-    ensures { IsTrue result → IsSlice text.now }
-{
-    is_short_and_clear(text.as_bytes())
-}
-
 impl<'a> Pieces<'a> {
     /// The pieces of a text, from its front on. The text is what stands behind the comma of a data: URL.
     pub fn new(text: &'a str) -> Self
@@ -75,6 +67,23 @@ impl<'a> Pieces<'a> {
         Pieces {
             cursor: Cursor::new(text),
         }
+    }
+
+    /// The same. A text of less than a block is looked at at once.
+    pub(crate) fn looking(text: &'a str) -> Self
+        ensures { IsAtFront text.entry.now result }
+    {
+        Pieces {
+            cursor: Cursor::looking(text),
+        }
+    }
+
+    /// Whether the text is known to be one slice.
+    pub(crate) fn is_slice(&self) -> bool
+        requires { self.now.ended ≡ false }
+        ensures { IsTrue result → IsSlice self.now.text }
+    {
+        self.cursor.is_unmarked()
     }
 
     /// The next piece of the body, or None where it has ended, and from then on. The pieces until None join to the text

@@ -1,10 +1,17 @@
 -- The bytes that a walk hands to the one who decodes a body.
-use Rattle.std.specs.Prelude.{[], ◌++◌, ◌+◌, ◌<◌, ◌≡◌, ◌≤◌, List, drop, length, take, true, ℕ}
+use Rattle.std.specs.Prelude.{[], ◌++◌, ◌+◌, ◌<◌, ◌≡◌, ◌≤◌, List, drop, false, length, take, true, ℕ}
 use Rattle.data_url.specs.Base64.{without_whitespace}
 use Rattle.data_url.specs.Fetch.{plain_body}
 use Rattle.data_url.specs.Pieces.{Walk}
 use Rattle.data_url.specs.declared.escapes.Chunk.TheVariants.{End, Gathered, Slice}
 use Rattle.data_url.specs.declared.escapes.Chunk.{Chunk}
+
+-- a walk at the front of a text, of which some may have been looked at
+pub record IsAtFront (text : List ℕ) (w : Walk) : Type 0 where
+  pub text_is : w.text ≡ text
+  pub place_is : w.place ≡ 0
+  pub rest_is : w.rest ≡ plain_body text
+  pub going : w.ended ≡ false
 
 -- the bytes of a chunk, where so many may stand in a room
 abbrev pub chunk_bytes : List ℕ → Chunk → List ℕ

@@ -4,7 +4,7 @@ ghost use Rattle.std.specs.Prelude.{ℕ, ◌≡◌, ◌+◌, ◌-◌, ◌^◌, �
 ghost use Rattle.std.specs.Option.{option_map};
 ghost use Rattle.data_url.specs.Pieces.{IsPiece, IsStretch, bytes_of};
 ghost use Rattle.data_url.specs.Url.{behind};
-ghost use Rattle.data_url.specs.Steps.Walk.{Ended, EscapeAt, Gathers, GoesOn, HasRoom, IsGathered, IsNear, IsNextMark, IsPlain, IsStop, IsFreeTo, IsWide, KeepsBlock, Knows, KnowsAhead, Looking, LooksOn, MayGather, Moves, Spans, Stays, has_ended, text_of};
+ghost use Rattle.data_url.specs.Steps.Walk.{Ended, EscapeAt, Gathers, GoesOn, HasRoom, IsClear, IsGathered, IsNear, IsNextMark, IsPlain, IsStop, IsFreeTo, IsWide, KeepsBlock, Knows, KnowsAhead, Looking, LooksOn, MayGather, Moves, Spans, Stays, has_ended, text_of};
 ghost use Rattle.data_url.specs.Steps.Window.{is_marked};
 
 use super::Piece;
@@ -60,7 +60,8 @@ impl<'a> Cursor<'a> {
         ensures text { text_of result ≡ text.entry.now }
         ensures place { result.place ≡ 0 }
         ensures looks { result.source.looks ≡ 0 }
-        ensures ended { has_ended result.ahead ≡ false }
+        ensures unseen { result.seen ≡ 0 }
+        ensures unknown { result.ahead ≡ Ahead.Unknown }
         ensures knows { Knows result }
     {
         Cursor {
@@ -100,6 +101,33 @@ impl<'a> Cursor<'a> {
         if place >= self.seen {
             self.look_on(place);
         }
+    }
+
+    /// A walk that begins at the front of a text. A text of less than a block is looked at at once.
+    pub(super) fn looking(text: &'a str) -> Self
+        ensures text { text_of result ≡ text.entry.now }
+        ensures place { result.place ≡ 0 }
+        ensures ended { has_ended result.ahead ≡ false }
+        ensures knows { Knows result }
+    {
+        let mut cursor = Cursor::new(text);
+        if text.len() < BLOCK {
+            cursor.look_on(0);
+        }
+        cursor
+    }
+
+    /// Whether the block that was looked at last is the whole text, and has bytes and no mark.
+    pub(super) fn is_unmarked(&self) -> bool
+        requires knows { Knows self.now }
+        requires going { has_ended self.now.ahead ≡ false }
+        ensures { IsTrue result → (0 < length (text_of self.now))
+            × IsClear (text_of self.now) 0 (length (text_of self.now)) }
+    {
+        if self.base > 0 || self.seen < self.source.len() {
+            return false;
+        }
+        self.marks == 0 && self.seen > 0
     }
 
     /// The place of the first marked byte from a place on, or the end of the text.

@@ -191,14 +191,3 @@ fn last_marks(rest: &[u8]) -> u64
     block[..rest.len()].copy_from_slice(rest);
     marks_of(u8x64::from_array(block))
 }
-
-/// Whether there are fewer than 64 bytes, but some, and none of them is a tab, a newline, `#` or `%`.
-pub(super) fn is_short_and_clear(bytes: &[u8]) -> bool
-    ensures { IsTrue result
-        → (0 < length bytes.now) × IsClear bytes.now 0 (length bytes.now) }
-{
-    if bytes.is_empty() || bytes.len() >= BLOCK {
-        return false;
-    }
-    last_marks(bytes) == 0
-}

@@ -7,9 +7,7 @@ ghost use Rattle.std.specs.Char.{is_ascii_whitespace};
 ghost use Rattle.data_url.specs.Steps.Blocks.{Fills};
 
 use super::alphabet::{group_of, is_symbol};
-use super::blocks::{
-    block_without, decode, is_whole, put_row, symbols_ahead, symbols_in_row,
-};
+use super::blocks::{block_without, decode, is_whole, put_row, symbols_ahead, symbols_in_row};
 
 /// How many groups there is room for, which a block of 64 symbols has.
 pub(crate) const ROOM: usize = 16;

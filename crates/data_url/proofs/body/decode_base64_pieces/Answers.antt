@@ -11,8 +11,8 @@ use Rattle.data_url.proofs.body.decode_base64_pieces.Goals.{in-Slice, in-Gathere
 pub chunks-init : goal.chunks-init
 chunks-init g c =
     let step = CalledAt g.F.FnMut in
-    let fed = fed_none step (start c.args.write) (state_of c.new-decoder.result) c.args.tail.now (feeds_none step tt (omega arith) (omega arith) refl c.new-decoder.ensures.state) in
-    (c.new-decoder.ensures.callable, ap (λ d. d.failed) c.new-decoder.ensures.state, rw c.new-pieces.ensures fed)
+    let fed = fed_none step (start c.args.write) (state_of c.new-decoder.result) c.args.front.text c.requires.front (feeds_none step tt (omega arith) (omega arith) refl c.new-decoder.ensures.state) in
+    (c.new-decoder.ensures.callable, ap (λ d. d.failed) c.new-decoder.ensures.state, fed)
 
 pub chunks-preserved : goal.chunks-preserved
 chunks-preserved g c =
@@ -34,7 +34,7 @@ pub returns-in-Ok-answer : goal.returns-in-Ok-answer
 returns-in-Ok-answer g c =
     let over = spaced_over c.next_base64_chunk-walk.ensures c.in-End.is in
     let P : List ℕ → Type 0 = λ t. IsBodyEnd t c.end.result in
-    let end : IsBodyEnd c.args.tail.now c.end.result = subst P (over.2 ∙ c.chunks.invariant.2.text_is) c.end.ensures in
+    let end : IsBodyEnd c.args.front.text c.end.result = subst P (over.2 ∙ c.chunks.invariant.2.text_is) c.end.ensures in
     fed_ended (CalledAt g.F.FnMut) c.end.result refl c.chunks.invariant.2 over.0 (λ _. end) c.finish_with-answer.ensures.finished c.in-Ok-answer.is
 
 pub returns : goal.returns

@@ -9,7 +9,7 @@ abbrev pub invariant-chunks : goal.invariant-chunks
 invariant-chunks g l =
     always_mut g.F.FnMut (state_of l.decoder).closure
     × ((state_of l.decoder).failed ≡ false)
-    × Fed (CalledAt g.F.FnMut) (start l.fn.write) l.tail l.pieces (state_of l.decoder)
+    × Fed (CalledAt g.F.FnMut) (start l.fn.write) l.fn.front.text l.pieces (state_of l.decoder)
 
 abbrev pub decreases-chunks : goal.decreases-chunks
-decreases-chunks g l = length l.tail - l.pieces.place
+decreases-chunks g l = length l.fn.front.text - l.pieces.place

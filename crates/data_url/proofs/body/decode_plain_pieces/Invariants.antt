@@ -5,7 +5,7 @@ use Rattle.data_url.proofs.DecodeLemmas.{Going}
 use Rattle.data_url.proofs.body.decode_plain_pieces.Given as goal
 
 abbrev pub invariant-loop-pieces : goal.invariant-loop-pieces
-invariant-loop-pieces g l = always_mut g.F.FnMut l.write × Going (CalledAt g.F.FnMut) l.fn.write l.tail l.pieces l.write
+invariant-loop-pieces g l = always_mut g.F.FnMut l.write × Going (CalledAt g.F.FnMut) l.fn.write l.fn.front.text l.pieces l.write
 
 abbrev pub decreases-loop-pieces : goal.decreases-loop-pieces
-decreases-loop-pieces g l = length l.tail - l.pieces.place
+decreases-loop-pieces g l = length l.fn.front.text - l.pieces.place

@@ -1,4 +1,4 @@
-use Rattle.std.proofs.Common.{◌≡◌, ◌++◌, List, ℕ, ap, sym, subst, ◌∙◌, arith}
+use Rattle.std.proofs.Common.{List, ℕ, sym, subst, ◌∙◌, arith}
 use Rattle.data_url.specs.Steps.Blocks.{Fills}
 use Rattle.data_url.specs.Steps.HeldState.{held_bytes}
 use Rattle.data_url.proofs.FillLemmas.{fill_none, fill_one}

@@ -1,6 +1,4 @@
-use Rattle.std.proofs.Common.{◌≡◌, ◌+◌, ◌*◌, ◌/◌, ◌≤◌, ◌++◌, ℕ, List, take, ap, sym, ◌∙◌, subst, arith, true}
-use Rattle.std.specs.List.{list_all}
-use Rattle.data_url.specs.Base64.{is_symbol}
+use Rattle.std.proofs.Common.{◌*◌, ◌/◌, ℕ, List, sym, subst, arith}
 use Rattle.data_url.specs.Steps.Blocks.{Fills}
 use Rattle.data_url.specs.Steps.HeldState.{held_bytes}
 use Rattle.data_url.proofs.FillLemmas.{all_before, fill_symbols, row_ahead, row_held}
