@@ -71,6 +71,10 @@ spaced_gathered {w} {w'} {room} {piece} {chunk} len h e p =
     let long : length (take len room) ≡ len = length-take-le len room f.1 in
     subst T (sym p) (record { text_stays = k.text_stays; rest_is = k.bytes; rest_of = k.rest_is; place = k.place; within = k.within; some = omega (arith, f.0, long) })
 
+pub spaced_none : {s : List ℕ} → s ≡ [] → without_whitespace s ≡ []
+unfolding without_whitespace
+spaced_none e = ap without_whitespace e
+
 pub spaced_over : {w w' : Walk} {room : List ℕ} {chunk : Chunk} → IsBase64Chunk w room chunk w' → chunk ≡ End → (without_whitespace w.rest ≡ []) × (w'.ended ≡ true) × (w'.text ≡ w.text)
 unfolding without_whitespace
 spaced_over {w} {w'} {room} {chunk} h e =

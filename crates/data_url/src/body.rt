@@ -52,11 +52,11 @@ where
 {
     let mut pieces = front;
     let mut room = [0; ROOM];
-    loop {
+    'chunks: while !pieces.has_ended() {
         let (walk, chunk) = pieces.next_chunk(&mut room);
         pieces = walk;
         let piece = match chunk {
-            Chunk::End => return (Ok(pieces.end()), write),
+            Chunk::End => break 'chunks,
             Chunk::Slice(slice) => slice,
             Chunk::Gathered(len) => &room[..len],
         };
@@ -65,6 +65,7 @@ where
             Err(error) => return (Err(DecodeError::WriteError(error)), write),
         }
     }
+    (Ok(pieces.end()), write)
 }
 
 /// Hands the base64 body of a tail to a closure, and answers the place in the tail where the body ends.
@@ -111,7 +112,7 @@ where
     let mut decoder = Decoder::new(write);
     let mut pieces = front;
     let mut room = [0; ROOM];
-    'chunks: loop {
+    'chunks: while !pieces.has_ended() {
         let (walk, chunk) = pieces.next_base64_chunk(&mut room);
         pieces = walk;
         let piece = match chunk {

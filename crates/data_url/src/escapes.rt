@@ -145,6 +145,14 @@ impl<'a> Pieces<'a> {
         }
     }
 
+    /// Whether the walk is known to be at the end of the body.
+    pub(crate) fn has_ended(&self) -> bool
+        ensures ended { result ≡ self.now.ended }
+        ensures over { IsTrue result → self.now.rest ≡ [] }
+    {
+        self.cursor.has_ended()
+    }
+
     /// The place in the text where the body ends, of a walk that has ended.
     pub(crate) fn end(&self) -> usize
         requires { IsTrue self.now.ended }

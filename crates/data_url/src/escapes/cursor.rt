@@ -540,6 +540,13 @@ impl<'a> Cursor<'a> {
         len
     }
 
+    /// Whether the body is known to end at the place.
+    pub(super) fn has_ended(&self) -> bool
+        ensures { result ≡ has_ended self.now.ahead }
+    {
+        matches!(self.ahead, Ahead::End)
+    }
+
     /// The place.
     pub(super) fn place(&self) -> usize
         ensures { result ≡ self.now.place }

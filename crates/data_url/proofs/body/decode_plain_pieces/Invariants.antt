@@ -4,8 +4,8 @@ use Rattle.std.specs.Fn.{CalledAt, always_mut}
 use Rattle.data_url.proofs.DecodeLemmas.{Going}
 use Rattle.data_url.proofs.body.decode_plain_pieces.Given as goal
 
-abbrev pub invariant-loop-pieces : goal.invariant-loop-pieces
-invariant-loop-pieces g l = always_mut g.F.FnMut l.write × Going (CalledAt g.F.FnMut) l.fn.write l.fn.front.text l.pieces l.write
+abbrev pub invariant-chunks : goal.invariant-chunks
+invariant-chunks g l = always_mut g.F.FnMut l.write × Going (CalledAt g.F.FnMut) l.fn.write l.fn.front.text l.pieces l.write
 
-abbrev pub decreases-loop-pieces : goal.decreases-loop-pieces
-decreases-loop-pieces g l = length l.fn.front.text - l.pieces.place
+abbrev pub decreases-chunks : goal.decreases-chunks
+decreases-chunks g l = length l.fn.front.text - l.pieces.place
