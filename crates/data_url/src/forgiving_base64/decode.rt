@@ -10,8 +10,11 @@ use super::blocks::{block_without, decode, is_whole, others_ahead};
 use super::held::{Held, ROOM, gap_at};
 use super::{DecodeError, InvalidBase64, InvalidBase64Details};
 
-/// How many symbols a group has.
-const GROUP: usize = 4;
+/// Whether a text may begin with a group, by its first and fourth byte.
+#[inline(always)]
+fn may_begin_with_group(text: &[u8]) -> bool {
+    text.len() >= 4 && is_symbol(text[0]) && is_symbol(text[3])
+}
 
 /// A decoder of base64
 /// ([Infra Standard, forgiving-base64 decode](https://infra.spec.whatwg.org/#forgiving-base64-decode)) that takes its
@@ -179,7 +182,7 @@ where
             → Gains (state_of self.now) (held_bytes held.old) text.now result
             (state_of self.now) (held_bytes held.new) }
     {
-        if self.pending == 0 && self.padding == 0 && text.len() >= GROUP && is_symbol(text[0]) {
+        if self.pending == 0 && self.padding == 0 && may_begin_with_group(text) {
             held.fill(text)
         } else {
             0
