@@ -1,6 +1,7 @@
 //! The header of a data: URL (Fetch Standard, section 6), from its text as it was given.
 
-ghost use Rattle.std.specs.Prelude.{◌≡◌, IfNone, IfOk, IfSome, string_bytes, true};
+ghost use Rattle.std.specs.Prelude.{◌≡◌, Decides, IfNone, IfOk, IfSome, codes, map, string_bytes, true};
+ghost use Rattle.std.specs.Char.{to_ascii_lowercase};
 ghost use Rattle.std.specs.List.{prefix_len, suffix_len};
 ghost use Rattle.std.specs.Str.{chars};
 ghost use Rattle.data_url.specs.Url.{without_tabs_and_newlines, is_tab_or_newline};
@@ -105,6 +106,14 @@ impl Parts<'_> {
     }
 }
 
+/// Whether bytes spell the word of the suffix, in any ASCII case.
+fn is_suffix(bytes: &[u8]) -> bool
+    ensures { Decides result (map to_ascii_lowercase bytes.now ≡ codes "base64") }
+{
+    // Most often it is spelled as here, which is seen at once.
+    bytes == SUFFIX.as_slice() || bytes.eq_ignore_ascii_case(&SUFFIX)
+}
+
 /// What stands before `;`, spaces and `base64` at the end of a header, in any ASCII case, where it ends so.
 fn without_suffix(header: &str) -> Option<&str>
     requires { IsPrintable header.now }
@@ -112,7 +121,7 @@ fn without_suffix(header: &str) -> Option<&str>
 {
     let bytes = header.as_bytes();
     let word = bytes.len().checked_sub(SUFFIX.len())?;
-    if !bytes[word..].eq_ignore_ascii_case(&SUFFIX) {
+    if !is_suffix(&bytes[word..]) {
         return None;
     }
     let end = word - low_end_len(&bytes[..word]);
