@@ -35,6 +35,7 @@ pub mod NextLemmas
 pub mod OnLiterals
 pub mod ParameterLemmas
 pub mod PieceLemmas
+pub mod PlainHeadLemmas
 pub mod PlainLemmas
 pub mod PrintLemmas
 pub mod PrintableLemmas

@@ -54,14 +54,6 @@ plain_added (c ∷ s) h = cond-true (c == 59) (codes "text/plain" ++ c ∷ s) (c
 pub chars_printable : (s : List ℕ) → IsPrintable s → chars s ≡ s
 chars_printable s h = chars-IsAscii s (printable_ascii s h)
 
-plain_ascii : IsAscii (codes "text/plain")
-plain_ascii i = lt-at i where
-  lt-at : (i : ℕ) → get_or (codes "text/plain") i 0 < 128
-  lt-at i = ⊎_elim (λ (l : i < 10). ltb-true (get_or (codes "text/plain") i 0) 128 (agree_below_at (λ i. ltb (get_or (codes "text/plain") i 0) 128) (λ i. true) 10 i refl l)) (λ (l : 10 ≤ i). subst (λ v. v < 128) (sym (get_or_past (codes "text/plain") i 0 l)) (omega arith)) (cases_lt i 10)
-
-pub chars_plain : (media : List ℕ) → IsPrintable media → chars (codes "text/plain" ++ media) ≡ codes "text/plain" ++ media
-chars_plain media h = chars-IsAscii (codes "text/plain" ++ media) (IsAscii-append (codes "text/plain") media plain_ascii (printable_ascii media h))
-
 -- The suffix
 
 pub with_suffix : (header media : List ℕ) (m : Record) → before_base64 (stripped_header header) ≡ Some media → IsRecordFor (with_plain media) m → IsHeaderOf header m true

@@ -11,11 +11,9 @@ ghost use Rattle.data_url.specs.Steps.Header.{HasNoLastSpace, IsHeaderOf, IsPath
 ghost use Rattle.data_url.specs.MimeType.{as_option, record_of};
 
 use crate::ascii::{is_tab_or_newline, low_end_len, trim};
-use crate::mime::{Mime, read_head};
+use crate::mime::{Mime, plain_head, read_head};
 use crate::percent::{EncodeSet, encoded_len, push_encoded};
 use std::alloc::{AllocError, Global};
-
-const PLAIN: &str = "text/plain";
 
 const SUFFIX: [u8; 6] = *b"base64";
 
@@ -195,13 +193,10 @@ pub(crate) fn read_media(alloc: Global, media: &str) -> Result<Mime, AllocError>
     if bytes.is_empty() {
         return default_mime(alloc);
     }
-    if bytes[0] != b';' {
-        return parse_or_default(alloc, media);
+    if bytes[0] == b';' {
+        return plain_head(media).record(alloc);
     }
-    let mut text = String::with_capacity(alloc, PLAIN.len().saturating_add(media.len()))?;
-    text.push_str(PLAIN)?;
-    text.push_str(media)?;
-    parse_or_default(alloc, text.as_str())
+    parse_or_default(alloc, media)
 }
 
 /// The record of a text or, where it has none, the default one.
