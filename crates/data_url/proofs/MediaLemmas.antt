@@ -1,10 +1,9 @@
 -- The record of a header.
-use Rattle.std.proofs.Common.{◌≡◌, ◌≢◌, ℕ, suc, ◌<◌, ◌≤◌, Bool, true, false, cond, List, [], ◌∷◌, ◌++◌, length, get_or, map, codes, Option, None, Some, is_some, refl, sym, ap, inl, inr, subst, ⊎_elim, ltb, arith}
+use Rattle.std.proofs.Common.{◌≡◌, ◌≢◌, ℕ, suc, ◌<◌, Bool, true, false, cond, List, [], ◌∷◌, ◌++◌, length, get_or, map, codes, Option, None, Some, is_some, refl, sym, ap, inl, inr, subst, arith}
 use Rattle.std.specs.Prelude.{◌==◌, ◌-◌, option_and_then, unwrap_or}
-use Rattle.std.specs.Str.{IsAscii, bytes_eq, chars}
-use Rattle.std.proofs.lemmas.Bool.{agree_below_at, cases_lt, cond-true, cond-false, eq-eqb, ltb-true, ne_eqb}
-use Rattle.std.proofs.lemmas.List.{get_or_past}
-use Rattle.std.proofs.lemmas.Str.{IsAscii-append, chars-IsAscii}
+use Rattle.std.specs.Str.{bytes_eq, chars}
+use Rattle.std.proofs.lemmas.Bool.{cond-true, cond-false, eq-eqb, ne_eqb}
+use Rattle.std.proofs.lemmas.Str.{chars-IsAscii}
 use Rattle.std.specs.Char.{to_ascii_lowercase}
 use Rattle.std.specs.List.{suffix_len}
 use Rattle.data_url.specs.Fetch.{before_base64, before_last, before_semicolon, before_word, has_base64_suffix, is_space, last_bytes, media_of, mime_text, stripped_header, with_plain}

@@ -109,7 +109,8 @@ fn is_suffix(bytes: &[u8]) -> bool
     ensures { Decides result (map to_ascii_lowercase bytes.now ≡ codes "base64") }
 {
     // Most often it is spelled as here, which is seen at once.
-    bytes == SUFFIX.as_slice() || bytes.eq_ignore_ascii_case(&SUFFIX)
+    let is_common = bytes.len() == SUFFIX.len() && bytes.starts_with(&SUFFIX);
+    is_common || bytes.eq_ignore_ascii_case(&SUFFIX)
 }
 
 /// What stands before `;`, spaces and `base64` at the end of a header, in any ASCII case, where it ends so.
