@@ -36,6 +36,8 @@ pub mod NextLemmas
 pub mod OnLiterals
 pub mod ParameterLemmas
 pub mod PieceLemmas
+pub mod PlainHeadLemmas
+pub mod PlainLemmas
 pub mod PrintLemmas
 pub mod PrintableLemmas
 pub mod ProcessLemmas

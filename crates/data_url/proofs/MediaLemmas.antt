@@ -1,10 +1,9 @@
 -- The record of a header.
-use Rattle.std.proofs.Common.{◌≡◌, ◌≢◌, ℕ, suc, ◌<◌, ◌≤◌, Bool, true, false, cond, List, [], ◌∷◌, ◌++◌, length, get_or, map, codes, Option, None, Some, is_some, refl, sym, ap, inl, inr, subst, ⊎_elim, ltb, arith}
+use Rattle.std.proofs.Common.{◌≡◌, ◌≢◌, ℕ, suc, ◌<◌, Bool, true, false, cond, List, [], ◌∷◌, ◌++◌, length, get_or, map, codes, Option, None, Some, is_some, refl, sym, ap, inl, inr, subst, arith}
 use Rattle.std.specs.Prelude.{◌==◌, ◌-◌, option_and_then, unwrap_or}
-use Rattle.std.specs.Str.{IsAscii, bytes_eq, chars}
-use Rattle.std.proofs.lemmas.Bool.{agree_below_at, cases_lt, cond-true, cond-false, eq-eqb, ltb-true, ne_eqb}
-use Rattle.std.proofs.lemmas.List.{get_or_past}
-use Rattle.std.proofs.lemmas.Str.{IsAscii-append, chars-IsAscii}
+use Rattle.std.specs.Str.{bytes_eq, chars}
+use Rattle.std.proofs.lemmas.Bool.{cond-true, cond-false, eq-eqb, ne_eqb}
+use Rattle.std.proofs.lemmas.Str.{chars-IsAscii}
 use Rattle.std.specs.Char.{to_ascii_lowercase}
 use Rattle.std.specs.List.{suffix_len}
 use Rattle.data_url.specs.Fetch.{before_base64, before_last, before_semicolon, before_word, has_base64_suffix, is_space, last_bytes, media_of, mime_text, stripped_header, with_plain}
@@ -53,14 +52,6 @@ plain_added (c ∷ s) h = cond-true (c == 59) (codes "text/plain" ++ c ∷ s) (c
 -- the code points of printable bytes are the bytes
 pub chars_printable : (s : List ℕ) → IsPrintable s → chars s ≡ s
 chars_printable s h = chars-IsAscii s (printable_ascii s h)
-
-plain_ascii : IsAscii (codes "text/plain")
-plain_ascii i = lt-at i where
-  lt-at : (i : ℕ) → get_or (codes "text/plain") i 0 < 128
-  lt-at i = ⊎_elim (λ (l : i < 10). ltb-true (get_or (codes "text/plain") i 0) 128 (agree_below_at (λ i. ltb (get_or (codes "text/plain") i 0) 128) (λ i. true) 10 i refl l)) (λ (l : 10 ≤ i). subst (λ v. v < 128) (sym (get_or_past (codes "text/plain") i 0 l)) (omega arith)) (cases_lt i 10)
-
-pub chars_plain : (media : List ℕ) → IsPrintable media → chars (codes "text/plain" ++ media) ≡ codes "text/plain" ++ media
-chars_plain media h = chars-IsAscii (codes "text/plain" ++ media) (IsAscii-append (codes "text/plain") media plain_ascii (printable_ascii media h))
 
 -- The suffix
 

@@ -7,7 +7,10 @@ ghost use Rattle.data_url.specs.Url.{behind, without_tabs_and_newlines, front};
 ghost use Rattle.data_url.specs.Steps.Header.{header_text};
 ghost use Rattle.data_url.specs.Steps.Front.{HasNoScheme, IsHeaderAndTail, IsSchemeAndRest, ends_header, is_plain_path};
 
+mod lanes;
+
 use crate::ascii::is_tab_or_newline;
+use lanes::{ROW, plain_ahead};
 
 const SCHEME: [u8; 5] = *b"data:";
 
@@ -104,6 +107,22 @@ fn is_plain_path(byte: u8) -> bool
 
 /// How many such bytes stand at the front.
 fn plain_len(bytes: &[u8]) -> usize
+    ensures front { result ≡ prefix_len is_plain_path bytes.now }
+    ensures within { result ≤ length bytes.now }
+{
+    let mut at = 0;
+    while bytes.len() - at >= ROW {
+        let ahead = plain_ahead(&bytes[at..]);
+        at += ahead;
+        if ahead < ROW {
+            return at;
+        }
+    }
+    at + last_plain_len(&bytes[at..])
+}
+
+/// The same, byte by byte.
+fn last_plain_len(bytes: &[u8]) -> usize
     ensures front { result ≡ prefix_len is_plain_path bytes.now }
     ensures within { result ≤ length bytes.now }
 {

@@ -1,6 +1,7 @@
 //! The header of a data: URL (Fetch Standard, section 6), from its text as it was given.
 
-ghost use Rattle.std.specs.Prelude.{◌≡◌, IfNone, IfOk, IfSome, string_bytes, true};
+ghost use Rattle.std.specs.Prelude.{◌≡◌, Decides, IfNone, IfOk, IfSome, codes, map, string_bytes, true};
+ghost use Rattle.std.specs.Char.{to_ascii_lowercase};
 ghost use Rattle.std.specs.List.{prefix_len, suffix_len};
 ghost use Rattle.std.specs.Str.{chars};
 ghost use Rattle.data_url.specs.Url.{without_tabs_and_newlines, is_tab_or_newline};
@@ -10,11 +11,9 @@ ghost use Rattle.data_url.specs.Steps.Header.{HasNoLastSpace, IsHeaderOf, IsPath
 ghost use Rattle.data_url.specs.MimeType.{as_option, record_of};
 
 use crate::ascii::{is_tab_or_newline, low_end_len, trim};
-use crate::mime::{Mime, read_head};
+use crate::mime::{Mime, plain_head, read_head};
 use crate::percent::{EncodeSet, encoded_len, push_encoded};
 use std::alloc::{AllocError, Global};
-
-const PLAIN: &str = "text/plain";
 
 const SUFFIX: [u8; 6] = *b"base64";
 
@@ -105,6 +104,15 @@ impl Parts<'_> {
     }
 }
 
+/// Whether bytes spell the word of the suffix, in any ASCII case.
+fn is_suffix(bytes: &[u8]) -> bool
+    ensures { Decides result (map to_ascii_lowercase bytes.now ≡ codes "base64") }
+{
+    // Most often it is spelled as here, which is seen at once.
+    let is_common = bytes.len() == SUFFIX.len() && bytes.starts_with(&SUFFIX);
+    is_common || bytes.eq_ignore_ascii_case(&SUFFIX)
+}
+
 /// What stands before `;`, spaces and `base64` at the end of a header, in any ASCII case, where it ends so.
 fn without_suffix(header: &str) -> Option<&str>
     requires { IsPrintable header.now }
@@ -112,7 +120,7 @@ fn without_suffix(header: &str) -> Option<&str>
 {
     let bytes = header.as_bytes();
     let word = bytes.len().checked_sub(SUFFIX.len())?;
-    if !bytes[word..].eq_ignore_ascii_case(&SUFFIX) {
+    if !is_suffix(&bytes[word..]) {
         return None;
     }
     let end = word - low_end_len(&bytes[..word]);
@@ -186,13 +194,10 @@ pub(crate) fn read_media(alloc: Global, media: &str) -> Result<Mime, AllocError>
     if bytes.is_empty() {
         return default_mime(alloc);
     }
-    if bytes[0] != b';' {
-        return parse_or_default(alloc, media);
+    if bytes[0] == b';' {
+        return plain_head(media).record(alloc);
     }
-    let mut text = String::with_capacity(alloc, PLAIN.len().saturating_add(media.len()))?;
-    text.push_str(PLAIN)?;
-    text.push_str(media)?;
-    parse_or_default(alloc, text.as_str())
+    parse_or_default(alloc, media)
 }
 
 /// The record of a text or, where it has none, the default one.

@@ -11,7 +11,7 @@ mod tokens;
 mod values;
 
 use line::Line;
-pub(crate) use parse::read_head;
+pub(crate) use parse::{plain_head, read_head};
 use print::push_parameter;
 use std::alloc::{AllocError, Global};
 use std::error::Error;

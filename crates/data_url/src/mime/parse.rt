@@ -1,6 +1,6 @@
 //! Reads a MIME type (MIME Sniffing Standard, section 4.4).
 
-ghost use Rattle.std.specs.Prelude.{◌≡◌, ◌++◌, ◌∷◌, List, ℕ, Option, MatchOption, IfOk, IfSome, IsTrue, OnOk, map, not};
+ghost use Rattle.std.specs.Prelude.{◌≡◌, ◌++◌, ◌∷◌, List, ℕ, Option, MatchOption, IfOk, IfSome, IsTrue, OnOk, codes, map, not};
 ghost use Rattle.std.specs.Bool.{MatchBool};
 ghost use Rattle.std.specs.Char.{to_ascii_lowercase};
 ghost use Rattle.std.specs.Str.{IsUtf8, chars};
@@ -80,6 +80,27 @@ pub(crate) fn read_head(text: &str) -> Option<Head<'_>>
         subtype,
         parameters,
     })
+}
+
+/// The parts of the MIME type `text/plain` with what stands behind the subtype.
+pub(crate) fn plain_head(parameters: &str) -> Head<'_>
+    requires { BeginsParameters (chars parameters.now) }
+    ensures head { IsHead (codes "text/plain" ++ chars parameters.now)
+        (chars result.type_.text.now) (chars result.subtype.text.now)
+        (chars result.parameters.now) }
+    ensures words { IsWord result.type_ × IsWord result.subtype }
+{
+    Head {
+        type_: Word {
+            text: "text",
+            is_lower: true,
+        },
+        subtype: Word {
+            text: "plain",
+            is_lower: true,
+        },
+        parameters: without_trailing_whitespace(parameters),
+    }
 }
 
 /// Whether a text is empty or begins with `;`.
