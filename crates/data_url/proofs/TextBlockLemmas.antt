@@ -16,32 +16,32 @@ take_past (x ∷ p) q n m e =
     let z : n + m ≡ suc (length p + m) = omega arith in
     ap (λ k. take k (x ∷ (p ++ q))) z ∙ ap (λ t. x ∷ t) (take_past p q (length p) m refl)
 
--- a stretch of which n bytes were copied
-pub copied : (room text mid post block : List ℕ) (len n width start : ℕ) → len ≤ length room → width ≤ n → start + n ≤ length text → length mid ≡ n → block ≡ take n (drop start text)
+-- a stretch of which a whole block was copied
+pub copied : (room text mid post block : List ℕ) (len width start : ℕ) → len ≤ length room → width ≤ 64 → start + 64 ≤ length text → length mid ≡ 64 → block ≡ take 64 (drop start text)
     → take (len + width) (take len room ++ (put_chunk 0 mid block ++ post)) ≡ take len room ++ slice_range text start (start + width)
-copied room text mid post block len n width start l w h m b =
+copied room text mid post block len width start l w h m b =
     let d = length-drop start text in
-    let long : length (take n (drop start text)) ≡ n = length-take-le n (drop start text) (omega arith) in
-    let size : length block ≡ n = ap length b ∙ long in
+    let long : length (take 64 (drop start text)) ≡ 64 = length-take-le 64 (drop start text) (omega arith) in
+    let size : length block ≡ 64 = ap length b ∙ long in
     let whole : put_chunk 0 mid block ≡ block = put_chunk_whole mid block (m ∙ sym size) in
-    let k : start + width - start ≡ width = omega arith in
+    let n : start + width - start ≡ width = omega arith in
     take_past (take len room) (put_chunk 0 mid block ++ post) len width (length-take-le len room l)
     ∙ ap (λ s. take len room ++ s)
     (take-append-le width (put_chunk 0 mid block) post (let e = ap length whole in omega arith)
     ∙ ap (take width) (whole ∙ b)
-    ∙ take-take width n (drop start text) w
-    ∙ ap (λ i. take i (drop start text)) (sym k))
+    ∙ take-take width 64 (drop start text) w
+    ∙ ap (λ k. take k (drop start text)) (sym n))
 
-pub copied_wide : (room bytes text : List ℕ) (len n width start : ℕ) → len + n ≤ length room → width ≤ n → start + n ≤ length text → bytes ≡ text
-    → take (len + width) (put_mid len (len + n - len) room (put_chunk 0 (mid_of len (len + n - len) room) (chunk 0 n (take (start + n - start) (drop start bytes))))) ≡ take len room ++ slice_range text start (start + width)
-copied_wide room bytes text len n width start l w h e =
-    let m : len + n - len ≡ n = omega arith in
-    let k : start + n - start ≡ n = omega arith in
+pub copied_wide : (room bytes text : List ℕ) (len width start : ℕ) → length room ≡ 256 → len + 64 ≤ 256 → width ≤ 64 → start + 64 ≤ length text → bytes ≡ text
+    → take (len + width) (put_mid len (len + 64 - len) room (put_chunk 0 (mid_of len (len + 64 - len) room) (chunk 0 64 (take (start + 64 - start) (drop start bytes))))) ≡ take len room ++ slice_range text start (start + width)
+copied_wide room bytes text len width start long l w h e =
+    let n : len + 64 - len ≡ 64 = omega arith in
+    let k : start + 64 - start ≡ 64 = omega arith in
     let d = length-drop len room in
-    let mid : length (mid_of len (len + n - len) room) ≡ n = length-take-le (len + n - len) (drop len room) (omega arith) ∙ m in
-    let block : chunk 0 n (take (start + n - start) (drop start bytes)) ≡ take n (drop start text) =
-    ap (λ i. take n (take i (drop start bytes))) k ∙ take-take n n (drop start bytes) (omega arith) ∙ ap (λ s. take n (drop start s)) e in
-    copied room text (mid_of len (len + n - len) room) (post_of len (len + n - len) room) (chunk 0 n (take (start + n - start) (drop start bytes))) len n width start (omega arith) w h mid block
+    let mid : length (mid_of len (len + 64 - len) room) ≡ 64 = length-take-le (len + 64 - len) (drop len room) (omega arith) ∙ n in
+    let block : chunk 0 64 (take (start + 64 - start) (drop start bytes)) ≡ take 64 (drop start text) =
+    ap (λ i. take 64 (take i (drop start bytes))) k ∙ take-take 64 64 (drop start bytes) (omega arith) ∙ ap (λ s. take 64 (drop start s)) e in
+    copied room text (mid_of len (len + 64 - len) room) (post_of len (len + 64 - len) room) (chunk 0 64 (take (start + 64 - start) (drop start bytes))) len width start (omega arith) w h mid block
 
 -- marks behind the text's end are none
 no_marks : (k : ℕ) → mask_l (map is_marked (replicate k 0)) ≡ 0

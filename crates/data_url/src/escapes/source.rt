@@ -11,9 +11,6 @@ use super::looks::Looks;
 use std::mem::replace;
 use std::simd::prelude::*;
 
-/// How many bytes of a short stretch are copied together.
-const ROW: usize = 16;
-
 /// A text that is looked at through a count.
 #[derive(Drop)]
 pub(super) struct Source<'a> {
@@ -168,9 +165,6 @@ impl<'a> Source<'a> {
         if wide {
             let block = u8x64::from_slice(&bytes[start..start + BLOCK]);
             block.copy_to_slice(&mut room[len..len + BLOCK]);
-        } else if width <= ROW && bytes.len() - start >= ROW {
-            let row = u8x16::from_slice(&bytes[start..start + ROW]);
-            row.copy_to_slice(&mut room[len..len + ROW]);
         } else {
             room[len..len + width].copy_from_slice(&bytes[start..start + width]);
         }
