@@ -16,7 +16,7 @@ use super::cuts::{
 };
 use super::kept::KeptParameters;
 use super::tokens::{Word, is_token_text, split_tokens};
-use super::values::{Value, lowercased};
+use super::values::{Unquoted, Value, lowercased, split_unquoted};
 use std::alloc::{AllocError, Global};
 
 /// The type, the subtype and the parameters of a text, as they stand there.
@@ -163,12 +163,12 @@ fn read_plain(text: &str) -> (Value<'_>, &str)
         × HasValueBefore (61 ∷ chars text.now) value (chars result.1.now) }
     ensures text { IsUtf8 result.1.now }
 {
-    let (value, rest) = split_semicolon(text);
-    let value = without_trailing_whitespace(value);
-    if value.is_empty() {
+    let (value, rest) = split_unquoted(text);
+    let text = without_trailing_whitespace(value.text);
+    if text.is_empty() {
         (Value::Missing, rest)
     } else {
-        (Value::Plain(value), rest)
+        (Value::Plain(Unquoted { text, ..value }), rest)
     }
 }
 
