@@ -187,15 +187,15 @@ fn split_quote(text: &str) -> Option<(&str, &str)>
     None
 }
 
-/// About how many bytes of a text a parameter takes.
-const TYPICAL_LEN: usize = 8;
+/// How many bytes of a text the shortest valid parameter takes, as `;a=b`, and about half of what others take.
+const LEAST_LEN: usize = 4;
 
 /// For how many parameters there is room at once at the most.
 const MOST: usize = 32;
 
-/// For how many parameters there is room at once.
+/// For how many parameters there is room at once: for none in a text that is too short for one.
 fn capacity_for(text: &str) -> usize {
-    (text.len() / TYPICAL_LEN + 1).min(MOST)
+    ((text.len() / LEAST_LEN + 1) / 2).min(MOST)
 }
 
 /// The parameters that are kept of a text that is empty or begins with `;`.
