@@ -60,6 +60,7 @@ pub mod TextBlockLemmas
 pub mod TextCuts
 pub mod TextLemmas
 pub mod TokenLemmas
+pub mod UnquotedLemmas
 pub mod UrlLemmas
 pub mod ValidLemmas
 pub mod ValueLemmas

@@ -139,10 +139,10 @@ quoted_quotable q v (inr (q', v', t, e, h)) =
 
 -- What a value's own text is
 
-quotable_some : (v : List ℕ) → list_all is_quotable v ≡ true → quotable_value (Some v) ≡ Some v
+pub quotable_some : (v : List ℕ) → list_all is_quotable v ≡ true → quotable_value (Some v) ≡ Some v
 quotable_some v h = cond-true (list_all is_quotable v) (Some v) None h
 
-quotable_none : (v : List ℕ) → list_all is_quotable v ≡ false → quotable_value (Some v) ≡ None
+pub quotable_none : (v : List ℕ) → list_all is_quotable v ≡ false → quotable_value (Some v) ≡ None
 quotable_none v h = cond-false (list_all is_quotable v) (Some v) None h
 
 pub quoted_text : (self : Value) (text : Bor (List ℕ)) (value : Option (List ℕ)) (code : List ℕ) → self ≡ slices.Quoted text → IsValue self value → true ≡ list_all is_quotable (chars text.now) → ((v : List ℕ) → QuotedOpen (chars text.now) v → code ≡ v) → ◌≡◌ {A = Option (List ℕ)} (Some code) (quotable_value value)
@@ -154,11 +154,6 @@ pub no_quoted_text : (self : Value) (text : Bor (List ℕ)) (value : Option (Lis
 no_quoted_text self text value e i q =
     let k = subst (λ s. IsValue s value) e i in
     sym (ap quotable_value k.1 ∙ quotable_none k.0 (sym (quoted_quotable (chars text.now) k.0 k.2) ∙ q))
-
-pub no_plain_text : (self : Value) (text : Bor (List ℕ)) (value : Option (List ℕ)) → self ≡ slices.Plain text → IsValue self value → list_all is_quotable (chars text.now) ≡ false → None ≡ quotable_value value
-no_plain_text self text value e i q =
-    let k = subst (λ s. IsValue s value) e i in
-    sym (ap quotable_value k ∙ quotable_none (chars text.now) q)
 
 pub missing_text : (self : Value) (value : Option (List ℕ)) → self ≡ slices.Missing → IsValue self value → None ≡ quotable_value value
 missing_text self value e i = let k = subst (λ s. IsValue s value) e i in sym (ap quotable_value k)

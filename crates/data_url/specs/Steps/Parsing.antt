@@ -5,10 +5,11 @@ use Rattle.std.specs.Int.{is_in_range}
 use Rattle.std.specs.List.{list_all}
 use Rattle.std.specs.Prelude.{[], if◌then◌else◌, ◌&&◌, ◌++◌, ◌==◌, ◌||◌, ◌∷◌, ◌≡◌, Bool, IsTrue, List, None, Option, Some, map, not, ℕ}
 use Rattle.std.specs.Str.{IsUtf8, chars}
-use Rattle.data_url.specs.CodePoints.{is_quotable, is_token}
+use Rattle.data_url.specs.CodePoints.{is_quotable, is_semicolon, is_token}
 use Rattle.data_url.specs.Mime.{BeginsParameters, DoesNotBegin, Every, GivesValue, IsHead, IsParameter, Item, Pair, Quoted, QuotedOpen, has_name, is_lowercase_name, valid_of}
 use Rattle.data_url.specs.declared.mime.parse.Parameter.{Parameter}
 use Rattle.data_url.specs.declared.mime.tokens.Word.{Word}
+use Rattle.data_url.specs.declared.mime.values.Unquoted.{Unquoted}
 use Rattle.data_url.specs.declared.mime.values.Value.TheVariants as slices
 use Rattle.data_url.specs.declared.mime.values.Value.{Value}
 
@@ -44,15 +45,23 @@ pub record IsClosed (text quoted behind : List ℕ) : Type 0 where
   pub joined : chars text ≡ chars quoted ++ (34 ∷ chars behind)
   pub utf8 : IsUtf8 behind
 
+-- a value without quotes has quoted-string code points alone where it says so
+abbrev pub IsUnquoted : Unquoted → Type 0
+IsUnquoted plain = IsTrue plain.is_quotable → IsTrue (list_all is_quotable (chars plain.text.now))
+
 -- the slices spell the value
 abbrev pub IsValue : Value → Option (List ℕ) → Type 0
 IsValue slices.Missing value = value ≡ None
-IsValue (slices.Plain text) value = value ≡ Some (chars text.now)
+IsValue (slices.Plain plain) value = (value ≡ Some (chars plain.text.now)) × IsUnquoted plain
 IsValue (slices.Quoted text) value = (w : List ℕ) × (value ≡ Some w) × QuotedOpen (chars text.now) w
 
 -- a byte of the UTF-8 of quoted-string code points
 unfoldable pub is_quotable_byte : ℕ → Bool
 is_quotable_byte b = (b == 9) || is_in_range 32 126 b || is_in_range 128 195 b
+
+-- one of these that does not end a value without quotes
+abbrev pub is_unquoted_byte : ℕ → Bool
+is_unquoted_byte b = is_quotable_byte b && not (is_semicolon b)
 
 -- the value, if it has quoted-string code points alone
 abbrev pub quotable_value : Option (List ℕ) → Option (List ℕ)

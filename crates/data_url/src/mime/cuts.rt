@@ -1,6 +1,6 @@
 //! Texts cut at a code point, and HTTP whitespace taken off.
 
-ghost use Rattle.std.specs.Prelude.{◌≡◌, ◌++◌, not};
+ghost use Rattle.std.specs.Prelude.{◌≡◌, ◌≤◌, ◌++◌, length, not};
 ghost use Rattle.std.specs.List.{prefix_len};
 ghost use Rattle.std.specs.Str.{IsUtf8, chars};
 ghost use Rattle.data_url.specs.CodePoints.{ends_name, is_http_whitespace, is_semicolon};
@@ -35,8 +35,9 @@ fn name_len(bytes: &[u8]) -> usize
 }
 
 /// How many bytes stand before the first `;`.
-fn parameter_len(bytes: &[u8]) -> usize
-    ensures { result ≡ prefix_len (λ b. not (is_semicolon b)) bytes.now }
+pub(super) fn parameter_len(bytes: &[u8]) -> usize
+    ensures front { result ≡ prefix_len (λ b. not (is_semicolon b)) bytes.now }
+    ensures within { result ≤ length bytes.now }
 {
     bytes.iter().take_while(|byte| **byte != b';').count()
 }

@@ -16,7 +16,7 @@ use super::cuts::{
 };
 use super::kept::KeptParameters;
 use super::tokens::{Word, is_token_text, split_tokens};
-use super::values::{Value, lowercased};
+use super::values::{Unquoted, Value, lowercased, split_unquoted};
 use std::alloc::{AllocError, Global};
 
 /// The type, the subtype and the parameters of a text, as they stand there.
@@ -184,12 +184,12 @@ fn read_plain(text: &str) -> (Value<'_>, &str)
         × HasValueBefore (61 ∷ chars text.now) value (chars result.1.now) }
     ensures text { IsUtf8 result.1.now }
 {
-    let (value, rest) = split_semicolon(text);
-    let value = without_trailing_whitespace(value);
-    if value.is_empty() {
+    let (value, rest) = split_unquoted(text);
+    let text = without_trailing_whitespace(value.text);
+    if text.is_empty() {
         (Value::Missing, rest)
     } else {
-        (Value::Plain(value), rest)
+        (Value::Plain(Unquoted { text, ..value }), rest)
     }
 }
 
@@ -208,15 +208,15 @@ fn split_quote(text: &str) -> Option<(&str, &str)>
     None
 }
 
-/// About how many bytes of a text a parameter takes.
-const TYPICAL_LEN: usize = 8;
+/// How many bytes of a text the shortest valid parameter takes, as `;a=b`, and about half of what others take.
+const LEAST_LEN: usize = 4;
 
 /// For how many parameters there is room at once at the most.
 const MOST: usize = 32;
 
-/// For how many parameters there is room at once.
+/// For how many parameters there is room at once: for none in a text that is too short for one.
 fn capacity_for(text: &str) -> usize {
-    (text.len() / TYPICAL_LEN + 1).min(MOST)
+    ((text.len() / LEAST_LEN + 1) / 2).min(MOST)
 }
 
 /// The parameters that are kept of a text that is empty or begins with `;`.
