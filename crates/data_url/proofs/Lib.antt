@@ -16,6 +16,7 @@ pub mod EncodeLemmas
 pub mod FaultLemmas
 pub mod FeedLemmas
 pub mod FillLemmas
+pub mod FirstLemmas
 pub mod FlagLemmas
 pub mod FragmentAgainLemmas
 pub mod FreeLemmas

@@ -5,14 +5,15 @@ ghost use Rattle.std.specs.Char.{to_ascii_lowercase};
 ghost use Rattle.std.specs.Str.{chars};
 ghost use Rattle.data_url.specs.Mime.{has_name, is_lowercase_name, is_token_text};
 ghost use Rattle.data_url.specs.MimeType.{code_points, pair_of};
-ghost use Rattle.data_url.specs.Steps.Parsing.{HasLowercaseNames, unless_named};
+ghost use Rattle.data_url.specs.Steps.Parsing.{HasLowercaseNames, IsWord, unless_named};
 ghost use Rattle.data_url.specs.Steps.Kept.{IsIndexed, first_of, pairs_of};
 
+use super::tokens::Word;
 use std::alloc::{AllocError, Global};
 use std::collections::BTreeSet;
 
 /// How many pairs are looked through one by one, which is faster for so few than a search in a set.
-const LOOKED_THROUGH: usize = 32;
+const LOOKED_THROUGH: usize = 128;
 
 /// The pairs that are kept, and the names of those behind the first ones once more, to be found
 /// among many.
@@ -45,13 +46,19 @@ impl KeptParameters {
     }
 
     /// Whether one of the first pairs has the name, in any ASCII case.
-    pub(super) fn is_among_first(&self, name: &str) -> bool
+    pub(super) fn is_among_first(&self, name: Word<'_>) -> bool
         requires indexed { IsIndexed self.now }
-        requires token { IsTrue (is_token_text (chars name.now)) }
-        ensures { result ≡ has_name (map to_ascii_lowercase (chars name.now))
+        requires token { IsTrue (is_token_text (chars name.text.now)) }
+        requires word { IsWord name }
+        ensures { result ≡ has_name (map to_ascii_lowercase (chars name.entry.text.now))
             (first_of (pairs_of self.now)) }
     {
-        any_is_named(&self.pairs[..LOOKED_THROUGH.min(self.pairs.len())], name)
+        let first = &self.pairs[..LOOKED_THROUGH.min(self.pairs.len())];
+        if name.is_lower {
+            any_is(first, name.text)
+        } else {
+            any_is_named(first, name.text)
+        }
     }
 
     /// Adds a pair whose name none of the first ones has, unless a later one has it.
@@ -69,6 +76,18 @@ impl KeptParameters {
         self.pairs.push((name, value))?;
         Ok(())
     }
+}
+
+/// Whether one of the pairs has exactly this name.
+fn any_is(pairs: &[(String, String)], name: &str) -> bool
+    ensures { result ≡ has_name (chars name.now) (map (λ p. pair_of p) pairs.now) }
+{
+    for (key, _) in pairs {
+        if key.as_str() == name {
+            return true;
+        }
+    }
+    false
 }
 
 /// Whether one of the pairs has the name, in any ASCII case.

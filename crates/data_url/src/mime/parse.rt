@@ -257,7 +257,7 @@ fn keep(
 {
     let name = parameter.name.word.text;
     let is_lower = parameter.name.word.is_lower;
-    if !parameter.name.is_valid || kept.is_among_first(name) {
+    if !parameter.name.is_valid || kept.is_among_first(parameter.name.word) {
         return Ok(());
     }
     let Some(value) = parameter.value.text(alloc)? else {
