@@ -65,6 +65,7 @@ pub(crate) fn after_scheme(text: &str) -> Option<&str>
 }
 
 /// The same, byte by byte, of a text whose scheme is not spelled as it commonly is.
+#[inline(never)]
 fn after_respelled_scheme(text: &str) -> Option<&str>
     ensures found { IfSome result (λ rest. IsSchemeAndRest text.now rest.now) }
     ensures none { IfNone result (HasNoScheme text.now) }

@@ -89,6 +89,7 @@ fn parts_of(header: &[u8]) -> Parts<'_>
 
 impl Parts<'_> {
     /// The text, serialised. Room for it is taken once, at its exact length.
+    #[inline(never)]
     fn serialised(&self, alloc: Global) -> Result<String, AllocError>
         ensures { IfOk result (λ text. string_bytes text
             ≡ encoded_parts self.now.path.now self.now.space.now self.now.query.now) }
