@@ -1,6 +1,6 @@
 //! The parameters that are kept while a MIME type is read: of each name the first.
 
-ghost use Rattle.std.specs.Prelude.{false, ◌≡◌, ◌++◌, ◌∷◌, [], IfOk, IsTrue, OnOk, map};
+ghost use Rattle.std.specs.Prelude.{false, Decides, ◌≡◌, ◌++◌, ◌∷◌, [], IfOk, IsTrue, OnOk, map};
 ghost use Rattle.std.specs.Char.{to_ascii_lowercase};
 ghost use Rattle.std.specs.Str.{chars};
 ghost use Rattle.data_url.specs.Mime.{has_name, is_lowercase_name, is_token_text};
@@ -78,12 +78,27 @@ impl KeptParameters {
     }
 }
 
+/// Whether two texts are the same. Their last bytes are compared first, in which numbered names differ.
+#[inline(always)]
+fn is_same(one: &str, other: &str) -> bool
+    ensures { Decides result (one.now ≡ other.now) }
+{
+    let len = one.len();
+    if len != other.len() {
+        return false;
+    }
+    if len > 0 && one.as_bytes()[len - 1] != other.as_bytes()[len - 1] {
+        return false;
+    }
+    one == other
+}
+
 /// Whether one of the pairs has exactly this name.
 fn any_is(pairs: &[(String, String)], name: &str) -> bool
     ensures { result ≡ has_name (chars name.now) (map (λ p. pair_of p) pairs.now) }
 {
     for (key, _) in pairs {
-        if key.as_str() == name {
+        if is_same(key.as_str(), name) {
             return true;
         }
     }
