@@ -2,7 +2,7 @@
 use Rattle.std.proofs.Common.{◌≡◌, ℕ, ◌+◌, ◌-◌, ◌%◌, ◌^◌, ◌<◌, ◌≤◌, Bool, not, cond, eqb, ltb, List, [], ◌∷◌, map, length, take, drop, Fits, w8, bit_or, refl, sym, ap, ◌∙◌, arith, length-take-le, take-append-drop, true, false}
 use Rattle.std.specs.List.{prefix_len}
 use Rattle.std.proofs.lemmas.Bool.{agree_below_at, eq-eqb, ne_eqb}
-use Rattle.std.proofs.lemmas.List.{length-map}
+use Rattle.std.proofs.lemmas.List.{length-map, take-take}
 use Rattle.std.proofs.lemmas.List.Folds.{prefix_len-append}
 use Rattle.std.proofs.lemmas.List.Sums.{prefix_len-le-length}
 use Rattle.std.proofs.lemmas.Simd.{leading_from_mask_l, map-map, mask_l-mod, splat_is_map, trailing_mask_l, zip2_of_maps, zip2_splat}
@@ -80,6 +80,12 @@ plain_len = prefix_len is_plain_path
 
 by_front : (n : ℕ) (xs : List ℕ) → plain_len xs ≡ cond (eqb (plain_len (take n xs)) (length (take n xs))) (length (take n xs) + plain_len (drop n xs)) (plain_len (take n xs))
 by_front n xs = ap plain_len (sym (take-append-drop n xs)) ∙ prefix_len-append is_plain_path (take n xs) (drop n xs)
+
+-- the row at a place
+pub row_at : (bytes : List ℕ) (at : ℕ) → take 16 (take (at + 16 - at) (drop at bytes)) ≡ take 16 (drop at bytes)
+row_at bytes at =
+    let size : at + 16 - at ≡ 16 = omega arith in
+    ap (λ n. take 16 (take n (drop at bytes))) size ∙ take-take 16 16 (drop at bytes) (omega arith)
 
 pub row_stops : (n k : ℕ) (xs : List ℕ) → n ≤ length xs → k ≡ plain_len (take n xs) → k < n → plain_len xs ≡ k
 row_stops n k xs h e l =

@@ -113,7 +113,7 @@ fn plain_len(bytes: &[u8]) -> usize
 {
     let mut at = 0;
     while bytes.len() - at >= ROW {
-        let ahead = plain_ahead(&bytes[at..]);
+        let ahead = plain_ahead(&bytes[at..at + ROW]);
         at += ahead;
         if ahead < ROW {
             return at;
