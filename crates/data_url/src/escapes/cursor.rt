@@ -14,6 +14,9 @@ use super::source::Source;
 /// How many bytes are gathered at the most.
 pub(crate) const ROOM: usize = 256;
 
+/// How many bytes an escape has, tabs and newlines aside.
+const ESCAPE: usize = 3;
+
 /// How many marks of a block make it likely that its escapes follow one another.
 const MANY: u32 = 14;
 
@@ -221,7 +224,9 @@ impl<'a> Cursor<'a> {
     /// behind it.
     #[inline(always)]
     fn escape_here(&mut self) -> Option<u8>
-        requires { Looking self.old self.old.place 3 }
+        requires within { self.old.place + 3 ≤ length (text_of self.old) }
+        requires looking { Looking self.old self.old.place 3 }
+        ensures near { self.new.place ≤ self.old.place + 3 }
         ensures block { (self.new.base ≡ self.old.base) × (self.new.seen ≡ self.old.seen)
             × (self.new.marks ≡ self.old.marks) }
         ensures ahead { self.new.ahead ≡ self.old.ahead }
@@ -231,8 +236,9 @@ impl<'a> Cursor<'a> {
             (λ value. EscapeAt (text_of self.old) self.old.place value self.new.place
             × Looking self.new self.new.place 3) }
     {
+        let _len = self.source.len();
         let place = self.place;
-        if self.source.len() - place < 3 || self.source.look(place) != b'%' {
+        if self.source.look(place) != b'%' {
             return None;
         }
         let value = self.source.two_digits(place + 1)?;
@@ -254,12 +260,12 @@ impl<'a> Cursor<'a> {
                 self.ahead = Ahead::BehindEscape;
                 return Some(Piece::Byte(value));
             }
-            Ahead::BehindEscape => {
+            Ahead::BehindEscape if self.source.len() - self.place >= ESCAPE => {
                 if let Some(value) = self.escape_here() {
                     return Some(Piece::Byte(value));
                 }
             }
-            Ahead::Unknown => {}
+            Ahead::BehindEscape | Ahead::Unknown => {}
         }
         self.next_stretch()
     }
@@ -530,7 +536,8 @@ impl<'a> Cursor<'a> {
         ensures block { self.new.seen ≡ self.old.seen }
     {
         let mut len = len;
-        while len < ROOM {
+        let end = ROOM.min(len + (self.source.len() - self.place) / ESCAPE);
+        while len < end {
             let Some(value) = self.escape_here() else {
                 return len;
             };

@@ -1,6 +1,6 @@
 -- So many bytes were gathered, and the walk stands behind an escape.
-use Rattle.std.proofs.Common.{◌≡◌, ◌-◌}
-use Rattle.data_url.specs.Steps.Walk.{Gathers, HasRoom, Looking}
+use Rattle.std.proofs.Common.{◌≡◌, ◌+◌, ◌*◌, ◌-◌, ◌≤◌, length}
+use Rattle.data_url.specs.Steps.Walk.{Gathers, HasRoom, Looking, text_of}
 use Rattle.data_url.specs.declared.escapes.cursor.Ahead.TheVariants.{Unknown}
 use Rattle.data_url.proofs.escapes.cursor.Cursor.gather_escapes.Given as goal
 
@@ -11,6 +11,7 @@ invariant-loop-len l =
     × HasRoom l.self l.len
     × (l.self.ahead ≡ Unknown)
     × (l.self.seen ≡ l.fn.self.seen)
+    × (l.self.place + 3 * (l.end - l.len) ≤ length (text_of l.self))
 
 abbrev pub decreases-loop-len : goal.decreases-loop-len
-decreases-loop-len l = 256 - l.len
+decreases-loop-len l = l.end - l.len
