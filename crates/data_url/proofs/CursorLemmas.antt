@@ -7,7 +7,8 @@ use Rattle.data_url.specs.Url.{is_tab_or_newline}
 use Rattle.data_url.specs.Steps.Digits.{DigitsFound, NoDigits}
 use Rattle.data_url.specs.Steps.Looks.{paid_looks}
 use Rattle.data_url.specs.Steps.Tail.{BeginsFragment}
-use Rattle.data_url.specs.Steps.Walk.{Ended, EscapeAt, IsBlock, IsPassed, KeepsBlock, LonePercent, Looking, text_of}
+use Rattle.data_url.specs.Steps.Walk.{Ended, EscapeAt, IsBlock, IsPassed, KeepsBlock, LonePercent, Looking}
+use Rattle.data_url.specs.Pieces.{text_of}
 use Rattle.data_url.specs.Steps.Window.{is_marked}
 use Rattle.data_url.specs.declared.escapes.cursor.Cursor.{Cursor}
 use Rattle.data_url.proofs.ReadLemmas.{paid_byte, paid_le, paid_percent}

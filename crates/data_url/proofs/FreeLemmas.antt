@@ -9,11 +9,11 @@ use Rattle.std.proofs.lemmas.Simd.{map-map, mask_l-mod, none_from_empty_mask, to
 use Rattle.data_url.specs.Base64.{without_whitespace}
 use Rattle.std.specs.Char.{is_ascii_whitespace}
 use Rattle.data_url.specs.Fetch.{plain_body}
-use Rattle.data_url.specs.Pieces.{Walk}
+use Rattle.data_url.specs.Pieces.{Walk, text_of, walk_of}
 use Rattle.data_url.specs.Url.{behind, is_tab_or_newline}
 use Rattle.data_url.specs.Steps.Chunks.{IsBase64Chunk, IsChunk, chunk_bytes}
 use Rattle.data_url.specs.Steps.Looks.{paid_looks}
-use Rattle.data_url.specs.Steps.Walk.{IsClear, IsFreeTo, Knows, Looking, LooksOn, ReadsSpaced, Spans, Stays, text_of, walk_of}
+use Rattle.data_url.specs.Steps.Walk.{IsClear, IsFreeTo, Knows, Looking, LooksOn, ReadsSpaced, Spans, Stays}
 use Rattle.data_url.specs.Steps.Window.{IsFree, is_marked, is_stop}
 use Rattle.data_url.specs.declared.escapes.Chunk.{Chunk}
 use Rattle.data_url.specs.declared.escapes.Chunk.TheVariants as chunk

@@ -2,7 +2,8 @@
 use Rattle.std.proofs.Common.{◌≡◌, ℕ, ◌+◌, ◌*◌, ◌-◌, ◌<◌, ◌≤◌, Bool, true, false, cond, List, [], ◌∷◌, ◌++◌, length, take, drop, set, refl, sym, ap, ◌∙◌, subst, arith, append_assoc, length-append}
 use Rattle.std.specs.Prelude.{MatchBool, slice_range}
 use Rattle.std.proofs.lemmas.List.{append-nil, take_more_set, length-take-le, length-drop}
-use Rattle.data_url.specs.Steps.Walk.{EscapeAt, Gathers, HasRoom, IsClear, IsPassed, LonePercent, LooksOn, MayGather, Moves, Reads, has_ended, text_of}
+use Rattle.data_url.specs.Steps.Walk.{EscapeAt, Gathers, HasRoom, IsClear, IsPassed, LonePercent, LooksOn, MayGather, Moves, Reads}
+use Rattle.data_url.specs.Pieces.{has_ended, text_of}
 use Rattle.data_url.specs.declared.escapes.cursor.Ahead.TheVariants.{Unknown}
 use Rattle.data_url.specs.declared.escapes.cursor.Cursor.{Cursor}
 use Rattle.data_url.proofs.NextLemmas.{moved_looking, on_then, reads_in}

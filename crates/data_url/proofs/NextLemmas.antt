@@ -3,50 +3,19 @@ use Rattle.std.proofs.Common.{◌≡◌, ◌≢◌, ℕ, zero, suc, ◌+◌, ◌
 use Rattle.std.specs.Prelude.{◌==◌, IfSome, slice_range}
 use Rattle.std.proofs.lemmas.Bool.{cases_lt}
 use Rattle.std.proofs.lemmas.List.{append-nil, drop_all, drop_more, drop-drop}
-use Rattle.data_url.specs.Url.{behind, is_tab_or_newline}
-use Rattle.data_url.specs.Pieces.{IsEscape, IsPiece, IsStretch, bytes_of, bytes_of_next, escape, is_slice_end}
+use Rattle.data_url.specs.Url.{behind, is_tab_or_newline, without_tabs_and_newlines}
+use Rattle.data_url.specs.Pieces.{IsEscape, IsPiece, IsSkipped, IsStretch, bytes_of, bytes_of_next, escape, has_ended, is_slice_end, text_of}
 use Rattle.data_url.specs.Steps.Tail.{BeginsFragment, IsBodyEnd, rest_fragment}
-use Rattle.data_url.specs.Steps.Walk.{Ended, EscapeAt, GoesOn, IsClear, IsNextMark, IsPassed, KeepsBlock, Knows, KnowsAhead, LonePercent, Looking, LooksOn, Reads, Stays, has_ended, text_of}
+use Rattle.data_url.specs.Steps.Walk.{Ended, EscapeAt, GoesOn, IsClear, IsNextMark, IsPassed, KeepsBlock, Knows, KnowsAhead, LonePercent, Looking, LooksOn, Reads, Stays}
 use Rattle.data_url.specs.declared.escapes.Piece.{Piece}
 use Rattle.data_url.specs.declared.escapes.Piece.TheVariants.{Byte, Slice}
 use Rattle.data_url.specs.declared.escapes.cursor.Ahead.{Ahead}
 use Rattle.data_url.specs.declared.escapes.cursor.Ahead.TheVariants.{BehindEscape, End, Escape, Unknown}
 use Rattle.data_url.specs.declared.escapes.cursor.Cursor.{Cursor}
-use Rattle.data_url.proofs.TextBlockLemmas.{take_none}
+use Rattle.data_url.proofs.StretchLemmas.{IsWithoutTabs, in_front, skipped_byte, skipped_none, skipped_then, slice_join, slice_none, slice_one, without_tabs_byte, without_tabs_clear, without_tabs_none, without_tabs_then}
 use Rattle.data_url.proofs.CursorLemmas.{looking_as}
 use Rattle.data_url.proofs.ReadLemmas.{reads_clear, reads_escape, reads_none, reads_passed, reads_percent, reads_then}
 use Rattle.data_url.proofs.UrlLemmas.{behind_nil, behind_same}
-
--- Stretches
-
-slice_none : (text : List ℕ) (place : ℕ) → slice_range text place place ≡ []
-slice_none text place = let e : place - place ≡ 0 = omega arith in ap (λ n. take n (drop place text)) e
-
-slice_one : (text : List ℕ) (place : ℕ) → place < length text → slice_range text place (place + 1) ≡ get_or text place 0 ∷ []
-slice_one text place l =
-    let e : place + 1 - place ≡ 1 = omega arith in
-    ap (λ n. take n (drop place text)) e ∙ ap (take 1) (drop_more text place 0 l)
-
-drop_none : (n : ℕ) → ◌≡◌ {A = List ℕ} (drop n []) []
-drop_none zero = refl
-drop_none (suc n) = refl
-
-taken_none : (n m : ℕ) → ◌≡◌ {A = List ℕ} (take n [] ++ take m (drop n [])) (take (n + m) [])
-taken_none n m = ap (λ s. s ++ take m (drop {A = ℕ} n [])) (sym (take_none n)) ∙ ap (take m) (drop_none n) ∙ sym (take_none m) ∙ take_none (n + m)
-
-taken_twice : (n m : ℕ) (xs : List ℕ) → take n xs ++ take m (drop n xs) ≡ take (n + m) xs
-taken_twice zero m xs = let e : m ≡ zero + m = omega arith in ap (λ k. take k xs) e
-taken_twice (suc n) m [] = taken_none (suc n) m
-taken_twice (suc n) m (x ∷ xs) = let e : suc (n + m) ≡ suc n + m = omega arith in ap (λ t. x ∷ t) (taken_twice n m xs) ∙ ap (λ k. take k (x ∷ xs)) e
-
-slice_join : (text : List ℕ) (a b c : ℕ) → a ≤ b → b ≤ c → slice_range text a b ++ slice_range text b c ≡ slice_range text a c
-slice_join text a b c l h =
-    let e : a + (b - a) ≡ b = omega arith in
-    let n : b - a + (c - b) ≡ c - a = omega arith in
-    ap (λ i. take (b - a) (drop a text) ++ take (c - b) (drop i text)) (sym e)
-    ∙ ap (λ s. take (b - a) (drop a text) ++ take (c - b) s) (sym (drop-drop (b - a) a text))
-    ∙ taken_twice (b - a) (c - b) (drop a text)
-    ∙ ap (λ k. take k (drop a text)) n
 
 -- Searching
 
@@ -56,6 +25,8 @@ pub record Searching (c0 c : Cursor) (from : ℕ) : Type 0 where
   pub on : LooksOn c0 c
   pub passed : Reads (text_of c0) c0.place c.place []
   pub stretch : Reads (text_of c0) c.place from (slice_range (text_of c0) c.place from)
+  pub skipped : IsSkipped (text_of c0) c0.place c.place
+  pub kept : IsWithoutTabs (text_of c0) c.place from
 
 pub searching_none : {c : Cursor} → Looking c c.place 0 → Searching c c c.place
 searching_none {c} k =
@@ -65,6 +36,8 @@ searching_none {c} k =
       on = record { text_stays = refl; looks_grow = omega arith };
       passed = reads_none (text_of c) c.place k.within;
       stretch = subst P (sym (slice_none (text_of c) c.place)) (reads_none (text_of c) c.place k.within);
+      skipped = skipped_none (text_of c) c.place;
+      kept = without_tabs_none (text_of c) c.place;
     }
 
 -- the stretch reaches a mark
@@ -72,6 +45,8 @@ pub record Reached (c0 c : Cursor) (mark : ℕ) : Type 0 where
   pub on : LooksOn c0 c
   pub passed : Reads (text_of c0) c0.place c.place []
   pub stretch : Reads (text_of c0) c.place mark (slice_range (text_of c0) c.place mark)
+  pub skipped : IsSkipped (text_of c0) c0.place c.place
+  pub kept : IsWithoutTabs (text_of c0) c.place mark
 
 pub on_then : {a b c : Cursor} → LooksOn a b → LooksOn b c → LooksOn a c
 on_then h k = record { text_stays = k.text_stays ∙ h.text_stays; looks_grow = let x = h.looks_grow in let y = k.looks_grow in omega arith }
@@ -91,10 +66,18 @@ reached {c0} {c} {c1} {c2} {from} {mark} s m a b =
     let Q : ℕ → Type 0 = λ p. Reads (text_of c0) p mark (slice_range (text_of c0) p mark) in
     let C : List ℕ → Type 0 = λ t. IsClear t from mark in
     let R : List ℕ → Type 0 = λ t. mark ≤ length t in
+    let S : ℕ → Type 0 = λ p. IsSkipped (text_of c0) c0.place p in
+    let K : ℕ → Type 0 = λ p. IsWithoutTabs (text_of c0) p mark in
+    let within = subst R text m.within in
+    let clear = subst C text m.clear in
+    let f = s.stretch.few in
     record {
       on = on_then s.on (on_then a.on b.stays.on);
       passed = subst P (sym place) s.passed;
-      stretch = subst Q (sym place) (stretch_on s.stretch (reads_clear m.forward (subst R text m.within) (subst C text m.clear)));
+      stretch = subst Q (sym place) (stretch_on s.stretch (reads_clear m.forward within clear));
+      skipped = subst S (sym place) s.skipped;
+      kept = subst K (sym place)
+          (without_tabs_then (text_of c0) c.place from mark (omega arith) m.forward s.kept (without_tabs_clear (text_of c0) from mark m.forward within clear));
     }
 
 -- a '%' that begins no escape is part of the stretch
@@ -105,7 +88,16 @@ search_percent {c0} {c} {mark} r p k =
     let q : LonePercent (text_of c0) mark = subst P text p in
     let Q : List ℕ → Type 0 = λ s. Reads (text_of c0) mark (mark + 1) s in
     let one : 37 ∷ [] ≡ slice_range (text_of c0) mark (mark + 1) = ap (λ b. b ∷ []) (sym q.percent) ∙ sym (slice_one (text_of c0) mark q.within) in
-    record { looking = k; on = r.on; passed = r.passed; stretch = stretch_on r.stretch (subst Q one (reads_percent q)) }
+    let tab : is_tab_or_newline (get_or (text_of c0) mark 0) ≡ false = ap is_tab_or_newline q.percent in
+    let f = r.stretch.few in
+    record {
+      looking = k;
+      on = r.on;
+      passed = r.passed;
+      stretch = stretch_on r.stretch (subst Q one (reads_percent q));
+      skipped = r.skipped;
+      kept = without_tabs_then (text_of c0) c.place mark (mark + 1) (omega arith) (omega arith) r.kept (without_tabs_byte (text_of c0) mark q.within tab);
+    }
 
 -- a tab or newline before any stretch is passed
 pub search_passed : {c0 c : Cursor} (c' : Cursor) {mark : ℕ} → Reached c0 c mark → IsPassed (text_of c) mark → Looking c (mark + 1) 0 → mark ≡ c.place → text_of c' ≡ text_of c → c'.source.looks ≡ c.source.looks → c'.base ≡ c.base → c'.seen ≡ c.seen → c'.marks ≡ c.marks → c'.place ≡ mark + 1 → Searching c0 c' (mark + 1)
@@ -120,11 +112,17 @@ search_passed {c0} {c} c' {mark} r p k e t n b s m a =
     let w = both.within in
     let S : ℕ → Type 0 = λ x. Reads (text_of c0) x (mark + 1) (slice_range (text_of c0) x (mark + 1)) in
     let T : List ℕ → Type 0 = λ x. Reads (text_of c0) (mark + 1) (mark + 1) x in
+    let U : ℕ → Type 0 = λ x. IsSkipped (text_of c0) c0.place x in
+    let V : ℕ → Type 0 = λ x. IsWithoutTabs (text_of c0) x (mark + 1) in
+    let f = first.few in
     record {
       looking = looking_as (mark + 1) 0 k t b s m (omega arith) k.within (omega arith);
       on = record { text_stays = t ∙ text; looks_grow = let g = r.on.looks_grow in omega arith };
       passed = subst Q (sym a) both;
       stretch = subst S (sym a) (subst T (sym (slice_none (text_of c0) (mark + 1))) (reads_none (text_of c0) (mark + 1) w));
+      skipped = subst U (sym a) (skipped_then (text_of c0) c0.place mark (mark + 1) (omega arith) (omega arith) (subst U (sym e) r.skipped)
+          (skipped_byte (text_of c0) mark q.within q.passed));
+      kept = subst V (sym a) (without_tabs_none (text_of c0) (mark + 1));
     }
 
 -- Pieces
@@ -144,18 +142,26 @@ stops_end [] h = refl
 stops_end (b ∷ s) h = ap (λ v. is_slice_end (v ∷ s)) h
 
 -- the stretch up to the mark, as a piece
-slice_piece : {c0 c : Cursor} {mark to : ℕ} {bytes : List ℕ} → Reached c0 c mark → mark ≢ c.place → mark ≤ to → bytes ≡ slice_range (text_of c) c.place mark → is_slice_end (drop mark (text_of c0)) ≡ true → IsStretch (text_of c0) c0.place to bytes
-slice_piece {c0} {c} {mark} {to} {bytes} r n l e h =
+slice_piece : {c0 c : Cursor} {mark to : ℕ} {bytes : List ℕ} → Reached c0 c mark → mark ≢ c.place
+    → Reads (text_of c0) mark to [] → IsSkipped (text_of c0) mark to → bytes ≡ slice_range (text_of c) c.place mark
+    → is_slice_end (drop mark (text_of c0)) ≡ true → IsStretch (text_of c0) c0.place to bytes
+slice_piece {c0} {c} {mark} {to} {bytes} r n after skipped e h =
     let f = r.passed.few in
     let g = r.stretch.few in
+    let a = after.few in
+    let is : bytes ≡ slice_range (text_of c0) c.place mark = e ∙ ap (λ t. slice_range t c.place mark) r.on.text_stays in
     record {
       start = c.place;
       end = mark;
       from_le = omega arith;
       nonempty = omega arith;
-      to_le = l;
-      slice_is = e ∙ ap (λ t. slice_range t c.place mark) r.on.text_stays;
+      to_le = omega arith;
+      skipped_before = r.skipped;
+      slice_is = is;
+      without_tabs = ap without_tabs_and_newlines is ∙ r.kept ∙ sym is;
       stops_there = h;
+      skipped_after = skipped;
+      in_front = in_front (reads_then (reads_then r.passed r.stretch) after);
     }
 
 slice_read : {c0 c : Cursor} {mark : ℕ} {bytes : List ℕ} → Reached c0 c mark → bytes ≡ slice_range (text_of c) c.place mark → Reads (text_of c0) c0.place mark bytes
@@ -186,7 +192,7 @@ slice_passed {c0} {c} {mark} p r h n cut =
     record {
       on = moved_on (mark + 1) Unknown r.on;
       reads = subst R (append-nil (bytes_of p)) (reads_then (slice_read r cut.0) (reads_passed q.within q.passed));
-      piece = piece_in mark p r.on cut (slice_piece r n (omega arith) cut.0 stop);
+      piece = piece_in mark p r.on cut (slice_piece r n (reads_passed q.within q.passed) (skipped_byte (text_of c0) mark q.within q.passed) cut.0 stop);
       ended = tt;
     }
 
@@ -202,7 +208,7 @@ slice_escape {c0} {c} {mark} {value} {end} p r h n cut =
     record {
       on = moved_on mark (Escape value end) r.on;
       reads = slice_read r cut.0;
-      piece = piece_in mark p r.on cut (slice_piece r n (omega arith) cut.0 stop);
+      piece = piece_in mark p r.on cut (slice_piece r n (reads_none (text_of c0) mark r.stretch.within) (skipped_none (text_of c0) mark) cut.0 stop);
       ended = tt;
     }
 
@@ -213,7 +219,7 @@ slice_end {c0} {c} {mark} p r h n cut =
     record {
       on = moved_on mark End r.on;
       reads = slice_read r cut.0;
-      piece = piece_in mark p r.on cut (slice_piece r n (omega arith) cut.0 (stops_end (drop mark (text_of c0)) begins));
+      piece = piece_in mark p r.on cut (slice_piece r n (reads_none (text_of c0) mark r.stretch.within) (skipped_none (text_of c0) mark) cut.0 (stops_end (drop mark (text_of c0)) begins));
       ended = tt;
     }
 
@@ -223,11 +229,21 @@ byte_here {c0} {c} {mark} {value} {end} r h e =
     let P : List ℕ → Type 0 = λ x. EscapeAt x mark value end in
     let q : EscapeAt (text_of c0) mark value end = subst P text h in
     let Q : ℕ → Type 0 = λ x. Reads (text_of c0) c0.place x [] in
+    let S : ℕ → Type 0 = λ x. IsSkipped (text_of c0) c0.place x in
     let f = r.passed.few in
+    let reads = reads_then (subst Q (sym e) r.passed) (reads_escape q) in
     record {
       on = moved_on end BehindEscape r.on;
-      reads = reads_then (subst Q (sym e) r.passed) (reads_escape q);
-      piece = record { start = mark; from_le = omega arith; nonempty = q.some; percent = q.percent; value_is = q.value_is };
+      reads = reads;
+      piece = record {
+        start = mark;
+        from_le = omega arith;
+        nonempty = q.some;
+        skipped_before = subst S (sym e) r.skipped;
+        in_front = in_front reads;
+        percent = q.percent;
+        value_is = q.value_is;
+      };
       ended = tt;
     }
 
@@ -279,12 +295,24 @@ knows_on {c} {c'} {next} k g a =
     let text = g.on.text_stays in
     record { behind_is = ap (behind 35) text ∙ k.behind_is ∙ g.reads.behind_is ∙ ap (λ t. behind 35 (drop c'.place t)) (sym text); ahead_is = a }
 
+-- an escape at the walk's place is a piece
+escape_piece : {text : List ℕ} {place value end : ℕ} → EscapeAt text place value end → IsEscape text place end value
+escape_piece {text} {place} {value} {end} q = record {
+  start = place;
+  from_le = omega arith;
+  nonempty = q.some;
+  skipped_before = skipped_none text place;
+  in_front = in_front (reads_escape q);
+  percent = q.percent;
+  value_is = q.value_is;
+}
+
 pub byte_known : {c : Cursor} {value end : ℕ} → EscapeAt (text_of c) c.place value end → GoesOn c (Some (Byte value)) (record c { place = end; ahead = BehindEscape })
 byte_known {c} {value} {end} q =
     record {
       on = record { text_stays = refl; looks_grow = omega arith };
       reads = reads_escape q;
-      piece = record { start = c.place; from_le = omega arith; nonempty = q.some; percent = q.percent; value_is = q.value_is };
+      piece = escape_piece q;
       ended = tt;
     }
 
@@ -293,7 +321,7 @@ byte_behind {c} {c'} {value} on q =
     record {
       on = on;
       reads = reads_escape q;
-      piece = record { start = c.place; from_le = omega arith; nonempty = q.some; percent = q.percent; value_is = q.value_is };
+      piece = escape_piece q;
       ended = tt;
     }
 

@@ -3,9 +3,9 @@ use Rattle.std.proofs.Common.{◌≡◌, ℕ, ◌+◌, ◌*◌, ◌-◌, ◌<◌
 use Rattle.std.specs.Prelude.{IfNone}
 use Rattle.std.proofs.lemmas.List.{length-drop, length-set, length-take-le, nil_from_length, take_more_set}
 use Rattle.data_url.specs.Fetch.{plain_body}
-use Rattle.data_url.specs.Pieces.{IsPiece, bytes_of, bytes_of_next}
+use Rattle.data_url.specs.Pieces.{IsPiece, bytes_of, bytes_of_next, has_ended, text_of, walk_of}
 use Rattle.data_url.specs.Steps.Chunks.{IsChunk, IsFilled, chunk_bytes}
-use Rattle.data_url.specs.Steps.Walk.{Gathers, GoesOn, Knows, KnowsAhead, Reads, has_ended, text_of, walk_of}
+use Rattle.data_url.specs.Steps.Walk.{Gathers, GoesOn, Knows, KnowsAhead, Reads}
 use Rattle.data_url.specs.declared.escapes.Chunk.{Chunk}
 use Rattle.data_url.specs.declared.escapes.Chunk.TheVariants as chunk
 use Rattle.data_url.specs.declared.escapes.Piece.{Piece}

@@ -66,7 +66,7 @@ reads_escape {text} {place} {value} {end} p =
     }
 
 -- a byte that is not marked
-unmarked_tab : (t h p : Bool) → (t || (h || p)) ≡ false → t ≡ false
+pub unmarked_tab : (t h p : Bool) → (t || (h || p)) ≡ false → t ≡ false
 unmarked_tab true h p e = absurd (let k : true ≡ false = e in cc)
 unmarked_tab false h p e = refl
 

@@ -6,7 +6,8 @@ use Rattle.std.specs.Simd.Lanes.{chunk, mask_l}
 use Rattle.std.proofs.lemmas.Bool.{cases_lt}
 use Rattle.std.proofs.lemmas.List.{length-drop, length-take-le}
 use Rattle.std.proofs.lemmas.Simd.{none_from_empty_mask, run_in_chunk_fails, run_in_chunk_le, run_in_chunk_stops, trailing_mask_l}
-use Rattle.data_url.specs.Steps.Walk.{IsClear, IsNextMark, Looking, Stays, text_of}
+use Rattle.data_url.specs.Steps.Walk.{IsClear, IsNextMark, Looking, Stays}
+use Rattle.data_url.specs.Pieces.{text_of}
 use Rattle.data_url.specs.Steps.Window.{is_marked}
 use Rattle.data_url.specs.declared.escapes.cursor.Cursor.{Cursor}
 use Rattle.data_url.proofs.TextBlockLemmas.{marks_later}

@@ -6,6 +6,7 @@ pub mod Errors
 pub mod Fetch
 pub mod InvalidBase64
 pub mod Laws
+pub mod Looks
 pub mod Mime
 pub mod MimeType
 pub mod Percent

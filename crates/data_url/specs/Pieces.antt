@@ -3,9 +3,12 @@
 use Rattle.std.specs.Char.{digit_value, is_ascii_hexdigit}
 use Rattle.std.specs.Prelude.{[], if◌then◌else◌, ◌&&◌, ◌*◌, ◌+◌, ◌<◌, ◌==◌, ◌||◌, ◌∷◌, ◌≡◌, ◌≤◌, Bool, List, None, Option, Some, drop, false, is_some, slice_index, slice_range, true, ℕ}
 use Rattle.data_url.specs.Fetch.{plain_body}
-use Rattle.data_url.specs.Url.{is_tab_or_newline}
+use Rattle.data_url.specs.Url.{front, is_tab_or_newline, without_tabs_and_newlines}
 use Rattle.data_url.specs.declared.escapes.Piece.TheVariants.{Byte, Slice}
 use Rattle.data_url.specs.declared.escapes.Piece.{Piece}
+use Rattle.data_url.specs.declared.escapes.cursor.Ahead.TheVariants.{BehindEscape, End, Escape, Unknown}
+use Rattle.data_url.specs.declared.escapes.cursor.Ahead.{Ahead}
+use Rattle.data_url.specs.declared.escapes.cursor.Cursor.{Cursor}
 
 -- the value of the hexadecimal digit that a text begins with, past tabs and newlines, and what
 -- follows it
@@ -33,21 +36,37 @@ abbrev pub is_slice_end : List ℕ → Bool
 is_slice_end [] = true
 is_slice_end (b ∷ s) = is_tab_or_newline b || ((b == 35) || ((b == 37) && is_some (escape s)))
 
--- a slice is a stretch of the text between two places, nonempty, and ends where it may
+-- between two places of the text there are only tabs and newlines
+abbrev pub IsSkipped : List ℕ → ℕ → ℕ → Type 0
+IsSkipped text from to = without_tabs_and_newlines (slice_range text from to) ≡ []
+
+-- between two places of the text there is no '#'
+abbrev pub IsInFront : List ℕ → ℕ → ℕ → Type 0
+IsInFront text from to = front (slice_range text from to) ≡ slice_range text from to
+
+-- a slice is a stretch of the text between two places, before the first '#': it is nonempty, has no
+-- tab or newline, and ends where it may; only tabs and newlines are skipped before and after it
 pub record IsStretch (text : List ℕ) (from to : ℕ) (slice : List ℕ) : Type 0 where
   pub start : ℕ
   pub end : ℕ
   pub from_le : from ≤ start
   pub nonempty : start < end
   pub to_le : end ≤ to
+  pub skipped_before : IsSkipped text from start
   pub slice_is : slice ≡ slice_range text start end
+  pub without_tabs : without_tabs_and_newlines slice ≡ slice
   pub stops_there : is_slice_end (drop end text) ≡ true
+  pub skipped_after : IsSkipped text end to
+  pub in_front : IsInFront text from to
 
--- a byte is the value of an escape that stands between two places and ends at the second
+-- a byte is the value of an escape between two places, before the first '#', that ends at the second;
+-- only tabs and newlines are skipped before it
 pub record IsEscape (text : List ℕ) (from to : ℕ) (byte : ℕ) : Type 0 where
   pub start : ℕ
   pub from_le : from ≤ start
   pub nonempty : start < to
+  pub skipped_before : IsSkipped text from start
+  pub in_front : IsInFront text from to
   pub percent : slice_index text start ≡ 37
   pub value_is : escape (drop (start + 1) text) ≡ Some (byte, drop to text)
 
@@ -77,3 +96,25 @@ pub record Walk : Type 0 where
 abbrev pub walk_at_front : List ℕ → Walk
 walk_at_front text =
     record { text = text; place = 0; rest = plain_body text; ended = false; looks = 0 }
+
+-- What contracts see of a `Pieces`
+
+abbrev pub text_of : Cursor → List ℕ
+text_of c = c.source.text.now
+
+-- whether a walk has ended
+abbrev pub has_ended : Ahead → Bool
+has_ended Unknown = false
+has_ended BehindEscape = false
+has_ended (Escape value end) = false
+has_ended End = true
+
+-- a walk over the fields of a `Pieces`
+abbrev pub walk_of : Cursor → Walk
+walk_of c = record {
+  text = text_of c;
+  place = c.place;
+  rest = plain_body (drop c.place (text_of c));
+  ended = has_ended c.ahead;
+  looks = c.source.looks;
+}

@@ -39,8 +39,8 @@ pub struct Pieces<'a> {
 }
 
 impl<'a> Model for Pieces<'a> {
-    ghost use Rattle.data_url.specs.Pieces.{Walk};
-    ghost use Rattle.data_url.specs.Steps.Walk.{Knows, walk_of};
+    ghost use Rattle.data_url.specs.Pieces.{Walk, walk_of};
+    ghost use Rattle.data_url.specs.Steps.Walk.{Knows};
 
     ghost Value = { Walk };
 

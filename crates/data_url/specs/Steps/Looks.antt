@@ -1,22 +1,6 @@
--- How many bytes were looked at.
+-- How many looks at a text are paid for.
 use Rattle.std.specs.List.{prefix_len}
-use Rattle.std.specs.Prelude.{◌*◌, ◌+◌, ◌==◌, List, None, Option, Some, drop, not, ℕ}
-use Rattle.std.specs.declared.snapshot.Snapshot.{Snapshot}
-use Rattle.data_url.specs.declared.escapes.looks.Mark.TheFolds.{fold-Mark}
-use Rattle.data_url.specs.declared.escapes.looks.Mark.{Mark, Mark-F}
-
--- the bytes of the looks before one
-abbrev pub bytes_before : Option (Snapshot ℕ) → ℕ
-bytes_before None = 0
-bytes_before (Some looked) = looked.value
-
--- those of one look and of those before it
-abbrev pub bytes_with : Mark-F ℕ → ℕ
-bytes_with mark = bytes_before mark.before + mark.bytes
-
--- the bytes of all looks
-abbrev pub bytes_looked_at : Mark → ℕ
-bytes_looked_at = fold-Mark ℕ bytes_with
+use Rattle.std.specs.Prelude.{◌*◌, ◌+◌, ◌==◌, List, drop, not, ℕ}
 
 -- how many bytes stand before the next '%'
 abbrev pub before_percent : List ℕ → ℕ

@@ -4,7 +4,7 @@ use Rattle.std.specs.Prelude.{◌*◌, ◌++◌, ◌+◌, ◌-◌, ◌<◌, ◌�
 use Rattle.std.specs.Simd.Lanes.{mask_l}
 use Rattle.data_url.specs.Base64.{without_whitespace}
 use Rattle.data_url.specs.Fetch.{plain_body}
-use Rattle.data_url.specs.Pieces.{IsPiece, Walk, bytes_of_next, escape}
+use Rattle.data_url.specs.Pieces.{IsPiece, bytes_of_next, escape, has_ended, text_of}
 use Rattle.data_url.specs.Steps.Looks.{paid_looks}
 use Rattle.data_url.specs.Steps.Tail.{BeginsFragment}
 use Rattle.data_url.specs.Steps.Window.{IsFree, is_marked}
@@ -76,9 +76,6 @@ pub record IsFreeTo (text : List ℕ) (from to : ℕ) : Type 0 where
 
 -- Walks
 
-abbrev pub text_of : Cursor → List ℕ
-text_of c = c.source.text.now
-
 -- the walk may look at its text from a place on: its block begins before, and its looks, and so
 -- many more, are paid for
 pub record Looking (c : Cursor) (place more : ℕ) : Type 0 where
@@ -145,23 +142,6 @@ IsPlain Unknown = Unit {0}
 IsPlain BehindEscape = ⊥
 IsPlain (Escape value end) = ⊥
 IsPlain End = Unit {0}
-
--- whether a walk has ended
-abbrev pub has_ended : Ahead → Bool
-has_ended Unknown = false
-has_ended BehindEscape = false
-has_ended (Escape value end) = false
-has_ended End = true
-
--- a walk as contracts see it
-abbrev pub walk_of : Cursor → Walk
-walk_of c = record {
-  text = text_of c;
-  place = c.place;
-  rest = plain_body (drop c.place (text_of c));
-  ended = has_ended c.ahead;
-  looks = c.source.looks;
-}
 
 -- a walk goes on by a piece, or ends
 pub record GoesOn (c : Cursor) (next : Option Piece) (c' : Cursor) : Type 0 where

@@ -2,9 +2,9 @@
 
 ghost use Rattle.std.specs.Prelude.{ℕ, ◌≡◌, ◌+◌, ◌-◌, ◌^◌, ◌<◌, ◌≤◌, IsTrue, MatchOption, length, slice_index, slice_range, true, false};
 ghost use Rattle.std.specs.Option.{option_map};
-ghost use Rattle.data_url.specs.Pieces.{IsPiece, IsStretch, bytes_of};
+ghost use Rattle.data_url.specs.Pieces.{IsPiece, IsStretch, bytes_of, has_ended, text_of};
 ghost use Rattle.data_url.specs.Url.{behind};
-ghost use Rattle.data_url.specs.Steps.Walk.{Ended, EscapeAt, Gathers, GoesOn, HasRoom, IsClear, IsGathered, IsNear, IsNextMark, IsPlain, IsStop, IsFreeTo, IsWide, KeepsBlock, Knows, KnowsAhead, Looking, LooksOn, MayGather, Moves, Spans, Stays, has_ended, text_of};
+ghost use Rattle.data_url.specs.Steps.Walk.{Ended, EscapeAt, Gathers, GoesOn, HasRoom, IsClear, IsGathered, IsNear, IsNextMark, IsPlain, IsStop, IsFreeTo, IsWide, KeepsBlock, Knows, KnowsAhead, Looking, LooksOn, MayGather, Moves, Spans, Stays};
 ghost use Rattle.data_url.specs.Steps.Window.{is_marked};
 
 use super::Piece;

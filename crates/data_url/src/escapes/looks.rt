@@ -23,7 +23,7 @@ const _: () = prove!(size_of::<Looks>() == 0);
 
 impl Model for Looks {
     ghost use Rattle.std.specs.Prelude.{ℕ};
-    ghost use Rattle.data_url.specs.Steps.Looks.{bytes_looked_at};
+    ghost use Rattle.data_url.specs.Looks.{bytes_looked_at};
 
     ghost Value = { ℕ };
 

@@ -1,6 +1,6 @@
 //! The text of a body, whose bytes are examined through counted looks alone.
 
-ghost use Rattle.std.specs.Prelude.{◌≡◌, ◌≢◌, IsTrue, MatchOption, ◌+◌, ◌-◌, ◌^◌, ◌++◌, ◌<◌, ◌≤◌, drop, length, map, min, slice_index, slice_range, take};
+ghost use Rattle.std.specs.Prelude.{◌≡◌, ◌≢◌, IsTrue, MatchOption, [], ◌+◌, ◌-◌, ◌^◌, ◌++◌, ◌<◌, ◌≤◌, drop, length, map, min, slice_index, slice_range, take};
 ghost use Rattle.std.specs.Simd.Lanes.{mask_l};
 ghost use Rattle.data_url.specs.Steps.Window.{IsFree, is_marked};
 ghost use Rattle.data_url.specs.Steps.Walk.{IsClear};
@@ -31,15 +31,14 @@ impl<'a> Source<'a> {
         }
     }
 
-    /// The text with its looks so far, which leaves the text without a look.
+    /// Takes the text with its looks so far out, and leaves an empty text. So a text is always in one `Source`.
     #[inline(always)]
     pub(super) fn take(&mut self) -> Source<'a>
         ensures text { result.text.now ≡ self.old.text.now }
         ensures looks { result.looks ≡ self.old.looks }
-        ensures left { self.new.text.now ≡ self.old.text.now }
+        ensures left { self.new.text.now ≡ [] }
     {
-        let text = self.text;
-        replace(self, Source::new(text))
+        replace(self, Source::new(""))
     }
 
     /// The number of its bytes.

@@ -1,6 +1,6 @@
 use Rattle.std.proofs.Common.{ap, subst}
 use Rattle.data_url.specs.Steps.Tail.{IsSlice}
-use Rattle.data_url.specs.Steps.Walk.{text_of}
+use Rattle.data_url.specs.Pieces.{text_of}
 use Rattle.data_url.proofs.ReadLemmas.{slice_from}
 use Rattle.data_url.proofs.escapes.Pieces.is_slice.Goals as goal
 

@@ -1,7 +1,7 @@
 use Rattle.std.proofs.Common.{Some, subst, arith, set}
-use Rattle.data_url.specs.Pieces.{Walk}
+use Rattle.data_url.specs.Pieces.{Walk, walk_of}
 use Rattle.data_url.specs.Steps.Chunks.{IsChunk}
-use Rattle.data_url.specs.Steps.Walk.{GoesOn, walk_of}
+use Rattle.data_url.specs.Steps.Walk.{GoesOn}
 use Rattle.data_url.specs.declared.escapes.Chunk.TheVariants.{End, Gathered}
 use Rattle.data_url.specs.declared.escapes.Piece.{Piece}
 use Rattle.data_url.proofs.PieceLemmas.{chunk_byte, chunk_end}

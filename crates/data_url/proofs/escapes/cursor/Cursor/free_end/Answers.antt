@@ -1,5 +1,6 @@
 use Rattle.std.proofs.Common.{◌≡◌, ◌+◌, ◌-◌, ap, arith, length, min, refl, subst, sym, ◌∙◌, ℕ}
-use Rattle.data_url.specs.Steps.Walk.{IsFreeTo, text_of}
+use Rattle.data_url.specs.Steps.Walk.{IsFreeTo}
+use Rattle.data_url.specs.Pieces.{text_of}
 use Rattle.data_url.specs.Steps.Window.{IsFree}
 use Rattle.data_url.proofs.FreeLemmas.{free_on, looking_free}
 use Rattle.data_url.proofs.WindowLemmas.{stays_then}

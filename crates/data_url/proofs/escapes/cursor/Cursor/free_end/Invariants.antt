@@ -1,6 +1,7 @@
 -- What was passed has neither '#' nor '%'.
 use Rattle.std.proofs.Common.{◌-◌, ◌≤◌, length}
-use Rattle.data_url.specs.Steps.Walk.{IsFreeTo, Looking, Stays, text_of}
+use Rattle.data_url.specs.Steps.Walk.{IsFreeTo, Looking, Stays}
+use Rattle.data_url.specs.Pieces.{text_of}
 use Rattle.data_url.proofs.escapes.cursor.Cursor.free_end.Given as goal
 
 abbrev pub invariant-loop-place : goal.invariant-loop-place

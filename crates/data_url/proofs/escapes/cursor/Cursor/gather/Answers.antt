@@ -1,5 +1,5 @@
 use Rattle.std.proofs.Common.{ap, ◌∙◌, length}
-use Rattle.data_url.specs.Steps.Walk.{text_of}
+use Rattle.data_url.specs.Pieces.{text_of}
 use Rattle.data_url.proofs.GatherLemmas.{smaller}
 use Rattle.data_url.proofs.escapes.cursor.Cursor.gather.Goals as goal
 

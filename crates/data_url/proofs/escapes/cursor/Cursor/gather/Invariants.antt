@@ -1,6 +1,7 @@
 -- So many bytes were gathered, and what is known of the walk is that its body ends or nothing.
 use Rattle.std.proofs.Common.{◌≤◌, length}
-use Rattle.data_url.specs.Steps.Walk.{Gathers, IsPlain, KnowsAhead, has_ended, text_of}
+use Rattle.data_url.specs.Steps.Walk.{Gathers, IsPlain, KnowsAhead}
+use Rattle.data_url.specs.Pieces.{has_ended, text_of}
 use Rattle.data_url.proofs.GatherLemmas.{measure}
 use Rattle.data_url.proofs.escapes.cursor.Cursor.gather.Given as goal
 

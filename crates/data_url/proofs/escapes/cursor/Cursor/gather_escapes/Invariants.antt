@@ -1,6 +1,7 @@
 -- So many bytes were gathered, and the walk stands behind an escape.
 use Rattle.std.proofs.Common.{◌≡◌, ◌+◌, ◌*◌, ◌-◌, ◌≤◌, length}
-use Rattle.data_url.specs.Steps.Walk.{Gathers, HasRoom, Looking, text_of}
+use Rattle.data_url.specs.Steps.Walk.{Gathers, HasRoom, Looking}
+use Rattle.data_url.specs.Pieces.{text_of}
 use Rattle.data_url.specs.declared.escapes.cursor.Ahead.TheVariants.{Unknown}
 use Rattle.data_url.proofs.escapes.cursor.Cursor.gather_escapes.Given as goal
 

@@ -1,5 +1,6 @@
 use Rattle.std.proofs.Common.{ℕ, arith, refl, subst, sym}
-use Rattle.data_url.specs.Steps.Walk.{IsNextMark, Looking, text_of}
+use Rattle.data_url.specs.Steps.Walk.{IsNextMark, Looking}
+use Rattle.data_url.specs.Pieces.{text_of}
 use Rattle.data_url.proofs.WindowLemmas.{found, found_none, has_marks, looking_clear, mark_then}
 use Rattle.data_url.proofs.escapes.cursor.Cursor.next_mark.Goals as goal
 use Rattle.data_url.proofs.escapes.cursor.Cursor.next_mark.Goals.{then-place-self+else-marks-ne0, else-place-self}

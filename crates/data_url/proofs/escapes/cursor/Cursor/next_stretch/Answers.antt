@@ -1,6 +1,9 @@
 use Rattle.std.proofs.Common.{ap, refl, ◌∙◌, length, arith}
-use Rattle.data_url.proofs.NextLemmas.{byte_here, goes_as, reached, search_passed, search_percent, slice_end, slice_escape, slice_passed}
+use Rattle.data_url.proofs.NextLemmas.{byte_here, goes_as, reached, search_passed, search_percent, searching_none, slice_end, slice_escape, slice_passed}
 use Rattle.data_url.proofs.escapes.cursor.Cursor.next_stretch.Goals as goal
+
+pub loop-from-init : goal.loop-from-init
+loop-from-init c = searching_none c.requires
 
 pub overflow_add-from : goal.overflow_add-from
 overflow_add-from c =

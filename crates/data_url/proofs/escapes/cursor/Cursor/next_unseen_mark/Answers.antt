@@ -1,5 +1,6 @@
 use Rattle.std.proofs.Common.{◌≡◌, ◌+◌, ◌-◌, ap, arith, length, min, refl, subst, sym, ◌∙◌, ℕ}
-use Rattle.data_url.specs.Steps.Walk.{IsClear, text_of}
+use Rattle.data_url.specs.Steps.Walk.{IsClear}
+use Rattle.data_url.specs.Pieces.{text_of}
 use Rattle.data_url.proofs.FreeLemmas.{block_found, clear_free, looking_found, looking_free}
 use Rattle.data_url.proofs.WindowLemmas.{clear_in, clear_then, mark_in, mark_then, stays_then}
 use Rattle.data_url.proofs.escapes.cursor.Cursor.next_unseen_mark.Goals as goal

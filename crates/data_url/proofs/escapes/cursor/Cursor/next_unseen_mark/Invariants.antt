@@ -1,6 +1,7 @@
 -- No mark stands before the place, and no byte behind it was looked at.
 use Rattle.std.proofs.Common.{◌≤◌, ◌-◌, length}
-use Rattle.data_url.specs.Steps.Walk.{IsClear, Looking, Stays, text_of}
+use Rattle.data_url.specs.Steps.Walk.{IsClear, Looking, Stays}
+use Rattle.data_url.specs.Pieces.{text_of}
 use Rattle.data_url.proofs.escapes.cursor.Cursor.next_unseen_mark.Given as goal
 
 abbrev pub invariant-loop-place : goal.invariant-loop-place
