@@ -19,7 +19,7 @@ use Rattle.data_url.proofs.PaddingLemmas.{any_of_text, before-append, before_fau
 use Rattle.data_url.proofs.ValidLemmas.{fits_with, from_fits, from_unfit}
 use Rattle.data_url.specs.Steps.Calls.{CallsOnce}
 use Rattle.data_url.specs.Steps.Ending.{IsFaultAtEnd}
-use Rattle.data_url.specs.Steps.Facts.{Fits}
+use Rattle.data_url.specs.Facts.{Fits}
 use Rattle.data_url.specs.declared.forgiving_base64.InvalidBase64Details.TheVariants.{LoneAlphabetSymbol as LoneAlphabetSymbolDetails, Padding as PaddingDetails}
 use Rattle.data_url.proofs.WalkLemmas.{bad, is_bad, some_not_none, space_alone, symbol_alone}
 

@@ -31,7 +31,7 @@ written_first p b s = elim (cases_Bool (is_tab_or_newline b)) [
   | inr e ↦ ap (percent_encoding p) (dropped_keeps b s e) ∙ encoded_cons p b (without_tabs_and_newlines s) ∙ sym (ap (λ t. t ++ encoded p s) (cond-false (is_tab_or_newline b) [] (encoded_byte p b) e))
 ]
 
-percent_encoding-append : (p : ℕ → Bool) (s t : List ℕ) → percent_encoding p (s ++ t) ≡ percent_encoding p s ++ percent_encoding p t
+pub percent_encoding-append : (p : ℕ → Bool) (s t : List ℕ) → percent_encoding p (s ++ t) ≡ percent_encoding p s ++ percent_encoding p t
 unfolding percent_encoding
 percent_encoding-append p s t = flat_map-append (encoded_byte p) s t
 

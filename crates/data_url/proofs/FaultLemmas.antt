@@ -3,7 +3,7 @@ use Rattle.std.proofs.Common.{◌≡◌, ℕ, suc, zero, ◌+◌, ◌<◌, ◌�
 use Rattle.std.specs.List.{find, range_with_len}
 use Rattle.std.proofs.lemmas.Bool.{cases_eq}
 use Rattle.data_url.specs.Base64.{first_fault, is_fault}
-use Rattle.data_url.specs.Steps.Facts.{IsFirstFault}
+use Rattle.data_url.specs.Facts.{IsFirstFault}
 
 -- The least place
 

@@ -4,7 +4,7 @@ use Rattle.std.proofs.lemmas.Bool.{both_ways, cond-false, cond_both, not-false, 
 use Rattle.std.specs.Char.{to_ascii_lowercase}
 use Rattle.data_url.specs.CodePoints.{ends_name, is_http_whitespace, is_semicolon}
 use Rattle.data_url.specs.Mime.{BeginsParameters, DoesNotBegin, Every, GivesValue, IsParameter, IsTrimmedEnd, Item, Items, Quoted, QuotedOpen, is_quote, lone_equals, nothing, plain, quoted, unclosed, unless_empty}
-use Rattle.data_url.specs.Steps.Facts.{HasOneItemList}
+use Rattle.data_url.specs.Facts.{HasOneItemList}
 use Rattle.data_url.specs.Steps.Parsing.{HasParameterBefore}
 use Rattle.data_url.proofs.TextLemmas.{behind_begins, behind_front, behind_is, front_is, front_joined, front_of, front_passes, is_trimmed_end, trimmed_end_is, without_back}
 use Rattle.data_url.proofs.QuotedLemmas.{IsRead, closed_rest, closed_value, is_read, open_rest, open_value, quoted_rest, quoted_value}

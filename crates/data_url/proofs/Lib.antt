@@ -56,6 +56,7 @@ pub mod SchemeLemmas
 pub mod SerialiseLemmas
 pub mod PaddingLemmas
 mod StagedExamples
+pub mod SpaceLemmas
 pub mod StretchLemmas
 pub mod SuffixLemmas
 pub mod TextBlockLemmas

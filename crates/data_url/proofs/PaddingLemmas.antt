@@ -9,7 +9,7 @@ use Rattle.data_url.proofs.TextLemmas.{range_high}
 use Rattle.std.proofs.lemmas.Bool.{agree_below_at, and_parts, eqb-true, false_from_ne_true, or_cases}
 use Rattle.data_url.specs.Base64.{AlphabetSymbolAfterPadding, Kind, LoneAlphabetSymbol, Padding, UnexpectedSymbol, after_groups, before_place, without_whitespace, complete_bytes, first_fault, group_bytes, group_number, groups, is_symbol, is_valid, kind_at, kind_of, without_padding, values, without_last_padding}
 use Rattle.std.specs.Char.{is_ascii_whitespace}
-use Rattle.data_url.specs.Steps.Facts.{IsSymbolsAndPadding}
+use Rattle.data_url.specs.Facts.{IsSymbolsAndPadding}
 use Rattle.data_url.specs.Mime.{Every}
 use Rattle.data_url.proofs.ValidLemmas.{fits_with, symbols_pads_valid}
 use Rattle.data_url.proofs.WalkLemmas.{Class, of_space, of_pad, of_symbol, of_none, ahead, ahead-append, ahead-append_some, ahead_none, any_symbols, before_walk, byte_at, byte_walk, compact_walk, filter_all, filter_every, filter_pads, filter_symbols, find_walk, some_not_none, stop, stop-append, stop-append_some, stop_compact, stop_place, stop_pads, stop_symbols}

@@ -5,7 +5,7 @@ use Rattle.std.specs.List.{list_all}
 use Rattle.std.specs.Char.{to_ascii_lowercase}
 use Rattle.data_url.specs.CodePoints.{is_http_whitespace, is_token}
 use Rattle.data_url.specs.Mime.{BeginsParameters, DoesNotBegin, DoesNotEnd, Every, IsHead, IsTrimmed, Item, Items, Record, is_token_text, kept_pairs}
-use Rattle.data_url.specs.Steps.Facts.{HasAtMostOneRecord}
+use Rattle.data_url.specs.Facts.{HasAtMostOneRecord}
 use Rattle.data_url.proofs.TextLemmas.{behind_front, behind_is, front_is, front_of, without_back, without_back_joined}
 use Rattle.data_url.proofs.ItemLemmas.{ends_of_rest, only_items}
 

@@ -57,7 +57,7 @@ not_ends_append p (c ∷ []) [] h k = h
 not_ends_append p (c ∷ []) (d ∷ b) h k = k
 not_ends_append p (c ∷ d ∷ a) b h k = not_ends_append p (d ∷ a) b h k
 
-not_ends_last : (p : ℕ → Bool) (c : ℕ) → p c ≡ false → (a : List ℕ) → DoesNotEnd p (a ++ (c ∷ []))
+pub not_ends_last : (p : ℕ → Bool) (c : ℕ) → p c ≡ false → (a : List ℕ) → DoesNotEnd p (a ++ (c ∷ []))
 not_ends_last p c h [] = h
 not_ends_last p c h (d ∷ []) = h
 not_ends_last p c h (d ∷ e ∷ a) = not_ends_last p c h (e ∷ a)

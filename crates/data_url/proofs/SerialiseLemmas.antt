@@ -52,7 +52,7 @@ suffix_passes p s m k e far l =
     let back : length s - 1 - j ≡ k = omega arith in
     subst (λ v. p (get_or s v 0) ≡ true) back (subst (λ v. p v ≡ true) (get_or-reverse s j 0 (omega arith)) (prefix_len_passes p (reverse s) j 0 within))
 
-suffix_stops : (p : ℕ → Bool) (s : List ℕ) (m n : ℕ) → m ≡ suffix_len p s → length s ≡ (n + 1) + m → p (get_or s n 0) ≡ false
+pub suffix_stops : (p : ℕ → Bool) (s : List ℕ) (m n : ℕ) → m ≡ suffix_len p s → length s ≡ (n + 1) + m → p (get_or s n 0) ≡ false
 suffix_stops p s m n e at =
     let within : prefix_len p (reverse s) < length (reverse s) = subst (λ v. v < length (reverse s)) e (omega (arith, length-reverse s)) in
     let back : length s - 1 - m ≡ n = omega arith in

@@ -4,7 +4,7 @@ use Rattle.std.specs.List.{list_all}
 use Rattle.std.proofs.lemmas.List.{append-nil, length-replicate}
 use Rattle.std.proofs.lemmas.Bool.{eqb-true, eq-eqb, ne_eqb, eqb-false, not-true, not_from_false, false≢true, cond-false, cond_both, and_from, and_right, false_from_ne_true}
 use Rattle.data_url.specs.Base64.{is_symbol, is_valid, without_padding, without_last_padding}
-use Rattle.data_url.specs.Steps.Facts.{Fits, IsSymbolsAndPadding, PaddingFits}
+use Rattle.data_url.specs.Facts.{Fits, IsSymbolsAndPadding, PaddingFits}
 use Rattle.data_url.specs.Mime.{Every}
 
 -- whether so many pads fit, by the remainder of the number of symbols

@@ -3,6 +3,7 @@ pub mod CodePoints
 pub mod DataUrl
 pub mod Decoder
 pub mod Errors
+pub mod Facts
 pub mod Fetch
 pub mod InvalidBase64
 pub mod Laws

@@ -4,7 +4,6 @@ pub mod Calls
 pub mod Chunks
 pub mod Digits
 pub mod Ending
-pub mod Facts
 pub mod Front
 pub mod Header
 pub mod HeldState

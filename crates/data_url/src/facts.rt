@@ -1,12 +1,12 @@
 //! Facts about the definitions, each the contract of a function that does nothing.
 
-ghost use Rattle.std.specs.Prelude.{◌++◌, ◌∷◌, ◌≡◌, ℕ, List};
+ghost use Rattle.std.specs.Prelude.{◌≡◌, ℕ, List, Some};
 ghost use Rattle.std.specs.Option.{option_map};
 ghost use Rattle.data_url.specs.Base64.{first_fault};
-ghost use Rattle.data_url.specs.Fetch.{has_base64_suffix};
-ghost use Rattle.data_url.specs.Mime.{BeginsParameters};
-ghost use Rattle.data_url.specs.Url.{behind, without_tabs_and_newlines, fragment};
-ghost use Rattle.data_url.specs.Steps.Facts.{HasAtMostOneRecord, HasOneItemList, IsFirstFault, PaddingFits};
+ghost use Rattle.data_url.specs.Fetch.{is_space};
+ghost use Rattle.data_url.specs.Mime.{BeginsParameters, DoesNotEnd};
+ghost use Rattle.data_url.specs.Url.{after_scheme, behind, without_tabs_and_newlines, fragment, serialised};
+ghost use Rattle.data_url.specs.Facts.{HasAtMostOneRecord, HasOneItemList, IsFirstFault, PaddingFits, base64_flag, serialised_with_spaces};
 
 /// A text that is empty or begins with `;` has exactly one list of items.
 pub(crate) fn one_item_list()
@@ -34,8 +34,13 @@ pub(crate) fn fragment_dropped()
         ≡ option_map without_tabs_and_newlines (behind 35 tail) }
 {}
 
-/// Nothing that stands before the `?` of a header changes its base64 flag, so that a space there is written `%20` or not.
-pub(crate) fn flag_behind_query()
-    ensures { (front other query : List ℕ) → has_base64_suffix (front ++ 63 ∷ query)
-        ≡ has_base64_suffix (other ++ 63 ∷ query) }
+/// The cleaned text does not end with a space, so after a path that ends with one there is `?` or `#`.
+pub(crate) fn no_last_space()
+    ensures { (text rest : List ℕ) → after_scheme text ≡ Some rest → DoesNotEnd is_space rest }
+{}
+
+/// The base64 flag is the same whether or not the last space of a path is encoded, with a query and without.
+pub(crate) fn flag_of_spaces()
+    ensures { (front : List ℕ) → base64_flag (serialised front)
+        ≡ base64_flag (serialised_with_spaces front) }
 {}

@@ -24,36 +24,23 @@ pub(crate) use whole::{decode_whole, room_for};
 /// after padding, that is, with a `=` somewhere before it; a lone alphabet symbol, left over behind the groups of four;
 /// and padding, where the number of `=` does not fit.
 ///
-/// Contracts see the kind, and `details` tells it.
+/// Contracts see the kind; `Display` writes it.
 #[derive(Debug, Drop)]
 pub struct InvalidBase64 {
     details: InvalidBase64Details,
 }
 
-/// The kinds of base64 that is not valid
-/// ([Infra Standard, forgiving-base64 decode](https://infra.spec.whatwg.org/#forgiving-base64-decode)).
+/// The kinds of base64 that is not valid.
 #[derive(Debug, Drop)]
-pub enum InvalidBase64Details {
+enum InvalidBase64Details {
     /// A byte that is neither whitespace nor `=` nor of the alphabet.
     UnexpectedSymbol(u8),
     /// An alphabet symbol with a `=` somewhere before it.
     AlphabetSymbolAfterPadding,
-    /// A symbol left over behind the groups of four.
+    /// A symbol left over after the groups of four.
     LoneAlphabetSymbol,
     /// A number of `=` that does not fit the symbols.
     Padding,
-}
-
-impl InvalidBase64 {
-    ghost use Rattle.std.specs.Prelude.{◌≡◌};
-    ghost use Rattle.data_url.specs.InvalidBase64.{kind_of_details};
-
-    /// The kind, and the byte of an unexpected symbol.
-    pub fn details(&self) -> &InvalidBase64Details
-        ensures { kind_of_details result.now ≡ self.now }
-    {
-        &self.details
-    }
 }
 
 impl Model for InvalidBase64 {

@@ -49,7 +49,7 @@ where
     ghost use Rattle.data_url.specs.Base64.{decoded};
     ghost use Rattle.data_url.specs.Steps.Calls.{CallsOnce};
     ghost use Rattle.data_url.specs.Steps.Ending.{IsFaultAtEnd};
-    ghost use Rattle.data_url.specs.Steps.Facts.{Fits};
+    ghost use Rattle.data_url.specs.Facts.{Fits};
     ghost use Rattle.data_url.specs.Steps.Blocks.{without};
     ghost use Rattle.data_url.specs.Steps.HeldState.{held_bytes};
     ghost use Rattle.data_url.specs.Steps.Holding.{Adds, FeedsBlocks, Flushes, Gains, Refuses, TriesBlock, bytes_in};

@@ -1,7 +1,10 @@
--- Facts about the definitions.
-use Rattle.std.specs.Prelude.{◌%◌, ◌++◌, ◌<◌, ◌↔◌, ◌≡◌, ◌≢◌, ◌⊎◌, IsTrue, List, None, Option, Some, false, length, replicate, ℕ}
+-- Facts about the definitions, as the contracts of `facts` cite them.
+use Rattle.std.specs.Prelude.{◌%◌, ◌++◌, ◌<◌, ◌↔◌, ◌≡◌, ◌≢◌, ◌⊎◌, ◌∷◌, Bool, IsTrue, List, None, Option, Some, false, length, replicate, ℕ}
+use Rattle.std.specs.Option.{option_map}
 use Rattle.data_url.specs.Base64.{without_whitespace, is_fault, is_symbol, is_valid}
+use Rattle.data_url.specs.Fetch.{before_comma, has_base64_suffix}
 use Rattle.data_url.specs.Mime.{Every, Item, Items, Parses, Record}
+use Rattle.data_url.specs.Url.{before, behind, in_path_set, in_query_set, percent_encoding}
 
 -- each text that is empty or begins with ';' is a join of parameters, with one list of items
 pub record HasOneItemList (r : List ℕ) : Type 0 where
@@ -31,3 +34,17 @@ abbrev pub IsFirstFault : List ℕ → Option ℕ → Type 0
 IsFirstFault b None = (i : ℕ) → i < length b → is_fault b i ≡ false
 IsFirstFault b (Some i) = (i < length b) × IsTrue (is_fault b i)
     × ((k : ℕ) → k < i → is_fault b k ≡ false)
+
+-- a path and its query, where it has one, serialised so that each space of the path stays
+abbrev pub with_query_and_spaces : List ℕ → Option (List ℕ) → List ℕ
+with_query_and_spaces path None = percent_encoding in_path_set path
+with_query_and_spaces path (Some query) =
+    percent_encoding in_path_set path ++ 63 ∷ percent_encoding in_query_set query
+
+-- a front, serialised by the other rule on spaces: none of its path is encoded
+abbrev pub serialised_with_spaces : List ℕ → List ℕ
+serialised_with_spaces s = with_query_and_spaces (before 63 s) (behind 63 s)
+
+-- whether the header of a serialised front says base64, where there is a header
+abbrev pub base64_flag : List ℕ → Option Bool
+base64_flag s = option_map has_base64_suffix (before_comma s)
