@@ -1,5 +1,5 @@
 -- A base64 body, fed to a decoder chunk by chunk.
-use Rattle.std.proofs.Common.{◌≡◌, ℕ, suc, ◌+◌, ◌≤◌, Bool, true, false, not, cond, ◌*◌, List, [], ◌∷◌, ◌++◌, length, drop, Option, None, Some, Result, Ok, Err, refl, sym, ap, ◌∙◌, subst, append_assoc, arith, length-append, length-drop}
+use Rattle.std.proofs.Common.{◌≡◌, ℕ, suc, ◌+◌, ◌≤◌, Bool, true, false, not, cond, ◌*◌, List, [], ◌∷◌, ◌++◌, length, drop, Option, None, Some, Result, Ok, Err, sym, ap, ◌∙◌, subst, append_assoc, arith, length-append, length-drop}
 use Rattle.std.specs.Prelude.{◌==◌, MatchBool, MatchOption}
 use Rattle.std.specs.Char.{digit_value}
 use Rattle.std.proofs.lemmas.List.{append-nil}
@@ -8,7 +8,7 @@ use Rattle.data_url.specs.Url.{before, without_tabs_and_newlines, front, is_tab_
 use Rattle.data_url.specs.Percent.{is_escape, percent_decoding}
 use Rattle.data_url.specs.Run.{joined_pieces, refusal}
 use Rattle.data_url.specs.Fetch.{Bad, Good, Outcome, outcome, outcome_bytes, plain_body}
-use Rattle.data_url.specs.Pieces.{Walk, walk_at_front}
+use Rattle.data_url.specs.Pieces.{Walk}
 use Rattle.data_url.specs.Steps.Chunks.{IsAtFront}
 use Rattle.data_url.specs.Steps.Tail.{IsBodyEnd, IsSlice}
 use Rattle.data_url.specs.DataUrl.{Answers, Decodes, HandsOut}

@@ -1,12 +1,11 @@
 -- Groups that a text begins with.
-use Rattle.std.proofs.Common.{inl, inr, ◌≡◌, ℕ, suc, ◌+◌, ◌-◌, ◌*◌, ◌%◌, ◌<◌, ◌≤◌, Bool, true, false, ◌&&◌, ◌||◌, cond, List, [], ◌∷◌, ◌++◌, map, length, get_or, take, drop, replicate, Fits, w8, refl, sym, ap, ap₂, ◌∙◌, subst, arith, length-take, length-take-le, take-add}
+use Rattle.std.proofs.Common.{inl, inr, ◌≡◌, ℕ, suc, ◌+◌, ◌-◌, ◌*◌, ◌%◌, ◌<◌, ◌≤◌, Bool, true, false, ◌&&◌, ◌||◌, cond, List, [], ◌∷◌, ◌++◌, map, length, get_or, take, drop, Fits, w8, refl, sym, ap, ap₂, ◌∙◌, subst, arith, length-take, length-take-le, take-add}
 use Rattle.std.specs.List.{filter, list_all, prefix_len}
-use Rattle.std.proofs.lemmas.Bool.{and_parts, cases_lt, false≢true}
-use Rattle.std.proofs.lemmas.List.{append-nil, drop-drop, get_or-append_right, get_or-drop, get_or-take, get_or_past, length-map, take-append-drop, take-append-le, take-map, take-take, take_at}
+use Rattle.std.proofs.lemmas.Bool.{and_parts, cases_lt}
+use Rattle.std.proofs.lemmas.List.{append-nil, drop-drop, get_or-take, get_or_past, length-map, take-append-drop, take-append-le, take-map, take-take, take_at}
 use Rattle.std.proofs.lemmas.List.Elements.{All-from_get_or}
 use Rattle.std.proofs.lemmas.List.Folds.{list_all-append}
 use Rattle.std.proofs.lemmas.List.Sums.{list_all-from_AllPass, prefix_len-le-length, prefix_len_passes}
-use Rattle.std.proofs.lemmas.Simd.{get_or-replicate}
 use Rattle.std.proofs.Math.Seq.{take-append-add}
 use Rattle.data_url.specs.Base64.{group_bytes, group_number, groups, is_symbol, symbol_value, values}
 use Rattle.std.specs.Char.{is_ascii_whitespace}

@@ -1,9 +1,8 @@
 -- A walk at the front of its text, whose first block may have been looked at.
-use Rattle.std.proofs.Common.{◌≡◌, ◌-◌, ◌<◌, ◌≤◌, ℕ, List, length, map, drop, take, false, refl, sym, ap, ap₂, ◌∙◌, subst, take_all, arith}
+use Rattle.std.proofs.Common.{◌≡◌, ◌-◌, ◌<◌, ◌≤◌, ℕ, length, drop, take, false, sym, ap, ap₂, ◌∙◌, subst, take_all, arith}
 use Rattle.std.specs.Prelude.{slice_range}
 use Rattle.data_url.specs.Steps.Walk.{IsBlock, IsClear, Knows, KnowsAhead, Looking}
 use Rattle.data_url.specs.Pieces.{has_ended, text_of}
-use Rattle.data_url.specs.Steps.Window.{is_marked}
 use Rattle.data_url.specs.Url.{behind}
 use Rattle.data_url.specs.declared.escapes.cursor.Ahead.TheVariants.{BehindEscape, End, Escape, Unknown}
 use Rattle.data_url.specs.declared.escapes.cursor.Ahead.{Ahead}

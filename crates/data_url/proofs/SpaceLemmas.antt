@@ -1,5 +1,5 @@
 -- The last space of a path: where it is encoded, and that the base64 flag does not depend on it.
-use Rattle.std.proofs.Common.{◌≡◌, ◌⊎◌, ℕ, suc, ◌+◌, ◌-◌, ◌<◌, ◌≤◌, Bool, true, false, cond, List, [], ◌∷◌, ◌++◌, length, length-append, get_or, take, drop, drop_of_length-le, map, codes, Option, None, Some, refl, sym, ap, ◌∙◌, subst, inl, inr, append_assoc, arith}
+use Rattle.std.proofs.Common.{◌≡◌, ℕ, ◌+◌, ◌-◌, ◌<◌, Bool, true, false, cond, List, [], ◌∷◌, ◌++◌, length, length-append, get_or, take, drop, drop_of_length-le, map, codes, Option, None, Some, refl, sym, ap, ◌∙◌, subst, inl, inr, append_assoc, arith}
 use Rattle.std.specs.Prelude.{◌==◌}
 use Rattle.std.specs.Option.{option_map}
 use Rattle.std.specs.List.{suffix_len}
@@ -54,8 +54,8 @@ ends_dropped s (nothing e) = nothing (ap without_tabs_and_newlines e ∙ dropped
 ends_dropped s (last init b e h) =
     let one : without_tabs_and_newlines (b ∷ []) ≡ b ∷ [] = dropped_keeps b [] (not_tab b h) ∙ ap (λ t. b ∷ t) dropped_nil in
     last (without_tabs_and_newlines init) b
-        (ap without_tabs_and_newlines e ∙ without_tabs_and_newlines-append init (b ∷ [])
-        ∙ ap (λ t. without_tabs_and_newlines init ++ t) one) h
+    (ap without_tabs_and_newlines e ∙ without_tabs_and_newlines-append init (b ∷ [])
+    ∙ ap (λ t. without_tabs_and_newlines init ++ t) one) h
 
 drop_nothing : (n : ℕ) → ◌≡◌ {A = List ℕ} (drop n []) []
 drop_nothing n = drop_of_length-le [] (omega arith)
@@ -79,7 +79,7 @@ ends_cleaned : (t : List ℕ) → Ends (cleaned_text t)
 unfolding cleaned_text trimmed_text
 ends_cleaned t =
     ends_dropped (without_end is_c0_control_or_space (without_front is_c0_control_or_space t))
-        (ends_trimmed (without_front is_c0_control_or_space t))
+    (ends_trimmed (without_front is_c0_control_or_space t))
 
 given_of : (v : Bool) (s a : List ℕ) → cond v (Some s) None ≡ Some a → a ≡ s
 given_of true s a h = cc
@@ -93,7 +93,7 @@ after_is t a h = given_of (bytes_eq (map to_ascii_lowercase (take 5 (cleaned_tex
 pub no_last_space : (t a : List ℕ) → after_scheme t ≡ Some a → DoesNotEnd is_space a
 no_last_space t a h =
     subst (DoesNotEnd is_space) (sym (after_is t a h))
-        (ends_with_no_space (drop 5 (cleaned_text t)) (ends_after 5 (cleaned_text t) (ends_cleaned t)))
+    (ends_with_no_space (drop 5 (cleaned_text t)) (ends_after 5 (cleaned_text t) (ends_cleaned t)))
 
 -- The two rules on the last space of a path
 
@@ -124,8 +124,8 @@ differs_last path init b e = elim (cases_Bool (b == 32)) [
   | inl h ↦
       let is : path ≡ init ++ 32 ∷ [] = e ∙ ap (λ c. init ++ c ∷ []) (eqb-true b 32 h) in
       last_space (percent_encoding in_path_set init) (ap encoded_path is ∙ path_space init)
-          (ap (percent_encoding in_path_set) is ∙ percent_encoding-append in_path_set init (32 ∷ [])
-          ∙ ap (λ t. percent_encoding in_path_set init ++ t) space_encoded)
+      (ap (percent_encoding in_path_set) is ∙ percent_encoding-append in_path_set init (32 ∷ [])
+      ∙ ap (λ t. percent_encoding in_path_set init ++ t) space_encoded)
   | inr h ↦ same_path (ap encoded_path e ∙ path_other init b h ∙ sym (ap (percent_encoding in_path_set) e))
 ]
 
@@ -141,11 +141,11 @@ comma_before : (x y rest : List ℕ) → behind 44 x ≡ Some rest → before_co
 comma_before x y rest h =
     let cut = is_cut 44 x rest h in
     let joined : x ++ y ≡ before 44 x ++ 44 ∷ (rest ++ y) =
-        ap (λ t. t ++ y) cut.joined ∙ append_assoc (before 44 x) (44 ∷ rest) y in
+    ap (λ t. t ++ y) cut.joined ∙ append_assoc (before 44 x) (44 ∷ rest) y in
     let found : behind 44 (x ++ y) ≡ Some (rest ++ y) =
-        ap (behind 44) joined ∙ behind_at 44 (before 44 x) (rest ++ y) cut.lacks in
+    ap (behind 44) joined ∙ behind_at 44 (before 44 x) (rest ++ y) cut.lacks in
     let front : before 44 (x ++ y) ≡ before 44 x =
-        ap (before 44) joined ∙ before_at 44 (before 44 x) (rest ++ y) cut.lacks in
+    ap (before 44) joined ∙ before_at 44 (before 44 x) (rest ++ y) cut.lacks in
     ap (option_map (λ r. before 44 (x ++ y))) found ∙ ap Some front
 
 -- the header of a text whose first comma, if there is one, comes after its '?'
@@ -154,7 +154,7 @@ comma_after : (u query : List ℕ) → behind 44 u ≡ None → (o : Option (Lis
 comma_after u query h o e =
     let found : behind 44 (u ++ 63 ∷ query) ≡ o = behind-append 44 u (63 ∷ query) h ∙ behind_other 44 63 query refl ∙ e in
     let front : before 44 (u ++ 63 ∷ query) ≡ u ++ 63 ∷ before 44 query =
-        before-append 44 u (63 ∷ query) h ∙ ap (λ t. u ++ t) (before_other 44 63 query refl) in
+    before-append 44 u (63 ∷ query) h ∙ ap (λ t. u ++ t) (before_other 44 63 query refl) in
     ap (option_map (λ r. before 44 (u ++ 63 ∷ query))) found ∙ ap (λ t. option_map (λ r. t) o) front
 
 flag_after : (u v query : List ℕ) → behind 44 u ≡ None → behind 44 v ≡ None → (o : Option (List ℕ)) → behind 44 query ≡ o
@@ -179,14 +179,14 @@ flag_of_query : (x query : List ℕ) (o : Option (List ℕ)) → behind 44 x ≡
     → base64_flag ((x ++ codes "%20") ++ 63 ∷ query) ≡ base64_flag ((x ++ codes " ") ++ 63 ∷ query)
 flag_of_query x query None e =
     flag_after (x ++ codes "%20") (x ++ codes " ") query
-        (behind-append 44 x (codes "%20") e ∙ no_comma_in_escape) (behind-append 44 x (codes " ") e ∙ no_comma_in_space)
-        (behind 44 query) refl
+    (behind-append 44 x (codes "%20") e ∙ no_comma_in_escape) (behind-append 44 x (codes " ") e ∙ no_comma_in_space)
+    (behind 44 query) refl
 flag_of_query x query (Some rest) e =
     let one = append_assoc x (codes "%20") (63 ∷ query) in
     let two = append_assoc x (codes " ") (63 ∷ query) in
     ap (option_map has_base64_suffix)
-        (ap before_comma one ∙ comma_before x (codes "%20" ++ 63 ∷ query) rest e
-        ∙ sym (ap before_comma two ∙ comma_before x (codes " " ++ 63 ∷ query) rest e))
+    (ap before_comma one ∙ comma_before x (codes "%20" ++ 63 ∷ query) rest e
+    ∙ sym (ap before_comma two ∙ comma_before x (codes " " ++ 63 ∷ query) rest e))
 
 -- the flag of such a path without a query
 flag_of_path : (x : List ℕ) (o : Option (List ℕ)) → behind 44 x ≡ o
@@ -195,8 +195,8 @@ flag_of_path x None e =
     let one : behind 44 (x ++ codes "%20") ≡ None = behind-append 44 x (codes "%20") e ∙ no_comma_in_escape in
     let two : behind 44 (x ++ codes " ") ≡ None = behind-append 44 x (codes " ") e ∙ no_comma_in_space in
     ap (option_map has_base64_suffix)
-        (ap (option_map (λ r. before 44 (x ++ codes "%20"))) one
-        ∙ sym (ap (option_map (λ r. before 44 (x ++ codes " "))) two))
+    (ap (option_map (λ r. before 44 (x ++ codes "%20"))) one
+    ∙ sym (ap (option_map (λ r. before 44 (x ++ codes " "))) two))
 flag_of_path x (Some rest) e =
     ap (option_map has_base64_suffix) (comma_before x (codes "%20") rest e ∙ sym (comma_before x (codes " ") rest e))
 

@@ -136,6 +136,6 @@ in_front {text} {bytes} {from} {to} r =
     let few = r.few in
     let e : from + (to - from) ≡ to = omega arith in
     let d : drop (to - from) (drop from text) ≡ drop to text =
-        drop-drop (to - from) from text ∙ ap (λ i. drop i text) e in
+    drop-drop (to - from) from text ∙ ap (λ i. drop i text) e in
     before_all 35 (slice_range text from to)
-        (none_before (to - from) (drop from text) (r.behind_is ∙ sym (ap (behind 35) d)))
+    (none_before (to - from) (drop from text) (r.behind_is ∙ sym (ap (behind 35) d)))

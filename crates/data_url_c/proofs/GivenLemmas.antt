@@ -1,5 +1,5 @@
 -- What a call gives of its bytes, by what its steps give.
-use Rattle.std.proofs.Common.{◌≡◌, ℕ, Bool, true, false, List, ◌++◌, Option, None, Some, Result, Ok, Err, refl, sym, ap, ◌∙◌, subst}
+use Rattle.std.proofs.Common.{◌≡◌, ℕ, Bool, true, false, List, ◌++◌, Option, None, Some, Result, Ok, Err, refl, sym, ap, ◌∙◌, subst, inl, inr}
 use Rattle.std.specs.Prelude.{IsUtf8, MatchBool, MatchOption, chars, option_map}
 use Rattle.data_url.specs.Base64.{Kind, complete_bytes, is_valid, kind_of}
 use Rattle.data_url.specs.DataUrl.{IsAcceptable, IsUrlOf, mime_of, url_body, url_tail}
@@ -20,9 +20,10 @@ use Rattle.data_url.specs.declared.mime.MimeFromStrError.TheVariants.{OutOfMemor
 use Rattle.data_url.specs.declared.mime.MimeParsingError.{MimeParsingError}
 use Rattle.data_url.proofs.UrlLemmas.{fragment_dropped}
 use Rattle.data_url.proofs.WholeLemmas.{run_reads}
-use Rattle.data_url_c.specs.Answers.{Given}
-use Rattle.data_url_c.specs.Gives.{GivesFragment, GivesMime, GivesType, IsUrlWith}
-use Rattle.data_url_c.specs.Steps.{HasFragment, HasText}
+use Rattle.data_url_c.specs.Answers.{Answers, Given}
+use Rattle.data_url_c.specs.Gives.{GivesBody, GivesFragment, GivesMime, GivesType, IsUrlWith}
+use Rattle.data_url_c.specs.Steps.{CrossesOrNot, HasFragment, HasText, IsFault}
+use Rattle.data_url_c.specs.declared.answer.DataUrlAnswer.{DataUrlAnswer}
 use Rattle.data_url_c.specs.declared.refusal.Refusal.TheVariants.{InvalidBase64, NoComma, NoFragment, NotADataUrl, NotAMimeType, NotUtf8, OutOfMemory}
 
 -- URLs
@@ -118,3 +119,56 @@ valid_all (Some e) v x all bytes r q h = absurd (let k = h.answer in cc)
 
 pub decodes_valid : {F E : Type 0} {step : F → List ℕ → Result (Unit {0}) E → F → Type 0} {f f' : F} {x : List ℕ} {r : Result (Unit {0}) (DecodeError E)} → DecodesText step f x r f' → r ≡ Ok tt → is_valid x ≡ true
 decodes_valid {x = x} {r = r} h q = valid_all (refusal h.run) (is_valid x) x _ (joined_pieces h.run) r q h.gave
+
+-- Answers
+
+-- where the kind of a fault was not read, the answer is that of memory that was refused
+pub answers : (Gives : Given → Type 0) (given : Given) {old new : List ℕ} {r : DataUrlAnswer} → Gives given
+    → (IsFault given → Gives (Err OutOfMemory)) → CrossesOrNot given old new r → Answers Gives old new r
+answers Gives given g or (inl c) = record { given = given; is_given = g; crosses = c }
+answers Gives given g or (inr c) = record { given = Err OutOfMemory; is_given = or c.0; crosses = c.1 }
+
+-- a call that may give a fault of base64 may also find no memory
+
+pub body_or_memory : (x : List ℕ) (given : Given) → GivesBody x given → IsFault given → GivesBody x (Err OutOfMemory)
+body_or_memory x (Err (InvalidBase64 kind before)) g f = (g.1.is_text, accepted x g.1.staged_is)
+body_or_memory x (Ok bytes) g f = absurd f
+body_or_memory x (Err NotADataUrl) g f = absurd f
+body_or_memory x (Err NoComma) g f = absurd f
+body_or_memory x (Err OutOfMemory) g f = absurd f
+body_or_memory x (Err NotUtf8) g f = absurd f
+body_or_memory x (Err NotAMimeType) g f = absurd f
+body_or_memory x (Err NoFragment) g f = absurd f
+
+pub fragment_or_memory : (x : List ℕ) (given : Given) → GivesFragment x given → IsFault given
+    → GivesFragment x (Err OutOfMemory)
+fragment_or_memory x (Err (InvalidBase64 kind before)) g f = (g.2.is_text, accepted x g.2.staged_is)
+fragment_or_memory x (Ok text) g f = absurd f
+fragment_or_memory x (Err NotADataUrl) g f = absurd f
+fragment_or_memory x (Err NoComma) g f = absurd f
+fragment_or_memory x (Err OutOfMemory) g f = absurd f
+fragment_or_memory x (Err NotUtf8) g f = absurd f
+fragment_or_memory x (Err NotAMimeType) g f = absurd f
+fragment_or_memory x (Err NoFragment) g f = absurd f
+
+-- printed texts have no fault of base64
+
+pub mime_has_no_fault : (x : List ℕ) (given : Given) → GivesMime x given → IsFault given → GivesMime x (Err OutOfMemory)
+mime_has_no_fault x (Err (InvalidBase64 kind before)) g f = absurd g
+mime_has_no_fault x (Ok text) g f = absurd f
+mime_has_no_fault x (Err NotADataUrl) g f = absurd f
+mime_has_no_fault x (Err NoComma) g f = absurd f
+mime_has_no_fault x (Err OutOfMemory) g f = absurd f
+mime_has_no_fault x (Err NotUtf8) g f = absurd f
+mime_has_no_fault x (Err NotAMimeType) g f = absurd f
+mime_has_no_fault x (Err NoFragment) g f = absurd f
+
+pub type_has_no_fault : (x : List ℕ) (given : Given) → GivesType x given → IsFault given → GivesType x (Err OutOfMemory)
+type_has_no_fault x (Err (InvalidBase64 kind before)) g f = absurd g
+type_has_no_fault x (Ok text) g f = absurd f
+type_has_no_fault x (Err NotADataUrl) g f = absurd f
+type_has_no_fault x (Err NoComma) g f = absurd f
+type_has_no_fault x (Err OutOfMemory) g f = absurd f
+type_has_no_fault x (Err NotUtf8) g f = absurd f
+type_has_no_fault x (Err NotAMimeType) g f = absurd f
+type_has_no_fault x (Err NoFragment) g f = absurd f

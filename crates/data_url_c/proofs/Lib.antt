@@ -1,1 +1,2 @@
 pub mod GivenLemmas
+pub mod KindLemmas

@@ -1,12 +1,14 @@
 -- What the private steps give: words that no contract of an export cites.
-use Rattle.std.specs.Prelude.{[], ◌≡◌, Err, IsUtf8, List, None, Ok, Result, Some, encode_utf8_all, option_map, ℕ}
+use Rattle.std.specs.Prelude.{[], ◌⊎◌, ◌≡◌, Err, IsUtf8, List, None, Ok, Result, Some, encode_utf8_all, option_map, take, ℕ}
 use Rattle.data_url.specs.DataUrl.{IsUrlOf, url_body, url_tail}
 use Rattle.data_url.specs.Fetch.{Bad, Good, Outcome}
 use Rattle.data_url.specs.Mime.{Record, printed}
 use Rattle.data_url.specs.Url.{behind, encoded_fragment}
 use Rattle.data_url.specs.declared.DataUrl.{DataUrl}
-use Rattle.data_url_c.specs.Answers.{Given}
+use Rattle.data_url_c.specs.Answers.{Crosses, Given}
 use Rattle.data_url_c.specs.Gives.{RefusesUrl}
+use Rattle.data_url_c.specs.declared.answer.DataUrlAnswer.{DataUrlAnswer}
+use Rattle.data_url_c.specs.declared.kind.ShortText.{ShortText}
 use Rattle.data_url_c.specs.declared.refusal.Refusal.TheVariants.{InvalidBase64, NoFragment, OutOfMemory}
 use Rattle.data_url_c.specs.declared.refusal.Refusal.{Refusal}
 
@@ -43,3 +45,16 @@ HasFragment url (Err (InvalidBase64 kind none)) =
     (bytes : List ℕ) × (url_body url ≡ Bad bytes kind) × (none.items ≡ [])
 HasFragment url (Err OutOfMemory) = Unit {0}
 HasFragment url (Err refusal) = ⊥
+
+-- the text that was written
+abbrev pub held : ShortText → List ℕ
+held text = take text.len text.bytes
+
+-- the call gives a fault of base64
+abbrev pub IsFault : Given → Type 0
+IsFault (Err (InvalidBase64 kind before)) = Unit {0}
+IsFault given = ⊥
+
+-- the answer to what a call gives; to a fault of base64 it may be that memory was refused
+abbrev pub CrossesOrNot : Given → List ℕ → List ℕ → DataUrlAnswer → Type 0
+CrossesOrNot given old new r = Crosses given old new r ⊎ (IsFault given × Crosses (Err OutOfMemory) old new r)

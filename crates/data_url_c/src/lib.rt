@@ -24,6 +24,7 @@ ghost use Rattle.data_url_c.specs.Gives.{GivesBase64, GivesBody, GivesFragment, 
 
 mod answer;
 mod base64;
+mod kind;
 mod refusal;
 mod texts;
 

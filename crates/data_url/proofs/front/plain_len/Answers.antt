@@ -1,4 +1,4 @@
-use Rattle.std.proofs.Common.{◌≡◌, ◌+◌, ◌≤◌, ap, arith, drop, drop-drop, length, length-drop, take, sym, ◌∙◌}
+use Rattle.std.proofs.Common.{◌≡◌, ◌+◌, ◌≤◌, ap, arith, drop, drop-drop, length, length-drop, sym, ◌∙◌}
 use Rattle.std.specs.List.{prefix_len}
 use Rattle.data_url.specs.Steps.Front.{is_plain_path}
 use Rattle.data_url.proofs.PlainLemmas.{row_at, row_few, row_goes_on, row_stops}

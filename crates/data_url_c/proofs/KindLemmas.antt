@@ -1,0 +1,73 @@
+-- The kind of a fault of base64, read from its text.
+use Rattle.std.proofs.Common.{◌≡◌, ◌≢◌, ℕ, zero, suc, ◌+◌, ◌/◌, ◌%◌, ◌<◌, ◌^◌, false, List, [], ◌∷◌, ◌++◌, length, length-append, get_or, codes, refl, sym, ap, ◌∙◌, subst, inl, inr, arith}
+use Rattle.std.specs.Prelude.{◌==◌}
+use Rattle.std.specs.Fmt.{decimal, digit_glyph, digits, digits_onto}
+use Rattle.std.specs.Str.Parse.{AllDigits, digits_value, without_leading_plus}
+use Rattle.std.proofs.lemmas.Bool.{cases_Bool, cond-false, eqb-true}
+use Rattle.std.proofs.lemmas.Fmt.{decimal_is_IsNumeral_wide}
+use Rattle.std.proofs.lemmas.List.{append_cancel_left, append_cancel_right}
+use Rattle.std.proofs.lemmas.Str.Parse.{without_leading_plus_none}
+use Rattle.data_url.specs.Base64.{AlphabetSymbolAfterPadding, Kind, LoneAlphabetSymbol, Padding, UnexpectedSymbol, kind_text}
+
+-- digits that are fewer than they may be are those of a small number
+few_digits : (k n : ℕ) (acc : List ℕ) → length (digits_onto k 10 false n acc) < k + length acc → n < 10 ^ k
+few_digits zero n acc h = absurd (omega arith)
+few_digits (suc k) n acc h = elim (cases_Bool (n / 10 == 0)) [
+  | inl e ↦ let z : n / 10 ≡ 0 = eqb-true (n / 10) 0 e in let p : 0 < 10 ^ k = power_some k in omega (arith, z, p)
+  | inr e ↦
+      let d = digit_glyph false (n % 10) in
+      let same = ap length (cond-false (n / 10 == 0) (d ∷ acc) (digits_onto k 10 false (n / 10) (d ∷ acc)) e) in
+      let small : n / 10 < 10 ^ k = few_digits k (n / 10) (d ∷ acc) (omega (arith, same, h)) in
+      omega (arith, small)
+]
+  where
+    power_some : (k : ℕ) → 0 < 10 ^ k
+    power_some zero = omega arith
+    power_some (suc k) = let p = power_some k in omega (arith, p)
+
+-- so a number of fewer than 64 digits is the value of its digits
+decimal_small : (n : ℕ) → length (decimal n) < 64 → n < 10 ^ 64
+unfolding digits
+decimal_small n h = few_digits 64 n [] (omega (arith, h))
+
+-- no digit is a plus
+no_plus : (ds : List ℕ) → AllDigits 10 ds → get_or ds 0 0 ≢ 43
+no_plus [] h e = absurd (omega arith)
+no_plus (c ∷ ds) h e = let k = subst (λ x. AllDigits 10 (x ∷ ds)) e h in absurd (omega (arith, k.0))
+
+decimal_value : (n : ℕ) → length (decimal n) < 64 → digits_value 10 (without_leading_plus (decimal n)) ≡ n
+decimal_value n h =
+    let is = decimal_is_IsNumeral_wide n (decimal_small n h) in
+    ap (digits_value 10) (without_leading_plus_none (decimal n) (no_plus (decimal n) is.0.1)) ∙ is.1
+
+-- the number in the text of an unexpected symbol
+pub number_is : (text rest number : List ℕ) (byte found : ℕ) → length text < 64 → text ≡ kind_text (UnexpectedSymbol byte)
+    → text ≡ codes "symbol with codepoint " ++ rest → rest ≡ number ++ codes " not expected"
+    → found ≡ digits_value 10 (without_leading_plus number) → found ≡ byte
+number_is text rest number byte found short h e f v =
+    let after : rest ≡ decimal byte ++ codes " not expected" =
+    append_cancel_left (codes "symbol with codepoint ") rest (decimal byte ++ codes " not expected") (sym e ∙ h) in
+    let is : number ≡ decimal byte =
+    append_cancel_right number (decimal byte) (codes " not expected") (sym f ∙ after) in
+    let a = length-append (codes "symbol with codepoint ") rest in
+    let b = length-append number (codes " not expected") in
+    let c = ap length e in
+    let d = ap length f in
+    let g = ap length is in
+    v ∙ ap (λ s. digits_value 10 (without_leading_plus s)) is ∙ decimal_value byte (omega (arith, a, b, c, d, g, short))
+
+-- The texts of the other kinds
+
+-- a text of an unexpected symbol begins with 's', and those of the other kinds with other letters
+abbrev first : List ℕ → ℕ
+first [] = 0
+first (b ∷ s) = b
+
+-- the kind that has this text, which is none of the three fixed ones, is an unexpected symbol
+pub is_unexpected : (kind : Kind) (text : List ℕ) → text ≡ kind_text kind → text ≢ codes "incorrect padding"
+    → text ≢ codes "lone alphabet symbol present" → text ≢ codes "alphabet symbol present after padding"
+    → (byte : ℕ) × (kind ≡ UnexpectedSymbol byte)
+is_unexpected (UnexpectedSymbol byte) text e a b c = (byte, refl)
+is_unexpected AlphabetSymbolAfterPadding text e a b c = absurd (c e)
+is_unexpected LoneAlphabetSymbol text e a b c = absurd (b e)
+is_unexpected Padding text e a b c = absurd (a e)

@@ -1,0 +1,110 @@
+//! Why base64 is not valid, read from the text of the library's error, which tells its kind in no other way.
+
+ghost use Rattle.std.specs.Prelude.{◌≡◌, ◌<◌, IfSome, length, ℕ};
+ghost use Rattle.data_url.specs.Base64.{Kind, UnexpectedSymbol, kind_text};
+ghost use Rattle.data_url_c.specs.Answers.{status_of_kind};
+
+use data_url::forgiving_base64::InvalidBase64;
+use std::fmt::{self, Write};
+use std::str;
+
+/// Base64 with padding that does not fit the symbols.
+const PADDING: u32 = 8;
+
+/// Base64 with a symbol left over after the groups of four.
+const LONE_SYMBOL: u32 = 9;
+
+/// Base64 with a symbol after padding.
+const SYMBOL_AFTER_PADDING: u32 = 10;
+
+/// Base64 with a byte that is not allowed: this and the byte.
+const UNEXPECTED_SYMBOL: u32 = 256;
+
+/// How many bytes an error's text has at most, with room to spare.
+const ROOM: usize = 60;
+
+/// A text of at most `ROOM` bytes, which takes no memory.
+#[derive(Drop)]
+struct ShortText {
+    bytes: [u8; ROOM],
+    len: usize,
+}
+
+impl ShortText {
+    ghost use Rattle.std.specs.Prelude.{[]};
+    ghost use Rattle.data_url_c.specs.Steps.{held};
+
+    /// An empty text.
+    fn new() -> ShortText
+        ensures { held result ≡ [] }
+    {
+        ShortText {
+            bytes: [0; ROOM],
+            len: 0,
+        }
+    }
+
+    /// The text, if it is UTF-8.
+    fn as_str(&self) -> Option<&str>
+        ensures text { IfSome result (λ text. text.now ≡ held self.now) }
+        ensures short { IfSome result (λ text. length text.now < 64) }
+    {
+        str::from_utf8(self.bytes.get(..self.len)?).ok()
+    }
+}
+
+impl fmt::Write for ShortText {
+    ghost use Rattle.std.specs.Prelude.{◌++◌};
+    ghost use Rattle.data_url_c.specs.Steps.{held};
+
+    ghost write_str_gives = { λ before text after. held after ≡ held before ++ text };
+
+    fn write_str(&mut self, text: &str) -> fmt::Result {
+        if self.len > ROOM || text.len() > ROOM - self.len {
+            return Err(fmt::Error);
+        }
+        let end = self.len + text.len();
+        self.bytes[self.len..end].copy_from_slice(text.as_bytes());
+        self.len = end;
+        Ok(())
+    }
+}
+
+/// The byte that the text of an unexpected symbol names.
+fn unexpected_byte(text: &str) -> Option<u8>
+    requires { length text.now < 64 }
+    ensures { (byte : ℕ) → text.now ≡ kind_text (UnexpectedSymbol byte) → IfSome result (λ found. found ≡ byte) }
+{
+    let number = text
+        .strip_prefix("symbol with codepoint ")?
+        .strip_suffix(" not expected")?;
+    match number.parse::<u8>() {
+        Ok(byte) => Some(byte),
+        Err(_) => None,
+    }
+}
+
+/// The status of the kind that has this text.
+fn status_of_text(text: &str) -> Option<u32>
+    requires { length text.now < 64 }
+    ensures { (kind : Kind) → text.now ≡ kind_text kind → IfSome result (λ status. status ≡ status_of_kind kind) }
+{
+    match text {
+        "incorrect padding" => Some(PADDING),
+        "lone alphabet symbol present" => Some(LONE_SYMBOL),
+        "alphabet symbol present after padding" => Some(SYMBOL_AFTER_PADDING),
+        _ => Some(UNEXPECTED_SYMBOL + u32::from(unexpected_byte(text)?)),
+    }
+}
+
+/// The status of base64 that is not valid: its kind, and of an unexpected symbol the byte too. None if the error's text could
+/// not be read, which does not happen.
+pub(crate) fn status_of(refusal: &InvalidBase64) -> Option<u32>
+    ensures { IfSome result (λ status. status ≡ status_of_kind refusal.now) }
+{
+    let mut text = ShortText::new();
+    let Ok(()) = write!(text, "{refusal}") else {
+        return None;
+    };
+    status_of_text(text.as_str()?)
+}
