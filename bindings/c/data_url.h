@@ -1,52 +1,70 @@
-/* data: URLs, MIME types and base64, from the library data_url.
+/* data_url.h - data: URLs, MIME types and forgiving base64
  *
- * Five calls. Each takes a text and an output, both the caller's, and answers a status and a length:
+ * SYNOPSIS
  *
- *     data_url_body      the body of a data: URL (Fetch Standard, section 6)
- *     data_url_mime      its MIME type, as it is printed (MIME Sniffing Standard, section 4.5)
- *     data_url_fragment  its fragment, percent-encoded (URL Standard, section 4.4, fragment state)
- *     data_url_type      a MIME type, parsed and printed (MIME Sniffing Standard, sections 4.4 and 4.5)
- *     data_url_base64    the bytes that base64 stands for (Infra Standard, forgiving-base64 decode)
+ *     #include "data_url.h"
+ *     cc program.c -ldata_url
  *
- *     uint8_t body[4096];
- *     struct data_url_answer got = data_url_body(url, strlen(url), body, sizeof body);
+ *     char body[4096];
+ *     struct data_url_answer got = data_url_body("data:,Hello%20World!", 20, body, sizeof body);
  *     if (got.status == DATA_URL_DONE)
  *         fwrite(body, 1, got.len, stdout);
  *
- * TEXTS. A text is `len` bytes at a pointer; no NUL ends it, and one may stand in it. Any bytes may come. The text may be
- * null where its length is 0. It is only read, and only until the call returns.
+ * WHOLE TEXTS. Each of these takes a text and an output, and returns a status and a length:
  *
- * OUTPUTS. An output is room for `room` bytes at a pointer, null where `room` is 0. It may not overlap the text. What it
- * holds before the call is never read. A call writes the bytes of its answer to its front and nothing behind them; it
- * writes none at all where it answers DATA_URL_OUTPUT_TOO_SMALL or a length of 0.
+ *     data_url_body      the body of a data: URL (Fetch Standard, section 6)
+ *     data_url_mime      its MIME type, printed (MIME Sniffing Standard, section 4.5)
+ *     data_url_fragment  its fragment, percent-encoded (URL Standard, section 4.4, fragment state)
+ *     data_url_type      a MIME type, parsed and printed (MIME Sniffing Standard, sections 4.4 and 4.5)
+ *     data_url_base64    base64, decoded (Infra Standard, forgiving-base64 decode)
  *
- * ANSWERS. `len` is how many bytes the answer has. Where `room` is less, the status is DATA_URL_OUTPUT_TOO_SMALL, whatever
- * it would be else, and a call with that much room gives the answer. So a call with no room asks for the length; an answer
- * of 0 bytes needs none, and comes at once with its own status. A body has no more bytes than the text of its URL, and the
- * bytes of base64 are no more than its text.
+ * IN PARTS. A long body goes to a file in a few kilobytes, and nothing is allocated for it:
  *
- * BASE64 THAT IS NOT VALID. data_url_body and data_url_base64 give the bytes before the first fault, with its status;
- * data_url_fragment gives none. data_url_mime decodes no body, and so tells no fault of one.
+ *     data_url_open           reads the header of a URL: its MIME type, whether its body is base64, where its tail begins
+ *     data_url_body_next      the next bytes of a body, from the tail
+ *     data_url_base64_feed    the next part of a text of base64
+ *     data_url_base64_finish  the end of that text
  *
- * OWNERSHIP. The library keeps no pointer, and has nothing to be freed. Within a call it takes memory by the program's
- * malloc, realloc and free, which have to come from one allocator and to align as C asks, and gives all of it back. It has
- * no state: calls may run on many threads at once. It may not be called from a signal handler, nor from the forked child of
- * a process with threads.
+ *     struct data_url_opened url = data_url_open(text, len, NULL, 0);
+ *     if (url.status != DATA_URL_DONE && url.status != DATA_URL_OUTPUT_TOO_SMALL) return url.status;
+ *     struct data_url_body_state state = {.is_base64 = url.is_base64};
+ *     struct data_url_answer part;
+ *     do {
+ *         part = data_url_body_next(&state, text + url.tail, url.tail_len, room, sizeof room);
+ *         fwrite(room, 1, part.len, file);
+ *     } while (part.status == DATA_URL_MORE);
+ *     return part.status;
  *
- * LINKING. This file is for C99 and C++11, and those after. Link libdata_url.a, which `bindings/build` makes; it needs
- * nothing besides the C library. It is for x86-64 processors of at least the level x86-64-v2 (SSE4.2 and POPCNT), and for
- * the calling convention of Linux.
+ * TEXTS. A text is `len` bytes at a pointer. It need not end with a NUL, and may contain one. Any bytes are allowed. The
+ * pointer may be null if `len` is 0. The text is only read, and only until the call returns.
  *
- * What does not cross: texts that are known to be UTF-8 (each call looks for itself), callbacks (a body comes whole, not in
- * pieces) and handles (each call reads its text anew).
+ * OUTPUTS. An output is room for `room` bytes at a pointer, which may be null if `room` is 0. It must not overlap the text.
+ * What it holds before the call is never read. A call writes the first `len` bytes and leaves the rest as it was. With the
+ * status DATA_URL_OUTPUT_TOO_SMALL it writes nothing.
  *
- * That the exports do what they promise is proved; that this file declares them as they are is tested.
+ * LENGTHS. `len` of an answer is how many bytes it has. If a whole text is decoded and `room` is less, the status is
+ * DATA_URL_OUTPUT_TOO_SMALL, and a second call with that much room succeeds. So a call with no room asks for the length. A
+ * body is never longer than its URL, and decoded base64 never longer than its text.
+ *
+ * INVALID BASE64. The bytes before the first fault are written, with the status of the fault. data_url_fragment writes none.
+ * data_url_mime and data_url_open do not decode the body and so find no fault in it.
+ *
+ * MEMORY AND THREADS. The library keeps no pointer and has no state of its own, so calls may run on many threads at once.
+ * The calls for whole texts and data_url_open use malloc, realloc and free, and free everything before they return; the
+ * three other calls use none of them. Do not call the library from a signal handler.
+ *
+ * PLATFORMS. Linux on x86-64 (level x86-64-v2 or higher) and aarch64. C99, C++11 and later.
+ *
+ * The functions add one thing to calls that are proved: a pointer to no bytes may be null.
  */
 #ifndef DATA_URL_H
 #define DATA_URL_H
 
+#include <stdbool.h>
 #include <stddef.h>
 #include <stdint.h>
+
+#define DATA_URL_VERSION "0.1.0"
 
 #ifdef __cplusplus
 extern "C" {
@@ -55,45 +73,49 @@ extern "C" {
 /* How a call ended. */
 enum data_url_status {
     DATA_URL_DONE = 0,
-    /* The text has no scheme "data:". */
+    /* The text does not begin with "data:". */
     DATA_URL_NOT_A_DATA_URL = 1,
-    /* No comma stands before its fragment. */
+    /* There is no comma before the fragment. */
     DATA_URL_NO_COMMA = 2,
-    /* malloc or realloc gave null. */
+    /* malloc or realloc failed. */
     DATA_URL_OUT_OF_MEMORY = 3,
-    /* The text is not UTF-8; data_url_base64 never answers this. */
+    /* The text is not UTF-8. */
     DATA_URL_NOT_UTF8 = 4,
     /* The answer has `len` bytes, and the output has no room for them. */
     DATA_URL_OUTPUT_TOO_SMALL = 5,
-    /* The text is no MIME type; data_url_type alone answers this. */
+    /* The text is no MIME type. */
     DATA_URL_NOT_A_MIME_TYPE = 6,
-    /* The URL has no '#'; data_url_fragment alone answers this. Behind a '#' there may be an empty fragment, which is done. */
+    /* The URL has no '#'. An empty fragment after a '#' is DATA_URL_DONE with length 0. */
     DATA_URL_NO_FRAGMENT = 7,
     /* Base64 with a number of '=' that does not fit the symbols. */
     DATA_URL_BASE64_PADDING = 8,
-    /* Base64 with one symbol left over behind the groups of four. */
+    /* Base64 with one symbol left over after the groups of four. */
     DATA_URL_BASE64_LONE_SYMBOL = 9,
-    /* Base64 with a symbol behind a '='. */
+    /* Base64 with a symbol after a '='. */
     DATA_URL_BASE64_SYMBOL_AFTER_PADDING = 10,
-    /* Base64 with a byte that is neither whitespace nor '=' nor a symbol: this and the byte, 256 to 511. */
+    /* There are more bytes: call again. */
+    DATA_URL_MORE = 11,
+    /* The state was not made by the calls of this file, or its text has ended. Nothing was done. */
+    DATA_URL_BAD_STATE = 12,
+    /* Base64 with a byte that is neither whitespace nor '=' nor a symbol: this plus the byte, 256 to 511. */
     DATA_URL_BASE64_UNEXPECTED_SYMBOL = 256
 };
 
-/* What a call answers. */
 struct data_url_answer {
-    /* One of enum data_url_status, or DATA_URL_BASE64_UNEXPECTED_SYMBOL and a byte. */
+    /* One of enum data_url_status, or DATA_URL_BASE64_UNEXPECTED_SYMBOL plus a byte. */
     uint32_t status;
-    /* How many bytes the answer has; 0 for each refusal but base64 that is not valid. */
+    /* How many bytes the answer has. */
     size_t len;
 };
 
-/* Whether the status tells of base64 that is not valid. */
-static inline int data_url_is_base64_fault(uint32_t status) {
-    return status >= DATA_URL_BASE64_PADDING;
+/* Whether a status says that base64 is not valid. */
+static inline bool data_url_is_base64_fault(uint32_t status) {
+    return (status >= DATA_URL_BASE64_PADDING && status <= DATA_URL_BASE64_SYMBOL_AFTER_PADDING) ||
+           status >= DATA_URL_BASE64_UNEXPECTED_SYMBOL;
 }
 
-/* Whether the status tells of an unexpected byte in base64. */
-static inline int data_url_is_unexpected_symbol(uint32_t status) {
+/* Whether a status says that base64 has an unexpected byte. */
+static inline bool data_url_is_unexpected_symbol(uint32_t status) {
     return status >= DATA_URL_BASE64_UNEXPECTED_SYMBOL;
 }
 
@@ -102,52 +124,119 @@ static inline uint8_t data_url_unexpected_symbol(uint32_t status) {
     return (uint8_t)(status - DATA_URL_BASE64_UNEXPECTED_SYMBOL);
 }
 
-/* The exports of the library. Their pointers may not be null, whatever the lengths: call the functions below. */
-struct data_url_answer dataurl_body(const uint8_t *url, size_t len, uint8_t *out, size_t room);
-struct data_url_answer dataurl_mime(const uint8_t *url, size_t len, uint8_t *out, size_t room);
-struct data_url_answer dataurl_fragment(const uint8_t *url, size_t len, uint8_t *out, size_t room);
-struct data_url_answer dataurl_type(const uint8_t *text, size_t len, uint8_t *out, size_t room);
-struct data_url_answer dataurl_base64(const uint8_t *text, size_t len, uint8_t *out, size_t room);
+/* Decodes the body of a data: URL.
+ *
+ * url, len    the URL
+ * out, room   receives the body
+ * Returns DATA_URL_DONE; DATA_URL_NOT_UTF8, _NOT_A_DATA_URL, _NO_COMMA, _OUT_OF_MEMORY with length 0;
+ * DATA_URL_OUTPUT_TOO_SMALL with the length that is needed; a fault of base64, with the bytes before it. */
+struct data_url_answer data_url_body(const void *url, size_t len, void *out, size_t room);
 
-/* Calls an export with a pointer that is not null in place of each that has no bytes. */
-static inline struct data_url_answer data_url_call(
-    struct data_url_answer (*call)(const uint8_t *, size_t, uint8_t *, size_t),
-    const void *text, size_t len, void *out, size_t room) {
-    uint8_t nothing[2] = {0, 0};
-    return call(
-        len == 0 ? &nothing[0] : (const uint8_t *)text, len,
-        room == 0 ? &nothing[1] : (uint8_t *)out, room);
-}
+/* Prints the MIME type of a data: URL: that of its header or, if the header has none, text/plain;charset=US-ASCII.
+ *
+ * url, len    the URL
+ * out, room   receives the MIME type, in UTF-8
+ * Returns DATA_URL_DONE; DATA_URL_NOT_UTF8, _NOT_A_DATA_URL, _NO_COMMA, _OUT_OF_MEMORY with length 0;
+ * DATA_URL_OUTPUT_TOO_SMALL with the length that is needed. */
+struct data_url_answer data_url_mime(const void *url, size_t len, void *out, size_t room);
 
-/* The body of a data: URL. Of base64 that is not valid: the bytes before the first fault, and its status.
- * Else NOT_UTF8, NOT_A_DATA_URL, NO_COMMA, OUT_OF_MEMORY or OUTPUT_TOO_SMALL. */
-static inline struct data_url_answer data_url_body(const void *url, size_t len, void *out, size_t room) {
-    return data_url_call(dataurl_body, url, len, out, room);
-}
+/* Percent-encodes the fragment of a data: URL, without its '#'. The body is decoded first.
+ *
+ * url, len    the URL
+ * out, room   receives the fragment
+ * Returns DATA_URL_DONE; DATA_URL_NO_FRAGMENT, _NOT_UTF8, _NOT_A_DATA_URL, _NO_COMMA, _OUT_OF_MEMORY, or a fault of base64,
+ * with length 0; DATA_URL_OUTPUT_TOO_SMALL with the length that is needed. */
+struct data_url_answer data_url_fragment(const void *url, size_t len, void *out, size_t room);
 
-/* The MIME type of a data: URL: that of its header or, where the header has none, text/plain;charset=US-ASCII. In UTF-8.
- * Else NOT_UTF8, NOT_A_DATA_URL, NO_COMMA, OUT_OF_MEMORY or OUTPUT_TOO_SMALL. */
-static inline struct data_url_answer data_url_mime(const void *url, size_t len, void *out, size_t room) {
-    return data_url_call(dataurl_mime, url, len, out, room);
-}
+/* Parses a MIME type and prints it: type, subtype and names in lower case, each name once, values quoted where necessary.
+ *
+ * type, len   the MIME type
+ * out, room   receives the printed MIME type, in UTF-8
+ * Returns DATA_URL_DONE; DATA_URL_NOT_A_MIME_TYPE, _NOT_UTF8, _OUT_OF_MEMORY with length 0;
+ * DATA_URL_OUTPUT_TOO_SMALL with the length that is needed. */
+struct data_url_answer data_url_type(const void *type, size_t len, void *out, size_t room);
 
-/* The fragment of a data: URL, percent-encoded, without its '#'. Its body is decoded first, so that a fault of base64 is
- * told in place of the fragment. Else NO_FRAGMENT, NOT_UTF8, NOT_A_DATA_URL, NO_COMMA, OUT_OF_MEMORY or OUTPUT_TOO_SMALL. */
-static inline struct data_url_answer data_url_fragment(const void *url, size_t len, void *out, size_t room) {
-    return data_url_call(dataurl_fragment, url, len, out, room);
-}
+/* Decodes a text of base64.
+ *
+ * base64, len the text, which may be any bytes
+ * out, room   receives the bytes
+ * Returns DATA_URL_DONE; DATA_URL_OUT_OF_MEMORY with length 0; DATA_URL_OUTPUT_TOO_SMALL with the length that is needed; a
+ * fault of base64, with the bytes before it. */
+struct data_url_answer data_url_base64(const void *base64, size_t len, void *out, size_t room);
 
-/* The text of a MIME type, as the Standard prints it: in lower case, each parameter once, values quoted where they have
- * to be. In UTF-8. Else NOT_A_MIME_TYPE, NOT_UTF8, OUT_OF_MEMORY or OUTPUT_TOO_SMALL. */
-static inline struct data_url_answer data_url_type(const void *text, size_t len, void *out, size_t room) {
-    return data_url_call(dataurl_type, text, len, out, room);
-}
+/* What data_url_open returns. */
+struct data_url_opened {
+    uint32_t status;
+    /* How many bytes the printed MIME type has. */
+    size_t len;
+    /* The tail, which is the text after the comma: where it begins in the URL, and how many bytes it has. */
+    size_t tail;
+    size_t tail_len;
+    /* Whether the body is base64. */
+    bool is_base64;
+};
 
-/* The bytes that base64 stands for; of a text that is not valid the bytes before the first fault, and its status. The text
- * may be any bytes. Else OUT_OF_MEMORY or OUTPUT_TOO_SMALL. */
-static inline struct data_url_answer data_url_base64(const void *text, size_t len, void *out, size_t room) {
-    return data_url_call(dataurl_base64, text, len, out, room);
-}
+/* Reads the header of a data: URL. The body is not decoded.
+ *
+ * url, len    the URL
+ * out, room   receives the printed MIME type, as from data_url_mime
+ * Returns what data_url_mime returns. With DATA_URL_DONE and DATA_URL_OUTPUT_TOO_SMALL the other fields are set too. */
+struct data_url_opened data_url_open(const void *url, size_t len, void *out, size_t room);
+
+/* How far a body was decoded. Set is_base64 to that of data_url_open, and everything else to 0. */
+struct data_url_body_state {
+    size_t from;
+    uint8_t symbols[3];
+    uint8_t pending;
+    uint8_t padding;
+    uint8_t is_base64;
+};
+
+/* Decodes the next bytes of a body. Call it with the same tail until the status is not DATA_URL_MORE.
+ *
+ * state       how far the body was decoded
+ * tail, len   the tail: url + opened.tail, opened.tail_len
+ * out, room   receives the next bytes; the room may differ from call to call, and must be 4 or more. 4 KiB are fast
+ * Returns DATA_URL_MORE; DATA_URL_DONE with the last bytes; a fault of base64, with the bytes before it;
+ * DATA_URL_OUTPUT_TOO_SMALL if the room is less than 4; DATA_URL_NOT_UTF8 if the tail is not UTF-8; DATA_URL_BAD_STATE if
+ * the state was changed by something else, or the body has ended. With the last three the state stays as it was. */
+struct data_url_answer data_url_body_next(
+    struct data_url_body_state *state, const void *tail, size_t len, void *out, size_t room);
+
+/* What a text of base64 has left. Set everything to 0 at its start. */
+struct data_url_base64_state {
+    uint8_t symbols[3];
+    uint8_t pending;
+    uint8_t padding;
+};
+
+/* What data_url_base64_feed returns. */
+struct data_url_fed {
+    uint32_t status;
+    /* How many bytes were written. */
+    size_t len;
+    /* How many bytes of the input were read. */
+    size_t read;
+};
+
+/* Decodes the next part of a text of base64. All of the input is read if the room is 3 bytes more than its length; otherwise
+ * as much as there is room for. Feed the rest, from input + read, next.
+ *
+ * state       what the text has left
+ * input, len  the next part of the text
+ * out, room   receives the bytes of the groups of four symbols that are complete; the room must be 4 or more
+ * Returns DATA_URL_DONE; a fault of base64, with the bytes before it; DATA_URL_OUTPUT_TOO_SMALL if the room is less than 4;
+ * DATA_URL_BAD_STATE. With the last two the state stays as it was. */
+struct data_url_fed data_url_base64_feed(
+    struct data_url_base64_state *state, const void *input, size_t len, void *out, size_t room);
+
+/* Ends a text of base64.
+ *
+ * state       what the text has left
+ * out, room   receives the last bytes, at most 2
+ * Returns DATA_URL_DONE; DATA_URL_BASE64_PADDING or DATA_URL_BASE64_LONE_SYMBOL with length 0; DATA_URL_OUTPUT_TOO_SMALL with
+ * the length that is needed; DATA_URL_BAD_STATE. With the last two the state stays as it was. */
+struct data_url_answer data_url_base64_finish(struct data_url_base64_state *state, void *out, size_t room);
 
 #ifdef __cplusplus
 }

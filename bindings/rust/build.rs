@@ -1,27 +1,78 @@
-//! Links `libdata_url.a` from the folder that `DATA_URL_LIB` names or, without it, from `bindings/out`, where it is built
-//! if it is not there.
+//! Links `libdata_url.a`. It is looked for in the folder that `DATA_URL_LIB` names or, without it, in `../prebuilt/TARGET` and
+//! in `../out/TARGET`, where `bindings/build` puts it. If it is in neither, it is built, which needs the Rattle kit.
 
 use std::env;
 use std::path::{Path, PathBuf};
-use std::process::Command;
+use std::process::{exit, Command, Stdio};
 
-/// Has `bindings/build` prove and build the library.
-fn build(bindings: &Path) {
-    let status = Command::new(bindings.join("build")).status();
-    let is_built = status.is_ok_and(|it| it.success());
-    assert!(is_built, "bindings/build did not build the library");
+/// The features of x86-64-v3 that x86-64-v2 does not have, as Rust names them.
+const V3: [&str; 7] = ["avx", "avx2", "bmi1", "bmi2", "f16c", "fma", "movbe"];
+
+/// Ends the build with one line.
+fn fail(why: &str) -> ! {
+    eprintln!("data-url: {}", why);
+    exit(1)
+}
+
+/// The name of a target's archive.
+fn target() -> &'static str {
+    let config = |name: &str| env::var(format!("CARGO_CFG_TARGET_{}", name)).unwrap_or_default();
+    let features = config("FEATURE");
+    let has = |name: &&str| features.split(',').any(|it| it == *name);
+    match (config("ARCH").as_str(), config("OS").as_str()) {
+        ("x86_64", "linux") if V3.iter().all(has) => "x86-64-v3",
+        ("x86_64", "linux") => "x86-64-v2",
+        ("aarch64", "linux") => "aarch64",
+        (arch, os) => fail(&format!(
+            "there is no libdata_url.a for {}-{}, only for x86-64-v2, x86-64-v3 and aarch64 with Linux",
+            arch, os
+        )),
+    }
+}
+
+/// Proves and builds the library for a target.
+fn build(bindings: &Path, target: &str) {
+    let kit = Command::new("rt").arg("version").stdout(Stdio::null()).status();
+    if !kit.map_or(false, |it| it.success()) {
+        fail(&format!(
+            "there is no libdata_url.a for {}; to build it, install the Rattle kit (`rt`) and run bindings/build {}",
+            target, target
+        ));
+    }
+    println!(
+        "cargo:warning=libdata_url.a was proved and built for {}, which takes some minutes the first time",
+        target
+    );
+    let status = Command::new(bindings.join("build")).arg(target).status();
+    if !status.map_or(false, |it| it.success()) {
+        fail("bindings/build failed");
+    }
+}
+
+/// The folder with the archive.
+fn folder() -> PathBuf {
+    if let Some(given) = env::var_os("DATA_URL_LIB") {
+        return PathBuf::from(given);
+    }
+    let bindings = Path::new(&env::var_os("CARGO_MANIFEST_DIR").expect("by cargo")).join("..");
+    let target = target();
+    let folders = [bindings.join("prebuilt").join(target), bindings.join("out").join(target)];
+    for folder in &folders {
+        if folder.join("libdata_url.a").exists() {
+            return folder.clone();
+        }
+    }
+    build(&bindings, target);
+    folders[1].clone()
 }
 
 fn main() {
     println!("cargo:rerun-if-env-changed=DATA_URL_LIB");
-    let bindings = PathBuf::from(env!("CARGO_MANIFEST_DIR")).join("..");
-    let given = env::var_os("DATA_URL_LIB").map(PathBuf::from);
-    let folder = given.clone().unwrap_or_else(|| bindings.join("out"));
+    let folder = folder();
     let archive = folder.join("libdata_url.a");
-    if given.is_none() && !archive.exists() {
-        build(&bindings);
+    if !archive.exists() {
+        fail(&format!("there is no {}", archive.display()));
     }
-    assert!(archive.exists(), "there is no {}", archive.display());
     println!("cargo:rerun-if-changed={}", archive.display());
     println!("cargo:rustc-link-search=native={}", folder.display());
     println!("cargo:rustc-link-lib=static=data_url");

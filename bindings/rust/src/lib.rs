@@ -1,127 +1,165 @@
-//! data: URLs by the [Fetch Standard](https://fetch.spec.whatwg.org/#data-urls), over a library whose calls are proved.
+//! Processing of `data:` URLs according to the Fetch Standard, over a library whose calls are proved:
+//! <https://fetch.spec.whatwg.org/#data-urls>
+//! but starting from a string rather than a parsed URL to avoid extra copies.
 //!
-//! The names are those of the crate `data-url`. What differs: a [`Mime`](mime::Mime) is read through calls and not through
-//! fields, a [`FragmentIdentifier`] borrows nothing, and an [`InvalidBase64`](forgiving_base64::InvalidBase64) tells its
-//! kind and the bytes before the fault. `Decoder` is not there: a text comes whole.
+//! Its names are those of the crate `data-url` 0.3.2, so it can take that crate's place.
 //!
-//! ```
-//! use data_url::DataUrl;
+//! ```rust
+//! use data_url::{DataUrl, mime};
 //!
-//! let url = DataUrl::process("data:text/plain;base64,SGVsbG8h#a part").unwrap();
+//! let url = DataUrl::process("data:,Hello%20World!").unwrap();
 //! let (body, fragment) = url.decode_to_vec().unwrap();
-//! assert_eq!(url.mime_type().to_string(), "text/plain");
-//! assert_eq!(body, b"Hello!");
-//! assert_eq!(fragment.unwrap().to_percent_encoded(), "a%20part");
+//!
+//! assert!(url.mime_type().matches("text", "plain"));
+//! assert_eq!(url.mime_type().get_parameter("charset"), Some("US-ASCII"));
+//! assert_eq!(body, b"Hello World!");
+//! assert!(fragment.is_none());
 //! ```
+#![no_std]
 #![deny(missing_docs)]
 
-mod exports;
+#[cfg(feature = "std")]
+extern crate std;
+
+extern crate alloc;
+
+#[cfg(not(feature = "alloc"))]
+compile_error!("the `alloc` feature must be enabled");
+
+use alloc::borrow::ToOwned;
+use alloc::string::String;
+use alloc::vec::Vec;
+use core::fmt;
+
 pub mod forgiving_base64;
+mod library;
 pub mod mime;
 
-use exports::Refusal;
 use forgiving_base64::{DecodeError, InvalidBase64};
-use mime::Mime;
-use std::error::Error;
-use std::fmt;
 
-/// A data: URL (Fetch Standard, section 6).
-#[derive(Debug)]
+/// How many bytes of a body are decoded before the closure is called with them.
+const ROOM: usize = 8192;
+
+/// A data: URL: its MIME type, and its body and fragment as a slice of the input.
 pub struct DataUrl<'a> {
-    text: &'a str,
-    mime_type: Mime,
+    mime_type: mime::Mime,
+    base64: bool,
+    encoded_body_plus_fragment: &'a str,
 }
 
-/// Why a text gave no data: URL.
-#[derive(Debug, PartialEq, Eq)]
+/// Why a text is not a data: URL.
+#[derive(Debug)]
 pub enum DataUrlError {
-    /// The text does not begin with the scheme `data:`.
+    /// The text does not begin with `data:`.
     NotADataUrl,
-    /// No comma stands before the fragment.
+    /// There is no comma before the fragment.
     NoComma,
 }
 
 impl fmt::Display for DataUrlError {
     fn fmt(&self, f: &mut fmt::Formatter<'_>) -> fmt::Result {
-        f.write_str(match self {
-            DataUrlError::NotADataUrl => "not a valid data url",
-            DataUrlError::NoComma => "data url is missing comma delimiting attributes and body",
-        })
+        match self {
+            Self::NotADataUrl => write!(f, "not a valid data url"),
+            Self::NoComma => write!(
+                f,
+                "data url is missing comma delimiting attributes and body"
+            ),
+        }
     }
 }
 
-impl Error for DataUrlError {}
-
-/// The fragment of a data: URL, percent-encoded.
-#[derive(Debug, PartialEq, Eq)]
-pub struct FragmentIdentifier {
-    encoded: String,
-}
-
-impl FragmentIdentifier {
-    /// The fragment as the URL parser leaves it (URL Standard, section 4.4, fragment state).
-    pub fn to_percent_encoded(&self) -> String {
-        self.encoded.clone()
-    }
-}
+#[cfg(feature = "std")]
+impl std::error::Error for DataUrlError {}
 
 impl<'a> DataUrl<'a> {
-    /// The data: URL of a text. A base64 body that is not valid is accepted: decoding tells the fault.
-    pub fn process(input: &'a str) -> Result<DataUrl<'a>, DataUrlError> {
-        match exports::mime(input) {
-            Ok(printed) => Ok(DataUrl {
-                text: input,
-                mime_type: Mime::of_printed(printed),
+    /// Reads the header of a data: URL. The body is not looked at.
+    /// <https://fetch.spec.whatwg.org/#data-url-processor>
+    ///
+    /// # Errors
+    ///
+    /// `NotADataUrl` if the text does not begin with `data:`, and `NoComma` if there is no comma before the fragment.
+    pub fn process(input: &'a str) -> Result<Self, DataUrlError> {
+        match library::open(input, mime::Mime::from_printed) {
+            Ok((mime_type, base64, encoded_body_plus_fragment)) => Ok(DataUrl {
+                mime_type,
+                base64,
+                encoded_body_plus_fragment,
             }),
-            Err(Refusal::NotADataUrl) => Err(DataUrlError::NotADataUrl),
-            Err(Refusal::NoComma) => Err(DataUrlError::NoComma),
-            Err(_) => unreachable!("of a text, its MIME type is refused for no other reason"),
+            Err(library::NOT_A_DATA_URL) => Err(DataUrlError::NotADataUrl),
+            Err(library::NO_COMMA) => Err(DataUrlError::NoComma),
+            Err(status) => unreachable!("status {}", status),
         }
     }
 
-    /// The MIME type: that of the header or, where the header has none, `text/plain;charset=US-ASCII`.
-    pub fn mime_type(&self) -> &Mime {
+    /// Returns the MIME type: that of the header or, if the header has none, `text/plain;charset=US-ASCII`.
+    pub fn mime_type(&self) -> &mime::Mime {
         &self.mime_type
     }
 
-    /// Hands the body's bytes to a closure, in one piece, and answers the fragment. Of base64 that is not valid the closure
-    /// gets the bytes before the first fault.
+    /// Calls `write_body_bytes` with the body's bytes, piece by piece, and returns the fragment if there is one.
+    ///
+    /// A piece has at least one byte and at most 8 KiB. Nothing is allocated.
+    ///
+    /// # Errors
+    ///
+    /// `WriteError` with the closure's error, which is not called again. `InvalidBase64` if the body is base64 that is not
+    /// valid, after the closure was called with the bytes before the first fault.
     pub fn decode<F, E>(
         &self,
         mut write_body_bytes: F,
-    ) -> Result<Option<FragmentIdentifier>, DecodeError<E>>
+    ) -> Result<Option<FragmentIdentifier<'a>>, DecodeError<E>>
     where
         F: FnMut(&[u8]) -> Result<(), E>,
     {
-        match self.decode_to_vec() {
-            Ok((body, fragment)) => {
-                write_body_bytes(&body).map_err(DecodeError::WriteError)?;
-                Ok(fragment)
+        let tail = self.encoded_body_plus_fragment;
+        let mut body = library::Body::new(self.base64);
+        let mut room = library::Room::<ROOM>::new();
+        loop {
+            let (status, bytes) = body.next(tail, &mut room);
+            if !bytes.is_empty() {
+                write_body_bytes(bytes).map_err(DecodeError::WriteError)?;
             }
-            Err(refusal) => {
-                write_body_bytes(refusal.before()).map_err(DecodeError::WriteError)?;
-                Err(DecodeError::InvalidBase64(refusal))
+            match status {
+                library::MORE => {}
+                library::DONE => return Ok(self.fragment()),
+                status => return Err(forgiving_base64::details(status).into()),
             }
         }
     }
 
-    /// The body's bytes and the fragment.
-    pub fn decode_to_vec(&self) -> Result<(Vec<u8>, Option<FragmentIdentifier>), InvalidBase64> {
-        match exports::body(self.text) {
-            Ok(body) => Ok((body, self.fragment())),
-            Err(Refusal::InvalidBase64(refusal)) => Err(refusal),
-            Err(_) => unreachable!("of a URL, the body is refused for no other reason"),
+    /// Returns the body's bytes, and the fragment if there is one.
+    ///
+    /// # Errors
+    ///
+    /// `InvalidBase64` if the body is base64 that is not valid.
+    pub fn decode_to_vec(
+        &self,
+    ) -> Result<(Vec<u8>, Option<FragmentIdentifier<'a>>), InvalidBase64> {
+        match library::body(self.encoded_body_plus_fragment, self.base64) {
+            (library::DONE, bytes) => Ok((bytes, self.fragment())),
+            (status, _) => Err(forgiving_base64::invalid(status)),
         }
     }
 
-    /// The fragment of a URL whose body is good.
-    fn fragment(&self) -> Option<FragmentIdentifier> {
-        match exports::fragment(self.text) {
-            Ok(encoded) => Some(FragmentIdentifier { encoded }),
-            Err(Refusal::NoFragment) => None,
-            Err(_) => unreachable!(
-                "of a URL with a good body, the fragment is refused for no other reason"
-            ),
+    fn fragment(&self) -> Option<FragmentIdentifier<'a>> {
+        let tail = self.encoded_body_plus_fragment;
+        let place = tail.find('#')?;
+        Some(FragmentIdentifier(&tail[place + 1..]))
+    }
+}
+
+/// The fragment of a data: URL, the text after `#`.
+pub struct FragmentIdentifier<'a>(&'a str);
+
+impl FragmentIdentifier<'_> {
+    /// Returns the fragment as the URL parser leaves it, percent-encoded.
+    /// <https://url.spec.whatwg.org/#fragment-state>
+    pub fn to_percent_encoded(&self) -> String {
+        // The library encodes the fragments of URLs. A fragment has no white space at its end, so nothing is trimmed here.
+        let url = ["data:,#", self.0].concat();
+        match library::fragment(&url, str::to_owned) {
+            Ok(encoded) => encoded,
+            Err(status) => unreachable!("status {}", status),
         }
     }
 }

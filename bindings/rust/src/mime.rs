@@ -1,126 +1,153 @@
-//! MIME types (MIME Sniffing Standard, section 4).
+//! MIME types: <https://mimesniff.spec.whatwg.org/#understanding-mime-types>
 
-use crate::exports;
-use std::error::Error;
-use std::fmt;
-use std::str::FromStr;
+use crate::library;
+use alloc::borrow::ToOwned;
+use alloc::string::String;
+use alloc::vec::Vec;
+use core::fmt::{self, Write};
+use core::str::FromStr;
 
-/// A MIME type record: a type, a subtype and parameters in order, and the text that they are printed as.
-#[derive(Debug, Clone, PartialEq, Eq)]
+/// <https://mimesniff.spec.whatwg.org/#mime-type-representation>
+#[derive(Clone, Debug, PartialEq, Eq)]
 pub struct Mime {
-    printed: String,
-    type_len: usize,
-    essence_len: usize,
-    parameters: Vec<(String, String)>,
+    /// The type, as `text` of `text/html`.
+    pub type_: String,
+    /// The subtype, as `html` of `text/html`.
+    pub subtype: String,
+    /// Each name with its value, in order.
+    pub parameters: Vec<(String, String)>,
 }
-
-/// The text is no MIME type.
-#[derive(Debug, PartialEq, Eq)]
-pub struct MimeParsingError(());
-
-impl fmt::Display for MimeParsingError {
-    fn fmt(&self, f: &mut fmt::Formatter<'_>) -> fmt::Result {
-        f.write_str("invalid mime type")
-    }
-}
-
-impl Error for MimeParsingError {}
 
 impl Mime {
-    /// The record that the library printed.
-    pub(crate) fn of_printed(printed: String) -> Mime {
-        let essence_len = printed.find(';').unwrap_or(printed.len());
-        let type_len = printed.find('/').expect("a type and a subtype");
-        let parameters = parameters_of(&printed[essence_len..]);
-        Mime {
-            printed,
-            type_len,
-            essence_len,
-            parameters,
+    /// Returns a MIME type with this type and subtype, and no parameters.
+    pub fn new(type_: &str, subtype: &str) -> Self {
+        Self {
+            type_: type_.to_owned(),
+            subtype: subtype.to_owned(),
+            parameters: Vec::new(),
         }
     }
 
-    /// The type, as `text` of `text/html`.
-    pub fn type_(&self) -> &str {
-        &self.printed[..self.type_len]
-    }
-
-    /// The subtype, as `html` of `text/html`.
-    pub fn subtype(&self) -> &str {
-        &self.printed[self.type_len + 1..self.essence_len]
-    }
-
-    /// Names and values, in order.
-    pub fn parameters(&self) -> &[(String, String)] {
-        &self.parameters
-    }
-
-    /// Whether these are the type and the subtype.
+    /// Returns whether these are the type and the subtype. Parameters do not matter.
     pub fn matches(&self, type_: &str, subtype: &str) -> bool {
-        self.type_() == type_ && self.subtype() == subtype
+        self.type_ == type_ && self.subtype == subtype
     }
 
-    /// The value of the parameter of that name.
-    pub fn get_parameter(&self, name: &str) -> Option<&str> {
-        let found = self.parameters.iter().find(|(key, _)| key == name)?;
-        Some(&found.1)
+    /// Returns the value of the first parameter with this name.
+    pub fn get_parameter<P>(&self, name: &P) -> Option<&str>
+    where
+        P: ?Sized + PartialEq<str>,
+    {
+        let mut parameters = self.parameters.iter();
+        let (_, value) = parameters.find(|(key, _)| name == key.as_str())?;
+        Some(value)
+    }
+
+    /// Reads a MIME type that the library printed.
+    pub(crate) fn from_printed(printed: &str) -> Mime {
+        let (essence, parameters) = split_at(printed, ';');
+        let (type_, subtype) = split_at(essence, '/');
+        Mime {
+            type_: type_.to_owned(),
+            subtype: subtype[1..].to_owned(),
+            parameters: parameters_of(parameters),
+        }
     }
 }
 
-/// The parameters of a printed record, each behind its `;`.
+/// The text before a character and from it on.
+fn split_at(text: &str, c: char) -> (&str, &str) {
+    text.split_at(text.find(c).unwrap_or_else(|| text.len()))
+}
+
+/// The parameters of a printed record, each after a `;`.
 fn parameters_of(printed: &str) -> Vec<(String, String)> {
     let mut parameters = Vec::new();
     let mut rest = printed;
-    while let Some(parameter) = rest.strip_prefix(';') {
-        let (name, behind) = parameter.split_once('=').expect("a name and a value");
-        let (value, behind) = value_of(behind);
+    while !rest.is_empty() {
+        let (name, after) = split_at(&rest[1..], '=');
+        let (value, after) = value_of(&after[1..]);
         parameters.push((name.to_owned(), value));
-        rest = behind;
+        rest = after;
     }
     parameters
 }
 
-/// The value that a printed text begins with, and what stands behind it.
+/// The value at the front of a printed text, and the text after it.
 fn value_of(text: &str) -> (String, &str) {
-    match text.strip_prefix('"') {
-        Some(quoted) => quoted_value(quoted),
-        None => {
-            let (value, behind) = text.split_at(text.find(';').unwrap_or(text.len()));
-            (value.to_owned(), behind)
-        }
+    if !text.starts_with('"') {
+        let (value, after) = split_at(text, ';');
+        return (value.to_owned(), after);
     }
-}
-
-/// The value of a text behind an opening quote, and what stands behind the closing one.
-fn quoted_value(text: &str) -> (String, &str) {
     let mut value = String::new();
-    let mut escaped = false;
-    for (place, c) in text.char_indices() {
+    let mut is_escaped = false;
+    for (place, c) in text.char_indices().skip(1) {
         match c {
-            '"' if !escaped => return (value, &text[place + 1..]),
-            '\\' if !escaped => escaped = true,
+            '"' if !is_escaped => return (value, &text[place + 1..]),
+            '\\' if !is_escaped => is_escaped = true,
             _ => {
                 value.push(c);
-                escaped = false;
+                is_escaped = false;
             }
         }
     }
     unreachable!("a quoted value is printed with its closing quote")
 }
 
-impl FromStr for Mime {
-    type Err = MimeParsingError;
+/// The text is no MIME type.
+#[derive(Debug)]
+pub struct MimeParsingError(());
 
-    fn from_str(text: &str) -> Result<Mime, MimeParsingError> {
-        match exports::printed_type(text) {
-            Ok(printed) => Ok(Mime::of_printed(printed)),
-            Err(_) => Err(MimeParsingError(())),
-        }
+impl fmt::Display for MimeParsingError {
+    fn fmt(&self, f: &mut fmt::Formatter<'_>) -> fmt::Result {
+        write!(f, "invalid mime type")
     }
 }
 
+#[cfg(feature = "std")]
+impl std::error::Error for MimeParsingError {}
+
+/// <https://mimesniff.spec.whatwg.org/#parsing-a-mime-type>
+impl FromStr for Mime {
+    type Err = MimeParsingError;
+
+    fn from_str(s: &str) -> Result<Self, Self::Err> {
+        library::mime_type(s, Mime::from_printed).map_err(|_| MimeParsingError(()))
+    }
+}
+
+/// <https://mimesniff.spec.whatwg.org/#serializing-a-mime-type>
 impl fmt::Display for Mime {
     fn fmt(&self, f: &mut fmt::Formatter<'_>) -> fmt::Result {
-        f.write_str(&self.printed)
+        f.write_str(&self.type_)?;
+        f.write_str("/")?;
+        f.write_str(&self.subtype)?;
+        for (name, value) in &self.parameters {
+            f.write_str(";")?;
+            f.write_str(name)?;
+            f.write_str("=")?;
+            write_value(f, value)?;
+        }
+        Ok(())
     }
+}
+
+/// Writes a value, in quotes if it is not a token.
+fn write_value(f: &mut fmt::Formatter<'_>, value: &str) -> fmt::Result {
+    if !value.is_empty() && value.bytes().all(is_token) {
+        return f.write_str(value);
+    }
+    f.write_str("\"")?;
+    for c in value.chars() {
+        if c == '"' || c == '\\' {
+            f.write_str("\\")?;
+        }
+        f.write_char(c)?;
+    }
+    f.write_str("\"")
+}
+
+/// <https://mimesniff.spec.whatwg.org/#http-token-code-point>
+fn is_token(byte: u8) -> bool {
+    byte.is_ascii_alphanumeric() || b"!#$%&'*+-.^_`|~".contains(&byte)
 }

@@ -1,0 +1,61 @@
+/* The functions of data_url.h over the proved calls, whose pointers may not be null: a pointer to no bytes is replaced by
+ * one that is not null. Nothing else happens here. */
+#include "data_url.h"
+
+typedef const uint8_t *bytes;
+
+struct data_url_answer dataurl_body(bytes url, size_t len, uint8_t *out, size_t room);
+struct data_url_answer dataurl_mime(bytes url, size_t len, uint8_t *out, size_t room);
+struct data_url_answer dataurl_fragment(bytes url, size_t len, uint8_t *out, size_t room);
+struct data_url_answer dataurl_type(bytes text, size_t len, uint8_t *out, size_t room);
+struct data_url_answer dataurl_base64(bytes text, size_t len, uint8_t *out, size_t room);
+struct data_url_opened dataurl_open(bytes url, size_t len, uint8_t *out, size_t room);
+struct data_url_answer dataurl_body_next(
+    struct data_url_body_state *state, bytes tail, size_t len, uint8_t *out, size_t room);
+struct data_url_fed dataurl_base64_feed(
+    struct data_url_base64_state *state, bytes input, size_t len, uint8_t *out, size_t room);
+struct data_url_answer dataurl_base64_finish(struct data_url_base64_state *state, uint8_t *out, size_t room);
+
+static uint8_t nothing;
+
+static bytes text(const void *text, size_t len) { return len == 0 ? &nothing : (bytes)text; }
+
+static uint8_t *output(void *out, size_t room) { return room == 0 ? &nothing : (uint8_t *)out; }
+
+struct data_url_answer data_url_body(const void *url, size_t len, void *out, size_t room) {
+    return dataurl_body(text(url, len), len, output(out, room), room);
+}
+
+struct data_url_answer data_url_mime(const void *url, size_t len, void *out, size_t room) {
+    return dataurl_mime(text(url, len), len, output(out, room), room);
+}
+
+struct data_url_answer data_url_fragment(const void *url, size_t len, void *out, size_t room) {
+    return dataurl_fragment(text(url, len), len, output(out, room), room);
+}
+
+struct data_url_answer data_url_type(const void *type, size_t len, void *out, size_t room) {
+    return dataurl_type(text(type, len), len, output(out, room), room);
+}
+
+struct data_url_answer data_url_base64(const void *base64, size_t len, void *out, size_t room) {
+    return dataurl_base64(text(base64, len), len, output(out, room), room);
+}
+
+struct data_url_opened data_url_open(const void *url, size_t len, void *out, size_t room) {
+    return dataurl_open(text(url, len), len, output(out, room), room);
+}
+
+struct data_url_answer data_url_body_next(
+    struct data_url_body_state *state, const void *tail, size_t len, void *out, size_t room) {
+    return dataurl_body_next(state, text(tail, len), len, output(out, room), room);
+}
+
+struct data_url_fed data_url_base64_feed(
+    struct data_url_base64_state *state, const void *input, size_t len, void *out, size_t room) {
+    return dataurl_base64_feed(state, text(input, len), len, output(out, room), room);
+}
+
+struct data_url_answer data_url_base64_finish(struct data_url_base64_state *state, void *out, size_t room) {
+    return dataurl_base64_finish(state, output(out, room), room);
+}

@@ -1,0 +1,2 @@
+/* For the kit's compiler, which comes without headers. */
+#define bool _Bool

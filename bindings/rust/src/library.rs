@@ -1,0 +1,282 @@
+//! The calls of the library, as `bindings/c/data_url.h` declares them. Everything that is unsafe is in this file.
+
+use alloc::alloc::{handle_alloc_error, Layout};
+use alloc::vec::Vec;
+use core::mem::MaybeUninit;
+
+pub(crate) const DONE: u32 = 0;
+pub(crate) const NOT_A_DATA_URL: u32 = 1;
+pub(crate) const NO_COMMA: u32 = 2;
+const OUT_OF_MEMORY: u32 = 3;
+const OUTPUT_TOO_SMALL: u32 = 5;
+pub(crate) const PADDING: u32 = 8;
+pub(crate) const LONE_SYMBOL: u32 = 9;
+pub(crate) const SYMBOL_AFTER_PADDING: u32 = 10;
+pub(crate) const MORE: u32 = 11;
+pub(crate) const UNEXPECTED_SYMBOL: u32 = 256;
+
+/// How many bytes of a printed text fit on the stack. A longer one is printed a second time, into a vector.
+const PRINTED: usize = 128;
+
+#[repr(C)]
+pub(crate) struct Answer {
+    status: u32,
+    len: usize,
+}
+
+#[repr(C)]
+struct OpenedUrl {
+    status: u32,
+    len: usize,
+    tail: usize,
+    tail_len: usize,
+    is_base64: bool,
+}
+
+#[repr(C)]
+struct Fed {
+    status: u32,
+    len: usize,
+    read: usize,
+}
+
+/// The place of a body that is decoded in parts.
+#[repr(C)]
+pub(crate) struct Body {
+    from: usize,
+    symbols: [u8; 3],
+    pending: u8,
+    padding: u8,
+    is_base64: u8,
+}
+
+/// What base64 that is fed in parts has left.
+#[repr(C)]
+pub(crate) struct Base64 {
+    symbols: [u8; 3],
+    pending: u8,
+    padding: u8,
+}
+
+extern "C" {
+    fn dataurl_open_utf8(url: *const u8, len: usize, out: *mut u8, room: usize) -> OpenedUrl;
+    fn dataurl_type(text: *const u8, len: usize, out: *mut u8, room: usize) -> Answer;
+    fn dataurl_fragment(url: *const u8, len: usize, out: *mut u8, room: usize) -> Answer;
+    fn dataurl_body_whole_utf8(
+        tail: *const u8,
+        len: usize,
+        is_base64: bool,
+        out: *mut u8,
+        room: usize,
+    ) -> Answer;
+    fn dataurl_body_next_utf8(
+        body: *mut Body,
+        tail: *const u8,
+        len: usize,
+        out: *mut u8,
+        room: usize,
+    ) -> Answer;
+    fn dataurl_base64_feed(
+        state: *mut Base64,
+        input: *const u8,
+        len: usize,
+        out: *mut u8,
+        room: usize,
+    ) -> Fed;
+    fn dataurl_base64_finish(state: *mut Base64, out: *mut u8, room: usize) -> Answer;
+}
+
+/// Room on the stack that nothing was written to yet.
+pub(crate) struct Room<const N: usize> {
+    bytes: [MaybeUninit<u8>; N],
+}
+
+impl<const N: usize> Room<N> {
+    pub(crate) fn new() -> Room<N> {
+        Room {
+            bytes: [MaybeUninit::uninit(); N],
+        }
+    }
+
+    fn as_mut_ptr(&mut self) -> *mut u8 {
+        self.bytes.as_mut_ptr() as *mut u8
+    }
+
+    /// The bytes that a call wrote: the library writes `len` bytes at the front, and never more than there is room for.
+    fn written(&self, len: usize) -> &[u8] {
+        assert!(len <= N);
+        unsafe { core::slice::from_raw_parts(self.bytes.as_ptr() as *const u8, len) }
+    }
+}
+
+/// Calls a function with room on the stack and, if the answer does not fit, again with a vector; returns what `read` makes of
+/// the printed text.
+fn printed<A, T>(
+    call: impl Fn(*mut u8, usize) -> A,
+    answer: impl Fn(&A) -> (u32, usize),
+    read: impl Fn(&A, &str) -> T,
+) -> Result<T, u32> {
+    let mut room = Room::<PRINTED>::new();
+    let given = call(room.as_mut_ptr(), PRINTED);
+    let (status, len) = answer(&given);
+    match status {
+        // The library prints UTF-8.
+        DONE => Ok(read(&given, unsafe {
+            core::str::from_utf8_unchecked(room.written(len))
+        })),
+        OUTPUT_TOO_SMALL => {
+            let mut bytes: Vec<u8> = Vec::with_capacity(len);
+            let given = call(bytes.as_mut_ptr(), len);
+            match answer(&given) {
+                (DONE, len) => {
+                    unsafe { bytes.set_len(len) };
+                    Ok(read(&given, unsafe {
+                        core::str::from_utf8_unchecked(&bytes)
+                    }))
+                }
+                (status, _) => Err(refusal(status)),
+            }
+        }
+        status => Err(refusal(status)),
+    }
+}
+
+/// A status that is no success. If allocation failed, this ends the program as Rust's own types do.
+fn refusal(status: u32) -> u32 {
+    if status == OUT_OF_MEMORY {
+        handle_alloc_error(Layout::new::<u8>());
+    }
+    status
+}
+
+/// Opens a URL: what `read` makes of its printed MIME type, whether its body is base64, and the text after its comma.
+pub(crate) fn open<'a, T>(
+    url: &'a str,
+    read: impl Fn(&str) -> T,
+) -> Result<(T, bool, &'a str), u32> {
+    printed(
+        // The bytes of a `str` are UTF-8.
+        |out, room| unsafe { dataurl_open_utf8(url.as_ptr(), url.len(), out, room) },
+        |opened| (opened.status, opened.len),
+        |opened, text| {
+            let tail = &url[opened.tail..opened.tail + opened.tail_len];
+            (read(text), opened.is_base64, tail)
+        },
+    )
+}
+
+/// What `read` makes of a MIME type's printed text.
+pub(crate) fn mime_type<T>(text: &str, read: impl Fn(&str) -> T) -> Result<T, u32> {
+    printed(
+        |out, room| unsafe { dataurl_type(text.as_ptr(), text.len(), out, room) },
+        |answer| (answer.status, answer.len),
+        |_, text| read(text),
+    )
+}
+
+/// What `read` makes of the encoded fragment of a URL.
+pub(crate) fn fragment<T>(url: &str, read: impl Fn(&str) -> T) -> Result<T, u32> {
+    printed(
+        |out, room| unsafe { dataurl_fragment(url.as_ptr(), url.len(), out, room) },
+        |answer| (answer.status, answer.len),
+        |_, text| read(text),
+    )
+}
+
+/// The body after the comma of a URL, whole: its status, and the bytes that come before a fault.
+pub(crate) fn body(tail: &str, is_base64: bool) -> (u32, Vec<u8>) {
+    let mut bytes = Vec::with_capacity(tail.len());
+    // A body has no more bytes than the text after the comma.
+    let answer = unsafe {
+        dataurl_body_whole_utf8(
+            tail.as_ptr(),
+            tail.len(),
+            is_base64,
+            bytes.as_mut_ptr(),
+            bytes.capacity(),
+        )
+    };
+    assert!(answer.len <= bytes.capacity());
+    unsafe { bytes.set_len(answer.len) };
+    (answer.status, bytes)
+}
+
+impl Body {
+    /// The front of a body.
+    pub(crate) fn new(is_base64: bool) -> Body {
+        Body {
+            from: 0,
+            symbols: [0; 3],
+            pending: 0,
+            padding: 0,
+            is_base64: is_base64 as u8,
+        }
+    }
+
+    /// The next bytes of the body, and the status.
+    pub(crate) fn next<'r, const N: usize>(
+        &mut self,
+        tail: &str,
+        room: &'r mut Room<N>,
+    ) -> (u32, &'r [u8]) {
+        let answer = unsafe {
+            dataurl_body_next_utf8(self, tail.as_ptr(), tail.len(), room.as_mut_ptr(), N)
+        };
+        (answer.status, room.written(answer.len))
+    }
+}
+
+impl Base64 {
+    /// A text of which nothing was fed.
+    pub(crate) fn new() -> Base64 {
+        Base64 {
+            symbols: [0; 3],
+            pending: 0,
+            padding: 0,
+        }
+    }
+
+    /// Feeds the front of the input: the status, the bytes, and how much was read.
+    pub(crate) fn feed<'r, const N: usize>(
+        &mut self,
+        input: &[u8],
+        room: &'r mut Room<N>,
+    ) -> (u32, &'r [u8], usize) {
+        let fed = unsafe {
+            dataurl_base64_feed(self, input.as_ptr(), input.len(), room.as_mut_ptr(), N)
+        };
+        (fed.status, room.written(fed.len), fed.read)
+    }
+
+    /// Ends the text: the status, and the last bytes.
+    pub(crate) fn finish<'r, const N: usize>(&mut self, room: &'r mut Room<N>) -> (u32, &'r [u8]) {
+        let answer = unsafe { dataurl_base64_finish(self, room.as_mut_ptr(), N) };
+        (answer.status, room.written(answer.len))
+    }
+}
+
+/// The bytes of a whole text of base64: its status, and the bytes that come before a fault.
+pub(crate) fn base64(input: &[u8]) -> (u32, Vec<u8>) {
+    // A feed with room for three bytes more than its input reads all of it.
+    let mut bytes: Vec<u8> = Vec::with_capacity(input.len() + 4);
+    let mut state = Base64::new();
+    let fed = unsafe {
+        dataurl_base64_feed(
+            &mut state,
+            input.as_ptr(),
+            input.len(),
+            bytes.as_mut_ptr(),
+            bytes.capacity(),
+        )
+    };
+    assert!(fed.len <= bytes.capacity());
+    unsafe { bytes.set_len(fed.len) };
+    if fed.status != DONE {
+        return (fed.status, bytes);
+    }
+    assert!(fed.read == input.len());
+    let mut room = Room::<4>::new();
+    let (status, last) = state.finish(&mut room);
+    bytes.extend_from_slice(last);
+    (status, bytes)
+}
