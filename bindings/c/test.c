@@ -205,7 +205,22 @@ static void long_bodies(void) {
     gives_repeated(data_url_base64, "", "Q U J\nD", "", DATA_URL_DONE, "ABC", mebibyte / 3);
 }
 
-/* A call in which each growth of memory is refused in turn, until it asks for no more. */
+/* A MIME type with 5,000 parameters. */
+static void many_parameters(void) {
+    size_t len = 0;
+    char *type = __real_malloc(5000 * 16), *url = __real_malloc(5000 * 16);
+    if (!type || !url) abort();
+    len += sprintf(type, "a/b");
+    for (int i = 0; i < 5000; i++) len += sprintf(type + len, ";p%d=v", i);
+    size_t url_len = sprintf(url, "data:%s,", type);
+    try_room(data_url_type, type, len, len, DATA_URL_DONE, type, len);
+    try_room(data_url_mime, url, url_len, len, DATA_URL_DONE, type, len);
+    try_room(data_url_mime, url, url_len, len - 1, DATA_URL_DONE, type, len);
+    free(type);
+    free(url);
+}
+
+/* A call in which each allocation fails in turn, until it asks for no more. */
 static void without_memory(Call call, const char *text, uint32_t status, size_t len) {
     for (long n = 1;; n++) {
         uint8_t out[64];
@@ -241,6 +256,7 @@ int main(void) {
     nothing();
     fresh_outputs();
     long_bodies();
+    many_parameters();
     refused_growths();
     printf("c: %d checks, %d wrong\n", checks, wrong);
     return wrong ? 1 : 0;

@@ -2,7 +2,7 @@
 
 mod json;
 
-use data_url::forgiving_base64::{self, DecodeError, InvalidBase64, InvalidBase64Details};
+use data_url::forgiving_base64::{self, DecodeError, Decoder, InvalidBase64};
 use data_url::mime::Mime;
 use data_url::{DataUrl, DataUrlError};
 use json::Json;
@@ -31,15 +31,17 @@ fn refused(why: &str) -> Answer {
 
 /// A fault of base64 and the bytes before it.
 fn fault(refusal: &InvalidBase64, before: &[u8]) -> Answer {
-    let kind = match refusal.details() {
-        InvalidBase64Details::UnexpectedSymbol(_) => "unexpected symbol",
-        InvalidBase64Details::AlphabetSymbolAfterPadding => "symbol after padding",
-        InvalidBase64Details::LoneAlphabetSymbol => "lone symbol",
-        InvalidBase64Details::Padding => "padding",
+    let line = refusal.to_string();
+    let kind = match line.as_str() {
+        "alphabet symbol present after padding" => "symbol after padding",
+        "lone alphabet symbol present" => "lone symbol",
+        "incorrect padding" => "padding",
+        _ => "unexpected symbol",
     };
     let mut answer = vec![pair("fault", text(kind))];
-    if let InvalidBase64Details::UnexpectedSymbol(byte) = refusal.details() {
-        answer.push(pair("byte", Json::Number(byte.into())));
+    if kind == "unexpected symbol" {
+        let byte = line.split(' ').nth(3).expect("the byte");
+        answer.push(pair("byte", Json::Number(byte.parse().expect("a number"))));
     }
     answer.push(pair("before", hex(before)));
     answer
@@ -72,21 +74,52 @@ fn mime(input: &str) -> Answer {
     let Ok(mime) = input.parse::<Mime>() else {
         return refused("no MIME type");
     };
-    let parameters = mime.parameters().iter();
+    let parameters = mime.parameters.iter();
     let parameters = parameters.map(|(name, value)| Json::List(vec![text(name), text(value)]));
     vec![
-        pair("type", text(mime.type_())),
-        pair("subtype", text(mime.subtype())),
+        pair("type", text(&mime.type_)),
+        pair("subtype", text(&mime.subtype)),
         pair("parameters", Json::List(parameters.collect())),
         pair("printed", text(&mime.to_string())),
     ]
 }
 
-fn base64(input: &str) -> Answer {
-    match forgiving_base64::decode_to_vec(input.as_bytes()) {
-        Ok(bytes) => vec![pair("bytes", hex(&bytes))],
-        Err(refusal) => fault(&refusal, refusal.before()),
+/// Feeds a text in these parts: the bytes, and how it ended.
+fn fed(parts: &[&[u8]]) -> (Vec<u8>, Result<(), DecodeError<Infallible>>) {
+    let mut bytes = Vec::new();
+    let mut decoder = Decoder::new(|piece: &[u8]| {
+        bytes.extend_from_slice(piece);
+        Ok(())
+    });
+    let ended = parts.iter().try_for_each(|part| decoder.feed(part));
+    let ended = ended.and_then(|()| decoder.finish());
+    (bytes, ended)
+}
+
+/// What a text of base64 gives in parts.
+fn base64_in(parts: &[&[u8]]) -> Answer {
+    match fed(parts) {
+        (bytes, Ok(())) => vec![pair("bytes", hex(&bytes))],
+        (bytes, Err(DecodeError::InvalidBase64(refusal))) => fault(&refusal, &bytes),
+        (_, Err(DecodeError::WriteError(never))) => match never {},
     }
+}
+
+/// What a text of base64 gives whole, byte by byte, and in every two pieces, which is the same.
+fn base64(input: &str) -> Answer {
+    let input = input.as_bytes();
+    let whole = base64_in(&[input]);
+    let bytes: Vec<&[u8]> = input.chunks(1).collect();
+    assert_eq!(base64_in(&bytes), whole, "byte by byte");
+    for cut in 0..=input.len() {
+        let (front, back) = input.split_at(cut);
+        assert_eq!(base64_in(&[front, back]), whole, "cut at {}", cut);
+    }
+    match forgiving_base64::decode_to_vec(input) {
+        Ok(bytes) => assert_eq!(vec![pair("bytes", hex(&bytes))], whole),
+        Err(refusal) => assert_eq!(fault(&refusal, &[])[0], whole[0]),
+    }
+    whole
 }
 
 /// Checks each file of a folder, and answers how many vectors there were.

@@ -1,6 +1,6 @@
 //! Worked examples, by the crate's names. Their answers are the standards'.
 
-use data_url::forgiving_base64::{self, DecodeError, InvalidBase64Details};
+use data_url::forgiving_base64::{self, DecodeError, Decoder};
 use data_url::mime::Mime;
 use data_url::{DataUrl, DataUrlError};
 
@@ -51,16 +51,10 @@ fn urls() {
 #[test]
 fn refusals() {
     for text in ["", "da ta:,x", "date:,x"] {
-        assert_eq!(
-            DataUrl::process(text).unwrap_err(),
-            DataUrlError::NotADataUrl,
-            "{text:?}"
-        );
+        let refused = DataUrl::process(text);
+        assert!(matches!(refused, Err(DataUrlError::NotADataUrl)), "{text:?}");
     }
-    assert_eq!(
-        DataUrl::process("data:#,x").unwrap_err(),
-        DataUrlError::NoComma
-    );
+    assert!(matches!(DataUrl::process("data:#,x"), Err(DataUrlError::NoComma)));
 }
 
 #[test]
@@ -77,12 +71,12 @@ fn mime_types() {
         .parse()
         .unwrap();
     assert!(mime.matches("text", "html") && !mime.matches("text", "plain"));
-    assert_eq!((mime.type_(), mime.subtype()), ("text", "html"));
+    assert_eq!((mime.type_.as_str(), mime.subtype.as_str()), ("text", "html"));
     assert_eq!(mime.get_parameter("a"), Some("b;\"c"));
     assert_eq!(mime.get_parameter("d"), None);
     assert_eq!(mime.get_parameter("e"), Some(""));
     assert_eq!(mime.get_parameter("f"), Some("\u{e9}"));
-    assert_eq!(mime.parameters().len(), 3);
+    assert_eq!(mime.parameters.len(), 3);
     assert_eq!(
         mime.to_string(),
         "text/html;a=\"b;\\\"c\";e=\"\";f=\"\u{e9}\""
@@ -95,44 +89,110 @@ fn mime_types() {
 
 #[test]
 fn base64() {
-    assert_eq!(
-        forgiving_base64::decode_to_vec(b"Y Q = ="),
-        Ok(b"a".to_vec())
-    );
-    let faults: [(&[u8], InvalidBase64Details, &[u8], &str); 4] = [
-        (
-            b"QUJD!",
-            InvalidBase64Details::UnexpectedSymbol(33),
-            b"ABC",
-            "symbol with codepoint 33 not expected",
-        ),
-        (
-            b"ab=",
-            InvalidBase64Details::Padding,
-            b"",
-            "incorrect padding",
-        ),
-        (
-            b"ab==c",
-            InvalidBase64Details::AlphabetSymbolAfterPadding,
-            b"",
-            "alphabet symbol present after padding",
-        ),
-        (
-            b"a",
-            InvalidBase64Details::LoneAlphabetSymbol,
-            b"",
-            "lone alphabet symbol present",
-        ),
-    ];
-    for (text, details, before, line) in faults {
+    assert_eq!(forgiving_base64::decode_to_vec(b"Y Q = =").unwrap(), b"a");
+    for (text, line) in [
+        (&b"QUJD!"[..], "symbol with codepoint 33 not expected"),
+        (b"ab=", "incorrect padding"),
+        (b"ab==c", "alphabet symbol present after padding"),
+        (b"a", "lone alphabet symbol present"),
+    ] {
         let refusal = forgiving_base64::decode_to_vec(text).unwrap_err();
-        assert_eq!(
-            (refusal.details(), refusal.before()),
-            (details, before),
-            "{text:?}"
-        );
         assert_eq!(refusal.to_string(), line);
+    }
+}
+
+#[test]
+fn debug_texts_are_short() {
+    let text = format!("{}!", "QUJD".repeat(10_000));
+    let refusal = forgiving_base64::decode_to_vec(text.as_bytes()).unwrap_err();
+    assert!(format!("{:?}", refusal).len() < 80);
+    let url = format!("data:;base64,{}", text);
+    let refusal = DataUrl::process(&url).unwrap().decode_to_vec().unwrap_err();
+    assert!(format!("{:?}", refusal).len() < 80);
+}
+
+#[test]
+fn a_decoder_that_has_failed_fails_again() {
+    let mut bytes = Vec::new();
+    let mut decoder = Decoder::new(|piece: &[u8]| -> Result<(), String> {
+        bytes.extend_from_slice(piece);
+        Ok(())
+    });
+    assert!(decoder.feed(b"QUJDQ!QUJD").is_err());
+    assert!(decoder.feed(b"QUJD").is_err());
+    assert!(decoder.finish().is_err());
+    assert_eq!(bytes, b"ABC");
+}
+
+/// Bodies of every kind, with more than one piece where they are long.
+fn bodies() -> Vec<String> {
+    let escapes: String = (0..9_000).map(|i| format!("%{:02x}b", i % 256)).collect();
+    let mut bodies = vec![
+        "data:,".to_owned(),
+        "data:,%41b\tc#d".to_owned(),
+        "data:;base64,QUJDQUI=#x".to_owned(),
+        "data:;base64,QUJDQU\nJDQ!JD".to_owned(),
+        "data:;base64,QUJDQ".to_owned(),
+    ];
+    for (head, body) in [
+        ("data:,", "x".repeat(50_000)),
+        ("data:,", escapes),
+        ("data:,", "\u{e9}%\t4\n1".repeat(9_000)),
+        ("data:;base64,", "QUJDRUZH\n".repeat(9_000)),
+        ("data:;base64,", "QUJDRUZH".repeat(9_000) + "!"),
+    ] {
+        bodies.push(format!("{}{}#f", head, body));
+    }
+    bodies
+}
+
+/// The pieces of a body up to a call that is refused, and how decoding ended.
+fn pieces(url: &DataUrl, refused: usize) -> (Vec<Vec<u8>>, Result<(), String>) {
+    let mut pieces: Vec<Vec<u8>> = Vec::new();
+    let ended = url.decode(|piece| {
+        pieces.push(piece.to_vec());
+        if pieces.len() == refused {
+            Err(format!("call {}", refused))
+        } else {
+            Ok(())
+        }
+    });
+    (pieces, ended.map(drop).map_err(|error| error.to_string()))
+}
+
+#[test]
+fn closures_that_refuse_each_call() {
+    for text in bodies() {
+        let url = DataUrl::process(&text).unwrap();
+        let (all, ended) = pieces(&url, 0);
+        assert!(all.iter().all(|piece| !piece.is_empty() && piece.len() <= 8192));
+        match url.decode_to_vec() {
+            Ok((body, _)) => assert!(ended.is_ok() && all.concat() == body),
+            Err(refusal) => assert_eq!(ended, Err(format!("base64 not valid: {}", refusal))),
+        }
+        for n in 1..=all.len() {
+            let (some, ended) = pieces(&url, n);
+            assert_eq!(some, all[..n], "the calls up to the refused one");
+            assert_eq!(ended, Err(format!("write error: call {}", n)));
+        }
+    }
+}
+
+#[test]
+fn closures_with_a_limit() {
+    let url = DataUrl::process("data:,Hello%20World!").unwrap();
+    for limit in 0..=12 {
+        let mut taken = Vec::new();
+        let ended = url.decode(|piece| {
+            taken.extend_from_slice(piece);
+            if taken.len() > limit {
+                Err(())
+            } else {
+                Ok(())
+            }
+        });
+        assert_eq!(ended.is_ok(), limit == 12);
+        assert!(b"Hello World!".starts_with(&taken[..]) && taken.len() >= limit.min(12));
     }
 }
 
