@@ -17,7 +17,7 @@ use Rattle.data_url.proofs.SuffixLemmas.{no_word, word}
 -- Spaces at the ends
 
 -- the last bytes of a text stop at a byte that does not pass
-suffix_stop : (p : ℕ → Bool) (x q : List ℕ) (b : ℕ) → p b ≡ false → suffix_len p (x ++ b ∷ q) ≡ suffix_len p q
+pub suffix_stop : (p : ℕ → Bool) (x q : List ℕ) (b : ℕ) → p b ≡ false → suffix_len p (x ++ b ∷ q) ≡ suffix_len p q
 suffix_stop p x q b f =
     let none : prefix_len p (b ∷ reverse x) ≡ 0 = prefix_len-drop_no p (b ∷ reverse x) 0 0 (omega arith) f in
     let turned : reverse (x ++ b ∷ q) ≡ reverse q ++ b ∷ reverse x = reverse-append x (b ∷ q) ∙ ap (λ t. t ++ reverse x) (reverse-append (b ∷ []) q) ∙ append_assoc (reverse q) (b ∷ []) (reverse x) in

@@ -38,7 +38,7 @@ bytes_before c (b ∷ s) h = elim (b == c) as (λ v. IsBytes (cond v [] (b ∷ b
 lowercase_comma : (b : ℕ) → (to_ascii_lowercase b == 44) ≡ false → (b == 44) ≡ false
 lowercase_comma b h = ne_eqb b 44 (λ (e : b ≡ 44). both_ways (to_ascii_lowercase b == 44) h (ap (λ v. to_ascii_lowercase v == 44) e))
 
-lacks_comma : (d : List ℕ) → behind 44 (map to_ascii_lowercase d) ≡ None → behind 44 d ≡ None
+pub lacks_comma : (d : List ℕ) → behind 44 (map to_ascii_lowercase d) ≡ None → behind 44 d ≡ None
 lacks_comma [] h = h
 lacks_comma (b ∷ d) h = let l = lacks 44 (to_ascii_lowercase b) (map to_ascii_lowercase d) h in behind_other 44 b d (lowercase_comma b l.here) ∙ lacks_comma d l.behind_it
 

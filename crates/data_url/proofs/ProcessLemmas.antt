@@ -21,7 +21,7 @@ pub stages_no_scheme : (t : List ℕ) → HasNoScheme (trimmed_text t) → stage
 unfolding staged
 stages_no_scheme t h = ap (staged_after t) (after_none t h)
 
-rest_bytes : (t rest : List ℕ) → IsBytes (trimmed_text t) → IsSchemeAndRest (trimmed_text t) rest → IsBytes rest
+pub rest_bytes : (t rest : List ℕ) → IsBytes (trimmed_text t) → IsSchemeAndRest (trimmed_text t) rest → IsBytes rest
 rest_bytes t rest b s = (bytes_append s.scheme rest (subst IsBytes s.joined b)).1
 
 pub stages_no_comma : (t rest : List ℕ) → IsBytes (trimmed_text t) → IsSchemeAndRest (trimmed_text t) rest → behind 44 (front rest) ≡ None → staged t ≡ NoComma

@@ -1,2 +1,4 @@
 pub mod GivenLemmas
 pub mod KindLemmas
+pub mod OpenLemmas
+pub mod ProbeLemmas

@@ -19,17 +19,21 @@
 //! What stands in the output behind the bytes of an answer is as it was; where the length is 0, all of it.
 #![tactic(auto)]
 
+ghost use Rattle.std.specs.Prelude.{IsUtf8};
 ghost use Rattle.data_url_c.specs.Answers.{Answers};
 ghost use Rattle.data_url_c.specs.Gives.{GivesBase64, GivesBody, GivesFragment, GivesMime, GivesType};
+ghost use Rattle.data_url_c.specs.Opens.{Opens};
 
 mod answer;
 mod base64;
 mod kind;
+mod open;
 mod refusal;
 mod texts;
 
 pub use answer::DataUrlAnswer;
 use answer::answer;
+pub use open::DataUrlOpened;
 pub use refusal::Refusal;
 use std::alloc::Global;
 
@@ -79,4 +83,25 @@ pub extern "C" fn dataurl_base64(alloc: Global, text: &[u8], out: &mut [u8]) -> 
     ensures { Answers (GivesBase64 text.now) out.old out.new result }
 {
     answer(base64::base64(alloc, text), out)
+}
+
+/// Opens a data: URL ([Fetch Standard, section 6](https://fetch.spec.whatwg.org/#data-url-processor)): its printed MIME type,
+/// where its tail begins, and whether its body is base64. The body is not decoded.
+#[unsafe(no_mangle)]
+pub extern "C" fn dataurl_open(alloc: Global, url: &[u8], out: &mut [u8]) -> DataUrlOpened
+    ensures { Opens url.now out.old out.new result }
+{
+    match texts::text_of(url) {
+        Some(text) => open::open(alloc, text, out),
+        None => open::refused(Refusal::NotUtf8, out),
+    }
+}
+
+/// Opens a data: URL that is known to be UTF-8, and so looks at no byte of its body.
+#[unsafe(no_mangle)]
+pub extern "C" fn dataurl_open_utf8(alloc: Global, url: &[u8], out: &mut [u8]) -> DataUrlOpened
+    requires { IsUtf8 url.now }
+    ensures { Opens url.now out.old out.new result }
+{
+    open::open(alloc, unsafe { str::from_utf8_unchecked(url) }, out)
 }

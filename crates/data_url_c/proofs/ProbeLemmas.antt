@@ -1,0 +1,319 @@
+-- What the front of a URL up to its first comma decides: whether there is a scheme and a comma, and the header.
+use Rattle.std.proofs.Common.{◌≡◌, ◌⊎◌, ℕ, zero, suc, ◌+◌, ◌-◌, ◌<◌, ◌≤◌, Bool, true, false, cond, List, [], ◌∷◌, ◌++◌, length, length-append, take, drop, map, codes, Option, None, Some, refl, sym, ap, ◌∙◌, subst, inl, inr, append_assoc, arith, eqb, eqb-true}
+use Rattle.std.specs.Prelude.{◌==◌, slice_range}
+use Rattle.std.specs.Char.{to_ascii_lowercase}
+use Rattle.std.specs.List.{prefix_len, suffix_len}
+use Rattle.std.specs.Str.{bytes_eq}
+use Rattle.std.specs.Option.{option_map}
+use Rattle.std.proofs.Math.Seq.{take-append-add}
+use Rattle.std.proofs.lemmas.Bool.{cases_Bool, cases_lt, cond_both}
+use Rattle.std.proofs.lemmas.List.{drop-append-le, length-map, take-append-le, take-append-drop, length-take}
+use Rattle.std.proofs.lemmas.List.Folds.{prefix_len-append}
+use Rattle.std.proofs.lemmas.List.Sums.{prefix_len-drop_no, prefix_len-le-length, suffix_len-le-length}
+use Rattle.std.proofs.lemmas.Slice.Eq.{bytes_eq-Decides}
+use Rattle.data_url.specs.DataUrl.{IsAcceptable, IsUrlOf}
+use Rattle.data_url.specs.Fetch.{Accepted, NoComma, NoScheme, has_base64_suffix, header_of, mime_text, outcome, plain_body, staged, tail_of}
+use Rattle.data_url.specs.Steps.Front.{HasNoScheme, IsHeaderAndTail, IsSchemeAndRest}
+use Rattle.data_url.specs.Steps.Header.{header_text}
+use Rattle.data_url.specs.Url.{before, behind, fragment, front, in_fragment_set, is_c0_control_or_space, is_tab_or_newline, percent_encoding, trimmed_text, without_end, without_front, without_tabs_and_newlines}
+use Rattle.data_url.proofs.FlagLemmas.{suffix_stop}
+use Rattle.data_url.proofs.HeaderLemmas.{is_accepted, lacks_comma, scheme_has_no_comma}
+use Rattle.data_url.proofs.ProcessLemmas.{rest_bytes, stages_accepted, stages_no_comma, stages_no_scheme}
+use Rattle.data_url.proofs.RecodedLemmas.{IsBytes}
+use Rattle.data_url.proofs.UrlLemmas.{before_all, before_at, behind-append, behind-dropped_none, behind_at, behind_nil, behind_other, dropped_around, dropped_keeps, dropped_nil, dropped_passes, is_cut, lacks}
+
+-- Trimming
+
+prefix_stop : (p : ℕ → Bool) (x q : List ℕ) (b : ℕ) → p b ≡ false → prefix_len p (x ++ b ∷ q) ≡ prefix_len p x
+prefix_stop p x q b f =
+    let none : prefix_len p (b ∷ q) ≡ 0 = prefix_len-drop_no p (b ∷ q) 0 0 (omega arith) f in
+    prefix_len-append p x (b ∷ q)
+    ∙ cond_both (eqb (prefix_len p x) (length x)) (length x + prefix_len p (b ∷ q)) (prefix_len p x)
+    (λ v. v ≡ prefix_len p x)
+    (λ e. let k : prefix_len p x ≡ length x = eqb-true _ _ e in omega (arith, k, none))
+    (λ e. refl)
+
+end_stop : (p : ℕ → Bool) (x q : List ℕ) (b : ℕ) → p b ≡ false → without_end p (x ++ b ∷ q) ≡ x ++ b ∷ without_end p q
+end_stop p x q b f =
+    let few = suffix_len-le-length p q in
+    let n = suffix_len p q in
+    let at : length (x ++ b ∷ q) - suffix_len p (x ++ b ∷ q) ≡ length x + suc (length q - n) =
+    ap (λ n. length (x ++ b ∷ q) - n) (suffix_stop p x q b f) ∙ omega (arith, few, length-append x (b ∷ q)) in
+    ap (λ n. take n (x ++ b ∷ q)) at ∙ take-append-add x (b ∷ q) (suc (length q - n))
+
+-- the text up to the first comma, without C0 controls and spaces at its front
+abbrev pub trimmed_front : List ℕ → List ℕ
+trimmed_front a = without_front is_c0_control_or_space a
+
+abbrev pub trimmed_tail : List ℕ → List ℕ
+trimmed_tail t = without_end is_c0_control_or_space t
+
+pub trimmed_around : (a t : List ℕ) → trimmed_text (a ++ 44 ∷ t) ≡ trimmed_front a ++ 44 ∷ trimmed_tail t
+unfolding trimmed_text
+trimmed_around a t =
+    let p = is_c0_control_or_space in
+    let n = prefix_len p a in
+    let same : drop (prefix_len p (a ++ 44 ∷ t)) (a ++ 44 ∷ t) ≡ drop n a ++ 44 ∷ t =
+    ap (λ k. drop k (a ++ 44 ∷ t)) (prefix_stop p a t 44 refl) ∙ drop-append-le n a (44 ∷ t) (prefix_len-le-length p a) in
+    ap (without_end p) same ∙ end_stop p (drop n a) t 44 refl
+
+-- The scheme
+
+-- a raw front of a text whose kept bytes are the first n that are kept
+record HasFront (n : ℕ) (s : List ℕ) : Type 0 where
+  front : List ℕ
+  rest : List ℕ
+  joined : s ≡ front ++ rest
+  kept : without_tabs_and_newlines front ≡ take n (without_tabs_and_newlines s)
+
+has_front : (n : ℕ) (s : List ℕ) → n ≤ length (without_tabs_and_newlines s) → HasFront n s
+has_front zero s l = record { front = []; rest = s; joined = refl; kept = dropped_nil }
+has_front (suc n) [] l = let e = ap length dropped_nil in absurd (omega (arith, e, l))
+has_front (suc n) (b ∷ s) l = elim (cases_Bool (is_tab_or_newline b)) [
+  | inl e ↦
+      let size = ap length (dropped_passes b s e) in
+      let h = has_front (suc n) s (omega (arith, size, l)) in
+      record {
+        front = b ∷ h.front;
+        rest = h.rest;
+        joined = ap (λ t. b ∷ t) h.joined;
+        kept = dropped_passes b h.front e ∙ h.kept ∙ sym (ap (take (suc n)) (dropped_passes b s e));
+      }
+  | inr e ↦
+      let size = ap length (dropped_keeps b s e) in
+      let h = has_front n s (omega (arith, size, l)) in
+      record {
+        front = b ∷ h.front;
+        rest = h.rest;
+        joined = ap (λ t. b ∷ t) h.joined;
+        kept = dropped_keeps b h.front e ∙ ap (λ t. b ∷ t) h.kept ∙ sym (ap (take (suc n)) (dropped_keeps b s e));
+      }
+]
+
+-- whether a text begins with the scheme
+abbrev spelled : List ℕ → Bool
+spelled s = bytes_eq (map to_ascii_lowercase (take 5 (without_tabs_and_newlines s))) (codes "data:")
+
+pub record HasScheme (s : List ℕ) : Type 0 where
+  pub scheme : List ℕ
+  pub rest : List ℕ
+  pub joined : s ≡ scheme ++ rest
+  pub spelled : map to_ascii_lowercase (without_tabs_and_newlines scheme) ≡ codes "data:"
+
+has_scheme : (s : List ℕ) → spelled s ≡ true → HasScheme s
+has_scheme s h =
+    let five = take 5 (without_tabs_and_newlines s) in
+    let is : map to_ascii_lowercase five ≡ codes "data:" =
+    (bytes_eq-Decides (map to_ascii_lowercase five) (codes "data:")).0 h in
+    let size : length five ≡ 5 = sym (length-map five to_ascii_lowercase) ∙ ap length is in
+    let whole = length-take 5 (without_tabs_and_newlines s) in
+    let f = has_front 5 s (omega (arith, size, whole)) in
+    record {
+      scheme = f.front;
+      rest = f.rest;
+      joined = f.joined;
+      spelled = ap (map to_ascii_lowercase) f.kept ∙ is;
+    }
+
+-- the first five kept bytes of a text are those of a long front of it
+spelled_front : (x w : List ℕ) → 5 ≤ length (without_tabs_and_newlines x) → spelled (x ++ 44 ∷ w) ≡ spelled x
+spelled_front x w l =
+    ap (λ s. bytes_eq (map to_ascii_lowercase s) (codes "data:"))
+    (ap (take 5) (dropped_around 44 refl x w)
+    ∙ take-append-le 5 (without_tabs_and_newlines x) (44 ∷ without_tabs_and_newlines w) l)
+
+-- What the front decides
+
+-- a text up to its first comma, trimmed, has no scheme; or a scheme and a '#'; or a scheme and a header
+pub data Decides (a : List ℕ) : Type 0 where
+  no_scheme : ((t : List ℕ) → HasNoScheme (trimmed_front a ++ 44 ∷ t)) → Decides a
+  has_hash : (s : HasScheme (trimmed_front a)) (rest : List ℕ) → behind 35 s.rest ≡ Some rest → Decides a
+  has_header : (s : HasScheme (trimmed_front a)) → behind 35 s.rest ≡ None → Decides a
+
+-- no byte, no part of a text without it has it
+
+none_drop : (c n : ℕ) (s : List ℕ) → behind c s ≡ None → behind c (drop n s) ≡ None
+none_drop c zero s h = h
+none_drop c (suc n) [] h = h
+none_drop c (suc n) (b ∷ s) h = none_drop c n s (lacks c b s h).behind_it
+
+none_front : (c : ℕ) (p q : List ℕ) → behind c (p ++ q) ≡ None → behind c p ≡ None
+none_front c [] q h = behind_nil c
+none_front c (b ∷ p) q h =
+    let k = lacks c b (p ++ q) h in behind_other c b p k.here ∙ none_front c p q k.behind_it
+
+no_comma_in_scheme : behind 44 (codes "data:") ≡ None
+unfolding behind
+no_comma_in_scheme = refl
+
+-- a comma among the first five kept bytes is none of the scheme's
+too_short : (x w : List ℕ) → behind 44 x ≡ None → length (without_tabs_and_newlines x) ≤ 4 → spelled (x ++ 44 ∷ w) ≡ false
+too_short x w h l = elim (cases_Bool (spelled (x ++ 44 ∷ w))) [
+  | inl e ↦
+      let y = without_tabs_and_newlines x in
+      let v = without_tabs_and_newlines w in
+      let is : map to_ascii_lowercase (take 5 (without_tabs_and_newlines (x ++ 44 ∷ w))) ≡ codes "data:" =
+      (bytes_eq-Decides _ (codes "data:")).0 e in
+      let five : 5 ≡ length y + suc (4 - length y) = omega (arith, l) in
+      let cut : take 5 (without_tabs_and_newlines (x ++ 44 ∷ w)) ≡ y ++ 44 ∷ take (4 - length y) v =
+      ap (take 5) (dropped_around 44 refl x w) ∙ ap (λ n. take n (y ++ 44 ∷ v)) five
+      ∙ take-append-add y (44 ∷ v) (suc (4 - length y)) in
+      let none : behind 44 (y ++ 44 ∷ take (4 - length y) v) ≡ None =
+      sym (ap (behind 44) cut) ∙ lacks_comma _ (ap (behind 44) is ∙ no_comma_in_scheme) in
+      let some = behind_at 44 y (take (4 - length y) v) (behind-dropped_none 44 refl x h) in
+      absurd (let k : None ≡ Some (take (4 - length y) v) = sym none ∙ some in cc)
+  | inr e ↦ e
+]
+
+decides_by : (a : List ℕ) (s : HasScheme (trimmed_front a)) (o : Option (List ℕ)) → behind 35 s.rest ≡ o → Decides a
+decides_by a s None e = has_header s e
+decides_by a s (Some rest) e = has_hash s rest e
+
+decides : (a : List ℕ) → behind 44 a ≡ None → Decides a
+decides a h =
+    let x = trimmed_front a in
+    let none : behind 44 x ≡ None = none_drop 44 (prefix_len is_c0_control_or_space a) a h in
+    elim (cases_lt 4 (length (without_tabs_and_newlines x))) [
+      | inl l ↦ elim (cases_Bool (spelled x)) [
+        | inl e ↦ let s = has_scheme x e in decides_by a s (behind 35 s.rest) refl
+        | inr e ↦ no_scheme (λ t. spelled_front x t (omega (arith, l)) ∙ e)
+      ]
+      | inr l ↦ no_scheme (λ t. too_short x t none l)
+    ]
+
+-- What the stages are
+
+-- the text of a URL with this header and this tail
+pub record IsAcceptedWith (u header tail : List ℕ) : Type 0 where
+  pub fragment_is : Option (List ℕ)
+  pub header_is : header_of u ≡ Some header
+  pub tail_is : tail_of u ≡ Some tail
+  pub staged_is : staged u
+      ≡ Accepted (mime_text header) (outcome (has_base64_suffix header) (plain_body tail)) fragment_is
+
+-- whatever follows the first comma, the stages end alike, and an accepted text has the same header
+pub data Ends (a : List ℕ) : Type 0 where
+  all_no_scheme : ((t : List ℕ) → staged (a ++ 44 ∷ t) ≡ NoScheme) → Ends a
+  all_no_comma : ((t : List ℕ) → IsBytes (trimmed_text (a ++ 44 ∷ t)) → staged (a ++ 44 ∷ t) ≡ NoComma) → Ends a
+  all_accepted : (header : List ℕ)
+      → ((t : List ℕ) → IsBytes (trimmed_text (a ++ 44 ∷ t))
+      → IsAcceptedWith (a ++ 44 ∷ t) header (trimmed_tail t))
+      → Ends a
+
+has_rest : (a t : List ℕ) (s : HasScheme (trimmed_front a))
+    → IsSchemeAndRest (trimmed_text (a ++ 44 ∷ t)) (s.rest ++ 44 ∷ trimmed_tail t)
+has_rest a t s = record {
+  scheme = s.scheme;
+  joined = trimmed_around a t ∙ ap (λ x. x ++ 44 ∷ trimmed_tail t) s.joined
+      ∙ append_assoc s.scheme s.rest (44 ∷ trimmed_tail t);
+  spelled = s.spelled;
+}
+
+rest_lacks_comma : (x : List ℕ) (s : HasScheme x) → behind 44 x ≡ None → behind 44 s.rest ≡ None
+rest_lacks_comma x s h =
+    sym (behind-append 44 s.scheme s.rest (scheme_has_no_comma s.scheme s.spelled)) ∙ sym (ap (behind 44) s.joined) ∙ h
+
+-- a text without a comma has none before its '#'
+front_lacks_comma : (s : List ℕ) (o : Option (List ℕ)) → behind 35 s ≡ o → behind 44 s ≡ None → behind 44 (front s) ≡ None
+unfolding front
+front_lacks_comma s None e h = ap (behind 44) (before_all 35 s e) ∙ h
+front_lacks_comma s (Some rest) e h =
+    let cut = is_cut 35 s rest e in none_front 44 (before 35 s) (35 ∷ rest) (sym (ap (behind 44) cut.joined) ∙ h)
+
+-- nor does what follows the '#' matter
+front_stays : (s rest t : List ℕ) → behind 35 s ≡ Some rest → front (s ++ t) ≡ front s
+unfolding front
+front_stays s rest t e =
+    let cut = is_cut 35 s rest e in
+    ap (λ x. before 35 (x ++ t)) cut.joined
+    ∙ ap (before 35) (append_assoc (before 35 s) (35 ∷ rest) t)
+    ∙ before_at 35 (before 35 s) (rest ++ t) cut.lacks
+
+accepted_with : (a t : List ℕ) (s : HasScheme (trimmed_front a)) → behind 44 s.rest ≡ None → behind 35 s.rest ≡ None
+    → IsBytes (trimmed_text (a ++ 44 ∷ t))
+    → IsAcceptedWith (a ++ 44 ∷ t) (header_text (without_tabs_and_newlines s.rest)) (trimmed_tail t)
+accepted_with a t s comma hash b =
+    let u = a ++ 44 ∷ t in
+    let rest = s.rest ++ 44 ∷ trimmed_tail t in
+    let r = has_rest a t s in
+    let cut : IsHeaderAndTail rest s.rest (trimmed_tail t) =
+    record { joined = refl; no_comma = comma; no_fragment = hash } in
+    let h = is_accepted u rest s.rest (trimmed_tail t) (rest_bytes u rest b r) r cut in
+    record {
+      fragment_is = option_map (percent_encoding in_fragment_set) (fragment (without_tabs_and_newlines (trimmed_tail t)));
+      header_is = h.header_is;
+      tail_is = h.tail_is;
+      staged_is = stages_accepted u rest s.rest (trimmed_tail t) b r cut
+          (has_base64_suffix (header_text (without_tabs_and_newlines s.rest))) refl;
+    }
+
+ends_by : (a : List ℕ) → behind 44 a ≡ None → Decides a → Ends a
+ends_by a h (no_scheme n) =
+    all_no_scheme (λ t. stages_no_scheme (a ++ 44 ∷ t)
+    (subst HasNoScheme (sym (trimmed_around a t)) (n (trimmed_tail t))))
+ends_by a h (has_hash s rest e) =
+    let comma = rest_lacks_comma (trimmed_front a) s (none_drop 44 (prefix_len is_c0_control_or_space a) a h) in
+    all_no_comma (λ t b. stages_no_comma (a ++ 44 ∷ t) (s.rest ++ 44 ∷ trimmed_tail t) b (has_rest a t s)
+    (ap (behind 44) (front_stays s.rest rest (44 ∷ trimmed_tail t) e) ∙ front_lacks_comma s.rest (Some rest) e comma))
+ends_by a h (has_header s e) =
+    let comma = rest_lacks_comma (trimmed_front a) s (none_drop 44 (prefix_len is_c0_control_or_space a) a h) in
+    all_accepted (header_text (without_tabs_and_newlines s.rest)) (λ t b. accepted_with a t s comma e b)
+
+pub ends : (a : List ℕ) → behind 44 a ≡ None → Ends a
+ends a h = ends_by a h (decides a h)
+
+-- A text without a comma
+
+none_take : (c n : ℕ) (s : List ℕ) → behind c s ≡ None → behind c (take n s) ≡ None
+none_take c zero s h = behind_nil c
+none_take c (suc n) [] h = h
+none_take c (suc n) (b ∷ s) h =
+    let k = lacks c b s h in behind_other c b (take n s) k.here ∙ none_take c n s k.behind_it
+
+none_trimmed : (u : List ℕ) → behind 44 u ≡ None → behind 44 (trimmed_text u) ≡ None
+unfolding trimmed_text
+none_trimmed u h =
+    let x = without_front is_c0_control_or_space u in
+    none_take 44 (length x - suffix_len is_c0_control_or_space x) x (none_drop 44 (prefix_len is_c0_control_or_space u) u h)
+
+pub without_comma : (u : List ℕ) → IsBytes (trimmed_text u) → behind 44 u ≡ None → IsAcceptable (staged u) → ⊥
+without_comma u b h k = elim (cases_Bool (spelled (trimmed_text u))) [
+  | inl e ↦
+      let s = has_scheme (trimmed_text u) e in
+      let r : IsSchemeAndRest (trimmed_text u) s.rest =
+      record { scheme = s.scheme; joined = s.joined; spelled = s.spelled } in
+      let comma = rest_lacks_comma (trimmed_text u) s (none_trimmed u h) in
+      subst IsAcceptable (stages_no_comma u s.rest b r (front_lacks_comma s.rest (behind 35 s.rest) refl comma)) k
+  | inr e ↦ subst IsAcceptable (stages_no_scheme u e) k
+]
+
+-- What is known of one text by another with the same front
+
+pub same_no_scheme : (a s t : List ℕ) → Ends a → IsBytes (trimmed_text (a ++ 44 ∷ s)) → staged (a ++ 44 ∷ s) ≡ NoScheme
+    → staged (a ++ 44 ∷ t) ≡ NoScheme
+same_no_scheme a s t (all_no_scheme f) b h = f t
+same_no_scheme a s t (all_no_comma f) b h = absurd (let k : NoComma ≡ NoScheme = sym (f s b) ∙ h in cc)
+same_no_scheme a s t (all_accepted header f) b h = absurd (let k = sym (f s b).staged_is ∙ h in cc)
+
+pub same_no_comma : (a s t : List ℕ) → Ends a → IsBytes (trimmed_text (a ++ 44 ∷ s)) → IsBytes (trimmed_text (a ++ 44 ∷ t))
+    → staged (a ++ 44 ∷ s) ≡ NoComma → staged (a ++ 44 ∷ t) ≡ NoComma
+same_no_comma a s t (all_no_scheme f) b d h = absurd (let k : NoScheme ≡ NoComma = sym (f s) ∙ h in cc)
+same_no_comma a s t (all_no_comma f) b d h = f t d
+same_no_comma a s t (all_accepted header f) b d h = absurd (let k = sym (f s b).staged_is ∙ h in cc)
+
+pub same_acceptable : (a s t : List ℕ) → Ends a → IsBytes (trimmed_text (a ++ 44 ∷ s)) → IsBytes (trimmed_text (a ++ 44 ∷ t))
+    → IsAcceptable (staged (a ++ 44 ∷ s)) → IsAcceptable (staged (a ++ 44 ∷ t))
+same_acceptable a s t (all_no_scheme f) b d h = absurd (subst IsAcceptable (f s) h)
+same_acceptable a s t (all_no_comma f) b d h = absurd (subst IsAcceptable (f s b) h)
+same_acceptable a s t (all_accepted header f) b d h = subst IsAcceptable (sym (f t d).staged_is) tt
+
+some_same : (x y : List ℕ) → ◌≡◌ {A = Option (List ℕ)} (Some x) (Some y) → x ≡ y
+some_same x y e = cc
+
+pub same_header : (a s t header : List ℕ) → Ends a → IsBytes (trimmed_text (a ++ 44 ∷ s))
+    → IsBytes (trimmed_text (a ++ 44 ∷ t)) → header_of (a ++ 44 ∷ s) ≡ Some header → IsAcceptable (staged (a ++ 44 ∷ s))
+    → IsAcceptedWith (a ++ 44 ∷ t) header (trimmed_tail t)
+same_header a s t header (all_no_scheme f) b d h k = absurd (subst IsAcceptable (f s) k)
+same_header a s t header (all_no_comma f) b d h k = absurd (subst IsAcceptable (f s b) k)
+same_header a s t header (all_accepted other f) b d h k =
+    subst (λ x. IsAcceptedWith (a ++ 44 ∷ t) x (trimmed_tail t)) (some_same other header (sym (f s b).header_is ∙ h)) (f t d)
