@@ -4,6 +4,8 @@ use super::base64::assert_whole;
 use super::mime::{assert_mime, assert_read_again};
 use super::urls::{DEFAULT, assert_url};
 use super::{assert_printed, with_run};
+use data_url::DataUrl;
+use data_url::forgiving_base64::decode_to_vec;
 use data_url::mime::Mime;
 use std::alloc::{AllocError, Global};
 use std::process::Abort;
@@ -88,6 +90,24 @@ fn large_texts(rt: HostRuntime) -> Result<(), Fail> {
     assert_parts(&rt, rt.alloc(), LARGE)?;
     assert_groups(&rt, rt.alloc(), LARGE / 4)?;
     assert_types(&rt, rt.alloc(), LARGE)
+}
+
+/// The room that a vector has at its end is what was taken at first, by the length of the text.
+#[test]
+fn room_is_taken_once(rt: HostRuntime) -> Result<(), Fail> {
+    let alloc = rt.alloc();
+    for (parts, room) in [
+        (["data:,", "%41b", "#c d"], 3600),
+        (["data:;base64,", "QUJD\n", "QUJD#c d"], 3378),
+    ] {
+        let text = with_run(alloc, parts, 900)?;
+        let (bytes, fragment) = DataUrl::process(alloc, text.as_str())?.decode_to_vec(alloc)?;
+        assert_eq!(rt; bytes.capacity(), room);
+        assert!(rt; fragment.is_some());
+    }
+    let symbols = "QUJD".repeat(alloc, 900)?;
+    assert_eq!(rt; decode_to_vec(alloc, symbols.as_bytes())?.capacity(), 2700);
+    Ok(())
 }
 
 /// Asserts the body of a text with a run in it.
