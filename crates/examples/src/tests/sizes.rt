@@ -92,13 +92,13 @@ fn large_texts(rt: HostRuntime) -> Result<(), Fail> {
     assert_types(&rt, rt.alloc(), LARGE)
 }
 
-/// The room that a vector has at its end is what was taken at first, by the length of the text.
+/// The room of a vector is what was taken at first, by the length of the text after the comma.
 #[test]
 fn room_is_taken_once(rt: HostRuntime) -> Result<(), Fail> {
     let alloc = rt.alloc();
     for (parts, room) in [
-        (["data:,", "%41b", "#c d"], 3600),
-        (["data:;base64,", "QUJD\n", "QUJD#c d"], 3378),
+        (["data:,", "%41b", "#c d"], 3604),
+        (["data:;base64,", "QUJD\n", "QUJD#c d"], 3381),
     ] {
         let text = with_run(alloc, parts, 900)?;
         let (bytes, fragment) = DataUrl::process(alloc, text.as_str())?.decode_to_vec(alloc)?;
