@@ -3,6 +3,7 @@
 
 mod base64;
 mod base64_blocks;
+mod cuts;
 mod mime;
 mod pieces;
 mod recorder;

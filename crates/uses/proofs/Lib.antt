@@ -1,4 +1,5 @@
 pub mod BodyLemmas
+pub mod ChunkLemmas
 pub mod LengthLemmas
 pub mod PageLemmas
 pub mod RankLemmas

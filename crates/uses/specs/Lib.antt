@@ -1,4 +1,5 @@
 pub mod Bodies
+pub mod Chunks
 pub mod Fetches
 pub mod Loads
 pub mod Pages

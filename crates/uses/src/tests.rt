@@ -9,8 +9,9 @@ use crate::negotiation::best;
 use data_url::DataUrl;
 use data_url::forgiving_base64::Decoder;
 use data_url::mime::Mime;
-use std::alloc::AllocError;
+use std::alloc::{AllocError, Global};
 use std::io::{self, Write};
+use std::process::Abort;
 use std::test::Fail;
 
 /// A sink that has room for so many bytes, takes one at a time, and then fails.
@@ -232,5 +233,57 @@ fn a_page_without_references(rt: HostRuntime) -> Result<(), Fail> {
         };
         assert!(rt; matches!(only, Part::Text(text) if *text == page));
     }
+    Ok(())
+}
+
+/// The length of a long body.
+const LONG: usize = 100_000;
+
+/// Asserts what each caller makes of a URL with a long body.
+fn assert_long(rt: &impl Abort, alloc: Global, text: &str, body: &[u8]) -> Result<(), Fail> {
+    let url = DataUrl::process(alloc, text)?;
+    assert_eq!(rt; body_len(&url)?, body.len());
+    let mut bytes = Vec::new(alloc);
+    append_body(&url, &mut bytes)?;
+    assert!(rt; bytes.as_slice() == body);
+    let Ok(response) = fetch(alloc, text) else {
+        panic!(rt; "not fetched");
+    };
+    assert!(rt; response.body.as_slice() == body);
+    assert!(rt; matches!(content_length(alloc, text), Ok(len) if len == body.len()));
+    let mut sink = Vec::new(alloc);
+    assert!(rt; load(alloc, text, body.len(), &mut sink).is_ok() && sink.as_slice() == body);
+    let page = format!(in alloc; "<img src=\"{text}\">")?;
+    let parts = inline(alloc, page.as_str())?;
+    let [_, resource, _] = parts.as_slice() else {
+        panic!(rt; "not inlined");
+    };
+    assert!(rt; matches!(resource, Part::Inlined(_, it) if it.body.as_slice() == body));
+    Ok(())
+}
+
+#[test]
+fn long_bodies(rt: HostRuntime) -> Result<(), Fail> {
+    let letters = "e".repeat(rt.alloc(), LONG)?;
+    let text = format!(in rt.alloc(); "data:,{letters}")?;
+    assert_long(&rt, rt.alloc(), text.as_str(), letters.as_bytes())?;
+    let symbols = "QUJD".repeat(rt.alloc(), LONG)?;
+    let bytes = "ABC".repeat(rt.alloc(), LONG)?;
+    let text = format!(in rt.alloc(); "data:;base64,{symbols}")?;
+    assert_long(&rt, rt.alloc(), text.as_str(), bytes.as_bytes())
+}
+
+#[test]
+fn long_chunks(rt: HostRuntime) -> Result<(), Fail> {
+    let symbols = "QUJD".repeat(rt.alloc(), LONG)?;
+    let text = symbols.as_bytes();
+    let mut count = 0_usize;
+    let mut decoder = Decoder::new(|piece: &[u8]| -> Result<(), AllocError> {
+        count = count.saturating_add(piece.len());
+        Ok(())
+    });
+    assert!(rt; feed_chunks(&mut decoder, &[text, text]));
+    let _closure = decoder.into_closure();
+    assert_eq!(rt; count, 6 * LONG);
     Ok(())
 }

@@ -1,7 +1,6 @@
 //! `base64` over readers that cut their text anywhere, and a picture in base64.
 
 use super::peers::{BYTEWISE, Peers, SOUND, outcome_of};
-use super::repeated;
 use std::alloc::{AllocError, Global};
 use std::process::Abort;
 use std::test::Fail;
@@ -34,7 +33,7 @@ fn assert_pieces(
     peers: Peers,
 ) -> Result<(), Fail> {
     let (text, bytes, fault) = row;
-    let ended = outcome_of(alloc, "base64", text.as_bytes(), peers)?;
+    let ended = outcome_of(rt, alloc, "base64", text.as_bytes(), peers)?;
     assert!(rt; ended.written.as_slice() == bytes.as_bytes(), "{text}");
     let line = format!(in alloc; "base64 not valid: {fault}\n")?;
     if fault.is_empty() {
@@ -61,19 +60,52 @@ fn texts_in_pieces(rt: HostRuntime) -> Result<(), Fail> {
     Ok(())
 }
 
+/// Asserts that nothing is read after the piece with the first fault, where each read gives so many bytes.
+fn assert_reads(rt: &impl Abort, alloc: Global, behind: &str, piece: usize) -> Result<(), Fail> {
+    let peers = Peers {
+        first: piece,
+        piece,
+        ..SOUND
+    };
+    for groups in [0_usize, 1, 2, 500, 1023, 1024, 1500] {
+        let sound = "QUJD".repeat(alloc, groups)?;
+        let bytes = "ABC".repeat(alloc, groups)?;
+        let text = format!(in alloc; "{sound}!{behind}")?;
+        let ended = outcome_of(rt, alloc, "base64", text.as_bytes(), peers)?;
+        let reads = sound.len().checked_div(piece);
+        assert!(rt; ended.reads.checked_sub(1) == reads, "{groups}, {piece}");
+        assert!(rt;
+            ended.written.as_slice() == bytes.as_bytes() && ended.status == 1,
+            "{groups}, {piece}"
+        );
+    }
+    Ok(())
+}
+
+#[test]
+fn no_read_after_a_fault(rt: HostRuntime) -> Result<(), Fail> {
+    let much = "QUJD".repeat(rt.alloc(), 3000)?;
+    for behind in ["QUJD", much.as_str()] {
+        for piece in [1, 2, 3, 5, 64, 1000, 2048, 4095, 4096] {
+            assert_reads(&rt, rt.alloc(), behind, piece)?;
+        }
+    }
+    Ok(())
+}
+
 #[test]
 fn each_read_is_written(rt: HostRuntime) -> Result<(), Fail> {
     let alloc = rt.alloc();
     for groups in [1, 1000, 1365, 1366, 2731, 5462] {
-        let text = repeated(alloc, "QUJD", groups)?;
-        let bytes = repeated(alloc, "ABC", groups)?;
+        let text = "QUJD".repeat(alloc, groups)?;
+        let bytes = "ABC".repeat(alloc, groups)?;
         for piece in [3, 100, 4095, 4096] {
             let peers = Peers {
                 first: piece,
                 piece,
                 ..SOUND
             };
-            let ended = outcome_of(alloc, "base64", text.as_bytes(), peers)?;
+            let ended = outcome_of(&rt, alloc, "base64", text.as_bytes(), peers)?;
             assert!(rt;
                 ended.written.as_slice() == bytes.as_bytes(),
                 "{groups}, {piece}"
@@ -132,9 +164,9 @@ fn a_picture(rt: HostRuntime) -> Result<(), Fail> {
     let mut url = Vec::new(rt.alloc());
     url.extend_from_slice("data:image/png;base64,".as_bytes())?;
     url.extend_from_slice(&encoded(rt.alloc(), &file)?)?;
-    let body = outcome_of(rt.alloc(), "body", &url, SOUND)?;
+    let body = outcome_of(&rt, rt.alloc(), "body", &url, SOUND)?;
     assert!(rt; body.status == 0 && body.written == file);
-    let mime = outcome_of(rt.alloc(), "mime", &url, SOUND)?;
+    let mime = outcome_of(&rt, rt.alloc(), "mime", &url, SOUND)?;
     assert!(rt; mime.written.as_slice() == "image/png\n".as_bytes());
     Ok(())
 }

@@ -1,6 +1,6 @@
 //! Each command, what is wrong with its input, and the words of the command line.
 
-use super::peers::{SOUND, outcome_of};
+use super::peers::{SOUND, outcome_of, status_by_calls};
 use crate::fault::{Fault, report};
 use crate::program::execute;
 use std::test::Fail;
@@ -48,7 +48,7 @@ const ROWS: [(&str, &str, &str, &str, u8); 24] = [
 #[test]
 fn rows(rt: HostRuntime) -> Result<(), Fail> {
     for (words, input, written, line, status) in ROWS {
-        let ended = outcome_of(rt.alloc(), words, input.as_bytes(), SOUND)?;
+        let ended = outcome_of(&rt, rt.alloc(), words, input.as_bytes(), SOUND)?;
         assert!(rt;
             ended.written.as_slice() == written.as_bytes(),
             "{words}: {input}"
@@ -66,7 +66,7 @@ fn rows(rt: HostRuntime) -> Result<(), Fail> {
 #[test]
 fn input_that_is_no_text(rt: HostRuntime) -> Result<(), Fail> {
     for words in ["body", "mime", "fragment", "type"] {
-        let ended = outcome_of(rt.alloc(), words, &[255], SOUND)?;
+        let ended = outcome_of(&rt, rt.alloc(), words, &[255], SOUND)?;
         assert!(rt; ended.written.is_empty() && ended.status == 1, "{words}");
         assert!(rt;
             ended.line.as_slice() == "input is not UTF-8\n".as_bytes(),
@@ -83,6 +83,10 @@ fn words_that_are_missing(rt: HostRuntime) -> Result<(), Fail> {
     let mut line = Vec::new(rt.alloc());
     let none = Ok(Vec::new(rt.alloc()));
     let status = execute(rt.alloc(), none, &mut reader, &mut written, &mut line);
+    assert!(rt; status == 2 && written.is_empty());
+    assert!(rt; line.as_slice() == USAGE.as_bytes());
+    let mut line = Vec::new(rt.alloc());
+    let status = status_by_calls(rt.alloc(), &[], &mut reader, &mut written, &mut line);
     assert!(rt; status == 2 && written.is_empty());
     assert!(rt; line.as_slice() == USAGE.as_bytes());
     let mut line = Vec::new(rt.alloc());

@@ -1,7 +1,6 @@
 //! Each read and each write that fails.
 
 use super::peers::{BYTEWISE, Peers, SOUND, outcome_of};
-use super::repeated;
 use std::alloc::Global;
 use std::process::Abort;
 use std::test::Fail;
@@ -100,7 +99,7 @@ const ROWS: [(&str, &str, Peers, &str, &str); 8] = [
 #[test]
 fn rows(rt: HostRuntime) -> Result<(), Fail> {
     for (words, input, peers, written, line) in ROWS {
-        let ended = outcome_of(rt.alloc(), words, input.as_bytes(), peers)?;
+        let ended = outcome_of(&rt, rt.alloc(), words, input.as_bytes(), peers)?;
         assert!(rt;
             ended.written.as_slice() == written.as_bytes(),
             "{words}: {input}"
@@ -131,7 +130,7 @@ fn assert_failing(
     input: &[u8],
     output: &[u8],
 ) -> Result<(), Fail> {
-    let sound = outcome_of(alloc, words, input, BYTEWISE)?;
+    let sound = outcome_of(rt, alloc, words, input, BYTEWISE)?;
     assert!(rt;
         sound.written.as_slice() == output && sound.writes == output.len(),
         "{words}"
@@ -141,7 +140,7 @@ fn assert_failing(
             failing_read,
             ..BYTEWISE
         };
-        let ended = outcome_of(alloc, words, input, peers)?;
+        let ended = outcome_of(rt, alloc, words, input, peers)?;
         let len = written_before(words, failing_read);
         assert!(rt;
             output.get(..len) == Some(ended.written.as_slice()),
@@ -160,7 +159,7 @@ fn assert_failing(
                 takes_nothing,
                 ..BYTEWISE
             };
-            let ended = outcome_of(alloc, words, input, peers)?;
+            let ended = outcome_of(rt, alloc, words, input, peers)?;
             let len = failing_write.saturating_sub(1);
             assert!(rt;
                 output.get(..len) == Some(ended.written.as_slice()),
@@ -203,13 +202,13 @@ fn each_call_fails_in_turn(rt: HostRuntime) -> Result<(), Fail> {
 #[test]
 fn writes_of_large_outputs(rt: HostRuntime) -> Result<(), Fail> {
     let alloc = rt.alloc();
-    let body = repeated(alloc, "Abcdefghij", 1000)?;
-    let escaped = repeated(alloc, "%41bcdefghij", 1000)?;
+    let body = "Abcdefghij".repeat(alloc, 1000)?;
+    let escaped = "%41bcdefghij".repeat(alloc, 1000)?;
     let url = format!(in alloc; "data:,{escaped}")?;
-    let text = repeated(alloc, "QUJD", 3000)?;
-    let bytes = repeated(alloc, "ABC", 3000)?;
+    let text = "QUJD".repeat(alloc, 3000)?;
+    let bytes = "ABC".repeat(alloc, 3000)?;
     for (words, input, whole) in [("body", &url, &body), ("base64", &text, &bytes)] {
-        let all = outcome_of(alloc, words, input.as_bytes(), SOUND)?;
+        let all = outcome_of(&rt, alloc, words, input.as_bytes(), SOUND)?;
         assert!(rt;
             all.status == 0 && all.writes > 2 && all.writes < 10,
             "{words}"
@@ -219,7 +218,7 @@ fn writes_of_large_outputs(rt: HostRuntime) -> Result<(), Fail> {
                 failing_write,
                 ..SOUND
             };
-            let ended = outcome_of(alloc, words, input.as_bytes(), peers)?;
+            let ended = outcome_of(&rt, alloc, words, input.as_bytes(), peers)?;
             assert!(rt;
                 ended.written.len() < whole.len() && ended.status == 3,
                 "{words}"

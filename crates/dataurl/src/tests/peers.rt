@@ -1,8 +1,12 @@
 //! Readers and writers in memory that cut, count and fail.
 
+use crate::command::command_of;
+use crate::fault::{report, usage};
 use crate::program::execute;
+use crate::run::run;
 use std::alloc::{AllocError, Global};
 use std::io::{self, Read, Write};
+use std::process::Abort;
 use std::test::Fail;
 
 /// How a reader and a writer behave: how many bytes the first read gives and each other one, which read fails, how many
@@ -89,7 +93,7 @@ impl Write for CutWriter {
 }
 
 /// What the program wrote on standard output and on standard error, its status, and how often it read and wrote.
-#[derive(Drop)]
+#[derive(Drop, PartialEq)]
 pub(super) struct Ended {
     pub(super) written: Vec<u8>,
     pub(super) line: Vec<u8>,
@@ -107,12 +111,30 @@ pub(super) fn words_of(alloc: Global, text: &str) -> Result<Vec<String>, AllocEr
     Ok(words)
 }
 
-/// Runs the program with these words on an input.
-pub(super) fn outcome_of(
+/// The exit status of a command, by the calls that `execute` makes.
+pub(super) fn status_by_calls<R: Read, W: Write, E: Write>(
+    alloc: Global,
+    words: &[String],
+    reader: &mut R,
+    writer: &mut W,
+    errors: &mut E,
+) -> u8 {
+    let Some(command) = command_of(words) else {
+        return usage(errors);
+    };
+    match run(alloc, command, reader, writer) {
+        Ok(()) => 0,
+        Err(fault) => report(&fault, errors),
+    }
+}
+
+/// Runs the program with these words on an input, by `execute` or by the calls that it makes.
+fn outcome_by(
     alloc: Global,
     words: &str,
     input: &[u8],
     peers: Peers,
+    is_by_calls: bool,
 ) -> Result<Ended, Fail> {
     let mut reader = CutReader {
         rest: input,
@@ -126,7 +148,11 @@ pub(super) fn outcome_of(
     };
     let mut line = Vec::new(alloc);
     let words = words_of(alloc, words)?;
-    let status = execute(alloc, Ok(words), &mut reader, &mut writer, &mut line);
+    let status = if is_by_calls {
+        status_by_calls(alloc, &words, &mut reader, &mut writer, &mut line)
+    } else {
+        execute(alloc, Ok(words), &mut reader, &mut writer, &mut line)
+    };
     let CutWriter {
         bytes: written,
         peers: _,
@@ -139,4 +165,18 @@ pub(super) fn outcome_of(
         reads: reader.calls,
         writes,
     })
+}
+
+/// Runs the program with these words on an input. It ends as the calls that it makes do.
+pub(super) fn outcome_of(
+    rt: &impl Abort,
+    alloc: Global,
+    words: &str,
+    input: &[u8],
+    peers: Peers,
+) -> Result<Ended, Fail> {
+    let ended = outcome_by(alloc, words, input, peers, false)?;
+    let by_calls = outcome_by(alloc, words, input, peers, true)?;
+    assert!(rt; ended == by_calls, "{words}");
+    Ok(ended)
 }

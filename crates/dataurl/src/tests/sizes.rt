@@ -1,7 +1,6 @@
 //! Inputs of every size: one byte at a time, around the room that is gathered, and large.
 
 use super::peers::{BYTEWISE, Peers, SOUND, outcome_of};
-use super::repeated;
 use std::alloc::Global;
 use std::process::Abort;
 use std::test::Fail;
@@ -15,7 +14,7 @@ fn assert_written(
     output: &str,
     peers: Peers,
 ) -> Result<(), Fail> {
-    let ended = outcome_of(alloc, words, input.as_bytes(), peers)?;
+    let ended = outcome_of(rt, alloc, words, input.as_bytes(), peers)?;
     let len = input.len();
     assert!(rt;
         ended.written.as_slice() == output.as_bytes(),
@@ -30,9 +29,9 @@ fn assert_written(
 
 /// Asserts what each command writes where header, body, fragment and value are so long.
 fn assert_sizes(rt: &impl Abort, alloc: Global, len: usize, peers: Peers) -> Result<(), Fail> {
-    let value = repeated(alloc, "d", len)?;
-    let body = repeated(alloc, "e", len)?;
-    let fragment = repeated(alloc, "f", len)?;
+    let value = "d".repeat(alloc, len)?;
+    let body = "e".repeat(alloc, len)?;
+    let fragment = "f".repeat(alloc, len)?;
     let url = format!(in alloc; "data:a/b;c={value},{body}#{fragment}")?;
     let line = format!(in alloc; "a/b;c={value}\n")?;
     assert_written(rt, alloc, "body", url.as_str(), body.as_str(), peers)?;
@@ -40,8 +39,8 @@ fn assert_sizes(rt: &impl Abort, alloc: Global, len: usize, peers: Peers) -> Res
     assert_written(rt, alloc, "type", line.trim(), line.as_str(), peers)?;
     let encoded = format!(in alloc; "{fragment}\n")?;
     assert_written(rt, alloc, "fragment", url.as_str(), encoded.as_str(), peers)?;
-    let text = repeated(alloc, "QUJD", len)?;
-    let bytes = repeated(alloc, "ABC", len)?;
+    let text = "QUJD".repeat(alloc, len)?;
+    let bytes = "ABC".repeat(alloc, len)?;
     assert_written(rt, alloc, "base64", text.as_str(), bytes.as_str(), peers)
 }
 
@@ -56,8 +55,40 @@ fn sizes(rt: HostRuntime) -> Result<(), Fail> {
 }
 
 #[test]
+fn large_inputs(rt: HostRuntime) -> Result<(), Fail> {
+    assert_sizes(&rt, rt.alloc(), 20_971_520, SOUND)?;
+    let body = "e".repeat(rt.alloc(), 73_400_320)?;
+    let url = format!(in rt.alloc(); "data:,{body}")?;
+    assert_written(&rt, rt.alloc(), "body", url.as_str(), body.as_str(), SOUND)
+}
+
+#[test]
+fn many_reads(rt: HostRuntime) -> Result<(), Fail> {
+    let body = "e".repeat(rt.alloc(), 70_000)?;
+    let url = format!(in rt.alloc(); "data:,{body}")?;
+    assert_written(
+        &rt,
+        rt.alloc(),
+        "body",
+        url.as_str(),
+        body.as_str(),
+        BYTEWISE,
+    )?;
+    let text = "QUJD".repeat(rt.alloc(), 17_500)?;
+    let bytes = "ABC".repeat(rt.alloc(), 17_500)?;
+    assert_written(
+        &rt,
+        rt.alloc(),
+        "base64",
+        text.as_str(),
+        bytes.as_str(),
+        BYTEWISE,
+    )
+}
+
+#[test]
 fn a_read_that_fails_behind_many(rt: HostRuntime) -> Result<(), Fail> {
-    let text = repeated(rt.alloc(), "QUJD", 1500)?;
+    let text = "QUJD".repeat(rt.alloc(), 1500)?;
     let url = format!(in rt.alloc(); "data:,{text}")?;
     let peers = Peers {
         failing_read: 5001,
@@ -65,7 +96,7 @@ fn a_read_that_fails_behind_many(rt: HostRuntime) -> Result<(), Fail> {
     };
     for words in ["body", "mime", "fragment", "type", "base64"] {
         let input = if words == "base64" { &text } else { &url };
-        let ended = outcome_of(rt.alloc(), words, input.as_bytes(), peers)?;
+        let ended = outcome_of(&rt, rt.alloc(), words, input.as_bytes(), peers)?;
         let len = if words == "base64" { 3750 } else { 0 };
         assert!(rt;
             ended.written.len() == len && ended.reads == 5001,
@@ -95,9 +126,9 @@ fn a_thousand_parameters(rt: HostRuntime) -> Result<(), Fail> {
 fn few_writes_of_bodies(rt: HostRuntime) -> Result<(), Fail> {
     let alloc = rt.alloc();
     for len in [0, 1, 4095, 4096, 4097, 8191, 8192, 8193, 20000] {
-        let body = repeated(alloc, "x", len)?;
+        let body = "x".repeat(alloc, len)?;
         let url = format!(in alloc; "data:,{body}")?;
-        let ended = outcome_of(alloc, "body", url.as_bytes(), SOUND)?;
+        let ended = outcome_of(&rt, alloc, "body", url.as_bytes(), SOUND)?;
         assert!(rt; ended.written.as_slice() == body.as_bytes(), "{len}");
         assert!(rt; ended.writes <= len / 2048 + 2, "{len}");
     }

@@ -4,13 +4,18 @@ use super::base64::assert_whole;
 use super::mime::{assert_mime, assert_read_again};
 use super::urls::{DEFAULT, assert_url};
 use super::{assert_printed, with_run};
+use data_url::DataUrl;
+use data_url::forgiving_base64::decode_to_vec;
 use data_url::mime::Mime;
 use std::alloc::{AllocError, Global};
 use std::process::Abort;
 use std::test::Fail;
 
-/// Many bytes: the 20th power of two.
-const MANY: usize = 1_048_576;
+/// The sizes are the powers of two up to this one.
+const POWERS: u32 = 20;
+
+/// A size over 16 MiB.
+const LARGE: usize = 20_971_520;
 
 /// A MIME type with so many parameters.
 pub fn with_parameters(alloc: Global, count: u32) -> Result<String, AllocError> {
@@ -36,6 +41,17 @@ fn assert_parts(rt: &impl Abort, alloc: Global, size: usize) -> Result<(), Fail>
     assert_url(rt, alloc, row)
 }
 
+/// Asserts the records of a parameter and of a type of so many bytes.
+fn assert_types(rt: &impl Abort, alloc: Global, size: usize) -> Result<(), Fail> {
+    let text = with_run(alloc, ["a/b;c=", "d", ""], size)?;
+    assert_mime(rt, alloc, "long", text.as_str(), text.as_str())?;
+    let type_ = "d".repeat(alloc, size)?;
+    let mime = Mime::new(alloc, type_.as_str(), "b")?;
+    let printed = format!(in alloc; "{type_}/b")?;
+    assert_printed(rt, alloc, "long", &mime, printed.as_str())?;
+    assert_read_again(rt, alloc, "long", &mime)
+}
+
 /// Asserts the body of a text with so many groups of base64.
 fn assert_groups(rt: &impl Abort, alloc: Global, size: usize) -> Result<(), Fail> {
     let symbols = "QUJD".repeat(alloc, size)?;
@@ -47,7 +63,7 @@ fn assert_groups(rt: &impl Abort, alloc: Global, size: usize) -> Result<(), Fail
 
 #[test]
 fn long_parts(rt: HostRuntime) -> Result<(), Fail> {
-    for power in 0..=20_u32 {
+    for power in 0..=POWERS {
         assert_parts(&rt, rt.alloc(), 1 << power)?;
     }
     Ok(())
@@ -55,9 +71,42 @@ fn long_parts(rt: HostRuntime) -> Result<(), Fail> {
 
 #[test]
 fn many_groups(rt: HostRuntime) -> Result<(), Fail> {
-    for power in 0..=18_u32 {
+    for power in 0..=POWERS {
         assert_groups(&rt, rt.alloc(), 1 << power)?;
     }
+    Ok(())
+}
+
+#[test]
+fn long_types(rt: HostRuntime) -> Result<(), Fail> {
+    for power in 0..=POWERS {
+        assert_types(&rt, rt.alloc(), 1 << power)?;
+    }
+    Ok(())
+}
+
+#[test]
+fn large_texts(rt: HostRuntime) -> Result<(), Fail> {
+    assert_parts(&rt, rt.alloc(), LARGE)?;
+    assert_groups(&rt, rt.alloc(), LARGE / 4)?;
+    assert_types(&rt, rt.alloc(), LARGE)
+}
+
+/// The room of a vector is what was taken at first, by the length of the text after the comma.
+#[test]
+fn room_is_taken_once(rt: HostRuntime) -> Result<(), Fail> {
+    let alloc = rt.alloc();
+    for (parts, room) in [
+        (["data:,", "%41b", "#c d"], 3604),
+        (["data:;base64,", "QUJD\n", "QUJD#c d"], 3381),
+    ] {
+        let text = with_run(alloc, parts, 900)?;
+        let (bytes, fragment) = DataUrl::process(alloc, text.as_str())?.decode_to_vec(alloc)?;
+        assert_eq!(rt; bytes.capacity(), room);
+        assert!(rt; fragment.is_some());
+    }
+    let symbols = "QUJD".repeat(alloc, 900)?;
+    assert_eq!(rt; decode_to_vec(alloc, symbols.as_bytes())?.capacity(), 2700);
     Ok(())
 }
 
@@ -94,16 +143,12 @@ fn runs_in_mime_types(rt: HostRuntime) -> Result<(), Fail> {
 }
 
 #[test]
-fn a_record_of_a_long_type(rt: HostRuntime) -> Result<(), Fail> {
-    let type_ = "d".repeat(rt.alloc(), MANY)?;
-    let mime = Mime::new(rt.alloc(), type_.as_str(), "b")?;
-    let printed = format!(in rt.alloc(); "{type_}/b")?;
-    assert_printed(&rt, rt.alloc(), "long", &mime, printed.as_str())?;
-    assert_read_again(&rt, rt.alloc(), "long", &mime)
-}
-
-#[test]
-fn a_thousand_parameters(rt: HostRuntime) -> Result<(), Fail> {
-    let text = with_parameters(rt.alloc(), 1000)?;
-    assert_mime(&rt, rt.alloc(), "long", text.as_str(), text.as_str())
+fn many_parameters(rt: HostRuntime) -> Result<(), Fail> {
+    for count in [1000, 5000] {
+        let text = with_parameters(rt.alloc(), count)?;
+        assert_mime(&rt, rt.alloc(), "long", text.as_str(), text.as_str())?;
+        let url = format!(in rt.alloc(); "data:{text},x")?;
+        assert_url(&rt, rt.alloc(), [url.as_str(), text.as_str(), "x", ""])?;
+    }
+    Ok(())
 }
