@@ -1,1 +1,4 @@
+pub mod EndLemmas
 pub mod GivenLemmas
+pub mod LeftLemmas
+pub mod PartLemmas

@@ -1,12 +1,20 @@
 -- What the private steps give: words that no contract of an export cites.
-use Rattle.std.specs.Prelude.{[], ◌≡◌, Err, IsUtf8, List, None, Ok, Result, Some, encode_utf8_all, option_map, ℕ}
+use Rattle.std.specs.Prelude.{[], ◌+◌, ◌++◌, ◌≡◌, ◌≤◌, Err, IsUtf8, List, MatchBool, MatchOption, None, Ok, Result, Some, drop, encode_utf8_all, length, option_map, take, ℕ}
 use Rattle.data_url.specs.DataUrl.{IsUrlOf, url_body, url_tail}
 use Rattle.data_url.specs.Fetch.{Bad, Good, Outcome}
 use Rattle.data_url.specs.Mime.{Record, printed}
 use Rattle.data_url.specs.Url.{behind, encoded_fragment}
 use Rattle.data_url.specs.declared.DataUrl.{DataUrl}
-use Rattle.data_url_c.specs.Answers.{Given}
+use Rattle.data_url.specs.Base64.{complete_bytes, decoded, first_fault, is_valid, kind_of}
+use Rattle.data_url.specs.Run.{Call, IsRun, joined_pieces}
+use Rattle.data_url.specs.declared.forgiving_base64.DecodeError.{DecodeError}
+use Rattle.data_url.specs.declared.forgiving_base64.DecodeError.TheVariants as decode
+use Rattle.data_url_c.specs.Answers.{Given, status_of_kind}
 use Rattle.data_url_c.specs.Gives.{RefusesUrl}
+use Rattle.data_url_c.specs.Parts.{TakesText, WritesFront, waiting_text}
+use Rattle.data_url_c.specs.declared.parts.DataUrlBase64.{DataUrlBase64}
+use Rattle.data_url_c.specs.declared.parts.DataUrlStep.{DataUrlStep}
+use Rattle.data_url_c.specs.declared.parts.Last.{Last}
 use Rattle.data_url_c.specs.declared.refusal.Refusal.TheVariants.{InvalidBase64, NoFragment, OutOfMemory}
 use Rattle.data_url_c.specs.declared.refusal.Refusal.{Refusal}
 
@@ -43,3 +51,36 @@ HasFragment url (Err (InvalidBase64 kind none)) =
     (bytes : List ℕ) × (url_body url ≡ Bad bytes kind) × (none.items ≡ [])
 HasFragment url (Err OutOfMemory) = Unit {0}
 HasFragment url (Err refusal) = ⊥
+
+-- a piece was written after the first len bytes, if it fits
+pub record Writes (piece old : List ℕ) (len : ℕ) (new : List ℕ) (len' : ℕ) : Type 0 where
+  pub fits : len + length piece ≤ length old
+      → (len' ≡ len + length piece) × (new ≡ take len old ++ (piece ++ drop len' old))
+
+-- of the text u the groups before its first fault were handed to the closure f, which is g now, and
+-- r tells the fault
+pub record HandsGroups {F E : Type 0} (step : F → List ℕ → Result (Unit {0}) E → F → Type 0) (f : F)
+    (u : List ℕ) (r : Result (Unit {0}) (DecodeError E)) (g : F) : Type 0 where
+  pub run : List (Call F E)
+  pub ran : IsRun step f run g
+  pub bytes_are : joined_pieces run ≡ complete_bytes u
+  pub answer : MatchOption (first_fault u) (r ≡ Ok tt)
+      (λ place. r ≡ Err (decode.InvalidBase64 (kind_of u)))
+
+-- of the text u the groups before its first fault were written, and r tells the fault
+pub record DecodesGroups (u before after : List ℕ) (r : DataUrlStep) : Type 0 where
+  pub wrote : WritesFront (complete_bytes u) before after r.len
+  pub ended : MatchOption (first_fault u) (r.status ≡ 0)
+      (λ place. r.status ≡ status_of_kind (kind_of u))
+
+-- a text was taken after what waited
+abbrev pub FeedsText : DataUrlBase64 → DataUrlBase64 → List ℕ → List ℕ → List ℕ → DataUrlStep → Type 0
+FeedsText old new text before after r =
+    TakesText (waiting_text old ++ text) new before after r.status r.len
+
+-- the last bytes of the text u, where it is valid, or its fault
+pub record IsLast (u : List ℕ) (last : Last) : Type 0 where
+  pub within : last.len ≤ 3
+  pub ended : MatchBool (is_valid u)
+      ((last.status ≡ 0) × (take last.len last.bytes ≡ decoded u))
+      ((last.status ≡ status_of_kind (kind_of u)) × (last.len ≡ 0))

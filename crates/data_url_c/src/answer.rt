@@ -7,7 +7,7 @@ use crate::refusal::Refusal;
 use data_url::forgiving_base64::{InvalidBase64, InvalidBase64Details};
 
 /// All was done.
-const DONE: u32 = 0;
+pub(crate) const DONE: u32 = 0;
 
 /// The text has no scheme `data:`.
 const NOT_A_DATA_URL: u32 = 1;
@@ -22,7 +22,7 @@ const OUT_OF_MEMORY: u32 = 3;
 const NOT_UTF8: u32 = 4;
 
 /// The output has no room for the answer.
-const OUTPUT_TOO_SMALL: u32 = 5;
+pub(crate) const OUTPUT_TOO_SMALL: u32 = 5;
 
 /// The text is no MIME type.
 const NOT_A_MIME_TYPE: u32 = 6;
@@ -53,7 +53,7 @@ pub struct DataUrlAnswer {
 }
 
 /// The status of base64 that is not valid: its kind, and of an unexpected symbol the byte besides.
-fn status_of(refusal: &InvalidBase64) -> u32
+pub(crate) fn status_of(refusal: &InvalidBase64) -> u32
     ensures { result ≡ status_of_kind refusal.now }
 {
     match refusal.details() {
@@ -65,7 +65,7 @@ fn status_of(refusal: &InvalidBase64) -> u32
 }
 
 /// Shows bytes at the front of the output, with their status, or says that it is too small for them.
-fn show(status: u32, bytes: &[u8], out: &mut [u8]) -> DataUrlAnswer
+pub(crate) fn show(status: u32, bytes: &[u8], out: &mut [u8]) -> DataUrlAnswer
     ensures { Shows status bytes.now out.old out.new result }
 {
     let len = bytes.len();

@@ -21,14 +21,18 @@
 
 ghost use Rattle.data_url_c.specs.Answers.{Answers};
 ghost use Rattle.data_url_c.specs.Gives.{GivesBase64, GivesBody, GivesFragment, GivesMime, GivesType};
+ghost use Rattle.data_url_c.specs.Parts.{FeedsPart, FinishesPart};
 
 mod answer;
 mod base64;
+mod output;
+mod parts;
 mod refusal;
 mod texts;
 
 pub use answer::DataUrlAnswer;
 use answer::answer;
+pub use parts::{DataUrlBase64, DataUrlFed, DataUrlStep};
 pub use refusal::Refusal;
 use std::alloc::Global;
 
@@ -78,4 +82,28 @@ pub extern "C" fn dataurl_base64(alloc: Global, text: &[u8], out: &mut [u8]) -> 
     ensures { Answers (GivesBase64 text.now) out.old out.new result }
 {
     answer(base64::base64(alloc, text), out)
+}
+
+/// Feeds a part of base64
+/// ([Infra Standard, forgiving-base64 decode](https://infra.spec.whatwg.org/#forgiving-base64-decode)), cut anywhere, and
+/// writes the bytes of the groups that it completes. It reads the whole part if that has at most three bytes less than
+/// the output, and otherwise at least one byte. After a fault, the state is refused.
+#[unsafe(no_mangle)]
+pub extern "C" fn dataurl_base64_feed(
+    state: &mut DataUrlBase64,
+    input: &[u8],
+    out: &mut [u8],
+) -> DataUrlFed
+    ensures { FeedsPart state.old state.new input.now out.old out.new result }
+{
+    parts::feed(state, input, out)
+}
+
+/// Ends base64 that came in parts, and writes its last bytes, of which there are at most two. After that, the state is
+/// refused; if the output has no room for the last bytes, it is as it was.
+#[unsafe(no_mangle)]
+pub extern "C" fn dataurl_base64_finish(state: &mut DataUrlBase64, out: &mut [u8]) -> DataUrlStep
+    ensures { FinishesPart state.old state.new out.old out.new result }
+{
+    parts::finish(state, out)
 }
