@@ -1,3 +1,4 @@
+pub mod BodyLemmas
 pub mod EndLemmas
 pub mod GivenLemmas
 pub mod LeftLemmas

@@ -212,14 +212,14 @@ sound_by : (o : Option ℕ) (kind : Kind) (status : ℕ) (P Q : Type 0) → Matc
 sound_by None kind status P Q h e = (refl, h.1)
 sound_by (Some place) kind status P Q h e = absurd (no_kind kind (sym h.0 ∙ e))
 
-faulty_by : (o : Option ℕ) (kind : Kind) (status : ℕ) (P Q : Type 0) → MatchOption o ((status ≡ 0) × P) (λ place. (status ≡ status_of_kind kind) × Q) → (status ≡ 0 → ⊥) → is_some o ≡ true × (status ≡ status_of_kind kind) × Q
+pub faulty_by : (o : Option ℕ) (kind : Kind) (status : ℕ) (P Q : Type 0) → MatchOption o ((status ≡ 0) × P) (λ place. (status ≡ status_of_kind kind) × Q) → (status ≡ 0 → ⊥) → is_some o ≡ true × (status ≡ status_of_kind kind) × Q
 faulty_by None kind status P Q h e = absurd (e h.0)
 faulty_by (Some place) kind status P Q h e = (refl, h.0, h.1)
 
 pub taken_sound : {u : List ℕ} {s : DataUrlBase64} {before after : List ℕ} {status len : ℕ} → TakesText u s before after status len → status ≡ 0 → (first_fault u ≡ None) × IsLeftOf u s
 taken_sound {u} {s} {status = status} h e = sound_by (first_fault u) (kind_of u) status (IsLeftOf u s) (is_good_state s ≡ false) h.ended e
 
-left_text_is : {u : List ℕ} {s : DataUrlBase64} → IsLeftOf u s → waiting_text s ≡ left_text (left_symbols u) (left_padding u)
+pub left_text_is : {u : List ℕ} {s : DataUrlBase64} → IsLeftOf u s → waiting_text s ≡ left_text (left_symbols u) (left_padding u)
 left_text_is {u} {s} h = ap (λ q. left_text q s.padding) h.symbols_are ∙ ap (left_text (left_symbols u)) h.padding_is
 
 -- a text without a fault, and then another
@@ -239,7 +239,7 @@ takes_both {u} {s} {t} {out} {out1} {out2} {out'} {first} {status} {n} {m} b a z
           h.ended;
     }
 
-fault_cases : (u : List ℕ) (o : Option ℕ) → fault_byte false u ≡ o → is_some o ≡ true → (c : ℕ) × (fault_byte false u ≡ Some c)
+pub fault_cases : (u : List ℕ) (o : Option ℕ) → fault_byte false u ≡ o → is_some o ≡ true → (c : ℕ) × (fault_byte false u ≡ Some c)
 fault_cases u None e h = absurd (cc)
 fault_cases u (Some c) e h = (c, e)
 

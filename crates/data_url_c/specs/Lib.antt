@@ -1,4 +1,5 @@
 pub mod Answers
+pub mod Bodies
 pub mod Gives
 pub mod Parts
 pub mod Steps

@@ -1,7 +1,7 @@
 -- What the private steps give: words that no contract of an export cites.
-use Rattle.std.specs.Prelude.{[], ◌+◌, ◌++◌, ◌≡◌, ◌≤◌, Err, IsUtf8, List, MatchBool, MatchOption, None, Ok, Result, Some, drop, encode_utf8_all, length, option_map, take, ℕ}
+use Rattle.std.specs.Prelude.{[], ◌+◌, ◌++◌, ◌≡◌, ◌≤◌, Bool, Err, IsUtf8, List, MatchBool, MatchOption, None, Ok, Result, Some, drop, encode_utf8_all, is_some, length, option_map, take, ℕ}
 use Rattle.data_url.specs.DataUrl.{IsUrlOf, url_body, url_tail}
-use Rattle.data_url.specs.Fetch.{Bad, Good, Outcome}
+use Rattle.data_url.specs.Fetch.{Bad, Good, Outcome, plain_body}
 use Rattle.data_url.specs.Mime.{Record, printed}
 use Rattle.data_url.specs.Url.{behind, encoded_fragment}
 use Rattle.data_url.specs.declared.DataUrl.{DataUrl}
@@ -84,3 +84,21 @@ pub record IsLast (u : List ℕ) (last : Last) : Type 0 where
   pub ended : MatchBool (is_valid u)
       ((last.status ≡ 0) × (take last.len last.bytes ≡ decoded u))
       ((last.status ≡ status_of_kind (kind_of u)) × (last.len ≡ 0))
+
+-- whether a text has a fragment
+abbrev pub IsFragmentThere : List ℕ → Bool → Type 0
+IsFragmentThere text there = there ≡ is_some (behind 35 text)
+
+-- the body that a text holds was fed after what waited
+pub record FeedsBody (old new : DataUrlBase64) (text before after : List ℕ) (r : DataUrlStep)
+    (there : Bool) : Type 0 where
+  pub fed : FeedsText old new (plain_body text) before after r
+  pub fragment : r.status ≡ 0 → IsFragmentThere text there
+
+-- the last bytes of the text u were written after the first ones, or it is not valid and nothing was
+pub record EndsBehind (u : List ℕ) (written : ℕ) (before after : List ℕ) (r : DataUrlStep)
+    : Type 0 where
+  pub ended : MatchBool (is_valid u)
+      ((r.status ≡ 0) × (r.len ≡ written + length (decoded u))
+      × (after ≡ take written before ++ (decoded u ++ drop r.len before)))
+      ((r.status ≡ status_of_kind (kind_of u)) × (r.len ≡ written) × (after ≡ before))

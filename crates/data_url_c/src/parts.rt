@@ -56,8 +56,15 @@ pub struct DataUrlStep {
     pub len: usize,
 }
 
+/// A state with nothing waiting.
+pub(crate) const START: DataUrlBase64 = DataUrlBase64 {
+    symbols: [0; 3],
+    pending: 0,
+    padding: 0,
+};
+
 /// A state that every later call refuses.
-const SPENT: DataUrlBase64 = DataUrlBase64 {
+pub(crate) const SPENT: DataUrlBase64 = DataUrlBase64 {
     symbols: [0; 3],
     pending: 255,
     padding: 0,
@@ -288,10 +295,11 @@ pub(crate) fn feed(state: &mut DataUrlBase64, input: &[u8], out: &mut [u8]) -> D
 }
 
 /// The last bytes of a text, or the status of its fault.
-struct Last {
-    status: u32,
-    bytes: [u8; 3],
-    len: usize,
+#[derive(Clone, Copy)]
+pub(crate) struct Last {
+    pub(crate) status: u32,
+    pub(crate) bytes: [u8; 3],
+    pub(crate) len: usize,
 }
 
 /// Ends the text of what waits, and hands the closure back.
@@ -318,7 +326,7 @@ where
 }
 
 /// Returns the last bytes of what waits, or the status of its fault.
-fn last_bytes(state: &DataUrlBase64) -> Last
+pub(crate) fn last_bytes(state: &DataUrlBase64) -> Last
     requires { is_good_state state.now ≡ true }
     ensures { IsLast (waiting_text state.now) result }
 {
