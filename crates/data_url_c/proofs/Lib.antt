@@ -1,4 +1,9 @@
+pub mod BodyLemmas
+pub mod EndLemmas
+pub mod FaultStatusLemmas
 pub mod GivenLemmas
 pub mod KindLemmas
+pub mod LeftLemmas
 pub mod OpenLemmas
+pub mod PartLemmas
 pub mod ProbeLemmas

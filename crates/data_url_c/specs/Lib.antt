@@ -1,4 +1,6 @@
 pub mod Answers
+pub mod Bodies
 pub mod Gives
 pub mod Opens
+pub mod Parts
 pub mod Steps

@@ -1,18 +1,26 @@
 -- What the private steps give: words that no contract of an export cites.
 pub mod Opening
 use Rattle.std.specs.Global.{Global}
-use Rattle.std.specs.Prelude.{[], ◌-◌, ◌==◌, ◌^◌, ◌⊎◌, ◌≡◌, Bool, Err, IsUtf8, List, None, Ok, Result, Some, Vec, encode_utf8_all, length, min, option_map, take, ℕ}
+use Rattle.std.specs.Prelude.{Bool, Err, IsUtf8, List, MatchBool, MatchOption, None, Ok, Result, Some, Vec, [], drop, encode_utf8_all, is_some, length, min, option_map, take, ℕ, ◌++◌, ◌+◌, ◌-◌, ◌==◌, ◌^◌, ◌≡◌, ◌≤◌, ◌⊎◌}
 use Rattle.data_url.specs.DataUrl.{IsAcceptable, IsUrlOf, mime_of, url_body, url_tail}
-use Rattle.data_url.specs.Fetch.{Bad, Good, NoComma as no_comma, NoScheme, Outcome, staged}
+use Rattle.data_url.specs.Fetch.{Bad, Good, NoComma as no_comma, NoScheme, Outcome, plain_body, staged}
 use Rattle.data_url.specs.Mime.{Record, printed}
 use Rattle.data_url.specs.MimeType.{record_of}
 use Rattle.data_url.specs.Url.{behind, encoded_fragment}
 use Rattle.data_url.specs.declared.DataUrl.{DataUrl}
-use Rattle.data_url_c.specs.Answers.{Crosses, Given}
+use Rattle.data_url_c.specs.Answers.{Crosses, Given, status_of_kind}
 use Rattle.data_url_c.specs.Gives.{RefusesUrl}
 use Rattle.data_url_c.specs.declared.answer.DataUrlAnswer.{DataUrlAnswer}
 use Rattle.data_url_c.specs.declared.kind.ShortText.{ShortText}
 use Rattle.data_url_c.specs.declared.refusal.Refusal.TheVariants.{InvalidBase64, NoComma, NoFragment, NotADataUrl, OutOfMemory}
+use Rattle.data_url.specs.Base64.{complete_bytes, decoded, first_fault, is_valid, kind_of}
+use Rattle.data_url.specs.Run.{Call, IsRun, joined_pieces}
+use Rattle.data_url.specs.declared.forgiving_base64.DecodeError.{DecodeError}
+use Rattle.data_url.specs.declared.forgiving_base64.DecodeError.TheVariants as decode
+use Rattle.data_url_c.specs.Parts.{TakesText, WritesFront, waiting_text}
+use Rattle.data_url_c.specs.declared.parts.DataUrlBase64.{DataUrlBase64}
+use Rattle.data_url_c.specs.declared.parts.DataUrlStep.{DataUrlStep}
+use Rattle.data_url_c.specs.declared.parts.Last.{Last}
 use Rattle.data_url_c.specs.declared.refusal.Refusal.{Refusal}
 
 -- any answer at all
@@ -92,3 +100,54 @@ ReadsProbe x (Err NotADataUrl) = staged x ≡ NoScheme
 ReadsProbe x (Err NoComma) = staged x ≡ no_comma
 ReadsProbe x (Err OutOfMemory) = IsAcceptable (staged x)
 ReadsProbe x (Err refusal) = ⊥
+
+-- a piece was written after the first len bytes, if it fits
+pub record Writes (piece old : List ℕ) (len : ℕ) (new : List ℕ) (len' : ℕ) : Type 0 where
+  pub fits : len + length piece ≤ length old
+      → (len' ≡ len + length piece) × (new ≡ take len old ++ (piece ++ drop len' old))
+
+-- of the text u the groups before its first fault were handed to the closure f, which is g now, and
+-- r tells the fault
+pub record HandsGroups {F E : Type 0} (step : F → List ℕ → Result (Unit {0}) E → F → Type 0) (f : F)
+    (u : List ℕ) (r : Result (Unit {0}) (DecodeError E)) (g : F) : Type 0 where
+  pub run : List (Call F E)
+  pub ran : IsRun step f run g
+  pub bytes_are : joined_pieces run ≡ complete_bytes u
+  pub answer : MatchOption (first_fault u) (r ≡ Ok tt)
+      (λ place. r ≡ Err (decode.InvalidBase64 (kind_of u)))
+
+-- of the text u the groups before its first fault were written, and r tells the fault
+pub record DecodesGroups (u before after : List ℕ) (r : DataUrlStep) : Type 0 where
+  pub wrote : WritesFront (complete_bytes u) before after r.len
+  pub ended : MatchOption (first_fault u) (r.status ≡ 0)
+      (λ place. r.status ≡ status_of_kind (kind_of u))
+
+-- a text was taken after what waited
+abbrev pub FeedsText : DataUrlBase64 → DataUrlBase64 → List ℕ → List ℕ → List ℕ → DataUrlStep → Type 0
+FeedsText old new text before after r =
+    TakesText (waiting_text old ++ text) new before after r.status r.len
+
+-- the last bytes of the text u, where it is valid, or its fault
+pub record IsLast (u : List ℕ) (last : Last) : Type 0 where
+  pub within : last.len ≤ 3
+  pub ended : MatchBool (is_valid u)
+      ((last.status ≡ 0) × (take last.len last.bytes ≡ decoded u))
+      ((last.status ≡ status_of_kind (kind_of u)) × (last.len ≡ 0))
+
+-- whether a text has a fragment
+abbrev pub IsFragmentThere : List ℕ → Bool → Type 0
+IsFragmentThere text there = there ≡ is_some (behind 35 text)
+
+-- the body that a text holds was fed after what waited
+pub record FeedsBody (old new : DataUrlBase64) (text before after : List ℕ) (r : DataUrlStep)
+    (there : Bool) : Type 0 where
+  pub fed : FeedsText old new (plain_body text) before after r
+  pub fragment : r.status ≡ 0 → IsFragmentThere text there
+
+-- the last bytes of the text u were written after the first ones, or it is not valid and nothing was
+pub record EndsBehind (u : List ℕ) (written : ℕ) (before after : List ℕ) (r : DataUrlStep)
+    : Type 0 where
+  pub ended : MatchBool (is_valid u)
+      ((r.status ≡ 0) × (r.len ≡ written + length (decoded u))
+      × (after ≡ take written before ++ (decoded u ++ drop r.len before)))
+      ((r.status ≡ status_of_kind (kind_of u)) × (r.len ≡ written) × (after ≡ before))

@@ -8,7 +8,7 @@ use crate::kind::status_of;
 use crate::refusal::Refusal;
 
 /// All was done.
-const DONE: u32 = 0;
+pub(crate) const DONE: u32 = 0;
 
 /// The text has no scheme `data:`.
 const NOT_A_DATA_URL: u32 = 1;
@@ -23,7 +23,7 @@ const OUT_OF_MEMORY: u32 = 3;
 const NOT_UTF8: u32 = 4;
 
 /// The output has no room for the answer.
-const OUTPUT_TOO_SMALL: u32 = 5;
+pub(crate) const OUTPUT_TOO_SMALL: u32 = 5;
 
 /// The text is no MIME type.
 const NOT_A_MIME_TYPE: u32 = 6;
@@ -42,7 +42,7 @@ pub struct DataUrlAnswer {
 }
 
 /// Shows bytes at the front of the output, with their status, or says that it is too small for them.
-fn show(status: u32, bytes: &[u8], out: &mut [u8]) -> DataUrlAnswer
+pub(crate) fn show(status: u32, bytes: &[u8], out: &mut [u8]) -> DataUrlAnswer
     ensures { Shows status bytes.now out.old out.new result }
 {
     let len = bytes.len();

@@ -9,16 +9,16 @@ use std::fmt::{self, Write};
 use std::str;
 
 /// Base64 with padding that does not fit the symbols.
-const PADDING: u32 = 8;
+pub(crate) const PADDING: u32 = 8;
 
 /// Base64 with a symbol left over after the groups of four.
-const LONE_SYMBOL: u32 = 9;
+pub(crate) const LONE_SYMBOL: u32 = 9;
 
 /// Base64 with a symbol after padding.
-const SYMBOL_AFTER_PADDING: u32 = 10;
+pub(crate) const SYMBOL_AFTER_PADDING: u32 = 10;
 
 /// Base64 with a byte that is not allowed: this and the byte.
-const UNEXPECTED_SYMBOL: u32 = 256;
+pub(crate) const UNEXPECTED_SYMBOL: u32 = 256;
 
 /// How many bytes an error's text has at most, with room to spare.
 const ROOM: usize = 60;

@@ -19,21 +19,28 @@
 //! What stands in the output behind the bytes of an answer is as it was; where the length is 0, all of it.
 #![tactic(auto)]
 
-ghost use Rattle.std.specs.Prelude.{IsUtf8};
+ghost use Rattle.std.specs.Prelude.{IsUtf8, length, ◌≤◌};
+ghost use Rattle.data_url.specs.Fetch.{outcome, plain_body};
 ghost use Rattle.data_url_c.specs.Answers.{Answers};
+ghost use Rattle.data_url_c.specs.Bodies.{EndsAs};
 ghost use Rattle.data_url_c.specs.Gives.{GivesBase64, GivesBody, GivesFragment, GivesMime, GivesType};
 ghost use Rattle.data_url_c.specs.Opens.{Opens};
+ghost use Rattle.data_url_c.specs.Parts.{FeedsPart, FinishesPart};
 
 mod answer;
 mod base64;
+mod body;
 mod kind;
 mod open;
+mod output;
+mod parts;
 mod refusal;
 mod texts;
 
 pub use answer::DataUrlAnswer;
 use answer::answer;
 pub use open::DataUrlOpened;
+pub use parts::{DataUrlBase64, DataUrlFed, DataUrlStep};
 pub use refusal::Refusal;
 use std::alloc::Global;
 
@@ -104,4 +111,46 @@ pub extern "C" fn dataurl_open_utf8(alloc: Global, url: &[u8], out: &mut [u8]) -
     ensures { Opens url.now out.old out.new result }
 {
     open::open(alloc, unsafe { str::from_utf8_unchecked(url) }, out)
+}
+
+/// Feeds a part of base64
+/// ([Infra Standard, forgiving-base64 decode](https://infra.spec.whatwg.org/#forgiving-base64-decode)), cut anywhere, and
+/// writes the bytes of the groups that it completes. It reads the whole part if that has at most three bytes less than
+/// the output, and otherwise at least one byte. After a fault, the state is refused.
+#[unsafe(no_mangle)]
+pub extern "C" fn dataurl_base64_feed(
+    state: &mut DataUrlBase64,
+    input: &[u8],
+    out: &mut [u8],
+) -> DataUrlFed
+    ensures { FeedsPart state.old state.new input.now out.old out.new result }
+{
+    parts::feed(state, input, out)
+}
+
+/// Ends base64 that came in parts, and writes its last bytes, of which there are at most two. After that, the state is
+/// refused; if the output has no room for the last bytes, it is as it was.
+#[unsafe(no_mangle)]
+pub extern "C" fn dataurl_base64_finish(state: &mut DataUrlBase64, out: &mut [u8]) -> DataUrlStep
+    ensures { FinishesPart state.old state.new out.old out.new result }
+{
+    parts::finish(state, out)
+}
+
+/// Decodes the whole body of a tail, the bytes after the first comma of a data: URL, in one call
+/// ([Fetch Standard, section 6](https://fetch.spec.whatwg.org/#data-url-processor)). The tail is UTF-8, and the output is at
+/// least as long. Of base64 that is not valid the output has the bytes before the first fault. No memory is taken.
+#[unsafe(no_mangle)]
+pub extern "C" fn dataurl_body_whole_utf8(
+    tail: &[u8],
+    is_base64: bool,
+    out: &mut [u8],
+) -> DataUrlStep
+    requires text { IsUtf8 tail.now }
+    requires room { length tail.now ≤ length out.old }
+    ensures { EndsAs (outcome is_base64 (plain_body tail.now)) out.old out.new
+        result.status result.len }
+{
+    let text = unsafe { str::from_utf8_unchecked(tail) };
+    body::whole(text, is_base64, out)
 }

@@ -1,0 +1,65 @@
+-- The end of base64 that came in parts.
+use Rattle.std.proofs.Common.{◌≡◌, ℕ, ◌≤◌, Bool, true, false, List, [], ◌∷◌, ◌++◌, length, map, take, Result, Ok, Err, sym, ap, ◌∙◌, subst, arith, length-append}
+use Rattle.std.specs.Prelude.{MatchBool}
+use Rattle.std.specs.declared.convert.Infallible.{Infallible}
+use Rattle.std.proofs.lemmas.List.{append-nil, length-map, length-take-le}
+use Rattle.data_url.specs.Base64.{after_groups, decoded, groups, is_valid, rest_bytes, symbol_value}
+use Rattle.data_url.specs.Decoder.{Feeds, Finishes, State, start}
+use Rattle.data_url.specs.Run.{refusal}
+use Rattle.data_url.specs.Steps.Whole.{DecodesText}
+use Rattle.data_url.specs.declared.forgiving_base64.DecodeError.{DecodeError}
+use Rattle.data_url.proofs.ByteLemmas.{decoded_left, groups_few}
+use Rattle.data_url.proofs.PaddingLemmas.{every_list_all}
+use Rattle.data_url.proofs.RunLemmas.{match_at_none}
+use Rattle.data_url.proofs.WholeLemmas.{decodes_finished, decodes_refused, run_keeps}
+use Rattle.data_url_c.specs.Parts.{WritesFront, is_good_state, waiting_text}
+use Rattle.data_url_c.specs.Steps.{Writes}
+use Rattle.data_url_c.specs.declared.parts.DataUrlBase64.{DataUrlBase64}
+use Rattle.data_url_c.proofs.PartLemmas.{Reaches, good_parts, no_refusal, run_reaches, writes_front}
+
+module _ {F E : Type 0} (step : F → List ℕ → Result (Unit {0}) E → F → Type 0) where
+  -- what waits was fed, and then nothing, and the decoder finished
+  pub finish_nil : {d d' : State F} {f f' : F} {r : Result (Unit {0}) (DecodeError E)} (w : List ℕ) → d ≡ start f → Feeds step d (w ++ []) (Ok tt) d' → Finishes step d' r f' → DecodesText step f w r f'
+  finish_nil {d} {d'} {f} {f'} {r} w e h k = let P : List ℕ → Type 0 = λ u. DecodesText step f u r f' in subst P (append-nil w) (decodes_finished step e h k)
+
+  -- what waits was refused
+  pub refuse_nil : {d d' : State F} {f g : F} {x : DecodeError E} (w : List ℕ) → d ≡ start f → Feeds step d (w ++ []) (Err x) d' → g ≡ d'.closure → DecodesText step f w (Err x) g
+  refuse_nil {d} {d'} {f} {g} {x} w e h k =
+      let P : List ℕ → Type 0 = λ u. DecodesText step f u (Err x) d'.closure in
+      let Q : F → Type 0 = λ y. DecodesText step f w (Err x) y in
+      subst Q (sym k) (subst P (append-nil w) (decodes_refused step e h))
+
+-- The last bytes
+
+rest_short : (x : List ℕ) → length (rest_bytes x) ≤ 2
+rest_short [] = omega arith
+rest_short (p ∷ []) = omega arith
+rest_short (p ∷ q ∷ []) = omega arith
+rest_short (p ∷ q ∷ r ∷ rest) = omega arith
+
+-- what waits stands for two bytes at most
+pub last_short : (s : DataUrlBase64) → is_good_state s ≡ true → length s.symbols ≡ 3 → length (decoded (waiting_text s)) ≤ 2
+last_short s h size =
+    let parts = good_parts s h in
+    let q : List ℕ = take s.pending s.symbols in
+    let few = parts.few_pending in
+    let short : length (map symbol_value q) ≤ 3 = omega (arith, length-map q symbol_value, length-take-le s.pending s.symbols (omega arith)) in
+    let all = decoded_left q s.padding (every_list_all q parts.symbols) in
+    omega (arith, ap length all, ap length (groups_few (map symbol_value q) short), length-append (groups (map symbol_value q)) (rest_bytes (after_groups (map symbol_value q))), rest_short (after_groups (map symbol_value q)))
+
+bytes_of_valid : (v : Bool) (P Q : Type 0) → v ≡ true → MatchBool v P Q → P
+bytes_of_valid true P Q e h = h
+bytes_of_valid false P Q e h = absurd (cc)
+
+module _ {F : Type 0} {step : F → List ℕ → Result (Unit {0}) Infallible → F → Type 0} {f g : F} {u : List ℕ} {r : Result (Unit {0}) (DecodeError Infallible)} where
+  -- the bytes of a valid text, at the front of an output
+  pub text_written : {out out' : List ℕ} {len' : ℕ} (bytes : F → List ℕ) (len : F → ℕ) → DecodesText step f u r g → is_valid u ≡ true → ((p : F) (piece : List ℕ) (s : Result (Unit {0}) Infallible) (q : F) → step p piece s q → Writes piece (bytes p) (len p) (bytes q) (len q)) → bytes f ≡ out → len f ≡ 0 → length (decoded u) ≤ length out → out' ≡ bytes g → len' ≡ len g → WritesFront (decoded u) out out' len'
+  text_written {out} {out'} {len'} bytes len h v writes b l room eb el =
+      let all = bytes_of_valid (is_valid u) _ _ v (match_at_none (refusal h.run) _ _ (no_refusal (refusal h.run)) h.gave) in
+      let first : Reaches out [] (bytes f) (len f) = λ fits. (l, b) in
+      let last = run_reaches step bytes len writes out h.run [] f g h.ran first in
+      let k = last (omega (arith, ap length all.bytes_are)) in
+      writes_front all.bytes_are (el ∙ k.0) (eb ∙ k.1) (omega (arith, ap length all.bytes_are))
+
+  pub text_keeps : {A : Type 0} → DecodesText step f u r g → (K : F → A) → ((p : F) (piece : List ℕ) (s : Result (Unit {0}) Infallible) (q : F) → step p piece s q → K p ≡ K q) → K f ≡ K g
+  text_keeps h K keeps = run_keeps step K keeps h.run f g h.ran

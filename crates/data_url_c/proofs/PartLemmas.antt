@@ -1,0 +1,283 @@
+-- Base64 in parts: what is fed, what is written, and what waits.
+use Rattle.std.proofs.Common.{◌≡◌, ℕ, ◌+◌, ◌≤◌, Bool, true, false, List, [], ◌∷◌, ◌++◌, length, take, drop, Option, None, Some, is_some, Result, Ok, Err, refl, sym, ap, ◌∙◌, subst, arith, append_assoc, drop-drop, length-append, length-drop, ◌-◌, take_all, suc, zero}
+use Rattle.std.specs.List.{list_all}
+use Rattle.std.specs.Prelude.{nat_le, ◌&&◌, replicate}
+use Rattle.std.proofs.lemmas.Bool.{and_parts, le-leb, leb-true}
+use borrow.Rule.Slice.PartMut.{post_of}
+use Rattle.std.proofs.lemmas.List.{append-nil, length-take-le, nil_from_length, take-append-drop}
+use Rattle.std.proofs.lemmas.Slice.{drop-append-drop}
+use Rattle.std.proofs.Math.Seq.{drop-append-add, drop-append_seam, take-append-add, take-append_seam}
+use Rattle.std.specs.Prelude.{MatchOption}
+use Rattle.std.specs.declared.convert.Infallible.{Infallible}
+use Rattle.data_url.specs.Base64.{AlphabetSymbolAfterPadding, Kind, LoneAlphabetSymbol, Padding, UnexpectedSymbol, complete_bytes, first_fault, is_symbol, kind_of, left_padding, left_symbols, left_text}
+use Rattle.data_url.specs.Decoder.{Feeds, IsTaken, State, left_over, start}
+use Rattle.data_url.specs.Run.{Call, IsRun, joined_pieces, refusal}
+use Rattle.data_url.specs.declared.forgiving_base64.DecodeError.TheVariants.{InvalidBase64}
+use Rattle.data_url.specs.Laws.{GoesOn}
+use Rattle.data_url.proofs.FeedLemmas.{two_feeds}
+use Rattle.data_url.proofs.PaddingLemmas.{done_stays, fault-append_some, fault_byte, fault_some, kind_stays}
+use Rattle.data_url.proofs.RunLemmas.{match_alike, match_at_none, match_map, match_some}
+use Rattle.data_url.proofs.WholeLemmas.{run_keeps}
+use Rattle.data_url_c.specs.Answers.{status_of_kind}
+use Rattle.data_url.specs.declared.forgiving_base64.DecodeError.{DecodeError}
+use Rattle.data_url.proofs.DecoderLemmas.{feeds_err, feeds_then}
+use Rattle.data_url_c.specs.Parts.{IsLeftOf, TakesText, WritesFront, is_good_state, waiting_text}
+use Rattle.data_url_c.specs.Steps.{HandsGroups, Writes}
+use Rattle.data_url_c.specs.declared.parts.DataUrlBase64.{DataUrlBase64}
+
+-- Feeding what waits, and then a text
+
+-- as many of three paddings as wait
+pub take_padding : (n : ℕ) → n ≤ 3 → take {A = ℕ} n (61 ∷ 61 ∷ 61 ∷ []) ≡ replicate n 61
+take_padding zero h = refl
+take_padding (suc zero) h = refl
+take_padding (suc (suc zero)) h = refl
+take_padding (suc (suc (suc zero))) h = refl
+take_padding (suc (suc (suc (suc n)))) h = absurd (omega arith)
+
+module _ {F E : Type 0} (step : F → List ℕ → Result (Unit {0}) E → F → Type 0) where
+  -- refused at the symbols
+  pub fed_first : {d d' : State F} {a : List ℕ} {x : DecodeError E} (q p t : List ℕ) → a ≡ q → Feeds step d a (Err x) d' → Feeds step d ((q ++ p) ++ t) (Err x) d'
+  fed_first {d} {d'} {a} {x} q p t e f =
+      let P : List ℕ → Type 0 = λ s. Feeds step d s (Err x) d' in
+      subst P (sym (append_assoc q p t)) (feeds_err step (p ++ t) (subst P e f))
+
+  -- refused at the padding
+  pub fed_second : {d d1 d' : State F} {a b : List ℕ} {x : DecodeError E} (q p t : List ℕ) → a ≡ q → b ≡ p → Feeds step d a (Ok tt) d1 → Feeds step d1 b (Err x) d' → Feeds step d ((q ++ p) ++ t) (Err x) d'
+  fed_second {d} {d1} {d'} {a} {b} {x} q p t e k f g =
+      let P : List ℕ → Type 0 = λ s. Feeds step d (s ++ b) (Err x) d' in
+      let Q : List ℕ → Type 0 = λ s. Feeds step d (q ++ s) (Err x) d' in
+      feeds_err step t (subst Q k (subst P e (feeds_then step f g)))
+
+  -- fed all
+  pub fed_third : {d d1 d2 d' : State F} {a b t : List ℕ} {r : Result (Unit {0}) (DecodeError E)} (q p : List ℕ) → a ≡ q → b ≡ p → Feeds step d a (Ok tt) d1 → Feeds step d1 b (Ok tt) d2 → Feeds step d2 t r d' → Feeds step d ((q ++ p) ++ t) r d'
+  fed_third {d} {d1} {d2} {d'} {a} {b} {t} {r} q p e k f g h =
+      let P : List ℕ → Type 0 = λ s. Feeds step d (s ++ b) (Ok tt) d2 in
+      let Q : List ℕ → Type 0 = λ s. Feeds step d (q ++ s) (Ok tt) d2 in
+      feeds_then step (subst Q k (subst P e (feeds_then step f g))) h
+
+-- Good states
+
+-- the parts of a good state
+pub record GoodParts (s : DataUrlBase64) : Type 0 where
+  pub few_pending : s.pending ≤ 3
+  pub few_padding : s.padding ≤ 3
+  pub symbols : list_all is_symbol (take s.pending s.symbols) ≡ true
+
+pub good_parts : (s : DataUrlBase64) → is_good_state s ≡ true → GoodParts s
+good_parts s h =
+    let a = and_parts (nat_le s.pending 3) (nat_le s.padding 3 && list_all is_symbol (take s.pending s.symbols)) h in
+    let b = and_parts (nat_le s.padding 3) (list_all is_symbol (take s.pending s.symbols)) a.1 in
+    record { few_pending = leb-true s.pending 3 a.0; few_padding = leb-true s.padding 3 b.0; symbols = b.1 }
+
+both : (x y z : Bool) → x ≡ true → y ≡ true → z ≡ true → (x && (y && z)) ≡ true
+both true true true a b c = refl
+both true true false a b c = absurd (cc)
+both true false z a b c = absurd (cc)
+both false y z a b c = absurd (cc)
+
+pub good_from : (s : DataUrlBase64) → s.pending ≤ 3 → s.padding ≤ 3 → list_all is_symbol (take s.pending s.symbols) ≡ true → is_good_state s ≡ true
+good_from s a b c = both (nat_le s.pending 3) (nat_le s.padding 3) (list_all is_symbol (take s.pending s.symbols)) (le-leb s.pending 3 a) (le-leb s.padding 3 b) c
+
+-- with few of both, the symbols decide
+pub good_rest : (s : DataUrlBase64) → s.pending ≤ 3 → s.padding ≤ 3 → list_all is_symbol (take s.pending s.symbols) ≡ is_good_state s
+good_rest s a b = let p = le-leb s.pending 3 a in let q = le-leb s.padding 3 b in rw (p, q) refl
+
+-- What a run of calls writes
+
+-- the bytes so far are at the front of an output, if they fit it
+abbrev pub Reaches : List ℕ → List ℕ → List ℕ → ℕ → Type 0
+Reaches out b bytes len = length b ≤ length out → (len ≡ length b) × (bytes ≡ b ++ drop (length b) out)
+
+-- one piece more
+pub reaches_more : (out b bytes piece bytes' : List ℕ) (len len' : ℕ) → Reaches out b bytes len → Writes piece bytes len bytes' len' → Reaches out (b ++ piece) bytes' len'
+reaches_more out b bytes piece bytes' len len' h w fits =
+    let long : length (b ++ piece) ≡ length b + length piece = length-append b piece in
+    let k = h (omega arith) in
+    let size : length bytes ≡ length out = ap length k.1 ∙ length-append b (drop (length b) out) ∙ omega (arith, length-drop (length b) out) in
+    let g = w.fits (omega (arith, k.0)) in
+    let front : take len bytes ≡ b = ap (λ n. take n bytes) k.0 ∙ ap (take (length b)) k.1 ∙ take-append_seam b (drop (length b) out) in
+    let end : len' ≡ length (b ++ piece) = omega (arith, g.0, k.0) in
+    let rest : drop len' bytes ≡ drop (length (b ++ piece)) out =
+    ap (λ n. drop n bytes) end ∙ ap (drop (length (b ++ piece))) k.1 ∙ drop-append-drop (length b) out b (length (b ++ piece)) (omega arith) refl in
+    (end, g.1 ∙ ap (λ x. x ++ (piece ++ drop len' bytes)) front ∙ ap (λ x. b ++ (piece ++ x)) rest ∙ sym (append_assoc b piece (drop (length (b ++ piece)) out)))
+
+module _ {F E : Type 0} (step : F → List ℕ → Result (Unit {0}) E → F → Type 0) (bytes : F → List ℕ) (len : F → ℕ) (writes : (f : F) (piece : List ℕ) (r : Result (Unit {0}) E) (g : F) → step f piece r g → Writes piece (bytes f) (len f) (bytes g) (len g)) where
+  -- the pieces of a run
+  pub run_reaches : (out : List ℕ) (cs : List (Call F E)) (b : List ℕ) (f g : F) → IsRun step f cs g → Reaches out b (bytes f) (len f) → Reaches out (b ++ joined_pieces cs) (bytes g) (len g)
+  run_reaches out [] b f g ran h =
+      let P : F → Type 0 = λ x. Reaches out b (bytes x) (len x) in
+      let Q : List ℕ → Type 0 = λ x. Reaches out x (bytes g) (len g) in
+      subst Q (sym (append-nil b)) (subst P ran h)
+  run_reaches out (c ∷ cs) b f g ran h =
+      let Q : List ℕ → Type 0 = λ x. Reaches out x (bytes g) (len g) in
+      subst Q (append_assoc b c.piece (joined_pieces cs)) (run_reaches out cs (b ++ c.piece) c.after g ran.2 (reaches_more out b (bytes f) c.piece (bytes c.after) (len f) (len c.after) h (writes f c.piece c.answer c.after ran.0)))
+
+-- What was decoded
+
+-- bytes at the front of an output, and then what was there
+pub writes_front : {bytes all out out' : List ℕ} {len : ℕ} → bytes ≡ all → len ≡ length bytes → out' ≡ bytes ++ drop (length bytes) out → length all ≤ length out → WritesFront all out out' len
+writes_front {bytes} {all} {out} {out'} {len} e l o fits = record {
+  within = omega (arith, l, ap length e);
+  bytes_are = ap (λ n. take n out') l ∙ ap (take (length bytes)) o ∙ take-append_seam bytes (drop (length bytes) out) ∙ e;
+  rest_stays = ap (λ n. drop n out') l ∙ ap (drop (length bytes)) o ∙ drop-append_seam bytes (drop (length bytes) out) ∙ ap (λ n. drop n out) (sym l);
+}
+
+pub no_refusal : (o : Option Infallible) → o ≡ None
+no_refusal None = refl
+no_refusal (Some e) = elim e [ ]
+
+module _ {F : Type 0} {step : F → List ℕ → Result (Unit {0}) Infallible → F → Type 0} where
+  -- what a new decoder over a closure that never refuses gave of a text
+  pub groups_fed : {f : F} {d d' : State F} {u : List ℕ} {r : Result (Unit {0}) (DecodeError Infallible)} → d ≡ start f → (h : Feeds step d u r d') → IsTaken u (joined_pieces h.run) r d'
+  groups_fed {f} {d} {d'} {u} {r} e h =
+      let P : State F → Type 0 = λ s. IsTaken (left_over s ++ u) (joined_pieces h.run) r d' in
+      subst P e (match_at_none (refusal h.run) _ _ (no_refusal (refusal h.run)) h.gave)
+
+-- what each call keeps, feeding keeps
+pub fed_keeps : {F E A : Type 0} {step : F → List ℕ → Result (Unit {0}) E → F → Type 0} {d d' : State F} {u : List ℕ} {r : Result (Unit {0}) (DecodeError E)} → Feeds step d u r d' → (K : F → A) → ((g : F) (piece : List ℕ) (s : Result (Unit {0}) E) (g' : F) → step g piece s g' → K g ≡ K g') → K d.closure ≡ K d'.closure
+fed_keeps {step = step} {d = d} {d' = d'} h K keeps = run_keeps step K keeps h.run d.closure d'.closure h.ran
+
+module _ {F G E : Type 0} (inner : G → List ℕ → Result (Unit {0}) E → G → Type 0) (outer : F → List ℕ → Result (Unit {0}) E → F → Type 0) (K : G → F) (maps : (g : G) (piece : List ℕ) (r : Result (Unit {0}) E) (g' : G) → inner g piece r g' → outer (K g) piece r (K g')) where
+  outer_calls : List (Call G E) → List (Call F E)
+  outer_calls [] = []
+  outer_calls (c ∷ cs) = record { piece = c.piece; answer = c.answer; after = K c.after } ∷ outer_calls cs
+
+  outer_ran : (cs : List (Call G E)) (f g : G) → IsRun inner f cs g → IsRun outer (K f) (outer_calls cs) (K g)
+  unfolding outer_calls
+  outer_ran [] f g ran = ap K ran
+  outer_ran (c ∷ cs) f g ran = (maps f c.piece c.answer c.after ran.0, λ e. ap outer_calls (ran.1 e), outer_ran cs c.after g ran.2)
+
+  outer_joined : (cs : List (Call G E)) → joined_pieces (outer_calls cs) ≡ joined_pieces cs
+  unfolding outer_calls
+  outer_joined [] = refl
+  outer_joined (c ∷ cs) = ap (λ x. c.piece ++ x) (outer_joined cs)
+
+  -- a decoder over a closure that hands its pieces on
+  pub hands_on : {f : G} {d d' : State G} {u : List ℕ} {r : Result (Unit {0}) (DecodeError E)} {w w' : F} → d ≡ start f → (h : Feeds inner d u r d') → IsTaken u (joined_pieces h.run) r d' → K f ≡ w → w' ≡ K d'.closure → HandsGroups outer w u r w'
+  hands_on {f} {d} {d'} {u} {r} {w} {w'} e h taken a b =
+      let R : G → Type 0 = λ x. IsRun inner x h.run d'.closure in
+      let ran : IsRun inner f h.run d'.closure = subst R (ap (λ s. s.closure) e) h.ran in
+      let P : F → Type 0 = λ x. IsRun outer x (outer_calls h.run) (K d'.closure) in
+      let Q : F → Type 0 = λ x. IsRun outer w (outer_calls h.run) x in
+      record {
+        run = outer_calls h.run;
+        ran = subst Q (sym b) (subst P a (outer_ran h.run f d'.closure ran));
+        bytes_are = outer_joined h.run ∙ taken.bytes_are;
+        answer = match_map (first_fault u) _ _ _ _ (λ k. k.0) (λ place k. k) taken.answer;
+      }
+
+module _ {F E : Type 0} {step : F → List ℕ → Result (Unit {0}) E → F → Type 0} {f g : F} {u : List ℕ} {r : Result (Unit {0}) (DecodeError E)} where
+  -- what was written to an output, from its front on
+  pub groups_written : {out out' : List ℕ} {len' : ℕ} (bytes : F → List ℕ) (len : F → ℕ) → HandsGroups step f u r g → ((p : F) (piece : List ℕ) (s : Result (Unit {0}) E) (q : F) → step p piece s q → Writes piece (bytes p) (len p) (bytes q) (len q)) → bytes f ≡ out → len f ≡ 0 → length (complete_bytes u) ≤ length out → out' ≡ bytes g → len' ≡ len g → WritesFront (complete_bytes u) out out' len'
+  groups_written {out} {out'} {len'} bytes len h writes b l room eb el =
+      let first : Reaches out [] (bytes f) (len f) = λ fits. (l, b) in
+      let last = run_reaches step bytes len writes out h.run [] f g h.ran first in
+      let k = last (omega (arith, ap length h.bytes_are)) in
+      writes_front h.bytes_are (el ∙ k.0) (eb ∙ k.1) (omega (arith, ap length h.bytes_are))
+
+  -- what each call keeps, all of them keep
+  pub groups_keep : {A : Type 0} → HandsGroups step f u r g → (K : F → A) → ((p : F) (piece : List ℕ) (s : Result (Unit {0}) E) (q : F) → step p piece s q → K p ≡ K q) → K f ≡ K g
+  groups_keep h K keeps = run_keeps step K keeps h.run f g h.ran
+
+-- the status of what was decoded
+pub groups_status : {E : Type 0} (u : List ℕ) {r : Result (Unit {0}) (DecodeError E)} (status : ℕ) → MatchOption (first_fault u) (r ≡ Ok tt) (λ place. r ≡ Err (InvalidBase64 (kind_of u))) → (r ≡ Ok tt → status ≡ 0) → (r ≡ Err (InvalidBase64 (kind_of u)) → status ≡ status_of_kind (kind_of u)) → MatchOption (first_fault u) (status ≡ 0) (λ place. status ≡ status_of_kind (kind_of u))
+groups_status u status h good bad = match_map (first_fault u) _ _ _ _ good (λ place k. bad k) h
+
+-- Two texts, one after the other
+
+-- what was written, and then more
+pub writes_both : {x y out out1 out2 out' : List ℕ} {n m : ℕ} → WritesFront x out out1 n → WritesFront y (drop n out1) out2 m → n ≤ length out1 → length out1 ≡ length out → out' ≡ take n out1 ++ out2 → WritesFront (x ++ y) out out' (n + m)
+writes_both {x} {y} {out} {out1} {out2} {out'} {n} {m} a b within size e =
+    let long : length (take n out1) ≡ n = length-take-le n out1 within in
+    let seam : List ℕ = take n out1 ++ out2 in
+    record {
+      within = omega (arith, a.within, b.within, length-drop n out1);
+      bytes_are =
+          ap (take (n + m)) e ∙ ap (λ k. take (k + m) seam) (sym long) ∙ take-append-add (take n out1) out2 m
+          ∙ ap (λ s. s ++ take m out2) a.bytes_are ∙ ap (λ s. x ++ s) b.bytes_are;
+      rest_stays =
+          ap (drop (n + m)) e ∙ ap (λ k. drop (k + m) seam) (sym long) ∙ drop-append-add (take n out1) out2 m
+          ∙ b.rest_stays ∙ ap (drop m) a.rest_stays ∙ drop-drop m n out ∙ ap (λ k. drop k out) (omega arith);
+    }
+
+no_kind : (kind : Kind) → status_of_kind kind ≡ 0 → ⊥
+no_kind Padding e = omega arith
+no_kind LoneAlphabetSymbol e = omega arith
+no_kind AlphabetSymbolAfterPadding e = omega arith
+no_kind (UnexpectedSymbol byte) e = omega arith
+
+-- status 0 comes of a text without a fault, and only of one
+sound_by : (o : Option ℕ) (kind : Kind) (status : ℕ) (P Q : Type 0) → MatchOption o ((status ≡ 0) × P) (λ place. (status ≡ status_of_kind kind) × Q) → status ≡ 0 → (o ≡ None) × P
+sound_by None kind status P Q h e = (refl, h.1)
+sound_by (Some place) kind status P Q h e = absurd (no_kind kind (sym h.0 ∙ e))
+
+pub faulty_by : (o : Option ℕ) (kind : Kind) (status : ℕ) (P Q : Type 0) → MatchOption o ((status ≡ 0) × P) (λ place. (status ≡ status_of_kind kind) × Q) → (status ≡ 0 → ⊥) → is_some o ≡ true × (status ≡ status_of_kind kind) × Q
+faulty_by None kind status P Q h e = absurd (e h.0)
+faulty_by (Some place) kind status P Q h e = (refl, h.0, h.1)
+
+pub taken_sound : {u : List ℕ} {s : DataUrlBase64} {before after : List ℕ} {status len : ℕ} → TakesText u s before after status len → status ≡ 0 → (first_fault u ≡ None) × IsLeftOf u s
+taken_sound {u} {s} {status = status} h e = sound_by (first_fault u) (kind_of u) status (IsLeftOf u s) (is_good_state s ≡ false) h.ended e
+
+pub left_text_is : {u : List ℕ} {s : DataUrlBase64} → IsLeftOf u s → waiting_text s ≡ left_text (left_symbols u) (left_padding u)
+left_text_is {u} {s} h = ap (λ q. left_text q s.padding) h.symbols_are ∙ ap (left_text (left_symbols u)) h.padding_is
+
+-- a text without a fault, and then another
+pub takes_both : {u : List ℕ} {s t : DataUrlBase64} {out out1 out2 out' : List ℕ} {first status n m : ℕ} (b : List ℕ) → TakesText u s out out1 first n → first ≡ 0 → TakesText (waiting_text s ++ b) t (drop n out1) out2 status m → n ≤ length out1 → length out1 ≡ length out → out' ≡ take n out1 ++ out2 → TakesText (u ++ b) t out out' status (n + m)
+takes_both {u} {s} {t} {out} {out1} {out2} {out'} {first} {status} {n} {m} b a z h within size e =
+    let sound = taken_sound a z in
+    let v : List ℕ = waiting_text s ++ b in
+    let G : List ℕ → Type 0 = λ w. GoesOn u b (w ++ b) in
+    let on : GoesOn u b v = subst G (sym (left_text_is sound.1)) (two_feeds u b sound.0) in
+    let W : List ℕ → Type 0 = λ x. WritesFront x out out' (n + m) in
+    record {
+      wrote = subst W (sym on.done_is) (writes_both a.wrote h.wrote within size e);
+      ended =
+          match_alike (first_fault v) (first_fault (u ++ b)) _ _ _ _ (sym on.fault_is)
+          (λ k. (k.0, record { good = k.1.good; pending_is = k.1.pending_is ∙ ap length (sym on.symbols_left); symbols_are = k.1.symbols_are ∙ sym on.symbols_left; padding_is = k.1.padding_is ∙ sym on.padding_left }))
+          (λ k. (k.0 ∙ ap status_of_kind (sym on.kind_is), k.1))
+          h.ended;
+    }
+
+pub fault_cases : (u : List ℕ) (o : Option ℕ) → fault_byte false u ≡ o → is_some o ≡ true → (c : ℕ) × (fault_byte false u ≡ Some c)
+fault_cases u None e h = absurd (cc)
+fault_cases u (Some c) e h = (c, e)
+
+-- a fault stays, whatever follows
+pub takes_fault : {u : List ℕ} {s : DataUrlBase64} {out out' : List ℕ} {status n : ℕ} (b : List ℕ) → TakesText u s out out' status n → (status ≡ 0 → ⊥) → TakesText (u ++ b) s out out' status n
+takes_fault {u} {s} {out} {out'} {status} {n} b h e =
+    let k = faulty_by (first_fault u) (kind_of u) status (IsLeftOf u s) (is_good_state s ≡ false) h.ended e in
+    let f = fault_cases u (fault_byte false u) refl (sym (fault_some u) ∙ k.0) in
+    let W : List ℕ → Type 0 = λ x. WritesFront x out out' n in
+    record {
+      wrote = subst W (sym (done_stays u b f.0 f.1)) h.wrote;
+      ended = match_some (first_fault (u ++ b)) _ _ (fault_some (u ++ b) ∙ ap is_some (fault-append_some u b false f.0 f.1)) (k.1 ∙ ap status_of_kind (kind_stays u b f.0 f.1), k.2);
+    }
+
+-- Two parts of one text
+
+-- an output whose end was written
+pub end_written : (n : ℕ) (xs ys : List ℕ) → take n xs ++ (ys ++ post_of n (length xs - n) xs) ≡ take n xs ++ ys
+end_written n xs ys =
+    let none : drop (length xs - n) (drop n xs) ≡ [] = nil_from_length (drop (length xs - n) (drop n xs)) (omega (arith, length-drop (length xs - n) (drop n xs), length-drop n xs)) in
+    ap (λ s. take n xs ++ (ys ++ s)) none ∙ ap (λ s. take n xs ++ s) (append-nil ys)
+
+-- the end of a list, as a slice to its length
+pub end_sliced : (n : ℕ) (xs : List ℕ) → take (length xs - n) (drop n xs) ≡ drop n xs
+end_sliced n xs = take_all (length xs - n) (drop n xs) (omega (arith, length-drop n xs))
+
+whole_text : (s : DataUrlBase64) (head : ℕ) (text a b : List ℕ) → a ≡ take head text → b ≡ drop head text → (waiting_text s ++ a) ++ b ≡ waiting_text s ++ text
+whole_text s head text a b e f = append_assoc (waiting_text s) a b ∙ ap (λ x. waiting_text s ++ (x ++ b)) e ∙ ap (λ x. waiting_text s ++ (take head text ++ x)) f ∙ ap (λ x. waiting_text s ++ x) (take-append-drop head text)
+
+-- a fault in the first part
+pub feeds_fault : {t : DataUrlBase64} {a out out1 : List ℕ} {first n : ℕ} (s : DataUrlBase64) (head : ℕ) (text : List ℕ) → TakesText (waiting_text s ++ a) t out out1 first n → a ≡ take head text → (first ≡ 0 → ⊥) → TakesText (waiting_text s ++ text) t out out1 first n
+feeds_fault {t} {a} {out} {out1} {first} {n} s head text h e ne =
+    let P : List ℕ → Type 0 = λ u. TakesText u t out out1 first n in
+    subst P (whole_text s head text a (drop head text) e refl) (takes_fault (drop head text) h ne)
+
+-- both parts
+pub feeds_both : {t t' : DataUrlBase64} {a b out out1 part out2 out' : List ℕ} {first status n m : ℕ} (s : DataUrlBase64) (head : ℕ) (text : List ℕ) → TakesText (waiting_text s ++ a) t out out1 first n → a ≡ take head text → first ≡ 0 → TakesText (waiting_text t ++ b) t' part out2 status m → b ≡ drop head text → part ≡ drop n out1 → n ≤ length out1 → length out1 ≡ length out → out' ≡ take n out1 ++ out2 → TakesText (waiting_text s ++ text) t' out out' status (n + m)
+feeds_both {t} {t'} {a} {b} {out} {out1} {part} {out2} {out'} {first} {status} {n} {m} s head text h e z k f p within size o =
+    let P : List ℕ → Type 0 = λ u. TakesText u t' out out' status (n + m) in
+    let Q : List ℕ → Type 0 = λ x. TakesText (waiting_text t ++ b) t' x out2 status m in
+    subst P (whole_text s head text a b e f) (takes_both b h z (subst Q p k) within size o)
