@@ -1,6 +1,6 @@
 //! The rows of the table, each with its text.
 
-use crate::{ours, theirs, Call};
+use crate::{bindings, ours, theirs, Call};
 
 pub struct Row {
     pub name: String,
@@ -205,6 +205,49 @@ fn push_parameters(rows: &mut Vec<Row>, count: usize) {
     });
 }
 
+/// Rows of `bindings/rust` beside the crate whose place it takes.
+fn push_bindings(rows: &mut Vec<Row>) {
+    for (name, text) in SHORT {
+        let text = text.as_bytes().to_vec();
+        let whole = format!("bindings {name} process, decode_to_vec");
+        rows.push(row(whole, text.clone(), bindings::decode_to_vec, theirs::decode_to_vec));
+        rows.push(Row {
+            shows_ours: bindings::process_mime,
+            shows_theirs: theirs::process_mime,
+            ..row(format!("bindings {name} process"), text, bindings::process, theirs::process)
+        });
+    }
+    for (len, size) in SIZES {
+        for (name, text) in [
+            ("url base64 clean", url("image/png;base64", &base64(len, 0))),
+            ("url base64 lines", url("image/png;base64", &base64(len, 76))),
+            ("plain", url("text/plain", &escaped(len, 0))),
+            ("escapes10", url("text/plain", &escaped(len, 10))),
+            ("svg", url("image/svg+xml", &svg(len))),
+        ] {
+            let copy = text.clone();
+            let whole = format!("bindings {name} {size} decode_to_vec");
+            rows.push(row(whole, copy, bindings::decode_to_vec, theirs::decode_to_vec));
+            let parts = format!("bindings {name} {size} decode");
+            rows.push(into_room(parts, text, bindings::decode, theirs::decode));
+        }
+    }
+    let long = url("text/plain", &escaped(1 << 22, 0));
+    rows.push(row("bindings plain 4M process".into(), long, bindings::process, theirs::process));
+}
+
+const SHORT: [(&str, &str); 3] = [
+    ("short plain", "data:,Hello,World!"),
+    (
+        "short escapes",
+        "data:text/html;charset=utf-8,%3Ch1%3EHello%3C%2Fh1%3E",
+    ),
+    (
+        "short base64",
+        "data:text/plain;base64,SGVsbG8sIFdvcmxkIQ==",
+    ),
+];
+
 pub fn rows() -> Vec<Row> {
     let mut rows = vec![];
     push_base64(&mut rows);
@@ -229,17 +272,7 @@ pub fn rows() -> Vec<Row> {
         );
         push_bodies(&mut rows, "svg", size, url("image/svg+xml", &svg(len)));
     }
-    for (name, text) in [
-        ("short plain", "data:,Hello,World!"),
-        (
-            "short escapes",
-            "data:text/html;charset=utf-8,%3Ch1%3EHello%3C%2Fh1%3E",
-        ),
-        (
-            "short base64",
-            "data:text/plain;base64,SGVsbG8sIFdvcmxkIQ==",
-        ),
-    ] {
+    for (name, text) in SHORT {
         let text = text.as_bytes().to_vec();
         push_processed(&mut rows, name, text.clone());
         push_bodies(&mut rows, name, "process,", text);
@@ -254,6 +287,7 @@ pub fn rows() -> Vec<Row> {
             theirs::fragment,
         ));
     }
+    push_bindings(&mut rows);
     push_parameters(&mut rows, 100);
     push_parameters(&mut rows, 100_000);
     rows

@@ -5,7 +5,18 @@
 
 mod inputs;
 mod ours;
-mod theirs;
+
+/// The calls of the Rust crate `data-url`.
+mod theirs {
+    use published as library;
+    include!("calls.rs");
+}
+
+/// The calls of `bindings/rust`, which takes its place.
+mod bindings {
+    use proved as library;
+    include!("calls.rs");
+}
 
 use inputs::{rows, Row};
 use std::hint::black_box;

@@ -52,7 +52,7 @@ fn urls() {
 fn refusals() {
     for text in ["", "da ta:,x", "date:,x"] {
         let refused = DataUrl::process(text);
-        assert!(matches!(refused, Err(DataUrlError::NotADataUrl)), "{text:?}");
+        assert!(matches!(refused, Err(DataUrlError::NotADataUrl)), "{:?}", text);
     }
     assert!(matches!(DataUrl::process("data:#,x"), Err(DataUrlError::NoComma)));
 }
@@ -107,7 +107,7 @@ fn debug_texts_are_short() {
     let refusal = forgiving_base64::decode_to_vec(text.as_bytes()).unwrap_err();
     assert!(format!("{:?}", refusal).len() < 80);
     let url = format!("data:;base64,{}", text);
-    let refusal = DataUrl::process(&url).unwrap().decode_to_vec().unwrap_err();
+    let refusal = DataUrl::process(&url).unwrap().decode_to_vec().err().unwrap();
     assert!(format!("{:?}", refusal).len() < 80);
 }
 
@@ -206,6 +206,6 @@ fn a_closure_gets_the_bytes_before_a_fault() {
     });
     assert!(matches!(ended, Err(DecodeError::InvalidBase64(_))));
     assert_eq!(bytes, b"ABC");
-    let ended = url.decode(|_| Err("full")).unwrap_err();
+    let ended = url.decode(|_| Err("full")).err().unwrap();
     assert_eq!(ended.to_string(), "write error: full");
 }

@@ -27,7 +27,7 @@ impl Json {
     /// The value of a key, where the object has it.
     pub fn get(&self, key: &str) -> Option<&Json> {
         let Json::Object(pairs) = self else {
-            panic!("no object: {self:?}")
+            panic!("no object: {:?}", self)
         };
         pairs.iter().find(|(name, _)| name == key).map(|it| &it.1)
     }
@@ -35,14 +35,14 @@ impl Json {
     pub fn list(&self) -> &[Json] {
         match self {
             Json::List(values) => values,
-            _ => panic!("no list: {self:?}"),
+            _ => panic!("no list: {:?}", self),
         }
     }
 
     pub fn text(&self) -> &str {
         match self {
             Json::Text(text) => text,
-            _ => panic!("no text: {self:?}"),
+            _ => panic!("no text: {:?}", self),
         }
     }
 }

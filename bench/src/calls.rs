@@ -1,8 +1,9 @@
-//! The same calls of the Rust crate. What stands here has the form of the library's exports.
+// The calls of a crate with the names of `data-url`, in the form of the library's exports. It is included where `library` names
+// that crate.
 
-use data_url::forgiving_base64::{decode_to_vec as base64, Decoder};
-use data_url::mime::Mime;
-use data_url::DataUrl;
+use self::library::forgiving_base64::{decode_to_vec as base64, Decoder};
+use self::library::mime::Mime;
+use self::library::DataUrl;
 
 const REFUSED: usize = usize::MAX;
 
