@@ -37,6 +37,9 @@ pub mod mime;
 
 use forgiving_base64::{DecodeError, InvalidBase64};
 
+/// How many bytes are looked through at a time for a `#`.
+const PART: usize = 256;
+
 /// How many bytes of a body are decoded before the closure is called with them.
 const ROOM: usize = 8192;
 
@@ -143,7 +146,10 @@ impl<'a> DataUrl<'a> {
 
     fn fragment(&self) -> Option<FragmentIdentifier<'a>> {
         let tail = self.encoded_body_plus_fragment;
-        let place = tail.find('#')?;
+        // Stretches without a `#` are passed over many bytes at a time.
+        let is_there = |part: &[u8]| part.iter().fold(false, |seen, byte| seen | (*byte == b'#'));
+        let part = tail.as_bytes().chunks(PART).position(is_there)?;
+        let place = part * PART + tail.as_bytes()[part * PART..].iter().position(|byte| *byte == b'#')?;
         Some(FragmentIdentifier(&tail[place + 1..]))
     }
 }
