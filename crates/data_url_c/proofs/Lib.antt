@@ -2,4 +2,5 @@ pub mod BodyLemmas
 pub mod EndLemmas
 pub mod GivenLemmas
 pub mod LeftLemmas
+pub mod OpenLemmas
 pub mod PartLemmas

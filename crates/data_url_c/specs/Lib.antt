@@ -1,5 +1,6 @@
 pub mod Answers
 pub mod Bodies
 pub mod Gives
+pub mod Opened
 pub mod Parts
 pub mod Steps

@@ -1,17 +1,21 @@
 -- What the private steps give: words that no contract of an export cites.
-use Rattle.std.specs.Prelude.{[], ◌+◌, ◌++◌, ◌≡◌, ◌≤◌, Bool, Err, IsUtf8, List, MatchBool, MatchOption, None, Ok, Result, Some, drop, encode_utf8_all, is_some, length, option_map, take, ℕ}
+use Rattle.std.specs.Prelude.{[], ◌+◌, ◌++◌, ◌<◌, ◌∷◌, ◌≡◌, ◌≤◌, Bool, false, slice_index, Err, IsUtf8, List, MatchBool, MatchOption, None, Ok, Result, Some, drop, encode_utf8_all, is_some, length, option_map, take, ℕ}
 use Rattle.data_url.specs.DataUrl.{IsUrlOf, url_body, url_tail}
-use Rattle.data_url.specs.Fetch.{Bad, Good, Outcome, plain_body}
-use Rattle.data_url.specs.Mime.{Record, printed}
+use Rattle.data_url.specs.Fetch.{Bad, Good, Outcome, has_base64_suffix, header_of, mime_text, plain_body, tail_of}
+use Rattle.data_url.specs.Mime.{IsRecordOf, Record, printed}
 use Rattle.data_url.specs.Url.{behind, encoded_fragment}
 use Rattle.data_url.specs.declared.DataUrl.{DataUrl}
 use Rattle.data_url.specs.Base64.{complete_bytes, decoded, first_fault, is_valid, kind_of}
 use Rattle.data_url.specs.Run.{Call, IsRun, joined_pieces}
 use Rattle.data_url.specs.declared.forgiving_base64.DecodeError.{DecodeError}
 use Rattle.data_url.specs.declared.forgiving_base64.DecodeError.TheVariants as decode
-use Rattle.data_url_c.specs.Answers.{Given, status_of_kind}
-use Rattle.data_url_c.specs.Gives.{RefusesUrl}
+use Rattle.data_url_c.specs.Answers.{Crosses, Given, status_of_kind}
+use Rattle.data_url_c.specs.Gives.{GivesMime, RefusesUrl}
+use Rattle.data_url_c.specs.Opened.{answer_of}
 use Rattle.data_url_c.specs.Parts.{TakesText, WritesFront, waiting_text}
+use Rattle.data_url_c.specs.declared.open.DataUrlOpened.{DataUrlOpened}
+use Rattle.data_url_c.specs.declared.open.Front.{Front}
+use Rattle.data_url_c.specs.declared.open.Opened.{Opened}
 use Rattle.data_url_c.specs.declared.parts.DataUrlBase64.{DataUrlBase64}
 use Rattle.data_url_c.specs.declared.parts.DataUrlStep.{DataUrlStep}
 use Rattle.data_url_c.specs.declared.parts.Last.{Last}
@@ -102,3 +106,40 @@ pub record EndsBehind (u : List ℕ) (written : ℕ) (before after : List ℕ) (
       ((r.status ≡ 0) × (r.len ≡ written + length (decoded u))
       × (after ≡ take written before ++ (decoded u ++ drop r.len before)))
       ((r.status ≡ status_of_kind (kind_of u)) × (r.len ≡ written) × (after ≡ before))
+
+-- the place of the first comma
+pub record IsFirstComma (x : List ℕ) (at : ℕ) : Type 0 where
+  pub within : at < length x
+  pub comma : slice_index x at ≡ 44
+  pub first : behind 44 (take at x) ≡ None
+
+-- the text ends at its first comma
+abbrev pub EndsAtComma : List ℕ → Type 0
+EndsAtComma t = (front : List ℕ) × (t ≡ front ++ (44 ∷ [])) × (behind 44 front ≡ None)
+
+-- what the text of a URL tells of its header
+pub record IsFront (t : List ℕ) (f : Front) : Type 0 where
+  pub header : List ℕ
+  pub mime : Record
+  pub header_is : header_of t ≡ Some header
+  pub record_is : IsRecordOf (mime_text header) mime
+  pub text_is : f.text.items ≡ encode_utf8_all (printed mime)
+  pub flag_is : f.is_base64 ≡ has_base64_suffix header
+
+-- a URL that was opened, or why there is none
+pub record IsOpenedAs (x : List ℕ) (o : Opened) : Type 0 where
+  pub gives : GivesMime x (Ok o.text)
+  pub header : List ℕ
+  pub header_is : header_of x ≡ Some header
+  pub flag_is : o.is_base64 ≡ has_base64_suffix header
+  pub within : o.tail + o.tail_len ≤ length x
+  pub tail_is : tail_of x ≡ Some (take o.tail_len (drop o.tail x))
+
+abbrev pub IsOpened : List ℕ → Result Opened Refusal → Type 0
+IsOpened x (Ok o) = IsOpenedAs x o
+IsOpened x (Err refusal) = RefusesUrl x refusal
+
+-- a refusal crossed
+pub record IsRefusedOpen (refusal : Refusal) (old new : List ℕ) (r : DataUrlOpened) : Type 0 where
+  pub crosses : Crosses (Err refusal) old new (answer_of r)
+  pub parts : (r.tail ≡ 0) × (r.tail_len ≡ 0) × (r.is_base64 ≡ false)

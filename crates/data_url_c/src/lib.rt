@@ -24,11 +24,13 @@ ghost use Rattle.data_url.specs.Fetch.{outcome, plain_body};
 ghost use Rattle.data_url_c.specs.Answers.{Answers};
 ghost use Rattle.data_url_c.specs.Bodies.{EndsAs};
 ghost use Rattle.data_url_c.specs.Gives.{GivesBase64, GivesBody, GivesFragment, GivesMime, GivesType};
+ghost use Rattle.data_url_c.specs.Opened.{Opens};
 ghost use Rattle.data_url_c.specs.Parts.{FeedsPart, FinishesPart};
 
 mod answer;
 mod base64;
 mod body;
+mod open;
 mod output;
 mod parts;
 mod refusal;
@@ -36,6 +38,7 @@ mod texts;
 
 pub use answer::DataUrlAnswer;
 use answer::answer;
+pub use open::DataUrlOpened;
 pub use parts::{DataUrlBase64, DataUrlFed, DataUrlStep};
 pub use refusal::Refusal;
 use std::alloc::Global;
@@ -128,4 +131,24 @@ pub extern "C" fn dataurl_body_whole_utf8(
 {
     let text = unsafe { str::from_utf8_unchecked(tail) };
     body::whole(text, is_base64, out)
+}
+
+/// Opens a data: URL: its MIME type, as `dataurl_mime` prints it, where its tail is in the text, and whether its body is
+/// base64 ([Fetch Standard, section 6](https://fetch.spec.whatwg.org/#data-url-processor)). The tail is what comes after the
+/// first comma, without C0 controls and spaces at its end. The body is not decoded.
+#[unsafe(no_mangle)]
+pub extern "C" fn dataurl_open(alloc: Global, url: &[u8], out: &mut [u8]) -> DataUrlOpened
+    ensures { Opens url.now out.old out.new result }
+{
+    open::open_bytes(alloc, url, out)
+}
+
+/// Opens a data: URL as `dataurl_open` does. Its text is UTF-8, and is not checked.
+#[unsafe(no_mangle)]
+pub extern "C" fn dataurl_open_utf8(alloc: Global, url: &[u8], out: &mut [u8]) -> DataUrlOpened
+    requires { IsUtf8 url.now }
+    ensures { Opens url.now out.old out.new result }
+{
+    let text = unsafe { str::from_utf8_unchecked(url) };
+    open::open(alloc, text, out)
 }

@@ -15,7 +15,7 @@ use std::alloc::{AllocError, Global};
 use std::convert::Infallible;
 
 /// The text of bytes, where they are UTF-8.
-fn text_of(bytes: &[u8]) -> Option<&str>
+pub(crate) fn text_of(bytes: &[u8]) -> Option<&str>
     ensures { MatchOption result (IsUtf8 bytes.now → ⊥) (λ text. IsUtf8 bytes.now
         × (text.now ≡ bytes.now)) }
 {
@@ -23,7 +23,7 @@ fn text_of(bytes: &[u8]) -> Option<&str>
 }
 
 /// The URL of a text.
-fn url_of<'a>(alloc: Global, bytes: &'a [u8]) -> Result<DataUrl<'a>, Refusal>
+pub(crate) fn url_of<'a>(alloc: Global, bytes: &'a [u8]) -> Result<DataUrl<'a>, Refusal>
     ensures { IsUrlFor bytes.entry.now result }
 {
     let Some(text) = text_of(bytes) else {
@@ -71,7 +71,7 @@ fn bytes_of(alloc: Global, url: &DataUrl) -> Result<Vec<u8>, Refusal>
 }
 
 /// The printed text of a record.
-fn printed_of(alloc: Global, mime: &Mime) -> Result<Vec<u8>, Refusal>
+pub(crate) fn printed_of(alloc: Global, mime: &Mime) -> Result<Vec<u8>, Refusal>
     ensures { HasText (record_of mime.now) result }
 {
     match format!(in alloc; "{mime}") {
