@@ -4,3 +4,5 @@ pub mod GivenLemmas
 pub mod LeftLemmas
 pub mod OpenLemmas
 pub mod PartLemmas
+pub mod StepLemmas
+pub mod WindowLemmas

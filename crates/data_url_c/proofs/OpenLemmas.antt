@@ -128,7 +128,7 @@ header_by t d B h f n bytes =
     ∙ ap (option_map (λ r. before 44 (serialised s))) k.1
     ∙ ap (λ (x : List ℕ). Some x) (before-serialised d (before 35 B) n)
 
-before_left : (d r s : List ℕ) → behind 35 d ≡ Some r → before 35 (d ++ s) ≡ before 35 d
+pub before_left : (d r s : List ℕ) → behind 35 d ≡ Some r → before 35 (d ++ s) ≡ before 35 d
 unfolding before behind
 before_left [] r s h = absurd (cc)
 before_left (x ∷ d) r s h =

@@ -4,3 +4,4 @@ pub mod Gives
 pub mod Opened
 pub mod Parts
 pub mod Steps
+pub mod Windows

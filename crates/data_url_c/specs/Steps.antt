@@ -1,5 +1,5 @@
 -- What the private steps give: words that no contract of an export cites.
-use Rattle.std.specs.Prelude.{[], ◌+◌, ◌++◌, ◌<◌, ◌∷◌, ◌≡◌, ◌≤◌, Bool, false, slice_index, Err, IsUtf8, List, MatchBool, MatchOption, None, Ok, Result, Some, drop, encode_utf8_all, is_some, length, option_map, take, ℕ}
+use Rattle.std.specs.Prelude.{[], ◌+◌, ◌++◌, ◌-◌, ◌<◌, ◌∷◌, ◌≡◌, ◌≤◌, Bool, false, slice_index, Err, IsUtf8, List, MatchBool, MatchOption, None, Ok, Result, Some, drop, encode_utf8_all, is_some, length, option_map, take, ℕ}
 use Rattle.data_url.specs.DataUrl.{IsUrlOf, url_body, url_tail}
 use Rattle.data_url.specs.Fetch.{Bad, Good, Outcome, has_base64_suffix, header_of, mime_text, plain_body, tail_of}
 use Rattle.data_url.specs.Mime.{IsRecordOf, Record, printed}
@@ -13,6 +13,10 @@ use Rattle.data_url_c.specs.Answers.{Crosses, Given, status_of_kind}
 use Rattle.data_url_c.specs.Gives.{GivesMime, RefusesUrl}
 use Rattle.data_url_c.specs.Opened.{answer_of}
 use Rattle.data_url_c.specs.Parts.{TakesText, WritesFront, waiting_text}
+use Rattle.std.specs.Str.{IsCharBoundary}
+use Rattle.data_url_c.specs.Bodies.{IsGoodBody, StepsBody}
+use Rattle.data_url_c.specs.declared.body.DataUrlBody.{DataUrlBody}
+use Rattle.data_url_c.specs.Windows.{IsCut}
 use Rattle.data_url_c.specs.declared.open.DataUrlOpened.{DataUrlOpened}
 use Rattle.data_url_c.specs.declared.open.Front.{Front}
 use Rattle.data_url_c.specs.declared.open.Opened.{Opened}
@@ -143,3 +147,27 @@ IsOpened x (Err refusal) = RefusesUrl x refusal
 pub record IsRefusedOpen (refusal : Refusal) (old new : List ℕ) (r : DataUrlOpened) : Type 0 where
   pub crosses : Crosses (Err refusal) old new (answer_of r)
   pub parts : (r.tail ≡ 0) × (r.tail_len ≡ 0) × (r.is_base64 ≡ false)
+
+-- the text is a window of the tail, from a place to another one, where the tail may be cut
+pub record IsWindowOf (tail : List ℕ) (from : ℕ) (window : List ℕ) (end : ℕ) : Type 0 where
+  pub order : from ≤ end
+  pub within : end ≤ length tail
+  pub window_is : window ≡ take (end - from) (drop from tail)
+  pub cut : IsCut window (drop end tail)
+  pub edge : IsCharBoundary tail end
+  pub goes_on : from < length tail → from < end
+
+-- a window was found, and the room is for its body and what waits
+pub record IsPlanned (tail : List ℕ) (from room end : ℕ) : Type 0 where
+  pub order : from ≤ end
+  pub within : end ≤ length tail
+  pub start : IsCharBoundary tail from
+  pub edge : IsCharBoundary tail end
+  pub fits : length (plain_body (take (end - from) (drop from tail))) + 3 ≤ room
+  pub cut : IsCut (take (end - from) (drop from tail)) (drop end tail)
+  pub goes_on : from < length tail → from < end
+
+-- the end of the next window, for a good state and enough room; or the step that there is instead
+abbrev pub IsPlan : List ℕ → DataUrlBody → ℕ → Result ℕ DataUrlStep → Type 0
+IsPlan tail s room (Ok end) = IsGoodBody tail s × (8 ≤ room) × IsPlanned tail s.from room end
+IsPlan tail s room (Err step) = (out : List ℕ) → length out ≡ room → StepsBody tail s s out out step
