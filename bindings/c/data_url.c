@@ -10,6 +10,8 @@ struct data_url_answer dataurl_fragment(bytes url, size_t len, uint8_t *out, siz
 struct data_url_answer dataurl_type(bytes text, size_t len, uint8_t *out, size_t room);
 struct data_url_answer dataurl_base64(bytes text, size_t len, uint8_t *out, size_t room);
 struct data_url_opened dataurl_open(bytes url, size_t len, uint8_t *out, size_t room);
+struct data_url_answer dataurl_body_next(
+    struct data_url_body_state *state, bytes tail, size_t len, uint8_t *out, size_t room);
 struct data_url_fed dataurl_base64_feed(
     struct data_url_base64_state *state, bytes input, size_t len, uint8_t *out, size_t room);
 struct data_url_answer dataurl_base64_finish(struct data_url_base64_state *state, uint8_t *out, size_t room);
@@ -42,6 +44,11 @@ struct data_url_answer data_url_base64(const void *base64, size_t len, void *out
 
 struct data_url_opened data_url_open(const void *url, size_t len, void *out, size_t room) {
     return dataurl_open(text(url, len), len, output(out, room), room);
+}
+
+struct data_url_answer data_url_body_next(
+    struct data_url_body_state *state, const void *tail, size_t len, void *out, size_t room) {
+    return dataurl_body_next(state, text(tail, len), len, output(out, room), room);
 }
 
 struct data_url_fed data_url_base64_feed(

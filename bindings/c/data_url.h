@@ -18,21 +18,22 @@
  *     data_url_type      a MIME type, parsed and printed (MIME Sniffing Standard, sections 4.4 and 4.5)
  *     data_url_base64    base64, decoded (Infra Standard, forgiving-base64 decode)
  *
- * IN PARTS. Base64 that comes in parts is decoded without allocating anything:
+ * IN PARTS. A long body goes to a file in a few kilobytes, and nothing is allocated for it:
  *
+ *     data_url_open           reads the header of a URL: its MIME type, whether its body is base64, where its tail begins
+ *     data_url_body_next      the next bytes of a body, from the tail
  *     data_url_base64_feed    the next part of a text of base64
  *     data_url_base64_finish  the end of that text
  *
- *     struct data_url_base64_state state = {{0, 0, 0}, 0, 0};
- *     while ((len = fread(part, 1, sizeof part, file)) > 0) {
- *         struct data_url_fed fed = data_url_base64_feed(&state, part, len, room, sizeof part + 3);
- *         fwrite(room, 1, fed.len, stdout);
- *         if (fed.status != DATA_URL_DONE) return fed.status;
- *     }
- *     struct data_url_answer end = data_url_base64_finish(&state, room, sizeof room);
- *     fwrite(room, 1, end.len, stdout);
- *
- * THE HEADER ALONE. data_url_open gives the MIME type of a URL, whether its body is base64, and where its tail begins.
+ *     struct data_url_opened url = data_url_open(text, len, NULL, 0);
+ *     if (url.status != DATA_URL_DONE && url.status != DATA_URL_OUTPUT_TOO_SMALL) return url.status;
+ *     struct data_url_body_state state = {.is_base64 = url.is_base64};
+ *     struct data_url_answer part;
+ *     do {
+ *         part = data_url_body_next(&state, text + url.tail, url.tail_len, room, sizeof room);
+ *         fwrite(room, 1, part.len, file);
+ *     } while (part.status == DATA_URL_MORE);
+ *     return part.status;
  *
  * TEXTS. A text is `len` bytes at a pointer. It need not end with a NUL, and may contain one. Any bytes are allowed. The
  * pointer may be null if `len` is 0. The text is only read, and only until the call returns.
@@ -49,8 +50,8 @@
  * data_url_mime and data_url_open do not decode the body and so find no fault in it.
  *
  * MEMORY AND THREADS. The library keeps no pointer and has no state of its own, so calls may run on many threads at once.
- * The calls for whole texts and data_url_open use malloc, realloc and free, and free everything before they return; those
- * for base64 in parts use none of them. Do not call the library from a signal handler.
+ * The calls for whole texts and data_url_open use malloc, realloc and free, and free everything before they return; the
+ * three other calls use none of them. Do not call the library from a signal handler.
  *
  * PLATFORMS. Linux on x86-64 (level x86-64-v2 or higher) and aarch64. C99, C++11 and later.
  *
@@ -92,6 +93,8 @@ enum data_url_status {
     DATA_URL_BASE64_LONE_SYMBOL = 9,
     /* Base64 with a symbol after a '='. */
     DATA_URL_BASE64_SYMBOL_AFTER_PADDING = 10,
+    /* There are more bytes: call again. */
+    DATA_URL_MORE = 11,
     /* The state was not made by the calls of this file, or its text has ended. Nothing was done. */
     DATA_URL_BAD_STATE = 12,
     /* Base64 with a byte that is neither whitespace nor '=' nor a symbol: this plus the byte, 256 to 511. */
@@ -179,6 +182,26 @@ struct data_url_opened {
  * out, room   receives the printed MIME type, as from data_url_mime
  * Returns what data_url_mime returns. With DATA_URL_DONE and DATA_URL_OUTPUT_TOO_SMALL the other fields are set too. */
 struct data_url_opened data_url_open(const void *url, size_t len, void *out, size_t room);
+
+/* How far a body was decoded. Set is_base64 to that of data_url_open, and everything else to 0. */
+struct data_url_body_state {
+    size_t from;
+    uint8_t symbols[3];
+    uint8_t pending;
+    uint8_t padding;
+    uint8_t is_base64;
+};
+
+/* Decodes the next bytes of a body. Call it with the same tail until the status is not DATA_URL_MORE.
+ *
+ * state       how far the body was decoded
+ * tail, len   the tail: url + opened.tail, opened.tail_len
+ * out, room   receives the next bytes; the room may differ from call to call, and must be 4 or more. 4 KiB are fast
+ * Returns DATA_URL_MORE; DATA_URL_DONE with the last bytes; a fault of base64, with the bytes before it;
+ * DATA_URL_OUTPUT_TOO_SMALL if the room is less than 4; DATA_URL_NOT_UTF8 if the tail is not UTF-8; DATA_URL_BAD_STATE if
+ * the state was changed by something else, or the body has ended. With the last three the state stays as it was. */
+struct data_url_answer data_url_body_next(
+    struct data_url_body_state *state, const void *tail, size_t len, void *out, size_t room);
 
 /* What a text of base64 has left. Set everything to 0 at its start. */
 struct data_url_base64_state {

@@ -1,6 +1,6 @@
-/* Tests of data_url_open and of base64 in parts. The vectors, as vectors.py prints them, come on standard input: each URL is
- * opened, each text of base64 is fed in every two pieces. Then 100,000 random texts in random pieces, against the call for a
- * whole text, and 1,000 states that no call made. Build it with -Wl,--wrap=malloc,--wrap=realloc. */
+/* Tests of the calls that decode in parts. The vectors, as vectors.py prints them, come on standard input: each body by rooms of
+ * every small size, each text of base64 in every two pieces. Then 100,000 random texts in random pieces, against the calls for
+ * whole texts, and 1,000 states that no call made. Build it with -Wl,--wrap=malloc,--wrap=realloc. */
 #include "data_url.h"
 
 #include <stdio.h>
@@ -69,6 +69,23 @@ static size_t below(size_t end) {
 /* A size for a call: the given one, or for 0 a random one. */
 static size_t size_of(size_t room) { return room ? room : 4 + below(40); }
 
+/* Decodes a body in parts, with rooms of a size or, for 0, of random sizes. */
+static void read_parts(const uint8_t *tail, size_t len, bool is_base64, size_t size) {
+    struct data_url_body_state state = {0, {0}, 0, 0, is_base64};
+    parts.len = 0;
+    parts.status = DATA_URL_MORE;
+    for (size_t calls = 0; parts.status == DATA_URL_MORE; calls++) {
+        size_t room = size_of(size), from = state.from;
+        struct data_url_answer part = data_url_body_next(&state, tail, len, fresh(room), room);
+        add(part.len, room, tail, len);
+        parts.status = part.status;
+        check(part.status != DATA_URL_MORE || state.from > from, "no progress", tail, len);
+        if (calls > len + 2) abort();
+    }
+    struct data_url_answer after = data_url_body_next(&state, tail, len, fresh(8), 8);
+    check(after.status == DATA_URL_BAD_STATE && after.len == 0, "a call after the end", tail, len);
+}
+
 /* Feeds a stretch of a text, with rooms of a size or of random sizes. */
 static void feed_part(struct data_url_base64_state *state, const uint8_t *text, size_t len, size_t size) {
     size_t at = 0;
@@ -103,6 +120,18 @@ static void is_whole(const char *what, const uint8_t *text, size_t len) {
     check(is_same, what, text, len);
 }
 
+/* A body in parts is what it should be, and nothing is allocated for it. */
+static void url_parts(const uint8_t *url, size_t len, struct data_url_opened opened, size_t most) {
+    long before = allocations;
+    for (size_t size = 4; size <= most; size++) {
+        read_parts(url + opened.tail, opened.tail_len, opened.is_base64, size);
+        is_whole("a body in parts", url, len);
+    }
+    read_parts(url + opened.tail, opened.tail_len, opened.is_base64, 0);
+    is_whole("a body in random parts", url, len);
+    check(allocations == before, "memory", url, len);
+}
+
 static void base64_parts(const uint8_t *text, size_t len) {
     long before = allocations;
     for (size_t cut = 0; cut <= len; cut++) {
@@ -112,17 +141,6 @@ static void base64_parts(const uint8_t *text, size_t len) {
     feed_parts(text, len, len, len + 4);
     is_whole("base64 at once", text, len);
     check(allocations == before, "memory", text, len);
-}
-
-/* The tail of a URL, with another header of its kind before it, has the URL's body. */
-static void url_tail(const uint8_t *url, size_t len, struct data_url_opened opened) {
-    static uint8_t other[MOST];
-    size_t head = sprintf((char *)other, opened.is_base64 ? "data:;base64," : "data:,");
-    memcpy(other + head, url + opened.tail, opened.tail_len);
-    struct data_url_answer answer = data_url_body(other, head + opened.tail_len, parts.bytes, MOST);
-    parts.status = answer.status;
-    parts.len = answer.len;
-    is_whole("the body of a tail", url, len);
 }
 
 /* The bytes of hexadecimal digits. */
@@ -153,9 +171,8 @@ static void vector(char kind, uint32_t status, const char *input, const char *mi
     }
     int is_mime = opened.len == printed_len && memcmp(room, printed, printed_len) == 0;
     check(opened.status == DATA_URL_DONE && is_mime, "opened", text, len);
-    opened = data_url_open(text, len, NULL, 0);
-    check(opened.status == DATA_URL_OUTPUT_TOO_SMALL, "no room", text, len);
-    url_tail(text, len, opened);
+    check(data_url_open(text, len, NULL, 0).status == DATA_URL_OUTPUT_TOO_SMALL, "no room", text, len);
+    url_parts(text, len, opened, 24);
 }
 
 static void vectors(void) {
@@ -183,12 +200,21 @@ static size_t random_text(const char *const *units, size_t count, uint8_t *text,
     return len;
 }
 
-/* A random text of base64, whole and in parts. */
+/* A random URL and a random text of base64, whole and in parts. */
 static void random_texts(void) {
+    static const char *const body[] = {"a", "%", "%4", "1", "%41", "\t", "\n", "#", "\xc3\xa9", "%\t4\n1", "Q", "=", " ", "JD", "%3d"};
     static const char *const symbols[] = {"Q", "U", "J", "D", "\n", " ", "QUJD", "QUJDQUJDQUJDQUJD", "=", "!"};
     static uint8_t text[1024];
-    size_t len = random_text(symbols, 7 + below(4), text, below(200));
-    struct data_url_answer answer = data_url_base64(text, len, whole.bytes, MOST);
+    size_t head = below(2) ? sprintf((char *)text, "data:,") : sprintf((char *)text, "data:;base64,");
+    size_t len = head + random_text(body, below(3) ? 11 : 15, text + head, below(120));
+    struct data_url_opened opened = data_url_open(text, len, NULL, 0);
+    struct data_url_answer answer = data_url_body(text, len, whole.bytes, MOST);
+    whole.status = answer.status;
+    whole.len = answer.len;
+    read_parts(text + opened.tail, opened.tail_len, opened.is_base64, 0);
+    is_whole("a random body", text, len);
+    len = random_text(symbols, 7 + below(4), text, below(200));
+    answer = data_url_base64(text, len, whole.bytes, MOST);
     whole.status = answer.status;
     whole.len = answer.len;
     feed_parts(text, len, below(len + 1), 0);
@@ -197,15 +223,20 @@ static void random_texts(void) {
 
 /* States that no call made: a status, and nothing written outside the output. */
 static void random_states(void) {
-    static const char tail[] = "QUJDQUI=";
+    static const char tail[] = "QUJD%41\xc3\xa9#f";
     size_t len = strlen(tail);
     for (int i = 0; i < 1000; i++) {
+        struct data_url_body_state state;
         struct data_url_base64_state left;
-        uint8_t noise[sizeof left];
+        uint8_t noise[sizeof state];
         for (size_t k = 0; k < sizeof noise; k++) noise[k] = (uint8_t)(below(2) ? below(256) : below(5));
+        memcpy(&state, noise, sizeof state);
         memcpy(&left, noise, sizeof left);
+        if (i % 2) state.from = below(2 * len);
         parts.len = 0;
         size_t room = below(12);
+        struct data_url_answer part = data_url_body_next(&state, tail, len, fresh(room), room);
+        add(part.status == DATA_URL_OUTPUT_TOO_SMALL ? 0 : part.len, room, tail, len);
         struct data_url_fed fed = data_url_base64_feed(&left, tail, len, fresh(room), room);
         add(fed.status == DATA_URL_OUTPUT_TOO_SMALL ? 0 : fed.len, room, tail, len);
         struct data_url_answer end = data_url_base64_finish(&left, fresh(room), room);

@@ -40,7 +40,7 @@ use forgiving_base64::{DecodeError, InvalidBase64};
 /// How many bytes are looked through at a time for a `#`.
 const PART: usize = 256;
 
-/// How many bytes of a body the closure is called with at most.
+/// How many bytes of a body are decoded before the closure is called with them.
 const ROOM: usize = 8192;
 
 /// A data: URL: its MIME type, and its body and fragment as a slice of the input.
@@ -101,7 +101,7 @@ impl<'a> DataUrl<'a> {
 
     /// Calls `write_body_bytes` with the body's bytes, piece by piece, and returns the fragment if there is one.
     ///
-    /// A piece has at least one byte and at most 8 KiB. The body is decoded into memory first.
+    /// A piece has at least one byte and at most 8 KiB. Nothing is allocated.
     ///
     /// # Errors
     ///
@@ -114,13 +114,19 @@ impl<'a> DataUrl<'a> {
     where
         F: FnMut(&[u8]) -> Result<(), E>,
     {
-        let (status, body) = library::body(self.encoded_body_plus_fragment, self.base64);
-        for piece in body.chunks(ROOM) {
-            write_body_bytes(piece).map_err(DecodeError::WriteError)?;
-        }
-        match status {
-            library::DONE => Ok(self.fragment()),
-            status => Err(forgiving_base64::details(status).into()),
+        let tail = self.encoded_body_plus_fragment;
+        let mut body = library::Body::new(self.base64);
+        let mut room = library::Room::<ROOM>::new();
+        loop {
+            let (status, bytes) = body.next(tail, &mut room);
+            if !bytes.is_empty() {
+                write_body_bytes(bytes).map_err(DecodeError::WriteError)?;
+            }
+            match status {
+                library::MORE => {}
+                library::DONE => return Ok(self.fragment()),
+                status => return Err(forgiving_base64::details(status).into()),
+            }
         }
     }
 

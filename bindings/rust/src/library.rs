@@ -12,6 +12,7 @@ const OUTPUT_TOO_SMALL: u32 = 5;
 pub(crate) const PADDING: u32 = 8;
 pub(crate) const LONE_SYMBOL: u32 = 9;
 pub(crate) const SYMBOL_AFTER_PADDING: u32 = 10;
+pub(crate) const MORE: u32 = 11;
 pub(crate) const UNEXPECTED_SYMBOL: u32 = 256;
 
 /// How many bytes of a printed text fit on the stack. A longer one is printed a second time, into a vector.
@@ -39,6 +40,16 @@ struct Fed {
     read: usize,
 }
 
+/// The place of a body that is decoded in parts.
+#[repr(C)]
+pub(crate) struct Body {
+    from: usize,
+    symbols: [u8; 3],
+    pending: u8,
+    padding: u8,
+    is_base64: u8,
+}
+
 /// What base64 that is fed in parts has left.
 #[repr(C)]
 pub(crate) struct Base64 {
@@ -55,6 +66,13 @@ extern "C" {
         tail: *const u8,
         len: usize,
         is_base64: bool,
+        out: *mut u8,
+        room: usize,
+    ) -> Answer;
+    fn dataurl_body_next_utf8(
+        body: *mut Body,
+        tail: *const u8,
+        len: usize,
         out: *mut u8,
         room: usize,
     ) -> Answer;
@@ -181,6 +199,31 @@ pub(crate) fn body(tail: &str, is_base64: bool) -> (u32, Vec<u8>) {
     assert!(answer.len <= bytes.capacity());
     unsafe { bytes.set_len(answer.len) };
     (answer.status, bytes)
+}
+
+impl Body {
+    /// The front of a body.
+    pub(crate) fn new(is_base64: bool) -> Body {
+        Body {
+            from: 0,
+            symbols: [0; 3],
+            pending: 0,
+            padding: 0,
+            is_base64: is_base64 as u8,
+        }
+    }
+
+    /// The next bytes of the body, and the status.
+    pub(crate) fn next<'r, const N: usize>(
+        &mut self,
+        tail: &str,
+        room: &'r mut Room<N>,
+    ) -> (u32, &'r [u8]) {
+        let answer = unsafe {
+            dataurl_body_next_utf8(self, tail.as_ptr(), tail.len(), room.as_mut_ptr(), N)
+        };
+        (answer.status, room.written(answer.len))
+    }
 }
 
 impl Base64 {

@@ -178,11 +178,11 @@ unfolding outcome
 outcome_plain true x e = absurd (cc)
 outcome_plain false x e = refl
 
-outcome_valid : (x : List ℕ) → is_valid x ≡ true → outcome true x ≡ Good (decoded x)
+pub outcome_valid : (x : List ℕ) → is_valid x ≡ true → outcome true x ≡ Good (decoded x)
 unfolding outcome
 outcome_valid x e = ap (λ v. cond v (Good (decoded x)) (Bad (complete_bytes x) (kind_of x))) e
 
-outcome_invalid : (x : List ℕ) → is_valid x ≡ false → outcome true x ≡ Bad (complete_bytes x) (kind_of x)
+pub outcome_invalid : (x : List ℕ) → is_valid x ≡ false → outcome true x ≡ Bad (complete_bytes x) (kind_of x)
 unfolding outcome
 outcome_invalid x e = ap (λ v. cond v (Good (decoded x)) (Bad (complete_bytes x) (kind_of x))) e
 

@@ -1,16 +1,16 @@
 -- The status of a fault, found by looking through the text again.
-use Rattle.std.proofs.Common.{◌≡◌, ◌≢◌, ℕ, zero, suc, ◌+◌, ◌-◌, ◌<◌, ◌≤◌, ◌%◌, Bool, true, false, cond, ◌||◌, List, [], ◌∷◌, ◌++◌, length, length-take-le, get_or, take, drop, drop_of_length-le, Option, None, Some, Result, Ok, Err, refl, sym, ap, ◌∙◌, subst, arith, eqb, eqb-true}
+use Rattle.std.proofs.Common.{◌≡◌, ℕ, ◌+◌, ◌<◌, ◌≤◌, ◌%◌, Bool, true, false, cond, ◌||◌, List, [], ◌∷◌, ◌++◌, length, length-take-le, get_or, take, drop, drop_of_length-le, Option, None, Some, Result, Ok, Err, refl, sym, ap, ◌∙◌, arith, eqb, eqb-true}
 use Rattle.std.specs.Prelude.{◌==◌, MatchOption, is_some}
-use Rattle.std.specs.List.{list_all, list_any}
+use Rattle.std.specs.List.{list_any}
 use Rattle.std.proofs.lemmas.List.{drop_more}
-use Rattle.data_url.specs.Base64.{AlphabetSymbolAfterPadding, Kind, LoneAlphabetSymbol, Padding, UnexpectedSymbol, first_fault, is_symbol, kind_of, left_text}
+use Rattle.data_url.specs.Base64.{AlphabetSymbolAfterPadding, Kind, LoneAlphabetSymbol, Padding, UnexpectedSymbol, first_fault, is_symbol, kind_of}
 use Rattle.data_url.specs.Mime.{Every}
 use Rattle.data_url.specs.declared.forgiving_base64.DecodeError.{DecodeError}
 use Rattle.data_url.specs.declared.forgiving_base64.DecodeError.TheVariants.{InvalidBase64}
 use Rattle.data_url.proofs.ByteLemmas.{fault_behind, fault_more, fault_other, fault_space, fault_symbol, has_pad, kind_left}
 use Rattle.std.specs.Char.{is_ascii_whitespace}
 use Rattle.std.proofs.Math.Bool.{or-false, or-true}
-use Rattle.data_url.proofs.PaddingLemmas.{classes, fault-append, fault-append_some, fault_byte, fault_none, fault_some, kind_fault}
+use Rattle.data_url.proofs.PaddingLemmas.{classes, fault-append, fault-append_some, fault_byte, fault_some, kind_fault}
 use Rattle.data_url.proofs.RecordLemmas.{every_from_all}
 use Rattle.data_url.proofs.WalkLemmas.{space_alone, symbol_alone}
 use Rattle.data_url_c.specs.Answers.{status_of_kind}

@@ -7,3 +7,5 @@ pub mod LeftLemmas
 pub mod OpenLemmas
 pub mod PartLemmas
 pub mod ProbeLemmas
+pub mod StepLemmas
+pub mod WindowLemmas

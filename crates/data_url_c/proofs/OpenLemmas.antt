@@ -1,5 +1,5 @@
 -- A URL is opened by its probe.
-use Rattle.std.proofs.Common.{◌≡◌, ◌⊎◌, ℕ, zero, suc, ◌+◌, ◌-◌, ◌<◌, ◌≤◌, Bool, true, false, List, [], ◌∷◌, ◌++◌, length, get_or, take, drop, codes, Option, None, Some, Result, Ok, Err, position, refl, sym, ap, ◌∙◌, subst, inl, inr, arith, eqb-true}
+use Rattle.std.proofs.Common.{◌≡◌, ℕ, zero, suc, ◌+◌, ◌-◌, ◌<◌, ◌≤◌, Bool, true, false, List, [], ◌∷◌, ◌++◌, length, get_or, take, drop, codes, Option, None, Some, Result, Ok, Err, position, refl, sym, ap, ◌∙◌, subst, inl, inr, arith, eqb-true}
 use Rattle.std.specs.Global.{Global}
 use Rattle.std.specs.Prelude.{◌==◌, IsUtf8, Vec}
 use Rattle.std.specs.List.{suffix_len}
@@ -7,25 +7,25 @@ use Rattle.std.proofs.lemmas.List.{drop_more, get_or-take, length-drop, length-t
 use Rattle.std.proofs.lemmas.List.Quantifiers.{position-Some}
 use Rattle.std.proofs.lemmas.List.Sums.{suffix_len-le-length}
 use Rattle.data_url.specs.Base64.{after_groups, decoded, groups, is_valid, values, without_last_padding, without_padding, without_whitespace}
-use Rattle.data_url.specs.DataUrl.{IsAcceptable, IsUrlOf, is_base64, mime_of, url_body, url_tail}
-use Rattle.data_url.specs.Fetch.{Accepted, Bad, Good, Outcome, has_base64_suffix, mime_text, outcome, plain_body, staged, tail_of}
+use Rattle.data_url.specs.DataUrl.{IsAcceptable, is_base64, mime_of, url_body, url_tail}
+use Rattle.data_url.specs.Fetch.{Accepted, Outcome, has_base64_suffix, mime_text, outcome, plain_body, staged}
 use Rattle.data_url.specs.MimeType.{record_of}
 use Rattle.data_url.specs.Percent.{percent_decoding}
-use Rattle.data_url.specs.Url.{before, behind, front, is_c0_control_or_space, trimmed_text, without_end, without_tabs_and_newlines}
+use Rattle.data_url.specs.Url.{before, behind, front, is_c0_control_or_space, trimmed_text, without_tabs_and_newlines}
 use Rattle.data_url.proofs.MediaLemmas.{bytes_by_place}
 use Rattle.data_url.proofs.ProcessLemmas.{bytes_trimmed}
 use Rattle.data_url.proofs.RecodedLemmas.{IsBytes}
 use Rattle.data_url.proofs.UrlLemmas.{behind_none}
-use Rattle.data_url_c.specs.Answers.{Crosses, Given}
+use Rattle.data_url_c.specs.Answers.{Crosses}
 use Rattle.data_url_c.specs.Gives.{RefusesUrl}
-use Rattle.data_url_c.specs.Opens.{IsOpened, Opens}
+use Rattle.data_url_c.specs.Opens.{Opens}
 use Rattle.data_url_c.specs.Steps.{CrossesOrNot, HasLength, IsFault, IsRead, ReadsProbe}
 use Rattle.data_url_c.specs.Steps.Opening.{IsReadUrl, IsRefused, ReadsUrl, tail_after}
 use Rattle.data_url_c.specs.declared.answer.DataUrlAnswer.{DataUrlAnswer}
 use Rattle.data_url_c.specs.declared.open.DataUrlOpened.{DataUrlOpened}
 use Rattle.data_url_c.specs.declared.refusal.Refusal.TheVariants.{InvalidBase64, NoComma, NoFragment, NotADataUrl, NotAMimeType, NotUtf8, OutOfMemory}
 use Rattle.data_url_c.specs.declared.refusal.Refusal.{Refusal}
-use Rattle.data_url_c.proofs.ProbeLemmas.{IsAcceptedWith, ends, same_acceptable, same_header, same_no_comma, same_no_scheme, trimmed_around, trimmed_front, trimmed_tail}
+use Rattle.data_url_c.proofs.ProbeLemmas.{ends, same_acceptable, same_header, same_no_comma, same_no_scheme, trimmed_around, trimmed_front, trimmed_tail}
 
 -- Cutting at the comma
 

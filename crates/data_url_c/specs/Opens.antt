@@ -1,13 +1,11 @@
 -- What opening a URL gives: its printed MIME type, its tail, and whether its body is base64.
-use Rattle.std.specs.Global.{Global}
-use Rattle.std.specs.Prelude.{◌+◌, ◌<◌, ◌≡◌, ◌≤◌, Err, IsUtf8, List, Ok, Option, Result, Some, Vec, drop, encode_utf8_all, false, length, take, ℕ}
+use Rattle.std.specs.Prelude.{◌+◌, ◌≡◌, ◌≤◌, Err, IsUtf8, List, Ok, Option, Some, drop, encode_utf8_all, false, length, take, ℕ}
 use Rattle.data_url.specs.Fetch.{Accepted, has_base64_suffix, header_of, mime_text, outcome, plain_body, staged, tail_of}
 use Rattle.data_url.specs.Mime.{IsRecordOf, Record, printed}
 use Rattle.data_url_c.specs.Answers.{Crosses, Given}
 use Rattle.data_url_c.specs.Gives.{RefusesUrl}
 use Rattle.data_url_c.specs.declared.answer.DataUrlAnswer.{DataUrlAnswer}
 use Rattle.data_url_c.specs.declared.open.DataUrlOpened.{DataUrlOpened}
-use Rattle.data_url_c.specs.declared.refusal.Refusal.{Refusal}
 
 -- the answer without the tail: the status and the length of the printed MIME type
 abbrev pub answer_of : DataUrlOpened → DataUrlAnswer

@@ -1,15 +1,15 @@
 -- What the private steps give: words that no contract of an export cites.
 pub mod Opening
 use Rattle.std.specs.Global.{Global}
-use Rattle.std.specs.Prelude.{Bool, Err, IsUtf8, List, MatchBool, MatchOption, None, Ok, Result, Some, Vec, [], drop, encode_utf8_all, is_some, length, min, option_map, take, ℕ, ◌++◌, ◌+◌, ◌-◌, ◌==◌, ◌^◌, ◌≡◌, ◌≤◌, ◌⊎◌}
+use Rattle.std.specs.Prelude.{Bool, Err, IsUtf8, List, MatchBool, MatchOption, None, Ok, Result, Some, Vec, [], drop, encode_utf8_all, false, is_some, length, min, option_map, slice_index, take, ℕ, ◌++◌, ◌+◌, ◌-◌, ◌<◌, ◌==◌, ◌^◌, ◌∷◌, ◌≡◌, ◌≤◌, ◌⊎◌}
 use Rattle.data_url.specs.DataUrl.{IsAcceptable, IsUrlOf, mime_of, url_body, url_tail}
-use Rattle.data_url.specs.Fetch.{Bad, Good, NoComma as no_comma, NoScheme, Outcome, plain_body, staged}
-use Rattle.data_url.specs.Mime.{Record, printed}
+use Rattle.data_url.specs.Fetch.{Bad, Good, NoComma as no_comma, NoScheme, Outcome, has_base64_suffix, header_of, mime_text, plain_body, staged, tail_of}
+use Rattle.data_url.specs.Mime.{IsRecordOf, Record, printed}
 use Rattle.data_url.specs.MimeType.{record_of}
 use Rattle.data_url.specs.Url.{behind, encoded_fragment}
 use Rattle.data_url.specs.declared.DataUrl.{DataUrl}
 use Rattle.data_url_c.specs.Answers.{Crosses, Given, status_of_kind}
-use Rattle.data_url_c.specs.Gives.{RefusesUrl}
+use Rattle.data_url_c.specs.Gives.{GivesMime, RefusesUrl}
 use Rattle.data_url_c.specs.declared.answer.DataUrlAnswer.{DataUrlAnswer}
 use Rattle.data_url_c.specs.declared.kind.ShortText.{ShortText}
 use Rattle.data_url_c.specs.declared.refusal.Refusal.TheVariants.{InvalidBase64, NoComma, NoFragment, NotADataUrl, OutOfMemory}
@@ -18,6 +18,10 @@ use Rattle.data_url.specs.Run.{Call, IsRun, joined_pieces}
 use Rattle.data_url.specs.declared.forgiving_base64.DecodeError.{DecodeError}
 use Rattle.data_url.specs.declared.forgiving_base64.DecodeError.TheVariants as decode
 use Rattle.data_url_c.specs.Parts.{TakesText, WritesFront, waiting_text}
+use Rattle.std.specs.Str.{IsCharBoundary}
+use Rattle.data_url_c.specs.Bodies.{IsGoodBody, StepsBody}
+use Rattle.data_url_c.specs.declared.body.DataUrlBody.{DataUrlBody}
+use Rattle.data_url_c.specs.Windows.{IsCut}
 use Rattle.data_url_c.specs.declared.parts.DataUrlBase64.{DataUrlBase64}
 use Rattle.data_url_c.specs.declared.parts.DataUrlStep.{DataUrlStep}
 use Rattle.data_url_c.specs.declared.parts.Last.{Last}
@@ -151,3 +155,27 @@ pub record EndsBehind (u : List ℕ) (written : ℕ) (before after : List ℕ) (
       ((r.status ≡ 0) × (r.len ≡ written + length (decoded u))
       × (after ≡ take written before ++ (decoded u ++ drop r.len before)))
       ((r.status ≡ status_of_kind (kind_of u)) × (r.len ≡ written) × (after ≡ before))
+
+-- the text is a window of the tail, from a place to another one, where the tail may be cut
+pub record IsWindowOf (tail : List ℕ) (from : ℕ) (window : List ℕ) (end : ℕ) : Type 0 where
+  pub order : from ≤ end
+  pub within : end ≤ length tail
+  pub window_is : window ≡ take (end - from) (drop from tail)
+  pub cut : IsCut window (drop end tail)
+  pub edge : IsCharBoundary tail end
+  pub goes_on : from < length tail → from < end
+
+-- a window was found, and the room is for its body and what waits
+pub record IsPlanned (tail : List ℕ) (from room end : ℕ) : Type 0 where
+  pub order : from ≤ end
+  pub within : end ≤ length tail
+  pub start : IsCharBoundary tail from
+  pub edge : IsCharBoundary tail end
+  pub fits : length (plain_body (take (end - from) (drop from tail))) + 3 ≤ room
+  pub cut : IsCut (take (end - from) (drop from tail)) (drop end tail)
+  pub goes_on : from < length tail → from < end
+
+-- the end of the next window, for a good state and enough room; or the step that there is instead
+abbrev pub IsPlan : List ℕ → DataUrlBody → ℕ → Result ℕ DataUrlStep → Type 0
+IsPlan tail s room (Ok end) = IsGoodBody tail s × (8 ≤ room) × IsPlanned tail s.from room end
+IsPlan tail s room (Err step) = (out : List ℕ) → length out ≡ room → StepsBody tail s s out out step

@@ -20,7 +20,7 @@ const NO_COMMA: u32 = 2;
 const OUT_OF_MEMORY: u32 = 3;
 
 /// The text is not UTF-8.
-const NOT_UTF8: u32 = 4;
+pub(crate) const NOT_UTF8: u32 = 4;
 
 /// The output has no room for the answer.
 pub(crate) const OUTPUT_TOO_SMALL: u32 = 5;

@@ -1,16 +1,37 @@
 //! Bodies, decoded into an output.
 
-ghost use Rattle.std.specs.Prelude.{◌≡◌, ◌+◌, ◌*◌, ◌≤◌, IsTrue, length, true};
+ghost use Rattle.std.specs.Prelude.{◌≡◌, ◌+◌, ◌*◌, ◌<◌, ◌≤◌, ◌↔◌, IsTrue, IsUtf8, length, true};
 ghost use Rattle.data_url.specs.Fetch.{outcome, plain_body};
 ghost use Rattle.data_url.specs.Pieces.{bytes_of};
-ghost use Rattle.data_url_c.specs.Bodies.{EndsAs};
+ghost use Rattle.data_url_c.specs.Bodies.{EndsAs, GoesOn, IsGoodBody, StepsBody};
 ghost use Rattle.data_url_c.specs.Parts.{WritesFront, is_good_state, waiting_text};
-ghost use Rattle.data_url_c.specs.Steps.{EndsBehind, FeedsBody, FeedsText, IsFragmentThere, Writes};
+ghost use Rattle.data_url_c.specs.Steps.{EndsBehind, FeedsBody, FeedsText, IsFragmentThere, IsPlan, IsWindowOf, Writes};
 
-use crate::answer::DONE;
+use crate::answer::{DONE, NOT_UTF8, OUTPUT_TOO_SMALL};
 use crate::output::push;
-use crate::parts::{DataUrlBase64, DataUrlStep, START, feed_text, last_bytes};
+use crate::parts::{
+    BAD_STATE, DataUrlBase64, DataUrlStep, SPENT, START, feed_text, is_good, last_bytes,
+};
+use crate::window::{is_edge, window_end};
 use data_url::escapes::{Piece, Pieces};
+
+/// The status of a body that goes on.
+const MORE: u32 = 11;
+
+/// The least room of an output that a body is decoded into.
+const ROOM: usize = 8;
+
+/// A body in parts: where it goes on in its tail, and what waits. It begins at 0, with nothing waiting.
+#[repr(C)]
+#[derive(Clone, Copy)]
+pub struct DataUrlBody {
+    /// Where the body goes on in the tail.
+    pub from: usize,
+    /// What waits of base64.
+    pub left: DataUrlBase64,
+    /// Whether the body is base64: 0 if it is not, and any other value if it is.
+    pub is_base64: u8,
+}
 
 /// Writes the bytes of a piece to an output, after the bytes that are written, if they fit.
 #[inline(always)]
@@ -103,4 +124,151 @@ pub(crate) fn whole(tail: &str, is_base64: bool, out: &mut [u8]) -> DataUrlStep
         return step;
     }
     end_body(&state, step.len, out)
+}
+
+/// Returns whether a call may have left the state.
+fn is_good_body(state: &DataUrlBody, tail: &[u8]) -> bool
+    ensures { IsTrue result ↔ IsGoodBody tail.now state.now }
+{
+    if !is_good(&state.left) {
+        return false;
+    }
+    if state.is_base64 == 0 && (state.left.pending > 0 || state.left.padding > 0) {
+        return false;
+    }
+    is_edge(tail, state.from)
+}
+
+/// Decodes a window of a plain body.
+fn plain_window(
+    state: &mut DataUrlBody,
+    tail: &[u8],
+    window: &str,
+    end: usize,
+    out: &mut [u8],
+) -> DataUrlStep
+    requires window { IsWindowOf tail.now state.old.from window.now end }
+    requires good { IsGoodBody tail.now state.old }
+    requires plain { state.old.is_base64 ≡ 0 }
+    requires room { length (plain_body window.now) + 3 ≤ length out.old }
+    ensures { GoesOn tail.now state.old state.new out.old out.new result.len result.status }
+{
+    let (len, has_fragment) = copy_body(window, out);
+    if has_fragment || end == tail.len() {
+        state.left = SPENT;
+        return DataUrlStep { status: DONE, len };
+    }
+    state.from = end;
+    DataUrlStep { status: MORE, len }
+}
+
+/// Decodes a window of a body that is base64.
+fn base64_window(
+    state: &mut DataUrlBody,
+    tail: &[u8],
+    window: &str,
+    end: usize,
+    out: &mut [u8],
+) -> DataUrlStep
+    requires window { IsWindowOf tail.now state.old.from window.now end }
+    requires good { IsGoodBody tail.now state.old }
+    requires base64 { 0 < state.old.is_base64 }
+    requires room { length (plain_body window.now) + 3 ≤ length out.old }
+    requires array { length state.old.left.symbols ≡ 3 }
+    ensures { GoesOn tail.now state.old state.new out.old out.new result.len result.status }
+{
+    let (step, has_fragment) = feed_body(&mut state.left, window, out);
+    if step.status != DONE {
+        return step;
+    }
+    if has_fragment || end == tail.len() {
+        let step = end_body(&state.left, step.len, out);
+        state.left = SPENT;
+        return step;
+    }
+    state.from = end;
+    DataUrlStep {
+        status: MORE,
+        len: step.len,
+    }
+}
+
+/// Returns where the next window ends, or what a call returns that decodes none.
+fn plan(state: &DataUrlBody, tail: &[u8], room: usize) -> Result<usize, DataUrlStep>
+    ensures { IsPlan tail.now state.now room result }
+{
+    if !is_good_body(state, tail) {
+        return Err(DataUrlStep {
+            status: BAD_STATE,
+            len: 0,
+        });
+    }
+    if room < ROOM {
+        return Err(DataUrlStep {
+            status: OUTPUT_TOO_SMALL,
+            len: ROOM,
+        });
+    }
+    let end = window_end(tail, state.from, (room - 3) / 4 * 4);
+    let not_utf8 = DataUrlStep {
+        status: NOT_UTF8,
+        len: 0,
+    };
+    if !is_edge(tail, end) {
+        return Err(not_utf8);
+    }
+    if end == state.from && end < tail.len() {
+        return Err(not_utf8);
+    }
+    Ok(end)
+}
+
+/// Decodes a window of a body.
+fn window_step(
+    state: &mut DataUrlBody,
+    tail: &[u8],
+    window: &str,
+    end: usize,
+    out: &mut [u8],
+) -> DataUrlStep
+    requires window { IsWindowOf tail.now state.old.from window.now end }
+    requires good { IsGoodBody tail.now state.old }
+    requires room { length (plain_body window.now) + 3 ≤ length out.old }
+    ensures { GoesOn tail.now state.old state.new out.old out.new result.len result.status }
+{
+    if state.is_base64 == 0 {
+        return plain_window(state, tail, window, end, out);
+    }
+    let _symbols = state.left.symbols;
+    base64_window(state, tail, window, end, out)
+}
+
+/// Decodes the next part of a body.
+pub(crate) fn next(state: &mut DataUrlBody, tail: &[u8], out: &mut [u8]) -> DataUrlStep
+    ensures { StepsBody tail.now state.old state.new out.old out.new result }
+{
+    let end = match plan(state, tail, out.len()) {
+        Ok(end) => end,
+        Err(step) => return step,
+    };
+    match str::from_utf8(&tail[state.from..end]) {
+        Ok(window) => window_step(state, tail, window, end, out),
+        Err(_) => DataUrlStep {
+            status: NOT_UTF8,
+            len: 0,
+        },
+    }
+}
+
+/// Decodes the next part of a body whose tail is UTF-8.
+pub(crate) fn next_utf8(state: &mut DataUrlBody, tail: &[u8], out: &mut [u8]) -> DataUrlStep
+    requires { IsUtf8 tail.now }
+    ensures { StepsBody tail.now state.old state.new out.old out.new result }
+{
+    let end = match plan(state, tail, out.len()) {
+        Ok(end) => end,
+        Err(step) => return step,
+    };
+    let window = unsafe { str::from_utf8_unchecked(&tail[state.from..end]) };
+    window_step(state, tail, window, end, out)
 }

@@ -15,6 +15,8 @@
 //! | 6 | no MIME type | 0 |
 //! | 7 | the URL has no fragment | 0 |
 //! | 8, 9, 10, 256 and a byte | base64 with padding that does not fit, a lone symbol, a symbol behind padding, an unexpected byte | of what stands before the fault, at the front of the output |
+//! | 11 | the body goes on (`dataurl_body_next`) | of the part that was decoded |
+//! | 12 | a state that no call left | 0 |
 //!
 //! What stands in the output behind the bytes of an answer is as it was; where the length is 0, all of it.
 #![tactic(auto)]
@@ -22,7 +24,7 @@
 ghost use Rattle.std.specs.Prelude.{IsUtf8, length, ◌≤◌};
 ghost use Rattle.data_url.specs.Fetch.{outcome, plain_body};
 ghost use Rattle.data_url_c.specs.Answers.{Answers};
-ghost use Rattle.data_url_c.specs.Bodies.{EndsAs};
+ghost use Rattle.data_url_c.specs.Bodies.{EndsAs, StepsBody};
 ghost use Rattle.data_url_c.specs.Gives.{GivesBase64, GivesBody, GivesFragment, GivesMime, GivesType};
 ghost use Rattle.data_url_c.specs.Opens.{Opens};
 ghost use Rattle.data_url_c.specs.Parts.{FeedsPart, FinishesPart};
@@ -36,9 +38,11 @@ mod output;
 mod parts;
 mod refusal;
 mod texts;
+mod window;
 
 pub use answer::DataUrlAnswer;
 use answer::answer;
+pub use body::DataUrlBody;
 pub use open::DataUrlOpened;
 pub use parts::{DataUrlBase64, DataUrlFed, DataUrlStep};
 pub use refusal::Refusal;
@@ -153,4 +157,31 @@ pub extern "C" fn dataurl_body_whole_utf8(
 {
     let text = unsafe { str::from_utf8_unchecked(tail) };
     body::whole(text, is_base64, out)
+}
+
+/// Decodes the next part of a body into the output, and takes no memory
+/// ([Fetch Standard, section 6](https://fetch.spec.whatwg.org/#data-url-processor)). The state begins with `from` at 0 and
+/// nothing waiting. Each call is given the same tail. While the status is 11, the body goes on.
+#[unsafe(no_mangle)]
+pub extern "C" fn dataurl_body_next(
+    state: &mut DataUrlBody,
+    tail: &[u8],
+    out: &mut [u8],
+) -> DataUrlStep
+    ensures { StepsBody tail.now state.old state.new out.old out.new result }
+{
+    body::next(state, tail, out)
+}
+
+/// Decodes the next part of a body as `dataurl_body_next` does. The tail is UTF-8, and is not checked.
+#[unsafe(no_mangle)]
+pub extern "C" fn dataurl_body_next_utf8(
+    state: &mut DataUrlBody,
+    tail: &[u8],
+    out: &mut [u8],
+) -> DataUrlStep
+    requires { IsUtf8 tail.now }
+    ensures { StepsBody tail.now state.old state.new out.old out.new result }
+{
+    body::next_utf8(state, tail, out)
 }

@@ -23,7 +23,7 @@ pub(crate) fn text_of(bytes: &[u8]) -> Option<&str>
 }
 
 /// The URL of a text.
-fn url_of<'a>(alloc: Global, bytes: &'a [u8]) -> Result<DataUrl<'a>, Refusal>
+pub(crate) fn url_of<'a>(alloc: Global, bytes: &'a [u8]) -> Result<DataUrl<'a>, Refusal>
     ensures { IsUrlFor bytes.entry.now result }
 {
     let Some(text) = text_of(bytes) else {

@@ -1,5 +1,3 @@
-use Rattle.std.proofs.Common.{◌≡◌, subst, sym}
-use Rattle.data_url_c.specs.Opens.{Opens}
 use Rattle.data_url_c.specs.declared.refusal.Refusal.TheVariants.{NotUtf8}
 use Rattle.data_url_c.proofs.OpenLemmas.{opens_refused}
 use Rattle.data_url_c.proofs.dataurl_open.Goals as goal

@@ -1,4 +1,4 @@
-use Rattle.std.proofs.Common.{rules, arith, ◌≡◌, ◌+◌, ◌^◌, ◌-◌, min, ℕ, length, length-append, ap, subst, sym}
+use Rattle.std.proofs.Common.{rules, arith, ◌≡◌, ◌+◌, ◌^◌, ◌-◌, min, ℕ, length, length-append, subst, sym}
 use Rattle.data_url.specs.DataUrl.{url_body}
 use Rattle.data_url.specs.Fetch.{Outcome}
 use Rattle.data_url.proofs.RunMeasures.{body_ends}

@@ -1,4 +1,4 @@
-use Rattle.std.proofs.Common.{◌≡◌, ◌∙◌, ap, refl}
+use Rattle.std.proofs.Common.{◌∙◌, ap, refl}
 use Rattle.std.specs.Prelude.{encode_utf8_all}
 use Rattle.data_url.specs.Mime.{printed}
 use Rattle.data_url.specs.MimeType.{record_of}

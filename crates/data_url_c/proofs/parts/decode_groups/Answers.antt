@@ -1,7 +1,6 @@
-use Rattle.std.proofs.Common.{◌≡◌, ◌++◌, ◌∙◌, ◌≤◌, ap, arith, length, rules, ℕ, List, Err}
+use Rattle.std.proofs.Common.{◌≡◌, ◌++◌, ◌≤◌, arith, length, rules, ℕ, List, Err}
 use Rattle.data_url.specs.Base64.{complete_bytes}
 use Rattle.data_url.specs.declared.forgiving_base64.DecodeError.TheVariants.{InvalidBase64}
-use Rattle.data_url_c.specs.Answers.{status_of_kind}
 use Rattle.data_url_c.specs.Parts.{waiting_text}
 use Rattle.data_url_c.specs.contracts.parts.fn.decode_groups.write as closure
 use Rattle.data_url_c.proofs.LeftLemmas.{complete_length, waiting_length}

@@ -1,4 +1,4 @@
-use Rattle.std.proofs.Common.{rules, ◌≡◌, ◌+◌, ◌<◌, ◌≤◌, ◌∙◌, arith, get_or, length, true, false, refl, subst}
+use Rattle.std.proofs.Common.{rules, ◌≡◌, ◌<◌, arith, get_or, length, true, false, refl, subst}
 use Rattle.std.specs.Char.{is_ascii_whitespace}
 use Rattle.std.specs.Prelude.{◌==◌}
 use Rattle.data_url.specs.Base64.{is_symbol}

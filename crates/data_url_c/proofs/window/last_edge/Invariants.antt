@@ -1,0 +1,14 @@
+use Rattle.std.proofs.Common.{ℕ, ◌<◌, ◌≤◌}
+use Rattle.std.specs.Str.{IsCharBoundary}
+use Rattle.data_url_c.proofs.window.last_edge.Given as goal
+
+-- no place after this one, up to the end, is an edge
+abbrev pub invariant-loop-to : goal.invariant-loop-to
+invariant-loop-to l = record {
+  order : l.from ≤ l.to;
+  within : l.to ≤ l.end;
+  none : (k : ℕ) → l.to < k → k ≤ l.end → IsCharBoundary l.text k → ⊥;
+}
+
+abbrev pub decreases-loop-to : goal.decreases-loop-to
+decreases-loop-to l = l.to
