@@ -75,7 +75,7 @@ static void read_parts(const uint8_t *tail, size_t len, bool is_base64, size_t s
     parts.len = 0;
     parts.status = DATA_URL_MORE;
     for (size_t calls = 0; parts.status == DATA_URL_MORE; calls++) {
-        size_t room = size_of(size), from = state.from;
+        size_t room = size ? size : 8 + below(40), from = state.from;
         struct data_url_answer part = data_url_body_next(&state, tail, len, fresh(room), room);
         add(part.len, room, tail, len);
         parts.status = part.status;
@@ -123,7 +123,7 @@ static void is_whole(const char *what, const uint8_t *text, size_t len) {
 /* A body in parts is what it should be, and nothing is allocated for it. */
 static void url_parts(const uint8_t *url, size_t len, struct data_url_opened opened, size_t most) {
     long before = allocations;
-    for (size_t size = 4; size <= most; size++) {
+    for (size_t size = 8; size <= most; size++) {
         read_parts(url + opened.tail, opened.tail_len, opened.is_base64, size);
         is_whole("a body in parts", url, len);
     }
