@@ -13,7 +13,7 @@ use Rattle.data_url.proofs.FeedLemmas.{two_feeds}
 use Rattle.data_url_c.specs.Bodies.{EndsAs, GoesOn, IsGoodBody, StepsBody, body_left, ended, flag_of, more, no_text, prepend}
 use Rattle.data_url_c.specs.Parts.{IsLeftOf, TakesText, WritesFront, is_good_state, waiting_text}
 use Rattle.data_url_c.specs.Steps.{EndsBehind, IsPlanned, IsWindowOf}
-use Rattle.data_url_c.specs.Windows.{IsCut}
+use Rattle.data_url_c.specs.Steps.Windows.{IsCut}
 use Rattle.data_url_c.specs.declared.body.DataUrlBody.{DataUrlBody}
 use Rattle.data_url_c.specs.declared.parts.DataUrlBase64.{DataUrlBase64}
 use Rattle.data_url_c.specs.declared.parts.DataUrlStep.{DataUrlStep}

@@ -15,7 +15,7 @@ use Rattle.data_url.specs.Percent.{percent_decoding}
 use Rattle.data_url.specs.Url.{before, behind, fragment, front, is_tab_or_newline, without_tabs_and_newlines}
 use Rattle.data_url.proofs.RecodedLemmas.{decoded_keeps, two_digits}
 use Rattle.data_url.proofs.UrlLemmas.{before-append, before_all, behind-dropped_none, dropped_keeps, dropped_nil, dropped_passes, fragment_dropped, without_tabs_and_newlines-append}
-use Rattle.data_url_c.specs.Windows.{BeginsWithoutDigit, IsCut, IsEscapeEnd, IsWindow, is_closed}
+use Rattle.data_url_c.specs.Steps.Windows.{BeginsWithoutDigit, IsCut, IsEscapeEnd, IsWindow, is_closed}
 
 -- nothing after the first '#' matters to what comes before it
 before_left : (d r s : List ℕ) → behind 35 d ≡ Some r → before 35 (d ++ s) ≡ before 35 d

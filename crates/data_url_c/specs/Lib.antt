@@ -4,4 +4,3 @@ pub mod Gives
 pub mod Opens
 pub mod Parts
 pub mod Steps
-pub mod Windows

@@ -1,5 +1,6 @@
 -- What the private steps give: words that no contract of an export cites.
 pub mod Opening
+pub mod Windows
 use Rattle.std.specs.Global.{Global}
 use Rattle.std.specs.Prelude.{Bool, Err, IsUtf8, List, MatchBool, MatchOption, None, Ok, Result, Some, Vec, [], drop, encode_utf8_all, false, is_some, length, min, option_map, slice_index, take, ℕ, ◌++◌, ◌+◌, ◌-◌, ◌<◌, ◌==◌, ◌^◌, ◌∷◌, ◌≡◌, ◌≤◌, ◌⊎◌}
 use Rattle.data_url.specs.DataUrl.{IsAcceptable, IsUrlOf, mime_of, url_body, url_tail}
@@ -21,7 +22,7 @@ use Rattle.data_url_c.specs.Parts.{TakesText, WritesFront, waiting_text}
 use Rattle.std.specs.Str.{IsCharBoundary}
 use Rattle.data_url_c.specs.Bodies.{IsGoodBody, StepsBody}
 use Rattle.data_url_c.specs.declared.body.DataUrlBody.{DataUrlBody}
-use Rattle.data_url_c.specs.Windows.{IsCut}
+use Rattle.data_url_c.specs.Steps.Windows.{IsCut}
 use Rattle.data_url_c.specs.declared.parts.DataUrlBase64.{DataUrlBase64}
 use Rattle.data_url_c.specs.declared.parts.DataUrlStep.{DataUrlStep}
 use Rattle.data_url_c.specs.declared.parts.Last.{Last}

@@ -3,7 +3,7 @@
 ghost use Rattle.std.specs.Prelude.{◌≡◌, ◌+◌, ◌-◌, ◌<◌, ◌≤◌, ℕ, MatchOption, drop, length, slice_index, take, true};
 ghost use Rattle.std.specs.Str.{IsCharBoundary};
 ghost use Rattle.data_url.specs.Url.{is_tab_or_newline, without_tabs_and_newlines};
-ghost use Rattle.data_url_c.specs.Windows.{HoldsEdge, IsEscapeEnd, IsWindow, is_closed};
+ghost use Rattle.data_url_c.specs.Steps.Windows.{HoldsEdge, IsEscapeEnd, IsWindow, is_closed};
 
 /// Returns whether a byte is an ASCII tab or newline.
 fn is_tab_or_newline(byte: u8) -> bool
