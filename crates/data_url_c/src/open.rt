@@ -27,7 +27,7 @@ pub struct DataUrlOpened {
     pub is_base64: bool,
 }
 
-/// What the front of a URL tells: its printed MIME type, and whether the body is base64.
+/// What is known of a URL by its front: its printed MIME type, and whether the body is base64.
 #[derive(Drop)]
 struct Front {
     text: Vec<u8>,
@@ -77,7 +77,7 @@ fn probe_of(alloc: Global, front: &str) -> Result<String, AllocError>
     Ok(text)
 }
 
-/// Returns what a front tells, up to its comma, or None if it is the front of no URL or allocation fails.
+/// Returns what is known by a front, or None if it is the front of no URL or allocation fails.
 fn front_of(alloc: Global, front: &str) -> Option<Front>
     requires { EndsAtComma front.now }
     ensures { MatchOption result (Unit {0}) (IsFront (front.now ++ (81 ∷ 81 ∷ []))) }
