@@ -57,8 +57,8 @@ fn feed_piece(state: &mut DataUrlBase64, piece: &Piece, out: &mut [u8]) -> DataU
     }
 }
 
-/// Writes the body that a text holds, percent-decoded, to an output that has room for it. Returns its length, and whether
-/// the text has a fragment.
+/// Writes the body that a text holds, percent-decoded, to an output that has room for it. Returns its length, and
+/// whether the text has a fragment.
 fn copy_body(text: &str, out: &mut [u8]) -> (usize, bool)
     requires { length (plain_body text.now) ≤ length out.old }
     ensures wrote { WritesFront (plain_body text.now) out.old out.new result.0 }

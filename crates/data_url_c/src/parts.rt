@@ -21,6 +21,9 @@ pub(crate) const BAD_STATE: u32 = 12;
 /// The least room of an output that base64 is fed to: the bytes of what waits and one byte of the text always fit.
 const ROOM: usize = 4;
 
+/// How many bytes a text has at least that is fed in two steps.
+const LONG: usize = 1024;
+
 /// The most padding that waits.
 const PADDING: [u8; 3] = [b'='; 3];
 
@@ -32,7 +35,7 @@ pub struct DataUrlBase64 {
     pub symbols: [u8; 3],
     /// How many symbols wait.
     pub pending: u8,
-    /// The number of `=` so far, where 3 stands for more.
+    /// The number of `=` so far, where 3 means 3 or more.
     pub padding: u8,
 }
 
@@ -279,15 +282,15 @@ fn feed_part(state: &mut DataUrlBase64, text: &[u8], out: &mut [u8]) -> DataUrlS
     step
 }
 
-/// Feeds a text that its output has room for, in two steps: of a text of symbols alone, the first takes whole groups, so
-/// that nothing waits after it and nothing has to be counted.
+/// Feeds a text that its output has room for, a long one in two steps: of a text of symbols alone, the first takes whole
+/// groups, so that nothing waits after it and nothing has to be counted.
 pub(crate) fn feed_text(state: &mut DataUrlBase64, text: &[u8], out: &mut [u8]) -> DataUrlStep
     requires good { is_good_state state.old ≡ true }
     requires room { 3 * (state.old.pending + length text.now) ≤ 4 * length out.old }
     ensures { FeedsText state.old state.new text.now out.old out.new result }
 {
     let pending = usize::from(state.pending);
-    if text.len() < 64 {
+    if text.len() < LONG {
         return feed_part(state, text, out);
     }
     let head = (text.len() - 1) / 4 * 4 - pending;

@@ -79,8 +79,8 @@ fn escape_end(text: &[u8]) -> usize
     at
 }
 
-/// Returns where a window of a tail ends that begins at a place: its body fits the limit, and no escape goes on after it. A
-/// window that ends where it begins is of a tail that is not UTF-8, or at its end.
+/// Returns where a window of a tail ends that begins at a place: its body fits the limit, and no escape goes on after
+/// it. A window that ends where it begins is of a tail that is not UTF-8, or at its end.
 pub(crate) fn window_end(tail: &[u8], from: usize, limit: usize) -> usize
     requires edge { IsCharBoundary tail.now from }
     requires limit { 4 ≤ limit }
