@@ -1,20 +1,15 @@
 -- What is handed to a closure that gathers its pieces.
-use Rattle.std.proofs.Common.{◌≡◌, ℕ, Bool, true, false, cond, List, [], ◌++◌, Option, None, Some, is_some, Result, Ok, Err, refl, sym, ap, ◌∙◌, subst}
-use Rattle.std.specs.Prelude.{MatchBool, MatchOption}
+use Rattle.std.proofs.Common.{◌≡◌, ℕ, List, [], ◌++◌, Option, None, Some, Result, Ok, Err, sym, ◌∙◌, subst}
+use Rattle.std.specs.Prelude.{MatchOption}
 use Rattle.std.proofs.lemmas.List.{append-nil}
-use Rattle.data_url.specs.Base64.{decoded, complete_bytes, first_fault, is_valid, kind_of}
 use Rattle.data_url.specs.DataUrl.{Decodes, HandsOut}
-use Rattle.data_url.specs.Steps.Whole.{DecodesText as DecodesText}
-use Rattle.data_url.specs.Decoder.{IsAll, IsTaken, State}
 use Rattle.data_url.specs.Errors.{IsRefused}
 use Rattle.data_url.specs.Fetch.{Bad, Good, Outcome, outcome_bytes}
 use Rattle.data_url.specs.Run.{Call, IsRun, joined_pieces, refusal}
 use Rattle.data_url.specs.declared.forgiving_base64.DecodeError.{DecodeError}
-use Rattle.data_url.specs.declared.forgiving_base64.DecodeError.TheVariants.{InvalidBase64}
 use Rattle.data_url.proofs.WholeLemmas.{run_keeps}
 use Rattle.dataurl.specs.Output.{End, IsBodyOutput, bad_body, good_body}
 use Rattle.dataurl.specs.Steps.Parts.{AnyAnswer}
-use Rattle.dataurl.specs.Steps.Base64.{FeedsText, IsGroups, IsLast, faulty_groups, last_invalid, last_valid, sound_groups}
 use Rattle.dataurl.specs.Steps.Gathering.{Gathers, IsFlushed, IsSettled, IsStreamed, Settles, Streams, all_streamed, cut_short, flushed, not_flushed}
 use Rattle.dataurl.specs.Runs.{IsProperPrefix}
 use Rattle.dataurl.specs.declared.fault.Fault.TheVariants.{Base64, Write}
@@ -59,48 +54,6 @@ body_ended (Some failed) body bytes after w k r end h b s =
     let stopped = subst P h.answer s in
     output_stopped (IsBodyOutput body) (outcome_bytes body) w k (body_output body).0 end (body_output body).1 (beginning_of w bytes (outcome_bytes body) b h.bytes_begin) stopped.0 stopped.1
 
--- Base64
-
-groups_output : (text : List ℕ) (o : Option ℕ) → first_fault text ≡ o → (end : End) × IsGroups text (complete_bytes text) end
-groups_output text None e = (Ok tt, sound_groups e)
-groups_output text (Some place) e = (Err (Base64 (kind_of text)), faulty_groups (ap is_some e))
-
-groups_handed : (text bytes after w k : List ℕ) (r : Result (Unit {0}) (DecodeError WriteFailed)) (end : End) (P : Type 0) (o : Option ℕ) → first_fault text ≡ o → bytes ≡ complete_bytes text → MatchOption o ((r ≡ Ok tt) × P) (λ place. r ≡ Err (InvalidBase64 (kind_of text))) → bytes ≡ w ++ after → IsSettled r after k end → IsStreamed (IsGroups text) (w ++ k) end
-groups_handed text bytes after w k r end P None f b h e s =
-    let Q : Result (Unit {0}) (DecodeError WriteFailed) → Type 0 = λ x. IsSettled x after k end in
-    output_flushed (IsGroups text) (complete_bytes text) after w k (Ok tt) end (sound_groups f) (sym b ∙ e) (subst Q h.0 s)
-groups_handed text bytes after w k r end P (Some place) f b h e s =
-    let Q : Result (Unit {0}) (DecodeError WriteFailed) → Type 0 = λ x. IsSettled x after k end in
-    output_flushed (IsGroups text) (complete_bytes text) after w k (Err (Base64 (kind_of text))) end (faulty_groups (ap is_some f)) (sym b ∙ e) (subst Q h s)
-
-groups_ended : {F : Type 0} (refused : Option WriteFailed) (text bytes after w k : List ℕ) (r : Result (Unit {0}) (DecodeError WriteFailed)) (d : State F) (end : End) → MatchOption refused (IsTaken text bytes r d) (λ failed. IsRefused (complete_bytes text) bytes failed r) → MatchOption refused (bytes ≡ w ++ after) (λ failed. IsProperPrefix w bytes) → IsSettled r after k end → IsStreamed (IsGroups text) (w ++ k) end
-groups_ended None text bytes after w k r d end h e s = groups_handed text bytes after w k r end _ (first_fault text) refl h.bytes_are h.answer e s
-groups_ended (Some failed) text bytes after w k r d end h b s =
-    let P : Result (Unit {0}) (DecodeError WriteFailed) → Type 0 = λ x. IsSettled x after k end in
-    let stopped = subst P h.answer s in
-    let all = groups_output text (first_fault text) refl in
-    output_stopped (IsGroups text) (complete_bytes text) w k all.0 end all.1 (beginning_of w bytes (complete_bytes text) b h.bytes_begin) stopped.0 stopped.1
-
-last_output : (text : List ℕ) (v : Bool) → is_valid text ≡ v → (end : End) × IsLast text (cond v (decoded text) (complete_bytes text)) end
-last_output text true e = (Ok tt, last_valid e)
-last_output text false e = (Err (Base64 (kind_of text)), last_invalid e)
-
-last_handed : (text bytes after w k : List ℕ) (r : Result (Unit {0}) (DecodeError WriteFailed)) (end : End) (v : Bool) → is_valid text ≡ v → MatchBool v (IsAll text bytes r) ((bytes ≡ complete_bytes text) × (r ≡ Err (InvalidBase64 (kind_of text)))) → bytes ≡ w ++ after → IsSettled r after k end → IsStreamed (IsLast text) (w ++ k) end
-last_handed text bytes after w k r end true v h e s =
-    let P : Result (Unit {0}) (DecodeError WriteFailed) → Type 0 = λ x. IsSettled x after k end in
-    output_flushed (IsLast text) (decoded text) after w k (Ok tt) end (last_valid v) (sym h.bytes_are ∙ e) (subst P h.answer s)
-last_handed text bytes after w k r end false v h e s =
-    let P : Result (Unit {0}) (DecodeError WriteFailed) → Type 0 = λ x. IsSettled x after k end in
-    output_flushed (IsLast text) (complete_bytes text) after w k (Err (Base64 (kind_of text))) end (last_invalid v) (sym h.0 ∙ e) (subst P h.1 s)
-
-last_ended : (refused : Option WriteFailed) (text bytes after w k : List ℕ) (r : Result (Unit {0}) (DecodeError WriteFailed)) (end : End) → MatchOption refused (MatchBool (is_valid text) (IsAll text bytes r) ((bytes ≡ complete_bytes text) × (r ≡ Err (InvalidBase64 (kind_of text))))) (λ failed. IsRefused (cond (is_valid text) (decoded text) (complete_bytes text)) bytes failed r) → MatchOption refused (bytes ≡ w ++ after) (λ failed. IsProperPrefix w bytes) → IsSettled r after k end → IsStreamed (IsLast text) (w ++ k) end
-last_ended None text bytes after w k r end h e s = last_handed text bytes after w k r end (is_valid text) refl h e s
-last_ended (Some failed) text bytes after w k r end h b s =
-    let P : Result (Unit {0}) (DecodeError WriteFailed) → Type 0 = λ x. IsSettled x after k end in
-    let stopped = subst P h.answer s in
-    let all = last_output text (is_valid text) refl in
-    output_stopped (IsLast text) (cond (is_valid text) (decoded text) (complete_bytes text)) w k all.0 end all.1 (beginning_of w bytes (cond (is_valid text) (decoded text) (complete_bytes text)) b h.bytes_begin) stopped.0 stopped.1
-
 -- Closures
 
 module _ {F : Type 0} (step : F → List ℕ → Result (Unit {0}) WriteFailed → F → Type 0) (holds : F → Option (List ℕ)) (waits : F → List ℕ) (gathers : (p : F) (piece : List ℕ) (s : Result (Unit {0}) WriteFailed) (q : F) → step p piece s q → Gathers piece (waits p) (waits q) (holds p) (holds q) s) where
@@ -121,24 +74,7 @@ module _ {F : Type 0} {step : F → List ℕ → Result (Unit {0}) WriteFailed �
   body_streams {body = body} d holds waits gathers e s =
       streams_by step holds waits gathers (IsBodyOutput body) d.run f g r now end d.ran e s (λ w k took settled. body_ended (refusal d.run) body (joined_pieces d.run) (waits g) w k r end d.gave took settled)
 
-  -- a text of base64
-  pub last_streams : {text : List ℕ} → DecodesText step f text r g → (holds : F → Option (List ℕ)) (waits : F → List ℕ) → ((p : F) (piece : List ℕ) (s : Result (Unit {0}) WriteFailed) (q : F) → step p piece s q → Gathers piece (waits p) (waits q) (holds p) (holds q) s) → waits f ≡ [] → Settles r (waits g) (holds g) now end → Streams (IsLast text) (holds f) now end
-  last_streams {text} d holds waits gathers e s =
-      streams_by step holds waits gathers (IsLast text) d.run f g r now end d.ran e s (λ w k took settled. last_ended (refusal d.run) text (joined_pieces d.run) (waits g) w k r end d.gave took settled)
-
-  -- its groups alone
-  pub groups_streams : {text : List ℕ} → FeedsText step f text r g → (holds : F → Option (List ℕ)) (waits : F → List ℕ) → ((p : F) (piece : List ℕ) (s : Result (Unit {0}) WriteFailed) (q : F) → step p piece s q → Gathers piece (waits p) (waits q) (holds p) (holds q) s) → waits f ≡ [] → Settles r (waits g) (holds g) now end → Streams (IsGroups text) (holds f) now end
-  groups_streams {text} d holds waits gathers e s =
-      let P : F → Type 0 = λ x. IsRun step f d.fed.run x in
-      streams_by step holds waits gathers (IsGroups text) d.fed.run f g r now end (subst P d.closure_is d.fed.ran) e s (λ w k took settled. groups_ended (refusal d.fed.run) text (joined_pieces d.fed.run) (waits g) w k r d.state end d.fed.gave took settled)
-
 module _ {F : Type 0} {step : F → List ℕ → Result (Unit {0}) WriteFailed → F → Type 0} {f g : F} {r : Result (Unit {0}) (DecodeError WriteFailed)} where
   -- what each call keeps, all of them keep
   pub body_keeps : {B : Type 0} {most : ℕ} {body : Outcome} → Decodes step f most body AnyAnswer r g → (kept : F → B) → ((p : F) (piece : List ℕ) (s : Result (Unit {0}) WriteFailed) (q : F) → step p piece s q → kept p ≡ kept q) → kept f ≡ kept g
   body_keeps d kept keeps = run_keeps step kept keeps d.run f g d.ran
-
-  pub last_keeps : {B : Type 0} {text : List ℕ} → DecodesText step f text r g → (kept : F → B) → ((p : F) (piece : List ℕ) (s : Result (Unit {0}) WriteFailed) (q : F) → step p piece s q → kept p ≡ kept q) → kept f ≡ kept g
-  last_keeps d kept keeps = run_keeps step kept keeps d.run f g d.ran
-
-  pub groups_keep : {B : Type 0} {text : List ℕ} → FeedsText step f text r g → (kept : F → B) → ((p : F) (piece : List ℕ) (s : Result (Unit {0}) WriteFailed) (q : F) → step p piece s q → kept p ≡ kept q) → kept f ≡ kept g
-  groups_keep d kept keeps = run_keeps step kept keeps d.fed.run f d.state.closure d.fed.ran ∙ ap kept d.closure_is

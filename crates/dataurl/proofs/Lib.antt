@@ -3,7 +3,6 @@ pub mod GatherLemmas
 pub mod CommandLemmas
 pub mod CommandRunLemmas
 pub mod InputLemmas
-pub mod LeftLemmas
 pub mod OutputLemmas
 pub mod ProgramLemmas
 pub mod StepLemmas

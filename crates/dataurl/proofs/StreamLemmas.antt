@@ -1,146 +1,273 @@
--- Base64 that is decoded as it is read.
-use Rattle.std.proofs.Common.{◌≡◌, ℕ, ◌≤◌, List, [], ◌++◌, length, Option, None, Some, is_some, Result, Ok, Err, refl, sym, ap, ◌∙◌, subst}
+-- Base64 that is decoded as it is read: the clause of `run` for the command `base64`.
+use Rattle.std.proofs.Common.{◌≡◌, ◌≤◌, ◌⊎◌, inl, inr, ℕ, Bool, true, false, cond, List, [], ◌++◌, length, Option, None, Some, is_some, Result, Ok, Err, refl, sym, ap, ◌∙◌, subst, arith}
 use Rattle.std.specs.Io.KnownBytes.{Appends, Consumes, IsAtEnd, Keeps}
+use Rattle.std.specs.Prelude.{MatchBool, MatchOption}
 use Rattle.std.proofs.lemmas.List.{append-nil}
-use Rattle.data_url.specs.Base64.{after_groups, decoded, complete_bytes, first_fault, groups, is_valid, kind_of, left_padding, left_symbols, left_text, values}
-use Rattle.data_url.specs.Decoder.{Feeds, State, start}
-use Rattle.data_url.specs.Laws.{GoesOn}
+use Rattle.data_url.specs.Base64.{decoded, complete_bytes, first_fault, is_valid, kind_of}
+use Rattle.data_url.specs.Decoder.{Feeds, Finishes, IsAll, IsTaken, State, start}
+use Rattle.data_url.specs.Errors.{IsRefused}
+use Rattle.data_url.specs.Run.{Call, IsRun, joined_pieces, refusal}
+use Rattle.data_url.specs.Steps.Whole.{DecodesText}
 use Rattle.data_url.specs.declared.forgiving_base64.DecodeError.{DecodeError}
-use Rattle.data_url.proofs.FeedLemmas.{two_feeds}
+use Rattle.data_url.specs.declared.forgiving_base64.DecodeError.TheVariants.{InvalidBase64}
+use Rattle.data_url.proofs.DecoderLemmas.{feeds_then, feeds_took}
+use Rattle.data_url.proofs.RunLemmas.{match_at_none}
+use Rattle.data_url.proofs.WholeLemmas.{decodes_finished, fed_nothing, run_keeps}
 use Rattle.dataurl.specs.Output.{End, IsOutput, of_base64, of_no_base64}
-use Rattle.dataurl.specs.Runs.{IsProperPrefix, IsResult, IsSoundBeforeLastPiece, Runs, base64_not_read, base64_not_written, complete, not_written, stopped}
-use Rattle.dataurl.specs.Steps.Base64.{FeedsText, IsGroups, IsLast, faulty_groups, last_invalid, last_valid, sound_groups}
-use Rattle.dataurl.specs.Steps.Gathering.{IsStreamed, Streams, all_streamed, cut_short}
-use Rattle.dataurl.specs.declared.fault.Fault.{Fault}
-use Rattle.dataurl.specs.declared.fault.Fault.TheVariants.{Base64, Read}
-use Rattle.dataurl.specs.declared.fault.WriteFailed.{WriteFailed}
+use Rattle.dataurl.specs.Runs.{IsProperPrefix, IsResult, IsSoundBeforeLastPiece, Runs, base64_not_read, base64_not_written, complete, not_written, stopped as stopped_at_fault}
+use Rattle.dataurl.specs.Steps.Base64.{DecodesReader, FeedsText, IsDecoded, finished, not_read, stopped}
+use Rattle.dataurl.specs.Steps.Gathering.{Flushes, Gathers, IsFlushed, IsSettled, Settles, flushed, not_flushed}
 use Rattle.dataurl.specs.declared.command.Command.TheVariants.{Base64 as base64}
+use Rattle.dataurl.specs.declared.fault.Fault.TheVariants.{Base64, Read, Write}
+use Rattle.dataurl.specs.declared.fault.WriteFailed.{WriteFailed}
+use Rattle.dataurl.specs.declared.stream.Ended.TheVariants.{Decoded, ReadFailed}
+use Rattle.dataurl.specs.declared.stream.Ended.{Ended}
+use Rattle.dataurl.proofs.GatherLemmas.{run_gathers}
 use Rattle.dataurl.proofs.InputLemmas.{consumes_kept, consumes_none, consumes_then}
-use Rattle.dataurl.proofs.OutputLemmas.{appends_none, appends_then, beginning_behind}
+use Rattle.dataurl.proofs.OutputLemmas.{appends_then, beginning_behind, beginning_of}
 
-none_by : (a b : Option ℕ) → b ≡ None → is_some a ≡ is_some b → a ≡ None
-none_by None b e h = refl
-none_by (Some x) b e h = absurd (let k = h ∙ ap is_some e in cc)
+-- Reading
 
--- A decoder that was new
+module _ {F : Type 0} (step : F → List ℕ → Result (Unit {0}) WriteFailed → F → Type 0) where
+  -- what was read so far has no fault, and the decoder was fed it
+  pub record Reading (f : F) (unread now : Option (List ℕ)) (d : State F) : Type 0 where
+    pub input : List ℕ
+    pub consumed : Consumes unread now input
+    pub fed : Feeds step (start f) input (Ok tt) d
 
-pub feeds_text : {F : Type 0} (step : F → List ℕ → Result (Unit {0}) WriteFailed → F → Type 0) {f g : F} {d d' : State F} {text : List ℕ} {r : Result (Unit {0}) (DecodeError WriteFailed)} → d ≡ start f → Feeds step d text r d' → g ≡ d'.closure → FeedsText step f text r g
-feeds_text {F} step {d' = d'} {text} {r} new fed e =
-    let P : State F → Type 0 = λ x. Feeds step x text r d' in
-    record { state = d'; fed = subst P new fed; closure_is = sym e }
+  pub reading_none : {f : F} {d : State F} (unread : Option (List ℕ)) → d ≡ start f → Reading f unread unread d
+  reading_none unread e = record { input = []; consumed = consumes_none unread; fed = fed_nothing step e }
 
--- What a text leaves goes on
+  no_fault : {f : F} {d : State F} {input : List ℕ} → Feeds step (start f) input (Ok tt) d → first_fault input ≡ None
+  no_fault fed = (feeds_took step fed).1.no_fault
 
--- what a text without a fault leaves, and then a piece
-goes_on : (u piece v : List ℕ) → first_fault u ≡ None → v ≡ left_text (left_symbols u) (left_padding u) ++ piece → GoesOn u piece v
-goes_on u piece v f e = let P : List ℕ → Type 0 = λ s. GoesOn u piece s in subst P (sym e) (two_feeds u piece f)
+  module _ {f : F} {unread now left : Option (List ℕ)} {d : State F} where
+    -- one more piece
+    pub reading_more : {d' : State F} (piece : List ℕ) → Reading f unread now d → Consumes now left piece
+        → Feeds step d piece (Ok tt) d' → Reading f unread left d'
+    reading_more piece h c more = record {
+      input = h.input ++ piece;
+      consumed = consumes_then unread now left h.input piece h.consumed c;
+      fed = feeds_then step h.fed more;
+    }
 
--- nothing behind it
-ends_with : (u v : List ℕ) → first_fault u ≡ None → v ≡ left_text (left_symbols u) (left_padding u) → GoesOn u [] v
-ends_with u v f e = goes_on u [] v f (e ∙ sym (append-nil _))
+    -- a piece with a fault, or whose bytes the closure refused
+    pub reading_stops : {d' : State F} {g : F} {error : DecodeError WriteFailed} (piece : List ℕ)
+        → Reading f unread now d → Consumes now left piece → length piece ≤ 4096
+        → Feeds step d piece (Err error) d' → g ≡ d'.closure
+        → DecodesReader step f unread left (Decoded (Err error)) g
+    reading_stops {d'} piece h c few more e = record {
+      input = h.input ++ piece;
+      consumed = consumes_then unread now left h.input piece h.consumed c;
+      is_decoded = stopped
+          (record { earlier = h.input; last = piece; joined = refl; is_sound = no_fault h.fed; is_piece = few })
+          (record { state = d'; fed = feeds_then step h.fed more; closure_is = sym e });
+    }
 
--- Parts of a text
+    -- the end of the input
+    pub reading_ends : {r : Result (Unit {0}) (DecodeError WriteFailed)} {g : F} (piece : List ℕ)
+        → Reading f unread now d → Consumes now left piece → piece ≡ [] → IsAtEnd left
+        → Finishes step d r g → DecodesReader step f unread left (Decoded r) g
+    reading_ends piece h c z over ends =
+        let same : h.input ++ piece ≡ h.input = ap (λ s. h.input ++ s) z ∙ append-nil h.input in
+        let P : List ℕ → Type 0 = λ s. Consumes unread left s in
+        record {
+          input = h.input;
+          consumed = subst P same (consumes_then unread now left h.input piece h.consumed c);
+          is_decoded = finished over (no_fault h.fed) (decodes_finished step refl h.fed ends);
+        }
 
-groups_bytes : (v w : List ℕ) (end : End) → IsGroups v w end → w ≡ complete_bytes v
-groups_bytes v w end (sound_groups f) = refl
-groups_bytes v w end (faulty_groups f) = refl
+    -- a failed read
+    pub reading_fails : {g : F} → Reading f unread now d → Keeps now left → g ≡ d.closure
+        → DecodesReader step f unread left ReadFailed g
+    reading_fails h k e = record {
+      input = h.input;
+      consumed = consumes_kept unread now left h.input h.consumed k;
+      is_decoded = not_read (record { state = d; fed = h.fed; closure_is = sym e });
+    }
 
-sound_by : (v w : List ℕ) (end : End) → end ≡ Ok tt → IsGroups v w end → (first_fault v ≡ None) × (w ≡ complete_bytes v)
-sound_by v w end e (sound_groups f) = (f, refl)
-sound_by v w end e (faulty_groups f) = absurd (let k = e in cc)
+  -- too many reads
+  pub reading_too_long : {f g : F} {unread now : Option (List ℕ)} {d : State F} → Reading f unread now d → g ≡ d.closure
+      → DecodesReader step f unread now ReadFailed g
+  reading_too_long {d = d} h e = record {
+    input = h.input;
+    consumed = h.consumed;
+    is_decoded = not_read (record { state = d; fed = h.fed; closure_is = sym e });
+  }
 
-groups_sound : (v w : List ℕ) (end : End) → end ≡ Ok tt → IsStreamed (IsGroups v) w end → (first_fault v ≡ None) × (w ≡ complete_bytes v)
-groups_sound v w end e (all_streamed h) = sound_by v w end e h
-groups_sound v w end e (cut_short h b) = absurd (let k = e in cc)
+-- Results: w was written before the last flush, and k by it
 
-fault_by : (u piece v w : List ℕ) (left : Option (List ℕ)) (fault : Fault) (end : End) → end ≡ Err fault → GoesOn u piece v → IsSoundBeforeLastPiece (u ++ piece) → IsGroups v w end → IsResult (u ++ piece) left base64 (complete_bytes u ++ w) end
-fault_by u piece v w left fault end e g sound (sound_groups f) = absurd (let k = e in cc)
-fault_by u piece v w left fault end e g sound (faulty_groups f) =
-    let P : List ℕ → Type 0 = λ s. IsResult (u ++ piece) left base64 s (Err (Base64 (kind_of v))) in
-    let Q : _ → Type 0 = λ kind. IsResult (u ++ piece) left base64 (complete_bytes (u ++ piece)) (Err (Base64 kind)) in
-    subst P g.done_is (subst Q g.kind_is (stopped sound (g.fault_is ∙ f)))
+-- all that was read is sound
+sound_of : (x : List ℕ) → first_fault x ≡ None → IsSoundBeforeLastPiece x
+sound_of x n = record { earlier = x; last = []; joined = sym (append-nil x); is_sound = n; is_piece = omega arith }
 
-groups_stop : (u piece v w : List ℕ) (left : Option (List ℕ)) (fault : Fault) (end : End) → end ≡ Err fault → GoesOn u piece v → IsSoundBeforeLastPiece (u ++ piece) → IsStreamed (IsGroups v) w end → IsResult (u ++ piece) left base64 (complete_bytes u ++ w) end
-groups_stop u piece v w left fault end e g sound (all_streamed h) = fault_by u piece v w left fault end e g sound h
-groups_stop u piece v w left fault end e g sound (cut_short {whole = whole} {end = end'} h b) =
-    let P : List ℕ → Type 0 = λ s. IsProperPrefix (complete_bytes u ++ w) s in
-    base64_not_written sound (subst P (ap (λ s. complete_bytes u ++ s) (groups_bytes v whole end' h) ∙ sym g.done_is) (beginning_behind (complete_bytes u) w whole b))
+-- the last flush, at the end of a whole output
+flush_ends : (x : List ℕ) (left : Option (List ℕ)) (all after w k : List ℕ) (whole end : End) → IsAtEnd left
+    → IsOutput x base64 all whole → all ≡ w ++ after → IsFlushed after whole k end
+    → IsResult x left base64 (w ++ k) end
+flush_ends x left all after w k whole end over p e flushed =
+    let P : List ℕ → Type 0 = λ s. IsOutput x base64 s whole in
+    complete over (subst P e p)
+flush_ends x left all after w k whole end over p e (not_flushed b) =
+    let P : List ℕ → Type 0 = λ s. IsProperPrefix (w ++ k) s in
+    not_written over p (subst P (sym e) (beginning_behind w k after b))
 
--- The last part
+-- the last flush, of the groups before another end
+flush_stops : (x : List ℕ) (left : Option (List ℕ)) (after w k : List ℕ) (last end : End)
+    → IsSoundBeforeLastPiece x → IsResult x left base64 (complete_bytes x) last
+    → complete_bytes x ≡ w ++ after → IsFlushed after last k end → IsResult x left base64 (w ++ k) end
+flush_stops x left after w k last end sound p e flushed =
+    let P : List ℕ → Type 0 = λ s. IsResult x left base64 s last in
+    subst P e p
+flush_stops x left after w k last end sound p e (not_flushed b) =
+    let P : List ℕ → Type 0 = λ s. IsProperPrefix (w ++ k) s in
+    base64_not_written sound (subst P (sym e) (beginning_behind w k after b))
 
-last_whole : (u v w : List ℕ) (end : End) → first_fault u ≡ None → GoesOn u [] v → IsLast v w end → IsOutput u base64 (complete_bytes u ++ w) end
-last_whole u v w end sound g (last_valid f) =
-    let P : List ℕ → Type 0 = λ s. IsOutput u base64 s (Ok tt) in
-    subst P (ap decoded (sym (append-nil u)) ∙ g.decoded_is) (of_base64 (ap is_valid (sym (append-nil u)) ∙ g.valid_is ∙ f))
-last_whole u v w end sound g (last_invalid f) =
-    let P : List ℕ → Type 0 = λ s. IsOutput u base64 s (Err (Base64 (kind_of v))) in
-    let Q : _ → Type 0 = λ kind. IsOutput u base64 (complete_bytes u) (Err (Base64 kind)) in
-    subst P (ap complete_bytes (sym (append-nil u)) ∙ g.done_is) (subst Q (ap kind_of (sym (append-nil u)) ∙ g.kind_is) (of_no_base64 sound (ap is_valid (sym (append-nil u)) ∙ g.valid_is ∙ f)))
+-- the output of a text without a fault, by whether it is valid
+whole_output : (x : List ℕ) (v : Bool) → is_valid x ≡ v → first_fault x ≡ None
+    → (end : End) × IsOutput x base64 (cond v (decoded x) (complete_bytes x)) end
+whole_output x true v n = (Ok tt, of_base64 v)
+whole_output x false v n = (Err (Base64 (kind_of x)), of_no_base64 n v)
 
-last_ends : (u v w : List ℕ) (left : Option (List ℕ)) (end : End) → first_fault u ≡ None → GoesOn u [] v → IsAtEnd left → IsStreamed (IsLast v) w end → IsResult u left base64 (complete_bytes u ++ w) end
-last_ends u v w left end sound g over (all_streamed h) = complete over (last_whole u v w end sound g h)
-last_ends u v w left end sound g over (cut_short {whole = whole} {end = end'} h b) = not_written over (last_whole u v whole end' sound g h) (beginning_behind (complete_bytes u) w whole b)
+finished_ends : (x : List ℕ) (left : Option (List ℕ)) (bytes after w k : List ℕ)
+    (r : Result (Unit {0}) (DecodeError WriteFailed)) (end : End) (v : Bool) → is_valid x ≡ v
+    → IsAtEnd left → first_fault x ≡ None
+    → MatchBool v (IsAll x bytes r) ((bytes ≡ complete_bytes x) × (r ≡ Err (InvalidBase64 (kind_of x))))
+    → bytes ≡ w ++ after → IsSettled r after k end → IsResult x left base64 (w ++ k) end
+finished_ends x left bytes after w k r end true v over n h e s =
+    let P : Result (Unit {0}) (DecodeError WriteFailed) → Type 0 = λ x. IsSettled x after k end in
+    flush_ends x left (decoded x) after w k (Ok tt) end over (of_base64 v) (sym h.bytes_are ∙ e) (subst P h.answer s)
+finished_ends x left bytes after w k r end false v over n h e s =
+    let P : Result (Unit {0}) (DecodeError WriteFailed) → Type 0 = λ x. IsSettled x after k end in
+    flush_ends x left (complete_bytes x) after w k (Err (Base64 (kind_of x))) end over (of_no_base64 n v) (sym h.0 ∙ e) (subst P h.1 s)
 
--- The loop
+-- a closure that refused ends with a failed write: what was written is less than all
+refused_write : {all bytes : List ℕ} (after w k : List ℕ) (r : Result (Unit {0}) (DecodeError WriteFailed)) (end : End)
+    (failed : WriteFailed) → IsRefused all bytes failed r → IsProperPrefix w bytes → IsSettled r after k end
+    → IsProperPrefix (w ++ k) all × (end ≡ Err Write)
+refused_write {all} {bytes} after w k r end failed h b s =
+    let P : Result (Unit {0}) (DecodeError WriteFailed) → Type 0 = λ x. IsSettled x after k end in
+    let Q : List ℕ → Type 0 = λ s. IsProperPrefix s all in
+    let q = subst P h.answer s in
+    (subst Q (sym (ap (λ s. w ++ s) q.0 ∙ append-nil w)) (beginning_of w bytes all b h.bytes_begin), q.1)
 
--- what was read has no fault, its groups were written, and what it leaves is kept
-pub record Reading (unread now held then : Option (List ℕ)) (kept : List ℕ) : Type 0 where
-  pub input : List ℕ
-  pub consumed : Consumes unread now input
-  pub appended : Appends held then (complete_bytes input)
-  pub no_fault : first_fault input ≡ None
-  pub kept_is : kept ≡ left_text (left_symbols input) (left_padding input)
+finished_result : (refused : Option WriteFailed) (x : List ℕ) (left : Option (List ℕ)) (bytes after w k : List ℕ)
+    (r : Result (Unit {0}) (DecodeError WriteFailed)) (end : End) → IsAtEnd left → first_fault x ≡ None
+    → MatchOption refused
+    (MatchBool (is_valid x) (IsAll x bytes r) ((bytes ≡ complete_bytes x) × (r ≡ Err (InvalidBase64 (kind_of x)))))
+    (λ failed. IsRefused (cond (is_valid x) (decoded x) (complete_bytes x)) bytes failed r)
+    → MatchOption refused (bytes ≡ w ++ after) (λ failed. IsProperPrefix w bytes)
+    → IsSettled r after k end → IsResult x left base64 (w ++ k) end
+finished_result None x left bytes after w k r end over n h e s =
+    finished_ends x left bytes after w k r end (is_valid x) refl over n h e s
+finished_result (Some failed) x left bytes after w k r end over n h b s =
+    let q = refused_write after w k r end failed h b s in
+    let P : End → Type 0 = λ e. IsResult x left base64 (w ++ k) e in
+    subst P (sym q.1) (not_written over (whole_output x (is_valid x) refl n).1 q.0)
 
-pub reading_none : (unread held : Option (List ℕ)) → Reading unread unread held held []
-unfolding after_groups complete_bytes first_fault groups left_padding left_symbols values
-reading_none unread held = record { input = []; consumed = consumes_none unread; appended = appends_none held; no_fault = refl; kept_is = refl }
+stopped_ends : (x : List ℕ) (left : Option (List ℕ)) (bytes after w k : List ℕ)
+    (r : Result (Unit {0}) (DecodeError WriteFailed)) (error : DecodeError WriteFailed) (end : End) (P : Type 0)
+    (o : Option ℕ) → first_fault x ≡ o → r ≡ Err error → IsSoundBeforeLastPiece x → bytes ≡ complete_bytes x
+    → MatchOption o ((r ≡ Ok tt) × P) (λ place. r ≡ Err (InvalidBase64 (kind_of x))) → bytes ≡ w ++ after
+    → IsSettled r after k end → IsResult x left base64 (w ++ k) end
+stopped_ends x left bytes after w k r error end P None f q sound b h e s = absurd (let k = h.0 in cc)
+stopped_ends x left bytes after w k r error end P (Some place) f q sound b h e s =
+    let Q : Result (Unit {0}) (DecodeError WriteFailed) → Type 0 = λ x. IsSettled x after k end in
+    flush_stops x left after w k (Err (Base64 (kind_of x))) end sound (stopped_at_fault sound (ap is_some f)) (sym b ∙ e) (subst Q h s)
 
-module _ {unread now left held then later : Option (List ℕ)} {kept : List ℕ} where
-  -- one more piece
-  pub reading_more : {kept' text : List ℕ} (piece : List ℕ) → Reading unread now held then kept → Consumes now left piece → text ≡ kept ++ piece → Streams (IsGroups text) then later (Ok tt) → kept' ≡ left_text (left_symbols text) (left_padding text) → Reading unread left held later kept'
-  reading_more {kept'} {text} piece h c e w k =
-      let g = goes_on h.input piece text h.no_fault (e ∙ ap (λ s. s ++ piece) h.kept_is) in
-      let sound = groups_sound text w.written (Ok tt) refl w.is_streamed in
-      let same : complete_bytes h.input ++ w.written ≡ complete_bytes (h.input ++ piece) = ap (λ s. complete_bytes h.input ++ s) sound.1 ∙ sym g.done_is in
-      let P : List ℕ → Type 0 = λ s. Appends held later s in
+stopped_result : {F : Type 0} (refused : Option WriteFailed) (x : List ℕ) (left : Option (List ℕ))
+    (bytes after w k : List ℕ) (r : Result (Unit {0}) (DecodeError WriteFailed)) (error : DecodeError WriteFailed)
+    (d : State F) (end : End) → r ≡ Err error → IsSoundBeforeLastPiece x
+    → MatchOption refused (IsTaken x bytes r d) (λ failed. IsRefused (complete_bytes x) bytes failed r)
+    → MatchOption refused (bytes ≡ w ++ after) (λ failed. IsProperPrefix w bytes)
+    → IsSettled r after k end → IsResult x left base64 (w ++ k) end
+stopped_result None x left bytes after w k r error d end q sound h e s =
+    stopped_ends x left bytes after w k r error end _ (first_fault x) refl q sound h.bytes_are h.answer e s
+stopped_result (Some failed) x left bytes after w k r error d end q sound h b s =
+    let q = refused_write after w k r end failed h b s in
+    let P : End → Type 0 = λ e. IsResult x left base64 (w ++ k) e in
+    subst P (sym q.1) (base64_not_written sound q.0)
+
+-- Closures that gather
+
+module _ {F : Type 0} {step : F → List ℕ → Result (Unit {0}) WriteFailed → F → Type 0} where
+  decoded_or : {f : F} {x : List ℕ} {left : Option (List ℕ)} {ended : Ended} {g : F}
+      (r : Result (Unit {0}) (DecodeError WriteFailed)) → ended ≡ Decoded r → IsDecoded step f x left ended g
+      → (IsAtEnd left × (first_fault x ≡ None) × DecodesText step f x r g)
+      ⊎ ((error : DecodeError WriteFailed) × (r ≡ Err error) × IsSoundBeforeLastPiece x × FeedsText step f x r g)
+  decoded_or {f} {x} {left} {ended} {g} r e (finished {r = s} over n d) =
+      let P : Result (Unit {0}) (DecodeError WriteFailed) → Type 0 = λ s. DecodesText step f x s g in
+      let same : s ≡ r = cc in
+      inl (over, n, subst P same d)
+  decoded_or {f} {x} {left} {ended} {g} r e (stopped {error = error} sound d) =
+      let P : Result (Unit {0}) (DecodeError WriteFailed) → Type 0 = λ s. FeedsText step f x s g in
+      let same : Err error ≡ r = cc in
+      inr (error, sym same, sound, subst P same d)
+  decoded_or {f} {x} {left} {ended} {g} r e (not_read d) = absurd (let k = e in cc)
+
+  unread_fed : {f : F} {x : List ℕ} {left : Option (List ℕ)} {ended : Ended} {g : F} → ended ≡ ReadFailed
+      → IsDecoded step f x left ended g → FeedsText step f x (Ok tt) g
+  unread_fed e (finished over n d) = absurd (let k = e in cc)
+  unread_fed e (stopped sound d) = absurd (let k = e in cc)
+  unread_fed e (not_read d) = d
+
+  -- what each call keeps, all of them keep
+  decoded_keeps : {B : Type 0} {f : F} {x : List ℕ} {left : Option (List ℕ)} {ended : Ended} {g : F} (kept : F → B)
+      → ((p : F) (piece : List ℕ) (s : Result (Unit {0}) WriteFailed) (q : F) → step p piece s q → kept p ≡ kept q)
+      → IsDecoded step f x left ended g → kept f ≡ kept g
+  decoded_keeps {f = f} {g = g} kept keeps (finished over n d) = run_keeps step kept keeps d.run f g d.ran
+  decoded_keeps {f = f} kept keeps (stopped sound d) = run_keeps step kept keeps d.fed.run f d.state.closure d.fed.ran ∙ ap kept d.closure_is
+  decoded_keeps {f = f} kept keeps (not_read d) = run_keeps step kept keeps d.fed.run f d.state.closure d.fed.ran ∙ ap kept d.closure_is
+
+  pub reader_keeps : {B : Type 0} {f g : F} {unread left : Option (List ℕ)} {ended : Ended}
+      → DecodesReader step f unread left ended g → (kept : F → B)
+      → ((p : F) (piece : List ℕ) (s : Result (Unit {0}) WriteFailed) (q : F) → step p piece s q → kept p ≡ kept q)
+      → kept f ≡ kept g
+  reader_keeps d kept keeps = decoded_keeps kept keeps d.is_decoded
+
+  -- pieces that were gathered by a closure with nothing waiting before, and then a last flush
+  runs_by : {f g : F} {unread left now : Option (List ℕ)} {end : End} (holds : F → Option (List ℕ)) (waits : F → List ℕ)
+      → ((p : F) (piece : List ℕ) (s : Result (Unit {0}) WriteFailed) (q : F) → step p piece s q → Gathers piece (waits p) (waits q) (holds p) (holds q) s)
+      → (cs : List (Call F WriteFailed)) (h : F) (x k : List ℕ) → IsRun step f cs h → h ≡ g → waits f ≡ []
+      → Consumes unread left x → Appends (holds g) now k
+      → ((w : List ℕ) → MatchOption (refusal cs) (joined_pieces cs ≡ w ++ waits g) (λ failed. IsProperPrefix w (joined_pieces cs)) → IsResult x left base64 (w ++ k) end)
+      → Runs base64 unread left (holds f) now end
+  runs_by {f} {g} {now = now} holds waits gathers cs h x k ran same e c a ends =
+      let P : F → Type 0 = λ s. IsRun step f cs s in
+      let w = run_gathers step holds waits gathers cs f g (subst P same ran) in
+      let Q : List ℕ → Type 0 = λ before. MatchOption (refusal cs) (before ++ joined_pieces cs ≡ w.written ++ waits g) (λ failed. IsProperPrefix w.written (before ++ joined_pieces cs)) in
       record {
-        input = h.input ++ piece;
-        consumed = consumes_then unread now left h.input piece h.consumed c;
-        appended = subst P same (appends_then held then later (complete_bytes h.input) w.written h.appended w.appended);
-        no_fault = none_by (first_fault (h.input ++ piece)) (first_fault text) sound.0 g.fault_is;
-        kept_is = k ∙ ap (λ q. left_text q (left_padding text)) (sym g.symbols_left) ∙ ap (λ p. left_text (left_symbols (h.input ++ piece)) p) (sym g.padding_left);
+        input = x;
+        written = w.written ++ k;
+        consumed = c;
+        appended = appends_then (holds f) (holds g) now w.written k w.appended a;
+        is_run = ends w.written (subst Q e w.took);
       }
 
-  -- a piece with a fault, or whose bytes were not written
-  pub reading_stops : {text : List ℕ} {fault : Fault} (piece : List ℕ) → Reading unread now held then kept → Consumes now left piece → length piece ≤ 4096 → text ≡ kept ++ piece → Streams (IsGroups text) then later (Err fault) → Runs base64 unread left held later (Err fault)
-  reading_stops {text} {fault} piece h c few e w =
-      let g = goes_on h.input piece text h.no_fault (e ∙ ap (λ s. s ++ piece) h.kept_is) in
-      let sound : IsSoundBeforeLastPiece (h.input ++ piece) = record { earlier = h.input; last = piece; joined = refl; is_sound = h.no_fault; is_piece = few } in
-      record {
-        input = h.input ++ piece;
-        written = complete_bytes h.input ++ w.written;
-        consumed = consumes_then unread now left h.input piece h.consumed c;
-        appended = appends_then held then later (complete_bytes h.input) w.written h.appended w.appended;
-        is_run = groups_stop h.input piece text w.written left fault (Err fault) refl g sound w.is_streamed;
-      }
+  -- the input was decoded as far as it was read
+  pub decoded_runs : {f g : F} {unread left now : Option (List ℕ)} {ended : Ended} {end : End} {r : Result (Unit {0}) (DecodeError WriteFailed)}
+      → DecodesReader step f unread left ended g → ended ≡ Decoded r
+      → (holds : F → Option (List ℕ)) (waits : F → List ℕ)
+      → ((p : F) (piece : List ℕ) (s : Result (Unit {0}) WriteFailed) (q : F) → step p piece s q → Gathers piece (waits p) (waits q) (holds p) (holds q) s)
+      → waits f ≡ [] → Settles r (waits g) (holds g) now end → Runs base64 unread left (holds f) now end
+  decoded_runs {f} {g} {unread} {left} {now} {ended} {end} {r} d e holds waits gathers z s = elim (decoded_or r e d.is_decoded) [
+    | inl h ↦
+        runs_by holds waits gathers h.2.run g d.input s.written h.2.ran refl z d.consumed s.appended
+        (λ w took. finished_result (refusal h.2.run) d.input left (joined_pieces h.2.run) (waits g) w s.written r end h.0 h.1 h.2.gave took s.is_settled)
+    | inr h ↦
+        let fed = h.3.fed in
+        runs_by holds waits gathers fed.run h.3.state.closure d.input s.written fed.ran h.3.closure_is z d.consumed s.appended
+        (λ w took. stopped_result (refusal fed.run) d.input left (joined_pieces fed.run) (waits g) w s.written r h.0 h.3.state end h.1 h.2 fed.gave took s.is_settled)
+  ]
 
-  -- the end
-  pub reading_ends : {text : List ℕ} {end : End} (piece : List ℕ) → Reading unread now held then kept → Consumes now left piece → piece ≡ [] → IsAtEnd left → text ≡ kept → Streams (IsLast text) then later end → Runs base64 unread left held later end
-  reading_ends {text} {end} piece h c z over e w =
-      let g = ends_with h.input text h.no_fault (e ∙ h.kept_is) in
-      let all = consumes_then unread now left h.input piece h.consumed c in
-      let same : h.input ++ piece ≡ h.input = ap (λ s. h.input ++ s) z ∙ append-nil h.input in
-      let P : List ℕ → Type 0 = λ s. Consumes unread left s in
-      record {
-        input = h.input;
-        written = complete_bytes h.input ++ w.written;
-        consumed = subst P same all;
-        appended = appends_then held then later (complete_bytes h.input) w.written h.appended w.appended;
-        is_run = last_ends h.input text w.written left end h.no_fault g over w.is_streamed;
-      }
-
-pub reading_fails : {unread now left held then : Option (List ℕ)} {kept : List ℕ} → Reading unread now held then kept → Keeps now left → Runs base64 unread left held then (Err Read)
-reading_fails {unread} {now} {left} h k = record { input = h.input; written = complete_bytes h.input; consumed = consumes_kept unread now left h.input h.consumed k; appended = h.appended; is_run = base64_not_read h.no_fault }
-
-pub reading_too_long : {unread now held then : Option (List ℕ)} {kept : List ℕ} → Reading unread now held then kept → Runs base64 unread now held then (Err Read)
-reading_too_long h = record { input = h.input; written = complete_bytes h.input; consumed = h.consumed; appended = h.appended; is_run = base64_not_read h.no_fault }
+  -- a read failed
+  pub unread_runs : {f g : F} {unread left now : Option (List ℕ)} {ended : Ended} {end : End}
+      → DecodesReader step f unread left ended g → ended ≡ ReadFailed
+      → (holds : F → Option (List ℕ)) (waits : F → List ℕ)
+      → ((p : F) (piece : List ℕ) (s : Result (Unit {0}) WriteFailed) (q : F) → step p piece s q → Gathers piece (waits p) (waits q) (holds p) (holds q) s)
+      → waits f ≡ [] → Flushes (waits g) (Err Read) (holds g) now end → Runs base64 unread left (holds f) now end
+  unread_runs {f} {g} {unread} {left} {now} {ended} {end} d e holds waits gathers z s =
+      let h = unread_fed e d.is_decoded in
+      let t = feeds_took step h.fed in
+      runs_by holds waits gathers h.fed.run h.state.closure d.input s.written h.fed.ran h.closure_is z d.consumed s.appended
+      (λ w took. flush_stops d.input left (waits g) w s.written (Err Read) end (sound_of d.input t.1.no_fault) (base64_not_read t.1.no_fault) (sym t.1.bytes_are ∙ match_at_none (refusal h.fed.run) _ _ t.0 took) s.is_flushed)

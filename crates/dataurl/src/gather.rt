@@ -75,7 +75,7 @@ impl Gathered {
     }
 
     /// Writes what waits, and then answers the end.
-    fn flush_before<W: Write>(
+    pub(crate) fn flush_before<W: Write>(
         &mut self,
         end: Result<(), Fault>,
         writer: &mut W,

@@ -15,8 +15,14 @@ use std::alloc::{AllocError, Global};
 use std::fmt;
 use std::process::Abort;
 
+/// Returns what a failed assertion shows of the text that it is about: the front of a long one.
+fn shown(about: &str) -> &str {
+    about.get(..60).unwrap_or(about)
+}
+
 /// Asserts that bytes are these.
 fn assert_same(rt: &impl Abort, about: &str, found: &[u8], wanted: &[u8]) {
+    let about = shown(about);
     assert!(rt; found == wanted, "{about}");
 }
 

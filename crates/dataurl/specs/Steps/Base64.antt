@@ -1,11 +1,14 @@
--- What decoding a part of a text of base64 does.
-use Rattle.std.specs.Prelude.{◌≡◌, Err, List, None, Ok, Result, false, is_some, true, ℕ}
-use Rattle.data_url.specs.Base64.{decoded, complete_bytes, first_fault, is_valid, kind_of}
+-- What decoding the base64 of a reader does.
+use Rattle.std.specs.Io.KnownBytes.{Consumes, IsAtEnd}
+use Rattle.std.specs.Prelude.{◌≡◌, Err, List, None, Ok, Option, Result, ℕ}
+use Rattle.data_url.specs.Base64.{first_fault}
 use Rattle.data_url.specs.Decoder.{Feeds, State, start}
+use Rattle.data_url.specs.Steps.Whole.{DecodesText}
 use Rattle.data_url.specs.declared.forgiving_base64.DecodeError.{DecodeError}
-use Rattle.dataurl.specs.Output.{End}
-use Rattle.dataurl.specs.declared.fault.Fault.TheVariants.{Base64}
+use Rattle.dataurl.specs.Runs.{IsSoundBeforeLastPiece}
 use Rattle.dataurl.specs.declared.fault.WriteFailed.{WriteFailed}
+use Rattle.dataurl.specs.declared.stream.Ended.TheVariants.{Decoded, ReadFailed}
+use Rattle.dataurl.specs.declared.stream.Ended.{Ended}
 
 -- a new decoder over the closure f was fed the text, and its closure is g now
 pub record FeedsText {F : Type 0} (step : F → List ℕ → Result (Unit {0}) WriteFailed → F → Type 0)
@@ -14,14 +17,19 @@ pub record FeedsText {F : Type 0} (step : F → List ℕ → Result (Unit {0}) W
   pub fed : Feeds step (start f) text r state
   pub closure_is : state.closure ≡ g
 
--- the bytes of a text's groups before its first fault, and that fault
-pub data IsGroups (text : List ℕ) : List ℕ → End → Type 0 where
-  sound_groups : first_fault text ≡ None → IsGroups text (complete_bytes text) (Ok tt)
-  faulty_groups : is_some (first_fault text) ≡ true
-      → IsGroups text (complete_bytes text) (Err (Base64 (kind_of text)))
+-- the bytes that were read were decoded: all to the end, or up to a fault or a closure's error in the
+-- last piece, or up to a failed read
+pub data IsDecoded {F : Type 0} (step : F → List ℕ → Result (Unit {0}) WriteFailed → F → Type 0)
+    (f : F) (x : List ℕ) (left : Option (List ℕ)) : Ended → F → Type 0 where
+  finished : {r : Result (Unit {0}) (DecodeError WriteFailed)} {g : F} → IsAtEnd left
+      → first_fault x ≡ None → DecodesText step f x r g → IsDecoded step f x left (Decoded r) g
+  stopped : {error : DecodeError WriteFailed} {g : F} → IsSoundBeforeLastPiece x
+      → FeedsText step f x (Err error) g → IsDecoded step f x left (Decoded (Err error)) g
+  not_read : {g : F} → FeedsText step f x (Ok tt) g → IsDecoded step f x left ReadFailed g
 
--- the bytes of a text that goes no further
-pub data IsLast (text : List ℕ) : List ℕ → End → Type 0 where
-  last_valid : is_valid text ≡ true → IsLast text (decoded text) (Ok tt)
-  last_invalid : is_valid text ≡ false
-      → IsLast text (complete_bytes text) (Err (Base64 (kind_of text)))
+-- a reader gave bytes, and a new decoder over the closure f decoded them
+pub record DecodesReader {F : Type 0} (step : F → List ℕ → Result (Unit {0}) WriteFailed → F → Type 0)
+    (f : F) (unread left : Option (List ℕ)) (ended : Ended) (g : F) : Type 0 where
+  pub input : List ℕ
+  pub consumed : Consumes unread left input
+  pub is_decoded : IsDecoded step f input left ended g

@@ -1,6 +1,6 @@
 //! MIME types: texts, records, and what is printed.
 
-use super::assert_printed;
+use super::{assert_printed, shown};
 use data_url::laws::{canonical, same_text};
 use data_url::mime::Mime;
 use std::alloc::{AllocError, Global};
@@ -73,6 +73,7 @@ pub fn assert_read_again(
     let printed = format!(in alloc; "{mime}")?;
     let again = Mime::from_str(alloc, printed.as_str())?;
     let copy = mime.clone()?;
+    let about = shown(about);
     assert!(rt; again == *mime && copy == *mime, "{about}");
     Ok(())
 }

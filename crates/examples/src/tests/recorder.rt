@@ -1,6 +1,6 @@
 //! What the calls that decode hand to a closure.
 
-use super::assert_same;
+use super::{assert_same, shown};
 use data_url::forgiving_base64::{DecodeError, Decoder};
 use data_url::{DataUrl, FragmentIdentifier};
 use std::alloc::{AllocError, Global};
@@ -70,12 +70,14 @@ impl Record {
     pub fn assert_is(&self, rt: &impl Abort, about: &str, bytes: &[u8], answer: &str) {
         assert_same(rt, about, self.bytes.as_slice(), bytes);
         assert_same(rt, about, self.answer.as_bytes(), answer.as_bytes());
+        let about = shown(about);
         assert!(rt; !self.lengths.as_slice().contains(&0), "{about}");
     }
 
     /// Asserts that another record is the same, piece for piece.
     fn assert_equals(&self, rt: &impl Abort, about: &str, other: &Record) {
         self.assert_is(rt, about, other.bytes.as_slice(), other.answer.as_str());
+        let about = shown(about);
         assert!(rt; self.lengths == other.lengths, "{about}");
     }
 }
@@ -201,6 +203,7 @@ impl<'a> Source<'a> {
             let record = self.record_both(rt, alloc, about, refused)?;
             let line = format!(in alloc; "write error: {refused}")?;
             assert_same(rt, about, record.answer.as_bytes(), line.as_bytes());
+            let about = shown(about);
             assert!(rt; record.lengths.len() == refused, "{about}");
             assert!(rt; bytes.starts_with(record.bytes.as_slice()), "{about}");
         }

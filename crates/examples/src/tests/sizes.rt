@@ -86,9 +86,17 @@ fn long_types(rt: HostRuntime) -> Result<(), Fail> {
 }
 
 #[test]
-fn large_texts(rt: HostRuntime) -> Result<(), Fail> {
-    assert_parts(&rt, rt.alloc(), LARGE)?;
-    assert_groups(&rt, rt.alloc(), LARGE / 4)?;
+fn large_urls(rt: HostRuntime) -> Result<(), Fail> {
+    assert_parts(&rt, rt.alloc(), LARGE)
+}
+
+#[test]
+fn large_base64(rt: HostRuntime) -> Result<(), Fail> {
+    assert_groups(&rt, rt.alloc(), LARGE / 4)
+}
+
+#[test]
+fn large_types(rt: HostRuntime) -> Result<(), Fail> {
     assert_types(&rt, rt.alloc(), LARGE)
 }
 
