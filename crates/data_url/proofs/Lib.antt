@@ -33,6 +33,7 @@ pub mod LaneLemmas
 pub mod MarkLemmas
 pub mod MediaLemmas
 mod MimeExamples
+mod PieceExamples
 pub mod NextLemmas
 pub mod OnLiterals
 pub mod ParameterLemmas
