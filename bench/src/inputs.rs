@@ -1,6 +1,8 @@
 //! The rows of the table, each with its text.
 
-use crate::{bindings, ours, theirs, Call};
+#[cfg(not(feature = "against"))]
+use crate::bindings;
+use crate::{ours, theirs, Call};
 
 pub struct Row {
     pub name: String,
@@ -42,17 +44,21 @@ impl Numbers {
     }
 }
 
-/// Base64 of so many symbols, a multiple of four, in lines of so many, or in one line.
-fn base64(len: usize, line: usize) -> Vec<u8> {
+/// Base64 of so many symbols, a multiple of four, with a break after each so many of them, or with none.
+fn base64_with(len: usize, line: usize, break_: &str) -> Vec<u8> {
     let mut numbers = Numbers(7);
     let mut text = vec![];
     for place in 0..len / 4 * 4 {
         if line > 0 && place > 0 && place % line == 0 {
-            text.push(b'\n');
+            text.extend(break_.bytes());
         }
         text.push(ALPHABET[numbers.below(64)]);
     }
     text
+}
+
+fn base64(len: usize, line: usize) -> Vec<u8> {
+    base64_with(len, line, "\n")
 }
 
 /// A body of so many bytes, of which about so many in a hundred that it stands for are escapes.
@@ -149,10 +155,21 @@ fn push_processed(rows: &mut Vec<Row>, name: &str, text: Vec<u8>) {
 }
 
 fn push_base64(rows: &mut Vec<Row>) {
-    for (line, kind) in [(0, "clean"), (76, "lines")] {
+    for len in [4, 8, 22, 44] {
+        let mut text = base64(len + 2, 0);
+        text.truncate(len);
+        let name = format!("base64 short {len} decode_to_vec");
+        rows.push(row(name, text, ours::base64_to_vec, theirs::base64_to_vec));
+    }
+    for (line, kind, break_) in [
+        (0, "clean", ""),
+        (76, "lines", "\n"),
+        (60, "crlf", "\r\n"),
+        (76, "indented", "\n    "),
+    ] {
         for (len, size) in SIZES {
             let name = format!("base64 {kind} {size}");
-            let text = base64(len, line);
+            let text = base64_with(len, line, break_);
             let copy = text.clone();
             rows.push(row(
                 format!("{name} decode_to_vec"),
@@ -206,6 +223,7 @@ fn push_parameters(rows: &mut Vec<Row>, count: usize) {
 }
 
 /// Rows of `bindings/rust` beside the crate whose place it takes.
+#[cfg(not(feature = "against"))]
 fn push_bindings(rows: &mut Vec<Row>) {
     for (name, text) in SHORT {
         let text = text.as_bytes().to_vec();
@@ -287,6 +305,7 @@ pub fn rows() -> Vec<Row> {
             theirs::fragment,
         ));
     }
+    #[cfg(not(feature = "against"))]
     push_bindings(&mut rows);
     push_parameters(&mut rows, 100);
     push_parameters(&mut rows, 100_000);

@@ -1,18 +1,42 @@
-//! Times each public call of the library beside the same call of the Rust crate `data-url`, and prints a table.
+//! Times each public call of the library beside the same call of the Rust crate `data-url`, or with the feature `against` of
+//! the library of another commit, and prints a table.
 //!
 //! In each round ours, theirs and a copy of the text are timed in turn, and what is printed are medians over the rounds: so a
 //! busy machine slows all of a round alike.
 
 mod inputs;
-mod ours;
+
+/// The calls of the library as it is.
+mod ours {
+    macro_rules! symbol {
+        ($export:ident) => {
+            stringify!($export)
+        };
+    }
+    include!("ours.rs");
+}
+
+/// The calls of the library of another commit, whose symbols `bench/run` gave a prefix.
+#[cfg(feature = "against")]
+mod theirs {
+    macro_rules! symbol {
+        ($export:ident) => {
+            concat!("before_", stringify!($export))
+        };
+    }
+    include!("ours.rs");
+}
 
 /// The calls of the Rust crate `data-url`.
+#[cfg(not(feature = "against"))]
 mod theirs {
     use published as library;
     include!("calls.rs");
 }
 
 /// The calls of `bindings/rust`, which takes its place.
+#[cfg(not(feature = "against"))]
+#[allow(dead_code)]
 mod bindings {
     use proved as library;
     include!("calls.rs");
@@ -111,7 +135,7 @@ fn main() {
     }
     println!(
         "{:<44} {:>8} {:>7} {:>10} {:>10} {:>8} {:>12}",
-        "row", "bytes", "times", "ours ns/B", "crate ns/B", "copy", "ours ns"
+        "row", "bytes", "times", "ours ns/B", "their ns/B", "copy", "ours ns"
     );
     for row in &rows {
         measure(row);

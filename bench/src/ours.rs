@@ -1,10 +1,12 @@
-//! The calls of the library of this repository, as `data_url_bench` exports them.
+// The calls of a library of this repository, as `data_url_bench` exports them. It is included where `symbol!` makes the name
+// of a symbol from that of an export.
 
 /// A slice as the library takes it: a pointer and a length. `Global`, the first parameter of most exports, takes no bytes.
 macro_rules! exports {
     ($($name:ident = $export:ident;)*) => {
         extern "C" {
-            $(fn $export(text: *const u8, len: usize, out: *mut u8, room: usize) -> usize;)*
+            $(#[link_name = symbol!($export)]
+            fn $export(text: *const u8, len: usize, out: *mut u8, room: usize) -> usize;)*
         }
         $(pub fn $name(text: &[u8], out: &mut [u8]) -> usize {
             unsafe { $export(text.as_ptr(), text.len(), out.as_mut_ptr(), out.len()) }
@@ -23,7 +25,9 @@ exports! {
 }
 
 extern "C" {
+    #[link_name = symbol!(data_url_process)]
     fn data_url_process(text: *const u8, len: usize) -> usize;
+    #[link_name = symbol!(data_url_mime)]
     fn data_url_mime(text: *const u8, len: usize) -> usize;
 }
 

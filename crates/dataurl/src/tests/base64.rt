@@ -94,7 +94,7 @@ fn no_read_after_a_fault(rt: HostRuntime) -> Result<(), Fail> {
 }
 
 #[test]
-fn each_read_is_written(rt: HostRuntime) -> Result<(), Fail> {
+fn few_writes(rt: HostRuntime) -> Result<(), Fail> {
     let alloc = rt.alloc();
     for groups in [1, 1000, 1365, 1366, 2731, 5462] {
         let text = "QUJD".repeat(alloc, groups)?;
@@ -110,7 +110,7 @@ fn each_read_is_written(rt: HostRuntime) -> Result<(), Fail> {
                 ended.written.as_slice() == bytes.as_bytes(),
                 "{groups}, {piece}"
             );
-            assert!(rt; ended.writes <= ended.reads, "{groups}, {piece}");
+            assert!(rt; ended.writes <= bytes.len() / 4000 + 1, "{groups}, {piece}");
         }
     }
     Ok(())
