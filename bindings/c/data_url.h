@@ -127,7 +127,7 @@ static inline uint8_t data_url_unexpected_symbol(uint32_t status) {
 /* Decodes the body of a data: URL.
  *
  * url, len    the URL
- * out, room   receives the body
+ * out, room   receives the body; fastest if the room is at least as long as the URL, since no copy is made then
  * Returns DATA_URL_DONE; DATA_URL_NOT_UTF8, _NOT_A_DATA_URL, _NO_COMMA, _OUT_OF_MEMORY with length 0;
  * DATA_URL_OUTPUT_TOO_SMALL with the length that is needed; a fault of base64, with the bytes before it. */
 struct data_url_answer data_url_body(const void *url, size_t len, void *out, size_t room);

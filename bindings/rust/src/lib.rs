@@ -43,8 +43,13 @@ const PART: usize = 256;
 /// How many bytes of a body are decoded before the closure is called with them.
 const ROOM: usize = 8192;
 
-/// A data: URL: its MIME type, and its body and fragment as a slice of the input.
+/// How many bytes a tail has at least whose body is decoded by one call for the whole URL, which reads the header again and is
+/// faster on long bodies.
+const LONG: usize = 512;
+
+/// A data: URL: its text, its MIME type, and its body and fragment as a slice of the text.
 pub struct DataUrl<'a> {
+    input: &'a str,
     mime_type: mime::Mime,
     base64: bool,
     encoded_body_plus_fragment: &'a str,
@@ -84,6 +89,7 @@ impl<'a> DataUrl<'a> {
     pub fn process(input: &'a str) -> Result<Self, DataUrlError> {
         match library::open(input, mime::Mime::from_printed) {
             Ok((mime_type, base64, encoded_body_plus_fragment)) => Ok(DataUrl {
+                input,
                 mime_type,
                 base64,
                 encoded_body_plus_fragment,
@@ -138,9 +144,26 @@ impl<'a> DataUrl<'a> {
     pub fn decode_to_vec(
         &self,
     ) -> Result<(Vec<u8>, Option<FragmentIdentifier<'a>>), InvalidBase64> {
-        match library::body(self.encoded_body_plus_fragment, self.base64) {
+        match self.body() {
             (library::DONE, bytes) => Ok((bytes, self.fragment())),
             (status, _) => Err(forgiving_base64::invalid(status)),
+        }
+    }
+
+    /// The body's status, and the bytes that come before a fault.
+    fn body(&self) -> (u32, Vec<u8>) {
+        let tail = self.encoded_body_plus_fragment;
+        if tail.len() >= LONG {
+            return library::body(self.input, tail.len());
+        }
+        let mut body = library::Body::new(self.base64);
+        // With as much room as this, the first call decodes all of it.
+        let mut bytes = Vec::with_capacity(tail.len() + library::LEAST);
+        loop {
+            let status = body.push_next(tail, &mut bytes);
+            if status != library::MORE {
+                return (status, bytes);
+            }
         }
     }
 

@@ -15,6 +15,9 @@ pub(crate) const SYMBOL_AFTER_PADDING: u32 = 10;
 pub(crate) const MORE: u32 = 11;
 pub(crate) const UNEXPECTED_SYMBOL: u32 = 256;
 
+/// The least room that a part of a body is decoded into.
+pub(crate) const LEAST: usize = 8;
+
 /// How many bytes of a printed text fit on the stack. A longer one is printed a second time, into a vector.
 const PRINTED: usize = 128;
 
@@ -62,13 +65,7 @@ extern "C" {
     fn dataurl_open_utf8(url: *const u8, len: usize, out: *mut u8, room: usize) -> OpenedUrl;
     fn dataurl_type(text: *const u8, len: usize, out: *mut u8, room: usize) -> Answer;
     fn dataurl_fragment(url: *const u8, len: usize, out: *mut u8, room: usize) -> Answer;
-    fn dataurl_body_whole_utf8(
-        tail: *const u8,
-        len: usize,
-        is_base64: bool,
-        out: *mut u8,
-        room: usize,
-    ) -> Answer;
+    fn dataurl_body_utf8(url: *const u8, len: usize, out: *mut u8, room: usize) -> Answer;
     fn dataurl_body_next_utf8(
         body: *mut Body,
         tail: *const u8,
@@ -183,22 +180,16 @@ pub(crate) fn fragment<T>(url: &str, read: impl Fn(&str) -> T) -> Result<T, u32>
     )
 }
 
-/// The body after the comma of a URL, whole: its status, and the bytes that come before a fault.
-pub(crate) fn body(tail: &str, is_base64: bool) -> (u32, Vec<u8>) {
-    let mut bytes = Vec::with_capacity(tail.len());
-    // A body has no more bytes than the text after the comma.
+/// The body of a URL, whole: its status, and the bytes that come before a fault. `room` is at least the length of the text after
+/// the comma, so that the library decodes into the vector itself.
+pub(crate) fn body(url: &str, room: usize) -> (u32, Vec<u8>) {
+    let mut bytes = Vec::with_capacity(room);
     let answer = unsafe {
-        dataurl_body_whole_utf8(
-            tail.as_ptr(),
-            tail.len(),
-            is_base64,
-            bytes.as_mut_ptr(),
-            bytes.capacity(),
-        )
+        dataurl_body_utf8(url.as_ptr(), url.len(), bytes.as_mut_ptr(), bytes.capacity())
     };
     assert!(answer.len <= bytes.capacity());
     unsafe { bytes.set_len(answer.len) };
-    (answer.status, bytes)
+    (refusal(answer.status), bytes)
 }
 
 impl Body {
@@ -211,6 +202,18 @@ impl Body {
             padding: 0,
             is_base64: is_base64 as u8,
         }
+    }
+
+    /// Puts the next bytes of the body behind those of a vector, and returns the status.
+    pub(crate) fn push_next(&mut self, tail: &str, bytes: &mut Vec<u8>) -> u32 {
+        bytes.reserve(LEAST);
+        let (len, room) = (bytes.len(), bytes.capacity() - bytes.len());
+        let answer = unsafe {
+            dataurl_body_next_utf8(self, tail.as_ptr(), tail.len(), bytes.as_mut_ptr().add(len), room)
+        };
+        assert!(answer.len <= room);
+        unsafe { bytes.set_len(len + answer.len) };
+        answer.status
     }
 
     /// The next bytes of the body, and the status.

@@ -3,6 +3,7 @@
 use crate::library;
 use alloc::borrow::ToOwned;
 use alloc::string::String;
+use alloc::vec;
 use alloc::vec::Vec;
 use core::fmt::{self, Write};
 use core::str::FromStr;
@@ -45,27 +46,35 @@ impl Mime {
 
     /// Reads a MIME type that the library printed.
     pub(crate) fn from_printed(printed: &str) -> Mime {
-        let (essence, parameters) = split_at(printed, ';');
-        let (type_, subtype) = split_at(essence, '/');
+        // The type of a URL without a header is common, and is not taken apart.
+        if printed == "text/plain;charset=US-ASCII" {
+            return Mime {
+                parameters: vec![("charset".to_owned(), "US-ASCII".to_owned())],
+                ..Mime::new("text", "plain")
+            };
+        }
+        let (type_, after) = split_at(printed, b'/');
+        let (subtype, parameters) = split_at(&after[1..], b';');
         Mime {
             type_: type_.to_owned(),
-            subtype: subtype[1..].to_owned(),
+            subtype: subtype.to_owned(),
             parameters: parameters_of(parameters),
         }
     }
 }
 
-/// The text before a character and from it on.
-fn split_at(text: &str, c: char) -> (&str, &str) {
-    text.split_at(text.find(c).unwrap_or_else(|| text.len()))
+/// The text before an ASCII character and from it on.
+fn split_at(text: &str, c: u8) -> (&str, &str) {
+    text.split_at(text.bytes().position(|byte| byte == c).unwrap_or_else(|| text.len()))
 }
 
 /// The parameters of a printed record, each after a `;`.
 fn parameters_of(printed: &str) -> Vec<(String, String)> {
-    let mut parameters = Vec::new();
+    // Most types have one parameter at most.
+    let mut parameters = Vec::with_capacity(!printed.is_empty() as usize);
     let mut rest = printed;
     while !rest.is_empty() {
-        let (name, after) = split_at(&rest[1..], '=');
+        let (name, after) = split_at(&rest[1..], b'=');
         let (value, after) = value_of(&after[1..]);
         parameters.push((name.to_owned(), value));
         rest = after;
@@ -76,7 +85,7 @@ fn parameters_of(printed: &str) -> Vec<(String, String)> {
 /// The value at the front of a printed text, and the text after it.
 fn value_of(text: &str) -> (String, &str) {
     if !text.starts_with('"') {
-        let (value, after) = split_at(text, ';');
+        let (value, after) = split_at(text, b';');
         return (value.to_owned(), after);
     }
     let mut value = String::new();

@@ -111,6 +111,40 @@ fn debug_texts_are_short() {
     assert!(format!("{:?}", refusal).len() < 80);
 }
 
+/// A tail of 512 bytes or more is decoded in another way than a shorter one.
+#[test]
+fn long_tails_are_decoded_as_short_ones() {
+    for len in (490..540).chain([65_000]) {
+        for (header, part, end) in [
+            ("data:,", "letters", ""),
+            ("data:a/b,", "%4\t1\u{e9}%", "%4#1 x  "),
+            ("data:;base64,", "QUJD", ""),
+            ("data:a/b;base64,", "QU\nJD", "Q%3D= \n#x"),
+            ("data:;base64,", "QUJD", "Q!"),
+            ("data:;base64,", "Q U J D", "=Q"),
+        ] {
+            let text = format!("{}{}{}", header, part.repeat(len / part.len()), end);
+            let url = DataUrl::process(&text).unwrap();
+            let mut bytes = Vec::new();
+            let in_parts = url.decode::<_, ()>(|piece| {
+                bytes.extend_from_slice(piece);
+                Ok(())
+            });
+            match (url.decode_to_vec(), in_parts) {
+                (Ok((body, fragment)), Ok(other)) => {
+                    assert!(body == bytes, "{}", text);
+                    let encoded = fragment.map(|it| it.to_percent_encoded());
+                    assert_eq!(encoded, other.map(|it| it.to_percent_encoded()));
+                }
+                (Err(refusal), Err(DecodeError::InvalidBase64(other))) => {
+                    assert_eq!(refusal.to_string(), other.to_string(), "{}", text);
+                }
+                _ => panic!("{}", text),
+            }
+        }
+    }
+}
+
 #[test]
 fn a_decoder_that_has_failed_fails_again() {
     let mut bytes = Vec::new();

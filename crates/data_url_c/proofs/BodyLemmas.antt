@@ -29,9 +29,6 @@ pub record Copied (text out0 : List ℕ) (w : Walk) (out : List ℕ) (len : ℕ)
   pub body : plain_body text ≡ read ++ w.rest
   pub reaches : Reaches out0 read out len
 
-pub copied_none : (text out : List ℕ) → Copied text out (walk_at_front text) out 0
-copied_none text out = record { read = []; text_is = refl; body = refl; reaches = λ fits. (refl, refl) }
-
 -- the body, by what was read and the next piece
 body_more : (text read bytes rest rest' : List ℕ) → plain_body text ≡ read ++ rest → rest ≡ bytes ++ rest' → plain_body text ≡ (read ++ bytes) ++ rest'
 body_more text read bytes rest rest' h e = h ∙ ap (λ x. read ++ x) e ∙ sym (append_assoc read bytes rest')
@@ -43,12 +40,6 @@ copied_more {text} {out0} {out} {bytes} {out'} {w} {w'} {len} {len'} h t e k = r
   body = body_more text h.read bytes w.rest w'.rest h.body e;
   reaches = reaches_more out0 h.read out bytes out' len len' h.reaches k;
 }
-
-pub copied_all : {text out0 out : List ℕ} {w : Walk} {len : ℕ} → Copied text out0 w out len → w.rest ≡ [] → length (plain_body text) ≤ length out0 → WritesFront (plain_body text) out0 out len
-copied_all {text} {out0} {out} {w} {len} h e room =
-    let all : h.read ≡ plain_body text = sym (h.body ∙ ap (λ x. h.read ++ x) e ∙ append-nil h.read) in
-    let k = h.reaches (omega (arith, ap length all)) in
-    writes_front all k.0 k.1 room
 
 -- Base64
 
@@ -118,12 +109,6 @@ fed_fault {s0} {s} {s'} {text} {out0} {out} {part} {out2} {out'} {w} {status} {l
     ∙ ap (λ x. waiting_text s0 ++ x) (sym (body_more text h.read bytes w.rest rest h.body e)) in
     subst P whole (takes_fault rest all ne)
 
--- all pieces
-pub fed_all : {s0 s : DataUrlBase64} {text out0 out : List ℕ} {w : Walk} {len : ℕ} → Fed s0 s text out0 w out len → w.rest ≡ [] → TakesText (waiting_text s0 ++ plain_body text) s out0 out 0 len
-fed_all {s0} {s} {text} {out0} {out} {w} {len} h e =
-    let P : List ℕ → Type 0 = λ x. TakesText (waiting_text s0 ++ x) s out0 out 0 len in
-    subst P (sym (h.body ∙ ap (λ x. h.read ++ x) e ∙ append-nil h.read)) h.takes
-
 -- The end
 
 rest_room : (x : List ℕ) → length x ≤ 3 → 4 * length (rest_bytes x) ≤ 3 * length x
@@ -185,10 +170,6 @@ outcome_valid x e = ap (λ v. cond v (Good (decoded x)) (Bad (complete_bytes x) 
 pub outcome_invalid : (x : List ℕ) → is_valid x ≡ false → outcome true x ≡ Bad (complete_bytes x) (kind_of x)
 unfolding outcome
 outcome_invalid x e = ap (λ v. cond v (Good (decoded x)) (Bad (complete_bytes x) (kind_of x))) e
-
--- a plain body
-pub ends_plain : {x before after : List ℕ} {len : ℕ} (flag : Bool) → flag ≡ false → WritesFront x before after len → EndsAs (outcome flag x) before after 0 len
-ends_plain {x} {before} {after} {len} flag e w = let P : Outcome → Type 0 = λ o. EndsAs o before after 0 len in subst P (sym (outcome_plain flag x e)) (refl, w)
 
 -- base64 with a fault
 pub ends_fault : {u before after : List ℕ} {s : DataUrlBase64} {status len : ℕ} (flag : Bool) → flag ≡ true → TakesText u s before after status len → (status ≡ 0 → ⊥) → EndsAs (outcome flag u) before after status len

@@ -21,9 +21,10 @@ use Rattle.data_url.specs.declared.mime.MimeParsingError.{MimeParsingError}
 use Rattle.data_url.proofs.UrlLemmas.{fragment_dropped}
 use Rattle.data_url.proofs.WholeLemmas.{run_reads}
 use Rattle.data_url_c.specs.Answers.{Answers, Given}
-use Rattle.data_url_c.specs.Gives.{GivesBody, GivesFragment, GivesMime, GivesType, IsUrlWith}
-use Rattle.data_url_c.specs.Steps.{CrossesOrNot, HasFragment, HasText, IsFault}
+use Rattle.data_url_c.specs.Gives.{GivesBody, GivesFragment, GivesMime, GivesType, IsUrlWith, RefusesUrl}
+use Rattle.data_url_c.specs.Steps.{CrossesOrNot, HasBody, HasFragment, HasText, IsFault}
 use Rattle.data_url_c.specs.declared.answer.DataUrlAnswer.{DataUrlAnswer}
+use Rattle.data_url_c.specs.declared.refusal.Refusal.{Refusal}
 use Rattle.data_url_c.specs.declared.refusal.Refusal.TheVariants.{InvalidBase64, NoComma, NoFragment, NotADataUrl, NotAMimeType, NotUtf8, OutOfMemory}
 
 -- URLs
@@ -39,7 +40,7 @@ encoded_is (Some f) = refl
 abbrev staged_part : DataUrl → Option (List ℕ)
 staged_part url = option_map (percent_encoding in_fragment_set) (fragment_in (without_tabs_and_newlines (url_tail url)))
 
-url_with : {x : List ℕ} {url : DataUrl} {body : Outcome} {fragment : Option (List ℕ)} → IsUtf8 x → IsUrlOf x url → url_body url ≡ body → option_map encoded_fragment (behind 35 (url_tail url)) ≡ fragment → IsUrlWith x body fragment
+pub url_with : {x : List ℕ} {url : DataUrl} {body : Outcome} {fragment : Option (List ℕ)} → IsUtf8 x → IsUrlOf x url → url_body url ≡ body → option_map encoded_fragment (behind 35 (url_tail url)) ≡ fragment → IsUrlWith x body fragment
 url_with {url = url} {body = body} t u b f =
     let e = ap (option_map (percent_encoding in_fragment_set)) (fragment_dropped (url_tail url)) ∙ encoded_is (behind 35 (url_tail url)) ∙ f in
     record {
@@ -47,6 +48,26 @@ url_with {url = url} {body = body} t u b f =
       is_text = t;
       staged_is = u.staged_is ∙ ap (λ o. Accepted (mime_text u.header) o (staged_part url)) b ∙ ap (λ o. Accepted (mime_text u.header) body o) e;
     }
+
+pub gives_body : {x : List ℕ} {url : DataUrl} → IsUtf8 x → IsUrlOf x url → (given : Given) → HasBody (url_body url) given → GivesBody x given
+gives_body t u (Ok bytes) h = (_, url_with t u h refl)
+gives_body t u (Err (InvalidBase64 kind before)) h = (_, url_with t u h refl)
+gives_body {x = x} t u (Err OutOfMemory) h = (t, accepted x u.staged_is)
+gives_body t u (Err NotADataUrl) h = absurd h
+gives_body t u (Err NoComma) h = absurd h
+gives_body t u (Err NotUtf8) h = absurd h
+gives_body t u (Err NotAMimeType) h = absurd h
+gives_body t u (Err NoFragment) h = absurd h
+
+-- of a text that is no URL
+pub body_refused : (x : List ℕ) (refusal : Refusal) → RefusesUrl x refusal → GivesBody x (Err refusal)
+body_refused x NotADataUrl h = h
+body_refused x NoComma h = h
+body_refused x OutOfMemory h = h
+body_refused x NotUtf8 h = h
+body_refused x NotAMimeType h = h
+body_refused x NoFragment h = h
+body_refused x (InvalidBase64 kind before) h = absurd h
 
 pub gives_fragment : {x : List ℕ} {url : DataUrl} → IsUtf8 x → IsUrlOf x url → (given : Given) → HasFragment url given → GivesFragment x given
 gives_fragment t u (Ok text) h = (h.0, url_with t u h.1 h.2)

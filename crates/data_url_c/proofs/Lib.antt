@@ -6,6 +6,8 @@ pub mod KindLemmas
 pub mod LeftLemmas
 pub mod OpenLemmas
 pub mod PartLemmas
+pub mod PrintLemmas
 pub mod ProbeLemmas
 pub mod StepLemmas
+pub mod WholeLemmas
 pub mod WindowLemmas

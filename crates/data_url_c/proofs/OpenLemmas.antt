@@ -1,31 +1,38 @@
 -- A URL is opened by its probe.
-use Rattle.std.proofs.Common.{◌≡◌, ℕ, zero, suc, ◌+◌, ◌-◌, ◌<◌, ◌≤◌, Bool, true, false, List, [], ◌∷◌, ◌++◌, length, get_or, take, drop, codes, Option, None, Some, Result, Ok, Err, position, refl, sym, ap, ◌∙◌, subst, inl, inr, arith, eqb-true}
+use Rattle.std.proofs.Common.{◌≡◌, Bor, ℕ, zero, suc, ◌+◌, ◌-◌, ◌<◌, ◌≤◌, Bool, true, false, nat_eq, List, [], ◌∷◌, ◌++◌, length, length-append, get_or, take, drop, codes, Option, None, Some, Result, Ok, Err, position, refl, sym, ap, ◌∙◌, subst, inl, inr, arith, eqb-true}
 use Rattle.std.specs.Global.{Global}
-use Rattle.std.specs.Prelude.{◌==◌, IsUtf8, Vec}
-use Rattle.std.specs.List.{suffix_len}
+use Rattle.std.specs.Prelude.{◌==◌, IfSome, IsUtf8, encode_utf8_all}
+use Rattle.std.specs.Str.Pattern.{GetsRange}
+use Rattle.std.specs.List.{starts_with, suffix_len}
+use Rattle.std.proofs.lemmas.Bool.Decides.{Decides-eqb}
 use Rattle.std.proofs.lemmas.List.{drop_more, get_or-take, length-drop, length-take, take-append-drop, take_all}
 use Rattle.std.proofs.lemmas.List.Quantifiers.{position-Some}
 use Rattle.std.proofs.lemmas.List.Sums.{suffix_len-le-length}
+use Rattle.std.proofs.lemmas.Slice.Eq.{starts_is}
 use Rattle.data_url.specs.Base64.{after_groups, decoded, groups, is_valid, values, without_last_padding, without_padding, without_whitespace}
 use Rattle.data_url.specs.DataUrl.{IsAcceptable, is_base64, mime_of, url_body, url_tail}
-use Rattle.data_url.specs.Fetch.{Accepted, Outcome, has_base64_suffix, mime_text, outcome, plain_body, staged}
+use Rattle.data_url.specs.Fetch.{Accepted, Outcome, has_base64_suffix, header_of, mime_text, outcome, plain_body, staged, tail_of}
+use Rattle.data_url.specs.Mime.{HasNoRecord, IsRecordOf, default_record, printed}
 use Rattle.data_url.specs.MimeType.{record_of}
 use Rattle.data_url.specs.Percent.{percent_decoding}
 use Rattle.data_url.specs.Url.{before, behind, front, is_c0_control_or_space, trimmed_text, without_tabs_and_newlines}
+use Rattle.data_url.proofs.EncodeLemmas.{ascii_all}
 use Rattle.data_url.proofs.MediaLemmas.{bytes_by_place}
+use Rattle.data_url.proofs.OnLiterals.{on_literals}
 use Rattle.data_url.proofs.ProcessLemmas.{bytes_trimmed}
 use Rattle.data_url.proofs.RecodedLemmas.{IsBytes}
-use Rattle.data_url.proofs.UrlLemmas.{behind_none}
-use Rattle.data_url_c.specs.Answers.{Crosses}
+use Rattle.data_url.proofs.UrlLemmas.{before_at, behind_none}
+use Rattle.data_url_c.specs.Answers.{Crosses, Shows}
 use Rattle.data_url_c.specs.Gives.{RefusesUrl}
-use Rattle.data_url_c.specs.Opens.{Opens}
+use Rattle.data_url_c.specs.Opens.{Opens, answer_of}
 use Rattle.data_url_c.specs.Steps.{CrossesOrNot, HasLength, IsFault, IsRead, ReadsProbe}
 use Rattle.data_url_c.specs.Steps.Opening.{IsReadUrl, IsRefused, ReadsUrl, tail_after}
 use Rattle.data_url_c.specs.declared.answer.DataUrlAnswer.{DataUrlAnswer}
 use Rattle.data_url_c.specs.declared.open.DataUrlOpened.{DataUrlOpened}
 use Rattle.data_url_c.specs.declared.refusal.Refusal.TheVariants.{InvalidBase64, NoComma, NoFragment, NotADataUrl, NotAMimeType, NotUtf8, OutOfMemory}
 use Rattle.data_url_c.specs.declared.refusal.Refusal.{Refusal}
-use Rattle.data_url_c.proofs.ProbeLemmas.{ends, same_acceptable, same_header, same_no_comma, same_no_scheme, trimmed_around, trimmed_front, trimmed_tail}
+use Rattle.data_url_c.proofs.PrintLemmas.{ascii_encoded, vec_of}
+use Rattle.data_url_c.proofs.ProbeLemmas.{ends, no_comma_in_scheme, same_acceptable, same_header, same_no_comma, same_no_scheme, tail_of_cut, trimmed_around, trimmed_front, trimmed_tail}
 
 -- Cutting at the comma
 
@@ -45,6 +52,32 @@ cut_at x comma h =
     let at = at_comma x comma h in
     sym (take-append-drop comma x)
     ∙ ap (λ t. take comma x ++ t) (drop_more x comma 0 at.0 ∙ ap (λ b. b ∷ drop (comma + 1) x) at.1)
+
+pub fits_tail : (x : List ℕ) (comma low : ℕ) → low ≡ suffix_len is_c0_control_or_space (drop (comma + 1) x)
+    → low ≤ length x - (comma + 1)
+fits_tail x comma low e =
+    let few = suffix_len-le-length is_c0_control_or_space (drop (comma + 1) x) in
+    omega (arith, e, few, length-drop (comma + 1) x)
+
+-- the tail by its place and its length
+tail_is : (x : List ℕ) (comma low : ℕ) → low ≡ suffix_len is_c0_control_or_space (drop (comma + 1) x)
+    → take (length x - (comma + 1) - low) (drop (comma + 1) x) ≡ tail_after x comma
+tail_is x comma low e =
+    let n : length x - (comma + 1) - low
+    ≡ length (drop (comma + 1) x) - suffix_len is_c0_control_or_space (drop (comma + 1) x) =
+    omega (arith, e, length-drop (comma + 1) x) in
+    ap (λ k. take k (drop (comma + 1) x)) n
+
+-- the tail
+pub tail_found : (x : List ℕ) (comma low end : ℕ) (r : Option (Bor (List ℕ))) → position (λ b. b == 44) x ≡ Some comma
+    → low ≡ suffix_len is_c0_control_or_space (drop (comma + 1) x) → end ≡ length x - low → GetsRange x (comma + 1) end r
+    → IfSome r (λ tail. tail_of x ≡ Some tail.now)
+tail_found x comma low end None p l e h = tt
+tail_found x comma low end (Some t) p l e h =
+    let found : tail_of x ≡ Some (tail_after x comma) =
+    ap tail_of (cut_at x comma p) ∙ tail_of_cut (take comma x) (drop (comma + 1) x) (none_before x comma p) in
+    let n : end - (comma + 1) ≡ length x - (comma + 1) - low = omega (arith, e) in
+    found ∙ ap Some (sym (h.0 ∙ ap (λ k. take k (drop (comma + 1) x)) n ∙ tail_is x comma low l))
 
 -- Bytes
 
@@ -98,9 +131,10 @@ some_same x y e = cc
 acceptable_by : (x : List ℕ) {header : List ℕ} {body : Outcome} {fragment : Option (List ℕ)} → staged x ≡ Accepted header body fragment → IsAcceptable (staged x)
 acceptable_by x e = subst IsAcceptable (sym e) tt
 
-read_by : (a t text : List ℕ) (flag : Bool) → behind 44 a ≡ None → IsBytes a → IsBytes (trimmed_text (a ++ 44 ∷ t))
-    → IsRead (a ++ 44 ∷ qq) text flag → IsReadUrl (a ++ 44 ∷ t) (trimmed_tail t) text flag
-read_by a t text flag n b d h =
+read_by : (a t : List ℕ) {old new : List ℕ} {r : DataUrlAnswer} {flag : Bool} → behind 44 a ≡ None → IsBytes a
+    → IsBytes (trimmed_text (a ++ 44 ∷ t)) → IsRead (a ++ 44 ∷ qq) old new r flag
+    → IsReadUrl (a ++ 44 ∷ t) (trimmed_tail t) old new r flag
+read_by a t {flag = flag} n b d h =
     let probe = bytes_probe a b in
     let u = h.url_is in
     let accepted = acceptable_by (a ++ 44 ∷ qq) u.staged_is in
@@ -118,41 +152,128 @@ read_by a t text flag n b d h =
       fragment = with.fragment_is;
       header_is = with.header_is;
       record_is = u.record_is;
+      text = h.text;
       text_is = h.text_is;
+      shown = h.shown;
       flag_is = is;
       tail_is = with.tail_is;
       staged_is = with.staged_is
           ∙ ap (λ v. Accepted (mime_text u.header) (outcome v (plain_body (trimmed_tail t))) with.fragment_is) (sym is);
     }
 
-reads_by : (a t : List ℕ) (r : Result (Vec ℕ Global × Bool) Refusal) → behind 44 a ≡ None → IsBytes a
-    → IsBytes (trimmed_text (a ++ 44 ∷ t)) → ReadsProbe (a ++ 44 ∷ qq) r → (x : List ℕ) (comma : ℕ) → IsUtf8 x
-    → x ≡ a ++ 44 ∷ t → tail_after x comma ≡ trimmed_tail t → ReadsUrl x comma r
-reads_by a t (Ok found) n b d h x comma u e f =
-    let P : List ℕ → Type 0 = λ y. IsReadUrl y (trimmed_tail t) found.0.items found.1 in
-    let Q : List ℕ → Type 0 = λ s. IsReadUrl x s found.0.items found.1 in
-    subst Q (sym f) (subst P (sym e) (read_by a t found.0.items found.1 n b d h))
-reads_by a t (Err NotADataUrl) n b d h x comma u e f =
-    (u, ap staged e ∙ same_no_scheme a qq t (ends a n) (bytes_probe a b) h)
-reads_by a t (Err NoComma) n b d h x comma u e f =
-    (u, ap staged e ∙ same_no_comma a qq t (ends a n) (bytes_probe a b) d h)
-reads_by a t (Err OutOfMemory) n b d h x comma u e f =
-    (u, subst IsAcceptable (sym (ap staged e)) (same_acceptable a qq t (ends a n) (bytes_probe a b) d h))
-reads_by a t (Err NotUtf8) n b d h x comma u e f = absurd h
-reads_by a t (Err NotAMimeType) n b d h x comma u e f = absurd h
-reads_by a t (Err NoFragment) n b d h x comma u e f = absurd h
-reads_by a t (Err (InvalidBase64 kind before)) n b d h x comma u e f = absurd h
+refused_by : (a t : List ℕ) (refusal : Refusal) → behind 44 a ≡ None → IsBytes a → IsBytes (trimmed_text (a ++ 44 ∷ t))
+    → IsUtf8 (a ++ 44 ∷ qq) → IsUtf8 (a ++ 44 ∷ t) → RefusesUrl (a ++ 44 ∷ qq) refusal → RefusesUrl (a ++ 44 ∷ t) refusal
+refused_by a t NotADataUrl n b d p u h = (u, same_no_scheme a qq t (ends a n) (bytes_probe a b) h.1)
+refused_by a t NoComma n b d p u h = (u, same_no_comma a qq t (ends a n) (bytes_probe a b) d h.1)
+refused_by a t OutOfMemory n b d p u h = (u, same_acceptable a qq t (ends a n) (bytes_probe a b) d h.1)
+refused_by a t NotUtf8 n b d p u h = absurd (h p)
+refused_by a t NotAMimeType n b d p u h = absurd h
+refused_by a t NoFragment n b d p u h = absurd h
+refused_by a t (InvalidBase64 kind before) n b d p u h = absurd h
 
-pub reads_url : (x probe : List ℕ) (comma : ℕ) (r : Result (Vec ℕ Global × Bool) Refusal) → IsUtf8 x
-    → ((i : ℕ) → get_or x i 0 < 256) → position (λ b. b == 44) x ≡ Some comma → probe ≡ take comma x ++ codes ",QQ"
-    → ReadsProbe probe r → ReadsUrl x comma r
-reads_url x probe comma r u b p e h =
+reads_by : (a t old new : List ℕ) (r : Result (DataUrlAnswer × Bool) Refusal) → behind 44 a ≡ None → IsBytes a
+    → IsBytes (trimmed_text (a ++ 44 ∷ t)) → IsUtf8 (a ++ 44 ∷ qq) → ReadsProbe (a ++ 44 ∷ qq) old new r → (x : List ℕ)
+    (comma : ℕ) → IsUtf8 x → x ≡ a ++ 44 ∷ t → tail_after x comma ≡ trimmed_tail t → ReadsUrl x comma old new r
+reads_by a t old new (Ok found) n b d p h x comma u e f =
+    let P : List ℕ → Type 0 = λ y. IsReadUrl y (trimmed_tail t) old new found.0 found.1 in
+    let Q : List ℕ → Type 0 = λ s. IsReadUrl x s old new found.0 found.1 in
+    subst Q (sym f) (subst P (sym e) (read_by a t n b d h))
+reads_by a t old new (Err refusal) n b d p h x comma u e f =
+    let R : List ℕ → Type 0 = λ y. RefusesUrl y refusal in
+    (subst R (sym e) (refused_by a t refusal n b d p (subst IsUtf8 e u) h.0), h.1)
+
+pub reads_url : (x probe old new : List ℕ) (comma : ℕ) (r : Result (DataUrlAnswer × Bool) Refusal) → IsUtf8 x
+    → IsUtf8 probe → ((i : ℕ) → get_or x i 0 < 256) → position (λ b. b == 44) x ≡ Some comma → probe ≡ take comma x ++ codes ",QQ"
+    → ReadsProbe probe old new r → ReadsUrl x comma old new r
+reads_url x probe old new comma r u v b p e h =
     let a = take comma x in
     let t = drop (comma + 1) x in
     let cut = cut_at x comma p in
     let bytes : IsBytes a = bytes_front a (44 ∷ t) (subst IsBytes cut (bytes_by_place x b)) in
     let trimmed : IsBytes (trimmed_text (a ++ 44 ∷ t)) = subst (λ y. IsBytes (trimmed_text y)) cut (bytes_trimmed x b) in
-    reads_by a t r (none_before x comma p) bytes trimmed (subst (λ y. ReadsProbe y r) e h) x comma u cut refl
+    reads_by a t old new r (none_before x comma p) bytes trimmed (subst IsUtf8 e v) (subst (λ y. ReadsProbe y old new r) e h)
+    x comma u cut refl
+
+-- A URL without a header
+
+abbrev scheme : List ℕ
+scheme = codes "data:"
+
+bytes_scheme : IsBytes scheme
+bytes_scheme = (omega arith, (omega arith, (omega arith, (omega arith, (omega arith, tt)))))
+
+no_header : header_of (scheme ++ 44 ∷ qq) ≡ Some []
+unfolding on_literals
+no_header = refl
+
+is_accepted : IsAcceptable (staged (scheme ++ 44 ∷ qq))
+unfolding on_literals
+is_accepted = tt
+
+not_base64 : has_base64_suffix [] ≡ false
+unfolding on_literals
+not_base64 = refl
+
+abbrev default_text : List ℕ
+default_text = codes "text/plain;charset=US-ASCII"
+
+default_printed : default_text ≡ encode_utf8_all (printed default_record)
+unfolding on_literals
+default_printed = ascii_encoded default_text (ascii_all default_text refl)
+
+-- an empty text has no '/'
+no_record : HasNoRecord []
+no_record m h =
+    let k = h.head in
+    let after = 47 ∷ (h.subtype ++ (k.gap ++ h.parameters)) in
+    let text = ap length k.trimmed.joined in
+    let around = length-append k.trimmed.front (k.text ++ k.trimmed.back) in
+    let back = length-append k.text k.trimmed.back in
+    let parts = ap length k.joined in
+    let slash = length-append h.type_ after in
+    omega (arith, text, around, back, parts, slash)
+
+default_is : IsRecordOf (mime_text []) default_record
+unfolding on_literals
+default_is = inr (no_record, refl)
+
+default_by : (t : List ℕ) {old new : List ℕ} {r : DataUrlAnswer} → Global → IsBytes (trimmed_text (scheme ++ 44 ∷ t))
+    → Shows 0 default_text old new r → IsReadUrl (scheme ++ 44 ∷ t) (trimmed_tail t) old new r false
+default_by t memory d h =
+    let with = same_header scheme qq t [] (ends scheme no_comma_in_scheme) (bytes_probe scheme bytes_scheme) d no_header is_accepted in
+    record {
+      header = [];
+      mime = default_record;
+      fragment = with.fragment_is;
+      header_is = with.header_is;
+      record_is = default_is;
+      text = vec_of memory default_text (omega arith);
+      text_is = default_printed;
+      shown = h;
+      flag_is = sym not_base64;
+      tail_is = with.tail_is;
+      staged_is = with.staged_is
+          ∙ ap (λ v. Accepted (mime_text []) (outcome v (plain_body (trimmed_tail t))) with.fragment_is) not_base64;
+    }
+
+pub default_read : (x items : List ℕ) (comma : ℕ) (found : Bool) {old new : List ℕ} {r : DataUrlAnswer} → Global
+    → ((i : ℕ) → get_or x i 0 < 256) → position (λ b. b == 44) x ≡ Some comma → items ≡ x
+    → found ≡ starts_with nat_eq items (codes "data:,") → found ≡ true → Shows 0 default_text old new r
+    → IsReadUrl x (tail_after x comma) old new r false
+default_read x items comma found {old} {new} {r} memory b p same f g h =
+    let t = drop 6 x in
+    let is : x ≡ scheme ++ 44 ∷ t =
+    (starts_is Decides-eqb x (codes "data:,") found (f ∙ ap (λ s. starts_with nat_eq s (codes "data:,")) same)).0 g in
+    let cut = cut_at x comma p in
+    let same_front : take comma x ≡ scheme =
+    sym (before_at 44 (take comma x) (drop (comma + 1) x) (none_before x comma p)) ∙ ap (before 44) (sym cut ∙ is)
+    ∙ before_at 44 scheme t no_comma_in_scheme in
+    let at = (at_comma x comma p).0 in
+    let five : comma ≡ 5 = omega (arith, at, ap length same_front, length-take comma x) in
+    let d : IsBytes (trimmed_text (scheme ++ 44 ∷ t)) = subst (λ y. IsBytes (trimmed_text y)) is (bytes_trimmed x b) in
+    let P : List ℕ → Type 0 = λ y. IsReadUrl y (trimmed_tail t) old new r false in
+    let Q : ℕ → Type 0 = λ n. IsReadUrl x (tail_after x n) old new r false in
+    subst Q (sym five) (subst P (sym is) (default_by t memory d h))
 
 -- The answer
 
@@ -170,41 +291,32 @@ crosses_refused : (x : List ℕ) (refusal : Refusal) {old new : List ℕ} {r : D
 crosses_refused x refusal h (inl c) = c
 crosses_refused x refusal h (inr c) = absurd (not_fault x refusal h c.0)
 
-pub opens_refused : (x : List ℕ) (refusal : Refusal) {old new : List ℕ} {r : DataUrlOpened} → RefusesUrl x refusal
-    → IsRefused refusal old new r → Opens x old new r
-opens_refused x refusal h k =
-    record { given = Err refusal; is_given = (h, k.no_tail); crosses = crosses_refused x refusal h k.crosses }
+pub opens_refused : (x : List ℕ) (refusal : Refusal) {old mid new : List ℕ} {r : DataUrlOpened} → RefusesUrl x refusal
+    → mid ≡ old → IsRefused refusal mid new r → Opens x old new r
+opens_refused x refusal {old} {mid} {new} {r} h e k =
+    let P : List ℕ → Type 0 = λ o. Crosses (Err refusal) o new (answer_of r) in
+    record {
+      given = Err refusal;
+      is_given = (h, k.no_tail);
+      crosses = subst P e (crosses_refused x refusal h k.crosses);
+    }
 
-crosses_read : (text : Vec ℕ Global) {old new : List ℕ} {r : DataUrlAnswer} → CrossesOrNot (Ok text) old new r
-    → Crosses (Ok text) old new r
-crosses_read text (inl c) = c
-crosses_read text (inr c) = absurd c.0
-
-pub fits_tail : (x : List ℕ) (comma low : ℕ) → low ≡ suffix_len is_c0_control_or_space (drop (comma + 1) x)
-    → low ≤ length x - (comma + 1)
-fits_tail x comma low e =
-    let few = suffix_len-le-length is_c0_control_or_space (drop (comma + 1) x) in
-    omega (arith, e, few, length-drop (comma + 1) x)
-
--- the tail by its place and its length
-tail_is : (x : List ℕ) (comma low : ℕ) → low ≡ suffix_len is_c0_control_or_space (drop (comma + 1) x)
-    → take (length x - (comma + 1) - low) (drop (comma + 1) x) ≡ tail_after x comma
-tail_is x comma low e =
-    let n : length x - (comma + 1) - low
-    ≡ length (drop (comma + 1) x) - suffix_len is_c0_control_or_space (drop (comma + 1) x) =
-    omega (arith, e, length-drop (comma + 1) x) in
-    ap (λ k. take k (drop (comma + 1) x)) n
-
-pub opens_read : (x : List ℕ) (comma low status len : ℕ) (text : Vec ℕ Global) (flag : Bool) {old new : List ℕ} → IsUtf8 x
+pub opens_read : (x : List ℕ) (comma low : ℕ) {r : DataUrlAnswer} {flag : Bool} {old new : List ℕ} → IsUtf8 x
     → position (λ b. b == 44) x ≡ Some comma → low ≡ suffix_len is_c0_control_or_space (drop (comma + 1) x)
-    → IsReadUrl x (tail_after x comma) text.items flag → CrossesOrNot (Ok text) old new (record { status = status; len = len })
-    → Opens x old new (record { status = status; len = len; tail = comma + 1; tail_len = length x - (comma + 1) - low; is_base64 = flag })
-opens_read x comma low status len text flag u p e h k =
+    → IsReadUrl x (tail_after x comma) old new r flag
+    → Opens x old new (record {
+      status = r.status;
+      len = r.len;
+      tail = comma + 1;
+      tail_len = length x - (comma + 1) - low;
+      is_base64 = flag;
+    })
+opens_read x comma low {r} {flag} u p e h =
     let tail = tail_is x comma low e in
     let at = (at_comma x comma p).0 in
     let fits = fits_tail x comma low e in
     record {
-      given = Ok text;
+      given = Ok h.text;
       is_given = record {
         header = h.header;
         mime = h.mime;
@@ -219,7 +331,7 @@ opens_read x comma low status len text flag u p e h k =
         staged_is = h.staged_is
             ∙ ap (λ s. Accepted (mime_text h.header) (outcome flag (plain_body s)) h.fragment) (sym tail);
       };
-      crosses = crosses_read text k;
+      crosses = h.shown;
     }
 
 -- the end of a slice of the text is that of the text after the place

@@ -139,16 +139,16 @@ pub fed_keeps : {F E A : Type 0} {step : F → List ℕ → Result (Unit {0}) E 
 fed_keeps {step = step} {d = d} {d' = d'} h K keeps = run_keeps step K keeps h.run d.closure d'.closure h.ran
 
 module _ {F G E : Type 0} (inner : G → List ℕ → Result (Unit {0}) E → G → Type 0) (outer : F → List ℕ → Result (Unit {0}) E → F → Type 0) (K : G → F) (maps : (g : G) (piece : List ℕ) (r : Result (Unit {0}) E) (g' : G) → inner g piece r g' → outer (K g) piece r (K g')) where
-  outer_calls : List (Call G E) → List (Call F E)
+  pub outer_calls : List (Call G E) → List (Call F E)
   outer_calls [] = []
   outer_calls (c ∷ cs) = record { piece = c.piece; answer = c.answer; after = K c.after } ∷ outer_calls cs
 
-  outer_ran : (cs : List (Call G E)) (f g : G) → IsRun inner f cs g → IsRun outer (K f) (outer_calls cs) (K g)
+  pub outer_ran : (cs : List (Call G E)) (f g : G) → IsRun inner f cs g → IsRun outer (K f) (outer_calls cs) (K g)
   unfolding outer_calls
   outer_ran [] f g ran = ap K ran
   outer_ran (c ∷ cs) f g ran = (maps f c.piece c.answer c.after ran.0, λ e. ap outer_calls (ran.1 e), outer_ran cs c.after g ran.2)
 
-  outer_joined : (cs : List (Call G E)) → joined_pieces (outer_calls cs) ≡ joined_pieces cs
+  pub outer_joined : (cs : List (Call G E)) → joined_pieces (outer_calls cs) ≡ joined_pieces cs
   unfolding outer_calls
   outer_joined [] = refl
   outer_joined (c ∷ cs) = ap (λ x. c.piece ++ x) (outer_joined cs)

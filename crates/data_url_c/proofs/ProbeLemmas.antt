@@ -141,7 +141,13 @@ none_front c [] q h = behind_nil c
 none_front c (b ∷ p) q h =
     let k = lacks c b (p ++ q) h in behind_other c b p k.here ∙ none_front c p q k.behind_it
 
-no_comma_in_scheme : behind 44 (codes "data:") ≡ None
+pub tail_of_cut : (a t : List ℕ) → behind 44 a ≡ None → tail_of (a ++ 44 ∷ t) ≡ Some (trimmed_tail t)
+unfolding tail_of
+tail_of_cut a t n =
+    ap (behind 44) (trimmed_around a t)
+    ∙ behind_at 44 (trimmed_front a) (trimmed_tail t) (none_drop 44 (prefix_len is_c0_control_or_space a) a n)
+
+pub no_comma_in_scheme : behind 44 (codes "data:") ≡ None
 unfolding behind
 no_comma_in_scheme = refl
 
@@ -260,31 +266,6 @@ ends_by a h (has_header s e) =
 
 pub ends : (a : List ℕ) → behind 44 a ≡ None → Ends a
 ends a h = ends_by a h (decides a h)
-
--- A text without a comma
-
-none_take : (c n : ℕ) (s : List ℕ) → behind c s ≡ None → behind c (take n s) ≡ None
-none_take c zero s h = behind_nil c
-none_take c (suc n) [] h = h
-none_take c (suc n) (b ∷ s) h =
-    let k = lacks c b s h in behind_other c b (take n s) k.here ∙ none_take c n s k.behind_it
-
-none_trimmed : (u : List ℕ) → behind 44 u ≡ None → behind 44 (trimmed_text u) ≡ None
-unfolding trimmed_text
-none_trimmed u h =
-    let x = without_front is_c0_control_or_space u in
-    none_take 44 (length x - suffix_len is_c0_control_or_space x) x (none_drop 44 (prefix_len is_c0_control_or_space u) u h)
-
-pub without_comma : (u : List ℕ) → IsBytes (trimmed_text u) → behind 44 u ≡ None → IsAcceptable (staged u) → ⊥
-without_comma u b h k = elim (cases_Bool (spelled (trimmed_text u))) [
-  | inl e ↦
-      let s = has_scheme (trimmed_text u) e in
-      let r : IsSchemeAndRest (trimmed_text u) s.rest =
-      record { scheme = s.scheme; joined = s.joined; spelled = s.spelled } in
-      let comma = rest_lacks_comma (trimmed_text u) s (none_trimmed u h) in
-      subst IsAcceptable (stages_no_comma u s.rest b r (front_lacks_comma s.rest (behind 35 s.rest) refl comma)) k
-  | inr e ↦ subst IsAcceptable (stages_no_scheme u e) k
-]
 
 -- What is known of one text by another with the same front
 

@@ -13,7 +13,6 @@ use Rattle.data_url.proofs.FeedLemmas.{two_feeds}
 use Rattle.data_url_c.specs.Bodies.{EndsAs, GoesOn, IsGoodBody, StepsBody, body_left, ended, flag_of, more, no_text, prepend}
 use Rattle.data_url_c.specs.Parts.{IsLeftOf, TakesText, WritesFront, is_good_state, waiting_text}
 use Rattle.data_url_c.specs.Steps.{EndsBehind, IsPlanned, IsWindowOf}
-use Rattle.data_url_c.specs.Steps.Windows.{IsCut}
 use Rattle.data_url_c.specs.declared.body.DataUrlBody.{DataUrlBody}
 use Rattle.data_url_c.specs.declared.parts.DataUrlBase64.{DataUrlBase64}
 use Rattle.data_url_c.specs.declared.parts.DataUrlStep.{DataUrlStep}
@@ -148,12 +147,6 @@ base64_more {tail} {window} {before} {after} {end} {len} old new w l f none ne h
 
 -- Calls
 
-pub steps_bad : {tail out : List ℕ} {r : DataUrlStep} (s : DataUrlBody) → (IsGoodBody tail s → ⊥) → r.status ≡ 12 → r.len ≡ 0 → StepsBody tail s s out out r
-steps_bad s h a b = record { bad = λ _. (record { state_stays = refl; output_stays = refl }, a, b); small = λ g l. absurd (h g); goes = λ g l. absurd (h g) }
-
-pub steps_small : {tail out : List ℕ} {r : DataUrlStep} (s : DataUrlBody) → IsGoodBody tail s → length out < 8 → r.status ≡ 5 → r.len ≡ 8 → StepsBody tail s s out out r
-steps_small s h l a b = record { bad = λ n. absurd (n h); small = λ g m. (record { state_stays = refl; output_stays = refl }, a, b); goes = λ g m. absurd (omega arith) }
-
 pub steps_on : {tail before after : List ℕ} {s t : DataUrlBody} {r : DataUrlStep} → IsGoodBody tail s → 8 ≤ length before → GoesOn tail s t before after r.len r.status → StepsBody tail s t before after r
 steps_on h l g = record { bad = λ n. absurd (n h); small = λ _ m. absurd (omega arith); goes = λ _ _. g }
 
@@ -165,14 +158,3 @@ steps_no_text {tail} {out} {r} s h l n a b =
 -- a window of a tail that is not UTF-8 is not, if it may be cut at its ends
 pub window_utf8 : {tail : List ℕ} {from room end : ℕ} → IsPlanned tail from room end → IsUtf8 tail → IsUtf8 (take (end - from) (drop from tail))
 window_utf8 {tail} {from} {room} {end} h u = IsUtf8-between tail from end u h.order h.start h.edge
-
-pub window_of : {tail window : List ℕ} {from room end : ℕ} → IsPlanned tail from room end → window ≡ take (end - from) (drop from tail) → IsWindowOf tail from window end
-window_of {tail} {window} {from} {room} {end} h e =
-    let P : List ℕ → Type 0 = λ s. IsCut s (drop end tail) in
-    record { order = h.order; within = h.within; window_is = e; cut = subst P (sym e) h.cut; edge = h.edge; goes_on = h.goes_on }
-
--- at the start, what is left is the whole body
-pub body_at_start : (tail : List ℕ) (s : DataUrlBody) → s.from ≡ 0 → s.left.pending ≡ 0 → s.left.padding ≡ 0 → body_left tail s ≡ outcome (flag_of s) (plain_body tail)
-body_at_start tail s from pending padding =
-    let waits : waiting_text s.left ≡ [] = ap (λ n. take n s.left.symbols ++ replicate s.left.padding 61) pending ∙ ap (λ n. replicate n 61) padding in
-    ap (λ w. outcome (flag_of s) (w ++ plain_body (drop s.from tail))) waits ∙ ap (λ n. outcome (flag_of s) (plain_body (drop n tail))) from

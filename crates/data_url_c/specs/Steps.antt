@@ -3,16 +3,15 @@ pub mod Opening
 pub mod Windows
 use Rattle.std.specs.Global.{Global}
 use Rattle.std.specs.Prelude.{Bool, Err, IsUtf8, List, MatchBool, MatchOption, None, Ok, Result, Some, Vec, [], drop, encode_utf8_all, false, is_some, length, min, option_map, slice_index, take, ℕ, ◌++◌, ◌+◌, ◌-◌, ◌<◌, ◌==◌, ◌^◌, ◌∷◌, ◌≡◌, ◌≤◌, ◌⊎◌}
-use Rattle.data_url.specs.DataUrl.{IsAcceptable, IsUrlOf, mime_of, url_body, url_tail}
-use Rattle.data_url.specs.Fetch.{Bad, Good, NoComma as no_comma, NoScheme, Outcome, has_base64_suffix, header_of, mime_text, plain_body, staged, tail_of}
+use Rattle.data_url.specs.DataUrl.{Answers, IsAcceptable, IsUrlOf, mime_of, url_body, url_tail}
+use Rattle.data_url.specs.Fetch.{Bad, Good, Outcome, plain_body, outcome_bytes}
 use Rattle.data_url.specs.Mime.{IsRecordOf, Record, printed}
 use Rattle.data_url.specs.MimeType.{record_of}
 use Rattle.data_url.specs.Url.{behind, encoded_fragment}
 use Rattle.data_url.specs.declared.DataUrl.{DataUrl}
-use Rattle.data_url_c.specs.Answers.{Crosses, Given, status_of_kind}
+use Rattle.data_url_c.specs.Answers.{Crosses, Given, Shows, status_of_kind}
 use Rattle.data_url_c.specs.Gives.{GivesMime, RefusesUrl}
 use Rattle.data_url_c.specs.declared.answer.DataUrlAnswer.{DataUrlAnswer}
-use Rattle.data_url_c.specs.declared.kind.ShortText.{ShortText}
 use Rattle.data_url_c.specs.declared.refusal.Refusal.TheVariants.{InvalidBase64, NoComma, NoFragment, NotADataUrl, OutOfMemory}
 use Rattle.data_url.specs.Base64.{complete_bytes, decoded, first_fault, is_valid, kind_of}
 use Rattle.data_url.specs.Run.{Call, IsRun, joined_pieces}
@@ -62,10 +61,6 @@ HasFragment url (Err (InvalidBase64 kind none)) =
 HasFragment url (Err OutOfMemory) = Unit {0}
 HasFragment url (Err refusal) = ⊥
 
--- the text that was written
-abbrev pub held : ShortText → List ℕ
-held text = take text.len text.bytes
-
 -- the call gives a fault of base64
 abbrev pub IsFault : Given → Type 0
 IsFault (Err (InvalidBase64 kind before)) = Unit {0}
@@ -80,31 +75,22 @@ abbrev pub HasLength : Outcome → ℕ → Type 0
 HasLength (Good bytes) len = len ≡ min (length bytes) (2 ^ 64 - 1)
 HasLength (Bad bytes kind) len = Unit {0}
 
--- the URL of a text, or why it has none
-abbrev pub IsProbed : List ℕ → Result DataUrl Refusal → Type 0
-IsProbed x (Ok url) = IsUrlOf x url
-IsProbed x (Err NotADataUrl) = staged x ≡ NoScheme
-IsProbed x (Err NoComma) = staged x ≡ no_comma
-IsProbed x (Err OutOfMemory) = IsAcceptable (staged x)
-IsProbed x (Err refusal) = ⊥
-
--- the header's record of a probe is printed as the text, and the flag says whether its body has one
+-- the header's record of a probe was printed to an output, and the flag says whether its body has one
 -- byte
-pub record IsRead (x text : List ℕ) (flag : Bool) : Type 0 where
+pub record IsRead (x old new : List ℕ) (r : DataUrlAnswer) (flag : Bool) : Type 0 where
   pub url : DataUrl
   pub url_is : IsUrlOf x url
-  pub text_is : text ≡ encode_utf8_all (printed (record_of (mime_of url)))
+  pub text : Vec ℕ Global
+  pub text_is : text.items ≡ encode_utf8_all (printed (record_of (mime_of url)))
+  pub shown : Shows 0 text.items old new r
   pub len : ℕ
   pub len_is : HasLength (url_body url) len
   pub flag_is : flag ≡ (len == 1)
 
 -- what a probe gives
-abbrev pub ReadsProbe : List ℕ → Result (Vec ℕ Global × Bool) Refusal → Type 0
-ReadsProbe x (Ok found) = IsRead x found.0.items found.1
-ReadsProbe x (Err NotADataUrl) = staged x ≡ NoScheme
-ReadsProbe x (Err NoComma) = staged x ≡ no_comma
-ReadsProbe x (Err OutOfMemory) = IsAcceptable (staged x)
-ReadsProbe x (Err refusal) = ⊥
+abbrev pub ReadsProbe : List ℕ → List ℕ → List ℕ → Result (DataUrlAnswer × Bool) Refusal → Type 0
+ReadsProbe x old new (Ok found) = IsRead x old new found.0 found.1
+ReadsProbe x old new (Err refusal) = RefusesUrl x refusal × (new ≡ old)
 
 -- a piece was written after the first len bytes, if it fits
 pub record Writes (piece old : List ℕ) (len : ℕ) (new : List ℕ) (len' : ℕ) : Type 0 where
@@ -120,6 +106,14 @@ pub record HandsGroups {F E : Type 0} (step : F → List ℕ → Result (Unit {0
   pub bytes_are : joined_pieces run ≡ complete_bytes u
   pub answer : MatchOption (first_fault u) (r ≡ Ok tt)
       (λ place. r ≡ Err (decode.InvalidBase64 (kind_of u)))
+
+-- the bytes of a body were handed to the closure f, which is g now, and r tells its fault
+pub record HandsBody {F E : Type 0} (step : F → List ℕ → Result (Unit {0}) E → F → Type 0) (f : F)
+    (body : Outcome) (r : Result (Unit {0}) (DecodeError E)) (g : F) : Type 0 where
+  pub run : List (Call F E)
+  pub ran : IsRun step f run g
+  pub bytes_are : joined_pieces run ≡ outcome_bytes body
+  pub answer : Answers body AnyAnswer r
 
 -- of the text u the groups before its first fault were written, and r tells the fault
 pub record DecodesGroups (u before after : List ℕ) (r : DataUrlStep) : Type 0 where

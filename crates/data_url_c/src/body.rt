@@ -108,16 +108,12 @@ fn end_body(state: &DataUrlBase64, written: usize, out: &mut [u8]) -> DataUrlSte
     }
 }
 
-/// Decodes a whole body into an output that has room for its text.
-pub(crate) fn whole(tail: &str, is_base64: bool, out: &mut [u8]) -> DataUrlStep
+/// Decodes a whole body of base64 into an output that has room for its text. Of base64 that is not valid it returns the status.
+pub(crate) fn feed_whole(tail: &str, out: &mut [u8]) -> DataUrlStep
     requires { length tail.now ≤ length out.old }
-    ensures { EndsAs (outcome is_base64 (plain_body tail.now)) out.old out.new
+    ensures { EndsAs (outcome true (plain_body tail.now)) out.old out.new
         result.status result.len }
 {
-    if !is_base64 {
-        let (len, _) = copy_body(tail, out);
-        return DataUrlStep { status: DONE, len };
-    }
     let mut state = START;
     let (step, _) = feed_body(&mut state, tail, out);
     if step.status != DONE {

@@ -5,8 +5,10 @@ ghost use Rattle.data_url.specs.Base64.{Kind, UnexpectedSymbol, kind_text};
 ghost use Rattle.data_url_c.specs.Answers.{status_of_kind};
 
 use data_url::forgiving_base64::InvalidBase64;
-use std::fmt::{self, Write};
-use std::str;
+use std::fmt::InlineText;
+
+/// The end of a printed text that did not fit its room.
+const CUT: &[u8; 3] = b"...";
 
 /// Base64 with padding that does not fit the symbols.
 pub(crate) const PADDING: u32 = 8;
@@ -21,54 +23,7 @@ pub(crate) const SYMBOL_AFTER_PADDING: u32 = 10;
 pub(crate) const UNEXPECTED_SYMBOL: u32 = 256;
 
 /// How many bytes an error's text has at most, with room to spare.
-const ROOM: usize = 60;
-
-/// A text of at most `ROOM` bytes, which takes no memory.
-#[derive(Drop)]
-struct ShortText {
-    bytes: [u8; ROOM],
-    len: usize,
-}
-
-impl ShortText {
-    ghost use Rattle.std.specs.Prelude.{[]};
-    ghost use Rattle.data_url_c.specs.Steps.{held};
-
-    /// An empty text.
-    fn new() -> ShortText
-        ensures { held result ≡ [] }
-    {
-        ShortText {
-            bytes: [0; ROOM],
-            len: 0,
-        }
-    }
-
-    /// The text, if it is UTF-8.
-    fn as_str(&self) -> Option<&str>
-        ensures text { IfSome result (λ text. text.now ≡ held self.now) }
-        ensures short { IfSome result (λ text. length text.now < 64) }
-    {
-        str::from_utf8(self.bytes.get(..self.len)?).ok()
-    }
-}
-
-impl fmt::Write for ShortText {
-    ghost use Rattle.std.specs.Prelude.{◌++◌};
-    ghost use Rattle.data_url_c.specs.Steps.{held};
-
-    ghost write_str_gives = { λ before text after. held after ≡ held before ++ text };
-
-    fn write_str(&mut self, text: &str) -> fmt::Result {
-        if self.len > ROOM || text.len() > ROOM - self.len {
-            return Err(fmt::Error);
-        }
-        let end = self.len + text.len();
-        self.bytes[self.len..end].copy_from_slice(text.as_bytes());
-        self.len = end;
-        Ok(())
-    }
-}
+const ROOM: usize = 63;
 
 /// The byte that the text of an unexpected symbol names.
 fn unexpected_byte(text: &str) -> Option<u8>
@@ -97,14 +52,15 @@ fn status_of_text(text: &str) -> Option<u32>
     }
 }
 
-/// The status of base64 that is not valid: its kind, and of an unexpected symbol the byte too. None if the error's text could
-/// not be read, which does not happen.
+/// Returns the status of base64 that is not valid: its kind, and of an unexpected symbol the byte too. None if the error's text
+/// could not be read, which does not happen.
 pub(crate) fn status_of(refusal: &InvalidBase64) -> Option<u32>
     ensures { IfSome result (λ status. status ≡ status_of_kind refusal.now) }
 {
-    let mut text = ShortText::new();
-    let Ok(()) = write!(text, "{refusal}") else {
+    let text = InlineText::<ROOM>::of(refusal);
+    let text = text.as_str();
+    if text.as_bytes().ends_with(CUT) {
         return None;
-    };
-    status_of_text(text.as_str()?)
+    }
+    status_of_text(text)
 }

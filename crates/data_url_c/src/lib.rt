@@ -21,10 +21,9 @@
 //! What stands in the output behind the bytes of an answer is as it was; where the length is 0, all of it.
 #![tactic(auto)]
 
-ghost use Rattle.std.specs.Prelude.{IsUtf8, length, ◌≤◌};
-ghost use Rattle.data_url.specs.Fetch.{outcome, plain_body};
+ghost use Rattle.std.specs.Prelude.{IsUtf8};
 ghost use Rattle.data_url_c.specs.Answers.{Answers};
-ghost use Rattle.data_url_c.specs.Bodies.{EndsAs, StepsBody};
+ghost use Rattle.data_url_c.specs.Bodies.{StepsBody};
 ghost use Rattle.data_url_c.specs.Gives.{GivesBase64, GivesBody, GivesFragment, GivesMime, GivesType};
 ghost use Rattle.data_url_c.specs.Opens.{Opens};
 ghost use Rattle.data_url_c.specs.Parts.{FeedsPart, FinishesPart};
@@ -38,6 +37,7 @@ mod output;
 mod parts;
 mod refusal;
 mod texts;
+mod whole;
 mod window;
 
 pub use answer::DataUrlAnswer;
@@ -49,12 +49,25 @@ pub use refusal::Refusal;
 use std::alloc::Global;
 
 /// The body of a data: URL ([Fetch Standard, section 6](https://fetch.spec.whatwg.org/#data-url-processor)). Of base64 that
-/// is not valid the output has the bytes before the first fault.
+/// is not valid the output has the bytes before the first fault. The body is decoded straight into an output that is at least
+/// as long as the text after the comma, and otherwise into a vector first.
 #[unsafe(no_mangle)]
 pub extern "C" fn dataurl_body(alloc: Global, url: &[u8], out: &mut [u8]) -> DataUrlAnswer
     ensures { Answers (GivesBody url.now) out.old out.new result }
 {
-    answer(texts::body(alloc, url), out)
+    match texts::text_of(url) {
+        Some(text) => whole::body(alloc, text, out),
+        None => answer(Err(Refusal::NotUtf8), out),
+    }
+}
+
+/// The body of a data: URL that is known to be UTF-8, and is not checked.
+#[unsafe(no_mangle)]
+pub extern "C" fn dataurl_body_utf8(alloc: Global, url: &[u8], out: &mut [u8]) -> DataUrlAnswer
+    requires { IsUtf8 url.now }
+    ensures { Answers (GivesBody url.now) out.old out.new result }
+{
+    whole::body(alloc, unsafe { str::from_utf8_unchecked(url) }, out)
 }
 
 /// The MIME type of a data: URL, as it is printed
@@ -139,24 +152,6 @@ pub extern "C" fn dataurl_base64_finish(state: &mut DataUrlBase64, out: &mut [u8
     ensures { FinishesPart state.old state.new out.old out.new result }
 {
     parts::finish(state, out)
-}
-
-/// Decodes the whole body of a tail, the bytes after the first comma of a data: URL, in one call
-/// ([Fetch Standard, section 6](https://fetch.spec.whatwg.org/#data-url-processor)). The tail is UTF-8, and the output is at
-/// least as long. Of base64 that is not valid the output has the bytes before the first fault. No memory is taken.
-#[unsafe(no_mangle)]
-pub extern "C" fn dataurl_body_whole_utf8(
-    tail: &[u8],
-    is_base64: bool,
-    out: &mut [u8],
-) -> DataUrlStep
-    requires text { IsUtf8 tail.now }
-    requires room { length tail.now ≤ length out.old }
-    ensures { EndsAs (outcome is_base64 (plain_body tail.now)) out.old out.new
-        result.status result.len }
-{
-    let text = unsafe { str::from_utf8_unchecked(tail) };
-    body::whole(text, is_base64, out)
 }
 
 /// Decodes the next part of a body into the output, and takes no memory

@@ -6,15 +6,21 @@ ghost use Rattle.data_url.specs.DataUrl.{url_body};
 ghost use Rattle.data_url.specs.Url.{is_c0_control_or_space};
 ghost use Rattle.data_url_c.specs.Gives.{RefusesUrl};
 ghost use Rattle.data_url_c.specs.Opens.{Opens};
-ghost use Rattle.data_url_c.specs.Steps.{HasLength, IsProbed, ReadsProbe};
+ghost use Rattle.data_url_c.specs.Steps.{HasLength, ReadsProbe};
 ghost use Rattle.data_url_c.specs.Steps.Opening.{IsRefused, ReadsUrl};
 
-use crate::answer::{DataUrlAnswer, answer};
+use crate::answer::{DONE, DataUrlAnswer, answer, show};
 use crate::refusal::Refusal;
-use crate::texts::{decode_body, printed_of};
-use data_url::{DataUrl, DataUrlError};
+use crate::texts::{decode_body, printed_of, url_of};
+use data_url::DataUrl;
 use std::alloc::{AllocError, Global};
 use std::convert::Infallible;
+
+/// What a URL begins with whose header is empty.
+const NO_HEADER: &[u8; 6] = b"data:,";
+
+/// The MIME type of such a URL, as it is printed.
+const DEFAULT_TYPE: &[u8; 27] = b"text/plain;charset=US-ASCII";
 
 /// What opening a URL returns.
 #[repr(C)]
@@ -33,14 +39,14 @@ pub struct DataUrlOpened {
 }
 
 /// Returns the place of the first comma.
-fn comma_of(text: &str) -> Option<usize>
+pub(crate) fn comma_of(text: &str) -> Option<usize>
     ensures { result ≡ position (λ b. b == 44) text.now }
 {
     text.as_bytes().iter().position(|byte| *byte == b',')
 }
 
 /// Returns how many bytes at the end are C0 controls or spaces.
-fn low_end_len(bytes: &[u8]) -> usize
+pub(crate) fn low_end_len(bytes: &[u8]) -> usize
     ensures { result ≡ suffix_len is_c0_control_or_space bytes.now }
 {
     bytes.iter().rev().take_while(|byte| **byte <= b' ').count()
@@ -79,46 +85,41 @@ fn body_len(url: &DataUrl) -> usize
 fn refusal_of(alloc: Global, text: &str) -> Refusal
     ensures { RefusesUrl text.now result }
 {
-    match DataUrl::process(alloc, text) {
-        Err(DataUrlError::NotADataUrl) => Refusal::NotADataUrl,
-        Err(DataUrlError::NoComma) => Refusal::NoComma,
-        Err(DataUrlError::OutOfMemory) => Refusal::OutOfMemory,
+    match url_of(alloc, text) {
+        Err(refusal) => refusal,
         Ok(_) => Refusal::OutOfMemory,
     }
 }
 
-/// Returns the URL of a probe.
-fn url_of_probe<'a>(alloc: Global, probe: &'a str) -> Result<DataUrl<'a>, Refusal>
-    ensures { IsProbed probe.entry.now result }
+/// Prints the MIME type of a probe's URL, and returns whether its body is base64.
+fn read_probe(alloc: Global, probe: &str, out: &mut [u8]) -> Result<(DataUrlAnswer, bool), Refusal>
+    ensures { ReadsProbe probe.now out.old out.new result }
 {
-    match DataUrl::process(alloc, probe) {
-        Ok(url) => Ok(url),
-        Err(DataUrlError::NotADataUrl) => Err(Refusal::NotADataUrl),
-        Err(DataUrlError::NoComma) => Err(Refusal::NoComma),
-        Err(DataUrlError::OutOfMemory) => Err(Refusal::OutOfMemory),
-    }
-}
-
-/// Returns the printed MIME type of a probe's URL, and whether its body is base64.
-fn read_probe(alloc: Global, probe: &str) -> Result<(Vec<u8>, bool), Refusal>
-    ensures { ReadsProbe probe.now result }
-{
-    match url_of_probe(alloc, probe) {
-        Ok(url) => match printed_of(alloc, url.mime_type()) {
-            Ok(text) => Ok((text, body_len(&url) == 1)),
-            Err(refusal) => Err(refusal),
-        },
+    let url = match url_of(alloc, probe) {
+        Ok(url) => url,
+        Err(refusal) => return Err(refusal),
+    };
+    match printed_of(alloc, url.mime_type()) {
+        Ok(text) => Ok((show(DONE, &text, out), body_len(&url) == 1)),
         Err(refusal) => Err(refusal),
     }
 }
 
-/// Returns the printed MIME type of a URL with a comma, and whether its body is base64.
-fn read_url(alloc: Global, text: &str, comma: usize) -> Result<(Vec<u8>, bool), Refusal>
+/// Prints the MIME type of a URL with a comma, and returns whether its body is base64.
+fn read_url(
+    alloc: Global,
+    text: &str,
+    comma: usize,
+    out: &mut [u8],
+) -> Result<(DataUrlAnswer, bool), Refusal>
     requires { position (λ b. b == 44) text.now ≡ Some comma }
-    ensures { ReadsUrl text.now comma result }
+    ensures { ReadsUrl text.now comma out.old out.new result }
 {
+    if text.as_bytes().starts_with(NO_HEADER) {
+        return Ok((show(DONE, DEFAULT_TYPE, out), false));
+    }
     match probe_of(alloc, text, comma) {
-        Ok(probe) => read_probe(alloc, probe.as_str()),
+        Ok(probe) => read_probe(alloc, probe.as_str(), out),
         Err(AllocError) => Err(refusal_of(alloc, text)),
     }
 }
@@ -144,9 +145,8 @@ pub(crate) fn open(alloc: Global, text: &str, out: &mut [u8]) -> DataUrlOpened
     let Some(comma) = comma_of(text) else {
         return refused(refusal_of(alloc, text), out);
     };
-    match read_url(alloc, text, comma) {
-        Ok((printed, is_base64)) => {
-            let DataUrlAnswer { status, len } = answer(Ok(printed), out);
+    match read_url(alloc, text, comma, out) {
+        Ok((DataUrlAnswer { status, len }, is_base64)) => {
             let tail = comma + 1;
             DataUrlOpened {
                 status,

@@ -4,7 +4,7 @@ ghost use Rattle.std.specs.Prelude.{◌+◌, ◌≡◌, IsUtf8, MatchOption, len
 ghost use Rattle.std.specs.Fn.{CalledAt};
 ghost use Rattle.data_url.specs.DataUrl.{Decodes, url_body, url_tail};
 ghost use Rattle.data_url.specs.MimeType.{record_of};
-ghost use Rattle.data_url_c.specs.Gives.{GivesBody, GivesFragment, GivesMime, GivesType};
+ghost use Rattle.data_url_c.specs.Gives.{GivesFragment, GivesMime, GivesType};
 ghost use Rattle.data_url_c.specs.Steps.{AnyAnswer, HasBody, HasFragment, HasText, IsUrlFor};
 
 use crate::refusal::Refusal;
@@ -23,17 +23,24 @@ pub(crate) fn text_of(bytes: &[u8]) -> Option<&str>
 }
 
 /// The URL of a text.
-pub(crate) fn url_of<'a>(alloc: Global, bytes: &'a [u8]) -> Result<DataUrl<'a>, Refusal>
-    ensures { IsUrlFor bytes.entry.now result }
+pub(crate) fn url_of<'a>(alloc: Global, text: &'a str) -> Result<DataUrl<'a>, Refusal>
+    ensures { IsUrlFor text.entry.now result }
 {
-    let Some(text) = text_of(bytes) else {
-        return Err(Refusal::NotUtf8);
-    };
     match DataUrl::process(alloc, text) {
         Ok(url) => Ok(url),
         Err(DataUrlError::NotADataUrl) => Err(Refusal::NotADataUrl),
         Err(DataUrlError::NoComma) => Err(Refusal::NoComma),
         Err(DataUrlError::OutOfMemory) => Err(Refusal::OutOfMemory),
+    }
+}
+
+/// The URL of the text of bytes.
+fn url_of_bytes<'a>(alloc: Global, bytes: &'a [u8]) -> Result<DataUrl<'a>, Refusal>
+    ensures { IsUrlFor bytes.entry.now result }
+{
+    match text_of(bytes) {
+        Some(text) => url_of(alloc, text),
+        None => Err(Refusal::NotUtf8),
     }
 }
 
@@ -59,7 +66,7 @@ where
 }
 
 /// The body of a URL, or the fault of its base64 with the bytes before it.
-fn bytes_of(alloc: Global, url: &DataUrl) -> Result<Vec<u8>, Refusal>
+pub(crate) fn bytes_of(alloc: Global, url: &DataUrl) -> Result<Vec<u8>, Refusal>
     ensures { HasBody (url_body url.now) result }
 {
     let mut bytes = Vec::new(alloc);
@@ -101,21 +108,11 @@ fn encoded_fragment_of(alloc: Global, url: &DataUrl) -> Result<Vec<u8>, Refusal>
     }
 }
 
-/// The body of the URL of a text.
-pub(crate) fn body(alloc: Global, url: &[u8]) -> Result<Vec<u8>, Refusal>
-    ensures { GivesBody url.now result }
-{
-    match url_of(alloc, url) {
-        Ok(url) => bytes_of(alloc, &url),
-        Err(refusal) => Err(refusal),
-    }
-}
-
 /// The printed MIME type of the URL of a text.
 pub(crate) fn mime(alloc: Global, url: &[u8]) -> Result<Vec<u8>, Refusal>
     ensures { GivesMime url.now result }
 {
-    match url_of(alloc, url) {
+    match url_of_bytes(alloc, url) {
         Ok(url) => printed_of(alloc, url.mime_type()),
         Err(refusal) => Err(refusal),
     }
@@ -125,7 +122,7 @@ pub(crate) fn mime(alloc: Global, url: &[u8]) -> Result<Vec<u8>, Refusal>
 pub(crate) fn fragment(alloc: Global, url: &[u8]) -> Result<Vec<u8>, Refusal>
     ensures { GivesFragment url.now result }
 {
-    match url_of(alloc, url) {
+    match url_of_bytes(alloc, url) {
         Ok(url) => encoded_fragment_of(alloc, &url),
         Err(refusal) => Err(refusal),
     }

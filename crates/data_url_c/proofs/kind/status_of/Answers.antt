@@ -1,10 +1,10 @@
-use Rattle.std.proofs.Common.{◌++◌, ap, ◌∙◌}
-use Rattle.std.proofs.lemmas.Fmt.{contents_after_writes}
+use Rattle.std.proofs.Common.{sym, ◌∙◌}
 use Rattle.data_url.specs.Base64.{kind_text}
-use Rattle.data_url_c.specs.Steps.{held}
+use Rattle.data_url_c.proofs.PrintLemmas.{not_cut}
 use Rattle.data_url_c.proofs.kind.status_of.Goals as goal
 
 pub returns : goal.returns
 returns c =
-    let text = contents_after_writes _ held (λ w l v t. t) _ _ _ c.in-Ok.ensures.writes in
-    c.status_of_text.ensures c.args.refusal.now (c.in_ok-as_str.ensures.text ∙ text ∙ ap (λ s. s ++ kind_text c.args.refusal.now) c.new-text.ensures)
+    let kind = c.args.refusal.now in
+    let text = not_cut (kind_text kind) _ c.as_bytes.result.now c.ends_with.result c.of-text.ensures.text (c.as_bytes.ensures.value ∙ c.as_str-text.ensures.value) c.ends_with.ensures.value c.if-ends_with.false in
+    c.status_of_text.ensures kind (sym c.as_bytes.ensures.value ∙ text)

@@ -1,22 +1,16 @@
-use Rattle.std.proofs.Common.{[], ◌∷◌, ◌≡◌, ◌≤◌, arith, length, refl, rules}
+use Rattle.std.proofs.Common.{[], ◌∷◌, ◌≡◌, ◌≤◌, arith, length, refl, rules, true}
 use Rattle.data_url.specs.Fetch.{plain_body}
 use Rattle.data_url.proofs.Base64BodyLemmas.{body_shorter}
 use Rattle.data_url_c.specs.declared.parts.DataUrlBase64.{DataUrlBase64}
-use Rattle.data_url_c.proofs.BodyLemmas.{ends_fault, ends_plain, ends_whole}
+use Rattle.data_url_c.proofs.BodyLemmas.{ends_fault, ends_whole}
 use Rattle.data_url_c.proofs.LeftLemmas.{taken_room}
-use Rattle.data_url_c.proofs.body.whole.Goals as goal
-
-pub copy_body-len-requires : goal.copy_body-len-requires
-copy_body-len-requires c = omega (arith, body_shorter c.args.tail.now, c.requires)
-
-pub returns-then-not-is_base64 : goal.returns-then-not-is_base64
-returns-then-not-is_base64 c = ends_plain c.args.is_base64 (search rules) c.copy_body-len.ensures.wrote
+use Rattle.data_url_c.proofs.body.feed_whole.Goals as goal
 
 pub feed_body-requires-clause-room : goal.feed_body-requires-clause-room
 feed_body-requires-clause-room c = omega (arith, body_shorter c.args.tail.now, c.requires)
 
 pub returns-then-step-ne-DONE : goal.returns-then-step-ne-DONE
-returns-then-step-ne-DONE c = ends_fault c.args.is_base64 (search rules) c.feed_body.ensures.fed c.if-step-ne-DONE.true
+returns-then-step-ne-DONE c = ends_fault true refl c.feed_body.ensures.fed c.if-step-ne-DONE.true
 
 start : DataUrlBase64
 start = record { symbols = 0 ∷ 0 ∷ 0 ∷ []; pending = 0; padding = 0 }
@@ -34,4 +28,4 @@ returns c =
     let size : length c.feed_body.new.out ≡ length c.args.out.now = search rules in
     let within : c.feed_body.result.0.len ≤ length c.feed_body.new.out = omega (arith, c.feed_body.ensures.fed.wrote.within) in
     let room = taken_room start c.feed_body.new.state (plain_body c.args.tail.now) refl c.feed_body.ensures.fed c.if-step-ne-DONE.false within in
-    ends_whole c.args.is_base64 (search rules) c.feed_body.ensures.fed c.if-step-ne-DONE.false size c.end_body.ensures (omega (arith, room, body_shorter c.args.tail.now, c.requires))
+    ends_whole true refl c.feed_body.ensures.fed c.if-step-ne-DONE.false size c.end_body.ensures (omega (arith, room, body_shorter c.args.tail.now, c.requires))

@@ -1,0 +1,155 @@
+-- Whole bodies, decoded into an output.
+use Rattle.std.proofs.Common.{◌≡◌, ℕ, ◌<◌, ◌≤◌, ◌^◌, Bool, true, false, List, [], ◌++◌, length, drop, Option, Some, Result, Ok, Err, refl, sym, ap, ◌∙◌, subst, arith}
+use Rattle.std.specs.Global.{Global}
+use Rattle.std.specs.Prelude.{IsUtf8}
+use Rattle.std.proofs.lemmas.List.{length-take-le, take-append-drop}
+use Rattle.std.proofs.Math.Seq.{drop-append_seam}
+use Rattle.data_url.specs.Base64.{Kind}
+use Rattle.data_url.specs.DataUrl.{Answers as BodyAnswers, Decodes, IsUrlOf, is_base64, url_body, url_tail}
+use Rattle.data_url.specs.Fetch.{Bad, Good, Outcome, outcome, outcome_bytes, plain_body}
+use Rattle.data_url.specs.Run.{IsRun, refusal}
+use Rattle.std.specs.declared.convert.Infallible.{Infallible}
+use Rattle.data_url.specs.declared.DataUrl.{DataUrl}
+use Rattle.data_url.specs.declared.forgiving_base64.DecodeError.{DecodeError}
+use Rattle.data_url.specs.declared.forgiving_base64.DecodeError.TheVariants.{InvalidBase64 as Invalid}
+use Rattle.data_url.proofs.RunLemmas.{match_at_none}
+use Rattle.data_url.proofs.WholeLemmas.{run_keeps}
+use Rattle.data_url.proofs.RunMeasures.{body_within_tail}
+use Rattle.data_url_c.specs.Answers.{Answers, Shows}
+use Rattle.data_url_c.specs.Bodies.{EndsAs}
+use Rattle.data_url_c.specs.Gives.{GivesBody}
+use Rattle.data_url_c.specs.Parts.{WritesFront}
+use Rattle.data_url_c.specs.Steps.{AnyAnswer, HandsBody, Writes}
+use Rattle.data_url_c.specs.declared.refusal.Refusal.TheVariants.{InvalidBase64}
+use Rattle.data_url_c.proofs.GivenLemmas.{url_with}
+use Rattle.data_url_c.proofs.PartLemmas.{Reaches, no_refusal, outer_calls, outer_joined, outer_ran, run_reaches, writes_front}
+use Rattle.data_url_c.proofs.PrintLemmas.{vec_of}
+
+-- What the calls of a closure wrote
+
+module _ {F G : Type 0} (inner : G → List ℕ → Result (Unit {0}) Infallible → G → Type 0) (outer : F → List ℕ → Result (Unit {0}) Infallible → F → Type 0) (K : G → F) (maps : (g : G) (piece : List ℕ) (r : Result (Unit {0}) Infallible) (g' : G) → inner g piece r g' → outer (K g) piece r (K g')) where
+  -- a closure that hands its pieces on
+  pub hands_body : {f g : G} {w w' : F} {most : ℕ} {body : Outcome} {r : Result (Unit {0}) (DecodeError Infallible)}
+      → Decodes inner f most body AnyAnswer r g → K f ≡ w → w' ≡ K g → HandsBody outer w body r w'
+  hands_body {f} {g} {w} {w'} h a b =
+      let P : F → Type 0 = λ x. IsRun outer x (outer_calls inner outer K maps h.run) (K g) in
+      let Q : F → Type 0 = λ x. IsRun outer w (outer_calls inner outer K maps h.run) x in
+      let gave = match_at_none (refusal h.run) _ _ (no_refusal (refusal h.run)) h.gave in
+      record {
+        run = outer_calls inner outer K maps h.run;
+        ran = subst Q (sym b) (subst P a (outer_ran inner outer K maps h.run f g h.ran));
+        bytes_are = outer_joined inner outer K maps h.run ∙ gave.bytes_are;
+        answer = gave.answer;
+      }
+
+pub body_reaches : {F E : Type 0} {step : F → List ℕ → Result (Unit {0}) E → F → Type 0} {f g : F} {body : Outcome} {r : Result (Unit {0}) (DecodeError E)} {out' : List ℕ} {len' : ℕ}
+    (out : List ℕ) (bytes : F → List ℕ) (len : F → ℕ) → HandsBody step f body r g
+    → ((p : F) (piece : List ℕ) (s : Result (Unit {0}) E) (q : F) → step p piece s q → Writes piece (bytes p) (len p) (bytes q) (len q))
+    → bytes f ≡ out → len f ≡ 0 → out' ≡ bytes g → len' ≡ len g → Reaches out (outcome_bytes body) out' len'
+body_reaches {step = step} {f = f} {g = g} {body = body} {out' = out'} {len' = len'} out bytes len h writes b l o e fits =
+    let first : Reaches out [] (bytes f) (len f) = λ k. (l, b) in
+    let last = run_reaches step bytes len writes out h.run [] f g h.ran first in
+    let k = last (omega (arith, fits, ap length h.bytes_are)) in
+    (e ∙ k.0 ∙ ap length h.bytes_are, o ∙ k.1 ∙ ap (λ x. x ++ drop (length x) out) h.bytes_are)
+
+-- what each call keeps, all of them keep
+pub hands_keep : {F E A : Type 0} {step : F → List ℕ → Result (Unit {0}) E → F → Type 0} {f g : F} {body : Outcome} {r : Result (Unit {0}) (DecodeError E)}
+    → HandsBody step f body r g → (K : F → A) → ((p : F) (piece : List ℕ) (s : Result (Unit {0}) E) (q : F) → step p piece s q → K p ≡ K q)
+    → K f ≡ K g
+hands_keep {step = step} {f = f} {g = g} h K keeps = run_keeps step K keeps h.run f g h.ran
+
+good_of : {E : Type 0} (body : Outcome) (r : Result (Unit {0}) (DecodeError E)) → r ≡ Ok tt → BodyAnswers body AnyAnswer r
+    → (bytes : List ℕ) × (body ≡ Good bytes)
+good_of (Good bytes) r e h = (bytes, refl)
+good_of (Bad bytes kind) r e h = absurd (let k = sym e ∙ h in cc)
+
+bad_of : {E : Type 0} (body : Outcome) (r : Result (Unit {0}) (DecodeError E)) (kind : Kind) → r ≡ Err (Invalid kind)
+    → BodyAnswers body AnyAnswer r → (bytes : List ℕ) × (kind : Kind) × (body ≡ Bad bytes kind)
+bad_of (Good bytes) (Ok x) kind e h = absurd (cc)
+bad_of (Good bytes) (Err x) kind e h = absurd h
+bad_of (Bad bytes other) r kind e h = (bytes, other, refl)
+
+pub some_same : (x y : List ℕ) → ◌≡◌ {A = Option (List ℕ)} (Some x) (Some y) → x ≡ y
+some_same x y e = cc
+
+body_fits : (url : DataUrl) {tail : List ℕ} (out : List ℕ) → url_tail url ≡ tail → length tail ≤ length out
+    → length (outcome_bytes (url_body url)) ≤ length out
+body_fits url out t room = let few = body_within_tail url in omega (arith, few, ap length t, room)
+
+-- a good body
+pub ends_good : {E : Type 0} (url : DataUrl) {tail : List ℕ} (r : Result (Unit {0}) (DecodeError E)) (out out' : List ℕ) (len : ℕ)
+    → url_tail url ≡ tail → length tail ≤ length out → r ≡ Ok tt → BodyAnswers (url_body url) AnyAnswer r
+    → Reaches out (outcome_bytes (url_body url)) out' len → EndsAs (url_body url) out out' 0 len
+ends_good url r out out' len t room e answer h =
+    let fits = body_fits url out t room in
+    let good = good_of (url_body url) r e answer in
+    let k = h fits in
+    let P : Outcome → Type 0 = λ b. EndsAs b out out' 0 len in
+    subst P (sym good.1) (refl, writes_front (ap outcome_bytes good.1) k.0 k.1 (omega (arith, fits, ap (λ b. length (outcome_bytes b)) good.1)))
+
+flag_of_bad : (flag : Bool) (x bytes : List ℕ) (kind : Kind) → outcome flag x ≡ Bad bytes kind → flag ≡ true
+unfolding outcome
+flag_of_bad true x bytes kind e = refl
+flag_of_bad false x bytes kind e = absurd (cc)
+
+-- what was written twice was written
+written_twice : {bytes out mid out' : List ℕ} {len len' : ℕ} → length bytes ≤ length out → Reaches out bytes mid len
+    → length out' ≡ length mid → WritesFront bytes mid out' len' → WritesFront bytes out out' len'
+written_twice {bytes} {out} {mid} {out'} {len} {len'} fits h size w =
+    let k = h fits in
+    let within = w.within in
+    let long : length bytes ≡ len' = ap length (sym w.bytes_are) ∙ length-take-le len' out' (omega (arith, size)) in
+    record {
+      within = omega (arith, fits, long);
+      bytes_are = w.bytes_are;
+      rest_stays = w.rest_stays ∙ ap (drop len') k.1 ∙ ap (λ n. drop n (bytes ++ drop (length bytes) out)) (sym long)
+          ∙ drop-append_seam bytes (drop (length bytes) out) ∙ ap (λ n. drop n out) long;
+    }
+
+-- a bad one, that was decoded again
+pub ends_bad : {E : Type 0} (url : DataUrl) {tail mid : List ℕ} {len : ℕ} (r : Result (Unit {0}) (DecodeError E)) (kind : Kind)
+    (out out' : List ℕ) (status len' : ℕ) → url_tail url ≡ tail → length tail ≤ length out → r ≡ Err (Invalid kind)
+    → BodyAnswers (url_body url) AnyAnswer r → Reaches out (outcome_bytes (url_body url)) mid len → length out' ≡ length mid
+    → EndsAs (outcome true (plain_body tail)) mid out' status len' → EndsAs (url_body url) out out' status len'
+ends_bad url {tail} {mid} {len} r kind out out' status len' t room e answer h size k =
+    let bad = bad_of (url_body url) r kind e answer in
+    let on = flag_of_bad (is_base64 url) (plain_body (url_tail url)) bad.0 bad.1 bad.2 in
+    let P : Outcome → Type 0 = λ o. EndsAs o mid out' status len' in
+    let Q : Outcome → Type 0 = λ o. EndsAs o out out' status len' in
+    let R : Outcome → Type 0 = λ o. Reaches out (outcome_bytes o) mid len in
+    let again =
+    subst P (ap (λ s. outcome true (plain_body s)) (sym t) ∙ ap (λ v. outcome v (plain_body (url_tail url))) (sym on) ∙ bad.2) k in
+    let fits : length bad.0 ≤ length out = omega (arith, body_fits url out t room, ap (λ b. length (outcome_bytes b)) bad.2) in
+    subst Q (sym bad.2) (again.0, written_twice fits (subst R bad.2 h) size again.1)
+
+-- The answer
+
+shows_front : {bytes old new : List ℕ} {status status' len : ℕ} → status' ≡ status → length new ≡ length old → WritesFront bytes old new len
+    → Shows status bytes old new (record { status = status'; len = len })
+shows_front {bytes} {old} {new} {status} {status'} {len} e size w =
+    let within = w.within in
+    let long : len ≡ length bytes = sym (length-take-le len new (omega (arith, size))) ∙ ap length w.bytes_are in
+    record {
+      len = long;
+      fits = λ l. (e, sym (take-append-drop len new) ∙ ap (λ x. x ++ drop len new) w.bytes_are ∙ ap (λ x. bytes ++ x) (w.rest_stays ∙ ap (λ n. drop n old) long));
+      is_too_small = λ l. absurd (omega (arith, long, within));
+    }
+
+answers_by : {x : List ℕ} {url : DataUrl} {old new : List ℕ} {status len : ℕ} → Global → IsUtf8 x → IsUrlOf x url → length old < 2 ^ 63
+    → length new ≡ length old → (o : Outcome) → url_body url ≡ o → EndsAs o old new status len
+    → Answers (GivesBody x) old new (record { status = status; len = len })
+answers_by {old = old} {len = len} memory t u small size (Good bytes) e h =
+    let shown = shows_front h.0 size h.1 in
+    let within = h.1.within in
+    let long = shown.len in
+    record { given = Ok (vec_of memory bytes (omega (arith, long, within))); is_given = (_, url_with t u e refl); crosses = shown }
+answers_by {old = old} {len = len} memory t u small size (Bad bytes kind) e h =
+    let shown = shows_front h.0 size h.1 in
+    let within = h.1.within in
+    let long = shown.len in
+    record { given = Err (InvalidBase64 kind (vec_of memory bytes (omega (arith, long, within)))); is_given = (_, url_with t u e refl); crosses = shown }
+
+pub answers_into : {x : List ℕ} {url : DataUrl} {old new : List ℕ} {status len : ℕ} → Global → IsUtf8 x → IsUrlOf x url → length old < 2 ^ 63
+    → length new ≡ length old → EndsAs (url_body url) old new status len
+    → Answers (GivesBody x) old new (record { status = status; len = len })
+answers_into {url = url} memory t u small size h = answers_by memory t u small size (url_body url) refl h
