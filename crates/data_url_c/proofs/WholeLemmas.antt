@@ -15,7 +15,7 @@ use Rattle.data_url.specs.declared.forgiving_base64.DecodeError.TheVariants.{Inv
 use Rattle.data_url.proofs.RunLemmas.{match_at_none}
 use Rattle.data_url.proofs.WholeLemmas.{run_keeps}
 use Rattle.data_url.proofs.RunMeasures.{body_within_tail}
-use Rattle.data_url_c.specs.Answers.{Answers, Shows}
+use Rattle.data_url_c.specs.Answers.{Answers, Shows, status_of_kind}
 use Rattle.data_url_c.specs.Bodies.{EndsAs}
 use Rattle.data_url_c.specs.Gives.{GivesBody}
 use Rattle.data_url_c.specs.Parts.{WritesFront}
@@ -64,10 +64,10 @@ good_of (Good bytes) r e h = (bytes, refl)
 good_of (Bad bytes kind) r e h = absurd (let k = sym e ∙ h in cc)
 
 bad_of : {E : Type 0} (body : Outcome) (r : Result (Unit {0}) (DecodeError E)) (kind : Kind) → r ≡ Err (Invalid kind)
-    → BodyAnswers body AnyAnswer r → (bytes : List ℕ) × (kind : Kind) × (body ≡ Bad bytes kind)
+    → BodyAnswers body AnyAnswer r → (bytes : List ℕ) × (body ≡ Bad bytes kind)
 bad_of (Good bytes) (Ok x) kind e h = absurd (cc)
 bad_of (Good bytes) (Err x) kind e h = absurd h
-bad_of (Bad bytes other) r kind e h = (bytes, other, refl)
+bad_of (Bad bytes other) r kind e h = let same : other ≡ kind = cc in (bytes, ap (λ k. Bad bytes k) same)
 
 pub some_same : (x y : List ℕ) → ◌≡◌ {A = Option (List ℕ)} (Some x) (Some y) → x ≡ y
 some_same x y e = cc
@@ -86,6 +86,17 @@ ends_good url r out out' len t room e answer h =
     let k = h fits in
     let P : Outcome → Type 0 = λ b. EndsAs b out out' 0 len in
     subst P (sym good.1) (refl, writes_front (ap outcome_bytes good.1) k.0 k.1 (omega (arith, fits, ap (λ b. length (outcome_bytes b)) good.1)))
+
+-- a bad one, whose fault has this status
+pub ends_bad : {E : Type 0} (url : DataUrl) {tail : List ℕ} (r : Result (Unit {0}) (DecodeError E)) (kind : Kind) (out out' : List ℕ) (status len : ℕ)
+    → url_tail url ≡ tail → length tail ≤ length out → r ≡ Err (Invalid kind) → BodyAnswers (url_body url) AnyAnswer r
+    → status ≡ status_of_kind kind → Reaches out (outcome_bytes (url_body url)) out' len → EndsAs (url_body url) out out' status len
+ends_bad url r kind out out' status len t room e answer named h =
+    let fits = body_fits url out t room in
+    let bad = bad_of (url_body url) r kind e answer in
+    let k = h fits in
+    let P : Outcome → Type 0 = λ b. EndsAs b out out' status len in
+    subst P (sym bad.1) (named, writes_front (ap outcome_bytes bad.1) k.0 k.1 (omega (arith, fits, ap (λ b. length (outcome_bytes b)) bad.1)))
 
 flag_of_bad : (flag : Bool) (x bytes : List ℕ) (kind : Kind) → outcome flag x ≡ Bad bytes kind → flag ≡ true
 unfolding outcome
@@ -107,20 +118,20 @@ written_twice {bytes} {out} {mid} {out'} {len} {len'} fits h size w =
     }
 
 -- a bad one, that was decoded again
-pub ends_bad : {E : Type 0} (url : DataUrl) {tail mid : List ℕ} {len : ℕ} (r : Result (Unit {0}) (DecodeError E)) (kind : Kind)
+pub ends_again : {E : Type 0} (url : DataUrl) {tail mid : List ℕ} {len : ℕ} (r : Result (Unit {0}) (DecodeError E)) (kind : Kind)
     (out out' : List ℕ) (status len' : ℕ) → url_tail url ≡ tail → length tail ≤ length out → r ≡ Err (Invalid kind)
     → BodyAnswers (url_body url) AnyAnswer r → Reaches out (outcome_bytes (url_body url)) mid len → length out' ≡ length mid
     → EndsAs (outcome true (plain_body tail)) mid out' status len' → EndsAs (url_body url) out out' status len'
-ends_bad url {tail} {mid} {len} r kind out out' status len' t room e answer h size k =
+ends_again url {tail} {mid} {len} r kind out out' status len' t room e answer h size k =
     let bad = bad_of (url_body url) r kind e answer in
-    let on = flag_of_bad (is_base64 url) (plain_body (url_tail url)) bad.0 bad.1 bad.2 in
+    let on = flag_of_bad (is_base64 url) (plain_body (url_tail url)) bad.0 kind bad.1 in
     let P : Outcome → Type 0 = λ o. EndsAs o mid out' status len' in
     let Q : Outcome → Type 0 = λ o. EndsAs o out out' status len' in
     let R : Outcome → Type 0 = λ o. Reaches out (outcome_bytes o) mid len in
     let again =
-    subst P (ap (λ s. outcome true (plain_body s)) (sym t) ∙ ap (λ v. outcome v (plain_body (url_tail url))) (sym on) ∙ bad.2) k in
-    let fits : length bad.0 ≤ length out = omega (arith, body_fits url out t room, ap (λ b. length (outcome_bytes b)) bad.2) in
-    subst Q (sym bad.2) (again.0, written_twice fits (subst R bad.2 h) size again.1)
+    subst P (ap (λ s. outcome true (plain_body s)) (sym t) ∙ ap (λ v. outcome v (plain_body (url_tail url))) (sym on) ∙ bad.1) k in
+    let fits : length bad.0 ≤ length out = omega (arith, body_fits url out t room, ap (λ b. length (outcome_bytes b)) bad.1) in
+    subst Q (sym bad.1) (again.0, written_twice fits (subst R bad.1 h) size again.1)
 
 -- The answer
 

@@ -12,6 +12,7 @@ ghost use Rattle.data_url_c.specs.Steps.{HandsBody};
 use crate::answer::{DONE, DataUrlAnswer, answer};
 use crate::body::feed_whole;
 use crate::open::{comma_of, low_end_len};
+use crate::kind::status_of;
 use crate::output::push;
 use crate::parts::DataUrlStep;
 use crate::texts::{bytes_of, decode_body, url_of};
@@ -55,7 +56,11 @@ fn decode_into(url: &DataUrl, tail: &str, out: &mut [u8]) -> DataUrlStep
     };
     match hand_body(url, &mut write) {
         Ok(()) => DataUrlStep { status: DONE, len },
-        Err(DecodeError::InvalidBase64(_)) => feed_whole(tail, out),
+        Err(DecodeError::InvalidBase64(refusal)) => match status_of(&refusal) {
+            Some(status) => DataUrlStep { status, len },
+            // The text of the error could not be read, so the fault is looked for again.
+            None => feed_whole(tail, out),
+        },
         Err(DecodeError::WriteError(never)) => match never {},
     }
 }
