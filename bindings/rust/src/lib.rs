@@ -145,8 +145,19 @@ impl<'a> DataUrl<'a> {
         &self,
     ) -> Result<(Vec<u8>, Option<FragmentIdentifier<'a>>), InvalidBase64> {
         match self.body() {
+            (library::DONE, bytes) if self.is_whole(bytes.len()) => Ok((bytes, None)),
             (library::DONE, bytes) => Ok((bytes, self.fragment())),
             (status, _) => Err(forgiving_base64::invalid(status)),
+        }
+    }
+
+    /// Whether a body of this length takes every byte after the comma, so that none of them is a `#`.
+    fn is_whole(&self, len: usize) -> bool {
+        let tail = self.encoded_body_plus_fragment;
+        if self.base64 {
+            len % 3 == 0 && len / 3 * 4 == tail.len()
+        } else {
+            len == tail.len()
         }
     }
 
