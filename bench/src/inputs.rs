@@ -44,7 +44,7 @@ impl Numbers {
     }
 }
 
-/// Base64 of so many symbols, a multiple of four, with a break after each so many of them, or with none.
+/// Base64 with `len` symbols, a multiple of four, and a break after every `line` of them; with no break if `line` is 0.
 fn base64_with(len: usize, line: usize, break_: &str) -> Vec<u8> {
     let mut numbers = Numbers(7);
     let mut text = vec![];
@@ -61,7 +61,7 @@ fn base64(len: usize, line: usize) -> Vec<u8> {
     base64_with(len, line, "\n")
 }
 
-/// A body of so many bytes, of which about so many in a hundred that it stands for are escapes.
+/// A body of `len` bytes. About `percent` of each hundred bytes that it stands for are escapes.
 fn escaped(len: usize, percent: usize) -> Vec<u8> {
     let mut numbers = Numbers(11);
     let mut text = vec![];
@@ -203,7 +203,7 @@ fn push_mimes(rows: &mut Vec<Row>) {
     push_processed(rows, "header five", url(five, b"x"));
 }
 
-/// A MIME type with so many parameters of different names.
+/// A MIME type with `count` parameters of different names.
 fn push_parameters(rows: &mut Vec<Row>, count: usize) {
     let mut text = String::from("a/b");
     for number in 0..count {

@@ -53,7 +53,7 @@ const ROUND: f64 = 600_000.0;
 /// A call: it answers how many bytes it gave, and shows them in the room as far as they fit.
 type Call = fn(&[u8], &mut [u8]) -> usize;
 
-/// Nanoseconds of one call, as the mean of so many.
+/// Returns the nanoseconds of one call, as the mean over `count` calls.
 fn time(call: Call, text: &[u8], room: &mut [u8], count: usize) -> f64 {
     let start = Instant::now();
     for _ in 0..count {
