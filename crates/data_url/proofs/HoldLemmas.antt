@@ -364,19 +364,19 @@ module _ {F E : Type 0} (step : F → List ℕ → Result (Unit {0}) E → F →
       let Q : List ℕ → Type 0 = λ l. Holds step d [] [] (record d { symbols = l }) in
       subst P (sym is) (subst Q none.0 (holds_from step (adds_none every (omega (arith, ap length none.0)) (omega (arith, none.1)) going)))
 
-  -- a row more
-  pub row_waits : {d : State F} (s : State F) (text q q' : List ℕ) (at : ℕ) → list_all is_symbol q ≡ true → at + 16 ≤ length text → list_all is_symbol_or_space (take 16 (take (length text - at) (drop at text))) ≡ true
-      → q' ≡ q ++ filter is_symbol (take 16 (take (length text - at) (drop at text))) → s.padding ≡ 0 → Holds step d (take at text) (groups (map symbol_value q)) (waiting s q) → Holds step d (take (at + 16) text) (groups (map symbol_value q')) (waiting s q')
-  row_waits {d} s text q q' at every within all is is_p h =
+  -- a block more
+  pub block_waits : {d : State F} (s : State F) (text q q' : List ℕ) (at : ℕ) → list_all is_symbol q ≡ true → at + 64 ≤ length text → list_all is_symbol_or_space (take 64 (take (length text - at) (drop at text))) ≡ true
+      → q' ≡ q ++ filter is_symbol (take 64 (take (length text - at) (drop at text))) → s.padding ≡ 0 → Holds step d (take at text) (groups (map symbol_value q)) (waiting s q) → Holds step d (take (at + 64) text) (groups (map symbol_value q')) (waiting s q')
+  block_waits {d} s text q q' at every within all is is_p h =
       let rest : take (length text - at) (drop at text) ≡ drop at text = take_rest text at in
-      let row = take 16 (drop at text) in
-      let allowed : list_all is_symbol_or_space row ≡ true = ap (λ t. list_all is_symbol_or_space (take 16 t)) (sym rest) ∙ all in
-      let more : q' ≡ q ++ filter is_symbol row = is ∙ ap (λ t. q ++ filter is_symbol (take 16 t)) rest in
-      let size : length row ≡ 16 = length-take-le 16 (drop at text) (omega (arith, length-drop at text)) in
+      let row = take 64 (drop at text) in
+      let allowed : list_all is_symbol_or_space row ≡ true = ap (λ t. list_all is_symbol_or_space (take 64 t)) (sym rest) ∙ all in
+      let more : q' ≡ q ++ filter is_symbol row = is ∙ ap (λ t. q ++ filter is_symbol (take 64 t)) rest in
+      let size : length row ≡ 64 = length-take-le 64 (drop at text) (omega (arith, length-drop at text)) in
       let P : List ℕ → Type 0 = λ t. Holds step d t (groups (map symbol_value q')) (waiting s q') in
       let Q : List ℕ → Type 0 = λ l. Holds step d (take at text ++ row) l (waiting s (q ++ filter is_symbol row)) in
       let R : List ℕ → Type 0 = λ l. Holds step d (take at text ++ row) (groups (map symbol_value l)) (waiting s l) in
-      subst P (sym (take-add at 16 text)) (subst R (sym more) (subst Q (sym (values_wait q (filter is_symbol row))) (holds_adds step h (row_adds s q row (every_list_all q every) allowed (omega (arith, size)) is_p h.going))))
+      subst P (sym (take-add at 64 text)) (subst R (sym more) (subst Q (sym (values_wait q (filter is_symbol row))) (holds_adds step h (row_adds s q row (every_list_all q every) allowed (omega (arith, size)) is_p h.going))))
 
   -- 64 symbols go out
   pub block_goes : {d s1 s2 : State F} {t : List ℕ} (q q' bytes : List ℕ) → 64 ≤ length q → length bytes ≡ 48 → DecodesFront q bytes → q' ≡ drop 64 q → Holds step d t (groups (map symbol_value q)) (waiting s1 q) → CallsOnce step s1 bytes (Ok tt) s2 → Holds step d t (groups (map symbol_value q')) (waiting s2 q')

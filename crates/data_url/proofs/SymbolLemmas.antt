@@ -4,7 +4,7 @@ use Rattle.std.specs.Char.{is_ascii_whitespace}
 use Rattle.std.specs.Int.RustNames.{count_ones}
 use Rattle.std.specs.List.{filter, list_all, range_with_len}
 use Rattle.std.proofs.lemmas.Bool.{agree_below_at, and_parts, eqb-true, true≢false}
-use Rattle.std.proofs.lemmas.List.{append-nil, ext_get_or, get_or-drop, get_or-map, get_or-take, length-map, map-append, map-id, take-append-drop, take-map, take-take, take_all}
+use Rattle.std.proofs.lemmas.List.{append-nil, drop-drop, ext_get_or, get_or-drop, get_or-map, get_or-take, length-map, map-append, map-id, take-append-drop, take-map, take-take, take_all}
 use Rattle.std.proofs.lemmas.List.Elements.{filter-append}
 use Rattle.std.proofs.lemmas.List.Folds.{list_all-append}
 use Rattle.std.proofs.lemmas.Nat.{and_le_r}
@@ -16,7 +16,7 @@ use Rattle.data_url.specs.Steps.Blocks.{DecodesFront, clear, is_symbol_or_space}
 use Rattle.data_url.specs.Steps.Lanes.{value_of}
 use Rattle.data_url.specs.declared.forgiving_base64.places.TheConstants.{CLEAR_PLACES}
 use Rattle.data_url.specs.declared.forgiving_base64.symbols.TheConstants.{SPACES}
-use Rattle.data_url.proofs.BlockLemmas.{groups_whole, is_other, map_agree, mask_l-append, others_mask}
+use Rattle.data_url.proofs.BlockLemmas.{groups_whole, split_block, is_other, map_agree, mask_l-append, others_mask}
 use Rattle.data_url.proofs.ByteLemmas.{after_few, groups_few, three_items}
 use Rattle.data_url.proofs.FillLemmas.{symbols_values, take_groups}
 use Rattle.data_url.proofs.LaneLemmas.{looked_up}
@@ -208,12 +208,9 @@ no_bit true m e = (refl, omega (arith, e))
 no_bit false m e = absurd (omega (arith, e))
 
 -- a row of symbols alone
-pub all_clear : (v : List ℕ) → others_mask v ≡ 0 → (list_all is_symbol_or_space v ≡ true) × (v ≡ filter is_symbol v)
-all_clear [] e = (refl, refl)
-all_clear (b ∷ v) e =
-    let p = no_bit (is_symbol b) (others_mask v) e in
-    let q = all_clear v p.1 in
-    (ap₂ (λ s t. (s || is_ascii_whitespace b) && t) p.0 q.0, ap (λ l. b ∷ l) q.1 ∙ sym (ap (λ t. cond t (b ∷ filter is_symbol v) (filter is_symbol v)) p.0))
+pub all_clear : (v : List ℕ) → others_mask v ≡ 0 → v ≡ filter is_symbol v
+all_clear [] e = refl
+all_clear (b ∷ v) e = let p = no_bit (is_symbol b) (others_mask v) e in ap (λ l. b ∷ l) (all_clear v p.1) ∙ sym (ap (λ t. cond t (b ∷ filter is_symbol v) (filter is_symbol v)) p.0)
 
 -- Symbols that were put together
 
@@ -237,9 +234,46 @@ pub all_behind : (n : ℕ) (q : List ℕ) → list_all is_symbol q ≡ true → 
 all_behind n q h = (and_parts (list_all is_symbol (take n q)) (list_all is_symbol (drop n q)) (sym (list_all-append is_symbol (take n q) (drop n q)) ∙ ap (list_all is_symbol) (take-append-drop n q) ∙ h)).1
 
 -- the rest behind a block, moved to the front
-pub moved : (old new rest : List ℕ) (len : ℕ) → 64 ≤ len → len < 80 → take 16 new ≡ rest → rest ≡ take 16 (drop 64 old) → take (len - 64) new ≡ drop 64 (take len old)
-moved old new rest len a b e f =
-    sym (take-take (len - 64) 16 new (omega arith)) ∙ ap (take (len - 64)) (e ∙ f) ∙ take-take (len - 64) 16 (drop 64 old) (omega arith) ∙ sym (drop_taken 64 len old)
+pub moved : (old b1 b2 b3 b4 w x y z : List ℕ) (len : ℕ) → 64 ≤ len → len < 128 → take 16 b1 ≡ w → take (16 + 16) b2 ≡ take 16 b1 ++ x → take (32 + 16) b3 ≡ take 32 b2 ++ y → take (48 + 16) b4 ≡ take 48 b3 ++ z
+    → w ≡ take 16 (drop 64 old) → x ≡ take 16 (drop 80 old) → y ≡ take 16 (drop 96 old) → z ≡ take 16 (drop 112 old) → take (len - 64) b4 ≡ drop 64 (take len old)
+moved old b1 b2 b3 b4 w x y z len few many p q r s d e f g =
+    let far = drop 64 old in
+    let front : take 64 b4 ≡ take 64 far =
+    s ∙ ap (λ l. l ++ z) (r ∙ ap (λ l. l ++ y) (q ∙ ap (λ l. l ++ x) p))
+    ∙ append_assoc (w ++ x) y z ∙ append_assoc w x (y ++ z)
+    ∙ ap₂ (λ (l m : List ℕ). l ++ m) d (ap₂ (λ (l m : List ℕ). l ++ m) (e ∙ ap (take 16) (sym (drop-drop 16 64 old))) (ap₂ (λ (l m : List ℕ). l ++ m) (f ∙ ap (take 16) (sym (drop-drop 32 64 old))) (g ∙ ap (take 16) (sym (drop-drop 48 64 old)))))
+    ∙ sym (split_block far) in
+    sym (take-take (len - 64) 64 b4 (omega arith)) ∙ ap (take (len - 64)) front ∙ take-take (len - 64) 64 far (omega arith) ∙ sym (drop_taken 64 len old)
+
+-- four rows
+
+both_spaced : (x y : List ℕ) → list_all is_symbol_or_space x ≡ true → list_all is_symbol_or_space y ≡ true → list_all is_symbol_or_space (x ++ y) ≡ true
+both_spaced x y m n = list_all-append is_symbol_or_space x y ∙ ap₂ (λ s t. s && t) m n
+
+pub four_spaced : (text r1 r2 r3 : List ℕ) → r1 ≡ drop 16 text → r2 ≡ drop 32 text → r3 ≡ drop 48 text
+    → list_all is_symbol_or_space (take 16 text) ≡ true → list_all is_symbol_or_space (take 16 r1) ≡ true → list_all is_symbol_or_space (take 16 r2) ≡ true → list_all is_symbol_or_space (take 16 r3) ≡ true → list_all is_symbol_or_space (take 64 text) ≡ true
+four_spaced text r1 r2 r3 d e f p q r s =
+    let all : List ℕ → Bool = λ l. list_all is_symbol_or_space (take 16 l) in
+    let b = take 16 (drop 16 text) in
+    let c = take 16 (drop 32 text) in
+    let h = take 16 (drop 48 text) in
+    ap (list_all is_symbol_or_space) (split_block text)
+    ∙ both_spaced (take 16 text) (b ++ (c ++ h)) p (both_spaced b (c ++ h) (ap all (sym d) ∙ q) (both_spaced c h (ap all (sym e) ∙ r) (ap all (sym f) ∙ s)))
+
+pub four_added : (text r1 r2 r3 q0 q1 q2 q3 q4 : List ℕ) → r1 ≡ drop 16 text → r2 ≡ drop 32 text → r3 ≡ drop 48 text
+    → q1 ≡ q0 ++ filter is_symbol (take 16 text) → q2 ≡ q1 ++ filter is_symbol (take 16 r1) → q3 ≡ q2 ++ filter is_symbol (take 16 r2) → q4 ≡ q3 ++ filter is_symbol (take 16 r3) → q4 ≡ q0 ++ filter is_symbol (take 64 text)
+four_added text r1 r2 r3 q0 q1 q2 q3 q4 d e f p q r s =
+    let of : List ℕ → List ℕ = λ l. filter is_symbol (take 16 l) in
+    let a = of text in
+    let b = of (drop 16 text) in
+    let c = of (drop 32 text) in
+    let h = of (drop 48 text) in
+    s ∙ ap₂ (λ (l m : List ℕ). l ++ m) (r ∙ ap₂ (λ (l m : List ℕ). l ++ m) (q ∙ ap₂ (λ (l m : List ℕ). l ++ m) p (ap of d)) (ap of e)) (ap of f)
+    ∙ append_assoc ((q0 ++ a) ++ b) c h ∙ append_assoc (q0 ++ a) b (c ++ h) ∙ append_assoc q0 a (b ++ (c ++ h))
+    ∙ ap (λ l. q0 ++ l) (sym (ap (filter is_symbol) (split_block text)
+    ∙ filter-append is_symbol (take 16 text) (take 16 (drop 16 text) ++ (take 16 (drop 32 text) ++ take 16 (drop 48 text)))
+    ∙ ap (λ l. a ++ l) (filter-append is_symbol (take 16 (drop 16 text)) (take 16 (drop 32 text) ++ take 16 (drop 48 text))
+    ∙ ap (λ l. b ++ l) (filter-append is_symbol (take 16 (drop 32 text)) (take 16 (drop 48 text))))))
 
 -- the symbols in no whole group
 no_items : (l : List ℕ) → length l ≡ 0 → l ≡ []
@@ -254,7 +288,7 @@ after_is q =
     ap after_groups (sym (take-append-drop at q)) ∙ after_groups-append (take at q) (drop at q) ∙ ap (λ x. after_groups (x ++ drop at q)) none
     ∙ after_few (drop at q) (omega (arith, length-drop at q))
 
-pub three_last : (s : List ℕ) (len : ℕ) → length s ≡ 96 → len < 64 → take (len % 4) (get_or s (len / 4 * 4) 0 ∷ get_or s (len / 4 * 4 + 1) 0 ∷ get_or s (len / 4 * 4 + 2) 0 ∷ []) ≡ after_groups (take len s)
+pub three_last : (s : List ℕ) (len : ℕ) → length s ≡ 144 → len < 64 → take (len % 4) (get_or s (len / 4 * 4) 0 ∷ get_or s (len / 4 * 4 + 1) 0 ∷ get_or s (len / 4 * 4 + 2) 0 ∷ []) ≡ after_groups (take len s)
 three_last s len long few =
     let at = len / 4 * 4 in
     let v = take 3 (drop at s) in
@@ -284,7 +318,7 @@ fits_symbols [] h i = record { fits = omega arith }
 fits_symbols (b ∷ s) h zero = record { fits = symbol_lt b (and_parts (is_symbol b) (list_all is_symbol s) h).0 }
 fits_symbols (b ∷ s) h (suc i) = fits_symbols s (and_parts (is_symbol b) (list_all is_symbol s) h).1 i
 
-pub front_is : (s bytes : List ℕ) (len : ℕ) → length s ≡ 96 → len < 80 → list_all is_symbol (take len s) ≡ true → bytes ≡ groups (map value_of (take 64 s)) → DecodesFront (take len s) bytes
+pub front_is : (s bytes : List ℕ) (len : ℕ) → length s ≡ 144 → len < 128 → list_all is_symbol (take len s) ≡ true → bytes ≡ groups (map value_of (take 64 s)) → DecodesFront (take len s) bytes
 front_is s bytes len long few all e m a b =
     let size : length (take len s) ≡ len = length-take-le len s (omega arith) in
     let n = 4 * m in

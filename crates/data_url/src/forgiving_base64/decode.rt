@@ -7,7 +7,7 @@ ghost use Rattle.data_url.specs.Base64.{is_symbol};
 use super::alphabet::{group_of, is_symbol, rest_of_three, rest_of_two};
 use super::blocks::{decode, is_whole};
 use super::piece::{Piece, ROOM};
-use super::symbols::Symbols;
+use super::symbols::{Symbols, is_spaced};
 use super::{DecodeError, InvalidBase64, InvalidBase64Details};
 
 /// A decoder of base64
@@ -259,9 +259,10 @@ where
         self.pending = symbols.len % 4;
     }
 
-    /// Feeds rows of symbols and white space, where the next symbol begins a group, and passes on pieces of sixteen
-    /// groups. What groups come after them are in the piece then. Returns how many bytes of the text the rows take.
-    fn feed_rows(&mut self, text: &[u8], piece: &mut Piece) -> Result<usize, DecodeError<E>>
+    /// Feeds the blocks of 64 symbols and white space that a text begins with, where the next symbol begins a group, and
+    /// passes on pieces of sixteen groups. The groups after these are in the piece then. Returns how many bytes of the
+    /// text the blocks take.
+    fn feed_spaced(&mut self, text: &[u8], piece: &mut Piece) -> Result<usize, DecodeError<E>>
         requires callable { F.IsAlwaysCallable (state_of self.old).closure }
         requires going { (state_of self.old).failed ≡ false }
         requires between { IsBetweenGroups (state_of self.old) }
@@ -275,11 +276,9 @@ where
     {
         let mut symbols = Symbols::new();
         let mut at = 0;
-        while text.len() - at >= 16 {
-            if !symbols.add_row(&text[at..]) {
-                break;
-            }
-            at += 16;
+        while text.len() - at >= 64 && is_spaced(&text[at..]) {
+            symbols.add_block(&text[at..]);
+            at += 64;
             if symbols.len >= 64 {
                 self.write(&symbols.decode())?;
                 symbols.drop_block();
@@ -289,7 +288,7 @@ where
         Ok(at)
     }
 
-    /// Feeds rows of a text that is not short, where the next symbol begins a group, and else nothing.
+    /// Feeds such blocks of a text that is not short, where the next symbol begins a group, and else nothing.
     #[inline(always)]
     fn feed_long(&mut self, text: &[u8], piece: &mut Piece) -> Result<usize, DecodeError<E>>
         requires callable { F.IsAlwaysCallable (state_of self.old).closure }
@@ -305,7 +304,7 @@ where
         if text.len() < 64 || !self.is_between_groups() {
             return Ok(0);
         }
-        self.feed_rows(text, piece)
+        self.feed_spaced(text, piece)
     }
 
     /// Feeds the beginning of a text and passes on the groups in it, the last sixteen or fewer of them as one piece.

@@ -23,6 +23,34 @@ fn spaces(bytes: u8x16) -> u64
     found.simd_eq(bytes).to_bitmask()
 }
 
+/// Whether the first sixteen bytes are symbols and white space.
+#[inline(always)]
+fn is_spaced_row(text: &[u8]) -> bool
+    requires { 16 ≤ length text.now }
+    ensures { result ≡ true → IsTrue (list_all is_symbol_or_space (take 16 text.now)) }
+{
+    let row = row(text, 0);
+    others(row) == spaces(row)
+}
+
+/// Whether the first 64 bytes are symbols and white space.
+#[inline(always)]
+pub(crate) fn is_spaced(text: &[u8]) -> bool
+    requires { 64 ≤ length text.now }
+    ensures { result ≡ true → IsTrue (list_all is_symbol_or_space (take 64 text.now)) }
+{
+    if !is_spaced_row(text) {
+        return false;
+    }
+    if !is_spaced_row(&text[16..]) {
+        return false;
+    }
+    if !is_spaced_row(&text[32..]) {
+        return false;
+    }
+    is_spaced_row(&text[48..])
+}
+
 /// Puts the bytes of half a row whose bits are clear at a place, and returns the place after them. The half begins at
 /// the byte `from`.
 #[inline(always)]
@@ -37,13 +65,13 @@ fn put_half(room: &mut [u8], at: usize, row: u8x16, from: usize, bits: u8) -> us
     at + (8 - bits.count_ones() as usize)
 }
 
-/// Up to 79 symbols that stand in a text one after another, but for white space.
+/// Up to 127 symbols that stand in a text one after another, but for white space.
 #[derive(Drop)]
 pub(crate) struct Symbols {
-    bytes: [u8; 96],
+    bytes: [u8; 144],
     pub(crate) len: usize,
-    ghost within: { len < 80 },
-    ghost sized: { length bytes ≡ 96 },
+    ghost within: { len < 128 },
+    ghost sized: { length bytes ≡ 144 },
     ghost symbols: { IsTrue (list_all is_symbol (take len bytes)) },
 }
 
@@ -57,21 +85,18 @@ impl Symbols {
         ensures len { result.len ≡ 0 }
     {
         Symbols {
-            bytes: [0; 96],
+            bytes: [0; 144],
             len: 0,
         }
     }
 
-    /// Adds the symbols of a row of sixteen bytes, and returns whether it did: nothing is added where a byte is neither
-    /// a symbol nor white space.
+    /// Adds the symbols of a row of sixteen bytes.
     #[inline(always)]
-    pub(crate) fn add_row(&mut self, text: &[u8]) -> bool
+    fn add_row(&mut self, text: &[u8])
         requires row { 16 ≤ length text.now }
-        requires room { self.old.len < 64 }
-        ensures added { result ≡ true → IsTrue (list_all is_symbol_or_space (take 16 text.now))
-            × (symbols_of self.new ≡ symbols_of self.old ++ filter is_symbol (take 16 text.now)) }
-        ensures stays { result ≡ false → (symbols_of self.new ≡ symbols_of self.old)
-            × (self.new.len ≡ self.old.len) }
+        requires room { self.old.len < 112 }
+        ensures few { self.new.len ≤ self.old.len + 16 }
+        ensures added { symbols_of self.new ≡ symbols_of self.old ++ filter is_symbol (take 16 text.now) }
     {
         let row = row(text, 0);
         let others = others(row);
@@ -79,14 +104,23 @@ impl Symbols {
         if others == 0 {
             put(&mut self.bytes, len, row);
             self.len = len + 16;
-            return true;
-        }
-        if others != spaces(row) {
-            return false;
+            return;
         }
         let middle = put_half(&mut self.bytes, len, row, 0, (others % 256) as u8);
         self.len = put_half(&mut self.bytes, middle, row, 8, (others / 256) as u8);
-        true
+    }
+
+    /// Adds the symbols of the first 64 bytes.
+    #[inline(always)]
+    pub(crate) fn add_block(&mut self, text: &[u8])
+        requires block { 64 ≤ length text.now }
+        requires room { self.old.len < 64 }
+        ensures { symbols_of self.new ≡ symbols_of self.old ++ filter is_symbol (take 64 text.now) }
+    {
+        self.add_row(text);
+        self.add_row(&text[16..]);
+        self.add_row(&text[32..]);
+        self.add_row(&text[48..]);
     }
 
     /// Returns the bytes of the groups of the first 64 symbols, and where there are fewer, after them bytes that say
@@ -105,8 +139,14 @@ impl Symbols {
         ensures rest { symbols_of self.new ≡ drop 64 (symbols_of self.old) }
         ensures len { self.new.len + 64 ≡ self.old.len }
     {
-        let rest = row(&self.bytes, 64);
-        put(&mut self.bytes, 0, rest);
+        let first = row(&self.bytes, 64);
+        let second = row(&self.bytes, 80);
+        let third = row(&self.bytes, 96);
+        let fourth = row(&self.bytes, 112);
+        put(&mut self.bytes, 0, first);
+        put(&mut self.bytes, 16, second);
+        put(&mut self.bytes, 32, third);
+        put(&mut self.bytes, 48, fourth);
         self.len -= 64;
     }
 

@@ -4,7 +4,7 @@ use Rattle.data_url.specs.Base64.{groups, symbol_value}
 use Rattle.data_url.specs.Decoder.{state_of}
 use Rattle.data_url.specs.Steps.Holding.{Holds, waiting}
 use Rattle.data_url.specs.Steps.Waiting.{symbols_of}
-use Rattle.data_url.proofs.forgiving_base64.decode.Decoder.feed_rows.Given as goal
+use Rattle.data_url.proofs.forgiving_base64.decode.Decoder.feed_spaced.Given as goal
 
 -- what was read was taken, and of its symbols those that wait were not passed on
 abbrev pub invariant-loop-at : goal.invariant-loop-at
