@@ -1,8 +1,8 @@
 -- Blocks of four rows.
-use Rattle.std.proofs.Common.{◌≡◌, ℕ, suc, zero, ◌+◌, ◌-◌, ◌*◌, ◌%◌, ◌^◌, ◌<◌, ◌≤◌, Bool, true, false, not, ◌&&◌, cond, eqb, ltb, List, [], ◌∷◌, ◌++◌, map, length, get_or, take, drop, Fits, bit_or, refl, sym, ap, ap₂, ◌∙◌, subst, inl, inr, arith, append_assoc, length-append, length-take-le, length-drop, take-add, ltb-true, w8}
-use Rattle.std.specs.List.{list_all, prefix_len, range_with_len}
-use Rattle.std.proofs.lemmas.Bool.{agree_below_at, cases_eq, cases_lt, eq-eqb, le-ltb, lt-ltb, ne_eqb}
-use Rattle.std.proofs.lemmas.List.{get_or-append_right, get_or-drop, get_or-take, get_or_append_left, length-map, map-append, take-take, take_all}
+use Rattle.std.proofs.Common.{◌≡◌, ℕ, suc, ◌+◌, ◌*◌, ◌%◌, ◌^◌, ◌<◌, ◌≤◌, Bool, true, false, not, ◌&&◌, cond, eqb, ltb, List, [], ◌∷◌, ◌++◌, map, length, get_or, take, drop, Fits, bit_or, refl, sym, ap, ap₂, ◌∙◌, subst, inl, inr, arith, append_assoc, length-take-le, length-drop, take-add, ltb-true, w8}
+use Rattle.std.specs.List.{list_all, prefix_len}
+use Rattle.std.proofs.lemmas.Bool.{agree_below_at, cases_eq, eq-eqb, ne_eqb}
+use Rattle.std.proofs.lemmas.List.{length-map, map-append, take-take, take_all}
 use Rattle.std.proofs.lemmas.List.Folds.{list_all-append}
 use Rattle.std.proofs.lemmas.Nat.{and_le_l, and_le_r, or_lt}
 use Rattle.std.proofs.lemmas.Simd.{bitmask_splat, chunk-fits, leading_from_mask_l, length-zip2, map-map, mask_l-lt, pick_l_whole, trailing_mask_l}
@@ -10,11 +10,10 @@ use Rattle.std.proofs.Math.Nat.{pow-succ'}
 use Rattle.std.proofs.Math.Seq.{take-append-add}
 use lib.Bits.{or_add_and}
 use lib.Count.{count_trailing_zeros}
-use lib.Lanes.{Each1, mask_l, pick_l, sel_l, top, zip2}
+use lib.Lanes.{Each1, mask_l, pick_l, top, zip2}
 use Rattle.data_url.specs.Base64.{after_groups, groups, is_symbol}
-use Rattle.data_url.specs.Steps.Blocks.{without}
 use Rattle.data_url.specs.Steps.Lanes.{mark_of, value_of}
-use Rattle.data_url.proofs.LaneLemmas.{chosen, mark_is, row}
+use Rattle.data_url.proofs.LaneLemmas.{mark_is, row}
 use Rattle.data_url.proofs.PaddingLemmas.{groups-append, length-after_groups}
 
 -- What is no symbol
@@ -47,12 +46,12 @@ split_block text = take-add 48 16 text ∙ ap (λ x. x ++ take 16 (drop 48 text)
     ∙ append_assoc (take 16 text ++ take 16 (drop 16 text)) (take 16 (drop 32 text)) (take 16 (drop 48 text))
     ∙ append_assoc (take 16 text) (take 16 (drop 16 text)) (take 16 (drop 32 text) ++ take 16 (drop 48 text))
 
--- The mask of four rows
+-- The mask of a row
 
 pow_more : (n m : ℕ) → 2 ^ suc n * m ≡ 2 * (2 ^ n * m)
 pow_more n m = rw (pow-succ' 2 n) (omega arith)
 
-mask_l-append : (a b : List Bool) → mask_l (a ++ b) ≡ mask_l a + 2 ^ length a * mask_l b
+pub mask_l-append : (a b : List Bool) → mask_l (a ++ b) ≡ mask_l a + 2 ^ length a * mask_l b
 mask_l-append [] b = omega arith
 mask_l-append (x ∷ a) b = omega (arith, mask_l-append a b, pow_more (length a) (mask_l b))
 
@@ -61,41 +60,6 @@ others_mask v = mask_l (map is_other v)
 
 pub mask_lt : (v : List ℕ) → length v ≡ 16 → others_mask v < 65536
 mask_lt v long = let P : ℕ → Type 0 = λ n. others_mask v < 2 ^ n in subst P (length-map v is_other ∙ long) (mask_l-lt (map is_other v))
-
-mask_more : (a b : List ℕ) → length a ≡ 16 → others_mask (a ++ b) ≡ others_mask a + 65536 * others_mask b
-mask_more a b long =
-    ap mask_l (map-append is_other a b)
-    ∙ mask_l-append (map is_other a) (map is_other b)
-    ∙ ap (λ n. others_mask a + 2 ^ n * others_mask b) (length-map a is_other ∙ long)
-
--- the four masks, put together
-abbrev pub four_masks : ℕ → ℕ → ℕ → ℕ → ℕ
-four_masks x y z w = (x + y * 65536 % 18446744073709551616) + (z + w * 65536 % 18446744073709551616) * 4294967296 % 18446744073709551616
-
-masks_sum : (x y z w : ℕ) → x < 65536 → y < 65536 → z < 65536 → w < 65536 → four_masks x y z w ≡ x + 65536 * (y + 65536 * (z + 65536 * w))
-masks_sum x y z w p q r s = omega arith
-
-pub masks_are : (a b c d : List ℕ) → length a ≡ 16 → length b ≡ 16 → length c ≡ 16 → length d ≡ 16
-    → four_masks (others_mask a) (others_mask b) (others_mask c) (others_mask d) ≡ others_mask (a ++ (b ++ (c ++ d)))
-masks_are a b c d p q r s =
-    masks_sum (others_mask a) (others_mask b) (others_mask c) (others_mask d) (mask_lt a p) (mask_lt b q) (mask_lt c r) (mask_lt d s)
-    ∙ sym (mask_more a (b ++ (c ++ d)) p
-    ∙ ap (λ m. others_mask a + 65536 * m) (mask_more b (c ++ d) q ∙ ap (λ m. others_mask b + 65536 * m) (mask_more c d r)))
-
-pub block_mask : (text r1 r2 r3 r4 : List ℕ) (m1 m2 m3 m4 : ℕ) → 64 ≤ length text
-    → r1 ≡ take 16 (drop 0 text) → r2 ≡ take 16 (drop 16 text) → r3 ≡ take 16 (drop 32 text) → r4 ≡ take 16 (drop 48 text)
-    → m1 ≡ others_mask r1 → m2 ≡ others_mask r2 → m3 ≡ others_mask r3 → m4 ≡ others_mask r4
-    → four_masks m1 m2 m3 m4 ≡ others_mask (take 64 text)
-block_mask text r1 r2 r3 r4 m1 m2 m3 m4 long a b c d p q r s =
-    let first = p ∙ ap others_mask a in
-    let second = q ∙ ap others_mask b in
-    let third = r ∙ ap others_mask c in
-    let fourth = s ∙ ap others_mask d in
-    ap₂ (λ x y. four_masks x y m3 m4) first second
-    ∙ ap₂ (λ x y. four_masks (others_mask (take 16 (drop 0 text))) (others_mask (take 16 (drop 16 text))) x y) third fourth
-    ∙ masks_are (take 16 (drop 0 text)) (take 16 (drop 16 text)) (take 16 (drop 32 text)) (take 16 (drop 48 text))
-    (row_length text 0 (omega arith)) (row_length text 16 (omega arith)) (row_length text 32 (omega arith)) (row_length text 48 (omega arith))
-    ∙ ap others_mask (sym (split_block text))
 
 not_not : (b : Bool) → not (not b) ≡ b
 not_not true = refl
@@ -290,14 +254,14 @@ values_of_rows text long =
 pub put_three : (b1 b2 b3 x y z : List ℕ) → take 16 b1 ≡ x → take (16 + 16) b2 ≡ take 16 b1 ++ y → take (32 + 16) b3 ≡ take 32 b2 ++ z → length b3 ≡ 48 → b3 ≡ (x ++ y) ++ z
 put_three b1 b2 b3 x y z p q r long = sym (take_all 48 b3 (omega arith)) ∙ r ∙ ap (λ l. l ++ z) (q ∙ ap (λ l. l ++ y) p)
 
--- a row of which the first twelve bytes count
-pub row_put : (at : ℕ) (old new row bytes : List ℕ) → at + 16 ≤ length old → take (at + 16) new ≡ take at old ++ row → take 12 row ≡ bytes → take (at + 12) new ≡ take at old ++ bytes
-row_put at old new row bytes room e is =
-    let size : at + 12 ≡ length (take at old) + 12 = omega (arith, length-take-le at old (omega arith)) in
-    sym (take-take (at + 12) (at + 16) new (omega arith))
-    ∙ ap (take (at + 12)) e
+-- a row of which the first n bytes count
+pub row_put : (at n : ℕ) (old new row bytes : List ℕ) → at + 16 ≤ length old → n ≤ 16 → take (at + 16) new ≡ take at old ++ row → take n row ≡ bytes → take (at + n) new ≡ take at old ++ bytes
+row_put at n old new row bytes room few e is =
+    let size : at + n ≡ length (take at old) + n = omega (arith, length-take-le at old (omega arith)) in
+    sym (take-take (at + n) (at + 16) new (omega arith))
+    ∙ ap (take (at + n)) e
     ∙ ap (λ n. take n (take at old ++ row)) size
-    ∙ take-append-add (take at old) row 12
+    ∙ take-append-add (take at old) row n
     ∙ ap (λ l. take at old ++ l) is
 
 pub decoded_block : (text a b c d r0 r1 r2 r3 bytes : List ℕ) → 64 ≤ length text → length a ≡ 16 → length b ≡ 16 → length c ≡ 16 → length d ≡ 16
@@ -309,66 +273,3 @@ decoded_block text a b c d r0 r1 r2 r3 bytes long la lb lc ld e0 e1 e2 e3 p q r 
     e ∙ shuffled_is a b c d la lb lc ld
     ∙ ap₂ (λ (x y : List ℕ). x ++ y) (p ∙ ap of e0) (ap₂ (λ (x y : List ℕ). x ++ y) (q ∙ ap of e1) (ap₂ (λ (x y : List ℕ). x ++ y) (r ∙ ap of e2) (s ∙ ap of e3)))
     ∙ sym (values_of_rows text long)
-
--- A text without a gap
-
-map_range : (f g : ℕ → ℕ) (a n : ℕ) → ((k : ℕ) → a ≤ k → k < a + n → f k ≡ g k) → map f (range_with_len a n) ≡ map g (range_with_len a n)
-map_range f g a zero h = refl
-map_range f g a (suc n) h = ap₂ (λ x (y : List ℕ). x ∷ y) (h a (omega arith) (omega arith)) (map_range f g (a + 1) n (λ k p q. h k (omega arith) (omega arith)))
-
-map_row : (f g : ℕ → ℕ) → ((k : ℕ) → k < 16 → f k ≡ g k) → row f ≡ row g
-map_row f g h = map_range f g 0 16 (λ k p q. h k (omega arith))
-
-row_text : (text : List ℕ) (at : ℕ) → at + 16 ≤ length text → take 16 (drop at text) ≡ row (λ k. get_or text (at + k) 0)
-row_text text at h =
-    let v = take 16 (drop at text) in
-    sym (pick_l_whole 0 v 16 (row_length text at h))
-    ∙ map_row (λ k. get_or v k 0) (λ k. get_or text (at + k) 0) (λ k l. get_or-take 16 (drop at text) k 0 l ∙ get_or-drop at text k 0)
-
-without_at : (text : List ℕ) (place gap j : ℕ) → place ≤ length text → get_or (without place gap text) j 0 ≡ cond (ltb j place) (get_or text j 0) (get_or text (j + gap) 0)
-without_at text place gap j h =
-    let long : length (take place text) ≡ place = length-take-le place text h in
-    elim (cases_lt j place) [
-      | inl l ↦
-          get_or_append_left (take place text) (drop (place + gap) text) 0 j (omega (arith, long))
-          ∙ get_or-take place text j 0 l
-          ∙ sym (ap (λ t. cond t (get_or text j 0) (get_or text (j + gap) 0)) (lt-ltb j place l))
-      | inr l ↦
-          get_or-append_right (take place text) (drop (place + gap) text) place j 0 long l
-          ∙ get_or-drop (place + gap) text (j - place) 0
-          ∙ ap (λ n. get_or text n 0) (omega arith)
-          ∙ sym (ap (λ t. cond t (get_or text j 0) (get_or text (j + gap) 0)) (le-ltb j place l))
-    ]
-
-length-without : (text : List ℕ) (place gap : ℕ) → place + gap ≤ length text → length (without place gap text) + gap ≡ length text
-length-without text place gap h =
-    omega (arith, length-append (take place text) (drop (place + gap) text), length-take-le place text (omega arith), length-drop (place + gap) text)
-
-abbrev pub is_before : ℕ → ℕ → ℕ → Bool
-is_before at place k = top 7 (cond (ltb ((k + at) % 256) place) 255 0)
-
-before_is : (at place k : ℕ) → at ≤ 48 → k < 16 → is_before at place k ≡ ltb (at + k) place
-before_is at place k h l =
-    let same : (k + at) % 256 ≡ at + k = omega arith in
-    ap (λ n. top 7 (cond (ltb n place) 255 0)) same ∙ elim (ltb (at + k) place) as (λ t. top 7 (cond t 255 0) ≡ t) [ true ↦ refl | false ↦ refl ]
-
-pub row_without_is : (text xs ys : List ℕ) (at place gap : ℕ) → 64 + gap ≤ length text → at ≤ 48 → place ≤ 64
-    → xs ≡ take 16 (drop at text) → ys ≡ take 16 (drop (at + gap) text)
-    → sel_l (map (is_before at place) (range_with_len 0 16)) xs ys ≡ take 16 (drop at (without place gap text))
-row_without_is text xs ys at place gap long early few p q =
-    let size = length-without text place gap (omega arith) in
-    chosen (is_before at place) (λ k. get_or text (at + k) 0) (λ k. get_or text (at + gap + k) 0) (range_with_len 0 16) refl (p ∙ row_text text at (omega arith)) (q ∙ row_text text (at + gap) (omega arith))
-    ∙ map_row (λ k. cond (is_before at place k) (get_or text (at + k) 0) (get_or text (at + gap + k) 0)) (λ k. get_or (without place gap text) (at + k) 0)
-    (λ k l.
-    let far : at + gap + k ≡ at + k + gap = omega arith in
-    ap₂ (λ t n. cond t (get_or text (at + k) 0) (get_or text n 0)) (before_is at place k early l) far
-    ∙ sym (without_at text place gap (at + k) (omega arith)))
-    ∙ sym (row_text (without place gap text) at (omega (arith, size)))
-
-pub put_four : (b1 b2 b3 b4 w x y z text : List ℕ) → take 16 b1 ≡ w → take (16 + 16) b2 ≡ take 16 b1 ++ x → take (32 + 16) b3 ≡ take 32 b2 ++ y → take (48 + 16) b4 ≡ take 48 b3 ++ z → length b4 ≡ 64
-    → w ≡ take 16 (drop 0 text) → x ≡ take 16 (drop 16 text) → y ≡ take 16 (drop 32 text) → z ≡ take 16 (drop 48 text) → b4 ≡ take 64 text
-put_four b1 b2 b3 b4 w x y z text p q r s long d e f g =
-    sym (take_all 64 b4 (omega arith)) ∙ s ∙ ap (λ l. l ++ z) (r ∙ ap (λ l. l ++ y) (q ∙ ap (λ l. l ++ x) p))
-    ∙ append_assoc (w ++ x) y z ∙ append_assoc w x (y ++ z)
-    ∙ ap₂ (λ (l m : List ℕ). l ++ m) d (ap₂ (λ (l m : List ℕ). l ++ m) e (ap₂ (λ (l m : List ℕ). l ++ m) f g))
-    ∙ sym (split_block text)

@@ -1,21 +1,20 @@
 -- Groups that a text begins with.
-use Rattle.std.proofs.Common.{inl, inr, ◌≡◌, ℕ, suc, ◌+◌, ◌-◌, ◌*◌, ◌%◌, ◌<◌, ◌≤◌, Bool, true, false, ◌&&◌, ◌||◌, cond, List, [], ◌∷◌, ◌++◌, map, length, get_or, take, drop, Fits, w8, refl, sym, ap, ap₂, ◌∙◌, subst, arith, length-take, length-take-le, take-add}
-use Rattle.std.specs.List.{filter, list_all, prefix_len}
+use Rattle.std.proofs.Common.{inl, inr, ◌≡◌, ℕ, suc, ◌+◌, ◌-◌, ◌*◌, ◌%◌, ◌<◌, ◌≤◌, true, ◌&&◌, ◌||◌, List, [], ◌∷◌, ◌++◌, map, length, get_or, take, drop, Fits, w8, refl, sym, ap, ap₂, ◌∙◌, subst, arith, length-take, length-take-le, take-add}
+use Rattle.std.specs.List.{list_all, prefix_len}
 use Rattle.std.proofs.lemmas.Bool.{and_parts, cases_lt}
-use Rattle.std.proofs.lemmas.List.{append-nil, drop-drop, get_or-take, get_or_past, length-map, take-append-drop, take-append-le, take-map, take-take, take_at}
+use Rattle.std.proofs.lemmas.List.{append-nil, get_or-take, get_or_past, length-map, take-append-drop, take-map, take-take, take_at}
 use Rattle.std.proofs.lemmas.List.Elements.{All-from_get_or}
 use Rattle.std.proofs.lemmas.List.Folds.{list_all-append}
 use Rattle.std.proofs.lemmas.List.Sums.{list_all-from_AllPass, prefix_len-le-length, prefix_len_passes}
 use Rattle.std.proofs.Math.Seq.{take-append-add}
 use Rattle.data_url.specs.Base64.{group_bytes, group_number, groups, is_symbol, symbol_value, values}
 use Rattle.std.specs.Char.{is_ascii_whitespace}
-use Rattle.data_url.specs.Steps.Blocks.{AreGroups, Fills, is_symbol_or_space, without}
+use Rattle.data_url.specs.Steps.Blocks.{Fills, is_symbol_or_space}
 use Rattle.data_url.specs.Steps.Lanes.{value_of}
 use Rattle.data_url.proofs.BlockLemmas.{groups_whole}
-use Rattle.data_url.proofs.FeedLemmas.{values-append}
 use Rattle.data_url.proofs.LaneLemmas.{value_is}
-use Rattle.data_url.proofs.PaddingLemmas.{classes, every_list_all}
-use Rattle.data_url.proofs.WalkLemmas.{filter_all, space_alone}
+use Rattle.data_url.proofs.PaddingLemmas.{every_list_all}
+use Rattle.data_url.proofs.WalkLemmas.{filter_all}
 
 -- How many bytes groups have
 
@@ -35,7 +34,7 @@ whole_length (p ∷ q ∷ []) h = absurd (omega arith)
 whole_length (p ∷ q ∷ r ∷ []) h = absurd (omega arith)
 whole_length (p ∷ q ∷ r ∷ s ∷ rest) h = let e : length rest % 4 ≡ 0 = omega arith in omega (arith, whole_length rest e)
 
-take_groups : (m : ℕ) (x : List ℕ) → 4 * m ≤ length x → take (3 * m) (groups x) ≡ groups (take (4 * m) x)
+pub take_groups : (m : ℕ) (x : List ℕ) → 4 * m ≤ length x → take (3 * m) (groups x) ≡ groups (take (4 * m) x)
 take_groups m x h =
     let front = take (4 * m) x in
     let long : length front ≡ 4 * m = length-take-le (4 * m) x h in
@@ -46,7 +45,7 @@ take_groups m x h =
 
 -- A text of symbols
 
-symbols_values : (s : List ℕ) → ((i : ℕ) → Fits w8 (get_or s i 0)) → list_all is_symbol s ≡ true → map value_of s ≡ map symbol_value s
+pub symbols_values : (s : List ℕ) → ((i : ℕ) → Fits w8 (get_or s i 0)) → list_all is_symbol s ≡ true → map value_of s ≡ map symbol_value s
 symbols_values [] fits h = refl
 symbols_values (b ∷ s) fits h = let p = and_parts (is_symbol b) (list_all is_symbol s) h in ap₂ (λ x (y : List ℕ). x ∷ y) (value_is b (fits 0).fits p.0) (symbols_values s (λ i. fits (suc i)) p.1)
 
@@ -141,86 +140,9 @@ row_ahead row n e =
     let l : n ≤ 16 = omega (arith, e, prefix_len-le-length is_symbol (take 16 row), length-take 16 row) in
     (l, ap (list_all is_symbol) (sym (take-take n 16 row l)) ∙ ap (λ k. list_all is_symbol (take k (take 16 row))) e ∙ ahead_all (take 16 row))
 
-pub block_ahead : (block : List ℕ) (n : ℕ) → n ≡ prefix_len is_symbol (take 64 block) → (n ≤ 64) × (list_all is_symbol (take n block) ≡ true)
-block_ahead block n e =
-    let l : n ≤ 64 = omega (arith, e, prefix_len-le-length is_symbol (take 64 block), length-take 64 block) in
-    (l, ap (list_all is_symbol) (sym (take-take n 64 block l)) ∙ ap (λ k. list_all is_symbol (take k (take 64 block))) e ∙ ahead_all (take 64 block))
-
 pub all_before : (block : List ℕ) (m n : ℕ) → m ≤ n → list_all is_symbol (take n block) ≡ true → list_all is_symbol (take m block) ≡ true
 all_before block m n h all =
     let rest = take (n - m) (drop m block) in
     let back : m + (n - m) ≡ n = omega arith in
     (and_parts (list_all is_symbol (take m block)) (list_all is_symbol rest)
     (sym (list_all-append is_symbol (take m block) rest) ∙ ap (list_all is_symbol) (sym (take-add m (n - m) block) ∙ ap (λ k. take k block) back) ∙ all)).0
-
--- A gap of white space
-
-space_filter : (w : List ℕ) → list_all is_ascii_whitespace w ≡ true → filter is_symbol w ≡ []
-space_filter [] h = refl
-space_filter (b ∷ w) h =
-    let p = and_parts (is_ascii_whitespace b) (list_all is_ascii_whitespace w) h in
-    ap (λ t. cond t (b ∷ filter is_symbol w) (filter is_symbol w)) (space_alone (classes b) p.0).1 ∙ space_filter w p.1
-
-space_values : (w : List ℕ) → list_all is_ascii_whitespace w ≡ true → values w ≡ []
-unfolding values
-space_values w h = ap (map symbol_value) (space_filter w h)
-
-or_true : (t : Bool) → (t || true) ≡ true
-or_true true = refl
-or_true false = refl
-
-space_allowed : (w : List ℕ) → list_all is_ascii_whitespace w ≡ true → list_all is_symbol_or_space w ≡ true
-space_allowed [] h = refl
-space_allowed (b ∷ w) h =
-    let p = and_parts (is_ascii_whitespace b) (list_all is_ascii_whitespace w) h in
-    ap₂ (λ x y. x && y) (ap (λ t. is_symbol b || t) p.0 ∙ or_true (is_symbol b)) (space_allowed w p.1)
-
-with_gap : (x w z more : List ℕ) → list_all is_ascii_whitespace w ≡ true → AreGroups (x ++ z) more → AreGroups (x ++ (w ++ z)) more
-with_gap x w z more h g =
-    let same : values (x ++ (w ++ z)) ≡ values (x ++ z) =
-    values-append x (w ++ z) ∙ ap (λ l. values x ++ l) (values-append w z ∙ ap (λ l. l ++ values z) (space_values w h)) ∙ sym (values-append x z) in
-    let p = and_parts (list_all is_symbol_or_space x) (list_all is_symbol_or_space z) (sym (list_all-append is_symbol_or_space x z) ∙ g.alone) in
-    record {
-      alone = list_all-append is_symbol_or_space x (w ++ z) ∙ ap₂ (λ s t. s && t) p.0 (list_all-append is_symbol_or_space w z ∙ ap₂ (λ s t. s && t) (space_allowed w h) p.1);
-      whole = ap (λ l. length l % 4) same ∙ g.whole;
-      bytes_are = g.bytes_are ∙ ap groups (sym same);
-    }
-
-front_of : (text : List ℕ) (place gap taken : ℕ) → place ≤ length text → taken ≤ place → take taken (without place gap text) ≡ take taken text
-front_of text place gap taken h l = take-append-le taken (take place text) (drop (place + gap) text) (omega (arith, length-take-le place text h)) ∙ take-take taken place text l
-
-back_of : (text : List ℕ) (place gap taken : ℕ) → place ≤ length text → place ≤ taken → take taken (without place gap text) ≡ take place text ++ take (taken - place) (drop (place + gap) text)
-back_of text place gap taken h l =
-    let size : length (take place text) + (taken - place) ≡ taken = omega (arith, length-take-le place text h) in
-    ap (λ n. take n (without place gap text)) (sym size) ∙ take-append-add (take place text) (drop (place + gap) text) (taken - place)
-
-whole_of : (text : List ℕ) (place gap taken : ℕ) → place ≤ taken → take (taken + gap) text ≡ take place text ++ (take gap (drop place text) ++ take (taken - place) (drop (place + gap) text))
-whole_of text place gap taken l =
-    let parts : taken + gap ≡ place + (gap + (taken - place)) = omega arith in
-    ap (λ n. take n text) parts
-    ∙ take-add place (gap + (taken - place)) text
-    ∙ ap (λ t. take place text ++ t) (take-add gap (taken - place) (drop place text) ∙ ap (λ t. take gap (drop place text) ++ take (taken - place) t) (drop-drop gap place text))
-
-block_taken : (text block : List ℕ) (taken : ℕ) → block ≡ take 64 text → taken ≤ 64 → take taken block ≡ take taken text
-block_taken text block taken e l = ap (take taken) e ∙ take-take taken 64 text l
-
--- before the gap
-pub fill_before : (held text block held' : List ℕ) (place gap taken : ℕ) → 64 + gap ≤ length text → place ≤ 64 → block ≡ take 64 (without place gap text) → taken ≤ place → Fills held block taken held' → Fills held text taken held'
-fill_before held text block held' place gap taken long early e l f =
-    let same : take taken block ≡ take taken text = block_taken (without place gap text) block taken e (omega arith) ∙ front_of text place gap taken (omega arith) l in
-    let A : List ℕ → Type 0 = λ t. AreGroups t f.more in
-    record { within = omega arith; more = f.more; are = subst A same f.are; held_are = f.held_are }
-
--- past it
-pub fill_past : (held text block held' : List ℕ) (place gap taken : ℕ) → 64 + gap ≤ length text → place ≤ 64 → list_all is_ascii_whitespace (take gap (drop place text)) ≡ true
-    → block ≡ take 64 (without place gap text) → place ≤ taken → taken ≤ 64 → Fills held block taken held' → Fills held text (taken + gap) held'
-fill_past held text block held' place gap taken long early white e l few f =
-    let same : take taken block ≡ take place text ++ take (taken - place) (drop (place + gap) text) =
-    block_taken (without place gap text) block taken e few ∙ back_of text place gap taken (omega arith) l in
-    let A : List ℕ → Type 0 = λ t. AreGroups t f.more in
-    record {
-      within = omega arith;
-      more = f.more;
-      are = subst A (sym (whole_of text place gap taken l)) (with_gap (take place text) (take gap (drop place text)) (take (taken - place) (drop (place + gap) text)) f.more white (subst A same f.are));
-      held_are = f.held_are;
-    }

@@ -1,25 +1,27 @@
 -- Feeding while bytes wait to be handed out together.
 use Rattle.std.proofs.Common.{◌≡◌, ℕ, ◌+◌, ◌-◌, ◌%◌, ◌<◌, ◌≤◌, Fits, w8, length-take, length-take-le, Bool, true, false, cond, min, ◌||◌, inl, inr, List, [], ◌∷◌, ◌++◌, length, map, drop, get_or, take, take-add, Option, None, Some, is_some, Result, Ok, Err, refl, ap, ap₂, sym, ◌∙◌, subst, arith, append_assoc, length-append}
-use Rattle.std.specs.Prelude.{MatchResult, is_err}
+use Rattle.std.specs.Prelude.{MatchOption, MatchResult, is_err}
 use Rattle.std.specs.List.{filter, list_all}
-use Rattle.std.proofs.lemmas.Bool.{and_parts, cases_lt, or_cases, true≢false}
-use Rattle.std.proofs.lemmas.List.{append-nil, get_or-append_right, get_or_append_left, get_or-drop, length-map, take_all, take_more, take_rest}
+use Rattle.std.proofs.lemmas.Bool.{and_parts, or_cases, true≢false}
+use Rattle.std.proofs.lemmas.List.{append-nil, get_or-drop, length-drop, length-map, map-append, take-append-drop, take_all, take_more, take_rest}
 use Rattle.data_url.specs.Base64.{Kind, after_groups, complete_bytes, first_fault, groups, is_symbol, kind_of, left_padding, left_symbols, left_text, symbol_value, values}
 use Rattle.std.specs.Char.{is_ascii_whitespace}
 use Rattle.data_url.specs.Decoder.{Feeds, IsTaken, State, left_over}
+use Rattle.data_url.specs.Errors.{IsRefused}
 use Rattle.data_url.specs.Mime.{Every}
-use Rattle.data_url.specs.Run.{Call, IsRun, joined_pieces, or_error, refusal}
+use Rattle.data_url.specs.Run.{Call, IsPrefix, IsRun, joined_pieces, or_error, refusal}
 use Rattle.data_url.specs.Steps.Calls.{CallsOnce}
-use Rattle.data_url.specs.Steps.Blocks.{AreGroups, Fills, is_symbol_or_space, without}
-use Rattle.data_url.specs.Steps.Holding.{Adds, FeedsBlock, Flushes, Gains, Holds, Refuses}
+use Rattle.data_url.specs.Steps.Blocks.{AreGroups, DecodesFront, Fills, is_symbol_or_space}
+use Rattle.data_url.specs.Steps.Holding.{Adds, Flushes, Gains, Holds, IsBetweenGroups, Refuses, waiting}
 use Rattle.data_url.specs.declared.forgiving_base64.DecodeError.{DecodeError}
 use Rattle.data_url.specs.declared.forgiving_base64.DecodeError.TheVariants.{InvalidBase64, WriteError}
-use Rattle.data_url.proofs.ByteLemmas.{adds_text, fault_space, fault_symbol, has_pad, one_call, told_call}
+use Rattle.data_url.proofs.ByteLemmas.{adds_none, adds_text, fault_space, fault_symbol, has_pad, one_call, told_call}
 use Rattle.data_url.proofs.DecoderLemmas.{feeds_stop, feeds_then, left_goes_on}
 use Rattle.data_url.specs.Steps.Lanes.{value_of}
-use Rattle.data_url.proofs.FillLemmas.{fill_past, fits_take, fill_symbols, groups_length, whole_length}
+use Rattle.data_url.proofs.FillLemmas.{fill_symbols, fits_take, groups_length}
+use Rattle.data_url.proofs.BlockLemmas.{groups_whole}
 use Rattle.data_url.proofs.RunLemmas.{joined_pieces-append, match_at, match_none, match_some, refusal-append, run-append}
-use Rattle.data_url.proofs.PaddingLemmas.{classes, fault-append, fault_byte, is_pad, length-after_groups}
+use Rattle.data_url.proofs.PaddingLemmas.{after_groups-append, after_groups-map, classes, every_after, every_list_all, fault-append, fault_byte, groups-append, is_pad, length-after_groups}
 use Rattle.data_url.proofs.WalkLemmas.{space_alone, symbol_alone}
 
 -- A text of symbols and white space has no fault and no pad
@@ -123,18 +125,18 @@ module _ {F E : Type 0} (step : F → List ℕ → Result (Unit {0}) E → F →
       }
 
   -- what one call makes of the run
-  called_run : {d d1 d2 : State F} {t held : List ℕ} {r : Result (Unit {0}) (DecodeError E)} (h : Holds step d t held d1) (w : CallsOnce step d1 held r d2) → IsRun step d.closure (h.run ++ record { piece = held; answer = w.told; after = d2.closure } ∷ []) d2.closure
-  called_run {d} {d1} {d2} {held = held} h w = run-append step h.run (record { piece = held; answer = w.told; after = d2.closure } ∷ []) d.closure d1.closure d2.closure h.ran h.accepted (one_call step d1.closure d2.closure held w.told w.called)
+  called_run : {d d1 d2 : State F} {t held piece : List ℕ} {r : Result (Unit {0}) (DecodeError E)} (h : Holds step d t held d1) (w : CallsOnce step d1 piece r d2) → IsRun step d.closure (h.run ++ record { piece = piece; answer = w.told; after = d2.closure } ∷ []) d2.closure
+  called_run {d} {d1} {d2} {piece = piece} h w = run-append step h.run (record { piece = piece; answer = w.told; after = d2.closure } ∷ []) d.closure d1.closure d2.closure h.ran h.accepted (one_call step d1.closure d2.closure piece w.told w.called)
 
-  called_bytes : {d d1 : State F} {t held : List ℕ} (h : Holds step d t held d1) (told : Result (Unit {0}) E) (g : F) → joined_pieces (h.run ++ record { piece = held; answer = told; after = g } ∷ []) ≡ complete_bytes (left_over d ++ t)
-  called_bytes {held = held} h told g = joined_pieces-append h.run (record { piece = held; answer = told; after = g } ∷ []) ∙ ap (λ x. joined_pieces h.run ++ x) (append-nil held) ∙ h.bytes_are
+  called_bytes : {d d1 : State F} {t held : List ℕ} (piece : List ℕ) (h : Holds step d t held d1) (told : Result (Unit {0}) E) (g : F) → joined_pieces (h.run ++ record { piece = piece; answer = told; after = g } ∷ []) ≡ joined_pieces h.run ++ piece
+  called_bytes piece h told g = joined_pieces-append h.run (record { piece = piece; answer = told; after = g } ∷ []) ∙ ap (λ x. joined_pieces h.run ++ x) (append-nil piece)
 
   -- the end, or a fault: all that is held is handed out, in one call
   pub written_feeds : {d d1 d2 : State F} {t held : List ℕ} {r : Result (Unit {0}) (DecodeError E)} (h : Holds step d t held d1) → length h.run + 1 ≤ length t → CallsOnce step d1 held r d2 → Feeds step d t r d2
   written_feeds {d} {d1} {d2} {t} {held} {r} h few w =
       let u = left_over d ++ t in
       let call : Call F E = record { piece = held; answer = w.told; after = d2.closure } in
-      let bytes = called_bytes h w.told d2.closure in
+      let bytes = called_bytes held h w.told d2.closure ∙ h.bytes_are in
       record {
         run = h.run ++ call ∷ [];
         ran = called_run h w;
@@ -163,24 +165,43 @@ module _ {F E : Type 0} (step : F → List ℕ → Result (Unit {0}) E → F →
   flushed_feeds [] h f = quiet_feeds h f.0 f.1
   flushed_feeds (b ∷ bs) h f = written_feeds h (omega (arith, h.calls)) f
 
-  written_holds : {d d1 d2 : State F} {t held : List ℕ} → length held ≡ 48 → Holds step d t held d1 → CallsOnce step d1 held (Ok tt) d2 → Holds step d t [] d2
-  written_holds {d} {d1} {d2} {t} {held} full h w =
-      let call : Call F E = record { piece = held; answer = w.told; after = d2.closure } in
+  -- symbols that wait, of which the first groups go out as one piece
+  called_wait : {d s1 s2 : State F} {t x : List ℕ} {r : Result (Unit {0}) (DecodeError E)} (q y : List ℕ) (h : Holds step d t (x ++ y) (waiting s1 q)) (w : CallsOnce step s1 x r s2) → complete_bytes (left_over d ++ t) ≡ joined_pieces (h.run ++ record { piece = x; answer = w.told; after = s2.closure } ∷ []) ++ y
+  called_wait {s2 = s2} {x = x} q y h w =
+      sym h.bytes_are ∙ sym (append_assoc (joined_pieces h.run) x y) ∙ ap (λ b. b ++ y) (sym (called_bytes x h w.told s2.closure))
+
+  pub part_holds : {d s1 s2 : State F} {t x y : List ℕ} (q : List ℕ) → length x ≡ 48 → Holds step d t (x ++ y) (waiting s1 q) → CallsOnce step s1 x (Ok tt) s2 → Holds step d t y (waiting s2 q)
+  part_holds {d} {s1} {s2} {t} {x} {y} q full h w =
+      let call : Call F E = record { piece = x; answer = w.told; after = s2.closure } in
+      let v : CallsOnce step (waiting s1 q) x (Ok tt) (waiting s2 q) = record { told = w.told; called = w.called; answer = w.answer; failed = w.failed; symbols_stay = refl; padding_stays = w.padding_stays } in
       record {
         run = h.run ++ call ∷ [];
-        ran = called_run h w;
+        ran = called_run h v;
         accepted = refusal-append h.run (call ∷ []) h.accepted ∙ told_ok w.told (Ok tt) refl w.answer;
-        bytes_are = append-nil (joined_pieces (h.run ++ call ∷ [])) ∙ called_bytes h w.told d2.closure;
+        bytes_are = sym (called_wait q y h w);
         no_fault = h.no_fault;
-        left = record { symbols_are = w.symbols_stay ∙ h.left.symbols_are; padding_is = w.padding_stays ∙ h.left.padding_is };
-        calls = omega (arith, h.calls, length-append h.run (call ∷ []));
+        left = record { symbols_are = h.left.symbols_are; padding_is = w.padding_stays ∙ h.left.padding_is };
+        calls = omega (arith, h.calls, full, length-append h.run (call ∷ []), length-append x y);
         going = w.failed;
       }
 
-  -- a full piece goes out
-  pub flushed_holds : {d d1 d2 : State F} {t : List ℕ} (held : List ℕ) → length held ≡ 48 → Holds step d t held d1 → Flushes step d1 held (Ok tt) d2 → Holds step d t [] d2
-  flushed_holds [] full h f = absurd (omega arith)
-  flushed_holds (b ∷ bs) full h f = written_holds full h f
+  refused_call : (told : Result (Unit {0}) E) (r : Result (Unit {0}) (DecodeError E)) (x : DecodeError E) (P : Type 0) (all bytes : List ℕ) → r ≡ Err x → IsPrefix bytes all → MatchResult told (λ u. r ≡ Ok tt) (λ e. r ≡ Err (WriteError e)) → MatchOption (or_error told None) P (λ e. IsRefused all bytes e r)
+  refused_call (Ok u) r x P all bytes e begins h = absurd (cc)
+  refused_call (Err y) r x P all bytes e begins h = record { bytes_begin = begins; answer = h }
+
+  pub part_refused : {d s1 s2 : State F} {t x : List ℕ} {e : DecodeError E} (q y : List ℕ) → length x ≡ 48 → Holds step d t (x ++ y) (waiting s1 q) → CallsOnce step s1 x (Err e) s2 → Feeds step d t (Err e) s2
+  part_refused {d} {s1} {s2} {t} {x} {e} q y full h w =
+      let call : Call F E = record { piece = x; answer = w.told; after = s2.closure } in
+      let u = left_over d ++ t in
+      let v : CallsOnce step (waiting s1 q) x (Err e) (waiting s2 q) = record { told = w.told; called = w.called; answer = w.answer; failed = w.failed; symbols_stay = refl; padding_stays = w.padding_stays } in
+      record {
+        run = h.run ++ call ∷ [];
+        ran = called_run h v;
+        calls = omega (arith, h.calls, full, length-append h.run (call ∷ []), length-append x y);
+        failed = w.failed;
+        gave = match_at (or_error w.told None) (refusal (h.run ++ call ∷ [])) _ _ (refusal-append h.run (call ∷ []) h.accepted)
+            (refused_call w.told (Err e) e (IsTaken u (joined_pieces (h.run ++ call ∷ [])) (Err e) s2) (complete_bytes u) (joined_pieces (h.run ++ call ∷ [])) refl (y, called_wait q y h w) w.answer);
+      }
 
   flushed_left : (d d' : State F) (r : Result (Unit {0}) (DecodeError E)) (held : List ℕ) → Flushes step d held r d' → left_over d' ≡ left_over d
   flushed_left d d' r [] f = ap left_over f.1
@@ -229,19 +250,6 @@ whole_fills {bytes} block fits long all is =
     let P : List ℕ → Type 0 = λ l. Fills [] block 64 l in
     subst P (take_all 48 made short ∙ sym is) (fill_symbols [] block 64 16 long (omega arith) fits (sym all))
 
--- the bytes of a text without a gap
-fits_without : (text : List ℕ) (place gap : ℕ) → ((i : ℕ) → Fits w8 (get_or text i 0)) → (i : ℕ) → Fits w8 (get_or (without place gap text) i 0)
-fits_without text place gap fits i =
-    let front = take place text in
-    let back = drop (place + gap) text in
-    elim (cases_lt i (length front)) [
-      | inl l ↦ subst (Fits w8) (sym (get_or_append_left front back 0 i l)) (fits_take place text fits i)
-      | inr l ↦ subst (Fits w8) (sym (get_or-append_right front back (length front) i 0 refl l ∙ get_or-drop (place + gap) text (i - length front) 0)) (fits (place + gap + (i - length front)))
-    ]
-
-whole_full : {bytes : List ℕ} (block : List ℕ) → 64 ≤ length block → bytes ≡ groups (map value_of (take 64 block)) → length bytes ≡ 48
-whole_full {bytes} block long is = omega (arith, ap length is, whole_length (map value_of (take 64 block)) (omega (arith, length-map (take 64 block) value_of, length-take-le 64 block long)), length-map (take 64 block) value_of, length-take-le 64 block long)
-
 -- The steps of a feed
 
 pub byte_at : (s : List ℕ) (at : ℕ) → at < length s → get_or (take (length s - at) (drop at s)) 0 0 ≡ get_or s at 0
@@ -287,44 +295,99 @@ module _ {F E : Type 0} (step : F → List ℕ → Result (Unit {0}) E → F →
       let more : take at s ++ c ∷ [] ≡ take (at + 1) s = ap (λ b. take at s ++ b ∷ []) is ∙ sym (take_more s at 0 inside) in
       subst Q (sym told) (feeds_stop step s (at + 1) (subst P more (refused_feeds step d3 (take at s) held' c (subst A (sym same) h) f flushed failed refl)))
 
-  -- all that is held is a full piece
-  pub full_holds : {d d1 d2 : State F} {t : List ℕ} (held held' : List ℕ) → length held ≡ 48 → held' ≡ [] → Holds step d t held d1 → Flushes step d1 held (Ok tt) d2 → Holds step d t held' d2
-  full_holds {d} {d1} {d2} {t} held held' full e h f = let P : List ℕ → Type 0 = λ l. Holds step d t l d2 in subst P (sym e) (flushed_holds step held full h f)
+  -- Blocks
 
-  -- the end of the text
-  pub end_feeds : {d d1 d2 : State F} {r : Result (Unit {0}) (DecodeError E)} (s : List ℕ) (at : ℕ) (held : List ℕ) → length s ≤ at → Holds step d (take at s) held d1 → Flushes step d1 held r d2 → Feeds step d s r d2
-  end_feeds {d} {d1} {d2} {r} s at held over h f = let P : List ℕ → Type 0 = λ t. Feeds step d t r d2 in subst P (take_all at s over) (flushed_feeds step held h f)
-
-  -- a block that was handed out
-  pub block_holds : {d d1 d2 : State F} {taken : ℕ} (s : List ℕ) (at : ℕ) → Holds step d (take at s) [] d1 → FeedsBlock step d1 (take (length s - at) (drop at s)) taken (Ok tt) d2 → Holds step d (take (at + taken) s) [] d2
-  block_holds s at h b = written_holds step b.full (gains_holds s at h b.gains) b.wrote
-
-  -- a block that was refused
-  pub block_refused : {d d1 d2 : State F} {x : DecodeError E} (taken : ℕ) (s : List ℕ) (at : ℕ) → Holds step d (take at s) [] d1 → FeedsBlock step d1 (take (length s - at) (drop at s)) taken (Err x) d2 → Feeds step d s (Err x) d2
-  block_refused taken s at h b =
-      let held = gains_holds s at h b.gains in
-      feeds_stop step s (at + taken) (written_feeds step held (omega (arith, held.calls, b.full)) b.wrote)
+  -- more of a text
+  pub feeds_part : {d d1 d2 : State F} {r : Result (Unit {0}) (DecodeError E)} (s : List ℕ) (at taken : ℕ) → Feeds step d (take at s) (Ok tt) d1 → Feeds step d1 (take taken (take (length s - at) (drop at s))) r d2 → Feeds step d (take (at + taken) s) r d2
+  feeds_part {d} {d1} {d2} {r} s at taken f g =
+      let P : List ℕ → Type 0 = λ t. Feeds step d t r d2 in
+      let Q : List ℕ → Type 0 = λ t. Feeds step d1 (take taken t) r d2 in
+      subst P (sym (take-add at taken s)) (feeds_then step f (subst Q (take_rest s at) g))
 
   -- a block of symbols is a full piece
-  pub block_feeds : {d d2 : State F} {bytes : List ℕ} {r : Result (Unit {0}) (DecodeError E)} (block : List ℕ) → ((i : ℕ) → Fits w8 (get_or block i 0)) → d.symbols ≡ [] → d.padding ≡ 0 → d.failed ≡ false → 64 ≤ length block
-      → true ≡ list_all is_symbol (take 64 block) → bytes ≡ groups (map value_of (take 64 block)) → CallsOnce step d bytes r d2 → FeedsBlock step d block 64 r d2
-  block_feeds {bytes = bytes} block fits is_q is_p going long all is w = record {
-    bytes = bytes;
-    gains = gains_groups 64 (omega arith) is_q is_p going (whole_fills block fits long all is);
-    full = whole_full block long is;
-    wrote = w;
-  }
+  pub block_feeds : {d d1 d2 : State F} {bytes : List ℕ} {r : Result (Unit {0}) (DecodeError E)} (s : List ℕ) (at : ℕ) → ((i : ℕ) → Fits w8 (get_or s i 0)) → IsBetweenGroups d1 → at + 64 ≤ length s
+      → true ≡ list_all is_symbol (take 64 (take (length s - at) (drop at s))) → bytes ≡ groups (map value_of (take 64 (take (length s - at) (drop at s)))) → Feeds step d (take at s) (Ok tt) d1 → CallsOnce step d1 bytes r d2 → Feeds step d (take (at + 64) s) r d2
+  block_feeds {d1 = d1} {bytes = bytes} s at fits none within all is fed w =
+      let block = take (length s - at) (drop at s) in
+      let long : 64 ≤ length block = omega (arith, length-take (length s - at) (drop at s), length-drop at s) in
+      let f = whole_fills block (fits_take (length s - at) (drop at s) (λ i. subst (Fits w8) (sym (get_or-drop at s i 0)) (fits (at + i)))) long all is in
+      let A : List ℕ → Type 0 = λ l. Adds d1 (take 64 block) l d1 in
+      feeds_part s at 64 fed (group_feeds bytes (omega (arith, length-take-le 64 block long)) (subst A (sym f.held_are) (adds_groups (take 64 block) f.more none.0 none.1 fed.failed f.are)) w)
 
-  -- and so is one with a gap
-  pub past_feeds : {d d2 : State F} {bytes : List ℕ} {r : Result (Unit {0}) (DecodeError E)} (text block : List ℕ) (place gap : ℕ) → ((i : ℕ) → Fits w8 (get_or text i 0)) → d.symbols ≡ [] → d.padding ≡ 0 → d.failed ≡ false
-      → 64 + gap ≤ length text → place ≤ 64 → list_all is_ascii_whitespace (take gap (drop place text)) ≡ true → block ≡ take 64 (without place gap text) → 64 ≤ length block
-      → true ≡ list_all is_symbol (take 64 block) → bytes ≡ groups (map value_of (take 64 block)) → CallsOnce step d bytes r d2 → FeedsBlock step d text (64 + gap) r d2
-  past_feeds {bytes = bytes} text block place gap fits is_q is_p going within early white made long all is w =
-      let F : List ℕ → Type 0 = λ l. (i : ℕ) → Fits w8 (get_or l i 0) in
-      let fit : (i : ℕ) → Fits w8 (get_or block i 0) = subst F (sym made) (fits_take 64 (without place gap text) (fits_without text place gap fits)) in
-      record {
-        bytes = bytes;
-        gains = gains_groups (64 + gap) (omega arith) is_q is_p going (fill_past [] text block bytes place gap 64 within early white made early (omega arith) (whole_fills block fit long all is));
-        full = whole_full block long is;
-        wrote = w;
-      }
+  -- the rest of a text
+  pub feeds_last : {d d1 d2 : State F} {r : Result (Unit {0}) (DecodeError E)} (s : List ℕ) (at : ℕ) → Feeds step d (take at s) (Ok tt) d1 → Feeds step d1 (take (length s - at) (drop at s)) r d2 → Feeds step d s r d2
+  feeds_last {d} {d1} {d2} {r} s at f g =
+      let P : List ℕ → Type 0 = λ t. Feeds step d t r d2 in
+      let Q : List ℕ → Type 0 = λ t. Feeds step d1 t r d2 in
+      subst P (take-append-drop at s) (feeds_then step f (subst Q (take_rest s at) g))
+
+-- Symbols that wait
+
+values_wait : (q k : List ℕ) → groups (map symbol_value (q ++ k)) ≡ groups (map symbol_value q) ++ groups (map symbol_value (after_groups q ++ k))
+values_wait q k =
+    ap groups (map-append symbol_value q k)
+    ∙ groups-append (map symbol_value q) (map symbol_value k)
+    ∙ ap (λ x. groups (map symbol_value q) ++ groups x) (ap (λ x. x ++ map symbol_value k) (after_groups-map symbol_value q) ∙ sym (map-append symbol_value (after_groups q) k))
+
+-- a row of symbols and white space
+row_adds : {F : Type 0} (d : State F) (q row : List ℕ) → Every is_symbol q → list_all is_symbol_or_space row ≡ true → 1 ≤ length row → d.padding ≡ 0 → d.failed ≡ false
+    → Adds (waiting d q) row (groups (map symbol_value (after_groups q ++ filter is_symbol row))) (waiting d (q ++ filter is_symbol row))
+row_adds d q row every all some is_p going =
+    let k = filter is_symbol row in
+    let few = groups_length (map symbol_value (after_groups q ++ k)) in
+    adds_text row k (groups (map symbol_value (after_groups q ++ k))) 0 (every_after q every)
+    (ap (λ p. fault_byte (has_pad p) row) is_p ∙ allowed_fault row all)
+    refl (ap length (allowed_pads row all)) refl
+    (omega (arith, few, length-map (after_groups q ++ k) symbol_value, length-append (after_groups q) k, length-after_groups q, filter_length row, some))
+    refl (after_groups-append q k) (is_p ∙ ap (λ p. min (p + 0) 3) (sym is_p)) going
+
+rest_after : (q : List ℕ) → 64 ≤ length q → after_groups q ≡ after_groups (drop 64 q)
+rest_after q long =
+    let none : after_groups (take 64 q) ≡ [] = no_items (after_groups (take 64 q)) (omega (arith, length-after_groups (take 64 q), length-take-le 64 q long)) in
+    ap after_groups (sym (take-append-drop 64 q)) ∙ after_groups-append (take 64 q) (drop 64 q) ∙ ap (λ x. after_groups (x ++ drop 64 q)) none
+
+-- the groups of 64 symbols and of the rest
+block_rest : (q bytes : List ℕ) → 64 ≤ length q → length bytes ≡ 48 → DecodesFront q bytes → groups (map symbol_value q) ≡ bytes ++ groups (map symbol_value (drop 64 q))
+block_rest q bytes long size front =
+    let first : bytes ≡ groups (map symbol_value (take 64 q)) = sym (take_all 48 bytes (omega arith)) ∙ front 16 (omega arith) (omega arith) in
+    ap (λ l. groups (map symbol_value l)) (sym (take-append-drop 64 q))
+    ∙ ap groups (map-append symbol_value (take 64 q) (drop 64 q))
+    ∙ groups_whole (map symbol_value (take 64 q)) (map symbol_value (drop 64 q)) (omega (arith, length-map (take 64 q) symbol_value, length-take-le 64 q long))
+    ∙ ap (λ b. b ++ groups (map symbol_value (drop 64 q))) (sym first)
+
+module _ {F E : Type 0} (step : F → List ℕ → Result (Unit {0}) E → F → Type 0) where
+  -- nothing was read, and nothing waits
+  pub none_wait : {d : State F} {q : List ℕ} (every : Every is_symbol d.symbols) → IsBetweenGroups d → d.failed ≡ false → q ≡ [] → Holds step d [] (groups (map symbol_value q)) (waiting d q)
+  unfolding groups after_groups
+  none_wait {d} {q} every none going is =
+      let P : List ℕ → Type 0 = λ l. Holds step d [] (groups (map symbol_value l)) (waiting d l) in
+      let Q : List ℕ → Type 0 = λ l. Holds step d [] [] (record d { symbols = l }) in
+      subst P (sym is) (subst Q none.0 (holds_from step (adds_none every (omega (arith, ap length none.0)) (omega (arith, none.1)) going)))
+
+  -- a block more
+  pub block_waits : {d : State F} (s : State F) (text q q' : List ℕ) (at : ℕ) → list_all is_symbol q ≡ true → at + 64 ≤ length text → list_all is_symbol_or_space (take 64 (take (length text - at) (drop at text))) ≡ true
+      → q' ≡ q ++ filter is_symbol (take 64 (take (length text - at) (drop at text))) → s.padding ≡ 0 → Holds step d (take at text) (groups (map symbol_value q)) (waiting s q) → Holds step d (take (at + 64) text) (groups (map symbol_value q')) (waiting s q')
+  block_waits {d} s text q q' at every within all is is_p h =
+      let rest : take (length text - at) (drop at text) ≡ drop at text = take_rest text at in
+      let row = take 64 (drop at text) in
+      let allowed : list_all is_symbol_or_space row ≡ true = ap (λ t. list_all is_symbol_or_space (take 64 t)) (sym rest) ∙ all in
+      let more : q' ≡ q ++ filter is_symbol row = is ∙ ap (λ t. q ++ filter is_symbol (take 64 t)) rest in
+      let size : length row ≡ 64 = length-take-le 64 (drop at text) (omega (arith, length-drop at text)) in
+      let P : List ℕ → Type 0 = λ t. Holds step d t (groups (map symbol_value q')) (waiting s q') in
+      let Q : List ℕ → Type 0 = λ l. Holds step d (take at text ++ row) l (waiting s (q ++ filter is_symbol row)) in
+      let R : List ℕ → Type 0 = λ l. Holds step d (take at text ++ row) (groups (map symbol_value l)) (waiting s l) in
+      subst P (sym (take-add at 64 text)) (subst R (sym more) (subst Q (sym (values_wait q (filter is_symbol row))) (holds_adds step h (row_adds s q row (every_list_all q every) allowed (omega (arith, size)) is_p h.going))))
+
+  -- 64 symbols go out
+  pub block_goes : {d s1 s2 : State F} {t : List ℕ} (q q' bytes : List ℕ) → 64 ≤ length q → length bytes ≡ 48 → DecodesFront q bytes → q' ≡ drop 64 q → Holds step d t (groups (map symbol_value q)) (waiting s1 q) → CallsOnce step s1 bytes (Ok tt) s2 → Holds step d t (groups (map symbol_value q')) (waiting s2 q')
+  block_goes {d} {s1} {s2} {t} q q' bytes long size front is h w =
+      let P : List ℕ → Type 0 = λ l. Holds step d t l (waiting s1 q) in
+      let Q : List ℕ → Type 0 = λ l. Holds step d t (groups (map symbol_value l)) (waiting s2 l) in
+      let R : List ℕ → Type 0 = λ l. Holds step d t (groups (map symbol_value (drop 64 q))) (record s2 { symbols = l }) in
+      subst Q (sym is) (subst R (rest_after q long) (part_holds step q size (subst P (block_rest q bytes long size front) h) w))
+
+  -- which is refused
+  pub block_refused : {d s1 s2 : State F} {e : DecodeError E} (text : List ℕ) (at : ℕ) (q bytes : List ℕ) → 64 ≤ length q → length bytes ≡ 48 → DecodesFront q bytes → Holds step d (take at text) (groups (map symbol_value q)) (waiting s1 q) → CallsOnce step s1 bytes (Err e) s2 → Feeds step d text (Err e) s2
+  block_refused {d} {s1} text at q bytes long size front h w =
+      let P : List ℕ → Type 0 = λ l. Holds step d (take at text) l (waiting s1 q) in
+      feeds_stop step text at (part_refused step q (groups (map symbol_value (drop 64 q))) size (subst P (block_rest q bytes long size front) h) w)

@@ -21,7 +21,6 @@ pub mod FlagLemmas
 pub mod FragmentAgainLemmas
 pub mod FreeLemmas
 pub mod FrontLemmas
-pub mod GapLemmas
 pub mod GatherLemmas
 pub mod HeadLemmas
 pub mod HeaderLemmas
@@ -60,6 +59,7 @@ mod StagedExamples
 pub mod SpaceLemmas
 pub mod StretchLemmas
 pub mod SuffixLemmas
+pub mod SymbolLemmas
 pub mod TextBlockLemmas
 pub mod TextCuts
 pub mod TextLemmas

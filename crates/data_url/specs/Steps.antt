@@ -6,7 +6,6 @@ pub mod Digits
 pub mod Ending
 pub mod Front
 pub mod Header
-pub mod HeldState
 pub mod Holding
 pub mod Kept
 pub mod Lanes
@@ -15,6 +14,7 @@ pub mod Parsing
 pub mod Printing
 pub mod Sets
 pub mod Tail
+pub mod Waiting
 pub mod Walk
 pub mod Whole
 pub mod Window

@@ -10,8 +10,10 @@ use std::marker::Model;
 mod alphabet;
 mod blocks;
 mod decode;
-mod held;
 mod lanes;
+mod piece;
+mod places;
+mod symbols;
 mod whole;
 
 pub use decode::Decoder;

@@ -1,12 +1,8 @@
 -- Whole groups that a text begins with.
 use Rattle.std.specs.Char.{is_ascii_whitespace}
 use Rattle.std.specs.List.{list_all}
-use Rattle.std.specs.Prelude.{◌%◌, ◌++◌, ◌+◌, ◌||◌, ◌≡◌, ◌≤◌, Bool, IsTrue, List, drop, length, take, ℕ}
-use Rattle.data_url.specs.Base64.{groups, is_symbol, values}
-
--- the text without so many bytes at a place
-abbrev pub without : ℕ → ℕ → List ℕ → List ℕ
-without place gap text = take place text ++ drop (place + gap) text
+use Rattle.std.specs.Prelude.{[], if◌then◌else◌, ◌%◌, ◌*◌, ◌++◌, ◌/◌, ◌==◌, ◌||◌, ◌∷◌, ◌≡◌, ◌≤◌, Bool, IsTrue, List, length, map, take, ℕ}
+use Rattle.data_url.specs.Base64.{groups, is_symbol, symbol_value, values}
 
 abbrev pub is_symbol_or_space : ℕ → Bool
 is_symbol_or_space b = is_symbol b || is_ascii_whitespace b
@@ -24,3 +20,13 @@ pub record Fills (held text : List ℕ) (taken : ℕ) (held' : List ℕ) : Type 
   pub more : List ℕ
   pub are : AreGroups (take taken text) more
   pub held_are : held' ≡ held ++ more
+
+-- the items whose bits are clear, from the lowest bit on
+abbrev pub clear : List ℕ → ℕ → List ℕ
+clear [] bits = []
+clear (x ∷ xs) bits = if bits % 2 == 0 then x ∷ clear xs (bits / 2) else clear xs (bits / 2)
+
+-- the bytes begin with those of each number of groups, up to sixteen, that the symbols begin with
+abbrev pub DecodesFront : List ℕ → List ℕ → Type 0
+DecodesFront symbols bytes = (m : ℕ) → m ≤ 16 → 4 * m ≤ length symbols
+    → take (3 * m) bytes ≡ groups (map symbol_value (take (4 * m) symbols))

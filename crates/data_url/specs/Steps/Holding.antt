@@ -1,7 +1,7 @@
 -- What a decoder makes of some text while bytes wait to be handed out together.
-use Rattle.std.specs.Prelude.{[], ◌*◌, ◌++◌, ◌+◌, ◌∷◌, ◌<◌, ◌≡◌, ◌≤◌, Err, List, MatchResult, None, Ok, Option, Result, Some, false, is_some, length, take, true, ℕ}
-use Rattle.data_url.specs.Base64.{Kind, complete_bytes, first_fault, kind_of}
-use Rattle.data_url.specs.Decoder.{IsLeft, State, left_over}
+use Rattle.std.specs.Prelude.{[], ◌*◌, ◌++◌, ◌+◌, ◌∷◌, ◌≡◌, ◌≤◌, Err, List, MatchResult, None, Ok, Option, Result, Some, false, is_some, length, take, true, ℕ}
+use Rattle.data_url.specs.Base64.{Kind, after_groups, complete_bytes, first_fault, kind_of}
+use Rattle.data_url.specs.Decoder.{Feeds, IsLeft, State, left_over}
 use Rattle.data_url.specs.Run.{Call, IsRun, joined_pieces, refusal}
 use Rattle.data_url.specs.Steps.Calls.{CallsOnce}
 use Rattle.data_url.specs.declared.forgiving_base64.DecodeError.{DecodeError}
@@ -58,25 +58,23 @@ pub record Holds {F E : Type 0} (step : F → List ℕ → Result (Unit {0}) E �
   pub calls : 48 * length run + length held ≤ 3 * length text
   pub going : d'.failed ≡ false
 
--- d handed out the groups of the first so many bytes of the text as one full piece
-pub record FeedsBlock {F E : Type 0} (step : F → List ℕ → Result (Unit {0}) E → F → Type 0)
-    (d : State F) (text : List ℕ) (taken : ℕ) (r : Result (Unit {0}) (DecodeError E)) (d' : State F)
-    : Type 0 where
-  pub bytes : List ℕ
-  pub gains : Gains d [] text taken d bytes
-  pub full : length bytes ≡ 48
-  pub wrote : CallsOnce step d bytes r d'
-
--- d fed a block that the text begins with, and answered how many bytes it takes; or 0, and d stays
-abbrev pub TriesBlock : {F E : Type 0} → (F → List ℕ → Result (Unit {0}) E → F → Type 0) → State F
-    → List ℕ → Result ℕ (DecodeError E) → State F → Type 0
-TriesBlock step d text r d' = MatchResult r
-    (λ taken. (taken ≡ 0 → d' ≡ d) × (0 < taken → FeedsBlock step d text taken (Ok tt) d'))
-    (λ error. (taken : ℕ) × FeedsBlock step d text taken (Err error) d')
-
--- d took the first so many bytes of the text and handed out all their groups, which was accepted,
--- and is d' now
-pub record FeedsBlocks {F E : Type 0} (step : F → List ℕ → Result (Unit {0}) E → F → Type 0)
-    (d : State F) (text : List ℕ) (taken : ℕ) (d' : State F) : Type 0 where
+-- d took the first so many bytes of the text, and of their groups the last ones are held
+pub record Reads {F E : Type 0} (step : F → List ℕ → Result (Unit {0}) E → F → Type 0)
+    (d : State F) (text : List ℕ) (taken : ℕ) (held : List ℕ) (d' : State F) : Type 0 where
   pub within : taken ≤ length text
-  pub holds : Holds step d (take taken text) [] d'
+  pub holds : Holds step d (take taken text) held d'
+
+-- d was fed the first so many bytes of the text, or the error is that of feeding the text
+abbrev pub FeedsPart : {F E : Type 0} → (F → List ℕ → Result (Unit {0}) E → F → Type 0) → State F
+    → List ℕ → Result ℕ (DecodeError E) → State F → Type 0
+FeedsPart step d text r d' = MatchResult r
+    (λ taken. (taken ≤ length text) × Feeds step d (take taken text) (Ok tt) d')
+    (λ error. Feeds step d text (Err error) d')
+
+-- the next symbol begins a group
+abbrev pub IsBetweenGroups : {F : Type 0} → State F → Type 0
+IsBetweenGroups d = (d.symbols ≡ []) × (d.padding ≡ 0)
+
+-- d where of the symbols no more are left over than their groups leave
+abbrev pub waiting : {F : Type 0} → State F → List ℕ → State F
+waiting d symbols = record d { symbols = after_groups symbols }

@@ -4,18 +4,14 @@ ghost use Rattle.std.specs.Prelude.{◌≡◌, ◌+◌, ◌<◌, ◌≤◌, ◌+
 ghost use Rattle.std.specs.List.{list_all, prefix_len};
 ghost use Rattle.std.specs.Simd.Lanes.{mask_l};
 ghost use Rattle.data_url.specs.Base64.{groups, is_symbol};
-ghost use Rattle.data_url.specs.Steps.Blocks.{without};
 ghost use Rattle.data_url.specs.Steps.Lanes.{value_of};
 
 use super::lanes::{decode_row, marks_of};
 use std::simd::prelude::*;
 
-/// The places of the bytes of a row.
-const PLACES: [u8; 16] = [0, 1, 2, 3, 4, 5, 6, 7, 8, 9, 10, 11, 12, 13, 14, 15];
-
 /// The row of a text that begins at a place.
 #[inline(always)]
-fn row(text: &[u8], at: usize) -> u8x16
+pub(crate) fn row(text: &[u8], at: usize) -> u8x16
     requires { at + 16 ≤ length text.now }
     ensures { result ≡ take 16 (drop at text.now) }
 {
@@ -35,36 +31,11 @@ pub(crate) fn is_whole(text: &[u8]) -> bool
 
 /// A bit for each byte of a row, which is set where it is no symbol.
 #[inline(always)]
-fn others(bytes: u8x16) -> u64
+pub(crate) fn others(bytes: u8x16) -> u64
     ensures few { result < 65536 }
     ensures mask { result ≡ mask_l (map (λ b. not (is_symbol b)) bytes) }
 {
     marks_of(bytes).simd_ne(u8x16::splat(0)).to_bitmask()
-}
-
-/// A bit for each of the first 64 bytes, which is set where it is no symbol.
-#[inline(always)]
-pub(crate) fn others_ahead(text: &[u8]) -> u64
-    requires { 64 ≤ length text.now }
-    ensures { result ≡ mask_l (map (λ b. not (is_symbol b)) (take 64 text.now)) }
-{
-    let upper = others(row(text, 0)) + (others(row(text, 16)) << 16);
-    let lower = others(row(text, 32)) + (others(row(text, 48)) << 16);
-    upper + (lower << 32)
-}
-
-/// How many of the first 64 bytes stand before the first of them that is no symbol.
-#[inline(always)]
-pub(crate) fn symbols_ahead(text: &[u8]) -> usize
-    requires { 64 ≤ length text.now }
-    ensures { result ≡ prefix_len is_symbol (take 64 text.now) }
-{
-    let all = others_ahead(text);
-    if all == 0 {
-        64
-    } else {
-        all.trailing_zeros() as usize
-    }
 }
 
 /// How many of the first 16 bytes stand before the first of them that is no symbol.
@@ -83,7 +54,7 @@ pub(crate) fn symbols_in_row(text: &[u8]) -> usize
 
 /// Writes a row at a place.
 #[inline(always)]
-fn put(bytes: &mut [u8], at: usize, row: u8x16)
+pub(crate) fn put(bytes: &mut [u8], at: usize, row: u8x16)
     requires { at + 16 ≤ length bytes.old }
     ensures { take (at + 16) bytes.new ≡ take at bytes.old ++ row }
 {
@@ -127,33 +98,5 @@ pub(crate) fn decode(text: &[u8]) -> [u8; 48]
     put(&mut bytes, 0, front);
     put(&mut bytes, 16, middle);
     put(&mut bytes, 32, end);
-    bytes
-}
-
-/// The row that begins at a place of a text without a gap: before the gap the text's own, and behind it what stands so
-/// much later.
-#[inline(always)]
-fn row_without(text: &[u8], at: usize, place: usize, gap: usize) -> u8x16
-    requires within { 64 + gap ≤ length text.now }
-    requires early { (at ≤ 48) × (place ≤ 64) }
-    ensures { result ≡ take 16 (drop at (without place gap text.now)) }
-{
-    let places = u8x16::from_array(PLACES) + u8x16::splat(at as u8);
-    let is_before = places.simd_lt(u8x16::splat(place as u8));
-    is_before.select(row(text, at), row(text, at + gap))
-}
-
-/// The first 64 bytes of a text without the gap at a place.
-#[inline(always)]
-pub(crate) fn block_without(text: &[u8], place: usize, gap: usize) -> [u8; 64]
-    requires within { 64 + gap ≤ length text.now }
-    requires early { place ≤ 64 }
-    ensures { result ≡ take 64 (without place gap text.now) }
-{
-    let mut bytes = [0; 64];
-    put(&mut bytes, 0, row_without(text, 0, place, gap));
-    put(&mut bytes, 16, row_without(text, 16, place, gap));
-    put(&mut bytes, 32, row_without(text, 32, place, gap));
-    put(&mut bytes, 48, row_without(text, 48, place, gap));
     bytes
 }

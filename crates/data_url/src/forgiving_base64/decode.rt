@@ -1,20 +1,14 @@
 //! Decoding piece by piece (Infra Standard, forgiving-base64 decode).
 
-ghost use Rattle.std.specs.Prelude.{◌≡◌, ◌<◌, ◌≤◌, [], ◌∷◌, ◌+◌, Err, IsTrue, MatchResult, None, Ok, drop, length, slice_index, take, true, false};
+ghost use Rattle.std.specs.Prelude.{◌≡◌, ◌<◌, ◌≤◌, [], ◌∷◌, Err, IfOk, IsTrue, MatchResult, None, length, map, slice_index, take, true, false};
 ghost use Rattle.std.specs.List.{list_all};
-ghost use Rattle.std.specs.Char.{is_ascii_whitespace};
 ghost use Rattle.data_url.specs.Base64.{is_symbol};
 
 use super::alphabet::{group_of, is_symbol, rest_of_three, rest_of_two};
-use super::blocks::{block_without, decode, is_whole, others_ahead};
-use super::held::{Held, ROOM, gap_at};
+use super::blocks::{decode, is_whole};
+use super::piece::{Piece, ROOM};
+use super::symbols::{Symbols, is_spaced};
 use super::{DecodeError, InvalidBase64, InvalidBase64Details};
-
-/// Whether a text may begin with a group, by its first and fourth byte.
-#[inline(always)]
-fn may_begin_with_group(text: &[u8]) -> bool {
-    text.len() >= 4 && is_symbol(text[0]) && is_symbol(text[3])
-}
 
 /// A decoder of base64
 /// ([Infra Standard, forgiving-base64 decode](https://infra.spec.whatwg.org/#forgiving-base64-decode)) that takes its
@@ -46,13 +40,12 @@ where
     ghost use Rattle.std.specs.Fn.{CalledAt};
     ghost use Rattle.data_url.specs.Decoder.{Feeds, Finishes, left_over, start, state_of};
     ghost use Rattle.data_url.specs.InvalidBase64.{kind_of_details};
-    ghost use Rattle.data_url.specs.Base64.{decoded};
+    ghost use Rattle.data_url.specs.Base64.{decoded, groups, symbol_value};
     ghost use Rattle.data_url.specs.Steps.Calls.{CallsOnce};
     ghost use Rattle.data_url.specs.Steps.Ending.{IsFaultAtEnd};
     ghost use Rattle.data_url.specs.Facts.{Fits};
-    ghost use Rattle.data_url.specs.Steps.Blocks.{without};
-    ghost use Rattle.data_url.specs.Steps.HeldState.{held_bytes};
-    ghost use Rattle.data_url.specs.Steps.Holding.{Adds, FeedsBlocks, Flushes, Gains, Refuses, TriesBlock, bytes_in};
+    ghost use Rattle.data_url.specs.Steps.Waiting.{bytes_of, symbols_of};
+    ghost use Rattle.data_url.specs.Steps.Holding.{Adds, FeedsPart, Flushes, Gains, IsBetweenGroups, Reads, Refuses, bytes_in, waiting};
 
     /// A decoder that has seen nothing yet, and hands its bytes to the closure. The closure has to be one that may be
     /// called on any bytes, whatever it was called with before.
@@ -102,12 +95,12 @@ where
     }
 
     /// Fails, with the reason as the answer.
-    fn refuse(&mut self, details: InvalidBase64Details) -> Result<(), DecodeError<E>>
+    fn refuse(&mut self, details: InvalidBase64Details) -> DecodeError<E>
         ensures state { state_of self.new ≡ record (state_of self.old) { failed = true } }
-        ensures kind { result ≡ Err (DecodeError.InvalidBase64 (kind_of_details details)) }
+        ensures kind { result ≡ DecodeError.InvalidBase64 (kind_of_details details) }
     {
         self.failed = true;
-        Err(DecodeError::InvalidBase64(InvalidBase64 { details }))
+        DecodeError::InvalidBase64(InvalidBase64 { details })
     }
 
     /// Takes a symbol, and answers the bytes of the group that it completes.
@@ -154,18 +147,18 @@ where
 
     /// Takes one byte, and holds the bytes of the group that it completes. It answers how many bytes it took.
     #[inline(always)]
-    fn take_one(&mut self, byte: u8, held: &mut Held) -> Result<usize, InvalidBase64Details>
-        requires room { held.old.groups < 16 }
+    fn take_one(&mut self, byte: u8, piece: &mut Piece) -> Result<usize, InvalidBase64Details>
+        requires room { piece.old.groups < 16 }
         requires going { (state_of self.old).failed ≡ false }
         ensures { MatchResult result
-            (λ taken. Gains (state_of self.old) (held_bytes held.old) (byte ∷ []) taken
-            (state_of self.new) (held_bytes held.new))
+            (λ taken. Gains (state_of self.old) (bytes_of piece.old) (byte ∷ []) taken
+            (state_of self.new) (bytes_of piece.new))
             (λ details.
             Refuses (state_of self.old) byte (kind_of_details details) (state_of self.new)
-            × (held_bytes held.new ≡ held_bytes held.old)) }
+            × (bytes_of piece.new ≡ bytes_of piece.old)) }
     {
         if let Some(group) = self.take_byte(byte)? {
-            held.append(&group, 1);
+            piece.append(&group, 1);
         }
         Ok(1)
     }
@@ -173,17 +166,17 @@ where
     /// Holds the bytes of whole groups that a text begins with, where nothing came before them that they could belong to,
     /// and answers how many bytes of the text they take.
     #[inline(always)]
-    fn take_groups(&self, text: &[u8], held: &mut Held) -> usize
-        requires room { held.old.groups < 16 }
+    fn take_groups(&self, text: &[u8], piece: &mut Piece) -> usize
+        requires room { piece.old.groups < 16 }
         requires going { (state_of self.now).failed ≡ false }
         ensures none { result ≡ 0
-            → (held_bytes held.new ≡ held_bytes held.old) × (held.new.groups ≡ held.old.groups) }
+            → (bytes_of piece.new ≡ bytes_of piece.old) × (piece.new.groups ≡ piece.old.groups) }
         ensures some { 0 < result
-            → Gains (state_of self.now) (held_bytes held.old) text.now result
-            (state_of self.now) (held_bytes held.new) }
+            → Gains (state_of self.now) (bytes_of piece.old) text.now result
+            (state_of self.now) (bytes_of piece.new) }
     {
-        if self.pending == 0 && self.padding == 0 && may_begin_with_group(text) {
-            held.fill(text)
+        if self.is_between_groups() {
+            piece.fill(text)
         } else {
             0
         }
@@ -191,199 +184,152 @@ where
 
     /// Takes the next bytes of a text: whole groups if it begins with some, or else one byte. It answers how many.
     #[inline(always)]
-    fn take_some(&mut self, text: &[u8], held: &mut Held) -> Result<usize, InvalidBase64Details>
+    fn take_some(&mut self, text: &[u8], piece: &mut Piece) -> Result<usize, InvalidBase64Details>
         requires some { 1 ≤ length text.now }
-        requires room { held.old.groups < 16 }
+        requires room { piece.old.groups < 16 }
         requires going { (state_of self.old).failed ≡ false }
         ensures { MatchResult result
-            (λ taken. Gains (state_of self.old) (held_bytes held.old) text.now taken
-            (state_of self.new) (held_bytes held.new))
+            (λ taken. Gains (state_of self.old) (bytes_of piece.old) text.now taken
+            (state_of self.new) (bytes_of piece.new))
             (λ details.
             Refuses (state_of self.old) (slice_index text.now 0) (kind_of_details details)
             (state_of self.new)
-            × (held_bytes held.new ≡ held_bytes held.old)) }
+            × (bytes_of piece.new ≡ bytes_of piece.old)) }
     {
-        let taken = self.take_groups(text, held);
+        let taken = self.take_groups(text, piece);
         if taken > 0 {
             return Ok(taken);
         }
-        self.take_one(text[0], held)
+        self.take_one(text[0], piece)
     }
 
     /// Hands out what is held, if anything is.
     #[inline(always)]
-    fn flush(&mut self, held: &Held) -> Result<(), DecodeError<E>>
+    fn flush(&mut self, piece: &Piece) -> Result<(), DecodeError<E>>
         requires callable { F.IsAlwaysCallable (state_of self.old).closure }
         requires going { (state_of self.old).failed ≡ false }
         ensures callable { F.IsAlwaysCallable (state_of self.new).closure }
-        ensures flushed { Flushes (CalledAt F.FnMut) (state_of self.old) (held_bytes held.now)
+        ensures flushed { Flushes (CalledAt F.FnMut) (state_of self.old) (bytes_of piece.now)
             result (state_of self.new) }
     {
-        if held.groups == 0 {
+        if piece.groups == 0 {
             return Ok(());
         }
-        self.write(held.as_slice())
+        self.write(piece.as_slice())
     }
 
-    /// Feeds one byte.
-    fn feed_byte(&mut self, byte: u8) -> Result<(), DecodeError<E>>
-        requires callable { F.IsAlwaysCallable (state_of self.old).closure }
-        requires going { (state_of self.old).failed ≡ false }
-        ensures callable { F.IsAlwaysCallable (state_of self.new).closure }
-        ensures fed { Feeds (CalledAt F.FnMut) (state_of self.old) (byte ∷ []) result
-            (state_of self.new) }
-    {
-        match self.take_byte(byte) {
-            Ok(None) => Ok(()),
-            Ok(Some(group)) => self.write(&group),
-            Err(details) => self.refuse(details),
-        }
-    }
-
-    /// Feeds a text that is too short to complete two groups, a byte at a time.
-    fn feed_few(&mut self, input: &[u8]) -> Result<(), DecodeError<E>>
-        requires callable { F.IsAlwaysCallable (state_of self.old).closure }
-        requires going { (state_of self.old).failed ≡ false }
-        ensures callable { F.IsAlwaysCallable (state_of self.new).closure }
-        ensures fed { Feeds (CalledAt F.FnMut) (state_of self.old) input.now result
-            (state_of self.new) }
-    {
-        for byte in input {
-            self.feed_byte(*byte)?;
-        }
-        Ok(())
-    }
-
-    /// Hands out the groups of a block of 64 symbols with a gap of white space behind so many of them, as one piece. It answers
-    /// how many bytes of the text they take.
+    /// Whether the next symbol begins a group.
     #[inline(always)]
-    fn feed_without(
-        &mut self,
-        text: &[u8],
-        symbols: usize,
-        gap: usize,
-    ) -> Result<usize, DecodeError<E>>
-        requires callable { F.IsAlwaysCallable (state_of self.old).closure }
-        requires going { (state_of self.old).failed ≡ false }
-        requires none { ((state_of self.old).symbols ≡ []) × ((state_of self.old).padding ≡ 0) }
-        requires within { 64 + gap ≤ length text.now }
-        requires early { symbols ≤ 64 }
-        requires white { IsTrue (list_all is_ascii_whitespace (take gap (drop symbols text.now))) }
-        requires whole { IsTrue (list_all is_symbol (take 64 (without symbols gap text.now))) }
-        ensures callable { F.IsAlwaysCallable (state_of self.new).closure }
-        ensures fed { TriesBlock (CalledAt F.FnMut) (state_of self.old) text.now result
-            (state_of self.new) }
+    fn is_between_groups(&self) -> bool
+        ensures { result ≡ true → IsBetweenGroups (state_of self.now) }
     {
-        match self.write(&decode(&block_without(text, symbols, gap))) {
-            Ok(()) => Ok(64 + gap),
-            Err(error) => Err(error),
-        }
+        self.pending == 0 && self.padding == 0
     }
 
-    /// The same with a gap of one or two bytes, as a line break is, or 0 where the text does not begin with such a block.
-    #[inline(always)]
-    fn feed_past(&mut self, text: &[u8]) -> Result<usize, DecodeError<E>>
-        requires callable { F.IsAlwaysCallable (state_of self.old).closure }
-        requires going { (state_of self.old).failed ≡ false }
-        requires none { ((state_of self.old).symbols ≡ []) × ((state_of self.old).padding ≡ 0) }
-        requires long { 64 ≤ length text.now }
-        ensures callable { F.IsAlwaysCallable (state_of self.new).closure }
-        ensures fed { TriesBlock (CalledAt F.FnMut) (state_of self.old) text.now result
-            (state_of self.new) }
-    {
-        if text.len() < 66 {
-            return Ok(0);
-        }
-        let others = others_ahead(text);
-        if others == 0 {
-            return Ok(0);
-        }
-        let symbols = others.trailing_zeros() as usize;
-        let behind = others >> symbols;
-        match gap_at(text, symbols) {
-            1 if behind < 2 && is_symbol(text[64]) => self.feed_without(text, symbols, 1),
-            2 if behind < 4 && is_symbol(text[64]) && is_symbol(text[65]) => {
-                self.feed_without(text, symbols, 2)
-            }
-            _ => Ok(0),
-        }
-    }
-
-    /// Hands out a block of 64 symbols as one piece, or one with a gap in it. It answers how many bytes of the text they take,
-    /// or 0 where it does not begin with such a block.
-    #[inline(always)]
-    fn feed_block(&mut self, text: &[u8]) -> Result<usize, DecodeError<E>>
-        requires callable { F.IsAlwaysCallable (state_of self.old).closure }
-        requires going { (state_of self.old).failed ≡ false }
-        requires none { ((state_of self.old).symbols ≡ []) × ((state_of self.old).padding ≡ 0) }
-        requires long { 64 ≤ length text.now }
-        ensures callable { F.IsAlwaysCallable (state_of self.new).closure }
-        ensures fed { TriesBlock (CalledAt F.FnMut) (state_of self.old) text.now result
-            (state_of self.new) }
-    {
-        if !is_whole(text) {
-            return self.feed_past(text);
-        }
-        match self.write(&decode(text)) {
-            Ok(()) => Ok(64),
-            Err(error) => Err(error),
-        }
-    }
-
-    /// Hands out the blocks of 64 symbols that a text begins with, each as one piece, where nothing came before them that
-    /// they could belong to. It answers how many bytes of the text they take, with the gaps in them.
+    /// Passes on the blocks of 64 symbols that a text begins with, each as one piece, where the next symbol begins a group.
+    /// Returns how many bytes of the text they take.
     #[inline(always)]
     fn feed_blocks(&mut self, text: &[u8]) -> Result<usize, DecodeError<E>>
         requires callable { F.IsAlwaysCallable (state_of self.old).closure }
         requires going { (state_of self.old).failed ≡ false }
         ensures callable { F.IsAlwaysCallable (state_of self.new).closure }
-        ensures fed { MatchResult result
-            (λ taken. FeedsBlocks (CalledAt F.FnMut) (state_of self.old) text.now taken
-            (state_of self.new))
-            (λ error. Feeds (CalledAt F.FnMut) (state_of self.old) text.now (Err error)
-            (state_of self.new)) }
+        ensures fed { FeedsPart (CalledAt F.FnMut) (state_of self.old) text.now result (state_of self.new) }
     {
         let mut at = 0;
-        if self.pending > 0 || self.padding > 0 {
+        if !self.is_between_groups() {
             return Ok(0);
         }
-        while text.len() - at >= 64 {
-            match self.feed_block(&text[at..]) {
-                Ok(0) => return Ok(at),
-                Ok(taken) => at += taken,
-                Err(error) => return Err(error),
-            }
+        while text.len() - at >= 64 && is_whole(&text[at..]) {
+            self.write(&decode(&text[at..]))?;
+            at += 64;
         }
         Ok(at)
     }
 
-    /// Feeds a text, and hands out the bytes of up to sixteen groups as one piece.
-    fn feed_many(&mut self, input: &[u8]) -> Result<(), DecodeError<E>>
+    /// Keeps symbols: the bytes of their groups in the piece, and what is left over.
+    #[inline(always)]
+    fn keep(&mut self, symbols: &Symbols, piece: &mut Piece)
+        requires room { symbols.now.len < 64 }
+        requires none { piece.old.groups ≡ 0 }
+        ensures bytes { bytes_of piece.new ≡ groups (map symbol_value (symbols_of symbols.now)) }
+        ensures state { state_of self.new ≡ waiting (state_of self.old) (symbols_of symbols.now) }
+    {
+        piece.append(&symbols.decode(), symbols.len / 4);
+        self.symbols = symbols.last();
+        self.pending = symbols.len % 4;
+    }
+
+    /// Feeds the blocks of 64 symbols and white space that a text begins with, where the next symbol begins a group, and
+    /// passes on pieces of sixteen groups. The groups after these are in the piece then. Returns how many bytes of the
+    /// text the blocks take.
+    fn feed_spaced(&mut self, text: &[u8], piece: &mut Piece) -> Result<usize, DecodeError<E>>
+        requires callable { F.IsAlwaysCallable (state_of self.old).closure }
+        requires going { (state_of self.old).failed ≡ false }
+        requires between { IsBetweenGroups (state_of self.old) }
+        requires none { piece.old.groups ≡ 0 }
+        ensures callable { F.IsAlwaysCallable (state_of self.new).closure }
+        ensures fed { MatchResult result
+            (λ taken. Reads (CalledAt F.FnMut) (state_of self.old) text.now taken
+            (bytes_of piece.new) (state_of self.new))
+            (λ error. Feeds (CalledAt F.FnMut) (state_of self.old) text.now (Err error)
+            (state_of self.new)) }
+    {
+        let mut symbols = Symbols::new();
+        let mut at = 0;
+        while text.len() - at >= 64 && is_spaced(&text[at..]) {
+            symbols.add_block(&text[at..]);
+            at += 64;
+            if symbols.len >= 64 {
+                self.write(&symbols.decode())?;
+                symbols.drop_block();
+            }
+        }
+        self.keep(&symbols, piece);
+        Ok(at)
+    }
+
+    /// Feeds such blocks of a text that is not short, where the next symbol begins a group, and else nothing.
+    #[inline(always)]
+    fn feed_long(&mut self, text: &[u8], piece: &mut Piece) -> Result<usize, DecodeError<E>>
+        requires callable { F.IsAlwaysCallable (state_of self.old).closure }
+        requires going { (state_of self.old).failed ≡ false }
+        requires none { piece.old.groups ≡ 0 }
+        ensures callable { F.IsAlwaysCallable (state_of self.new).closure }
+        ensures fed { MatchResult result
+            (λ taken. Reads (CalledAt F.FnMut) (state_of self.old) text.now taken
+            (bytes_of piece.new) (state_of self.new))
+            (λ error. Feeds (CalledAt F.FnMut) (state_of self.old) text.now (Err error)
+            (state_of self.new)) }
+    {
+        if text.len() < 64 || !self.is_between_groups() {
+            return Ok(0);
+        }
+        self.feed_spaced(text, piece)
+    }
+
+    /// Feeds the beginning of a text and passes on the groups in it, the last sixteen or fewer of them as one piece.
+    /// Returns how many bytes of the text it took, at least one if there is one.
+    #[inline(always)]
+    fn feed_piece(&mut self, text: &[u8]) -> Result<usize, DecodeError<E>>
         requires callable { F.IsAlwaysCallable (state_of self.old).closure }
         requires going { (state_of self.old).failed ≡ false }
         ensures callable { F.IsAlwaysCallable (state_of self.new).closure }
-        ensures fed { Feeds (CalledAt F.FnMut) (state_of self.old) input.now result
-            (state_of self.new) }
+        ensures fed { FeedsPart (CalledAt F.FnMut) (state_of self.old) text.now result (state_of self.new) }
+        ensures some { IfOk result (λ taken. 1 ≤ length text.now → 1 ≤ taken) }
     {
-        let mut at = match self.feed_blocks(input) {
-            Ok(taken) => taken,
-            Err(error) => return Err(error),
-        };
-        let mut held = Held::new();
-        while at < input.len() {
-            match self.take_some(&input[at..], &mut held) {
+        let mut piece = Piece::new();
+        let mut at = self.feed_long(text, &mut piece)?;
+        while at < text.len() && piece.groups < ROOM {
+            match self.take_some(&text[at..], &mut piece) {
                 Ok(taken) => at += taken,
                 Err(details) => {
-                    self.flush(&held)?;
-                    return self.refuse(details);
+                    self.flush(&piece)?;
+                    return Err(self.refuse(details));
                 }
             }
-            if held.groups == ROOM {
-                self.flush(&held)?;
-                held.clear();
-            }
         }
-        self.flush(&held)
+        self.flush(&piece)?;
+        Ok(at)
     }
 
     /// Takes the next bytes of the text, in an encoding that ASCII is part of, and hands out the bytes of each group of four
@@ -402,11 +348,12 @@ where
         ensures fed { Feeds (CalledAt F.FnMut) (state_of self.old) input.now result
             (state_of self.new) }
     {
-        if self.pending + input.len() < 8 {
-            self.feed_few(input)
-        } else {
-            self.feed_many(input)
+        let mut at = 0;
+        while at < input.len() {
+            at += self.feed_blocks(&input[at..])?;
+            at += self.feed_piece(&input[at..])?;
         }
+        Ok(())
     }
 
     /// Whether there is as much padding as fits the symbols left over: none but behind a lone one, one `=` behind three,
@@ -459,7 +406,7 @@ where
     {
         match self.fault_at_end() {
             None => self.write_rest(),
-            Some(details) => self.refuse(details),
+            Some(details) => Err(self.refuse(details)),
         }
     }
 

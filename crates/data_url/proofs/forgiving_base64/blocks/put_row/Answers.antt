@@ -1,4 +1,4 @@
-use Rattle.std.proofs.Common.{map, ap, ◌∙◌}
+use Rattle.std.proofs.Common.{map, ap, ◌∙◌, arith}
 use Rattle.data_url.specs.Base64.{groups}
 use Rattle.data_url.specs.Steps.Lanes.{value_of}
 use Rattle.data_url.proofs.BlockLemmas.{row_put}
@@ -6,5 +6,5 @@ use Rattle.data_url.proofs.forgiving_base64.blocks.put_row.Goals as goal
 
 pub returns : goal.returns
 returns c =
-    row_put c.args.at c.args.bytes.now c.put.new.bytes c.decode_row.result _ c.requires.room c.put.ensures
+    row_put c.args.at 12 c.args.bytes.now c.put.new.bytes c.decode_row.result _ c.requires.room (omega arith) c.put.ensures
     (c.decode_row.ensures.bytes ∙ ap (λ l. groups (map value_of l)) c.row.ensures)

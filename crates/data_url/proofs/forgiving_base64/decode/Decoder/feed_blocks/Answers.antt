@@ -1,43 +1,40 @@
-use Rattle.std.proofs.Common.{◌≡◌, ap, arith, length-drop, length-take, take, ◌∙◌}
+use Rattle.std.proofs.Common.{take, refl, sym, ◌∙◌, ◌+◌, arith, length-take}
+use Rattle.std.proofs.lemmas.Result.{err_from_is_err_and}
 use Rattle.std.specs.Fn.{CalledAt}
-use Rattle.data_url.proofs.ByteLemmas.{adds_none}
-use Rattle.data_url.proofs.HoldLemmas.{block_holds, block_refused, holds_from}
+use Rattle.data_url.proofs.ByteLemmas.{feeds_none}
+use Rattle.data_url.proofs.DecoderLemmas.{feeds_stop}
+use Rattle.data_url.proofs.HoldLemmas.{block_feeds}
 use Rattle.data_url.proofs.PaddingLemmas.{every_list_all}
 use Rattle.data_url.proofs.forgiving_base64.decode.Decoder.feed_blocks.Goals as goal
 
-pub returns-then-self-gt0-clause-fed : goal.returns-then-self-gt0-clause-fed
-returns-then-self-gt0-clause-fed g c =
-    let d = c.args.self.now in
-    record {
-      within = omega arith;
-      holds = holds_from (CalledAt g.F.FnMut) (adds_none (every_list_all (take d.pending d.symbols) d.pending_symbols) (omega (arith, length-take d.pending d.symbols, d.few_pending)) d.few_padding c.requires.going);
-    }
+pub returns-then-not-is_between_groups-clause-fed : goal.returns-then-not-is_between_groups-clause-fed
+returns-then-not-is_between_groups-clause-fed g c = let d = c.args.self.now in (omega arith, feeds_none (CalledAt g.F.FnMut) (every_list_all (take d.pending d.symbols) d.pending_symbols) (omega (arith, length-take d.pending d.symbols, d.few_pending)) d.few_padding c.requires.going refl)
 
 pub loop-at-init : goal.loop-at-init
 loop-at-init g c =
     let d = c.args.self.now in
-    let none : d.pending ≡ 0 = omega (arith, c.if-self-gt0.false) in
     record {
       callable = c.requires.callable;
       within = omega arith;
-      symbols = ap (λ n. take n d.symbols) none;
-      padding = omega (arith, c.if-self-gt0-2.false);
-      holds = holds_from (CalledAt g.F.FnMut) (adds_none (every_list_all (take d.pending d.symbols) d.pending_symbols) (omega (arith, length-take d.pending d.symbols, d.few_pending)) d.few_padding c.requires.going);
+      between = c.is_between_groups.ensures c.if-not-is_between_groups.false;
+      fed = feeds_none (CalledAt g.F.FnMut) (every_list_all (take d.pending d.symbols) d.pending_symbols) (omega (arith, length-take d.pending d.symbols, d.few_pending)) d.few_padding c.requires.going refl;
     }
+
+pub returns-in_err-write-clause-fed : goal.returns-in_err-write-clause-fed
+returns-in_err-write-clause-fed g c =
+    let p = err_from_is_err_and c.from_residual.result c.from_residual.ensures.1 in
+    let i = c.loop-at.invariant in
+    rw (p.1, p.2)
+    (feeds_stop (CalledAt g.F.FnMut) c.args.text.now (c.loop-at.at + 64)
+    (block_feeds (CalledAt g.F.FnMut) c.args.text.now c.loop-at.at c.type_inv.text i.between (omega arith) (sym c.if-is_whole.true ∙ c.is_whole.ensures) c.decode.ensures i.fed c.in_err-write.ensures.wrote))
 
 pub loop-at-preserved : goal.loop-at-preserved
 loop-at-preserved g c =
     let i = c.loop-at.invariant in
-    let b = c.in-Ok.ensures.fed.1 (omega arith) in
+    let w = c.in_ok-write.ensures.wrote in
     record {
-      callable = c.in-Ok.ensures.callable;
-      within = omega (arith, b.gains.within, length-drop c.loop-at.at c.args.text.now, c.loop-at-test.true);
-      symbols = b.wrote.symbols_stay ∙ i.symbols;
-      padding = b.wrote.padding_stays ∙ i.padding;
-      holds = block_holds (CalledAt g.F.FnMut) c.args.text.now c.loop-at.at i.holds b;
+      callable = c.in_ok-write.ensures.callable;
+      within = omega arith;
+      between = (w.symbols_stay ∙ i.between.0, w.padding_stays ∙ i.between.1);
+      fed = block_feeds (CalledAt g.F.FnMut) c.args.text.now c.loop-at.at c.type_inv.text i.between (omega arith) (sym c.if-is_whole.true ∙ c.is_whole.ensures) c.decode.ensures i.fed w;
     }
-
-pub returns-in-Err-clause-fed : goal.returns-in-Err-clause-fed
-returns-in-Err-clause-fed g c =
-    let b = c.in-Err.ensures.fed in
-    block_refused (CalledAt g.F.FnMut) b.0 c.args.text.now c.loop-at.at c.loop-at.invariant.holds b.1

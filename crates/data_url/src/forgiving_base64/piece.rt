@@ -1,0 +1,113 @@
+//! The bytes of whole groups of a text of base64 (RFC 4648, section 4), which are passed on together.
+
+ghost use Rattle.std.specs.Prelude.{◌≡◌, ◌+◌, ◌*◌, ◌≤◌, ◌<◌, ◌++◌, [], length, take};
+ghost use Rattle.std.specs.List.{list_all};
+ghost use Rattle.data_url.specs.Base64.{is_symbol};
+ghost use Rattle.data_url.specs.Steps.Blocks.{Fills};
+
+use super::alphabet::{group_of, is_symbol};
+use super::blocks::{put_row, symbols_in_row};
+
+/// How many groups there is room for, which a block of 64 symbols has.
+pub(crate) const ROOM: usize = 16;
+
+/// With how many groups there is still room for the sixteen bytes that a row is written as.
+const ROOM_FOR_ROW: usize = 10;
+
+/// The bytes of up to sixteen groups.
+#[derive(Drop)]
+pub(crate) struct Piece {
+    bytes: [u8; 48],
+    pub(crate) groups: usize,
+    ghost within: { groups ≤ 16 },
+    ghost sized: { length bytes ≡ 48 },
+}
+
+impl Piece {
+    ghost use Rattle.data_url.specs.Steps.Waiting.{bytes_of};
+
+    /// Returns an empty piece.
+    #[inline(always)]
+    pub(crate) fn new() -> Piece
+        ensures none { result.groups ≡ 0 }
+        ensures bytes { bytes_of result ≡ [] }
+    {
+        Piece {
+            bytes: [0; 48],
+            groups: 0,
+        }
+    }
+
+    /// Returns the bytes.
+    #[inline(always)]
+    pub(crate) fn as_slice(&self) -> &[u8]
+        ensures { result.now ≡ bytes_of self.now }
+    {
+        &self.bytes[..3 * self.groups]
+    }
+
+    /// Adds the bytes of `count` groups.
+    #[inline(always)]
+    pub(crate) fn append(&mut self, bytes: &[u8], count: usize)
+        requires room { self.old.groups + count ≤ 16 }
+        requires bytes { 3 * count ≤ length bytes.now }
+        ensures bytes { bytes_of self.new ≡ bytes_of self.old ++ take (3 * count) bytes.now }
+        ensures groups { self.new.groups ≡ self.old.groups + count }
+    {
+        let at = 3 * self.groups;
+        let more = 3 * count;
+        self.bytes[at..at + more].copy_from_slice(&bytes[..more]);
+        self.groups += count;
+    }
+
+    /// Adds the groups of the symbols that a row of sixteen bytes begins with, and returns how many bytes they take.
+    #[inline(always)]
+    fn fill_row(&mut self, text: &[u8]) -> usize
+        requires row { 16 ≤ length text.now }
+        requires room { self.old.groups ≤ 10 }
+        ensures none { result ≡ 0 → self.new.groups ≡ self.old.groups }
+        ensures fills { Fills (bytes_of self.old) text.now result (bytes_of self.new) }
+    {
+        let count = symbols_in_row(text) / 4;
+        put_row(&mut self.bytes, 3 * self.groups, text);
+        self.groups += count;
+        4 * count
+    }
+
+    /// Adds the group that a text begins with, if it begins with one, and returns how many bytes it takes.
+    #[inline(always)]
+    fn fill_group(&mut self, text: &[u8]) -> usize
+        requires room { self.old.groups < 16 }
+        ensures none { result ≡ 0 → self.new.groups ≡ self.old.groups }
+        ensures fills { Fills (bytes_of self.old) text.now result (bytes_of self.new) }
+    {
+        if text.len() < 4 || !begins_with_group(text) {
+            return 0;
+        }
+        self.append(&group_of(text[0], text[1], text[2], text[3]), 1);
+        4
+    }
+
+    /// Adds whole groups that a text begins with, as far as there is room, and returns how many bytes they take.
+    #[inline(always)]
+    pub(crate) fn fill(&mut self, text: &[u8]) -> usize
+        requires room { self.old.groups < 16 }
+        ensures none { result ≡ 0 → self.new.groups ≡ self.old.groups }
+        ensures fills { Fills (bytes_of self.old) text.now result (bytes_of self.new) }
+    {
+        if text.len() >= 16 && self.groups <= ROOM_FOR_ROW {
+            self.fill_row(text)
+        } else {
+            self.fill_group(text)
+        }
+    }
+}
+
+/// Whether the first four bytes are symbols.
+#[inline(always)]
+fn begins_with_group(text: &[u8]) -> bool
+    requires { 4 ≤ length text.now }
+    ensures { result ≡ list_all is_symbol (take 4 text.now) }
+{
+    is_symbol(text[0]) && is_symbol(text[1]) && is_symbol(text[2]) && is_symbol(text[3])
+}

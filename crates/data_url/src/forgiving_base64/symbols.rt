@@ -1,0 +1,162 @@
+//! The symbols of a text of base64 (RFC 4648, section 4), without its white space.
+
+ghost use Rattle.std.specs.Prelude.{◌≡◌, ◌%◌, ◌+◌, ◌≤◌, ◌<◌, ◌++◌, [], IsTrue, drop, false, filter, length, map, take, true};
+ghost use Rattle.std.specs.Char.{is_ascii_whitespace};
+ghost use Rattle.std.specs.List.{list_all};
+ghost use Rattle.std.specs.Simd.Lanes.{mask_l};
+ghost use Rattle.data_url.specs.Base64.{after_groups, is_symbol};
+ghost use Rattle.data_url.specs.Steps.Blocks.{DecodesFront, clear, is_symbol_or_space};
+
+use super::blocks::{decode, others, put, row};
+use super::places::places_of;
+use std::simd::prelude::*;
+
+/// By the low half of a byte, the white space that has it.
+const SPACES: [u8; 16] = [32, 0, 0, 0, 0, 0, 0, 0, 0, 9, 10, 0, 12, 13, 0, 0];
+
+/// Returns a bit for each byte of a row, which is set where it is white space.
+#[inline(always)]
+fn spaces(bytes: u8x16) -> u64
+    ensures { result ≡ mask_l (map is_ascii_whitespace bytes) }
+{
+    let found = u8x16::from_array(SPACES).swizzle_dyn(bytes & u8x16::splat(15));
+    found.simd_eq(bytes).to_bitmask()
+}
+
+/// Whether the first sixteen bytes are symbols and white space.
+#[inline(always)]
+fn is_spaced_row(text: &[u8]) -> bool
+    requires { 16 ≤ length text.now }
+    ensures { result ≡ true → IsTrue (list_all is_symbol_or_space (take 16 text.now)) }
+{
+    let row = row(text, 0);
+    others(row) == spaces(row)
+}
+
+/// Whether the first 64 bytes are symbols and white space.
+#[inline(always)]
+pub(crate) fn is_spaced(text: &[u8]) -> bool
+    requires { 64 ≤ length text.now }
+    ensures { result ≡ true → IsTrue (list_all is_symbol_or_space (take 64 text.now)) }
+{
+    if !is_spaced_row(text) {
+        return false;
+    }
+    if !is_spaced_row(&text[16..]) {
+        return false;
+    }
+    if !is_spaced_row(&text[32..]) {
+        return false;
+    }
+    is_spaced_row(&text[48..])
+}
+
+/// Puts the bytes of half a row whose bits are clear at a place, and returns the place after them. The half begins at
+/// the byte `from`.
+#[inline(always)]
+fn put_half(room: &mut [u8], at: usize, row: u8x16, from: usize, bits: u8) -> usize
+    requires room { at + 16 ≤ length room.old }
+    requires half { from ≤ 8 }
+    ensures few { (at ≤ result) × (result ≤ at + 8) }
+    ensures put { take result room.new ≡ take at room.old ++ clear (take 8 (drop from row)) bits }
+{
+    let places = places_of(bits) + u8x16::splat(from as u8);
+    put(room, at, row.swizzle_dyn(places));
+    at + (8 - bits.count_ones() as usize)
+}
+
+/// Up to 127 symbols that stand in a text one after another, but for white space.
+#[derive(Drop)]
+pub(crate) struct Symbols {
+    bytes: [u8; 144],
+    pub(crate) len: usize,
+    ghost within: { len < 128 },
+    ghost sized: { length bytes ≡ 144 },
+    ghost symbols: { IsTrue (list_all is_symbol (take len bytes)) },
+}
+
+impl Symbols {
+    ghost use Rattle.data_url.specs.Steps.Waiting.{symbols_of};
+
+    /// Returns no symbols.
+    #[inline(always)]
+    pub(crate) fn new() -> Symbols
+        ensures none { symbols_of result ≡ [] }
+        ensures len { result.len ≡ 0 }
+    {
+        Symbols {
+            bytes: [0; 144],
+            len: 0,
+        }
+    }
+
+    /// Adds the symbols of a row of sixteen bytes.
+    #[inline(always)]
+    fn add_row(&mut self, text: &[u8])
+        requires row { 16 ≤ length text.now }
+        requires room { self.old.len < 112 }
+        ensures few { self.new.len ≤ self.old.len + 16 }
+        ensures added { symbols_of self.new ≡ symbols_of self.old ++ filter is_symbol (take 16 text.now) }
+    {
+        let row = row(text, 0);
+        let others = others(row);
+        let len = self.len;
+        if others == 0 {
+            put(&mut self.bytes, len, row);
+            self.len = len + 16;
+            return;
+        }
+        let middle = put_half(&mut self.bytes, len, row, 0, (others % 256) as u8);
+        self.len = put_half(&mut self.bytes, middle, row, 8, (others / 256) as u8);
+    }
+
+    /// Adds the symbols of the first 64 bytes.
+    #[inline(always)]
+    pub(crate) fn add_block(&mut self, text: &[u8])
+        requires block { 64 ≤ length text.now }
+        requires room { self.old.len < 64 }
+        ensures { symbols_of self.new ≡ symbols_of self.old ++ filter is_symbol (take 64 text.now) }
+    {
+        self.add_row(text);
+        self.add_row(&text[16..]);
+        self.add_row(&text[32..]);
+        self.add_row(&text[48..]);
+    }
+
+    /// Returns the bytes of the groups of the first 64 symbols, and where there are fewer, after them bytes that say
+    /// nothing.
+    #[inline(always)]
+    pub(crate) fn decode(&self) -> [u8; 48]
+        ensures { DecodesFront (symbols_of self.now) result }
+    {
+        decode(&self.bytes)
+    }
+
+    /// Takes the first 64 symbols away.
+    #[inline(always)]
+    pub(crate) fn drop_block(&mut self)
+        requires { 64 ≤ self.old.len }
+        ensures rest { symbols_of self.new ≡ drop 64 (symbols_of self.old) }
+        ensures len { self.new.len + 64 ≡ self.old.len }
+    {
+        let first = row(&self.bytes, 64);
+        let second = row(&self.bytes, 80);
+        let third = row(&self.bytes, 96);
+        let fourth = row(&self.bytes, 112);
+        put(&mut self.bytes, 0, first);
+        put(&mut self.bytes, 16, second);
+        put(&mut self.bytes, 32, third);
+        put(&mut self.bytes, 48, fourth);
+        self.len -= 64;
+    }
+
+    /// Returns the last symbols, which are in no whole group, and after them bytes that say nothing.
+    #[inline(always)]
+    pub(crate) fn last(&self) -> [u8; 3]
+        requires { self.now.len < 64 }
+        ensures { take (self.now.len % 4) result ≡ after_groups (symbols_of self.now) }
+    {
+        let at = self.len / 4 * 4;
+        [self.bytes[at], self.bytes[at + 1], self.bytes[at + 2]]
+    }
+}
