@@ -10,6 +10,7 @@ ghost use Rattle.data_url.specs.Errors.{IsBodyErrorOf};
 
 mod ascii;
 mod body;
+mod classes;
 pub mod escapes;
 mod facts;
 pub mod forgiving_base64;
