@@ -74,6 +74,15 @@ lowercase_token t h = (and_parts (is_token_text t) (bytes_eq (map to_ascii_lower
 both_lower : (k n : List ℕ) → IsUtf8 k → IsUtf8 n → is_lowercase_name (chars k) ≡ true → is_token_text (chars n) ≡ true → (map to_ascii_lowercase k ≡ chars k) × (map to_ascii_lowercase n ≡ map to_ascii_lowercase (chars n))
 both_lower k n u w h t = (ap (map to_ascii_lowercase) (name_bytes k u (lowercase_token (chars k) h)) ∙ lower_is_itself (chars k) h, ap (map to_ascii_lowercase) (name_bytes n w t))
 
+-- the bytes of a name in lower case, and of a word that is known to be so
+pub lower_bytes : (k : List ℕ) → IsUtf8 k → is_lowercase_name (chars k) ≡ true → map to_ascii_lowercase k ≡ k
+lower_bytes k u h =
+    let bytes = name_bytes k u (lowercase_token (chars k) h) in
+    subst (λ t. map to_ascii_lowercase t ≡ t) (sym bytes) (lower_is_itself (chars k) h)
+
+pub word_bytes : (n : List ℕ) → IsUtf8 n → is_token_text (chars n) ≡ true → map to_ascii_lowercase (chars n) ≡ chars n → map to_ascii_lowercase n ≡ n
+word_bytes n u h e = subst (λ t. map to_ascii_lowercase t ≡ t) (sym (name_bytes n u h)) e
+
 pub names_equal : (k n : List ℕ) → IsUtf8 k → IsUtf8 n → is_lowercase_name (chars k) ≡ true → is_token_text (chars n) ≡ true → map to_ascii_lowercase k ≡ map to_ascii_lowercase n → bytes_eq (chars k) (map to_ascii_lowercase (chars n)) ≡ true
 names_equal k n u w h t e = let b = both_lower k n u w h t in test_from_equal (chars k) (map to_ascii_lowercase (chars n)) (sym b.0 ∙ e ∙ b.1)
 

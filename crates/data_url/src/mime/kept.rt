@@ -54,11 +54,7 @@ impl KeptParameters {
             (first_of (pairs_of self.now)) }
     {
         let first = &self.pairs[..LOOKED_THROUGH.min(self.pairs.len())];
-        if name.is_lower {
-            any_is(first, name.text)
-        } else {
-            any_is_named(first, name.text)
-        }
+        any_named(first, name.text, name.is_lower)
     }
 
     /// Adds a pair whose name none of the first ones has, unless a later one has it.
@@ -78,42 +74,38 @@ impl KeptParameters {
     }
 }
 
-/// Whether two texts are the same. Their last bytes are compared first, in which numbered names differ.
+/// Whether a key in lower case is a name, in any ASCII case, of which it may be known that it is in lower case. Their
+/// last bytes are compared first, in which numbered names differ.
 #[inline(always)]
-fn is_same(one: &str, other: &str) -> bool
-    ensures { Decides result (one.now ≡ other.now) }
+fn is_named(key: &str, name: &str, is_lower: bool) -> bool
+    requires key { map to_ascii_lowercase key.now ≡ key.now }
+    requires lower { IsTrue is_lower → map to_ascii_lowercase name.now ≡ name.now }
+    ensures { Decides result (map to_ascii_lowercase key.now ≡ map to_ascii_lowercase name.now) }
 {
-    let len = one.len();
-    if len != other.len() {
+    let len = key.len();
+    if len != name.len() {
         return false;
     }
-    if len > 0 && one.as_bytes()[len - 1] != other.as_bytes()[len - 1] {
+    if len > 0 && key.as_bytes()[len - 1] != name.as_bytes()[len - 1].to_ascii_lowercase() {
         return false;
     }
-    one == other
-}
-
-/// Whether one of the pairs has exactly this name.
-fn any_is(pairs: &[(String, String)], name: &str) -> bool
-    ensures { result ≡ has_name (chars name.now) (map (λ p. pair_of p) pairs.now) }
-{
-    for (key, _) in pairs {
-        if is_same(key.as_str(), name) {
-            return true;
-        }
+    if is_lower {
+        key == name
+    } else {
+        key.eq_ignore_ascii_case(name)
     }
-    false
 }
 
-/// Whether one of the pairs has the name, in any ASCII case.
-fn any_is_named(pairs: &[(String, String)], name: &str) -> bool
-    requires lower { HasLowercaseNames (map (λ p. pair_of p) pairs.now) }
+/// Whether one of the pairs has the name, in any ASCII case. It may be known to be in lower case.
+fn any_named(pairs: &[(String, String)], name: &str, is_lower: bool) -> bool
+    requires pairs { HasLowercaseNames (map (λ p. pair_of p) pairs.now) }
     requires token { IsTrue (is_token_text (chars name.now)) }
+    requires lower { IsTrue is_lower → map to_ascii_lowercase (chars name.now) ≡ chars name.now }
     ensures { result ≡ has_name (map to_ascii_lowercase (chars name.now))
         (map (λ p. pair_of p) pairs.now) }
 {
     for (key, _) in pairs {
-        if key.as_str().eq_ignore_ascii_case(name) {
+        if is_named(key.as_str(), name, is_lower) {
             return true;
         }
     }
