@@ -95,7 +95,7 @@ not_ends p front (c ∷ d ∷ cs) h = not_ends p (front ++ (c ∷ [])) (d ∷ cs
 encodes_last : (init : List ℕ) (c : ℕ) → encode_utf8_all (init ++ (c ∷ [])) ≡ encode_utf8_all init ++ encode_utf8 c
 encodes_last init c = encodes-append init (c ∷ []) ∙ ap (λ x. encode_utf8_all init ++ x) (append-nil (encode_utf8 c))
 
-every_from : (p : ℕ → Bool) (s : List ℕ) → ((k : ℕ) → k < length s → p (get_or s k 0) ≡ true) → Every p s
+pub every_from : (p : ℕ → Bool) (s : List ℕ) → ((k : ℕ) → k < length s → p (get_or s k 0) ≡ true) → Every p s
 every_from p [] h = tt
 every_from p (b ∷ s) h = (h 0 (omega arith), every_from p s (λ k l. h (suc k) (omega arith)))
 

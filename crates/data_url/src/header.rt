@@ -82,9 +82,7 @@ fn serialised(alloc: Global, header: &[u8]) -> Result<String, AllocError>
 fn is_suffix(bytes: &[u8]) -> bool
     ensures { Decides result (map to_ascii_lowercase bytes.now ≡ codes "base64") }
 {
-    // Most often it is spelled as here, which is seen at once.
-    let is_common = bytes.len() == SUFFIX.len() && bytes.starts_with(&SUFFIX);
-    is_common || bytes.eq_ignore_ascii_case(&SUFFIX)
+    bytes.eq_ignore_ascii_case(&SUFFIX)
 }
 
 /// What stands before `;`, spaces and `base64` at the end of a header, in any ASCII case, where it ends so.
@@ -132,30 +130,17 @@ pub(crate) fn serialised_text<'a>(text: &'a Option<String>, header: &'a str) -> 
     }
 }
 
-/// A header without its suffix, and whether it has one, so that the body is base64.
-#[derive(Clone, Copy)]
-pub(crate) struct Media<'a> {
-    pub(crate) text: &'a str,
-    pub(crate) is_base64: bool,
-}
-
-/// The parts of a serialised header.
-pub(crate) fn split_suffix(header: &str) -> Media<'_>
+/// A serialised header without its suffix, and whether it has one, so that the body is base64.
+pub(crate) fn split_suffix(header: &str) -> (&str, bool)
     requires { IsPrintable header.now }
-    ensures header { (m : Record) → IsRecordFor (with_plain result.text.now) m
-        → IsHeaderOf header.now m result.is_base64 }
-    ensures printable { IsPrintable result.text.now }
+    ensures header { (m : Record) → IsRecordFor (with_plain result.0.now) m
+        → IsHeaderOf header.now m result.1 }
+    ensures printable { IsPrintable result.0.now }
 {
     let stripped = trim(header);
     match without_suffix(stripped) {
-        Some(text) => Media {
-            text,
-            is_base64: true,
-        },
-        None => Media {
-            text: stripped,
-            is_base64: false,
-        },
+        Some(text) => (text, true),
+        None => (stripped, false),
     }
 }
 
