@@ -5,7 +5,7 @@ use Rattle.std.proofs.lemmas.List.Folds.{list_all-append, list_all-map, list_all
 use Rattle.std.proofs.lemmas.Grind.{flat_map-append}
 use Rattle.std.proofs.lemmas.List.{map-append}
 use Rattle.std.proofs.lemmas.Slice.Eq.{bytes_eq-Decides}
-use Rattle.std.proofs.lemmas.Str.{chars-IsAscii}
+use Rattle.std.proofs.lemmas.Str.{chars-IsAscii, chars-nil}
 use Rattle.std.proofs.lemmas.Str.Ascii.{IsAscii-map, lowercase-lowercase, lowercase_ascii, lowercase_is}
 use Rattle.std.specs.Char.{to_ascii_lowercase}
 use Rattle.std.specs.List.{list_all}
@@ -73,6 +73,10 @@ lowercase_token t h = (and_parts (is_token_text t) (bytes_eq (map to_ascii_lower
 
 both_lower : (k n : List ℕ) → IsUtf8 k → IsUtf8 n → is_lowercase_name (chars k) ≡ true → is_token_text (chars n) ≡ true → (map to_ascii_lowercase k ≡ chars k) × (map to_ascii_lowercase n ≡ map to_ascii_lowercase (chars n))
 both_lower k n u w h t = (ap (map to_ascii_lowercase) (name_bytes k u (lowercase_token (chars k) h)) ∙ lower_is_itself (chars k) h, ap (map to_ascii_lowercase) (name_bytes n w t))
+
+pub some_byte : (n : List ℕ) → is_token_text (chars n) ≡ true → 0 < length n
+some_byte [] h = absurd (false≢true (sym (ap is_token_text chars-nil) ∙ h))
+some_byte (b ∷ n) h = omega arith
 
 -- the bytes of a name in lower case, and of a word that is known to be so
 pub lower_bytes : (k : List ℕ) → IsUtf8 k → is_lowercase_name (chars k) ≡ true → map to_ascii_lowercase k ≡ k

@@ -1,6 +1,6 @@
 //! The parameters that are kept while a MIME type is read: of each name the first.
 
-ghost use Rattle.std.specs.Prelude.{false, Decides, ◌≡◌, ◌++◌, ◌∷◌, [], IfOk, IsTrue, OnOk, map};
+ghost use Rattle.std.specs.Prelude.{false, Decides, ◌≡◌, ◌<◌, ◌-◌, ◌++◌, ◌∷◌, [], IfOk, IsTrue, OnOk, length, map, slice_index};
 ghost use Rattle.std.specs.Char.{to_ascii_lowercase};
 ghost use Rattle.std.specs.Str.{chars};
 ghost use Rattle.data_url.specs.Mime.{has_name, is_lowercase_name, is_token_text};
@@ -74,19 +74,18 @@ impl KeptParameters {
     }
 }
 
-/// Whether a key in lower case is a name, in any ASCII case, of which it may be known that it is in lower case. Their
-/// last bytes are compared first, in which numbered names differ.
+/// Whether a key in lower case is a name, in any ASCII case, of which it may be known that it is in lower case. The last
+/// byte, which is given in lower case too, is compared first: numbered names differ there.
 #[inline(always)]
-fn is_named(key: &str, name: &str, is_lower: bool) -> bool
+fn is_named(key: &str, name: &str, is_lower: bool, last: u8) -> bool
     requires key { map to_ascii_lowercase key.now ≡ key.now }
+    requires some { 0 < length name.now }
+    requires last { last ≡ to_ascii_lowercase (slice_index name.now (length name.now - 1)) }
     requires lower { IsTrue is_lower → map to_ascii_lowercase name.now ≡ name.now }
     ensures { Decides result (map to_ascii_lowercase key.now ≡ map to_ascii_lowercase name.now) }
 {
     let len = key.len();
-    if len != name.len() {
-        return false;
-    }
-    if len > 0 && key.as_bytes()[len - 1] != name.as_bytes()[len - 1].to_ascii_lowercase() {
+    if len != name.len() || key.as_bytes()[len - 1] != last {
         return false;
     }
     if is_lower {
@@ -104,8 +103,9 @@ fn any_named(pairs: &[(String, String)], name: &str, is_lower: bool) -> bool
     ensures { result ≡ has_name (map to_ascii_lowercase (chars name.now))
         (map (λ p. pair_of p) pairs.now) }
 {
+    let last = name.as_bytes()[name.len() - 1].to_ascii_lowercase();
     for (key, _) in pairs {
-        if is_named(key.as_str(), name, is_lower) {
+        if is_named(key.as_str(), name, is_lower, last) {
             return true;
         }
     }

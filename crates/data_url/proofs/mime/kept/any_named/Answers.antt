@@ -1,10 +1,19 @@
-use Rattle.std.proofs.Common.{◌≡◌, map, sym, ap, subst, ◌∙◌, string_bytes}
+use Rattle.std.proofs.Common.{◌≡◌, arith, length, map, sym, ap, subst, ◌∙◌, string_bytes}
 use Rattle.std.proofs.lemmas.Bool.{false≢true}
 use Rattle.std.proofs.lemmas.Str.{IsUtf8-string_bytes}
 use Rattle.std.specs.Char.{to_ascii_lowercase}
 use Rattle.std.specs.Str.{chars}
-use Rattle.data_url.proofs.KeptLemmas.{look_finds, look_goes_on, lower_bytes, lowercase_at, names_differ, names_equal, word_bytes}
+use Rattle.data_url.proofs.KeptLemmas.{look_finds, look_goes_on, lower_bytes, lowercase_at, names_differ, names_equal, some_byte, word_bytes}
 use Rattle.data_url.proofs.mime.kept.any_named.Goals as goal
+
+pub overflow_sub-name : goal.overflow_sub-name
+overflow_sub-name c = let some = some_byte c.args.name.now c.requires.token in omega arith
+
+pub bounds-as_bytes-name : goal.bounds-as_bytes-name
+bounds-as_bytes-name c = let some = some_byte c.args.name.now c.requires.token in omega (arith, ap length c.as_bytes.ensures.value)
+
+pub is_named-requires-clause-some : goal.is_named-requires-clause-some
+is_named-requires-clause-some c = some_byte c.args.name.now c.requires.token
 
 pub is_named-requires-clause-key : goal.is_named-requires-clause-key
 is_named-requires-clause-key c =
