@@ -201,6 +201,19 @@ fn push_mimes(rows: &mut Vec<Row>) {
         rows.push(row(name, text, ours::mime_printed, theirs::mime_printed));
     }
     push_processed(rows, "header five", url(five, b"x"));
+    let letters = String::from_utf8(base64(1 << 16, 0)).unwrap();
+    push_processed(rows, "header value 64K", url(&format!("text/plain;a={letters}"), b"x"));
+    let spaces = "\t ".repeat(1 << 14);
+    push_parsed(rows, "mime spaces 64K".into(), format!("{spaces}text/html;a=b{spaces}"));
+}
+
+/// A row of a MIME type that is parsed and not printed.
+fn push_parsed(rows: &mut Vec<Row>, name: String, text: String) {
+    rows.push(Row {
+        shows_ours: ours::mime_printed,
+        shows_theirs: theirs::mime_printed,
+        ..row(name, text.into_bytes(), ours::mime, theirs::mime)
+    });
 }
 
 /// A MIME type with `count` parameters of different names.
@@ -209,17 +222,8 @@ fn push_parameters(rows: &mut Vec<Row>, count: usize) {
     for number in 0..count {
         text.push_str(&format!(";p{number}=v"));
     }
-    rows.push(Row {
-        shows_ours: ours::mime_printed,
-        shows_theirs: theirs::mime_printed,
-        is_slow: count > 10_000,
-        ..row(
-            format!("parameters {count}"),
-            text.into_bytes(),
-            ours::mime,
-            theirs::mime,
-        )
-    });
+    push_parsed(rows, format!("parameters {count}"), text);
+    rows.last_mut().unwrap().is_slow = count > 10_000;
 }
 
 /// Rows of `bindings/rust` beside the crate whose place it takes.
@@ -297,13 +301,11 @@ pub fn rows() -> Vec<Row> {
     }
     push_mimes(&mut rows);
     for (len, size) in SIZES {
-        let text = [b"data:,#", &fragment(len)[..]].concat();
-        rows.push(row(
-            format!("fragment {size}"),
-            text,
-            ours::fragment,
-            theirs::fragment,
-        ));
+        for (name, text) in [("fragment", fragment(len)), ("fragment letters", base64(len, 0))] {
+            let text = [b"data:,#", &text[..]].concat();
+            let name = format!("{name} {size}");
+            rows.push(row(name, text, ours::fragment, theirs::fragment));
+        }
     }
     #[cfg(not(feature = "against"))]
     push_bindings(&mut rows);

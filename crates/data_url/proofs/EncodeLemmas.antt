@@ -1,12 +1,12 @@
 -- Percent-encoding a text without its tabs and newlines: byte by byte, and part by part.
-use Rattle.std.proofs.Common.{◌≡◌, ℕ, zero, suc, add-one, cond, ◌+◌, ◌*◌, ◌-◌, ◌<◌, ◌≤◌, ◌^◌, Bool, true, false, List, [], ◌∷◌, ◌++◌, length, get_or, take, drop, refl, sym, ap, ◌∙◌, subst, append_assoc, arith, inl, inr, ⊎_elim, length-append, take-append-drop}
-use Rattle.std.specs.Prelude.{◌==◌, ◌||◌, min, nat_lt, slice_index}
+use Rattle.std.proofs.Common.{◌≡◌, ℕ, suc, cond, ◌+◌, ◌*◌, ◌<◌, ◌≤◌, Bool, true, false, List, [], ◌∷◌, ◌++◌, length, get_or, take, drop, refl, sym, ap, ap₂, ◌∙◌, subst, append_assoc, arith, inl, inr, take-append-drop}
+use Rattle.std.specs.Prelude.{◌==◌, ◌||◌, nat_lt, slice_index}
 use Rattle.std.specs.List.{list_all}
 use Rattle.std.specs.Str.{IsAscii, IsUtf8}
 use Rattle.std.proofs.Math.Seq.{take-append-add}
-use Rattle.std.proofs.lemmas.Bool.{agree_below_at, and_parts, cases_Bool, cases_lt, cond-false, cond-true, eqb-false, eqb-true, ltb-true, or_parts}
+use Rattle.std.proofs.lemmas.Bool.{agree_below_at, and_parts, cases_Bool, cond-false, cond-true, eqb-false, eqb-true, ltb-true, or_parts}
 use Rattle.std.proofs.lemmas.Grind.{flat_map-append}
-use Rattle.std.proofs.lemmas.List.{append-nil, drop_all, drop_more, length-take-le, nil_from_length, take-take, take_all, take_more}
+use Rattle.std.proofs.lemmas.List.{append-nil, drop_all, drop_more, length-take-le, nil_from_length, take-take}
 use Rattle.std.proofs.lemmas.Str.{IsAscii-append, IsUtf8-from_ascii}
 use Rattle.std.proofs.lemmas.Str.Ascii.{IsAscii-cons, IsAscii-nil}
 use Rattle.data_url.specs.Url.{before, without_tabs_and_newlines, encoded_byte, in_fragment_set, in_path_set, in_query_set, is_tab_or_newline, percent_encoding}
@@ -87,32 +87,10 @@ written_short p b = elim (cases_Bool (is_tab_or_newline b)) [
 pub row_short : (p : ℕ → Bool) (b : ℕ) (row : List ℕ) → IsRow p b row → slice_index row 3 ≤ 3
 row_short p b row r = let k = written_short p b in let e = r.len_is in omega arith
 
--- up to byte i the text is written as it stands, and has no '?'
-pub record KeptTo (s : List ℕ) (i : ℕ) : Type 0 where
-  pub kept : WroteTo in_path_set s i (take i s)
-  pub no_query : (k : ℕ) → k < i → (get_or s k 0 == 63) ≡ false
-
-kept_none : (s : List ℕ) → KeptTo s 0
-kept_none s = record { kept = refl; no_query = λ k l. absurd (omega arith) }
-
-kept_more : (s : List ℕ) (i : ℕ) → KeptTo s i → i < length s → (get_or s i 0 == 63) ≡ false → byte_encoding in_path_set (get_or s i 0) ≡ get_or s i 0 ∷ [] → KeptTo s (i + 1)
-kept_more s i w l n h =
-    let b = get_or s i 0 in
-    let same : take i s ++ byte_encoding in_path_set b ≡ take (i + 1) s = ap (λ t. take i s ++ t) h ∙ sym (take_more s i 0 l) in
-    record {
-      kept = subst (WroteTo in_path_set s (i + 1)) same (wrote_more in_path_set s i (take i s) w.kept l);
-      no_query = λ k m. ⊎_elim (λ (e : k < i). w.no_query k e) (λ (e : i ≤ k). let f : k ≡ i = omega arith in ap (λ j. get_or s j 0 == 63) f ∙ n) (cases_lt k i);
-    }
-
--- a path that is written as it stands is serialised so
-kept_all : (s : List ℕ) (i : ℕ) → KeptTo s i → length s ≤ i → header_text (without_tabs_and_newlines s) ≡ s
-unfolding header_text
-kept_all s i w l =
-    let none = behind-dropped_none 63 refl s (behind_none 63 s (λ k m. w.no_query k (omega arith))) in
-    ap (λ o. header_parts (before 63 (without_tabs_and_newlines s)) o) none
-    ∙ ap (percent_encoding in_path_set) (before_all 63 (without_tabs_and_newlines s) none)
-    ∙ sym (wrote_all in_path_set s i (take i s) w.kept l)
-    ∙ take_all i s l
+-- a text whose bytes are written as they are
+pub kept_whole : (p : ℕ → Bool) (s : List ℕ) → ((k : ℕ) → k < length s → byte_encoding p (get_or s k 0) ≡ get_or s k 0 ∷ []) → s ≡ encoded p s
+kept_whole p [] h = sym (encoded_empty p)
+kept_whole p (b ∷ s) h = sym (written_first p b s ∙ ap₂ (λ x y. x ++ y) (h 0 (omega arith)) (sym (kept_whole p s (λ k l. h (suc k) (omega arith)))))
 
 -- a text of plain bytes is serialised as it stands
 
@@ -137,34 +115,13 @@ plain_byte b l h =
     let t = or_parts (b == 44) (b == 63) r.1 in
     record { written_is = byte_written in_path_set b p.0 ∙ one_written in_path_set b q.0; no_hash = r.0; no_comma = t.0; no_query = t.1 }
 
-kept_to : (s : List ℕ) → ((k : ℕ) → k < length s → Plain (get_or s k 0)) → (i : ℕ) → i ≤ length s → KeptTo s i
-kept_to s h zero l = kept_none s
-kept_to s h (suc i) l =
-    let b = h i (omega arith) in
-    subst (KeptTo s) (add-one i) (kept_more s i (kept_to s h i (omega arith)) (omega arith) b.no_query b.written_is)
-
 pub plain_serialised : (s : List ℕ) → ((k : ℕ) → k < length s → Plain (get_or s k 0)) → header_text (without_tabs_and_newlines s) ≡ s
-plain_serialised s h = kept_all s (length s) (kept_to s h (length s) (omega arith)) (omega arith)
-
--- so many bytes are written up to byte i
-pub record MeasuredTo (p : ℕ → Bool) (s : List ℕ) (i len : ℕ) : Type 0 where
-  pub few : len ≤ 3 * i
-  pub sum : len + length (encoded_from p s i) ≡ length (encoded p s)
-
-pub measured_more : (p : ℕ → Bool) (s : List ℕ) (i len : ℕ) (row : List ℕ) → MeasuredTo p s i len → i < length s → IsRow p (get_or s i 0) row → MeasuredTo p s (i + 1) (len + slice_index row 3)
-measured_more p s i len row m l r =
-    let short = row_short p (get_or s i 0) row r in
-    let f = m.few in
-    let e = m.sum in
-    let n = r.len_is in
-    let k : length (encoded_from p s i) ≡ length (byte_encoding p (get_or s i 0)) + length (encoded_from p s (i + 1)) = ap length (from_more p s i l) ∙ length-append (byte_encoding p (get_or s i 0)) (encoded_from p s (i + 1)) in
-    record { few = omega arith; sum = omega arith }
-
-pub measured_all : (p : ℕ → Bool) (s : List ℕ) (i len : ℕ) → MeasuredTo p s i len → length s ≤ i → len ≡ length (encoded p s)
-measured_all p s i len m l =
-    let e = m.sum in
-    let none : length (encoded_from p s i) ≡ 0 = ap length (from_end p s i l) in
-    omega arith
+unfolding header_text
+plain_serialised s h =
+    let none = behind-dropped_none 63 refl s (behind_none 63 s (λ k l. let b = h k l in b.no_query)) in
+    ap (λ o. header_parts (before 63 (without_tabs_and_newlines s)) o) none
+    ∙ ap (percent_encoding in_path_set) (before_all 63 (without_tabs_and_newlines s) none)
+    ∙ sym (kept_whole in_path_set s (λ k l. let b = h k l in b.written_is))
 
 -- the bytes up to byte i are written at the front of the room
 pub record PutTo (p : ℕ → Bool) (s : List ℕ) (i : ℕ) (room : List ℕ) (at : ℕ) : Type 0 where
@@ -188,27 +145,6 @@ put_more p s i room at row room' m l within r n h =
     record { few = omega arith; long = n; wrote = subst (WroteTo p s (i + 1)) (sym front) (wrote_more p s i (take at room) m.wrote l) }
 
 -- Part by part
-
-abbrev pub most : ℕ
-most = 2 ^ 64 - 1
-
--- so many bytes are written before the rest
-pub record CountedBefore (p : ℕ → Bool) (s rest : List ℕ) (len : ℕ) : Type 0 where
-  pub few : len ≤ most
-  pub sum : min (len + length (encoded p rest)) most ≡ min (length (encoded p s)) most
-
-pub counted_more : (p : ℕ → Bool) (s rest : List ℕ) (len n : ℕ) → CountedBefore p s rest len → CountedBefore p s (drop n rest) (min (len + length (encoded p (take n rest))) most)
-counted_more p s rest len n c =
-    let k : length (encoded p rest) ≡ length (encoded p (take n rest)) + length (encoded p (drop n rest)) = ap length (encoded_cut p rest n) ∙ length-append (encoded p (take n rest)) (encoded p (drop n rest)) in
-    let e = c.sum in
-    record { few = omega arith; sum = omega arith }
-
-pub counted_all : (p : ℕ → Bool) (s rest : List ℕ) (len : ℕ) → CountedBefore p s rest len → rest ≡ [] → len ≡ min (length (encoded p s)) most
-counted_all p s rest len c h =
-    let none : length (encoded p rest) ≡ 0 = ap length (ap (encoded p) h ∙ encoded_empty p) in
-    let f = c.few in
-    let e = c.sum in
-    omega arith
 
 -- what was written behind a text before the rest
 abbrev pub WroteBefore : (ℕ → Bool) → List ℕ → List ℕ → List ℕ → List ℕ → Type 0

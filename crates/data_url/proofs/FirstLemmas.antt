@@ -1,14 +1,11 @@
 -- Names looked for among the first pairs that are kept.
-use Rattle.std.proofs.Common.{◌≡◌, ℕ, true, false, List, String, ap, length, map, min, sym, take, ◌∙◌}
+use Rattle.std.proofs.Common.{◌≡◌, ℕ, List, String, ap, length, map, min, sym, take, ◌∙◌}
 use Rattle.std.proofs.lemmas.List.{take-map, take_min}
-use Rattle.std.proofs.lemmas.Str.{encodes-chars}
-use Rattle.std.specs.Str.{IsUtf8, bytes_eq, chars, encode_utf8_all}
 use Rattle.data_url.specs.Mime.{has_name}
 use Rattle.data_url.specs.MimeType.{pair_of}
 use Rattle.data_url.specs.Steps.Kept.{first_of, pairs_of}
 use Rattle.data_url.specs.declared.mime.kept.KeptParameters.{KeptParameters}
 use Rattle.data_url.specs.declared.mime.kept.TheConstants.{LOOKED_THROUGH}
-use Rattle.data_url.proofs.KeptLemmas.{test_from_different, test_from_equal}
 
 -- the pairs that are looked through are the first ones
 pub among_first : (n : List ℕ) (items : List (String _ × String _)) (kept : KeptParameters) (k : ℕ) → k ≡ min LOOKED_THROUGH (length items) → items ≡ kept.pairs.items → has_name n (map (λ p. pair_of p) (take k items)) ≡ has_name n (first_of (pairs_of kept))
@@ -16,13 +13,3 @@ among_first n items kept k e f =
     ap (λ s. has_name n (map (λ p. pair_of p) s)) (ap (λ i. take i items) e ∙ take_min LOOKED_THROUGH items)
     ∙ ap (has_name n) (sym (take-map (λ p. pair_of p) LOOKED_THROUGH items))
     ∙ ap (λ s. has_name n (take LOOKED_THROUGH (map (λ p. pair_of p) s))) f
-
-same_bytes : (k n : List ℕ) → IsUtf8 k → IsUtf8 n → chars k ≡ chars n → k ≡ n
-same_bytes k n u w e = sym (encodes-chars k u) ∙ ap encode_utf8_all e ∙ encodes-chars n w
-
--- texts are the same exactly if their code points are
-pub same_name : (k n : List ℕ) → k ≡ n → bytes_eq (chars k) (chars n) ≡ true
-same_name k n e = test_from_equal (chars k) (chars n) (ap chars e)
-
-pub other_name : (k n : List ℕ) → IsUtf8 k → IsUtf8 n → (k ≡ n → ⊥) → bytes_eq (chars k) (chars n) ≡ false
-other_name k n u w e = test_from_different (chars k) (chars n) (λ q. e (same_bytes k n u w q))

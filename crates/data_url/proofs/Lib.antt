@@ -5,6 +5,7 @@ pub mod BlockLemmas
 pub mod BodyLemmas
 pub mod BodyVecLemmas
 pub mod ByteLemmas
+pub mod ClassLemmas
 pub mod CommaLemmas
 pub mod CompactLemmas
 pub mod CursorLemmas

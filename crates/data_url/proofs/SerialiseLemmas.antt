@@ -45,7 +45,7 @@ all_dropped [] h = dropped_nil
 all_dropped (b ∷ s) h = dropped_passes b s (h 0 (omega arith)) ∙ all_dropped s (λ k l. h (suc k) (omega arith))
 
 -- the bytes of an end that passes, and the byte before it
-suffix_passes : (p : ℕ → Bool) (s : List ℕ) (m k : ℕ) → m ≡ suffix_len p s → length s ≤ k + m → k < length s → p (get_or s k 0) ≡ true
+pub suffix_passes : (p : ℕ → Bool) (s : List ℕ) (m k : ℕ) → m ≡ suffix_len p s → length s ≤ k + m → k < length s → p (get_or s k 0) ≡ true
 suffix_passes p s m k e far l =
     let j = length s - 1 - k in
     let within : j < prefix_len p (reverse s) = subst (λ v. j < v) e (omega arith) in

@@ -12,7 +12,6 @@ use Rattle.data_url.specs.CodePoints.{is_token}
 use Rattle.data_url.specs.Mime.{DoesNotBegin, Every, is_token_text}
 use Rattle.data_url.specs.Steps.Parsing.{is_lower_token}
 use Rattle.data_url.specs.declared.mime.tokens.TheConstants.{LOWER_TOKENS, TOKENS}
-use Rattle.data_url.proofs.RecordLemmas.{all_from_every}
 use Rattle.data_url.proofs.TextLemmas.{behind_begins, behind_front, front_of, front_passes}
 
 -- its entries are the class
@@ -103,26 +102,34 @@ not_begins_encoded p a (c ∷ cs) h = false_from_ne_true (p c) (λ e. both_ways 
 pub not_begins_chars : (p : ℕ → Bool) → ((c : ℕ) → p c ≡ true → c < 128) → (bs : List ℕ) → IsUtf8 bs → DoesNotBegin p bs → DoesNotBegin p (chars bs)
 not_begins_chars p a bs u h = not_begins_encoded p a (chars bs) (subst (DoesNotBegin p) (sym (encodes-chars bs u)) h)
 
--- a text cut at the first byte that is no token code point
-pub record IsSplit (bs front behind : List ℕ) : Type 0 where
+-- a text cut at the first byte that does not pass, of an ASCII class
+pub record IsSplit (p : ℕ → Bool) (bs front behind : List ℕ) : Type 0 where
   pub joined : chars bs ≡ chars front ++ chars behind
-  pub in_front : Every is_token (chars front)
-  pub begins : DoesNotBegin is_token (chars behind)
+  pub in_front : Every p (chars front)
+  pub begins : DoesNotBegin p (chars behind)
   pub text : IsUtf8 front × IsUtf8 behind
 
-tokens_front_ascii : (bs : List ℕ) → IsAscii (take (prefix_len is_token bs) bs)
-tokens_front_ascii bs = subst IsAscii (sym (take_front is_token bs)) (all_tokens_ascii (front_of is_token bs) (all_from_every is_token (front_of is_token bs) (front_passes is_token bs)))
+module _ (p : ℕ → Bool) (below : (c : ℕ) → p c ≡ true → c < 128) where
+  pub every_ascii : (t : List ℕ) → Every p t → IsAscii t
+  every_ascii [] h = IsAscii-nil
+  every_ascii (c ∷ t) h = IsAscii-cons c t (below c h.0) (every_ascii t h.1)
 
-pub tokens_boundary : (bs : List ℕ) → IsUtf8 bs → IsCharBoundary bs (prefix_len is_token bs)
-tokens_boundary bs u = IsCharBoundary-from_take bs (prefix_len is_token bs) u (prefix_len-le-length is_token bs) (IsUtf8-from_ascii (take (prefix_len is_token bs) bs) (tokens_front_ascii bs))
+  pub front_ascii : (bs : List ℕ) → IsAscii (take (prefix_len p bs) bs)
+  front_ascii bs = subst IsAscii (sym (take_front p bs)) (every_ascii (front_of p bs) (front_passes p bs))
 
-pub is_split : (bs : List ℕ) → IsUtf8 bs → IsSplit bs (take (prefix_len is_token bs) bs) (drop (prefix_len is_token bs) bs)
-is_split bs u = record {
-  joined = ap chars (sym (take-append-drop (prefix_len is_token bs) bs)) ∙ chars-append (take (prefix_len is_token bs) bs) (drop (prefix_len is_token bs) bs) (IsUtf8-from_ascii (take (prefix_len is_token bs) bs) (tokens_front_ascii bs));
-  in_front = subst (Every is_token) (sym (chars-IsAscii (take (prefix_len is_token bs) bs) (tokens_front_ascii bs))) (subst (Every is_token) (sym (take_front is_token bs)) (front_passes is_token bs));
-  begins = not_begins_chars is_token token_below (drop (prefix_len is_token bs) bs) (IsUtf8-drop bs (prefix_len is_token bs) u (tokens_boundary bs u)) (subst (DoesNotBegin is_token) (sym (drop_front is_token bs)) (behind_begins is_token bs));
-  text = (IsUtf8-from_ascii (take (prefix_len is_token bs) bs) (tokens_front_ascii bs), IsUtf8-drop bs (prefix_len is_token bs) u (tokens_boundary bs u));
-}
+  pub front_boundary : (bs : List ℕ) → IsUtf8 bs → IsCharBoundary bs (prefix_len p bs)
+  front_boundary bs u = IsCharBoundary-from_take bs (prefix_len p bs) u (prefix_len-le-length p bs) (IsUtf8-from_ascii (take (prefix_len p bs) bs) (front_ascii bs))
+
+  pub is_split : (bs : List ℕ) → IsUtf8 bs → IsSplit p bs (take (prefix_len p bs) bs) (drop (prefix_len p bs) bs)
+  is_split bs u =
+      let front = IsUtf8-from_ascii (take (prefix_len p bs) bs) (front_ascii bs) in
+      let behind = IsUtf8-drop bs (prefix_len p bs) u (front_boundary bs u) in
+      record {
+        joined = ap chars (sym (take-append-drop (prefix_len p bs) bs)) ∙ chars-append (take (prefix_len p bs) bs) (drop (prefix_len p bs) bs) front;
+        in_front = subst (Every p) (sym (chars-IsAscii (take (prefix_len p bs) bs) (front_ascii bs))) (subst (Every p) (sym (take_front p bs)) (front_passes p bs));
+        begins = not_begins_chars p below (drop (prefix_len p bs) bs) behind (subst (DoesNotBegin p) (sym (drop_front p bs)) (behind_begins p bs));
+        text = (front, behind);
+      }
 
 -- the front is found in two parts: what is in lower case, and the rest
 prefix_parts : (s : List ℕ) → prefix_len is_token s ≡ prefix_len is_lower_token s + prefix_len is_token (drop (prefix_len is_lower_token s) s)
@@ -153,16 +160,16 @@ two_parts text bytes behind lower more b l d m =
     record { lower_is = k; len_is = omega (arith, k, n, prefix_parts text) }
 
 pub tokens_boundary_at : (text : List ℕ) (n : ℕ) → IsUtf8 text → n ≡ prefix_len is_token text → IsCharBoundary text n
-tokens_boundary_at text n u e = subst (IsCharBoundary text) (sym e) (tokens_boundary text u)
+tokens_boundary_at text n u e = subst (IsCharBoundary text) (sym e) (front_boundary is_token token_below text u)
 
-pub split_at_other : (text front behind : List ℕ) (n : ℕ) → IsUtf8 text → n ≡ prefix_len is_token text → front ≡ take n text → behind ≡ drop n text → IsSplit text front behind
-split_at_other text front behind n u k f g = rw (f, g, k) (is_split text u)
+pub split_at_other : (text front behind : List ℕ) (n : ℕ) → IsUtf8 text → n ≡ prefix_len is_token text → front ≡ take n text → behind ≡ drop n text → IsSplit is_token text front behind
+split_at_other text front behind n u k f g = rw (f, g, k) (is_split is_token token_below text u)
 
 pub lower_front : (text front : List ℕ) (n lower : ℕ) → IsUtf8 text → n ≡ prefix_len is_token text → front ≡ take n text → lower ≡ prefix_len is_lower_token text → n ≡ lower → map to_ascii_lowercase (chars front) ≡ chars front
 lower_front text front n lower u e f l k =
     let a : front ≡ take (prefix_len is_token text) text = f ∙ ap (λ i. take i text) e in
     let b : front ≡ front_of is_lower_token text = f ∙ ap (λ i. take i text) (k ∙ l) ∙ take_front is_lower_token text in
-    let c : chars front ≡ front = chars-IsAscii front (subst IsAscii (sym a) (tokens_front_ascii text)) in
+    let c : chars front ≡ front = chars-IsAscii front (subst IsAscii (sym a) (front_ascii is_token token_below text)) in
     ap (map to_ascii_lowercase) (c ∙ b) ∙ all_lower_stay (front_of is_lower_token text) (front_passes is_lower_token text) ∙ sym (c ∙ b)
 
 suc_test : (a b : ℕ) → (1 + a == suc b) ≡ (a == b)

@@ -1,19 +1,18 @@
 -- Values without quotes: whether what stands before a ';' has quoted-string code points alone.
-use Rattle.std.proofs.Common.{◌≡◌, ℕ, suc, ◌+◌, ◌<◌, Bool, true, false, List, [], ◌∷◌, get_or, take, drop, Option, None, refl, sym, ap, ◌∙◌, subst, arith, inl, inr, not}
-use Rattle.std.proofs.lemmas.Bool.{agree_below_at, and_from, and_parts, cases_Bool, cond-true, cond-false}
-use Rattle.std.proofs.lemmas.List.Folds.{list_all-append}
+use Rattle.std.proofs.Common.{◌≡◌, ℕ, suc, ◌+◌, ◌<◌, Bool, true, false, List, [], ◌∷◌, get_or, drop, refl, sym, ap, ◌∙◌, subst, arith, inl, inr, not, ◌++◌, ◌≤◌, length, length-append, append_assoc, encode_utf8_all}
+use Rattle.std.proofs.lemmas.Bool.{agree_below_at, and_from, and_parts, cases_Bool, cond-true, cond-false, false_from_ne_true, false≢true}
+use Rattle.std.proofs.lemmas.List.{get_or_append_left}
+use Rattle.std.proofs.lemmas.List.Folds.{list_all_at}
+use Rattle.std.proofs.lemmas.List.Sums.{prefix_len_passes, prefix_len_stops}
+use Rattle.std.proofs.lemmas.Str.{encodes-append, encodes-chars}
+use Rattle.data_url.proofs.CutLemmas.{every_from}
 use Rattle.std.specs.List.{list_all, prefix_len}
 use Rattle.std.specs.Str.{IsUtf8, chars}
 use Rattle.data_url.specs.CodePoints.{is_http_whitespace, is_quotable, is_semicolon}
 use Rattle.data_url.specs.Mime.{Every, IsTrimmedEnd}
-use Rattle.data_url.specs.Steps.Parsing.{IsValue, is_quotable_byte, is_unquoted_byte, quotable_value}
+use Rattle.data_url.specs.Steps.Parsing.{is_quotable_byte, is_unquoted_byte}
 use Rattle.data_url.specs.declared.mime.values.TheConstants.{UNQUOTED}
-use Rattle.data_url.specs.declared.mime.values.Unquoted.{Unquoted}
-use Rattle.data_url.specs.declared.mime.values.Value.TheVariants as slices
-use Rattle.data_url.specs.declared.mime.values.Value.{Value}
-use Rattle.data_url.proofs.TextLemmas.{front_of, front_passes}
-use Rattle.data_url.proofs.TokenLemmas.{take_front}
-use Rattle.data_url.proofs.ValueLemmas.{quotable_chars, quotable_none}
+use Rattle.data_url.proofs.ValueLemmas.{quotable_chars}
 
 -- the table's entries are the class
 pub unquoted_entry : (b : ℕ) → b < 256 → get_or UNQUOTED b false ≡ is_unquoted_byte b
@@ -53,19 +52,28 @@ all_quotable : (bs : List ℕ) → Every is_unquoted_byte bs → list_all is_quo
 all_quotable [] h = refl
 all_quotable (b ∷ bs) h = and_from (is_quotable_byte b) (list_all is_quotable_byte bs) (and_parts (is_quotable_byte b) (not (is_semicolon b)) h.0).0 (all_quotable bs h.1)
 
--- a front that the first part is the whole of
-pub quotable_front : (text bytes front : List ℕ) (len quotable : ℕ) → bytes ≡ text → quotable ≡ prefix_len is_unquoted_byte bytes → front ≡ take len text → IsUtf8 front → len ≡ quotable → list_all is_quotable (chars front) ≡ true
-quotable_front text bytes front len quotable b q f u e =
-    let k : front ≡ front_of is_unquoted_byte text = f ∙ ap (λ i. take i text) (e ∙ q ∙ ap (prefix_len is_unquoted_byte) b) ∙ take_front is_unquoted_byte text in
-    sym (quotable_chars front u) ∙ ap (list_all is_quotable_byte) k ∙ all_quotable (front_of is_unquoted_byte text) (front_passes is_unquoted_byte text)
+-- a front of a text that is no longer than its first part has quoted-string code points alone
+pub short_quotable : (text t more : List ℕ) (q : ℕ) → text ≡ t ++ more → IsUtf8 t → q ≡ prefix_len is_unquoted_byte text → length t ≤ q → list_all is_quotable (chars t) ≡ true
+short_quotable text t more q e u h few =
+    sym (quotable_chars t u)
+    ∙ all_quotable t (every_from is_unquoted_byte t (λ k l.
+    ap is_unquoted_byte (sym (get_or_append_left t more 0 k l) ∙ ap (λ x. get_or x k 0) (sym e))
+    ∙ prefix_len_passes is_unquoted_byte text k 0 (subst (λ n. k < n) h (omega (arith, few)))))
 
--- without white space at its end it has no others
-pub trimmed_quotable : (s t : List ℕ) → IsTrimmedEnd is_http_whitespace s t → list_all is_quotable s ≡ true → list_all is_quotable t ≡ true
-trimmed_quotable s t h q = (and_parts (list_all is_quotable t) (list_all is_quotable h.back) (sym (list_all-append is_quotable t h.back) ∙ ap (list_all is_quotable) (sym h.joined) ∙ q)).0
+-- a longer one that has no ';' has another
+pub long_other : (text t more : List ℕ) (q n : ℕ) → text ≡ t ++ more → IsUtf8 t → q ≡ prefix_len is_unquoted_byte text → n ≡ prefix_len (λ b. not (is_semicolon b)) text → length t ≤ n → q < length t → list_all is_quotable (chars t) ≡ false
+long_other text t more q n e u h m few l =
+    let p : ℕ → Bool = λ b. not (is_semicolon b) in
+    let same : get_or t q 0 ≡ get_or text q 0 = sym (get_or_append_left t more 0 q l) ∙ ap (λ x. get_or x q 0) (sym e) in
+    let long : length text ≡ length t + length more = ap length e ∙ length-append t more in
+    let passes : p (get_or text q 0) ≡ true = prefix_len_passes p text q 0 (subst (λ i. q < i) m (omega (arith, few))) in
+    let fails : is_unquoted_byte (get_or text q 0) ≡ false = subst (λ i. is_unquoted_byte (get_or text i 0) ≡ false) (sym h) (prefix_len_stops is_unquoted_byte text 0 (subst (λ i. i < length text) h (omega (arith, long)))) in
+    let other : is_quotable_byte (get_or text q 0) ≡ false = false_from_ne_true (is_quotable_byte (get_or text q 0)) (λ w. false≢true (sym fails ∙ and_from (is_quotable_byte (get_or text q 0)) (p (get_or text q 0)) w passes)) in
+    sym (quotable_chars t u) ∙ list_all_at is_quotable_byte t q 0 l (ap is_quotable_byte same ∙ other)
 
--- What such a value's own text is
-
-pub no_plain_text : (self : Value) (plain : Unquoted) (value : Option (List ℕ)) → self ≡ slices.Plain plain → IsValue self value → list_all is_quotable (chars plain.text.now) ≡ false → None ≡ quotable_value value
-no_plain_text self plain value e i q =
-    let k = subst (λ s. IsValue s value) e i in
-    sym (ap quotable_value k.0 ∙ quotable_none (chars plain.text.now) q)
+-- the bytes of a text without white space at its end begin it
+pub trimmed_bytes : (text front t rest : List ℕ) → text ≡ front ++ rest → IsUtf8 front → IsUtf8 t → IsTrimmedEnd is_http_whitespace (chars front) (chars t) → (more : List ℕ) × (front ≡ t ++ more) × (text ≡ t ++ (more ++ rest))
+trimmed_bytes text front t rest e u w h =
+    let back = encode_utf8_all h.back in
+    let is : front ≡ t ++ back = sym (encodes-chars front u) ∙ ap encode_utf8_all h.joined ∙ encodes-append (chars t) h.back ∙ ap (λ x. x ++ back) (encodes-chars t w) in
+    (back, is, e ∙ ap (λ x. x ++ rest) is ∙ append_assoc t back rest)

@@ -156,7 +156,7 @@ no_quoted_text self text value e i q =
     sym (ap quotable_value k.1 ∙ quotable_none k.0 (sym (quoted_quotable (chars text.now) k.0 k.2) ∙ q))
 
 pub missing_text : (self : Value) (value : Option (List ℕ)) → self ≡ slices.Missing → IsValue self value → None ≡ quotable_value value
-missing_text self value e i = let k = subst (λ s. IsValue s value) e i in sym (ap quotable_value k)
+missing_text self value e i = let k = subst (λ s. IsValue s value) e i in sym k
 
 -- A quoted string without a '\'
 
@@ -173,3 +173,8 @@ stays_unescaped (c ∷ cs) h =
 pub copied : (v bytes q value : List ℕ) (b : Bool) → IsUtf8 q → b ≡ list_any is_backslash bytes → bytes ≡ q → b ≡ false → v ≡ q → QuotedOpen (chars q) value → chars v ≡ value
 copied v bytes q value b u e s f g k =
     ap chars g ∙ sym (stays_unescaped (chars q) (ap (list_any is_backslash) (encodes-chars q u ∙ sym s) ∙ sym e ∙ f)) ∙ unescaped_is (chars q) value k
+
+pub plain_text : (self : Value) (text : Bor (List ℕ)) (value : Option (List ℕ)) (code : List ℕ) → self ≡ slices.Plain text → IsValue self value → code ≡ chars text.now → Some code ≡ quotable_value value
+plain_text self text value code e i h =
+    let k = subst (λ s. IsValue s value) e i in
+    ap Some h ∙ sym (ap quotable_value k.0 ∙ quotable_some (chars text.now) k.1)

@@ -2,6 +2,7 @@
 pub mod Blocks
 pub mod Calls
 pub mod Chunks
+pub mod Classes
 pub mod Digits
 pub mod Ending
 pub mod Front

@@ -2,7 +2,7 @@
 
 ghost use Rattle.std.specs.Prelude.{◌≡◌, IfOk};
 
-use crate::percent::{EncodeSet, encoded_len, push_encoded};
+use crate::percent::{EncodeSet, push_encoded};
 use std::alloc::{AllocError, Global};
 
 /// What stands behind the first `#` of a data: URL
@@ -28,7 +28,7 @@ impl<'a> FragmentIdentifier<'a> {
     /// The fragment as the URL parser leaves it
     /// ([URL Standard, section 4.4, fragment state](https://url.spec.whatwg.org/#fragment-state)): tabs and newlines
     /// go, and each byte of the fragment percent-encode set is written as `%` and two upper-case hexadecimal digits. A
-    /// `%` stays as it is. Room for the text is taken once, at its exact length.
+    /// `%` stays as it is. Room is taken for a text as long as the fragment was given; it grows where more is written.
     ///
     /// The error comes where memory was refused.
     pub fn to_percent_encoded(&self, alloc: Global) -> Result<String, AllocError>
@@ -36,7 +36,7 @@ impl<'a> FragmentIdentifier<'a> {
             string_bytes text ≡ encoded_fragment (fragment_text self.now)) }
     {
         let bytes = self.text.as_bytes();
-        let mut text = String::with_capacity(alloc, encoded_len(EncodeSet::Fragment, bytes))?;
+        let mut text = String::with_capacity(alloc, bytes.len())?;
         push_encoded(&mut text, EncodeSet::Fragment, bytes)?;
         Ok(text)
     }

@@ -1,34 +1,23 @@
 //! The header of a data: URL (Fetch Standard, section 6), from its text as it was given.
 
-ghost use Rattle.std.specs.Prelude.{◌≡◌, Decides, IfNone, IfOk, IfSome, codes, map, string_bytes, true};
+ghost use Rattle.std.specs.Prelude.{◌≡◌, Decides, IfOk, List, codes, map, string_bytes, true, ℕ};
 ghost use Rattle.std.specs.Char.{to_ascii_lowercase};
 ghost use Rattle.std.specs.List.{prefix_len, suffix_len};
 ghost use Rattle.std.specs.Str.{chars};
 ghost use Rattle.data_url.specs.Url.{without_tabs_and_newlines, is_tab_or_newline};
 ghost use Rattle.data_url.specs.Fetch.{before_base64, with_plain};
 ghost use Rattle.data_url.specs.Mime.{Record, default_record};
-ghost use Rattle.data_url.specs.Steps.Header.{HasNoLastSpace, IsHeaderOf, IsPathAndQuery, IsPrintable, IsRecordFor, IsSerialised, WithoutSpace, encoded_parts, header_text, is_no_question_mark};
+ghost use Rattle.data_url.specs.Steps.Header.{IsHeaderOf, IsPathAndQuery, IsPrintable, IsRecordFor, IsSerialised, encoded_parts, header_text, is_no_question_mark};
 ghost use Rattle.data_url.specs.MimeType.{as_option, record_of};
 
 use crate::ascii::{is_tab_or_newline, low_end_len, trim};
 use crate::mime::{Mime, plain_head, read_head};
-use crate::percent::{EncodeSet, encoded_len, push_encoded};
+use crate::percent::{EncodeSet, push_encoded};
 use std::alloc::{AllocError, Global};
 
 const SUFFIX: [u8; 6] = *b"base64";
 
 const ENCODED_SPACE: &str = "%20";
-
-/// The text of a header as it was given, in parts.
-#[derive(Clone, Copy)]
-struct Parts<'a> {
-    /// What stands before the first `?`, without a space at its end.
-    path: &'a [u8],
-    /// That space as it is written, where there is one and the `?` stands behind it.
-    space: &'static str,
-    /// The query with its `?`, where there is one.
-    query: &'a [u8],
-}
 
 /// How many bytes stand before the first `?`.
 fn path_len(header: &[u8]) -> usize
@@ -54,64 +43,46 @@ fn dropped_end_len(path: &[u8]) -> usize
         .count()
 }
 
-/// What stands before a space that is the last byte of a path, tabs and newlines aside.
-fn without_last_space(path: &[u8]) -> Option<&[u8]>
-    ensures found { IfSome result (λ front. WithoutSpace path.now front.now) }
-    ensures none { IfNone result (HasNoLastSpace path.now) }
+/// Splits a space off the end of a path, tabs and newlines aside, where a query follows it. Returns the path without it,
+/// and the space as it is written.
+fn split_last_space<'a>(path: &'a [u8], query: &[u8]) -> (&'a [u8], &'static str)
+    ensures { (header : List ℕ) → IsPathAndQuery header path.now query.now
+        → encoded_parts result.0.now result.1.now query.now
+        ≡ header_text (without_tabs_and_newlines header) }
 {
-    let end = path.len() - dropped_end_len(path);
-    let space = end.checked_sub(1)?;
+    if query.is_empty() {
+        return (path, "");
+    }
+    let Some(space) = (path.len() - dropped_end_len(path)).checked_sub(1) else {
+        return (path, "");
+    };
     if path[space] != b' ' {
-        return None;
+        return (path, "");
     }
-    Some(&path[..space])
+    (&path[..space], ENCODED_SPACE)
 }
 
-/// The parts of a header.
-fn parts_of(header: &[u8]) -> Parts<'_>
-    ensures { encoded_parts result.path.now result.space.now result.query.now
-        ≡ header_text (without_tabs_and_newlines header.now) }
+/// Returns the text of a header, serialised. Room is taken for a text as long as the header; it grows where more is
+/// written.
+#[inline(never)]
+fn serialised(alloc: Global, header: &[u8]) -> Result<String, AllocError>
+    ensures { IfOk result (λ text. string_bytes text
+        ≡ header_text (without_tabs_and_newlines header.now)) }
 {
+    let mut text = String::with_capacity(alloc, header.len())?;
     let (path, query) = split_query(header);
-    match without_last_space(path) {
-        Some(path) if !query.is_empty() => Parts {
-            path,
-            space: ENCODED_SPACE,
-            query,
-        },
-        _ => Parts {
-            path,
-            space: "",
-            query,
-        },
-    }
-}
-
-impl Parts<'_> {
-    /// The text, serialised. Room for it is taken once, at its exact length.
-    #[inline(never)]
-    fn serialised(&self, alloc: Global) -> Result<String, AllocError>
-        ensures { IfOk result (λ text. string_bytes text
-            ≡ encoded_parts self.now.path.now self.now.space.now self.now.query.now) }
-    {
-        let len = encoded_len(EncodeSet::Path, self.path);
-        let len = len.saturating_add(self.space.len());
-        let len = len.saturating_add(encoded_len(EncodeSet::Query, self.query));
-        let mut text = String::with_capacity(alloc, len)?;
-        push_encoded(&mut text, EncodeSet::Path, self.path)?;
-        text.push_str(self.space)?;
-        push_encoded(&mut text, EncodeSet::Query, self.query)?;
-        Ok(text)
-    }
+    let (path, space) = split_last_space(path, query);
+    push_encoded(&mut text, EncodeSet::Path, path)?;
+    text.push_str(space)?;
+    push_encoded(&mut text, EncodeSet::Query, query)?;
+    Ok(text)
 }
 
 /// Whether bytes spell the word of the suffix, in any ASCII case.
 fn is_suffix(bytes: &[u8]) -> bool
     ensures { Decides result (map to_ascii_lowercase bytes.now ≡ codes "base64") }
 {
-    // Most often it is spelled as here, which is seen at once.
-    let is_common = bytes.len() == SUFFIX.len() && bytes.starts_with(&SUFFIX);
-    is_common || bytes.eq_ignore_ascii_case(&SUFFIX)
+    bytes.eq_ignore_ascii_case(&SUFFIX)
 }
 
 /// What stands before `;`, spaces and `base64` at the end of a header, in any ASCII case, where it ends so.
@@ -144,7 +115,7 @@ pub(crate) fn serialise(
     if is_plain {
         return Ok(None);
     }
-    Ok(Some(parts_of(header.as_bytes()).serialised(alloc)?))
+    Ok(Some(serialised(alloc, header.as_bytes())?))
 }
 
 /// The serialised text of a header.
@@ -159,30 +130,17 @@ pub(crate) fn serialised_text<'a>(text: &'a Option<String>, header: &'a str) -> 
     }
 }
 
-/// A header without its suffix, and whether it has one, so that the body is base64.
-#[derive(Clone, Copy)]
-pub(crate) struct Media<'a> {
-    pub(crate) text: &'a str,
-    pub(crate) is_base64: bool,
-}
-
-/// The parts of a serialised header.
-pub(crate) fn split_suffix(header: &str) -> Media<'_>
+/// A serialised header without its suffix, and whether it has one, so that the body is base64.
+pub(crate) fn split_suffix(header: &str) -> (&str, bool)
     requires { IsPrintable header.now }
-    ensures header { (m : Record) → IsRecordFor (with_plain result.text.now) m
-        → IsHeaderOf header.now m result.is_base64 }
-    ensures printable { IsPrintable result.text.now }
+    ensures header { (m : Record) → IsRecordFor (with_plain result.0.now) m
+        → IsHeaderOf header.now m result.1 }
+    ensures printable { IsPrintable result.0.now }
 {
     let stripped = trim(header);
     match without_suffix(stripped) {
-        Some(text) => Media {
-            text,
-            is_base64: true,
-        },
-        None => Media {
-            text: stripped,
-            is_base64: false,
-        },
+        Some(text) => (text, true),
+        None => (stripped, false),
     }
 }
 

@@ -10,6 +10,7 @@ ghost use Rattle.data_url.specs.Errors.{IsBodyErrorOf};
 
 mod ascii;
 mod body;
+mod classes;
 pub mod escapes;
 mod facts;
 pub mod forgiving_base64;
@@ -88,13 +89,13 @@ impl<'a> DataUrl<'a> {
         let Ok(text) = serialise(alloc, front.header, front.is_plain) else {
             return Err(DataUrlError::OutOfMemory);
         };
-        let media = split_suffix(serialised_text(&text, front.header));
-        let Ok(mime_type) = read_media(alloc, media.text) else {
+        let (media, base64) = split_suffix(serialised_text(&text, front.header));
+        let Ok(mime_type) = read_media(alloc, media) else {
             return Err(DataUrlError::OutOfMemory);
         };
         Ok(DataUrl {
             mime_type,
-            base64: media.is_base64,
+            base64,
             tail: front.tail,
         })
     }

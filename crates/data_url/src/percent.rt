@@ -1,13 +1,14 @@
 //! Percent-encoding (URL Standard, section 1.3).
 
-ghost use Rattle.std.specs.Prelude.{◌≡◌, ◌≤◌, ◌+◌, ◌++◌, ◌-◌, ◌^◌, OnOk, length, min, string_bytes, take};
+ghost use Rattle.std.specs.Prelude.{◌≡◌, ◌≤◌, ◌+◌, ◌++◌, OnOk, length, string_bytes, take, true};
 ghost use Rattle.std.specs.Str.{IsUtf8};
 ghost use Rattle.data_url.specs.Url.{without_tabs_and_newlines, percent_encoding};
 ghost use Rattle.data_url.specs.Steps.Sets.{in_set};
 
 mod rows;
 
-use rows::row;
+use crate::classes::lanes::rows_len;
+use rows::{others, row};
 use std::alloc::AllocError;
 use std::str;
 
@@ -28,35 +29,14 @@ const PART: usize = 64;
 /// How many bytes there is room for, which is more than a part is written as.
 const ROOM: usize = 256;
 
-/// How many bytes a part is written as.
+/// Returns true only if each byte of a part of whole rows is written as it is.
 #[inline(always)]
-fn part_len(set: EncodeSet, part: &[u8]) -> usize
-    requires { length part.now ≤ 64 }
-    ensures { result ≡ length (percent_encoding (in_set set) (without_tabs_and_newlines part.now)) }
+fn is_kept(set: EncodeSet, part: &[u8]) -> bool
+    ensures kept { result ≡ true
+        → part.now ≡ percent_encoding (in_set set) (without_tabs_and_newlines part.now) }
+    ensures text { result ≡ true → IsUtf8 part.now }
 {
-    let mut len = 0;
-    for byte in part {
-        len += usize::from(row(set, *byte)[3]);
-    }
-    len
-}
-
-/// How many bytes are written of others, without their tabs and newlines and percent-encoded, or
-/// the greatest number where they are more.
-#[inline(always)]
-pub(crate) fn encoded_len(set: EncodeSet, bytes: &[u8]) -> usize
-    ensures { result
-        ≡ min (length (percent_encoding (in_set set) (without_tabs_and_newlines bytes.now)))
-        (2 ^ 64 - 1) }
-{
-    let mut len: usize = 0;
-    let mut rest = bytes;
-    while !rest.is_empty() {
-        let (part, behind) = rest.split_at(rest.len().min(PART));
-        len = len.saturating_add(part_len(set, part));
-        rest = behind;
-    }
-    len
+    rows_len(others(set), part) == part.len()
 }
 
 /// Writes a row to a place in the room.
@@ -103,8 +83,13 @@ pub(crate) fn push_encoded(
     let mut rest = bytes;
     while !rest.is_empty() {
         let (part, behind) = rest.split_at(rest.len().min(PART));
-        let len = encode_part(set, part, &mut room);
-        text.push_str(unsafe { str::from_utf8_unchecked(&room[..len]) })?;
+        let written = if is_kept(set, part) {
+            part
+        } else {
+            let len = encode_part(set, part, &mut room);
+            &room[..len]
+        };
+        text.push_str(unsafe { str::from_utf8_unchecked(written) })?;
         rest = behind;
     }
     Ok(())

@@ -9,7 +9,6 @@ use Rattle.data_url.specs.CodePoints.{is_quotable, is_semicolon, is_token}
 use Rattle.data_url.specs.Mime.{BeginsParameters, DoesNotBegin, Every, GivesValue, IsHead, IsParameter, Item, Pair, Quoted, QuotedOpen, has_name, is_lowercase_name, valid_of}
 use Rattle.data_url.specs.declared.mime.parse.Parameter.{Parameter}
 use Rattle.data_url.specs.declared.mime.tokens.Word.{Word}
-use Rattle.data_url.specs.declared.mime.values.Unquoted.{Unquoted}
 use Rattle.data_url.specs.declared.mime.values.Value.TheVariants as slices
 use Rattle.data_url.specs.declared.mime.values.Value.{Value}
 
@@ -45,16 +44,6 @@ pub record IsClosed (text quoted behind : List ℕ) : Type 0 where
   pub joined : chars text ≡ chars quoted ++ (34 ∷ chars behind)
   pub utf8 : IsUtf8 behind
 
--- a value without quotes has quoted-string code points alone where it says so
-abbrev pub IsUnquoted : Unquoted → Type 0
-IsUnquoted plain = IsTrue plain.is_quotable → IsTrue (list_all is_quotable (chars plain.text.now))
-
--- the slices spell the value
-abbrev pub IsValue : Value → Option (List ℕ) → Type 0
-IsValue slices.Missing value = value ≡ None
-IsValue (slices.Plain plain) value = (value ≡ Some (chars plain.text.now)) × IsUnquoted plain
-IsValue (slices.Quoted text) value = (w : List ℕ) × (value ≡ Some w) × QuotedOpen (chars text.now) w
-
 -- a byte of the UTF-8 of quoted-string code points
 unfoldable pub is_quotable_byte : ℕ → Bool
 is_quotable_byte b = (b == 9) || is_in_range 32 126 b || is_in_range 128 195 b
@@ -68,6 +57,12 @@ abbrev pub quotable_value : Option (List ℕ) → Option (List ℕ)
 quotable_value None = None
 quotable_value (Some value) = if list_all is_quotable value then Some value else None
 
+-- the slices spell the value, or it is not there or has other code points
+abbrev pub IsValue : Value → Option (List ℕ) → Type 0
+IsValue slices.Missing value = quotable_value value ≡ None
+IsValue (slices.Plain text) value = (value ≡ Some (chars text.now)) × IsTrue (list_all is_quotable (chars text.now))
+IsValue (slices.Quoted text) value = (w : List ℕ) × (value ≡ Some w) × QuotedOpen (chars text.now) w
+
 -- a token code point and no upper-case letter
 abbrev pub is_lower_token : ℕ → Bool
 is_lower_token c = is_token c && not (is_ascii_uppercase c)
@@ -79,7 +74,7 @@ IsWord word = IsTrue word.is_lower
 
 -- the slices spell the item
 pub record IsItem (parameter : Parameter) (item : Item) : Type 0 where
-  pub name : item.0 ≡ map to_ascii_lowercase (chars parameter.name.word.text.now)
+  pub name : item.0 ≡ map to_ascii_lowercase (chars parameter.word.text.now)
   pub value : IsValue parameter.value item.1
 
 -- the pair that an item adds to those that are kept: none where its name is there

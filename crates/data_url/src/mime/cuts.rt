@@ -1,27 +1,54 @@
 //! Texts cut at a code point, and HTTP whitespace taken off.
 
 ghost use Rattle.std.specs.Prelude.{◌≡◌, ◌≤◌, ◌++◌, length, not};
-ghost use Rattle.std.specs.List.{prefix_len};
+ghost use Rattle.std.specs.List.{prefix_len, suffix_len};
 ghost use Rattle.std.specs.Str.{IsUtf8, chars};
 ghost use Rattle.data_url.specs.CodePoints.{ends_name, is_http_whitespace, is_semicolon};
 ghost use Rattle.data_url.specs.Mime.{BeginsParameters, DoesNotBegin, IsTrimmedEnd, Without};
 ghost use Rattle.data_url.specs.Steps.Parsing.{IsTrimmedFront};
 
-/// HTTP whitespace (Fetch Standard, section 2.2).
-const HTTP_WHITESPACE: [char; 4] = ['\t', '\n', '\r', ' '];
+/// Whether a byte is HTTP whitespace (Fetch Standard, section 2.2).
+fn is_http_whitespace(byte: u8) -> bool
+    ensures { result ≡ is_http_whitespace byte }
+{
+    matches!(byte, b'\t' | b'\n' | b'\r' | b' ')
+}
+
+/// How many bytes at the front are HTTP whitespace.
+fn leading_len(bytes: &[u8]) -> usize
+    ensures { result ≡ prefix_len is_http_whitespace bytes.now }
+{
+    bytes
+        .iter()
+        .take_while(|byte| is_http_whitespace(**byte))
+        .count()
+}
+
+/// How many bytes at the end are HTTP whitespace.
+fn trailing_len(bytes: &[u8]) -> usize
+    ensures { result ≡ suffix_len is_http_whitespace bytes.now }
+{
+    bytes
+        .iter()
+        .rev()
+        .take_while(|byte| is_http_whitespace(**byte))
+        .count()
+}
 
 /// The text without HTTP whitespace at its start.
 pub(super) fn without_leading_whitespace(text: &str) -> &str
     ensures { IsTrimmedFront is_http_whitespace (chars text.now) (chars result.now) }
 {
-    text.trim_start_matches(HTTP_WHITESPACE)
+    let len = leading_len(text.as_bytes());
+    &text[len..]
 }
 
 /// The text without HTTP whitespace at its end.
 pub(super) fn without_trailing_whitespace(text: &str) -> &str
     ensures { IsTrimmedEnd is_http_whitespace (chars text.now) (chars result.now) }
 {
-    text.trim_end_matches(HTTP_WHITESPACE)
+    let len = trailing_len(text.as_bytes());
+    &text[..text.len() - len]
 }
 
 /// How many bytes stand before the first `;` or `=`.

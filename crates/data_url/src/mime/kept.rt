@@ -1,6 +1,6 @@
 //! The parameters that are kept while a MIME type is read: of each name the first.
 
-ghost use Rattle.std.specs.Prelude.{false, Decides, ◌≡◌, ◌++◌, ◌∷◌, [], IfOk, IsTrue, OnOk, map};
+ghost use Rattle.std.specs.Prelude.{false, Decides, ◌≡◌, ◌<◌, ◌-◌, ◌++◌, ◌∷◌, [], IfOk, IsTrue, OnOk, length, map, slice_index};
 ghost use Rattle.std.specs.Char.{to_ascii_lowercase};
 ghost use Rattle.std.specs.Str.{chars};
 ghost use Rattle.data_url.specs.Mime.{has_name, is_lowercase_name, is_token_text};
@@ -54,11 +54,7 @@ impl KeptParameters {
             (first_of (pairs_of self.now)) }
     {
         let first = &self.pairs[..LOOKED_THROUGH.min(self.pairs.len())];
-        if name.is_lower {
-            any_is(first, name.text)
-        } else {
-            any_is_named(first, name.text)
-        }
+        any_named(first, name.text, name.is_lower)
     }
 
     /// Adds a pair whose name none of the first ones has, unless a later one has it.
@@ -78,42 +74,38 @@ impl KeptParameters {
     }
 }
 
-/// Whether two texts are the same. Their last bytes are compared first, in which numbered names differ.
+/// Whether a key in lower case is a name, in any ASCII case, of which it may be known that it is in lower case. The last
+/// byte, which is given in lower case too, is compared first: numbered names differ there.
 #[inline(always)]
-fn is_same(one: &str, other: &str) -> bool
-    ensures { Decides result (one.now ≡ other.now) }
+fn is_named(key: &str, name: &str, is_lower: bool, last: u8) -> bool
+    requires key { map to_ascii_lowercase key.now ≡ key.now }
+    requires some { 0 < length name.now }
+    requires last { last ≡ to_ascii_lowercase (slice_index name.now (length name.now - 1)) }
+    requires lower { IsTrue is_lower → map to_ascii_lowercase name.now ≡ name.now }
+    ensures { Decides result (map to_ascii_lowercase key.now ≡ map to_ascii_lowercase name.now) }
 {
-    let len = one.len();
-    if len != other.len() {
+    let len = key.len();
+    if len != name.len() || key.as_bytes()[len - 1] != last {
         return false;
     }
-    if len > 0 && one.as_bytes()[len - 1] != other.as_bytes()[len - 1] {
-        return false;
+    if is_lower {
+        key == name
+    } else {
+        key.eq_ignore_ascii_case(name)
     }
-    one == other
 }
 
-/// Whether one of the pairs has exactly this name.
-fn any_is(pairs: &[(String, String)], name: &str) -> bool
-    ensures { result ≡ has_name (chars name.now) (map (λ p. pair_of p) pairs.now) }
-{
-    for (key, _) in pairs {
-        if is_same(key.as_str(), name) {
-            return true;
-        }
-    }
-    false
-}
-
-/// Whether one of the pairs has the name, in any ASCII case.
-fn any_is_named(pairs: &[(String, String)], name: &str) -> bool
-    requires lower { HasLowercaseNames (map (λ p. pair_of p) pairs.now) }
+/// Whether one of the pairs has the name, in any ASCII case. It may be known to be in lower case.
+fn any_named(pairs: &[(String, String)], name: &str, is_lower: bool) -> bool
+    requires pairs { HasLowercaseNames (map (λ p. pair_of p) pairs.now) }
     requires token { IsTrue (is_token_text (chars name.now)) }
+    requires lower { IsTrue is_lower → map to_ascii_lowercase (chars name.now) ≡ chars name.now }
     ensures { result ≡ has_name (map to_ascii_lowercase (chars name.now))
         (map (λ p. pair_of p) pairs.now) }
 {
+    let last = name.as_bytes()[name.len() - 1].to_ascii_lowercase();
     for (key, _) in pairs {
-        if key.as_str().eq_ignore_ascii_case(name) {
+        if is_named(key.as_str(), name, is_lower, last) {
             return true;
         }
     }

@@ -12,11 +12,12 @@ ghost use Rattle.data_url.specs.MimeType.{pair_of, record_of};
 
 use super::Mime;
 use super::cuts::{
-    split_name, split_semicolon, without_leading_whitespace, without_trailing_whitespace,
+    parameter_len, split_name, split_semicolon, without_leading_whitespace,
+    without_trailing_whitespace,
 };
 use super::kept::KeptParameters;
 use super::tokens::{Word, is_token_text, split_tokens};
-use super::values::{Unquoted, Value, lowercased, split_unquoted};
+use super::values::{Value, first_other_than_unquoted, lowercased};
 use std::alloc::{AllocError, Global};
 
 /// The type, the subtype and the parameters of a text, as they stand there.
@@ -27,18 +28,13 @@ pub(crate) struct Head<'a> {
     pub(super) parameters: &'a str,
 }
 
-/// The name of a parameter, as it stands in the text.
-#[derive(Clone, Copy)]
-struct Name<'a> {
-    word: Word<'a>,
-    /// Whether it is nonempty and of token code points alone.
-    is_valid: bool,
-}
-
 /// One parameter, as it stands in the text, and what stands behind it.
 #[derive(Clone, Copy)]
 struct Parameter<'a> {
-    name: Name<'a>,
+    /// The name.
+    word: Word<'a>,
+    /// Whether the name is nonempty and of token code points alone.
+    is_valid: bool,
     value: Value<'a>,
     rest: &'a str,
 }
@@ -118,47 +114,51 @@ fn begins_behind_name(text: &str) -> bool
     text.is_empty() || text.starts_with('=') || text.starts_with(';')
 }
 
-/// The name that a text begins with, and what stands behind it.
-fn read_name(text: &str) -> (Name<'_>, &str)
-    ensures joined { chars text.now ≡ chars result.0.word.text.now ++ chars result.1.now }
-    ensures front { Without ends_name (chars result.0.word.text.now) }
-    ensures behind { DoesNotBegin (λ c. not (ends_name c)) (chars result.1.now) }
-    ensures valid { result.0.is_valid ≡ is_token_text (chars result.0.word.text.now) }
-    ensures word { IsWord result.0.word }
-    ensures text { IsUtf8 result.1.now }
+/// The name that a text begins with, whether it is nonempty and of token code points alone, and what stands behind it.
+fn read_name(text: &str) -> (Word<'_>, bool, &str)
+    ensures joined { chars text.now ≡ chars result.0.text.now ++ chars result.2.now }
+    ensures front { Without ends_name (chars result.0.text.now) }
+    ensures behind { DoesNotBegin (λ c. not (ends_name c)) (chars result.2.now) }
+    ensures valid { result.1 ≡ is_token_text (chars result.0.text.now) }
+    ensures word { IsWord result.0 }
+    ensures text { IsUtf8 result.2.now }
 {
     let (word, rest) = split_tokens(text);
     if begins_behind_name(rest) {
-        let is_valid = !word.text.is_empty();
-        return (Name { word, is_valid }, rest);
+        return (word, !word.text.is_empty(), rest);
     }
     let (name, rest) = split_name(text);
     let word = Word {
         text: name,
         is_lower: false,
     };
-    let is_valid = is_token_text(name);
-    (Name { word, is_valid }, rest)
+    (word, is_token_text(name), rest)
 }
 
 /// The parameter that a text begins with, behind its `;`.
 fn read_parameter(text: &str) -> Parameter<'_>
     ensures parameter { (item : Item) × IsItem result item
         × HasParameterBefore (chars text.now) item (chars result.rest.now) }
-    ensures valid { result.name.is_valid ≡ is_token_text (chars result.name.word.text.now) }
-    ensures word { IsWord result.name.word }
+    ensures valid { result.is_valid ≡ is_token_text (chars result.word.text.now) }
+    ensures word { IsWord result.word }
     ensures text { IsUtf8 result.rest.now }
 {
-    let (name, tail) = read_name(without_leading_whitespace(text));
+    let (word, is_valid, tail) = read_name(without_leading_whitespace(text));
     let Some(value) = tail.strip_prefix('=') else {
         return Parameter {
-            name,
+            word,
+            is_valid,
             value: Value::Missing,
             rest: tail,
         };
     };
     let (value, rest) = read_value(value);
-    Parameter { name, value, rest }
+    Parameter {
+        word,
+        is_valid,
+        value,
+        rest,
+    }
 }
 
 /// The value that stands behind a `=`, and what stands behind it.
@@ -184,13 +184,14 @@ fn read_plain(text: &str) -> (Value<'_>, &str)
         × HasValueBefore (61 ∷ chars text.now) value (chars result.1.now) }
     ensures text { IsUtf8 result.1.now }
 {
-    let (value, rest) = split_unquoted(text);
-    let text = without_trailing_whitespace(value.text);
-    if text.is_empty() {
-        (Value::Missing, rest)
-    } else {
-        (Value::Plain(Unquoted { text, ..value }), rest)
+    let bytes = text.as_bytes();
+    let quotable = first_other_than_unquoted(bytes);
+    let (value, rest) = text.split_at(quotable + parameter_len(&bytes[quotable..]));
+    let value = without_trailing_whitespace(value);
+    if value.is_empty() || value.len() > quotable {
+        return (Value::Missing, rest);
     }
+    (Value::Plain(value), rest)
 }
 
 /// What stands before the quote that closes a quoted string, and behind it.
@@ -248,20 +249,18 @@ fn keep(
     parameter: &Parameter<'_>,
 ) -> Result<(), AllocError>
     requires indexed { IsIndexed kept.old }
-    requires valid { parameter.now.name.is_valid
-        ≡ is_token_text (chars parameter.now.name.word.text.now) }
-    requires word { IsWord parameter.now.name.word }
+    requires valid { parameter.now.is_valid ≡ is_token_text (chars parameter.now.word.text.now) }
+    requires word { IsWord parameter.now.word }
     ensures pairs { OnOk result ((item : Item) → IsItem parameter.now item
         → pairs_of kept.new ≡ pairs_of kept.old ++ added_pairs (pairs_of kept.old) item) }
     ensures indexed { OnOk result (IsIndexed kept.new) }
 {
-    let name = parameter.name.word.text;
-    let is_lower = parameter.name.word.is_lower;
-    if !parameter.name.is_valid || kept.is_among_first(parameter.name.word) {
+    let name = parameter.word;
+    if !parameter.is_valid || kept.is_among_first(name) {
         return Ok(());
     }
     let Some(value) = parameter.value.text(alloc)? else {
         return Ok(());
     };
-    kept.push(lowercased(alloc, name, is_lower)?, value)
+    kept.push(lowercased(alloc, name.text, name.is_lower)?, value)
 }

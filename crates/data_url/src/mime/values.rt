@@ -1,16 +1,15 @@
 //! Values of parameters, as they stand in a text and as texts of their own.
 
-ghost use Rattle.std.specs.Prelude.{◌≡◌, ◌≤◌, ◌++◌, List, ℕ, IfOk, IsTrue, length, map};
+ghost use Rattle.std.specs.Prelude.{◌≡◌, ◌≤◌, List, ℕ, IfOk, IsTrue, length, map};
 ghost use Rattle.std.specs.Char.{to_ascii_lowercase};
 ghost use Rattle.std.specs.List.{list_all, list_any, prefix_len};
 ghost use Rattle.std.specs.Option.{option_map};
-ghost use Rattle.std.specs.Str.{IsUtf8, chars};
-ghost use Rattle.data_url.specs.CodePoints.{is_quotable, is_semicolon};
-ghost use Rattle.data_url.specs.Mime.{BeginsParameters, QuotedOpen, Without, is_token_text};
-ghost use Rattle.data_url.specs.Steps.Parsing.{IsUnquoted, IsValue, is_backslash, is_quotable_byte, is_unquoted_byte, quotable_value};
+ghost use Rattle.std.specs.Str.{chars};
+ghost use Rattle.data_url.specs.CodePoints.{is_quotable};
+ghost use Rattle.data_url.specs.Mime.{QuotedOpen, is_token_text};
+ghost use Rattle.data_url.specs.Steps.Parsing.{IsValue, is_backslash, is_quotable_byte, is_unquoted_byte, quotable_value};
 ghost use Rattle.data_url.specs.MimeType.{code_points};
 
-use super::cuts::parameter_len;
 use std::alloc::{AllocError, Global};
 
 /// The bytes that stand in the UTF-8 of quoted-string code points.
@@ -55,18 +54,13 @@ const UNQUOTED: [bool; 256] = [
     false, false, false, false, false, false, false, false, false, false, false, false, false, false, false, false,
 ];
 
-/// A value without quotes, and whether it is known that it has quoted-string code points alone.
-#[derive(Clone, Copy)]
-pub(super) struct Unquoted<'a> {
-    pub(super) text: &'a str,
-    pub(super) is_quotable: bool,
-}
-
 /// A value as it stands in a text.
 #[derive(Clone, Copy)]
 pub(super) enum Value<'a> {
+    /// No value, or one with a code point that is no quoted-string code point.
     Missing,
-    Plain(Unquoted<'a>),
+    /// A value without quotes, of quoted-string code points.
+    Plain(&'a str),
     /// What stands between the quotes, or behind the first one up to the end.
     Quoted(&'a str),
 }
@@ -80,9 +74,7 @@ impl<'a> Value<'a> {
             → option_map (λ t. code_points t) text ≡ quotable_value value) }
     {
         match self {
-            Value::Plain(plain) if plain.is_quotable || is_quotable(plain.text) => {
-                Ok(Some(String::from_str(alloc, plain.text)?))
-            }
+            Value::Plain(text) => Ok(Some(String::from_str(alloc, text)?)),
             Value::Quoted(text) if is_quotable(text) => Ok(Some(unescaped(alloc, text)?)),
             _ => Ok(None),
         }
@@ -107,7 +99,7 @@ fn is_unquoted_byte(byte: u8) -> bool
 }
 
 /// The place of the first byte that is none of these, or the length.
-fn first_other_than_unquoted(bytes: &[u8]) -> usize
+pub(super) fn first_other_than_unquoted(bytes: &[u8]) -> usize
     ensures front { result ≡ prefix_len is_unquoted_byte bytes.now }
     ensures within { result ≤ length bytes.now }
 {
@@ -115,27 +107,6 @@ fn first_other_than_unquoted(bytes: &[u8]) -> usize
         .iter()
         .take_while(|byte| is_unquoted_byte(**byte))
         .count()
-}
-
-/// What stands before the first `;`, as a value, and the rest.
-pub(super) fn split_unquoted(text: &str) -> (Unquoted<'_>, &str)
-    ensures joined { chars text.now ≡ chars result.0.text.now ++ chars result.1.now }
-    ensures front { Without is_semicolon (chars result.0.text.now) }
-    ensures behind { BeginsParameters (chars result.1.now) }
-    ensures quotable { IsUnquoted result.0 }
-    ensures text { IsUtf8 result.1.now }
-{
-    let bytes = text.as_bytes();
-    let quotable = first_other_than_unquoted(bytes);
-    let len = quotable + parameter_len(&bytes[quotable..]);
-    let (front, rest) = text.split_at(len);
-    (
-        Unquoted {
-            text: front,
-            is_quotable: len == quotable,
-        },
-        rest,
-    )
 }
 
 /// Whether a text has quoted-string code points alone. What escapes the others is one too, so a quoted string may be

@@ -1,5 +1,10 @@
-use Rattle.data_url.proofs.CutLemmas.{whitespace_front}
+use Rattle.data_url.specs.CodePoints.{is_http_whitespace}
+use Rattle.data_url.proofs.CutLemmas.{whitespace_below, whitespace_front}
+use Rattle.data_url.proofs.TextCuts.{boundary_behind_front}
 use Rattle.data_url.proofs.mime.cuts.without_leading_whitespace.Goals as goal
 
+pub range_from-requires : goal.range_from-requires
+range_from-requires c = rw (c.leading_len-len.ensures, c.as_bytes.ensures.value) (boundary_behind_front is_http_whitespace whitespace_below c.args.text.now c.utf8.text)
+
 pub returns : goal.returns
-returns c = whitespace_front c.args.text.now c.trim_start_matches.result.now c.utf8.text c.trim_start_matches.ensures.matches
+returns c = rw (c.range_from.ensures.value, c.leading_len-len.ensures, c.as_bytes.ensures.value) (whitespace_front c.args.text.now c.utf8.text)

@@ -13,12 +13,12 @@ use Rattle.data_url.proofs.mime.parse.keep.Goals.{then-not-parameter-via-then-no
 
 pub returns-then-not-parameter-clause-pairs : goal.returns-then-not-parameter-clause-pairs
 returns-then-not-parameter-clause-pairs c item is = elim c.then-not-parameter.branch [
-  | then-not-parameter-via-then-not-parameter w ↦ none_added c.args.kept.now.pairs.items _ (invalid_name c.args.parameter.now item is _ c.args.parameter.now.name.is_valid c.requires.valid w.if-not-parameter.true)
+  | then-not-parameter-via-then-not-parameter w ↦ none_added c.args.kept.now.pairs.items _ (invalid_name c.args.parameter.now item is _ c.args.parameter.now.is_valid c.requires.valid w.if-not-parameter.true)
   | then-not-parameter-via-else-not-parameter+then-is_among_first w ↦ none_added c.args.kept.now.pairs.items _ (known_name c.args.parameter.now item is (pairs_of c.args.kept.now) (named_first _ (pairs_of c.args.kept.now) (sym w.is_among_first.ensures ∙ w.if-is_among_first.true)))
 ]
 
 pub push-requires-clause-lower : goal.push-requires-clause-lower
-push-requires-clause-lower c = ap is_lowercase_name c.in_ok-lowercased.ensures ∙ lowercase_name (chars c.args.parameter.now.name.word.text.now) (sym c.requires.valid ∙ c.if-not-parameter.false)
+push-requires-clause-lower c = ap is_lowercase_name c.in_ok-lowercased.ensures ∙ lowercase_name (chars c.args.parameter.now.word.text.now) (sym c.requires.valid ∙ c.if-not-parameter.false)
 
 pub returns-clause-pairs : goal.returns-clause-pairs
 returns-clause-pairs c =
@@ -27,5 +27,5 @@ returns-clause-pairs c =
     on_ok_weaker c.push.result
     (λ h item is.
     let v = sym (ap (option_map (λ t. code_points t)) c.in-Some.is) ∙ c.in_ok-value.ensures item.1 is.value in
-    h ∙ ap (λ ps. pairs_of c.args.kept.now ++ unless_named (pairs_of c.args.kept.now) ps) (sym (new_pair c.args.parameter.now item is name value c.args.parameter.now.name.is_valid c.requires.valid c.if-not-parameter.false c.in_ok-lowercased.ensures v)))
+    h ∙ ap (λ ps. pairs_of c.args.kept.now ++ unless_named (pairs_of c.args.kept.now) ps) (sym (new_pair c.args.parameter.now item is name value c.args.parameter.now.is_valid c.requires.valid c.if-not-parameter.false c.in_ok-lowercased.ensures v)))
     c.push.ensures.pairs

@@ -1,29 +1,20 @@
-use Rattle.std.proofs.Common.{ap, map, min, sym, take, ◌∙◌}
+use Rattle.std.proofs.Common.{ap, map, min, sym, ◌∙◌}
 use Rattle.std.specs.Char.{to_ascii_lowercase}
 use Rattle.std.specs.List.{list_all}
 use Rattle.std.specs.Str.{chars}
-use Rattle.data_url.specs.Mime.{Pair, has_name, is_lowercase_name}
+use Rattle.data_url.specs.Mime.{Pair, is_lowercase_name}
 use Rattle.data_url.specs.MimeType.{pair_of}
 use Rattle.data_url.specs.declared.mime.kept.TheConstants.{LOOKED_THROUGH}
 use Rattle.data_url.proofs.FirstLemmas.{among_first}
 use Rattle.data_url.proofs.IndexLemmas.{lower_first}
 use Rattle.data_url.proofs.mime.kept.KeptParameters.is_among_first.Goals as goal
 
-pub any_is_named-requires-clause-lower : goal.any_is_named-requires-clause-lower
-any_is_named-requires-clause-lower c = lower_first c.deref.result.now c.min.result (ap (λ s. list_all (λ (p : Pair). is_lowercase_name p.0) (map (λ p. pair_of p) s)) c.deref.ensures.value ∙ c.requires.indexed.lower)
+pub any_named-requires-clause-pairs : goal.any_named-requires-clause-pairs
+any_named-requires-clause-pairs c = lower_first c.deref.result.now c.min.result (ap (λ s. list_all (λ (p : Pair). is_lowercase_name p.0) (map (λ p. pair_of p) s)) c.deref.ensures.value ∙ c.requires.indexed.lower)
 
-pub returns-then-name : goal.returns-then-name
-returns-then-name c =
+pub returns : goal.returns
+returns c =
     let n = map to_ascii_lowercase (chars c.args.name.text.now) in
     let items = c.deref.result.now in
     let k = c.min.ensures ∙ ap (min LOOKED_THROUGH) (c.len.ensures ∙ sym c.deref.ensures.len) in
-    c.any_is.ensures
-    ∙ ap (λ m. has_name m (map (λ p. pair_of p) (take c.min.result items))) (sym (c.requires.word c.if-name.true))
-    ∙ among_first n items c.args.self.now c.min.result k c.deref.ensures.value
-
-pub returns-else-name : goal.returns-else-name
-returns-else-name c =
-    let n = map to_ascii_lowercase (chars c.args.name.text.now) in
-    let items = c.deref.result.now in
-    let k = c.min.ensures ∙ ap (min LOOKED_THROUGH) (c.len.ensures ∙ sym c.deref.ensures.len) in
-    c.any_is_named.ensures ∙ among_first n items c.args.self.now c.min.result k c.deref.ensures.value
+    c.any_named.ensures ∙ among_first n items c.args.self.now c.min.result k c.deref.ensures.value

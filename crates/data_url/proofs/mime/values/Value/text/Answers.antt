@@ -1,20 +1,14 @@
-use Rattle.std.proofs.Common.{sym, ◌∙◌}
-use Rattle.std.proofs.lemmas.Bool.{false≢true}
+use Rattle.std.proofs.Common.{sym}
 use Rattle.data_url.specs.MimeType.{code_points}
-use Rattle.data_url.proofs.UnquotedLemmas.{no_plain_text}
 use Rattle.data_url.proofs.ValueLemmas.{missing_text, no_quoted_text, quoted_text}
 use Rattle.data_url.proofs.mime.values.Value.text.Goals as goal
-use Rattle.data_url.proofs.mime.values.Value.text.Goals.{in_default-via-in-Plain+else-is_quotable, then-plain, else-plain, in_default-via-in-Quoted+else-is_quotable-2, in_default-via-in_default}
+use Rattle.data_url.proofs.mime.values.Value.text.Goals.{in_default-via-in-Quoted+else-is_quotable, in_default-via-in_default}
 
 pub returns-in_ok-unescaped-in-Quoted : goal.returns-in_ok-unescaped-in-Quoted
-returns-in_ok-unescaped-in-Quoted c value i = quoted_text c.args.self.now c.in-Quoted.text value (code_points c.in_ok-unescaped-in-Quoted.field-0) c.in-Quoted.is i c.if-is_quotable-2.ensures c.in_ok-unescaped-in-Quoted.ensures
+returns-in_ok-unescaped-in-Quoted c value i = quoted_text c.args.self.now c.in-Quoted.text value (code_points c.in_ok-unescaped-in-Quoted.field-0) c.in-Quoted.is i c.if-is_quotable.ensures c.in_ok-unescaped-in-Quoted.ensures
 
 pub returns-in_default : goal.returns-in_default
 returns-in_default c value i = elim c.in_default.branch [
-  | in_default-via-in-Plain+else-is_quotable w ↦ elim w.if-plain.branch [
-    | then-plain v ↦ absurd (false≢true (sym w.if-is_quotable.false ∙ v.value-is ∙ v.if-plain.true))
-    | else-plain v ↦ no_plain_text c.args.self.now w.in-Plain.plain value w.in-Plain.is i (sym v.is_quotable.ensures ∙ sym v.value-is ∙ w.if-is_quotable.false)
-  ]
-  | in_default-via-in-Quoted+else-is_quotable-2 w ↦ no_quoted_text c.args.self.now w.in-Quoted.text value w.in-Quoted.is i (sym w.if-is_quotable-2.ensures)
+  | in_default-via-in-Quoted+else-is_quotable w ↦ no_quoted_text c.args.self.now w.in-Quoted.text value w.in-Quoted.is i (sym w.if-is_quotable.ensures)
   | in_default-via-in_default w ↦ missing_text c.args.self.now value w.in_default.is i
 ]

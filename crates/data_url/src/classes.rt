@@ -1,0 +1,3 @@
+//! Classes of bytes.
+
+pub(crate) mod lanes;
