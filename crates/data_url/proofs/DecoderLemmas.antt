@@ -1,7 +1,7 @@
 -- Feeding a decoder, piece by piece.
-use Rattle.std.proofs.Common.{◌≡◌, ℕ, ◌+◌, ◌<◌, drop, get_or, take, false, List, [], ◌∷◌, ◌++◌, length, Option, None, Some, is_some, Result, Ok, Err, refl, ap, sym, ◌∙◌, subst, arith, append_assoc, length-append}
+use Rattle.std.proofs.Common.{◌≡◌, ℕ, drop, take, false, List, ◌++◌, Option, None, Some, is_some, Result, Ok, Err, refl, ap, sym, ◌∙◌, subst, arith, append_assoc, length-append}
 use Rattle.std.specs.Prelude.{MatchOption}
-use Rattle.std.proofs.lemmas.List.{take-append-drop, take_more}
+use Rattle.std.proofs.lemmas.List.{take-append-drop}
 use Rattle.data_url.specs.Base64.{complete_bytes, first_fault, kind_of, left_padding, left_symbols, left_text}
 use Rattle.data_url.specs.Decoder.{Feeds, IsLeft, IsTaken, State, left_over}
 use Rattle.data_url.specs.Errors.{IsRefused}
@@ -136,10 +136,6 @@ module _ {F E : Type 0} (step : F → List ℕ → Result (Unit {0}) E → F →
       }
 
   -- A text, byte by byte
-
-  -- one byte more of the text s
-  pub feeds_more : {d d1 d2 : State F} {r : Result (Unit {0}) (DecodeError E)} (s : List ℕ) (i : ℕ) → i < length s → Feeds step d (take i s) (Ok tt) d1 → Feeds step d1 (get_or s i 0 ∷ []) r d2 → Feeds step d (take (i + 1) s) r d2
-  feeds_more {d} {d1} {d2} {r} s i l f g = let P : List ℕ → Type 0 = λ t. Feeds step d t r d2 in subst P (sym (take_more s i 0 l)) (feeds_then f g)
 
   -- a beginning of s that is refused
   pub feeds_stop : {d d' : State F} {x : DecodeError E} (s : List ℕ) (i : ℕ) → Feeds step d (take i s) (Err x) d' → Feeds step d s (Err x) d'

@@ -256,10 +256,6 @@ pub byte_at : (s : List ℕ) (at : ℕ) → at < length s → get_or (take (leng
 byte_at s at h = ap (λ t. get_or t 0 0) (take_rest s at) ∙ get_or-drop at s 0 0 ∙ ap (λ n. get_or s n 0) (omega arith)
 
 module _ {F E : Type 0} (step : F → List ℕ → Result (Unit {0}) E → F → Type 0) where
-  -- a byte that is refused where nothing is held
-  pub refused_alone : {d d2 d3 : State F} {r : Result (Unit {0}) (DecodeError E)} {kind : Kind} (c : ℕ) → Refuses d c kind d2 → d3 ≡ record d2 { failed = true } → r ≡ Err (InvalidBase64 kind) → Feeds step d (c ∷ []) r d3
-  refused_alone {d} c f same told = refuses_feeds step (left_over d) c refl f.fault f.kind_is f.none_done (same ∙ ap (λ (s : State F). record s { failed = true }) f.stays) told
-
   -- a group that is handed out at once
   pub group_feeds : {d d1 d2 : State F} {t : List ℕ} {r : Result (Unit {0}) (DecodeError E)} (group : List ℕ) → 1 ≤ length t → Adds d t group d1 → CallsOnce step d1 group r d2 → Feeds step d t r d2
   unfolding holds_from
