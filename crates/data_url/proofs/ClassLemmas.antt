@@ -1,10 +1,17 @@
 -- Classes of bytes by the halves of a byte, sixteen bytes at a time.
 use Rattle.std.proofs.Common.{◌≡◌, ℕ, ◌+◌, ◌/◌, ◌%◌, ◌^◌, ◌<◌, ◌≤◌, Bool, List, [], ◌∷◌, cond, eqb, not, map, take, drop, length, bit_and, get_or, true, false, refl, sym, ap, ◌∙◌, ⊎_elim, arith, w8, length-drop, length-take-le}
-use Rattle.std.proofs.lemmas.Bool.{cases_lt, eqb-true}
+use Rattle.std.proofs.lemmas.Bool.{agree_below_at, cases_lt, eqb-true}
 use Rattle.std.proofs.lemmas.List.{length-map}
 use Rattle.std.proofs.lemmas.Simd.{bitmask_splat, map-map, none_from_empty_mask}
 use lib.Lanes.{mask_l, top, zip2}
-use Rattle.data_url.specs.Steps.Classes.{AreOf, IsRowOf, column_mark}
+use Rattle.std.specs.Prelude.{◌==◌, slice_index}
+use Rattle.data_url.specs.CodePoints.{is_token}
+use Rattle.data_url.specs.Steps.Classes.{AreOf, IsRowOf, column_mark, in_class}
+use Rattle.data_url.specs.Steps.Front.{is_plain_path}
+use Rattle.data_url.specs.Steps.Parsing.{is_lower_token, is_quotable_byte, is_unquoted_byte}
+use Rattle.data_url.specs.declared.classes.Class.TheVariants.{LowerToken, PlainPath, Quotable, Token, Unquoted}
+use Rattle.data_url.specs.declared.classes.Class.{Class}
+use Rattle.data_url.specs.declared.classes.TheConstants.{CLASSES}
 use Rattle.data_url.specs.declared.classes.lanes.TheConstants.{COLUMNS}
 use Rattle.data_url.proofs.BlockLemmas.{differs}
 use Rattle.data_url.proofs.LaneLemmas.{joined}
@@ -40,3 +47,20 @@ pub record Looked (others bytes : List ℕ) (at : ℕ) : Type 0 where
 
 pub one_row_more : (others bytes : List ℕ) (at : ℕ) → Looked others bytes at → at + 16 ≤ length bytes → IsRowOf others bytes at → Looked others bytes (at + 16)
 one_row_more others bytes at h room row = record { within = room; front = λ k l. ⊎_elim (λ (e : k < at). h.front k e) (λ (e : at ≤ k). row k e l) (cases_lt k at) }
+
+-- the table's entries are the classes
+
+abbrev pub bit_of : Class → ℕ
+bit_of Token = 1
+bit_of LowerToken = 2
+bit_of Quotable = 4
+bit_of Unquoted = 8
+bit_of PlainPath = 16
+
+pub entry_is : (class : Class) (b : ℕ) → b < 256 → not (bit_and (slice_index CLASSES b) (bit_of class) == 0) ≡ in_class class b
+unfolding is_token is_quotable_byte
+entry_is Token b l = agree_below_at (λ b. not (bit_and (slice_index CLASSES b) 1 == 0)) is_token 256 b refl l
+entry_is LowerToken b l = agree_below_at (λ b. not (bit_and (slice_index CLASSES b) 2 == 0)) is_lower_token 256 b refl l
+entry_is Quotable b l = agree_below_at (λ b. not (bit_and (slice_index CLASSES b) 4 == 0)) is_quotable_byte 256 b refl l
+entry_is Unquoted b l = agree_below_at (λ b. not (bit_and (slice_index CLASSES b) 8 == 0)) is_unquoted_byte 256 b refl l
+entry_is PlainPath b l = agree_below_at (λ b. not (bit_and (slice_index CLASSES b) 16 == 0)) is_plain_path 256 b refl l

@@ -1,14 +1,12 @@
 -- The rows of the tables that say what each byte of a URL is written as.
-use Rattle.std.proofs.Common.{◌≡◌, ℕ, ◌*◌, ◌+◌, ◌-◌, ◌<◌, ◌&&◌, ◌||◌, Bool, true, List, [], ◌∷◌, length, take, drop, refl, sym, ap, ◌∙◌, get_or, false}
+use Rattle.std.proofs.Common.{◌≡◌, ℕ, ◌*◌, ◌+◌, ◌-◌, ◌<◌, ◌&&◌, ◌||◌, Bool, true, List, [], ◌∷◌, length, take, drop, refl, sym, ap, ◌∙◌}
 use Rattle.std.specs.Prelude.{◌==◌, nat_lt, slice_index}
 use Rattle.std.specs.Str.{bytes_eq}
 use Rattle.std.proofs.lemmas.Bool.{agree_below_at, and_parts, eqb-true}
 use Rattle.std.proofs.lemmas.Slice.Eq.{bytes_eq-Decides}
 use Rattle.data_url.specs.Url.{in_fragment_set, in_path_set, in_query_set}
 use Rattle.data_url.specs.Steps.Classes.{column_mark}
-use Rattle.data_url.specs.Steps.Front.{is_plain_path}
 use Rattle.data_url.specs.Steps.Sets.{IsRow, byte_encoding}
-use Rattle.data_url.specs.declared.front.TheConstants.{PLAIN_PATH}
 use Rattle.data_url.specs.declared.percent.rows.TheConstants.{FRAGMENT, FRAGMENT_OTHERS, PATH, PATH_OTHERS, QUERY, QUERY_OTHERS}
 
 -- the row of a byte in a table
@@ -50,7 +48,3 @@ query_kept = kept_where in_query_set QUERY_OTHERS (λ b. agree_below_at (λ b. n
 
 pub fragment_kept : (b : ℕ) → b < 256 → column_mark FRAGMENT_OTHERS b ≡ 0 → byte_encoding in_fragment_set b ≡ b ∷ []
 fragment_kept = kept_where in_fragment_set FRAGMENT_OTHERS (λ b. agree_below_at (λ b. nat_lt 0 (column_mark FRAGMENT_OTHERS b) || bytes_eq (byte_encoding in_fragment_set b) (b ∷ [])) (λ b. true) 256 b refl)
-
--- the table of plain bytes
-pub plain_entry : (b : ℕ) → b < 256 → get_or PLAIN_PATH b false ≡ is_plain_path b
-plain_entry b l = agree_below_at (λ x. get_or PLAIN_PATH x false) is_plain_path 256 b refl l

@@ -1,6 +1,6 @@
 -- The table of token code points, and texts of them.
 use Rattle.std.proofs.Common.{◌≡◌, ℕ, suc, ◌+◌, ◌<◌, ◌≤◌, ◌==◌, ◌||◌, Bool, true, false, cond, List, [], ◌∷◌, ◌++◌, length, get_or, take, drop, encode_utf8_all, refl, sym, ap, ◌∙◌, subst, arith, one-add, take-append-drop, inl, inr, ⊎_elim, nat_le, nat_lt, codes, ◌&&◌, drop-cons, add-one, ap₂, map, not}
-use Rattle.std.proofs.lemmas.Bool.{agree_below_at, and_from, and_parts, both_ways, cases_Bool, cases_lt, le-leb, not-true, eqb-true, false_from_ne_true, false≢true, leb-true, ltb-true, ne_eqb, or_cases, cases_eq, cond-true, cond-false, eq-eqb}
+use Rattle.std.proofs.lemmas.Bool.{and_from, and_parts, both_ways, cases_Bool, cases_lt, le-leb, not-true, eqb-true, false_from_ne_true, false≢true, leb-true, ltb-true, ne_eqb, or_cases, cases_eq, cond-true, cond-false, eq-eqb}
 use Rattle.std.proofs.lemmas.List.Sums.{prefix_len-drop_all, prefix_len-le-length}
 use Rattle.std.proofs.lemmas.Str.{IsCharBoundary-from_take, IsUtf8-drop, IsUtf8-from_ascii, chars-IsAscii, chars-append, encode_ascii, encodes-IsAscii, encodes-chars}
 use Rattle.std.proofs.lemmas.Str.Ascii.{IsAscii-cons, IsAscii-nil, lowercase_is}
@@ -11,18 +11,7 @@ use Rattle.std.specs.Str.{IsAscii, IsCharBoundary, IsUtf8, chars}
 use Rattle.data_url.specs.CodePoints.{is_token}
 use Rattle.data_url.specs.Mime.{DoesNotBegin, Every, is_token_text}
 use Rattle.data_url.specs.Steps.Parsing.{is_lower_token}
-use Rattle.data_url.specs.declared.mime.tokens.TheConstants.{LOWER_TOKENS, TOKENS}
 use Rattle.data_url.proofs.TextLemmas.{behind_begins, behind_front, front_of, front_passes}
-
--- its entries are the class
-pub token_entry : (b : ℕ) → b < 256 → get_or TOKENS b false ≡ is_token b
-unfolding is_token
-token_entry b h = agree_below_at (λ x. get_or TOKENS x false) is_token 256 b refl h
-
--- the same of the table without upper-case letters
-pub lower_entry : (b : ℕ) → b < 256 → get_or LOWER_TOKENS b false ≡ is_lower_token b
-unfolding is_token
-lower_entry b h = agree_below_at (λ x. get_or LOWER_TOKENS x false) is_lower_token 256 b refl h
 
 no_uppercase : (c : ℕ) → is_ascii_uppercase c ≡ false → to_ascii_lowercase c ≡ c
 no_uppercase c h = elim (cases_lt c 65) [

@@ -1,6 +1,6 @@
 -- Values without quotes: whether what stands before a ';' has quoted-string code points alone.
 use Rattle.std.proofs.Common.{◌≡◌, ℕ, suc, ◌+◌, ◌<◌, Bool, true, false, List, [], ◌∷◌, get_or, drop, refl, sym, ap, ◌∙◌, subst, arith, inl, inr, not, ◌++◌, ◌≤◌, length, length-append, append_assoc, encode_utf8_all}
-use Rattle.std.proofs.lemmas.Bool.{agree_below_at, and_from, and_parts, cases_Bool, cond-true, cond-false, false_from_ne_true, false≢true}
+use Rattle.std.proofs.lemmas.Bool.{and_from, and_parts, cases_Bool, cond-true, cond-false, false_from_ne_true, false≢true}
 use Rattle.std.proofs.lemmas.List.{get_or_append_left}
 use Rattle.std.proofs.lemmas.List.Folds.{list_all_at}
 use Rattle.std.proofs.lemmas.List.Sums.{prefix_len_passes, prefix_len_stops}
@@ -11,13 +11,7 @@ use Rattle.std.specs.Str.{IsUtf8, chars}
 use Rattle.data_url.specs.CodePoints.{is_http_whitespace, is_quotable, is_semicolon}
 use Rattle.data_url.specs.Mime.{Every, IsTrimmedEnd}
 use Rattle.data_url.specs.Steps.Parsing.{is_quotable_byte, is_unquoted_byte}
-use Rattle.data_url.specs.declared.mime.values.TheConstants.{UNQUOTED}
 use Rattle.data_url.proofs.ValueLemmas.{quotable_chars}
-
--- the table's entries are the class
-pub unquoted_entry : (b : ℕ) → b < 256 → get_or UNQUOTED b false ≡ is_unquoted_byte b
-unfolding is_quotable_byte
-unquoted_entry b h = agree_below_at (λ x. get_or UNQUOTED x false) is_unquoted_byte 256 b refl h
 
 no_semicolon_byte : (c : ℕ) → is_unquoted_byte c ≡ true → not (is_semicolon c) ≡ true
 no_semicolon_byte c h = (and_parts (is_quotable_byte c) (not (is_semicolon c)) h).1

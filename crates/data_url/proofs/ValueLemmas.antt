@@ -1,28 +1,23 @@
 -- Values as texts of their own.
-use Rattle.std.proofs.Common.{◌≡◌, ℕ, suc, ◌+◌, ◌/◌, ◌<◌, ◌≤◌, ◌==◌, ◌||◌, ◌&&◌, Bool, true, false, not, cond, List, [], ◌∷◌, ◌++◌, length, get_or, drop, Option, None, Some, Bor, map, encode_utf8_all, refl, sym, ap, ap₂, ◌∙◌, subst, append_assoc, append-nil, arith, inl, inr, ⊎_elim, ltb, drop-cons, drop_of_length-le}
+use Rattle.std.proofs.Common.{◌≡◌, ℕ, ◌+◌, ◌/◌, ◌<◌, ◌≤◌, ◌==◌, ◌||◌, ◌&&◌, Bool, true, false, not, cond, List, [], ◌∷◌, ◌++◌, length, Option, None, Some, Bor, map, encode_utf8_all, refl, sym, ap, ap₂, ◌∙◌, subst, append_assoc, append-nil, arith, inl, inr, ⊎_elim, ltb}
 use Rattle.std.proofs.lemmas.Bool.{agree_below_at, both_ways, cond-true, eq-eqb, ne_eqb, and_left, and_parts, cases_lt, cond-false, cond_both, eqb-true, false_from_ne_true, le-ltb, or_cases, or_parts}
 use Rattle.std.proofs.lemmas.List.Folds.{list_all-append, list_any-append}
 use Rattle.std.proofs.lemmas.Str.{IsUtf8-encode, chars-append, chars-nil, chars_past_char, cons_from_encodes, encodes-chars}
 use Rattle.std.specs.Char.{IsScalar}
 use Rattle.std.specs.Int.{is_in_range}
-use Rattle.std.specs.List.{flat_map, list_all, list_any}
+use Rattle.std.specs.List.{flat_map, list_all, list_any, prefix_len}
+use Rattle.data_url.proofs.TokenLemmas.{whole_front}
 use Rattle.std.specs.Str.{IsUtf8, all_scalars, chars}
 use lib.Utf8.{encode, next, scalar}
 use Rattle.data_url.specs.CodePoints.{is_quotable}
 use Rattle.data_url.specs.Mime.{Escaped, Plain, Quoted, QuotedOpen, QuotedUnit, unit_text, unit_value}
 use Rattle.data_url.specs.Steps.Parsing.{IsValue, is_backslash, is_quotable_byte, quotable_value}
-use Rattle.data_url.specs.declared.mime.values.TheConstants.{QUOTABLE}
 use Rattle.data_url.specs.declared.mime.values.Value.{Value}
 use Rattle.data_url.specs.declared.mime.values.Value.TheVariants as slices
 use Rattle.data_url.proofs.QuotedLemmas.{unescaped, unescaped_is}
 use Rattle.data_url.proofs.TextLemmas.{no_chars, range_high}
 
 -- The bytes of quoted-string code points
-
--- the table's entries are the class
-pub quotable_entry : (b : ℕ) → b < 256 → get_or QUOTABLE b false ≡ is_quotable_byte b
-unfolding is_quotable_byte
-quotable_entry b h = agree_below_at (λ x. get_or QUOTABLE x false) is_quotable_byte 256 b refl h
 
 quotable_below : (c : ℕ) → is_quotable c ≡ true → c < 256
 unfolding is_quotable
@@ -59,12 +54,8 @@ quotable_bytes (c ∷ cs) = list_all-append is_quotable_byte (encode c) (encode_
 pub quotable_chars : (bs : List ℕ) → IsUtf8 bs → list_all is_quotable_byte bs ≡ list_all is_quotable (chars bs)
 quotable_chars bs u = ap (list_all is_quotable_byte) (sym (encodes-chars bs u)) ∙ quotable_bytes (chars bs)
 
-pub fails_at : (bs text : List ℕ) (i : ℕ) → IsUtf8 text → bs ≡ text → i < length bs → is_quotable_byte (get_or bs i 0) ≡ false → list_all is_quotable_byte (drop i text) ≡ list_all is_quotable_byte text → false ≡ list_all is_quotable (chars text)
-fails_at bs text i u b l h e =
-    sym (sym (quotable_chars text u) ∙ sym e ∙ ap (λ s. list_all is_quotable_byte (drop i s)) (sym b) ∙ ap (list_all is_quotable_byte) (drop-cons bs i 0 l) ∙ and_left (is_quotable_byte (get_or bs i 0)) (list_all is_quotable_byte (drop (suc i) bs)) h)
-
-pub passes_to_end : (bs text : List ℕ) (i : ℕ) → IsUtf8 text → bs ≡ text → length bs ≤ i → list_all is_quotable_byte (drop i text) ≡ list_all is_quotable_byte text → true ≡ list_all is_quotable (chars text)
-passes_to_end bs text i u b l e = ap (list_all is_quotable_byte) (sym (drop_of_length-le text (subst (λ s. length s ≤ i) b l))) ∙ e ∙ quotable_chars text u
+pub quotable_by_front : (bs text : List ℕ) (n : ℕ) → IsUtf8 text → n ≡ prefix_len is_quotable_byte bs → bs ≡ text → (n == length text) ≡ list_all is_quotable (chars text)
+quotable_by_front bs text n u e b = ap (λ k. k == length text) (e ∙ ap (prefix_len is_quotable_byte) b) ∙ sym (whole_front is_quotable_byte text) ∙ quotable_chars text u
 
 -- The value of a quoted string, written code point by code point
 

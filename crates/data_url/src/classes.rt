@@ -1,3 +1,78 @@
-//! Classes of bytes.
+//! Classes of bytes, by one table.
+
+ghost use Rattle.std.specs.Prelude.{◌≡◌, ◌==◌, ◌<◌, ◌≤◌, bit_and, length, not, slice_index, ℕ};
+ghost use Rattle.std.specs.List.{prefix_len};
+ghost use Rattle.data_url.specs.Steps.Classes.{in_class};
+ghost use Rattle.data_url.specs.declared.classes.TheConstants.{CLASSES};
 
 pub(crate) mod lanes;
+
+/// A class of bytes.
+#[derive(Clone, Copy)]
+pub(crate) enum Class {
+    /// Token code points: an ASCII letter, a digit or one of fifteen marks.
+    Token,
+    /// Those without the upper-case letters.
+    LowerToken,
+    /// The bytes of the UTF-8 of quoted-string code points: U+0080 to U+00FF begin with 0xC2 or 0xC3, and every later code
+    /// point begins with a greater byte.
+    Quotable,
+    /// Those without `;`.
+    Unquoted,
+    /// The bytes of a path that are serialised as they are, and end neither it nor the header: printable ASCII and spaces,
+    /// but for `#`, `,` and `?`.
+    PlainPath,
+}
+
+/// For each byte a bit for each class that it is in.
+#[rattlefmt::skip]
+const CLASSES: [u8; 256] = [
+     0,  0,  0,  0,  0,  0,  0,  0,  0, 12,  0,  0,  0,  0,  0,  0,
+     0,  0,  0,  0,  0,  0,  0,  0,  0,  0,  0,  0,  0,  0,  0,  0,
+    28, 31, 28, 15, 31, 31, 31, 31, 28, 28, 31, 31, 12, 31, 31, 28,
+    31, 31, 31, 31, 31, 31, 31, 31, 31, 31, 28, 20, 28, 28, 28, 12,
+    28, 29, 29, 29, 29, 29, 29, 29, 29, 29, 29, 29, 29, 29, 29, 29,
+    29, 29, 29, 29, 29, 29, 29, 29, 29, 29, 29, 28, 28, 28, 31, 31,
+    31, 31, 31, 31, 31, 31, 31, 31, 31, 31, 31, 31, 31, 31, 31, 31,
+    31, 31, 31, 31, 31, 31, 31, 31, 31, 31, 31, 28, 31, 28, 31,  0,
+    12, 12, 12, 12, 12, 12, 12, 12, 12, 12, 12, 12, 12, 12, 12, 12,
+    12, 12, 12, 12, 12, 12, 12, 12, 12, 12, 12, 12, 12, 12, 12, 12,
+    12, 12, 12, 12, 12, 12, 12, 12, 12, 12, 12, 12, 12, 12, 12, 12,
+    12, 12, 12, 12, 12, 12, 12, 12, 12, 12, 12, 12, 12, 12, 12, 12,
+    12, 12, 12, 12,  0,  0,  0,  0,  0,  0,  0,  0,  0,  0,  0,  0,
+     0,  0,  0,  0,  0,  0,  0,  0,  0,  0,  0,  0,  0,  0,  0,  0,
+     0,  0,  0,  0,  0,  0,  0,  0,  0,  0,  0,  0,  0,  0,  0,  0,
+     0,  0,  0,  0,  0,  0,  0,  0,  0,  0,  0,  0,  0,  0,  0,  0,
+];
+
+/// The bit of a class in the table.
+#[inline(always)]
+fn bit(class: Class) -> u8
+    ensures { (b : ℕ) → b < 256
+        → not (bit_and (slice_index CLASSES b) result == 0) ≡ in_class class b }
+{
+    match class {
+        Class::Token => 1,
+        Class::LowerToken => 2,
+        Class::Quotable => 4,
+        Class::Unquoted => 8,
+        Class::PlainPath => 16,
+    }
+}
+
+/// Whether a byte is in a class.
+#[inline(always)]
+fn has(class: Class, byte: u8) -> bool
+    ensures { result ≡ in_class class byte }
+{
+    CLASSES[byte as usize] & bit(class) != 0
+}
+
+/// How many bytes at the front are in a class.
+#[inline(always)]
+pub(crate) fn span(class: Class, bytes: &[u8]) -> usize
+    ensures front { result ≡ prefix_len (in_class class) bytes.now }
+    ensures within { result ≤ length bytes.now }
+{
+    bytes.iter().take_while(|byte| has(class, **byte)).count()
+}

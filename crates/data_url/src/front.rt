@@ -10,47 +10,10 @@ ghost use Rattle.data_url.specs.Steps.Front.{HasNoScheme, IsHeaderAndTail, IsSch
 mod lanes;
 
 use crate::ascii::is_tab_or_newline;
+use crate::classes::{Class, span};
 use lanes::{ROW, plain_ahead};
 
 const SCHEME: [u8; 5] = *b"data:";
-
-/// The bytes of a path that are serialised as they stand: printable ASCII and spaces, but for `#`,
-/// `,` and `?`.
-#[rattlefmt::skip]
-const PLAIN_PATH: [bool; 256] = [
-    false, false, false, false, false, false, false, false,
-    false, false, false, false, false, false, false, false,
-    false, false, false, false, false, false, false, false,
-    false, false, false, false, false, false, false, false,
-    true, true, true, false, true, true, true, true,
-    true, true, true, true, false, true, true, true,
-    true, true, true, true, true, true, true, true,
-    true, true, true, true, true, true, true, false,
-    true, true, true, true, true, true, true, true,
-    true, true, true, true, true, true, true, true,
-    true, true, true, true, true, true, true, true,
-    true, true, true, true, true, true, true, true,
-    true, true, true, true, true, true, true, true,
-    true, true, true, true, true, true, true, true,
-    true, true, true, true, true, true, true, true,
-    true, true, true, true, true, true, true, false,
-    false, false, false, false, false, false, false, false,
-    false, false, false, false, false, false, false, false,
-    false, false, false, false, false, false, false, false,
-    false, false, false, false, false, false, false, false,
-    false, false, false, false, false, false, false, false,
-    false, false, false, false, false, false, false, false,
-    false, false, false, false, false, false, false, false,
-    false, false, false, false, false, false, false, false,
-    false, false, false, false, false, false, false, false,
-    false, false, false, false, false, false, false, false,
-    false, false, false, false, false, false, false, false,
-    false, false, false, false, false, false, false, false,
-    false, false, false, false, false, false, false, false,
-    false, false, false, false, false, false, false, false,
-    false, false, false, false, false, false, false, false,
-    false, false, false, false, false, false, false, false,
-];
 
 /// What follows the scheme `data:` of a trimmed text, spelled in any ASCII case, with tabs and
 /// newlines anywhere.
@@ -97,16 +60,7 @@ pub(crate) struct Front<'a> {
     pub(crate) is_plain: bool,
 }
 
-/// Whether a byte of a path is serialised as it stands, and neither ends it nor the header.
-#[inline(always)]
-#[tactic(auto, using(crate::proofs::RowLemmas::plain_entry))]
-fn is_plain_path(byte: u8) -> bool
-    ensures { result ≡ is_plain_path byte }
-{
-    PLAIN_PATH[byte as usize]
-}
-
-/// How many such bytes stand at the front.
+/// How many bytes at the front of a path are serialised as they stand, and end neither it nor the header.
 fn plain_len(bytes: &[u8]) -> usize
     ensures front { result ≡ prefix_len is_plain_path bytes.now }
     ensures within { result ≤ length bytes.now }
@@ -119,18 +73,7 @@ fn plain_len(bytes: &[u8]) -> usize
             return at;
         }
     }
-    at + last_plain_len(&bytes[at..])
-}
-
-/// The same, byte by byte.
-fn last_plain_len(bytes: &[u8]) -> usize
-    ensures front { result ≡ prefix_len is_plain_path bytes.now }
-    ensures within { result ≤ length bytes.now }
-{
-    bytes
-        .iter()
-        .take_while(|byte| is_plain_path(**byte))
-        .count()
+    at + span(Class::PlainPath, &bytes[at..])
 }
 
 /// The text cut at its first comma, unless a `#` comes before it.

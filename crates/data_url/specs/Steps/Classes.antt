@@ -1,6 +1,19 @@
 -- Classes of bytes, by tables.
-use Rattle.std.specs.Prelude.{◌+◌, ◌/◌, ◌<◌, ◌≡◌, ◌≤◌, List, bit_and, slice_index, ℕ}
+use Rattle.std.specs.Prelude.{◌+◌, ◌/◌, ◌<◌, ◌≡◌, ◌≤◌, Bool, List, bit_and, slice_index, ℕ}
+use Rattle.data_url.specs.CodePoints.{is_token}
+use Rattle.data_url.specs.Steps.Front.{is_plain_path}
+use Rattle.data_url.specs.Steps.Parsing.{is_lower_token, is_quotable_byte, is_unquoted_byte}
+use Rattle.data_url.specs.declared.classes.Class.TheVariants.{LowerToken, PlainPath, Quotable, Token, Unquoted}
+use Rattle.data_url.specs.declared.classes.Class.{Class}
 use Rattle.data_url.specs.declared.classes.lanes.TheConstants.{COLUMNS}
+
+-- the classes by their names in the code
+abbrev pub in_class : Class → ℕ → Bool
+in_class Token = is_token
+in_class LowerToken = is_lower_token
+in_class Quotable = is_quotable_byte
+in_class Unquoted = is_unquoted_byte
+in_class PlainPath = is_plain_path
 
 -- 0 only for a byte of the class, by the two halves of the byte
 abbrev pub column_mark : List ℕ → ℕ → ℕ

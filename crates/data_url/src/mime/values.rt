@@ -1,58 +1,17 @@
 //! Values of parameters, as they stand in a text and as texts of their own.
 
-ghost use Rattle.std.specs.Prelude.{◌≡◌, ◌≤◌, List, ℕ, IfOk, IsTrue, length, map};
+ghost use Rattle.std.specs.Prelude.{◌≡◌, List, ℕ, IfOk, IsTrue, map};
 ghost use Rattle.std.specs.Char.{to_ascii_lowercase};
-ghost use Rattle.std.specs.List.{list_all, list_any, prefix_len};
+ghost use Rattle.std.specs.List.{list_all, list_any};
 ghost use Rattle.std.specs.Option.{option_map};
 ghost use Rattle.std.specs.Str.{chars};
 ghost use Rattle.data_url.specs.CodePoints.{is_quotable};
 ghost use Rattle.data_url.specs.Mime.{QuotedOpen, is_token_text};
-ghost use Rattle.data_url.specs.Steps.Parsing.{IsValue, is_backslash, is_quotable_byte, is_unquoted_byte, quotable_value};
+ghost use Rattle.data_url.specs.Steps.Parsing.{IsValue, is_backslash, quotable_value};
 ghost use Rattle.data_url.specs.MimeType.{code_points};
 
+use crate::classes::{Class, span};
 use std::alloc::{AllocError, Global};
-
-/// The bytes that stand in the UTF-8 of quoted-string code points.
-#[rattlefmt::skip]
-const QUOTABLE: [bool; 256] = [
-    false, false, false, false, false, false, false, false, false, true, false, false, false, false, false, false,
-    false, false, false, false, false, false, false, false, false, false, false, false, false, false, false, false,
-    true, true, true, true, true, true, true, true, true, true, true, true, true, true, true, true,
-    true, true, true, true, true, true, true, true, true, true, true, true, true, true, true, true,
-    true, true, true, true, true, true, true, true, true, true, true, true, true, true, true, true,
-    true, true, true, true, true, true, true, true, true, true, true, true, true, true, true, true,
-    true, true, true, true, true, true, true, true, true, true, true, true, true, true, true, true,
-    true, true, true, true, true, true, true, true, true, true, true, true, true, true, true, false,
-    true, true, true, true, true, true, true, true, true, true, true, true, true, true, true, true,
-    true, true, true, true, true, true, true, true, true, true, true, true, true, true, true, true,
-    true, true, true, true, true, true, true, true, true, true, true, true, true, true, true, true,
-    true, true, true, true, true, true, true, true, true, true, true, true, true, true, true, true,
-    true, true, true, true, false, false, false, false, false, false, false, false, false, false, false, false,
-    false, false, false, false, false, false, false, false, false, false, false, false, false, false, false, false,
-    false, false, false, false, false, false, false, false, false, false, false, false, false, false, false, false,
-    false, false, false, false, false, false, false, false, false, false, false, false, false, false, false, false,
-];
-
-/// The same without `;`.
-#[rattlefmt::skip]
-const UNQUOTED: [bool; 256] = [
-    false, false, false, false, false, false, false, false, false, true, false, false, false, false, false, false,
-    false, false, false, false, false, false, false, false, false, false, false, false, false, false, false, false,
-    true, true, true, true, true, true, true, true, true, true, true, true, true, true, true, true,
-    true, true, true, true, true, true, true, true, true, true, true, false, true, true, true, true,
-    true, true, true, true, true, true, true, true, true, true, true, true, true, true, true, true,
-    true, true, true, true, true, true, true, true, true, true, true, true, true, true, true, true,
-    true, true, true, true, true, true, true, true, true, true, true, true, true, true, true, true,
-    true, true, true, true, true, true, true, true, true, true, true, true, true, true, true, false,
-    true, true, true, true, true, true, true, true, true, true, true, true, true, true, true, true,
-    true, true, true, true, true, true, true, true, true, true, true, true, true, true, true, true,
-    true, true, true, true, true, true, true, true, true, true, true, true, true, true, true, true,
-    true, true, true, true, true, true, true, true, true, true, true, true, true, true, true, true,
-    true, true, true, true, false, false, false, false, false, false, false, false, false, false, false, false,
-    false, false, false, false, false, false, false, false, false, false, false, false, false, false, false, false,
-    false, false, false, false, false, false, false, false, false, false, false, false, false, false, false, false,
-    false, false, false, false, false, false, false, false, false, false, false, false, false, false, false, false,
-];
 
 /// A value as it stands in a text.
 #[derive(Clone, Copy)]
@@ -81,45 +40,12 @@ impl<'a> Value<'a> {
     }
 }
 
-/// Whether a byte stands in the UTF-8 of quoted-string code points: U+0080 to U+00FF begin with 0xC2 or 0xC3, and every
-/// later code point begins with a greater byte.
-#[tactic(auto, using(crate::proofs::ValueLemmas::quotable_entry))]
-fn is_quotable_byte(byte: u8) -> bool
-    ensures { result ≡ is_quotable_byte byte }
-{
-    QUOTABLE[byte as usize]
-}
-
-/// Whether a byte is one of these and no `;`.
-#[tactic(auto, using(crate::proofs::UnquotedLemmas::unquoted_entry))]
-fn is_unquoted_byte(byte: u8) -> bool
-    ensures { result ≡ is_unquoted_byte byte }
-{
-    UNQUOTED[byte as usize]
-}
-
-/// The place of the first byte that is none of these, or the length.
-pub(super) fn first_other_than_unquoted(bytes: &[u8]) -> usize
-    ensures front { result ≡ prefix_len is_unquoted_byte bytes.now }
-    ensures within { result ≤ length bytes.now }
-{
-    bytes
-        .iter()
-        .take_while(|byte| is_unquoted_byte(**byte))
-        .count()
-}
-
 /// Whether a text has quoted-string code points alone. What escapes the others is one too, so a quoted string may be
 /// asked before it is unescaped.
 fn is_quotable(text: &str) -> bool
     ensures { result ≡ list_all is_quotable (chars text.now) }
 {
-    for byte in text.as_bytes() {
-        if !is_quotable_byte(*byte) {
-            return false;
-        }
-    }
-    true
+    span(Class::Quotable, text.as_bytes()) == text.len()
 }
 
 /// Whether a `\` is among the bytes.
