@@ -207,6 +207,10 @@ no_bit : (s : Bool) (m : ℕ) → cond (not s) 1 0 + 2 * m ≡ 0 → (s ≡ true
 no_bit true m e = (refl, omega (arith, e))
 no_bit false m e = absurd (omega (arith, e))
 
+pub only_symbols : (v : List ℕ) → others_mask v ≡ 0 → list_all is_symbol_or_space v ≡ true
+only_symbols [] e = refl
+only_symbols (b ∷ v) e = let p = no_bit (is_symbol b) (others_mask v) e in ap₂ (λ s t. (s || is_ascii_whitespace b) && t) p.0 (only_symbols v p.1)
+
 -- a row of symbols alone
 pub all_clear : (v : List ℕ) → others_mask v ≡ 0 → v ≡ filter is_symbol v
 all_clear [] e = refl

@@ -30,7 +30,8 @@ fn is_spaced_row(text: &[u8]) -> bool
     ensures { result ≡ true → IsTrue (list_all is_symbol_or_space (take 16 text.now)) }
 {
     let row = row(text, 0);
-    others(row) == spaces(row)
+    let others = others(row);
+    others == 0 || others == spaces(row)
 }
 
 /// Whether the first 64 bytes are symbols and white space.
