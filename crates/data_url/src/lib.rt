@@ -147,7 +147,7 @@ impl<'a> DataUrl<'a> {
     /// a base64 body that is not valid, once the bytes before its first fault were handed out.
     ///
     /// The answer may hold a reference, the fragment, behind which a caller knows nothing of what its closure captured:
-    /// `CALLING.md` shows a small function over this one for closures that keep state.
+    /// `docs/CALLING.md` shows a small function over this one for closures that keep state.
     pub fn decode_with<F, E>(
         &self,
         write_body_bytes: F,
@@ -174,7 +174,7 @@ impl<'a> DataUrl<'a> {
     /// the bytes before its first fault were handed out. The run of the closure that the contract tells of has at most
     /// one call more than there are bytes behind the comma, and none behind a refusal. That no call comes behind that
     /// run is not proved here: `decode_with` hands back the closure that its run ends with.
-    /// For a closure that keeps state, as a count or the bytes, see `CALLING.md`.
+    /// For a closure that keeps state, as a count or the bytes, see `docs/CALLING.md`.
     pub fn decode<F, E>(
         &self,
         write_body_bytes: F,
