@@ -1,4 +1,4 @@
-//! Bodies, handed to a closure piece by piece.
+//! Bodies: a closure is called with their bytes, piece by piece.
 
 ghost use Rattle.std.specs.Prelude.{◌+◌, length, true};
 ghost use Rattle.std.specs.Fn.{CalledAt};
@@ -10,7 +10,7 @@ ghost use Rattle.data_url.specs.DataUrl.{Decodes};
 use crate::escapes::{Chunk, Pieces, ROOM};
 use crate::forgiving_base64::{DecodeError, Decoder, decode_whole};
 
-/// Hands the body of a tail to a closure, and answers the place in the tail where the body ends.
+/// Calls a closure with the body of a tail that is not base64. Returns the place in the tail where the body ends.
 pub(crate) fn decode_plain<F, E>(tail: &str, write: F) -> (Result<usize, DecodeError<E>>, F)
 where
     F: FnMut(&[u8]) -> Result<(), E>,
@@ -26,7 +26,7 @@ where
     }
 }
 
-/// The same of a tail that is one slice.
+/// Calls a closure with the body of a tail that is one slice.
 fn decode_plain_slice<F, E>(tail: &str, mut write: F) -> (Result<usize, DecodeError<E>>, F)
 where
     F: FnMut(&[u8]) -> Result<(), E>,
@@ -41,7 +41,7 @@ where
     }
 }
 
-/// The same, piece by piece.
+/// Calls a closure with the body of a tail, piece by piece.
 fn decode_plain_pieces<F, E>(front: Pieces<'_>, mut write: F) -> (Result<usize, DecodeError<E>>, F)
 where
     F: FnMut(&[u8]) -> Result<(), E>,
@@ -68,7 +68,7 @@ where
     (Ok(pieces.end()), write)
 }
 
-/// Hands the base64 body of a tail to a closure, and answers the place in the tail where the body ends.
+/// Calls a closure with the bytes of the base64 body of a tail. Returns the place in the tail where the body ends.
 pub(crate) fn decode_base64<F, E>(tail: &str, write: F) -> (Result<usize, DecodeError<E>>, F)
 where
     F: FnMut(&[u8]) -> Result<(), E>,
@@ -84,7 +84,7 @@ where
     }
 }
 
-/// The same of a tail that is one slice.
+/// Calls a closure with the bytes of the base64 body of a tail that is one slice.
 fn decode_base64_slice<F, E>(tail: &str, write: F) -> (Result<usize, DecodeError<E>>, F)
 where
     F: FnMut(&[u8]) -> Result<(), E>,
@@ -100,7 +100,7 @@ where
     }
 }
 
-/// The same, piece by piece.
+/// Calls a closure with the bytes of the base64 body of a tail, piece by piece.
 fn decode_base64_pieces<F, E>(front: Pieces<'_>, write: F) -> (Result<usize, DecodeError<E>>, F)
 where
     F: FnMut(&[u8]) -> Result<(), E>,

@@ -1,5 +1,5 @@
-//! The body of a data: URL as it was given, in pieces: stretches of the text, and the values of escapes (URL Standard,
-//! section 1.3, percent-decode). The module takes no memory.
+//! The body of a data: URL as it was given, in pieces: stretches of the text, and the values of escapes (URL
+//! Standard, section 1.3, percent-decode). Nothing is allocated.
 
 ghost use Rattle.std.specs.Prelude.{◌≡◌, ◌+◌, ◌*◌, ◌≤◌, ◌++◌, [], IfNone, IfSome, IsTrue, None, false, length};
 ghost use Rattle.std.specs.Option.{option_map};
@@ -21,18 +21,18 @@ use std::marker::Model;
 /// A piece of a body.
 #[derive(Drop)]
 pub enum Piece<'a> {
-    /// Bytes of the text that stand for themselves: at least one. They end before a tab or newline, an escape, the first `#`
-    /// or the end of the text.
+    /// Bytes of the text as they are: at least one. They end before a tab or newline, an escape, the first `#`, or
+    /// the end of the text.
     Slice(&'a [u8]),
     /// The value of an escape: a `%` and two hexadecimal digits, with nothing but tabs and newlines between.
     Byte(u8),
 }
 
-/// The pieces of a body, from what stands behind the comma of a data: URL, tabs, newlines and the fragment included
+/// The pieces of a body, from the text after the comma of a data: URL, with its tabs, newlines and fragment
 /// ([URL Standard, sections 1.3 and 4.4](https://url.spec.whatwg.org/#percent-encoded-bytes)).
 ///
-/// Contracts see a walk: the text, the place in it in bytes, the bytes that the pieces from there on join to, whether it has
-/// ended, and how many bytes of the text were looked at, which is never more than three times its length.
+/// Contracts see a walk: the text, the place in it in bytes, the bytes that the pieces from there on join to, whether
+/// it has ended, and how many bytes of the text were examined, which is never more than three times its length.
 #[derive(Drop)]
 pub struct Pieces<'a> {
     cursor: Cursor<'a>,
@@ -53,14 +53,14 @@ impl<'a> Model for Pieces<'a> {
 pub(crate) enum Chunk<'a> {
     /// A stretch of the text.
     Slice(&'a [u8]),
-    /// So many bytes, gathered in a room.
+    /// Bytes gathered in a room, and how many.
     Gathered(usize),
     /// Nothing: the body has ended.
     End,
 }
 
 impl<'a> Pieces<'a> {
-    /// The pieces of a text, from its front on. The text is what stands behind the comma of a data: URL.
+    /// Returns the pieces of a text, from its first byte on. The text is what follows the comma of a data: URL.
     pub fn new(text: &'a str) -> Self
         ensures { result ≡ walk_at_front text.entry.now }
     {
@@ -69,7 +69,7 @@ impl<'a> Pieces<'a> {
         }
     }
 
-    /// The same. A text of less than a block is looked at at once.
+    /// Returns the pieces of a text. A text of less than 64 bytes is examined at once.
     pub(crate) fn looking(text: &'a str) -> Self
         ensures { IsAtFront text.entry.now result }
     {
@@ -78,7 +78,7 @@ impl<'a> Pieces<'a> {
         }
     }
 
-    /// Whether the text is known to be one slice.
+    /// Returns whether the text is known to be one slice.
     pub(crate) fn is_slice(&self) -> bool
         requires { self.now.ended ≡ false }
         ensures { IsTrue result → IsSlice self.now.text }
@@ -86,10 +86,11 @@ impl<'a> Pieces<'a> {
         self.cursor.is_unmarked()
     }
 
-    /// The next piece of the body, or None where it has ended, and from then on. The pieces until None join to the text
-    /// before its first `#`, without tabs and newlines, percent-decoded
-    /// ([URL Standard, section 1.3](https://url.spec.whatwg.org/#percent-encoded-bytes)). There are at most as many as
-    /// the text has bytes. A slice goes as far as it can.
+    /// Returns the next piece of the body. Returns None if the body has ended, and from then on.
+    ///
+    /// The pieces before None join to the text before its first `#`, without tabs and newlines, percent-decoded
+    /// ([URL Standard, section 1.3](https://url.spec.whatwg.org/#percent-encoded-bytes)). There are at most as many
+    /// as the text has bytes. A slice goes as far as it can.
     pub fn next(&mut self) -> Option<Piece<'a>>
         ensures text { self.new.text ≡ self.old.text }
         ensures bytes { self.old.rest ≡ bytes_of_next result ++ self.new.rest }
@@ -105,9 +106,9 @@ impl<'a> Pieces<'a> {
         self.cursor.next()
     }
 
-    /// What stands behind the first `#` of the text, as it was given
-    /// ([URL Standard, section 4.4, fragment state](https://url.spec.whatwg.org/#fragment-state)), or None where there
-    /// is no `#`. It may be called once `next` has answered None.
+    /// Returns the text after the first `#`, as it was given
+    /// ([URL Standard, section 4.4, fragment state](https://url.spec.whatwg.org/#fragment-state)), or None if there
+    /// is no `#`. It may be called once `next` has returned None.
     pub fn fragment(&self) -> Option<&'a str>
         requires { IsTrue self.now.ended }
         ensures { option_map (λ fragment. fragment.now) result ≡ behind 35 self.now.text }
@@ -115,8 +116,8 @@ impl<'a> Pieces<'a> {
         self.cursor.fragment()
     }
 
-    /// The next bytes: a long stretch as it is, or shorter ones and the values of escapes gathered in a room. The walk is
-    /// taken and given back, so that it can stay in registers.
+    /// Returns the next bytes: a long stretch as it is, or shorter ones and the values of escapes gathered in a room.
+    /// The walk is passed by value and returned, so that it can stay in registers.
     pub(crate) fn next_chunk(mut self, room: &mut [u8; ROOM]) -> (Pieces<'a>, Chunk<'a>)
         ensures { IsChunk self.entry room.new result.1 result.0 }
     {
@@ -134,8 +135,8 @@ impl<'a> Pieces<'a> {
         }
     }
 
-    /// The next bytes of a body that is base64, where white space means nothing: a stretch of the text with the tabs and
-    /// newlines in it, or what `next_chunk` gives.
+    /// Returns the next bytes of a body that is base64, in which white space means nothing: a stretch of the text
+    /// with its tabs and newlines, or what `next_chunk` returns.
     pub(crate) fn next_base64_chunk(mut self, room: &mut [u8; ROOM]) -> (Pieces<'a>, Chunk<'a>)
         ensures { IsBase64Chunk self.entry room.new result.1 result.0 }
     {
@@ -145,7 +146,7 @@ impl<'a> Pieces<'a> {
         }
     }
 
-    /// Whether the walk is known to be at the end of the body.
+    /// Returns whether the walk is known to be at the end of the body.
     pub(crate) fn has_ended(&self) -> bool
         ensures ended { result ≡ self.now.ended }
         ensures over { IsTrue result → self.now.rest ≡ [] }
@@ -153,7 +154,7 @@ impl<'a> Pieces<'a> {
         self.cursor.has_ended()
     }
 
-    /// The place in the text where the body ends, of a walk that has ended.
+    /// Returns the place in the text where the body ends, of a walk that has ended.
     pub(crate) fn end(&self) -> usize
         requires { IsTrue self.now.ended }
         ensures { IsBodyEnd self.now.text result }

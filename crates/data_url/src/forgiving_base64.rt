@@ -21,10 +21,13 @@ pub use whole::decode_to_vec;
 pub(crate) use whole::{decode_whole, room_for};
 
 /// Why a text is not valid base64
-/// ([Infra Standard, forgiving-base64 decode](https://infra.spec.whatwg.org/#forgiving-base64-decode)), in four kinds:
-/// an unexpected symbol, with its byte, which is neither whitespace nor `=` nor of the alphabet; an alphabet symbol
-/// after padding, that is, with a `=` somewhere before it; a lone alphabet symbol, left over behind the groups of four;
-/// and padding, where the number of `=` does not fit.
+/// ([Infra Standard, forgiving-base64 decode](https://infra.spec.whatwg.org/#forgiving-base64-decode)). There are
+/// four kinds:
+///
+/// - an unexpected symbol, with its byte, which is neither white space nor `=` nor of the alphabet;
+/// - an alphabet symbol after padding: a `=` is somewhere before it;
+/// - a lone alphabet symbol, left over after the groups of four;
+/// - padding: the number of `=` does not fit.
 ///
 /// Contracts see the kind; `Display` writes it.
 #[derive(Debug, Drop)]
@@ -35,7 +38,7 @@ pub struct InvalidBase64 {
 /// The kinds of base64 that is not valid.
 #[derive(Debug, Drop)]
 enum InvalidBase64Details {
-    /// A byte that is neither whitespace nor `=` nor of the alphabet.
+    /// A byte that is neither white space nor `=` nor a symbol of the alphabet.
     UnexpectedSymbol(u8),
     /// An alphabet symbol with a `=` somewhere before it.
     AlphabetSymbolAfterPadding,
@@ -76,8 +79,8 @@ impl fmt::Display for InvalidBase64 {
 impl Error for InvalidBase64 {}
 
 /// Why decoding ended early: the text is not valid base64
-/// ([Infra Standard, forgiving-base64 decode](https://infra.spec.whatwg.org/#forgiving-base64-decode)), or the closure
-/// that was given the bytes refused them.
+/// ([Infra Standard, forgiving-base64 decode](https://infra.spec.whatwg.org/#forgiving-base64-decode)), or the
+/// closure returned an error.
 #[derive(Debug, Drop)]
 pub enum DecodeError<E> {
     /// The text is not valid base64.
@@ -102,13 +105,13 @@ impl<E: fmt::Display> fmt::Display for DecodeError<E> {
 impl<E: Error> Error for DecodeError<E> {}
 
 /// Why a text was not decoded into a vector: it is not valid base64
-/// ([Infra Standard, forgiving-base64 decode](https://infra.spec.whatwg.org/#forgiving-base64-decode)), or memory was
-/// refused.
+/// ([Infra Standard, forgiving-base64 decode](https://infra.spec.whatwg.org/#forgiving-base64-decode)), or allocation
+/// failed.
 #[derive(Debug, Drop)]
 pub enum DecodeToVecError {
     /// The text is not valid base64.
     InvalidBase64(InvalidBase64),
-    /// Memory was refused.
+    /// Allocation failed.
     OutOfMemory,
 }
 
@@ -116,7 +119,7 @@ impl DecodeToVecError {
     ghost use Rattle.std.specs.Prelude.{◌≡◌};
     ghost use Rattle.data_url.specs.Steps.Whole.{vec_error};
 
-    /// The error of a vector that is filled by a closure: what that refuses is memory.
+    /// Returns the error of a vector that a closure fills: the closure fails if allocation does.
     pub(crate) fn of(error: DecodeError<AllocError>) -> Self
         ensures { result ≡ vec_error error }
     {

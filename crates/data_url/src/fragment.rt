@@ -5,7 +5,7 @@ ghost use Rattle.std.specs.Prelude.{◌≡◌, IfOk};
 use crate::percent::{EncodeSet, push_encoded};
 use std::alloc::{AllocError, Global};
 
-/// What stands behind the first `#` of a data: URL
+/// The text after the first `#` of a data: URL
 /// ([URL Standard, section 4.4, fragment state](https://url.spec.whatwg.org/#fragment-state)), as it was given, tabs
 /// and newlines included.
 #[derive(Drop)]
@@ -18,19 +18,19 @@ impl<'a> FragmentIdentifier<'a> {
     ghost use Rattle.data_url.specs.Url.{encoded_fragment};
     ghost use Rattle.data_url.specs.DataUrl.{fragment_text};
 
-    /// The fragment whose text is this.
+    /// Returns the fragment with this text.
     pub(crate) fn new(text: &'a str) -> Self
         ensures { fragment_text result ≡ text.entry.now }
     {
         FragmentIdentifier { text }
     }
 
-    /// The fragment as the URL parser leaves it
-    /// ([URL Standard, section 4.4, fragment state](https://url.spec.whatwg.org/#fragment-state)): tabs and newlines
-    /// go, and each byte of the fragment percent-encode set is written as `%` and two upper-case hexadecimal digits. A
-    /// `%` stays as it is. Room is taken for a text as long as the fragment was given; it grows where more is written.
+    /// Returns the fragment as the URL parser leaves it
+    /// ([URL Standard, section 4.4, fragment state](https://url.spec.whatwg.org/#fragment-state)): without tabs and
+    /// newlines, each byte of the fragment percent-encode set as `%` and two upper-case hexadecimal digits. A `%`
+    /// stays as it is. Room for a text as long as the fragment is allocated first, and grows if more is written.
     ///
-    /// The error comes where memory was refused.
+    /// Returns an error if allocation fails.
     pub fn to_percent_encoded(&self, alloc: Global) -> Result<String, AllocError>
         ensures { IfOk result (λ text.
             string_bytes text ≡ encoded_fragment (fragment_text self.now)) }

@@ -27,7 +27,7 @@ pub(crate) fn after_scheme(text: &str) -> Option<&str>
     after_respelled_scheme(text)
 }
 
-/// The same, byte by byte, of a text whose scheme is not spelled as it commonly is.
+/// Returns what follows the scheme, byte by byte, if it is not spelled as it commonly is.
 #[inline(never)]
 fn after_respelled_scheme(text: &str) -> Option<&str>
     ensures found { IfSome result (λ rest. IsSchemeAndRest text.now rest.now) }
@@ -52,15 +52,15 @@ fn after_respelled_scheme(text: &str) -> Option<&str>
 /// A text cut at its first comma.
 #[derive(Clone, Copy)]
 pub(crate) struct Front<'a> {
-    /// What stands before the comma.
+    /// The text before the comma.
     pub(crate) header: &'a str,
-    /// What stands behind it.
+    /// The text after it.
     pub(crate) tail: &'a str,
-    /// Whether the header is known to be serialised as it stands.
+    /// Whether the header is known to be serialised as it is.
     pub(crate) is_plain: bool,
 }
 
-/// How many bytes at the front of a path are serialised as they stand, and end neither it nor the header.
+/// Returns how many bytes at the front of a path are serialised as they are, and end neither it nor the header.
 fn plain_len(bytes: &[u8]) -> usize
     ensures front { result ≡ prefix_len is_plain_path bytes.now }
     ensures within { result ≤ length bytes.now }

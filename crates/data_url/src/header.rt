@@ -19,14 +19,14 @@ const SUFFIX: [u8; 6] = *b"base64";
 
 const ENCODED_SPACE: &str = "%20";
 
-/// How many bytes stand before the first `?`.
+/// Returns how many bytes come before the first `?`.
 fn path_len(header: &[u8]) -> usize
     ensures { result ≡ prefix_len is_no_question_mark header.now }
 {
     header.iter().take_while(|byte| **byte != b'?').count()
 }
 
-/// The path of a header, and behind it the query with its `?`, where there is one.
+/// Splits a header into its path and its query. The query begins with `?`, or is empty.
 fn split_query(header: &[u8]) -> (&[u8], &[u8])
     ensures { IsPathAndQuery header.now result.0.now result.1.now }
 {
@@ -85,7 +85,8 @@ fn is_suffix(bytes: &[u8]) -> bool
     bytes.eq_ignore_ascii_case(&SUFFIX)
 }
 
-/// What stands before `;`, spaces and `base64` at the end of a header, in any ASCII case, where it ends so.
+/// Returns the text before `;`, spaces and `base64` (in any ASCII case) at the end of a header, or None if it ends
+/// otherwise.
 fn without_suffix(header: &str) -> Option<&str>
     requires { IsPrintable header.now }
     ensures { as_option result ≡ before_base64 header.now }
@@ -103,7 +104,7 @@ fn without_suffix(header: &str) -> Option<&str>
     Some(&header[..semicolon])
 }
 
-/// The text of a header, serialised, unless it is known to be so as it stands.
+/// Returns the text of a header, serialised, or None if it is known to be so as it is.
 pub(crate) fn serialise(
     alloc: Global,
     header: &str,
@@ -144,7 +145,7 @@ pub(crate) fn split_suffix(header: &str) -> (&str, bool)
     }
 }
 
-/// The record of a header without its suffix: `text/plain` stands for a type that is left out.
+/// Returns the record of a header without its suffix. A type that is left out is `text/plain`.
 pub(crate) fn read_media(alloc: Global, media: &str) -> Result<Mime, AllocError>
     requires { IsPrintable media.now }
     ensures { IfOk result (λ mime. IsRecordFor (with_plain media.now) (record_of mime)) }

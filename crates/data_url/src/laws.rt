@@ -29,8 +29,8 @@ pub fn same_text(first: &Mime, second: &Mime)
         (printed (record_of first.now) ≡ printed (record_of second.now)) }
 {}
 
-/// The encoded text of a fragment, read again behind `data:,#`, is encoded to itself
-/// ([Fetch Standard, section 6](https://fetch.spec.whatwg.org/#data-url-processor), by the
+/// The encoded text of a fragment, read again after `data:,#`, is encoded to itself
+/// ([Fetch Standard, section 6](https://fetch.spec.whatwg.org/#data-url-processor), and
 /// [URL Standard, section 4.4, fragment state](https://url.spec.whatwg.org/#fragment-state)). It has U+0021 to U+007E
 /// alone, without `"`, `<`, `>` and the backquote.
 pub fn fragment_again(fragment: &str)

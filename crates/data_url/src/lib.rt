@@ -32,8 +32,8 @@ use std::alloc::{AllocError, Global};
 use std::error::Error;
 use std::fmt;
 
-/// A data: URL ([Fetch Standard, section 6](https://fetch.spec.whatwg.org/#data-url-processor)): its MIME type, and its
-/// body and fragment as slices of the text that it was read from.
+/// A data: URL ([Fetch Standard, section 6](https://fetch.spec.whatwg.org/#data-url-processor)): its MIME type, and
+/// its body and fragment as slices of the text that it was read from.
 #[derive(Drop)]
 pub struct DataUrl<'a> {
     mime_type: Mime,
@@ -41,14 +41,14 @@ pub struct DataUrl<'a> {
     tail: &'a str,
 }
 
-/// Why a text gave no data: URL ([Fetch Standard, section 6](https://fetch.spec.whatwg.org/#data-url-processor)).
+/// Why a text is not a data: URL ([Fetch Standard, section 6](https://fetch.spec.whatwg.org/#data-url-processor)).
 #[derive(Debug, Drop)]
 pub enum DataUrlError {
     /// The text does not begin with the scheme `data:` (URL Standard, section 4.4, scheme state).
     NotADataUrl,
-    /// No comma stands before the fragment (Fetch Standard, section 6).
+    /// There is no comma before the fragment (Fetch Standard, section 6).
     NoComma,
-    /// The MIME type found no memory.
+    /// Allocation failed.
     OutOfMemory,
 }
 
@@ -71,12 +71,13 @@ impl fmt::Display for DataUrlError {
 impl Error for DataUrlError {}
 
 impl<'a> DataUrl<'a> {
-    /// The data: URL of a text ([Fetch Standard, section 6](https://fetch.spec.whatwg.org/#data-url-processor), from a
-    /// text with all behind `data:` as an opaque path).
+    /// Reads a data: URL ([Fetch Standard, section 6](https://fetch.spec.whatwg.org/#data-url-processor)). Everything
+    /// after `data:` is an opaque path (URL Standard, section 4.4).
     ///
-    /// It answers `NotADataUrl` exactly where the text has no scheme `data:`, and `NoComma` exactly where it has that
-    /// scheme and no comma before its fragment; both are found before memory is asked for. `OutOfMemory` comes where the
-    /// MIME type finds no memory. A base64 body that is not valid is accepted: decoding tells the fault.
+    /// Returns `NotADataUrl` exactly if the text does not begin with the scheme `data:`, and `NoComma` exactly if it
+    /// does and there is no comma before its fragment. Neither depends on allocation. Returns `OutOfMemory` only for
+    /// other texts, if allocation fails. A URL whose base64 body is not valid is accepted: decoding its body returns
+    /// the error.
     pub fn process(alloc: Global, input: &'a str) -> Result<DataUrl<'a>, DataUrlError>
         ensures { IsProcessed input.entry.now result }
     {
@@ -100,15 +101,15 @@ impl<'a> DataUrl<'a> {
         })
     }
 
-    /// The MIME type ([Fetch Standard, section 6](https://fetch.spec.whatwg.org/#data-url-processor)): that of the
-    /// header or, where the header has none, `text/plain;charset=US-ASCII`.
+    /// Returns the MIME type ([Fetch Standard, section 6](https://fetch.spec.whatwg.org/#data-url-processor)): that
+    /// of the header or, if the header has none, `text/plain;charset=US-ASCII`.
     pub fn mime_type(&self) -> &Mime
         ensures { result.now ≡ mime_of self.now }
     {
         &self.mime_type
     }
 
-    /// Hands the body to a closure and answers the place in the tail where the body ends.
+    /// Calls a closure with the body. Returns the place in the tail where the body ends.
     fn decode_to_place<F, E>(&self, write: F) -> (Result<usize, DecodeError<E>>, F)
     where
         F: FnMut(&[u8]) -> Result<(), E>,
@@ -123,7 +124,7 @@ impl<'a> DataUrl<'a> {
         }
     }
 
-    /// The fragment of a URL whose body ends at the place.
+    /// Returns the fragment of a URL whose body ends at the place.
     fn fragment_at(&self, place: usize) -> Option<FragmentIdentifier<'a>>
         requires { IsBodyEnd (url_tail self.now) place }
         ensures { IsFragmentOf (url_tail self.now) result }
@@ -135,19 +136,20 @@ impl<'a> DataUrl<'a> {
         Some(FragmentIdentifier::new(&self.tail[place + 1..]))
     }
 
-    /// Hands the body's bytes to a closure, piece by piece, answers the fragment
-    /// ([Fetch Standard, section 6](https://fetch.spec.whatwg.org/#data-url-processor)), and hands the closure back as
-    /// its last call left it. It takes no memory, and calls the closure at most once more than there are bytes behind
-    /// the comma. The closure has to be one that may be called on any bytes, whatever it was called with before. Where
-    /// the bytes are cut is free, empty pieces included: today a long stretch of the text comes as it stands there,
-    /// shorter ones and the values of escapes in pieces of up to 256 bytes, base64 in pieces of up to 48 bytes, and no
-    /// piece is empty.
+    /// Calls a closure with the body's bytes, piece by piece. Returns the fragment
+    /// ([Fetch Standard, section 6](https://fetch.spec.whatwg.org/#data-url-processor)), and the closure as its last
+    /// call left it. Nothing is allocated.
     ///
-    /// It answers `WriteError` with the closure's error, after which there is no further call, and `InvalidBase64` for
-    /// a base64 body that is not valid, once the bytes before its first fault were handed out.
+    /// The closure has to accept any bytes, whatever it was called with before. It is called at most once more than
+    /// there are bytes after the comma. Callers must not rely on where the bytes are cut, and pieces may be empty.
+    /// Today a long stretch of the text is one piece, shorter ones and the values of escapes come in pieces of up to
+    /// 256 bytes, base64 comes in pieces of up to 48 bytes, and no piece is empty.
     ///
-    /// The answer may hold a reference, the fragment, behind which a caller knows nothing of what its closure captured:
-    /// `docs/CALLING.md` shows a small function over this one for closures that keep state.
+    /// Returns `WriteError` with the closure's error; the closure is not called again. Returns `InvalidBase64` if the
+    /// body is base64 that is not valid, after calls with the bytes before the first fault.
+    ///
+    /// The result may hold a reference, the fragment. After such a call a caller knows nothing of what its closure
+    /// captured: `docs/CALLING.md` shows a small function for closures that keep state.
     pub fn decode_with<F, E>(
         &self,
         write_body_bytes: F,
@@ -165,16 +167,18 @@ impl<'a> DataUrl<'a> {
         }
     }
 
-    /// Hands the body's bytes to a closure, piece by piece, and answers the fragment
-    /// ([Fetch Standard, section 6](https://fetch.spec.whatwg.org/#data-url-processor)). It takes no memory. The
-    /// closure has to be one that may be called on any bytes, whatever it was called with before. Where the bytes are
-    /// cut is free, as `decode_with` tells.
+    /// Calls a closure with the body's bytes, piece by piece, and returns the fragment
+    /// ([Fetch Standard, section 6](https://fetch.spec.whatwg.org/#data-url-processor)). Nothing is allocated.
     ///
-    /// It answers `WriteError` with the closure's error, and `InvalidBase64` for a base64 body that is not valid, once
-    /// the bytes before its first fault were handed out. The run of the closure that the contract tells of has at most
-    /// one call more than there are bytes behind the comma, and none behind a refusal. That no call comes behind that
-    /// run is not proved here: `decode_with` hands back the closure that its run ends with.
-    /// For a closure that keeps state, as a count or the bytes, see `docs/CALLING.md`.
+    /// The closure has to accept any bytes, whatever it was called with before. Callers must not rely on where the
+    /// bytes are cut.
+    ///
+    /// Returns `WriteError` with the closure's error. Returns `InvalidBase64` if the body is base64 that is not
+    /// valid, after calls with the bytes before the first fault.
+    ///
+    /// The contract speaks of calls of the closure, at most one more than there are bytes after the comma, and none
+    /// after an error. That there is no call after these is not proved here: `decode_with` returns the closure that
+    /// its calls end with. For a closure that keeps state, such as a count or the bytes, see `docs/CALLING.md`.
     pub fn decode<F, E>(
         &self,
         write_body_bytes: F,
@@ -189,12 +193,12 @@ impl<'a> DataUrl<'a> {
         self.decode_with(write_body_bytes).0
     }
 
-    /// The body's bytes and the fragment
-    /// ([Fetch Standard, section 6](https://fetch.spec.whatwg.org/#data-url-processor)). Room for the bytes is taken
-    /// once, by the length of what stands behind the comma, and the vector grows by the pieces of `decode`.
+    /// Returns the body's bytes and the fragment
+    /// ([Fetch Standard, section 6](https://fetch.spec.whatwg.org/#data-url-processor)). Room for as many bytes as
+    /// there are after the comma is allocated once.
     ///
-    /// The error is `InvalidBase64` for a base64 body that is not valid, with the reason of its first fault, and
-    /// `OutOfMemory` where memory was refused.
+    /// Returns `InvalidBase64` with the first fault if the body is base64 that is not valid, and `OutOfMemory` if
+    /// allocation fails.
     pub fn decode_to_vec(
         &self,
         alloc: Global,

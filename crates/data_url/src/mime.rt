@@ -17,7 +17,7 @@ use std::alloc::{AllocError, Global};
 use std::error::Error;
 use std::fmt;
 
-/// A MIME type record: a type, a subtype and parameters in order. Nothing checks what stands in it.
+/// A MIME type record: a type, a subtype and parameters in order. Its fields may have any text.
 ///
 /// Contracts see a record as three lists of code points, `record_of` of it.
 #[derive(Debug, Drop)]
@@ -30,7 +30,7 @@ pub struct Mime {
     pub parameters: Vec<(String, String)>,
 }
 
-/// Records are equal exactly if their texts are, byte for byte, and their parameters stand in the same order.
+/// Records are equal exactly if their texts are, byte for byte, and their parameters are in the same order.
 impl PartialEq for Mime {
     ghost use Rattle.std.specs.Cmp.{partial_equiv_from_equiv};
     ghost use Rattle.data_url.specs.MimeType.{SameTexts, same_texts, same_texts_equiv};
@@ -55,9 +55,10 @@ impl Eq for Mime {
     ghost laws = { same_texts_equiv };
 }
 
-/// Writes a record ([MIME Sniffing Standard, section 4.5](https://mimesniff.spec.whatwg.org/#serializing-a-mime-type)),
-/// valid or not: a value that is empty or has a code point that is no token code point stands in quotes, with a `\`
-/// before each `"` and each `\`.
+/// Writes a record
+/// ([MIME Sniffing Standard, section 4.5](https://mimesniff.spec.whatwg.org/#serializing-a-mime-type)), valid or not.
+/// A value that is empty, or has a code point that is not a token code point, is in quotes, with a `\` before each
+/// `"` and each `\`.
 impl fmt::Display for Mime {
     ghost use Rattle.std.specs.Str.{encode_utf8_all};
     ghost use Rattle.data_url.specs.Mime.{printed};
@@ -79,7 +80,7 @@ impl fmt::Display for Mime {
     }
 }
 
-/// The text is no MIME type
+/// The text is not a MIME type
 /// ([MIME Sniffing Standard, section 4.4](https://mimesniff.spec.whatwg.org/#parsing-a-mime-type)).
 #[derive(Debug, Drop)]
 pub struct MimeParsingError(());
@@ -100,9 +101,10 @@ impl Error for MimeParsingError {}
 /// ([MIME Sniffing Standard, section 4.4](https://mimesniff.spec.whatwg.org/#parsing-a-mime-type)).
 #[derive(Debug, Drop)]
 pub enum MimeFromStrError {
-    /// The text is no MIME type.
+    /// The text is not a MIME type
+    /// ([MIME Sniffing Standard, section 4.4](https://mimesniff.spec.whatwg.org/#parsing-a-mime-type)).
     Parsing(MimeParsingError),
-    /// The record found no memory.
+    /// Allocation failed.
     OutOfMemory,
 }
 
@@ -130,8 +132,9 @@ impl Mime {
     ghost use Rattle.data_url.specs.Errors.{IsParsingError};
     ghost use Rattle.data_url.specs.MimeType.{SameTexts, as_option, record_of, value_of_name};
 
-    /// The record of a type and a subtype as they are given, with no parameters. It takes memory for the two texts, and
-    /// the error comes where memory was refused.
+    /// Returns the record of a type and a subtype as they are given, with no parameters. Allocates the two texts.
+    ///
+    /// Returns an error if allocation fails.
     pub fn new(alloc: Global, type_: &str, subtype: &str) -> Result<Mime, AllocError>
         ensures type_ { IfOk result (λ mime. string_bytes mime.type_ ≡ type_.now) }
         ensures subtype { IfOk result (λ mime. string_bytes mime.subtype ≡ subtype.now) }
@@ -144,7 +147,8 @@ impl Mime {
         })
     }
 
-    /// A record of the same texts, byte for byte, on this record's own allocator. The error comes where memory was refused.
+    /// Returns a record of the same texts, byte for byte, on this record's own allocator. Returns an error if
+    /// allocation fails.
     pub fn clone(&self) -> Result<Mime, AllocError>
         ensures texts { IfOk result (λ copy. SameTexts copy self.now) }
         ensures seen { IfOk result (λ copy. record_of copy ≡ record_of self.now) }
@@ -156,14 +160,14 @@ impl Mime {
         })
     }
 
-    /// The record of a text
+    /// Parses a MIME type
     /// ([MIME Sniffing Standard, section 4.4](https://mimesniff.spec.whatwg.org/#parsing-a-mime-type)).
     ///
-    /// It answers `Parsing` exactly where the text is no MIME type, which it finds before it asks for memory, and
-    /// `OutOfMemory` where the text is one and its record finds no memory.
+    /// Returns `Parsing` exactly if the text is not a MIME type, before anything is allocated. Returns `OutOfMemory`
+    /// only for a text that is one, if allocation fails.
     ///
-    /// Not proved: it takes time in proportion to the length of the text, times the logarithm of the
-    /// number of names that are kept, and memory in proportion to the text.
+    /// Not proved: the time is in proportion to the length of the text, times the logarithm of the number of names
+    /// that are kept, and the memory in proportion to the text.
     pub fn from_str(alloc: Global, s: &str) -> Result<Mime, MimeFromStrError>
         ensures parsed { IfOk result (λ mime. Parses (chars s.now) (record_of mime)) }
         ensures wellformed { IfOk result (λ mime. IsWellformed (record_of mime)) }
@@ -178,7 +182,7 @@ impl Mime {
         }
     }
 
-    /// Whether type and subtype are exactly these texts, whatever the parameters are.
+    /// Returns whether type and subtype are exactly these texts, whatever the parameters are.
     pub fn matches(&self, type_: &str, subtype: &str) -> bool
         ensures { IsTrue result
             ↔ ((string_bytes self.now.type_ ≡ type_.now)
@@ -187,7 +191,7 @@ impl Mime {
         self.type_.as_str() == type_ && self.subtype.as_str() == subtype
     }
 
-    /// The value of the first parameter whose name is exactly this text.
+    /// Returns the value of the first parameter whose name is exactly this text, or None if there is none.
     pub fn get_parameter(&self, name: &str) -> Option<&str>
         ensures { as_option result ≡ value_of_name name.now self.now.parameters.items }
     {

@@ -50,7 +50,7 @@ fn put(room: &mut [u8; ROOM], at: usize, row: &[u8])
 }
 
 /// Writes a part to the front of the room, without its tabs and newlines and percent-encoded, and
-/// answers how many bytes that takes.
+/// returns how many bytes that takes.
 #[inline(always)]
 fn encode_part(set: EncodeSet, part: &[u8], room: &mut [u8; ROOM]) -> usize
     requires { length part.now ≤ 64 }

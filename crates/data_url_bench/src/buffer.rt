@@ -1,6 +1,6 @@
 //! A buffer that pieces are appended to.
 
-/// Room for bytes, and how many stand there.
+/// Room for bytes, and how many there are.
 #[derive(Drop)]
 pub(crate) struct Buffer<'a> {
     room: &'a mut [u8],

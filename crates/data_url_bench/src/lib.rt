@@ -1,8 +1,8 @@
 //! The public calls of `data_url`, each whole, for a driver outside of Rattle that times them (`bench` at the top of the
 //! repository).
 //!
-//! Each export answers how many bytes the call gave, or `REFUSED`, and shows them in `out` as far as they fit there: a driver
-//! that compares gives room, and one that times gives none, so that nothing is copied. Where the call hands its bytes to a
+//! Each export returns how many bytes the call gave, or `REFUSED`, and shows them in `out` as far as they fit there: a driver
+//! that compares gives room, and one that times gives none, so that nothing is copied. Where the call passes its bytes to a
 //! closure, `out` is where the closure puts them.
 #![tactic(auto)]
 
@@ -17,10 +17,10 @@ use data_url::forgiving_base64::{Decoder, decode_to_vec};
 use data_url::mime::Mime;
 use std::alloc::Global;
 
-/// The answer for a call that was refused.
+/// The answer for a call that failed.
 const REFUSED: usize = usize::MAX;
 
-/// Shows bytes as far as there is room, and answers how many they are.
+/// Shows bytes as far as there is room, and returns how many they are.
 fn show(bytes: &[u8], out: &mut [u8]) -> usize
     ensures { result ≡ length bytes.now }
 {

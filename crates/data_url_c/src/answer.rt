@@ -13,7 +13,7 @@ pub(crate) const DONE: u32 = 0;
 /// The text has no scheme `data:`.
 const NOT_A_DATA_URL: u32 = 1;
 
-/// No comma stands before the fragment.
+/// There is no comma before the fragment.
 const NO_COMMA: u32 = 2;
 
 /// Memory was refused.
@@ -31,7 +31,7 @@ const NOT_A_MIME_TYPE: u32 = 6;
 /// The URL has no fragment.
 const NO_FRAGMENT: u32 = 7;
 
-/// What every export answers.
+/// What every export returns.
 #[repr(C)]
 #[derive(Clone, Copy)]
 pub struct DataUrlAnswer {
@@ -63,7 +63,8 @@ fn tell(status: u32) -> DataUrlAnswer
     DataUrlAnswer { status, len: 0 }
 }
 
-/// The answer of a call that gave bytes or was refused. Where the kind of a fault cannot be read, that memory was refused.
+/// Returns the answer of a call that gave bytes or failed. If the kind of a fault cannot be read, the status is that of
+/// failed allocation.
 pub(crate) fn answer(given: Result<Vec<u8>, Refusal>, out: &mut [u8]) -> DataUrlAnswer
     ensures { CrossesOrNot given out.old out.new result }
 {

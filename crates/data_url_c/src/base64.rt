@@ -8,7 +8,7 @@ use crate::refusal::Refusal;
 use data_url::forgiving_base64::{DecodeError, Decoder};
 use std::alloc::{AllocError, Global};
 
-/// Hands the bytes of a text to a closure, and the closure back.
+/// Calls a closure with the bytes of a text. Returns the closure as well.
 fn decode_text<F, E>(text: &[u8], answer: &mut Result<(), DecodeError<E>>, write: F) -> F
 where
     F: FnMut(&[u8]) -> Result<(), E>,
@@ -30,7 +30,7 @@ where
     }
 }
 
-/// The bytes that a text of base64 stands for, or its fault with the bytes before it.
+/// Decodes a text of base64. If it is not valid, returns the fault and the bytes before it.
 pub(crate) fn base64(alloc: Global, text: &[u8]) -> Result<Vec<u8>, Refusal>
     ensures { GivesBase64 text.now result }
 {

@@ -1,4 +1,4 @@
-//! Why base64 is not valid, read from the text of the library's error, which tells its kind in no other way.
+//! Why base64 is not valid, read from the text of the library's error, the only place that has its kind.
 
 ghost use Rattle.std.specs.Prelude.{◌≡◌, ◌<◌, IfSome, length, ℕ};
 ghost use Rattle.data_url.specs.Base64.{Kind, UnexpectedSymbol, kind_text};

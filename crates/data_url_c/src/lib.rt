@@ -2,23 +2,23 @@
 //! output that the caller owns. `bindings/c/data_url.h` declares them.
 //!
 //! A slice crosses as a pointer, which is not null, and a length; `Global` crosses as nothing. No call asks anything more of
-//! its bytes: any bytes may come. Each answers a status and a length:
+//! its bytes: any bytes may come. Each returns a status and a length:
 //!
 //! | Status | Meaning | Length |
 //! |---|---|---|
-//! | 0 | done | of the answer, which stands at the front of the output |
+//! | 0 | done | of the answer, which is at the front of the output |
 //! | 1 | no scheme `data:` | 0 |
 //! | 2 | no comma before the fragment | 0 |
-//! | 3 | memory was refused | 0 |
+//! | 3 | allocation failed | 0 |
 //! | 4 | the text is not UTF-8 | 0 |
 //! | 5 | the output is too small, and as it was | that is needed |
 //! | 6 | no MIME type | 0 |
 //! | 7 | the URL has no fragment | 0 |
-//! | 8, 9, 10, 256 and a byte | base64 with padding that does not fit, a lone symbol, a symbol behind padding, an unexpected byte | of what stands before the fault, at the front of the output |
+//! | 8, 9, 10, 256 and a byte | base64 with padding that does not fit, a lone symbol, a symbol after padding, an unexpected byte | of what comes before the fault, at the front of the output |
 //! | 11 | the body goes on (`dataurl_body_next`) | of the part that was decoded |
 //! | 12 | a state that no call left | 0 |
 //!
-//! What stands in the output behind the bytes of an answer is as it was; where the length is 0, all of it.
+//! The output after the bytes of an answer is as it was; if the length is 0, all of it.
 #![tactic(auto)]
 
 ghost use Rattle.std.specs.Prelude.{IsUtf8};
@@ -99,7 +99,7 @@ pub extern "C" fn dataurl_type(alloc: Global, text: &[u8], out: &mut [u8]) -> Da
     answer(texts::type_(alloc, text), out)
 }
 
-/// The bytes that base64 stands for
+/// Decodes base64
 /// ([Infra Standard, forgiving-base64 decode](https://infra.spec.whatwg.org/#forgiving-base64-decode)). Of base64 that is
 /// not valid the output has the bytes before the first fault. The text may be any bytes.
 #[unsafe(no_mangle)]

@@ -124,7 +124,7 @@ where
     decoder.feed(text)
 }
 
-/// Hands the bytes of the groups that what waits and then a text complete to a closure, up to the first fault.
+/// Calls a closure with the bytes of the groups that a text completes after what waits, up to the first fault.
 fn feed_into<F>(
     state: &DataUrlBase64,
     text: &[u8],
@@ -340,7 +340,7 @@ pub(crate) struct Last {
     pub(crate) len: usize,
 }
 
-/// Ends the text of what waits, and hands the closure back.
+/// Ends the text of what waits. Returns the closure as well.
 fn finish_after<F, E>(state: &DataUrlBase64, answer: &mut Result<(), DecodeError<E>>, write: F) -> F
 where
     F: FnMut(&[u8]) -> Result<(), E>,

@@ -7,7 +7,7 @@ use data_url::forgiving_base64::InvalidBase64;
 pub enum Refusal {
     /// The text does not begin with the scheme `data:`.
     NotADataUrl,
-    /// No comma stands before the fragment.
+    /// There is no comma before the fragment.
     NoComma,
     /// Memory was refused.
     OutOfMemory,
@@ -17,6 +17,6 @@ pub enum Refusal {
     NotAMimeType,
     /// The URL has no fragment.
     NoFragment,
-    /// The base64 is not valid; with the bytes that it stands for before its first fault, where the call shows them.
+    /// The base64 is not valid; with the bytes before its first fault, if the call shows them.
     InvalidBase64(InvalidBase64, Vec<u8>),
 }

@@ -44,7 +44,7 @@ fn url_of_bytes<'a>(alloc: Global, bytes: &'a [u8]) -> Result<DataUrl<'a>, Refus
     }
 }
 
-/// Hands the body of a URL to a closure, and the closure back. The fragment is let go.
+/// Calls a closure with the body of a URL. Returns the closure as well. The fragment is dropped.
 pub(crate) fn decode_body<F, E>(
     url: &DataUrl,
     answer: &mut Result<(), DecodeError<E>>,

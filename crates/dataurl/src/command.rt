@@ -14,11 +14,11 @@ pub enum Command {
     Fragment,
     /// `type`: writes a MIME type as it is printed, and a line feed.
     Canonical,
-    /// `base64`: writes what forgiving base64 stands for.
+    /// `base64`: writes the bytes of forgiving base64.
     Base64,
 }
 
-/// The command of the words behind the program's name: there has to be exactly one, and it has to be `body`, `mime`,
+/// Returns the command of the words after the program's name: there has to be exactly one, and it has to be `body`, `mime`,
 /// `fragment`, `type` or `base64`, letter for letter. Any other list of words has none.
 pub fn command_of(words: &[String]) -> Option<Command>
     ensures { result ≡ command_of_words (map string_bytes words.now) }

@@ -13,7 +13,7 @@ pub enum Fault {
     /// The input does not begin with the scheme `data:`.
     #[error("not a valid data url")]
     NotADataUrl,
-    /// No comma stands before the input's fragment.
+    /// There is no comma before the input's fragment.
     #[error("data url is missing comma delimiting attributes and body")]
     NoComma,
     /// The base64 of the input is not valid.
@@ -53,8 +53,8 @@ impl Fault {
     }
 }
 
-/// Writes the line of a fault and answers the exit status: 1 for what is wrong with the input, 3 where memory was refused or
-/// a read or a write failed. It takes no memory, and a failed write is passed over: there is nobody left to tell.
+/// Writes the line of a fault and returns the exit status: 1 if the input is not valid, 3 if allocation, a read or a write
+/// failed. Nothing is allocated. If this write fails too, that is ignored.
 pub fn report<W: Write>(fault: &Fault, writer: &mut W) -> u8
     ensures { result ≡ status_of fault.now }
 {
@@ -62,7 +62,7 @@ pub fn report<W: Write>(fault: &Fault, writer: &mut W) -> u8
     fault.status()
 }
 
-/// Writes the line on how to call the program and answers the exit status 2. It takes no memory, and a failed write is
+/// Writes the line on how to call the program and returns the exit status 2. Nothing is allocated, and a failed write is
 /// passed over.
 pub fn usage<W: Write>(writer: &mut W) -> u8
     ensures { result ≡ 2 }

@@ -33,7 +33,7 @@ impl Gathered {
         }
     }
 
-    /// Gathers a piece that fits behind what waits.
+    /// Gathers a piece that fits after what waits.
     fn push(&mut self, piece: &[u8])
         requires { self.old.len + length piece.now ≤ 4096 }
         ensures { waiting_bytes self.new ≡ waiting_bytes self.old ++ piece.now }
@@ -74,7 +74,7 @@ impl Gathered {
         }
     }
 
-    /// Writes what waits, and then answers the end.
+    /// Writes what waits, and then returns the end.
     pub(crate) fn flush_before<W: Write>(
         &mut self,
         end: Result<(), Fault>,
@@ -89,7 +89,7 @@ impl Gathered {
         }
     }
 
-    /// Ends an output that was decoded with this answer: what waits is written first, and behind a failed write nothing is.
+    /// Ends an output that was decoded with this answer: what waits is written first, and nothing after a failed write.
     pub(crate) fn settle<W: Write>(
         &mut self,
         answer: Result<(), DecodeError<WriteFailed>>,

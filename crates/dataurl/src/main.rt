@@ -18,7 +18,7 @@ use program::execute;
 use std::env;
 use std::process::ExitCode;
 
-/// The words behind the program's name. Whatever keeps them from being read, want of memory too, is answered by `Read`.
+/// Returns the words after the program's name, or `Read` if they cannot be read, even if allocation failed.
 fn arguments(rt: &HostRuntime) -> Result<Vec<String>, Fault> {
     let Ok(all) = env::args(rt) else {
         return Err(Fault::Read);

@@ -8,7 +8,7 @@ use crate::run::run;
 use std::alloc::Global;
 use std::io::{Read, Write};
 
-/// Runs the command of the words behind the program's name, and answers the exit status: 0 where all was done, 1 for
+/// Runs the command of the words after the program's name, and returns the exit status: 0 where all was done, 1 for
 /// what is wrong with the input, 2 where the words are not exactly one that names a command, and 3 where the machine
 /// failed, the words themselves among it. Only where a command runs is anything read or written; each other end has one
 /// line on `errors`.

@@ -35,7 +35,7 @@ fn url_of<'a>(alloc: Global, text: &'a str) -> Result<DataUrl<'a>, Fault>
     }
 }
 
-/// Hands the body of a URL to a closure, and the closure back. The fragment is let go.
+/// Calls a closure with the body of a URL. Returns the closure as well. The fragment is dropped.
 fn hand_out<F, E>(url: &DataUrl, answer: &mut Result<(), DecodeError<E>>, write: F) -> F
 where
     F: FnMut(&[u8]) -> Result<(), E>,
@@ -186,10 +186,10 @@ fn write_text<W: Write>(
 /// `NotADataUrl` and `NoComma` exactly where the Fetch Standard finds no scheme or no comma (section 6); `Mime` exactly
 /// where `type` is given a text that is no MIME type
 /// ([MIME Sniffing Standard, section 4.4](https://mimesniff.spec.whatwg.org/#parsing-a-mime-type)); `Base64` for a
-/// fault of the base64, before which `body` and `base64` have written what stands before it. Before the others nothing
+/// fault of the base64, before which `body` and `base64` have written what comes before it. Before the others nothing
 /// was written.
 ///
-/// `Memory` comes where memory was refused, before anything was written; `Read` where a read failed or the reader had no end
+/// `Memory` if allocation failed, before anything was written; `Read` where a read failed or the reader had no end
 /// after 2^64 - 1 reads, when nothing was written but by `base64`, which has written the complete groups that were read;
 /// and `Write` where a write failed or took nothing, when a beginning of the output was written and not all. No failed
 /// read or write is tried again.

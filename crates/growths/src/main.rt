@@ -1,5 +1,5 @@
-//! Makes one public call of the library, named by the first line of standard input, on the text behind it, and writes what it
-//! answers. It takes no memory of its own, so that a check can refuse each growth of the call in turn.
+//! Makes one public call of the library, named by the first line of standard input, on the text after it, and writes what it
+//! returns. It allocates nothing itself, so that a check can make each allocation of the call fail in turn.
 #![tactic(auto)]
 
 use data_url::DataUrl;
@@ -19,7 +19,7 @@ fn write_line<W: Write, D: Display>(out: &mut W, value: &D) -> io::Result<()> {
     writeln!(out, "{value}")
 }
 
-/// The line of a call to which memory was refused, and which has no error of its own.
+/// The line of a call whose allocation failed, and which has no error of its own.
 const OUT_OF_MEMORY: &str = "out of memory";
 
 /// `process`: the record of a URL.

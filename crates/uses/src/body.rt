@@ -11,12 +11,12 @@ use data_url::forgiving_base64::{DecodeError, DecodeToVecError, InvalidBase64};
 use std::alloc::AllocError;
 use std::convert::Infallible;
 
-/// Hands the body of a URL to a closure, piece by piece, and hands the closure back as its last call left it. It takes no
-/// memory, and lets the fragment go. The answer stands in a place of its own, whatever stood there before, so that a caller
-/// still knows, by the answer's cases, what its closure captured.
+/// Calls a closure with the body of a URL, piece by piece, and returns the closure as its last call left it. Nothing is
+/// allocated, and the fragment is dropped. The result of decoding is written to a place of its own, so that a caller still
+/// knows, by its cases, what its closure captured.
 ///
-/// The answer is `WriteError` with the closure's error, after which there is no further call, and `InvalidBase64` for a
-/// base64 body that is not valid, once the bytes before its first fault were handed out.
+/// It is `WriteError` with the closure's error, which is not called again, and `InvalidBase64` for a base64 body that is not
+/// valid, after calls with the bytes before its first fault.
 pub fn decode_body<F, E>(url: &DataUrl, answer: &mut Result<(), DecodeError<E>>, write: F) -> F
 where
     F: FnMut(&[u8]) -> Result<(), E>,
@@ -52,10 +52,10 @@ pub fn body_len(url: &DataUrl) -> Result<usize, InvalidBase64>
     }
 }
 
-/// Puts the body of a URL behind the bytes of a vector.
+/// Appends the body of a URL to a vector.
 ///
-/// The error is `InvalidBase64` for a base64 body that is not valid, once the bytes before its first fault were put there,
-/// and `OutOfMemory` where memory was refused, with a beginning of the body there.
+/// Returns `InvalidBase64` if the body is base64 that is not valid, after the bytes before its first fault were appended,
+/// and `OutOfMemory` if allocation fails, after a beginning of the body was appended.
 pub fn append_body(url: &DataUrl, bytes: &mut Vec<u8>) -> Result<(), DecodeToVecError>
     ensures { Appends (url_body url.now) bytes.old.items bytes.new.items result }
 {

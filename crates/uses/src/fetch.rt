@@ -1,4 +1,4 @@
-//! A fetch layer (Fetch Standard, scheme fetch of `data`): the response that a data: URL stands for.
+//! A fetch layer (Fetch Standard, scheme fetch of `data`): the response to a data: URL.
 
 ghost use Rattle.uses.specs.Fetches.{Fetches, HasLength};
 ghost use Rattle.uses.specs.Steps.{Opens};
@@ -24,7 +24,7 @@ pub struct Response {
 pub enum Reason {
     /// The text has no scheme `data:`.
     NotADataUrl,
-    /// No comma stands before the fragment.
+    /// There is no comma before the fragment.
     NoComma,
     /// The body is base64 that is not valid.
     InvalidBase64(InvalidBase64),
@@ -33,9 +33,9 @@ pub enum Reason {
 /// Why there is no response.
 #[derive(Debug, Drop)]
 pub enum FetchError {
-    /// The Standard answers a network error.
+    /// The Standard returns a network error.
     Network(Reason),
-    /// The response found no memory.
+    /// Allocation failed.
     OutOfMemory,
 }
 
@@ -54,8 +54,8 @@ fn open<'a>(alloc: Global, text: &'a str) -> Result<DataUrl<'a>, FetchError>
 /// The response to a request for a data: URL (Fetch Standard, section 6, and scheme fetch): status 200, the printed MIME
 /// type and the whole body.
 ///
-/// The error is `Network`, with the reason, where the Standard answers a network error, and then alone; a base64 body that is not valid
-/// fails as a whole. `OutOfMemory` comes where memory was refused, of a text with a scheme and a comma.
+/// Returns `Network` with the reason exactly if the Standard returns a network error; a base64 body that is not valid fails
+/// as a whole. Returns `OutOfMemory` if allocation fails, for a text with a scheme and a comma.
 pub fn fetch(alloc: Global, text: &str) -> Result<Response, FetchError>
     ensures { Fetches text.now result }
 {

@@ -1,6 +1,6 @@
 //! A page inliner: the data: references of a page, each with its type and bytes.
 //!
-//! A reference is what stands in double quotes behind `=` and begins with `data:`, as in `<img src="data:,x">`.
+//! A reference is in double quotes after `=` and begins with `data:`, as in `<img src="data:,x">`.
 
 ghost use Rattle.std.specs.Prelude.{◌≡◌, IfOk};
 ghost use Rattle.std.specs.List.{flat_map};
@@ -13,9 +13,9 @@ use std::alloc::{AllocError, Global};
 /// A part of a page.
 #[derive(Drop)]
 pub enum Part<'a> {
-    /// Text as it stands, up to the next reference or the end of the page. It may be empty.
+    /// Text as it is, up to the next reference or the end of the page. It may be empty.
     Text(&'a str),
-    /// A reference, and the resource that it stands for.
+    /// A reference, and its resource.
     Inlined(&'a str, Response),
     /// A reference that was refused, and why.
     Refused(&'a str, Reason),
@@ -36,7 +36,7 @@ fn next_reference<'a>(page: &'a str) -> Option<(&'a str, &'a str, &'a str)>
     Some((before, reference, behind))
 }
 
-/// The part of a reference. The error comes where memory was refused.
+/// Returns the part of a reference, or an error if allocation fails.
 fn part_of<'a>(alloc: Global, reference: &'a str) -> Result<Part<'a>, AllocError>
     ensures { IfOk result (λ part. Inlines reference.entry.now part) }
 {
@@ -47,10 +47,10 @@ fn part_of<'a>(alloc: Global, reference: &'a str) -> Result<Part<'a>, AllocError
     }
 }
 
-/// The parts of a page, in order: text, and references with the resources that they stand for. A reference that is
-/// refused stays as it stands, with the reason. The texts of the parts join to the page.
+/// The parts of a page, in order: text, and references with their resources. A reference that is
+/// refused stays as it is, with the reason. The texts of the parts join to the page.
 ///
-/// The error comes where memory was refused.
+/// Returns an error if allocation fails.
 pub fn inline<'a>(alloc: Global, page: &'a str) -> Result<Vec<Part<'a>>, AllocError>
     ensures parts { IfOk result (λ parts. IsPage page.entry.now parts.items) }
     ensures joined { IfOk result (λ parts. flat_map source_of parts.items ≡ page.entry.now) }

@@ -16,9 +16,9 @@ use std::io::Write;
 pub enum LoadError {
     /// The text has no scheme `data:`.
     NotADataUrl,
-    /// No comma stands before the fragment.
+    /// There is no comma before the fragment.
     NoComma,
-    /// The body is base64 that is not valid; what stands before its first fault was written.
+    /// The body is base64 that is not valid; what comes before its first fault was written.
     InvalidBase64(InvalidBase64),
     /// The body has more bytes than the limit; a beginning of it was written.
     OverLimit,
@@ -84,10 +84,10 @@ fn stream_body<W: Write>(url: &DataUrl, limit: usize, sink: &mut W) -> Result<()
     }
 }
 
-/// Loads the resource of a data: URL: writes its body to a sink, at most `limit` bytes, and answers its type. But for the
+/// Loads the resource of a data: URL: writes its body to a sink, at most `limit` bytes, and returns its type. But for the
 /// type it takes no memory.
 ///
-/// Each refusal is told apart by `LoadError`, and what was written is then a beginning of the body.
+/// `LoadError` says why it failed, and what was written is then a beginning of the body.
 pub fn load<W: Write>(
     alloc: Global,
     text: &str,

@@ -12,7 +12,7 @@ fn is_essence(accepted: &Mime, type_: &str, subtype: &str) -> bool
     accepted.parameters.is_empty() && accepted.matches(type_, subtype)
 }
 
-/// How well an accepted type stands for a record: 4 where it is the same with its parameters, 3 where it has no parameters
+/// Returns how well an accepted type fits a record: 4 where it is the same with its parameters, 3 where it has no parameters
 /// and is the same type and subtype, 2 where it is `type/*`, 1 where it is `*/*`, and 0 where it does not.
 fn rank_of(accepted: &Mime, mime: &Mime) -> u8
     ensures { result ≡ rank_for mime.now accepted.now }
@@ -32,9 +32,9 @@ fn rank_of(accepted: &Mime, mime: &Mime) -> u8
 
 /// The place of the best accepted type for a record: the first of the highest rank. The same type with the same parameters,
 /// in the same order, comes first, then the same type and subtype without parameters, then `type/*`, then `*/*`. An accepted
-/// type with parameters stands for that very type alone; a parameter `q` is one like any other.
+/// type with parameters fits that very type alone; a parameter `q` is one like any other.
 ///
-/// It is None where no accepted type stands for the record.
+/// Returns None if no accepted type fits the record.
 pub fn best(accepted: &[Mime], mime: &Mime) -> Option<usize>
     ensures { IsBest (map (rank_for mime.now) accepted.now) result }
 {

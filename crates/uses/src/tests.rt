@@ -14,7 +14,7 @@ use std::io::{self, Write};
 use std::process::Abort;
 use std::test::Fail;
 
-/// A sink that has room for so many bytes, takes one at a time, and then fails.
+/// A sink that has room for a number of bytes, takes one at a time, and then fails.
 #[derive(Drop)]
 struct FailingSink {
     taken: Vec<u8>,

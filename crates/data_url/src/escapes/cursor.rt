@@ -27,19 +27,19 @@ pub(super) enum Ahead {
     Unknown,
     /// An escape ends there, so the next one is tried at once.
     BehindEscape,
-    /// An escape begins there: its value, and the place behind it.
+    /// An escape begins there: its value, and the place after it.
     Escape(u8, usize),
     /// The body ends there.
     End,
 }
 
-/// What stands at a marked byte.
+/// What begins at a marked byte.
 pub(super) enum Stop {
     /// A `%` that begins no escape.
     Stays,
     /// A tab or a newline.
     Passed,
-    /// An escape: its value, and the place behind it.
+    /// An escape: its value, and the place after it.
     Escape(u8, usize),
     /// The `#` before the fragment, or the end of the text.
     End,
@@ -154,8 +154,8 @@ impl<'a> Cursor<'a> {
         self.next_unseen_mark(place)
     }
 
-    /// The same, where the walk looked at no byte from the place on. The block that is kept is that with the mark, and no
-    /// block before it.
+    /// Returns the place of the next mark, if the walk looked at no byte from the place on. The block with the mark is
+    /// kept, and no block before it.
     #[inline(always)]
     fn next_unseen_mark(&mut self, from: usize) -> usize
         requires unseen { self.old.seen ≤ from }
@@ -181,7 +181,7 @@ impl<'a> Cursor<'a> {
         place
     }
 
-    /// What stands at a marked byte.
+    /// What begins at a marked byte.
     #[inline(always)]
     fn stop_at(&mut self, mark: usize) -> Stop
         requires within { mark < length (text_of self.old) }
@@ -204,7 +204,7 @@ impl<'a> Cursor<'a> {
         }
     }
 
-    /// What stands at a marked byte, or at the end of the text.
+    /// What begins at a marked byte, or that the text ends.
     #[inline(always)]
     fn stop_from(&mut self, mark: usize) -> Stop
         requires marked { mark < length (text_of self.old)
@@ -220,8 +220,8 @@ impl<'a> Cursor<'a> {
         }
     }
 
-    /// The value of an escape without tabs and newlines at the place, which is right behind another one. The walk goes
-    /// behind it.
+    /// The value of an escape without tabs and newlines at the place, which is right after another one. The walk goes
+    /// past it.
     #[inline(always)]
     fn escape_here(&mut self) -> Option<u8>
         requires within { self.old.place + 3 ≤ length (text_of self.old) }
@@ -345,8 +345,8 @@ impl<'a> Cursor<'a> {
         place
     }
 
-    /// The text from the place on, tabs and newlines included, up to a place before which no `#` and no `%` stands: of base64,
-    /// where white space means nothing. None where it is not known that there is such a text.
+    /// Returns the text from the place on, with tabs and newlines, up to a place before which there is no `#` and no
+    /// `%`: of base64, where white space means nothing. None where it is not known that there is such a text.
     #[inline(always)]
     pub(super) fn next_span(&mut self) -> Option<&'a [u8]>
         requires { Knows self.old }
@@ -365,7 +365,7 @@ impl<'a> Cursor<'a> {
         Some(self.source.cut(place, end))
     }
 
-    /// Gathers the bytes of the next pieces in a room while they come in short stretches, and answers how many. None are
+    /// Gathers the bytes of the next pieces in a room while they come in short stretches, and returns how many. None are
     /// gathered where the body ends or a long stretch begins.
     #[inline(always)]
     pub(super) fn gather(&mut self, room: &mut [u8; ROOM]) -> usize
@@ -387,7 +387,7 @@ impl<'a> Cursor<'a> {
         len
     }
 
-    /// Gathers the escape that is known to stand at the place.
+    /// Gathers the escape that is known to be at the place.
     #[inline(always)]
     fn gather_known(&mut self, room: &mut [u8; ROOM]) -> usize
         requires { KnowsAhead self.old self.old.ahead }
@@ -411,7 +411,8 @@ impl<'a> Cursor<'a> {
         }
     }
 
-    /// Whether a mark or the end of the text stands less than a block behind the place. The block at the place is looked at.
+    /// Returns whether a mark or the end of the text is less than a block after the place. The block at the place is
+    /// looked at.
     #[inline(always)]
     fn is_mark_near(&mut self) -> bool
         requires plain { IsPlain self.old.ahead }
@@ -434,8 +435,8 @@ impl<'a> Cursor<'a> {
         self.seen - place < BLOCK || self.marks != 0
     }
 
-    /// Gathers what is left of the block that was looked at, behind so many bytes that were gathered before. A wide block has
-    /// another one behind it, and in a dense one escapes follow one another.
+    /// Gathers what is left of the block that was looked at, after the bytes that were gathered before. A wide block has
+    /// another one after it, and in a dense one escapes follow one another.
     #[inline(always)]
     fn gather_block(&mut self, room: &mut [u8; ROOM], len: usize, wide: bool, dense: bool) -> usize
         requires may { MayGather self.old len }
@@ -458,8 +459,8 @@ impl<'a> Cursor<'a> {
         len
     }
 
-    /// Gathers the bytes of the block up to its next mark, and what stands there. Answers how many were gathered, and whether
-    /// the body ends.
+    /// Gathers the bytes of the block up to its next mark, and what begins there. Returns how many were gathered, and
+    /// whether the body ends.
     #[inline(always)]
     fn gather_stretch(
         &mut self,
@@ -488,7 +489,7 @@ impl<'a> Cursor<'a> {
         self.gather_stop(room, len + width, dense)
     }
 
-    /// Gathers what stands at the mark at the place.
+    /// Gathers what begins at the mark at the place.
     #[inline(always)]
     fn gather_stop(&mut self, room: &mut [u8; ROOM], len: usize, dense: bool) -> (usize, bool)
         requires may { MayGather self.old len }
@@ -525,7 +526,7 @@ impl<'a> Cursor<'a> {
         }
     }
 
-    /// Gathers the values of escapes that follow one another behind an escape.
+    /// Gathers the values of escapes that follow one another after an escape.
     #[inline(always)]
     fn gather_escapes(&mut self, room: &mut [u8; ROOM], len: usize) -> usize
         requires unknown { self.old.ahead ≡ Ahead.Unknown }
@@ -561,7 +562,7 @@ impl<'a> Cursor<'a> {
         self.place
     }
 
-    /// The fragment behind the place, at which the body ends.
+    /// Returns the fragment after the place, at which the body ends.
     pub(super) fn fragment(&self) -> Option<&'a str>
         requires knows { Knows self.now }
         requires ended { has_ended self.now.ahead ≡ true }

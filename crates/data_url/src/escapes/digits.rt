@@ -1,4 +1,4 @@
-//! Hexadecimal digits behind a `%`, past tabs and newlines.
+//! Hexadecimal digits after a `%`, past tabs and newlines.
 
 ghost use Rattle.std.specs.Prelude.{◌≡◌, ◌+◌, ◌≤◌, IfSome, MatchOption, length};
 ghost use Rattle.data_url.specs.Steps.Digits.{DigitFound, DigitsFound, NoDigit, NoDigits, digit_code};
@@ -32,7 +32,7 @@ fn digit_code(byte: u8) -> u8
 }
 
 impl<'a> Source<'a> {
-    /// The byte that two hexadecimal digits from a place on stand for, past tabs and newlines, and the place behind them.
+    /// Returns the byte of two hexadecimal digits from a place on, past tabs and newlines, and the place after them.
     #[inline(always)]
     pub(super) fn escaped_byte(&mut self, place: usize) -> Option<(u8, usize)>
         requires { place ≤ length self.old.text.now }
@@ -46,7 +46,7 @@ impl<'a> Source<'a> {
         Some((high * 16 + low, end))
     }
 
-    /// The byte that two hexadecimal digits at a place stand for, where they stand there.
+    /// Returns the byte of two hexadecimal digits at a place, if there are two.
     #[inline(always)]
     pub(super) fn two_digits(&mut self, place: usize) -> Option<u8>
         requires { place + 2 ≤ length self.old.text.now }
@@ -63,7 +63,7 @@ impl<'a> Source<'a> {
         Some(high * 16 + low)
     }
 
-    /// The value of the hexadecimal digit from a place on, past tabs and newlines, and the place behind it.
+    /// Returns the value of the hexadecimal digit from a place on, past tabs and newlines, and the place after it.
     #[inline(always)]
     fn digit(&mut self, place: usize) -> Option<(u8, usize)>
         requires { place ≤ length self.old.text.now }
@@ -86,8 +86,8 @@ impl<'a> Source<'a> {
         }
     }
 
-    /// The same, where a tab or newline was passed. The text is looked at through a value of its own, so that the walk's
-    /// can stay in registers.
+    /// Returns the digit after a tab or newline, and the place after it. The text is looked at through a value of its own,
+    /// so that the walk's can stay in registers.
     #[inline(always)]
     fn digit_past(&mut self, place: usize) -> Option<(u8, usize)>
         requires { place ≤ length self.old.text.now }

@@ -6,7 +6,7 @@ use std::marker::Model;
 use std::mem::{replace, size_of};
 use std::snapshot::Snapshot;
 
-/// A look at so many bytes, behind the looks before it.
+/// A look at a number of bytes, and the looks before it.
 #[derive(Drop)]
 struct Mark {
     bytes: usize,
@@ -45,7 +45,7 @@ impl Looks {
         }
     }
 
-    /// Counts a look at so many bytes.
+    /// Counts a look at a number of bytes.
     #[inline(always)]
     pub(super) fn count(&mut self, bytes: usize)
         ensures { self.new ≡ self.old + bytes }

@@ -81,7 +81,7 @@ impl<'a> Source<'a> {
         marks_of(u8x64::from_slice(&rest[..BLOCK]))
     }
 
-    /// The same where the block has a mark, or None where it has none. Each of its bytes counts as a look.
+    /// Returns the marks of the block at a place, or None if it has none. Each of its bytes counts as a look.
     #[inline(always)]
     pub(super) fn look_for_marks(&mut self, place: usize) -> Option<u64>
         requires { place ≤ length self.old.text.now }
@@ -132,7 +132,7 @@ impl<'a> Source<'a> {
         }
     }
 
-    /// A stretch of the text, to be handed out. None of its bytes is looked at.
+    /// Returns a stretch of the text, to be passed on. None of its bytes is looked at.
     #[inline(always)]
     pub(super) fn cut(&self, start: usize, end: usize) -> &'a [u8]
         requires forward { start ≤ end }
@@ -142,7 +142,7 @@ impl<'a> Source<'a> {
         &self.text.as_bytes()[start..end]
     }
 
-    /// Copies a stretch of fewer than 64 bytes into a room. None of its bytes is looked at. What stands behind it in the
+    /// Copies a stretch of fewer than 64 bytes into a room. None of its bytes is looked at. What follows it in the
     /// room may be lost.
     #[inline(always)]
     pub(super) fn copy(
@@ -169,7 +169,7 @@ impl<'a> Source<'a> {
         }
     }
 
-    /// What follows a place where an ASCII byte stands.
+    /// Returns the text after a place that has an ASCII byte.
     pub(super) fn behind(&self, place: usize) -> &'a str
         requires within { place < length self.now.text.now }
         requires ascii { slice_index self.now.text.now place < 128 }

@@ -38,7 +38,7 @@ pub(crate) fn others(bytes: u8x16) -> u64
     marks_of(bytes).simd_ne(u8x16::splat(0)).to_bitmask()
 }
 
-/// How many of the first 16 bytes stand before the first of them that is no symbol.
+/// Returns how many of the first 16 bytes come before the first that is not a symbol.
 #[inline(always)]
 pub(crate) fn symbols_in_row(text: &[u8]) -> usize
     requires { 16 ≤ length text.now }

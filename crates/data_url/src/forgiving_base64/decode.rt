@@ -11,10 +11,10 @@ use super::symbols::{Symbols, is_spaced};
 use super::{DecodeError, InvalidBase64, InvalidBase64Details};
 
 /// A decoder of base64
-/// ([Infra Standard, forgiving-base64 decode](https://infra.spec.whatwg.org/#forgiving-base64-decode)) that takes its
-/// text in pieces, cut anywhere, and hands bytes to a closure as soon as four symbols give them.
+/// ([Infra Standard, forgiving-base64 decode](https://infra.spec.whatwg.org/#forgiving-base64-decode)) that is fed
+/// its text in parts, cut anywhere, and calls a closure with the bytes.
 ///
-/// It takes no memory: it keeps at most three symbols, and counts the padding `=` up to three. Contracts see it as its
+/// It allocates nothing: it keeps at most three symbols, and counts the padding `=` up to three. Contracts see its
 /// closure, these symbols, that count and whether it has failed (`state_of`).
 #[derive(Drop)]
 pub struct Decoder<F, E>
@@ -25,7 +25,7 @@ where
     // The symbols that are left over: the first `pending` of these.
     symbols: [u8; 3],
     pending: usize,
-    // The number of `=`, where 3 stands for more.
+    // The number of `=`; 3 means three or more.
     padding: u8,
     failed: bool,
     ghost few_pending: { pending ≤ 3 },
@@ -47,8 +47,8 @@ where
     ghost use Rattle.data_url.specs.Steps.Waiting.{bytes_of, symbols_of};
     ghost use Rattle.data_url.specs.Steps.Holding.{Adds, FeedsPart, Flushes, Gains, IsBetweenGroups, Reads, Refuses, bytes_in, waiting};
 
-    /// A decoder that has seen nothing yet, and hands its bytes to the closure. The closure has to be one that may be
-    /// called on any bytes, whatever it was called with before.
+    /// Returns a decoder that has been fed nothing yet. The closure has to accept any bytes, whatever it was called
+    /// with before.
     pub fn new(write_bytes: F) -> Self
         requires { F.IsAlwaysCallable write_bytes }
         ensures state { state_of result ≡ start write_bytes }
@@ -63,21 +63,21 @@ where
         }
     }
 
-    /// Whether a piece was answered by an error. A decoder that has failed takes no further piece and no end.
+    /// Returns whether a call of `feed` returned an error. A decoder that has failed must not be fed or finished.
     pub fn has_failed(&self) -> bool
         ensures { result ≡ (state_of self.now).failed }
     {
         self.failed
     }
 
-    /// The closure, as its last call left it, of a decoder that has failed or not. Nothing more is handed to it.
+    /// Returns the closure as its last call left it, whether or not the decoder has failed. It is not called again.
     pub fn into_closure(self) -> F
         ensures { result ≡ (state_of self).closure }
     {
         self.write_bytes
     }
 
-    /// Hands a piece to the closure.
+    /// Calls the closure with a piece.
     fn write(&mut self, piece: &[u8]) -> Result<(), DecodeError<E>>
         requires callable { F.IsAlwaysCallable (state_of self.old).closure }
         requires going { (state_of self.old).failed ≡ false }
@@ -94,7 +94,7 @@ where
         }
     }
 
-    /// Fails, with the reason as the answer.
+    /// Makes the decoder fail, and returns the error.
     fn refuse(&mut self, details: InvalidBase64Details) -> DecodeError<E>
         ensures state { state_of self.new ≡ record (state_of self.old) { failed = true } }
         ensures kind { result ≡ DecodeError.InvalidBase64 (kind_of_details details) }
@@ -103,7 +103,7 @@ where
         DecodeError::InvalidBase64(InvalidBase64 { details })
     }
 
-    /// Takes a symbol, and answers the bytes of the group that it completes.
+    /// Takes a symbol, and returns the bytes of the group that it completes.
     fn take_symbol(&mut self, symbol: u8) -> Result<Option<[u8; 3]>, InvalidBase64Details>
         requires symbol { IsTrue (is_symbol symbol) }
         requires going { (state_of self.old).failed ≡ false }
@@ -125,7 +125,7 @@ where
         Ok(Some(group_of(first, second, third, symbol)))
     }
 
-    /// Takes one byte, and answers the bytes of the group that it completes.
+    /// Takes one byte, and returns the bytes of the group that it completes.
     fn take_byte(&mut self, byte: u8) -> Result<Option<[u8; 3]>, InvalidBase64Details>
         requires { (state_of self.old).failed ≡ false }
         ensures { MatchResult result
@@ -145,7 +145,8 @@ where
         }
     }
 
-    /// Takes one byte, and holds the bytes of the group that it completes. It answers how many bytes it took.
+    /// Takes one byte, and adds the bytes of the group that it completes to the piece. Returns how many bytes it
+    /// took.
     #[inline(always)]
     fn take_one(&mut self, byte: u8, piece: &mut Piece) -> Result<usize, InvalidBase64Details>
         requires room { piece.old.groups < 16 }
@@ -163,8 +164,8 @@ where
         Ok(1)
     }
 
-    /// Holds the bytes of whole groups that a text begins with, where nothing came before them that they could belong to,
-    /// and answers how many bytes of the text they take.
+    /// Adds the bytes of whole groups that a text begins with to the piece, if the next symbol begins a group.
+    /// Returns how many bytes of the text they take.
     #[inline(always)]
     fn take_groups(&self, text: &[u8], piece: &mut Piece) -> usize
         requires room { piece.old.groups < 16 }
@@ -182,7 +183,7 @@ where
         }
     }
 
-    /// Takes the next bytes of a text: whole groups if it begins with some, or else one byte. It answers how many.
+    /// Takes the next bytes of a text: whole groups if it begins with some, or else one byte. Returns how many.
     #[inline(always)]
     fn take_some(&mut self, text: &[u8], piece: &mut Piece) -> Result<usize, InvalidBase64Details>
         requires some { 1 ≤ length text.now }
@@ -203,7 +204,7 @@ where
         self.take_one(text[0], piece)
     }
 
-    /// Hands out what is held, if anything is.
+    /// Calls the closure with the piece, unless it is empty.
     #[inline(always)]
     fn flush(&mut self, piece: &Piece) -> Result<(), DecodeError<E>>
         requires callable { F.IsAlwaysCallable (state_of self.old).closure }
@@ -332,15 +333,16 @@ where
         Ok(at)
     }
 
-    /// Takes the next bytes of the text, in an encoding that ASCII is part of, and hands out the bytes of each group of four
-    /// symbols that they complete, in at most as many calls as there are bytes. ASCII whitespace is skipped. Where the bytes
-    /// are cut is free, empty pieces included: today a piece is of up to 48 bytes, and none is empty.
+    /// Decodes the next part of the text, in an encoding that contains ASCII. Calls the closure with the bytes of
+    /// each group of four symbols that the part completes, at most as many times as the part has bytes. ASCII white
+    /// space is skipped. Callers must not rely on where the bytes are cut, and pieces may be empty. Today a piece has
+    /// up to 48 bytes, and none is empty.
     ///
-    /// Where the closure refuses, that ends the call with `WriteError`. At a byte that is neither whitespace nor `=` nor a
-    /// symbol, and at a symbol behind an `=` of this piece or an earlier one, the answer is `InvalidBase64`, once the groups
-    /// before that byte were handed out. After an error the decoder has failed.
+    /// Returns `WriteError` with the closure's error; the closure is not called again. Returns `InvalidBase64` at a
+    /// byte that is neither white space nor `=` nor a symbol, and at a symbol after a `=` of this part or an earlier
+    /// one, after calls with the bytes of the groups before that byte. After an error the decoder has failed.
     ///
-    /// It may be called only while `has_failed` answers false.
+    /// It may be called only while `has_failed` returns false.
     pub fn feed(&mut self, input: &[u8]) -> Result<(), DecodeError<E>>
         requires callable { F.IsAlwaysCallable (state_of self.old).closure }
         requires going { (state_of self.old).failed ≡ false }
@@ -356,8 +358,8 @@ where
         Ok(())
     }
 
-    /// Whether there is as much padding as fits the symbols left over: none but behind a lone one, one `=` behind three,
-    /// or two behind two.
+    /// Returns whether the padding fits the symbols left over: none after a lone symbol, two `=` after two symbols,
+    /// one after three.
     fn has_fitting_padding(&self) -> bool
         ensures fits { result ≡ true → Fits self.now.pending self.now.padding }
         ensures unfit { result ≡ false → Fits self.now.pending self.now.padding → ⊥ }
@@ -366,7 +368,7 @@ where
         (padding == 0 && self.pending != 1) || (padding < 3 && self.pending + padding == 4)
     }
 
-    /// The fault of what is left over, where it ends no valid text.
+    /// Returns the fault of the symbols and the padding left over, if they end no valid text.
     fn fault_at_end(&self) -> Option<InvalidBase64Details>
         ensures { IsFaultAtEnd (state_of self.now) result }
     {
@@ -379,7 +381,7 @@ where
         }
     }
 
-    /// Hands out what the symbols left over stand for, if there are any.
+    /// Calls the closure with the bytes of the symbols left over, if there are any.
     fn write_rest(&mut self) -> Result<(), DecodeError<E>>
         requires callable { F.IsAlwaysCallable (state_of self.old).closure }
         requires going { (state_of self.old).failed ≡ false }
@@ -396,7 +398,7 @@ where
         }
     }
 
-    /// Ends the text: hands out what the symbols left over stand for.
+    /// Ends the text: calls the closure with the bytes of the symbols left over.
     fn end(&mut self) -> Result<(), DecodeError<E>>
         requires callable { F.IsAlwaysCallable (state_of self.old).closure }
         requires going { (state_of self.old).failed ≡ false }
@@ -410,14 +412,14 @@ where
         }
     }
 
-    /// Ends the text. Two or three symbols left over give one or two last bytes, in one call; the bits that they have
-    /// besides are dropped. Nothing else is handed out.
+    /// Ends the text. If two or three symbols are left over, the closure is called once, with the one or two bytes
+    /// that they encode; their other bits are dropped.
     ///
-    /// The answer is `InvalidBase64`, and the closure is not called, where a lone symbol is left over or the padding
-    /// does not fit: there may be no `=` or, behind two symbols, two, or behind three, one. It is `WriteError` where the closure
-    /// refuses. `finish_with` also tells what became of the closure.
+    /// Returns `InvalidBase64`, without a call of the closure, if a lone symbol is left over or the padding does not
+    /// fit: there may be no `=` or, after two symbols, two or, after three, one. Returns `WriteError` with the
+    /// closure's error. `finish_with` returns the closure as well.
     ///
-    /// It may be called only while `has_failed` answers false.
+    /// It may be called only while `has_failed` returns false.
     pub fn finish(self) -> Result<(), DecodeError<E>>
         requires callable { F.IsAlwaysCallable (state_of self).closure }
         requires going { (state_of self).failed ≡ false }
@@ -426,9 +428,9 @@ where
         self.finish_with().0
     }
 
-    /// Ends the text as `finish` does, and hands the closure back as its last call left it.
+    /// Ends the text as `finish` does, and also returns the closure as its last call left it.
     ///
-    /// It may be called only while `has_failed` answers false.
+    /// It may be called only while `has_failed` returns false.
     pub fn finish_with(mut self) -> (Result<(), DecodeError<E>>, F)
         requires callable { F.IsAlwaysCallable (state_of self).closure }
         requires going { (state_of self).failed ≡ false }

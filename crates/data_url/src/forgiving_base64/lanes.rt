@@ -1,4 +1,4 @@
-//! Sixteen bytes of a text at a time: which are symbols, and what they stand for (RFC 4648, section 4).
+//! Sixteen bytes of a text at a time: which are symbols, and their values (RFC 4648, section 4).
 
 ghost use Rattle.std.specs.Prelude.{◌≡◌, ◌<◌, length, map, take};
 ghost use Rattle.std.specs.Simd.Lanes.{Each1};

@@ -78,7 +78,7 @@ const CLEAR_PLACES: [u8; 2056] = [
     0, 0, 0, 0, 0, 0, 0, 0,
 ];
 
-/// Returns the places of the bits that are clear, and behind them places that say nothing.
+/// Returns the places of the bits that are clear, and after them places without meaning.
 #[inline(always)]
 pub(crate) fn places_of(bits: u8) -> u8x16
     ensures few { (length result ≡ 16) × (count_ones bits ≤ 8) }

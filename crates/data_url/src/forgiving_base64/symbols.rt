@@ -66,7 +66,7 @@ fn put_half(room: &mut [u8], at: usize, row: u8x16, from: usize, bits: u8) -> us
     at + (8 - bits.count_ones() as usize)
 }
 
-/// Up to 127 symbols that stand in a text one after another, but for white space.
+/// Up to 127 symbols that follow one another in a text, but for white space.
 #[derive(Drop)]
 pub(crate) struct Symbols {
     bytes: [u8; 144],
@@ -124,8 +124,8 @@ impl Symbols {
         self.add_row(&text[48..]);
     }
 
-    /// Returns the bytes of the groups of the first 64 symbols, and where there are fewer, after them bytes that say
-    /// nothing.
+    /// Returns the bytes of the groups of the first 64 symbols, and if there are fewer, after them bytes without
+    /// meaning.
     #[inline(always)]
     pub(crate) fn decode(&self) -> [u8; 48]
         ensures { DecodesFront (symbols_of self.now) result }
@@ -151,7 +151,7 @@ impl Symbols {
         self.len -= 64;
     }
 
-    /// Returns the last symbols, which are in no whole group, and after them bytes that say nothing.
+    /// Returns the last symbols, which are in no whole group, and after them bytes without meaning.
     #[inline(always)]
     pub(crate) fn last(&self) -> [u8; 3]
         requires { self.now.len < 64 }

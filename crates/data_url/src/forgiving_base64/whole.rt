@@ -9,7 +9,7 @@ ghost use Rattle.data_url.specs.Errors.{IsErrorOf};
 use super::{DecodeError, DecodeToVecError, Decoder};
 use std::alloc::{AllocError, Global};
 
-/// Hands the bytes of a text to a closure, and the closure back.
+/// Calls a closure with the bytes of a text. Returns the closure as well.
 pub(crate) fn decode_whole<F, E>(input: &[u8], write_bytes: F) -> (Result<(), DecodeError<E>>, F)
 where
     F: FnMut(&[u8]) -> Result<(), E>,
@@ -23,19 +23,18 @@ where
     }
 }
 
-/// How many bytes a text of base64 of so many bytes gives at most.
+/// Returns how many bytes a text of base64 gives at most, by its length in bytes.
 pub(crate) fn room_for(len: usize) -> usize
     ensures { result ≡ len / 4 * 3 + len % 4 * 3 / 4 }
 {
     len / 4 * 3 + len % 4 * 3 / 4
 }
 
-/// The bytes that a text of base64 stands for
-/// ([Infra Standard, forgiving-base64 decode](https://infra.spec.whatwg.org/#forgiving-base64-decode)). Room for them
-/// is taken once, by the length of the text.
+/// Decodes a text of base64
+/// ([Infra Standard, forgiving-base64 decode](https://infra.spec.whatwg.org/#forgiving-base64-decode)). Room for the
+/// bytes is allocated once, by the length of the text.
 ///
-/// The error is `InvalidBase64` for a text that is not valid, with the reason of its first fault, and `OutOfMemory` where
-/// memory was refused.
+/// Returns `InvalidBase64` with the first fault if the text is not valid, and `OutOfMemory` if allocation fails.
 pub fn decode_to_vec(alloc: Global, input: &[u8]) -> Result<Vec<u8>, DecodeToVecError>
     ensures valid { IsOk result → IsTrue (is_valid input.now) }
     ensures bytes { IfOk result (λ bytes. bytes.items ≡ decoded input.now) }

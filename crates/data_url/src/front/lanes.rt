@@ -1,4 +1,4 @@
-//! Sixteen bytes of a path at a time: which of them are serialised as they stand (URL Standard, section 4.4).
+//! Sixteen bytes of a path at a time: which of them are serialised as they are (URL Standard, section 4.4).
 
 ghost use Rattle.std.specs.Prelude.{◌≡◌, ◌≤◌, length, map, not, take};
 ghost use Rattle.std.specs.List.{prefix_len};
@@ -10,10 +10,10 @@ use std::simd::prelude::*;
 /// How many bytes are looked at together.
 pub(super) const ROW: usize = 16;
 
-/// How many printable bytes stand behind the space.
+/// How many printable bytes come after the space.
 const LAST: u8 = b'~' - b' ';
 
-/// A bit for each of the first 16 bytes, which is set where it is not serialised as it stands, or ends the path or the
+/// A bit for each of the first 16 bytes, which is set where it is not serialised as it is, or ends the path or the
 /// header.
 #[inline(always)]
 fn others_ahead(text: &[u8]) -> u64
@@ -28,7 +28,7 @@ fn others_ahead(text: &[u8]) -> u64
     ((unprintable | fragment) | (comma | query)).to_bitmask()
 }
 
-/// How many of the first 16 bytes stand before the first of them for which there is such a bit.
+/// Returns how many of the first 16 bytes come before the first for which there is such a bit.
 #[inline(always)]
 pub(super) fn plain_ahead(text: &[u8]) -> usize
     requires { 16 ≤ length text.now }

@@ -51,7 +51,7 @@ pub(super) fn without_trailing_whitespace(text: &str) -> &str
     &text[..text.len() - len]
 }
 
-/// How many bytes stand before the first `;` or `=`.
+/// Returns how many bytes come before the first `;` or `=`.
 fn name_len(bytes: &[u8]) -> usize
     ensures { result ≡ prefix_len (λ b. not (ends_name b)) bytes.now }
 {
@@ -61,7 +61,7 @@ fn name_len(bytes: &[u8]) -> usize
         .count()
 }
 
-/// How many bytes stand before the first `;`.
+/// Returns how many bytes come before the first `;`.
 pub(super) fn parameter_len(bytes: &[u8]) -> usize
     ensures front { result ≡ prefix_len (λ b. not (is_semicolon b)) bytes.now }
     ensures within { result ≤ length bytes.now }
@@ -69,7 +69,7 @@ pub(super) fn parameter_len(bytes: &[u8]) -> usize
     bytes.iter().take_while(|byte| **byte != b';').count()
 }
 
-/// What stands before the first `;` or `=`, and the rest.
+/// Splits a text before its first `;` or `=`.
 pub(super) fn split_name(text: &str) -> (&str, &str)
     ensures joined { chars text.now ≡ chars result.0.now ++ chars result.1.now }
     ensures front { Without ends_name (chars result.0.now) }
@@ -79,7 +79,7 @@ pub(super) fn split_name(text: &str) -> (&str, &str)
     text.split_at(name_len(text.as_bytes()))
 }
 
-/// What stands before the first `;`, and the rest.
+/// Splits a text before its first `;`.
 pub(super) fn split_semicolon(text: &str) -> (&str, &str)
     ensures joined { chars text.now ≡ chars result.0.now ++ chars result.1.now }
     ensures front { Without is_semicolon (chars result.0.now) }

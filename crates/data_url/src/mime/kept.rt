@@ -15,7 +15,7 @@ use std::collections::BTreeSet;
 /// How many pairs are looked through one by one, which is faster for so few than a search in a set.
 const LOOKED_THROUGH: usize = 128;
 
-/// The pairs that are kept, and the names of those behind the first ones once more, to be found
+/// The pairs that are kept, and the names of those after the first ones once more, to be found
 /// among many.
 #[derive(Drop)]
 pub(super) struct KeptParameters {
@@ -24,7 +24,7 @@ pub(super) struct KeptParameters {
 }
 
 impl KeptParameters {
-    /// No pairs, and room for so many.
+    /// Returns no pairs, with room for this many.
     pub(super) fn with_capacity(
         alloc: Global,
         capacity: usize,

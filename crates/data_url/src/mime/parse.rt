@@ -21,7 +21,7 @@ use super::values::{Value, lowercased};
 use crate::classes::{Class, span};
 use std::alloc::{AllocError, Global};
 
-/// The type, the subtype and the parameters of a text, as they stand there.
+/// The type, the subtype and the parameters of a text, as they are there.
 #[derive(Clone, Copy)]
 pub(crate) struct Head<'a> {
     pub(super) type_: Word<'a>,
@@ -29,7 +29,7 @@ pub(crate) struct Head<'a> {
     pub(super) parameters: &'a str,
 }
 
-/// One parameter, as it stands in the text, and what stands behind it.
+/// One parameter, as it is in the text, and the text after it.
 #[derive(Clone, Copy)]
 struct Parameter<'a> {
     /// The name.
@@ -79,7 +79,7 @@ pub(crate) fn read_head(text: &str) -> Option<Head<'_>>
     })
 }
 
-/// The parts of the MIME type `text/plain` with what stands behind the subtype.
+/// Returns the parts of the MIME type `text/plain` with the text after the subtype.
 pub(crate) fn plain_head(parameters: &str) -> Head<'_>
     requires { BeginsParameters (chars parameters.now) }
     ensures head { IsHead (codes "text/plain" ++ chars parameters.now)
@@ -115,7 +115,7 @@ fn begins_behind_name(text: &str) -> bool
     text.is_empty() || text.starts_with('=') || text.starts_with(';')
 }
 
-/// The name that a text begins with, whether it is nonempty and of token code points alone, and what stands behind it.
+/// Returns the name that a text begins with, whether it is nonempty and of token code points alone, and the text after it.
 fn read_name(text: &str) -> (Word<'_>, bool, &str)
     ensures joined { chars text.now ≡ chars result.0.text.now ++ chars result.2.now }
     ensures front { Without ends_name (chars result.0.text.now) }
@@ -136,7 +136,7 @@ fn read_name(text: &str) -> (Word<'_>, bool, &str)
     (word, is_token_text(name), rest)
 }
 
-/// The parameter that a text begins with, behind its `;`.
+/// Returns the parameter that a text begins with, after its `;`.
 fn read_parameter(text: &str) -> Parameter<'_>
     ensures parameter { (item : Item) × IsItem result item
         × HasParameterBefore (chars text.now) item (chars result.rest.now) }
@@ -162,7 +162,7 @@ fn read_parameter(text: &str) -> Parameter<'_>
     }
 }
 
-/// The value that stands behind a `=`, and what stands behind it.
+/// Returns the value after a `=`, and the text after it.
 fn read_value(text: &str) -> (Value<'_>, &str)
     ensures value { (value : Option (List ℕ)) × IsValue result.0 value
         × HasValueBefore (61 ∷ chars text.now) value (chars result.1.now) }
@@ -178,7 +178,7 @@ fn read_value(text: &str) -> (Value<'_>, &str)
     (Value::Quoted(value), rest)
 }
 
-/// The same of a value that begins with no `"`.
+/// Returns the value after a `=` that does not begin with `"`, and the text after it.
 fn read_plain(text: &str) -> (Value<'_>, &str)
     requires { DoesNotBegin is_quote (chars text.now) }
     ensures value { (value : Option (List ℕ)) × IsValue result.0 value
@@ -195,7 +195,7 @@ fn read_plain(text: &str) -> (Value<'_>, &str)
     (Value::Plain(value), rest)
 }
 
-/// What stands before the quote that closes a quoted string, and behind it.
+/// Splits a text at the quote that closes a quoted string. Returns None if there is none.
 fn split_quote(text: &str) -> Option<(&str, &str)>
     ensures { MatchOption result (IsOpen (chars text.now))
         (λ parts. IsClosed text.now parts.0.now parts.1.now) }

@@ -63,7 +63,7 @@ fn push_escaped<W: fmt::Write>(
     write_each_escaped(f, text)
 }
 
-/// How many bytes stand before the first `"` or `\`.
+/// Returns how many bytes come before the first `"` or `\`.
 fn unescaped_len(bytes: &[u8]) -> usize
     ensures { result ≡ prefix_len is_plain bytes.now }
 {

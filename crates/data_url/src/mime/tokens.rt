@@ -22,7 +22,7 @@ pub(super) fn is_token_text(text: &str) -> bool
     !text.is_empty() && span(Class::Token, text.as_bytes()) == text.len()
 }
 
-/// The longest front of token code points, and what stands behind it.
+/// Splits a text after its longest front of token code points.
 pub(super) fn split_tokens(text: &str) -> (Word<'_>, &str)
     ensures joined { chars text.now ≡ chars result.0.text.now ++ chars result.1.now }
     ensures front { Every is_token (chars result.0.text.now) }

@@ -1,4 +1,4 @@
-//! Values of parameters, as they stand in a text and as texts of their own.
+//! Values of parameters, as they are in a text and as texts of their own.
 
 ghost use Rattle.std.specs.Prelude.{◌≡◌, List, ℕ, IfOk, IsTrue, map};
 ghost use Rattle.std.specs.Char.{to_ascii_lowercase};
@@ -13,21 +13,22 @@ ghost use Rattle.data_url.specs.MimeType.{code_points};
 use crate::classes::{Class, span};
 use std::alloc::{AllocError, Global};
 
-/// A value as it stands in a text.
+/// A value as it is in a text.
 #[derive(Clone, Copy)]
 pub(super) enum Value<'a> {
     /// No value, or one with a code point that is no quoted-string code point.
     Missing,
     /// A value without quotes, of quoted-string code points.
     Plain(&'a str),
-    /// What stands between the quotes, or behind the first one up to the end.
+    /// The text between the quotes, or after the first one up to the end.
     Quoted(&'a str),
 }
 
 impl<'a> Value<'a> {
     ghost use Rattle.std.specs.Prelude.{Option};
 
-    /// The value as a text of its own, if it is there and has quoted-string code points alone. It takes memory for that text.
+    /// The value as a text of its own, if it is there and has quoted-string code points alone. It takes memory for that
+    /// text.
     pub(super) fn text(&self, alloc: Global) -> Result<Option<String>, AllocError>
         ensures { IfOk result (λ text. (value : Option (List ℕ)) → IsValue self.now value
             → option_map (λ t. code_points t) text ≡ quotable_value value) }
@@ -55,7 +56,7 @@ fn has_backslash(bytes: &[u8]) -> bool
     bytes.iter().any(|byte| *byte == b'\\')
 }
 
-/// The value of a quoted string: without the `\` before each code point that one stands before.
+/// Returns the value of a quoted string: without the `\` before a code point.
 fn unescaped(alloc: Global, quoted: &str) -> Result<String, AllocError>
     ensures { IfOk result (λ text. (value : List ℕ) → QuotedOpen (chars quoted.now) value
         → code_points text ≡ value) }
@@ -67,7 +68,7 @@ fn unescaped(alloc: Global, quoted: &str) -> Result<String, AllocError>
     }
 }
 
-/// The same of a quoted string, code point by code point.
+/// Returns the value of a quoted string, code point by code point.
 fn without_backslashes(alloc: Global, quoted: &str) -> Result<String, AllocError>
     ensures { IfOk result (λ text. (value : List ℕ) → QuotedOpen (chars quoted.now) value
         → code_points text ≡ value) }

@@ -5,7 +5,7 @@ use std::alloc::{AllocError, Global};
 use std::process::Abort;
 use std::test::Fail;
 
-/// Texts, what they stand for, and the line of their fault, or nothing.
+/// Texts, their bytes, and the line of their fault, or nothing.
 const TEXTS: [(&str, &str, &str); 16] = [
     ("", "", ""),
     ("YR", "a", ""),
@@ -60,7 +60,7 @@ fn texts_in_pieces(rt: HostRuntime) -> Result<(), Fail> {
     Ok(())
 }
 
-/// Asserts that nothing is read after the piece with the first fault, where each read gives so many bytes.
+/// Asserts that nothing is read after the piece with the first fault, where each read gives this many bytes.
 fn assert_reads(rt: &impl Abort, alloc: Global, behind: &str, piece: usize) -> Result<(), Fail> {
     let peers = Peers {
         first: piece,
@@ -116,14 +116,14 @@ fn few_writes(rt: HostRuntime) -> Result<(), Fail> {
     Ok(())
 }
 
-/// What stands before the rows of the picture: the signature, the header chunk of 102 by 103 grey pixels, and the beginning
+/// What comes before the rows of the picture: the signature, the header chunk of 102 by 103 grey pixels, and the beginning
 /// of a data chunk that is stored and not compressed (PNG, section 5; RFC 1950; RFC 1951, section 3.2.4).
 const BEFORE_ROWS: [u8; 48] = [
     137, 80, 78, 71, 13, 10, 26, 10, 0, 0, 0, 13, 73, 72, 68, 82, 0, 0, 0, 102, 0, 0, 0, 103, 8, 0,
     0, 0, 0, 215, 232, 104, 27, 0, 0, 41, 124, 73, 68, 65, 84, 120, 1, 1, 113, 41, 142, 214,
 ];
 
-/// What stands behind the rows: their Adler-32, the chunk's CRC, and the end chunk.
+/// What comes after the rows: their Adler-32, the chunk's CRC, and the end chunk.
 const BEHIND_ROWS: [u8; 20] = [
     126, 98, 70, 104, 243, 135, 190, 33, 0, 0, 0, 0, 73, 69, 78, 68, 174, 66, 96, 130,
 ];

@@ -10,7 +10,7 @@ use std::process::Abort;
 use std::test::Fail;
 
 /// How a reader and a writer behave: how many bytes the first read gives and each other one, which read fails, how many
-/// bytes a write takes, and which write fails or takes nothing. Calls are counted from 1, and 0 stands for none.
+/// bytes a write takes, and which write fails or takes nothing. Calls are counted from 1, and 0 means none.
 #[derive(Clone, Copy)]
 pub(super) struct Peers {
     pub(super) first: usize,
