@@ -61,7 +61,7 @@ impl<E> From<InvalidBase64Details> for DecodeError<E> {
     }
 }
 
-/// The fault that a status stands for.
+/// Returns the fault of a status.
 pub(crate) fn details(status: u32) -> InvalidBase64Details {
     match status {
         library::PADDING => InvalidBase64Details::Padding,

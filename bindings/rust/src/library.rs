@@ -204,7 +204,7 @@ impl Body {
         }
     }
 
-    /// Puts the next bytes of the body behind those of a vector, and returns the status.
+    /// Appends the next bytes of the body to a vector, and returns the status.
     pub(crate) fn push_next(&mut self, tail: &str, bytes: &mut Vec<u8>) -> u32 {
         bytes.reserve(LEAST);
         let (len, room) = (bytes.len(), bytes.capacity() - bytes.len());
