@@ -39,7 +39,7 @@ fn assert_printed<D: fmt::Display>(
     Ok(())
 }
 
-/// A text with so many times its middle.
+/// Returns the three parts joined, the middle one repeated `count` times.
 fn with_run(alloc: Global, parts: [&str; 3], count: usize) -> Result<String, AllocError> {
     let [front, part, behind] = parts;
     let run = part.repeat(alloc, count)?;

@@ -17,7 +17,7 @@ const LONG: usize = 100_000;
 /// The length of the longest piece that is not a stretch of the text.
 const ROOM: usize = 256;
 
-/// The lengths of the pieces of a body with so many times its middle. None of them is 0.
+/// Returns the lengths of the pieces of a body whose middle is repeated `count` times. None of them is 0.
 fn lengths_of(
     rt: &impl Abort,
     alloc: Global,

@@ -17,7 +17,7 @@ const POWERS: u32 = 20;
 /// A size over 16 MiB.
 const LARGE: usize = 20_971_520;
 
-/// A MIME type with so many parameters.
+/// Returns a MIME type with `count` parameters.
 pub fn with_parameters(alloc: Global, count: u32) -> Result<String, AllocError> {
     let mut text = String::from_str(alloc, "x/x")?;
     for number in 1..=count {
@@ -26,7 +26,7 @@ pub fn with_parameters(alloc: Global, count: u32) -> Result<String, AllocError> 
     Ok(text)
 }
 
-/// Asserts the parts of a text with so many bytes in each.
+/// Asserts the parts of a text with `size` bytes in each.
 fn assert_parts(rt: &impl Abort, alloc: Global, size: usize) -> Result<(), Fail> {
     let record = with_run(alloc, ["a/b;c=", "d", ""], size)?;
     let body = "e".repeat(alloc, size)?;
@@ -41,7 +41,7 @@ fn assert_parts(rt: &impl Abort, alloc: Global, size: usize) -> Result<(), Fail>
     assert_url(rt, alloc, row)
 }
 
-/// Asserts the records of a parameter and of a type of so many bytes.
+/// Asserts the records of a parameter and of a type of `size` bytes.
 fn assert_types(rt: &impl Abort, alloc: Global, size: usize) -> Result<(), Fail> {
     let text = with_run(alloc, ["a/b;c=", "d", ""], size)?;
     assert_mime(rt, alloc, "long", text.as_str(), text.as_str())?;
@@ -52,7 +52,7 @@ fn assert_types(rt: &impl Abort, alloc: Global, size: usize) -> Result<(), Fail>
     assert_read_again(rt, alloc, "long", &mime)
 }
 
-/// Asserts the body of a text with so many groups of base64.
+/// Asserts the body of a text with `size` groups of base64.
 fn assert_groups(rt: &impl Abort, alloc: Global, size: usize) -> Result<(), Fail> {
     let symbols = "QUJD".repeat(alloc, size)?;
     let body = "ABC".repeat(alloc, size)?;
