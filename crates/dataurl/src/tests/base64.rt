@@ -5,8 +5,10 @@ use std::alloc::{AllocError, Global};
 use std::process::Abort;
 use std::test::Fail;
 
-/// Texts, their bytes, and the line of their fault, or nothing.
-const TEXTS: [(&str, &str, &str); 16] = [
+/// A text, its bytes, and the line of its fault, or nothing.
+type Row<'a> = (&'a str, &'a str, &'a str);
+
+const TEXTS: [Row<'static>; 16] = [
     ("", "", ""),
     ("YR", "a", ""),
     ("Y Q = =", "a", ""),
@@ -26,38 +28,33 @@ const TEXTS: [(&str, &str, &str); 16] = [
 ];
 
 /// Asserts what comes of a text that is read in pieces.
-fn assert_pieces(
-    rt: &impl Abort,
-    alloc: Global,
-    row: (&str, &str, &str),
-    peers: Peers,
-) -> Result<(), Fail> {
-    let (text, bytes, fault) = row;
+fn assert_pieces(rt: &impl Abort, alloc: Global, row: &Row, peers: Peers) -> Result<(), Fail> {
+    let (text, bytes, fault) = *row;
     let ended = outcome_of(rt, alloc, "base64", text.as_bytes(), peers)?;
-    assert!(rt; ended.written.as_slice() == bytes.as_bytes(), "{text}");
     let line = format!(in alloc; "base64 not valid: {fault}\n")?;
-    if fault.is_empty() {
-        assert!(rt; ended.line.is_empty() && ended.status == 0, "{text}");
+    let (line, status) = if fault.is_empty() {
+        ("", 0)
     } else {
-        assert!(rt;
-            ended.line.as_slice() == line.as_bytes() && ended.status == 1,
-            "{text}"
-        );
+        (line.as_str(), 1)
+    };
+    ended.assert_is(rt, text, bytes.as_bytes(), line, status);
+    Ok(())
+}
+
+/// Asserts what comes of each text of a table: read byte by byte, and in two pieces.
+fn assert_texts(rt: &impl Abort, alloc: Global, rows: &[Row]) -> Result<(), Fail> {
+    for row in rows {
+        assert_pieces(rt, alloc, row, BYTEWISE)?;
+        for first in 1..row.0.len() {
+            assert_pieces(rt, alloc, row, Peers { first, ..SOUND })?;
+        }
     }
     Ok(())
 }
 
 #[test]
 fn texts_in_pieces(rt: HostRuntime) -> Result<(), Fail> {
-    for row in TEXTS {
-        assert_pieces(&rt, rt.alloc(), row, BYTEWISE)?;
-        let (text, _, _) = row;
-        for first in 1..text.len() {
-            let peers = Peers { first, ..SOUND };
-            assert_pieces(&rt, rt.alloc(), row, peers)?;
-        }
-    }
-    Ok(())
+    assert_texts(&rt, rt.alloc(), &TEXTS)
 }
 
 /// Asserts that nothing is read after the piece with the first fault, where each read gives this many bytes.

@@ -3,6 +3,8 @@
 use super::peers::{SOUND, outcome_of, status_by_calls};
 use crate::fault::{Fault, report};
 use crate::program::execute;
+use std::alloc::Global;
+use std::process::Abort;
 use std::test::Fail;
 
 const USAGE: &str = "usage: dataurl body, mime, fragment, type or base64\n";
@@ -12,7 +14,9 @@ const BAD: &str = "base64 not valid: symbol with codepoint 33 not expected\n";
 const COMMA: &str = "data url is missing comma delimiting attributes and body\n";
 
 /// The words, the input, what is written, the line on standard error, and the status.
-const ROWS: [(&str, &str, &str, &str, u8); 24] = [
+type Row<'a> = (&'a str, &'a str, &'a str, &'a str, u8);
+
+const ROWS: [Row<'static>; 24] = [
     ("body", "data:,Hello%20World!", "Hello World!", "", 0),
     ("body", "date:,x", "", "not a valid data url\n", 1),
     ("body", "data:#,x", "", COMMA, 1),
@@ -45,33 +49,27 @@ const ROWS: [(&str, &str, &str, &str, u8); 24] = [
     ("--help", "data:,x", "", USAGE, 2),
 ];
 
-#[test]
-fn rows(rt: HostRuntime) -> Result<(), Fail> {
-    for (words, input, written, line, status) in ROWS {
-        let ended = outcome_of(&rt, rt.alloc(), words, input.as_bytes(), SOUND)?;
-        assert!(rt;
-            ended.written.as_slice() == written.as_bytes(),
-            "{words}: {input}"
-        );
-        assert!(rt;
-            ended.line.as_slice() == line.as_bytes(),
-            "{words}: {input}"
-        );
-        assert!(rt; ended.status == status, "{words}: {input}");
-        assert!(rt; (ended.reads == 0) == (status == 2), "{words}: {input}");
+/// Asserts how the program ends for each row of a table.
+fn assert_rows(rt: &impl Abort, alloc: Global, rows: &[Row]) -> Result<(), Fail> {
+    for (words, input, written, line, status) in rows {
+        let ended = outcome_of(rt, alloc, words, input.as_bytes(), SOUND)?;
+        let about = format!(in alloc; "{words}: {input}")?;
+        ended.assert_is(rt, about.as_str(), written.as_bytes(), line, *status);
+        assert!(rt; (ended.reads == 0) == (*status == 2), "{about}");
     }
     Ok(())
+}
+
+#[test]
+fn rows(rt: HostRuntime) -> Result<(), Fail> {
+    assert_rows(&rt, rt.alloc(), &ROWS)
 }
 
 #[test]
 fn input_that_is_no_text(rt: HostRuntime) -> Result<(), Fail> {
     for words in ["body", "mime", "fragment", "type"] {
         let ended = outcome_of(&rt, rt.alloc(), words, &[255], SOUND)?;
-        assert!(rt; ended.written.is_empty() && ended.status == 1, "{words}");
-        assert!(rt;
-            ended.line.as_slice() == "input is not UTF-8\n".as_bytes(),
-            "{words}"
-        );
+        ended.assert_is(&rt, words, &[], "input is not UTF-8\n", 1);
     }
     Ok(())
 }

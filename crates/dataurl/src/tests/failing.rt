@@ -6,7 +6,9 @@ use std::process::Abort;
 use std::test::Fail;
 
 /// The command, the input, how its reader and writer behave, what is written, and the line on standard error.
-const ROWS: [(&str, &str, Peers, &str, &str); 8] = [
+type Row<'a> = (&'a str, &'a str, Peers, &'a str, &'a str);
+
+const ROWS: [Row<'static>; 8] = [
     (
         "base64",
         "QUJDQ",
@@ -96,27 +98,24 @@ const ROWS: [(&str, &str, Peers, &str, &str); 8] = [
     ),
 ];
 
-#[test]
-fn rows(rt: HostRuntime) -> Result<(), Fail> {
-    for (words, input, peers, written, line) in ROWS {
-        let ended = outcome_of(&rt, rt.alloc(), words, input.as_bytes(), peers)?;
-        assert!(rt;
-            ended.written.as_slice() == written.as_bytes(),
-            "{words}: {input}"
-        );
-        assert!(rt;
-            ended.line.as_slice() == line.as_bytes(),
-            "{words}: {input}"
-        );
-        assert!(rt; ended.status == 3, "{words}: {input}");
+/// Asserts how the program ends for each row of a table: with status 3.
+fn assert_rows(rt: &impl Abort, alloc: Global, rows: &[Row]) -> Result<(), Fail> {
+    for (words, input, peers, written, line) in rows {
+        let ended = outcome_of(rt, alloc, words, input.as_bytes(), *peers)?;
+        ended.assert_is(rt, input, written.as_bytes(), line, 3);
     }
     Ok(())
+}
+
+#[test]
+fn rows(rt: HostRuntime) -> Result<(), Fail> {
+    assert_rows(&rt, rt.alloc(), &ROWS)
 }
 
 /// How many bytes a command has written before its nth read, where each read gives one byte: of base64 whole groups.
 fn written_before(words: &str, read: usize) -> usize {
     if words == "base64" {
-        read.saturating_sub(1) / 4 * 3
+        (read.saturating_sub(1) / 4).wrapping_mul(3)
     } else {
         0
     }
@@ -141,16 +140,11 @@ fn assert_failing(
             ..BYTEWISE
         };
         let ended = outcome_of(rt, alloc, words, input, peers)?;
-        let len = written_before(words, failing_read);
-        assert!(rt;
-            output.get(..len) == Some(ended.written.as_slice()),
-            "{words}"
-        );
-        assert!(rt;
-            ended.line.as_slice() == "read failed\n".as_bytes(),
-            "{words}"
-        );
-        assert!(rt; ended.status == 3 && ended.reads == failing_read, "{words}");
+        let written = output
+            .get(..written_before(words, failing_read))
+            .unwrap_or(output);
+        ended.assert_is(rt, words, written, "read failed\n", 3);
+        assert!(rt; ended.reads == failing_read, "{words}");
     }
     for failing_write in 1..=sound.writes {
         for takes_nothing in [false, true] {
@@ -160,19 +154,11 @@ fn assert_failing(
                 ..BYTEWISE
             };
             let ended = outcome_of(rt, alloc, words, input, peers)?;
-            let len = failing_write.saturating_sub(1);
-            assert!(rt;
-                output.get(..len) == Some(ended.written.as_slice()),
-                "{words}"
-            );
-            assert!(rt;
-                ended.line.as_slice() == "write failed\n".as_bytes(),
-                "{words}"
-            );
-            assert!(rt;
-                ended.status == 3 && ended.writes == failing_write,
-                "{words}"
-            );
+            let written = output
+                .get(..failing_write.saturating_sub(1))
+                .unwrap_or(output);
+            ended.assert_is(rt, words, written, "write failed\n", 3);
+            assert!(rt; ended.writes == failing_write, "{words}");
         }
     }
     Ok(())
@@ -219,15 +205,9 @@ fn writes_of_large_outputs(rt: HostRuntime) -> Result<(), Fail> {
                 ..SOUND
             };
             let ended = outcome_of(&rt, alloc, words, input.as_bytes(), peers)?;
-            assert!(rt;
-                ended.written.len() < whole.len() && ended.status == 3,
-                "{words}"
-            );
-            assert!(rt; whole.as_bytes().starts_with(&ended.written), "{words}");
-            assert!(rt;
-                ended.line.as_slice() == "write failed\n".as_bytes(),
-                "{words}"
-            );
+            let written = whole.as_bytes().get(..ended.written.len()).unwrap_or(&[]);
+            assert!(rt; written.len() < whole.len(), "{words}");
+            ended.assert_is(&rt, words, written, "write failed\n", 3);
         }
     }
     Ok(())

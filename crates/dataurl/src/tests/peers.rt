@@ -102,6 +102,22 @@ pub(super) struct Ended {
     pub(super) writes: usize,
 }
 
+impl Ended {
+    /// Asserts what was written on standard output and on standard error, and the status.
+    pub(super) fn assert_is(
+        &self,
+        rt: &impl Abort,
+        about: &str,
+        written: &[u8],
+        line: &str,
+        status: u8,
+    ) {
+        assert!(rt; self.written.as_slice() == written, "{about}");
+        assert!(rt; self.line.as_slice() == line.as_bytes(), "{about}");
+        assert!(rt; self.status == status, "{about}");
+    }
+}
+
 /// The words of a command line: those of a text, which spaces part.
 pub(super) fn words_of(alloc: Global, text: &str) -> Result<Vec<String>, AllocError> {
     let mut words = Vec::new(alloc);

@@ -15,15 +15,8 @@ fn assert_written(
     peers: Peers,
 ) -> Result<(), Fail> {
     let ended = outcome_of(rt, alloc, words, input.as_bytes(), peers)?;
-    let len = input.len();
-    assert!(rt;
-        ended.written.as_slice() == output.as_bytes(),
-        "{words}, {len}"
-    );
-    assert!(rt;
-        ended.line.is_empty() && ended.status == 0,
-        "{words}, {len}"
-    );
+    let about = format!(in alloc; "{words}, {}", input.len())?;
+    ended.assert_is(rt, about.as_str(), output.as_bytes(), "", 0);
     Ok(())
 }
 
@@ -89,6 +82,7 @@ fn many_reads(rt: HostRuntime) -> Result<(), Fail> {
 #[test]
 fn a_read_that_fails_behind_many(rt: HostRuntime) -> Result<(), Fail> {
     let text = "QUJD".repeat(rt.alloc(), 1500)?;
+    let bytes = "ABC".repeat(rt.alloc(), 1250)?;
     let url = format!(in rt.alloc(); "data:,{text}")?;
     let peers = Peers {
         failing_read: 5001,
@@ -97,15 +91,13 @@ fn a_read_that_fails_behind_many(rt: HostRuntime) -> Result<(), Fail> {
     for words in ["body", "mime", "fragment", "type", "base64"] {
         let input = if words == "base64" { &text } else { &url };
         let ended = outcome_of(&rt, rt.alloc(), words, input.as_bytes(), peers)?;
-        let len = if words == "base64" { 3750 } else { 0 };
-        assert!(rt;
-            ended.written.len() == len && ended.reads == 5001,
-            "{words}"
-        );
-        assert!(rt;
-            ended.line.as_slice() == "read failed\n".as_bytes(),
-            "{words}"
-        );
+        let written = if words == "base64" {
+            bytes.as_str()
+        } else {
+            ""
+        };
+        ended.assert_is(&rt, words, written.as_bytes(), "read failed\n", 3);
+        assert!(rt; ended.reads == 5001, "{words}");
     }
     Ok(())
 }
