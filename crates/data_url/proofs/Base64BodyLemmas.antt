@@ -1,25 +1,22 @@
 -- A base64 body, fed to a decoder chunk by chunk.
-use Rattle.std.proofs.Common.{◌≡◌, ℕ, suc, ◌+◌, ◌≤◌, Bool, true, false, not, cond, ◌*◌, List, [], ◌∷◌, ◌++◌, length, drop, Option, None, Some, Result, Ok, Err, sym, ap, ◌∙◌, subst, append_assoc, arith, length-append, length-drop}
+use Rattle.std.proofs.Common.{◌≡◌, ℕ, suc, ◌+◌, ◌≤◌, Bool, true, false, not, cond, ◌*◌, List, [], ◌∷◌, ◌++◌, length, Option, None, Some, Result, Ok, Err, sym, ap, ◌∙◌, subst, append_assoc, arith}
 use Rattle.std.specs.Prelude.{◌==◌, MatchBool, MatchOption}
 use Rattle.std.specs.Char.{digit_value}
 use Rattle.std.proofs.lemmas.List.{append-nil}
-use Rattle.data_url.specs.Base64.{without_whitespace, decoded, complete_bytes, is_valid, kind_of}
+use Rattle.data_url.specs.Base64.{decoded, complete_bytes, is_valid, kind_of}
 use Rattle.data_url.specs.Url.{before, without_tabs_and_newlines, front, is_tab_or_newline}
 use Rattle.data_url.specs.Percent.{is_escape, percent_decoding}
 use Rattle.data_url.specs.Run.{joined_pieces, refusal}
-use Rattle.data_url.specs.Fetch.{Bad, Good, Outcome, outcome, outcome_bytes, plain_body}
-use Rattle.data_url.specs.Pieces.{Walk}
-use Rattle.data_url.specs.Steps.Chunks.{IsAtFront}
-use Rattle.data_url.specs.Steps.Tail.{IsBodyEnd, IsSlice}
+use Rattle.data_url.specs.Fetch.{Bad, Good, outcome, outcome_bytes, plain_body}
+use Rattle.data_url.specs.Pieces.{Walk, walk_at_front}
+use Rattle.data_url.specs.Steps.Chunks.{Takes}
+use Rattle.data_url.specs.Steps.Tail.{IsBodyEnd}
 use Rattle.data_url.specs.DataUrl.{Answers, Decodes, HandsOut}
 use Rattle.data_url.specs.Decoder.{Feeds, Finishes, IsAll, State, start}
 use Rattle.data_url.specs.Errors.{IsRefused}
 use Rattle.data_url.specs.Steps.Whole.{DecodesText}
 use Rattle.data_url.specs.declared.forgiving_base64.DecodeError.{DecodeError}
 use Rattle.data_url.specs.declared.forgiving_base64.DecodeError.TheVariants.{InvalidBase64, WriteError}
-use Rattle.data_url.proofs.CompactLemmas.{outcome_alike}
-use Rattle.data_url.proofs.DecodeLemmas.{TakesSpaced}
-use Rattle.data_url.proofs.FreeLemmas.{without_whitespace-append}
 use Rattle.data_url.proofs.DecoderLemmas.{feeds_err, feeds_then}
 use Rattle.data_url.proofs.WholeLemmas.{decodes_finished, decodes_refused}
 
@@ -96,64 +93,48 @@ module _ {F E : Type 0} (step : F → List ℕ → Result (Unit {0}) E → F →
     gave = gives u (joined_pieces d.run) place good r (refusal d.run) (is_valid u) k d.gave;
   }
 
-  -- the decoder took the body as far as the walk, but for white space
+  -- the decoder took the body as far as the walk
   pub record Fed (d : State F) (text : List ℕ) (w : Walk) (d' : State F) : Type 0 where
     pub read : List ℕ
     pub fed : Feeds step d read (Ok tt) d'
     pub text_is : w.text ≡ text
-    pub body : without_whitespace (plain_body text) ≡ without_whitespace read ++ without_whitespace w.rest
-    pub few : length read ≤ w.place
-    pub within : w.place ≤ length text
+    pub body : plain_body text ≡ read ++ w.rest
 
-  pub fed_none : (d d' : State F) (text : List ℕ) {w : Walk} → IsAtFront text w → Feeds step d [] (Ok tt) d' → Fed d text w d'
-  unfolding without_whitespace
-  fed_none d d' text front h = record { read = []; fed = h; text_is = front.text_is; body = ap without_whitespace (sym front.rest_is); few = omega arith; within = omega (arith, front.place_is) }
+  pub fed_none : {d d' : State F} {text : List ℕ} {w : Walk} → w ≡ walk_at_front text → Feeds step d [] (Ok tt) d' → Fed d text w d'
+  fed_none e h = record { read = []; fed = h; text_is = ap (λ w. w.text) e; body = ap (λ w. w.rest) (sym e) }
 
-  fed_bytes : {d d1 : State F} {text bytes : List ℕ} {w w' : Walk} (h : Fed d text w d1) → TakesSpaced w bytes w' → without_whitespace (plain_body text) ≡ without_whitespace (h.read ++ bytes) ++ without_whitespace w'.rest
-  fed_bytes {bytes = bytes} {w' = w'} h t =
-      h.body
-      ∙ ap (λ x. without_whitespace h.read ++ x) t.rest_is
-      ∙ sym (append_assoc (without_whitespace h.read) (without_whitespace bytes) (without_whitespace w'.rest))
-      ∙ ap (λ x. x ++ without_whitespace w'.rest) (sym (without_whitespace-append h.read bytes))
+  fed_bytes : {d d1 : State F} {text bytes : List ℕ} {w w' : Walk} (h : Fed d text w d1) → Takes w bytes w'
+      → plain_body text ≡ (h.read ++ bytes) ++ w'.rest
+  fed_bytes {bytes = bytes} {w' = w'} h t = h.body ∙ ap (λ x. h.read ++ x) t.rest_is ∙ sym (append_assoc h.read bytes w'.rest)
 
-  pub fed_more : {d d1 d2 : State F} {text bytes : List ℕ} {w w' : Walk} → Fed d text w d1 → TakesSpaced w bytes w' → Feeds step d1 bytes (Ok tt) d2 → Fed d text w' d2
-  fed_more {d} {d1} {d2} {text} {bytes} {w} {w'} h t f = record {
+  pub fed_more : {d d1 d2 : State F} {text bytes : List ℕ} {w w' : Walk} → Fed d text w d1 → Takes w bytes w'
+      → Feeds step d1 bytes (Ok tt) d2 → Fed d text w' d2
+  fed_more {bytes = bytes} h t f = record {
     read = h.read ++ bytes;
     fed = feeds_then step h.fed f;
     text_is = t.text_stays ∙ h.text_is;
     body = fed_bytes h t;
-    few = omega (arith, h.few, t.place, length-append h.read bytes);
-    within = omega (arith, t.within, ap length (t.text_stays ∙ h.text_is));
   }
 
-  -- the outcome of what was read is that of the body
-  outcome_at : {f g : F} {text : List ℕ} {r : Result ℕ (DecodeError E)} (u : List ℕ) → without_whitespace u ≡ without_whitespace (plain_body text) → Decodes step f (length text + 1) (outcome true u) (IsBodyEnd text) r g → Decodes step f (length text + 1) (outcome true (plain_body text)) (IsBodyEnd text) r g
-  outcome_at {f} {g} {text} {r} u e d = let P : Outcome → Type 0 = λ o. Decodes step f (length text + 1) o (IsBodyEnd text) r g in subst P (outcome_alike u (plain_body text) e) d
+  -- the outcome of the whole body
+  outcome_of : {f g : F} {text u : List ℕ} (place : ℕ) (r : Result (Unit {0}) (DecodeError E)) → u ≡ plain_body text
+      → DecodesText step f u r g → (r ≡ Ok tt → IsBodyEnd text place)
+      → Decodes step f (length text + 1) (outcome true (plain_body text)) (IsBodyEnd text) (at_place place r) g
+  outcome_of {f} {g} {text} {u} place r e d b =
+      let D : List ℕ → Type 0 = λ x. DecodesText step f x r g in
+      let few = body_shorter text in
+      decodes_outcome (plain_body text) (length text + 1) place (IsBodyEnd text) r (subst D e d) (omega arith) b
 
-  pub fed_refused : {d d1 d2 : State F} {f : F} {text bytes : List ℕ} {w w' : Walk} {x : DecodeError E} → d ≡ start f → Fed d text w d1 → TakesSpaced w bytes w' → Feeds step d1 bytes (Err x) d2 → Decodes step f (length text + 1) (outcome true (plain_body text)) (IsBodyEnd text) (Err x) d2.closure
-  fed_refused {d} {d1} {d2} {f} {text} {bytes} {w} {w'} {x} s h t k =
-      let read = h.read ++ bytes in
-      let u = read ++ w'.rest in
-      let whole : without_whitespace u ≡ without_whitespace (plain_body text) = without_whitespace-append read w'.rest ∙ sym (fed_bytes h t) in
-      let all : Feeds step d u (Err x) d2 = feeds_err step w'.rest (feeds_then step h.fed k) in
-      let long : length w'.text ≡ length text = ap length (t.text_stays ∙ h.text_is) in
-      let rest : length w'.rest + w'.place ≤ length text =
-      omega (arith, ap length t.rest_of, body_shorter (drop w'.place w'.text), length-drop w'.place w'.text, t.within, long) in
-      let short : length u ≤ length text = omega (arith, rest, h.few, t.place, length-append read w'.rest, length-append h.read bytes) in
-      outcome_at u whole (decodes_outcome u (length text + 1) 0 (IsBodyEnd text) (Err x) (decodes_refused step s all) (omega arith) (λ e. absurd (cc)))
+  pub fed_refused : {d d1 d2 : State F} {f : F} {text bytes : List ℕ} {w w' : Walk} {x : DecodeError E} → d ≡ start f
+      → Fed d text w d1 → Takes w bytes w' → Feeds step d1 bytes (Err x) d2
+      → Decodes step f (length text + 1) (outcome true (plain_body text)) (IsBodyEnd text) (Err x) d2.closure
+  fed_refused {w' = w'} {x = x} s h t k =
+      outcome_of 0 (Err x) (sym (fed_bytes h t)) (decodes_refused step s (feeds_err step w'.rest (feeds_then step h.fed k))) (λ e. absurd (cc))
 
-  pub fed_ended : {d d1 : State F} {f g : F} {text : List ℕ} {w : Walk} (place : ℕ) {r r' : Result (Unit {0}) (DecodeError E)} → d ≡ start f → Fed d text w d1 → without_whitespace w.rest ≡ [] → (r' ≡ Ok tt → IsBodyEnd text place) → Finishes step d1 r g → r ≡ r' → Decodes step f (length text + 1) (outcome true (plain_body text)) (IsBodyEnd text) (at_place place r') g
-  fed_ended {d} {d1} {f} {g} {text} {w} place {r} {r'} s h e b k same =
-      let whole : without_whitespace h.read ≡ without_whitespace (plain_body text) = sym (h.body ∙ ap (λ x. without_whitespace h.read ++ x) e ∙ append-nil (without_whitespace h.read)) in
-      let short : length h.read ≤ length text = omega (arith, h.few, h.within) in
+  pub fed_ended : {d d1 : State F} {f g : F} {text : List ℕ} {w : Walk} (place : ℕ) {r r' : Result (Unit {0}) (DecodeError E)}
+      → d ≡ start f → Fed d text w d1 → w.rest ≡ [] → (r' ≡ Ok tt → IsBodyEnd text place) → Finishes step d1 r g → r ≡ r'
+      → Decodes step f (length text + 1) (outcome true (plain_body text)) (IsBodyEnd text) (at_place place r') g
+  fed_ended {d1 = d1} {g = g} place {r} {r'} s h e b k same =
+      let whole : h.read ≡ plain_body _ = sym (h.body ∙ ap (λ x. h.read ++ x) e ∙ append-nil h.read) in
       let finished : Finishes step d1 r' g = subst (λ q. Finishes step d1 q g) same k in
-      outcome_at h.read whole (decodes_outcome h.read (length text + 1) place (IsBodyEnd text) r' (decodes_finished step s h.fed finished) (omega arith) b)
-
-  -- a body that is one slice
-  pub slice_decoded : {f g : F} {text u : List ℕ} (place : ℕ) {r r' : Result (Unit {0}) (DecodeError E)} → IsSlice text → u ≡ text → (r' ≡ Ok tt → place ≡ length text) → DecodesText step f u r g → r ≡ r' → Decodes step f (length text + 1) (outcome true (plain_body text)) (IsBodyEnd text) (at_place place r') g
-  slice_decoded {f} {g} {text} {u} place {r} {r'} s e p h q =
-      let P : ℕ → Type 0 = λ n. IsBodyEnd text n in
-      let size = ap length e in
-      let D : Result (Unit {0}) (DecodeError E) → Type 0 = λ x. DecodesText step f u x g in
-      let O : List ℕ → Type 0 = λ t. Decodes step f (length text + 1) (outcome true t) (IsBodyEnd text) (at_place place r') g in
-      subst O (e ∙ sym s.body) (decodes_outcome u (length text + 1) place (IsBodyEnd text) r' (subst D q h) (omega arith) (λ k. subst P (sym (p k)) s.ends))
+      outcome_of place r' whole (decodes_finished step s h.fed finished) b

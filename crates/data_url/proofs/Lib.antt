@@ -7,7 +7,6 @@ pub mod BodyVecLemmas
 pub mod ByteLemmas
 pub mod ClassLemmas
 pub mod CommaLemmas
-pub mod CompactLemmas
 pub mod CursorLemmas
 pub mod CutLemmas
 pub mod DecodeLemmas
@@ -20,8 +19,6 @@ pub mod FillLemmas
 pub mod FirstLemmas
 pub mod FlagLemmas
 pub mod FragmentAgainLemmas
-pub mod FreeLemmas
-pub mod FrontLemmas
 pub mod GatherLemmas
 pub mod HeadLemmas
 pub mod HeaderLemmas

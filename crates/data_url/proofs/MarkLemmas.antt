@@ -1,5 +1,5 @@
 -- The marks of a block: lanes that are looked up in a table and compared.
-use Rattle.std.proofs.Common.{◌≡◌, ℕ, ◌+◌, ◌*◌, ◌/◌, ◌%◌, ◌^◌, ◌<◌, true, not, cond, eqb, List, [], ◌∷◌, length, get_or, map, replicate, refl, sym, ap, ◌∙◌, subst, arith, bit_and, w8, Fits}
+use Rattle.std.proofs.Common.{◌≡◌, ℕ, ◌+◌, ◌*◌, ◌/◌, ◌%◌, ◌^◌, ◌<◌, true, cond, eqb, List, [], ◌∷◌, length, get_or, map, replicate, refl, sym, ap, ◌∙◌, subst, arith, bit_and, w8, Fits}
 use Rattle.std.specs.Simd.Lanes.{Each1, mask_l, top, zip2}
 use Rattle.std.proofs.lemmas.Bool.{agree_below_at, eqb-true}
 use Rattle.std.proofs.lemmas.List.{ext_get_or, get_or-map, length-map, map-id}
@@ -79,7 +79,3 @@ marks_are v long fits =
     ∙ zip2_of_maps eqb entry (λ b. b) v (looked_up v long) (sym (map-id v))
     ∙ marked_each v fits)
     ∙ mask_l-mod (map is_marked v) 64 (let l = length-map v is_marked in omega arith)
-
-pub has_marks_is : (v : List ℕ) → length v ≡ 64 → Each1 (Fits w8) v
-    → not (eqb (mask_l (map (top 7) (zip2 (λ a b. cond (eqb a b) 255 0) (swz_l w8 16 MARKED 0 (lows v)) v)) % 2 ^ 64) 0) ≡ not (eqb (mask_l (map is_marked v)) 0)
-has_marks_is v long fits = ap (λ m. not (eqb m 0)) (marks_are v long fits)

@@ -1,13 +1,11 @@
 -- What a walk promises to the one who uses it.
-use Rattle.std.proofs.Common.{◌≡◌, ℕ, ◌+◌, ◌*◌, ◌-◌, ◌<◌, ◌≤◌, true, List, [], ◌++◌, length, take, drop, set, Option, None, Some, refl, sym, ap, ◌∙◌, subst, arith, length-append}
+use Rattle.std.proofs.Common.{◌≡◌, ℕ, ◌*◌, ◌-◌, ◌<◌, ◌≤◌, true, List, [], ◌++◌, length, take, drop, Option, None, Some, refl, sym, ap, ◌∙◌, subst, arith, length-append}
 use Rattle.std.specs.Prelude.{IfNone}
-use Rattle.std.proofs.lemmas.List.{length-drop, length-set, length-take-le, nil_from_length, take_more_set}
+use Rattle.std.proofs.lemmas.List.{length-drop, length-take-le, nil_from_length}
 use Rattle.data_url.specs.Fetch.{plain_body}
 use Rattle.data_url.specs.Pieces.{IsPiece, bytes_of, bytes_of_next, has_ended, text_of, walk_of}
-use Rattle.data_url.specs.Steps.Chunks.{IsChunk, IsFilled, chunk_bytes}
+use Rattle.data_url.specs.Steps.Chunks.{IsOver, Takes}
 use Rattle.data_url.specs.Steps.Walk.{Gathers, GoesOn, Knows, KnowsAhead, Reads}
-use Rattle.data_url.specs.declared.escapes.Chunk.{Chunk}
-use Rattle.data_url.specs.declared.escapes.Chunk.TheVariants as chunk
 use Rattle.data_url.specs.declared.escapes.Piece.{Piece}
 use Rattle.data_url.specs.declared.escapes.Piece.TheVariants.{Byte, Slice}
 use Rattle.data_url.specs.declared.escapes.cursor.Ahead.{Ahead}
@@ -53,11 +51,12 @@ looks_cases c End k = k.few_looks
 pub few_looks : {c : Cursor} → Knows c → c.source.looks ≤ 3 * length (text_of c)
 few_looks {c} k = looks_cases c c.ahead k.ahead_is
 
--- Chunks
+-- The next bytes
 
 -- what was gathered
-pub chunk_gathered : {c c' : Cursor} {room0 room : List ℕ} {len : ℕ} → Gathers c c' room0 room 0 len → 0 < len → len ≤ length room → IsChunk (walk_of c) room (chunk.Gathered len) (walk_of c')
-chunk_gathered {c} {c'} {room0} {room} {len} g some few =
+pub takes_gathered : {c c' : Cursor} {room0 room : List ℕ} {len : ℕ} → Gathers c c' room0 room 0 len → 0 < len
+    → Takes (walk_of c) (take len room) (walk_of c')
+takes_gathered {c} {c'} {room0} {room} {len} g some =
     let f = g.reads.few in
     let n = g.len_is in
     let bytes : take len room ≡ g.bytes = g.room_is in
@@ -66,45 +65,45 @@ chunk_gathered {c} {c'} {room0} {room} {len} g some few =
     let w = g.reads.within in
     record {
       text_stays = g.on.text_stays;
-      bytes = g.reads.body ∙ ap (λ s. s ++ plain_body (drop c'.place (text_of c))) (sym bytes) ∙ ap (λ t. take len room ++ plain_body (drop c'.place t)) (sym g.on.text_stays);
-      rest_is = refl;
+      rest_is =
+          g.reads.body ∙ ap (λ s. s ++ plain_body (drop c'.place (text_of c))) (sym bytes)
+          ∙ ap (λ t. take len room ++ plain_body (drop c'.place t)) (sym g.on.text_stays);
       place = omega arith;
       within = omega arith;
-      filled = (some, few);
+      some = omega arith;
     }
 
-nothing : {bytes : List ℕ} {len : ℕ} → len ≡ 0 → len ≡ 0 + length bytes → bytes ≡ []
-nothing {bytes} {len} e h = nil_from_length bytes (omega arith)
-
--- nothing was, and then came a piece
-before_piece : {c c1 c2 : Cursor} {room0 room : List ℕ} {len : ℕ} {next : Option Piece} → Gathers c c1 room0 room 0 len → len ≡ 0 → GoesOn c1 next c2 → Reads (text_of c) c.place c2.place (bytes_of_next next)
-before_piece {c} {c1} {c2} {room0} {room} {len} {next} g e h =
+-- nothing was gathered, and then came a piece
+before_next : {c c1 c2 : Cursor} {room0 room : List ℕ} {len : ℕ} {next : Option Piece} → Gathers c c1 room0 room 0 len → len ≡ 0
+    → GoesOn c1 next c2 → Reads (text_of c) c.place c2.place (bytes_of_next next)
+before_next {c} {c1} {c2} {room0} {room} {len} {next} g e h =
+    let n = g.len_is in
     let P : List ℕ → Type 0 = λ s. Reads (text_of c) c.place c1.place s in
-    let none : g.bytes ≡ [] = nothing e g.len_is in
+    let none : g.bytes ≡ [] = nil_from_length g.bytes (omega arith) in
     reads_then (subst P none g.reads) (reads_in g.on.text_stays h.reads)
 
-chunk_of : {c c1 c2 : Cursor} {room0 room : List ℕ} {len : ℕ} {next : Option Piece} (given : Chunk) (room' : List ℕ) → Gathers c c1 room0 room 0 len → len ≡ 0 → GoesOn c1 next c2 → chunk_bytes room' given ≡ bytes_of_next next → IsFilled room' given (walk_of c2) → IsChunk (walk_of c) room' given (walk_of c2)
-chunk_of {c} {c1} {c2} {room0} {room} {len} {next} given room' g e h b f =
-    let r = before_piece g e h in
+pub takes_next : {c c1 c2 : Cursor} {room0 room : List ℕ} {len : ℕ} (p : Piece) → Gathers c c1 room0 room 0 len → len ≡ 0
+    → GoesOn c1 (Some p) c2 → Takes (walk_of c) (bytes_of p) (walk_of c2)
+takes_next {c} {c1} {c2} {room0} {room} {len} p g e h =
+    let r = before_next g e h in
     let few = r.few in
     let w = r.within in
     let text : text_of c2 ≡ text_of c = h.on.text_stays ∙ g.on.text_stays in
     let t = ap length text in
-    let l = ap length b in
     record {
       text_stays = text;
-      bytes = r.body ∙ ap (λ s. s ++ plain_body (drop c2.place (text_of c))) (sym b) ∙ ap (λ t. chunk_bytes room' given ++ plain_body (drop c2.place t)) (sym text);
-      rest_is = refl;
+      rest_is = r.body ∙ ap (λ t. bytes_of p ++ plain_body (drop c2.place t)) (sym text);
       place = omega arith;
       within = omega arith;
-      filled = f;
+      some = piece_some h;
     }
 
-pub chunk_end : {c c1 c2 : Cursor} {room0 room : List ℕ} {len : ℕ} → Gathers c c1 room0 room 0 len → len ≡ 0 → GoesOn c1 None c2 → Knows c2 → IsChunk (walk_of c) room chunk.End (walk_of c2)
-chunk_end {room = room} g e h k = chunk_of chunk.End room g e h refl (h.ended, rest_over k h.ended)
-
-pub chunk_slice : {c c1 c2 : Cursor} {room0 room : List ℕ} {len : ℕ} {slice : _} → Gathers c c1 room0 room 0 len → len ≡ 0 → GoesOn c1 (Some (Slice slice)) c2 → IsChunk (walk_of c) room (chunk.Slice slice) (walk_of c2)
-chunk_slice {room = room} {slice = slice} g e h = chunk_of (chunk.Slice slice) room g e h refl (piece_some h)
-
-pub chunk_byte : {c c1 c2 : Cursor} {room0 room : List ℕ} {len byte : ℕ} → Gathers c c1 room0 room 0 len → len ≡ 0 → GoesOn c1 (Some (Byte byte)) c2 → 0 < length room → IsChunk (walk_of c) (set room 0 byte) (chunk.Gathered 1) (walk_of c2)
-chunk_byte {room = room} {byte = byte} g e h l = chunk_of (chunk.Gathered 1) (set room 0 byte) g e h (take_more_set room 0 byte l) (let n = length-set room 0 byte in (omega arith, omega arith))
+pub over_next : {c c1 c2 : Cursor} {room0 room : List ℕ} {len : ℕ} → Gathers c c1 room0 room 0 len → len ≡ 0
+    → GoesOn c1 None c2 → Knows c2 → IsOver (walk_of c) (walk_of c2)
+over_next {c} {c1} {c2} g e h k =
+    let text : text_of c2 ≡ text_of c = h.on.text_stays ∙ g.on.text_stays in
+    record {
+      text_stays = text;
+      rest_is = (before_next g e h).body ∙ ap (λ t. plain_body (drop c2.place t)) (sym text) ∙ rest_over k h.ended;
+      ended = h.ended;
+    }

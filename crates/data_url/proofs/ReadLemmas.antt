@@ -1,12 +1,12 @@
 -- What a walk reads between two places of its text, one after the other, and the looks that are paid for.
-use Rattle.std.proofs.Common.{◌≡◌, ℕ, zero, suc, ◌+◌, ◌*◌, ◌-◌, ◌<◌, ◌≤◌, Bool, true, false, not, ◌||◌, List, [], ◌∷◌, ◌++◌, length, take, drop, get_or, refl, sym, ap, ◌∙◌, subst, append_assoc, arith, length-append, ap₂, append-nil, drop_of_length-le}
+use Rattle.std.proofs.Common.{◌≡◌, ℕ, zero, suc, ◌+◌, ◌*◌, ◌-◌, ◌<◌, ◌≤◌, Bool, true, false, not, ◌||◌, List, [], ◌∷◌, ◌++◌, length, take, drop, get_or, refl, sym, ap, ◌∙◌, subst, append_assoc, arith, length-append}
 use Rattle.std.specs.Prelude.{◌==◌, slice_range}
-use Rattle.std.proofs.lemmas.List.{drop_more, length-drop, take_all}
+use Rattle.std.proofs.lemmas.List.{drop_more, length-drop}
 use Rattle.std.proofs.lemmas.List.Sums.{prefix_len-drop_yes, prefix_len-drop_no, prefix_len-le-length}
 use Rattle.data_url.specs.Url.{behind, is_tab_or_newline}
 use Rattle.data_url.specs.Fetch.{plain_body}
 use Rattle.data_url.specs.Steps.Looks.{before_percent, paid_looks}
-use Rattle.data_url.specs.Steps.Tail.{BeginsFragment, IsSlice, rest_fragment}
+use Rattle.data_url.specs.Steps.Tail.{BeginsFragment}
 use Rattle.data_url.specs.Steps.Walk.{EndsAt, EscapeAt, IsClear, LonePercent, Reads}
 use Rattle.data_url.specs.Steps.Window.{is_marked}
 use Rattle.data_url.proofs.BodyLemmas.{behind_escape, behind_passes, behind_percent, body_escape, body_hash, body_keeps, body_nil, body_passes, body_percent}
@@ -123,18 +123,6 @@ ends_cases (b ∷ s) h = ap (λ v. plain_body (v ∷ s)) h ∙ body_hash s
 
 pub ends_empty : {text : List ℕ} {place : ℕ} → EndsAt text place → plain_body (drop place text) ≡ []
 ends_empty {text} {place} h = ends_cases (drop place text) h.begins
-
--- a whole text without marks
-pub slice_from : (text : List ℕ) → 0 < length text → IsClear text 0 (length text) → IsSlice text
-unfolding behind
-slice_from text l h =
-    let r = reads_clear {text = text} {from = 0} {to = length text} (omega arith) (omega arith) h in
-    let none : drop (length text) text ≡ [] = drop_of_length-le text (omega arith) in
-    record {
-      some = l;
-      body = r.body ∙ ap₂ (λ x y. x ++ plain_body y) (take_all (length text - 0) text (omega arith)) none ∙ ap (λ s. text ++ s) body_nil ∙ append-nil text;
-      ends = record { within = omega arith; begins = subst BeginsFragment (sym none) tt; behind_is = r.behind_is ∙ ap (behind 35) none ∙ sym (ap rest_fragment none) };
-    }
 
 -- Paid looks
 

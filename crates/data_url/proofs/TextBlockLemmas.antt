@@ -52,7 +52,9 @@ pub marks_padded : (xs : List ℕ) (k : ℕ) → mask_l (map is_marked (xs ++ re
 marks_padded [] k = no_marks k
 marks_padded (x ∷ xs) k = ap (λ m. cond (is_marked x) 1 0 + 2 * m) (marks_padded xs k)
 
-pub marks_of_rest : (rest new zeros : List ℕ) (r k : ℕ) → new ≡ rest → zeros ≡ replicate 64 0 → k ≡ length rest → r ≡ mask_l (map is_marked (put_mid 0 k zeros new)) → r ≡ mask_l (map is_marked rest)
+-- the marks of fewer than 64 bytes, copied into a block of zeros
+pub marks_of_rest : (rest new zeros : List ℕ) (r k : ℕ) → new ≡ rest → zeros ≡ replicate 64 0 → k ≡ length rest
+    → r ≡ mask_l (map is_marked (put_mid 0 k zeros new)) → r ≡ mask_l (map is_marked rest)
 marks_of_rest rest new zeros r k e z l h =
     let tail : drop k zeros ≡ replicate (64 - k) 0 = ap (drop k) z ∙ drop-replicate k 64 0 in
     h
@@ -60,30 +62,24 @@ marks_of_rest rest new zeros r k e z l h =
     ∙ ap (λ s. mask_l (map is_marked (rest ++ s))) tail
     ∙ marks_padded rest (64 - k)
 
--- of the whole block that a text has left
-pub marks_whole : (text bytes : List ℕ) (place r : ℕ) → bytes ≡ text → 64 ≤ length (take (length bytes - place) (drop place bytes)) → r ≡ mask_l (map is_marked (chunk 0 64 (take (64 - 0) (drop 0 (take (length bytes - place) (drop place bytes))))))
-    → r ≡ mask_l (map is_marked (slice_range text place (min (place + 64) (length text))))
-marks_whole text bytes place r e long h =
+-- the block that a text has at a place: whole, or the part of one
+pub block_whole : (text bytes : List ℕ) (place : ℕ) → bytes ≡ text → 64 ≤ length (take (length bytes - place) (drop place bytes))
+    → chunk 0 64 (take (64 - 0) (drop 0 (take (length bytes - place) (drop place bytes)))) ≡ slice_range text place (min (place + 64) (length text))
+block_whole text bytes place e long =
     let all : take (length bytes - place) (drop place bytes) ≡ drop place text = take_rest bytes place ∙ ap (drop place) e in
     let n = ap length all in
     let d = length-drop place text in
     let k : 64 ≡ min (place + 64) (length text) - place = omega arith in
-    h
-    ∙ ap (λ s. mask_l (map is_marked (take 64 (take 64 s)))) all
-    ∙ ap (λ s. mask_l (map is_marked s)) (take-take 64 64 (drop place text) (omega arith))
-    ∙ ap (λ i. mask_l (map is_marked (take i (drop place text)))) k
+    ap (λ s. take 64 (take 64 s)) all ∙ take-take 64 64 (drop place text) (omega arith) ∙ ap (λ i. take i (drop place text)) k
 
--- of the part of one
-pub marks_part : (text bytes : List ℕ) (place r : ℕ) → bytes ≡ text → length (take (length bytes - place) (drop place bytes)) < 64 → place ≤ length text → r ≡ mask_l (map is_marked (take (length bytes - place) (drop place bytes)))
-    → r ≡ mask_l (map is_marked (slice_range text place (min (place + 64) (length text))))
-marks_part text bytes place r e short within h =
+pub block_part : (text bytes : List ℕ) (place : ℕ) → bytes ≡ text → length (take (length bytes - place) (drop place bytes)) < 64 → place ≤ length text
+    → take (length bytes - place) (drop place bytes) ≡ slice_range text place (min (place + 64) (length text))
+block_part text bytes place e short within =
     let all : take (length bytes - place) (drop place bytes) ≡ drop place text = take_rest bytes place ∙ ap (drop place) e in
     let n = ap length all in
     let d = length-drop place text in
     let k : length text - place ≡ min (place + 64) (length text) - place = omega arith in
-    h
-    ∙ ap (λ s. mask_l (map is_marked s)) (all ∙ sym (take_rest text place))
-    ∙ ap (λ i. mask_l (map is_marked (take i (drop place text)))) k
+    all ∙ sym (take_rest text place) ∙ ap (λ i. take i (drop place text)) k
 
 -- a shifted mask is the mask of what is left
 mask_half : (b : Bool) (bs : List Bool) → mask_l (b ∷ bs) / 2 ≡ mask_l bs

@@ -1,6 +1,7 @@
 -- The next marked byte of a text, by the marks of a block.
 use Rattle.std.proofs.Common.{◌≡◌, ◌≢◌, ℕ, suc, ◌+◌, ◌*◌, ◌-◌, ◌/◌, ◌^◌, ◌<◌, ◌≤◌, Bool, true, false, not, cond, List, [], ◌∷◌, length, drop, map, refl, sym, ap, ◌∙◌, subst, inl, inr, arith}
 use Rattle.std.specs.List.{prefix_len}
+use Rattle.std.specs.Prelude.{slice_range}
 use Rattle.std.specs.Int.Count.{count_trailing_zeros}
 use Rattle.std.specs.Simd.Lanes.{chunk, mask_l}
 use Rattle.std.proofs.lemmas.Bool.{cases_lt}
@@ -38,6 +39,17 @@ has_marks {c} {place} {marks} k l e =
       forward = l;
       short = omega arith;
       marks_are = e ∙ ap (λ m. m / 2 ^ (place - c.base)) k.block.marks_are ∙ marks_later (text_of c) c.base c.seen place b l;
+    }
+
+-- the marks of a block from its front on
+pub block_marks : {c : Cursor} {place : ℕ} → Looking c place 0 → c.base ≡ place → place ≤ c.seen → HasMarks (text_of c) place c.seen c.marks
+block_marks {c} {place} k e l =
+    let s = k.block.short in
+    record {
+      within = k.block.seen_le;
+      forward = l;
+      short = omega arith;
+      marks_are = k.block.marks_are ∙ ap (λ b. mask_l (map is_marked (slice_range (text_of c) b c.seen))) e;
     }
 
 -- a mark was found so many bytes behind the place
@@ -105,9 +117,18 @@ mark_in {text} {same} {from} {to} e m = let P : List ℕ → Type 0 = λ t. IsNe
 pub clear_in : {text same : List ℕ} (from to : ℕ) → same ≡ text → IsClear same from to → IsClear text from to
 clear_in {text} {same} from to e m = let P : List ℕ → Type 0 = λ t. IsClear t from to in subst P e m
 
+pub stays_here : (c : Cursor) → Stays c c
+stays_here c = record { on = record { text_stays = refl; looks_grow = omega arith }; place_stays = refl; ahead_stays = refl }
+
 pub stays_then : {a b c : Cursor} → Stays a b → Stays b c → Stays a c
 stays_then h k = record {
   on = record { text_stays = k.on.text_stays ∙ h.on.text_stays; looks_grow = let x = h.on.looks_grow in let y = k.on.looks_grow in omega arith };
   place_stays = k.place_stays ∙ h.place_stays;
   ahead_stays = k.ahead_stays ∙ h.ahead_stays;
 }
+
+-- the walk may look on after its block, where no mark is left in it
+pub looked_to : {c : Cursor} {from : ℕ} (to : ℕ) → Looking c from 0 → from ≤ c.seen → to ≡ c.seen → IsClear (text_of c) from c.seen → Looking c to 0 × IsClear (text_of c) from to
+looked_to {c} {from} to k l e h =
+    let P : ℕ → Type 0 = λ p. Looking c p 0 × IsClear (text_of c) from p in
+    subst P (sym e) (looking_clear c.seen k l k.block.seen_le h, h)

@@ -1,12 +1,12 @@
 //! The body of a data: URL as it was given, in pieces: stretches of the text, and the values of escapes (URL
 //! Standard, section 1.3, percent-decode). Nothing is allocated.
 
-ghost use Rattle.std.specs.Prelude.{◌≡◌, ◌+◌, ◌*◌, ◌≤◌, ◌++◌, [], IfNone, IfSome, IsTrue, None, false, length};
+ghost use Rattle.std.specs.Prelude.{◌≡◌, ◌+◌, ◌*◌, ◌≤◌, ◌++◌, [], IfNone, IfSome, IsTrue, None, length};
 ghost use Rattle.std.specs.Option.{option_map};
 ghost use Rattle.data_url.specs.Pieces.{IsPiece, walk_at_front, bytes_of_next};
 ghost use Rattle.data_url.specs.Url.{behind};
-ghost use Rattle.data_url.specs.Steps.Chunks.{IsAtFront, IsBase64Chunk, IsChunk};
-ghost use Rattle.data_url.specs.Steps.Tail.{IsBodyEnd, IsSlice};
+ghost use Rattle.data_url.specs.Steps.Chunks.{GivesBytes};
+ghost use Rattle.data_url.specs.Steps.Tail.{IsBodyEnd};
 
 mod cursor;
 mod digits;
@@ -17,6 +17,7 @@ mod source;
 use cursor::Cursor;
 pub(crate) use cursor::ROOM;
 use std::marker::Model;
+use std::mem::replace;
 
 /// A piece of a body.
 #[derive(Drop)]
@@ -49,16 +50,6 @@ impl<'a> Model for Pieces<'a> {
     ghost invariant = { λ pieces. Knows pieces.cursor };
 }
 
-/// The next bytes of a body.
-pub(crate) enum Chunk<'a> {
-    /// A stretch of the text.
-    Slice(&'a [u8]),
-    /// Bytes gathered in a room, and how many.
-    Gathered(usize),
-    /// Nothing: the body has ended.
-    End,
-}
-
 impl<'a> Pieces<'a> {
     /// Returns the pieces of a text, from its first byte on. The text is what follows the comma of a data: URL.
     pub fn new(text: &'a str) -> Self
@@ -67,23 +58,6 @@ impl<'a> Pieces<'a> {
         Pieces {
             cursor: Cursor::new(text),
         }
-    }
-
-    /// Returns the pieces of a text. A text of less than 64 bytes is examined at once.
-    pub(crate) fn looking(text: &'a str) -> Self
-        ensures { IsAtFront text.entry.now result }
-    {
-        Pieces {
-            cursor: Cursor::looking(text),
-        }
-    }
-
-    /// Returns whether the text is known to be one slice.
-    pub(crate) fn is_slice(&self) -> bool
-        requires { self.now.ended ≡ false }
-        ensures { IsTrue result → IsSlice self.now.text }
-    {
-        self.cursor.is_unmarked()
     }
 
     /// Returns the next piece of the body. Returns None if the body has ended, and from then on.
@@ -116,34 +90,17 @@ impl<'a> Pieces<'a> {
         self.cursor.fragment()
     }
 
-    /// Returns the next bytes: a long stretch as it is, or shorter ones and the values of escapes gathered in a room.
-    /// The walk is passed by value and returned, so that it can stay in registers.
-    pub(crate) fn next_chunk(mut self, room: &mut [u8; ROOM]) -> (Pieces<'a>, Chunk<'a>)
-        ensures { IsChunk self.entry room.new result.1 result.0 }
+    /// Returns the next bytes, or None if the body has ended: a long stretch of the text as it is, or shorter ones and
+    /// the values of escapes, gathered in a room. The walk is moved out and back, so that it can stay in registers.
+    pub(crate) fn next_bytes<'r>(&mut self, room: &'r mut [u8; ROOM]) -> Option<&'r [u8]>
+    where
+        'a: 'r,
+        ensures { GivesBytes self.old result self.new }
     {
-        let len = self.cursor.gather(room);
-        if len > 0 {
-            return (self, Chunk::Gathered(len));
-        }
-        match self.cursor.next() {
-            None => (self, Chunk::End),
-            Some(Piece::Slice(slice)) => (self, Chunk::Slice(slice)),
-            Some(Piece::Byte(byte)) => {
-                room[0] = byte;
-                (self, Chunk::Gathered(1))
-            }
-        }
-    }
-
-    /// Returns the next bytes of a body that is base64, in which white space means nothing: a stretch of the text
-    /// with its tabs and newlines, or what `next_chunk` returns.
-    pub(crate) fn next_base64_chunk(mut self, room: &mut [u8; ROOM]) -> (Pieces<'a>, Chunk<'a>)
-        ensures { IsBase64Chunk self.entry room.new result.1 result.0 }
-    {
-        match self.cursor.next_span() {
-            Some(slice) => (self, Chunk::Slice(slice)),
-            None => self.next_chunk(room),
-        }
+        let mut cursor = replace(&mut self.cursor, Cursor::new(""));
+        let bytes = cursor.next_bytes(room);
+        self.cursor = cursor;
+        bytes
     }
 
     /// Returns whether the walk is known to be at the end of the body.

@@ -1,6 +1,5 @@
 -- Where the body of a tail ends: a tail is what stands behind the comma of a text as it was given.
-use Rattle.std.specs.Prelude.{[], ◌∷◌, ◌<◌, ◌≡◌, ◌≤◌, List, None, Option, Some, drop, length, ℕ}
-use Rattle.data_url.specs.Fetch.{plain_body}
+use Rattle.std.specs.Prelude.{[], ◌∷◌, ◌≡◌, ◌≤◌, List, None, Option, Some, drop, length, ℕ}
 use Rattle.data_url.specs.Url.{behind}
 
 -- nothing, or a '#'
@@ -18,9 +17,3 @@ pub record IsBodyEnd (tail : List ℕ) (place : ℕ) : Type 0 where
   pub within : place ≤ length tail
   pub begins : BeginsFragment (drop place tail)
   pub behind_is : behind 35 tail ≡ rest_fragment (drop place tail)
-
--- the tail has bytes, and its body is the tail as it stands
-pub record IsSlice (tail : List ℕ) : Type 0 where
-  pub some : 0 < length tail
-  pub body : plain_body tail ≡ tail
-  pub ends : IsBodyEnd tail (length tail)

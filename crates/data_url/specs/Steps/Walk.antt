@@ -1,13 +1,11 @@
 -- A walk over the text of a body: what its steps find and what they keep.
-use Rattle.std.specs.Borrow.{Bor}
-use Rattle.std.specs.Prelude.{◌*◌, ◌++◌, ◌+◌, ◌-◌, ◌<◌, ◌≡◌, ◌≤◌, Bool, IfNone, IfSome, List, MatchBool, MatchOption, None, Option, Some, drop, false, length, map, slice_index, slice_range, take, true, ℕ}
+use Rattle.std.specs.Prelude.{◌*◌, ◌++◌, ◌+◌, ◌-◌, ◌<◌, ◌≡◌, ◌≤◌, Bool, IfNone, IfSome, List, MatchBool, None, Option, Some, drop, false, length, map, slice_index, slice_range, take, true, ℕ}
 use Rattle.std.specs.Simd.Lanes.{mask_l}
-use Rattle.data_url.specs.Base64.{without_whitespace}
 use Rattle.data_url.specs.Fetch.{plain_body}
 use Rattle.data_url.specs.Pieces.{IsPiece, bytes_of_next, escape, has_ended, text_of}
 use Rattle.data_url.specs.Steps.Looks.{paid_looks}
 use Rattle.data_url.specs.Steps.Tail.{BeginsFragment}
-use Rattle.data_url.specs.Steps.Window.{IsFree, is_marked}
+use Rattle.data_url.specs.Steps.Window.{is_marked}
 use Rattle.data_url.specs.Url.{behind, is_tab_or_newline}
 use Rattle.data_url.specs.declared.escapes.Piece.{Piece}
 use Rattle.data_url.specs.declared.escapes.cursor.Ahead.TheVariants.{BehindEscape, End, Escape, Unknown}
@@ -23,16 +21,6 @@ pub record Reads (text : List ℕ) (from to : ℕ) (bytes : List ℕ) : Type 0 w
   pub few : from + length bytes ≤ to
   pub within : to ≤ length text
   pub body : plain_body (drop from text) ≡ bytes ++ plain_body (drop to text)
-  pub behind_is : behind 35 (drop from text) ≡ behind 35 (drop to text)
-
--- from one place of a text to another, a walk over its body reads the text itself, but for white
--- space
-pub record ReadsSpaced (text : List ℕ) (from to : ℕ) : Type 0 where
-  pub forward : from ≤ to
-  pub within : to ≤ length text
-  pub body : without_whitespace (plain_body (drop from text))
-      ≡ without_whitespace (slice_range text from to)
-      ++ without_whitespace (plain_body (drop to text))
   pub behind_is : behind 35 (drop from text) ≡ behind 35 (drop to text)
 
 -- an escape of the value stands at one place and ends at another
@@ -67,12 +55,6 @@ pub record IsNextMark (text : List ℕ) (from to : ℕ) : Type 0 where
   pub within : to ≤ length text
   pub clear : IsClear text from to
   pub marked : to < length text → is_marked (slice_index text to) ≡ true
-
--- the text has neither '#' nor '%' between two places
-pub record IsFreeTo (text : List ℕ) (from to : ℕ) : Type 0 where
-  pub forward : from ≤ to
-  pub within : to ≤ length text
-  pub free : IsFree text from to
 
 -- Walks
 
@@ -189,11 +171,3 @@ IsGathered c c' len ended =
     MatchBool ended
     ((len ≤ 256) × (c'.ahead ≡ End) × Ended c' c'.place)
     ((c'.seen ≡ c.seen) × (c.place < c'.place) × MayGather c' len)
-
--- a walk hands out the text from its place up to another, which is read so but for white space, or
--- stays at its place
-pub record Spans (c : Cursor) (slice : Option (Bor (List ℕ))) (c' : Cursor) : Type 0 where
-  pub on : LooksOn c c'
-  pub gave : MatchOption slice (c'.place ≡ c.place)
-      (λ s. ReadsSpaced (text_of c) c.place c'.place × (c.place < c'.place)
-      × (s.now ≡ slice_range (text_of c) c.place c'.place))

@@ -1,10 +1,11 @@
 //! The walk over the text of a body.
 
-ghost use Rattle.std.specs.Prelude.{ℕ, ◌≡◌, ◌+◌, ◌-◌, ◌^◌, ◌<◌, ◌≤◌, IsTrue, MatchOption, length, slice_index, slice_range, true, false};
+ghost use Rattle.std.specs.Prelude.{ℕ, ◌≡◌, ◌+◌, ◌-◌, ◌^◌, ◌<◌, ◌≤◌, IsTrue, MatchOption, length, slice_index, slice_range, true};
 ghost use Rattle.std.specs.Option.{option_map};
-ghost use Rattle.data_url.specs.Pieces.{IsPiece, IsStretch, bytes_of, has_ended, text_of};
+ghost use Rattle.data_url.specs.Pieces.{IsPiece, IsStretch, bytes_of, has_ended, text_of, walk_of};
+ghost use Rattle.data_url.specs.Steps.Chunks.{GivesBytes};
 ghost use Rattle.data_url.specs.Url.{behind};
-ghost use Rattle.data_url.specs.Steps.Walk.{Ended, EscapeAt, Gathers, GoesOn, HasRoom, IsClear, IsGathered, IsNear, IsNextMark, IsPlain, IsStop, IsFreeTo, IsWide, KeepsBlock, Knows, KnowsAhead, Looking, LooksOn, MayGather, Moves, Spans, Stays};
+ghost use Rattle.data_url.specs.Steps.Walk.{Ended, EscapeAt, Gathers, GoesOn, HasRoom, IsGathered, IsNear, IsNextMark, IsPlain, IsStop, IsWide, KeepsBlock, Knows, KnowsAhead, Looking, LooksOn, MayGather, Moves, Stays};
 ghost use Rattle.data_url.specs.Steps.Window.{is_marked};
 
 use super::Piece;
@@ -77,60 +78,20 @@ impl<'a> Cursor<'a> {
         }
     }
 
-    /// Looks at the block that begins at a place.
+    /// Looks at the block at a place.
     #[inline(always)]
     fn look_on(&mut self, place: usize)
+        requires within { place < length (text_of self.old) }
         requires unseen { self.old.seen ≤ place }
         requires looking { Looking self.old place 0 }
         ensures looking { Looking self.new place 0 }
         ensures stays { Stays self.old self.new }
         ensures begins { self.new.base ≡ place }
-        ensures seen { place < length (text_of self.old) → place < self.new.seen }
+        ensures seen { place < self.new.seen }
     {
         self.marks = self.source.look_block(place);
         self.base = place;
         self.seen = place + (self.source.len() - place).min(BLOCK);
-    }
-
-    /// Looks at the block at a place, unless that was done before.
-    #[inline(always)]
-    fn see(&mut self, place: usize)
-        requires within { place < length (text_of self.old) }
-        requires looking { Looking self.old place 0 }
-        ensures looking { Looking self.new place 0 }
-        ensures stays { Stays self.old self.new }
-        ensures seen { place < self.new.seen }
-    {
-        if place >= self.seen {
-            self.look_on(place);
-        }
-    }
-
-    /// A walk that begins at the front of a text. A text of less than a block is looked at at once.
-    pub(super) fn looking(text: &'a str) -> Self
-        ensures text { text_of result ≡ text.entry.now }
-        ensures place { result.place ≡ 0 }
-        ensures ended { has_ended result.ahead ≡ false }
-        ensures knows { Knows result }
-    {
-        let mut cursor = Cursor::new(text);
-        if text.len() < BLOCK {
-            cursor.look_on(0);
-        }
-        cursor
-    }
-
-    /// Whether the block that was looked at last is the whole text, and has bytes and no mark.
-    pub(super) fn is_unmarked(&self) -> bool
-        requires knows { Knows self.now }
-        requires going { has_ended self.now.ahead ≡ false }
-        ensures { IsTrue result → (0 < length (text_of self.now))
-            × IsClear (text_of self.now) 0 (length (text_of self.now)) }
-    {
-        if self.base > 0 || self.seen < self.source.len() {
-            return false;
-        }
-        self.marks == 0 && self.seen > 0
     }
 
     /// The place of the first marked byte from a place on, or the end of the text.
@@ -142,7 +103,7 @@ impl<'a> Cursor<'a> {
         ensures mark { IsNextMark (text_of self.old) from result }
         ensures bound { length (text_of self.old) < 2 ^ 64 }
     {
-        let _len = self.source.len();
+        let len = self.source.len();
         let mut place = from;
         if place < self.seen {
             let marks = self.marks >> (place - self.base);
@@ -151,32 +112,12 @@ impl<'a> Cursor<'a> {
             }
             place = self.seen;
         }
-        self.next_unseen_mark(place)
-    }
-
-    /// Returns the place of the next mark, if the walk looked at no byte from the place on. The block with the mark is
-    /// kept, and no block before it.
-    #[inline(always)]
-    fn next_unseen_mark(&mut self, from: usize) -> usize
-        requires unseen { self.old.seen ≤ from }
-        requires looking { Looking self.old from 0 }
-        ensures looking { Looking self.new result 0 }
-        ensures stays { Stays self.old self.new }
-        ensures mark { IsNextMark (text_of self.old) from result }
-        ensures bound { length (text_of self.old) < 2 ^ 64 }
-    {
-        let mut place = from;
-        while place < self.source.len() {
-            let end = place + (self.source.len() - place).min(BLOCK);
-            match self.source.look_for_marks(place) {
-                None => place = end,
-                Some(marks) => {
-                    self.base = place;
-                    self.seen = end;
-                    self.marks = marks;
-                    return place + marks.trailing_zeros() as usize;
-                }
+        while place < len {
+            self.look_on(place);
+            if self.marks != 0 {
+                return place + self.marks.trailing_zeros() as usize;
             }
+            place = self.seen;
         }
         place
     }
@@ -320,66 +261,43 @@ impl<'a> Cursor<'a> {
         Piece::Slice(slice)
     }
 
-    /// A place up to which the text has neither `#` nor `%`, from the place on. It is the end, or that of a block with one.
+    /// The next bytes: a long stretch of the text as it is, or shorter ones and the values of escapes, gathered in a room.
     #[inline(always)]
-    fn free_end(&mut self) -> usize
-        requires unseen { self.old.seen ≤ self.old.place }
-        requires looking { Looking self.old self.old.place 0 }
-        ensures looking { Looking self.new result 0 }
-        ensures stays { Stays self.old self.new }
-        ensures free { IsFreeTo (text_of self.old) self.old.place result }
+    pub(super) fn next_bytes<'r>(&mut self, room: &'r mut [u8; ROOM]) -> Option<&'r [u8]>
+    where
+        'a: 'r,
+        requires { Knows self.old }
+        ensures gives { GivesBytes (walk_of self.old) result (walk_of self.new) }
+        ensures knows { Knows self.new }
     {
-        let mut place = self.place;
-        while place < self.source.len() {
-            let end = place + (self.source.len() - place).min(BLOCK);
-            match self.source.look_past(place) {
-                None => place = end,
-                Some(marks) => {
-                    self.base = place;
-                    self.seen = end;
-                    self.marks = marks;
-                    return place;
-                }
+        let len = self.gather(room);
+        if len > 0 {
+            return Some(&room[..len]);
+        }
+        match self.next() {
+            None => None,
+            Some(Piece::Slice(slice)) => Some(slice),
+            Some(Piece::Byte(byte)) => {
+                room[0] = byte;
+                Some(&room[..1])
             }
         }
-        place
-    }
-
-    /// Returns the text from the place on, with tabs and newlines, up to a place before which there is no `#` and no
-    /// `%`: of base64, where white space means nothing. None where it is not known that there is such a text.
-    #[inline(always)]
-    pub(super) fn next_span(&mut self) -> Option<&'a [u8]>
-        requires { Knows self.old }
-        ensures knows { Knows self.new }
-        ensures spans { Spans self.old result self.new }
-    {
-        let place = self.place;
-        if !matches!(self.ahead, Ahead::Unknown) || place < self.seen {
-            return None;
-        }
-        let end = self.free_end();
-        if end == place {
-            return None;
-        }
-        self.place = end;
-        Some(self.source.cut(place, end))
     }
 
     /// Gathers the bytes of the next pieces in a room while they come in short stretches, and returns how many. None are
     /// gathered where the body ends or a long stretch begins.
     #[inline(always)]
-    pub(super) fn gather(&mut self, room: &mut [u8; ROOM]) -> usize
+    fn gather(&mut self, room: &mut [u8; ROOM]) -> usize
         requires { Knows self.old }
         ensures gathers { Gathers self.old self.new room.old room.new 0 result }
         ensures few { result ≤ 256 }
         ensures knows { Knows self.new }
     {
         let mut len = self.gather_known(room);
-        while len <= ROOM - 2 * BLOCK && self.is_mark_near() {
-            len = if self.source.len() - self.seen < BLOCK {
+        while len <= ROOM - 2 * BLOCK && self.is_mark_near(len) {
+            let last = self.source.len() - self.seen < BLOCK;
+            len = if last || self.marks.count_ones() >= MANY {
                 self.gather_block(room, len, false, true)
-            } else if self.marks.count_ones() >= MANY {
-                self.gather_block(room, len, true, true)
             } else {
                 self.gather_block(room, len, true, false)
             };
@@ -411,10 +329,10 @@ impl<'a> Cursor<'a> {
         }
     }
 
-    /// Returns whether a mark or the end of the text is less than a block after the place. The block at the place is
-    /// looked at.
+    /// Returns whether to gather the block at the place, where so many bytes were gathered before: it has a mark, or it
+    /// is to fill the room.
     #[inline(always)]
-    fn is_mark_near(&mut self) -> bool
+    fn is_mark_near(&mut self, len: usize) -> bool
         requires plain { IsPlain self.old.ahead }
         requires knows { KnowsAhead self.old self.old.ahead }
         ensures plain { IsPlain self.new.ahead }
@@ -431,8 +349,10 @@ impl<'a> Cursor<'a> {
             self.ahead = Ahead::End;
             return false;
         }
-        self.see(place);
-        self.seen - place < BLOCK || self.marks != 0
+        if place >= self.seen {
+            self.look_on(place);
+        }
+        len > 0 || self.marks != 0
     }
 
     /// Gathers what is left of the block that was looked at, after the bytes that were gathered before. A wide block has

@@ -1,8 +1,8 @@
 //! The bytes at which a body is not simply its text, found 64 at a time.
 
-ghost use Rattle.std.specs.Prelude.{◌≡◌, ◌==◌, false, map, not};
+ghost use Rattle.std.specs.Prelude.{◌≡◌, map};
 ghost use Rattle.std.specs.Simd.Lanes.{mask_l};
-ghost use Rattle.data_url.specs.Steps.Window.{is_marked, is_stop};
+ghost use Rattle.data_url.specs.Steps.Window.{is_marked};
 
 use std::simd::prelude::*;
 
@@ -25,25 +25,4 @@ pub(super) fn marks_of(bytes: u8x64) -> u64
         .swizzle_dyn_within::<16>(bytes & u8x64::splat(15))
         .simd_eq(bytes)
         .to_bitmask()
-}
-
-/// Whether one of 64 bytes is a tab, a newline, `#` or `%`.
-#[inline(always)]
-pub(super) fn has_marks(bytes: u8x64) -> bool
-    ensures { result ≡ not (mask_l (map is_marked bytes) == 0) }
-{
-    u8x64::from_array(MARKED)
-        .swizzle_dyn_within::<16>(bytes & u8x64::splat(15))
-        .simd_eq(bytes)
-        .any()
-}
-
-/// Whether `#` or `%` may be among 64 bytes. `!` and `'` count too, which have the bits of both; base64 has none of them.
-#[inline(always)]
-pub(super) fn may_stop(bytes: u8x64) -> bool
-    ensures { result ≡ false → mask_l (map is_stop bytes) ≡ 0 }
-{
-    (bytes & u8x64::splat(0xf9))
-        .simd_eq(u8x64::splat(0x21))
-        .any()
 }

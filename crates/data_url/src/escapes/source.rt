@@ -1,12 +1,11 @@
 //! The text of a body, whose bytes are examined through counted looks alone.
 
-ghost use Rattle.std.specs.Prelude.{◌≡◌, ◌≢◌, IsTrue, MatchOption, [], ◌+◌, ◌-◌, ◌^◌, ◌++◌, ◌<◌, ◌≤◌, drop, length, map, min, slice_index, slice_range, take};
+ghost use Rattle.std.specs.Prelude.{◌≡◌, IsTrue, [], ◌+◌, ◌-◌, ◌^◌, ◌++◌, ◌<◌, ◌≤◌, drop, length, map, min, slice_index, slice_range, take};
 ghost use Rattle.std.specs.Simd.Lanes.{mask_l};
-ghost use Rattle.data_url.specs.Steps.Window.{IsFree, is_marked};
-ghost use Rattle.data_url.specs.Steps.Walk.{IsClear};
+ghost use Rattle.data_url.specs.Steps.Window.{is_marked};
 
 use super::cursor::ROOM;
-use super::lanes::{BLOCK, has_marks, marks_of, may_stop};
+use super::lanes::{BLOCK, marks_of};
 use super::looks::Looks;
 use std::mem::replace;
 use std::simd::prelude::*;
@@ -62,7 +61,7 @@ impl<'a> Source<'a> {
         self.text.as_bytes()[place]
     }
 
-    /// The marks of the block of at most 64 bytes that begins at a place. Each of its bytes counts as a look.
+    /// Returns the marks of the block of at most 64 bytes that begins at a place. Each of its bytes counts as a look.
     #[inline(always)]
     pub(super) fn look_block(&mut self, place: usize) -> u64
         requires { place ≤ length self.old.text.now }
@@ -73,62 +72,11 @@ impl<'a> Source<'a> {
             self.new.looks ≡ self.old.looks + (end - place) }
     {
         let rest = &self.text.as_bytes()[place..];
-        if rest.len() < BLOCK {
-            self.looks.count(rest.len());
-            return last_marks(rest);
-        }
-        self.looks.count(BLOCK);
-        marks_of(u8x64::from_slice(&rest[..BLOCK]))
-    }
-
-    /// Returns the marks of the block at a place, or None if it has none. Each of its bytes counts as a look.
-    #[inline(always)]
-    pub(super) fn look_for_marks(&mut self, place: usize) -> Option<u64>
-        requires { place ≤ length self.old.text.now }
-        ensures marks { let end = min (place + 64) (length self.old.text.now) in
-            MatchOption result (IsClear self.old.text.now place end)
-            (λ marks. (marks ≡ mask_l (map is_marked (slice_range self.old.text.now place end)))
-            × (marks ≢ 0)) }
-        ensures text { self.new.text.now ≡ self.old.text.now }
-        ensures looks { let end = min (place + 64) (length self.old.text.now) in
-            self.new.looks ≡ self.old.looks + (end - place) }
-    {
-        let rest = &self.text.as_bytes()[place..];
         self.looks.count(rest.len().min(BLOCK));
         if rest.len() < BLOCK {
-            let marks = last_marks(rest);
-            return if marks == 0 { None } else { Some(marks) };
-        }
-        let block = u8x64::from_slice(&rest[..BLOCK]);
-        if has_marks(block) {
-            Some(marks_of(block))
+            last_marks(rest)
         } else {
-            None
-        }
-    }
-
-    /// The marks of such a block where it has `#` or `%`, or None where it has neither. Each of its bytes counts as a look.
-    #[inline(always)]
-    pub(super) fn look_past(&mut self, place: usize) -> Option<u64>
-        requires { place ≤ length self.old.text.now }
-        ensures marks { let end = min (place + 64) (length self.old.text.now) in
-            MatchOption result (IsFree self.old.text.now place end)
-            (λ marks. marks ≡ mask_l (map is_marked (slice_range self.old.text.now place end))) }
-        ensures text { self.new.text.now ≡ self.old.text.now }
-        ensures looks { let end = min (place + 64) (length self.old.text.now) in
-            self.new.looks ≡ self.old.looks + (end - place) }
-    {
-        let rest = &self.text.as_bytes()[place..];
-        self.looks.count(rest.len().min(BLOCK));
-        if rest.len() < BLOCK {
-            let marks = last_marks(rest);
-            return if marks == 0 { None } else { Some(marks) };
-        }
-        let block = u8x64::from_slice(&rest[..BLOCK]);
-        if may_stop(block) {
-            Some(marks_of(block))
-        } else {
-            None
+            marks_of(u8x64::from_slice(&rest[..BLOCK]))
         }
     }
 
@@ -180,7 +128,7 @@ impl<'a> Source<'a> {
     }
 }
 
-/// The marks of fewer than 64 bytes.
+/// Returns the marks of fewer than 64 bytes.
 #[inline(never)]
 fn last_marks(rest: &[u8]) -> u64
     requires { length rest.now < 64 }

@@ -1,15 +1,16 @@
--- What was passed has neither '#' nor '%'.
-use Rattle.std.proofs.Common.{◌-◌, ◌≤◌, length}
-use Rattle.data_url.specs.Steps.Walk.{IsFreeTo, Looking, Stays}
+-- No mark comes before the place, and no byte after it was looked at.
+use Rattle.std.proofs.Common.{◌≤◌, ◌-◌, length}
+use Rattle.data_url.specs.Steps.Walk.{IsClear, Looking, Stays}
 use Rattle.data_url.specs.Pieces.{text_of}
-use Rattle.data_url.proofs.escapes.cursor.Cursor.free_end.Given as goal
+use Rattle.data_url.proofs.escapes.cursor.Cursor.next_mark.Given as goal
 
 abbrev pub invariant-loop-place : goal.invariant-loop-place
 invariant-loop-place l = record {
   looking : Looking l.self l.place 0;
   stays : Stays l.fn.self l.self;
   unseen : l.self.seen ≤ l.place;
-  free : IsFreeTo (text_of l.fn.self) l.fn.self.place l.place;
+  forward : l.from ≤ l.place;
+  clear : IsClear (text_of l.fn.self) l.from l.place;
 }
 
 abbrev pub decreases-loop-place : goal.decreases-loop-place

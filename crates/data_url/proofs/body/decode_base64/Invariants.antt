@@ -3,13 +3,13 @@ use Rattle.std.proofs.Common.{◌≡◌, ◌-◌, length, false}
 use Rattle.std.specs.Fn.{CalledAt, always_mut}
 use Rattle.data_url.specs.Decoder.{start, state_of}
 use Rattle.data_url.proofs.Base64BodyLemmas.{Fed}
-use Rattle.data_url.proofs.body.decode_base64_pieces.Given as goal
+use Rattle.data_url.proofs.body.decode_base64.Given as goal
 
 abbrev pub invariant-chunks : goal.invariant-chunks
 invariant-chunks g l =
     always_mut g.F.FnMut (state_of l.decoder).closure
     × ((state_of l.decoder).failed ≡ false)
-    × Fed (CalledAt g.F.FnMut) (start l.fn.write) l.fn.front.text l.pieces (state_of l.decoder)
+    × Fed (CalledAt g.F.FnMut) (start l.fn.write) l.fn.tail l.pieces (state_of l.decoder)
 
 abbrev pub decreases-chunks : goal.decreases-chunks
-decreases-chunks g l = length l.fn.front.text - l.pieces.place
+decreases-chunks g l = length l.fn.tail - l.pieces.place
