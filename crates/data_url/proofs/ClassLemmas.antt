@@ -1,66 +1,77 @@
 -- Classes of bytes by the halves of a byte, sixteen bytes at a time.
-use Rattle.std.proofs.Common.{◌≡◌, ℕ, ◌+◌, ◌/◌, ◌%◌, ◌^◌, ◌<◌, ◌≤◌, Bool, List, [], ◌∷◌, cond, eqb, not, map, take, drop, length, bit_and, get_or, true, false, refl, sym, ap, ◌∙◌, ⊎_elim, arith, w8, length-drop, length-take-le}
-use Rattle.std.proofs.lemmas.Bool.{agree_below_at, cases_lt, eqb-true}
-use Rattle.std.proofs.lemmas.List.{length-map}
-use Rattle.std.proofs.lemmas.Simd.{bitmask_splat, map-map, none_from_empty_mask}
+use Rattle.std.proofs.Common.{◌≡◌, ◌≢◌, ℕ, zero, suc, ◌+◌, ◌-◌, ◌/◌, ◌%◌, ◌^◌, ◌<◌, ◌≤◌, Bool, List, [], ◌∷◌, cond, map, take, drop, length, bit_and, get_or, true, false, sym, ap, ◌∙◌, ⊎_elim, arith, w8, length-drop, length-take-le}
+use Rattle.std.specs.Prelude.{◌==◌, ◌||◌, not, slice_index}
+use Rattle.std.specs.List.{prefix_len}
+use Rattle.std.proofs.lemmas.Bool.{agree_below, agree_below_at, cases_lt, false≢true, not-true}
+use Rattle.std.proofs.lemmas.List.{get_or-drop, get_or-take, length-map}
+use Rattle.std.proofs.lemmas.List.Sums.{prefix_len-drop_yes, prefix_len-le-length, prefix_len_passes}
+use Rattle.std.proofs.lemmas.Simd.{bitmask_splat, map-map, none_from_empty_mask, trailing_mask_l}
+use lib.Count.{count_trailing_zeros}
 use lib.Lanes.{mask_l, top, zip2}
-use Rattle.std.specs.Prelude.{◌==◌, slice_index}
-use Rattle.data_url.specs.CodePoints.{is_token}
-use Rattle.data_url.specs.Steps.Classes.{AreOf, IsRowOf, column_mark, in_class}
-use Rattle.data_url.specs.Steps.Front.{is_plain_path}
-use Rattle.data_url.specs.Steps.Parsing.{is_lower_token, is_quotable_byte, is_unquoted_byte}
-use Rattle.data_url.specs.declared.classes.Class.TheVariants.{LowerToken, PlainPath, Quotable, Token, Unquoted}
-use Rattle.data_url.specs.declared.classes.Class.{Class}
+use Rattle.data_url.specs.Steps.Classes.{AreOf, is_marked}
 use Rattle.data_url.specs.declared.classes.TheConstants.{CLASSES}
 use Rattle.data_url.specs.declared.classes.lanes.TheConstants.{COLUMNS}
 use Rattle.data_url.proofs.BlockLemmas.{differs}
 use Rattle.data_url.proofs.LaneLemmas.{joined}
 
--- a byte that the mask passes has no mark
-no_mark : (m : ℕ) → differs m 0 ≡ false → m ≡ 0
-no_mark m e = eqb-true m 0 (not_false (eqb m 0) e)
-  where
-    not_false : (b : Bool) → not b ≡ false → b ≡ true
-    not_false true h = refl
-    not_false false h = absurd (let k = h in cc)
+-- A row
 
-pub row_length : (text : List ℕ) (at : ℕ) → at + 16 ≤ length text → length (take 16 (drop at text)) ≡ 16
-row_length text at room = length-take-le 16 (drop at text) (omega (arith, length-drop at text))
+abbrev pub row_at : List ℕ → ℕ → List ℕ
+row_at bytes at = take 16 (drop at bytes)
 
-pub row_passes : (others text low high : List ℕ) (at : ℕ) → at + 16 ≤ length text
-    → low ≡ map (λ b. get_or others (bit_and b 15) 0) (take 16 (drop at text)) → high ≡ map (λ b. get_or COLUMNS (b / 16) 0) (take 16 (drop at text))
-    → mask_l (map (top 7) (zip2 (λ a b. cond (differs a b) 255 0) (zip2 bit_and low high) (0 ∷ 0 ∷ 0 ∷ 0 ∷ 0 ∷ 0 ∷ 0 ∷ 0 ∷ 0 ∷ 0 ∷ 0 ∷ 0 ∷ 0 ∷ 0 ∷ 0 ∷ 0 ∷ []))) % 2 ^ 64 ≡ 0
-    → IsRowOf others text at
-row_passes others text low high at room p q none k l m =
-    let v = take 16 (drop at text) in
-    let marks = joined bit_and (λ b. get_or others (bit_and b 15) 0) (λ b. get_or COLUMNS (b / 16) 0) v p q in
-    let whole : mask_l (map (λ b. differs (column_mark others b) 0) v) ≡ 0 =
-    sym (ap mask_l (ap (map (λ x. differs x 0)) marks ∙ map-map (λ x. differs x 0) (column_mark others) v))
-    ∙ sym (bitmask_splat w8 differs (zip2 bit_and low high) 16 0 (ap length marks ∙ length-map v (column_mark others) ∙ row_length text at room) (omega arith))
-    ∙ none in
-    no_mark (column_mark others (get_or text k 0)) (none_from_empty_mask (λ b. differs (column_mark others b) 0) text at 16 0 room whole k l m)
+pub row_length : (bytes : List ℕ) (at : ℕ) → at + 16 ≤ length bytes → length (row_at bytes at) ≡ 16
+row_length bytes at room = length-take-le 16 (drop at bytes) (omega (arith, length-drop at bytes))
+
+pub marks_are : (others v low high : List ℕ) → length v ≡ 16 → low ≡ map (λ b. get_or others (bit_and b 15) 0) v → high ≡ map (λ b. get_or COLUMNS (b / 16) 0) v
+    → mask_l (map (top 7) (zip2 (λ a b. cond (differs a b) 255 0) (zip2 bit_and low high) (0 ∷ 0 ∷ 0 ∷ 0 ∷ 0 ∷ 0 ∷ 0 ∷ 0 ∷ 0 ∷ 0 ∷ 0 ∷ 0 ∷ 0 ∷ 0 ∷ 0 ∷ 0 ∷ []))) % 2 ^ 64 ≡ mask_l (map (is_marked others) v)
+marks_are others v low high long p q =
+    let column : ℕ → ℕ = λ b. bit_and (get_or others (bit_and b 15) 0) (get_or COLUMNS (b / 16) 0) in
+    let marks : zip2 bit_and low high ≡ map column v = joined bit_and (λ b. get_or others (bit_and b 15) 0) (λ b. get_or COLUMNS (b / 16) 0) v p q in
+    bitmask_splat w8 differs (zip2 bit_and low high) 16 0 (ap length marks ∙ length-map v column ∙ long) (omega arith)
+    ∙ ap mask_l (ap (map (λ x. differs x 0)) marks ∙ map-map (λ x. differs x 0) column v)
 
 -- the bytes before a place are of a class
 pub record Looked (others bytes : List ℕ) (at : ℕ) : Type 0 where
   pub within : at ≤ length bytes
   pub front : AreOf others bytes at
 
-pub one_row_more : (others bytes : List ℕ) (at : ℕ) → Looked others bytes at → at + 16 ≤ length bytes → IsRowOf others bytes at → Looked others bytes (at + 16)
-one_row_more others bytes at h room row = record { within = room; front = λ k l. ⊎_elim (λ (e : k < at). h.front k e) (λ (e : at ≤ k). row k e l) (cases_lt k at) }
+looked_further : (others bytes : List ℕ) (at n : ℕ) → Looked others bytes at → at + n ≤ length bytes → ((k : ℕ) → at ≤ k → k < at + n → is_marked others (get_or bytes k 0) ≡ false) → Looked others bytes (at + n)
+looked_further others bytes at n h room row = record { within = room; front = λ k l. ⊎_elim (λ (e : k < at). h.front k e) (λ (e : at ≤ k). row k e l) (cases_lt k at) }
 
--- the table's entries are the classes
+pub whole_row : (others bytes : List ℕ) (at marks : ℕ) → Looked others bytes at → at + 16 ≤ length bytes → marks ≡ mask_l (map (is_marked others) (row_at bytes at)) → marks ≡ 0 → Looked others bytes (at + 16)
+whole_row others bytes at marks h room e none = looked_further others bytes at 16 h room (none_from_empty_mask (is_marked others) bytes at 16 0 room (sym e ∙ none))
 
-abbrev pub bit_of : Class → ℕ
-bit_of Token = 1
-bit_of LowerToken = 2
-bit_of Quotable = 4
-bit_of Unquoted = 8
-bit_of PlainPath = 16
+pub part_of_row : (others bytes : List ℕ) (at marks : ℕ) → Looked others bytes at → at + 16 ≤ length bytes → marks ≡ mask_l (map (is_marked others) (row_at bytes at)) → marks ≢ 0 → Looked others bytes (at + count_trailing_zeros 64 marks)
+part_of_row others bytes at marks h room e some =
+    let row = row_at bytes at in
+    let p : ℕ → Bool = λ b. not (is_marked others b) in
+    let n = count_trailing_zeros 64 marks in
+    let long = row_length bytes at room in
+    let first : n ≡ prefix_len p row = ap (count_trailing_zeros 64) e ∙ trailing_mask_l (is_marked others) 64 row (omega (arith, long)) (omega (arith, e)) in
+    let few : n ≤ 16 = omega (arith, first, long, prefix_len-le-length p row) in
+    looked_further others bytes at n h (omega (arith, few)) (λ k l m.
+    let back : at + (k - at) ≡ k = omega arith in
+    let below : k - at < 16 = omega (arith, few) in
+    not-true (is_marked others (get_or bytes k 0))
+    (ap p (ap (λ i. get_or bytes i 0) (sym back) ∙ sym (get_or-drop at bytes (k - at) 0) ∙ sym (get_or-take 16 (drop at bytes) (k - at) 0 below))
+    ∙ prefix_len_passes p row (k - at) 0 (omega (arith, first))))
 
-pub entry_is : (class : Class) (b : ℕ) → b < 256 → not (bit_and (slice_index CLASSES b) (bit_of class) == 0) ≡ in_class class b
-unfolding is_token is_quotable_byte
-entry_is Token b l = agree_below_at (λ b. not (bit_and (slice_index CLASSES b) 1 == 0)) is_token 256 b refl l
-entry_is LowerToken b l = agree_below_at (λ b. not (bit_and (slice_index CLASSES b) 2 == 0)) is_lower_token 256 b refl l
-entry_is Quotable b l = agree_below_at (λ b. not (bit_and (slice_index CLASSES b) 4 == 0)) is_quotable_byte 256 b refl l
-entry_is Unquoted b l = agree_below_at (λ b. not (bit_and (slice_index CLASSES b) 8 == 0)) is_unquoted_byte 256 b refl l
-entry_is PlainPath b l = agree_below_at (λ b. not (bit_and (slice_index CLASSES b) 16 == 0)) is_plain_path 256 b refl l
+-- From rows to bytes
+
+pub entry_is : (p : ℕ → Bool) (bit : ℕ) → agree_below (λ b. not (bit_and (slice_index CLASSES b) bit == 0)) p 256 ≡ true → (b : ℕ) → b < 256 → not (bit_and (slice_index CLASSES b) bit == 0) ≡ p b
+entry_is p bit h b l = agree_below_at (λ b. not (bit_and (slice_index CLASSES b) bit == 0)) p 256 b h l
+
+-- a byte that has no mark passes a test
+pub unmarked_passes : (m p : ℕ → Bool) → agree_below (λ b. m b || p b) (λ _. true) 256 ≡ true → (b : ℕ) → b < 256 → m b ≡ false → p b ≡ true
+unmarked_passes m p h b l e = sym (ap (λ t. t || p b) e) ∙ agree_below_at (λ b. m b || p b) (λ _. true) 256 b h l
+
+pub all_marked : (m p : ℕ → Bool) → agree_below m (λ _. true) 256 ≡ true → (b : ℕ) → b < 256 → m b ≡ false → p b ≡ true
+all_marked m p h b l e = absurd (false≢true (sym e ∙ agree_below_at m (λ _. true) 256 b h l))
+
+pub front_further : (p : ℕ → Bool) (bytes : List ℕ) (n : ℕ) → n ≤ length bytes → ((k : ℕ) → k < n → p (get_or bytes k 0) ≡ true) → prefix_len p bytes ≡ n + prefix_len p (drop n bytes)
+front_further p bytes zero l h = omega arith
+front_further p bytes (suc n) l h =
+    let before = front_further p bytes n (omega arith) (λ k m. h k (omega arith)) in
+    let here = prefix_len-drop_yes p bytes n 0 (omega arith) (h n (omega arith)) in
+    let more : n + 1 ≡ suc n = omega arith in
+    omega (arith, before, here, ap (λ m. prefix_len p (drop m bytes)) more)

@@ -36,7 +36,6 @@ pub mod OnLiterals
 pub mod ParameterLemmas
 pub mod PieceLemmas
 pub mod PlainHeadLemmas
-pub mod PlainLemmas
 pub mod PrintLemmas
 pub mod PrintableLemmas
 pub mod ProcessLemmas

@@ -1,13 +1,13 @@
 -- The rows of the tables that say what each byte of a URL is written as.
-use Rattle.std.proofs.Common.{◌≡◌, ℕ, ◌*◌, ◌+◌, ◌-◌, ◌<◌, ◌&&◌, ◌||◌, Bool, true, List, [], ◌∷◌, length, take, drop, refl, sym, ap, ◌∙◌}
-use Rattle.std.specs.Prelude.{◌==◌, nat_lt, slice_index}
+use Rattle.std.proofs.Common.{◌≡◌, ℕ, ◌*◌, ◌+◌, ◌-◌, ◌<◌, ◌&&◌, ◌||◌, Bool, false, true, List, [], ◌∷◌, length, take, drop, refl}
+use Rattle.std.specs.Prelude.{◌==◌, slice_index}
 use Rattle.std.specs.Str.{bytes_eq}
-use Rattle.std.proofs.lemmas.Bool.{agree_below_at, and_parts, eqb-true}
+use Rattle.std.proofs.lemmas.Bool.{agree_below, agree_below_at, and_parts, eqb-true}
 use Rattle.std.proofs.lemmas.Slice.Eq.{bytes_eq-Decides}
 use Rattle.data_url.specs.Url.{in_fragment_set, in_path_set, in_query_set}
-use Rattle.data_url.specs.Steps.Classes.{column_mark}
 use Rattle.data_url.specs.Steps.Sets.{IsRow, byte_encoding}
-use Rattle.data_url.specs.declared.percent.rows.TheConstants.{FRAGMENT, FRAGMENT_OTHERS, PATH, PATH_OTHERS, QUERY, QUERY_OTHERS}
+use Rattle.data_url.specs.declared.percent.rows.TheConstants.{FRAGMENT, PATH, QUERY}
+use Rattle.data_url.proofs.ClassLemmas.{unmarked_passes}
 
 -- the row of a byte in a table
 abbrev pub row_at : List ℕ → ℕ → List ℕ
@@ -35,16 +35,6 @@ query_row b l = row_of_test in_query_set b (row_at QUERY b) (agree_below_at (λ 
 pub fragment_row : (b : ℕ) → b < 256 → IsRow in_fragment_set b (row_at FRAGMENT b)
 fragment_row b l = row_of_test in_fragment_set b (row_at FRAGMENT b) (agree_below_at (λ b. is_row in_fragment_set b (row_at FRAGMENT b)) (λ b. true) 256 b refl l)
 
--- a byte that a class of sixteen rows holds is written as it is
-
-kept_where : (p : ℕ → Bool) (others : List ℕ) → ((b : ℕ) → b < 256 → (nat_lt 0 (column_mark others b) || bytes_eq (byte_encoding p b) (b ∷ [])) ≡ true) → (b : ℕ) → b < 256 → column_mark others b ≡ 0 → byte_encoding p b ≡ b ∷ []
-kept_where p others h b l e = (bytes_eq-Decides (byte_encoding p b) (b ∷ [])).0 (sym (ap (λ m. nat_lt 0 m || bytes_eq (byte_encoding p b) (b ∷ [])) e) ∙ h b l)
-
-pub path_kept : (b : ℕ) → b < 256 → column_mark PATH_OTHERS b ≡ 0 → byte_encoding in_path_set b ≡ b ∷ []
-path_kept = kept_where in_path_set PATH_OTHERS (λ b. agree_below_at (λ b. nat_lt 0 (column_mark PATH_OTHERS b) || bytes_eq (byte_encoding in_path_set b) (b ∷ [])) (λ b. true) 256 b refl)
-
-pub query_kept : (b : ℕ) → b < 256 → column_mark QUERY_OTHERS b ≡ 0 → byte_encoding in_query_set b ≡ b ∷ []
-query_kept = kept_where in_query_set QUERY_OTHERS (λ b. agree_below_at (λ b. nat_lt 0 (column_mark QUERY_OTHERS b) || bytes_eq (byte_encoding in_query_set b) (b ∷ [])) (λ b. true) 256 b refl)
-
-pub fragment_kept : (b : ℕ) → b < 256 → column_mark FRAGMENT_OTHERS b ≡ 0 → byte_encoding in_fragment_set b ≡ b ∷ []
-fragment_kept = kept_where in_fragment_set FRAGMENT_OTHERS (λ b. agree_below_at (λ b. nat_lt 0 (column_mark FRAGMENT_OTHERS b) || bytes_eq (byte_encoding in_fragment_set b) (b ∷ [])) (λ b. true) 256 b refl)
+-- a byte that has no mark is written as it is
+pub kept_where : (m p : ℕ → Bool) → agree_below (λ b. m b || bytes_eq (byte_encoding p b) (b ∷ [])) (λ _. true) 256 ≡ true → (b : ℕ) → b < 256 → m b ≡ false → byte_encoding p b ≡ b ∷ []
+kept_where m p h b l e = (bytes_eq-Decides (byte_encoding p b) (b ∷ [])).0 (unmarked_passes m (λ b. bytes_eq (byte_encoding p b) (b ∷ [])) h b l e)

@@ -1,11 +1,13 @@
 //! Classes of bytes, by one table.
 
-ghost use Rattle.std.specs.Prelude.{◌≡◌, ◌==◌, ◌<◌, ◌≤◌, bit_and, length, not, slice_index, ℕ};
+ghost use Rattle.std.specs.Prelude.{◌≡◌, ◌==◌, ◌<◌, ◌≤◌, bit_and, false, length, not, slice_index, true, ℕ};
 ghost use Rattle.std.specs.List.{prefix_len};
-ghost use Rattle.data_url.specs.Steps.Classes.{in_class};
+ghost use Rattle.data_url.specs.Steps.Classes.{in_class, is_marked};
 ghost use Rattle.data_url.specs.declared.classes.TheConstants.{CLASSES};
 
 pub(crate) mod lanes;
+
+use lanes::rows_len;
 
 /// A class of bytes.
 #[derive(Clone, Copy)]
@@ -68,6 +70,20 @@ fn has(class: Class, byte: u8) -> bool
     CLASSES[byte as usize] & bit(class) != 0
 }
 
+/// By the low half of a byte, the bits of the columns in which it may be outside a class. A class that is short in most
+/// texts has all bits.
+#[inline(always)]
+fn others(class: Class) -> [u8; 16]
+    ensures { (b : ℕ) → b < 256 → is_marked result b ≡ false → in_class class b ≡ true }
+{
+    match class {
+        Class::Quotable => [1, 1, 1, 1, 1, 1, 1, 1, 1, 1, 1, 1, 1, 1, 1, 65],
+        Class::Unquoted => [1, 1, 1, 1, 1, 1, 1, 1, 1, 1, 1, 5, 1, 1, 1, 65],
+        Class::PlainPath => [1, 1, 1, 3, 1, 1, 1, 1, 1, 1, 1, 1, 3, 1, 1, 69],
+        _ => [255; 16],
+    }
+}
+
 /// How many bytes at the front are in a class.
 #[inline(always)]
 pub(crate) fn span(class: Class, bytes: &[u8]) -> usize
@@ -75,4 +91,14 @@ pub(crate) fn span(class: Class, bytes: &[u8]) -> usize
     ensures within { result ≤ length bytes.now }
 {
     bytes.iter().take_while(|byte| has(class, **byte)).count()
+}
+
+/// The same, sixteen bytes at a time, which is faster where they are many.
+#[inline(always)]
+pub(crate) fn long_span(class: Class, bytes: &[u8]) -> usize
+    ensures front { result ≡ prefix_len (in_class class) bytes.now }
+    ensures within { result ≤ length bytes.now }
+{
+    let rows = rows_len(others(class), bytes);
+    rows + span(class, &bytes[rows..])
 }

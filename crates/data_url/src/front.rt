@@ -1,17 +1,14 @@
 //! The front of a data: URL's text as it was given: its scheme and its first comma (URL Standard,
 //! section 4.4).
 
-ghost use Rattle.std.specs.Prelude.{◌≡◌, ◌≤◌, length, None, IfSome, IfNone, true};
-ghost use Rattle.std.specs.List.{position, prefix_len};
+ghost use Rattle.std.specs.Prelude.{◌≡◌, None, IfSome, IfNone, true};
+ghost use Rattle.std.specs.List.{position};
 ghost use Rattle.data_url.specs.Url.{behind, without_tabs_and_newlines, front};
 ghost use Rattle.data_url.specs.Steps.Header.{header_text};
-ghost use Rattle.data_url.specs.Steps.Front.{HasNoScheme, IsHeaderAndTail, IsSchemeAndRest, ends_header, is_plain_path};
-
-mod lanes;
+ghost use Rattle.data_url.specs.Steps.Front.{HasNoScheme, IsHeaderAndTail, IsSchemeAndRest, ends_header};
 
 use crate::ascii::is_tab_or_newline;
-use crate::classes::{Class, span};
-use lanes::{ROW, plain_ahead};
+use crate::classes::{Class, long_span};
 
 const SCHEME: [u8; 5] = *b"data:";
 
@@ -60,22 +57,6 @@ pub(crate) struct Front<'a> {
     pub(crate) is_plain: bool,
 }
 
-/// Returns how many bytes at the front of a path are serialised as they are, and end neither it nor the header.
-fn plain_len(bytes: &[u8]) -> usize
-    ensures front { result ≡ prefix_len is_plain_path bytes.now }
-    ensures within { result ≤ length bytes.now }
-{
-    let mut at = 0;
-    while bytes.len() - at >= ROW {
-        let ahead = plain_ahead(&bytes[at..at + ROW]);
-        at += ahead;
-        if ahead < ROW {
-            return at;
-        }
-    }
-    at + span(Class::PlainPath, &bytes[at..])
-}
-
 /// The text cut at its first comma, unless a `#` comes before it.
 pub(crate) fn split_at_comma(text: &str) -> Option<Front<'_>>
     ensures found { IfSome result (λ f. IsHeaderAndTail text.now f.header.now f.tail.now) }
@@ -84,7 +65,7 @@ pub(crate) fn split_at_comma(text: &str) -> Option<Front<'_>>
     ensures none { IfNone result (behind 44 (front text.now) ≡ None) }
 {
     let bytes = text.as_bytes();
-    let plain = plain_len(bytes);
+    let plain = long_span(Class::PlainPath, bytes);
     let further = front_end(&bytes[plain..])?;
     let place = plain + further;
     if bytes[place] == b'#' {

@@ -1,5 +1,5 @@
 -- Classes of bytes, by tables.
-use Rattle.std.specs.Prelude.{◌+◌, ◌/◌, ◌<◌, ◌≡◌, ◌≤◌, Bool, List, bit_and, slice_index, ℕ}
+use Rattle.std.specs.Prelude.{◌/◌, ◌<◌, ◌==◌, ◌≡◌, Bool, List, bit_and, false, not, slice_index, ℕ}
 use Rattle.data_url.specs.CodePoints.{is_token}
 use Rattle.data_url.specs.Steps.Front.{is_plain_path}
 use Rattle.data_url.specs.Steps.Parsing.{is_lower_token, is_quotable_byte, is_unquoted_byte}
@@ -15,15 +15,10 @@ in_class Quotable = is_quotable_byte
 in_class Unquoted = is_unquoted_byte
 in_class PlainPath = is_plain_path
 
--- 0 only for a byte of the class, by the two halves of the byte
-abbrev pub column_mark : List ℕ → ℕ → ℕ
-column_mark others b = bit_and (slice_index others (bit_and b 15)) (slice_index COLUMNS (b / 16))
-
--- the 16 bytes at a place are of the class
-abbrev pub IsRowOf : List ℕ → List ℕ → ℕ → Type 0
-IsRowOf others bytes at =
-    (k : ℕ) → at ≤ k → k < at + 16 → column_mark others (slice_index bytes k) ≡ 0
+-- false only for a byte of the class, by the two halves of the byte
+abbrev pub is_marked : List ℕ → ℕ → Bool
+is_marked others b = not (bit_and (slice_index others (bit_and b 15)) (slice_index COLUMNS (b / 16)) == 0)
 
 -- so many bytes at the front are of the class
 abbrev pub AreOf : List ℕ → List ℕ → ℕ → Type 0
-AreOf others bytes n = (k : ℕ) → k < n → column_mark others (slice_index bytes k) ≡ 0
+AreOf others bytes n = (k : ℕ) → k < n → is_marked others (slice_index bytes k) ≡ false

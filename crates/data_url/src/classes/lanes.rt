@@ -1,7 +1,8 @@
 //! Classes of bytes, sixteen bytes at a time.
 
-ghost use Rattle.std.specs.Prelude.{◌≡◌, ◌+◌, ◌≤◌, length, true};
-ghost use Rattle.data_url.specs.Steps.Classes.{AreOf, IsRowOf};
+ghost use Rattle.std.specs.Prelude.{◌≡◌, ◌+◌, ◌≤◌, drop, length, map, take};
+ghost use Rattle.std.specs.Simd.Lanes.{mask_l};
+ghost use Rattle.data_url.specs.Steps.Classes.{AreOf, is_marked};
 
 use std::simd::prelude::*;
 
@@ -12,26 +13,30 @@ const ROW: usize = 16;
 /// together.
 const COLUMNS: [u8; 16] = [1, 1, 2, 4, 8, 16, 32, 64, 1, 1, 1, 1, 1, 1, 1, 1];
 
-/// Returns true only if the 16 bytes at a place are all of a class.
+/// Returns a bit for each of the 16 bytes at a place, which is set where the byte may be outside a class.
 #[inline(always)]
-fn is_row_of(others: [u8; 16], bytes: &[u8], at: usize) -> bool
+fn marks_at(others: [u8; 16], bytes: &[u8], at: usize) -> u64
     requires { at + 16 ≤ length bytes.now }
-    ensures { result ≡ true → IsRowOf others bytes.now at }
+    ensures { result ≡ mask_l (map (is_marked others) (take 16 (drop at bytes.now))) }
 {
     let row = u8x16::from_slice(&bytes[at..]);
     let low = u8x16::from_array(others).swizzle_dyn(row & u8x16::splat(15));
     let high = u8x16::from_array(COLUMNS).swizzle_dyn(row >> u8x16::splat(4));
-    (low & high).simd_ne(u8x16::splat(0)).to_bitmask() == 0
+    (low & high).simd_ne(u8x16::splat(0)).to_bitmask()
 }
 
-/// Returns a number of bytes at the front, whole rows, that are all of a class.
+/// Returns a number of bytes at the front that are all of a class, up to the first in whole rows that may not be.
 #[inline(always)]
 pub(crate) fn rows_len(others: [u8; 16], bytes: &[u8]) -> usize
     ensures within { result ≤ length bytes.now }
     ensures front { AreOf others bytes.now result }
 {
     let mut at = 0;
-    while bytes.len() - at >= ROW && is_row_of(others, bytes, at) {
+    while bytes.len() - at >= ROW {
+        let marks = marks_at(others, bytes, at);
+        if marks != 0 {
+            return at + marks.trailing_zeros() as usize;
+        }
         at += ROW;
     }
     at

@@ -18,7 +18,7 @@ use super::cuts::{
 use super::kept::KeptParameters;
 use super::tokens::{Word, is_token_text, split_tokens};
 use super::values::{Value, lowercased};
-use crate::classes::{Class, span};
+use crate::classes::{Class, long_span};
 use std::alloc::{AllocError, Global};
 
 /// The type, the subtype and the parameters of a text, as they are there.
@@ -186,7 +186,7 @@ fn read_plain(text: &str) -> (Value<'_>, &str)
     ensures text { IsUtf8 result.1.now }
 {
     let bytes = text.as_bytes();
-    let quotable = span(Class::Unquoted, bytes);
+    let quotable = long_span(Class::Unquoted, bytes);
     let (value, rest) = text.split_at(quotable + parameter_len(&bytes[quotable..]));
     let value = without_trailing_whitespace(value);
     if value.is_empty() || value.len() > quotable {

@@ -10,7 +10,7 @@ ghost use Rattle.data_url.specs.Mime.{QuotedOpen, is_token_text};
 ghost use Rattle.data_url.specs.Steps.Parsing.{IsValue, is_backslash, quotable_value};
 ghost use Rattle.data_url.specs.MimeType.{code_points};
 
-use crate::classes::{Class, span};
+use crate::classes::{Class, long_span};
 use std::alloc::{AllocError, Global};
 
 /// A value as it is in a text.
@@ -46,7 +46,7 @@ impl<'a> Value<'a> {
 fn is_quotable(text: &str) -> bool
     ensures { result ≡ list_all is_quotable (chars text.now) }
 {
-    span(Class::Quotable, text.as_bytes()) == text.len()
+    long_span(Class::Quotable, text.as_bytes()) == text.len()
 }
 
 /// Whether a `\` is among the bytes.

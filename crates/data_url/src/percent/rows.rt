@@ -3,8 +3,8 @@
 //! A row of four bytes begins with what its byte is written as: the byte itself, `%` and its two
 //! digits or, for a tab or newline, nothing. The last byte of the row says how long that is.
 
-ghost use Rattle.std.specs.Prelude.{◌≡◌, ◌∷◌, ◌<◌, [], ℕ};
-ghost use Rattle.data_url.specs.Steps.Classes.{column_mark};
+ghost use Rattle.std.specs.Prelude.{◌≡◌, ◌∷◌, ◌<◌, [], false, ℕ};
+ghost use Rattle.data_url.specs.Steps.Classes.{is_marked};
 ghost use Rattle.data_url.specs.Steps.Sets.{IsRow, byte_encoding, in_set};
 
 use super::EncodeSet;
@@ -133,7 +133,7 @@ const FRAGMENT_OTHERS: [u8; 16] = [35, 1, 3, 1, 1, 1, 1, 1, 1, 1, 1, 1, 5, 1, 5,
 /// The class of the bytes that are written as they are.
 #[inline(always)]
 pub(super) fn others(set: EncodeSet) -> [u8; 16]
-    ensures { (b : ℕ) → b < 256 → column_mark result b ≡ 0
+    ensures { (b : ℕ) → b < 256 → is_marked result b ≡ false
         → byte_encoding (in_set set) b ≡ b ∷ [] }
 {
     match set {

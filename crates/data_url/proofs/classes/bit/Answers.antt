@@ -1,18 +1,25 @@
+use Rattle.std.proofs.Common.{refl}
+use Rattle.data_url.specs.CodePoints.{is_token}
+use Rattle.data_url.specs.Steps.Front.{is_plain_path}
+use Rattle.data_url.specs.Steps.Parsing.{is_lower_token, is_quotable_byte, is_unquoted_byte}
 use Rattle.data_url.proofs.ClassLemmas.{entry_is}
-use Rattle.data_url.specs.declared.classes.Class.TheVariants.{LowerToken, PlainPath, Quotable, Token, Unquoted}
 use Rattle.data_url.proofs.classes.bit.Goals as goal
 
 pub returns-in-Token : goal.returns-in-Token
-returns-in-Token c = rw c.in-Token.is (entry_is Token)
+unfolding is_token
+returns-in-Token c = rw c.in-Token.is (entry_is is_token 1 refl)
 
 pub returns-in-LowerToken : goal.returns-in-LowerToken
-returns-in-LowerToken c = rw c.in-LowerToken.is (entry_is LowerToken)
+unfolding is_token
+returns-in-LowerToken c = rw c.in-LowerToken.is (entry_is is_lower_token 2 refl)
 
 pub returns-in-Quotable : goal.returns-in-Quotable
-returns-in-Quotable c = rw c.in-Quotable.is (entry_is Quotable)
+unfolding is_quotable_byte
+returns-in-Quotable c = rw c.in-Quotable.is (entry_is is_quotable_byte 4 refl)
 
 pub returns-in-Unquoted : goal.returns-in-Unquoted
-returns-in-Unquoted c = rw c.in-Unquoted.is (entry_is Unquoted)
+unfolding is_quotable_byte
+returns-in-Unquoted c = rw c.in-Unquoted.is (entry_is is_unquoted_byte 8 refl)
 
 pub returns-in-PlainPath : goal.returns-in-PlainPath
-returns-in-PlainPath c = rw c.in-PlainPath.is (entry_is PlainPath)
+returns-in-PlainPath c = rw c.in-PlainPath.is (entry_is is_plain_path 16 refl)

@@ -1,11 +1,13 @@
-use Rattle.data_url.proofs.RowLemmas.{fragment_kept, path_kept, query_kept}
+use Rattle.std.proofs.Common.{refl}
+use Rattle.data_url.specs.Url.{in_fragment_set, in_path_set, in_query_set}
+use Rattle.data_url.proofs.RowLemmas.{kept_where}
 use Rattle.data_url.proofs.percent.rows.others.Goals as goal
 
 pub returns-in-Path : goal.returns-in-Path
-returns-in-Path c = rw c.in-Path.is path_kept
+returns-in-Path c = rw c.in-Path.is (kept_where _ in_path_set refl)
 
 pub returns-in-Query : goal.returns-in-Query
-returns-in-Query c = rw c.in-Query.is query_kept
+returns-in-Query c = rw c.in-Query.is (kept_where _ in_query_set refl)
 
 pub returns-in-Fragment : goal.returns-in-Fragment
-returns-in-Fragment c = rw c.in-Fragment.is fragment_kept
+returns-in-Fragment c = rw c.in-Fragment.is (kept_where _ in_fragment_set refl)
