@@ -24,14 +24,16 @@ pub(crate) enum Class {
     /// The bytes of a path that are serialised as they are, and end neither it nor the header: printable ASCII and spaces,
     /// but for `#`, `,` and `?`.
     PlainPath,
+    /// HTTP whitespace (Fetch Standard, section 2.2).
+    Whitespace,
 }
 
 /// For each byte a bit for each class that it is in.
 #[rattlefmt::skip]
 const CLASSES: [u8; 256] = [
-     0,  0,  0,  0,  0,  0,  0,  0,  0, 12,  0,  0,  0,  0,  0,  0,
+     0,  0,  0,  0,  0,  0,  0,  0,  0, 44, 32,  0,  0, 32,  0,  0,
      0,  0,  0,  0,  0,  0,  0,  0,  0,  0,  0,  0,  0,  0,  0,  0,
-    28, 31, 28, 15, 31, 31, 31, 31, 28, 28, 31, 31, 12, 31, 31, 28,
+    60, 31, 28, 15, 31, 31, 31, 31, 28, 28, 31, 31, 12, 31, 31, 28,
     31, 31, 31, 31, 31, 31, 31, 31, 31, 31, 28, 20, 28, 28, 28, 12,
     28, 29, 29, 29, 29, 29, 29, 29, 29, 29, 29, 29, 29, 29, 29, 29,
     29, 29, 29, 29, 29, 29, 29, 29, 29, 29, 29, 28, 28, 28, 31, 31,
@@ -59,12 +61,13 @@ fn bit(class: Class) -> u8
         Class::Quotable => 4,
         Class::Unquoted => 8,
         Class::PlainPath => 16,
+        Class::Whitespace => 32,
     }
 }
 
 /// Whether a byte is in a class.
 #[inline(always)]
-fn has(class: Class, byte: u8) -> bool
+pub(crate) fn has(class: Class, byte: u8) -> bool
     ensures { result ≡ in_class class byte }
 {
     CLASSES[byte as usize] & bit(class) != 0

@@ -7,22 +7,7 @@ ghost use Rattle.data_url.specs.CodePoints.{ends_name, is_http_whitespace, is_se
 ghost use Rattle.data_url.specs.Mime.{BeginsParameters, DoesNotBegin, IsTrimmedEnd, Without};
 ghost use Rattle.data_url.specs.Steps.Parsing.{IsTrimmedFront};
 
-/// Whether a byte is HTTP whitespace (Fetch Standard, section 2.2).
-fn is_http_whitespace(byte: u8) -> bool
-    ensures { result ≡ is_http_whitespace byte }
-{
-    matches!(byte, b'\t' | b'\n' | b'\r' | b' ')
-}
-
-/// How many bytes at the front are HTTP whitespace.
-fn leading_len(bytes: &[u8]) -> usize
-    ensures { result ≡ prefix_len is_http_whitespace bytes.now }
-{
-    bytes
-        .iter()
-        .take_while(|byte| is_http_whitespace(**byte))
-        .count()
-}
+use crate::classes::{Class, has, span};
 
 /// How many bytes at the end are HTTP whitespace.
 fn trailing_len(bytes: &[u8]) -> usize
@@ -31,7 +16,7 @@ fn trailing_len(bytes: &[u8]) -> usize
     bytes
         .iter()
         .rev()
-        .take_while(|byte| is_http_whitespace(**byte))
+        .take_while(|byte| has(Class::Whitespace, **byte))
         .count()
 }
 
@@ -39,7 +24,7 @@ fn trailing_len(bytes: &[u8]) -> usize
 pub(super) fn without_leading_whitespace(text: &str) -> &str
     ensures { IsTrimmedFront is_http_whitespace (chars text.now) (chars result.now) }
 {
-    let len = leading_len(text.as_bytes());
+    let len = span(Class::Whitespace, text.as_bytes());
     &text[len..]
 }
 

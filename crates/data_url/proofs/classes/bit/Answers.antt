@@ -1,5 +1,5 @@
 use Rattle.std.proofs.Common.{refl}
-use Rattle.data_url.specs.CodePoints.{is_token}
+use Rattle.data_url.specs.CodePoints.{is_http_whitespace, is_token}
 use Rattle.data_url.specs.Steps.Front.{is_plain_path}
 use Rattle.data_url.specs.Steps.Parsing.{is_lower_token, is_quotable_byte, is_unquoted_byte}
 use Rattle.data_url.proofs.ClassLemmas.{entry_is}
@@ -23,3 +23,6 @@ returns-in-Unquoted c = rw c.in-Unquoted.is (entry_is is_unquoted_byte 8 refl)
 
 pub returns-in-PlainPath : goal.returns-in-PlainPath
 returns-in-PlainPath c = rw c.in-PlainPath.is (entry_is is_plain_path 16 refl)
+
+pub returns-in-Whitespace : goal.returns-in-Whitespace
+returns-in-Whitespace c = rw c.in-Whitespace.is (entry_is is_http_whitespace 32 refl)
