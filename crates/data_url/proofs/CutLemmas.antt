@@ -1,20 +1,20 @@
 -- Texts cut at a byte, and without HTTP whitespace at an end, as texts of code points.
 use Rattle.std.proofs.Common.{◌≡◌, ℕ, suc, ◌+◌, ◌-◌, ◌<◌, ◌==◌, ◌||◌, Bool, true, false, not, List, [], ◌∷◌, ◌++◌, length, get_or, take, drop, encode_utf8, encode_utf8_all, refl, sym, ap, ◌∙◌, subst, append_assoc, append-nil, arith, inl, inr, take-append-drop, length-append, length-drop, length-take-le, eqb-true, ⊎_elim}
 use Rattle.std.proofs.Math.Seq.{get_or-append_seam}
-use Rattle.std.proofs.lemmas.Bool.{and_parts, cases_Bool, cases_lt, false_from_ne_true, false≢true, not-false, not_from_false, or_cases}
+use Rattle.std.proofs.lemmas.Bool.{and_parts, cases_Bool, cases_lt, eq-eqb, false_from_ne_true, false≢true, not-false, not_from_false, or_cases}
 use Rattle.std.proofs.lemmas.List.{get_or-drop, get_or-take}
 use Rattle.std.proofs.lemmas.List.Folds.{list_all-append}
 use Rattle.std.proofs.lemmas.List.Sums.{prefix_len-le-length, prefix_len_stops, suffix_len-le-length}
 use Rattle.std.specs.List.{list_all, prefix_len, suffix_len}
 use Rattle.data_url.proofs.TextLemmas.{behind_begins, front_of, front_passes}
 use Rattle.data_url.proofs.TextCuts.{boundary_before_end}
-use Rattle.data_url.proofs.TokenLemmas.{drop_front, every_ascii, is_split, take_front}
+use Rattle.data_url.proofs.TokenLemmas.{drop_front, every_ascii, is_split, take_front, whole_front}
 use Rattle.data_url.proofs.SerialiseLemmas.{suffix_passes, suffix_stops}
 use Rattle.std.proofs.lemmas.Str.{IsCharBoundary-before_ascii, IsUtf8-drop, IsUtf8-take, chars-IsAscii, chars-append, chars-nil, chars_past_char, encode_ascii, encodes-append, encodes-chars}
 use Rattle.std.specs.Str.{IsCharBoundary, IsUtf8, chars}
 use Rattle.data_url.specs.CodePoints.{ends_name, is_http_whitespace, is_semicolon}
 use Rattle.data_url.specs.Mime.{DoesNotBegin, DoesNotEnd, Every, IsTrimmedEnd, Without}
-use Rattle.data_url.specs.Steps.Parsing.{IsTrimmedFront}
+use Rattle.data_url.specs.Steps.Parsing.{IsTrimmedFront, is_escaped}
 use Rattle.data_url.proofs.RecordLemmas.{all_from_every}
 
 -- A cut at the first byte that passes, of an ASCII class
@@ -40,6 +40,11 @@ module _ (t : ℕ → Bool) (ascii : (c : ℕ) → t c ≡ true → c < 128) whe
   chars_fail (c ∷ cs) h =
       let p = and_parts (list_all (λ b. not (t b)) (encode_utf8 c)) (list_all (λ b. not (t b)) (encode_utf8_all cs)) (sym (list_all-append (λ b. not (t b)) (encode_utf8 c) (encode_utf8_all cs)) ∙ h) in
       (char_fails c p.0, chars_fail cs p.1)
+
+  pub whole_without : (s bytes : List ℕ) (n : ℕ) → IsUtf8 s → bytes ≡ s → n ≡ prefix_len (λ b. not (t b)) bytes → n ≡ length s → Without t (chars s)
+  whole_without s bytes n u b e h =
+      let p : ℕ → Bool = λ b. not (t b) in
+      chars_fail (chars s) (ap (list_all p) (encodes-chars s u) ∙ whole_front p s ∙ eq-eqb (prefix_len p s) (length s) (sym (e ∙ ap (prefix_len p) b) ∙ h))
 
   begins_with : (bs : List ℕ) → IsUtf8 bs → DoesNotBegin (λ b. not (t b)) bs → DoesNotBegin (λ c. not (t c)) (chars bs)
   begins_with [] u h = subst (DoesNotBegin (λ c. not (t c))) (sym chars-nil) tt
@@ -76,6 +81,9 @@ semicolon_below c h = let k = eqb-true c 59 h in omega arith
 
 pub name_end_below : (c : ℕ) → ends_name c ≡ true → c < 128
 name_end_below c h = ⊎_elim (λ e. let k = eqb-true c 59 e in omega arith) (λ e. let k = eqb-true c 61 e in omega arith) (or_cases (c == 59) (c == 61) h)
+
+pub escaped_below : (c : ℕ) → is_escaped c ≡ true → c < 128
+escaped_below c h = ⊎_elim (λ e. let k = eqb-true c 34 e in omega arith) (λ e. let k = eqb-true c 92 e in omega arith) (or_cases (c == 34) (c == 92) h)
 
 -- HTTP whitespace taken off
 

@@ -1,23 +1,20 @@
 -- What is written is the printed text.
-use Rattle.std.proofs.Common.{◌≡◌, ℕ, ◌+◌, ◌<◌, ◌≤◌, Bool, true, false, List, [], ◌∷◌, ◌++◌, length, get_or, take, drop, String, string_bytes, map, encode_utf8, encode_utf8_all, refl, inl, inr, ⊎_elim, sym, ap, ap₂, ◌∙◌, subst, append_assoc, append-nil, drop-cons, drop_of_length-le, add-one, arith}
-use Rattle.std.specs.Prelude.{◌==◌, ◌||◌}
+use Rattle.std.proofs.Common.{◌≡◌, ℕ, ◌+◌, ◌<◌, ◌≤◌, Bool, true, false, List, [], ◌∷◌, ◌++◌, length, get_or, take, drop, String, string_bytes, map, encode_utf8, encode_utf8_all, refl, sym, ap, ap₂, ◌∙◌, subst, append_assoc, append-nil, drop-cons, drop_of_length-le, add-one, arith}
 use lib.Utf8.{encode}
-use Rattle.std.proofs.lemmas.Bool.{and_parts, both_ways, cases_Bool, cond-false, cond-true, eq-eqb, eqb-true, or_cases}
-use Rattle.std.proofs.lemmas.List.Folds.{list_all-append}
+use Rattle.std.proofs.lemmas.Bool.{cond-false, cond-true, not-true}
 use Rattle.std.proofs.lemmas.Str.{IsUtf8-append, IsUtf8-string_bytes, chars_past_char, encode_ascii, encodes-append, encodes-chars}
 use Rattle.std.specs.declared.fmt.Formatter.{Formatter}
 use Rattle.std.proofs.Output.{has_written_styled_append, has_written_styled_nil, has_written_styled_of_eq}
 use Rattle.std.specs.Fmt.{HasWritten, HasWrittenStyled, IsDefaultSpec, IsFlush, IsPlainFormatter}
 use Rattle.data_url.specs.Steps.Printing.{HasAdded, IsHeld, held}
 use Rattle.data_url.specs.declared.mime.line.Line.{Line}
-use Rattle.std.specs.List.{flat_map, list_all, prefix_len}
+use Rattle.std.specs.List.{flat_map}
 use Rattle.std.specs.Str.{IsUtf8, chars}
-use Rattle.data_url.specs.Mime.{escaped_code_point, is_token_text, printed, printed_pair, printed_value}
-use Rattle.data_url.specs.Steps.Parsing.{is_plain}
+use Rattle.data_url.specs.Mime.{Without, escaped_code_point, is_token_text, printed, printed_pair, printed_value}
+use Rattle.data_url.specs.Steps.Parsing.{is_escaped}
 use Rattle.data_url.specs.MimeType.{code_points, pair_of, record_of}
 use Rattle.data_url.specs.declared.mime.Mime.{Mime}
 use Rattle.data_url.proofs.TextLemmas.{no_chars}
-use Rattle.data_url.proofs.TokenLemmas.{whole_front}
 
 -- Escaped text
 
@@ -32,29 +29,12 @@ escaped_end r done whole l h = sym (append-nil done) ∙ ap (λ x. done ++ encod
 
 -- A text with nothing to escape
 
-escaped_is_there : (c : ℕ) → ((c == 34) || (c == 92)) ≡ true → list_all is_plain (encode c) ≡ false
-unfolding encode
-escaped_is_there c h = ⊎_elim
-    (λ q. let k : c ≡ 34 = eqb-true c 34 q in ap (λ v. list_all is_plain (encode v)) k)
-    (λ q. let k : c ≡ 92 = eqb-true c 92 q in ap (λ v. list_all is_plain (encode v)) k)
-    (or_cases (c == 34) (c == 92) h)
-
-plain_char : (c : ℕ) → list_all is_plain (encode c) ≡ true → escaped_code_point c ≡ c ∷ []
-plain_char c h = elim (cases_Bool ((c == 34) || (c == 92))) [
-  | inl e ↦ absurd (both_ways (list_all is_plain (encode c)) (escaped_is_there c e) h)
-  | inr e ↦ cond-false ((c == 34) || (c == 92)) (92 ∷ c ∷ []) (c ∷ []) e
-]
-
-plain_chars : (cs : List ℕ) → list_all is_plain (encode_utf8_all cs) ≡ true → flat_map escaped_code_point cs ≡ cs
+plain_chars : (cs : List ℕ) → Without is_escaped cs → flat_map escaped_code_point cs ≡ cs
 plain_chars [] h = refl
-plain_chars (c ∷ cs) h =
-    let p = and_parts (list_all is_plain (encode c)) (list_all is_plain (encode_utf8_all cs)) (sym (list_all-append is_plain (encode c) (encode_utf8_all cs)) ∙ h) in
-    ap₂ (λ x y. x ++ y) (plain_char c p.0) (plain_chars cs p.1)
+plain_chars (c ∷ cs) h = ap₂ (λ x y. x ++ y) (cond-false (is_escaped c) (92 ∷ c ∷ []) (c ∷ []) (not-true (is_escaped c) h.0)) (plain_chars cs h.1)
 
-pub plain_text : (v bytes : List ℕ) (n : ℕ) → IsUtf8 v → bytes ≡ v → n ≡ prefix_len is_plain bytes → n ≡ length v → v ≡ encode_utf8_all (flat_map escaped_code_point (chars v))
-plain_text v bytes n u b e h =
-    let whole : list_all is_plain v ≡ true = whole_front is_plain v ∙ eq-eqb (prefix_len is_plain v) (length v) (sym (e ∙ ap (prefix_len is_plain) b) ∙ h) in
-    sym (encodes-chars v u) ∙ ap encode_utf8_all (sym (plain_chars (chars v) (ap (list_all is_plain) (encodes-chars v u) ∙ whole)))
+pub plain_text : (v : List ℕ) → IsUtf8 v → Without is_escaped (chars v) → v ≡ encode_utf8_all (flat_map escaped_code_point (chars v))
+plain_text v u h = sym (encodes-chars v u) ∙ ap encode_utf8_all (sym (plain_chars (chars v) h))
 
 -- A value
 

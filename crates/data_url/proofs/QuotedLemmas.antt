@@ -94,7 +94,7 @@ unescaped false [] = []
 unescaped true [] = 92 ∷ []
 unescaped escaped (c ∷ t) = cond ((c == 92) && not escaped) (unescaped true t) (c ∷ unescaped false t)
 
-unescaped_one : (c : ℕ) (t : List ℕ) → (c == 92) ≡ false → unescaped false (c ∷ t) ≡ c ∷ unescaped false t
+pub unescaped_one : (c : ℕ) (t : List ℕ) → (c == 92) ≡ false → unescaped false (c ∷ t) ≡ c ∷ unescaped false t
 unescaped_one c t e = cond-false ((c == 92) && true) (unescaped true t) (c ∷ unescaped false t) (ap (λ b. b && true) e)
 
 unescaped_next : (c : ℕ) (t : List ℕ) → unescaped true (c ∷ t) ≡ c ∷ unescaped false t

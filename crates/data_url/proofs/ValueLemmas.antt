@@ -1,20 +1,20 @@
 -- Values as texts of their own.
 use Rattle.std.proofs.Common.{◌≡◌, ℕ, ◌+◌, ◌/◌, ◌<◌, ◌≤◌, ◌==◌, ◌||◌, ◌&&◌, Bool, true, false, not, cond, List, [], ◌∷◌, ◌++◌, length, Option, None, Some, Bor, map, encode_utf8_all, refl, sym, ap, ap₂, ◌∙◌, subst, append_assoc, append-nil, arith, inl, inr, ⊎_elim, ltb}
-use Rattle.std.proofs.lemmas.Bool.{agree_below_at, both_ways, cond-true, eq-eqb, ne_eqb, and_left, and_parts, cases_lt, cond-false, cond_both, eqb-true, false_from_ne_true, le-ltb, or_cases, or_parts}
-use Rattle.std.proofs.lemmas.List.Folds.{list_all-append, list_any-append}
+use Rattle.std.proofs.lemmas.Bool.{agree_below_at, cond-true, eq-eqb, ne_eqb, and_left, and_parts, cases_lt, cond-false, cond_both, eqb-true, false_from_ne_true, le-ltb, not-true, or_cases, or_parts}
+use Rattle.std.proofs.lemmas.List.Folds.{list_all-append}
 use Rattle.std.proofs.lemmas.Str.{IsUtf8-encode, chars-append, chars-nil, chars_past_char, cons_from_encodes, encodes-chars}
 use Rattle.std.specs.Char.{IsScalar}
 use Rattle.std.specs.Int.{is_in_range}
-use Rattle.std.specs.List.{flat_map, list_all, list_any, prefix_len}
+use Rattle.std.specs.List.{flat_map, list_all, prefix_len}
 use Rattle.data_url.proofs.TokenLemmas.{whole_front}
 use Rattle.std.specs.Str.{IsUtf8, all_scalars, chars}
 use lib.Utf8.{encode, next, scalar}
 use Rattle.data_url.specs.CodePoints.{is_quotable}
-use Rattle.data_url.specs.Mime.{Escaped, Plain, Quoted, QuotedOpen, QuotedUnit, unit_text, unit_value}
-use Rattle.data_url.specs.Steps.Parsing.{IsValue, is_backslash, is_quotable_byte, quotable_value}
+use Rattle.data_url.specs.Mime.{Escaped, Plain, Quoted, QuotedOpen, QuotedUnit, Without, unit_text, unit_value}
+use Rattle.data_url.specs.Steps.Parsing.{IsValue, is_escaped, is_quotable_byte, quotable_value}
 use Rattle.data_url.specs.declared.mime.values.Value.{Value}
 use Rattle.data_url.specs.declared.mime.values.Value.TheVariants as slices
-use Rattle.data_url.proofs.QuotedLemmas.{unescaped, unescaped_is}
+use Rattle.data_url.proofs.QuotedLemmas.{unescaped, unescaped_is, unescaped_one}
 use Rattle.data_url.proofs.TextLemmas.{no_chars, range_high}
 
 -- The bytes of quoted-string code points
@@ -151,19 +151,12 @@ missing_text self value e i = let k = subst (λ s. IsValue s value) e i in sym k
 
 -- A quoted string without a '\'
 
-no_backslash_char : (c : ℕ) → list_any is_backslash (encode c) ≡ false → is_backslash c ≡ false
-unfolding encode
-no_backslash_char c h = false_from_ne_true (c == 92) (λ e. let k = eqb-true c 92 e in both_ways (list_any is_backslash (encode c)) h (ap (λ x. list_any is_backslash (encode x)) k))
-
-stays_unescaped : (cs : List ℕ) → list_any is_backslash (encode_utf8_all cs) ≡ false → unescaped false cs ≡ cs
+stays_unescaped : (cs : List ℕ) → Without is_escaped cs → unescaped false cs ≡ cs
 stays_unescaped [] h = refl
-stays_unescaped (c ∷ cs) h =
-    let p = or_parts (list_any is_backslash (encode c)) (list_any is_backslash (encode_utf8_all cs)) (sym (list_any-append is_backslash (encode c) (encode_utf8_all cs)) ∙ h) in
-    unescaped_step false c cs ∙ cond-false ((c == 92) && true) (unescaped true cs) (c ∷ unescaped false cs) (ap (λ b. b && true) (no_backslash_char c p.0)) ∙ ap (λ t. c ∷ t) (stays_unescaped cs p.1)
+stays_unescaped (c ∷ cs) h = unescaped_one c cs (or_parts (c == 34) (c == 92) (not-true (is_escaped c) h.0)).1 ∙ ap (λ t. c ∷ t) (stays_unescaped cs h.1)
 
-pub copied : (v bytes q value : List ℕ) (b : Bool) → IsUtf8 q → b ≡ list_any is_backslash bytes → bytes ≡ q → b ≡ false → v ≡ q → QuotedOpen (chars q) value → chars v ≡ value
-copied v bytes q value b u e s f g k =
-    ap chars g ∙ sym (stays_unescaped (chars q) (ap (list_any is_backslash) (encodes-chars q u ∙ sym s) ∙ sym e ∙ f)) ∙ unescaped_is (chars q) value k
+pub copied : (v q value : List ℕ) → Without is_escaped (chars q) → v ≡ q → QuotedOpen (chars q) value → chars v ≡ value
+copied v q value h g k = ap chars g ∙ sym (stays_unescaped (chars q) h) ∙ unescaped_is (chars q) value k
 
 pub plain_text : (self : Value) (text : Bor (List ℕ)) (value : Option (List ℕ)) (code : List ℕ) → self ≡ slices.Plain text → IsValue self value → code ≡ chars text.now → Some code ≡ quotable_value value
 plain_text self text value code e i h =

@@ -2,8 +2,8 @@
 use Rattle.std.specs.Prelude.{◌/◌, ◌<◌, ◌==◌, ◌≡◌, Bool, List, bit_and, false, not, slice_index, ℕ}
 use Rattle.data_url.specs.CodePoints.{is_http_whitespace, is_token}
 use Rattle.data_url.specs.Steps.Front.{is_plain_path}
-use Rattle.data_url.specs.Steps.Parsing.{is_lower_token, is_quotable_byte, is_unquoted_byte}
-use Rattle.data_url.specs.declared.classes.Class.TheVariants.{LowerToken, PlainPath, Quotable, Token, Unquoted, Whitespace}
+use Rattle.data_url.specs.Steps.Parsing.{is_escaped, is_lower_token, is_quotable_byte, is_unquoted_byte}
+use Rattle.data_url.specs.declared.classes.Class.TheVariants.{LowerToken, PlainPath, Quotable, Token, Unescaped, Unquoted, Whitespace}
 use Rattle.data_url.specs.declared.classes.Class.{Class}
 use Rattle.data_url.specs.declared.classes.lanes.TheConstants.{COLUMNS}
 
@@ -15,6 +15,7 @@ in_class Quotable = is_quotable_byte
 in_class Unquoted = is_unquoted_byte
 in_class PlainPath = is_plain_path
 in_class Whitespace = is_http_whitespace
+in_class Unescaped = λ b. not (is_escaped b)
 
 -- false only for a byte of the class, by the two halves of the byte
 abbrev pub is_marked : List ℕ → ℕ → Bool

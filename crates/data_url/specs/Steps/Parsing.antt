@@ -93,10 +93,6 @@ HasLowercaseNames pairs = IsTrue (list_all (λ (p : Pair). is_lowercase_name p.0
 abbrev pub HasNoHead : List ℕ → Type 0
 HasNoHead s = (type_ subtype parameters : List ℕ) → IsHead s type_ subtype parameters → ⊥
 
--- neither '"' nor '\', before which a '\' is written
-abbrev pub is_plain : ℕ → Bool
-is_plain c = not (c == 34) && not (c == 92)
-
--- '\', behind which a code point stands for itself
-abbrev pub is_backslash : ℕ → Bool
-is_backslash c = c == 92
+-- '"' or '\', before which a '\' is written
+abbrev pub is_escaped : ℕ → Bool
+is_escaped c = (c == 34) || (c == 92)

@@ -1,15 +1,14 @@
 //! Writes a MIME type (MIME Sniffing Standard, section 4.5).
 
 ghost use Rattle.std.specs.Fmt.{WritesStyledOnOk};
-ghost use Rattle.std.specs.Prelude.{◌≡◌};
-ghost use Rattle.std.specs.List.{flat_map, prefix_len};
+ghost use Rattle.std.specs.List.{flat_map};
 ghost use Rattle.std.specs.Str.{chars, encode_utf8_all};
 ghost use Rattle.data_url.specs.Mime.{escaped_code_point, printed_pair, printed_value};
-ghost use Rattle.data_url.specs.Steps.Parsing.{is_plain};
 ghost use Rattle.data_url.specs.Steps.Printing.{AddsOnOk, IsHeld};
 
 use super::line::Line;
 use super::tokens::is_token_text;
+use crate::classes::{Class, long_span};
 use std::fmt;
 
 /// Adds `;`, a name, `=` and a value.
@@ -56,21 +55,11 @@ fn push_escaped<W: fmt::Write>(
         (encode_utf8_all (flat_map escaped_code_point (chars text.now))) f.new line.new }
     ensures held { IsHeld line.new }
 {
-    if unescaped_len(text.as_bytes()) == text.len() {
+    if long_span(Class::Unescaped, text.as_bytes()) == text.len() {
         return line.push(f, text);
     }
     line.flush(f)?;
     write_each_escaped(f, text)
-}
-
-/// Returns how many bytes come before the first `"` or `\`.
-fn unescaped_len(bytes: &[u8]) -> usize
-    ensures { result ≡ prefix_len is_plain bytes.now }
-{
-    bytes
-        .iter()
-        .take_while(|byte| **byte != b'"' && **byte != b'\\')
-        .count()
 }
 
 /// Writes a text with a `\` before each `"` and each `\`.

@@ -2,12 +2,12 @@
 
 ghost use Rattle.std.specs.Prelude.{◌≡◌, List, ℕ, IfOk, IsTrue, map};
 ghost use Rattle.std.specs.Char.{to_ascii_lowercase};
-ghost use Rattle.std.specs.List.{list_all, list_any};
+ghost use Rattle.std.specs.List.{list_all};
 ghost use Rattle.std.specs.Option.{option_map};
 ghost use Rattle.std.specs.Str.{chars};
 ghost use Rattle.data_url.specs.CodePoints.{is_quotable};
 ghost use Rattle.data_url.specs.Mime.{QuotedOpen, is_token_text};
-ghost use Rattle.data_url.specs.Steps.Parsing.{IsValue, is_backslash, quotable_value};
+ghost use Rattle.data_url.specs.Steps.Parsing.{IsValue, quotable_value};
 ghost use Rattle.data_url.specs.MimeType.{code_points};
 
 use crate::classes::{Class, long_span};
@@ -49,22 +49,15 @@ fn is_quotable(text: &str) -> bool
     long_span(Class::Quotable, text.as_bytes()) == text.len()
 }
 
-/// Whether a `\` is among the bytes.
-fn has_backslash(bytes: &[u8]) -> bool
-    ensures { result ≡ list_any is_backslash bytes.now }
-{
-    bytes.iter().any(|byte| *byte == b'\\')
-}
-
 /// Returns the value of a quoted string: without the `\` before a code point.
 fn unescaped(alloc: Global, quoted: &str) -> Result<String, AllocError>
     ensures { IfOk result (λ text. (value : List ℕ) → QuotedOpen (chars quoted.now) value
         → code_points text ≡ value) }
 {
-    if has_backslash(quoted.as_bytes()) {
-        without_backslashes(alloc, quoted)
-    } else {
+    if long_span(Class::Unescaped, quoted.as_bytes()) == quoted.len() {
         String::from_str(alloc, quoted)
+    } else {
+        without_backslashes(alloc, quoted)
     }
 }
 

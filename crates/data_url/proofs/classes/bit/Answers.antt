@@ -1,7 +1,7 @@
-use Rattle.std.proofs.Common.{refl}
+use Rattle.std.proofs.Common.{not, refl}
 use Rattle.data_url.specs.CodePoints.{is_http_whitespace, is_token}
 use Rattle.data_url.specs.Steps.Front.{is_plain_path}
-use Rattle.data_url.specs.Steps.Parsing.{is_lower_token, is_quotable_byte, is_unquoted_byte}
+use Rattle.data_url.specs.Steps.Parsing.{is_escaped, is_lower_token, is_quotable_byte, is_unquoted_byte}
 use Rattle.data_url.proofs.ClassLemmas.{entry_is}
 use Rattle.data_url.proofs.classes.bit.Goals as goal
 
@@ -26,3 +26,6 @@ returns-in-PlainPath c = rw c.in-PlainPath.is (entry_is is_plain_path 16 refl)
 
 pub returns-in-Whitespace : goal.returns-in-Whitespace
 returns-in-Whitespace c = rw c.in-Whitespace.is (entry_is is_http_whitespace 32 refl)
+
+pub returns-in-Unescaped : goal.returns-in-Unescaped
+returns-in-Unescaped c = rw c.in-Unescaped.is (entry_is (λ b. not (is_escaped b)) 64 refl)
