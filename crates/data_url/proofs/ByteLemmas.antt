@@ -170,10 +170,6 @@ four_after : (a b c e : ℕ) → after_groups (a ∷ b ∷ c ∷ e ∷ []) ≡ [
 unfolding after_groups
 four_after a b c e = refl
 
-decoded_none : groups [] ++ rest_bytes (after_groups []) ≡ []
-unfolding groups after_groups
-decoded_none = refl
-
 decoded_few : (q : List ℕ) → length q ≤ 3 → groups (map symbol_value q) ++ rest_bytes (after_groups (map symbol_value q)) ≡ rest_bytes (map symbol_value q)
 decoded_few q few =
     let short : length (map symbol_value q) ≤ 3 = omega (arith, few, length-map q symbol_value) in

@@ -1,7 +1,7 @@
 -- The head of a MIME type: what the parser cuts is it, and is it alone.
-use Rattle.std.proofs.Common.{◌≡◌, ℕ, ◌==◌, Bool, true, false, not, ⊎_elim, eqb-true, List, [], ◌∷◌, ◌++◌, length, drop, None, ◌<◌, IsTrue, encode_utf8, encode_utf8_all, refl, sym, ap, ◌∙◌, subst, arith}
+use Rattle.std.proofs.Common.{◌≡◌, ℕ, ◌==◌, Bool, true, false, not, ⊎_elim, eqb-true, List, [], ◌∷◌, ◌++◌, length, drop, None, IsTrue, encode_utf8, encode_utf8_all, refl, sym, ap, ◌∙◌, subst, arith}
 use Rattle.std.proofs.lemmas.Bool.{both_ways, false_from_ne_true, false≢true, ne_eqb, not_from_false, not_from_true, or_cases}
-use Rattle.std.proofs.lemmas.Str.{chars-nil, chars_past_char, encode_ascii, encodes-chars}
+use Rattle.std.proofs.lemmas.Str.{chars-nil, chars_past_char, encodes-chars}
 use Rattle.std.specs.Bool.{MatchBool}
 use Rattle.std.specs.Str.{IsUtf8, chars}
 use Rattle.std.specs.Str.Pattern.{FindsCharPrefix, HasCharAt, HasPrefixMatch}
@@ -92,9 +92,6 @@ is_head s ty y su p k g t u b = record {
 }
 
 -- From bytes
-
-pub chars_slash : (x y : List ℕ) (c : ℕ) → IsUtf8 x → c < 128 → x ≡ c ∷ y → chars x ≡ c ∷ chars y
-chars_slash x y c u a e = chars_past_char x y c u (e ∙ ap (λ t. t ++ y) (sym (encode_ascii c a)))
 
 pub begins_bytes : (x w : List ℕ) (c : ℕ) → IsUtf8 x → chars x ≡ c ∷ w → x ≡ encode_utf8 c ++ encode_utf8_all w
 begins_bytes x w c u e = sym (encodes-chars x u) ∙ ap encode_utf8_all e

@@ -148,9 +148,6 @@ fault_pads n s = stop_pads is_ascii_whitespace is_pad is_symbol classes n 61 s r
 pub fault_text : (q : List ℕ) (n : ℕ) → Every is_symbol q → fault_byte false (q ++ replicate n 61) ≡ None
 fault_text q n h = fault_symbols q (replicate n 61) h ∙ fault_pads n false
 
-pub any_pads : (n : ℕ) → list_any is_pad (replicate (suc n) 61) ≡ true
-any_pads n = refl
-
 pub symbols_of_pads : (n : ℕ) → filter is_symbol (replicate n 61) ≡ []
 symbols_of_pads n = filter_pads is_ascii_whitespace is_pad is_symbol classes n 61 refl
 

@@ -112,11 +112,6 @@ recoded-decoded (kept b (kept c (kept {s} {x} d r))) = elim (cases_Bool ((b == 3
 
 -- Encodings
 
-pub recoded-append : {a b x y : List ℕ} → Recoded a x → Recoded b y → Recoded (a ++ b) (x ++ y)
-recoded-append none q = q
-recoded-append (kept b r) q = kept b (recoded-append r q)
-recoded-append (written b h l r) q = written b h l (recoded-append r q)
-
 pub encoded_nil : (p : ℕ → Bool) → percent_encoding p [] ≡ []
 unfolding percent_encoding
 encoded_nil p = refl

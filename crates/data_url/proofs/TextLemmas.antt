@@ -1,5 +1,5 @@
 -- Texts cut at the first code point that passes no more, and ends taken off.
-use Rattle.std.proofs.Common.{◌≡◌, ℕ, suc, ◌≤◌, nat_le, Bool, true, false, cond, Some, List, [], ◌∷◌, ◌++◌, length, refl, sym, ap, ◌∙◌, arith}
+use Rattle.std.proofs.Common.{◌≡◌, ℕ, ◌≤◌, nat_le, Bool, true, false, cond, Some, List, [], ◌∷◌, ◌++◌, length, refl, sym, ap, ◌∙◌, arith}
 use Rattle.std.proofs.lemmas.Bool.{and_parts, cond-true, cond-false, cond_both, leb-true}
 use Rattle.std.proofs.lemmas.Str.{chars-nil}
 use Rattle.std.specs.Int.{is_in_range}
@@ -47,10 +47,6 @@ front_passes p (c ∷ t) = cond_both (p c) (c ∷ front_of p t) [] (λ v. Every 
 pub behind_begins : (p : ℕ → Bool) (s : List ℕ) → DoesNotBegin p (behind_front p s)
 behind_begins p [] = tt
 behind_begins p (c ∷ t) = cond_both (p c) (behind_front p t) (c ∷ t) (λ v. DoesNotBegin p v) (λ e. behind_begins p t) (λ e. e)
-
-pub behind_length : (p : ℕ → Bool) (s : List ℕ) → length (behind_front p s) ≤ length s
-behind_length p [] = omega arith
-behind_length p (c ∷ t) = let h : length (behind_front p t) ≤ length t = behind_length p t in elim (p c) as (λ v. length (cond v (behind_front p t) (c ∷ t)) ≤ suc (length t)) [ true ↦ omega arith | false ↦ omega arith ]
 
 -- one more code point before what is left of a text
 abbrev pub keep_before : (ℕ → Bool) → ℕ → List ℕ → List ℕ

@@ -1,7 +1,7 @@
 -- The table of token code points, and texts of them.
-use Rattle.std.proofs.Common.{◌≡◌, ℕ, suc, ◌+◌, ◌<◌, ◌≤◌, ◌==◌, ◌||◌, Bool, true, false, cond, List, [], ◌∷◌, ◌++◌, length, get_or, take, drop, encode_utf8_all, refl, sym, ap, ◌∙◌, subst, arith, one-add, take-append-drop, inl, inr, ⊎_elim, nat_le, nat_lt, codes, ◌&&◌, drop-cons, add-one, ap₂, map, not}
+use Rattle.std.proofs.Common.{◌≡◌, ℕ, suc, ◌+◌, ◌<◌, ◌==◌, ◌||◌, Bool, true, false, cond, List, [], ◌∷◌, ◌++◌, length, take, drop, encode_utf8_all, refl, sym, ap, ◌∙◌, subst, arith, one-add, take-append-drop, inl, inr, ⊎_elim, nat_le, nat_lt, codes, ◌&&◌, ap₂, map, not}
 use Rattle.std.proofs.lemmas.Bool.{and_from, and_parts, both_ways, cases_Bool, cases_lt, le-leb, not-true, eqb-true, false_from_ne_true, false≢true, leb-true, ltb-true, ne_eqb, or_cases, cases_eq, cond-true, cond-false, eq-eqb}
-use Rattle.std.proofs.lemmas.List.Sums.{prefix_len-drop_all, prefix_len-le-length}
+use Rattle.std.proofs.lemmas.List.Sums.{prefix_len-le-length}
 use Rattle.std.proofs.lemmas.Str.{IsCharBoundary-from_take, IsUtf8-drop, IsUtf8-from_ascii, chars-IsAscii, chars-append, encode_ascii, encodes-IsAscii, encodes-chars}
 use Rattle.std.proofs.lemmas.Str.Ascii.{IsAscii-cons, IsAscii-nil, lowercase_is}
 use Rattle.std.specs.Char.{is_ascii_uppercase, to_ascii_lowercase}
@@ -168,19 +168,6 @@ suc_test a b = elim (cases_eq a b) [ inl e ↦ rw e (eq-eqb (1 + b) (suc b) (ome
 pub whole_front : (p : ℕ → Bool) (s : List ℕ) → list_all p s ≡ (prefix_len p s == length s)
 whole_front p [] = refl
 whole_front p (c ∷ s) = elim (p c) as (λ v. (v && list_all p s) ≡ (cond v (1 + prefix_len p s) 0 == suc (length s))) [ true ↦ whole_front p s ∙ sym (suc_test (prefix_len p s) (length s)) | false ↦ sym (ne_eqb 0 (suc (length s)) (λ e. omega arith)) ]
-
--- one step of a search for the first that fails
-pub prefix_step : (p : ℕ → Bool) (s : List ℕ) (i : ℕ) → i < length s → prefix_len p (drop i s) ≡ cond (p (get_or s i 0)) (1 + prefix_len p (drop (i + 1) s)) 0
-prefix_step p s i l = ap (prefix_len p) (drop-cons s i 0 l) ∙ ap (λ k. cond (p (get_or s i 0)) (1 + prefix_len p (drop k s)) 0) (sym (add-one i))
-
-pub prefix_more : (p : ℕ → Bool) (s : List ℕ) (i : ℕ) → i < length s → p (get_or s i 0) ≡ true → prefix_len p s ≡ i + prefix_len p (drop i s) → prefix_len p s ≡ (i + 1) + prefix_len p (drop (i + 1) s)
-prefix_more p s i l h e = let k = prefix_step p s i l ∙ cond-true (p (get_or s i 0)) (1 + prefix_len p (drop (i + 1) s)) 0 h in omega (arith, k, e)
-
-pub prefix_ends : (p : ℕ → Bool) (s : List ℕ) (i : ℕ) → i < length s → p (get_or s i 0) ≡ false → prefix_len p s ≡ i + prefix_len p (drop i s) → i ≡ prefix_len p s
-prefix_ends p s i l h e = let k = prefix_step p s i l ∙ cond-false (p (get_or s i 0)) (1 + prefix_len p (drop (i + 1) s)) 0 h in omega (arith, k, e)
-
-pub prefix_whole : (p : ℕ → Bool) (s : List ℕ) (i : ℕ) → length s ≤ i → i ≤ length s → prefix_len p s ≡ i + prefix_len p (drop i s) → length s ≡ prefix_len p s
-prefix_whole p s i l k e = let n = prefix_len-drop_all p s i l in omega (arith, n, e)
 
 -- what the test of the front says of a text that is not empty
 pub token_text_by_front : (bs text : List ℕ) (n : ℕ) → IsUtf8 text → n ≡ prefix_len is_token bs → bs ≡ text → (length text == 0) ≡ false → (n == length text) ≡ is_token_text (chars text)
