@@ -1,10 +1,10 @@
 -- Classes of bytes by the halves of a byte, sixteen bytes at a time.
-use Rattle.std.proofs.Common.{◌≡◌, ◌≢◌, ℕ, zero, suc, ◌+◌, ◌-◌, ◌/◌, ◌%◌, ◌^◌, ◌<◌, ◌≤◌, Bool, List, [], ◌∷◌, cond, map, take, drop, length, bit_and, get_or, true, false, sym, ap, ◌∙◌, ⊎_elim, arith, w8, length-drop, length-take-le}
+use Rattle.std.proofs.Common.{◌≡◌, ◌≢◌, ℕ, ◌+◌, ◌-◌, ◌/◌, ◌%◌, ◌^◌, ◌<◌, ◌≤◌, Bool, List, [], ◌∷◌, cond, map, take, drop, length, bit_and, get_or, true, false, sym, ap, ◌∙◌, ⊎_elim, arith, w8, length-drop, length-take-le}
 use Rattle.std.specs.Prelude.{◌==◌, ◌||◌, not, slice_index}
 use Rattle.std.specs.List.{prefix_len}
 use Rattle.std.proofs.lemmas.Bool.{agree_below, agree_below_at, cases_lt, false≢true, not-true}
 use Rattle.std.proofs.lemmas.List.{get_or-drop, get_or-take, length-map}
-use Rattle.std.proofs.lemmas.List.Sums.{prefix_len-drop_yes, prefix_len-le-length, prefix_len_passes}
+use Rattle.std.proofs.lemmas.List.Sums.{prefix_len-le-length, prefix_len_passes}
 use Rattle.std.proofs.lemmas.Simd.{bitmask_splat, map-map, none_from_empty_mask, trailing_mask_l}
 use lib.Count.{count_trailing_zeros}
 use lib.Lanes.{mask_l, top, zip2}
@@ -67,11 +67,3 @@ unmarked_passes m p h b l e = sym (ap (λ t. t || p b) e) ∙ agree_below_at (λ
 
 pub all_marked : (m p : ℕ → Bool) → agree_below m (λ _. true) 256 ≡ true → (b : ℕ) → b < 256 → m b ≡ false → p b ≡ true
 all_marked m p h b l e = absurd (false≢true (sym e ∙ agree_below_at m (λ _. true) 256 b h l))
-
-pub front_further : (p : ℕ → Bool) (bytes : List ℕ) (n : ℕ) → n ≤ length bytes → ((k : ℕ) → k < n → p (get_or bytes k 0) ≡ true) → prefix_len p bytes ≡ n + prefix_len p (drop n bytes)
-front_further p bytes zero l h = omega arith
-front_further p bytes (suc n) l h =
-    let before = front_further p bytes n (omega arith) (λ k m. h k (omega arith)) in
-    let here = prefix_len-drop_yes p bytes n 0 (omega arith) (h n (omega arith)) in
-    let more : n + 1 ≡ suc n = omega arith in
-    omega (arith, before, here, ap (λ m. prefix_len p (drop m bytes)) more)

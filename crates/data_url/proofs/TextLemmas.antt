@@ -1,9 +1,11 @@
 -- Texts cut at the first code point that passes no more, and ends taken off.
-use Rattle.std.proofs.Common.{◌≡◌, ℕ, ◌≤◌, nat_le, Bool, true, false, cond, Some, List, [], ◌∷◌, ◌++◌, length, refl, sym, ap, ◌∙◌, arith}
+use Rattle.std.proofs.Common.{◌≡◌, ℕ, ◌≤◌, nat_le, Bool, true, false, cond, Some, List, [], ◌∷◌, ◌++◌, length, refl, sym, ap, ◌∙◌, arith, ◌+◌, ◌<◌, zero, suc, drop, get_or}
 use Rattle.std.proofs.lemmas.Bool.{and_parts, cond-true, cond-false, cond_both, leb-true}
 use Rattle.std.proofs.lemmas.Str.{chars-nil}
 use Rattle.std.specs.Int.{is_in_range}
 use Rattle.std.specs.Str.{chars}
+use Rattle.std.specs.List.{prefix_len}
+use Rattle.std.proofs.lemmas.List.Sums.{prefix_len-drop_yes, prefix_len-le-length, prefix_len_passes}
 use Rattle.data_url.specs.Mime.{DoesNotBegin, DoesNotEnd, Every, IsTrimmedEnd}
 
 pub some_equal : (a b : List ℕ) → Some a ≡ Some b → a ≡ b
@@ -77,3 +79,17 @@ trimmed_end_more p c t (d ∷ u) h = record { back = h.back; joined = ap (λ v. 
 pub is_trimmed_end : (p : ℕ → Bool) (s : List ℕ) → IsTrimmedEnd p s (without_back p s)
 is_trimmed_end p [] = record { back = []; joined = refl; at_back = tt; ends = tt }
 is_trimmed_end p (c ∷ t) = trimmed_end_more p c t (without_back p t) (is_trimmed_end p t)
+
+-- the front that passes, found in two parts
+
+pub front_further : (p : ℕ → Bool) (bytes : List ℕ) (n : ℕ) → n ≤ length bytes → ((k : ℕ) → k < n → p (get_or bytes k 0) ≡ true) → prefix_len p bytes ≡ n + prefix_len p (drop n bytes)
+front_further p bytes zero l h = omega arith
+front_further p bytes (suc n) l h =
+    let before = front_further p bytes n (omega arith) (λ k m. h k (omega arith)) in
+    let here = prefix_len-drop_yes p bytes n 0 (omega arith) (h n (omega arith)) in
+    let more : n + 1 ≡ suc n = omega arith in
+    omega (arith, before, here, ap (λ m. prefix_len p (drop m bytes)) more)
+
+pub in_parts : (p q : ℕ → Bool) → ((c : ℕ) → p c ≡ true → q c ≡ true) → (bytes behind : List ℕ) (first more : ℕ) → first ≡ prefix_len p bytes → behind ≡ drop first bytes → more ≡ prefix_len q behind → first + more ≡ prefix_len q bytes
+in_parts p q h bytes behind first more e d m =
+    omega (arith, m, ap (prefix_len q) d, front_further q bytes first (omega (arith, e, prefix_len-le-length p bytes)) (λ k l. h (get_or bytes k 0) (prefix_len_passes p bytes k 0 (omega (arith, e)))))

@@ -1,6 +1,6 @@
 -- The table of token code points, and texts of them.
 use Rattle.std.proofs.Common.{◌≡◌, ℕ, suc, ◌+◌, ◌<◌, ◌==◌, ◌||◌, Bool, true, false, cond, List, [], ◌∷◌, ◌++◌, length, take, drop, encode_utf8_all, refl, sym, ap, ◌∙◌, subst, arith, one-add, take-append-drop, inl, inr, ⊎_elim, nat_le, nat_lt, codes, ◌&&◌, ap₂, map, not}
-use Rattle.std.proofs.lemmas.Bool.{and_from, and_parts, both_ways, cases_Bool, cases_lt, le-leb, not-true, eqb-true, false_from_ne_true, false≢true, leb-true, ltb-true, ne_eqb, or_cases, cases_eq, cond-true, cond-false, eq-eqb}
+use Rattle.std.proofs.lemmas.Bool.{and_from, and_parts, both_ways, cases_Bool, cases_lt, le-leb, not-true, eqb-true, false_from_ne_true, false≢true, leb-true, ltb-true, ne_eqb, or_cases, cases_eq, eq-eqb}
 use Rattle.std.proofs.lemmas.List.Sums.{prefix_len-le-length}
 use Rattle.std.proofs.lemmas.Str.{IsCharBoundary-from_take, IsUtf8-drop, IsUtf8-from_ascii, chars-IsAscii, chars-append, encode_ascii, encodes-IsAscii, encodes-chars}
 use Rattle.std.proofs.lemmas.Str.Ascii.{IsAscii-cons, IsAscii-nil, lowercase_is}
@@ -11,7 +11,7 @@ use Rattle.std.specs.Str.{IsAscii, IsCharBoundary, IsUtf8, chars}
 use Rattle.data_url.specs.CodePoints.{is_token}
 use Rattle.data_url.specs.Mime.{DoesNotBegin, Every, is_token_text}
 use Rattle.data_url.specs.Steps.Parsing.{is_lower_token}
-use Rattle.data_url.proofs.TextLemmas.{behind_begins, behind_front, front_of, front_passes}
+use Rattle.data_url.proofs.TextLemmas.{behind_begins, behind_front, front_of, front_passes, in_parts}
 
 no_uppercase : (c : ℕ) → is_ascii_uppercase c ≡ false → to_ascii_lowercase c ≡ c
 no_uppercase c h = elim (cases_lt c 65) [
@@ -120,33 +120,16 @@ module _ (p : ℕ → Bool) (below : (c : ℕ) → p c ≡ true → c < 128) whe
         text = (front, behind);
       }
 
--- the front is found in two parts: what is in lower case, and the rest
-prefix_parts : (s : List ℕ) → prefix_len is_token s ≡ prefix_len is_lower_token s + prefix_len is_token (drop (prefix_len is_lower_token s) s)
-prefix_parts [] = refl
-prefix_parts (c ∷ s) = elim (cases_Bool (is_lower_token c)) [
-  | inl e ↦
-      let n = cond-true (is_lower_token c) (1 + prefix_len is_lower_token s) 0 e in
-      let m = cond-true (is_token c) (1 + prefix_len is_token s) 0 (lower_is_token c e) in
-      let k : 1 + prefix_len is_lower_token s ≡ suc (prefix_len is_lower_token s) = omega arith in
-      let d : prefix_len is_token (drop (prefix_len is_lower_token (c ∷ s)) (c ∷ s)) ≡ prefix_len is_token (drop (prefix_len is_lower_token s) s) = ap (λ i. prefix_len is_token (drop i (c ∷ s))) (n ∙ k) in
-      let h = prefix_parts s in
-      omega (arith, n, m, d, h)
-  | inr e ↦
-      let n = cond-false (is_lower_token c) (1 + prefix_len is_lower_token s) 0 e in
-      let d : prefix_len is_token (drop (prefix_len is_lower_token (c ∷ s)) (c ∷ s)) ≡ prefix_len is_token (c ∷ s) = ap (λ i. prefix_len is_token (drop i (c ∷ s))) n in
-      omega (arith, n, d)
-]
-
 -- what the two parts are in a text
 pub record TwoParts (text bytes : List ℕ) (lower more : ℕ) : Type 0 where
   pub lower_is : lower ≡ prefix_len is_lower_token text
   pub len_is : lower + more ≡ prefix_len is_token text
 
 pub two_parts : (text bytes behind : List ℕ) (lower more : ℕ) → bytes ≡ text → lower ≡ prefix_len is_lower_token bytes → behind ≡ drop lower bytes → more ≡ prefix_len is_token behind → TwoParts text bytes lower more
-two_parts text bytes behind lower more b l d m =
-    let k = l ∙ ap (prefix_len is_lower_token) b in
-    let n = m ∙ ap (prefix_len is_token) (d ∙ ap (drop lower) b ∙ ap (λ i. drop i text) k) in
-    record { lower_is = k; len_is = omega (arith, k, n, prefix_parts text) }
+two_parts text bytes behind lower more b l d m = record {
+  lower_is = l ∙ ap (prefix_len is_lower_token) b;
+  len_is = in_parts is_lower_token is_token lower_is_token bytes behind lower more l d m ∙ ap (prefix_len is_token) b;
+}
 
 pub tokens_boundary_at : (text : List ℕ) (n : ℕ) → IsUtf8 text → n ≡ prefix_len is_token text → IsCharBoundary text n
 tokens_boundary_at text n u e = subst (IsCharBoundary text) (sym e) (front_boundary is_token token_below text u)

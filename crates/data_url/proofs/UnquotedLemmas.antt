@@ -1,11 +1,12 @@
 -- Values without quotes: whether what stands before a ';' has quoted-string code points alone.
-use Rattle.std.proofs.Common.{◌≡◌, ℕ, suc, ◌+◌, ◌<◌, Bool, true, false, List, [], ◌∷◌, get_or, drop, refl, sym, ap, ◌∙◌, subst, arith, inl, inr, not, ◌++◌, ◌≤◌, length, length-append, append_assoc, encode_utf8_all}
-use Rattle.std.proofs.lemmas.Bool.{and_from, and_parts, cases_Bool, cond-true, cond-false, false_from_ne_true, false≢true}
+use Rattle.std.proofs.Common.{◌≡◌, ℕ, ◌+◌, ◌<◌, Bool, true, false, List, [], ◌∷◌, get_or, drop, refl, sym, ap, ◌∙◌, subst, arith, not, ◌++◌, ◌≤◌, length, length-append, append_assoc, encode_utf8_all}
+use Rattle.std.proofs.lemmas.Bool.{and_from, and_parts, false_from_ne_true, false≢true}
 use Rattle.std.proofs.lemmas.List.{get_or_append_left}
 use Rattle.std.proofs.lemmas.List.Folds.{list_all_at}
 use Rattle.std.proofs.lemmas.List.Sums.{prefix_len_passes, prefix_len_stops}
 use Rattle.std.proofs.lemmas.Str.{encodes-append, encodes-chars}
 use Rattle.data_url.proofs.CutLemmas.{every_from}
+use Rattle.data_url.proofs.TextLemmas.{in_parts}
 use Rattle.std.specs.List.{list_all, prefix_len}
 use Rattle.std.specs.Str.{IsUtf8, chars}
 use Rattle.data_url.specs.CodePoints.{is_http_whitespace, is_quotable, is_semicolon}
@@ -16,31 +17,9 @@ use Rattle.data_url.proofs.ValueLemmas.{quotable_chars}
 no_semicolon_byte : (c : ℕ) → is_unquoted_byte c ≡ true → not (is_semicolon c) ≡ true
 no_semicolon_byte c h = (and_parts (is_quotable_byte c) (not (is_semicolon c)) h).1
 
--- the front before a ';' is found in two parts
-front_parts : (s : List ℕ) → prefix_len (λ b. not (is_semicolon b)) s ≡ prefix_len is_unquoted_byte s + prefix_len (λ b. not (is_semicolon b)) (drop (prefix_len is_unquoted_byte s) s)
-front_parts [] = refl
-front_parts (c ∷ s) =
-    let p : ℕ → Bool = λ b. not (is_semicolon b) in
-    elim (cases_Bool (is_unquoted_byte c)) [
-      | inl e ↦
-          let n = cond-true (is_unquoted_byte c) (1 + prefix_len is_unquoted_byte s) 0 e in
-          let m = cond-true (p c) (1 + prefix_len p s) 0 (no_semicolon_byte c e) in
-          let k : 1 + prefix_len is_unquoted_byte s ≡ suc (prefix_len is_unquoted_byte s) = omega arith in
-          let d : prefix_len p (drop (prefix_len is_unquoted_byte (c ∷ s)) (c ∷ s)) ≡ prefix_len p (drop (prefix_len is_unquoted_byte s) s) = ap (λ i. prefix_len p (drop i (c ∷ s))) (n ∙ k) in
-          let h = front_parts s in
-          omega (arith, n, m, d, h)
-      | inr e ↦
-          let n = cond-false (is_unquoted_byte c) (1 + prefix_len is_unquoted_byte s) 0 e in
-          let d : prefix_len p (drop (prefix_len is_unquoted_byte (c ∷ s)) (c ∷ s)) ≡ prefix_len p (c ∷ s) = ap (λ i. prefix_len p (drop i (c ∷ s))) n in
-          omega (arith, n, d)
-    ]
-
 -- what the two parts are in the bytes of a text
 pub front_len : (bytes behind : List ℕ) (quotable more : ℕ) → quotable ≡ prefix_len is_unquoted_byte bytes → behind ≡ drop quotable bytes → more ≡ prefix_len (λ b. not (is_semicolon b)) behind → quotable + more ≡ prefix_len (λ b. not (is_semicolon b)) bytes
-front_len bytes behind quotable more q d m =
-    let p : ℕ → Bool = λ b. not (is_semicolon b) in
-    let n : more ≡ prefix_len p (drop (prefix_len is_unquoted_byte bytes) bytes) = m ∙ ap (prefix_len p) (d ∙ ap (λ i. drop i bytes) q) in
-    omega (arith, q, n, front_parts bytes)
+front_len = in_parts is_unquoted_byte (λ b. not (is_semicolon b)) no_semicolon_byte
 
 all_quotable : (bs : List ℕ) → Every is_unquoted_byte bs → list_all is_quotable_byte bs ≡ true
 all_quotable [] h = refl
