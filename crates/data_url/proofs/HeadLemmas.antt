@@ -1,12 +1,12 @@
 -- The head of a MIME type: what the parser cuts is it, and is it alone.
-use Rattle.std.proofs.Common.{◌≡◌, ℕ, ◌==◌, Bool, true, false, not, ⊎_elim, eqb-true, List, [], ◌∷◌, ◌++◌, length, drop, None, IsTrue, encode_utf8, encode_utf8_all, refl, sym, ap, ◌∙◌, subst, arith}
-use Rattle.std.proofs.lemmas.Bool.{both_ways, false_from_ne_true, false≢true, ne_eqb, not_from_false, not_from_true, or_cases}
+use Rattle.std.proofs.Common.{◌≡◌, ℕ, ◌==◌, Bool, true, false, List, [], ◌∷◌, ◌++◌, length, drop, None, IsTrue, encode_utf8, encode_utf8_all, refl, sym, ap, ◌∙◌, subst, arith}
+use Rattle.std.proofs.lemmas.Bool.{both_ways, false≢true, ne_eqb}
 use Rattle.std.proofs.lemmas.Str.{chars-nil, chars_past_char, encodes-chars}
 use Rattle.std.specs.Bool.{MatchBool}
 use Rattle.std.specs.Str.{IsUtf8, chars}
 use Rattle.std.specs.Str.Pattern.{FindsCharPrefix, HasCharAt, HasPrefixMatch}
-use Rattle.data_url.specs.CodePoints.{ends_name, is_http_whitespace, is_token}
-use Rattle.data_url.specs.Mime.{BeginsParameters, DoesNotBegin, Every, IsHead, IsTrimmed, IsTrimmedEnd, Without, is_token_text}
+use Rattle.data_url.specs.CodePoints.{is_http_whitespace, is_token}
+use Rattle.data_url.specs.Mime.{BeginsParameters, DoesNotBegin, Every, IsHead, IsTrimmed, IsTrimmedEnd, is_token_text}
 use Rattle.data_url.specs.Steps.Parsing.{HasNoHead, IsTrimmedFront}
 use Rattle.data_url.proofs.TextLemmas.{behind_front, behind_is, front_is, front_of}
 use Rattle.data_url.proofs.ItemLemmas.{ends_of_rest, tail_equal}
@@ -144,24 +144,3 @@ no_semicolon_text x (c ∷ cs) u b h e = absurd (h (encode_utf8_all cs) (begins_
 
 pub no_semicolon : (x : List ℕ) → IsUtf8 x → BeginsParameters (chars x) → ((rest : List ℕ) → x ≡ encode_utf8 59 ++ rest → ⊥) → chars x ≡ []
 no_semicolon x u b h = no_semicolon_text x (chars x) u b h refl
-
--- A name that ends where its token code points do
-
-pub begins_char : (t : ℕ → Bool) (d : ℕ) (x : List ℕ) (b : Bool) → IsUtf8 x → t d ≡ true → MatchBool b (HasPrefixMatch (FindsCharPrefix d) x) (FindsCharPrefix d x None) → b ≡ true → DoesNotBegin (λ c. not (t c)) (chars x)
-begins_char t d x true u e h k = subst (DoesNotBegin (λ c. not (t c))) (sym (chars_past_char x (drop h.0 x) d u h.1.split)) (not_from_true (t d) e)
-begins_char t d x false u e h k = absurd (false≢true k)
-
-token_ends_no_name : (c : ℕ) → is_token c ≡ true → not (ends_name c) ≡ true
-unfolding is_token
-token_ends_no_name c h = not_from_false (ends_name c) (false_from_ne_true (ends_name c) (λ e. ⊎_elim
-    (λ q. let k : c ≡ 59 = eqb-true c 59 q in false≢true (sym (ap is_token k) ∙ h))
-    (λ q. let k : c ≡ 61 = eqb-true c 61 q in false≢true (sym (ap is_token k) ∙ h))
-    (or_cases (c == 59) (c == 61) e)))
-
-pub tokens_in_name : (cs : List ℕ) → Every is_token cs → Without ends_name cs
-tokens_in_name [] h = tt
-tokens_in_name (c ∷ cs) h = (token_ends_no_name c h.0, tokens_in_name cs h.1)
-
-pub valid_tokens : (x : List ℕ) (b : Bool) → IsUtf8 x → Every is_token (chars x) → b ≡ (length x == 0) → not b ≡ is_token_text (chars x)
-valid_tokens x true u h e = sym (ap is_token_text (empty_by x true e refl))
-valid_tokens x false u h e = sym (nonempty_tokens (chars x) h (nonempty_by x false u e refl))

@@ -137,11 +137,11 @@ tokens_boundary_at text n u e = subst (IsCharBoundary text) (sym e) (front_bound
 pub split_at_other : (text front behind : List ℕ) (n : ℕ) → IsUtf8 text → n ≡ prefix_len is_token text → front ≡ take n text → behind ≡ drop n text → IsSplit is_token text front behind
 split_at_other text front behind n u k f g = rw (f, g, k) (is_split is_token token_below text u)
 
-pub lower_front : (text front : List ℕ) (n lower : ℕ) → IsUtf8 text → n ≡ prefix_len is_token text → front ≡ take n text → lower ≡ prefix_len is_lower_token text → n ≡ lower → map to_ascii_lowercase (chars front) ≡ chars front
-lower_front text front n lower u e f l k =
-    let a : front ≡ take (prefix_len is_token text) text = f ∙ ap (λ i. take i text) e in
-    let b : front ≡ front_of is_lower_token text = f ∙ ap (λ i. take i text) (k ∙ l) ∙ take_front is_lower_token text in
-    let c : chars front ≡ front = chars-IsAscii front (subst IsAscii (sym a) (front_ascii is_token token_below text)) in
+pub lower_front : (text front : List ℕ) (n : ℕ) → n ≡ prefix_len is_lower_token text → front ≡ take n text → map to_ascii_lowercase (chars front) ≡ chars front
+lower_front text front n l f =
+    let whole = f ∙ ap (λ i. take i text) l in
+    let b : front ≡ front_of is_lower_token text = whole ∙ take_front is_lower_token text in
+    let c : chars front ≡ front = chars-IsAscii front (subst IsAscii (sym whole) (front_ascii is_lower_token (λ c h. token_below c (lower_is_token c h)) text)) in
     ap (map to_ascii_lowercase) (c ∙ b) ∙ all_lower_stay (front_of is_lower_token text) (front_passes is_lower_token text) ∙ sym (c ∙ b)
 
 suc_test : (a b : ℕ) → (1 + a == suc b) ≡ (a == b)

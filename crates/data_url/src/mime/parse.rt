@@ -18,7 +18,7 @@ use super::cuts::{
 use super::kept::KeptParameters;
 use super::tokens::{Word, is_token_text, split_tokens};
 use super::values::{Value, lowercased};
-use crate::classes::{Class, long_span};
+use crate::classes::{Class, long_span, span};
 use std::alloc::{AllocError, Global};
 
 /// The type, the subtype and the parameters of a text, as they are there.
@@ -108,13 +108,6 @@ fn begins_parameters(text: &str) -> bool
     text.is_empty() || text.starts_with(';')
 }
 
-/// Whether a text is empty or begins with `;` or `=`.
-fn begins_behind_name(text: &str) -> bool
-    ensures { IsTrue result → DoesNotBegin (λ c. not (ends_name c)) (chars text.now) }
-{
-    text.is_empty() || text.starts_with('=') || text.starts_with(';')
-}
-
 /// Returns the name that a text begins with, whether it is nonempty and of token code points alone, and the text after it.
 fn read_name(text: &str) -> (Word<'_>, bool, &str)
     ensures joined { chars text.now ≡ chars result.0.text.now ++ chars result.2.now }
@@ -124,14 +117,10 @@ fn read_name(text: &str) -> (Word<'_>, bool, &str)
     ensures word { IsWord result.0 }
     ensures text { IsUtf8 result.2.now }
 {
-    let (word, rest) = split_tokens(text);
-    if begins_behind_name(rest) {
-        return (word, !word.text.is_empty(), rest);
-    }
     let (name, rest) = split_name(text);
     let word = Word {
         text: name,
-        is_lower: false,
+        is_lower: span(Class::LowerToken, name.as_bytes()) == name.len(),
     };
     (word, is_token_text(name), rest)
 }

@@ -1,8 +1,11 @@
-use Rattle.data_url.proofs.HeadLemmas.{tokens_in_name, valid_tokens}
+use Rattle.std.proofs.Common.{◌∙◌, ap, arith, eqb-true, length, sym, take_all}
+use Rattle.std.specs.List.{prefix_len}
+use Rattle.data_url.specs.Steps.Parsing.{is_lower_token}
+use Rattle.data_url.proofs.TokenLemmas.{lower_front}
 use Rattle.data_url.proofs.mime.parse.read_name.Goals as goal
 
-pub returns-then-begins_behind_name-clause-front : goal.returns-then-begins_behind_name-clause-front
-returns-then-begins_behind_name-clause-front c = tokens_in_name _ c.split_tokens.ensures.front
-
-pub returns-then-begins_behind_name-clause-valid : goal.returns-then-begins_behind_name-clause-valid
-returns-then-begins_behind_name-clause-valid c = valid_tokens c.split_tokens.result.0.text.now c.is_empty.result c.split_tokens.ensures.text.0 c.split_tokens.ensures.front c.is_empty.ensures
+pub returns-clause-word : goal.returns-clause-word
+returns-clause-word c =
+    let name = c.split_name.result.0.now in
+    let n = c.span.result in
+    λ e. lower_front name name n (c.span.ensures.front ∙ ap (prefix_len is_lower_token) c.as_bytes.ensures.value) (sym (take_all n name (omega (arith, eqb-true n (length name) e))))

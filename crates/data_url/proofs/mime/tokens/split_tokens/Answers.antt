@@ -1,4 +1,4 @@
-use Rattle.std.proofs.Common.{◌+◌, eqb-true}
+use Rattle.std.proofs.Common.{◌+◌, ◌∙◌, ap, eqb-true, take}
 use Rattle.std.proofs.lemmas.List.{take_rest}
 use Rattle.data_url.proofs.TokenLemmas.{lower_front, split_at_other, tokens_boundary_at, two_parts}
 use Rattle.data_url.proofs.mime.tokens.split_tokens.Goals as goal
@@ -16,6 +16,6 @@ returns c =
       joined = s.joined;
       front = s.in_front;
       behind = s.begins;
-      word = λ e. lower_front c.args.text.now c.split_at.result.0.now (c.span-lower.result + c.span.result) c.span-lower.result c.utf8.text p.len_is c.split_at.ensures.front p.lower_is (eqb-true (c.span-lower.result + c.span.result) c.span-lower.result e);
+      word = λ e. lower_front c.args.text.now c.split_at.result.0.now c.span-lower.result p.lower_is (c.split_at.ensures.front ∙ ap (λ i. take i c.args.text.now) (eqb-true (c.span-lower.result + c.span.result) c.span-lower.result e));
       text = s.text;
     }
