@@ -84,9 +84,6 @@ lower_bytes k u h =
     let bytes = name_bytes k u (lowercase_token (chars k) h) in
     subst (λ t. map to_ascii_lowercase t ≡ t) (sym bytes) (lower_is_itself (chars k) h)
 
-pub word_bytes : (n : List ℕ) → IsUtf8 n → is_token_text (chars n) ≡ true → map to_ascii_lowercase (chars n) ≡ chars n → map to_ascii_lowercase n ≡ n
-word_bytes n u h e = subst (λ t. map to_ascii_lowercase t ≡ t) (sym (name_bytes n u h)) e
-
 pub names_equal : (k n : List ℕ) → IsUtf8 k → IsUtf8 n → is_lowercase_name (chars k) ≡ true → is_token_text (chars n) ≡ true → map to_ascii_lowercase k ≡ map to_ascii_lowercase n → bytes_eq (chars k) (map to_ascii_lowercase (chars n)) ≡ true
 names_equal k n u w h t e = let b = both_lower k n u w h t in test_from_equal (chars k) (map to_ascii_lowercase (chars n)) (sym b.0 ∙ e ∙ b.1)
 
@@ -210,16 +207,16 @@ valid_lower name None h = refl
 valid_lower name (Some v) h = cond_both (is_token_text name && list_all is_quotable v) ((name, v) ∷ []) [] HasLowercaseNames (λ e. and_from (is_lowercase_name name) true (h (and_parts (is_token_text name) (list_all is_quotable v) e).0) refl) (λ e. refl)
 
 module _ (parameter : Parameter) (item : Item) (is : IsItem parameter item) where
-  pub name_token : is_token_text item.0 ≡ is_token_text (chars parameter.word.text.now)
-  name_token = ap is_token_text is.name ∙ token_text_lower (chars parameter.word.text.now)
+  pub name_token : is_token_text item.0 ≡ is_token_text (chars parameter.name.now)
+  name_token = ap is_token_text is.name ∙ token_text_lower (chars parameter.name.now)
 
-  pub invalid_name : (xs : List Pair) (b : Bool) → b ≡ is_token_text (chars parameter.word.text.now) → b ≡ false → added_pairs xs item ≡ []
+  pub invalid_name : (xs : List Pair) (b : Bool) → b ≡ is_token_text (chars parameter.name.now) → b ≡ false → added_pairs xs item ≡ []
   invalid_name xs b e h = no_pair_token item xs (name_token ∙ sym e ∙ h)
 
-  pub known_name : (xs : List Pair) → has_name (map to_ascii_lowercase (chars parameter.word.text.now)) xs ≡ true → added_pairs xs item ≡ []
+  pub known_name : (xs : List Pair) → has_name (map to_ascii_lowercase (chars parameter.name.now)) xs ≡ true → added_pairs xs item ≡ []
   known_name xs h = no_pair_named item xs (ap (λ n. has_name n xs) is.name ∙ h)
 
-  pub new_pair : (name value : List ℕ) (b : Bool) → b ≡ is_token_text (chars parameter.word.text.now) → b ≡ true → name ≡ map to_ascii_lowercase (chars parameter.word.text.now) → Some value ≡ quotable_value item.1 → valid_of item ≡ (name, value) ∷ []
+  pub new_pair : (name value : List ℕ) (b : Bool) → b ≡ is_token_text (chars parameter.name.now) → b ≡ true → name ≡ map to_ascii_lowercase (chars parameter.name.now) → Some value ≡ quotable_value item.1 → valid_of item ≡ (name, value) ∷ []
   new_pair name value b e h n v = valid_pair item value (name_token ∙ sym e ∙ h) v ∙ ap (λ x. (x, value) ∷ []) (is.name ∙ sym n)
 
 -- The parser's loop over the parameters

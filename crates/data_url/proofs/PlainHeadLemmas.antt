@@ -1,6 +1,5 @@
 -- The head of a MIME type whose type is left out: that of "text/plain" with the parameters behind it.
-use Rattle.std.proofs.Common.{◌≡◌, ℕ, false, List, [], ◌∷◌, ◌++◌, codes, get_or, map, refl, sym, ap, ◌∙◌, subst, IsTrue}
-use Rattle.std.specs.Char.{to_ascii_lowercase}
+use Rattle.std.proofs.Common.{◌≡◌, ℕ, false, List, [], ◌∷◌, ◌++◌, codes, get_or, refl, sym, ap, ◌∙◌, subst, IsTrue}
 use Rattle.std.specs.Str.{chars}
 use Rattle.data_url.specs.CodePoints.{is_http_whitespace}
 use Rattle.data_url.specs.Fetch.{with_plain}
@@ -19,14 +18,6 @@ token_text = refl
 token_plain : IsTrue (is_token_text (codes "plain"))
 unfolding on_literals
 token_plain = refl
-
-pub lower_text : map to_ascii_lowercase (chars (codes "text")) ≡ chars (codes "text")
-unfolding chars
-lower_text = refl
-
-pub lower_plain : map to_ascii_lowercase (chars (codes "plain")) ≡ chars (codes "plain")
-unfolding chars
-lower_plain = refl
 
 chars_text : codes "text" ≡ chars (codes "text")
 unfolding chars

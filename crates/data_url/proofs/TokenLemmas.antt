@@ -1,36 +1,15 @@
 -- The table of token code points, and texts of them.
-use Rattle.std.proofs.Common.{◌≡◌, ℕ, suc, ◌+◌, ◌<◌, ◌==◌, ◌||◌, Bool, true, false, cond, List, [], ◌∷◌, ◌++◌, length, take, drop, encode_utf8_all, refl, sym, ap, ◌∙◌, subst, arith, one-add, take-append-drop, inl, inr, ⊎_elim, nat_le, nat_lt, codes, ◌&&◌, ap₂, map, not}
-use Rattle.std.proofs.lemmas.Bool.{and_from, and_parts, both_ways, cases_Bool, cases_lt, le-leb, not-true, eqb-true, false_from_ne_true, false≢true, leb-true, ltb-true, ne_eqb, or_cases, cases_eq, eq-eqb}
+use Rattle.std.proofs.Common.{◌≡◌, ℕ, suc, ◌+◌, ◌<◌, ◌==◌, ◌||◌, Bool, true, false, cond, List, [], ◌∷◌, ◌++◌, length, take, drop, encode_utf8_all, refl, sym, ap, ◌∙◌, subst, arith, one-add, take-append-drop, inl, inr, ⊎_elim, nat_le, nat_lt, codes, ◌&&◌}
+use Rattle.std.proofs.lemmas.Bool.{and_parts, both_ways, cases_Bool, eqb-true, false_from_ne_true, false≢true, leb-true, ltb-true, ne_eqb, or_cases, cases_eq, eq-eqb}
 use Rattle.std.proofs.lemmas.List.Sums.{prefix_len-le-length}
 use Rattle.std.proofs.lemmas.Str.{IsCharBoundary-from_take, IsUtf8-drop, IsUtf8-from_ascii, chars-IsAscii, chars-append, encode_ascii, encodes-IsAscii, encodes-chars}
-use Rattle.std.proofs.lemmas.Str.Ascii.{IsAscii-cons, IsAscii-nil, lowercase_is}
-use Rattle.std.specs.Char.{is_ascii_uppercase, to_ascii_lowercase}
+use Rattle.std.proofs.lemmas.Str.Ascii.{IsAscii-cons, IsAscii-nil}
 use Rattle.std.specs.Int.{is_in_range}
 use Rattle.std.specs.List.{list_all, list_any, prefix_len}
 use Rattle.std.specs.Str.{IsAscii, IsCharBoundary, IsUtf8, chars}
 use Rattle.data_url.specs.CodePoints.{is_token}
 use Rattle.data_url.specs.Mime.{DoesNotBegin, Every, is_token_text}
-use Rattle.data_url.specs.Steps.Parsing.{is_lower_token}
-use Rattle.data_url.proofs.TextLemmas.{behind_begins, behind_front, front_of, front_passes, in_parts}
-
-no_uppercase : (c : ℕ) → is_ascii_uppercase c ≡ false → to_ascii_lowercase c ≡ c
-no_uppercase c h = elim (cases_lt c 65) [
-  | inl l ↦ (lowercase_is c).1 l
-  | inr l ↦ elim (cases_lt 90 c) [
-    | inl m ↦ (lowercase_is c).2 m
-    | inr m ↦ absurd (both_ways (is_ascii_uppercase c) h (and_from (nat_le 65 c) (nat_le c 90) (le-leb 65 c l) (le-leb c 90 m)))
-  ]
-]
-
-lower_is_token : (c : ℕ) → is_lower_token c ≡ true → is_token c ≡ true
-lower_is_token c h = (and_parts (is_token c) (not (is_ascii_uppercase c)) h).0
-
-lower_stays : (c : ℕ) → is_lower_token c ≡ true → to_ascii_lowercase c ≡ c
-lower_stays c h = no_uppercase c (not-true (is_ascii_uppercase c) (and_parts (is_token c) (not (is_ascii_uppercase c)) h).1)
-
-all_lower_stay : (cs : List ℕ) → Every is_lower_token cs → map to_ascii_lowercase cs ≡ cs
-all_lower_stay [] h = refl
-all_lower_stay (c ∷ cs) h = ap₂ (λ x y. x ∷ y) (lower_stays c h.0) (all_lower_stay cs h.1)
+use Rattle.data_url.proofs.TextLemmas.{behind_begins, behind_front, front_of, front_passes}
 
 in_range_below : (low high c : ℕ) → is_in_range low high c ≡ true → high < 128 → c < 128
 in_range_below low high c r l = let e = leb-true c high (and_parts (nat_le low c) (nat_le c high) r).1 in omega arith
@@ -120,29 +99,11 @@ module _ (p : ℕ → Bool) (below : (c : ℕ) → p c ≡ true → c < 128) whe
         text = (front, behind);
       }
 
--- what the two parts are in a text
-pub record TwoParts (text bytes : List ℕ) (lower more : ℕ) : Type 0 where
-  pub lower_is : lower ≡ prefix_len is_lower_token text
-  pub len_is : lower + more ≡ prefix_len is_token text
-
-pub two_parts : (text bytes behind : List ℕ) (lower more : ℕ) → bytes ≡ text → lower ≡ prefix_len is_lower_token bytes → behind ≡ drop lower bytes → more ≡ prefix_len is_token behind → TwoParts text bytes lower more
-two_parts text bytes behind lower more b l d m = record {
-  lower_is = l ∙ ap (prefix_len is_lower_token) b;
-  len_is = in_parts is_lower_token is_token lower_is_token bytes behind lower more l d m ∙ ap (prefix_len is_token) b;
-}
-
 pub tokens_boundary_at : (text : List ℕ) (n : ℕ) → IsUtf8 text → n ≡ prefix_len is_token text → IsCharBoundary text n
 tokens_boundary_at text n u e = subst (IsCharBoundary text) (sym e) (front_boundary is_token token_below text u)
 
 pub split_at_other : (text front behind : List ℕ) (n : ℕ) → IsUtf8 text → n ≡ prefix_len is_token text → front ≡ take n text → behind ≡ drop n text → IsSplit is_token text front behind
 split_at_other text front behind n u k f g = rw (f, g, k) (is_split is_token token_below text u)
-
-pub lower_front : (text front : List ℕ) (n : ℕ) → n ≡ prefix_len is_lower_token text → front ≡ take n text → map to_ascii_lowercase (chars front) ≡ chars front
-lower_front text front n l f =
-    let whole = f ∙ ap (λ i. take i text) l in
-    let b : front ≡ front_of is_lower_token text = whole ∙ take_front is_lower_token text in
-    let c : chars front ≡ front = chars-IsAscii front (subst IsAscii (sym whole) (front_ascii is_lower_token (λ c h. token_below c (lower_is_token c h)) text)) in
-    ap (map to_ascii_lowercase) (c ∙ b) ∙ all_lower_stay (front_of is_lower_token text) (front_passes is_lower_token text) ∙ sym (c ∙ b)
 
 suc_test : (a b : ℕ) → (1 + a == suc b) ≡ (a == b)
 suc_test a b = elim (cases_eq a b) [ inl e ↦ rw e (eq-eqb (1 + b) (suc b) (omega arith) ∙ sym (eq-eqb b b refl)) | inr e ↦ ne_eqb (1 + a) (suc b) (λ k. e (omega arith)) ∙ sym (ne_eqb a b e) ]

@@ -2,15 +2,14 @@
 use Rattle.std.specs.Prelude.{◌/◌, ◌<◌, ◌==◌, ◌≡◌, Bool, List, bit_and, false, not, slice_index, ℕ}
 use Rattle.data_url.specs.CodePoints.{is_http_whitespace, is_token}
 use Rattle.data_url.specs.Steps.Front.{is_plain_path}
-use Rattle.data_url.specs.Steps.Parsing.{is_escaped, is_lower_token, is_quotable_byte, is_unquoted_byte}
-use Rattle.data_url.specs.declared.classes.Class.TheVariants.{LowerToken, PlainPath, Quotable, Token, Unescaped, Unquoted, Whitespace}
+use Rattle.data_url.specs.Steps.Parsing.{is_escaped, is_quotable_byte, is_unquoted_byte}
+use Rattle.data_url.specs.declared.classes.Class.TheVariants.{PlainPath, Quotable, Token, Unescaped, Unquoted, Whitespace}
 use Rattle.data_url.specs.declared.classes.Class.{Class}
 use Rattle.data_url.specs.declared.classes.lanes.TheConstants.{COLUMNS}
 
 -- the classes by their names in the code
 abbrev pub in_class : Class → ℕ → Bool
 in_class Token = is_token
-in_class LowerToken = is_lower_token
 in_class Quotable = is_quotable_byte
 in_class Unquoted = is_unquoted_byte
 in_class PlainPath = is_plain_path

@@ -1,14 +1,13 @@
 -- What the steps of the MIME parser give, for its private contracts. Texts are lists of code
 -- points.
-use Rattle.std.specs.Char.{is_ascii_uppercase, to_ascii_lowercase}
+use Rattle.std.specs.Char.{to_ascii_lowercase}
 use Rattle.std.specs.Int.{is_in_range}
 use Rattle.std.specs.List.{list_all}
 use Rattle.std.specs.Prelude.{[], if◌then◌else◌, ◌&&◌, ◌++◌, ◌==◌, ◌||◌, ◌∷◌, ◌≡◌, Bool, IsTrue, List, None, Option, Some, map, not, ℕ}
 use Rattle.std.specs.Str.{IsUtf8, chars}
-use Rattle.data_url.specs.CodePoints.{is_quotable, is_semicolon, is_token}
+use Rattle.data_url.specs.CodePoints.{is_quotable, is_semicolon}
 use Rattle.data_url.specs.Mime.{BeginsParameters, DoesNotBegin, Every, GivesValue, IsHead, IsParameter, Item, Pair, Quoted, QuotedOpen, has_name, is_lowercase_name, valid_of}
 use Rattle.data_url.specs.declared.mime.parse.Parameter.{Parameter}
-use Rattle.data_url.specs.declared.mime.tokens.Word.{Word}
 use Rattle.data_url.specs.declared.mime.values.Value.TheVariants as slices
 use Rattle.data_url.specs.declared.mime.values.Value.{Value}
 
@@ -63,18 +62,9 @@ IsValue slices.Missing value = quotable_value value ≡ None
 IsValue (slices.Plain text) value = (value ≡ Some (chars text.now)) × IsTrue (list_all is_quotable (chars text.now))
 IsValue (slices.Quoted text) value = (w : List ℕ) × (value ≡ Some w) × QuotedOpen (chars text.now) w
 
--- a token code point and no upper-case letter
-abbrev pub is_lower_token : ℕ → Bool
-is_lower_token c = is_token c && not (is_ascii_uppercase c)
-
--- the word stays in lower case where it says so
-abbrev pub IsWord : Word → Type 0
-IsWord word = IsTrue word.is_lower
-    → map to_ascii_lowercase (chars word.text.now) ≡ chars word.text.now
-
 -- the slices spell the item
 pub record IsItem (parameter : Parameter) (item : Item) : Type 0 where
-  pub name : item.0 ≡ map to_ascii_lowercase (chars parameter.word.text.now)
+  pub name : item.0 ≡ map to_ascii_lowercase (chars parameter.name.now)
   pub value : IsValue parameter.value item.1
 
 -- the pair that an item adds to those that are kept: none where its name is there

@@ -5,10 +5,9 @@ ghost use Rattle.std.specs.Char.{to_ascii_lowercase};
 ghost use Rattle.std.specs.Str.{chars};
 ghost use Rattle.data_url.specs.Mime.{has_name, is_lowercase_name, is_token_text};
 ghost use Rattle.data_url.specs.MimeType.{code_points, pair_of};
-ghost use Rattle.data_url.specs.Steps.Parsing.{HasLowercaseNames, IsWord, unless_named};
+ghost use Rattle.data_url.specs.Steps.Parsing.{HasLowercaseNames, unless_named};
 ghost use Rattle.data_url.specs.Steps.Kept.{IsIndexed, first_of, pairs_of};
 
-use super::tokens::Word;
 use std::alloc::{AllocError, Global};
 use std::collections::BTreeSet;
 
@@ -46,15 +45,14 @@ impl KeptParameters {
     }
 
     /// Whether one of the first pairs has the name, in any ASCII case.
-    pub(super) fn is_among_first(&self, name: Word<'_>) -> bool
+    pub(super) fn is_among_first(&self, name: &str) -> bool
         requires indexed { IsIndexed self.now }
-        requires token { IsTrue (is_token_text (chars name.text.now)) }
-        requires word { IsWord name }
-        ensures { result ≡ has_name (map to_ascii_lowercase (chars name.entry.text.now))
+        requires token { IsTrue (is_token_text (chars name.now)) }
+        ensures { result ≡ has_name (map to_ascii_lowercase (chars name.now))
             (first_of (pairs_of self.now)) }
     {
         let first = &self.pairs[..LOOKED_THROUGH.min(self.pairs.len())];
-        any_named(first, name.text, name.is_lower)
+        any_named(first, name)
     }
 
     /// Adds a pair whose name none of the first ones has, unless a later one has it.
@@ -74,38 +72,32 @@ impl KeptParameters {
     }
 }
 
-/// Whether a key in lower case is a name, in any ASCII case, of which it may be known that it is in lower case. The last
-/// byte, which is given in lower case too, is compared first: numbered names differ there.
+/// Whether a key in lower case is a name, in any ASCII case. The last byte, which is given in lower case, is compared
+/// first: numbered names differ there.
 #[inline(always)]
-fn is_named(key: &str, name: &str, is_lower: bool, last: u8) -> bool
+fn is_named(key: &str, name: &str, last: u8) -> bool
     requires key { map to_ascii_lowercase key.now ≡ key.now }
     requires some { 0 < length name.now }
     requires last { last ≡ to_ascii_lowercase (slice_index name.now (length name.now - 1)) }
-    requires lower { IsTrue is_lower → map to_ascii_lowercase name.now ≡ name.now }
     ensures { Decides result (map to_ascii_lowercase key.now ≡ map to_ascii_lowercase name.now) }
 {
     let len = key.len();
     if len != name.len() || key.as_bytes()[len - 1] != last {
         return false;
     }
-    if is_lower {
-        key == name
-    } else {
-        key.eq_ignore_ascii_case(name)
-    }
+    key.eq_ignore_ascii_case(name)
 }
 
-/// Whether one of the pairs has the name, in any ASCII case. It may be known to be in lower case.
-fn any_named(pairs: &[(String, String)], name: &str, is_lower: bool) -> bool
+/// Whether one of the pairs has the name, in any ASCII case.
+fn any_named(pairs: &[(String, String)], name: &str) -> bool
     requires pairs { HasLowercaseNames (map (λ p. pair_of p) pairs.now) }
     requires token { IsTrue (is_token_text (chars name.now)) }
-    requires lower { IsTrue is_lower → map to_ascii_lowercase (chars name.now) ≡ chars name.now }
     ensures { result ≡ has_name (map to_ascii_lowercase (chars name.now))
         (map (λ p. pair_of p) pairs.now) }
 {
     let last = name.as_bytes()[name.len() - 1].to_ascii_lowercase();
     for (key, _) in pairs {
-        if is_named(key.as_str(), name, is_lower, last) {
+        if is_named(key.as_str(), name, last) {
             return true;
         }
     }

@@ -6,7 +6,7 @@ ghost use Rattle.std.specs.Char.{to_ascii_lowercase};
 ghost use Rattle.std.specs.Str.{IsUtf8, chars};
 ghost use Rattle.data_url.specs.CodePoints.{ends_name};
 ghost use Rattle.data_url.specs.Mime.{BeginsParameters, DoesNotBegin, IsHead, Item, Items, Without, is_quote, is_token_text, kept_pairs, IsRecordOfParts};
-ghost use Rattle.data_url.specs.Steps.Parsing.{HasNoHead, HasParameterBefore, HasValueBefore, IsClosed, IsItem, IsOpen, IsValue, IsWord, added_pairs};
+ghost use Rattle.data_url.specs.Steps.Parsing.{HasNoHead, HasParameterBefore, HasValueBefore, IsClosed, IsItem, IsOpen, IsValue, added_pairs};
 ghost use Rattle.data_url.specs.Steps.Kept.{IsIndexed, pairs_of};
 ghost use Rattle.data_url.specs.MimeType.{pair_of, record_of};
 
@@ -16,26 +16,23 @@ use super::cuts::{
     without_trailing_whitespace,
 };
 use super::kept::KeptParameters;
-use super::tokens::{Word, is_token_text, split_tokens};
+use super::tokens::{is_token_text, split_tokens};
 use super::values::{Value, lowercased};
-use crate::classes::{Class, long_span, span};
+use crate::classes::{Class, long_span};
 use std::alloc::{AllocError, Global};
 
 /// The type, the subtype and the parameters of a text, as they are there.
 #[derive(Clone, Copy)]
 pub(crate) struct Head<'a> {
-    pub(super) type_: Word<'a>,
-    pub(super) subtype: Word<'a>,
+    pub(super) type_: &'a str,
+    pub(super) subtype: &'a str,
     pub(super) parameters: &'a str,
 }
 
 /// One parameter, as it is in the text, and the text after it.
 #[derive(Clone, Copy)]
 struct Parameter<'a> {
-    /// The name.
-    word: Word<'a>,
-    /// Whether the name is nonempty and of token code points alone.
-    is_valid: bool,
+    name: &'a str,
     value: Value<'a>,
     rest: &'a str,
 }
@@ -43,17 +40,16 @@ struct Parameter<'a> {
 impl<'a> Head<'a> {
     /// The record of a MIME type of these parts. It takes memory for the record.
     pub(crate) fn record(self, alloc: Global) -> Result<Mime, AllocError>
-        requires type_ { IsTrue (is_token_text (chars self.type_.text.now)) }
-        requires subtype { IsTrue (is_token_text (chars self.subtype.text.now)) }
-        requires words { IsWord self.type_ × IsWord self.subtype }
+        requires type_ { IsTrue (is_token_text (chars self.type_.now)) }
+        requires subtype { IsTrue (is_token_text (chars self.subtype.now)) }
         requires parameters { BeginsParameters (chars self.parameters.now) }
         ensures { IfOk result (λ mime.
-            IsRecordOfParts (chars self.entry.type_.text.now) (chars self.entry.subtype.text.now)
+            IsRecordOfParts (chars self.entry.type_.now) (chars self.entry.subtype.now)
             (chars self.entry.parameters.now) (record_of mime)) }
     {
         Ok(Mime {
-            type_: lowercased(alloc, self.type_.text, self.type_.is_lower)?,
-            subtype: lowercased(alloc, self.subtype.text, self.subtype.is_lower)?,
+            type_: lowercased(alloc, self.type_)?,
+            subtype: lowercased(alloc, self.subtype)?,
             parameters: read_parameters(alloc, self.parameters)?,
         })
     }
@@ -61,15 +57,14 @@ impl<'a> Head<'a> {
 
 /// The parts of a MIME type, if the text is one.
 pub(crate) fn read_head(text: &str) -> Option<Head<'_>>
-    ensures head { MatchOption result (HasNoHead (chars text.now))
-        (λ h. IsHead (chars text.now) (chars h.type_.text.now) (chars h.subtype.text.now)
+    ensures { MatchOption result (HasNoHead (chars text.now))
+        (λ h. IsHead (chars text.now) (chars h.type_.now) (chars h.subtype.now)
         (chars h.parameters.now)) }
-    ensures words { IfSome result (λ h. IsWord h.type_ × IsWord h.subtype) }
 {
     let (type_, rest) = split_tokens(without_trailing_whitespace(without_leading_whitespace(text)));
     let (subtype, rest) = split_tokens(rest.strip_prefix('/')?);
     let parameters = without_leading_whitespace(rest);
-    if type_.text.is_empty() || subtype.text.is_empty() || !begins_parameters(parameters) {
+    if type_.is_empty() || subtype.is_empty() || !begins_parameters(parameters) {
         return None;
     }
     Some(Head {
@@ -82,20 +77,12 @@ pub(crate) fn read_head(text: &str) -> Option<Head<'_>>
 /// Returns the parts of the MIME type `text/plain` with the text after the subtype.
 pub(crate) fn plain_head(parameters: &str) -> Head<'_>
     requires { BeginsParameters (chars parameters.now) }
-    ensures head { IsHead (codes "text/plain" ++ chars parameters.now)
-        (chars result.type_.text.now) (chars result.subtype.text.now)
-        (chars result.parameters.now) }
-    ensures words { IsWord result.type_ × IsWord result.subtype }
+    ensures { IsHead (codes "text/plain" ++ chars parameters.now)
+        (chars result.type_.now) (chars result.subtype.now) (chars result.parameters.now) }
 {
     Head {
-        type_: Word {
-            text: "text",
-            is_lower: true,
-        },
-        subtype: Word {
-            text: "plain",
-            is_lower: true,
-        },
+        type_: "text",
+        subtype: "plain",
         parameters: without_trailing_whitespace(parameters),
     }
 }
@@ -108,47 +95,22 @@ fn begins_parameters(text: &str) -> bool
     text.is_empty() || text.starts_with(';')
 }
 
-/// Returns the name that a text begins with, whether it is nonempty and of token code points alone, and the text after it.
-fn read_name(text: &str) -> (Word<'_>, bool, &str)
-    ensures joined { chars text.now ≡ chars result.0.text.now ++ chars result.2.now }
-    ensures front { Without ends_name (chars result.0.text.now) }
-    ensures behind { DoesNotBegin (λ c. not (ends_name c)) (chars result.2.now) }
-    ensures valid { result.1 ≡ is_token_text (chars result.0.text.now) }
-    ensures word { IsWord result.0 }
-    ensures text { IsUtf8 result.2.now }
-{
-    let (name, rest) = split_name(text);
-    let word = Word {
-        text: name,
-        is_lower: span(Class::LowerToken, name.as_bytes()) == name.len(),
-    };
-    (word, is_token_text(name), rest)
-}
-
 /// Returns the parameter that a text begins with, after its `;`.
 fn read_parameter(text: &str) -> Parameter<'_>
     ensures parameter { (item : Item) × IsItem result item
         × HasParameterBefore (chars text.now) item (chars result.rest.now) }
-    ensures valid { result.is_valid ≡ is_token_text (chars result.word.text.now) }
-    ensures word { IsWord result.word }
     ensures text { IsUtf8 result.rest.now }
 {
-    let (word, is_valid, tail) = read_name(without_leading_whitespace(text));
+    let (name, tail) = split_name(without_leading_whitespace(text));
     let Some(value) = tail.strip_prefix('=') else {
         return Parameter {
-            word,
-            is_valid,
+            name,
             value: Value::Missing,
             rest: tail,
         };
     };
     let (value, rest) = read_value(value);
-    Parameter {
-        word,
-        is_valid,
-        value,
-        rest,
-    }
+    Parameter { name, value, rest }
 }
 
 /// Returns the value after a `=`, and the text after it.
@@ -238,19 +200,17 @@ fn keep(
     kept: &mut KeptParameters,
     parameter: &Parameter<'_>,
 ) -> Result<(), AllocError>
-    requires indexed { IsIndexed kept.old }
-    requires valid { parameter.now.is_valid ≡ is_token_text (chars parameter.now.word.text.now) }
-    requires word { IsWord parameter.now.word }
+    requires { IsIndexed kept.old }
     ensures pairs { OnOk result ((item : Item) → IsItem parameter.now item
         → pairs_of kept.new ≡ pairs_of kept.old ++ added_pairs (pairs_of kept.old) item) }
     ensures indexed { OnOk result (IsIndexed kept.new) }
 {
-    let name = parameter.word;
-    if !parameter.is_valid || kept.is_among_first(name) {
+    let name = parameter.name;
+    if !is_token_text(name) || kept.is_among_first(name) {
         return Ok(());
     }
     let Some(value) = parameter.value.text(alloc)? else {
         return Ok(());
     };
-    kept.push(lowercased(alloc, name.text, name.is_lower)?, value)
+    kept.push(lowercased(alloc, name)?, value)
 }

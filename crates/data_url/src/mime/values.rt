@@ -80,16 +80,11 @@ fn without_backslashes(alloc: Global, quoted: &str) -> Result<String, AllocError
     Ok(value)
 }
 
-/// A text of token code points, in ASCII lower case, which may be known to leave it as it is.
-pub(super) fn lowercased(alloc: Global, text: &str, is_lower: bool) -> Result<String, AllocError>
-    requires token { IsTrue (is_token_text (chars text.now)) }
-    requires lower { IsTrue is_lower
-        → map to_ascii_lowercase (chars text.now) ≡ chars text.now }
+/// A text of token code points, in ASCII lower case.
+pub(super) fn lowercased(alloc: Global, text: &str) -> Result<String, AllocError>
+    requires { IsTrue (is_token_text (chars text.now)) }
     ensures { IfOk result (λ lower. code_points lower ≡ map to_ascii_lowercase (chars text.now)) }
 {
-    if is_lower {
-        return String::from_str(alloc, text);
-    }
     let mut lower = String::from_str(alloc, text)?;
     lower.make_ascii_lowercase();
     Ok(lower)

@@ -1,7 +1,7 @@
 use Rattle.std.proofs.Common.{not, refl}
 use Rattle.data_url.specs.CodePoints.{is_http_whitespace, is_token}
 use Rattle.data_url.specs.Steps.Front.{is_plain_path}
-use Rattle.data_url.specs.Steps.Parsing.{is_escaped, is_lower_token, is_quotable_byte, is_unquoted_byte}
+use Rattle.data_url.specs.Steps.Parsing.{is_escaped, is_quotable_byte, is_unquoted_byte}
 use Rattle.data_url.proofs.ClassLemmas.{entry_is}
 use Rattle.data_url.proofs.classes.bit.Goals as goal
 
@@ -9,23 +9,19 @@ pub returns-in-Token : goal.returns-in-Token
 unfolding is_token
 returns-in-Token c = rw c.in-Token.is (entry_is is_token 1 refl)
 
-pub returns-in-LowerToken : goal.returns-in-LowerToken
-unfolding is_token
-returns-in-LowerToken c = rw c.in-LowerToken.is (entry_is is_lower_token 2 refl)
-
 pub returns-in-Quotable : goal.returns-in-Quotable
 unfolding is_quotable_byte
-returns-in-Quotable c = rw c.in-Quotable.is (entry_is is_quotable_byte 4 refl)
+returns-in-Quotable c = rw c.in-Quotable.is (entry_is is_quotable_byte 2 refl)
 
 pub returns-in-Unquoted : goal.returns-in-Unquoted
 unfolding is_quotable_byte
-returns-in-Unquoted c = rw c.in-Unquoted.is (entry_is is_unquoted_byte 8 refl)
+returns-in-Unquoted c = rw c.in-Unquoted.is (entry_is is_unquoted_byte 4 refl)
 
 pub returns-in-PlainPath : goal.returns-in-PlainPath
-returns-in-PlainPath c = rw c.in-PlainPath.is (entry_is is_plain_path 16 refl)
+returns-in-PlainPath c = rw c.in-PlainPath.is (entry_is is_plain_path 8 refl)
 
 pub returns-in-Whitespace : goal.returns-in-Whitespace
-returns-in-Whitespace c = rw c.in-Whitespace.is (entry_is is_http_whitespace 32 refl)
+returns-in-Whitespace c = rw c.in-Whitespace.is (entry_is is_http_whitespace 16 refl)
 
 pub returns-in-Unescaped : goal.returns-in-Unescaped
-returns-in-Unescaped c = rw c.in-Unescaped.is (entry_is (λ b. not (is_escaped b)) 64 refl)
+returns-in-Unescaped c = rw c.in-Unescaped.is (entry_is (λ b. not (is_escaped b)) 32 refl)

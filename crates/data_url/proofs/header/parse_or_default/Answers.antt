@@ -6,7 +6,7 @@ use Rattle.data_url.proofs.WellformedLemmas.{no_record, parses_parts, parses_wel
 use Rattle.data_url.proofs.header.parse_or_default.Goals as goal
 
 pub returns-in-Some : goal.returns-in-Some
-returns-in-Some c = IfOk-weaker c.record.result _ _ (λ mime h. let p = parses_parts _ _ _ _ _ c.in-Some.ensures.head h in parsed_for (chars c.args.text.now) (record_of mime) p (parses_wellformed (chars c.args.text.now) (record_of mime) p)) c.record.ensures
+returns-in-Some c = IfOk-weaker c.record.result _ _ (λ mime h. let p = parses_parts _ _ _ _ _ c.in-Some.ensures h in parsed_for (chars c.args.text.now) (record_of mime) p (parses_wellformed (chars c.args.text.now) (record_of mime) p)) c.record.ensures
 
 pub returns-in-None : goal.returns-in-None
-returns-in-None c = IfOk-weaker c.default_mime.result _ _ (λ mime h. default_for (chars c.args.text.now) (record_of mime) (no_record (chars c.args.text.now) c.in-None.ensures.head) h) c.default_mime.ensures
+returns-in-None c = IfOk-weaker c.default_mime.result _ _ (λ mime h. default_for (chars c.args.text.now) (record_of mime) (no_record (chars c.args.text.now) c.in-None.ensures) h) c.default_mime.ensures

@@ -23,7 +23,7 @@ plain_head-requires c = media_begins c.args.media.now c.requires (ap (λ s. get_
 pub returns-then-bytes-eq59 : goal.returns-then-bytes-eq59
 returns-then-bytes-eq59 c =
     let first : get_or c.args.media.now 0 0 ≡ 59 = ap (λ s. get_or s 0 0) (sym c.as_bytes-bytes.ensures.value) ∙ c.if-bytes-eq59.true in
-    IfOk-weaker c.record.result _ _ (λ mime h. plain_record c.args.media.now _ _ _ (record_of mime) c.requires first c.plain_head.ensures.head h) c.record.ensures
+    IfOk-weaker c.record.result _ _ (λ mime h. plain_record c.args.media.now _ _ _ (record_of mime) c.requires first c.plain_head.ensures h) c.record.ensures
 
 pub returns : goal.returns
 returns c =

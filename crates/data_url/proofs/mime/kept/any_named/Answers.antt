@@ -3,7 +3,7 @@ use Rattle.std.proofs.lemmas.Bool.{false≢true}
 use Rattle.std.proofs.lemmas.Str.{IsUtf8-string_bytes}
 use Rattle.std.specs.Char.{to_ascii_lowercase}
 use Rattle.std.specs.Str.{chars}
-use Rattle.data_url.proofs.KeptLemmas.{look_finds, look_goes_on, lower_bytes, lowercase_at, names_differ, names_equal, some_byte, word_bytes}
+use Rattle.data_url.proofs.KeptLemmas.{look_finds, look_goes_on, lower_bytes, lowercase_at, names_differ, names_equal, some_byte}
 use Rattle.data_url.proofs.mime.kept.any_named.Goals as goal
 
 pub overflow_sub-name : goal.overflow_sub-name
@@ -19,9 +19,6 @@ pub is_named-requires-clause-key : goal.is_named-requires-clause-key
 is_named-requires-clause-key c =
     let i = c.loop-key-item.result in
     subst (λ t. map to_ascii_lowercase t ≡ t) (sym c.as_str.ensures.value) (lower_bytes (string_bytes i.0) (IsUtf8-string_bytes i.0) (lowercase_at c.args.pairs.now c.loop-key.key-index i c.requires.pairs c.loop-key-test.true c.loop-key-item.is))
-
-pub is_named-requires-clause-lower : goal.is_named-requires-clause-lower
-is_named-requires-clause-lower c = λ h. word_bytes c.args.name.now c.utf8.name c.requires.token (c.requires.lower h)
 
 pub returns-then-is_named : goal.returns-then-is_named
 returns-then-is_named c =

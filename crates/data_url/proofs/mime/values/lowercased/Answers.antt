@@ -1,12 +1,8 @@
-use Rattle.std.proofs.Common.{map, ap, sym, ◌∙◌}
-use Rattle.std.proofs.lemmas.Result.{IfOk-weaker}
+use Rattle.std.proofs.Common.{map, ap, ◌∙◌}
 use Rattle.std.specs.Char.{to_ascii_lowercase}
 use Rattle.std.specs.Str.{chars}
 use Rattle.data_url.proofs.KeptLemmas.{lower_chars}
 use Rattle.data_url.proofs.mime.values.lowercased.Goals as goal
 
-pub returns-then-is_lower : goal.returns-then-is_lower
-returns-then-is_lower c = IfOk-weaker c.from_str.result _ _ (λ lower h. ap chars h ∙ sym (c.requires.lower c.if-is_lower.true)) c.from_str.ensures.ok
-
 pub returns : goal.returns
-returns c = ap chars (c.make_ascii_lowercase.ensures.bytes ∙ ap (map to_ascii_lowercase) c.in_ok-lower.ensures.ok) ∙ lower_chars c.args.text.now c.utf8.text c.requires.token
+returns c = ap chars (c.make_ascii_lowercase.ensures.bytes ∙ ap (map to_ascii_lowercase) c.in_ok-lower.ensures.ok) ∙ lower_chars c.args.text.now c.utf8.text c.requires

@@ -14,7 +14,7 @@ any_named-requires-clause-pairs c = lower_first c.deref.result.now c.min.result 
 
 pub returns : goal.returns
 returns c =
-    let n = map to_ascii_lowercase (chars c.args.name.text.now) in
+    let n = map to_ascii_lowercase (chars c.args.name.now) in
     let items = c.deref.result.now in
     let k = c.min.ensures ∙ ap (min LOOKED_THROUGH) (c.len.ensures ∙ sym c.deref.ensures.len) in
     c.any_named.ensures ∙ among_first n items c.args.self.now c.min.result k c.deref.ensures.value
