@@ -1,12 +1,9 @@
 -- Classes of bytes by the halves of a byte, sixteen bytes at a time.
-use Rattle.std.proofs.Common.{◌≡◌, ◌≢◌, ℕ, ◌+◌, ◌-◌, ◌/◌, ◌%◌, ◌^◌, ◌<◌, ◌≤◌, Bool, List, [], ◌∷◌, cond, map, take, drop, length, bit_and, get_or, true, false, sym, ap, ◌∙◌, ⊎_elim, arith, w8, length-drop, length-take-le}
+use Rattle.std.proofs.Common.{◌≡◌, ℕ, ◌+◌, ◌/◌, ◌%◌, ◌^◌, ◌<◌, ◌≤◌, Bool, List, [], ◌∷◌, cond, map, take, drop, length, bit_and, get_or, true, false, sym, ap, ◌∙◌, ⊎_elim, arith, w8, length-drop, length-take-le}
 use Rattle.std.specs.Prelude.{◌==◌, ◌||◌, not, slice_index}
-use Rattle.std.specs.List.{prefix_len}
-use Rattle.std.proofs.lemmas.Bool.{agree_below, agree_below_at, cases_lt, false≢true, not-true}
-use Rattle.std.proofs.lemmas.List.{get_or-drop, get_or-take, length-map}
-use Rattle.std.proofs.lemmas.List.Sums.{prefix_len-le-length, prefix_len_passes}
-use Rattle.std.proofs.lemmas.Simd.{bitmask_splat, map-map, none_from_empty_mask, trailing_mask_l}
-use lib.Count.{count_trailing_zeros}
+use Rattle.std.proofs.lemmas.Bool.{agree_below, agree_below_at, cases_lt, false≢true}
+use Rattle.std.proofs.lemmas.List.{length-map}
+use Rattle.std.proofs.lemmas.Simd.{bitmask_splat, map-map, none_from_empty_mask}
 use lib.Lanes.{mask_l, top, zip2}
 use Rattle.data_url.specs.Steps.Classes.{AreOf, is_marked}
 use Rattle.data_url.specs.declared.classes.TheConstants.{CLASSES}
@@ -35,26 +32,11 @@ pub record Looked (others bytes : List ℕ) (at : ℕ) : Type 0 where
   pub within : at ≤ length bytes
   pub front : AreOf others bytes at
 
-looked_further : (others bytes : List ℕ) (at n : ℕ) → Looked others bytes at → at + n ≤ length bytes → ((k : ℕ) → at ≤ k → k < at + n → is_marked others (get_or bytes k 0) ≡ false) → Looked others bytes (at + n)
-looked_further others bytes at n h room row = record { within = room; front = λ k l. ⊎_elim (λ (e : k < at). h.front k e) (λ (e : at ≤ k). row k e l) (cases_lt k at) }
-
-pub whole_row : (others bytes : List ℕ) (at marks : ℕ) → Looked others bytes at → at + 16 ≤ length bytes → marks ≡ mask_l (map (is_marked others) (row_at bytes at)) → marks ≡ 0 → Looked others bytes (at + 16)
-whole_row others bytes at marks h room e none = looked_further others bytes at 16 h room (none_from_empty_mask (is_marked others) bytes at 16 0 room (sym e ∙ none))
-
-pub part_of_row : (others bytes : List ℕ) (at marks : ℕ) → Looked others bytes at → at + 16 ≤ length bytes → marks ≡ mask_l (map (is_marked others) (row_at bytes at)) → marks ≢ 0 → Looked others bytes (at + count_trailing_zeros 64 marks)
-part_of_row others bytes at marks h room e some =
-    let row = row_at bytes at in
-    let p : ℕ → Bool = λ b. not (is_marked others b) in
-    let n = count_trailing_zeros 64 marks in
-    let long = row_length bytes at room in
-    let first : n ≡ prefix_len p row = ap (count_trailing_zeros 64) e ∙ trailing_mask_l (is_marked others) 64 row (omega (arith, long)) (omega (arith, e)) in
-    let few : n ≤ 16 = omega (arith, first, long, prefix_len-le-length p row) in
-    looked_further others bytes at n h (omega (arith, few)) (λ k l m.
-    let back : at + (k - at) ≡ k = omega arith in
-    let below : k - at < 16 = omega (arith, few) in
-    not-true (is_marked others (get_or bytes k 0))
-    (ap p (ap (λ i. get_or bytes i 0) (sym back) ∙ sym (get_or-drop at bytes (k - at) 0) ∙ sym (get_or-take 16 (drop at bytes) (k - at) 0 below))
-    ∙ prefix_len_passes p row (k - at) 0 (omega (arith, first))))
+pub one_row_more : (others bytes : List ℕ) (at marks : ℕ) → Looked others bytes at → at + 16 ≤ length bytes → marks ≡ mask_l (map (is_marked others) (row_at bytes at)) → marks ≡ 0 → Looked others bytes (at + 16)
+one_row_more others bytes at marks h room e none = record {
+  within = room;
+  front = λ k l. ⊎_elim (λ (m : k < at). h.front k m) (λ (m : at ≤ k). none_from_empty_mask (is_marked others) bytes at 16 0 room (sym e ∙ none) k m l) (cases_lt k at);
+}
 
 -- From rows to bytes
 

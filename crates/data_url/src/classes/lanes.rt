@@ -25,18 +25,14 @@ fn marks_at(others: [u8; 16], bytes: &[u8], at: usize) -> u64
     (low & high).simd_ne(u8x16::splat(0)).to_bitmask()
 }
 
-/// Returns a number of bytes at the front that are all of a class, up to the first in whole rows that may not be.
+/// Returns a number of bytes at the front, whole rows, that are all of a class.
 #[inline(always)]
 pub(crate) fn rows_len(others: [u8; 16], bytes: &[u8]) -> usize
     ensures within { result ≤ length bytes.now }
     ensures front { AreOf others bytes.now result }
 {
     let mut at = 0;
-    while bytes.len() - at >= ROW {
-        let marks = marks_at(others, bytes, at);
-        if marks != 0 {
-            return at + marks.trailing_zeros() as usize;
-        }
+    while bytes.len() - at >= ROW && marks_at(others, bytes, at) == 0 {
         at += ROW;
     }
     at
