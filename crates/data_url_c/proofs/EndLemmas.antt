@@ -1,33 +1,20 @@
 -- The end of base64 that came in parts.
-use Rattle.std.proofs.Common.{◌≡◌, ℕ, ◌≤◌, Bool, true, false, List, [], ◌∷◌, ◌++◌, length, map, take, Result, Ok, Err, sym, ap, ◌∙◌, subst, arith, length-append}
+use Rattle.std.proofs.Common.{◌≡◌, ℕ, ◌≤◌, Bool, true, false, List, [], ◌∷◌, length, map, take, Result, ap, ◌∙◌, arith, length-append}
 use Rattle.std.specs.Prelude.{MatchBool}
 use Rattle.std.specs.declared.convert.Infallible.{Infallible}
-use Rattle.std.proofs.lemmas.List.{append-nil, length-map, length-take-le}
+use Rattle.std.proofs.lemmas.List.{length-map, length-take-le}
 use Rattle.data_url.specs.Base64.{after_groups, decoded, groups, is_valid, rest_bytes, symbol_value}
-use Rattle.data_url.specs.Decoder.{Feeds, Finishes, State, start}
 use Rattle.data_url.specs.Run.{refusal}
 use Rattle.data_url.specs.Steps.Whole.{DecodesText}
 use Rattle.data_url.specs.declared.forgiving_base64.DecodeError.{DecodeError}
 use Rattle.data_url.proofs.ByteLemmas.{decoded_left, groups_few}
 use Rattle.data_url.proofs.PaddingLemmas.{every_list_all}
 use Rattle.data_url.proofs.RunLemmas.{match_at_none}
-use Rattle.data_url.proofs.WholeLemmas.{decodes_finished, decodes_refused, run_keeps}
+use Rattle.data_url.proofs.WholeLemmas.{run_keeps}
 use Rattle.data_url_c.specs.Parts.{WritesFront, is_good_state, waiting_text}
 use Rattle.data_url_c.specs.Steps.{Writes}
 use Rattle.data_url_c.specs.declared.parts.DataUrlBase64.{DataUrlBase64}
 use Rattle.data_url_c.proofs.PartLemmas.{Reaches, good_parts, no_refusal, run_reaches, writes_front}
-
-module _ {F E : Type 0} (step : F → List ℕ → Result (Unit {0}) E → F → Type 0) where
-  -- what waits was fed, and then nothing, and the decoder finished
-  pub finish_nil : {d d' : State F} {f f' : F} {r : Result (Unit {0}) (DecodeError E)} (w : List ℕ) → d ≡ start f → Feeds step d (w ++ []) (Ok tt) d' → Finishes step d' r f' → DecodesText step f w r f'
-  finish_nil {d} {d'} {f} {f'} {r} w e h k = let P : List ℕ → Type 0 = λ u. DecodesText step f u r f' in subst P (append-nil w) (decodes_finished step e h k)
-
-  -- what waits was refused
-  pub refuse_nil : {d d' : State F} {f g : F} {x : DecodeError E} (w : List ℕ) → d ≡ start f → Feeds step d (w ++ []) (Err x) d' → g ≡ d'.closure → DecodesText step f w (Err x) g
-  refuse_nil {d} {d'} {f} {g} {x} w e h k =
-      let P : List ℕ → Type 0 = λ u. DecodesText step f u (Err x) d'.closure in
-      let Q : F → Type 0 = λ y. DecodesText step f w (Err x) y in
-      subst Q (sym k) (subst P (append-nil w) (decodes_refused step e h))
 
 -- The last bytes
 

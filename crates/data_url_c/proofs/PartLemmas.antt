@@ -1,10 +1,10 @@
 -- Base64 in parts: what is fed, what is written, and what waits.
-use Rattle.std.proofs.Common.{◌≡◌, ℕ, ◌+◌, ◌≤◌, Bool, true, false, List, [], ◌∷◌, ◌++◌, length, take, drop, Option, None, Some, is_some, Result, Ok, Err, refl, sym, ap, ◌∙◌, subst, arith, append_assoc, drop-drop, length-append, length-drop, ◌-◌, take_all, suc, zero}
+use Rattle.std.proofs.Common.{◌≡◌, ℕ, ◌+◌, ◌≤◌, Bool, true, false, List, [], ◌∷◌, ◌++◌, length, take, drop, Option, None, Some, is_some, Result, Ok, Err, refl, sym, ap, ◌∙◌, subst, arith, append_assoc, drop-drop, length-append, length-drop, ◌-◌, take_all}
 use Rattle.std.specs.List.{list_all}
 use Rattle.std.specs.Prelude.{nat_le, ◌&&◌, replicate}
 use Rattle.std.proofs.lemmas.Bool.{and_parts, le-leb, leb-true}
 use borrow.Rule.Slice.PartMut.{post_of}
-use Rattle.std.proofs.lemmas.List.{append-nil, length-take-le, nil_from_length, take-append-drop}
+use Rattle.std.proofs.lemmas.List.{append-nil, drop-replicate, length-take-le, nil_from_length, take-append-drop, take-replicate}
 use Rattle.std.proofs.lemmas.Slice.{drop-append-drop}
 use Rattle.std.proofs.Math.Seq.{drop-append-add, drop-append_seam, take-append-add, take-append_seam}
 use Rattle.std.specs.Prelude.{MatchOption}
@@ -24,37 +24,6 @@ use Rattle.data_url.proofs.DecoderLemmas.{feeds_err, feeds_then}
 use Rattle.data_url_c.specs.Parts.{IsLeftOf, TakesText, WritesFront, is_good_state, waiting_text}
 use Rattle.data_url_c.specs.Steps.{HandsGroups, Writes}
 use Rattle.data_url_c.specs.declared.parts.DataUrlBase64.{DataUrlBase64}
-
--- Feeding what waits, and then a text
-
--- as many of three paddings as wait
-pub take_padding : (n : ℕ) → n ≤ 3 → take {A = ℕ} n (61 ∷ 61 ∷ 61 ∷ []) ≡ replicate n 61
-take_padding zero h = refl
-take_padding (suc zero) h = refl
-take_padding (suc (suc zero)) h = refl
-take_padding (suc (suc (suc zero))) h = refl
-take_padding (suc (suc (suc (suc n)))) h = absurd (omega arith)
-
-module _ {F E : Type 0} (step : F → List ℕ → Result (Unit {0}) E → F → Type 0) where
-  -- refused at the symbols
-  pub fed_first : {d d' : State F} {a : List ℕ} {x : DecodeError E} (q p t : List ℕ) → a ≡ q → Feeds step d a (Err x) d' → Feeds step d ((q ++ p) ++ t) (Err x) d'
-  fed_first {d} {d'} {a} {x} q p t e f =
-      let P : List ℕ → Type 0 = λ s. Feeds step d s (Err x) d' in
-      subst P (sym (append_assoc q p t)) (feeds_err step (p ++ t) (subst P e f))
-
-  -- refused at the padding
-  pub fed_second : {d d1 d' : State F} {a b : List ℕ} {x : DecodeError E} (q p t : List ℕ) → a ≡ q → b ≡ p → Feeds step d a (Ok tt) d1 → Feeds step d1 b (Err x) d' → Feeds step d ((q ++ p) ++ t) (Err x) d'
-  fed_second {d} {d1} {d'} {a} {b} {x} q p t e k f g =
-      let P : List ℕ → Type 0 = λ s. Feeds step d (s ++ b) (Err x) d' in
-      let Q : List ℕ → Type 0 = λ s. Feeds step d (q ++ s) (Err x) d' in
-      feeds_err step t (subst Q k (subst P e (feeds_then step f g)))
-
-  -- fed all
-  pub fed_third : {d d1 d2 d' : State F} {a b t : List ℕ} {r : Result (Unit {0}) (DecodeError E)} (q p : List ℕ) → a ≡ q → b ≡ p → Feeds step d a (Ok tt) d1 → Feeds step d1 b (Ok tt) d2 → Feeds step d2 t r d' → Feeds step d ((q ++ p) ++ t) r d'
-  fed_third {d} {d1} {d2} {d'} {a} {b} {t} {r} q p e k f g h =
-      let P : List ℕ → Type 0 = λ s. Feeds step d (s ++ b) (Ok tt) d2 in
-      let Q : List ℕ → Type 0 = λ s. Feeds step d (q ++ s) (Ok tt) d2 in
-      feeds_then step (subst Q k (subst P e (feeds_then step f g))) h
 
 -- Good states
 
@@ -82,6 +51,30 @@ good_from s a b c = both (nat_le s.pending 3) (nat_le s.padding 3) (list_all is_
 -- with few of both, the symbols decide
 pub good_rest : (s : DataUrlBase64) → s.pending ≤ 3 → s.padding ≤ 3 → list_all is_symbol (take s.pending s.symbols) ≡ is_good_state s
 good_rest s a b = let p = le-leb s.pending 3 a in let q = le-leb s.padding 3 b in rw (p, q) refl
+
+-- six '=' with the symbols that wait put over the first of them begin with the text of what waits
+pub waiting_taken : (s : DataUrlBase64) (symbols : List ℕ) → is_good_state s ≡ true
+    → symbols ≡ take s.pending s.symbols → length symbols ≡ s.pending
+    → take (s.pending + s.padding) (symbols ++ drop s.pending (replicate 6 61)) ≡ waiting_text s
+waiting_taken s symbols h e size =
+    let parts = good_parts s h in
+    let a = parts.few_pending in
+    let b = parts.few_padding in
+    ap (λ n. take (n + s.padding) (symbols ++ drop s.pending (replicate 6 61))) (sym size)
+    ∙ take-append-add symbols (drop s.pending (replicate 6 61)) s.padding
+    ∙ ap (λ x. symbols ++ take s.padding x) (drop-replicate s.pending 6 61)
+    ∙ ap (λ x. symbols ++ x) (take-replicate s.padding (6 - s.pending) 61 (omega arith))
+    ∙ ap (λ x. x ++ replicate s.padding 61) e
+
+module _ {F E : Type 0} (step : F → List ℕ → Result (Unit {0}) E → F → Type 0) {d d' : State F} {waiting u : List ℕ} where
+  -- what waits was refused
+  pub waiting_refused : {x : DecodeError E} (text : List ℕ) → waiting ≡ u → Feeds step d waiting (Err x) d' → Feeds step d (u ++ text) (Err x) d'
+  waiting_refused {x} text e h = subst (λ s. Feeds step d (s ++ text) (Err x) d') e (feeds_err step text h)
+
+  -- what waits was fed, and then a text
+  pub waiting_fed : {between : State F} {text : List ℕ} {r : Result (Unit {0}) (DecodeError E)} → waiting ≡ u
+      → Feeds step d waiting (Ok tt) between → Feeds step between text r d' → Feeds step d (u ++ text) r d'
+  waiting_fed {text = text} {r = r} e h k = subst (λ s. Feeds step d (s ++ text) r d') e (feeds_then step h k)
 
 -- What a run of calls writes
 

@@ -8,8 +8,8 @@ use crate::refusal::Refusal;
 use data_url::forgiving_base64::{DecodeError, Decoder};
 use std::alloc::{AllocError, Global};
 
-/// Calls a closure with the bytes of a text. Returns the closure as well.
-fn decode_text<F, E>(text: &[u8], answer: &mut Result<(), DecodeError<E>>, write: F) -> F
+/// Calls a closure with the bytes of a whole text of base64. Returns the closure as well.
+pub(crate) fn decode_text<F, E>(text: &[u8], answer: &mut Result<(), DecodeError<E>>, write: F) -> F
 where
     F: FnMut(&[u8]) -> Result<(), E>,
     E: Drop,

@@ -4,13 +4,12 @@ ghost use Rattle.std.specs.Prelude.{◌≡◌, ◌++◌, ◌+◌, ◌*◌, ◌%�
 ghost use Rattle.std.specs.Fn.{CalledAt};
 ghost use Rattle.data_url.specs.Base64.{complete_bytes, first_fault, is_symbol, kind_of};
 ghost use Rattle.data_url_c.specs.Answers.{status_of_kind};
-ghost use Rattle.data_url.specs.Decoder.{Feeds, state_of};
-ghost use Rattle.data_url.specs.Steps.Whole.{DecodesText};
 ghost use Rattle.data_url_c.specs.Parts.{FeedsPart, FinishesPart, IsLeftOf, is_good_state, waiting_text};
 ghost use Rattle.data_url_c.specs.Steps.{DecodesGroups, FeedsText, HandsGroups, IsLast};
 
 use crate::answer::{DONE, OUTPUT_TOO_SMALL};
-use crate::kind::{LONE_SYMBOL, PADDING as UNFIT_PADDING, SYMBOL_AFTER_PADDING, UNEXPECTED_SYMBOL};
+use crate::base64::decode_text;
+use crate::kind::{LONE_SYMBOL, PADDING, SYMBOL_AFTER_PADDING, UNEXPECTED_SYMBOL};
 use crate::output::push;
 use data_url::forgiving_base64::{DecodeError, Decoder};
 use std::convert::Infallible;
@@ -23,9 +22,6 @@ const ROOM: usize = 4;
 
 /// How many bytes a text has at least that is fed in two steps.
 const LONG: usize = 1024;
-
-/// The most padding that waits.
-const PADDING: [u8; 3] = [b'='; 3];
 
 /// Base64 that comes in parts: what waits for the next part. It begins as all zeros.
 #[repr(C)]
@@ -97,31 +93,16 @@ pub(crate) fn is_good(state: &DataUrlBase64) -> bool
         .all(|byte| is_symbol_byte(*byte))
 }
 
-/// Feeds a decoder what waits in a state, and then a text.
-fn feed_after<F, E>(
-    decoder: &mut Decoder<F, E>,
-    state: &DataUrlBase64,
-    text: &[u8],
-) -> Result<(), DecodeError<E>>
-where
-    F: FnMut(&[u8]) -> Result<(), E>,
-    E: Drop,
-    requires callable { F.IsAlwaysCallable (state_of decoder.old).closure }
-    requires going { (state_of decoder.old).failed ≡ false }
-    requires good { is_good_state state.now ≡ true }
-    ensures callable { F.IsAlwaysCallable (state_of decoder.new).closure }
-    ensures fed { Feeds (CalledAt F.FnMut) (state_of decoder.old) (waiting_text state.now ++ text.now) result
-        (state_of decoder.new) }
+/// Returns the text of what waits, at the front of an array, and its length.
+fn waiting_text(state: &DataUrlBase64) -> ([u8; 6], usize)
+    requires { is_good_state state.now ≡ true }
+    ensures within { result.1 ≤ 6 }
+    ensures text { take result.1 result.0 ≡ waiting_text state.now }
 {
-    match decoder.feed(&state.symbols[..usize::from(state.pending)]) {
-        Ok(()) => {}
-        Err(error) => return Err(error),
-    }
-    match decoder.feed(&PADDING[..usize::from(state.padding)]) {
-        Ok(()) => {}
-        Err(error) => return Err(error),
-    }
-    decoder.feed(text)
+    let pending = usize::from(state.pending);
+    let mut text = [b'='; 6];
+    text[..pending].copy_from_slice(&state.symbols[..pending]);
+    (text, pending + usize::from(state.padding))
 }
 
 /// Calls a closure with the bytes of the groups that a text completes after what waits, up to the first fault.
@@ -136,8 +117,12 @@ where
     requires good { is_good_state state.now ≡ true }
     ensures { HandsGroups (CalledAt F.FnMut) write.old (waiting_text state.now ++ text.now) result write.new }
 {
+    let (waiting, len) = waiting_text(state);
     let mut decoder = Decoder::new(|piece: &[u8]| -> Result<(), Infallible> { write(piece) });
-    feed_after(&mut decoder, state, text)
+    match decoder.feed(&waiting[..len]) {
+        Ok(()) => decoder.feed(text),
+        Err(error) => Err(error),
+    }
 }
 
 /// Returns the status of the first fault of what waits and then a text, which has one.
@@ -158,7 +143,7 @@ fn fault_status(state: &DataUrlBase64, text: &[u8]) -> u32
             return UNEXPECTED_SYMBOL + u32::from(*byte);
         }
     }
-    UNFIT_PADDING
+    PADDING
 }
 
 /// Returns the status of what waits as a whole text, which is not valid.
@@ -169,7 +154,7 @@ fn end_status(state: &DataUrlBase64) -> u32
     if state.pending == 1 {
         LONE_SYMBOL
     } else {
-        UNFIT_PADDING
+        PADDING
     }
 }
 
@@ -340,39 +325,17 @@ pub(crate) struct Last {
     pub(crate) len: usize,
 }
 
-/// Ends the text of what waits. Returns the closure as well.
-fn finish_after<F, E>(state: &DataUrlBase64, answer: &mut Result<(), DecodeError<E>>, write: F) -> F
-where
-    F: FnMut(&[u8]) -> Result<(), E>,
-    E: Drop,
-    requires callable { F.IsAlwaysCallable write }
-    requires good { is_good_state state.now ≡ true }
-    ensures { DecodesText (CalledAt F.FnMut) write (waiting_text state.now) answer.new result }
-{
-    let mut decoder = Decoder::new(write);
-    match feed_after(&mut decoder, state, &[]) {
-        Ok(()) => {
-            let (ended, write) = decoder.finish_with();
-            *answer = ended;
-            write
-        }
-        Err(error) => {
-            *answer = Err(error);
-            decoder.into_closure()
-        }
-    }
-}
-
 /// Returns the last bytes of what waits, or the status of its fault.
 pub(crate) fn last_bytes(state: &DataUrlBase64) -> Last
     requires { is_good_state state.now ≡ true }
     ensures { IsLast (waiting_text state.now) result }
 {
+    let (waiting, waiting_len) = waiting_text(state);
     let mut bytes = [0; 3];
     let mut len = 0;
     let mut answer = Ok(());
-    finish_after(
-        state,
+    decode_text(
+        &waiting[..waiting_len],
         &mut answer,
         |piece: &[u8]| -> Result<(), Infallible> {
             push(&mut bytes, &mut len, piece);
