@@ -1,5 +1,6 @@
-//! Worked examples, through the public calls of the library: tables of texts and answers, over few
-//! helpers, since each function is proved before it runs.
+//! Worked examples, through the public calls of the library: tables of texts and results, over few helpers, since each
+//! function is proved before it runs. A helper takes a table by reference, which is much cheaper to prove than a loop over
+//! its rows by value.
 
 mod base64;
 mod base64_blocks;
@@ -15,18 +16,18 @@ use std::alloc::{AllocError, Global};
 use std::fmt;
 use std::process::Abort;
 
-/// Returns what a failed assertion shows of the text that it is about: the front of a long one.
+/// Returns the front of the text that an assertion is about, as it is shown if that fails.
 fn shown(about: &str) -> &str {
     about.get(..60).unwrap_or(about)
 }
 
-/// Asserts that bytes are these.
+/// Asserts that bytes are as wanted.
 fn assert_same(rt: &impl Abort, about: &str, found: &[u8], wanted: &[u8]) {
     let about = shown(about);
     assert!(rt; found == wanted, "{about}");
 }
 
-/// Asserts that a value is printed so.
+/// Asserts that a value is printed as wanted.
 fn assert_printed<D: fmt::Display>(
     rt: &impl Abort,
     alloc: Global,
@@ -41,7 +42,7 @@ fn assert_printed<D: fmt::Display>(
 
 /// Returns the three parts joined, the middle one repeated `count` times.
 fn with_run(alloc: Global, parts: [&str; 3], count: usize) -> Result<String, AllocError> {
-    let [front, part, behind] = parts;
+    let [front, part, back] = parts;
     let run = part.repeat(alloc, count)?;
-    format!(in alloc; "{front}{run}{behind}")
+    format!(in alloc; "{front}{run}{back}")
 }

@@ -1,6 +1,6 @@
 //! Forgiving base64 by blocks: where pieces are cut, and each byte at each place.
 
-use super::base64::{BEHIND_PADDING, EXCLAMATION, LONE, PADDING, assert_base64, assert_whole};
+use super::base64::{AFTER_PADDING, EXCLAMATION, LONE, PADDING, assert_base64, assert_whole};
 use super::recorder::Source;
 use super::with_run;
 use std::alloc::{AllocError, Global};
@@ -13,7 +13,7 @@ const SPACED: &str =
      f7stg7NvlE3LaruSrjLnonWKTn9UGKzEesg61SHE/qaQQ0NV3vTH1lS6V6+o9jl8\n\
      zSOwW/r \tXL+iuItEnuj+h\u{c}lrWB8gpj7ktsjs0sW5=              =";
 
-/// The six bits of a symbol.
+/// Returns the six bits that a symbol stands for.
 fn six_bits(byte: u8) -> Option<u8> {
     match byte {
         b'A'..=b'Z' => Some(byte - b'A'),
@@ -25,34 +25,34 @@ fn six_bits(byte: u8) -> Option<u8> {
     }
 }
 
-/// The six bits of each symbol of a text up to its first fault, and the line of that, or nothing:
-/// by the steps of forgiving-base64 decode, a byte at a time.
+/// Returns the six bits of each symbol of a text before its first fault, and the message for that fault, by the steps of
+/// forgiving-base64 decode, a byte at a time. The message is empty for a valid text.
 fn read(alloc: Global, text: &[u8]) -> Result<(Vec<u8>, String), AllocError> {
     let mut values = Vec::new(alloc);
     let mut padding: usize = 0;
     for byte in text {
         match six_bits(*byte) {
             Some(value) if padding == 0 => values.push(value)?,
-            Some(_) => return Ok((values, String::from_str(alloc, BEHIND_PADDING)?)),
+            Some(_) => return Ok((values, String::from_str(alloc, AFTER_PADDING)?)),
             None if *byte == b'=' => padding = padding.saturating_add(1),
             None if byte.is_ascii_whitespace() => {}
             None => {
-                let line = "base64 not valid: symbol with codepoint";
-                return Ok((values, format!(in alloc; "{line} {byte} not expected")?));
+                let start = "base64 not valid: symbol with codepoint";
+                return Ok((values, format!(in alloc; "{start} {byte} not expected")?));
             }
         }
     }
-    let line = match (values.len() % 4, padding) {
+    let message = match (values.len() % 4, padding) {
         (0, 0) | (2, 0 | 2) | (3, 0 | 1) => "",
         (1, _) => LONE,
         _ => PADDING,
     };
-    Ok((values, String::from_str(alloc, line)?))
+    Ok((values, String::from_str(alloc, message)?))
 }
 
-/// The bytes of groups of four symbols by their six bits, and of what is left over where the text
-/// is whole.
-fn bytes_of(alloc: Global, values: &[u8], is_whole: bool) -> Result<Vec<u8>, AllocError> {
+/// Returns the bytes of groups of four symbols, by their six bits. Those of symbols that are left over are added if the
+/// text is valid.
+fn bytes_of(alloc: Global, values: &[u8], is_valid: bool) -> Result<Vec<u8>, AllocError> {
     let mut bytes = Vec::new(alloc);
     for group in values.chunks(4) {
         match group {
@@ -61,37 +61,43 @@ fn bytes_of(alloc: Global, values: &[u8], is_whole: bool) -> Result<Vec<u8>, All
                 *b << 4 | *c >> 2,
                 *c << 6 | *d,
             ])?,
-            [a, b, c] if is_whole => bytes.extend_from_slice(&[
+            [a, b, c] if is_valid => bytes.extend_from_slice(&[
                 *a << 2 | *b >> 4,
                 *b << 4 | *c >> 2,
             ])?,
-            [a, b] if is_whole => bytes.extend_from_slice(&[*a << 2 | *b >> 4])?,
+            [a, b] if is_valid => bytes.extend_from_slice(&[*a << 2 | *b >> 4])?,
             _ => {}
         }
     }
     Ok(bytes)
 }
 
+/// Asserts that a text is decoded as those steps do.
+fn assert_read(rt: &impl Abort, alloc: Global, text: &[u8]) -> Result<(), AllocError> {
+    let (values, message) = read(alloc, text)?;
+    let bytes = bytes_of(alloc, values.as_slice(), message.is_empty())?;
+    let message = message.as_str();
+    Source::Base64(&[text]).assert_is(rt, alloc, message, bytes.as_slice(), message)?;
+    Ok(())
+}
+
+/// Returns the bytes with this one at a place.
+fn with_byte(alloc: Global, bytes: &[u8], place: usize, byte: u8) -> Result<Vec<u8>, AllocError> {
+    let mut text = Vec::new(alloc);
+    text.extend_from_slice(bytes)?;
+    if let Some(there) = text.get_mut(place) {
+        *there = byte;
+    }
+    Ok(text)
+}
+
 #[test]
 fn each_byte_at_each_place(rt: HostRuntime) -> Result<(), Fail> {
-    let alloc = rt.alloc();
-    let letters = "ABCDEFGHIJKLMNOPQRSTUVWXYZ".repeat(alloc, 5)?;
-    let (front, _) = letters.as_bytes().split_at(130.min(letters.len()));
+    let letters = "ABCDEFGHIJKLMNOPQRSTUVWXYZ".repeat(rt.alloc(), 5)?;
     for choice in 0..130 * 256_usize {
-        let mut text = Vec::new(alloc);
-        text.extend_from_slice(front)?;
-        if let Some(byte) = text.get_mut(choice / 256) {
-            *byte = (choice % 256) as u8;
-        }
-        let (values, line) = read(alloc, text.as_slice())?;
-        let bytes = bytes_of(alloc, values.as_slice(), line.is_empty())?;
-        Source::Base64(&[text.as_slice()]).assert_is(
-            &rt,
-            alloc,
-            line.as_str(),
-            bytes.as_slice(),
-            line.as_str(),
-        )?;
+        let byte = (choice % 256) as u8;
+        let text = with_byte(rt.alloc(), letters.as_bytes(), choice / 256, byte)?;
+        assert_read(&rt, rt.alloc(), text.as_slice())?;
     }
     Ok(())
 }
@@ -99,19 +105,17 @@ fn each_byte_at_each_place(rt: HostRuntime) -> Result<(), Fail> {
 #[test]
 fn each_cut_in_two(rt: HostRuntime) -> Result<(), Fail> {
     let text = SPACED.as_bytes();
-    let (values, line) = read(rt.alloc(), text)?;
-    let bytes = bytes_of(rt.alloc(), values.as_slice(), line.is_empty())?;
-    assert!(rt; text.len() == 200 && bytes.len() == 133 && line.is_empty());
+    let (values, message) = read(rt.alloc(), text)?;
+    let bytes = bytes_of(rt.alloc(), values.as_slice(), message.is_empty())?;
+    assert!(rt; text.len() == 200 && bytes.len() == 133 && message.is_empty());
     assert_base64(&rt, rt.alloc(), SPACED, text, bytes.as_slice(), "")?;
     Ok(())
 }
 
-/// How many times `QUJD` stands before a text, that text, its own bytes, the line, and the lengths
-/// of the pieces.
+/// How many times `QUJD` comes before a text, that text, its own bytes, the message, and the lengths of the pieces.
 type Row<'a> = (usize, &'a str, &'a str, &'a str, &'a [usize]);
 
-/// Texts and their pieces: whole groups go out together, up to 48 bytes, and what is left over at
-/// the end by itself.
+/// Texts and their pieces: a piece is the bytes of whole groups, up to 48, or the last bytes of a text.
 const CUTS: [Row<'static>; 15] = [
     (17, "!", "", EXCLAMATION, &[48, 3]),
     (17, "", "", "", &[48, 3]),
@@ -132,12 +136,12 @@ const CUTS: [Row<'static>; 15] = [
 
 /// Asserts the lengths of the pieces of each text of a table.
 fn assert_cuts(rt: &impl Abort, alloc: Global, rows: &[Row]) -> Result<(), AllocError> {
-    for (groups, behind, its_bytes, line, lengths) in rows {
-        let text = with_run(alloc, ["", "QUJD", behind], *groups)?;
+    for (groups, end, its_bytes, message, lengths) in rows {
+        let text = with_run(alloc, ["", "QUJD", end], *groups)?;
         let bytes = with_run(alloc, ["", "ABC", its_bytes], *groups)?;
         let source = Source::Base64(&[text.as_bytes()]);
-        let record = source.assert_is(rt, alloc, behind, bytes.as_bytes(), line)?;
-        assert!(rt; record.lengths.as_slice() == *lengths, "{behind}");
+        let record = source.assert_is(rt, alloc, end, bytes.as_bytes(), message)?;
+        assert!(rt; record.lengths.as_slice() == *lengths, "{end}");
     }
     Ok(())
 }

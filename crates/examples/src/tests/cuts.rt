@@ -1,6 +1,6 @@
 //! Where the calls that decode cut a body, and closures that refuse a piece.
 
-use super::recorder::Source;
+use super::recorder::{Closure, Source};
 use super::with_run;
 use data_url::DataUrl;
 use data_url::forgiving_base64::DecodeError;
@@ -31,49 +31,63 @@ fn lengths_of(
     Ok(record.lengths)
 }
 
-/// How many pieces are longer than the room for short ones.
+/// Returns how many pieces are longer than the room for short ones.
 fn count_long(lengths: &[usize]) -> usize {
     lengths.iter().filter(|len| **len > ROOM).count()
 }
 
+/// What comes before and after a long stretch, and the least length of the longest piece.
+const AROUND_STRETCHES: [(&str, &str, usize); 5] = [
+    ("", "", LONG),
+    ("", "#f", LONG),
+    ("", "%41%42", LONG),
+    ("%41", "", LONG - ROOM),
+    ("b%41", "%41\tb%42#f", LONG - ROOM),
+];
+
+/// Asserts that each long stretch is one piece.
+fn assert_long(rt: &impl Abort, alloc: Global, rows: &[(&str, &str, usize)]) -> Result<(), Fail> {
+    for (front, back, least) in rows {
+        let lengths = lengths_of(rt, alloc, [front, "a", back], LONG)?;
+        let longest = lengths.iter().max().copied().unwrap_or(0);
+        assert!(rt; count_long(&lengths) == 1, "{front}, {back}");
+        assert!(rt; longest >= *least, "{front}, {back}");
+    }
+    Ok(())
+}
+
 #[test]
 fn a_long_stretch_is_one_piece(rt: HostRuntime) -> Result<(), Fail> {
-    for (front, behind, least) in [
-        ("", "", LONG),
-        ("", "#f", LONG),
-        ("", "%41%42", LONG),
-        ("%41", "", LONG - ROOM),
-        ("b%41", "%41\tb%42#f", LONG - ROOM),
-    ] {
-        let lengths = lengths_of(&rt, rt.alloc(), [front, "a", behind], LONG)?;
-        let long = count_long(&lengths);
-        let longest = lengths.iter().max().copied().unwrap_or(0);
-        assert!(rt; long == 1 && longest >= least, "{front}, {behind}");
+    assert_long(&rt, rt.alloc(), &AROUND_STRETCHES)
+}
+
+/// A part of a body, and how many bytes it stands for.
+const SHORT_PARTS: [(&str, usize); 6] = [
+    ("%41", 1),
+    ("a%41", 2),
+    ("abc%41", 4),
+    ("%41\t", 1),
+    ("a\tb\n", 2),
+    ("%zz%41", 4),
+];
+
+/// Asserts that many short stretches are put together to few pieces.
+fn assert_gathered(rt: &impl Abort, alloc: Global, rows: &[(&str, usize)]) -> Result<(), Fail> {
+    for (part, len) in rows {
+        let lengths = lengths_of(rt, alloc, ["", part, ""], 5000)?;
+        let most = 5000_usize.saturating_mul(*len) / (ROOM / 2);
+        assert!(rt; count_long(&lengths) == 0, "{part}");
+        assert!(rt; lengths.len() <= most, "{part}");
     }
     Ok(())
 }
 
 #[test]
 fn short_stretches_are_gathered(rt: HostRuntime) -> Result<(), Fail> {
-    for (part, len) in [
-        ("%41", 1),
-        ("a%41", 2),
-        ("abc%41", 4),
-        ("%41\t", 1),
-        ("a\tb\n", 2),
-        ("%zz%41", 4),
-    ] {
-        let lengths = lengths_of(&rt, rt.alloc(), ["", part, ""], 5000)?;
-        let most = 5000 * len / (ROOM / 2);
-        assert!(rt;
-            count_long(&lengths) == 0 && lengths.len() <= most,
-            "{part}"
-        );
-    }
-    Ok(())
+    assert_gathered(&rt, rt.alloc(), &SHORT_PARTS)
 }
 
-/// Takes a piece, and refuses the first with which at least two bytes have come.
+/// Appends a piece, and refuses it if there are then two bytes or more.
 fn take_below_two(bytes: &mut Vec<u8>, piece: &[u8]) -> Result<(), usize> {
     let kept = bytes.extend_from_slice(piece).is_ok();
     if kept && bytes.len() < 2 {
@@ -83,20 +97,24 @@ fn take_below_two(bytes: &mut Vec<u8>, piece: &[u8]) -> Result<(), usize> {
     }
 }
 
+/// Asserts that a body ends with the piece that is refused.
+fn assert_ends(rt: &impl Abort, alloc: Global, url: &DataUrl, closure: &Closure) {
+    let mut bytes = Vec::new(alloc);
+    let write = |piece: &[u8]| -> Result<(), usize> { take_below_two(&mut bytes, piece) };
+    let answer = match closure {
+        Closure::Dropped => url.decode(write),
+        Closure::Returned => url.decode_with(write).0,
+    };
+    let is_refused = matches!(answer, Err(DecodeError::WriteError(REFUSED)));
+    assert!(rt; is_refused);
+    assert!(rt; [b"aA".as_slice(), b"aAb"].contains(&bytes.as_slice()));
+}
+
 #[test]
 fn the_piece_with_the_second_byte(rt: HostRuntime) -> Result<(), Fail> {
     let url = DataUrl::process(rt.alloc(), "data:,a%41b")?;
-    for is_handed_back in [false, true] {
-        let mut bytes = Vec::new(rt.alloc());
-        let write = |piece: &[u8]| -> Result<(), usize> { take_below_two(&mut bytes, piece) };
-        let answer = if is_handed_back {
-            url.decode_with(write).0
-        } else {
-            url.decode(write)
-        };
-        assert!(rt; matches!(answer, Err(DecodeError::WriteError(REFUSED))));
-        assert!(rt; [b"aA".as_slice(), b"aAb"].contains(&bytes.as_slice()));
-    }
+    assert_ends(&rt, rt.alloc(), &url, &Closure::Dropped);
+    assert_ends(&rt, rt.alloc(), &url, &Closure::Returned);
     Ok(())
 }
 

@@ -7,13 +7,13 @@ use std::alloc::{AllocError, Global};
 use std::process::Abort;
 use std::test::Fail;
 
-/// The line of a text that is no MIME type.
+/// The message for a text that is no MIME type.
 const NO_TYPE: &str = "invalid mime type";
 
-/// Each mark that a token may have.
+/// Each mark that a token may contain.
 const MARKS: &str = "!#$%&'*+-.^_`|~";
 
-/// Texts, and how their records are printed, or the line of a text without a record.
+/// Texts, and how their records are printed, or the message for a text that has no record.
 const TEXTS: [[&str; 2]; 40] = [
     [
         "TEXT/HTML;a=\"b;c\";d=;e=\"\"",
@@ -63,7 +63,7 @@ const TEXTS: [[&str; 2]; 40] = [
     ["a/\u{7f}", NO_TYPE],
 ];
 
-/// Asserts that a record's printed text is read as that record.
+/// Asserts that a record's printed text gives the same record.
 pub fn assert_read_again(
     rt: &impl Abort,
     alloc: Global,
@@ -78,8 +78,8 @@ pub fn assert_read_again(
     Ok(())
 }
 
-/// Asserts how a text's record is printed, and that it is read again so, or the line of a text
-/// without one.
+/// Asserts how a text's record is printed, and that the printed text gives the same record, or the message for a text that
+/// has no record.
 pub fn assert_mime(
     rt: &impl Abort,
     alloc: Global,
@@ -121,25 +121,24 @@ fn each_mark_of_a_token(rt: HostRuntime) -> Result<(), Fail> {
     Ok(())
 }
 
+/// Asserts that a value with this mark is quoted, and that a name with it is passed over.
+fn assert_quoted(rt: &impl Abort, alloc: Global, mark: char) -> Result<(), Fail> {
+    let text = format!(in alloc; "x/x;a=v{mark};b{mark}=v;c=d")?;
+    let wanted = format!(in alloc; "x/x;a=\"v{mark}\";c=d")?;
+    assert_mime(rt, alloc, text.as_str(), text.as_str(), wanted.as_str())
+}
+
 #[test]
 fn each_mark_of_no_token(rt: HostRuntime) -> Result<(), Fail> {
     for mark in "(),/:<>?@[]{}".chars() {
-        let text = format!(in rt.alloc(); "x/x;a=v{mark};b{mark}=v;c=d")?;
-        let wanted = format!(in rt.alloc(); "x/x;a=\"v{mark}\";c=d")?;
-        assert_mime(
-            &rt,
-            rt.alloc(),
-            text.as_str(),
-            text.as_str(),
-            wanted.as_str(),
-        )?;
+        assert_quoted(&rt, rt.alloc(), mark)?;
         let text = format!(in rt.alloc(); "x{mark}/x")?;
         assert_mime(&rt, rt.alloc(), text.as_str(), text.as_str(), NO_TYPE)?;
     }
     Ok(())
 }
 
-/// A record of a type, a subtype and one pair, as they are given.
+/// Returns a record of a type, a subtype, and the name and value of one parameter, as they are given.
 fn record_of(alloc: Global, texts: [&str; 4]) -> Result<Mime, AllocError> {
     let [type_, subtype, name, value] = texts;
     let mut mime = Mime::new(alloc, type_, subtype)?;
@@ -164,6 +163,12 @@ fn records_built_by_hand(rt: HostRuntime) -> Result<(), Fail> {
     assert!(rt; html.matches("text", "html") & !html.matches("text", "plain"));
     assert!(rt; html.get_parameter("one") == Some("two"));
     assert!(rt; html.get_parameter("two").is_none());
+    Ok(())
+}
+
+#[test]
+fn records_are_compared(rt: HostRuntime) -> Result<(), Fail> {
+    let html = record_of(rt.alloc(), ["text", "html", "one", "two"])?;
     let plain = Mime::new(rt.alloc(), "text", "plain")?;
     let copy = plain.clone()?;
     assert!(rt; plain.matches("text", "plain") & copy.matches("text", "plain"));

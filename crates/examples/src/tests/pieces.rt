@@ -1,5 +1,4 @@
-//! Bodies in pieces: stretches that end where they may, escapes, and texts around the edges of a
-//! block.
+//! Bodies in pieces: stretches, escapes, and texts around the edges of a block.
 
 use super::assert_same;
 use super::recorder::Source;
@@ -9,8 +8,7 @@ use std::alloc::{AllocError, Global};
 use std::process::Abort;
 use std::test::Fail;
 
-/// Texts, and their pieces: a slice in brackets, an escape by its number, and behind them `#` and
-/// the fragment.
+/// Texts, and their pieces: a slice in brackets, an escape as its number, and then `#` and the fragment.
 const TEXTS: [[&str; 2]; 15] = [
     ["a%41b#c", "[a]65[b]#c"],
     ["", ""],
@@ -45,21 +43,21 @@ fn write_piece(alloc: Global, all: &mut Vec<u8>, piece: &Piece) -> Result<(), Al
     Ok(())
 }
 
-/// The pieces of a text, that nothing comes behind them, and its fragment.
+/// Returns the pieces of a text and its fragment, as they are written in the table. Asserts that no piece follows the last
+/// one.
 fn written(rt: &impl Abort, alloc: Global, text: &str) -> Result<Vec<u8>, AllocError> {
     let mut all = Vec::new(alloc);
     let mut pieces = Pieces::new(text);
     for _ in 0..=text.len() {
-        if let Some(piece) = pieces.next() {
-            write_piece(alloc, &mut all, &piece)?;
-            continue;
+        match pieces.next() {
+            Some(piece) => write_piece(alloc, &mut all, &piece)?,
+            None => break,
         }
-        assert!(rt; pieces.next().is_none(), "{text}");
-        if let Some(fragment) = pieces.fragment() {
-            all.push(b'#')?;
-            all.extend_from_slice(fragment.as_bytes())?;
-        }
-        break;
+    }
+    assert!(rt; pieces.next().is_none(), "{text}");
+    if let Some(fragment) = pieces.fragment() {
+        all.push(b'#')?;
+        all.extend_from_slice(fragment.as_bytes())?;
     }
     Ok(all)
 }
@@ -79,7 +77,7 @@ fn pieces_of_texts(rt: HostRuntime) -> Result<(), Fail> {
     Ok(())
 }
 
-/// What was read of an escape.
+/// How much of an escape was read.
 #[derive(Clone, Copy)]
 enum Read {
     Nothing,
@@ -87,8 +85,8 @@ enum Read {
     High(u8, u32),
 }
 
-/// The body by the rule alone: up to the first `#`, without tabs and newlines, and then
-/// percent-decoded, byte by byte.
+/// Returns the body by the rule alone: the text before the first `#`, without tabs and newlines, percent-decoded byte by
+/// byte.
 fn body_of(alloc: Global, text: &str) -> Result<Vec<u8>, AllocError> {
     let mut body = Vec::new(alloc);
     let mut read = Read::Nothing;
@@ -128,7 +126,7 @@ fn body_of(alloc: Global, text: &str) -> Result<Vec<u8>, AllocError> {
     Ok(body)
 }
 
-/// What the pieces of a text join to. No slice is empty.
+/// Returns the bytes of the pieces of a text, one after another. Asserts that no slice is empty.
 fn joined(rt: &impl Abort, alloc: Global, text: &str) -> Result<Vec<u8>, AllocError> {
     let mut all = Vec::new(alloc);
     let mut pieces = Pieces::new(text);
@@ -145,26 +143,35 @@ fn joined(rt: &impl Abort, alloc: Global, text: &str) -> Result<Vec<u8>, AllocEr
     Ok(all)
 }
 
-/// Asserts that the calls that decode give the body of a text behind a comma, and its pieces join
-/// to it.
-fn assert_body(rt: &impl Abort, alloc: Global, text: &str) -> Result<(), Fail> {
-    let body = body_of(alloc, text)?;
-    let of_pieces = joined(rt, alloc, text)?;
-    assert_same(rt, text, of_pieces.as_slice(), body.as_slice());
-    let whole = format!(in alloc; "data:,{text}")?;
-    let url = DataUrl::process(alloc, whole.as_str())?;
+/// Asserts the body of a URL, by each call that decodes it.
+fn assert_decoded(
+    rt: &impl Abort,
+    alloc: Global,
+    about: &str,
+    url: &DataUrl,
+    body: &[u8],
+) -> Result<(), Fail> {
     let (bytes, _) = url.decode_to_vec(alloc)?;
-    let record = Source::Body(&url).record_both(rt, alloc, text, 0)?;
-    record.assert_is(rt, text, body.as_slice(), record.answer.as_str());
-    assert_same(rt, text, bytes.as_slice(), body.as_slice());
+    assert_same(rt, about, bytes.as_slice(), body);
+    let record = Source::Body(url).record_both(rt, alloc, about, 0)?;
+    record.assert_is(rt, about, body, record.answer.as_str());
     Ok(())
 }
 
-/// What stands behind such a place: more than a block of 64 bytes.
-const BEHIND: &str =
-    "abcdefghijklmnopqrstuvwxyzabcdefghijklmnopqrstuvwxyzabcdefghijklmnopqrstuvwxyz";
+/// Asserts the body of a URL whose tail is this text, and the bytes of the text's pieces.
+fn assert_body(rt: &impl Abort, alloc: Global, text: &str) -> Result<(), Fail> {
+    let body = body_of(alloc, text)?;
+    let bytes = joined(rt, alloc, text)?;
+    assert_same(rt, text, bytes.as_slice(), body.as_slice());
+    let whole = format!(in alloc; "data:,{text}")?;
+    let url = DataUrl::process(alloc, whole.as_str())?;
+    assert_decoded(rt, alloc, text, &url, body.as_slice())
+}
 
-/// Asserts the body of a text with each of these at a place.
+/// What follows a place: more than a block of 64 bytes.
+const REST: &str = "abcdefghijklmnopqrstuvwxyzabcdefghijklmnopqrstuvwxyzabcdefghijklmnopqrstuvwxyz";
+
+/// Asserts the body of a text with each of these parts at a place.
 fn assert_at_place(
     rt: &impl Abort,
     alloc: Global,
@@ -174,57 +181,65 @@ fn assert_at_place(
     for special in specials {
         let mut text = "a".repeat(alloc, place)?;
         text.push_str(special)?;
-        text.push_str(BEHIND)?;
+        text.push_str(REST)?;
         assert_body(rt, alloc, text.as_str())?;
     }
     Ok(())
 }
 
+/// Parts with bytes that do not stand for themselves, and two without.
+const SPECIALS: [&str; 15] = [
+    "\t",
+    "\n",
+    "\r",
+    "#",
+    "%",
+    "%41",
+    "%4\t1",
+    "%\n\n4\r1",
+    "%4",
+    "%%41",
+    "%41%42%43%44",
+    "é",
+    "%2",
+    "%\t",
+    "a",
+];
+
 #[test]
 fn special_bytes_at_every_place(rt: HostRuntime) -> Result<(), Fail> {
     for place in 0..131_usize {
-        let specials = [
-            "\t",
-            "\n",
-            "\r",
-            "#",
-            "%",
-            "%41",
-            "%4\t1",
-            "%\n\n4\r1",
-            "%4",
-            "%%41",
-            "%41%42%43%44",
-            "é",
-            "%2",
-            "%\t",
-            "a",
-        ];
-        assert_at_place(&rt, rt.alloc(), place, &specials)?;
+        assert_at_place(&rt, rt.alloc(), place, &SPECIALS)?;
     }
     Ok(())
 }
 
+/// Returns a text of `count` parts, chosen by a generator of random numbers with this state.
+fn random_text(alloc: Global, state: &mut u32, count: usize) -> Result<String, AllocError> {
+    let mut text = String::new(alloc);
+    for _ in 0..count {
+        *state = state.wrapping_mul(1_664_525).wrapping_add(1_013_904_223);
+        text.push_str(match *state / 65_536 % 24 {
+            0..=5 => "%41",
+            6 => "%",
+            7 => "\t",
+            8 => "%4",
+            9 => "\n",
+            10 => "4",
+            11 if *state / 256 % 64 == 0 => "#",
+            12 => "%\t41",
+            13 => "A long stretch, which goes on over the edge of a block of 64 bytes.",
+            _ => "x",
+        })?;
+    }
+    Ok(text)
+}
+
 #[test]
-fn texts_by_chance(rt: HostRuntime) -> Result<(), Fail> {
+fn random_texts(rt: HostRuntime) -> Result<(), Fail> {
     let mut state: u32 = 20_261_122;
     for count in 0..600 {
-        let mut text = String::new(rt.alloc());
-        for _ in 0..count {
-            state = state.wrapping_mul(1_664_525).wrapping_add(1_013_904_223);
-            text.push_str(match state / 65_536 % 24 {
-                0..=5 => "%41",
-                6 => "%",
-                7 => "\t",
-                8 => "%4",
-                9 => "\n",
-                10 => "4",
-                11 if state / 256 % 64 == 0 => "#",
-                12 => "%\t41",
-                13 => "A long stretch, which goes on over the edge of a block of 64 bytes.",
-                _ => "x",
-            })?;
-        }
+        let text = random_text(rt.alloc(), &mut state, count)?;
         assert_body(&rt, rt.alloc(), text.as_str())?;
     }
     Ok(())

@@ -1,4 +1,4 @@
-//! What the calls that decode hand to a closure.
+//! Records of the calls of a closure by the functions that decode.
 
 use super::{assert_same, shown};
 use data_url::forgiving_base64::{DecodeError, Decoder};
@@ -9,7 +9,7 @@ use std::process::Abort;
 /// How many calls at most are refused in turn.
 const REFUSALS: usize = 100;
 
-/// What hands out bytes.
+/// Where the bytes come from.
 #[derive(Drop)]
 pub enum Source<'a> {
     /// A URL's body.
@@ -18,16 +18,16 @@ pub enum Source<'a> {
     Base64(&'a [&'a [u8]]),
 }
 
-/// What becomes of the closure.
+/// What becomes of the closure when the text has ended.
 #[derive(Drop)]
 pub enum Closure {
     /// It is dropped, by `decode` and by `finish`.
     Dropped,
-    /// It is handed back, by `decode_with`, `finish_with` and `into_closure`.
-    HandedBack,
+    /// It is returned, by `decode_with`, `finish_with` and `into_closure`.
+    Returned,
 }
 
-/// The calls of a closure, and the answer behind them.
+/// The calls of a closure, and the result after them.
 #[derive(Drop)]
 pub struct Record {
     /// The pieces, joined.
@@ -36,12 +36,12 @@ pub struct Record {
     pub lengths: Vec<usize>,
     /// The call that is refused, with its number as the error, or 0 for none.
     refused: usize,
-    /// The line of the error, or `#` and the fragment, or nothing.
+    /// The message of the error, or `#` and the fragment, or nothing.
     pub answer: String,
 }
 
 impl Record {
-    /// A record of no call yet.
+    /// Creates a record without calls.
     fn new(alloc: Global, refused: usize) -> Record {
         Record {
             bytes: Vec::new(alloc),
@@ -51,8 +51,7 @@ impl Record {
         }
     }
 
-    /// Takes a piece, and refuses the call that is to be refused. The error is 0 where memory is
-    /// wanting.
+    /// Records a call with a piece, and refuses it if it is the one to refuse. The error is 0 if allocation fails.
     fn take(&mut self, piece: &[u8]) -> Result<(), usize> {
         let kept = self.bytes.extend_from_slice(piece).is_ok();
         if !kept || self.lengths.push(piece.len()).is_err() {
@@ -66,7 +65,7 @@ impl Record {
         }
     }
 
-    /// Asserts that these bytes came, in no empty piece, and this answer.
+    /// Asserts the bytes and the result, and that no piece is empty.
     pub fn assert_is(&self, rt: &impl Abort, about: &str, bytes: &[u8], answer: &str) {
         assert_same(rt, about, self.bytes.as_slice(), bytes);
         assert_same(rt, about, self.answer.as_bytes(), answer.as_bytes());
@@ -74,7 +73,7 @@ impl Record {
         assert!(rt; !self.lengths.as_slice().contains(&0), "{about}");
     }
 
-    /// Asserts that another record is the same, piece for piece.
+    /// Asserts that another record has the same bytes, result and lengths of pieces.
     fn assert_equals(&self, rt: &impl Abort, about: &str, other: &Record) {
         self.assert_is(rt, about, other.bytes.as_slice(), other.answer.as_str());
         let about = shown(about);
@@ -82,7 +81,7 @@ impl Record {
     }
 }
 
-/// `#` and a fragment, encoded, or nothing where there is none.
+/// Returns `#` and a fragment, percent-encoded, or an empty text if there is none.
 pub fn fragment_text(
     alloc: Global,
     fragment: Option<FragmentIdentifier>,
@@ -96,7 +95,7 @@ pub fn fragment_text(
     }
 }
 
-/// What a URL's body is handed out as.
+/// Returns the record of decoding a URL's body.
 fn record_body(
     alloc: Global,
     url: &DataUrl,
@@ -107,7 +106,7 @@ fn record_body(
     let write = |piece: &[u8]| -> Result<(), usize> { record.take(piece) };
     let ended = match closure {
         Closure::Dropped => url.decode(write),
-        Closure::HandedBack => {
+        Closure::Returned => {
             let (ended, _) = url.decode_with(write);
             ended
         }
@@ -119,8 +118,7 @@ fn record_body(
     Ok(record)
 }
 
-/// What a text of base64 is handed out as. The decoder tells that it has failed exactly behind an
-/// error.
+/// Returns the record of decoding base64 in pieces. Asserts that the decoder has failed exactly after an error.
 fn record_base64(
     rt: &impl Abort,
     alloc: Global,
@@ -139,13 +137,10 @@ fn record_base64(
         assert!(rt; decoder.has_failed() == ended.is_err());
     }
     match closure {
-        Closure::HandedBack if decoder.has_failed() => {
+        Closure::Returned if decoder.has_failed() => {
             let _ = decoder.into_closure();
         }
-        Closure::HandedBack => {
-            let (last, _) = decoder.finish_with();
-            ended = last;
-        }
+        Closure::Returned => ended = decoder.finish_with().0,
         Closure::Dropped if decoder.has_failed() => {}
         Closure::Dropped => ended = decoder.finish(),
     }
@@ -156,8 +151,8 @@ fn record_base64(
 }
 
 impl<'a> Source<'a> {
-    /// What is handed out where this call is refused, or none for 0.
-    pub fn record(
+    /// Returns the record of decoding while this call is refused, or none if it is 0.
+    fn record(
         &self,
         rt: &impl Abort,
         alloc: Global,
@@ -170,7 +165,8 @@ impl<'a> Source<'a> {
         }
     }
 
-    /// What is handed out, to a closure that is dropped and to one that is handed back alike.
+    /// Returns the record of decoding, after asserting that it is the same for a closure that is dropped and for one that is
+    /// returned.
     pub fn record_both(
         &self,
         rt: &impl Abort,
@@ -178,14 +174,32 @@ impl<'a> Source<'a> {
         about: &str,
         refused: usize,
     ) -> Result<Record, AllocError> {
-        let handed_back = self.record(rt, alloc, &Closure::HandedBack, refused)?;
+        let returned = self.record(rt, alloc, &Closure::Returned, refused)?;
         let dropped = self.record(rt, alloc, &Closure::Dropped, refused)?;
-        dropped.assert_equals(rt, about, &handed_back);
+        dropped.assert_equals(rt, about, &returned);
         Ok(dropped)
     }
 
-    /// Asserts what is handed out, and that a refusal of each call, the first hundred of them, is
-    /// answered and ends the calls; a refusal of the next call, which never comes, changes nothing.
+    /// Asserts that a refusal of this call is the result, and ends the calls, after a beginning of the bytes.
+    fn assert_refused(
+        &self,
+        rt: &impl Abort,
+        alloc: Global,
+        about: &str,
+        bytes: &[u8],
+        refused: usize,
+    ) -> Result<(), AllocError> {
+        let record = self.record_both(rt, alloc, about, refused)?;
+        let message = format!(in alloc; "write error: {refused}")?;
+        assert_same(rt, about, record.answer.as_bytes(), message.as_bytes());
+        let about = shown(about);
+        assert!(rt; record.lengths.len() == refused, "{about}");
+        assert!(rt; bytes.starts_with(record.bytes.as_slice()), "{about}");
+        Ok(())
+    }
+
+    /// Asserts the bytes and the result, and what a refusal of each of the first hundred calls does. A refusal of the call
+    /// after the last one, which never comes, changes nothing.
     pub fn assert_is(
         &self,
         rt: &impl Abort,
@@ -200,12 +214,7 @@ impl<'a> Source<'a> {
         let never_refused = self.record_both(rt, alloc, about, beyond)?;
         never_refused.assert_equals(rt, about, &whole);
         for refused in 1..=whole.lengths.len().min(REFUSALS) {
-            let record = self.record_both(rt, alloc, about, refused)?;
-            let line = format!(in alloc; "write error: {refused}")?;
-            assert_same(rt, about, record.answer.as_bytes(), line.as_bytes());
-            let about = shown(about);
-            assert!(rt; record.lengths.len() == refused, "{about}");
-            assert!(rt; bytes.starts_with(record.bytes.as_slice()), "{about}");
+            self.assert_refused(rt, alloc, about, bytes, refused)?;
         }
         Ok(whole)
     }

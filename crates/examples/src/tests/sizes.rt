@@ -1,4 +1,4 @@
-//! Large inputs, which nothing refuses by their size.
+//! Large inputs: no size is refused.
 
 use super::base64::assert_whole;
 use super::mime::{assert_mime, assert_read_again};
@@ -100,21 +100,30 @@ fn large_types(rt: HostRuntime) -> Result<(), Fail> {
     assert_types(&rt, rt.alloc(), LARGE)
 }
 
-/// The room of a vector is what was taken at first, by the length of the text after the comma.
+/// Asserts the capacity of the vector of a URL's body.
+fn assert_capacity(
+    rt: &impl Abort,
+    alloc: Global,
+    parts: [&str; 3],
+    capacity: usize,
+) -> Result<(), Fail> {
+    let text = with_run(alloc, parts, 900)?;
+    let url = DataUrl::process(alloc, text.as_str())?;
+    let (bytes, fragment) = url.decode_to_vec(alloc)?;
+    assert!(rt; bytes.capacity() == capacity && fragment.is_some());
+    Ok(())
+}
+
+/// The capacity of a vector is the one that it is created with, by the length of the text after the comma.
 #[test]
-fn room_is_taken_once(rt: HostRuntime) -> Result<(), Fail> {
+fn capacity_is_reserved_once(rt: HostRuntime) -> Result<(), Fail> {
     let alloc = rt.alloc();
-    for (parts, room) in [
-        (["data:,", "%41b", "#c d"], 3604),
-        (["data:;base64,", "QUJD\n", "QUJD#c d"], 3381),
-    ] {
-        let text = with_run(alloc, parts, 900)?;
-        let (bytes, fragment) = DataUrl::process(alloc, text.as_str())?.decode_to_vec(alloc)?;
-        assert_eq!(rt; bytes.capacity(), room);
-        assert!(rt; fragment.is_some());
-    }
+    assert_capacity(&rt, alloc, ["data:,", "%41b", "#c d"], 3604)?;
+    let parts = ["data:;base64,", "QUJD\n", "QUJD#c d"];
+    assert_capacity(&rt, alloc, parts, 3381)?;
     let symbols = "QUJD".repeat(alloc, 900)?;
-    assert_eq!(rt; decode_to_vec(alloc, symbols.as_bytes())?.capacity(), 2700);
+    let bytes = decode_to_vec(alloc, symbols.as_bytes())?;
+    assert!(rt; bytes.capacity() == 2700);
     Ok(())
 }
 

@@ -5,21 +5,21 @@ use super::recorder::{Source, fragment_text};
 use super::{assert_printed, assert_same};
 use data_url::DataUrl;
 use data_url::laws::{encoding_first, fragment_again};
-use std::alloc::Global;
+use std::alloc::{AllocError, Global};
 use std::process::Abort;
 use std::test::Fail;
 
-/// The record that is used where the header has none.
+/// The record of a header without a valid type.
 pub const DEFAULT: &str = "text/plain;charset=US-ASCII";
 
-/// The line of a text without the scheme.
+/// The message for a text without the scheme.
 const NO_SCHEME: &str = "not a valid data url";
 
-/// The line of a text without a comma.
+/// The message for a text without a comma.
 const NO_COMMA: &str = "data url is missing comma delimiting attributes and body";
 
-/// Texts, their printed records, the bytes of their bodies up to the first fault, and the line of
-/// the error, or `#` and the fragment, or nothing.
+/// Texts, their printed records, the bytes of their bodies before the first fault, and the message of the error, or `#` and
+/// the fragment, or nothing.
 const URLS: [[&str; 4]; 58] = [
     ["data:,Hello%20World!", DEFAULT, "Hello World!", ""],
     ["\0 DA\tTA:\n,x \u{1f}", DEFAULT, "x", ""],
@@ -121,10 +121,34 @@ const URLS: [[&str; 4]; 58] = [
     ["data:A/B;C=D,x\n", "a/b;c=D", "x", ""],
 ];
 
-/// A text with a parameter, base64 behind escapes, and a fragment.
+/// A text with a parameter, base64 that contains escapes, and a fragment.
 const WHOLE: &str = "data:;charset=x;base64,Y%51%3D=#x y";
 
-/// Asserts what a text is read as, and that its body is the same by each call that decodes.
+/// Asserts the body of a URL, by each call that decodes it, and the message or the fragment after it.
+fn assert_body(
+    rt: &impl Abort,
+    alloc: Global,
+    about: &str,
+    url: &DataUrl,
+    body: &[u8],
+    answer: &str,
+) -> Result<(), AllocError> {
+    match url.decode_to_vec(alloc) {
+        Ok((bytes, fragment)) => {
+            assert_same(rt, about, bytes.as_slice(), body);
+            let fragment = fragment_text(alloc, fragment)?;
+            assert_same(rt, about, fragment.as_bytes(), answer.as_bytes());
+        }
+        Err(error) => {
+            let printed = format_args!("base64 not valid: {error}");
+            assert_printed(rt, alloc, about, &printed, answer)?;
+        }
+    }
+    Source::Body(url).assert_is(rt, alloc, about, body, answer)?;
+    Ok(())
+}
+
+/// Asserts the record, the body and the fragment of a text, or the message for a text that is no URL.
 pub fn assert_url(rt: &impl Abort, alloc: Global, row: [&str; 4]) -> Result<(), Fail> {
     let [text, record, body, answer] = row;
     let url = match DataUrl::process(alloc, text) {
@@ -136,19 +160,11 @@ pub fn assert_url(rt: &impl Abort, alloc: Global, row: [&str; 4]) -> Result<(), 
     };
     assert_printed(rt, alloc, text, url.mime_type(), record)?;
     assert_read_again(rt, alloc, text, url.mime_type())?;
-    let told = match url.decode_to_vec(alloc) {
-        Ok((bytes, fragment)) => {
-            assert_same(rt, text, bytes.as_slice(), body.as_bytes());
-            fragment_text(alloc, fragment)?
-        }
-        Err(error) => format!(in alloc; "base64 not valid: {error}")?,
-    };
-    assert_same(rt, text, told.as_bytes(), answer.as_bytes());
-    Source::Body(&url).assert_is(rt, alloc, text, body.as_bytes(), answer)?;
+    assert_body(rt, alloc, text, &url, body.as_bytes(), answer)?;
     Ok(())
 }
 
-/// Asserts what each text of a table is read as.
+/// Asserts the record, the body and the fragment of each text of a table.
 fn assert_urls(rt: &impl Abort, alloc: Global, rows: &[[&str; 4]]) -> Result<(), Fail> {
     for row in rows {
         assert_url(rt, alloc, *row)?;
@@ -161,8 +177,7 @@ fn texts(rt: HostRuntime) -> Result<(), Fail> {
     assert_urls(&rt, rt.alloc(), &URLS)
 }
 
-/// The record, the body and the answer of a beginning of the whole text, by its length, which is
-/// less than that of all.
+/// Returns the record, the body, and the message or fragment of a beginning of that text, by its length.
 fn of_beginning(len: usize) -> [&'static str; 3] {
     let record = "text/plain;charset=x";
     match len {

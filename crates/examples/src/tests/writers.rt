@@ -13,7 +13,7 @@ use std::test::Fail;
 /// More writes than any of the values makes.
 const PLENTY: usize = 1_000_000;
 
-/// A writer that fails once, behind so many writes.
+/// A writer that fails once, after this number of writes.
 #[derive(Drop)]
 struct FailingWriter {
     left: usize,
@@ -31,16 +31,15 @@ impl Write for FailingWriter {
     }
 }
 
-/// Whether a value is printed to a writer that fails behind so many writes, and how many more there
-/// may have been.
+/// Returns whether a value is printed to a writer that fails after `left` writes, and how many of those were not used.
 fn write_to<D: fmt::Display>(value: &D, left: usize) -> (bool, usize) {
     let mut writer = FailingWriter { left };
     let is_written = write!(writer, "{value}").is_ok();
     (is_written, writer.left)
 }
 
-/// Asserts how a value is printed, the same under options, and that printing fails where a write
-/// fails, whichever it is.
+/// Asserts how a value is printed, that options of the format change nothing, and that printing fails if any of its writes
+/// fails.
 fn assert_display<D: fmt::Display>(
     rt: &impl Abort,
     alloc: Global,
@@ -91,14 +90,19 @@ fn errors_of_urls_and_closures(rt: HostRuntime) -> Result<(), Fail> {
     Ok(())
 }
 
-/// Asserts how the fault of a text of base64 is printed, alone and in each error that holds it.
-fn assert_fault(rt: &impl Abort, alloc: Global, text: &str, line: &str) -> Result<(), AllocError> {
-    let behind = format!(in alloc; "base64 not valid: {line}")?;
+/// Asserts how the fault of a text of base64 is printed, alone and in a decoder's error.
+fn assert_fault(
+    rt: &impl Abort,
+    alloc: Global,
+    text: &str,
+    message: &str,
+) -> Result<(), AllocError> {
+    let whole = format!(in alloc; "base64 not valid: {message}")?;
     match decode_to_vec(alloc, text.as_bytes()) {
         Err(DecodeToVecError::InvalidBase64(fault)) => {
-            assert_display(rt, alloc, &fault, line)?;
+            assert_display(rt, alloc, &fault, message)?;
             let error: DecodeError<usize> = DecodeError::InvalidBase64(fault);
-            assert_display(rt, alloc, &error, behind.as_str())
+            assert_display(rt, alloc, &error, whole.as_str())
         }
         _ => {
             assert!(rt; false, "{text}");
@@ -107,20 +111,28 @@ fn assert_fault(rt: &impl Abort, alloc: Global, text: &str, line: &str) -> Resul
     }
 }
 
-#[test]
-fn faults_of_base64(rt: HostRuntime) -> Result<(), Fail> {
-    for (text, line) in [
-        ("!", "symbol with codepoint 33 not expected"),
-        ("=a", "alphabet symbol present after padding"),
-        ("a", "lone alphabet symbol present"),
-        ("=", "incorrect padding"),
-    ] {
-        assert_fault(&rt, rt.alloc(), text, line)?;
-        match decode_to_vec(rt.alloc(), text.as_bytes()) {
-            Ok(_bytes) => assert!(rt; false, "{text}"),
-            Err(error) => assert_display(&rt, rt.alloc(), &error, line)?,
+/// Texts of base64, and the messages for their faults.
+const FAULTS: [(&str, &str); 4] = [
+    ("!", "symbol with codepoint 33 not expected"),
+    ("=a", "alphabet symbol present after padding"),
+    ("a", "lone alphabet symbol present"),
+    ("=", "incorrect padding"),
+];
+
+/// Asserts how the faults of the texts of a table are printed.
+fn assert_faults(rt: &impl Abort, alloc: Global, rows: &[(&str, &str)]) -> Result<(), AllocError> {
+    for (text, message) in rows {
+        assert_fault(rt, alloc, text, message)?;
+        if let Err(error) = decode_to_vec(alloc, text.as_bytes()) {
+            assert_display(rt, alloc, &error, message)?;
         }
     }
+    Ok(())
+}
+
+#[test]
+fn faults_of_base64(rt: HostRuntime) -> Result<(), Fail> {
+    assert_faults(&rt, rt.alloc(), &FAULTS)?;
     Ok(())
 }
 
