@@ -81,9 +81,9 @@ pub fn fetch(alloc: Global, text: &str) -> Result<Response, FetchError>
     })
 }
 
-/// How many bytes the body of that response has. It takes no memory for them.
+/// Returns how many bytes the body of the response to a request for a data: URL has. The body is not kept in memory.
 ///
-/// The errors are those of `fetch`.
+/// Returns the errors of `fetch`.
 pub fn content_length(alloc: Global, text: &str) -> Result<usize, FetchError>
     ensures { HasLength text.now result }
 {

@@ -21,7 +21,8 @@ pub enum Part<'a> {
     Refused(&'a str, Reason),
 }
 
-/// The text up to the first reference, the reference, and the text from its closing quote on. None where there is none.
+/// Returns the text before the first reference, the reference, and the text from its closing quote on, or None if there is
+/// no reference.
 fn next_reference<'a>(page: &'a str) -> Option<(&'a str, &'a str, &'a str)>
     ensures { FindsReference page.entry.now result }
 {
@@ -32,8 +33,8 @@ fn next_reference<'a>(page: &'a str) -> Option<(&'a str, &'a str, &'a str)>
     let Some(end) = rest.find('"') else {
         return None;
     };
-    let (reference, behind) = rest.split_at(end);
-    Some((before, reference, behind))
+    let (reference, after) = rest.split_at(end);
+    Some((before, reference, after))
 }
 
 /// Returns the part of a reference, or an error if allocation fails.
@@ -47,8 +48,8 @@ fn part_of<'a>(alloc: Global, reference: &'a str) -> Result<Part<'a>, AllocError
     }
 }
 
-/// The parts of a page, in order: text, and references with their resources. A reference that is
-/// refused stays as it is, with the reason. The texts of the parts join to the page.
+/// Returns the parts of a page, in order: text, and references with their resources. A reference that is refused stays as
+/// it is, with the reason. The texts of the parts, one after another, are the page.
 ///
 /// Returns an error if allocation fails.
 pub fn inline<'a>(alloc: Global, page: &'a str) -> Result<Vec<Part<'a>>, AllocError>
@@ -57,10 +58,10 @@ pub fn inline<'a>(alloc: Global, page: &'a str) -> Result<Vec<Part<'a>>, AllocEr
 {
     let mut parts = Vec::new(alloc);
     let mut rest = page;
-    while let Some((before, reference, behind)) = next_reference(rest) {
+    while let Some((before, reference, after)) = next_reference(rest) {
         parts.push(Part::Text(before))?;
         parts.push(part_of(alloc, reference)?)?;
-        rest = behind;
+        rest = after;
     }
     parts.push(Part::Text(rest))?;
     Ok(parts)

@@ -24,7 +24,7 @@ pub enum LoadError {
     OverLimit,
     /// A write failed or took nothing; a beginning of the body was written.
     SinkFailed,
-    /// The type found no memory; nothing was written.
+    /// Allocation failed; nothing was written.
     OutOfMemory,
 }
 
@@ -37,7 +37,7 @@ pub(crate) enum Refusal {
     SinkFailed,
 }
 
-/// Writes a whole piece. A write that fails, or takes nothing, ends it and is not tried again.
+/// Writes a whole piece. A write that fails or takes nothing is not tried again.
 fn write_piece<W: Write>(sink: &mut W, piece: &[u8]) -> Result<(), Refusal>
     ensures { Writes piece.now (W.contents sink.old) (W.contents sink.new) result }
 {
@@ -54,7 +54,8 @@ fn write_piece<W: Write>(sink: &mut W, piece: &[u8]) -> Result<(), Refusal>
     Ok(())
 }
 
-/// Writes a whole piece that fits in the room, in bytes, and takes it off the room. One that does not fit is refused.
+/// Writes a whole piece if it is no longer than the room, in bytes, and subtracts its length from the room. A longer piece
+/// is refused.
 fn write_within<W: Write>(sink: &mut W, room: &mut usize, piece: &[u8]) -> Result<(), Refusal>
     ensures { WritesWithin piece.now room.old room.new (W.contents sink.old) (W.contents sink.new)
         result }
@@ -66,7 +67,7 @@ fn write_within<W: Write>(sink: &mut W, room: &mut usize, piece: &[u8]) -> Resul
     write_piece(sink, piece)
 }
 
-/// Writes the body of a URL as it is decoded, up to a limit of bytes. It takes no memory.
+/// Writes the body of a URL as it is decoded, up to a limit of bytes. Nothing is allocated.
 fn stream_body<W: Write>(url: &DataUrl, limit: usize, sink: &mut W) -> Result<(), LoadError>
     ensures { StreamsBody (url_body url.now) limit (W.contents sink.old) (W.contents sink.new)
         result }
@@ -84,10 +85,10 @@ fn stream_body<W: Write>(url: &DataUrl, limit: usize, sink: &mut W) -> Result<()
     }
 }
 
-/// Loads the resource of a data: URL: writes its body to a sink, at most `limit` bytes, and returns its type. But for the
-/// type it takes no memory.
+/// Loads the resource of a data: URL: writes its body to a sink, at most `limit` bytes, and returns its type. Memory
+/// is allocated for the type alone.
 ///
-/// `LoadError` says why it failed, and what was written is then a beginning of the body.
+/// Returns an error if the resource is not loaded; what was written is then a beginning of the body.
 pub fn load<W: Write>(
     alloc: Global,
     text: &str,

@@ -5,7 +5,7 @@ ghost use Rattle.uses.specs.Ranks.{IsBest, has_essence, rank_for};
 
 use data_url::mime::Mime;
 
-/// Whether an accepted type has no parameters, and this type and subtype.
+/// Returns whether an accepted type has this type and subtype, and no parameters.
 fn is_essence(accepted: &Mime, type_: &str, subtype: &str) -> bool
     ensures { result ≡ has_essence type_.now subtype.now accepted.now }
 {
@@ -30,9 +30,9 @@ fn rank_of(accepted: &Mime, mime: &Mime) -> u8
     }
 }
 
-/// The place of the best accepted type for a record: the first of the highest rank. The same type with the same parameters,
-/// in the same order, comes first, then the same type and subtype without parameters, then `type/*`, then `*/*`. An accepted
-/// type with parameters fits that very type alone; a parameter `q` is one like any other.
+/// Returns the place of the best accepted type for a record: the first of the highest rank. The highest rank is the same type
+/// with the same parameters in the same order, then comes the same type and subtype without parameters, then `type/*`, and
+/// then `*/*`. An accepted type with parameters fits only the same type with the same parameters, `q` included.
 ///
 /// Returns None if no accepted type fits the record.
 pub fn best(accepted: &[Mime], mime: &Mime) -> Option<usize>
