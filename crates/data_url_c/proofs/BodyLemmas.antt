@@ -1,12 +1,12 @@
 -- Bodies, decoded into an output.
-use Rattle.std.proofs.Common.{◌≡◌, ℕ, ◌+◌, ◌*◌, ◌≤◌, Bool, true, false, cond, List, [], ◌∷◌, ◌++◌, length, map, take, drop, None, refl, sym, ap, ◌∙◌, subst, arith, append_assoc, drop-drop, length-append}
+use Rattle.std.proofs.Common.{◌≡◌, ℕ, ◌+◌, ◌*◌, ◌≤◌, Bool, true, false, cond, List, [], ◌++◌, length, map, take, drop, None, refl, sym, ap, ◌∙◌, subst, arith, append_assoc, drop-drop, length-append}
 use Rattle.std.specs.Prelude.{MatchBool}
 use Rattle.std.proofs.lemmas.List.{append-nil, length-map, length-take-le, nil_from_length, take-append-drop}
-use Rattle.data_url.specs.Base64.{after_groups, complete_bytes, decoded, first_fault, is_valid, kind_of, left_padding, left_symbols, rest_bytes, symbol_value}
+use Rattle.data_url.specs.Base64.{after_groups, complete_bytes, decoded, first_fault, is_valid, kind_of, left_padding, left_symbols, symbol_value}
 use Rattle.data_url.specs.Fetch.{Bad, Good, Outcome, outcome, plain_body}
 use Rattle.data_url.specs.Laws.{GoesOn}
 use Rattle.data_url.specs.Pieces.{Walk, walk_at_front}
-use Rattle.data_url.proofs.ByteLemmas.{after_few, decoded_left, done_more, groups_few, left_more, padding_more, fault_more}
+use Rattle.data_url.proofs.ByteLemmas.{after_few, done_more, groups_few, left_more, padding_more, fault_more}
 use Rattle.data_url.proofs.FeedLemmas.{two_feeds}
 use Rattle.data_url.proofs.PaddingLemmas.{every_list_all, fault_byte, fault_invalid, fault_some, none_fault}
 use Rattle.data_url.proofs.RunLemmas.{match_none}
@@ -17,6 +17,7 @@ use Rattle.data_url_c.specs.Steps.{EndsBehind, IsLast, Writes}
 use Rattle.data_url_c.specs.declared.parts.DataUrlBase64.{DataUrlBase64}
 use Rattle.data_url_c.specs.declared.parts.DataUrlStep.{DataUrlStep}
 use Rattle.data_url_c.specs.declared.parts.Last.{Last}
+use Rattle.data_url_c.proofs.EndLemmas.{last_room}
 use Rattle.data_url_c.proofs.LeftLemmas.{is_left, taken_room}
 use Rattle.data_url_c.proofs.PartLemmas.{Reaches, fault_cases, faulty_by, good_parts, left_text_is, reaches_more, takes_both, takes_fault, taken_sound, writes_front}
 
@@ -110,25 +111,6 @@ fed_fault {s0} {s} {s'} {text} {out0} {out} {part} {out2} {out'} {w} {status} {l
     subst P whole (takes_fault rest all ne)
 
 -- The end
-
-rest_room : (x : List ℕ) → length x ≤ 3 → 4 * length (rest_bytes x) ≤ 3 * length x
-rest_room [] h = omega arith
-rest_room (p ∷ []) h = omega arith
-rest_room (p ∷ q ∷ []) h = omega arith
-rest_room (p ∷ q ∷ r ∷ []) h = omega arith
-rest_room (p ∷ q ∷ r ∷ s ∷ rest) h = absurd (omega arith)
-
--- the last bytes take less room than the symbols that wait
-pub last_room : (s : DataUrlBase64) → is_good_state s ≡ true → length (take s.pending s.symbols) ≡ s.pending → 4 * length (decoded (waiting_text s)) ≤ 3 * s.pending
-last_room s h size =
-    let parts = good_parts s h in
-    let q : List ℕ = take s.pending s.symbols in
-    let few = parts.few_pending in
-    let long : length (map symbol_value q) ≡ s.pending = length-map q symbol_value ∙ size in
-    let after : after_groups (map symbol_value q) ≡ map symbol_value q = after_few (map symbol_value q) (omega arith) in
-    let all : decoded (waiting_text s) ≡ rest_bytes (map symbol_value q) =
-    decoded_left q s.padding (every_list_all q parts.symbols) ∙ ap (λ x. x ++ rest_bytes (after_groups (map symbol_value q))) (groups_few (map symbol_value q) (omega arith)) ∙ ap rest_bytes after in
-    omega (arith, ap length all, rest_room (map symbol_value q) (omega arith))
 
 at_valid : (v : Bool) (P Q R S : Type 0) → (P → R) → (Q → S) → MatchBool v P Q → MatchBool v R S
 at_valid true P Q R S f g h = f h

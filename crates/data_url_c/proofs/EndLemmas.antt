@@ -1,13 +1,13 @@
 -- The end of base64 that came in parts.
-use Rattle.std.proofs.Common.{◌≡◌, ℕ, ◌≤◌, Bool, true, false, List, [], ◌∷◌, length, map, take, Result, ap, ◌∙◌, arith, length-append}
+use Rattle.std.proofs.Common.{◌≡◌, ℕ, ◌*◌, ◌≤◌, Bool, true, false, List, [], ◌∷◌, ◌++◌, length, map, take, Result, ap, ◌∙◌, arith}
 use Rattle.std.specs.Prelude.{MatchBool}
 use Rattle.std.specs.declared.convert.Infallible.{Infallible}
-use Rattle.std.proofs.lemmas.List.{length-map, length-take-le}
-use Rattle.data_url.specs.Base64.{after_groups, decoded, groups, is_valid, rest_bytes, symbol_value}
+use Rattle.std.proofs.lemmas.List.{length-map}
+use Rattle.data_url.specs.Base64.{after_groups, decoded, is_valid, rest_bytes, symbol_value}
 use Rattle.data_url.specs.Run.{refusal}
 use Rattle.data_url.specs.Steps.Whole.{DecodesText}
 use Rattle.data_url.specs.declared.forgiving_base64.DecodeError.{DecodeError}
-use Rattle.data_url.proofs.ByteLemmas.{decoded_left, groups_few}
+use Rattle.data_url.proofs.ByteLemmas.{after_few, decoded_left, groups_few}
 use Rattle.data_url.proofs.PaddingLemmas.{every_list_all}
 use Rattle.data_url.proofs.RunLemmas.{match_at_none}
 use Rattle.data_url.proofs.WholeLemmas.{run_keeps}
@@ -18,21 +18,24 @@ use Rattle.data_url_c.proofs.PartLemmas.{Reaches, good_parts, no_refusal, run_re
 
 -- The last bytes
 
-rest_short : (x : List ℕ) → length (rest_bytes x) ≤ 2
-rest_short [] = omega arith
-rest_short (p ∷ []) = omega arith
-rest_short (p ∷ q ∷ []) = omega arith
-rest_short (p ∷ q ∷ r ∷ rest) = omega arith
+rest_room : (x : List ℕ) → length x ≤ 3 → 4 * length (rest_bytes x) ≤ 3 * length x
+rest_room [] h = omega arith
+rest_room (p ∷ []) h = omega arith
+rest_room (p ∷ q ∷ []) h = omega arith
+rest_room (p ∷ q ∷ r ∷ []) h = omega arith
+rest_room (p ∷ q ∷ r ∷ s ∷ rest) h = absurd (omega arith)
 
--- what waits stands for two bytes at most
-pub last_short : (s : DataUrlBase64) → is_good_state s ≡ true → length s.symbols ≡ 3 → length (decoded (waiting_text s)) ≤ 2
-last_short s h size =
+-- the last bytes take less room than the symbols that wait
+pub last_room : (s : DataUrlBase64) → is_good_state s ≡ true → length (take s.pending s.symbols) ≡ s.pending → 4 * length (decoded (waiting_text s)) ≤ 3 * s.pending
+last_room s h size =
     let parts = good_parts s h in
     let q : List ℕ = take s.pending s.symbols in
     let few = parts.few_pending in
-    let short : length (map symbol_value q) ≤ 3 = omega (arith, length-map q symbol_value, length-take-le s.pending s.symbols (omega arith)) in
-    let all = decoded_left q s.padding (every_list_all q parts.symbols) in
-    omega (arith, ap length all, ap length (groups_few (map symbol_value q) short), length-append (groups (map symbol_value q)) (rest_bytes (after_groups (map symbol_value q))), rest_short (after_groups (map symbol_value q)))
+    let long : length (map symbol_value q) ≡ s.pending = length-map q symbol_value ∙ size in
+    let after : after_groups (map symbol_value q) ≡ map symbol_value q = after_few (map symbol_value q) (omega arith) in
+    let all : decoded (waiting_text s) ≡ rest_bytes (map symbol_value q) =
+    decoded_left q s.padding (every_list_all q parts.symbols) ∙ ap (λ x. x ++ rest_bytes (after_groups (map symbol_value q))) (groups_few (map symbol_value q) (omega arith)) ∙ ap rest_bytes after in
+    omega (arith, ap length all, rest_room (map symbol_value q) (omega arith))
 
 bytes_of_valid : (v : Bool) (P Q : Type 0) → v ≡ true → MatchBool v P Q → P
 bytes_of_valid true P Q e h = h

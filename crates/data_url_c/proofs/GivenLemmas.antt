@@ -1,6 +1,7 @@
 -- What a call gives of its bytes, by what its steps give.
 use Rattle.std.proofs.Common.{◌≡◌, ℕ, Bool, true, false, List, ◌++◌, Option, None, Some, Result, Ok, Err, refl, sym, ap, ◌∙◌, subst, inl, inr}
-use Rattle.std.specs.Prelude.{IsUtf8, MatchBool, MatchOption, chars, option_map}
+use Rattle.std.specs.Global.{Global}
+use Rattle.std.specs.Prelude.{IsUtf8, Vec, MatchBool, MatchOption, chars, option_map}
 use Rattle.data_url.specs.Base64.{Kind, complete_bytes, is_valid, kind_of}
 use Rattle.data_url.specs.DataUrl.{IsAcceptable, IsUrlOf, mime_of, url_body, url_tail}
 use Rattle.data_url.specs.Decoder.{IsAll}
@@ -22,14 +23,14 @@ use Rattle.data_url.proofs.UrlLemmas.{fragment_dropped}
 use Rattle.data_url.proofs.WholeLemmas.{run_reads}
 use Rattle.data_url_c.specs.Answers.{Answers, Given}
 use Rattle.data_url_c.specs.Gives.{GivesBody, GivesFragment, GivesMime, GivesType, IsUrlWith, RefusesUrl}
-use Rattle.data_url_c.specs.Steps.{CrossesOrNot, HasBody, HasFragment, HasText, IsFault}
+use Rattle.data_url_c.specs.Steps.{CrossesOrNot, HasBody, HasFragment, HasText}
 use Rattle.data_url_c.specs.declared.answer.DataUrlAnswer.{DataUrlAnswer}
 use Rattle.data_url_c.specs.declared.refusal.Refusal.{Refusal}
 use Rattle.data_url_c.specs.declared.refusal.Refusal.TheVariants.{InvalidBase64, NoComma, NoFragment, NotADataUrl, NotAMimeType, NotUtf8, OutOfMemory}
 
 -- URLs
 
-accepted : (x : List ℕ) {type_text : List ℕ} {body : Outcome} {fragment : Option (List ℕ)} → staged x ≡ Accepted type_text body fragment → IsAcceptable (staged x)
+pub accepted : (x : List ℕ) {type_text : List ℕ} {body : Outcome} {fragment : Option (List ℕ)} → staged x ≡ Accepted type_text body fragment → IsAcceptable (staged x)
 accepted x e = subst IsAcceptable (sym e) tt
 
 encoded_is : (found : Option (List ℕ)) → option_map (percent_encoding in_fragment_set) (option_map without_tabs_and_newlines found) ≡ option_map encoded_fragment found
@@ -143,53 +144,20 @@ decodes_valid {x = x} {r = r} h q = valid_all (refusal h.run) (is_valid x) x _ (
 
 -- Answers
 
--- where the kind of a fault was not read, the answer is that of memory that was refused
+-- where the kind of a fault was not read, the answer is that of failed allocation
 pub answers : (Gives : Given → Type 0) (given : Given) {old new : List ℕ} {r : DataUrlAnswer} → Gives given
-    → (IsFault given → Gives (Err OutOfMemory)) → CrossesOrNot given old new r → Answers Gives old new r
+    → ((kind : Kind) (before : Vec ℕ Global) → Gives (Err (InvalidBase64 kind before)) → Gives (Err OutOfMemory))
+    → CrossesOrNot given old new r → Answers Gives old new r
 answers Gives given g or (inl c) = record { given = given; is_given = g; crosses = c }
-answers Gives given g or (inr c) = record { given = Err OutOfMemory; is_given = or c.0; crosses = c.1 }
+answers Gives given g or (inr c) =
+    let f = c.0 in record { given = Err OutOfMemory; is_given = or f.0 f.1 (subst Gives f.2 g); crosses = c.1 }
 
 -- a call that may give a fault of base64 may also find no memory
 
-pub body_or_memory : (x : List ℕ) (given : Given) → GivesBody x given → IsFault given → GivesBody x (Err OutOfMemory)
-body_or_memory x (Err (InvalidBase64 kind before)) g f = (g.1.is_text, accepted x g.1.staged_is)
-body_or_memory x (Ok bytes) g f = absurd f
-body_or_memory x (Err NotADataUrl) g f = absurd f
-body_or_memory x (Err NoComma) g f = absurd f
-body_or_memory x (Err OutOfMemory) g f = absurd f
-body_or_memory x (Err NotUtf8) g f = absurd f
-body_or_memory x (Err NotAMimeType) g f = absurd f
-body_or_memory x (Err NoFragment) g f = absurd f
+pub body_or_memory : {x : List ℕ} (kind : Kind) (before : Vec ℕ Global) → GivesBody x (Err (InvalidBase64 kind before))
+    → GivesBody x (Err OutOfMemory)
+body_or_memory {x} kind before g = (g.1.is_text, accepted x g.1.staged_is)
 
-pub fragment_or_memory : (x : List ℕ) (given : Given) → GivesFragment x given → IsFault given
-    → GivesFragment x (Err OutOfMemory)
-fragment_or_memory x (Err (InvalidBase64 kind before)) g f = (g.2.is_text, accepted x g.2.staged_is)
-fragment_or_memory x (Ok text) g f = absurd f
-fragment_or_memory x (Err NotADataUrl) g f = absurd f
-fragment_or_memory x (Err NoComma) g f = absurd f
-fragment_or_memory x (Err OutOfMemory) g f = absurd f
-fragment_or_memory x (Err NotUtf8) g f = absurd f
-fragment_or_memory x (Err NotAMimeType) g f = absurd f
-fragment_or_memory x (Err NoFragment) g f = absurd f
-
--- printed texts have no fault of base64
-
-pub mime_has_no_fault : (x : List ℕ) (given : Given) → GivesMime x given → IsFault given → GivesMime x (Err OutOfMemory)
-mime_has_no_fault x (Err (InvalidBase64 kind before)) g f = absurd g
-mime_has_no_fault x (Ok text) g f = absurd f
-mime_has_no_fault x (Err NotADataUrl) g f = absurd f
-mime_has_no_fault x (Err NoComma) g f = absurd f
-mime_has_no_fault x (Err OutOfMemory) g f = absurd f
-mime_has_no_fault x (Err NotUtf8) g f = absurd f
-mime_has_no_fault x (Err NotAMimeType) g f = absurd f
-mime_has_no_fault x (Err NoFragment) g f = absurd f
-
-pub type_has_no_fault : (x : List ℕ) (given : Given) → GivesType x given → IsFault given → GivesType x (Err OutOfMemory)
-type_has_no_fault x (Err (InvalidBase64 kind before)) g f = absurd g
-type_has_no_fault x (Ok text) g f = absurd f
-type_has_no_fault x (Err NotADataUrl) g f = absurd f
-type_has_no_fault x (Err NoComma) g f = absurd f
-type_has_no_fault x (Err OutOfMemory) g f = absurd f
-type_has_no_fault x (Err NotUtf8) g f = absurd f
-type_has_no_fault x (Err NotAMimeType) g f = absurd f
-type_has_no_fault x (Err NoFragment) g f = absurd f
+pub fragment_or_memory : {x : List ℕ} (kind : Kind) (before : Vec ℕ Global)
+    → GivesFragment x (Err (InvalidBase64 kind before)) → GivesFragment x (Err OutOfMemory)
+fragment_or_memory {x} kind before g = (g.2.is_text, accepted x g.2.staged_is)

@@ -11,7 +11,7 @@ use Rattle.std.proofs.lemmas.List.Sums.{suffix_len-le-length}
 use Rattle.std.proofs.lemmas.Slice.Eq.{starts_is}
 use Rattle.data_url.specs.Base64.{after_groups, decoded, groups, is_valid, values, without_last_padding, without_padding, without_whitespace}
 use Rattle.data_url.specs.DataUrl.{IsAcceptable, is_base64, mime_of, url_body, url_tail}
-use Rattle.data_url.specs.Fetch.{Accepted, Outcome, has_base64_suffix, header_of, mime_text, outcome, plain_body, staged, tail_of}
+use Rattle.data_url.specs.Fetch.{Accepted, has_base64_suffix, header_of, mime_text, outcome, plain_body, staged, tail_of}
 use Rattle.data_url.specs.Mime.{HasNoRecord, IsRecordOf, default_record, printed}
 use Rattle.data_url.specs.MimeType.{record_of}
 use Rattle.data_url.specs.Percent.{percent_decoding}
@@ -25,12 +25,14 @@ use Rattle.data_url.proofs.UrlLemmas.{before_at, behind_none}
 use Rattle.data_url_c.specs.Answers.{Crosses, Shows}
 use Rattle.data_url_c.specs.Gives.{RefusesUrl}
 use Rattle.data_url_c.specs.Opens.{Opens, answer_of}
-use Rattle.data_url_c.specs.Steps.{CrossesOrNot, HasLength, IsFault, IsRead, ReadsProbe}
+use Rattle.data_url_c.specs.Steps.{CrossesOrNot, HasLength, IsRead, ReadsProbe}
 use Rattle.data_url_c.specs.Steps.Opening.{IsReadUrl, IsRefused, ReadsUrl, tail_after}
 use Rattle.data_url_c.specs.declared.answer.DataUrlAnswer.{DataUrlAnswer}
 use Rattle.data_url_c.specs.declared.open.DataUrlOpened.{DataUrlOpened}
 use Rattle.data_url_c.specs.declared.refusal.Refusal.TheVariants.{InvalidBase64, NoComma, NoFragment, NotADataUrl, NotAMimeType, NotUtf8, OutOfMemory}
 use Rattle.data_url_c.specs.declared.refusal.Refusal.{Refusal}
+use Rattle.std.proofs.lemmas.Option.{same_Some}
+use Rattle.data_url_c.proofs.GivenLemmas.{accepted}
 use Rattle.data_url_c.proofs.PrintLemmas.{ascii_encoded, vec_of}
 use Rattle.data_url_c.proofs.ProbeLemmas.{ends, no_comma_in_scheme, same_acceptable, same_header, same_no_comma, same_no_scheme, tail_of_cut, trimmed_around, trimmed_front, trimmed_tail}
 
@@ -123,13 +125,7 @@ body_of_probe : plain_body qq ≡ qq
 unfolding plain_body front before without_tabs_and_newlines percent_decoding
 body_of_probe = refl
 
-some_same : (x y : List ℕ) → ◌≡◌ {A = Option (List ℕ)} (Some x) (Some y) → x ≡ y
-some_same x y e = cc
-
 -- What a probe gives is what the URL gives
-
-acceptable_by : (x : List ℕ) {header : List ℕ} {body : Outcome} {fragment : Option (List ℕ)} → staged x ≡ Accepted header body fragment → IsAcceptable (staged x)
-acceptable_by x e = subst IsAcceptable (sym e) tt
 
 read_by : (a t : List ℕ) {old new : List ℕ} {r : DataUrlAnswer} {flag : Bool} → behind 44 a ≡ None → IsBytes a
     → IsBytes (trimmed_text (a ++ 44 ∷ t)) → IsRead (a ++ 44 ∷ qq) old new r flag
@@ -137,14 +133,14 @@ read_by : (a t : List ℕ) {old new : List ℕ} {r : DataUrlAnswer} {flag : Bool
 read_by a t {flag = flag} n b d h =
     let probe = bytes_probe a b in
     let u = h.url_is in
-    let accepted = acceptable_by (a ++ 44 ∷ qq) u.staged_is in
-    let own = same_header a qq qq u.header (ends a n) probe probe u.header_is accepted in
-    let with = same_header a qq t u.header (ends a n) probe d u.header_is accepted in
-    let tail : url_tail h.url ≡ qq = some_same (url_tail h.url) qq (sym u.tail_is ∙ own.tail_is ∙ ap Some tail_of_probe) in
+    let is = accepted (a ++ 44 ∷ qq) u.staged_is in
+    let own = same_header a qq qq u.header (ends a n) probe probe u.header_is is in
+    let with = same_header a qq t u.header (ends a n) probe d u.header_is is in
+    let tail : url_tail h.url ≡ qq = same_Some (url_tail h.url) qq (sym u.tail_is ∙ own.tail_is ∙ ap Some tail_of_probe) in
     let body : url_body h.url ≡ outcome (is_base64 h.url) qq =
     ap (outcome (is_base64 h.url)) (ap plain_body tail ∙ body_of_probe) in
     let length = subst (λ o. HasLength o h.len) body h.len_is in
-    let is : flag ≡ has_base64_suffix u.header =
+    let same : flag ≡ has_base64_suffix u.header =
     h.flag_is ∙ flag_of_length (is_base64 h.url) h.len length ∙ u.base64_is in
     record {
       header = u.header;
@@ -155,10 +151,10 @@ read_by a t {flag = flag} n b d h =
       text = h.text;
       text_is = h.text_is;
       shown = h.shown;
-      flag_is = is;
+      flag_is = same;
       tail_is = with.tail_is;
       staged_is = with.staged_is
-          ∙ ap (λ v. Accepted (mime_text u.header) (outcome v (plain_body (trimmed_tail t))) with.fragment_is) (sym is);
+          ∙ ap (λ v. Accepted (mime_text u.header) (outcome v (plain_body (trimmed_tail t))) with.fragment_is) (sym same);
     }
 
 refused_by : (a t : List ℕ) (refusal : Refusal) → behind 44 a ≡ None → IsBytes a → IsBytes (trimmed_text (a ++ 44 ∷ t))
@@ -277,19 +273,13 @@ default_read x items comma found {old} {new} {r} memory b p same f g h =
 
 -- The answer
 
-not_fault : (x : List ℕ) (refusal : Refusal) → RefusesUrl x refusal → IsFault (Err refusal) → ⊥
-not_fault x (InvalidBase64 kind before) h f = h
-not_fault x NotADataUrl h f = f
-not_fault x NoComma h f = f
-not_fault x OutOfMemory h f = f
-not_fault x NotUtf8 h f = f
-not_fault x NotAMimeType h f = f
-not_fault x NoFragment h f = f
-
 crosses_refused : (x : List ℕ) (refusal : Refusal) {old new : List ℕ} {r : DataUrlAnswer} → RefusesUrl x refusal
     → CrossesOrNot (Err refusal) old new r → Crosses (Err refusal) old new r
 crosses_refused x refusal h (inl c) = c
-crosses_refused x refusal h (inr c) = absurd (not_fault x refusal h c.0)
+crosses_refused x refusal h (inr c) =
+    let f = c.0 in
+    let e : refusal ≡ InvalidBase64 f.0 f.1 = let k = f.2 in cc in
+    absurd (subst (RefusesUrl x) e h)
 
 pub opens_refused : (x : List ℕ) (refusal : Refusal) {old mid new : List ℕ} {r : DataUrlOpened} → RefusesUrl x refusal
     → mid ≡ old → IsRefused refusal mid new r → Opens x old new r

@@ -1,5 +1,5 @@
 -- Base64 in parts: what is fed, what is written, and what waits.
-use Rattle.std.proofs.Common.{◌≡◌, ℕ, ◌+◌, ◌≤◌, Bool, true, false, List, [], ◌∷◌, ◌++◌, length, take, drop, Option, None, Some, is_some, Result, Ok, Err, refl, sym, ap, ◌∙◌, subst, arith, append_assoc, drop-drop, length-append, length-drop, ◌-◌, take_all}
+use Rattle.std.proofs.Common.{◌≡◌, ℕ, ◌+◌, ◌≤◌, true, false, List, [], ◌∷◌, ◌++◌, length, take, drop, Option, None, Some, is_some, Result, Ok, Err, refl, sym, ap, ◌∙◌, subst, arith, append_assoc, drop-drop, length-append, length-drop, ◌-◌, take_all}
 use Rattle.std.specs.List.{list_all}
 use Rattle.std.specs.Prelude.{nat_le, ◌&&◌, replicate}
 use Rattle.std.proofs.lemmas.Bool.{and_parts, le-leb, leb-true}
@@ -39,18 +39,12 @@ good_parts s h =
     let b = and_parts (nat_le s.padding 3) (list_all is_symbol (take s.pending s.symbols)) a.1 in
     record { few_pending = leb-true s.pending 3 a.0; few_padding = leb-true s.padding 3 b.0; symbols = b.1 }
 
-both : (x y z : Bool) → x ≡ true → y ≡ true → z ≡ true → (x && (y && z)) ≡ true
-both true true true a b c = refl
-both true true false a b c = absurd (cc)
-both true false z a b c = absurd (cc)
-both false y z a b c = absurd (cc)
-
-pub good_from : (s : DataUrlBase64) → s.pending ≤ 3 → s.padding ≤ 3 → list_all is_symbol (take s.pending s.symbols) ≡ true → is_good_state s ≡ true
-good_from s a b c = both (nat_le s.pending 3) (nat_le s.padding 3) (list_all is_symbol (take s.pending s.symbols)) (le-leb s.pending 3 a) (le-leb s.padding 3 b) c
-
 -- with few of both, the symbols decide
 pub good_rest : (s : DataUrlBase64) → s.pending ≤ 3 → s.padding ≤ 3 → list_all is_symbol (take s.pending s.symbols) ≡ is_good_state s
 good_rest s a b = let p = le-leb s.pending 3 a in let q = le-leb s.padding 3 b in rw (p, q) refl
+
+pub good_from : (s : DataUrlBase64) → s.pending ≤ 3 → s.padding ≤ 3 → list_all is_symbol (take s.pending s.symbols) ≡ true → is_good_state s ≡ true
+good_from s a b c = sym (good_rest s a b) ∙ c
 
 -- six '=' with the symbols that wait put over the first of them begin with the text of what waits
 pub waiting_taken : (s : DataUrlBase64) (symbols : List ℕ) → is_good_state s ≡ true

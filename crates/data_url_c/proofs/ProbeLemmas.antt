@@ -9,6 +9,7 @@ use Rattle.std.proofs.lemmas.Bool.{cases_Bool, cases_lt, cond_both}
 use Rattle.std.proofs.lemmas.List.{drop-append-le, length-map, take-append-le, length-take}
 use Rattle.std.proofs.lemmas.List.Folds.{prefix_len-append}
 use Rattle.std.proofs.lemmas.List.Sums.{prefix_len-drop_no, prefix_len-le-length, suffix_len-le-length}
+use Rattle.std.proofs.lemmas.Option.{same_Some}
 use Rattle.std.proofs.lemmas.Slice.Eq.{bytes_eq-Decides}
 use Rattle.data_url.specs.DataUrl.{IsAcceptable}
 use Rattle.data_url.specs.Fetch.{Accepted, NoComma, NoScheme, has_base64_suffix, header_of, mime_text, outcome, plain_body, staged, tail_of}
@@ -287,13 +288,10 @@ same_acceptable a s t (all_no_scheme f) b d h = absurd (subst IsAcceptable (f s)
 same_acceptable a s t (all_no_comma f) b d h = absurd (subst IsAcceptable (f s b) h)
 same_acceptable a s t (all_accepted header f) b d h = subst IsAcceptable (sym (f t d).staged_is) tt
 
-some_same : (x y : List ℕ) → ◌≡◌ {A = Option (List ℕ)} (Some x) (Some y) → x ≡ y
-some_same x y e = cc
-
 pub same_header : (a s t header : List ℕ) → Ends a → IsBytes (trimmed_text (a ++ 44 ∷ s))
     → IsBytes (trimmed_text (a ++ 44 ∷ t)) → header_of (a ++ 44 ∷ s) ≡ Some header → IsAcceptable (staged (a ++ 44 ∷ s))
     → IsAcceptedWith (a ++ 44 ∷ t) header (trimmed_tail t)
 same_header a s t header (all_no_scheme f) b d h k = absurd (subst IsAcceptable (f s) k)
 same_header a s t header (all_no_comma f) b d h k = absurd (subst IsAcceptable (f s b) k)
 same_header a s t header (all_accepted other f) b d h k =
-    subst (λ x. IsAcceptedWith (a ++ 44 ∷ t) x (trimmed_tail t)) (some_same other header (sym (f s b).header_is ∙ h)) (f t d)
+    subst (λ x. IsAcceptedWith (a ++ 44 ∷ t) x (trimmed_tail t)) (same_Some other header (sym (f s b).header_is ∙ h)) (f t d)

@@ -1,5 +1,5 @@
 -- Whole bodies, decoded into an output.
-use Rattle.std.proofs.Common.{◌≡◌, ℕ, ◌<◌, ◌≤◌, ◌^◌, Bool, true, false, List, [], ◌++◌, length, drop, Option, Some, Result, Ok, Err, refl, sym, ap, ◌∙◌, subst, arith}
+use Rattle.std.proofs.Common.{◌≡◌, ℕ, ◌<◌, ◌≤◌, ◌^◌, Bool, true, false, List, [], ◌++◌, length, drop, Result, Ok, Err, refl, sym, ap, ◌∙◌, subst, arith}
 use Rattle.std.specs.Global.{Global}
 use Rattle.std.specs.Prelude.{IsUtf8}
 use Rattle.std.proofs.lemmas.List.{length-take-le, take-append-drop}
@@ -68,9 +68,6 @@ bad_of : {E : Type 0} (body : Outcome) (r : Result (Unit {0}) (DecodeError E)) (
 bad_of (Good bytes) (Ok x) kind e h = absurd (cc)
 bad_of (Good bytes) (Err x) kind e h = absurd h
 bad_of (Bad bytes other) r kind e h = let same : other ≡ kind = cc in (bytes, ap (λ k. Bad bytes k) same)
-
-pub some_same : (x y : List ℕ) → ◌≡◌ {A = Option (List ℕ)} (Some x) (Some y) → x ≡ y
-some_same x y e = cc
 
 body_fits : (url : DataUrl) {tail : List ℕ} (out : List ℕ) → url_tail url ≡ tail → length tail ≤ length out
     → length (outcome_bytes (url_body url)) ≤ length out

@@ -13,7 +13,7 @@ use Rattle.data_url_c.specs.Answers.{Crosses, Given, Shows, status_of_kind}
 use Rattle.data_url_c.specs.Gives.{GivesMime, RefusesUrl}
 use Rattle.data_url_c.specs.declared.answer.DataUrlAnswer.{DataUrlAnswer}
 use Rattle.data_url_c.specs.declared.refusal.Refusal.TheVariants.{InvalidBase64, NoComma, NoFragment, NotADataUrl, OutOfMemory}
-use Rattle.data_url.specs.Base64.{complete_bytes, decoded, first_fault, is_valid, kind_of}
+use Rattle.data_url.specs.Base64.{Kind, complete_bytes, decoded, first_fault, is_valid, kind_of}
 use Rattle.data_url.specs.Run.{Call, IsRun, joined_pieces}
 use Rattle.data_url.specs.declared.forgiving_base64.DecodeError.{DecodeError}
 use Rattle.data_url.specs.declared.forgiving_base64.DecodeError.TheVariants as decode
@@ -63,8 +63,7 @@ HasFragment url (Err refusal) = ⊥
 
 -- the call gives a fault of base64
 abbrev pub IsFault : Given → Type 0
-IsFault (Err (InvalidBase64 kind before)) = Unit {0}
-IsFault given = ⊥
+IsFault given = (kind : Kind) × (before : Vec ℕ Global) × (given ≡ Err (InvalidBase64 kind before))
 
 -- the answer to what a call gives; to a fault of base64 it may be that memory was refused
 abbrev pub CrossesOrNot : Given → List ℕ → List ℕ → DataUrlAnswer → Type 0

@@ -1,17 +1,18 @@
 use Rattle.std.proofs.Common.{Err, arith, length, rules, sym, ◌≡◌, ◌∙◌}
+use Rattle.std.proofs.lemmas.Option.{same_Some}
 use Rattle.data_url.specs.DataUrl.{url_tail}
 use Rattle.data_url_c.specs.Gives.{GivesBody}
 use Rattle.data_url_c.proofs.GivenLemmas.{answers, body_or_memory, body_refused, gives_body}
-use Rattle.data_url_c.proofs.WholeLemmas.{answers_into, some_same}
+use Rattle.data_url_c.proofs.WholeLemmas.{answers_into}
 use Rattle.data_url_c.proofs.whole.body.Goals as goal
 
 pub returns-in-Err : goal.returns-in-Err
 returns-in-Err c =
     let g = body_refused c.args.text.now c.in-Err.refusal c.in-Err.ensures in
-    answers (GivesBody c.args.text.now) (Err c.in-Err.refusal) g (body_or_memory c.args.text.now (Err c.in-Err.refusal) g) c.answer.ensures
+    answers (GivesBody c.args.text.now) (Err c.in-Err.refusal) g body_or_memory c.answer.ensures
 
 pub decode_into-status-requires-clause-tail : goal.decode_into-status-requires-clause-tail
-decode_into-status-requires-clause-tail c = some_same (url_tail c.in-Ok.url) c.in-Some.tail.now (sym c.in-Ok.ensures.1.tail_is ∙ c.in-Some.ensures)
+decode_into-status-requires-clause-tail c = same_Some (url_tail c.in-Ok.url) c.in-Some.tail.now (sym c.in-Ok.ensures.1.tail_is ∙ c.in-Some.ensures)
 
 pub returns-in-Some : goal.returns-in-Some
 returns-in-Some c =
@@ -21,4 +22,4 @@ returns-in-Some c =
 pub returns : goal.returns
 returns c =
     let g = gives_body c.in-Ok.ensures.0 c.in-Ok.ensures.1 c.bytes_of.result c.bytes_of.ensures in
-    answers (GivesBody c.args.text.now) c.bytes_of.result g (body_or_memory c.args.text.now c.bytes_of.result g) c.answer-in_default.ensures
+    answers (GivesBody c.args.text.now) c.bytes_of.result g body_or_memory c.answer-in_default.ensures
