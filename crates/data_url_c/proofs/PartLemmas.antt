@@ -9,7 +9,7 @@ use Rattle.std.proofs.lemmas.Slice.{drop-append-drop}
 use Rattle.std.proofs.Math.Seq.{drop-append-add, drop-append_seam, take-append-add, take-append_seam}
 use Rattle.std.specs.Prelude.{MatchOption}
 use Rattle.std.specs.declared.convert.Infallible.{Infallible}
-use Rattle.data_url.specs.Base64.{AlphabetSymbolAfterPadding, Kind, LoneAlphabetSymbol, Padding, UnexpectedSymbol, complete_bytes, first_fault, is_symbol, kind_of, left_padding, left_symbols, left_text}
+use Rattle.data_url.specs.Base64.{AlphabetSymbolAfterPadding, Kind, LoneAlphabetSymbol, Padding, UnexpectedSymbol, first_fault, is_symbol, kind_of, left_padding, left_symbols, left_text}
 use Rattle.data_url.specs.Decoder.{Feeds, IsTaken, State, left_over, start}
 use Rattle.data_url.specs.Run.{Call, IsRun, joined_pieces, refusal}
 use Rattle.data_url.specs.declared.forgiving_base64.DecodeError.TheVariants.{InvalidBase64}
@@ -22,7 +22,7 @@ use Rattle.data_url_c.specs.Answers.{status_of_kind}
 use Rattle.data_url.specs.declared.forgiving_base64.DecodeError.{DecodeError}
 use Rattle.data_url.proofs.DecoderLemmas.{feeds_err, feeds_then}
 use Rattle.data_url_c.specs.Parts.{IsLeftOf, TakesText, WritesFront, is_good_state, waiting_text}
-use Rattle.data_url_c.specs.Steps.{HandsGroups, Writes}
+use Rattle.data_url_c.specs.Steps.{GetsBytes, GetsGroups, Writes}
 use Rattle.data_url_c.specs.declared.parts.DataUrlBase64.{DataUrlBase64}
 
 -- Good states
@@ -140,32 +140,46 @@ module _ {F G E : Type 0} (inner : G → List ℕ → Result (Unit {0}) E → G 
   outer_joined [] = refl
   outer_joined (c ∷ cs) = ap (λ x. c.piece ++ x) (outer_joined cs)
 
-  -- a decoder over a closure that hands its pieces on
-  pub hands_on : {f : G} {d d' : State G} {u : List ℕ} {r : Result (Unit {0}) (DecodeError E)} {w w' : F} → d ≡ start f → (h : Feeds inner d u r d') → IsTaken u (joined_pieces h.run) r d' → K f ≡ w → w' ≡ K d'.closure → HandsGroups outer w u r w'
-  hands_on {f} {d} {d'} {u} {r} {w} {w'} e h taken a b =
-      let R : G → Type 0 = λ x. IsRun inner x h.run d'.closure in
-      let ran : IsRun inner f h.run d'.closure = subst R (ap (λ s. s.closure) e) h.ran in
-      let P : F → Type 0 = λ x. IsRun outer x (outer_calls h.run) (K d'.closure) in
-      let Q : F → Type 0 = λ x. IsRun outer w (outer_calls h.run) x in
+  -- a closure that calls another one with its pieces
+  pub passes_on : {f g : G} {w w' : F} {bytes : List ℕ} {Ended : Type 0} (run : List (Call G E)) → IsRun inner f run g
+      → joined_pieces run ≡ bytes → Ended → K f ≡ w → w' ≡ K g → GetsBytes outer w bytes Ended w'
+  passes_on {f} {g} {w} {w'} run ran all ended a b =
+      let P : F → Type 0 = λ x. IsRun outer x (outer_calls run) (K g) in
+      let Q : F → Type 0 = λ x. IsRun outer w (outer_calls run) x in
       record {
-        run = outer_calls h.run;
-        ran = subst Q (sym b) (subst P a (outer_ran h.run f d'.closure ran));
-        bytes_are = outer_joined h.run ∙ taken.bytes_are;
-        answer = match_map (first_fault u) _ _ _ _ (λ k. k.0) (λ place k. k) taken.answer;
+        run = outer_calls run;
+        ran = subst Q (sym b) (subst P a (outer_ran run f g ran));
+        bytes_are = outer_joined run ∙ all;
+        ended = ended;
       }
 
-module _ {F E : Type 0} {step : F → List ℕ → Result (Unit {0}) E → F → Type 0} {f g : F} {u : List ℕ} {r : Result (Unit {0}) (DecodeError E)} where
+  -- a decoder over such a closure
+  pub passes_groups : {f : G} {d d' : State G} {u : List ℕ} {r : Result (Unit {0}) (DecodeError E)} {w w' : F} → d ≡ start f
+      → (h : Feeds inner d u r d') → IsTaken u (joined_pieces h.run) r d' → K f ≡ w → w' ≡ K d'.closure → GetsGroups outer w u r w'
+  passes_groups {f} {d} {d'} {u} e h taken a b =
+      let R : G → Type 0 = λ x. IsRun inner x h.run d'.closure in
+      passes_on h.run (subst R (ap (λ s. s.closure) e) h.ran) taken.bytes_are
+      (match_map (first_fault u) _ _ _ _ (λ k. k.0) (λ place k. k) taken.answer) a b
+
+module _ {F E : Type 0} {step : F → List ℕ → Result (Unit {0}) E → F → Type 0} {f g : F} {all : List ℕ} {Ended : Type 0} where
   -- what was written to an output, from its front on
-  pub groups_written : {out out' : List ℕ} {len' : ℕ} (bytes : F → List ℕ) (len : F → ℕ) → HandsGroups step f u r g → ((p : F) (piece : List ℕ) (s : Result (Unit {0}) E) (q : F) → step p piece s q → Writes piece (bytes p) (len p) (bytes q) (len q)) → bytes f ≡ out → len f ≡ 0 → length (complete_bytes u) ≤ length out → out' ≡ bytes g → len' ≡ len g → WritesFront (complete_bytes u) out out' len'
-  groups_written {out} {out'} {len'} bytes len h writes b l room eb el =
-      let first : Reaches out [] (bytes f) (len f) = λ fits. (l, b) in
+  pub gets_reaches : {out' : List ℕ} {len' : ℕ} (out : List ℕ) (bytes : F → List ℕ) (len : F → ℕ) → GetsBytes step f all Ended g
+      → ((p : F) (piece : List ℕ) (s : Result (Unit {0}) E) (q : F) → step p piece s q → Writes piece (bytes p) (len p) (bytes q) (len q))
+      → bytes f ≡ out → len f ≡ 0 → out' ≡ bytes g → len' ≡ len g → Reaches out all out' len'
+  gets_reaches out bytes len h writes b l o e fits =
+      let first : Reaches out [] (bytes f) (len f) = λ k. (l, b) in
       let last = run_reaches step bytes len writes out h.run [] f g h.ran first in
-      let k = last (omega (arith, ap length h.bytes_are)) in
-      writes_front h.bytes_are (el ∙ k.0) (eb ∙ k.1) (omega (arith, ap length h.bytes_are))
+      let k = last (omega (arith, fits, ap length h.bytes_are)) in
+      (e ∙ k.0 ∙ ap length h.bytes_are, o ∙ k.1 ∙ ap (λ x. x ++ drop (length x) out) h.bytes_are)
 
   -- what each call keeps, all of them keep
-  pub groups_keep : {A : Type 0} → HandsGroups step f u r g → (K : F → A) → ((p : F) (piece : List ℕ) (s : Result (Unit {0}) E) (q : F) → step p piece s q → K p ≡ K q) → K f ≡ K g
-  groups_keep h K keeps = run_keeps step K keeps h.run f g h.ran
+  pub gets_keep : {A : Type 0} → GetsBytes step f all Ended g → (K : F → A)
+      → ((p : F) (piece : List ℕ) (s : Result (Unit {0}) E) (q : F) → step p piece s q → K p ≡ K q) → K f ≡ K g
+  gets_keep h K keeps = run_keeps step K keeps h.run f g h.ran
+
+-- bytes that fit an output and are at its front were written there
+pub reaches_front : {bytes out out' : List ℕ} {len : ℕ} → Reaches out bytes out' len → length bytes ≤ length out → WritesFront bytes out out' len
+reaches_front h fits = let k = h fits in writes_front refl k.0 k.1 fits
 
 -- the status of what was decoded
 pub groups_status : {E : Type 0} (u : List ℕ) {r : Result (Unit {0}) (DecodeError E)} (status : ℕ) → MatchOption (first_fault u) (r ≡ Ok tt) (λ place. r ≡ Err (InvalidBase64 (kind_of u))) → (r ≡ Ok tt → status ≡ 0) → (r ≡ Err (InvalidBase64 (kind_of u)) → status ≡ status_of_kind (kind_of u)) → MatchOption (first_fault u) (status ≡ 0) (λ place. status ≡ status_of_kind (kind_of u))

@@ -1,5 +1,5 @@
 -- Whole bodies, decoded into an output.
-use Rattle.std.proofs.Common.{◌≡◌, ℕ, ◌<◌, ◌≤◌, ◌^◌, Bool, true, false, List, [], ◌++◌, length, drop, Result, Ok, Err, refl, sym, ap, ◌∙◌, subst, arith}
+use Rattle.std.proofs.Common.{◌≡◌, ℕ, ◌<◌, ◌≤◌, ◌^◌, Bool, true, false, List, ◌++◌, length, drop, Result, Ok, Err, refl, sym, ap, ◌∙◌, subst, arith}
 use Rattle.std.specs.Global.{Global}
 use Rattle.std.specs.Prelude.{IsUtf8}
 use Rattle.std.proofs.lemmas.List.{length-take-le, take-append-drop}
@@ -7,56 +7,32 @@ use Rattle.std.proofs.Math.Seq.{drop-append_seam}
 use Rattle.data_url.specs.Base64.{Kind}
 use Rattle.data_url.specs.DataUrl.{Answers as BodyAnswers, Decodes, IsUrlOf, is_base64, url_body, url_tail}
 use Rattle.data_url.specs.Fetch.{Bad, Good, Outcome, outcome, outcome_bytes, plain_body}
-use Rattle.data_url.specs.Run.{IsRun, refusal}
+use Rattle.data_url.specs.Run.{refusal}
 use Rattle.std.specs.declared.convert.Infallible.{Infallible}
 use Rattle.data_url.specs.declared.DataUrl.{DataUrl}
 use Rattle.data_url.specs.declared.forgiving_base64.DecodeError.{DecodeError}
 use Rattle.data_url.specs.declared.forgiving_base64.DecodeError.TheVariants.{InvalidBase64 as Invalid}
 use Rattle.data_url.proofs.RunLemmas.{match_at_none}
-use Rattle.data_url.proofs.WholeLemmas.{run_keeps}
 use Rattle.data_url.proofs.RunMeasures.{body_within_tail}
 use Rattle.data_url_c.specs.Answers.{Answers, Shows, status_of_kind}
 use Rattle.data_url_c.specs.Bodies.{EndsAs}
 use Rattle.data_url_c.specs.Gives.{GivesBody}
 use Rattle.data_url_c.specs.Parts.{WritesFront}
-use Rattle.data_url_c.specs.Steps.{AnyAnswer, HandsBody, Writes}
+use Rattle.data_url_c.specs.Steps.{AnyAnswer, GetsBody}
 use Rattle.data_url_c.specs.declared.refusal.Refusal.TheVariants.{InvalidBase64}
 use Rattle.data_url_c.proofs.GivenLemmas.{url_with}
-use Rattle.data_url_c.proofs.PartLemmas.{Reaches, no_refusal, outer_calls, outer_joined, outer_ran, run_reaches, writes_front}
+use Rattle.data_url_c.proofs.PartLemmas.{Reaches, no_refusal, passes_on, writes_front}
 use Rattle.data_url_c.proofs.PrintLemmas.{vec_of}
 
 -- What the calls of a closure wrote
 
 module _ {F G : Type 0} (inner : G → List ℕ → Result (Unit {0}) Infallible → G → Type 0) (outer : F → List ℕ → Result (Unit {0}) Infallible → F → Type 0) (K : G → F) (maps : (g : G) (piece : List ℕ) (r : Result (Unit {0}) Infallible) (g' : G) → inner g piece r g' → outer (K g) piece r (K g')) where
-  -- a closure that hands its pieces on
-  pub hands_body : {f g : G} {w w' : F} {most : ℕ} {body : Outcome} {r : Result (Unit {0}) (DecodeError Infallible)}
-      → Decodes inner f most body AnyAnswer r g → K f ≡ w → w' ≡ K g → HandsBody outer w body r w'
-  hands_body {f} {g} {w} {w'} h a b =
-      let P : F → Type 0 = λ x. IsRun outer x (outer_calls inner outer K maps h.run) (K g) in
-      let Q : F → Type 0 = λ x. IsRun outer w (outer_calls inner outer K maps h.run) x in
+  -- a closure that calls another one with its pieces
+  pub passes_body : {f g : G} {w w' : F} {most : ℕ} {body : Outcome} {r : Result (Unit {0}) (DecodeError Infallible)}
+      → Decodes inner f most body AnyAnswer r g → K f ≡ w → w' ≡ K g → GetsBody outer w body r w'
+  passes_body h a b =
       let gave = match_at_none (refusal h.run) _ _ (no_refusal (refusal h.run)) h.gave in
-      record {
-        run = outer_calls inner outer K maps h.run;
-        ran = subst Q (sym b) (subst P a (outer_ran inner outer K maps h.run f g h.ran));
-        bytes_are = outer_joined inner outer K maps h.run ∙ gave.bytes_are;
-        answer = gave.answer;
-      }
-
-pub body_reaches : {F E : Type 0} {step : F → List ℕ → Result (Unit {0}) E → F → Type 0} {f g : F} {body : Outcome} {r : Result (Unit {0}) (DecodeError E)} {out' : List ℕ} {len' : ℕ}
-    (out : List ℕ) (bytes : F → List ℕ) (len : F → ℕ) → HandsBody step f body r g
-    → ((p : F) (piece : List ℕ) (s : Result (Unit {0}) E) (q : F) → step p piece s q → Writes piece (bytes p) (len p) (bytes q) (len q))
-    → bytes f ≡ out → len f ≡ 0 → out' ≡ bytes g → len' ≡ len g → Reaches out (outcome_bytes body) out' len'
-body_reaches {step = step} {f = f} {g = g} {body = body} {out' = out'} {len' = len'} out bytes len h writes b l o e fits =
-    let first : Reaches out [] (bytes f) (len f) = λ k. (l, b) in
-    let last = run_reaches step bytes len writes out h.run [] f g h.ran first in
-    let k = last (omega (arith, fits, ap length h.bytes_are)) in
-    (e ∙ k.0 ∙ ap length h.bytes_are, o ∙ k.1 ∙ ap (λ x. x ++ drop (length x) out) h.bytes_are)
-
--- what each call keeps, all of them keep
-pub hands_keep : {F E A : Type 0} {step : F → List ℕ → Result (Unit {0}) E → F → Type 0} {f g : F} {body : Outcome} {r : Result (Unit {0}) (DecodeError E)}
-    → HandsBody step f body r g → (K : F → A) → ((p : F) (piece : List ℕ) (s : Result (Unit {0}) E) (q : F) → step p piece s q → K p ≡ K q)
-    → K f ≡ K g
-hands_keep {step = step} {f = f} {g = g} h K keeps = run_keeps step K keeps h.run f g h.ran
+      passes_on inner outer K maps h.run h.ran gave.bytes_are gave.answer a b
 
 good_of : {E : Type 0} (body : Outcome) (r : Result (Unit {0}) (DecodeError E)) → r ≡ Ok tt → BodyAnswers body AnyAnswer r
     → (bytes : List ℕ) × (body ≡ Good bytes)

@@ -96,25 +96,27 @@ pub record Writes (piece old : List ℕ) (len : ℕ) (new : List ℕ) (len' : �
   pub fits : len + length piece ≤ length old
       → (len' ≡ len + length piece) × (new ≡ take len old ++ (piece ++ drop len' old))
 
--- of the text u the groups before its first fault were handed to the closure f, which is g now, and
--- r tells the fault
-pub record HandsGroups {F E : Type 0} (step : F → List ℕ → Result (Unit {0}) E → F → Type 0) (f : F)
-    (u : List ℕ) (r : Result (Unit {0}) (DecodeError E)) (g : F) : Type 0 where
+-- the closure f, which is g now, was called with these bytes, piece by piece, and so it ended
+pub record GetsBytes {F E : Type 0} (step : F → List ℕ → Result (Unit {0}) E → F → Type 0) (f : F)
+    (bytes : List ℕ) (Ended : Type 0) (g : F) : Type 0 where
   pub run : List (Call F E)
   pub ran : IsRun step f run g
-  pub bytes_are : joined_pieces run ≡ complete_bytes u
-  pub answer : MatchOption (first_fault u) (r ≡ Ok tt)
-      (λ place. r ≡ Err (decode.InvalidBase64 (kind_of u)))
+  pub bytes_are : joined_pieces run ≡ bytes
+  pub ended : Ended
 
--- the bytes of a body were handed to the closure f, which is g now, and r tells its fault
-pub record HandsBody {F E : Type 0} (step : F → List ℕ → Result (Unit {0}) E → F → Type 0) (f : F)
-    (body : Outcome) (r : Result (Unit {0}) (DecodeError E)) (g : F) : Type 0 where
-  pub run : List (Call F E)
-  pub ran : IsRun step f run g
-  pub bytes_are : joined_pieces run ≡ outcome_bytes body
-  pub answer : Answers body AnyAnswer r
+-- the closure got the groups of the text u before its first fault, and r is the fault
+abbrev pub GetsGroups : {F E : Type 0} → (F → List ℕ → Result (Unit {0}) E → F → Type 0) → F → List ℕ
+    → Result (Unit {0}) (DecodeError E) → F → Type 0
+GetsGroups step f u r g =
+    GetsBytes step f (complete_bytes u)
+    (MatchOption (first_fault u) (r ≡ Ok tt) (λ place. r ≡ Err (decode.InvalidBase64 (kind_of u)))) g
 
--- of the text u the groups before its first fault were written, and r tells the fault
+-- the closure got the bytes of a body, and r is its fault
+abbrev pub GetsBody : {F E : Type 0} → (F → List ℕ → Result (Unit {0}) E → F → Type 0) → F → Outcome
+    → Result (Unit {0}) (DecodeError E) → F → Type 0
+GetsBody step f body r g = GetsBytes step f (outcome_bytes body) (Answers body AnyAnswer r) g
+
+-- of the text u the groups before its first fault were written, and r has the status of the fault
 pub record DecodesGroups (u before after : List ℕ) (r : DataUrlStep) : Type 0 where
   pub wrote : WritesFront (complete_bytes u) before after r.len
   pub ended : MatchOption (first_fault u) (r.status ≡ 0)

@@ -5,7 +5,7 @@ ghost use Rattle.std.specs.Fn.{CalledAt};
 ghost use Rattle.data_url.specs.Base64.{complete_bytes, first_fault, is_symbol, kind_of};
 ghost use Rattle.data_url_c.specs.Answers.{status_of_kind};
 ghost use Rattle.data_url_c.specs.Parts.{FeedsPart, FinishesPart, IsLeftOf, is_good_state, waiting_text};
-ghost use Rattle.data_url_c.specs.Steps.{DecodesGroups, FeedsText, HandsGroups, IsLast};
+ghost use Rattle.data_url_c.specs.Steps.{DecodesGroups, FeedsText, GetsGroups, IsLast};
 
 use crate::answer::{DONE, OUTPUT_TOO_SMALL};
 use crate::base64::decode_text;
@@ -115,7 +115,7 @@ where
     F: FnMut(&[u8]) -> Result<(), Infallible>,
     requires callable { F.IsAlwaysCallable write.old }
     requires good { is_good_state state.now ≡ true }
-    ensures { HandsGroups (CalledAt F.FnMut) write.old (waiting_text state.now ++ text.now) result write.new }
+    ensures { GetsGroups (CalledAt F.FnMut) write.old (waiting_text state.now ++ text.now) result write.new }
 {
     let (waiting, len) = waiting_text(state);
     let mut decoder = Decoder::new(|piece: &[u8]| -> Result<(), Infallible> { write(piece) });

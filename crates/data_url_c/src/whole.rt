@@ -7,7 +7,7 @@ ghost use Rattle.data_url.specs.Fetch.{tail_of};
 ghost use Rattle.data_url_c.specs.Answers.{Answers};
 ghost use Rattle.data_url_c.specs.Bodies.{EndsAs};
 ghost use Rattle.data_url_c.specs.Gives.{GivesBody};
-ghost use Rattle.data_url_c.specs.Steps.{HandsBody};
+ghost use Rattle.data_url_c.specs.Steps.{GetsBody};
 
 use crate::answer::{DONE, DataUrlAnswer, answer};
 use crate::body::feed_whole;
@@ -30,11 +30,11 @@ fn tail_of(text: &str) -> Option<&str>
 }
 
 /// Calls a closure with the pieces of the body of a URL.
-fn hand_body<F>(url: &DataUrl, write: &mut F) -> Result<(), DecodeError<Infallible>>
+fn call_with_body<F>(url: &DataUrl, write: &mut F) -> Result<(), DecodeError<Infallible>>
 where
     F: FnMut(&[u8]) -> Result<(), Infallible>,
     requires { F.IsAlwaysCallable write.old }
-    ensures { HandsBody (CalledAt F.FnMut) write.old (url_body url.now) result write.new }
+    ensures { GetsBody (CalledAt F.FnMut) write.old (url_body url.now) result write.new }
 {
     let mut answer = Ok(());
     decode_body(url, &mut answer, |piece: &[u8]| -> Result<(), Infallible> {
@@ -54,7 +54,7 @@ fn decode_into(url: &DataUrl, tail: &str, out: &mut [u8]) -> DataUrlStep
         push(out, &mut len, piece);
         Ok(())
     };
-    match hand_body(url, &mut write) {
+    match call_with_body(url, &mut write) {
         Ok(()) => DataUrlStep { status: DONE, len },
         Err(DecodeError::InvalidBase64(refusal)) => match status_of(&refusal) {
             Some(status) => DataUrlStep { status, len },

@@ -5,7 +5,7 @@ use Rattle.data_url_c.specs.Parts.{waiting_text}
 use Rattle.data_url_c.specs.contracts.parts.fn.decode_groups.write as closure
 use Rattle.data_url_c.proofs.LeftLemmas.{complete_length, waiting_length}
 use Rattle.data_url_c.proofs.FaultStatusLemmas.{is_faulty}
-use Rattle.data_url_c.proofs.PartLemmas.{groups_keep, groups_status, groups_written}
+use Rattle.data_url_c.proofs.PartLemmas.{gets_keep, gets_reaches, groups_status, reaches_front}
 use Rattle.data_url_c.proofs.parts.decode_groups.Goals as goal
 
 pub returns-in-Ok : goal.returns-in-Ok
@@ -14,11 +14,11 @@ returns-in-Ok c =
     let u : List ℕ = waiting_text s ++ c.args.text.now in
     let h = c.feed_into.ensures in
     let room : length (complete_bytes u) ≤ length c.args.out.now = omega (arith, complete_length u, waiting_length s c.args.text.now c.requires.good, c.requires.room) in
-    let out = groups_keep h (λ f. f.0.ghost_name) (λ f p r f' k. search rules) in
-    let len = groups_keep h (λ f. f.1.ghost_name) (λ f p r f' k. search rules) in
+    let out = gets_keep h (λ f. f.0.ghost_name) (λ f p r f' k. search rules) in
+    let len = gets_keep h (λ f. f.1.ghost_name) (λ f p r f' k. search rules) in
     record {
-      wrote = groups_written (λ f. (closure.captures f).out.now) (λ f. (closure.captures f).len) h (λ f p r f' k. search rules) (search rules) (search rules) room (search (rules, out, len)) (search (rules, out, len));
-      ended = groups_status u _ h.answer (λ e. search rules) (λ e. absurd (let k = c.in-Ok.is in cc));
+      wrote = reaches_front (gets_reaches c.args.out.now (λ f. (closure.captures f).out.now) (λ f. (closure.captures f).len) h (λ f p r f' k. search rules) (search rules) (search rules) (search (rules, out, len)) (search (rules, out, len))) room;
+      ended = groups_status u _ h.ended (λ e. search rules) (λ e. absurd (let k = c.in-Ok.is in cc));
     }
 
 pub returns-in-Err-InvalidBase64 : goal.returns-in-Err-InvalidBase64
@@ -27,15 +27,15 @@ returns-in-Err-InvalidBase64 c =
     let u : List ℕ = waiting_text s ++ c.args.text.now in
     let h = c.feed_into.ensures in
     let room : length (complete_bytes u) ≤ length c.args.out.now = omega (arith, complete_length u, waiting_length s c.args.text.now c.requires.good, c.requires.room) in
-    let out = groups_keep h (λ f. f.0.ghost_name) (λ f p r f' k. search rules) in
-    let len = groups_keep h (λ f. f.1.ghost_name) (λ f p r f' k. search rules) in
+    let out = gets_keep h (λ f. f.0.ghost_name) (λ f p r f' k. search rules) in
+    let len = gets_keep h (λ f. f.1.ghost_name) (λ f p r f' k. search rules) in
     let told : c.feed_into.result ≡ Err (InvalidBase64 c.in-Err-InvalidBase64.field-0-0) = search rules in
     record {
-      wrote = groups_written (λ f. (closure.captures f).out.now) (λ f. (closure.captures f).len) h (λ f p r f' k. search rules) (search rules) (search rules) room (search (rules, out, len)) (search (rules, out, len));
-      ended = groups_status u _ h.answer (λ e. absurd (cc)) (λ e. c.fault_status-status.ensures);
+      wrote = reaches_front (gets_reaches c.args.out.now (λ f. (closure.captures f).out.now) (λ f. (closure.captures f).len) h (λ f p r f' k. search rules) (search rules) (search rules) (search (rules, out, len)) (search (rules, out, len))) room;
+      ended = groups_status u _ h.ended (λ e. absurd (cc)) (λ e. c.fault_status-status.ensures);
     }
 
 pub fault_status-status-requires-clause-fault : goal.fault_status-status-requires-clause-fault
 fault_status-status-requires-clause-fault c =
     let told : c.feed_into.result ≡ Err (InvalidBase64 c.in-Err-InvalidBase64.field-0-0) = search rules in
-    is_faulty (waiting_text c.args.state.now ++ c.args.text.now) _ c.feed_into.ensures.answer told
+    is_faulty (waiting_text c.args.state.now ++ c.args.text.now) _ c.feed_into.ensures.ended told

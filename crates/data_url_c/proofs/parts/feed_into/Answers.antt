@@ -1,7 +1,7 @@
 use Rattle.std.proofs.Common.{◌∙◌, ap, refl, rules, sym}
 use Rattle.std.specs.Fn.{CalledAt}
 use denote.Param.Always.{always_mut, mut_by, mut_next}
-use Rattle.data_url_c.proofs.PartLemmas.{fed_keeps, groups_fed, hands_on, waiting_fed, waiting_refused}
+use Rattle.data_url_c.proofs.PartLemmas.{fed_keeps, groups_fed, passes_groups, waiting_fed, waiting_refused}
 use Rattle.data_url_c.proofs.parts.feed_into.Goals as goal
 
 pub new-decoder-requires : goal.new-decoder-requires
@@ -12,11 +12,11 @@ returns-in-Ok g c =
     let start = c.new-decoder.ensures.state in
     let fed = waiting_fed _ c.waiting_text-len.ensures.text c.in-Ok.ensures.fed c.feed-in-Ok.ensures.fed in
     let name = sym (fed_keeps fed (λ f. f.0.ghost_name) (λ f p r f' k. search rules)) ∙ ap (λ d. d.closure.0.ghost_name) start in
-    hands_on _ (CalledAt g.F.FnMut) (λ f. f.0.now) (λ f p r f' k. search rules) start fed (groups_fed start fed) (search rules) (search (rules, name))
+    passes_groups _ (CalledAt g.F.FnMut) (λ f. f.0.now) (λ f p r f' k. search rules) start fed (groups_fed start fed) (search rules) (search (rules, name))
 
 pub returns-in-Err : goal.returns-in-Err
 returns-in-Err g c =
     let start = c.new-decoder.ensures.state in
     let fed = waiting_refused _ c.args.text.now c.waiting_text-len.ensures.text c.in-Err.ensures.fed in
     let name = sym (fed_keeps fed (λ f. f.0.ghost_name) (λ f p r f' k. search rules)) ∙ ap (λ d. d.closure.0.ghost_name) start in
-    hands_on _ (CalledAt g.F.FnMut) (λ f. f.0.now) (λ f p r f' k. search rules) start fed (groups_fed start fed) (search rules) (search (rules, name))
+    passes_groups _ (CalledAt g.F.FnMut) (λ f. f.0.now) (λ f p r f' k. search rules) start fed (groups_fed start fed) (search rules) (search (rules, name))
