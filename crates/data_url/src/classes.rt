@@ -97,7 +97,7 @@ pub(crate) fn span(class: Class, bytes: &[u8]) -> usize
     bytes.iter().take_while(|byte| has(class, **byte)).count()
 }
 
-/// The same, sixteen bytes at a time, which is faster where they are many.
+/// How many bytes at the front are in a class, counted by rows of sixteen, which is faster than `span` if they are many.
 #[inline(always)]
 pub(crate) fn long_span(class: Class, bytes: &[u8]) -> usize
     ensures front { result ≡ prefix_len (in_class class) bytes.now }

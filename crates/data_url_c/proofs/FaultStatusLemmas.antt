@@ -1,30 +1,34 @@
 -- The status of a fault, found by looking through the text again.
-use Rattle.std.proofs.Common.{◌≡◌, ℕ, ◌+◌, ◌<◌, ◌≤◌, ◌%◌, Bool, true, false, cond, ◌||◌, List, [], ◌∷◌, ◌++◌, length, length-take-le, get_or, take, drop, drop_of_length-le, Option, None, Some, Result, Ok, Err, refl, sym, ap, ◌∙◌, arith, eqb, eqb-true}
+use Rattle.std.proofs.Common.{◌≡◌, ℕ, ◌+◌, ◌<◌, ◌≤◌, ◌%◌, Bool, true, false, cond, ◌||◌, List, [], ◌∷◌, ◌++◌, length}
+use Rattle.std.proofs.Common.{length-take-le, get_or, take, drop, drop_of_length-le, Option, None, Some, Result, Ok}
+use Rattle.std.proofs.Common.{Err, refl, sym, ap, ◌∙◌, arith, eqb, eqb-true}
 use Rattle.std.specs.Prelude.{◌==◌, MatchOption, is_some}
 use Rattle.std.specs.List.{list_any}
 use Rattle.std.proofs.lemmas.List.{drop_more}
-use Rattle.data_url.specs.Base64.{AlphabetSymbolAfterPadding, Kind, LoneAlphabetSymbol, Padding, UnexpectedSymbol, first_fault, is_symbol, kind_of}
+use Rattle.data_url.specs.Base64.{AlphabetSymbolAfterPadding, Kind, LoneAlphabetSymbol, Padding, UnexpectedSymbol}
+use Rattle.data_url.specs.Base64.{first_fault, is_symbol, kind_of}
 use Rattle.data_url.specs.Mime.{Every}
 use Rattle.data_url.specs.declared.forgiving_base64.DecodeError.{DecodeError}
 use Rattle.data_url.specs.declared.forgiving_base64.DecodeError.TheVariants.{InvalidBase64}
-use Rattle.data_url.proofs.ByteLemmas.{fault_behind, fault_more, fault_other, fault_space, fault_symbol, has_pad, kind_left}
+use Rattle.data_url.proofs.api.{classes, every_from_all, fault-append, fault-append_some, fault_behind, fault_byte}
+use Rattle.data_url.proofs.api.{fault_more, fault_other, fault_some, fault_space, fault_symbol, has_pad, kind_fault}
+use Rattle.data_url.proofs.api.{kind_left, space_alone, symbol_alone}
 use Rattle.std.specs.Char.{is_ascii_whitespace}
 use Rattle.std.proofs.Math.Bool.{or-false, or-true}
-use Rattle.data_url.proofs.PaddingLemmas.{classes, fault-append, fault-append_some, fault_byte, fault_some, kind_fault}
-use Rattle.data_url.proofs.RecordLemmas.{every_from_all}
-use Rattle.data_url.proofs.WalkLemmas.{space_alone, symbol_alone}
 use Rattle.data_url_c.specs.Answers.{status_of_kind}
 use Rattle.data_url_c.specs.Parts.{is_good_state, waiting_text}
 use Rattle.data_url_c.specs.declared.parts.DataUrlBase64.{DataUrlBase64}
 use Rattle.data_url_c.proofs.PartLemmas.{good_parts}
 
-is_faulty_by : {E : Type 0} (o : Option ℕ) (kind : Kind) (told : Kind) (r : Result (Unit {0}) (DecodeError E)) → r ≡ Err (InvalidBase64 told)
+is_faulty_by : {E : Type 0} (o : Option ℕ) (kind : Kind) (told : Kind) (r : Result (Unit {0}) (DecodeError E))
+    → r ≡ Err (InvalidBase64 told)
     → MatchOption o (r ≡ Ok tt) (λ place. r ≡ Err (InvalidBase64 kind)) → is_some o ≡ true
 is_faulty_by (Some place) kind told r e h = refl
 is_faulty_by None kind told r e h = absurd (let k : Ok tt ≡ Err (InvalidBase64 told) = sym h ∙ e in cc)
 
 pub is_faulty : {E : Type 0} (u : List ℕ) (told : Kind) {r : Result (Unit {0}) (DecodeError E)}
-    → MatchOption (first_fault u) (r ≡ Ok tt) (λ place. r ≡ Err (InvalidBase64 (kind_of u))) → r ≡ Err (InvalidBase64 told)
+    → MatchOption (first_fault u) (r ≡ Ok tt) (λ place. r ≡ Err (InvalidBase64 (kind_of u)))
+    → r ≡ Err (InvalidBase64 told)
     → is_some (first_fault u) ≡ true
 is_faulty u told {r = r} h e = is_faulty_by (first_fault u) (kind_of u) told r e h
 
@@ -39,16 +43,19 @@ unfolding fault_byte
 fault_pad true = refl
 fault_pad false = refl
 
-step_by : (s t : Bool) (c : ℕ) (rest : List ℕ) → fault_byte s (c ∷ []) ≡ None → (s || list_any (λ b. b == 61) (c ∷ [])) ≡ t
+step_by : (s t : Bool) (c : ℕ) (rest : List ℕ) → fault_byte s (c ∷ []) ≡ None
+    → (s || list_any (λ b. b == 61) (c ∷ [])) ≡ t
     → fault_byte s (c ∷ rest) ≡ fault_byte t rest
 step_by s t c rest h e = fault-append (c ∷ []) rest s h ∙ ap (λ v. fault_byte v rest) e
 
 -- a symbol before any '=' is no fault
 pub after_symbol : (c : ℕ) (rest : List ℕ) → is_symbol c ≡ true → fault_byte false (c ∷ rest) ≡ fault_byte false rest
-after_symbol c rest h = step_by false false c rest (fault_symbol c h) (ap (λ v. v || false) (symbol_alone (classes c) h).1)
+after_symbol c rest h =
+    step_by false false c rest (fault_symbol c h) (ap (λ v. v || false) (symbol_alone (classes c) h).1)
 
 -- nor is white space
-pub after_space : (s : Bool) (c : ℕ) (rest : List ℕ) → is_ascii_whitespace c ≡ true → fault_byte s (c ∷ rest) ≡ fault_byte s rest
+pub after_space : (s : Bool) (c : ℕ) (rest : List ℕ) → is_ascii_whitespace c ≡ true
+    → fault_byte s (c ∷ rest) ≡ fault_byte s rest
 after_space s c rest h =
     step_by s s c rest (fault_space c s h) (ap (λ v. s || (v || false)) (space_alone (classes c) h).0 ∙ or-false s)
 
@@ -59,14 +66,17 @@ after_pad s c rest h =
 
 -- the same by what is known of the flag before and after
 
-pub step_symbol : (s t : Bool) (c : ℕ) → s ≡ false → t ≡ s → is_symbol c ≡ true → (rest : List ℕ) → fault_byte s (c ∷ rest) ≡ fault_byte t rest
+pub step_symbol : (s t : Bool) (c : ℕ) → s ≡ false → t ≡ s → is_symbol c ≡ true → (rest : List ℕ)
+    → fault_byte s (c ∷ rest) ≡ fault_byte t rest
 step_symbol s t c e f h rest =
     ap (λ v. fault_byte v (c ∷ rest)) e ∙ after_symbol c rest h ∙ ap (λ v. fault_byte v rest) (sym (f ∙ e))
 
-pub step_pad : (s t : Bool) (c : ℕ) → t ≡ true → (c == 61) ≡ true → (rest : List ℕ) → fault_byte s (c ∷ rest) ≡ fault_byte t rest
+pub step_pad : (s t : Bool) (c : ℕ) → t ≡ true → (c == 61) ≡ true → (rest : List ℕ)
+    → fault_byte s (c ∷ rest) ≡ fault_byte t rest
 step_pad s t c e h rest = after_pad s c rest h ∙ ap (λ v. fault_byte v rest) (sym e)
 
-pub step_space : (s t : Bool) (c : ℕ) → t ≡ s → is_ascii_whitespace c ≡ true → (rest : List ℕ) → fault_byte s (c ∷ rest) ≡ fault_byte t rest
+pub step_space : (s t : Bool) (c : ℕ) → t ≡ s → is_ascii_whitespace c ≡ true → (rest : List ℕ)
+    → fault_byte s (c ∷ rest) ≡ fault_byte t rest
 step_space s t c e h rest = after_space s c rest h ∙ ap (λ v. fault_byte v rest) (sym e)
 
 -- The loop: no fault before a place, and from there on the same
@@ -75,8 +85,10 @@ step_space s t c e h rest = after_space s c rest h ∙ ap (λ v. fault_byte v re
 abbrev pub GoesOn : DataUrlBase64 → List ℕ → Bool → ℕ → Type 0
 GoesOn s text padded at = fault_byte padded (drop at text) ≡ fault_byte (has_pad s.padding) text
 
-pub goes_on : (s : DataUrlBase64) (text : List ℕ) (padded now : Bool) (at c : ℕ) → GoesOn s text padded at → at < length text
-    → c ≡ get_or text at 0 → ((rest : List ℕ) → fault_byte padded (c ∷ rest) ≡ fault_byte now rest) → GoesOn s text now (at + 1)
+pub goes_on : (s : DataUrlBase64) (text : List ℕ) (padded now : Bool) (at c : ℕ) → GoesOn s text padded at
+    → at < length text
+    → c ≡ get_or text at 0 → ((rest : List ℕ) → fault_byte padded (c ∷ rest) ≡ fault_byte now rest)
+    → GoesOn s text now (at + 1)
 goes_on s text padded now at c h l e step =
     sym (step (drop (at + 1) text))
     ∙ ap (λ b. fault_byte padded (b ∷ drop (at + 1) text)) e
@@ -84,7 +96,8 @@ goes_on s text padded now at c h l e step =
     ∙ h
 
 -- the kind of the whole, at a byte with a fault
-pub kind_here : (s : DataUrlBase64) (text : List ℕ) (padded : Bool) (at c : ℕ) → is_good_state s ≡ true → GoesOn s text padded at
+pub kind_here : (s : DataUrlBase64) (text : List ℕ) (padded : Bool) (at c : ℕ) → is_good_state s ≡ true
+    → GoesOn s text padded at
     → at < length text → c ≡ get_or text at 0 → fault_byte padded (c ∷ []) ≡ Some c
     → kind_of (waiting_text s ++ text) ≡ cond (is_symbol c) AlphabetSymbolAfterPadding (UnexpectedSymbol c)
 kind_here s text padded at c g h l e f =
@@ -96,13 +109,15 @@ kind_here s text padded at c g h l e f =
     ∙ fault-append_some (c ∷ []) (drop (at + 1) text) padded c f in
     kind_fault (waiting_text s ++ text) c (fault_more q s.padding every text ∙ sym h ∙ found)
 
-pub fault_after : (s : DataUrlBase64) (text : List ℕ) (at c : ℕ) → is_good_state s ≡ true → GoesOn s text true at → at < length text
+pub fault_after : (s : DataUrlBase64) (text : List ℕ) (at c : ℕ) → is_good_state s ≡ true → GoesOn s text true at
+    → at < length text
     → c ≡ get_or text at 0 → is_symbol c ≡ true → 10 ≡ status_of_kind (kind_of (waiting_text s ++ text))
 fault_after s text at c g h l e k =
     sym (ap status_of_kind (kind_here s text true at c g h l e (fault_behind c k)
     ∙ ap (λ v. cond v AlphabetSymbolAfterPadding (UnexpectedSymbol c)) k))
 
-pub fault_unexpected : (s : DataUrlBase64) (text : List ℕ) (padded : Bool) (at c : ℕ) → is_good_state s ≡ true → GoesOn s text padded at
+pub fault_unexpected : (s : DataUrlBase64) (text : List ℕ) (padded : Bool) (at c : ℕ) → is_good_state s ≡ true
+    → GoesOn s text padded at
     → at < length text → c ≡ get_or text at 0 → is_ascii_whitespace c ≡ false → (c == 61) ≡ false → is_symbol c ≡ false
     → 256 + c ≡ status_of_kind (kind_of (waiting_text s ++ text))
 fault_unexpected s text padded at c g h l e w p k =
@@ -110,13 +125,15 @@ fault_unexpected s text padded at c g h l e w p k =
     ∙ ap (λ v. cond v AlphabetSymbolAfterPadding (UnexpectedSymbol c)) k))
 
 -- a text that was looked through has no fault
-pub none_found : (s : DataUrlBase64) (text : List ℕ) (padded : Bool) (at : ℕ) → is_good_state s ≡ true → GoesOn s text padded at
+pub none_found : (s : DataUrlBase64) (text : List ℕ) (padded : Bool) (at : ℕ) → is_good_state s ≡ true
+    → GoesOn s text padded at
     → length text ≤ at → is_some (first_fault (waiting_text s ++ text)) ≡ true → ⊥
 none_found s text padded at g h l k =
     let q = take s.pending s.symbols in
     let every : Every is_symbol q = every_from_all is_symbol q (good_parts s g).symbols in
     let none : fault_byte false (waiting_text s ++ text) ≡ None =
-    fault_more q s.padding every text ∙ sym h ∙ ap (fault_byte padded) (drop_of_length-le text l) ∙ fault_nothing padded in
+    fault_more q s.padding every text ∙ sym h ∙ ap (fault_byte padded) (drop_of_length-le text l)
+    ∙ fault_nothing padded in
     let e : false ≡ true = sym (fault_some (waiting_text s ++ text) ∙ ap is_some none) ∙ k in
     absurd (let f : false ≡ true = e in cc)
 

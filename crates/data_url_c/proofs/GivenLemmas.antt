@@ -1,5 +1,6 @@
 -- What a call gives of its bytes, by what its steps give.
-use Rattle.std.proofs.Common.{◌≡◌, ℕ, Bool, true, false, List, ◌++◌, Option, None, Some, Result, Ok, Err, refl, sym, ap, ◌∙◌, subst, inl, inr}
+use Rattle.std.proofs.Common.{◌≡◌, ℕ, Bool, true, false, List, ◌++◌, Option, None, Some, Result, Ok, Err, refl, sym, ap}
+use Rattle.std.proofs.Common.{◌∙◌, subst, inl, inr}
 use Rattle.std.specs.Global.{Global}
 use Rattle.std.specs.Prelude.{IsUtf8, Vec, MatchBool, MatchOption, chars, option_map}
 use Rattle.data_url.specs.Base64.{Kind, complete_bytes, is_valid, kind_of}
@@ -11,7 +12,8 @@ use Rattle.data_url.specs.Mime.{HasNoRecord, Parses, Record}
 use Rattle.data_url.specs.MimeType.{record_of}
 use Rattle.data_url.specs.Run.{joined_pieces, refusal}
 use Rattle.data_url.specs.Steps.Whole.{DecodesText}
-use Rattle.data_url.specs.Url.{behind, without_tabs_and_newlines, encoded_fragment, fragment as fragment_in, in_fragment_set, percent_encoding}
+use Rattle.data_url.specs.Url.{behind, without_tabs_and_newlines, encoded_fragment, fragment as fragment_in}
+use Rattle.data_url.specs.Url.{in_fragment_set, percent_encoding}
 use Rattle.data_url.specs.declared.DataUrl.{DataUrl}
 use Rattle.data_url.specs.declared.forgiving_base64.DecodeError.{DecodeError}
 use Rattle.data_url.specs.declared.forgiving_base64.DecodeError.TheVariants as decode
@@ -19,21 +21,23 @@ use Rattle.data_url.specs.declared.mime.Mime.{Mime}
 use Rattle.data_url.specs.declared.mime.MimeFromStrError.{MimeFromStrError}
 use Rattle.data_url.specs.declared.mime.MimeFromStrError.TheVariants.{OutOfMemory as NoMemory, Parsing}
 use Rattle.data_url.specs.declared.mime.MimeParsingError.{MimeParsingError}
-use Rattle.data_url.proofs.UrlLemmas.{fragment_dropped}
-use Rattle.data_url.proofs.WholeLemmas.{run_reads}
+use Rattle.data_url.proofs.api.{fragment_dropped, run_reads}
 use Rattle.data_url_c.specs.Answers.{Answers, Given}
 use Rattle.data_url_c.specs.Gives.{GivesBody, GivesFragment, GivesMime, GivesType, IsUrlWith, RefusesUrl}
 use Rattle.data_url_c.specs.Steps.{CrossesOrNot, HasBody, HasFragment, HasText}
 use Rattle.data_url_c.specs.declared.answer.DataUrlAnswer.{DataUrlAnswer}
 use Rattle.data_url_c.specs.declared.refusal.Refusal.{Refusal}
-use Rattle.data_url_c.specs.declared.refusal.Refusal.TheVariants.{InvalidBase64, NoComma, NoFragment, NotADataUrl, NotAMimeType, NotUtf8, OutOfMemory}
+use Rattle.data_url_c.specs.declared.refusal.Refusal.TheVariants.{InvalidBase64, NoComma, NoFragment, NotADataUrl}
+use Rattle.data_url_c.specs.declared.refusal.Refusal.TheVariants.{NotAMimeType, NotUtf8, OutOfMemory}
 
 -- URLs
 
-pub accepted : (x : List ℕ) {type_text : List ℕ} {body : Outcome} {fragment : Option (List ℕ)} → staged x ≡ Accepted type_text body fragment → IsAcceptable (staged x)
+pub accepted : (x : List ℕ) {type_text : List ℕ} {body : Outcome} {fragment : Option (List ℕ)}
+    → staged x ≡ Accepted type_text body fragment → IsAcceptable (staged x)
 accepted x e = subst IsAcceptable (sym e) tt
 
-encoded_is : (found : Option (List ℕ)) → option_map (percent_encoding in_fragment_set) (option_map without_tabs_and_newlines found) ≡ option_map encoded_fragment found
+encoded_is : (found : Option (List ℕ)) → option_map (percent_encoding in_fragment_set)
+    (option_map without_tabs_and_newlines found) ≡ option_map encoded_fragment found
 encoded_is None = refl
 encoded_is (Some f) = refl
 
@@ -41,16 +45,21 @@ encoded_is (Some f) = refl
 abbrev staged_part : DataUrl → Option (List ℕ)
 staged_part url = option_map (percent_encoding in_fragment_set) (fragment_in (without_tabs_and_newlines (url_tail url)))
 
-pub url_with : {x : List ℕ} {url : DataUrl} {body : Outcome} {fragment : Option (List ℕ)} → IsUtf8 x → IsUrlOf x url → url_body url ≡ body → option_map encoded_fragment (behind 35 (url_tail url)) ≡ fragment → IsUrlWith x body fragment
+pub url_with : {x : List ℕ} {url : DataUrl} {body : Outcome} {fragment : Option (List ℕ)} → IsUtf8 x → IsUrlOf x url
+    → url_body url ≡ body → option_map encoded_fragment (behind 35 (url_tail url)) ≡ fragment
+    → IsUrlWith x body fragment
 url_with {url = url} {body = body} t u b f =
-    let e = ap (option_map (percent_encoding in_fragment_set)) (fragment_dropped (url_tail url)) ∙ encoded_is (behind 35 (url_tail url)) ∙ f in
+    let e = ap (option_map (percent_encoding in_fragment_set)) (fragment_dropped (url_tail url))
+    ∙ encoded_is (behind 35 (url_tail url)) ∙ f in
     record {
       type_text = mime_text u.header;
       is_text = t;
-      staged_is = u.staged_is ∙ ap (λ o. Accepted (mime_text u.header) o (staged_part url)) b ∙ ap (λ o. Accepted (mime_text u.header) body o) e;
+      staged_is = u.staged_is ∙ ap (λ o. Accepted (mime_text u.header) o (staged_part url)) b
+          ∙ ap (λ o. Accepted (mime_text u.header) body o) e;
     }
 
-pub gives_body : {x : List ℕ} {url : DataUrl} → IsUtf8 x → IsUrlOf x url → (given : Given) → HasBody (url_body url) given → GivesBody x given
+pub gives_body : {x : List ℕ} {url : DataUrl} → IsUtf8 x → IsUrlOf x url → (given : Given)
+    → HasBody (url_body url) given → GivesBody x given
 gives_body t u (Ok bytes) h = (_, url_with t u h refl)
 gives_body t u (Err (InvalidBase64 kind before)) h = (_, url_with t u h refl)
 gives_body {x = x} t u (Err OutOfMemory) h = (t, accepted x u.staged_is)
@@ -70,7 +79,8 @@ body_refused x NotAMimeType h = h
 body_refused x NoFragment h = h
 body_refused x (InvalidBase64 kind before) h = absurd h
 
-pub gives_fragment : {x : List ℕ} {url : DataUrl} → IsUtf8 x → IsUrlOf x url → (given : Given) → HasFragment url given → GivesFragment x given
+pub gives_fragment : {x : List ℕ} {url : DataUrl} → IsUtf8 x → IsUrlOf x url → (given : Given) → HasFragment url given
+    → GivesFragment x given
 gives_fragment t u (Ok text) h = (h.0, url_with t u h.1 h.2)
 gives_fragment t u (Err NoFragment) h = (h.0, url_with t u h.1 (ap (option_map encoded_fragment) h.2))
 gives_fragment t u (Err (InvalidBase64 kind none)) h = (h.0, _, url_with t u h.1 refl, h.2)
@@ -80,10 +90,21 @@ gives_fragment t u (Err NoComma) h = absurd h
 gives_fragment t u (Err NotUtf8) h = absurd h
 gives_fragment t u (Err NotAMimeType) h = absurd h
 
-pub gives_mime : {x : List ℕ} {url : DataUrl} {mime : Mime} → IsUtf8 x → IsUrlOf x url → mime ≡ mime_of url → (given : Given) → HasText (record_of mime) given → GivesMime x given
+pub gives_mime : {x : List ℕ} {url : DataUrl} {mime : Mime} → IsUtf8 x → IsUrlOf x url → mime ≡ mime_of url
+    → (given : Given) → HasText (record_of mime) given → GivesMime x given
 gives_mime {url = url} t u e (Ok text) h =
     let P : Mime → Type 0 = λ m. HasText (record_of m) (Ok text) in
-    record { type_text = _; body = _; fragment = _; mime = record_of (mime_of url); is_text = t; staged_is = u.staged_is; record_is = u.record_is; text_is = subst P e h }
+    record {
+      type_text = _;
+      body = _;
+      fragment = _;
+      mime = record_of (mime_of url);
+      is_text = t;
+      staged_is =
+          u.staged_is;
+      record_is = u.record_is;
+      text_is = subst P e h;
+    }
 gives_mime {x = x} t u e (Err OutOfMemory) h = (t, accepted x u.staged_is)
 gives_mime t u e (Err NoFragment) h = absurd h
 gives_mime t u e (Err (InvalidBase64 kind none)) h = absurd h
@@ -94,9 +115,12 @@ gives_mime t u e (Err NotAMimeType) h = absurd h
 
 -- MIME types
 
-pub gives_type : {x s : List ℕ} {mime : Record} → IsUtf8 x → s ≡ x → Parses (chars s) mime → (given : Given) → HasText mime given → GivesType x given
-gives_type {mime = mime} t e p (Ok text) h = let P : List ℕ → Type 0 = λ y. Parses (chars y) mime in (mime, t, subst P e p, h)
-gives_type {mime = mime} t e p (Err OutOfMemory) h = let P : List ℕ → Type 0 = λ y. Parses (chars y) mime in (t, λ none. none mime (subst P e p))
+pub gives_type : {x s : List ℕ} {mime : Record} → IsUtf8 x → s ≡ x → Parses (chars s) mime → (given : Given)
+    → HasText mime given → GivesType x given
+gives_type {mime = mime} t e p (Ok text) h = let P : List ℕ → Type 0 = λ y. Parses (chars y) mime in
+    (mime, t, subst P e p, h)
+gives_type {mime = mime} t e p (Err OutOfMemory) h = let P : List ℕ → Type 0 = λ y. Parses (chars y) mime in
+    (t, λ none. none mime (subst P e p))
 gives_type t e p (Err NoFragment) h = absurd h
 gives_type t e p (Err (InvalidBase64 kind none)) h = absurd h
 gives_type t e p (Err NotADataUrl) h = absurd h
@@ -104,13 +128,15 @@ gives_type t e p (Err NoComma) h = absurd h
 gives_type t e p (Err NotUtf8) h = absurd h
 gives_type t e p (Err NotAMimeType) h = absurd h
 
-pub no_record : {x s : List ℕ} {r : Result Mime MimeFromStrError} {e : MimeFromStrError} {p : MimeParsingError} → s ≡ x → r ≡ Err e → e ≡ Parsing p → (IsParsingError r → HasNoRecord (chars s)) → HasNoRecord (chars x)
+pub no_record : {x s : List ℕ} {r : Result Mime MimeFromStrError} {e : MimeFromStrError} {p : MimeParsingError} → s ≡ x
+    → r ≡ Err e → e ≡ Parsing p → (IsParsingError r → HasNoRecord (chars s)) → HasNoRecord (chars x)
 no_record same h k refused =
     let P : MimeFromStrError → Type 0 = λ f. IsParsingError (Err f) in
     let Q : List ℕ → Type 0 = λ y. HasNoRecord (chars y) in
     subst Q same (refused (subst IsParsingError (sym h) (subst P (sym k) tt)))
 
-pub some_record : {x s : List ℕ} {r : Result Mime MimeFromStrError} {e : MimeFromStrError} → s ≡ x → r ≡ Err e → e ≡ NoMemory → (HasNoRecord (chars s) → IsParsingError r) → HasNoRecord (chars x) → ⊥
+pub some_record : {x s : List ℕ} {r : Result Mime MimeFromStrError} {e : MimeFromStrError} → s ≡ x → r ≡ Err e
+    → e ≡ NoMemory → (HasNoRecord (chars s) → IsParsingError r) → HasNoRecord (chars x) → ⊥
 some_record same h k refused none =
     let Q : List ℕ → Type 0 = λ y. HasNoRecord (chars y) in
     let P : MimeFromStrError → Type 0 = λ f. IsParsingError (Err f) in
@@ -118,28 +144,41 @@ some_record same h k refused none =
 
 -- Base64
 
-given_by : {E : Type 0} (o : Option E) (P : Type 0) (all bytes : List ℕ) (r : Result (Unit {0}) (DecodeError E)) (kind : Kind) → r ≡ Err (decode.InvalidBase64 kind) → MatchOption o P (λ e. IsRefused all bytes e r) → (o ≡ None) × P
+given_by : {E : Type 0} (o : Option E) (P : Type 0) (all bytes : List ℕ) (r : Result (Unit {0}) (DecodeError E))
+    (kind : Kind) → r ≡ Err (decode.InvalidBase64 kind) → MatchOption o P (λ e. IsRefused all bytes e r)
+    → (o ≡ None) × P
 given_by None P all bytes r kind q h = (refl, h)
 given_by (Some e) P all bytes r kind q h = absurd (let k = h.answer in cc)
 
-not_valid : {E : Type 0} (v : Bool) (x bytes : List ℕ) (r : Result (Unit {0}) (DecodeError E)) (kind : Kind) → r ≡ Err (decode.InvalidBase64 kind) → MatchBool v (IsAll x bytes r) ((bytes ≡ complete_bytes x) × (r ≡ Err (decode.InvalidBase64 (kind_of x)))) → (v ≡ false) × (kind ≡ kind_of x) × (bytes ≡ complete_bytes x)
+not_valid : {E : Type 0} (v : Bool) (x bytes : List ℕ) (r : Result (Unit {0}) (DecodeError E)) (kind : Kind)
+    → r ≡ Err (decode.InvalidBase64 kind)
+    → MatchBool v (IsAll x bytes r) ((bytes ≡ complete_bytes x) × (r ≡ Err (decode.InvalidBase64 (kind_of x))))
+    → (v ≡ false) × (kind ≡ kind_of x) × (bytes ≡ complete_bytes x)
 not_valid true x bytes r kind q h = absurd (let k = h.answer in cc)
 not_valid false x bytes r kind q h = (refl, let k = h.1 in cc, h.0)
 
 -- what a closure that keeps its bytes has of a text that is not valid
-pub decodes_before : {F E : Type 0} {step : F → List ℕ → Result (Unit {0}) E → F → Type 0} {f f' : F} {x : List ℕ} {r : Result (Unit {0}) (DecodeError E)} {kind : Kind} → DecodesText step f x r f' → r ≡ Err (decode.InvalidBase64 kind) → (J : F → List ℕ) → ((g : F) (piece : List ℕ) (g' : F) → step g piece (Ok tt) g' → J g' ≡ J g ++ piece) → (is_valid x ≡ false) × (kind ≡ kind_of x) × (J f' ≡ J f ++ complete_bytes x)
+pub decodes_before : {F E : Type 0} {step : F → List ℕ → Result (Unit {0}) E → F → Type 0} {f f' : F} {x : List ℕ}
+    {r : Result (Unit {0}) (DecodeError E)} {kind : Kind} → DecodesText step f x r f'
+    → r ≡ Err (decode.InvalidBase64 kind) → (J : F → List ℕ)
+    → ((g : F) (piece : List ℕ) (g' : F) → step g piece (Ok tt) g' → J g' ≡ J g ++ piece)
+    → (is_valid x ≡ false) × (kind ≡ kind_of x) × (J f' ≡ J f ++ complete_bytes x)
 decodes_before {step = step} {f = f} {f' = f'} {x = x} {r = r} {kind = kind} h q J keeps =
     let k = given_by (refusal h.run) _ _ (joined_pieces h.run) r kind q h.gave in
     let n = not_valid (is_valid x) x (joined_pieces h.run) r kind q k.1 in
     (n.0, n.1, run_reads step J keeps h.run f f' h.ran k.0 ∙ ap (λ b. J f ++ b) n.2)
 
 -- what it has of a valid text
-valid_all : {E : Type 0} (o : Option E) (v : Bool) (x all bytes : List ℕ) (r : Result (Unit {0}) (DecodeError E)) → r ≡ Ok tt → MatchOption o (MatchBool v (IsAll x bytes r) ((bytes ≡ complete_bytes x) × (r ≡ Err (decode.InvalidBase64 (kind_of x))))) (λ e. IsRefused all bytes e r) → v ≡ true
+valid_all : {E : Type 0} (o : Option E) (v : Bool) (x all bytes : List ℕ) (r : Result (Unit {0}) (DecodeError E))
+    → r ≡ Ok tt → MatchOption o
+    (MatchBool v (IsAll x bytes r) ((bytes ≡ complete_bytes x) × (r ≡ Err (decode.InvalidBase64 (kind_of x)))))
+    (λ e. IsRefused all bytes e r) → v ≡ true
 valid_all None true x all bytes r q h = refl
 valid_all None false x all bytes r q h = absurd (let k = h.1 in cc)
 valid_all (Some e) v x all bytes r q h = absurd (let k = h.answer in cc)
 
-pub decodes_valid : {F E : Type 0} {step : F → List ℕ → Result (Unit {0}) E → F → Type 0} {f f' : F} {x : List ℕ} {r : Result (Unit {0}) (DecodeError E)} → DecodesText step f x r f' → r ≡ Ok tt → is_valid x ≡ true
+pub decodes_valid : {F E : Type 0} {step : F → List ℕ → Result (Unit {0}) E → F → Type 0} {f f' : F} {x : List ℕ}
+    {r : Result (Unit {0}) (DecodeError E)} → DecodesText step f x r f' → r ≡ Ok tt → is_valid x ≡ true
 decodes_valid {x = x} {r = r} h q = valid_all (refusal h.run) (is_valid x) x _ (joined_pieces h.run) r q h.gave
 
 -- Answers

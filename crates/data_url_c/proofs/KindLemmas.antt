@@ -1,5 +1,6 @@
 -- The kind of a fault of base64, read from its text.
-use Rattle.std.proofs.Common.{◌≡◌, ◌≢◌, ℕ, zero, suc, ◌+◌, ◌/◌, ◌%◌, ◌<◌, ◌^◌, false, List, [], ◌∷◌, ◌++◌, length, length-append, get_or, codes, refl, sym, ap, ◌∙◌, subst, inl, inr, arith}
+use Rattle.std.proofs.Common.{◌≡◌, ◌≢◌, ℕ, zero, suc, ◌+◌, ◌/◌, ◌%◌, ◌<◌, ◌^◌, false, List, [], ◌∷◌, ◌++◌, length}
+use Rattle.std.proofs.Common.{length-append, get_or, codes, refl, sym, ap, ◌∙◌, subst, inl, inr, arith}
 use Rattle.std.specs.Prelude.{◌==◌}
 use Rattle.std.specs.Fmt.{decimal, digit_glyph, digits, digits_onto}
 use Rattle.std.specs.Str.Parse.{AllDigits, digits_value, without_leading_plus}
@@ -7,7 +8,8 @@ use Rattle.std.proofs.lemmas.Bool.{cases_Bool, cond-false, eqb-true}
 use Rattle.std.proofs.lemmas.Fmt.{decimal_is_IsNumeral_wide}
 use Rattle.std.proofs.lemmas.List.{append_cancel_left, append_cancel_right}
 use Rattle.std.proofs.lemmas.Str.Parse.{without_leading_plus_none}
-use Rattle.data_url.specs.Base64.{AlphabetSymbolAfterPadding, Kind, LoneAlphabetSymbol, Padding, UnexpectedSymbol, kind_text}
+use Rattle.data_url.specs.Base64.{AlphabetSymbolAfterPadding, Kind, LoneAlphabetSymbol, Padding, UnexpectedSymbol}
+use Rattle.data_url.specs.Base64.{kind_text}
 
 -- digits that are fewer than they may be are those of a small number
 few_digits : (k n : ℕ) (acc : List ℕ) → length (digits_onto k 10 false n acc) < k + length acc → n < 10 ^ k
@@ -41,7 +43,8 @@ decimal_value n h =
     ap (digits_value 10) (without_leading_plus_none (decimal n) (no_plus (decimal n) is.0.1)) ∙ is.1
 
 -- the number in the text of an unexpected symbol
-pub number_is : (text rest number : List ℕ) (byte found : ℕ) → length text < 64 → text ≡ kind_text (UnexpectedSymbol byte)
+pub number_is : (text rest number : List ℕ) (byte found : ℕ) → length text < 64
+    → text ≡ kind_text (UnexpectedSymbol byte)
     → text ≡ codes "symbol with codepoint " ++ rest → rest ≡ number ++ codes " not expected"
     → found ≡ digits_value 10 (without_leading_plus number) → found ≡ byte
 number_is text rest number byte found short h e f v =

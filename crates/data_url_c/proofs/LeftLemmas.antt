@@ -1,17 +1,20 @@
 -- What a text of base64 leaves after its groups, and how long these are.
-use Rattle.std.proofs.Common.{◌≡◌, ℕ, suc, ◌+◌, ◌*◌, ◌-◌, ◌/◌, ◌%◌, ◌<◌, ◌≤◌, Bool, true, false, cond, List, [], ◌∷◌, ◌++◌, length, map, take, drop, min, set, eqb, Option, None, Some, refl, sym, ap, ◌∙◌, arith, get_or, length-append, length-take, length-drop, drop-cons, add-one, eqb-true, append_assoc}
+use Rattle.std.proofs.Common.{◌≡◌, ℕ, suc, ◌+◌, ◌*◌, ◌-◌, ◌/◌, ◌%◌, ◌<◌, ◌≤◌, Bool, true, false, cond, List, [], ◌∷◌}
+use Rattle.std.proofs.Common.{◌++◌, length, map, take, drop, min, set, eqb, Option, None, Some, refl, sym, ap, ◌∙◌}
+use Rattle.std.proofs.Common.{arith, get_or, length-append, length-take, length-drop, drop-cons, add-one, eqb-true}
+use Rattle.std.proofs.Common.{append_assoc}
 use Rattle.std.specs.List.{filter, list_all}
 use Rattle.std.specs.Prelude.{replicate}
 use Rattle.std.proofs.Math.Seq.{take-set-lt}
 use Rattle.std.proofs.lemmas.Bool.{both_ways}
-use Rattle.std.proofs.lemmas.List.{drop-set, length-map, length-replicate, length-take-le, nil_from_length, take-append-drop, take-set-le, take-take}
+use Rattle.std.proofs.lemmas.List.{drop-set, length-map, length-replicate, length-take-le, nil_from_length}
+use Rattle.std.proofs.lemmas.List.{take-append-drop, take-set-le, take-take}
 use Rattle.std.proofs.lemmas.List.Elements.{filter-append}
-use Rattle.data_url.specs.Base64.{after_groups, before_place, complete_bytes, first_fault, groups, is_symbol, left_padding, left_symbols, symbol_value, values}
+use Rattle.data_url.specs.Base64.{after_groups, before_place, complete_bytes, first_fault, groups, is_symbol}
+use Rattle.data_url.specs.Base64.{left_padding, left_symbols, symbol_value, values}
 use Rattle.data_url.specs.Mime.{Every}
-use Rattle.data_url.proofs.ByteLemmas.{after_few, padding_more, symbols_more}
-use Rattle.data_url.proofs.FillLemmas.{groups_length}
-use Rattle.data_url.proofs.PaddingLemmas.{after_groups-append, every_after, every_list_all, length-after_groups}
-use Rattle.data_url.proofs.WalkLemmas.{filter_every}
+use Rattle.data_url.proofs.api.{after_few, after_groups-append, every_after, every_list_all, filter_every}
+use Rattle.data_url.proofs.api.{groups_length, length-after_groups, padding_more, symbols_more}
 use Rattle.data_url_c.specs.Parts.{IsLeftOf, TakesText, is_good_state, waiting_text}
 use Rattle.data_url_c.specs.declared.parts.DataUrlBase64.{DataUrlBase64}
 use Rattle.data_url_c.proofs.PartLemmas.{good_from, good_parts, taken_sound}
@@ -21,13 +24,19 @@ use Rattle.data_url_c.proofs.PartLemmas.{good_from, good_parts, taken_sound}
 -- no more symbols than bytes
 pub filter_length : (t : List ℕ) → length (filter is_symbol t) ≤ length t
 filter_length [] = omega arith
-filter_length (c ∷ t) = elim (is_symbol c) as (λ s. length (cond s (c ∷ filter is_symbol t) (filter is_symbol t)) ≤ length (c ∷ t)) [ true ↦ omega (arith, filter_length t) | false ↦ omega (arith, filter_length t) ]
+filter_length (c ∷ t) =
+    elim (is_symbol c) as (λ s. length (cond s (c ∷ filter is_symbol t) (filter is_symbol t)) ≤ length (c ∷ t)) [
+      | true ↦
+          omega (arith, filter_length t)
+      | false ↦ omega (arith, filter_length t)
+    ]
 
 -- a beginning has no more symbols than the whole
 before_length : (u : List ℕ) (o : Option ℕ) → length (filter is_symbol (before_place u o)) ≤ length (filter is_symbol u)
 before_length u None = omega arith
 before_length u (Some i) =
-    let whole : filter is_symbol u ≡ filter is_symbol (take i u) ++ filter is_symbol (drop i u) = ap (filter is_symbol) (sym (take-append-drop i u)) ∙ filter-append is_symbol (take i u) (drop i u) in
+    let whole : filter is_symbol u ≡ filter is_symbol (take i u) ++ filter is_symbol (drop i u) =
+    ap (filter is_symbol) (sym (take-append-drop i u)) ∙ filter-append is_symbol (take i u) (drop i u) in
     omega (arith, ap length whole, length-append (filter is_symbol (take i u)) (filter is_symbol (drop i u)))
 
 -- three bytes for four symbols, at most
@@ -35,7 +44,12 @@ pub complete_length : (u : List ℕ) → 4 * length (complete_bytes u) ≤ 3 * l
 unfolding complete_bytes values
 complete_length u =
     let front = before_place u (first_fault u) in
-    omega (arith, groups_length (map symbol_value (filter is_symbol front)), length-map (filter is_symbol front) symbol_value, before_length u (first_fault u))
+    omega (
+      arith,
+      groups_length (map symbol_value (filter is_symbol front)),
+      length-map (filter is_symbol front) symbol_value,
+      before_length u (first_fault u),
+    )
 
 -- three bytes for each four symbols but those that are left over
 groups_exact : (x : List ℕ) → 4 * length (groups x) + 3 * length (after_groups x) ≡ 3 * length x
@@ -46,46 +60,73 @@ groups_exact (p ∷ q ∷ []) = refl
 groups_exact (p ∷ q ∷ r ∷ []) = refl
 groups_exact (p ∷ q ∷ r ∷ s ∷ rest) = let h = groups_exact rest in omega arith
 
-pub complete_exact : (u : List ℕ) → first_fault u ≡ None → 4 * length (complete_bytes u) + 3 * length (left_symbols u) ≡ 3 * length (filter is_symbol u)
+pub complete_exact : (u : List ℕ) → first_fault u ≡ None → 4 * length (complete_bytes u) + 3 * length (left_symbols u)
+    ≡ 3 * length (filter is_symbol u)
 unfolding complete_bytes values left_symbols
 complete_exact u e =
-    let all : complete_bytes u ≡ groups (map symbol_value (filter is_symbol u)) = ap (λ o. groups (map symbol_value (filter is_symbol (before_place u o)))) e in
-    omega (arith, ap length all, groups_exact (map symbol_value (filter is_symbol u)), length-map (filter is_symbol u) symbol_value, length-after_groups (filter is_symbol u), length-after_groups (map symbol_value (filter is_symbol u)))
+    let all : complete_bytes u ≡ groups (map symbol_value (filter is_symbol u)) =
+    ap (λ o. groups (map symbol_value (filter is_symbol (before_place u o)))) e in
+    omega (
+      arith,
+      ap length all,
+      groups_exact (map symbol_value (filter is_symbol u)),
+      length-map (filter is_symbol u) symbol_value,
+      length-after_groups (filter is_symbol u),
+      length-after_groups (map symbol_value (filter is_symbol u)),
+    )
 
 -- What waits, and then a text
 
 -- the symbols of what waits, and of what waits and then a text
-pub waiting_symbols : (s : DataUrlBase64) (t : List ℕ) → is_good_state s ≡ true → filter is_symbol (waiting_text s ++ t) ≡ take s.pending s.symbols ++ filter is_symbol t
-waiting_symbols s t h = symbols_more (take s.pending s.symbols) s.padding (every_list_all (take s.pending s.symbols) (good_parts s h).symbols) t
+pub waiting_symbols : (s : DataUrlBase64) (t : List ℕ) → is_good_state s ≡ true
+    → filter is_symbol (waiting_text s ++ t) ≡ take s.pending s.symbols ++ filter is_symbol t
+waiting_symbols s t h = symbols_more (take s.pending s.symbols) s.padding
+    (every_list_all (take s.pending s.symbols) (good_parts s h).symbols) t
 
-pub waiting_length : (s : DataUrlBase64) (t : List ℕ) → is_good_state s ≡ true → length (filter is_symbol (waiting_text s ++ t)) ≤ s.pending + length t
+pub waiting_length : (s : DataUrlBase64) (t : List ℕ) → is_good_state s ≡ true
+    → length (filter is_symbol (waiting_text s ++ t)) ≤ s.pending + length t
 waiting_length s t h =
     let e = ap length (waiting_symbols s t h) in
-    omega (arith, e, length-append (take s.pending s.symbols) (filter is_symbol t), length-take s.pending s.symbols, filter_length t)
+    omega (
+      arith,
+      e,
+      length-append (take s.pending s.symbols) (filter is_symbol t),
+      length-take s.pending s.symbols,
+      filter_length t,
+    )
 
-pub text_length : (s : DataUrlBase64) (t : List ℕ) → s.pending ≤ length s.symbols → length (waiting_text s ++ t) ≡ s.pending + s.padding + length t
+pub text_length : (s : DataUrlBase64) (t : List ℕ) → s.pending ≤ length s.symbols
+    → length (waiting_text s ++ t) ≡ s.pending + s.padding + length t
 text_length s t h =
     length-append (waiting_text s) t
-    ∙ ap (λ n. n + length t) (length-append (take s.pending s.symbols) (replicate s.padding 61) ∙ ap (λ n. n + length {A = ℕ} (replicate s.padding 61)) (length-take-le s.pending s.symbols h) ∙ ap (λ n. s.pending + n) (length-replicate s.padding 61))
+    ∙ ap (λ n. n + length t) (length-append (take s.pending s.symbols) (replicate s.padding 61)
+    ∙ ap (λ n. n + length {A = ℕ} (replicate s.padding 61)) (length-take-le s.pending s.symbols h)
+    ∙ ap (λ n. s.pending + n) (length-replicate s.padding 61))
 
 -- The last symbols, found from the end on
 
-filter_first : (b : ℕ) (bs : List ℕ) (v : Bool) → is_symbol b ≡ v → filter is_symbol (b ∷ bs) ≡ cond v (b ∷ filter is_symbol bs) (filter is_symbol bs)
+filter_first : (b : ℕ) (bs : List ℕ) (v : Bool) → is_symbol b ≡ v
+    → filter is_symbol (b ∷ bs) ≡ cond v (b ∷ filter is_symbol bs) (filter is_symbol bs)
 filter_first b bs v e = ap (λ v. cond v (b ∷ filter is_symbol bs) (filter is_symbol bs)) e
 
 -- the byte before the place
-filter_before : (s : List ℕ) (i b : ℕ) (v : Bool) → i < length s → b ≡ get_or s i 0 → is_symbol b ≡ v → filter is_symbol (drop i s) ≡ cond v (b ∷ filter is_symbol (drop (i + 1) s)) (filter is_symbol (drop (i + 1) s))
+filter_before : (s : List ℕ) (i b : ℕ) (v : Bool) → i < length s → b ≡ get_or s i 0 → is_symbol b ≡ v
+    → filter is_symbol (drop i s) ≡ cond v (b ∷ filter is_symbol (drop (i + 1) s)) (filter is_symbol (drop (i + 1) s))
 filter_before s i b v l q e =
     let first : drop i s ≡ b ∷ drop (i + 1) s = rw (add-one, drop-cons s i 0) (ap (λ x. x ∷ drop (suc i) s) (sym q)) in
     ap (filter is_symbol) first ∙ filter_first b (drop (i + 1) s) v e
 
 -- a symbol is put before those that were found
-found_one : (xs : List ℕ) (count m b : ℕ) → m < count → count ≤ length xs → drop m (take count (set xs m b)) ≡ b ∷ drop (m + 1) (take count xs)
+found_one : (xs : List ℕ) (count m b : ℕ) → m < count → count ≤ length xs
+    → drop m (take count (set xs m b)) ≡ b ∷ drop (m + 1) (take count xs)
 found_one xs count m b l k =
     let few : length (take count xs) ≡ count = length-take-le count xs k in
     ap (drop m) (take-set-lt count xs m b l) ∙ drop-set (take count xs) m b (omega arith)
 
-pub found_symbol : (s xs : List ℕ) (count missing at m i b : ℕ) → m + 1 ≡ missing → i + 1 ≡ at → at ≤ length s → b ≡ get_or s i 0 → is_symbol b ≡ true → missing ≤ count → count ≤ length xs → drop missing (take count xs) ≡ filter is_symbol (drop at s) → drop m (take count (set xs m b)) ≡ filter is_symbol (drop i s)
+pub found_symbol : (s xs : List ℕ) (count missing at m i b : ℕ) → m + 1 ≡ missing → i + 1 ≡ at → at ≤ length s
+    → b ≡ get_or s i 0 → is_symbol b ≡ true → missing ≤ count → count ≤ length xs
+    → drop missing (take count xs) ≡ filter is_symbol (drop at s) → drop m (take count (set xs m b)) ≡ filter is_symbol
+    (drop i s)
 found_symbol s xs count missing at m i b j k l q e n f h =
     found_one xs count m b (omega arith) f
     ∙ ap (λ x. b ∷ drop x (take count xs)) j
@@ -95,33 +136,47 @@ found_symbol s xs count missing at m i b j k l q e n f h =
 -- fewer of what waits
 pub waiting_less : (xs ys : List ℕ) (m n b : ℕ) → m + 1 ≡ n → take n xs ≡ take n ys → take m (set xs m b) ≡ take m ys
 waiting_less xs ys m n b e h =
-    take-set-le m xs m b (omega arith) ∙ sym (take-take m n xs (omega arith)) ∙ ap (take m) h ∙ take-take m n ys (omega arith)
+    take-set-le m xs m b (omega arith) ∙ sym (take-take m n xs (omega arith)) ∙ ap (take m) h
+    ∙ take-take m n ys (omega arith)
 
 -- all were found
-pub found_all : (waiting s last : List ℕ) (missing at : ℕ) → missing ≡ 0 → drop missing last ≡ filter is_symbol (drop at s) → (front : List ℕ) × (waiting ++ filter is_symbol s ≡ front ++ last)
+pub found_all : (waiting s last : List ℕ) (missing at : ℕ) → missing ≡ 0
+    → drop missing last ≡ filter is_symbol (drop at s)
+    → (front : List ℕ) × (waiting ++ filter is_symbol s ≡ front ++ last)
 found_all waiting s last missing at z h = (
   waiting ++ filter is_symbol (take at s),
-  ap (λ x. waiting ++ x) (ap (filter is_symbol) (sym (take-append-drop at s)) ∙ filter-append is_symbol (take at s) (drop at s))
+  ap (λ x. waiting ++ x) (ap (filter is_symbol) (sym (take-append-drop at s))
+      ∙ filter-append is_symbol (take at s) (drop at s))
       ∙ sym (append_assoc waiting (filter is_symbol (take at s)) (filter is_symbol (drop at s)))
       ∙ ap (λ x. (waiting ++ filter is_symbol (take at s)) ++ x) (sym h ∙ ap (λ n. drop n last) z),
 )
 
 -- the text has no more, and all of what waits is left
-pub found_waiting : (symbols s xs : List ℕ) (pending count missing : ℕ) → missing ≤ count → count ≤ 3 → pending ≤ 3 → 0 < missing → length xs ≡ 3 → count ≡ (pending + length (filter is_symbol s) % 4) % 4 → drop missing (take count xs) ≡ filter is_symbol s → take missing xs ≡ take missing symbols → (front : List ℕ) × (take pending symbols ++ filter is_symbol s ≡ front ++ take count xs)
+pub found_waiting : (symbols s xs : List ℕ) (pending count missing : ℕ) → missing ≤ count → count ≤ 3 → pending ≤ 3
+    → 0 < missing → length xs ≡ 3 → count ≡ (pending + length (filter is_symbol s) % 4) % 4
+    → drop missing (take count xs) ≡ filter is_symbol s → take missing xs ≡ take missing symbols
+    → (front : List ℕ) × (take pending symbols ++ filter is_symbol s ≡ front ++ take count xs)
 found_waiting symbols s xs pending count missing a b c d e f g h =
-    let long : length (filter is_symbol s) ≡ count - missing = ap length (sym g) ∙ omega (arith, length-drop missing (take count xs), length-take-le count xs (omega arith)) in
+    let long : length (filter is_symbol s) ≡ count - missing = ap length (sym g)
+    ∙ omega (arith, length-drop missing (take count xs), length-take-le count xs (omega arith)) in
     let same : pending ≡ missing = omega arith in
-    let front : take missing (take count xs) ≡ take missing xs = take-take missing count xs a in
-    ([], ap (λ n. take n symbols ++ filter is_symbol s) same ∙ ap (λ x. x ++ filter is_symbol s) (sym h ∙ sym front) ∙ ap (λ x. take missing (take count xs) ++ x) (sym g) ∙ take-append-drop missing (take count xs))
+    let front : take missing (take count xs) ≡ take missing xs = take-take missing count xs a in (
+      [],
+      ap (λ n. take n symbols ++ filter is_symbol s) same ∙ ap (λ x. x ++ filter is_symbol s) (sym h ∙ sym front)
+          ∙ ap (λ x. take missing (take count xs) ++ x) (sym g) ∙ take-append-drop missing (take count xs),
+    )
 
 -- What is left
 
-behind_groups : (front last : List ℕ) → length last ≤ 3 → length (front ++ last) % 4 ≡ length last → after_groups (front ++ last) ≡ last
+behind_groups : (front last : List ℕ) → length last ≤ 3 → length (front ++ last) % 4 ≡ length last
+    → after_groups (front ++ last) ≡ last
 behind_groups front last few e =
     let whole : length (after_groups front) ≡ 0 = omega (arith, length-after_groups front, length-append front last) in
-    after_groups-append front last ∙ ap (λ x. after_groups (x ++ last)) (nil_from_length (after_groups front) whole) ∙ after_few last few
+    after_groups-append front last ∙ ap (λ x. after_groups (x ++ last)) (nil_from_length (after_groups front) whole)
+    ∙ after_few last few
 
-pub left_symbols_are : (s last : List ℕ) → length last ≡ length (filter is_symbol s) % 4 → (front : List ℕ) × (filter is_symbol s ≡ front ++ last) → last ≡ left_symbols s
+pub left_symbols_are : (s last : List ℕ) → length last ≡ length (filter is_symbol s) % 4
+    → (front : List ℕ) × (filter is_symbol s ≡ front ++ last) → last ≡ left_symbols s
 unfolding left_symbols
 left_symbols_are s last e h =
     sym (ap after_groups h.1 ∙ behind_groups h.0 last (omega (arith, e)) (ap (λ x. length x % 4) (sym h.1) ∙ sym e))
@@ -135,18 +190,37 @@ unfolding left_symbols
 left_all u = all_list (after_groups (filter is_symbol u)) (every_after (filter is_symbol u) (filter_every is_symbol u))
 
 -- a state with these symbols and this padding is what the text leaves
-pub is_left : (u : List ℕ) (s : DataUrlBase64) → length s.symbols ≡ 3 → s.pending ≤ 3 → s.padding ≤ 3 → take s.pending s.symbols ≡ left_symbols u → s.padding ≡ left_padding u → IsLeftOf u s
-is_left u s size a b e f = record { good = good_from s a b (ap (list_all is_symbol) e ∙ left_all u); pending_is = sym (length-take-le s.pending s.symbols (omega arith)) ∙ ap length e; symbols_are = e; padding_is = f }
+pub is_left : (u : List ℕ) (s : DataUrlBase64) → length s.symbols ≡ 3 → s.pending ≤ 3 → s.padding ≤ 3
+    → take s.pending s.symbols ≡ left_symbols u → s.padding ≡ left_padding u → IsLeftOf u s
+is_left u s size a b e f = record {
+  good = good_from s a b (ap (list_all is_symbol) e ∙ left_all u);
+  pending_is =
+      sym (length-take-le s.pending s.symbols (omega arith)) ∙ ap length e;
+  symbols_are = e;
+  padding_is = f;
+}
 
 -- what was counted is left
-pub counted_left : (s r : DataUrlBase64) (t : List ℕ) (count pads : ℕ) → is_good_state s ≡ true → count ≡ (s.pending + length (filter is_symbol t) % 4) % 4 → pads ≡ length (filter (λ c. eqb c 61) t) → r.pending ≡ count → r.padding ≡ min (s.padding + min pads 3) 3 → length r.symbols ≡ 3 → length s.symbols ≡ 3 → (front : List ℕ) × (take s.pending s.symbols ++ filter is_symbol t ≡ front ++ take count r.symbols) → IsLeftOf (waiting_text s ++ t) r
+pub counted_left : (s r : DataUrlBase64) (t : List ℕ) (count pads : ℕ) → is_good_state s ≡ true
+    → count ≡ (s.pending + length (filter is_symbol t) % 4) % 4 → pads ≡ length (filter (λ c. eqb c 61) t)
+    → r.pending ≡ count → r.padding ≡ min (s.padding + min pads 3) 3 → length r.symbols ≡ 3 → length s.symbols ≡ 3
+    → (front : List ℕ) × (take s.pending s.symbols ++ filter is_symbol t ≡ front ++ take count r.symbols)
+    → IsLeftOf (waiting_text s ++ t) r
 counted_left s r t count pads h c p e f l m g =
     let parts = good_parts s h in
     let few = parts.few_pending in
     let all = waiting_symbols s t h in
-    let padding : left_padding (waiting_text s ++ t) ≡ min (s.padding + length (filter (λ c. eqb c 61) t)) 3 = padding_more (take s.pending s.symbols) s.padding (every_list_all (take s.pending s.symbols) parts.symbols) t in
+    let padding : left_padding (waiting_text s ++ t) ≡ min (s.padding + length (filter (λ c. eqb c 61) t)) 3 =
+    padding_more (take s.pending s.symbols) s.padding (every_list_all (take s.pending s.symbols) parts.symbols) t in
     let size : length (take count r.symbols) ≡ length (filter is_symbol (waiting_text s ++ t)) % 4 =
-    length-take-le count r.symbols (omega arith) ∙ omega (arith, c, ap length all, length-append (take s.pending s.symbols) (filter is_symbol t), length-take-le s.pending s.symbols (omega arith)) in
+    length-take-le count r.symbols (omega arith)
+    ∙ omega (
+      arith,
+      c,
+      ap length all,
+      length-append (take s.pending s.symbols) (filter is_symbol t),
+      length-take-le s.pending s.symbols (omega arith),
+    ) in
     is_left (waiting_text s ++ t) r l (omega arith) (omega arith)
     (ap (λ n. take n r.symbols) e ∙ left_symbols_are (waiting_text s ++ t) (take count r.symbols) size (g.0, all ∙ g.1))
     (omega (arith, padding))
@@ -156,7 +230,8 @@ counted_left s r t count pads h c p e f l m g =
 not_both : (c : ℕ) → is_symbol c ≡ true → eqb c 61 ≡ true → ⊥
 not_both c s p = both_ways (is_symbol c) (ap is_symbol (eqb-true c 61 p)) s
 
-sum_case : (c n : ℕ) (x y : List ℕ) (s p : Bool) → (s ≡ true → p ≡ true → ⊥) → length x + length y ≤ n → length (cond s (c ∷ x) x) + length (cond p (c ∷ y) y) ≤ suc n
+sum_case : (c n : ℕ) (x y : List ℕ) (s p : Bool) → (s ≡ true → p ≡ true → ⊥) → length x + length y ≤ n
+    → length (cond s (c ∷ x) x) + length (cond p (c ∷ y) y) ≤ suc n
 sum_case c n x y true true k h = absurd (k refl refl)
 sum_case c n x y true false k h = omega arith
 sum_case c n x y false true k h = omega arith
@@ -165,10 +240,13 @@ sum_case c n x y false false k h = omega arith
 -- no byte is a symbol and padding
 symbols_and_pads : (t : List ℕ) → length (filter is_symbol t) + length (filter (λ c. eqb c 61) t) ≤ length t
 symbols_and_pads [] = omega arith
-symbols_and_pads (c ∷ t) = sum_case c (length t) (filter is_symbol t) (filter (λ c. eqb c 61) t) (is_symbol c) (eqb c 61) (not_both c) (symbols_and_pads t)
+symbols_and_pads (c ∷ t) = sum_case c (length t) (filter is_symbol t) (filter (λ c. eqb c 61) t) (is_symbol c)
+    (eqb c 61) (not_both c) (symbols_and_pads t)
 
 -- a text whose groups take each of its bytes
-pub nothing_left : (u : List ℕ) (s : DataUrlBase64) (bytes len : ℕ) → first_fault u ≡ None → bytes ≡ length u → len ≡ length (complete_bytes u) → bytes % 4 ≡ 0 → bytes / 4 ≡ len / 3 → length s.symbols ≡ 3 → s.pending ≡ 0 → s.padding ≡ 0 → IsLeftOf u s
+pub nothing_left : (u : List ℕ) (s : DataUrlBase64) (bytes len : ℕ) → first_fault u ≡ None → bytes ≡ length u
+    → len ≡ length (complete_bytes u) → bytes % 4 ≡ 0 → bytes / 4 ≡ len / 3 → length s.symbols ≡ 3 → s.pending ≡ 0
+    → s.padding ≡ 0 → IsLeftOf u s
 unfolding left_padding left_symbols
 nothing_left u s bytes len e a b c d size f g =
     let exact = complete_exact u e in
@@ -181,7 +259,9 @@ nothing_left u s bytes len e a b c d size f g =
     (omega arith)
 
 -- what waits and what was written take no more room than what was fed
-pub taken_room : (s t : DataUrlBase64) (a : List ℕ) {out out' : List ℕ} {status n : ℕ} → is_good_state s ≡ true → TakesText (waiting_text s ++ a) t out out' status n → status ≡ 0 → n ≤ length out' → 3 * t.pending + 4 * n ≤ 3 * (s.pending + length a)
+pub taken_room : (s t : DataUrlBase64) (a : List ℕ) {out out' : List ℕ} {status n : ℕ} → is_good_state s ≡ true
+    → TakesText (waiting_text s ++ a) t out out' status n → status ≡ 0 → n ≤ length out'
+    → 3 * t.pending + 4 * n ≤ 3 * (s.pending + length a)
 taken_room s t a {out} {out'} {status} {n} h k z within =
     let u : List ℕ = waiting_text s ++ a in
     let sound = taken_sound k z in

@@ -1,5 +1,7 @@
 -- A URL is opened by its probe.
-use Rattle.std.proofs.Common.{◌≡◌, Bor, ℕ, zero, suc, ◌+◌, ◌-◌, ◌<◌, ◌≤◌, Bool, true, false, nat_eq, List, [], ◌∷◌, ◌++◌, length, length-append, get_or, take, drop, codes, Option, None, Some, Result, Ok, Err, position, refl, sym, ap, ◌∙◌, subst, inl, inr, arith, eqb-true}
+use Rattle.std.proofs.Common.{◌≡◌, Bor, ℕ, zero, suc, ◌+◌, ◌-◌, ◌<◌, ◌≤◌, Bool, true, false, nat_eq, List, [], ◌∷◌}
+use Rattle.std.proofs.Common.{◌++◌, length, length-append, get_or, take, drop, codes, Option, None, Some, Result, Ok}
+use Rattle.std.proofs.Common.{Err, position, refl, sym, ap, ◌∙◌, subst, inl, inr, arith, eqb-true}
 use Rattle.std.specs.Global.{Global}
 use Rattle.std.specs.Prelude.{◌==◌, IfSome, IsUtf8, encode_utf8_all}
 use Rattle.std.specs.Str.Pattern.{GetsRange}
@@ -9,19 +11,16 @@ use Rattle.std.proofs.lemmas.List.{drop_more, get_or-take, length-drop, length-t
 use Rattle.std.proofs.lemmas.List.Quantifiers.{position-Some}
 use Rattle.std.proofs.lemmas.List.Sums.{suffix_len-le-length}
 use Rattle.std.proofs.lemmas.Slice.Eq.{starts_is}
-use Rattle.data_url.specs.Base64.{after_groups, decoded, groups, is_valid, values, without_last_padding, without_padding, without_whitespace}
+use Rattle.data_url.specs.Base64.{after_groups, decoded, groups, is_valid, values, without_last_padding}
+use Rattle.data_url.specs.Base64.{without_padding, without_whitespace}
 use Rattle.data_url.specs.DataUrl.{IsAcceptable, is_base64, mime_of, url_body, url_tail}
-use Rattle.data_url.specs.Fetch.{Accepted, has_base64_suffix, header_of, mime_text, outcome, plain_body, staged, tail_of}
+use Rattle.data_url.specs.Fetch.{Accepted, has_base64_suffix, header_of, mime_text, outcome, plain_body, staged}
+use Rattle.data_url.specs.Fetch.{tail_of}
 use Rattle.data_url.specs.Mime.{HasNoRecord, IsRecordOf, default_record, printed}
 use Rattle.data_url.specs.MimeType.{record_of}
 use Rattle.data_url.specs.Percent.{percent_decoding}
 use Rattle.data_url.specs.Url.{before, behind, front, is_c0_control_or_space, trimmed_text, without_tabs_and_newlines}
-use Rattle.data_url.proofs.EncodeLemmas.{ascii_all}
-use Rattle.data_url.proofs.MediaLemmas.{bytes_by_place}
-use Rattle.data_url.proofs.OnLiterals.{on_literals}
-use Rattle.data_url.proofs.ProcessLemmas.{bytes_trimmed}
-use Rattle.data_url.proofs.RecodedLemmas.{IsBytes}
-use Rattle.data_url.proofs.UrlLemmas.{before_at, behind_none}
+use Rattle.data_url.proofs.api.{IsBytes, ascii_all, before_at, behind_none, bytes_by_place, bytes_trimmed, on_literals}
 use Rattle.data_url_c.specs.Answers.{Crosses, Shows}
 use Rattle.data_url_c.specs.Gives.{RefusesUrl}
 use Rattle.data_url_c.specs.Opens.{Opens, answer_of}
@@ -29,16 +28,19 @@ use Rattle.data_url_c.specs.Steps.{CrossesOrNot, HasLength, IsRead, ReadsProbe}
 use Rattle.data_url_c.specs.Steps.Opening.{IsReadUrl, IsRefused, ReadsUrl, tail_after}
 use Rattle.data_url_c.specs.declared.answer.DataUrlAnswer.{DataUrlAnswer}
 use Rattle.data_url_c.specs.declared.open.DataUrlOpened.{DataUrlOpened}
-use Rattle.data_url_c.specs.declared.refusal.Refusal.TheVariants.{InvalidBase64, NoComma, NoFragment, NotADataUrl, NotAMimeType, NotUtf8, OutOfMemory}
+use Rattle.data_url_c.specs.declared.refusal.Refusal.TheVariants.{InvalidBase64, NoComma, NoFragment, NotADataUrl}
+use Rattle.data_url_c.specs.declared.refusal.Refusal.TheVariants.{NotAMimeType, NotUtf8, OutOfMemory}
 use Rattle.data_url_c.specs.declared.refusal.Refusal.{Refusal}
 use Rattle.std.proofs.lemmas.Option.{same_Some}
 use Rattle.data_url_c.proofs.GivenLemmas.{accepted}
 use Rattle.data_url_c.proofs.PrintLemmas.{ascii_encoded, vec_of}
-use Rattle.data_url_c.proofs.ProbeLemmas.{ends, no_comma_in_scheme, same_acceptable, same_header, same_no_comma, same_no_scheme, tail_of_cut, trimmed_around, trimmed_front, trimmed_tail}
+use Rattle.data_url_c.proofs.ProbeLemmas.{ends, no_comma_in_scheme, same_acceptable, same_header, same_no_comma}
+use Rattle.data_url_c.proofs.ProbeLemmas.{same_no_scheme, tail_of_cut, trimmed_around, trimmed_front, trimmed_tail}
 
 -- Cutting at the comma
 
-pub at_comma : (x : List ℕ) (comma : ℕ) → position (λ b. b == 44) x ≡ Some comma → (comma < length x) × (get_or x comma 0 ≡ 44)
+pub at_comma : (x : List ℕ) (comma : ℕ) → position (λ b. b == 44) x ≡ Some comma
+    → (comma < length x) × (get_or x comma 0 ≡ 44)
 at_comma x comma h =
     let p = position-Some (λ b. b == 44) x comma 0 h in (p.0, eqb-true (get_or x comma 0) 44 p.1)
 
@@ -72,7 +74,8 @@ tail_is x comma low e =
 
 -- the tail
 pub tail_found : (x : List ℕ) (comma low end : ℕ) (r : Option (Bor (List ℕ))) → position (λ b. b == 44) x ≡ Some comma
-    → low ≡ suffix_len is_c0_control_or_space (drop (comma + 1) x) → end ≡ length x - low → GetsRange x (comma + 1) end r
+    → low ≡ suffix_len is_c0_control_or_space (drop (comma + 1) x) → end ≡ length x - low
+    → GetsRange x (comma + 1) end r
     → IfSome r (λ tail. tail_of x ≡ Some tail.now)
 tail_found x comma low end None p l e h = tt
 tail_found x comma low end (Some t) p l e h =
@@ -136,7 +139,8 @@ read_by a t {flag = flag} n b d h =
     let is = accepted (a ++ 44 ∷ qq) u.staged_is in
     let own = same_header a qq qq u.header (ends a n) probe probe u.header_is is in
     let with = same_header a qq t u.header (ends a n) probe d u.header_is is in
-    let tail : url_tail h.url ≡ qq = same_Some (url_tail h.url) qq (sym u.tail_is ∙ own.tail_is ∙ ap Some tail_of_probe) in
+    let tail : url_tail h.url ≡ qq = same_Some (url_tail h.url) qq (sym u.tail_is ∙ own.tail_is
+    ∙ ap Some tail_of_probe) in
     let body : url_body h.url ≡ outcome (is_base64 h.url) qq =
     ap (outcome (is_base64 h.url)) (ap plain_body tail ∙ body_of_probe) in
     let length = subst (λ o. HasLength o h.len) body h.len_is in
@@ -154,11 +158,13 @@ read_by a t {flag = flag} n b d h =
       flag_is = same;
       tail_is = with.tail_is;
       staged_is = with.staged_is
-          ∙ ap (λ v. Accepted (mime_text u.header) (outcome v (plain_body (trimmed_tail t))) with.fragment_is) (sym same);
+          ∙ ap (λ v. Accepted (mime_text u.header) (outcome v (plain_body (trimmed_tail t))) with.fragment_is)
+          (sym same);
     }
 
 refused_by : (a t : List ℕ) (refusal : Refusal) → behind 44 a ≡ None → IsBytes a → IsBytes (trimmed_text (a ++ 44 ∷ t))
-    → IsUtf8 (a ++ 44 ∷ qq) → IsUtf8 (a ++ 44 ∷ t) → RefusesUrl (a ++ 44 ∷ qq) refusal → RefusesUrl (a ++ 44 ∷ t) refusal
+    → IsUtf8 (a ++ 44 ∷ qq) → IsUtf8 (a ++ 44 ∷ t) → RefusesUrl (a ++ 44 ∷ qq) refusal
+    → RefusesUrl (a ++ 44 ∷ t) refusal
 refused_by a t NotADataUrl n b d p u h = (u, same_no_scheme a qq t (ends a n) (bytes_probe a b) h.1)
 refused_by a t NoComma n b d p u h = (u, same_no_comma a qq t (ends a n) (bytes_probe a b) d h.1)
 refused_by a t OutOfMemory n b d p u h = (u, same_acceptable a qq t (ends a n) (bytes_probe a b) d h.1)
@@ -179,15 +185,18 @@ reads_by a t old new (Err refusal) n b d p h x comma u e f =
     (subst R (sym e) (refused_by a t refusal n b d p (subst IsUtf8 e u) h.0), h.1)
 
 pub reads_url : (x probe old new : List ℕ) (comma : ℕ) (r : Result (DataUrlAnswer × Bool) Refusal) → IsUtf8 x
-    → IsUtf8 probe → ((i : ℕ) → get_or x i 0 < 256) → position (λ b. b == 44) x ≡ Some comma → probe ≡ take comma x ++ codes ",QQ"
+    → IsUtf8 probe → ((i : ℕ) → get_or x i 0 < 256) → position (λ b. b == 44) x ≡ Some comma
+    → probe ≡ take comma x ++ codes ",QQ"
     → ReadsProbe probe old new r → ReadsUrl x comma old new r
 reads_url x probe old new comma r u v b p e h =
     let a = take comma x in
     let t = drop (comma + 1) x in
     let cut = cut_at x comma p in
     let bytes : IsBytes a = bytes_front a (44 ∷ t) (subst IsBytes cut (bytes_by_place x b)) in
-    let trimmed : IsBytes (trimmed_text (a ++ 44 ∷ t)) = subst (λ y. IsBytes (trimmed_text y)) cut (bytes_trimmed x b) in
-    reads_by a t old new r (none_before x comma p) bytes trimmed (subst IsUtf8 e v) (subst (λ y. ReadsProbe y old new r) e h)
+    let trimmed : IsBytes (trimmed_text (a ++ 44 ∷ t)) =
+    subst (λ y. IsBytes (trimmed_text y)) cut (bytes_trimmed x b) in
+    reads_by a t old new r (none_before x comma p) bytes trimmed (subst IsUtf8 e v)
+    (subst (λ y. ReadsProbe y old new r) e h)
     x comma u cut refl
 
 -- A URL without a header
@@ -236,7 +245,8 @@ default_is = inr (no_record, refl)
 default_by : (t : List ℕ) {old new : List ℕ} {r : DataUrlAnswer} → Global → IsBytes (trimmed_text (scheme ++ 44 ∷ t))
     → Shows 0 default_text old new r → IsReadUrl (scheme ++ 44 ∷ t) (trimmed_tail t) old new r false
 default_by t memory d h =
-    let with = same_header scheme qq t [] (ends scheme no_comma_in_scheme) (bytes_probe scheme bytes_scheme) d no_header is_accepted in
+    let with = same_header scheme qq t [] (ends scheme no_comma_in_scheme) (bytes_probe scheme bytes_scheme) d no_header
+    is_accepted in
     record {
       header = [];
       mime = default_record;

@@ -1,26 +1,27 @@
 -- Base64 in parts: what is fed, what is written, and what waits.
-use Rattle.std.proofs.Common.{◌≡◌, ℕ, ◌+◌, ◌≤◌, true, false, List, [], ◌∷◌, ◌++◌, length, take, drop, Option, None, Some, is_some, Result, Ok, Err, refl, sym, ap, ◌∙◌, subst, arith, append_assoc, drop-drop, length-append, length-drop, ◌-◌, take_all}
+use Rattle.std.proofs.Common.{◌≡◌, ℕ, ◌+◌, ◌≤◌, true, false, List, [], ◌∷◌, ◌++◌, length, take, drop, Option, None}
+use Rattle.std.proofs.Common.{Some, is_some, Result, Ok, Err, refl, sym, ap, ◌∙◌, subst, arith, append_assoc, drop-drop}
+use Rattle.std.proofs.Common.{length-append, length-drop, ◌-◌, take_all}
 use Rattle.std.specs.List.{list_all}
 use Rattle.std.specs.Prelude.{nat_le, ◌&&◌, replicate}
 use Rattle.std.proofs.lemmas.Bool.{and_parts, le-leb, leb-true}
 use borrow.Rule.Slice.PartMut.{post_of}
-use Rattle.std.proofs.lemmas.List.{append-nil, drop-replicate, length-take-le, nil_from_length, take-append-drop, take-replicate}
+use Rattle.std.proofs.lemmas.List.{append-nil, drop-replicate, length-take-le, nil_from_length, take-append-drop}
+use Rattle.std.proofs.lemmas.List.{take-replicate}
 use Rattle.std.proofs.lemmas.Slice.{drop-append-drop}
 use Rattle.std.proofs.Math.Seq.{drop-append-add, drop-append_seam, take-append-add, take-append_seam}
 use Rattle.std.specs.Prelude.{MatchOption}
 use Rattle.std.specs.declared.convert.Infallible.{Infallible}
-use Rattle.data_url.specs.Base64.{AlphabetSymbolAfterPadding, Kind, LoneAlphabetSymbol, Padding, UnexpectedSymbol, first_fault, is_symbol, kind_of, left_padding, left_symbols, left_text}
+use Rattle.data_url.specs.Base64.{AlphabetSymbolAfterPadding, Kind, LoneAlphabetSymbol, Padding, UnexpectedSymbol}
+use Rattle.data_url.specs.Base64.{first_fault, is_symbol, kind_of, left_padding, left_symbols, left_text}
 use Rattle.data_url.specs.Decoder.{Feeds, IsTaken, State, left_over, start}
 use Rattle.data_url.specs.Run.{Call, IsRun, joined_pieces, refusal}
 use Rattle.data_url.specs.declared.forgiving_base64.DecodeError.TheVariants.{InvalidBase64}
 use Rattle.data_url.specs.Laws.{GoesOn}
-use Rattle.data_url.proofs.FeedLemmas.{two_feeds}
-use Rattle.data_url.proofs.PaddingLemmas.{done_stays, fault-append_some, fault_byte, fault_some, kind_stays}
-use Rattle.data_url.proofs.RunLemmas.{match_alike, match_at_none, match_map, match_some}
-use Rattle.data_url.proofs.WholeLemmas.{run_keeps}
+use Rattle.data_url.proofs.api.{done_stays, fault-append_some, fault_byte, fault_some, feeds_err, feeds_then}
+use Rattle.data_url.proofs.api.{kind_stays, match_alike, match_at_none, match_map, match_some, run_keeps, two_feeds}
 use Rattle.data_url_c.specs.Answers.{status_of_kind}
 use Rattle.data_url.specs.declared.forgiving_base64.DecodeError.{DecodeError}
-use Rattle.data_url.proofs.DecoderLemmas.{feeds_err, feeds_then}
 use Rattle.data_url_c.specs.Parts.{IsLeftOf, TakesText, WritesFront, is_good_state, waiting_text}
 use Rattle.data_url_c.specs.Steps.{GetsBytes, GetsGroups, Writes}
 use Rattle.data_url_c.specs.declared.parts.DataUrlBase64.{DataUrlBase64}
@@ -40,10 +41,12 @@ good_parts s h =
     record { few_pending = leb-true s.pending 3 a.0; few_padding = leb-true s.padding 3 b.0; symbols = b.1 }
 
 -- with few of both, the symbols decide
-pub good_rest : (s : DataUrlBase64) → s.pending ≤ 3 → s.padding ≤ 3 → list_all is_symbol (take s.pending s.symbols) ≡ is_good_state s
+pub good_rest : (s : DataUrlBase64) → s.pending ≤ 3 → s.padding ≤ 3 → list_all is_symbol (take s.pending s.symbols)
+    ≡ is_good_state s
 good_rest s a b = let p = le-leb s.pending 3 a in let q = le-leb s.padding 3 b in rw (p, q) refl
 
-pub good_from : (s : DataUrlBase64) → s.pending ≤ 3 → s.padding ≤ 3 → list_all is_symbol (take s.pending s.symbols) ≡ true → is_good_state s ≡ true
+pub good_from : (s : DataUrlBase64) → s.pending ≤ 3 → s.padding ≤ 3 → list_all is_symbol (take s.pending s.symbols)
+    ≡ true → is_good_state s ≡ true
 good_from s a b c = sym (good_rest s a b) ∙ c
 
 -- six '=' with the symbols that wait put over the first of them begin with the text of what waits
@@ -60,15 +63,17 @@ waiting_taken s symbols h e size =
     ∙ ap (λ x. symbols ++ x) (take-replicate s.padding (6 - s.pending) 61 (omega arith))
     ∙ ap (λ x. x ++ replicate s.padding 61) e
 
-module _ {F E : Type 0} (step : F → List ℕ → Result (Unit {0}) E → F → Type 0) {d d' : State F} {waiting u : List ℕ} where
-  -- what waits was refused
-  pub waiting_refused : {x : DecodeError E} (text : List ℕ) → waiting ≡ u → Feeds step d waiting (Err x) d' → Feeds step d (u ++ text) (Err x) d'
-  waiting_refused {x} text e h = subst (λ s. Feeds step d (s ++ text) (Err x) d') e (feeds_err step text h)
+module _ {F E : Type 0} (step : F → List ℕ → Result (Unit {0}) E → F → Type 0) {d d' : State F} {waiting u : List ℕ}
+  where
+    -- what waits was refused
+    pub waiting_refused : {x : DecodeError E} (text : List ℕ) → waiting ≡ u → Feeds step d waiting (Err x) d'
+        → Feeds step d (u ++ text) (Err x) d'
+    waiting_refused {x} text e h = subst (λ s. Feeds step d (s ++ text) (Err x) d') e (feeds_err step text h)
 
-  -- what waits was fed, and then a text
-  pub waiting_fed : {between : State F} {text : List ℕ} {r : Result (Unit {0}) (DecodeError E)} → waiting ≡ u
-      → Feeds step d waiting (Ok tt) between → Feeds step between text r d' → Feeds step d (u ++ text) r d'
-  waiting_fed {text = text} {r = r} e h k = subst (λ s. Feeds step d (s ++ text) r d') e (feeds_then step h k)
+    -- what waits was fed, and then a text
+    pub waiting_fed : {between : State F} {text : List ℕ} {r : Result (Unit {0}) (DecodeError E)} → waiting ≡ u
+        → Feeds step d waiting (Ok tt) between → Feeds step between text r d' → Feeds step d (u ++ text) r d'
+    waiting_fed {text = text} {r = r} e h k = subst (λ s. Feeds step d (s ++ text) r d') e (feeds_then step h k)
 
 -- What a run of calls writes
 
@@ -77,37 +82,52 @@ abbrev pub Reaches : List ℕ → List ℕ → List ℕ → ℕ → Type 0
 Reaches out b bytes len = length b ≤ length out → (len ≡ length b) × (bytes ≡ b ++ drop (length b) out)
 
 -- one piece more
-pub reaches_more : (out b bytes piece bytes' : List ℕ) (len len' : ℕ) → Reaches out b bytes len → Writes piece bytes len bytes' len' → Reaches out (b ++ piece) bytes' len'
+pub reaches_more : (out b bytes piece bytes' : List ℕ) (len len' : ℕ) → Reaches out b bytes len
+    → Writes piece bytes len bytes' len' → Reaches out (b ++ piece) bytes' len'
 reaches_more out b bytes piece bytes' len len' h w fits =
     let long : length (b ++ piece) ≡ length b + length piece = length-append b piece in
     let k = h (omega arith) in
-    let size : length bytes ≡ length out = ap length k.1 ∙ length-append b (drop (length b) out) ∙ omega (arith, length-drop (length b) out) in
+    let size : length bytes ≡ length out = ap length k.1 ∙ length-append b (drop (length b) out)
+    ∙ omega (arith, length-drop (length b) out) in
     let g = w.fits (omega (arith, k.0)) in
-    let front : take len bytes ≡ b = ap (λ n. take n bytes) k.0 ∙ ap (take (length b)) k.1 ∙ take-append_seam b (drop (length b) out) in
+    let front : take len bytes ≡ b = ap (λ n. take n bytes) k.0 ∙ ap (take (length b)) k.1
+    ∙ take-append_seam b (drop (length b) out) in
     let end : len' ≡ length (b ++ piece) = omega (arith, g.0, k.0) in
     let rest : drop len' bytes ≡ drop (length (b ++ piece)) out =
-    ap (λ n. drop n bytes) end ∙ ap (drop (length (b ++ piece))) k.1 ∙ drop-append-drop (length b) out b (length (b ++ piece)) (omega arith) refl in
-    (end, g.1 ∙ ap (λ x. x ++ (piece ++ drop len' bytes)) front ∙ ap (λ x. b ++ (piece ++ x)) rest ∙ sym (append_assoc b piece (drop (length (b ++ piece)) out)))
+    ap (λ n. drop n bytes) end ∙ ap (drop (length (b ++ piece))) k.1
+    ∙ drop-append-drop (length b) out b (length (b ++ piece)) (omega arith) refl in (
+      end,
+      g.1 ∙ ap (λ x. x ++ (piece ++ drop len' bytes)) front ∙ ap (λ x. b ++ (piece ++ x)) rest
+          ∙ sym (append_assoc b piece (drop (length (b ++ piece)) out)),
+    )
 
-module _ {F E : Type 0} (step : F → List ℕ → Result (Unit {0}) E → F → Type 0) (bytes : F → List ℕ) (len : F → ℕ) (writes : (f : F) (piece : List ℕ) (r : Result (Unit {0}) E) (g : F) → step f piece r g → Writes piece (bytes f) (len f) (bytes g) (len g)) where
+module _ {F E : Type 0} (step : F → List ℕ → Result (Unit {0}) E → F → Type 0) (bytes : F → List ℕ) (len : F → ℕ)
+    (writes : (f : F) (piece : List ℕ) (r : Result (Unit {0}) E) (g : F) → step f piece r g
+    → Writes piece (bytes f) (len f) (bytes g) (len g)) where
   -- the pieces of a run
-  pub run_reaches : (out : List ℕ) (cs : List (Call F E)) (b : List ℕ) (f g : F) → IsRun step f cs g → Reaches out b (bytes f) (len f) → Reaches out (b ++ joined_pieces cs) (bytes g) (len g)
+  pub run_reaches : (out : List ℕ) (cs : List (Call F E)) (b : List ℕ) (f g : F) → IsRun step f cs g
+      → Reaches out b (bytes f) (len f) → Reaches out (b ++ joined_pieces cs) (bytes g) (len g)
   run_reaches out [] b f g ran h =
       let P : F → Type 0 = λ x. Reaches out b (bytes x) (len x) in
       let Q : List ℕ → Type 0 = λ x. Reaches out x (bytes g) (len g) in
       subst Q (sym (append-nil b)) (subst P ran h)
   run_reaches out (c ∷ cs) b f g ran h =
       let Q : List ℕ → Type 0 = λ x. Reaches out x (bytes g) (len g) in
-      subst Q (append_assoc b c.piece (joined_pieces cs)) (run_reaches out cs (b ++ c.piece) c.after g ran.2 (reaches_more out b (bytes f) c.piece (bytes c.after) (len f) (len c.after) h (writes f c.piece c.answer c.after ran.0)))
+      subst Q (append_assoc b c.piece (joined_pieces cs)) (run_reaches out cs (b ++ c.piece) c.after g ran.2
+      (reaches_more out b (bytes f) c.piece (bytes c.after) (len f) (len c.after) h
+      (writes f c.piece c.answer c.after ran.0)))
 
 -- What was decoded
 
 -- bytes at the front of an output, and then what was there
-pub writes_front : {bytes all out out' : List ℕ} {len : ℕ} → bytes ≡ all → len ≡ length bytes → out' ≡ bytes ++ drop (length bytes) out → length all ≤ length out → WritesFront all out out' len
+pub writes_front : {bytes all out out' : List ℕ} {len : ℕ} → bytes ≡ all → len ≡ length bytes
+    → out' ≡ bytes ++ drop (length bytes) out → length all ≤ length out → WritesFront all out out' len
 writes_front {bytes} {all} {out} {out'} {len} e l o fits = record {
   within = omega (arith, l, ap length e);
-  bytes_are = ap (λ n. take n out') l ∙ ap (take (length bytes)) o ∙ take-append_seam bytes (drop (length bytes) out) ∙ e;
-  rest_stays = ap (λ n. drop n out') l ∙ ap (drop (length bytes)) o ∙ drop-append_seam bytes (drop (length bytes) out) ∙ ap (λ n. drop n out) (sym l);
+  bytes_are = ap (λ n. take n out') l ∙ ap (take (length bytes)) o ∙ take-append_seam bytes (drop (length bytes) out)
+      ∙ e;
+  rest_stays = ap (λ n. drop n out') l ∙ ap (drop (length bytes)) o ∙ drop-append_seam bytes (drop (length bytes) out)
+      ∙ ap (λ n. drop n out) (sym l);
 }
 
 pub no_refusal : (o : Option Infallible) → o ≡ None
@@ -116,16 +136,22 @@ no_refusal (Some e) = elim e [ ]
 
 module _ {F : Type 0} {step : F → List ℕ → Result (Unit {0}) Infallible → F → Type 0} where
   -- what a new decoder over a closure that never refuses gave of a text
-  pub groups_fed : {f : F} {d d' : State F} {u : List ℕ} {r : Result (Unit {0}) (DecodeError Infallible)} → d ≡ start f → (h : Feeds step d u r d') → IsTaken u (joined_pieces h.run) r d'
+  pub groups_fed : {f : F} {d d' : State F} {u : List ℕ} {r : Result (Unit {0}) (DecodeError Infallible)} → d ≡ start f
+      → (h : Feeds step d u r d') → IsTaken u (joined_pieces h.run) r d'
   groups_fed {f} {d} {d'} {u} {r} e h =
       let P : State F → Type 0 = λ s. IsTaken (left_over s ++ u) (joined_pieces h.run) r d' in
       subst P e (match_at_none (refusal h.run) _ _ (no_refusal (refusal h.run)) h.gave)
 
 -- what each call keeps, feeding keeps
-pub fed_keeps : {F E A : Type 0} {step : F → List ℕ → Result (Unit {0}) E → F → Type 0} {d d' : State F} {u : List ℕ} {r : Result (Unit {0}) (DecodeError E)} → Feeds step d u r d' → (K : F → A) → ((g : F) (piece : List ℕ) (s : Result (Unit {0}) E) (g' : F) → step g piece s g' → K g ≡ K g') → K d.closure ≡ K d'.closure
+pub fed_keeps : {F E A : Type 0} {step : F → List ℕ → Result (Unit {0}) E → F → Type 0} {d d' : State F} {u : List ℕ}
+    {r : Result (Unit {0}) (DecodeError E)} → Feeds step d u r d' → (K : F → A)
+    → ((g : F) (piece : List ℕ) (s : Result (Unit {0}) E) (g' : F) → step g piece s g' → K g ≡ K g')
+    → K d.closure ≡ K d'.closure
 fed_keeps {step = step} {d = d} {d' = d'} h K keeps = run_keeps step K keeps h.run d.closure d'.closure h.ran
 
-module _ {F G E : Type 0} (inner : G → List ℕ → Result (Unit {0}) E → G → Type 0) (outer : F → List ℕ → Result (Unit {0}) E → F → Type 0) (K : G → F) (maps : (g : G) (piece : List ℕ) (r : Result (Unit {0}) E) (g' : G) → inner g piece r g' → outer (K g) piece r (K g')) where
+module _ {F G E : Type 0} (inner : G → List ℕ → Result (Unit {0}) E → G → Type 0) (outer : F → List ℕ
+    → Result (Unit {0}) E → F → Type 0) (K : G → F) (maps : (g : G) (piece : List ℕ) (r : Result (Unit {0}) E) (g' : G)
+    → inner g piece r g' → outer (K g) piece r (K g')) where
   pub outer_calls : List (Call G E) → List (Call F E)
   outer_calls [] = []
   outer_calls (c ∷ cs) = record { piece = c.piece; answer = c.answer; after = K c.after } ∷ outer_calls cs
@@ -133,7 +159,11 @@ module _ {F G E : Type 0} (inner : G → List ℕ → Result (Unit {0}) E → G 
   pub outer_ran : (cs : List (Call G E)) (f g : G) → IsRun inner f cs g → IsRun outer (K f) (outer_calls cs) (K g)
   unfolding outer_calls
   outer_ran [] f g ran = ap K ran
-  outer_ran (c ∷ cs) f g ran = (maps f c.piece c.answer c.after ran.0, λ e. ap outer_calls (ran.1 e), outer_ran cs c.after g ran.2)
+  outer_ran (c ∷ cs) f g ran = (
+    maps f c.piece c.answer c.after ran.0,
+    λ e. ap outer_calls (ran.1 e),
+    outer_ran cs c.after g ran.2,
+  )
 
   pub outer_joined : (cs : List (Call G E)) → joined_pieces (outer_calls cs) ≡ joined_pieces cs
   unfolding outer_calls
@@ -154,41 +184,52 @@ module _ {F G E : Type 0} (inner : G → List ℕ → Result (Unit {0}) E → G 
       }
 
   -- a decoder over such a closure
-  pub passes_groups : {f : G} {d d' : State G} {u : List ℕ} {r : Result (Unit {0}) (DecodeError E)} {w w' : F} → d ≡ start f
-      → (h : Feeds inner d u r d') → IsTaken u (joined_pieces h.run) r d' → K f ≡ w → w' ≡ K d'.closure → GetsGroups outer w u r w'
+  pub passes_groups : {f : G} {d d' : State G} {u : List ℕ} {r : Result (Unit {0}) (DecodeError E)} {w w' : F}
+      → d ≡ start f
+      → (h : Feeds inner d u r d') → IsTaken u (joined_pieces h.run) r d' → K f ≡ w → w' ≡ K d'.closure
+      → GetsGroups outer w u r w'
   passes_groups {f} {d} {d'} {u} e h taken a b =
       let R : G → Type 0 = λ x. IsRun inner x h.run d'.closure in
       passes_on h.run (subst R (ap (λ s. s.closure) e) h.ran) taken.bytes_are
       (match_map (first_fault u) _ _ _ _ (λ k. k.0) (λ place k. k) taken.answer) a b
 
-module _ {F E : Type 0} {step : F → List ℕ → Result (Unit {0}) E → F → Type 0} {f g : F} {all : List ℕ} {Ended : Type 0} where
-  -- what was written to an output, from its front on
-  pub gets_reaches : {out' : List ℕ} {len' : ℕ} (out : List ℕ) (bytes : F → List ℕ) (len : F → ℕ) → GetsBytes step f all Ended g
-      → ((p : F) (piece : List ℕ) (s : Result (Unit {0}) E) (q : F) → step p piece s q → Writes piece (bytes p) (len p) (bytes q) (len q))
-      → bytes f ≡ out → len f ≡ 0 → out' ≡ bytes g → len' ≡ len g → Reaches out all out' len'
-  gets_reaches out bytes len h writes b l o e fits =
-      let first : Reaches out [] (bytes f) (len f) = λ k. (l, b) in
-      let last = run_reaches step bytes len writes out h.run [] f g h.ran first in
-      let k = last (omega (arith, fits, ap length h.bytes_are)) in
-      (e ∙ k.0 ∙ ap length h.bytes_are, o ∙ k.1 ∙ ap (λ x. x ++ drop (length x) out) h.bytes_are)
+module _ {F E : Type 0} {step : F → List ℕ → Result (Unit {0}) E → F → Type 0} {f g : F} {all : List ℕ} {Ended : Type 0}
+  where
+    -- what was written to an output, from its front on
+    pub gets_reaches : {out' : List ℕ} {len' : ℕ} (out : List ℕ) (bytes : F → List ℕ) (len : F → ℕ)
+        → GetsBytes step f all Ended g
+        → ((p : F) (piece : List ℕ) (s : Result (Unit {0}) E) (q : F) → step p piece s q
+        → Writes piece (bytes p) (len p) (bytes q) (len q))
+        → bytes f ≡ out → len f ≡ 0 → out' ≡ bytes g → len' ≡ len g → Reaches out all out' len'
+    gets_reaches out bytes len h writes b l o e fits =
+        let first : Reaches out [] (bytes f) (len f) = λ k. (l, b) in
+        let last = run_reaches step bytes len writes out h.run [] f g h.ran first in
+        let k = last (omega (arith, fits, ap length h.bytes_are)) in
+        (e ∙ k.0 ∙ ap length h.bytes_are, o ∙ k.1 ∙ ap (λ x. x ++ drop (length x) out) h.bytes_are)
 
-  -- what each call keeps, all of them keep
-  pub gets_keep : {A : Type 0} → GetsBytes step f all Ended g → (K : F → A)
-      → ((p : F) (piece : List ℕ) (s : Result (Unit {0}) E) (q : F) → step p piece s q → K p ≡ K q) → K f ≡ K g
-  gets_keep h K keeps = run_keeps step K keeps h.run f g h.ran
+    -- what each call keeps, all of them keep
+    pub gets_keep : {A : Type 0} → GetsBytes step f all Ended g → (K : F → A)
+        → ((p : F) (piece : List ℕ) (s : Result (Unit {0}) E) (q : F) → step p piece s q → K p ≡ K q) → K f ≡ K g
+    gets_keep h K keeps = run_keeps step K keeps h.run f g h.ran
 
 -- bytes that fit an output and are at its front were written there
-pub reaches_front : {bytes out out' : List ℕ} {len : ℕ} → Reaches out bytes out' len → length bytes ≤ length out → WritesFront bytes out out' len
+pub reaches_front : {bytes out out' : List ℕ} {len : ℕ} → Reaches out bytes out' len → length bytes ≤ length out
+    → WritesFront bytes out out' len
 reaches_front h fits = let k = h fits in writes_front refl k.0 k.1 fits
 
 -- the status of what was decoded
-pub groups_status : {E : Type 0} (u : List ℕ) {r : Result (Unit {0}) (DecodeError E)} (status : ℕ) → MatchOption (first_fault u) (r ≡ Ok tt) (λ place. r ≡ Err (InvalidBase64 (kind_of u))) → (r ≡ Ok tt → status ≡ 0) → (r ≡ Err (InvalidBase64 (kind_of u)) → status ≡ status_of_kind (kind_of u)) → MatchOption (first_fault u) (status ≡ 0) (λ place. status ≡ status_of_kind (kind_of u))
+pub groups_status : {E : Type 0} (u : List ℕ) {r : Result (Unit {0}) (DecodeError E)} (status : ℕ)
+    → MatchOption (first_fault u) (r ≡ Ok tt) (λ place. r ≡ Err (InvalidBase64 (kind_of u))) → (r ≡ Ok tt → status ≡ 0)
+    → (r ≡ Err (InvalidBase64 (kind_of u)) → status ≡ status_of_kind (kind_of u))
+    → MatchOption (first_fault u) (status ≡ 0) (λ place. status ≡ status_of_kind (kind_of u))
 groups_status u status h good bad = match_map (first_fault u) _ _ _ _ good (λ place k. bad k) h
 
 -- Two texts, one after the other
 
 -- what was written, and then more
-pub writes_both : {x y out out1 out2 out' : List ℕ} {n m : ℕ} → WritesFront x out out1 n → WritesFront y (drop n out1) out2 m → n ≤ length out1 → length out1 ≡ length out → out' ≡ take n out1 ++ out2 → WritesFront (x ++ y) out out' (n + m)
+pub writes_both : {x y out out1 out2 out' : List ℕ} {n m : ℕ} → WritesFront x out out1 n
+    → WritesFront y (drop n out1) out2 m → n ≤ length out1 → length out1 ≡ length out → out' ≡ take n out1 ++ out2
+    → WritesFront (x ++ y) out out' (n + m)
 writes_both {x} {y} {out} {out1} {out2} {out'} {n} {m} a b within size e =
     let long : length (take n out1) ≡ n = length-take-le n out1 within in
     let seam : List ℕ = take n out1 ++ out2 in
@@ -209,22 +250,31 @@ no_kind AlphabetSymbolAfterPadding e = omega arith
 no_kind (UnexpectedSymbol byte) e = omega arith
 
 -- status 0 comes of a text without a fault, and only of one
-sound_by : (o : Option ℕ) (kind : Kind) (status : ℕ) (P Q : Type 0) → MatchOption o ((status ≡ 0) × P) (λ place. (status ≡ status_of_kind kind) × Q) → status ≡ 0 → (o ≡ None) × P
+sound_by : (o : Option ℕ) (kind : Kind) (status : ℕ) (P Q : Type 0)
+    → MatchOption o ((status ≡ 0) × P) (λ place. (status ≡ status_of_kind kind) × Q) → status ≡ 0 → (o ≡ None) × P
 sound_by None kind status P Q h e = (refl, h.1)
 sound_by (Some place) kind status P Q h e = absurd (no_kind kind (sym h.0 ∙ e))
 
-pub faulty_by : (o : Option ℕ) (kind : Kind) (status : ℕ) (P Q : Type 0) → MatchOption o ((status ≡ 0) × P) (λ place. (status ≡ status_of_kind kind) × Q) → (status ≡ 0 → ⊥) → is_some o ≡ true × (status ≡ status_of_kind kind) × Q
+pub faulty_by : (o : Option ℕ) (kind : Kind) (status : ℕ) (P Q : Type 0)
+    → MatchOption o ((status ≡ 0) × P) (λ place. (status ≡ status_of_kind kind) × Q) → (status ≡ 0 → ⊥)
+    → is_some o ≡ true × (status ≡ status_of_kind kind) × Q
 faulty_by None kind status P Q h e = absurd (e h.0)
 faulty_by (Some place) kind status P Q h e = (refl, h.0, h.1)
 
-pub taken_sound : {u : List ℕ} {s : DataUrlBase64} {before after : List ℕ} {status len : ℕ} → TakesText u s before after status len → status ≡ 0 → (first_fault u ≡ None) × IsLeftOf u s
-taken_sound {u} {s} {status = status} h e = sound_by (first_fault u) (kind_of u) status (IsLeftOf u s) (is_good_state s ≡ false) h.ended e
+pub taken_sound : {u : List ℕ} {s : DataUrlBase64} {before after : List ℕ} {status len : ℕ}
+    → TakesText u s before after status len → status ≡ 0 → (first_fault u ≡ None) × IsLeftOf u s
+taken_sound {u} {s} {status = status} h e = sound_by (first_fault u) (kind_of u) status (IsLeftOf u s)
+    (is_good_state s ≡ false) h.ended e
 
-pub left_text_is : {u : List ℕ} {s : DataUrlBase64} → IsLeftOf u s → waiting_text s ≡ left_text (left_symbols u) (left_padding u)
+pub left_text_is : {u : List ℕ} {s : DataUrlBase64} → IsLeftOf u s
+    → waiting_text s ≡ left_text (left_symbols u) (left_padding u)
 left_text_is {u} {s} h = ap (λ q. left_text q s.padding) h.symbols_are ∙ ap (left_text (left_symbols u)) h.padding_is
 
 -- a text without a fault, and then another
-pub takes_both : {u : List ℕ} {s t : DataUrlBase64} {out out1 out2 out' : List ℕ} {first status n m : ℕ} (b : List ℕ) → TakesText u s out out1 first n → first ≡ 0 → TakesText (waiting_text s ++ b) t (drop n out1) out2 status m → n ≤ length out1 → length out1 ≡ length out → out' ≡ take n out1 ++ out2 → TakesText (u ++ b) t out out' status (n + m)
+pub takes_both : {u : List ℕ} {s t : DataUrlBase64} {out out1 out2 out' : List ℕ} {first status n m : ℕ} (b : List ℕ)
+    → TakesText u s out out1 first n → first ≡ 0 → TakesText (waiting_text s ++ b) t (drop n out1) out2 status m
+    → n ≤ length out1 → length out1 ≡ length out → out' ≡ take n out1 ++ out2
+    → TakesText (u ++ b) t out out' status (n + m)
 takes_both {u} {s} {t} {out} {out1} {out2} {out'} {first} {status} {n} {m} b a z h within size e =
     let sound = taken_sound a z in
     let v : List ℕ = waiting_text s ++ b in
@@ -235,24 +285,35 @@ takes_both {u} {s} {t} {out} {out1} {out2} {out'} {first} {status} {n} {m} b a z
       wrote = subst W (sym on.done_is) (writes_both a.wrote h.wrote within size e);
       ended =
           match_alike (first_fault v) (first_fault (u ++ b)) _ _ _ _ (sym on.fault_is)
-          (λ k. (k.0, record { good = k.1.good; pending_is = k.1.pending_is ∙ ap length (sym on.symbols_left); symbols_are = k.1.symbols_are ∙ sym on.symbols_left; padding_is = k.1.padding_is ∙ sym on.padding_left }))
+          (λ k. (
+            k.0,
+            record {
+              good = k.1.good;
+              pending_is = k.1.pending_is ∙ ap length (sym on.symbols_left);
+              symbols_are = k.1.symbols_are ∙ sym on.symbols_left;
+              padding_is = k.1.padding_is ∙ sym on.padding_left;
+            },
+          ))
           (λ k. (k.0 ∙ ap status_of_kind (sym on.kind_is), k.1))
           h.ended;
     }
 
-pub fault_cases : (u : List ℕ) (o : Option ℕ) → fault_byte false u ≡ o → is_some o ≡ true → (c : ℕ) × (fault_byte false u ≡ Some c)
+pub fault_cases : (u : List ℕ) (o : Option ℕ) → fault_byte false u ≡ o → is_some o ≡ true
+    → (c : ℕ) × (fault_byte false u ≡ Some c)
 fault_cases u None e h = absurd (cc)
 fault_cases u (Some c) e h = (c, e)
 
 -- a fault stays, whatever follows
-pub takes_fault : {u : List ℕ} {s : DataUrlBase64} {out out' : List ℕ} {status n : ℕ} (b : List ℕ) → TakesText u s out out' status n → (status ≡ 0 → ⊥) → TakesText (u ++ b) s out out' status n
+pub takes_fault : {u : List ℕ} {s : DataUrlBase64} {out out' : List ℕ} {status n : ℕ} (b : List ℕ)
+    → TakesText u s out out' status n → (status ≡ 0 → ⊥) → TakesText (u ++ b) s out out' status n
 takes_fault {u} {s} {out} {out'} {status} {n} b h e =
     let k = faulty_by (first_fault u) (kind_of u) status (IsLeftOf u s) (is_good_state s ≡ false) h.ended e in
     let f = fault_cases u (fault_byte false u) refl (sym (fault_some u) ∙ k.0) in
     let W : List ℕ → Type 0 = λ x. WritesFront x out out' n in
     record {
       wrote = subst W (sym (done_stays u b f.0 f.1)) h.wrote;
-      ended = match_some (first_fault (u ++ b)) _ _ (fault_some (u ++ b) ∙ ap is_some (fault-append_some u b false f.0 f.1)) (k.1 ∙ ap status_of_kind (kind_stays u b f.0 f.1), k.2);
+      ended = match_some (first_fault (u ++ b)) _ _ (fault_some (u ++ b)
+          ∙ ap is_some (fault-append_some u b false f.0 f.1)) (k.1 ∙ ap status_of_kind (kind_stays u b f.0 f.1), k.2);
     }
 
 -- Two parts of one text
@@ -260,25 +321,35 @@ takes_fault {u} {s} {out} {out'} {status} {n} b h e =
 -- an output whose end was written
 pub end_written : (n : ℕ) (xs ys : List ℕ) → take n xs ++ (ys ++ post_of n (length xs - n) xs) ≡ take n xs ++ ys
 end_written n xs ys =
-    let none : drop (length xs - n) (drop n xs) ≡ [] = nil_from_length (drop (length xs - n) (drop n xs)) (omega (arith, length-drop (length xs - n) (drop n xs), length-drop n xs)) in
+    let none : drop (length xs - n) (drop n xs) ≡ [] = nil_from_length (drop (length xs - n) (drop n xs))
+    (omega (arith, length-drop (length xs - n) (drop n xs), length-drop n xs)) in
     ap (λ s. take n xs ++ (ys ++ s)) none ∙ ap (λ s. take n xs ++ s) (append-nil ys)
 
 -- the end of a list, as a slice to its length
 pub end_sliced : (n : ℕ) (xs : List ℕ) → take (length xs - n) (drop n xs) ≡ drop n xs
 end_sliced n xs = take_all (length xs - n) (drop n xs) (omega (arith, length-drop n xs))
 
-whole_text : (s : DataUrlBase64) (head : ℕ) (text a b : List ℕ) → a ≡ take head text → b ≡ drop head text → (waiting_text s ++ a) ++ b ≡ waiting_text s ++ text
-whole_text s head text a b e f = append_assoc (waiting_text s) a b ∙ ap (λ x. waiting_text s ++ (x ++ b)) e ∙ ap (λ x. waiting_text s ++ (take head text ++ x)) f ∙ ap (λ x. waiting_text s ++ x) (take-append-drop head text)
+whole_text : (s : DataUrlBase64) (head : ℕ) (text a b : List ℕ) → a ≡ take head text → b ≡ drop head text
+    → (waiting_text s ++ a) ++ b ≡ waiting_text s ++ text
+whole_text s head text a b e f = append_assoc (waiting_text s) a b ∙ ap (λ x. waiting_text s ++ (x ++ b)) e
+    ∙ ap (λ x. waiting_text s ++ (take head text ++ x)) f ∙ ap (λ x. waiting_text s ++ x) (take-append-drop head text)
 
 -- a fault in the first part
-pub feeds_fault : {t : DataUrlBase64} {a out out1 : List ℕ} {first n : ℕ} (s : DataUrlBase64) (head : ℕ) (text : List ℕ) → TakesText (waiting_text s ++ a) t out out1 first n → a ≡ take head text → (first ≡ 0 → ⊥) → TakesText (waiting_text s ++ text) t out out1 first n
+pub feeds_fault : {t : DataUrlBase64} {a out out1 : List ℕ} {first n : ℕ} (s : DataUrlBase64) (head : ℕ) (text : List ℕ)
+    → TakesText (waiting_text s ++ a) t out out1 first n → a ≡ take head text → (first ≡ 0 → ⊥)
+    → TakesText (waiting_text s ++ text) t out out1 first n
 feeds_fault {t} {a} {out} {out1} {first} {n} s head text h e ne =
     let P : List ℕ → Type 0 = λ u. TakesText u t out out1 first n in
     subst P (whole_text s head text a (drop head text) e refl) (takes_fault (drop head text) h ne)
 
 -- both parts
-pub feeds_both : {t t' : DataUrlBase64} {a b out out1 part out2 out' : List ℕ} {first status n m : ℕ} (s : DataUrlBase64) (head : ℕ) (text : List ℕ) → TakesText (waiting_text s ++ a) t out out1 first n → a ≡ take head text → first ≡ 0 → TakesText (waiting_text t ++ b) t' part out2 status m → b ≡ drop head text → part ≡ drop n out1 → n ≤ length out1 → length out1 ≡ length out → out' ≡ take n out1 ++ out2 → TakesText (waiting_text s ++ text) t' out out' status (n + m)
-feeds_both {t} {t'} {a} {b} {out} {out1} {part} {out2} {out'} {first} {status} {n} {m} s head text h e z k f p within size o =
+pub feeds_both : {t t' : DataUrlBase64} {a b out out1 part out2 out' : List ℕ} {first status n m : ℕ}
+    (s : DataUrlBase64) (head : ℕ) (text : List ℕ) → TakesText (waiting_text s ++ a) t out out1 first n
+    → a ≡ take head text → first ≡ 0 → TakesText (waiting_text t ++ b) t' part out2 status m → b ≡ drop head text
+    → part ≡ drop n out1 → n ≤ length out1 → length out1 ≡ length out → out' ≡ take n out1 ++ out2
+    → TakesText (waiting_text s ++ text) t' out out' status (n + m)
+feeds_both {t} {t'} {a} {b} {out} {out1} {part} {out2} {out'} {first} {status} {n} {m} s head text h e z k f p within
+    size o =
     let P : List ℕ → Type 0 = λ u. TakesText u t' out out' status (n + m) in
     let Q : List ℕ → Type 0 = λ x. TakesText (waiting_text t ++ b) t' x out2 status m in
     subst P (whole_text s head text a b e f) (takes_both b h z (subst Q p k) within size o)

@@ -1,5 +1,6 @@
 -- Texts that are printed to a place of fixed size.
-use Rattle.std.proofs.Common.{◌≡◌, ◌⊎◌, ℕ, suc, [], ◌∷◌, ◌-◌, ◌<◌, ◌^◌, Bool, false, nat_eq, List, ◌++◌, length, take, drop, codes, refl, sym, ap, ◌∙◌, inl, inr, arith}
+use Rattle.std.proofs.Common.{◌≡◌, ◌⊎◌, ℕ, suc, [], ◌∷◌, ◌-◌, ◌<◌, ◌^◌, Bool, false, nat_eq, List, ◌++◌, length, take}
+use Rattle.std.proofs.Common.{drop, codes, refl, sym, ap, ◌∙◌, inl, inr, arith}
 use Rattle.std.specs.Global.{Global}
 use Rattle.std.specs.List.{ends_with}
 use Rattle.std.specs.Prelude.{Vec, encode_utf8_all}

@@ -1,5 +1,7 @@
 -- What the front of a URL up to its first comma decides: whether there is a scheme and a comma, and the header.
-use Rattle.std.proofs.Common.{◌≡◌, ℕ, zero, suc, ◌+◌, ◌-◌, ◌≤◌, Bool, true, false, List, [], ◌∷◌, ◌++◌, length, length-append, take, drop, map, codes, Option, None, Some, refl, sym, ap, ◌∙◌, subst, inl, inr, append_assoc, arith, eqb, eqb-true}
+use Rattle.std.proofs.Common.{◌≡◌, ℕ, zero, suc, ◌+◌, ◌-◌, ◌≤◌, Bool, true, false, List, [], ◌∷◌, ◌++◌, length}
+use Rattle.std.proofs.Common.{length-append, take, drop, map, codes, Option, None, Some, refl, sym, ap, ◌∙◌, subst, inl}
+use Rattle.std.proofs.Common.{inr, append_assoc, arith, eqb, eqb-true}
 use Rattle.std.specs.Char.{to_ascii_lowercase}
 use Rattle.std.specs.List.{prefix_len, suffix_len}
 use Rattle.std.specs.Str.{bytes_eq}
@@ -12,15 +14,17 @@ use Rattle.std.proofs.lemmas.List.Sums.{prefix_len-drop_no, prefix_len-le-length
 use Rattle.std.proofs.lemmas.Option.{same_Some}
 use Rattle.std.proofs.lemmas.Slice.Eq.{bytes_eq-Decides}
 use Rattle.data_url.specs.DataUrl.{IsAcceptable}
-use Rattle.data_url.specs.Fetch.{Accepted, NoComma, NoScheme, has_base64_suffix, header_of, mime_text, outcome, plain_body, staged, tail_of}
+use Rattle.data_url.specs.Fetch.{Accepted, NoComma, NoScheme, has_base64_suffix, header_of, mime_text, outcome}
+use Rattle.data_url.specs.Fetch.{plain_body, staged, tail_of}
 use Rattle.data_url.specs.Steps.Front.{HasNoScheme, IsHeaderAndTail, IsSchemeAndRest}
 use Rattle.data_url.specs.Steps.Header.{header_text}
-use Rattle.data_url.specs.Url.{before, behind, fragment, front, in_fragment_set, is_c0_control_or_space, is_tab_or_newline, percent_encoding, trimmed_text, without_end, without_front, without_tabs_and_newlines}
-use Rattle.data_url.proofs.FlagLemmas.{suffix_stop}
-use Rattle.data_url.proofs.HeaderLemmas.{is_accepted, lacks_comma, scheme_has_no_comma}
-use Rattle.data_url.proofs.ProcessLemmas.{rest_bytes, stages_accepted, stages_no_comma, stages_no_scheme}
-use Rattle.data_url.proofs.RecodedLemmas.{IsBytes}
-use Rattle.data_url.proofs.UrlLemmas.{before_all, before_at, behind-append, behind-dropped_none, behind_at, behind_nil, behind_other, dropped_around, dropped_keeps, dropped_nil, dropped_passes, is_cut, lacks}
+use Rattle.data_url.specs.Url.{before, behind, fragment, front, in_fragment_set, is_c0_control_or_space}
+use Rattle.data_url.specs.Url.{is_tab_or_newline, percent_encoding, trimmed_text, without_end, without_front}
+use Rattle.data_url.specs.Url.{without_tabs_and_newlines}
+use Rattle.data_url.proofs.api.{IsBytes, before_all, before_at, behind-append, behind-dropped_none, behind_at}
+use Rattle.data_url.proofs.api.{behind_nil, behind_other, dropped_around, dropped_keeps, dropped_nil, dropped_passes}
+use Rattle.data_url.proofs.api.{is_accepted, is_cut, lacks, lacks_comma, rest_bytes, scheme_has_no_comma}
+use Rattle.data_url.proofs.api.{stages_accepted, stages_no_comma, stages_no_scheme, suffix_stop}
 
 -- Trimming
 
@@ -54,7 +58,8 @@ trimmed_around a t =
     let p = is_c0_control_or_space in
     let n = prefix_len p a in
     let same : drop (prefix_len p (a ++ 44 ∷ t)) (a ++ 44 ∷ t) ≡ drop n a ++ 44 ∷ t =
-    ap (λ k. drop k (a ++ 44 ∷ t)) (prefix_stop p a t 44 refl) ∙ drop-append-le n a (44 ∷ t) (prefix_len-le-length p a) in
+    ap (λ k. drop k (a ++ 44 ∷ t)) (prefix_stop p a t 44 refl)
+    ∙ drop-append-le n a (44 ∷ t) (prefix_len-le-length p a) in
     ap (without_end p) same ∙ end_stop p (drop n a) t 44 refl
 
 -- The scheme
@@ -153,7 +158,8 @@ unfolding behind
 no_comma_in_scheme = refl
 
 -- a comma among the first five kept bytes is none of the scheme's
-too_short : (x w : List ℕ) → behind 44 x ≡ None → length (without_tabs_and_newlines x) ≤ 4 → spelled (x ++ 44 ∷ w) ≡ false
+too_short : (x w : List ℕ) → behind 44 x ≡ None → length (without_tabs_and_newlines x) ≤ 4
+    → spelled (x ++ 44 ∷ w) ≡ false
 too_short x w h l = elim (cases_Bool (spelled (x ++ 44 ∷ w))) [
   | inl e ↦
       let y = without_tabs_and_newlines x in
@@ -220,7 +226,8 @@ rest_lacks_comma x s h =
     sym (behind-append 44 s.scheme s.rest (scheme_has_no_comma s.scheme s.spelled)) ∙ sym (ap (behind 44) s.joined) ∙ h
 
 -- a text without a comma has none before its '#'
-front_lacks_comma : (s : List ℕ) (o : Option (List ℕ)) → behind 35 s ≡ o → behind 44 s ≡ None → behind 44 (front s) ≡ None
+front_lacks_comma : (s : List ℕ) (o : Option (List ℕ)) → behind 35 s ≡ o → behind 44 s ≡ None
+    → behind 44 (front s) ≡ None
 unfolding front
 front_lacks_comma s None e h = ap (behind 44) (before_all 35 s e) ∙ h
 front_lacks_comma s (Some rest) e h =
@@ -246,7 +253,8 @@ accepted_with a t s comma hash b =
     record { joined = refl; no_comma = comma; no_fragment = hash } in
     let h = is_accepted u rest s.rest (trimmed_tail t) (rest_bytes u rest b r) r cut in
     record {
-      fragment_is = option_map (percent_encoding in_fragment_set) (fragment (without_tabs_and_newlines (trimmed_tail t)));
+      fragment_is = option_map (percent_encoding in_fragment_set)
+          (fragment (without_tabs_and_newlines (trimmed_tail t)));
       header_is = h.header_is;
       tail_is = h.tail_is;
       staged_is = stages_accepted u rest s.rest (trimmed_tail t) b r cut
@@ -276,13 +284,15 @@ same_no_scheme a s t (all_no_scheme f) b h = f t
 same_no_scheme a s t (all_no_comma f) b h = absurd (let k : NoComma ≡ NoScheme = sym (f s b) ∙ h in cc)
 same_no_scheme a s t (all_accepted header f) b h = absurd (let k = sym (f s b).staged_is ∙ h in cc)
 
-pub same_no_comma : (a s t : List ℕ) → Ends a → IsBytes (trimmed_text (a ++ 44 ∷ s)) → IsBytes (trimmed_text (a ++ 44 ∷ t))
+pub same_no_comma : (a s t : List ℕ) → Ends a → IsBytes (trimmed_text (a ++ 44 ∷ s))
+    → IsBytes (trimmed_text (a ++ 44 ∷ t))
     → staged (a ++ 44 ∷ s) ≡ NoComma → staged (a ++ 44 ∷ t) ≡ NoComma
 same_no_comma a s t (all_no_scheme f) b d h = absurd (let k : NoScheme ≡ NoComma = sym (f s) ∙ h in cc)
 same_no_comma a s t (all_no_comma f) b d h = f t d
 same_no_comma a s t (all_accepted header f) b d h = absurd (let k = sym (f s b).staged_is ∙ h in cc)
 
-pub same_acceptable : (a s t : List ℕ) → Ends a → IsBytes (trimmed_text (a ++ 44 ∷ s)) → IsBytes (trimmed_text (a ++ 44 ∷ t))
+pub same_acceptable : (a s t : List ℕ) → Ends a → IsBytes (trimmed_text (a ++ 44 ∷ s))
+    → IsBytes (trimmed_text (a ++ 44 ∷ t))
     → IsAcceptable (staged (a ++ 44 ∷ s)) → IsAcceptable (staged (a ++ 44 ∷ t))
 same_acceptable a s t (all_no_scheme f) b d h = absurd (subst IsAcceptable (f s) h)
 same_acceptable a s t (all_no_comma f) b d h = absurd (subst IsAcceptable (f s b) h)
@@ -294,4 +304,5 @@ pub same_header : (a s t header : List ℕ) → Ends a → IsBytes (trimmed_text
 same_header a s t header (all_no_scheme f) b d h k = absurd (subst IsAcceptable (f s) k)
 same_header a s t header (all_no_comma f) b d h k = absurd (subst IsAcceptable (f s b) k)
 same_header a s t header (all_accepted other f) b d h k =
-    subst (λ x. IsAcceptedWith (a ++ 44 ∷ t) x (trimmed_tail t)) (same_Some other header (sym (f s b).header_is ∙ h)) (f t d)
+    subst (λ x. IsAcceptedWith (a ++ 44 ∷ t) x (trimmed_tail t)) (same_Some other header (sym (f s b).header_is ∙ h))
+    (f t d)

@@ -1,5 +1,6 @@
 -- Whole bodies, decoded into an output.
-use Rattle.std.proofs.Common.{◌≡◌, ℕ, ◌<◌, ◌≤◌, ◌^◌, Bool, true, false, List, ◌++◌, length, drop, Result, Ok, Err, refl, sym, ap, ◌∙◌, subst, arith}
+use Rattle.std.proofs.Common.{◌≡◌, ℕ, ◌<◌, ◌≤◌, ◌^◌, Bool, true, false, List, ◌++◌, length, drop, Result, Ok, Err, refl}
+use Rattle.std.proofs.Common.{sym, ap, ◌∙◌, subst, arith}
 use Rattle.std.specs.Global.{Global}
 use Rattle.std.specs.Prelude.{IsUtf8}
 use Rattle.std.proofs.lemmas.List.{length-take-le, take-append-drop}
@@ -12,8 +13,7 @@ use Rattle.std.specs.declared.convert.Infallible.{Infallible}
 use Rattle.data_url.specs.declared.DataUrl.{DataUrl}
 use Rattle.data_url.specs.declared.forgiving_base64.DecodeError.{DecodeError}
 use Rattle.data_url.specs.declared.forgiving_base64.DecodeError.TheVariants.{InvalidBase64 as Invalid}
-use Rattle.data_url.proofs.RunLemmas.{match_at_none}
-use Rattle.data_url.proofs.RunMeasures.{body_within_tail}
+use Rattle.data_url.proofs.api.{body_within_tail, match_at_none}
 use Rattle.data_url_c.specs.Answers.{Answers, Shows, status_of_kind}
 use Rattle.data_url_c.specs.Bodies.{EndsAs}
 use Rattle.data_url_c.specs.Gives.{GivesBody}
@@ -26,7 +26,10 @@ use Rattle.data_url_c.proofs.PrintLemmas.{vec_of}
 
 -- What the calls of a closure wrote
 
-module _ {F G : Type 0} (inner : G → List ℕ → Result (Unit {0}) Infallible → G → Type 0) (outer : F → List ℕ → Result (Unit {0}) Infallible → F → Type 0) (K : G → F) (maps : (g : G) (piece : List ℕ) (r : Result (Unit {0}) Infallible) (g' : G) → inner g piece r g' → outer (K g) piece r (K g')) where
+module _ {F G : Type 0} (inner : G → List ℕ → Result (Unit {0}) Infallible → G → Type 0) (outer : F → List ℕ
+    → Result (Unit {0}) Infallible → F → Type 0) (K : G → F)
+    (maps : (g : G) (piece : List ℕ) (r : Result (Unit {0}) Infallible) (g' : G) → inner g piece r g'
+    → outer (K g) piece r (K g')) where
   -- a closure that calls another one with its pieces
   pub passes_body : {f g : G} {w w' : F} {most : ℕ} {body : Outcome} {r : Result (Unit {0}) (DecodeError Infallible)}
       → Decodes inner f most body AnyAnswer r g → K f ≡ w → w' ≡ K g → GetsBody outer w body r w'
@@ -34,7 +37,8 @@ module _ {F G : Type 0} (inner : G → List ℕ → Result (Unit {0}) Infallible
       let gave = match_at_none (refusal h.run) _ _ (no_refusal (refusal h.run)) h.gave in
       passes_on inner outer K maps h.run h.ran gave.bytes_are gave.answer a b
 
-good_of : {E : Type 0} (body : Outcome) (r : Result (Unit {0}) (DecodeError E)) → r ≡ Ok tt → BodyAnswers body AnyAnswer r
+good_of : {E : Type 0} (body : Outcome) (r : Result (Unit {0}) (DecodeError E)) → r ≡ Ok tt
+    → BodyAnswers body AnyAnswer r
     → (bytes : List ℕ) × (body ≡ Good bytes)
 good_of (Good bytes) r e h = (bytes, refl)
 good_of (Bad bytes kind) r e h = absurd (let k = sym e ∙ h in cc)
@@ -50,7 +54,8 @@ body_fits : (url : DataUrl) {tail : List ℕ} (out : List ℕ) → url_tail url 
 body_fits url out t room = let few = body_within_tail url in omega (arith, few, ap length t, room)
 
 -- a good body
-pub ends_good : {E : Type 0} (url : DataUrl) {tail : List ℕ} (r : Result (Unit {0}) (DecodeError E)) (out out' : List ℕ) (len : ℕ)
+pub ends_good : {E : Type 0} (url : DataUrl) {tail : List ℕ} (r : Result (Unit {0}) (DecodeError E)) (out out' : List ℕ)
+    (len : ℕ)
     → url_tail url ≡ tail → length tail ≤ length out → r ≡ Ok tt → BodyAnswers (url_body url) AnyAnswer r
     → Reaches out (outcome_bytes (url_body url)) out' len → EndsAs (url_body url) out out' 0 len
 ends_good url r out out' len t room e answer h =
@@ -58,18 +63,28 @@ ends_good url r out out' len t room e answer h =
     let good = good_of (url_body url) r e answer in
     let k = h fits in
     let P : Outcome → Type 0 = λ b. EndsAs b out out' 0 len in
-    subst P (sym good.1) (refl, writes_front (ap outcome_bytes good.1) k.0 k.1 (omega (arith, fits, ap (λ b. length (outcome_bytes b)) good.1)))
+    subst P (sym good.1) (
+      refl,
+      writes_front (ap outcome_bytes good.1) k.0 k.1
+          (omega (arith, fits, ap (λ b. length (outcome_bytes b)) good.1)),
+    )
 
 -- a bad one, whose fault has this status
-pub ends_bad : {E : Type 0} (url : DataUrl) {tail : List ℕ} (r : Result (Unit {0}) (DecodeError E)) (kind : Kind) (out out' : List ℕ) (status len : ℕ)
+pub ends_bad : {E : Type 0} (url : DataUrl) {tail : List ℕ} (r : Result (Unit {0}) (DecodeError E)) (kind : Kind)
+    (out out' : List ℕ) (status len : ℕ)
     → url_tail url ≡ tail → length tail ≤ length out → r ≡ Err (Invalid kind) → BodyAnswers (url_body url) AnyAnswer r
-    → status ≡ status_of_kind kind → Reaches out (outcome_bytes (url_body url)) out' len → EndsAs (url_body url) out out' status len
+    → status ≡ status_of_kind kind → Reaches out (outcome_bytes (url_body url)) out' len
+    → EndsAs (url_body url) out out' status len
 ends_bad url r kind out out' status len t room e answer named h =
     let fits = body_fits url out t room in
     let bad = bad_of (url_body url) r kind e answer in
     let k = h fits in
     let P : Outcome → Type 0 = λ b. EndsAs b out out' status len in
-    subst P (sym bad.1) (named, writes_front (ap outcome_bytes bad.1) k.0 k.1 (omega (arith, fits, ap (λ b. length (outcome_bytes b)) bad.1)))
+    subst P (sym bad.1) (
+      named,
+      writes_front (ap outcome_bytes bad.1) k.0 k.1
+          (omega (arith, fits, ap (λ b. length (outcome_bytes b)) bad.1)),
+    )
 
 flag_of_bad : (flag : Bool) (x bytes : List ℕ) (kind : Kind) → outcome flag x ≡ Bad bytes kind → flag ≡ true
 unfolding outcome
@@ -91,9 +106,11 @@ written_twice {bytes} {out} {mid} {out'} {len} {len'} fits h size w =
     }
 
 -- a bad one, that was decoded again
-pub ends_again : {E : Type 0} (url : DataUrl) {tail mid : List ℕ} {len : ℕ} (r : Result (Unit {0}) (DecodeError E)) (kind : Kind)
+pub ends_again : {E : Type 0} (url : DataUrl) {tail mid : List ℕ} {len : ℕ} (r : Result (Unit {0}) (DecodeError E))
+    (kind : Kind)
     (out out' : List ℕ) (status len' : ℕ) → url_tail url ≡ tail → length tail ≤ length out → r ≡ Err (Invalid kind)
-    → BodyAnswers (url_body url) AnyAnswer r → Reaches out (outcome_bytes (url_body url)) mid len → length out' ≡ length mid
+    → BodyAnswers (url_body url) AnyAnswer r → Reaches out (outcome_bytes (url_body url)) mid len
+    → length out' ≡ length mid
     → EndsAs (outcome true (plain_body tail)) mid out' status len' → EndsAs (url_body url) out out' status len'
 ends_again url {tail} {mid} {len} r kind out out' status len' t room e answer h size k =
     let bad = bad_of (url_body url) r kind e answer in
@@ -102,38 +119,56 @@ ends_again url {tail} {mid} {len} r kind out out' status len' t room e answer h 
     let Q : Outcome → Type 0 = λ o. EndsAs o out out' status len' in
     let R : Outcome → Type 0 = λ o. Reaches out (outcome_bytes o) mid len in
     let again =
-    subst P (ap (λ s. outcome true (plain_body s)) (sym t) ∙ ap (λ v. outcome v (plain_body (url_tail url))) (sym on) ∙ bad.1) k in
-    let fits : length bad.0 ≤ length out = omega (arith, body_fits url out t room, ap (λ b. length (outcome_bytes b)) bad.1) in
+    subst P (ap (λ s. outcome true (plain_body s)) (sym t) ∙ ap (λ v. outcome v (plain_body (url_tail url))) (sym on)
+    ∙ bad.1) k in
+    let fits : length bad.0 ≤ length out =
+    omega (arith, body_fits url out t room, ap (λ b. length (outcome_bytes b)) bad.1) in
     subst Q (sym bad.1) (again.0, written_twice fits (subst R bad.1 h) size again.1)
 
 -- The answer
 
-shows_front : {bytes old new : List ℕ} {status status' len : ℕ} → status' ≡ status → length new ≡ length old → WritesFront bytes old new len
+shows_front : {bytes old new : List ℕ} {status status' len : ℕ} → status' ≡ status → length new ≡ length old
+    → WritesFront bytes old new len
     → Shows status bytes old new (record { status = status'; len = len })
 shows_front {bytes} {old} {new} {status} {status'} {len} e size w =
     let within = w.within in
     let long : len ≡ length bytes = sym (length-take-le len new (omega (arith, size))) ∙ ap length w.bytes_are in
     record {
       len = long;
-      fits = λ l. (e, sym (take-append-drop len new) ∙ ap (λ x. x ++ drop len new) w.bytes_are ∙ ap (λ x. bytes ++ x) (w.rest_stays ∙ ap (λ n. drop n old) long));
+      fits = λ l. (
+        e,
+        sym (take-append-drop len new) ∙ ap (λ x. x ++ drop len new) w.bytes_are
+            ∙ ap (λ x. bytes ++ x) (w.rest_stays ∙ ap (λ n. drop n old) long),
+      );
       is_too_small = λ l. absurd (omega (arith, long, within));
     }
 
-answers_by : {x : List ℕ} {url : DataUrl} {old new : List ℕ} {status len : ℕ} → Global → IsUtf8 x → IsUrlOf x url → length old < 2 ^ 63
+answers_by : {x : List ℕ} {url : DataUrl} {old new : List ℕ} {status len : ℕ} → Global → IsUtf8 x → IsUrlOf x url
+    → length old < 2 ^ 63
     → length new ≡ length old → (o : Outcome) → url_body url ≡ o → EndsAs o old new status len
     → Answers (GivesBody x) old new (record { status = status; len = len })
 answers_by {old = old} {len = len} memory t u small size (Good bytes) e h =
     let shown = shows_front h.0 size h.1 in
     let within = h.1.within in
     let long = shown.len in
-    record { given = Ok (vec_of memory bytes (omega (arith, long, within))); is_given = (_, url_with t u e refl); crosses = shown }
+    record {
+      given = Ok (vec_of memory bytes (omega (arith, long, within)));
+      is_given = (_, url_with t u e refl);
+      crosses = shown;
+    }
 answers_by {old = old} {len = len} memory t u small size (Bad bytes kind) e h =
     let shown = shows_front h.0 size h.1 in
     let within = h.1.within in
     let long = shown.len in
-    record { given = Err (InvalidBase64 kind (vec_of memory bytes (omega (arith, long, within)))); is_given = (_, url_with t u e refl); crosses = shown }
+    record {
+      given = Err (InvalidBase64 kind (vec_of memory bytes (omega (arith, long, within))));
+      is_given =
+          (_, url_with t u e refl);
+      crosses = shown;
+    }
 
-pub answers_into : {x : List ℕ} {url : DataUrl} {old new : List ℕ} {status len : ℕ} → Global → IsUtf8 x → IsUrlOf x url → length old < 2 ^ 63
+pub answers_into : {x : List ℕ} {url : DataUrl} {old new : List ℕ} {status len : ℕ} → Global → IsUtf8 x → IsUrlOf x url
+    → length old < 2 ^ 63
     → length new ≡ length old → EndsAs (url_body url) old new status len
     → Answers (GivesBody x) old new (record { status = status; len = len })
 answers_into {url = url} memory t u small size h = answers_by memory t u small size (url_body url) refl h

@@ -1,5 +1,6 @@
 -- Gathering the pieces of an output, and runs of a closure that does.
-use Rattle.std.proofs.Common.{◌≡◌, ℕ, List, [], ◌∷◌, ◌++◌, take, Option, None, Some, Result, Ok, Err, refl, sym, ap, ◌∙◌, append_assoc, subst}
+use Rattle.std.proofs.Common.{◌≡◌, ℕ, List, [], ◌∷◌, ◌++◌, take, Option, None, Some, Result, Ok, Err, refl, sym, ap}
+use Rattle.std.proofs.Common.{◌∙◌, append_assoc, subst}
 use Rattle.std.specs.Prelude.{IsErr, MatchOption, MatchResult}
 use Rattle.std.specs.Io.KnownBytes.{Appends}
 use Rattle.std.proofs.lemmas.List.{append-nil}
@@ -10,11 +11,14 @@ use Rattle.dataurl.specs.Runs.{IsProperPrefix}
 use Rattle.dataurl.specs.Steps.Writing.{IsWritten, Writes}
 use Rattle.dataurl.specs.declared.fault.Fault.TheVariants.{Write}
 use Rattle.dataurl.specs.declared.fault.WriteFailed.{WriteFailed}
-use Rattle.dataurl.proofs.OutputLemmas.{appends_none, appends_then, beginning_behind, beginning_of, written_all, written_some}
+use Rattle.dataurl.proofs.OutputLemmas.{appends_none, appends_then, beginning_behind, beginning_of, written_all}
+use Rattle.dataurl.proofs.OutputLemmas.{written_some}
 
 -- One piece
 
-by_one : (before piece w k after : List ℕ) (r : Result (Unit {0}) WriteFailed) → w ≡ before → after ≡ [] → IsWritten piece k r → MatchResult r (λ x. before ++ piece ≡ (w ++ k) ++ after) (λ failed. IsProperPrefix (w ++ k) (before ++ piece))
+by_one : (before piece w k after : List ℕ) (r : Result (Unit {0}) WriteFailed) → w ≡ before → after ≡ []
+    → IsWritten piece k r → MatchResult r (λ x. before ++ piece ≡ (w ++ k) ++ after)
+    (λ failed. IsProperPrefix (w ++ k) (before ++ piece))
 by_one before piece w k after (Ok tt) e z h =
     ap (λ s. s ++ piece) (sym e)
     ∙ ap (λ s. w ++ s) (sym (written_all piece k (Ok tt) refl h))
@@ -25,19 +29,24 @@ by_one before piece w k after (Err failed) e z h =
     subst P e (beginning_behind w k piece (written_some piece k (Err failed) failed refl h))
 
 -- what waited was written, and then the piece as it is; nothing waits now
-pub gathers_long : {before piece : List ℕ} {a b d : Option (List ℕ)} {r : Result (Unit {0}) WriteFailed} (n : ℕ) (bytes : List ℕ) → n ≡ 0 → Writes before a b (Ok tt) → Writes piece b d r → Gathers piece before (take n bytes) a d r
+pub gathers_long : {before piece : List ℕ} {a b d : Option (List ℕ)} {r : Result (Unit {0}) WriteFailed} (n : ℕ)
+    (bytes : List ℕ) → n ≡ 0 → Writes before a b (Ok tt) → Writes piece b d r
+    → Gathers piece before (take n bytes) a d r
 gathers_long {before} {piece} {a} {b} {d} {r} n bytes z w k = record {
   written = w.written ++ k.written;
   appended = appends_then a b d w.written k.written w.appended k.appended;
-  took = by_one before piece w.written k.written (take n bytes) r (written_all before w.written (Ok tt) refl w.is_written) (ap (λ m. take m bytes) z) k.is_written;
+  took = by_one before piece w.written k.written (take n bytes) r
+      (written_all before w.written (Ok tt) refl w.is_written) (ap (λ m. take m bytes) z) k.is_written;
 }
 
 -- what waited was not written whole
-pub gathers_none : {before piece : List ℕ} {a b : Option (List ℕ)} {failed : WriteFailed} (after : List ℕ) → Writes before a b (Err failed) → Gathers piece before after a b (Err failed)
+pub gathers_none : {before piece : List ℕ} {a b : Option (List ℕ)} {failed : WriteFailed} (after : List ℕ)
+    → Writes before a b (Err failed) → Gathers piece before after a b (Err failed)
 gathers_none {before} {piece} {failed = failed} after w = record {
   written = w.written;
   appended = w.appended;
-  took = beginning_of w.written before (before ++ piece) (written_some before w.written (Err failed) failed refl w.is_written) (piece, refl);
+  took = beginning_of w.written before (before ++ piece)
+      (written_some before w.written (Err failed) failed refl w.is_written) (piece, refl);
 }
 
 -- The end
@@ -45,22 +54,40 @@ gathers_none {before} {piece} {failed = failed} after w = record {
 flush_whole : (bytes w : List ℕ) (end : End) → w ≡ bytes → IsFlushed bytes end w end
 flush_whole bytes w end e = let P : List ℕ → Type 0 = λ s. IsFlushed bytes end s end in subst P (sym e) flushed
 
-pub flushes_all : {bytes : List ℕ} {a b : Option (List ℕ)} (end : End) → Writes bytes a b (Ok tt) → Flushes bytes end a b end
-flushes_all {bytes} end w = record { written = w.written; appended = w.appended; is_flushed = flush_whole bytes w.written end (written_all bytes w.written (Ok tt) refl w.is_written) }
+pub flushes_all : {bytes : List ℕ} {a b : Option (List ℕ)} (end : End) → Writes bytes a b (Ok tt)
+    → Flushes bytes end a b end
+flushes_all {bytes} end w = record {
+  written = w.written;
+  appended = w.appended;
+  is_flushed =
+      flush_whole bytes w.written end (written_all bytes w.written (Ok tt) refl w.is_written);
+}
 
-pub flushes_some : {bytes : List ℕ} {a b : Option (List ℕ)} {failed : WriteFailed} (end : End) → Writes bytes a b (Err failed) → Flushes bytes end a b (Err Write)
-flushes_some {bytes} {failed = failed} end w = record { written = w.written; appended = w.appended; is_flushed = not_flushed (written_some bytes w.written (Err failed) failed refl w.is_written) }
+pub flushes_some : {bytes : List ℕ} {a b : Option (List ℕ)} {failed : WriteFailed} (end : End)
+    → Writes bytes a b (Err failed) → Flushes bytes end a b (Err Write)
+flushes_some {bytes} {failed = failed} end w = record {
+  written = w.written;
+  appended = w.appended;
+  is_flushed =
+      not_flushed (written_some bytes w.written (Err failed) failed refl w.is_written);
+}
 
 -- Runs
 
--- what was made of the pieces of a run: all was written or waits, in order; or one was refused, and a beginning of them was written
-pub record RunGathers (held now : Option (List ℕ)) (before after bytes : List ℕ) (refused : Option WriteFailed) : Type 0 where
-  pub written : List ℕ
-  pub appended : Appends held now written
-  pub took : MatchOption refused (before ++ bytes ≡ written ++ after) (λ failed. IsProperPrefix written (before ++ bytes))
+-- what was made of the pieces of a run: all was written or waits, in order; or one was refused, and a beginning of them
+-- was written
+pub record RunGathers (held now : Option (List ℕ)) (before after bytes : List ℕ) (refused : Option WriteFailed) : Type 0
+  where
+    pub written : List ℕ
+    pub appended : Appends held now written
+    pub took : MatchOption refused (before ++ bytes ≡ written ++ after)
+        (λ failed. IsProperPrefix written (before ++ bytes))
 
 -- first one piece, and then more
-then_more : (later : Option WriteFailed) (before piece rest mid after w k : List ℕ) → before ++ piece ≡ w ++ mid → MatchOption later (mid ++ rest ≡ k ++ after) (λ failed. IsProperPrefix k (mid ++ rest)) → MatchOption later (before ++ (piece ++ rest) ≡ (w ++ k) ++ after) (λ failed. IsProperPrefix (w ++ k) (before ++ (piece ++ rest)))
+then_more : (later : Option WriteFailed) (before piece rest mid after w k : List ℕ) → before ++ piece ≡ w ++ mid
+    → MatchOption later (mid ++ rest ≡ k ++ after) (λ failed. IsProperPrefix k (mid ++ rest))
+    → MatchOption later (before ++ (piece ++ rest) ≡ (w ++ k) ++ after)
+    (λ failed. IsProperPrefix (w ++ k) (before ++ (piece ++ rest)))
 then_more None before piece rest mid after w k e h =
     sym (append_assoc before piece rest)
     ∙ ap (λ s. s ++ rest) e
@@ -68,11 +95,14 @@ then_more None before piece rest mid after w k e h =
     ∙ ap (λ s. w ++ s) h
     ∙ sym (append_assoc w k after)
 then_more (Some failed) before piece rest mid after w k e h =
-    let same : w ++ (mid ++ rest) ≡ before ++ (piece ++ rest) = sym (append_assoc w mid rest) ∙ ap (λ s. s ++ rest) (sym e) ∙ append_assoc before piece rest in
+    let same : w ++ (mid ++ rest) ≡ before ++ (piece ++ rest) = sym (append_assoc w mid rest)
+    ∙ ap (λ s. s ++ rest) (sym e) ∙ append_assoc before piece rest in
     let P : List ℕ → Type 0 = λ s. IsProperPrefix (w ++ k) s in
     subst P same (beginning_behind w k (mid ++ rest) h)
 
-gather_more : (r : Result (Unit {0}) WriteFailed) (piece rest before mid after : List ℕ) (later : Option WriteFailed) (a b d : Option (List ℕ)) → Gathers piece before mid a b r → (IsErr r → b ≡ d) → RunGathers b d mid after rest later → RunGathers a d before after (piece ++ rest) (or_error r later)
+gather_more : (r : Result (Unit {0}) WriteFailed) (piece rest before mid after : List ℕ) (later : Option WriteFailed)
+    (a b d : Option (List ℕ)) → Gathers piece before mid a b r → (IsErr r → b ≡ d) → RunGathers b d mid after rest later
+    → RunGathers a d before after (piece ++ rest) (or_error r later)
 gather_more (Ok tt) piece rest before mid after later a b d g last k = record {
   written = g.written ++ k.written;
   appended = appends_then a b d g.written k.written g.appended k.appended;
@@ -83,17 +113,28 @@ gather_more (Err failed) piece rest before mid after later a b d g last k =
     record {
       written = g.written;
       appended = subst P (last refl) g.appended;
-      took = beginning_of g.written (before ++ piece) (before ++ (piece ++ rest)) g.took (rest, sym (append_assoc before piece rest));
+      took = beginning_of g.written (before ++ piece) (before ++ (piece ++ rest)) g.took
+          (rest, sym (append_assoc before piece rest));
     }
 
-module _ {F : Type 0} (step : F → List ℕ → Result (Unit {0}) WriteFailed → F → Type 0) (holds : F → Option (List ℕ)) (waits : F → List ℕ) (gathers : (f : F) (piece : List ℕ) (r : Result (Unit {0}) WriteFailed) (g : F) → step f piece r g → Gathers piece (waits f) (waits g) (holds f) (holds g) r) where
+module _ {F : Type 0} (step : F → List ℕ → Result (Unit {0}) WriteFailed → F → Type 0) (holds : F → Option (List ℕ))
+    (waits : F → List ℕ) (gathers : (f : F) (piece : List ℕ) (r : Result (Unit {0}) WriteFailed) (g : F)
+    → step f piece r g → Gathers piece (waits f) (waits g) (holds f) (holds g) r) where
   run_stops : (cs : List (Call F WriteFailed)) (f g : F) → cs ≡ [] → IsRun step f cs g → f ≡ g
   run_stops [] f g e ran = ran
   run_stops (c ∷ cs) f g e ran = absurd (let k = e in cc)
 
-  pub run_gathers : (cs : List (Call F WriteFailed)) (f g : F) → IsRun step f cs g → RunGathers (holds f) (holds g) (waits f) (waits g) (joined_pieces cs) (refusal cs)
+  pub run_gathers : (cs : List (Call F WriteFailed)) (f g : F) → IsRun step f cs g
+      → RunGathers (holds f) (holds g) (waits f) (waits g) (joined_pieces cs) (refusal cs)
   run_gathers [] f g ran =
       let P : F → Type 0 = λ s. Appends (holds f) (holds s) [] in
-      record { written = []; appended = subst P ran (appends_none (holds f)); took = append-nil (waits f) ∙ ap waits ran }
+      record {
+        written = [];
+        appended = subst P ran (appends_none (holds f));
+        took = append-nil (waits f)
+            ∙ ap waits ran;
+      }
   run_gathers (c ∷ cs) f g ran =
-      gather_more c.answer c.piece (joined_pieces cs) (waits f) (waits c.after) (waits g) (refusal cs) (holds f) (holds c.after) (holds g) (gathers f c.piece c.answer c.after ran.0) (λ e. ap holds (run_stops cs c.after g (ran.1 e) ran.2)) (run_gathers cs c.after g ran.2)
+      gather_more c.answer c.piece (joined_pieces cs) (waits f) (waits c.after) (waits g) (refusal cs) (holds f)
+      (holds c.after) (holds g) (gathers f c.piece c.answer c.after ran.0)
+      (λ e. ap holds (run_stops cs c.after g (ran.1 e) ran.2)) (run_gathers cs c.after g ran.2)

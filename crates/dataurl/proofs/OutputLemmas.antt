@@ -1,5 +1,7 @@
 -- Writing bytes, part by part.
-use Rattle.std.proofs.Common.{◌≡◌, ℕ, ◌<◌, List, [], ◌++◌, length, take, drop, Option, None, Some, Result, Ok, Err, refl, sym, ap, ◌∙◌, append_assoc, take-append-drop, take_all, length-drop, le_of_eq, ◌-◌, subst, arith, length-append}
+use Rattle.std.proofs.Common.{◌≡◌, ℕ, ◌<◌, List, [], ◌++◌, length, take, drop, Option, None, Some, Result, Ok, Err}
+use Rattle.std.proofs.Common.{refl, sym, ap, ◌∙◌, append_assoc, take-append-drop, take_all, length-drop, le_of_eq, ◌-◌}
+use Rattle.std.proofs.Common.{subst, arith, length-append}
 use Rattle.std.proofs.lemmas.List.{append-nil}
 use Rattle.std.specs.Io.KnownBytes.{Appends, Keeps}
 use Rattle.data_url.specs.Run.{IsPrefix}
@@ -32,25 +34,35 @@ pub record Going (bytes rest : List ℕ) (old now : Option (List ℕ)) : Type 0 
 pub going_none : (bytes : List ℕ) (old : Option (List ℕ)) → Going bytes bytes old old
 going_none bytes old = record { written = []; appended = appends_none old; joined = refl }
 
-pub going_more : (bytes rest : List ℕ) (n : ℕ) (old now new : Option (List ℕ)) → Going bytes rest old now → Appends now new (take n rest) → Going bytes (drop n rest) old new
+pub going_more : (bytes rest : List ℕ) (n : ℕ) (old now new : Option (List ℕ)) → Going bytes rest old now
+    → Appends now new (take n rest) → Going bytes (drop n rest) old new
 going_more bytes rest n old now new g a = record {
   written = g.written ++ take n rest;
   appended = appends_then old now new g.written (take n rest) g.appended a;
-  joined = g.joined ∙ ap (λ s. g.written ++ s) (sym (take-append-drop n rest)) ∙ sym (append_assoc g.written (take n rest) (drop n rest));
+  joined = g.joined ∙ ap (λ s. g.written ++ s) (sym (take-append-drop n rest))
+      ∙ sym (append_assoc g.written (take n rest) (drop n rest));
 }
 
-pub going_ends : (bytes rest : List ℕ) (old now : Option (List ℕ)) → rest ≡ [] → Going bytes rest old now → Writes bytes old now (Ok tt)
+pub going_ends : (bytes rest : List ℕ) (old now : Option (List ℕ)) → rest ≡ [] → Going bytes rest old now
+    → Writes bytes old now (Ok tt)
 going_ends bytes rest old now e g =
     let same : g.written ≡ bytes = sym (append-nil g.written) ∙ ap (λ s. g.written ++ s) (sym e) ∙ sym g.joined in
     let P : List ℕ → Type 0 = λ w. IsWritten bytes w (Ok tt) in
     record { written = g.written; appended = g.appended; is_written = subst P (sym same) all }
 
-pub going_fails : (bytes rest : List ℕ) (old now new : Option (List ℕ)) (failed : WriteFailed) → 0 < length rest → Keeps now new → Going bytes rest old now → Writes bytes old new (Err failed)
+pub going_fails : (bytes rest : List ℕ) (old now new : Option (List ℕ)) (failed : WriteFailed) → 0 < length rest
+    → Keeps now new → Going bytes rest old now → Writes bytes old new (Err failed)
 going_fails bytes rest old now new failed some k g =
-    record { written = g.written; appended = appends_kept old now new g.written g.appended k; is_written = beginning (rest, g.joined, some) }
+    record {
+      written = g.written;
+      appended = appends_kept old now new g.written g.appended k;
+      is_written =
+          beginning (rest, g.joined, some);
+    }
 
 -- nothing was taken
-pub going_stops : (bytes rest : List ℕ) (n : ℕ) (old now new : Option (List ℕ)) (failed : WriteFailed) → n ≡ 0 → 0 < length rest → Appends now new (take n rest) → Going bytes rest old now → Writes bytes old new (Err failed)
+pub going_stops : (bytes rest : List ℕ) (n : ℕ) (old now new : Option (List ℕ)) (failed : WriteFailed) → n ≡ 0
+    → 0 < length rest → Appends now new (take n rest) → Going bytes rest old now → Writes bytes old new (Err failed)
 going_stops bytes rest n old now new failed z some a g =
     let m = going_more bytes rest n old now new g a in
     let P : ℕ → Type 0 = λ k. 0 < length (drop k rest) in
@@ -59,7 +71,8 @@ going_stops bytes rest n old now new failed z some a g =
 
 -- a slice from a place to the end
 pub to_the_end : (n : ℕ) (s t : List ℕ) → t ≡ s → take (length t - n) (drop n s) ≡ drop n s
-to_the_end n s t e = ap (λ k. take (k - n) (drop n s)) (ap length e) ∙ take_all (length s - n) (drop n s) (le_of_eq (length-drop n s))
+to_the_end n s t e = ap (λ k. take (k - n) (drop n s)) (ap length e)
+    ∙ take_all (length s - n) (drop n s) (le_of_eq (length-drop n s))
 
 -- Beginnings
 
@@ -74,10 +87,12 @@ beginning_behind front xs ys b = (b.0, ap (λ s. front ++ s) b.1 ∙ sym (append
 
 -- One write
 
-pub written_all : (bytes written : List ℕ) (r : Result (Unit {0}) WriteFailed) → r ≡ Ok tt → IsWritten bytes written r → written ≡ bytes
+pub written_all : (bytes written : List ℕ) (r : Result (Unit {0}) WriteFailed) → r ≡ Ok tt → IsWritten bytes written r
+    → written ≡ bytes
 written_all bytes written r e all = refl
 written_all bytes written r e (beginning p) = absurd (let k = e in cc)
 
-pub written_some : (bytes written : List ℕ) (r : Result (Unit {0}) WriteFailed) (failed : WriteFailed) → r ≡ Err failed → IsWritten bytes written r → IsProperPrefix written bytes
+pub written_some : (bytes written : List ℕ) (r : Result (Unit {0}) WriteFailed) (failed : WriteFailed) → r ≡ Err failed
+    → IsWritten bytes written r → IsProperPrefix written bytes
 written_some bytes written r failed e all = absurd (let k = e in cc)
 written_some bytes written r failed e (beginning p) = p

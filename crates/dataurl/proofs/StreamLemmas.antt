@@ -1,5 +1,6 @@
 -- Base64 that is decoded as it is read: the clause of `run` for the command `base64`.
-use Rattle.std.proofs.Common.{◌≡◌, ◌≤◌, ◌⊎◌, inl, inr, ℕ, Bool, true, false, cond, List, [], ◌++◌, length, Option, None, Some, is_some, Result, Ok, Err, refl, sym, ap, ◌∙◌, subst, arith}
+use Rattle.std.proofs.Common.{◌≡◌, ◌≤◌, ◌⊎◌, inl, inr, ℕ, Bool, true, false, cond, List, [], ◌++◌, length, Option, None}
+use Rattle.std.proofs.Common.{Some, is_some, Result, Ok, Err, refl, sym, ap, ◌∙◌, subst, arith}
 use Rattle.std.specs.Io.KnownBytes.{Appends, Consumes, IsAtEnd, Keeps}
 use Rattle.std.specs.Prelude.{MatchBool, MatchOption}
 use Rattle.std.proofs.lemmas.List.{append-nil}
@@ -10,11 +11,10 @@ use Rattle.data_url.specs.Run.{Call, IsRun, joined_pieces, refusal}
 use Rattle.data_url.specs.Steps.Whole.{DecodesText}
 use Rattle.data_url.specs.declared.forgiving_base64.DecodeError.{DecodeError}
 use Rattle.data_url.specs.declared.forgiving_base64.DecodeError.TheVariants.{InvalidBase64}
-use Rattle.data_url.proofs.DecoderLemmas.{feeds_then, feeds_took}
-use Rattle.data_url.proofs.RunLemmas.{match_at_none}
-use Rattle.data_url.proofs.WholeLemmas.{decodes_finished, fed_nothing, run_keeps}
+use Rattle.data_url.proofs.api.{decodes_finished, fed_nothing, feeds_then, feeds_took, match_at_none, run_keeps}
 use Rattle.dataurl.specs.Output.{End, IsOutput, of_base64, of_no_base64}
-use Rattle.dataurl.specs.Runs.{IsProperPrefix, IsResult, IsSoundBeforeLastPiece, Runs, base64_not_read, base64_not_written, complete, not_written, stopped as stopped_at_fault}
+use Rattle.dataurl.specs.Runs.{IsProperPrefix, IsResult, IsSoundBeforeLastPiece, Runs, base64_not_read}
+use Rattle.dataurl.specs.Runs.{base64_not_written, complete, not_written, stopped as stopped_at_fault}
 use Rattle.dataurl.specs.Steps.Base64.{DecodesReader, FeedsText, IsDecoded, finished, not_read, stopped}
 use Rattle.dataurl.specs.Steps.Gathering.{Flushes, Gathers, IsFlushed, IsSettled, Settles, flushed, not_flushed}
 use Rattle.dataurl.specs.declared.command.Command.TheVariants.{Base64 as base64}
@@ -139,7 +139,8 @@ finished_ends x left bytes after w k r end true v over n h e s =
     flush_ends x left (decoded x) after w k (Ok tt) end over (of_base64 v) (sym h.bytes_are ∙ e) (subst P h.answer s)
 finished_ends x left bytes after w k r end false v over n h e s =
     let P : Result (Unit {0}) (DecodeError WriteFailed) → Type 0 = λ x. IsSettled x after k end in
-    flush_ends x left (complete_bytes x) after w k (Err (Base64 (kind_of x))) end over (of_no_base64 n v) (sym h.0 ∙ e) (subst P h.1 s)
+    flush_ends x left (complete_bytes x) after w k (Err (Base64 (kind_of x))) end over (of_no_base64 n v) (sym h.0 ∙ e)
+    (subst P h.1 s)
 
 -- a closure that refused ends with a failed write: what was written is less than all
 refused_write : {all bytes : List ℕ} (after w k : List ℕ) (r : Result (Unit {0}) (DecodeError WriteFailed)) (end : End)
@@ -173,7 +174,8 @@ stopped_ends : (x : List ℕ) (left : Option (List ℕ)) (bytes after w k : List
 stopped_ends x left bytes after w k r error end P None f q sound b h e s = absurd (let k = h.0 in cc)
 stopped_ends x left bytes after w k r error end P (Some place) f q sound b h e s =
     let Q : Result (Unit {0}) (DecodeError WriteFailed) → Type 0 = λ x. IsSettled x after k end in
-    flush_stops x left after w k (Err (Base64 (kind_of x))) end sound (stopped_at_fault sound (ap is_some f)) (sym b ∙ e) (subst Q h s)
+    flush_stops x left after w k (Err (Base64 (kind_of x))) end sound (stopped_at_fault sound (ap is_some f)) (sym b
+    ∙ e) (subst Q h s)
 
 stopped_result : {F : Type 0} (refused : Option WriteFailed) (x : List ℕ) (left : Option (List ℕ))
     (bytes after w k : List ℕ) (r : Result (Unit {0}) (DecodeError WriteFailed)) (error : DecodeError WriteFailed)
@@ -216,8 +218,10 @@ module _ {F : Type 0} {step : F → List ℕ → Result (Unit {0}) WriteFailed �
       → ((p : F) (piece : List ℕ) (s : Result (Unit {0}) WriteFailed) (q : F) → step p piece s q → kept p ≡ kept q)
       → IsDecoded step f x left ended g → kept f ≡ kept g
   decoded_keeps {f = f} {g = g} kept keeps (finished over n d) = run_keeps step kept keeps d.run f g d.ran
-  decoded_keeps {f = f} kept keeps (stopped sound d) = run_keeps step kept keeps d.fed.run f d.state.closure d.fed.ran ∙ ap kept d.closure_is
-  decoded_keeps {f = f} kept keeps (not_read d) = run_keeps step kept keeps d.fed.run f d.state.closure d.fed.ran ∙ ap kept d.closure_is
+  decoded_keeps {f = f} kept keeps (stopped sound d) = run_keeps step kept keeps d.fed.run f d.state.closure d.fed.ran
+      ∙ ap kept d.closure_is
+  decoded_keeps {f = f} kept keeps (not_read d) = run_keeps step kept keeps d.fed.run f d.state.closure d.fed.ran
+      ∙ ap kept d.closure_is
 
   pub reader_keeps : {B : Type 0} {f g : F} {unread left : Option (List ℕ)} {ended : Ended}
       → DecodesReader step f unread left ended g → (kept : F → B)
@@ -227,15 +231,18 @@ module _ {F : Type 0} {step : F → List ℕ → Result (Unit {0}) WriteFailed �
 
   -- pieces that were gathered by a closure with nothing waiting before, and then a last flush
   runs_by : {f g : F} {unread left now : Option (List ℕ)} {end : End} (holds : F → Option (List ℕ)) (waits : F → List ℕ)
-      → ((p : F) (piece : List ℕ) (s : Result (Unit {0}) WriteFailed) (q : F) → step p piece s q → Gathers piece (waits p) (waits q) (holds p) (holds q) s)
+      → ((p : F) (piece : List ℕ) (s : Result (Unit {0}) WriteFailed) (q : F) → step p piece s q
+      → Gathers piece (waits p) (waits q) (holds p) (holds q) s)
       → (cs : List (Call F WriteFailed)) (h : F) (x k : List ℕ) → IsRun step f cs h → h ≡ g → waits f ≡ []
       → Consumes unread left x → Appends (holds g) now k
-      → ((w : List ℕ) → MatchOption (refusal cs) (joined_pieces cs ≡ w ++ waits g) (λ failed. IsProperPrefix w (joined_pieces cs)) → IsResult x left base64 (w ++ k) end)
+      → ((w : List ℕ) → MatchOption (refusal cs) (joined_pieces cs ≡ w ++ waits g)
+      (λ failed. IsProperPrefix w (joined_pieces cs)) → IsResult x left base64 (w ++ k) end)
       → Runs base64 unread left (holds f) now end
   runs_by {f} {g} {now = now} holds waits gathers cs h x k ran same e c a ends =
       let P : F → Type 0 = λ s. IsRun step f cs s in
       let w = run_gathers step holds waits gathers cs f g (subst P same ran) in
-      let Q : List ℕ → Type 0 = λ before. MatchOption (refusal cs) (before ++ joined_pieces cs ≡ w.written ++ waits g) (λ failed. IsProperPrefix w.written (before ++ joined_pieces cs)) in
+      let Q : List ℕ → Type 0 = λ before. MatchOption (refusal cs) (before ++ joined_pieces cs ≡ w.written ++ waits g)
+      (λ failed. IsProperPrefix w.written (before ++ joined_pieces cs)) in
       record {
         input = x;
         written = w.written ++ k;
@@ -245,29 +252,39 @@ module _ {F : Type 0} {step : F → List ℕ → Result (Unit {0}) WriteFailed �
       }
 
   -- the input was decoded as far as it was read
-  pub decoded_runs : {f g : F} {unread left now : Option (List ℕ)} {ended : Ended} {end : End} {r : Result (Unit {0}) (DecodeError WriteFailed)}
+  pub decoded_runs : {f g : F} {unread left now : Option (List ℕ)} {ended : Ended} {end : End}
+      {r : Result (Unit {0}) (DecodeError WriteFailed)}
       → DecodesReader step f unread left ended g → ended ≡ Decoded r
       → (holds : F → Option (List ℕ)) (waits : F → List ℕ)
-      → ((p : F) (piece : List ℕ) (s : Result (Unit {0}) WriteFailed) (q : F) → step p piece s q → Gathers piece (waits p) (waits q) (holds p) (holds q) s)
+      → ((p : F) (piece : List ℕ) (s : Result (Unit {0}) WriteFailed) (q : F) → step p piece s q
+      → Gathers piece (waits p) (waits q) (holds p) (holds q) s)
       → waits f ≡ [] → Settles r (waits g) (holds g) now end → Runs base64 unread left (holds f) now end
-  decoded_runs {f} {g} {unread} {left} {now} {ended} {end} {r} d e holds waits gathers z s = elim (decoded_or r e d.is_decoded) [
-    | inl h ↦
-        runs_by holds waits gathers h.2.run g d.input s.written h.2.ran refl z d.consumed s.appended
-        (λ w took. finished_result (refusal h.2.run) d.input left (joined_pieces h.2.run) (waits g) w s.written r end h.0 h.1 h.2.gave took s.is_settled)
-    | inr h ↦
-        let fed = h.3.fed in
-        runs_by holds waits gathers fed.run h.3.state.closure d.input s.written fed.ran h.3.closure_is z d.consumed s.appended
-        (λ w took. stopped_result (refusal fed.run) d.input left (joined_pieces fed.run) (waits g) w s.written r h.0 h.3.state end h.1 h.2 fed.gave took s.is_settled)
-  ]
+  decoded_runs {f} {g} {unread} {left} {now} {ended} {end} {r} d e holds waits gathers z s =
+      elim (decoded_or r e d.is_decoded) [
+        | inl h ↦
+            runs_by holds waits gathers h.2.run g d.input s.written h.2.ran refl z d.consumed s.appended
+            (λ w took. finished_result (refusal h.2.run) d.input left (joined_pieces h.2.run) (waits g) w s.written r end
+            h.0 h.1 h.2.gave took s.is_settled)
+        | inr h ↦
+            let fed = h.3.fed in
+            runs_by holds waits gathers fed.run h.3.state.closure d.input s.written fed.ran h.3.closure_is z d.consumed
+            s.appended
+            (λ w took. stopped_result (refusal fed.run) d.input left (joined_pieces fed.run) (waits g) w s.written r h.0
+            h.3.state end h.1 h.2 fed.gave took s.is_settled)
+      ]
 
   -- a read failed
   pub unread_runs : {f g : F} {unread left now : Option (List ℕ)} {ended : Ended} {end : End}
       → DecodesReader step f unread left ended g → ended ≡ ReadFailed
       → (holds : F → Option (List ℕ)) (waits : F → List ℕ)
-      → ((p : F) (piece : List ℕ) (s : Result (Unit {0}) WriteFailed) (q : F) → step p piece s q → Gathers piece (waits p) (waits q) (holds p) (holds q) s)
+      → ((p : F) (piece : List ℕ) (s : Result (Unit {0}) WriteFailed) (q : F) → step p piece s q
+      → Gathers piece (waits p) (waits q) (holds p) (holds q) s)
       → waits f ≡ [] → Flushes (waits g) (Err Read) (holds g) now end → Runs base64 unread left (holds f) now end
   unread_runs {f} {g} {unread} {left} {now} {ended} {end} d e holds waits gathers z s =
       let h = unread_fed e d.is_decoded in
       let t = feeds_took step h.fed in
-      runs_by holds waits gathers h.fed.run h.state.closure d.input s.written h.fed.ran h.closure_is z d.consumed s.appended
-      (λ w took. flush_stops d.input left (waits g) w s.written (Err Read) end (sound_of d.input t.1.no_fault) (base64_not_read t.1.no_fault) (sym t.1.bytes_are ∙ match_at_none (refusal h.fed.run) _ _ t.0 took) s.is_flushed)
+      runs_by holds waits gathers h.fed.run h.state.closure d.input s.written h.fed.ran h.closure_is z d.consumed
+      s.appended
+      (λ w took. flush_stops d.input left (waits g) w s.written (Err Read) end (sound_of d.input t.1.no_fault)
+      (base64_not_read t.1.no_fault) (sym t.1.bytes_are ∙ match_at_none (refusal h.fed.run) _ _ t.0 took)
+      s.is_flushed)

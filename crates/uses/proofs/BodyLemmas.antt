@@ -2,8 +2,9 @@
 use Rattle.std.proofs.Common.{◌≡◌, ℕ, List, [], ◌++◌, ◌∙◌, sym}
 use Rattle.std.proofs.lemmas.List.{append-nil}
 use Rattle.data_url.specs.Run.{IsPrefix}
-use Rattle.data_url.proofs.RunLemmas.{prefix_none}
+use Rattle.data_url.proofs.api.{prefix_none}
 
 -- nothing of a piece that was refused
-pub none_of : {now before : List ℕ} (piece : List ℕ) → now ≡ before → (part : List ℕ) × IsPrefix part piece × (now ≡ before ++ part)
+pub none_of : {now before : List ℕ} (piece : List ℕ) → now ≡ before → (part : List ℕ) × IsPrefix part piece
+    × (now ≡ before ++ part)
 none_of {now} {before} piece e = ([], prefix_none piece, e ∙ sym (append-nil before))

@@ -1,5 +1,7 @@
 -- Finding the references of a page, and joining its parts.
-use Rattle.std.proofs.Common.{◌≡◌, ℕ, zero, suc, ◌<◌, ◌≤◌, ◌+◌, ◌-◌, List, [], ◌∷◌, ◌++◌, length, take, drop, get_or, None, Some, refl, sym, ap, ◌∙◌, subst, arith, append_assoc, length-append, length-drop, length-take, take-append-drop, inl, inr}
+use Rattle.std.proofs.Common.{◌≡◌, ℕ, zero, suc, ◌<◌, ◌≤◌, ◌+◌, ◌-◌, List, [], ◌∷◌, ◌++◌, length, take, drop, get_or}
+use Rattle.std.proofs.Common.{None, Some, refl, sym, ap, ◌∙◌, subst, arith, append_assoc, length-append, length-drop}
+use Rattle.std.proofs.Common.{length-take, take-append-drop, inl, inr}
 use Rattle.std.proofs.Math.Seq.{drop-append_seam, drop-cons, get_or-append_seam, take-add}
 use Rattle.std.proofs.lemmas.Bool.{cases_lt}
 use Rattle.std.proofs.lemmas.List.{append-nil, drop-drop, get_or-append-add, get_or-drop, get_or-take}
@@ -32,7 +34,9 @@ opened page place end m = record {
 }
 
 pub none_opened : (page : List ℕ) → FindsText opening page None → HasNoReference page
-none_opened page m = λ xs ys zs e. m (length xs) (omega (arith, ap length e, length-append xs (opening ++ (ys ++ (34 ∷ zs))))) (ys ++ (34 ∷ zs)) (at_seam page xs (opening ++ (ys ++ (34 ∷ zs))) e)
+none_opened page m = λ xs ys zs e. m (length xs)
+    (omega (arith, ap length e, length-append xs (opening ++ (ys ++ (34 ∷ zs))))) (ys ++ (34 ∷ zs))
+    (at_seam page xs (opening ++ (ys ++ (34 ∷ zs))) e)
 
 -- Where it ends
 
@@ -43,17 +47,21 @@ quote_at xs ys zs =
     ∙ get_or-append_seam ys 34 zs 0
 
 -- no quote stands behind the opening
-pub none_ended : (page rest : List ℕ) (place : ℕ) → OpenedAt page place → rest ≡ drop (place + 2) page → ((k : ℕ) → k < length rest → get_or rest k 0 ≢ 34) → HasNoReference page
+pub none_ended : (page rest : List ℕ) (place : ℕ) → OpenedAt page place → rest ≡ drop (place + 2) page
+    → ((k : ℕ) → k < length rest → get_or rest k 0 ≢ 34) → HasNoReference page
 none_ended page rest place o r none = λ xs ys zs e.
     let before = o.first xs (ys ++ (34 ∷ zs)) e in
     let k : ℕ = length xs + (7 + length ys) - (place + 2) in
     let at : (place + 2) + k ≡ length xs + (7 + length ys) = omega arith in
-    let long : length page ≡ length xs + (7 + (length ys + (1 + length zs))) = omega (arith, ap length e, length-append xs (opening ++ (ys ++ (34 ∷ zs))), length-append ys (34 ∷ zs)) in
+    let long : length page ≡ length xs + (7 + (length ys + (1 + length zs))) =
+    omega (arith, ap length e, length-append xs (opening ++ (ys ++ (34 ∷ zs))), length-append ys (34 ∷ zs)) in
     none k (omega (arith, ap length r, length-drop (place + 2) page))
-    (ap (λ s. get_or s k 0) r ∙ get_or-drop (place + 2) page k 0 ∙ ap (λ n. get_or page n 0) at ∙ ap (λ s. get_or s (length xs + (7 + length ys)) 0) e ∙ quote_at xs ys zs)
+    (ap (λ s. get_or s k 0) r ∙ get_or-drop (place + 2) page k 0 ∙ ap (λ n. get_or page n 0) at
+    ∙ ap (λ s. get_or s (length xs + (7 + length ys)) 0) e ∙ quote_at xs ys zs)
 
 -- what ends at a quote has the whole scheme
-scheme_front : (k : ℕ) (s : List ℕ) → get_or (codes "data:" ++ s) k 0 ≡ 34 → (rest : List ℕ) × (take k (codes "data:" ++ s) ≡ codes "data:" ++ rest)
+scheme_front : (k : ℕ) (s : List ℕ) → get_or (codes "data:" ++ s) k 0 ≡ 34
+    → (rest : List ℕ) × (take k (codes "data:" ++ s) ≡ codes "data:" ++ rest)
 scheme_front zero s e = absurd (omega (arith, e))
 scheme_front (suc zero) s e = absurd (omega (arith, e))
 scheme_front (suc (suc zero)) s e = absurd (omega (arith, e))
@@ -61,17 +69,22 @@ scheme_front (suc (suc (suc zero))) s e = absurd (omega (arith, e))
 scheme_front (suc (suc (suc (suc zero)))) s e = absurd (omega (arith, e))
 scheme_front (suc (suc (suc (suc (suc k))))) s e = (take k s, refl)
 
-no_quote_before : (rest : List ℕ) (k : ℕ) → k < length rest → ((m : ℕ) → m < k → get_or rest m 0 ≢ 34) → (xs ys : List ℕ) → take k rest ≢ xs ++ (34 ∷ ys)
+no_quote_before : (rest : List ℕ) (k : ℕ) → k < length rest → ((m : ℕ) → m < k → get_or rest m 0 ≢ 34)
+    → (xs ys : List ℕ) → take k rest ≢ xs ++ (34 ∷ ys)
 no_quote_before rest k within none xs ys e =
     let few : length xs < k = omega (arith, ap length e, length-append xs (34 ∷ ys), length-take k rest) in
-    none (length xs) few (sym (get_or-take k rest (length xs) 0 few) ∙ ap (λ s. get_or s (length xs) 0) e ∙ get_or-append_seam xs 34 ys 0)
+    none (length xs) few (sym (get_or-take k rest (length xs) 0 few) ∙ ap (λ s. get_or s (length xs) 0) e
+    ∙ get_or-append_seam xs 34 ys 0)
 
-pub is_reference : (page rest : List ℕ) (place k : ℕ) → OpenedAt page place → rest ≡ drop (place + 2) page → k < length rest → get_or rest k 0 ≡ 34 → ((m : ℕ) → m < k → get_or rest m 0 ≢ 34) → IsReference page (take (place + 2) page) (take k rest) (drop k rest)
+pub is_reference : (page rest : List ℕ) (place k : ℕ) → OpenedAt page place → rest ≡ drop (place + 2) page
+    → k < length rest → get_or rest k 0 ≡ 34 → ((m : ℕ) → m < k → get_or rest m 0 ≢ 34)
+    → IsReference page (take (place + 2) page) (take k rest) (drop k rest)
 is_reference page rest place k o r within quote none =
     let rest_is : rest ≡ codes "data:" ++ o.rest = r ∙ sym (drop-drop 2 place page) ∙ ap (λ s. drop 2 s) o.split in
     let scheme = scheme_front k o.rest (ap (λ s. get_or s k 0) (sym rest_is) ∙ quote) in
     record {
-      joined = sym (take-append-drop (place + 2) page) ∙ ap (λ s. take (place + 2) page ++ s) (sym r ∙ sym (take-append-drop k rest));
+      joined = sym (take-append-drop (place + 2) page)
+          ∙ ap (λ s. take (place + 2) page ++ s) (sym r ∙ sym (take-append-drop k rest));
       start = take place page;
       before_is = take-add place 2 page ∙ ap (λ s. take place page ++ take 2 s) o.split;
       rest = scheme.0;
@@ -83,9 +96,17 @@ is_reference page rest place k o r within quote none =
     }
 
 -- what stands behind a reference is shorter
-pub behind_shorter : {page before reference behind : List ℕ} → IsReference page before reference behind → length behind < length page
+pub behind_shorter : {page before reference behind : List ℕ} → IsReference page before reference behind
+    → length behind < length page
 behind_shorter {page} {before} {reference} {behind} h =
-    omega (arith, ap length h.joined, length-append before (reference ++ behind), length-append reference behind, ap length h.before_is, length-append h.start (61 ∷ 34 ∷ []))
+    omega (
+      arith,
+      ap length h.joined,
+      length-append before (reference ++ behind),
+      length-append reference behind,
+      ap length h.before_is,
+      length-append h.start (61 ∷ 34 ∷ []),
+    )
 
 -- Parts
 
@@ -116,12 +137,16 @@ pub record Going (page rest : List ℕ) (parts : List Part) : Type 0 where
 pub going_none : (page : List ℕ) → Going page page []
 going_none page = record { then = λ more h. h }
 
-pub going_more : {page rest before reference behind : List ℕ} {parts : List Part} (text part : Part) → Going page rest parts → IsReference rest before reference behind → IsText before text → Inlines reference part → Going page behind ((parts ++ text ∷ []) ++ part ∷ [])
+pub going_more : {page rest before reference behind : List ℕ} {parts : List Part} (text part : Part)
+    → Going page rest parts → IsReference rest before reference behind → IsText before text → Inlines reference part
+    → Going page behind ((parts ++ text ∷ []) ++ part ∷ [])
 going_more {page} {rest} {before} {reference} {behind} {parts} text part g is t i = record {
   then = λ more h.
       let P : List Part → Type 0 = λ ps. IsPage page ps in
-      subst P (sym (append_assoc (parts ++ text ∷ []) (part ∷ []) more ∙ append_assoc parts (text ∷ []) (part ∷ more))) (g.then (text ∷ part ∷ more) (before, reference, behind, is, t, i, h));
+      subst P (sym (append_assoc (parts ++ text ∷ []) (part ∷ []) more ∙ append_assoc parts (text ∷ []) (part ∷ more)))
+      (g.then (text ∷ part ∷ more) (before, reference, behind, is, t, i, h));
 }
 
-pub going_ends : {page rest : List ℕ} {parts : List Part} (text : Part) → Going page rest parts → IsText rest text → HasNoReference rest → IsPage page (parts ++ text ∷ [])
+pub going_ends : {page rest : List ℕ} {parts : List Part} (text : Part) → Going page rest parts → IsText rest text
+    → HasNoReference rest → IsPage page (parts ++ text ∷ [])
 going_ends text g t none = g.then (text ∷ []) (t, none)

@@ -1,5 +1,6 @@
 -- The first of the highest rank, as far as the ranks were looked at.
-use Rattle.std.proofs.Common.{◌≡◌, ℕ, ◌<◌, ◌≤◌, ◌+◌, List, length, map, get_or, Option, None, Some, refl, sym, ap, ◌∙◌, arith}
+use Rattle.std.proofs.Common.{◌≡◌, ℕ, ◌<◌, ◌≤◌, ◌+◌, List, length, map, get_or, Option, None, Some, refl, sym, ap, ◌∙◌}
+use Rattle.std.proofs.Common.{arith}
 use borrow.Author.Count.{below_more}
 use Rattle.std.specs.Prelude.{slice_index}
 use Rattle.std.proofs.lemmas.List.{get_or-map}
@@ -8,7 +9,8 @@ use Rattle.uses.specs.Ranks.{IsBest}
 -- none of the ranks below i is more than 0, or this is the first of the highest
 abbrev pub IsLeader : List ℕ → ℕ → ℕ → Option ℕ → Type 0
 IsLeader ranks i highest None = highest ≡ 0
-IsLeader ranks i highest (Some p) = (p < i) × (slice_index ranks p ≡ highest) × (0 < highest) × ((j : ℕ) → j < p → slice_index ranks j < highest)
+IsLeader ranks i highest (Some p) = (p < i) × (slice_index ranks p ≡ highest) × (0 < highest)
+    × ((j : ℕ) → j < p → slice_index ranks j < highest)
 
 pub record Leads (ranks : List ℕ) (i : ℕ) (best : Option ℕ) (highest : ℕ) : Type 0 where
   pub below : (j : ℕ) → j < i → slice_index ranks j ≤ highest
@@ -18,26 +20,31 @@ pub leads_none : (ranks : List ℕ) → Leads ranks 0 None 0
 leads_none ranks = record { below = λ j h. absurd (omega (arith, h)); leader = refl }
 
 -- below the next place, where the rank at the place is known
-below_next : (ranks : List ℕ) (i highest : ℕ) → ((m : ℕ) → m < i → slice_index ranks m ≤ highest) → slice_index ranks i ≤ highest → (j : ℕ) → j < i + 1 → slice_index ranks j ≤ highest
+below_next : (ranks : List ℕ) (i highest : ℕ) → ((m : ℕ) → m < i → slice_index ranks m ≤ highest)
+    → slice_index ranks i ≤ highest → (j : ℕ) → j < i + 1 → slice_index ranks j ≤ highest
 below_next ranks i highest b e j k = below_more (λ m. slice_index ranks m ≤ highest) i b e j k
 
-pub leads_higher : {ranks : List ℕ} {best : Option ℕ} {highest : ℕ} (i rank : ℕ) → Leads ranks i best highest → slice_index ranks i ≡ rank → highest < rank → Leads ranks (i + 1) (Some i) rank
+pub leads_higher : {ranks : List ℕ} {best : Option ℕ} {highest : ℕ} (i rank : ℕ) → Leads ranks i best highest
+    → slice_index ranks i ≡ rank → highest < rank → Leads ranks (i + 1) (Some i) rank
 leads_higher {ranks} {best} {highest} i rank l e h = record {
   below = below_next ranks i rank (λ m k. omega (arith, l.below m k, h)) (omega (arith, e));
   leader = (omega arith, e, omega (arith, h), λ j k. omega (arith, l.below j k, h));
 }
 
-still_leads : (ranks : List ℕ) (highest : ℕ) (best : Option ℕ) (i : ℕ) → IsLeader ranks i highest best → IsLeader ranks (i + 1) highest best
+still_leads : (ranks : List ℕ) (highest : ℕ) (best : Option ℕ) (i : ℕ) → IsLeader ranks i highest best
+    → IsLeader ranks (i + 1) highest best
 still_leads ranks highest None i h = h
 still_leads ranks highest (Some p) i h = (omega (arith, h.0), h.1, h.2, h.3)
 
-pub leads_no_higher : {ranks : List ℕ} {best : Option ℕ} {highest : ℕ} (i rank : ℕ) → Leads ranks i best highest → slice_index ranks i ≡ rank → rank ≤ highest → Leads ranks (i + 1) best highest
+pub leads_no_higher : {ranks : List ℕ} {best : Option ℕ} {highest : ℕ} (i rank : ℕ) → Leads ranks i best highest
+    → slice_index ranks i ≡ rank → rank ≤ highest → Leads ranks (i + 1) best highest
 leads_no_higher {ranks} {best} {highest} i rank l e h = record {
   below = below_next ranks i highest l.below (omega (arith, e, h));
   leader = still_leads ranks highest best i l.leader;
 }
 
-best_of : (ranks : List ℕ) (n highest : ℕ) (best : Option ℕ) → n ≡ length ranks → ((j : ℕ) → j < n → slice_index ranks j ≤ highest) → IsLeader ranks n highest best → IsBest ranks best
+best_of : (ranks : List ℕ) (n highest : ℕ) (best : Option ℕ) → n ≡ length ranks
+    → ((j : ℕ) → j < n → slice_index ranks j ≤ highest) → IsLeader ranks n highest best → IsBest ranks best
 best_of ranks n highest None e b h = λ i k. omega (arith, b i (omega arith), h)
 best_of ranks n highest (Some p) e b h = record {
   within = omega (arith, h.0);
@@ -46,9 +53,11 @@ best_of ranks n highest (Some p) e b h = record {
   first = λ i k. omega (arith, h.3 i k, h.1);
 }
 
-pub leads_all : {ranks : List ℕ} {best : Option ℕ} {highest n : ℕ} → n ≡ length ranks → Leads ranks n best highest → IsBest ranks best
+pub leads_all : {ranks : List ℕ} {best : Option ℕ} {highest n : ℕ} → n ≡ length ranks → Leads ranks n best highest
+    → IsBest ranks best
 leads_all {ranks} {best} {highest} {n} e l = best_of ranks n highest best e l.below l.leader
 
 -- the rank of an item that was read
-pub rank_at : {A : Type 0} (f : A → ℕ) (xs : List A) (i : ℕ) (x : A) → i < length xs → x ≡ get_or xs i x → slice_index (map f xs) i ≡ f x
+pub rank_at : {A : Type 0} (f : A → ℕ) (xs : List A) (i : ℕ) (x : A) → i < length xs → x ≡ get_or xs i x
+    → slice_index (map f xs) i ≡ f x
 rank_at f xs i x h e = get_or-map f xs i x 0 h ∙ ap f (sym e)

@@ -1,5 +1,7 @@
 -- What a sink takes of a piece, and of the pieces of a body.
-use Rattle.std.proofs.Common.{◌≡◌, ℕ, ◌<◌, ◌+◌, ◌-◌, List, [], ◌++◌, length, take, drop, Option, None, Some, Result, Ok, Err, refl, sym, ap, ◌∙◌, append_assoc, take-append-drop, take_all, length-drop, le_of_eq, subst, arith, length-append}
+use Rattle.std.proofs.Common.{◌≡◌, ℕ, ◌<◌, ◌+◌, ◌-◌, List, [], ◌++◌, length, take, drop, Option, None, Some, Result, Ok}
+use Rattle.std.proofs.Common.{Err, refl, sym, ap, ◌∙◌, append_assoc, take-append-drop, take_all, length-drop, le_of_eq}
+use Rattle.std.proofs.Common.{subst, arith, length-append}
 use Rattle.std.proofs.lemmas.List.{append-nil}
 use Rattle.std.specs.Io.KnownBytes.{Appends, Keeps}
 use Rattle.data_url.specs.DataUrl.{Decodes}
@@ -7,8 +9,7 @@ use Rattle.data_url.specs.Fetch.{Outcome}
 use Rattle.data_url.specs.Run.{IsPrefix}
 use Rattle.data_url.specs.declared.forgiving_base64.DecodeError.{DecodeError}
 use Rattle.data_url.specs.declared.forgiving_base64.DecodeError.TheVariants.{InvalidBase64, WriteError}
-use Rattle.data_url.proofs.RunLemmas.{prefix_behind, prefix_trans}
-use Rattle.data_url.proofs.RunMeasures.{EndsWith, body_ends}
+use Rattle.data_url.proofs.api.{EndsWith, body_ends, prefix_behind, prefix_trans}
 use Rattle.uses.specs.Bodies.{AnyAnswer}
 use Rattle.uses.specs.Loads.{StreamsBody, TakesWithin}
 use Rattle.uses.specs.Steps.{Writes, WritesWithin}
@@ -47,38 +48,45 @@ pub record Going (piece rest : List ℕ) (old now : Option (List ℕ)) : Type 0 
 pub going_none : (piece : List ℕ) (old : Option (List ℕ)) → Going piece piece old old
 going_none piece old = record { written = []; taken = appends_none old; joined = refl }
 
-pub going_more : (piece rest : List ℕ) (n : ℕ) (old now new : Option (List ℕ)) → Going piece rest old now → Appends now new (take n rest) → Going piece (drop n rest) old new
+pub going_more : (piece rest : List ℕ) (n : ℕ) (old now new : Option (List ℕ)) → Going piece rest old now
+    → Appends now new (take n rest) → Going piece (drop n rest) old new
 going_more piece rest n old now new g a = record {
   written = g.written ++ take n rest;
   taken = appends_then old now new g.written (take n rest) g.taken a;
-  joined = g.joined ∙ ap (λ s. g.written ++ s) (sym (take-append-drop n rest)) ∙ sym (append_assoc g.written (take n rest) (drop n rest));
+  joined = g.joined ∙ ap (λ s. g.written ++ s) (sym (take-append-drop n rest))
+      ∙ sym (append_assoc g.written (take n rest) (drop n rest));
 }
 
-pub going_ends : (piece rest : List ℕ) (old now : Option (List ℕ)) → rest ≡ [] → Going piece rest old now → Writes piece old now (Ok tt)
+pub going_ends : (piece rest : List ℕ) (old now : Option (List ℕ)) → rest ≡ [] → Going piece rest old now
+    → Writes piece old now (Ok tt)
 going_ends piece rest old now e g =
     let P : List ℕ → Type 0 = λ w. Appends old now w in
     subst P (sym (append-nil g.written) ∙ ap (λ s. g.written ++ s) (sym e) ∙ sym g.joined) g.taken
 
-pub going_fails : (piece rest : List ℕ) (old now new : Option (List ℕ)) → Keeps now new → Going piece rest old now → Writes piece old new (Err SinkFailed)
+pub going_fails : (piece rest : List ℕ) (old now new : Option (List ℕ)) → Keeps now new → Going piece rest old now
+    → Writes piece old new (Err SinkFailed)
 going_fails piece rest old now new k g =
     record { bytes = g.written; taken = appends_kept old now new g.written g.taken k; begins = (rest, g.joined) }
 
 -- a write that took so many bytes, and then no more
-pub going_stops : (piece rest : List ℕ) (n : ℕ) (old now new : Option (List ℕ)) → Appends now new (take n rest) → Going piece rest old now → Writes piece old new (Err SinkFailed)
+pub going_stops : (piece rest : List ℕ) (n : ℕ) (old now new : Option (List ℕ)) → Appends now new (take n rest)
+    → Going piece rest old now → Writes piece old new (Err SinkFailed)
 going_stops piece rest n old now new a g =
     let m = going_more piece rest n old now new g a in
     record { bytes = m.written; taken = m.taken; begins = (drop n rest, m.joined) }
 
 -- a slice from a place to the end
 pub to_the_end : (n : ℕ) (s t : List ℕ) → t ≡ s → take (length t - n) (drop n s) ≡ drop n s
-to_the_end n s t e = ap (λ k. take (k - n) (drop n s)) (ap length e) ∙ take_all (length s - n) (drop n s) (le_of_eq (length-drop n s))
+to_the_end n s t e = ap (λ k. take (k - n) (drop n s)) (ap length e)
+    ∙ take_all (length s - n) (drop n s) (le_of_eq (length-drop n s))
 
 -- The pieces of a body
 
 -- what was written of a body under a limit, by the answer of decoding
 abbrev pub Streamed : Outcome → ℕ → Option (List ℕ) → Option (List ℕ) → Result (Unit {0}) (DecodeError Refusal) → Type 0
 Streamed body limit old new (Ok x) = StreamsBody body limit old new (Ok tt)
-Streamed body limit old new (Err (InvalidBase64 kind)) = StreamsBody body limit old new (Err (errors.InvalidBase64 kind))
+Streamed body limit old new (Err (InvalidBase64 kind)) =
+    StreamsBody body limit old new (Err (errors.InvalidBase64 kind))
 Streamed body limit old new (Err (WriteError OverLimit)) = StreamsBody body limit old new (Err errors.OverLimit)
 Streamed body limit old new (Err (WriteError SinkFailed)) = StreamsBody body limit old new (Err errors.SinkFailed)
 
@@ -90,23 +98,49 @@ abbrev Stopped : {F : Type 0} → (F → Option (List ℕ)) → ℕ → Option (
 Stopped holds limit old bytes OverLimit p = (limit < length bytes) × TakesWithin bytes limit old (holds p)
 Stopped holds limit old bytes SinkFailed p = TakesWithin bytes limit old (holds p)
 
-stops : {F : Type 0} (room : F → ℕ) (holds : F → Option (List ℕ)) (limit : ℕ) (old : Option (List ℕ)) (bytes piece : List ℕ) (e : Refusal) (p q : F)
-    → Kept room holds limit old bytes p → WritesWithin piece (room p) (room q) (holds p) (holds q) (Err e) → Stopped holds limit old (bytes ++ piece) e q
+stops : {F : Type 0} (room : F → ℕ) (holds : F → Option (List ℕ)) (limit : ℕ) (old : Option (List ℕ))
+    (bytes piece : List ℕ) (e : Refusal) (p q : F)
+    → Kept room holds limit old bytes p → WritesWithin piece (room p) (room q) (holds p) (holds q) (Err e)
+    → Stopped holds limit old (bytes ++ piece) e q
 stops room holds limit old bytes piece OverLimit p q k s =
-    let P : Option (List ℕ) → Type 0 = λ o. Appends old o bytes in
-    (omega (arith, s.0, k.0, length-append bytes piece), record { bytes = bytes; taken = subst P (sym s.1) k.1; begins = (piece, refl); within = omega (arith, k.0) })
+    let P : Option (List ℕ) → Type 0 = λ o. Appends old o bytes in (
+      omega (arith, s.0, k.0, length-append bytes piece),
+      record {
+        bytes = bytes;
+        taken = subst P (sym s.1) k.1;
+        begins =
+            (piece, refl);
+        within = omega (arith, k.0);
+      },
+    )
 stops room holds limit old bytes piece SinkFailed p q k s = record {
   bytes = bytes ++ s.1.bytes;
   taken = appends_then old (holds p) (holds q) bytes s.1.bytes k.1 s.1.taken;
   begins = prefix_behind bytes s.1.bytes piece s.1.begins;
-  within = omega (arith, s.0, k.0, length-append bytes s.1.bytes, ap length s.1.begins.1, length-append s.1.bytes s.1.begins.0);
+  within = omega (
+    arith,
+    s.0,
+    k.0,
+    length-append bytes s.1.bytes,
+    ap length s.1.begins.1,
+    length-append s.1.bytes s.1.begins.0,
+  );
 }
 
-within_whole : {text whole : List ℕ} {limit : ℕ} {old new : Option (List ℕ)} → IsPrefix text whole → TakesWithin text limit old new → TakesWithin whole limit old new
-within_whole {text} {whole} p t = record { bytes = t.bytes; taken = t.taken; begins = prefix_trans t.bytes text whole t.begins p; within = t.within }
+within_whole : {text whole : List ℕ} {limit : ℕ} {old new : Option (List ℕ)} → IsPrefix text whole
+    → TakesWithin text limit old new → TakesWithin whole limit old new
+within_whole {text} {whole} p t = record {
+  bytes = t.bytes;
+  taken = t.taken;
+  begins =
+      prefix_trans t.bytes text whole t.begins p;
+  within = t.within;
+}
 
-streamed_by : {F : Type 0} (room : F → ℕ) (holds : F → Option (List ℕ)) (limit : ℕ) (old : Option (List ℕ)) (g : F) (body : Outcome) (s : Result (Unit {0}) (DecodeError Refusal))
-    → EndsWith (Kept room holds limit old) (Stopped holds limit old) body AnyAnswer g s → Streamed body limit old (holds g) s
+streamed_by : {F : Type 0} (room : F → ℕ) (holds : F → Option (List ℕ)) (limit : ℕ) (old : Option (List ℕ)) (g : F)
+    (body : Outcome) (s : Result (Unit {0}) (DecodeError Refusal))
+    → EndsWith (Kept room holds limit old) (Stopped holds limit old) body AnyAnswer g s
+    → Streamed body limit old (holds g) s
 streamed_by room holds limit old g body (Ok x) h = (h.0, h.1, omega (arith, h.3.0), h.3.1)
 streamed_by room holds limit old g body (Err (InvalidBase64 kind)) h = (h.0, h.1, omega (arith, h.2.0), h.2.1)
 streamed_by room holds limit old g body (Err (WriteError OverLimit)) h =
@@ -114,13 +148,19 @@ streamed_by room holds limit old g body (Err (WriteError OverLimit)) h =
 streamed_by room holds limit old g body (Err (WriteError SinkFailed)) h = within_whole h.1 h.2
 
 -- what a closure wrote that writes each piece within what is left of a limit
-pub streamed : {F : Type 0} {step : F → List ℕ → Result (Unit {0}) Refusal → F → Type 0} {f g : F} {most : ℕ} {body : Outcome} {r s : Result (Unit {0}) (DecodeError Refusal)} → Decodes step f most body AnyAnswer r g → r ≡ s
+pub streamed : {F : Type 0} {step : F → List ℕ → Result (Unit {0}) Refusal → F → Type 0} {f g : F} {most : ℕ}
+    {body : Outcome} {r s : Result (Unit {0}) (DecodeError Refusal)} → Decodes step f most body AnyAnswer r g → r ≡ s
     → (room : F → ℕ) (holds : F → Option (List ℕ))
-    → ((p : F) (piece : List ℕ) (a : Result (Unit {0}) Refusal) (q : F) → step p piece a q → WritesWithin piece (room p) (room q) (holds p) (holds q) a)
+    → ((p : F) (piece : List ℕ) (a : Result (Unit {0}) Refusal) (q : F) → step p piece a q
+    → WritesWithin piece (room p) (room q) (holds p) (holds q) a)
     → Streamed body (room f) (holds f) (holds g) s
 streamed {f = f} {g = g} {body = body} {s = s} d e room holds writes =
     streamed_by room holds (room f) (holds f) g body s
     (body_ends d e (Kept room holds (room f) (holds f)) (Stopped holds (room f) (holds f))
-    (λ bytes p piece q k c. let w = writes p piece (Ok tt) q c in (omega (arith, w.0, k.0, length-append bytes piece), appends_then (holds f) (holds p) (holds q) bytes piece k.1 w.1))
+    (λ bytes p piece q k c. let w = writes p piece (Ok tt) q c in (
+      omega (arith, w.0, k.0, length-append bytes piece),
+      appends_then (holds f) (holds p) (holds q) bytes piece k.1
+          w.1,
+    ))
     (λ bytes p piece a q k c. stops room holds (room f) (holds f) bytes piece a p q k (writes p piece (Err a) q c))
     (omega arith, appends_none (holds f)))

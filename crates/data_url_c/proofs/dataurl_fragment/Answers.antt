@@ -3,4 +3,5 @@ use Rattle.data_url_c.proofs.GivenLemmas.{answers, fragment_or_memory}
 use Rattle.data_url_c.proofs.dataurl_fragment.Goals as goal
 
 pub returns : goal.returns
-returns c = answers (GivesFragment c.args.url.now) c.fragment.result c.fragment.ensures fragment_or_memory c.answer.ensures
+returns c = answers (GivesFragment c.args.url.now) c.fragment.result c.fragment.ensures fragment_or_memory
+    c.answer.ensures

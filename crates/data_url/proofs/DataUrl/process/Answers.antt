@@ -2,7 +2,7 @@ use Rattle.std.proofs.Common.{subst, arith}
 use Rattle.data_url.specs.Steps.Front.{HasNoScheme, IsSchemeAndRest}
 use Rattle.data_url.specs.MimeType.{record_of}
 use Rattle.data_url.specs.Steps.Header.{IsHeaderOf}
-use Rattle.data_url.proofs.ProcessLemmas.{bytes_trimmed, is_acceptable, is_url_of, stages_no_comma, stages_no_scheme}
+use Rattle.data_url.proofs.header.Stages.{bytes_trimmed, is_acceptable, is_url_of, stages_no_comma, stages_no_scheme}
 use Rattle.data_url.proofs.DataUrl.process.Goals as goal
 
 pub returns-in_default : goal.returns-in_default
@@ -10,15 +10,31 @@ returns-in_default c = stages_no_scheme c.args.input.now (subst HasNoScheme c.tr
 
 pub returns-in_default-split_at_comma : goal.returns-in_default-split_at_comma
 returns-in_default-split_at_comma c =
-    stages_no_comma c.args.input.now c.in-Some.rest.now (bytes_trimmed c.args.input.now (λ i. omega (arith, c.type_inv.input i))) (subst (λ t. IsSchemeAndRest t c.in-Some.rest.now) c.trim.ensures c.in-Some.ensures.found) c.in_default-split_at_comma.ensures.none
+    stages_no_comma c.args.input.now c.in-Some.rest.now
+    (bytes_trimmed c.args.input.now (λ i. omega (arith, c.type_inv.input i)))
+    (subst (λ t. IsSchemeAndRest t c.in-Some.rest.now) c.trim.ensures c.in-Some.ensures.found)
+    c.in_default-split_at_comma.ensures.none
 
 pub returns-in_default-serialise : goal.returns-in_default-serialise
-returns-in_default-serialise c = is_acceptable c.args.input.now c.in-Some.rest.now c.in-Some-split_at_comma.front.header.now c.in-Some-split_at_comma.front.tail.now (bytes_trimmed c.args.input.now (λ i. omega (arith, c.type_inv.input i))) (subst (λ t. IsSchemeAndRest t c.in-Some.rest.now) c.trim.ensures c.in-Some.ensures.found) c.in-Some-split_at_comma.ensures.found
+returns-in_default-serialise c =
+    is_acceptable c.args.input.now c.in-Some.rest.now c.in-Some-split_at_comma.front.header.now
+    c.in-Some-split_at_comma.front.tail.now (bytes_trimmed c.args.input.now (λ i. omega (arith, c.type_inv.input i)))
+    (subst (λ t. IsSchemeAndRest t c.in-Some.rest.now) c.trim.ensures c.in-Some.ensures.found)
+    c.in-Some-split_at_comma.ensures.found
 
 pub returns-in_default-read_media : goal.returns-in_default-read_media
-returns-in_default-read_media c = is_acceptable c.args.input.now c.in-Some.rest.now c.in-Some-split_at_comma.front.header.now c.in-Some-split_at_comma.front.tail.now (bytes_trimmed c.args.input.now (λ i. omega (arith, c.type_inv.input i))) (subst (λ t. IsSchemeAndRest t c.in-Some.rest.now) c.trim.ensures c.in-Some.ensures.found) c.in-Some-split_at_comma.ensures.found
+returns-in_default-read_media c =
+    is_acceptable c.args.input.now c.in-Some.rest.now c.in-Some-split_at_comma.front.header.now
+    c.in-Some-split_at_comma.front.tail.now (bytes_trimmed c.args.input.now (λ i. omega (arith, c.type_inv.input i)))
+    (subst (λ t. IsSchemeAndRest t c.in-Some.rest.now) c.trim.ensures c.in-Some.ensures.found)
+    c.in-Some-split_at_comma.ensures.found
 
 pub returns : goal.returns
 returns c =
-    let header = subst (λ s. IsHeaderOf s (record_of c.in-Ok-read_media.mime_type) c.split_suffix-base64.result.1) c.serialised_text.ensures.text (c.split_suffix-base64.ensures.header (record_of c.in-Ok-read_media.mime_type) c.in-Ok-read_media.ensures) in
-    is_url_of c.args.input.now c.in-Some.rest.now c.in-Some-split_at_comma.front.header.now _ (bytes_trimmed c.args.input.now (λ i. omega (arith, c.type_inv.input i))) (subst (λ t. IsSchemeAndRest t c.in-Some.rest.now) c.trim.ensures c.in-Some.ensures.found) c.in-Some-split_at_comma.ensures.found header
+    let header = subst (λ s. IsHeaderOf s (record_of c.in-Ok-read_media.mime_type) c.split_suffix-base64.result.1)
+    c.serialised_text.ensures.text (c.split_suffix-base64.ensures.header (record_of c.in-Ok-read_media.mime_type)
+    c.in-Ok-read_media.ensures) in
+    is_url_of c.args.input.now c.in-Some.rest.now c.in-Some-split_at_comma.front.header.now _
+    (bytes_trimmed c.args.input.now (λ i. omega (arith, c.type_inv.input i)))
+    (subst (λ t. IsSchemeAndRest t c.in-Some.rest.now) c.trim.ensures c.in-Some.ensures.found)
+    c.in-Some-split_at_comma.ensures.found header

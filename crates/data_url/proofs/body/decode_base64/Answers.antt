@@ -1,22 +1,29 @@
 use Rattle.std.proofs.Common.{◌≡◌, ◌∙◌, List, [], ℕ, refl, ap, subst, arith}
 use Rattle.std.specs.Fn.{CalledAt}
 use Rattle.data_url.specs.Steps.Tail.{IsBodyEnd}
-use Rattle.data_url.proofs.ByteLemmas.{feeds_none}
-use Rattle.data_url.proofs.Base64BodyLemmas.{fed_ended, fed_more, fed_none, fed_refused}
-use Rattle.data_url.proofs.DecodeLemmas.{over_next, takes_next}
+use Rattle.data_url.proofs.forgiving_base64.Steps.{feeds_none}
+use Rattle.data_url.proofs.body.Decoding.{fed_ended, fed_more, fed_none, fed_refused}
+use Rattle.data_url.proofs.body.Decoding.{over_next, takes_next}
 use Rattle.data_url.proofs.body.decode_base64.Goals as goal
 use Rattle.data_url.proofs.body.decode_base64.Goals.{else-chunks-test, then-chunks-test+in_default}
 
 pub chunks-init : goal.chunks-init
 chunks-init g c =
     let step = CalledAt g.F.FnMut in
-    let none = feeds_none step tt (omega arith) (omega arith) refl c.new-decoder.ensures.state in
-    (c.new-decoder.ensures.callable, ap (λ d. d.failed) c.new-decoder.ensures.state, fed_none step c.new-pieces.ensures none)
+    let none = feeds_none step tt (omega arith) (omega arith) refl c.new-decoder.ensures.state in (
+      c.new-decoder.ensures.callable,
+      ap (λ d. d.failed) c.new-decoder.ensures.state,
+      fed_none step c.new-pieces.ensures none,
+    )
 
 pub chunks-preserved : goal.chunks-preserved
 chunks-preserved g c =
-    let takes = takes_next c.next_bytes.ensures c.in-Some.is in
-    (c.feed.ensures.callable, c.in-Ok.ensures.fed.failed, fed_more (CalledAt g.F.FnMut) c.chunks.invariant.2 takes c.in-Ok.ensures.fed)
+    let takes = takes_next c.next_bytes.ensures c.in-Some.is in (
+      c.feed.ensures.callable,
+      c.in-Ok.ensures.fed.failed,
+      fed_more (CalledAt g.F.FnMut) c.chunks.invariant.2 takes
+          c.in-Ok.ensures.fed,
+    )
 
 pub returns-in-Err : goal.returns-in-Err
 returns-in-Err g c =
@@ -25,7 +32,8 @@ returns-in-Err g c =
 
 pub returns-in-Ok-answer : goal.returns-in-Ok-answer
 returns-in-Ok-answer g c =
-    let over : (c.chunks.pieces.rest ≡ []) × (c.chunks-test.pieces.text ≡ c.chunks.pieces.text) = elim c.chunks-test.branch [
+    let over : (c.chunks.pieces.rest ≡ []) × (c.chunks-test.pieces.text ≡ c.chunks.pieces.text) =
+    elim c.chunks-test.branch [
       | else-chunks-test w ↦ (c.has_ended.ensures.over w.chunks-test.false, ap (λ p. p.text) w.pieces-is)
       | then-chunks-test+in_default w ↦
           let o = over_next w.next_bytes.ensures w.in_default.is in
@@ -33,7 +41,8 @@ returns-in-Ok-answer g c =
     ] in
     let P : List ℕ → Type 0 = λ t. IsBodyEnd t c.end.result in
     let end : IsBodyEnd c.args.tail.now c.end.result = subst P (over.1 ∙ c.chunks.invariant.2.text_is) c.end.ensures in
-    fed_ended (CalledAt g.F.FnMut) c.end.result refl c.chunks.invariant.2 over.0 (λ _. end) c.finish_with-answer.ensures.finished c.in-Ok-answer.is
+    fed_ended (CalledAt g.F.FnMut) c.end.result refl c.chunks.invariant.2 over.0
+    (λ _. end) c.finish_with-answer.ensures.finished c.in-Ok-answer.is
 
 pub returns : goal.returns
 returns g c =
@@ -41,4 +50,5 @@ returns g c =
       | else-chunks-test w ↦ c.has_ended.ensures.over w.chunks-test.false
       | then-chunks-test+in_default w ↦ (over_next w.next_bytes.ensures w.in_default.is).rest_is
     ] in
-    fed_ended (CalledAt g.F.FnMut) 0 refl c.chunks.invariant.2 over (λ e. absurd (cc)) c.finish_with-answer.ensures.finished c.in-Err-answer.is
+    fed_ended (CalledAt g.F.FnMut) 0 refl c.chunks.invariant.2 over
+    (λ e. absurd (cc)) c.finish_with-answer.ensures.finished c.in-Err-answer.is

@@ -2,7 +2,7 @@
 use Rattle.std.proofs.Common.{◌≡◌, ◌-◌, length, false}
 use Rattle.std.specs.Fn.{CalledAt, always_mut}
 use Rattle.data_url.specs.Decoder.{start, state_of}
-use Rattle.data_url.proofs.Base64BodyLemmas.{Fed}
+use Rattle.data_url.proofs.body.Decoding.{Fed}
 use Rattle.data_url.proofs.body.decode_base64.Given as goal
 
 abbrev pub invariant-chunks : goal.invariant-chunks

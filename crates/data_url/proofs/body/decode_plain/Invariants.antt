@@ -1,7 +1,7 @@
 -- The closure may be called, and took the body as far as the walk.
 use Rattle.std.proofs.Common.{◌-◌, length}
 use Rattle.std.specs.Fn.{CalledAt, always_mut}
-use Rattle.data_url.proofs.DecodeLemmas.{Going}
+use Rattle.data_url.proofs.body.Decoding.{Going}
 use Rattle.data_url.proofs.body.decode_plain.Given as goal
 
 abbrev pub invariant-chunks : goal.invariant-chunks

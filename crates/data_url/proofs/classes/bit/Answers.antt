@@ -2,7 +2,7 @@ use Rattle.std.proofs.Common.{not, refl}
 use Rattle.data_url.specs.CodePoints.{is_http_whitespace, is_token}
 use Rattle.data_url.specs.Steps.Front.{is_plain_path}
 use Rattle.data_url.specs.Steps.Parsing.{is_escaped, is_quotable_byte, is_unquoted_byte}
-use Rattle.data_url.proofs.ClassLemmas.{entry_is}
+use Rattle.data_url.proofs.classes.Rows.{entry_is}
 use Rattle.data_url.proofs.classes.bit.Goals as goal
 
 pub returns-in-Token : goal.returns-in-Token

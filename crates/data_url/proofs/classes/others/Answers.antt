@@ -1,7 +1,7 @@
 use Rattle.std.proofs.Common.{not, refl}
 use Rattle.data_url.specs.Steps.Front.{is_plain_path}
 use Rattle.data_url.specs.Steps.Parsing.{is_escaped, is_quotable_byte, is_unquoted_byte}
-use Rattle.data_url.proofs.ClassLemmas.{all_marked, unmarked_passes}
+use Rattle.data_url.proofs.classes.Rows.{all_marked, unmarked_passes}
 use Rattle.data_url.proofs.classes.others.Goals as goal
 
 pub returns-in-Quotable : goal.returns-in-Quotable

@@ -1,4 +1,4 @@
-use Rattle.data_url.proofs.SpaceLemmas.{flag_of_spaces}
+use Rattle.data_url.proofs.header.Serialising.{flag_of_spaces}
 use Rattle.data_url.proofs.facts.flag_of_spaces.Goals as goal
 
 pub returns : goal.returns

@@ -1,4 +1,4 @@
-use Rattle.data_url.proofs.UrlLemmas as lemmas
+use Rattle.data_url.proofs.texts.Bytes as lemmas
 use Rattle.data_url.proofs.facts.fragment_dropped.Goals as goal
 
 pub returns : goal.returns

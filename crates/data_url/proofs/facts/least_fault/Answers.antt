@@ -1,4 +1,4 @@
-use Rattle.data_url.proofs.FaultLemmas.{first_fault_least}
+use Rattle.data_url.proofs.forgiving_base64.Padding.{first_fault_least}
 use Rattle.data_url.proofs.facts.least_fault.Goals as goal
 
 pub returns : goal.returns

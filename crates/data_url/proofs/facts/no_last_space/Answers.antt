@@ -1,4 +1,4 @@
-use Rattle.data_url.proofs.SpaceLemmas.{no_last_space}
+use Rattle.data_url.proofs.header.Serialising.{no_last_space}
 use Rattle.data_url.proofs.facts.no_last_space.Goals as goal
 
 pub returns : goal.returns

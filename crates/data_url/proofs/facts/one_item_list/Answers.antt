@@ -1,4 +1,4 @@
-use Rattle.data_url.proofs.ItemLemmas.{has_one_item_list}
+use Rattle.data_url.proofs.mime.Items.{has_one_item_list}
 use Rattle.data_url.proofs.facts.one_item_list.Goals as goal
 
 pub returns : goal.returns

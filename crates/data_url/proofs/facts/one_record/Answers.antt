@@ -1,4 +1,4 @@
-use Rattle.data_url.proofs.RecordLemmas.{has_at_most_one_record}
+use Rattle.data_url.proofs.mime.Items.{has_at_most_one_record}
 use Rattle.data_url.proofs.facts.one_record.Goals as goal
 
 pub returns : goal.returns

@@ -1,4 +1,4 @@
-use Rattle.data_url.proofs.ValidLemmas.{padding_fits}
+use Rattle.data_url.proofs.forgiving_base64.Padding.{padding_fits}
 use Rattle.data_url.proofs.facts.padding_fits.Goals as goal
 
 pub returns : goal.returns

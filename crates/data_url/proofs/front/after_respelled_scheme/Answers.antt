@@ -1,9 +1,11 @@
-use Rattle.std.proofs.Common.{◌≡◌, ◌<◌, ◌≤◌, ◌+◌, ℕ, Bool, true, false, List, ◌++◌, length, get_or, take, drop, map, codes, sym, ap, ◌∙◌, subst, arith}
+use Rattle.std.proofs.Common.{◌≡◌, ◌<◌, ◌≤◌, ◌+◌, ℕ, Bool, true, false, List, ◌++◌, length, get_or, take, drop, map}
+use Rattle.std.proofs.Common.{codes, sym, ap, ◌∙◌, subst, arith}
 use Rattle.std.specs.Char.{to_ascii_lowercase}
 use Rattle.std.proofs.lemmas.List.{drop_more, take_all, take_more, take-append-drop}
 use Rattle.std.proofs.lemmas.Str.{IsCharBoundary-after_ascii}
 use Rattle.data_url.specs.Url.{without_tabs_and_newlines, is_tab_or_newline}
-use Rattle.data_url.proofs.SchemeLemmas.{Spells, differs, ends_early, scheme_is_ascii, spells_all, spells_more, spells_nothing, spells_passed}
+use Rattle.data_url.proofs.front.Cuts.{Spells, differs, ends_early, scheme_is_ascii, spells_all, spells_more}
+use Rattle.data_url.proofs.front.Cuts.{spells_nothing, spells_passed}
 use Rattle.data_url.proofs.front.after_respelled_scheme.Goals as goal
 
 pub loop-place-init : goal.loop-place-init
@@ -12,9 +14,14 @@ loop-place-init c = spells_nothing
 pub loop-place-preserved-then-is_tab_or_newline : goal.loop-place-preserved-then-is_tab_or_newline
 loop-place-preserved-then-is_tab_or_newline c =
     let text = c.as_bytes-byte-items.ensures.value in
-    let within : c.loop-place.place < length c.args.text.now = subst (λ s. c.loop-place.place < length s) text c.loop-place-test.true in
-    let byte : is_tab_or_newline (get_or c.args.text.now c.loop-place.place 0) ≡ true = ap (λ s. is_tab_or_newline (get_or s c.loop-place.place 0)) (sym text) ∙ sym c.is_tab_or_newline.ensures ∙ c.if-is_tab_or_newline.true in
-    subst (λ s. Spells s c.loop-place.matched) (sym (take_more c.args.text.now c.loop-place.place 0 within)) (spells_passed (take c.loop-place.place c.args.text.now) c.loop-place.matched (get_or c.args.text.now c.loop-place.place 0) c.loop-place.invariant byte)
+    let within : c.loop-place.place < length c.args.text.now =
+    subst (λ s. c.loop-place.place < length s) text c.loop-place-test.true in
+    let byte : is_tab_or_newline (get_or c.args.text.now c.loop-place.place 0) ≡ true =
+    ap (λ s. is_tab_or_newline (get_or s c.loop-place.place 0)) (sym text) ∙ sym c.is_tab_or_newline.ensures
+    ∙ c.if-is_tab_or_newline.true in
+    subst (λ s. Spells s c.loop-place.matched) (sym (take_more c.args.text.now c.loop-place.place 0 within))
+    (spells_passed (take c.loop-place.place c.args.text.now) c.loop-place.matched
+    (get_or c.args.text.now c.loop-place.place 0) c.loop-place.invariant byte)
 
 -- what is known of a byte that is not passed over
 record Byte (text : List ℕ) (place : ℕ) : Type 0 where
@@ -26,14 +33,22 @@ byte_of c =
     let text = c.as_bytes-byte-items.ensures.value in
     record {
       within = subst (λ s. c.loop-place.place < length s) text c.loop-place-test.true;
-      stays = ap (λ s. is_tab_or_newline (get_or s c.loop-place.place 0)) (sym text) ∙ sym c.is_tab_or_newline.ensures ∙ c.if-is_tab_or_newline.false;
+      stays = ap (λ s. is_tab_or_newline (get_or s c.loop-place.place 0)) (sym text) ∙ sym c.is_tab_or_newline.ensures
+          ∙ c.if-is_tab_or_newline.false;
     }
 
 pub returns-then-to_ascii_lowercase-matched-clause-none : goal.returns-then-to_ascii_lowercase-matched-clause-none
 returns-then-to_ascii_lowercase-matched-clause-none c =
     let b = byte_of c in
-    let lower : c.to_ascii_lowercase.result ≡ to_ascii_lowercase (get_or c.args.text.now c.loop-place.place 0) = c.to_ascii_lowercase.ensures.value ∙ ap (λ s. to_ascii_lowercase (get_or s c.loop-place.place 0)) c.as_bytes-byte-items.ensures.value in
-    differs c.args.text.now (take c.loop-place.place c.args.text.now) c.loop-place.matched (get_or c.args.text.now c.loop-place.place 0) (drop (c.loop-place.place + 1) c.args.text.now) c.loop-place.invariant b.stays (λ e. c.if-to_ascii_lowercase-matched.true (lower ∙ e)) (sym (take-append-drop c.loop-place.place c.args.text.now) ∙ ap (λ t. take c.loop-place.place c.args.text.now ++ t) (drop_more c.args.text.now c.loop-place.place 0 b.within))
+    let lower : c.to_ascii_lowercase.result ≡ to_ascii_lowercase (get_or c.args.text.now c.loop-place.place 0) =
+    c.to_ascii_lowercase.ensures.value
+    ∙ ap (λ s. to_ascii_lowercase (get_or s c.loop-place.place 0)) c.as_bytes-byte-items.ensures.value in
+    differs c.args.text.now (take c.loop-place.place c.args.text.now) c.loop-place.matched
+    (get_or c.args.text.now c.loop-place.place 0) (drop (c.loop-place.place + 1) c.args.text.now)
+    c.loop-place.invariant b.stays (λ e. c.if-to_ascii_lowercase-matched.true (lower ∙ e))
+    (sym (take-append-drop c.loop-place.place c.args.text.now)
+    ∙ ap (λ t. take c.loop-place.place c.args.text.now ++ t)
+    (drop_more c.args.text.now c.loop-place.place 0 b.within))
 
 -- a byte that spells the next one of the scheme
 record Spelled (text : List ℕ) (place n : ℕ) : Type 0 where
@@ -41,7 +56,9 @@ record Spelled (text : List ℕ) (place n : ℕ) : Type 0 where
   stays : is_tab_or_newline (get_or text place 0) ≡ false
   same : to_ascii_lowercase (get_or text place 0) ≡ get_or (codes "data:") n 0
 
-spelled : (text items : List ℕ) (place n low : ℕ) (passed : Bool) → items ≡ text → place < length items → passed ≡ is_tab_or_newline (get_or items place 0) → passed ≡ false → low ≡ to_ascii_lowercase (get_or items place 0) → low ≡ get_or (codes "data:") n 0 → Spelled text place n
+spelled : (text items : List ℕ) (place n low : ℕ) (passed : Bool) → items ≡ text → place < length items
+    → passed ≡ is_tab_or_newline (get_or items place 0) → passed ≡ false
+    → low ≡ to_ascii_lowercase (get_or items place 0) → low ≡ get_or (codes "data:") n 0 → Spelled text place n
 spelled text items place n low passed e l p f q h = record {
   within = subst (λ s. place < length s) e l;
   stays = ap (λ s. is_tab_or_newline (get_or s place 0)) (sym e) ∙ sym p ∙ f;
@@ -50,25 +67,45 @@ spelled text items place n low passed e l p f q h = record {
 
 pub range_from-requires : goal.range_from-requires
 range_from-requires c =
-    let b = spelled c.args.text.now c.as_bytes-byte-items.result.now c.loop-place.place c.loop-place.matched c.to_ascii_lowercase.result c.is_tab_or_newline.result c.as_bytes-byte-items.ensures.value c.loop-place-test.true c.is_tab_or_newline.ensures c.if-is_tab_or_newline.false c.to_ascii_lowercase.ensures.value c.if-to_ascii_lowercase-matched.false in
-    λ _. IsCharBoundary-after_ascii c.args.text.now c.loop-place.place c.utf8.text b.within (scheme_is_ascii c.loop-place.matched (get_or c.args.text.now c.loop-place.place 0) c.loop-place.invariant.open_at b.same)
+    let b = spelled c.args.text.now c.as_bytes-byte-items.result.now c.loop-place.place c.loop-place.matched
+    c.to_ascii_lowercase.result c.is_tab_or_newline.result c.as_bytes-byte-items.ensures.value
+    c.loop-place-test.true c.is_tab_or_newline.ensures c.if-is_tab_or_newline.false
+    c.to_ascii_lowercase.ensures.value c.if-to_ascii_lowercase-matched.false in
+    λ _. IsCharBoundary-after_ascii c.args.text.now c.loop-place.place c.utf8.text b.within
+    (scheme_is_ascii c.loop-place.matched (get_or c.args.text.now c.loop-place.place 0)
+    c.loop-place.invariant.open_at b.same)
 
 pub returns-then-matched-eq5-clause-found : goal.returns-then-matched-eq5-clause-found
 returns-then-matched-eq5-clause-found c =
-    let b = spelled c.args.text.now c.as_bytes-byte-items.result.now c.loop-place.place c.loop-place.matched c.to_ascii_lowercase.result c.is_tab_or_newline.result c.as_bytes-byte-items.ensures.value c.loop-place-test.true c.is_tab_or_newline.ensures c.if-is_tab_or_newline.false c.to_ascii_lowercase.ensures.value c.if-to_ascii_lowercase-matched.false in
+    let b = spelled c.args.text.now c.as_bytes-byte-items.result.now c.loop-place.place c.loop-place.matched
+    c.to_ascii_lowercase.result c.is_tab_or_newline.result c.as_bytes-byte-items.ensures.value
+    c.loop-place-test.true c.is_tab_or_newline.ensures c.if-is_tab_or_newline.false
+    c.to_ascii_lowercase.ensures.value c.if-to_ascii_lowercase-matched.false in
     record {
       scheme = take (c.loop-place.place + 1) c.args.text.now;
-      joined = sym (take-append-drop (c.loop-place.place + 1) c.args.text.now) ∙ ap (λ s. take (c.loop-place.place + 1) c.args.text.now ++ s) (sym c.range_from.ensures.value);
-      spelled = ap (λ s. map to_ascii_lowercase (without_tabs_and_newlines s)) (take_more c.args.text.now c.loop-place.place 0 b.within) ∙ spells_all (take c.loop-place.place c.args.text.now) c.loop-place.matched (get_or c.args.text.now c.loop-place.place 0) c.loop-place.invariant b.stays b.same c.if-matched-eq5.true;
+      joined = sym (take-append-drop (c.loop-place.place + 1) c.args.text.now)
+          ∙ ap (λ s. take (c.loop-place.place + 1) c.args.text.now ++ s) (sym c.range_from.ensures.value);
+      spelled = ap (λ s. map to_ascii_lowercase (without_tabs_and_newlines s))
+          (take_more c.args.text.now c.loop-place.place 0 b.within)
+          ∙ spells_all (take c.loop-place.place c.args.text.now) c.loop-place.matched
+          (get_or c.args.text.now c.loop-place.place 0) c.loop-place.invariant b.stays b.same c.if-matched-eq5.true;
     }
 
 pub loop-place-preserved : goal.loop-place-preserved
 loop-place-preserved c =
-    let b = spelled c.args.text.now c.as_bytes-byte-items.result.now c.loop-place.place c.loop-place.matched c.to_ascii_lowercase.result c.is_tab_or_newline.result c.as_bytes-byte-items.ensures.value c.loop-place-test.true c.is_tab_or_newline.ensures c.if-is_tab_or_newline.false c.to_ascii_lowercase.ensures.value c.if-to_ascii_lowercase-matched.false in
-    subst (λ s. Spells s (c.loop-place.matched + 1)) (sym (take_more c.args.text.now c.loop-place.place 0 b.within)) (spells_more (take c.loop-place.place c.args.text.now) c.loop-place.matched (get_or c.args.text.now c.loop-place.place 0) c.loop-place.invariant b.stays b.same c.if-matched-eq5.false)
+    let b = spelled c.args.text.now c.as_bytes-byte-items.result.now c.loop-place.place c.loop-place.matched
+    c.to_ascii_lowercase.result c.is_tab_or_newline.result c.as_bytes-byte-items.ensures.value
+    c.loop-place-test.true c.is_tab_or_newline.ensures c.if-is_tab_or_newline.false
+    c.to_ascii_lowercase.ensures.value c.if-to_ascii_lowercase-matched.false in
+    subst (λ s. Spells s (c.loop-place.matched + 1)) (sym (take_more c.args.text.now c.loop-place.place 0 b.within))
+    (spells_more (take c.loop-place.place c.args.text.now) c.loop-place.matched
+    (get_or c.args.text.now c.loop-place.place 0) c.loop-place.invariant b.stays b.same c.if-matched-eq5.false)
 
 pub returns-clause-none : goal.returns-clause-none
 returns-clause-none c =
     let text = c.as_bytes-byte-items.ensures.value in
-    let over : length c.args.text.now ≤ c.loop-place.place = subst (λ s. length s ≤ c.loop-place.place) text (omega arith) in
-    ends_early c.args.text.now c.loop-place.matched (subst (λ s. Spells s c.loop-place.matched) (take_all c.loop-place.place c.args.text.now over) c.loop-place.invariant)
+    let over : length c.args.text.now ≤ c.loop-place.place = subst (λ s. length s ≤ c.loop-place.place) text
+    (omega arith) in
+    ends_early c.args.text.now c.loop-place.matched
+    (subst (λ s. Spells s c.loop-place.matched) (take_all c.loop-place.place c.args.text.now over)
+    c.loop-place.invariant)

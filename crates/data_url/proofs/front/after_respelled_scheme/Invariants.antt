@@ -1,6 +1,6 @@
 -- What was read so far spells the first bytes of the scheme.
 use Rattle.std.proofs.Common.{take}
-use Rattle.data_url.proofs.SchemeLemmas.{Spells}
+use Rattle.data_url.proofs.front.Cuts.{Spells}
 use Rattle.data_url.proofs.front.after_respelled_scheme.Given as goal
 
 abbrev pub invariant-loop-place : goal.invariant-loop-place

@@ -1,4 +1,5 @@
-use Rattle.std.proofs.Common.{◌≡◌, ℕ, ◌-◌, ◌<◌, ◌≤◌, Bool, true, List, Some, length, take, drop, map, codes, sym, ap, ◌∙◌, subst, arith}
+use Rattle.std.proofs.Common.{◌≡◌, ℕ, ◌-◌, ◌<◌, ◌≤◌, Bool, true, List, Some, length, take, drop, map, codes, sym, ap}
+use Rattle.std.proofs.Common.{◌∙◌, subst, arith}
 use Rattle.std.specs.Char.{to_ascii_lowercase}
 use Rattle.std.specs.List.{suffix_len}
 use Rattle.std.proofs.lemmas.Bool.{both_ways}
@@ -8,42 +9,59 @@ use Rattle.data_url.specs.Fetch.{before_base64}
 use Rattle.data_url.specs.Steps.Header.{IsPrintable}
 use Rattle.data_url.specs.MimeType.{as_option}
 use Rattle.data_url.specs.Url.{is_c0_control_or_space}
-use Rattle.data_url.proofs.SuffixLemmas.{HasWord, no_semicolon, nothing_left, other_word, too_short, with_semicolon}
+use Rattle.data_url.proofs.header.Suffix.{HasWord, no_semicolon, nothing_left, other_word, too_short, with_semicolon}
 use Rattle.data_url.proofs.header.without_suffix.Goals as goal
 
 pub returns-in_err-word : goal.returns-in_err-word
 returns-in_err-word c =
     let short : length c.as_bytes-bytes.result.now < 6 = omega (arith, c.in_err-word.ensures) in
-    ap as_option c.from_residual.ensures ∙ sym (ap before_base64 (sym c.as_bytes-bytes.ensures.value) ∙ too_short c.as_bytes-bytes.result.now short)
+    ap as_option c.from_residual.ensures ∙ sym (ap before_base64 (sym c.as_bytes-bytes.ensures.value)
+    ∙ too_short c.as_bytes-bytes.result.now short)
 
 pub returns-then-not-is_suffix : goal.returns-then-not-is_suffix
 returns-then-not-is_suffix c =
     let s = c.as_bytes-bytes.result.now in
     let n = c.in_ok-word.word in
     let at = c.in_ok-word.ensures in
-    sym (ap before_base64 (sym c.as_bytes-bytes.ensures.value) ∙ other_word s n (omega arith) (λ e. both_ways c.is_suffix.result c.if-not-is_suffix.true (c.is_suffix.ensures.1 (ap (map to_ascii_lowercase) (take_rest s n) ∙ e))))
+    sym (ap before_base64 (sym c.as_bytes-bytes.ensures.value)
+    ∙ other_word s n (omega arith) (λ e. both_ways c.is_suffix.result c.if-not-is_suffix.true
+    (c.is_suffix.ensures.1 (ap (map to_ascii_lowercase) (take_rest s n) ∙ e))))
 
 pub overflow_sub-end : goal.overflow_sub-end
-overflow_sub-end c = omega (arith, c.low_end_len.ensures, suffix_len-le-length is_c0_control_or_space (take c.in_ok-word.word c.as_bytes-bytes.result.now), length-take c.in_ok-word.word c.as_bytes-bytes.result.now)
+overflow_sub-end c = omega (
+  arith,
+  c.low_end_len.ensures,
+  suffix_len-le-length is_c0_control_or_space
+      (take c.in_ok-word.word c.as_bytes-bytes.result.now),
+  length-take c.in_ok-word.word c.as_bytes-bytes.result.now,
+)
 
-has_word : (s : List ℕ) (n spaces : ℕ) (same : Bool) → (6 ≤ length s) × (n ≡ length s - 6) → (same ≡ true → map to_ascii_lowercase (take (length s - n) (drop n s)) ≡ codes "base64") → same ≡ true → spaces ≡ suffix_len is_c0_control_or_space (take n s) → HasWord s n spaces
-has_word s n spaces same at word h e = record { six = omega arith; is = ap (map to_ascii_lowercase) (sym (take_rest s n)) ∙ word h; spaces_are = e }
+has_word : (s : List ℕ) (n spaces : ℕ) (same : Bool) → (6 ≤ length s) × (n ≡ length s - 6)
+    → (same ≡ true → map to_ascii_lowercase (take (length s - n) (drop n s)) ≡ codes "base64") → same ≡ true
+    → spaces ≡ suffix_len is_c0_control_or_space (take n s) → HasWord s n spaces
+has_word s n spaces same at word h e =
+    record { six = omega arith; is = ap (map to_ascii_lowercase) (sym (take_rest s n)) ∙ word h; spaces_are = e }
 
 pub returns-in_err-semicolon : goal.returns-in_err-semicolon
 returns-in_err-semicolon c =
     let s = c.as_bytes-bytes.result.now in
     let n = c.in_ok-word.word in
     let printable = subst IsPrintable (sym c.as_bytes-bytes.ensures.value) c.requires in
-    let word = has_word s n c.low_end_len.result c.is_suffix.result c.in_ok-word.ensures c.is_suffix.ensures.0 c.if-not-is_suffix.false c.low_end_len.ensures in
-    ap as_option c.from_residual-in_err-semicolon.ensures ∙ sym (ap before_base64 (sym c.as_bytes-bytes.ensures.value) ∙ nothing_left s n c.low_end_len.result printable word (omega (arith, c.in_err-semicolon.ensures)))
+    let word = has_word s n c.low_end_len.result c.is_suffix.result c.in_ok-word.ensures c.is_suffix.ensures.0
+    c.if-not-is_suffix.false c.low_end_len.ensures in
+    ap as_option c.from_residual-in_err-semicolon.ensures ∙ sym (ap before_base64 (sym c.as_bytes-bytes.ensures.value)
+    ∙ nothing_left s n c.low_end_len.result printable word (omega (arith, c.in_err-semicolon.ensures)))
 
 pub returns-then-bytes-semicolon-ne59 : goal.returns-then-bytes-semicolon-ne59
 returns-then-bytes-semicolon-ne59 c =
     let s = c.as_bytes-bytes.result.now in
     let n = c.in_ok-word.word in
     let printable = subst IsPrintable (sym c.as_bytes-bytes.ensures.value) c.requires in
-    let word = has_word s n c.low_end_len.result c.is_suffix.result c.in_ok-word.ensures c.is_suffix.ensures.0 c.if-not-is_suffix.false c.low_end_len.ensures in
-    sym (ap before_base64 (sym c.as_bytes-bytes.ensures.value) ∙ no_semicolon s n c.low_end_len.result c.in_ok-semicolon.semicolon printable word (omega (arith, c.in_ok-semicolon.ensures)) c.if-bytes-semicolon-ne59.true)
+    let word = has_word s n c.low_end_len.result c.is_suffix.result c.in_ok-word.ensures c.is_suffix.ensures.0
+    c.if-not-is_suffix.false c.low_end_len.ensures in
+    sym (ap before_base64 (sym c.as_bytes-bytes.ensures.value)
+    ∙ no_semicolon s n c.low_end_len.result c.in_ok-semicolon.semicolon printable word
+    (omega (arith, c.in_ok-semicolon.ensures)) c.if-bytes-semicolon-ne59.true)
 
 pub returns : goal.returns
 returns c =
@@ -51,7 +69,11 @@ returns c =
     let n = c.in_ok-word.word in
     let m = c.in_ok-semicolon.semicolon in
     let printable = subst IsPrintable (sym c.as_bytes-bytes.ensures.value) c.requires in
-    let word = has_word s n c.low_end_len.result c.is_suffix.result c.in_ok-word.ensures c.is_suffix.ensures.0 c.if-not-is_suffix.false c.low_end_len.ensures in
+    let word = has_word s n c.low_end_len.result c.is_suffix.result c.in_ok-word.ensures c.is_suffix.ensures.0
+    c.if-not-is_suffix.false c.low_end_len.ensures in
     let width : m - 0 ≡ m = omega arith in
-    ap (λ (t : List ℕ). Some t) (c.range.ensures.value ∙ ap (λ k. take k c.args.header.now) width ∙ ap (take m) (sym c.as_bytes-bytes.ensures.value))
-    ∙ sym (ap before_base64 (sym c.as_bytes-bytes.ensures.value) ∙ with_semicolon s n c.low_end_len.result m printable word (omega (arith, c.in_ok-semicolon.ensures)) c.if-bytes-semicolon-ne59.false)
+    ap (λ (t : List ℕ). Some t) (c.range.ensures.value ∙ ap (λ k. take k c.args.header.now) width
+    ∙ ap (take m) (sym c.as_bytes-bytes.ensures.value))
+    ∙ sym (ap before_base64 (sym c.as_bytes-bytes.ensures.value)
+    ∙ with_semicolon s n c.low_end_len.result m printable word (omega (arith, c.in_ok-semicolon.ensures))
+    c.if-bytes-semicolon-ne59.false)

@@ -1,5 +1,5 @@
 use Rattle.data_url.specs.MimeType.{record_of}
-use Rattle.data_url.proofs.RoundTripLemmas.{printed_only, printed_parses}
+use Rattle.data_url.proofs.mime.RoundTrips.{printed_only, printed_parses}
 use Rattle.data_url.proofs.laws.canonical.Goals as goal
 
 pub returns-clause-parses : goal.returns-clause-parses

@@ -1,11 +1,15 @@
 use Rattle.std.proofs.Common.{sym, arith}
 use Rattle.data_url.specs.Url.{in_path_set, in_query_set}
-use Rattle.data_url.proofs.MediaLemmas.{bytes_by_place}
-use Rattle.data_url.proofs.RecodedLemmas.{is_recoded, path_within_query, recoded-decoded}
+use Rattle.data_url.proofs.header.Stages.{bytes_by_place}
+use Rattle.data_url.proofs.percent.Encoding.{is_recoded, path_within_query, recoded-decoded}
 use Rattle.data_url.proofs.laws.encoding_first.Goals as goal
 
 pub returns-clause-path : goal.returns-clause-path
-returns-clause-path c = sym (recoded-decoded (is_recoded in_path_set path_within_query c.args.bytes.now (bytes_by_place c.args.bytes.now (λ i. omega (arith, c.type_inv.bytes i)))))
+returns-clause-path c =
+    sym (recoded-decoded (is_recoded in_path_set path_within_query c.args.bytes.now
+    (bytes_by_place c.args.bytes.now (λ i. omega (arith, c.type_inv.bytes i)))))
 
 pub returns-clause-query : goal.returns-clause-query
-returns-clause-query c = sym (recoded-decoded (is_recoded in_query_set (λ b e. e) c.args.bytes.now (bytes_by_place c.args.bytes.now (λ i. omega (arith, c.type_inv.bytes i)))))
+returns-clause-query c =
+    sym (recoded-decoded (is_recoded in_query_set (λ b e. e) c.args.bytes.now
+    (bytes_by_place c.args.bytes.now (λ i. omega (arith, c.type_inv.bytes i)))))

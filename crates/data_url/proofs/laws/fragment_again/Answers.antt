@@ -1,13 +1,17 @@
 use Rattle.std.proofs.Common.{arith}
 use Rattle.data_url.specs.Url.{without_tabs_and_newlines}
 use Rattle.data_url.specs.Url.{encoded_fragment}
-use Rattle.data_url.proofs.FragmentAgainLemmas.{fragment_bytes, read_again}
-use Rattle.data_url.proofs.HeaderLemmas.{bytes_dropped}
-use Rattle.data_url.proofs.MediaLemmas.{bytes_by_place}
+use Rattle.data_url.proofs.fragment.Encoded.{fragment_bytes, read_again}
+use Rattle.data_url.proofs.header.Stages.{bytes_dropped}
+use Rattle.data_url.proofs.header.Stages.{bytes_by_place}
 use Rattle.data_url.proofs.laws.fragment_again.Goals as goal
 
 pub returns-clause-again : goal.returns-clause-again
-returns-clause-again c = read_again (encoded_fragment c.args.fragment.now) (fragment_bytes (without_tabs_and_newlines c.args.fragment.now) (bytes_dropped c.args.fragment.now (bytes_by_place c.args.fragment.now (λ i. omega (arith, c.type_inv.fragment i)))))
+returns-clause-again c = read_again (encoded_fragment c.args.fragment.now)
+    (fragment_bytes (without_tabs_and_newlines c.args.fragment.now)
+    (bytes_dropped c.args.fragment.now
+    (bytes_by_place c.args.fragment.now (λ i. omega (arith, c.type_inv.fragment i)))))
 
 pub returns-clause-bytes : goal.returns-clause-bytes
-returns-clause-bytes c = fragment_bytes (without_tabs_and_newlines c.args.fragment.now) (bytes_dropped c.args.fragment.now (bytes_by_place c.args.fragment.now (λ i. omega (arith, c.type_inv.fragment i))))
+returns-clause-bytes c = fragment_bytes (without_tabs_and_newlines c.args.fragment.now)
+    (bytes_dropped c.args.fragment.now (bytes_by_place c.args.fragment.now (λ i. omega (arith, c.type_inv.fragment i))))

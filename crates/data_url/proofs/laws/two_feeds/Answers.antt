@@ -1,4 +1,4 @@
-use Rattle.data_url.proofs.FeedLemmas.{two_feeds}
+use Rattle.data_url.proofs.forgiving_base64.Groups.{two_feeds}
 use Rattle.data_url.proofs.laws.two_feeds.Goals as goal
 
 pub returns : goal.returns

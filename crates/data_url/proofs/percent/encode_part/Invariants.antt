@@ -1,6 +1,6 @@
 -- The bytes that were read are written at the front of the room.
 use Rattle.data_url.specs.Steps.Sets.{in_set}
-use Rattle.data_url.proofs.EncodeLemmas.{PutTo}
+use Rattle.data_url.proofs.percent.Encoding.{PutTo}
 use Rattle.data_url.proofs.percent.encode_part.Given as goal
 
 abbrev pub invariant-loop-byte : goal.invariant-loop-byte

@@ -1,7 +1,7 @@
 -- What stands before the rest is written.
 use Rattle.std.specs.Prelude.{length, string_bytes}
 use Rattle.data_url.specs.Steps.Sets.{in_set}
-use Rattle.data_url.proofs.EncodeLemmas.{WroteBefore}
+use Rattle.data_url.proofs.percent.Encoding.{WroteBefore}
 use Rattle.data_url.proofs.percent.push_encoded.Given as goal
 
 abbrev pub invariant-loop-rest : goal.invariant-loop-rest

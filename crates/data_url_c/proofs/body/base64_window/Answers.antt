@@ -4,10 +4,13 @@ use Rattle.data_url_c.proofs.LeftLemmas.{taken_room}
 use Rattle.data_url_c.proofs.PartLemmas.{good_parts}
 use Rattle.data_url_c.proofs.StepLemmas.{base64_ends, base64_fault, base64_more}
 use Rattle.data_url_c.proofs.body.base64_window.Goals as goal
-use Rattle.data_url_c.proofs.body.base64_window.Goals.{then-has_fragment-via-then-has_fragment, then-has_fragment-via-else-has_fragment+then-end-tail}
+use Rattle.data_url_c.proofs.body.base64_window.Goals.{then-has_fragment-via-then-has_fragment}
+use Rattle.data_url_c.proofs.body.base64_window.Goals.{then-has_fragment-via-else-has_fragment+then-end-tail}
 
 pub returns-then-step-ne-DONE : goal.returns-then-step-ne-DONE
-returns-then-step-ne-DONE c = base64_fault c.args.state.now c.requires.window c.requires.base64 c.feed_body-has_fragment.ensures.fed c.if-step-ne-DONE.true
+returns-then-step-ne-DONE c =
+    base64_fault c.args.state.now c.requires.window c.requires.base64 c.feed_body-has_fragment.ensures.fed
+    c.if-step-ne-DONE.true
 
 pub end_body-step-requires-clause-room : goal.end_body-step-requires-clause-room
 end_body-step-requires-clause-room c =
@@ -16,7 +19,12 @@ end_body-step-requires-clause-room c =
     let size : length fed.new.out ≡ length c.args.out.now = search rules in
     let within : fed.result.0.len ≤ length fed.new.out = omega (arith, fed.ensures.fed.wrote.within) in
     let few = (good_parts s c.requires.good.left).few_pending in
-    omega (arith, taken_room s fed.new.state (plain_body c.args.window.now) c.requires.good.left fed.ensures.fed c.if-step-ne-DONE.false within, c.requires.room)
+    omega (
+      arith,
+      taken_room s fed.new.state (plain_body c.args.window.now) c.requires.good.left fed.ensures.fed
+          c.if-step-ne-DONE.false within,
+      c.requires.room,
+    )
 
 pub returns-then-has_fragment : goal.returns-then-has_fragment
 returns-then-has_fragment c =
@@ -29,10 +37,14 @@ returns-then-has_fragment c =
     let size : length fed.new.out ≡ length c.args.out.now = search rules in
     let within : fed.result.0.len ≤ length fed.new.out = omega (arith, fed.ensures.fed.wrote.within) in
     let few = (good_parts s c.requires.good.left).few_pending in
-    let room = taken_room s fed.new.state (plain_body c.args.window.now) c.requires.good.left fed.ensures.fed c.if-step-ne-DONE.false within in
-    base64_ends c.args.state.now c.requires.window c.requires.base64 (fed.ensures.fragment c.if-step-ne-DONE.false) last fed.ensures.fed c.if-step-ne-DONE.false size c.end_body-step.ensures (omega (arith, room, c.requires.room)) (λ g. absurd (let h = g.left in cc))
+    let room = taken_room s fed.new.state (plain_body c.args.window.now) c.requires.good.left fed.ensures.fed
+    c.if-step-ne-DONE.false within in
+    base64_ends c.args.state.now c.requires.window c.requires.base64 (fed.ensures.fragment c.if-step-ne-DONE.false) last
+    fed.ensures.fed c.if-step-ne-DONE.false size c.end_body-step.ensures (omega (arith, room, c.requires.room))
+    (λ g. absurd (let h = g.left in cc))
 
 pub returns : goal.returns
 returns c =
     let fed = c.feed_body-has_fragment in
-    base64_more c.args.state.now _ c.requires.window c.requires.base64 (fed.ensures.fragment c.if-step-ne-DONE.false) c.if-has_fragment.false c.if-end-tail.false fed.ensures.fed c.if-step-ne-DONE.false refl refl
+    base64_more c.args.state.now _ c.requires.window c.requires.base64 (fed.ensures.fragment c.if-step-ne-DONE.false)
+    c.if-has_fragment.false c.if-end-tail.false fed.ensures.fed c.if-step-ne-DONE.false refl refl

@@ -4,4 +4,5 @@ use Rattle.data_url_c.proofs.parts.counted_after.Goals as goal
 
 pub returns : goal.returns
 returns c =
-    counted_left c.args.state.now _ c.args.text.now _ _ c.requires.good (search rules) c.padding_count.ensures refl (search rules) (search rules) (search rules) c.last_symbols.ensures
+    counted_left c.args.state.now _ c.args.text.now _ _ c.requires.good (search rules) c.padding_count.ensures refl
+    (search rules) (search rules) (search rules) c.last_symbols.ensures

@@ -9,5 +9,7 @@ use Rattle.data_url_c.proofs.parts.is_good.Goals as goal
 pub returns : goal.returns
 returns c =
     let s = c.args.state.now in
-    let all : c.all.result ≡ list_all is_symbol (take s.pending s.symbols) = all_from_yields_List is_symbol _ _ _ c.all.ensures.ran (YieldsList-from_slice (take s.pending s.symbols) (search rules)) (λ x b q k. search (rules, tests)) in
+    let all : c.all.result ≡ list_all is_symbol (take s.pending s.symbols) =
+    all_from_yields_List is_symbol _ _ _ c.all.ensures.ran (YieldsList-from_slice (take s.pending s.symbols)
+    (search rules)) (λ x b q k. search (rules, tests)) in
     all ∙ good_rest s (omega arith) (omega arith)

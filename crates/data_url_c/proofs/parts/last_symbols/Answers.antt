@@ -10,8 +10,11 @@ loop-missing-preserved-then-is_symbol_byte c =
     let l = c.loop-missing in
     let s = c.args.text.now in
     record {
-      found = found_symbol s l.symbols c.args.count l.missing l.at (l.missing - 1) (l.at - 1) (get_or s (l.at - 1) 0) (omega arith) (omega arith) l.invariant.inside refl (sym c.is_symbol_byte.ensures ∙ c.if-is_symbol_byte.true) l.invariant.few (omega arith) l.invariant.found;
-      waiting = waiting_less l.symbols c.args.state.now.symbols (l.missing - 1) l.missing _ (omega arith) l.invariant.waiting;
+      found = found_symbol s l.symbols c.args.count l.missing l.at (l.missing - 1) (l.at - 1) (get_or s (l.at - 1) 0)
+          (omega arith) (omega arith) l.invariant.inside refl (sym c.is_symbol_byte.ensures ∙ c.if-is_symbol_byte.true)
+          l.invariant.few (omega arith) l.invariant.found;
+      waiting = waiting_less l.symbols c.args.state.now.symbols (l.missing - 1) l.missing _
+          (omega arith) l.invariant.waiting;
       size = search rules;
       inside = omega arith;
       few = omega arith;
@@ -23,10 +26,13 @@ returns-else-at-gt0 c =
     let s = c.args.state.now in
     let few = (good_parts s c.requires.good).few_pending in
     let start : l.at ≡ 0 = omega arith in
-    found_waiting s.symbols c.args.text.now l.symbols s.pending c.args.count l.missing l.invariant.few c.requires.few few c.loop-missing-test.true l.invariant.size c.requires.same (l.invariant.found ∙ ap (λ n. filter is_symbol (drop n c.args.text.now)) start) l.invariant.waiting
+    found_waiting s.symbols c.args.text.now l.symbols s.pending c.args.count l.missing l.invariant.few c.requires.few
+    few c.loop-missing-test.true l.invariant.size c.requires.same (l.invariant.found
+    ∙ ap (λ n. filter is_symbol (drop n c.args.text.now)) start) l.invariant.waiting
 
 pub returns-after-loop-missing : goal.returns-after-loop-missing
 returns-after-loop-missing c =
     let l = c.loop-missing in
     let s = c.args.state.now in
-    found_all (take s.pending s.symbols) c.args.text.now (take c.args.count l.symbols) l.missing l.at (omega arith) l.invariant.found
+    found_all (take s.pending s.symbols) c.args.text.now (take c.args.count l.symbols) l.missing l.at
+    (omega arith) l.invariant.found

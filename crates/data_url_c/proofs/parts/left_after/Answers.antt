@@ -9,5 +9,7 @@ returns-then-bytes-len c =
     let s = c.args.state.now in
     let few = (good_parts s c.requires.good).few_pending in
     let size : length s.symbols ≡ 3 = search rules in
-    let bytes : s.pending + s.padding + length c.args.text.now ≡ length (waiting_text s ++ c.args.text.now) = search (rules, text_length s c.args.text.now (omega arith)) in
-    nothing_left (waiting_text s ++ c.args.text.now) _ (s.pending + s.padding + length c.args.text.now) c.args.len c.requires.sound bytes c.requires.len (search rules) (search rules) refl refl refl
+    let bytes : s.pending + s.padding + length c.args.text.now ≡ length (waiting_text s ++ c.args.text.now) =
+    search (rules, text_length s c.args.text.now (omega arith)) in
+    nothing_left (waiting_text s ++ c.args.text.now) _ (s.pending + s.padding + length c.args.text.now) c.args.len
+    c.requires.sound bytes c.requires.len (search rules) (search rules) refl refl refl

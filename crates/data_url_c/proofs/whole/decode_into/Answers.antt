@@ -10,8 +10,11 @@ returns-in-Ok c =
     let h = c.call_with_body.ensures in
     let out = gets_keep h (λ f. f.0.ghost_name) (λ f p r g k. search rules) in
     let len = gets_keep h (λ f. f.1.ghost_name) (λ f p r g k. search rules) in
-    let reaches = gets_reaches c.args.out.now (λ f. (closure.captures f).out.now) (λ f. (closure.captures f).len) h (λ f p r g k. search rules) (search rules) (search rules) (search (rules, out, len)) (search (rules, out, len)) in
-    ends_good c.args.url.now c.call_with_body.result c.args.out.now _ _ c.requires.tail c.requires.room c.in-Ok.is h.ended reaches
+    let reaches = gets_reaches c.args.out.now (λ f. (closure.captures f).out.now) (λ f. (closure.captures f).len) h
+    (λ f p r g k. search rules) (search rules) (search rules) (search (rules, out, len))
+    (search (rules, out, len)) in
+    ends_good c.args.url.now c.call_with_body.result c.args.out.now _ _ c.requires.tail c.requires.room c.in-Ok.is
+    h.ended reaches
 
 pub returns-in-Some : goal.returns-in-Some
 returns-in-Some c =
@@ -19,8 +22,11 @@ returns-in-Some c =
     let e : c.call_with_body.result ≡ Err (InvalidBase64 c.in-Err-InvalidBase64.refusal) = search rules in
     let out = gets_keep h (λ f. f.0.ghost_name) (λ f p r g k. search rules) in
     let len = gets_keep h (λ f. f.1.ghost_name) (λ f p r g k. search rules) in
-    let reaches = gets_reaches c.args.out.now (λ f. (closure.captures f).out.now) (λ f. (closure.captures f).len) h (λ f p r g k. search rules) (search rules) (search rules) (search (rules, out, len)) (search (rules, out, len)) in
-    ends_bad c.args.url.now c.call_with_body.result c.in-Err-InvalidBase64.refusal c.args.out.now _ _ _ c.requires.tail c.requires.room e h.ended c.in-Some.ensures reaches
+    let reaches = gets_reaches c.args.out.now (λ f. (closure.captures f).out.now) (λ f. (closure.captures f).len) h
+    (λ f p r g k. search rules) (search rules) (search rules) (search (rules, out, len))
+    (search (rules, out, len)) in
+    ends_bad c.args.url.now c.call_with_body.result c.in-Err-InvalidBase64.refusal c.args.out.now _ _ _ c.requires.tail
+    c.requires.room e h.ended c.in-Some.ensures reaches
 
 pub returns-in-None : goal.returns-in-None
 returns-in-None c =
@@ -28,5 +34,8 @@ returns-in-None c =
     let e : c.call_with_body.result ≡ Err (InvalidBase64 c.in-Err-InvalidBase64.refusal) = search rules in
     let out = gets_keep h (λ f. f.0.ghost_name) (λ f p r g k. search rules) in
     let len = gets_keep h (λ f. f.1.ghost_name) (λ f p r g k. search rules) in
-    let reaches = gets_reaches {len' = _} c.args.out.now (λ f. (closure.captures f).out.now) (λ f. (closure.captures f).len) h (λ f p r g k. search rules) (search rules) (search rules) (search (rules, out, len)) refl in
-    ends_again c.args.url.now c.call_with_body.result c.in-Err-InvalidBase64.refusal c.args.out.now _ _ _ c.requires.tail c.requires.room e h.ended reaches (search rules) c.feed_whole.ensures
+    let reaches = gets_reaches {len' = _} c.args.out.now (λ f. (closure.captures f).out.now)
+    (λ f. (closure.captures f).len) h (λ f p r g k. search rules) (search rules) (search rules)
+    (search (rules, out, len)) refl in
+    ends_again c.args.url.now c.call_with_body.result c.in-Err-InvalidBase64.refusal c.args.out.now _ _ _
+    c.requires.tail c.requires.room e h.ended reaches (search rules) c.feed_whole.ensures

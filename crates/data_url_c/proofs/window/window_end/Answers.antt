@@ -15,18 +15,21 @@ returns-in_default c =
     let tail = c.args.tail.now in
     let long : c.args.limit < length (drop c.args.from tail) = search (rules, length-drop c.args.from tail) in
     let e = c.last_edge-end.ensures in
-    window_edge tail c.args.from c.args.limit c.last_edge-end.result c.requires.edge c.requires.limit long e.order e.within e.edge e.last c.in_default.ensures
+    window_edge tail c.args.from c.args.limit c.last_edge-end.result c.requires.edge c.requires.limit long e.order
+    e.within e.edge e.last c.in_default.ensures
 
 pub returns-then-at-gt0 : goal.returns-then-at-gt0
 returns-then-at-gt0 c =
     let tail = c.args.tail.now in
     let long : c.args.limit < length (drop c.args.from tail) = search (rules, length-drop c.args.from tail) in
     let within = c.requires.edge.0 in
-    window_percent tail c.args.from c.args.limit c.last_edge-end.result c.in-Some.at long within c.last_edge-end.ensures.within c.if-at-gt0.true c.in-Some.ensures.0 c.in-Some.ensures.1
+    window_percent tail c.args.from c.args.limit c.last_edge-end.result c.in-Some.at long within
+    c.last_edge-end.ensures.within c.if-at-gt0.true c.in-Some.ensures.0 c.in-Some.ensures.1
 
 pub returns : goal.returns
 returns c =
     let tail = c.args.tail.now in
     let long : c.args.limit < length (drop c.args.from tail) = search (rules, length-drop c.args.from tail) in
     let P : List ℕ → Type 0 = λ s. IsEscapeEnd s c.escape_end.result in
-    window_escape tail c.args.from c.args.limit c.escape_end.result (omega (arith, long, length-drop c.args.from tail)) c.requires.limit (subst P (end_sliced c.args.from tail) c.escape_end.ensures)
+    window_escape tail c.args.from c.args.limit c.escape_end.result (omega (arith, long, length-drop c.args.from tail))
+    c.requires.limit (subst P (end_sliced c.args.from tail) c.escape_end.ensures)

@@ -9,5 +9,9 @@ returns g c =
     let over : closure.Over = record { W = g.row.W; W-Write = g.W.Write; W-Write-dict = g.W.Write-dict } in
     let array = body_keeps c.hand_out.ensures (λ f. f.0.ghost_name) (λ f p r f' k. search rules) in
     let writer = body_keeps c.hand_out.ensures (λ f. f.1.ghost_name) (λ f p r f' k. search rules) in
-    let settled : Settles c.hand_out.new.answer (waiting_bytes c.hand_out.result.0.now) (g.W.Write.contents c.hand_out.result.1.now) (g.W.Write.contents c.settle.new.writer) c.settle.result = search (rules, array, writer, c.settle.ensures) in
-    body_streams c.hand_out.ensures (λ f. g.W.Write.contents (closure.captures over f).writer.now) (λ f. waiting_bytes (closure.captures over f).gathered) (λ f p r f' k. search rules) c.new-gathered.ensures settled
+    let settled : Settles c.hand_out.new.answer (waiting_bytes c.hand_out.result.0.now)
+    (g.W.Write.contents c.hand_out.result.1.now) (g.W.Write.contents c.settle.new.writer) c.settle.result =
+    search (rules, array, writer, c.settle.ensures) in
+    body_streams c.hand_out.ensures (λ f. g.W.Write.contents (closure.captures over f).writer.now)
+    (λ f. waiting_bytes (closure.captures over f).gathered) (λ f p r f' k. search rules) c.new-gathered.ensures
+    settled

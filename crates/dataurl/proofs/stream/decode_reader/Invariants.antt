@@ -10,7 +10,8 @@ abbrev pub invariant-loop : goal.invariant-loop
 invariant-loop g l = record {
   callable : always_mut g.F.FnMut (state_of l.decoder).closure;
   going : (state_of l.decoder).failed ≡ false;
-  reading : Reading (CalledAt g.F.FnMut) l.fn.write (g.R.Read.remaining l.fn.reader) (g.R.Read.remaining l.reader) (state_of l.decoder);
+  reading : Reading (CalledAt g.F.FnMut) l.fn.write (g.R.Read.remaining l.fn.reader) (g.R.Read.remaining l.reader)
+      (state_of l.decoder);
   size : length l.piece ≡ 4096;
   ended : l.ended ≡ ReadFailed;
 }

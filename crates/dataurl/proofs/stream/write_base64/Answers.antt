@@ -11,13 +11,22 @@ returns-in-Decoded g c =
     let over : closure.Over = record { W = g.row.W; W-Write = g.W.Write; W-Write-dict = g.W.Write-dict } in
     let array = reader_keeps c.decode_reader.ensures (λ f. f.0.ghost_name) (λ f p r f' k. search rules) in
     let writer = reader_keeps c.decode_reader.ensures (λ f. f.1.ghost_name) (λ f p r f' k. search rules) in
-    let settled : Settles c.in-Decoded.answer (waiting_bytes c.decode_reader.result.0.now) (g.W.Write.contents c.decode_reader.result.1.now) (g.W.Write.contents c.settle.new.writer) c.settle.result = search (rules, array, writer, c.settle.ensures) in
-    decoded_runs c.decode_reader.ensures c.in-Decoded.is (λ f. g.W.Write.contents (closure.captures over f).writer.now) (λ f. waiting_bytes (closure.captures over f).gathered) (λ f p r f' k. search rules) c.new-gathered.ensures settled
+    let settled : Settles c.in-Decoded.answer (waiting_bytes c.decode_reader.result.0.now)
+    (g.W.Write.contents c.decode_reader.result.1.now) (g.W.Write.contents c.settle.new.writer) c.settle.result =
+    search (rules, array, writer, c.settle.ensures) in
+    decoded_runs c.decode_reader.ensures c.in-Decoded.is (λ f. g.W.Write.contents (closure.captures over f).writer.now)
+    (λ f. waiting_bytes (closure.captures over f).gathered) (λ f p r f' k. search rules) c.new-gathered.ensures
+    settled
 
 pub returns-in-ReadFailed : goal.returns-in-ReadFailed
 returns-in-ReadFailed g c =
     let over : closure.Over = record { W = g.row.W; W-Write = g.W.Write; W-Write-dict = g.W.Write-dict } in
     let array = reader_keeps c.decode_reader.ensures (λ f. f.0.ghost_name) (λ f p r f' k. search rules) in
     let writer = reader_keeps c.decode_reader.ensures (λ f. f.1.ghost_name) (λ f p r f' k. search rules) in
-    let flushed : Flushes (waiting_bytes c.decode_reader.result.0.now) (Err Read) (g.W.Write.contents c.decode_reader.result.1.now) (g.W.Write.contents c.flush_before.new.writer) c.flush_before.result = search (rules, array, writer, c.flush_before.ensures) in
-    unread_runs c.decode_reader.ensures c.in-ReadFailed.is (λ f. g.W.Write.contents (closure.captures over f).writer.now) (λ f. waiting_bytes (closure.captures over f).gathered) (λ f p r f' k. search rules) c.new-gathered.ensures flushed
+    let flushed : Flushes (waiting_bytes c.decode_reader.result.0.now) (Err Read)
+    (g.W.Write.contents c.decode_reader.result.1.now) (g.W.Write.contents c.flush_before.new.writer)
+    c.flush_before.result = search (rules, array, writer, c.flush_before.ensures) in
+    unread_runs c.decode_reader.ensures c.in-ReadFailed.is
+    (λ f. g.W.Write.contents (closure.captures over f).writer.now)
+    (λ f. waiting_bytes (closure.captures over f).gathered) (λ f p r f' k. search rules) c.new-gathered.ensures
+    flushed

@@ -8,4 +8,5 @@ use Rattle.uses.proofs.chunks.feed_chunks.Given as goal
 abbrev pub invariant-loop-chunk : goal.invariant-loop-chunk
 invariant-loop-chunk g l =
     always_mut g.F.FnMut (state_of l.decoder).closure
-    × FeedsChunks (CalledAt g.F.FnMut) (state_of l.fn.decoder) (take l.chunk-index l.chunks) (not (state_of l.decoder).failed) (state_of l.decoder)
+    × FeedsChunks (CalledAt g.F.FnMut) (state_of l.fn.decoder) (take l.chunk-index l.chunks)
+    (not (state_of l.decoder).failed) (state_of l.decoder)

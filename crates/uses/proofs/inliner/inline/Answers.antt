@@ -6,7 +6,8 @@ use Rattle.uses.proofs.inliner.inline.Goals as goal
 
 pub loop-before-preserved : goal.loop-before-preserved
 loop-before-preserved c =
-    let more = going_more (Text c.in-Some.before) c.in_ok-part_of.field-0 c.loop-before.invariant.1 c.in-Some.ensures refl c.in_ok-part_of.ensures in
+    let more = going_more (Text c.in-Some.before) c.in_ok-part_of.field-0 c.loop-before.invariant.1 c.in-Some.ensures
+    refl c.in_ok-part_of.ensures in
     (search rules, rw (c.in_ok-push-2.ensures.items, c.in_ok-push.ensures.items) more)
 
 pub returns-clause-joined : goal.returns-clause-joined

@@ -15,6 +15,8 @@ returns-in_default-find c =
 pub returns : goal.returns
 returns c =
     let o = opened c.args.page.now c.in-Some.place c.in-Some.ensures.cases.0 c.in-Some.ensures.cases.1 in
-    let k = find_char 34 c.split_at.result.1.now (Some c.in-Some-find.end) c.in-Some-find.ensures.cases (search rules) in
-    let h = is_reference c.args.page.now c.split_at.result.1.now c.in-Some.place c.in-Some-find.end o c.split_at.ensures.back k.0 k.1 k.2 in
+    let k = find_char 34 c.split_at.result.1.now (Some c.in-Some-find.end) c.in-Some-find.ensures.cases
+    (search rules) in
+    let h = is_reference c.args.page.now c.split_at.result.1.now c.in-Some.place c.in-Some-find.end o
+    c.split_at.ensures.back k.0 k.1 k.2 in
     rw (c.split_at.ensures.front, c.split_at-2.ensures.front, c.split_at-2.ensures.back) h

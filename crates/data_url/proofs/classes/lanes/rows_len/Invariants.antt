@@ -1,6 +1,6 @@
 -- The rows that were looked at are of the class.
 use Rattle.std.proofs.Common.{◌-◌, length}
-use Rattle.data_url.proofs.ClassLemmas.{Looked}
+use Rattle.data_url.proofs.classes.Rows.{Looked}
 use Rattle.data_url.proofs.classes.lanes.rows_len.Given as goal
 
 abbrev pub invariant-loop-at : goal.invariant-loop-at

@@ -1,6 +1,6 @@
 use Rattle.std.proofs.Common.{ap, ◌∙◌, subst, List, ℕ}
 use Rattle.data_url.specs.Steps.Tail.{IsBodyEnd}
-use Rattle.data_url.proofs.NextLemmas.{body_end, ended_of}
+use Rattle.data_url.proofs.escapes.Walking.{body_end, ended_of}
 use Rattle.data_url.proofs.escapes.Pieces.end.Goals as goal
 
 pub returns : goal.returns

@@ -1,4 +1,4 @@
-use Rattle.data_url.proofs.MarkLemmas.{lows_ok, marks_are}
+use Rattle.data_url.proofs.escapes.Marks.{lows_ok, marks_are}
 use Rattle.data_url.proofs.escapes.lanes.marks_of.Goals as goal
 
 pub swizzle : goal.swizzle

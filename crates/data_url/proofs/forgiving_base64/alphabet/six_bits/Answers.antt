@@ -1,5 +1,5 @@
 use Rattle.std.proofs.Common.{arith}
-use Rattle.data_url.proofs.AlphabetLemmas.{entry_lt, entry_symbol}
+use Rattle.data_url.proofs.forgiving_base64.Vectors.{entry_lt, entry_symbol}
 use Rattle.data_url.proofs.forgiving_base64.alphabet.six_bits.Goals as goal
 
 pub returns-clause-value : goal.returns-clause-value

@@ -1,6 +1,6 @@
 use Rattle.std.proofs.Common.{◌<◌, take, ap, sym, ◌∙◌, arith, length-take-le}
 use lib.Count.{count_trailing_zeros}
-use Rattle.data_url.proofs.BlockLemmas.{first_ahead, none_ahead, others_mask}
+use Rattle.data_url.proofs.forgiving_base64.Vectors.{first_ahead, none_ahead, others_mask}
 use Rattle.data_url.proofs.forgiving_base64.blocks.symbols_in_row.Goals as goal
 
 pub returns-then-all-eq0 : goal.returns-then-all-eq0
@@ -14,4 +14,5 @@ returns-else-all-eq0 c =
     let text = c.args.text.now in
     let mask = c.others-all.ensures.mask ∙ ap others_mask c.row.ensures in
     let some : 0 < others_mask (take 16 text) = omega (arith, mask, c.if-all-eq0.false) in
-    ap (count_trailing_zeros 64) mask ∙ first_ahead (take 16 text) (omega (arith, length-take-le 16 text c.requires)) some
+    ap (count_trailing_zeros 64) mask ∙ first_ahead (take 16 text) (omega (arith, length-take-le 16 text c.requires))
+    some

@@ -2,12 +2,13 @@ use Rattle.std.proofs.Common.{ℕ, ◌<◌, List, length, ap, ◌∙◌, subst, 
 use Rattle.std.proofs.lemmas.List.{length-map}
 use Rattle.data_url.specs.Steps.Lanes.{value_of}
 use Rattle.data_url.specs.Base64.{groups}
-use Rattle.data_url.proofs.LaneLemmas.{packed_is, values_below}
+use Rattle.data_url.proofs.forgiving_base64.Vectors.{packed_is, values_below}
 use Rattle.data_url.proofs.forgiving_base64.lanes.decode_row.Goals as goal
 use lib.Lanes.{Each1}
 
 pub numbers_of-requires : goal.numbers_of-requires
-numbers_of-requires c = let P : List ℕ → Type 0 = λ v. Each1 (λ x. x < 64) v in subst P (sym c.values_of.ensures) (values_below c.args.bytes)
+numbers_of-requires c = let P : List ℕ → Type 0 = λ v. Each1 (λ x. x < 64) v in
+    subst P (sym c.values_of.ensures) (values_below c.args.bytes)
 
 pub returns-clause-bytes : goal.returns-clause-bytes
 returns-clause-bytes c =

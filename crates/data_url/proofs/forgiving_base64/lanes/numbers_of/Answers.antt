@@ -1,6 +1,6 @@
 use Rattle.std.proofs.lemmas.Simd.{dot4_Fits}
 use Rattle.data_url.specs.declared.forgiving_base64.lanes.TheConstants.{LOWER_WEIGHTS, UPPER_WEIGHTS}
-use Rattle.data_url.proofs.LaneLemmas.{numbers_is}
+use Rattle.data_url.proofs.forgiving_base64.Vectors.{numbers_is}
 use Rattle.data_url.proofs.forgiving_base64.lanes.numbers_of.Goals as goal
 
 pub dot4-upper : goal.dot4-upper

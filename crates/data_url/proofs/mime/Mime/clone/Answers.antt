@@ -1,17 +1,23 @@
 use Rattle.data_url.specs.MimeType.{SameTexts}
 use Rattle.data_url.specs.declared.mime.Mime.{Mime}
-use Rattle.data_url.proofs.SameLemmas.{copied_pairs, same_seen}
+use Rattle.data_url.proofs.mime.Printing.{copied_pairs, same_seen}
 use Rattle.data_url.proofs.mime.Mime.clone.Goals as goal
 
 pub returns-clause-texts : goal.returns-clause-texts
 returns-clause-texts c = record {
   type_ = c.in_ok-clone.ensures.cases;
   subtype = c.in_ok-clone-2.ensures.cases;
-  parameters = copied_pairs c.args.self.now.parameters.items c.in_ok-clone-3.field-0.items c.in_ok-clone-3.ensures.cases.0;
+  parameters = copied_pairs c.args.self.now.parameters.items c.in_ok-clone-3.field-0.items
+      c.in_ok-clone-3.ensures.cases.0;
 }
 
 pub returns-clause-seen : goal.returns-clause-seen
 returns-clause-seen c =
-    let copy : Mime = record { type_ = c.in_ok-clone.field-0; subtype = c.in_ok-clone-2.field-0; parameters = c.in_ok-clone-3.field-0 } in
+    let copy : Mime = record {
+      type_ = c.in_ok-clone.field-0;
+      subtype = c.in_ok-clone-2.field-0;
+      parameters =
+          c.in_ok-clone-3.field-0;
+    } in
     let same : SameTexts copy c.args.self.now = returns-clause-texts c in
     same_seen copy c.args.self.now same

@@ -3,14 +3,16 @@ use Rattle.std.proofs.lemmas.Bool.{false≢true}
 use Rattle.std.proofs.lemmas.Str.{IsUtf8-string_bytes}
 use Rattle.std.specs.Char.{to_ascii_lowercase}
 use Rattle.std.specs.Str.{chars}
-use Rattle.data_url.proofs.KeptLemmas.{look_finds, look_goes_on, lower_bytes, lowercase_at, names_differ, names_equal, some_byte}
+use Rattle.data_url.proofs.mime.FirstNames.{look_finds, look_goes_on, lower_bytes, lowercase_at, names_differ}
+use Rattle.data_url.proofs.mime.FirstNames.{names_equal, some_byte}
 use Rattle.data_url.proofs.mime.kept.any_named.Goals as goal
 
 pub overflow_sub-name : goal.overflow_sub-name
 overflow_sub-name c = let some = some_byte c.args.name.now c.requires.token in omega arith
 
 pub bounds-as_bytes-name : goal.bounds-as_bytes-name
-bounds-as_bytes-name c = let some = some_byte c.args.name.now c.requires.token in omega (arith, ap length c.as_bytes.ensures.value)
+bounds-as_bytes-name c = let some = some_byte c.args.name.now c.requires.token in
+    omega (arith, ap length c.as_bytes.ensures.value)
 
 pub is_named-requires-clause-some : goal.is_named-requires-clause-some
 is_named-requires-clause-some c = some_byte c.args.name.now c.requires.token
@@ -18,20 +20,29 @@ is_named-requires-clause-some c = some_byte c.args.name.now c.requires.token
 pub is_named-requires-clause-key : goal.is_named-requires-clause-key
 is_named-requires-clause-key c =
     let i = c.loop-key-item.result in
-    subst (λ t. map to_ascii_lowercase t ≡ t) (sym c.as_str.ensures.value) (lower_bytes (string_bytes i.0) (IsUtf8-string_bytes i.0) (lowercase_at c.args.pairs.now c.loop-key.key-index i c.requires.pairs c.loop-key-test.true c.loop-key-item.is))
+    subst (λ t. map to_ascii_lowercase t ≡ t) (sym c.as_str.ensures.value)
+    (lower_bytes (string_bytes i.0) (IsUtf8-string_bytes i.0)
+    (lowercase_at c.args.pairs.now c.loop-key.key-index i c.requires.pairs c.loop-key-test.true c.loop-key-item.is))
 
 pub returns-then-is_named : goal.returns-then-is_named
 returns-then-is_named c =
     let i = c.loop-key-item.result in
-    let low = lowercase_at c.args.pairs.now c.loop-key.key-index i c.requires.pairs c.loop-key-test.true c.loop-key-item.is in
-    look_finds (map to_ascii_lowercase (chars c.args.name.now)) c.args.pairs.now c.loop-key.key-index i c.loop-key-test.true c.loop-key-item.is
-    (names_equal (string_bytes i.0) c.args.name.now (IsUtf8-string_bytes i.0) c.utf8.name low c.requires.token (ap (map to_ascii_lowercase) (sym c.as_str.ensures.value) ∙ c.is_named.ensures.0 c.if-is_named.true))
+    let low = lowercase_at c.args.pairs.now c.loop-key.key-index i c.requires.pairs c.loop-key-test.true
+    c.loop-key-item.is in
+    look_finds (map to_ascii_lowercase (chars c.args.name.now)) c.args.pairs.now c.loop-key.key-index i
+    c.loop-key-test.true c.loop-key-item.is
+    (names_equal (string_bytes i.0) c.args.name.now (IsUtf8-string_bytes i.0) c.utf8.name low c.requires.token
+    (ap (map to_ascii_lowercase) (sym c.as_str.ensures.value) ∙ c.is_named.ensures.0 c.if-is_named.true))
     c.loop-key.invariant
 
 pub loop-key-preserved : goal.loop-key-preserved
 loop-key-preserved c =
     let i = c.loop-key-item.result in
-    let low = lowercase_at c.args.pairs.now c.loop-key.key-index i c.requires.pairs c.loop-key-test.true c.loop-key-item.is in
-    look_goes_on (map to_ascii_lowercase (chars c.args.name.now)) c.args.pairs.now c.loop-key.key-index i c.loop-key-test.true c.loop-key-item.is
-    (names_differ (string_bytes i.0) c.args.name.now (IsUtf8-string_bytes i.0) c.utf8.name low c.requires.token (λ e. false≢true (sym c.if-is_named.false ∙ c.is_named.ensures.1 (ap (map to_ascii_lowercase) c.as_str.ensures.value ∙ e))))
+    let low = lowercase_at c.args.pairs.now c.loop-key.key-index i c.requires.pairs c.loop-key-test.true
+    c.loop-key-item.is in
+    look_goes_on (map to_ascii_lowercase (chars c.args.name.now)) c.args.pairs.now c.loop-key.key-index i
+    c.loop-key-test.true c.loop-key-item.is
+    (names_differ (string_bytes i.0) c.args.name.now (IsUtf8-string_bytes i.0) c.utf8.name low c.requires.token
+    (λ e. false≢true (sym c.if-is_named.false
+    ∙ c.is_named.ensures.1 (ap (map to_ascii_lowercase) c.as_str.ensures.value ∙ e))))
     c.loop-key.invariant

@@ -7,4 +7,6 @@ use Rattle.data_url.specs.MimeType.{pair_of}
 use Rattle.data_url.proofs.mime.kept.any_named.Given as goal
 
 abbrev pub invariant-loop-key : goal.invariant-loop-key
-invariant-loop-key l = has_name (map to_ascii_lowercase (chars l.name)) (map (λ p. pair_of p) (drop l.key-index l.pairs)) ≡ has_name (map to_ascii_lowercase (chars l.name)) (map (λ p. pair_of p) l.pairs)
+invariant-loop-key l = has_name (map to_ascii_lowercase (chars l.name))
+    (map (λ p. pair_of p) (drop l.key-index l.pairs)) ≡ has_name (map to_ascii_lowercase (chars l.name))
+    (map (λ p. pair_of p) l.pairs)

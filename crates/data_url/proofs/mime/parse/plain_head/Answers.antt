@@ -1,4 +1,4 @@
-use Rattle.data_url.proofs.PlainHeadLemmas.{plain_head_is}
+use Rattle.data_url.proofs.header.Stages.{plain_head_is}
 use Rattle.data_url.proofs.mime.parse.plain_head.Goals as goal
 
 pub returns : goal.returns

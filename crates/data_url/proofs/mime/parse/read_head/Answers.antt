@@ -1,28 +1,44 @@
-use Rattle.data_url.proofs.HeadLemmas.{cut_again, cut_from, empty_by, is_head, no_parameters, no_slash_bytes, no_subtype, no_type, nonempty_by, slash_cut}
+use Rattle.data_url.proofs.mime.Parsing.{cut_again, cut_from, empty_by, is_head, no_parameters, no_slash_bytes}
+use Rattle.data_url.proofs.mime.Parsing.{no_subtype, no_type, nonempty_by, slash_cut}
 use Rattle.data_url.proofs.mime.parse.read_head.Goals as goal
-use Rattle.data_url.proofs.mime.parse.read_head.Goals.{then-is_empty-via-then-is_empty, then-is_empty-via-else-is_empty+then-is_empty-2, then-is_empty-via-else-is_empty+else-is_empty-2+then-not-begins_parameters}
+use Rattle.data_url.proofs.mime.parse.read_head.Goals.{then-is_empty-via-then-is_empty}
+use Rattle.data_url.proofs.mime.parse.read_head.Goals.{then-is_empty-via-else-is_empty+then-is_empty-2}
+use Rattle.data_url.proofs.mime.parse.read_head.Goals.{then-is_empty-via-else-is_empty+else-is_empty-2+then-not-begins_parameters}
 
 pub returns-in_err-strip_prefix : goal.returns-in_err-strip_prefix
 returns-in_err-strip_prefix c =
-    let k = cut_from _ _ _ _ _ c.without_leading_whitespace.ensures c.without_trailing_whitespace.ensures c.split_tokens.ensures.joined c.split_tokens.ensures.front c.split_tokens.ensures.behind in
-    rw c.from_residual.ensures (no_slash_bytes _ _ _ k c.split_tokens.ensures.text.1 c.in_err-strip_prefix.ensures.cases)
+    let k = cut_from _ _ _ _ _ c.without_leading_whitespace.ensures c.without_trailing_whitespace.ensures
+    c.split_tokens.ensures.joined c.split_tokens.ensures.front c.split_tokens.ensures.behind in
+    rw c.from_residual.ensures
+    (no_slash_bytes _ _ _ k c.split_tokens.ensures.text.1 c.in_err-strip_prefix.ensures.cases)
 
 pub returns-then-is_empty : goal.returns-then-is_empty
 returns-then-is_empty c =
-    let k = cut_from _ _ _ _ _ c.without_leading_whitespace.ensures c.without_trailing_whitespace.ensures c.split_tokens.ensures.joined c.split_tokens.ensures.front c.split_tokens.ensures.behind in
+    let k = cut_from _ _ _ _ _ c.without_leading_whitespace.ensures c.without_trailing_whitespace.ensures
+    c.split_tokens.ensures.joined c.split_tokens.ensures.front c.split_tokens.ensures.behind in
     let e = c.in_ok-strip_prefix.ensures.cases in
     let k = slash_cut _ _ _ _ _ k c.split_tokens.ensures.text.1 e.1 e.2 in
-    let g = cut_again _ _ _ _ c.split_tokens-2.ensures.joined c.split_tokens-2.ensures.front c.split_tokens-2.ensures.behind c.without_leading_whitespace-parameters.ensures in
+    let g = cut_again _ _ _ _ c.split_tokens-2.ensures.joined c.split_tokens-2.ensures.front
+    c.split_tokens-2.ensures.behind c.without_leading_whitespace-parameters.ensures in
     elim c.then-is_empty.branch [
-      | then-is_empty-via-then-is_empty w ↦ no_type _ _ _ k (empty_by c.split_tokens.result.0.now c.is_empty.result c.is_empty.ensures w.if-is_empty.true)
-      | then-is_empty-via-else-is_empty+then-is_empty-2 w ↦ no_subtype _ _ _ _ _ k g (empty_by c.split_tokens-2.result.0.now _ w.is_empty-else-is_empty.ensures w.if-is_empty-2.true)
-      | then-is_empty-via-else-is_empty+else-is_empty-2+then-not-begins_parameters w ↦ no_parameters _ _ _ _ _ k g w.if-not-begins_parameters.ensures
+      | then-is_empty-via-then-is_empty w ↦
+          no_type _ _ _ k (empty_by c.split_tokens.result.0.now c.is_empty.result c.is_empty.ensures w.if-is_empty.true)
+      | then-is_empty-via-else-is_empty+then-is_empty-2 w ↦
+          no_subtype _ _ _ _ _ k g (empty_by c.split_tokens-2.result.0.now _ w.is_empty-else-is_empty.ensures
+          w.if-is_empty-2.true)
+      | then-is_empty-via-else-is_empty+else-is_empty-2+then-not-begins_parameters w ↦
+          no_parameters _ _ _ _ _ k g w.if-not-begins_parameters.ensures
     ]
 
 pub returns : goal.returns
 returns c =
-    let k = cut_from _ _ _ _ _ c.without_leading_whitespace.ensures c.without_trailing_whitespace.ensures c.split_tokens.ensures.joined c.split_tokens.ensures.front c.split_tokens.ensures.behind in
+    let k = cut_from _ _ _ _ _ c.without_leading_whitespace.ensures c.without_trailing_whitespace.ensures
+    c.split_tokens.ensures.joined c.split_tokens.ensures.front c.split_tokens.ensures.behind in
     let e = c.in_ok-strip_prefix.ensures.cases in
     let k = slash_cut _ _ _ _ _ k c.split_tokens.ensures.text.1 e.1 e.2 in
-    let g = cut_again _ _ _ _ c.split_tokens-2.ensures.joined c.split_tokens-2.ensures.front c.split_tokens-2.ensures.behind c.without_leading_whitespace-parameters.ensures in
-    is_head _ _ _ _ _ k g (nonempty_by c.split_tokens.result.0.now c.is_empty.result c.split_tokens.ensures.text.0 c.is_empty.ensures c.if-is_empty.false) (nonempty_by c.split_tokens-2.result.0.now _ c.split_tokens-2.ensures.text.0 c.is_empty-else-is_empty.ensures c.if-is_empty-2.false) c.if-not-begins_parameters.ensures
+    let g = cut_again _ _ _ _ c.split_tokens-2.ensures.joined c.split_tokens-2.ensures.front
+    c.split_tokens-2.ensures.behind c.without_leading_whitespace-parameters.ensures in
+    is_head _ _ _ _ _ k g (nonempty_by c.split_tokens.result.0.now c.is_empty.result c.split_tokens.ensures.text.0
+    c.is_empty.ensures c.if-is_empty.false)
+    (nonempty_by c.split_tokens-2.result.0.now _ c.split_tokens-2.ensures.text.0 c.is_empty-else-is_empty.ensures
+    c.if-is_empty-2.false) c.if-not-begins_parameters.ensures

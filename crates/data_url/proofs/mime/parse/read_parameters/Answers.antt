@@ -1,31 +1,45 @@
 use Rattle.std.proofs.Common.{◌<◌, ◌≤◌, length, map, [], arith, ap, ◌∙◌}
 use Rattle.std.specs.Str.{chars}
 use Rattle.data_url.specs.MimeType.{pair_of}
-use Rattle.data_url.proofs.HeadLemmas.{empty_by, no_semicolon}
-use Rattle.data_url.proofs.KeptLemmas.{keeps_end, keeps_more}
-use Rattle.data_url.proofs.ItemLemmas.{rest_shorter}
-use Rattle.data_url.proofs.ParameterLemmas.{stripped_chars}
+use Rattle.data_url.proofs.mime.Parsing.{empty_by, no_semicolon}
+use Rattle.data_url.proofs.mime.FirstNames.{keeps_end, keeps_more}
+use Rattle.data_url.proofs.mime.Items.{rest_shorter}
+use Rattle.data_url.proofs.mime.Parsing.{stripped_chars}
 use Rattle.data_url.proofs.mime.parse.read_parameters.Goals as goal
 
 pub returns-then-is_empty : goal.returns-then-is_empty
-returns-then-is_empty c = ([], empty_by c.args.text.now c.is_empty.result c.is_empty.ensures c.if-is_empty.true, ap (map (λ p. pair_of p)) c.new.ensures.items)
+returns-then-is_empty c = (
+  [],
+  empty_by c.args.text.now c.is_empty.result c.is_empty.ensures c.if-is_empty.true,
+  ap (map (λ p. pair_of p)) c.new.ensures.items,
+)
 
 pub loop-behind-smaller : goal.loop-behind-smaller
 loop-behind-smaller c =
-    let e = stripped_chars c.loop-behind.rest.now c.in-Some.behind.now 59 _ c.loop-behind.invariant.0 c.in-Some.ensures.cases.1 c.in-Some.ensures.cases.2 in
+    let e = stripped_chars c.loop-behind.rest.now c.in-Some.behind.now 59 _ c.loop-behind.invariant.0
+    c.in-Some.ensures.cases.1 c.in-Some.ensures.cases.2 in
     let p = c.read_parameter-parameter.ensures.parameter in
-    let l : length (chars c.read_parameter-parameter.result.rest.now) ≤ length (chars c.in-Some.behind.now) = rest_shorter _ _ p.0 p.2 in
+    let l : length (chars c.read_parameter-parameter.result.rest.now) ≤ length (chars c.in-Some.behind.now) =
+    rest_shorter _ _ p.0 p.2 in
     let k = ap length e in
-    let g : length (chars c.read_parameter-parameter.result.rest.now) < length (chars c.loop-behind.rest.now) = omega (arith, l, k) in
+    let g : length (chars c.read_parameter-parameter.result.rest.now) < length (chars c.loop-behind.rest.now) =
+    omega (arith, l, k) in
     g
 
 pub loop-behind-preserved : goal.loop-behind-preserved
 loop-behind-preserved c =
-    let e = stripped_chars c.loop-behind.rest.now c.in-Some.behind.now 59 _ c.loop-behind.invariant.0 c.in-Some.ensures.cases.1 c.in-Some.ensures.cases.2 in
-    let p = c.read_parameter-parameter.ensures.parameter in
-    (c.read_parameter-parameter.ensures.text, keeps_more _ _ _ _ _ _ p.0 c.loop-behind.invariant.1 e p.2 (c.in_ok-keep.ensures.pairs p.0 p.1), c.in_ok-keep.ensures.indexed)
+    let e = stripped_chars c.loop-behind.rest.now c.in-Some.behind.now 59 _ c.loop-behind.invariant.0
+    c.in-Some.ensures.cases.1 c.in-Some.ensures.cases.2 in
+    let p = c.read_parameter-parameter.ensures.parameter in (
+      c.read_parameter-parameter.ensures.text,
+      keeps_more _ _ _ _ _ _ p.0 c.loop-behind.invariant.1 e p.2
+          (c.in_ok-keep.ensures.pairs p.0 p.1),
+      c.in_ok-keep.ensures.indexed,
+    )
 
 pub returns : goal.returns
 returns c =
-    let k = keeps_end (chars c.args.text.now) (chars c.loop-behind.rest.now) _ c.loop-behind.invariant.1 (no_semicolon c.loop-behind.rest.now c.loop-behind.invariant.0 c.loop-behind.invariant.1.begins c.in_default.ensures.cases) in
+    let k = keeps_end (chars c.args.text.now) (chars c.loop-behind.rest.now) _ c.loop-behind.invariant.1
+    (no_semicolon c.loop-behind.rest.now c.loop-behind.invariant.0 c.loop-behind.invariant.1.begins
+    c.in_default.ensures.cases) in
     (k.0, k.1, c.into_pairs.ensures ∙ k.2)

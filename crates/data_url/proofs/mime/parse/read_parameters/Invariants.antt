@@ -4,11 +4,12 @@ use denote.Text.{Utf8}
 use denote.Shadow.{shadow}
 use Rattle.std.specs.Str.{chars}
 use Rattle.data_url.specs.Steps.Kept.{IsIndexed, pairs_of}
-use Rattle.data_url.proofs.KeptLemmas.{KeepsOn}
+use Rattle.data_url.proofs.mime.FirstNames.{KeepsOn}
 use Rattle.data_url.proofs.mime.parse.read_parameters.Given as goal
 
 abbrev pub invariant-loop-behind : goal.invariant-loop-behind
-invariant-loop-behind l = shadow (Utf8 l.rest) × KeepsOn (chars l.text) (chars l.rest) (pairs_of l.kept) × IsIndexed l.kept
+invariant-loop-behind l = shadow (Utf8 l.rest) × KeepsOn (chars l.text) (chars l.rest) (pairs_of l.kept)
+    × IsIndexed l.kept
 
 abbrev pub decreases-loop-behind : goal.decreases-loop-behind
 decreases-loop-behind l = length (chars l.rest)

@@ -1,7 +1,7 @@
 use Rattle.std.proofs.Common.{Some, inl, refl}
 use Rattle.std.proofs.lemmas.Str.{IsUtf8-nil}
 use Rattle.std.specs.Str.{chars}
-use Rattle.data_url.proofs.ParameterLemmas.{closed_value_before, not_quote, open_value_before, stripped_chars}
+use Rattle.data_url.proofs.mime.Parsing.{closed_value_before, not_quote, open_value_before, stripped_chars}
 use Rattle.data_url.proofs.mime.parse.read_value.Goals as goal
 
 pub read_plain-requires : goal.read_plain-requires
@@ -9,13 +9,30 @@ read_plain-requires c = not_quote c.args.text.now c.utf8.text c.in_default.ensur
 
 pub returns-in_default-split_quote : goal.returns-in_default-split_quote
 returns-in_default-split_quote c =
-    let e = stripped_chars c.args.text.now c.in-Some.quoted.now 34 _ c.utf8.text c.in-Some.ensures.cases.1 c.in-Some.ensures.cases.2 in
+    let e = stripped_chars c.args.text.now c.in-Some.quoted.now 34 _ c.utf8.text c.in-Some.ensures.cases.1
+    c.in-Some.ensures.cases.2 in
     let h = c.in_default-split_quote.ensures in
-    record { value = (Some h.0, (h.0, refl, h.1), open_value_before (chars c.args.text.now) (chars c.in-Some.quoted.now) h.0 e h.1); text = IsUtf8-nil }
+    record {
+      value = (
+        Some h.0,
+        (h.0, refl, h.1),
+        open_value_before (chars c.args.text.now) (chars c.in-Some.quoted.now)
+            h.0 e h.1,
+      );
+      text = IsUtf8-nil;
+    }
 
 pub returns : goal.returns
 returns c =
-    let e = stripped_chars c.args.text.now c.in-Some.quoted.now 34 _ c.utf8.text c.in-Some.ensures.cases.1 c.in-Some.ensures.cases.2 in
+    let e = stripped_chars c.args.text.now c.in-Some.quoted.now 34 _ c.utf8.text c.in-Some.ensures.cases.1
+    c.in-Some.ensures.cases.2 in
     let h = c.in-Some-split_quote.ensures in
     let s = c.split_semicolon.ensures in
-    record { value = (Some h.value, (h.value, refl, inl h.is_quoted), closed_value_before _ _ _ _ _ _ _ e h.joined h.is_quoted s.joined s.front s.behind); text = s.text.1 }
+    record {
+      value = (
+        Some h.value,
+        (h.value, refl, inl h.is_quoted),
+        closed_value_before _ _ _ _ _ _ _ e h.joined h.is_quoted s.joined s.front s.behind,
+      );
+      text = s.text.1;
+    }

@@ -1,6 +1,6 @@
 -- What is left of the string reads as the whole does.
 use Rattle.std.proofs.Common.{◌≡◌, drop, false}
-use Rattle.data_url.proofs.QuotedLemmas.{quoted_rest}
+use Rattle.data_url.proofs.mime.Quoted.{quoted_rest}
 use Rattle.data_url.proofs.mime.parse.split_quote.Given as goal
 
 abbrev pub invariant-loop-place : goal.invariant-loop-place

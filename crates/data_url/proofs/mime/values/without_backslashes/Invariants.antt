@@ -3,8 +3,9 @@ use Rattle.std.proofs.Common.{◌≡◌, ◌++◌, false}
 use Rattle.std.specs.Str.{IsUtf8, chars}
 use Rattle.std.specs.Str.Iter.{chars_rest}
 use Rattle.data_url.specs.MimeType.{code_points}
-use Rattle.data_url.proofs.QuotedLemmas.{unescaped}
+use Rattle.data_url.proofs.mime.Quoted.{unescaped}
 use Rattle.data_url.proofs.mime.values.without_backslashes.Given as goal
 
 abbrev pub invariant-loop-c : goal.invariant-loop-c
-invariant-loop-c l = IsUtf8 (chars_rest l.c-iterator) × (code_points l.value ++ unescaped l.escaped (chars (chars_rest l.c-iterator)) ≡ unescaped false (chars l.quoted))
+invariant-loop-c l = IsUtf8 (chars_rest l.c-iterator)
+    × (code_points l.value ++ unescaped l.escaped (chars (chars_rest l.c-iterator)) ≡ unescaped false (chars l.quoted))

@@ -1,6 +1,6 @@
 use Rattle.std.proofs.Common.{refl}
 use Rattle.data_url.specs.Url.{in_fragment_set, in_path_set, in_query_set}
-use Rattle.data_url.proofs.RowLemmas.{kept_where}
+use Rattle.data_url.proofs.percent.Encoding.{kept_where}
 use Rattle.data_url.proofs.percent.rows.others.Goals as goal
 
 pub returns-in-Path : goal.returns-in-Path

@@ -1,5 +1,5 @@
 use Rattle.std.proofs.Common.{arith}
-use Rattle.data_url.proofs.RowLemmas.{fragment_row, path_row, query_row}
+use Rattle.data_url.proofs.percent.Encoding.{fragment_row, path_row, query_row}
 use Rattle.data_url.proofs.percent.rows.row.Goals as goal
 
 pub returns-in-Path : goal.returns-in-Path

@@ -1,5 +1,5 @@
 use Rattle.std.proofs.Common.{ap, ◌∙◌, List, ℕ, Some, arith}
-use Rattle.data_url.proofs.NextLemmas.{ended_of, no_fragment, some_fragment}
+use Rattle.data_url.proofs.escapes.Walking.{ended_of, no_fragment, some_fragment}
 use Rattle.data_url.proofs.escapes.cursor.Cursor.fragment.Goals as goal
 
 pub returns-then-self-len : goal.returns-then-self-len
@@ -8,4 +8,6 @@ returns-then-self-len c = no_fragment c.requires.knows (c.if-self-len.true ∙ c
 pub returns : goal.returns
 returns c =
     let n = c.len.ensures in
-    ap (λ (s : List ℕ). Some s) c.behind.ensures ∙ some_fragment c.requires.knows (ended_of c.requires.knows c.requires.ended) (λ e. c.if-self-len.false (omega arith))
+    ap (λ (s : List ℕ). Some s) c.behind.ensures
+    ∙ some_fragment c.requires.knows (ended_of c.requires.knows c.requires.ended)
+    (λ e. c.if-self-len.false (omega arith))

@@ -2,7 +2,7 @@
 use Rattle.std.proofs.Common.{◌≤◌, length}
 use Rattle.data_url.specs.Steps.Walk.{Gathers, IsPlain, KnowsAhead}
 use Rattle.data_url.specs.Pieces.{has_ended, text_of}
-use Rattle.data_url.proofs.GatherLemmas.{measure}
+use Rattle.data_url.proofs.escapes.Walking.{measure}
 use Rattle.data_url.proofs.escapes.cursor.Cursor.gather.Given as goal
 
 abbrev pub invariant-loop-len : goal.invariant-loop-len

@@ -1,8 +1,8 @@
 use Rattle.std.proofs.Common.{refl, arith}
 use Rattle.data_url.specs.declared.escapes.cursor.Ahead.TheVariants.{Escape}
-use Rattle.data_url.proofs.GatherLemmas.{gathers_byte}
-use Rattle.data_url.proofs.NextLemmas.{ahead_at}
-use Rattle.data_url.proofs.ReadLemmas.{reads_escape}
+use Rattle.data_url.proofs.escapes.Walking.{gathers_byte}
+use Rattle.data_url.proofs.escapes.Walking.{ahead_at}
+use Rattle.data_url.proofs.escapes.Reading.{reads_escape}
 use Rattle.data_url.proofs.escapes.cursor.Cursor.gather_known.Goals as goal
 
 pub returns-in-Escape-clause-gathers : goal.returns-in-Escape-clause-gathers

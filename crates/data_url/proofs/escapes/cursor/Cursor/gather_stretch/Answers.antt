@@ -1,12 +1,13 @@
 use Rattle.std.proofs.Common.{refl, arith}
-use Rattle.data_url.proofs.GatherLemmas.{gathers_block, gathers_slice, gathers_then, may_at, may_behind}
-use Rattle.data_url.proofs.WindowLemmas.{found, found_none, has_marks}
+use Rattle.data_url.proofs.escapes.Walking.{gathers_block, gathers_slice, gathers_then, may_at, may_behind}
+use Rattle.data_url.proofs.escapes.Marks.{found, found_none, has_marks}
 use Rattle.data_url.proofs.escapes.cursor.Cursor.gather_stretch.Goals as goal
 
 pub returns-then-marks-eq0-clause-gathers : goal.returns-then-marks-eq0-clause-gathers
 returns-then-marks-eq0-clause-gathers c =
     let none = found_none (has_marks c.requires.may.looking (omega arith) refl) c.if-marks-eq0.true in
-    gathers_block c.requires.may c.requires.here none (record { text_stays = refl; looks_grow = omega arith }) refl c.copy.ensures
+    gathers_block c.requires.may c.requires.here none (record { text_stays = refl; looks_grow = omega arith }) refl
+    c.copy.ensures
 
 pub returns-then-marks-eq0-clause-goes : goal.returns-then-marks-eq0-clause-goes
 returns-then-marks-eq0-clause-goes c =
@@ -46,4 +47,5 @@ gather_stop-requires-clause-marked c =
 pub returns-clause-gathers : goal.returns-clause-gathers
 returns-clause-gathers c =
     let f = found (has_marks c.requires.may.looking (omega arith) refl) c.if-marks-eq0.false refl in
-    gathers_then (gathers_slice _ (record { text_stays = refl; looks_grow = omega arith }) refl f.mark.within f.mark.clear c.copy-2.ensures) c.gather_stop.ensures.gathers
+    gathers_then (gathers_slice _ (record { text_stays = refl; looks_grow = omega arith }) refl f.mark.within
+    f.mark.clear c.copy-2.ensures) c.gather_stop.ensures.gathers

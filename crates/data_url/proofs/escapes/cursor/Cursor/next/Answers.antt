@@ -1,6 +1,6 @@
 use Rattle.std.proofs.Common.{◌∙◌}
 use Rattle.data_url.specs.declared.escapes.cursor.Ahead.TheVariants.{BehindEscape, Escape}
-use Rattle.data_url.proofs.NextLemmas.{ahead_at, ahead_is, byte_behind, byte_known, knows_on, moved_looking}
+use Rattle.data_url.proofs.escapes.Walking.{ahead_at, ahead_is, byte_behind, byte_known, knows_on, moved_looking}
 use Rattle.data_url.proofs.escapes.cursor.Cursor.next.Goals as goal
 
 pub returns-in-Escape-clause-goes : goal.returns-in-Escape-clause-goes
@@ -18,4 +18,6 @@ returns-in-Some-clause-goes c = byte_behind c.in-Some.ensures.on c.in-Some.ensur
 
 pub returns-in-Some-clause-knows : goal.returns-in-Some-clause-knows
 returns-in-Some-clause-knows c =
-    knows_on c.requires (byte_behind c.in-Some.ensures.on c.in-Some.ensures.found.0) (ahead_is c.escape_here.new.self BehindEscape (c.in-Some.ensures.ahead ∙ c.in-BehindEscape.is) c.in-Some.ensures.found.1)
+    knows_on c.requires (byte_behind c.in-Some.ensures.on c.in-Some.ensures.found.0)
+    (ahead_is c.escape_here.new.self BehindEscape (c.in-Some.ensures.ahead ∙ c.in-BehindEscape.is)
+    c.in-Some.ensures.found.1)

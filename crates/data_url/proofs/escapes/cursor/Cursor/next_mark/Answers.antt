@@ -1,13 +1,15 @@
 use Rattle.std.proofs.Common.{ℕ, ap, arith, length, refl, subst, sym, ◌∙◌}
 use Rattle.data_url.specs.Pieces.{text_of}
 use Rattle.data_url.specs.Steps.Walk.{Looking}
-use Rattle.data_url.proofs.WindowLemmas.{block_marks, clear_in, clear_then, found, found_none, has_marks, looked_to, looking_clear, mark_in, mark_then, stays_here, stays_then}
+use Rattle.data_url.proofs.escapes.Marks.{block_marks, clear_in, clear_then, found, found_none, has_marks, looked_to}
+use Rattle.data_url.proofs.escapes.Marks.{looking_clear, mark_in, mark_then, stays_here, stays_then}
 use Rattle.data_url.proofs.escapes.cursor.Cursor.next_mark.Goals as goal
 use Rattle.data_url.proofs.escapes.cursor.Cursor.next_mark.Goals.{then-place-self+else-marks-ne0, else-place-self}
 
 pub overflow_add-result : goal.overflow_add-result
 overflow_add-result c =
-    let w = (found (has_marks c.requires (omega (arith, c.if-place-self.true)) refl) c.if-marks-ne0.true refl).mark.within in
+    let w = (found (has_marks c.requires (omega (arith, c.if-place-self.true)) refl) c.if-marks-ne0.true
+    refl).mark.within in
     omega (arith, w, c.len-len.ensures)
 
 pub returns-then-marks-ne0-clause-looking : goal.returns-then-marks-ne0-clause-looking
@@ -25,7 +27,14 @@ loop-place-init c = elim c.if-place-self.branch [
       let l = w.if-place-self.true in
       let none = found_none (has_marks c.requires (omega (arith, l)) refl) w.if-marks-ne0.false in
       let to = looked_to c.if-place-self.place c.requires (omega (arith, l)) w.place-is none in
-      record { looking = to.0; stays = stays_here c.args.self.now; unseen = omega (arith, w.place-is); forward = omega (arith, l, w.place-is); clear = to.1 }
+      record {
+        looking = to.0;
+        stays = stays_here c.args.self.now;
+        unseen = omega (arith, w.place-is);
+        forward =
+            omega (arith, l, w.place-is);
+        clear = to.1;
+      }
   | else-place-self w ↦
       let P : ℕ → Type 0 = λ p. Looking c.args.self.now p 0 in
       record {

@@ -1,7 +1,7 @@
 -- Tabs and newlines were passed, and a stretch was found up to the place where the search goes on.
 use Rattle.std.proofs.Common.{◌-◌, length}
 use Rattle.data_url.specs.Pieces.{text_of}
-use Rattle.data_url.proofs.NextLemmas.{Searching}
+use Rattle.data_url.proofs.escapes.Walking.{Searching}
 use Rattle.data_url.proofs.escapes.cursor.Cursor.next_stretch.Given as goal
 
 abbrev pub invariant-loop-from : goal.invariant-loop-from

@@ -1,6 +1,8 @@
-use Rattle.data_url.proofs.TextBlockLemmas.{copied_wide}
+use Rattle.data_url.proofs.escapes.Marks.{copied_wide}
 use Rattle.data_url.proofs.escapes.source.Source.copy.Goals as goal
 
 pub returns-then-wide : goal.returns-then-wide
 returns-then-wide c =
-    copied_wide c.args.room.now c.as_bytes-bytes.result.now c.args.self.now.text.now c.args.len c.args.width c.args.start c.told-room c.requires.room c.requires.short (c.requires.wide c.if-wide.true) c.as_bytes-bytes.ensures.value
+    copied_wide c.args.room.now c.as_bytes-bytes.result.now c.args.self.now.text.now c.args.len c.args.width
+    c.args.start c.told-room c.requires.room c.requires.short (c.requires.wide c.if-wide.true)
+    c.as_bytes-bytes.ensures.value

@@ -1,5 +1,5 @@
 use Rattle.std.proofs.Common.{refl, arith}
-use Rattle.data_url.proofs.DigitLemmas.{byte_of, digit_further, found_here, none_here, none_left}
+use Rattle.data_url.proofs.escapes.Hexadecimal.{byte_of, digit_further, found_here, none_here, none_left}
 use Rattle.data_url.proofs.escapes.source.Source.digit.Goals as goal
 
 pub returns-then-place-len-clause-found : goal.returns-then-place-len-clause-found
@@ -13,7 +13,8 @@ returns-then-value-lt-PASSED-clause-found c =
 pub returns-then-value-eq-PASSED-clause-found : goal.returns-then-value-eq-PASSED-clause-found
 returns-then-value-eq-PASSED-clause-found c =
     let at = byte_of refl (omega arith) c.look.ensures.byte (omega arith) in
-    digit_further _ _ _ c.look.ensures.text at c.digit_code-value.ensures c.if-value-eq-PASSED.true c.look.ensures.looks c.digit_past.ensures.found
+    digit_further _ _ _ c.look.ensures.text at c.digit_code-value.ensures c.if-value-eq-PASSED.true c.look.ensures.looks
+    c.digit_past.ensures.found
 
 pub returns-else-value-eq-PASSED-clause-found : goal.returns-else-value-eq-PASSED-clause-found
 returns-else-value-eq-PASSED-clause-found c =

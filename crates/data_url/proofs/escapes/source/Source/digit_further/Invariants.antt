@@ -1,6 +1,6 @@
 -- What was passed so far are tabs and newlines.
 use Rattle.std.proofs.Common.{◌≡◌, ◌≤◌, length}
-use Rattle.data_url.proofs.DigitLemmas.{Passed}
+use Rattle.data_url.proofs.escapes.Hexadecimal.{Passed}
 use Rattle.data_url.proofs.escapes.source.Source.digit_further.Given as goal
 
 abbrev pub invariant-loop-at : goal.invariant-loop-at

@@ -1,14 +1,18 @@
 use Rattle.std.proofs.Common.{take, refl, sym, ◌∙◌, ◌+◌, arith, length-take}
 use Rattle.std.proofs.lemmas.Result.{err_from_is_err_and}
 use Rattle.std.specs.Fn.{CalledAt}
-use Rattle.data_url.proofs.ByteLemmas.{feeds_none}
-use Rattle.data_url.proofs.DecoderLemmas.{feeds_stop}
-use Rattle.data_url.proofs.HoldLemmas.{block_feeds}
-use Rattle.data_url.proofs.PaddingLemmas.{every_list_all}
+use Rattle.data_url.proofs.forgiving_base64.Steps.{feeds_none}
+use Rattle.data_url.proofs.forgiving_base64.Steps.{feeds_stop}
+use Rattle.data_url.proofs.forgiving_base64.Holding.{block_feeds}
+use Rattle.data_url.proofs.forgiving_base64.Padding.{every_list_all}
 use Rattle.data_url.proofs.forgiving_base64.decode.Decoder.feed_blocks.Goals as goal
 
 pub returns-then-not-is_between_groups-clause-fed : goal.returns-then-not-is_between_groups-clause-fed
-returns-then-not-is_between_groups-clause-fed g c = let d = c.args.self.now in (omega arith, feeds_none (CalledAt g.F.FnMut) (every_list_all (take d.pending d.symbols) d.pending_symbols) (omega (arith, length-take d.pending d.symbols, d.few_pending)) d.few_padding c.requires.going refl)
+returns-then-not-is_between_groups-clause-fed g c = let d = c.args.self.now in (
+  omega arith,
+  feeds_none (CalledAt g.F.FnMut) (every_list_all (take d.pending d.symbols) d.pending_symbols)
+      (omega (arith, length-take d.pending d.symbols, d.few_pending)) d.few_padding c.requires.going refl,
+)
 
 pub loop-at-init : goal.loop-at-init
 loop-at-init g c =
@@ -17,7 +21,8 @@ loop-at-init g c =
       callable = c.requires.callable;
       within = omega arith;
       between = c.is_between_groups.ensures c.if-not-is_between_groups.false;
-      fed = feeds_none (CalledAt g.F.FnMut) (every_list_all (take d.pending d.symbols) d.pending_symbols) (omega (arith, length-take d.pending d.symbols, d.few_pending)) d.few_padding c.requires.going refl;
+      fed = feeds_none (CalledAt g.F.FnMut) (every_list_all (take d.pending d.symbols) d.pending_symbols)
+          (omega (arith, length-take d.pending d.symbols, d.few_pending)) d.few_padding c.requires.going refl;
     }
 
 pub returns-in_err-write-clause-fed : goal.returns-in_err-write-clause-fed
@@ -26,7 +31,8 @@ returns-in_err-write-clause-fed g c =
     let i = c.loop-at.invariant in
     rw (p.1, p.2)
     (feeds_stop (CalledAt g.F.FnMut) c.args.text.now (c.loop-at.at + 64)
-    (block_feeds (CalledAt g.F.FnMut) c.args.text.now c.loop-at.at c.type_inv.text i.between (omega arith) (sym c.if-is_whole.true ∙ c.is_whole.ensures) c.decode.ensures i.fed c.in_err-write.ensures.wrote))
+    (block_feeds (CalledAt g.F.FnMut) c.args.text.now c.loop-at.at c.type_inv.text i.between (omega arith)
+    (sym c.if-is_whole.true ∙ c.is_whole.ensures) c.decode.ensures i.fed c.in_err-write.ensures.wrote))
 
 pub loop-at-preserved : goal.loop-at-preserved
 loop-at-preserved g c =
@@ -36,5 +42,6 @@ loop-at-preserved g c =
       callable = c.in_ok-write.ensures.callable;
       within = omega arith;
       between = (w.symbols_stay ∙ i.between.0, w.padding_stays ∙ i.between.1);
-      fed = block_feeds (CalledAt g.F.FnMut) c.args.text.now c.loop-at.at c.type_inv.text i.between (omega arith) (sym c.if-is_whole.true ∙ c.is_whole.ensures) c.decode.ensures i.fed w;
+      fed = block_feeds (CalledAt g.F.FnMut) c.args.text.now c.loop-at.at c.type_inv.text i.between (omega arith)
+          (sym c.if-is_whole.true ∙ c.is_whole.ensures) c.decode.ensures i.fed w;
     }

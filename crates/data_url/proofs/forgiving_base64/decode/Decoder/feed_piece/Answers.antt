@@ -3,7 +3,8 @@ use Rattle.std.proofs.lemmas.Result.{err_from_is_err_and}
 use Rattle.std.specs.Fn.{CalledAt}
 use Rattle.data_url.specs.Decoder.{state_of}
 use Rattle.data_url.specs.Steps.Waiting.{bytes_of}
-use Rattle.data_url.proofs.HoldLemmas.{byte_at, fault_feeds, flush_refused, flushed_feeds, gains_holds, stays_holds}
+use Rattle.data_url.proofs.forgiving_base64.Holding.{byte_at, fault_feeds, flush_refused, flushed_feeds, gains_holds}
+use Rattle.data_url.proofs.forgiving_base64.Holding.{stays_holds}
 use Rattle.data_url.proofs.forgiving_base64.decode.Decoder.feed_piece.Goals as goal
 
 pub loop-at-preserved : goal.loop-at-preserved
@@ -15,7 +16,8 @@ loop-at-preserved g c = record {
 
 pub returns-in_err-flush-in-Err-clause-fed : goal.returns-in_err-flush-in-Err-clause-fed
 returns-in_err-flush-in-Err-clause-fed g c =
-    let p = err_from_is_err_and c.from_residual-in_err-flush-in-Err.result c.from_residual-in_err-flush-in-Err.ensures.1 in
+    let p = err_from_is_err_and c.from_residual-in_err-flush-in-Err.result
+    c.from_residual-in_err-flush-in-Err.ensures.1 in
     rw (p.1, p.2)
     (flush_refused (CalledAt g.F.FnMut) c.args.text.now c.loop-at.at (bytes_of c.take_some.new.piece)
     (stays_holds (CalledAt g.F.FnMut) c.loop-at.invariant.holds c.in-Err.ensures.0 c.in-Err.ensures.1)
@@ -23,14 +25,21 @@ returns-in_err-flush-in-Err-clause-fed g c =
 
 pub returns-in-Err-clause-fed : goal.returns-in-Err-clause-fed
 returns-in-Err-clause-fed g c =
-    fault_feeds (CalledAt g.F.FnMut) (state_of c.flush.new.self) c.args.text.now (bytes_of c.loop-at.piece) (bytes_of c.take_some.new.piece) c.loop-at.at _ c.loop-at-test.true
+    fault_feeds (CalledAt g.F.FnMut) (state_of c.flush.new.self) c.args.text.now (bytes_of c.loop-at.piece)
+    (bytes_of c.take_some.new.piece) c.loop-at.at _ c.loop-at-test.true
     (byte_at c.args.text.now c.loop-at.at c.loop-at-test.true)
-    c.loop-at.invariant.holds c.in-Err.ensures.0 c.in-Err.ensures.1 c.in_ok-flush-in-Err.ensures.flushed c.refuse.ensures.state (ap Err c.refuse.ensures.kind)
+    c.loop-at.invariant.holds c.in-Err.ensures.0 c.in-Err.ensures.1 c.in_ok-flush-in-Err.ensures.flushed
+    c.refuse.ensures.state (ap Err c.refuse.ensures.kind)
 
 pub returns-in_err-flush-clause-fed : goal.returns-in_err-flush-clause-fed
 returns-in_err-flush-clause-fed g c =
     let p = err_from_is_err_and c.from_residual-in_err-flush.result c.from_residual-in_err-flush.ensures.1 in
-    rw (p.1, p.2) (flush_refused (CalledAt g.F.FnMut) c.args.text.now c.loop-at.at (bytes_of c.loop-at.piece) c.loop-at.invariant.holds c.in_err-flush.ensures.flushed)
+    rw (p.1, p.2) (flush_refused (CalledAt g.F.FnMut) c.args.text.now c.loop-at.at (bytes_of c.loop-at.piece)
+    c.loop-at.invariant.holds c.in_err-flush.ensures.flushed)
 
 pub returns-clause-fed : goal.returns-clause-fed
-returns-clause-fed g c = (c.loop-at.invariant.within, flushed_feeds (CalledAt g.F.FnMut) (bytes_of c.loop-at.piece) c.loop-at.invariant.holds c.in_ok-flush.ensures.flushed)
+returns-clause-fed g c = (
+  c.loop-at.invariant.within,
+  flushed_feeds (CalledAt g.F.FnMut) (bytes_of c.loop-at.piece) c.loop-at.invariant.holds
+      c.in_ok-flush.ensures.flushed,
+)

@@ -13,7 +13,8 @@ invariant-loop-at g l = record {
   within : l.at ≤ length l.text;
   few : l.symbols.len < 64;
   padding : (state_of l.self).padding ≡ 0;
-  holds : Holds (CalledAt g.F.FnMut) (state_of l.fn.self) (take l.at l.text) (groups (map symbol_value (symbols_of l.symbols))) (waiting (state_of l.self) (symbols_of l.symbols));
+  holds : Holds (CalledAt g.F.FnMut) (state_of l.fn.self) (take l.at l.text)
+      (groups (map symbol_value (symbols_of l.symbols))) (waiting (state_of l.self) (symbols_of l.symbols));
 }
 
 abbrev pub decreases-loop-at : goal.decreases-loop-at

@@ -1,4 +1,4 @@
-use Rattle.data_url.proofs.SymbolLemmas.{three_last}
+use Rattle.data_url.proofs.forgiving_base64.Rows.{three_last}
 use Rattle.data_url.proofs.forgiving_base64.symbols.Symbols.last.Goals as goal
 
 pub returns : goal.returns

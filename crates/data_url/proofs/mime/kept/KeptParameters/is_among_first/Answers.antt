@@ -5,12 +5,15 @@ use Rattle.std.specs.Str.{chars}
 use Rattle.data_url.specs.Mime.{Pair, is_lowercase_name}
 use Rattle.data_url.specs.MimeType.{pair_of}
 use Rattle.data_url.specs.declared.mime.kept.TheConstants.{LOOKED_THROUGH}
-use Rattle.data_url.proofs.FirstLemmas.{among_first}
-use Rattle.data_url.proofs.IndexLemmas.{lower_first}
+use Rattle.data_url.proofs.mime.FirstNames.{among_first}
+use Rattle.data_url.proofs.mime.FirstNames.{lower_first}
 use Rattle.data_url.proofs.mime.kept.KeptParameters.is_among_first.Goals as goal
 
 pub any_named-requires-clause-pairs : goal.any_named-requires-clause-pairs
-any_named-requires-clause-pairs c = lower_first c.deref.result.now c.min.result (ap (λ s. list_all (λ (p : Pair). is_lowercase_name p.0) (map (λ p. pair_of p) s)) c.deref.ensures.value ∙ c.requires.indexed.lower)
+any_named-requires-clause-pairs c =
+    lower_first c.deref.result.now c.min.result
+    (ap (λ s. list_all (λ (p : Pair). is_lowercase_name p.0) (map (λ p. pair_of p) s)) c.deref.ensures.value
+    ∙ c.requires.indexed.lower)
 
 pub returns : goal.returns
 returns c =

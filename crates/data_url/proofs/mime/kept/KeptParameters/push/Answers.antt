@@ -7,10 +7,12 @@ use Rattle.data_url.specs.MimeType.{pair_of}
 use Rattle.data_url.specs.Steps.Kept.{HasLaterNames, pairs_of}
 use Rattle.data_url.specs.declared.mime.kept.KeptParameters.{KeptParameters}
 use Rattle.data_url.specs.declared.mime.kept.TheConstants.{LOOKED_THROUGH}
-use Rattle.data_url.proofs.IndexLemmas.{few_names, first_names, indexed_more, later_names, lowercase_bytes, named_later, set_knows, unless_known, unless_new}
-use Rattle.data_url.proofs.KeptLemmas.{none_added, one_added}
+use Rattle.data_url.proofs.mime.FirstNames.{few_names, first_names, indexed_more, later_names, lowercase_bytes}
+use Rattle.data_url.proofs.mime.FirstNames.{named_later, set_knows, unless_known, unless_new}
+use Rattle.data_url.proofs.mime.FirstNames.{none_added, one_added}
 use Rattle.data_url.proofs.mime.kept.KeptParameters.push.Goals as goal
-use Rattle.data_url.proofs.mime.kept.KeptParameters.push.Goals.{else-len-ge-LOOKED_THROUGH-via-then-len-ge-LOOKED_THROUGH+in_ok-clone+in_ok-insert+else-not-branch, else-len-ge-LOOKED_THROUGH-via-else-len-ge-LOOKED_THROUGH}
+use Rattle.data_url.proofs.mime.kept.KeptParameters.push.Goals.{else-len-ge-LOOKED_THROUGH-via-then-len-ge-LOOKED_THROUGH+in_ok-clone+in_ok-insert+else-not-branch}
+use Rattle.data_url.proofs.mime.kept.KeptParameters.push.Goals.{else-len-ge-LOOKED_THROUGH-via-else-len-ge-LOOKED_THROUGH}
 
 -- the pair is new: it stands behind the others, and its name in the set where it is a later one
 record IsPushed (old new : KeptParameters) (p : Pair) : Type 0 where
@@ -18,7 +20,8 @@ record IsPushed (old new : KeptParameters) (p : Pair) : Type 0 where
   pub pairs : new.pairs ≡ old.pairs
   pub later : HasLaterNames new.later_names (pairs_of old ++ (p ∷ []))
 
-pushed : (c : goal.In_ok-push) → IsPushed c.args.self.now c.else-len-ge-LOOKED_THROUGH.self (pair_of (c.args.name, c.args.value))
+pushed : (c : goal.In_ok-push) → IsPushed c.args.self.now c.else-len-ge-LOOKED_THROUGH.self
+    (pair_of (c.args.name, c.args.value))
 pushed c =
     let old = c.args.self.now in
     let p = pair_of (c.args.name, c.args.value) in
@@ -27,22 +30,27 @@ pushed c =
       | else-len-ge-LOOKED_THROUGH-via-then-len-ge-LOOKED_THROUGH+in_ok-clone+in_ok-insert+else-not-branch w ↦
           let l : LOOKED_THROUGH ≤ length (pairs_of old) = omega (arith, len) in
           let e = w.in_ok-clone.ensures.cases ∙ lowercase_bytes c.args.name c.requires.lower in
-          let k = set_knows old.later_names (pairs_of old) p w.in_ok-clone.field-0 w.in_ok-insert.field-0 c.requires.indexed.later e c.requires.new w.in_ok-insert.ensures.added in
+          let k = set_knows old.later_names (pairs_of old) p w.in_ok-clone.field-0 w.in_ok-insert.field-0
+          c.requires.indexed.later e c.requires.new w.in_ok-insert.ensures.added in
           record {
             is_new = not-true _ (sym k ∙ w.if-not-branch.false);
             pairs = ap (λ k. k.pairs) w.self-is;
-            later = λ n. ap (λ k. contains_text k.later_names n) w.self-is ∙ later_names old.later_names w.insert.new.self (pairs_of old) p w.in_ok-clone.field-0 l c.requires.indexed.later e w.in_ok-insert.ensures.updates n;
+            later = λ n. ap (λ k. contains_text k.later_names n) w.self-is
+                ∙ later_names old.later_names w.insert.new.self (pairs_of old) p w.in_ok-clone.field-0 l
+                c.requires.indexed.later e w.in_ok-insert.ensures.updates n;
           }
       | else-len-ge-LOOKED_THROUGH-via-else-len-ge-LOOKED_THROUGH w ↦
           let l : length (pairs_of old) < LOOKED_THROUGH = omega (arith, len) in
           record {
             is_new = named_later p.0 (pairs_of old) c.requires.new ∙ few_names p.0 (pairs_of old) (omega arith);
             pairs = ap (λ k. k.pairs) w.self-is;
-            later = λ n. ap (λ k. contains_text k.later_names n) w.self-is ∙ first_names old.later_names (pairs_of old) p l c.requires.indexed.later n;
+            later = λ n. ap (λ k. contains_text k.later_names n) w.self-is
+                ∙ first_names old.later_names (pairs_of old) p l c.requires.indexed.later n;
           }
     ]
 
-pushed_pairs : (c : goal.In_ok-push) → c.push.new.self.items ≡ c.args.self.now.pairs.items ++ ((c.args.name, c.args.value) ∷ [])
+pushed_pairs : (c : goal.In_ok-push)
+    → c.push.new.self.items ≡ c.args.self.now.pairs.items ++ ((c.args.name, c.args.value) ∷ [])
 pushed_pairs c = c.in_ok-push.ensures.items ∙ ap (λ v. v.items ++ ((c.args.name, c.args.value) ∷ [])) (pushed c).pairs
 
 pub returns-then-not-branch-clause-pairs : goal.returns-then-not-branch-clause-pairs
@@ -50,11 +58,15 @@ returns-then-not-branch-clause-pairs c =
     let old = c.args.self.now in
     let p = pair_of (c.args.name, c.args.value) in
     let e = c.in_ok-clone.ensures.cases ∙ lowercase_bytes c.args.name c.requires.lower in
-    let k = set_knows old.later_names (pairs_of old) p c.in_ok-clone.field-0 c.in_ok-insert.field-0 c.requires.indexed.later e c.requires.new c.in_ok-insert.ensures.added in
+    let k = set_knows old.later_names (pairs_of old) p c.in_ok-clone.field-0 c.in_ok-insert.field-0
+    c.requires.indexed.later e c.requires.new c.in_ok-insert.ensures.added in
     none_added old.pairs.items _ (unless_known (pairs_of old) p (not-false _ (sym k ∙ c.if-not-branch.true)))
 
 pub returns-clause-pairs : goal.returns-clause-pairs
-returns-clause-pairs c = one_added c.args.self.now.pairs.items c.push.new.self.items c.args.name c.args.value _ (pushed_pairs c) (unless_new (pairs_of c.args.self.now) (pair_of (c.args.name, c.args.value)) (pushed c).is_new)
+returns-clause-pairs c = one_added c.args.self.now.pairs.items c.push.new.self.items c.args.name c.args.value _
+    (pushed_pairs c) (unless_new (pairs_of c.args.self.now) (pair_of (c.args.name, c.args.value)) (pushed c).is_new)
 
 pub returns-clause-indexed : goal.returns-clause-indexed
-returns-clause-indexed c = indexed_more c.args.self.now _ (pair_of (c.args.name, c.args.value)) c.requires.indexed c.requires.lower (one_added c.args.self.now.pairs.items c.push.new.self.items c.args.name c.args.value _ (pushed_pairs c) refl) (pushed c).later
+returns-clause-indexed c = indexed_more c.args.self.now _ (pair_of (c.args.name, c.args.value)) c.requires.indexed
+    c.requires.lower (one_added c.args.self.now.pairs.items c.push.new.self.items c.args.name c.args.value _
+    (pushed_pairs c) refl) (pushed c).later

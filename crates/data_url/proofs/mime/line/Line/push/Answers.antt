@@ -1,4 +1,4 @@
-use Rattle.data_url.proofs.PrintLemmas.{added_held, held_more}
+use Rattle.data_url.proofs.mime.Printing.{added_held, held_more}
 use Rattle.data_url.proofs.mime.line.Line.push.Goals as goal
 
 pub returns-clause-added : goal.returns-clause-added

@@ -1,0 +1,30 @@
+-- What callers of the library may cite, and nothing else of its proofs. docs/CALLING.md says what it is for.
+pub use Rattle.data_url.proofs.body.Decoding.{EndsWith, body_answer, body_ends, body_error, body_extends, body_fault}
+pub use Rattle.data_url.proofs.body.Decoding.{body_good, body_keeps, body_reads, body_shorter, body_within_tail}
+pub use Rattle.data_url.proofs.body.Decoding.{body_within_text, run_counts, run_counts_up_to, run_ends, run_extends}
+unfoldable pub use Rattle.data_url.proofs.examples.Literals.{on_literals}
+pub use Rattle.data_url.proofs.forgiving_base64.Groups.{groups_length, two_feeds}
+unfoldable pub use Rattle.data_url.proofs.forgiving_base64.Padding.{fault_byte}
+pub use Rattle.data_url.proofs.forgiving_base64.Padding.{after_groups-append, classes, done_stays, every_after}
+pub use Rattle.data_url.proofs.forgiving_base64.Padding.{every_list_all, fault-append, fault-append_some}
+pub use Rattle.data_url.proofs.forgiving_base64.Padding.{fault_invalid, fault_some, filter_every, kind_fault}
+pub use Rattle.data_url.proofs.forgiving_base64.Padding.{kind_stays, length-after_groups, none_fault, space_alone}
+pub use Rattle.data_url.proofs.forgiving_base64.Padding.{symbol_alone}
+pub use Rattle.data_url.proofs.forgiving_base64.Steps.{after_few, bool_at_true, decoded_left, done_more, fault_behind}
+pub use Rattle.data_url.proofs.forgiving_base64.Steps.{fault_more, fault_other, fault_space, fault_symbol, feeds_err}
+pub use Rattle.data_url.proofs.forgiving_base64.Steps.{feeds_none, feeds_then, feeds_took, groups_few, has_pad}
+pub use Rattle.data_url.proofs.forgiving_base64.Steps.{kind_left, left_more, padding_more, symbols_more}
+pub use Rattle.data_url.proofs.forgiving_base64.WholeTexts.{decodes_finished, decodes_keeps, decodes_reads}
+pub use Rattle.data_url.proofs.forgiving_base64.WholeTexts.{decodes_refused, fed_nothing, run_keeps, run_reads}
+pub use Rattle.data_url.proofs.header.Stages.{bytes_by_place, bytes_trimmed, is_accepted, lacks_comma, rest_bytes}
+pub use Rattle.data_url.proofs.header.Stages.{scheme_has_no_comma, stages_accepted, stages_no_comma, stages_no_scheme}
+pub use Rattle.data_url.proofs.header.Suffix.{suffix_stop}
+pub use Rattle.data_url.proofs.mime.FirstNames.{test_from_different}
+pub use Rattle.data_url.proofs.mime.Items.{every_from_all}
+pub use Rattle.data_url.proofs.percent.Encoding.{IsBytes, ascii_all, decoded_keeps, two_digits}
+pub use Rattle.data_url.proofs.runs.Runs.{match_alike, match_at_none, match_map, match_none, match_some, prefix_behind}
+pub use Rattle.data_url.proofs.runs.Runs.{prefix_none, prefix_trans}
+pub use Rattle.data_url.proofs.texts.Bytes.{before-append, before_all, before_at, behind-append, behind-dropped_none}
+pub use Rattle.data_url.proofs.texts.Bytes.{behind_at, behind_nil, behind_none, behind_other, dropped_around}
+pub use Rattle.data_url.proofs.texts.Bytes.{dropped_keeps, dropped_nil, dropped_passes, fragment_dropped, is_cut, lacks}
+pub use Rattle.data_url.proofs.texts.Bytes.{without_tabs_and_newlines-append}

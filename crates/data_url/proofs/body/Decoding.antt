@@ -1,0 +1,609 @@
+-- A closure or a decoder that takes a body piece by piece. For `decode_plain`, `decode_base64` and their callers.
+use Rattle.std.proofs.Common.{◌≡◌, ℕ, ◌+◌, ◌≤◌, List, [], ◌∷◌, ◌++◌, Bor, length, Option, None, Some, Result, Ok, Err}
+use Rattle.std.proofs.Common.{refl, sym, ap, ◌∙◌, subst, append_assoc, arith, length-append, suc, Bool, true, false}
+use Rattle.std.proofs.Common.{not, cond, ◌*◌, ◌-◌, min, filter, length-drop, length-take}
+use Rattle.std.specs.Prelude.{MatchOption, ◌==◌, MatchBool, IsErr}
+use Rattle.std.proofs.lemmas.List.{append-nil, length-map}
+use Rattle.data_url.specs.Errors.{IsRefused, IsBodyErrorOf}
+use Rattle.data_url.specs.Run.{Call, IsRun, joined_pieces, refusal, IsPrefix, or_error}
+use Rattle.data_url.specs.Fetch.{Good, outcome_bytes, plain_body, Bad, outcome, Outcome, tail_of}
+use Rattle.data_url.specs.Pieces.{Walk, walk_at_front}
+use Rattle.data_url.specs.Steps.Chunks.{GivesBytes, IsOver, Takes}
+use Rattle.data_url.specs.Steps.Tail.{IsBodyEnd}
+use Rattle.data_url.specs.DataUrl.{Decodes, HandsOut, Answers, IsUrlOf, is_base64, url_body, url_tail}
+use Rattle.data_url.specs.declared.forgiving_base64.DecodeError.TheVariants.{WriteError, InvalidBase64}
+use Rattle.data_url.proofs.forgiving_base64.Padding.{some_not_none}
+use Rattle.data_url.proofs.runs.Runs.{joined_pieces-append, match_none, refusal-append, run-append, prefix_behind}
+use Rattle.std.specs.Char.{digit_value}
+use Rattle.data_url.specs.Base64.{decoded, complete_bytes, is_valid, kind_of, after_groups, before_place, first_fault}
+use Rattle.data_url.specs.Base64.{groups, is_symbol, rest_bytes, symbol_value, values}
+use Rattle.data_url.specs.Url.{before, without_tabs_and_newlines, front, is_tab_or_newline, behind}
+use Rattle.data_url.specs.Url.{is_c0_control_or_space, trimmed_text, without_front}
+use Rattle.data_url.specs.Percent.{is_escape, percent_decoding}
+use Rattle.data_url.specs.Decoder.{Feeds, Finishes, IsAll, State, start}
+use Rattle.data_url.specs.Steps.Whole.{DecodesText, vec_error}
+use Rattle.data_url.specs.declared.forgiving_base64.DecodeError.{DecodeError}
+use Rattle.data_url.proofs.forgiving_base64.Steps.{feeds_err, feeds_then}
+use Rattle.data_url.proofs.forgiving_base64.WholeTexts.{decodes_finished, decodes_refused, run_keeps, run_reads}
+use Rattle.std.specs.List.{prefix_len, suffix_len}
+use Rattle.data_url.specs.declared.DataUrl.{DataUrl}
+use Rattle.data_url.proofs.forgiving_base64.Groups.{groups_length}
+
+-- A closure that runs over a body, chunk by chunk.
+
+pub takes_next : {w w' : Walk} {given : Option (Bor (List ℕ))} {bytes : Bor (List ℕ)} → GivesBytes w given w'
+    → given ≡ Some bytes → Takes w bytes.now w'
+takes_next {w} {w'} h e = let P : Option (Bor (List ℕ)) → Type 0 = λ o. GivesBytes w o w' in subst P e h
+
+pub over_next : {w w' : Walk} {given : Option (Bor (List ℕ))} → GivesBytes w given w' → given ≡ None → IsOver w w'
+over_next {w} {w'} h e = let P : Option (Bor (List ℕ)) → Type 0 = λ o. GivesBytes w o w' in subst P e h
+
+pub match_is_some : {A : Type 0} (o : Option A) (x : A) (P : Type 0) (Q : A → Type 0) → o ≡ Some x → Q x
+    → MatchOption o P Q
+match_is_some None x P Q e q = absurd (some_not_none x (sym e))
+match_is_some (Some y) x P Q e q = let same : x ≡ y = cc in subst Q same q
+
+-- The runs
+
+module _ {F E : Type 0} (step : F → List ℕ → Result (Unit {0}) E → F → Type 0) where
+  -- the closure took the body as far as the walk
+  pub record Going (f : F) (text : List ℕ) (w : Walk) (g : F) : Type 0 where
+    pub run : List (Call F E)
+    pub ran : IsRun step f run g
+    pub accepted : refusal run ≡ None
+    pub text_is : w.text ≡ text
+    pub place : w.place ≤ length text
+    pub calls : length run ≤ w.place
+    pub body : plain_body text ≡ joined_pieces run ++ w.rest
+
+  pub going_none : (f : F) (text : List ℕ) → Going f text (walk_at_front text) f
+  going_none f text = record {
+    run = [];
+    ran = refl;
+    accepted = refl;
+    text_is = refl;
+    place = omega arith;
+    calls =
+        omega arith;
+    body = refl;
+  }
+
+  pub going_more : {f g h : F} {text bytes : List ℕ} {w w' : Walk} → Going f text w g → Takes w bytes w'
+      → step g bytes (Ok tt) h → Going f text w' h
+  going_more {f} {g} {h} {text} {bytes} {w} {w'} k t s =
+      let call : List (Call F E) = record { piece = bytes; answer = Ok tt; after = h } ∷ [] in
+      let longer : length (k.run ++ call) ≡ length k.run + 1 = length-append k.run call ∙ omega arith in
+      let calls = k.calls in
+      let some = t.some in
+      let place = t.place in
+      let same : w'.text ≡ text = t.text_stays ∙ k.text_is in
+      let size = ap length same in
+      let within = t.within in
+      record {
+        run = k.run ++ call;
+        ran = run-append step k.run call f g h k.ran k.accepted (s, λ e. refl, refl);
+        accepted = refusal-append k.run call k.accepted;
+        text_is = same;
+        place = omega arith;
+        calls = omega arith;
+        body =
+            k.body ∙ ap (λ x. joined_pieces k.run ++ x) t.rest_is
+            ∙ sym (append_assoc (joined_pieces k.run) bytes w'.rest)
+            ∙ ap (λ x. x ++ w'.rest) (ap (λ x. joined_pieces k.run ++ x) (sym (append-nil bytes))
+            ∙ sym (joined_pieces-append k.run call));
+      }
+
+  pub going_ends : {f g : F} {text : List ℕ} {w : Walk} {place : ℕ} → Going f text w g → w.rest ≡ []
+      → IsBodyEnd text place → Decodes step f (length text) (Good (plain_body text)) (IsBodyEnd text) (Ok place) g
+  going_ends {f} {g} {text} {w} {place} k e b =
+      let calls = k.calls in
+      let within = k.place in
+      record {
+        run = k.run;
+        ran = k.ran;
+        calls = omega arith;
+        gave = match_none (refusal k.run) _ _ k.accepted
+            (record {
+              bytes_are = sym (k.body ∙ ap (λ x. joined_pieces k.run ++ x) e
+                  ∙ append-nil (joined_pieces k.run));
+              answer = b;
+            });
+      }
+
+  pub going_refused : {f g h : F} {text bytes : List ℕ} {w w' : Walk} (e : E) → Going f text w g → Takes w bytes w'
+      → step g bytes (Err e) h → Decodes step f (length text) (Good (plain_body text)) (IsBodyEnd text)
+      (Err (WriteError e)) h
+  going_refused {f} {g} {h} {text} {bytes} {w} {w'} e k t s =
+      let call : List (Call F E) = record { piece = bytes; answer = Err e; after = h } ∷ [] in
+      let longer : length (k.run ++ call) ≡ length k.run + 1 = length-append k.run call ∙ omega arith in
+      let calls = k.calls in
+      let some = t.some in
+      let place = t.place in
+      let same : w'.text ≡ text = t.text_stays ∙ k.text_is in
+      let size = ap length same in
+      let within = t.within in
+      let last : refusal (k.run ++ call) ≡ Some e = refusal-append k.run call k.accepted in
+      let all : joined_pieces (k.run ++ call) ≡ joined_pieces k.run ++ bytes = joined_pieces-append k.run call
+      ∙ ap (λ x. joined_pieces k.run ++ x) (append-nil bytes) in
+      record {
+        run = k.run ++ call;
+        ran = run-append step k.run call f g h k.ran k.accepted (s, λ e. refl, refl);
+        calls = omega arith;
+        gave = match_is_some (refusal (k.run ++ call)) e (HandsOut (Good (plain_body text)) (IsBodyEnd text)
+            (joined_pieces (k.run ++ call)) (Err (WriteError e)))
+            (λ e'. IsRefused {A = ℕ} (outcome_bytes (Good (plain_body text))) (joined_pieces (k.run ++ call)) e'
+            (Err (WriteError e))) last
+            (record {
+              bytes_begin = (
+                w'.rest,
+                k.body ∙ ap (λ x. joined_pieces k.run ++ x) t.rest_is
+                    ∙ sym (append_assoc (joined_pieces k.run) bytes w'.rest) ∙ ap (λ x. x ++ w'.rest) (sym all),
+              );
+              answer =
+                  refl;
+            });
+      }
+
+-- A base64 body, fed to a decoder chunk by chunk.
+
+-- A body is no longer than its tail
+
+dropped_shorter : (s : List ℕ) → length (without_tabs_and_newlines s) ≤ length s
+unfolding without_tabs_and_newlines
+dropped_shorter [] = omega arith
+dropped_shorter (b ∷ s) = let h = dropped_shorter s in
+    elim (is_tab_or_newline b) as
+    (λ v. length (cond (not v) (b ∷ without_tabs_and_newlines s) (without_tabs_and_newlines s)) ≤ suc
+    (length s)) [ true ↦ omega arith | false ↦ omega arith ]
+
+before_shorter : (c : ℕ) (s : List ℕ) → length (before c s) ≤ length s
+unfolding before
+before_shorter c [] = omega arith
+before_shorter c (b ∷ s) = let h = before_shorter c s in
+    elim (b == c) as (λ v. length (cond v [] (b ∷ before c s)) ≤ suc (length s)) [
+      | true ↦ omega arith
+      | false ↦
+          omega arith
+    ]
+
+percent_shorter : (s : List ℕ) → length (percent_decoding s) ≤ length s
+unfolding percent_decoding
+percent_shorter [] = omega arith
+percent_shorter (a ∷ []) = omega arith
+percent_shorter (a ∷ b ∷ []) = omega arith
+percent_shorter (a ∷ b ∷ c ∷ s) =
+    let h = percent_shorter s in
+    let k : length (percent_decoding (b ∷ c ∷ s)) ≤ suc (suc (length s)) = percent_shorter (b ∷ c ∷ s) in
+    elim (is_escape a b c) as
+    (λ v. length (cond v ((16 * digit_value b + digit_value c) ∷ percent_decoding s)
+    (a ∷ percent_decoding (b ∷ c ∷ s))) ≤ suc (suc (suc (length s)))) [ true ↦ omega arith | false ↦ omega arith ]
+
+pub body_shorter : (tail : List ℕ) → length (plain_body tail) ≤ length tail
+unfolding plain_body front
+body_shorter tail =
+    let a = percent_shorter (before 35 (without_tabs_and_newlines tail)) in
+    let b = before_shorter 35 (without_tabs_and_newlines tail) in
+    let c = dropped_shorter tail in
+    omega arith
+
+-- What a decoder gives of a whole text is the outcome
+
+-- the answer with a place in it
+abbrev pub at_place : {E : Type 0} → ℕ → Result (Unit {0}) (DecodeError E) → Result ℕ (DecodeError E)
+at_place place (Ok x) = Ok place
+at_place place (Err e) = Err e
+
+at_ok : {E : Type 0} (place : ℕ) (r : Result (Unit {0}) (DecodeError E)) (body : List ℕ) (good : ℕ → Type 0) → r ≡ Ok tt
+    → good place → Answers (Good body) good (at_place place r)
+at_ok place (Ok x) body good e g = g
+at_ok place (Err y) body good e g = absurd (cc)
+
+at_err : {E : Type 0} (place : ℕ) (r : Result (Unit {0}) (DecodeError E)) (x : DecodeError E) → r ≡ Err x
+    → at_place place r ≡ Err x
+at_err place (Ok y) x e = absurd (cc)
+at_err place (Err y) x e = let same : y ≡ x = cc in ap (λ z. Err z) same
+
+module _ {F E : Type 0} (step : F → List ℕ → Result (Unit {0}) E → F → Type 0) where
+  gives_valid : (u bytes : List ℕ) (place : ℕ) (good : ℕ → Type 0) (r : Result (Unit {0}) (DecodeError E))
+      (o : Option E) → (r ≡ Ok tt → good place)
+      → MatchOption o (IsAll u bytes r) (λ e. IsRefused (decoded u) bytes e r)
+      → MatchOption o (HandsOut (Good (decoded u)) good bytes (at_place place r))
+      (λ e. IsRefused (outcome_bytes (Good (decoded u))) bytes e (at_place place r))
+  gives_valid u bytes place good r None g h =
+      record { bytes_are = h.bytes_are; answer = at_ok place r (decoded u) good h.answer (g h.answer) }
+  gives_valid u bytes place good r (Some e) g h = record {
+    bytes_begin = h.bytes_begin;
+    answer =
+        at_err place r (WriteError e) h.answer;
+  }
+
+  gives_invalid : (u bytes : List ℕ) (place : ℕ) (good : ℕ → Type 0) (r : Result (Unit {0}) (DecodeError E))
+      (o : Option E)
+      → MatchOption o ((bytes ≡ complete_bytes u) × (r ≡ Err (InvalidBase64 (kind_of u))))
+      (λ e. IsRefused (complete_bytes u) bytes e r)
+      → MatchOption o (HandsOut (Bad (complete_bytes u) (kind_of u)) good bytes (at_place place r))
+      (λ e. IsRefused (outcome_bytes (Bad (complete_bytes u) (kind_of u))) bytes e (at_place place r))
+  gives_invalid u bytes place good r None h =
+      record { bytes_are = h.0; answer = at_err place r (InvalidBase64 (kind_of u)) h.1 }
+  gives_invalid u bytes place good r (Some e) h = record {
+    bytes_begin = h.bytes_begin;
+    answer =
+        at_err place r (WriteError e) h.answer;
+  }
+
+  gives : (u bytes : List ℕ) (place : ℕ) (good : ℕ → Type 0) (r : Result (Unit {0}) (DecodeError E)) (o : Option E)
+      (v : Bool) → (r ≡ Ok tt → good place)
+      → MatchOption o (MatchBool v (IsAll u bytes r) ((bytes ≡ complete_bytes u)
+      × (r ≡ Err (InvalidBase64 (kind_of u))))) (λ e. IsRefused (cond v (decoded u) (complete_bytes u)) bytes e r)
+      → MatchOption o (HandsOut (cond v (Good (decoded u)) (Bad (complete_bytes u) (kind_of u))) good bytes
+      (at_place place r)) (λ e. IsRefused
+      (outcome_bytes (cond v (Good (decoded u)) (Bad (complete_bytes u) (kind_of u)))) bytes e (at_place place r))
+  gives u bytes place good r o true g h = gives_valid u bytes place good r o g h
+  gives u bytes place good r o false g h = gives_invalid u bytes place good r o h
+
+  pub decodes_outcome : {f g : F} (u : List ℕ) (most place : ℕ) (good : ℕ → Type 0)
+      (r : Result (Unit {0}) (DecodeError E)) → DecodesText step f u r g → length u + 1 ≤ most
+      → (r ≡ Ok tt → good place) → Decodes step f most (outcome true u) good (at_place place r) g
+  unfolding outcome
+  decodes_outcome u most place good r d l k = record {
+    run = d.run;
+    ran = d.ran;
+    calls = let c = d.calls in omega arith;
+    gave = gives u (joined_pieces d.run) place good r (refusal d.run) (is_valid u) k d.gave;
+  }
+
+  -- the decoder took the body as far as the walk
+  pub record Fed (d : State F) (text : List ℕ) (w : Walk) (d' : State F) : Type 0 where
+    pub read : List ℕ
+    pub fed : Feeds step d read (Ok tt) d'
+    pub text_is : w.text ≡ text
+    pub body : plain_body text ≡ read ++ w.rest
+
+  pub fed_none : {d d' : State F} {text : List ℕ} {w : Walk} → w ≡ walk_at_front text → Feeds step d [] (Ok tt) d'
+      → Fed d text w d'
+  fed_none e h = record { read = []; fed = h; text_is = ap (λ w. w.text) e; body = ap (λ w. w.rest) (sym e) }
+
+  fed_bytes : {d d1 : State F} {text bytes : List ℕ} {w w' : Walk} (h : Fed d text w d1) → Takes w bytes w'
+      → plain_body text ≡ (h.read ++ bytes) ++ w'.rest
+  fed_bytes {bytes = bytes} {w' = w'} h t = h.body ∙ ap (λ x. h.read ++ x) t.rest_is
+      ∙ sym (append_assoc h.read bytes w'.rest)
+
+  pub fed_more : {d d1 d2 : State F} {text bytes : List ℕ} {w w' : Walk} → Fed d text w d1 → Takes w bytes w'
+      → Feeds step d1 bytes (Ok tt) d2 → Fed d text w' d2
+  fed_more {bytes = bytes} h t f = record {
+    read = h.read ++ bytes;
+    fed = feeds_then step h.fed f;
+    text_is = t.text_stays ∙ h.text_is;
+    body = fed_bytes h t;
+  }
+
+  -- the outcome of the whole body
+  outcome_of : {f g : F} {text u : List ℕ} (place : ℕ) (r : Result (Unit {0}) (DecodeError E)) → u ≡ plain_body text
+      → DecodesText step f u r g → (r ≡ Ok tt → IsBodyEnd text place)
+      → Decodes step f (length text + 1) (outcome true (plain_body text)) (IsBodyEnd text) (at_place place r) g
+  outcome_of {f} {g} {text} {u} place r e d b =
+      let D : List ℕ → Type 0 = λ x. DecodesText step f x r g in
+      let few = body_shorter text in
+      decodes_outcome (plain_body text) (length text + 1) place (IsBodyEnd text) r (subst D e d) (omega arith) b
+
+  pub fed_refused : {d d1 d2 : State F} {f : F} {text bytes : List ℕ} {w w' : Walk} {x : DecodeError E} → d ≡ start f
+      → Fed d text w d1 → Takes w bytes w' → Feeds step d1 bytes (Err x) d2
+      → Decodes step f (length text + 1) (outcome true (plain_body text)) (IsBodyEnd text) (Err x) d2.closure
+  fed_refused {w' = w'} {x = x} s h t k =
+      outcome_of 0 (Err x) (sym (fed_bytes h t))
+      (decodes_refused step s (feeds_err step w'.rest (feeds_then step h.fed k))) (λ e. absurd (cc))
+
+  pub fed_ended : {d d1 : State F} {f g : F} {text : List ℕ} {w : Walk}
+      (place : ℕ) {r r' : Result (Unit {0}) (DecodeError E)}
+      → d ≡ start f → Fed d text w d1 → w.rest ≡ [] → (r' ≡ Ok tt → IsBodyEnd text place) → Finishes step d1 r g
+      → r ≡ r'
+      → Decodes step f (length text + 1) (outcome true (plain_body text)) (IsBodyEnd text) (at_place place r') g
+  fed_ended {d1 = d1} {g = g} place {r} {r'} s h e b k same =
+      let whole : h.read ≡ plain_body _ = sym (h.body ∙ ap (λ x. h.read ++ x) e ∙ append-nil h.read) in
+      let finished : Finishes step d1 r' g = subst (λ q. Finishes step d1 q g) same k in
+      outcome_of place r' whole (decodes_finished step s h.fed finished) b
+
+-- A body that was decoded by a closure that keeps the bytes that it accepts.
+
+-- the body is good, and these are its bytes
+record WasGood {A : Type 0} (body : Outcome) (good : A → Type 0) (bytes : List ℕ) (x : A) : Type 0 where
+  pub body_is : body ≡ Good bytes
+  pub answer : good x
+
+good_answer : {E A : Type 0} (body : Outcome) (good : A → Type 0) (bytes : List ℕ) (r : Result A (DecodeError E))
+    (x : A) → r ≡ Ok x → HandsOut body good bytes r → WasGood body good bytes x
+good_answer (Good all) good bytes (Ok y) x q h = let e : y ≡ x = cc in
+    record { body_is = ap Good (sym h.bytes_are); answer = rw e at h.answer }
+good_answer (Good all) good bytes (Err e) x q h = absurd h.answer
+good_answer (Bad all kind) good bytes r x q h = absurd (let k = h.answer in cc)
+
+-- an answer Ok comes of a run that was not refused
+ok_given : {E A : Type 0} (o : Option E) (body : Outcome) (good : A → Type 0) (bytes : List ℕ)
+    (r : Result A (DecodeError E)) (x : A) → r ≡ Ok x
+    → MatchOption o (HandsOut body good bytes r) (λ e. IsRefused (outcome_bytes body) bytes e r)
+    → (o ≡ None) × WasGood body good bytes x
+ok_given None body good bytes r x q h = (refl, good_answer body good bytes r x q h)
+ok_given (Some e) body good bytes r x q h = absurd (let k = h.answer in cc)
+
+bad_answer : {E A : Type 0} (body : Outcome) (good : A → Type 0) (bytes : List ℕ) (r : Result A (DecodeError E))
+    (kind : _) → r ≡ Err (InvalidBase64 kind) → HandsOut body good bytes r → (all : List ℕ) × (body ≡ Bad all kind)
+bad_answer (Good all) good bytes (Ok y) kind q h = absurd (let k = q in cc)
+bad_answer (Good all) good bytes (Err e) kind q h = absurd h.answer
+bad_answer (Bad all kind') good bytes r kind q h = let k = h.answer in let e : kind' ≡ kind = cc in
+    (all, ap (λ x. Bad all x) e)
+
+bad_given : {E A : Type 0} (o : Option E) (body : Outcome) (good : A → Type 0) (bytes : List ℕ)
+    (r : Result A (DecodeError E)) (kind : _) → r ≡ Err (InvalidBase64 kind)
+    → MatchOption o (HandsOut body good bytes r) (λ e. IsRefused (outcome_bytes body) bytes e r)
+    → (all : List ℕ) × (body ≡ Bad all kind)
+bad_given None body good bytes r kind q h = bad_answer body good bytes r kind q h
+bad_given (Some e) body good bytes r kind q h = absurd (let k = h.answer in cc)
+
+module _ {F E A : Type 0} {step : F → List ℕ → Result (Unit {0}) E → F → Type 0} {f f' : F} {most : ℕ} {body : Outcome}
+    {good : A → Type 0} {r : Result A (DecodeError E)} where
+  -- what a closure that keeps its bytes has after a body that was decoded
+  pub body_reads : {x : A} → Decodes step f most body good r f' → r ≡ Ok x → (J : F → List ℕ)
+      → ((g : F) (piece : List ℕ) (g' : F) → step g piece (Ok tt) g' → J g' ≡ J g ++ piece)
+      → (all : List ℕ) × (body ≡ Good all) × (J f' ≡ J f ++ all)
+  body_reads {x} h q J keeps =
+      let k = ok_given (refusal h.run) body good (joined_pieces h.run) r x q h.gave in
+      (joined_pieces h.run, k.1.body_is, run_reads step J keeps h.run f f' h.ran k.0)
+
+  pub body_answer : {x : A} → Decodes step f most body good r f' → r ≡ Ok x → good x
+  body_answer {x} h q = (ok_given (refusal h.run) body good (joined_pieces h.run) r x q h.gave).1.answer
+
+  pub body_fault : {kind : _} → Decodes step f most body good r f' → r ≡ Err (InvalidBase64 kind)
+      → (all : List ℕ) × (body ≡ Bad all kind)
+  body_fault {kind} h q = bad_given (refusal h.run) body good (joined_pieces h.run) r kind q h.gave
+
+  pub body_keeps : {B : Type 0} → Decodes step f most body good r f' → (K : F → B)
+      → ((g : F) (piece : List ℕ) (s : Result (Unit {0}) E) (g' : F) → step g piece s g' → K g ≡ K g') → K f ≡ K f'
+  body_keeps h K keeps = run_keeps step K keeps h.run f f' h.ran
+
+  -- an answer Ok comes of a good body
+  pub body_good : {x : A} → Decodes step f most body good r f' → r ≡ Ok x → (all : List ℕ) × (body ≡ Good all)
+  body_good {x} h q = let k = ok_given (refusal h.run) body good (joined_pieces h.run) r x q h.gave in
+      (joined_pieces h.run, k.1.body_is)
+
+  -- the error of a vector that was to have the body's bytes
+  pub body_error : (x : DecodeError E) → Decodes step f most body good r f' → r ≡ Err x
+      → IsBodyErrorOf body (vec_error x)
+  body_error (InvalidBase64 kind) h q = body_fault h q
+  body_error (WriteError e) h q = tt
+
+-- What is known of a closure's state behind a run, by what each of its calls does to that state.
+
+-- Runs
+
+run_stops : {F E : Type 0} (step : F → List ℕ → Result (Unit {0}) E → F → Type 0) (cs : List (Call F E)) (f g : F)
+    → cs ≡ [] → IsRun step f cs g → f ≡ g
+run_stops step [] f g e ran = ran
+run_stops step (c ∷ cs) f g e ran = absurd (let k = e in cc)
+
+module _ {F E : Type 0} (step : F → List ℕ → Result (Unit {0}) E → F → Type 0)
+    (kept : List ℕ → F → Type 0) (stopped : List ℕ → E → F → Type 0)
+    (accepts : (bytes : List ℕ) (f : F) (piece : List ℕ) (g : F) → kept bytes f → step f piece (Ok tt) g
+    → kept (bytes ++ piece) g)
+    (refuses : (bytes : List ℕ) (f : F) (piece : List ℕ) (e : E) (g : F) → kept bytes f → step f piece (Err e) g
+    → stopped (bytes ++ piece) e g) where
+  -- behind one call and those that follow it
+  one_more : (r : Result (Unit {0}) E) (bytes piece : List ℕ) (f after g : F) (cs : List (Call F E)) → kept bytes f
+      → step f piece r after → (IsErr r → cs ≡ []) → IsRun step after cs g
+      → (kept (bytes ++ piece) after → MatchOption (refusal cs) (kept ((bytes ++ piece) ++ joined_pieces cs) g)
+      (λ e. stopped ((bytes ++ piece) ++ joined_pieces cs) e g))
+      → MatchOption (or_error r (refusal cs)) (kept (bytes ++ (piece ++ joined_pieces cs)) g)
+      (λ e. stopped (bytes ++ (piece ++ joined_pieces cs)) e g)
+  one_more (Ok tt) bytes piece f after g cs k s last ran more =
+      let P : List ℕ → Type 0 = λ x. MatchOption (refusal cs) (kept x g) (λ e. stopped x e g) in
+      subst P (append_assoc bytes piece (joined_pieces cs)) (more (accepts bytes f piece after k s))
+  one_more (Err e) bytes piece f after g cs k s last ran more =
+      let none = last refl in
+      let P : List ℕ → Type 0 = λ x. stopped (bytes ++ x) e g in
+      let Q : F → Type 0 = λ x. stopped (bytes ++ piece) e x in
+      subst P (sym (ap (λ x. piece ++ joined_pieces x) none ∙ append-nil piece))
+      (subst Q (run_stops step cs after g none ran) (refuses bytes f piece e after k s))
+
+  run_ends_from : (cs : List (Call F E)) (bytes : List ℕ) (f g : F) → kept bytes f → IsRun step f cs g
+      → MatchOption (refusal cs) (kept (bytes ++ joined_pieces cs) g) (λ e. stopped (bytes ++ joined_pieces cs) e g)
+  run_ends_from [] bytes f g k ran =
+      let P : F → Type 0 = λ x. kept (bytes ++ []) x in
+      let Q : List ℕ → Type 0 = λ x. kept x f in
+      subst P ran (subst Q (sym (append-nil bytes)) k)
+  run_ends_from (c ∷ cs) bytes f g k ran = one_more c.answer bytes c.piece f c.after g cs k ran.0 ran.1 ran.2
+      (λ more. run_ends_from cs (bytes ++ c.piece) c.after g more ran.2)
+
+-- what each accepted call keeps of the bytes so far and the state holds behind an accepted run of all its bytes, and
+-- what a refused call gives behind a refused one
+pub run_ends : {F E : Type 0} (step : F → List ℕ → Result (Unit {0}) E → F → Type 0) (cs : List (Call F E)) (f g : F)
+    → IsRun step f cs g → (kept : List ℕ → F → Type 0) (stopped : List ℕ → E → F → Type 0)
+    → ((bytes : List ℕ) (p : F) (piece : List ℕ) (q : F) → kept bytes p → step p piece (Ok tt) q
+    → kept (bytes ++ piece) q)
+    → ((bytes : List ℕ) (p : F) (piece : List ℕ) (e : E) (q : F) → kept bytes p → step p piece (Err e) q
+    → stopped (bytes ++ piece) e q)
+    → kept [] f → MatchOption (refusal cs) (kept (joined_pieces cs) g) (λ e. stopped (joined_pieces cs) e g)
+run_ends step cs f g ran kept stopped accepts refuses start =
+    run_ends_from step kept stopped accepts refuses cs [] f g start ran
+
+-- Measures
+
+accepted_at : {F E : Type 0} (cs : List (Call F E)) (P : Type 0) (Q : E → Type 0) → refusal cs ≡ None
+    → MatchOption (refusal cs) P Q → P
+accepted_at {E = E} cs P Q n h = let M : Option E → Type 0 = λ o. MatchOption o P Q in subst M n h
+
+-- a measure that each accepted piece extends is extended by the whole run
+pub run_extends : {F E : Type 0} (step : F → List ℕ → Result (Unit {0}) E → F → Type 0) (cs : List (Call F E)) (f g : F)
+    → IsRun step f cs g → refusal cs ≡ None → (measure : F → List ℕ)
+    → ((p : F) (piece : List ℕ) (q : F) → step p piece (Ok tt) q → measure q ≡ measure p ++ piece)
+    → measure g ≡ measure f ++ joined_pieces cs
+run_extends step cs f g ran n measure extends =
+    accepted_at cs (measure g ≡ measure f ++ joined_pieces cs) (λ e. Unit {0}) n
+    (run_ends step cs f g ran (λ bytes p. measure p ≡ measure f ++ bytes) (λ bytes e p. Unit {0})
+    (λ bytes p piece q k s. extends p piece q s ∙ ap (λ x. x ++ piece) k ∙ append_assoc (measure f) bytes piece)
+    (λ bytes p piece e q k s. tt) (sym (append-nil (measure f))))
+
+-- a count to which each accepted piece adds its length has added the length of the whole run
+pub run_counts : {F E : Type 0} (step : F → List ℕ → Result (Unit {0}) E → F → Type 0) (cs : List (Call F E)) (f g : F)
+    → IsRun step f cs g → refusal cs ≡ None → (count : F → ℕ)
+    → ((p : F) (piece : List ℕ) (q : F) → step p piece (Ok tt) q → count q ≡ count p + length piece)
+    → count g ≡ count f + length (joined_pieces cs)
+run_counts step cs f g ran n count adds =
+    accepted_at cs (count g ≡ count f + length (joined_pieces cs)) (λ e. Unit {0}) n
+    (run_ends step cs f g ran (λ bytes p. count p ≡ count f + length bytes) (λ bytes e p. Unit {0})
+    (λ bytes p piece q k s. let h = adds p piece q s in omega (arith, h, k, length-append bytes piece))
+    (λ bytes p piece e q k s. tt) (omega arith))
+
+-- the same of a count that goes no further than a greatest number
+pub run_counts_up_to : {F E : Type 0} (step : F → List ℕ → Result (Unit {0}) E → F → Type 0) (cs : List (Call F E))
+    (f g : F) (most : ℕ) → IsRun step f cs g → refusal cs ≡ None → (count : F → ℕ) → count f ≤ most
+    → ((p : F) (piece : List ℕ) (q : F) → step p piece (Ok tt) q → count q ≡ min (count p + length piece) most)
+    → count g ≡ min (count f + length (joined_pieces cs)) most
+run_counts_up_to step cs f g most ran n count few adds =
+    accepted_at cs (count g ≡ min (count f + length (joined_pieces cs)) most) (λ e. Unit {0}) n
+    (run_ends step cs f g ran (λ bytes p. count p ≡ min (count f + length bytes) most) (λ bytes e p. Unit {0})
+    (λ bytes p piece q k s. let h = adds p piece q s in omega (arith, h, k, length-append bytes piece))
+    (λ bytes p piece e q k s. tt) (omega arith))
+
+-- Bodies
+
+-- how decoding a body ended, with what a closure then keeps of the bytes that it was handed
+abbrev pub EndsWith : {F E A : Type 0} → (List ℕ → F → Type 0) → (List ℕ → E → F → Type 0) → Outcome → (A → Type 0) → F
+    → Result A (DecodeError E) → Type 0
+EndsWith kept stopped body good g (Ok x) = (bytes : List ℕ) × (body ≡ Good bytes) × good x × kept bytes g
+EndsWith kept stopped body good g (Err (InvalidBase64 kind)) = (bytes : List ℕ) × (body ≡ Bad bytes kind) × kept bytes g
+EndsWith kept stopped body good g (Err (WriteError e)) = (bytes : List ℕ) × IsPrefix bytes (outcome_bytes body)
+    × stopped bytes e g
+
+module _ {F E A : Type 0} (kept : List ℕ → F → Type 0) (stopped : List ℕ → E → F → Type 0) (good : A → Type 0)
+    (g : F) where
+  ended_at : (body : Outcome) (r s : Result A (DecodeError E)) → r ≡ s → EndsWith kept stopped body good g s
+      → EndsWith kept stopped body good g r
+  ended_at body r s e h = let P : Result A (DecodeError E) → Type 0 = λ x. EndsWith kept stopped body good g x in
+      subst P (sym e) h
+
+  ended_whole : (body : Outcome) (bytes : List ℕ) (r : Result A (DecodeError E)) → HandsOut body good bytes r
+      → kept bytes g → EndsWith kept stopped body good g r
+  ended_whole (Good all) bytes (Ok x) h k = (bytes, ap Good (sym h.bytes_are), h.answer, k)
+  ended_whole (Good all) bytes (Err e) h k = absurd h.answer
+  ended_whole (Bad all kind) bytes r h k = ended_at (Bad all kind) r (Err (InvalidBase64 kind)) h.answer
+      (bytes, ap (λ x. Bad x kind) (sym h.bytes_are), k)
+
+  ended_by : (o : Option E) (body : Outcome) (bytes : List ℕ) (r : Result A (DecodeError E))
+      → MatchOption o (HandsOut body good bytes r) (λ e. IsRefused (outcome_bytes body) bytes e r)
+      → MatchOption o (kept bytes g) (λ e. stopped bytes e g) → EndsWith kept stopped body good g r
+  ended_by None body bytes r h k = ended_whole body bytes r h k
+  ended_by (Some e) body bytes r h k = ended_at body r (Err (WriteError e)) h.answer (bytes, h.bytes_begin, k)
+
+-- what each accepted call keeps, and a refused one gives, of the bytes so far and the state, holds behind decoding, as
+-- its answer s tells
+pub body_ends : {F E A : Type 0} {step : F → List ℕ → Result (Unit {0}) E → F → Type 0} {f g : F} {most : ℕ}
+    {body : Outcome} {good : A → Type 0} {r s : Result A (DecodeError E)} → Decodes step f most body good r g → r ≡ s
+    → (kept : List ℕ → F → Type 0) (stopped : List ℕ → E → F → Type 0)
+    → ((bytes : List ℕ) (p : F) (piece : List ℕ) (q : F) → kept bytes p → step p piece (Ok tt) q
+    → kept (bytes ++ piece) q)
+    → ((bytes : List ℕ) (p : F) (piece : List ℕ) (e : E) (q : F) → kept bytes p → step p piece (Err e) q
+    → stopped (bytes ++ piece) e q)
+    → kept [] f → EndsWith kept stopped body good g s
+body_ends {step = step} {f = f} {g = g} {body = body} {good = good} {r = r} {s = s} d e kept stopped accepts refuses
+    start =
+    ended_at kept stopped good g body s r (sym e) (ended_by kept stopped good g (refusal d.run) body
+    (joined_pieces d.run) r d.gave (run_ends step d.run f g d.ran kept stopped accepts refuses start))
+
+-- a measure that each accepted piece extends, and each refused one by a beginning of it, is extended by what was handed
+-- out, or a beginning of that
+pub body_extends : {F E A : Type 0} {step : F → List ℕ → Result (Unit {0}) E → F → Type 0} {f g : F} {most : ℕ}
+    {body : Outcome} {good : A → Type 0} {r s : Result A (DecodeError E)} → Decodes step f most body good r g → r ≡ s
+    → (measure : F → List ℕ)
+    → ((p : F) (piece : List ℕ) (q : F) → step p piece (Ok tt) q → measure q ≡ measure p ++ piece)
+    → ((p : F) (piece : List ℕ) (e : E) (q : F) → step p piece (Err e) q → (part : List ℕ) × IsPrefix part piece
+    × (measure q ≡ measure p ++ part))
+    → EndsWith (λ bytes q. measure q ≡ measure f ++ bytes) (λ bytes e q. (part : List ℕ) × IsPrefix part bytes
+    × (measure q ≡ measure f ++ part)) body good g s
+body_extends {f = f} d e measure accepts refuses =
+    body_ends d e (λ bytes q. measure q ≡ measure f ++ bytes) (λ bytes e q. (part : List ℕ) × IsPrefix part bytes
+    × (measure q ≡ measure f ++ part))
+    (λ bytes p piece q k s. accepts p piece q s ∙ ap (λ x. x ++ piece) k ∙ append_assoc (measure f) bytes piece)
+    (λ bytes p piece e q k s.
+    let h = refuses p piece e q s in
+    (bytes ++ h.0, prefix_behind bytes h.0 piece h.1, h.2 ∙ ap (λ x. x ++ h.0) k ∙ append_assoc (measure f) bytes h.0))
+    (sym (append-nil (measure f)))
+
+-- How long a body is
+
+symbols_shorter : (s : List ℕ) → length (filter is_symbol s) ≤ length s
+symbols_shorter [] = omega arith
+symbols_shorter (b ∷ s) = let h = symbols_shorter s in
+    elim (is_symbol b) as (λ v. length (cond v (b ∷ filter is_symbol s) (filter is_symbol s)) ≤ length (b ∷ s)) [
+      | true ↦
+          omega arith
+      | false ↦ omega arith
+    ]
+
+values_shorter : (s : List ℕ) → length (values s) ≤ length s
+unfolding values
+values_shorter s = omega (arith, length-map (filter is_symbol s) symbol_value, symbols_shorter s)
+
+groups_then_rest : (x : List ℕ) → length (groups x ++ rest_bytes (after_groups x)) ≤ length x
+unfolding groups after_groups
+groups_then_rest [] = omega arith
+groups_then_rest (p ∷ []) = omega arith
+groups_then_rest (p ∷ q ∷ []) = omega arith
+groups_then_rest (p ∷ q ∷ r ∷ []) = omega arith
+groups_then_rest (p ∷ q ∷ r ∷ s ∷ rest) = let h = groups_then_rest rest in omega arith
+
+decoded_shorter : (s : List ℕ) → length (decoded s) ≤ length s
+unfolding decoded
+decoded_shorter s = omega (arith, groups_then_rest (values s), values_shorter s)
+
+before_place_shorter : (s : List ℕ) (o : Option ℕ) → length (before_place s o) ≤ length s
+before_place_shorter s None = omega arith
+before_place_shorter s (Some i) = omega (arith, length-take i s)
+
+done_shorter : (s : List ℕ) → length (complete_bytes s) ≤ length s
+unfolding complete_bytes
+done_shorter s = let t : List ℕ = before_place s (first_fault s) in
+    omega (arith, groups_length (values t), values_shorter t, before_place_shorter s (first_fault s))
+
+outcome_shorter : (flag : Bool) (s : List ℕ) → length (outcome_bytes (outcome flag s)) ≤ length s
+unfolding outcome
+outcome_shorter false s = omega arith
+outcome_shorter true s =
+    let a = decoded_shorter s in
+    let b = done_shorter s in
+    elim (is_valid s) as (λ v. length
+    (outcome_bytes (cond v (Good (decoded s)) (Bad (complete_bytes s) (kind_of s)))) ≤ length s) [
+      | true ↦
+          a
+      | false ↦ b
+    ]
+
+-- a body, and what stands before its fault, has no more bytes than its tail
+pub body_within_tail : (url : DataUrl) → length (outcome_bytes (url_body url)) ≤ length (url_tail url)
+body_within_tail url = omega (
+  arith,
+  outcome_shorter (is_base64 url) (plain_body (url_tail url)),
+  body_shorter (url_tail url),
+)
+
+behind_shorter : (c : ℕ) (s rest : List ℕ) → behind c s ≡ Some rest → length rest ≤ length s
+unfolding behind
+behind_shorter c [] rest e = absurd (let k = e in cc)
+behind_shorter c (b ∷ s) rest e =
+    elim (b == c) as (λ v. cond v (Some s) (behind c s) ≡ Some rest → length rest ≤ suc (length s)) [
+      | true ↦ λ (h : Some s ≡ Some rest). let same : s ≡ rest = cc in omega (arith, ap length same)
+      | false ↦ λ (h : behind c s ≡ Some rest). omega (arith, behind_shorter c s rest h)
+    ] e
+
+trimmed_shorter : (t : List ℕ) → length (trimmed_text t) ≤ length t
+unfolding trimmed_text
+trimmed_shorter t =
+    let p = is_c0_control_or_space in
+    let s : List ℕ = without_front p t in
+    omega (arith, length-take (length s - suffix_len p s) s, length-drop (prefix_len p t) t)
+
+tail_shorter : (t tail : List ℕ) → tail_of t ≡ Some tail → length tail ≤ length t
+unfolding tail_of
+tail_shorter t tail e = omega (arith, behind_shorter 44 (trimmed_text t) tail e, trimmed_shorter t)
+
+-- nor more than the text of its URL
+pub body_within_text : {t : List ℕ} {url : DataUrl} → IsUrlOf t url → length (outcome_bytes (url_body url)) ≤ length t
+body_within_text {t} {url} h = omega (arith, body_within_tail url, tail_shorter t (url_tail url) h.tail_is)

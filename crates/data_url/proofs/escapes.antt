@@ -1,0 +1,4 @@
+pub mod Hexadecimal
+pub mod Reading
+pub mod Marks
+pub mod Walking

@@ -1,0 +1,310 @@
+-- Hexadecimal digits in a text, past tabs and newlines. For `escaped_byte`.
+use Rattle.std.proofs.Common.{◌≡◌, ℕ, ◌+◌, ◌*◌, ◌-◌, ◌<◌, ◌≤◌, Bool, true, false, not, cond, ◌&&◌, eqb, ltb, List, []}
+use Rattle.std.proofs.Common.{◌∷◌, length, drop, get_or, Option, None, Some, refl, sym, ap, ◌∙◌, arith, eqb-true, subst}
+use Rattle.std.specs.Prelude.{◌==◌, MatchOption}
+use Rattle.std.specs.Char.{digit_value, is_ascii_hexdigit}
+use Rattle.std.proofs.lemmas.Bool.{agree_below_at, cond-true, cond-false, lt-ltb}
+use Rattle.std.proofs.lemmas.List.{drop_more, drop_all}
+use Rattle.std.proofs.lemmas.List.Sums.{prefix_len-drop_yes}
+use Rattle.data_url.specs.Url.{is_tab_or_newline}
+use Rattle.data_url.specs.Pieces.{digit, escape, with_high_digit, with_low_digit}
+use Rattle.data_url.specs.Steps.Digits.{DigitFound, DigitsFound, NoDigit, NoDigits, digit_code}
+use Rattle.data_url.specs.Steps.Looks.{before_percent}
+use Rattle.data_url.proofs.runs.Runs.{match_map}
+use Rattle.data_url.specs.declared.escapes.digits.TheConstants.{DIGITS}
+
+-- the table
+
+pub code_is : (b : ℕ) → b < 256 → get_or DIGITS b 0 ≡ digit_code b
+code_is b l = eqb-true (get_or DIGITS b 0) (digit_code b) (agree_below_at (λ b. eqb (get_or DIGITS b 0) (digit_code b))
+    (λ b. true) 256 b refl l)
+
+-- what a code says of its byte
+
+tab_code : (b : ℕ) → b < 256 → eqb (digit_code b) 16 ≡ is_tab_or_newline b
+tab_code b l = agree_below_at (λ b. eqb (digit_code b) 16) is_tab_or_newline 256 b refl l
+
+hex_code : (b : ℕ) → b < 256 → ltb (digit_code b) 16 ≡ (not (is_tab_or_newline b) && is_ascii_hexdigit b)
+hex_code b l = agree_below_at (λ b. ltb (digit_code b) 16) (λ b. not (is_tab_or_newline b) && is_ascii_hexdigit b) 256 b
+    refl l
+
+-- neither a tab or newline nor a digit is a '%'
+not_percent : (b : ℕ) → b < 256 → digit_code b < 32 → not (b == 37) ≡ true
+not_percent b l h =
+    sym (cond-true (ltb (digit_code b) 32) (not (b == 37)) true (lt-ltb (digit_code b) 32 h))
+    ∙ agree_below_at (λ b. cond (ltb (digit_code b) 32) (not (b == 37)) true) (λ b. true) 256 b refl l
+
+is_tab : (b : ℕ) → b < 256 → digit_code b ≡ 16 → is_tab_or_newline b ≡ true
+is_tab b l h = sym (tab_code b l) ∙ ap (λ v. eqb v 16) h
+
+is_digit : (b : ℕ) → b < 256 → digit_code b < 16 → (not (is_tab_or_newline b) && is_ascii_hexdigit b) ≡ true
+is_digit b l h = sym (hex_code b l) ∙ lt-ltb (digit_code b) 16 h
+
+not_true : (p : Bool) → not p ≡ true → p ≡ false
+not_true true h = absurd (let k : false ≡ true = h in cc)
+not_true false h = refl
+
+both_left : (p q : Bool) → (not p && q) ≡ true → p ≡ false
+both_left true q h = absurd (let k : false ≡ true = h in cc)
+both_left false q h = refl
+
+both_right : (p q : Bool) → (not p && q) ≡ true → q ≡ true
+both_right true q h = absurd (let k : false ≡ true = h in cc)
+both_right false q h = h
+
+-- digits by one byte
+
+pub digit_nil : digit [] ≡ None
+unfolding digit
+digit_nil = refl
+
+pub digit_tab : (b : ℕ) (s : List ℕ) → is_tab_or_newline b ≡ true → digit (b ∷ s) ≡ digit s
+unfolding digit
+digit_tab b s h = cond-true (is_tab_or_newline b) (digit s) (cond (is_ascii_hexdigit b) (Some (digit_value b, s)) None)
+    h
+
+pub digit_here : (b : ℕ) (s : List ℕ) → is_tab_or_newline b ≡ false
+    → digit (b ∷ s) ≡ cond (is_ascii_hexdigit b) (Some (digit_value b, s)) None
+unfolding digit
+digit_here b s h = cond-false (is_tab_or_newline b) (digit s)
+    (cond (is_ascii_hexdigit b) (Some (digit_value b, s)) None) h
+
+digit_found : (b : ℕ) (s : List ℕ) → b < 256 → digit_code b < 16 → digit (b ∷ s) ≡ Some (digit_code b, s)
+digit_found b s l h =
+    let k = is_digit b l h in
+    let tab = both_left (is_tab_or_newline b) (is_ascii_hexdigit b) k in
+    let hex = both_right (is_tab_or_newline b) (is_ascii_hexdigit b) k in
+    let code : digit_code b ≡ digit_value b =
+    cond-false (is_tab_or_newline b) 16 (cond (is_ascii_hexdigit b) (digit_value b) 32) tab
+    ∙ cond-true (is_ascii_hexdigit b) (digit_value b) 32 hex in
+    digit_here b s tab ∙ cond-true (is_ascii_hexdigit b) (Some (digit_value b, s)) None hex
+    ∙ ap (λ v. Some (v, s)) (sym code)
+
+other_test : (b : ℕ) → b < 256 → 16 < digit_code b
+    → cond (ltb 16 (digit_code b)) (not (is_tab_or_newline b) && not (is_ascii_hexdigit b)) true ≡ true
+other_test b l h = agree_below_at
+    (λ b. cond (ltb 16 (digit_code b)) (not (is_tab_or_newline b) && not (is_ascii_hexdigit b)) true)
+    (λ b. true) 256 b refl l
+
+digit_other : (b : ℕ) (s : List ℕ) → b < 256 → 16 < digit_code b → digit (b ∷ s) ≡ None
+digit_other b s l h =
+    let k : (not (is_tab_or_newline b) && not (is_ascii_hexdigit b)) ≡ true =
+    sym (cond-true (ltb 16 (digit_code b)) (not (is_tab_or_newline b) && not (is_ascii_hexdigit b)) true
+    (lt-ltb 16 (digit_code b) h)) ∙ other_test b l h in
+    let tab = both_left (is_tab_or_newline b) (not (is_ascii_hexdigit b)) k in
+    let hex : is_ascii_hexdigit b ≡ false =
+    not_true (is_ascii_hexdigit b) (both_right (is_tab_or_newline b) (not (is_ascii_hexdigit b)) k) in
+    digit_here b s tab ∙ cond-false (is_ascii_hexdigit b) (Some (digit_value b, s)) None hex
+
+-- digits from a place on
+
+at_place : (text : List ℕ) (place : ℕ) → place < length text → drop place text ≡ get_or text place 0 ∷ drop
+    (place + 1) text
+at_place text place l = drop_more text place 0 l
+
+no_percent_at : (text : List ℕ) (place : ℕ) → place < length text → not (get_or text place 0 == 37) ≡ true
+    → before_percent (drop place text) ≡ 1 + before_percent (drop (place + 1) text)
+no_percent_at text place l h = prefix_len-drop_yes (λ b. not (b == 37)) text place 0 l h
+
+-- a byte of a text that was looked at
+pub record IsByte (text : List ℕ) (place b : ℕ) : Type 0 where
+  pub within : place < length text
+  pub byte_is : b ≡ get_or text place 0
+  pub small : b < 256
+
+-- in a text that is the same
+pub byte_of : {text same : List ℕ} {place b : ℕ} → same ≡ text → place < length text → b ≡ get_or same place 0 → b < 256
+    → IsByte text place b
+byte_of {text} {same} {place} {b} e w h l = record { within = w; byte_is = h ∙ ap (λ s. get_or s place 0) e; small = l }
+
+pub found_here : {text : List ℕ} {place b value looks looks' : ℕ} → IsByte text place b → value ≡ digit_code b
+    → value < 16 → looks' ≡ looks + 1 → DigitFound text place looks value (place + 1) looks'
+found_here {text} {place} {b} {value} {looks} {looks'} at code small n =
+    let e = at.byte_is in
+    let h : digit_code b < 16 = omega arith in
+    let w = at.within in
+    let no : not (get_or text place 0 == 37) ≡ true = ap (λ v. not (v == 37)) (sym e)
+    ∙ not_percent b at.small (omega arith) in
+    let more = no_percent_at text place w no in
+    record {
+      some = omega arith;
+      within = omega arith;
+      small = small;
+      digit_is = ap digit (at_place text place w) ∙ ap (λ v. digit (v ∷ drop (place + 1) text)) (sym e)
+          ∙ digit_found b (drop (place + 1) text) at.small h ∙ ap (λ v. Some (v, drop (place + 1) text)) (sym code);
+      no_percent = omega arith;
+      looks_are = omega arith;
+    }
+
+pub none_here : {text : List ℕ} {place b value looks looks' : ℕ} → IsByte text place b → value ≡ digit_code b
+    → 16 < value → looks' ≡ looks + 1 → NoDigit text place looks looks'
+none_here {text} {place} {b} {value} {looks} {looks'} at code great n =
+    let h : 16 < digit_code b = omega arith in
+    record {
+      none_is = ap digit (at_place text place at.within) ∙ ap (λ v. digit (v ∷ drop (place + 1) text)) (sym at.byte_is)
+          ∙ digit_other b (drop (place + 1) text) at.small h;
+      looks_grow = omega arith;
+      looks_are = omega arith;
+    }
+
+pub none_left : {text : List ℕ} {place looks : ℕ} → length text ≤ place → NoDigit text place looks looks
+none_left {text} {place} {looks} l = record {
+  none_is = ap digit (drop_all place text l) ∙ digit_nil;
+  looks_grow =
+      omega arith;
+  looks_are = omega arith;
+}
+
+-- tabs and newlines were passed from one place to another
+pub record Passed (text : List ℕ) (place at looks looks' : ℕ) : Type 0 where
+  pub forward : place ≤ at
+  pub digit_stays : digit (drop place text) ≡ digit (drop at text)
+  pub no_percent : before_percent (drop place text) ≡ (at - place) + before_percent (drop at text)
+  pub looks_are : looks' ≡ looks + (at - place)
+
+pub passed_none : {text : List ℕ} {place looks : ℕ} → Passed text place place looks looks
+passed_none = record { forward = omega arith; digit_stays = refl; no_percent = omega arith; looks_are = omega arith }
+
+pub passed_more : {text : List ℕ} {place at b value looks looks' looks'' : ℕ} → Passed text place at looks looks'
+    → IsByte text at b → value ≡ digit_code b → value ≡ 16 → looks'' ≡ looks' + 1
+    → Passed text place (at + 1) looks looks''
+passed_more {text} {place} {at} {b} {value} {looks} {looks'} {looks''} p here code tab n =
+    let h : digit_code b ≡ 16 = omega arith in
+    let e = here.byte_is in
+    let w = here.within in
+    let no : not (get_or text at 0 == 37) ≡ true = ap (λ v. not (v == 37)) (sym e)
+    ∙ not_percent b here.small (omega arith) in
+    let more = no_percent_at text at w no in
+    let f = p.forward in
+    let q = p.no_percent in
+    let k = p.looks_are in
+    record {
+      forward = omega arith;
+      digit_stays = p.digit_stays ∙ ap digit (at_place text at w) ∙ ap (λ v. digit (v ∷ drop (at + 1) text)) (sym e)
+          ∙ digit_tab b (drop (at + 1) text) (is_tab b here.small h);
+      no_percent = omega arith;
+      looks_are = omega arith;
+    }
+
+pub passed_found : {text : List ℕ} {place at value end looks looks' looks'' : ℕ} → Passed text place at looks looks'
+    → DigitFound text at looks' value end looks'' → DigitFound text place looks value end looks''
+passed_found {text} {place} {at} {value} {end} {looks} {looks'} {looks''} p d =
+    let f = p.forward in
+    let q = p.no_percent in
+    let k = p.looks_are in
+    let s = d.some in
+    let r = d.no_percent in
+    let m = d.looks_are in
+    record {
+      some = omega arith;
+      within = d.within;
+      small = d.small;
+      digit_is = p.digit_stays ∙ d.digit_is;
+      no_percent = omega arith;
+      looks_are = omega arith;
+    }
+
+pub passed_no : {text : List ℕ} {place at looks looks' looks'' : ℕ} → Passed text place at looks looks'
+    → NoDigit text at looks' looks'' → NoDigit text place looks looks''
+passed_no p n =
+    let f = p.forward in
+    let q = p.no_percent in
+    let k = p.looks_are in
+    let m = n.looks_are in
+    let g = n.looks_grow in
+    record { none_is = p.digit_stays ∙ n.none_is; looks_grow = omega arith; looks_are = omega arith }
+
+-- two digits
+
+escape_none : (s : List ℕ) → digit s ≡ None → escape s ≡ None
+unfolding escape
+escape_none s h = ap with_high_digit h
+
+escape_high : (s rest : List ℕ) (high : ℕ) → digit s ≡ Some (high, rest) → digit rest ≡ None → escape s ≡ None
+unfolding escape
+escape_high s rest high h k = ap with_high_digit h ∙ ap (with_low_digit high) k
+
+escape_both : (s rest last : List ℕ) (high low : ℕ) → digit s ≡ Some (high, rest) → digit rest ≡ Some (low, last)
+    → escape s ≡ Some (16 * high + low, last)
+unfolding escape
+escape_both s rest last high low h k = ap with_high_digit h ∙ ap (with_low_digit high) k
+
+pub no_high : {text : List ℕ} {place looks looks' : ℕ} → NoDigit text place looks looks'
+    → NoDigits text place looks looks'
+no_high {text} {place} n = record {
+  none_is = escape_none (drop place text) n.none_is;
+  looks_grow =
+      n.looks_grow;
+  looks_are = n.looks_are;
+}
+
+pub no_low : {text : List ℕ} {place high behind looks looks' looks'' : ℕ}
+    → DigitFound text place looks high behind looks' → NoDigit text behind looks' looks''
+    → NoDigits text place looks looks''
+no_low {text} {place} {high} {behind} d n =
+    let s = d.some in
+    let r = d.no_percent in
+    let m = d.looks_are in
+    let k = n.looks_are in
+    let g = n.looks_grow in
+    record {
+      none_is = escape_high (drop place text) (drop behind text) high d.digit_is n.none_is;
+      looks_grow =
+          omega arith;
+      looks_are = omega arith;
+    }
+
+pub both_digits : {text : List ℕ} {place high low behind end looks looks' looks'' value : ℕ}
+    → DigitFound text place looks high behind looks' → DigitFound text behind looks' low end looks''
+    → value ≡ high * 16 + low → DigitsFound text place looks value end looks''
+both_digits {text} {place} {high} {low} {behind} {end} {value = value} d f e =
+    let s = d.some in
+    let m = d.looks_are in
+    let t = f.some in
+    let k = f.looks_are in
+    let v : 16 * high + low ≡ value = omega arith in
+    record {
+      two = omega arith;
+      within = f.within;
+      value_is = escape_both (drop place text) (drop behind text) (drop end text) high low d.digit_is f.digit_is
+          ∙ ap (λ x. Some (x, drop end text)) v;
+      looks_are = omega arith;
+    }
+
+-- a tab or newline, and then what stands behind it
+pub digit_further : {text same : List ℕ} {place b value looks' : ℕ} (looks looks'' : ℕ) (found : Option (ℕ × ℕ))
+    → same ≡ text → IsByte text place b → value ≡ digit_code b → value ≡ 16 → looks' ≡ looks + 1
+    → MatchOption found (NoDigit same (place + 1) looks' looks'')
+    (λ d. DigitFound same (place + 1) looks' d.0 d.1 looks'')
+    → MatchOption found (NoDigit text place looks looks'') (λ d. DigitFound text place looks d.0 d.1 looks'')
+digit_further {text} {same} {place} {b} {value} {looks'} looks looks'' found e at code tab n h =
+    let p : Passed text place (place + 1) looks looks' = passed_more passed_none at code tab n in
+    let P : List ℕ → Type 0 = λ t. MatchOption found (NoDigit t (place + 1) looks' looks'')
+    (λ d. DigitFound t (place + 1) looks' d.0 d.1 looks'') in
+    match_map found _ _ _ _ (λ k. passed_no p k) (λ d k. passed_found p k) (subst P e h)
+
+pub digits_no_high : {text : List ℕ} {place looks looks' : ℕ} → NoDigit text place looks looks'
+    → NoDigits text place looks looks'
+digits_no_high n = no_high n
+
+pub digits_no_low : {text same : List ℕ} {place high behind looks looks' looks'' : ℕ} → same ≡ text
+    → DigitFound text place looks high behind looks' → NoDigit same behind looks' looks''
+    → NoDigits text place looks looks''
+digits_no_low {text} {same} {place} {high} {behind} {looks} {looks'} {looks''} e d n = let P : List ℕ → Type 0 =
+    λ t. NoDigit t behind looks' looks'' in no_low d (subst P e n)
+
+pub digits_both : {text same : List ℕ} {place high low behind end looks looks' looks'' : ℕ} → same ≡ text
+    → DigitFound text place looks high behind looks' → DigitFound same behind looks' low end looks''
+    → DigitsFound text place looks (high * 16 + low) end looks''
+digits_both {text} {same} {place} {high} {low} {behind} {end} {looks} {looks'} {looks''} e d f = let P : List ℕ
+    → Type 0 = λ t. DigitFound t behind looks' low end looks'' in both_digits d (subst P e f) refl
+
+pub two_found : {text same : List ℕ} {place high low a b looks looks' looks'' : ℕ} → same ≡ text → IsByte text place a
+    → IsByte text (place + 1) b → high ≡ digit_code a → high < 16 → low ≡ digit_code b → low < 16 → looks' ≡ looks + 1
+    → looks'' ≡ looks' + 1 → DigitsFound text place looks (high * 16 + low) (place + 2) looks''
+two_found {text} {same} {place} {high} {low} {a} {b} {looks} {looks'} {looks''} e p q h k l m n o =
+    let first = found_here p h k n in
+    let second : DigitFound text (place + 1) looks' low (place + 1 + 1) looks'' = found_here q l m o in
+    let two : place + 1 + 1 ≡ place + 2 = omega arith in
+    let P : ℕ → Type 0 = λ end. DigitsFound text place looks (high * 16 + low) end looks'' in
+    subst P two (both_digits first second refl)

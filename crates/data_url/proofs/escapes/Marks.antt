@@ -1,0 +1,388 @@
+-- Blocks of a body and their marks. For `look_block` and `next_mark`.
+use Rattle.std.proofs.Common.{◌≡◌, ℕ, zero, suc, ◌+◌, ◌*◌, ◌-◌, ◌/◌, ◌^◌, ◌<◌, ◌≤◌, Bool, true, false, cond, List, []}
+use Rattle.std.proofs.Common.{◌∷◌, ◌++◌, length, take, drop, map, min, replicate, refl, sym, ap, ◌∙◌, arith, ◌%◌, eqb}
+use Rattle.std.proofs.Common.{get_or, subst, bit_and, w8, Fits, ◌≢◌, not, inl, inr}
+use Rattle.std.specs.Prelude.{slice_range}
+use Rattle.std.specs.Simd.Lanes.{chunk, mask_l, put_chunk, Each1, top, zip2}
+use Rattle.std.proofs.lemmas.List.{length-drop, drop-replicate, length-take-le, take_rest, take-append-le, take-take}
+use Rattle.std.proofs.lemmas.List.{drop-map, drop-drop, ext_get_or, get_or-map, length-map, map-id}
+use Rattle.std.proofs.Math.Nat.{div-div-eq-div-mul, mul_comm, pow-suc}
+use Rattle.std.proofs.lemmas.Simd.{put_chunk_whole, SwzOk, SwzOk-from_below, get_or-swz_l_below, length-swz_l}
+use Rattle.std.proofs.lemmas.Simd.{mask_l-mod, swz_l, tops_compared, zip2_of_maps, zip2_splat, none_from_empty_mask}
+use Rattle.std.proofs.lemmas.Simd.{run_in_chunk_fails, run_in_chunk_le, run_in_chunk_stops, trailing_mask_l}
+use borrow.Rule.Slice.PartMut.{mid_of, post_of, put_mid}
+use Rattle.data_url.specs.Steps.Window.{is_marked}
+use Rattle.std.proofs.lemmas.Bool.{agree_below_at, eqb-true, cases_lt}
+use Rattle.std.proofs.lemmas.Nat.{and_mask}
+use Rattle.data_url.specs.declared.escapes.lanes.TheConstants.{MARKED}
+use Rattle.std.specs.List.{prefix_len}
+use Rattle.std.specs.Int.Count.{count_trailing_zeros}
+use Rattle.data_url.specs.Steps.Walk.{IsClear, IsNextMark, Looking, Stays}
+use Rattle.data_url.specs.Pieces.{text_of}
+use Rattle.data_url.specs.declared.escapes.cursor.Cursor.{Cursor}
+use Rattle.data_url.proofs.escapes.Reading.{paid_clear}
+
+-- Blocks of a text: their marks, and stretches that are copied into a room.
+
+-- a list taken past its first part
+pub take_past : (p q : List ℕ) (n m : ℕ) → length p ≡ n → take (n + m) (p ++ q) ≡ p ++ take m q
+take_past [] q n m e = let z : n + m ≡ m = let l : 0 ≡ n = e in omega arith in ap (λ k. take k q) z
+take_past (x ∷ p) q n m e =
+    let l : n ≡ suc (length p) = sym e in
+    let z : n + m ≡ suc (length p + m) = omega arith in
+    ap (λ k. take k (x ∷ (p ++ q))) z ∙ ap (λ t. x ∷ t) (take_past p q (length p) m refl)
+
+-- a stretch of which a whole block was copied
+pub copied : (room text mid post block : List ℕ) (len width start : ℕ) → len ≤ length room → width ≤ 64
+    → start + 64 ≤ length text → length mid ≡ 64 → block ≡ take 64 (drop start text)
+    → take (len + width) (take len room ++ (put_chunk 0 mid block ++ post)) ≡ take len room ++ slice_range text start
+    (start + width)
+copied room text mid post block len width start l w h m b =
+    let d = length-drop start text in
+    let long : length (take 64 (drop start text)) ≡ 64 = length-take-le 64 (drop start text) (omega arith) in
+    let size : length block ≡ 64 = ap length b ∙ long in
+    let whole : put_chunk 0 mid block ≡ block = put_chunk_whole mid block (m ∙ sym size) in
+    let n : start + width - start ≡ width = omega arith in
+    take_past (take len room) (put_chunk 0 mid block ++ post) len width (length-take-le len room l)
+    ∙ ap (λ s. take len room ++ s)
+    (take-append-le width (put_chunk 0 mid block) post (let e = ap length whole in omega arith)
+    ∙ ap (take width) (whole ∙ b)
+    ∙ take-take width 64 (drop start text) w
+    ∙ ap (λ k. take k (drop start text)) (sym n))
+
+pub copied_wide : (room bytes text : List ℕ) (len width start : ℕ) → length room ≡ 256 → len + 64 ≤ 256 → width ≤ 64
+    → start + 64 ≤ length text → bytes ≡ text
+    → take (len + width) (put_mid len (len + 64 - len) room (put_chunk 0 (mid_of len (len + 64 - len) room)
+    (chunk 0 64 (take (start + 64 - start) (drop start bytes))))) ≡ take len room ++ slice_range text start
+    (start + width)
+copied_wide room bytes text len width start long l w h e =
+    let n : len + 64 - len ≡ 64 = omega arith in
+    let k : start + 64 - start ≡ 64 = omega arith in
+    let d = length-drop len room in
+    let mid : length (mid_of len (len + 64 - len) room) ≡ 64 = length-take-le (len + 64 - len) (drop len room)
+    (omega arith) ∙ n in
+    let block : chunk 0 64 (take (start + 64 - start) (drop start bytes)) ≡ take 64 (drop start text) =
+    ap (λ i. take 64 (take i (drop start bytes))) k ∙ take-take 64 64 (drop start bytes) (omega arith)
+    ∙ ap (λ s. take 64 (drop start s)) e in
+    copied room text (mid_of len (len + 64 - len) room) (post_of len (len + 64 - len) room)
+    (chunk 0 64 (take (start + 64 - start) (drop start bytes))) len width start (omega arith) w h mid block
+
+-- marks behind the text's end are none
+no_marks : (k : ℕ) → mask_l (map is_marked (replicate k 0)) ≡ 0
+no_marks zero = refl
+no_marks (suc k) = let e = no_marks k in omega arith
+
+pub marks_padded : (xs : List ℕ) (k : ℕ) → mask_l (map is_marked (xs ++ replicate k 0)) ≡ mask_l (map is_marked xs)
+marks_padded [] k = no_marks k
+marks_padded (x ∷ xs) k = ap (λ m. cond (is_marked x) 1 0 + 2 * m) (marks_padded xs k)
+
+-- the marks of fewer than 64 bytes, copied into a block of zeros
+pub marks_of_rest : (rest new zeros : List ℕ) (r k : ℕ) → new ≡ rest → zeros ≡ replicate 64 0 → k ≡ length rest
+    → r ≡ mask_l (map is_marked (put_mid 0 k zeros new)) → r ≡ mask_l (map is_marked rest)
+marks_of_rest rest new zeros r k e z l h =
+    let tail : drop k zeros ≡ replicate (64 - k) 0 = ap (drop k) z ∙ drop-replicate k 64 0 in
+    h
+    ∙ ap (λ s. mask_l (map is_marked (s ++ drop k zeros))) e
+    ∙ ap (λ s. mask_l (map is_marked (rest ++ s))) tail
+    ∙ marks_padded rest (64 - k)
+
+-- the block that a text has at a place: whole, or the part of one
+pub block_whole : (text bytes : List ℕ) (place : ℕ) → bytes ≡ text
+    → 64 ≤ length (take (length bytes - place) (drop place bytes))
+    → chunk 0 64 (take (64 - 0) (drop 0 (take (length bytes - place) (drop place bytes)))) ≡ slice_range text place
+    (min (place + 64) (length text))
+block_whole text bytes place e long =
+    let all : take (length bytes - place) (drop place bytes) ≡ drop place text = take_rest bytes place
+    ∙ ap (drop place) e in
+    let n = ap length all in
+    let d = length-drop place text in
+    let k : 64 ≡ min (place + 64) (length text) - place = omega arith in
+    ap (λ s. take 64 (take 64 s)) all ∙ take-take 64 64 (drop place text) (omega arith)
+    ∙ ap (λ i. take i (drop place text)) k
+
+pub block_part : (text bytes : List ℕ) (place : ℕ) → bytes ≡ text
+    → length (take (length bytes - place) (drop place bytes)) < 64 → place ≤ length text
+    → take (length bytes - place) (drop place bytes) ≡ slice_range text place (min (place + 64) (length text))
+block_part text bytes place e short within =
+    let all : take (length bytes - place) (drop place bytes) ≡ drop place text = take_rest bytes place
+    ∙ ap (drop place) e in
+    let n = ap length all in
+    let d = length-drop place text in
+    let k : length text - place ≡ min (place + 64) (length text) - place = omega arith in
+    all ∙ sym (take_rest text place) ∙ ap (λ i. take i (drop place text)) k
+
+-- a shifted mask is the mask of what is left
+mask_half : (b : Bool) (bs : List Bool) → mask_l (b ∷ bs) / 2 ≡ mask_l bs
+mask_half true bs = omega arith
+mask_half false bs = omega arith
+
+pub mask_later : (bs : List Bool) (k : ℕ) → mask_l bs / 2 ^ k ≡ mask_l (drop k bs)
+mask_later bs zero = omega arith
+mask_later [] (suc k) = omega arith
+mask_later (b ∷ bs) (suc k) =
+    let p : 2 ^ suc k ≡ 2 * 2 ^ k = pow-suc 2 k ∙ mul_comm (2 ^ k) 2 in
+    ap (λ n. mask_l (b ∷ bs) / n) p ∙ sym (div-div-eq-div-mul (mask_l (b ∷ bs)) 2 (2 ^ k))
+    ∙ ap (λ n. n / 2 ^ k) (mask_half b bs) ∙ mask_later bs k
+
+pub take_none : (k : ℕ) → ◌≡◌ {A = List ℕ} [] (take k [])
+take_none zero = refl
+take_none (suc k) = refl
+
+pub drop_taken : (k n : ℕ) (xs : List ℕ) → drop k (take n xs) ≡ take (n - k) (drop k xs)
+drop_taken zero n xs = let e : n - zero ≡ n = omega arith in ap (λ i. take i xs) (sym e)
+drop_taken (suc k) zero xs = let e : zero - suc k ≡ zero = omega arith in ap (λ i. take i (drop (suc k) xs)) (sym e)
+drop_taken (suc k) (suc n) [] = take_none (suc n - suc k)
+drop_taken (suc k) (suc n) (x ∷ xs) = let e : suc n - suc k ≡ n - k = omega arith in drop_taken k n xs
+    ∙ ap (λ i. take i (drop k xs)) (sym e)
+
+-- the marks of what is left of a block
+pub marks_later : (text : List ℕ) (base seen place : ℕ) → base ≤ place → place ≤ seen
+    → mask_l (map is_marked (slice_range text base seen)) / 2 ^ (place - base) ≡ mask_l
+    (map is_marked (slice_range text place seen))
+marks_later text base seen place l h =
+    let k : base + (place - base) ≡ place = omega arith in
+    let n : seen - base - (place - base) ≡ seen - place = omega arith in
+    mask_later (map is_marked (slice_range text base seen)) (place - base)
+    ∙ ap mask_l (drop-map is_marked (place - base) (slice_range text base seen)
+    ∙ ap (map is_marked) (drop_taken (place - base) (seen - base) (drop base text)
+    ∙ ap (take (seen - base - (place - base))) (drop-drop (place - base) base text ∙ ap (λ i. drop i text) k)
+    ∙ ap (λ i. take i (drop place text)) n))
+
+-- The marks of a block: lanes that are looked up in a table and compared.
+
+-- the low half of a byte
+abbrev pub low_half : ℕ → ℕ
+low_half b = bit_and b 15
+
+low_lt : (b : ℕ) → low_half b < 16
+low_lt b = let e = and_mask b 4 in omega (arith, e)
+
+abbrev pub lows : List ℕ → List ℕ
+lows v = zip2 bit_and v (replicate 64 15)
+
+pub lows_are : (v : List ℕ) → length v ≡ 64 → lows v ≡ map low_half v
+lows_are v long = zip2_splat bit_and v 64 15 long
+
+each_low : (v : List ℕ) → Each1 (λ j. j < 16) (map low_half v)
+each_low [] = tt
+each_low (b ∷ v) = (low_lt b, each_low v)
+
+pub lows_ok : (v : List ℕ) → length v ≡ 64 → SwzOk w8 16 64 0 (lows v)
+lows_ok v long =
+    let e = lows_are v long in
+    let l : length (map low_half v) ≡ 64 = length-map v low_half ∙ long in
+    let P : List ℕ → Type 0 = λ js. SwzOk w8 16 64 0 js in
+    subst P (sym e) (SwzOk-from_below w8 16 4 64 0 (map low_half v) refl (omega (arith, l)) (each_low v))
+
+-- the table repeats itself
+repeats : (k : ℕ) → k < 64 → get_or MARKED k 0 ≡ get_or MARKED (k % 16) 0
+repeats k l = eqb-true (get_or MARKED k 0) (get_or MARKED (k % 16) 0)
+    (agree_below_at (λ k. eqb (get_or MARKED k 0) (get_or MARKED (k % 16) 0)) (λ k. true) 64 k refl l)
+
+-- the entry of a byte
+abbrev pub entry : ℕ → ℕ
+entry b = get_or MARKED (low_half b) 0
+
+looked_at : (v : List ℕ) → length v ≡ 64 → (m : ℕ) → m < 64 → get_or (swz_l w8 16 MARKED 0 (map low_half v)) m 0
+    ≡ get_or (map entry v) m 0
+looked_at v long m l =
+    let ll : length (map low_half v) ≡ 64 = length-map v low_half ∙ long in
+    let e : get_or (map low_half v) m 0 ≡ low_half (get_or v m 0) = get_or-map low_half v m 0 0 (omega arith) in
+    let h = low_lt (get_or v m 0) in
+    let j : get_or (map low_half v) m 0 < 16 = omega arith in
+    let at = 16 * ((0 + m) / 16) + get_or (map low_half v) m 0 in
+    let in_range : at < 64 = omega arith in
+    let same : at % 16 ≡ low_half (get_or v m 0) = omega arith in
+    get_or-swz_l_below w8 16 MARKED 0 (map low_half v) m (omega arith) j
+    ∙ repeats at in_range
+    ∙ ap (λ k. get_or MARKED k 0) same
+    ∙ sym (get_or-map entry v m 0 0 (omega arith))
+
+pub looked_up : (v : List ℕ) → length v ≡ 64 → swz_l w8 16 MARKED 0 (lows v) ≡ map entry v
+looked_up v long =
+    ap (λ js. swz_l w8 16 MARKED 0 js) (lows_are v long)
+    ∙ ext_get_or 0 (swz_l w8 16 MARKED 0 (map low_half v)) (map entry v)
+    (length-swz_l w8 16 MARKED 0 (map low_half v) ∙ length-map v low_half ∙ sym (length-map v entry))
+    (λ m l. looked_at v long m (let k = length-swz_l w8 16 MARKED 0 (map low_half v) in let n = length-map v low_half in
+    omega arith))
+
+-- an entry is the byte itself exactly where that is marked
+marked_here : (b : ℕ) → b < 256 → eqb (entry b) b ≡ is_marked b
+marked_here b l = agree_below_at (λ b. eqb (entry b) b) is_marked 256 b refl l
+
+marked_each : (v : List ℕ) → Each1 (Fits w8) v → map (λ b. eqb (entry b) b) v ≡ map is_marked v
+marked_each [] h = refl
+marked_each (b ∷ v) h =
+    let l = h.0.fits in
+    ap (λ x. x ∷ map (λ b. eqb (entry b) b) v) (marked_here b (omega arith))
+    ∙ ap (λ t. is_marked b ∷ t) (marked_each v h.1)
+
+pub marks_are : (v : List ℕ) → length v ≡ 64 → Each1 (Fits w8) v
+    → mask_l (map (top 7) (zip2 (λ a b. cond (eqb a b) 255 0) (swz_l w8 16 MARKED 0 (lows v)) v)) % 2 ^ 64 ≡ mask_l
+    (map is_marked v)
+marks_are v long fits =
+    ap (λ ms. mask_l ms % 2 ^ 64)
+    (tops_compared w8 eqb (swz_l w8 16 MARKED 0 (lows v)) v
+    ∙ zip2_of_maps eqb entry (λ b. b) v (looked_up v long) (sym (map-id v))
+    ∙ marked_each v fits)
+    ∙ mask_l-mod (map is_marked v) 64 (let l = length-map v is_marked in omega arith)
+
+-- The next marked byte of a text, by the marks of a block.
+
+-- where no lane passes, the mask is 0
+mask_cases : (p : ℕ → Bool) (x : ℕ) (xs : List ℕ) (b : Bool) → p x ≡ b
+    → cond (not b) (1 + prefix_len (λ y. not (p y)) xs) 0 ≡ suc (length xs)
+    → (prefix_len (λ y. not (p y)) xs ≡ length xs → mask_l (map p xs) ≡ 0) → cond b 1 0 + 2 * mask_l (map p xs) ≡ 0
+mask_cases p x xs true e h k = absurd (omega arith)
+mask_cases p x xs false e h k = let m = k (omega arith) in omega arith
+
+mask_none : (p : ℕ → Bool) (xs : List ℕ) → prefix_len (λ y. not (p y)) xs ≡ length xs → mask_l (map p xs) ≡ 0
+mask_none p [] h = refl
+mask_none p (x ∷ xs) h = mask_cases p x xs (p x) refl h (λ k. mask_none p xs k)
+
+-- the marks from a place on, in a block
+pub record HasMarks (text : List ℕ) (place seen marks : ℕ) : Type 0 where
+  pub within : seen ≤ length text
+  pub forward : place ≤ seen
+  pub short : seen ≤ place + 64
+  pub marks_are : marks ≡ mask_l (map is_marked (chunk place (seen - place) text))
+
+pub has_marks : {c : Cursor} {place marks : ℕ} → Looking c place 0 → place ≤ c.seen
+    → marks ≡ c.marks / 2 ^ (place - c.base) → HasMarks (text_of c) place c.seen marks
+has_marks {c} {place} {marks} k l e =
+    let b = k.base_le in
+    let s = k.block.short in
+    record {
+      within = k.block.seen_le;
+      forward = l;
+      short = omega arith;
+      marks_are = e ∙ ap (λ m. m / 2 ^ (place - c.base)) k.block.marks_are
+          ∙ marks_later (text_of c) c.base c.seen place b l;
+    }
+
+-- the marks of a block from its front on
+pub block_marks : {c : Cursor} {place : ℕ} → Looking c place 0 → c.base ≡ place → place ≤ c.seen
+    → HasMarks (text_of c) place c.seen c.marks
+block_marks {c} {place} k e l =
+    let s = k.block.short in
+    record {
+      within = k.block.seen_le;
+      forward = l;
+      short = omega arith;
+      marks_are = k.block.marks_are ∙ ap (λ b. mask_l (map is_marked (slice_range (text_of c) b c.seen))) e;
+    }
+
+-- a mark was found so many bytes behind the place
+pub record IsFound (text : List ℕ) (place seen width : ℕ) : Type 0 where
+  pub before : width < seen - place
+  pub mark : IsNextMark text place (place + width)
+
+lt_from_le : (a b : ℕ) → a ≤ b → (a ≡ b → ⊥) → a < b
+lt_from_le a b l n = elim (cases_lt a b) [ inl e ↦ e | inr e ↦ absurd (n (omega arith)) ]
+
+found_mark : {text : List ℕ} {place seen marks width : ℕ} → HasMarks text place seen marks → marks ≢ 0
+    → width ≡ count_trailing_zeros 64 marks → IsFound text place seen width
+found_mark {text} {place} {seen} {marks} {width} h n e =
+    let w = h.within in
+    let f = h.forward in
+    let s = h.short in
+    let xs = chunk place (seen - place) text in
+    let d = length-drop place text in
+    let long : length xs ≡ seen - place = length-take-le (seen - place) (drop place text) (omega arith) in
+    let m : marks ≡ mask_l (map is_marked xs) = h.marks_are in
+    let counted : width ≡ prefix_len (λ x. not (is_marked x)) xs = e ∙ ap (count_trailing_zeros 64) m
+    ∙ trailing_mask_l is_marked 64 xs (omega arith) (omega arith) in
+    let room : place + (seen - place) ≤ length text = omega arith in
+    let le = run_in_chunk_le is_marked text place (seen - place) width 0 room counted in
+    let before : width < seen - place =
+    lt_from_le width (seen - place) le
+    (λ (k : width ≡ seen - place). n (m ∙ mask_none is_marked xs (sym counted ∙ k ∙ sym long))) in
+    record {
+      before = before;
+      mark = record {
+        forward = omega arith;
+        within = omega arith;
+        clear = run_in_chunk_fails is_marked text place (seen - place) width 0 room counted;
+        marked = λ _. run_in_chunk_stops is_marked text place (seen - place) width 0 room counted before;
+      };
+    }
+
+pub found : {text : List ℕ} {place seen marks width : ℕ} → HasMarks text place seen marks → (marks ≡ 0 → ⊥)
+    → width ≡ count_trailing_zeros 64 marks → IsFound text place seen width
+found h n e = found_mark h n e
+
+-- none was found in the block
+pub found_none : {text : List ℕ} {place seen marks : ℕ} → HasMarks text place seen marks → marks ≡ 0
+    → IsClear text place seen
+found_none {text} {place} {seen} {marks} h e =
+    let w = h.within in
+    let f = h.forward in
+    λ k a b. none_from_empty_mask is_marked text place (seen - place) 0 (omega arith) (sym h.marks_are ∙ e) k a
+    (omega arith)
+
+pub clear_then : (text : List ℕ) (from middle to : ℕ) → IsClear text from middle → IsClear text middle to
+    → IsClear text from to
+clear_then text from middle to a b k l h = elim (cases_lt k middle) [ inl e ↦ a k l e | inr e ↦ b k e h ]
+
+pub mark_then : {text : List ℕ} {from middle to : ℕ} → from ≤ middle → IsClear text from middle
+    → IsNextMark text middle to → IsNextMark text from to
+mark_then {text} {from} {middle} {to} l c m = let f = m.forward in
+    record {
+      forward = omega arith;
+      within = m.within;
+      clear = clear_then text from middle to c m.clear;
+      marked =
+          m.marked;
+    }
+
+pub mark_at_end : {text : List ℕ} {from to : ℕ} → from ≤ to → to ≤ length text → length text ≤ to → IsClear text from to
+    → IsNextMark text from to
+mark_at_end {text} {from} {to} l w e c = record {
+  forward = l;
+  within = w;
+  clear = c;
+  marked =
+      λ h. absurd (omega arith);
+}
+
+-- the walk may look on from a later place, where no mark stands between
+pub looking_clear : {c : Cursor} {place more : ℕ} (to : ℕ) → Looking c place more → place ≤ to → to ≤ length (text_of c)
+    → IsClear (text_of c) place to → Looking c to more
+looking_clear {c} {place} {more} to k l w h =
+    let p = paid_clear (text_of c) c.seen place to l w h in
+    let b = k.base_le in
+    let m = k.looks_are_paid in
+    record { block = k.block; base_le = omega arith; within = w; looks_are_paid = omega arith }
+
+-- the same text
+pub mark_in : {text same : List ℕ} {from to : ℕ} → same ≡ text → IsNextMark same from to → IsNextMark text from to
+mark_in {text} {same} {from} {to} e m = let P : List ℕ → Type 0 = λ t. IsNextMark t from to in subst P e m
+
+pub clear_in : {text same : List ℕ} (from to : ℕ) → same ≡ text → IsClear same from to → IsClear text from to
+clear_in {text} {same} from to e m = let P : List ℕ → Type 0 = λ t. IsClear t from to in subst P e m
+
+pub stays_here : (c : Cursor) → Stays c c
+stays_here c = record {
+  on = record { text_stays = refl; looks_grow = omega arith };
+  place_stays = refl;
+  ahead_stays =
+      refl;
+}
+
+pub stays_then : {a b c : Cursor} → Stays a b → Stays b c → Stays a c
+stays_then h k = record {
+  on = record {
+    text_stays = k.on.text_stays ∙ h.on.text_stays;
+    looks_grow = let x = h.on.looks_grow in let y =
+        k.on.looks_grow in omega arith;
+  };
+  place_stays = k.place_stays ∙ h.place_stays;
+  ahead_stays = k.ahead_stays ∙ h.ahead_stays;
+}
+
+-- the walk may look on after its block, where no mark is left in it
+pub looked_to : {c : Cursor} {from : ℕ} (to : ℕ) → Looking c from 0 → from ≤ c.seen → to ≡ c.seen
+    → IsClear (text_of c) from c.seen → Looking c to 0 × IsClear (text_of c) from to
+looked_to {c} {from} to k l e h =
+    let P : ℕ → Type 0 = λ p. Looking c p 0 × IsClear (text_of c) from p in
+    subst P (sym e) (looking_clear c.seen k l k.block.seen_le h, h)

@@ -1,0 +1,408 @@
+-- The body of a tail, and what a walk reads of it between two places. For `Source` and `stop_at`.
+use Rattle.std.proofs.Common.{◌≡◌, ℕ, ◌+◌, ◌*◌, Bool, true, false, List, [], ◌∷◌, Option, None, Some, refl, sym, ap}
+use Rattle.std.proofs.Common.{◌∙◌, inl, inr, eqb-true, zero, suc, ◌-◌, ◌<◌, ◌≤◌, not, ◌||◌, ◌++◌, length, take, drop}
+use Rattle.std.proofs.Common.{get_or, subst, append_assoc, arith, length-append}
+use Rattle.std.specs.Prelude.{◌==◌, ◌&&◌, slice_range}
+use Rattle.std.specs.Char.{digit_value, is_ascii_hexdigit}
+use Rattle.std.proofs.lemmas.Bool.{and_left, and_right, both_ways, cases_Bool, cond-true, cond-false, ne_eqb}
+use Rattle.data_url.specs.Url.{before, behind, without_tabs_and_newlines, front, is_tab_or_newline}
+use Rattle.data_url.specs.Percent.{percent_decoding}
+use Rattle.data_url.specs.Fetch.{plain_body}
+use Rattle.data_url.specs.Pieces.{digit, escape, with_high_digit, with_low_digit}
+use Rattle.data_url.proofs.escapes.Hexadecimal.{digit_here, digit_nil, digit_tab}
+use Rattle.data_url.proofs.texts.Bytes.{before_nil, before_other, before_same, behind_other, dropped_keeps, dropped_nil}
+use Rattle.data_url.proofs.texts.Bytes.{dropped_passes}
+use Rattle.data_url.proofs.percent.Encoding.{decoded_escape, decoded_keeps, two_digits}
+use Rattle.std.proofs.lemmas.List.{drop_more, length-drop}
+use Rattle.std.proofs.lemmas.List.Sums.{prefix_len-drop_yes, prefix_len-drop_no, prefix_len-le-length}
+use Rattle.data_url.specs.Steps.Looks.{before_percent, paid_looks}
+use Rattle.data_url.specs.Steps.Tail.{BeginsFragment}
+use Rattle.data_url.specs.Steps.Walk.{EndsAt, EscapeAt, IsClear, LonePercent, Reads}
+use Rattle.data_url.specs.Steps.Window.{is_marked}
+
+-- The body of a tail, by what the tail begins with.
+
+-- Digits and escapes, in what is left without tabs and newlines
+
+-- a tab or newline is no '#'
+no_hash : (b : ℕ) → is_tab_or_newline b ≡ true → (b == 35) ≡ false
+no_hash b h = ne_eqb b 35 (λ (e : b ≡ 35). both_ways (is_tab_or_newline b) (ap is_tab_or_newline e) h)
+
+hex_no_hash : (b : ℕ) → is_ascii_hexdigit b ≡ true → (b == 35) ≡ false
+hex_no_hash b h = ne_eqb b 35 (λ (e : b ≡ 35). both_ways (is_ascii_hexdigit b) (ap is_ascii_hexdigit e) h)
+
+-- a text that begins with a digit of the value, past tabs and newlines, and goes on with rest
+record HasDigit (s : List ℕ) (value : ℕ) (rest : List ℕ) : Type 0 where
+  pub at : ℕ
+  pub hex : is_ascii_hexdigit at ≡ true
+  pub value_is : digit_value at ≡ value
+  pub dropped_is : without_tabs_and_newlines s ≡ at ∷ without_tabs_and_newlines rest
+  pub behind_is : behind 35 s ≡ behind 35 rest
+
+digit_at : (b : ℕ) (s : List ℕ) (value : ℕ) (rest : List ℕ) → is_tab_or_newline b ≡ false → is_ascii_hexdigit b ≡ true
+    → ◌≡◌ {A = Option (ℕ × List ℕ)} (Some (digit_value b, s)) (Some (value, rest)) → HasDigit (b ∷ s) value rest
+digit_at b s value rest t h e =
+    let both : ◌≡◌ {A = ℕ × List ℕ} (digit_value b, s) (value, rest) = cc in
+    let value_is : digit_value b ≡ value = ap (λ (p : ℕ × List ℕ). p.0) both in
+    let rest_is : s ≡ rest = ap (λ (p : ℕ × List ℕ). p.1) both in
+    record {
+      at = b;
+      hex = h;
+      value_is = value_is;
+      dropped_is = dropped_keeps b s t ∙ ap (λ r. b ∷ without_tabs_and_newlines r) rest_is;
+      behind_is = behind_other 35 b s (hex_no_hash b h) ∙ ap (behind 35) rest_is;
+    }
+
+has_digit : (s : List ℕ) (value : ℕ) (rest : List ℕ) → digit s ≡ Some (value, rest) → HasDigit s value rest
+has_digit [] value rest h = absurd (let k : ◌≡◌ {A = Option (ℕ × List ℕ)} None (Some (value, rest)) = sym digit_nil
+    ∙ h in cc)
+has_digit (b ∷ s) value rest h = elim (cases_Bool (is_tab_or_newline b)) [
+  | inl e ↦
+      let k = has_digit s value rest (sym (digit_tab b s e) ∙ h) in
+      record {
+        at = k.at;
+        hex = k.hex;
+        value_is = k.value_is;
+        dropped_is = dropped_passes b s e ∙ k.dropped_is;
+        behind_is = behind_other 35 b s (no_hash b e) ∙ k.behind_is;
+      }
+  | inr e ↦ elim (cases_Bool (is_ascii_hexdigit b)) [
+    | inl f ↦ digit_at b s value rest e f
+        (sym (digit_here b s e ∙ cond-true (is_ascii_hexdigit b) (Some (digit_value b, s)) None f) ∙ h)
+    | inr f ↦ absurd (let k : ◌≡◌ {A = Option (ℕ × List ℕ)} None (Some (value, rest)) =
+        sym (digit_here b s e ∙ cond-false (is_ascii_hexdigit b) (Some (digit_value b, s)) None f) ∙ h in cc)
+  ]
+]
+
+abbrev begins_with_digit : List ℕ → Bool
+begins_with_digit [] = false
+begins_with_digit (b ∷ s) = is_ascii_hexdigit b
+
+no_digit : (s : List ℕ) → digit s ≡ None → begins_with_digit (without_tabs_and_newlines s) ≡ false
+no_digit [] h = ap begins_with_digit dropped_nil
+no_digit (b ∷ s) h = elim (cases_Bool (is_tab_or_newline b)) [
+  | inl e ↦ ap begins_with_digit (dropped_passes b s e) ∙ no_digit s (sym (digit_tab b s e) ∙ h)
+  | inr e ↦ ap begins_with_digit (dropped_keeps b s e) ∙ elim (cases_Bool (is_ascii_hexdigit b)) [
+    | inl f ↦ absurd (let k : ◌≡◌ {A = Option (ℕ × List ℕ)} (Some (digit_value b, s)) None =
+        sym (digit_here b s e ∙ cond-true (is_ascii_hexdigit b) (Some (digit_value b, s)) None f) ∙ h in cc)
+    | inr f ↦ f
+  ]
+]
+
+-- a text that begins with two digits, past tabs and newlines
+record HasEscape (s : List ℕ) (value : ℕ) (rest : List ℕ) : Type 0 where
+  pub high : ℕ
+  pub low : ℕ
+  pub high_hex : is_ascii_hexdigit high ≡ true
+  pub low_hex : is_ascii_hexdigit low ≡ true
+  pub value_is : 16 * digit_value high + digit_value low ≡ value
+  pub dropped_is : without_tabs_and_newlines s ≡ high ∷ low ∷ without_tabs_and_newlines rest
+  pub behind_is : behind 35 s ≡ behind 35 rest
+
+both_digits : (s middle rest : List ℕ) (high low value : ℕ) → HasDigit s high middle → HasDigit middle low rest
+    → 16 * high + low ≡ value → HasEscape s value rest
+both_digits s middle rest high low value a b e = record {
+  high = a.at;
+  low = b.at;
+  high_hex = a.hex;
+  low_hex = b.hex;
+  value_is = ap (λ v. 16 * v + digit_value b.at) a.value_is ∙ ap (λ v. 16 * high + v) b.value_is ∙ e;
+  dropped_is = a.dropped_is ∙ ap (λ t. a.at ∷ t) b.dropped_is;
+  behind_is = a.behind_is ∙ b.behind_is;
+}
+
+low_cases : (s middle : List ℕ) (high value : ℕ) (rest : List ℕ) (o : Option (ℕ × List ℕ)) → HasDigit s high middle
+    → digit middle ≡ o → with_low_digit high o ≡ Some (value, rest) → HasEscape s value rest
+low_cases s middle high value rest None a e h = absurd (cc)
+low_cases s middle high value rest (Some low) a e h =
+    let both : ◌≡◌ {A = ℕ × List ℕ} (16 * high + low.0, low.1) (value, rest) = cc in
+    let value_is : 16 * high + low.0 ≡ value = ap (λ (p : ℕ × List ℕ). p.0) both in
+    let rest_is : low.1 ≡ rest = ap (λ (p : ℕ × List ℕ). p.1) both in
+    both_digits s middle rest high low.0 value a (has_digit middle low.0 rest (e ∙ ap (λ r. Some (low.0, r)) rest_is))
+    value_is
+
+high_cases : (s : List ℕ) (value : ℕ) (rest : List ℕ) (o : Option (ℕ × List ℕ)) → digit s ≡ o
+    → with_high_digit o ≡ Some (value, rest) → HasEscape s value rest
+high_cases s value rest None e h = absurd (cc)
+high_cases s value rest (Some high) e h = low_cases s high.1 high.0 value rest (digit high.1)
+    (has_digit s high.0 high.1 e) refl h
+
+has_escape : (s : List ℕ) (value : ℕ) (rest : List ℕ) → escape s ≡ Some (value, rest) → HasEscape s value rest
+unfolding escape
+has_escape s value rest h = high_cases s value rest (digit s) refl h
+
+abbrev begins_with_two_digits : List ℕ → Bool
+begins_with_two_digits [] = false
+begins_with_two_digits (b ∷ s) = is_ascii_hexdigit b && begins_with_digit s
+
+first_no_digit : (s : List ℕ) → begins_with_digit s ≡ false → begins_with_two_digits s ≡ false
+first_no_digit [] h = refl
+first_no_digit (b ∷ s) h = and_left (is_ascii_hexdigit b) (begins_with_digit s) h
+
+no_low_cases : (s middle : List ℕ) (high : ℕ) (o : Option (ℕ × List ℕ)) → HasDigit s high middle → digit middle ≡ o
+    → with_low_digit high o ≡ None → begins_with_two_digits (without_tabs_and_newlines s) ≡ false
+no_low_cases s middle high None a e h = ap begins_with_two_digits a.dropped_is
+    ∙ and_right (is_ascii_hexdigit a.at) (begins_with_digit (without_tabs_and_newlines middle)) (no_digit middle e)
+no_low_cases s middle high (Some low) a e h = absurd (cc)
+
+no_high_cases : (s : List ℕ) (o : Option (ℕ × List ℕ)) → digit s ≡ o → with_high_digit o ≡ None
+    → begins_with_two_digits (without_tabs_and_newlines s) ≡ false
+no_high_cases s None e h = first_no_digit (without_tabs_and_newlines s) (no_digit s e)
+no_high_cases s (Some high) e h = no_low_cases s high.1 high.0 (digit high.1) (has_digit s high.0 high.1 e) refl h
+
+no_escape : (s : List ℕ) → escape s ≡ None → begins_with_two_digits (without_tabs_and_newlines s) ≡ false
+unfolding escape
+no_escape s h = no_high_cases s (digit s) refl h
+
+same_two_digits : (s : List ℕ) → begins_with_two_digits s ≡ false → two_digits (before 35 s) ≡ false
+same_two_digits [] h = ap two_digits (before_nil 35)
+same_two_digits (b ∷ []) h = elim (cases_Bool (b == 35)) [
+  | inl e ↦ ap (λ x. two_digits (before 35 (x ∷ []))) (eqb-true b 35 e) ∙ ap two_digits (before_same 35 [])
+  | inr e ↦ ap two_digits (before_other 35 b [] e ∙ ap (λ t. b ∷ t) (before_nil 35))
+]
+same_two_digits (b ∷ c ∷ s) h = elim (cases_Bool (b == 35)) [
+  | inl e ↦ ap (λ x. two_digits (before 35 (x ∷ c ∷ s))) (eqb-true b 35 e) ∙ ap two_digits (before_same 35 (c ∷ s))
+  | inr e ↦ ap two_digits (before_other 35 b (c ∷ s) e) ∙ elim (cases_Bool (c == 35)) [
+    | inl f ↦ ap (λ x. two_digits (b ∷ before 35 (x ∷ s))) (eqb-true c 35 f)
+        ∙ ap (λ t. two_digits (b ∷ t)) (before_same 35 s)
+    | inr f ↦ ap (λ t. two_digits (b ∷ t)) (before_other 35 c s f) ∙ h
+  ]
+]
+
+-- The body
+
+body_of : (tail s : List ℕ) → without_tabs_and_newlines tail ≡ s → plain_body tail ≡ percent_decoding (before 35 s)
+unfolding plain_body front
+body_of tail s e = ap (λ x. percent_decoding (before 35 x)) e
+
+percent_nil : percent_decoding [] ≡ []
+unfolding percent_decoding
+percent_nil = refl
+
+pub body_nil : plain_body [] ≡ []
+body_nil = body_of [] [] dropped_nil ∙ ap percent_decoding (before_nil 35) ∙ percent_nil
+
+pub body_hash : (s : List ℕ) → plain_body (35 ∷ s) ≡ []
+body_hash s = body_of (35 ∷ s) (35 ∷ without_tabs_and_newlines s) (dropped_keeps 35 s refl)
+    ∙ ap percent_decoding (before_same 35 (without_tabs_and_newlines s)) ∙ percent_nil
+
+pub body_passes : (b : ℕ) (s : List ℕ) → is_tab_or_newline b ≡ true → plain_body (b ∷ s) ≡ plain_body s
+body_passes b s h = body_of (b ∷ s) (without_tabs_and_newlines s) (dropped_passes b s h)
+    ∙ sym (body_of s (without_tabs_and_newlines s) refl)
+
+pub behind_passes : (b : ℕ) (s : List ℕ) → is_tab_or_newline b ≡ true → behind 35 (b ∷ s) ≡ behind 35 s
+behind_passes b s h = behind_other 35 b s (no_hash b h)
+
+-- a byte that stands for itself
+keeps_byte : (b : ℕ) (s : List ℕ) → is_tab_or_newline b ≡ false → (b == 35) ≡ false
+    → ((b == 37) && two_digits (before 35 (without_tabs_and_newlines s))) ≡ false
+    → plain_body (b ∷ s) ≡ b ∷ plain_body s
+keeps_byte b s t n k =
+    body_of (b ∷ s) (b ∷ without_tabs_and_newlines s) (dropped_keeps b s t)
+    ∙ ap percent_decoding (before_other 35 b (without_tabs_and_newlines s) n)
+    ∙ decoded_keeps b (before 35 (without_tabs_and_newlines s)) k
+    ∙ ap (λ t. b ∷ t) (sym (body_of s (without_tabs_and_newlines s) refl))
+
+pub body_keeps : (b : ℕ) (s : List ℕ) → is_tab_or_newline b ≡ false → (b == 35) ≡ false → (b == 37) ≡ false
+    → plain_body (b ∷ s) ≡ b ∷ plain_body s
+body_keeps b s t n p = keeps_byte b s t n (and_left (b == 37) (two_digits (before 35 (without_tabs_and_newlines s))) p)
+
+pub body_percent : (s : List ℕ) → escape s ≡ None → plain_body (37 ∷ s) ≡ 37 ∷ plain_body s
+body_percent s h = keeps_byte 37 s refl refl (same_two_digits (without_tabs_and_newlines s) (no_escape s h))
+
+pub body_escape : (s : List ℕ) (value : ℕ) (rest : List ℕ) → escape s ≡ Some (value, rest)
+    → plain_body (37 ∷ s) ≡ value ∷ plain_body rest
+body_escape s value rest h =
+    let e = has_escape s value rest h in
+    let front_is : before 35 (without_tabs_and_newlines s) ≡ e.high ∷ e.low ∷ before 35
+    (without_tabs_and_newlines rest) =
+    ap (before 35) e.dropped_is
+    ∙ before_other 35 e.high (e.low ∷ without_tabs_and_newlines rest) (hex_no_hash e.high e.high_hex)
+    ∙ ap (λ t. e.high ∷ t) (before_other 35 e.low (without_tabs_and_newlines rest) (hex_no_hash e.low e.low_hex)) in
+    body_of (37 ∷ s) (37 ∷ without_tabs_and_newlines s) (dropped_keeps 37 s refl)
+    ∙ ap percent_decoding (before_other 35 37 (without_tabs_and_newlines s) refl ∙ ap (λ t. 37 ∷ t) front_is)
+    ∙ decoded_escape e.high e.low (before 35 (without_tabs_and_newlines rest)) e.high_hex e.low_hex
+    ∙ ap (λ x. x ∷ percent_decoding (before 35 (without_tabs_and_newlines rest))) e.value_is
+    ∙ ap (λ t. value ∷ t) (sym (body_of rest (without_tabs_and_newlines rest) refl))
+
+pub behind_percent : (s : List ℕ) → behind 35 (37 ∷ s) ≡ behind 35 s
+behind_percent s = behind_other 35 37 s refl
+
+pub behind_escape : (s : List ℕ) (value : ℕ) (rest : List ℕ) → escape s ≡ Some (value, rest)
+    → behind 35 (37 ∷ s) ≡ behind 35 rest
+behind_escape s value rest h = let e = has_escape s value rest h in behind_percent s ∙ e.behind_is
+
+-- What a walk reads between two places of its text, one after the other, and the looks that are paid for.
+
+-- Reads
+
+pub reads_none : (text : List ℕ) (place : ℕ) → place ≤ length text → Reads text place place []
+reads_none text place l = record { few = omega arith; within = l; body = refl; behind_is = refl }
+
+pub reads_then : {text a b : List ℕ} {from middle to : ℕ} → Reads text from middle a → Reads text middle to b
+    → Reads text from to (a ++ b)
+reads_then {text} {a} {b} {from} {middle} {to} r s =
+    let f = r.few in
+    let g = s.few in
+    let l = length-append a b in
+    record {
+      few = omega arith;
+      within = s.within;
+      body = r.body ∙ ap (λ t. a ++ t) s.body ∙ sym (append_assoc a b (plain_body (drop to text)));
+      behind_is = r.behind_is ∙ s.behind_is;
+    }
+
+at_place : (text : List ℕ) (place : ℕ) → place < length text → drop place text ≡ get_or text place 0 ∷ drop
+    (place + 1) text
+at_place text place l = drop_more text place 0 l
+
+at_byte : (text : List ℕ) (place b : ℕ) → place < length text → get_or text place 0 ≡ b
+    → drop place text ≡ b ∷ drop (place + 1) text
+at_byte text place b l e = at_place text place l ∙ ap (λ v. v ∷ drop (place + 1) text) e
+
+pub reads_passed : {text : List ℕ} {place : ℕ} → place < length text → is_tab_or_newline (get_or text place 0) ≡ true
+    → Reads text place (place + 1) []
+reads_passed {text} {place} l h = record {
+  few = omega arith;
+  within = omega arith;
+  body = ap plain_body (at_place text place l) ∙ body_passes (get_or text place 0) (drop (place + 1) text) h;
+  behind_is = ap (behind 35) (at_place text place l) ∙ behind_passes (get_or text place 0) (drop (place + 1) text) h;
+}
+
+pub reads_percent : {text : List ℕ} {place : ℕ} → LonePercent text place → Reads text place (place + 1) (37 ∷ [])
+reads_percent {text} {place} p =
+    let e = at_byte text place 37 p.within p.percent in
+    let w = p.within in
+    record {
+      few = omega arith;
+      within = omega arith;
+      body = ap plain_body e ∙ body_percent (drop (place + 1) text) p.no_escape;
+      behind_is = ap (behind 35) e ∙ behind_percent (drop (place + 1) text);
+    }
+
+pub reads_escape : {text : List ℕ} {place value end : ℕ} → EscapeAt text place value end
+    → Reads text place end (value ∷ [])
+reads_escape {text} {place} {value} {end} p =
+    let s = p.some in
+    let e = at_byte text place 37 (let w = p.within in omega arith) p.percent in
+    record {
+      few = omega arith;
+      within = p.within;
+      body = ap plain_body e ∙ body_escape (drop (place + 1) text) value (drop end text) p.value_is;
+      behind_is = ap (behind 35) e ∙ behind_escape (drop (place + 1) text) value (drop end text) p.value_is;
+    }
+
+-- a byte that is not marked
+pub unmarked_tab : (t h p : Bool) → (t || (h || p)) ≡ false → t ≡ false
+unmarked_tab true h p e = absurd (let k : true ≡ false = e in cc)
+unmarked_tab false h p e = refl
+
+unmarked_hash : (t h p : Bool) → (t || (h || p)) ≡ false → h ≡ false
+unmarked_hash true h p e = absurd (let k : true ≡ false = e in cc)
+unmarked_hash false true p e = absurd (let k : true ≡ false = e in cc)
+unmarked_hash false false p e = refl
+
+unmarked_percent : (t h p : Bool) → (t || (h || p)) ≡ false → p ≡ false
+unmarked_percent true h p e = absurd (let k : true ≡ false = e in cc)
+unmarked_percent false true p e = absurd (let k : true ≡ false = e in cc)
+unmarked_percent false false p e = e
+
+reads_byte : {text : List ℕ} {place : ℕ} → place < length text → is_marked (get_or text place 0) ≡ false
+    → Reads text place (place + 1) (get_or text place 0 ∷ [])
+reads_byte {text} {place} l h =
+    let b = get_or text place 0 in
+    let tab = unmarked_tab (is_tab_or_newline b) (b == 35) (b == 37) h in
+    let hash = unmarked_hash (is_tab_or_newline b) (b == 35) (b == 37) h in
+    let percent = unmarked_percent (is_tab_or_newline b) (b == 35) (b == 37) h in
+    record {
+      few = omega arith;
+      within = omega arith;
+      body = ap plain_body (at_place text place l) ∙ body_keeps b (drop (place + 1) text) tab hash percent;
+      behind_is = ap (behind 35) (at_place text place l) ∙ behind_other 35 b (drop (place + 1) text) hash;
+    }
+
+-- a stretch without marks, by how many bytes it has
+clear_for : (text : List ℕ) (from n : ℕ) → from + n ≤ length text → IsClear text from (from + n)
+    → Reads text from (from + n) (take n (drop from text))
+clear_for text from zero l h =
+    let P : ℕ → Type 0 = λ to. Reads text from to [] in
+    let e : from ≡ from + zero = omega arith in
+    subst P e (reads_none text from (omega arith))
+clear_for text from (suc n) l h =
+    let w : from < length text = omega arith in
+    let first = reads_byte {text = text} {place = from} w (h from (omega arith) (omega arith)) in
+    let k : from + 1 + n ≡ from + suc n = omega arith in
+    let more = clear_for text (from + 1) n (omega arith) (λ i a b. h i (omega arith) (omega arith)) in
+    let bytes : get_or text from 0 ∷ take n (drop (from + 1) text) ≡ take (suc n) (drop from text) =
+    sym (ap (take (suc n)) (at_place text from w)) in
+    let P : ℕ → Type 0 = λ to. Reads text from to (get_or text from 0 ∷ take n (drop (from + 1) text)) in
+    let Q : List ℕ → Type 0 = λ s. Reads text from (from + suc n) s in
+    subst Q bytes (subst P k (reads_then first more))
+
+pub reads_clear : {text : List ℕ} {from to : ℕ} → from ≤ to → to ≤ length text → IsClear text from to
+    → Reads text from to (slice_range text from to)
+reads_clear {text} {from} {to} l w h =
+    let e : from + (to - from) ≡ to = omega arith in
+    let P : ℕ → Type 0 = λ t. Reads text from t (take (to - from) (drop from text)) in
+    let C : ℕ → Type 0 = λ t. IsClear text from t in
+    subst P e (clear_for text from (to - from) (omega arith) (subst C (sym e) h))
+
+-- the end of a body
+ends_cases : (s : List ℕ) → BeginsFragment s → plain_body s ≡ []
+ends_cases [] h = body_nil
+ends_cases (b ∷ s) h = ap (λ v. plain_body (v ∷ s)) h ∙ body_hash s
+
+pub ends_empty : {text : List ℕ} {place : ℕ} → EndsAt text place → plain_body (drop place text) ≡ []
+ends_empty {text} {place} h = ends_cases (drop place text) h.begins
+
+-- Paid looks
+
+-- what is paid for is at most three times the text
+pub paid_le : (text : List ℕ) (seen place : ℕ) → seen ≤ length text → place ≤ length text
+    → paid_looks text seen place ≤ 3 * length text
+paid_le text seen place s p =
+    let l = prefix_len-le-length (λ b. not (b == 37)) (drop place text) in
+    let d = length-drop place text in
+    omega arith
+
+-- a byte that is no '%' pays for one look
+pub paid_byte : (text : List ℕ) (seen place : ℕ) → place < length text → not (get_or text place 0 == 37) ≡ true
+    → paid_looks text seen (place + 1) ≡ paid_looks text seen place + 1
+paid_byte text seen place l h =
+    let e : before_percent (drop place text) ≡ 1 + before_percent (drop (place + 1) text) =
+    prefix_len-drop_yes (λ b. not (b == 37)) text place 0 l h in
+    omega arith
+
+-- a '%' pays for two, and for the bytes behind it up to the next one
+pub paid_percent : (text : List ℕ) (seen place to : ℕ) → place < length text → get_or text place 0 ≡ 37
+    → paid_looks text seen place ≡ seen + 2 * place
+paid_percent text seen place to l h =
+    let e : before_percent (drop place text) ≡ 0 = prefix_len-drop_no (λ b. not (b == 37)) text place 0 l
+    (ap (λ b. not (b == 37)) h) in
+    omega arith
+
+paid_for : (text : List ℕ) (seen from n : ℕ) → from + n ≤ length text → IsClear text from (from + n)
+    → paid_looks text seen from ≤ paid_looks text seen (from + n)
+paid_for text seen from zero l h =
+    let e : from + zero ≡ from = omega arith in
+    let k : paid_looks text seen (from + zero) ≡ paid_looks text seen from = ap (paid_looks text seen) e in
+    omega arith
+paid_for text seen from (suc n) l h =
+    let w : from < length text = omega arith in
+    let b = get_or text from 0 in
+    let no = unmarked_percent (is_tab_or_newline b) (b == 35) (b == 37) (h from (omega arith) (omega arith)) in
+    let first = paid_byte text seen from w (ap (λ v. not v) no) in
+    let more = paid_for text seen (from + 1) n (omega arith) (λ i a b. h i (omega arith) (omega arith)) in
+    let k : from + 1 + n ≡ from + suc n = omega arith in
+    let e = ap (paid_looks text seen) k in
+    omega arith
+
+-- so do bytes without marks
+pub paid_clear : (text : List ℕ) (seen from to : ℕ) → from ≤ to → to ≤ length text → IsClear text from to
+    → paid_looks text seen from ≤ paid_looks text seen to
+paid_clear text seen from to l w h =
+    let e : from + (to - from) ≡ to = omega arith in
+    let C : ℕ → Type 0 = λ t. IsClear text from t in
+    let k = paid_for text seen from (to - from) (omega arith) (subst C (sym e) h) in
+    let f = ap (paid_looks text seen) e in
+    omega arith

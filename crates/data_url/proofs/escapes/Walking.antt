@@ -1,0 +1,1044 @@
+-- The steps of a walk, its pieces, and what it gathers. For `Cursor` and `Pieces`.
+use Rattle.std.proofs.Common.{◌≡◌, ℕ, zero, suc, ◌+◌, ◌-◌, ◌<◌, ◌≤◌, true, false, List, [], ◌∷◌, ◌++◌, length, take}
+use Rattle.std.proofs.Common.{drop, get_or, None, Some, refl, sym, ap, ap₂, ◌∙◌, subst, inl, inr, arith, length-append}
+use Rattle.std.proofs.Common.{eqb-true, Bool, not, ◌||◌, ◌≢◌, ◌&&◌, Option, is_some, ◌*◌, cond, set, append_assoc}
+use Rattle.std.specs.Prelude.{◌==◌, slice_range, IfSome, MatchBool, IfNone}
+use Rattle.std.proofs.lemmas.Bool.{cases_Bool, ne_eqb, cases_lt}
+use Rattle.std.proofs.lemmas.List.{drop_more, drop-drop, length-drop, drop_all, append-nil, take_more_set}
+use Rattle.std.proofs.lemmas.List.{length-take-le, nil_from_length}
+use Rattle.data_url.specs.Pieces.{IsInFront, IsSkipped, text_of, IsEscape, IsPiece, IsStretch, bytes_of, bytes_of_next}
+use Rattle.data_url.specs.Pieces.{escape, has_ended, is_slice_end, walk_of}
+use Rattle.data_url.specs.Steps.Walk.{IsClear, Reads, Ended, EscapeAt, IsBlock, IsPassed, KeepsBlock, LonePercent}
+use Rattle.data_url.specs.Steps.Walk.{Looking, GoesOn, IsNextMark, Knows, KnowsAhead, LooksOn, Stays, Gathers, HasRoom}
+use Rattle.data_url.specs.Steps.Walk.{MayGather, Moves}
+use Rattle.data_url.specs.Url.{before, behind, front, is_tab_or_newline, without_tabs_and_newlines}
+use Rattle.data_url.proofs.escapes.Reading.{unmarked_tab, paid_byte, paid_le, paid_percent, reads_clear, reads_escape}
+use Rattle.data_url.proofs.escapes.Reading.{reads_none, reads_passed, reads_percent, reads_then, ends_empty}
+use Rattle.data_url.proofs.escapes.Marks.{take_none, looking_clear}
+use Rattle.data_url.proofs.texts.Bytes.{before_all, behind_nil, behind_other, behind_same, dropped_keeps, dropped_nil}
+use Rattle.data_url.proofs.texts.Bytes.{dropped_passes, is_cut, without_tabs_and_newlines-append}
+use Rattle.data_url.specs.Steps.Digits.{DigitsFound, NoDigits}
+use Rattle.data_url.specs.Steps.Looks.{paid_looks}
+use Rattle.data_url.specs.Steps.Tail.{BeginsFragment, IsBodyEnd, rest_fragment}
+use Rattle.data_url.specs.Steps.Window.{is_marked}
+use Rattle.data_url.specs.declared.escapes.cursor.Cursor.{Cursor}
+use Rattle.data_url.specs.declared.escapes.Piece.{Piece}
+use Rattle.data_url.specs.declared.escapes.Piece.TheVariants.{Byte, Slice}
+use Rattle.data_url.specs.declared.escapes.cursor.Ahead.{Ahead}
+use Rattle.data_url.specs.declared.escapes.cursor.Ahead.TheVariants.{BehindEscape, End, Escape, Unknown}
+use Rattle.data_url.specs.Fetch.{plain_body}
+use Rattle.data_url.specs.Steps.Chunks.{IsOver, Takes}
+
+-- Stretches of a text between two places: joined, skipped, without tabs and newlines, and before the first '#'.
+
+-- Ranges
+
+pub slice_none : (text : List ℕ) (place : ℕ) → slice_range text place place ≡ []
+slice_none text place = let e : place - place ≡ 0 = omega arith in ap (λ n. take n (drop place text)) e
+
+pub slice_one : (text : List ℕ) (place : ℕ) → place < length text
+    → slice_range text place (place + 1) ≡ get_or text place 0 ∷ []
+slice_one text place l =
+    let e : place + 1 - place ≡ 1 = omega arith in
+    ap (λ n. take n (drop place text)) e ∙ ap (take 1) (drop_more text place 0 l)
+
+drop_none : (n : ℕ) → ◌≡◌ {A = List ℕ} (drop n []) []
+drop_none zero = refl
+drop_none (suc n) = refl
+
+taken_none : (n m : ℕ) → ◌≡◌ {A = List ℕ} (take n [] ++ take m (drop n [])) (take (n + m) [])
+taken_none n m = ap (λ s. s ++ take m (drop {A = ℕ} n [])) (sym (take_none n)) ∙ ap (take m) (drop_none n)
+    ∙ sym (take_none m) ∙ take_none (n + m)
+
+taken_twice : (n m : ℕ) (xs : List ℕ) → take n xs ++ take m (drop n xs) ≡ take (n + m) xs
+taken_twice zero m xs = let e : m ≡ zero + m = omega arith in ap (λ k. take k xs) e
+taken_twice (suc n) m [] = taken_none (suc n) m
+taken_twice (suc n) m (x ∷ xs) = let e : suc (n + m) ≡ suc n + m = omega arith in ap (λ t. x ∷ t) (taken_twice n m xs)
+    ∙ ap (λ k. take k (x ∷ xs)) e
+
+pub slice_join : (text : List ℕ) (a b c : ℕ) → a ≤ b → b ≤ c → slice_range text a b ++ slice_range text b c
+    ≡ slice_range text a c
+slice_join text a b c l h =
+    let e : a + (b - a) ≡ b = omega arith in
+    let n : b - a + (c - b) ≡ c - a = omega arith in
+    ap (λ i. take (b - a) (drop a text) ++ take (c - b) (drop i text)) (sym e)
+    ∙ ap (λ s. take (b - a) (drop a text) ++ take (c - b) s) (sym (drop-drop (b - a) a text))
+    ∙ taken_twice (b - a) (c - b) (drop a text)
+    ∙ ap (λ k. take k (drop a text)) n
+
+-- Tabs and newlines
+
+pub skipped_none : (text : List ℕ) (place : ℕ) → IsSkipped text place place
+skipped_none text place = ap without_tabs_and_newlines (slice_none text place) ∙ dropped_nil
+
+pub skipped_byte : (text : List ℕ) (place : ℕ) → place < length text → is_tab_or_newline (get_or text place 0) ≡ true
+    → IsSkipped text place (place + 1)
+skipped_byte text place l h =
+    ap without_tabs_and_newlines (slice_one text place l) ∙ dropped_passes (get_or text place 0) [] h ∙ dropped_nil
+
+pub skipped_then : (text : List ℕ) (a b c : ℕ) → a ≤ b → b ≤ c → IsSkipped text a b → IsSkipped text b c
+    → IsSkipped text a c
+skipped_then text a b c l m h k =
+    ap without_tabs_and_newlines (sym (slice_join text a b c l m))
+    ∙ without_tabs_and_newlines-append (slice_range text a b) (slice_range text b c)
+    ∙ ap₂ (λ x y. x ++ y) h k
+
+-- between two places of the text there is no tab or newline
+abbrev pub IsWithoutTabs : List ℕ → ℕ → ℕ → Type 0
+IsWithoutTabs text from to = without_tabs_and_newlines (slice_range text from to) ≡ slice_range text from to
+
+pub without_tabs_none : (text : List ℕ) (place : ℕ) → IsWithoutTabs text place place
+without_tabs_none text place = skipped_none text place ∙ sym (slice_none text place)
+
+pub without_tabs_byte : (text : List ℕ) (place : ℕ) → place < length text
+    → is_tab_or_newline (get_or text place 0) ≡ false → IsWithoutTabs text place (place + 1)
+without_tabs_byte text place l h =
+    let b = get_or text place 0 in
+    ap without_tabs_and_newlines (slice_one text place l) ∙ dropped_keeps b [] h ∙ ap (λ s. b ∷ s) dropped_nil
+    ∙ sym (slice_one text place l)
+
+pub without_tabs_then : (text : List ℕ) (a b c : ℕ) → a ≤ b → b ≤ c → IsWithoutTabs text a b → IsWithoutTabs text b c
+    → IsWithoutTabs text a c
+without_tabs_then text a b c l m h k =
+    ap without_tabs_and_newlines (sym (slice_join text a b c l m))
+    ∙ without_tabs_and_newlines-append (slice_range text a b) (slice_range text b c)
+    ∙ ap₂ (λ x y. x ++ y) h k
+    ∙ slice_join text a b c l m
+
+without_tabs_for : (text : List ℕ) (from n : ℕ) → from + n ≤ length text → IsClear text from (from + n)
+    → IsWithoutTabs text from (from + n)
+without_tabs_for text from zero l h =
+    let P : ℕ → Type 0 = λ to. IsWithoutTabs text from to in
+    let e : from ≡ from + zero = omega arith in
+    subst P e (without_tabs_none text from)
+without_tabs_for text from (suc n) l h =
+    let b = get_or text from 0 in
+    let tab = unmarked_tab (is_tab_or_newline b) (b == 35) (b == 37) (h from (omega arith) (omega arith)) in
+    let more = without_tabs_for text (from + 1) n (omega arith) (λ i x y. h i (omega arith) (omega arith)) in
+    let e : from + 1 + n ≡ from + suc n = omega arith in
+    let P : ℕ → Type 0 = λ to. IsWithoutTabs text from to in
+    subst P e (without_tabs_then text from (from + 1) (from + 1 + n) (omega arith) (omega arith)
+    (without_tabs_byte text from (omega arith) tab) more)
+
+-- a stretch without marks has no tab or newline
+pub without_tabs_clear : (text : List ℕ) (from to : ℕ) → from ≤ to → to ≤ length text → IsClear text from to
+    → IsWithoutTabs text from to
+without_tabs_clear text from to l w h =
+    let e : from + (to - from) ≡ to = omega arith in
+    let P : ℕ → Type 0 = λ t. IsWithoutTabs text from t in
+    let C : ℕ → Type 0 = λ t. IsClear text from t in
+    subst P e (without_tabs_for text from (to - from) (omega arith) (subst C (sym e) h))
+
+-- The first '#'
+
+behind_first : (b : ℕ) (s : List ℕ) → (b == 35) ≡ true → behind 35 (b ∷ s) ≡ Some s
+behind_first b s h = let e : b ≡ 35 = eqb-true b 35 h in ap (λ c. behind 35 (c ∷ s)) e ∙ behind_same 35 s
+
+-- what follows the first '#' is shorter than the text
+behind_shorter : (s rest : List ℕ) → behind 35 s ≡ Some rest → length rest < length s
+behind_shorter s rest h =
+    let cut = is_cut 35 s rest h in
+    let e = ap length cut.joined in
+    let l = length-append (before 35 s) (35 ∷ rest) in
+    omega arith
+
+-- where the same follows the first '#' of a text and of its end, no '#' comes before that end
+none_before : (n : ℕ) (s : List ℕ) → behind 35 s ≡ behind 35 (drop n s) → behind 35 (take n s) ≡ None
+none_before zero s h = behind_nil 35
+none_before (suc n) [] h = behind_nil 35
+none_before (suc n) (b ∷ s) h = elim (cases_Bool (b == 35)) [
+  | inl e ↦
+      let same : behind 35 (drop n s) ≡ Some s = sym h ∙ behind_first b s e in
+      let l = behind_shorter (drop n s) s same in
+      let d = length-drop n s in
+      absurd (omega arith)
+  | inr e ↦ behind_other 35 b (take n s) e ∙ none_before n s (sym (behind_other 35 b s e) ∙ h)
+]
+
+-- what a walk reads comes before the first '#'
+pub in_front : {text bytes : List ℕ} {from to : ℕ} → Reads text from to bytes → IsInFront text from to
+unfolding front
+in_front {text} {bytes} {from} {to} r =
+    let few = r.few in
+    let e : from + (to - from) ≡ to = omega arith in
+    let d : drop (to - from) (drop from text) ≡ drop to text =
+    drop-drop (to - from) from text ∙ ap (λ i. drop i text) e in
+    before_all 35 (slice_range text from to)
+    (none_before (to - from) (drop from text) (r.behind_is ∙ sym (ap (behind 35) d)))
+
+-- The steps of a walk.
+
+-- the same block of the same text
+block_as : {text text' : List ℕ} {base base' seen seen' marks marks' : ℕ} → text' ≡ text → base' ≡ base → seen' ≡ seen
+    → marks' ≡ marks → IsBlock text base seen marks → IsBlock text' base' seen' marks'
+block_as {text} {text'} {base} {base'} {seen} {seen'} {marks} {marks'} t b s m k =
+    let P : List ℕ → Type 0 = λ x. IsBlock x base' seen' marks' in
+    let Q : ℕ → Type 0 = λ x. IsBlock text x seen' marks' in
+    let R : ℕ → Type 0 = λ x. IsBlock text base x marks' in
+    let S : ℕ → Type 0 = λ x. IsBlock text base seen x in
+    subst P (sym t) (subst Q (sym b) (subst R (sym s) (subst S (sym m) k)))
+
+pub looking_as : {c c' : Cursor} {place more : ℕ} (place' more' : ℕ) → Looking c place more → text_of c' ≡ text_of c
+    → c'.base ≡ c.base → c'.seen ≡ c.seen → c'.marks ≡ c.marks → place ≤ place' → place' ≤ length (text_of c)
+    → c'.source.looks + more' ≤ paid_looks (text_of c) c.seen place' → Looking c' place' more'
+looking_as {c} {c'} {place} {more} place' more' k t b s m f w l =
+    let e = k.base_le in
+    let n = ap length t in
+    let p : paid_looks (text_of c') c'.seen place' ≡ paid_looks (text_of c) c.seen place' =
+    ap (λ x. paid_looks x c'.seen place') t ∙ ap (λ x. paid_looks (text_of c) x place') s in
+    record {
+      block = block_as t b s m k.block;
+      base_le = omega arith;
+      within = omega arith;
+      looks_are_paid =
+          omega arith;
+    }
+
+pub keeps : {c c' : Cursor} → text_of c' ≡ text_of c → c.source.looks ≤ c'.source.looks → c'.base ≡ c.base
+    → c'.seen ≡ c.seen → c'.marks ≡ c.marks → c'.place ≡ c.place → c'.ahead ≡ c.ahead → KeepsBlock c c'
+keeps t l b s m p a =
+    record {
+      stays = record { on = record { text_stays = t; looks_grow = l }; place_stays = p; ahead_stays = a };
+      base_stays = b;
+      seen_stays = s;
+      marks_stay = m;
+    }
+
+looking_kept : {c c' : Cursor} {place more : ℕ} (place' more' : ℕ) → Looking c place more → KeepsBlock c c'
+    → place ≤ place' → place' ≤ length (text_of c) → c'.source.looks + more' ≤ paid_looks (text_of c) c.seen place'
+    → Looking c' place' more'
+looking_kept place' more' k h f w l = looking_as place' more' k h.stays.on.text_stays h.base_stays h.seen_stays
+    h.marks_stay f w l
+
+-- What stands at a mark
+
+-- a walk that looked at a byte
+pub record Looked (c : Cursor) (mark b : ℕ) : Type 0 where
+  pub looking : Looking c mark 0
+  pub within : mark < length (text_of c)
+  pub byte_is : b ≡ get_or (text_of c) mark 0
+
+pub looked : {c : Cursor} {mark b : ℕ} → Looking c mark 0 → mark < length (text_of c) → b ≡ get_or (text_of c) mark 0
+    → Looked c mark b
+looked k w e = record { looking = k; within = w; byte_is = e }
+
+pub digits_in : {text same : List ℕ} {place looks looks' value end last : ℕ} → same ≡ text → looks' ≡ looks
+    → DigitsFound same place looks' value end last → DigitsFound text place looks value end last
+digits_in {text} {same} {place} {looks} {looks'} {value} {end} {last} e n d =
+    let P : List ℕ → Type 0 = λ t. DigitsFound t place looks value end last in
+    let Q : ℕ → Type 0 = λ l. DigitsFound same place l value end last in
+    subst P e (subst Q n d)
+
+pub no_digits_in : {text same : List ℕ} {place looks looks' last : ℕ} → same ≡ text → looks' ≡ looks
+    → NoDigits same place looks' last → NoDigits text place looks last
+no_digits_in {text} {same} {place} {looks} {looks'} {last} e n d =
+    let P : List ℕ → Type 0 = λ t. NoDigits t place looks last in
+    let Q : ℕ → Type 0 = λ l. NoDigits same place l last in
+    subst P e (subst Q n d)
+
+-- the escape of a '%' was found
+pub stop_escape : {c c' : Cursor} {mark b value end : ℕ} → Looked c mark b → b ≡ 37 → KeepsBlock c c'
+    → DigitsFound (text_of c) (mark + 1) (c.source.looks + 1) value end c'.source.looks
+    → EscapeAt (text_of c') mark value end × Looking c' end 3
+stop_escape {c} {c'} {mark} {b} {value} {end} k h s d =
+    let t = s.stays.on.text_stays in
+    let two = d.two in
+    let e : EscapeAt (text_of c) mark value end = record {
+      some = omega arith;
+      within = d.within;
+      percent =
+          sym k.byte_is ∙ h;
+      value_is = d.value_is;
+    } in
+    let P : List ℕ → Type 0 = λ x. EscapeAt x mark value end in
+    let paid_here = paid_percent (text_of c) c.seen mark mark k.within (sym k.byte_is ∙ h) in
+    let l = k.looking.looks_are_paid in
+    let n = d.looks_are in
+    (subst P (sym t) e, looking_kept end 3 k.looking s (omega arith) d.within (omega arith))
+
+-- none was found
+pub stop_percent : {c c' : Cursor} {mark b : ℕ} → Looked c mark b → b ≡ 37 → KeepsBlock c c'
+    → NoDigits (text_of c) (mark + 1) (c.source.looks + 1) c'.source.looks → LonePercent (text_of c') mark
+    × Looking c' (mark + 1) 0
+stop_percent {c} {c'} {mark} {b} k h s d =
+    let t = s.stays.on.text_stays in
+    let w = k.within in
+    let e : LonePercent (text_of c) mark = record {
+      within = k.within;
+      percent = sym k.byte_is ∙ h;
+      no_escape =
+          d.none_is;
+    } in
+    let P : List ℕ → Type 0 = λ x. LonePercent x mark in
+    let paid_here = paid_percent (text_of c) c.seen mark mark k.within (sym k.byte_is ∙ h) in
+    let l = k.looking.looks_are_paid in
+    let n = d.looks_are in
+    (subst P (sym t) e, looking_kept (mark + 1) 0 k.looking s (omega arith) (omega arith) (omega arith))
+
+marked_tab : (t h p : Bool) → (t || (h || p)) ≡ true → h ≡ false → p ≡ false → t ≡ true
+marked_tab true h p e a b = refl
+marked_tab false true p e a b = absurd (let k : true ≡ false = a in cc)
+marked_tab false false true e a b = absurd (let k : true ≡ false = b in cc)
+marked_tab false false false e a b = absurd (let k : false ≡ true = e in cc)
+
+pub stop_passed : {c c' : Cursor} {mark b : ℕ} → Looked c mark b → is_marked (get_or (text_of c) mark 0) ≡ true
+    → (b ≡ 37 → ⊥) → (b ≡ 35 → ⊥) → KeepsBlock c c' → c'.source.looks ≡ c.source.looks + 1 → IsPassed (text_of c') mark
+    × Looking c' (mark + 1) 0
+stop_passed {c} {c'} {mark} {b} k m p h s n =
+    let t = s.stays.on.text_stays in
+    let w = k.within in
+    let same = k.byte_is in
+    let marked : is_marked b ≡ true = ap is_marked same ∙ m in
+    let percent : (b == 37) ≡ false = ne_eqb b 37 p in
+    let tab : is_tab_or_newline b ≡ true = marked_tab (is_tab_or_newline b) (b == 35) (b == 37) marked
+    (ne_eqb b 35 h) percent in
+    let e : IsPassed (text_of c) mark = record { within = k.within; passed = ap is_tab_or_newline (sym same) ∙ tab } in
+    let P : List ℕ → Type 0 = λ x. IsPassed x mark in
+    let no : not (get_or (text_of c) mark 0 == 37) ≡ true = ap (λ v. not (v == 37)) (sym same)
+    ∙ ap (λ v. not v) percent in
+    let paid_here = paid_byte (text_of c) c.seen mark k.within no in
+    let l = k.looking.looks_are_paid in
+    (subst P (sym t) e, looking_kept (mark + 1) 0 k.looking s (omega arith) (omega arith) (omega arith))
+
+begins_hash : (s : List ℕ) (b : ℕ) (rest : List ℕ) → s ≡ b ∷ rest → b ≡ 35 → BeginsFragment s
+begins_hash s b rest e h = subst BeginsFragment (sym e) h
+
+begins_empty : (s : List ℕ) → s ≡ [] → BeginsFragment s
+begins_empty s e = subst BeginsFragment (sym e) tt
+
+pub stop_hash : {c c' : Cursor} {mark b : ℕ} → Looked c mark b → b ≡ 35 → KeepsBlock c c'
+    → c'.source.looks ≡ c.source.looks + 1 → Ended c' mark
+stop_hash {c} {c'} {mark} {b} k h s n =
+    let t = s.stays.on.text_stays in
+    let w = k.within in
+    let same = k.byte_is in
+    let size = ap length t in
+    let e : drop mark (text_of c) ≡ get_or (text_of c) mark 0 ∷ drop (mark + 1) (text_of c) =
+    drop_more (text_of c) mark 0 w in
+    let begins : BeginsFragment (drop mark (text_of c)) =
+    begins_hash (drop mark (text_of c)) (get_or (text_of c) mark 0) (drop (mark + 1) (text_of c)) e (sym same
+    ∙ h) in
+    let P : List ℕ → Type 0 = λ x. BeginsFragment (drop mark x) in
+    let no : not (get_or (text_of c) mark 0 == 37) ≡ true = ap (λ v. not (v == 37)) (sym same ∙ h) in
+    let paid_here = paid_byte (text_of c) c.seen mark k.within no in
+    let most = paid_le (text_of c) c.seen (mark + 1) k.looking.block.seen_le (omega arith) in
+    let l = k.looking.looks_are_paid in
+    record { ends = record { within = omega arith; begins = subst P (sym t) begins }; few_looks = omega arith }
+
+-- at the end of the text
+pub stop_end : {c : Cursor} {mark : ℕ} → Looking c mark 0 → length (text_of c) ≤ mark → Ended c mark
+stop_end {c} {mark} k h =
+    let w = k.within in
+    let l = k.looks_are_paid in
+    let most = paid_le (text_of c) c.seen mark k.block.seen_le w in
+    record {
+      ends = record { within = w; begins = begins_empty (drop mark (text_of c)) (drop_all mark (text_of c) h) };
+      few_looks = omega arith;
+    }
+
+-- The next piece of a walk.
+
+-- Searching
+
+-- tabs and newlines were passed, and a stretch was found up to a place
+pub record Searching (c0 c : Cursor) (from : ℕ) : Type 0 where
+  pub looking : Looking c from 0
+  pub on : LooksOn c0 c
+  pub passed : Reads (text_of c0) c0.place c.place []
+  pub stretch : Reads (text_of c0) c.place from (slice_range (text_of c0) c.place from)
+  pub skipped : IsSkipped (text_of c0) c0.place c.place
+  pub kept : IsWithoutTabs (text_of c0) c.place from
+
+pub searching_none : {c : Cursor} → Looking c c.place 0 → Searching c c c.place
+searching_none {c} k =
+    let P : List ℕ → Type 0 = λ s. Reads (text_of c) c.place c.place s in
+    record {
+      looking = k;
+      on = record { text_stays = refl; looks_grow = omega arith };
+      passed = reads_none (text_of c) c.place k.within;
+      stretch = subst P (sym (slice_none (text_of c) c.place)) (reads_none (text_of c) c.place k.within);
+      skipped = skipped_none (text_of c) c.place;
+      kept = without_tabs_none (text_of c) c.place;
+    }
+
+-- the stretch reaches a mark
+pub record Reached (c0 c : Cursor) (mark : ℕ) : Type 0 where
+  pub on : LooksOn c0 c
+  pub passed : Reads (text_of c0) c0.place c.place []
+  pub stretch : Reads (text_of c0) c.place mark (slice_range (text_of c0) c.place mark)
+  pub skipped : IsSkipped (text_of c0) c0.place c.place
+  pub kept : IsWithoutTabs (text_of c0) c.place mark
+
+pub on_then : {a b c : Cursor} → LooksOn a b → LooksOn b c → LooksOn a c
+on_then h k = record {
+  text_stays = k.text_stays ∙ h.text_stays;
+  looks_grow = let x = h.looks_grow in let y =
+      k.looks_grow in omega arith;
+}
+
+stretch_on : {text : List ℕ} {place from to : ℕ} → Reads text place from (slice_range text place from)
+    → Reads text from to (slice_range text from to) → Reads text place to (slice_range text place to)
+stretch_on {text} {place} {from} {to} a b =
+    let f = a.few in
+    let g = b.few in
+    let P : List ℕ → Type 0 = λ s. Reads text place to s in
+    subst P (slice_join text place from to (omega arith) (omega arith)) (reads_then a b)
+
+pub reached : {c0 c c1 c2 : Cursor} {from mark : ℕ} → Searching c0 c from → IsNextMark (text_of c) from mark
+    → Stays c c1 → KeepsBlock c1 c2 → Reached c0 c2 mark
+reached {c0} {c} {c1} {c2} {from} {mark} s m a b =
+    let place : c2.place ≡ c.place = b.stays.place_stays ∙ a.place_stays in
+    let text : text_of c ≡ text_of c0 = s.on.text_stays in
+    let P : ℕ → Type 0 = λ p. Reads (text_of c0) c0.place p [] in
+    let Q : ℕ → Type 0 = λ p. Reads (text_of c0) p mark (slice_range (text_of c0) p mark) in
+    let C : List ℕ → Type 0 = λ t. IsClear t from mark in
+    let R : List ℕ → Type 0 = λ t. mark ≤ length t in
+    let S : ℕ → Type 0 = λ p. IsSkipped (text_of c0) c0.place p in
+    let K : ℕ → Type 0 = λ p. IsWithoutTabs (text_of c0) p mark in
+    let within = subst R text m.within in
+    let clear = subst C text m.clear in
+    let f = s.stretch.few in
+    record {
+      on = on_then s.on (on_then a.on b.stays.on);
+      passed = subst P (sym place) s.passed;
+      stretch = subst Q (sym place) (stretch_on s.stretch (reads_clear m.forward within clear));
+      skipped = subst S (sym place) s.skipped;
+      kept = subst K (sym place)
+          (without_tabs_then (text_of c0) c.place from mark (omega arith) m.forward s.kept
+          (without_tabs_clear (text_of c0) from mark m.forward within clear));
+    }
+
+-- a '%' that begins no escape is part of the stretch
+pub search_percent : {c0 c : Cursor} {mark : ℕ} → Reached c0 c mark → LonePercent (text_of c) mark
+    → Looking c (mark + 1) 0 → Searching c0 c (mark + 1)
+search_percent {c0} {c} {mark} r p k =
+    let text : text_of c ≡ text_of c0 = r.on.text_stays in
+    let P : List ℕ → Type 0 = λ t. LonePercent t mark in
+    let q : LonePercent (text_of c0) mark = subst P text p in
+    let Q : List ℕ → Type 0 = λ s. Reads (text_of c0) mark (mark + 1) s in
+    let one : 37 ∷ [] ≡ slice_range (text_of c0) mark (mark + 1) = ap (λ b. b ∷ []) (sym q.percent)
+    ∙ sym (slice_one (text_of c0) mark q.within) in
+    let tab : is_tab_or_newline (get_or (text_of c0) mark 0) ≡ false = ap is_tab_or_newline q.percent in
+    let f = r.stretch.few in
+    record {
+      looking = k;
+      on = r.on;
+      passed = r.passed;
+      stretch = stretch_on r.stretch (subst Q one (reads_percent q));
+      skipped = r.skipped;
+      kept = without_tabs_then (text_of c0) c.place mark (mark + 1) (omega arith) (omega arith) r.kept
+          (without_tabs_byte (text_of c0) mark q.within tab);
+    }
+
+-- a tab or newline before any stretch is passed
+pub search_passed : {c0 c : Cursor} (c' : Cursor) {mark : ℕ} → Reached c0 c mark → IsPassed (text_of c) mark
+    → Looking c (mark + 1) 0 → mark ≡ c.place → text_of c' ≡ text_of c → c'.source.looks ≡ c.source.looks
+    → c'.base ≡ c.base → c'.seen ≡ c.seen → c'.marks ≡ c.marks → c'.place ≡ mark + 1 → Searching c0 c' (mark + 1)
+search_passed {c0} {c} c' {mark} r p k e t n b s m a =
+    let text : text_of c ≡ text_of c0 = r.on.text_stays in
+    let P : List ℕ → Type 0 = λ x. IsPassed x mark in
+    let q : IsPassed (text_of c0) mark = subst P text p in
+    let Q : ℕ → Type 0 = λ x. Reads (text_of c0) c0.place x [] in
+    let first : Reads (text_of c0) c0.place mark [] = subst Q (sym e) r.passed in
+    let both : Reads (text_of c0) c0.place (mark + 1) [] = reads_then first (reads_passed q.within q.passed) in
+    let l = k.looks_are_paid in
+    let w = both.within in
+    let S : ℕ → Type 0 = λ x. Reads (text_of c0) x (mark + 1) (slice_range (text_of c0) x (mark + 1)) in
+    let T : List ℕ → Type 0 = λ x. Reads (text_of c0) (mark + 1) (mark + 1) x in
+    let U : ℕ → Type 0 = λ x. IsSkipped (text_of c0) c0.place x in
+    let V : ℕ → Type 0 = λ x. IsWithoutTabs (text_of c0) x (mark + 1) in
+    let f = first.few in
+    record {
+      looking = looking_as (mark + 1) 0 k t b s m (omega arith) k.within (omega arith);
+      on = record { text_stays = t ∙ text; looks_grow = let g = r.on.looks_grow in omega arith };
+      passed = subst Q (sym a) both;
+      stretch = subst S (sym a) (subst T (sym (slice_none (text_of c0) (mark + 1)))
+          (reads_none (text_of c0) (mark + 1) w));
+      skipped = subst U (sym a) (skipped_then (text_of c0) c0.place mark (mark + 1) (omega arith) (omega arith)
+          (subst U (sym e) r.skipped)
+          (skipped_byte (text_of c0) mark q.within q.passed));
+      kept = subst V (sym a) (without_tabs_none (text_of c0) (mark + 1));
+    }
+
+-- Pieces
+
+stops_tab : (s : List ℕ) (b : ℕ) (rest : List ℕ) → s ≡ b ∷ rest → is_tab_or_newline b ≡ true → is_slice_end s ≡ true
+stops_tab s b rest e h = ap is_slice_end e ∙ ap (λ v. v || ((b == 35) || ((b == 37) && is_some (escape rest)))) h
+
+or_true : (b : Bool) → (b || true) ≡ true
+or_true true = refl
+or_true false = refl
+
+stops_percent : (s rest : List ℕ) (found : ℕ × List ℕ) → s ≡ 37 ∷ rest → escape rest ≡ Some found
+    → is_slice_end s ≡ true
+stops_percent s rest found e h = ap is_slice_end e ∙ ap is_some h
+
+stops_end : (s : List ℕ) → BeginsFragment s → is_slice_end s ≡ true
+stops_end [] h = refl
+stops_end (b ∷ s) h = ap (λ v. is_slice_end (v ∷ s)) h
+
+-- the stretch up to the mark, as a piece
+slice_piece : {c0 c : Cursor} {mark to : ℕ} {bytes : List ℕ} → Reached c0 c mark → mark ≢ c.place
+    → Reads (text_of c0) mark to [] → IsSkipped (text_of c0) mark to → bytes ≡ slice_range (text_of c) c.place mark
+    → is_slice_end (drop mark (text_of c0)) ≡ true → IsStretch (text_of c0) c0.place to bytes
+slice_piece {c0} {c} {mark} {to} {bytes} r n after skipped e h =
+    let f = r.passed.few in
+    let g = r.stretch.few in
+    let a = after.few in
+    let is : bytes ≡ slice_range (text_of c0) c.place mark = e ∙ ap (λ t. slice_range t c.place mark) r.on.text_stays in
+    record {
+      start = c.place;
+      end = mark;
+      from_le = omega arith;
+      nonempty = omega arith;
+      to_le = omega arith;
+      skipped_before = r.skipped;
+      slice_is = is;
+      without_tabs = ap without_tabs_and_newlines is ∙ r.kept ∙ sym is;
+      stops_there = h;
+      skipped_after = skipped;
+      in_front = in_front (reads_then (reads_then r.passed r.stretch) after);
+    }
+
+slice_read : {c0 c : Cursor} {mark : ℕ} {bytes : List ℕ} → Reached c0 c mark
+    → bytes ≡ slice_range (text_of c) c.place mark → Reads (text_of c0) c0.place mark bytes
+slice_read {c0} {c} {mark} {bytes} r e =
+    let P : List ℕ → Type 0 = λ s. Reads (text_of c0) c0.place mark s in
+    subst P (sym (e ∙ ap (λ t. slice_range t c.place mark) r.on.text_stays)) (reads_then r.passed r.stretch)
+
+-- a walk that was only moved
+moved_on : {c0 c : Cursor} (place : ℕ) (ahead : Ahead) → LooksOn c0 c
+    → LooksOn c0 (record c { place = place; ahead = ahead })
+moved_on place ahead h = record { text_stays = h.text_stays; looks_grow = h.looks_grow }
+
+abbrev IsCut : Cursor → Cursor → ℕ → Piece → Type 0
+IsCut c0 c mark p = (bytes_of p ≡ slice_range (text_of c) c.place mark)
+    × ((from to : ℕ) → IsStretch (text_of c) from to (bytes_of p) → IsPiece (text_of c) from to p)
+
+piece_in : {c0 c : Cursor} (mark : ℕ) {to : ℕ} (p : Piece) → LooksOn c0 c → IsCut c0 c mark p
+    → IsStretch (text_of c0) c0.place to (bytes_of p) → IsPiece (text_of c0) c0.place to p
+piece_in {c0} {c} mark {to} p on cut s =
+    let P : List ℕ → Type 0 = λ t. IsStretch t c0.place to (bytes_of p) in
+    let Q : List ℕ → Type 0 = λ t. IsPiece t c0.place to p in
+    subst Q on.text_stays (cut.1 c0.place to (subst P (sym on.text_stays) s))
+
+pub slice_passed : {c0 c : Cursor} {mark : ℕ} (p : Piece) → Reached c0 c mark → IsPassed (text_of c) mark
+    → mark ≢ c.place → IsCut c0 c mark p → GoesOn c0 (Some p) (record c { place = mark + 1; ahead = Unknown })
+slice_passed {c0} {c} {mark} p r h n cut =
+    let text : text_of c ≡ text_of c0 = r.on.text_stays in
+    let P : List ℕ → Type 0 = λ x. IsPassed x mark in
+    let q : IsPassed (text_of c0) mark = subst P text h in
+    let stop = stops_tab (drop mark (text_of c0)) (get_or (text_of c0) mark 0) (drop (mark + 1) (text_of c0))
+    (drop_more (text_of c0) mark 0 q.within) q.passed in
+    let R : List ℕ → Type 0 = λ s. Reads (text_of c0) c0.place (mark + 1) s in
+    record {
+      on = moved_on (mark + 1) Unknown r.on;
+      reads = subst R (append-nil (bytes_of p)) (reads_then (slice_read r cut.0) (reads_passed q.within q.passed));
+      piece = piece_in mark p r.on cut (slice_piece r n (reads_passed q.within q.passed)
+          (skipped_byte (text_of c0) mark q.within q.passed) cut.0 stop);
+      ended = tt;
+    }
+
+pub slice_escape : {c0 c : Cursor} {mark value end : ℕ} (p : Piece) → Reached c0 c mark
+    → EscapeAt (text_of c) mark value end → mark ≢ c.place → IsCut c0 c mark p
+    → GoesOn c0 (Some p) (record c { place = mark; ahead = Escape value end })
+slice_escape {c0} {c} {mark} {value} {end} p r h n cut =
+    let text : text_of c ≡ text_of c0 = r.on.text_stays in
+    let P : List ℕ → Type 0 = λ x. EscapeAt x mark value end in
+    let q : EscapeAt (text_of c0) mark value end = subst P text h in
+    let some = q.some in
+    let within = q.within in
+    let here : drop mark (text_of c0) ≡ 37 ∷ drop (mark + 1) (text_of c0) = drop_more (text_of c0) mark 0 (omega arith)
+    ∙ ap (λ v. v ∷ drop (mark + 1) (text_of c0)) q.percent in
+    let stop = stops_percent (drop mark (text_of c0)) (drop (mark + 1) (text_of c0)) (value, drop end (text_of c0)) here
+    q.value_is in
+    record {
+      on = moved_on mark (Escape value end) r.on;
+      reads = slice_read r cut.0;
+      piece = piece_in mark p r.on cut (slice_piece r n (reads_none (text_of c0) mark r.stretch.within)
+          (skipped_none (text_of c0) mark) cut.0 stop);
+      ended = tt;
+    }
+
+pub slice_end : {c0 c : Cursor} {mark : ℕ} (p : Piece) → Reached c0 c mark → Ended c mark → mark ≢ c.place
+    → IsCut c0 c mark p → GoesOn c0 (Some p) (record c { place = mark; ahead = End })
+slice_end {c0} {c} {mark} p r h n cut =
+    let P : List ℕ → Type 0 = λ x. BeginsFragment (drop mark x) in
+    let begins : BeginsFragment (drop mark (text_of c0)) = subst P r.on.text_stays h.ends.begins in
+    record {
+      on = moved_on mark End r.on;
+      reads = slice_read r cut.0;
+      piece = piece_in mark p r.on cut (slice_piece r n (reads_none (text_of c0) mark r.stretch.within)
+          (skipped_none (text_of c0) mark) cut.0 (stops_end (drop mark (text_of c0)) begins));
+      ended = tt;
+    }
+
+pub byte_here : {c0 c : Cursor} {mark value end : ℕ} → Reached c0 c mark → EscapeAt (text_of c) mark value end
+    → mark ≡ c.place → GoesOn c0 (Some (Byte value)) (record c { place = end; ahead = BehindEscape })
+byte_here {c0} {c} {mark} {value} {end} r h e =
+    let text : text_of c ≡ text_of c0 = r.on.text_stays in
+    let P : List ℕ → Type 0 = λ x. EscapeAt x mark value end in
+    let q : EscapeAt (text_of c0) mark value end = subst P text h in
+    let Q : ℕ → Type 0 = λ x. Reads (text_of c0) c0.place x [] in
+    let S : ℕ → Type 0 = λ x. IsSkipped (text_of c0) c0.place x in
+    let f = r.passed.few in
+    let reads = reads_then (subst Q (sym e) r.passed) (reads_escape q) in
+    record {
+      on = moved_on end BehindEscape r.on;
+      reads = reads;
+      piece = record {
+        start = mark;
+        from_le = omega arith;
+        nonempty = q.some;
+        skipped_before = subst S (sym e) r.skipped;
+        in_front = in_front reads;
+        percent = q.percent;
+        value_is = q.value_is;
+      };
+      ended = tt;
+    }
+
+pub end_here : {c0 c : Cursor} {mark : ℕ} → Reached c0 c mark → mark ≡ c.place
+    → GoesOn c0 None (record c { ahead = End })
+end_here {c0} {c} {mark} r e = record { on = moved_on c.place End r.on; reads = r.passed; piece = tt; ended = refl }
+
+pub goes_as : {c0 c c' : Cursor} {next : Option Piece} → c' ≡ c → GoesOn c0 next c → GoesOn c0 next c'
+goes_as {c0} {c} {c'} {next} e g = let P : Cursor → Type 0 = λ w. GoesOn c0 next w in subst P (sym e) g
+
+-- Walks that know something of their place
+
+pub reads_in : {text same bytes : List ℕ} {from to : ℕ} → same ≡ text → Reads same from to bytes
+    → Reads text from to bytes
+reads_in {text} {same} {bytes} {from} {to} e r = let P : List ℕ → Type 0 = λ t. Reads t from to bytes in subst P e r
+
+stretch_from : {text same slice : List ℕ} {from from' to : ℕ} → same ≡ text → from' ≡ from
+    → IsStretch same from' to slice → IsStretch text from to slice
+stretch_from {text} {same} {slice} {from} {from'} {to} t e s =
+    let P : List ℕ → Type 0 = λ x. IsStretch x from' to slice in
+    let Q : ℕ → Type 0 = λ x. IsStretch text x to slice in
+    subst Q e (subst P t s)
+
+escape_from : {text same : List ℕ} {from from' to byte : ℕ} → same ≡ text → from' ≡ from → IsEscape same from' to byte
+    → IsEscape text from to byte
+escape_from {text} {same} {from} {from'} {to} {byte} t e s =
+    let P : List ℕ → Type 0 = λ x. IsEscape x from' to byte in
+    let Q : ℕ → Type 0 = λ x. IsEscape text x to byte in
+    subst Q e (subst P t s)
+
+piece_of : (p : Piece) {text same : List ℕ} {from from' : ℕ} (to : ℕ) → same ≡ text → from' ≡ from
+    → IsPiece same from' to p → IsPiece text from to p
+piece_of (Slice slice) to t e h = stretch_from t e h
+piece_of (Byte byte) to t e h = escape_from t e h
+
+piece_from : (next : Option Piece) {c c1 : Cursor} (to : ℕ) → LooksOn c c1 → c1.place ≡ c.place
+    → IfSome next (IsPiece (text_of c1) c1.place to) → IfSome next (IsPiece (text_of c) c.place to)
+piece_from None to on e h = tt
+piece_from (Some p) to on e h = piece_of p to on.text_stays e h
+
+-- a walk that was only looked on with goes on as the one before
+pub goes_then : {c c1 c2 : Cursor} {next : Option Piece} → LooksOn c c1 → c1.place ≡ c.place → GoesOn c1 next c2
+    → GoesOn c next c2
+goes_then {c} {c1} {c2} {next} on e g =
+    let text = on.text_stays in
+    let P : ℕ → Type 0 = λ p. Reads (text_of c) p c2.place (bytes_of_next next) in
+    record {
+      on = on_then on g.on;
+      reads = subst P e (reads_in text g.reads);
+      piece = piece_from next c2.place on e g.piece;
+      ended = g.ended;
+    }
+
+pub knows_on : {c c' : Cursor} {next : Option Piece} → Knows c → GoesOn c next c' → KnowsAhead c' c'.ahead → Knows c'
+knows_on {c} {c'} {next} k g a =
+    let text = g.on.text_stays in
+    record {
+      behind_is = ap (behind 35) text ∙ k.behind_is ∙ g.reads.behind_is
+          ∙ ap (λ t. behind 35 (drop c'.place t)) (sym text);
+      ahead_is = a;
+    }
+
+-- an escape at the walk's place is a piece
+escape_piece : {text : List ℕ} {place value end : ℕ} → EscapeAt text place value end → IsEscape text place end value
+escape_piece {text} {place} {value} {end} q = record {
+  start = place;
+  from_le = omega arith;
+  nonempty = q.some;
+  skipped_before = skipped_none text place;
+  in_front = in_front (reads_escape q);
+  percent = q.percent;
+  value_is = q.value_is;
+}
+
+pub byte_known : {c : Cursor} {value end : ℕ} → EscapeAt (text_of c) c.place value end
+    → GoesOn c (Some (Byte value)) (record c { place = end; ahead = BehindEscape })
+byte_known {c} {value} {end} q =
+    record {
+      on = record { text_stays = refl; looks_grow = omega arith };
+      reads = reads_escape q;
+      piece = escape_piece q;
+      ended = tt;
+    }
+
+pub byte_behind : {c c' : Cursor} {value : ℕ} → LooksOn c c' → EscapeAt (text_of c) c.place value c'.place
+    → GoesOn c (Some (Byte value)) c'
+byte_behind {c} {c'} {value} on q =
+    record {
+      on = on;
+      reads = reads_escape q;
+      piece = escape_piece q;
+      ended = tt;
+    }
+
+ended_cases : {c : Cursor} (a : Ahead) → KnowsAhead c a → has_ended a ≡ true → Ended c c.place
+ended_cases Unknown k e = absurd (cc)
+ended_cases BehindEscape k e = absurd (cc)
+ended_cases (Escape value end) k e = absurd (cc)
+ended_cases End k e = k
+
+-- a walk that has ended
+pub ended_of : {c : Cursor} → Knows c → has_ended c.ahead ≡ true → Ended c c.place
+ended_of {c} k e = ended_cases c.ahead k.ahead_is e
+
+pub over : {c : Cursor} → Ended c c.place → has_ended c.ahead ≡ true → GoesOn c None c
+over {c} h e = record {
+  on = record { text_stays = refl; looks_grow = omega arith };
+  reads =
+      reads_none (text_of c) c.place h.ends.within;
+  piece = tt;
+  ended = e;
+}
+
+begun_fragment : (s : List ℕ) → BeginsFragment s → behind 35 s ≡ rest_fragment s
+begun_fragment [] h = behind_nil 35
+begun_fragment (b ∷ s) h = ap (λ v. behind 35 (v ∷ s)) h ∙ behind_same 35 s
+
+pub body_end : {c : Cursor} → Knows c → Ended c c.place → IsBodyEnd (text_of c) c.place
+body_end {c} k h = record {
+  within = h.ends.within;
+  begins = h.ends.begins;
+  behind_is = k.behind_is
+      ∙ begun_fragment (drop c.place (text_of c)) h.ends.begins;
+}
+
+pub no_fragment : {c : Cursor} → Knows c → c.place ≡ length (text_of c)
+    → ◌≡◌ {A = Option (List ℕ)} None (behind 35 (text_of c))
+no_fragment {c} k e = sym (k.behind_is ∙ ap (behind 35) (drop_all c.place (text_of c) (omega arith)) ∙ behind_nil 35)
+
+pub hash_at : {c : Cursor} → Ended c c.place → (c.place ≡ length (text_of c) → ⊥) → (c.place < length (text_of c))
+    × (get_or (text_of c) c.place 0 ≡ 35)
+hash_at {c} h n =
+    let w = h.ends.within in
+    let l : c.place < length (text_of c) = elim (cases_lt c.place (length (text_of c))) [
+      | inl e ↦ e
+      | inr e ↦
+          absurd (n (omega arith))
+    ] in
+    let P : List ℕ → Type 0 = BeginsFragment in
+    let b : BeginsFragment (get_or (text_of c) c.place 0 ∷ drop (c.place + 1) (text_of c)) =
+    subst P (drop_more (text_of c) c.place 0 l) h.ends.begins in
+    (l, b)
+
+pub some_fragment : {c : Cursor} → Knows c → Ended c c.place → (c.place ≡ length (text_of c) → ⊥)
+    → Some (drop (c.place + 1) (text_of c)) ≡ behind 35 (text_of c)
+some_fragment {c} k h n =
+    let at = hash_at h n in
+    sym (k.behind_is ∙ begun_fragment (drop c.place (text_of c)) h.ends.begins
+    ∙ ap rest_fragment (drop_more (text_of c) c.place 0 at.0))
+
+pub moved_looking : {c : Cursor} {place more : ℕ} (p : ℕ) (a : Ahead) → Looking c place more
+    → Looking (record c { place = p; ahead = a }) place more
+moved_looking p a k = record {
+  block = k.block;
+  base_le = k.base_le;
+  within = k.within;
+  looks_are_paid =
+      k.looks_are_paid;
+}
+
+pub ahead_at : (c : Cursor) (a : Ahead) → KnowsAhead c c.ahead → c.ahead ≡ a → KnowsAhead c a
+ahead_at c a k e = let P : Ahead → Type 0 = λ x. KnowsAhead c x in subst P e k
+
+pub ahead_is : (c : Cursor) (a : Ahead) → c.ahead ≡ a → KnowsAhead c a → KnowsAhead c c.ahead
+ahead_is c a e k = let P : Ahead → Type 0 = λ x. KnowsAhead c x in subst P (sym e) k
+
+-- Bytes that are gathered in a room.
+
+-- nothing is gathered
+pub gathers_none : (c : Cursor) (room : List ℕ) (len : ℕ) → c.place ≤ length (text_of c) → Gathers c c room room len len
+gathers_none c room len w = record {
+  bytes = [];
+  on = record { text_stays = refl; looks_grow = omega arith };
+  reads = reads_none (text_of c) c.place w;
+  room_is = sym (append-nil (take len room));
+  len_is = omega arith;
+}
+
+pub gathers_then : {c c1 c2 : Cursor} {room room1 room2 : List ℕ} {len len1 len2 : ℕ} → Gathers c c1 room room1 len len1
+    → Gathers c1 c2 room1 room2 len1 len2 → Gathers c c2 room room2 len len2
+gathers_then {c} {c1} {c2} {room} {room1} {room2} {len} {len1} {len2} g h =
+    let l = length-append g.bytes h.bytes in
+    let m = g.len_is in
+    let n = h.len_is in
+    record {
+      bytes = g.bytes ++ h.bytes;
+      on = on_then g.on h.on;
+      reads = reads_then g.reads (reads_in g.on.text_stays h.reads);
+      room_is = h.room_is ∙ ap (λ s. s ++ h.bytes) g.room_is ∙ append_assoc (take len room) g.bytes h.bytes;
+      len_is = omega arith;
+    }
+
+-- one byte is written behind what is there
+pub gathers_byte : {c c' : Cursor} {room : List ℕ} {len b : ℕ} → LooksOn c c'
+    → Reads (text_of c) c.place c'.place (b ∷ []) → len < length room → Gathers c c' room (set room len b) len (len + 1)
+gathers_byte {c} {c'} {room} {len} {b} on r l = record {
+  bytes = b ∷ [];
+  on = on;
+  reads = r;
+  room_is =
+      take_more_set room len b l;
+  len_is = refl;
+}
+
+-- only the walk goes on
+pub gathers_nothing : {c c' : Cursor} {room : List ℕ} {len : ℕ} → LooksOn c c' → Reads (text_of c) c.place c'.place []
+    → Gathers c c' room room len len
+gathers_nothing {c} {c'} {room} {len} on r = record {
+  bytes = [];
+  on = on;
+  reads = r;
+  room_is =
+      sym (append-nil (take len room));
+  len_is = omega arith;
+}
+
+-- a stretch is copied
+pub gathers_slice : {c c' : Cursor} {room room' : List ℕ} {len : ℕ} (width : ℕ) → LooksOn c c'
+    → c'.place ≡ c.place + width → c.place + width ≤ length (text_of c) → IsClear (text_of c) c.place (c.place + width)
+    → take (len + width) room' ≡ take len room ++ slice_range (text_of c) c.place (c.place + width)
+    → Gathers c c' room room' len (len + width)
+gathers_slice {c} {c'} {room} {room'} {len} width on e w clear h =
+    let P : ℕ → Type 0 = λ p. Reads (text_of c) c.place p (slice_range (text_of c) c.place (c.place + width)) in
+    let d = length-drop c.place (text_of c) in
+    let n : c.place + width - c.place ≡ width = omega arith in
+    let long : length (slice_range (text_of c) c.place (c.place + width)) ≡ width =
+    length-take-le (c.place + width - c.place) (drop c.place (text_of c)) (omega arith) ∙ n in
+    record {
+      bytes = slice_range (text_of c) c.place (c.place + width);
+      on = on;
+      reads = subst P (sym e) (reads_clear (omega arith) w clear);
+      room_is = h;
+      len_is = omega arith;
+    }
+
+room_on : {c c' : Cursor} {len : ℕ} → HasRoom c len → len < 256 → c.place < c'.place → c'.seen ≡ c.seen
+    → HasRoom c' (len + 1)
+room_on {c} {c'} {len} h l m s = record {
+  some = omega arith;
+  for_block = λ k. let p : c.place < c.seen = omega arith in let q = h.for_block p in omega arith;
+}
+
+-- the value of an escape behind another one
+pub gathers_escape : {c0 c c' : Cursor} {room0 room : List ℕ} {len0 len value : ℕ} → Gathers c0 c room0 room len0 len
+    → LooksOn c c' → EscapeAt (text_of c) c.place value c'.place → len < length room
+    → Gathers c0 c' room0 (set room len value) len0 (len + 1)
+gathers_escape g on e l = gathers_then g (gathers_byte on (reads_escape e) l)
+
+pub room_escape : {c c' : Cursor} {len value : ℕ} → HasRoom c len → len < 256
+    → EscapeAt (text_of c) c.place value c'.place → c'.seen ≡ c.seen → HasRoom c' (len + 1)
+room_escape h l e s = room_on h l e.some s
+
+-- what stands at a mark, in a walk that looked at it and then went on behind it
+
+-- the walk looked on, and then went to a place
+pub record Went (c c1 c' : Cursor) (place : ℕ) : Type 0 where
+  pub on : LooksOn c c1
+  pub text_is : text_of c' ≡ text_of c1
+  pub looks_are : c'.source.looks ≡ c1.source.looks
+  pub place_is : c'.place ≡ place
+
+went_on : {c c1 c' : Cursor} {place : ℕ} → Went c c1 c' place → LooksOn c c'
+went_on w = let g = w.on.looks_grow in let l = w.looks_are in
+    record { text_stays = w.text_is ∙ w.on.text_stays; looks_grow = omega arith }
+
+reads_to : {text : List ℕ} {from to to' : ℕ} {bytes : List ℕ} → to' ≡ to → Reads text from to bytes
+    → Reads text from to' bytes
+reads_to {text} {from} {to} {to'} {bytes} e r = let P : ℕ → Type 0 = λ x. Reads text from x bytes in subst P (sym e) r
+
+pub gathers_percent : {c c1 c' : Cursor} {room : List ℕ} {len : ℕ} → Went c c1 c' (c.place + 1)
+    → LonePercent (text_of c1) c.place → len < length room → Gathers c c' room (set room len 37) len (len + 1)
+gathers_percent {c} {c1} {c'} {room} {len} w p l =
+    let P : List ℕ → Type 0 = λ t. LonePercent t c.place in
+    gathers_byte (went_on w) (reads_to w.place_is (reads_percent (subst P w.on.text_stays p))) l
+
+pub gathers_passed : {c c1 c' : Cursor} {room : List ℕ} {len : ℕ} → Went c c1 c' (c.place + 1)
+    → IsPassed (text_of c1) c.place → Gathers c c' room room len len
+gathers_passed {c} {c1} {c'} {room} {len} w p =
+    let P : List ℕ → Type 0 = λ t. IsPassed t c.place in
+    let q : IsPassed (text_of c) c.place = subst P w.on.text_stays p in
+    gathers_nothing (went_on w) (reads_to w.place_is (reads_passed q.within q.passed))
+
+pub gathers_value : {c c1 c' : Cursor} {room : List ℕ} {len value end : ℕ} → Went c c1 c' end
+    → EscapeAt (text_of c1) c.place value end → len < length room → Gathers c c' room (set room len value) len (len + 1)
+gathers_value {c} {c1} {c'} {room} {len} {value} {end} w p l =
+    let P : List ℕ → Type 0 = λ t. EscapeAt t c.place value end in
+    gathers_byte (went_on w) (reads_to w.place_is (reads_escape (subst P w.on.text_stays p))) l
+
+-- the walk goes on in its block, where no mark stands before a place
+pub may_at : {c : Cursor} {len : ℕ} (width : ℕ) → MayGather c len → c.place < c.seen → c.place + width ≤ c.seen
+    → IsClear (text_of c) c.place (c.place + width) → MayGather (record c { place = c.place + width; ahead = c.ahead })
+    (len + width)
+may_at {c} {len} width m h l clear =
+    let room = m.room.for_block h in
+    let w = m.looking.block.seen_le in
+    record {
+      looking = moved_looking (c.place + width) c.ahead (looking_clear (c.place + width) m.looking (omega arith)
+          (omega arith) clear);
+      unknown = m.unknown;
+      room = record { some = omega arith; for_block = λ k. omega arith };
+    }
+
+-- the rest of a block without marks
+pub may_behind : {c : Cursor} {len : ℕ} → MayGather c len → c.place < c.seen → IsClear (text_of c) c.place c.seen
+    → MayGather (record c { place = c.seen; ahead = c.ahead }) (len + (c.seen - c.place))
+may_behind {c} {len} m h clear =
+    let room = m.room.for_block h in
+    record {
+      looking = moved_looking c.seen c.ahead
+          (looking_clear c.seen m.looking (omega arith) m.looking.block.seen_le clear);
+      unknown = m.unknown;
+      room = record { some = omega arith; for_block = λ k. absurd (omega arith) };
+    }
+
+pub gathers_block : {c c' : Cursor} {room room' : List ℕ} {len : ℕ} → MayGather c len → c.place < c.seen
+    → IsClear (text_of c) c.place c.seen → LooksOn c c' → c'.place ≡ c.seen
+    → take (len + (c.seen - c.place)) room' ≡ take len room ++ slice_range (text_of c) c.place
+    (c.place + (c.seen - c.place)) → Gathers c c' room room' len (len + (c.seen - c.place))
+gathers_block {c} {c'} {room} {room'} {len} m h clear on e k =
+    let n : c.place + (c.seen - c.place) ≡ c.seen = omega arith in
+    let C : ℕ → Type 0 = λ x. IsClear (text_of c) c.place x in
+    let w = m.looking.block.seen_le in
+    gathers_slice (c.seen - c.place) on (omega arith) (omega arith) (subst C (sym n) clear) k
+
+-- what is left to be walked, and whether the end was found
+abbrev pub measure : ℕ → ℕ → Bool → ℕ
+measure total place ended = 2 * (total - place) + cond ended 0 1
+
+smaller_by : (total place place' : ℕ) (ended : Bool) → place ≤ place' → place' ≤ total
+    → MatchBool ended (Unit {0}) (place < place') → measure total place' ended < measure total place false
+smaller_by total place place' true l w m = omega arith
+smaller_by total place place' false l w m = omega arith
+
+pub smaller : (c0 : Cursor) {c1 c' : Cursor} {room room' : List ℕ} {len len' : ℕ} (total : ℕ) → c0.ahead ≡ Unknown
+    → c1.place ≡ c0.place → length (text_of c1) ≡ total → Moves c1 c' → Gathers c1 c' room room' len len'
+    → measure total c'.place (has_ended c'.ahead) < measure total c0.place (has_ended c0.ahead)
+smaller c0 {c1} {c'} {room} {room'} {len} {len'} total u p t m g =
+    let f = g.reads.few in
+    let w = g.reads.within in
+    let k = smaller_by total c1.place c'.place (has_ended c'.ahead) (omega arith) (omega arith) m in
+    let e : measure total c1.place false ≡ measure total c0.place (has_ended c0.ahead) =
+    ap (λ x. measure total x false) p ∙ ap (λ a. measure total c0.place (has_ended a)) (sym u) in
+    omega arith
+
+-- What a walk promises to the one who uses it.
+
+rest_over : {c : Cursor} → Knows c → has_ended c.ahead ≡ true → plain_body (drop c.place (text_of c)) ≡ []
+rest_over {c} k e = ends_empty (ended_of k e).ends
+
+pub over_rest : (next : Option Piece) {c c' : Cursor} → GoesOn c next c' → Knows c'
+    → IfNone next (plain_body (drop c'.place (text_of c')) ≡ [])
+over_rest None g k = rest_over k g.ended
+over_rest (Some p) g k = tt
+
+some_bytes : (p : Piece) (text : List ℕ) (from to : ℕ) → to ≤ length text → IsPiece text from to p
+    → 0 < length (bytes_of p)
+some_bytes (Slice slice) text from to w h =
+    let a = h.nonempty in
+    let b = h.to_le in
+    let d = length-drop h.start text in
+    let long : length slice.now ≡ h.end - h.start = ap length h.slice_is
+    ∙ length-take-le (h.end - h.start) (drop h.start text) (omega arith) in
+    omega arith
+some_bytes (Byte byte) text from to w h = omega arith
+
+pub piece_some : {p : Piece} {c c' : Cursor} → GoesOn c (Some p) c' → 0 < length (bytes_of p)
+piece_some {p} {c} {c'} g = some_bytes p (text_of c) c.place c'.place g.reads.within g.piece
+
+pub again : (next : Option Piece) {c c' : Cursor} → Knows c → GoesOn c next c' → has_ended c.ahead ≡ true → next ≡ None
+again None k g e = refl
+again (Some p) {c} {c'} k g e =
+    let some = piece_some g in
+    let none : bytes_of p ++ plain_body (drop c'.place (text_of c)) ≡ [] = sym g.reads.body ∙ rest_over k e in
+    let l = ap length none in
+    let a = length-append (bytes_of p) (plain_body (drop c'.place (text_of c))) in
+    absurd (omega arith)
+
+looks_cases : (c : Cursor) (a : Ahead) → KnowsAhead c a → c.source.looks ≤ 3 * length (text_of c)
+looks_cases c Unknown k = let l = k.looks_are_paid in let m =
+    paid_le (text_of c) c.seen c.place k.block.seen_le k.within in omega arith
+looks_cases c BehindEscape k = let l = k.looks_are_paid in let m =
+    paid_le (text_of c) c.seen c.place k.block.seen_le k.within in omega arith
+looks_cases c (Escape value end) k = let l = k.1.looks_are_paid in let m =
+    paid_le (text_of c) c.seen end k.1.block.seen_le k.1.within in omega arith
+looks_cases c End k = k.few_looks
+
+pub few_looks : {c : Cursor} → Knows c → c.source.looks ≤ 3 * length (text_of c)
+few_looks {c} k = looks_cases c c.ahead k.ahead_is
+
+-- The next bytes
+
+-- what was gathered
+pub takes_gathered : {c c' : Cursor} {room0 room : List ℕ} {len : ℕ} → Gathers c c' room0 room 0 len → 0 < len
+    → Takes (walk_of c) (take len room) (walk_of c')
+takes_gathered {c} {c'} {room0} {room} {len} g some =
+    let f = g.reads.few in
+    let n = g.len_is in
+    let bytes : take len room ≡ g.bytes = g.room_is in
+    let l = ap length bytes in
+    let t = ap length g.on.text_stays in
+    let w = g.reads.within in
+    record {
+      text_stays = g.on.text_stays;
+      rest_is =
+          g.reads.body ∙ ap (λ s. s ++ plain_body (drop c'.place (text_of c))) (sym bytes)
+          ∙ ap (λ t. take len room ++ plain_body (drop c'.place t)) (sym g.on.text_stays);
+      place = omega arith;
+      within = omega arith;
+      some = omega arith;
+    }
+
+-- nothing was gathered, and then came a piece
+before_next : {c c1 c2 : Cursor} {room0 room : List ℕ} {len : ℕ} {next : Option Piece} → Gathers c c1 room0 room 0 len
+    → len ≡ 0
+    → GoesOn c1 next c2 → Reads (text_of c) c.place c2.place (bytes_of_next next)
+before_next {c} {c1} {c2} {room0} {room} {len} {next} g e h =
+    let n = g.len_is in
+    let P : List ℕ → Type 0 = λ s. Reads (text_of c) c.place c1.place s in
+    let none : g.bytes ≡ [] = nil_from_length g.bytes (omega arith) in
+    reads_then (subst P none g.reads) (reads_in g.on.text_stays h.reads)
+
+pub takes_next : {c c1 c2 : Cursor} {room0 room : List ℕ} {len : ℕ} (p : Piece) → Gathers c c1 room0 room 0 len
+    → len ≡ 0
+    → GoesOn c1 (Some p) c2 → Takes (walk_of c) (bytes_of p) (walk_of c2)
+takes_next {c} {c1} {c2} {room0} {room} {len} p g e h =
+    let r = before_next g e h in
+    let few = r.few in
+    let w = r.within in
+    let text : text_of c2 ≡ text_of c = h.on.text_stays ∙ g.on.text_stays in
+    let t = ap length text in
+    record {
+      text_stays = text;
+      rest_is = r.body ∙ ap (λ t. bytes_of p ++ plain_body (drop c2.place t)) (sym text);
+      place = omega arith;
+      within = omega arith;
+      some = piece_some h;
+    }
+
+pub over_next : {c c1 c2 : Cursor} {room0 room : List ℕ} {len : ℕ} → Gathers c c1 room0 room 0 len → len ≡ 0
+    → GoesOn c1 None c2 → Knows c2 → IsOver (walk_of c) (walk_of c2)
+over_next {c} {c1} {c2} g e h k =
+    let text : text_of c2 ≡ text_of c = h.on.text_stays ∙ g.on.text_stays in
+    record {
+      text_stays = text;
+      rest_is = (before_next g e h).body ∙ ap (λ t. plain_body (drop c2.place t)) (sym text) ∙ rest_over k h.ended;
+      ended = h.ended;
+    }

@@ -1,0 +1,5 @@
+pub mod Literals
+pub mod Base64
+pub mod Mime
+pub mod Staged
+pub mod Pieces

@@ -1,0 +1,472 @@
+-- MIME texts with their records and printed texts: each record by a derivation in the grammar, each printed text
+-- computed.
+use Rattle.std.proofs.Common.{◌≡◌, ℕ, Bool, true, false, List, [], ◌∷◌, ◌++◌, Option, None, Some, inl, inr, codes}
+use Rattle.std.proofs.Common.{append-nil, eq-eqb, eqb, refl, subst, sym, ◌∙◌, ap, map}
+use Rattle.std.specs.Prelude.{◌==◌, IsTrue, ◌≢◌, not, ◌&&◌}
+use Rattle.std.specs.List.{AllByRecursion, flat_map, list_all}
+use Rattle.std.specs.Char.{to_ascii_lowercase}
+use Rattle.data_url.specs.CodePoints.{ends_name, is_http_whitespace, is_semicolon}
+use Rattle.data_url.specs.Mime.{BeginsParameters, DoesNotBegin, DoesNotEnd, Escaped, GivesValue, HasNoRecord, IsHead}
+use Rattle.data_url.specs.Mime.{IsParameter, IsRecordOf, IsTrimmed, IsTrimmedEnd, IsUnit, Item, Items, Pair, Parses}
+use Rattle.data_url.specs.Mime.{Plain, Quoted, QuotedUnit, Record, default_record, is_quote, is_token_text, kept_pairs}
+use Rattle.data_url.specs.Mime.{plain, printed, quoted, unclosed, unit_text, unit_value, unless_empty}
+use Rattle.data_url.proofs.examples.Literals.{on_literals}
+use Rattle.data_url.proofs.mime.Items.{every_from_all, has_parts, parameters_in, subtype_in, trimmed_of, type_in}
+use Rattle.std.proofs.lemmas.Bool.{and_parts}
+
+-- Derivations on literals
+
+-- a text that has no whitespace at its ends
+untrimmed : (p : ℕ → Bool) (t : List ℕ) → DoesNotBegin p t → DoesNotEnd p t → IsTrimmed p t t
+untrimmed p t begins ends = record {
+  front = [];
+  back = [];
+  joined = sym (append-nil t);
+  at_front = tt;
+  at_back =
+      tt;
+  begins = begins;
+  ends = ends;
+}
+
+untrimmed_end : (p : ℕ → Bool) (t : List ℕ) → DoesNotEnd p t → IsTrimmedEnd p t t
+untrimmed_end p t ends = record { back = []; joined = sym (append-nil t); at_back = tt; ends = ends }
+
+-- the text of a type, a subtype and parameters
+abbrev head_text : List ℕ → List ℕ → List ℕ → List ℕ
+head_text type_ subtype r = type_ ++ (47 ∷ (subtype ++ r))
+
+head : (type_ subtype r : List ℕ) → IsTrue (is_token_text type_) → IsTrue (is_token_text subtype) → BeginsParameters r
+    → DoesNotBegin is_http_whitespace (head_text type_ subtype r)
+    → DoesNotEnd is_http_whitespace (head_text type_ subtype r) → IsHead (head_text type_ subtype r) type_ subtype r
+head type_ subtype r t s b begins ends = record {
+  text = head_text type_ subtype r;
+  gap = [];
+  trimmed =
+      untrimmed is_http_whitespace (head_text type_ subtype r) begins ends;
+  joined = refl;
+  is_type = t;
+  is_subtype =
+      s;
+  in_gap = tt;
+  begins = b;
+}
+
+-- ';', a name without whitespace before it, and what gives its value
+parameter : (name tail rest : List ℕ) (value : Option (List ℕ)) → DoesNotBegin is_http_whitespace name
+    → list_all (λ c. not (ends_name c)) name ≡ true → GivesValue tail rest value
+    → IsParameter (59 ∷ (name ++ tail)) rest (map to_ascii_lowercase name, value)
+parameter name tail rest value begins names gives = record {
+  gap = [];
+  name = name;
+  tail = tail;
+  joined = refl;
+  in_gap =
+      tt;
+  begins = begins;
+  in_name = every_from_all (λ c. not (ends_name c)) name names;
+  name_is = refl;
+  value_is =
+      gives;
+}
+
+-- '=' and a text without quotes and whitespace at its end
+plain_value : (text rest : List ℕ) → list_all (λ c. not (is_semicolon c)) text ≡ true → DoesNotBegin is_quote text
+    → DoesNotEnd is_http_whitespace text → GivesValue (61 ∷ text) rest (unless_empty text)
+plain_value text rest semicolons quotes ends =
+    plain text text (every_from_all (λ c. not (is_semicolon c)) text semicolons) quotes
+    (untrimmed_end is_http_whitespace text ends)
+
+is_unit : QuotedUnit → Bool
+is_unit (Plain c) = not (c == 34) && not (c == 92)
+is_unit (Escaped c) = true
+
+differs : (c d : ℕ) → not (c == d) ≡ true → c ≢ d
+differs c d h e = let k : false ≡ true = sym (ap not (eq-eqb c d e)) ∙ h in cc
+
+are_units : (us : List QuotedUnit) → list_all is_unit us ≡ true → AllByRecursion IsUnit us
+unfolding is_unit
+are_units [] h = tt
+are_units (Plain c ∷ us) h =
+    let e = and_parts (not (c == 34) && not (c == 92)) (list_all is_unit us) h in
+    let f = and_parts (not (c == 34)) (not (c == 92)) e.0 in
+    ((differs c 34 f.0, differs c 92 f.1), are_units us e.1)
+are_units (Escaped c ∷ us) h = (tt, are_units us (and_parts true (list_all is_unit us) h).1)
+
+quoted_units : (us : List QuotedUnit) → list_all is_unit us ≡ true → Quoted (flat_map unit_text us) (map unit_value us)
+quoted_units us h = record { units = us; each = are_units us h; text_is = refl; value_is = refl }
+
+-- the code points of a text, each for itself
+abbrev plainly : List ℕ → List QuotedUnit
+plainly t = map Plain t
+
+-- Examples
+
+-- a semicolon in quotes, a value that is missing, and one that is quoted and empty
+quotes : Parses (codes "TEXT/HTML;a=" ++ (34 ∷ codes "b;c" ++ (34 ∷ codes ";d=;e=" ++ (34 ∷ 34 ∷ []))))
+    (record {
+      type_ = codes "text";
+      subtype = codes "html";
+      parameters =
+          (codes "a", codes "b;c") ∷ (codes "e", []) ∷ [];
+    })
+unfolding is_unit on_literals
+quotes = record {
+  type_ = codes "TEXT";
+  subtype = codes "HTML";
+  parameters = codes ";a=" ++ (34 ∷ codes "b;c" ++ (34 ∷ codes ";d=;e=" ++ (34 ∷ 34 ∷ [])));
+  head = head (codes "TEXT") (codes "HTML")
+      (codes ";a=" ++ (34 ∷ codes "b;c" ++ (34 ∷ codes ";d=;e=" ++ (34 ∷ 34 ∷ [])))) refl refl refl refl refl;
+  record_is = record {
+    items = (codes "a", Some (codes "b;c")) ∷ (codes "d", None) ∷ (codes "e", Some []) ∷ [];
+    items_are = (
+      codes ";a=" ++ (34 ∷ codes "b;c" ++ (34 ∷ [])),
+      codes ";d=;e=" ++ (34 ∷ 34 ∷ []),
+      refl,
+      parameter (codes "a") _ _ _ refl refl (quoted (codes "b;c") [] (quoted_units (plainly (codes "b;c")) refl) tt),
+      (
+        codes ";d=",
+        codes ";e=" ++ (34 ∷ 34 ∷ []),
+        refl,
+        parameter (codes "d") _ _ _ refl refl (plain_value [] _ refl tt tt),
+        (
+          codes ";e=" ++ (34 ∷ 34 ∷ []),
+          [],
+          refl,
+          parameter (codes "e") _ _ _ refl refl
+              (quoted [] [] (quoted_units [] refl) tt),
+          refl,
+        ),
+      ),
+    );
+    type_is = refl;
+    subtype_is = refl;
+    parameters_are = refl;
+  };
+}
+
+-- the record x/x with these parameters
+abbrev x_x : List Pair → Record
+x_x pairs = record { type_ = codes "x"; subtype = codes "x"; parameters = pairs }
+
+-- a text of type and subtype x whose parameters have these items
+parses_x : (r : List ℕ) (items : List Item) → BeginsParameters r → DoesNotEnd is_http_whitespace (codes "x/x" ++ r)
+    → Items r items → Parses (codes "x/x" ++ r) (x_x (kept_pairs items))
+unfolding on_literals
+parses_x r items begins ends are = record {
+  type_ = codes "x";
+  subtype = codes "x";
+  parameters = r;
+  head = head (codes "x") (codes "x") r refl refl begins refl ends;
+  record_is = record {
+    items = items;
+    items_are = are;
+    type_is = refl;
+    subtype_is = refl;
+    parameters_are = refl;
+  };
+}
+
+-- every mark of the token code points stands in a name
+token_marks : Parses (codes "x/x;!#$%&'*+-.^_`|~=v") (x_x ((codes "!#$%&'*+-.^_`|~", codes "v") ∷ []))
+unfolding on_literals
+token_marks = parses_x (codes ";!#$%&'*+-.^_`|~=v") ((codes "!#$%&'*+-.^_`|~", Some (codes "v")) ∷ []) refl refl (
+  codes ";!#$%&'*+-.^_`|~=v",
+  [],
+  refl,
+  parameter (codes "!#$%&'*+-.^_`|~") _ _ _ refl refl (plain_value (codes "v") _ refl refl refl),
+  refl,
+)
+
+-- U+007F and U+0100 stand in no value, U+0080 and U+00FF do
+edges_of_values : Parses
+    (codes "x/x;a=" ++ (127 ∷ codes ";b=" ++ (128 ∷ codes ";c=" ++ (255 ∷ codes ";d=" ++ (256 ∷ [])))))
+    (x_x ((codes "b", 128 ∷ []) ∷ (codes "c", 255 ∷ []) ∷ []))
+unfolding on_literals
+edges_of_values = parses_x
+    (codes ";a=" ++ (127 ∷ codes ";b=" ++ (128 ∷ codes ";c=" ++ (255 ∷ codes ";d=" ++ (256 ∷ [])))))
+    ((codes "a", Some (127 ∷ [])) ∷ (codes "b", Some (128 ∷ [])) ∷ (codes "c", Some (255 ∷ [])) ∷ (
+      codes "d",
+      Some (256 ∷ []),
+    ) ∷ []) refl refl (
+      codes ";a=" ++ (127 ∷ []),
+      codes ";b=" ++ (128 ∷ codes ";c=" ++ (255 ∷ codes ";d=" ++ (256 ∷ []))),
+      refl,
+      parameter (codes "a") _ _ _ refl refl (plain_value (127 ∷ []) _ refl refl refl),
+      (
+        codes ";b=" ++ (128 ∷ []),
+        codes ";c=" ++ (255 ∷ codes ";d=" ++ (256 ∷ [])),
+        refl,
+        parameter (codes "b") _ _ _ refl refl (plain_value (128 ∷ []) _ refl refl refl),
+        (
+          codes ";c=" ++ (255 ∷ []),
+          codes ";d=" ++ (256 ∷ []),
+          refl,
+          parameter (codes "c") _ _ _ refl refl (plain_value (255 ∷ []) _ refl refl refl),
+          (
+            codes ";d=" ++ (256 ∷ []),
+            [],
+            refl,
+            parameter (codes "d") _ _ _ refl refl
+                (plain_value (256 ∷ []) _ refl refl refl),
+            refl,
+          ),
+        ),
+      ),
+    )
+
+-- names are lower-cased before they are compared, and the first pair of a name is kept
+repeated_name : Parses (codes "x/x;a=1;A=2") (x_x ((codes "a", codes "1") ∷ []))
+unfolding on_literals
+repeated_name = parses_x (codes ";a=1;A=2") ((codes "a", Some (codes "1")) ∷ (codes "a", Some (codes "2")) ∷ []) refl
+    refl (
+      codes ";a=1",
+      codes ";A=2",
+      refl,
+      parameter (codes "a") _ _ _ refl refl (plain_value (codes "1") _ refl refl refl),
+      (codes ";A=2", [], refl, parameter (codes "A") _ _ _ refl refl (plain_value (codes "2") _ refl refl refl), refl),
+    )
+
+-- what stands behind a closing quote is dropped, and does not count
+junk_behind_quote : Parses (codes "x/x;a=" ++ (34 ∷ 98 ∷ 34 ∷ 256 ∷ [])) (x_x ((codes "a", codes "b") ∷ []))
+unfolding is_unit on_literals
+junk_behind_quote = parses_x (codes ";a=" ++ (34 ∷ 98 ∷ 34 ∷ 256 ∷ [])) ((codes "a", Some (codes "b")) ∷ []) refl refl (
+  codes ";a=" ++ (34 ∷ 98 ∷ 34 ∷ 256 ∷ []),
+  [],
+  refl,
+  parameter (codes "a") _ _ _ refl refl
+      (quoted (codes "b") (256 ∷ []) (quoted_units (plainly (codes "b")) refl)
+      (every_from_all (λ c. not (is_semicolon c)) (256 ∷ []) refl)),
+  refl,
+)
+
+-- a quoted value is judged as a whole: a semicolon belongs to it, and U+0100 makes its pair invalid
+code_point_above : Parses (codes "x/x;a=" ++ (34 ∷ 98 ∷ 59 ∷ 256 ∷ 34 ∷ [])) (x_x [])
+unfolding is_unit on_literals
+code_point_above = parses_x (codes ";a=" ++ (34 ∷ 98 ∷ 59 ∷ 256 ∷ 34 ∷ []))
+    ((codes "a", Some (98 ∷ 59 ∷ 256 ∷ [])) ∷ []) refl refl (
+      codes ";a=" ++ (34 ∷ 98 ∷ 59 ∷ 256 ∷ 34 ∷ []),
+      [],
+      refl,
+      parameter (codes "a") _ _ _ refl refl
+          (quoted (98 ∷ 59 ∷ 256 ∷ []) [] (quoted_units (plainly (98 ∷ 59 ∷ 256 ∷ [])) refl) tt),
+      refl,
+    )
+
+-- a lone backslash at the end of the text stands for itself
+last_backslash : Parses (codes "x/x;a=" ++ (34 ∷ 92 ∷ [])) (x_x ((codes "a", 92 ∷ []) ∷ []))
+unfolding is_unit on_literals
+last_backslash = parses_x (codes ";a=" ++ (34 ∷ 92 ∷ [])) ((codes "a", Some (92 ∷ [])) ∷ []) refl refl (
+  codes ";a=" ++ (34 ∷ 92 ∷ []),
+  [],
+  refl,
+  parameter (codes "a") _ _ _ refl refl
+      (unclosed (92 ∷ []) (inr ([], [], refl, refl, quoted_units [] refl))),
+  refl,
+)
+
+-- escapes, a quote inside a plain value, and a quoted string that the end of the text closes
+abbrev escapes_text : List ℕ
+escapes_text = codes ";a=" ++ (34 ∷ 113 ∷ 92 ∷ 34 ∷ 114 ∷ 34 ∷ codes
+    ";b=" ++ (34 ∷ 92 ∷ 97 ∷ 34 ∷ codes ";c=d" ++ (34 ∷ codes "e;f=" ++ (34 ∷ 103 ∷ []))))
+
+escapes : Parses (codes "x/x" ++ escapes_text)
+    (x_x ((codes "a", 113 ∷ 34 ∷ 114 ∷ []) ∷ (codes "b", codes "a") ∷ (codes "c", 100 ∷ 34 ∷ 101 ∷ []) ∷ (
+      codes "f",
+      codes "g",
+    ) ∷ []))
+unfolding is_unit on_literals
+escapes = parses_x escapes_text ((codes "a", Some (113 ∷ 34 ∷ 114 ∷ [])) ∷ (codes "b", Some (codes "a")) ∷ (
+  codes "c",
+  Some (100 ∷ 34 ∷ 101 ∷ []),
+) ∷ (codes "f", Some (codes "g")) ∷ []) refl refl (
+  codes ";a=" ++ (34 ∷ 113 ∷ 92 ∷ 34 ∷ 114 ∷ 34 ∷ []),
+  codes ";b=" ++ (34 ∷ 92 ∷ 97 ∷ 34 ∷ codes ";c=d" ++ (34 ∷ codes "e;f=" ++ (34 ∷ 103 ∷ []))),
+  refl,
+  parameter (codes "a") _ _ _ refl refl
+      (quoted (113 ∷ 92 ∷ 34 ∷ 114 ∷ []) [] (quoted_units (Plain 113 ∷ Escaped 34 ∷ Plain 114 ∷ []) refl) tt),
+  (
+    codes ";b=" ++ (34 ∷ 92 ∷ 97 ∷ 34 ∷ []),
+    codes ";c=d" ++ (34 ∷ codes "e;f=" ++ (34 ∷ 103 ∷ [])),
+    refl,
+    parameter (codes "b") _ _ _ refl refl (quoted (92 ∷ 97 ∷ []) [] (quoted_units (Escaped 97 ∷ []) refl) tt),
+    (
+      codes ";c=d" ++ (34 ∷ 101 ∷ []),
+      codes ";f=" ++ (34 ∷ 103 ∷ []),
+      refl,
+      parameter (codes "c") _ _ _ refl refl (plain_value (100 ∷ 34 ∷ 101 ∷ []) _ refl refl refl),
+      (
+        codes ";f=" ++ (34 ∷ 103 ∷ []),
+        [],
+        refl,
+        parameter (codes "f") _ _ _ refl refl (unclosed (103 ∷ []) (inl (quoted_units (plainly (codes "g")) refl))),
+        refl,
+      ),
+    ),
+  ),
+)
+
+-- a name that is empty and one that is no token take their quoted strings with them
+invalid_names : Parses (codes "x/x;=q;" ++ (233 ∷ codes "=" ++ (34 ∷ codes "a;b=c" ++ (34 ∷ codes ";d=e"))))
+    (x_x ((codes "d", codes "e") ∷ []))
+unfolding is_unit on_literals
+invalid_names = parses_x (codes ";=q;" ++ (233 ∷ codes "=" ++ (34 ∷ codes "a;b=c" ++ (34 ∷ codes ";d=e"))))
+    (([], Some (codes "q")) ∷ (233 ∷ [], Some (codes "a;b=c")) ∷ (codes "d", Some (codes "e")) ∷ []) refl refl (
+      codes ";=q",
+      59 ∷ 233 ∷ codes "=" ++ (34 ∷ codes "a;b=c" ++ (34 ∷ codes ";d=e")),
+      refl,
+      parameter [] _ _ _ tt refl (plain_value (codes "q") _ refl refl refl),
+      (
+        59 ∷ 233 ∷ codes "=" ++ (34 ∷ codes "a;b=c" ++ (34 ∷ [])),
+        codes ";d=e",
+        refl,
+        parameter (233 ∷ []) _ _ _ refl refl (quoted (codes "a;b=c") [] (quoted_units (plainly (codes "a;b=c")) refl) tt),
+        (codes ";d=e", [], refl, parameter (codes "d") _ _ _ refl refl (plain_value (codes "e") _ refl refl refl), refl),
+      ),
+    )
+
+-- whitespace at and_parts ends, behind the subtype and before a name goes; a name has none left at its front alone
+whitespace : Parses (codes " a/b ; c=d ") (record {
+  type_ = codes "a";
+  subtype = codes "b";
+  parameters =
+      (codes "c", codes "d") ∷ [];
+})
+unfolding on_literals
+whitespace = record {
+  type_ = codes "a";
+  subtype = codes "b";
+  parameters = codes "; c=d";
+  head = record {
+    text = codes "a/b ; c=d";
+    gap = codes " ";
+    trimmed = record {
+      front = codes " ";
+      back = codes " ";
+      joined = refl;
+      at_front =
+          every_from_all is_http_whitespace (codes " ") refl;
+      at_back =
+          every_from_all is_http_whitespace (codes " ") refl;
+      begins = refl;
+      ends = refl;
+    };
+    joined = refl;
+    is_type = refl;
+    is_subtype = refl;
+    in_gap = every_from_all is_http_whitespace (codes " ") refl;
+    begins = refl;
+  };
+  record_is = record {
+    items = (codes "c", Some (codes "d")) ∷ [];
+    items_are = (
+      codes "; c=d",
+      [],
+      refl,
+      record {
+        gap = codes " ";
+        name = codes "c";
+        tail = codes "=d";
+        joined =
+            refl;
+        in_gap = every_from_all is_http_whitespace (codes " ") refl;
+        begins = refl;
+        in_name =
+            every_from_all (λ c. not (ends_name c)) (codes "c") refl;
+        name_is = refl;
+        value_is =
+            plain_value (codes "d") _ refl refl refl;
+      },
+      refl,
+    );
+    type_is = refl;
+    subtype_is = refl;
+    parameters_are = refl;
+  };
+}
+
+-- Texts without a record
+
+no_type : (s : List ℕ) → type_in (trimmed_of is_http_whitespace s) ≡ [] → HasNoRecord s
+unfolding on_literals
+no_type s e m h = let k =
+    subst (λ t. IsTrue (is_token_text t)) (sym (has_parts s h.type_ h.subtype h.parameters h.head).type_is
+    ∙ e) h.head.is_type in cc
+
+no_subtype : (s : List ℕ) → subtype_in (trimmed_of is_http_whitespace s) ≡ [] → HasNoRecord s
+unfolding on_literals
+no_subtype s e m h = let k =
+    subst (λ t. IsTrue (is_token_text t)) (sym (has_parts s h.type_ h.subtype h.parameters h.head).subtype_is
+    ∙ e) h.head.is_subtype in cc
+
+-- what stands behind the subtype begins no parameter
+no_parameters : (s : List ℕ) (r : List ℕ) → parameters_in (trimmed_of is_http_whitespace s) ≡ r
+    → (BeginsParameters r → ⊥) → HasNoRecord s
+unfolding on_literals
+no_parameters s r e n m h =
+    n (subst BeginsParameters (sym (has_parts s h.type_ h.subtype h.parameters h.head).parameters_are
+    ∙ e) h.head.begins)
+
+pub empty_text : HasNoRecord []
+unfolding on_literals
+empty_text = no_type [] refl
+
+no_slash : HasNoRecord (codes "a")
+unfolding on_literals
+no_slash = no_subtype (codes "a") refl
+
+empty_subtype : HasNoRecord (codes "a/")
+unfolding on_literals
+empty_subtype = no_subtype (codes "a/") refl
+
+empty_type : HasNoRecord (codes "/b")
+unfolding on_literals
+empty_type = no_type (codes "/b") refl
+
+space_in_subtype : HasNoRecord (codes "a/b c")
+unfolding on_literals
+space_in_subtype = no_parameters (codes "a/b c") (codes "c") refl (λ (e : ◌≡◌ {A = ℕ} 99 59). let k : eqb 99 59 ≡ true =
+    eq-eqb 99 59 e in cc)
+
+-- '?' is no token code point, so a header with a query behind its subtype has the default record
+question_mark : IsRecordOf (codes "a/b?c") default_record
+unfolding on_literals
+question_mark = inr (
+  no_parameters (codes "a/b?c") (codes "?c") refl
+      (λ (e : ◌≡◌ {A = ℕ} 63 59). let k : eqb 63 59 ≡ true = eq-eqb 63 59 e in cc),
+  refl,
+)
+
+-- the empty header has it too
+empty_header : IsRecordOf [] default_record
+unfolding on_literals
+empty_header = inr (empty_text, refl)
+
+-- Printed texts
+
+printed_default : printed default_record ≡ codes "text/plain;charset=US-ASCII"
+unfolding on_literals
+printed_default = refl
+
+-- a value that needs quotes, and one that is empty
+printed_quotes : printed (record {
+  type_ = codes "text";
+  subtype = codes "html";
+  parameters =
+      (codes "a", codes "b;c") ∷ (codes "e", []) ∷ [];
+})
+    ≡ codes "text/html;a=" ++ (34 ∷ codes "b;c" ++ (34 ∷ codes ";e=" ++ (34 ∷ 34 ∷ [])))
+unfolding on_literals
+printed_quotes = refl
+
+-- '"' and '\' are escaped
+printed_escapes : printed (x_x ((codes "a", 113 ∷ 34 ∷ 114 ∷ []) ∷ (codes "b", 92 ∷ []) ∷ (codes "f", codes "g") ∷ []))
+    ≡ codes "x/x;a=" ++ (34 ∷ 113 ∷ 92 ∷ 34 ∷ 114 ∷ 34 ∷ codes ";b=" ++ (34 ∷ 92 ∷ 92 ∷ 34 ∷ codes ";f=g"))
+unfolding on_literals
+printed_escapes = refl
+
+-- a record that no text has is printed as it is
+printed_by_hand : printed (record { type_ = codes "a b"; subtype = []; parameters = ([], 233 ∷ []) ∷ [] })
+    ≡ codes "a b/;=" ++ (34 ∷ 233 ∷ 34 ∷ [])
+unfolding on_literals
+printed_by_hand = refl

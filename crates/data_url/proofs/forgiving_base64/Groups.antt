@@ -1,0 +1,337 @@
+-- Groups of four symbols, and texts that are fed in two parts.
+use Rattle.std.proofs.Common.{inl, inr, ◌≡◌, ℕ, suc, ◌+◌, ◌-◌, ◌*◌, ◌%◌, ◌<◌, ◌≤◌, true, ◌&&◌, ◌||◌, List, [], ◌∷◌}
+use Rattle.std.proofs.Common.{◌++◌, map, length, get_or, take, drop, Fits, w8, refl, sym, ap, ap₂, ◌∙◌, subst, arith}
+use Rattle.std.proofs.Common.{length-take, length-take-le, take-add, zero, false, min, replicate, Option, None, Some}
+use Rattle.std.proofs.Common.{is_some, append_assoc, length-append}
+use Rattle.std.specs.List.{list_all, prefix_len, filter, list_any}
+use Rattle.std.proofs.lemmas.Bool.{and_parts, cases_lt}
+use Rattle.std.proofs.lemmas.List.{append-nil, get_or-take, get_or_past, length-map, take-append-drop, take-map}
+use Rattle.std.proofs.lemmas.List.{take-take, take_at, map-append, length-replicate}
+use Rattle.std.proofs.lemmas.List.Elements.{All-from_get_or, filter-append}
+use Rattle.std.proofs.lemmas.List.Folds.{list_all-append}
+use Rattle.std.proofs.lemmas.List.Sums.{list_all-from_AllPass, prefix_len-le-length, prefix_len_passes}
+use Rattle.std.proofs.Math.Seq.{take-append-add}
+use Rattle.data_url.specs.Base64.{group_bytes, group_number, groups, is_symbol, symbol_value, values, after_groups}
+use Rattle.data_url.specs.Base64.{decoded, complete_bytes, first_fault, is_valid, left_padding, left_symbols, left_text}
+use Rattle.data_url.specs.Base64.{rest_bytes}
+use Rattle.std.specs.Char.{is_ascii_whitespace}
+use Rattle.data_url.specs.Steps.Blocks.{Fills, is_symbol_or_space}
+use Rattle.data_url.specs.Steps.Lanes.{value_of}
+use Rattle.data_url.proofs.forgiving_base64.Vectors.{groups_whole, value_is}
+use Rattle.data_url.proofs.forgiving_base64.Padding.{every_list_all, filter_all, after_groups-append, after_groups-map}
+use Rattle.data_url.proofs.forgiving_base64.Padding.{any_of_text, before-append, before_fault, before_none, done_is}
+use Rattle.data_url.proofs.forgiving_base64.Padding.{every_after, fault-append, fault_byte, fault_invalid, fault_none}
+use Rattle.data_url.proofs.forgiving_base64.Padding.{fault_some, fault_text, groups-append, is_pad, kind_by, kind_is}
+use Rattle.data_url.proofs.forgiving_base64.Padding.{length_alike, no_fault_valid, pads_of_text, symbols_of_text}
+use Rattle.data_url.proofs.forgiving_base64.Padding.{fits_with, any_filter, filter_every, is_nonempty}
+use Rattle.data_url.specs.Laws.{GoesOn, TwoFeeds}
+use Rattle.data_url.specs.Mime.{Every}
+
+-- Groups that a text begins with.
+
+-- How many bytes groups have
+
+pub groups_length : (x : List ℕ) → 4 * length (groups x) ≤ 3 * length x
+unfolding groups
+groups_length [] = omega arith
+groups_length (p ∷ []) = omega arith
+groups_length (p ∷ q ∷ []) = omega arith
+groups_length (p ∷ q ∷ r ∷ []) = omega arith
+groups_length (p ∷ q ∷ r ∷ s ∷ rest) = omega (arith, groups_length rest)
+
+pub whole_length : (x : List ℕ) → length x % 4 ≡ 0 → 4 * length (groups x) ≡ 3 * length x
+unfolding groups
+whole_length [] h = omega arith
+whole_length (p ∷ []) h = absurd (omega arith)
+whole_length (p ∷ q ∷ []) h = absurd (omega arith)
+whole_length (p ∷ q ∷ r ∷ []) h = absurd (omega arith)
+whole_length (p ∷ q ∷ r ∷ s ∷ rest) h = let e : length rest % 4 ≡ 0 = omega arith in omega (arith, whole_length rest e)
+
+pub take_groups : (m : ℕ) (x : List ℕ) → 4 * m ≤ length x → take (3 * m) (groups x) ≡ groups (take (4 * m) x)
+take_groups m x h =
+    let front = take (4 * m) x in
+    let long : length front ≡ 4 * m = length-take-le (4 * m) x h in
+    let size : length (groups front) ≡ 3 * m = omega (arith, whole_length front (omega arith)) in
+    ap (λ l. take (3 * m) (groups l)) (sym (take-append-drop (4 * m) x))
+    ∙ ap (take (3 * m)) (groups_whole front (drop (4 * m) x) (omega arith))
+    ∙ take_at (groups front) (groups (drop (4 * m) x)) (3 * m) size
+
+-- A text of symbols
+
+pub symbols_values : (s : List ℕ) → ((i : ℕ) → Fits w8 (get_or s i 0)) → list_all is_symbol s ≡ true
+    → map value_of s ≡ map symbol_value s
+symbols_values [] fits h = refl
+symbols_values (b ∷ s) fits h = let p = and_parts (is_symbol b) (list_all is_symbol s) h in
+    ap₂ (λ x (y : List ℕ). x ∷ y) (value_is b (fits 0).fits p.0) (symbols_values s (λ i. fits (suc i)) p.1)
+
+pub values_symbols : (s : List ℕ) → list_all is_symbol s ≡ true → values s ≡ map symbol_value s
+unfolding values
+values_symbols s h = ap (map symbol_value) (filter_all is_symbol s (every_list_all s h))
+
+symbols_alone : (s : List ℕ) → list_all is_symbol s ≡ true → list_all is_symbol_or_space s ≡ true
+symbols_alone [] h = refl
+symbols_alone (b ∷ s) h = let p = and_parts (is_symbol b) (list_all is_symbol s) h in
+    ap₂ (λ x y. x && y) (ap (λ t. t || is_ascii_whitespace b) p.0) (symbols_alone s p.1)
+
+pub fits_take : (n : ℕ) (s : List ℕ) → ((i : ℕ) → Fits w8 (get_or s i 0)) → (i : ℕ) → Fits w8 (get_or (take n s) i 0)
+fits_take n s fits i =
+    elim (cases_lt i n) [
+      | inl l ↦ subst (Fits w8) (sym (get_or-take n s i 0 l)) (fits i)
+      | inr l ↦ subst (Fits w8) (sym (get_or_past (take n s) i 0 (omega (arith, length-take n s))))
+          (record { fits = omega arith })
+    ]
+
+-- the groups of the first symbols of n bytes
+pub fill_symbols : (held block : List ℕ) (n m : ℕ) → n ≤ length block → 4 * m ≤ n
+    → ((i : ℕ) → Fits w8 (get_or block i 0)) → list_all is_symbol (take (4 * m) block) ≡ true
+    → Fills held block (4 * m) (held ++ take (3 * m) (groups (map value_of (take n block))))
+fill_symbols held block n m long few fits all =
+    let text = take (4 * m) block in
+    let size : length text ≡ 4 * m = length-take-le (4 * m) block (omega arith) in
+    let is = values_symbols text all in
+    record {
+      within = omega arith;
+      more = take (3 * m) (groups (map value_of (take n block)));
+      are = record {
+        alone = symbols_alone text all;
+        whole = omega (arith, ap length is, length-map text symbol_value, size);
+        bytes_are =
+            take_groups m (map value_of (take n block))
+            (omega (arith, length-map (take n block) value_of, length-take-le n block long))
+            ∙ ap groups (take-map value_of (4 * m) (take n block) ∙ ap (map value_of) (take-take (4 * m) n block few)
+            ∙ symbols_values text (fits_take (4 * m) block fits) all ∙ sym is);
+      };
+      held_are = refl;
+    }
+
+-- so many groups of a row that was written behind others
+pub row_held : (old new bytes : List ℕ) (g c : ℕ) → take (3 * g + 12) new ≡ take (3 * g) old ++ bytes
+    → 3 * g ≤ length old → c ≤ 4 → take (3 * (g + c)) new ≡ take (3 * g) old ++ take (3 * c) bytes
+row_held old new bytes g c e within few =
+    let size : 3 * (g + c) ≡ length (take (3 * g) old) + 3 * c = omega (arith, length-take-le (3 * g) old within) in
+    sym (take-take (3 * (g + c)) (3 * g + 12) new (omega arith))
+    ∙ ap (take (3 * (g + c))) e
+    ∙ ap (λ n. take n (take (3 * g) old ++ bytes)) size
+    ∙ take-append-add (take (3 * g) old) bytes (3 * c)
+
+-- no group
+pub fill_none : (held text : List ℕ) → Fills held text 0 held
+unfolding groups values
+fill_none held text = record {
+  within = omega arith;
+  more = [];
+  are = record { alone = refl; whole = refl; bytes_are = refl };
+  held_are = sym (append-nil held);
+}
+
+-- one group
+pub fill_one : (held text bytes : List ℕ) → 4 ≤ length text → list_all is_symbol (take 4 text) ≡ true
+    → bytes ≡ group_bytes (group_number (symbol_value (get_or text 0 0)) (symbol_value (get_or text 1 0))
+    (symbol_value (get_or text 2 0)) (symbol_value (get_or text 3 0)))
+    → Fills held text 4 (held ++ take 3 bytes)
+unfolding groups
+fill_one held [] bytes h all e = absurd (omega arith)
+fill_one held (p ∷ []) bytes h all e = absurd (omega arith)
+fill_one held (p ∷ q ∷ []) bytes h all e = absurd (omega arith)
+fill_one held (p ∷ q ∷ r ∷ []) bytes h all e = absurd (omega arith)
+fill_one held (p ∷ q ∷ r ∷ s ∷ rest) bytes h all e =
+    let text : List ℕ = p ∷ q ∷ r ∷ s ∷ [] in
+    let is = values_symbols text all in
+    record {
+      within = h;
+      more = take 3 bytes;
+      are = record {
+        alone = symbols_alone text all;
+        whole = ap (λ l. length l % 4) is;
+        bytes_are = ap (take 3) e ∙ sym (ap groups is);
+      };
+      held_are = refl;
+    }
+
+-- The symbols ahead
+
+pub ahead_all : (s : List ℕ) → list_all is_symbol (take (prefix_len is_symbol s) s) ≡ true
+ahead_all s =
+    let n = prefix_len is_symbol s in
+    list_all-from_AllPass is_symbol (take n s) (All-from_get_or (λ x. is_symbol x ≡ true) (take n s) 0 (λ k inside.
+    let l : k < n = omega (arith, length-take n s) in
+    subst (λ x. is_symbol x ≡ true) (sym (get_or-take n s k 0 l)) (prefix_len_passes is_symbol s k 0 l)))
+
+pub row_ahead : (row : List ℕ) (n : ℕ) → n ≡ prefix_len is_symbol (take 16 row)
+    → (n ≤ 16) × (list_all is_symbol (take n row) ≡ true)
+row_ahead row n e =
+    let l : n ≤ 16 = omega (arith, e, prefix_len-le-length is_symbol (take 16 row), length-take 16 row) in (
+      l,
+      ap (list_all is_symbol) (sym (take-take n 16 row l)) ∙ ap (λ k. list_all is_symbol (take k (take 16 row))) e
+          ∙ ahead_all (take 16 row),
+    )
+
+pub all_before : (block : List ℕ) (m n : ℕ) → m ≤ n → list_all is_symbol (take n block) ≡ true
+    → list_all is_symbol (take m block) ≡ true
+all_before block m n h all =
+    let rest = take (n - m) (drop m block) in
+    let back : m + (n - m) ≡ n = omega arith in
+    (and_parts (list_all is_symbol (take m block)) (list_all is_symbol rest)
+    (sym (list_all-append is_symbol (take m block) rest) ∙ ap (list_all is_symbol) (sym (take-add m (n - m) block)
+    ∙ ap (λ k. take k block) back) ∙ all)).0
+
+-- A text that is fed in two parts.
+
+-- the text w stands for what a left
+pub record Stands (a w : List ℕ) : Type 0 where
+  pub symbols : filter is_symbol w ≡ after_groups (filter is_symbol a)
+  pub pads : min (length (filter is_pad w)) 3 ≡ min (length (filter is_pad a)) 3
+  pub seen : list_any is_pad w ≡ list_any is_pad a
+  pub no_fault : fault_byte false a ≡ None
+  pub none_left : fault_byte false w ≡ None
+
+pub values-append : (a b : List ℕ) → values (a ++ b) ≡ values a ++ values b
+unfolding values
+values-append a b = ap (map symbol_value) (filter-append is_symbol a b) ∙ map-append symbol_value (filter is_symbol a)
+    (filter is_symbol b)
+
+kind_alike : (m n : ℕ) (o : Option ℕ) → m % 4 ≡ n % 4 → kind_by m o ≡ kind_by n o
+kind_alike m n None e = rw e refl
+kind_alike m n (Some c) e = refl
+
+pub fits_min : (r p : ℕ) → fits_with r p ≡ fits_with r (min p 3)
+fits_min r zero = refl
+fits_min r (suc zero) = refl
+fits_min r (suc (suc zero)) = refl
+fits_min r (suc (suc (suc p))) = let e : min (suc (suc (suc p))) 3 ≡ 3 = omega arith in rw e refl
+
+min_alike : (m n k : ℕ) → min m 3 ≡ min n 3 → min (m + k) 3 ≡ min (n + k) 3
+min_alike m n k e = omega arith
+
+valid_by : (x y : List ℕ) → fault_byte false x ≡ fault_byte false y
+    → length (filter is_symbol x) % 4 ≡ length (filter is_symbol y) % 4
+    → min (length (filter is_pad x)) 3 ≡ min (length (filter is_pad y)) 3 → is_valid x ≡ is_valid y
+valid_by x y e f g =
+    elim (fault_byte false y) as (λ o. fault_byte false y ≡ o → is_valid x ≡ is_valid y) [
+      | None ↦ λ h.
+          no_fault_valid x (e ∙ h)
+          ∙ fits_min (length (filter is_symbol x) % 4) (length (filter is_pad x))
+          ∙ ap (λ r. fits_with r (min (length (filter is_pad x)) 3)) f
+          ∙ ap (fits_with (length (filter is_symbol y) % 4)) g
+          ∙ sym (fits_min (length (filter is_symbol y) % 4) (length (filter is_pad y)))
+          ∙ sym (no_fault_valid y h)
+      | Some c ↦ λ h. fault_invalid x c (e ∙ h) ∙ sym (fault_invalid y c h)
+    ] refl
+
+module _ (a b w : List ℕ) (st : Stands a w) where
+  fault_both : fault_byte false (a ++ b) ≡ fault_byte false (w ++ b)
+  fault_both = fault-append a b false st.no_fault ∙ ap (λ s. fault_byte s b) (sym st.seen)
+      ∙ sym (fault-append w b false st.none_left)
+
+  symbols_left : (t : List ℕ) → filter is_symbol (w ++ t) ≡ after_groups (filter is_symbol a) ++ filter is_symbol t
+  symbols_left t = filter-append is_symbol w t ∙ ap (λ x. x ++ filter is_symbol t) st.symbols
+
+  values_left : (t : List ℕ) → values (w ++ t) ≡ after_groups (values a) ++ values t
+  unfolding values
+  values_left t =
+      ap (map symbol_value) (symbols_left t)
+      ∙ map-append symbol_value (after_groups (filter is_symbol a)) (filter is_symbol t)
+      ∙ ap (λ x. x ++ map symbol_value (filter is_symbol t)) (sym (after_groups-map symbol_value (filter is_symbol a)))
+
+  length_symbols : length (filter is_symbol (a ++ b)) % 4 ≡ length (filter is_symbol (w ++ b)) % 4
+  length_symbols =
+      ap (λ x. length x % 4) (filter-append is_symbol a b)
+      ∙ length_alike (filter is_symbol a) (filter is_symbol b)
+      ∙ ap (λ x. length x % 4) (sym (symbols_left b))
+
+  length_values : length (values (a ++ b)) % 4 ≡ length (values (w ++ b)) % 4
+  unfolding values
+  length_values =
+      ap (λ x. x % 4) (length-map (filter is_symbol (a ++ b)) symbol_value)
+      ∙ length_symbols
+      ∙ ap (λ x. x % 4) (sym (length-map (filter is_symbol (w ++ b)) symbol_value))
+
+  length_pads : min (length (filter is_pad (a ++ b))) 3 ≡ min (length (filter is_pad (w ++ b))) 3
+  length_pads =
+      ap (λ x. min (length x) 3) (filter-append is_pad a b)
+      ∙ ap (λ x. min x 3) (length-append (filter is_pad a) (filter is_pad b))
+      ∙ min_alike (length (filter is_pad a)) (length (filter is_pad w)) (length (filter is_pad b)) (sym st.pads)
+      ∙ ap (λ x. min x 3) (sym (length-append (filter is_pad w) (filter is_pad b)))
+      ∙ ap (λ x. min (length x) 3) (sym (filter-append is_pad w b))
+
+  done_first : complete_bytes a ≡ groups (values a)
+  done_first = done_is a ∙ ap (λ x. groups (values x)) (before_none a false st.no_fault)
+
+  -- the groups of a and then t
+  groups_both : (t : List ℕ) → groups (values (a ++ t)) ≡ complete_bytes a ++ groups (values (w ++ t))
+  groups_both t =
+      ap groups (values-append a t)
+      ∙ groups-append (values a) (values t)
+      ∙ ap (λ x. x ++ groups (after_groups (values a) ++ values t)) (sym done_first)
+      ∙ ap (λ x. complete_bytes a ++ groups x) (sym (values_left t))
+
+  done_both : complete_bytes (a ++ b) ≡ complete_bytes a ++ complete_bytes (w ++ b)
+  done_both =
+      done_is (a ++ b)
+      ∙ ap (λ x. groups (values x)) (before-append a b false st.no_fault)
+      ∙ groups_both (before_fault (list_any is_pad a) b)
+      ∙ ap (λ s. complete_bytes a ++ groups (values (w ++ before_fault s b))) (sym st.seen)
+      ∙ ap (λ x. complete_bytes a ++ groups (values x)) (sym (before-append w b false st.none_left))
+      ∙ ap (λ x. complete_bytes a ++ x) (sym (done_is (w ++ b)))
+
+  after_both : after_groups (values (a ++ b)) ≡ after_groups (values (w ++ b))
+  after_both = ap after_groups (values-append a b) ∙ after_groups-append (values a) (values b)
+      ∙ ap after_groups (sym (values_left b))
+
+  decoded_both : decoded (a ++ b) ≡ complete_bytes a ++ decoded (w ++ b)
+  unfolding decoded
+  decoded_both =
+      ap (λ x. x ++ rest_bytes (after_groups (values (a ++ b)))) (groups_both b)
+      ∙ append_assoc (complete_bytes a) (groups (values (w ++ b))) (rest_bytes (after_groups (values (a ++ b))))
+      ∙ ap (λ x. complete_bytes a ++ (groups (values (w ++ b)) ++ rest_bytes x)) after_both
+
+  left_both : left_symbols (a ++ b) ≡ left_symbols (w ++ b)
+  unfolding left_symbols
+  left_both =
+      ap after_groups (filter-append is_symbol a b)
+      ∙ after_groups-append (filter is_symbol a) (filter is_symbol b)
+      ∙ ap after_groups (sym (symbols_left b))
+
+  padding_both : left_padding (a ++ b) ≡ left_padding (w ++ b)
+  unfolding left_padding
+  padding_both = length_pads
+
+  pub goes_on : GoesOn a b (w ++ b)
+  goes_on = record {
+    done_is = done_both;
+    fault_is = fault_some (a ++ b) ∙ ap is_some fault_both ∙ sym (fault_some (w ++ b));
+    kind_is = kind_is (a ++ b) ∙ ap (kind_by (length (values (a ++ b)))) fault_both
+        ∙ kind_alike (length (values (a ++ b))) (length (values (w ++ b))) (fault_byte false (w ++ b)) length_values
+        ∙ sym (kind_is (w ++ b));
+    symbols_left = left_both;
+    padding_left = padding_both;
+    valid_is = valid_by (a ++ b) (w ++ b) fault_both length_symbols length_pads;
+    decoded_is = decoded_both;
+  }
+
+-- What is left stands for a text
+
+min_min : (n : ℕ) → min (min n 3) 3 ≡ min n 3
+min_min n = omega arith
+
+any_min : (t : List ℕ) → list_any is_pad (replicate (min (length t) 3) 61) ≡ is_nonempty t
+any_min [] = refl
+any_min (c ∷ t) = let e : min (suc (length t)) 3 ≡ suc (min (length t) 2) = omega arith in rw e refl
+
+pub left_stands : (a : List ℕ) → fault_byte false a ≡ None → Stands a (left_text (left_symbols a) (left_padding a))
+unfolding left_symbols left_padding
+left_stands a h =
+    let q : List ℕ = after_groups (filter is_symbol a) in
+    let p : ℕ = min (length (filter is_pad a)) 3 in
+    let every : Every is_symbol q = every_after (filter is_symbol a) (filter_every is_symbol a) in
+    record {
+      symbols = symbols_of_text q p every;
+      pads = ap (λ x. min (length x) 3) (pads_of_text q p every) ∙ ap (λ x. min x 3) (length-replicate p 61)
+          ∙ min_min (length (filter is_pad a));
+      seen = any_of_text q p every ∙ any_min (filter is_pad a) ∙ sym (any_filter is_pad a);
+      no_fault = h;
+      none_left = fault_text q p every;
+    }
+
+pub two_feeds : (a b : List ℕ) → first_fault a ≡ None → TwoFeeds a b
+two_feeds a b h = goes_on a b (left_text (left_symbols a) (left_padding a)) (left_stands a (fault_none a h))

@@ -1,0 +1,821 @@
+-- The definitions of base64, read byte by byte: padding, faults and valid texts.
+use Rattle.std.proofs.Common.{◌≡◌, ℕ, suc, zero, ◌+◌, Bool, true, false, not, cond, ◌&&◌, ◌||◌, List, [], ◌∷◌, ◌++◌}
+use Rattle.std.proofs.Common.{length, take, get_or, replicate, Option, None, Some, refl, ap, sym, ◌∙◌, inl, inr}
+use Rattle.std.proofs.Common.{append_assoc, ◌<◌, ◌≤◌, arith, ◌%◌, eqb, length-append, map, is_some, subst}
+use Rattle.std.specs.List.{filter, find, list_any, range_with_len, list_all}
+use Rattle.std.proofs.lemmas.List.{append-nil, get_or_at, take_at, length_push, length-replicate}
+use Rattle.std.proofs.lemmas.List.Folds.{list_any-append}
+use Rattle.std.proofs.lemmas.Bool.{cases_Bool, false≢true, true≢false, cases_eq, eqb-true, eq-eqb, ne_eqb, eqb-false}
+use Rattle.std.proofs.lemmas.Bool.{not-true, not_from_false, cond-false, cond_both, and_from, and_right}
+use Rattle.std.proofs.lemmas.Bool.{false_from_ne_true, agree_below_at, and_parts, or_cases}
+use Rattle.data_url.specs.Base64.{before_place, first_fault, is_fault, is_symbol, is_valid, without_padding}
+use Rattle.data_url.specs.Base64.{without_last_padding, AlphabetSymbolAfterPadding, Kind, LoneAlphabetSymbol, Padding}
+use Rattle.data_url.specs.Base64.{UnexpectedSymbol, after_groups, without_whitespace, complete_bytes, group_bytes}
+use Rattle.data_url.specs.Base64.{group_number, groups, kind_at, kind_of, values}
+use Rattle.data_url.specs.Mime.{Every}
+use Rattle.std.proofs.Math.Bool.{or-false, or_assoc}
+use Rattle.data_url.specs.Facts.{IsFirstFault, Fits, IsSymbolsAndPadding, PaddingFits}
+use Rattle.std.proofs.lemmas.List.Elements.{filter-append}
+use Rattle.std.specs.Int.{is_in_range}
+use Rattle.data_url.proofs.texts.CodePoints.{range_high}
+use Rattle.std.specs.Char.{is_ascii_whitespace}
+
+-- A walk over a text that remembers whether it has seen a pad, with the classes of bytes as variables.
+
+pub some_not_none : {A : Type 0} (x : A) → Some x ≡ None → ⊥
+some_not_none x e = cc
+
+pub or_true : (b : Bool) → (b || true) ≡ true
+or_true true = refl
+or_true false = refl
+
+-- a byte that may not stand there, by its classes and by whether a pad stands before it
+abbrev pub bad : Bool → Bool → Bool → Bool → Bool
+bad space pad symbol seen = not (space || (pad || symbol)) || (symbol && seen)
+
+-- a byte is in at most one class
+pub data Class : Bool → Bool → Bool → Type 0 where
+  of_space : Class true false false
+  of_pad : Class false true false
+  of_symbol : Class false false true
+  of_none : Class false false false
+
+pub space_alone : {x y z : Bool} → Class x y z → x ≡ true → (y ≡ false) × (z ≡ false)
+space_alone of_space e = (refl, refl)
+space_alone of_pad e = absurd (false≢true e)
+space_alone of_symbol e = absurd (false≢true e)
+space_alone of_none e = absurd (false≢true e)
+
+pub symbol_alone : {x y z : Bool} → Class x y z → z ≡ true → (x ≡ false) × (y ≡ false)
+symbol_alone of_space e = absurd (false≢true e)
+symbol_alone of_pad e = absurd (false≢true e)
+symbol_alone of_symbol e = (refl, refl)
+symbol_alone of_none e = absurd (false≢true e)
+
+pub pad_alone : {x y z : Bool} → Class x y z → y ≡ true → (x ≡ false) × (z ≡ false)
+pad_alone of_space e = absurd (false≢true e)
+pad_alone of_pad e = (refl, refl)
+pad_alone of_symbol e = absurd (false≢true e)
+pad_alone of_none e = absurd (false≢true e)
+
+-- behind a pad no symbol stands
+seen_step : {x y z : Bool} (c : ℕ) (f : List ℕ) → Class x y z → bad x y z true ≡ false → f ≡ [] → cond z (c ∷ f) f ≡ []
+seen_step c f of_space e h = h
+seen_step c f of_pad e h = h
+seen_step c f of_symbol e h = absurd (true≢false e)
+seen_step c f of_none e h = h
+
+-- without white space there are the symbols, and then the pads
+compact_step : {x y z : Bool} (s : Bool) (c : ℕ) (u f g : List ℕ) → Class x y z → bad x y z s ≡ false
+    → ((s || y) ≡ true → f ≡ []) → u ≡ f ++ g → cond (not x) (c ∷ u) u ≡ cond z (c ∷ f) f ++ cond y (c ∷ g) g
+compact_step s c u f g of_space e none h = h
+compact_step s c u f g of_pad e none h =
+    let k : f ≡ [] = none (or_true s) in
+    ap (λ (x : List ℕ). c ∷ x) (h ∙ ap (λ x. x ++ g) k) ∙ ap (λ x. x ++ (c ∷ g)) (sym k)
+compact_step s c u f g of_symbol e none h = ap (λ (x : List ℕ). c ∷ x) h
+compact_step s c u f g of_none e none h = absurd (true≢false e)
+
+module _ (space pad symbol : ℕ → Bool) where
+  -- a byte that may not stand there, by whether a pad stands before it
+  abbrev pub is_bad : Bool → ℕ → Bool
+  is_bad seen c = bad (space c) (pad c) (symbol c) seen
+
+  abbrev pub is_bad_at : List ℕ → ℕ → Bool
+  is_bad_at b i = not (space (get_or b i 0) || (pad (get_or b i 0) || symbol (get_or b i 0))) || (symbol
+      (get_or b i 0) && list_any pad (take i b))
+
+  -- the first bad byte
+  abbrev pub stop : Bool → List ℕ → Option ℕ
+  stop seen [] = None
+  stop seen (c ∷ t) = cond (is_bad seen c) (Some c) (stop (seen || pad c) t)
+
+  -- what stands before it
+  abbrev pub ahead : Bool → List ℕ → List ℕ
+  ahead seen [] = []
+  ahead seen (c ∷ t) = cond (is_bad seen c) [] (c ∷ ahead (seen || pad c) t)
+
+  -- its place, counted from n
+  abbrev pub stop_place : ℕ → Bool → List ℕ → Option ℕ
+  stop_place n seen [] = None
+  stop_place n seen (c ∷ t) = cond (is_bad seen c) (Some n) (stop_place (n + 1) (seen || pad c) t)
+
+  -- the byte at a place
+  abbrev pub byte_at : List ℕ → Option ℕ → Option ℕ
+  byte_at b None = None
+  byte_at b (Some i) = Some (get_or b i 0)
+
+  any_push : (p : List ℕ) (c : ℕ) → list_any pad (p ++ c ∷ []) ≡ (list_any pad p || pad c)
+  any_push p c = list_any-append pad p (c ∷ []) ∙ ap (λ x. list_any pad p || x) (or-false (pad c))
+
+  bad_here : (p t : List ℕ) (c : ℕ) → is_bad_at (p ++ c ∷ t) (length p) ≡ is_bad (list_any pad p) c
+  bad_here p t c =
+      ap (λ (x : ℕ). not (space x || (pad x || symbol x)) || (symbol x && list_any pad (take (length p) (p ++ c ∷ t))))
+      (get_or_at p c t 0 (length p) refl)
+      ∙ ap (λ (x : List ℕ). not (space c || (pad c || symbol c)) || (symbol c && list_any pad x))
+      (take_at p (c ∷ t) (length p) refl)
+
+  cond_same : {X : Type 0} (b d : Bool) (x y z : X) → b ≡ d → y ≡ z → cond b x y ≡ cond d x z
+  cond_same b d x y z e f = cc
+
+  -- the search by places is the walk
+  pub find_walk : (p b : List ℕ) → find (is_bad_at (p ++ b)) (range_with_len (length p) (length b)) ≡ stop_place
+      (length p) (list_any pad p) b
+  find_walk p [] = refl
+  find_walk p (c ∷ t) =
+      cond_same _ _ (Some (length p)) _ _ (bad_here p t c)
+      (ap (λ (z : List ℕ). find (is_bad_at z) (range_with_len (length p + 1) (length t)))
+      (sym (append_assoc p (c ∷ []) t))
+      ∙ ap (λ n. find (is_bad_at ((p ++ c ∷ []) ++ t)) (range_with_len n (length t))) (sym (length_push p c))
+      ∙ find_walk (p ++ c ∷ []) t
+      ∙ ap (λ n. stop_place n (list_any pad (p ++ c ∷ [])) t) (length_push p c)
+      ∙ ap (λ s. stop_place (length p + 1) s t) (any_push p c))
+
+  pub before_walk : (p b : List ℕ) (n : ℕ) (s : Bool) → length p ≡ n
+      → before_place (p ++ b) (stop_place n s b) ≡ p ++ ahead s b
+  before_walk p [] n s e = refl
+  before_walk p (c ∷ t) n s e =
+      elim (is_bad s c) as (λ v. before_place (p ++ c ∷ t) (cond v (Some n) (stop_place (n + 1) (s || pad c) t))
+      ≡ p ++ cond v [] (c ∷ ahead (s || pad c) t)) [
+        | true ↦ take_at p (c ∷ t) n e ∙ sym (append-nil p)
+        | false ↦
+            ap (λ (z : List ℕ). before_place z (stop_place (n + 1) (s || pad c) t)) (sym (append_assoc p (c ∷ []) t))
+            ∙ before_walk (p ++ c ∷ []) t (n + 1) (s || pad c) (length_push p c ∙ ap (λ x. x + 1) e)
+            ∙ append_assoc p (c ∷ []) (ahead (s || pad c) t)
+      ]
+
+  pub byte_walk : (p b : List ℕ) (n : ℕ) (s : Bool) → length p ≡ n → byte_at (p ++ b) (stop_place n s b) ≡ stop s b
+  byte_walk p [] n s e = refl
+  byte_walk p (c ∷ t) n s e =
+      elim (is_bad s c) as (λ v. byte_at (p ++ c ∷ t) (cond v (Some n) (stop_place (n + 1) (s || pad c) t)) ≡ cond v
+      (Some c) (stop (s || pad c) t)) [
+        | true ↦ ap Some (get_or_at p c t 0 n e)
+        | false ↦
+            ap (λ (z : List ℕ). byte_at z (stop_place (n + 1) (s || pad c) t)) (sym (append_assoc p (c ∷ []) t))
+            ∙ byte_walk (p ++ c ∷ []) t (n + 1) (s || pad c) (length_push p c ∙ ap (λ x. x + 1) e)
+      ]
+
+  -- Two texts
+
+  -- a walk that does not stop in the first text goes on in the second
+  pub stop-append : (a b : List ℕ) (s : Bool) → stop s a ≡ None → stop s (a ++ b) ≡ stop (s || list_any pad a) b
+  stop-append [] b s h = ap (λ x. stop x b) (sym (or-false s))
+  stop-append (c ∷ t) b s h =
+      elim (is_bad s c) as (λ v. cond v (Some c) (stop (s || pad c) t) ≡ None
+      → cond v (Some c) (stop (s || pad c) (t ++ b)) ≡ stop (s || (pad c || list_any pad t)) b) [
+        | true ↦ λ e. absurd (some_not_none c e)
+        | false ↦ λ e. stop-append t b (s || pad c) e ∙ ap (λ x. stop x b) (or_assoc s (pad c) (list_any pad t))
+      ] h
+
+  pub ahead-append : (a b : List ℕ) (s : Bool) → stop s a ≡ None → ahead s (a ++ b) ≡ a ++ ahead (s || list_any pad a) b
+  ahead-append [] b s h = ap (λ x. ahead x b) (sym (or-false s))
+  ahead-append (c ∷ t) b s h =
+      elim (is_bad s c) as (λ v. cond v (Some c) (stop (s || pad c) t) ≡ None
+      → cond v [] (c ∷ ahead (s || pad c) (t ++ b)) ≡ c ∷ (t ++ ahead (s || (pad c || list_any pad t)) b)) [
+        | true ↦ λ e. absurd (some_not_none c e)
+        | false ↦ λ e. ap (λ (x : List ℕ). c ∷ x) (ahead-append t b (s || pad c) e
+            ∙ ap (λ x. t ++ ahead x b) (or_assoc s (pad c) (list_any pad t)))
+      ] h
+
+  pub ahead_none : (a : List ℕ) (s : Bool) → stop s a ≡ None → ahead s a ≡ a
+  ahead_none a s h = ap (ahead s) (sym (append-nil a)) ∙ ahead-append a [] s h ∙ append-nil a
+
+  -- a walk that stops in the first text never sees the second
+  pub stop-append_some : (a b : List ℕ) (s : Bool) (x : ℕ) → stop s a ≡ Some x → stop s (a ++ b) ≡ Some x
+  stop-append_some [] b s x h = absurd (some_not_none x (sym h))
+  stop-append_some (c ∷ t) b s x h =
+      elim (is_bad s c) as (λ v. cond v (Some c) (stop (s || pad c) t) ≡ Some x
+      → cond v (Some c) (stop (s || pad c) (t ++ b)) ≡ Some x) [
+        | true ↦ λ e. e
+        | false ↦ λ e. stop-append_some t b (s || pad c) x e
+      ] h
+
+  pub ahead-append_some : (a b : List ℕ) (s : Bool) (x : ℕ) → stop s a ≡ Some x → ahead s (a ++ b) ≡ ahead s a
+  ahead-append_some [] b s x h = absurd (some_not_none x (sym h))
+  ahead-append_some (c ∷ t) b s x h =
+      elim (is_bad s c) as (λ v. cond v (Some c) (stop (s || pad c) t) ≡ Some x
+      → cond v [] (c ∷ ahead (s || pad c) (t ++ b)) ≡ cond v [] (c ∷ ahead (s || pad c) t)) [
+        | true ↦ λ e. refl
+        | false ↦ λ e. ap (λ (x : List ℕ). c ∷ x) (ahead-append_some t b (s || pad c) x e)
+      ] h
+
+  module _ (classes : (c : ℕ) → Class (space c) (pad c) (symbol c)) where
+    -- Texts without white space
+
+    abbrev is_not_space : ℕ → Bool
+    is_not_space c = not (space c)
+
+    -- white space stops no walk
+    pub stop_compact : (b : List ℕ) (s : Bool) → stop s (filter is_not_space b) ≡ stop s b
+    stop_compact [] s = refl
+    stop_compact (c ∷ t) s =
+        elim (cases_Bool (space c)) [
+          | inl e ↦
+              let f = space_alone (classes c) e in
+              let g : pad c ≡ false = f.0 in
+              let h : symbol c ≡ false = f.1 in
+              rw (e, g, h) (stop_compact t s ∙ ap (λ x. stop x t) (sym (or-false s)))
+          | inr e ↦
+              ap (λ v. stop s (cond (not v) (c ∷ filter is_not_space t) (filter is_not_space t))) e
+              ∙ ap (λ (x : Option ℕ). cond (is_bad s c) (Some c) x) (stop_compact t (s || pad c))
+        ]
+
+    pub seen_none : (b : List ℕ) → stop true b ≡ None → filter symbol b ≡ []
+    seen_none [] h = refl
+    seen_none (c ∷ t) h =
+        elim (is_bad true c) as (λ v. is_bad true c ≡ v → cond v (Some c) (stop true t) ≡ None
+        → filter symbol (c ∷ t) ≡ []) [
+          | true ↦ λ e k. absurd (some_not_none c k)
+          | false ↦ λ e k. seen_step c (filter symbol t) (classes c) e (seen_none t k)
+        ] refl h
+
+    pub compact_walk : (b : List ℕ) (s : Bool) → stop s b ≡ None
+        → filter is_not_space b ≡ filter symbol b ++ filter pad b
+    compact_walk [] s h = refl
+    compact_walk (c ∷ t) s h =
+        elim (is_bad s c) as (λ v. is_bad s c ≡ v → cond v (Some c) (stop (s || pad c) t) ≡ None
+        → filter is_not_space (c ∷ t) ≡ filter symbol (c ∷ t) ++ filter pad (c ∷ t)) [
+          | true ↦ λ e k. absurd (some_not_none c k)
+          | false ↦ λ e k. compact_step s c (filter is_not_space t) (filter symbol t) (filter pad t) (classes c) e
+              (λ q. seen_none t (ap (λ x. stop x t) (sym q) ∙ k)) (compact_walk t (s || pad c) k)
+        ] refl h
+
+    -- Texts of symbols and of pads
+
+    pub stop_symbols : (q b : List ℕ) → Every symbol q → stop false (q ++ b) ≡ stop false b
+    stop_symbols [] b h = refl
+    stop_symbols (c ∷ t) b h =
+        let e : symbol c ≡ true = h.0 in
+        let f = symbol_alone (classes c) e in
+        let g : space c ≡ false = f.0 in
+        let i : pad c ≡ false = f.1 in
+        rw (e, g, i) (stop_symbols t b h.1)
+
+    pub stop_pads : (n c : ℕ) (s : Bool) → pad c ≡ true → stop s (replicate n c) ≡ None
+    stop_pads zero c s e = refl
+    stop_pads (suc n) c s e =
+        let f = pad_alone (classes c) e in
+        let g : space c ≡ false = f.0 in
+        let i : symbol c ≡ false = f.1 in
+        rw (e, g, i) (stop_pads n c (s || true) e)
+
+    pub filter_pads : (n c : ℕ) → pad c ≡ true → filter symbol (replicate n c) ≡ []
+    filter_pads zero c e = refl
+    filter_pads (suc n) c e =
+        let f = pad_alone (classes c) e in
+        let i : symbol c ≡ false = f.1 in
+        rw i (filter_pads n c e)
+
+    pub filter_symbols : (q : List ℕ) → Every symbol q → filter pad q ≡ []
+    filter_symbols [] h = refl
+    filter_symbols (c ∷ t) h =
+        let f = symbol_alone (classes c) h.0 in
+        let i : pad c ≡ false = f.1 in
+        rw i (filter_symbols t h.1)
+
+    pub any_symbols : (q : List ℕ) → Every symbol q → list_any pad q ≡ false
+    any_symbols [] h = refl
+    any_symbols (c ∷ t) h =
+        let f = symbol_alone (classes c) h.0 in
+        let i : pad c ≡ false = f.1 in
+        rw i (any_symbols t h.1)
+
+-- What a filter keeps
+
+pub filter_every : (p : ℕ → Bool) (b : List ℕ) → Every p (filter p b)
+filter_every p [] = tt
+filter_every p (c ∷ t) = elim (p c) as (λ v. p c ≡ v → Every p (cond v (c ∷ filter p t) (filter p t))) [
+  | true ↦
+      λ e. (e, filter_every p t)
+  | false ↦ λ e. filter_every p t
+] refl
+
+pub filter_all : (p : ℕ → Bool) (b : List ℕ) → Every p b → filter p b ≡ b
+filter_all p [] h = refl
+filter_all p (c ∷ t) h =
+    let e : p c ≡ true = h.0 in
+    rw e (ap (λ (x : List ℕ). c ∷ x) (filter_all p t h.1))
+
+abbrev pub is_nonempty : List ℕ → Bool
+is_nonempty [] = false
+is_nonempty (c ∷ t) = true
+
+pub any_filter : (p : ℕ → Bool) (b : List ℕ) → list_any p b ≡ is_nonempty (filter p b)
+any_filter p [] = refl
+any_filter p (c ∷ t) =
+    elim (p c) as (λ v. (v || list_any p t) ≡ is_nonempty (cond v (c ∷ filter p t) (filter p t))) [
+      | true ↦
+          refl
+      | false ↦ any_filter p t
+    ]
+
+-- The first fault of a text: it is the least place of one, and a walk that remembers whether it has seen a pad finds
+-- it.
+
+-- The least place
+
+-- from a on and before e, the place is the first that passes, or none passes
+abbrev IsLeast : (ℕ → Bool) → ℕ → ℕ → Option ℕ → Type 0
+IsLeast p a e None = (i : ℕ) → a ≤ i → i < e → p i ≡ false
+IsLeast p a e (Some i) = (a ≤ i) × (i < e) × (p i ≡ true) × ((k : ℕ) → a ≤ k → k < i → p k ≡ false)
+
+at_first : (p : ℕ → Bool) (a k : ℕ) → p a ≡ false → (a + 1 ≤ k → p k ≡ false) → a ≤ k → p k ≡ false
+at_first p a k here later l =
+    elim (cases_eq a k) [ inl q ↦ rw (← q) here | inr q ↦ later (omega arith) ]
+
+least_more : (p : ℕ → Bool) (a e : ℕ) (o : Option ℕ) → p a ≡ false → IsLeast p (a + 1) e o → IsLeast p a e o
+least_more p a e None here h = λ i l m. at_first p a i here (λ n. h i n m) l
+least_more p a e (Some i) here (l, m, t, f) = (omega arith, m, t, λ k n q. at_first p a k here (λ r. f k r q) n)
+
+find_least : (p : ℕ → Bool) (n a e : ℕ) → e ≡ a + n → IsLeast p a e (find p (range_with_len a n))
+find_least p zero a e q = λ i l m. absurd (omega arith)
+find_least p (suc n) a e q =
+    elim (p a) as (λ v. p a ≡ v → IsLeast p a e (cond v (Some a) (find p (range_with_len (a + 1) n)))) [
+      | true ↦ λ h. (omega arith, omega arith, h, λ k l m. absurd (omega arith))
+      | false ↦ λ h. least_more p a e _ h (find_least p n (a + 1) e (omega arith))
+    ] refl
+
+least_is : (b : List ℕ) (o : Option ℕ) → IsLeast (is_fault b) 0 (length b) o → IsFirstFault b o
+least_is b None h = λ i l. h i (omega arith) l
+least_is b (Some i) (l, m, t, f) = (m, t, λ k n. f k (omega arith) n)
+
+pub first_fault_least : (b : List ℕ) → IsFirstFault b (first_fault b)
+unfolding first_fault
+first_fault_least b = least_is b _ (find_least (is_fault b) (length b) 0 (length b) (omega arith))
+
+-- Which texts are valid, by the number of their symbols and of their pads.
+
+-- whether so many pads fit, by the remainder of the number of symbols
+abbrev pub fits_with : ℕ → ℕ → Bool
+fits_with r zero = not (eqb r 1)
+fits_with r (suc zero) = eqb r 3
+fits_with r (suc (suc zero)) = eqb r 2
+fits_with r (suc (suc (suc p))) = false
+
+and_true : (b : Bool) → (b && true) ≡ b
+and_true true = refl
+and_true false = refl
+
+-- Taking pads off the end
+
+pub is_symbol_pad : is_symbol 61 ≡ false
+is_symbol_pad = refl
+
+-- a symbol is no pad
+pub symbol_no_pad : (c : ℕ) → is_symbol c ≡ true → eqb c 61 ≡ false
+symbol_no_pad c h = ne_eqb c 61 (λ e. false≢true (sym is_symbol_pad ∙ ap is_symbol (sym e) ∙ h))
+
+pub without_pad_symbols : (q : List ℕ) → Every is_symbol q → without_last_padding q ≡ q
+unfolding without_last_padding
+without_pad_symbols [] h = refl
+without_pad_symbols (a ∷ []) h = cond-false (eqb a 61) [] (a ∷ []) (symbol_no_pad a h.0)
+without_pad_symbols (a ∷ b ∷ t) h = ap (λ x. a ∷ x) (without_pad_symbols (b ∷ t) h.1)
+
+without_pad_more : (a : ℕ) (t : List ℕ) → without_last_padding (a ∷ t ++ 61 ∷ []) ≡ a ∷ without_last_padding
+    (t ++ 61 ∷ [])
+unfolding without_last_padding
+without_pad_more a [] = refl
+without_pad_more a (b ∷ t) = refl
+
+-- one pad is taken off
+pub without_pad_push : (q : List ℕ) → without_last_padding (q ++ 61 ∷ []) ≡ q
+unfolding without_last_padding
+without_pad_push [] = refl
+without_pad_push (a ∷ t) = without_pad_more a t ∙ ap (λ x. a ∷ x) (without_pad_push t)
+
+pub replicate_push : (n : ℕ) → replicate {A = ℕ} (suc n) 61 ≡ replicate n 61 ++ 61 ∷ []
+replicate_push zero = refl
+replicate_push (suc n) = ap (λ (x : List ℕ). 61 ∷ x) (replicate_push n)
+
+pub without_pad_pads : (q : List ℕ) (n : ℕ) → without_last_padding (q ++ replicate (suc n) 61) ≡ q ++ replicate n 61
+without_pad_pads q n =
+    ap (λ x. without_last_padding (q ++ x)) (replicate_push n)
+    ∙ ap without_last_padding (sym (append_assoc q (replicate n 61) (61 ∷ [])))
+    ∙ without_pad_push (q ++ replicate n 61)
+
+-- Symbols and pads
+
+list_all_every : (q : List ℕ) → Every is_symbol q → list_all is_symbol q ≡ true
+list_all_every [] h = refl
+list_all_every (a ∷ t) h = and_from (is_symbol a) (list_all is_symbol t) h.0 (list_all_every t h.1)
+
+list_all_pads : (q : List ℕ) (n : ℕ) → list_all is_symbol (q ++ replicate (suc n) 61) ≡ false
+list_all_pads [] n = refl
+list_all_pads (a ∷ t) n = and_right (is_symbol a) (list_all is_symbol (t ++ replicate (suc n) 61)) (list_all_pads t n)
+
+-- the text left after pads were taken off passes
+abbrev passes : List ℕ → Bool
+passes u = not (eqb (length u % 4) 1) && list_all is_symbol u
+
+passes_symbols : (q : List ℕ) (r : Bool) → Every is_symbol q → not (eqb (length q % 4) 1) ≡ r → passes q ≡ r
+passes_symbols q r h e = ap (λ x. not (eqb (length q % 4) 1) && x) (list_all_every q h)
+    ∙ and_true (not (eqb (length q % 4) 1)) ∙ e
+
+passes_pads : (q : List ℕ) (n : ℕ) → passes (q ++ replicate (suc n) 61) ≡ false
+passes_pads q n = and_right (not (eqb (length (q ++ replicate (suc n) 61) % 4) 1))
+    (list_all is_symbol (q ++ replicate (suc n) 61)) (list_all_pads q n)
+
+passes_cond : (t r : Bool) (u w : List ℕ) → passes w ≡ false → (t ≡ true → passes u ≡ r) → (t ≡ false → r ≡ false)
+    → passes (cond t u w) ≡ r
+passes_cond true r u w h good bad = good refl
+passes_cond false r u w h good bad = h ∙ sym (bad refl)
+
+unpadded_symbols : (q : List ℕ) → Every is_symbol q → without_padding q ≡ q
+unfolding without_padding
+unpadded_symbols q h = cond_both (eqb (length q % 4) 0) (without_last_padding (without_last_padding q)) q (λ x. x ≡ q)
+    (λ e. ap without_last_padding (without_pad_symbols q h) ∙ without_pad_symbols q h) (λ e. refl)
+
+length_pads : (q : List ℕ) (n : ℕ) → length (q ++ replicate n 61) ≡ length q + n
+length_pads q n = length-append q (replicate n 61) ∙ ap (λ x. length q + x) (length-replicate n 61)
+
+-- with no pad
+none_passes : (q : List ℕ) → Every is_symbol q → passes (without_padding (q ++ [])) ≡ fits_with (length q % 4) 0
+none_passes q h = ap (λ x. passes (without_padding x)) (append-nil q) ∙ ap passes (unpadded_symbols q h)
+    ∙ passes_symbols q _ h refl
+
+one_true : (k m : ℕ) → m ≡ k + 1 → eqb (m % 4) 0 ≡ true → not (eqb (k % 4) 1) ≡ eqb (k % 4) 3
+one_true k m l e =
+    let z = eqb-true (m % 4) 0 e in
+    let three : k % 4 ≡ 3 = omega (arith, z) in
+    rw three refl
+
+one_false : (k m : ℕ) → m ≡ k + 1 → eqb (m % 4) 0 ≡ false → eqb (k % 4) 3 ≡ false
+one_false k m l e = ne_eqb (k % 4) 3 (λ h. eqb-false (m % 4) 0 e (omega (arith, h)))
+
+two_true : (k m : ℕ) → m ≡ k + 2 → eqb (m % 4) 0 ≡ true → not (eqb (k % 4) 1) ≡ eqb (k % 4) 2
+two_true k m l e =
+    let z = eqb-true (m % 4) 0 e in
+    let two : k % 4 ≡ 2 = omega (arith, z) in
+    rw two refl
+
+two_false : (k m : ℕ) → m ≡ k + 2 → eqb (m % 4) 0 ≡ false → eqb (k % 4) 2 ≡ false
+two_false k m l e = ne_eqb (k % 4) 2 (λ h. eqb-false (m % 4) 0 e (omega (arith, h)))
+
+one_passes : (q : List ℕ) → Every is_symbol q → passes (without_padding (q ++ replicate 1 61)) ≡ fits_with
+    (length q % 4) 1
+unfolding without_padding
+one_passes q h =
+    passes_cond (eqb (length (q ++ replicate 1 61) % 4) 0) _
+    (without_last_padding (without_last_padding (q ++ replicate 1 61))) (q ++ replicate 1 61)
+    (passes_pads q 0)
+    (λ e. ap (λ x. passes (without_last_padding x)) (without_pad_pads q 0 ∙ append-nil q)
+    ∙ ap passes (without_pad_symbols q h) ∙ passes_symbols q _ h (one_true (length q) _ (length_pads q 1) e))
+    (λ e. one_false (length q) _ (length_pads q 1) e)
+
+two_passes : (q : List ℕ) → Every is_symbol q → passes (without_padding (q ++ replicate 2 61)) ≡ fits_with
+    (length q % 4) 2
+unfolding without_padding
+two_passes q h =
+    passes_cond (eqb (length (q ++ replicate 2 61) % 4) 0) _
+    (without_last_padding (without_last_padding (q ++ replicate 2 61))) (q ++ replicate 2 61)
+    (passes_pads q 1)
+    (λ e. ap (λ x. passes (without_last_padding x)) (without_pad_pads q 1)
+    ∙ ap passes (without_pad_pads q 0 ∙ append-nil q)
+    ∙ passes_symbols q _ h (two_true (length q) _ (length_pads q 2) e))
+    (λ e. two_false (length q) _ (length_pads q 2) e)
+
+more_passes : (q : List ℕ) (n : ℕ) → passes (without_padding (q ++ replicate (suc (suc (suc n))) 61)) ≡ false
+unfolding without_padding
+more_passes q n =
+    passes_cond (eqb (length (q ++ replicate (suc (suc (suc n))) 61) % 4) 0) false
+    (without_last_padding (without_last_padding (q ++ replicate (suc (suc (suc n))) 61)))
+    (q ++ replicate (suc (suc (suc n))) 61)
+    (passes_pads q (suc (suc n)))
+    (λ e. ap (λ x. passes (without_last_padding x)) (without_pad_pads q (suc (suc n)))
+    ∙ ap passes (without_pad_pads q (suc n)) ∙ passes_pads q n)
+    (λ e. refl)
+
+symbols_pads_pass : (q : List ℕ) (p : ℕ) → Every is_symbol q → passes (without_padding (q ++ replicate p 61))
+    ≡ fits_with (length q % 4) p
+symbols_pads_pass q zero h = none_passes q h
+symbols_pads_pass q (suc zero) h = one_passes q h
+symbols_pads_pass q (suc (suc zero)) h = two_passes q h
+symbols_pads_pass q (suc (suc (suc n))) h = more_passes q n
+
+-- symbols and pads, with white space anywhere, are valid by their numbers
+pub symbols_pads_valid : (b q : List ℕ) (p : ℕ) → IsSymbolsAndPadding b q p → is_valid b ≡ fits_with (length q % 4) p
+unfolding is_valid
+symbols_pads_valid b q p h = ap (λ x. passes (without_padding x)) h.compact_is ∙ symbols_pads_pass q p h.symbols_are
+
+-- The numbers that fit
+
+fits_from : (k p : ℕ) → fits_with (k % 4) p ≡ true → Fits k p
+fits_from k zero e = inl (refl, eqb-false (k % 4) 1 (not-true (eqb (k % 4) 1) e))
+fits_from k (suc zero) e = inr (inl (refl, eqb-true (k % 4) 3 e))
+fits_from k (suc (suc zero)) e = inr (inr (refl, eqb-true (k % 4) 2 e))
+fits_from k (suc (suc (suc n))) e = absurd (false≢true e)
+
+pub from_fits : (k p : ℕ) → Fits k p → fits_with (k % 4) p ≡ true
+from_fits k p (inl (z, n)) = rw z (not_from_false (eqb (k % 4) 1) (ne_eqb (k % 4) 1 n))
+from_fits k p (inr (inl (z, n))) = rw z (eq-eqb (k % 4) 3 n)
+from_fits k p (inr (inr (z, n))) = rw z (eq-eqb (k % 4) 2 n)
+
+pub from_unfit : (k p : ℕ) → (Fits k p → ⊥) → fits_with (k % 4) p ≡ false
+from_unfit k p h = false_from_ne_true (fits_with (k % 4) p) (λ e. h (fits_from k p e))
+
+pub padding_fits : (b : List ℕ) → PaddingFits b
+padding_fits b q p h = (
+  λ v. fits_from (length q) p (sym (symbols_pads_valid b q p h) ∙ v),
+  λ f. symbols_pads_valid b q p h
+      ∙ from_fits (length q) p f,
+)
+
+-- The definitions of base64 by a walk that remembers whether it has seen a pad.
+
+abbrev pub is_pad : ℕ → Bool
+is_pad c = eqb c 61
+
+whitespace_low : (c : ℕ) → is_ascii_whitespace c ≡ true → c < 33
+whitespace_low c e =
+    elim (or_cases (is_in_range 9 10 c || is_in_range 12 13 c) (is_in_range 32 32 c) e) [
+      | inl r ↦ elim (or_cases (is_in_range 9 10 c) (is_in_range 12 13 c) r) [
+        | inl r ↦ let k = range_high 9 10 c r in omega arith
+        | inr r ↦ let k = range_high 12 13 c r in omega arith
+      ]
+      | inr r ↦ let k = range_high 32 32 c r in omega arith
+    ]
+
+-- each byte is in at most one class
+at_space : (c : ℕ) → is_ascii_whitespace c ≡ true → Class true (is_pad c) (is_symbol c)
+at_space c e =
+    let low : c < 33 = whitespace_low c e in
+    let pad : is_pad c ≡ false = ap (λ v. v && is_pad c) (sym e)
+    ∙ agree_below_at (λ c. is_ascii_whitespace c && is_pad c) (λ c. false) 33 c refl low in
+    let symbol : is_symbol c ≡ false = ap (λ v. v && is_symbol c) (sym e)
+    ∙ agree_below_at (λ c. is_ascii_whitespace c && is_symbol c) (λ c. false) 33 c refl low in
+    subst (λ y. Class true y (is_symbol c)) (sym pad) (subst (λ z. Class true false z) (sym symbol) of_space)
+
+at_symbol : (z : Bool) → Class false false z
+at_symbol true = of_symbol
+at_symbol false = of_none
+
+pub classes : (c : ℕ) → Class (is_ascii_whitespace c) (is_pad c) (is_symbol c)
+classes c =
+    elim (is_ascii_whitespace c) as (λ x. is_ascii_whitespace c ≡ x → Class x (is_pad c) (is_symbol c)) [
+      | true ↦ λ e. at_space c e
+      | false ↦ λ e. elim (is_pad c) as (λ y. is_pad c ≡ y → Class false y (is_symbol c)) [
+        | true ↦ λ f. rw (eqb-true c 61 f) of_pad
+        | false ↦ λ f. at_symbol (is_symbol c)
+      ] refl
+    ] refl
+
+-- the byte at the first fault, where a pad may stand before the text
+unfoldable pub fault_byte : Bool → List ℕ → Option ℕ
+fault_byte seen b = stop is_ascii_whitespace is_pad is_symbol seen b
+
+-- what stands before it
+unfoldable pub before_fault : Bool → List ℕ → List ℕ
+before_fault seen b = ahead is_ascii_whitespace is_pad is_symbol seen b
+
+-- why a text is refused, by the byte at its fault and by how many symbols it has
+abbrev pub kind_by : ℕ → Option ℕ → Kind
+kind_by n None = cond (eqb (n % 4) 1) LoneAlphabetSymbol Padding
+kind_by n (Some c) = cond (is_symbol c) AlphabetSymbolAfterPadding (UnexpectedSymbol c)
+
+first_fault_walk : (b : List ℕ) → first_fault b ≡ stop_place is_ascii_whitespace is_pad is_symbol 0 false b
+unfolding first_fault
+first_fault_walk b = find_walk is_ascii_whitespace is_pad is_symbol [] b
+
+byte_is : (b : List ℕ) → byte_at is_ascii_whitespace is_pad is_symbol b (first_fault b) ≡ fault_byte false b
+unfolding fault_byte
+byte_is b = ap (byte_at is_ascii_whitespace is_pad is_symbol b) (first_fault_walk b)
+    ∙ byte_walk is_ascii_whitespace is_pad is_symbol [] b 0 false refl
+
+some_byte : (b : List ℕ) (o : Option ℕ) → is_some o ≡ is_some (byte_at is_ascii_whitespace is_pad is_symbol b o)
+some_byte b None = refl
+some_byte b (Some i) = refl
+
+none_byte : (b : List ℕ) (o : Option ℕ) → byte_at is_ascii_whitespace is_pad is_symbol b o ≡ None → o ≡ None
+none_byte b None e = refl
+none_byte b (Some i) e = absurd (cc)
+
+kind_byte : (b : List ℕ) (o : Option ℕ)
+    → kind_at b o ≡ kind_by (length (values b)) (byte_at is_ascii_whitespace is_pad is_symbol b o)
+kind_byte b None = refl
+kind_byte b (Some i) = refl
+
+pub fault_some : (b : List ℕ) → is_some (first_fault b) ≡ is_some (fault_byte false b)
+fault_some b = some_byte b (first_fault b) ∙ ap is_some (byte_is b)
+
+pub fault_none : (b : List ℕ) → first_fault b ≡ None → fault_byte false b ≡ None
+fault_none b e = sym (byte_is b) ∙ ap (byte_at is_ascii_whitespace is_pad is_symbol b) e
+
+pub none_fault : (b : List ℕ) → fault_byte false b ≡ None → first_fault b ≡ None
+none_fault b e = none_byte b (first_fault b) (byte_is b ∙ e)
+
+pub kind_is : (b : List ℕ) → kind_of b ≡ kind_by (length (values b)) (fault_byte false b)
+unfolding kind_of
+kind_is b = kind_byte b (first_fault b) ∙ ap (kind_by (length (values b))) (byte_is b)
+
+pub before_is : (b : List ℕ) → before_place b (first_fault b) ≡ before_fault false b
+unfolding before_fault
+before_is b = ap (before_place b) (first_fault_walk b)
+    ∙ before_walk is_ascii_whitespace is_pad is_symbol [] b 0 false refl
+
+pub done_is : (b : List ℕ) → complete_bytes b ≡ groups (values (before_fault false b))
+unfolding complete_bytes
+done_is b = ap (λ x. groups (values x)) (before_is b)
+
+-- Two texts
+
+pub fault-append : (a b : List ℕ) (s : Bool) → fault_byte s a ≡ None
+    → fault_byte s (a ++ b) ≡ fault_byte (s || list_any is_pad a) b
+unfolding fault_byte
+fault-append a b s h = stop-append is_ascii_whitespace is_pad is_symbol a b s h
+
+pub fault-append_some : (a b : List ℕ) (s : Bool) (x : ℕ) → fault_byte s a ≡ Some x → fault_byte s (a ++ b) ≡ Some x
+unfolding fault_byte
+fault-append_some a b s x h = stop-append_some is_ascii_whitespace is_pad is_symbol a b s x h
+
+pub before-append : (a b : List ℕ) (s : Bool) → fault_byte s a ≡ None
+    → before_fault s (a ++ b) ≡ a ++ before_fault (s || list_any is_pad a) b
+unfolding fault_byte before_fault
+before-append a b s h = ahead-append is_ascii_whitespace is_pad is_symbol a b s h
+
+pub before-append_some : (a b : List ℕ) (s : Bool) (x : ℕ) → fault_byte s a ≡ Some x
+    → before_fault s (a ++ b) ≡ before_fault s a
+unfolding fault_byte before_fault
+before-append_some a b s x h = ahead-append_some is_ascii_whitespace is_pad is_symbol a b s x h
+
+pub before_none : (a : List ℕ) (s : Bool) → fault_byte s a ≡ None → before_fault s a ≡ a
+unfolding fault_byte before_fault
+before_none a s h = ahead_none is_ascii_whitespace is_pad is_symbol a s h
+
+-- a fault settles what is handed out and the kind, whatever follows
+pub done_stays : (a b : List ℕ) (x : ℕ) → fault_byte false a ≡ Some x → complete_bytes (a ++ b) ≡ complete_bytes a
+done_stays a b x h = done_is (a ++ b) ∙ ap (λ z. groups (values z)) (before-append_some a b false x h) ∙ sym (done_is a)
+
+pub kind_fault : (a : List ℕ) (x : ℕ) → fault_byte false a ≡ Some x
+    → kind_of a ≡ cond (is_symbol x) AlphabetSymbolAfterPadding (UnexpectedSymbol x)
+kind_fault a x h = kind_is a ∙ ap (kind_by (length (values a))) h
+
+pub kind_stays : (a b : List ℕ) (x : ℕ) → fault_byte false a ≡ Some x → kind_of a ≡ kind_of (a ++ b)
+kind_stays a b x h = kind_fault a x h ∙ sym (kind_fault (a ++ b) x (fault-append_some a b false x h))
+
+-- Symbols and then pads
+
+pub fault_symbols : (q b : List ℕ) → Every is_symbol q → fault_byte false (q ++ b) ≡ fault_byte false b
+unfolding fault_byte
+fault_symbols q b h = stop_symbols is_ascii_whitespace is_pad is_symbol classes q b h
+
+pub fault_pads : (n : ℕ) (s : Bool) → fault_byte s (replicate n 61) ≡ None
+unfolding fault_byte
+fault_pads n s = stop_pads is_ascii_whitespace is_pad is_symbol classes n 61 s refl
+
+pub fault_text : (q : List ℕ) (n : ℕ) → Every is_symbol q → fault_byte false (q ++ replicate n 61) ≡ None
+fault_text q n h = fault_symbols q (replicate n 61) h ∙ fault_pads n false
+
+pub symbols_of_pads : (n : ℕ) → filter is_symbol (replicate n 61) ≡ []
+symbols_of_pads n = filter_pads is_ascii_whitespace is_pad is_symbol classes n 61 refl
+
+pub symbols_of_text : (q : List ℕ) (n : ℕ) → Every is_symbol q → filter is_symbol (q ++ replicate n 61) ≡ q
+symbols_of_text q n h = filter-append is_symbol q (replicate n 61)
+    ∙ ap (λ x. filter is_symbol q ++ x) (symbols_of_pads n) ∙ append-nil (filter is_symbol q) ∙ filter_all is_symbol q h
+
+pads_of_pads : (n : ℕ) → filter is_pad (replicate n 61) ≡ replicate n 61
+pads_of_pads zero = refl
+pads_of_pads (suc n) = ap (λ (x : List ℕ). 61 ∷ x) (pads_of_pads n)
+
+pub pads_of_text : (q : List ℕ) (n : ℕ) → Every is_symbol q → filter is_pad (q ++ replicate n 61) ≡ replicate n 61
+pads_of_text q n h =
+    filter-append is_pad q (replicate n 61)
+    ∙ ap (λ x. x ++ filter is_pad (replicate n 61)) (filter_symbols is_ascii_whitespace is_pad is_symbol classes q h)
+    ∙ pads_of_pads n
+
+pub any_of_text : (q : List ℕ) (n : ℕ) → Every is_symbol q → list_any is_pad (q ++ replicate n 61) ≡ list_any is_pad
+    (replicate n 61)
+any_of_text q n h = list_any-append is_pad q (replicate n 61) ∙ ap (λ x. x || list_any is_pad (replicate n 61))
+    (any_symbols is_ascii_whitespace is_pad is_symbol classes q h)
+
+-- Validity
+
+pads_are : (b : List ℕ) → filter is_pad b ≡ replicate (length (filter is_pad b)) 61
+pads_are [] = refl
+pads_are (c ∷ t) =
+    elim (is_pad c) as (λ v. is_pad c ≡ v → cond v (c ∷ filter is_pad t) (filter is_pad t) ≡ replicate
+    (length (cond v (c ∷ filter is_pad t) (filter is_pad t))) 61) [
+      | true ↦ λ e. ap (λ (x : ℕ). x ∷ filter is_pad t) (eqb-true c 61 e) ∙ ap (λ (x : List ℕ). 61 ∷ x) (pads_are t)
+      | false ↦ λ e. pads_are t
+    ] refl
+
+-- a text without a fault is its symbols and then its pads
+pub no_fault_text : (b : List ℕ) → fault_byte false b ≡ None
+    → IsSymbolsAndPadding b (filter is_symbol b) (length (filter is_pad b))
+unfolding fault_byte without_whitespace
+no_fault_text b h = record {
+  symbols_are = filter_every is_symbol b;
+  compact_is = compact_walk is_ascii_whitespace is_pad is_symbol classes b false h
+      ∙ ap (λ x. filter is_symbol b ++ x) (pads_are b);
+}
+
+pub no_fault_valid : (b : List ℕ) → fault_byte false b ≡ None → is_valid b ≡ fits_with (length (filter is_symbol b) % 4)
+    (length (filter is_pad b))
+no_fault_valid b h = symbols_pads_valid b (filter is_symbol b) (length (filter is_pad b)) (no_fault_text b h)
+
+pub every_list_all : (q : List ℕ) → list_all is_symbol q ≡ true → Every is_symbol q
+every_list_all [] h = tt
+every_list_all (c ∷ t) h = let k = and_parts (is_symbol c) (list_all is_symbol t) h in (k.0, every_list_all t k.1)
+
+-- at most one pad stood at the end
+data Cut : List ℕ → List ℕ → Type 0 where
+  same : {s : List ℕ} → Cut s s
+  pad : {s : List ℕ} → Cut (s ++ 61 ∷ []) s
+
+Cut-more : (c : ℕ) (s u : List ℕ) → Cut s u → Cut (c ∷ s) (c ∷ u)
+Cut-more c s u same = same
+Cut-more c s u pad = pad
+
+cut_is : (s : List ℕ) → Cut s (without_last_padding s)
+unfolding without_last_padding
+cut_is [] = same
+cut_is (a ∷ []) = elim (is_pad a) as (λ v. is_pad a ≡ v → Cut (a ∷ []) (cond v [] (a ∷ []))) [
+  | true ↦
+      λ e. rw (eqb-true a 61 e) (pad {s = []})
+  | false ↦ λ e. same
+] refl
+cut_is (a ∷ b ∷ t) = Cut-more a (b ∷ t) (without_last_padding (b ∷ t)) (cut_is (b ∷ t))
+
+-- symbols with pads cut off have no fault
+cut_none : {s u : List ℕ} → Cut s u → fault_byte false u ≡ None → fault_byte false s ≡ None
+cut_none {s} {u} same h = h
+cut_none {s} {u} pad h = fault-append u (61 ∷ []) false h ∙ fault_pads 1 (list_any is_pad u)
+
+unpadded_none : (s : List ℕ) → fault_byte false (without_padding s) ≡ None → fault_byte false s ≡ None
+unfolding without_padding
+unpadded_none s =
+    elim (eqb (length s % 4) 0) as (λ v. fault_byte false (cond v (without_last_padding (without_last_padding s)) s)
+    ≡ None → fault_byte false s ≡ None) [
+      | true ↦ λ h. cut_none (cut_is s) (cut_none (cut_is (without_last_padding s)) h)
+      | false ↦ λ h. h
+    ]
+
+fault_every : (q : List ℕ) → Every is_symbol q → fault_byte false q ≡ None
+fault_every q h = ap (fault_byte false) (sym (append-nil q)) ∙ fault_text q 0 h
+
+fault_compact : (b : List ℕ) → fault_byte false (without_whitespace b) ≡ fault_byte false b
+unfolding fault_byte without_whitespace
+fault_compact b = stop_compact is_ascii_whitespace is_pad is_symbol classes b false
+
+-- a valid text has no fault
+pub valid_no_fault : (b : List ℕ) → is_valid b ≡ true → fault_byte false b ≡ None
+unfolding is_valid
+valid_no_fault b h =
+    let parts = and_parts (not (eqb (length (without_padding (without_whitespace b)) % 4) 1))
+    (list_all is_symbol (without_padding (without_whitespace b))) h in
+    sym (fault_compact b)
+    ∙ unpadded_none (without_whitespace b) (fault_every (without_padding (without_whitespace b))
+    (every_list_all (without_padding (without_whitespace b)) parts.1))
+
+pub fault_invalid : (b : List ℕ) (x : ℕ) → fault_byte false b ≡ Some x → is_valid b ≡ false
+fault_invalid b x h = false_from_ne_true (is_valid b) (λ v. absurd (some_not_none x (sym h ∙ valid_no_fault b v)))
+
+-- Groups of four
+
+four_more : (n : ℕ) → n % 4 ≡ suc (suc (suc (suc n))) % 4
+four_more n = omega arith
+
+pub groups-append : (x y : List ℕ) → groups (x ++ y) ≡ groups x ++ groups (after_groups x ++ y)
+unfolding groups after_groups
+groups-append [] y = refl
+groups-append (p ∷ []) y = refl
+groups-append (p ∷ q ∷ []) y = refl
+groups-append (p ∷ q ∷ r ∷ []) y = refl
+groups-append (p ∷ q ∷ r ∷ s ∷ rest) y =
+    ap (λ x. group_bytes (group_number p q r s) ++ x) (groups-append rest y)
+    ∙ sym (append_assoc (group_bytes (group_number p q r s)) (groups rest) (groups (after_groups rest ++ y)))
+
+pub after_groups-append : (x y : List ℕ) → after_groups (x ++ y) ≡ after_groups (after_groups x ++ y)
+unfolding after_groups
+after_groups-append [] y = refl
+after_groups-append (p ∷ []) y = refl
+after_groups-append (p ∷ q ∷ []) y = refl
+after_groups-append (p ∷ q ∷ r ∷ []) y = refl
+after_groups-append (p ∷ q ∷ r ∷ s ∷ rest) y = after_groups-append rest y
+
+pub after_groups-map : (f : ℕ → ℕ) (x : List ℕ) → after_groups (map f x) ≡ map f (after_groups x)
+unfolding after_groups
+after_groups-map f [] = refl
+after_groups-map f (p ∷ []) = refl
+after_groups-map f (p ∷ q ∷ []) = refl
+after_groups-map f (p ∷ q ∷ r ∷ []) = refl
+after_groups-map f (p ∷ q ∷ r ∷ s ∷ rest) = after_groups-map f rest
+
+pub length-after_groups : (x : List ℕ) → length (after_groups x) ≡ length x % 4
+unfolding after_groups
+length-after_groups [] = refl
+length-after_groups (p ∷ []) = refl
+length-after_groups (p ∷ q ∷ []) = refl
+length-after_groups (p ∷ q ∷ r ∷ []) = refl
+length-after_groups (p ∷ q ∷ r ∷ s ∷ rest) = length-after_groups rest ∙ four_more (length rest)
+
+pub every_after : (x : List ℕ) → Every is_symbol x → Every is_symbol (after_groups x)
+unfolding after_groups
+every_after [] h = h
+every_after (p ∷ []) h = h
+every_after (p ∷ q ∷ []) h = h
+every_after (p ∷ q ∷ r ∷ []) h = h
+every_after (p ∷ q ∷ r ∷ s ∷ rest) h = every_after rest h.1.1.1.1
+
+-- two lists of one remainder, with the same behind them, have one remainder
+pub length_alike : (x y : List ℕ) → length (x ++ y) % 4 ≡ length (after_groups x ++ y) % 4
+length_alike x y = sym (length-after_groups (x ++ y)) ∙ ap length (after_groups-append x y)
+    ∙ length-after_groups (after_groups x ++ y)

@@ -1,0 +1,411 @@
+-- Rows without their white space. For `symbols.rt` and `places.rt`.
+use Rattle.std.proofs.Common.{◌≡◌, ℕ, suc, zero, ◌+◌, ◌-◌, ◌*◌, ◌/◌, ◌%◌, ◌^◌, ◌<◌, ◌≤◌, Bool, true, false, not, ◌&&◌}
+use Rattle.std.proofs.Common.{◌||◌, cond, eqb, ltb, List, [], ◌∷◌, ◌++◌, map, length, get_or, take, drop, Fits, bit_and}
+use Rattle.std.proofs.Common.{w8, refl, sym, ap, ap₂, ◌∙◌, subst, arith, append_assoc, length-take-le, length-drop}
+use Rattle.std.proofs.Common.{ltb-true}
+use Rattle.std.specs.Char.{is_ascii_whitespace}
+use Rattle.std.specs.Int.RustNames.{count_ones}
+use Rattle.std.specs.List.{filter, list_all, range_with_len}
+use Rattle.std.proofs.lemmas.Bool.{agree_below_at, and_parts, eqb-true, true≢false}
+use Rattle.std.proofs.lemmas.List.{append-nil, drop-drop, ext_get_or, get_or-drop, get_or-map, get_or-take, length-map}
+use Rattle.std.proofs.lemmas.List.{map-append, map-id, take-append-drop, take-map, take-take, take_all}
+use Rattle.std.proofs.lemmas.List.Elements.{filter-append}
+use Rattle.std.proofs.lemmas.List.Folds.{list_all-append}
+use Rattle.std.proofs.lemmas.Nat.{and_le_r}
+use Rattle.std.proofs.lemmas.Simd.{get_or-swz_l_below, length-swz_l, mask_l-lt, mask_l-mod, pick_l_whole, swz_l}
+use Rattle.std.proofs.lemmas.Simd.{tops_compared, zip2_of_maps}
+use lib.Lanes.{Each1, mask_l, top, zip2}
+use Rattle.data_url.specs.Base64.{after_groups, groups, is_symbol, symbol_value}
+use Rattle.data_url.specs.Mime.{Every}
+use Rattle.data_url.specs.Steps.Blocks.{DecodesFront, clear, is_symbol_or_space}
+use Rattle.data_url.specs.Steps.Lanes.{value_of}
+use Rattle.data_url.specs.declared.forgiving_base64.places.TheConstants.{CLEAR_PLACES}
+use Rattle.data_url.specs.declared.forgiving_base64.symbols.TheConstants.{SPACES}
+use Rattle.data_url.proofs.forgiving_base64.Vectors.{groups_whole, split_block, is_other, map_agree, mask_l-append}
+use Rattle.data_url.proofs.forgiving_base64.Vectors.{others_mask, looked_up}
+use Rattle.data_url.proofs.forgiving_base64.Steps.{after_few, groups_few, three_items}
+use Rattle.data_url.proofs.forgiving_base64.Groups.{symbols_values, take_groups}
+use Rattle.data_url.proofs.forgiving_base64.Padding.{after_groups-append, length-after_groups}
+use Rattle.data_url.proofs.escapes.Marks.{drop_taken}
+
+-- Clear bits
+
+clear_map : (f : ℕ → ℕ) (xs : List ℕ) (m : ℕ) → clear (map f xs) m ≡ map f (clear xs m)
+clear_map f [] m = refl
+clear_map f (x ∷ xs) m =
+    elim (eqb (m % 2) 0) as (λ t. cond t (f x ∷ clear (map f xs) (m / 2)) (clear (map f xs) (m / 2)) ≡ map f
+    (cond t (x ∷ clear xs (m / 2)) (clear xs (m / 2)))) [
+      | true ↦ ap (λ l. f x ∷ l) (clear_map f xs (m / 2))
+      | false ↦ clear_map f xs (m / 2)
+    ]
+
+clear_even : (x : ℕ) (xs : List ℕ) (m : ℕ) → clear (x ∷ xs) (0 + 2 * m) ≡ x ∷ clear xs m
+clear_even x xs m =
+    let r : (0 + 2 * m) % 2 ≡ 0 = omega arith in
+    let h : (0 + 2 * m) / 2 ≡ m = omega arith in
+    ap (λ n. cond (eqb n 0) (x ∷ clear xs ((0 + 2 * m) / 2)) (clear xs ((0 + 2 * m) / 2))) r
+    ∙ ap (λ n. x ∷ clear xs n) h
+
+clear_odd : (x : ℕ) (xs : List ℕ) (m : ℕ) → clear (x ∷ xs) (1 + 2 * m) ≡ clear xs m
+clear_odd x xs m =
+    let r : (1 + 2 * m) % 2 ≡ 1 = omega arith in
+    let h : (1 + 2 * m) / 2 ≡ m = omega arith in
+    ap (λ n. cond (eqb n 0) (x ∷ clear xs ((1 + 2 * m) / 2)) (clear xs ((1 + 2 * m) / 2))) r ∙ ap (λ n. clear xs n) h
+
+clear_mask : (v : List ℕ) → clear v (others_mask v) ≡ filter is_symbol v
+clear_mask [] = refl
+clear_mask (x ∷ v) =
+    elim (is_symbol x) as (λ t. clear (x ∷ v) (cond (not t) 1 0 + 2 * others_mask v) ≡ cond t (x ∷ filter is_symbol v)
+    (filter is_symbol v)) [
+      | true ↦ clear_even x v (others_mask v) ∙ ap (λ l. x ∷ l) (clear_mask v)
+      | false ↦ clear_odd x v (others_mask v) ∙ clear_mask v
+    ]
+
+-- The table of places
+
+abbrev alike : List ℕ → List ℕ → Bool
+alike [] [] = true
+alike [] (y ∷ ys) = false
+alike (x ∷ xs) [] = false
+alike (x ∷ xs) (y ∷ ys) = eqb x y && alike xs ys
+
+alike_same : (xs ys : List ℕ) → alike xs ys ≡ true → xs ≡ ys
+alike_same [] [] h = refl
+alike_same [] (y ∷ ys) h = absurd (true≢false (sym h))
+alike_same (x ∷ xs) [] h = absurd (true≢false (sym h))
+alike_same (x ∷ xs) (y ∷ ys) h = let p = and_parts (eqb x y) (alike xs ys) h in
+    ap₂ (λ a (b : List ℕ). a ∷ b) (eqb-true x y p.0) (alike_same xs ys p.1)
+
+abbrev places : ℕ → List ℕ
+places b = take 16 (drop (8 * b) CLEAR_PLACES)
+
+abbrev is_right : ℕ → Bool
+is_right b = alike (take (8 - count_ones b) (places b)) (clear (range_with_len 0 8) b) && (list_all (λ p. ltb p 8)
+    (places b) && ltb (count_ones b) 9)
+
+right : (b : ℕ) → b < 256 → is_right b ≡ true
+unfolding count_ones
+right b l = agree_below_at is_right (λ b. true) 256 b refl l
+
+pub places_clear : (b : ℕ) → b < 256 → take (8 - count_ones b) (places b) ≡ clear (range_with_len 0 8) b
+places_clear b l = alike_same (take (8 - count_ones b) (places b)) (clear (range_with_len 0 8) b)
+    (and_parts (alike (take (8 - count_ones b) (places b)) (clear (range_with_len 0 8) b)) _ (right b l)).0
+
+each_below : (v : List ℕ) → list_all (λ p. ltb p 8) v ≡ true → Each1 (λ p. p < 8) v
+each_below [] h = tt
+each_below (x ∷ v) h = let p = and_parts (ltb x 8) (list_all (λ p. ltb p 8) v) h in (ltb-true x 8 p.0, each_below v p.1)
+
+pub places_small : (b : ℕ) → b < 256 → Each1 (λ p. p < 8) (places b)
+places_small b l =
+    each_below (places b) (and_parts (list_all (λ p. ltb p 8) (places b)) _
+    (and_parts (alike (take (8 - count_ones b) (places b)) (clear (range_with_len 0 8) b)) _ (right b l)).1).0
+
+pub ones_few : (b : ℕ) → b < 256 → count_ones b < 9
+ones_few b l = ltb-true (count_ones b) 9 (and_parts (list_all (λ p. ltb p 8) (places b)) _
+    (and_parts (alike (take (8 - count_ones b) (places b)) (clear (range_with_len 0 8) b)) _ (right b l)).1).1
+
+-- Half a row
+
+abbrev add8 : ℕ → ℕ → ℕ
+add8 a b = (a + b) % 256
+
+pub places_below : (v : List ℕ) (from : ℕ) → length v ≡ 16 → from ≤ 8 → Each1 (λ p. p < 8) v → {js : List ℕ}
+    → js ≡ map (λ p. add8 p from) v → Each1 (λ j. j < 16) js
+places_below v from long l h {js} e =
+    let P : List ℕ → Type 0 = λ l. Each1 (λ j. j < 16) l in
+    subst P (sym e) (each v h)
+  where
+    each : (v : List ℕ) → Each1 (λ p. p < 8) v → Each1 (λ j. j < 16) (map (λ p. add8 p from) v)
+    each [] h = tt
+    each (x ∷ v) h = (omega (arith, h.0, l), each v h.1)
+
+below_at : (v : List ℕ) (i : ℕ) → Each1 (λ j. j < 16) v → get_or v i 0 < 16
+below_at [] i h = omega arith
+below_at (x ∷ v) zero h = h.0
+below_at (x ∷ v) (suc i) h = below_at v i h.1
+
+looked_at : (t js : List ℕ) → length js ≡ 16 → Each1 (λ j. j < 16) js → swz_l w8 16 t 0 js ≡ map (λ j. get_or t j 0) js
+looked_at t js long small =
+    ext_get_or 0 _ _ (length-swz_l w8 16 t 0 js ∙ sym (length-map js (λ j. get_or t j 0))) (λ i h.
+    let lt : i < 16 = omega (arith, length-swz_l w8 16 t 0 js) in
+    let below = below_at js i small in
+    let place : 16 * ((0 + i) / 16) + get_or js i 0 ≡ get_or js i 0 = omega arith in
+    get_or-swz_l_below w8 16 t 0 js i (omega arith) below
+    ∙ ap (λ k. get_or t k 0) place
+    ∙ sym (get_or-map (λ j. get_or t j 0) js i 0 0 (omega arith)))
+
+map_range : (f g : ℕ → ℕ) (a n : ℕ) → ((k : ℕ) → a ≤ k → k < a + n → f k ≡ g k)
+    → map f (range_with_len a n) ≡ map g (range_with_len a n)
+map_range f g a zero h = refl
+map_range f g a (suc n) h = ap₂ (λ x (y : List ℕ). x ∷ y) (h a (omega arith) (omega arith))
+    (map_range f g (a + 1) n (λ k p q. h k (omega arith) (omega arith)))
+
+half_is : (row : List ℕ) (from : ℕ) → length row ≡ 16 → from ≤ 8
+    → map (λ p. get_or row (add8 p from) 0) (range_with_len 0 8) ≡ take 8 (drop from row)
+half_is row from long l =
+    let v = take 8 (drop from row) in
+    map_range (λ p. get_or row (add8 p from) 0) (λ k. get_or v k 0) 0 8 (λ k a b.
+    let there : add8 k from ≡ from + k = omega arith in
+    ap (λ n. get_or row n 0) there ∙ sym (get_or-take 8 (drop from row) k 0 (omega arith) ∙ get_or-drop from row k 0))
+    ∙ pick_l_whole 0 v 8 (length-take-le 8 (drop from row) (omega (arith, length-drop from row)))
+
+pub half_clear : (row v js : List ℕ) (from bits c : ℕ) → length row ≡ 16 → length v ≡ 16 → from ≤ 8
+    → Each1 (λ p. p < 8) v → take c v ≡ clear (range_with_len 0 8) bits → js ≡ map (λ p. add8 p from) v
+    → take c (swz_l w8 16 row 0 js) ≡ clear (take 8 (drop from row)) bits
+half_clear row v js from bits c long wide l small is e =
+    let look : ℕ → ℕ = λ p. get_or row (add8 p from) 0 in
+    let size : length js ≡ 16 = ap length e ∙ length-map v (λ p. add8 p from) ∙ wide in
+    ap (take c) (looked_at row js size (places_below v from wide l small e) ∙ ap (map (λ j. get_or row j 0)) e
+    ∙ map_both (λ j. get_or row j 0) (λ p. add8 p from) v)
+    ∙ take-map look c v
+    ∙ ap (map look) is
+    ∙ sym (clear_map look (range_with_len 0 8) bits)
+    ∙ ap (λ l. clear l bits) (half_is row from long l)
+  where
+    map_both : (f g : ℕ → ℕ) (xs : List ℕ) → map f (map g xs) ≡ map (λ x. f (g x)) xs
+    map_both f g [] = refl
+    map_both f g (x ∷ xs) = ap (λ r. f (g x) ∷ r) (map_both f g xs)
+
+-- Two halves
+
+half_sum : (a b : ℕ) → a < 256 → ((a + 256 * b) % 256 ≡ a) × ((a + 256 * b) / 256 ≡ b)
+half_sum a b l = (omega arith, omega arith)
+
+pub row_clear : (row : List ℕ) (others : ℕ) → length row ≡ 16 → others ≡ others_mask row
+    → clear (take 8 (drop 0 row)) (others % 256) ++ clear (take 8 (drop 8 row)) (others / 256) ≡ filter is_symbol row
+row_clear row others long e =
+    let a = take 8 row in
+    let b = drop 8 row in
+    let wide : length a ≡ 8 = length-take-le 8 row (omega arith) in
+    let rest : length b ≡ 8 = omega (arith, length-drop 8 row) in
+    let Q : ℕ → Type 0 = λ n. others_mask a < 2 ^ n in
+    let small : others_mask a < 256 = subst Q (length-map a is_other ∙ wide) (mask_l-lt (map is_other a)) in
+    let sum : others ≡ others_mask a + 256 * others_mask b =
+    e ∙ ap others_mask (sym (take-append-drop 8 row)) ∙ ap mask_l (map-append is_other a b)
+    ∙ mask_l-append (map is_other a) (map is_other b) ∙ ap (λ n. others_mask a + 2 ^ n * others_mask b)
+    (length-map a is_other ∙ wide) in
+    let parts = half_sum (others_mask a) (others_mask b) small in
+    ap₂ (λ (x y : List ℕ). x ++ y)
+    (ap (λ n. clear a (n % 256)) sum ∙ ap (clear a) parts.0 ∙ clear_mask a)
+    (ap₂ (λ l n. clear l (n / 256)) (take_all 8 b (omega arith)) sum ∙ ap (clear b) parts.1 ∙ clear_mask b)
+    ∙ sym (filter-append is_symbol a b)
+    ∙ ap (filter is_symbol) (take-append-drop 8 row)
+
+-- put one behind the other
+pub two_halves : (front row : List ℕ) (others : ℕ) {middle end : List ℕ} → length row ≡ 16 → others ≡ others_mask row
+    → middle ≡ front ++ clear (take 8 (drop 0 row)) (others % 256)
+    → end ≡ middle ++ clear (take 8 (drop 8 row)) (others / 256) → end ≡ front ++ filter is_symbol row
+two_halves front row others long e p q =
+    q ∙ ap (λ l. l ++ clear (take 8 (drop 8 row)) (others / 256)) p
+    ∙ append_assoc front (clear (take 8 (drop 0 row)) (others % 256)) (clear (take 8 (drop 8 row)) (others / 256))
+    ∙ ap (λ l. front ++ l) (row_clear row others long e)
+
+-- White space alone between symbols
+
+abbrev low : ℕ → ℕ
+low b = bit_and b 15
+
+abbrev space_entry : ℕ → ℕ
+space_entry b = get_or SPACES (low b) 0
+
+pub spaces_are : (v : List ℕ) (js : List ℕ) → length v ≡ 16 → Each1 (Fits w8) v → js ≡ map low v
+    → mask_l (map (top 7) (zip2 (λ a b. cond (eqb a b) 255 0) (swz_l w8 16 SPACES 0 js) v)) % 2 ^ 64 ≡ mask_l
+    (map is_ascii_whitespace v)
+spaces_are v js long fits e =
+    ap (λ ms. mask_l ms % 2 ^ 64)
+    (tops_compared w8 eqb (swz_l w8 16 SPACES 0 js) v
+    ∙ zip2_of_maps eqb space_entry (λ b. b) v
+    (looked_up SPACES low v js long fits e (λ x h. omega (arith, and_le_r x 15))) (sym (map-id v))
+    ∙ map_agree (λ b. eqb (space_entry b) b) is_ascii_whitespace
+    (λ b l. agree_below_at (λ b. eqb (space_entry b) b) is_ascii_whitespace 256 b refl l) v fits)
+    ∙ mask_l-mod (map is_ascii_whitespace v) 64 (omega (arith, length-map v is_ascii_whitespace))
+
+first_bits : (s w : Bool) (m n : ℕ) → cond (not s) 1 0 + 2 * m ≡ cond w 1 0 + 2 * n → ((s || w) ≡ true) × (m ≡ n)
+first_bits true true m n e = (refl, omega (arith, e))
+first_bits true false m n e = (refl, omega (arith, e))
+first_bits false true m n e = (refl, omega (arith, e))
+first_bits false false m n e = absurd (omega (arith, e))
+
+pub only_spaces : (v : List ℕ) → others_mask v ≡ mask_l (map is_ascii_whitespace v)
+    → list_all is_symbol_or_space v ≡ true
+only_spaces [] e = refl
+only_spaces (b ∷ v) e = let p = first_bits (is_symbol b) (is_ascii_whitespace b) (others_mask v)
+    (mask_l (map is_ascii_whitespace v)) e in ap₂ (λ s t. s && t) p.0 (only_spaces v p.1)
+
+no_bit : (s : Bool) (m : ℕ) → cond (not s) 1 0 + 2 * m ≡ 0 → (s ≡ true) × (m ≡ 0)
+no_bit true m e = (refl, omega (arith, e))
+no_bit false m e = absurd (omega (arith, e))
+
+pub only_symbols : (v : List ℕ) → others_mask v ≡ 0 → list_all is_symbol_or_space v ≡ true
+only_symbols [] e = refl
+only_symbols (b ∷ v) e = let p = no_bit (is_symbol b) (others_mask v) e in
+    ap₂ (λ s t. (s || is_ascii_whitespace b) && t) p.0 (only_symbols v p.1)
+
+-- a row of symbols alone
+pub all_clear : (v : List ℕ) → others_mask v ≡ 0 → v ≡ filter is_symbol v
+all_clear [] e = refl
+all_clear (b ∷ v) e = let p = no_bit (is_symbol b) (others_mask v) e in ap (λ l. b ∷ l) (all_clear v p.1)
+    ∙ sym (ap (λ t. cond t (b ∷ filter is_symbol v) (filter is_symbol v)) p.0)
+
+-- Symbols that were put together
+
+pub filter_symbols : (v : List ℕ) → list_all is_symbol (filter is_symbol v) ≡ true
+filter_symbols [] = refl
+filter_symbols (b ∷ v) =
+    elim (is_symbol b) as (λ t. is_symbol b ≡ t
+    → list_all is_symbol (cond t (b ∷ filter is_symbol v) (filter is_symbol v)) ≡ true) [
+      | true ↦ λ e. ap₂ (λ s t. s && t) e (filter_symbols v)
+      | false ↦ λ e. filter_symbols v
+    ] refl
+
+pub all_more : (x y z : List ℕ) → list_all is_symbol x ≡ true → z ≡ x ++ filter is_symbol y
+    → list_all is_symbol z ≡ true
+all_more x y z h e = ap (list_all is_symbol) e ∙ list_all-append is_symbol x (filter is_symbol y)
+    ∙ ap₂ (λ s t. s && t) h (filter_symbols y)
+
+pub list_all_every : (q : List ℕ) → Every is_symbol q → list_all is_symbol q ≡ true
+list_all_every [] h = refl
+list_all_every (c ∷ q) h = ap₂ (λ s t. s && t) h.0 (list_all_every q h.1)
+
+-- what is behind the first n
+pub all_behind : (n : ℕ) (q : List ℕ) → list_all is_symbol q ≡ true → list_all is_symbol (drop n q) ≡ true
+all_behind n q h = (and_parts (list_all is_symbol (take n q)) (list_all is_symbol (drop n q))
+    (sym (list_all-append is_symbol (take n q) (drop n q)) ∙ ap (list_all is_symbol) (take-append-drop n q) ∙ h)).1
+
+-- the rest behind a block, moved to the front
+pub moved : (old b1 b2 b3 b4 w x y z : List ℕ) (len : ℕ) → 64 ≤ len → len < 128 → take 16 b1 ≡ w
+    → take (16 + 16) b2 ≡ take 16 b1 ++ x → take (32 + 16) b3 ≡ take 32 b2 ++ y → take (48 + 16) b4 ≡ take 48 b3 ++ z
+    → w ≡ take 16 (drop 64 old) → x ≡ take 16 (drop 80 old) → y ≡ take 16 (drop 96 old) → z ≡ take 16 (drop 112 old)
+    → take (len - 64) b4 ≡ drop 64 (take len old)
+moved old b1 b2 b3 b4 w x y z len few many p q r s d e f g =
+    let far = drop 64 old in
+    let front : take 64 b4 ≡ take 64 far =
+    s ∙ ap (λ l. l ++ z) (r ∙ ap (λ l. l ++ y) (q ∙ ap (λ l. l ++ x) p))
+    ∙ append_assoc (w ++ x) y z ∙ append_assoc w x (y ++ z)
+    ∙ ap₂ (λ (l m : List ℕ). l ++ m) d (ap₂ (λ (l m : List ℕ). l ++ m) (e ∙ ap (take 16) (sym (drop-drop 16 64 old)))
+    (ap₂ (λ (l m : List ℕ). l ++ m) (f ∙ ap (take 16) (sym (drop-drop 32 64 old))) (g
+    ∙ ap (take 16) (sym (drop-drop 48 64 old)))))
+    ∙ sym (split_block far) in
+    sym (take-take (len - 64) 64 b4 (omega arith)) ∙ ap (take (len - 64)) front
+    ∙ take-take (len - 64) 64 far (omega arith) ∙ sym (drop_taken 64 len old)
+
+-- four rows
+
+both_spaced : (x y : List ℕ) → list_all is_symbol_or_space x ≡ true → list_all is_symbol_or_space y ≡ true
+    → list_all is_symbol_or_space (x ++ y) ≡ true
+both_spaced x y m n = list_all-append is_symbol_or_space x y ∙ ap₂ (λ s t. s && t) m n
+
+pub four_spaced : (text r1 r2 r3 : List ℕ) → r1 ≡ drop 16 text → r2 ≡ drop 32 text → r3 ≡ drop 48 text
+    → list_all is_symbol_or_space (take 16 text) ≡ true → list_all is_symbol_or_space (take 16 r1) ≡ true
+    → list_all is_symbol_or_space (take 16 r2) ≡ true → list_all is_symbol_or_space (take 16 r3) ≡ true
+    → list_all is_symbol_or_space (take 64 text) ≡ true
+four_spaced text r1 r2 r3 d e f p q r s =
+    let all : List ℕ → Bool = λ l. list_all is_symbol_or_space (take 16 l) in
+    let b = take 16 (drop 16 text) in
+    let c = take 16 (drop 32 text) in
+    let h = take 16 (drop 48 text) in
+    ap (list_all is_symbol_or_space) (split_block text)
+    ∙ both_spaced (take 16 text) (b ++ (c ++ h)) p
+    (both_spaced b (c ++ h) (ap all (sym d) ∙ q) (both_spaced c h (ap all (sym e) ∙ r) (ap all (sym f) ∙ s)))
+
+pub four_added : (text r1 r2 r3 q0 q1 q2 q3 q4 : List ℕ) → r1 ≡ drop 16 text → r2 ≡ drop 32 text → r3 ≡ drop 48 text
+    → q1 ≡ q0 ++ filter is_symbol (take 16 text) → q2 ≡ q1 ++ filter is_symbol (take 16 r1)
+    → q3 ≡ q2 ++ filter is_symbol (take 16 r2) → q4 ≡ q3 ++ filter is_symbol (take 16 r3)
+    → q4 ≡ q0 ++ filter is_symbol (take 64 text)
+four_added text r1 r2 r3 q0 q1 q2 q3 q4 d e f p q r s =
+    let of : List ℕ → List ℕ = λ l. filter is_symbol (take 16 l) in
+    let a = of text in
+    let b = of (drop 16 text) in
+    let c = of (drop 32 text) in
+    let h = of (drop 48 text) in
+    s ∙ ap₂ (λ (l m : List ℕ). l ++ m) (r
+    ∙ ap₂ (λ (l m : List ℕ). l ++ m) (q ∙ ap₂ (λ (l m : List ℕ). l ++ m) p (ap of d)) (ap of e)) (ap of f)
+    ∙ append_assoc ((q0 ++ a) ++ b) c h ∙ append_assoc (q0 ++ a) b (c ++ h) ∙ append_assoc q0 a (b ++ (c ++ h))
+    ∙ ap (λ l. q0 ++ l) (sym (ap (filter is_symbol) (split_block text)
+    ∙ filter-append is_symbol (take 16 text)
+    (take 16 (drop 16 text) ++ (take 16 (drop 32 text) ++ take 16 (drop 48 text)))
+    ∙ ap (λ l. a ++ l) (filter-append is_symbol (take 16 (drop 16 text))
+    (take 16 (drop 32 text) ++ take 16 (drop 48 text))
+    ∙ ap (λ l. b ++ l) (filter-append is_symbol (take 16 (drop 32 text)) (take 16 (drop 48 text))))))
+
+-- the symbols in no whole group
+no_items : (l : List ℕ) → length l ≡ 0 → l ≡ []
+no_items [] e = refl
+no_items (b ∷ l) e = absurd (omega arith)
+
+pub after_is : (q : List ℕ) → after_groups q ≡ drop (length q / 4 * 4) q
+after_is q =
+    let at = length q / 4 * 4 in
+    let within : at ≤ length q = omega arith in
+    let none : after_groups (take at q) ≡ [] =
+    no_items (after_groups (take at q))
+    (omega (arith, length-after_groups (take at q), length-take-le at q within)) in
+    ap after_groups (sym (take-append-drop at q)) ∙ after_groups-append (take at q) (drop at q)
+    ∙ ap (λ x. after_groups (x ++ drop at q)) none
+    ∙ after_few (drop at q) (omega (arith, length-drop at q))
+
+pub three_last : (s : List ℕ) (len : ℕ) → length s ≡ 144 → len < 64
+    → take (len % 4) (get_or s (len / 4 * 4) 0 ∷ get_or s (len / 4 * 4 + 1) 0 ∷ get_or s (len / 4 * 4 + 2) 0 ∷ [])
+    ≡ after_groups (take len s)
+three_last s len long few =
+    let at = len / 4 * 4 in
+    let v = take 3 (drop at s) in
+    let size : length v ≡ 3 = length-take-le 3 (drop at s) (omega (arith, length-drop at s)) in
+    let item : (k : ℕ) → k < 3 → get_or v k 0 ≡ get_or s (at + k) 0 = λ k l. get_or-take 3 (drop at s) k 0 l
+    ∙ get_or-drop at s k 0 in
+    let whole : length (take len s) ≡ len = length-take-le len s (omega arith) in
+    let left : len - at ≡ len % 4 = omega arith in
+    let same : get_or v 0 0 ∷ get_or v 1 0 ∷ get_or v 2 0 ∷ [] ≡ get_or s at 0 ∷ get_or s (at + 1) 0 ∷ get_or s
+    (at + 2) 0 ∷ [] =
+    items (item 0 (omega arith) ∙ ap (λ n. get_or s n 0) (omega arith)) (item 1 (omega arith)) (item 2 (omega arith)) in
+    ap (take (len % 4)) (sym (sym (take_all 3 v (omega arith)) ∙ three_items v 3 size refl ∙ same))
+    ∙ take-take (len % 4) 3 (drop at s) (omega arith)
+    ∙ ap (λ n. take n (drop at s)) (sym left)
+    ∙ sym (drop_taken at len s)
+    ∙ ap (λ n. drop (n / 4 * 4) (take len s)) (sym whole)
+    ∙ sym (after_is (take len s))
+  where
+    items : {a b c x y z : ℕ} → a ≡ x → b ≡ y → c ≡ z → ◌≡◌ {A = List ℕ} (a ∷ b ∷ c ∷ []) (x ∷ y ∷ z ∷ [])
+    items p q r = cc
+
+-- The bytes of the first groups
+
+pub symbol_lt : (b : ℕ) → is_symbol b ≡ true → b < 256
+symbol_lt b h = grind arith
+
+fits_symbols : (s : List ℕ) → list_all is_symbol s ≡ true → (i : ℕ) → Fits w8 (get_or s i 0)
+fits_symbols [] h i = record { fits = omega arith }
+fits_symbols (b ∷ s) h zero = record { fits = symbol_lt b (and_parts (is_symbol b) (list_all is_symbol s) h).0 }
+fits_symbols (b ∷ s) h (suc i) = fits_symbols s (and_parts (is_symbol b) (list_all is_symbol s) h).1 i
+
+pub front_is : (s bytes : List ℕ) (len : ℕ) → length s ≡ 144 → len < 128 → list_all is_symbol (take len s) ≡ true
+    → bytes ≡ groups (map value_of (take 64 s)) → DecodesFront (take len s) bytes
+front_is s bytes len long few all e m a b =
+    let size : length (take len s) ≡ len = length-take-le len s (omega arith) in
+    let n = 4 * m in
+    let front : take n s ≡ take n (take len s) = sym (take-take n len s (omega arith)) in
+    let every : list_all is_symbol (take n (take len s)) ≡ true =
+    (and_parts (list_all is_symbol (take n (take len s))) (list_all is_symbol (drop n (take len s)))
+    (sym (list_all-append is_symbol (take n (take len s)) (drop n (take len s)))
+    ∙ ap (list_all is_symbol) (take-append-drop n (take len s)) ∙ all)).0 in
+    ap (take (3 * m)) e
+    ∙ take_groups m (map value_of (take 64 s))
+    (omega (arith, length-map (take 64 s) value_of, length-take-le 64 s (omega arith)))
+    ∙ ap groups (take-map value_of n (take 64 s) ∙ ap (map value_of) (take-take n 64 s (omega arith) ∙ front)
+    ∙ symbols_values (take n (take len s)) (fits_symbols (take n (take len s)) every) every)
+
+-- all groups of fewer than 64 symbols
+pub groups_front : (q bytes : List ℕ) → length q < 64 → DecodesFront q bytes
+    → take (3 * (length q / 4)) bytes ≡ groups (map symbol_value q)
+groups_front q bytes few front =
+    let m = length q / 4 in
+    let a = take (4 * m) q in
+    let b = drop (4 * m) q in
+    let long : length a ≡ 4 * m = length-take-le (4 * m) q (omega arith) in
+    front m (omega arith) (omega arith)
+    ∙ sym (ap (λ l. groups (map symbol_value l)) (sym (take-append-drop (4 * m) q))
+    ∙ ap groups (map-append symbol_value a b)
+    ∙ groups_whole (map symbol_value a) (map symbol_value b) (omega (arith, length-map a symbol_value))
+    ∙ ap (λ l. groups (map symbol_value a) ++ l)
+    (groups_few (map symbol_value b) (omega (arith, length-map b symbol_value, length-drop (4 * m) q)))
+    ∙ append-nil (groups (map symbol_value a)))

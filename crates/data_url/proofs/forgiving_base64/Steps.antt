@@ -1,0 +1,666 @@
+-- What a decoder does with more bytes, and at its end. For `Decoder`.
+use Rattle.std.proofs.Common.{◌≡◌, ◌≢◌, ℕ, suc, zero, ◌+◌, ◌*◌, ◌%◌, ◌<◌, ◌≤◌, Bool, true, false, cond, eqb, get_or}
+use Rattle.std.proofs.Common.{take, List, [], ◌∷◌, ◌++◌, length, map, min, replicate, None, Some, is_some, Result, Ok}
+use Rattle.std.proofs.Common.{Err, refl, ap, sym, ◌∙◌, subst, arith, length-append, drop, Option, append_assoc}
+use Rattle.std.specs.Prelude.{MatchOption, MatchBool, MatchResult}
+use Rattle.std.specs.List.{filter, list_any}
+use Rattle.std.proofs.lemmas.List.{append-nil, length-map, length-replicate, take-append-drop}
+use Rattle.std.proofs.lemmas.List.Elements.{filter-append}
+use Rattle.std.proofs.lemmas.Bool.{false≢true, true≢false, ne_eqb}
+use Rattle.data_url.specs.Base64.{AlphabetSymbolAfterPadding, Kind, LoneAlphabetSymbol, Padding, UnexpectedSymbol}
+use Rattle.data_url.specs.Base64.{after_groups, decoded, complete_bytes, first_fault, group_bytes, group_number, groups}
+use Rattle.data_url.specs.Base64.{is_symbol, is_valid, kind_of, left_padding, left_symbols, left_text, rest_bytes}
+use Rattle.data_url.specs.Base64.{symbol_value, values}
+use Rattle.std.specs.Char.{is_ascii_whitespace}
+use Rattle.data_url.specs.Decoder.{Feeds, Finishes, IsAll, State, left_over, IsLeft, IsTaken}
+use Rattle.data_url.specs.Errors.{IsRefused}
+use Rattle.data_url.specs.Mime.{Every}
+use Rattle.data_url.specs.Run.{IsRun, or_error, IsPrefix, joined_pieces, refusal}
+use Rattle.data_url.specs.Steps.Holding.{Adds, Flushes, Refuses}
+use Rattle.data_url.specs.declared.forgiving_base64.DecodeError.{DecodeError}
+use Rattle.data_url.specs.declared.forgiving_base64.DecodeError.TheVariants.{WriteError, InvalidBase64}
+use Rattle.data_url.proofs.runs.Runs.{match_none, prefix_all, joined_pieces-append, match_alike, match_at, match_map}
+use Rattle.data_url.proofs.runs.Runs.{match_at_none, prefix_behind, prefix_trans, refusal-append, run-append}
+use Rattle.data_url.proofs.forgiving_base64.Padding.{any_of_text, before-append, before_fault, before_none, classes}
+use Rattle.data_url.proofs.forgiving_base64.Padding.{done_is, fault-append, fault_byte, fault_pads, fault_some}
+use Rattle.data_url.proofs.forgiving_base64.Padding.{fault_text, is_pad, kind_by, kind_fault, kind_is, no_fault_valid}
+use Rattle.data_url.proofs.forgiving_base64.Padding.{none_fault, pads_of_text, symbols_of_text, fits_with, from_fits}
+use Rattle.data_url.proofs.forgiving_base64.Padding.{from_unfit, bad, is_bad, some_not_none, space_alone, symbol_alone}
+use Rattle.data_url.proofs.forgiving_base64.Padding.{done_stays, fault-append_some, kind_stays}
+use Rattle.data_url.specs.Steps.Calls.{CallsOnce}
+use Rattle.data_url.specs.Steps.Ending.{IsFaultAtEnd}
+use Rattle.data_url.specs.Facts.{Fits}
+use Rattle.data_url.specs.declared.forgiving_base64.InvalidBase64Details.TheVariants.{LoneAlphabetSymbol as LoneAlphabetSymbolDetails}
+use Rattle.data_url.specs.declared.forgiving_base64.InvalidBase64Details.TheVariants.{Padding as PaddingDetails}
+use Rattle.data_url.specs.Laws.{GoesOn}
+use Rattle.data_url.proofs.forgiving_base64.Groups.{two_feeds}
+
+-- What little more text does behind what a decoder has left over, and what its end does.
+
+pub groups_few : (x : List ℕ) → length x ≤ 3 → groups x ≡ []
+unfolding groups
+groups_few [] h = refl
+groups_few (a ∷ []) h = refl
+groups_few (a ∷ b ∷ []) h = refl
+groups_few (a ∷ b ∷ c ∷ []) h = refl
+groups_few (a ∷ b ∷ c ∷ e ∷ t) h = absurd (omega arith)
+
+pub after_few : (x : List ℕ) → length x ≤ 3 → after_groups x ≡ x
+unfolding after_groups
+after_few [] h = refl
+after_few (a ∷ []) h = refl
+after_few (a ∷ b ∷ []) h = refl
+after_few (a ∷ b ∷ c ∷ []) h = refl
+after_few (a ∷ b ∷ c ∷ e ∷ t) h = absurd (omega arith)
+
+-- a bad byte is where the text stops
+before_one : (c : ℕ) (s : Bool) → fault_byte s (c ∷ []) ≡ Some c → before_fault s (c ∷ []) ≡ []
+unfolding fault_byte before_fault
+before_one c s h =
+    elim (is_bad is_ascii_whitespace is_pad is_symbol s c) as (λ v. cond v (Some c) None ≡ Some c
+    → cond v [] (c ∷ []) ≡ []) [ true ↦ λ e. refl | false ↦ λ e. absurd (some_not_none c (sym e)) ] h
+
+-- whether a pad stands among so many
+abbrev pub has_pad : ℕ → Bool
+has_pad p = list_any is_pad (replicate p 61)
+
+module _ (q : List ℕ) (p : ℕ) (every : Every is_symbol q) where
+  pub fault_more : (t : List ℕ) → fault_byte false (left_text q p ++ t) ≡ fault_byte (has_pad p) t
+  fault_more t = fault-append (left_text q p) t false (fault_text q p every)
+      ∙ ap (λ s. fault_byte s t) (any_of_text q p every)
+
+  pub before_more : (t : List ℕ) → before_fault false (left_text q p ++ t) ≡ left_text q p ++ before_fault (has_pad p) t
+  before_more t = before-append (left_text q p) t false (fault_text q p every)
+      ∙ ap (λ s. left_text q p ++ before_fault s t) (any_of_text q p every)
+
+  pub symbols_more : (t : List ℕ) → filter is_symbol (left_text q p ++ t) ≡ q ++ filter is_symbol t
+  symbols_more t = filter-append is_symbol (left_text q p) t
+      ∙ ap (λ x. x ++ filter is_symbol t) (symbols_of_text q p every)
+
+  pub pads_more : (t : List ℕ) → length (filter is_pad (left_text q p ++ t)) ≡ p + length (filter is_pad t)
+  pads_more t =
+      ap length (filter-append is_pad (left_text q p) t)
+      ∙ length-append (filter is_pad (left_text q p)) (filter is_pad t)
+      ∙ ap (λ x. length x + length (filter is_pad t)) (pads_of_text q p every)
+      ∙ ap (λ x. x + length (filter is_pad t)) (length-replicate p 61)
+
+  pub values_more : (t : List ℕ) → values (left_text q p ++ t) ≡ map symbol_value (q ++ filter is_symbol t)
+  unfolding values
+  values_more t = ap (map symbol_value) (symbols_more t)
+
+  pub values_left : values (left_text q p) ≡ map symbol_value q
+  unfolding values
+  values_left = ap (map symbol_value) (symbols_of_text q p every)
+
+  -- what comes of some text t without a fault
+  pub done_more : (t : List ℕ) → fault_byte (has_pad p) t ≡ None → complete_bytes (left_text q p ++ t) ≡ groups
+      (map symbol_value (q ++ filter is_symbol t))
+  done_more t h =
+      done_is (left_text q p ++ t)
+      ∙ ap (λ x. groups (values x)) (before_none (left_text q p ++ t) false (fault_more t ∙ h))
+      ∙ ap groups (values_more t)
+
+  pub left_more : (t : List ℕ) → left_symbols (left_text q p ++ t) ≡ after_groups (q ++ filter is_symbol t)
+  unfolding left_symbols
+  left_more t = ap after_groups (symbols_more t)
+
+  pub padding_more : (t : List ℕ) → left_padding (left_text q p ++ t) ≡ min (p + length (filter is_pad t)) 3
+  unfolding left_padding
+  padding_more t = ap (λ x. min x 3) (pads_more t)
+
+  -- and of one bad byte
+  pub done_bad : (c : ℕ) → length q ≤ 3 → fault_byte (has_pad p) (c ∷ []) ≡ Some c
+      → complete_bytes (left_text q p ++ c ∷ []) ≡ []
+  done_bad c few h =
+      done_is (left_text q p ++ c ∷ [])
+      ∙ ap (λ x. groups (values x)) (before_more (c ∷ []) ∙ ap (λ x. left_text q p ++ x) (before_one c (has_pad p) h)
+      ∙ append-nil (left_text q p))
+      ∙ ap groups values_left
+      ∙ groups_few (map symbol_value q) (omega (arith, few, length-map q symbol_value))
+
+  pub kind_bad : (c : ℕ) → fault_byte (has_pad p) (c ∷ []) ≡ Some c
+      → kind_of (left_text q p ++ c ∷ []) ≡ cond (is_symbol c) AlphabetSymbolAfterPadding (UnexpectedSymbol c)
+  kind_bad c h = kind_fault (left_text q p ++ c ∷ []) c (fault_more (c ∷ []) ∙ h)
+
+  -- as the end
+  pub valid_left : is_valid (left_text q p) ≡ fits_with (length q % 4) p
+  valid_left =
+      no_fault_valid (left_text q p) (fault_text q p every)
+      ∙ ap (λ x. fits_with (length x % 4) (length (filter is_pad (left_text q p)))) (symbols_of_text q p every)
+      ∙ ap (λ x. fits_with (length q % 4) (length x)) (pads_of_text q p every)
+      ∙ ap (fits_with (length q % 4)) (length-replicate p 61)
+
+  pub decoded_left : decoded (left_text q p) ≡ groups (map symbol_value q) ++ rest_bytes
+      (after_groups (map symbol_value q))
+  unfolding decoded
+  decoded_left = ap (λ x. groups x ++ rest_bytes (after_groups x)) values_left
+
+  pub kind_left : kind_of (left_text q p) ≡ cond (eqb (length q % 4) 1) LoneAlphabetSymbol Padding
+  kind_left =
+      kind_is (left_text q p)
+      ∙ ap (λ o. kind_by (length (values (left_text q p))) o) (fault_text q p every)
+      ∙ ap (λ x. cond (eqb (length x % 4) 1) LoneAlphabetSymbol Padding) values_left
+      ∙ ap (λ n. cond (eqb (n % 4) 1) LoneAlphabetSymbol Padding) (length-map q symbol_value)
+
+-- One byte, by its class
+
+bad_by : (x x' y y' z z' s : Bool) → x ≡ x' → y ≡ y' → z ≡ z' → bad x y z s ≡ bad x' y' z' s
+bad_by x x' y y' z z' s e f g = ap (λ v. bad v y z s) e ∙ ap (λ v. bad x' v z s) f ∙ ap (λ v. bad x' y' v s) g
+
+fault_one : (c : ℕ) (s x y z : Bool) → is_ascii_whitespace c ≡ x → is_pad c ≡ y → is_symbol c ≡ z
+    → fault_byte s (c ∷ []) ≡ cond (bad x y z s) (Some c) None
+unfolding fault_byte
+fault_one c s x y z e f g =
+    ap (λ v. cond v (Some c) None) (bad_by (is_ascii_whitespace c) x (is_pad c) y (is_symbol c) z s e f g)
+
+filter_one : (p : ℕ → Bool) (c : ℕ) (v : Bool) → p c ≡ v → filter p (c ∷ []) ≡ cond v (c ∷ []) []
+filter_one p c v e = ap (λ w. cond w (c ∷ []) []) e
+
+pub fault_space : (c : ℕ) (s : Bool) → is_ascii_whitespace c ≡ true → fault_byte s (c ∷ []) ≡ None
+fault_space c s e = let k = space_alone (classes c) e in fault_one c s true false false e k.0 k.1
+
+pub symbols_space : (c : ℕ) → is_ascii_whitespace c ≡ true → filter is_symbol (c ∷ []) ≡ []
+symbols_space c e = filter_one is_symbol c false (space_alone (classes c) e).1
+
+pub pads_space : (c : ℕ) → is_ascii_whitespace c ≡ true → filter is_pad (c ∷ []) ≡ []
+pads_space c e = filter_one is_pad c false (space_alone (classes c) e).0
+
+pub fault_symbol : (c : ℕ) → is_symbol c ≡ true → fault_byte false (c ∷ []) ≡ None
+fault_symbol c e = let k = symbol_alone (classes c) e in fault_one c false false false true k.0 k.1 e
+
+-- a symbol behind a pad
+pub fault_behind : (c : ℕ) → is_symbol c ≡ true → fault_byte true (c ∷ []) ≡ Some c
+fault_behind c e = let k = symbol_alone (classes c) e in fault_one c true false false true k.0 k.1 e
+
+pub symbols_symbol : (c : ℕ) → is_symbol c ≡ true → filter is_symbol (c ∷ []) ≡ c ∷ []
+symbols_symbol c e = filter_one is_symbol c true e
+
+pub pads_symbol : (c : ℕ) → is_symbol c ≡ true → filter is_pad (c ∷ []) ≡ []
+pads_symbol c e = filter_one is_pad c false (symbol_alone (classes c) e).1
+
+pub fault_other : (c : ℕ) (s : Bool) → is_ascii_whitespace c ≡ false → is_pad c ≡ false → is_symbol c ≡ false
+    → fault_byte s (c ∷ []) ≡ Some c
+fault_other c s e f g = fault_one c s false false false e f g
+
+pub has_pad_some : (p : ℕ) → 1 ≤ p → has_pad p ≡ true
+has_pad_some zero h = absurd (omega arith)
+has_pad_some (suc p) h = refl
+
+-- Groups of four and what is left, written out
+
+four_groups : (a b c e : ℕ) → groups (a ∷ b ∷ c ∷ e ∷ []) ≡ group_bytes (group_number a b c e)
+unfolding groups
+four_groups a b c e = refl
+
+four_after : (a b c e : ℕ) → after_groups (a ∷ b ∷ c ∷ e ∷ []) ≡ []
+unfolding after_groups
+four_after a b c e = refl
+
+decoded_few : (q : List ℕ) → length q ≤ 3
+    → groups (map symbol_value q) ++ rest_bytes (after_groups (map symbol_value q)) ≡ rest_bytes (map symbol_value q)
+decoded_few q few =
+    let short : length (map symbol_value q) ≤ 3 = omega (arith, few, length-map q symbol_value) in
+    ap (λ x. x ++ rest_bytes (after_groups (map symbol_value q))) (groups_few (map symbol_value q) short)
+    ∙ ap rest_bytes (after_few (map symbol_value q) short)
+
+min_same : (p : ℕ) → p ≤ 3 → p ≡ min (p + 0) 3
+min_same p h = omega arith
+
+fault_nil : (s : Bool) → fault_byte s [] ≡ None
+unfolding fault_byte
+fault_nil s = refl
+
+-- three places, written out
+pub three_items : (s : List ℕ) (n : ℕ) → length s ≡ 3 → n ≡ 3
+    → take n s ≡ get_or s 0 0 ∷ get_or s 1 0 ∷ get_or s 2 0 ∷ []
+three_items (a ∷ b ∷ c ∷ []) n l e = rw e refl
+three_items [] n l e = absurd (omega arith)
+three_items (a ∷ []) n l e = absurd (omega arith)
+three_items (a ∷ b ∷ []) n l e = absurd (omega arith)
+three_items (a ∷ b ∷ c ∷ f ∷ t) n l e = absurd (omega arith)
+
+pub two_items : (s : List ℕ) (n : ℕ) → length s ≡ 3 → n ≡ 2 → take n s ≡ get_or s 0 0 ∷ get_or s 1 0 ∷ []
+two_items (a ∷ b ∷ c ∷ []) n l e = rw e refl
+two_items [] n l e = absurd (omega arith)
+two_items (a ∷ []) n l e = absurd (omega arith)
+two_items (a ∷ b ∷ []) n l e = absurd (omega arith)
+two_items (a ∷ b ∷ c ∷ f ∷ t) n l e = absurd (omega arith)
+
+-- Which pads fit behind so many symbols
+
+one_unfit : (p : ℕ) → fits_with 1 p ≡ false
+one_unfit zero = refl
+one_unfit (suc zero) = refl
+one_unfit (suc (suc zero)) = refl
+one_unfit (suc (suc (suc p))) = refl
+
+-- What one call tells
+
+pub bool_at_true : (b : Bool) (P Q : Type 0) → b ≡ true → P → MatchBool b P Q
+bool_at_true true P Q e h = h
+bool_at_true false P Q e h = absurd (false≢true e)
+
+pub bool_at_false : (b : Bool) (P Q : Type 0) → b ≡ false → Q → MatchBool b P Q
+bool_at_false true P Q e h = absurd (true≢false e)
+bool_at_false false P Q e h = h
+
+pub told_call : {E : Type 0} (answer : Result (Unit {0}) E) (r : Result (Unit {0}) (DecodeError E)) (P : Type 0)
+    (all bytes : List ℕ) → bytes ≡ all → (r ≡ Ok tt → P)
+    → MatchResult answer (λ u. r ≡ Ok tt) (λ e. r ≡ Err (WriteError e))
+    → MatchOption (or_error answer None) P (λ e. IsRefused all bytes e r)
+told_call (Ok x) r P all bytes q f h = f h
+told_call (Err e) r P all bytes q f h = record { bytes_begin = prefix_all bytes all q; answer = h }
+
+-- A decoder that takes a little text
+
+module _ {F : Type 0} where
+  -- text t with the symbols k and n pads
+  pub adds_text : {d d' : State F} (t k bytes : List ℕ) (n : ℕ) → Every is_symbol d.symbols
+      → fault_byte (has_pad d.padding) t ≡ None → filter is_symbol t ≡ k → length (filter is_pad t) ≡ n
+      → bytes ≡ groups (map symbol_value (d.symbols ++ k)) → length bytes ≤ 3 * length t → d'.closure ≡ d.closure
+      → d'.symbols ≡ after_groups (d.symbols ++ k) → d'.padding ≡ min (d.padding + n) 3 → d'.failed ≡ false
+      → Adds d t bytes d'
+  adds_text {d} {d'} t k bytes n every good is_k is_n is_bytes few same symbols padding failed =
+      let q = d.symbols in
+      let p = d.padding in
+      record {
+        no_fault = none_fault (left_text q p ++ t) (fault_more q p every t ∙ good);
+        bytes_are = is_bytes ∙ sym (done_more q p every t good ∙ ap (λ x. groups (map symbol_value (q ++ x))) is_k);
+        left = record {
+          symbols_are = symbols ∙ sym (left_more q p every t ∙ ap (λ x. after_groups (q ++ x)) is_k);
+          padding_is = padding ∙ sym (padding_more q p every t ∙ ap (λ x. min (p + x) 3) is_n);
+        };
+        few = few;
+        closure_stays = same;
+        going = failed;
+      }
+
+  -- which completes no group
+  adds_quiet : {d d' : State F} (t k : List ℕ) (n : ℕ) → Every is_symbol d.symbols
+      → fault_byte (has_pad d.padding) t ≡ None → filter is_symbol t ≡ k → length (filter is_pad t) ≡ n
+      → length (d.symbols ++ k) ≤ 3 → d'.closure ≡ d.closure → d'.symbols ≡ d.symbols ++ k
+      → d'.padding ≡ min (d.padding + n) 3 → d'.failed ≡ false → Adds d t [] d'
+  adds_quiet {d} t k n every good is_k is_n few same symbols padding failed =
+      adds_text t k [] n every good is_k is_n
+      (sym (groups_few (map symbol_value (d.symbols ++ k))
+      (omega (arith, few, length-map (d.symbols ++ k) symbol_value)))) (omega arith)
+      same (symbols ∙ sym (after_few (d.symbols ++ k) few)) padding failed
+
+  -- a symbol that is kept
+  pub adds_kept : {d d' : State F} (c : ℕ) → Every is_symbol d.symbols → length d.symbols + 1 ≤ 3 → d.padding ≡ 0
+      → is_symbol c ≡ true → d'.closure ≡ d.closure → d'.symbols ≡ d.symbols ++ c ∷ [] → d'.padding ≡ d.padding
+      → d'.failed ≡ false → Adds d (c ∷ []) [] d'
+  adds_kept {d} c every few none symbol same symbols padding failed =
+      adds_quiet (c ∷ []) (c ∷ []) 0 every
+      (ap (λ p. fault_byte (has_pad p) (c ∷ [])) none ∙ fault_symbol c symbol)
+      (symbols_symbol c symbol)
+      (ap length (pads_symbol c symbol))
+      (omega (arith, few, length-append d.symbols (c ∷ [])))
+      same symbols (padding ∙ none ∙ ap (λ p. min (p + 0) 3) (sym none)) failed
+
+  -- a byte of white space
+  pub adds_space : {d : State F} (c : ℕ) → Every is_symbol d.symbols → length d.symbols ≤ 3 → d.padding ≤ 3
+      → is_ascii_whitespace c ≡ true → d.failed ≡ false → Adds d (c ∷ []) [] d
+  adds_space {d} c every few pads space going =
+      adds_quiet (c ∷ []) [] 0 every
+      (fault_space c (has_pad d.padding) space)
+      (symbols_space c space)
+      (ap length (pads_space c space))
+      (rw append-nil few)
+      refl (sym (append-nil d.symbols)) (min_same d.padding pads) going
+
+  -- no text at all
+  pub adds_none : {d : State F} → Every is_symbol d.symbols → length d.symbols ≤ 3 → d.padding ≤ 3 → d.failed ≡ false
+      → Adds d [] [] d
+  adds_none {d} every few pads going =
+      adds_quiet [] [] 0 every
+      (fault_nil (has_pad d.padding))
+      refl
+      refl
+      (rw append-nil few)
+      refl (sym (append-nil d.symbols)) (min_same d.padding pads) going
+
+  -- a pad
+  adds_equals : {d d' : State F} → Every is_symbol d.symbols → length d.symbols ≤ 3 → d.failed ≡ false
+      → d' ≡ record d { padding = min (d.padding + 1) 3 } → Adds d (61 ∷ []) [] d'
+  adds_equals {d} {d'} every few going same =
+      adds_quiet (61 ∷ []) [] 1 every
+      (fault_pads 1 (has_pad d.padding))
+      refl
+      refl
+      (rw append-nil few)
+      (ap (λ (s : State F). s.closure) same) (ap (λ (s : State F). s.symbols) same ∙ sym (append-nil d.symbols))
+      (ap (λ (s : State F). s.padding) same) (ap (λ (s : State F). s.failed) same ∙ going)
+
+  pub adds_pad : {d d' : State F} (c : ℕ) → c ≡ 61 → Every is_symbol d.symbols → length d.symbols ≤ 3 → d.failed ≡ false
+      → d' ≡ record d { padding = min (d.padding + 1) 3 } → Adds d (c ∷ []) [] d'
+  adds_pad {d} {d'} c e every few going same = let P : ℕ → Type 0 = λ x. Adds d (x ∷ []) [] d' in
+      subst P (sym e) (adds_equals every few going same)
+
+  -- the fourth symbol completes a group
+  pub adds_group : {d d' : State F} (x y z c : ℕ) (group : List ℕ) → Every is_symbol d.symbols
+      → d.symbols ≡ x ∷ y ∷ z ∷ [] → d.padding ≡ 0 → is_symbol c ≡ true
+      → group ≡ group_bytes (group_number (symbol_value x) (symbol_value y) (symbol_value z) (symbol_value c))
+      → d'.closure ≡ d.closure → d'.symbols ≡ [] → d'.padding ≡ 0 → d'.failed ≡ false → Adds d (c ∷ []) group d'
+  adds_group {d} {d'} x y z c group every is_q is_p symbol is_group same symbols padding failed =
+      let all : d.symbols ++ c ∷ [] ≡ x ∷ y ∷ z ∷ c ∷ [] = ap (λ k. k ++ c ∷ []) is_q in
+      adds_text (c ∷ []) (c ∷ []) group 0 every
+      (ap (λ p. fault_byte (has_pad p) (c ∷ [])) is_p ∙ fault_symbol c symbol)
+      (symbols_symbol c symbol)
+      (ap length (pads_symbol c symbol))
+      (is_group ∙ sym (ap (λ k. groups (map symbol_value k)) all ∙ four_groups (symbol_value x) (symbol_value y)
+      (symbol_value z) (symbol_value c)))
+      (omega (arith, ap length is_group))
+      same (symbols ∙ sym (ap after_groups all ∙ four_after x y z c))
+      (padding ∙ ap (λ p. min (p + 0) 3) (sym is_p)) failed
+
+  -- a bad byte
+  refuses_bad : {d d' : State F} {kind : Kind} (c : ℕ) → Every is_symbol d.symbols → length d.symbols ≤ 3
+      → fault_byte (has_pad d.padding) (c ∷ []) ≡ Some c → d' ≡ d → kind ≡ cond (is_symbol c) AlphabetSymbolAfterPadding
+      (UnexpectedSymbol c) → Refuses d c kind d'
+  refuses_bad {d} c every few bad same told =
+      let q = d.symbols in
+      let p = d.padding in
+      record {
+        fault = fault_some (left_text q p ++ c ∷ []) ∙ ap is_some (fault_more q p every (c ∷ []) ∙ bad);
+        kind_is = kind_bad q p every c bad ∙ sym told;
+        none_done = done_bad q p every c few bad;
+        stays = same;
+      }
+
+  -- a symbol behind a pad
+  pub refuses_behind : {d d' : State F} (c : ℕ) → Every is_symbol d.symbols → length d.symbols ≤ 3 → 1 ≤ d.padding
+      → is_symbol c ≡ true → d' ≡ d → Refuses d c AlphabetSymbolAfterPadding d'
+  refuses_behind {d} c every few pads symbol same =
+      refuses_bad c every few (ap (λ s. fault_byte s (c ∷ [])) (has_pad_some d.padding pads) ∙ fault_behind c symbol)
+      same
+      (ap (λ v. cond v AlphabetSymbolAfterPadding (UnexpectedSymbol c)) (sym symbol))
+
+  -- a byte of no class
+  pub refuses_other : {d d' : State F} (c : ℕ) → Every is_symbol d.symbols → length d.symbols ≤ 3
+      → is_ascii_whitespace c ≡ false → is_pad c ≡ false → is_symbol c ≡ false → d' ≡ d
+      → Refuses d c (UnexpectedSymbol c) d'
+  refuses_other {d} c every few space pad symbol same =
+      refuses_bad c every few (fault_other c (has_pad d.padding) space pad symbol) same
+      (ap (λ v. cond v AlphabetSymbolAfterPadding (UnexpectedSymbol c)) (sym symbol))
+
+module _ {F E : Type 0} (step : F → List ℕ → Result (Unit {0}) E → F → Type 0) where
+  -- what completes no group is fed without a call
+  pub adds_feeds : {d d' : State F} {t : List ℕ} → Adds d t [] d' → Feeds step d t (Ok tt) d'
+  adds_feeds {d} {d'} {t} a = record {
+    run = [];
+    ran = sym a.closure_stays;
+    calls = omega arith;
+    failed = a.going;
+    gave = record {
+      bytes_are = a.bytes_are;
+      answer = match_none (first_fault (left_over d ++ t)) _ _ a.no_fault
+          (refl, a.left);
+    };
+  }
+
+  -- no text at all
+  pub feeds_none : {d d' : State F} → Every is_symbol d.symbols → length d.symbols ≤ 3 → d.padding ≤ 3
+      → d.failed ≡ false → d' ≡ d → Feeds step d [] (Ok tt) d'
+  feeds_none {d} {d'} every few pads going same = let P : State F → Type 0 = λ s. Feeds step d [] (Ok tt) s in
+      subst P (sym same) (adds_feeds (adds_none every few pads going))
+
+  -- One call
+
+  -- a run of one call
+  pub one_call : (f g : F) (piece : List ℕ) (answer : Result (Unit {0}) E) → step f piece answer g
+      → IsRun step f (record { piece = piece; answer = answer; after = g } ∷ []) g
+  one_call f g piece answer s = (s, λ e. refl, refl)
+
+  -- The end
+
+  pub valid_fits : (d : State F) (k : ℕ) → Every is_symbol d.symbols → length d.symbols ≡ k → Fits k d.padding
+      → is_valid (left_over d) ≡ true
+  valid_fits d k every count h = valid_left d.symbols d.padding every ∙ ap (λ n. fits_with (n % 4) d.padding) count
+      ∙ from_fits k d.padding h
+
+  invalid_unfit : (d : State F) (k : ℕ) → Every is_symbol d.symbols → length d.symbols ≡ k → (Fits k d.padding → ⊥)
+      → is_valid (left_over d) ≡ false
+  invalid_unfit d k every count h = valid_left d.symbols d.padding every ∙ ap (λ n. fits_with (n % 4) d.padding) count
+      ∙ from_unfit k d.padding h
+
+  -- a lone symbol
+  pub lone_fault : (d : State F) (k : ℕ) → Every is_symbol d.symbols → length d.symbols ≡ k → k ≡ 1
+      → (Fits k d.padding → ⊥) → IsFaultAtEnd d (Some LoneAlphabetSymbolDetails)
+  lone_fault d k every count one h = (
+    invalid_unfit d k every count h,
+    sym (kind_left d.symbols d.padding every
+        ∙ ap (λ n. cond (eqb (n % 4) 1) LoneAlphabetSymbol Padding) (count ∙ one)),
+  )
+
+  -- padding that does not fit
+  pub padding_fault : (d : State F) (k : ℕ) → Every is_symbol d.symbols → length d.symbols ≡ k → k ≤ 3 → k ≢ 1
+      → (Fits k d.padding → ⊥) → IsFaultAtEnd d (Some PaddingDetails)
+  padding_fault d k every count few many h = (
+    invalid_unfit d k every count h,
+    sym (kind_left d.symbols d.padding every
+        ∙ ap (λ n. cond (eqb (n % 4) 1) LoneAlphabetSymbol Padding) count
+        ∙ ap (λ v. cond v LoneAlphabetSymbol Padding) (ne_eqb (k % 4) 1 (λ e. many (omega (arith, e))))),
+  )
+
+  flushes_call : (d d' : State F) {r : Result (Unit {0}) (DecodeError E)} (piece : List ℕ) → 0 < length piece
+      → CallsOnce step d piece r d' → Flushes step d piece r d'
+  flushes_call d d' [] some w = absurd (omega arith)
+  flushes_call d d' (b ∷ bs) some w = w
+
+  decoded_rest : (d : State F) (q : List ℕ) → Every is_symbol d.symbols → d.symbols ≡ q → length q ≤ 3
+      → decoded (left_over d) ≡ rest_bytes (map symbol_value q)
+  decoded_rest d q every is_q few = decoded_left d.symbols d.padding every
+      ∙ ap (λ q. groups (map symbol_value q) ++ rest_bytes (after_groups (map symbol_value q))) is_q ∙ decoded_few q few
+
+  -- what is left over was handed out
+  pub flushes_rest : (d d' : State F) {r : Result (Unit {0}) (DecodeError E)} (q piece : List ℕ)
+      → Every is_symbol d.symbols → d.symbols ≡ q → length q ≤ 3 → piece ≡ rest_bytes (map symbol_value q)
+      → 0 < length piece → CallsOnce step d piece r d' → Flushes step d (decoded (left_over d)) r d'
+  flushes_rest d d' {r} q piece every is_q few is_piece some w =
+      subst (λ b. Flushes step d b r d') (is_piece ∙ sym (decoded_rest d q every is_q few))
+      (flushes_call d d' piece some w)
+
+  no_items : (s : List ℕ) → length s ≡ 0 → s ≡ []
+  no_items [] h = refl
+  no_items (a ∷ s) h = absurd (omega arith)
+
+  -- nothing is left over
+  pub flushes_nothing : (d : State F) (k : ℕ) → Every is_symbol d.symbols → length d.symbols ≡ k → k ≤ 1
+      → is_valid (left_over d) ≡ true → Flushes step d (decoded (left_over d)) (Ok tt) d
+  flushes_nothing d zero every count few valid =
+      subst (λ b. Flushes step d b (Ok tt) d) (sym (decoded_rest d [] every (no_items d.symbols count) (omega arith)))
+      (refl, refl)
+  flushes_nothing d (suc zero) every count few valid =
+      absurd (false≢true (sym (valid_left d.symbols d.padding every ∙ ap (λ n. fits_with (n % 4) d.padding) count
+      ∙ one_unfit d.padding) ∙ valid))
+  flushes_nothing d (suc (suc k)) every count few valid = absurd (omega arith)
+
+  flushed_finishes : (d d' : State F) {r : Result (Unit {0}) (DecodeError E)} (bytes : List ℕ)
+      → bytes ≡ decoded (left_over d) → is_valid (left_over d) ≡ true → Flushes step d bytes r d'
+      → Finishes step d r d'.closure
+  flushed_finishes d d' {r} [] e valid (told, same) = record {
+    run = [];
+    ran = sym (ap (λ (s : State F). s.closure) same);
+    calls = omega arith;
+    gave = bool_at_true (is_valid (left_over d)) _ _ valid (record { bytes_are = e; answer = told });
+  }
+  flushed_finishes d d' {r} (b ∷ bs) e valid w =
+      let bytes : (b ∷ bs) ++ [] ≡ decoded (left_over d) = append-nil (b ∷ bs) ∙ e in
+      record {
+        run = record { piece = b ∷ bs; answer = w.told; after = d'.closure } ∷ [];
+        ran = one_call d.closure d'.closure (b ∷ bs) w.told w.called;
+        calls = omega arith;
+        gave = bool_at_true (is_valid (left_over d)) _ _ valid
+            (told_call w.told r (IsAll (left_over d) ((b ∷ bs) ++ []) r) (decoded (left_over d)) ((b ∷ bs) ++ []) bytes
+            (λ x. record { bytes_are = bytes; answer = x }) w.answer);
+      }
+
+  -- the end of a valid text
+  pub finishes_flushed : (d d' : State F) {r : Result (Unit {0}) (DecodeError E)} → is_valid (left_over d) ≡ true
+      → Flushes step d (decoded (left_over d)) r d' → Finishes step d r d'.closure
+  finishes_flushed d d' valid w = flushed_finishes d d' (decoded (left_over d)) refl valid w
+
+-- Feeding a decoder, piece by piece.
+
+-- Accepted on a, and then on b
+
+-- what an accepted feed of a says, at the text u that is left over and then a
+pub record Took {F : Type 0} (u bytes : List ℕ) (d : State F) : Type 0 where
+  pub no_fault : first_fault u ≡ None
+  pub bytes_are : bytes ≡ complete_bytes u
+  pub left : IsLeft u d
+
+ok_no_fault : {E P : Type 0} (o : Option ℕ) (r e : Result (Unit {0}) (DecodeError E)) (x : DecodeError E) → r ≡ Ok tt
+    → e ≡ Err x → MatchOption o P (λ i. r ≡ e) → (o ≡ None) × P
+ok_no_fault None r e x k l h = (refl, h)
+ok_no_fault (Some i) r e x k l h = absurd (cc)
+
+taken_ok : {F E : Type 0} (u bytes : List ℕ) (d : State F) → IsTaken {E = E} u bytes (Ok tt) d → Took u bytes d
+taken_ok {E = E} u bytes d h =
+    let k = ok_no_fault {E = E} (first_fault u) (Ok tt) (Err (InvalidBase64 (kind_of u))) (InvalidBase64 (kind_of u))
+    refl refl h.answer in
+    record { no_fault = k.0; bytes_are = h.bytes_are; left = k.1.1 }
+
+refused_ok : {E : Type 0} (o : Option E) (P : Type 0) (all bytes : List ℕ)
+    → MatchOption o P (λ e. IsRefused {A = Unit {0}} all bytes e (Ok tt)) → (o ≡ None) × P
+refused_ok None P all bytes h = (refl, h)
+refused_ok (Some e) P all bytes h = absurd (let k = h.answer in cc)
+
+-- what goes on from u with b is what goes on from v
+taken_on : {F E : Type 0} (u b v bytes : List ℕ) (r : Result (Unit {0}) (DecodeError E)) (d : State F) → GoesOn u b v
+    → IsTaken v bytes r d → IsTaken (u ++ b) (complete_bytes u ++ bytes) r d
+taken_on u b v bytes r d g h = record {
+  bytes_are = ap (λ x. complete_bytes u ++ x) h.bytes_are ∙ sym g.done_is;
+  answer =
+      match_alike (first_fault v) (first_fault (u ++ b)) _ _ _ _ (sym g.fault_is)
+      (λ k. (
+        k.0,
+        record {
+          symbols_are = k.1.symbols_are ∙ sym g.symbols_left;
+          padding_is = k.1.padding_is
+              ∙ sym g.padding_left;
+        },
+      ))
+      (λ k. k ∙ ap (λ x. Err (InvalidBase64 x)) (sym g.kind_is))
+      h.answer;
+}
+
+refused_on : {E : Type 0} (u all bytes whole : List ℕ) (e : E) (r : Result (Unit {0}) (DecodeError E))
+    → whole ≡ complete_bytes u ++ all → IsRefused all bytes e r → IsRefused whole (complete_bytes u ++ bytes) e r
+refused_on u all bytes whole e r q h = record {
+  bytes_begin = prefix_trans (complete_bytes u ++ bytes) (complete_bytes u ++ all) whole
+      (prefix_behind (complete_bytes u) bytes all h.bytes_begin) (prefix_all (complete_bytes u ++ all) whole (sym q));
+  answer = h.answer;
+}
+
+-- Refused on a, whatever follows
+
+done_cases : (u b : List ℕ) (o : Option ℕ) → fault_byte false u ≡ o
+    → IsPrefix (complete_bytes u) (complete_bytes (u ++ b))
+done_cases u b None h = let g = two_feeds u b (none_fault u h) in
+    (complete_bytes (left_text (left_symbols u) (left_padding u) ++ b), g.done_is)
+done_cases u b (Some c) h = prefix_all (complete_bytes u) (complete_bytes (u ++ b)) (sym (done_stays u b c h))
+
+-- what was handed out of a text is a beginning of what is handed out of a longer one
+pub done_begins : (u b : List ℕ) → IsPrefix (complete_bytes u) (complete_bytes (u ++ b))
+done_begins u b = done_cases u b (fault_byte false u) refl
+
+taken_cases : {F E : Type 0} (u b bytes : List ℕ) (x : DecodeError E) (d : State F) (o : Option ℕ)
+    → fault_byte false u ≡ o → IsTaken u bytes (Err x) d → IsTaken (u ++ b) bytes (Err x) d
+taken_cases u b bytes x d None h t = absurd (let k = match_at_none (first_fault u) _ _ (none_fault u h) t.answer in
+    let e = k.0 in cc)
+taken_cases u b bytes x d (Some c) h t = record {
+  bytes_are = t.bytes_are ∙ sym (done_stays u b c h);
+  answer =
+      match_alike (first_fault u) (first_fault (u ++ b)) _ _ _ _ (fault_some u
+      ∙ ap is_some (h ∙ sym (fault-append_some u b false c h)) ∙ sym (fault_some (u ++ b)))
+      (λ k. absurd (let e = k.0 in cc))
+      (λ k. k ∙ ap (λ z. Err (InvalidBase64 z)) (kind_stays u b c h))
+      t.answer;
+}
+
+left_over_is : {F : Type 0} {d : State F} (u : List ℕ) → IsLeft u d
+    → left_over d ≡ left_text (left_symbols u) (left_padding u)
+left_over_is {d = d} u h = ap (λ q. left_text q d.padding) h.symbols_are
+    ∙ ap (λ p. left_text (left_symbols u) p) h.padding_is
+
+-- behind a text without a fault, b goes on as it does behind what is left of the text
+pub left_goes_on : {F : Type 0} {d : State F} (u b : List ℕ) → first_fault u ≡ None → IsLeft u d
+    → GoesOn u b (left_over d ++ b)
+left_goes_on u b none left =
+    let G : List ℕ → Type 0 = λ w. GoesOn u b (w ++ b) in
+    subst G (sym (left_over_is u left)) (two_feeds u b none)
+
+module _ {F E : Type 0} (step : F → List ℕ → Result (Unit {0}) E → F → Type 0) where
+  pub feeds_took : {d d' : State F} {a : List ℕ} (f : Feeds step d a (Ok tt) d') → (refusal f.run ≡ None)
+      × Took (left_over d ++ a) (joined_pieces f.run) d'
+  feeds_took {d} {d'} {a} f =
+      let k = refused_ok (refusal f.run) _ (complete_bytes (left_over d ++ a)) (joined_pieces f.run) f.gave in
+      (k.0, taken_ok (left_over d ++ a) (joined_pieces f.run) d' k.1)
+
+  -- where a was accepted, b goes on as the text does
+  pub feeds_goes_on : {d d' : State F} {a : List ℕ} (b : List ℕ) (f : Feeds step d a (Ok tt) d')
+      → GoesOn (left_over d ++ a) b (left_over d' ++ b)
+  feeds_goes_on {d} {d'} {a} b f = let t = (feeds_took f).1 in left_goes_on (left_over d ++ a) b t.no_fault t.left
+
+  -- what a decoder gives on u, as it runs
+  abbrev Gives : List ℕ → Option E → List ℕ → Result (Unit {0}) (DecodeError E) → State F → Type 0
+  Gives u o bytes r d = MatchOption o (IsTaken u bytes r d) (λ e. IsRefused (complete_bytes u) bytes e r)
+
+  -- accepted on a, and then fed b, is fed a and then b
+  pub feeds_then : {d d1 d2 : State F} {a b : List ℕ} {r : Result (Unit {0}) (DecodeError E)}
+      → Feeds step d a (Ok tt) d1 → Feeds step d1 b r d2 → Feeds step d (a ++ b) r d2
+  feeds_then {d} {d1} {d2} {a} {b} {r} f g =
+      let k = feeds_took f in
+      let on = feeds_goes_on b f in
+      let bytes : joined_pieces (f.run ++ g.run) ≡ complete_bytes (left_over d ++ a) ++ joined_pieces g.run =
+      joined_pieces-append f.run g.run ∙ ap (λ x. x ++ joined_pieces g.run) k.1.bytes_are in
+      let M : List ℕ → Type 0 = λ x. Gives ((left_over d ++ a) ++ b) (refusal g.run) x r d2 in
+      let N : List ℕ → Type 0 = λ u. Gives u (refusal (f.run ++ g.run)) (joined_pieces (f.run ++ g.run)) r d2 in
+      record {
+        run = f.run ++ g.run;
+        ran = run-append step f.run g.run d.closure d1.closure d2.closure f.ran k.0 g.ran;
+        calls = omega (arith, f.calls, g.calls, length-append f.run g.run, length-append a b);
+        failed = g.failed;
+        gave =
+            subst N (append_assoc (left_over d) a b)
+            (match_at (refusal g.run) (refusal (f.run ++ g.run)) _ _ (refusal-append f.run g.run k.0)
+            (subst M (sym bytes)
+            (match_map (refusal g.run) _ _ _ _
+            (taken_on (left_over d ++ a) b (left_over d1 ++ b) (joined_pieces g.run) r d2 on)
+            (λ e. refused_on (left_over d ++ a) (complete_bytes (left_over d1 ++ b)) (joined_pieces g.run) _ e r
+            on.done_is)
+            g.gave)));
+      }
+
+  -- what was refused on a is refused on a and b
+  pub feeds_err : {d d' : State F} {a : List ℕ} {x : DecodeError E} (b : List ℕ) → Feeds step d a (Err x) d'
+      → Feeds step d (a ++ b) (Err x) d'
+  feeds_err {d} {d'} {a} {x} b f =
+      let N : List ℕ → Type 0 = λ u. Gives u (refusal f.run) (joined_pieces f.run) (Err x) d' in
+      record {
+        run = f.run;
+        ran = f.ran;
+        calls = omega (arith, f.calls, length-append a b);
+        failed = f.failed;
+        gave =
+            subst N (append_assoc (left_over d) a b)
+            (match_map (refusal f.run) _ _ _ _
+            (taken_cases (left_over d ++ a) b (joined_pieces f.run) x d' (fault_byte false (left_over d ++ a)) refl)
+            (λ e h. record {
+              bytes_begin = prefix_trans (joined_pieces f.run) (complete_bytes (left_over d ++ a))
+                  (complete_bytes ((left_over d ++ a) ++ b)) h.bytes_begin (done_begins (left_over d ++ a) b);
+              answer =
+                  h.answer;
+            })
+            f.gave);
+      }
+
+  -- A text, byte by byte
+
+  -- a beginning of s that is refused
+  pub feeds_stop : {d d' : State F} {x : DecodeError E} (s : List ℕ) (i : ℕ) → Feeds step d (take i s) (Err x) d'
+      → Feeds step d s (Err x) d'
+  feeds_stop {d} {d'} {x} s i f = let P : List ℕ → Type 0 = λ t. Feeds step d t (Err x) d' in
+      subst P (take-append-drop i s) (feeds_err (drop i s) f)

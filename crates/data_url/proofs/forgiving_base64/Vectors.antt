@@ -1,0 +1,540 @@
+-- Blocks of 64 symbols in vectors. For `blocks.rt` and `lanes.rt`.
+use Rattle.std.proofs.Common.{◌≡◌, ℕ, ◌<◌, ltb, true, false, cond, eqb, get_or, refl, sym, ◌∙◌, arith, suc, zero, ◌+◌}
+use Rattle.std.proofs.Common.{◌*◌, ◌/◌, ◌%◌, ◌^◌, Bool, not, List, [], ◌∷◌, ◌++◌, map, length, take, replicate, Fits}
+use Rattle.std.proofs.Common.{w8, ap, ap₂, subst, ◌≤◌, ◌&&◌, drop, bit_or, inl, inr, append_assoc, length-take-le}
+use Rattle.std.proofs.Common.{length-drop, take-add}
+use Rattle.std.proofs.lemmas.Bool.{agree_below_at, lt-ltb, le-ltb, cond-true, cond-false, eqb-true, ltb-true, cases_eq}
+use Rattle.std.proofs.lemmas.Bool.{eq-eqb, ne_eqb}
+use Rattle.std.specs.Char.{is_ascii_whitespace as std_whitespace, is_ascii_whitespace}
+use Rattle.data_url.specs.Base64.{is_symbol, symbol_value, group_bytes, group_number, groups, after_groups}
+use Rattle.data_url.specs.declared.forgiving_base64.alphabet.TheConstants.{NO_SYMBOL, VALUES}
+use Rattle.std.specs.List.{range_with_len, list_all, prefix_len}
+use Rattle.std.proofs.lemmas.List.{ext_get_or, get_or-map, length-map, map-append, take-take, take_all}
+use Rattle.std.proofs.lemmas.Nat.{and_le_r, and_le_l, or_lt}
+use Rattle.std.proofs.lemmas.Simd.{SwzOk, SwzOk-from_below, get_or_narrower, get_or-swz_l_below, length-swz_l}
+use Rattle.std.proofs.lemmas.Simd.{pick_l_whole, swz_l, bitmask_splat, chunk-fits, leading_from_mask_l, length-zip2}
+use Rattle.std.proofs.lemmas.Simd.{map-map, mask_l-lt, trailing_mask_l}
+use lib.Lanes.{Each1, digits_l, number_l, pair_sums, pick_l, products, sel_l, zip2, mask_l, top}
+use Rattle.data_url.specs.Steps.Lanes.{mark_of, numbers, offset_row, value_of}
+use Rattle.data_url.specs.declared.forgiving_base64.lanes.TheConstants.{OFFSETS}
+use Rattle.std.proofs.lemmas.List.Folds.{list_all-append}
+use Rattle.std.proofs.Math.Nat.{pow-succ'}
+use Rattle.std.proofs.Math.Seq.{take-append-add}
+use lib.Bits.{or_add_and}
+use lib.Count.{count_trailing_zeros}
+use Rattle.data_url.proofs.forgiving_base64.Padding.{groups-append, length-after_groups}
+
+-- The table of symbols is the alphabet.
+
+-- what the table is to have
+abbrev pub entry_of : ℕ → ℕ
+entry_of b = cond (is_symbol b) (symbol_value b) NO_SYMBOL
+
+pub table_is : (b : ℕ) → b < 256 → get_or VALUES b 0 ≡ entry_of b
+table_is b l = eqb-true (get_or VALUES b 0) (entry_of b) (agree_below_at (λ b. eqb (get_or VALUES b 0) (entry_of b))
+    (λ b. true) 256 b refl l)
+
+pub value_lt : (b : ℕ) → b < 256 → is_symbol b ≡ true → symbol_value b < 64
+value_lt b l h =
+    ltb-true (symbol_value b) 64 (sym (cond-true (is_symbol b) (ltb (symbol_value b) 64) true h)
+    ∙ agree_below_at (λ b. cond (is_symbol b) (ltb (symbol_value b) 64) true) (λ b. true) 256 b refl l)
+
+pub entry_symbol : (b : ℕ) → b < 256 → is_symbol b ≡ true → get_or VALUES b 0 ≡ symbol_value b
+entry_symbol b l h = table_is b l ∙ cond-true (is_symbol b) (symbol_value b) NO_SYMBOL h
+
+pub entry_other : (b : ℕ) → b < 256 → is_symbol b ≡ false → get_or VALUES b 0 ≡ NO_SYMBOL
+entry_other b l h = table_is b l ∙ cond-false (is_symbol b) (symbol_value b) NO_SYMBOL h
+
+pub entry_lt : (b : ℕ) → b < 256 → is_symbol b ≡ true → get_or VALUES b 0 < 64
+entry_lt b l h = let e = entry_symbol b l h in let k = value_lt b l h in omega (arith, e, k)
+
+-- an entry is below the mark exactly at a symbol
+pub symbol_is : (b : ℕ) → b < 256 → ltb (get_or VALUES b 0) 64 ≡ is_symbol b
+symbol_is b l =
+    elim (is_symbol b) as (λ v. is_symbol b ≡ v → ltb (get_or VALUES b 0) 64 ≡ v) [
+      | true ↦ λ e. lt-ltb (get_or VALUES b 0) 64 (entry_lt b l e)
+      | false ↦ λ e. le-ltb (get_or VALUES b 0) 64 (let k = entry_other b l e in omega (arith, k))
+    ] refl
+
+-- the standard library's class of white space is that of forgiving base64
+pub space_is : (b : ℕ) → b < 256 → std_whitespace b ≡ is_ascii_whitespace b
+space_is b l = agree_below_at std_whitespace is_ascii_whitespace 256 b refl l
+
+-- What a row of lanes computes, byte by byte.
+
+-- Lanes that were computed from v
+
+zip2-map : (h : ℕ → ℕ → ℕ) (f g : ℕ → ℕ) (xs : List ℕ) → zip2 h (map f xs) (map g xs) ≡ map (λ x. h (f x) (g x)) xs
+zip2-map h f g [] = refl
+zip2-map h f g (x ∷ xs) = ap (λ r. h (f x) (g x) ∷ r) (zip2-map h f g xs)
+
+pub joined : (h : ℕ → ℕ → ℕ) (f g : ℕ → ℕ) (v : List ℕ) {a b : List ℕ} → a ≡ map f v → b ≡ map g v
+    → zip2 h a b ≡ map (λ x. h (f x) (g x)) v
+joined h f g v p q = ap₂ (zip2 h) p q ∙ zip2-map h f g v
+
+pub splat_is : (v : List ℕ) (n y : ℕ) → length v ≡ n → replicate n y ≡ map (λ _. y) v
+splat_is [] n y e = ap (λ k. replicate k y) (sym e)
+splat_is (x ∷ xs) n y e = ap (λ k. replicate k y) (sym e) ∙ ap (λ r. y ∷ r) (splat_is xs (length xs) y refl)
+
+pub itself : (v : List ℕ) → v ≡ map (λ x. x) v
+itself [] = refl
+itself (x ∷ xs) = ap (λ r. x ∷ r) (itself xs)
+
+chosen-map : (t : ℕ → Bool) (f g : ℕ → ℕ) (xs : List ℕ) → sel_l (map t xs) (map f xs) (map g xs) ≡ map
+    (λ x. cond (t x) (f x) (g x)) xs
+chosen-map t f g [] = refl
+chosen-map t f g (x ∷ xs) = ap (λ r. cond (t x) (f x) (g x) ∷ r) (chosen-map t f g xs)
+
+pub chosen : (t : ℕ → Bool) (f g : ℕ → ℕ) (v : List ℕ) {m : List Bool} {a b : List ℕ} → m ≡ map t v → a ≡ map f v
+    → b ≡ map g v → sel_l m a b ≡ map (λ x. cond (t x) (f x) (g x)) v
+chosen t f g v {m} {a} {b} e p q = ap (λ k. sel_l k a b) e ∙ ap₂ (sel_l (map t v)) p q ∙ chosen-map t f g v
+
+pub lane_fits : (v : List ℕ) (i : ℕ) → Each1 (Fits w8) v → get_or v i 0 < 256
+lane_fits [] i h = omega arith
+lane_fits (x ∷ xs) zero h = h.0.fits
+lane_fits (x ∷ xs) (suc i) h = lane_fits xs i h.1
+
+-- Looking up
+
+pub places_ok : (g : ℕ → ℕ) (v js : List ℕ) → length v ≡ 16 → js ≡ map g v → ((x : ℕ) → x < 256 → g x < 16)
+    → Each1 (Fits w8) v → SwzOk w8 16 16 0 js
+places_ok g v js long e small fits =
+    let P : List ℕ → Type 0 = λ l. Each1 (λ j. j < 16) l in
+    SwzOk-from_below w8 16 1 16 0 js refl (omega (arith, ap length e, length-map v g))
+    (subst P (sym e) (each_small v fits))
+  where
+    each_small : (l : List ℕ) → Each1 (Fits w8) l → Each1 (λ j. j < 16) (map g l)
+    each_small [] h = tt
+    each_small (x ∷ xs) h = (small x h.0.fits, each_small xs h.1)
+
+pub looked_up : (t : List ℕ) (g : ℕ → ℕ) (v js : List ℕ) → length v ≡ 16 → Each1 (Fits w8) v → js ≡ map g v
+    → ((x : ℕ) → x < 256 → g x < 16) → swz_l w8 16 t 0 js ≡ map (λ x. get_or t (g x) 0) v
+looked_up t g v js whole fits e small =
+    let long : length js ≡ 16 = ap length e ∙ length-map v g ∙ whole in
+    ext_get_or 0 _ _ (length-swz_l w8 16 t 0 js ∙ long ∙ sym (length-map v (λ x. get_or t (g x) 0) ∙ whole)) (λ i h.
+    let lt : i < 16 = omega (arith, length-swz_l w8 16 t 0 js) in
+    let within : i < length v = omega (arith, whole) in
+    let is : get_or js i 0 ≡ g (get_or v i 0) = ap (λ l. get_or l i 0) e ∙ get_or-map g v i 0 0 within in
+    let below : get_or js i 0 < 16 = omega (arith, small (get_or v i 0) (lane_fits v i fits)) in
+    let place : 16 * ((0 + i) / 16) + get_or js i 0 ≡ get_or js i 0 = omega arith in
+    get_or-swz_l_below w8 16 t 0 js i (omega arith) below
+    ∙ ap (λ k. get_or t k 0) (place ∙ is)
+    ∙ sym (get_or-map (λ x. get_or t (g x) 0) v i 0 0 within))
+
+-- The tables are the alphabet
+
+pub mark_is : (b : ℕ) → b < 256 → not (eqb (mark_of b) 0) ≡ not (is_symbol b)
+mark_is b l = agree_below_at (λ b. not (eqb (mark_of b) 0)) (λ b. not (is_symbol b)) 256 b refl l
+
+pub value_is : (b : ℕ) → b < 256 → is_symbol b ≡ true → value_of b ≡ symbol_value b
+value_is b l s =
+    let same = agree_below_at (λ b. cond (is_symbol b) (eqb (value_of b) (symbol_value b)) true)
+    (λ b. true) 256 b refl l in
+    eqb-true (value_of b) (symbol_value b) (sym (ap (λ t. cond t (eqb (value_of b) (symbol_value b)) true) s) ∙ same)
+
+value_below : (b : ℕ) → value_of b < 64
+value_below b = omega (arith, and_le_r ((b + get_or OFFSETS (offset_row b) 0) % 256) 63)
+
+pub values_below : (v : List ℕ) → Each1 (λ x. x < 64) (map value_of v)
+values_below [] = tt
+values_below (b ∷ v) = (value_below b, values_below v)
+
+-- Numbers of groups
+
+below_at : (v : List ℕ) (i : ℕ) → Each1 (λ x. x < 64) v → get_or v i 0 < 64
+below_at [] i h = omega arith
+below_at (x ∷ xs) zero h = h.0
+below_at (x ∷ xs) (suc i) h = below_at xs i h.1
+
+-- a row of sixteen, written out
+abbrev pub row : (ℕ → ℕ) → List ℕ
+row f = map f (range_with_len 0 16)
+
+row_is : (v : List ℕ) → length v ≡ 16 → row (λ k. get_or v k 0) ≡ v
+row_is v long = pick_l_whole 0 v 16 long
+
+abbrev add32 : ℕ → ℕ → ℕ
+add32 a b = (a + b) % 2 ^ 32
+
+abbrev shl32 : ℕ → ℕ → ℕ
+shl32 a b = a * 2 ^ b % 2 ^ 32
+
+abbrev pub computed : List ℕ → List ℕ
+computed v =
+    zip2 add32
+    (zip2 shl32 (pair_sums
+    (pair_sums (products v (64 ∷ 1 ∷ 0 ∷ 0 ∷ 64 ∷ 1 ∷ 0 ∷ 0 ∷ 64 ∷ 1 ∷ 0 ∷ 0 ∷ 64 ∷ 1 ∷ 0 ∷ 0 ∷ []))))
+    (12 ∷ 12 ∷ 12 ∷ 12 ∷ []))
+    (pair_sums (pair_sums (products v (0 ∷ 0 ∷ 64 ∷ 1 ∷ 0 ∷ 0 ∷ 64 ∷ 1 ∷ 0 ∷ 0 ∷ 64 ∷ 1 ∷ 0 ∷ 0 ∷ 64 ∷ 1 ∷ []))))
+
+one_number : (a b c d : ℕ) → a < 64 → b < 64 → c < 64 → d < 64 → add32 (shl32 ((a * 64 + b * 1) + (c * 0 + d * 0)) 12)
+    ((a * 0 + b * 0) + (c * 64 + d * 1)) ≡ group_number a b c d
+one_number a b c d p q r s = omega arith
+
+four_same : {a b c d a' b' c' d' : ℕ} → a ≡ a' → b ≡ b' → c ≡ c' → d ≡ d'
+    → ◌≡◌ {A = List ℕ} (a ∷ b ∷ c ∷ d ∷ []) (a' ∷ b' ∷ c' ∷ d' ∷ [])
+four_same p q r s = cc
+
+numbers_row : (f : ℕ → ℕ) → ((k : ℕ) → f k < 64) → computed (row f) ≡ numbers (row f)
+numbers_row f h =
+    four_same
+    (one_number (f 0) (f 1) (f 2) (f 3) (h 0) (h 1) (h 2) (h 3))
+    (one_number (f 4) (f 5) (f 6) (f 7) (h 4) (h 5) (h 6) (h 7))
+    (one_number (f 8) (f 9) (f 10) (f 11) (h 8) (h 9) (h 10) (h 11))
+    (one_number (f 12) (f 13) (f 14) (f 15) (h 12) (h 13) (h 14) (h 15))
+
+pub numbers_is : (v : List ℕ) → length v ≡ 16 → Each1 (λ x. x < 64) v → computed v ≡ numbers v
+numbers_is v long h = let P : List ℕ → Type 0 = λ l. computed l ≡ numbers l in
+    subst P (row_is v long) (numbers_row (λ k. get_or v k 0) (λ k. below_at v k h))
+
+-- Bytes of numbers
+
+-- the bytes of four numbers, in the order of the text
+abbrev pub packed : List ℕ → List ℕ
+packed ns = take 12 (pick_l 0 (digits_l 256 16 (number_l 4294967296 ns))
+    (2 ∷ 1 ∷ 0 ∷ 6 ∷ 5 ∷ 4 ∷ 10 ∷ 9 ∷ 8 ∷ 14 ∷ 13 ∷ 12 ∷ 15 ∷ 15 ∷ 15 ∷ 15 ∷ []))
+
+group_same : {x y z : ℕ} (n : ℕ) {r s : List ℕ} → n < 16777216 → x ≡ n / 256 ^ 2 % 256 → y ≡ n / 256 ^ 1 % 256
+    → z ≡ n / 256 ^ 0 % 256 → r ≡ s → x ∷ y ∷ z ∷ r ≡ group_bytes n ++ s
+group_same {x} {y} {z} n {r} {s} l p q o e =
+    let first : x ≡ n / 65536 = omega arith in
+    let second : y ≡ n / 256 % 256 = omega arith in
+    let third : z ≡ n % 256 = omega arith in
+    cc
+
+number_lt : (a b c d : ℕ) → a < 64 → b < 64 → c < 64 → d < 64 → group_number a b c d < 16777216
+number_lt a b c d p q r s = omega arith
+
+packed_row : (f : ℕ → ℕ) → ((k : ℕ) → f k < 64) → packed (numbers (row f)) ≡ groups (row f)
+unfolding groups
+packed_row f h =
+    let l0 = number_lt (f 0) (f 1) (f 2) (f 3) (h 0) (h 1) (h 2) (h 3) in
+    let l1 = number_lt (f 4) (f 5) (f 6) (f 7) (h 4) (h 5) (h 6) (h 7) in
+    let l2 = number_lt (f 8) (f 9) (f 10) (f 11) (h 8) (h 9) (h 10) (h 11) in
+    let l3 = number_lt (f 12) (f 13) (f 14) (f 15) (h 12) (h 13) (h 14) (h 15) in
+    let fit : Each1 (λ x. x < 4294967296) (numbers (row f)) =
+    (omega (arith, l0), (omega (arith, l1), (omega (arith, l2), (omega (arith, l3), tt)))) in
+    let e = λ (j i : ℕ) (a : i < 4) (b : 4 * j + i < 16). get_or_narrower 4294967296 4 256 16 (numbers (row f)) j i refl
+    fit a b in
+    group_same (group_number (f 0) (f 1) (f 2) (f 3)) l0 (e 0 2 (omega arith) (omega arith))
+    (e 0 1 (omega arith) (omega arith)) (e 0 0 (omega arith) (omega arith))
+    (group_same (group_number (f 4) (f 5) (f 6) (f 7)) l1 (e 1 2 (omega arith) (omega arith))
+    (e 1 1 (omega arith) (omega arith)) (e 1 0 (omega arith) (omega arith))
+    (group_same (group_number (f 8) (f 9) (f 10) (f 11)) l2 (e 2 2 (omega arith) (omega arith))
+    (e 2 1 (omega arith) (omega arith)) (e 2 0 (omega arith) (omega arith))
+    (group_same (group_number (f 12) (f 13) (f 14) (f 15)) l3 (e 3 2 (omega arith) (omega arith))
+    (e 3 1 (omega arith) (omega arith)) (e 3 0 (omega arith) (omega arith))
+    refl)))
+
+pub packed_is : (v ns : List ℕ) → length v ≡ 16 → Each1 (λ x. x < 64) v → ns ≡ numbers v → packed ns ≡ groups v
+packed_is v ns long h e =
+    let P : List ℕ → Type 0 = λ l. packed (numbers l) ≡ groups l in
+    ap packed e ∙ subst P (row_is v long) (packed_row (λ k. get_or v k 0) (λ k. below_at v k h))
+
+-- Blocks of four rows.
+
+-- What is no symbol
+
+pub map_agree : {A : Type 0} (f g : ℕ → A) → ((b : ℕ) → b < 256 → f b ≡ g b) → (v : List ℕ) → Each1 (Fits w8) v
+    → map f v ≡ map g v
+map_agree f g h [] fits = refl
+map_agree f g h (b ∷ v) fits = ap₂ (λ x (y : List _). x ∷ y) (h b fits.0.fits) (map_agree f g h v fits.1)
+
+abbrev pub differs : ℕ → ℕ → Bool
+differs a b = not (eqb a b)
+
+abbrev pub is_other : ℕ → Bool
+is_other b = not (is_symbol b)
+
+pub others_is : (v marks : List ℕ) → length v ≡ 16 → Each1 (Fits w8) v → marks ≡ map mark_of v
+    → mask_l (map (top 7)
+    (zip2 (λ a b. cond (differs a b) 255 0) marks
+    (0 ∷ 0 ∷ 0 ∷ 0 ∷ 0 ∷ 0 ∷ 0 ∷ 0 ∷ 0 ∷ 0 ∷ 0 ∷ 0 ∷ 0 ∷ 0 ∷ 0 ∷ 0 ∷ []))) % 2 ^ 64 ≡ mask_l (map is_other v)
+others_is v marks long fits e =
+    bitmask_splat w8 differs marks 16 0 (ap length e ∙ length-map v mark_of ∙ long) (omega arith)
+    ∙ ap (λ l. mask_l (map (λ x. differs x 0) l)) e
+    ∙ ap mask_l (map-map (λ x. differs x 0) mark_of v)
+    ∙ ap mask_l (map_agree (λ x. differs (mark_of x) 0) is_other mark_is v fits)
+
+-- Rows of a text
+
+pub row_length : (text : List ℕ) (at : ℕ) → at + 16 ≤ length text → length (take 16 (drop at text)) ≡ 16
+row_length text at h = length-take-le 16 (drop at text) (omega (arith, length-drop at text))
+
+pub split_block : (text : List ℕ)
+    → take 64 text ≡ take 16
+    (drop 0 text) ++ (take 16 (drop 16 text) ++ (take 16 (drop 32 text) ++ take 16 (drop 48 text)))
+split_block text = take-add 48 16 text ∙ ap (λ x. x ++ take 16 (drop 48 text)) (take-add 32 16 text)
+    ∙ ap (λ x. (x ++ take 16 (drop 32 text)) ++ take 16 (drop 48 text)) (take-add 16 16 text)
+    ∙ append_assoc (take 16 text ++ take 16 (drop 16 text)) (take 16 (drop 32 text)) (take 16 (drop 48 text))
+    ∙ append_assoc (take 16 text) (take 16 (drop 16 text)) (take 16 (drop 32 text) ++ take 16 (drop 48 text))
+
+-- The mask of a row
+
+pow_more : (n m : ℕ) → 2 ^ suc n * m ≡ 2 * (2 ^ n * m)
+pow_more n m = rw (pow-succ' 2 n) (omega arith)
+
+pub mask_l-append : (a b : List Bool) → mask_l (a ++ b) ≡ mask_l a + 2 ^ length a * mask_l b
+mask_l-append [] b = omega arith
+mask_l-append (x ∷ a) b = omega (arith, mask_l-append a b, pow_more (length a) (mask_l b))
+
+abbrev pub others_mask : List ℕ → ℕ
+others_mask v = mask_l (map is_other v)
+
+pub mask_lt : (v : List ℕ) → length v ≡ 16 → others_mask v < 65536
+mask_lt v long = let P : ℕ → Type 0 = λ n. others_mask v < 2 ^ n in
+    subst P (length-map v is_other ∙ long) (mask_l-lt (map is_other v))
+
+not_not : (b : Bool) → not (not b) ≡ b
+not_not true = refl
+not_not false = refl
+
+prefix_not_not : (p : ℕ → Bool) (xs : List ℕ) → prefix_len (λ x. not (not (p x))) xs ≡ prefix_len p xs
+prefix_not_not p [] = refl
+prefix_not_not p (x ∷ xs) = ap₂ (λ t n. cond t (1 + n) 0) (not_not (p x)) (prefix_not_not p xs)
+
+pub none_ahead : {n : ℕ} (v : List ℕ) → length v ≡ n → others_mask v ≡ 0 → n ≡ prefix_len is_symbol v
+none_ahead v long e = sym long ∙ sym (leading_from_mask_l is_other v e) ∙ prefix_not_not is_symbol v
+
+pub first_ahead : (v : List ℕ) → length v ≤ 64 → 0 < others_mask v
+    → count_trailing_zeros 64 (others_mask v) ≡ prefix_len is_symbol v
+first_ahead v long h = trailing_mask_l is_other 64 v long h ∙ prefix_not_not is_symbol v
+
+-- No mark in four rows
+
+abbrev unmarked : ℕ → Bool
+unmarked m = eqb m 0
+
+unmarked_mask : (xs : List ℕ) → eqb (mask_l (map (λ m. differs m 0) xs)) 0 ≡ list_all unmarked xs
+unmarked_mask [] = refl
+unmarked_mask (x ∷ xs) =
+    elim (eqb x 0) as (λ t. eqb (cond (not t) 1 0 + 2 * mask_l (map (λ m. differs m 0) xs)) 0
+    ≡ (t && list_all unmarked xs)) [
+      | true ↦ half (mask_l (map (λ m. differs m 0) xs)) ∙ unmarked_mask xs
+      | false ↦ odd (mask_l (map (λ m. differs m 0) xs))
+    ]
+  where
+    half : (n : ℕ) → eqb (0 + 2 * n) 0 ≡ eqb n 0
+    half n = elim (cases_eq n 0) [
+      | inl e ↦ eq-eqb (0 + 2 * n) 0 (omega arith) ∙ sym (eq-eqb n 0 e)
+      | inr e ↦
+          ne_eqb (0 + 2 * n) 0 (λ f. e (omega arith)) ∙ sym (ne_eqb n 0 e)
+    ]
+
+    odd : (n : ℕ) → eqb (1 + 2 * n) 0 ≡ false
+    odd n = ne_eqb (1 + 2 * n) 0 (λ e. omega arith)
+
+or_unmarked : (x y : ℕ) → x < 256 → y < 256 → unmarked (bit_or x y) ≡ (unmarked x && unmarked y)
+or_unmarked x y a b =
+    elim (cases_eq x 0) [
+      | inl p ↦ elim (cases_eq y 0) [
+        | inl q ↦ eq-eqb (bit_or x y) 0 (omega (arith, or_add_and x y))
+            ∙ sym (ap₂ (λ s t. s && t) (eq-eqb x 0 p) (eq-eqb y 0 q))
+        | inr q ↦ ne_eqb (bit_or x y) 0 (λ e. q (omega (arith, or_add_and x y, and_le_l x y, and_le_r x y)))
+            ∙ sym (ap₂ (λ s t. s && t) (eq-eqb x 0 p) (ne_eqb y 0 q))
+      ]
+      | inr p ↦ ne_eqb (bit_or x y) 0 (λ e. p (omega (arith, or_add_and x y, and_le_l x y, and_le_r x y)))
+          ∙ sym (ap (λ s. s && unmarked y) (ne_eqb x 0 p))
+    ]
+
+regroup : (p q r s : Bool) → ((p && q) && (r && s)) ≡ ((p && r) && (q && s))
+regroup true true r s = refl
+regroup true false true s = refl
+regroup true false false s = refl
+regroup false q r s = refl
+
+unmarked_or : (xs ys : List ℕ) → length xs ≡ length ys → Each1 (λ x. x < 256) xs → Each1 (λ x. x < 256) ys
+    → list_all unmarked (zip2 bit_or xs ys) ≡ (list_all unmarked xs && list_all unmarked ys)
+unmarked_or [] [] e f g = refl
+unmarked_or [] (y ∷ ys) e f g = absurd (omega arith)
+unmarked_or (x ∷ xs) [] e f g = absurd (omega arith)
+unmarked_or (x ∷ xs) (y ∷ ys) e f g =
+    ap₂ (λ s t. s && t) (or_unmarked x y f.0 g.0) (unmarked_or xs ys (omega arith) f.1 g.1)
+    ∙ regroup (unmarked x) (unmarked y) (list_all unmarked xs) (list_all unmarked ys)
+
+-- Groups of rows
+
+pub groups_whole : (x y : List ℕ) → length x % 4 ≡ 0 → groups (x ++ y) ≡ groups x ++ groups y
+groups_whole x y h = groups-append x y
+    ∙ ap (λ z. groups x ++ groups (z ++ y)) (nothing (after_groups x) (length-after_groups x ∙ h))
+  where
+    nothing : (l : List ℕ) → length l ≡ 0 → l ≡ []
+    nothing [] e = refl
+    nothing (b ∷ l) e = absurd (omega arith)
+
+-- A whole block
+
+mark_lt : (b : ℕ) → b < 256 → mark_of b < 256
+mark_lt b l = ltb-true (mark_of b) 256 (agree_below_at (λ b. ltb (mark_of b) 256) (λ b. true) 256 b refl l)
+
+marks_lt : (v : List ℕ) → Each1 (Fits w8) v → Each1 (λ x. x < 256) (map mark_of v)
+marks_lt [] h = tt
+marks_lt (b ∷ v) h = (mark_lt b h.0.fits, marks_lt v h.1)
+
+all_unmarked : (v : List ℕ) → Each1 (Fits w8) v → list_all unmarked (map mark_of v) ≡ list_all is_symbol v
+all_unmarked [] h = refl
+all_unmarked (b ∷ v) h = ap₂ (λ s t. s && t) (agree_below_at (λ b. unmarked (mark_of b)) is_symbol 256 b refl h.0.fits)
+    (all_unmarked v h.1)
+
+and_assoc : (p q r : Bool) → ((p && q) && r) ≡ (p && (q && r))
+and_assoc true q r = refl
+and_assoc false q r = refl
+
+zip_lt : (xs ys : List ℕ) → length xs ≡ length ys → Each1 (λ x. x < 256) xs → Each1 (λ x. x < 256) ys
+    → Each1 (λ x. x < 256) (zip2 bit_or xs ys)
+zip_lt [] [] e f g = tt
+zip_lt [] (y ∷ ys) e f g = tt
+zip_lt (x ∷ xs) [] e f g = tt
+zip_lt (x ∷ xs) (y ∷ ys) e f g = (or_lt 8 x y f.0 g.0, zip_lt xs ys (omega arith) f.1 g.1)
+
+abbrev zeros : List ℕ
+zeros = 0 ∷ 0 ∷ 0 ∷ 0 ∷ 0 ∷ 0 ∷ 0 ∷ 0 ∷ 0 ∷ 0 ∷ 0 ∷ 0 ∷ 0 ∷ 0 ∷ 0 ∷ 0 ∷ []
+
+abbrev pub all_marks : List ℕ → List ℕ → List ℕ → List ℕ → List ℕ
+all_marks a b c d = zip2 bit_or (zip2 bit_or a b) (zip2 bit_or c d)
+
+marks_whole : (r0 r1 r2 r3 : List ℕ) → length r0 ≡ 16 → length r1 ≡ 16 → length r2 ≡ 16 → length r3 ≡ 16
+    → Each1 (Fits w8) r0 → Each1 (Fits w8) r1 → Each1 (Fits w8) r2 → Each1 (Fits w8) r3
+    → list_all unmarked (all_marks (map mark_of r0) (map mark_of r1) (map mark_of r2) (map mark_of r3))
+    ≡ list_all is_symbol (r0 ++ (r1 ++ (r2 ++ r3)))
+marks_whole r0 r1 r2 r3 l0 l1 l2 l3 f0 f1 f2 f3 =
+    let e0 = length-map r0 mark_of ∙ l0 in
+    let e1 = length-map r1 mark_of ∙ l1 in
+    let e2 = length-map r2 mark_of ∙ l2 in
+    let e3 = length-map r3 mark_of ∙ l3 in
+    let u = map mark_of r0 in
+    let v = map mark_of r1 in
+    let x = map mark_of r2 in
+    let y = map mark_of r3 in
+    let lu = length-zip2 bit_or u v (e0 ∙ sym e1) ∙ e0 in
+    let lx = length-zip2 bit_or x y (e2 ∙ sym e3) ∙ e2 in
+    unmarked_or (zip2 bit_or u v) (zip2 bit_or x y) (lu ∙ sym lx)
+    (zip_lt u v (e0 ∙ sym e1) (marks_lt r0 f0) (marks_lt r1 f1))
+    (zip_lt x y (e2 ∙ sym e3) (marks_lt r2 f2) (marks_lt r3 f3))
+    ∙ ap₂ (λ s t. s && t)
+    (unmarked_or u v (e0 ∙ sym e1) (marks_lt r0 f0) (marks_lt r1 f1)
+    ∙ ap₂ (λ s t. s && t) (all_unmarked r0 f0) (all_unmarked r1 f1))
+    (unmarked_or x y (e2 ∙ sym e3) (marks_lt r2 f2) (marks_lt r3 f3)
+    ∙ ap₂ (λ s t. s && t) (all_unmarked r2 f2) (all_unmarked r3 f3))
+    ∙ and_assoc (list_all is_symbol r0) (list_all is_symbol r1) (list_all is_symbol r2 && list_all is_symbol r3)
+    ∙ sym (list_all-append is_symbol r0 (r1 ++ (r2 ++ r3))
+    ∙ ap (λ t. list_all is_symbol r0 && t) (list_all-append is_symbol r1 (r2 ++ r3)
+    ∙ ap (λ t. list_all is_symbol r1 && t) (list_all-append is_symbol r2 r3)))
+
+pub whole_is : (text m0 m1 m2 m3 r0 r1 r2 r3 : List ℕ) → 64 ≤ length text → ((i : ℕ) → Fits w8 (get_or text i 0))
+    → r0 ≡ take 16 (drop 0 text) → r1 ≡ take 16 (drop 16 text) → r2 ≡ take 16 (drop 32 text)
+    → r3 ≡ take 16 (drop 48 text)
+    → m0 ≡ map mark_of r0 → m1 ≡ map mark_of r1 → m2 ≡ map mark_of r2 → m3 ≡ map mark_of r3
+    → eqb (mask_l (map (top 7) (zip2 (λ a b. cond (differs a b) 255 0) (all_marks m0 m1 m2 m3) zeros)) % 2 ^ 64) 0
+    ≡ list_all is_symbol (take 64 text)
+whole_is text m0 m1 m2 m3 r0 r1 r2 r3 long fits a b c d p q r s =
+    let e0 : m0 ≡ map mark_of (take 16 (drop 0 text)) = p ∙ ap (map mark_of) a in
+    let e1 : m1 ≡ map mark_of (take 16 (drop 16 text)) = q ∙ ap (map mark_of) b in
+    let e2 : m2 ≡ map mark_of (take 16 (drop 32 text)) = r ∙ ap (map mark_of) c in
+    let e3 : m3 ≡ map mark_of (take 16 (drop 48 text)) = s ∙ ap (map mark_of) d in
+    let same = ap₂ (zip2 bit_or) (ap₂ (zip2 bit_or) e0 e1) (ap₂ (zip2 bit_or) e2 e3) in
+    let l0 = row_length text 0 (omega arith) in
+    let l1 = row_length text 16 (omega arith) in
+    let l2 = row_length text 32 (omega arith) in
+    let l3 = row_length text 48 (omega arith) in
+    let n0 = length-map (take 16 (drop 0 text)) mark_of ∙ l0 in
+    let n1 = length-map (take 16 (drop 16 text)) mark_of ∙ l1 in
+    let n2 = length-map (take 16 (drop 32 text)) mark_of ∙ l2 in
+    let n3 = length-map (take 16 (drop 48 text)) mark_of ∙ l3 in
+    let u = map mark_of (take 16 (drop 0 text)) in
+    let v = map mark_of (take 16 (drop 16 text)) in
+    let x = map mark_of (take 16 (drop 32 text)) in
+    let y = map mark_of (take 16 (drop 48 text)) in
+    let lu = length-zip2 bit_or u v (n0 ∙ sym n1) ∙ n0 in
+    let lx = length-zip2 bit_or x y (n2 ∙ sym n3) ∙ n2 in
+    let ln = length-zip2 bit_or (zip2 bit_or u v) (zip2 bit_or x y) (lu ∙ sym lx) ∙ lu in
+    ap (λ l. eqb (mask_l (map (top 7) (zip2 (λ a b. cond (differs a b) 255 0) l zeros)) % 2 ^ 64) 0) same
+    ∙ ap (λ n. eqb n 0) (bitmask_splat w8 differs (all_marks u v x y) 16 0 ln (omega arith))
+    ∙ unmarked_mask (all_marks u v x y)
+    ∙ marks_whole (take 16 (drop 0 text)) (take 16 (drop 16 text)) (take 16 (drop 32 text)) (take 16 (drop 48 text)) l0
+    l1 l2 l3
+    (chunk-fits w8 0 16 text fits) (chunk-fits w8 16 16 text fits) (chunk-fits w8 32 16 text fits)
+    (chunk-fits w8 48 16 text fits)
+    ∙ ap (list_all is_symbol) (sym (split_block text))
+
+-- Sixteen groups
+
+abbrev pub shuffled : List ℕ → List ℕ → List ℕ → List ℕ → List ℕ
+shuffled a b c d =
+    (pick_l 0 (a ++ b) (0 ∷ 1 ∷ 2 ∷ 3 ∷ 4 ∷ 5 ∷ 6 ∷ 7 ∷ 8 ∷ 9 ∷ 10 ∷ 11 ∷ 16 ∷ 17 ∷ 18 ∷ 19 ∷ [])
+    ++ pick_l 0 (b ++ c) (4 ∷ 5 ∷ 6 ∷ 7 ∷ 8 ∷ 9 ∷ 10 ∷ 11 ∷ 16 ∷ 17 ∷ 18 ∷ 19 ∷ 20 ∷ 21 ∷ 22 ∷ 23 ∷ []))
+    ++ pick_l 0 (c ++ d) (8 ∷ 9 ∷ 10 ∷ 11 ∷ 16 ∷ 17 ∷ 18 ∷ 19 ∷ 20 ∷ 21 ∷ 22 ∷ 23 ∷ 24 ∷ 25 ∷ 26 ∷ 27 ∷ [])
+
+shuffled_rows : (f g h k : ℕ → ℕ) → shuffled (row f) (row g) (row h) (row k) ≡ take 12
+    (row f) ++ (take 12 (row g) ++ (take 12 (row h) ++ take 12 (row k)))
+shuffled_rows f g h k = refl
+
+shuffled_is : (a b c d : List ℕ) → length a ≡ 16 → length b ≡ 16 → length c ≡ 16 → length d ≡ 16
+    → shuffled a b c d ≡ take 12 a ++ (take 12 b ++ (take 12 c ++ take 12 d))
+shuffled_is a b c d p q r s =
+    let A : List ℕ → Type 0 = λ l. shuffled l b c d ≡ take 12 l ++ (take 12 b ++ (take 12 c ++ take 12 d)) in
+    let f = λ (k : ℕ). get_or a k 0 in
+    let g = λ (k : ℕ). get_or b k 0 in
+    let h = λ (k : ℕ). get_or c k 0 in
+    let i = λ (k : ℕ). get_or d k 0 in
+    let B : List ℕ → Type 0 =
+    λ l. shuffled (row f) l c d ≡ take 12 (row f) ++ (take 12 l ++ (take 12 c ++ take 12 d)) in
+    let C : List ℕ → Type 0 =
+    λ l. shuffled (row f) (row g) l d ≡ take 12 (row f) ++ (take 12 (row g) ++ (take 12 l ++ take 12 d)) in
+    let D : List ℕ → Type 0 = λ l. shuffled (row f) (row g) (row h) l ≡ take 12
+    (row f) ++ (take 12 (row g) ++ (take 12 (row h) ++ take 12 l)) in
+    subst A (pick_l_whole 0 a 16 p)
+    (subst B (pick_l_whole 0 b 16 q)
+    (subst C (pick_l_whole 0 c 16 r) (subst D (pick_l_whole 0 d 16 s) (shuffled_rows f g h i))))
+
+groups_of_rows : (w x y z : List ℕ) → length w ≡ 16 → length x ≡ 16 → length y ≡ 16
+    → groups (w ++ (x ++ (y ++ z))) ≡ groups w ++ (groups x ++ (groups y ++ groups z))
+groups_of_rows w x y z p q r =
+    groups_whole w (x ++ (y ++ z)) (omega arith)
+    ∙ ap (λ l. groups w ++ l) (groups_whole x (y ++ z) (omega arith)
+    ∙ ap (λ l. groups x ++ l) (groups_whole y z (omega arith)))
+
+values_of_rows : (text : List ℕ) → 64 ≤ length text → groups (map value_of (take 64 text))
+    ≡ groups (map value_of (take 16 (drop 0 text))) ++ (groups (map value_of (take 16 (drop 16 text))) ++ (groups
+    (map value_of (take 16 (drop 32 text))) ++ groups (map value_of (take 16 (drop 48 text)))))
+values_of_rows text long =
+    let w = take 16 (drop 0 text) in
+    let x = take 16 (drop 16 text) in
+    let y = take 16 (drop 32 text) in
+    let z = take 16 (drop 48 text) in
+    ap (λ l. groups (map value_of l)) (split_block text)
+    ∙ ap groups (map-append value_of w (x ++ (y ++ z)) ∙ ap (λ l. map value_of w ++ l) (map-append value_of x (y ++ z)
+    ∙ ap (λ l. map value_of x ++ l) (map-append value_of y z)))
+    ∙ groups_of_rows (map value_of w) (map value_of x) (map value_of y) (map value_of z)
+    (length-map w value_of ∙ row_length text 0 (omega arith)) (length-map x value_of ∙ row_length text 16 (omega arith))
+    (length-map y value_of ∙ row_length text 32 (omega arith))
+
+-- rows that were put one behind another
+pub put_three : (b1 b2 b3 x y z : List ℕ) → take 16 b1 ≡ x → take (16 + 16) b2 ≡ take 16 b1 ++ y
+    → take (32 + 16) b3 ≡ take 32 b2 ++ z → length b3 ≡ 48 → b3 ≡ (x ++ y) ++ z
+put_three b1 b2 b3 x y z p q r long = sym (take_all 48 b3 (omega arith)) ∙ r ∙ ap (λ l. l ++ z) (q ∙ ap (λ l. l ++ y) p)
+
+-- a row of which the first n bytes count
+pub row_put : (at n : ℕ) (old new row bytes : List ℕ) → at + 16 ≤ length old → n ≤ 16
+    → take (at + 16) new ≡ take at old ++ row → take n row ≡ bytes → take (at + n) new ≡ take at old ++ bytes
+row_put at n old new row bytes room few e is =
+    let size : at + n ≡ length (take at old) + n = omega (arith, length-take-le at old (omega arith)) in
+    sym (take-take (at + n) (at + 16) new (omega arith))
+    ∙ ap (take (at + n)) e
+    ∙ ap (λ n. take n (take at old ++ row)) size
+    ∙ take-append-add (take at old) row n
+    ∙ ap (λ l. take at old ++ l) is
+
+pub decoded_block : (text a b c d r0 r1 r2 r3 bytes : List ℕ) → 64 ≤ length text → length a ≡ 16 → length b ≡ 16
+    → length c ≡ 16 → length d ≡ 16
+    → r0 ≡ take 16 (drop 0 text) → r1 ≡ take 16 (drop 16 text) → r2 ≡ take 16 (drop 32 text)
+    → r3 ≡ take 16 (drop 48 text)
+    → take 12 a ≡ groups (map value_of r0) → take 12 b ≡ groups (map value_of r1) → take 12 c ≡ groups (map value_of r2)
+    → take 12 d ≡ groups (map value_of r3)
+    → bytes ≡ shuffled a b c d → bytes ≡ groups (map value_of (take 64 text))
+decoded_block text a b c d r0 r1 r2 r3 bytes long la lb lc ld e0 e1 e2 e3 p q r s e =
+    let of : List ℕ → List ℕ = λ l. groups (map value_of l) in
+    e ∙ shuffled_is a b c d la lb lc ld
+    ∙ ap₂ (λ (x y : List ℕ). x ++ y) (p ∙ ap of e0) (ap₂ (λ (x y : List ℕ). x ++ y) (q ∙ ap of e1)
+    (ap₂ (λ (x y : List ℕ). x ++ y) (r ∙ ap of e2) (s ∙ ap of e3)))
+    ∙ sym (values_of_rows text long)

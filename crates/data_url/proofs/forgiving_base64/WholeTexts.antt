@@ -1,0 +1,226 @@
+-- A whole text, fed and finished. For `decode_whole` and `decode_to_vec`.
+use Rattle.std.proofs.Common.{◌≡◌, ◌⊎◌, ℕ, Bool, true, false, cond, List, [], ◌∷◌, ◌++◌, Option, None, Some, Result, Ok}
+use Rattle.std.proofs.Common.{Err, refl, ap, sym, ◌∙◌, subst, inl, inr, arith, append_assoc, length-append}
+use Rattle.std.specs.Prelude.{MatchBool, MatchOption}
+use Rattle.std.proofs.lemmas.List.{append-nil}
+use Rattle.std.proofs.lemmas.Bool.{cond-true}
+use Rattle.data_url.specs.Base64.{decoded, complete_bytes, first_fault, is_valid, kind_of, left_padding, left_symbols}
+use Rattle.data_url.specs.Base64.{left_text}
+use Rattle.data_url.specs.Steps.Whole.{DecodesText, vec_error}
+use Rattle.data_url.specs.Decoder.{Feeds, Finishes, IsAll, IsTaken, State, left_over, start}
+use Rattle.data_url.specs.Errors.{IsErrorOf, IsRefused}
+use Rattle.data_url.specs.Laws.{GoesOn}
+use Rattle.data_url.specs.Run.{Call, IsPrefix, IsRun, joined_pieces, or_error, refusal}
+use Rattle.data_url.specs.declared.forgiving_base64.DecodeError.{DecodeError}
+use Rattle.data_url.specs.declared.forgiving_base64.DecodeError.TheVariants.{InvalidBase64, WriteError}
+use Rattle.data_url.proofs.forgiving_base64.Steps.{bool_at_false, bool_at_true, feeds_none, feeds_goes_on, feeds_took}
+use Rattle.data_url.proofs.forgiving_base64.Groups.{two_feeds}
+use Rattle.data_url.proofs.runs.Runs.{joined_pieces-append, later_none, match_at, match_at_none, match_map, match_none}
+use Rattle.data_url.proofs.runs.Runs.{prefix_all, prefix_behind, prefix_trans, refusal-append, run-append}
+use Rattle.data_url.proofs.forgiving_base64.Padding.{fault_byte, fault_invalid, none_fault, valid_no_fault}
+use Rattle.data_url.proofs.forgiving_base64.Padding.{some_not_none}
+
+split_bool : (b : Bool) (P Q : Type 0) → MatchBool b P Q → ((b ≡ true) × P) ⊎ ((b ≡ false) × Q)
+split_bool true P Q h = inl (refl, h)
+split_bool false P Q h = inr (refl, h)
+
+-- all that an accepting closure gets of a text
+abbrev pub whole_bytes : List ℕ → List ℕ
+whole_bytes u = cond (is_valid u) (decoded u) (complete_bytes u)
+
+-- what was handed out before a fault is a beginning of all
+pub done_whole : (u : List ℕ) → IsPrefix (complete_bytes u) (whole_bytes u)
+done_whole u =
+    elim (is_valid u) as (λ v. is_valid u ≡ v → IsPrefix (complete_bytes u) (cond v (decoded u) (complete_bytes u))) [
+      | true ↦ λ e.
+          let g = two_feeds u [] (none_fault u (valid_no_fault u e)) in
+          (decoded (left_text (left_symbols u) (left_padding u) ++ []), ap decoded (sym (append-nil u)) ∙ g.decoded_is)
+      | false ↦ λ e. prefix_all (complete_bytes u) (complete_bytes u) refl
+    ] refl
+
+match_either : {A : Type 0} (o : Option A) (P Q : Type 0) → MatchOption o P (λ i. Q) → (P → Q) → Q
+match_either None P Q m f = f m
+match_either (Some i) P Q m f = m
+
+-- a text that was refused as it was fed is not valid
+taken_invalid : {F E : Type 0} (u bytes : List ℕ) (r : Result (Unit {0}) (DecodeError E)) (x : DecodeError E)
+    (d : State F) (o : Option ℕ) → r ≡ Err x → fault_byte false u ≡ o → IsTaken u bytes r d
+    → MatchBool (is_valid u) (IsAll u bytes r) ((bytes ≡ complete_bytes u) × (r ≡ Err (InvalidBase64 (kind_of u))))
+taken_invalid u bytes r x d None q h t = absurd (let k = match_at_none (first_fault u) _ _ (none_fault u h) t.answer in
+    let e = k.0 in cc)
+taken_invalid u bytes r x d (Some c) q h t = bool_at_false (is_valid u) _ _ (fault_invalid u c h)
+    (t.bytes_are, match_either (first_fault u) _ _ t.answer (λ k. absurd (let e = k.0 in cc)))
+
+module _ {F E : Type 0} (step : F → List ℕ → Result (Unit {0}) E → F → Type 0) where
+  -- what a decoder gives of a whole text, as it runs
+  abbrev Whole : List ℕ → Option E → List ℕ → Result (Unit {0}) (DecodeError E) → Type 0
+  Whole u o bytes r =
+      MatchOption o (MatchBool (is_valid u) (IsAll u bytes r) ((bytes ≡ complete_bytes u)
+      × (r ≡ Err (InvalidBase64 (kind_of u)))))
+      (λ e. IsRefused (whole_bytes u) bytes e r)
+
+  -- refused as it was fed
+  refused_fed : {d d' : State F} {u : List ℕ} {x : DecodeError E} → Feeds step d u (Err x) d' → left_over d ++ u ≡ u
+      → DecodesText step d.closure u (Err x) d'.closure
+  refused_fed {d} {d'} {u} {x} f same =
+      let G : List ℕ → Type 0 = λ w. MatchOption (refusal f.run) (IsTaken w (joined_pieces f.run) (Err x) d')
+      (λ e. IsRefused {A = Unit {0}} (complete_bytes w) (joined_pieces f.run) e (Err x)) in
+      let gave : G u = subst G same f.gave in
+      record {
+        run = f.run;
+        ran = f.ran;
+        calls = omega (arith, f.calls);
+        gave = match_map (refusal f.run) _ _ _ _
+            (taken_invalid u (joined_pieces f.run) (Err x) x d' (fault_byte false u) refl refl)
+            (λ e h. record {
+              bytes_begin = prefix_trans (joined_pieces f.run) (complete_bytes u)
+                  (whole_bytes u) h.bytes_begin (done_whole u);
+              answer = h.answer;
+            })
+            gave;
+      }
+
+  -- fed and finished
+  fed_finished : {d d' : State F} {u : List ℕ} {r : Result (Unit {0}) (DecodeError E)} {f' : F}
+      → Feeds step d u (Ok tt) d' → left_over d ++ u ≡ u → Finishes step d' r f' → DecodesText step d.closure u r f'
+  fed_finished {d} {d'} {u} {r} {f'} f same g =
+      let k = feeds_took step f in
+      let taken : joined_pieces f.run ≡ complete_bytes u = k.1.bytes_are ∙ ap complete_bytes same in
+      let G : List ℕ → Type 0 = λ w. GoesOn w [] (left_over d' ++ []) in
+      let on : G u = subst G same (feeds_goes_on step [] f) in
+      let valid : is_valid u ≡ is_valid (left_over d') = ap is_valid (sym (append-nil u)) ∙ on.valid_is
+      ∙ ap is_valid (append-nil (left_over d')) in
+      let kind : kind_of u ≡ kind_of (left_over d') = ap kind_of (sym (append-nil u)) ∙ on.kind_is
+      ∙ ap kind_of (append-nil (left_over d')) in
+      let all : decoded u ≡ complete_bytes u ++ decoded (left_over d') = ap decoded (sym (append-nil u)) ∙ on.decoded_is
+      ∙ ap (λ w. complete_bytes u ++ decoded w) (append-nil (left_over d')) in
+      let bytes : joined_pieces (f.run ++ g.run) ≡ complete_bytes u ++ joined_pieces g.run =
+      joined_pieces-append f.run g.run ∙ ap (λ x. x ++ joined_pieces g.run) taken in
+      record {
+        run = f.run ++ g.run;
+        ran = run-append step f.run g.run d.closure d'.closure f' f.ran k.0 g.ran;
+        calls = omega (arith, f.calls, g.calls, length-append f.run g.run);
+        gave = match_at (refusal g.run) (refusal (f.run ++ g.run)) _ _ (refusal-append f.run g.run k.0)
+            (elim (split_bool (is_valid (left_over d')) _ _ g.gave) [
+              | inl (v, h) ↦
+                  let good : is_valid u ≡ true = valid ∙ v in
+                  match_map (refusal g.run) _ _ _ _
+                  (λ w. bool_at_true (is_valid u) _ _ good
+                  (record {
+                    bytes_are = bytes ∙ ap (λ x. complete_bytes u ++ x) w.bytes_are ∙ sym all;
+                    answer =
+                        w.answer;
+                  }))
+                  (λ e w. record {
+                    bytes_begin =
+                        prefix_trans (joined_pieces (f.run ++ g.run)) (complete_bytes u ++ joined_pieces g.run)
+                        (whole_bytes u) (prefix_all (joined_pieces (f.run ++ g.run))
+                        (complete_bytes u ++ joined_pieces g.run) bytes)
+                        (prefix_trans (complete_bytes u ++ joined_pieces g.run)
+                        (complete_bytes u ++ decoded (left_over d')) (whole_bytes u)
+                        (prefix_behind (complete_bytes u) (joined_pieces g.run) (decoded (left_over d'))
+                        w.bytes_begin)
+                        (prefix_all (complete_bytes u ++ decoded (left_over d')) (whole_bytes u)
+                        (sym (cond-true (is_valid u) (decoded u) (complete_bytes u) good ∙ all))));
+                    answer = w.answer;
+                  })
+                  h
+              | inr (v, h) ↦
+                  match_none (refusal g.run) _ _ (ap refusal h.0)
+                  (bool_at_false (is_valid u) _ _ (valid ∙ v) (
+                    bytes ∙ ap (λ x. complete_bytes u ++ joined_pieces x) h.0
+                        ∙ append-nil (complete_bytes u),
+                    h.1 ∙ ap (λ z. Err (InvalidBase64 z)) (sym kind),
+                  ))
+            ]);
+      }
+
+  -- a new decoder was fed nothing
+  pub fed_nothing : {d : State F} {f : F} → d ≡ start f → Feeds step (start f) [] (Ok tt) d
+  fed_nothing {d} {f} e = feeds_none step tt (omega arith) (omega arith) refl e
+
+  pub decodes_refused : {d d' : State F} {f : F} {u : List ℕ} {x : DecodeError E} → d ≡ start f
+      → Feeds step d u (Err x) d' → DecodesText step f u (Err x) d'.closure
+  decodes_refused {d} {d'} {f} {u} {x} e g = let P : State F → Type 0 = λ s. Feeds step s u (Err x) d' in
+      refused_fed (subst P e g) refl
+
+  pub decodes_finished : {d d' : State F} {f f' : F} {u : List ℕ} {r : Result (Unit {0}) (DecodeError E)} → d ≡ start f
+      → Feeds step d u (Ok tt) d' → Finishes step d' r f' → DecodesText step f u r f'
+  decodes_finished {d} {d'} {f} {f'} {u} e g h = let P : State F → Type 0 = λ s. Feeds step s u (Ok tt) d' in
+      fed_finished (subst P e g) refl h
+
+-- A closure that keeps the bytes that it accepts
+
+all_ok : {E : Type 0} (o : Option E) (P : Type 0) (all bytes : List ℕ) (r : Result (Unit {0}) (DecodeError E))
+    → r ≡ Ok tt → MatchOption o P (λ e. IsRefused all bytes e r) → (o ≡ None) × P
+all_ok None P all bytes r q h = (refl, h)
+all_ok (Some e) P all bytes r q h = absurd (let k = h.answer in cc)
+
+accepted_call : {E : Type 0} (r : Result (Unit {0}) E) (o : Option E) → or_error r o ≡ None → r ≡ Ok tt
+accepted_call (Ok tt) o h = refl
+accepted_call (Err e) o h = absurd (some_not_none e h)
+
+call_reads : {F E : Type 0} (step : F → List ℕ → Result (Unit {0}) E → F → Type 0) (J : F → List ℕ)
+    → ((g : F) (piece : List ℕ) (g' : F) → step g piece (Ok tt) g' → J g' ≡ J g ++ piece)
+    → (c : Call F E) (f : F) (last rest : List ℕ) → step f c.piece c.answer c.after → c.answer ≡ Ok tt
+    → last ≡ J c.after ++ rest → last ≡ J f ++ (c.piece ++ rest)
+call_reads {F} {E} step J keeps c f last rest s e h =
+    let P : Result (Unit {0}) E → Type 0 = λ r. step f c.piece r c.after in
+    h ∙ ap (λ x. x ++ rest) (keeps f c.piece c.after (subst P e s)) ∙ append_assoc (J f) c.piece rest
+
+whole_ok : {E : Type 0} (v : Bool) (u bytes : List ℕ) (r : Result (Unit {0}) (DecodeError E)) → r ≡ Ok tt
+    → MatchBool v (IsAll u bytes r) ((bytes ≡ complete_bytes u) × (r ≡ Err (InvalidBase64 (kind_of u))))
+    → bytes ≡ decoded u
+whole_ok true u bytes r q h = h.bytes_are
+whole_ok false u bytes r q h = absurd (let k = h.1 in cc)
+
+-- after an accepted run it has all their bytes behind its own
+pub run_reads : {F E : Type 0} (step : F → List ℕ → Result (Unit {0}) E → F → Type 0) (J : F → List ℕ)
+    → ((g : F) (piece : List ℕ) (g' : F) → step g piece (Ok tt) g' → J g' ≡ J g ++ piece)
+    → (cs : List (Call F E)) (f f' : F) → IsRun step f cs f' → refusal cs ≡ None → J f' ≡ J f ++ joined_pieces cs
+run_reads step J keeps [] f f' ran n = ap J (sym ran) ∙ sym (append-nil (J f))
+run_reads step J keeps (c ∷ cs) f f' ran n = call_reads step J keeps c f (J f') (joined_pieces cs) ran.0
+    (accepted_call c.answer (refusal cs) n)
+    (run_reads step J keeps cs c.after f' ran.2 (later_none c.answer (refusal cs) n))
+
+-- what a closure that keeps its bytes has after a text that was decoded
+pub decodes_reads : {F E : Type 0} {step : F → List ℕ → Result (Unit {0}) E → F → Type 0} {f f' : F} {u : List ℕ}
+    {r : Result (Unit {0}) (DecodeError E)} → DecodesText step f u r f' → r ≡ Ok tt → (J : F → List ℕ)
+    → ((g : F) (piece : List ℕ) (g' : F) → step g piece (Ok tt) g' → J g' ≡ J g ++ piece) → J f' ≡ J f ++ decoded u
+decodes_reads {F} {E} {step} {f} {f'} {u} {r} h q J keeps =
+    let k = all_ok (refusal h.run) _ (whole_bytes u) (joined_pieces h.run) r q h.gave in
+    run_reads step J keeps h.run f f' h.ran k.0
+    ∙ ap (λ x. J f ++ x) (whole_ok (is_valid u) u (joined_pieces h.run) r q k.1)
+
+whole_err : {E : Type 0} (v : Bool) (u bytes : List ℕ) (r : Result (Unit {0}) (DecodeError E)) (kind : _)
+    → r ≡ Err (InvalidBase64 kind)
+    → MatchBool v (IsAll u bytes r) ((bytes ≡ complete_bytes u) × (r ≡ Err (InvalidBase64 (kind_of u))))
+    → (v ≡ false) × (kind ≡ kind_of u)
+whole_err true u bytes r kind q h = absurd (let k = h.answer in cc)
+whole_err false u bytes r kind q h = (refl, let k = h.1 in cc)
+
+given_err : {E : Type 0} (o : Option E) (P : Type 0) (all bytes : List ℕ) (r : Result (Unit {0}) (DecodeError E))
+    (kind : _) → r ≡ Err (InvalidBase64 kind) → MatchOption o P (λ e. IsRefused all bytes e r) → P
+given_err None P all bytes r kind q h = h
+given_err (Some e) P all bytes r kind q h = absurd (let k = h.answer in cc)
+
+-- the error of a vector that was to have the bytes
+pub text_error : {F E : Type 0} {step : F → List ℕ → Result (Unit {0}) E → F → Type 0} {f f' : F} {u : List ℕ}
+    {r : Result (Unit {0}) (DecodeError E)} (x : DecodeError E) → DecodesText step f u r f' → r ≡ Err x
+    → IsErrorOf u (vec_error x)
+text_error {u = u} {r = r} (InvalidBase64 kind) h q = whole_err (is_valid u) u (joined_pieces h.run) r kind q
+    (given_err (refusal h.run) _ (whole_bytes u) (joined_pieces h.run) r kind q h.gave)
+text_error (WriteError e) h q = tt
+
+-- what each call keeps, a run keeps
+pub run_keeps : {F E A : Type 0} (step : F → List ℕ → Result (Unit {0}) E → F → Type 0) (K : F → A)
+    → ((g : F) (piece : List ℕ) (r : Result (Unit {0}) E) (g' : F) → step g piece r g' → K g ≡ K g')
+    → (cs : List (Call F E)) (f f' : F) → IsRun step f cs f' → K f ≡ K f'
+run_keeps step K keeps [] f f' ran = ap K ran
+run_keeps step K keeps (c ∷ cs) f f' ran = keeps f c.piece c.answer c.after ran.0
+    ∙ run_keeps step K keeps cs c.after f' ran.2
+
+pub decodes_keeps : {F E A : Type 0} {step : F → List ℕ → Result (Unit {0}) E → F → Type 0} {f f' : F} {u : List ℕ}
+    {r : Result (Unit {0}) (DecodeError E)} → DecodesText step f u r f' → (K : F → A)
+    → ((g : F) (piece : List ℕ) (r : Result (Unit {0}) E) (g' : F) → step g piece r g' → K g ≡ K g') → K f ≡ K f'
+decodes_keeps {step = step} {f = f} {f' = f'} h K keeps = run_keeps step K keeps h.run f f' h.ran

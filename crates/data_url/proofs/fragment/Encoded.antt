@@ -1,0 +1,149 @@
+-- An encoded fragment is read again as it is.
+use Rattle.std.proofs.Common.{◌≡◌, ℕ, ◌-◌, ◌/◌, ◌%◌, ◌<◌, ◌≤◌, Bool, true, false, not, cond, List, [], ◌∷◌, ◌++◌}
+use Rattle.std.proofs.Common.{length, take, drop, reverse, map, None, Some, codes, refl, sym, ap, ◌∙◌, subst, arith}
+use Rattle.std.specs.Prelude.{◌==◌, ◌||◌, ◌&&◌, nat_le, option_and_then}
+use Rattle.std.specs.Option.{option_map}
+use Rattle.std.specs.Char.{to_ascii_lowercase}
+use Rattle.std.specs.Int.{is_in_range}
+use Rattle.std.specs.List.{prefix_len, suffix_len}
+use Rattle.std.specs.Str.{bytes_eq}
+use Rattle.std.proofs.lemmas.Bool.{agree_below_at, and_parts, both_ways, cond-false, cond_both, false_from_ne_true}
+use Rattle.std.proofs.lemmas.Bool.{leb-true}
+use Rattle.std.proofs.lemmas.List.{reverse-append, take_all}
+use Rattle.data_url.specs.Url.{after_scheme, before, behind, cleaned_text, without_tabs_and_newlines, encoded_byte}
+use Rattle.data_url.specs.Url.{encoded_path, fragment, front, hex_digit, in_fragment_set, is_c0_control_or_space}
+use Rattle.data_url.specs.Url.{is_tab_or_newline, percent_encoding, serialised, trimmed_text, without_end}
+use Rattle.data_url.specs.Fetch.{before_comma, encoded_body, header_of, staged, staged_after, staged_fragment}
+use Rattle.data_url.specs.Fetch.{staged_front, staged_parts}
+use Rattle.data_url.specs.Laws.{IsReadAgain, is_fragment_byte}
+use Rattle.data_url.specs.Mime.{Every}
+use Rattle.data_url.proofs.percent.Encoding.{IsBytes, encoded_cons, encoded_nil}
+use Rattle.data_url.proofs.mime.Items.{every_append, every_from_all}
+use Rattle.data_url.proofs.texts.Bytes.{dropped_keeps, dropped_nil}
+
+-- What is encoded has such bytes alone
+
+outside_set : (b : ℕ) → b < 256 → in_fragment_set b ≡ false → is_fragment_byte b ≡ true
+outside_set b l h = sym (agree_below_at (λ c. not (in_fragment_set c)) is_fragment_byte 256 b refl l) ∙ ap not h
+
+digit_byte : (d : ℕ) → d < 16 → is_fragment_byte (hex_digit d) ≡ true
+digit_byte d l = agree_below_at (λ d. is_fragment_byte (hex_digit d)) (λ d. true) 16 d refl l
+
+byte_encoded : (b : ℕ) → b < 256 → Every is_fragment_byte (encoded_byte in_fragment_set b)
+byte_encoded b l = cond_both (in_fragment_set b) (37 ∷ hex_digit (b / 16) ∷ hex_digit (b % 16) ∷ []) (b ∷ [])
+    (λ t. Every is_fragment_byte t)
+    (λ e. (refl, (digit_byte (b / 16) (omega arith), (digit_byte (b % 16) (omega arith), tt))))
+    (λ e. (outside_set b l e, tt))
+
+pub fragment_bytes : (s : List ℕ) → IsBytes s → Every is_fragment_byte (percent_encoding in_fragment_set s)
+fragment_bytes [] h = subst (Every is_fragment_byte) (sym (encoded_nil in_fragment_set)) tt
+fragment_bytes (b ∷ s) h = subst (Every is_fragment_byte) (sym (encoded_cons in_fragment_set b s))
+    (every_append is_fragment_byte (encoded_byte in_fragment_set b) (percent_encoding in_fragment_set s)
+    (byte_encoded b h.0) (fragment_bytes s h.1))
+
+-- Such bytes stay as they are
+
+byte_below : (b : ℕ) → is_fragment_byte b ≡ true → b < 256
+byte_below b h =
+    let range = (and_parts (is_in_range 33 126 b) (not ((b == 34) || ((b == 60) || ((b == 62) || (b == 96))))) h).0 in
+    let high : b ≤ 126 = leb-true b 126 (and_parts (nat_le 33 b) (nat_le b 126) range).1 in
+    omega arith
+
+abbrev excludes : (ℕ → Bool) → ℕ → Bool
+excludes p b = not (is_fragment_byte b && p b)
+
+excluded : (p : ℕ → Bool) (b : ℕ) → excludes p b ≡ true → is_fragment_byte b ≡ true → p b ≡ false
+excluded p b e h = false_from_ne_true (p b) (λ k. both_ways (excludes p b) (ap (λ v. not (v && p b)) h ∙ ap not k) e)
+
+not_in_set : (b : ℕ) → is_fragment_byte b ≡ true → in_fragment_set b ≡ false
+not_in_set b h = excluded in_fragment_set b (agree_below_at (excludes in_fragment_set) (λ c. true) 256 b refl
+    (byte_below b h)) h
+
+not_low : (b : ℕ) → is_fragment_byte b ≡ true → is_c0_control_or_space b ≡ false
+not_low b h = excluded is_c0_control_or_space b (agree_below_at (excludes is_c0_control_or_space) (λ c. true) 256 b refl
+    (byte_below b h)) h
+
+not_dropped : (b : ℕ) → is_fragment_byte b ≡ true → is_tab_or_newline b ≡ false
+not_dropped b h = excluded is_tab_or_newline b (agree_below_at (excludes is_tab_or_newline) (λ c. true) 256 b refl
+    (byte_below b h)) h
+
+encoded_itself : (x : List ℕ) → Every is_fragment_byte x → percent_encoding in_fragment_set x ≡ x
+encoded_itself [] h = encoded_nil in_fragment_set
+encoded_itself (b ∷ x) h =
+    encoded_cons in_fragment_set b x
+    ∙ ap (λ t. t ++ percent_encoding in_fragment_set x)
+    (cond-false (in_fragment_set b) (37 ∷ hex_digit (b / 16) ∷ hex_digit (b % 16) ∷ []) (b ∷ []) (not_in_set b h.0))
+    ∙ ap (λ t. b ∷ t) (encoded_itself x h.1)
+
+dropped_itself : (t : List ℕ) → Every is_fragment_byte t → without_tabs_and_newlines t ≡ t
+dropped_itself [] h = dropped_nil
+dropped_itself (b ∷ t) h = dropped_keeps b t (not_dropped b h.0) ∙ ap (λ s. b ∷ s) (dropped_itself t h.1)
+
+no_low_front : (t : List ℕ) → Every is_fragment_byte t → prefix_len is_c0_control_or_space t ≡ 0
+no_low_front [] h = refl
+no_low_front (b ∷ t) h = cond-false (is_c0_control_or_space b) _ 0 (not_low b h.0)
+
+every_reverse : (t : List ℕ) → Every is_fragment_byte t → Every is_fragment_byte (reverse t)
+every_reverse [] h = tt
+every_reverse (b ∷ t) h = subst (Every is_fragment_byte) (sym (reverse-append (b ∷ []) t))
+    (every_append is_fragment_byte (reverse t) (b ∷ []) (every_reverse t h.1) (h.0, tt))
+
+no_low_end : (t : List ℕ) → Every is_fragment_byte t → suffix_len is_c0_control_or_space t ≡ 0
+no_low_end t h = no_low_front (reverse t) (every_reverse t h)
+
+trimmed_itself : (t : List ℕ) → Every is_fragment_byte t → trimmed_text t ≡ t
+unfolding trimmed_text
+trimmed_itself t h =
+    ap (without_end is_c0_control_or_space) (ap (λ n. drop n t) (no_low_front t h))
+    ∙ ap (λ n. take (length t - n) t) (no_low_end t h)
+    ∙ take_all (length t - 0) t (omega arith)
+
+cleaned_itself : (t : List ℕ) → Every is_fragment_byte t → cleaned_text t ≡ t
+unfolding cleaned_text
+cleaned_itself t h = ap without_tabs_and_newlines (trimmed_itself t h) ∙ dropped_itself t h
+
+-- The stages of the text
+
+after_data : (t x : List ℕ) → cleaned_text t ≡ codes "data:,#" ++ x → after_scheme t ≡ Some (44 ∷ 35 ∷ x)
+unfolding after_scheme
+after_data t x h =
+    let P : List ℕ → Type 0 = λ s. cond (bytes_eq (map to_ascii_lowercase (take 5 s)) (codes "data:"))
+    (Some (drop 5 s)) None ≡ Some (44 ∷ 35 ∷ x) in
+    subst P (sym h) refl
+
+front_comma : (x : List ℕ) → serialised (front (44 ∷ 35 ∷ x)) ≡ 44 ∷ []
+unfolding front before behind serialised encoded_path percent_encoding
+front_comma x = refl
+
+fragment_behind : (x : List ℕ) → fragment (44 ∷ 35 ∷ x) ≡ Some x
+unfolding fragment behind
+fragment_behind x = refl
+
+front_of_comma : (t x : List ℕ) → after_scheme t ≡ Some (44 ∷ 35 ∷ x) → staged_front t ≡ Some (44 ∷ [])
+unfolding staged_front
+front_of_comma t x h = ap (option_map (λ a. serialised (front a))) h ∙ ap (λ (s : List ℕ). Some s) (front_comma x)
+
+header_empty : (t : List ℕ) → staged_front t ≡ Some (44 ∷ []) → header_of t ≡ Some []
+unfolding header_of before behind
+header_empty t h = ap (option_and_then before_comma) h
+
+body_empty : (t : List ℕ) → staged_front t ≡ Some (44 ∷ []) → encoded_body t ≡ Some []
+unfolding encoded_body behind
+body_empty t h = ap (option_and_then (behind 44)) h
+
+staged_again : (t x : List ℕ) → after_scheme t ≡ Some (44 ∷ 35 ∷ x)
+    → staged_fragment (staged t) ≡ Some (percent_encoding in_fragment_set x)
+unfolding staged
+staged_again t x h =
+    let f = front_of_comma t x h in
+    ap (λ a. staged_fragment (staged_after t a)) h
+    ∙ ap (λ o. staged_fragment (staged_parts o (header_of t) (encoded_body t))) (fragment_behind x)
+    ∙ ap (λ o. staged_fragment (staged_parts (Some x) o (encoded_body t))) (header_empty t f)
+    ∙ ap (λ o. staged_fragment (staged_parts (Some x) (Some []) o)) (body_empty t f)
+
+pub read_again : (x : List ℕ) → Every is_fragment_byte x → IsReadAgain x
+read_again x h =
+    let t : List ℕ = codes "data:,#" ++ x in
+    let every : Every is_fragment_byte t = every_append is_fragment_byte (codes "data:,#") x
+    (every_from_all is_fragment_byte (codes "data:,#") refl) h in
+    staged_again t x (after_data t x (cleaned_itself t every)) ∙ ap (λ (s : List ℕ). Some s) (encoded_itself x h)

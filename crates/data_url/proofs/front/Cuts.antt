@@ -1,0 +1,279 @@
+-- The scheme, and the first comma of a text. For `after_scheme` and `split_at_comma`.
+use Rattle.std.proofs.Common.{◌≡◌, ◌≢◌, ℕ, ◌+◌, ◌<◌, ◌≤◌, Bool, true, false, List, [], ◌∷◌, ◌++◌, length, get_or, take}
+use Rattle.std.proofs.Common.{drop, map, nat_eq, subst, length-append, codes, min, ltb, refl, sym, ap, ◌∙◌, ⊎_elim}
+use Rattle.std.proofs.Common.{arith, ◌-◌, Option, None, Some, position, ap₂, inl, inr, ◌⊎◌, eqb-true}
+use Rattle.std.specs.Char.{to_ascii_lowercase}
+use Rattle.std.specs.Str.{bytes_eq, IsCharBoundary, IsUtf8}
+use Rattle.std.proofs.lemmas.Bool.{agree_below_at, cases_lt, false_from_ne_true, ltb-true, cond-true, lt-ltb, or_cases}
+use Rattle.std.proofs.lemmas.Bool.{or_parts}
+use Rattle.std.proofs.lemmas.Str.Ascii.{lowercase_is}
+use Rattle.std.proofs.lemmas.List.{get_or_at, get_or-take, length-map, length-take, map-append, take-append-le}
+use Rattle.std.proofs.lemmas.List.{take-map, take_more, drop_more, get_or-drop, length-drop, take-append-drop, take_all}
+use Rattle.std.proofs.lemmas.Slice.Eq.{bytes_eq-Decides, starts_is}
+use Rattle.std.specs.List.{starts_with, position_or_len, prefix_len}
+use Rattle.std.proofs.lemmas.Bool.Decides.{Decides-eqb}
+use Rattle.std.proofs.lemmas.Str.{IsCharBoundary-from_take, IsUtf8-from_ascii}
+use Rattle.data_url.specs.Url.{without_tabs_and_newlines, is_tab_or_newline, before, behind, front}
+use Rattle.data_url.specs.Steps.Front.{HasNoScheme, IsSchemeAndRest, IsHeaderAndTail, ends_header, is_plain_path}
+use Rattle.data_url.proofs.percent.Encoding.{ascii_all, Plain, plain_byte, plain_serialised}
+use Rattle.data_url.proofs.texts.Bytes.{append-nil, without_tabs_and_newlines-append, dropped_keeps, dropped_nil}
+use Rattle.data_url.proofs.texts.Bytes.{dropped_passes, before_all, before_at, behind_none}
+use Rattle.std.specs.Prelude.{◌==◌, ◌||◌, nat_lt}
+use Rattle.std.proofs.lemmas.List.Quantifiers.{position-Some}
+use Rattle.std.proofs.lemmas.List.Sums.{fails_before_first, prefix_len_passes}
+use Rattle.data_url.specs.Steps.Header.{header_text}
+
+-- Spelling the scheme, one byte after the other.
+
+abbrev scheme : List ℕ
+scheme = codes "data:"
+
+-- the text spells the first n bytes of the scheme, and not all of it
+pub record Spells (s : List ℕ) (n : ℕ) : Type 0 where
+  pub open_at : n < 5
+  pub spelled : map to_ascii_lowercase (without_tabs_and_newlines s) ≡ take n scheme
+
+pub spells_nothing : Spells [] 0
+spells_nothing = record { open_at = omega arith; spelled = ap (map to_ascii_lowercase) dropped_nil }
+
+dropped_one_passes : (b : ℕ) → is_tab_or_newline b ≡ true → (s : List ℕ)
+    → without_tabs_and_newlines (s ++ b ∷ []) ≡ without_tabs_and_newlines s
+dropped_one_passes b h s = without_tabs_and_newlines-append s (b ∷ [])
+    ∙ ap (λ t. without_tabs_and_newlines s ++ t) (dropped_passes b [] h ∙ dropped_nil)
+    ∙ append-nil (without_tabs_and_newlines s)
+
+dropped_one_keeps : (b : ℕ) → is_tab_or_newline b ≡ false → (s : List ℕ)
+    → without_tabs_and_newlines (s ++ b ∷ []) ≡ without_tabs_and_newlines s ++ b ∷ []
+dropped_one_keeps b h s = without_tabs_and_newlines-append s (b ∷ [])
+    ∙ ap (λ t. without_tabs_and_newlines s ++ t) (dropped_keeps b [] h ∙ ap (λ t. b ∷ t) dropped_nil)
+
+pub spells_passed : (s : List ℕ) (n b : ℕ) → Spells s n → is_tab_or_newline b ≡ true → Spells (s ++ b ∷ []) n
+spells_passed s n b h e = record {
+  open_at = h.open_at;
+  spelled = ap (map to_ascii_lowercase) (dropped_one_passes b e s)
+      ∙ h.spelled;
+}
+
+one_more : (s : List ℕ) (n b : ℕ) → Spells s n → is_tab_or_newline b ≡ false → to_ascii_lowercase b ≡ get_or scheme n 0
+    → map to_ascii_lowercase (without_tabs_and_newlines (s ++ b ∷ [])) ≡ take (n + 1) scheme
+one_more s n b h e same =
+    ap (map to_ascii_lowercase) (dropped_one_keeps b e s)
+    ∙ map-append to_ascii_lowercase (without_tabs_and_newlines s) (b ∷ [])
+    ∙ ap (λ t. t ++ to_ascii_lowercase b ∷ []) h.spelled
+    ∙ ap (λ c. take n scheme ++ c ∷ []) same
+    ∙ sym (take_more scheme n 0 h.open_at)
+
+pub spells_more : (s : List ℕ) (n b : ℕ) → Spells s n → is_tab_or_newline b ≡ false
+    → to_ascii_lowercase b ≡ get_or scheme n 0 → n + 1 ≢ 5 → Spells (s ++ b ∷ []) (n + 1)
+spells_more s n b h e same ne = record { open_at = omega (arith, h.open_at); spelled = one_more s n b h e same }
+
+pub spells_all : (s : List ℕ) (n b : ℕ) → Spells s n → is_tab_or_newline b ≡ false
+    → to_ascii_lowercase b ≡ get_or scheme n 0 → n + 1 ≡ 5
+    → map to_ascii_lowercase (without_tabs_and_newlines (s ++ b ∷ [])) ≡ scheme
+spells_all s n b h e same whole = one_more s n b h e same ∙ ap (λ k. take k scheme) whole
+
+spelled_length : (s : List ℕ) (n : ℕ) → Spells s n → length (without_tabs_and_newlines s) ≡ n
+spelled_length s n h = sym (length-map (without_tabs_and_newlines s) to_ascii_lowercase) ∙ ap length h.spelled
+    ∙ length-take n scheme ∙ omega (arith, h.open_at)
+
+-- the text is over before the scheme is
+pub ends_early : (s : List ℕ) (n : ℕ) → Spells s n → HasNoScheme s
+ends_early s n h = false_from_ne_true (bytes_eq (map to_ascii_lowercase (take 5 (without_tabs_and_newlines s))) scheme)
+    (λ e.
+    let whole = (bytes_eq-Decides (map to_ascii_lowercase (take 5 (without_tabs_and_newlines s))) scheme).0 e in
+    let five : length (take 5 (without_tabs_and_newlines s)) ≡ 5 =
+    sym (length-map (take 5 (without_tabs_and_newlines s)) to_ascii_lowercase) ∙ ap length whole in
+    let short : length (take 5 (without_tabs_and_newlines s)) ≡ min 5 n = length-take 5 (without_tabs_and_newlines s)
+    ∙ ap (λ k. min 5 k) (spelled_length s n h) in
+    let below = h.open_at in
+    omega (arith, five, short, below))
+
+-- another byte stands in its place
+pub differs : (text s : List ℕ) (n b : ℕ) (rest : List ℕ) → Spells s n → is_tab_or_newline b ≡ false
+    → to_ascii_lowercase b ≢ get_or scheme n 0 → text ≡ s ++ b ∷ rest → HasNoScheme text
+differs text s n b rest h e ne is =
+    false_from_ne_true (bytes_eq (map to_ascii_lowercase (take 5 (without_tabs_and_newlines text))) scheme) (λ e'.
+    let whole = (bytes_eq-Decides (map to_ascii_lowercase (take 5 (without_tabs_and_newlines text))) scheme).0 e' in
+    let parts : without_tabs_and_newlines text ≡ without_tabs_and_newlines s ++ b ∷ without_tabs_and_newlines rest =
+    ap without_tabs_and_newlines is ∙ without_tabs_and_newlines-append s (b ∷ rest)
+    ∙ ap (λ t. without_tabs_and_newlines s ++ t) (dropped_keeps b rest e) in
+    let lowered : map to_ascii_lowercase (take 5 (without_tabs_and_newlines text)) ≡ take 5
+    (map to_ascii_lowercase (without_tabs_and_newlines s) ++ to_ascii_lowercase b ∷ map to_ascii_lowercase
+    (without_tabs_and_newlines rest)) = sym (take-map to_ascii_lowercase 5 (without_tabs_and_newlines text))
+    ∙ ap (take 5) (ap (map to_ascii_lowercase) parts ∙ map-append to_ascii_lowercase (without_tabs_and_newlines s)
+    (b ∷ without_tabs_and_newlines rest)) in
+    let at_n : get_or (map to_ascii_lowercase (take 5 (without_tabs_and_newlines text))) n 0 ≡ to_ascii_lowercase b =
+    ap (λ t. get_or t n 0) lowered
+    ∙ get_or-take 5 (map to_ascii_lowercase (without_tabs_and_newlines s) ++ to_ascii_lowercase b ∷ map
+    to_ascii_lowercase (without_tabs_and_newlines rest)) n 0 h.open_at
+    ∙ get_or_at (map to_ascii_lowercase (without_tabs_and_newlines s)) (to_ascii_lowercase b)
+    (map to_ascii_lowercase (without_tabs_and_newlines rest)) 0 n
+    (length-map (without_tabs_and_newlines s) to_ascii_lowercase ∙ spelled_length s n h) in
+    ne (sym at_n ∙ ap (λ t. get_or t n 0) whole))
+
+-- a byte that is spelled so is ASCII
+pub scheme_is_ascii : (n b : ℕ) → n < 5 → to_ascii_lowercase b ≡ get_or scheme n 0 → b < 128
+scheme_is_ascii n b l e =
+    let low : get_or scheme n 0 < 128 =
+    ltb-true (get_or scheme n 0) 128 (agree_below_at (λ n. ltb (get_or scheme n 0) 128) (λ n. true) 5 n refl l) in
+    ⊎_elim (λ h. h) (λ (h : 128 ≤ b). let stays : to_ascii_lowercase b ≡ b = (lowercase_is b).2 (omega arith) in
+    omega arith) (cases_lt b 128)
+
+-- The scheme as it is commonly spelled
+
+common_spelled : map to_ascii_lowercase (without_tabs_and_newlines scheme) ≡ scheme
+unfolding without_tabs_and_newlines
+common_spelled = refl
+
+pub common_front : (text items : List ℕ) (r : Bool) → items ≡ text → r ≡ starts_with nat_eq items scheme → r ≡ true
+    → text ≡ scheme ++ drop 5 text
+common_front text items r e f h = subst (λ s. s ≡ scheme ++ drop 5 s) e ((starts_is Decides-eqb items scheme r f).0 h)
+
+pub common_boundary : (text : List ℕ) → IsUtf8 text → text ≡ scheme ++ drop 5 text → IsCharBoundary text 5
+common_boundary text u h =
+    let front : take 5 text ≡ scheme = ap (take 5) h ∙ take-append-le 5 scheme (drop 5 text) (omega arith) in
+    let long : 5 ≤ length text = omega (arith, ap length h, length-append scheme (drop 5 text)) in
+    IsCharBoundary-from_take text 5 u long (subst IsUtf8 (sym front) (IsUtf8-from_ascii scheme (ascii_all scheme refl)))
+
+pub common_scheme : (text rest : List ℕ) → text ≡ scheme ++ drop 5 text → rest ≡ drop 5 text → IsSchemeAndRest text rest
+common_scheme text rest h e = record {
+  scheme = scheme;
+  joined = h ∙ ap (λ s. scheme ++ s) (sym e);
+  spelled =
+      common_spelled;
+}
+
+-- The first comma or '#' of a text.
+
+-- a text without the byte at the places below n lacks it before n
+lacks_in_take : (c : ℕ) (s : List ℕ) (n : ℕ) → ((k : ℕ) → k < n → (get_or s k 0 == c) ≡ false)
+    → behind c (take n s) ≡ None
+lacks_in_take c s n h = behind_none c (take n s) (λ k l.
+    let below : k < n = omega (arith, length-take n s) in
+    ap (λ v. v == c) (get_or-take n s k 0 below) ∙ h k below)
+
+cut_at : (s : List ℕ) (n : ℕ) → n < length s → s ≡ take n s ++ get_or s n 0 ∷ drop (n + 1) s
+cut_at s n l = sym (take-append-drop n s) ∙ ap (λ t. take n s ++ t) (drop_more s n 0 l)
+
+-- what the place of the first comma or '#' tells
+pub record IsFrontEnd (s : List ℕ) (n : ℕ) : Type 0 where
+  pub within : n < length s
+  pub is : (get_or s n 0 ≡ 44) ⊎ (get_or s n 0 ≡ 35)
+  pub no_comma : behind 44 (take n s) ≡ None
+  pub no_hash : behind 35 (take n s) ≡ None
+
+-- neither stands before the place
+abbrev pub NoEndBefore : List ℕ → ℕ → Type 0
+NoEndBefore s n = (k : ℕ) → k < n → ends_header (get_or s k 0) ≡ false
+
+further_on : (s : List ℕ) (m k : ℕ) → NoEndBefore s m → NoEndBefore (drop m s) k → NoEndBefore s (m + k)
+further_on s m k h g j l = ⊎_elim
+    (λ (a : j < m). h j a)
+    (λ (a : m ≤ j).
+    let back : m + (j - m) ≡ j = omega arith in
+    ap ends_header (ap (λ i. get_or s i 0) (sym back) ∙ sym (get_or-drop m s (j - m) 0)) ∙ g (j - m) (omega arith))
+    (cases_lt j m)
+
+pub front_end_from : (s : List ℕ) (m k : ℕ) → NoEndBefore s m → position ends_header (drop m s) ≡ Some k
+    → IsFrontEnd s (m + k)
+front_end_from s m k h e =
+    let n = m + k in
+    let p = position-Some ends_header (drop m s) k 0 e in
+    let before = further_on s m k h p.2 in
+    let end : ends_header (get_or s n 0) ≡ true = ap ends_header (sym (get_or-drop m s k 0)) ∙ p.1 in
+    record {
+      within = omega (arith, p.0, length-drop m s);
+      is = ⊎_elim (λ h. inl (eqb-true (get_or s n 0) 44 h)) (λ h. inr (eqb-true (get_or s n 0) 35 h))
+          (or_cases (get_or s n 0 == 44) (get_or s n 0 == 35) end);
+      no_comma = lacks_in_take 44 s n (λ k l. (or_parts (get_or s k 0 == 44) (get_or s k 0 == 35) (before k l)).0);
+      no_hash = lacks_in_take 35 s n (λ k l. (or_parts (get_or s k 0 == 44) (get_or s k 0 == 35) (before k l)).1);
+    }
+
+pub at_comma : (s : List ℕ) (n : ℕ) → IsFrontEnd s n → get_or s n 0 ≢ 35 → IsHeaderAndTail s (take n s) (drop (n + 1) s)
+at_comma s n f ne =
+    let comma : get_or s n 0 ≡ 44 = ⊎_elim (λ h. h) (λ h. absurd (ne h)) f.is in
+    record {
+      joined = cut_at s n f.within ∙ ap (λ b. take n s ++ b ∷ drop (n + 1) s) comma;
+      no_comma = f.no_comma;
+      no_fragment = f.no_hash;
+    }
+
+-- a '#' comes first
+pub at_hash : (s : List ℕ) (n : ℕ) → IsFrontEnd s n → get_or s n 0 ≡ 35 → behind 44 (front s) ≡ None
+unfolding front
+at_hash s n f h =
+    let parts : s ≡ take n s ++ 35 ∷ drop (n + 1) s = cut_at s n f.within
+    ∙ ap (λ b. take n s ++ b ∷ drop (n + 1) s) h in
+    ap (λ x. behind 44 (before 35 x)) parts ∙ ap (behind 44) (before_at 35 (take n s) (drop (n + 1) s) f.no_hash)
+    ∙ f.no_comma
+
+-- neither is there
+pub at_none : (s : List ℕ) (m : ℕ) → NoEndBefore s m → position ends_header (drop m s) ≡ None
+    → behind 44 (front s) ≡ None
+unfolding front
+at_none s m h e =
+    let rest = drop m s in
+    let none : NoEndBefore rest (length rest) = λ k l. fails_before_first ends_header rest k 0 (⊎_elim
+    (λ (h : position_or_len ends_header rest < length rest). absurd (let x : Some (position_or_len ends_header rest)
+    ≡ None = sym (cond-true (nat_lt (position_or_len ends_header rest) (length rest))
+    (Some (position_or_len ends_header rest)) None (lt-ltb (position_or_len ends_header rest) (length rest) h))
+    ∙ e in cc))
+    (λ (h : length rest ≤ position_or_len ends_header rest). let x : k < position_or_len ends_header rest =
+    omega arith in x)
+    (cases_lt (position_or_len ends_header rest) (length rest))) in
+    let all = further_on s m (length rest) h none in
+    let fails : NoEndBefore s (length s) = λ k l. all k (omega (arith, length-drop m s)) in
+    let no_comma = behind_none 44 s (λ k l. (or_parts (get_or s k 0 == 44) (get_or s k 0 == 35) (fails k l)).0) in
+    let no_hash = behind_none 35 s (λ k l. (or_parts (get_or s k 0 == 44) (get_or s k 0 == 35) (fails k l)).1) in
+    ap (behind 44) (before_all 35 s no_hash) ∙ no_comma
+
+pub is_ascii_end : (s : List ℕ) (n : ℕ) → IsFrontEnd s n → get_or s n 0 < 128
+is_ascii_end s n f = ⊎_elim (λ h. omega arith) (λ h. omega arith) f.is
+
+-- The bytes of a path that are serialised as they stand
+
+pub plain_front : (s items : List ℕ) (n : ℕ) → items ≡ s → n ≡ prefix_len is_plain_path items
+    → ((i : ℕ) → get_or s i 0 < 256) → (k : ℕ) → k < n → Plain (get_or s k 0)
+plain_front s items n e f h k l =
+    plain_byte (get_or s k 0) (h k)
+    (prefix_len_passes is_plain_path s k 0 (subst (λ m. k < m) (f ∙ ap (prefix_len is_plain_path) e) l))
+
+pub plain_no_end : (s : List ℕ) (n : ℕ) → ((k : ℕ) → k < n → Plain (get_or s k 0)) → NoEndBefore s n
+plain_no_end s n h k l = let p = h k l in ap₂ (λ x y. x || y) p.no_comma p.no_hash
+
+pub plain_header : (s header : List ℕ) (n : ℕ) → ((k : ℕ) → k < n → Plain (get_or s k 0)) → header ≡ take n s
+    → header_text (without_tabs_and_newlines header) ≡ header
+plain_header s header n h e = subst (λ t. header_text (without_tabs_and_newlines t) ≡ t) (sym e)
+    (plain_serialised (take n s) (λ k l.
+    let below : k < n = omega (arith, length-take n s) in
+    subst Plain (sym (get_or-take n s k 0 below)) (h k below)))
+
+abbrev FitsBytes : List ℕ → Type 0
+FitsBytes s = (i : ℕ) → get_or s i 0 < 256
+
+no_end_ahead : (s items : List ℕ) (n : ℕ) → items ≡ s → n ≡ prefix_len is_plain_path items → FitsBytes s
+    → NoEndBefore s n
+no_end_ahead s items n e f h = plain_no_end s n (plain_front s items n e f h)
+
+ends_ahead : (s items : List ℕ) (n : ℕ) (r : Option ℕ) → items ≡ s
+    → r ≡ position ends_header (take (length items - n) (drop n items)) → position ends_header (drop n s) ≡ r
+ends_ahead s items n r e p = ap (λ t. position ends_header (drop n t)) (sym e)
+    ∙ ap (position ends_header) (sym (take_all (length items - n) (drop n items) (omega (arith, length-drop n items))))
+    ∙ sym p
+
+pub front_end_at : (s items : List ℕ) (n k : ℕ) (r : Option ℕ) → items ≡ s → n ≡ prefix_len is_plain_path items
+    → FitsBytes s → r ≡ position ends_header (take (length items - n) (drop n items)) → r ≡ Some k
+    → IsFrontEnd s (n + k)
+front_end_at s items n k r e f h p g = front_end_from s n k (no_end_ahead s items n e f h) (ends_ahead s items n r e p
+    ∙ g)
+
+pub no_front_end : (s items : List ℕ) (n : ℕ) (r : Option ℕ) → items ≡ s → n ≡ prefix_len is_plain_path items
+    → FitsBytes s → r ≡ position ends_header (take (length items - n) (drop n items)) → r ≡ None
+    → behind 44 (front s) ≡ None
+no_front_end s items n r e f h p g = at_none s n (no_end_ahead s items n e f h) (ends_ahead s items n r e p ∙ g)
+
+-- what stands before the comma where it comes right behind the plain bytes
+pub plain_before : (s items header : List ℕ) (n k : ℕ) → items ≡ s → n ≡ prefix_len is_plain_path items → FitsBytes s
+    → header ≡ take (n + k) s → n + k ≡ n → header_text (without_tabs_and_newlines header) ≡ header
+plain_before s items header n k e f h is same = plain_header s header n (plain_front s items n e f h) (is
+    ∙ ap (λ m. take m s) same)

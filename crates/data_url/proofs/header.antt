@@ -1,0 +1,3 @@
+pub mod Serialising
+pub mod Suffix
+pub mod Stages

@@ -1,0 +1,441 @@
+-- Headers: serialised path and query, and the last space of a path. For `serialise`.
+use Rattle.std.proofs.Common.{◌≡◌, ◌≢◌, ◌⊎◌, ℕ, suc, ◌+◌, ◌-◌, ◌/◌, ◌%◌, ◌<◌, ◌≤◌, Bool, true, false, cond, not, List}
+use Rattle.std.proofs.Common.{[], ◌∷◌, ◌++◌, length, get_or, take, drop, reverse, codes, refl, sym, ap, ◌∙◌, inl, inr}
+use Rattle.std.proofs.Common.{⊎_elim, None, append_assoc, arith, eqb-true, subst, length-append, drop_of_length-le, map}
+use Rattle.std.proofs.Common.{Option, Some}
+use Rattle.std.specs.Prelude.{◌==◌, ◌||◌}
+use Rattle.std.specs.List.{prefix_len, suffix_len}
+use Rattle.std.proofs.Math.Bool.{or-false}
+use Rattle.std.proofs.lemmas.Bool.{cases_lt, ne_eqb, cases_Bool, leb-false}
+use Rattle.std.proofs.lemmas.List.{append-nil, drop_all, drop_more, get_or-drop, get_or-reverse, get_or-take}
+use Rattle.std.proofs.lemmas.List.{length-drop, length-reverse, length-take, take-append-drop, drop-append-le}
+use Rattle.std.proofs.lemmas.List.{take_more}
+use Rattle.std.proofs.lemmas.List.Sums.{prefix_len_passes, prefix_len_stops, suffix_len-le-length}
+use Rattle.data_url.specs.Url.{before, behind, without_tabs_and_newlines, encoded_byte, encoded_path, hex_digit}
+use Rattle.data_url.specs.Url.{in_path_end_set, in_path_set, in_query_set, is_tab_or_newline, percent_encoding}
+use Rattle.data_url.specs.Url.{after_scheme, cleaned_text, is_c0_control_or_space, serialised, trimmed_text, with_query}
+use Rattle.data_url.specs.Url.{without_end, without_front}
+use Rattle.data_url.specs.Steps.Header.{HasNoLastSpace, IsPathAndQuery, WithoutSpace, encoded_parts, header_parts}
+use Rattle.data_url.specs.Steps.Header.{header_text, is_no_question_mark}
+use Rattle.data_url.proofs.texts.Bytes.{before_all, before_at, behind-dropped_none, behind_at, behind_none}
+use Rattle.data_url.proofs.texts.Bytes.{without_tabs_and_newlines-append, dropped_around, dropped_keeps, dropped_nil}
+use Rattle.data_url.proofs.texts.Bytes.{dropped_passes, before-append, behind-append, before_other, behind_other}
+use Rattle.data_url.proofs.texts.Bytes.{is_cut}
+use Rattle.data_url.proofs.percent.Encoding.{encoded_cons, encoded_nil, path_cons, path_nil, percent_encoding-append}
+use Rattle.std.specs.Option.{option_map}
+use Rattle.std.specs.Str.{bytes_eq}
+use Rattle.std.specs.Char.{to_ascii_lowercase}
+use Rattle.data_url.specs.Facts.{base64_flag, serialised_with_spaces, with_query_and_spaces}
+use Rattle.data_url.specs.Fetch.{before_comma, has_base64_suffix, is_space}
+use Rattle.data_url.specs.Mime.{DoesNotEnd}
+use Rattle.data_url.proofs.header.Suffix.{same_flag}
+use Rattle.data_url.proofs.mime.RoundTrips.{not_ends_last}
+
+-- Serialising a header: its path, and its query.
+
+-- The end of a path
+
+path_one : (b : ℕ) → encoded_path (b ∷ []) ≡ encoded_byte in_path_end_set b
+unfolding encoded_path
+path_one b = refl
+
+path_more : (b : ℕ) (s : List ℕ) (c : ℕ) → encoded_path (b ∷ (s ++ c ∷ [])) ≡ encoded_byte in_path_set b ++ encoded_path
+    (s ++ c ∷ [])
+path_more b [] c = path_cons b (c ∷ [])
+path_more b (d ∷ s) c = path_cons b (d ∷ (s ++ c ∷ []))
+
+-- a space at the end
+pub path_space : (s : List ℕ) → encoded_path (s ++ 32 ∷ []) ≡ percent_encoding in_path_set s ++ codes "%20"
+path_space [] = path_one 32 ∙ ap (λ t. t ++ codes "%20") (sym (encoded_nil in_path_set))
+path_space (b ∷ s) =
+    path_more b s 32 ∙ ap (λ t. encoded_byte in_path_set b ++ t) (path_space s)
+    ∙ sym (append_assoc (encoded_byte in_path_set b) (percent_encoding in_path_set s) (codes "%20"))
+    ∙ ap (λ t. t ++ codes "%20") (sym (encoded_cons in_path_set b s))
+
+-- another byte at the end
+end_set : (c : ℕ) → (c == 32) ≡ false → in_path_end_set c ≡ in_path_set c
+end_set c e = ap (λ v. in_path_set c || v) e ∙ or-false (in_path_set c)
+
+pub path_other : (s : List ℕ) (c : ℕ) → (c == 32) ≡ false → encoded_path (s ++ c ∷ []) ≡ percent_encoding in_path_set
+    (s ++ c ∷ [])
+path_other [] c e =
+    path_one c ∙ ap (λ v. cond v (37 ∷ hex_digit (c / 16) ∷ hex_digit (c % 16) ∷ []) (c ∷ [])) (end_set c e)
+    ∙ sym (append-nil (encoded_byte in_path_set c))
+    ∙ ap (λ t. encoded_byte in_path_set c ++ t) (sym (encoded_nil in_path_set))
+    ∙ sym (encoded_cons in_path_set c [])
+path_other (b ∷ s) c e = path_more b s c ∙ ap (λ t. encoded_byte in_path_set b ++ t) (path_other s c e)
+    ∙ sym (encoded_cons in_path_set b (s ++ c ∷ []))
+
+-- tabs and newlines alone
+all_dropped : (s : List ℕ) → ((k : ℕ) → k < length s → is_tab_or_newline (get_or s k 0) ≡ true)
+    → without_tabs_and_newlines s ≡ []
+all_dropped [] h = dropped_nil
+all_dropped (b ∷ s) h = dropped_passes b s (h 0 (omega arith)) ∙ all_dropped s (λ k l. h (suc k) (omega arith))
+
+-- the bytes of an end that passes, and the byte before it
+pub suffix_passes : (p : ℕ → Bool) (s : List ℕ) (m k : ℕ) → m ≡ suffix_len p s → length s ≤ k + m → k < length s
+    → p (get_or s k 0) ≡ true
+suffix_passes p s m k e far l =
+    let j = length s - 1 - k in
+    let within : j < prefix_len p (reverse s) = subst (λ v. j < v) e (omega arith) in
+    let back : length s - 1 - j ≡ k = omega arith in
+    subst (λ v. p (get_or s v 0) ≡ true) back (subst (λ v. p v ≡ true) (get_or-reverse s j 0 (omega arith))
+    (prefix_len_passes p (reverse s) j 0 within))
+
+pub suffix_stops : (p : ℕ → Bool) (s : List ℕ) (m n : ℕ) → m ≡ suffix_len p s → length s ≡ (n + 1) + m
+    → p (get_or s n 0) ≡ false
+suffix_stops p s m n e at =
+    let within : prefix_len p (reverse s) < length (reverse s) =
+    subst (λ v. v < length (reverse s)) e (omega (arith, length-reverse s)) in
+    let back : length s - 1 - m ≡ n = omega arith in
+    subst (λ v. p (get_or s v 0) ≡ false) back (subst (λ v. p v ≡ false) (get_or-reverse s m 0 (omega arith))
+    (subst (λ v. p (get_or (reverse s) v 0) ≡ false) (sym e) (prefix_len_stops p (reverse s) 0 within)))
+
+-- a text, cut before its last byte that is no tab or newline
+pub dropped_end : (s : List ℕ) (m n : ℕ) → m ≡ suffix_len is_tab_or_newline s → length s ≡ (n + 1) + m
+    → without_tabs_and_newlines s ≡ without_tabs_and_newlines (take n s) ++ get_or s n 0 ∷ []
+dropped_end s m n e at =
+    let l : n < length s = omega arith in
+    let kept = suffix_stops is_tab_or_newline s m n e at in
+    let parts : s ≡ take n s ++ get_or s n 0 ∷ drop (n + 1) s = sym (take-append-drop n s)
+    ∙ ap (λ t. take n s ++ t) (drop_more s n 0 l) in
+    let none : without_tabs_and_newlines (drop (n + 1) s) ≡ [] = all_dropped (drop (n + 1) s) (λ k w.
+    let within : (n + 1) + k < length s = omega (arith, length-drop (n + 1) s) in
+    subst (λ v. is_tab_or_newline v ≡ true) (sym (get_or-drop (n + 1) s k 0))
+    (suffix_passes is_tab_or_newline s m ((n + 1) + k) e (omega arith) within)) in
+    ap without_tabs_and_newlines parts ∙ dropped_around (get_or s n 0) kept (take n s) (drop (n + 1) s)
+    ∙ ap (λ t. without_tabs_and_newlines (take n s) ++ get_or s n 0 ∷ t) none
+
+pub without_space : (s : List ℕ) (m n : ℕ) → m ≡ suffix_len is_tab_or_newline s → length s ≡ (n + 1) + m
+    → get_or s n 0 ≡ 32 → WithoutSpace s (take n s)
+without_space s m n e at is = dropped_end s m n e at ∙ ap (λ b. without_tabs_and_newlines (take n s) ++ b ∷ []) is
+
+pub has_other_end : (s : List ℕ) (m n : ℕ) → m ≡ suffix_len is_tab_or_newline s → length s ≡ (n + 1) + m
+    → get_or s n 0 ≢ 32 → HasNoLastSpace s
+has_other_end s m n e at other =
+    subst (λ t. encoded_path t ≡ percent_encoding in_path_set t) (sym (dropped_end s m n e at))
+    (path_other (without_tabs_and_newlines (take n s)) (get_or s n 0) (ne_eqb (get_or s n 0) 32 other))
+
+pub has_no_end : (s : List ℕ) (m : ℕ) → m ≡ suffix_len is_tab_or_newline s → length s ≤ m → HasNoLastSpace s
+has_no_end s m e all =
+    subst (λ t. encoded_path t ≡ percent_encoding in_path_set t)
+    (sym (all_dropped s (λ k l. suffix_passes is_tab_or_newline s m k e (omega arith) l))) (path_nil
+    ∙ sym (encoded_nil in_path_set))
+
+-- The parts of a header
+
+-- without a query
+header_alone : (path : List ℕ) → behind 63 path ≡ None → header_text (without_tabs_and_newlines path)
+    ≡ percent_encoding in_path_set (without_tabs_and_newlines path)
+unfolding header_text
+header_alone path h =
+    let lacks = behind-dropped_none 63 refl path h in
+    ap (header_parts (before 63 (without_tabs_and_newlines path))) lacks
+    ∙ ap (percent_encoding in_path_set) (before_all 63 (without_tabs_and_newlines path) lacks)
+
+-- with one
+header_and_query : (path rest : List ℕ) → behind 63 path ≡ None
+    → header_text (without_tabs_and_newlines (path ++ 63 ∷ rest)) ≡ encoded_path
+    (without_tabs_and_newlines path) ++ percent_encoding in_query_set (without_tabs_and_newlines (63 ∷ rest))
+unfolding header_text
+header_and_query path rest h =
+    let lacks = behind-dropped_none 63 refl path h in
+    let query : percent_encoding in_query_set (without_tabs_and_newlines (63 ∷ rest)) ≡ 63 ∷ percent_encoding
+    in_query_set (without_tabs_and_newlines rest) = ap (percent_encoding in_query_set) (dropped_keeps 63 rest refl)
+    ∙ encoded_cons in_query_set 63 (without_tabs_and_newlines rest) in
+    let whole : without_tabs_and_newlines (path ++ 63 ∷ rest) ≡ without_tabs_and_newlines
+    path ++ 63 ∷ without_tabs_and_newlines rest = without_tabs_and_newlines-append path (63 ∷ rest)
+    ∙ ap (λ s. without_tabs_and_newlines path ++ s) (dropped_keeps 63 rest refl) in
+    ap (λ s. header_parts (before 63 s) (behind 63 s)) whole
+    ∙ ap (λ p. header_parts p (behind 63 (without_tabs_and_newlines path ++ 63 ∷ without_tabs_and_newlines rest)))
+    (before_at 63 (without_tabs_and_newlines path) (without_tabs_and_newlines rest) lacks)
+    ∙ ap (header_parts (without_tabs_and_newlines path)) (behind_at 63 (without_tabs_and_newlines path)
+    (without_tabs_and_newlines rest) lacks)
+    ∙ ap (λ s. encoded_path (without_tabs_and_newlines path) ++ s) (sym query)
+
+-- nothing behind a path
+nothing_behind : (path : List ℕ) → encoded_parts path [] [] ≡ percent_encoding in_path_set
+    (without_tabs_and_newlines path)
+nothing_behind path = ap (λ s. percent_encoding in_path_set (without_tabs_and_newlines path) ++ s)
+    (ap (percent_encoding in_query_set) dropped_nil ∙ encoded_nil in_query_set) ∙ append-nil _
+
+-- no bytes, or some
+not-suc-eq-zero : {n : ℕ} → suc n ≡ 0 → ⊥
+not-suc-eq-zero e = omega arith
+
+pub no_bytes : (s : List ℕ) → (length s == 0) ≡ true → s ≡ []
+no_bytes [] e = refl
+no_bytes (b ∷ s) e = absurd (not-suc-eq-zero (eqb-true (length (b ∷ s)) 0 e))
+
+pub some_bytes : (s : List ℕ) (v : Bool) → v ≡ (length s == 0) → v ≡ false → s ≢ []
+some_bytes [] v e f n = absurd (let k : true ≡ false = sym e ∙ f in cc)
+some_bytes (b ∷ s) v e f n = absurd (let k = n in cc)
+
+-- where there is no last space, or no query
+pub parts_whole : (header path query : List ℕ) → IsPathAndQuery header path query → (query ≡ []) ⊎ HasNoLastSpace path
+    → encoded_parts path [] query ≡ header_text (without_tabs_and_newlines header)
+parts_whole header path query h end = ⊎_elim
+    (λ none.
+    ap (encoded_parts path []) none ∙ nothing_behind path ∙ sym (header_alone path h.path_ends)
+    ∙ ap (λ s. header_text (without_tabs_and_newlines s)) (sym (h.joined ∙ ap (λ s. path ++ s) none ∙ append-nil path)))
+    (λ some.
+    ⊎_elim
+    (λ none. absurd (let k : 63 ∷ some.0 ≡ [] = sym some.1 ∙ none in cc))
+    (λ other.
+    ap (encoded_parts path []) some.1
+    ∙ ap (λ s. s ++ percent_encoding in_query_set (without_tabs_and_newlines (63 ∷ some.0))) (sym other)
+    ∙ sym (header_and_query path some.0 h.path_ends)
+    ∙ ap (λ s. header_text (without_tabs_and_newlines s)) (sym (h.joined ∙ ap (λ s. path ++ s) some.1)))
+    end)
+    h.query_begins
+
+-- where there is
+pub parts_spaced : (header path front query : List ℕ) → IsPathAndQuery header path query → query ≢ []
+    → WithoutSpace path front → encoded_parts front (codes "%20") query ≡ header_text (without_tabs_and_newlines header)
+parts_spaced header path front query h there w = ⊎_elim
+    (λ none. absurd (there none))
+    (λ some.
+    ap (encoded_parts front (codes "%20")) some.1
+    ∙ sym (append_assoc (percent_encoding in_path_set (without_tabs_and_newlines front)) (codes "%20")
+    (percent_encoding in_query_set (without_tabs_and_newlines (63 ∷ some.0))))
+    ∙ ap (λ s. s ++ percent_encoding in_query_set (without_tabs_and_newlines (63 ∷ some.0)))
+    (sym (ap encoded_path w ∙ path_space (without_tabs_and_newlines front)))
+    ∙ sym (header_and_query path some.0 h.path_ends)
+    ∙ ap (λ s. header_text (without_tabs_and_newlines s)) (sym (h.joined ∙ ap (λ s. path ++ s) some.1)))
+    h.query_begins
+
+is_false : (b : Bool) → not b ≡ true → b ≡ false
+is_false true h = absurd (let k = h in cc)
+is_false false h = refl
+
+is_true : (b : Bool) → not b ≡ false → b ≡ true
+is_true true h = refl
+is_true false h = absurd (let k = h in cc)
+
+-- the cut at the first '?'
+pub cut_at_query : (text : List ℕ) (n : ℕ) → n ≡ prefix_len is_no_question_mark text
+    → IsPathAndQuery text (take n text) (drop n text)
+cut_at_query text n e = record {
+  joined = sym (take-append-drop n text);
+  path_ends = behind_none 63 (take n text) (λ k l.
+      let below : k < n = omega (arith, length-take n text) in
+      ap (λ v. v == 63) (get_or-take n text k 0 below)
+      ∙ is_false _ (prefix_len_passes is_no_question_mark text k 0 (subst (λ m. k < m) e below)));
+  query_begins = ⊎_elim
+      (λ (l : n < length text). inr (
+        drop (n + 1) text,
+        drop_more text n 0 l
+            ∙ ap (λ b. b ∷ drop (n + 1) text)
+            (eqb-true (get_or text n 0) 63
+            (is_true _ (subst (λ m. is_no_question_mark (get_or text m 0) ≡ false) (sym e)
+            (prefix_len_stops is_no_question_mark text 0 (subst (λ m. m < length text) e l))))),
+      ))
+      (λ (l : length text ≤ n). inl (drop_all n text l))
+      (cases_lt n (length text));
+}
+
+-- The last space of a path: where it is encoded, and that the base64 flag does not depend on it.
+
+-- The end of a cleaned text
+
+-- the text is empty, or its last byte is neither a C0 control nor a space
+data Ends (s : List ℕ) : Type 0 where
+  nothing : s ≡ [] → Ends s
+  last : (init : List ℕ) (b : ℕ) → s ≡ init ++ b ∷ [] → is_c0_control_or_space b ≡ false → Ends s
+
+-- a text without its end of C0 controls and spaces
+ends_trimmed : (s : List ℕ) → Ends (without_end is_c0_control_or_space s)
+ends_trimmed s =
+    let m = suffix_len is_c0_control_or_space s in
+    let few = suffix_len-le-length is_c0_control_or_space s in
+    let n = length s - m in
+    elim (cases_lt 0 n) [
+      | inl l ↦
+          let e : n ≡ n - 1 + 1 = omega arith in
+          let stop = suffix_stops is_c0_control_or_space s m (n - 1) refl (omega arith) in
+          last (take (n - 1) s) (get_or s (n - 1) 0) (ap (λ k. take k s) e ∙ take_more s (n - 1) 0 (omega arith)) stop
+      | inr l ↦ let e : n ≡ 0 = omega arith in nothing (ap (λ k. take k s) e)
+    ]
+
+not_tab : (b : ℕ) → is_c0_control_or_space b ≡ false → is_tab_or_newline b ≡ false
+not_tab b h =
+    let l : 32 < b = leb-false b 32 h in
+    rw (
+      ne_eqb b 9 (λ e. omega (arith, l, e)),
+      ne_eqb b 10 (λ e. omega (arith, l, e)),
+      ne_eqb b 13 (λ e. omega (arith, l, e)),
+    ) refl
+
+not_space : (b : ℕ) → is_c0_control_or_space b ≡ false → is_space b ≡ false
+not_space b h = let l : 32 < b = leb-false b 32 h in ne_eqb b 32 (λ e. omega (arith, l, e))
+
+-- dropping tabs and newlines keeps the last byte
+ends_dropped : (s : List ℕ) → Ends s → Ends (without_tabs_and_newlines s)
+ends_dropped s (nothing e) = nothing (ap without_tabs_and_newlines e ∙ dropped_nil)
+ends_dropped s (last init b e h) =
+    let one : without_tabs_and_newlines (b ∷ []) ≡ b ∷ [] = dropped_keeps b [] (not_tab b h)
+    ∙ ap (λ t. b ∷ t) dropped_nil in
+    last (without_tabs_and_newlines init) b
+    (ap without_tabs_and_newlines e ∙ without_tabs_and_newlines-append init (b ∷ [])
+    ∙ ap (λ t. without_tabs_and_newlines init ++ t) one) h
+
+drop_nothing : (n : ℕ) → ◌≡◌ {A = List ℕ} (drop n []) []
+drop_nothing n = drop_of_length-le [] (omega arith)
+
+-- so does taking bytes off the front, unless nothing is left
+ends_after : (n : ℕ) (s : List ℕ) → Ends s → Ends (drop n s)
+ends_after n s (nothing e) = nothing (ap (drop n) e ∙ drop_nothing n)
+ends_after n s (last init b e h) = elim (cases_lt (length init) n) [
+  | inl l ↦
+      let size = length-append init (b ∷ []) in
+      nothing (ap (drop n) e ∙ drop_of_length-le (init ++ b ∷ []) (omega (arith, size, l)))
+  | inr l ↦ last (drop n init) b (ap (drop n) e ∙ drop-append-le n init (b ∷ []) l) h
+]
+
+ends_with_no_space : (s : List ℕ) → Ends s → DoesNotEnd is_space s
+ends_with_no_space s (nothing e) = subst (DoesNotEnd is_space) (sym e) tt
+ends_with_no_space s (last init b e h) =
+    subst (DoesNotEnd is_space) (sym e) (not_ends_last is_space b (not_space b h) init)
+
+ends_cleaned : (t : List ℕ) → Ends (cleaned_text t)
+unfolding cleaned_text trimmed_text
+ends_cleaned t =
+    ends_dropped (without_end is_c0_control_or_space (without_front is_c0_control_or_space t))
+    (ends_trimmed (without_front is_c0_control_or_space t))
+
+given_of : (v : Bool) (s a : List ℕ) → cond v (Some s) None ≡ Some a → a ≡ s
+given_of true s a h = cc
+given_of false s a h = absurd (let k : None ≡ Some a = h in cc)
+
+after_is : (t a : List ℕ) → after_scheme t ≡ Some a → a ≡ drop 5 (cleaned_text t)
+unfolding after_scheme
+after_is t a h = given_of (bytes_eq (map to_ascii_lowercase (take 5 (cleaned_text t))) (codes "data:"))
+    (drop 5 (cleaned_text t)) a h
+
+-- what follows the scheme does not end with a space
+pub no_last_space : (t a : List ℕ) → after_scheme t ≡ Some a → DoesNotEnd is_space a
+no_last_space t a h =
+    subst (DoesNotEnd is_space) (sym (after_is t a h))
+    (ends_with_no_space (drop 5 (cleaned_text t)) (ends_after 5 (cleaned_text t) (ends_cleaned t)))
+
+-- The two rules on the last space of a path
+
+-- an encoded path is the same by both rules, or ends with "%20" by one and with a space by the other
+data Differs (path : List ℕ) : Type 0 where
+  same_path : encoded_path path ≡ percent_encoding in_path_set path → Differs path
+  last_space : (x : List ℕ) → encoded_path path ≡ x ++ codes "%20" → percent_encoding in_path_set path ≡ x ++ codes " "
+      → Differs path
+
+-- a text is empty, or has a last byte
+data HasLast (s : List ℕ) : Type 0 where
+  without_last : s ≡ [] → HasLast s
+  with_last : (init : List ℕ) (b : ℕ) → s ≡ init ++ b ∷ [] → HasLast s
+
+last_behind : (b : ℕ) (s : List ℕ) → HasLast s → HasLast (b ∷ s)
+last_behind b s (without_last e) = with_last [] b (ap (λ t. b ∷ t) e)
+last_behind b s (with_last init c e) = with_last (b ∷ init) c (ap (λ t. b ∷ t) e)
+
+has_last : (s : List ℕ) → HasLast s
+has_last [] = without_last refl
+has_last (b ∷ s) = last_behind b s (has_last s)
+
+space_encoded : percent_encoding in_path_set (32 ∷ []) ≡ 32 ∷ []
+space_encoded = encoded_cons in_path_set 32 [] ∙ ap (λ t. 32 ∷ t) (encoded_nil in_path_set)
+
+differs_last : (path init : List ℕ) (b : ℕ) → path ≡ init ++ b ∷ [] → Differs path
+differs_last path init b e = elim (cases_Bool (b == 32)) [
+  | inl h ↦
+      let is : path ≡ init ++ 32 ∷ [] = e ∙ ap (λ c. init ++ c ∷ []) (eqb-true b 32 h) in
+      last_space (percent_encoding in_path_set init) (ap encoded_path is ∙ path_space init)
+      (ap (percent_encoding in_path_set) is ∙ percent_encoding-append in_path_set init (32 ∷ [])
+      ∙ ap (λ t. percent_encoding in_path_set init ++ t) space_encoded)
+  | inr h ↦ same_path (ap encoded_path e ∙ path_other init b h ∙ sym (ap (percent_encoding in_path_set) e))
+]
+
+differs_by : (path : List ℕ) → HasLast path → Differs path
+differs_by path (without_last e) =
+    same_path (ap encoded_path e ∙ path_nil ∙ sym (ap (percent_encoding in_path_set) e ∙ encoded_nil in_path_set))
+differs_by path (with_last init b e) = differs_last path init b e
+
+-- The flag of a text whose first comma is known
+
+-- nothing after the first comma changes the header
+comma_before : (x y rest : List ℕ) → behind 44 x ≡ Some rest → before_comma (x ++ y) ≡ Some (before 44 x)
+comma_before x y rest h =
+    let cut = is_cut 44 x rest h in
+    let joined : x ++ y ≡ before 44 x ++ 44 ∷ (rest ++ y) =
+    ap (λ t. t ++ y) cut.joined ∙ append_assoc (before 44 x) (44 ∷ rest) y in
+    let found : behind 44 (x ++ y) ≡ Some (rest ++ y) =
+    ap (behind 44) joined ∙ behind_at 44 (before 44 x) (rest ++ y) cut.lacks in
+    let front : before 44 (x ++ y) ≡ before 44 x =
+    ap (before 44) joined ∙ before_at 44 (before 44 x) (rest ++ y) cut.lacks in
+    ap (option_map (λ r. before 44 (x ++ y))) found ∙ ap Some front
+
+-- the header of a text whose first comma, if there is one, comes after its '?'
+comma_after : (u query : List ℕ) → behind 44 u ≡ None → (o : Option (List ℕ)) → behind 44 query ≡ o
+    → before_comma (u ++ 63 ∷ query) ≡ option_map (λ r. u ++ 63 ∷ before 44 query) o
+comma_after u query h o e =
+    let found : behind 44 (u ++ 63 ∷ query) ≡ o = behind-append 44 u (63 ∷ query) h ∙ behind_other 44 63 query refl
+    ∙ e in
+    let front : before 44 (u ++ 63 ∷ query) ≡ u ++ 63 ∷ before 44 query =
+    before-append 44 u (63 ∷ query) h ∙ ap (λ t. u ++ t) (before_other 44 63 query refl) in
+    ap (option_map (λ r. before 44 (u ++ 63 ∷ query))) found ∙ ap (λ t. option_map (λ r. t) o) front
+
+flag_after : (u v query : List ℕ) → behind 44 u ≡ None → behind 44 v ≡ None → (o : Option (List ℕ))
+    → behind 44 query ≡ o
+    → base64_flag (u ++ 63 ∷ query) ≡ base64_flag (v ++ 63 ∷ query)
+flag_after u v query h k None e =
+    ap (option_map has_base64_suffix) (comma_after u query h None e ∙ sym (comma_after v query k None e))
+flag_after u v query h k (Some rest) e =
+    ap (option_map has_base64_suffix) (comma_after u query h (Some rest) e)
+    ∙ ap Some (same_flag u v (before 44 query))
+    ∙ sym (ap (option_map has_base64_suffix) (comma_after v query k (Some rest) e))
+
+no_comma_in_escape : behind 44 (codes "%20") ≡ None
+unfolding behind
+no_comma_in_escape = refl
+
+no_comma_in_space : behind 44 (codes " ") ≡ None
+unfolding behind
+no_comma_in_space = refl
+
+-- the flag of a path that ends with "%20" or with a space, before its query
+flag_of_query : (x query : List ℕ) (o : Option (List ℕ)) → behind 44 x ≡ o
+    → base64_flag ((x ++ codes "%20") ++ 63 ∷ query) ≡ base64_flag ((x ++ codes " ") ++ 63 ∷ query)
+flag_of_query x query None e =
+    flag_after (x ++ codes "%20") (x ++ codes " ") query
+    (behind-append 44 x (codes "%20") e ∙ no_comma_in_escape) (behind-append 44 x (codes " ") e ∙ no_comma_in_space)
+    (behind 44 query) refl
+flag_of_query x query (Some rest) e =
+    let one = append_assoc x (codes "%20") (63 ∷ query) in
+    let two = append_assoc x (codes " ") (63 ∷ query) in
+    ap (option_map has_base64_suffix)
+    (ap before_comma one ∙ comma_before x (codes "%20" ++ 63 ∷ query) rest e
+    ∙ sym (ap before_comma two ∙ comma_before x (codes " " ++ 63 ∷ query) rest e))
+
+-- the flag of such a path without a query
+flag_of_path : (x : List ℕ) (o : Option (List ℕ)) → behind 44 x ≡ o
+    → base64_flag (x ++ codes "%20") ≡ base64_flag (x ++ codes " ")
+flag_of_path x None e =
+    let one : behind 44 (x ++ codes "%20") ≡ None = behind-append 44 x (codes "%20") e ∙ no_comma_in_escape in
+    let two : behind 44 (x ++ codes " ") ≡ None = behind-append 44 x (codes " ") e ∙ no_comma_in_space in
+    ap (option_map has_base64_suffix)
+    (ap (option_map (λ r. before 44 (x ++ codes "%20"))) one
+    ∙ sym (ap (option_map (λ r. before 44 (x ++ codes " "))) two))
+flag_of_path x (Some rest) e =
+    ap (option_map has_base64_suffix) (comma_before x (codes "%20") rest e ∙ sym (comma_before x (codes " ") rest e))
+
+flag_by : (path : List ℕ) (o : Option (List ℕ)) → Differs path
+    → base64_flag (with_query path o) ≡ base64_flag (with_query_and_spaces path o)
+flag_by path None (same_path e) = ap base64_flag e
+flag_by path (Some query) (same_path e) = ap (λ t. base64_flag (t ++ 63 ∷ percent_encoding in_query_set query)) e
+flag_by path None (last_space x e f) = ap base64_flag e ∙ flag_of_path x (behind 44 x) refl ∙ sym (ap base64_flag f)
+flag_by path (Some query) (last_space x e f) =
+    let q = percent_encoding in_query_set query in
+    ap (λ t. base64_flag (t ++ 63 ∷ q)) e ∙ flag_of_query x q (behind 44 x) refl
+    ∙ sym (ap (λ t. base64_flag (t ++ 63 ∷ q)) f)
+
+-- the flag is the same by both rules
+pub flag_of_spaces : (s : List ℕ) → base64_flag (serialised s) ≡ base64_flag (serialised_with_spaces s)
+unfolding serialised
+flag_of_spaces s = flag_by (before 63 s) (behind 63 s) (differs_by (before 63 s) (has_last (before 63 s)))

@@ -1,0 +1,681 @@
+-- The stages of the Standard, from a text as it was given to its record. For `DataUrl::process`.
+use Rattle.std.proofs.Common.{◌≡◌, ℕ, zero, suc, ◌+◌, ◌-◌, ◌/◌, ◌%◌, ◌<◌, ◌≤◌, Bool, false, cond, List, [], ◌∷◌, ◌++◌}
+use Rattle.std.proofs.Common.{length, get_or, take, drop, reverse, Option, None, Some, refl, sym, ap, ◌∙◌, inl, inr}
+use Rattle.std.proofs.Common.{subst, ⊎_elim, arith, eqb-true, true, map, codes, ◌≢◌, is_some, IsTrue, Result}
+use Rattle.std.specs.Prelude.{◌==◌, ◌||◌, nat_lt, option_and_then, unwrap_or}
+use Rattle.std.specs.List.{prefix_len, suffix_len}
+use Rattle.std.specs.Str.{IsAscii, bytes_eq, chars}
+use Rattle.std.proofs.lemmas.Bool.{cases_Bool, cases_lt, cond_both, eqb-false, le-leb, lt-leb, ltb-false, or_parts}
+use Rattle.std.proofs.lemmas.Bool.{cond-true, cond-false, both_ways, ne_eqb, eq-eqb}
+use Rattle.std.proofs.lemmas.List.{get_or-drop, get_or-reverse, get_or-take, get_or_past, length-drop, length-reverse}
+use Rattle.std.proofs.lemmas.List.{length-take, drop_at, length-map, take_at, drop_all, drop_more}
+use Rattle.data_url.specs.Url.{before, behind, encoded_byte, hex_digit, in_path_set, in_query_set}
+use Rattle.data_url.specs.Url.{is_c0_control_or_space, percent_encoding, trimmed_text, without_end, after_scheme}
+use Rattle.data_url.specs.Url.{cleaned_text, without_tabs_and_newlines, fragment, front, is_tab_or_newline, serialised}
+use Rattle.data_url.specs.Url.{in_fragment_set}
+use Rattle.data_url.specs.Fetch.{is_space, stripped_header, before_comma, encoded_body, header_of, staged_front}
+use Rattle.data_url.specs.Fetch.{tail_of, before_base64, before_last, before_semicolon, before_word, has_base64_suffix}
+use Rattle.data_url.specs.Fetch.{last_bytes, media_of, mime_text, with_plain, Accepted, Good, NoComma, NoScheme}
+use Rattle.data_url.specs.Fetch.{Outcome, outcome, plain_body, staged, staged_after, staged_parts}
+use Rattle.data_url.specs.Steps.Header.{IsPrintable, header_text, IsHeaderOf, IsRecordFor}
+use Rattle.data_url.proofs.percent.Encoding.{IsBytes, encoded_cons, encoded_nil, header_byte_set, header_nil}
+use Rattle.data_url.proofs.percent.Encoding.{header_path, header_query, path_byte_set, Recoded, RecodedTails}
+use Rattle.data_url.proofs.percent.Encoding.{before-serialised, recoded-decoded, recoded_tails, serialised_recoded}
+use Rattle.std.specs.Option.{option_map}
+use Rattle.std.specs.Char.{to_ascii_lowercase}
+use Rattle.std.proofs.lemmas.Slice.Eq.{bytes_eq-Decides}
+use Rattle.data_url.specs.Percent.{percent_decoding}
+use Rattle.data_url.specs.Steps.Front.{HasNoScheme, IsHeaderAndTail, IsSchemeAndRest}
+use Rattle.data_url.proofs.texts.Bytes.{before-append, before_nil, before_other, before_same, behind-append}
+use Rattle.data_url.proofs.texts.Bytes.{behind-dropped_none, behind_at, behind_nil, behind_other}
+use Rattle.data_url.proofs.texts.Bytes.{without_tabs_and_newlines-append, dropped_around, dropped_keeps, dropped_nil}
+use Rattle.data_url.proofs.texts.Bytes.{dropped_passes, lacks}
+use Rattle.std.proofs.lemmas.Str.{chars-IsAscii}
+use Rattle.data_url.specs.Mime.{HasNoRecord, IsWellformed, Parses, Record, default_record, BeginsParameters, DoesNotEnd}
+use Rattle.data_url.specs.Mime.{IsHead, IsRecordOfParts, IsTrimmedEnd, is_token_text}
+use Rattle.data_url.proofs.examples.Literals.{on_literals}
+use Rattle.data_url.specs.CodePoints.{is_http_whitespace}
+use Rattle.data_url.proofs.mime.FirstNames.{parses_parts, parses_wellformed}
+use Rattle.data_url.specs.Steps.Tail.{BeginsFragment, IsBodyEnd, rest_fragment}
+use Rattle.data_url.specs.DataUrl.{Decodes, IsAcceptable, IsUrlOf, is_base64, mime_of, url_tail}
+use Rattle.data_url.specs.MimeType.{record_of}
+use Rattle.data_url.specs.declared.DataUrl.{DataUrl}
+use Rattle.data_url.specs.declared.forgiving_base64.DecodeError.{DecodeError}
+
+-- Serialised headers hold printable bytes alone, so that trimming them is stripping their spaces.
+
+-- Serialised texts
+
+abbrev printable : List ℕ → Type 0
+printable [] = Unit {0}
+printable (b ∷ s) = (32 ≤ b) × (b < 127) × printable s
+
+printable_append : (a s : List ℕ) → printable a → printable s → printable (a ++ s)
+printable_append [] s h k = k
+printable_append (b ∷ a) s h k = (h.0, h.1, printable_append a s h.2 k)
+
+hex_printable : (d : ℕ) → d < 16 → (32 ≤ hex_digit d) × (hex_digit d < 127)
+hex_printable d l = cond_both (nat_lt d 10) (48 + d) (55 + d) (λ v. (32 ≤ v) × (v < 127))
+    (λ e. (omega arith, omega arith)) (λ e. (omega arith, omega arith))
+
+outside_path : (b : ℕ) → in_path_set b ≡ false → (32 ≤ b) × (b < 127)
+outside_path b h = let p = or_parts (nat_lt b 32) (nat_lt 126 b) h in (ltb-low b p.0, ltb-high b p.1) where
+  ltb-low : (b : ℕ) → nat_lt b 32 ≡ false → 32 ≤ b
+  ltb-low b e = ltb-false b 32 e
+
+  ltb-high : (b : ℕ) → nat_lt 126 b ≡ false → b < 127
+  ltb-high b e = let k = ltb-false 126 b e in omega arith
+
+outside_query : (b : ℕ) → in_query_set b ≡ false → (32 ≤ b) × (b < 127)
+outside_query b h = outside_path b
+    (or_parts (in_path_set b) ((b == 32) || ((b == 34) || ((b == 35) || ((b == 60) || (b == 62))))) h).0
+
+byte_printable : (p : ℕ → Bool) → ((b : ℕ) → p b ≡ false → (32 ≤ b) × (b < 127)) → (b : ℕ) → b < 256
+    → printable (encoded_byte p b)
+byte_printable p outside b l = cond_both (p b) (37 ∷ hex_digit (b / 16) ∷ hex_digit (b % 16) ∷ []) (b ∷ []) printable
+    (λ e. let h = hex_printable (b / 16) (omega arith) in let k = hex_printable (b % 16) (omega arith) in
+    (omega arith, omega arith, (h.0, h.1, (k.0, k.1, tt))))
+    (λ e. let h = outside b e in (h.0, h.1, tt))
+
+encoded_printable : (p : ℕ → Bool) → ((b : ℕ) → p b ≡ false → (32 ≤ b) × (b < 127)) → (s : List ℕ) → IsBytes s
+    → printable (percent_encoding p s)
+encoded_printable p outside [] h = subst printable (sym (encoded_nil p)) tt
+encoded_printable p outside (b ∷ s) h =
+    subst printable (sym (encoded_cons p b s)) (printable_append (encoded_byte p b) (percent_encoding p s)
+    (byte_printable p outside b h.0) (encoded_printable p outside s h.1))
+
+outside_path_byte : (path : List ℕ) (b : ℕ) → path_byte_set path b ≡ false → (32 ≤ b) × (b < 127)
+outside_path_byte [] b h = outside_path b (or_parts (in_path_set b) (b == 32) h).0
+outside_path_byte (c ∷ s) b h = outside_path b h
+
+outside_header_byte : (path : List ℕ) (query : Option (List ℕ)) (b : ℕ) → header_byte_set path query b ≡ false
+    → (32 ≤ b) × (b < 127)
+outside_header_byte path None b h = outside_path b h
+outside_header_byte path (Some query) b h = outside_path_byte path b h
+
+header_all : (s : List ℕ) → IsBytes s → printable (header_text s)
+header_all [] h = subst printable (sym header_nil) tt
+header_all (b ∷ s) h = elim (cases_Bool (b == 63)) [
+  | inl e ↦ let f : b ≡ 63 = eqb-true b 63 e in subst (λ v. printable (header_text (v ∷ s))) (sym f)
+      (subst printable (sym (header_query s)) (
+        omega arith,
+        omega arith,
+        encoded_printable in_query_set outside_query s
+            h.1,
+      ))
+  | inr e ↦
+      let set = header_byte_set (before 63 s) (behind 63 s) in
+      subst printable (sym (header_path b s e)) (printable_append (encoded_byte set b) (header_text s)
+      (byte_printable set (outside_header_byte (before 63 s) (behind 63 s)) b h.0) (header_all s h.1))
+]
+
+printable_at : (s : List ℕ) → printable s → IsPrintable s
+printable_at [] h i l = absurd (omega arith)
+printable_at (b ∷ s) h zero l = (h.0, h.1)
+printable_at (b ∷ s) h (suc i) l = printable_at s h.2 i (omega arith)
+
+pub header_text_printable : (s : List ℕ) → IsBytes s → IsPrintable (header_text s)
+header_text_printable s h = printable_at (header_text s) (header_all s h)
+
+-- Parts of printable texts
+
+pub printable_drop : (n : ℕ) (s : List ℕ) → IsPrintable s → IsPrintable (drop n s)
+printable_drop n s h i l =
+    let at : get_or (drop n s) i 0 ≡ get_or s (n + i) 0 = get_or-drop n s i 0 in
+    let within : n + i < length s = omega (arith, length-drop n s) in
+    subst (λ v. (32 ≤ v) × (v < 127)) (sym at) (h (n + i) within)
+
+pub printable_take : (n : ℕ) (s : List ℕ) → IsPrintable s → IsPrintable (take n s)
+printable_take n s h i l =
+    let below : i < n = omega (arith, length-take n s) in
+    let within : i < length s = omega (arith, length-take n s) in
+    subst (λ v. (32 ≤ v) × (v < 127)) (sym (get_or-take n s i 0 below)) (h i within)
+
+printable_reverse : (s : List ℕ) → IsPrintable s → IsPrintable (reverse s)
+printable_reverse s h i l =
+    let within : i < length s = omega (arith, length-reverse s) in
+    subst (λ v. (32 ≤ v) × (v < 127)) (sym (get_or-reverse s i 0 within)) (h (length s - 1 - i) (omega arith))
+
+pub printable_ascii : (s : List ℕ) → IsPrintable s → IsAscii s
+printable_ascii s h i = ⊎_elim (λ (l : i < length s). let k = h i l in omega arith)
+    (λ (l : length s ≤ i). subst (λ v. v < 128) (sym (get_or_past s i 0 l)) (omega arith)) (cases_lt i (length s))
+
+-- Spaces are the only low bytes
+
+low_is_space : (b : ℕ) → 32 ≤ b → is_c0_control_or_space b ≡ is_space b
+low_is_space b h = elim (cases_Bool (b == 32)) [
+  | inl e ↦ le-leb b 32 (let f : b ≡ 32 = eqb-true b 32 e in omega arith) ∙ sym e
+  | inr e ↦ lt-leb b 32 (let n = eqb-false b 32 e in omega arith) ∙ sym e
+]
+
+low_front : (s : List ℕ) → IsPrintable s → prefix_len is_c0_control_or_space s ≡ prefix_len is_space s
+low_front [] h = refl
+low_front (b ∷ s) h =
+    ap (λ v. cond v (1 + prefix_len is_c0_control_or_space s) 0) (low_is_space b (h 0 (omega arith)).0)
+    ∙ ap (λ n. cond (is_space b) (1 + n) 0) (low_front s (λ i l. h (suc i) (omega arith)))
+
+pub low_end : (s : List ℕ) → IsPrintable s → suffix_len is_c0_control_or_space s ≡ suffix_len is_space s
+low_end s h = low_front (reverse s) (printable_reverse s h)
+
+pub trimmed_is_stripped : (s : List ℕ) → IsPrintable s → trimmed_text s ≡ stripped_header s
+unfolding trimmed_text stripped_header
+trimmed_is_stripped s h =
+    ap (without_end is_c0_control_or_space) (ap (λ n. drop n s) (low_front s h))
+    ∙ ap (λ n. take (length (drop (prefix_len is_space s) s) - n) (drop (prefix_len is_space s) s))
+    (low_end (drop (prefix_len is_space s) s) (printable_drop (prefix_len is_space s) s h))
+
+pub printable_stripped : (s : List ℕ) → IsPrintable s → IsPrintable (stripped_header s)
+unfolding stripped_header
+printable_stripped s h =
+    let front = drop (prefix_len is_space s) s in
+    printable_take (length front - suffix_len is_space front) front (printable_drop (prefix_len is_space s) s h)
+
+-- From the text as it was given, cut behind its scheme and at its first comma, to the stages of the Standard.
+
+-- Bytes
+
+pub bytes_append : (a b : List ℕ) → IsBytes (a ++ b) → IsBytes a × IsBytes b
+bytes_append [] b h = (tt, h)
+bytes_append (x ∷ a) b h = let k = bytes_append a b h.1 in ((h.0, k.0), k.1)
+
+pub bytes_dropped : (s : List ℕ) → IsBytes s → IsBytes (without_tabs_and_newlines s)
+bytes_dropped [] h = subst IsBytes (sym dropped_nil) tt
+bytes_dropped (b ∷ s) h = elim (cases_Bool (is_tab_or_newline b)) [
+  | inl e ↦ subst IsBytes (sym (dropped_passes b s e)) (bytes_dropped s h.1)
+  | inr e ↦ subst IsBytes (sym (dropped_keeps b s e)) (h.0, bytes_dropped s h.1)
+]
+
+pub bytes_before : (c : ℕ) (s : List ℕ) → IsBytes s → IsBytes (before c s)
+unfolding before
+bytes_before c [] h = tt
+bytes_before c (b ∷ s) h = elim (b == c) as (λ v. IsBytes (cond v [] (b ∷ before c s))) [
+  | true ↦ tt
+  | false ↦
+      (h.0, bytes_before c s h.1)
+]
+
+-- The scheme holds no comma
+
+lowercase_comma : (b : ℕ) → (to_ascii_lowercase b == 44) ≡ false → (b == 44) ≡ false
+lowercase_comma b h =
+    ne_eqb b 44 (λ (e : b ≡ 44). both_ways (to_ascii_lowercase b == 44) h (ap (λ v. to_ascii_lowercase v == 44) e))
+
+pub lacks_comma : (d : List ℕ) → behind 44 (map to_ascii_lowercase d) ≡ None → behind 44 d ≡ None
+lacks_comma [] h = h
+lacks_comma (b ∷ d) h = let l = lacks 44 (to_ascii_lowercase b) (map to_ascii_lowercase d) h in
+    behind_other 44 b d (lowercase_comma b l.here) ∙ lacks_comma d l.behind_it
+
+lacks_before_dropping : (c : ℕ) → is_tab_or_newline c ≡ false → (s : List ℕ)
+    → behind c (without_tabs_and_newlines s) ≡ None → behind c s ≡ None
+lacks_before_dropping c k [] h = behind_nil c
+lacks_before_dropping c k (b ∷ s) h = elim (cases_Bool (is_tab_or_newline b)) [
+  | inl e ↦
+      let other : (b == c) ≡ false =
+      ne_eqb b c (λ (f : b ≡ c). both_ways (is_tab_or_newline b) (ap is_tab_or_newline f ∙ k) e) in
+      behind_other c b s other ∙ lacks_before_dropping c k s (sym (ap (behind c) (dropped_passes b s e)) ∙ h)
+  | inr e ↦
+      let l = lacks c b (without_tabs_and_newlines s) (sym (ap (behind c) (dropped_keeps b s e)) ∙ h) in
+      behind_other c b s l.here ∙ lacks_before_dropping c k s l.behind_it
+]
+
+abbrev scheme_lacks : behind 44 (codes "data:") ≡ None
+unfolding behind
+scheme_lacks = refl
+
+pub scheme_has_no_comma : (scheme : List ℕ) → map to_ascii_lowercase (without_tabs_and_newlines scheme) ≡ codes "data:"
+    → behind 44 scheme ≡ None
+scheme_has_no_comma scheme e =
+    lacks_before_dropping 44 refl scheme (lacks_comma (without_tabs_and_newlines scheme) (ap (behind 44) e
+    ∙ scheme_lacks))
+
+-- Behind the scheme
+
+scheme_length : (scheme : List ℕ) → map to_ascii_lowercase (without_tabs_and_newlines scheme) ≡ codes "data:"
+    → length (without_tabs_and_newlines scheme) ≡ 5
+scheme_length scheme e = sym (length-map (without_tabs_and_newlines scheme) to_ascii_lowercase) ∙ ap length e
+
+pub after_is : (t rest : List ℕ) (h : IsSchemeAndRest (trimmed_text t) rest)
+    → after_scheme t ≡ Some (without_tabs_and_newlines rest)
+unfolding after_scheme cleaned_text
+after_is t rest h =
+    let parts : without_tabs_and_newlines (trimmed_text t) ≡ without_tabs_and_newlines
+    h.scheme ++ without_tabs_and_newlines rest = ap without_tabs_and_newlines h.joined
+    ∙ without_tabs_and_newlines-append h.scheme rest in
+    let five = scheme_length h.scheme h.spelled in
+    let first : map to_ascii_lowercase (take 5 (without_tabs_and_newlines (trimmed_text t))) ≡ codes "data:" =
+    ap (λ s. map to_ascii_lowercase (take 5 s)) parts
+    ∙ ap (map to_ascii_lowercase) (take_at (without_tabs_and_newlines h.scheme) (without_tabs_and_newlines rest) 5
+    five) ∙ h.spelled in
+    let others : drop 5 (without_tabs_and_newlines (trimmed_text t)) ≡ without_tabs_and_newlines rest =
+    ap (drop 5) parts ∙ drop_at (without_tabs_and_newlines h.scheme) (without_tabs_and_newlines rest) 5 five in
+    cond-true (bytes_eq (map to_ascii_lowercase (take 5 (without_tabs_and_newlines (trimmed_text t)))) (codes "data:"))
+    (Some (drop 5 (without_tabs_and_newlines (trimmed_text t)))) None
+    ((bytes_eq-Decides (map to_ascii_lowercase (take 5 (without_tabs_and_newlines (trimmed_text t))))
+    (codes "data:")).1 first)
+    ∙ ap (λ (s : List ℕ). Some s) others
+
+pub after_none : (t : List ℕ) → HasNoScheme (trimmed_text t) → after_scheme t ≡ None
+unfolding after_scheme cleaned_text
+after_none t h = cond-false (bytes_eq (map to_ascii_lowercase (take 5 (without_tabs_and_newlines (trimmed_text t))))
+    (codes "data:")) (Some (drop 5 (without_tabs_and_newlines (trimmed_text t)))) None h
+
+-- Header, body and fragment
+
+-- what stands behind a scheme, cut at its first comma
+pub record IsStaged (rest header tail : List ℕ) : Type 0 where
+  pub front_is : front (without_tabs_and_newlines rest) ≡ without_tabs_and_newlines header ++ 44 ∷ front
+      (without_tabs_and_newlines tail)
+  pub lacks_comma : behind 44 (without_tabs_and_newlines header) ≡ None
+  pub fragment_is : fragment (without_tabs_and_newlines rest) ≡ fragment (without_tabs_and_newlines tail)
+
+pub is_staged : (rest header tail : List ℕ) → IsHeaderAndTail rest header tail → IsStaged rest header tail
+unfolding front fragment
+is_staged rest header tail h =
+    let parts : without_tabs_and_newlines rest ≡ without_tabs_and_newlines header ++ 44 ∷ without_tabs_and_newlines
+    tail = ap without_tabs_and_newlines h.joined ∙ dropped_around 44 refl header tail in
+    let no_hash = behind-dropped_none 35 refl header h.no_fragment in
+    record {
+      front_is = ap (before 35) parts ∙ before-append 35 (without_tabs_and_newlines header)
+          (44 ∷ without_tabs_and_newlines tail) no_hash ∙ ap (λ s. without_tabs_and_newlines header ++ s)
+          (before_other 35 44 (without_tabs_and_newlines tail) refl);
+      lacks_comma = behind-dropped_none 44 refl header h.no_comma;
+      fragment_is = ap (behind 35) parts ∙ behind-append 35 (without_tabs_and_newlines header)
+          (44 ∷ without_tabs_and_newlines tail) no_hash ∙ behind_other 35 44 (without_tabs_and_newlines tail) refl;
+    }
+
+pub front_of : (t a : List ℕ) → after_scheme t ≡ Some a → staged_front t ≡ Some (serialised (front a))
+unfolding staged_front
+front_of t a h = ap (option_map (λ a. serialised (front a))) h
+
+-- the tail that a recoded one stands for
+pub record HasTail (s t : List ℕ) : Type 0 where
+  pub rest : List ℕ
+  pub is : behind 44 s ≡ Some rest
+  pub recoded : Recoded t rest
+
+has_tail_of : (o : Option (List ℕ)) (s t : List ℕ) → behind 44 s ≡ o → RecodedTails (Some t) o → HasTail s t
+has_tail_of None s t e h = absurd h
+has_tail_of (Some rest) s t e h = record { rest = rest; is = e; recoded = h }
+
+has_tail : (s header t : List ℕ) → IsBytes s → s ≡ header ++ 44 ∷ t → behind 44 header ≡ None → HasTail (serialised s) t
+has_tail s header t b e h = has_tail_of (behind 44 (serialised s)) (serialised s) t refl
+    (subst (λ o. RecodedTails o (behind 44 (serialised s))) (ap (behind 44) e ∙ behind_at 44 header t h)
+    (recoded_tails (serialised_recoded s b)))
+
+-- the stages of a text that is accepted, by its raw header and tail
+pub record IsAccepted (t header tail : List ℕ) : Type 0 where
+  pub body : List ℕ
+  pub header_is : header_of t ≡ Some (header_text (without_tabs_and_newlines header))
+  pub body_is : encoded_body t ≡ Some body
+  pub decoded_is : percent_decoding body ≡ percent_decoding (front (without_tabs_and_newlines tail))
+  pub tail_is : tail_of t ≡ Some tail
+
+tail_is_of : (t rest header tail : List ℕ) → IsSchemeAndRest (trimmed_text t) rest → IsHeaderAndTail rest header tail
+    → tail_of t ≡ Some tail
+unfolding tail_of
+tail_is_of t rest header tail s h =
+    ap (behind 44) (s.joined ∙ ap (λ r. s.scheme ++ r) h.joined)
+    ∙ behind-append 44 s.scheme (header ++ 44 ∷ tail) (scheme_has_no_comma s.scheme s.spelled)
+    ∙ behind_at 44 header tail h.no_comma
+
+pub is_accepted : (t rest header tail : List ℕ) → IsBytes rest → IsSchemeAndRest (trimmed_text t) rest
+    → IsHeaderAndTail rest header tail → IsAccepted t header tail
+unfolding header_of encoded_body front
+is_accepted t rest header tail b s h =
+    let staged = is_staged rest header tail h in
+    let f = front_of t (without_tabs_and_newlines rest) (after_is t rest s) in
+    let bytes = bytes_before 35 (without_tabs_and_newlines rest) (bytes_dropped rest b) in
+    let k = has_tail (front (without_tabs_and_newlines rest)) (without_tabs_and_newlines header)
+    (front (without_tabs_and_newlines tail)) bytes staged.front_is staged.lacks_comma in
+    record {
+      body = k.rest;
+      header_is = ap (option_and_then before_comma) f
+          ∙ ap (option_map (λ r. before 44 (serialised (front (without_tabs_and_newlines rest))))) k.is
+          ∙ ap (λ (x : List ℕ). Some x) (ap (λ x. before 44 (serialised x)) staged.front_is
+          ∙ before-serialised (without_tabs_and_newlines header) (front (without_tabs_and_newlines tail))
+          staged.lacks_comma);
+      body_is = ap (option_and_then (behind 44)) f ∙ k.is;
+      decoded_is = recoded-decoded k.recoded;
+      tail_is = tail_is_of t rest header tail s h;
+    }
+
+-- No comma
+
+no_tail_of : (s x : List ℕ) → behind 44 s ≡ None → RecodedTails (behind 44 s) (behind 44 x) → behind 44 x ≡ None
+no_tail_of s x e h = no_tail_at (behind 44 s) (behind 44 x) e h where
+  no_tail_at : (o p : Option (List ℕ)) → o ≡ None → RecodedTails o p → p ≡ None
+  no_tail_at None None e h = refl
+  no_tail_at None (Some y) e h = absurd h
+  no_tail_at (Some t) p e h = cc
+
+-- cutting at a byte that is kept, and dropping, come to one
+before-without_tabs_and_newlines : (c : ℕ) → is_tab_or_newline c ≡ false → (s : List ℕ)
+    → before c (without_tabs_and_newlines s) ≡ without_tabs_and_newlines (before c s)
+before-without_tabs_and_newlines c k [] = ap (before c) dropped_nil ∙ before_nil c
+    ∙ sym (ap without_tabs_and_newlines (before_nil c) ∙ dropped_nil)
+before-without_tabs_and_newlines c k (b ∷ s) = elim (cases_Bool (b == c)) [
+  | inl e ↦ let f : b ≡ c = eqb-true b c e in
+      subst (λ v. before c (without_tabs_and_newlines (v ∷ s)) ≡ without_tabs_and_newlines (before c (v ∷ s))) (sym f)
+      (ap (before c) (dropped_keeps c s k) ∙ before_same c (without_tabs_and_newlines s)
+      ∙ sym (ap without_tabs_and_newlines (before_same c s) ∙ dropped_nil))
+  | inr e ↦ elim (cases_Bool (is_tab_or_newline b)) [
+    | inl d ↦ ap (before c) (dropped_passes b s d) ∙ before-without_tabs_and_newlines c k s
+        ∙ sym (ap without_tabs_and_newlines (before_other c b s e) ∙ dropped_passes b (before c s) d)
+    | inr d ↦ ap (before c) (dropped_keeps b s d) ∙ before_other c b (without_tabs_and_newlines s) e
+        ∙ ap (λ t. b ∷ t) (before-without_tabs_and_newlines c k s)
+        ∙ sym (ap without_tabs_and_newlines (before_other c b s e) ∙ dropped_keeps b (before c s) d)
+  ]
+]
+
+front_lacks : (rest : List ℕ) → behind 44 (front rest) ≡ None → behind 44 (front (without_tabs_and_newlines rest))
+    ≡ None
+unfolding front
+front_lacks rest h = ap (behind 44) (before-without_tabs_and_newlines 35 refl rest)
+    ∙ behind-dropped_none 44 refl (before 35 rest) h
+
+-- a text with the scheme whose front has no comma has no header
+pub no_header : (t rest : List ℕ) → IsBytes rest → IsSchemeAndRest (trimmed_text t) rest → behind 44 (front rest) ≡ None
+    → header_of t ≡ None
+unfolding header_of front
+no_header t rest b s h =
+    let raw : behind 44 (front (without_tabs_and_newlines rest)) ≡ None = front_lacks rest h in
+    let bytes = bytes_before 35 (without_tabs_and_newlines rest) (bytes_dropped rest b) in
+    ap (option_and_then before_comma) (front_of t (without_tabs_and_newlines rest) (after_is t rest s))
+    ∙ ap (option_map (λ r. before 44 (serialised (front (without_tabs_and_newlines rest)))))
+    (no_tail_of (front (without_tabs_and_newlines rest)) (serialised (front (without_tabs_and_newlines rest))) raw
+    (recoded_tails (serialised_recoded (front (without_tabs_and_newlines rest)) bytes)))
+
+-- The record of a header.
+
+-- a list of bytes by its places
+pub bytes_by_place : (s : List ℕ) → ((i : ℕ) → get_or s i 0 < 256) → IsBytes s
+bytes_by_place [] h = tt
+bytes_by_place (b ∷ s) h = (h 0, bytes_by_place s (λ i. h (suc i)))
+
+pub header_printable : (s : List ℕ) → ((i : ℕ) → get_or s i 0 < 256)
+    → IsPrintable (header_text (without_tabs_and_newlines s))
+header_printable s h = header_text_printable (without_tabs_and_newlines s) (bytes_dropped s (bytes_by_place s h))
+
+-- The default record
+
+pub default_wellformed : IsWellformed default_record
+unfolding on_literals
+default_wellformed = record { type_ = refl; subtype = refl; names = refl; distinct = refl; values = refl }
+
+pub default_for : (s : List ℕ) (m : Record) → HasNoRecord s → m ≡ default_record → IsRecordFor s m
+default_for s m n e = record { is_record = inr (n, e); wellformed = subst IsWellformed (sym e) default_wellformed }
+
+pub parsed_for : (s : List ℕ) (m : Record) → Parses s m → IsWellformed m → IsRecordFor s m
+parsed_for s m p w = record { is_record = inl p; wellformed = w }
+
+pub default_is : (type_ subtype charset value : List ℕ) → type_ ≡ codes "text" → subtype ≡ codes "plain"
+    → charset ≡ codes "charset" → value ≡ codes "US-ASCII"
+    → ◌≡◌ {A = Record} (record {
+      type_ = chars type_;
+      subtype = chars subtype;
+      parameters =
+          (chars charset, chars value) ∷ [];
+    }) default_record
+unfolding chars
+default_is type_ subtype charset value a b c d = λ i. record {
+  type_ = chars (a i);
+  subtype = chars (b i);
+  parameters =
+      (chars (c i), chars (d i)) ∷ [];
+}
+
+-- A type that is left out
+
+pub plain_stays : (media : List ℕ) → get_or media 0 0 ≢ 59 → with_plain media ≡ media
+plain_stays [] n = refl
+plain_stays (c ∷ s) n = cond-false (c == 59) (codes "text/plain" ++ c ∷ s) (c ∷ s) (ne_eqb c 59 n)
+
+pub plain_added : (media : List ℕ) → get_or media 0 0 ≡ 59 → with_plain media ≡ codes "text/plain" ++ media
+plain_added [] h = absurd (omega (arith, h))
+plain_added (c ∷ s) h = cond-true (c == 59) (codes "text/plain" ++ c ∷ s) (c ∷ s) (eq-eqb c 59 h)
+
+-- the code points of printable bytes are the bytes
+pub chars_printable : (s : List ℕ) → IsPrintable s → chars s ≡ s
+chars_printable s h = chars-IsAscii s (printable_ascii s h)
+
+-- The suffix
+
+pub with_suffix : (header media : List ℕ) (m : Record) → before_base64 (stripped_header header) ≡ Some media
+    → IsRecordFor (with_plain media) m → IsHeaderOf header m true
+unfolding mime_text media_of has_base64_suffix
+with_suffix header media m e h = record {
+  record_is = subst (λ s. IsRecordFor (with_plain s) m) (sym (ap (λ o. unwrap_or o (stripped_header header)) e)) h;
+  base64_is = sym (ap is_some e);
+}
+
+pub no_suffix : (header : List ℕ) (m : Record) → before_base64 (stripped_header header) ≡ None
+    → IsRecordFor (with_plain (stripped_header header)) m → IsHeaderOf header m false
+unfolding mime_text media_of has_base64_suffix
+no_suffix header m e h = record {
+  record_is = subst (λ s. IsRecordFor (with_plain s) m) (sym (ap (λ o. unwrap_or o (stripped_header header)) e)) h;
+  base64_is = sym (ap is_some e);
+}
+
+-- what stands before the suffix is a beginning of the header
+word_begins : (s m : List ℕ) → before_word s ≡ Some m → IsPrintable s → IsPrintable m
+word_begins s m e h = cut (bytes_eq (map to_ascii_lowercase (last_bytes 6 s)) (codes "base64")) e where
+  cut : (v : Bool) → cond v (Some (before_last 6 s)) None ≡ Some m → IsPrintable m
+  cut true k = let same : before_last 6 s ≡ m = cc in subst IsPrintable same (printable_take (length s - 6) s h)
+  cut false k = absurd (cc)
+
+semicolon_begins : (s m : List ℕ) → before_semicolon s ≡ Some m → IsPrintable s → IsPrintable m
+semicolon_begins s m e h = cut (bytes_eq (last_bytes 1 s) (codes ";")) e where
+  cut : (v : Bool) → cond v (Some (before_last 1 s)) None ≡ Some m → IsPrintable m
+  cut true k = let same : before_last 1 s ≡ m = cc in subst IsPrintable same (printable_take (length s - 1) s h)
+  cut false k = absurd (cc)
+
+printable_end : (s : List ℕ) → IsPrintable s → IsPrintable (without_end is_space s)
+printable_end s h = printable_take (length s - suffix_len is_space s) s h
+
+pub printable_media : (s m : List ℕ) → IsPrintable s → before_base64 s ≡ Some m → IsPrintable m
+unfolding before_base64
+printable_media s m h e = at (before_word s) refl e where
+  at : (o : Option (List ℕ)) → before_word s ≡ o → option_and_then (λ x. before_semicolon (without_end is_space x)) o
+      ≡ Some m → IsPrintable m
+  at None f k = absurd (cc)
+  at (Some x) f k = semicolon_begins (without_end is_space x) m k (printable_end x (word_begins s x f h))
+
+-- The head of a MIME type whose type is left out: that of "text/plain" with the parameters behind it.
+
+-- "text" and "plain" are words
+
+token_text : IsTrue (is_token_text (codes "text"))
+unfolding on_literals
+token_text = refl
+
+token_plain : IsTrue (is_token_text (codes "plain"))
+unfolding on_literals
+token_plain = refl
+
+chars_text : codes "text" ≡ chars (codes "text")
+unfolding chars
+chars_text = refl
+
+chars_subtype : codes "plain" ≡ chars (codes "plain")
+unfolding chars
+chars_subtype = refl
+
+-- The head
+
+front_begins : (t back : List ℕ) → BeginsParameters (t ++ back) → BeginsParameters t
+front_begins [] back h = tt
+front_begins (c ∷ t) back h = h
+
+-- behind a last code point that does not pass
+ends_behind : (p : ℕ → _) (c : ℕ) (t : List ℕ) → p c ≡ false → DoesNotEnd p t → DoesNotEnd p (c ∷ t)
+ends_behind p c [] n h = n
+ends_behind p c (d ∷ t) n h = h
+
+head_of : (s t : List ℕ) → BeginsParameters s → IsTrimmedEnd is_http_whitespace s t
+    → IsHead (codes "text/plain" ++ s) (codes "text") (codes "plain") t
+head_of s t b e = record {
+  text = codes "text/plain" ++ t;
+  gap = [];
+  trimmed = record {
+    front = [];
+    back = e.back;
+    joined = ap (λ x. codes "text/plain" ++ x) e.joined;
+    at_front = tt;
+    at_back = e.at_back;
+    begins = refl;
+    ends = ends_behind is_http_whitespace 110 t refl e.ends;
+  };
+  joined = refl;
+  is_type = token_text;
+  is_subtype = token_plain;
+  in_gap = tt;
+  begins = front_begins t e.back (subst BeginsParameters e.joined b);
+}
+
+pub plain_head_is : (s t : List ℕ) → BeginsParameters s → IsTrimmedEnd is_http_whitespace s t
+    → IsHead (codes "text/plain" ++ s) (chars (codes "text")) (chars (codes "plain")) t
+plain_head_is s t b e =
+    subst (λ a. IsHead (codes "text/plain" ++ s) a (chars (codes "plain")) t) chars_text
+    (subst (λ a. IsHead (codes "text/plain" ++ s) (codes "text") a t) chars_subtype (head_of s t b e))
+
+-- A type that is left out
+
+begins_at : (s : List ℕ) → get_or s 0 0 ≡ 59 → BeginsParameters s
+begins_at [] h = tt
+begins_at (c ∷ s) h = h
+
+pub media_begins : (media : List ℕ) → IsPrintable media → get_or media 0 0 ≡ 59 → BeginsParameters (chars media)
+media_begins media h e = subst BeginsParameters (sym (chars_printable media h)) (begins_at media e)
+
+pub plain_record : (media a b c : List ℕ) (m : Record) → IsPrintable media → get_or media 0 0 ≡ 59
+    → IsHead (codes "text/plain" ++ chars media) a b c → IsRecordOfParts a b c m → IsRecordFor (with_plain media) m
+plain_record media a b c m h e head record_is =
+    let same : codes "text/plain" ++ chars media ≡ with_plain media =
+    ap (λ s. codes "text/plain" ++ s) (chars_printable media h) ∙ sym (plain_added media e) in
+    let parsed : Parses (with_plain media) m =
+    subst (λ s. Parses s m) same (parses_parts (codes "text/plain" ++ chars media) a b c m head record_is) in
+    parsed_for (with_plain media) m parsed (parses_wellformed (with_plain media) m parsed)
+
+-- A text is refused or accepted as the staged Standard says.
+
+pub stages_no_scheme : (t : List ℕ) → HasNoScheme (trimmed_text t) → staged t ≡ NoScheme
+unfolding staged
+stages_no_scheme t h = ap (staged_after t) (after_none t h)
+
+pub rest_bytes : (t rest : List ℕ) → IsBytes (trimmed_text t) → IsSchemeAndRest (trimmed_text t) rest → IsBytes rest
+rest_bytes t rest b s = (bytes_append s.scheme rest (subst IsBytes s.joined b)).1
+
+pub stages_no_comma : (t rest : List ℕ) → IsBytes (trimmed_text t) → IsSchemeAndRest (trimmed_text t) rest
+    → behind 44 (front rest) ≡ None → staged t ≡ NoComma
+unfolding staged
+stages_no_comma t rest b s h =
+    ap (staged_after t) (after_is t rest s)
+    ∙ ap (λ o. staged_parts (fragment (without_tabs_and_newlines rest)) o (encoded_body t))
+    (no_header t rest (rest_bytes t rest b s) s h)
+
+-- the body and the fragment of what is accepted are those of its tail
+pub stages_accepted : (t rest header tail : List ℕ) → IsBytes (trimmed_text t) → IsSchemeAndRest (trimmed_text t) rest
+    → IsHeaderAndTail rest header tail → (flag : Bool)
+    → flag ≡ has_base64_suffix (header_text (without_tabs_and_newlines header))
+    → staged t ≡ Accepted (mime_text (header_text (without_tabs_and_newlines header))) (outcome flag (plain_body tail))
+    (option_map (percent_encoding in_fragment_set) (fragment (without_tabs_and_newlines tail)))
+unfolding staged plain_body
+stages_accepted t rest header tail b s h flag f =
+    let a = is_accepted t rest header tail (rest_bytes t rest b s) s h in
+    let text = header_text (without_tabs_and_newlines header) in
+    ap (staged_after t) (after_is t rest s)
+    ∙ ap (λ o. staged_parts (fragment (without_tabs_and_newlines rest)) o (encoded_body t)) a.header_is
+    ∙ ap (staged_parts (fragment (without_tabs_and_newlines rest)) (Some text)) a.body_is
+    ∙ ap (λ o. Accepted (mime_text text) (outcome (has_base64_suffix text) (percent_decoding a.body))
+    (option_map (percent_encoding in_fragment_set) o)) (is_staged rest header tail h).fragment_is
+    ∙ ap (λ x. Accepted (mime_text text) (outcome (has_base64_suffix text) x)
+    (option_map (percent_encoding in_fragment_set) (fragment (without_tabs_and_newlines tail)))) a.decoded_is
+    ∙ ap (λ v. Accepted (mime_text text) (outcome v (percent_decoding (front (without_tabs_and_newlines tail))))
+    (option_map (percent_encoding in_fragment_set) (fragment (without_tabs_and_newlines tail)))) (sym f)
+
+pub is_acceptable : (t rest header tail : List ℕ) → IsBytes (trimmed_text t) → IsSchemeAndRest (trimmed_text t) rest
+    → IsHeaderAndTail rest header tail → IsAcceptable (staged t)
+is_acceptable t rest header tail b s h =
+    subst IsAcceptable (sym
+    (stages_accepted t rest header tail b s h (has_base64_suffix (header_text (without_tabs_and_newlines header)))
+    refl)) tt
+
+-- the Standard's body, percent-decoded, is the one that the tail holds
+body_of : (t header tail : List ℕ) → IsAccepted t header tail → option_map percent_decoding (encoded_body t) ≡ Some
+    (plain_body tail)
+unfolding plain_body
+body_of t header tail a = ap (option_map percent_decoding) a.body_is ∙ ap (λ (x : List ℕ). Some x) a.decoded_is
+
+-- the Standard's fragment, where there is one, is that of the tail
+fragment_of : (t rest header tail : List ℕ) → IsSchemeAndRest (trimmed_text t) rest → IsHeaderAndTail rest header tail
+    → option_map fragment (after_scheme t) ≡ Some (fragment (without_tabs_and_newlines tail))
+fragment_of t rest header tail s h = ap (option_map fragment) (after_is t rest s)
+    ∙ ap (λ (x : Option (List ℕ)). Some x) (is_staged rest header tail h).fragment_is
+
+pub is_url_of : (t rest header : List ℕ) (u : DataUrl) → IsBytes (trimmed_text t)
+    → IsSchemeAndRest (trimmed_text t) rest → IsHeaderAndTail rest header (url_tail u)
+    → IsHeaderOf (header_text (without_tabs_and_newlines header)) (record_of (mime_of u)) (is_base64 u) → IsUrlOf t u
+is_url_of t rest header u b s h k =
+    let a = is_accepted t rest header (url_tail u) (rest_bytes t rest b s) s h in
+    record {
+      header = header_text (without_tabs_and_newlines header);
+      header_is = a.header_is;
+      record_is = k.record_is.is_record;
+      wellformed = k.record_is.wellformed;
+      base64_is = k.base64_is;
+      tail_is = a.tail_is;
+      body_is = body_of t header (url_tail u) a;
+      fragment_is = fragment_of t rest header (url_tail u) s h;
+      staged_is = stages_accepted t rest header (url_tail u) b s h (is_base64 u) k.base64_is;
+    }
+
+-- Decoding
+
+pub plain_outcome : (flag : Bool) (x : List ℕ) → flag ≡ false → Good x ≡ outcome flag x
+unfolding outcome
+plain_outcome flag x e = sym (ap (λ v. outcome v x) e)
+
+pub one_more_call : {F E A : Type 0} (step : F → List ℕ → Result (Unit {0}) E → F → Type 0) (f g : F) (n : ℕ)
+    (body body' : Outcome) (good : A → Type 0) (r : Result A (DecodeError E)) → body ≡ body'
+    → Decodes step f n body good r g → Decodes step f (n + 1) body' good r g
+one_more_call step f g n body body' good r e d = subst (λ b. Decodes step f (n + 1) b good r g) e
+    (record { run = d.run; ran = d.ran; calls = let c = d.calls in omega arith; gave = d.gave })
+
+-- The fragment
+
+pub no_fragment : (tail : List ℕ) (place : ℕ) → IsBodyEnd tail place → place ≡ length tail → None ≡ behind 35 tail
+no_fragment tail place h e = sym (h.behind_is ∙ ap rest_fragment (drop_all place tail (omega arith)))
+
+-- a '#' stands at the place
+pub record HasHash (tail : List ℕ) (place : ℕ) : Type 0 where
+  pub within : place < length tail
+  pub is : get_or tail place 0 ≡ 35
+  pub fragment_is : behind 35 tail ≡ Some (drop (place + 1) tail)
+
+pub has_hash : (tail : List ℕ) (place : ℕ) → IsBodyEnd tail place → (place ≡ length tail → ⊥) → HasHash tail place
+has_hash tail place h n =
+    let inside = h.within in
+    let within : place < length tail = omega arith in
+    let here : drop place tail ≡ get_or tail place 0 ∷ drop (place + 1) tail = drop_more tail place 0 within in
+    record {
+      within = within;
+      is = subst BeginsFragment here h.begins;
+      fragment_is = h.behind_is ∙ ap rest_fragment here;
+    }
+
+bytes_drop : (n : ℕ) (s : List ℕ) → IsBytes s → IsBytes (drop n s)
+bytes_drop zero s h = h
+bytes_drop (suc n) [] h = tt
+bytes_drop (suc n) (b ∷ s) h = bytes_drop n s h.1
+
+bytes_take : (n : ℕ) (s : List ℕ) → IsBytes s → IsBytes (take n s)
+bytes_take zero s h = tt
+bytes_take (suc n) [] h = tt
+bytes_take (suc n) (b ∷ s) h = (h.0, bytes_take n s h.1)
+
+pub bytes_trimmed : (t : List ℕ) → ((i : ℕ) → get_or t i 0 < 256) → IsBytes (trimmed_text t)
+unfolding trimmed_text
+bytes_trimmed t h =
+    let front = drop (prefix_len is_c0_control_or_space t) t in
+    bytes_take (length front - suffix_len is_c0_control_or_space front) front
+    (bytes_drop (prefix_len is_c0_control_or_space t) t (bytes_by_place t h))

@@ -1,0 +1,543 @@
+-- Which parameters are kept: the first of each name. For `kept.rt`, and that a record is well formed.
+use Rattle.std.proofs.Common.{◌≡◌, ℕ, List, String, ap, length, map, min, sym, take, ◌∙◌, ◌+◌, ◌<◌, ◌||◌, ◌&&◌, ◌⊎◌}
+use Rattle.std.proofs.Common.{Bool, true, false, cond, [], ◌∷◌, ◌++◌, get_or, drop, Option, None, Some, refl, ap₂}
+use Rattle.std.proofs.Common.{subst, append_assoc, append-nil, arith, inl, inr, drop-cons, add-one, ◌≤◌, not}
+use Rattle.std.proofs.Common.{string_bytes}
+use Rattle.std.proofs.lemmas.List.{take-map, take_min, map-append, drop-append-le, length-append, take-append-drop}
+use Rattle.data_url.specs.Mime.{has_name, BeginsParameters, Item, Items, Pair, first_of_each_name, is_lowercase_name}
+use Rattle.data_url.specs.Mime.{is_token_text, kept_pairs, valid_of, valid_pairs, HasNoRecord, IsHead, IsWellformed}
+use Rattle.data_url.specs.Mime.{Parses, Record, has_distinct_names, IsRecordOfParts}
+use Rattle.data_url.specs.MimeType.{pair_of, code_points}
+use Rattle.data_url.specs.Steps.Kept.{first_of, pairs_of, HasLaterNames, IsIndexed}
+use Rattle.data_url.specs.declared.mime.kept.KeptParameters.{KeptParameters}
+use Rattle.data_url.specs.declared.mime.kept.TheConstants.{LOOKED_THROUGH}
+use Rattle.std.proofs.lemmas.Bool.{agree_below_at, and_from, and_left, and_parts, cases_lt, cond-false, cond-true}
+use Rattle.std.proofs.lemmas.Bool.{cond_both, false_from_ne_true, false≢true, or_left, true_from_ne_false, both_ways}
+use Rattle.std.proofs.lemmas.Bool.{not_from_false, or_right}
+use Rattle.std.proofs.lemmas.List.Folds.{list_all-append, list_all-map, list_all_at}
+use Rattle.std.proofs.lemmas.Grind.{flat_map-append}
+use Rattle.std.proofs.lemmas.Slice.Eq.{bytes_eq-Decides}
+use Rattle.std.proofs.lemmas.Str.{chars-IsAscii, chars-nil, IsUtf8-string_bytes}
+use Rattle.std.proofs.lemmas.Str.Ascii.{IsAscii-map, lowercase-lowercase, lowercase_ascii, lowercase_is}
+use Rattle.std.specs.Char.{to_ascii_lowercase}
+use Rattle.std.specs.List.{list_all}
+use Rattle.std.specs.Str.{IsUtf8, bytes_eq, chars}
+use Rattle.data_url.specs.CodePoints.{is_quotable, is_token}
+use Rattle.data_url.specs.Steps.Parsing.{HasLowercaseNames, HasParameterBefore, IsItem, added_pairs, quotable_value}
+use Rattle.data_url.specs.Steps.Parsing.{unless_named, HasNoHead}
+use Rattle.data_url.specs.declared.mime.parse.Parameter.{Parameter}
+use Rattle.data_url.proofs.mime.TokenTexts.{bytes_of_ascii, token_text_ascii, token_text_chars}
+use Rattle.std.proofs.Math.Bool.{or_assoc}
+use Rattle.data_url.proofs.texts.CodePoints.{some_equal}
+use Rattle.std.proofs.lemmas.Map.Text.{btree_set_updates_text}
+use Rattle.std.proofs.Math.ListN.{drop_of_length-le}
+use Rattle.std.specs.BTreeSet.{BTreeSet, UpdatesBy, contains, contains_text}
+use Rattle.std.specs.Cmp.Lexicographic.{slice_cmp}
+use Rattle.std.specs.Ordering.{nat_cmp}
+use Rattle.std.specs.String.{string_cmp}
+use Rattle.data_url.proofs.mime.Items.{some_items}
+
+-- Names looked for among the first pairs that are kept.
+
+-- the pairs that are looked through are the first ones
+pub among_first : (n : List ℕ) (items : List (String _ × String _)) (kept : KeptParameters) (k : ℕ)
+    → k ≡ min LOOKED_THROUGH (length items) → items ≡ kept.pairs.items
+    → has_name n (map (λ p. pair_of p) (take k items)) ≡ has_name n (first_of (pairs_of kept))
+among_first n items kept k e f =
+    ap (λ s. has_name n (map (λ p. pair_of p) s)) (ap (λ i. take i items) e ∙ take_min LOOKED_THROUGH items)
+    ∙ ap (has_name n) (sym (take-map (λ p. pair_of p) LOOKED_THROUGH items))
+    ∙ ap (λ s. has_name n (take LOOKED_THROUGH (map (λ p. pair_of p) s))) f
+
+-- Which pairs are kept.
+
+-- Equality of texts as a test
+
+pub equal_from_test : (a c : List ℕ) → bytes_eq a c ≡ true → a ≡ c
+equal_from_test a c h = (bytes_eq-Decides a c).0 h
+
+pub test_from_equal : (a c : List ℕ) → a ≡ c → bytes_eq a c ≡ true
+test_from_equal a c e = (bytes_eq-Decides a c).1 e
+
+pub test_from_different : (a c : List ℕ) → (a ≡ c → ⊥) → bytes_eq a c ≡ false
+test_from_different a c n = false_from_ne_true (bytes_eq a c) (λ h. n (equal_from_test a c h))
+
+-- Names in lower case
+
+low_token : (c : ℕ) → c < 128 → is_token (to_ascii_lowercase c) ≡ is_token c
+unfolding is_token
+low_token c l = agree_below_at (λ x. is_token (to_ascii_lowercase x)) is_token 128 c refl l
+
+pub token_lower : (c : ℕ) → is_token (to_ascii_lowercase c) ≡ is_token c
+token_lower c = elim (cases_lt c 128) [ inl l ↦ low_token c l | inr l ↦ ap is_token ((lowercase_is c).2 (omega arith)) ]
+
+all_token_lower : (t : List ℕ) → list_all is_token (map to_ascii_lowercase t) ≡ list_all is_token t
+all_token_lower [] = refl
+all_token_lower (c ∷ t) = ap₂ (λ x y. x && y) (token_lower c) (all_token_lower t)
+
+pub token_text_lower : (t : List ℕ) → is_token_text (map to_ascii_lowercase t) ≡ is_token_text t
+token_text_lower [] = refl
+token_text_lower (c ∷ t) = all_token_lower (c ∷ t)
+
+pub lower_twice : (t : List ℕ) → map to_ascii_lowercase (map to_ascii_lowercase t) ≡ map to_ascii_lowercase t
+lower_twice [] = refl
+lower_twice (c ∷ t) = ap₂ (λ x y. x ∷ y) (lowercase-lowercase c) (lower_twice t)
+
+pub lowercase_name : (t : List ℕ) → is_token_text t ≡ true → is_lowercase_name (map to_ascii_lowercase t) ≡ true
+lowercase_name t h = and_from (is_token_text (map to_ascii_lowercase t))
+    (bytes_eq (map to_ascii_lowercase (map to_ascii_lowercase t)) (map to_ascii_lowercase t)) (token_text_lower t ∙ h)
+    (test_from_equal (map to_ascii_lowercase (map to_ascii_lowercase t)) (map to_ascii_lowercase t) (lower_twice t))
+
+-- a text of token code points, in lower case by its bytes
+pub lower_chars : (bs : List ℕ) → IsUtf8 bs → is_token_text (chars bs) ≡ true
+    → chars (map to_ascii_lowercase bs) ≡ map to_ascii_lowercase (chars bs)
+lower_chars bs u h =
+    let a = token_text_ascii bs (token_text_chars bs u ∙ h) in
+    chars-IsAscii (map to_ascii_lowercase bs) (IsAscii-map to_ascii_lowercase bs lowercase_ascii a)
+    ∙ ap (map to_ascii_lowercase) (sym (chars-IsAscii bs a))
+
+-- Names compared in any case
+
+pub name_bytes : (bs : List ℕ) → IsUtf8 bs → is_token_text (chars bs) ≡ true → bs ≡ chars bs
+name_bytes bs u h = bytes_of_ascii bs u (token_text_ascii (chars bs) h)
+
+pub lower_is_itself : (t : List ℕ) → is_lowercase_name t ≡ true → map to_ascii_lowercase t ≡ t
+lower_is_itself t h =
+    equal_from_test (map to_ascii_lowercase t) t
+    (and_parts (is_token_text t) (bytes_eq (map to_ascii_lowercase t) t) h).1
+
+pub lowercase_token : (t : List ℕ) → is_lowercase_name t ≡ true → is_token_text t ≡ true
+lowercase_token t h = (and_parts (is_token_text t) (bytes_eq (map to_ascii_lowercase t) t) h).0
+
+both_lower : (k n : List ℕ) → IsUtf8 k → IsUtf8 n → is_lowercase_name (chars k) ≡ true → is_token_text (chars n) ≡ true
+    → (map to_ascii_lowercase k ≡ chars k) × (map to_ascii_lowercase n ≡ map to_ascii_lowercase (chars n))
+both_lower k n u w h t = (
+  ap (map to_ascii_lowercase) (name_bytes k u (lowercase_token (chars k) h))
+      ∙ lower_is_itself (chars k) h,
+  ap (map to_ascii_lowercase) (name_bytes n w t),
+)
+
+pub some_byte : (n : List ℕ) → is_token_text (chars n) ≡ true → 0 < length n
+some_byte [] h = absurd (false≢true (sym (ap is_token_text chars-nil) ∙ h))
+some_byte (b ∷ n) h = omega arith
+
+-- the bytes of a name in lower case, and of a word that is known to be so
+pub lower_bytes : (k : List ℕ) → IsUtf8 k → is_lowercase_name (chars k) ≡ true → map to_ascii_lowercase k ≡ k
+lower_bytes k u h =
+    let bytes = name_bytes k u (lowercase_token (chars k) h) in
+    subst (λ t. map to_ascii_lowercase t ≡ t) (sym bytes) (lower_is_itself (chars k) h)
+
+pub names_equal : (k n : List ℕ) → IsUtf8 k → IsUtf8 n → is_lowercase_name (chars k) ≡ true
+    → is_token_text (chars n) ≡ true → map to_ascii_lowercase k ≡ map to_ascii_lowercase n
+    → bytes_eq (chars k) (map to_ascii_lowercase (chars n)) ≡ true
+names_equal k n u w h t e = let b = both_lower k n u w h t in
+    test_from_equal (chars k) (map to_ascii_lowercase (chars n)) (sym b.0 ∙ e ∙ b.1)
+
+pub names_differ : (k n : List ℕ) → IsUtf8 k → IsUtf8 n → is_lowercase_name (chars k) ≡ true
+    → is_token_text (chars n) ≡ true → (map to_ascii_lowercase k ≡ map to_ascii_lowercase n → ⊥)
+    → bytes_eq (chars k) (map to_ascii_lowercase (chars n)) ≡ false
+names_differ k n u w h t e = let b = both_lower k n u w h t in
+    test_from_different (chars k) (map to_ascii_lowercase (chars n)) (λ q. e (b.0 ∙ q ∙ sym b.1))
+
+-- One step of the look-up
+
+pub lowercase_at : {A B : Type 0} (pairs : List (String A × String B)) (i : ℕ) (item : String A × String B)
+    → HasLowercaseNames (map (λ p. pair_of p) pairs) → i < length pairs → item ≡ get_or pairs i item
+    → is_lowercase_name (code_points item.0) ≡ true
+lowercase_at pairs i item h l e =
+    let test : Pair → Bool = λ p. is_lowercase_name p.0 in
+    true_from_ne_false (is_lowercase_name (code_points item.0))
+    (λ f. false≢true (sym (list_all_at (λ p. test (pair_of p)) pairs i item l (ap (λ p. test (pair_of p)) (sym e)
+    ∙ f)) ∙ sym (list_all-map test (λ p. pair_of p) pairs) ∙ h))
+
+look_step : {A B : Type 0} (n : List ℕ) (pairs : List (String A × String B)) (i : ℕ) (item : String A × String B)
+    → i < length pairs → item ≡ get_or pairs i item → has_name n (map (λ p. pair_of p) (drop i pairs))
+    ≡ (bytes_eq (code_points item.0) n || has_name n (map (λ p. pair_of p) (drop (i + 1) pairs)))
+look_step n pairs i item l e = ap (λ s. has_name n (map (λ p. pair_of p) s)) (drop-cons pairs i item l)
+    ∙ ap₂ (λ p k. bytes_eq (code_points p.0) n || has_name n (map (λ q. pair_of q) (drop k pairs))) (sym e)
+    (sym (add-one i))
+
+pub look_finds : {A B : Type 0} (n : List ℕ) (pairs : List (String A × String B)) (i : ℕ) (item : String A × String B)
+    → i < length pairs → item ≡ get_or pairs i item → bytes_eq (code_points item.0) n ≡ true
+    → has_name n (map (λ p. pair_of p) (drop i pairs)) ≡ has_name n (map (λ p. pair_of p) pairs)
+    → true ≡ has_name n (map (λ p. pair_of p) pairs)
+look_finds n pairs i item l e t h =
+    sym (or_left (bytes_eq (code_points item.0) n) (has_name n (map (λ p. pair_of p) (drop (i + 1) pairs))) t)
+    ∙ sym (look_step n pairs i item l e) ∙ h
+
+pub look_goes_on : {A B : Type 0} (n : List ℕ) (pairs : List (String A × String B)) (i : ℕ) (item : String A × String B)
+    → i < length pairs → item ≡ get_or pairs i item → bytes_eq (code_points item.0) n ≡ false
+    → has_name n (map (λ p. pair_of p) (drop i pairs)) ≡ has_name n (map (λ p. pair_of p) pairs)
+    → has_name n (map (λ p. pair_of p) (drop (i + 1) pairs)) ≡ has_name n (map (λ p. pair_of p) pairs)
+look_goes_on n pairs i item l e t h = ap (λ b. b || has_name n (map (λ p. pair_of p) (drop (i + 1) pairs))) (sym t)
+    ∙ sym (look_step n pairs i item l e) ∙ h
+
+-- What one more item adds
+
+pub no_pair_token : (item : Item) (xs : List Pair) → is_token_text item.0 ≡ false → added_pairs xs item ≡ []
+no_pair_token (name, None) xs h = refl
+no_pair_token (name, Some v) xs h =
+    ap (unless_named xs) (cond-false (is_token_text name && list_all is_quotable v) ((name, v) ∷ []) []
+    (and_left (is_token_text name) (list_all is_quotable v) h))
+
+unless_none : (xs : List Pair) (p : Pair) (b : Bool) → has_name p.0 xs ≡ true
+    → unless_named xs (cond b (p ∷ []) []) ≡ []
+unless_none xs p true h = cond-true (has_name p.0 xs) [] (p ∷ []) h
+unless_none xs p false h = refl
+
+pub no_pair_named : (item : Item) (xs : List Pair) → has_name item.0 xs ≡ true → added_pairs xs item ≡ []
+no_pair_named (name, None) xs h = refl
+no_pair_named (name, Some v) xs h = unless_none xs (name, v) (is_token_text name && list_all is_quotable v) h
+
+some_quotable : (v w : List ℕ) (b : Bool) → ◌≡◌ {A = Option (List ℕ)} (Some w) (cond b (Some v) None)
+    → (b ≡ true) × (w ≡ v)
+some_quotable v w true h = (refl, some_equal w v h)
+some_quotable v w false h = absurd (let k = h in cc)
+
+pub valid_pair : (item : Item) (w : List ℕ) → is_token_text item.0 ≡ true → Some w ≡ quotable_value item.1
+    → valid_of item ≡ (item.0, w) ∷ []
+valid_pair (name, None) w t h = absurd (let k = h in cc)
+valid_pair (name, Some v) w t h =
+    let q = some_quotable v w (list_all is_quotable v) h in
+    cond-true (is_token_text name && list_all is_quotable v) ((name, v) ∷ []) []
+    (and_from (is_token_text name) (list_all is_quotable v) t q.0) ∙ ap (λ x. (name, x) ∷ []) (sym q.1)
+
+-- The pairs kept of one more item
+
+or_none : (b : Bool) → (b || false) ≡ b
+or_none true = refl
+or_none false = refl
+
+pub has_append : (n : List ℕ) (xs ys : List Pair) → has_name n (xs ++ ys) ≡ (has_name n xs || has_name n ys)
+has_append n [] ys = refl
+has_append n (p ∷ xs) ys = ap (λ b. bytes_eq p.0 n || b) (has_append n xs ys)
+    ∙ sym (or_assoc (bytes_eq p.0 n) (has_name n xs) (has_name n ys))
+
+pub has_pushed : (n : List ℕ) (xs : List Pair) (p : Pair)
+    → has_name n (xs ++ (p ∷ [])) ≡ (has_name n xs || bytes_eq p.0 n)
+has_pushed n xs p = has_append n xs (p ∷ []) ∙ ap (λ b. has_name n xs || b) (or_none (bytes_eq p.0 n))
+
+snoc_cases : (b : Bool) (p : Pair) (whole front back : List Pair) → whole ≡ front ++ back
+    → cond b whole (p ∷ whole) ≡ cond b front (p ∷ front) ++ back
+snoc_cases true p whole front back h = h
+snoc_cases false p whole front back h = ap (λ x. p ∷ x) h
+
+first_snoc : (e ps : List Pair) (q : Pair) → first_of_each_name e (ps ++ (q ∷ [])) ≡ first_of_each_name e ps ++ cond
+    (has_name q.0 (e ++ ps)) [] (q ∷ [])
+first_snoc e [] q = rw (append-nil e) refl
+first_snoc e (p ∷ ps) q =
+    let h = first_snoc (e ++ (p ∷ [])) ps q
+    ∙ ap (λ x. first_of_each_name (e ++ (p ∷ [])) ps ++ cond (has_name q.0 x) [] (q ∷ []))
+    (append_assoc e (p ∷ []) ps) in
+    snoc_cases (has_name p.0 e) p (first_of_each_name (e ++ (p ∷ [])) (ps ++ (q ∷ [])))
+    (first_of_each_name (e ++ (p ∷ [])) ps) (cond (has_name q.0 (e ++ (p ∷ ps))) [] (q ∷ [])) h
+
+-- a kept pair of an equal name answers for one that is not kept
+named : (n : List ℕ) (e : List Pair) (p : Pair) → has_name p.0 e ≡ true → bytes_eq p.0 n ≡ true → has_name n e ≡ true
+named n e p h t = ap (λ x. has_name x e) (sym (equal_from_test p.0 n t)) ∙ h
+
+skip_test : (a b x y : Bool) → (b ≡ true → a ≡ true) → ((a || b) || x) ≡ ((a || b) || y) → (a || x) ≡ (a || (b || y))
+skip_test true b x y k h = refl
+skip_test false true x y k h = absurd (false≢true (k refl))
+skip_test false false x y k h = h
+
+take_test : (a b x y : Bool) → ((a || b) || x) ≡ ((a || b) || y) → (a || (b || x)) ≡ (a || (b || y))
+take_test true b x y h = refl
+take_test false true x y h = refl
+take_test false false x y h = h
+
+first_cases : (n : List ℕ) (e : List Pair) (p : Pair) (kept_rest ps : List Pair)
+    → ((has_name n e || bytes_eq p.0 n) || has_name n kept_rest) ≡ ((has_name n e || bytes_eq p.0 n) || has_name n ps)
+    → (has_name n e || has_name n (cond (has_name p.0 e) kept_rest (p ∷ kept_rest)))
+    ≡ (has_name n e || (bytes_eq p.0 n || has_name n ps))
+first_cases n e p kept_rest ps h = cond_both (has_name p.0 e) kept_rest (p ∷ kept_rest)
+    (λ x. (has_name n e || has_name n x) ≡ (has_name n e || (bytes_eq p.0 n || has_name n ps)))
+    (λ k. skip_test (has_name n e) (bytes_eq p.0 n) (has_name n kept_rest) (has_name n ps) (named n e p k) h)
+    (λ k. take_test (has_name n e) (bytes_eq p.0 n) (has_name n kept_rest) (has_name n ps) h)
+
+has_first : (n : List ℕ) (e ps : List Pair) → (has_name n e || has_name n (first_of_each_name e ps))
+    ≡ (has_name n e || has_name n ps)
+has_first n e [] = refl
+has_first n e (p ∷ ps) = first_cases n e p (first_of_each_name (e ++ (p ∷ [])) ps) ps
+    (ap (λ b. b || has_name n (first_of_each_name (e ++ (p ∷ [])) ps)) (sym (has_pushed n e p))
+    ∙ has_first n (e ++ (p ∷ [])) ps ∙ ap (λ b. b || has_name n ps) (has_pushed n e p))
+
+one_or_none : (b : Bool) (q : Pair) → (cond b (q ∷ []) [] ≡ []) ⊎ ((p : Pair) × (cond b (q ∷ []) [] ≡ p ∷ []))
+one_or_none true q = inr (q, refl)
+one_or_none false q = inl refl
+
+valid_one : (item : Item) → (valid_of item ≡ []) ⊎ ((p : Pair) × (valid_of item ≡ p ∷ []))
+valid_one (name, None) = inl refl
+valid_one (name, Some v) = one_or_none (is_token_text name && list_all is_quotable v) (name, v)
+
+kept_with_one : (ps qs : List Pair) → (qs ≡ []) ⊎ ((p : Pair) × (qs ≡ p ∷ []))
+    → first_of_each_name [] (ps ++ qs) ≡ first_of_each_name [] ps ++ unless_named (first_of_each_name [] ps) qs
+kept_with_one ps qs (inl e) = rw (e, append-nil ps) (sym (append-nil (first_of_each_name [] ps)))
+kept_with_one ps qs (inr (p, e)) =
+    rw e (first_snoc [] ps p ∙ ap (λ b. first_of_each_name [] ps ++ cond b [] (p ∷ [])) (sym (has_first p.0 [] ps)))
+
+pub kept_more : (items : List Item) (item : Item) → kept_pairs (items ++ (item ∷ [])) ≡ kept_pairs items ++ added_pairs
+    (kept_pairs items) item
+kept_more items item = ap (first_of_each_name []) (flat_map-append valid_of items (item ∷ [])
+    ∙ ap (λ x. valid_pairs items ++ x) (append-nil (valid_of item))) ∙ kept_with_one (valid_pairs items) (valid_of item)
+    (valid_one item)
+
+-- What the parser keeps of one parameter
+
+pub none_added : {A B : Type 0} (pairs : List (String A × String B)) (more : List Pair) → more ≡ []
+    → map (λ p. pair_of p) pairs ≡ map (λ p. pair_of p) pairs ++ more
+none_added pairs more e = sym (ap (λ x. map (λ p. pair_of p) pairs ++ x) e ∙ append-nil (map (λ p. pair_of p) pairs))
+
+pub one_added : {A B : Type 0} (pairs pairs' : List (String A × String B)) (name : String A) (value : String B)
+    (more : List Pair) → pairs' ≡ pairs ++ ((name, value) ∷ []) → more ≡ (code_points name, code_points value) ∷ []
+    → map (λ p. pair_of p) pairs' ≡ map (λ p. pair_of p) pairs ++ more
+one_added pairs pairs' name value more e h = ap (map (λ p. pair_of p)) e
+    ∙ map-append (λ p. pair_of p) pairs ((name, value) ∷ []) ∙ ap (λ x. map (λ p. pair_of p) pairs ++ x) (sym h)
+
+pub lower_after : (xs ys : List Pair) → HasLowercaseNames xs → HasLowercaseNames ys → HasLowercaseNames (xs ++ ys)
+lower_after xs ys h k = list_all-append (λ (p : Pair). is_lowercase_name p.0) xs ys
+    ∙ and_from (list_all (λ (p : Pair). is_lowercase_name p.0) xs) (list_all (λ (p : Pair). is_lowercase_name p.0) ys) h
+    k
+
+pub valid_lower : (name : List ℕ) (value : Option (List ℕ))
+    → (is_token_text name ≡ true → is_lowercase_name name ≡ true) → HasLowercaseNames (valid_of (name, value))
+valid_lower name None h = refl
+valid_lower name (Some v) h = cond_both (is_token_text name && list_all is_quotable v)
+    ((name, v) ∷ []) [] HasLowercaseNames
+    (λ e. and_from (is_lowercase_name name) true (h (and_parts (is_token_text name) (list_all is_quotable v) e).0) refl)
+    (λ e. refl)
+
+module _ (parameter : Parameter) (item : Item) (is : IsItem parameter item) where
+  pub name_token : is_token_text item.0 ≡ is_token_text (chars parameter.name.now)
+  name_token = ap is_token_text is.name ∙ token_text_lower (chars parameter.name.now)
+
+  pub invalid_name : (xs : List Pair) (b : Bool) → b ≡ is_token_text (chars parameter.name.now) → b ≡ false
+      → added_pairs xs item ≡ []
+  invalid_name xs b e h = no_pair_token item xs (name_token ∙ sym e ∙ h)
+
+  pub known_name : (xs : List Pair) → has_name (map to_ascii_lowercase (chars parameter.name.now)) xs ≡ true
+      → added_pairs xs item ≡ []
+  known_name xs h = no_pair_named item xs (ap (λ n. has_name n xs) is.name ∙ h)
+
+  pub new_pair : (name value : List ℕ) (b : Bool) → b ≡ is_token_text (chars parameter.name.now) → b ≡ true
+      → name ≡ map to_ascii_lowercase (chars parameter.name.now) → Some value ≡ quotable_value item.1
+      → valid_of item ≡ (name, value) ∷ []
+  new_pair name value b e h n v = valid_pair item value (name_token ∙ sym e ∙ h) v
+      ∙ ap (λ x. (x, value) ∷ []) (is.name ∙ sym n)
+
+-- The parser's loop over the parameters
+
+-- what is kept so far, and what the rest adds
+pub record KeepsOn (whole rest : List ℕ) (pairs : List Pair) : Type 0 where
+  pub items : List Item
+  pub goes_on : (more : List Item) → Items rest more → Items whole (items ++ more)
+  pub kept_is : pairs ≡ kept_pairs items
+  pub begins : BeginsParameters rest
+
+pub keeps_more : (whole rest s rest' : List ℕ) (pairs pairs' : List Pair) (item : Item) → KeepsOn whole rest pairs
+    → rest ≡ 59 ∷ s → HasParameterBefore s item rest' → pairs' ≡ pairs ++ added_pairs pairs item
+    → KeepsOn whole rest' pairs'
+keeps_more whole rest s rest' pairs pairs' item k e p a = record {
+  items = k.items ++ (item ∷ []);
+  goes_on = λ more h. subst (Items whole) (sym (append_assoc k.items (item ∷ []) more))
+      (k.goes_on (item ∷ more) (p.text, rest', e ∙ p.joined, p.is_parameter, h));
+  kept_is = a ∙ ap₂ (λ x y. x ++ added_pairs y item) k.kept_is k.kept_is ∙ sym (kept_more k.items item);
+  begins = p.begins;
+}
+
+pub keeps_end : (whole rest : List ℕ) (pairs : List Pair) → KeepsOn whole rest pairs → rest ≡ []
+    → (items : List Item) × Items whole items × (pairs ≡ kept_pairs items)
+keeps_end whole rest pairs k e = (k.items, subst (Items whole) (append-nil k.items) (k.goes_on [] e), k.kept_is)
+
+-- Which names the first pairs and the set of later names have.
+
+-- The first pairs and the others
+
+pub lower_first : {A B : Type 0} (pairs : List (String A × String B)) (k : ℕ)
+    → HasLowercaseNames (map (λ p. pair_of p) pairs) → HasLowercaseNames (map (λ p. pair_of p) (take k pairs))
+lower_first pairs k h =
+    let test : Pair → Bool = λ p. is_lowercase_name p.0 in
+    let all = map (λ p. pair_of p) pairs in
+    let e = sym (list_all-append test (take k all) (drop k all)) ∙ ap (list_all test) (take-append-drop k all) ∙ h in
+    ap (list_all test) (sym (take-map (λ p. pair_of p) k pairs))
+    ∙ (and_parts (list_all test (take k all)) (list_all test (drop k all)) e).0
+
+first_or_later : (n : List ℕ) (pairs : List Pair)
+    → has_name n pairs ≡ (has_name n (first_of pairs) || has_name n (drop LOOKED_THROUGH pairs))
+first_or_later n pairs = ap (has_name n) (sym (take-append-drop LOOKED_THROUGH pairs))
+    ∙ has_append n (first_of pairs) (drop LOOKED_THROUGH pairs)
+
+pub named_first : (n : List ℕ) (pairs : List Pair) → has_name n (first_of pairs) ≡ true → has_name n pairs ≡ true
+named_first n pairs h = first_or_later n pairs
+    ∙ or_left (has_name n (first_of pairs)) (has_name n (drop LOOKED_THROUGH pairs)) h
+
+pub named_later : (n : List ℕ) (pairs : List Pair) → has_name n (first_of pairs) ≡ false
+    → has_name n pairs ≡ has_name n (drop LOOKED_THROUGH pairs)
+named_later n pairs h = first_or_later n pairs ∙ ap (λ b. b || has_name n (drop LOOKED_THROUGH pairs)) h
+
+pub unless_known : (pairs : List Pair) (p : Pair) → has_name p.0 pairs ≡ true → unless_named pairs (p ∷ []) ≡ []
+unless_known pairs p h = cond-true (has_name p.0 pairs) [] (p ∷ []) h
+
+pub unless_new : (pairs : List Pair) (p : Pair) → has_name p.0 pairs ≡ false → unless_named pairs (p ∷ []) ≡ p ∷ []
+unless_new pairs p h = cond-false (has_name p.0 pairs) [] (p ∷ []) h
+
+-- The set of later names
+
+-- a name in lower case is its bytes
+pub lowercase_bytes : {A : Type 0} (name : String A) → is_lowercase_name (code_points name) ≡ true
+    → string_bytes name ≡ code_points name
+lowercase_bytes name h = name_bytes (string_bytes name) (IsUtf8-string_bytes name)
+    (lowercase_token (code_points name) h)
+
+-- where there are no pairs behind the first ones
+pub few_names : (n : List ℕ) (pairs : List Pair) → length pairs ≤ LOOKED_THROUGH
+    → has_name n (drop LOOKED_THROUGH pairs) ≡ false
+few_names n pairs l = ap (has_name n) (drop_of_length-le pairs l)
+
+-- one of the first pairs more
+pub first_names : {A : Type 0} (later : BTreeSet (String A)) (pairs : List Pair) (p : Pair)
+    → length pairs < LOOKED_THROUGH → HasLaterNames later pairs → HasLaterNames later (pairs ++ (p ∷ []))
+first_names later pairs p l h n = h n ∙ few_names n pairs (omega arith)
+    ∙ sym (few_names n (pairs ++ (p ∷ [])) (simp length-append (omega arith)))
+
+-- where none of the first pairs has the name, the set is asked
+pub set_knows : {A : Type 0} (later : BTreeSet (String A)) (pairs : List Pair) (p : Pair) (name : String A) (b : Bool)
+    → HasLaterNames later pairs → string_bytes name ≡ p.0 → has_name p.0 (first_of pairs) ≡ false
+    → b ≡ not (contains string_cmp later name) → b ≡ not (has_name p.0 pairs)
+set_knows later pairs p name b h e f a = a
+    ∙ ap not (h (string_bytes name) ∙ ap (λ n. has_name n (drop LOOKED_THROUGH pairs)) e
+    ∙ sym (named_later p.0 pairs f))
+
+or_cond : (b x : Bool) → cond b true x ≡ (x || b)
+or_cond true true = refl
+or_cond true false = refl
+or_cond false true = refl
+or_cond false false = refl
+
+-- one more pair behind them
+pub later_names : {A : Type 0} (later later' : BTreeSet (String A)) (pairs : List Pair) (p : Pair) (name : String A)
+    → LOOKED_THROUGH ≤ length pairs → HasLaterNames later pairs → string_bytes name ≡ p.0
+    → UpdatesBy string_cmp (λ k. slice_cmp nat_cmp (string_bytes name) (string_bytes k)) later later' true
+    → HasLaterNames later' (pairs ++ (p ∷ []))
+later_names later later' pairs p name l h e u n =
+    btree_set_updates_text (string_bytes name) later later' true u n
+    ∙ or_cond (bytes_eq (string_bytes name) n) (contains_text later n)
+    ∙ ap (λ b. b || bytes_eq (string_bytes name) n) (h n)
+    ∙ ap (λ s. has_name n (drop LOOKED_THROUGH pairs) || bytes_eq s n) e
+    ∙ sym (has_pushed n (drop LOOKED_THROUGH pairs) p)
+    ∙ ap (has_name n) (sym (drop-append-le LOOKED_THROUGH pairs (p ∷ []) l))
+
+-- one more pair
+pub indexed_more : (kept kept' : KeptParameters) (p : Pair) → IsIndexed kept → is_lowercase_name p.0 ≡ true
+    → pairs_of kept' ≡ pairs_of kept ++ (p ∷ []) → HasLaterNames kept'.later_names (pairs_of kept ++ (p ∷ []))
+    → IsIndexed kept'
+indexed_more kept kept' p i l e h = record {
+  lower = subst HasLowercaseNames (sym e)
+      (lower_after (pairs_of kept) (p ∷ []) i.lower (and_from (is_lowercase_name p.0) true l refl));
+  later = λ n. h n ∙ ap (λ s. has_name n (drop LOOKED_THROUGH s)) (sym e);
+}
+
+-- Records that a text gives are well formed, and a text with a head gives one.
+
+-- What holds of each valid pair holds of each that is kept
+
+first_all : (p : Pair → Bool) (e ps : List Pair) → list_all p ps ≡ true → list_all p (first_of_each_name e ps) ≡ true
+first_all p e [] h = refl
+first_all p e (q ∷ ps) h =
+    let k = and_parts (p q) (list_all p ps) h in
+    let f = first_all p (e ++ (q ∷ [])) ps k.1 in
+    cond_both (has_name q.0 e) (first_of_each_name (e ++ (q ∷ [])) ps) (q ∷ first_of_each_name (e ++ (q ∷ [])) ps)
+    (λ x. list_all p x ≡ true) (λ c. f) (λ c. and_from (p q) (list_all p (first_of_each_name (e ++ (q ∷ [])) ps))
+    k.0 f)
+
+all_append : (p : Pair → Bool) (xs ys : List Pair) → list_all p xs ≡ true → list_all p ys ≡ true
+    → list_all p (xs ++ ys) ≡ true
+all_append p xs ys h k = list_all-append p xs ys ∙ and_from (list_all p xs) (list_all p ys) h k
+
+valid_quotable : (name : List ℕ) (value : Option (List ℕ)) → list_all (λ (p : Pair). list_all is_quotable p.1)
+    (valid_of (name, value)) ≡ true
+valid_quotable name None = refl
+valid_quotable name (Some v) = cond_both (is_token_text name && list_all is_quotable v) ((name, v) ∷ []) []
+    (λ x. list_all (λ (p : Pair). list_all is_quotable p.1) x ≡ true)
+    (λ e. and_from (list_all is_quotable v) true (and_parts (is_token_text name) (list_all is_quotable v) e).1 refl)
+    (λ e. refl)
+
+all_quotable : (items : List Item) → list_all (λ (p : Pair). list_all is_quotable p.1) (valid_pairs items) ≡ true
+all_quotable [] = refl
+all_quotable (item ∷ items) = all_append (λ (p : Pair). list_all is_quotable p.1) (valid_of item) (valid_pairs items)
+    (valid_quotable item.0 item.1) (all_quotable items)
+
+all_lower : (r : List ℕ) (items : List Item) → Items r items → HasLowercaseNames (valid_pairs items)
+all_lower r [] h = refl
+all_lower r (item ∷ items) h = all_append (λ (p : Pair). is_lowercase_name p.0) (valid_of item) (valid_pairs items)
+    (valid_lower item.0 item.1 (λ t. ap is_lowercase_name h.3.name_is
+    ∙ lowercase_name h.3.name (sym (token_text_lower h.3.name) ∙ ap is_token_text (sym h.3.name_is) ∙ t)))
+    (all_lower h.1 items h.4)
+
+-- No name is kept twice
+
+has_itself : (n : List ℕ) (e : List Pair) (q : Pair) → bytes_eq q.0 n ≡ true → has_name q.0 e ≡ false
+    → has_name n e ≡ true → ⊥
+has_itself n e q t f h = both_ways (has_name q.0 e) f (ap (λ x. has_name x e) (equal_from_test q.0 n t) ∙ h)
+
+pushed_has : (n : List ℕ) (e : List Pair) (q : Pair) → has_name n e ≡ true → has_name n (e ++ (q ∷ [])) ≡ true
+pushed_has n e q h = has_append n e (q ∷ []) ∙ or_left (has_name n e) (has_name n (q ∷ [])) h
+
+none_again : (n : List ℕ) (e ps : List Pair) → has_name n e ≡ true → has_name n (first_of_each_name e ps) ≡ false
+none_again n e [] h = refl
+none_again n e (q ∷ ps) h =
+    let f = none_again n (e ++ (q ∷ [])) ps (pushed_has n e q h) in
+    cond_both (has_name q.0 e) (first_of_each_name (e ++ (q ∷ [])) ps) (q ∷ first_of_each_name (e ++ (q ∷ [])) ps)
+    (λ x. has_name n x ≡ false) (λ c. f)
+    (λ c. ap (λ b. b || has_name n (first_of_each_name (e ++ (q ∷ [])) ps))
+    (false_from_ne_true (bytes_eq q.0 n) (λ t. has_itself n e q t c h)) ∙ f)
+
+own_name : (e : List Pair) (q : Pair) → has_name q.0 (e ++ (q ∷ [])) ≡ true
+own_name e q = has_append q.0 e (q ∷ []) ∙ or_right (has_name q.0 e) (has_name q.0 (q ∷ []))
+    (or_left (bytes_eq q.0 q.0) false (test_from_equal q.0 q.0 refl))
+
+first_distinct : (e ps : List Pair) → has_distinct_names (first_of_each_name e ps) ≡ true
+first_distinct e [] = refl
+first_distinct e (q ∷ ps) =
+    let f = first_distinct (e ++ (q ∷ [])) ps in
+    cond_both (has_name q.0 e) (first_of_each_name (e ++ (q ∷ [])) ps) (q ∷ first_of_each_name (e ++ (q ∷ [])) ps)
+    (λ x. has_distinct_names x ≡ true) (λ c. f)
+    (λ c. and_from (not (has_name q.0 (first_of_each_name (e ++ (q ∷ [])) ps)))
+    (has_distinct_names (first_of_each_name (e ++ (q ∷ [])) ps))
+    (not_from_false (has_name q.0 (first_of_each_name (e ++ (q ∷ [])) ps))
+    (none_again q.0 (e ++ (q ∷ [])) ps (own_name e q))) f)
+
+-- Each record that a text gives is well formed
+
+pub parses_wellformed : (s : List ℕ) (m : Record) → Parses s m → IsWellformed m
+parses_wellformed s m h = record {
+  type_ = ap is_lowercase_name h.record_is.type_is ∙ lowercase_name h.type_ h.head.is_type;
+  subtype = ap is_lowercase_name h.record_is.subtype_is ∙ lowercase_name h.subtype h.head.is_subtype;
+  names = ap (list_all (λ (p : Pair). is_lowercase_name p.0)) h.record_is.parameters_are
+      ∙ first_all (λ (p : Pair). is_lowercase_name p.0) [] (valid_pairs h.record_is.items)
+      (all_lower h.parameters h.record_is.items h.record_is.items_are);
+  distinct = ap has_distinct_names h.record_is.parameters_are ∙ first_distinct [] (valid_pairs h.record_is.items);
+  values = ap (list_all (λ (p : Pair). list_all is_quotable p.1)) h.record_is.parameters_are
+      ∙ first_all (λ (p : Pair). list_all is_quotable p.1) [] (valid_pairs h.record_is.items)
+      (all_quotable h.record_is.items);
+}
+
+-- A head decides
+
+pub parses_parts : (s a b c : List ℕ) (m : Record) → IsHead s a b c → IsRecordOfParts a b c m → Parses s m
+parses_parts s a b c m h p = record { type_ = a; subtype = b; parameters = c; head = h; record_is = p }
+
+pub has_record : (s a b c : List ℕ) → IsHead s a b c → HasNoRecord s → ⊥
+has_record s a b c h n =
+    let i = some_items c h.begins in
+    n (record { type_ = map to_ascii_lowercase a; subtype = map to_ascii_lowercase b; parameters = kept_pairs i.0 })
+    (record {
+      type_ = a;
+      subtype = b;
+      parameters = c;
+      head = h;
+      record_is =
+          record { items = i.0; items_are = i.1; type_is = refl; subtype_is = refl; parameters_are = refl };
+    })
+
+pub no_record : (s : List ℕ) → HasNoHead s → HasNoRecord s
+no_record s n m h = n h.type_ h.subtype h.parameters h.head

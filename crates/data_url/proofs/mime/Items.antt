@@ -1,0 +1,484 @@
+-- A text has one list of items, and at most one record.
+use Rattle.std.proofs.Common.{◌≡◌, ℕ, zero, suc, ◌<◌, ◌≤◌, ◌==◌, Bool, false, not, cond, List, [], ◌∷◌, ◌++◌, Option}
+use Rattle.std.proofs.Common.{None, Some, map, length, refl, sym, ap, ◌∙◌, subst, append_assoc, append-nil, arith}
+use Rattle.std.proofs.Common.{length-append, eqb-true, ⊎_elim, true, ◌||◌}
+use Rattle.std.proofs.lemmas.Bool.{both_ways, cond-false, cond_both, not-false, or_cases, and_from, and_parts}
+use Rattle.std.specs.Char.{to_ascii_lowercase}
+use Rattle.data_url.specs.CodePoints.{ends_name, is_http_whitespace, is_semicolon, is_token}
+use Rattle.data_url.specs.Mime.{BeginsParameters, DoesNotBegin, Every, GivesValue, IsParameter, IsTrimmedEnd, Item}
+use Rattle.data_url.specs.Mime.{Items, Quoted, QuotedOpen, is_quote, lone_equals, nothing, plain, quoted, unclosed}
+use Rattle.data_url.specs.Mime.{unless_empty, DoesNotEnd, IsHead, IsTrimmed, Record, is_token_text, kept_pairs}
+use Rattle.data_url.specs.Facts.{HasOneItemList, HasAtMostOneRecord}
+use Rattle.data_url.specs.Steps.Parsing.{HasParameterBefore}
+use Rattle.data_url.proofs.texts.CodePoints.{behind_begins, behind_front, behind_is, front_is, front_joined, front_of}
+use Rattle.data_url.proofs.texts.CodePoints.{front_passes, is_trimmed_end, trimmed_end_is, without_back}
+use Rattle.data_url.proofs.texts.CodePoints.{without_back_joined}
+use Rattle.data_url.proofs.mime.Quoted.{IsRead, closed_rest, closed_value, is_read, open_rest, open_value, quoted_rest}
+use Rattle.data_url.proofs.mime.Quoted.{quoted_value}
+use Rattle.std.specs.List.{list_all}
+
+-- Each text that is empty or begins with ';' has one list of items.
+
+-- no semicolon; no end of a name
+abbrev pub in_value : ℕ → Bool
+in_value c = not (is_semicolon c)
+
+abbrev pub in_name : ℕ → Bool
+in_name c = not (ends_name c)
+
+-- a value, where there is one, and what stands behind it
+pub record Reading : Type 0 where
+  pub value : Option (List ℕ)
+  pub rest : List ℕ
+
+abbrev pub quoted_reading : List ℕ → Option (List ℕ) → Reading
+quoted_reading value None = record { value = Some value; rest = [] }
+quoted_reading value (Some w) = record { value = Some value; rest = behind_front in_value w }
+
+abbrev pub plain_reading : List ℕ → Reading
+plain_reading s = record {
+  value = unless_empty (without_back is_http_whitespace (front_of in_value s));
+  rest =
+      behind_front in_value s;
+}
+
+-- what stands behind '='
+abbrev pub reading_behind : List ℕ → Reading
+reading_behind [] = plain_reading []
+reading_behind (c ∷ t) = cond (c == 34) (quoted_reading (quoted_value false t) (quoted_rest false t))
+    (plain_reading (c ∷ t))
+
+-- what stands behind a name
+abbrev pub reading : List ℕ → Reading
+reading [] = record { value = None; rest = [] }
+reading (c ∷ t) = cond (c == 61) (reading_behind t) (record { value = None; rest = c ∷ t })
+
+-- A text that gives a value reads so
+
+pub begins_no_value : (r : List ℕ) → BeginsParameters r → DoesNotBegin in_value r
+begins_no_value [] h = tt
+begins_no_value (c ∷ r) h = ap in_value h
+
+plain_is : (text rest value : List ℕ) → Every in_value text → BeginsParameters rest
+    → IsTrimmedEnd is_http_whitespace text value → plain_reading (text ++ rest) ≡ record {
+      value =
+          unless_empty value;
+      rest = rest;
+    }
+plain_is text rest value e b t =
+    rw (
+      front_is in_value text rest e (begins_no_value rest b),
+      behind_is in_value text rest e (begins_no_value rest b),
+      trimmed_end_is is_http_whitespace text value t,
+    ) refl
+
+plain_behind : (text rest : List ℕ) → DoesNotBegin is_quote text → BeginsParameters rest
+    → reading_behind (text ++ rest) ≡ plain_reading (text ++ rest)
+plain_behind [] [] h b = refl
+plain_behind [] (c ∷ r) h b = cond-false (c == 34) (quoted_reading (quoted_value false r) (quoted_rest false r))
+    (plain_reading (c ∷ r)) (ap (λ x. x == 34) b)
+plain_behind (c ∷ t) r h b =
+    cond-false (c == 34) (quoted_reading (quoted_value false (t ++ r)) (quoted_rest false (t ++ r)))
+    (plain_reading (c ∷ (t ++ r))) h
+
+nothing_is : (rest : List ℕ) → BeginsParameters rest → reading rest ≡ record { value = None; rest = rest }
+nothing_is [] b = refl
+nothing_is (c ∷ r) b = cond-false (c == 61) (reading_behind r) (record { value = None; rest = c ∷ r })
+    (ap (λ x. x == 61) b)
+
+closed_reading : (q v w : List ℕ) → Quoted q v → quoted_reading (quoted_value false (q ++ (34 ∷ w)))
+    (quoted_rest false (q ++ (34 ∷ w))) ≡ record { value = Some v; rest = behind_front in_value w }
+closed_reading q v w h = rw (closed_value q v w h, closed_rest q v w h) refl
+
+open_reading : (q v : List ℕ) → QuotedOpen q v → quoted_reading (quoted_value false q) (quoted_rest false q)
+    ≡ record { value = Some v; rest = [] }
+open_reading q v h = rw (open_value q v h, open_rest q v h) refl
+
+quoted_is : (q v junk rest : List ℕ) → Quoted q v → Every in_value junk → BeginsParameters rest
+    → reading ((61 ∷ 34 ∷ (q ++ (34 ∷ junk))) ++ rest) ≡ record { value = Some v; rest = rest }
+quoted_is q v junk rest h e b = rw (append_assoc q (34 ∷ junk) rest) (closed_reading q v (junk ++ rest) h
+    ∙ ap (λ r. record { value = Some v; rest = r }) (behind_is in_value junk rest e (begins_no_value rest b)))
+
+reading_is : (tail rest : List ℕ) (value : Option (List ℕ)) → GivesValue tail rest value → BeginsParameters rest
+    → reading (tail ++ rest) ≡ record { value = value; rest = rest }
+reading_is _ _ _ (nothing {rest}) b = nothing_is rest b
+reading_is _ _ _ lone_equals b = refl
+reading_is _ _ _ (plain {rest} text value e d t) b = plain_behind text rest d b ∙ plain_is text rest value e b t
+reading_is _ _ _ (quoted {value} {rest} text junk h e) b = quoted_is text value junk rest h e b
+reading_is _ _ _ (unclosed {value} text h) b = rw (append-nil text) (open_reading text value h)
+
+-- Each text that stands behind a name gives a value
+
+-- the text is empty or begins with ';' or '='
+abbrev pub BeginsTail : List ℕ → Type 0
+BeginsTail x = DoesNotBegin in_name x
+
+-- what the reading gives is given by a text before its rest
+pub record IsReading (x : List ℕ) (r : Reading) : Type 0 where
+  pub tail : List ℕ
+  pub joined : x ≡ tail ++ r.rest
+  pub gives : GivesValue tail r.rest r.value
+  pub begins : BeginsParameters r.rest
+
+pub begins_from : (s : List ℕ) → DoesNotBegin in_value s → BeginsParameters s
+begins_from [] h = tt
+begins_from (c ∷ s) h = eqb-true c 59 (not-false (c == 59) h)
+
+begins_behind : (s : List ℕ) → BeginsParameters (behind_front in_value s)
+begins_behind s = begins_from (behind_front in_value s) (behind_begins in_value s)
+
+front_not_quote : (s : List ℕ) → DoesNotBegin is_quote s → DoesNotBegin is_quote (front_of in_value s)
+front_not_quote [] h = tt
+front_not_quote (c ∷ s) h = cond_both (in_value c) (c ∷ front_of in_value s) [] (λ v. DoesNotBegin is_quote v) (λ e. h)
+    (λ e. tt)
+
+is_plain_reading : (s : List ℕ) → DoesNotBegin is_quote s → IsReading (61 ∷ s) (plain_reading s)
+is_plain_reading s h = record {
+  tail = 61 ∷ front_of in_value s;
+  joined = ap (λ x. 61 ∷ x) (front_joined in_value s);
+  gives = plain (front_of in_value s) (without_back is_http_whitespace (front_of in_value s)) (front_passes in_value s)
+      (front_not_quote s h) (is_trimmed_end is_http_whitespace (front_of in_value s));
+  begins = begins_behind s;
+}
+
+is_quoted_reading : (s v : List ℕ) (w : Option (List ℕ)) → IsRead s v w → IsReading (61 ∷ 34 ∷ s) (quoted_reading v w)
+is_quoted_reading s v None h = record {
+  tail = 61 ∷ 34 ∷ s;
+  joined = ap (λ x. 61 ∷ 34 ∷ x) (sym (append-nil s));
+  gives =
+      unclosed s h;
+  begins = tt;
+}
+is_quoted_reading s v (Some w) h = record {
+  tail = 61 ∷ 34 ∷ (h.0 ++ (34 ∷ front_of in_value w));
+  joined = ap (λ x. 61 ∷ 34 ∷ x) (h.1 ∙ ap (λ x. h.0 ++ (34 ∷ x)) (front_joined in_value w)
+      ∙ sym (append_assoc h.0 (34 ∷ front_of in_value w) (behind_front in_value w)));
+  gives = quoted h.0 (front_of in_value w) h.2 (front_passes in_value w);
+  begins = begins_behind w;
+}
+
+quote_reading : (c : ℕ) (t : List ℕ) → c ≡ 34
+    → IsReading (61 ∷ c ∷ t) (quoted_reading (quoted_value false t) (quoted_rest false t))
+quote_reading c t e = rw e (is_quoted_reading t (quoted_value false t) (quoted_rest false t) (is_read false t))
+
+is_reading_behind : (s : List ℕ) → IsReading (61 ∷ s) (reading_behind s)
+is_reading_behind [] = is_plain_reading [] tt
+is_reading_behind (c ∷ t) = cond_both (c == 34) (quoted_reading (quoted_value false t) (quoted_rest false t))
+    (plain_reading (c ∷ t)) (λ r. IsReading (61 ∷ c ∷ t) r) (λ e. quote_reading c t (eqb-true c 34 e))
+    (λ e. is_plain_reading (c ∷ t) e)
+
+equals_reading : (c : ℕ) (t : List ℕ) → c ≡ 61 → IsReading (c ∷ t) (reading_behind t)
+equals_reading c t e = rw e (is_reading_behind t)
+
+no_reading : (c : ℕ) (t : List ℕ) → c ≡ 59 → IsReading (c ∷ t) (record { value = None; rest = c ∷ t })
+no_reading c t e = record { tail = []; joined = refl; gives = nothing; begins = e }
+
+pub semicolon_from : (c : ℕ) → in_name c ≡ false → (c == 61) ≡ false → c ≡ 59
+semicolon_from c h e = ⊎_elim (λ l. eqb-true c 59 l) (λ r. absurd (both_ways (c == 61) e r))
+    (or_cases (c == 59) (c == 61) (not-false (ends_name c) h))
+
+pub is_reading : (x : List ℕ) → BeginsTail x → IsReading x (reading x)
+is_reading [] h = record { tail = []; joined = refl; gives = nothing; begins = tt }
+is_reading (c ∷ t) h = cond_both (c == 61) (reading_behind t) (record { value = None; rest = c ∷ t })
+    (λ r. IsReading (c ∷ t) r) (λ e. equals_reading c t (eqb-true c 61 e)) (λ e. no_reading c t (semicolon_from c h e))
+
+-- One parameter, from behind its ';'
+
+abbrev pub name_in : List ℕ → List ℕ
+name_in s = front_of in_name (behind_front is_http_whitespace s)
+
+abbrev pub behind_name : List ℕ → List ℕ
+behind_name s = behind_front in_name (behind_front is_http_whitespace s)
+
+abbrev pub item_in : List ℕ → Item
+item_in s = (map to_ascii_lowercase (name_in s), (reading (behind_name s)).value)
+
+abbrev pub rest_in : List ℕ → List ℕ
+rest_in s = (reading (behind_name s)).rest
+
+pub not_begins_front : (p q : ℕ → Bool) (s : List ℕ) → DoesNotBegin p s → DoesNotBegin p (front_of q s)
+not_begins_front p q [] h = tt
+not_begins_front p q (c ∷ s) h = cond_both (q c) (c ∷ front_of q s) [] (λ v. DoesNotBegin p v) (λ e. h) (λ e. tt)
+
+parameter_joined : (s : List ℕ) (r : Reading) (i : IsReading (behind_name s) r)
+    → s ≡ (front_of is_http_whitespace s ++ (name_in s ++ i.tail)) ++ r.rest
+parameter_joined s r i = front_joined is_http_whitespace s ∙ ap (λ x. front_of is_http_whitespace s ++ x)
+    (front_joined in_name (behind_front is_http_whitespace s) ∙ ap (λ x. name_in s ++ x) i.joined
+    ∙ sym (append_assoc (name_in s) i.tail r.rest))
+    ∙ sym (append_assoc (front_of is_http_whitespace s) (name_in s ++ i.tail) r.rest)
+
+parameter_from : (s : List ℕ) (r : Reading) → IsReading (behind_name s) r
+    → HasParameterBefore s (map to_ascii_lowercase (name_in s), r.value) r.rest
+parameter_from s r i = record {
+  text = 59 ∷ (front_of is_http_whitespace s ++ (name_in s ++ i.tail));
+  joined = ap (λ x. 59 ∷ x) (parameter_joined s r i);
+  is_parameter = record {
+    gap = front_of is_http_whitespace s;
+    name = name_in s;
+    tail = i.tail;
+    joined = refl;
+    in_gap = front_passes is_http_whitespace s;
+    begins = not_begins_front is_http_whitespace in_name (behind_front is_http_whitespace s)
+        (behind_begins is_http_whitespace s);
+    in_name = front_passes in_name (behind_front is_http_whitespace s);
+    name_is = refl;
+    value_is = i.gives;
+  };
+  begins = i.begins;
+}
+
+pub rest_shorter : (s rest : List ℕ) (item : Item) → HasParameterBefore s item rest → length rest ≤ length s
+rest_shorter s rest item h =
+    omega (arith, ap length h.joined, length-append h.text rest, ap length h.is_parameter.joined)
+
+pub has_parameter : (s : List ℕ) → HasParameterBefore s (item_in s) (rest_in s)
+has_parameter s = parameter_from s (reading (behind_name s))
+    (is_reading (behind_name s) (behind_begins in_name (behind_front is_http_whitespace s)))
+
+-- A parameter text reads so
+
+pub ends_of_rest : (p : ℕ → Bool) → p 59 ≡ false → (rest : List ℕ) → BeginsParameters rest → DoesNotBegin p rest
+ends_of_rest p e [] b = tt
+ends_of_rest p e (c ∷ r) b = ap p b ∙ e
+
+ends_of_tail : (p : ℕ → Bool) → p 59 ≡ false → p 61 ≡ false → (tail rest : List ℕ) (value : Option (List ℕ))
+    → GivesValue tail rest value → BeginsParameters rest → DoesNotBegin p (tail ++ rest)
+ends_of_tail p e f _ _ _ (nothing {rest}) b = ends_of_rest p e rest b
+ends_of_tail p e f _ _ _ lone_equals b = f
+ends_of_tail p e f _ _ _ (plain text value w d t) b = f
+ends_of_tail p e f _ _ _ (quoted text junk h w) b = f
+ends_of_tail p e f _ _ _ (unclosed text h) b = f
+
+pub not_begins_append : (p : ℕ → Bool) (a b : List ℕ) → DoesNotBegin p a → DoesNotBegin p b → DoesNotBegin p (a ++ b)
+not_begins_append p [] b h e = e
+not_begins_append p (c ∷ a) b h e = h
+
+-- what is read behind a name that is given whole
+reading_of_parts : (gap name tail rest : List ℕ) (value : Option (List ℕ)) → Every is_http_whitespace gap
+    → DoesNotBegin is_http_whitespace name → Every in_name name → GivesValue tail rest value → BeginsParameters rest
+    → (name_in (gap ++ (name ++ (tail ++ rest))) ≡ name)
+    × (reading (behind_name (gap ++ (name ++ (tail ++ rest)))) ≡ record { value = value; rest = rest })
+reading_of_parts gap name tail rest value g d n v b =
+    let e = behind_is is_http_whitespace gap (name ++ (tail ++ rest)) g
+    (not_begins_append is_http_whitespace name (tail ++ rest) d
+    (ends_of_tail is_http_whitespace refl refl tail rest value v b)) in
+    let m = ends_of_tail in_name refl refl tail rest value v b in (
+      ap (front_of in_name) e ∙ front_is in_name name (tail ++ rest) n m,
+      ap (λ x. reading (behind_front in_name x)) e
+          ∙ ap reading (behind_is in_name name (tail ++ rest) n m) ∙ reading_is tail rest value v b,
+    )
+
+pub append_four : (gap name tail rest : List ℕ) → (gap ++ (name ++ tail)) ++ rest ≡ gap ++ (name ++ (tail ++ rest))
+append_four gap name tail rest = append_assoc gap (name ++ tail) rest ∙ ap (λ x. gap ++ x) (append_assoc name tail rest)
+
+pub tail_equal : (a b : ℕ) (s t : List ℕ) → a ∷ s ≡ b ∷ t → s ≡ t
+tail_equal a b s t e = cc
+
+parts_of : (s text rest : List ℕ) (item : Item) (h : IsParameter text rest item) → 59 ∷ s ≡ text ++ rest
+    → s ≡ h.gap ++ (h.name ++ (h.tail ++ rest))
+parts_of s text rest item h e = tail_equal 59 59 s (h.gap ++ (h.name ++ (h.tail ++ rest))) (e
+    ∙ ap (λ x. x ++ rest) h.joined ∙ ap (λ x. 59 ∷ x) (append_four h.gap h.name h.tail rest))
+
+pair_equal : (a : List ℕ) (b : Option (List ℕ)) (c : List ℕ) (d : Option (List ℕ)) → a ≡ c → b ≡ d
+    → ◌≡◌ {A = Item} (a, b) (c, d)
+pair_equal a b c d p q = rw (p, q) refl
+
+pub item_is : (s text rest : List ℕ) (item : Item) → IsParameter text rest item → 59 ∷ s ≡ text ++ rest
+    → BeginsParameters rest → item_in s ≡ item
+item_is s text rest item h e b =
+    let p = reading_of_parts h.gap h.name h.tail rest item.1 h.in_gap h.begins h.in_name h.value_is b in
+    ap item_in (parts_of s text rest item h e) ∙ pair_equal _ _ _ _ (ap (map to_ascii_lowercase) p.0 ∙ sym h.name_is)
+    (ap (λ (r : Reading). r.value) p.1)
+
+pub rest_is : (s text rest : List ℕ) (item : Item) → IsParameter text rest item → 59 ∷ s ≡ text ++ rest
+    → BeginsParameters rest → rest_in s ≡ rest
+rest_is s text rest item h e b =
+    let p = reading_of_parts h.gap h.name h.tail rest item.1 h.in_gap h.begins h.in_name h.value_is b in
+    ap rest_in (parts_of s text rest item h e) ∙ ap (λ (r : Reading). r.rest) p.1
+
+-- One list, and no other
+
+pub begins_of_items : (r : List ℕ) (items : List Item) → Items r items → BeginsParameters r
+begins_of_items r [] h = subst BeginsParameters (sym h) tt
+begins_of_items r (item ∷ items) h = subst BeginsParameters (sym (h.2 ∙ ap (λ x. x ++ h.1) h.3.joined)) refl
+
+-- a text with an item is a semicolon, the item and its rest
+pub record Begins (r : List ℕ) (item : Item) (rest : List ℕ) : Type 0 where
+  pub s : List ℕ
+  pub is : r ≡ 59 ∷ s
+  pub item_is : item_in s ≡ item
+  pub rest_is : rest_in s ≡ rest
+
+pub begins : (r : List ℕ) (item : Item) (items : List Item) (h : Items r (item ∷ items)) → Begins r item h.1
+begins r item items h =
+    let s = h.3.gap ++ (h.3.name ++ (h.3.tail ++ h.1)) in
+    let e : 59 ∷ s ≡ h.0 ++ h.1 =
+    sym (ap (λ x. x ++ h.1) h.3.joined ∙ ap (λ x. 59 ∷ x) (append_four h.3.gap h.3.name h.3.tail h.1)) in
+    let b = begins_of_items h.1 items h.4 in
+    record {
+      s = s;
+      is = h.2 ∙ sym e;
+      item_is = item_is s h.0 h.1 item h.3 e b;
+      rest_is =
+          rest_is s h.0 h.1 item h.3 e b;
+    }
+
+begins_same : (r : List ℕ) (item item' : Item) (rest rest' : List ℕ) → Begins r item rest → Begins r item' rest'
+    → (item ≡ item') × (rest ≡ rest')
+begins_same r item item' rest rest' h k =
+    let e = tail_equal 59 59 h.s k.s (sym h.is ∙ k.is) in
+    (sym h.item_is ∙ ap item_in e ∙ k.item_is, sym h.rest_is ∙ ap rest_in e ∙ k.rest_is)
+
+begins_not_empty : (r : List ℕ) (item : Item) (rest : List ℕ) → Begins r item rest → r ≡ [] → ⊥
+begins_not_empty r item rest h e = let k = sym e ∙ h.is in cc
+
+pub only_items : (r : List ℕ) (a b : List Item) → Items r a → Items r b → a ≡ b
+only_items r [] [] h k = refl
+only_items r [] (item ∷ b) h k = absurd (begins_not_empty r item k.1 (begins r item b k) h)
+only_items r (item ∷ a) [] h k = absurd (begins_not_empty r item h.1 (begins r item a h) k)
+only_items r (item ∷ a) (item' ∷ b) h k =
+    let e = begins_same r item item' h.1 k.1 (begins r item a h) (begins r item' b k) in
+    let n = only_items k.1 a b (subst (λ x. Items x a) e.1 h.4) k.4 in
+    ap (λ x. x ∷ a) e.0 ∙ ap (λ x. item' ∷ x) n
+
+-- one more parameter before the items of the rest
+pub items_more : (s : List ℕ) (items : List Item) → Items (rest_in s) items → Items (59 ∷ s) (item_in s ∷ items)
+items_more s items h = let p = has_parameter s in (p.text, rest_in s, p.joined, p.is_parameter, h)
+
+items_below : (n : ℕ) (r : List ℕ) → length r < n → BeginsParameters r → (items : List Item) × Items r items
+items_below zero r l b = absurd (omega arith)
+items_below (suc n) [] l b = ([], refl)
+items_below (suc n) (c ∷ s) l b =
+    let p = has_parameter s in
+    let shorter : length (rest_in s) ≤ length s = rest_shorter s (rest_in s) (item_in s) p in
+    let below : length (rest_in s) < n = omega (arith, shorter) in
+    let i = items_below n (rest_in s) below p.begins in
+    subst (λ x. (items : List Item) × Items (x ∷ s) items) (sym b) (item_in s ∷ i.0, items_more s i.0 i.1)
+
+pub some_items : (r : List ℕ) → BeginsParameters r → (items : List Item) × Items r items
+some_items r b = items_below (suc (length r)) r (omega arith) b
+
+pub has_one_item_list : (r : List ℕ) → BeginsParameters r → HasOneItemList r
+has_one_item_list r b = record { some = some_items r b; only = only_items r }
+
+-- A text has at most one record.
+
+pub every_from_all : (p : ℕ → Bool) (t : List ℕ) → list_all p t ≡ true → Every p t
+every_from_all p [] h = tt
+every_from_all p (c ∷ t) h = let e = and_parts (p c) (list_all p t) h in (e.0, every_from_all p t e.1)
+
+pub all_from_every : (p : ℕ → Bool) (t : List ℕ) → Every p t → list_all p t ≡ true
+all_from_every p [] h = refl
+all_from_every p (c ∷ t) h = and_from (p c) (list_all p t) h.0 (all_from_every p t h.1)
+
+pub every_token : (t : List ℕ) → is_token_text t ≡ true → Every is_token t
+every_token [] h = tt
+every_token (c ∷ t) h = every_from_all is_token (c ∷ t) h
+
+pub every_append : (p : ℕ → Bool) (a b : List ℕ) → Every p a → Every p b → Every p (a ++ b)
+every_append p [] b h e = e
+every_append p (c ∷ a) b h e = (h.0, every_append p a b h.1 e)
+
+-- the text without its longest front and its longest end of code points that pass
+abbrev pub trimmed_of : (ℕ → Bool) → List ℕ → List ℕ
+trimmed_of p s = without_back p (behind_front p s)
+
+trimmed_joined : (p : ℕ → Bool) (front t back : List ℕ) → Every p front → Every p back → DoesNotBegin p t
+    → DoesNotEnd p t → trimmed_of p (front ++ (t ++ back)) ≡ t
+trimmed_joined p front [] back f b d e = ap (without_back p) (ap (behind_front p) (sym (append-nil (front ++ back)))
+    ∙ behind_is p (front ++ back) [] (every_append p front back f b) tt)
+trimmed_joined p front (c ∷ t) back f b d e = ap (without_back p) (behind_is p front (c ∷ (t ++ back)) f d)
+    ∙ without_back_joined p (c ∷ t) back b e
+
+pub trimmed_is : (p : ℕ → Bool) (s t : List ℕ) → IsTrimmed p s t → t ≡ trimmed_of p s
+trimmed_is p s t h = sym (ap (trimmed_of p) h.joined
+    ∙ trimmed_joined p h.front t h.back h.at_front h.at_back h.begins h.ends)
+
+-- The parts of a head
+
+abbrev pub type_in : List ℕ → List ℕ
+type_in t = front_of is_token t
+
+-- what stands behind the first code point
+abbrev pub behind_first : List ℕ → List ℕ
+behind_first [] = []
+behind_first (c ∷ t) = t
+
+abbrev pub behind_slash : List ℕ → List ℕ
+behind_slash t = behind_first (behind_front is_token t)
+
+abbrev pub subtype_in : List ℕ → List ℕ
+subtype_in t = front_of is_token (behind_slash t)
+
+abbrev pub parameters_in : List ℕ → List ℕ
+parameters_in t = behind_front is_http_whitespace (behind_front is_token (behind_slash t))
+
+-- no code point of HTTP whitespace is a token code point
+space_no_token : (c : ℕ) → is_http_whitespace c ≡ true → is_token c ≡ false
+unfolding is_token
+space_no_token c h = ⊎_elim (λ e. ap is_token (eqb-true c 9 e)) (λ h. ⊎_elim (λ e. ap is_token (eqb-true c 10 e))
+    (λ h. ⊎_elim (λ e. ap is_token (eqb-true c 13 e)) (λ e. ap is_token (eqb-true c 32 e))
+    (or_cases (c == 13) (c == 32) h)) (or_cases (c == 10) ((c == 13) || (c == 32)) h))
+    (or_cases (c == 9) ((c == 10) || ((c == 13) || (c == 32))) h)
+
+pub semicolon_no_token : is_token 59 ≡ false
+unfolding is_token
+semicolon_no_token = refl
+
+pub slash_no_token : is_token 47 ≡ false
+unfolding is_token
+slash_no_token = refl
+
+pub gap_no_token : (gap r : List ℕ) → Every is_http_whitespace gap → BeginsParameters r
+    → DoesNotBegin is_token (gap ++ r)
+gap_no_token [] r g b = ends_of_rest is_token semicolon_no_token r b
+gap_no_token (c ∷ gap) r g b = space_no_token c g.0
+
+-- the parts of a text that is joined so
+pub record HasParts (t type_ subtype parameters : List ℕ) : Type 0 where
+  pub type_is : type_in t ≡ type_
+  pub subtype_is : subtype_in t ≡ subtype
+  pub parameters_are : parameters_in t ≡ parameters
+
+parts_joined : (type_ subtype gap r : List ℕ) → Every is_token type_ → Every is_token subtype
+    → Every is_http_whitespace gap → BeginsParameters r
+    → HasParts (type_ ++ (47 ∷ (subtype ++ (gap ++ r)))) type_ subtype r
+parts_joined type_ subtype gap r t s g b =
+    let slash = ap behind_first (behind_is is_token type_ (47 ∷ (subtype ++ (gap ++ r))) t slash_no_token) in
+    let n = gap_no_token gap r g b in
+    record {
+      type_is = front_is is_token type_ (47 ∷ (subtype ++ (gap ++ r))) t slash_no_token;
+      subtype_is = ap (front_of is_token) slash ∙ front_is is_token subtype (gap ++ r) s n;
+      parameters_are = ap (λ x. behind_front is_http_whitespace (behind_front is_token x)) slash
+          ∙ ap (behind_front is_http_whitespace) (behind_is is_token subtype (gap ++ r) s n)
+          ∙ behind_is is_http_whitespace gap r g (ends_of_rest is_http_whitespace refl r b);
+    }
+
+head_parts : (s type_ subtype r : List ℕ) (h : IsHead s type_ subtype r) → HasParts h.text type_ subtype r
+head_parts s type_ subtype r h = subst (λ x. HasParts x type_ subtype r) (sym h.joined)
+    (parts_joined type_ subtype h.gap r (every_token type_ h.is_type) (every_token subtype h.is_subtype) h.in_gap
+    h.begins)
+
+pub has_parts : (s type_ subtype r : List ℕ) → IsHead s type_ subtype r
+    → HasParts (trimmed_of is_http_whitespace s) type_ subtype r
+has_parts s type_ subtype r h =
+    subst (λ x. HasParts x type_ subtype r) (trimmed_is is_http_whitespace s h.text h.trimmed)
+    (head_parts s type_ subtype r h)
+
+record_equal : (m n : Record) → m.type_ ≡ n.type_ → m.subtype ≡ n.subtype → m.parameters ≡ n.parameters → m ≡ n
+record_equal m n t s p = λ i. record { type_ = t i; subtype = s i; parameters = p i }
+
+pub same_items : (r r' : List ℕ) (a b : List Item) → r ≡ r' → Items r a → Items r' b → a ≡ b
+same_items r r' a b e h k = only_items r' a b (subst (λ x. Items x a) e h) k
+
+pub has_at_most_one_record : (s : List ℕ) → HasAtMostOneRecord s
+has_at_most_one_record s m n h k =
+    let p = has_parts s h.type_ h.subtype h.parameters h.head in
+    let q = has_parts s k.type_ k.subtype k.parameters k.head in
+    record_equal m n
+    (h.record_is.type_is ∙ ap (map to_ascii_lowercase) (sym p.type_is ∙ q.type_is) ∙ sym k.record_is.type_is)
+    (h.record_is.subtype_is ∙ ap (map to_ascii_lowercase) (sym p.subtype_is ∙ q.subtype_is)
+    ∙ sym k.record_is.subtype_is)
+    (h.record_is.parameters_are
+    ∙ ap kept_pairs (same_items h.parameters k.parameters h.record_is.items k.record_is.items (sym p.parameters_are
+    ∙ q.parameters_are) h.record_is.items_are k.record_is.items_are) ∙ sym k.record_is.parameters_are)

@@ -1,0 +1,429 @@
+-- Values of parameters, and texts without white space at an end. For `cuts.rt` and `read_plain`.
+use Rattle.std.proofs.Common.{◌≡◌, ℕ, suc, ◌+◌, ◌-◌, ◌<◌, ◌==◌, ◌||◌, Bool, true, false, not, List, [], ◌∷◌, ◌++◌}
+use Rattle.std.proofs.Common.{length, get_or, take, drop, encode_utf8, encode_utf8_all, refl, sym, ap, ◌∙◌, subst}
+use Rattle.std.proofs.Common.{append_assoc, append-nil, arith, inl, inr, take-append-drop, length-append, length-drop}
+use Rattle.std.proofs.Common.{length-take-le, eqb-true, ⊎_elim, ◌/◌, ◌≤◌, ◌&&◌, cond, Option, None, Some, Bor, map, ap₂}
+use Rattle.std.proofs.Common.{ltb}
+use Rattle.std.proofs.Math.Seq.{get_or-append_seam}
+use Rattle.std.proofs.lemmas.Bool.{and_parts, cases_Bool, cases_lt, eq-eqb, false_from_ne_true, false≢true, not-false}
+use Rattle.std.proofs.lemmas.Bool.{not_from_false, or_cases, agree_below_at, cond-true, ne_eqb, and_left, cond-false}
+use Rattle.std.proofs.lemmas.Bool.{cond_both, le-ltb, not-true, or_parts, and_from}
+use Rattle.std.proofs.lemmas.List.{get_or-drop, get_or-take, get_or_append_left}
+use Rattle.std.proofs.lemmas.List.Folds.{list_all-append, list_all_at}
+use Rattle.std.proofs.lemmas.List.Sums.{prefix_len-le-length, prefix_len_stops, suffix_len-le-length, prefix_len_passes}
+use Rattle.std.specs.List.{list_all, prefix_len, suffix_len, flat_map}
+use Rattle.data_url.proofs.texts.CodePoints.{behind_begins, front_of, front_passes, boundary_before_end, no_chars}
+use Rattle.data_url.proofs.texts.CodePoints.{range_high, in_parts}
+use Rattle.data_url.proofs.mime.TokenTexts.{drop_front, every_ascii, is_split, take_front, whole_front}
+use Rattle.data_url.proofs.header.Serialising.{suffix_passes, suffix_stops}
+use Rattle.std.proofs.lemmas.Str.{IsCharBoundary-before_ascii, IsUtf8-drop, IsUtf8-take, chars-IsAscii, chars-append}
+use Rattle.std.proofs.lemmas.Str.{chars-nil, chars_past_char, encode_ascii, encodes-append, encodes-chars}
+use Rattle.std.proofs.lemmas.Str.{IsUtf8-encode, cons_from_encodes}
+use Rattle.std.specs.Str.{IsCharBoundary, IsUtf8, chars, all_scalars}
+use Rattle.data_url.specs.CodePoints.{ends_name, is_http_whitespace, is_semicolon, is_quotable}
+use Rattle.data_url.specs.Mime.{DoesNotBegin, DoesNotEnd, Every, IsTrimmedEnd, Without, Escaped, Plain, Quoted}
+use Rattle.data_url.specs.Mime.{QuotedOpen, QuotedUnit, unit_text, unit_value}
+use Rattle.data_url.specs.Steps.Parsing.{IsTrimmedFront, is_escaped, IsValue, is_quotable_byte, quotable_value}
+use Rattle.data_url.specs.Steps.Parsing.{is_unquoted_byte}
+use Rattle.data_url.proofs.mime.Items.{all_from_every}
+use Rattle.std.specs.Char.{IsScalar}
+use Rattle.std.specs.Int.{is_in_range}
+use lib.Utf8.{encode, next, scalar}
+use Rattle.data_url.specs.declared.mime.values.Value.{Value}
+use Rattle.data_url.proofs.mime.Quoted.{unescaped, unescaped_is, unescaped_one}
+use Rattle.data_url.specs.declared.mime.values.Value.TheVariants as slices
+
+-- Texts cut at a byte, and without HTTP whitespace at an end, as texts of code points.
+
+-- A cut at the first byte that passes, of an ASCII class
+
+pub record IsCut (t : ℕ → Bool) (s front behind : List ℕ) : Type 0 where
+  pub joined : chars s ≡ chars front ++ chars behind
+  pub in_front : Without t (chars front)
+  pub begins : DoesNotBegin (λ c. not (t c)) (chars behind)
+  pub text : IsUtf8 front × IsUtf8 behind
+
+module _ (t : ℕ → Bool) (ascii : (c : ℕ) → t c ≡ true → c < 128) where
+  fails : (b : ℕ) → not (t b) ≡ false → t b ≡ true
+  fails b h = not-false (t b) h
+
+  char_fails : (c : ℕ) → list_all (λ b. not (t b)) (encode_utf8 c) ≡ true → not (t c) ≡ true
+  char_fails c h = elim (cases_Bool (t c)) [
+    | inl e ↦ (and_parts (not (t c)) true (sym (ap (list_all (λ b. not (t b))) (encode_ascii c (ascii c e))) ∙ h)).0
+    | inr e ↦ not_from_false (t c) e
+  ]
+
+  chars_fail : (cs : List ℕ) → list_all (λ b. not (t b)) (encode_utf8_all cs) ≡ true → Without t cs
+  chars_fail [] h = tt
+  chars_fail (c ∷ cs) h =
+      let p = and_parts (list_all (λ b. not (t b)) (encode_utf8 c)) (list_all (λ b. not (t b)) (encode_utf8_all cs))
+      (sym (list_all-append (λ b. not (t b)) (encode_utf8 c) (encode_utf8_all cs)) ∙ h) in
+      (char_fails c p.0, chars_fail cs p.1)
+
+  pub whole_without : (s bytes : List ℕ) (n : ℕ) → IsUtf8 s → bytes ≡ s → n ≡ prefix_len (λ b. not (t b)) bytes
+      → n ≡ length s → Without t (chars s)
+  whole_without s bytes n u b e h =
+      let p : ℕ → Bool = λ b. not (t b) in
+      chars_fail (chars s) (ap (list_all p) (encodes-chars s u) ∙ whole_front p s
+      ∙ eq-eqb (prefix_len p s) (length s) (sym (e ∙ ap (prefix_len p) b) ∙ h))
+
+  begins_with : (bs : List ℕ) → IsUtf8 bs → DoesNotBegin (λ b. not (t b)) bs → DoesNotBegin (λ c. not (t c)) (chars bs)
+  begins_with [] u h = subst (DoesNotBegin (λ c. not (t c))) (sym chars-nil) tt
+  begins_with (b ∷ bs) u h =
+      subst (DoesNotBegin (λ c. not (t c)))
+      (sym (chars_past_char (b ∷ bs) bs b u (ap (λ e. e ++ bs) (sym (encode_ascii b (ascii b (fails b h))))))) h
+
+  module _ (s : List ℕ) (u : IsUtf8 s) where
+    pub cut_boundary : IsCharBoundary s (prefix_len (λ b. not (t b)) s)
+    cut_boundary = elim (cases_lt (prefix_len (λ b. not (t b)) s) (length s)) [
+      | inl l ↦ IsCharBoundary-before_ascii s (prefix_len (λ b. not (t b)) s) l
+          (ascii (get_or s (prefix_len (λ b. not (t b)) s) 0) (fails (get_or s (prefix_len (λ b. not (t b)) s) 0)
+          (prefix_len_stops (λ b. not (t b)) s 0 l)))
+      | inr l ↦ (prefix_len-le-length (λ b. not (t b)) s, λ k. absurd (omega (arith, l, k)))
+    ]
+
+    pub is_cut : IsCut t s (take (prefix_len (λ b. not (t b)) s) s) (drop (prefix_len (λ b. not (t b)) s) s)
+    is_cut =
+        let p : ℕ → Bool = λ b. not (t b) in
+        let n = prefix_len p s in
+        let front = IsUtf8-take s n u cut_boundary in
+        let behind = IsUtf8-drop s n u cut_boundary in
+        record {
+          joined = ap chars (sym (take-append-drop n s)) ∙ chars-append (take n s) (drop n s) front;
+          in_front = chars_fail (chars (take n s)) (ap (list_all p) (encodes-chars (take n s) front ∙ take_front p s)
+              ∙ all_from_every p (front_of p s) (front_passes p s));
+          begins = begins_with (drop n s) behind (subst (DoesNotBegin p) (sym (drop_front p s)) (behind_begins p s));
+          text = (front, behind);
+        }
+
+  pub boundary_by : (s bytes : List ℕ) (n : ℕ) → IsUtf8 s → n ≡ prefix_len (λ b. not (t b)) bytes → bytes ≡ s
+      → IsCharBoundary s n
+  boundary_by s bytes n u e b = subst (IsCharBoundary s) (sym (e ∙ ap (prefix_len (λ b. not (t b))) b))
+      (cut_boundary s u)
+
+  pub cut_by : (s bytes front behind : List ℕ) (n : ℕ) → IsUtf8 s → n ≡ prefix_len (λ b. not (t b)) bytes → bytes ≡ s
+      → front ≡ take n s → behind ≡ drop n s → IsCut t s front behind
+  cut_by s bytes front behind n u e b f g = let k = e ∙ ap (prefix_len (λ b. not (t b))) b in rw (f, g, k) (is_cut s u)
+
+pub semicolon_below : (c : ℕ) → is_semicolon c ≡ true → c < 128
+semicolon_below c h = let k = eqb-true c 59 h in omega arith
+
+pub name_end_below : (c : ℕ) → ends_name c ≡ true → c < 128
+name_end_below c h = ⊎_elim (λ e. let k = eqb-true c 59 e in omega arith) (λ e. let k = eqb-true c 61 e in omega arith)
+    (or_cases (c == 59) (c == 61) h)
+
+pub escaped_below : (c : ℕ) → is_escaped c ≡ true → c < 128
+escaped_below c h = ⊎_elim (λ e. let k = eqb-true c 34 e in omega arith) (λ e. let k = eqb-true c 92 e in omega arith)
+    (or_cases (c == 34) (c == 92) h)
+
+-- HTTP whitespace taken off
+
+pub whitespace_below : (c : ℕ) → is_http_whitespace c ≡ true → c < 128
+whitespace_below c h = ⊎_elim (λ e. let k = eqb-true c 9 e in omega arith)
+    (λ h. ⊎_elim (λ e. let k = eqb-true c 10 e in omega arith)
+    (λ h. ⊎_elim (λ e. let k = eqb-true c 13 e in omega arith) (λ e. let k = eqb-true c 32 e in omega arith)
+    (or_cases (c == 13) (c == 32) h)) (or_cases (c == 10) ((c == 13) || (c == 32)) h))
+    (or_cases (c == 9) ((c == 10) || ((c == 13) || (c == 32))) h)
+
+pub whitespace_front : (s : List ℕ) → IsUtf8 s
+    → IsTrimmedFront is_http_whitespace (chars s) (chars (drop (prefix_len is_http_whitespace s) s))
+whitespace_front s u =
+    let h = is_split is_http_whitespace whitespace_below s u in
+    record {
+      front = chars (take (prefix_len is_http_whitespace s) s);
+      joined = h.joined;
+      at_front =
+          h.in_front;
+      begins = h.begins;
+    }
+
+not_ends : (p : ℕ → Bool) (front cs : List ℕ) → ((init : List ℕ) (c : ℕ) → front ++ cs ≡ init ++ (c ∷ []) → p c ≡ false)
+    → DoesNotEnd p cs
+not_ends p front [] h = tt
+not_ends p front (c ∷ []) h = h front c refl
+not_ends p front (c ∷ d ∷ cs) h =
+    not_ends p (front ++ (c ∷ [])) (d ∷ cs) (λ init e k. h init e (sym (append_assoc front (c ∷ []) (d ∷ cs)) ∙ k))
+
+encodes_last : (init : List ℕ) (c : ℕ) → encode_utf8_all (init ++ (c ∷ [])) ≡ encode_utf8_all init ++ encode_utf8 c
+encodes_last init c = encodes-append init (c ∷ []) ∙ ap (λ x. encode_utf8_all init ++ x) (append-nil (encode_utf8 c))
+
+pub every_from : (p : ℕ → Bool) (s : List ℕ) → ((k : ℕ) → k < length s → p (get_or s k 0) ≡ true) → Every p s
+every_from p [] h = tt
+every_from p (b ∷ s) h = (h 0 (omega arith), every_from p s (λ k l. h (suc k) (omega arith)))
+
+-- a text whose last byte does not pass
+ends_other : (p : ℕ → Bool) → ((c : ℕ) → p c ≡ true → c < 128) → (r : List ℕ) → IsUtf8 r
+    → ((n : ℕ) → length r ≡ n + 1 → p (get_or r n 0) ≡ false) → DoesNotEnd p (chars r)
+ends_other p below r u h = not_ends p [] (chars r) (λ init c e. false_from_ne_true (p c) (λ t.
+    let a = encode_utf8_all init in
+    let whole : r ≡ a ++ (c ∷ []) = sym (encodes-chars r u) ∙ ap encode_utf8_all e ∙ encodes_last init c
+    ∙ ap (λ x. a ++ x) (encode_ascii c (below c t)) in
+    let long : length r ≡ length a + 1 = ap length whole ∙ length-append a (c ∷ []) in
+    let last : get_or r (length a) 0 ≡ c = ap (λ x. get_or x (length a) 0) whole ∙ get_or-append_seam a c [] 0 in
+    false≢true (sym (h (length a) long) ∙ ap p last ∙ t)))
+
+pub trimmed_end : (p : ℕ → Bool) → ((c : ℕ) → p c ≡ true → c < 128) → (s : List ℕ) → IsUtf8 s
+    → IsTrimmedEnd p (chars s) (chars (take (length s - suffix_len p s) s))
+trimmed_end p below s u =
+    let m = suffix_len p s in
+    let few = suffix_len-le-length p s in
+    let k = length s - m in
+    let front = IsUtf8-take s k u (boundary_before_end p below s u) in
+    let passes = every_from p (drop k s) (λ i l.
+    let within : i < m = omega (arith, length-drop k s) in
+    ap p (get_or-drop k s i 0) ∙ suffix_passes p s m (k + i) refl (omega arith) (omega arith)) in
+    record {
+      back = drop k s;
+      joined = ap chars (sym (take-append-drop k s)) ∙ chars-append (take k s) (drop k s) front
+          ∙ ap (λ x. chars (take k s) ++ x) (chars-IsAscii (drop k s) (every_ascii p below (drop k s) passes));
+      at_back = passes;
+      ends = ends_other p below (take k s) front (λ n e.
+          let long : length (take k s) ≡ k = length-take-le k s (omega arith) in
+          ap p (get_or-take k s n 0 (omega arith)) ∙ suffix_stops p s m n refl (omega arith));
+    }
+
+pub whitespace_end : (s : List ℕ) (n : ℕ) → IsUtf8 s → n ≡ length s - suffix_len is_http_whitespace s
+    → IsTrimmedEnd is_http_whitespace (chars s) (chars (take n s))
+whitespace_end s n u e = subst (λ i. IsTrimmedEnd is_http_whitespace (chars s) (chars (take i s))) (sym e)
+    (trimmed_end is_http_whitespace whitespace_below s u)
+
+-- Values as texts of their own.
+
+-- The bytes of quoted-string code points
+
+quotable_below : (c : ℕ) → is_quotable c ≡ true → c < 256
+unfolding is_quotable
+quotable_below c h = ⊎_elim (λ r. ⊎_elim (λ e. let k = eqb-true c 9 e in omega arith) (λ r. let k =
+    range_high 32 126 c r in omega arith) (or_cases (c == 9) (is_in_range 32 126 c) r)) (λ r. let k =
+    range_high 128 255 c r in omega arith) (or_cases ((c == 9) || is_in_range 32 126 c) (is_in_range 128 255 c) h)
+
+quotable_byte_below : (b : ℕ) → is_quotable_byte b ≡ true → b < 196
+unfolding is_quotable_byte
+quotable_byte_below b h =
+    ⊎_elim (λ r. ⊎_elim (λ e. let k = eqb-true b 9 e in omega arith) (λ r. let k = range_high 32 126 b r in omega arith)
+    (or_cases (b == 9) (is_in_range 32 126 b) r)) (λ r. let k = range_high 128 195 b r in omega arith)
+    (or_cases ((b == 9) || is_in_range 32 126 b) (is_in_range 128 195 b) h)
+
+not_quotable : (c : ℕ) → 256 ≤ c → is_quotable c ≡ false
+not_quotable c l = false_from_ne_true (is_quotable c) (λ h. let k = quotable_below c h in absurd (omega arith))
+
+high_byte : (b : ℕ) (t : List ℕ) → 196 ≤ b → list_all is_quotable_byte (b ∷ t) ≡ false
+high_byte b t l = and_left (is_quotable_byte b) (list_all is_quotable_byte t)
+    (false_from_ne_true (is_quotable_byte b) (λ h. let k = quotable_byte_below b h in absurd (omega arith)))
+
+low_quotable : (c : ℕ) → c < 2048 → list_all is_quotable_byte (encode c) ≡ is_quotable c
+unfolding encode is_quotable is_quotable_byte
+low_quotable c l = agree_below_at (λ x. list_all is_quotable_byte (encode x)) is_quotable 2048 c refl l
+
+high_quotable : (c : ℕ) → 2048 ≤ c → list_all is_quotable_byte (encode c) ≡ false
+unfolding encode
+high_quotable c l =
+    let P : List ℕ → Type 0 = λ x. list_all is_quotable_byte x ≡ false in
+    subst P (sym (cond-false (ltb c 128) (c ∷ []) _ (le-ltb c 128 (omega arith))))
+    (subst P (sym (cond-false (ltb c 2048) _ _ (le-ltb c 2048 l)))
+    (cond_both (ltb c 65536) _ _ P (λ k. high_byte (224 + c / 4096) (next (c / 64) ∷ next c ∷ []) (omega arith))
+    (λ k. high_byte (240 + c / 262144) (next (c / 4096) ∷ next (c / 64) ∷ next c ∷ []) (omega arith))))
+
+quotable_encoded : (c : ℕ) → list_all is_quotable_byte (encode c) ≡ is_quotable c
+quotable_encoded c = elim (cases_lt c 2048) [
+  | inl l ↦ low_quotable c l
+  | inr l ↦ high_quotable c l
+      ∙ sym (not_quotable c (omega arith))
+]
+
+quotable_bytes : (cs : List ℕ) → list_all is_quotable_byte (encode_utf8_all cs) ≡ list_all is_quotable cs
+quotable_bytes [] = refl
+quotable_bytes (c ∷ cs) = list_all-append is_quotable_byte (encode c) (encode_utf8_all cs)
+    ∙ ap₂ (λ x y. x && y) (quotable_encoded c) (quotable_bytes cs)
+
+pub quotable_chars : (bs : List ℕ) → IsUtf8 bs → list_all is_quotable_byte bs ≡ list_all is_quotable (chars bs)
+quotable_chars bs u = ap (list_all is_quotable_byte) (sym (encodes-chars bs u)) ∙ quotable_bytes (chars bs)
+
+pub quotable_by_front : (bs text : List ℕ) (n : ℕ) → IsUtf8 text → n ≡ prefix_len is_quotable_byte bs → bs ≡ text
+    → (n == length text) ≡ list_all is_quotable (chars text)
+quotable_by_front bs text n u e b = ap (λ k. k == length text) (e ∙ ap (prefix_len is_quotable_byte) b)
+    ∙ sym (whole_front is_quotable_byte text) ∙ quotable_chars text u
+
+-- The value of a quoted string, written code point by code point
+
+pub then_escaped : (c : ℕ) (e e' : Bool) → c ≡ 92 → e' ≡ not e → e' ≡ ((c == 92) && not e)
+then_escaped c e e' h k = k ∙ ap (λ b. b && not e) (sym (eq-eqb c 92 h))
+
+pub else_escaped : (c : ℕ) (e e' : Bool) → (c ≡ 92 → ⊥) → e' ≡ (c == 92) → e' ≡ ((c == 92) && not e)
+else_escaped c e e' h k = k ∙ ne_eqb c 92 h ∙ ap (λ b. b && not e) (sym (ne_eqb c 92 h))
+
+unescaped_step : (e : Bool) (c : ℕ) (t : List ℕ) → unescaped e (c ∷ t) ≡ cond ((c == 92) && not e) (unescaped true t)
+    (c ∷ unescaped false t)
+unescaped_step true c t = refl
+unescaped_step false c t = refl
+
+scalar_first : (cs r : List ℕ) (c : ℕ) → all_scalars cs ≡ true → encode_utf8_all cs ≡ encode c ++ r → IsScalar c
+scalar_first cs r c s e = let k = cons_from_encodes cs r c e in
+    (and_parts (scalar c) (all_scalars k.0) (ap all_scalars (sym k.1) ∙ s)).0
+
+-- the first code point of a text is one
+pub scalar_from : (r r' : List ℕ) (c : ℕ) → IsUtf8 r → r ≡ encode c ++ r' → IsScalar c
+scalar_from r r' c u e = scalar_first u.0 r' c u.1.0 (u.1.1 ∙ e)
+
+pub chars_encode : (c : ℕ) → IsScalar c → chars (encode c) ≡ c ∷ []
+chars_encode c s = chars_past_char (encode c) [] c (IsUtf8-encode c s) (sym (append-nil (encode c)))
+    ∙ ap (λ t. c ∷ t) chars-nil
+
+pub chars_push : (v : List ℕ) (c : ℕ) → IsUtf8 v → IsScalar c → chars (v ++ encode c) ≡ chars v ++ (c ∷ [])
+chars_push v c u s = chars-append v (encode c) u ∙ ap (λ t. chars v ++ t) (chars_encode c s)
+
+pub unescape_starts : (v r q : List ℕ) → v ≡ [] → r ≡ q → chars v ++ unescaped false (chars r) ≡ unescaped false
+    (chars q)
+unescape_starts v r q e f = rw (e, f, chars-nil) refl
+
+pub unescape_pushes : (v v' r r' whole : List ℕ) (c : ℕ) (e e' : Bool) → IsUtf8 v → IsUtf8 r → r ≡ encode c ++ r'
+    → v' ≡ v ++ encode c → e' ≡ ((c == 92) && not e) → e' ≡ false → chars v ++ unescaped e (chars r) ≡ whole
+    → chars v' ++ unescaped e' (chars r') ≡ whole
+unescape_pushes v v' r r' whole c e e' u w s g k f h =
+    ap₂ (λ x y. x ++ y) (ap chars g ∙ chars_push v c u (scalar_from r r' c w s)) (ap (λ b. unescaped b (chars r')) f)
+    ∙ append_assoc (chars v) (c ∷ []) (unescaped false (chars r'))
+    ∙ ap (λ x. chars v ++ x) (sym (ap (unescaped e) (chars_past_char r r' c w s) ∙ unescaped_step e c (chars r')
+    ∙ cond-false ((c == 92) && not e) (unescaped true (chars r')) (c ∷ unescaped false (chars r')) (sym k ∙ f)))
+    ∙ h
+
+pub unescape_skips : (v r r' whole : List ℕ) (c : ℕ) (e e' : Bool) → IsUtf8 r → r ≡ encode c ++ r'
+    → e' ≡ ((c == 92) && not e) → e' ≡ true → chars v ++ unescaped e (chars r) ≡ whole
+    → chars v ++ unescaped e' (chars r') ≡ whole
+unescape_skips v r r' whole c e e' w s k f h =
+    ap (λ b. chars v ++ unescaped b (chars r')) f
+    ∙ ap (λ x. chars v ++ x) (sym (ap (unescaped e) (chars_past_char r r' c w s) ∙ unescaped_step e c (chars r')
+    ∙ cond-true ((c == 92) && not e) (unescaped true (chars r')) (c ∷ unescaped false (chars r')) (sym k ∙ f)))
+    ∙ h
+
+pub unescape_ends : (v v' r q value : List ℕ) (e : Bool) → IsUtf8 v → length r ≡ 0 → e ≡ true → v' ≡ v ++ encode 92
+    → chars v ++ unescaped e (chars r) ≡ unescaped false (chars q) → QuotedOpen (chars q) value → chars v' ≡ value
+unescape_ends v v' r q value e u l f g h k =
+    ap chars g ∙ chars_push v 92 u refl ∙ ap (λ b. chars v ++ unescaped b []) (sym f)
+    ∙ ap (λ t. chars v ++ unescaped e t) (sym (no_chars r l)) ∙ h ∙ unescaped_is (chars q) value k
+
+pub unescape_ends_plain : (v r q value : List ℕ) (e : Bool) → length r ≡ 0 → e ≡ false
+    → chars v ++ unescaped e (chars r) ≡ unescaped false (chars q) → QuotedOpen (chars q) value → chars v ≡ value
+unescape_ends_plain v r q value e l f h k =
+    sym (append-nil (chars v)) ∙ ap (λ b. chars v ++ unescaped b []) (sym f)
+    ∙ ap (λ t. chars v ++ unescaped e t) (sym (no_chars r l)) ∙ h ∙ unescaped_is (chars q) value k
+
+-- A quoted string may be asked for quoted-string code points before it is unescaped
+
+backslash_quotable : is_quotable 92 ≡ true
+unfolding is_quotable
+backslash_quotable = refl
+
+escaped_quotable : (c : ℕ) (b : Bool) → (is_quotable 92 && (is_quotable c && b)) ≡ (is_quotable c && b)
+escaped_quotable c b = ap (λ x. x && (is_quotable c && b)) backslash_quotable
+
+units_quotable : (units : List QuotedUnit) → list_all is_quotable (flat_map unit_text units) ≡ list_all is_quotable
+    (map unit_value units)
+units_quotable [] = refl
+units_quotable (Plain c ∷ units) = ap (λ b. is_quotable c && b) (units_quotable units)
+units_quotable (Escaped c ∷ units) = escaped_quotable c (list_all is_quotable (flat_map unit_text units))
+    ∙ ap (λ b. is_quotable c && b) (units_quotable units)
+
+quoted_same : (q v : List ℕ) → Quoted q v → list_all is_quotable q ≡ list_all is_quotable v
+quoted_same q v h = rw (h.text_is, h.value_is) (units_quotable h.units)
+
+pub quoted_quotable : (q v : List ℕ) → QuotedOpen q v → list_all is_quotable q ≡ list_all is_quotable v
+quoted_quotable q v (inl h) = quoted_same q v h
+quoted_quotable q v (inr (q', v', t, e, h)) =
+    ap (list_all is_quotable) t ∙ list_all-append is_quotable q' (92 ∷ [])
+    ∙ ap (λ b. b && list_all is_quotable (92 ∷ [])) (quoted_same q' v' h)
+    ∙ sym (list_all-append is_quotable v' (92 ∷ [])) ∙ ap (list_all is_quotable) (sym e)
+
+-- What a value's own text is
+
+pub quotable_some : (v : List ℕ) → list_all is_quotable v ≡ true → quotable_value (Some v) ≡ Some v
+quotable_some v h = cond-true (list_all is_quotable v) (Some v) None h
+
+pub quotable_none : (v : List ℕ) → list_all is_quotable v ≡ false → quotable_value (Some v) ≡ None
+quotable_none v h = cond-false (list_all is_quotable v) (Some v) None h
+
+pub quoted_text : (self : Value) (text : Bor (List ℕ)) (value : Option (List ℕ)) (code : List ℕ)
+    → self ≡ slices.Quoted text → IsValue self value → true ≡ list_all is_quotable (chars text.now)
+    → ((v : List ℕ) → QuotedOpen (chars text.now) v → code ≡ v)
+    → ◌≡◌ {A = Option (List ℕ)} (Some code) (quotable_value value)
+quoted_text self text value code e i q h =
+    let k = subst (λ s. IsValue s value) e i in
+    ap Some (h k.0 k.2) ∙ sym (ap quotable_value k.1 ∙ quotable_some k.0 (sym (quoted_quotable (chars text.now) k.0 k.2)
+    ∙ sym q))
+
+pub no_quoted_text : (self : Value) (text : Bor (List ℕ)) (value : Option (List ℕ)) → self ≡ slices.Quoted text
+    → IsValue self value → list_all is_quotable (chars text.now) ≡ false → None ≡ quotable_value value
+no_quoted_text self text value e i q =
+    let k = subst (λ s. IsValue s value) e i in
+    sym (ap quotable_value k.1 ∙ quotable_none k.0 (sym (quoted_quotable (chars text.now) k.0 k.2) ∙ q))
+
+pub missing_text : (self : Value) (value : Option (List ℕ)) → self ≡ slices.Missing → IsValue self value
+    → None ≡ quotable_value value
+missing_text self value e i = let k = subst (λ s. IsValue s value) e i in sym k
+
+-- A quoted string without a '\'
+
+stays_unescaped : (cs : List ℕ) → Without is_escaped cs → unescaped false cs ≡ cs
+stays_unescaped [] h = refl
+stays_unescaped (c ∷ cs) h = unescaped_one c cs (or_parts (c == 34) (c == 92) (not-true (is_escaped c) h.0)).1
+    ∙ ap (λ t. c ∷ t) (stays_unescaped cs h.1)
+
+pub copied : (v q value : List ℕ) → Without is_escaped (chars q) → v ≡ q → QuotedOpen (chars q) value → chars v ≡ value
+copied v q value h g k = ap chars g ∙ sym (stays_unescaped (chars q) h) ∙ unescaped_is (chars q) value k
+
+pub plain_text : (self : Value) (text : Bor (List ℕ)) (value : Option (List ℕ)) (code : List ℕ)
+    → self ≡ slices.Plain text → IsValue self value → code ≡ chars text.now → Some code ≡ quotable_value value
+plain_text self text value code e i h =
+    let k = subst (λ s. IsValue s value) e i in
+    ap Some h ∙ sym (ap quotable_value k.0 ∙ quotable_some (chars text.now) k.1)
+
+-- Values without quotes: whether what stands before a ';' has quoted-string code points alone.
+
+no_semicolon_byte : (c : ℕ) → is_unquoted_byte c ≡ true → not (is_semicolon c) ≡ true
+no_semicolon_byte c h = (and_parts (is_quotable_byte c) (not (is_semicolon c)) h).1
+
+-- what the two parts are in the bytes of a text
+pub front_len : (bytes behind : List ℕ) (quotable more : ℕ) → quotable ≡ prefix_len is_unquoted_byte bytes
+    → behind ≡ drop quotable bytes → more ≡ prefix_len (λ b. not (is_semicolon b)) behind
+    → quotable + more ≡ prefix_len (λ b. not (is_semicolon b)) bytes
+front_len = in_parts is_unquoted_byte (λ b. not (is_semicolon b)) no_semicolon_byte
+
+all_quotable : (bs : List ℕ) → Every is_unquoted_byte bs → list_all is_quotable_byte bs ≡ true
+all_quotable [] h = refl
+all_quotable (b ∷ bs) h = and_from (is_quotable_byte b) (list_all is_quotable_byte bs)
+    (and_parts (is_quotable_byte b) (not (is_semicolon b)) h.0).0 (all_quotable bs h.1)
+
+-- a front of a text that is no longer than its first part has quoted-string code points alone
+pub short_quotable : (text t more : List ℕ) (q : ℕ) → text ≡ t ++ more → IsUtf8 t → q ≡ prefix_len is_unquoted_byte text
+    → length t ≤ q → list_all is_quotable (chars t) ≡ true
+short_quotable text t more q e u h few =
+    sym (quotable_chars t u)
+    ∙ all_quotable t (every_from is_unquoted_byte t (λ k l.
+    ap is_unquoted_byte (sym (get_or_append_left t more 0 k l) ∙ ap (λ x. get_or x k 0) (sym e))
+    ∙ prefix_len_passes is_unquoted_byte text k 0 (subst (λ n. k < n) h (omega (arith, few)))))
+
+-- a longer one that has no ';' has another
+pub long_other : (text t more : List ℕ) (q n : ℕ) → text ≡ t ++ more → IsUtf8 t → q ≡ prefix_len is_unquoted_byte text
+    → n ≡ prefix_len (λ b. not (is_semicolon b)) text → length t ≤ n → q < length t
+    → list_all is_quotable (chars t) ≡ false
+long_other text t more q n e u h m few l =
+    let p : ℕ → Bool = λ b. not (is_semicolon b) in
+    let same : get_or t q 0 ≡ get_or text q 0 = sym (get_or_append_left t more 0 q l)
+    ∙ ap (λ x. get_or x q 0) (sym e) in
+    let long : length text ≡ length t + length more = ap length e ∙ length-append t more in
+    let passes : p (get_or text q 0) ≡ true =
+    prefix_len_passes p text q 0 (subst (λ i. q < i) m (omega (arith, few))) in
+    let fails : is_unquoted_byte (get_or text q 0) ≡ false = subst (λ i. is_unquoted_byte (get_or text i 0) ≡ false)
+    (sym h) (prefix_len_stops is_unquoted_byte text 0 (subst (λ i. i < length text) h (omega (arith, long)))) in
+    let other : is_quotable_byte (get_or text q 0) ≡ false = false_from_ne_true (is_quotable_byte (get_or text q 0))
+    (λ w. false≢true (sym fails ∙ and_from (is_quotable_byte (get_or text q 0)) (p (get_or text q 0)) w passes)) in
+    sym (quotable_chars t u) ∙ list_all_at is_quotable_byte t q 0 l (ap is_quotable_byte same ∙ other)
+
+-- the bytes of a text without white space at its end begin it
+pub trimmed_bytes : (text front t rest : List ℕ) → text ≡ front ++ rest → IsUtf8 front → IsUtf8 t
+    → IsTrimmedEnd is_http_whitespace (chars front) (chars t) → (more : List ℕ) × (front ≡ t ++ more)
+    × (text ≡ t ++ (more ++ rest))
+trimmed_bytes text front t rest e u w h =
+    let back = encode_utf8_all h.back in
+    let is : front ≡ t ++ back = sym (encodes-chars front u) ∙ ap encode_utf8_all h.joined
+    ∙ encodes-append (chars t) h.back ∙ ap (λ x. x ++ back) (encodes-chars t w) in
+    (back, is, e ∙ ap (λ x. x ++ rest) is ∙ append_assoc t back rest)

@@ -1,0 +1,286 @@
+-- Type, subtype and parameters, as the parser cuts them. For `parse.rt`.
+use Rattle.std.proofs.Common.{◌≡◌, ℕ, ◌==◌, Bool, true, false, List, [], ◌∷◌, ◌++◌, length, drop, None, IsTrue}
+use Rattle.std.proofs.Common.{encode_utf8, encode_utf8_all, refl, sym, ap, ◌∙◌, subst, arith, not, Option, Some, map}
+use Rattle.std.proofs.Common.{append_assoc, append-nil}
+use Rattle.std.proofs.lemmas.Bool.{both_ways, false≢true, ne_eqb, eqb-true, false_from_ne_true}
+use Rattle.std.proofs.lemmas.Str.{chars-nil, chars_past_char, encodes-chars}
+use Rattle.std.specs.Bool.{MatchBool}
+use Rattle.std.specs.Str.{IsUtf8, chars}
+use Rattle.std.specs.Str.Pattern.{FindsCharPrefix, HasCharAt, HasPrefixMatch}
+use Rattle.data_url.specs.CodePoints.{is_http_whitespace, is_token, ends_name, is_semicolon}
+use Rattle.data_url.specs.Mime.{BeginsParameters, DoesNotBegin, Every, IsHead, IsTrimmed, IsTrimmedEnd, is_token_text}
+use Rattle.data_url.specs.Mime.{Quoted, QuotedOpen, Without, is_quote, nothing, plain, quoted, unclosed, unless_empty}
+use Rattle.data_url.specs.Steps.Parsing.{HasNoHead, IsTrimmedFront, HasParameterBefore, HasValueBefore}
+use Rattle.data_url.proofs.texts.CodePoints.{behind_front, behind_is, front_is, front_of}
+use Rattle.data_url.proofs.mime.Items.{ends_of_rest, tail_equal, all_from_every, every_token, gap_no_token}
+use Rattle.data_url.proofs.mime.Items.{slash_no_token, trimmed_is, semicolon_from}
+use Rattle.std.specs.Char.{to_ascii_lowercase}
+
+-- The head of a MIME type: what the parser cuts is it, and is it alone.
+
+pub not_begins_left : (p : ℕ → Bool) (a b : List ℕ) → DoesNotBegin p (a ++ b) → DoesNotBegin p a
+not_begins_left p [] b h = tt
+not_begins_left p (c ∷ a) b h = h
+
+pub trimmed_both : (p : ℕ → Bool) (s a t : List ℕ) → IsTrimmedFront p s a → IsTrimmedEnd p a t → IsTrimmed p s t
+trimmed_both p s a t f e = record {
+  front = f.front;
+  back = e.back;
+  joined = f.joined ∙ ap (λ x. f.front ++ x) e.joined;
+  at_front = f.at_front;
+  at_back = e.at_back;
+  begins = not_begins_left p t e.back (subst (DoesNotBegin p) e.joined f.begins);
+  ends = e.ends;
+}
+
+-- a text has one longest front that passes
+pub same_span : (p : ℕ → Bool) (a b c d : List ℕ) → a ++ b ≡ c ++ d → Every p a → DoesNotBegin p b → Every p c
+    → DoesNotBegin p d → (a ≡ c) × (b ≡ d)
+same_span p a b c d e f g h k = (
+  sym (front_is p a b f g) ∙ ap (front_of p) e ∙ front_is p c d h k,
+  sym (behind_is p a b f g)
+      ∙ ap (behind_front p) e ∙ behind_is p c d h k,
+)
+
+-- What the parser cut: the type with what stands behind it, the subtype with what stands behind it, and the parameters
+pub record Cut (s ty x : List ℕ) : Type 0 where
+  pub text : List ℕ
+  pub trimmed : IsTrimmed is_http_whitespace s text
+  pub joined : text ≡ ty ++ x
+  pub tokens : Every is_token ty
+  pub begins : DoesNotBegin is_token x
+
+pub record CutAgain (y su p : List ℕ) : Type 0 where
+  pub behind : List ℕ
+  pub joined : y ≡ su ++ behind
+  pub tokens : Every is_token su
+  pub begins : DoesNotBegin is_token behind
+  pub front : IsTrimmedFront is_http_whitespace behind p
+
+pub head_forced : (s ty x a b c : List ℕ) → Cut s ty x → (h : IsHead s a b c)
+    → (ty ≡ a) × (x ≡ 47 ∷ (b ++ (h.gap ++ c)))
+head_forced s ty x a b c k h =
+    same_span is_token ty x a (47 ∷ (b ++ (h.gap ++ c))) (sym k.joined
+    ∙ trimmed_is is_http_whitespace s k.text k.trimmed ∙ sym (trimmed_is is_http_whitespace s h.text h.trimmed)
+    ∙ h.joined) k.tokens k.begins (every_token a h.is_type) slash_no_token
+
+pub rest_forced : (s y su p a b c : List ℕ) → CutAgain y su p → (h : IsHead s a b c) → y ≡ b ++ (h.gap ++ c)
+    → (su ≡ b) × (p ≡ c)
+rest_forced s y su p a b c k h e =
+    let w = same_span is_token su k.behind b (h.gap ++ c) (sym k.joined ∙ e) k.tokens k.begins
+    (every_token b h.is_subtype) (gap_no_token h.gap c h.in_gap h.begins) in (
+      w.0,
+      (same_span is_http_whitespace k.front.front p h.gap c (sym k.front.joined ∙ w.1) k.front.at_front
+          k.front.begins h.in_gap (ends_of_rest is_http_whitespace refl c h.begins)).1,
+    )
+
+not_empty : (a : List ℕ) → IsTrue (is_token_text a) → a ≡ [] → ⊥
+not_empty a h e = false≢true (sym (ap is_token_text e) ∙ h)
+
+pub no_slash : (s ty x : List ℕ) → Cut s ty x → ((w : List ℕ) → x ≡ 47 ∷ w → ⊥) → HasNoHead s
+no_slash s ty x k n a b c h = n (b ++ (h.gap ++ c)) (head_forced s ty x a b c k h).1
+
+pub no_type : (s ty x : List ℕ) → Cut s ty x → ty ≡ [] → HasNoHead s
+no_type s ty x k e a b c h = not_empty a h.is_type (sym (head_forced s ty x a b c k h).0 ∙ e)
+
+pub no_subtype : (s ty y su p : List ℕ) → Cut s ty (47 ∷ y) → CutAgain y su p → su ≡ [] → HasNoHead s
+no_subtype s ty y su p k g e a b c h =
+    let f = rest_forced s y su p a b c g h
+    (tail_equal 47 47 y (b ++ (h.gap ++ c)) (head_forced s ty (47 ∷ y) a b c k h).1) in
+    not_empty b h.is_subtype (sym f.0 ∙ e)
+
+pub no_parameters : (s ty y su p : List ℕ) → Cut s ty (47 ∷ y) → CutAgain y su p → ¬ (BeginsParameters p) → HasNoHead s
+no_parameters s ty y su p k g n a b c h =
+    let f = rest_forced s y su p a b c g h
+    (tail_equal 47 47 y (b ++ (h.gap ++ c)) (head_forced s ty (47 ∷ y) a b c k h).1) in
+    n (subst BeginsParameters (sym f.1) h.begins)
+
+nonempty_tokens : (a : List ℕ) → Every is_token a → (a ≡ [] → ⊥) → IsTrue (is_token_text a)
+nonempty_tokens [] h n = absurd (n refl)
+nonempty_tokens (c ∷ a) h n = all_from_every is_token (c ∷ a) h
+
+pub is_head : (s ty y su p : List ℕ) → Cut s ty (47 ∷ y) → CutAgain y su p → (ty ≡ [] → ⊥) → (su ≡ [] → ⊥)
+    → BeginsParameters p → IsHead s ty su p
+is_head s ty y su p k g t u b = record {
+  text = k.text;
+  gap = g.front.front;
+  trimmed = k.trimmed;
+  joined = k.joined ∙ ap (λ x. ty ++ (47 ∷ x)) (g.joined ∙ ap (λ x. su ++ x) g.front.joined);
+  is_type = nonempty_tokens ty k.tokens t;
+  is_subtype = nonempty_tokens su g.tokens u;
+  in_gap = g.front.at_front;
+  begins = b;
+}
+
+-- From bytes
+
+pub begins_bytes : (x w : List ℕ) (c : ℕ) → IsUtf8 x → chars x ≡ c ∷ w → x ≡ encode_utf8 c ++ encode_utf8_all w
+begins_bytes x w c u e = sym (encodes-chars x u) ∙ ap encode_utf8_all e
+
+pub empty_chars : (x : List ℕ) → (length x == 0) ≡ true → chars x ≡ []
+empty_chars [] h = chars-nil
+empty_chars (c ∷ x) h = absurd (both_ways (length (c ∷ x) == 0) (ne_eqb (length (c ∷ x)) 0 (λ e. omega arith)) h)
+
+pub nonempty_chars : (x : List ℕ) → IsUtf8 x → (length x == 0) ≡ false → chars x ≡ [] → ⊥
+nonempty_chars x u h e =
+    both_ways (length x == 0) h (ap (λ t. length t == 0) (sym (encodes-chars x u) ∙ ap encode_utf8_all e))
+
+pub empty_begins : (x : List ℕ) (b : Bool) → b ≡ (length x == 0) → b ≡ true
+    → MatchBool b (BeginsParameters (chars x)) (¬ (BeginsParameters (chars x)))
+empty_begins x b e h = rw h (subst BeginsParameters (sym (empty_chars x (sym e ∙ h))) tt)
+
+begins_semicolon : (x cs : List ℕ) → IsUtf8 x → (cs ≡ [] → ⊥) → ((rest : List ℕ) → x ≡ encode_utf8 59 ++ rest → ⊥)
+    → chars x ≡ cs → BeginsParameters cs → ⊥
+begins_semicolon x [] u n h e b = n refl
+begins_semicolon x (c ∷ cs) u n h e b = h (encode_utf8_all cs) (begins_bytes x cs 59 u (e ∙ ap (λ d. d ∷ cs) b))
+
+pub begins_if : (x : List ℕ) (b : Bool) → IsUtf8 x → (length x == 0) ≡ false
+    → MatchBool b (HasPrefixMatch (FindsCharPrefix 59) x) (FindsCharPrefix 59 x None)
+    → MatchBool b (BeginsParameters (chars x)) (¬ (BeginsParameters (chars x)))
+begins_if x true u n h = subst BeginsParameters (sym (chars_past_char x (drop h.0 x) 59 u h.1.split)) refl
+begins_if x false u n h = begins_semicolon x (chars x) u (nonempty_chars x u n) h refl
+
+-- What the parser's steps give
+
+pub cut_from : (s a t ty x : List ℕ) → IsTrimmedFront is_http_whitespace s a → IsTrimmedEnd is_http_whitespace a t
+    → t ≡ ty ++ x → Every is_token ty → DoesNotBegin is_token x → Cut s ty x
+cut_from s a t ty x f e j k b = record {
+  text = t;
+  trimmed = trimmed_both is_http_whitespace s a t f e;
+  joined =
+      j;
+  tokens = k;
+  begins = b;
+}
+
+pub cut_again : (y su z p : List ℕ) → y ≡ su ++ z → Every is_token su → DoesNotBegin is_token z
+    → IsTrimmedFront is_http_whitespace z p → CutAgain y su p
+cut_again y su z p j k b f = record { behind = z; joined = j; tokens = k; begins = b; front = f }
+
+pub no_slash_bytes : (s ty x : List ℕ) → Cut s ty (chars x) → IsUtf8 x → ((rest : List ℕ) → x ≡ encode_utf8 47 ++ rest
+    → ⊥) → HasNoHead s
+no_slash_bytes s ty x k u h = no_slash s ty (chars x) k (λ w e. h (encode_utf8_all w) (begins_bytes x w 47 u e))
+
+-- the text behind the slash
+pub slash_bytes : (s ty x y : List ℕ) → Cut s ty (chars x) → IsUtf8 x → x ≡ encode_utf8 47 ++ y
+    → Cut s ty (47 ∷ chars y)
+slash_bytes s ty x y k u e = subst (Cut s ty) (chars_past_char x y 47 u e) k
+
+pub slash_cut : (s ty x y : List ℕ) (n : ℕ) → Cut s ty (chars x) → IsUtf8 x → HasCharAt 47 x 0 n → y ≡ drop n x
+    → Cut s ty (47 ∷ chars y)
+slash_cut s ty x y n k u h e = slash_bytes s ty x y k u (h.split ∙ ap (λ t. encode_utf8 47 ++ t) (sym e))
+
+pub empty_by : (x : List ℕ) (b : Bool) → b ≡ (length x == 0) → b ≡ true → chars x ≡ []
+empty_by x b e h = empty_chars x (sym e ∙ h)
+
+pub nonempty_by : (x : List ℕ) (b : Bool) → IsUtf8 x → b ≡ (length x == 0) → b ≡ false → chars x ≡ [] → ⊥
+nonempty_by x b u e h k = nonempty_chars x u (sym e ∙ h) k
+
+no_semicolon_text : (x cs : List ℕ) → IsUtf8 x → BeginsParameters cs → ((rest : List ℕ) → x ≡ encode_utf8 59 ++ rest
+    → ⊥) → chars x ≡ cs → cs ≡ []
+no_semicolon_text x [] u b h e = refl
+no_semicolon_text x (c ∷ cs) u b h e = absurd (h (encode_utf8_all cs) (begins_bytes x cs 59 u (e ∙ ap (λ d. d ∷ cs) b)))
+
+pub no_semicolon : (x : List ℕ) → IsUtf8 x → BeginsParameters (chars x) → ((rest : List ℕ) → x ≡ encode_utf8 59 ++ rest
+    → ⊥) → chars x ≡ []
+no_semicolon x u b h = no_semicolon_text x (chars x) u b h refl
+
+-- What the parser cuts of one parameter is one.
+
+-- A value that begins with no '"'
+
+pub plain_value : (s front behind value : List ℕ) → DoesNotBegin is_quote s → s ≡ front ++ behind
+    → Without is_semicolon front → BeginsParameters behind → IsTrimmedEnd is_http_whitespace front value
+    → HasValueBefore (61 ∷ s) (unless_empty value) behind
+plain_value s front behind value d j w b t = record {
+  tail = 61 ∷ front;
+  joined = ap (λ x. 61 ∷ x) j;
+  gives = plain front value w (not_begins_left is_quote front behind (subst (DoesNotBegin is_quote) j d)) t;
+  begins = b;
+}
+
+some_unless_empty : (value : List ℕ) → (value ≡ [] → ⊥) → unless_empty value ≡ Some value
+some_unless_empty [] n = absurd (n refl)
+some_unless_empty (c ∷ value) n = refl
+
+pub missing_value : (s front behind value : List ℕ) → value ≡ [] → HasValueBefore (61 ∷ s) (unless_empty value) behind
+    → HasValueBefore (61 ∷ s) None behind
+missing_value s front behind value e h = subst (λ v. HasValueBefore (61 ∷ s) v behind) (ap unless_empty e) h
+
+pub some_value : (s front behind value : List ℕ) → (value ≡ [] → ⊥)
+    → HasValueBefore (61 ∷ s) (unless_empty value) behind → HasValueBefore (61 ∷ s) (Some value) behind
+some_value s front behind value n h = subst (λ v. HasValueBefore (61 ∷ s) v behind) (some_unless_empty value n) h
+
+-- A quoted string
+
+not_quote_text : (x cs : List ℕ) → IsUtf8 x → ((rest : List ℕ) → x ≡ encode_utf8 34 ++ rest → ⊥) → chars x ≡ cs
+    → DoesNotBegin is_quote cs
+not_quote_text x [] u n e = tt
+not_quote_text x (c ∷ cs) u n e =
+    false_from_ne_true (is_quote c)
+    (λ h. n (encode_utf8_all cs) (begins_bytes x cs 34 u (e ∙ ap (λ d. d ∷ cs) (eqb-true c 34 h))))
+
+pub not_quote : (x : List ℕ) → IsUtf8 x → ((rest : List ℕ) → x ≡ encode_utf8 34 ++ rest → ⊥)
+    → DoesNotBegin is_quote (chars x)
+not_quote x u n = not_quote_text x (chars x) u n refl
+
+-- what stands behind an ASCII code point that was taken off
+pub stripped_chars : (x y : List ℕ) (c n : ℕ) → IsUtf8 x → HasCharAt c x 0 n → y ≡ drop n x → chars x ≡ c ∷ chars y
+stripped_chars x y c n u h e = chars_past_char x (drop n x) c u h.split ∙ ap (λ t. c ∷ chars t) (sym e)
+
+pub open_value_before : (s q : List ℕ) (value : List ℕ) → s ≡ 34 ∷ q → QuotedOpen q value
+    → HasValueBefore (61 ∷ s) (Some value) (chars [])
+open_value_before s q value e h = subst (HasValueBefore (61 ∷ s) (Some value)) (sym chars-nil) (record {
+  tail = 61 ∷ 34 ∷ q;
+  joined = ap (λ x. 61 ∷ x) e ∙ ap (λ x. 61 ∷ 34 ∷ x) (sym (append-nil q));
+  gives = unclosed q h;
+  begins = tt;
+})
+
+pub closed_value_before : (s q raw w junk rest value : List ℕ) → s ≡ 34 ∷ q → q ≡ raw ++ (34 ∷ w) → Quoted raw value
+    → w ≡ junk ++ rest → Without is_semicolon junk → BeginsParameters rest → HasValueBefore (61 ∷ s) (Some value) rest
+closed_value_before s q raw w junk rest value e j h k n b = record {
+  tail = 61 ∷ 34 ∷ (raw ++ (34 ∷ junk));
+  joined = ap (λ x. 61 ∷ x) (e ∙ ap (λ x. 34 ∷ x) (j ∙ ap (λ x. raw ++ (34 ∷ x)) k
+      ∙ sym (append_assoc raw (34 ∷ junk) rest)));
+  gives = quoted raw junk h n;
+  begins = b;
+}
+
+-- A name, and what stands behind it
+
+no_value_text : (x cs : List ℕ) → IsUtf8 x → DoesNotBegin (λ c. not (ends_name c)) cs
+    → ((rest : List ℕ) → x ≡ encode_utf8 61 ++ rest → ⊥) → chars x ≡ cs → BeginsParameters cs
+no_value_text x [] u d n e = tt
+no_value_text x (c ∷ cs) u d n e =
+    semicolon_from c d (false_from_ne_true (c == 61)
+    (λ h. n (encode_utf8_all cs) (begins_bytes x cs 61 u (e ∙ ap (λ t. t ∷ cs) (eqb-true c 61 h)))))
+
+pub no_value : (x : List ℕ) → IsUtf8 x → DoesNotBegin (λ c. not (ends_name c)) (chars x)
+    → ((rest : List ℕ) → x ≡ encode_utf8 61 ++ rest → ⊥) → HasValueBefore (chars x) None (chars x)
+no_value x u d n = record { tail = []; joined = refl; gives = nothing; begins = no_value_text x (chars x) u d n refl }
+
+pub parameter_before : (s a name x : List ℕ) (value : Option (List ℕ)) (rest : List ℕ)
+    → IsTrimmedFront is_http_whitespace s a → a ≡ name ++ x → Without ends_name name → HasValueBefore x value rest
+    → HasParameterBefore s (map to_ascii_lowercase name, value) rest
+parameter_before s a name x value rest f j n v = record {
+  text = 59 ∷ (f.front ++ (name ++ v.tail));
+  joined = ap (λ t. 59 ∷ t) (f.joined ∙ ap (λ t. f.front ++ t) (j ∙ ap (λ t. name ++ t) v.joined
+      ∙ sym (append_assoc name v.tail rest)) ∙ sym (append_assoc f.front (name ++ v.tail) rest));
+  is_parameter = record {
+    gap = f.front;
+    name = name;
+    tail = v.tail;
+    joined = refl;
+    in_gap = f.at_front;
+    begins = not_begins_left is_http_whitespace name x (subst (DoesNotBegin is_http_whitespace) j f.begins);
+    in_name = n;
+    name_is = refl;
+    value_is = v.gives;
+  };
+  begins = v.begins;
+}
+
+pub named_value_before : (x y : List ℕ) (value : Option (List ℕ)) (rest : List ℕ) → x ≡ 61 ∷ y
+    → HasValueBefore (61 ∷ y) value rest → HasValueBefore x value rest
+named_value_before x y value rest e h = subst (λ t. HasValueBefore t value rest) (sym e) h

@@ -1,0 +1,309 @@
+-- Printed records, and records of the same texts. For `Display` and `PartialEq` of `Mime`.
+use Rattle.std.proofs.Common.{◌≡◌, ℕ, ◌+◌, ◌<◌, ◌≤◌, Bool, true, false, List, [], ◌∷◌, ◌++◌, length, get_or, take, drop}
+use Rattle.std.proofs.Common.{String, string_bytes, map, encode_utf8, encode_utf8_all, refl, sym, ap, ap₂, ◌∙◌, subst}
+use Rattle.std.proofs.Common.{append_assoc, append-nil, drop-cons, drop_of_length-le, add-one, arith}
+use lib.Utf8.{encode}
+use Rattle.std.proofs.lemmas.Bool.{cond-false, cond-true, not-true}
+use Rattle.std.proofs.lemmas.Str.{IsUtf8-append, IsUtf8-string_bytes, chars_past_char, encode_ascii, encodes-append}
+use Rattle.std.proofs.lemmas.Str.{encodes-chars}
+use Rattle.std.specs.declared.fmt.Formatter.{Formatter}
+use Rattle.std.proofs.Output.{has_written_styled_append, has_written_styled_nil, has_written_styled_of_eq}
+use Rattle.std.specs.Fmt.{HasWritten, HasWrittenStyled, IsDefaultSpec, IsFlush, IsPlainFormatter}
+use Rattle.data_url.specs.Steps.Printing.{HasAdded, IsHeld, held}
+use Rattle.data_url.specs.declared.mime.line.Line.{Line}
+use Rattle.std.specs.List.{flat_map, AllZip}
+use Rattle.std.specs.Str.{IsUtf8, chars, bytes_eq}
+use Rattle.data_url.specs.Mime.{Without, escaped_code_point, is_token_text, printed, printed_pair, printed_value, Pair}
+use Rattle.data_url.specs.Mime.{Record}
+use Rattle.data_url.specs.Steps.Parsing.{is_escaped}
+use Rattle.data_url.specs.MimeType.{code_points, pair_of, record_of, SameTexts, same_pair, same_texts, texts_of_pair}
+use Rattle.data_url.specs.declared.mime.Mime.{Mime}
+use Rattle.data_url.proofs.texts.CodePoints.{no_chars}
+use Rattle.std.specs.Prelude.{◌&&◌, ◌↔◌, IsTrue}
+use Rattle.std.specs.Cmp.{first_so, second_so}
+use Rattle.std.specs.Cmp.Lexicographic.{pointwise, same_text}
+use Rattle.std.proofs.lemmas.Cmp.{nat_list_eq_equiv}
+
+-- What is written is the printed text.
+
+-- Escaped text
+
+pub escaped_more : (r r' done whole : List ℕ) (c : ℕ) → IsUtf8 r → r ≡ encode_utf8 c ++ r'
+    → done ++ encode_utf8_all (flat_map escaped_code_point (chars r)) ≡ whole
+    → (done ++ encode_utf8_all (escaped_code_point c)) ++ encode_utf8_all (flat_map escaped_code_point (chars r'))
+    ≡ whole
+escaped_more r r' done whole c u e h =
+    append_assoc done (encode_utf8_all (escaped_code_point c))
+    (encode_utf8_all (flat_map escaped_code_point (chars r')))
+    ∙ ap (λ x. done ++ x) (sym (ap (λ x. encode_utf8_all (flat_map escaped_code_point x)) (chars_past_char r r' c u e)
+    ∙ encodes-append (escaped_code_point c) (flat_map escaped_code_point (chars r'))))
+    ∙ h
+
+pub escaped_end : (r done whole : List ℕ) → length r ≡ 0
+    → done ++ encode_utf8_all (flat_map escaped_code_point (chars r)) ≡ whole → done ≡ whole
+escaped_end r done whole l h = sym (append-nil done) ∙ ap (λ x. done ++ encode_utf8_all (flat_map escaped_code_point x))
+    (sym (no_chars r l)) ∙ h
+
+-- A text with nothing to escape
+
+plain_chars : (cs : List ℕ) → Without is_escaped cs → flat_map escaped_code_point cs ≡ cs
+plain_chars [] h = refl
+plain_chars (c ∷ cs) h =
+    ap₂ (λ x y. x ++ y) (cond-false (is_escaped c) (92 ∷ c ∷ []) (c ∷ []) (not-true (is_escaped c) h.0))
+    (plain_chars cs h.1)
+
+pub plain_text : (v : List ℕ) → IsUtf8 v → Without is_escaped (chars v)
+    → v ≡ encode_utf8_all (flat_map escaped_code_point (chars v))
+plain_text v u h = sym (encodes-chars v u) ∙ ap encode_utf8_all (sym (plain_chars (chars v) h))
+
+-- A value
+
+pub token_value : (v : List ℕ) (b : Bool) → IsUtf8 v → b ≡ is_token_text (chars v) → b ≡ true
+    → v ≡ encode_utf8_all (printed_value (chars v))
+token_value v b u e h = sym (encodes-chars v u)
+    ∙ ap encode_utf8_all (sym (cond-true (is_token_text (chars v)) (chars v)
+    (34 ∷ (flat_map escaped_code_point (chars v) ++ (34 ∷ []))) (sym e ∙ h)))
+
+pub quoted_value_text : (v : List ℕ) (b : Bool) → b ≡ is_token_text (chars v) → b ≡ false
+    → ((34 ∷ []) ++ encode_utf8_all (flat_map escaped_code_point (chars v))) ++ (34 ∷ []) ≡ encode_utf8_all
+    (printed_value (chars v))
+quoted_value_text v b e h =
+    ap (λ x. (x ++ encode_utf8_all (flat_map escaped_code_point (chars v))) ++ x) (sym (encode_ascii 34 (omega arith)))
+    ∙ append_assoc (encode_utf8 34) (encode_utf8_all (flat_map escaped_code_point (chars v))) (encode_utf8 34)
+    ∙ ap (λ x. encode_utf8 34 ++ x) (ap (λ x. encode_utf8_all (flat_map escaped_code_point (chars v)) ++ x)
+    (sym (append-nil (encode_utf8 34))) ∙ sym (encodes-append (flat_map escaped_code_point (chars v)) (34 ∷ [])))
+    ∙ ap encode_utf8_all (sym (cond-false (is_token_text (chars v)) (chars v)
+    (34 ∷ (flat_map escaped_code_point (chars v) ++ (34 ∷ []))) (sym e ∙ h)))
+
+-- A parameter
+
+pub parameter_text : (name value : List ℕ) → IsUtf8 name → (((59 ∷ []) ++ name) ++ (61 ∷ [])) ++ encode_utf8_all
+    (printed_value (chars value)) ≡ encode_utf8_all (printed_pair (chars name, chars value))
+parameter_text name value u =
+    ap₂ (λ x y. ((x ++ name) ++ y) ++ encode_utf8_all (printed_value (chars value)))
+    (sym (encode_ascii 59 (omega arith))) (sym (encode_ascii 61 (omega arith)))
+    ∙ append_assoc (encode_utf8 59 ++ name) (encode_utf8 61) (encode_utf8_all (printed_value (chars value)))
+    ∙ append_assoc (encode_utf8 59) name (encode_utf8 61 ++ encode_utf8_all (printed_value (chars value)))
+    ∙ ap (λ x. encode_utf8 59 ++ x) (ap (λ x. x ++ (encode_utf8 61 ++ encode_utf8_all (printed_value (chars value))))
+    (sym (encodes-chars name u)) ∙ sym (encodes-append (chars name) (61 ∷ printed_value (chars value))))
+
+-- A record
+
+pub text_bytes : {A : Type 0} (s : String A) → string_bytes s ≡ encode_utf8_all (code_points s)
+text_bytes s = sym (encodes-chars (string_bytes s) (IsUtf8-string_bytes s))
+
+-- what is left of the printed pairs
+abbrev pub pairs_text : {A B : Type 0} → List (String A × String B) → List ℕ
+pairs_text pairs = encode_utf8_all (flat_map printed_pair (map (λ p. pair_of p) pairs))
+
+pub record_starts : (m : Mime) → ((string_bytes m.type_ ++ encode_utf8 47) ++ string_bytes m.subtype) ++ pairs_text
+    m.parameters.items ≡ encode_utf8_all (printed (record_of m))
+unfolding printed
+record_starts m =
+    append_assoc (string_bytes m.type_ ++ encode_utf8 47) (string_bytes m.subtype) (pairs_text m.parameters.items)
+    ∙ append_assoc (string_bytes m.type_) (encode_utf8 47) (string_bytes m.subtype ++ pairs_text m.parameters.items)
+    ∙ ap₂ (λ x y. x ++ (encode_utf8 47 ++ (y ++ pairs_text m.parameters.items))) (text_bytes m.type_)
+    (text_bytes m.subtype)
+    ∙ ap (λ x. encode_utf8_all (code_points m.type_) ++ (encode_utf8 47 ++ x))
+    (sym (encodes-append (code_points m.subtype) (flat_map printed_pair (map (λ p. pair_of p) m.parameters.items))))
+    ∙ sym (encodes-append (code_points m.type_)
+    (47 ∷ (code_points m.subtype ++ flat_map printed_pair (map (λ p. pair_of p) m.parameters.items))))
+
+pub record_more : {A B : Type 0} (pairs : List (String A × String B)) (i : ℕ) (item : String A × String B)
+    (done whole : List ℕ) → i < length pairs → item ≡ get_or pairs i item → done ++ pairs_text (drop i pairs) ≡ whole
+    → (done ++ encode_utf8_all (printed_pair (pair_of item))) ++ pairs_text (drop (i + 1) pairs) ≡ whole
+record_more pairs i item done whole l e h =
+    append_assoc done (encode_utf8_all (printed_pair (pair_of item))) (pairs_text (drop (i + 1) pairs))
+    ∙ ap (λ x. done ++ x)
+    (sym (ap pairs_text (drop-cons pairs i item l ∙ ap₂ (λ p k. p ∷ drop k pairs) (sym e) (sym (add-one i)))
+    ∙ encodes-append (printed_pair (pair_of item))
+    (flat_map printed_pair (map (λ p. pair_of p) (drop (i + 1) pairs)))))
+    ∙ h
+
+pub record_ends : {A B : Type 0} (pairs : List (String A × String B)) (i : ℕ) (done whole : List ℕ) → length pairs ≤ i
+    → done ++ pairs_text (drop i pairs) ≡ whole → done ≡ whole
+record_ends pairs i done whole l h = sym (append-nil done)
+    ∙ ap (λ x. done ++ pairs_text x) (sym (drop_of_length-le pairs l)) ∙ h
+
+-- the same by what a reference reads
+
+pub record_starts_by : (m : Mime) (a b : List ℕ) → a ≡ string_bytes m.type_ → b ≡ string_bytes m.subtype
+    → ((a ++ (47 ∷ [])) ++ b) ++ pairs_text m.parameters.items ≡ encode_utf8_all (printed (record_of m))
+record_starts_by m a b e f = ap (λ x. ((a ++ x) ++ b) ++ pairs_text m.parameters.items)
+    (sym (encode_ascii 47 (omega arith))) ∙ ap₂ (λ x y. ((x ++ encode_utf8 47) ++ y) ++ pairs_text m.parameters.items) e
+    f ∙ record_starts m
+
+pub pair_by : {A B : Type 0} (item : String A × String B) (a b : List ℕ) → a ≡ string_bytes item.0
+    → b ≡ string_bytes item.1 → encode_utf8_all (printed_pair (chars a, chars b)) ≡ encode_utf8_all
+    (printed_pair (pair_of item))
+pair_by item a b e f = ap₂ (λ x y. encode_utf8_all (printed_pair (chars x, chars y))) e f
+
+-- what is written under any options is written under none
+pub written_plain : {W : Type 0} {took : W → List ℕ → W → Type 0} {f g : Formatter W} {bs : List ℕ} → IsPlainFormatter f
+    → HasWrittenStyled took f bs g → HasWritten took f bs g
+written_plain {f = f} plain h =
+    record { wrote = h.wrote; plain = record { bare = subst IsDefaultSpec (sym h.spec) plain.bare; flush = h.flush } }
+
+-- A line that is held back
+
+pub held_none : (l : Line) → l.len ≡ 0 → held l ≡ []
+held_none l e = ap (λ n. take n l.room) e
+
+pub held_more : (l m : Line) (a : List ℕ) → IsUtf8 (held l) → IsUtf8 a → held m ≡ held l ++ a → m.len ≤ 128 → IsHeld m
+held_more l m a u w e h = record { fits = h; text = subst IsUtf8 (sym e) (IsUtf8-append (held l) a u w) }
+
+module _ {W : Type 0} {took : W → List ℕ → W → Type 0} where
+  pub added_held : (f : Formatter W) (l m : Line) (a : List ℕ) → IsFlush f → held m ≡ held l ++ a
+      → HasAdded took f l a f m
+  added_held f l m a flush e = record { written = []; wrote = has_written_styled_nil _ f flush; joined = sym e }
+
+  pub added_append : (f g h : Formatter W) (l m n : Line) (a b : List ℕ) → HasAdded took f l a g m
+      → HasAdded took g m b h n → HasAdded took f l (a ++ b) h n
+  added_append f g h l m n a b x y = record {
+    written = x.written ++ y.written;
+    wrote = has_written_styled_append _ _ _ _ _ _ x.wrote y.wrote;
+    joined = sym (append_assoc (held l) a b) ∙ ap (λ t. t ++ b) x.joined ∙ append_assoc x.written (held m) b
+        ∙ ap (λ t. x.written ++ t) y.joined ∙ sym (append_assoc x.written y.written (held n));
+  }
+
+  pub added_of_eq : (f g : Formatter W) (l m : Line) (a b : List ℕ) → a ≡ b → HasAdded took f l a g m
+      → HasAdded took f l b g m
+  added_of_eq f g l m a b e = subst (λ (t : List ℕ). HasAdded took f l t g m) e
+
+  -- what is held is written, and then a text
+  pub added_written : (f g h : Formatter W) (l m : Line) (a : List ℕ) → HasWrittenStyled took f (held l) g
+      → HasWrittenStyled took g a h → m.len ≡ 0 → HasAdded took f l a h m
+  added_written f g h l m a x y e = record {
+    written = held l ++ a;
+    wrote = has_written_styled_append _ _ _ _ _ _ x y;
+    joined = sym (append-nil (held l ++ a)) ∙ ap (λ t. (held l ++ a) ++ t) (sym (held_none m e));
+  }
+
+  -- what is held is written, and then a text is held
+  pub added_behind : (f g : Formatter W) (l m n : Line) (a : List ℕ) → HasWrittenStyled took f (held l) g → m.len ≡ 0
+      → held n ≡ held m ++ a → HasAdded took f l a g n
+  added_behind f g l m n a x e h = record {
+    written = held l;
+    wrote = x;
+    joined = ap (λ t. held l ++ t) (sym (h ∙ ap (λ t. t ++ a) (held_none m e)));
+  }
+
+  -- a whole that is added to an empty line is written once what is held is
+  pub added_then_written : (f g h : Formatter W) (l m : Line) (a : List ℕ) → held l ≡ [] → HasAdded took f l a g m
+      → HasWrittenStyled took g (held m) h → HasWrittenStyled took f a h
+  added_then_written f g h l m a e x y = has_written_styled_of_eq _ _ _ _ _ (sym x.joined ∙ ap (λ t. t ++ a) e)
+      (has_written_styled_append _ _ _ _ _ _ x.wrote y)
+
+-- Records of the same texts.
+
+bytes_same : (a b : List ℕ) → bytes_eq a b ≡ true → a ≡ b
+bytes_same a b h = same_text a b (sym h)
+
+same_bytes : (a b : List ℕ) → a ≡ b → bytes_eq a b ≡ true
+same_bytes a b h = subst (λ x. bytes_eq a x ≡ true) h (nat_list_eq_equiv.refl a)
+
+both : (s t : Bool) → s ≡ true → t ≡ true → (s && t) ≡ true
+both true t h k = k
+both false t h k = h
+
+pair_same : {A B : Type 0} (p q : String A × String B) → same_pair p q ≡ true → texts_of_pair p ≡ texts_of_pair q
+pair_same p q h =
+    let first = bytes_same (string_bytes p.0) (string_bytes q.0)
+    (first_so _ (bytes_eq (string_bytes p.1) (string_bytes q.1)) h) in
+    let second = bytes_same (string_bytes p.1) (string_bytes q.1)
+    (second_so (bytes_eq (string_bytes p.0) (string_bytes q.0)) _ h) in
+    ap (λ x. (x, string_bytes p.1)) first ∙ ap (λ x. (string_bytes q.0, x)) second
+
+same_pair_of : {A B : Type 0} (p q : String A × String B) → texts_of_pair p ≡ texts_of_pair q → same_pair p q ≡ true
+same_pair_of p q h = both (bytes_eq (string_bytes p.0) (string_bytes q.0))
+    (bytes_eq (string_bytes p.1) (string_bytes q.1)) (same_bytes _ _ (ap (λ x. x.0) h))
+    (same_bytes _ _ (ap (λ x. x.1) h))
+
+pairs_same : {A B : Type 0} (ps qs : List (String A × String B)) → pointwise same_pair ps qs ≡ true
+    → map texts_of_pair ps ≡ map texts_of_pair qs
+pairs_same [] [] h = refl
+pairs_same [] (q ∷ qs) h = absurd (cc)
+pairs_same (p ∷ ps) [] h = absurd (cc)
+pairs_same (p ∷ ps) (q ∷ qs) h =
+    let here = pair_same p q (first_so (same_pair p q) (pointwise same_pair ps qs) h) in
+    let rest = pairs_same ps qs (second_so (same_pair p q) (pointwise same_pair ps qs) h) in
+    ap (λ x. x ∷ map texts_of_pair ps) here ∙ ap (λ xs. texts_of_pair q ∷ xs) rest
+
+same_pairs : {A B : Type 0} (ps qs : List (String A × String B)) → map texts_of_pair ps ≡ map texts_of_pair qs
+    → pointwise same_pair ps qs ≡ true
+same_pairs [] [] h = refl
+same_pairs [] (q ∷ qs) h = absurd (cc)
+same_pairs (p ∷ ps) [] h = absurd (cc)
+same_pairs (p ∷ ps) (q ∷ qs) h =
+    let here : texts_of_pair p ≡ texts_of_pair q = cc in
+    let rest : map texts_of_pair ps ≡ map texts_of_pair qs = cc in
+    both (same_pair p q) (pointwise same_pair ps qs) (same_pair_of p q here) (same_pairs ps qs rest)
+
+-- the test tells whether the texts are the same
+pub same_decides : (m n : Mime) → IsTrue (same_texts m n) ↔ SameTexts m n
+same_decides m n =
+    let first = bytes_eq (string_bytes m.type_) (string_bytes n.type_) in
+    let second = bytes_eq (string_bytes m.subtype) (string_bytes n.subtype) in
+    let third = pointwise same_pair m.parameters.items n.parameters.items in (
+      λ h. record {
+        type_ = bytes_same (string_bytes m.type_) (string_bytes n.type_) (first_so first (second && third) h);
+        subtype = bytes_same (string_bytes m.subtype) (string_bytes n.subtype)
+            (first_so second third (second_so first (second && third) h));
+        parameters = pairs_same m.parameters.items n.parameters.items
+            (second_so second third (second_so first (second && third) h));
+      },
+      λ h. both first (second && third) (same_bytes (string_bytes m.type_) (string_bytes n.type_) h.type_)
+          (both second third (same_bytes (string_bytes m.subtype) (string_bytes n.subtype) h.subtype)
+          (same_pairs m.parameters.items n.parameters.items h.parameters)),
+    )
+
+-- copies
+
+pub copied_pairs : {A B : Type 0} (ps qs : List (String A × String B))
+    → AllZip (λ p q. (string_bytes q.0 ≡ string_bytes p.0) × (string_bytes q.1 ≡ string_bytes p.1)) ps qs
+    → map texts_of_pair qs ≡ map texts_of_pair ps
+copied_pairs [] [] h = refl
+copied_pairs [] (q ∷ qs) h = absurd h
+copied_pairs (p ∷ ps) [] h = absurd h
+copied_pairs (p ∷ ps) (q ∷ qs) h =
+    ap (λ x. (x, string_bytes q.1) ∷ map texts_of_pair qs) h.0.0
+    ∙ ap (λ x. (string_bytes p.0, x) ∷ map texts_of_pair qs) h.0.1
+    ∙ ap (λ xs. texts_of_pair p ∷ xs) (copied_pairs ps qs h.1)
+
+-- code points follow from bytes
+abbrev pair_seen : List ℕ × List ℕ → Pair
+pair_seen p = (chars p.0, chars p.1)
+
+pairs_seen : {A B : Type 0} (ps : List (String A × String B)) → map pair_of ps ≡ map pair_seen (map texts_of_pair ps)
+pairs_seen [] = refl
+pairs_seen (p ∷ ps) = ap (λ xs. pair_of p ∷ xs) (pairs_seen ps)
+
+abbrev record_with : List ℕ → List ℕ → List Pair → Record
+record_with a b c = record { type_ = a; subtype = b; parameters = c }
+
+pub same_seen : (m n : Mime) → SameTexts m n → record_of m ≡ record_of n
+same_seen m n h =
+    let pairs : map pair_of m.parameters.items ≡ map pair_of n.parameters.items = pairs_seen m.parameters.items
+    ∙ ap (map pair_seen) h.parameters ∙ sym (pairs_seen n.parameters.items) in
+    ap (λ a. record_with a (chars (string_bytes m.subtype)) (map pair_of m.parameters.items)) (ap chars h.type_)
+    ∙ ap (λ b. record_with (chars (string_bytes n.type_)) b (map pair_of m.parameters.items)) (ap chars h.subtype)
+    ∙ ap (λ c. record_with (chars (string_bytes n.type_)) (chars (string_bytes n.subtype)) c) pairs
+
+-- bytes follow from code points
+
+abbrev pair_spelled : Pair → List ℕ × List ℕ
+pair_spelled p = (encode_utf8_all p.0, encode_utf8_all p.1)
+
+pairs_spelled : {A B : Type 0} (ps : List (String A × String B))
+    → map texts_of_pair ps ≡ map pair_spelled (map pair_of ps)
+pairs_spelled [] = refl
+pairs_spelled (p ∷ ps) = ap₂ (λ a b. (a, b) ∷ map texts_of_pair ps) (text_bytes p.0) (text_bytes p.1)
+    ∙ ap (λ xs. pair_spelled (pair_of p) ∷ xs) (pairs_spelled ps)
+
+pub seen_same : (m n : Mime) → record_of m ≡ record_of n → SameTexts m n
+seen_same m n h = record {
+  type_ = text_bytes m.type_ ∙ ap (λ (r : Record). encode_utf8_all r.type_) h ∙ sym (text_bytes n.type_);
+  subtype = text_bytes m.subtype ∙ ap (λ (r : Record). encode_utf8_all r.subtype) h ∙ sym (text_bytes n.subtype);
+  parameters = pairs_spelled m.parameters.items ∙ ap (λ (r : Record). map pair_spelled r.parameters) h
+      ∙ sym (pairs_spelled n.parameters.items);
+}

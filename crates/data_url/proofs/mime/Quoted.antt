@@ -1,0 +1,284 @@
+-- Quoted strings. For `values.rt`.
+use Rattle.std.proofs.Common.{◌≡◌, ℕ, ◌==◌, ◌&&◌, not, Bool, true, false, cond, List, [], ◌∷◌, ◌++◌, Option, None, Some}
+use Rattle.std.proofs.Common.{map, refl, sym, ap, ◌∙◌, append_assoc, append-nil, eqb-true, inl, inr, ◌+◌, ◌/◌, ◌<◌, ◌≤◌}
+use Rattle.std.proofs.Common.{length, get_or, take, drop, slice_range, encode_utf8_all, ap₂, subst, arith, ltb}
+use Rattle.std.proofs.Common.{take-append-drop, drop-cons, drop_of_length-le, add-one}
+use Rattle.std.proofs.lemmas.Bool.{cond-false, eqb-false, ne_eqb, and_parts, cases_lt, cond_both, le-ltb}
+use Rattle.std.specs.List.{AllByRecursion, flat_map}
+use Rattle.data_url.specs.Mime.{Escaped, IsUnit, Plain, Quoted, QuotedOpen, QuotedUnit, unit_text, unit_value}
+use Rattle.std.proofs.lemmas.List.{append_cancel_right}
+use Rattle.std.proofs.lemmas.Str.{IsCharBoundary-before_ascii, IsUtf8-drop, IsUtf8-take, chars-append, chars-encodes}
+use Rattle.std.proofs.lemmas.Str.{chars_past_char, encode_ascii, encodes-chars, scalars-chars}
+use Rattle.std.specs.Option.{option_map}
+use Rattle.std.specs.Str.{IsUtf8, all_scalars, chars}
+use lib.Utf8.{encode, next, scalar}
+use Rattle.data_url.specs.Steps.Parsing.{IsClosed, IsOpen}
+use Rattle.data_url.proofs.texts.CodePoints.{some_equal}
+
+-- A quoted string, read from behind its opening quote, with one flag for "behind a backslash".
+
+-- the value up to the closing quote, or to the end
+abbrev pub quoted_value : Bool → List ℕ → List ℕ
+quoted_value false [] = []
+quoted_value true [] = 92 ∷ []
+quoted_value false (c ∷ t) = cond (c == 34) [] (cond (c == 92) (quoted_value true t) (c ∷ quoted_value false t))
+quoted_value true (c ∷ t) = c ∷ quoted_value false t
+
+-- what stands behind the closing quote, where there is one
+abbrev pub quoted_rest : Bool → List ℕ → Option (List ℕ)
+quoted_rest escaped [] = None
+quoted_rest false (c ∷ t) = cond (c == 34) (Some t) (cond (c == 92) (quoted_rest true t) (quoted_rest false t))
+quoted_rest true (c ∷ t) = quoted_rest false t
+
+-- each unit gives its value
+pub value_of_units : (units : List QuotedUnit) (x : List ℕ) → AllByRecursion IsUnit units
+    → quoted_value false (flat_map unit_text units ++ x) ≡ map unit_value units ++ quoted_value false x
+value_of_units [] x h = refl
+value_of_units (Plain c ∷ units) x h =
+    cond-false (c == 34) [] (cond (c == 92) (quoted_value true (flat_map unit_text units ++ x))
+    (c ∷ quoted_value false (flat_map unit_text units ++ x))) (ne_eqb c 34 h.0.0)
+    ∙ cond-false (c == 92) (quoted_value true (flat_map unit_text units ++ x))
+    (c ∷ quoted_value false (flat_map unit_text units ++ x)) (ne_eqb c 92 h.0.1)
+    ∙ ap (λ v. c ∷ v) (value_of_units units x h.1)
+value_of_units (Escaped c ∷ units) x h = ap (λ v. c ∷ v) (value_of_units units x h.1)
+
+pub rest_of_units : (units : List QuotedUnit) (x : List ℕ) → AllByRecursion IsUnit units
+    → quoted_rest false (flat_map unit_text units ++ x) ≡ quoted_rest false x
+rest_of_units [] x h = refl
+rest_of_units (Plain c ∷ units) x h = cond-false (c == 34) (Some (flat_map unit_text units ++ x))
+    (cond (c == 92) (quoted_rest true (flat_map unit_text units ++ x))
+    (quoted_rest false (flat_map unit_text units ++ x))) (ne_eqb c 34 h.0.0)
+    ∙ cond-false (c == 92) (quoted_rest true (flat_map unit_text units ++ x))
+    (quoted_rest false (flat_map unit_text units ++ x)) (ne_eqb c 92 h.0.1) ∙ rest_of_units units x h.1
+rest_of_units (Escaped c ∷ units) x h = rest_of_units units x h.1
+
+pub value_before : (q v x : List ℕ) → Quoted q v → quoted_value false (q ++ x) ≡ v ++ quoted_value false x
+value_before q v x h = rw (h.text_is, h.value_is) (value_of_units h.units x h.each)
+
+pub rest_before : (q v x : List ℕ) → Quoted q v → quoted_rest false (q ++ x) ≡ quoted_rest false x
+rest_before q v x h = rw h.text_is (rest_of_units h.units x h.each)
+
+-- a text in quotes reads so
+pub closed_value : (q v w : List ℕ) → Quoted q v → quoted_value false (q ++ (34 ∷ w)) ≡ v
+closed_value q v w h = value_before q v (34 ∷ w) h ∙ append-nil v
+
+pub closed_rest : (q v w : List ℕ) → Quoted q v → quoted_rest false (q ++ (34 ∷ w)) ≡ Some w
+closed_rest q v w h = rest_before q v (34 ∷ w) h
+
+-- a text whose closing quote is missing reads so
+pub open_value : (q v : List ℕ) → QuotedOpen q v → quoted_value false q ≡ v
+open_value q v (inl h) = ap (quoted_value false) (sym (append-nil q)) ∙ (value_before q v [] h ∙ append-nil v)
+open_value q v (inr (q', v', t, e, h)) = ap (quoted_value false) t ∙ (value_before q' v' (92 ∷ []) h ∙ sym e)
+
+pub open_rest : (q v : List ℕ) → QuotedOpen q v → quoted_rest false q ≡ None
+open_rest q v (inl h) = ap (quoted_rest false) (sym (append-nil q)) ∙ rest_before q v [] h
+open_rest q v (inr (q', v', t, e, h)) = ap (quoted_rest false) t ∙ rest_before q' v' (92 ∷ []) h
+
+-- the text before what is left is quoted text of the value
+abbrev pub IsRead : List ℕ → List ℕ → Option (List ℕ) → Type 0
+IsRead s value None = QuotedOpen s value
+IsRead s value (Some w) = (q : List ℕ) × (s ≡ q ++ (34 ∷ w)) × Quoted q value
+
+pub quoted_more : (u : QuotedUnit) (q v : List ℕ) → IsUnit u → Quoted q v → Quoted (unit_text u ++ q) (unit_value u ∷ v)
+quoted_more u q v i h = record {
+  units = u ∷ h.units;
+  each = (i, h.each);
+  text_is =
+      ap (λ t. unit_text u ++ t) h.text_is;
+  value_is = ap (λ t. unit_value u ∷ t) h.value_is;
+}
+
+read_more : (u : QuotedUnit) (s v : List ℕ) (r : Option (List ℕ)) → IsUnit u → IsRead s v r
+    → IsRead (unit_text u ++ s) (unit_value u ∷ v) r
+read_more u s v None i (inl h) = inl (quoted_more u s v i h)
+read_more u s v None i (inr (q, w, t, e, h)) = inr (
+  unit_text u ++ q,
+  unit_value u ∷ w,
+  ap (λ x. unit_text u ++ x) t
+      ∙ sym (append_assoc (unit_text u) q (92 ∷ [])),
+  ap (λ x. unit_value u ∷ x) e,
+  quoted_more u q w i h,
+)
+read_more u s v (Some w) i h = (
+  unit_text u ++ h.0,
+  ap (λ x. unit_text u ++ x) h.1
+      ∙ sym (append_assoc (unit_text u) h.0 (34 ∷ w)),
+  quoted_more u h.0 v i h.2,
+)
+
+pub quoted_nil : Quoted [] []
+quoted_nil = record { units = []; each = tt; text_is = refl; value_is = refl }
+
+-- what stands before a text that is read behind a backslash or not
+abbrev pub flagged : Bool → List ℕ → List ℕ
+flagged false s = s
+flagged true s = 92 ∷ s
+
+read_plain : (c : ℕ) (t : List ℕ) → IsRead (flagged false t) (quoted_value false t) (quoted_rest false t)
+    → IsRead (flagged true t) (quoted_value true t) (quoted_rest true t) → (b d : Bool) → (c == 34) ≡ b → (c == 92) ≡ d
+    → IsRead (c ∷ t) (cond b [] (cond d (quoted_value true t) (c ∷ quoted_value false t)))
+    (cond b (Some t) (cond d (quoted_rest true t) (quoted_rest false t)))
+read_plain c t plain escaped true d e f = ([], ap (λ x. x ∷ t) (eqb-true c 34 e), quoted_nil)
+read_plain c t plain escaped false true e f = rw (eqb-true c 92 f) escaped
+read_plain c t plain escaped false false e f = read_more (Plain c) t (quoted_value false t) (quoted_rest false t)
+    (eqb-false c 34 e, eqb-false c 92 f) plain
+
+-- each text reads so
+pub is_read : (escaped : Bool) (s : List ℕ) → IsRead (flagged escaped s) (quoted_value escaped s)
+    (quoted_rest escaped s)
+is_read false [] = inl quoted_nil
+is_read true [] = inr ([], [], refl, refl, quoted_nil)
+is_read false (c ∷ t) = read_plain c t (is_read false t) (is_read true t) (c == 34) (c == 92) refl refl
+is_read true (c ∷ t) = read_more (Escaped c) t (quoted_value false t) (quoted_rest false t) tt (is_read false t)
+
+-- The value without a look at quotes, as it is written
+
+and_false : (b : Bool) → (b && false) ≡ false
+and_false true = refl
+and_false false = refl
+
+abbrev pub unescaped : Bool → List ℕ → List ℕ
+unescaped false [] = []
+unescaped true [] = 92 ∷ []
+unescaped escaped (c ∷ t) = cond ((c == 92) && not escaped) (unescaped true t) (c ∷ unescaped false t)
+
+pub unescaped_one : (c : ℕ) (t : List ℕ) → (c == 92) ≡ false → unescaped false (c ∷ t) ≡ c ∷ unescaped false t
+unescaped_one c t e = cond-false ((c == 92) && true) (unescaped true t) (c ∷ unescaped false t) (ap (λ b. b && true) e)
+
+unescaped_next : (c : ℕ) (t : List ℕ) → unescaped true (c ∷ t) ≡ c ∷ unescaped false t
+unescaped_next c t = cond-false ((c == 92) && false) (unescaped true t) (c ∷ unescaped false t) (and_false (c == 92))
+
+unescaped_units : (units : List QuotedUnit) (x : List ℕ) → AllByRecursion IsUnit units
+    → unescaped false (flat_map unit_text units ++ x) ≡ map unit_value units ++ unescaped false x
+unescaped_units [] x h = refl
+unescaped_units (Plain c ∷ units) x h = unescaped_one c (flat_map unit_text units ++ x) (ne_eqb c 92 h.0.1)
+    ∙ ap (λ v. c ∷ v) (unescaped_units units x h.1)
+unescaped_units (Escaped c ∷ units) x h = unescaped_next c (flat_map unit_text units ++ x)
+    ∙ ap (λ v. c ∷ v) (unescaped_units units x h.1)
+
+unescaped_before : (q v x : List ℕ) → Quoted q v → unescaped false (q ++ x) ≡ v ++ unescaped false x
+unescaped_before q v x h = rw (h.text_is, h.value_is) (unescaped_units h.units x h.each)
+
+pub unescaped_is : (q v : List ℕ) → QuotedOpen q v → unescaped false q ≡ v
+unescaped_is q v (inl h) = ap (unescaped false) (sym (append-nil q)) ∙ (unescaped_before q v [] h ∙ append-nil v)
+unescaped_is q v (inr (q', v', t, e, h)) = ap (unescaped false) t ∙ (unescaped_before q' v' (92 ∷ []) h ∙ sym e)
+
+-- The closing quote is found among the bytes of a text as among its code points.
+
+-- no byte is ASCII
+abbrev IsHigh : List ℕ → Type 0
+IsHigh [] = Unit {0}
+IsHigh (b ∷ t) = (128 ≤ b) × IsHigh t
+
+skips : (b : ℕ) (t : List ℕ) → 128 ≤ b → quoted_rest false (b ∷ t) ≡ quoted_rest false t
+skips b t h = cond-false (b == 34) (Some t) (cond (b == 92) (quoted_rest true t) (quoted_rest false t))
+    (ne_eqb b 34 (λ e. omega arith)) ∙ cond-false (b == 92) (quoted_rest true t) (quoted_rest false t)
+    (ne_eqb b 92 (λ e. omega arith))
+
+skips_any : (e : Bool) (b : ℕ) (t : List ℕ) → 128 ≤ b → quoted_rest e (b ∷ t) ≡ quoted_rest false t
+skips_any true b t h = refl
+skips_any false b t h = skips b t h
+
+skips_high : (t x : List ℕ) → IsHigh t → quoted_rest false (t ++ x) ≡ quoted_rest false x
+skips_high [] x h = refl
+skips_high (b ∷ t) x h = skips b (t ++ x) h.0 ∙ skips_high t x h.1
+
+skips_all : (e : Bool) (b : ℕ) (t x : List ℕ) → 128 ≤ b → IsHigh t → quoted_rest e ((b ∷ t) ++ x) ≡ quoted_rest false x
+skips_all e b t x h k = skips_any e b (t ++ x) h ∙ skips_high t x k
+
+-- the bytes of a code point that is not ASCII
+skips_encoded : (e : Bool) (c : ℕ) (x : List ℕ) → 128 ≤ c → quoted_rest e (encode c ++ x) ≡ quoted_rest false x
+unfolding encode
+skips_encoded e c x h =
+    let one : ltb c 128 ≡ false = le-ltb c 128 h in
+    let P : List ℕ → Type 0 = λ l. quoted_rest e (l ++ x) ≡ quoted_rest false x in
+    subst P (sym (cond-false (ltb c 128) (c ∷ []) _ one))
+    (cond_both (ltb c 2048) _ _ P
+    (λ k. skips_all e (192 + c / 64) (next c ∷ []) x (omega arith) (omega arith, tt))
+    (λ k. cond_both (ltb c 65536) _ _ P
+    (λ k. skips_all e (224 + c / 4096) (next (c / 64) ∷ next c ∷ []) x (omega arith) (omega arith, (omega arith, tt)))
+    (λ k. skips_all e (240 + c / 262144) (next (c / 4096) ∷ next (c / 64) ∷ next c ∷ []) x (omega arith)
+    (omega arith, (omega arith, (omega arith, tt))))))
+
+mapped_cases : (b d : Bool) (t : List ℕ) (x y : Option (List ℕ)) (x' y' : Option (List ℕ))
+    → x' ≡ option_map encode_utf8_all x → y' ≡ option_map encode_utf8_all y
+    → cond b (Some (encode_utf8_all t)) (cond d x' y') ≡ option_map encode_utf8_all (cond b (Some t) (cond d x y))
+mapped_cases true d t x y x' y' e f = refl
+mapped_cases false true t x y x' y' e f = e
+mapped_cases false false t x y x' y' e f = f
+
+ascii_rest : (e : Bool) (c : ℕ) (cs : List ℕ) → quoted_rest true (encode_utf8_all cs) ≡ option_map encode_utf8_all
+    (quoted_rest true cs) → quoted_rest false (encode_utf8_all cs) ≡ option_map encode_utf8_all (quoted_rest false cs)
+    → quoted_rest e (c ∷ encode_utf8_all cs) ≡ option_map encode_utf8_all (quoted_rest e (c ∷ cs))
+ascii_rest true c cs h k = k
+ascii_rest false c cs h k = mapped_cases (c == 34) (c == 92) cs (quoted_rest true cs) (quoted_rest false cs) _ _ h k
+
+pub rest_encodes : (e : Bool) (cs : List ℕ) → quoted_rest e (encode_utf8_all cs) ≡ option_map encode_utf8_all
+    (quoted_rest e cs)
+rest_encodes e [] = refl
+rest_encodes e (c ∷ cs) = elim (cases_lt c 128) [
+  | inl l ↦ ap (λ x. quoted_rest e (x ++ encode_utf8_all cs)) (encode_ascii c l)
+      ∙ ascii_rest e c cs (rest_encodes true cs) (rest_encodes false cs)
+  | inr l ↦ skips_encoded e c (encode_utf8_all cs) l
+      ∙ (rest_encodes false cs ∙ sym (ap (option_map encode_utf8_all) (skips_any e c cs l)))
+]
+
+pub rest_chars : (bs : List ℕ) → IsUtf8 bs → quoted_rest false bs ≡ option_map encode_utf8_all
+    (quoted_rest false (chars bs))
+rest_chars bs u = ap (quoted_rest false) (sym (encodes-chars bs u)) ∙ rest_encodes false (chars bs)
+
+-- No closing quote
+
+open_if : (s v : List ℕ) (o : Option (List ℕ)) → IsRead s v o → option_map encode_utf8_all o ≡ None → IsOpen s
+open_if s v None h e = (v, h)
+open_if s v (Some w) h e = absurd (let k = e in cc)
+
+pub is_open : (bs text : List ℕ) (i : ℕ) (e : Bool) → IsUtf8 text → bs ≡ text → length bs ≤ i
+    → quoted_rest e (drop i text) ≡ quoted_rest false text → IsOpen (chars text)
+is_open bs text i e u b l h =
+    let n : drop i text ≡ [] = drop_of_length-le text (subst (λ x. length x ≤ i) b l) in
+    let none : quoted_rest false text ≡ None = sym h ∙ ap (quoted_rest e) n in
+    open_if (chars text) (quoted_value false (chars text)) (quoted_rest false (chars text)) (is_read false (chars text))
+    (sym (rest_chars text u) ∙ none)
+
+-- The closing quote
+
+scalars_behind : (q w : List ℕ) → all_scalars (q ++ w) ≡ true → all_scalars w ≡ true
+scalars_behind [] w h = h
+scalars_behind (c ∷ q) w h = scalars_behind q w (and_parts (scalar c) (all_scalars (q ++ w)) h).1
+
+closed_if : (bs raw behind v : List ℕ) (o : Option (List ℕ)) → IsRead (chars bs) v o
+    → option_map encode_utf8_all o ≡ Some behind → all_scalars (chars bs) ≡ true
+    → chars bs ≡ chars raw ++ (34 ∷ chars behind) → IsUtf8 behind → IsClosed bs raw behind
+closed_if bs raw behind v None h e s j u = absurd (let k = e in cc)
+closed_if bs raw behind v (Some w) h e s j u =
+    let rest : chars behind ≡ w = ap chars (sym (some_equal _ _ e))
+    ∙ chars-encodes w (and_parts (scalar 34) (all_scalars w) (scalars_behind h.0 (34 ∷ w) (ap all_scalars (sym h.1)
+    ∙ s))).1 in
+    let front : h.0 ≡ chars raw = append_cancel_right h.0 (chars raw) (34 ∷ w) (sym h.1 ∙ j
+    ∙ ap (λ x. chars raw ++ (34 ∷ x)) rest) in
+    record { value = v; is_quoted = subst (λ x. Quoted x v) front h.2; joined = j; utf8 = u }
+
+quote_joined : (bs : List ℕ) (i : ℕ) → IsUtf8 bs → i < length bs → get_or bs i 0 ≡ 34 → drop i bs ≡ 34 ∷ drop (i + 1) bs
+quote_joined bs i u l e = drop-cons bs i 0 l ∙ ap₂ (λ x y. x ∷ y) e (ap (λ k. drop k bs) (sym (add-one i)))
+
+chars_joined : (bs : List ℕ) (i : ℕ) → IsUtf8 bs → i < length bs → get_or bs i 0 ≡ 34
+    → chars bs ≡ chars (take i bs) ++ (34 ∷ chars (drop (i + 1) bs))
+chars_joined bs i u l e =
+    let b = IsCharBoundary-before_ascii bs i l (omega arith) in
+    ap chars (sym (take-append-drop i bs)) ∙ chars-append (take i bs) (drop i bs) (IsUtf8-take bs i u b)
+    ∙ ap (λ x. chars (take i bs) ++ x) (chars_past_char (drop i bs) (drop (i + 1) bs) 34 (IsUtf8-drop bs i u b)
+    (quote_joined bs i u l e ∙ ap (λ x. x ++ drop (i + 1) bs) (sym (encode_ascii 34 (omega arith)))))
+
+range_take : (bs : List ℕ) (i : ℕ) → slice_range bs 0 i ≡ take i bs
+range_take bs i = ap (λ k. take k bs) (omega arith)
+
+pub is_closed : (bs raw behind : List ℕ) (i : ℕ) → IsUtf8 bs → i < length bs → get_or bs i 0 ≡ 34
+    → quoted_rest false (drop i bs) ≡ quoted_rest false bs → raw ≡ slice_range bs 0 i → behind ≡ drop (i + 1) bs
+    → IsUtf8 behind → IsClosed bs raw behind
+is_closed bs raw behind i u l e h r b w =
+    let one : quoted_rest false bs ≡ Some behind = sym h ∙ ap (quoted_rest false) (quote_joined bs i u l e)
+    ∙ ap Some (sym b) in
+    closed_if bs raw behind (quoted_value false (chars bs)) (quoted_rest false (chars bs)) (is_read false (chars bs))
+    (sym (rest_chars bs u) ∙ one) (scalars-chars bs u) (chars_joined bs i u l e
+    ∙ ap₂ (λ x y. chars x ++ (34 ∷ chars y)) (sym (r ∙ range_take bs i)) (sym b)) w

@@ -1,0 +1,280 @@
+-- A printed record is read again as it is.
+use Rattle.std.proofs.Common.{◌≡◌, ℕ, ◌==◌, ◌||◌, ◌&&◌, Bool, true, false, not, List, [], ◌∷◌, ◌++◌, Some, map, refl}
+use Rattle.std.proofs.Common.{sym, ap, ◌∙◌, subst, append-nil}
+use Rattle.std.proofs.lemmas.Bool.{agree_below, agree_below_at, and_from, and_parts, both_ways, cond-false, cond-true}
+use Rattle.std.proofs.lemmas.Bool.{cond_both, eqb-false, false_from_ne_true, not-true, or_parts}
+use Rattle.std.specs.List.{AllByRecursion, flat_map, list_all}
+use Rattle.std.specs.Str.{bytes_eq}
+use Rattle.data_url.specs.CodePoints.{ends_name, is_http_whitespace, is_quotable, is_semicolon, is_token}
+use Rattle.data_url.specs.Mime.{BeginsParameters, DoesNotBegin, DoesNotEnd, Escaped, Every, GivesValue, IsHead}
+use Rattle.data_url.specs.Mime.{IsParameter, IsTrimmed, IsTrimmedEnd, IsWellformed, Item, Items, Pair, Parses, Plain}
+use Rattle.data_url.specs.Mime.{Quoted, Record, Without, escaped_code_point, first_of_each_name, has_distinct_names}
+use Rattle.data_url.specs.Mime.{has_name, is_lowercase_name, is_quote, is_token_text, kept_pairs, plain, printed}
+use Rattle.data_url.specs.Mime.{printed_pair, printed_value, quoted, unless_empty, valid_pairs}
+use Rattle.data_url.proofs.mime.Items.{not_begins_append, every_token, has_at_most_one_record}
+use Rattle.data_url.proofs.mime.FirstNames.{has_append, lower_is_itself, lowercase_token, test_from_different}
+use Rattle.data_url.proofs.mime.FirstNames.{test_from_equal}
+use Rattle.data_url.proofs.mime.Quoted.{quoted_more, quoted_nil}
+use Rattle.data_url.proofs.mime.TokenTexts.{token_below}
+
+-- Token code points
+
+abbrev excludes : (ℕ → Bool) → ℕ → Bool
+excludes p c = not (is_token c && p c)
+
+excluded : (p : ℕ → Bool) → agree_below (excludes p) (λ c. true) 128 ≡ true → (c : ℕ) → is_token c ≡ true → p c ≡ false
+excluded p a c h = false_from_ne_true (p c) (λ k. both_ways (excludes p c) (ap (λ v. not (v && p c)) h ∙ ap not k)
+    (agree_below_at (excludes p) (λ d. true) 128 c a (token_below c h)))
+
+token_not_space : (c : ℕ) → is_token c ≡ true → is_http_whitespace c ≡ false
+unfolding is_token
+token_not_space c h = excluded is_http_whitespace refl c h
+
+token_not_end : (c : ℕ) → is_token c ≡ true → ends_name c ≡ false
+unfolding is_token
+token_not_end c h = excluded ends_name refl c h
+
+token_not_semicolon : (c : ℕ) → is_token c ≡ true → is_semicolon c ≡ false
+unfolding is_token
+token_not_semicolon c h = excluded is_semicolon refl c h
+
+token_not_quote : (c : ℕ) → is_token c ≡ true → is_quote c ≡ false
+unfolding is_token
+token_not_quote c h = excluded is_quote refl c h
+
+-- a text of token code points, and a class that has none of them
+tokens_without : (p : ℕ → Bool) → ((c : ℕ) → is_token c ≡ true → p c ≡ false) → (t : List ℕ) → Every is_token t
+    → Without p t
+tokens_without p n [] h = tt
+tokens_without p n (c ∷ t) h = (ap not (n c h.0), tokens_without p n t h.1)
+
+tokens_not_begin : (p : ℕ → Bool) → ((c : ℕ) → is_token c ≡ true → p c ≡ false) → (t : List ℕ) → Every is_token t
+    → DoesNotBegin p t
+tokens_not_begin p n [] h = tt
+tokens_not_begin p n (c ∷ t) h = n c h.0
+
+tokens_not_end : (p : ℕ → Bool) → ((c : ℕ) → is_token c ≡ true → p c ≡ false) → (t : List ℕ) → Every is_token t
+    → DoesNotEnd p t
+tokens_not_end p n [] h = tt
+tokens_not_end p n (c ∷ []) h = n c h.0
+tokens_not_end p n (c ∷ d ∷ t) h = tokens_not_end p n (d ∷ t) h.1
+
+-- Ends of texts
+
+not_ends_append : (p : ℕ → Bool) (a b : List ℕ) → DoesNotEnd p a → DoesNotEnd p b → DoesNotEnd p (a ++ b)
+not_ends_append p [] b h k = k
+not_ends_append p (c ∷ []) [] h k = h
+not_ends_append p (c ∷ []) (d ∷ b) h k = k
+not_ends_append p (c ∷ d ∷ a) b h k = not_ends_append p (d ∷ a) b h k
+
+pub not_ends_last : (p : ℕ → Bool) (c : ℕ) → p c ≡ false → (a : List ℕ) → DoesNotEnd p (a ++ (c ∷ []))
+not_ends_last p c h [] = h
+not_ends_last p c h (d ∷ []) = h
+not_ends_last p c h (d ∷ e ∷ a) = not_ends_last p c h (e ∷ a)
+
+-- A value
+
+quoted_escaped : (v : List ℕ) → Quoted (flat_map escaped_code_point v) v
+quoted_escaped [] = quoted_nil
+quoted_escaped (c ∷ v) = cond_both ((c == 34) || (c == 92)) (92 ∷ c ∷ []) (c ∷ [])
+    (λ t. Quoted (t ++ flat_map escaped_code_point v) (c ∷ v))
+    (λ e. quoted_more (Escaped c) (flat_map escaped_code_point v) v tt (quoted_escaped v))
+    (λ e. let p = or_parts (c == 34) (c == 92) e in quoted_more (Plain c) (flat_map escaped_code_point v) v
+    (eqb-false c 34 p.0, eqb-false c 92 p.1) (quoted_escaped v))
+
+is_nonempty : (v : List ℕ) → is_token_text v ≡ true → unless_empty v ≡ Some v
+is_nonempty [] h = absurd (both_ways false refl h)
+is_nonempty (c ∷ v) h = refl
+
+itself_trimmed : (p : ℕ → Bool) (v : List ℕ) → DoesNotEnd p v → IsTrimmedEnd p v v
+itself_trimmed p v h = record { back = []; joined = sym (append-nil v); at_back = tt; ends = h }
+
+plain_value : (v rest : List ℕ) → is_token_text v ≡ true → GivesValue (61 ∷ v) rest (Some v)
+plain_value v rest h =
+    let t = every_token v h in
+    subst (GivesValue (61 ∷ v) rest) (is_nonempty v h) (plain v v (tokens_without is_semicolon token_not_semicolon v t)
+    (tokens_not_begin is_quote token_not_quote v t)
+    (itself_trimmed is_http_whitespace v (tokens_not_end is_http_whitespace token_not_space v t)))
+
+gives_value : (v rest : List ℕ) → GivesValue (61 ∷ printed_value v) rest (Some v)
+gives_value v rest = cond_both (is_token_text v) v (34 ∷ (flat_map escaped_code_point v ++ (34 ∷ [])))
+    (λ t. GivesValue (61 ∷ t) rest (Some v)) (λ e. plain_value v rest e) (λ e. quoted (flat_map escaped_code_point v) []
+    (quoted_escaped v) tt)
+
+value_not_end : (v : List ℕ) → DoesNotEnd is_http_whitespace (printed_value v)
+value_not_end v = cond_both (is_token_text v) v (34 ∷ (flat_map escaped_code_point v ++ (34 ∷ [])))
+    (λ t. DoesNotEnd is_http_whitespace t)
+    (λ e. tokens_not_end is_http_whitespace token_not_space v (every_token v e))
+    (λ e. not_ends_last is_http_whitespace 34 refl (34 ∷ flat_map escaped_code_point v))
+
+-- A parameter
+
+name_tokens : (t : List ℕ) → is_lowercase_name t ≡ true → Every is_token t
+name_tokens t h = every_token t (lowercase_token t h)
+
+name_not_end : (t : List ℕ) → is_lowercase_name t ≡ true → DoesNotEnd is_http_whitespace t
+name_not_end t h = tokens_not_end is_http_whitespace token_not_space t (name_tokens t h)
+
+is_parameter : (p : Pair) (rest : List ℕ) → is_lowercase_name p.0 ≡ true
+    → IsParameter (printed_pair p) rest (p.0, Some p.1)
+is_parameter p rest h = record {
+  gap = [];
+  name = p.0;
+  tail = 61 ∷ printed_value p.1;
+  joined = refl;
+  in_gap = tt;
+  begins = tokens_not_begin is_http_whitespace token_not_space p.0 (name_tokens p.0 h);
+  in_name = tokens_without ends_name token_not_end p.0 (name_tokens p.0 h);
+  name_is = sym (lower_is_itself p.0 h);
+  value_is = gives_value p.1 rest;
+}
+
+pair_not_end : (p : Pair) → is_lowercase_name p.0 ≡ true → DoesNotEnd is_http_whitespace (printed_pair p)
+pair_not_end p h = not_ends_append is_http_whitespace (59 ∷ []) (p.0 ++ (61 ∷ printed_value p.1)) refl
+    (not_ends_append is_http_whitespace p.0 (61 ∷ printed_value p.1) (name_not_end p.0 h)
+    (not_ends_append is_http_whitespace (61 ∷ []) (printed_value p.1) refl (value_not_end p.1)))
+
+-- Parameters
+
+abbrev have_names : List Pair → Bool
+have_names pairs = list_all (λ (p : Pair). is_lowercase_name p.0) pairs
+
+abbrev have_values : List Pair → Bool
+have_values pairs = list_all (λ (p : Pair). list_all is_quotable p.1) pairs
+
+abbrev item_of : Pair → Item
+item_of p = (p.0, Some p.1)
+
+printed_items : (pairs : List Pair) → have_names pairs ≡ true → Items (flat_map printed_pair pairs) (map item_of pairs)
+printed_items [] h = refl
+printed_items (p ∷ pairs) h =
+    let k = and_parts (is_lowercase_name p.0) (have_names pairs) h in (
+      printed_pair p,
+      flat_map printed_pair pairs,
+      refl,
+      is_parameter p (flat_map printed_pair pairs) k.0,
+      printed_items pairs k.1,
+    )
+
+pairs_begin : (pairs : List Pair) → BeginsParameters (flat_map printed_pair pairs)
+pairs_begin [] = tt
+pairs_begin (p ∷ pairs) = refl
+
+pairs_not_end : (pairs : List Pair) → have_names pairs ≡ true
+    → DoesNotEnd is_http_whitespace (flat_map printed_pair pairs)
+pairs_not_end [] h = tt
+pairs_not_end (p ∷ pairs) h =
+    let k = and_parts (is_lowercase_name p.0) (have_names pairs) h in
+    not_ends_append is_http_whitespace (printed_pair p) (flat_map printed_pair pairs) (pair_not_end p k.0)
+    (pairs_not_end pairs k.1)
+
+-- All of them are kept
+
+all_valid : (pairs : List Pair) → have_names pairs ≡ true → have_values pairs ≡ true
+    → valid_pairs (map item_of pairs) ≡ pairs
+all_valid [] h k = refl
+all_valid (p ∷ pairs) h k =
+    let n = and_parts (is_lowercase_name p.0) (have_names pairs) h in
+    let v = and_parts (list_all is_quotable p.1) (have_values pairs) k in
+    ap (λ x. x ++ valid_pairs (map item_of pairs)) (cond-true (is_token_text p.0 && list_all is_quotable p.1)
+    ((p.0, p.1) ∷ []) [] (and_from (is_token_text p.0) (list_all is_quotable p.1) (lowercase_token p.0 n.0) v.0))
+    ∙ ap (λ x. p ∷ x) (all_valid pairs n.1 v.1)
+
+-- no pair has a name of the earlier ones
+abbrev Apart : List Pair → List Pair → Type 0
+Apart earlier pairs = AllByRecursion (λ (p : Pair). has_name p.0 earlier ≡ false) pairs
+
+apart_none : (pairs : List Pair) → Apart [] pairs
+apart_none [] = tt
+apart_none (p ∷ pairs) = (refl, apart_none pairs)
+
+other_name : (a b : List ℕ) → bytes_eq a b ≡ false → bytes_eq b a ≡ false
+other_name a b h = test_from_different b a (λ e. both_ways (bytes_eq a b) h (test_from_equal a b (sym e)))
+
+apart_more : (earlier : List Pair) (p : Pair) (pairs : List Pair) → Apart earlier pairs → has_name p.0 pairs ≡ false
+    → Apart (earlier ++ (p ∷ [])) pairs
+apart_more earlier p [] h k = tt
+apart_more earlier p (q ∷ pairs) h k =
+    let f = or_parts (bytes_eq q.0 p.0) (has_name p.0 pairs) k in (
+      has_append q.0 earlier (p ∷ []) ∙ ap (λ b. b || (bytes_eq p.0 q.0 || false)) h.0
+          ∙ ap (λ b. b || false) (other_name q.0 p.0 f.0),
+      apart_more earlier p pairs h.1 f.1,
+    )
+
+first_itself : (earlier pairs : List Pair) → Apart earlier pairs → has_distinct_names pairs ≡ true
+    → first_of_each_name earlier pairs ≡ pairs
+first_itself earlier [] h k = refl
+first_itself earlier (p ∷ pairs) h k =
+    let d = and_parts (not (has_name p.0 pairs)) (has_distinct_names pairs) k in
+    cond-false (has_name p.0 earlier) (first_of_each_name (earlier ++ (p ∷ [])) pairs)
+    (p ∷ first_of_each_name (earlier ++ (p ∷ [])) pairs) h.0
+    ∙ ap (λ x. p ∷ x) (first_itself (earlier ++ (p ∷ [])) pairs
+    (apart_more earlier p pairs h.1 (not-true (has_name p.0 pairs) d.0)) d.1)
+
+all_kept : (m : Record) → IsWellformed m → m.parameters ≡ kept_pairs (map item_of m.parameters)
+all_kept m w = sym (ap (first_of_each_name []) (all_valid m.parameters w.names w.values)
+    ∙ first_itself [] m.parameters (apart_none m.parameters) w.distinct)
+
+-- The whole
+
+is_trimmed : (s : List ℕ) → DoesNotBegin is_http_whitespace s → DoesNotEnd is_http_whitespace s
+    → IsTrimmed is_http_whitespace s s
+is_trimmed s b e = record {
+  front = [];
+  back = [];
+  joined = sym (append-nil s);
+  at_front = tt;
+  at_back = tt;
+  begins =
+      b;
+  ends = e;
+}
+
+printed_begins : (m : Record) → IsWellformed m → DoesNotBegin is_http_whitespace (printed m)
+unfolding printed
+printed_begins m w = not_begins_append is_http_whitespace m.type_
+    (47 ∷ (m.subtype ++ flat_map printed_pair m.parameters))
+    (tokens_not_begin is_http_whitespace token_not_space m.type_ (name_tokens m.type_ w.type_)) refl
+
+printed_ends : (m : Record) → IsWellformed m → DoesNotEnd is_http_whitespace (printed m)
+unfolding printed
+printed_ends m w =
+    not_ends_append is_http_whitespace m.type_ (47 ∷ (m.subtype ++ flat_map printed_pair m.parameters))
+    (name_not_end m.type_ w.type_)
+    (not_ends_append is_http_whitespace (47 ∷ []) (m.subtype ++ flat_map printed_pair m.parameters) refl
+    (not_ends_append is_http_whitespace m.subtype (flat_map printed_pair m.parameters)
+    (name_not_end m.subtype w.subtype) (pairs_not_end m.parameters w.names)))
+
+printed_head : (m : Record) → IsWellformed m → IsHead (printed m) m.type_ m.subtype (flat_map printed_pair m.parameters)
+unfolding printed
+printed_head m w = record {
+  text = printed m;
+  gap = [];
+  trimmed = is_trimmed (printed m) (printed_begins m w) (printed_ends m w);
+  joined = refl;
+  is_type = lowercase_token m.type_ w.type_;
+  is_subtype = lowercase_token m.subtype w.subtype;
+  in_gap = tt;
+  begins = pairs_begin m.parameters;
+}
+
+pub printed_parses : (m : Record) → IsWellformed m → Parses (printed m) m
+printed_parses m w = record {
+  type_ = m.type_;
+  subtype = m.subtype;
+  parameters = flat_map printed_pair m.parameters;
+  head = printed_head m w;
+  record_is = record {
+    items = map item_of m.parameters;
+    items_are = printed_items m.parameters w.names;
+    type_is = sym (lower_is_itself m.type_ w.type_);
+    subtype_is = sym (lower_is_itself m.subtype w.subtype);
+    parameters_are = all_kept m w;
+  };
+}
+
+pub printed_only : (m : Record) → IsWellformed m → (n : Record) → Parses (printed m) n → n ≡ m
+printed_only m w n h = has_at_most_one_record (printed m) n m h (printed_parses m w)
+
+pub printed_same : (m n : Record) → IsWellformed m → IsWellformed n → printed m ≡ printed n → m ≡ n
+printed_same m n v w e = printed_only n w m (subst (λ s. Parses s m) e (printed_parses m v))

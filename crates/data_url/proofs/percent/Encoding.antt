@@ -1,0 +1,616 @@
+-- Percent-encoding by rows of a table, and how encoded texts are read again. For `push_encoded`.
+use Rattle.std.proofs.Common.{◌≡◌, ℕ, ◌*◌, ◌+◌, ◌-◌, ◌<◌, ◌&&◌, ◌||◌, Bool, false, true, List, [], ◌∷◌, length, take}
+use Rattle.std.proofs.Common.{drop, refl, ◌/◌, ◌%◌, not, ◌++◌, Option, None, Some, sym, ap, ◌∙◌, inl, inr, subst}
+use Rattle.std.proofs.Common.{⊎_elim, append-nil, append_assoc, arith, suc, cond, ◌≤◌, get_or, ap₂, take-append-drop}
+use Rattle.std.specs.Prelude.{◌==◌, slice_index, nat_lt}
+use Rattle.std.specs.Str.{bytes_eq, IsAscii, IsUtf8}
+use Rattle.std.proofs.lemmas.Bool.{agree_below, agree_below_at, and_parts, eqb-true, and_left, and_right, cases_Bool}
+use Rattle.std.proofs.lemmas.Bool.{cond-true, cond-false, cond_both, both_ways, ne_eqb, or_cases, or_left, eqb-false}
+use Rattle.std.proofs.lemmas.Bool.{ltb-true, or_parts}
+use Rattle.std.proofs.lemmas.Slice.Eq.{bytes_eq-Decides}
+use Rattle.data_url.specs.Url.{in_fragment_set, in_path_set, in_query_set, before, behind, encoded_byte, encoded_path}
+use Rattle.data_url.specs.Url.{hex_digit, in_path_end_set, percent_encoding, serialised, with_query}
+use Rattle.data_url.specs.Url.{without_tabs_and_newlines, is_tab_or_newline}
+use Rattle.data_url.specs.Steps.Sets.{IsRow, byte_encoding, in_set}
+use Rattle.data_url.specs.declared.percent.rows.TheConstants.{FRAGMENT, PATH, QUERY}
+use Rattle.data_url.proofs.classes.Rows.{unmarked_passes}
+use Rattle.std.specs.Char.{digit_value, is_ascii_hexdigit}
+use Rattle.std.specs.List.{AllByRecursion, list_all}
+use Rattle.data_url.specs.Steps.Header.{header_parts, header_text}
+use Rattle.data_url.specs.Percent.{is_escape, percent_decoding}
+use Rattle.data_url.proofs.texts.Bytes.{before-append, before_at, before_nil, before_other, before_same, behind_nil}
+use Rattle.data_url.proofs.texts.Bytes.{behind_other, behind_same, lacks, before_all, behind-dropped_none, behind_none}
+use Rattle.data_url.proofs.texts.Bytes.{without_tabs_and_newlines-append, dropped_keeps, dropped_nil, dropped_passes}
+use Rattle.std.proofs.Math.Seq.{take-append-add}
+use Rattle.std.proofs.lemmas.Grind.{flat_map-append}
+use Rattle.std.proofs.lemmas.List.{drop_all, drop_more, length-take-le, nil_from_length, take-take}
+use Rattle.std.proofs.lemmas.Str.{IsAscii-append, IsUtf8-from_ascii}
+use Rattle.std.proofs.lemmas.Str.Ascii.{IsAscii-cons, IsAscii-nil}
+use Rattle.data_url.specs.Steps.Front.{is_plain_path}
+use Rattle.data_url.specs.declared.percent.EncodeSet.TheVariants.{Fragment, Path, Query}
+use Rattle.data_url.specs.declared.percent.EncodeSet.{EncodeSet}
+
+-- The rows of the tables that say what each byte of a URL is written as.
+
+-- the row of a byte in a table
+abbrev pub row_at : List ℕ → ℕ → List ℕ
+row_at rows b = take (4 * b + 4 - 4 * b) (drop (4 * b) rows)
+
+abbrev is_row : (ℕ → Bool) → ℕ → List ℕ → Bool
+is_row p b row = (length row == 4) && ((slice_index row 3 == length (byte_encoding p b)) && bytes_eq
+    (take (slice_index row 3) row) (byte_encoding p b))
+
+row_of_test : (p : ℕ → Bool) (b : ℕ) (row : List ℕ) → is_row p b row ≡ true → IsRow p b row
+row_of_test p b row h =
+    let e = and_parts (length row == 4) ((slice_index row 3 == length (byte_encoding p b)) && bytes_eq
+    (take (slice_index row 3) row) (byte_encoding p b)) h in
+    let f = and_parts (slice_index row 3 == length (byte_encoding p b))
+    (bytes_eq (take (slice_index row 3) row) (byte_encoding p b)) e.1 in
+    record {
+      four = eqb-true (length row) 4 e.0;
+      len_is = eqb-true (slice_index row 3) (length (byte_encoding p b)) f.0;
+      begins = (bytes_eq-Decides (take (slice_index row 3) row) (byte_encoding p b)).0 f.1;
+    }
+
+pub path_row : (b : ℕ) → b < 256 → IsRow in_path_set b (row_at PATH b)
+path_row b l = row_of_test in_path_set b (row_at PATH b) (agree_below_at (λ b. is_row in_path_set b (row_at PATH b))
+    (λ b. true) 256 b refl l)
+
+pub query_row : (b : ℕ) → b < 256 → IsRow in_query_set b (row_at QUERY b)
+query_row b l = row_of_test in_query_set b (row_at QUERY b)
+    (agree_below_at (λ b. is_row in_query_set b (row_at QUERY b)) (λ b. true) 256 b refl l)
+
+pub fragment_row : (b : ℕ) → b < 256 → IsRow in_fragment_set b (row_at FRAGMENT b)
+fragment_row b l = row_of_test in_fragment_set b (row_at FRAGMENT b)
+    (agree_below_at (λ b. is_row in_fragment_set b (row_at FRAGMENT b)) (λ b. true) 256 b refl l)
+
+-- a byte that has no mark is written as it is
+pub kept_where : (m p : ℕ → Bool) → agree_below (λ b. m b || bytes_eq (byte_encoding p b) (b ∷ [])) (λ _. true) 256
+    ≡ true → (b : ℕ) → b < 256 → m b ≡ false → byte_encoding p b ≡ b ∷ []
+kept_where m p h b l e = (bytes_eq-Decides (byte_encoding p b) (b ∷ [])).0
+    (unmarked_passes m (λ b. bytes_eq (byte_encoding p b) (b ∷ [])) h b l e)
+
+-- Texts with some of their bytes percent-encoded: they decode alike, and their first commas stand at the same bytes.
+
+abbrev pub IsBytes : List ℕ → Type 0
+IsBytes s = AllByRecursion (λ b. b < 256) s
+
+-- x is s with some bytes of the query's set percent-encoded
+pub data Recoded : List ℕ → List ℕ → Type 0 where
+  none : Recoded [] []
+  kept : {s x : List ℕ} (b : ℕ) → Recoded s x → Recoded (b ∷ s) (b ∷ x)
+  written : {s x : List ℕ} (b : ℕ) → in_query_set b ≡ true → b < 256 → Recoded s x
+      → Recoded (b ∷ s) (37 ∷ hex_digit (b / 16) ∷ hex_digit (b % 16) ∷ x)
+
+-- Bytes
+
+abbrev no_hex : ℕ → Bool
+no_hex b = not (in_query_set b && is_ascii_hexdigit b)
+
+-- a byte of the set is no hexadecimal digit
+set_no_hex : (b : ℕ) → b < 256 → in_query_set b ≡ true → is_ascii_hexdigit b ≡ false
+set_no_hex b l h = elim (cases_Bool (is_ascii_hexdigit b)) [
+  | inl e ↦ absurd (both_ways (no_hex b) (ap (λ v. not (v && is_ascii_hexdigit b)) h ∙ ap (λ v. not v) e)
+      (agree_below_at no_hex (λ c. true) 256 b refl l))
+  | inr e ↦ e
+]
+
+-- and is neither '%' nor ','
+set_other : (b c : ℕ) → in_query_set c ≡ false → in_query_set b ≡ true → (b == c) ≡ false
+set_other b c e h = ne_eqb b c (λ (k : b ≡ c). both_ways (in_query_set b) (ap in_query_set k ∙ e) h)
+
+hex_digit_value : (d : ℕ) → d < 16 → digit_value (hex_digit d) ≡ d
+hex_digit_value d l =
+    eqb-true (digit_value (hex_digit d)) d (agree_below_at (λ d. digit_value (hex_digit d) == d)
+    (λ c. true) 16 d refl l)
+
+hex_digit_hex : (d : ℕ) → d < 16 → is_ascii_hexdigit (hex_digit d) ≡ true
+hex_digit_hex d l = agree_below_at (λ d. is_ascii_hexdigit (hex_digit d)) (λ c. true) 16 d refl l
+
+hex_digit_other : (d c : ℕ) → c < 48 → (hex_digit d == c) ≡ false
+hex_digit_other d c l = cond_both (nat_lt d 10) (48 + d) (55 + d) (λ v. (v == c) ≡ false)
+    (λ e. ne_eqb (48 + d) c (λ k. omega arith)) (λ e. ne_eqb (55 + d) c (λ k. omega arith))
+
+-- Decoding by one byte
+
+-- the text begins with two hexadecimal digits
+abbrev pub two_digits : List ℕ → Bool
+two_digits [] = false
+two_digits (b ∷ []) = false
+two_digits (b ∷ c ∷ s) = is_ascii_hexdigit b && is_ascii_hexdigit c
+
+pub decoded_keeps : (a : ℕ) (s : List ℕ) → ((a == 37) && two_digits s) ≡ false
+    → percent_decoding (a ∷ s) ≡ a ∷ percent_decoding s
+unfolding percent_decoding
+decoded_keeps a [] h = refl
+decoded_keeps a (b ∷ []) h = refl
+decoded_keeps a (b ∷ c ∷ s) h = cond-false (is_escape a b c) ((16 * digit_value b + digit_value c) ∷ percent_decoding s)
+    (a ∷ percent_decoding (b ∷ c ∷ s)) h
+
+pub decoded_escape : (b c : ℕ) (s : List ℕ) → is_ascii_hexdigit b ≡ true → is_ascii_hexdigit c ≡ true
+    → percent_decoding (37 ∷ b ∷ c ∷ s) ≡ (16 * digit_value b + digit_value c) ∷ percent_decoding s
+unfolding percent_decoding
+decoded_escape b c s h k = cond-true (is_escape 37 b c) ((16 * digit_value b + digit_value c) ∷ percent_decoding s)
+    (37 ∷ percent_decoding (b ∷ c ∷ s)) (ap (λ v. v && is_ascii_hexdigit c) h ∙ k)
+
+-- what is written again is decoded to the byte
+decoded_written : (b : ℕ) (x : List ℕ) → b < 256 → percent_decoding (37 ∷ hex_digit (b / 16) ∷ hex_digit (b % 16) ∷ x)
+    ≡ b ∷ percent_decoding x
+decoded_written b x l =
+    let high : b / 16 < 16 = omega arith in
+    let low : b % 16 < 16 = omega arith in
+    decoded_escape (hex_digit (b / 16)) (hex_digit (b % 16)) x (hex_digit_hex (b / 16) high)
+    (hex_digit_hex (b % 16) low)
+    ∙ ap (λ v. v ∷ percent_decoding x) (ap (λ v. 16 * v + digit_value (hex_digit (b % 16)))
+    (hex_digit_value (b / 16) high) ∙ ap (λ v. 16 * (b / 16) + v) (hex_digit_value (b % 16) low) ∙ omega arith)
+
+same_digits : {s x : List ℕ} → Recoded s x → two_digits x ≡ two_digits s
+same_digits none = refl
+same_digits (kept b none) = refl
+same_digits (kept b (kept c r)) = refl
+same_digits (kept b (written c h l r)) = and_right (is_ascii_hexdigit b) false refl
+    ∙ sym (and_right (is_ascii_hexdigit b) (is_ascii_hexdigit c) (set_no_hex c l h))
+same_digits (written b h l none) = refl
+same_digits (written b h l (kept c r)) = sym (and_left (is_ascii_hexdigit b) (is_ascii_hexdigit c) (set_no_hex b l h))
+same_digits (written b h l (written c k m r)) =
+    sym (and_left (is_ascii_hexdigit b) (is_ascii_hexdigit c) (set_no_hex b l h))
+
+-- a byte that is kept, before no escape
+keeps : {s x : List ℕ} (b : ℕ) → Recoded s x → ((b == 37) && two_digits s) ≡ false
+    → percent_decoding x ≡ percent_decoding s → percent_decoding (b ∷ x) ≡ percent_decoding (b ∷ s)
+keeps {s} {x} b r h e = decoded_keeps b x (ap (λ v. (b == 37) && v) (same_digits r) ∙ h) ∙ ap (λ t. b ∷ t) e
+    ∙ sym (decoded_keeps b s h)
+
+-- a '%' that is kept, before two digits
+escapes : (b c d : ℕ) (s x : List ℕ) → ((b == 37) && (is_ascii_hexdigit c && is_ascii_hexdigit d)) ≡ true
+    → percent_decoding x ≡ percent_decoding s → percent_decoding (b ∷ c ∷ d ∷ x) ≡ percent_decoding (b ∷ c ∷ d ∷ s)
+escapes b c d s x h e =
+    let p = and_parts (b == 37) (is_ascii_hexdigit c && is_ascii_hexdigit d) h in
+    let q = and_parts (is_ascii_hexdigit c) (is_ascii_hexdigit d) p.1 in
+    let f : b ≡ 37 = eqb-true b 37 p.0 in
+    ap (λ v. percent_decoding (v ∷ c ∷ d ∷ x)) f ∙ decoded_escape c d x q.0 q.1
+    ∙ ap (λ t. (16 * digit_value c + digit_value d) ∷ t) e ∙ sym (decoded_escape c d s q.0 q.1)
+    ∙ ap (λ v. percent_decoding (v ∷ c ∷ d ∷ s)) (sym f)
+
+-- no digit stands first or second where a byte of the set does
+no_escape : (b : ℕ) (v : Bool) → v ≡ false → ((b == 37) && v) ≡ false
+no_escape b v h = and_right (b == 37) v h
+
+first_no_digit : (c : ℕ) (s : List ℕ) → is_ascii_hexdigit c ≡ false → two_digits (c ∷ s) ≡ false
+first_no_digit c [] h = refl
+first_no_digit c (d ∷ s) h = and_left (is_ascii_hexdigit c) (is_ascii_hexdigit d) h
+
+pub recoded-decoded : {s x : List ℕ} → Recoded s x → percent_decoding x ≡ percent_decoding s
+recoded-decoded none = refl
+recoded-decoded (written {s} {x} b h l r) = decoded_written b x l ∙ ap (λ t. b ∷ t) (recoded-decoded r)
+    ∙ sym (decoded_keeps b s (and_left (b == 37) (two_digits s) (set_other b 37 refl h)))
+recoded-decoded (kept b none) = refl
+recoded-decoded (kept b (kept c none)) = refl
+recoded-decoded (kept b (written {s} c h l r)) =
+    keeps b (written c h l r) (no_escape b (two_digits (c ∷ s)) (first_no_digit c s (set_no_hex c l h)))
+    (recoded-decoded (written c h l r))
+recoded-decoded (kept b (kept c (written d h l r))) =
+    keeps b (kept c (written d h l r)) (no_escape b (is_ascii_hexdigit c && is_ascii_hexdigit d)
+    (and_right (is_ascii_hexdigit c) (is_ascii_hexdigit d) (set_no_hex d l h)))
+    (recoded-decoded (kept c (written d h l r)))
+recoded-decoded (kept b (kept c (kept {s} {x} d r))) =
+    elim (cases_Bool ((b == 37) && (is_ascii_hexdigit c && is_ascii_hexdigit d))) [
+      | inl e ↦ escapes b c d s x e (recoded-decoded r)
+      | inr e ↦ keeps b (kept c (kept d r)) e (recoded-decoded (kept c (kept d r)))
+    ]
+
+-- Encodings
+
+pub encoded_nil : (p : ℕ → Bool) → percent_encoding p [] ≡ []
+unfolding percent_encoding
+encoded_nil p = refl
+
+pub encoded_cons : (p : ℕ → Bool) (b : ℕ) (s : List ℕ)
+    → percent_encoding p (b ∷ s) ≡ encoded_byte p b ++ percent_encoding p s
+unfolding percent_encoding
+encoded_cons p b s = refl
+
+-- one byte before the rest, encoded or not
+recoded_byte : (p : ℕ → Bool) → ((b : ℕ) → p b ≡ true → in_query_set b ≡ true) → (b : ℕ) (s x : List ℕ) → b < 256
+    → Recoded s x → Recoded (b ∷ s) (encoded_byte p b ++ x)
+recoded_byte p within b s x l r = cond_both (p b) (37 ∷ hex_digit (b / 16) ∷ hex_digit (b % 16) ∷ []) (b ∷ [])
+    (λ t. Recoded (b ∷ s) (t ++ x)) (λ e. written b (within b e) l r) (λ e. kept b r)
+
+pub is_recoded : (p : ℕ → Bool) → ((b : ℕ) → p b ≡ true → in_query_set b ≡ true) → (s : List ℕ) → IsBytes s
+    → Recoded s (percent_encoding p s)
+is_recoded p within [] h = subst (λ x. Recoded [] x) (sym (encoded_nil p)) none
+is_recoded p within (b ∷ s) h = subst (λ x. Recoded (b ∷ s) x) (sym (encoded_cons p b s))
+    (recoded_byte p within b s (percent_encoding p s) h.0 (is_recoded p within s h.1))
+
+pub path_within_query : (b : ℕ) → in_path_set b ≡ true → in_query_set b ≡ true
+path_within_query b h = or_left (in_path_set b) ((b == 32) || ((b == 34) || ((b == 35) || ((b == 60) || (b == 62))))) h
+
+-- The serialised front, byte by byte
+
+-- the set of a byte before the rest of its path
+abbrev pub path_byte_set : List ℕ → ℕ → Bool
+path_byte_set [] = in_path_end_set
+path_byte_set (c ∷ s) = in_path_set
+
+pub path_nil : encoded_path [] ≡ []
+unfolding encoded_path
+path_nil = refl
+
+pub path_cons : (b : ℕ) (path : List ℕ) → encoded_path (b ∷ path) ≡ encoded_byte (path_byte_set path) b ++ encoded_path
+    path
+unfolding encoded_path
+path_cons b [] = sym (append-nil (encoded_byte in_path_end_set b))
+path_cons b (c ∷ s) = refl
+
+pub end_within_query : (b : ℕ) → in_path_end_set b ≡ true → in_query_set b ≡ true
+end_within_query b h =
+    ⊎_elim (λ k. path_within_query b k) (λ k. subst (λ v. in_query_set v ≡ true) (sym (eqb-true b 32 k)) refl)
+    (or_cases (in_path_set b) (b == 32) h)
+
+pub path_byte_within : (path : List ℕ) (b : ℕ) → path_byte_set path b ≡ true → in_query_set b ≡ true
+path_byte_within [] b h = end_within_query b h
+path_byte_within (c ∷ s) b h = path_within_query b h
+
+pub serialised_nil : serialised [] ≡ []
+unfolding serialised before behind encoded_path
+serialised_nil = refl
+
+pub serialised_query : (s : List ℕ) → serialised (63 ∷ s) ≡ 63 ∷ percent_encoding in_query_set s
+unfolding serialised
+serialised_query s = ap (λ v. with_query v (behind 63 (63 ∷ s))) (before_same 63 s)
+    ∙ ap (λ v. with_query [] v) (behind_same 63 s) ∙ ap (λ v. v ++ 63 ∷ percent_encoding in_query_set s) path_nil
+
+with_query_cons : (b : ℕ) (path : List ℕ) (query : Option (List ℕ))
+    → with_query (b ∷ path) query ≡ encoded_byte (path_byte_set path) b ++ with_query path query
+with_query_cons b path None = path_cons b path
+with_query_cons b path (Some query) = ap (λ v. v ++ 63 ∷ percent_encoding in_query_set query) (path_cons b path)
+    ∙ append_assoc (encoded_byte (path_byte_set path) b) (encoded_path path) (63 ∷ percent_encoding in_query_set query)
+
+pub serialised_path : (b : ℕ) (s : List ℕ) → (b == 63) ≡ false
+    → serialised (b ∷ s) ≡ encoded_byte (path_byte_set (before 63 s)) b ++ serialised s
+unfolding serialised
+serialised_path b s h = ap (λ v. with_query v (behind 63 (b ∷ s))) (before_other 63 b s h)
+    ∙ ap (λ v. with_query (b ∷ before 63 s) v) (behind_other 63 b s h) ∙ with_query_cons b (before 63 s) (behind 63 s)
+
+pub serialised_recoded : (s : List ℕ) → IsBytes s → Recoded s (serialised s)
+serialised_recoded [] h = subst (λ x. Recoded [] x) (sym serialised_nil) none
+serialised_recoded (b ∷ s) h = elim (cases_Bool (b == 63)) [
+  | inl e ↦ let f : b ≡ 63 = eqb-true b 63 e in subst (λ v. Recoded (v ∷ s) (serialised (v ∷ s))) (sym f)
+      (subst (λ x. Recoded (63 ∷ s) x) (sym (serialised_query s)) (kept 63 (is_recoded in_query_set (λ b e. e) s h.1)))
+  | inr e ↦ subst (λ x. Recoded (b ∷ s) x) (sym (serialised_path b s e))
+      (recoded_byte (path_byte_set (before 63 s)) (path_byte_within (before 63 s)) b s (serialised s) h.0
+      (serialised_recoded s h.1))
+]
+
+-- The first comma
+
+-- what stands behind the first comma of both: nothing, or two texts of which one is the other recoded
+abbrev pub RecodedTails : Option (List ℕ) → Option (List ℕ) → Type 0
+RecodedTails None None = Unit {0}
+RecodedTails None (Some y) = ⊥
+RecodedTails (Some t) None = ⊥
+RecodedTails (Some t) (Some y) = Recoded t y
+
+behind_written : (b : ℕ) (x : List ℕ) → behind 44 (37 ∷ hex_digit (b / 16) ∷ hex_digit (b % 16) ∷ x) ≡ behind 44 x
+behind_written b x =
+    behind_other 44 37 (hex_digit (b / 16) ∷ hex_digit (b % 16) ∷ x) refl
+    ∙ behind_other 44 (hex_digit (b / 16)) (hex_digit (b % 16) ∷ x) (hex_digit_other (b / 16) 44 (omega arith))
+    ∙ behind_other 44 (hex_digit (b % 16)) x (hex_digit_other (b % 16) 44 (omega arith))
+
+pub recoded_tails : {s x : List ℕ} → Recoded s x → RecodedTails (behind 44 s) (behind 44 x)
+recoded_tails none = subst (λ v. RecodedTails v v) (sym (behind_nil 44)) tt
+recoded_tails (kept {s} {x} b r) = elim (cases_Bool (b == 44)) [
+  | inl e ↦ let f : b ≡ 44 = eqb-true b 44 e in subst (λ v. RecodedTails (behind 44 (v ∷ s)) (behind 44 (v ∷ x)))
+      (sym f) (subst (λ v. RecodedTails v (behind 44 (44 ∷ x))) (sym (behind_same 44 s))
+      (subst (λ v. RecodedTails (Some s) v) (sym (behind_same 44 x)) r))
+  | inr e ↦ subst (λ v. RecodedTails v (behind 44 (b ∷ x))) (sym (behind_other 44 b s e))
+      (subst (λ v. RecodedTails (behind 44 s) v) (sym (behind_other 44 b x e)) (recoded_tails r))
+]
+recoded_tails (written {s} {x} b h l r) =
+    subst (λ v. RecodedTails v (behind 44 (37 ∷ hex_digit (b / 16) ∷ hex_digit (b % 16) ∷ x)))
+    (sym (behind_other 44 b s (set_other b 44 refl h)))
+    (subst (λ v. RecodedTails (behind 44 s) v) (sym (behind_written b x)) (recoded_tails r))
+
+-- what stands before the first comma of an encoded text is the encoding of what stands before the first comma
+
+encoded_byte_lacks : (p : ℕ → Bool) (b : ℕ) → (b == 44) ≡ false → behind 44 (encoded_byte p b) ≡ None
+encoded_byte_lacks p b h = cond_both (p b) (37 ∷ hex_digit (b / 16) ∷ hex_digit (b % 16) ∷ []) (b ∷ [])
+    (λ t. behind 44 t ≡ None) (λ e. behind_written b [] ∙ behind_nil 44) (λ e. behind_other 44 b [] h ∙ behind_nil 44)
+
+encoded_comma : (p : ℕ → Bool) → p 44 ≡ false → (s : List ℕ) → encoded_byte p 44 ++ s ≡ 44 ∷ s
+encoded_comma p h s =
+    ap (λ t. t ++ s) (cond-false (p 44) (37 ∷ hex_digit (44 / 16) ∷ hex_digit (44 % 16) ∷ []) (44 ∷ []) h)
+
+before_encoded : (p : ℕ → Bool) → p 44 ≡ false → (s : List ℕ) → before 44 (percent_encoding p s) ≡ percent_encoding p
+    (before 44 s)
+before_encoded p h [] = ap (before 44) (encoded_nil p) ∙ before_nil 44 ∙ sym (ap (percent_encoding p) (before_nil 44)
+    ∙ encoded_nil p)
+before_encoded p h (b ∷ s) = ap (before 44) (encoded_cons p b s) ∙ elim (cases_Bool (b == 44)) [
+  | inl e ↦ let f : b ≡ 44 = eqb-true b 44 e in
+      subst (λ v. before 44 (encoded_byte p v ++ percent_encoding p s) ≡ percent_encoding p (before 44 (v ∷ s))) (sym f)
+      (ap (before 44) (encoded_comma p h (percent_encoding p s)) ∙ before_same 44 (percent_encoding p s)
+      ∙ sym (ap (percent_encoding p) (before_same 44 s) ∙ encoded_nil p))
+  | inr e ↦ before-append 44 (encoded_byte p b) (percent_encoding p s) (encoded_byte_lacks p b e)
+      ∙ ap (λ t. encoded_byte p b ++ t) (before_encoded p h s) ∙ sym (ap (percent_encoding p) (before_other 44 b s e)
+      ∙ encoded_cons p b (before 44 s))
+]
+
+-- the header's text, byte by byte
+
+pub header_nil : header_text [] ≡ []
+unfolding header_text before behind percent_encoding
+header_nil = refl
+
+pub header_query : (s : List ℕ) → header_text (63 ∷ s) ≡ 63 ∷ percent_encoding in_query_set s
+unfolding header_text
+header_query s = ap (λ v. header_parts v (behind 63 (63 ∷ s))) (before_same 63 s)
+    ∙ ap (λ v. header_parts [] v) (behind_same 63 s) ∙ ap (λ v. v ++ 63 ∷ percent_encoding in_query_set s) path_nil
+
+-- the set of a byte before the rest of a header, without or with a query
+abbrev pub header_byte_set : List ℕ → Option (List ℕ) → ℕ → Bool
+header_byte_set path None = in_path_set
+header_byte_set path (Some query) = path_byte_set path
+
+header_cons : (b : ℕ) (path : List ℕ) (query : Option (List ℕ)) → header_parts (b ∷ path) query ≡ encoded_byte
+    (header_byte_set path query) b ++ header_parts path query
+header_cons b path None = encoded_cons in_path_set b path
+header_cons b path (Some query) = with_query_cons b path (Some query)
+
+pub header_path : (b : ℕ) (s : List ℕ) → (b == 63) ≡ false
+    → header_text (b ∷ s) ≡ encoded_byte (header_byte_set (before 63 s) (behind 63 s)) b ++ header_text s
+unfolding header_text
+header_path b s h = ap (λ v. header_parts v (behind 63 (b ∷ s))) (before_other 63 b s h)
+    ∙ ap (λ v. header_parts (b ∷ before 63 s) v) (behind_other 63 b s h) ∙ header_cons b (before 63 s) (behind 63 s)
+
+-- what follows the header leaves the sets of its bytes as they are
+same_set : (h rest : List ℕ) (o : Option (List ℕ)) → behind 63 h ≡ o
+    → path_byte_set (before 63 (h ++ 44 ∷ rest)) ≡ header_byte_set (before 63 h) o
+same_set [] rest None e = ap path_byte_set (before_other 63 44 rest refl)
+same_set [] rest (Some query) e = absurd (let k = sym (behind_nil 63) ∙ e in cc)
+same_set (c ∷ h) rest None e = let k = lacks 63 c h e in ap path_byte_set (before_other 63 c (h ++ 44 ∷ rest) k.here)
+same_set (c ∷ h) rest (Some query) e = elim (cases_Bool (c == 63)) [
+  | inl f ↦ let g : c ≡ 63 = eqb-true c 63 f in
+      subst (λ v. path_byte_set (before 63 (v ∷ (h ++ 44 ∷ rest))) ≡ path_byte_set (before 63 (v ∷ h))) (sym g)
+      (ap path_byte_set (before_same 63 (h ++ 44 ∷ rest) ∙ sym (before_same 63 h)))
+  | inr f ↦ ap path_byte_set (before_other 63 c (h ++ 44 ∷ rest) f) ∙ sym (ap path_byte_set (before_other 63 c h f))
+]
+
+end_lacks_comma : (path : List ℕ) → path_byte_set path 44 ≡ false
+end_lacks_comma [] = refl
+end_lacks_comma (c ∷ s) = refl
+
+pub before-serialised : (h rest : List ℕ) → behind 44 h ≡ None → before 44 (serialised (h ++ 44 ∷ rest)) ≡ header_text h
+before-serialised [] rest e =
+    ap (before 44) (serialised_path 44 rest refl ∙ encoded_comma (path_byte_set (before 63 rest))
+    (end_lacks_comma (before 63 rest)) (serialised rest))
+    ∙ before_same 44 (serialised rest)
+    ∙ sym header_nil
+before-serialised (b ∷ h) rest e =
+    let k = lacks 44 b h e in
+    elim (cases_Bool (b == 63)) [
+      | inl f ↦
+          let g : b ≡ 63 = eqb-true b 63 f in
+          subst (λ v. before 44 (serialised (v ∷ (h ++ 44 ∷ rest))) ≡ header_text (v ∷ h)) (sym g)
+          (ap (before 44) (serialised_query (h ++ 44 ∷ rest))
+          ∙ before_other 44 63 (percent_encoding in_query_set (h ++ 44 ∷ rest)) refl
+          ∙ ap (λ t. 63 ∷ t) (before_encoded in_query_set refl (h ++ 44 ∷ rest)
+          ∙ ap (percent_encoding in_query_set) (before_at 44 h rest k.behind_it))
+          ∙ sym (header_query h))
+      | inr f ↦
+          let set = path_byte_set (before 63 (h ++ 44 ∷ rest)) in
+          ap (before 44) (serialised_path b (h ++ 44 ∷ rest) f)
+          ∙ before-append 44 (encoded_byte set b) (serialised (h ++ 44 ∷ rest)) (encoded_byte_lacks set b k.here)
+          ∙ ap (λ t. encoded_byte set b ++ t) (before-serialised h rest k.behind_it)
+          ∙ ap (λ p. encoded_byte p b ++ header_text h) (same_set h rest (behind 63 h) refl)
+          ∙ sym (header_path b h f)
+    ]
+
+-- Percent-encoding a text without its tabs and newlines: byte by byte, and part by part.
+
+-- what a text is written as
+abbrev pub encoded : (ℕ → Bool) → List ℕ → List ℕ
+encoded p s = percent_encoding p (without_tabs_and_newlines s)
+
+encoded_empty : (p : ℕ → Bool) → encoded p [] ≡ []
+encoded_empty p = ap (percent_encoding p) dropped_nil ∙ encoded_nil p
+
+written_first : (p : ℕ → Bool) (b : ℕ) (s : List ℕ) → encoded p (b ∷ s) ≡ byte_encoding p b ++ encoded p s
+written_first p b s = elim (cases_Bool (is_tab_or_newline b)) [
+  | inl e ↦ ap (percent_encoding p) (dropped_passes b s e)
+      ∙ sym (ap (λ t. t ++ encoded p s) (cond-true (is_tab_or_newline b) [] (encoded_byte p b) e))
+  | inr e ↦ ap (percent_encoding p) (dropped_keeps b s e) ∙ encoded_cons p b (without_tabs_and_newlines s)
+      ∙ sym (ap (λ t. t ++ encoded p s) (cond-false (is_tab_or_newline b) [] (encoded_byte p b) e))
+]
+
+pub percent_encoding-append : (p : ℕ → Bool) (s t : List ℕ)
+    → percent_encoding p (s ++ t) ≡ percent_encoding p s ++ percent_encoding p t
+unfolding percent_encoding
+percent_encoding-append p s t = flat_map-append (encoded_byte p) s t
+
+-- a text is written as its two parts are
+pub encoded_cut : (p : ℕ → Bool) (s : List ℕ) (n : ℕ) → encoded p s ≡ encoded p (take n s) ++ encoded p (drop n s)
+encoded_cut p s n = ap (encoded p) (sym (take-append-drop n s))
+    ∙ ap (percent_encoding p) (without_tabs_and_newlines-append (take n s) (drop n s))
+    ∙ percent_encoding-append p (without_tabs_and_newlines (take n s)) (without_tabs_and_newlines (drop n s))
+
+-- Byte by byte
+
+-- what the text from byte i on is written as
+abbrev pub encoded_from : (ℕ → Bool) → List ℕ → ℕ → List ℕ
+encoded_from p s i = encoded p (drop i s)
+
+from_more : (p : ℕ → Bool) (s : List ℕ) (i : ℕ) → i < length s
+    → encoded_from p s i ≡ byte_encoding p (get_or s i 0) ++ encoded_from p s (i + 1)
+from_more p s i l = ap (encoded p) (drop_more s i 0 l) ∙ written_first p (get_or s i 0) (drop (i + 1) s)
+
+from_end : (p : ℕ → Bool) (s : List ℕ) (i : ℕ) → length s ≤ i → encoded_from p s i ≡ []
+from_end p s i l = ap (encoded p) (drop_all i s l) ∙ encoded_empty p
+
+-- this was written up to byte i
+abbrev pub WroteTo : (ℕ → Bool) → List ℕ → ℕ → List ℕ → Type 0
+WroteTo p s i text = text ++ encoded_from p s i ≡ encoded p s
+
+wrote_more : (p : ℕ → Bool) (s : List ℕ) (i : ℕ) (text : List ℕ) → WroteTo p s i text → i < length s
+    → WroteTo p s (i + 1) (text ++ byte_encoding p (get_or s i 0))
+wrote_more p s i text w l = append_assoc text (byte_encoding p (get_or s i 0)) (encoded_from p s (i + 1))
+    ∙ ap (λ t. text ++ t) (sym (from_more p s i l)) ∙ w
+
+pub wrote_all : (p : ℕ → Bool) (s : List ℕ) (i : ℕ) (text : List ℕ) → WroteTo p s i text → length s ≤ i
+    → text ≡ encoded p s
+wrote_all p s i text w l = sym (append-nil text) ∙ ap (λ t. text ++ t) (sym (from_end p s i l)) ∙ w
+
+-- Rows
+
+none_written : (p : ℕ → Bool) (b : ℕ) → is_tab_or_newline b ≡ true → byte_encoding p b ≡ []
+none_written p b e = cond-true (is_tab_or_newline b) [] (encoded_byte p b) e
+
+byte_written : (p : ℕ → Bool) (b : ℕ) → is_tab_or_newline b ≡ false → byte_encoding p b ≡ encoded_byte p b
+byte_written p b e = cond-false (is_tab_or_newline b) [] (encoded_byte p b) e
+
+three_written : (p : ℕ → Bool) (b : ℕ) → p b ≡ true → length (encoded_byte p b) ≡ 3
+three_written p b e = ap length (cond-true (p b) _ (b ∷ []) e)
+
+one_written : (p : ℕ → Bool) (b : ℕ) → p b ≡ false → encoded_byte p b ≡ b ∷ []
+one_written p b e = cond-false (p b) _ (b ∷ []) e
+
+written_short : (p : ℕ → Bool) (b : ℕ) → length (byte_encoding p b) ≤ 3
+written_short p b = elim (cases_Bool (is_tab_or_newline b)) [
+  | inl e ↦ let k : length (byte_encoding p b) ≡ 0 = ap length (none_written p b e) in omega arith
+  | inr e ↦ elim (cases_Bool (p b)) [
+    | inl f ↦ let k : length (byte_encoding p b) ≡ 3 = ap length (byte_written p b e) ∙ three_written p b f in
+        omega arith
+    | inr f ↦ let k : length (byte_encoding p b) ≡ 1 = ap length (byte_written p b e ∙ one_written p b f) in omega arith
+  ]
+]
+
+pub row_short : (p : ℕ → Bool) (b : ℕ) (row : List ℕ) → IsRow p b row → slice_index row 3 ≤ 3
+row_short p b row r = let k = written_short p b in let e = r.len_is in omega arith
+
+-- a text whose bytes are written as they are
+pub kept_whole : (p : ℕ → Bool) (s : List ℕ)
+    → ((k : ℕ) → k < length s → byte_encoding p (get_or s k 0) ≡ get_or s k 0 ∷ []) → s ≡ encoded p s
+kept_whole p [] h = sym (encoded_empty p)
+kept_whole p (b ∷ s) h =
+    sym (written_first p b s
+    ∙ ap₂ (λ x y. x ++ y) (h 0 (omega arith)) (sym (kept_whole p s (λ k l. h (suc k) (omega arith)))))
+
+-- a text of plain bytes is serialised as it stands
+
+abbrev other_than_plain : ℕ → Bool
+other_than_plain b = is_tab_or_newline b || (in_path_set b || ((b == 35) || ((b == 44) || (b == 63))))
+
+plain_is_none : (b : ℕ) → b < 256 → is_plain_path b ≡ true → other_than_plain b ≡ false
+plain_is_none b l h = sym (cond-true (is_plain_path b) (other_than_plain b) false h)
+    ∙ agree_below_at (λ b. cond (is_plain_path b) (other_than_plain b) false) (λ b. false) 256 b refl l
+
+-- what is known of a plain byte
+pub record Plain (b : ℕ) : Type 0 where
+  pub written_is : byte_encoding in_path_set b ≡ b ∷ []
+  pub no_hash : (b == 35) ≡ false
+  pub no_comma : (b == 44) ≡ false
+  pub no_query : (b == 63) ≡ false
+
+pub plain_byte : (b : ℕ) → b < 256 → is_plain_path b ≡ true → Plain b
+plain_byte b l h =
+    let p = or_parts (is_tab_or_newline b) (in_path_set b || ((b == 35) || ((b == 44) || (b == 63))))
+    (plain_is_none b l h) in
+    let q = or_parts (in_path_set b) ((b == 35) || ((b == 44) || (b == 63))) p.1 in
+    let r = or_parts (b == 35) ((b == 44) || (b == 63)) q.1 in
+    let t = or_parts (b == 44) (b == 63) r.1 in
+    record {
+      written_is = byte_written in_path_set b p.0 ∙ one_written in_path_set b q.0;
+      no_hash = r.0;
+      no_comma =
+          t.0;
+      no_query = t.1;
+    }
+
+pub plain_serialised : (s : List ℕ) → ((k : ℕ) → k < length s → Plain (get_or s k 0))
+    → header_text (without_tabs_and_newlines s) ≡ s
+unfolding header_text
+plain_serialised s h =
+    let none = behind-dropped_none 63 refl s (behind_none 63 s (λ k l. let b = h k l in b.no_query)) in
+    ap (λ o. header_parts (before 63 (without_tabs_and_newlines s)) o) none
+    ∙ ap (percent_encoding in_path_set) (before_all 63 (without_tabs_and_newlines s) none)
+    ∙ sym (kept_whole in_path_set s (λ k l. let b = h k l in b.written_is))
+
+-- the bytes up to byte i are written at the front of the room
+pub record PutTo (p : ℕ → Bool) (s : List ℕ) (i : ℕ) (room : List ℕ) (at : ℕ) : Type 0 where
+  pub few : at ≤ 3 * i
+  pub long : length room ≡ 256
+  pub wrote : WroteTo p s i (take at room)
+
+pub put_more : (p : ℕ → Bool) (s : List ℕ) (i : ℕ) (room : List ℕ) (at : ℕ) (row room' : List ℕ) → PutTo p s i room at
+    → i < length s → at ≤ 256 → IsRow p (get_or s i 0) row → length room' ≡ 256
+    → take (at + 4) room' ≡ take at room ++ row → PutTo p s (i + 1) room' (at + slice_index row 3)
+put_more p s i room at row room' m l within r n h =
+    let long_room = m.long in
+    let width = slice_index row 3 in
+    let short = row_short p (get_or s i 0) row r in
+    let f = m.few in
+    let long : length (take at room) ≡ at = length-take-le at room (omega arith) in
+    let front : take (at + width) room' ≡ take at room ++ byte_encoding p (get_or s i 0) =
+    sym (take-take (at + width) (at + 4) room' (omega arith))
+    ∙ ap (take (at + width)) h
+    ∙ ap (λ n. take (n + width) (take at room ++ row)) (sym long)
+    ∙ take-append-add (take at room) row width
+    ∙ ap (λ t. take at room ++ t) r.begins in
+    record {
+      few = omega arith;
+      long = n;
+      wrote =
+          subst (WroteTo p s (i + 1)) (sym front) (wrote_more p s i (take at room) m.wrote l);
+    }
+
+-- Part by part
+
+-- what was written behind a text before the rest
+abbrev pub WroteBefore : (ℕ → Bool) → List ℕ → List ℕ → List ℕ → List ℕ → Type 0
+WroteBefore p s rest old text = text ++ encoded p rest ≡ old ++ encoded p s
+
+pub wrote_part : (p : ℕ → Bool) (s rest old text part : List ℕ) (n : ℕ) → WroteBefore p s rest old text
+    → part ≡ encoded p (take n rest) → WroteBefore p s (drop n rest) old (text ++ part)
+wrote_part p s rest old text part n w h = append_assoc text part (encoded p (drop n rest))
+    ∙ ap (λ t. text ++ t) (ap (λ t. t ++ encoded p (drop n rest)) h ∙ sym (encoded_cut p rest n)) ∙ w
+
+pub wrote_parts : (p : ℕ → Bool) (s rest old text : List ℕ) → WroteBefore p s rest old text → rest ≡ []
+    → text ≡ old ++ encoded p s
+wrote_parts p s rest old text w h = sym (append-nil text)
+    ∙ ap (λ t. text ++ t) (sym (ap (encoded p) h ∙ encoded_empty p)) ∙ w
+
+-- What is written is ASCII
+
+abbrev pub are_ascii : List ℕ → Bool
+are_ascii s = list_all (λ c. nat_lt c 128) s
+
+pub ascii_all : (s : List ℕ) → are_ascii s ≡ true → IsAscii s
+ascii_all [] h = IsAscii-nil
+ascii_all (c ∷ s) h = let e = and_parts (nat_lt c 128) (are_ascii s) h in
+    IsAscii-cons c s (ltb-true c 128 e.0) (ascii_all s e.1)
+
+written_ascii : (set : EncodeSet) (b : ℕ) → b < 256 → IsAscii (byte_encoding (in_set set) b)
+written_ascii Path b l =
+    ascii_all (byte_encoding in_path_set b) (agree_below_at (λ b. are_ascii (byte_encoding in_path_set b))
+    (λ b. true) 256 b refl l)
+written_ascii Query b l =
+    ascii_all (byte_encoding in_query_set b) (agree_below_at (λ b. are_ascii (byte_encoding in_query_set b))
+    (λ b. true) 256 b refl l)
+written_ascii Fragment b l =
+    ascii_all (byte_encoding in_fragment_set b) (agree_below_at (λ b. are_ascii (byte_encoding in_fragment_set b))
+    (λ b. true) 256 b refl l)
+
+encoded_ascii : (set : EncodeSet) (s : List ℕ) → ((i : ℕ) → get_or s i 0 < 256) → IsAscii (encoded (in_set set) s)
+encoded_ascii set [] h = subst IsAscii (sym (encoded_empty (in_set set))) IsAscii-nil
+encoded_ascii set (b ∷ s) h = subst IsAscii (sym (written_first (in_set set) b s))
+    (IsAscii-append (byte_encoding (in_set set) b) (encoded (in_set set) s) (written_ascii set b (h 0))
+    (encoded_ascii set s (λ i. h (suc i))))
+
+pub encoded_text : (set : EncodeSet) (s text : List ℕ) → ((i : ℕ) → get_or s i 0 < 256) → text ≡ encoded (in_set set) s
+    → IsUtf8 text
+encoded_text set s text h e = subst IsUtf8 (sym e) (IsUtf8-from_ascii (encoded (in_set set) s) (encoded_ascii set s h))
+
+pub none_left : (s : List ℕ) (r : Bool) → r ≡ (length s == 0) → r ≡ true → s ≡ []
+none_left s r e h = nil_from_length s (eqb-true (length s) 0 (sym e ∙ h))
+
+pub some_left : (s : List ℕ) (r : Bool) → r ≡ (length s == 0) → r ≡ false → 0 < length s
+some_left s r e h = let k = eqb-false (length s) 0 (sym e ∙ h) in omega arith

@@ -1,0 +1,87 @@
+-- Runs of a closure, one after another.
+use Rattle.std.proofs.Common.{◌≡◌, ℕ, List, [], ◌∷◌, ◌++◌, Option, None, Some, is_some, Result, Ok, Err, refl, ap, sym}
+use Rattle.std.proofs.Common.{◌∙◌, append_assoc, subst, true}
+use Rattle.std.proofs.lemmas.List.{append-nil}
+use Rattle.std.specs.Prelude.{IsErr, MatchOption}
+use Rattle.std.proofs.lemmas.Bool.{false≢true, true≢false}
+use Rattle.data_url.specs.Run.{Call, IsPrefix, IsRun, joined_pieces, or_error, refusal}
+use Rattle.data_url.proofs.forgiving_base64.Padding.{some_not_none}
+
+ok_is_no_error : {E : Type 0} (r : Result (Unit {0}) E) (o : Option E) → or_error r o ≡ None → IsErr r → ⊥
+ok_is_no_error (Ok x) o h e = false≢true e
+ok_is_no_error (Err x) o h e = some_not_none x h
+
+pub later_none : {E : Type 0} (r : Result (Unit {0}) E) (o : Option E) → or_error r o ≡ None → o ≡ None
+later_none (Ok x) o h = h
+later_none (Err x) o h = absurd (some_not_none x h)
+
+or_same : {E : Type 0} (r : Result (Unit {0}) E) (o p : Option E) → or_error r o ≡ None → or_error r p ≡ p
+or_same (Ok x) o p h = refl
+or_same (Err x) o p h = absurd (some_not_none x h)
+
+module _ {F E : Type 0} (step : F → List ℕ → Result (Unit {0}) E → F → Type 0) where
+  pub run-append : (xs ys : List (Call F E)) (f g h : F) → IsRun step f xs g → refusal xs ≡ None → IsRun step g ys h
+      → IsRun step f (xs ++ ys) h
+  run-append [] ys f g h x n y = let P : F → Type 0 = λ s. IsRun step s ys h in subst P (sym x) y
+  run-append (c ∷ cs) ys f g h x n y = (
+    x.0,
+    λ e. absurd (ok_is_no_error c.answer (refusal cs) n e),
+    run-append cs ys c.after g h x.2
+        (later_none c.answer (refusal cs) n) y,
+  )
+
+pub refusal-append : {F E : Type 0} (xs ys : List (Call F E)) → refusal xs ≡ None → refusal (xs ++ ys) ≡ refusal ys
+refusal-append [] ys n = refl
+refusal-append (c ∷ cs) ys n = or_same c.answer (refusal cs) (refusal (cs ++ ys)) n
+    ∙ refusal-append cs ys (later_none c.answer (refusal cs) n)
+
+pub joined_pieces-append : {F E : Type 0} (xs ys : List (Call F E))
+    → joined_pieces (xs ++ ys) ≡ joined_pieces xs ++ joined_pieces ys
+joined_pieces-append [] ys = refl
+joined_pieces-append (c ∷ cs) ys = ap (λ x. c.piece ++ x) (joined_pieces-append cs ys)
+    ∙ sym (append_assoc c.piece (joined_pieces cs) (joined_pieces ys))
+
+-- Cases of an option
+
+pub match_none : {A : Type 0} (o : Option A) (P : Type 0) (Q : A → Type 0) → o ≡ None → P → MatchOption o P Q
+match_none None P Q e p = p
+match_none (Some x) P Q e p = absurd (some_not_none x e)
+
+pub match_some : {A : Type 0} (o : Option A) (P Q : Type 0) → is_some o ≡ true → Q → MatchOption o P (λ x. Q)
+match_some None P Q e q = absurd (false≢true e)
+match_some (Some x) P Q e q = q
+
+pub match_at_none : {A : Type 0} (o : Option A) (P : Type 0) (Q : A → Type 0) → o ≡ None → MatchOption o P Q → P
+match_at_none None P Q e h = h
+match_at_none (Some x) P Q e h = absurd (some_not_none x e)
+
+-- two options that are alike there or not there
+pub match_alike : {A B : Type 0} (o : Option A) (o' : Option B) (P P' Q Q' : Type 0) → is_some o ≡ is_some o' → (P → P')
+    → (Q → Q') → MatchOption o P (λ x. Q) → MatchOption o' P' (λ x. Q')
+match_alike None None P P' Q Q' e f g h = f h
+match_alike None (Some y) P P' Q Q' e f g h = absurd (false≢true e)
+match_alike (Some x) None P P' Q Q' e f g h = absurd (true≢false e)
+match_alike (Some x) (Some y) P P' Q Q' e f g h = g h
+
+pub match_map : {A : Type 0} (o : Option A) (P P' : Type 0) (Q Q' : A → Type 0) → (P → P') → ((x : A) → Q x → Q' x)
+    → MatchOption o P Q → MatchOption o P' Q'
+match_map None P P' Q Q' f g h = f h
+match_map (Some x) P P' Q Q' f g h = g x h
+
+pub match_at : {A : Type 0} (o o' : Option A) (P : Type 0) (Q : A → Type 0) → o' ≡ o → MatchOption o P Q
+    → MatchOption o' P Q
+match_at {A = A} o o' P Q e h = let M : Option A → Type 0 = λ z. MatchOption z P Q in subst M (sym e) h
+
+-- Beginnings
+
+pub prefix_none : (xs : List ℕ) → IsPrefix [] xs
+prefix_none xs = (xs, refl)
+
+pub prefix_all : (xs ys : List ℕ) → xs ≡ ys → IsPrefix xs ys
+prefix_all xs ys e = ([], sym e ∙ sym (append-nil xs))
+
+pub prefix_behind : (front xs ys : List ℕ) → IsPrefix xs ys → IsPrefix (front ++ xs) (front ++ ys)
+prefix_behind front xs ys p = (p.0, ap (λ z. front ++ z) p.1 ∙ sym (append_assoc front xs p.0))
+
+pub prefix_trans : (xs ys zs : List ℕ) → IsPrefix xs ys → IsPrefix ys zs → IsPrefix xs zs
+prefix_trans xs ys zs p q = (p.0 ++ q.0, q.1 ∙ ap (λ z. z ++ q.0) p.1 ∙ append_assoc xs p.0 q.0)

@@ -1,0 +1,163 @@
+-- Texts of bytes: cut at a byte, and without tabs and newlines.
+use Rattle.std.proofs.Common.{◌≡◌, ℕ, suc, ◌<◌, true, false, not, cond, List, [], ◌∷◌, ◌++◌, length, get_or, Option}
+use Rattle.std.proofs.Common.{None, Some, refl, sym, ap, ◌∙◌, inl, inr, arith, eqb, eqb-true, eq-eqb}
+use Rattle.std.specs.Prelude.{◌==◌}
+use Rattle.std.proofs.lemmas.Bool.{cases_Bool, cond-true, cond-false}
+use Rattle.std.specs.Option.{option_map}
+use Rattle.data_url.specs.Url.{before, behind, without_tabs_and_newlines, fragment, is_tab_or_newline}
+
+-- one byte on
+
+pub before_same : (c : ℕ) (s : List ℕ) → before c (c ∷ s) ≡ []
+unfolding before
+before_same c s = cond-true (eqb c c) [] (c ∷ before c s) (eq-eqb c c refl)
+
+pub behind_same : (c : ℕ) (s : List ℕ) → behind c (c ∷ s) ≡ Some s
+unfolding behind
+behind_same c s = cond-true (eqb c c) (Some s) (behind c s) (eq-eqb c c refl)
+
+pub before_other : (c b : ℕ) (s : List ℕ) → (b == c) ≡ false → before c (b ∷ s) ≡ b ∷ before c s
+unfolding before
+before_other c b s h = cond-false (eqb b c) [] (b ∷ before c s) h
+
+pub behind_other : (c b : ℕ) (s : List ℕ) → (b == c) ≡ false → behind c (b ∷ s) ≡ behind c s
+unfolding behind
+behind_other c b s h = cond-false (eqb b c) (Some s) (behind c s) h
+
+pub behind_nil : (c : ℕ) → behind c [] ≡ None
+unfolding behind
+behind_nil c = refl
+
+pub before_nil : (c : ℕ) → before c [] ≡ []
+unfolding before
+before_nil c = refl
+
+-- where the byte is not there
+pub record Lacks (c b : ℕ) (s : List ℕ) : Type 0 where
+  pub here : (b == c) ≡ false
+  pub behind_it : behind c s ≡ None
+
+pub lacks : (c b : ℕ) (s : List ℕ) → behind c (b ∷ s) ≡ None → Lacks c b s
+unfolding behind
+lacks c b s h = elim (b == c) as (λ v. (b == c) ≡ v → cond v (Some s) (behind c s) ≡ None → Lacks c b s) [
+  | true ↦
+      (λ e k. absurd (let x : Some s ≡ None = k in cc))
+  | false ↦ (λ e k. record { here = e; behind_it = k })
+] refl h
+
+pub before-append : (c : ℕ) (a s : List ℕ) → behind c a ≡ None → before c (a ++ s) ≡ a ++ before c s
+before-append c [] s h = refl
+before-append c (b ∷ a) s h = let k = lacks c b a h in before_other c b (a ++ s) k.here
+    ∙ ap (λ t. b ∷ t) (before-append c a s k.behind_it)
+
+pub behind-append : (c : ℕ) (a s : List ℕ) → behind c a ≡ None → behind c (a ++ s) ≡ behind c s
+behind-append c [] s h = refl
+behind-append c (b ∷ a) s h = let k = lacks c b a h in behind_other c b (a ++ s) k.here
+    ∙ behind-append c a s k.behind_it
+
+pub before_all : (c : ℕ) (a : List ℕ) → behind c a ≡ None → before c a ≡ a
+before_all c [] h = before_nil c
+before_all c (b ∷ a) h = let k = lacks c b a h in before_other c b a k.here
+    ∙ ap (λ t. b ∷ t) (before_all c a k.behind_it)
+
+pub append-nil : (a : List ℕ) → a ++ [] ≡ a
+append-nil [] = refl
+append-nil (b ∷ a) = ap (λ t. b ∷ t) (append-nil a)
+
+pub before_at : (c : ℕ) (a s : List ℕ) → behind c a ≡ None → before c (a ++ c ∷ s) ≡ a
+before_at c a s h = before-append c a (c ∷ s) h ∙ ap (λ t. a ++ t) (before_same c s) ∙ append-nil a
+
+pub behind_at : (c : ℕ) (a s : List ℕ) → behind c a ≡ None → behind c (a ++ c ∷ s) ≡ Some s
+behind_at c a s h = behind-append c a (c ∷ s) h ∙ behind_same c s
+
+-- a text with the byte is what stands before it, the byte, and what stands behind it
+pub record IsCut (c : ℕ) (s rest : List ℕ) : Type 0 where
+  pub joined : s ≡ before c s ++ c ∷ rest
+  pub lacks : behind c (before c s) ≡ None
+
+pub is_cut : (c : ℕ) (s rest : List ℕ) → behind c s ≡ Some rest → IsCut c s rest
+is_cut c [] rest h = absurd (let k : None ≡ Some rest = sym (behind_nil c) ∙ h in cc)
+is_cut c (b ∷ s) rest h = elim (cases_Bool (b == c)) [
+  | inl e ↦
+      let same : b ≡ c = eqb-true b c e in
+      let front : before c (b ∷ s) ≡ [] = ap (λ x. before c (x ∷ s)) same ∙ before_same c s in
+      let tail : Some s ≡ Some rest = sym (ap (λ x. behind c (x ∷ s)) same ∙ behind_same c s) ∙ h in
+      let tail_is : s ≡ rest = cc in
+      record {
+        joined = ap (λ x. x ∷ s) same ∙ ap (λ t. c ∷ t) tail_is ∙ ap (λ t. t ++ c ∷ rest) (sym front);
+        lacks = ap (behind c) front ∙ behind_nil c;
+      }
+  | inr e ↦
+      let cut = is_cut c s rest (sym (behind_other c b s e) ∙ h) in
+      let front = before_other c b s e in
+      record {
+        joined = ap (λ t. b ∷ t) cut.joined ∙ ap (λ t. t ++ c ∷ rest) (sym front);
+        lacks = ap (behind c) front ∙ behind_other c b (before c s) e ∙ cut.lacks;
+      }
+]
+
+-- no index holds the byte
+pub behind_none : (c : ℕ) (s : List ℕ) → ((k : ℕ) → k < length s → (get_or s k 0 == c) ≡ false) → behind c s ≡ None
+behind_none c [] h = behind_nil c
+behind_none c (b ∷ s) h = behind_other c b s (h 0 (omega arith)) ∙ behind_none c s (λ k l. h (suc k) (omega arith))
+
+-- Dropping
+
+pub dropped_nil : without_tabs_and_newlines [] ≡ []
+unfolding without_tabs_and_newlines
+dropped_nil = refl
+
+pub dropped_passes : (b : ℕ) (s : List ℕ) → is_tab_or_newline b ≡ true
+    → without_tabs_and_newlines (b ∷ s) ≡ without_tabs_and_newlines s
+unfolding without_tabs_and_newlines
+dropped_passes b s h = ap (λ v. cond (not v) (b ∷ without_tabs_and_newlines s) (without_tabs_and_newlines s)) h
+
+pub dropped_keeps : (b : ℕ) (s : List ℕ) → is_tab_or_newline b ≡ false
+    → without_tabs_and_newlines (b ∷ s) ≡ b ∷ without_tabs_and_newlines s
+unfolding without_tabs_and_newlines
+dropped_keeps b s h = ap (λ v. cond (not v) (b ∷ without_tabs_and_newlines s) (without_tabs_and_newlines s)) h
+
+pub without_tabs_and_newlines-append : (a s : List ℕ)
+    → without_tabs_and_newlines (a ++ s) ≡ without_tabs_and_newlines a ++ without_tabs_and_newlines s
+unfolding without_tabs_and_newlines
+without_tabs_and_newlines-append [] s = refl
+without_tabs_and_newlines-append (b ∷ a) s =
+    elim (is_tab_or_newline b) as (λ v. cond (not v) (b ∷ without_tabs_and_newlines (a ++ s))
+    (without_tabs_and_newlines (a ++ s)) ≡ cond (not v) (b ∷ without_tabs_and_newlines a)
+    (without_tabs_and_newlines a) ++ without_tabs_and_newlines s) [
+      | true ↦
+          without_tabs_and_newlines-append a s
+      | false ↦ ap (λ t. b ∷ t) (without_tabs_and_newlines-append a s)
+    ]
+
+-- a byte that is kept is there exactly if it was there before
+pub behind-dropped_none : (c : ℕ) → is_tab_or_newline c ≡ false → (s : List ℕ) → behind c s ≡ None
+    → behind c (without_tabs_and_newlines s) ≡ None
+behind-dropped_none c k [] h = ap (behind c) dropped_nil ∙ behind_nil c
+behind-dropped_none c k (b ∷ s) h = let l = lacks c b s h in elim (cases_Bool (is_tab_or_newline b)) [
+  | inl e ↦ ap (behind c) (dropped_passes b s e) ∙ behind-dropped_none c k s l.behind_it
+  | inr e ↦ ap (behind c) (dropped_keeps b s e) ∙ behind_other c b (without_tabs_and_newlines s) l.here
+      ∙ behind-dropped_none c k s l.behind_it
+]
+
+-- dropping, where a byte that is kept stands between
+pub dropped_around : (c : ℕ) → is_tab_or_newline c ≡ false → (a s : List ℕ)
+    → without_tabs_and_newlines (a ++ c ∷ s) ≡ without_tabs_and_newlines a ++ c ∷ without_tabs_and_newlines s
+dropped_around c k a s = without_tabs_and_newlines-append a (c ∷ s)
+    ∙ ap (λ t. without_tabs_and_newlines a ++ t) (dropped_keeps c s k)
+
+fragment_cases : (tail : List ℕ) (o : Option (List ℕ)) → behind 35 tail ≡ o
+    → fragment (without_tabs_and_newlines tail) ≡ option_map without_tabs_and_newlines o
+unfolding fragment
+fragment_cases tail None h = behind-dropped_none 35 refl tail h
+fragment_cases tail (Some rest) h =
+    let cut = is_cut 35 tail rest h in
+    ap (λ t. behind 35 (without_tabs_and_newlines t)) cut.joined
+    ∙ ap (behind 35) (dropped_around 35 refl (before 35 tail) rest)
+    ∙ behind_at 35 (without_tabs_and_newlines (before 35 tail)) (without_tabs_and_newlines rest)
+    (behind-dropped_none 35 refl (before 35 tail) cut.lacks)
+
+-- tabs and newlines may be dropped before the fragment is cut off or after it
+pub fragment_dropped : (tail : List ℕ)
+    → fragment (without_tabs_and_newlines tail) ≡ option_map without_tabs_and_newlines (behind 35 tail)
+fragment_dropped tail = fragment_cases tail (behind 35 tail) refl

@@ -1,0 +1,156 @@
+-- Texts of code points, cut where a code point passes no more, and where a text may be cut.
+use Rattle.std.proofs.Common.{◌≡◌, ℕ, ◌≤◌, nat_le, Bool, true, false, cond, Some, List, [], ◌∷◌, ◌++◌, length, refl}
+use Rattle.std.proofs.Common.{sym, ap, ◌∙◌, arith, ◌+◌, ◌<◌, zero, suc, drop, get_or, ◌-◌, reverse, subst, ⊎_elim}
+use Rattle.std.proofs.lemmas.Bool.{and_parts, cond-true, cond-false, cond_both, leb-true, cases_lt}
+use Rattle.std.proofs.lemmas.Str.{chars-nil, IsCharBoundary-after_ascii, IsCharBoundary-before_ascii}
+use Rattle.std.specs.Int.{is_in_range}
+use Rattle.std.specs.Str.{chars, IsCharBoundary, IsUtf8}
+use Rattle.std.specs.List.{prefix_len, suffix_len}
+use Rattle.std.proofs.lemmas.List.Sums.{prefix_len-drop_yes, prefix_len-le-length, prefix_len_passes}
+use Rattle.std.proofs.lemmas.List.Sums.{suffix_len-le-length}
+use Rattle.data_url.specs.Mime.{DoesNotBegin, DoesNotEnd, Every, IsTrimmedEnd}
+use Rattle.data_url.specs.Url.{is_c0_control_or_space}
+use Rattle.std.proofs.lemmas.List.{get_or-reverse}
+
+-- Texts cut at the first code point that passes no more, and ends taken off.
+
+pub some_equal : (a b : List ℕ) → Some a ≡ Some b → a ≡ b
+some_equal a b e = cc
+
+pub no_chars : (r : List ℕ) → length r ≡ 0 → chars r ≡ []
+no_chars [] e = chars-nil
+no_chars (b ∷ r) e = absurd (omega arith)
+
+pub range_high : (low high c : ℕ) → is_in_range low high c ≡ true → c ≤ high
+range_high low high c r = leb-true c high (and_parts (nat_le low c) (nat_le c high) r).1
+
+-- the longest front of code points that pass
+abbrev pub front_of : (ℕ → Bool) → List ℕ → List ℕ
+front_of p [] = []
+front_of p (c ∷ t) = cond (p c) (c ∷ front_of p t) []
+
+-- what stands behind it
+abbrev pub behind_front : (ℕ → Bool) → List ℕ → List ℕ
+behind_front p [] = []
+behind_front p (c ∷ t) = cond (p c) (behind_front p t) (c ∷ t)
+
+pub front_is : (p : ℕ → Bool) (a b : List ℕ) → Every p a → DoesNotBegin p b → front_of p (a ++ b) ≡ a
+front_is p [] [] h e = refl
+front_is p [] (c ∷ b) h e = cond-false (p c) (c ∷ front_of p b) [] e
+front_is p (c ∷ a) b h e = cond-true (p c) (c ∷ front_of p (a ++ b)) [] h.0 ∙ ap (λ t. c ∷ t) (front_is p a b h.1 e)
+
+pub behind_is : (p : ℕ → Bool) (a b : List ℕ) → Every p a → DoesNotBegin p b → behind_front p (a ++ b) ≡ b
+behind_is p [] [] h e = refl
+behind_is p [] (c ∷ b) h e = cond-false (p c) (behind_front p b) (c ∷ b) e
+behind_is p (c ∷ a) b h e = cond-true (p c) (behind_front p (a ++ b)) (c ∷ (a ++ b)) h.0 ∙ behind_is p a b h.1 e
+
+pub front_joined : (p : ℕ → Bool) (s : List ℕ) → s ≡ front_of p s ++ behind_front p s
+front_joined p [] = refl
+front_joined p (c ∷ t) =
+    elim (p c) as (λ v. c ∷ t ≡ cond v (c ∷ front_of p t) [] ++ cond v (behind_front p t) (c ∷ t)) [
+      | true ↦
+          ap (λ u. c ∷ u) (front_joined p t)
+      | false ↦ refl
+    ]
+
+pub front_passes : (p : ℕ → Bool) (s : List ℕ) → Every p (front_of p s)
+front_passes p [] = tt
+front_passes p (c ∷ t) = cond_both (p c) (c ∷ front_of p t) [] (λ v. Every p v) (λ e. (e, front_passes p t)) (λ e. tt)
+
+pub behind_begins : (p : ℕ → Bool) (s : List ℕ) → DoesNotBegin p (behind_front p s)
+behind_begins p [] = tt
+behind_begins p (c ∷ t) = cond_both (p c) (behind_front p t) (c ∷ t) (λ v. DoesNotBegin p v) (λ e. behind_begins p t)
+    (λ e. e)
+
+-- one more code point before what is left of a text
+abbrev pub keep_before : (ℕ → Bool) → ℕ → List ℕ → List ℕ
+keep_before p c [] = cond (p c) [] (c ∷ [])
+keep_before p c (d ∷ u) = c ∷ d ∷ u
+
+-- the text without its longest end of code points that pass
+abbrev pub without_back : (ℕ → Bool) → List ℕ → List ℕ
+without_back p [] = []
+without_back p (c ∷ t) = keep_before p c (without_back p t)
+
+back_passes : (p : ℕ → Bool) (back : List ℕ) → Every p back → without_back p back ≡ []
+back_passes p [] h = refl
+back_passes p (c ∷ back) h = ap (keep_before p c) (back_passes p back h.1) ∙ cond-true (p c) [] (c ∷ []) h.0
+
+pub without_back_joined : (p : ℕ → Bool) (t back : List ℕ) → Every p back → DoesNotEnd p t
+    → without_back p (t ++ back) ≡ t
+without_back_joined p [] back h e = back_passes p back h
+without_back_joined p (c ∷ []) back h e = ap (keep_before p c) (back_passes p back h) ∙ cond-false (p c) [] (c ∷ []) e
+without_back_joined p (c ∷ d ∷ t) back h e = ap (keep_before p c) (without_back_joined p (d ∷ t) back h e)
+
+pub trimmed_end_is : (p : ℕ → Bool) (s t : List ℕ) → IsTrimmedEnd p s t → t ≡ without_back p s
+trimmed_end_is p s t h = sym (ap (without_back p) h.joined ∙ without_back_joined p t h.back h.at_back h.ends)
+
+trimmed_end_more : (p : ℕ → Bool) (c : ℕ) (t u : List ℕ) → IsTrimmedEnd p t u
+    → IsTrimmedEnd p (c ∷ t) (keep_before p c u)
+trimmed_end_more p c t [] h = cond_both (p c) [] (c ∷ []) (λ v. IsTrimmedEnd p (c ∷ t) v)
+    (λ e. record { back = c ∷ h.back; joined = ap (λ v. c ∷ v) h.joined; at_back = (e, h.at_back); ends = tt })
+    (λ e. record { back = h.back; joined = ap (λ v. c ∷ v) h.joined; at_back = h.at_back; ends = e })
+trimmed_end_more p c t (d ∷ u) h = record {
+  back = h.back;
+  joined = ap (λ v. c ∷ v) h.joined;
+  at_back =
+      h.at_back;
+  ends = h.ends;
+}
+
+pub is_trimmed_end : (p : ℕ → Bool) (s : List ℕ) → IsTrimmedEnd p s (without_back p s)
+is_trimmed_end p [] = record { back = []; joined = refl; at_back = tt; ends = tt }
+is_trimmed_end p (c ∷ t) = trimmed_end_more p c t (without_back p t) (is_trimmed_end p t)
+
+-- the front that passes, found in two parts
+
+pub front_further : (p : ℕ → Bool) (bytes : List ℕ) (n : ℕ) → n ≤ length bytes
+    → ((k : ℕ) → k < n → p (get_or bytes k 0) ≡ true) → prefix_len p bytes ≡ n + prefix_len p (drop n bytes)
+front_further p bytes zero l h = omega arith
+front_further p bytes (suc n) l h =
+    let before = front_further p bytes n (omega arith) (λ k m. h k (omega arith)) in
+    let here = prefix_len-drop_yes p bytes n 0 (omega arith) (h n (omega arith)) in
+    let more : n + 1 ≡ suc n = omega arith in
+    omega (arith, before, here, ap (λ m. prefix_len p (drop m bytes)) more)
+
+pub in_parts : (p q : ℕ → Bool) → ((c : ℕ) → p c ≡ true → q c ≡ true) → (bytes behind : List ℕ) (first more : ℕ)
+    → first ≡ prefix_len p bytes → behind ≡ drop first bytes → more ≡ prefix_len q behind
+    → first + more ≡ prefix_len q bytes
+in_parts p q h bytes behind first more e d m =
+    omega (
+      arith,
+      m,
+      ap (prefix_len q) d,
+      front_further q bytes first (omega (arith, e, prefix_len-le-length p bytes))
+          (λ k l. h (get_or bytes k 0) (prefix_len_passes p bytes k 0 (omega (arith, e)))),
+    )
+
+-- Where a text may be cut: behind bytes below 128, and at them.
+
+module _ (p : ℕ → Bool) (ascii : (b : ℕ) → p b ≡ true → b < 128) (bs : List ℕ) (text : IsUtf8 bs) where
+  pub boundary_behind_front : 0 < prefix_len p bs → IsCharBoundary bs (prefix_len p bs)
+  boundary_behind_front h =
+      let last : prefix_len p bs - 1 < prefix_len p bs = omega arith in
+      let passes = prefix_len_passes p bs (prefix_len p bs - 1) 0 last in
+      let within : prefix_len p bs - 1 < length bs = omega (arith, prefix_len-le-length p bs) in
+      let back : (prefix_len p bs - 1) + 1 ≡ prefix_len p bs = omega arith in
+      subst (λ i. IsCharBoundary bs i) back (IsCharBoundary-after_ascii bs (prefix_len p bs - 1) text within
+      (ascii (get_or bs (prefix_len p bs - 1) 0) passes))
+
+  before_end : 0 < suffix_len p bs → IsCharBoundary bs (length bs - suffix_len p bs)
+  before_end h =
+      let last : suffix_len p bs - 1 < suffix_len p bs = omega arith in
+      let passes = prefix_len_passes p (reverse bs) (suffix_len p bs - 1) 0 last in
+      let within : suffix_len p bs - 1 < length bs = omega (arith, suffix_len-le-length p bs) in
+      let at : length bs - 1 - (suffix_len p bs - 1) ≡ length bs - suffix_len p bs = omega arith in
+      let byte : get_or (reverse bs) (suffix_len p bs - 1) 0 ≡ get_or bs (length bs - suffix_len p bs) 0 =
+      get_or-reverse bs (suffix_len p bs - 1) 0 within ∙ ap (λ i. get_or bs i 0) at in
+      IsCharBoundary-before_ascii bs (length bs - suffix_len p bs) (omega arith)
+      (ascii (get_or bs (length bs - suffix_len p bs) 0) (ap p (sym byte) ∙ passes))
+
+  pub boundary_before_end : IsCharBoundary bs (length bs - suffix_len p bs)
+  boundary_before_end = ⊎_elim (λ h. before_end h) (λ h. (omega arith, λ l. absurd (omega arith)))
+      (cases_lt 0 (suffix_len p bs))
+
+pub is_low : (b : ℕ) → is_c0_control_or_space b ≡ true → b < 128
+is_low b h = omega (arith, leb-true b 32 h)
