@@ -1,5 +1,5 @@
 /* Tests of the calls of data_url.h: worked examples, empty and null inputs, outputs that are too small, bytes that are not
- * UTF-8, long bodies, and each growth of memory refused in turn. Build it with -Wl,--wrap=malloc,--wrap=realloc. */
+ * UTF-8, long bodies, and each allocation made to fail in turn. Build it with -Wl,--wrap=malloc,--wrap=realloc. */
 #include "data_url.h"
 
 #include <stdio.h>
@@ -11,7 +11,7 @@ typedef struct data_url_answer (*Call)(const void *, size_t, void *, size_t);
 enum { FILLED = 0xA5, MARGIN = 8 };
 
 static int checks, wrong;
-/* The growth of memory that is refused, counted from 1; 0 for none. */
+/* The allocation that fails, counted from 1; 0 for none. */
 static long refused, growths;
 
 void *__real_malloc(size_t size);

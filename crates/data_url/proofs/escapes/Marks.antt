@@ -335,6 +335,7 @@ mark_then {text} {from} {middle} {to} l c m = let f = m.forward in
           m.marked;
     }
 
+-- found by `search`
 pub mark_at_end : {text : List ℕ} {from to : ℕ} → from ≤ to → to ≤ length text → length text ≤ to → IsClear text from to
     → IsNextMark text from to
 mark_at_end {text} {from} {to} l w e c = record {

@@ -229,6 +229,7 @@ digits_in {text} {same} {place} {looks} {looks'} {value} {end} {last} e n d =
     let Q : ℕ → Type 0 = λ l. DigitsFound same place l value end last in
     subst P e (subst Q n d)
 
+-- found by `search`
 pub no_digits_in : {text same : List ℕ} {place looks looks' last : ℕ} → same ≡ text → looks' ≡ looks
     → NoDigits same place looks' last → NoDigits text place looks last
 no_digits_in {text} {same} {place} {looks} {looks'} {last} e n d =
@@ -256,7 +257,7 @@ stop_escape {c} {c'} {mark} {b} {value} {end} k h s d =
     let n = d.looks_are in
     (subst P (sym t) e, looking_kept end 3 k.looking s (omega arith) d.within (omega arith))
 
--- none was found
+-- none was found (found by `search`)
 pub stop_percent : {c c' : Cursor} {mark b : ℕ} → Looked c mark b → b ≡ 37 → KeepsBlock c c'
     → NoDigits (text_of c) (mark + 1) (c.source.looks + 1) c'.source.looks → LonePercent (text_of c') mark
     × Looking c' (mark + 1) 0
@@ -281,6 +282,7 @@ marked_tab false true p e a b = absurd (let k : true ≡ false = a in cc)
 marked_tab false false true e a b = absurd (let k : true ≡ false = b in cc)
 marked_tab false false false e a b = absurd (let k : false ≡ true = e in cc)
 
+-- found by `search`
 pub stop_passed : {c c' : Cursor} {mark b : ℕ} → Looked c mark b → is_marked (get_or (text_of c) mark 0) ≡ true
     → (b ≡ 37 → ⊥) → (b ≡ 35 → ⊥) → KeepsBlock c c' → c'.source.looks ≡ c.source.looks + 1 → IsPassed (text_of c') mark
     × Looking c' (mark + 1) 0
@@ -325,7 +327,7 @@ stop_hash {c} {c'} {mark} {b} k h s n =
     let l = k.looking.looks_are_paid in
     record { ends = record { within = omega arith; begins = subst P (sym t) begins }; few_looks = omega arith }
 
--- at the end of the text
+-- at the end of the text (found by `search`)
 pub stop_end : {c : Cursor} {mark : ℕ} → Looking c mark 0 → length (text_of c) ≤ mark → Ended c mark
 stop_end {c} {mark} k h =
     let w = k.within in
@@ -598,6 +600,7 @@ byte_here {c0} {c} {mark} {value} {end} r h e =
       ended = tt;
     }
 
+-- found by `search`
 pub end_here : {c0 c : Cursor} {mark : ℕ} → Reached c0 c mark → mark ≡ c.place
     → GoesOn c0 None (record c { ahead = End })
 end_here {c0} {c} {mark} r e = record { on = moved_on c.place End r.on; reads = r.passed; piece = tt; ended = refl }
@@ -635,7 +638,7 @@ piece_from : (next : Option Piece) {c c1 : Cursor} (to : ℕ) → LooksOn c c1 �
 piece_from None to on e h = tt
 piece_from (Some p) to on e h = piece_of p to on.text_stays e h
 
--- a walk that was only looked on with goes on as the one before
+-- a walk that was only looked on with goes on as the one before (found by `search`)
 pub goes_then : {c c1 c2 : Cursor} {next : Option Piece} → LooksOn c c1 → c1.place ≡ c.place → GoesOn c1 next c2
     → GoesOn c next c2
 goes_then {c} {c1} {c2} {next} on e g =
@@ -799,7 +802,7 @@ gathers_byte {c} {c'} {room} {len} {b} on r l = record {
   len_is = refl;
 }
 
--- only the walk goes on
+-- only the walk goes on (found by `search`)
 pub gathers_nothing : {c c' : Cursor} {room : List ℕ} {len : ℕ} → LooksOn c c' → Reads (text_of c) c.place c'.place []
     → Gathers c c' room room len len
 gathers_nothing {c} {c'} {room} {len} on r = record {
@@ -986,7 +989,7 @@ few_looks {c} k = looks_cases c c.ahead k.ahead_is
 
 -- The next bytes
 
--- what was gathered
+-- what was gathered (found by `search`)
 pub takes_gathered : {c c' : Cursor} {room0 room : List ℕ} {len : ℕ} → Gathers c c' room0 room 0 len → 0 < len
     → Takes (walk_of c) (take len room) (walk_of c')
 takes_gathered {c} {c'} {room0} {room} {len} g some =

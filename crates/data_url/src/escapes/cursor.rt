@@ -329,8 +329,8 @@ impl<'a> Cursor<'a> {
         }
     }
 
-    /// Returns whether to gather the block at the place, where so many bytes were gathered before: it has a mark, or it
-    /// is to fill the room.
+    /// Returns whether to gather the block at the place: it has a mark, or bytes were gathered before and it is to fill
+    /// the room. Looks at the block.
     #[inline(always)]
     fn is_mark_near(&mut self, len: usize) -> bool
         requires plain { IsPlain self.old.ahead }
