@@ -10,7 +10,7 @@ pub use Rattle.data_url.proofs.forgiving_base64.Padding.{every_list_all, fault-a
 pub use Rattle.data_url.proofs.forgiving_base64.Padding.{fault_invalid, fault_some, filter_every, kind_fault}
 pub use Rattle.data_url.proofs.forgiving_base64.Padding.{kind_stays, length-after_groups, none_fault, space_alone}
 pub use Rattle.data_url.proofs.forgiving_base64.Padding.{symbol_alone}
-pub use Rattle.data_url.proofs.forgiving_base64.Steps.{after_few, bool_at_true, decoded_left, done_more, fault_behind}
+pub use Rattle.data_url.proofs.forgiving_base64.Steps.{after_few, bool_at_true, decoded_left, done_more, fault_after}
 pub use Rattle.data_url.proofs.forgiving_base64.Steps.{fault_more, fault_other, fault_space, fault_symbol, feeds_err}
 pub use Rattle.data_url.proofs.forgiving_base64.Steps.{feeds_none, feeds_then, feeds_took, groups_few, has_pad}
 pub use Rattle.data_url.proofs.forgiving_base64.Steps.{kind_left, left_more, padding_more, symbols_more}
@@ -22,9 +22,9 @@ pub use Rattle.data_url.proofs.header.Suffix.{suffix_stop}
 pub use Rattle.data_url.proofs.mime.FirstNames.{test_from_different}
 pub use Rattle.data_url.proofs.mime.Items.{every_from_all}
 pub use Rattle.data_url.proofs.percent.Encoding.{IsBytes, ascii_all, decoded_keeps, two_digits}
-pub use Rattle.data_url.proofs.runs.Runs.{match_alike, match_at_none, match_map, match_none, match_some, prefix_behind}
+pub use Rattle.data_url.proofs.runs.Runs.{match_alike, match_at_none, match_map, match_none, match_some, prefix_after}
 pub use Rattle.data_url.proofs.runs.Runs.{prefix_none, prefix_trans}
-pub use Rattle.data_url.proofs.texts.Bytes.{before-append, before_all, before_at, behind-append, behind-dropped_none}
-pub use Rattle.data_url.proofs.texts.Bytes.{behind_at, behind_nil, behind_none, behind_other, dropped_around}
+pub use Rattle.data_url.proofs.texts.Bytes.{before-append, before_all, before_at, after-append, after-dropped_none}
+pub use Rattle.data_url.proofs.texts.Bytes.{after_at, after_nil, after_none, after_other, dropped_around}
 pub use Rattle.data_url.proofs.texts.Bytes.{dropped_keeps, dropped_nil, dropped_passes, fragment_dropped, is_cut, lacks}
 pub use Rattle.data_url.proofs.texts.Bytes.{without_tabs_and_newlines-append}

@@ -8,7 +8,7 @@ use Rattle.data_url.specs.Mime.{IsRecordOf, IsWellformed}
 use Rattle.data_url.specs.MimeType.{record_of}
 use Rattle.data_url.specs.Percent.{percent_decoding}
 use Rattle.data_url.specs.Run.{Call, IsRun, joined_pieces, refusal}
-use Rattle.data_url.specs.Url.{after_scheme, behind, without_tabs_and_newlines, fragment, in_fragment_set, percent_encoding}
+use Rattle.data_url.specs.Url.{after, after_scheme, fragment, in_fragment_set, number_sign, percent_encoding, without_tabs_and_newlines}
 use Rattle.data_url.specs.declared.DataUrl.{DataUrl}
 use Rattle.data_url.specs.declared.DataUrlError.TheVariants.{NoComma as no_comma, NotADataUrl as no_scheme, OutOfMemory as no_memory}
 use Rattle.data_url.specs.declared.DataUrlError.{DataUrlError}
@@ -39,7 +39,7 @@ fragment_text f = f.text.now
 
 -- the fragment of a tail: what stands behind its first '#', or none
 abbrev pub IsFragmentOf : List ℕ → Option FragmentIdentifier → Type 0
-IsFragmentOf tail found = option_map fragment_text found ≡ behind 35 tail
+IsFragmentOf tail found = option_map fragment_text found ≡ after number_sign tail
 
 -- the URL of a text that is accepted: its record is that of the header, and the Standard's body and
 -- fragment are those of its tail

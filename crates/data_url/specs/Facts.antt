@@ -4,7 +4,7 @@ use Rattle.std.specs.Option.{option_map}
 use Rattle.data_url.specs.Base64.{without_whitespace, is_fault, is_symbol, is_valid}
 use Rattle.data_url.specs.Fetch.{before_comma, has_base64_suffix}
 use Rattle.data_url.specs.Mime.{Every, Item, Items, Parses, Record}
-use Rattle.data_url.specs.Url.{before, behind, in_path_set, in_query_set, percent_encoding}
+use Rattle.data_url.specs.Url.{before, after, in_path_set, in_query_set, percent_encoding}
 
 -- each text that is empty or begins with ';' is a join of parameters, with one list of items
 pub record HasOneItemList (r : List ℕ) : Type 0 where
@@ -43,7 +43,7 @@ with_query_and_spaces path (Some query) =
 
 -- a front, serialised by the other rule on spaces: none of its path is encoded
 abbrev pub serialised_with_spaces : List ℕ → List ℕ
-serialised_with_spaces s = with_query_and_spaces (before 63 s) (behind 63 s)
+serialised_with_spaces s = with_query_and_spaces (before 63 s) (after 63 s)
 
 -- whether the header of a serialised front says base64, where there is a header
 abbrev pub base64_flag : List ℕ → Option Bool

@@ -5,7 +5,7 @@ use Rattle.std.specs.Prelude.{[], if◌then◌else◌, ◌++◌, ◌-◌, ◌==�
 use Rattle.std.specs.Str.{bytes_eq}
 use Rattle.data_url.specs.Base64.{Kind, decoded, complete_bytes, is_valid, kind_of}
 use Rattle.data_url.specs.Percent.{percent_decoding}
-use Rattle.data_url.specs.Url.{after_scheme, before, behind, without_tabs_and_newlines, fragment, front, in_fragment_set, percent_encoding, serialised, trimmed_text, without_end, without_front}
+use Rattle.data_url.specs.Url.{after, after_scheme, before, comma, fragment, front, in_fragment_set, percent_encoding, serialised, trimmed_text, without_end, without_front, without_tabs_and_newlines}
 
 -- Header and body
 
@@ -15,7 +15,7 @@ staged_front t = option_map (λ a. serialised (front a)) (after_scheme t)
 
 -- what stands before the first comma, where there is one
 abbrev pub before_comma : List ℕ → Option (List ℕ)
-before_comma s = option_map (λ rest. before 44 s) (behind 44 s)
+before_comma s = option_map (λ rest. before comma s) (after comma s)
 
 -- the header: what stands before the first comma of the serialised front (steps 5 to 7)
 unfoldable pub header_of : List ℕ → Option (List ℕ)
@@ -23,11 +23,11 @@ header_of t = option_and_then before_comma (staged_front t)
 
 -- the encoded body: what stands behind that comma (steps 8 and 9)
 unfoldable pub encoded_body : List ℕ → Option (List ℕ)
-encoded_body t = option_and_then (behind 44) (staged_front t)
+encoded_body t = option_and_then (after comma) (staged_front t)
 
 -- what stands behind the first comma of the text as it was given, but for its ends
 unfoldable pub tail_of : List ℕ → Option (List ℕ)
-tail_of t = behind 44 (trimmed_text t)
+tail_of t = after comma (trimmed_text t)
 
 -- the body that a tail holds, as it was given: up to the first '#', without tabs and newlines,
 -- percent-decoded

@@ -1,10 +1,11 @@
 -- Percent-decoding (URL Standard, section 1.3).
 use Rattle.std.specs.Char.{digit_value, is_ascii_hexdigit}
 use Rattle.std.specs.Prelude.{[], if◌then◌else◌, ◌&&◌, ◌*◌, ◌+◌, ◌==◌, ◌∷◌, Bool, List, ℕ}
+use Rattle.data_url.specs.Url.{percent_sign}
 
 -- '%' and two hexadecimal digits
 abbrev pub is_escape : ℕ → ℕ → ℕ → Bool
-is_escape a b c = (a == 37) && (is_ascii_hexdigit b && is_ascii_hexdigit c)
+is_escape a b c = (a == percent_sign) && (is_ascii_hexdigit b && is_ascii_hexdigit c)
 
 -- the text with each '%' and two hexadecimal digits read as one byte, from the left and once; all
 -- else stays

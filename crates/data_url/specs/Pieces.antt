@@ -3,10 +3,10 @@
 use Rattle.std.specs.Char.{digit_value, is_ascii_hexdigit}
 use Rattle.std.specs.Prelude.{[], if◌then◌else◌, ◌&&◌, ◌*◌, ◌+◌, ◌<◌, ◌==◌, ◌||◌, ◌∷◌, ◌≡◌, ◌≤◌, Bool, List, None, Option, Some, drop, false, is_some, slice_index, slice_range, true, ℕ}
 use Rattle.data_url.specs.Fetch.{plain_body}
-use Rattle.data_url.specs.Url.{front, is_tab_or_newline, without_tabs_and_newlines}
+use Rattle.data_url.specs.Url.{front, is_tab_or_newline, number_sign, percent_sign, without_tabs_and_newlines}
 use Rattle.data_url.specs.declared.escapes.Piece.TheVariants.{Byte, Slice}
 use Rattle.data_url.specs.declared.escapes.Piece.{Piece}
-use Rattle.data_url.specs.declared.escapes.cursor.Ahead.TheVariants.{BehindEscape, End, Escape, Unknown}
+use Rattle.data_url.specs.declared.escapes.cursor.Ahead.TheVariants.{AfterEscape, End, Escape, Unknown}
 use Rattle.data_url.specs.declared.escapes.cursor.Ahead.{Ahead}
 use Rattle.data_url.specs.declared.escapes.cursor.Cursor.{Cursor}
 
@@ -34,7 +34,7 @@ escape s = with_high_digit (digit s)
 -- where a slice may end: before a tab or newline, an escape, the first '#' or the end
 abbrev pub is_slice_end : List ℕ → Bool
 is_slice_end [] = true
-is_slice_end (b ∷ s) = is_tab_or_newline b || ((b == 35) || ((b == 37) && is_some (escape s)))
+is_slice_end (b ∷ s) = is_tab_or_newline b || ((b == number_sign) || ((b == percent_sign) && is_some (escape s)))
 
 -- between two places of the text there are only tabs and newlines
 abbrev pub IsSkipped : List ℕ → ℕ → ℕ → Type 0
@@ -67,7 +67,7 @@ pub record IsEscape (text : List ℕ) (from to : ℕ) (byte : ℕ) : Type 0 wher
   pub nonempty : start < to
   pub skipped_before : IsSkipped text from start
   pub in_front : IsInFront text from to
-  pub percent : slice_index text start ≡ 37
+  pub percent : slice_index text start ≡ percent_sign
   pub value_is : escape (drop (start + 1) text) ≡ Some (byte, drop to text)
 
 abbrev pub IsPiece : List ℕ → ℕ → ℕ → Piece → Type 0
@@ -105,7 +105,7 @@ text_of c = c.source.text.now
 -- whether a walk has ended
 abbrev pub has_ended : Ahead → Bool
 has_ended Unknown = false
-has_ended BehindEscape = false
+has_ended AfterEscape = false
 has_ended (Escape value end) = false
 has_ended End = true
 

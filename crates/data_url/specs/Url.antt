@@ -5,6 +5,17 @@ use Rattle.std.specs.List.{flat_map, prefix_len, suffix_len}
 use Rattle.std.specs.Prelude.{[], if◌then◌else◌, ◌%◌, ◌++◌, ◌+◌, ◌-◌, ◌/◌, ◌==◌, ◌||◌, ◌∷◌, Bool, List, None, Option, Some, codes, drop, filter, length, map, nat_le, nat_lt, not, take, ℕ}
 use Rattle.std.specs.Str.{bytes_eq}
 
+-- '#', '%' and ',': they begin the fragment, an escape, and the body
+
+abbrev pub number_sign : ℕ
+number_sign = 35
+
+abbrev pub percent_sign : ℕ
+percent_sign = 37
+
+abbrev pub comma : ℕ
+comma = 44
+
 -- the text without its longest front of bytes that pass the test
 abbrev pub without_front : (ℕ → Bool) → List ℕ → List ℕ
 without_front p s = drop (prefix_len p s) s
@@ -39,9 +50,9 @@ before c [] = []
 before c (b ∷ bs) = if b == c then [] else b ∷ before c bs
 
 -- what stands behind the first c, where there is one
-unfoldable pub behind : ℕ → List ℕ → Option (List ℕ)
-behind c [] = None
-behind c (b ∷ bs) = if b == c then Some bs else behind c bs
+unfoldable pub after : ℕ → List ℕ → Option (List ℕ)
+after c [] = None
+after c (b ∷ bs) = if b == c then Some bs else after c bs
 
 -- what follows the scheme "data:", spelled in any ASCII case; none where the text begins otherwise
 -- (URL, section 4.4, scheme state)
@@ -54,12 +65,12 @@ after_scheme t =
 -- the opaque path with its query: what stands before the first '#' (URL, section 4.4, opaque path
 -- state and query state)
 unfoldable pub front : List ℕ → List ℕ
-front s = before 35 s
+front s = before number_sign s
 
 -- the fragment: what stands behind the first '#', where there is one (URL, section 4.4, fragment
 -- state)
 unfoldable pub fragment : List ℕ → Option (List ℕ)
-fragment s = behind 35 s
+fragment s = after number_sign s
 
 -- Percent-encoding (URL, section 1.3)
 
@@ -70,7 +81,7 @@ in_path_set b = nat_lt b 32 || nat_lt 126 b
 -- the query percent-encode set: the path's, and space, '"', '#', '<' and '>'
 abbrev pub in_query_set : ℕ → Bool
 in_query_set b = in_path_set b
-    || ((b == 32) || ((b == 34) || ((b == 35) || ((b == 60) || (b == 62)))))
+    || ((b == 32) || ((b == 34) || ((b == number_sign) || ((b == 60) || (b == 62)))))
 
 -- the fragment percent-encode set: the path's, and space, '"', '<', '>' and '`'
 abbrev pub in_fragment_set : ℕ → Bool
@@ -83,7 +94,7 @@ hex_digit d = if nat_lt d 10 then 48 + d else 55 + d
 
 -- a byte of the set as '%' and its two digits, any other as itself
 abbrev pub encoded_byte : (ℕ → Bool) → ℕ → List ℕ
-encoded_byte in_set b = if in_set b then 37 ∷ hex_digit (b / 16) ∷ hex_digit (b % 16) ∷ []
+encoded_byte in_set b = if in_set b then percent_sign ∷ hex_digit (b / 16) ∷ hex_digit (b % 16) ∷ []
     else b ∷ []
 
 -- the text with each byte of the set percent-encoded
@@ -112,4 +123,4 @@ with_query path (Some query) = encoded_path path ++ 63 ∷ percent_encoding in_q
 
 -- an opaque path with its query, serialised: the first '?' ends the path (URL, section 4.5)
 unfoldable pub serialised : List ℕ → List ℕ
-serialised s = with_query (before 63 s) (behind 63 s)
+serialised s = with_query (before 63 s) (after 63 s)

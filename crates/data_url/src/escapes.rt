@@ -4,7 +4,7 @@
 ghost use Rattle.std.specs.Prelude.{◌≡◌, ◌+◌, ◌*◌, ◌≤◌, ◌++◌, [], IfNone, IfSome, IsTrue, None, length};
 ghost use Rattle.std.specs.Option.{option_map};
 ghost use Rattle.data_url.specs.Pieces.{IsPiece, walk_at_front, bytes_of_next};
-ghost use Rattle.data_url.specs.Url.{behind};
+ghost use Rattle.data_url.specs.Url.{after, number_sign};
 ghost use Rattle.data_url.specs.Steps.Chunks.{GivesBytes};
 ghost use Rattle.data_url.specs.Steps.Tail.{IsBodyEnd};
 
@@ -85,7 +85,7 @@ impl<'a> Pieces<'a> {
     /// is no `#`. It may be called once `next` has returned None.
     pub fn fragment(&self) -> Option<&'a str>
         requires { IsTrue self.now.ended }
-        ensures { option_map (λ fragment. fragment.now) result ≡ behind 35 self.now.text }
+        ensures { option_map (λ fragment. fragment.now) result ≡ after number_sign self.now.text }
     {
         self.cursor.fragment()
     }

@@ -5,7 +5,7 @@ ghost use Rattle.std.specs.Option.{option_map};
 ghost use Rattle.data_url.specs.Base64.{first_fault};
 ghost use Rattle.data_url.specs.Fetch.{is_space};
 ghost use Rattle.data_url.specs.Mime.{BeginsParameters, DoesNotEnd};
-ghost use Rattle.data_url.specs.Url.{after_scheme, behind, without_tabs_and_newlines, fragment, serialised};
+ghost use Rattle.data_url.specs.Url.{after, after_scheme, fragment, number_sign, serialised, without_tabs_and_newlines};
 ghost use Rattle.data_url.specs.Facts.{HasAtMostOneRecord, HasOneItemList, IsFirstFault, PaddingFits, base64_flag, serialised_with_spaces};
 
 /// A text that is empty or begins with `;` has exactly one list of items.
@@ -31,7 +31,7 @@ pub(crate) fn least_fault()
 /// Tabs and newlines may be dropped before the fragment is cut off or from the fragment itself.
 pub(crate) fn fragment_dropped()
     ensures { (tail : List ℕ) → fragment (without_tabs_and_newlines tail)
-        ≡ option_map without_tabs_and_newlines (behind 35 tail) }
+        ≡ option_map without_tabs_and_newlines (after number_sign tail) }
 {}
 
 /// The cleaned text does not end with a space, so after a path that ends with one there is `?` or `#`.

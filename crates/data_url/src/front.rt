@@ -3,7 +3,7 @@
 
 ghost use Rattle.std.specs.Prelude.{◌≡◌, None, IfSome, IfNone, true};
 ghost use Rattle.std.specs.List.{position};
-ghost use Rattle.data_url.specs.Url.{behind, without_tabs_and_newlines, front};
+ghost use Rattle.data_url.specs.Url.{after, comma, front, without_tabs_and_newlines};
 ghost use Rattle.data_url.specs.Steps.Header.{header_text};
 ghost use Rattle.data_url.specs.Steps.Front.{HasNoScheme, IsHeaderAndTail, IsSchemeAndRest, ends_header};
 
@@ -62,7 +62,7 @@ pub(crate) fn split_at_comma(text: &str) -> Option<Front<'_>>
     ensures found { IfSome result (λ f. IsHeaderAndTail text.now f.header.now f.tail.now) }
     ensures plain { IfSome result (λ f. f.is_plain ≡ true
         → header_text (without_tabs_and_newlines f.header.now) ≡ f.header.now) }
-    ensures none { IfNone result (behind 44 (front text.now) ≡ None) }
+    ensures none { IfNone result (after comma (front text.now) ≡ None) }
 {
     let bytes = text.as_bytes();
     let plain = long_span(Class::PlainPath, bytes);

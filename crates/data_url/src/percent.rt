@@ -82,7 +82,7 @@ pub(crate) fn push_encoded(
     let mut room = [0; ROOM];
     let mut rest = bytes;
     while !rest.is_empty() {
-        let (part, behind) = rest.split_at(rest.len().min(PART));
+        let (part, after) = rest.split_at(rest.len().min(PART));
         let written = if is_kept(set, part) {
             part
         } else {
@@ -90,7 +90,7 @@ pub(crate) fn push_encoded(
             &room[..len]
         };
         text.push_str(unsafe { str::from_utf8_unchecked(written) })?;
-        rest = behind;
+        rest = after;
     }
     Ok(())
 }

@@ -13,7 +13,7 @@ use Rattle.data_url.proofs.api.{groups_few, left_more, match_none, none_fault, p
 use Rattle.data_url_c.specs.Answers.{status_of_kind}
 use Rattle.data_url_c.specs.Bodies.{EndsAs}
 use Rattle.data_url_c.specs.Parts.{IsLeftOf, TakesText, WritesFront, is_good_state, waiting_text}
-use Rattle.data_url_c.specs.Steps.{EndsBehind, IsLast, Writes}
+use Rattle.data_url_c.specs.Steps.{EndsAfter, IsLast, Writes}
 use Rattle.data_url_c.specs.declared.parts.DataUrlBase64.{DataUrlBase64}
 use Rattle.data_url_c.specs.declared.parts.DataUrlStep.{DataUrlStep}
 use Rattle.data_url_c.specs.declared.parts.Last.{Last}
@@ -156,12 +156,12 @@ at_valid true P Q R S f g h = f h
 at_valid false P Q R S f g h = g h
 
 -- what was pushed after the first bytes
-pub ends_behind : {out out' piece : List ℕ} {last : Last} {len : ℕ} (s : DataUrlBase64) (written : ℕ)
+pub ends_after : {out out' piece : List ℕ} {last : Last} {len : ℕ} (s : DataUrlBase64) (written : ℕ)
     → is_good_state s ≡ true → length s.symbols ≡ 3 → length last.bytes ≡ 3 → IsLast (waiting_text s) last
     → 4 * written + 3 * s.pending ≤ 4 * length out → piece ≡ take last.len last.bytes
-    → Writes piece out written out' len → EndsBehind (waiting_text s) written out out'
+    → Writes piece out written out' len → EndsAfter (waiting_text s) written out out'
     (record { status = last.status; len = len })
-ends_behind {out} {out'} {piece} {last} {len} s written h size three k room p w =
+ends_after {out} {out'} {piece} {last} {len} s written h size three k room p w =
     let u = waiting_text s in
     let within = k.within in
     let long : length piece ≡ last.len = ap length p ∙ length-take-le last.len last.bytes (omega arith) in
@@ -265,7 +265,7 @@ ends_cases {u} {before} {mid} {s} {n} after r false e h size k room short =
 
 pub ends_whole : {u before mid after : List ℕ} {s : DataUrlBase64} {status n : ℕ} {r : DataUrlStep} (flag : Bool)
     → flag ≡ true → TakesText u s before mid status n → status ≡ 0 → length mid ≡ length before
-    → EndsBehind (waiting_text s) n mid after r → 4 * n + 3 * s.pending ≤ 4 * length before
+    → EndsAfter (waiting_text s) n mid after r → 4 * n + 3 * s.pending ≤ 4 * length before
     → EndsAs (outcome flag u) before after r.status r.len
 ends_whole {u} {before} {mid} {after} {s} {status} {n} {r} flag e h z size k room =
     let P : Bool → Type 0 = λ v. EndsAs (outcome v u) before after r.status r.len in

@@ -10,7 +10,7 @@ use Rattle.data_url.specs.Base64.{first_fault, is_symbol, kind_of}
 use Rattle.data_url.specs.Mime.{Every}
 use Rattle.data_url.specs.declared.forgiving_base64.DecodeError.{DecodeError}
 use Rattle.data_url.specs.declared.forgiving_base64.DecodeError.TheVariants.{InvalidBase64}
-use Rattle.data_url.proofs.api.{classes, every_from_all, fault-append, fault-append_some, fault_behind, fault_byte}
+use Rattle.data_url.proofs.api.{classes, every_from_all, fault-append, fault-append_some, fault_after, fault_byte}
 use Rattle.data_url.proofs.api.{fault_more, fault_other, fault_some, fault_space, fault_symbol, has_pad, kind_fault}
 use Rattle.data_url.proofs.api.{kind_left, space_alone, symbol_alone}
 use Rattle.std.specs.Char.{is_ascii_whitespace}
@@ -109,11 +109,11 @@ kind_here s text padded at c g h l e f =
     ∙ fault-append_some (c ∷ []) (drop (at + 1) text) padded c f in
     kind_fault (waiting_text s ++ text) c (fault_more q s.padding every text ∙ sym h ∙ found)
 
-pub fault_after : (s : DataUrlBase64) (text : List ℕ) (at c : ℕ) → is_good_state s ≡ true → GoesOn s text true at
+pub fault_after_padding : (s : DataUrlBase64) (text : List ℕ) (at c : ℕ) → is_good_state s ≡ true → GoesOn s text true at
     → at < length text
     → c ≡ get_or text at 0 → is_symbol c ≡ true → 10 ≡ status_of_kind (kind_of (waiting_text s ++ text))
-fault_after s text at c g h l e k =
-    sym (ap status_of_kind (kind_here s text true at c g h l e (fault_behind c k)
+fault_after_padding s text at c g h l e k =
+    sym (ap status_of_kind (kind_here s text true at c g h l e (fault_after c k)
     ∙ ap (λ v. cond v AlphabetSymbolAfterPadding (UnexpectedSymbol c)) k))
 
 pub fault_unexpected : (s : DataUrlBase64) (text : List ℕ) (padded : Bool) (at c : ℕ) → is_good_state s ≡ true

@@ -12,7 +12,7 @@ use Rattle.data_url.specs.Mime.{HasNoRecord, Parses, Record}
 use Rattle.data_url.specs.MimeType.{record_of}
 use Rattle.data_url.specs.Run.{joined_pieces, refusal}
 use Rattle.data_url.specs.Steps.Whole.{DecodesText}
-use Rattle.data_url.specs.Url.{behind, without_tabs_and_newlines, encoded_fragment, fragment as fragment_in}
+use Rattle.data_url.specs.Url.{after, without_tabs_and_newlines, encoded_fragment, fragment as fragment_in}
 use Rattle.data_url.specs.Url.{in_fragment_set, percent_encoding}
 use Rattle.data_url.specs.declared.DataUrl.{DataUrl}
 use Rattle.data_url.specs.declared.forgiving_base64.DecodeError.{DecodeError}
@@ -46,11 +46,11 @@ abbrev staged_part : DataUrl → Option (List ℕ)
 staged_part url = option_map (percent_encoding in_fragment_set) (fragment_in (without_tabs_and_newlines (url_tail url)))
 
 pub url_with : {x : List ℕ} {url : DataUrl} {body : Outcome} {fragment : Option (List ℕ)} → IsUtf8 x → IsUrlOf x url
-    → url_body url ≡ body → option_map encoded_fragment (behind 35 (url_tail url)) ≡ fragment
+    → url_body url ≡ body → option_map encoded_fragment (after 35 (url_tail url)) ≡ fragment
     → IsUrlWith x body fragment
 url_with {url = url} {body = body} t u b f =
     let e = ap (option_map (percent_encoding in_fragment_set)) (fragment_dropped (url_tail url))
-    ∙ encoded_is (behind 35 (url_tail url)) ∙ f in
+    ∙ encoded_is (after 35 (url_tail url)) ∙ f in
     record {
       type_text = mime_text u.header;
       is_text = t;

@@ -168,9 +168,9 @@ found_waiting symbols s xs pending count missing a b c d e f g h =
 
 -- What is left
 
-behind_groups : (front last : List ℕ) → length last ≤ 3 → length (front ++ last) % 4 ≡ length last
+groups_left : (front last : List ℕ) → length last ≤ 3 → length (front ++ last) % 4 ≡ length last
     → after_groups (front ++ last) ≡ last
-behind_groups front last few e =
+groups_left front last few e =
     let whole : length (after_groups front) ≡ 0 = omega (arith, length-after_groups front, length-append front last) in
     after_groups-append front last ∙ ap (λ x. after_groups (x ++ last)) (nil_from_length (after_groups front) whole)
     ∙ after_few last few
@@ -179,7 +179,7 @@ pub left_symbols_are : (s last : List ℕ) → length last ≡ length (filter is
     → (front : List ℕ) × (filter is_symbol s ≡ front ++ last) → last ≡ left_symbols s
 unfolding left_symbols
 left_symbols_are s last e h =
-    sym (ap after_groups h.1 ∙ behind_groups h.0 last (omega (arith, e)) (ap (λ x. length x % 4) (sym h.1) ∙ sym e))
+    sym (ap after_groups h.1 ∙ groups_left h.0 last (omega (arith, e)) (ap (λ x. length x % 4) (sym h.1) ∙ sym e))
 
 all_list : (q : List ℕ) → Every is_symbol q → list_all is_symbol q ≡ true
 all_list [] h = refl

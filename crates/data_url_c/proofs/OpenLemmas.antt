@@ -19,8 +19,8 @@ use Rattle.data_url.specs.Fetch.{tail_of}
 use Rattle.data_url.specs.Mime.{HasNoRecord, IsRecordOf, default_record, printed}
 use Rattle.data_url.specs.MimeType.{record_of}
 use Rattle.data_url.specs.Percent.{percent_decoding}
-use Rattle.data_url.specs.Url.{before, behind, front, is_c0_control_or_space, trimmed_text, without_tabs_and_newlines}
-use Rattle.data_url.proofs.api.{IsBytes, ascii_all, before_at, behind_none, bytes_by_place, bytes_trimmed, on_literals}
+use Rattle.data_url.specs.Url.{before, after, front, is_c0_control_or_space, trimmed_text, without_tabs_and_newlines}
+use Rattle.data_url.proofs.api.{IsBytes, ascii_all, before_at, after_none, bytes_by_place, bytes_trimmed, on_literals}
 use Rattle.data_url_c.specs.Answers.{Crosses, Shows}
 use Rattle.data_url_c.specs.Gives.{RefusesUrl}
 use Rattle.data_url_c.specs.Opens.{Opens, answer_of}
@@ -44,10 +44,10 @@ pub at_comma : (x : List ℕ) (comma : ℕ) → position (λ b. b == 44) x ≡ S
 at_comma x comma h =
     let p = position-Some (λ b. b == 44) x comma 0 h in (p.0, eqb-true (get_or x comma 0) 44 p.1)
 
-none_before : (x : List ℕ) (comma : ℕ) → position (λ b. b == 44) x ≡ Some comma → behind 44 (take comma x) ≡ None
+none_before : (x : List ℕ) (comma : ℕ) → position (λ b. b == 44) x ≡ Some comma → after 44 (take comma x) ≡ None
 none_before x comma h =
     let p = position-Some (λ b. b == 44) x comma 0 h in
-    behind_none 44 (take comma x) (λ k l.
+    after_none 44 (take comma x) (λ k l.
     let below : k < comma = omega (arith, l, length-take comma x) in
     ap (λ v. v == 44) (get_or-take comma x k 0 below) ∙ p.2 k below)
 
@@ -130,7 +130,7 @@ body_of_probe = refl
 
 -- What a probe gives is what the URL gives
 
-read_by : (a t : List ℕ) {old new : List ℕ} {r : DataUrlAnswer} {flag : Bool} → behind 44 a ≡ None → IsBytes a
+read_by : (a t : List ℕ) {old new : List ℕ} {r : DataUrlAnswer} {flag : Bool} → after 44 a ≡ None → IsBytes a
     → IsBytes (trimmed_text (a ++ 44 ∷ t)) → IsRead (a ++ 44 ∷ qq) old new r flag
     → IsReadUrl (a ++ 44 ∷ t) (trimmed_tail t) old new r flag
 read_by a t {flag = flag} n b d h =
@@ -162,7 +162,7 @@ read_by a t {flag = flag} n b d h =
           (sym same);
     }
 
-refused_by : (a t : List ℕ) (refusal : Refusal) → behind 44 a ≡ None → IsBytes a → IsBytes (trimmed_text (a ++ 44 ∷ t))
+refused_by : (a t : List ℕ) (refusal : Refusal) → after 44 a ≡ None → IsBytes a → IsBytes (trimmed_text (a ++ 44 ∷ t))
     → IsUtf8 (a ++ 44 ∷ qq) → IsUtf8 (a ++ 44 ∷ t) → RefusesUrl (a ++ 44 ∷ qq) refusal
     → RefusesUrl (a ++ 44 ∷ t) refusal
 refused_by a t NotADataUrl n b d p u h = (u, same_no_scheme a qq t (ends a n) (bytes_probe a b) h.1)
@@ -173,7 +173,7 @@ refused_by a t NotAMimeType n b d p u h = absurd h
 refused_by a t NoFragment n b d p u h = absurd h
 refused_by a t (InvalidBase64 kind before) n b d p u h = absurd h
 
-reads_by : (a t old new : List ℕ) (r : Result (DataUrlAnswer × Bool) Refusal) → behind 44 a ≡ None → IsBytes a
+reads_by : (a t old new : List ℕ) (r : Result (DataUrlAnswer × Bool) Refusal) → after 44 a ≡ None → IsBytes a
     → IsBytes (trimmed_text (a ++ 44 ∷ t)) → IsUtf8 (a ++ 44 ∷ qq) → ReadsProbe (a ++ 44 ∷ qq) old new r → (x : List ℕ)
     (comma : ℕ) → IsUtf8 x → x ≡ a ++ 44 ∷ t → tail_after x comma ≡ trimmed_tail t → ReadsUrl x comma old new r
 reads_by a t old new (Ok found) n b d p h x comma u e f =

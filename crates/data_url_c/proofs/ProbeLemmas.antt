@@ -18,11 +18,11 @@ use Rattle.data_url.specs.Fetch.{Accepted, NoComma, NoScheme, has_base64_suffix,
 use Rattle.data_url.specs.Fetch.{plain_body, staged, tail_of}
 use Rattle.data_url.specs.Steps.Front.{HasNoScheme, IsHeaderAndTail, IsSchemeAndRest}
 use Rattle.data_url.specs.Steps.Header.{header_text}
-use Rattle.data_url.specs.Url.{before, behind, fragment, front, in_fragment_set, is_c0_control_or_space}
+use Rattle.data_url.specs.Url.{before, after, fragment, front, in_fragment_set, is_c0_control_or_space}
 use Rattle.data_url.specs.Url.{is_tab_or_newline, percent_encoding, trimmed_text, without_end, without_front}
 use Rattle.data_url.specs.Url.{without_tabs_and_newlines}
-use Rattle.data_url.proofs.api.{IsBytes, before_all, before_at, behind-append, behind-dropped_none, behind_at}
-use Rattle.data_url.proofs.api.{behind_nil, behind_other, dropped_around, dropped_keeps, dropped_nil, dropped_passes}
+use Rattle.data_url.proofs.api.{IsBytes, before_all, before_at, after-append, after-dropped_none, after_at}
+use Rattle.data_url.proofs.api.{after_nil, after_other, dropped_around, dropped_keeps, dropped_nil, dropped_passes}
 use Rattle.data_url.proofs.api.{is_accepted, is_cut, lacks, lacks_comma, rest_bytes, scheme_has_no_comma}
 use Rattle.data_url.proofs.api.{stages_accepted, stages_no_comma, stages_no_scheme, suffix_stop}
 
@@ -132,33 +132,33 @@ spelled_front x w l =
 -- a text up to its first comma, trimmed, has no scheme; or a scheme and a '#'; or a scheme and a header
 pub data Decides (a : List ℕ) : Type 0 where
   no_scheme : ((t : List ℕ) → HasNoScheme (trimmed_front a ++ 44 ∷ t)) → Decides a
-  has_hash : (s : HasScheme (trimmed_front a)) (rest : List ℕ) → behind 35 s.rest ≡ Some rest → Decides a
-  has_header : (s : HasScheme (trimmed_front a)) → behind 35 s.rest ≡ None → Decides a
+  has_hash : (s : HasScheme (trimmed_front a)) (rest : List ℕ) → after 35 s.rest ≡ Some rest → Decides a
+  has_header : (s : HasScheme (trimmed_front a)) → after 35 s.rest ≡ None → Decides a
 
 -- no byte, no part of a text without it has it
 
-none_drop : (c n : ℕ) (s : List ℕ) → behind c s ≡ None → behind c (drop n s) ≡ None
+none_drop : (c n : ℕ) (s : List ℕ) → after c s ≡ None → after c (drop n s) ≡ None
 none_drop c zero s h = h
 none_drop c (suc n) [] h = h
-none_drop c (suc n) (b ∷ s) h = none_drop c n s (lacks c b s h).behind_it
+none_drop c (suc n) (b ∷ s) h = none_drop c n s (lacks c b s h).after_it
 
-none_front : (c : ℕ) (p q : List ℕ) → behind c (p ++ q) ≡ None → behind c p ≡ None
-none_front c [] q h = behind_nil c
+none_front : (c : ℕ) (p q : List ℕ) → after c (p ++ q) ≡ None → after c p ≡ None
+none_front c [] q h = after_nil c
 none_front c (b ∷ p) q h =
-    let k = lacks c b (p ++ q) h in behind_other c b p k.here ∙ none_front c p q k.behind_it
+    let k = lacks c b (p ++ q) h in after_other c b p k.here ∙ none_front c p q k.after_it
 
-pub tail_of_cut : (a t : List ℕ) → behind 44 a ≡ None → tail_of (a ++ 44 ∷ t) ≡ Some (trimmed_tail t)
+pub tail_of_cut : (a t : List ℕ) → after 44 a ≡ None → tail_of (a ++ 44 ∷ t) ≡ Some (trimmed_tail t)
 unfolding tail_of
 tail_of_cut a t n =
-    ap (behind 44) (trimmed_around a t)
-    ∙ behind_at 44 (trimmed_front a) (trimmed_tail t) (none_drop 44 (prefix_len is_c0_control_or_space a) a n)
+    ap (after 44) (trimmed_around a t)
+    ∙ after_at 44 (trimmed_front a) (trimmed_tail t) (none_drop 44 (prefix_len is_c0_control_or_space a) a n)
 
-pub no_comma_in_scheme : behind 44 (codes "data:") ≡ None
-unfolding behind
+pub no_comma_in_scheme : after 44 (codes "data:") ≡ None
+unfolding after
 no_comma_in_scheme = refl
 
 -- a comma among the first five kept bytes is none of the scheme's
-too_short : (x w : List ℕ) → behind 44 x ≡ None → length (without_tabs_and_newlines x) ≤ 4
+too_short : (x w : List ℕ) → after 44 x ≡ None → length (without_tabs_and_newlines x) ≤ 4
     → spelled (x ++ 44 ∷ w) ≡ false
 too_short x w h l = elim (cases_Bool (spelled (x ++ 44 ∷ w))) [
   | inl e ↦
@@ -170,24 +170,24 @@ too_short x w h l = elim (cases_Bool (spelled (x ++ 44 ∷ w))) [
       let cut : take 5 (without_tabs_and_newlines (x ++ 44 ∷ w)) ≡ y ++ 44 ∷ take (4 - length y) v =
       ap (take 5) (dropped_around 44 refl x w) ∙ ap (λ n. take n (y ++ 44 ∷ v)) five
       ∙ take-append-add y (44 ∷ v) (suc (4 - length y)) in
-      let none : behind 44 (y ++ 44 ∷ take (4 - length y) v) ≡ None =
-      sym (ap (behind 44) cut) ∙ lacks_comma _ (ap (behind 44) is ∙ no_comma_in_scheme) in
-      let some = behind_at 44 y (take (4 - length y) v) (behind-dropped_none 44 refl x h) in
+      let none : after 44 (y ++ 44 ∷ take (4 - length y) v) ≡ None =
+      sym (ap (after 44) cut) ∙ lacks_comma _ (ap (after 44) is ∙ no_comma_in_scheme) in
+      let some = after_at 44 y (take (4 - length y) v) (after-dropped_none 44 refl x h) in
       absurd (let k : None ≡ Some (take (4 - length y) v) = sym none ∙ some in cc)
   | inr e ↦ e
 ]
 
-decides_by : (a : List ℕ) (s : HasScheme (trimmed_front a)) (o : Option (List ℕ)) → behind 35 s.rest ≡ o → Decides a
+decides_by : (a : List ℕ) (s : HasScheme (trimmed_front a)) (o : Option (List ℕ)) → after 35 s.rest ≡ o → Decides a
 decides_by a s None e = has_header s e
 decides_by a s (Some rest) e = has_hash s rest e
 
-decides : (a : List ℕ) → behind 44 a ≡ None → Decides a
+decides : (a : List ℕ) → after 44 a ≡ None → Decides a
 decides a h =
     let x = trimmed_front a in
-    let none : behind 44 x ≡ None = none_drop 44 (prefix_len is_c0_control_or_space a) a h in
+    let none : after 44 x ≡ None = none_drop 44 (prefix_len is_c0_control_or_space a) a h in
     elim (cases_lt 4 (length (without_tabs_and_newlines x))) [
       | inl l ↦ elim (cases_Bool (spelled x)) [
-        | inl e ↦ let s = has_scheme x e in decides_by a s (behind 35 s.rest) refl
+        | inl e ↦ let s = has_scheme x e in decides_by a s (after 35 s.rest) refl
         | inr e ↦ no_scheme (λ t. spelled_front x t (omega (arith, l)) ∙ e)
       ]
       | inr l ↦ no_scheme (λ t. too_short x t none l)
@@ -221,20 +221,20 @@ has_rest a t s = record {
   spelled = s.spelled;
 }
 
-rest_lacks_comma : (x : List ℕ) (s : HasScheme x) → behind 44 x ≡ None → behind 44 s.rest ≡ None
+rest_lacks_comma : (x : List ℕ) (s : HasScheme x) → after 44 x ≡ None → after 44 s.rest ≡ None
 rest_lacks_comma x s h =
-    sym (behind-append 44 s.scheme s.rest (scheme_has_no_comma s.scheme s.spelled)) ∙ sym (ap (behind 44) s.joined) ∙ h
+    sym (after-append 44 s.scheme s.rest (scheme_has_no_comma s.scheme s.spelled)) ∙ sym (ap (after 44) s.joined) ∙ h
 
 -- a text without a comma has none before its '#'
-front_lacks_comma : (s : List ℕ) (o : Option (List ℕ)) → behind 35 s ≡ o → behind 44 s ≡ None
-    → behind 44 (front s) ≡ None
+front_lacks_comma : (s : List ℕ) (o : Option (List ℕ)) → after 35 s ≡ o → after 44 s ≡ None
+    → after 44 (front s) ≡ None
 unfolding front
-front_lacks_comma s None e h = ap (behind 44) (before_all 35 s e) ∙ h
+front_lacks_comma s None e h = ap (after 44) (before_all 35 s e) ∙ h
 front_lacks_comma s (Some rest) e h =
-    let cut = is_cut 35 s rest e in none_front 44 (before 35 s) (35 ∷ rest) (sym (ap (behind 44) cut.joined) ∙ h)
+    let cut = is_cut 35 s rest e in none_front 44 (before 35 s) (35 ∷ rest) (sym (ap (after 44) cut.joined) ∙ h)
 
 -- nor does what follows the '#' matter
-front_stays : (s rest t : List ℕ) → behind 35 s ≡ Some rest → front (s ++ t) ≡ front s
+front_stays : (s rest t : List ℕ) → after 35 s ≡ Some rest → front (s ++ t) ≡ front s
 unfolding front
 front_stays s rest t e =
     let cut = is_cut 35 s rest e in
@@ -242,7 +242,7 @@ front_stays s rest t e =
     ∙ ap (before 35) (append_assoc (before 35 s) (35 ∷ rest) t)
     ∙ before_at 35 (before 35 s) (rest ++ t) cut.lacks
 
-accepted_with : (a t : List ℕ) (s : HasScheme (trimmed_front a)) → behind 44 s.rest ≡ None → behind 35 s.rest ≡ None
+accepted_with : (a t : List ℕ) (s : HasScheme (trimmed_front a)) → after 44 s.rest ≡ None → after 35 s.rest ≡ None
     → IsBytes (trimmed_text (a ++ 44 ∷ t))
     → IsAcceptedWith (a ++ 44 ∷ t) (header_text (without_tabs_and_newlines s.rest)) (trimmed_tail t)
 accepted_with a t s comma hash b =
@@ -261,19 +261,19 @@ accepted_with a t s comma hash b =
           (has_base64_suffix (header_text (without_tabs_and_newlines s.rest))) refl;
     }
 
-ends_by : (a : List ℕ) → behind 44 a ≡ None → Decides a → Ends a
+ends_by : (a : List ℕ) → after 44 a ≡ None → Decides a → Ends a
 ends_by a h (no_scheme n) =
     all_no_scheme (λ t. stages_no_scheme (a ++ 44 ∷ t)
     (subst HasNoScheme (sym (trimmed_around a t)) (n (trimmed_tail t))))
 ends_by a h (has_hash s rest e) =
     let comma = rest_lacks_comma (trimmed_front a) s (none_drop 44 (prefix_len is_c0_control_or_space a) a h) in
     all_no_comma (λ t b. stages_no_comma (a ++ 44 ∷ t) (s.rest ++ 44 ∷ trimmed_tail t) b (has_rest a t s)
-    (ap (behind 44) (front_stays s.rest rest (44 ∷ trimmed_tail t) e) ∙ front_lacks_comma s.rest (Some rest) e comma))
+    (ap (after 44) (front_stays s.rest rest (44 ∷ trimmed_tail t) e) ∙ front_lacks_comma s.rest (Some rest) e comma))
 ends_by a h (has_header s e) =
     let comma = rest_lacks_comma (trimmed_front a) s (none_drop 44 (prefix_len is_c0_control_or_space a) a h) in
     all_accepted (header_text (without_tabs_and_newlines s.rest)) (λ t b. accepted_with a t s comma e b)
 
-pub ends : (a : List ℕ) → behind 44 a ≡ None → Ends a
+pub ends : (a : List ℕ) → after 44 a ≡ None → Ends a
 ends a h = ends_by a h (decides a h)
 
 -- What is known of one text by another with the same front

@@ -10,12 +10,12 @@ use Rattle.std.proofs.lemmas.List.{append-nil, nil_from_length, take-append-drop
 use Rattle.data_url.specs.Base64.{complete_bytes, first_fault, is_valid, kind_of}
 use Rattle.data_url.specs.Fetch.{Bad, Good, Outcome, outcome, plain_body}
 use Rattle.data_url.specs.Laws.{GoesOn as LeftGoesOn}
-use Rattle.data_url.specs.Url.{behind}
+use Rattle.data_url.specs.Url.{after as after_first}
 use Rattle.data_url.proofs.api.{two_feeds}
 use Rattle.data_url_c.specs.Bodies.{EndsAs, GoesOn, IsGoodBody, StepsBody, body_left, ended, flag_of, more, no_text}
 use Rattle.data_url_c.specs.Bodies.{prepend}
 use Rattle.data_url_c.specs.Parts.{IsLeftOf, TakesText, WritesFront, is_good_state, waiting_text}
-use Rattle.data_url_c.specs.Steps.{EndsBehind, IsPlanned, IsWindowOf}
+use Rattle.data_url_c.specs.Steps.{EndsAfter, IsPlanned, IsWindowOf}
 use Rattle.data_url_c.specs.declared.body.DataUrlBody.{DataUrlBody}
 use Rattle.data_url_c.specs.declared.parts.DataUrlBase64.{DataUrlBase64}
 use Rattle.data_url_c.specs.declared.parts.DataUrlStep.{DataUrlStep}
@@ -44,10 +44,10 @@ no_fragment (Some r) e = absurd (cc)
 
 -- the last window holds the whole body
 pub body_last : {tail window : List ℕ} {from end : ℕ} {there : Bool} → IsWindowOf tail from window end
-    → there ≡ is_some (behind 35 window) → (there ≡ true) ⊎ (end ≡ length tail)
+    → there ≡ is_some (after_first 35 window) → (there ≡ true) ⊎ (end ≡ length tail)
     → plain_body (drop from tail) ≡ plain_body window
 body_last {tail} {window} {from} {end} h f (inl e) =
-    let r = some_fragment (behind 35 window) (sym e ∙ f) in
+    let r = some_fragment (after_first 35 window) (sym e ∙ f) in
     ap plain_body (tail_window h) ∙ body_fragment window (drop end tail) r.0 r.1
 body_last {tail} {window} {from} {end} h f (inr e) =
     let none : drop end tail ≡ [] = nil_from_length (drop end tail) (omega (arith, length-drop end tail)) in
@@ -55,14 +55,14 @@ body_last {tail} {window} {from} {end} h f (inr e) =
 
 -- any other one holds its beginning
 pub body_first : {tail window : List ℕ} {from end : ℕ} {there : Bool} → IsWindowOf tail from window end
-    → there ≡ is_some (behind 35 window) → there ≡ false → plain_body (drop from tail) ≡ plain_body window ++ plain_body
+    → there ≡ is_some (after_first 35 window) → there ≡ false → plain_body (drop from tail) ≡ plain_body window ++ plain_body
     (drop end tail)
 body_first {tail} {window} {from} {end} h f e = ap plain_body (tail_window h)
-    ∙ body_cut window (drop end tail) h.cut (no_fragment (behind 35 window) (sym e ∙ f))
+    ∙ body_cut window (drop end tail) h.cut (no_fragment (after_first 35 window) (sym e ∙ f))
 
 -- a window holds a beginning of the body
 body_begins : {tail window : List ℕ} {from end : ℕ} → IsWindowOf tail from window end → (o : Option (List ℕ))
-    → behind 35 window ≡ o → (rest : List ℕ) × (plain_body (drop from tail) ≡ plain_body window ++ rest)
+    → after_first 35 window ≡ o → (rest : List ℕ) × (plain_body (drop from tail) ≡ plain_body window ++ rest)
 body_begins {tail} {window} {from} {end} h None e = (
   plain_body (drop end tail),
   ap plain_body (tail_window h)
@@ -105,7 +105,7 @@ good_at {tail} {old} {new} {end} h from left flag edge =
 -- the last window of a plain body
 pub plain_ends : {tail window before after : List ℕ} {end len : ℕ} {there : Bool} {new : DataUrlBody}
     (old : DataUrlBody) → IsWindowOf tail old.from window end → IsGoodBody tail old → old.is_base64 ≡ 0
-    → there ≡ is_some (behind 35 window) → (there ≡ true) ⊎ (end ≡ length tail)
+    → there ≡ is_some (after_first 35 window) → (there ≡ true) ⊎ (end ≡ length tail)
     → WritesFront (plain_body window) before after len → (IsGoodBody tail new → ⊥)
     → GoesOn tail old new before after len 0
 plain_ends {tail} {window} {before} {after} {end} {len} {there} {new} old w h e f last wrote spent =
@@ -114,7 +114,7 @@ plain_ends {tail} {window} {before} {after} {end} {len} {there} {new} old w h e 
 
 -- any other one
 pub plain_more : {tail window before after : List ℕ} {end len : ℕ} {there : Bool} (old new : DataUrlBody)
-    → IsWindowOf tail old.from window end → IsGoodBody tail old → old.is_base64 ≡ 0 → there ≡ is_some (behind 35 window)
+    → IsWindowOf tail old.from window end → IsGoodBody tail old → old.is_base64 ≡ 0 → there ≡ is_some (after_first 35 window)
     → there ≡ false → (end ≡ length tail → ⊥) → WritesFront (plain_body window) before after len → new.from ≡ end
     → new.left ≡ old.left → new.is_base64 ≡ old.is_base64 → GoesOn tail old new before after len 11
 plain_more {tail} {window} {before} {after} {end} {len} old new w h e f none ne wrote from left flag =
@@ -136,7 +136,7 @@ pub base64_fault : {tail window before after : List ℕ} {end len status : ℕ} 
     → TakesText (waiting_text old.left ++ plain_body window) new.left before after status len → (status ≡ 0 → ⊥)
     → GoesOn tail old new before after len status
 base64_fault {tail} {window} {before} {after} {end} {len} {status} {new} old w l h ne =
-    let b = body_begins w (behind 35 window) refl in
+    let b = body_begins w (after_first 35 window) refl in
     let u : List ℕ = waiting_text old.left ++ plain_body window in
     let P : List ℕ → Type 0 = λ x. TakesText x new.left before after status len in
     let whole : u ++ b.0 ≡ waiting_text old.left ++ plain_body (drop old.from tail) =
@@ -149,9 +149,9 @@ base64_fault {tail} {window} {before} {after} {end} {len} {status} {new} old w l
 -- the last window
 pub base64_ends : {tail window before mid after : List ℕ} {end status n : ℕ} {there : Bool} {s : DataUrlBase64}
     {new : DataUrlBody} {r : DataUrlStep} (old : DataUrlBody) → IsWindowOf tail old.from window end → 0 < old.is_base64
-    → there ≡ is_some (behind 35 window) → (there ≡ true) ⊎ (end ≡ length tail)
+    → there ≡ is_some (after_first 35 window) → (there ≡ true) ⊎ (end ≡ length tail)
     → TakesText (waiting_text old.left ++ plain_body window) s before mid status n → status ≡ 0
-    → length mid ≡ length before → EndsBehind (waiting_text s) n mid after r → 4 * n + 3 * s.pending ≤ 4 * length before
+    → length mid ≡ length before → EndsAfter (waiting_text s) n mid after r → 4 * n + 3 * s.pending ≤ 4 * length before
     → (IsGoodBody tail new → ⊥) → GoesOn tail old new before after r.len r.status
 base64_ends {tail} {window} {before} {mid} {after} {end} {status} {n} {there} {s} {new} {r} old w l f last h z size k
     room spent =
@@ -184,7 +184,7 @@ outcome_more {u} {before} {after} {s} rest h z =
 
 -- any other window
 pub base64_more : {tail window before after : List ℕ} {end len status : ℕ} {there : Bool} (old new : DataUrlBody)
-    → IsWindowOf tail old.from window end → 0 < old.is_base64 → there ≡ is_some (behind 35 window) → there ≡ false
+    → IsWindowOf tail old.from window end → 0 < old.is_base64 → there ≡ is_some (after_first 35 window) → there ≡ false
     → (end ≡ length tail → ⊥) → TakesText (waiting_text old.left ++ plain_body window) new.left before after status len
     → status ≡ 0 → new.from ≡ end → new.is_base64 ≡ old.is_base64 → GoesOn tail old new before after len 11
 base64_more {tail} {window} {before} {after} {end} {len} old new w l f none ne h z from flag =

@@ -7,7 +7,7 @@ use Rattle.std.specs.Prelude.{IsUtf8, ◌&&◌, ◌==◌, ◌||◌, nat_lt, not,
 use Rattle.std.specs.Str.{IsCharBoundary}
 use Rattle.std.proofs.lemmas.Bool.{cases_lt, and_left, and_parts, and_right, both_ways, cases_Bool, ltb-false, ltb-true}
 use Rattle.std.proofs.lemmas.Bool.{ne_eqb}
-use Rattle.data_url.proofs.api.{before-append, before_all, behind-dropped_none, body_shorter, decoded_keeps}
+use Rattle.data_url.proofs.api.{before-append, before_all, after-dropped_none, body_shorter, decoded_keeps}
 use Rattle.data_url.proofs.api.{dropped_keeps, dropped_nil, dropped_passes, fragment_dropped, two_digits}
 use Rattle.data_url.proofs.api.{without_tabs_and_newlines-append}
 use Rattle.std.proofs.Math.Seq.{drop-length}
@@ -18,18 +18,18 @@ use Rattle.std.proofs.lemmas.Str.{IsUtf8-drop, len_utf8_bounds}
 use Rattle.std.proofs.lemmas.List.{append-nil, get_or-drop, get_or-take, nil_from_length, take-append-drop, take_more}
 use Rattle.data_url.specs.Fetch.{plain_body}
 use Rattle.data_url.specs.Percent.{percent_decoding}
-use Rattle.data_url.specs.Url.{before, behind, fragment, front, is_tab_or_newline, without_tabs_and_newlines}
+use Rattle.data_url.specs.Url.{before, after, fragment, front, is_tab_or_newline, without_tabs_and_newlines}
 use Rattle.data_url_c.specs.Steps.Windows.{BeginsWithoutDigit, IsCut, IsEscapeEnd, IsWindow, is_closed}
 
 -- nothing after the first '#' matters to what comes before it
-before_left : (d r s : List ℕ) → behind 35 d ≡ Some r → before 35 (d ++ s) ≡ before 35 d
-unfolding before behind
+before_left : (d r s : List ℕ) → after 35 d ≡ Some r → before 35 (d ++ s) ≡ before 35 d
+unfolding before after
 before_left [] r s h = absurd (cc)
 before_left (x ∷ d) r s h =
-    elim (x == 35) as (λ v. cond v (Some d) (behind 35 d) ≡ Some r → cond v [] (x ∷ before 35 (d ++ s)) ≡ cond v []
+    elim (x == 35) as (λ v. cond v (Some d) (after 35 d) ≡ Some r → cond v [] (x ∷ before 35 (d ++ s)) ≡ cond v []
     (x ∷ before 35 d)) [
       | true ↦ λ e. refl
-      | false ↦ λ (e : behind 35 d ≡ Some r). ap (λ y. x ∷ y) (before_left d r s e)
+      | false ↦ λ (e : after 35 d ≡ Some r). ap (λ y. x ∷ y) (before_left d r s e)
     ] h
 
 -- Decoding two texts
@@ -107,10 +107,10 @@ begins_before (b ∷ t) h = elim (b == 35) as (λ v. BeginsWithoutDigit (cond v 
 ]
 
 -- a window without a fragment, and then the rest of the tail
-pub body_cut : (a b : List ℕ) → IsCut a b → behind 35 a ≡ None → plain_body (a ++ b) ≡ plain_body a ++ plain_body b
+pub body_cut : (a b : List ℕ) → IsCut a b → after 35 a ≡ None → plain_body (a ++ b) ≡ plain_body a ++ plain_body b
 unfolding plain_body front
 body_cut a b h n =
-    let none : behind 35 (without_tabs_and_newlines a) ≡ None = behind-dropped_none 35 refl a n in
+    let none : after 35 (without_tabs_and_newlines a) ≡ None = after-dropped_none 35 refl a n in
     let s : List ℕ = without_tabs_and_newlines a in
     let t : List ℕ = without_tabs_and_newlines b in
     let all : before 35 (without_tabs_and_newlines (a ++ b)) ≡ s ++ before 35 t =
@@ -124,10 +124,10 @@ body_cut a b h n =
     ∙ ap (λ x. percent_decoding x ++ percent_decoding (before 35 t)) (sym alone)
 
 -- a window with a fragment holds the whole body
-pub body_fragment : (a b r : List ℕ) → behind 35 a ≡ Some r → plain_body (a ++ b) ≡ plain_body a
+pub body_fragment : (a b r : List ℕ) → after 35 a ≡ Some r → plain_body (a ++ b) ≡ plain_body a
 unfolding plain_body front fragment
 body_fragment a b r h =
-    let some : behind 35 (without_tabs_and_newlines a) ≡ Some (without_tabs_and_newlines r) = fragment_dropped a
+    let some : after 35 (without_tabs_and_newlines a) ≡ Some (without_tabs_and_newlines r) = fragment_dropped a
     ∙ ap (option_map without_tabs_and_newlines) h in
     ap percent_decoding (ap (before 35) (without_tabs_and_newlines-append a b)
     ∙ before_left (without_tabs_and_newlines a) (without_tabs_and_newlines r) (without_tabs_and_newlines b) some)

@@ -7,7 +7,7 @@ use Rattle.data_url.specs.DataUrl.{Answers, IsAcceptable, IsUrlOf, mime_of, url_
 use Rattle.data_url.specs.Fetch.{Bad, Good, Outcome, plain_body, outcome_bytes}
 use Rattle.data_url.specs.Mime.{IsRecordOf, Record, printed}
 use Rattle.data_url.specs.MimeType.{record_of}
-use Rattle.data_url.specs.Url.{behind, encoded_fragment}
+use Rattle.data_url.specs.Url.{after, encoded_fragment, number_sign}
 use Rattle.data_url.specs.declared.DataUrl.{DataUrl}
 use Rattle.data_url_c.specs.Answers.{Crosses, Given, Shows, status_of_kind}
 use Rattle.data_url_c.specs.Gives.{GivesMime, RefusesUrl}
@@ -53,9 +53,9 @@ HasText mime (Err refusal) = ⊥
 abbrev pub HasFragment : DataUrl → Given → Type 0
 HasFragment url (Ok text) =
     (bytes : List ℕ) × (url_body url ≡ Good bytes)
-    × (option_map encoded_fragment (behind 35 (url_tail url)) ≡ Some text.items)
+    × (option_map encoded_fragment (after number_sign (url_tail url)) ≡ Some text.items)
 HasFragment url (Err NoFragment) =
-    (bytes : List ℕ) × (url_body url ≡ Good bytes) × (behind 35 (url_tail url) ≡ None)
+    (bytes : List ℕ) × (url_body url ≡ Good bytes) × (after number_sign (url_tail url) ≡ None)
 HasFragment url (Err (InvalidBase64 kind none)) =
     (bytes : List ℕ) × (url_body url ≡ Bad bytes kind) × (none.items ≡ [])
 HasFragment url (Err OutOfMemory) = Unit {0}
@@ -136,7 +136,7 @@ pub record IsLast (u : List ℕ) (last : Last) : Type 0 where
 
 -- whether a text has a fragment
 abbrev pub IsFragmentThere : List ℕ → Bool → Type 0
-IsFragmentThere text there = there ≡ is_some (behind 35 text)
+IsFragmentThere text there = there ≡ is_some (after number_sign text)
 
 -- the body that a text holds was fed after what waited
 pub record FeedsBody (old new : DataUrlBase64) (text before after : List ℕ) (r : DataUrlStep)
@@ -145,7 +145,7 @@ pub record FeedsBody (old new : DataUrlBase64) (text before after : List ℕ) (r
   pub fragment : r.status ≡ 0 → IsFragmentThere text there
 
 -- the last bytes of the text u were written after the first ones, or it is not valid and nothing was
-pub record EndsBehind (u : List ℕ) (written : ℕ) (before after : List ℕ) (r : DataUrlStep)
+pub record EndsAfter (u : List ℕ) (written : ℕ) (before after : List ℕ) (r : DataUrlStep)
     : Type 0 where
   pub ended : MatchBool (is_valid u)
       ((r.status ≡ 0) × (r.len ≡ written + length (decoded u))

@@ -5,7 +5,7 @@ ghost use Rattle.data_url.specs.Fetch.{outcome, plain_body};
 ghost use Rattle.data_url.specs.Pieces.{bytes_of};
 ghost use Rattle.data_url_c.specs.Bodies.{EndsAs, GoesOn, IsGoodBody, StepsBody};
 ghost use Rattle.data_url_c.specs.Parts.{WritesFront, is_good_state, waiting_text};
-ghost use Rattle.data_url_c.specs.Steps.{EndsBehind, FeedsBody, FeedsText, IsFragmentThere, IsPlan, IsWindowOf, Writes};
+ghost use Rattle.data_url_c.specs.Steps.{EndsAfter, FeedsBody, FeedsText, IsFragmentThere, IsPlan, IsWindowOf, Writes};
 
 use crate::answer::{DONE, NOT_UTF8, OUTPUT_TOO_SMALL};
 use crate::output::push;
@@ -97,7 +97,7 @@ fn feed_body(state: &mut DataUrlBase64, text: &str, out: &mut [u8]) -> (DataUrlS
 fn end_body(state: &DataUrlBase64, written: usize, out: &mut [u8]) -> DataUrlStep
     requires good { is_good_state state.now ≡ true }
     requires room { 4 * written + 3 * state.now.pending ≤ 4 * length out.old }
-    ensures { EndsBehind (waiting_text state.now) written out.old out.new result }
+    ensures { EndsAfter (waiting_text state.now) written out.old out.new result }
 {
     let last = last_bytes(state);
     let mut len = written;

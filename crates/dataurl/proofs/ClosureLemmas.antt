@@ -16,7 +16,7 @@ use Rattle.dataurl.specs.Runs.{IsProperPrefix}
 use Rattle.dataurl.specs.declared.fault.Fault.TheVariants.{Base64, Write}
 use Rattle.dataurl.specs.declared.fault.WriteFailed.{WriteFailed}
 use Rattle.dataurl.proofs.GatherLemmas.{run_gathers}
-use Rattle.dataurl.proofs.OutputLemmas.{appends_then, beginning_behind, beginning_of}
+use Rattle.dataurl.proofs.OutputLemmas.{appends_then, beginning_after, beginning_of}
 
 -- Outputs
 
@@ -27,7 +27,7 @@ output_flushed P bytes after w k good end p e flushed = let Q : List ℕ → Typ
     all_streamed (subst Q e p)
 output_flushed P bytes after w k good end p e (not_flushed b) =
     let Q : List ℕ → Type 0 = λ s. IsProperPrefix (w ++ k) s in
-    cut_short p (subst Q (sym e) (beginning_behind w k after b))
+    cut_short p (subst Q (sym e) (beginning_after w k after b))
 
 -- a write failed before that
 pub output_stopped : (P : List ℕ → End → Type 0) (whole w k : List ℕ) (whole_end end : End) → P whole whole_end

@@ -11,7 +11,7 @@ use Rattle.dataurl.specs.Runs.{IsProperPrefix}
 use Rattle.dataurl.specs.Steps.Writing.{IsWritten, Writes}
 use Rattle.dataurl.specs.declared.fault.Fault.TheVariants.{Write}
 use Rattle.dataurl.specs.declared.fault.WriteFailed.{WriteFailed}
-use Rattle.dataurl.proofs.OutputLemmas.{appends_none, appends_then, beginning_behind, beginning_of, written_all}
+use Rattle.dataurl.proofs.OutputLemmas.{appends_none, appends_then, beginning_after, beginning_of, written_all}
 use Rattle.dataurl.proofs.OutputLemmas.{written_some}
 
 -- One piece
@@ -26,7 +26,7 @@ by_one before piece w k after (Ok tt) e z h =
     ∙ ap (λ s. (w ++ k) ++ s) (sym z)
 by_one before piece w k after (Err failed) e z h =
     let P : List ℕ → Type 0 = λ s. IsProperPrefix (w ++ k) (s ++ piece) in
-    subst P e (beginning_behind w k piece (written_some piece k (Err failed) failed refl h))
+    subst P e (beginning_after w k piece (written_some piece k (Err failed) failed refl h))
 
 -- what waited was written, and then the piece as it is; nothing waits now
 pub gathers_long : {before piece : List ℕ} {a b d : Option (List ℕ)} {r : Result (Unit {0}) WriteFailed} (n : ℕ)
@@ -98,7 +98,7 @@ then_more (Some failed) before piece rest mid after w k e h =
     let same : w ++ (mid ++ rest) ≡ before ++ (piece ++ rest) = sym (append_assoc w mid rest)
     ∙ ap (λ s. s ++ rest) (sym e) ∙ append_assoc before piece rest in
     let P : List ℕ → Type 0 = λ s. IsProperPrefix (w ++ k) s in
-    subst P same (beginning_behind w k (mid ++ rest) h)
+    subst P same (beginning_after w k (mid ++ rest) h)
 
 gather_more : (r : Result (Unit {0}) WriteFailed) (piece rest before mid after : List ℕ) (later : Option WriteFailed)
     (a b d : Option (List ℕ)) → Gathers piece before mid a b r → (IsErr r → b ≡ d) → RunGathers b d mid after rest later

@@ -24,7 +24,7 @@ use Rattle.dataurl.specs.declared.stream.Ended.TheVariants.{Decoded, ReadFailed}
 use Rattle.dataurl.specs.declared.stream.Ended.{Ended}
 use Rattle.dataurl.proofs.GatherLemmas.{run_gathers}
 use Rattle.dataurl.proofs.InputLemmas.{consumes_kept, consumes_none, consumes_then}
-use Rattle.dataurl.proofs.OutputLemmas.{appends_then, beginning_behind, beginning_of}
+use Rattle.dataurl.proofs.OutputLemmas.{appends_then, beginning_after, beginning_of}
 
 -- Reading
 
@@ -110,7 +110,7 @@ flush_ends x left all after w k whole end over p e flushed =
     complete over (subst P e p)
 flush_ends x left all after w k whole end over p e (not_flushed b) =
     let P : List ℕ → Type 0 = λ s. IsProperPrefix (w ++ k) s in
-    not_written over p (subst P (sym e) (beginning_behind w k after b))
+    not_written over p (subst P (sym e) (beginning_after w k after b))
 
 -- the last flush, of the groups before another end
 flush_stops : (x : List ℕ) (left : Option (List ℕ)) (after w k : List ℕ) (last end : End)
@@ -121,7 +121,7 @@ flush_stops x left after w k last end sound p e flushed =
     subst P e p
 flush_stops x left after w k last end sound p e (not_flushed b) =
     let P : List ℕ → Type 0 = λ s. IsProperPrefix (w ++ k) s in
-    base64_not_written sound (subst P (sym e) (beginning_behind w k after b))
+    base64_not_written sound (subst P (sym e) (beginning_after w k after b))
 
 -- the output of a text without a fault, by whether it is valid
 whole_output : (x : List ℕ) (v : Bool) → is_valid x ≡ v → first_fault x ≡ None

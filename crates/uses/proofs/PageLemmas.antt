@@ -90,20 +90,20 @@ is_reference page rest place k o r within quote none =
       rest = scheme.0;
       reference_is = ap (λ s. take k s) rest_is ∙ scheme.1;
       more = drop (suc k) rest;
-      behind_is = drop-cons rest k 0 within ∙ ap (λ b. b ∷ drop (suc k) rest) quote;
+      after_is = drop-cons rest k 0 within ∙ ap (λ b. b ∷ drop (suc k) rest) quote;
       no_quote = no_quote_before rest k within none;
       first = λ xs ys e. omega (arith, o.first xs ys e, length-take place page);
     }
 
 -- what stands behind a reference is shorter
-pub behind_shorter : {page before reference behind : List ℕ} → IsReference page before reference behind
-    → length behind < length page
-behind_shorter {page} {before} {reference} {behind} h =
+pub after_shorter : {page before reference after : List ℕ} → IsReference page before reference after
+    → length after < length page
+after_shorter {page} {before} {reference} {after} h =
     omega (
       arith,
       ap length h.joined,
-      length-append before (reference ++ behind),
-      length-append reference behind,
+      length-append before (reference ++ after),
+      length-append reference after,
       ap length h.before_is,
       length-append h.start (61 ∷ 34 ∷ []),
     )
@@ -137,14 +137,14 @@ pub record Going (page rest : List ℕ) (parts : List Part) : Type 0 where
 pub going_none : (page : List ℕ) → Going page page []
 going_none page = record { then = λ more h. h }
 
-pub going_more : {page rest before reference behind : List ℕ} {parts : List Part} (text part : Part)
-    → Going page rest parts → IsReference rest before reference behind → IsText before text → Inlines reference part
-    → Going page behind ((parts ++ text ∷ []) ++ part ∷ [])
-going_more {page} {rest} {before} {reference} {behind} {parts} text part g is t i = record {
+pub going_more : {page rest before reference after : List ℕ} {parts : List Part} (text part : Part)
+    → Going page rest parts → IsReference rest before reference after → IsText before text → Inlines reference part
+    → Going page after ((parts ++ text ∷ []) ++ part ∷ [])
+going_more {page} {rest} {before} {reference} {after} {parts} text part g is t i = record {
   then = λ more h.
       let P : List Part → Type 0 = λ ps. IsPage page ps in
       subst P (sym (append_assoc (parts ++ text ∷ []) (part ∷ []) more ∙ append_assoc parts (text ∷ []) (part ∷ more)))
-      (g.then (text ∷ part ∷ more) (before, reference, behind, is, t, i, h));
+      (g.then (text ∷ part ∷ more) (before, reference, after, is, t, i, h));
 }
 
 pub going_ends : {page rest : List ℕ} {parts : List Part} (text : Part) → Going page rest parts → IsText rest text

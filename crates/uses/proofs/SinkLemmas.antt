@@ -9,7 +9,7 @@ use Rattle.data_url.specs.Fetch.{Outcome}
 use Rattle.data_url.specs.Run.{IsPrefix}
 use Rattle.data_url.specs.declared.forgiving_base64.DecodeError.{DecodeError}
 use Rattle.data_url.specs.declared.forgiving_base64.DecodeError.TheVariants.{InvalidBase64, WriteError}
-use Rattle.data_url.proofs.api.{EndsWith, body_ends, prefix_behind, prefix_trans}
+use Rattle.data_url.proofs.api.{EndsWith, body_ends, prefix_after, prefix_trans}
 use Rattle.uses.specs.Bodies.{AnyAnswer}
 use Rattle.uses.specs.Loads.{StreamsBody, TakesWithin}
 use Rattle.uses.specs.Steps.{Writes, WritesWithin}
@@ -116,7 +116,7 @@ stops room holds limit old bytes piece OverLimit p q k s =
 stops room holds limit old bytes piece SinkFailed p q k s = record {
   bytes = bytes ++ s.1.bytes;
   taken = appends_then old (holds p) (holds q) bytes s.1.bytes k.1 s.1.taken;
-  begins = prefix_behind bytes s.1.bytes piece s.1.begins;
+  begins = prefix_after bytes s.1.bytes piece s.1.begins;
   within = omega (
     arith,
     s.0,

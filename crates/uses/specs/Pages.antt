@@ -11,14 +11,14 @@ opening = 61 ∷ 34 ∷ codes "data:"
 
 -- the first reference of a page: none is opened before it, it begins with the scheme, and it ends
 -- before the next '"'
-pub record IsReference (page before reference behind : List ℕ) : Type 0 where
-  pub joined : page ≡ before ++ (reference ++ behind)
+pub record IsReference (page before reference after : List ℕ) : Type 0 where
+  pub joined : page ≡ before ++ (reference ++ after)
   pub start : List ℕ
   pub before_is : before ≡ start ++ (61 ∷ 34 ∷ [])
   pub rest : List ℕ
   pub reference_is : reference ≡ codes "data:" ++ rest
   pub more : List ℕ
-  pub behind_is : behind ≡ 34 ∷ more
+  pub after_is : after ≡ 34 ∷ more
   pub no_quote : (xs ys : List ℕ) → reference ≢ xs ++ (34 ∷ ys)
   pub first : (xs ys : List ℕ) → page ≡ xs ++ (opening ++ ys) → length start ≤ length xs
 
@@ -50,5 +50,5 @@ abbrev pub IsPage : List ℕ → List Part → Type 0
 IsPage page [] = ⊥
 IsPage page (text ∷ []) = IsText page text × HasNoReference page
 IsPage page (text ∷ part ∷ parts) =
-    (before reference behind : List ℕ) × IsReference page before reference behind
-    × IsText before text × Inlines reference part × IsPage behind parts
+    (before reference after : List ℕ) × IsReference page before reference after
+    × IsText before text × Inlines reference part × IsPage after parts

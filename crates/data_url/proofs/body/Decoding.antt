@@ -13,11 +13,11 @@ use Rattle.data_url.specs.Steps.Tail.{IsBodyEnd}
 use Rattle.data_url.specs.DataUrl.{Decodes, HandsOut, Answers, IsUrlOf, is_base64, url_body, url_tail}
 use Rattle.data_url.specs.declared.forgiving_base64.DecodeError.TheVariants.{WriteError, InvalidBase64}
 use Rattle.data_url.proofs.forgiving_base64.Padding.{some_not_none}
-use Rattle.data_url.proofs.runs.Runs.{joined_pieces-append, match_none, refusal-append, run-append, prefix_behind}
+use Rattle.data_url.proofs.runs.Runs.{joined_pieces-append, match_none, refusal-append, run-append, prefix_after}
 use Rattle.std.specs.Char.{digit_value}
 use Rattle.data_url.specs.Base64.{decoded, complete_bytes, is_valid, kind_of, after_groups, before_place, first_fault}
 use Rattle.data_url.specs.Base64.{groups, is_symbol, rest_bytes, symbol_value, values}
-use Rattle.data_url.specs.Url.{before, without_tabs_and_newlines, front, is_tab_or_newline, behind}
+use Rattle.data_url.specs.Url.{before, without_tabs_and_newlines, front, is_tab_or_newline, after}
 use Rattle.data_url.specs.Url.{is_c0_control_or_space, trimmed_text, without_front}
 use Rattle.data_url.specs.Percent.{is_escape, percent_decoding}
 use Rattle.data_url.specs.Decoder.{Feeds, Finishes, IsAll, State, start}
@@ -524,7 +524,7 @@ body_extends {f = f} d e measure accepts refuses =
     (λ bytes p piece q k s. accepts p piece q s ∙ ap (λ x. x ++ piece) k ∙ append_assoc (measure f) bytes piece)
     (λ bytes p piece e q k s.
     let h = refuses p piece e q s in
-    (bytes ++ h.0, prefix_behind bytes h.0 piece h.1, h.2 ∙ ap (λ x. x ++ h.0) k ∙ append_assoc (measure f) bytes h.0))
+    (bytes ++ h.0, prefix_after bytes h.0 piece h.1, h.2 ∙ ap (λ x. x ++ h.0) k ∙ append_assoc (measure f) bytes h.0))
     (sym (append-nil (measure f)))
 
 -- How long a body is
@@ -584,13 +584,13 @@ body_within_tail url = omega (
   body_shorter (url_tail url),
 )
 
-behind_shorter : (c : ℕ) (s rest : List ℕ) → behind c s ≡ Some rest → length rest ≤ length s
-unfolding behind
-behind_shorter c [] rest e = absurd (let k = e in cc)
-behind_shorter c (b ∷ s) rest e =
-    elim (b == c) as (λ v. cond v (Some s) (behind c s) ≡ Some rest → length rest ≤ suc (length s)) [
+after_shorter : (c : ℕ) (s rest : List ℕ) → after c s ≡ Some rest → length rest ≤ length s
+unfolding after
+after_shorter c [] rest e = absurd (let k = e in cc)
+after_shorter c (b ∷ s) rest e =
+    elim (b == c) as (λ v. cond v (Some s) (after c s) ≡ Some rest → length rest ≤ suc (length s)) [
       | true ↦ λ (h : Some s ≡ Some rest). let same : s ≡ rest = cc in omega (arith, ap length same)
-      | false ↦ λ (h : behind c s ≡ Some rest). omega (arith, behind_shorter c s rest h)
+      | false ↦ λ (h : after c s ≡ Some rest). omega (arith, after_shorter c s rest h)
     ] e
 
 trimmed_shorter : (t : List ℕ) → length (trimmed_text t) ≤ length t
@@ -602,7 +602,7 @@ trimmed_shorter t =
 
 tail_shorter : (t tail : List ℕ) → tail_of t ≡ Some tail → length tail ≤ length t
 unfolding tail_of
-tail_shorter t tail e = omega (arith, behind_shorter 44 (trimmed_text t) tail e, trimmed_shorter t)
+tail_shorter t tail e = omega (arith, after_shorter 44 (trimmed_text t) tail e, trimmed_shorter t)
 
 -- nor more than the text of its URL
 pub body_within_text : {t : List ℕ} {url : DataUrl} → IsUrlOf t url → length (outcome_bytes (url_body url)) ≤ length t

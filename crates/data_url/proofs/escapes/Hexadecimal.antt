@@ -238,26 +238,26 @@ no_high {text} {place} n = record {
   looks_are = n.looks_are;
 }
 
-pub no_low : {text : List ℕ} {place high behind looks looks' looks'' : ℕ}
-    → DigitFound text place looks high behind looks' → NoDigit text behind looks' looks''
+pub no_low : {text : List ℕ} {place high after looks looks' looks'' : ℕ}
+    → DigitFound text place looks high after looks' → NoDigit text after looks' looks''
     → NoDigits text place looks looks''
-no_low {text} {place} {high} {behind} d n =
+no_low {text} {place} {high} {after} d n =
     let s = d.some in
     let r = d.no_percent in
     let m = d.looks_are in
     let k = n.looks_are in
     let g = n.looks_grow in
     record {
-      none_is = escape_high (drop place text) (drop behind text) high d.digit_is n.none_is;
+      none_is = escape_high (drop place text) (drop after text) high d.digit_is n.none_is;
       looks_grow =
           omega arith;
       looks_are = omega arith;
     }
 
-pub both_digits : {text : List ℕ} {place high low behind end looks looks' looks'' value : ℕ}
-    → DigitFound text place looks high behind looks' → DigitFound text behind looks' low end looks''
+pub both_digits : {text : List ℕ} {place high low after end looks looks' looks'' value : ℕ}
+    → DigitFound text place looks high after looks' → DigitFound text after looks' low end looks''
     → value ≡ high * 16 + low → DigitsFound text place looks value end looks''
-both_digits {text} {place} {high} {low} {behind} {end} {value = value} d f e =
+both_digits {text} {place} {high} {low} {after} {end} {value = value} d f e =
     let s = d.some in
     let m = d.looks_are in
     let t = f.some in
@@ -266,7 +266,7 @@ both_digits {text} {place} {high} {low} {behind} {end} {value = value} d f e =
     record {
       two = omega arith;
       within = f.within;
-      value_is = escape_both (drop place text) (drop behind text) (drop end text) high low d.digit_is f.digit_is
+      value_is = escape_both (drop place text) (drop after text) (drop end text) high low d.digit_is f.digit_is
           ∙ ap (λ x. Some (x, drop end text)) v;
       looks_are = omega arith;
     }
@@ -287,17 +287,17 @@ pub digits_no_high : {text : List ℕ} {place looks looks' : ℕ} → NoDigit te
     → NoDigits text place looks looks'
 digits_no_high n = no_high n
 
-pub digits_no_low : {text same : List ℕ} {place high behind looks looks' looks'' : ℕ} → same ≡ text
-    → DigitFound text place looks high behind looks' → NoDigit same behind looks' looks''
+pub digits_no_low : {text same : List ℕ} {place high after looks looks' looks'' : ℕ} → same ≡ text
+    → DigitFound text place looks high after looks' → NoDigit same after looks' looks''
     → NoDigits text place looks looks''
-digits_no_low {text} {same} {place} {high} {behind} {looks} {looks'} {looks''} e d n = let P : List ℕ → Type 0 =
-    λ t. NoDigit t behind looks' looks'' in no_low d (subst P e n)
+digits_no_low {text} {same} {place} {high} {after} {looks} {looks'} {looks''} e d n = let P : List ℕ → Type 0 =
+    λ t. NoDigit t after looks' looks'' in no_low d (subst P e n)
 
-pub digits_both : {text same : List ℕ} {place high low behind end looks looks' looks'' : ℕ} → same ≡ text
-    → DigitFound text place looks high behind looks' → DigitFound same behind looks' low end looks''
+pub digits_both : {text same : List ℕ} {place high low after end looks looks' looks'' : ℕ} → same ≡ text
+    → DigitFound text place looks high after looks' → DigitFound same after looks' low end looks''
     → DigitsFound text place looks (high * 16 + low) end looks''
-digits_both {text} {same} {place} {high} {low} {behind} {end} {looks} {looks'} {looks''} e d f = let P : List ℕ
-    → Type 0 = λ t. DigitFound t behind looks' low end looks'' in both_digits d (subst P e f) refl
+digits_both {text} {same} {place} {high} {low} {after} {end} {looks} {looks'} {looks''} e d f = let P : List ℕ
+    → Type 0 = λ t. DigitFound t after looks' low end looks'' in both_digits d (subst P e f) refl
 
 pub two_found : {text same : List ℕ} {place high low a b looks looks' looks'' : ℕ} → same ≡ text → IsByte text place a
     → IsByte text (place + 1) b → high ≡ digit_code a → high < 16 → low ≡ digit_code b → low < 16 → looks' ≡ looks + 1

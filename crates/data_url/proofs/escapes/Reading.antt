@@ -5,12 +5,12 @@ use Rattle.std.proofs.Common.{get_or, subst, append_assoc, arith, length-append}
 use Rattle.std.specs.Prelude.{◌==◌, ◌&&◌, slice_range}
 use Rattle.std.specs.Char.{digit_value, is_ascii_hexdigit}
 use Rattle.std.proofs.lemmas.Bool.{and_left, and_right, both_ways, cases_Bool, cond-true, cond-false, ne_eqb}
-use Rattle.data_url.specs.Url.{before, behind, without_tabs_and_newlines, front, is_tab_or_newline}
+use Rattle.data_url.specs.Url.{before, after, without_tabs_and_newlines, front, is_tab_or_newline}
 use Rattle.data_url.specs.Percent.{percent_decoding}
 use Rattle.data_url.specs.Fetch.{plain_body}
 use Rattle.data_url.specs.Pieces.{digit, escape, with_high_digit, with_low_digit}
 use Rattle.data_url.proofs.escapes.Hexadecimal.{digit_here, digit_nil, digit_tab}
-use Rattle.data_url.proofs.texts.Bytes.{before_nil, before_other, before_same, behind_other, dropped_keeps, dropped_nil}
+use Rattle.data_url.proofs.texts.Bytes.{before_nil, before_other, before_same, after_other, dropped_keeps, dropped_nil}
 use Rattle.data_url.proofs.texts.Bytes.{dropped_passes}
 use Rattle.data_url.proofs.percent.Encoding.{decoded_escape, decoded_keeps, two_digits}
 use Rattle.std.proofs.lemmas.List.{drop_more, length-drop}
@@ -37,7 +37,7 @@ record HasDigit (s : List ℕ) (value : ℕ) (rest : List ℕ) : Type 0 where
   pub hex : is_ascii_hexdigit at ≡ true
   pub value_is : digit_value at ≡ value
   pub dropped_is : without_tabs_and_newlines s ≡ at ∷ without_tabs_and_newlines rest
-  pub behind_is : behind 35 s ≡ behind 35 rest
+  pub after_is : after 35 s ≡ after 35 rest
 
 digit_at : (b : ℕ) (s : List ℕ) (value : ℕ) (rest : List ℕ) → is_tab_or_newline b ≡ false → is_ascii_hexdigit b ≡ true
     → ◌≡◌ {A = Option (ℕ × List ℕ)} (Some (digit_value b, s)) (Some (value, rest)) → HasDigit (b ∷ s) value rest
@@ -50,7 +50,7 @@ digit_at b s value rest t h e =
       hex = h;
       value_is = value_is;
       dropped_is = dropped_keeps b s t ∙ ap (λ r. b ∷ without_tabs_and_newlines r) rest_is;
-      behind_is = behind_other 35 b s (hex_no_hash b h) ∙ ap (behind 35) rest_is;
+      after_is = after_other 35 b s (hex_no_hash b h) ∙ ap (after 35) rest_is;
     }
 
 has_digit : (s : List ℕ) (value : ℕ) (rest : List ℕ) → digit s ≡ Some (value, rest) → HasDigit s value rest
@@ -64,7 +64,7 @@ has_digit (b ∷ s) value rest h = elim (cases_Bool (is_tab_or_newline b)) [
         hex = k.hex;
         value_is = k.value_is;
         dropped_is = dropped_passes b s e ∙ k.dropped_is;
-        behind_is = behind_other 35 b s (no_hash b e) ∙ k.behind_is;
+        after_is = after_other 35 b s (no_hash b e) ∙ k.after_is;
       }
   | inr e ↦ elim (cases_Bool (is_ascii_hexdigit b)) [
     | inl f ↦ digit_at b s value rest e f
@@ -97,7 +97,7 @@ record HasEscape (s : List ℕ) (value : ℕ) (rest : List ℕ) : Type 0 where
   pub low_hex : is_ascii_hexdigit low ≡ true
   pub value_is : 16 * digit_value high + digit_value low ≡ value
   pub dropped_is : without_tabs_and_newlines s ≡ high ∷ low ∷ without_tabs_and_newlines rest
-  pub behind_is : behind 35 s ≡ behind 35 rest
+  pub after_is : after 35 s ≡ after 35 rest
 
 both_digits : (s middle rest : List ℕ) (high low value : ℕ) → HasDigit s high middle → HasDigit middle low rest
     → 16 * high + low ≡ value → HasEscape s value rest
@@ -108,7 +108,7 @@ both_digits s middle rest high low value a b e = record {
   low_hex = b.hex;
   value_is = ap (λ v. 16 * v + digit_value b.at) a.value_is ∙ ap (λ v. 16 * high + v) b.value_is ∙ e;
   dropped_is = a.dropped_is ∙ ap (λ t. a.at ∷ t) b.dropped_is;
-  behind_is = a.behind_is ∙ b.behind_is;
+  after_is = a.after_is ∙ b.after_is;
 }
 
 low_cases : (s middle : List ℕ) (high value : ℕ) (rest : List ℕ) (o : Option (ℕ × List ℕ)) → HasDigit s high middle
@@ -190,8 +190,8 @@ pub body_passes : (b : ℕ) (s : List ℕ) → is_tab_or_newline b ≡ true → 
 body_passes b s h = body_of (b ∷ s) (without_tabs_and_newlines s) (dropped_passes b s h)
     ∙ sym (body_of s (without_tabs_and_newlines s) refl)
 
-pub behind_passes : (b : ℕ) (s : List ℕ) → is_tab_or_newline b ≡ true → behind 35 (b ∷ s) ≡ behind 35 s
-behind_passes b s h = behind_other 35 b s (no_hash b h)
+pub after_passes : (b : ℕ) (s : List ℕ) → is_tab_or_newline b ≡ true → after 35 (b ∷ s) ≡ after 35 s
+after_passes b s h = after_other 35 b s (no_hash b h)
 
 -- a byte that stands for itself
 keeps_byte : (b : ℕ) (s : List ℕ) → is_tab_or_newline b ≡ false → (b == 35) ≡ false
@@ -225,19 +225,19 @@ body_escape s value rest h =
     ∙ ap (λ x. x ∷ percent_decoding (before 35 (without_tabs_and_newlines rest))) e.value_is
     ∙ ap (λ t. value ∷ t) (sym (body_of rest (without_tabs_and_newlines rest) refl))
 
-pub behind_percent : (s : List ℕ) → behind 35 (37 ∷ s) ≡ behind 35 s
-behind_percent s = behind_other 35 37 s refl
+pub after_percent : (s : List ℕ) → after 35 (37 ∷ s) ≡ after 35 s
+after_percent s = after_other 35 37 s refl
 
-pub behind_escape : (s : List ℕ) (value : ℕ) (rest : List ℕ) → escape s ≡ Some (value, rest)
-    → behind 35 (37 ∷ s) ≡ behind 35 rest
-behind_escape s value rest h = let e = has_escape s value rest h in behind_percent s ∙ e.behind_is
+pub after_escape : (s : List ℕ) (value : ℕ) (rest : List ℕ) → escape s ≡ Some (value, rest)
+    → after 35 (37 ∷ s) ≡ after 35 rest
+after_escape s value rest h = let e = has_escape s value rest h in after_percent s ∙ e.after_is
 
 -- What a walk reads between two places of its text, one after the other, and the looks that are paid for.
 
 -- Reads
 
 pub reads_none : (text : List ℕ) (place : ℕ) → place ≤ length text → Reads text place place []
-reads_none text place l = record { few = omega arith; within = l; body = refl; behind_is = refl }
+reads_none text place l = record { few = omega arith; within = l; body = refl; after_is = refl }
 
 pub reads_then : {text a b : List ℕ} {from middle to : ℕ} → Reads text from middle a → Reads text middle to b
     → Reads text from to (a ++ b)
@@ -249,7 +249,7 @@ reads_then {text} {a} {b} {from} {middle} {to} r s =
       few = omega arith;
       within = s.within;
       body = r.body ∙ ap (λ t. a ++ t) s.body ∙ sym (append_assoc a b (plain_body (drop to text)));
-      behind_is = r.behind_is ∙ s.behind_is;
+      after_is = r.after_is ∙ s.after_is;
     }
 
 at_place : (text : List ℕ) (place : ℕ) → place < length text → drop place text ≡ get_or text place 0 ∷ drop
@@ -266,7 +266,7 @@ reads_passed {text} {place} l h = record {
   few = omega arith;
   within = omega arith;
   body = ap plain_body (at_place text place l) ∙ body_passes (get_or text place 0) (drop (place + 1) text) h;
-  behind_is = ap (behind 35) (at_place text place l) ∙ behind_passes (get_or text place 0) (drop (place + 1) text) h;
+  after_is = ap (after 35) (at_place text place l) ∙ after_passes (get_or text place 0) (drop (place + 1) text) h;
 }
 
 pub reads_percent : {text : List ℕ} {place : ℕ} → LonePercent text place → Reads text place (place + 1) (37 ∷ [])
@@ -277,7 +277,7 @@ reads_percent {text} {place} p =
       few = omega arith;
       within = omega arith;
       body = ap plain_body e ∙ body_percent (drop (place + 1) text) p.no_escape;
-      behind_is = ap (behind 35) e ∙ behind_percent (drop (place + 1) text);
+      after_is = ap (after 35) e ∙ after_percent (drop (place + 1) text);
     }
 
 pub reads_escape : {text : List ℕ} {place value end : ℕ} → EscapeAt text place value end
@@ -289,7 +289,7 @@ reads_escape {text} {place} {value} {end} p =
       few = omega arith;
       within = p.within;
       body = ap plain_body e ∙ body_escape (drop (place + 1) text) value (drop end text) p.value_is;
-      behind_is = ap (behind 35) e ∙ behind_escape (drop (place + 1) text) value (drop end text) p.value_is;
+      after_is = ap (after 35) e ∙ after_escape (drop (place + 1) text) value (drop end text) p.value_is;
     }
 
 -- a byte that is not marked
@@ -318,7 +318,7 @@ reads_byte {text} {place} l h =
       few = omega arith;
       within = omega arith;
       body = ap plain_body (at_place text place l) ∙ body_keeps b (drop (place + 1) text) tab hash percent;
-      behind_is = ap (behind 35) (at_place text place l) ∙ behind_other 35 b (drop (place + 1) text) hash;
+      after_is = ap (after 35) (at_place text place l) ∙ after_other 35 b (drop (place + 1) text) hash;
     }
 
 -- a stretch without marks, by how many bytes it has

@@ -11,11 +11,11 @@ use Rattle.data_url.specs.Pieces.{escape, has_ended, is_slice_end, walk_of}
 use Rattle.data_url.specs.Steps.Walk.{IsClear, Reads, Ended, EscapeAt, IsBlock, IsPassed, KeepsBlock, LonePercent}
 use Rattle.data_url.specs.Steps.Walk.{Looking, GoesOn, IsNextMark, Knows, KnowsAhead, LooksOn, Stays, Gathers, HasRoom}
 use Rattle.data_url.specs.Steps.Walk.{MayGather, Moves}
-use Rattle.data_url.specs.Url.{before, behind, front, is_tab_or_newline, without_tabs_and_newlines}
+use Rattle.data_url.specs.Url.{before, after, front, is_tab_or_newline, without_tabs_and_newlines}
 use Rattle.data_url.proofs.escapes.Reading.{unmarked_tab, paid_byte, paid_le, paid_percent, reads_clear, reads_escape}
 use Rattle.data_url.proofs.escapes.Reading.{reads_none, reads_passed, reads_percent, reads_then, ends_empty}
 use Rattle.data_url.proofs.escapes.Marks.{take_none, looking_clear}
-use Rattle.data_url.proofs.texts.Bytes.{before_all, behind_nil, behind_other, behind_same, dropped_keeps, dropped_nil}
+use Rattle.data_url.proofs.texts.Bytes.{before_all, after_nil, after_other, after_same, dropped_keeps, dropped_nil}
 use Rattle.data_url.proofs.texts.Bytes.{dropped_passes, is_cut, without_tabs_and_newlines-append}
 use Rattle.data_url.specs.Steps.Digits.{DigitsFound, NoDigits}
 use Rattle.data_url.specs.Steps.Looks.{paid_looks}
@@ -25,7 +25,7 @@ use Rattle.data_url.specs.declared.escapes.cursor.Cursor.{Cursor}
 use Rattle.data_url.specs.declared.escapes.Piece.{Piece}
 use Rattle.data_url.specs.declared.escapes.Piece.TheVariants.{Byte, Slice}
 use Rattle.data_url.specs.declared.escapes.cursor.Ahead.{Ahead}
-use Rattle.data_url.specs.declared.escapes.cursor.Ahead.TheVariants.{BehindEscape, End, Escape, Unknown}
+use Rattle.data_url.specs.declared.escapes.cursor.Ahead.TheVariants.{AfterEscape, End, Escape, Unknown}
 use Rattle.data_url.specs.Fetch.{plain_body}
 use Rattle.data_url.specs.Steps.Chunks.{IsOver, Takes}
 
@@ -131,28 +131,28 @@ without_tabs_clear text from to l w h =
 
 -- The first '#'
 
-behind_first : (b : ℕ) (s : List ℕ) → (b == 35) ≡ true → behind 35 (b ∷ s) ≡ Some s
-behind_first b s h = let e : b ≡ 35 = eqb-true b 35 h in ap (λ c. behind 35 (c ∷ s)) e ∙ behind_same 35 s
+after_first : (b : ℕ) (s : List ℕ) → (b == 35) ≡ true → after 35 (b ∷ s) ≡ Some s
+after_first b s h = let e : b ≡ 35 = eqb-true b 35 h in ap (λ c. after 35 (c ∷ s)) e ∙ after_same 35 s
 
 -- what follows the first '#' is shorter than the text
-behind_shorter : (s rest : List ℕ) → behind 35 s ≡ Some rest → length rest < length s
-behind_shorter s rest h =
+after_shorter : (s rest : List ℕ) → after 35 s ≡ Some rest → length rest < length s
+after_shorter s rest h =
     let cut = is_cut 35 s rest h in
     let e = ap length cut.joined in
     let l = length-append (before 35 s) (35 ∷ rest) in
     omega arith
 
 -- where the same follows the first '#' of a text and of its end, no '#' comes before that end
-none_before : (n : ℕ) (s : List ℕ) → behind 35 s ≡ behind 35 (drop n s) → behind 35 (take n s) ≡ None
-none_before zero s h = behind_nil 35
-none_before (suc n) [] h = behind_nil 35
+none_before : (n : ℕ) (s : List ℕ) → after 35 s ≡ after 35 (drop n s) → after 35 (take n s) ≡ None
+none_before zero s h = after_nil 35
+none_before (suc n) [] h = after_nil 35
 none_before (suc n) (b ∷ s) h = elim (cases_Bool (b == 35)) [
   | inl e ↦
-      let same : behind 35 (drop n s) ≡ Some s = sym h ∙ behind_first b s e in
-      let l = behind_shorter (drop n s) s same in
+      let same : after 35 (drop n s) ≡ Some s = sym h ∙ after_first b s e in
+      let l = after_shorter (drop n s) s same in
       let d = length-drop n s in
       absurd (omega arith)
-  | inr e ↦ behind_other 35 b (take n s) e ∙ none_before n s (sym (behind_other 35 b s e) ∙ h)
+  | inr e ↦ after_other 35 b (take n s) e ∙ none_before n s (sym (after_other 35 b s e) ∙ h)
 ]
 
 -- what a walk reads comes before the first '#'
@@ -164,7 +164,7 @@ in_front {text} {bytes} {from} {to} r =
     let d : drop (to - from) (drop from text) ≡ drop to text =
     drop-drop (to - from) from text ∙ ap (λ i. drop i text) e in
     before_all 35 (slice_range text from to)
-    (none_before (to - from) (drop from text) (r.behind_is ∙ sym (ap (behind 35) d)))
+    (none_before (to - from) (drop from text) (r.after_is ∙ sym (ap (after 35) d)))
 
 -- The steps of a walk.
 
@@ -576,7 +576,7 @@ slice_end {c0} {c} {mark} p r h n cut =
     }
 
 pub byte_here : {c0 c : Cursor} {mark value end : ℕ} → Reached c0 c mark → EscapeAt (text_of c) mark value end
-    → mark ≡ c.place → GoesOn c0 (Some (Byte value)) (record c { place = end; ahead = BehindEscape })
+    → mark ≡ c.place → GoesOn c0 (Some (Byte value)) (record c { place = end; ahead = AfterEscape })
 byte_here {c0} {c} {mark} {value} {end} r h e =
     let text : text_of c ≡ text_of c0 = r.on.text_stays in
     let P : List ℕ → Type 0 = λ x. EscapeAt x mark value end in
@@ -586,7 +586,7 @@ byte_here {c0} {c} {mark} {value} {end} r h e =
     let f = r.passed.few in
     let reads = reads_then (subst Q (sym e) r.passed) (reads_escape q) in
     record {
-      on = moved_on end BehindEscape r.on;
+      on = moved_on end AfterEscape r.on;
       reads = reads;
       piece = record {
         start = mark;
@@ -655,8 +655,8 @@ pub knows_on : {c c' : Cursor} {next : Option Piece} → Knows c → GoesOn c ne
 knows_on {c} {c'} {next} k g a =
     let text = g.on.text_stays in
     record {
-      behind_is = ap (behind 35) text ∙ k.behind_is ∙ g.reads.behind_is
-          ∙ ap (λ t. behind 35 (drop c'.place t)) (sym text);
+      after_is = ap (after 35) text ∙ k.after_is ∙ g.reads.after_is
+          ∙ ap (λ t. after 35 (drop c'.place t)) (sym text);
       ahead_is = a;
     }
 
@@ -673,7 +673,7 @@ escape_piece {text} {place} {value} {end} q = record {
 }
 
 pub byte_known : {c : Cursor} {value end : ℕ} → EscapeAt (text_of c) c.place value end
-    → GoesOn c (Some (Byte value)) (record c { place = end; ahead = BehindEscape })
+    → GoesOn c (Some (Byte value)) (record c { place = end; ahead = AfterEscape })
 byte_known {c} {value} {end} q =
     record {
       on = record { text_stays = refl; looks_grow = omega arith };
@@ -682,9 +682,9 @@ byte_known {c} {value} {end} q =
       ended = tt;
     }
 
-pub byte_behind : {c c' : Cursor} {value : ℕ} → LooksOn c c' → EscapeAt (text_of c) c.place value c'.place
+pub byte_after : {c c' : Cursor} {value : ℕ} → LooksOn c c' → EscapeAt (text_of c) c.place value c'.place
     → GoesOn c (Some (Byte value)) c'
-byte_behind {c} {c'} {value} on q =
+byte_after {c} {c'} {value} on q =
     record {
       on = on;
       reads = reads_escape q;
@@ -694,7 +694,7 @@ byte_behind {c} {c'} {value} on q =
 
 ended_cases : {c : Cursor} (a : Ahead) → KnowsAhead c a → has_ended a ≡ true → Ended c c.place
 ended_cases Unknown k e = absurd (cc)
-ended_cases BehindEscape k e = absurd (cc)
+ended_cases AfterEscape k e = absurd (cc)
 ended_cases (Escape value end) k e = absurd (cc)
 ended_cases End k e = k
 
@@ -711,21 +711,21 @@ over {c} h e = record {
   ended = e;
 }
 
-begun_fragment : (s : List ℕ) → BeginsFragment s → behind 35 s ≡ rest_fragment s
-begun_fragment [] h = behind_nil 35
-begun_fragment (b ∷ s) h = ap (λ v. behind 35 (v ∷ s)) h ∙ behind_same 35 s
+begun_fragment : (s : List ℕ) → BeginsFragment s → after 35 s ≡ rest_fragment s
+begun_fragment [] h = after_nil 35
+begun_fragment (b ∷ s) h = ap (λ v. after 35 (v ∷ s)) h ∙ after_same 35 s
 
 pub body_end : {c : Cursor} → Knows c → Ended c c.place → IsBodyEnd (text_of c) c.place
 body_end {c} k h = record {
   within = h.ends.within;
   begins = h.ends.begins;
-  behind_is = k.behind_is
+  after_is = k.after_is
       ∙ begun_fragment (drop c.place (text_of c)) h.ends.begins;
 }
 
 pub no_fragment : {c : Cursor} → Knows c → c.place ≡ length (text_of c)
-    → ◌≡◌ {A = Option (List ℕ)} None (behind 35 (text_of c))
-no_fragment {c} k e = sym (k.behind_is ∙ ap (behind 35) (drop_all c.place (text_of c) (omega arith)) ∙ behind_nil 35)
+    → ◌≡◌ {A = Option (List ℕ)} None (after 35 (text_of c))
+no_fragment {c} k e = sym (k.after_is ∙ ap (after 35) (drop_all c.place (text_of c) (omega arith)) ∙ after_nil 35)
 
 pub hash_at : {c : Cursor} → Ended c c.place → (c.place ≡ length (text_of c) → ⊥) → (c.place < length (text_of c))
     × (get_or (text_of c) c.place 0 ≡ 35)
@@ -742,10 +742,10 @@ hash_at {c} h n =
     (l, b)
 
 pub some_fragment : {c : Cursor} → Knows c → Ended c c.place → (c.place ≡ length (text_of c) → ⊥)
-    → Some (drop (c.place + 1) (text_of c)) ≡ behind 35 (text_of c)
+    → Some (drop (c.place + 1) (text_of c)) ≡ after 35 (text_of c)
 some_fragment {c} k h n =
     let at = hash_at h n in
-    sym (k.behind_is ∙ begun_fragment (drop c.place (text_of c)) h.ends.begins
+    sym (k.after_is ∙ begun_fragment (drop c.place (text_of c)) h.ends.begins
     ∙ ap rest_fragment (drop_more (text_of c) c.place 0 at.0))
 
 pub moved_looking : {c : Cursor} {place more : ℕ} (p : ℕ) (a : Ahead) → Looking c place more
@@ -901,9 +901,9 @@ may_at {c} {len} width m h l clear =
     }
 
 -- the rest of a block without marks
-pub may_behind : {c : Cursor} {len : ℕ} → MayGather c len → c.place < c.seen → IsClear (text_of c) c.place c.seen
+pub may_after : {c : Cursor} {len : ℕ} → MayGather c len → c.place < c.seen → IsClear (text_of c) c.place c.seen
     → MayGather (record c { place = c.seen; ahead = c.ahead }) (len + (c.seen - c.place))
-may_behind {c} {len} m h clear =
+may_after {c} {len} m h clear =
     let room = m.room.for_block h in
     record {
       looking = moved_looking c.seen c.ahead
@@ -978,7 +978,7 @@ again (Some p) {c} {c'} k g e =
 looks_cases : (c : Cursor) (a : Ahead) → KnowsAhead c a → c.source.looks ≤ 3 * length (text_of c)
 looks_cases c Unknown k = let l = k.looks_are_paid in let m =
     paid_le (text_of c) c.seen c.place k.block.seen_le k.within in omega arith
-looks_cases c BehindEscape k = let l = k.looks_are_paid in let m =
+looks_cases c AfterEscape k = let l = k.looks_are_paid in let m =
     paid_le (text_of c) c.seen c.place k.block.seen_le k.within in omega arith
 looks_cases c (Escape value end) k = let l = k.1.looks_are_paid in let m =
     paid_le (text_of c) c.seen end k.1.block.seen_le k.1.within in omega arith

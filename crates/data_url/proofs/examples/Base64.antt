@@ -48,9 +48,9 @@ unfolding on_literals
 whole_group_and_pad = (refl, refl, refl)
 
 -- an unexpected byte is the fault, also behind a pad
-unexpected_behind_pad : (first_fault (codes "=!") ≡ Some 1) × (kind_of (codes "=!") ≡ UnexpectedSymbol 33)
+unexpected_after_pad : (first_fault (codes "=!") ≡ Some 1) × (kind_of (codes "=!") ≡ UnexpectedSymbol 33)
 unfolding on_literals
-unexpected_behind_pad = (refl, refl)
+unexpected_after_pad = (refl, refl)
 
 above_ascii : (first_fault (255 ∷ []) ≡ Some 0) × (kind_of (255 ∷ []) ≡ UnexpectedSymbol 255)
 unfolding on_literals

@@ -1,6 +1,6 @@
 -- What examples unfold.
 use Rattle.std.specs.Prelude.{⊤}
-use Rattle.data_url.specs.Url.{after_scheme, before, behind, cleaned_text, without_tabs_and_newlines, encoded_path}
+use Rattle.data_url.specs.Url.{after_scheme, before, after, cleaned_text, without_tabs_and_newlines, encoded_path}
 use Rattle.data_url.specs.Url.{fragment, front, percent_encoding, serialised, trimmed_text}
 use Rattle.data_url.specs.Percent.{percent_decoding}
 use Rattle.data_url.specs.Base64.{after_groups, without_whitespace, decoded, complete_bytes, first_fault, groups}
@@ -13,7 +13,7 @@ use Rattle.data_url.specs.Mime.{printed}
 
 -- what an example unfolds to compute the definitions on a literal
 unfoldable pub on_literals : ⊤
-unfolding is_token is_quotable after_scheme before behind cleaned_text without_tabs_and_newlines encoded_path fragment
+unfolding is_token is_quotable after_scheme before after cleaned_text without_tabs_and_newlines encoded_path fragment
     front percent_encoding serialised trimmed_text percent_decoding after_groups without_whitespace decoded
     complete_bytes first_fault groups is_valid kind_of left_padding left_symbols without_padding values
     without_last_padding before_base64 encoded_body has_base64_suffix header_of media_of mime_text outcome staged

@@ -228,9 +228,9 @@ repeated_name = parses_x (codes ";a=1;A=2") ((codes "a", Some (codes "1")) ∷ (
     )
 
 -- what stands behind a closing quote is dropped, and does not count
-junk_behind_quote : Parses (codes "x/x;a=" ++ (34 ∷ 98 ∷ 34 ∷ 256 ∷ [])) (x_x ((codes "a", codes "b") ∷ []))
+junk_after_quote : Parses (codes "x/x;a=" ++ (34 ∷ 98 ∷ 34 ∷ 256 ∷ [])) (x_x ((codes "a", codes "b") ∷ []))
 unfolding is_unit on_literals
-junk_behind_quote = parses_x (codes ";a=" ++ (34 ∷ 98 ∷ 34 ∷ 256 ∷ [])) ((codes "a", Some (codes "b")) ∷ []) refl refl (
+junk_after_quote = parses_x (codes ";a=" ++ (34 ∷ 98 ∷ 34 ∷ 256 ∷ [])) ((codes "a", Some (codes "b")) ∷ []) refl refl (
   codes ";a=" ++ (34 ∷ 98 ∷ 34 ∷ 256 ∷ []),
   [],
   refl,

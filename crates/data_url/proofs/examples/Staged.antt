@@ -144,9 +144,9 @@ suffix_in_capitals : staged (codes "data:text/html;BASE64 ,QQ") ≡ Accepted (co
 unfolding on_literals
 suffix_in_capitals = refl
 
-suffix_behind_space : staged (codes "data:text/html; base64,QQ") ≡ Accepted (codes "text/html") (Good (codes "A")) None
+suffix_after_space : staged (codes "data:text/html; base64,QQ") ≡ Accepted (codes "text/html") (Good (codes "A")) None
 unfolding on_literals
-suffix_behind_space = refl
+suffix_after_space = refl
 
 suffix_without_semicolon : staged (codes "data:base64,QQ") ≡ Accepted (codes "base64") (Good (codes "QQ")) None
 unfolding on_literals

@@ -268,8 +268,8 @@ list_all_every [] h = refl
 list_all_every (c ∷ q) h = ap₂ (λ s t. s && t) h.0 (list_all_every q h.1)
 
 -- what is behind the first n
-pub all_behind : (n : ℕ) (q : List ℕ) → list_all is_symbol q ≡ true → list_all is_symbol (drop n q) ≡ true
-all_behind n q h = (and_parts (list_all is_symbol (take n q)) (list_all is_symbol (drop n q))
+pub all_after : (n : ℕ) (q : List ℕ) → list_all is_symbol q ≡ true → list_all is_symbol (drop n q) ≡ true
+all_after n q h = (and_parts (list_all is_symbol (take n q)) (list_all is_symbol (drop n q))
     (sym (list_all-append is_symbol (take n q) (drop n q)) ∙ ap (list_all is_symbol) (take-append-drop n q) ∙ h)).1
 
 -- the rest behind a block, moved to the front

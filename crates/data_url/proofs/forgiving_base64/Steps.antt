@@ -20,7 +20,7 @@ use Rattle.data_url.specs.Steps.Holding.{Adds, Flushes, Refuses}
 use Rattle.data_url.specs.declared.forgiving_base64.DecodeError.{DecodeError}
 use Rattle.data_url.specs.declared.forgiving_base64.DecodeError.TheVariants.{WriteError, InvalidBase64}
 use Rattle.data_url.proofs.runs.Runs.{match_none, prefix_all, joined_pieces-append, match_alike, match_at, match_map}
-use Rattle.data_url.proofs.runs.Runs.{match_at_none, prefix_behind, prefix_trans, refusal-append, run-append}
+use Rattle.data_url.proofs.runs.Runs.{match_at_none, prefix_after, prefix_trans, refusal-append, run-append}
 use Rattle.data_url.proofs.forgiving_base64.Padding.{any_of_text, before-append, before_fault, before_none, classes}
 use Rattle.data_url.proofs.forgiving_base64.Padding.{done_is, fault-append, fault_byte, fault_pads, fault_some}
 use Rattle.data_url.proofs.forgiving_base64.Padding.{fault_text, is_pad, kind_by, kind_fault, kind_is, no_fault_valid}
@@ -169,8 +169,8 @@ pub fault_symbol : (c : ℕ) → is_symbol c ≡ true → fault_byte false (c �
 fault_symbol c e = let k = symbol_alone (classes c) e in fault_one c false false false true k.0 k.1 e
 
 -- a symbol behind a pad
-pub fault_behind : (c : ℕ) → is_symbol c ≡ true → fault_byte true (c ∷ []) ≡ Some c
-fault_behind c e = let k = symbol_alone (classes c) e in fault_one c true false false true k.0 k.1 e
+pub fault_after : (c : ℕ) → is_symbol c ≡ true → fault_byte true (c ∷ []) ≡ Some c
+fault_after c e = let k = symbol_alone (classes c) e in fault_one c true false false true k.0 k.1 e
 
 pub symbols_symbol : (c : ℕ) → is_symbol c ≡ true → filter is_symbol (c ∷ []) ≡ c ∷ []
 symbols_symbol c e = filter_one is_symbol c true e
@@ -369,10 +369,10 @@ module _ {F : Type 0} where
       }
 
   -- a symbol behind a pad
-  pub refuses_behind : {d d' : State F} (c : ℕ) → Every is_symbol d.symbols → length d.symbols ≤ 3 → 1 ≤ d.padding
+  pub refuses_after : {d d' : State F} (c : ℕ) → Every is_symbol d.symbols → length d.symbols ≤ 3 → 1 ≤ d.padding
       → is_symbol c ≡ true → d' ≡ d → Refuses d c AlphabetSymbolAfterPadding d'
-  refuses_behind {d} c every few pads symbol same =
-      refuses_bad c every few (ap (λ s. fault_byte s (c ∷ [])) (has_pad_some d.padding pads) ∙ fault_behind c symbol)
+  refuses_after {d} c every few pads symbol same =
+      refuses_bad c every few (ap (λ s. fault_byte s (c ∷ [])) (has_pad_some d.padding pads) ∙ fault_after c symbol)
       same
       (ap (λ v. cond v AlphabetSymbolAfterPadding (UnexpectedSymbol c)) (sym symbol))
 
@@ -550,7 +550,7 @@ refused_on : {E : Type 0} (u all bytes whole : List ℕ) (e : E) (r : Result (Un
     → whole ≡ complete_bytes u ++ all → IsRefused all bytes e r → IsRefused whole (complete_bytes u ++ bytes) e r
 refused_on u all bytes whole e r q h = record {
   bytes_begin = prefix_trans (complete_bytes u ++ bytes) (complete_bytes u ++ all) whole
-      (prefix_behind (complete_bytes u) bytes all h.bytes_begin) (prefix_all (complete_bytes u ++ all) whole (sym q));
+      (prefix_after (complete_bytes u) bytes all h.bytes_begin) (prefix_all (complete_bytes u ++ all) whole (sym q));
   answer = h.answer;
 }
 

@@ -16,7 +16,7 @@ use Rattle.data_url.specs.declared.forgiving_base64.DecodeError.TheVariants.{Inv
 use Rattle.data_url.proofs.forgiving_base64.Steps.{bool_at_false, bool_at_true, feeds_none, feeds_goes_on, feeds_took}
 use Rattle.data_url.proofs.forgiving_base64.Groups.{two_feeds}
 use Rattle.data_url.proofs.runs.Runs.{joined_pieces-append, later_none, match_at, match_at_none, match_map, match_none}
-use Rattle.data_url.proofs.runs.Runs.{prefix_all, prefix_behind, prefix_trans, refusal-append, run-append}
+use Rattle.data_url.proofs.runs.Runs.{prefix_all, prefix_after, prefix_trans, refusal-append, run-append}
 use Rattle.data_url.proofs.forgiving_base64.Padding.{fault_byte, fault_invalid, none_fault, valid_no_fault}
 use Rattle.data_url.proofs.forgiving_base64.Padding.{some_not_none}
 
@@ -118,7 +118,7 @@ module _ {F E : Type 0} (step : F → List ℕ → Result (Unit {0}) E → F →
                         (complete_bytes u ++ joined_pieces g.run) bytes)
                         (prefix_trans (complete_bytes u ++ joined_pieces g.run)
                         (complete_bytes u ++ decoded (left_over d')) (whole_bytes u)
-                        (prefix_behind (complete_bytes u) (joined_pieces g.run) (decoded (left_over d'))
+                        (prefix_after (complete_bytes u) (joined_pieces g.run) (decoded (left_over d'))
                         w.bytes_begin)
                         (prefix_all (complete_bytes u ++ decoded (left_over d')) (whole_bytes u)
                         (sym (cond-true (is_valid u) (decoded u) (complete_bytes u) good ∙ all))));

@@ -10,7 +10,7 @@ use Rattle.std.specs.Str.{bytes_eq}
 use Rattle.std.proofs.lemmas.Bool.{agree_below_at, and_parts, both_ways, cond-false, cond_both, false_from_ne_true}
 use Rattle.std.proofs.lemmas.Bool.{leb-true}
 use Rattle.std.proofs.lemmas.List.{reverse-append, take_all}
-use Rattle.data_url.specs.Url.{after_scheme, before, behind, cleaned_text, without_tabs_and_newlines, encoded_byte}
+use Rattle.data_url.specs.Url.{after_scheme, before, after, cleaned_text, without_tabs_and_newlines, encoded_byte}
 use Rattle.data_url.specs.Url.{encoded_path, fragment, front, hex_digit, in_fragment_set, is_c0_control_or_space}
 use Rattle.data_url.specs.Url.{is_tab_or_newline, percent_encoding, serialised, trimmed_text, without_end}
 use Rattle.data_url.specs.Fetch.{before_comma, encoded_body, header_of, staged, staged_after, staged_fragment}
@@ -112,24 +112,24 @@ after_data t x h =
     subst P (sym h) refl
 
 front_comma : (x : List ℕ) → serialised (front (44 ∷ 35 ∷ x)) ≡ 44 ∷ []
-unfolding front before behind serialised encoded_path percent_encoding
+unfolding front before after serialised encoded_path percent_encoding
 front_comma x = refl
 
-fragment_behind : (x : List ℕ) → fragment (44 ∷ 35 ∷ x) ≡ Some x
-unfolding fragment behind
-fragment_behind x = refl
+fragment_after : (x : List ℕ) → fragment (44 ∷ 35 ∷ x) ≡ Some x
+unfolding fragment after
+fragment_after x = refl
 
 front_of_comma : (t x : List ℕ) → after_scheme t ≡ Some (44 ∷ 35 ∷ x) → staged_front t ≡ Some (44 ∷ [])
 unfolding staged_front
 front_of_comma t x h = ap (option_map (λ a. serialised (front a))) h ∙ ap (λ (s : List ℕ). Some s) (front_comma x)
 
 header_empty : (t : List ℕ) → staged_front t ≡ Some (44 ∷ []) → header_of t ≡ Some []
-unfolding header_of before behind
+unfolding header_of before after
 header_empty t h = ap (option_and_then before_comma) h
 
 body_empty : (t : List ℕ) → staged_front t ≡ Some (44 ∷ []) → encoded_body t ≡ Some []
-unfolding encoded_body behind
-body_empty t h = ap (option_and_then (behind 44)) h
+unfolding encoded_body after
+body_empty t h = ap (option_and_then (after 44)) h
 
 staged_again : (t x : List ℕ) → after_scheme t ≡ Some (44 ∷ 35 ∷ x)
     → staged_fragment (staged t) ≡ Some (percent_encoding in_fragment_set x)
@@ -137,7 +137,7 @@ unfolding staged
 staged_again t x h =
     let f = front_of_comma t x h in
     ap (λ a. staged_fragment (staged_after t a)) h
-    ∙ ap (λ o. staged_fragment (staged_parts o (header_of t) (encoded_body t))) (fragment_behind x)
+    ∙ ap (λ o. staged_fragment (staged_parts o (header_of t) (encoded_body t))) (fragment_after x)
     ∙ ap (λ o. staged_fragment (staged_parts (Some x) o (encoded_body t))) (header_empty t f)
     ∙ ap (λ o. staged_fragment (staged_parts (Some x) (Some []) o)) (body_empty t f)
 

@@ -13,11 +13,11 @@ use Rattle.std.proofs.lemmas.Slice.Eq.{bytes_eq-Decides, starts_is}
 use Rattle.std.specs.List.{starts_with, position_or_len, prefix_len}
 use Rattle.std.proofs.lemmas.Bool.Decides.{Decides-eqb}
 use Rattle.std.proofs.lemmas.Str.{IsCharBoundary-from_take, IsUtf8-from_ascii}
-use Rattle.data_url.specs.Url.{without_tabs_and_newlines, is_tab_or_newline, before, behind, front}
+use Rattle.data_url.specs.Url.{without_tabs_and_newlines, is_tab_or_newline, before, after, front}
 use Rattle.data_url.specs.Steps.Front.{HasNoScheme, IsSchemeAndRest, IsHeaderAndTail, ends_header, is_plain_path}
 use Rattle.data_url.proofs.percent.Encoding.{ascii_all, Plain, plain_byte, plain_serialised}
 use Rattle.data_url.proofs.texts.Bytes.{append-nil, without_tabs_and_newlines-append, dropped_keeps, dropped_nil}
-use Rattle.data_url.proofs.texts.Bytes.{dropped_passes, before_all, before_at, behind_none}
+use Rattle.data_url.proofs.texts.Bytes.{dropped_passes, before_all, before_at, after_none}
 use Rattle.std.specs.Prelude.{◌==◌, ◌||◌, nat_lt}
 use Rattle.std.proofs.lemmas.List.Quantifiers.{position-Some}
 use Rattle.std.proofs.lemmas.List.Sums.{fails_before_first, prefix_len_passes}
@@ -147,8 +147,8 @@ common_scheme text rest h e = record {
 
 -- a text without the byte at the places below n lacks it before n
 lacks_in_take : (c : ℕ) (s : List ℕ) (n : ℕ) → ((k : ℕ) → k < n → (get_or s k 0 == c) ≡ false)
-    → behind c (take n s) ≡ None
-lacks_in_take c s n h = behind_none c (take n s) (λ k l.
+    → after c (take n s) ≡ None
+lacks_in_take c s n h = after_none c (take n s) (λ k l.
     let below : k < n = omega (arith, length-take n s) in
     ap (λ v. v == c) (get_or-take n s k 0 below) ∙ h k below)
 
@@ -159,8 +159,8 @@ cut_at s n l = sym (take-append-drop n s) ∙ ap (λ t. take n s ++ t) (drop_mor
 pub record IsFrontEnd (s : List ℕ) (n : ℕ) : Type 0 where
   pub within : n < length s
   pub is : (get_or s n 0 ≡ 44) ⊎ (get_or s n 0 ≡ 35)
-  pub no_comma : behind 44 (take n s) ≡ None
-  pub no_hash : behind 35 (take n s) ≡ None
+  pub no_comma : after 44 (take n s) ≡ None
+  pub no_hash : after 35 (take n s) ≡ None
 
 -- neither stands before the place
 abbrev pub NoEndBefore : List ℕ → ℕ → Type 0
@@ -199,17 +199,17 @@ at_comma s n f ne =
     }
 
 -- a '#' comes first
-pub at_hash : (s : List ℕ) (n : ℕ) → IsFrontEnd s n → get_or s n 0 ≡ 35 → behind 44 (front s) ≡ None
+pub at_hash : (s : List ℕ) (n : ℕ) → IsFrontEnd s n → get_or s n 0 ≡ 35 → after 44 (front s) ≡ None
 unfolding front
 at_hash s n f h =
     let parts : s ≡ take n s ++ 35 ∷ drop (n + 1) s = cut_at s n f.within
     ∙ ap (λ b. take n s ++ b ∷ drop (n + 1) s) h in
-    ap (λ x. behind 44 (before 35 x)) parts ∙ ap (behind 44) (before_at 35 (take n s) (drop (n + 1) s) f.no_hash)
+    ap (λ x. after 44 (before 35 x)) parts ∙ ap (after 44) (before_at 35 (take n s) (drop (n + 1) s) f.no_hash)
     ∙ f.no_comma
 
 -- neither is there
 pub at_none : (s : List ℕ) (m : ℕ) → NoEndBefore s m → position ends_header (drop m s) ≡ None
-    → behind 44 (front s) ≡ None
+    → after 44 (front s) ≡ None
 unfolding front
 at_none s m h e =
     let rest = drop m s in
@@ -223,9 +223,9 @@ at_none s m h e =
     (cases_lt (position_or_len ends_header rest) (length rest))) in
     let all = further_on s m (length rest) h none in
     let fails : NoEndBefore s (length s) = λ k l. all k (omega (arith, length-drop m s)) in
-    let no_comma = behind_none 44 s (λ k l. (or_parts (get_or s k 0 == 44) (get_or s k 0 == 35) (fails k l)).0) in
-    let no_hash = behind_none 35 s (λ k l. (or_parts (get_or s k 0 == 44) (get_or s k 0 == 35) (fails k l)).1) in
-    ap (behind 44) (before_all 35 s no_hash) ∙ no_comma
+    let no_comma = after_none 44 s (λ k l. (or_parts (get_or s k 0 == 44) (get_or s k 0 == 35) (fails k l)).0) in
+    let no_hash = after_none 35 s (λ k l. (or_parts (get_or s k 0 == 44) (get_or s k 0 == 35) (fails k l)).1) in
+    ap (after 44) (before_all 35 s no_hash) ∙ no_comma
 
 pub is_ascii_end : (s : List ℕ) (n : ℕ) → IsFrontEnd s n → get_or s n 0 < 128
 is_ascii_end s n f = ⊎_elim (λ h. omega arith) (λ h. omega arith) f.is
@@ -269,7 +269,7 @@ front_end_at s items n k r e f h p g = front_end_from s n k (no_end_ahead s item
 
 pub no_front_end : (s items : List ℕ) (n : ℕ) (r : Option ℕ) → items ≡ s → n ≡ prefix_len is_plain_path items
     → FitsBytes s → r ≡ position ends_header (take (length items - n) (drop n items)) → r ≡ None
-    → behind 44 (front s) ≡ None
+    → after 44 (front s) ≡ None
 no_front_end s items n r e f h p g = at_none s n (no_end_ahead s items n e f h) (ends_ahead s items n r e p ∙ g)
 
 -- what stands before the comma where it comes right behind the plain bytes

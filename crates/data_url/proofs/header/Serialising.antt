@@ -11,15 +11,15 @@ use Rattle.std.proofs.lemmas.List.{append-nil, drop_all, drop_more, get_or-drop,
 use Rattle.std.proofs.lemmas.List.{length-drop, length-reverse, length-take, take-append-drop, drop-append-le}
 use Rattle.std.proofs.lemmas.List.{take_more}
 use Rattle.std.proofs.lemmas.List.Sums.{prefix_len_passes, prefix_len_stops, suffix_len-le-length}
-use Rattle.data_url.specs.Url.{before, behind, without_tabs_and_newlines, encoded_byte, encoded_path, hex_digit}
+use Rattle.data_url.specs.Url.{before, after, without_tabs_and_newlines, encoded_byte, encoded_path, hex_digit}
 use Rattle.data_url.specs.Url.{in_path_end_set, in_path_set, in_query_set, is_tab_or_newline, percent_encoding}
 use Rattle.data_url.specs.Url.{after_scheme, cleaned_text, is_c0_control_or_space, serialised, trimmed_text, with_query}
 use Rattle.data_url.specs.Url.{without_end, without_front}
 use Rattle.data_url.specs.Steps.Header.{HasNoLastSpace, IsPathAndQuery, WithoutSpace, encoded_parts, header_parts}
 use Rattle.data_url.specs.Steps.Header.{header_text, is_no_question_mark}
-use Rattle.data_url.proofs.texts.Bytes.{before_all, before_at, behind-dropped_none, behind_at, behind_none}
+use Rattle.data_url.proofs.texts.Bytes.{before_all, before_at, after-dropped_none, after_at, after_none}
 use Rattle.data_url.proofs.texts.Bytes.{without_tabs_and_newlines-append, dropped_around, dropped_keeps, dropped_nil}
-use Rattle.data_url.proofs.texts.Bytes.{dropped_passes, before-append, behind-append, before_other, behind_other}
+use Rattle.data_url.proofs.texts.Bytes.{dropped_passes, before-append, after-append, before_other, after_other}
 use Rattle.data_url.proofs.texts.Bytes.{is_cut}
 use Rattle.data_url.proofs.percent.Encoding.{encoded_cons, encoded_nil, path_cons, path_nil, percent_encoding-append}
 use Rattle.std.specs.Option.{option_map}
@@ -125,38 +125,38 @@ has_no_end s m e all =
 -- The parts of a header
 
 -- without a query
-header_alone : (path : List ℕ) → behind 63 path ≡ None → header_text (without_tabs_and_newlines path)
+header_alone : (path : List ℕ) → after 63 path ≡ None → header_text (without_tabs_and_newlines path)
     ≡ percent_encoding in_path_set (without_tabs_and_newlines path)
 unfolding header_text
 header_alone path h =
-    let lacks = behind-dropped_none 63 refl path h in
+    let lacks = after-dropped_none 63 refl path h in
     ap (header_parts (before 63 (without_tabs_and_newlines path))) lacks
     ∙ ap (percent_encoding in_path_set) (before_all 63 (without_tabs_and_newlines path) lacks)
 
 -- with one
-header_and_query : (path rest : List ℕ) → behind 63 path ≡ None
+header_and_query : (path rest : List ℕ) → after 63 path ≡ None
     → header_text (without_tabs_and_newlines (path ++ 63 ∷ rest)) ≡ encoded_path
     (without_tabs_and_newlines path) ++ percent_encoding in_query_set (without_tabs_and_newlines (63 ∷ rest))
 unfolding header_text
 header_and_query path rest h =
-    let lacks = behind-dropped_none 63 refl path h in
+    let lacks = after-dropped_none 63 refl path h in
     let query : percent_encoding in_query_set (without_tabs_and_newlines (63 ∷ rest)) ≡ 63 ∷ percent_encoding
     in_query_set (without_tabs_and_newlines rest) = ap (percent_encoding in_query_set) (dropped_keeps 63 rest refl)
     ∙ encoded_cons in_query_set 63 (without_tabs_and_newlines rest) in
     let whole : without_tabs_and_newlines (path ++ 63 ∷ rest) ≡ without_tabs_and_newlines
     path ++ 63 ∷ without_tabs_and_newlines rest = without_tabs_and_newlines-append path (63 ∷ rest)
     ∙ ap (λ s. without_tabs_and_newlines path ++ s) (dropped_keeps 63 rest refl) in
-    ap (λ s. header_parts (before 63 s) (behind 63 s)) whole
-    ∙ ap (λ p. header_parts p (behind 63 (without_tabs_and_newlines path ++ 63 ∷ without_tabs_and_newlines rest)))
+    ap (λ s. header_parts (before 63 s) (after 63 s)) whole
+    ∙ ap (λ p. header_parts p (after 63 (without_tabs_and_newlines path ++ 63 ∷ without_tabs_and_newlines rest)))
     (before_at 63 (without_tabs_and_newlines path) (without_tabs_and_newlines rest) lacks)
-    ∙ ap (header_parts (without_tabs_and_newlines path)) (behind_at 63 (without_tabs_and_newlines path)
+    ∙ ap (header_parts (without_tabs_and_newlines path)) (after_at 63 (without_tabs_and_newlines path)
     (without_tabs_and_newlines rest) lacks)
     ∙ ap (λ s. encoded_path (without_tabs_and_newlines path) ++ s) (sym query)
 
 -- nothing behind a path
-nothing_behind : (path : List ℕ) → encoded_parts path [] [] ≡ percent_encoding in_path_set
+nothing_after : (path : List ℕ) → encoded_parts path [] [] ≡ percent_encoding in_path_set
     (without_tabs_and_newlines path)
-nothing_behind path = ap (λ s. percent_encoding in_path_set (without_tabs_and_newlines path) ++ s)
+nothing_after path = ap (λ s. percent_encoding in_path_set (without_tabs_and_newlines path) ++ s)
     (ap (percent_encoding in_query_set) dropped_nil ∙ encoded_nil in_query_set) ∙ append-nil _
 
 -- no bytes, or some
@@ -176,7 +176,7 @@ pub parts_whole : (header path query : List ℕ) → IsPathAndQuery header path 
     → encoded_parts path [] query ≡ header_text (without_tabs_and_newlines header)
 parts_whole header path query h end = ⊎_elim
     (λ none.
-    ap (encoded_parts path []) none ∙ nothing_behind path ∙ sym (header_alone path h.path_ends)
+    ap (encoded_parts path []) none ∙ nothing_after path ∙ sym (header_alone path h.path_ends)
     ∙ ap (λ s. header_text (without_tabs_and_newlines s)) (sym (h.joined ∙ ap (λ s. path ++ s) none ∙ append-nil path)))
     (λ some.
     ⊎_elim
@@ -217,7 +217,7 @@ pub cut_at_query : (text : List ℕ) (n : ℕ) → n ≡ prefix_len is_no_questi
     → IsPathAndQuery text (take n text) (drop n text)
 cut_at_query text n e = record {
   joined = sym (take-append-drop n text);
-  path_ends = behind_none 63 (take n text) (λ k l.
+  path_ends = after_none 63 (take n text) (λ k l.
       let below : k < n = omega (arith, length-take n text) in
       ap (λ v. v == 63) (get_or-take n text k 0 below)
       ∙ is_false _ (prefix_len_passes is_no_question_mark text k 0 (subst (λ m. k < m) e below)));
@@ -331,13 +331,13 @@ data HasLast (s : List ℕ) : Type 0 where
   without_last : s ≡ [] → HasLast s
   with_last : (init : List ℕ) (b : ℕ) → s ≡ init ++ b ∷ [] → HasLast s
 
-last_behind : (b : ℕ) (s : List ℕ) → HasLast s → HasLast (b ∷ s)
-last_behind b s (without_last e) = with_last [] b (ap (λ t. b ∷ t) e)
-last_behind b s (with_last init c e) = with_last (b ∷ init) c (ap (λ t. b ∷ t) e)
+last_after : (b : ℕ) (s : List ℕ) → HasLast s → HasLast (b ∷ s)
+last_after b s (without_last e) = with_last [] b (ap (λ t. b ∷ t) e)
+last_after b s (with_last init c e) = with_last (b ∷ init) c (ap (λ t. b ∷ t) e)
 
 has_last : (s : List ℕ) → HasLast s
 has_last [] = without_last refl
-has_last (b ∷ s) = last_behind b s (has_last s)
+has_last (b ∷ s) = last_after b s (has_last s)
 
 space_encoded : percent_encoding in_path_set (32 ∷ []) ≡ 32 ∷ []
 space_encoded = encoded_cons in_path_set 32 [] ∙ ap (λ t. 32 ∷ t) (encoded_nil in_path_set)
@@ -360,29 +360,29 @@ differs_by path (with_last init b e) = differs_last path init b e
 -- The flag of a text whose first comma is known
 
 -- nothing after the first comma changes the header
-comma_before : (x y rest : List ℕ) → behind 44 x ≡ Some rest → before_comma (x ++ y) ≡ Some (before 44 x)
+comma_before : (x y rest : List ℕ) → after 44 x ≡ Some rest → before_comma (x ++ y) ≡ Some (before 44 x)
 comma_before x y rest h =
     let cut = is_cut 44 x rest h in
     let joined : x ++ y ≡ before 44 x ++ 44 ∷ (rest ++ y) =
     ap (λ t. t ++ y) cut.joined ∙ append_assoc (before 44 x) (44 ∷ rest) y in
-    let found : behind 44 (x ++ y) ≡ Some (rest ++ y) =
-    ap (behind 44) joined ∙ behind_at 44 (before 44 x) (rest ++ y) cut.lacks in
+    let found : after 44 (x ++ y) ≡ Some (rest ++ y) =
+    ap (after 44) joined ∙ after_at 44 (before 44 x) (rest ++ y) cut.lacks in
     let front : before 44 (x ++ y) ≡ before 44 x =
     ap (before 44) joined ∙ before_at 44 (before 44 x) (rest ++ y) cut.lacks in
     ap (option_map (λ r. before 44 (x ++ y))) found ∙ ap Some front
 
 -- the header of a text whose first comma, if there is one, comes after its '?'
-comma_after : (u query : List ℕ) → behind 44 u ≡ None → (o : Option (List ℕ)) → behind 44 query ≡ o
+comma_after : (u query : List ℕ) → after 44 u ≡ None → (o : Option (List ℕ)) → after 44 query ≡ o
     → before_comma (u ++ 63 ∷ query) ≡ option_map (λ r. u ++ 63 ∷ before 44 query) o
 comma_after u query h o e =
-    let found : behind 44 (u ++ 63 ∷ query) ≡ o = behind-append 44 u (63 ∷ query) h ∙ behind_other 44 63 query refl
+    let found : after 44 (u ++ 63 ∷ query) ≡ o = after-append 44 u (63 ∷ query) h ∙ after_other 44 63 query refl
     ∙ e in
     let front : before 44 (u ++ 63 ∷ query) ≡ u ++ 63 ∷ before 44 query =
     before-append 44 u (63 ∷ query) h ∙ ap (λ t. u ++ t) (before_other 44 63 query refl) in
     ap (option_map (λ r. before 44 (u ++ 63 ∷ query))) found ∙ ap (λ t. option_map (λ r. t) o) front
 
-flag_after : (u v query : List ℕ) → behind 44 u ≡ None → behind 44 v ≡ None → (o : Option (List ℕ))
-    → behind 44 query ≡ o
+flag_after : (u v query : List ℕ) → after 44 u ≡ None → after 44 v ≡ None → (o : Option (List ℕ))
+    → after 44 query ≡ o
     → base64_flag (u ++ 63 ∷ query) ≡ base64_flag (v ++ 63 ∷ query)
 flag_after u v query h k None e =
     ap (option_map has_base64_suffix) (comma_after u query h None e ∙ sym (comma_after v query k None e))
@@ -391,21 +391,21 @@ flag_after u v query h k (Some rest) e =
     ∙ ap Some (same_flag u v (before 44 query))
     ∙ sym (ap (option_map has_base64_suffix) (comma_after v query k (Some rest) e))
 
-no_comma_in_escape : behind 44 (codes "%20") ≡ None
-unfolding behind
+no_comma_in_escape : after 44 (codes "%20") ≡ None
+unfolding after
 no_comma_in_escape = refl
 
-no_comma_in_space : behind 44 (codes " ") ≡ None
-unfolding behind
+no_comma_in_space : after 44 (codes " ") ≡ None
+unfolding after
 no_comma_in_space = refl
 
 -- the flag of a path that ends with "%20" or with a space, before its query
-flag_of_query : (x query : List ℕ) (o : Option (List ℕ)) → behind 44 x ≡ o
+flag_of_query : (x query : List ℕ) (o : Option (List ℕ)) → after 44 x ≡ o
     → base64_flag ((x ++ codes "%20") ++ 63 ∷ query) ≡ base64_flag ((x ++ codes " ") ++ 63 ∷ query)
 flag_of_query x query None e =
     flag_after (x ++ codes "%20") (x ++ codes " ") query
-    (behind-append 44 x (codes "%20") e ∙ no_comma_in_escape) (behind-append 44 x (codes " ") e ∙ no_comma_in_space)
-    (behind 44 query) refl
+    (after-append 44 x (codes "%20") e ∙ no_comma_in_escape) (after-append 44 x (codes " ") e ∙ no_comma_in_space)
+    (after 44 query) refl
 flag_of_query x query (Some rest) e =
     let one = append_assoc x (codes "%20") (63 ∷ query) in
     let two = append_assoc x (codes " ") (63 ∷ query) in
@@ -414,11 +414,11 @@ flag_of_query x query (Some rest) e =
     ∙ sym (ap before_comma two ∙ comma_before x (codes " " ++ 63 ∷ query) rest e))
 
 -- the flag of such a path without a query
-flag_of_path : (x : List ℕ) (o : Option (List ℕ)) → behind 44 x ≡ o
+flag_of_path : (x : List ℕ) (o : Option (List ℕ)) → after 44 x ≡ o
     → base64_flag (x ++ codes "%20") ≡ base64_flag (x ++ codes " ")
 flag_of_path x None e =
-    let one : behind 44 (x ++ codes "%20") ≡ None = behind-append 44 x (codes "%20") e ∙ no_comma_in_escape in
-    let two : behind 44 (x ++ codes " ") ≡ None = behind-append 44 x (codes " ") e ∙ no_comma_in_space in
+    let one : after 44 (x ++ codes "%20") ≡ None = after-append 44 x (codes "%20") e ∙ no_comma_in_escape in
+    let two : after 44 (x ++ codes " ") ≡ None = after-append 44 x (codes " ") e ∙ no_comma_in_space in
     ap (option_map has_base64_suffix)
     (ap (option_map (λ r. before 44 (x ++ codes "%20"))) one
     ∙ sym (ap (option_map (λ r. before 44 (x ++ codes " "))) two))
@@ -429,13 +429,13 @@ flag_by : (path : List ℕ) (o : Option (List ℕ)) → Differs path
     → base64_flag (with_query path o) ≡ base64_flag (with_query_and_spaces path o)
 flag_by path None (same_path e) = ap base64_flag e
 flag_by path (Some query) (same_path e) = ap (λ t. base64_flag (t ++ 63 ∷ percent_encoding in_query_set query)) e
-flag_by path None (last_space x e f) = ap base64_flag e ∙ flag_of_path x (behind 44 x) refl ∙ sym (ap base64_flag f)
+flag_by path None (last_space x e f) = ap base64_flag e ∙ flag_of_path x (after 44 x) refl ∙ sym (ap base64_flag f)
 flag_by path (Some query) (last_space x e f) =
     let q = percent_encoding in_query_set query in
-    ap (λ t. base64_flag (t ++ 63 ∷ q)) e ∙ flag_of_query x q (behind 44 x) refl
+    ap (λ t. base64_flag (t ++ 63 ∷ q)) e ∙ flag_of_query x q (after 44 x) refl
     ∙ sym (ap (λ t. base64_flag (t ++ 63 ∷ q)) f)
 
 -- the flag is the same by both rules
 pub flag_of_spaces : (s : List ℕ) → base64_flag (serialised s) ≡ base64_flag (serialised_with_spaces s)
 unfolding serialised
-flag_of_spaces s = flag_by (before 63 s) (behind 63 s) (differs_by (before 63 s) (has_last (before 63 s)))
+flag_of_spaces s = flag_by (before 63 s) (after 63 s) (differs_by (before 63 s) (has_last (before 63 s)))

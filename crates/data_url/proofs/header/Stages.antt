@@ -9,7 +9,7 @@ use Rattle.std.proofs.lemmas.Bool.{cases_Bool, cases_lt, cond_both, eqb-false, l
 use Rattle.std.proofs.lemmas.Bool.{cond-true, cond-false, both_ways, ne_eqb, eq-eqb}
 use Rattle.std.proofs.lemmas.List.{get_or-drop, get_or-reverse, get_or-take, get_or_past, length-drop, length-reverse}
 use Rattle.std.proofs.lemmas.List.{length-take, drop_at, length-map, take_at, drop_all, drop_more}
-use Rattle.data_url.specs.Url.{before, behind, encoded_byte, hex_digit, in_path_set, in_query_set}
+use Rattle.data_url.specs.Url.{before, after, encoded_byte, hex_digit, in_path_set, in_query_set}
 use Rattle.data_url.specs.Url.{is_c0_control_or_space, percent_encoding, trimmed_text, without_end, after_scheme}
 use Rattle.data_url.specs.Url.{cleaned_text, without_tabs_and_newlines, fragment, front, is_tab_or_newline, serialised}
 use Rattle.data_url.specs.Url.{in_fragment_set}
@@ -26,8 +26,8 @@ use Rattle.std.specs.Char.{to_ascii_lowercase}
 use Rattle.std.proofs.lemmas.Slice.Eq.{bytes_eq-Decides}
 use Rattle.data_url.specs.Percent.{percent_decoding}
 use Rattle.data_url.specs.Steps.Front.{HasNoScheme, IsHeaderAndTail, IsSchemeAndRest}
-use Rattle.data_url.proofs.texts.Bytes.{before-append, before_nil, before_other, before_same, behind-append}
-use Rattle.data_url.proofs.texts.Bytes.{behind-dropped_none, behind_at, behind_nil, behind_other}
+use Rattle.data_url.proofs.texts.Bytes.{before-append, before_nil, before_other, before_same, after-append}
+use Rattle.data_url.proofs.texts.Bytes.{after-dropped_none, after_at, after_nil, after_other}
 use Rattle.data_url.proofs.texts.Bytes.{without_tabs_and_newlines-append, dropped_around, dropped_keeps, dropped_nil}
 use Rattle.data_url.proofs.texts.Bytes.{dropped_passes, lacks}
 use Rattle.std.proofs.lemmas.Str.{chars-IsAscii}
@@ -104,9 +104,9 @@ header_all (b ∷ s) h = elim (cases_Bool (b == 63)) [
             h.1,
       ))
   | inr e ↦
-      let set = header_byte_set (before 63 s) (behind 63 s) in
+      let set = header_byte_set (before 63 s) (after 63 s) in
       subst printable (sym (header_path b s e)) (printable_append (encoded_byte set b) (header_text s)
-      (byte_printable set (outside_header_byte (before 63 s) (behind 63 s)) b h.0) (header_all s h.1))
+      (byte_printable set (outside_header_byte (before 63 s) (after 63 s)) b h.0) (header_all s h.1))
 ]
 
 printable_at : (s : List ℕ) → printable s → IsPrintable s
@@ -200,32 +200,32 @@ lowercase_comma : (b : ℕ) → (to_ascii_lowercase b == 44) ≡ false → (b ==
 lowercase_comma b h =
     ne_eqb b 44 (λ (e : b ≡ 44). both_ways (to_ascii_lowercase b == 44) h (ap (λ v. to_ascii_lowercase v == 44) e))
 
-pub lacks_comma : (d : List ℕ) → behind 44 (map to_ascii_lowercase d) ≡ None → behind 44 d ≡ None
+pub lacks_comma : (d : List ℕ) → after 44 (map to_ascii_lowercase d) ≡ None → after 44 d ≡ None
 lacks_comma [] h = h
 lacks_comma (b ∷ d) h = let l = lacks 44 (to_ascii_lowercase b) (map to_ascii_lowercase d) h in
-    behind_other 44 b d (lowercase_comma b l.here) ∙ lacks_comma d l.behind_it
+    after_other 44 b d (lowercase_comma b l.here) ∙ lacks_comma d l.after_it
 
 lacks_before_dropping : (c : ℕ) → is_tab_or_newline c ≡ false → (s : List ℕ)
-    → behind c (without_tabs_and_newlines s) ≡ None → behind c s ≡ None
-lacks_before_dropping c k [] h = behind_nil c
+    → after c (without_tabs_and_newlines s) ≡ None → after c s ≡ None
+lacks_before_dropping c k [] h = after_nil c
 lacks_before_dropping c k (b ∷ s) h = elim (cases_Bool (is_tab_or_newline b)) [
   | inl e ↦
       let other : (b == c) ≡ false =
       ne_eqb b c (λ (f : b ≡ c). both_ways (is_tab_or_newline b) (ap is_tab_or_newline f ∙ k) e) in
-      behind_other c b s other ∙ lacks_before_dropping c k s (sym (ap (behind c) (dropped_passes b s e)) ∙ h)
+      after_other c b s other ∙ lacks_before_dropping c k s (sym (ap (after c) (dropped_passes b s e)) ∙ h)
   | inr e ↦
-      let l = lacks c b (without_tabs_and_newlines s) (sym (ap (behind c) (dropped_keeps b s e)) ∙ h) in
-      behind_other c b s l.here ∙ lacks_before_dropping c k s l.behind_it
+      let l = lacks c b (without_tabs_and_newlines s) (sym (ap (after c) (dropped_keeps b s e)) ∙ h) in
+      after_other c b s l.here ∙ lacks_before_dropping c k s l.after_it
 ]
 
-abbrev scheme_lacks : behind 44 (codes "data:") ≡ None
-unfolding behind
+abbrev scheme_lacks : after 44 (codes "data:") ≡ None
+unfolding after
 scheme_lacks = refl
 
 pub scheme_has_no_comma : (scheme : List ℕ) → map to_ascii_lowercase (without_tabs_and_newlines scheme) ≡ codes "data:"
-    → behind 44 scheme ≡ None
+    → after 44 scheme ≡ None
 scheme_has_no_comma scheme e =
-    lacks_before_dropping 44 refl scheme (lacks_comma (without_tabs_and_newlines scheme) (ap (behind 44) e
+    lacks_before_dropping 44 refl scheme (lacks_comma (without_tabs_and_newlines scheme) (ap (after 44) e
     ∙ scheme_lacks))
 
 -- Behind the scheme
@@ -265,7 +265,7 @@ after_none t h = cond-false (bytes_eq (map to_ascii_lowercase (take 5 (without_t
 pub record IsStaged (rest header tail : List ℕ) : Type 0 where
   pub front_is : front (without_tabs_and_newlines rest) ≡ without_tabs_and_newlines header ++ 44 ∷ front
       (without_tabs_and_newlines tail)
-  pub lacks_comma : behind 44 (without_tabs_and_newlines header) ≡ None
+  pub lacks_comma : after 44 (without_tabs_and_newlines header) ≡ None
   pub fragment_is : fragment (without_tabs_and_newlines rest) ≡ fragment (without_tabs_and_newlines tail)
 
 pub is_staged : (rest header tail : List ℕ) → IsHeaderAndTail rest header tail → IsStaged rest header tail
@@ -273,14 +273,14 @@ unfolding front fragment
 is_staged rest header tail h =
     let parts : without_tabs_and_newlines rest ≡ without_tabs_and_newlines header ++ 44 ∷ without_tabs_and_newlines
     tail = ap without_tabs_and_newlines h.joined ∙ dropped_around 44 refl header tail in
-    let no_hash = behind-dropped_none 35 refl header h.no_fragment in
+    let no_hash = after-dropped_none 35 refl header h.no_fragment in
     record {
       front_is = ap (before 35) parts ∙ before-append 35 (without_tabs_and_newlines header)
           (44 ∷ without_tabs_and_newlines tail) no_hash ∙ ap (λ s. without_tabs_and_newlines header ++ s)
           (before_other 35 44 (without_tabs_and_newlines tail) refl);
-      lacks_comma = behind-dropped_none 44 refl header h.no_comma;
-      fragment_is = ap (behind 35) parts ∙ behind-append 35 (without_tabs_and_newlines header)
-          (44 ∷ without_tabs_and_newlines tail) no_hash ∙ behind_other 35 44 (without_tabs_and_newlines tail) refl;
+      lacks_comma = after-dropped_none 44 refl header h.no_comma;
+      fragment_is = ap (after 35) parts ∙ after-append 35 (without_tabs_and_newlines header)
+          (44 ∷ without_tabs_and_newlines tail) no_hash ∙ after_other 35 44 (without_tabs_and_newlines tail) refl;
     }
 
 pub front_of : (t a : List ℕ) → after_scheme t ≡ Some a → staged_front t ≡ Some (serialised (front a))
@@ -290,16 +290,16 @@ front_of t a h = ap (option_map (λ a. serialised (front a))) h
 -- the tail that a recoded one stands for
 pub record HasTail (s t : List ℕ) : Type 0 where
   pub rest : List ℕ
-  pub is : behind 44 s ≡ Some rest
+  pub is : after 44 s ≡ Some rest
   pub recoded : Recoded t rest
 
-has_tail_of : (o : Option (List ℕ)) (s t : List ℕ) → behind 44 s ≡ o → RecodedTails (Some t) o → HasTail s t
+has_tail_of : (o : Option (List ℕ)) (s t : List ℕ) → after 44 s ≡ o → RecodedTails (Some t) o → HasTail s t
 has_tail_of None s t e h = absurd h
 has_tail_of (Some rest) s t e h = record { rest = rest; is = e; recoded = h }
 
-has_tail : (s header t : List ℕ) → IsBytes s → s ≡ header ++ 44 ∷ t → behind 44 header ≡ None → HasTail (serialised s) t
-has_tail s header t b e h = has_tail_of (behind 44 (serialised s)) (serialised s) t refl
-    (subst (λ o. RecodedTails o (behind 44 (serialised s))) (ap (behind 44) e ∙ behind_at 44 header t h)
+has_tail : (s header t : List ℕ) → IsBytes s → s ≡ header ++ 44 ∷ t → after 44 header ≡ None → HasTail (serialised s) t
+has_tail s header t b e h = has_tail_of (after 44 (serialised s)) (serialised s) t refl
+    (subst (λ o. RecodedTails o (after 44 (serialised s))) (ap (after 44) e ∙ after_at 44 header t h)
     (recoded_tails (serialised_recoded s b)))
 
 -- the stages of a text that is accepted, by its raw header and tail
@@ -314,9 +314,9 @@ tail_is_of : (t rest header tail : List ℕ) → IsSchemeAndRest (trimmed_text t
     → tail_of t ≡ Some tail
 unfolding tail_of
 tail_is_of t rest header tail s h =
-    ap (behind 44) (s.joined ∙ ap (λ r. s.scheme ++ r) h.joined)
-    ∙ behind-append 44 s.scheme (header ++ 44 ∷ tail) (scheme_has_no_comma s.scheme s.spelled)
-    ∙ behind_at 44 header tail h.no_comma
+    ap (after 44) (s.joined ∙ ap (λ r. s.scheme ++ r) h.joined)
+    ∙ after-append 44 s.scheme (header ++ 44 ∷ tail) (scheme_has_no_comma s.scheme s.spelled)
+    ∙ after_at 44 header tail h.no_comma
 
 pub is_accepted : (t rest header tail : List ℕ) → IsBytes rest → IsSchemeAndRest (trimmed_text t) rest
     → IsHeaderAndTail rest header tail → IsAccepted t header tail
@@ -334,15 +334,15 @@ is_accepted t rest header tail b s h =
           ∙ ap (λ (x : List ℕ). Some x) (ap (λ x. before 44 (serialised x)) staged.front_is
           ∙ before-serialised (without_tabs_and_newlines header) (front (without_tabs_and_newlines tail))
           staged.lacks_comma);
-      body_is = ap (option_and_then (behind 44)) f ∙ k.is;
+      body_is = ap (option_and_then (after 44)) f ∙ k.is;
       decoded_is = recoded-decoded k.recoded;
       tail_is = tail_is_of t rest header tail s h;
     }
 
 -- No comma
 
-no_tail_of : (s x : List ℕ) → behind 44 s ≡ None → RecodedTails (behind 44 s) (behind 44 x) → behind 44 x ≡ None
-no_tail_of s x e h = no_tail_at (behind 44 s) (behind 44 x) e h where
+no_tail_of : (s x : List ℕ) → after 44 s ≡ None → RecodedTails (after 44 s) (after 44 x) → after 44 x ≡ None
+no_tail_of s x e h = no_tail_at (after 44 s) (after 44 x) e h where
   no_tail_at : (o p : Option (List ℕ)) → o ≡ None → RecodedTails o p → p ≡ None
   no_tail_at None None e h = refl
   no_tail_at None (Some y) e h = absurd h
@@ -367,18 +367,18 @@ before-without_tabs_and_newlines c k (b ∷ s) = elim (cases_Bool (b == c)) [
   ]
 ]
 
-front_lacks : (rest : List ℕ) → behind 44 (front rest) ≡ None → behind 44 (front (without_tabs_and_newlines rest))
+front_lacks : (rest : List ℕ) → after 44 (front rest) ≡ None → after 44 (front (without_tabs_and_newlines rest))
     ≡ None
 unfolding front
-front_lacks rest h = ap (behind 44) (before-without_tabs_and_newlines 35 refl rest)
-    ∙ behind-dropped_none 44 refl (before 35 rest) h
+front_lacks rest h = ap (after 44) (before-without_tabs_and_newlines 35 refl rest)
+    ∙ after-dropped_none 44 refl (before 35 rest) h
 
 -- a text with the scheme whose front has no comma has no header
-pub no_header : (t rest : List ℕ) → IsBytes rest → IsSchemeAndRest (trimmed_text t) rest → behind 44 (front rest) ≡ None
+pub no_header : (t rest : List ℕ) → IsBytes rest → IsSchemeAndRest (trimmed_text t) rest → after 44 (front rest) ≡ None
     → header_of t ≡ None
 unfolding header_of front
 no_header t rest b s h =
-    let raw : behind 44 (front (without_tabs_and_newlines rest)) ≡ None = front_lacks rest h in
+    let raw : after 44 (front (without_tabs_and_newlines rest)) ≡ None = front_lacks rest h in
     let bytes = bytes_before 35 (without_tabs_and_newlines rest) (bytes_dropped rest b) in
     ap (option_and_then before_comma) (front_of t (without_tabs_and_newlines rest) (after_is t rest s))
     ∙ ap (option_map (λ r. before 44 (serialised (front (without_tabs_and_newlines rest)))))
@@ -507,9 +507,9 @@ front_begins [] back h = tt
 front_begins (c ∷ t) back h = h
 
 -- behind a last code point that does not pass
-ends_behind : (p : ℕ → _) (c : ℕ) (t : List ℕ) → p c ≡ false → DoesNotEnd p t → DoesNotEnd p (c ∷ t)
-ends_behind p c [] n h = n
-ends_behind p c (d ∷ t) n h = h
+ends_after : (p : ℕ → _) (c : ℕ) (t : List ℕ) → p c ≡ false → DoesNotEnd p t → DoesNotEnd p (c ∷ t)
+ends_after p c [] n h = n
+ends_after p c (d ∷ t) n h = h
 
 head_of : (s t : List ℕ) → BeginsParameters s → IsTrimmedEnd is_http_whitespace s t
     → IsHead (codes "text/plain" ++ s) (codes "text") (codes "plain") t
@@ -523,7 +523,7 @@ head_of s t b e = record {
     at_front = tt;
     at_back = e.at_back;
     begins = refl;
-    ends = ends_behind is_http_whitespace 110 t refl e.ends;
+    ends = ends_after is_http_whitespace 110 t refl e.ends;
   };
   joined = refl;
   is_type = token_text;
@@ -566,7 +566,7 @@ pub rest_bytes : (t rest : List ℕ) → IsBytes (trimmed_text t) → IsSchemeAn
 rest_bytes t rest b s = (bytes_append s.scheme rest (subst IsBytes s.joined b)).1
 
 pub stages_no_comma : (t rest : List ℕ) → IsBytes (trimmed_text t) → IsSchemeAndRest (trimmed_text t) rest
-    → behind 44 (front rest) ≡ None → staged t ≡ NoComma
+    → after 44 (front rest) ≡ None → staged t ≡ NoComma
 unfolding staged
 stages_no_comma t rest b s h =
     ap (staged_after t) (after_is t rest s)
@@ -643,14 +643,14 @@ one_more_call step f g n body body' good r e d = subst (λ b. Decodes step f (n 
 
 -- The fragment
 
-pub no_fragment : (tail : List ℕ) (place : ℕ) → IsBodyEnd tail place → place ≡ length tail → None ≡ behind 35 tail
-no_fragment tail place h e = sym (h.behind_is ∙ ap rest_fragment (drop_all place tail (omega arith)))
+pub no_fragment : (tail : List ℕ) (place : ℕ) → IsBodyEnd tail place → place ≡ length tail → None ≡ after 35 tail
+no_fragment tail place h e = sym (h.after_is ∙ ap rest_fragment (drop_all place tail (omega arith)))
 
 -- a '#' stands at the place
 pub record HasHash (tail : List ℕ) (place : ℕ) : Type 0 where
   pub within : place < length tail
   pub is : get_or tail place 0 ≡ 35
-  pub fragment_is : behind 35 tail ≡ Some (drop (place + 1) tail)
+  pub fragment_is : after 35 tail ≡ Some (drop (place + 1) tail)
 
 pub has_hash : (tail : List ℕ) (place : ℕ) → IsBodyEnd tail place → (place ≡ length tail → ⊥) → HasHash tail place
 has_hash tail place h n =
@@ -660,7 +660,7 @@ has_hash tail place h n =
     record {
       within = within;
       is = subst BeginsFragment here h.begins;
-      fragment_is = h.behind_is ∙ ap rest_fragment here;
+      fragment_is = h.after_is ∙ ap rest_fragment here;
     }
 
 bytes_drop : (n : ℕ) (s : List ℕ) → IsBytes s → IsBytes (drop n s)

@@ -59,10 +59,10 @@ few_spaces s n spaces h = let a = h.six in let b = h.spaces_are in
     omega (arith, suffix_len-le-length is_c0_control_or_space (take n s), length-take n s)
 
 -- what stands before the spaces
-behind_word : (s : List ℕ) (n spaces : ℕ) → IsPrintable s → HasWord s n spaces
+after_word : (s : List ℕ) (n spaces : ℕ) → IsPrintable s → HasWord s n spaces
     → before_base64 s ≡ before_semicolon (take (n - spaces) s)
 unfolding before_base64
-behind_word s n spaces p h =
+after_word s n spaces p h =
     let six = h.six in
     let at : length s - 6 ≡ n = omega arith in
     let whole : map to_ascii_lowercase (last_bytes 6 s) ≡ word = ap (λ m. map to_ascii_lowercase (drop m s)) at
@@ -86,7 +86,7 @@ semicolon = codes ";"
 -- nothing stands before the spaces
 pub nothing_left : (s : List ℕ) (n spaces : ℕ) → IsPrintable s → HasWord s n spaces → n - spaces ≡ 0
     → before_base64 s ≡ None
-nothing_left s n spaces p h e = behind_word s n spaces p h ∙ ap (λ m. before_semicolon (take m s)) e
+nothing_left s n spaces p h e = after_word s n spaces p h ∙ ap (λ m. before_semicolon (take m s)) e
 
 -- the last of n + 1 bytes
 last_one : (s : List ℕ) (n : ℕ) → n < length s → last_bytes 1 (take (n + 1) s) ≡ get_or s n 0 ∷ []
@@ -109,7 +109,7 @@ pub no_semicolon : (s : List ℕ) (n spaces m : ℕ) → IsPrintable s → HasWo
 no_semicolon s n spaces m p h e ne =
     let six = h.six in
     let within : m < length s = omega arith in
-    behind_word s n spaces p h ∙ ap (λ k. before_semicolon (take k s)) e
+    after_word s n spaces p h ∙ ap (λ k. before_semicolon (take k s)) e
     ∙ cond-false (bytes_eq (last_bytes 1 (take (m + 1) s)) semicolon) (Some (before_last 1 (take (m + 1) s))) None
     (false_from_ne_true (bytes_eq (last_bytes 1 (take (m + 1) s)) semicolon) (λ k.
     let same : get_or s m 0 ∷ [] ≡ semicolon = sym (last_one s m within)
@@ -121,7 +121,7 @@ pub with_semicolon : (s : List ℕ) (n spaces m : ℕ) → IsPrintable s → Has
 with_semicolon s n spaces m p h e is =
     let six = h.six in
     let within : m < length s = omega arith in
-    behind_word s n spaces p h ∙ ap (λ k. before_semicolon (take k s)) e
+    after_word s n spaces p h ∙ ap (λ k. before_semicolon (take k s)) e
     ∙ cond-true (bytes_eq (last_bytes 1 (take (m + 1) s)) semicolon) (Some (before_last 1 (take (m + 1) s))) None
     ((bytes_eq-Decides (last_bytes 1 (take (m + 1) s)) semicolon).1 (last_one s m within ∙ ap (λ b. b ∷ []) is))
     ∙ ap (λ (t : List ℕ). Some t) (before_one s m within)
@@ -150,8 +150,8 @@ front_stop p x q b f =
     (cond_both (eqb (prefix_len p x) (length x)) (length x + prefix_len p (b ∷ q)) (prefix_len p x) (λ v. v ≤ length x)
     (λ e. omega (arith, none)) (λ e. prefix_len-le-length p x))
 
-end_behind : (x q : List ℕ) → without_end is_space (x ++ 63 ∷ q) ≡ x ++ 63 ∷ without_end is_space q
-end_behind x q =
+end_after : (x q : List ℕ) → without_end is_space (x ++ 63 ∷ q) ≡ x ++ 63 ∷ without_end is_space q
+end_after x q =
     let few = suffix_len-le-length is_space q in
     let spaces = suffix_len is_space q in
     let at : length (x ++ 63 ∷ q) - suffix_len is_space (x ++ 63 ∷ q) ≡ length x + suc (length q - spaces) =
@@ -159,22 +159,22 @@ end_behind x q =
     ∙ omega (arith, few, length-append x (63 ∷ q)) in
     ap (λ n. take n (x ++ 63 ∷ q)) at ∙ take-append-add x (63 ∷ q) (suc (length q - spaces))
 
-stripped_behind : (x q : List ℕ) → stripped_header (x ++ 63 ∷ q) ≡ drop (prefix_len is_space (x ++ 63 ∷ q))
+stripped_after : (x q : List ℕ) → stripped_header (x ++ 63 ∷ q) ≡ drop (prefix_len is_space (x ++ 63 ∷ q))
     x ++ 63 ∷ without_end is_space q
 unfolding stripped_header
-stripped_behind x q =
+stripped_after x q =
     let n = prefix_len is_space (x ++ 63 ∷ q) in
-    ap (without_end is_space) (drop-append-le n x (63 ∷ q) (front_stop is_space x q 63 refl)) ∙ end_behind (drop n x) q
+    ap (without_end is_space) (drop-append-le n x (63 ∷ q) (front_stop is_space x q 63 refl)) ∙ end_after (drop n x) q
 
 -- The word
 
-last_behind : (y q : List ℕ) (n : ℕ) → n ≤ length q → last_bytes n (y ++ q) ≡ last_bytes n q
-last_behind y q n l =
+last_after : (y q : List ℕ) (n : ℕ) → n ≤ length q → last_bytes n (y ++ q) ≡ last_bytes n q
+last_after y q n l =
     let at : length (y ++ q) - n ≡ length y + (length q - n) = omega (arith, length-append y q) in
     ap (λ m. drop m (y ++ q)) at ∙ drop-append-add y q (length q - n)
 
-before_last_behind : (y q : List ℕ) (n : ℕ) → n ≤ length q → before_last n (y ++ q) ≡ y ++ before_last n q
-before_last_behind y q n l =
+before_last_after : (y q : List ℕ) (n : ℕ) → n ≤ length q → before_last n (y ++ q) ≡ y ++ before_last n q
+before_last_after y q n l =
     let at : length (y ++ q) - n ≡ length y + (length q - n) = omega (arith, length-append y q) in
     ap (λ m. take m (y ++ q)) at ∙ take-append-add y q (length q - n)
 
@@ -182,11 +182,11 @@ map_cond : (v : Bool) (y m : List ℕ) → cond v (Some (y ++ m)) None ≡ optio
 map_cond true y m = refl
 map_cond false y m = refl
 
-word_behind : (y q : List ℕ) → 6 ≤ length q → before_word (y ++ q) ≡ option_map (λ m. y ++ m) (before_word q)
-word_behind y q l =
+word_after : (y q : List ℕ) → 6 ≤ length q → before_word (y ++ q) ≡ option_map (λ m. y ++ m) (before_word q)
+word_after y q l =
     let is_word : List ℕ → Bool = λ s. bytes_eq (map to_ascii_lowercase s) word in
-    ap (λ s. cond (is_word s) (Some (before_last 6 (y ++ q))) None) (last_behind y q 6 l)
-    ∙ ap (λ m. cond (is_word (last_bytes 6 q)) (Some m) None) (before_last_behind y q 6 l)
+    ap (λ s. cond (is_word s) (Some (before_last 6 (y ++ q))) None) (last_after y q 6 l)
+    ∙ ap (λ m. cond (is_word (last_bytes 6 q)) (Some m) None) (before_last_after y q 6 l)
     ∙ map_cond (is_word (last_bytes 6 q)) y (before_last 6 q)
 
 -- no '?' stands in the word
@@ -220,37 +220,37 @@ some_cond : (v : Bool) (a : List ℕ) → is_some (cond v (Some a) None) ≡ v
 some_cond true a = refl
 some_cond false a = refl
 
-semicolon_behind : (x r : List ℕ) → is_some (before_semicolon (x ++ 63 ∷ r)) ≡ bytes_eq (last_bytes 1 (63 ∷ r))
+semicolon_after : (x r : List ℕ) → is_some (before_semicolon (x ++ 63 ∷ r)) ≡ bytes_eq (last_bytes 1 (63 ∷ r))
     (codes ";")
-semicolon_behind x r = some_cond (bytes_eq (last_bytes 1 (x ++ 63 ∷ r)) (codes ";")) (before_last 1 (x ++ 63 ∷ r))
-    ∙ ap (λ s. bytes_eq s (codes ";")) (last_behind x (63 ∷ r) 1 (omega arith))
+semicolon_after x r = some_cond (bytes_eq (last_bytes 1 (x ++ 63 ∷ r)) (codes ";")) (before_last 1 (x ++ 63 ∷ r))
+    ∙ ap (λ s. bytes_eq s (codes ";")) (last_after x (63 ∷ r) 1 (omega arith))
 
 -- what the suffix hangs on
-abbrev behind_mark : Option (List ℕ) → Bool
-behind_mark None = false
-behind_mark (Some m) = bytes_eq (last_bytes 1 (63 ∷ without_end is_space m)) (codes ";")
+abbrev after_mark : Option (List ℕ) → Bool
+after_mark None = false
+after_mark (Some m) = bytes_eq (last_bytes 1 (63 ∷ without_end is_space m)) (codes ";")
 
 by_word : (x : List ℕ) (o : Option (List ℕ))
     → is_some (option_and_then (λ m. before_semicolon (without_end is_space m))
-    (option_map (λ m. (x ++ 63 ∷ []) ++ m) o)) ≡ behind_mark o
+    (option_map (λ m. (x ++ 63 ∷ []) ++ m) o)) ≡ after_mark o
 by_word x None = refl
 by_word x (Some m) =
     ap (λ s. is_some (before_semicolon (without_end is_space s))) (append_assoc x (63 ∷ []) m)
-    ∙ ap (λ s. is_some (before_semicolon s)) (end_behind x m)
-    ∙ semicolon_behind x (without_end is_space m)
+    ∙ ap (λ s. is_some (before_semicolon s)) (end_after x m)
+    ∙ semicolon_after x (without_end is_space m)
 
-suffix_behind : (x q : List ℕ) → 6 ≤ length q → is_some (before_base64 (x ++ 63 ∷ q)) ≡ behind_mark (before_word q)
+suffix_after : (x q : List ℕ) → 6 ≤ length q → is_some (before_base64 (x ++ 63 ∷ q)) ≡ after_mark (before_word q)
 unfolding before_base64
-suffix_behind x q l =
+suffix_after x q l =
     let f : List ℕ → Option (List ℕ) = λ m. before_semicolon (without_end is_space m) in
     ap (λ s. is_some (option_and_then f (before_word s))) (sym (append_assoc x (63 ∷ []) q))
-    ∙ ap (λ o. is_some (option_and_then f o)) (word_behind (x ++ 63 ∷ []) q l)
+    ∙ ap (λ o. is_some (option_and_then f o)) (word_after (x ++ 63 ∷ []) q l)
     ∙ by_word x (before_word q)
 
 same_suffix : (x z q : List ℕ) → is_some (before_base64 (x ++ 63 ∷ q)) ≡ is_some (before_base64 (z ++ 63 ∷ q))
 same_suffix x z q = ⊎_elim
     (λ (l : length q < 6). ap is_some (too_near x q l ∙ sym (too_near z q l)))
-    (λ (l : 6 ≤ length q). suffix_behind x q l ∙ sym (suffix_behind z q l))
+    (λ (l : 6 ≤ length q). suffix_after x q l ∙ sym (suffix_after z q l))
     (cases_lt (length q) 6)
 
 -- what stands before the '?' is nothing to the flag
@@ -259,6 +259,6 @@ unfolding has_base64_suffix
 same_flag a b query =
     let n = prefix_len is_space (a ++ 63 ∷ query) in
     let m = prefix_len is_space (b ++ 63 ∷ query) in
-    ap (λ s. is_some (before_base64 s)) (stripped_behind a query)
+    ap (λ s. is_some (before_base64 s)) (stripped_after a query)
     ∙ same_suffix (drop n a) (drop m b) (without_end is_space query)
-    ∙ sym (ap (λ s. is_some (before_base64 s)) (stripped_behind b query))
+    ∙ sym (ap (λ s. is_some (before_base64 s)) (stripped_after b query))

@@ -10,7 +10,7 @@ use Rattle.data_url.specs.Mime.{Items, Quoted, QuotedOpen, is_quote, lone_equals
 use Rattle.data_url.specs.Mime.{unless_empty, DoesNotEnd, IsHead, IsTrimmed, Record, is_token_text, kept_pairs}
 use Rattle.data_url.specs.Facts.{HasOneItemList, HasAtMostOneRecord}
 use Rattle.data_url.specs.Steps.Parsing.{HasParameterBefore}
-use Rattle.data_url.proofs.texts.CodePoints.{behind_begins, behind_front, behind_is, front_is, front_joined, front_of}
+use Rattle.data_url.proofs.texts.CodePoints.{after_begins, after_front, after_is, front_is, front_joined, front_of}
 use Rattle.data_url.proofs.texts.CodePoints.{front_passes, is_trimmed_end, trimmed_end_is, without_back}
 use Rattle.data_url.proofs.texts.CodePoints.{without_back_joined}
 use Rattle.data_url.proofs.mime.Quoted.{IsRead, closed_rest, closed_value, is_read, open_rest, open_value, quoted_rest}
@@ -33,25 +33,25 @@ pub record Reading : Type 0 where
 
 abbrev pub quoted_reading : List ℕ → Option (List ℕ) → Reading
 quoted_reading value None = record { value = Some value; rest = [] }
-quoted_reading value (Some w) = record { value = Some value; rest = behind_front in_value w }
+quoted_reading value (Some w) = record { value = Some value; rest = after_front in_value w }
 
 abbrev pub plain_reading : List ℕ → Reading
 plain_reading s = record {
   value = unless_empty (without_back is_http_whitespace (front_of in_value s));
   rest =
-      behind_front in_value s;
+      after_front in_value s;
 }
 
 -- what stands behind '='
-abbrev pub reading_behind : List ℕ → Reading
-reading_behind [] = plain_reading []
-reading_behind (c ∷ t) = cond (c == 34) (quoted_reading (quoted_value false t) (quoted_rest false t))
+abbrev pub reading_after : List ℕ → Reading
+reading_after [] = plain_reading []
+reading_after (c ∷ t) = cond (c == 34) (quoted_reading (quoted_value false t) (quoted_rest false t))
     (plain_reading (c ∷ t))
 
 -- what stands behind a name
 abbrev pub reading : List ℕ → Reading
 reading [] = record { value = None; rest = [] }
-reading (c ∷ t) = cond (c == 61) (reading_behind t) (record { value = None; rest = c ∷ t })
+reading (c ∷ t) = cond (c == 61) (reading_after t) (record { value = None; rest = c ∷ t })
 
 -- A text that gives a value reads so
 
@@ -68,26 +68,26 @@ plain_is : (text rest value : List ℕ) → Every in_value text → BeginsParame
 plain_is text rest value e b t =
     rw (
       front_is in_value text rest e (begins_no_value rest b),
-      behind_is in_value text rest e (begins_no_value rest b),
+      after_is in_value text rest e (begins_no_value rest b),
       trimmed_end_is is_http_whitespace text value t,
     ) refl
 
-plain_behind : (text rest : List ℕ) → DoesNotBegin is_quote text → BeginsParameters rest
-    → reading_behind (text ++ rest) ≡ plain_reading (text ++ rest)
-plain_behind [] [] h b = refl
-plain_behind [] (c ∷ r) h b = cond-false (c == 34) (quoted_reading (quoted_value false r) (quoted_rest false r))
+plain_after : (text rest : List ℕ) → DoesNotBegin is_quote text → BeginsParameters rest
+    → reading_after (text ++ rest) ≡ plain_reading (text ++ rest)
+plain_after [] [] h b = refl
+plain_after [] (c ∷ r) h b = cond-false (c == 34) (quoted_reading (quoted_value false r) (quoted_rest false r))
     (plain_reading (c ∷ r)) (ap (λ x. x == 34) b)
-plain_behind (c ∷ t) r h b =
+plain_after (c ∷ t) r h b =
     cond-false (c == 34) (quoted_reading (quoted_value false (t ++ r)) (quoted_rest false (t ++ r)))
     (plain_reading (c ∷ (t ++ r))) h
 
 nothing_is : (rest : List ℕ) → BeginsParameters rest → reading rest ≡ record { value = None; rest = rest }
 nothing_is [] b = refl
-nothing_is (c ∷ r) b = cond-false (c == 61) (reading_behind r) (record { value = None; rest = c ∷ r })
+nothing_is (c ∷ r) b = cond-false (c == 61) (reading_after r) (record { value = None; rest = c ∷ r })
     (ap (λ x. x == 61) b)
 
 closed_reading : (q v w : List ℕ) → Quoted q v → quoted_reading (quoted_value false (q ++ (34 ∷ w)))
-    (quoted_rest false (q ++ (34 ∷ w))) ≡ record { value = Some v; rest = behind_front in_value w }
+    (quoted_rest false (q ++ (34 ∷ w))) ≡ record { value = Some v; rest = after_front in_value w }
 closed_reading q v w h = rw (closed_value q v w h, closed_rest q v w h) refl
 
 open_reading : (q v : List ℕ) → QuotedOpen q v → quoted_reading (quoted_value false q) (quoted_rest false q)
@@ -97,13 +97,13 @@ open_reading q v h = rw (open_value q v h, open_rest q v h) refl
 quoted_is : (q v junk rest : List ℕ) → Quoted q v → Every in_value junk → BeginsParameters rest
     → reading ((61 ∷ 34 ∷ (q ++ (34 ∷ junk))) ++ rest) ≡ record { value = Some v; rest = rest }
 quoted_is q v junk rest h e b = rw (append_assoc q (34 ∷ junk) rest) (closed_reading q v (junk ++ rest) h
-    ∙ ap (λ r. record { value = Some v; rest = r }) (behind_is in_value junk rest e (begins_no_value rest b)))
+    ∙ ap (λ r. record { value = Some v; rest = r }) (after_is in_value junk rest e (begins_no_value rest b)))
 
 reading_is : (tail rest : List ℕ) (value : Option (List ℕ)) → GivesValue tail rest value → BeginsParameters rest
     → reading (tail ++ rest) ≡ record { value = value; rest = rest }
 reading_is _ _ _ (nothing {rest}) b = nothing_is rest b
 reading_is _ _ _ lone_equals b = refl
-reading_is _ _ _ (plain {rest} text value e d t) b = plain_behind text rest d b ∙ plain_is text rest value e b t
+reading_is _ _ _ (plain {rest} text value e d t) b = plain_after text rest d b ∙ plain_is text rest value e b t
 reading_is _ _ _ (quoted {value} {rest} text junk h e) b = quoted_is text value junk rest h e b
 reading_is _ _ _ (unclosed {value} text h) b = rw (append-nil text) (open_reading text value h)
 
@@ -124,8 +124,8 @@ pub begins_from : (s : List ℕ) → DoesNotBegin in_value s → BeginsParameter
 begins_from [] h = tt
 begins_from (c ∷ s) h = eqb-true c 59 (not-false (c == 59) h)
 
-begins_behind : (s : List ℕ) → BeginsParameters (behind_front in_value s)
-begins_behind s = begins_from (behind_front in_value s) (behind_begins in_value s)
+begins_after : (s : List ℕ) → BeginsParameters (after_front in_value s)
+begins_after s = begins_from (after_front in_value s) (after_begins in_value s)
 
 front_not_quote : (s : List ℕ) → DoesNotBegin is_quote s → DoesNotBegin is_quote (front_of in_value s)
 front_not_quote [] h = tt
@@ -138,7 +138,7 @@ is_plain_reading s h = record {
   joined = ap (λ x. 61 ∷ x) (front_joined in_value s);
   gives = plain (front_of in_value s) (without_back is_http_whitespace (front_of in_value s)) (front_passes in_value s)
       (front_not_quote s h) (is_trimmed_end is_http_whitespace (front_of in_value s));
-  begins = begins_behind s;
+  begins = begins_after s;
 }
 
 is_quoted_reading : (s v : List ℕ) (w : Option (List ℕ)) → IsRead s v w → IsReading (61 ∷ 34 ∷ s) (quoted_reading v w)
@@ -152,23 +152,23 @@ is_quoted_reading s v None h = record {
 is_quoted_reading s v (Some w) h = record {
   tail = 61 ∷ 34 ∷ (h.0 ++ (34 ∷ front_of in_value w));
   joined = ap (λ x. 61 ∷ 34 ∷ x) (h.1 ∙ ap (λ x. h.0 ++ (34 ∷ x)) (front_joined in_value w)
-      ∙ sym (append_assoc h.0 (34 ∷ front_of in_value w) (behind_front in_value w)));
+      ∙ sym (append_assoc h.0 (34 ∷ front_of in_value w) (after_front in_value w)));
   gives = quoted h.0 (front_of in_value w) h.2 (front_passes in_value w);
-  begins = begins_behind w;
+  begins = begins_after w;
 }
 
 quote_reading : (c : ℕ) (t : List ℕ) → c ≡ 34
     → IsReading (61 ∷ c ∷ t) (quoted_reading (quoted_value false t) (quoted_rest false t))
 quote_reading c t e = rw e (is_quoted_reading t (quoted_value false t) (quoted_rest false t) (is_read false t))
 
-is_reading_behind : (s : List ℕ) → IsReading (61 ∷ s) (reading_behind s)
-is_reading_behind [] = is_plain_reading [] tt
-is_reading_behind (c ∷ t) = cond_both (c == 34) (quoted_reading (quoted_value false t) (quoted_rest false t))
+is_reading_after : (s : List ℕ) → IsReading (61 ∷ s) (reading_after s)
+is_reading_after [] = is_plain_reading [] tt
+is_reading_after (c ∷ t) = cond_both (c == 34) (quoted_reading (quoted_value false t) (quoted_rest false t))
     (plain_reading (c ∷ t)) (λ r. IsReading (61 ∷ c ∷ t) r) (λ e. quote_reading c t (eqb-true c 34 e))
     (λ e. is_plain_reading (c ∷ t) e)
 
-equals_reading : (c : ℕ) (t : List ℕ) → c ≡ 61 → IsReading (c ∷ t) (reading_behind t)
-equals_reading c t e = rw e (is_reading_behind t)
+equals_reading : (c : ℕ) (t : List ℕ) → c ≡ 61 → IsReading (c ∷ t) (reading_after t)
+equals_reading c t e = rw e (is_reading_after t)
 
 no_reading : (c : ℕ) (t : List ℕ) → c ≡ 59 → IsReading (c ∷ t) (record { value = None; rest = c ∷ t })
 no_reading c t e = record { tail = []; joined = refl; gives = nothing; begins = e }
@@ -179,35 +179,35 @@ semicolon_from c h e = ⊎_elim (λ l. eqb-true c 59 l) (λ r. absurd (both_ways
 
 pub is_reading : (x : List ℕ) → BeginsTail x → IsReading x (reading x)
 is_reading [] h = record { tail = []; joined = refl; gives = nothing; begins = tt }
-is_reading (c ∷ t) h = cond_both (c == 61) (reading_behind t) (record { value = None; rest = c ∷ t })
+is_reading (c ∷ t) h = cond_both (c == 61) (reading_after t) (record { value = None; rest = c ∷ t })
     (λ r. IsReading (c ∷ t) r) (λ e. equals_reading c t (eqb-true c 61 e)) (λ e. no_reading c t (semicolon_from c h e))
 
 -- One parameter, from behind its ';'
 
 abbrev pub name_in : List ℕ → List ℕ
-name_in s = front_of in_name (behind_front is_http_whitespace s)
+name_in s = front_of in_name (after_front is_http_whitespace s)
 
-abbrev pub behind_name : List ℕ → List ℕ
-behind_name s = behind_front in_name (behind_front is_http_whitespace s)
+abbrev pub after_name : List ℕ → List ℕ
+after_name s = after_front in_name (after_front is_http_whitespace s)
 
 abbrev pub item_in : List ℕ → Item
-item_in s = (map to_ascii_lowercase (name_in s), (reading (behind_name s)).value)
+item_in s = (map to_ascii_lowercase (name_in s), (reading (after_name s)).value)
 
 abbrev pub rest_in : List ℕ → List ℕ
-rest_in s = (reading (behind_name s)).rest
+rest_in s = (reading (after_name s)).rest
 
 pub not_begins_front : (p q : ℕ → Bool) (s : List ℕ) → DoesNotBegin p s → DoesNotBegin p (front_of q s)
 not_begins_front p q [] h = tt
 not_begins_front p q (c ∷ s) h = cond_both (q c) (c ∷ front_of q s) [] (λ v. DoesNotBegin p v) (λ e. h) (λ e. tt)
 
-parameter_joined : (s : List ℕ) (r : Reading) (i : IsReading (behind_name s) r)
+parameter_joined : (s : List ℕ) (r : Reading) (i : IsReading (after_name s) r)
     → s ≡ (front_of is_http_whitespace s ++ (name_in s ++ i.tail)) ++ r.rest
 parameter_joined s r i = front_joined is_http_whitespace s ∙ ap (λ x. front_of is_http_whitespace s ++ x)
-    (front_joined in_name (behind_front is_http_whitespace s) ∙ ap (λ x. name_in s ++ x) i.joined
+    (front_joined in_name (after_front is_http_whitespace s) ∙ ap (λ x. name_in s ++ x) i.joined
     ∙ sym (append_assoc (name_in s) i.tail r.rest))
     ∙ sym (append_assoc (front_of is_http_whitespace s) (name_in s ++ i.tail) r.rest)
 
-parameter_from : (s : List ℕ) (r : Reading) → IsReading (behind_name s) r
+parameter_from : (s : List ℕ) (r : Reading) → IsReading (after_name s) r
     → HasParameterBefore s (map to_ascii_lowercase (name_in s), r.value) r.rest
 parameter_from s r i = record {
   text = 59 ∷ (front_of is_http_whitespace s ++ (name_in s ++ i.tail));
@@ -218,9 +218,9 @@ parameter_from s r i = record {
     tail = i.tail;
     joined = refl;
     in_gap = front_passes is_http_whitespace s;
-    begins = not_begins_front is_http_whitespace in_name (behind_front is_http_whitespace s)
-        (behind_begins is_http_whitespace s);
-    in_name = front_passes in_name (behind_front is_http_whitespace s);
+    begins = not_begins_front is_http_whitespace in_name (after_front is_http_whitespace s)
+        (after_begins is_http_whitespace s);
+    in_name = front_passes in_name (after_front is_http_whitespace s);
     name_is = refl;
     value_is = i.gives;
   };
@@ -232,8 +232,8 @@ rest_shorter s rest item h =
     omega (arith, ap length h.joined, length-append h.text rest, ap length h.is_parameter.joined)
 
 pub has_parameter : (s : List ℕ) → HasParameterBefore s (item_in s) (rest_in s)
-has_parameter s = parameter_from s (reading (behind_name s))
-    (is_reading (behind_name s) (behind_begins in_name (behind_front is_http_whitespace s)))
+has_parameter s = parameter_from s (reading (after_name s))
+    (is_reading (after_name s) (after_begins in_name (after_front is_http_whitespace s)))
 
 -- A parameter text reads so
 
@@ -257,15 +257,15 @@ not_begins_append p (c ∷ a) b h e = h
 reading_of_parts : (gap name tail rest : List ℕ) (value : Option (List ℕ)) → Every is_http_whitespace gap
     → DoesNotBegin is_http_whitespace name → Every in_name name → GivesValue tail rest value → BeginsParameters rest
     → (name_in (gap ++ (name ++ (tail ++ rest))) ≡ name)
-    × (reading (behind_name (gap ++ (name ++ (tail ++ rest)))) ≡ record { value = value; rest = rest })
+    × (reading (after_name (gap ++ (name ++ (tail ++ rest)))) ≡ record { value = value; rest = rest })
 reading_of_parts gap name tail rest value g d n v b =
-    let e = behind_is is_http_whitespace gap (name ++ (tail ++ rest)) g
+    let e = after_is is_http_whitespace gap (name ++ (tail ++ rest)) g
     (not_begins_append is_http_whitespace name (tail ++ rest) d
     (ends_of_tail is_http_whitespace refl refl tail rest value v b)) in
     let m = ends_of_tail in_name refl refl tail rest value v b in (
       ap (front_of in_name) e ∙ front_is in_name name (tail ++ rest) n m,
-      ap (λ x. reading (behind_front in_name x)) e
-          ∙ ap reading (behind_is in_name name (tail ++ rest) n m) ∙ reading_is tail rest value v b,
+      ap (λ x. reading (after_front in_name x)) e
+          ∙ ap reading (after_is in_name name (tail ++ rest) n m) ∙ reading_is tail rest value v b,
     )
 
 pub append_four : (gap name tail rest : List ℕ) → (gap ++ (name ++ tail)) ++ rest ≡ gap ++ (name ++ (tail ++ rest))
@@ -381,13 +381,13 @@ every_append p (c ∷ a) b h e = (h.0, every_append p a b h.1 e)
 
 -- the text without its longest front and its longest end of code points that pass
 abbrev pub trimmed_of : (ℕ → Bool) → List ℕ → List ℕ
-trimmed_of p s = without_back p (behind_front p s)
+trimmed_of p s = without_back p (after_front p s)
 
 trimmed_joined : (p : ℕ → Bool) (front t back : List ℕ) → Every p front → Every p back → DoesNotBegin p t
     → DoesNotEnd p t → trimmed_of p (front ++ (t ++ back)) ≡ t
-trimmed_joined p front [] back f b d e = ap (without_back p) (ap (behind_front p) (sym (append-nil (front ++ back)))
-    ∙ behind_is p (front ++ back) [] (every_append p front back f b) tt)
-trimmed_joined p front (c ∷ t) back f b d e = ap (without_back p) (behind_is p front (c ∷ (t ++ back)) f d)
+trimmed_joined p front [] back f b d e = ap (without_back p) (ap (after_front p) (sym (append-nil (front ++ back)))
+    ∙ after_is p (front ++ back) [] (every_append p front back f b) tt)
+trimmed_joined p front (c ∷ t) back f b d e = ap (without_back p) (after_is p front (c ∷ (t ++ back)) f d)
     ∙ without_back_joined p (c ∷ t) back b e
 
 pub trimmed_is : (p : ℕ → Bool) (s t : List ℕ) → IsTrimmed p s t → t ≡ trimmed_of p s
@@ -400,18 +400,18 @@ abbrev pub type_in : List ℕ → List ℕ
 type_in t = front_of is_token t
 
 -- what stands behind the first code point
-abbrev pub behind_first : List ℕ → List ℕ
-behind_first [] = []
-behind_first (c ∷ t) = t
+abbrev pub after_first : List ℕ → List ℕ
+after_first [] = []
+after_first (c ∷ t) = t
 
-abbrev pub behind_slash : List ℕ → List ℕ
-behind_slash t = behind_first (behind_front is_token t)
+abbrev pub after_slash : List ℕ → List ℕ
+after_slash t = after_first (after_front is_token t)
 
 abbrev pub subtype_in : List ℕ → List ℕ
-subtype_in t = front_of is_token (behind_slash t)
+subtype_in t = front_of is_token (after_slash t)
 
 abbrev pub parameters_in : List ℕ → List ℕ
-parameters_in t = behind_front is_http_whitespace (behind_front is_token (behind_slash t))
+parameters_in t = after_front is_http_whitespace (after_front is_token (after_slash t))
 
 -- no code point of HTTP whitespace is a token code point
 space_no_token : (c : ℕ) → is_http_whitespace c ≡ true → is_token c ≡ false
@@ -444,14 +444,14 @@ parts_joined : (type_ subtype gap r : List ℕ) → Every is_token type_ → Eve
     → Every is_http_whitespace gap → BeginsParameters r
     → HasParts (type_ ++ (47 ∷ (subtype ++ (gap ++ r)))) type_ subtype r
 parts_joined type_ subtype gap r t s g b =
-    let slash = ap behind_first (behind_is is_token type_ (47 ∷ (subtype ++ (gap ++ r))) t slash_no_token) in
+    let slash = ap after_first (after_is is_token type_ (47 ∷ (subtype ++ (gap ++ r))) t slash_no_token) in
     let n = gap_no_token gap r g b in
     record {
       type_is = front_is is_token type_ (47 ∷ (subtype ++ (gap ++ r))) t slash_no_token;
       subtype_is = ap (front_of is_token) slash ∙ front_is is_token subtype (gap ++ r) s n;
-      parameters_are = ap (λ x. behind_front is_http_whitespace (behind_front is_token x)) slash
-          ∙ ap (behind_front is_http_whitespace) (behind_is is_token subtype (gap ++ r) s n)
-          ∙ behind_is is_http_whitespace gap r g (ends_of_rest is_http_whitespace refl r b);
+      parameters_are = ap (λ x. after_front is_http_whitespace (after_front is_token x)) slash
+          ∙ ap (after_front is_http_whitespace) (after_is is_token subtype (gap ++ r) s n)
+          ∙ after_is is_http_whitespace gap r g (ends_of_rest is_http_whitespace refl r b);
     }
 
 head_parts : (s type_ subtype r : List ℕ) (h : IsHead s type_ subtype r) → HasParts h.text type_ subtype r

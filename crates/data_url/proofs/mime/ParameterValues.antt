@@ -12,7 +12,7 @@ use Rattle.std.proofs.lemmas.List.{get_or-drop, get_or-take, get_or_append_left}
 use Rattle.std.proofs.lemmas.List.Folds.{list_all-append, list_all_at}
 use Rattle.std.proofs.lemmas.List.Sums.{prefix_len-le-length, prefix_len_stops, suffix_len-le-length, prefix_len_passes}
 use Rattle.std.specs.List.{list_all, prefix_len, suffix_len, flat_map}
-use Rattle.data_url.proofs.texts.CodePoints.{behind_begins, front_of, front_passes, boundary_before_end, no_chars}
+use Rattle.data_url.proofs.texts.CodePoints.{after_begins, front_of, front_passes, boundary_before_end, no_chars}
 use Rattle.data_url.proofs.texts.CodePoints.{range_high, in_parts}
 use Rattle.data_url.proofs.mime.TokenTexts.{drop_front, every_ascii, is_split, take_front, whole_front}
 use Rattle.data_url.proofs.header.Serialising.{suffix_passes, suffix_stops}
@@ -37,11 +37,11 @@ use Rattle.data_url.specs.declared.mime.values.Value.TheVariants as slices
 
 -- A cut at the first byte that passes, of an ASCII class
 
-pub record IsCut (t : ℕ → Bool) (s front behind : List ℕ) : Type 0 where
-  pub joined : chars s ≡ chars front ++ chars behind
+pub record IsCut (t : ℕ → Bool) (s front after : List ℕ) : Type 0 where
+  pub joined : chars s ≡ chars front ++ chars after
   pub in_front : Without t (chars front)
-  pub begins : DoesNotBegin (λ c. not (t c)) (chars behind)
-  pub text : IsUtf8 front × IsUtf8 behind
+  pub begins : DoesNotBegin (λ c. not (t c)) (chars after)
+  pub text : IsUtf8 front × IsUtf8 after
 
 module _ (t : ℕ → Bool) (ascii : (c : ℕ) → t c ≡ true → c < 128) where
   fails : (b : ℕ) → not (t b) ≡ false → t b ≡ true
@@ -87,13 +87,13 @@ module _ (t : ℕ → Bool) (ascii : (c : ℕ) → t c ≡ true → c < 128) whe
         let p : ℕ → Bool = λ b. not (t b) in
         let n = prefix_len p s in
         let front = IsUtf8-take s n u cut_boundary in
-        let behind = IsUtf8-drop s n u cut_boundary in
+        let after = IsUtf8-drop s n u cut_boundary in
         record {
           joined = ap chars (sym (take-append-drop n s)) ∙ chars-append (take n s) (drop n s) front;
           in_front = chars_fail (chars (take n s)) (ap (list_all p) (encodes-chars (take n s) front ∙ take_front p s)
               ∙ all_from_every p (front_of p s) (front_passes p s));
-          begins = begins_with (drop n s) behind (subst (DoesNotBegin p) (sym (drop_front p s)) (behind_begins p s));
-          text = (front, behind);
+          begins = begins_with (drop n s) after (subst (DoesNotBegin p) (sym (drop_front p s)) (after_begins p s));
+          text = (front, after);
         }
 
   pub boundary_by : (s bytes : List ℕ) (n : ℕ) → IsUtf8 s → n ≡ prefix_len (λ b. not (t b)) bytes → bytes ≡ s
@@ -101,9 +101,9 @@ module _ (t : ℕ → Bool) (ascii : (c : ℕ) → t c ≡ true → c < 128) whe
   boundary_by s bytes n u e b = subst (IsCharBoundary s) (sym (e ∙ ap (prefix_len (λ b. not (t b))) b))
       (cut_boundary s u)
 
-  pub cut_by : (s bytes front behind : List ℕ) (n : ℕ) → IsUtf8 s → n ≡ prefix_len (λ b. not (t b)) bytes → bytes ≡ s
-      → front ≡ take n s → behind ≡ drop n s → IsCut t s front behind
-  cut_by s bytes front behind n u e b f g = let k = e ∙ ap (prefix_len (λ b. not (t b))) b in rw (f, g, k) (is_cut s u)
+  pub cut_by : (s bytes front after : List ℕ) (n : ℕ) → IsUtf8 s → n ≡ prefix_len (λ b. not (t b)) bytes → bytes ≡ s
+      → front ≡ take n s → after ≡ drop n s → IsCut t s front after
+  cut_by s bytes front after n u e b f g = let k = e ∙ ap (prefix_len (λ b. not (t b))) b in rw (f, g, k) (is_cut s u)
 
 pub semicolon_below : (c : ℕ) → is_semicolon c ≡ true → c < 128
 semicolon_below c h = let k = eqb-true c 59 h in omega arith
@@ -382,8 +382,8 @@ no_semicolon_byte : (c : ℕ) → is_unquoted_byte c ≡ true → not (is_semico
 no_semicolon_byte c h = (and_parts (is_quotable_byte c) (not (is_semicolon c)) h).1
 
 -- what the two parts are in the bytes of a text
-pub front_len : (bytes behind : List ℕ) (quotable more : ℕ) → quotable ≡ prefix_len is_unquoted_byte bytes
-    → behind ≡ drop quotable bytes → more ≡ prefix_len (λ b. not (is_semicolon b)) behind
+pub front_len : (bytes after : List ℕ) (quotable more : ℕ) → quotable ≡ prefix_len is_unquoted_byte bytes
+    → after ≡ drop quotable bytes → more ≡ prefix_len (λ b. not (is_semicolon b)) after
     → quotable + more ≡ prefix_len (λ b. not (is_semicolon b)) bytes
 front_len = in_parts is_unquoted_byte (λ b. not (is_semicolon b)) no_semicolon_byte
 

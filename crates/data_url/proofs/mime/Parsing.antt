@@ -11,7 +11,7 @@ use Rattle.data_url.specs.CodePoints.{is_http_whitespace, is_token, ends_name, i
 use Rattle.data_url.specs.Mime.{BeginsParameters, DoesNotBegin, Every, IsHead, IsTrimmed, IsTrimmedEnd, is_token_text}
 use Rattle.data_url.specs.Mime.{Quoted, QuotedOpen, Without, is_quote, nothing, plain, quoted, unclosed, unless_empty}
 use Rattle.data_url.specs.Steps.Parsing.{HasNoHead, IsTrimmedFront, HasParameterBefore, HasValueBefore}
-use Rattle.data_url.proofs.texts.CodePoints.{behind_front, behind_is, front_is, front_of}
+use Rattle.data_url.proofs.texts.CodePoints.{after_front, after_is, front_is, front_of}
 use Rattle.data_url.proofs.mime.Items.{ends_of_rest, tail_equal, all_from_every, every_token, gap_no_token}
 use Rattle.data_url.proofs.mime.Items.{slash_no_token, trimmed_is, semicolon_from}
 use Rattle.std.specs.Char.{to_ascii_lowercase}
@@ -38,8 +38,8 @@ pub same_span : (p : ℕ → Bool) (a b c d : List ℕ) → a ++ b ≡ c ++ d �
     → DoesNotBegin p d → (a ≡ c) × (b ≡ d)
 same_span p a b c d e f g h k = (
   sym (front_is p a b f g) ∙ ap (front_of p) e ∙ front_is p c d h k,
-  sym (behind_is p a b f g)
-      ∙ ap (behind_front p) e ∙ behind_is p c d h k,
+  sym (after_is p a b f g)
+      ∙ ap (after_front p) e ∙ after_is p c d h k,
 )
 
 -- What the parser cut: the type with what stands behind it, the subtype with what stands behind it, and the parameters
@@ -51,11 +51,11 @@ pub record Cut (s ty x : List ℕ) : Type 0 where
   pub begins : DoesNotBegin is_token x
 
 pub record CutAgain (y su p : List ℕ) : Type 0 where
-  pub behind : List ℕ
-  pub joined : y ≡ su ++ behind
+  pub after : List ℕ
+  pub joined : y ≡ su ++ after
   pub tokens : Every is_token su
-  pub begins : DoesNotBegin is_token behind
-  pub front : IsTrimmedFront is_http_whitespace behind p
+  pub begins : DoesNotBegin is_token after
+  pub front : IsTrimmedFront is_http_whitespace after p
 
 pub head_forced : (s ty x a b c : List ℕ) → Cut s ty x → (h : IsHead s a b c)
     → (ty ≡ a) × (x ≡ 47 ∷ (b ++ (h.gap ++ c)))
@@ -67,7 +67,7 @@ head_forced s ty x a b c k h =
 pub rest_forced : (s y su p a b c : List ℕ) → CutAgain y su p → (h : IsHead s a b c) → y ≡ b ++ (h.gap ++ c)
     → (su ≡ b) × (p ≡ c)
 rest_forced s y su p a b c k h e =
-    let w = same_span is_token su k.behind b (h.gap ++ c) (sym k.joined ∙ e) k.tokens k.begins
+    let w = same_span is_token su k.after b (h.gap ++ c) (sym k.joined ∙ e) k.tokens k.begins
     (every_token b h.is_subtype) (gap_no_token h.gap c h.in_gap h.begins) in (
       w.0,
       (same_span is_http_whitespace k.front.front p h.gap c (sym k.front.joined ∙ w.1) k.front.at_front
@@ -155,7 +155,7 @@ cut_from s a t ty x f e j k b = record {
 
 pub cut_again : (y su z p : List ℕ) → y ≡ su ++ z → Every is_token su → DoesNotBegin is_token z
     → IsTrimmedFront is_http_whitespace z p → CutAgain y su p
-cut_again y su z p j k b f = record { behind = z; joined = j; tokens = k; begins = b; front = f }
+cut_again y su z p j k b f = record { after = z; joined = j; tokens = k; begins = b; front = f }
 
 pub no_slash_bytes : (s ty x : List ℕ) → Cut s ty (chars x) → IsUtf8 x → ((rest : List ℕ) → x ≡ encode_utf8 47 ++ rest
     → ⊥) → HasNoHead s
@@ -189,13 +189,13 @@ no_semicolon x u b h = no_semicolon_text x (chars x) u b h refl
 
 -- A value that begins with no '"'
 
-pub plain_value : (s front behind value : List ℕ) → DoesNotBegin is_quote s → s ≡ front ++ behind
-    → Without is_semicolon front → BeginsParameters behind → IsTrimmedEnd is_http_whitespace front value
-    → HasValueBefore (61 ∷ s) (unless_empty value) behind
-plain_value s front behind value d j w b t = record {
+pub plain_value : (s front after value : List ℕ) → DoesNotBegin is_quote s → s ≡ front ++ after
+    → Without is_semicolon front → BeginsParameters after → IsTrimmedEnd is_http_whitespace front value
+    → HasValueBefore (61 ∷ s) (unless_empty value) after
+plain_value s front after value d j w b t = record {
   tail = 61 ∷ front;
   joined = ap (λ x. 61 ∷ x) j;
-  gives = plain front value w (not_begins_left is_quote front behind (subst (DoesNotBegin is_quote) j d)) t;
+  gives = plain front value w (not_begins_left is_quote front after (subst (DoesNotBegin is_quote) j d)) t;
   begins = b;
 }
 
@@ -203,13 +203,13 @@ some_unless_empty : (value : List ℕ) → (value ≡ [] → ⊥) → unless_emp
 some_unless_empty [] n = absurd (n refl)
 some_unless_empty (c ∷ value) n = refl
 
-pub missing_value : (s front behind value : List ℕ) → value ≡ [] → HasValueBefore (61 ∷ s) (unless_empty value) behind
-    → HasValueBefore (61 ∷ s) None behind
-missing_value s front behind value e h = subst (λ v. HasValueBefore (61 ∷ s) v behind) (ap unless_empty e) h
+pub missing_value : (s front after value : List ℕ) → value ≡ [] → HasValueBefore (61 ∷ s) (unless_empty value) after
+    → HasValueBefore (61 ∷ s) None after
+missing_value s front after value e h = subst (λ v. HasValueBefore (61 ∷ s) v after) (ap unless_empty e) h
 
-pub some_value : (s front behind value : List ℕ) → (value ≡ [] → ⊥)
-    → HasValueBefore (61 ∷ s) (unless_empty value) behind → HasValueBefore (61 ∷ s) (Some value) behind
-some_value s front behind value n h = subst (λ v. HasValueBefore (61 ∷ s) v behind) (some_unless_empty value n) h
+pub some_value : (s front after value : List ℕ) → (value ≡ [] → ⊥)
+    → HasValueBefore (61 ∷ s) (unless_empty value) after → HasValueBefore (61 ∷ s) (Some value) after
+some_value s front after value n h = subst (λ v. HasValueBefore (61 ∷ s) v after) (some_unless_empty value n) h
 
 -- A quoted string
 

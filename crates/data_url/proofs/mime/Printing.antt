@@ -180,9 +180,9 @@ module _ {W : Type 0} {took : W → List ℕ → W → Type 0} where
   }
 
   -- what is held is written, and then a text is held
-  pub added_behind : (f g : Formatter W) (l m n : Line) (a : List ℕ) → HasWrittenStyled took f (held l) g → m.len ≡ 0
+  pub added_after : (f g : Formatter W) (l m n : Line) (a : List ℕ) → HasWrittenStyled took f (held l) g → m.len ≡ 0
       → held n ≡ held m ++ a → HasAdded took f l a g n
-  added_behind f g l m n a x e h = record {
+  added_after f g l m n a x e h = record {
     written = held l;
     wrote = x;
     joined = ap (λ t. held l ++ t) (sym (h ∙ ap (λ t. t ++ a) (held_none m e)));

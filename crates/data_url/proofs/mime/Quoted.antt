@@ -243,17 +243,17 @@ is_open bs text i e u b l h =
 
 -- The closing quote
 
-scalars_behind : (q w : List ℕ) → all_scalars (q ++ w) ≡ true → all_scalars w ≡ true
-scalars_behind [] w h = h
-scalars_behind (c ∷ q) w h = scalars_behind q w (and_parts (scalar c) (all_scalars (q ++ w)) h).1
+scalars_after : (q w : List ℕ) → all_scalars (q ++ w) ≡ true → all_scalars w ≡ true
+scalars_after [] w h = h
+scalars_after (c ∷ q) w h = scalars_after q w (and_parts (scalar c) (all_scalars (q ++ w)) h).1
 
-closed_if : (bs raw behind v : List ℕ) (o : Option (List ℕ)) → IsRead (chars bs) v o
-    → option_map encode_utf8_all o ≡ Some behind → all_scalars (chars bs) ≡ true
-    → chars bs ≡ chars raw ++ (34 ∷ chars behind) → IsUtf8 behind → IsClosed bs raw behind
-closed_if bs raw behind v None h e s j u = absurd (let k = e in cc)
-closed_if bs raw behind v (Some w) h e s j u =
-    let rest : chars behind ≡ w = ap chars (sym (some_equal _ _ e))
-    ∙ chars-encodes w (and_parts (scalar 34) (all_scalars w) (scalars_behind h.0 (34 ∷ w) (ap all_scalars (sym h.1)
+closed_if : (bs raw after v : List ℕ) (o : Option (List ℕ)) → IsRead (chars bs) v o
+    → option_map encode_utf8_all o ≡ Some after → all_scalars (chars bs) ≡ true
+    → chars bs ≡ chars raw ++ (34 ∷ chars after) → IsUtf8 after → IsClosed bs raw after
+closed_if bs raw after v None h e s j u = absurd (let k = e in cc)
+closed_if bs raw after v (Some w) h e s j u =
+    let rest : chars after ≡ w = ap chars (sym (some_equal _ _ e))
+    ∙ chars-encodes w (and_parts (scalar 34) (all_scalars w) (scalars_after h.0 (34 ∷ w) (ap all_scalars (sym h.1)
     ∙ s))).1 in
     let front : h.0 ≡ chars raw = append_cancel_right h.0 (chars raw) (34 ∷ w) (sym h.1 ∙ j
     ∙ ap (λ x. chars raw ++ (34 ∷ x)) rest) in
@@ -273,12 +273,12 @@ chars_joined bs i u l e =
 range_take : (bs : List ℕ) (i : ℕ) → slice_range bs 0 i ≡ take i bs
 range_take bs i = ap (λ k. take k bs) (omega arith)
 
-pub is_closed : (bs raw behind : List ℕ) (i : ℕ) → IsUtf8 bs → i < length bs → get_or bs i 0 ≡ 34
-    → quoted_rest false (drop i bs) ≡ quoted_rest false bs → raw ≡ slice_range bs 0 i → behind ≡ drop (i + 1) bs
-    → IsUtf8 behind → IsClosed bs raw behind
-is_closed bs raw behind i u l e h r b w =
-    let one : quoted_rest false bs ≡ Some behind = sym h ∙ ap (quoted_rest false) (quote_joined bs i u l e)
+pub is_closed : (bs raw after : List ℕ) (i : ℕ) → IsUtf8 bs → i < length bs → get_or bs i 0 ≡ 34
+    → quoted_rest false (drop i bs) ≡ quoted_rest false bs → raw ≡ slice_range bs 0 i → after ≡ drop (i + 1) bs
+    → IsUtf8 after → IsClosed bs raw after
+is_closed bs raw after i u l e h r b w =
+    let one : quoted_rest false bs ≡ Some after = sym h ∙ ap (quoted_rest false) (quote_joined bs i u l e)
     ∙ ap Some (sym b) in
-    closed_if bs raw behind (quoted_value false (chars bs)) (quoted_rest false (chars bs)) (is_read false (chars bs))
+    closed_if bs raw after (quoted_value false (chars bs)) (quoted_rest false (chars bs)) (is_read false (chars bs))
     (sym (rest_chars bs u) ∙ one) (scalars-chars bs u) (chars_joined bs i u l e
     ∙ ap₂ (λ x y. chars x ++ (34 ∷ chars y)) (sym (r ∙ range_take bs i)) (sym b)) w

@@ -13,7 +13,7 @@ use Rattle.std.specs.List.{list_all, list_any, prefix_len}
 use Rattle.std.specs.Str.{IsAscii, IsCharBoundary, IsUtf8, chars}
 use Rattle.data_url.specs.CodePoints.{is_token}
 use Rattle.data_url.specs.Mime.{DoesNotBegin, Every, is_token_text}
-use Rattle.data_url.proofs.texts.CodePoints.{behind_begins, behind_front, front_of, front_passes}
+use Rattle.data_url.proofs.texts.CodePoints.{after_begins, after_front, front_of, front_passes}
 
 in_range_below : (low high c : ℕ) → is_in_range low high c ≡ true → high < 128 → c < 128
 in_range_below low high c r l = let e = leb-true c high (and_parts (nat_le low c) (nat_le c high) r).1 in omega arith
@@ -82,10 +82,10 @@ take_front p (c ∷ s) =
       | false ↦ refl
     ]
 
-pub drop_front : (p : ℕ → Bool) (s : List ℕ) → drop (prefix_len p s) s ≡ behind_front p s
+pub drop_front : (p : ℕ → Bool) (s : List ℕ) → drop (prefix_len p s) s ≡ after_front p s
 drop_front p [] = refl
 drop_front p (c ∷ s) =
-    elim (p c) as (λ v. drop (cond v (1 + prefix_len p s) 0) (c ∷ s) ≡ cond v (behind_front p s) (c ∷ s)) [
+    elim (p c) as (λ v. drop (cond v (1 + prefix_len p s) 0) (c ∷ s) ≡ cond v (after_front p s) (c ∷ s)) [
       | true ↦
           rw one-add (drop_front p s)
       | false ↦ refl
@@ -104,11 +104,11 @@ pub not_begins_chars : (p : ℕ → Bool) → ((c : ℕ) → p c ≡ true → c 
 not_begins_chars p a bs u h = not_begins_encoded p a (chars bs) (subst (DoesNotBegin p) (sym (encodes-chars bs u)) h)
 
 -- a text cut at the first byte that does not pass, of an ASCII class
-pub record IsSplit (p : ℕ → Bool) (bs front behind : List ℕ) : Type 0 where
-  pub joined : chars bs ≡ chars front ++ chars behind
+pub record IsSplit (p : ℕ → Bool) (bs front after : List ℕ) : Type 0 where
+  pub joined : chars bs ≡ chars front ++ chars after
   pub in_front : Every p (chars front)
-  pub begins : DoesNotBegin p (chars behind)
-  pub text : IsUtf8 front × IsUtf8 behind
+  pub begins : DoesNotBegin p (chars after)
+  pub text : IsUtf8 front × IsUtf8 after
 
 module _ (p : ℕ → Bool) (below : (c : ℕ) → p c ≡ true → c < 128) where
   pub every_ascii : (t : List ℕ) → Every p t → IsAscii t
@@ -125,23 +125,23 @@ module _ (p : ℕ → Bool) (below : (c : ℕ) → p c ≡ true → c < 128) whe
   pub is_split : (bs : List ℕ) → IsUtf8 bs → IsSplit p bs (take (prefix_len p bs) bs) (drop (prefix_len p bs) bs)
   is_split bs u =
       let front = IsUtf8-from_ascii (take (prefix_len p bs) bs) (front_ascii bs) in
-      let behind = IsUtf8-drop bs (prefix_len p bs) u (front_boundary bs u) in
+      let after = IsUtf8-drop bs (prefix_len p bs) u (front_boundary bs u) in
       record {
         joined = ap chars (sym (take-append-drop (prefix_len p bs) bs))
             ∙ chars-append (take (prefix_len p bs) bs) (drop (prefix_len p bs) bs) front;
         in_front = subst (Every p) (sym (chars-IsAscii (take (prefix_len p bs) bs) (front_ascii bs)))
             (subst (Every p) (sym (take_front p bs)) (front_passes p bs));
-        begins = not_begins_chars p below (drop (prefix_len p bs) bs) behind
-            (subst (DoesNotBegin p) (sym (drop_front p bs)) (behind_begins p bs));
-        text = (front, behind);
+        begins = not_begins_chars p below (drop (prefix_len p bs) bs) after
+            (subst (DoesNotBegin p) (sym (drop_front p bs)) (after_begins p bs));
+        text = (front, after);
       }
 
 pub tokens_boundary_at : (text : List ℕ) (n : ℕ) → IsUtf8 text → n ≡ prefix_len is_token text → IsCharBoundary text n
 tokens_boundary_at text n u e = subst (IsCharBoundary text) (sym e) (front_boundary is_token token_below text u)
 
-pub split_at_other : (text front behind : List ℕ) (n : ℕ) → IsUtf8 text → n ≡ prefix_len is_token text
-    → front ≡ take n text → behind ≡ drop n text → IsSplit is_token text front behind
-split_at_other text front behind n u k f g = rw (f, g, k) (is_split is_token token_below text u)
+pub split_at_other : (text front after : List ℕ) (n : ℕ) → IsUtf8 text → n ≡ prefix_len is_token text
+    → front ≡ take n text → after ≡ drop n text → IsSplit is_token text front after
+split_at_other text front after n u k f g = rw (f, g, k) (is_split is_token token_below text u)
 
 suc_test : (a b : ℕ) → (1 + a == suc b) ≡ (a == b)
 suc_test a b = elim (cases_eq a b) [

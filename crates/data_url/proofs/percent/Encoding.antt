@@ -8,7 +8,7 @@ use Rattle.std.proofs.lemmas.Bool.{agree_below, agree_below_at, and_parts, eqb-t
 use Rattle.std.proofs.lemmas.Bool.{cond-true, cond-false, cond_both, both_ways, ne_eqb, or_cases, or_left, eqb-false}
 use Rattle.std.proofs.lemmas.Bool.{ltb-true, or_parts}
 use Rattle.std.proofs.lemmas.Slice.Eq.{bytes_eq-Decides}
-use Rattle.data_url.specs.Url.{in_fragment_set, in_path_set, in_query_set, before, behind, encoded_byte, encoded_path}
+use Rattle.data_url.specs.Url.{in_fragment_set, in_path_set, in_query_set, before, after, encoded_byte, encoded_path}
 use Rattle.data_url.specs.Url.{hex_digit, in_path_end_set, percent_encoding, serialised, with_query}
 use Rattle.data_url.specs.Url.{without_tabs_and_newlines, is_tab_or_newline}
 use Rattle.data_url.specs.Steps.Sets.{IsRow, byte_encoding, in_set}
@@ -18,8 +18,8 @@ use Rattle.std.specs.Char.{digit_value, is_ascii_hexdigit}
 use Rattle.std.specs.List.{AllByRecursion, list_all}
 use Rattle.data_url.specs.Steps.Header.{header_parts, header_text}
 use Rattle.data_url.specs.Percent.{is_escape, percent_decoding}
-use Rattle.data_url.proofs.texts.Bytes.{before-append, before_at, before_nil, before_other, before_same, behind_nil}
-use Rattle.data_url.proofs.texts.Bytes.{behind_other, behind_same, lacks, before_all, behind-dropped_none, behind_none}
+use Rattle.data_url.proofs.texts.Bytes.{before-append, before_at, before_nil, before_other, before_same, after_nil}
+use Rattle.data_url.proofs.texts.Bytes.{after_other, after_same, lacks, before_all, after-dropped_none, after_none}
 use Rattle.data_url.proofs.texts.Bytes.{without_tabs_and_newlines-append, dropped_keeps, dropped_nil, dropped_passes}
 use Rattle.std.proofs.Math.Seq.{take-append-add}
 use Rattle.std.proofs.lemmas.Grind.{flat_map-append}
@@ -252,13 +252,13 @@ path_byte_within [] b h = end_within_query b h
 path_byte_within (c ∷ s) b h = path_within_query b h
 
 pub serialised_nil : serialised [] ≡ []
-unfolding serialised before behind encoded_path
+unfolding serialised before after encoded_path
 serialised_nil = refl
 
 pub serialised_query : (s : List ℕ) → serialised (63 ∷ s) ≡ 63 ∷ percent_encoding in_query_set s
 unfolding serialised
-serialised_query s = ap (λ v. with_query v (behind 63 (63 ∷ s))) (before_same 63 s)
-    ∙ ap (λ v. with_query [] v) (behind_same 63 s) ∙ ap (λ v. v ++ 63 ∷ percent_encoding in_query_set s) path_nil
+serialised_query s = ap (λ v. with_query v (after 63 (63 ∷ s))) (before_same 63 s)
+    ∙ ap (λ v. with_query [] v) (after_same 63 s) ∙ ap (λ v. v ++ 63 ∷ percent_encoding in_query_set s) path_nil
 
 with_query_cons : (b : ℕ) (path : List ℕ) (query : Option (List ℕ))
     → with_query (b ∷ path) query ≡ encoded_byte (path_byte_set path) b ++ with_query path query
@@ -269,8 +269,8 @@ with_query_cons b path (Some query) = ap (λ v. v ++ 63 ∷ percent_encoding in_
 pub serialised_path : (b : ℕ) (s : List ℕ) → (b == 63) ≡ false
     → serialised (b ∷ s) ≡ encoded_byte (path_byte_set (before 63 s)) b ++ serialised s
 unfolding serialised
-serialised_path b s h = ap (λ v. with_query v (behind 63 (b ∷ s))) (before_other 63 b s h)
-    ∙ ap (λ v. with_query (b ∷ before 63 s) v) (behind_other 63 b s h) ∙ with_query_cons b (before 63 s) (behind 63 s)
+serialised_path b s h = ap (λ v. with_query v (after 63 (b ∷ s))) (before_other 63 b s h)
+    ∙ ap (λ v. with_query (b ∷ before 63 s) v) (after_other 63 b s h) ∙ with_query_cons b (before 63 s) (after 63 s)
 
 pub serialised_recoded : (s : List ℕ) → IsBytes s → Recoded s (serialised s)
 serialised_recoded [] h = subst (λ x. Recoded [] x) (sym serialised_nil) none
@@ -291,31 +291,31 @@ RecodedTails None (Some y) = ⊥
 RecodedTails (Some t) None = ⊥
 RecodedTails (Some t) (Some y) = Recoded t y
 
-behind_written : (b : ℕ) (x : List ℕ) → behind 44 (37 ∷ hex_digit (b / 16) ∷ hex_digit (b % 16) ∷ x) ≡ behind 44 x
-behind_written b x =
-    behind_other 44 37 (hex_digit (b / 16) ∷ hex_digit (b % 16) ∷ x) refl
-    ∙ behind_other 44 (hex_digit (b / 16)) (hex_digit (b % 16) ∷ x) (hex_digit_other (b / 16) 44 (omega arith))
-    ∙ behind_other 44 (hex_digit (b % 16)) x (hex_digit_other (b % 16) 44 (omega arith))
+after_written : (b : ℕ) (x : List ℕ) → after 44 (37 ∷ hex_digit (b / 16) ∷ hex_digit (b % 16) ∷ x) ≡ after 44 x
+after_written b x =
+    after_other 44 37 (hex_digit (b / 16) ∷ hex_digit (b % 16) ∷ x) refl
+    ∙ after_other 44 (hex_digit (b / 16)) (hex_digit (b % 16) ∷ x) (hex_digit_other (b / 16) 44 (omega arith))
+    ∙ after_other 44 (hex_digit (b % 16)) x (hex_digit_other (b % 16) 44 (omega arith))
 
-pub recoded_tails : {s x : List ℕ} → Recoded s x → RecodedTails (behind 44 s) (behind 44 x)
-recoded_tails none = subst (λ v. RecodedTails v v) (sym (behind_nil 44)) tt
+pub recoded_tails : {s x : List ℕ} → Recoded s x → RecodedTails (after 44 s) (after 44 x)
+recoded_tails none = subst (λ v. RecodedTails v v) (sym (after_nil 44)) tt
 recoded_tails (kept {s} {x} b r) = elim (cases_Bool (b == 44)) [
-  | inl e ↦ let f : b ≡ 44 = eqb-true b 44 e in subst (λ v. RecodedTails (behind 44 (v ∷ s)) (behind 44 (v ∷ x)))
-      (sym f) (subst (λ v. RecodedTails v (behind 44 (44 ∷ x))) (sym (behind_same 44 s))
-      (subst (λ v. RecodedTails (Some s) v) (sym (behind_same 44 x)) r))
-  | inr e ↦ subst (λ v. RecodedTails v (behind 44 (b ∷ x))) (sym (behind_other 44 b s e))
-      (subst (λ v. RecodedTails (behind 44 s) v) (sym (behind_other 44 b x e)) (recoded_tails r))
+  | inl e ↦ let f : b ≡ 44 = eqb-true b 44 e in subst (λ v. RecodedTails (after 44 (v ∷ s)) (after 44 (v ∷ x)))
+      (sym f) (subst (λ v. RecodedTails v (after 44 (44 ∷ x))) (sym (after_same 44 s))
+      (subst (λ v. RecodedTails (Some s) v) (sym (after_same 44 x)) r))
+  | inr e ↦ subst (λ v. RecodedTails v (after 44 (b ∷ x))) (sym (after_other 44 b s e))
+      (subst (λ v. RecodedTails (after 44 s) v) (sym (after_other 44 b x e)) (recoded_tails r))
 ]
 recoded_tails (written {s} {x} b h l r) =
-    subst (λ v. RecodedTails v (behind 44 (37 ∷ hex_digit (b / 16) ∷ hex_digit (b % 16) ∷ x)))
-    (sym (behind_other 44 b s (set_other b 44 refl h)))
-    (subst (λ v. RecodedTails (behind 44 s) v) (sym (behind_written b x)) (recoded_tails r))
+    subst (λ v. RecodedTails v (after 44 (37 ∷ hex_digit (b / 16) ∷ hex_digit (b % 16) ∷ x)))
+    (sym (after_other 44 b s (set_other b 44 refl h)))
+    (subst (λ v. RecodedTails (after 44 s) v) (sym (after_written b x)) (recoded_tails r))
 
 -- what stands before the first comma of an encoded text is the encoding of what stands before the first comma
 
-encoded_byte_lacks : (p : ℕ → Bool) (b : ℕ) → (b == 44) ≡ false → behind 44 (encoded_byte p b) ≡ None
+encoded_byte_lacks : (p : ℕ → Bool) (b : ℕ) → (b == 44) ≡ false → after 44 (encoded_byte p b) ≡ None
 encoded_byte_lacks p b h = cond_both (p b) (37 ∷ hex_digit (b / 16) ∷ hex_digit (b % 16) ∷ []) (b ∷ [])
-    (λ t. behind 44 t ≡ None) (λ e. behind_written b [] ∙ behind_nil 44) (λ e. behind_other 44 b [] h ∙ behind_nil 44)
+    (λ t. after 44 t ≡ None) (λ e. after_written b [] ∙ after_nil 44) (λ e. after_other 44 b [] h ∙ after_nil 44)
 
 encoded_comma : (p : ℕ → Bool) → p 44 ≡ false → (s : List ℕ) → encoded_byte p 44 ++ s ≡ 44 ∷ s
 encoded_comma p h s =
@@ -338,13 +338,13 @@ before_encoded p h (b ∷ s) = ap (before 44) (encoded_cons p b s) ∙ elim (cas
 -- the header's text, byte by byte
 
 pub header_nil : header_text [] ≡ []
-unfolding header_text before behind percent_encoding
+unfolding header_text before after percent_encoding
 header_nil = refl
 
 pub header_query : (s : List ℕ) → header_text (63 ∷ s) ≡ 63 ∷ percent_encoding in_query_set s
 unfolding header_text
-header_query s = ap (λ v. header_parts v (behind 63 (63 ∷ s))) (before_same 63 s)
-    ∙ ap (λ v. header_parts [] v) (behind_same 63 s) ∙ ap (λ v. v ++ 63 ∷ percent_encoding in_query_set s) path_nil
+header_query s = ap (λ v. header_parts v (after 63 (63 ∷ s))) (before_same 63 s)
+    ∙ ap (λ v. header_parts [] v) (after_same 63 s) ∙ ap (λ v. v ++ 63 ∷ percent_encoding in_query_set s) path_nil
 
 -- the set of a byte before the rest of a header, without or with a query
 abbrev pub header_byte_set : List ℕ → Option (List ℕ) → ℕ → Bool
@@ -357,16 +357,16 @@ header_cons b path None = encoded_cons in_path_set b path
 header_cons b path (Some query) = with_query_cons b path (Some query)
 
 pub header_path : (b : ℕ) (s : List ℕ) → (b == 63) ≡ false
-    → header_text (b ∷ s) ≡ encoded_byte (header_byte_set (before 63 s) (behind 63 s)) b ++ header_text s
+    → header_text (b ∷ s) ≡ encoded_byte (header_byte_set (before 63 s) (after 63 s)) b ++ header_text s
 unfolding header_text
-header_path b s h = ap (λ v. header_parts v (behind 63 (b ∷ s))) (before_other 63 b s h)
-    ∙ ap (λ v. header_parts (b ∷ before 63 s) v) (behind_other 63 b s h) ∙ header_cons b (before 63 s) (behind 63 s)
+header_path b s h = ap (λ v. header_parts v (after 63 (b ∷ s))) (before_other 63 b s h)
+    ∙ ap (λ v. header_parts (b ∷ before 63 s) v) (after_other 63 b s h) ∙ header_cons b (before 63 s) (after 63 s)
 
 -- what follows the header leaves the sets of its bytes as they are
-same_set : (h rest : List ℕ) (o : Option (List ℕ)) → behind 63 h ≡ o
+same_set : (h rest : List ℕ) (o : Option (List ℕ)) → after 63 h ≡ o
     → path_byte_set (before 63 (h ++ 44 ∷ rest)) ≡ header_byte_set (before 63 h) o
 same_set [] rest None e = ap path_byte_set (before_other 63 44 rest refl)
-same_set [] rest (Some query) e = absurd (let k = sym (behind_nil 63) ∙ e in cc)
+same_set [] rest (Some query) e = absurd (let k = sym (after_nil 63) ∙ e in cc)
 same_set (c ∷ h) rest None e = let k = lacks 63 c h e in ap path_byte_set (before_other 63 c (h ++ 44 ∷ rest) k.here)
 same_set (c ∷ h) rest (Some query) e = elim (cases_Bool (c == 63)) [
   | inl f ↦ let g : c ≡ 63 = eqb-true c 63 f in
@@ -379,7 +379,7 @@ end_lacks_comma : (path : List ℕ) → path_byte_set path 44 ≡ false
 end_lacks_comma [] = refl
 end_lacks_comma (c ∷ s) = refl
 
-pub before-serialised : (h rest : List ℕ) → behind 44 h ≡ None → before 44 (serialised (h ++ 44 ∷ rest)) ≡ header_text h
+pub before-serialised : (h rest : List ℕ) → after 44 h ≡ None → before 44 (serialised (h ++ 44 ∷ rest)) ≡ header_text h
 before-serialised [] rest e =
     ap (before 44) (serialised_path 44 rest refl ∙ encoded_comma (path_byte_set (before 63 rest))
     (end_lacks_comma (before 63 rest)) (serialised rest))
@@ -394,14 +394,14 @@ before-serialised (b ∷ h) rest e =
           (ap (before 44) (serialised_query (h ++ 44 ∷ rest))
           ∙ before_other 44 63 (percent_encoding in_query_set (h ++ 44 ∷ rest)) refl
           ∙ ap (λ t. 63 ∷ t) (before_encoded in_query_set refl (h ++ 44 ∷ rest)
-          ∙ ap (percent_encoding in_query_set) (before_at 44 h rest k.behind_it))
+          ∙ ap (percent_encoding in_query_set) (before_at 44 h rest k.after_it))
           ∙ sym (header_query h))
       | inr f ↦
           let set = path_byte_set (before 63 (h ++ 44 ∷ rest)) in
           ap (before 44) (serialised_path b (h ++ 44 ∷ rest) f)
           ∙ before-append 44 (encoded_byte set b) (serialised (h ++ 44 ∷ rest)) (encoded_byte_lacks set b k.here)
-          ∙ ap (λ t. encoded_byte set b ++ t) (before-serialised h rest k.behind_it)
-          ∙ ap (λ p. encoded_byte p b ++ header_text h) (same_set h rest (behind 63 h) refl)
+          ∙ ap (λ t. encoded_byte set b ++ t) (before-serialised h rest k.after_it)
+          ∙ ap (λ p. encoded_byte p b ++ header_text h) (same_set h rest (after 63 h) refl)
           ∙ sym (header_path b h f)
     ]
 
@@ -529,7 +529,7 @@ pub plain_serialised : (s : List ℕ) → ((k : ℕ) → k < length s → Plain 
     → header_text (without_tabs_and_newlines s) ≡ s
 unfolding header_text
 plain_serialised s h =
-    let none = behind-dropped_none 63 refl s (behind_none 63 s (λ k l. let b = h k l in b.no_query)) in
+    let none = after-dropped_none 63 refl s (after_none 63 s (λ k l. let b = h k l in b.no_query)) in
     ap (λ o. header_parts (before 63 (without_tabs_and_newlines s)) o) none
     ∙ ap (percent_encoding in_path_set) (before_all 63 (without_tabs_and_newlines s) none)
     ∙ sym (kept_whole in_path_set s (λ k l. let b = h k l in b.written_is))

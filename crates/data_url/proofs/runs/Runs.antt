@@ -80,8 +80,8 @@ prefix_none xs = (xs, refl)
 pub prefix_all : (xs ys : List ℕ) → xs ≡ ys → IsPrefix xs ys
 prefix_all xs ys e = ([], sym e ∙ sym (append-nil xs))
 
-pub prefix_behind : (front xs ys : List ℕ) → IsPrefix xs ys → IsPrefix (front ++ xs) (front ++ ys)
-prefix_behind front xs ys p = (p.0, ap (λ z. front ++ z) p.1 ∙ sym (append_assoc front xs p.0))
+pub prefix_after : (front xs ys : List ℕ) → IsPrefix xs ys → IsPrefix (front ++ xs) (front ++ ys)
+prefix_after front xs ys p = (p.0, ap (λ z. front ++ z) p.1 ∙ sym (append_assoc front xs p.0))
 
 pub prefix_trans : (xs ys zs : List ℕ) → IsPrefix xs ys → IsPrefix ys zs → IsPrefix xs zs
 prefix_trans xs ys zs p q = (p.0 ++ q.0, q.1 ∙ ap (λ z. z ++ q.0) p.1 ∙ append_assoc xs p.0 q.0)

@@ -4,7 +4,7 @@ use Rattle.std.proofs.Common.{None, Some, refl, sym, ap, ◌∙◌, inl, inr, ar
 use Rattle.std.specs.Prelude.{◌==◌}
 use Rattle.std.proofs.lemmas.Bool.{cases_Bool, cond-true, cond-false}
 use Rattle.std.specs.Option.{option_map}
-use Rattle.data_url.specs.Url.{before, behind, without_tabs_and_newlines, fragment, is_tab_or_newline}
+use Rattle.data_url.specs.Url.{before, after, without_tabs_and_newlines, fragment, is_tab_or_newline}
 
 -- one byte on
 
@@ -12,21 +12,21 @@ pub before_same : (c : ℕ) (s : List ℕ) → before c (c ∷ s) ≡ []
 unfolding before
 before_same c s = cond-true (eqb c c) [] (c ∷ before c s) (eq-eqb c c refl)
 
-pub behind_same : (c : ℕ) (s : List ℕ) → behind c (c ∷ s) ≡ Some s
-unfolding behind
-behind_same c s = cond-true (eqb c c) (Some s) (behind c s) (eq-eqb c c refl)
+pub after_same : (c : ℕ) (s : List ℕ) → after c (c ∷ s) ≡ Some s
+unfolding after
+after_same c s = cond-true (eqb c c) (Some s) (after c s) (eq-eqb c c refl)
 
 pub before_other : (c b : ℕ) (s : List ℕ) → (b == c) ≡ false → before c (b ∷ s) ≡ b ∷ before c s
 unfolding before
 before_other c b s h = cond-false (eqb b c) [] (b ∷ before c s) h
 
-pub behind_other : (c b : ℕ) (s : List ℕ) → (b == c) ≡ false → behind c (b ∷ s) ≡ behind c s
-unfolding behind
-behind_other c b s h = cond-false (eqb b c) (Some s) (behind c s) h
+pub after_other : (c b : ℕ) (s : List ℕ) → (b == c) ≡ false → after c (b ∷ s) ≡ after c s
+unfolding after
+after_other c b s h = cond-false (eqb b c) (Some s) (after c s) h
 
-pub behind_nil : (c : ℕ) → behind c [] ≡ None
-unfolding behind
-behind_nil c = refl
+pub after_nil : (c : ℕ) → after c [] ≡ None
+unfolding after
+after_nil c = refl
 
 pub before_nil : (c : ℕ) → before c [] ≡ []
 unfolding before
@@ -35,71 +35,71 @@ before_nil c = refl
 -- where the byte is not there
 pub record Lacks (c b : ℕ) (s : List ℕ) : Type 0 where
   pub here : (b == c) ≡ false
-  pub behind_it : behind c s ≡ None
+  pub after_it : after c s ≡ None
 
-pub lacks : (c b : ℕ) (s : List ℕ) → behind c (b ∷ s) ≡ None → Lacks c b s
-unfolding behind
-lacks c b s h = elim (b == c) as (λ v. (b == c) ≡ v → cond v (Some s) (behind c s) ≡ None → Lacks c b s) [
+pub lacks : (c b : ℕ) (s : List ℕ) → after c (b ∷ s) ≡ None → Lacks c b s
+unfolding after
+lacks c b s h = elim (b == c) as (λ v. (b == c) ≡ v → cond v (Some s) (after c s) ≡ None → Lacks c b s) [
   | true ↦
       (λ e k. absurd (let x : Some s ≡ None = k in cc))
-  | false ↦ (λ e k. record { here = e; behind_it = k })
+  | false ↦ (λ e k. record { here = e; after_it = k })
 ] refl h
 
-pub before-append : (c : ℕ) (a s : List ℕ) → behind c a ≡ None → before c (a ++ s) ≡ a ++ before c s
+pub before-append : (c : ℕ) (a s : List ℕ) → after c a ≡ None → before c (a ++ s) ≡ a ++ before c s
 before-append c [] s h = refl
 before-append c (b ∷ a) s h = let k = lacks c b a h in before_other c b (a ++ s) k.here
-    ∙ ap (λ t. b ∷ t) (before-append c a s k.behind_it)
+    ∙ ap (λ t. b ∷ t) (before-append c a s k.after_it)
 
-pub behind-append : (c : ℕ) (a s : List ℕ) → behind c a ≡ None → behind c (a ++ s) ≡ behind c s
-behind-append c [] s h = refl
-behind-append c (b ∷ a) s h = let k = lacks c b a h in behind_other c b (a ++ s) k.here
-    ∙ behind-append c a s k.behind_it
+pub after-append : (c : ℕ) (a s : List ℕ) → after c a ≡ None → after c (a ++ s) ≡ after c s
+after-append c [] s h = refl
+after-append c (b ∷ a) s h = let k = lacks c b a h in after_other c b (a ++ s) k.here
+    ∙ after-append c a s k.after_it
 
-pub before_all : (c : ℕ) (a : List ℕ) → behind c a ≡ None → before c a ≡ a
+pub before_all : (c : ℕ) (a : List ℕ) → after c a ≡ None → before c a ≡ a
 before_all c [] h = before_nil c
 before_all c (b ∷ a) h = let k = lacks c b a h in before_other c b a k.here
-    ∙ ap (λ t. b ∷ t) (before_all c a k.behind_it)
+    ∙ ap (λ t. b ∷ t) (before_all c a k.after_it)
 
 pub append-nil : (a : List ℕ) → a ++ [] ≡ a
 append-nil [] = refl
 append-nil (b ∷ a) = ap (λ t. b ∷ t) (append-nil a)
 
-pub before_at : (c : ℕ) (a s : List ℕ) → behind c a ≡ None → before c (a ++ c ∷ s) ≡ a
+pub before_at : (c : ℕ) (a s : List ℕ) → after c a ≡ None → before c (a ++ c ∷ s) ≡ a
 before_at c a s h = before-append c a (c ∷ s) h ∙ ap (λ t. a ++ t) (before_same c s) ∙ append-nil a
 
-pub behind_at : (c : ℕ) (a s : List ℕ) → behind c a ≡ None → behind c (a ++ c ∷ s) ≡ Some s
-behind_at c a s h = behind-append c a (c ∷ s) h ∙ behind_same c s
+pub after_at : (c : ℕ) (a s : List ℕ) → after c a ≡ None → after c (a ++ c ∷ s) ≡ Some s
+after_at c a s h = after-append c a (c ∷ s) h ∙ after_same c s
 
 -- a text with the byte is what stands before it, the byte, and what stands behind it
 pub record IsCut (c : ℕ) (s rest : List ℕ) : Type 0 where
   pub joined : s ≡ before c s ++ c ∷ rest
-  pub lacks : behind c (before c s) ≡ None
+  pub lacks : after c (before c s) ≡ None
 
-pub is_cut : (c : ℕ) (s rest : List ℕ) → behind c s ≡ Some rest → IsCut c s rest
-is_cut c [] rest h = absurd (let k : None ≡ Some rest = sym (behind_nil c) ∙ h in cc)
+pub is_cut : (c : ℕ) (s rest : List ℕ) → after c s ≡ Some rest → IsCut c s rest
+is_cut c [] rest h = absurd (let k : None ≡ Some rest = sym (after_nil c) ∙ h in cc)
 is_cut c (b ∷ s) rest h = elim (cases_Bool (b == c)) [
   | inl e ↦
       let same : b ≡ c = eqb-true b c e in
       let front : before c (b ∷ s) ≡ [] = ap (λ x. before c (x ∷ s)) same ∙ before_same c s in
-      let tail : Some s ≡ Some rest = sym (ap (λ x. behind c (x ∷ s)) same ∙ behind_same c s) ∙ h in
+      let tail : Some s ≡ Some rest = sym (ap (λ x. after c (x ∷ s)) same ∙ after_same c s) ∙ h in
       let tail_is : s ≡ rest = cc in
       record {
         joined = ap (λ x. x ∷ s) same ∙ ap (λ t. c ∷ t) tail_is ∙ ap (λ t. t ++ c ∷ rest) (sym front);
-        lacks = ap (behind c) front ∙ behind_nil c;
+        lacks = ap (after c) front ∙ after_nil c;
       }
   | inr e ↦
-      let cut = is_cut c s rest (sym (behind_other c b s e) ∙ h) in
+      let cut = is_cut c s rest (sym (after_other c b s e) ∙ h) in
       let front = before_other c b s e in
       record {
         joined = ap (λ t. b ∷ t) cut.joined ∙ ap (λ t. t ++ c ∷ rest) (sym front);
-        lacks = ap (behind c) front ∙ behind_other c b (before c s) e ∙ cut.lacks;
+        lacks = ap (after c) front ∙ after_other c b (before c s) e ∙ cut.lacks;
       }
 ]
 
 -- no index holds the byte
-pub behind_none : (c : ℕ) (s : List ℕ) → ((k : ℕ) → k < length s → (get_or s k 0 == c) ≡ false) → behind c s ≡ None
-behind_none c [] h = behind_nil c
-behind_none c (b ∷ s) h = behind_other c b s (h 0 (omega arith)) ∙ behind_none c s (λ k l. h (suc k) (omega arith))
+pub after_none : (c : ℕ) (s : List ℕ) → ((k : ℕ) → k < length s → (get_or s k 0 == c) ≡ false) → after c s ≡ None
+after_none c [] h = after_nil c
+after_none c (b ∷ s) h = after_other c b s (h 0 (omega arith)) ∙ after_none c s (λ k l. h (suc k) (omega arith))
 
 -- Dropping
 
@@ -131,13 +131,13 @@ without_tabs_and_newlines-append (b ∷ a) s =
     ]
 
 -- a byte that is kept is there exactly if it was there before
-pub behind-dropped_none : (c : ℕ) → is_tab_or_newline c ≡ false → (s : List ℕ) → behind c s ≡ None
-    → behind c (without_tabs_and_newlines s) ≡ None
-behind-dropped_none c k [] h = ap (behind c) dropped_nil ∙ behind_nil c
-behind-dropped_none c k (b ∷ s) h = let l = lacks c b s h in elim (cases_Bool (is_tab_or_newline b)) [
-  | inl e ↦ ap (behind c) (dropped_passes b s e) ∙ behind-dropped_none c k s l.behind_it
-  | inr e ↦ ap (behind c) (dropped_keeps b s e) ∙ behind_other c b (without_tabs_and_newlines s) l.here
-      ∙ behind-dropped_none c k s l.behind_it
+pub after-dropped_none : (c : ℕ) → is_tab_or_newline c ≡ false → (s : List ℕ) → after c s ≡ None
+    → after c (without_tabs_and_newlines s) ≡ None
+after-dropped_none c k [] h = ap (after c) dropped_nil ∙ after_nil c
+after-dropped_none c k (b ∷ s) h = let l = lacks c b s h in elim (cases_Bool (is_tab_or_newline b)) [
+  | inl e ↦ ap (after c) (dropped_passes b s e) ∙ after-dropped_none c k s l.after_it
+  | inr e ↦ ap (after c) (dropped_keeps b s e) ∙ after_other c b (without_tabs_and_newlines s) l.here
+      ∙ after-dropped_none c k s l.after_it
 ]
 
 -- dropping, where a byte that is kept stands between
@@ -146,18 +146,18 @@ pub dropped_around : (c : ℕ) → is_tab_or_newline c ≡ false → (a s : List
 dropped_around c k a s = without_tabs_and_newlines-append a (c ∷ s)
     ∙ ap (λ t. without_tabs_and_newlines a ++ t) (dropped_keeps c s k)
 
-fragment_cases : (tail : List ℕ) (o : Option (List ℕ)) → behind 35 tail ≡ o
+fragment_cases : (tail : List ℕ) (o : Option (List ℕ)) → after 35 tail ≡ o
     → fragment (without_tabs_and_newlines tail) ≡ option_map without_tabs_and_newlines o
 unfolding fragment
-fragment_cases tail None h = behind-dropped_none 35 refl tail h
+fragment_cases tail None h = after-dropped_none 35 refl tail h
 fragment_cases tail (Some rest) h =
     let cut = is_cut 35 tail rest h in
-    ap (λ t. behind 35 (without_tabs_and_newlines t)) cut.joined
-    ∙ ap (behind 35) (dropped_around 35 refl (before 35 tail) rest)
-    ∙ behind_at 35 (without_tabs_and_newlines (before 35 tail)) (without_tabs_and_newlines rest)
-    (behind-dropped_none 35 refl (before 35 tail) cut.lacks)
+    ap (λ t. after 35 (without_tabs_and_newlines t)) cut.joined
+    ∙ ap (after 35) (dropped_around 35 refl (before 35 tail) rest)
+    ∙ after_at 35 (without_tabs_and_newlines (before 35 tail)) (without_tabs_and_newlines rest)
+    (after-dropped_none 35 refl (before 35 tail) cut.lacks)
 
 -- tabs and newlines may be dropped before the fragment is cut off or after it
 pub fragment_dropped : (tail : List ℕ)
-    → fragment (without_tabs_and_newlines tail) ≡ option_map without_tabs_and_newlines (behind 35 tail)
-fragment_dropped tail = fragment_cases tail (behind 35 tail) refl
+    → fragment (without_tabs_and_newlines tail) ≡ option_map without_tabs_and_newlines (after 35 tail)
+fragment_dropped tail = fragment_cases tail (after 35 tail) refl

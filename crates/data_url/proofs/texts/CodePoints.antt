@@ -30,24 +30,24 @@ front_of p [] = []
 front_of p (c ∷ t) = cond (p c) (c ∷ front_of p t) []
 
 -- what stands behind it
-abbrev pub behind_front : (ℕ → Bool) → List ℕ → List ℕ
-behind_front p [] = []
-behind_front p (c ∷ t) = cond (p c) (behind_front p t) (c ∷ t)
+abbrev pub after_front : (ℕ → Bool) → List ℕ → List ℕ
+after_front p [] = []
+after_front p (c ∷ t) = cond (p c) (after_front p t) (c ∷ t)
 
 pub front_is : (p : ℕ → Bool) (a b : List ℕ) → Every p a → DoesNotBegin p b → front_of p (a ++ b) ≡ a
 front_is p [] [] h e = refl
 front_is p [] (c ∷ b) h e = cond-false (p c) (c ∷ front_of p b) [] e
 front_is p (c ∷ a) b h e = cond-true (p c) (c ∷ front_of p (a ++ b)) [] h.0 ∙ ap (λ t. c ∷ t) (front_is p a b h.1 e)
 
-pub behind_is : (p : ℕ → Bool) (a b : List ℕ) → Every p a → DoesNotBegin p b → behind_front p (a ++ b) ≡ b
-behind_is p [] [] h e = refl
-behind_is p [] (c ∷ b) h e = cond-false (p c) (behind_front p b) (c ∷ b) e
-behind_is p (c ∷ a) b h e = cond-true (p c) (behind_front p (a ++ b)) (c ∷ (a ++ b)) h.0 ∙ behind_is p a b h.1 e
+pub after_is : (p : ℕ → Bool) (a b : List ℕ) → Every p a → DoesNotBegin p b → after_front p (a ++ b) ≡ b
+after_is p [] [] h e = refl
+after_is p [] (c ∷ b) h e = cond-false (p c) (after_front p b) (c ∷ b) e
+after_is p (c ∷ a) b h e = cond-true (p c) (after_front p (a ++ b)) (c ∷ (a ++ b)) h.0 ∙ after_is p a b h.1 e
 
-pub front_joined : (p : ℕ → Bool) (s : List ℕ) → s ≡ front_of p s ++ behind_front p s
+pub front_joined : (p : ℕ → Bool) (s : List ℕ) → s ≡ front_of p s ++ after_front p s
 front_joined p [] = refl
 front_joined p (c ∷ t) =
-    elim (p c) as (λ v. c ∷ t ≡ cond v (c ∷ front_of p t) [] ++ cond v (behind_front p t) (c ∷ t)) [
+    elim (p c) as (λ v. c ∷ t ≡ cond v (c ∷ front_of p t) [] ++ cond v (after_front p t) (c ∷ t)) [
       | true ↦
           ap (λ u. c ∷ u) (front_joined p t)
       | false ↦ refl
@@ -57,9 +57,9 @@ pub front_passes : (p : ℕ → Bool) (s : List ℕ) → Every p (front_of p s)
 front_passes p [] = tt
 front_passes p (c ∷ t) = cond_both (p c) (c ∷ front_of p t) [] (λ v. Every p v) (λ e. (e, front_passes p t)) (λ e. tt)
 
-pub behind_begins : (p : ℕ → Bool) (s : List ℕ) → DoesNotBegin p (behind_front p s)
-behind_begins p [] = tt
-behind_begins p (c ∷ t) = cond_both (p c) (behind_front p t) (c ∷ t) (λ v. DoesNotBegin p v) (λ e. behind_begins p t)
+pub after_begins : (p : ℕ → Bool) (s : List ℕ) → DoesNotBegin p (after_front p s)
+after_begins p [] = tt
+after_begins p (c ∷ t) = cond_both (p c) (after_front p t) (c ∷ t) (λ v. DoesNotBegin p v) (λ e. after_begins p t)
     (λ e. e)
 
 -- one more code point before what is left of a text
@@ -113,10 +113,10 @@ front_further p bytes (suc n) l h =
     let more : n + 1 ≡ suc n = omega arith in
     omega (arith, before, here, ap (λ m. prefix_len p (drop m bytes)) more)
 
-pub in_parts : (p q : ℕ → Bool) → ((c : ℕ) → p c ≡ true → q c ≡ true) → (bytes behind : List ℕ) (first more : ℕ)
-    → first ≡ prefix_len p bytes → behind ≡ drop first bytes → more ≡ prefix_len q behind
+pub in_parts : (p q : ℕ → Bool) → ((c : ℕ) → p c ≡ true → q c ≡ true) → (bytes after : List ℕ) (first more : ℕ)
+    → first ≡ prefix_len p bytes → after ≡ drop first bytes → more ≡ prefix_len q after
     → first + more ≡ prefix_len q bytes
-in_parts p q h bytes behind first more e d m =
+in_parts p q h bytes after first more e d m =
     omega (
       arith,
       m,
@@ -128,8 +128,8 @@ in_parts p q h bytes behind first more e d m =
 -- Where a text may be cut: behind bytes below 128, and at them.
 
 module _ (p : ℕ → Bool) (ascii : (b : ℕ) → p b ≡ true → b < 128) (bs : List ℕ) (text : IsUtf8 bs) where
-  pub boundary_behind_front : 0 < prefix_len p bs → IsCharBoundary bs (prefix_len p bs)
-  boundary_behind_front h =
+  pub boundary_after_front : 0 < prefix_len p bs → IsCharBoundary bs (prefix_len p bs)
+  boundary_after_front h =
       let last : prefix_len p bs - 1 < prefix_len p bs = omega arith in
       let passes = prefix_len_passes p bs (prefix_len p bs - 1) 0 last in
       let within : prefix_len p bs - 1 < length bs = omega (arith, prefix_len-le-length p bs) in

@@ -3,7 +3,7 @@ use Rattle.std.specs.Char.{to_ascii_lowercase}
 use Rattle.std.specs.Int.{is_in_range}
 use Rattle.std.specs.Prelude.{◌&&◌, ◌++◌, ◌==◌, ◌||◌, ◌∷◌, ◌≡◌, Bool, List, None, codes, false, map, take, not, ℕ}
 use Rattle.std.specs.Str.{bytes_eq}
-use Rattle.data_url.specs.Url.{behind, without_tabs_and_newlines}
+use Rattle.data_url.specs.Url.{after, comma, number_sign, without_tabs_and_newlines}
 
 -- rest stands behind the scheme "data:", spelled in any ASCII case with tabs and newlines anywhere
 pub record IsSchemeAndRest (text rest : List ℕ) : Type 0 where
@@ -20,14 +20,14 @@ HasNoScheme text =
 
 -- ',' or '#'
 abbrev pub ends_header : ℕ → Bool
-ends_header b = (b == 44) || (b == 35)
+ends_header b = (b == comma) || (b == number_sign)
 
 -- a byte of a path that is serialised as it stands, and neither '#', ',' nor '?'
 abbrev pub is_plain_path : ℕ → Bool
-is_plain_path b = is_in_range 32 126 b && not ((b == 35) || ((b == 44) || (b == 63)))
+is_plain_path b = is_in_range 32 126 b && not ((b == number_sign) || ((b == comma) || (b == 63)))
 
 -- the text is the header, its first comma and the tail, and no '#' stands in the header
 pub record IsHeaderAndTail (text header tail : List ℕ) : Type 0 where
-  pub joined : text ≡ header ++ 44 ∷ tail
-  pub no_comma : behind 44 header ≡ None
-  pub no_fragment : behind 35 header ≡ None
+  pub joined : text ≡ header ++ comma ∷ tail
+  pub no_comma : after comma header ≡ None
+  pub no_fragment : after number_sign header ≡ None

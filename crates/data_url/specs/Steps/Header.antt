@@ -2,7 +2,7 @@
 use Rattle.std.specs.Prelude.{[], ◌++◌, ◌∷◌, ◌⊎◌, ◌<◌, ◌==◌, ◌≡◌, ◌≤◌, Bool, List, None, Option, Some, String, length, not, slice_index, string_bytes, ℕ}
 use Rattle.data_url.specs.Fetch.{has_base64_suffix, mime_text}
 use Rattle.data_url.specs.Mime.{IsRecordOf, IsWellformed, Record}
-use Rattle.data_url.specs.Url.{before, behind, without_tabs_and_newlines, encoded_path, in_path_set, in_query_set, percent_encoding}
+use Rattle.data_url.specs.Url.{before, after, without_tabs_and_newlines, encoded_path, in_path_set, in_query_set, percent_encoding}
 
 -- no '?', which ends a path
 abbrev pub is_no_question_mark : ℕ → Bool
@@ -11,7 +11,7 @@ is_no_question_mark b = not (b == 63)
 -- a text is its path, which has no '?', and its query, which is empty or begins with the '?'
 pub record IsPathAndQuery (text path query : List ℕ) : Type 0 where
   pub joined : text ≡ path ++ query
-  pub path_ends : behind 63 path ≡ None
+  pub path_ends : after 63 path ≡ None
   pub query_begins : (query ≡ []) ⊎ ((rest : List ℕ) × (query ≡ 63 ∷ rest))
 
 -- the serialised text of a header without tabs and newlines: the end of its path is there only
@@ -21,7 +21,7 @@ header_parts path None = percent_encoding in_path_set path
 header_parts path (Some query) = encoded_path path ++ 63 ∷ percent_encoding in_query_set query
 
 unfoldable pub header_text : List ℕ → List ℕ
-header_text s = header_parts (before 63 s) (behind 63 s)
+header_text s = header_parts (before 63 s) (after 63 s)
 
 -- what is written of the parts of a header: the path without its last space, that space, and the
 -- query

@@ -37,11 +37,11 @@ abbrev pub IsOpen : List ℕ → Type 0
 IsOpen text = (value : List ℕ) × QuotedOpen text value
 
 -- of the bytes of a text: a quoted string, its closing quote, and what stands behind it
-pub record IsClosed (text quoted behind : List ℕ) : Type 0 where
+pub record IsClosed (text quoted after : List ℕ) : Type 0 where
   pub value : List ℕ
   pub is_quoted : Quoted (chars quoted) value
-  pub joined : chars text ≡ chars quoted ++ (34 ∷ chars behind)
-  pub utf8 : IsUtf8 behind
+  pub joined : chars text ≡ chars quoted ++ (34 ∷ chars after)
+  pub utf8 : IsUtf8 after
 
 -- a byte of the UTF-8 of quoted-string code points
 unfoldable pub is_quotable_byte : ℕ → Bool

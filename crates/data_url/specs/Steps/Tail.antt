@@ -1,11 +1,11 @@
 -- Where the body of a tail ends: a tail is what stands behind the comma of a text as it was given.
 use Rattle.std.specs.Prelude.{[], ◌∷◌, ◌≡◌, ◌≤◌, List, None, Option, Some, drop, length, ℕ}
-use Rattle.data_url.specs.Url.{behind}
+use Rattle.data_url.specs.Url.{after, number_sign}
 
 -- nothing, or a '#'
 abbrev pub BeginsFragment : List ℕ → Type 0
 BeginsFragment [] = Unit {0}
-BeginsFragment (b ∷ s) = b ≡ 35
+BeginsFragment (b ∷ s) = b ≡ number_sign
 
 -- the fragment, where the text begins with its '#'
 abbrev pub rest_fragment : List ℕ → Option (List ℕ)
@@ -16,4 +16,4 @@ rest_fragment (b ∷ s) = Some s
 pub record IsBodyEnd (tail : List ℕ) (place : ℕ) : Type 0 where
   pub within : place ≤ length tail
   pub begins : BeginsFragment (drop place tail)
-  pub behind_is : behind 35 tail ≡ rest_fragment (drop place tail)
+  pub after_is : after number_sign tail ≡ rest_fragment (drop place tail)

@@ -6,9 +6,9 @@ use Rattle.data_url.specs.Pieces.{IsPiece, bytes_of_next, escape, has_ended, tex
 use Rattle.data_url.specs.Steps.Looks.{paid_looks}
 use Rattle.data_url.specs.Steps.Tail.{BeginsFragment}
 use Rattle.data_url.specs.Steps.Window.{is_marked}
-use Rattle.data_url.specs.Url.{behind, is_tab_or_newline}
+use Rattle.data_url.specs.Url.{after, is_tab_or_newline, number_sign, percent_sign}
 use Rattle.data_url.specs.declared.escapes.Piece.{Piece}
-use Rattle.data_url.specs.declared.escapes.cursor.Ahead.TheVariants.{BehindEscape, End, Escape, Unknown}
+use Rattle.data_url.specs.declared.escapes.cursor.Ahead.TheVariants.{AfterEscape, End, Escape, Unknown}
 use Rattle.data_url.specs.declared.escapes.cursor.Ahead.{Ahead}
 use Rattle.data_url.specs.declared.escapes.cursor.Cursor.{Cursor}
 use Rattle.data_url.specs.declared.escapes.cursor.Stop.TheVariants as stop
@@ -21,19 +21,19 @@ pub record Reads (text : List ℕ) (from to : ℕ) (bytes : List ℕ) : Type 0 w
   pub few : from + length bytes ≤ to
   pub within : to ≤ length text
   pub body : plain_body (drop from text) ≡ bytes ++ plain_body (drop to text)
-  pub behind_is : behind 35 (drop from text) ≡ behind 35 (drop to text)
+  pub after_is : after number_sign (drop from text) ≡ after number_sign (drop to text)
 
 -- an escape of the value stands at one place and ends at another
 pub record EscapeAt (text : List ℕ) (place value end : ℕ) : Type 0 where
   pub some : place < end
   pub within : end ≤ length text
-  pub percent : slice_index text place ≡ 37
+  pub percent : slice_index text place ≡ percent_sign
   pub value_is : escape (drop (place + 1) text) ≡ Some (value, drop end text)
 
 -- a '%' that begins no escape stands at the place
 pub record LonePercent (text : List ℕ) (place : ℕ) : Type 0 where
   pub within : place < length text
-  pub percent : slice_index text place ≡ 37
+  pub percent : slice_index text place ≡ percent_sign
   pub no_escape : escape (drop (place + 1) text) ≡ None
 
 -- Blocks and marks
@@ -109,19 +109,19 @@ IsStop c mark stop.End = Ended c mark
 -- what is known of a walk at its place
 abbrev pub KnowsAhead : Cursor → Ahead → Type 0
 KnowsAhead c Unknown = Looking c c.place 0
-KnowsAhead c BehindEscape = Looking c c.place 3
+KnowsAhead c AfterEscape = Looking c c.place 3
 KnowsAhead c (Escape value end) = EscapeAt (text_of c) c.place value end × Looking c end 3
 KnowsAhead c End = Ended c c.place
 
 -- what is known of every walk
 pub record Knows (c : Cursor) : Type 0 where
-  pub behind_is : behind 35 (text_of c) ≡ behind 35 (drop c.place (text_of c))
+  pub after_is : after number_sign (text_of c) ≡ after number_sign (drop c.place (text_of c))
   pub ahead_is : KnowsAhead c c.ahead
 
 -- nothing is known at the place, or that the body ends there
 abbrev pub IsPlain : Ahead → Type 0
 IsPlain Unknown = Unit {0}
-IsPlain BehindEscape = ⊥
+IsPlain AfterEscape = ⊥
 IsPlain (Escape value end) = ⊥
 IsPlain End = Unit {0}
 

@@ -4,7 +4,7 @@ ghost use Rattle.std.specs.Prelude.{ℕ, ◌≡◌, ◌+◌, ◌-◌, ◌^◌, �
 ghost use Rattle.std.specs.Option.{option_map};
 ghost use Rattle.data_url.specs.Pieces.{IsPiece, IsStretch, bytes_of, has_ended, text_of, walk_of};
 ghost use Rattle.data_url.specs.Steps.Chunks.{GivesBytes};
-ghost use Rattle.data_url.specs.Url.{behind};
+ghost use Rattle.data_url.specs.Url.{after, number_sign};
 ghost use Rattle.data_url.specs.Steps.Walk.{Ended, EscapeAt, Gathers, GoesOn, HasRoom, IsGathered, IsNear, IsNextMark, IsPlain, IsStop, IsWide, KeepsBlock, Knows, KnowsAhead, Looking, LooksOn, MayGather, Moves, Stays};
 ghost use Rattle.data_url.specs.Steps.Window.{is_marked};
 
@@ -27,7 +27,7 @@ pub(super) enum Ahead {
     /// Nothing.
     Unknown,
     /// An escape ends there, so the next one is tried at once.
-    BehindEscape,
+    AfterEscape,
     /// An escape begins there: its value, and the place after it.
     Escape(u8, usize),
     /// The body ends there.
@@ -198,15 +198,15 @@ impl<'a> Cursor<'a> {
             Ahead::End => return None,
             Ahead::Escape(value, end) => {
                 self.place = end;
-                self.ahead = Ahead::BehindEscape;
+                self.ahead = Ahead::AfterEscape;
                 return Some(Piece::Byte(value));
             }
-            Ahead::BehindEscape if self.source.len() - self.place >= ESCAPE => {
+            Ahead::AfterEscape if self.source.len() - self.place >= ESCAPE => {
                 if let Some(value) = self.escape_here() {
                     return Some(Piece::Byte(value));
                 }
             }
-            Ahead::BehindEscape | Ahead::Unknown => {}
+            Ahead::AfterEscape | Ahead::Unknown => {}
         }
         self.next_stretch()
     }
@@ -230,7 +230,7 @@ impl<'a> Cursor<'a> {
                 Stop::Passed => return Some(self.slice_to(mark, mark + 1, Ahead::Unknown)),
                 Stop::Escape(value, end) if mark == self.place => {
                     self.place = end;
-                    self.ahead = Ahead::BehindEscape;
+                    self.ahead = Ahead::AfterEscape;
                     return Some(Piece::Byte(value));
                 }
                 Stop::Escape(value, end) => {
@@ -321,7 +321,7 @@ impl<'a> Cursor<'a> {
                 self.ahead = Ahead::Unknown;
                 1
             }
-            Ahead::BehindEscape => {
+            Ahead::AfterEscape => {
                 self.ahead = Ahead::Unknown;
                 0
             }
@@ -486,11 +486,11 @@ impl<'a> Cursor<'a> {
     pub(super) fn fragment(&self) -> Option<&'a str>
         requires knows { Knows self.now }
         requires ended { has_ended self.now.ahead ≡ true }
-        ensures { option_map (λ s. s.now) result ≡ behind 35 (text_of self.now) }
+        ensures { option_map (λ s. s.now) result ≡ after number_sign (text_of self.now) }
     {
         if self.place == self.source.len() {
             return None;
         }
-        Some(self.source.behind(self.place))
+        Some(self.source.after(self.place))
     }
 }

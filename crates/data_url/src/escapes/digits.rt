@@ -41,8 +41,8 @@ impl<'a> Source<'a> {
             MatchOption result (NoDigits text place self.old.looks self.new.looks)
             (λ found. DigitsFound text place self.old.looks found.0 found.1 self.new.looks) }
     {
-        let (high, behind) = self.digit(place)?;
-        let (low, end) = self.digit(behind)?;
+        let (high, after) = self.digit(place)?;
+        let (low, end) = self.digit(after)?;
         Some((high * 16 + low, end))
     }
 

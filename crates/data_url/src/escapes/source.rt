@@ -118,7 +118,7 @@ impl<'a> Source<'a> {
     }
 
     /// Returns the text after a place that has an ASCII byte.
-    pub(super) fn behind(&self, place: usize) -> &'a str
+    pub(super) fn after(&self, place: usize) -> &'a str
         requires within { place < length self.now.text.now }
         requires ascii { slice_index self.now.text.now place < 128 }
         ensures { result.now ≡ drop (place + 1) self.now.text.now }

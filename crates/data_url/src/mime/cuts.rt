@@ -58,7 +58,7 @@ pub(super) fn parameter_len(bytes: &[u8]) -> usize
 pub(super) fn split_name(text: &str) -> (&str, &str)
     ensures joined { chars text.now ≡ chars result.0.now ++ chars result.1.now }
     ensures front { Without ends_name (chars result.0.now) }
-    ensures behind { DoesNotBegin (λ c. not (ends_name c)) (chars result.1.now) }
+    ensures after { DoesNotBegin (λ c. not (ends_name c)) (chars result.1.now) }
     ensures text { IsUtf8 result.0.now × IsUtf8 result.1.now }
 {
     text.split_at(name_len(text.as_bytes()))
@@ -68,7 +68,7 @@ pub(super) fn split_name(text: &str) -> (&str, &str)
 pub(super) fn split_semicolon(text: &str) -> (&str, &str)
     ensures joined { chars text.now ≡ chars result.0.now ++ chars result.1.now }
     ensures front { Without is_semicolon (chars result.0.now) }
-    ensures behind { BeginsParameters (chars result.1.now) }
+    ensures after { BeginsParameters (chars result.1.now) }
     ensures text { IsUtf8 result.0.now × IsUtf8 result.1.now }
 {
     text.split_at(parameter_len(text.as_bytes()))

@@ -122,10 +122,10 @@ fn read_value(text: &str) -> (Value<'_>, &str)
     let Some(quoted) = text.strip_prefix('"') else {
         return read_plain(text);
     };
-    let Some((value, behind)) = split_quote(quoted) else {
+    let Some((value, after)) = split_quote(quoted) else {
         return (Value::Quoted(quoted), "");
     };
-    let (_, rest) = split_semicolon(behind);
+    let (_, rest) = split_semicolon(after);
     (Value::Quoted(value), rest)
 }
 
@@ -186,8 +186,8 @@ pub(super) fn read_parameters(
     }
     let mut kept = KeptParameters::with_capacity(alloc, capacity_for(text))?;
     let mut rest = text;
-    while let Some(behind) = rest.strip_prefix(';') {
-        let parameter = read_parameter(behind);
+    while let Some(after) = rest.strip_prefix(';') {
+        let parameter = read_parameter(after);
         rest = parameter.rest;
         keep(alloc, &mut kept, &parameter)?;
     }

@@ -18,7 +18,7 @@ pub(super) fn is_token_text(text: &str) -> bool
 pub(super) fn split_tokens(text: &str) -> (&str, &str)
     ensures joined { chars text.now ≡ chars result.0.now ++ chars result.1.now }
     ensures front { Every is_token (chars result.0.now) }
-    ensures behind { DoesNotBegin is_token (chars result.1.now) }
+    ensures after { DoesNotBegin is_token (chars result.1.now) }
     ensures text { IsUtf8 result.0.now × IsUtf8 result.1.now }
 {
     text.split_at(span(Class::Token, text.as_bytes()))

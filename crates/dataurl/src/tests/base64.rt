@@ -58,7 +58,7 @@ fn texts_in_pieces(rt: HostRuntime) -> Result<(), Fail> {
 }
 
 /// Asserts that nothing is read after the piece with the first fault, where each read gives this many bytes.
-fn assert_reads(rt: &impl Abort, alloc: Global, behind: &str, piece: usize) -> Result<(), Fail> {
+fn assert_reads(rt: &impl Abort, alloc: Global, after: &str, piece: usize) -> Result<(), Fail> {
     let peers = Peers {
         first: piece,
         piece,
@@ -67,7 +67,7 @@ fn assert_reads(rt: &impl Abort, alloc: Global, behind: &str, piece: usize) -> R
     for groups in [0_usize, 1, 2, 500, 1023, 1024, 1500] {
         let sound = "QUJD".repeat(alloc, groups)?;
         let bytes = "ABC".repeat(alloc, groups)?;
-        let text = format!(in alloc; "{sound}!{behind}")?;
+        let text = format!(in alloc; "{sound}!{after}")?;
         let ended = outcome_of(rt, alloc, "base64", text.as_bytes(), peers)?;
         let reads = sound.len().checked_div(piece);
         assert!(rt; ended.reads.checked_sub(1) == reads, "{groups}, {piece}");
@@ -82,9 +82,9 @@ fn assert_reads(rt: &impl Abort, alloc: Global, behind: &str, piece: usize) -> R
 #[test]
 fn no_read_after_a_fault(rt: HostRuntime) -> Result<(), Fail> {
     let much = "QUJD".repeat(rt.alloc(), 3000)?;
-    for behind in ["QUJD", much.as_str()] {
+    for after in ["QUJD", much.as_str()] {
         for piece in [1, 2, 3, 5, 64, 1000, 2048, 4095, 4096] {
-            assert_reads(&rt, rt.alloc(), behind, piece)?;
+            assert_reads(&rt, rt.alloc(), after, piece)?;
         }
     }
     Ok(())

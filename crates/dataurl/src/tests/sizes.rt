@@ -80,7 +80,7 @@ fn many_reads(rt: HostRuntime) -> Result<(), Fail> {
 }
 
 #[test]
-fn a_read_that_fails_behind_many(rt: HostRuntime) -> Result<(), Fail> {
+fn a_read_that_fails_after_many(rt: HostRuntime) -> Result<(), Fail> {
     let text = "QUJD".repeat(rt.alloc(), 1500)?;
     let bytes = "ABC".repeat(rt.alloc(), 1250)?;
     let url = format!(in rt.alloc(); "data:,{text}")?;

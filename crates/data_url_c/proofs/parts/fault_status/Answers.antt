@@ -2,7 +2,7 @@ use Rattle.std.proofs.Common.{rules, ◌≡◌, ◌<◌, arith, get_or, length, 
 use Rattle.std.specs.Char.{is_ascii_whitespace}
 use Rattle.std.specs.Prelude.{◌==◌}
 use Rattle.data_url.specs.Base64.{is_symbol}
-use Rattle.data_url_c.proofs.FaultStatusLemmas.{GoesOn, fault_after, fault_unexpected, goes_on, none_found, step_pad}
+use Rattle.data_url_c.proofs.FaultStatusLemmas.{GoesOn, fault_after_padding, fault_unexpected, goes_on, none_found, step_pad}
 use Rattle.data_url_c.proofs.FaultStatusLemmas.{step_space, step_symbol}
 use Rattle.data_url_c.proofs.parts.fault_status.Goals.{then-is_symbol_byte+else-padded}
 use Rattle.data_url_c.proofs.parts.fault_status.Goals.{else-is_symbol_byte+then-byte-eq61}
@@ -15,7 +15,7 @@ returns-then-padded c =
     let k : is_symbol b ≡ true = search rules in
     let h = subst (λ p. GoesOn c.args.state.now c.args.text.now p c.loop-byte.byte-index) c.if-padded.true
     c.loop-byte.invariant in
-    fault_after c.args.state.now c.args.text.now c.loop-byte.byte-index b c.requires.good h
+    fault_after_padding c.args.state.now c.args.text.now c.loop-byte.byte-index b c.requires.good h
     (omega (arith, c.loop-byte-test.true)) refl k
 
 pub returns-then-not-is_ascii_whitespace : goal.returns-then-not-is_ascii_whitespace

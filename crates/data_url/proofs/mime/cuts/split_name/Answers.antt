@@ -11,4 +11,4 @@ returns c =
     let s = cut_by ends_name name_end_below c.args.text.now c.as_bytes.result.now c.split_at.result.0.now
     c.split_at.result.1.now c.name_len.result c.utf8.text c.name_len.ensures c.as_bytes.ensures.value
     c.split_at.ensures.front c.split_at.ensures.back in
-    record { joined = s.joined; front = s.in_front; behind = s.begins; text = s.text }
+    record { joined = s.joined; front = s.in_front; after = s.begins; text = s.text }

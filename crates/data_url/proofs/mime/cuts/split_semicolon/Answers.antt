@@ -16,6 +16,6 @@ returns c =
     record {
       joined = s.joined;
       front = s.in_front;
-      behind = begins_from (chars c.split_at.result.1.now) s.begins;
+      after = begins_from (chars c.split_at.result.1.now) s.begins;
       text = s.text;
     }

@@ -8,18 +8,18 @@ use Rattle.data_url.proofs.mime.parse.read_head.Goals.{then-is_empty-via-else-is
 pub returns-in_err-strip_prefix : goal.returns-in_err-strip_prefix
 returns-in_err-strip_prefix c =
     let k = cut_from _ _ _ _ _ c.without_leading_whitespace.ensures c.without_trailing_whitespace.ensures
-    c.split_tokens.ensures.joined c.split_tokens.ensures.front c.split_tokens.ensures.behind in
+    c.split_tokens.ensures.joined c.split_tokens.ensures.front c.split_tokens.ensures.after in
     rw c.from_residual.ensures
     (no_slash_bytes _ _ _ k c.split_tokens.ensures.text.1 c.in_err-strip_prefix.ensures.cases)
 
 pub returns-then-is_empty : goal.returns-then-is_empty
 returns-then-is_empty c =
     let k = cut_from _ _ _ _ _ c.without_leading_whitespace.ensures c.without_trailing_whitespace.ensures
-    c.split_tokens.ensures.joined c.split_tokens.ensures.front c.split_tokens.ensures.behind in
+    c.split_tokens.ensures.joined c.split_tokens.ensures.front c.split_tokens.ensures.after in
     let e = c.in_ok-strip_prefix.ensures.cases in
     let k = slash_cut _ _ _ _ _ k c.split_tokens.ensures.text.1 e.1 e.2 in
     let g = cut_again _ _ _ _ c.split_tokens-2.ensures.joined c.split_tokens-2.ensures.front
-    c.split_tokens-2.ensures.behind c.without_leading_whitespace-parameters.ensures in
+    c.split_tokens-2.ensures.after c.without_leading_whitespace-parameters.ensures in
     elim c.then-is_empty.branch [
       | then-is_empty-via-then-is_empty w ↦
           no_type _ _ _ k (empty_by c.split_tokens.result.0.now c.is_empty.result c.is_empty.ensures w.if-is_empty.true)
@@ -33,11 +33,11 @@ returns-then-is_empty c =
 pub returns : goal.returns
 returns c =
     let k = cut_from _ _ _ _ _ c.without_leading_whitespace.ensures c.without_trailing_whitespace.ensures
-    c.split_tokens.ensures.joined c.split_tokens.ensures.front c.split_tokens.ensures.behind in
+    c.split_tokens.ensures.joined c.split_tokens.ensures.front c.split_tokens.ensures.after in
     let e = c.in_ok-strip_prefix.ensures.cases in
     let k = slash_cut _ _ _ _ _ k c.split_tokens.ensures.text.1 e.1 e.2 in
     let g = cut_again _ _ _ _ c.split_tokens-2.ensures.joined c.split_tokens-2.ensures.front
-    c.split_tokens-2.ensures.behind c.without_leading_whitespace-parameters.ensures in
+    c.split_tokens-2.ensures.after c.without_leading_whitespace-parameters.ensures in
     is_head _ _ _ _ _ k g (nonempty_by c.split_tokens.result.0.now c.is_empty.result c.split_tokens.ensures.text.0
     c.is_empty.ensures c.if-is_empty.false)
     (nonempty_by c.split_tokens-2.result.0.now _ c.split_tokens-2.ensures.text.0 c.is_empty-else-is_empty.ensures

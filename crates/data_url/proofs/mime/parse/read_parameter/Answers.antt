@@ -7,7 +7,7 @@ use Rattle.data_url.proofs.mime.parse.read_parameter.Goals as goal
 pub returns-in_default : goal.returns-in_default
 returns-in_default c =
     let s = c.split_name.ensures in
-    let v = no_value c.split_name.result.1.now s.text.1 s.behind c.in_default.ensures.cases in
+    let v = no_value c.split_name.result.1.now s.text.1 s.after c.in_default.ensures.cases in
     record {
       parameter = (
         (map to_ascii_lowercase (chars c.split_name.result.0.now), None),

@@ -14,32 +14,32 @@ returns-then-is_empty c = (
   ap (map (λ p. pair_of p)) c.new.ensures.items,
 )
 
-pub loop-behind-smaller : goal.loop-behind-smaller
-loop-behind-smaller c =
-    let e = stripped_chars c.loop-behind.rest.now c.in-Some.behind.now 59 _ c.loop-behind.invariant.0
+pub loop-after-smaller : goal.loop-after-smaller
+loop-after-smaller c =
+    let e = stripped_chars c.loop-after.rest.now c.in-Some.after.now 59 _ c.loop-after.invariant.0
     c.in-Some.ensures.cases.1 c.in-Some.ensures.cases.2 in
     let p = c.read_parameter-parameter.ensures.parameter in
-    let l : length (chars c.read_parameter-parameter.result.rest.now) ≤ length (chars c.in-Some.behind.now) =
+    let l : length (chars c.read_parameter-parameter.result.rest.now) ≤ length (chars c.in-Some.after.now) =
     rest_shorter _ _ p.0 p.2 in
     let k = ap length e in
-    let g : length (chars c.read_parameter-parameter.result.rest.now) < length (chars c.loop-behind.rest.now) =
+    let g : length (chars c.read_parameter-parameter.result.rest.now) < length (chars c.loop-after.rest.now) =
     omega (arith, l, k) in
     g
 
-pub loop-behind-preserved : goal.loop-behind-preserved
-loop-behind-preserved c =
-    let e = stripped_chars c.loop-behind.rest.now c.in-Some.behind.now 59 _ c.loop-behind.invariant.0
+pub loop-after-preserved : goal.loop-after-preserved
+loop-after-preserved c =
+    let e = stripped_chars c.loop-after.rest.now c.in-Some.after.now 59 _ c.loop-after.invariant.0
     c.in-Some.ensures.cases.1 c.in-Some.ensures.cases.2 in
     let p = c.read_parameter-parameter.ensures.parameter in (
       c.read_parameter-parameter.ensures.text,
-      keeps_more _ _ _ _ _ _ p.0 c.loop-behind.invariant.1 e p.2
+      keeps_more _ _ _ _ _ _ p.0 c.loop-after.invariant.1 e p.2
           (c.in_ok-keep.ensures.pairs p.0 p.1),
       c.in_ok-keep.ensures.indexed,
     )
 
 pub returns : goal.returns
 returns c =
-    let k = keeps_end (chars c.args.text.now) (chars c.loop-behind.rest.now) _ c.loop-behind.invariant.1
-    (no_semicolon c.loop-behind.rest.now c.loop-behind.invariant.0 c.loop-behind.invariant.1.begins
+    let k = keeps_end (chars c.args.text.now) (chars c.loop-after.rest.now) _ c.loop-after.invariant.1
+    (no_semicolon c.loop-after.rest.now c.loop-after.invariant.0 c.loop-after.invariant.1.begins
     c.in_default.ensures.cases) in
     (k.0, k.1, c.into_pairs.ensures ∙ k.2)

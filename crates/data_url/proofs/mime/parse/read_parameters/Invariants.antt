@@ -7,9 +7,9 @@ use Rattle.data_url.specs.Steps.Kept.{IsIndexed, pairs_of}
 use Rattle.data_url.proofs.mime.FirstNames.{KeepsOn}
 use Rattle.data_url.proofs.mime.parse.read_parameters.Given as goal
 
-abbrev pub invariant-loop-behind : goal.invariant-loop-behind
-invariant-loop-behind l = shadow (Utf8 l.rest) × KeepsOn (chars l.text) (chars l.rest) (pairs_of l.kept)
+abbrev pub invariant-loop-after : goal.invariant-loop-after
+invariant-loop-after l = shadow (Utf8 l.rest) × KeepsOn (chars l.text) (chars l.rest) (pairs_of l.kept)
     × IsIndexed l.kept
 
-abbrev pub decreases-loop-behind : goal.decreases-loop-behind
-decreases-loop-behind l = length (chars l.rest)
+abbrev pub decreases-loop-after : goal.decreases-loop-after
+decreases-loop-after l = length (chars l.rest)

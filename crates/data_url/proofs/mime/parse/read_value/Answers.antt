@@ -32,7 +32,7 @@ returns c =
       value = (
         Some h.value,
         (h.value, refl, inl h.is_quoted),
-        closed_value_before _ _ _ _ _ _ _ e h.joined h.is_quoted s.joined s.front s.behind,
+        closed_value_before _ _ _ _ _ _ _ e h.joined h.is_quoted s.joined s.front s.after,
       );
       text = s.text.1;
     }

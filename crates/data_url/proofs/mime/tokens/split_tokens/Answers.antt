@@ -13,4 +13,4 @@ returns c =
     let s = split_at_other c.args.text.now c.split_at.result.0.now c.split_at.result.1.now c.span.result c.utf8.text
     (c.span.ensures.front ∙ ap (prefix_len is_token) c.as_bytes.ensures.value) c.split_at.ensures.front
     c.split_at.ensures.back in
-    record { joined = s.joined; front = s.in_front; behind = s.begins; text = s.text }
+    record { joined = s.joined; front = s.in_front; after = s.begins; text = s.text }

@@ -1,5 +1,5 @@
 use Rattle.std.proofs.Common.{refl, arith}
-use Rattle.data_url.proofs.escapes.Walking.{gathers_block, gathers_slice, gathers_then, may_at, may_behind}
+use Rattle.data_url.proofs.escapes.Walking.{gathers_block, gathers_slice, gathers_then, may_at, may_after}
 use Rattle.data_url.proofs.escapes.Marks.{found, found_none, has_marks}
 use Rattle.data_url.proofs.escapes.cursor.Cursor.gather_stretch.Goals as goal
 
@@ -12,7 +12,7 @@ returns-then-marks-eq0-clause-gathers c =
 pub returns-then-marks-eq0-clause-goes : goal.returns-then-marks-eq0-clause-goes
 returns-then-marks-eq0-clause-goes c =
     let none = found_none (has_marks c.requires.may.looking (omega arith) refl) c.if-marks-eq0.true in
-    (refl, c.requires.here, may_behind c.requires.may c.requires.here none)
+    (refl, c.requires.here, may_after c.requires.may c.requires.here none)
 
 pub copy-requires-2-clause-within : goal.copy-requires-2-clause-within
 copy-requires-2-clause-within c =

@@ -1,7 +1,7 @@
 use Rattle.std.proofs.Common.{take, ap, ◌∙◌}
 use Rattle.std.specs.List.{list_all}
 use Rattle.data_url.specs.Base64.{is_symbol}
-use Rattle.data_url.proofs.forgiving_base64.Rows.{all_behind, moved}
+use Rattle.data_url.proofs.forgiving_base64.Rows.{all_after, moved}
 use Rattle.data_url.proofs.forgiving_base64.symbols.Symbols.drop_block.Goals as goal
 
 pub invariant_of-self-clause-symbols : goal.invariant_of-self-clause-symbols
@@ -11,7 +11,7 @@ invariant_of-self-clause-symbols c =
     (moved s.bytes _ _ _ c.put-4.new.bytes _ _ _ _ s.len c.requires s.within c.put.ensures c.put-2.ensures
     c.put-3.ensures c.put-4.ensures c.row-first.ensures c.row-second.ensures c.row-third.ensures
     c.row-fourth.ensures)
-    ∙ all_behind 64 (take s.len s.bytes) s.symbols
+    ∙ all_after 64 (take s.len s.bytes) s.symbols
 
 pub returns-clause-rest : goal.returns-clause-rest
 returns-clause-rest c =

@@ -1,7 +1,7 @@
 use Rattle.std.proofs.Common.{subst}
 use Rattle.std.specs.Str.{IsUtf8}
 use Rattle.std.proofs.lemmas.Str.{IsCharBoundary-after_ascii}
-use Rattle.data_url.proofs.escapes.source.Source.behind.Goals as goal
+use Rattle.data_url.proofs.escapes.source.Source.after.Goals as goal
 
 pub range_from-requires : goal.range_from-requires
 range_from-requires c =
