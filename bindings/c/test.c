@@ -12,7 +12,7 @@ enum { FILLED = 0xA5, MARGIN = 8 };
 
 static int checks, wrong;
 /* The allocation that fails, counted from 1; 0 for none. */
-static long refused, growths;
+static long refused, allocations;
 
 void *__real_malloc(size_t size);
 void *__real_realloc(void *block, size_t size);
@@ -20,11 +20,11 @@ void *__wrap_malloc(size_t size);
 void *__wrap_realloc(void *block, size_t size);
 
 void *__wrap_malloc(size_t size) {
-    return ++growths == refused ? NULL : __real_malloc(size);
+    return ++allocations == refused ? NULL : __real_malloc(size);
 }
 
 void *__wrap_realloc(void *block, size_t size) {
-    return ++growths == refused ? NULL : __real_realloc(block, size);
+    return ++allocations == refused ? NULL : __real_realloc(block, size);
 }
 
 static void check(int is_right, const char *what, const char *about) {
@@ -225,11 +225,11 @@ static void without_memory(Call call, const char *text, uint32_t status, size_t 
     for (long n = 1;; n++) {
         uint8_t out[64];
         memset(out, FILLED, sizeof out);
-        growths = 0;
+        allocations = 0;
         refused = n;
         struct data_url_answer answer = call(text, strlen(text), out, sizeof out);
         refused = 0;
-        if (growths < n) {
+        if (allocations < n) {
             check(is(answer, status, len), "with memory", text);
             return;
         }
@@ -237,7 +237,7 @@ static void without_memory(Call call, const char *text, uint32_t status, size_t 
     }
 }
 
-static void refused_growths(void) {
+static void failing_allocations(void) {
     without_memory(data_url_body, "data:a/b;c=d,x", DATA_URL_DONE, 1);
     without_memory(data_url_body, "data:;base64,QUJD!", DATA_URL_BASE64_UNEXPECTED_SYMBOL + '!', 3);
     without_memory(data_url_mime, "data:a/b;c=d,x", DATA_URL_DONE, 7);
@@ -257,7 +257,7 @@ int main(void) {
     fresh_outputs();
     long_bodies();
     many_parameters();
-    refused_growths();
+    failing_allocations();
     printf("c: %d checks, %d wrong\n", checks, wrong);
     return wrong ? 1 : 0;
 }
