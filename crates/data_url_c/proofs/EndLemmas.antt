@@ -6,7 +6,7 @@ use Rattle.std.specs.declared.convert.Infallible.{Infallible}
 use Rattle.std.proofs.lemmas.List.{length-map}
 use Rattle.data_url.specs.Base64.{after_groups, decoded, is_valid, rest_bytes, symbol_value}
 use Rattle.data_url.specs.Run.{refusal}
-use Rattle.data_url.specs.Steps.Whole.{DecodesText}
+use Rattle.data_url.proofs.api.{DecodesText}
 use Rattle.data_url.specs.declared.forgiving_base64.DecodeError.{DecodeError}
 use Rattle.data_url.proofs.api.{after_few, decoded_left, every_list_all, groups_few, match_at_none}
 use Rattle.data_url_c.specs.Parts.{is_good_state, waiting_text}

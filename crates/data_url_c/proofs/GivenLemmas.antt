@@ -11,7 +11,7 @@ use Rattle.data_url.specs.Fetch.{Accepted, Outcome, mime_text, staged}
 use Rattle.data_url.specs.Mime.{HasNoRecord, Parses, Record}
 use Rattle.data_url.specs.MimeType.{record_of}
 use Rattle.data_url.specs.Run.{joined_pieces, refusal}
-use Rattle.data_url.specs.Steps.Whole.{DecodesText}
+use Rattle.data_url.proofs.api.{DecodesText}
 use Rattle.data_url.specs.Url.{after, without_tabs_and_newlines, encoded_fragment, fragment as fragment_in}
 use Rattle.data_url.specs.Url.{in_fragment_set, percent_encoding}
 use Rattle.data_url.specs.declared.DataUrl.{DataUrl}

@@ -1,7 +1,7 @@
 //! What the calls take of base64.
 
 ghost use Rattle.std.specs.Fn.{CalledAt};
-ghost use Rattle.data_url.specs.Steps.Whole.{DecodesText};
+ghost use Rattle.data_url.proofs.api.{DecodesText};
 ghost use Rattle.data_url_c.specs.Gives.{GivesBase64};
 
 use crate::refusal::Refusal;

@@ -8,7 +8,7 @@ use Rattle.data_url.specs.Base64.{decoded, complete_bytes, first_fault, is_valid
 use Rattle.data_url.specs.Decoder.{Feeds, Finishes, IsAll, IsTaken, State, start}
 use Rattle.data_url.specs.Errors.{IsRefused}
 use Rattle.data_url.specs.Run.{Call, IsRun, joined_pieces, refusal}
-use Rattle.data_url.specs.Steps.Whole.{DecodesText}
+use Rattle.data_url.proofs.api.{DecodesText}
 use Rattle.data_url.specs.declared.forgiving_base64.DecodeError.{DecodeError}
 use Rattle.data_url.specs.declared.forgiving_base64.DecodeError.TheVariants.{InvalidBase64}
 use Rattle.data_url.proofs.api.{decodes_finished, fed_nothing, feeds_then, feeds_took, match_at_none, run_keeps}

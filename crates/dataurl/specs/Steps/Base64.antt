@@ -3,7 +3,7 @@ use Rattle.std.specs.Io.KnownBytes.{Consumes, IsAtEnd}
 use Rattle.std.specs.Prelude.{◌≡◌, Err, List, None, Ok, Option, Result, ℕ}
 use Rattle.data_url.specs.Base64.{first_fault}
 use Rattle.data_url.specs.Decoder.{Feeds, State, start}
-use Rattle.data_url.specs.Steps.Whole.{DecodesText}
+use Rattle.data_url.proofs.api.{DecodesText}
 use Rattle.data_url.specs.declared.forgiving_base64.DecodeError.{DecodeError}
 use Rattle.dataurl.specs.Runs.{IsSoundBeforeLastPiece}
 use Rattle.dataurl.specs.declared.fault.WriteFailed.{WriteFailed}
