@@ -1,5 +1,5 @@
-//! The body of a data: URL as it was given, in pieces: stretches of the text, and the values of escapes (URL
-//! Standard, section 1.3, percent-decode). Nothing is allocated.
+//! The body of a data: URL in pieces: slices of the input, and the values of escapes (URL Standard, section 1.3,
+//! percent-decode). Nothing is allocated.
 
 ghost use Rattle.std.specs.Prelude.{◌≡◌, ◌+◌, ◌*◌, ◌≤◌, ◌++◌, [], IfNone, IfSome, IsTrue, None, length};
 ghost use Rattle.std.specs.Option.{option_map};

@@ -23,7 +23,7 @@ pub(crate) fn padding_fits()
     ensures { (b : List ℕ) → PaddingFits b }
 {}
 
-/// The first fault is the least place of one, and is there where there is one.
+/// The first fault has the smallest index of all faults; if there is a fault, there is a first one.
 pub(crate) fn least_fault()
     ensures { (b : List ℕ) → IsFirstFault b (first_fault b) }
 {}

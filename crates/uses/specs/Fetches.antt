@@ -18,7 +18,7 @@ IsReasonOf s (InvalidBase64 kind) =
     (type_text bytes : List ℕ) × (fragment : Option (List ℕ))
     × (s ≡ Accepted type_text (Bad bytes kind) fragment)
 
--- the response for a URL: its status, its serialised MIME type, and its whole body
+-- the response to a text: its status, the record of its type as it is printed, and its whole body
 pub record IsResponseTo (t : List ℕ) (r : Response) : Type 0 where
   pub type_text : List ℕ
   pub mime : Record

@@ -8,7 +8,7 @@ use super::source::Source;
 /// What the table has for a tab or a newline.
 const PASSED: u8 = 16;
 
-/// By its byte the value of a hexadecimal digit, `PASSED`, or a greater number for any other byte.
+/// Has, for each byte, the value of a hexadecimal digit, `PASSED`, or a greater number for any other byte.
 const DIGITS: [u8; 256] = [
     32, 32, 32, 32, 32, 32, 32, 32, 32, 16, 16, 32, 32, 16, 32, 32, 32, 32, 32, 32, 32, 32, 32, 32,
     32, 32, 32, 32, 32, 32, 32, 32, 32, 32, 32, 32, 32, 32, 32, 32, 32, 32, 32, 32, 32, 32, 32, 32,

@@ -1,4 +1,4 @@
-//! A count that takes no bytes: how many bytes of a text were examined.
+//! A count that exists in contracts alone: how many bytes of a text were examined.
 
 ghost use Rattle.std.specs.Prelude.{◌≡◌, ◌+◌};
 

@@ -1,4 +1,4 @@
-//! A line that is written in few calls.
+//! A buffer, so that a line is written in few calls.
 
 ghost use Rattle.std.specs.Fmt.{WritesStyledOnOk};
 ghost use Rattle.std.specs.Prelude.{◌≡◌, ◌+◌, ◌++◌, ◌≤◌, [], length};
@@ -6,10 +6,10 @@ ghost use Rattle.data_url.specs.Steps.Printing.{AddsOnOk, IsHeld, held};
 
 use std::{fmt, str};
 
-/// How many bytes are held back at the most.
+/// The size of the buffer, in bytes.
 const ROOM: usize = 128;
 
-/// The end of what is to be written, held back so that short texts are written as one.
+/// The end of the output, held in a buffer so that short texts are written together.
 #[derive(Drop)]
 pub(super) struct Line {
     room: [u8; ROOM],
@@ -17,7 +17,7 @@ pub(super) struct Line {
 }
 
 impl Line {
-    /// A line of which nothing is held.
+    /// A line with an empty buffer.
     #[inline(always)]
     pub(super) fn new() -> Line
         ensures none { held result ≡ [] }
