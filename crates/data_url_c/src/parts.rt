@@ -234,8 +234,8 @@ fn counted_after(state: &DataUrlBase64, text: &[u8]) -> DataUrlBase64
     }
 }
 
-/// Returns what is left over after a text whose groups have `len` bytes. If these come from all symbols, nothing
-/// is left over.
+/// Returns what is left over after a text whose groups have `len` bytes. If each byte of the text is in these groups,
+/// nothing is left over.
 fn left_after(state: &DataUrlBase64, text: &[u8], len: usize) -> DataUrlBase64
     requires good { is_good_state state.now ≡ true }
     requires sound { first_fault (waiting_text state.now ++ text.now) ≡ None }

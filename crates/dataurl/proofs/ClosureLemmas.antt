@@ -1,4 +1,4 @@
--- What is handed to a closure that gathers its pieces.
+-- What a closure that gathers its pieces is called with.
 use Rattle.std.proofs.Common.{◌≡◌, ℕ, List, [], ◌++◌, Option, None, Some, Result, Ok, Err, sym, ◌∙◌, subst}
 use Rattle.std.specs.Prelude.{MatchOption}
 use Rattle.std.proofs.lemmas.List.{append-nil}

@@ -81,7 +81,7 @@ pub beginning_of : (xs ys zs : List ℕ) → IsProperPrefix xs ys → IsPrefix y
 beginning_of xs ys zs b p =
     (b.0 ++ p.0, p.1 ∙ ap (λ s. s ++ p.0) b.1 ∙ append_assoc xs b.0 p.0, omega (arith, b.2, length-append b.0 p.0))
 
--- behind other bytes it is one too
+-- after the same bytes it is a proper prefix too
 pub beginning_after : (front xs ys : List ℕ) → IsProperPrefix xs ys → IsProperPrefix (front ++ xs) (front ++ ys)
 beginning_after front xs ys b = (b.0, ap (λ s. front ++ s) b.1 ∙ sym (append_assoc front xs b.0), b.2)
 

@@ -46,7 +46,7 @@ quote_at xs ys zs =
     ∙ get_or-append-add opening (ys ++ (34 ∷ zs)) (length ys) 0
     ∙ get_or-append_seam ys 34 zs 0
 
--- no quote stands behind the opening
+-- there is no quote after the opening
 pub none_ended : (page rest : List ℕ) (place : ℕ) → OpenedAt page place → rest ≡ drop (place + 2) page
     → ((k : ℕ) → k < length rest → get_or rest k 0 ≢ 34) → HasNoReference page
 none_ended page rest place o r none = λ xs ys zs e.
@@ -95,7 +95,7 @@ is_reference page rest place k o r within quote none =
       first = λ xs ys e. omega (arith, o.first xs ys e, length-take place page);
     }
 
--- what stands behind a reference is shorter
+-- the text after a reference is shorter
 pub after_shorter : {page before reference after : List ℕ} → IsReference page before reference after
     → length after < length page
 after_shorter {page} {before} {reference} {after} h =

@@ -68,7 +68,7 @@ pub going_fails : (piece rest : List ℕ) (old now new : Option (List ℕ)) → 
 going_fails piece rest old now new k g =
     record { bytes = g.written; taken = appends_kept old now new g.written g.taken k; begins = (rest, g.joined) }
 
--- a write that took so many bytes, and then no more
+-- a write that wrote n bytes, and then failed
 pub going_stops : (piece rest : List ℕ) (n : ℕ) (old now new : Option (List ℕ)) → Appends now new (take n rest)
     → Going piece rest old now → Writes piece old new (Err SinkFailed)
 going_stops piece rest n old now new a g =

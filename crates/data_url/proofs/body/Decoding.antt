@@ -371,7 +371,7 @@ module _ {F E A : Type 0} {step : F → List ℕ → Result (Unit {0}) E → F �
   body_error (InvalidBase64 kind) h q = body_fault h q
   body_error (WriteError e) h q = tt
 
--- What is known of a closure's state behind a run, by what each of its calls does to that state.
+-- What is true of a closure's state after a run, from what each of its calls does to that state.
 
 -- Runs
 
@@ -386,7 +386,7 @@ module _ {F E : Type 0} (step : F → List ℕ → Result (Unit {0}) E → F →
     → kept (bytes ++ piece) g)
     (refuses : (bytes : List ℕ) (f : F) (piece : List ℕ) (e : E) (g : F) → kept bytes f → step f piece (Err e) g
     → stopped (bytes ++ piece) e g) where
-  -- behind one call and those that follow it
+  -- after one call and those that follow it
   one_more : (r : Result (Unit {0}) E) (bytes piece : List ℕ) (f after g : F) (cs : List (Call F E)) → kept bytes f
       → step f piece r after → (IsErr r → cs ≡ []) → IsRun step after cs g
       → (kept (bytes ++ piece) after → MatchOption (refusal cs) (kept ((bytes ++ piece) ++ joined_pieces cs) g)
@@ -412,8 +412,8 @@ module _ {F E : Type 0} (step : F → List ℕ → Result (Unit {0}) E → F →
   run_ends_from (c ∷ cs) bytes f g k ran = one_more c.answer bytes c.piece f c.after g cs k ran.0 ran.1 ran.2
       (λ more. run_ends_from cs (bytes ++ c.piece) c.after g more ran.2)
 
--- what each accepted call keeps of the bytes so far and the state holds behind an accepted run of all its bytes, and
--- what a refused call gives behind a refused one
+-- if each call that succeeds preserves `kept`, a property of the bytes so far and the state, then `kept` is true after
+-- a run without an error; if a call that fails makes `stopped` true, then `stopped` is true after a run with an error
 pub run_ends : {F E : Type 0} (step : F → List ℕ → Result (Unit {0}) E → F → Type 0) (cs : List (Call F E)) (f g : F)
     → IsRun step f cs g → (kept : List ℕ → F → Type 0) (stopped : List ℕ → E → F → Type 0)
     → ((bytes : List ℕ) (p : F) (piece : List ℕ) (q : F) → kept bytes p → step p piece (Ok tt) q
@@ -493,8 +493,8 @@ module _ {F E A : Type 0} (kept : List ℕ → F → Type 0) (stopped : List ℕ
   ended_by None body bytes r h k = ended_whole body bytes r h k
   ended_by (Some e) body bytes r h k = ended_at body r (Err (WriteError e)) h.answer (bytes, h.bytes_begin, k)
 
--- what each accepted call keeps, and a refused one gives, of the bytes so far and the state, holds behind decoding, as
--- its answer s tells
+-- if each call that succeeds preserves `kept`, and a call that fails makes `stopped` true, then one of these is true
+-- after decoding, by its result s
 pub body_ends : {F E A : Type 0} {step : F → List ℕ → Result (Unit {0}) E → F → Type 0} {f g : F} {most : ℕ}
     {body : Outcome} {good : A → Type 0} {r s : Result A (DecodeError E)} → Decodes step f most body good r g → r ≡ s
     → (kept : List ℕ → F → Type 0) (stopped : List ℕ → E → F → Type 0)
@@ -508,8 +508,8 @@ body_ends {step = step} {f = f} {g = g} {body = body} {good = good} {r = r} {s =
     ended_at kept stopped good g body s r (sym e) (ended_by kept stopped good g (refusal d.run) body
     (joined_pieces d.run) r d.gave (run_ends step d.run f g d.ran kept stopped accepts refuses start))
 
--- a measure that each accepted piece extends, and each refused one by a beginning of it, is extended by what was handed
--- out, or a beginning of that
+-- if each call that succeeds extends a measure by its piece, and a call that fails extends it by a prefix of its piece,
+-- then decoding extends it by all the bytes, or by a prefix of them if a call fails
 pub body_extends : {F E A : Type 0} {step : F → List ℕ → Result (Unit {0}) E → F → Type 0} {f g : F} {most : ℕ}
     {body : Outcome} {good : A → Type 0} {r s : Result A (DecodeError E)} → Decodes step f most body good r g → r ≡ s
     → (measure : F → List ℕ)
@@ -576,7 +576,7 @@ outcome_shorter true s =
       | false ↦ b
     ]
 
--- a body, and what stands before its fault, has no more bytes than its tail
+-- a body, or the bytes before its fault, is not longer than its tail
 pub body_within_tail : (url : DataUrl) → length (outcome_bytes (url_body url)) ≤ length (url_tail url)
 body_within_tail url = omega (
   arith,

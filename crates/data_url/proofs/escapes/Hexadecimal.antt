@@ -271,7 +271,7 @@ both_digits {text} {place} {high} {low} {after} {end} {value = value} d f e =
       looks_are = omega arith;
     }
 
--- a tab or newline, and then what stands behind it
+-- a tab or newline, and then what was found after it
 pub digit_further : {text same : List ℕ} {place b value looks' : ℕ} (looks looks'' : ℕ) (found : Option (ℕ × ℕ))
     → same ≡ text → IsByte text place b → value ≡ digit_code b → value ≡ 16 → looks' ≡ looks + 1
     → MatchOption found (NoDigit same (place + 1) looks' looks'')

@@ -67,7 +67,7 @@ copied_wide room bytes text len width start long l w h e =
     copied room text (mid_of len (len + 64 - len) room) (post_of len (len + 64 - len) room)
     (chunk 0 64 (take (start + 64 - start) (drop start bytes))) len width start (omega arith) w h mid block
 
--- marks behind the text's end are none
+-- zeros after the end of a text have no marks
 no_marks : (k : ℕ) → mask_l (map is_marked (replicate k 0)) ≡ 0
 no_marks zero = refl
 no_marks (suc k) = let e = no_marks k in omega arith
@@ -272,7 +272,7 @@ block_marks {c} {place} k e l =
       marks_are = k.block.marks_are ∙ ap (λ b. mask_l (map is_marked (slice_range (text_of c) b c.seen))) e;
     }
 
--- a mark was found so many bytes behind the place
+-- the next mark is `width` bytes after the place
 pub record IsFound (text : List ℕ) (place seen width : ℕ) : Type 0 where
   pub before : width < seen - place
   pub mark : IsNextMark text place (place + width)
@@ -346,7 +346,7 @@ mark_at_end {text} {from} {to} l w e c = record {
       λ h. absurd (omega arith);
 }
 
--- the walk may look on from a later place, where no mark stands between
+-- the walk can go on from a later place, if there is no mark between the places
 pub looking_clear : {c : Cursor} {place more : ℕ} (to : ℕ) → Looking c place more → place ≤ to → to ≤ length (text_of c)
     → IsClear (text_of c) place to → Looking c to more
 looking_clear {c} {place} {more} to k l w h =

@@ -193,7 +193,7 @@ body_passes b s h = body_of (b ∷ s) (without_tabs_and_newlines s) (dropped_pas
 pub after_passes : (b : ℕ) (s : List ℕ) → is_tab_or_newline b ≡ true → after 35 (b ∷ s) ≡ after 35 s
 after_passes b s h = after_other 35 b s (no_hash b h)
 
--- a byte that stands for itself
+-- a byte that the body holds as it is
 keeps_byte : (b : ℕ) (s : List ℕ) → is_tab_or_newline b ≡ false → (b == 35) ≡ false
     → ((b == 37) && two_digits (before 35 (without_tabs_and_newlines s))) ≡ false
     → plain_body (b ∷ s) ≡ b ∷ plain_body s
@@ -373,7 +373,7 @@ paid_byte text seen place l h =
     prefix_len-drop_yes (λ b. not (b == 37)) text place 0 l h in
     omega arith
 
--- a '%' pays for two, and for the bytes behind it up to the next one
+-- at a '%' the bound on the bytes read is that of the text so far
 pub paid_percent : (text : List ℕ) (seen place to : ℕ) → place < length text → get_or text place 0 ≡ 37
     → paid_looks text seen place ≡ seen + 2 * place
 paid_percent text seen place to l h =

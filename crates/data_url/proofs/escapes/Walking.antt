@@ -210,7 +210,7 @@ looking_kept : {c c' : Cursor} {place more : ℕ} (place' more' : ℕ) → Looki
 looking_kept place' more' k h f w l = looking_as place' more' k h.stays.on.text_stays h.base_stays h.seen_stays
     h.marks_stay f w l
 
--- What stands at a mark
+-- What is at a mark
 
 -- a walk that looked at a byte
 pub record Looked (c : Cursor) (mark b : ℕ) : Type 0 where
@@ -790,7 +790,7 @@ gathers_then {c} {c1} {c2} {room} {room1} {room2} {len} {len1} {len2} g h =
       len_is = omega arith;
     }
 
--- one byte is written behind what is there
+-- one byte is appended to the buffer
 pub gathers_byte : {c c' : Cursor} {room : List ℕ} {len b : ℕ} → LooksOn c c'
     → Reads (text_of c) c.place c'.place (b ∷ []) → len < length room → Gathers c c' room (set room len b) len (len + 1)
 gathers_byte {c} {c'} {room} {len} {b} on r l = record {
@@ -840,7 +840,7 @@ room_on {c} {c'} {len} h l m s = record {
   for_block = λ k. let p : c.place < c.seen = omega arith in let q = h.for_block p in omega arith;
 }
 
--- the value of an escape behind another one
+-- the value of an escape directly after another one
 pub gathers_escape : {c0 c c' : Cursor} {room0 room : List ℕ} {len0 len value : ℕ} → Gathers c0 c room0 room len0 len
     → LooksOn c c' → EscapeAt (text_of c) c.place value c'.place → len < length room
     → Gathers c0 c' room0 (set room len value) len0 (len + 1)
@@ -850,7 +850,7 @@ pub room_escape : {c c' : Cursor} {len value : ℕ} → HasRoom c len → len < 
     → EscapeAt (text_of c) c.place value c'.place → c'.seen ≡ c.seen → HasRoom c' (len + 1)
 room_escape h l e s = room_on h l e.some s
 
--- what stands at a mark, in a walk that looked at it and then went on behind it
+-- what is at a mark, for a walk that read it and went on after it
 
 -- the walk looked on, and then went to a place
 pub record Went (c c1 c' : Cursor) (place : ℕ) : Type 0 where
@@ -886,7 +886,7 @@ gathers_value {c} {c1} {c'} {room} {len} {value} {end} w p l =
     let P : List ℕ → Type 0 = λ t. EscapeAt t c.place value end in
     gathers_byte (went_on w) (reads_to w.place_is (reads_escape (subst P w.on.text_stays p))) l
 
--- the walk goes on in its block, where no mark stands before a place
+-- the walk goes on in its block, if there is no mark before a place
 pub may_at : {c : Cursor} {len : ℕ} (width : ℕ) → MayGather c len → c.place < c.seen → c.place + width ≤ c.seen
     → IsClear (text_of c) c.place (c.place + width) → MayGather (record c { place = c.place + width; ahead = c.ahead })
     (len + width)

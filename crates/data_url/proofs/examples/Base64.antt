@@ -47,7 +47,7 @@ whole_group_and_pad : (is_valid (codes "QUJD=") ≡ false) × (complete_bytes (c
 unfolding on_literals
 whole_group_and_pad = (refl, refl, refl)
 
--- an unexpected byte is the fault, also behind a pad
+-- an unexpected byte is the fault, also after padding
 unexpected_after_pad : (first_fault (codes "=!") ≡ Some 1) × (kind_of (codes "=!") ≡ UnexpectedSymbol 33)
 unfolding on_literals
 unexpected_after_pad = (refl, refl)
@@ -56,7 +56,7 @@ above_ascii : (first_fault (255 ∷ []) ≡ Some 0) × (kind_of (255 ∷ []) ≡
 unfolding on_literals
 above_ascii = (refl, refl)
 
--- only what stands before the first fault is done
+-- only the groups before the first fault are decoded
 done_before_fault : (complete_bytes (codes "QUJDQ!UJDQUJD") ≡ codes "ABC")
     × (kind_of (codes "QUJDQ!UJDQUJD") ≡ UnexpectedSymbol 33)
 unfolding on_literals

@@ -167,7 +167,7 @@ parses_x r items begins ends are = record {
   };
 }
 
--- every mark of the token code points stands in a name
+-- a name can have every mark that is a token code point
 token_marks : Parses (codes "x/x;!#$%&'*+-.^_`|~=v") (x_x ((codes "!#$%&'*+-.^_`|~", codes "v") ∷ []))
 unfolding on_literals
 token_marks = parses_x (codes ";!#$%&'*+-.^_`|~=v") ((codes "!#$%&'*+-.^_`|~", Some (codes "v")) ∷ []) refl refl (
@@ -178,7 +178,7 @@ token_marks = parses_x (codes ";!#$%&'*+-.^_`|~=v") ((codes "!#$%&'*+-.^_`|~", S
   refl,
 )
 
--- U+007F and U+0100 stand in no value, U+0080 and U+00FF do
+-- a value cannot have U+007F or U+0100; it can have U+0080 and U+00FF
 edges_of_values : Parses
     (codes "x/x;a=" ++ (127 ∷ codes ";b=" ++ (128 ∷ codes ";c=" ++ (255 ∷ codes ";d=" ++ (256 ∷ [])))))
     (x_x ((codes "b", 128 ∷ []) ∷ (codes "c", 255 ∷ []) ∷ []))
@@ -227,7 +227,7 @@ repeated_name = parses_x (codes ";a=1;A=2") ((codes "a", Some (codes "1")) ∷ (
       (codes ";A=2", [], refl, parameter (codes "A") _ _ _ refl refl (plain_value (codes "2") _ refl refl refl), refl),
     )
 
--- what stands behind a closing quote is dropped, and does not count
+-- the code points after a closing quote are ignored
 junk_after_quote : Parses (codes "x/x;a=" ++ (34 ∷ 98 ∷ 34 ∷ 256 ∷ [])) (x_x ((codes "a", codes "b") ∷ []))
 unfolding is_unit on_literals
 junk_after_quote = parses_x (codes ";a=" ++ (34 ∷ 98 ∷ 34 ∷ 256 ∷ [])) ((codes "a", Some (codes "b")) ∷ []) refl refl (
@@ -253,7 +253,7 @@ code_point_above = parses_x (codes ";a=" ++ (34 ∷ 98 ∷ 59 ∷ 256 ∷ 34 ∷
       refl,
     )
 
--- a lone backslash at the end of the text stands for itself
+-- a backslash at the end of the input is part of the value
 last_backslash : Parses (codes "x/x;a=" ++ (34 ∷ 92 ∷ [])) (x_x ((codes "a", 92 ∷ []) ∷ []))
 unfolding is_unit on_literals
 last_backslash = parses_x (codes ";a=" ++ (34 ∷ 92 ∷ [])) ((codes "a", Some (92 ∷ [])) ∷ []) refl refl (
@@ -325,7 +325,7 @@ invalid_names = parses_x (codes ";=q;" ++ (233 ∷ codes "=" ++ (34 ∷ codes "a
       ),
     )
 
--- whitespace at and_parts ends, behind the subtype and before a name goes; a name has none left at its front alone
+-- whitespace is removed at both ends, after the subtype and before a name; at the end of a name it is kept
 whitespace : Parses (codes " a/b ; c=d ") (record {
   type_ = codes "a";
   subtype = codes "b";
@@ -399,7 +399,7 @@ no_subtype s e m h = let k =
     subst (λ t. IsTrue (is_token_text t)) (sym (has_parts s h.type_ h.subtype h.parameters h.head).subtype_is
     ∙ e) h.head.is_subtype in cc
 
--- what stands behind the subtype begins no parameter
+-- the text after the subtype does not begin a parameter
 no_parameters : (s : List ℕ) (r : List ℕ) → parameters_in (trimmed_of is_http_whitespace s) ≡ r
     → (BeginsParameters r → ⊥) → HasNoRecord s
 unfolding on_literals
@@ -428,7 +428,7 @@ unfolding on_literals
 space_in_subtype = no_parameters (codes "a/b c") (codes "c") refl (λ (e : ◌≡◌ {A = ℕ} 99 59). let k : eqb 99 59 ≡ true =
     eq-eqb 99 59 e in cc)
 
--- '?' is no token code point, so a header with a query behind its subtype has the default record
+-- '?' is not a token code point, so a header with a query after its subtype has the default record
 question_mark : IsRecordOf (codes "a/b?c") default_record
 unfolding on_literals
 question_mark = inr (

@@ -3,7 +3,7 @@ use Rattle.std.proofs.Common.{[], ◌∷◌, codes}
 use Rattle.data_url.specs.Pieces.{IsEscape, IsStretch}
 use Rattle.data_url.proofs.examples.Literals.{on_literals}
 
--- a slice is not a raw tab, though the escape after it stands for a tab
+-- a slice is not a raw tab, though the escape after it is decoded to a tab
 raw_tab : IsStretch (9 ∷ codes "%09") 0 4 (9 ∷ []) → ⊥
 unfolding on_literals
 raw_tab h = let e = h.without_tabs in cc

@@ -159,7 +159,7 @@ module _ {F E : Type 0} (step : F → List ℕ → Result (Unit {0}) E → F →
   called_bytes piece h told g = joined_pieces-append h.run (record { piece = piece; answer = told; after = g } ∷ [])
       ∙ ap (λ x. joined_pieces h.run ++ x) (append-nil piece)
 
-  -- the end, or a fault: all that is held is handed out, in one call
+  -- the end, or a fault: the closure is called once with all bytes that are held
   pub written_feeds : {d d1 d2 : State F} {t held : List ℕ} {r : Result (Unit {0}) (DecodeError E)}
       (h : Holds step d t held d1) → length h.run + 1 ≤ length t → CallsOnce step d1 held r d2 → Feeds step d t r d2
   written_feeds {d} {d1} {d2} {t} {held} {r} h few w =
@@ -309,7 +309,7 @@ module _ {F E : Type 0} (step : F → List ℕ → Result (Unit {0}) E → F →
         };
       }
 
-  -- behind what was fed and flushed
+  -- after what was fed and flushed
   pub refused_feeds : {d d1 d2 d4 : State F} (d3 : State F) {r : Result (Unit {0}) (DecodeError E)} {kind : Kind}
       (t held : List ℕ) (c : ℕ) → Holds step d t held d1 → Refuses d1 c kind d2 → Flushes step d2 held (Ok tt) d3
       → d4 ≡ record d3 { failed = true } → r ≡ Err (InvalidBase64 kind) → Feeds step d (t ++ c ∷ []) r d4
@@ -354,7 +354,7 @@ pub byte_at : (s : List ℕ) (at : ℕ) → at < length s → get_or (take (leng
 byte_at s at h = ap (λ t. get_or t 0 0) (take_rest s at) ∙ get_or-drop at s 0 0 ∙ ap (λ n. get_or s n 0) (omega arith)
 
 module _ {F E : Type 0} (step : F → List ℕ → Result (Unit {0}) E → F → Type 0) where
-  -- a group that is handed out at once
+  -- a group that is passed to the closure at once
   pub group_feeds : {d d1 d2 : State F} {t : List ℕ} {r : Result (Unit {0}) (DecodeError E)} (group : List ℕ)
       → 1 ≤ length t → Adds d t group d1 → CallsOnce step d1 group r d2 → Feeds step d t r d2
   unfolding holds_from
@@ -386,7 +386,7 @@ module _ {F E : Type 0} (step : F → List ℕ → Result (Unit {0}) E → F →
       → Holds step d (take at s) held d1 → Flushes step d1 held (Err x) d2 → Feeds step d s (Err x) d2
   flush_refused s at held h f = feeds_stop step s at (flushed_feeds step held h f)
 
-  -- a fault, behind which nothing is read
+  -- a fault, after which nothing is read
   pub fault_feeds : {d d1 d2 d4 : State F} (d3 : State F) {r : Result (Unit {0}) (DecodeError E)} {kind : Kind}
       (s held held' : List ℕ) (at c : ℕ) → at < length s → c ≡ get_or s at 0
       → Holds step d (take at s) held d1 → Refuses d1 c kind d2 → held' ≡ held → Flushes step d2 held' (Ok tt) d3

@@ -29,7 +29,7 @@ pub or_true : (b : Bool) → (b || true) ≡ true
 or_true true = refl
 or_true false = refl
 
--- a byte that may not stand there, by its classes and by whether a pad stands before it
+-- whether a byte is a fault, from its classes and whether there is padding before it
 abbrev pub bad : Bool → Bool → Bool → Bool → Bool
 bad space pad symbol seen = not (space || (pad || symbol)) || (symbol && seen)
 
@@ -58,7 +58,7 @@ pad_alone of_pad e = (refl, refl)
 pad_alone of_symbol e = absurd (false≢true e)
 pad_alone of_none e = absurd (false≢true e)
 
--- behind a pad no symbol stands
+-- after padding there is no symbol
 seen_step : {x y z : Bool} (c : ℕ) (f : List ℕ) → Class x y z → bad x y z true ≡ false → f ≡ [] → cond z (c ∷ f) f ≡ []
 seen_step c f of_space e h = h
 seen_step c f of_pad e h = h
@@ -76,7 +76,7 @@ compact_step s c u f g of_symbol e none h = ap (λ (x : List ℕ). c ∷ x) h
 compact_step s c u f g of_none e none h = absurd (true≢false e)
 
 module _ (space pad symbol : ℕ → Bool) where
-  -- a byte that may not stand there, by whether a pad stands before it
+  -- whether a byte is a fault, from whether there is padding before it
   abbrev pub is_bad : Bool → ℕ → Bool
   is_bad seen c = bad (space c) (pad c) (symbol c) seen
 
@@ -89,7 +89,7 @@ module _ (space pad symbol : ℕ → Bool) where
   stop seen [] = None
   stop seen (c ∷ t) = cond (is_bad seen c) (Some c) (stop (seen || pad c) t)
 
-  -- what stands before it
+  -- the bytes before it
   abbrev pub ahead : Bool → List ℕ → List ℕ
   ahead seen [] = []
   ahead seen (c ∷ t) = cond (is_bad seen c) [] (c ∷ ahead (seen || pad c) t)
@@ -344,7 +344,7 @@ first_fault_least b = least_is b _ (find_least (is_fault b) (length b) 0 (length
 
 -- Which texts are valid, by the number of their symbols and of their pads.
 
--- whether so many pads fit, by the remainder of the number of symbols
+-- whether that many '=' fit, from the number of symbols modulo four
 abbrev pub fits_with : ℕ → ℕ → Bool
 fits_with r zero = not (eqb r 1)
 fits_with r (suc zero) = eqb r 3
@@ -558,11 +558,11 @@ classes c =
       ] refl
     ] refl
 
--- the byte at the first fault, where a pad may stand before the text
+-- the byte at the first fault; there may be padding before the text
 unfoldable pub fault_byte : Bool → List ℕ → Option ℕ
 fault_byte seen b = stop is_ascii_whitespace is_pad is_symbol seen b
 
--- what stands before it
+-- the bytes before it
 unfoldable pub before_fault : Bool → List ℕ → List ℕ
 before_fault seen b = ahead is_ascii_whitespace is_pad is_symbol seen b
 
@@ -640,7 +640,7 @@ pub before_none : (a : List ℕ) (s : Bool) → fault_byte s a ≡ None → befo
 unfolding fault_byte before_fault
 before_none a s h = ahead_none is_ascii_whitespace is_pad is_symbol a s h
 
--- a fault settles what is handed out and the kind, whatever follows
+-- after a fault, the text that follows changes neither the complete bytes nor the kind
 pub done_stays : (a b : List ℕ) (x : ℕ) → fault_byte false a ≡ Some x → complete_bytes (a ++ b) ≡ complete_bytes a
 done_stays a b x h = done_is (a ++ b) ∙ ap (λ z. groups (values z)) (before-append_some a b false x h) ∙ sym (done_is a)
 
@@ -815,7 +815,7 @@ every_after (p ∷ q ∷ []) h = h
 every_after (p ∷ q ∷ r ∷ []) h = h
 every_after (p ∷ q ∷ r ∷ s ∷ rest) h = every_after rest h.1.1.1.1
 
--- two lists of one remainder, with the same behind them, have one remainder
+-- lists whose lengths are equal modulo four stay so if the same list is appended to both
 pub length_alike : (x y : List ℕ) → length (x ++ y) % 4 ≡ length (after_groups x ++ y) % 4
 length_alike x y = sym (length-after_groups (x ++ y)) ∙ ap length (after_groups-append x y)
     ∙ length-after_groups (after_groups x ++ y)

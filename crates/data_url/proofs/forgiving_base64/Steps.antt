@@ -35,7 +35,7 @@ use Rattle.data_url.specs.declared.forgiving_base64.InvalidBase64Details.TheVari
 use Rattle.data_url.specs.Laws.{GoesOn}
 use Rattle.data_url.proofs.forgiving_base64.Groups.{two_feeds}
 
--- What little more text does behind what a decoder has left over, and what its end does.
+-- What a short text does after what is left over in a decoder, and what the end of the input does.
 
 pub groups_few : (x : List ℕ) → length x ≤ 3 → groups x ≡ []
 unfolding groups
@@ -60,7 +60,7 @@ before_one c s h =
     elim (is_bad is_ascii_whitespace is_pad is_symbol s c) as (λ v. cond v (Some c) None ≡ Some c
     → cond v [] (c ∷ []) ≡ []) [ true ↦ λ e. refl | false ↦ λ e. absurd (some_not_none c (sym e)) ] h
 
--- whether a pad stands among so many
+-- whether there is padding among p times '='
 abbrev pub has_pad : ℕ → Bool
 has_pad p = list_any is_pad (replicate p 61)
 
@@ -168,7 +168,7 @@ pads_space c e = filter_one is_pad c false (space_alone (classes c) e).0
 pub fault_symbol : (c : ℕ) → is_symbol c ≡ true → fault_byte false (c ∷ []) ≡ None
 fault_symbol c e = let k = symbol_alone (classes c) e in fault_one c false false false true k.0 k.1 e
 
--- a symbol behind a pad
+-- a symbol after padding
 pub fault_after : (c : ℕ) → is_symbol c ≡ true → fault_byte true (c ∷ []) ≡ Some c
 fault_after c e = let k = symbol_alone (classes c) e in fault_one c true false false true k.0 k.1 e
 
@@ -226,7 +226,7 @@ two_items (a ∷ []) n l e = absurd (omega arith)
 two_items (a ∷ b ∷ []) n l e = absurd (omega arith)
 two_items (a ∷ b ∷ c ∷ f ∷ t) n l e = absurd (omega arith)
 
--- Which pads fit behind so many symbols
+-- How many '=' fit after a number of symbols
 
 one_unfit : (p : ℕ) → fits_with 1 p ≡ false
 one_unfit zero = refl
@@ -368,7 +368,7 @@ module _ {F : Type 0} where
         stays = same;
       }
 
-  -- a symbol behind a pad
+  -- a symbol after padding
   pub refuses_after : {d d' : State F} (c : ℕ) → Every is_symbol d.symbols → length d.symbols ≤ 3 → 1 ≤ d.padding
       → is_symbol c ≡ true → d' ≡ d → Refuses d c AlphabetSymbolAfterPadding d'
   refuses_after {d} c every few pads symbol same =
@@ -453,7 +453,7 @@ module _ {F E : Type 0} (step : F → List ℕ → Result (Unit {0}) E → F →
   decoded_rest d q every is_q few = decoded_left d.symbols d.padding every
       ∙ ap (λ q. groups (map symbol_value q) ++ rest_bytes (after_groups (map symbol_value q))) is_q ∙ decoded_few q few
 
-  -- what is left over was handed out
+  -- the closure was called with the bytes of what is left over
   pub flushes_rest : (d d' : State F) {r : Result (Unit {0}) (DecodeError E)} (q piece : List ℕ)
       → Every is_symbol d.symbols → d.symbols ≡ q → length q ≤ 3 → piece ≡ rest_bytes (map symbol_value q)
       → 0 < length piece → CallsOnce step d piece r d' → Flushes step d (decoded (left_over d)) r d'
@@ -562,7 +562,7 @@ done_cases u b None h = let g = two_feeds u b (none_fault u h) in
     (complete_bytes (left_text (left_symbols u) (left_padding u) ++ b), g.done_is)
 done_cases u b (Some c) h = prefix_all (complete_bytes u) (complete_bytes (u ++ b)) (sym (done_stays u b c h))
 
--- what was handed out of a text is a beginning of what is handed out of a longer one
+-- the complete bytes of a text are a prefix of those of a longer text
 pub done_begins : (u b : List ℕ) → IsPrefix (complete_bytes u) (complete_bytes (u ++ b))
 done_begins u b = done_cases u b (fault_byte false u) refl
 
@@ -585,7 +585,7 @@ left_over_is : {F : Type 0} {d : State F} (u : List ℕ) → IsLeft u d
 left_over_is {d = d} u h = ap (λ q. left_text q d.padding) h.symbols_are
     ∙ ap (λ p. left_text (left_symbols u) p) h.padding_is
 
--- behind a text without a fault, b goes on as it does behind what is left of the text
+-- decoding b after a text without a fault is the same as decoding it after what is left over of the text
 pub left_goes_on : {F : Type 0} {d : State F} (u b : List ℕ) → first_fault u ≡ None → IsLeft u d
     → GoesOn u b (left_over d ++ b)
 left_goes_on u b none left =

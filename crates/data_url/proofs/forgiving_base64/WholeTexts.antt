@@ -28,7 +28,7 @@ split_bool false P Q h = inr (refl, h)
 abbrev pub whole_bytes : List ℕ → List ℕ
 whole_bytes u = cond (is_valid u) (decoded u) (complete_bytes u)
 
--- what was handed out before a fault is a beginning of all
+-- the complete bytes of a text are a prefix of all its bytes
 pub done_whole : (u : List ℕ) → IsPrefix (complete_bytes u) (whole_bytes u)
 done_whole u =
     elim (is_valid u) as (λ v. is_valid u ≡ v → IsPrefix (complete_bytes u) (cond v (decoded u) (complete_bytes u))) [
@@ -174,7 +174,7 @@ whole_ok : {E : Type 0} (v : Bool) (u bytes : List ℕ) (r : Result (Unit {0}) (
 whole_ok true u bytes r q h = h.bytes_are
 whole_ok false u bytes r q h = absurd (let k = h.1 in cc)
 
--- after an accepted run it has all their bytes behind its own
+-- after a run without an error, all bytes of the run are appended to it
 pub run_reads : {F E : Type 0} (step : F → List ℕ → Result (Unit {0}) E → F → Type 0) (J : F → List ℕ)
     → ((g : F) (piece : List ℕ) (g' : F) → step g piece (Ok tt) g' → J g' ≡ J g ++ piece)
     → (cs : List (Call F E)) (f f' : F) → IsRun step f cs f' → refusal cs ≡ None → J f' ≡ J f ++ joined_pieces cs

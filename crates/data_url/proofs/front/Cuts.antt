@@ -88,7 +88,7 @@ ends_early s n h = false_from_ne_true (bytes_eq (map to_ascii_lowercase (take 5 
     let below = h.open_at in
     omega (arith, five, short, below))
 
--- another byte stands in its place
+-- the next byte is not the next byte of the scheme
 pub differs : (text s : List ℕ) (n b : ℕ) (rest : List ℕ) → Spells s n → is_tab_or_newline b ≡ false
     → to_ascii_lowercase b ≢ get_or scheme n 0 → text ≡ s ++ b ∷ rest → HasNoScheme text
 differs text s n b rest h e ne is =
@@ -162,7 +162,7 @@ pub record IsFrontEnd (s : List ℕ) (n : ℕ) : Type 0 where
   pub no_comma : after 44 (take n s) ≡ None
   pub no_hash : after 35 (take n s) ≡ None
 
--- neither stands before the place
+-- neither ',' nor '#' is before the place
 abbrev pub NoEndBefore : List ℕ → ℕ → Type 0
 NoEndBefore s n = (k : ℕ) → k < n → ends_header (get_or s k 0) ≡ false
 
@@ -230,7 +230,7 @@ at_none s m h e =
 pub is_ascii_end : (s : List ℕ) (n : ℕ) → IsFrontEnd s n → get_or s n 0 < 128
 is_ascii_end s n f = ⊎_elim (λ h. omega arith) (λ h. omega arith) f.is
 
--- The bytes of a path that are serialised as they stand
+-- The bytes of a path that are serialised as they are
 
 pub plain_front : (s items : List ℕ) (n : ℕ) → items ≡ s → n ≡ prefix_len is_plain_path items
     → ((i : ℕ) → get_or s i 0 < 256) → (k : ℕ) → k < n → Plain (get_or s k 0)
@@ -272,7 +272,7 @@ pub no_front_end : (s items : List ℕ) (n : ℕ) (r : Option ℕ) → items ≡
     → after 44 (front s) ≡ None
 no_front_end s items n r e f h p g = at_none s n (no_end_ahead s items n e f h) (ends_ahead s items n r e p ∙ g)
 
--- what stands before the comma where it comes right behind the plain bytes
+-- the header, if the comma comes directly after the plain bytes
 pub plain_before : (s items header : List ℕ) (n k : ℕ) → items ≡ s → n ≡ prefix_len is_plain_path items → FitsBytes s
     → header ≡ take (n + k) s → n + k ≡ n → header_text (without_tabs_and_newlines header) ≡ header
 plain_before s items header n k e f h is same = plain_header s header n (plain_front s items n e f h) (is

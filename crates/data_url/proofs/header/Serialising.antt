@@ -153,7 +153,7 @@ header_and_query path rest h =
     (without_tabs_and_newlines rest) lacks)
     ∙ ap (λ s. encoded_path (without_tabs_and_newlines path) ++ s) (sym query)
 
--- nothing behind a path
+-- nothing after a path
 nothing_after : (path : List ℕ) → encoded_parts path [] [] ≡ percent_encoding in_path_set
     (without_tabs_and_newlines path)
 nothing_after path = ap (λ s. percent_encoding in_path_set (without_tabs_and_newlines path) ++ s)

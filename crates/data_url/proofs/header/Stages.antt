@@ -170,7 +170,7 @@ printable_stripped s h =
     let front = drop (prefix_len is_space s) s in
     printable_take (length front - suffix_len is_space front) front (printable_drop (prefix_len is_space s) s h)
 
--- From the text as it was given, cut behind its scheme and at its first comma, to the stages of the Standard.
+-- From the input, cut after its scheme and at its first comma, to the stages of the Standard.
 
 -- Bytes
 
@@ -261,7 +261,7 @@ after_none t h = cond-false (bytes_eq (map to_ascii_lowercase (take 5 (without_t
 
 -- Header, body and fragment
 
--- what stands behind a scheme, cut at its first comma
+-- the text after a scheme, cut at its first comma
 pub record IsStaged (rest header tail : List ℕ) : Type 0 where
   pub front_is : front (without_tabs_and_newlines rest) ≡ without_tabs_and_newlines header ++ 44 ∷ front
       (without_tabs_and_newlines tail)
@@ -287,7 +287,7 @@ pub front_of : (t a : List ℕ) → after_scheme t ≡ Some a → staged_front t
 unfolding staged_front
 front_of t a h = ap (option_map (λ a. serialised (front a))) h
 
--- the tail that a recoded one stands for
+-- s has a comma; t is the text after it with some bytes percent-encoded
 pub record HasTail (s t : List ℕ) : Type 0 where
   pub rest : List ℕ
   pub is : after 44 s ≡ Some rest
@@ -456,7 +456,7 @@ no_suffix header m e h = record {
   base64_is = sym (ap is_some e);
 }
 
--- what stands before the suffix is a beginning of the header
+-- the text before the suffix is a prefix of the header, so it is printable too
 word_begins : (s m : List ℕ) → before_word s ≡ Some m → IsPrintable s → IsPrintable m
 word_begins s m e h = cut (bytes_eq (map to_ascii_lowercase (last_bytes 6 s)) (codes "base64")) e where
   cut : (v : Bool) → cond v (Some (before_last 6 s)) None ≡ Some m → IsPrintable m
@@ -480,7 +480,7 @@ printable_media s m h e = at (before_word s) refl e where
   at None f k = absurd (cc)
   at (Some x) f k = semicolon_begins (without_end is_space x) m k (printable_end x (word_begins s x f h))
 
--- The head of a MIME type whose type is left out: that of "text/plain" with the parameters behind it.
+-- The head of a MIME type whose type is missing: that of "text/plain" with the parameters after it.
 
 -- "text" and "plain" are words
 
@@ -506,7 +506,7 @@ front_begins : (t back : List ℕ) → BeginsParameters (t ++ back) → BeginsPa
 front_begins [] back h = tt
 front_begins (c ∷ t) back h = h
 
--- behind a last code point that does not pass
+-- after a code point that does not pass
 ends_after : (p : ℕ → _) (c : ℕ) (t : List ℕ) → p c ≡ false → DoesNotEnd p t → DoesNotEnd p (c ∷ t)
 ends_after p c [] n h = n
 ends_after p c (d ∷ t) n h = h
@@ -646,7 +646,7 @@ one_more_call step f g n body body' good r e d = subst (λ b. Decodes step f (n 
 pub no_fragment : (tail : List ℕ) (place : ℕ) → IsBodyEnd tail place → place ≡ length tail → None ≡ after 35 tail
 no_fragment tail place h e = sym (h.after_is ∙ ap rest_fragment (drop_all place tail (omega arith)))
 
--- a '#' stands at the place
+-- at the place there is a '#'
 pub record HasHash (tail : List ℕ) (place : ℕ) : Type 0 where
   pub within : place < length tail
   pub is : get_or tail place 0 ≡ 35

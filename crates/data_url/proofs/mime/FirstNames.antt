@@ -388,7 +388,7 @@ pub lowercase_bytes : {A : Type 0} (name : String A) → is_lowercase_name (code
 lowercase_bytes name h = name_bytes (string_bytes name) (IsUtf8-string_bytes name)
     (lowercase_token (code_points name) h)
 
--- where there are no pairs behind the first ones
+-- if there are no pairs after the first ones
 pub few_names : (n : List ℕ) (pairs : List Pair) → length pairs ≤ LOOKED_THROUGH
     → has_name n (drop LOOKED_THROUGH pairs) ≡ false
 few_names n pairs l = ap (has_name n) (drop_of_length-le pairs l)
@@ -413,7 +413,7 @@ or_cond true false = refl
 or_cond false true = refl
 or_cond false false = refl
 
--- one more pair behind them
+-- one more pair after the first ones
 pub later_names : {A : Type 0} (later later' : BTreeSet (String A)) (pairs : List Pair) (p : Pair) (name : String A)
     → LOOKED_THROUGH ≤ length pairs → HasLaterNames later pairs → string_bytes name ≡ p.0
     → UpdatesBy string_cmp (λ k. slice_cmp nat_cmp (string_bytes name) (string_bytes k)) later later' true

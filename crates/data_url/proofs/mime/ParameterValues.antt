@@ -376,7 +376,7 @@ plain_text self text value code e i h =
     let k = subst (λ s. IsValue s value) e i in
     ap Some h ∙ sym (ap quotable_value k.0 ∙ quotable_some (chars text.now) k.1)
 
--- Values without quotes: whether what stands before a ';' has quoted-string code points alone.
+-- Values without quotes: whether the text before a ';' has only quoted-string code points.
 
 no_semicolon_byte : (c : ℕ) → is_unquoted_byte c ≡ true → not (is_semicolon c) ≡ true
 no_semicolon_byte c h = (and_parts (is_quotable_byte c) (not (is_semicolon c)) h).1

@@ -42,7 +42,7 @@ same_span p a b c d e f g h k = (
       ∙ ap (after_front p) e ∙ after_is p c d h k,
 )
 
--- What the parser cut: the type with what stands behind it, the subtype with what stands behind it, and the parameters
+-- What the parser cut: the type with the text after it, the subtype with the text after it, and the parameters
 pub record Cut (s ty x : List ℕ) : Type 0 where
   pub text : List ℕ
   pub trimmed : IsTrimmed is_http_whitespace s text
@@ -161,7 +161,7 @@ pub no_slash_bytes : (s ty x : List ℕ) → Cut s ty (chars x) → IsUtf8 x →
     → ⊥) → HasNoHead s
 no_slash_bytes s ty x k u h = no_slash s ty (chars x) k (λ w e. h (encode_utf8_all w) (begins_bytes x w 47 u e))
 
--- the text behind the slash
+-- the text after the slash
 pub slash_bytes : (s ty x y : List ℕ) → Cut s ty (chars x) → IsUtf8 x → x ≡ encode_utf8 47 ++ y
     → Cut s ty (47 ∷ chars y)
 slash_bytes s ty x y k u e = subst (Cut s ty) (chars_past_char x y 47 u e) k
@@ -224,7 +224,7 @@ pub not_quote : (x : List ℕ) → IsUtf8 x → ((rest : List ℕ) → x ≡ enc
     → DoesNotBegin is_quote (chars x)
 not_quote x u n = not_quote_text x (chars x) u n refl
 
--- what stands behind an ASCII code point that was taken off
+-- the text after an ASCII code point that was removed
 pub stripped_chars : (x y : List ℕ) (c n : ℕ) → IsUtf8 x → HasCharAt c x 0 n → y ≡ drop n x → chars x ≡ c ∷ chars y
 stripped_chars x y c n u h e = chars_past_char x (drop n x) c u h.split ∙ ap (λ t. c ∷ chars t) (sym e)
 
@@ -247,7 +247,7 @@ closed_value_before s q raw w junk rest value e j h k n b = record {
   begins = b;
 }
 
--- A name, and what stands behind it
+-- A name, and the text after it
 
 no_value_text : (x cs : List ℕ) → IsUtf8 x → DoesNotBegin (λ c. not (ends_name c)) cs
     → ((rest : List ℕ) → x ≡ encode_utf8 61 ++ rest → ⊥) → chars x ≡ cs → BeginsParameters cs

@@ -15,7 +15,7 @@ use lib.Utf8.{encode, next, scalar}
 use Rattle.data_url.specs.Steps.Parsing.{IsClosed, IsOpen}
 use Rattle.data_url.proofs.texts.CodePoints.{some_equal}
 
--- A quoted string, read from behind its opening quote, with one flag for "behind a backslash".
+-- A quoted string, read from after its opening quote, with a flag that says whether a backslash comes before.
 
 -- the value up to the closing quote, or to the end
 abbrev pub quoted_value : Bool → List ℕ → List ℕ
@@ -24,7 +24,7 @@ quoted_value true [] = 92 ∷ []
 quoted_value false (c ∷ t) = cond (c == 34) [] (cond (c == 92) (quoted_value true t) (c ∷ quoted_value false t))
 quoted_value true (c ∷ t) = c ∷ quoted_value false t
 
--- what stands behind the closing quote, where there is one
+-- the text after the closing quote, if there is one
 abbrev pub quoted_rest : Bool → List ℕ → Option (List ℕ)
 quoted_rest escaped [] = None
 quoted_rest false (c ∷ t) = cond (c == 34) (Some t) (cond (c == 92) (quoted_rest true t) (quoted_rest false t))
@@ -109,7 +109,7 @@ read_more u s v (Some w) i h = (
 pub quoted_nil : Quoted [] []
 quoted_nil = record { units = []; each = tt; text_is = refl; value_is = refl }
 
--- what stands before a text that is read behind a backslash or not
+-- the text with a backslash before it if the flag is true
 abbrev pub flagged : Bool → List ℕ → List ℕ
 flagged false s = s
 flagged true s = 92 ∷ s

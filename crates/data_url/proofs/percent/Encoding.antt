@@ -70,7 +70,7 @@ pub kept_where : (m p : ℕ → Bool) → agree_below (λ b. m b || bytes_eq (by
 kept_where m p h b l e = (bytes_eq-Decides (byte_encoding p b) (b ∷ [])).0
     (unmarked_passes m (λ b. bytes_eq (byte_encoding p b) (b ∷ [])) h b l e)
 
--- Texts with some of their bytes percent-encoded: they decode alike, and their first commas stand at the same bytes.
+-- Texts with some of their bytes percent-encoded: they decode to the same bytes, and have the same first comma.
 
 abbrev pub IsBytes : List ℕ → Type 0
 IsBytes s = AllByRecursion (λ b. b < 256) s
@@ -172,7 +172,7 @@ escapes b c d s x h e =
     ∙ ap (λ t. (16 * digit_value c + digit_value d) ∷ t) e ∙ sym (decoded_escape c d s q.0 q.1)
     ∙ ap (λ v. percent_decoding (v ∷ c ∷ d ∷ s)) (sym f)
 
--- no digit stands first or second where a byte of the set does
+-- there are no two digits if the first or the second byte is not a digit
 no_escape : (b : ℕ) (v : Bool) → v ≡ false → ((b == 37) && v) ≡ false
 no_escape b v h = and_right (b == 37) v h
 
@@ -284,7 +284,7 @@ serialised_recoded (b ∷ s) h = elim (cases_Bool (b == 63)) [
 
 -- The first comma
 
--- what stands behind the first comma of both: nothing, or two texts of which one is the other recoded
+-- the texts after the first comma of both: none, or one is the other with some bytes percent-encoded
 abbrev pub RecodedTails : Option (List ℕ) → Option (List ℕ) → Type 0
 RecodedTails None None = Unit {0}
 RecodedTails None (Some y) = ⊥
@@ -311,7 +311,7 @@ recoded_tails (written {s} {x} b h l r) =
     (sym (after_other 44 b s (set_other b 44 refl h)))
     (subst (λ v. RecodedTails (after 44 s) v) (sym (after_written b x)) (recoded_tails r))
 
--- what stands before the first comma of an encoded text is the encoding of what stands before the first comma
+-- the bytes before the first comma of an encoded text are the encoding of the bytes before the first comma
 
 encoded_byte_lacks : (p : ℕ → Bool) (b : ℕ) → (b == 44) ≡ false → after 44 (encoded_byte p b) ≡ None
 encoded_byte_lacks p b h = cond_both (p b) (37 ∷ hex_digit (b / 16) ∷ hex_digit (b % 16) ∷ []) (b ∷ [])
@@ -494,7 +494,7 @@ kept_whole p (b ∷ s) h =
     sym (written_first p b s
     ∙ ap₂ (λ x y. x ++ y) (h 0 (omega arith)) (sym (kept_whole p s (λ k l. h (suc k) (omega arith)))))
 
--- a text of plain bytes is serialised as it stands
+-- a text of plain bytes is serialised as it is
 
 abbrev other_than_plain : ℕ → Bool
 other_than_plain b = is_tab_or_newline b || (in_path_set b || ((b == 35) || ((b == 44) || (b == 63))))
@@ -564,7 +564,7 @@ put_more p s i room at row room' m l within r n h =
 
 -- Part by part
 
--- what was written behind a text before the rest
+-- what was written after the old text, from the bytes before the rest
 abbrev pub WroteBefore : (ℕ → Bool) → List ℕ → List ℕ → List ℕ → List ℕ → Type 0
 WroteBefore p s rest old text = text ++ encoded p rest ≡ old ++ encoded p s
 

@@ -70,7 +70,7 @@ before_at c a s h = before-append c a (c ∷ s) h ∙ ap (λ t. a ++ t) (before_
 pub after_at : (c : ℕ) (a s : List ℕ) → after c a ≡ None → after c (a ++ c ∷ s) ≡ Some s
 after_at c a s h = after-append c a (c ∷ s) h ∙ after_same c s
 
--- a text with the byte is what stands before it, the byte, and what stands behind it
+-- a text with the byte is the bytes before it, the byte, and the bytes after it
 pub record IsCut (c : ℕ) (s rest : List ℕ) : Type 0 where
   pub joined : s ≡ before c s ++ c ∷ rest
   pub lacks : after c (before c s) ≡ None
@@ -140,7 +140,7 @@ after-dropped_none c k (b ∷ s) h = let l = lacks c b s h in elim (cases_Bool (
       ∙ after-dropped_none c k s l.after_it
 ]
 
--- dropping, where a byte that is kept stands between
+-- dropping tabs and newlines on both sides of a byte that is kept
 pub dropped_around : (c : ℕ) → is_tab_or_newline c ≡ false → (a s : List ℕ)
     → without_tabs_and_newlines (a ++ c ∷ s) ≡ without_tabs_and_newlines a ++ c ∷ without_tabs_and_newlines s
 dropped_around c k a s = without_tabs_and_newlines-append a (c ∷ s)

@@ -29,7 +29,7 @@ abbrev pub front_of : (ℕ → Bool) → List ℕ → List ℕ
 front_of p [] = []
 front_of p (c ∷ t) = cond (p c) (c ∷ front_of p t) []
 
--- what stands behind it
+-- the text after it
 abbrev pub after_front : (ℕ → Bool) → List ℕ → List ℕ
 after_front p [] = []
 after_front p (c ∷ t) = cond (p c) (after_front p t) (c ∷ t)
@@ -125,7 +125,7 @@ in_parts p q h bytes after first more e d m =
           (λ k l. h (get_or bytes k 0) (prefix_len_passes p bytes k 0 (omega (arith, e)))),
     )
 
--- Where a text may be cut: behind bytes below 128, and at them.
+-- Where a text can be cut: before and after bytes below 128.
 
 module _ (p : ℕ → Bool) (ascii : (b : ℕ) → p b ≡ true → b < 128) (bs : List ℕ) (text : IsUtf8 bs) where
   pub boundary_after_front : 0 < prefix_len p bs → IsCharBoundary bs (prefix_len p bs)
