@@ -15,7 +15,7 @@ pub(crate) const SYMBOL_AFTER_PADDING: u32 = 10;
 pub(crate) const MORE: u32 = 11;
 pub(crate) const UNEXPECTED_SYMBOL: u32 = 256;
 
-/// The least room that a part of a body is decoded into.
+/// The smallest output that a part of a body is decoded into, in bytes.
 pub(crate) const LEAST: usize = 8;
 
 /// How many bytes of a printed text fit on the stack. A longer one is printed a second time, into a vector.
@@ -53,7 +53,7 @@ pub(crate) struct Body {
     is_base64: u8,
 }
 
-/// What base64 that is fed in parts has left.
+/// What is left over of base64 that is fed in parts.
 #[repr(C)]
 pub(crate) struct Base64 {
     symbols: [u8; 3],
@@ -83,7 +83,7 @@ extern "C" {
     fn dataurl_base64_finish(state: *mut Base64, out: *mut u8, room: usize) -> Answer;
 }
 
-/// Room on the stack that nothing was written to yet.
+/// A buffer on the stack, to which nothing is written yet.
 pub(crate) struct Room<const N: usize> {
     bytes: [MaybeUninit<u8>; N],
 }
@@ -138,7 +138,7 @@ fn printed<A, T>(
     }
 }
 
-/// A status that is no success. If allocation failed, this ends the program as Rust's own types do.
+/// A status that is not success. If allocation failed, this ends the program as Rust's own types do.
 fn refusal(status: u32) -> u32 {
     if status == OUT_OF_MEMORY {
         handle_alloc_error(Layout::new::<u8>());

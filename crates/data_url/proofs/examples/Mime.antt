@@ -1,4 +1,4 @@
--- MIME texts with their records and printed texts: each record by a derivation in the grammar, each printed text
+-- MIME types with their records and printed texts. Each record has a derivation in the grammar; each printed text is
 -- computed.
 use Rattle.std.proofs.Common.{◌≡◌, ℕ, Bool, true, false, List, [], ◌∷◌, ◌++◌, Option, None, Some, inl, inr, codes}
 use Rattle.std.proofs.Common.{append-nil, eq-eqb, eqb, refl, subst, sym, ◌∙◌, ap, map}
@@ -52,7 +52,7 @@ head type_ subtype r t s b begins ends = record {
   begins = b;
 }
 
--- ';', a name without whitespace before it, and what gives its value
+-- ';', a name without whitespace before it, and the text that gives its value
 parameter : (name tail rest : List ℕ) (value : Option (List ℕ)) → DoesNotBegin is_http_whitespace name
     → list_all (λ c. not (ends_name c)) name ≡ true → GivesValue tail rest value
     → IsParameter (59 ∷ (name ++ tail)) rest (map to_ascii_lowercase name, value)
@@ -96,13 +96,13 @@ are_units (Escaped c ∷ us) h = (tt, are_units us (and_parts true (list_all is_
 quoted_units : (us : List QuotedUnit) → list_all is_unit us ≡ true → Quoted (flat_map unit_text us) (map unit_value us)
 quoted_units us h = record { units = us; each = are_units us h; text_is = refl; value_is = refl }
 
--- the code points of a text, each for itself
+-- the code points of a text, each as it is
 abbrev plainly : List ℕ → List QuotedUnit
 plainly t = map Plain t
 
 -- Examples
 
--- a semicolon in quotes, a value that is missing, and one that is quoted and empty
+-- a semicolon in quotes, a missing value, and an empty value in quotes
 quotes : Parses (codes "TEXT/HTML;a=" ++ (34 ∷ codes "b;c" ++ (34 ∷ codes ";d=;e=" ++ (34 ∷ 34 ∷ []))))
     (record {
       type_ = codes "text";
@@ -240,7 +240,7 @@ junk_after_quote = parses_x (codes ";a=" ++ (34 ∷ 98 ∷ 34 ∷ 256 ∷ [])) (
   refl,
 )
 
--- a quoted value is judged as a whole: a semicolon belongs to it, and U+0100 makes its pair invalid
+-- a quoted value is tested as a whole: it can have a semicolon, and U+0100 makes its pair invalid
 code_point_above : Parses (codes "x/x;a=" ++ (34 ∷ 98 ∷ 59 ∷ 256 ∷ 34 ∷ [])) (x_x [])
 unfolding is_unit on_literals
 code_point_above = parses_x (codes ";a=" ++ (34 ∷ 98 ∷ 59 ∷ 256 ∷ 34 ∷ []))
@@ -265,7 +265,7 @@ last_backslash = parses_x (codes ";a=" ++ (34 ∷ 92 ∷ [])) ((codes "a", Some 
   refl,
 )
 
--- escapes, a quote inside a plain value, and a quoted string that the end of the text closes
+-- escapes, a quote inside a value without quotes, and a quoted string that ends with the input
 abbrev escapes_text : List ℕ
 escapes_text = codes ";a=" ++ (34 ∷ 113 ∷ 92 ∷ 34 ∷ 114 ∷ 34 ∷ codes
     ";b=" ++ (34 ∷ 92 ∷ 97 ∷ 34 ∷ codes ";c=d" ++ (34 ∷ codes "e;f=" ++ (34 ∷ 103 ∷ []))))
@@ -306,7 +306,7 @@ escapes = parses_x escapes_text ((codes "a", Some (113 ∷ 34 ∷ 114 ∷ [])) �
   ),
 )
 
--- a name that is empty and one that is no token take their quoted strings with them
+-- a parameter whose name is empty or not a token is ignored together with its quoted string
 invalid_names : Parses (codes "x/x;=q;" ++ (233 ∷ codes "=" ++ (34 ∷ codes "a;b=c" ++ (34 ∷ codes ";d=e"))))
     (x_x ((codes "d", codes "e") ∷ []))
 unfolding is_unit on_literals
@@ -437,7 +437,7 @@ question_mark = inr (
   refl,
 )
 
--- the empty header has it too
+-- the empty header has the default record too
 empty_header : IsRecordOf [] default_record
 unfolding on_literals
 empty_header = inr (empty_text, refl)
@@ -448,7 +448,7 @@ printed_default : printed default_record ≡ codes "text/plain;charset=US-ASCII"
 unfolding on_literals
 printed_default = refl
 
--- a value that needs quotes, and one that is empty
+-- a value that needs quotes, and an empty one
 printed_quotes : printed (record {
   type_ = codes "text";
   subtype = codes "html";
@@ -465,7 +465,7 @@ printed_escapes : printed (x_x ((codes "a", 113 ∷ 34 ∷ 114 ∷ []) ∷ (code
 unfolding on_literals
 printed_escapes = refl
 
--- a record that no text has is printed as it is
+-- a record that parsing cannot return is printed too
 printed_by_hand : printed (record { type_ = codes "a b"; subtype = []; parameters = ([], 233 ∷ []) ∷ [] })
     ≡ codes "a b/;=" ++ (34 ∷ 233 ∷ 34 ∷ [])
 unfolding on_literals

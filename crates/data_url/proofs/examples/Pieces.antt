@@ -1,4 +1,4 @@
--- Pieces that the definition refuses, computed.
+-- Pieces for which the definition is false, by computation.
 use Rattle.std.proofs.Common.{[], ◌∷◌, codes}
 use Rattle.data_url.specs.Pieces.{IsEscape, IsStretch}
 use Rattle.data_url.proofs.examples.Literals.{on_literals}
@@ -13,7 +13,7 @@ escape_in_fragment : IsEscape (codes "A#%41") 1 5 65 → ⊥
 unfolding on_literals
 escape_in_fragment h = let e = h.in_front in cc
 
--- its digits are not looked for after the first `#`
+-- the digits of an escape are not taken from the fragment
 digits_in_fragment : IsEscape (codes "%#41") 0 4 65 → ⊥
 unfolding on_literals
 digits_in_fragment h = let e = h.in_front in cc

@@ -27,7 +27,7 @@ use Rattle.data_url.proofs.forgiving_base64.Padding.{fits_with, any_filter, filt
 use Rattle.data_url.specs.Laws.{GoesOn, TwoFeeds}
 use Rattle.data_url.specs.Mime.{Every}
 
--- Groups that a text begins with.
+-- Groups at the start of a text.
 
 -- How many bytes groups have
 
@@ -148,7 +148,7 @@ fill_one held (p ∷ q ∷ r ∷ s ∷ rest) bytes h all e =
       held_are = refl;
     }
 
--- The symbols ahead
+-- The symbols at the start
 
 pub ahead_all : (s : List ℕ) → list_all is_symbol (take (prefix_len is_symbol s) s) ≡ true
 ahead_all s =

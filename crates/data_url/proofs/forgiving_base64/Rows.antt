@@ -247,7 +247,7 @@ all_clear [] e = refl
 all_clear (b ∷ v) e = let p = no_bit (is_symbol b) (others_mask v) e in ap (λ l. b ∷ l) (all_clear v p.1)
     ∙ sym (ap (λ t. cond t (b ∷ filter is_symbol v) (filter is_symbol v)) p.0)
 
--- Symbols that were put together
+-- Symbols that were appended
 
 pub filter_symbols : (v : List ℕ) → list_all is_symbol (filter is_symbol v) ≡ true
 filter_symbols [] = refl

@@ -225,7 +225,7 @@ semicolon_after : (x r : List ℕ) → is_some (before_semicolon (x ++ 63 ∷ r)
 semicolon_after x r = some_cond (bytes_eq (last_bytes 1 (x ++ 63 ∷ r)) (codes ";")) (before_last 1 (x ++ 63 ∷ r))
     ∙ ap (λ s. bytes_eq s (codes ";")) (last_after x (63 ∷ r) 1 (omega arith))
 
--- what the suffix hangs on
+-- what the suffix depends on
 abbrev after_mark : Option (List ℕ) → Bool
 after_mark None = false
 after_mark (Some m) = bytes_eq (last_bytes 1 (63 ∷ without_end is_space m)) (codes ";")
