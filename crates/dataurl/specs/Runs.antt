@@ -36,7 +36,7 @@ pub data IsResult (x : List ℕ) (left : Option (List ℕ)) : Command → List �
   base64_not_written : {written : List ℕ} → IsSoundBeforeLastPiece x
       → IsProperPrefix written (complete_bytes x)
       → IsResult x left base64 written (Err Write)
-  -- a read failed; of base64, the bytes of the complete groups were written
+  -- a read failed; nothing was written or, for base64, the bytes of the complete groups that were read
   not_read : {c : Command} → TakesText c → IsResult x left c [] (Err Read)
   base64_not_read : first_fault x ≡ None → IsResult x left base64 (complete_bytes x) (Err Read)
   -- allocation failed, and nothing was written

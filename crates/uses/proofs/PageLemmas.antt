@@ -59,7 +59,7 @@ none_ended page rest place o r none = λ xs ys zs e.
     (ap (λ s. get_or s k 0) r ∙ get_or-drop (place + 2) page k 0 ∙ ap (λ n. get_or page n 0) at
     ∙ ap (λ s. get_or s (length xs + (7 + length ys)) 0) e ∙ quote_at xs ys zs)
 
--- what ends at a quote has the whole scheme
+-- a reference that ends at a quote has the whole scheme
 scheme_front : (k : ℕ) (s : List ℕ) → get_or (codes "data:" ++ s) k 0 ≡ 34
     → (rest : List ℕ) × (take k (codes "data:" ++ s) ≡ codes "data:" ++ rest)
 scheme_front zero s e = absurd (omega (arith, e))
@@ -120,7 +120,7 @@ inlined_source reference (Text s) h = absurd h
 inlined_source reference (Inlined s response) h = h.0
 inlined_source reference (Refused s reason) h = h.0
 
--- the texts of the parts join to the page
+-- the concatenation of the texts of the parts is the page
 pub sources_join : (page : List ℕ) (parts : List Part) → IsPage page parts → flat_map source_of parts ≡ page
 sources_join page [] h = absurd h
 sources_join page (text ∷ []) h = append-nil (source_of text) ∙ text_source page text h.0
@@ -130,7 +130,7 @@ sources_join page (text ∷ part ∷ parts) h =
     ∙ ap (λ s. h.0 ++ (h.1 ++ s)) (sources_join h.2 parts h.6)
     ∙ sym h.3.joined
 
--- whatever parts the rest has, they follow those that the page has so far
+-- the parts of the rest follow the parts so far
 pub record Going (page rest : List ℕ) (parts : List Part) : Type 0 where
   pub then : (more : List Part) → IsPage rest more → IsPage page (parts ++ more)
 

@@ -715,7 +715,7 @@ pub every_list_all : (q : List ℕ) → list_all is_symbol q ≡ true → Every 
 every_list_all [] h = tt
 every_list_all (c ∷ t) h = let k = and_parts (is_symbol c) (list_all is_symbol t) h in (k.0, every_list_all t k.1)
 
--- there was at most one '=' at the end
+-- the second list is the first one, or the first one without one '=' at its end
 data Cut : List ℕ → List ℕ → Type 0 where
   same : {s : List ℕ} → Cut s s
   pad : {s : List ℕ} → Cut (s ++ 61 ∷ []) s

@@ -135,7 +135,7 @@ module _ {F E : Type 0} (step : F → List ℕ → Result (Unit {0}) E → F →
             ]);
       }
 
-  -- nothing is left over in a new decoder
+  -- a new decoder is fed nothing
   pub fed_nothing : {d : State F} {f : F} → d ≡ start f → Feeds step (start f) [] (Ok tt) d
   fed_nothing {d} {f} e = feeds_none step tt (omega arith) (omega arith) refl e
 

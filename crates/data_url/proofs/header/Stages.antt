@@ -387,7 +387,7 @@ no_header t rest b s h =
 
 -- The record of a header.
 
--- two lists of bytes are equal if they have the same bytes at all places
+-- a list is a text of bytes if the number at each place is below 256
 pub bytes_by_place : (s : List ℕ) → ((i : ℕ) → get_or s i 0 < 256) → IsBytes s
 bytes_by_place [] h = tt
 bytes_by_place (b ∷ s) h = (h 0, bytes_by_place s (λ i. h (suc i)))

@@ -53,7 +53,7 @@ abbrev pub reading : List ℕ → Reading
 reading [] = record { value = None; rest = [] }
 reading (c ∷ t) = cond (c == 61) (reading_after t) (record { value = None; rest = c ∷ t })
 
--- A text that gives a value reads so
+-- Reading a text that gives a value returns that value
 
 pub begins_no_value : (r : List ℕ) → BeginsParameters r → DoesNotBegin in_value r
 begins_no_value [] h = tt
@@ -113,7 +113,7 @@ reading_is _ _ _ (unclosed {value} text h) b = rw (append-nil text) (open_readin
 abbrev pub BeginsTail : List ℕ → Type 0
 BeginsTail x = DoesNotBegin in_name x
 
--- what the reading gives is given by a text before its rest
+-- the value that is read is given by a text, which the rest follows
 pub record IsReading (x : List ℕ) (r : Reading) : Type 0 where
   pub tail : List ℕ
   pub joined : x ≡ tail ++ r.rest
@@ -235,7 +235,7 @@ pub has_parameter : (s : List ℕ) → HasParameterBefore s (item_in s) (rest_in
 has_parameter s = parameter_from s (reading (after_name s))
     (is_reading (after_name s) (after_begins in_name (after_front is_http_whitespace s)))
 
--- A parameter text reads so
+-- Reading the text of a parameter returns its item
 
 pub ends_of_rest : (p : ℕ → Bool) → p 59 ≡ false → (rest : List ℕ) → BeginsParameters rest → DoesNotBegin p rest
 ends_of_rest p e [] b = tt
@@ -379,7 +379,7 @@ pub every_append : (p : ℕ → Bool) (a b : List ℕ) → Every p a → Every p
 every_append p [] b h e = e
 every_append p (c ∷ a) b h e = (h.0, every_append p a b h.1 e)
 
--- the text without its longest front and its longest end of code points that pass
+-- the text without the longest prefix and the longest suffix of code points that pass
 abbrev pub trimmed_of : (ℕ → Bool) → List ℕ → List ℕ
 trimmed_of p s = without_back p (after_front p s)
 
@@ -434,7 +434,7 @@ pub gap_no_token : (gap r : List ℕ) → Every is_http_whitespace gap → Begin
 gap_no_token [] r g b = ends_of_rest is_token semicolon_no_token r b
 gap_no_token (c ∷ gap) r g b = space_no_token c g.0
 
--- the parts of a text that is joined so
+-- the parts of a text that is such a concatenation
 pub record HasParts (t type_ subtype parameters : List ℕ) : Type 0 where
   pub type_is : type_in t ≡ type_
   pub subtype_is : subtype_in t ≡ subtype

@@ -16,7 +16,7 @@ use Rattle.data_url.proofs.mime.Items.{ends_of_rest, tail_equal, all_from_every,
 use Rattle.data_url.proofs.mime.Items.{slash_no_token, trimmed_is, semicolon_from}
 use Rattle.std.specs.Char.{to_ascii_lowercase}
 
--- The head of a MIME type: what the parser cuts is it, and is it alone.
+-- The head of a MIME type: what the parser cuts is the head, and there is no other.
 
 pub not_begins_left : (p : ℕ → Bool) (a b : List ℕ) → DoesNotBegin p (a ++ b) → DoesNotBegin p a
 not_begins_left p [] b h = tt
@@ -33,7 +33,7 @@ trimmed_both p s a t f e = record {
   ends = e.ends;
 }
 
--- a text has one longest front that passes
+-- a text has one longest prefix that passes
 pub same_span : (p : ℕ → Bool) (a b c d : List ℕ) → a ++ b ≡ c ++ d → Every p a → DoesNotBegin p b → Every p c
     → DoesNotBegin p d → (a ≡ c) × (b ≡ d)
 same_span p a b c d e f g h k = (
@@ -140,7 +140,7 @@ pub begins_if : (x : List ℕ) (b : Bool) → IsUtf8 x → (length x == 0) ≡ f
 begins_if x true u n h = subst BeginsParameters (sym (chars_past_char x (drop h.0 x) 59 u h.1.split)) refl
 begins_if x false u n h = begins_semicolon x (chars x) u (nonempty_chars x u n) h refl
 
--- What the parser's steps give
+-- What the parser's functions return
 
 pub cut_from : (s a t ty x : List ℕ) → IsTrimmedFront is_http_whitespace s a → IsTrimmedEnd is_http_whitespace a t
     → t ≡ ty ++ x → Every is_token ty → DoesNotBegin is_token x → Cut s ty x
@@ -185,9 +185,9 @@ pub no_semicolon : (x : List ℕ) → IsUtf8 x → BeginsParameters (chars x) �
     → ⊥) → chars x ≡ []
 no_semicolon x u b h = no_semicolon_text x (chars x) u b h refl
 
--- What the parser cuts of one parameter is one.
+-- What the parser cuts for one parameter is a parameter.
 
--- A value that begins with no '"'
+-- A value that does not begin with '"'
 
 pub plain_value : (s front after value : List ℕ) → DoesNotBegin is_quote s → s ≡ front ++ after
     → Without is_semicolon front → BeginsParameters after → IsTrimmedEnd is_http_whitespace front value
