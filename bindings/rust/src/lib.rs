@@ -80,7 +80,7 @@ impl fmt::Display for DataUrlError {
 impl std::error::Error for DataUrlError {}
 
 impl<'a> DataUrl<'a> {
-    /// Reads the header of a data: URL. The body is not looked at.
+    /// Reads the header of a data: URL. The body is not read.
     /// <https://fetch.spec.whatwg.org/#data-url-processor>
     ///
     /// # Errors

@@ -99,7 +99,7 @@ impl<const N: usize> Room<N> {
         self.bytes.as_mut_ptr() as *mut u8
     }
 
-    /// The bytes that a call wrote: the library writes `len` bytes at the front, and never more than there is room for.
+    /// The bytes that a call wrote: the library writes `len` bytes at the start, and never more than fit.
     fn written(&self, len: usize) -> &[u8] {
         assert!(len <= N);
         unsafe { core::slice::from_raw_parts(self.bytes.as_ptr() as *const u8, len) }
@@ -146,7 +146,8 @@ fn refusal(status: u32) -> u32 {
     status
 }
 
-/// Opens a URL: what `read` makes of its printed MIME type, whether its body is base64, and the text after its comma.
+/// Opens a URL: the result of `read` for its printed MIME type, whether its body is base64, and the text after its
+/// comma.
 pub(crate) fn open<'a, T>(
     url: &'a str,
     read: impl Fn(&str) -> T,
@@ -162,7 +163,7 @@ pub(crate) fn open<'a, T>(
     )
 }
 
-/// What `read` makes of a MIME type's printed text.
+/// The result of `read` for the printed text of a MIME type.
 pub(crate) fn mime_type<T>(text: &str, read: impl Fn(&str) -> T) -> Result<T, u32> {
     printed(
         |out, room| unsafe { dataurl_type(text.as_ptr(), text.len(), out, room) },
@@ -171,7 +172,7 @@ pub(crate) fn mime_type<T>(text: &str, read: impl Fn(&str) -> T) -> Result<T, u3
     )
 }
 
-/// What `read` makes of the encoded fragment of a URL.
+/// The result of `read` for the encoded fragment of a URL.
 pub(crate) fn fragment<T>(url: &str, read: impl Fn(&str) -> T) -> Result<T, u32> {
     printed(
         |out, room| unsafe { dataurl_fragment(url.as_ptr(), url.len(), out, room) },

@@ -41,7 +41,7 @@ with_query_and_spaces path None = percent_encoding in_path_set path
 with_query_and_spaces path (Some query) =
     percent_encoding in_path_set path ++ 63 ∷ percent_encoding in_query_set query
 
--- a front, serialised by an older rule for spaces: no space of the path is encoded
+-- a front, serialised by the rule that no space of the path is encoded
 abbrev pub serialised_with_spaces : List ℕ → List ℕ
 serialised_with_spaces s = with_query_and_spaces (before 63 s) (after 63 s)
 

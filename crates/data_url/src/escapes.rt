@@ -91,7 +91,7 @@ impl<'a> Pieces<'a> {
     }
 
     /// Returns the next bytes, or None if the body has ended: a long stretch of the text as it is, or shorter ones and
-    /// the values of escapes, gathered in a room. The walk is moved out and back, so that it can stay in registers.
+    /// the values of escapes, gathered in a buffer. The walk is moved out and back, so that it can stay in registers.
     pub(crate) fn next_bytes<'r>(&mut self, room: &'r mut [u8; ROOM]) -> Option<&'r [u8]>
     where
         'a: 'r,

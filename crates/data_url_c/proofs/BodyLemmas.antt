@@ -96,7 +96,7 @@ pub fed_within : {s0 s : DataUrlBase64} {text out0 out : List ℕ} {w : Walk} {l
     → len ≤ length out
 fed_within h = omega (arith, h.takes.wrote.within, h.size)
 
--- the room for the next piece
+-- the output has room for the next piece
 pub fed_room : {s0 s : DataUrlBase64} {text out0 out : List ℕ} {w : Walk} {len : ℕ} (bytes rest : List ℕ)
     → Fed s0 s text out0 w out len → w.rest ≡ bytes ++ rest → is_good_state s0 ≡ true
     → 3 * (s0.pending + length (plain_body text)) ≤ 4 * length out0 → len ≤ length out

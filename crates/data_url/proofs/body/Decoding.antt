@@ -146,7 +146,7 @@ module _ {F E : Type 0} (step : F → List ℕ → Result (Unit {0}) E → F →
 
 -- A base64 body, fed to a decoder chunk by chunk.
 
--- A body is no longer than its tail
+-- A body is not longer than its tail
 
 dropped_shorter : (s : List ℕ) → length (without_tabs_and_newlines s) ≤ length s
 unfolding without_tabs_and_newlines

@@ -46,7 +46,7 @@ pub(super) enum Stop {
     End,
 }
 
-/// A walk: its text, the block that was looked at last with its marks, its place, and what is known there.
+/// A walk: its text, the block that was read last with its marks, its place, and what is known there.
 #[derive(Drop)]
 pub(super) struct Cursor<'a> {
     source: Source<'a>,

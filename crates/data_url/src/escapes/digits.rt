@@ -86,7 +86,7 @@ impl<'a> Source<'a> {
         }
     }
 
-    /// Returns the digit after a tab or newline, and the place after it. The text is looked at through a value of its own,
+    /// Returns the digit after a tab or newline, and the place after it. The text is read through a value of its own,
     /// so that the walk's can stay in registers.
     #[inline(always)]
     fn digit_past(&mut self, place: usize) -> Option<(u8, usize)>

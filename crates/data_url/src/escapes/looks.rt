@@ -13,7 +13,7 @@ struct Mark {
     before: Option<Snapshot<Mark>>,
 }
 
-/// How many bytes were looked at: a number without an upper end that contracts alone see.
+/// How many bytes were examined: a number without an upper bound, which only contracts see.
 #[derive(Drop)]
 pub(super) struct Looks {
     last: Snapshot<Mark>,

@@ -18,7 +18,7 @@ pub(super) struct Source<'a> {
 }
 
 impl<'a> Source<'a> {
-    /// A text that was not looked at yet.
+    /// A text of which no byte was examined yet.
     #[inline(always)]
     pub(super) fn new(text: &'a str) -> Self
         ensures text { result.text.now ≡ text.entry.now }
@@ -80,7 +80,7 @@ impl<'a> Source<'a> {
         }
     }
 
-    /// Returns a stretch of the text, to be passed on. None of its bytes is looked at.
+    /// Returns a stretch of the text. None of its bytes is examined.
     #[inline(always)]
     pub(super) fn cut(&self, start: usize, end: usize) -> &'a [u8]
         requires forward { start ≤ end }
@@ -90,7 +90,7 @@ impl<'a> Source<'a> {
         &self.text.as_bytes()[start..end]
     }
 
-    /// Copies a stretch of fewer than 64 bytes into a buffer. None of its bytes is looked at. The bytes after it in the
+    /// Copies a stretch of fewer than 64 bytes into a buffer. None of its bytes is examined. The bytes after it in the
     /// buffer may be overwritten.
     #[inline(always)]
     pub(super) fn copy(

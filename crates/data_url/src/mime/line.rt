@@ -29,7 +29,7 @@ impl Line {
         }
     }
 
-    /// Holds a text that there is room for.
+    /// Appends a text that fits to the buffer.
     #[inline(always)]
     fn hold(&mut self, text: &str)
         requires { self.old.len + length text.now ≤ 128 }
@@ -59,7 +59,7 @@ impl Line {
         Ok(())
     }
 
-    /// Adds a text that there is no room for until what is held is written.
+    /// Adds a text that does not fit until the buffer is written.
     #[inline(never)]
     fn push_past_room<W: fmt::Write>(
         &mut self,
@@ -78,7 +78,7 @@ impl Line {
         Ok(())
     }
 
-    /// Writes what is held.
+    /// Writes the buffer.
     pub(super) fn flush<W: fmt::Write>(&mut self, f: &mut fmt::Formatter<W>) -> fmt::Result
         requires { IsHeld self.old }
         ensures written { WritesStyledOnOk W.write_str_gives f.old result (held self.old) f.new }

@@ -31,7 +31,7 @@ fn lengths_of(
     Ok(record.lengths)
 }
 
-/// Returns how many pieces are longer than the room for short ones.
+/// Returns how many pieces are longer than the buffer for short ones.
 fn count_long(lengths: &[usize]) -> usize {
     lengths.iter().filter(|len| **len > ROOM).count()
 }

@@ -18,7 +18,7 @@ pub enum Source<'a> {
     Base64(&'a [&'a [u8]]),
 }
 
-/// What becomes of the closure when the text has ended.
+/// What happens to the closure when the text has ended.
 #[derive(Drop)]
 pub enum Closure {
     /// It is dropped, by `decode` and by `finish`.
