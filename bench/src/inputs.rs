@@ -9,10 +9,10 @@ pub struct Row {
     pub text: Vec<u8>,
     pub ours: Call,
     pub theirs: Call,
-    /// Calls that show what the timed ones found, where those show nothing.
+    /// Calls that return the result of the timed ones, if those return nothing.
     pub shows_ours: Call,
     pub shows_theirs: Call,
-    /// Whether the timed call is given room, as one whose closure writes there.
+    /// Whether the timed call is passed an output, since its closure writes to it.
     pub is_timed_with_room: bool,
     /// Whether one call takes seconds.
     pub is_slow: bool,
@@ -61,7 +61,7 @@ fn base64(len: usize, line: usize) -> Vec<u8> {
     base64_with(len, line, "\n")
 }
 
-/// A body of `len` bytes. About `percent` of each hundred bytes that it stands for are escapes.
+/// A body of `len` bytes. About `percent` of each hundred decoded bytes are written as escapes.
 fn escaped(len: usize, percent: usize) -> Vec<u8> {
     let mut numbers = Numbers(11);
     let mut text = vec![];
@@ -120,7 +120,7 @@ fn row(name: String, text: Vec<u8>, ours: Call, theirs: Call) -> Row {
     }
 }
 
-/// A row whose closure writes to the room.
+/// A row whose closure writes to the output.
 fn into_room(name: String, text: Vec<u8>, ours: Call, theirs: Call) -> Row {
     Row {
         is_timed_with_room: true,

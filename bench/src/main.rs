@@ -50,7 +50,7 @@ use std::time::Instant;
 const ROUNDS: usize = 61;
 const ROUND: f64 = 600_000.0;
 
-/// A call: it answers how many bytes it gave, and shows them in the room as far as they fit.
+/// A call: it returns how many bytes its result has, and copies them to the output as far as they fit.
 type Call = fn(&[u8], &mut [u8]) -> usize;
 
 /// Returns the nanoseconds of one call, as the mean over `count` calls.
@@ -72,7 +72,7 @@ fn median(values: &mut [f64]) -> f64 {
     values[values.len() / 2]
 }
 
-/// Stops where the two calls of a row differ.
+/// Panics if the two calls of a row differ.
 fn compare(row: &Row) {
     let mut ours = vec![0; row.text.len() + 4096];
     let mut theirs = ours.clone();

@@ -83,7 +83,7 @@ enum data_url_status {
     DATA_URL_NOT_UTF8 = 4,
     /* The answer has `len` bytes, and the output has no room for them. */
     DATA_URL_OUTPUT_TOO_SMALL = 5,
-    /* The text is no MIME type. */
+    /* The text is not a MIME type. */
     DATA_URL_NOT_A_MIME_TYPE = 6,
     /* The URL has no '#'. An empty fragment after a '#' is DATA_URL_DONE with length 0. */
     DATA_URL_NO_FRAGMENT = 7,

@@ -31,7 +31,7 @@ static void check(int is_right, const char *what, const void *text, size_t len) 
     if (!is_right && wrong++ < 20) printf("wrong: %s: %.*s\n", what, (int)(len < 60 ? len : 60), (const char *)text);
 }
 
-/* Bytes that were put together, and how it ended. */
+/* The bytes of several calls, one after another, and the last status. */
 struct joined {
     uint32_t status;
     size_t len;
@@ -42,13 +42,13 @@ static struct joined parts, whole;
 
 static uint8_t room_bytes[MOST + MARGIN];
 
-/* Room of a size in which nothing was written. */
+/* An output of a size, to which nothing is written yet. */
 static uint8_t *fresh(size_t room) {
     memset(room_bytes, FILLED, room + MARGIN);
     return room_bytes;
 }
 
-/* Adds what a call wrote, and checks that it wrote nothing after that. */
+/* Appends what a call wrote, and checks that it wrote nothing after these bytes. */
 static void add(size_t len, size_t room, const void *text, size_t text_len) {
     int is_kept = len <= room;
     for (size_t i = len; is_kept && i < room + MARGIN; i++) is_kept = room_bytes[i] == FILLED;
@@ -120,7 +120,7 @@ static void is_whole(const char *what, const uint8_t *text, size_t len) {
     check(is_same, what, text, len);
 }
 
-/* A body in parts is what it should be, and nothing is allocated for it. */
+/* Checks a body that is decoded in parts, and that nothing is allocated for it. */
 static void url_parts(const uint8_t *url, size_t len, struct data_url_opened opened, size_t most) {
     long before = allocations;
     for (size_t size = 8; size <= most; size++) {

@@ -35,7 +35,7 @@ static void check(int is_right, const char *what, const char *about) {
     }
 }
 
-/* Whether so many bytes are as `filled_room` left them. */
+/* Whether `len` bytes are as `filled_room` left them. */
 static int is_filled(const uint8_t *bytes, size_t len) {
     for (size_t i = 0; i < len; i++)
         if (bytes[i] != FILLED) return 0;
@@ -53,7 +53,7 @@ static int is(struct data_url_answer answer, uint32_t status, size_t len) {
     return answer.status == status && answer.len == len;
 }
 
-/* One call with so much room, and its answer: whole, or a room that is too small and stays as it was. */
+/* One call with an output of this size: the whole answer, or an output that is too small and unchanged. */
 static void try_room(Call call, const void *text, size_t len, size_t room, uint32_t status, const void *want, size_t want_len) {
     uint8_t *out = filled_room(room);
     struct data_url_answer answer = call(text, len, room ? out : NULL, room);
@@ -67,7 +67,7 @@ static void try_room(Call call, const void *text, size_t len, size_t room, uint3
     free(out);
 }
 
-/* A call with each room up to what is needed and some more. */
+/* A call with an output of each size, up to some bytes more than are needed. */
 static void gives_bytes(Call call, const void *text, size_t len, uint32_t status, const void *want, size_t want_len) {
     for (size_t room = 0; room <= want_len + MARGIN; room++)
         try_room(call, text, len, room, status, want, want_len);
@@ -155,7 +155,7 @@ static void nothing(void) {
     }
 }
 
-/* Outputs that hold nothing yet: valgrind tells where they are read. */
+/* Outputs that are not initialised: valgrind reports where they are read. */
 static void fresh_outputs(void) {
     const char *texts[] = {"data:,Hello%20World!#f", "data:;base64,QUJD!", "data:", "QUJDQ", "a/b;c=d"};
     const Call calls[] = {data_url_body, data_url_mime, data_url_fragment, data_url_type, data_url_base64};
@@ -171,7 +171,7 @@ static void fresh_outputs(void) {
         }
 }
 
-/* A text of so many bytes: a head, one unit again and again, and an end. */
+/* A text: a head, one unit repeated `times` times, and an end. */
 static uint8_t *repeated(const char *head, const char *unit, size_t times, const char *end, size_t *len) {
     size_t head_len = strlen(head), unit_len = strlen(unit), end_len = strlen(end);
     uint8_t *text = __real_malloc(head_len + unit_len * times + end_len);
@@ -183,7 +183,7 @@ static uint8_t *repeated(const char *head, const char *unit, size_t times, const
     return text;
 }
 
-/* An answer of one unit, again and again. */
+/* The answer is one unit, repeated `times` times. */
 static void gives_repeated(Call call, const char *head, const char *unit, const char *end, uint32_t status, const char *want, size_t times) {
     size_t len, want_len;
     uint8_t *text = repeated(head, unit, times, end, &len);
@@ -220,7 +220,7 @@ static void many_parameters(void) {
     free(url);
 }
 
-/* A call in which each allocation fails in turn, until it asks for no more. */
+/* A call in which each allocation fails in turn, until no allocation is left to fail. */
 static void without_memory(Call call, const char *text, uint32_t status, size_t len) {
     for (long n = 1;; n++) {
         uint8_t out[64];

@@ -37,7 +37,7 @@ pub mod mime;
 
 use forgiving_base64::{DecodeError, InvalidBase64};
 
-/// How many bytes are looked through at a time for a `#`.
+/// How many bytes are searched at a time for a `#`.
 const PART: usize = 256;
 
 /// How many bytes of a body are decoded before the closure is called with them.
@@ -80,7 +80,7 @@ impl fmt::Display for DataUrlError {
 impl std::error::Error for DataUrlError {}
 
 impl<'a> DataUrl<'a> {
-    /// Reads the header of a data: URL. The body is not looked at.
+    /// Reads the header of a data: URL. The body is not read.
     /// <https://fetch.spec.whatwg.org/#data-url-processor>
     ///
     /// # Errors
@@ -151,7 +151,7 @@ impl<'a> DataUrl<'a> {
         }
     }
 
-    /// Whether a body of this length takes every byte after the comma, so that none of them is a `#`.
+    /// Whether a body of this length uses every byte after the comma, so that none of them is a `#`.
     fn is_whole(&self, len: usize) -> bool {
         let tail = self.encoded_body_plus_fragment;
         if self.base64 {
@@ -180,7 +180,7 @@ impl<'a> DataUrl<'a> {
 
     fn fragment(&self) -> Option<FragmentIdentifier<'a>> {
         let tail = self.encoded_body_plus_fragment;
-        // Stretches without a `#` are passed over many bytes at a time.
+        // Stretches without a `#` are skipped, many bytes at a time.
         let is_there = |part: &[u8]| part.iter().fold(false, |seen, byte| seen | (*byte == b'#'));
         let part = tail.as_bytes().chunks(PART).position(is_there)?;
         let place = part * PART + tail.as_bytes()[part * PART..].iter().position(|byte| *byte == b'#')?;

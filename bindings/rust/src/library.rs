@@ -15,7 +15,7 @@ pub(crate) const SYMBOL_AFTER_PADDING: u32 = 10;
 pub(crate) const MORE: u32 = 11;
 pub(crate) const UNEXPECTED_SYMBOL: u32 = 256;
 
-/// The least room that a part of a body is decoded into.
+/// The smallest output that a part of a body is decoded into, in bytes.
 pub(crate) const LEAST: usize = 8;
 
 /// How many bytes of a printed text fit on the stack. A longer one is printed a second time, into a vector.
@@ -53,7 +53,7 @@ pub(crate) struct Body {
     is_base64: u8,
 }
 
-/// What base64 that is fed in parts has left.
+/// What is left over of base64 that is fed in parts.
 #[repr(C)]
 pub(crate) struct Base64 {
     symbols: [u8; 3],
@@ -83,7 +83,7 @@ extern "C" {
     fn dataurl_base64_finish(state: *mut Base64, out: *mut u8, room: usize) -> Answer;
 }
 
-/// Room on the stack that nothing was written to yet.
+/// A buffer on the stack, to which nothing is written yet.
 pub(crate) struct Room<const N: usize> {
     bytes: [MaybeUninit<u8>; N],
 }
@@ -99,7 +99,7 @@ impl<const N: usize> Room<N> {
         self.bytes.as_mut_ptr() as *mut u8
     }
 
-    /// The bytes that a call wrote: the library writes `len` bytes at the front, and never more than there is room for.
+    /// The bytes that a call wrote: the library writes `len` bytes at the start, and never more than fit.
     fn written(&self, len: usize) -> &[u8] {
         assert!(len <= N);
         unsafe { core::slice::from_raw_parts(self.bytes.as_ptr() as *const u8, len) }
@@ -138,7 +138,7 @@ fn printed<A, T>(
     }
 }
 
-/// A status that is no success. If allocation failed, this ends the program as Rust's own types do.
+/// A status that is not success. If allocation failed, this ends the program as Rust's own types do.
 fn refusal(status: u32) -> u32 {
     if status == OUT_OF_MEMORY {
         handle_alloc_error(Layout::new::<u8>());
@@ -146,7 +146,8 @@ fn refusal(status: u32) -> u32 {
     status
 }
 
-/// Opens a URL: what `read` makes of its printed MIME type, whether its body is base64, and the text after its comma.
+/// Opens a URL: the result of `read` for its printed MIME type, whether its body is base64, and the text after its
+/// comma.
 pub(crate) fn open<'a, T>(
     url: &'a str,
     read: impl Fn(&str) -> T,
@@ -162,7 +163,7 @@ pub(crate) fn open<'a, T>(
     )
 }
 
-/// What `read` makes of a MIME type's printed text.
+/// The result of `read` for the printed text of a MIME type.
 pub(crate) fn mime_type<T>(text: &str, read: impl Fn(&str) -> T) -> Result<T, u32> {
     printed(
         |out, room| unsafe { dataurl_type(text.as_ptr(), text.len(), out, room) },
@@ -171,7 +172,7 @@ pub(crate) fn mime_type<T>(text: &str, read: impl Fn(&str) -> T) -> Result<T, u3
     )
 }
 
-/// What `read` makes of the encoded fragment of a URL.
+/// The result of `read` for the encoded fragment of a URL.
 pub(crate) fn fragment<T>(url: &str, read: impl Fn(&str) -> T) -> Result<T, u32> {
     printed(
         |out, room| unsafe { dataurl_fragment(url.as_ptr(), url.len(), out, room) },

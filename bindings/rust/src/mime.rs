@@ -46,7 +46,7 @@ impl Mime {
 
     /// Reads a MIME type that the library printed.
     pub(crate) fn from_printed(printed: &str) -> Mime {
-        // The type of a URL without a header is common, and is not taken apart.
+        // The type of a URL without a header is common, and is not parsed.
         if printed == "text/plain;charset=US-ASCII" {
             return Mime {
                 parameters: vec![("charset".to_owned(), "US-ASCII".to_owned())],
@@ -103,7 +103,7 @@ fn value_of(text: &str) -> (String, &str) {
     unreachable!("a quoted value is printed with its closing quote")
 }
 
-/// The text is no MIME type.
+/// The text is not a MIME type.
 #[derive(Debug)]
 pub struct MimeParsingError(());
 

@@ -1,4 +1,4 @@
-//! Programs that were written for the crate `data-url`, as they are.
+//! Programs that were written for the crate `data-url`, unchanged.
 
 use data_url::forgiving_base64::{DecodeError, Decoder, InvalidBase64};
 use data_url::mime::{Mime, MimeParsingError};

@@ -10,7 +10,7 @@ use std::convert::Infallible;
 use std::fs;
 use std::path::Path;
 
-/// An answer as a vector has it, but for its input.
+/// The expected result of a vector, without its input.
 type Answer = Vec<(String, Json)>;
 
 fn pair(key: &str, value: Json) -> (String, Json) {
@@ -84,7 +84,7 @@ fn mime(input: &str) -> Answer {
     ]
 }
 
-/// Feeds a text in these parts: the bytes, and how it ended.
+/// Feeds a text in these parts. Returns the bytes, and how it ended.
 fn fed(parts: &[&[u8]]) -> (Vec<u8>, Result<(), DecodeError<Infallible>>) {
     let mut bytes = Vec::new();
     let mut decoder = Decoder::new(|piece: &[u8]| {
@@ -96,7 +96,7 @@ fn fed(parts: &[&[u8]]) -> (Vec<u8>, Result<(), DecodeError<Infallible>>) {
     (bytes, ended)
 }
 
-/// What a text of base64 gives in parts.
+/// The result of decoding a text of base64 in parts.
 fn base64_in(parts: &[&[u8]]) -> Answer {
     match fed(parts) {
         (bytes, Ok(())) => vec![pair("bytes", hex(&bytes))],
@@ -105,7 +105,7 @@ fn base64_in(parts: &[&[u8]]) -> Answer {
     }
 }
 
-/// What a text of base64 gives whole, byte by byte, and in every two pieces, which is the same.
+/// The result of decoding a text of base64. It is the same as a whole, byte by byte, and in every two pieces.
 fn base64(input: &str) -> Answer {
     let input = input.as_bytes();
     let whole = base64_in(&[input]);
@@ -122,7 +122,7 @@ fn base64(input: &str) -> Answer {
     whole
 }
 
-/// Checks each file of a folder, and answers how many vectors there were.
+/// Checks each file of a folder, and returns how many vectors there were.
 fn check(folder: &str, answer: fn(&str) -> Answer) -> usize {
     let folder = Path::new(env!("CARGO_MANIFEST_DIR"))
         .join("../../vectors")

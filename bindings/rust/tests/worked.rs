@@ -1,4 +1,4 @@
-//! Worked examples, by the crate's names. Their answers are the standards'.
+//! Worked examples, with the crate's names. The expected results follow from the standards.
 
 use data_url::forgiving_base64::{self, DecodeError, Decoder};
 use data_url::mime::Mime;
@@ -158,7 +158,7 @@ fn a_decoder_that_has_failed_fails_again() {
     assert_eq!(bytes, b"ABC");
 }
 
-/// Bodies of every kind, with more than one piece where they are long.
+/// Bodies of every kind; long ones have more than one piece.
 fn bodies() -> Vec<String> {
     let escapes: String = (0..9_000).map(|i| format!("%{:02x}b", i % 256)).collect();
     let mut bodies = vec![
@@ -180,7 +180,7 @@ fn bodies() -> Vec<String> {
     bodies
 }
 
-/// The pieces of a body up to a call that is refused, and how decoding ended.
+/// The pieces of a body up to a call that returns an error, and how decoding ended.
 fn pieces(url: &DataUrl, refused: usize) -> (Vec<Vec<u8>>, Result<(), String>) {
     let mut pieces: Vec<Vec<u8>> = Vec::new();
     let ended = url.decode(|piece| {

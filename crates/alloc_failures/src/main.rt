@@ -42,7 +42,7 @@ fn write_body<W: Write>(alloc: Global, text: &str, out: &mut W) -> io::Result<()
     }
 }
 
-/// `decode`: the body of a URL, piece by piece, and then the fragment as it was given.
+/// `decode`: the body of a URL, piece by piece, and then the fragment, unchanged.
 fn write_pieces<W: Write>(alloc: Global, text: &str, out: &mut W) -> io::Result<()> {
     let url = match DataUrl::process(alloc, text) {
         Ok(url) => url,

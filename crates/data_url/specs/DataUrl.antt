@@ -1,4 +1,4 @@
--- What contracts see of a `DataUrl` and a `FragmentIdentifier`, what `process` makes of a text, and
+-- What contracts see of a `DataUrl` and a `FragmentIdentifier`, what `process` returns for a text, and
 -- what decoding a body does (Fetch Standard, section 6).
 use Rattle.std.specs.Option.{option_map}
 use Rattle.std.specs.Prelude.{◌≡◌, ◌≤◌, Bool, Err, List, MatchOption, Ok, Option, Result, Some, length, ℕ}
@@ -25,24 +25,24 @@ mime_of u = u.mime_type
 abbrev pub is_base64 : DataUrl → Bool
 is_base64 u = u.base64
 
--- what stands behind the first comma, as it was given
+-- the bytes of the input after the first comma, unchanged
 abbrev pub url_tail : DataUrl → List ℕ
 url_tail u = u.tail.now
 
--- the body, or the fault of its base64 with the bytes before it
+-- the body; or, if its base64 is not valid, the bytes before the fault and the kind of the fault
 abbrev pub url_body : DataUrl → Outcome
 url_body u = outcome (is_base64 u) (plain_body (url_tail u))
 
--- the text of a fragment: what stands behind '#', as it was given
+-- the text of a fragment: the bytes of the input after '#', unchanged
 abbrev pub fragment_text : FragmentIdentifier → List ℕ
 fragment_text f = f.text.now
 
--- the fragment of a tail: what stands behind its first '#', or none
+-- the fragment of a tail: the bytes after its first '#', or none if it has no '#'
 abbrev pub IsFragmentOf : List ℕ → Option FragmentIdentifier → Type 0
 IsFragmentOf tail found = option_map fragment_text found ≡ after number_sign tail
 
--- the URL of a text that is accepted: its record is that of the header, and the Standard's body and
--- fragment are those of its tail
+-- u is the URL of the text t, which is accepted: the record of u is that of the header, and the body
+-- and the fragment that the Standard defines can be read from the tail of u
 pub record IsUrlOf (t : List ℕ) (u : DataUrl) : Type 0 where
   pub header : List ℕ
   pub header_is : header_of t ≡ Some header
@@ -50,43 +50,43 @@ pub record IsUrlOf (t : List ℕ) (u : DataUrl) : Type 0 where
   pub wellformed : IsWellformed (record_of (mime_of u))
   pub base64_is : is_base64 u ≡ has_base64_suffix header
   pub tail_is : tail_of t ≡ Some (url_tail u)
-  -- the Standard's body, percent-decoded, is the one that the tail holds
+  -- the percent-decoded body of the Standard is the body of the tail
   pub body_is : option_map percent_decoding (encoded_body t) ≡ Some (plain_body (url_tail u))
-  -- the Standard's fragment, where there is one, is that of the tail
+  -- the fragment of the Standard is the fragment of the tail; if one is missing, so is the other
   pub fragment_is : option_map fragment (after_scheme t)
       ≡ Some (fragment (without_tabs_and_newlines (url_tail u)))
   pub staged_is : staged t ≡ Accepted (mime_text header) (url_body u)
       (option_map (percent_encoding in_fragment_set)
       (fragment (without_tabs_and_newlines (url_tail u))))
 
--- a scheme and a comma are there
+-- the text has the scheme and a comma
 abbrev pub IsAcceptable : Staged → Type 0
 IsAcceptable NoScheme = ⊥
 IsAcceptable NoComma = ⊥
 IsAcceptable (Accepted text body fragment) = Unit {0}
 
--- what is answered of a text: each refusal exactly where the Standard finds no scheme or no comma,
--- and want of memory for no such text
+-- the result for a text: an error exactly if the Standard finds no scheme or no comma, or if
+-- allocation fails; `OutOfMemory` is returned only for a text that has both
 abbrev pub IsProcessed : List ℕ → Result DataUrl DataUrlError → Type 0
 IsProcessed t (Ok u) = IsUrlOf t u
 IsProcessed t (Err no_scheme) = staged t ≡ NoScheme
 IsProcessed t (Err no_comma) = staged t ≡ NoComma
 IsProcessed t (Err no_memory) = IsAcceptable (staged t)
 
--- the answer where no call was refused: of a good body an Ok that good says, of a bad one the
--- reason
+-- the result if no call of the closure failed: for a good body, an `Ok` of which `good` is true; for
+-- a bad body, the kind of the fault
 abbrev pub Answers : {E A : Type 0} → Outcome → (A → Type 0) → Result A (DecodeError E) → Type 0
 Answers (Good bytes) good (Ok x) = good x
 Answers (Good bytes) good (Err e) = ⊥
 Answers (Bad bytes kind) good r = r ≡ Err (InvalidBase64 kind)
 
--- all bytes of the outcome were handed out
+-- the closure was called with all bytes of the outcome
 pub record HandsOut {E A : Type 0} (body : Outcome) (good : A → Type 0) (bytes : List ℕ)
     (r : Result A (DecodeError E)) : Type 0 where
   pub bytes_are : bytes ≡ outcome_bytes body
   pub answer : Answers body good r
 
--- the closure f ran on at most so many pieces and is g now; the answer is r
+-- the closure f was called at most `most` times, and is g after that; the result is r
 pub record Decodes {F E A : Type 0} (step : F → List ℕ → Result (Unit {0}) E → F → Type 0) (f : F)
     (most : ℕ) (body : Outcome) (good : A → Type 0) (r : Result A (DecodeError E)) (g : F)
     : Type 0 where

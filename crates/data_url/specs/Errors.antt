@@ -1,4 +1,4 @@
--- When each error comes, and its text.
+-- When each error is returned, and its message.
 use Rattle.std.specs.Option.{option_map}
 use Rattle.std.specs.Prelude.{◌++◌, ◌≡◌, Err, List, Ok, Option, Result, Some, codes, false, ℕ, ⊤}
 use Rattle.data_url.specs.Base64.{is_valid, kind_of, kind_text}
@@ -16,13 +16,14 @@ use Rattle.data_url.specs.declared.mime.MimeFromStrError.{MimeFromStrError}
 
 -- Errors of decoding
 
--- the closure refused with e what was a beginning of these bytes
+-- the closure returned the error e; the bytes that it was called with are a prefix of `all`
 pub record IsRefused {E A : Type 0} (all bytes : List ℕ) (e : E) (r : Result A (DecodeError E))
     : Type 0 where
   pub bytes_begin : IsPrefix bytes all
   pub answer : r ≡ Err (decode.WriteError e)
 
--- the text of an error of `decode` or a decoder, where the closure's error has one
+-- the message of an error of `decode` or of a decoder; output is the message of an error of the
+-- closure, if it has one
 abbrev pub decode_error_text : {E : Type 0} → (E → Option (List ℕ)) → DecodeError E
     → Option (List ℕ)
 decode_error_text output (decode.InvalidBase64 kind) =
@@ -32,12 +33,12 @@ decode_error_text output (decode.WriteError e) =
 
 -- Errors of decoding into a vector
 
--- the text is not valid, for this reason; of memory nothing is known
+-- the text is not valid, and this is the kind of its fault; or allocation failed
 abbrev pub IsErrorOf : List ℕ → DecodeToVecError → Type 0
 IsErrorOf u (to_vec.InvalidBase64 kind) = (is_valid u ≡ false) × (kind ≡ kind_of u)
 IsErrorOf u to_vec.OutOfMemory = ⊤
 
--- the body is base64 that is not valid, for this reason; of memory nothing is known
+-- the body is base64 that is not valid, and this is the kind of its fault; or allocation failed
 abbrev pub IsBodyErrorOf : Outcome → DecodeToVecError → Type 0
 IsBodyErrorOf body (to_vec.InvalidBase64 kind) = (bytes : List ℕ) × (body ≡ Bad bytes kind)
 IsBodyErrorOf body to_vec.OutOfMemory = ⊤
@@ -48,7 +49,7 @@ vec_error_text to_vec.OutOfMemory = codes "out of memory"
 
 -- Errors of `Mime::from_str`
 
--- the answer says that the text is no MIME type
+-- the result says that the text is not a MIME type
 abbrev pub IsParsingError : Result Mime MimeFromStrError → Type 0
 IsParsingError (Ok m) = ⊥
 IsParsingError (Err (from_str.Parsing e)) = Unit {0}

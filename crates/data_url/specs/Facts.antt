@@ -1,4 +1,4 @@
--- Facts about the definitions, as the contracts of `facts` cite them.
+-- Facts about the definitions, which the contracts of `facts` state.
 use Rattle.std.specs.Prelude.{◌%◌, ◌++◌, ◌<◌, ◌↔◌, ◌≡◌, ◌≢◌, ◌⊎◌, ◌∷◌, Bool, IsTrue, List, None, Option, Some, false, length, replicate, ℕ}
 use Rattle.std.specs.Option.{option_map}
 use Rattle.data_url.specs.Base64.{without_whitespace, is_fault, is_symbol, is_valid}
@@ -6,7 +6,7 @@ use Rattle.data_url.specs.Fetch.{before_comma, has_base64_suffix}
 use Rattle.data_url.specs.Mime.{Every, Item, Items, Parses, Record}
 use Rattle.data_url.specs.Url.{before, after, in_path_set, in_query_set, percent_encoding}
 
--- each text that is empty or begins with ';' is a join of parameters, with one list of items
+-- the text is a concatenation of parameters, and has exactly one list of items
 pub record HasOneItemList (r : List ℕ) : Type 0 where
   pub some : (items : List Item) × Items r items
   pub only : (a b : List Item) → Items r a → Items r b → a ≡ b
@@ -15,36 +15,36 @@ pub record HasOneItemList (r : List ℕ) : Type 0 where
 abbrev pub HasAtMostOneRecord : List ℕ → Type 0
 HasAtMostOneRecord s = (m n : Record) → Parses s m → Parses s n → m ≡ n
 
--- b is these symbols and then so many '=', and nothing else but whitespace
+-- b, without whitespace, is these symbols, followed by '=' as many times as `padding` says
 pub record IsSymbolsAndPadding (b symbols : List ℕ) (padding : ℕ) : Type 0 where
   pub symbols_are : Every is_symbol symbols
   pub compact_is : without_whitespace b ≡ symbols ++ replicate padding 61
 
--- the numbers of symbols and of '=' that make a valid text
+-- k symbols and p times '=' make a valid text
 abbrev pub Fits : ℕ → ℕ → Type 0
 Fits k p = ((p ≡ 0) × (k % 4 ≢ 1)) ⊎ ((p ≡ 1) × (k % 4 ≡ 3)) ⊎ ((p ≡ 2) × (k % 4 ≡ 2))
 
--- symbols and padding are valid exactly if their numbers fit
+-- if b is symbols and padding, it is valid exactly if their numbers fit
 abbrev pub PaddingFits : List ℕ → Type 0
 PaddingFits b = (symbols : List ℕ) (padding : ℕ) → IsSymbolsAndPadding b symbols padding
     → IsTrue (is_valid b) ↔ Fits (length symbols) padding
 
--- the place is the least of a fault or, where it is none, there is no fault
+-- the index is that of the first fault; without an index, the text has no fault
 abbrev pub IsFirstFault : List ℕ → Option ℕ → Type 0
 IsFirstFault b None = (i : ℕ) → i < length b → is_fault b i ≡ false
 IsFirstFault b (Some i) = (i < length b) × IsTrue (is_fault b i)
     × ((k : ℕ) → k < i → is_fault b k ≡ false)
 
--- a path and its query, where it has one, serialised so that each space of the path stays
+-- a path and, if there is one, its query, serialised such that no space of the path is encoded
 abbrev pub with_query_and_spaces : List ℕ → Option (List ℕ) → List ℕ
 with_query_and_spaces path None = percent_encoding in_path_set path
 with_query_and_spaces path (Some query) =
     percent_encoding in_path_set path ++ 63 ∷ percent_encoding in_query_set query
 
--- a front, serialised by the other rule on spaces: none of its path is encoded
+-- a front, serialised by the rule that no space of the path is encoded
 abbrev pub serialised_with_spaces : List ℕ → List ℕ
 serialised_with_spaces s = with_query_and_spaces (before 63 s) (after 63 s)
 
--- whether the header of a serialised front says base64, where there is a header
+-- whether the header of a serialised front has the base64 suffix, if there is a header
 abbrev pub base64_flag : List ℕ → Option Bool
 base64_flag s = option_map has_base64_suffix (before_comma s)

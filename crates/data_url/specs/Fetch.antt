@@ -1,4 +1,4 @@
--- The data: URL processor (Fetch Standard, section 6), stage by stage over whole texts of bytes.
+-- The data: URL processor (Fetch Standard, section 6), stage by stage, over whole byte sequences.
 use Rattle.std.specs.Char.{to_ascii_lowercase}
 use Rattle.std.specs.Option.{option_map}
 use Rattle.std.specs.Prelude.{[], if◌then◌else◌, ◌++◌, ◌-◌, ◌==◌, ◌∷◌, Bool, List, None, Option, Some, codes, drop, is_some, length, map, option_and_then, take, unwrap_or, ℕ}
@@ -9,28 +9,27 @@ use Rattle.data_url.specs.Url.{after, after_scheme, before, comma, fragment, fro
 
 -- Header and body
 
--- the path and query of a text with the scheme, serialised (steps 1 to 4)
+-- the serialised path and query of a text that has the scheme (steps 1 to 4)
 unfoldable pub staged_front : List ℕ → Option (List ℕ)
 staged_front t = option_map (λ a. serialised (front a)) (after_scheme t)
 
--- what stands before the first comma, where there is one
+-- the bytes before the first comma, if there is one
 abbrev pub before_comma : List ℕ → Option (List ℕ)
 before_comma s = option_map (λ rest. before comma s) (after comma s)
 
--- the header: what stands before the first comma of the serialised front (steps 5 to 7)
+-- the header: the bytes of the serialised front before its first comma (steps 5 to 7)
 unfoldable pub header_of : List ℕ → Option (List ℕ)
 header_of t = option_and_then before_comma (staged_front t)
 
--- the encoded body: what stands behind that comma (steps 8 and 9)
+-- the encoded body: the bytes after that comma (steps 8 and 9)
 unfoldable pub encoded_body : List ℕ → Option (List ℕ)
 encoded_body t = option_and_then (after comma) (staged_front t)
 
--- what stands behind the first comma of the text as it was given, but for its ends
+-- the bytes after the first comma of the input, whose C0 controls and spaces at both ends are removed
 unfoldable pub tail_of : List ℕ → Option (List ℕ)
 tail_of t = after comma (trimmed_text t)
 
--- the body that a tail holds, as it was given: up to the first '#', without tabs and newlines,
--- percent-decoded
+-- the body of a tail: the bytes before the first '#', without tabs and newlines, percent-decoded
 unfoldable pub plain_body : List ℕ → List ℕ
 plain_body tail = percent_decoding (front (without_tabs_and_newlines tail))
 
@@ -43,25 +42,25 @@ is_space b = b == 32
 unfoldable pub stripped_header : List ℕ → List ℕ
 stripped_header h = without_end is_space (without_front is_space h)
 
--- the last n bytes, and what stands before them
+-- the last n bytes, and the bytes before them
 abbrev pub last_bytes : ℕ → List ℕ → List ℕ
 last_bytes n s = drop (length s - n) s
 
 abbrev pub before_last : ℕ → List ℕ → List ℕ
 before_last n s = take (length s - n) s
 
--- what stands before "base64" at the end, in any ASCII case
+-- the bytes before a final "base64", in any ASCII case
 abbrev pub before_word : List ℕ → Option (List ℕ)
 before_word s =
     if bytes_eq (map to_ascii_lowercase (last_bytes 6 s)) (codes "base64")
     then Some (before_last 6 s)
     else None
 
--- what stands before ';' at the end
+-- the bytes before a final ';'
 abbrev pub before_semicolon : List ℕ → Option (List ℕ)
 before_semicolon s = if bytes_eq (last_bytes 1 s) (codes ";") then Some (before_last 1 s) else None
 
--- what stands before ';', any number of spaces and "base64" at the end, where it ends so (step 11)
+-- if the text ends with ';', any number of spaces, and "base64": the bytes before that ';' (step 11)
 unfoldable pub before_base64 : List ℕ → Option (List ℕ)
 before_base64 s = option_and_then (λ m. before_semicolon (without_end is_space m)) (before_word s)
 
@@ -73,24 +72,24 @@ has_base64_suffix h = is_some (before_base64 (stripped_header h))
 unfoldable pub media_of : List ℕ → List ℕ
 media_of h = unwrap_or (before_base64 (stripped_header h)) (stripped_header h)
 
--- with "text/plain" in front of a leading ';' (step 12)
+-- the text, with "text/plain" put before it if it begins with ';' (step 12)
 abbrev pub with_plain : List ℕ → List ℕ
 with_plain [] = []
 with_plain (c ∷ s) = if c == 59 then codes "text/plain" ++ c ∷ s else c ∷ s
 
--- the text whose record is that of the URL (steps 12 to 14): its code points are its bytes, all
--- below 127
+-- the text that is parsed as the MIME type of the URL (steps 12 to 14); each byte is one code point,
+-- since all bytes are below 127
 unfoldable pub mime_text : List ℕ → List ℕ
 mime_text h = with_plain (media_of h)
 
 -- The body
 
--- the body, or the bytes before a fault of base64 and that fault
+-- the body; or, if its base64 is not valid, the bytes before the fault and the kind of the fault
 pub data Outcome : Type 0 where
   Good : List ℕ → Outcome
   Bad : List ℕ → Kind → Outcome
 
--- a body as it is or, with the suffix, forgiving-base64 decoded (steps 10 and 11)
+-- the body as it is or, if the flag is true, forgiving-base64 decoded (steps 10 and 11)
 unfoldable pub outcome : Bool → List ℕ → Outcome
 outcome flag x =
     if flag then (if is_valid x then Good (decoded x) else Bad (complete_bytes x) (kind_of x))
@@ -102,14 +101,14 @@ outcome_bytes (Bad x kind) = x
 
 -- The whole
 
--- no scheme; a scheme and no comma; or the text whose record it has, the body and the encoded
--- fragment
+-- no scheme; a scheme but no comma; or the text of the MIME type, the body, and the encoded
+-- fragment if there is one
 pub data Staged : Type 0 where
   NoScheme : Staged
   NoComma : Staged
   Accepted : List ℕ → Outcome → Option (List ℕ) → Staged
 
--- of the fragment, the header and the encoded body
+-- the result, from the fragment, the header and the encoded body
 abbrev pub staged_parts : Option (List ℕ) → Option (List ℕ) → Option (List ℕ) → Staged
 staged_parts fragment (Some header) (Some body) =
     Accepted (mime_text header) (outcome (has_base64_suffix header) (percent_decoding body))
@@ -121,7 +120,7 @@ abbrev pub staged_after : List ℕ → Option (List ℕ) → Staged
 staged_after t None = NoScheme
 staged_after t (Some a) = staged_parts (fragment a) (header_of t) (encoded_body t)
 
--- what the staged Standard makes of a text
+-- the result of the data: URL processor for a text
 unfoldable pub staged : List ℕ → Staged
 staged t = staged_after t (after_scheme t)
 

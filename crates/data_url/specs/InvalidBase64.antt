@@ -1,4 +1,4 @@
--- What contracts see of an `InvalidBase64`: why base64 was refused.
+-- What contracts see of an `InvalidBase64`: why a text is not valid base64.
 use Rattle.data_url.specs.Base64.{AlphabetSymbolAfterPadding, Kind, LoneAlphabetSymbol, Padding, UnexpectedSymbol}
 use Rattle.data_url.specs.declared.forgiving_base64.InvalidBase64Details.TheVariants as details
 use Rattle.data_url.specs.declared.forgiving_base64.InvalidBase64Details.{InvalidBase64Details}

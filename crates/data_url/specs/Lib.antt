@@ -1,22 +1,22 @@
--- The definitions that the contracts of public calls cite. Begin with `staged`, the last one of
--- Fetch: what the Fetch Standard makes of a whole text. Then read DataUrl, which says what the calls
--- of a `DataUrl` return.
+-- The definitions that the contracts of public functions use. Begin with `staged` in Fetch: the
+-- result of the Fetch Standard's data: URL processor for a text. Then read DataUrl, which says what
+-- the methods of a `DataUrl` return.
 --
 -- The standards, over whole texts:
 --   Url         the scheme, the front and the fragment; the percent-encode sets; percent-encoding
 --   Percent     percent-decoding
 --   Fetch       the data: URL processor
---   Base64      forgiving-base64 decode, its faults, and what is left over between two inputs
+--   Base64      forgiving-base64 decode, its faults, and what is left over after an input
 --   CodePoints  the classes of code points of MIME types
---   Mime        the grammar of a MIME type, its record, and the printed text of a record
+--   Mime        the grammar of a MIME type, its record, and the serialisation of a record
 --
--- What the public calls do:
+-- What the public functions do:
 --   DataUrl, Decoder, MimeType, Pieces, Looks, InvalidBase64   what contracts see of each type
---   Run         the calls that a closure ran
---   Errors      when each error comes, and its text
+--   Run         the calls of a closure
+--   Errors      when each error is returned, and its message
 --   Facts, Laws what the functions of `facts` and `laws` prove about the definitions above
 --
--- Steps has the words of private functions; no contract of a public call cites them.
+-- Steps has the definitions for private functions; no contract of a public function uses them.
 pub mod Base64
 pub mod CodePoints
 pub mod DataUrl

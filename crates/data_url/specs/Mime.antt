@@ -8,7 +8,7 @@ use Rattle.data_url.specs.CodePoints.{ends_name, is_http_whitespace, is_quotable
 
 -- Records
 
--- a parameter that is kept: its name and its value
+-- a parameter of a record: its name and its value
 abbrev pub Pair : Type 0
 Pair = List ℕ × List ℕ
 
@@ -47,7 +47,7 @@ DoesNotEnd p [] = Unit {0}
 DoesNotEnd p (c ∷ []) = p c ≡ false
 DoesNotEnd p (c ∷ d ∷ t) = DoesNotEnd p (d ∷ t)
 
--- t is s without its longest front and its longest end of code points that pass
+-- t is s without the longest prefix and the longest suffix of code points that pass
 pub record IsTrimmed (p : ℕ → Bool) (s t : List ℕ) : Type 0 where
   pub front : List ℕ
   pub back : List ℕ
@@ -57,26 +57,26 @@ pub record IsTrimmed (p : ℕ → Bool) (s t : List ℕ) : Type 0 where
   pub begins : DoesNotBegin p t
   pub ends : DoesNotEnd p t
 
--- t is s without its longest end of code points that pass
+-- t is s without the longest suffix of code points that pass
 pub record IsTrimmedEnd (p : ℕ → Bool) (s t : List ℕ) : Type 0 where
   pub back : List ℕ
   pub joined : s ≡ t ++ back
   pub at_back : Every p back
   pub ends : DoesNotEnd p t
 
--- nonempty and of token code points alone
+-- the text is not empty, and has only HTTP token code points
 abbrev pub is_token_text : List ℕ → Bool
 is_token_text [] = false
 is_token_text (c ∷ t) = list_all is_token (c ∷ t)
 
--- HTTP quoted strings (Fetch, section 2.2, with the quotes left out)
+-- HTTP quoted strings (Fetch, section 2.2), without their quotes
 
--- a unit of a quoted string: a code point for itself, or one behind a '\'
+-- a unit of a quoted string: a code point as it is, or a code point after a '\'
 pub data QuotedUnit : Type 0 where
   Plain : ℕ → QuotedUnit
   Escaped : ℕ → QuotedUnit
 
--- '"' and '\' stand only behind a '\'
+-- '"' and '\' are allowed only after a '\'
 abbrev pub IsUnit : QuotedUnit → Type 0
 IsUnit (Plain c) = (c ≢ 34) × (c ≢ 92)
 IsUnit (Escaped c) = Unit {0}
@@ -89,15 +89,15 @@ abbrev pub unit_value : QuotedUnit → ℕ
 unit_value (Plain c) = c
 unit_value (Escaped c) = c
 
--- the text is a join of units, and the value the list of their values
+-- the text is a concatenation of units, and the value is the list of the values of these units
 pub record Quoted (text value : List ℕ) : Type 0 where
   pub units : List QuotedUnit
   pub each : AllByRecursion IsUnit units
   pub text_is : text ≡ flat_map unit_text units
   pub value_is : value ≡ map unit_value units
 
--- the same, or with one last lone '\', which stands for itself: the text ends before a closing
--- quote
+-- the text of a quoted string without a closing quote: it may end with one more '\', which is then
+-- the last code point of the value
 abbrev pub QuotedOpen : List ℕ → List ℕ → Type 0
 QuotedOpen text value = Quoted text value
     ⊎ ((text' value' : List ℕ) × (text ≡ text' ++ 92 ∷ []) × (value ≡ value' ++ 92 ∷ [])
@@ -105,11 +105,11 @@ QuotedOpen text value = Quoted text value
 
 -- Parameters
 
--- a parameter as it stands: its name and, where there is one, its value
+-- a parameter as it is parsed: its name and, if there is one, its value
 abbrev pub Item : Type 0
 Item = List ℕ × Option (List ℕ)
 
--- a value, or none if it is empty
+-- the value, or none if it is empty
 abbrev pub unless_empty : List ℕ → Option (List ℕ)
 unless_empty [] = None
 unless_empty (c ∷ t) = Some (c ∷ t)
@@ -117,25 +117,25 @@ unless_empty (c ∷ t) = Some (c ∷ t)
 abbrev pub is_quote : ℕ → Bool
 is_quote c = c == 34
 
--- tail, which stands behind a name and before rest, gives the value
+-- tail, the text between the name of a parameter and rest, gives the value
 pub data GivesValue : List ℕ → List ℕ → Option (List ℕ) → Type 0 where
   -- no '='
   nothing : {rest : List ℕ} → GivesValue [] rest None
-  -- '=' as the end of the whole
+  -- '=' at the end of the input
   lone_equals : GivesValue (61 ∷ []) [] None
-  -- '=' and a text that begins with no '"', without HTTP whitespace at its end
+  -- '=' and a text that does not begin with '"'; HTTP whitespace at its end is removed
   plain : {rest : List ℕ} (text value : List ℕ) → Without is_semicolon text
       → DoesNotBegin is_quote text → IsTrimmedEnd is_http_whitespace text value
       → GivesValue (61 ∷ text) rest (unless_empty value)
-  -- '=', a quoted string in quotes, and anything up to the next ';'
+  -- '=', a quoted string in quotes, and any code points up to the next ';'
   quoted : {value rest : List ℕ} (text junk : List ℕ) → Quoted text value
       → Without is_semicolon junk → GivesValue (61 ∷ 34 ∷ (text ++ (34 ∷ junk))) rest (Some value)
-  -- '=' and a quoted string whose closing quote is missing, as the end of the whole
+  -- '=' and a quoted string without a closing quote, at the end of the input
   unclosed : {value : List ℕ} (text : List ℕ) → QuotedOpen text value
       → GivesValue (61 ∷ 34 ∷ text) [] (Some value)
 
--- text, which stands before rest, is a parameter: ';', HTTP whitespace, a name and what gives its
--- value
+-- text, which rest follows, is a parameter: ';', HTTP whitespace, a name, and the text that gives
+-- the value
 pub record IsParameter (text rest : List ℕ) (item : Item) : Type 0 where
   pub gap : List ℕ
   pub name : List ℕ
@@ -147,14 +147,14 @@ pub record IsParameter (text rest : List ℕ) (item : Item) : Type 0 where
   pub name_is : item.0 ≡ map to_ascii_lowercase name
   pub value_is : GivesValue tail rest item.1
 
--- the text is a join of parameters, and the list has their items in order
+-- the text is a concatenation of parameters, and the list holds their items in order
 abbrev pub Items : List ℕ → List Item → Type 0
 Items r [] = r ≡ []
 Items r (item ∷ items) = (text rest : List ℕ) × (r ≡ text ++ rest) × IsParameter text rest item
     × Items rest items
 
--- the item's pair, if its name is a nonempty text of token code points and it has a value of
--- quoted-string code points alone
+-- the pair of an item, if the name is not empty and has only HTTP token code points, and there is a
+-- value, which has only HTTP quoted-string token code points
 abbrev pub valid_of : Item → List Pair
 valid_of (name, None) = []
 valid_of (name, Some value) =
@@ -167,14 +167,14 @@ valid_pairs items = flat_map valid_of items
 abbrev pub has_name : List ℕ → List Pair → Bool
 has_name name pairs = list_any (λ (p : Pair). bytes_eq p.0 name) pairs
 
--- the pairs that have no equal name among those before them
+-- the pairs whose name is not the name of an earlier pair
 abbrev pub first_of_each_name : List Pair → List Pair → List Pair
 first_of_each_name earlier [] = []
 first_of_each_name earlier (p ∷ ps) =
     if has_name p.0 earlier then first_of_each_name (earlier ++ p ∷ []) ps
     else p ∷ first_of_each_name (earlier ++ p ∷ []) ps
 
--- the valid pairs, of each name the first
+-- the first valid pair of each name
 abbrev pub kept_pairs : List Item → List Pair
 kept_pairs items = first_of_each_name [] (valid_pairs items)
 
@@ -185,8 +185,8 @@ abbrev pub BeginsParameters : List ℕ → Type 0
 BeginsParameters [] = Unit {0}
 BeginsParameters (c ∷ r) = c ≡ 59
 
--- s, without HTTP whitespace at both ends, is a type, '/', a subtype, HTTP whitespace and its
--- parameters' text
+-- s, without HTTP whitespace at both ends, is a type, '/', a subtype, HTTP whitespace, and the text
+-- of the parameters
 pub record IsHead (s type_ subtype parameters : List ℕ) : Type 0 where
   pub text : List ℕ
   pub gap : List ℕ
@@ -197,7 +197,7 @@ pub record IsHead (s type_ subtype parameters : List ℕ) : Type 0 where
   pub in_gap : Every is_http_whitespace gap
   pub begins : BeginsParameters parameters
 
--- m is the record of a type, a subtype and a parameters' text
+-- m is the record of a type, a subtype, and the text of the parameters
 pub record IsRecordOfParts (type_ subtype parameters : List ℕ) (m : Record) : Type 0 where
   pub items : List Item
   pub items_are : Items parameters items
@@ -205,7 +205,7 @@ pub record IsRecordOfParts (type_ subtype parameters : List ℕ) (m : Record) : 
   pub subtype_is : m.subtype ≡ map to_ascii_lowercase subtype
   pub parameters_are : m.parameters ≡ kept_pairs items
 
--- s is a MIME type, and m its record
+-- s is a valid MIME type, and m is its record
 pub record Parses (s : List ℕ) (m : Record) : Type 0 where
   pub type_ : List ℕ
   pub subtype : List ℕ
@@ -213,34 +213,34 @@ pub record Parses (s : List ℕ) (m : Record) : Type 0 where
   pub head : IsHead s type_ subtype parameters
   pub record_is : IsRecordOfParts type_ subtype parameters m
 
--- no record is that of the text
+-- the text has no record: parsing it fails
 abbrev pub HasNoRecord : List ℕ → Type 0
 HasNoRecord s = (m : Record) → Parses s m → ⊥
 
--- the record of the text or, where it has none, the default
+-- m is the record of the text or, if parsing fails, the default record
 abbrev pub IsRecordOf : List ℕ → Record → Type 0
 IsRecordOf s m = Parses s m ⊎ (HasNoRecord s × (m ≡ default_record))
 
 -- Serialize a MIME type (MIME Sniffing, section 4.5)
 
--- with a '\' before '"' and '\'
+-- the code point, with a '\' before it if it is '"' or '\'
 abbrev pub escaped_code_point : ℕ → List ℕ
 escaped_code_point c = if (c == 34) || (c == 92) then 92 ∷ c ∷ [] else c ∷ []
 
--- a nonempty text of token code points as it is, any other value in quotes
+-- the value as it is, if it is not empty and has only HTTP token code points; otherwise in quotes
 abbrev pub printed_value : List ℕ → List ℕ
 printed_value v = if is_token_text v then v else 34 ∷ (flat_map escaped_code_point v ++ 34 ∷ [])
 
 abbrev pub printed_pair : Pair → List ℕ
 printed_pair p = 59 ∷ (p.0 ++ (61 ∷ printed_value p.1))
 
--- the printed text of any record, valid or not
+-- the serialisation of a record, which need not be well-formed
 unfoldable pub printed : Record → List ℕ
 printed m = m.type_ ++ (47 ∷ (m.subtype ++ flat_map printed_pair m.parameters))
 
--- Records that a parse can give
+-- Records that parsing can return
 
--- a nonempty text of token code points without 'A' to 'Z'
+-- the text is not empty, has only HTTP token code points, and has none of 'A' to 'Z'
 abbrev pub is_lowercase_name : List ℕ → Bool
 is_lowercase_name t = is_token_text t && bytes_eq (map to_ascii_lowercase t) t
 
@@ -248,8 +248,8 @@ abbrev pub has_distinct_names : List Pair → Bool
 has_distinct_names [] = true
 has_distinct_names (p ∷ ps) = not (has_name p.0 ps) && has_distinct_names ps
 
--- type, subtype and names are lower-case names, no name comes twice, and values have quoted-string
--- code points alone
+-- the type, the subtype and the names are lower-case names, no two names are equal, and the values
+-- have only HTTP quoted-string token code points
 pub record IsWellformed (m : Record) : Type 0 where
   pub type_ : IsTrue (is_lowercase_name m.type_)
   pub subtype : IsTrue (is_lowercase_name m.subtype)

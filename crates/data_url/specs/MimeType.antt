@@ -8,7 +8,7 @@ use Rattle.std.specs.Str.{bytes_eq, chars}
 use Rattle.data_url.specs.Mime.{Pair, Record}
 use Rattle.data_url.specs.declared.mime.Mime.{Mime}
 
--- a text's code points
+-- the code points of a text
 abbrev pub code_points : {A : Type 0} → String A → List ℕ
 code_points s = chars (string_bytes s)
 
@@ -23,27 +23,27 @@ record_of m = record {
   parameters = map pair_of m.parameters.items;
 }
 
--- the bytes of a pair's texts
+-- the bytes of both texts of a pair
 abbrev pub texts_of_pair : {A B : Type 0} → String A × String B → List ℕ × List ℕ
 texts_of_pair p = (string_bytes p.0, string_bytes p.1)
 
--- byte for byte the same texts, the pairs in the same order
+-- all texts of m and n have the same bytes, and the pairs come in the same order
 pub record SameTexts (m n : Mime) : Type 0 where
   pub type_ : string_bytes m.type_ ≡ string_bytes n.type_
   pub subtype : string_bytes m.subtype ≡ string_bytes n.subtype
   pub parameters : map texts_of_pair m.parameters.items ≡ map texts_of_pair n.parameters.items
 
--- the test for pairs of the same texts
+-- tests whether two pairs have the same texts
 abbrev pub same_pair : {A B : Type 0} → String A × String B → String A × String B → Bool
 same_pair = eq_of_both (on (λ p. string_bytes p.0) bytes_eq) (on (λ p. string_bytes p.1) bytes_eq)
 
--- the test for the same texts
+-- tests whether two MIME types have the same texts
 abbrev pub same_texts : Mime → Mime → Bool
 same_texts = eq_of_both (on (λ m. string_bytes m.type_) bytes_eq)
     (eq_of_both (on (λ m. string_bytes m.subtype) bytes_eq)
     (on (λ m. m.parameters.items) (pointwise same_pair)))
 
--- the test is an equivalence
+-- this test is an equivalence relation
 pub same_texts_equiv : IsEquivalence same_texts
 same_texts_equiv = and_equiv (on_texts_equal (λ m. string_bytes m.type_))
     (and_equiv (on_texts_equal (λ m. string_bytes m.subtype))
@@ -51,12 +51,12 @@ same_texts_equiv = and_equiv (on_texts_equal (λ m. string_bytes m.type_))
     (lists_equiv (and_equiv (on_texts_equal (λ p. string_bytes p.0))
     (on_texts_equal (λ p. string_bytes p.1))))))
 
--- the text behind a reference, where there is one
+-- the text that a reference refers to, if there is a reference
 abbrev pub as_option : Option (Bor (List ℕ)) → Option (List ℕ)
 as_option None = None
 as_option (Some s) = Some s.now
 
--- the value of the first pair of that name, in bytes
+-- the value of the first pair that has the name; names and values are bytes
 abbrev pub value_of_name : {A B : Type 0} → List ℕ → List (String A × String B) → Option (List ℕ)
 value_of_name name [] = None
 value_of_name name (p ∷ ps) = if bytes_eq (string_bytes p.0) name then Some (string_bytes p.1)

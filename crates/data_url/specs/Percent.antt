@@ -7,8 +7,8 @@ use Rattle.data_url.specs.Url.{percent_sign}
 abbrev pub is_escape : ℕ → ℕ → ℕ → Bool
 is_escape a b c = (a == percent_sign) && (is_ascii_hexdigit b && is_ascii_hexdigit c)
 
--- the text with each '%' and two hexadecimal digits read as one byte, from the left and once; all
--- else stays
+-- the text, read once from left to right: each '%' with two hexadecimal digits becomes one byte, and
+-- all other bytes stay as they are
 unfoldable pub percent_decoding : List ℕ → List ℕ
 percent_decoding [] = []
 percent_decoding (a ∷ []) = a ∷ []

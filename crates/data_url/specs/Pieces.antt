@@ -10,15 +10,15 @@ use Rattle.data_url.specs.declared.escapes.cursor.Ahead.TheVariants.{AfterEscape
 use Rattle.data_url.specs.declared.escapes.cursor.Ahead.{Ahead}
 use Rattle.data_url.specs.declared.escapes.cursor.Cursor.{Cursor}
 
--- the value of the hexadecimal digit that a text begins with, past tabs and newlines, and what
--- follows it
+-- the value of the hexadecimal digit that the text begins with, and the bytes after it; tabs and
+-- newlines before the digit are skipped
 unfoldable pub digit : List ℕ → Option (ℕ × List ℕ)
 digit [] = None
 digit (b ∷ s) = if is_tab_or_newline b then digit s
     else if is_ascii_hexdigit b then Some (digit_value b, s)
     else None
 
--- the byte of a digit and the one that may follow it, and what follows both
+-- the byte of a high digit and, if there is one, a low digit, and the bytes after both
 abbrev pub with_low_digit : ℕ → Option (ℕ × List ℕ) → Option (ℕ × List ℕ)
 with_low_digit high None = None
 with_low_digit high (Some low) = Some (16 * high + low.0, low.1)
@@ -27,7 +27,7 @@ abbrev pub with_high_digit : Option (ℕ × List ℕ) → Option (ℕ × List �
 with_high_digit None = None
 with_high_digit (Some high) = with_low_digit high.0 (digit high.1)
 
--- the value of the escape whose '%' stands before the text, and what follows it
+-- the value of the escape whose '%' comes directly before the text, and the bytes after the escape
 unfoldable pub escape : List ℕ → Option (ℕ × List ℕ)
 escape s = with_high_digit (digit s)
 
@@ -36,16 +36,17 @@ abbrev pub is_slice_end : List ℕ → Bool
 is_slice_end [] = true
 is_slice_end (b ∷ s) = is_tab_or_newline b || ((b == number_sign) || ((b == percent_sign) && is_some (escape s)))
 
--- between two places of the text there are only tabs and newlines
+-- between two indices of the text there are only tabs and newlines
 abbrev pub IsSkipped : List ℕ → ℕ → ℕ → Type 0
 IsSkipped text from to = without_tabs_and_newlines (slice_range text from to) ≡ []
 
--- between two places of the text there is no '#'
+-- between two indices of the text there is no '#'
 abbrev pub IsInFront : List ℕ → ℕ → ℕ → Type 0
 IsInFront text from to = front (slice_range text from to) ≡ slice_range text from to
 
--- a slice is a stretch of the text between two places, before the first '#': it is nonempty, has no
--- tab or newline, and ends where it may; only tabs and newlines are skipped before and after it
+-- the slice is a part of the text between two indices, before the first '#'. It is not empty, has no
+-- tab or newline, and ends where a slice may end. Only tabs and newlines are skipped before and
+-- after it.
 pub record IsStretch (text : List ℕ) (from to : ℕ) (slice : List ℕ) : Type 0 where
   pub start : ℕ
   pub end : ℕ
@@ -59,8 +60,8 @@ pub record IsStretch (text : List ℕ) (from to : ℕ) (slice : List ℕ) : Type
   pub skipped_after : IsSkipped text end to
   pub in_front : IsInFront text from to
 
--- a byte is the value of an escape between two places, before the first '#', that ends at the second;
--- only tabs and newlines are skipped before it
+-- the byte is the value of an escape between two indices, before the first '#'. The escape ends at
+-- the second index. Only tabs and newlines are skipped before it.
 pub record IsEscape (text : List ℕ) (from to : ℕ) (byte : ℕ) : Type 0 where
   pub start : ℕ
   pub from_le : from ≤ start
@@ -74,7 +75,7 @@ abbrev pub IsPiece : List ℕ → ℕ → ℕ → Piece → Type 0
 IsPiece text from to (Slice slice) = IsStretch text from to slice.now
 IsPiece text from to (Byte byte) = IsEscape text from to byte
 
--- the bytes that a piece stands for
+-- the decoded bytes of a piece
 abbrev pub bytes_of : Piece → List ℕ
 bytes_of (Slice slice) = slice.now
 bytes_of (Byte byte) = byte ∷ []
@@ -83,8 +84,8 @@ abbrev pub bytes_of_next : Option Piece → List ℕ
 bytes_of_next None = []
 bytes_of_next (Some piece) = bytes_of piece
 
--- a walk: its text, its place there, the bytes that the pieces from there on join to, whether it
--- has ended, and how many bytes were looked at
+-- a walk over a text: the text, the current index, the concatenation of the pieces from there on,
+-- whether the walk has ended, and how many bytes were read
 pub record Walk : Type 0 where
   pub text : List ℕ
   pub place : ℕ
@@ -92,7 +93,7 @@ pub record Walk : Type 0 where
   pub ended : Bool
   pub looks : ℕ
 
--- a walk at the front of its text: the pieces join to the percent-decoded body (plain_body)
+-- a walk at the start of its text: the concatenation of its pieces is the percent-decoded body
 abbrev pub walk_at_front : List ℕ → Walk
 walk_at_front text =
     record { text = text; place = 0; rest = plain_body text; ended = false; looks = 0 }
@@ -109,7 +110,7 @@ has_ended AfterEscape = false
 has_ended (Escape value end) = false
 has_ended End = true
 
--- a walk over the fields of a `Pieces`
+-- the walk of a `Pieces`, from its fields
 abbrev pub walk_of : Cursor → Walk
 walk_of c = record {
   text = text_of c;

@@ -1,30 +1,31 @@
--- The calls that a closure ran.
+-- The calls of a closure.
 use Rattle.std.specs.Prelude.{[], ◌++◌, ◌∷◌, ◌≡◌, Err, IsErr, List, None, Ok, Option, Result, Some, ℕ}
 
--- one call of a closure: the bytes that it was given, what it answered, and its state after it
+-- one call of a closure: its argument, its result, and the state of the closure after it
 pub record Call (F : Type 0) (E : Type 0) : Type 0 where
   pub piece : List ℕ
   pub answer : Result (Unit {0}) E
   pub after : F
 
--- the calls lead from one state of the closure to another, and none follows one that was refused
+-- the calls take the closure from state f to state g; after a call that returns an error there is no
+-- further call
 abbrev pub IsRun : {F E : Type 0} → (F → List ℕ → Result (Unit {0}) E → F → Type 0) → F
     → List (Call F E) → F → Type 0
 IsRun step f [] g = f ≡ g
 IsRun step f (c ∷ cs) g = step f c.piece c.answer c.after × (IsErr c.answer → cs ≡ [])
     × IsRun step c.after cs g
 
--- the pieces of a run, joined, a refused last one included
+-- the concatenation of the pieces of a run; if the last call returned an error, its piece is included
 abbrev pub joined_pieces : {F E : Type 0} → List (Call F E) → List ℕ
 joined_pieces [] = []
 joined_pieces (c ∷ cs) = c.piece ++ joined_pieces cs
 
--- the error of an answer, or else the second
+-- the error of a result; if there is none, the second argument
 abbrev pub or_error : {E : Type 0} → Result (Unit {0}) E → Option E → Option E
 or_error (Ok x) o = o
 or_error (Err e) o = Some e
 
--- the error that ended a run, where it was refused
+-- the error that ended a run, if there was one
 abbrev pub refusal : {F E : Type 0} → List (Call F E) → Option E
 refusal [] = None
 refusal (c ∷ cs) = or_error c.answer (refusal cs)

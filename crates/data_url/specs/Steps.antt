@@ -1,4 +1,4 @@
--- What the private steps do: words that no contract of a public call cites.
+-- What private functions do: definitions that no contract of a public function uses.
 pub mod Blocks
 pub mod Calls
 pub mod Chunks

@@ -1,11 +1,11 @@
--- The parts of a data: URL's text, as the URL Standard cuts and writes them. Texts are lists of
+-- The parts of a data: URL, as the URL Standard parses and serialises them. Texts are lists of
 -- bytes.
 use Rattle.std.specs.Char.{to_ascii_lowercase}
 use Rattle.std.specs.List.{flat_map, prefix_len, suffix_len}
 use Rattle.std.specs.Prelude.{[], if◌then◌else◌, ◌%◌, ◌++◌, ◌+◌, ◌-◌, ◌/◌, ◌==◌, ◌||◌, ◌∷◌, Bool, List, None, Option, Some, codes, drop, filter, length, map, nat_le, nat_lt, not, take, ℕ}
 use Rattle.std.specs.Str.{bytes_eq}
 
--- '#', '%' and ',': they begin the fragment, an escape, and the body
+-- '#' begins the fragment, '%' begins an escape, and ',' begins the body
 
 abbrev pub number_sign : ℕ
 number_sign = 35
@@ -16,11 +16,11 @@ percent_sign = 37
 abbrev pub comma : ℕ
 comma = 44
 
--- the text without its longest front of bytes that pass the test
+-- the text without the longest prefix of bytes that pass the test
 abbrev pub without_front : (ℕ → Bool) → List ℕ → List ℕ
 without_front p s = drop (prefix_len p s) s
 
--- the text without its longest end of bytes that pass the test
+-- the text without the longest suffix of bytes that pass the test
 abbrev pub without_end : (ℕ → Bool) → List ℕ → List ℕ
 without_end p s = take (length s - suffix_len p s) s
 
@@ -40,50 +40,49 @@ is_tab_or_newline b = (b == 9) || ((b == 10) || (b == 13))
 unfoldable pub without_tabs_and_newlines : List ℕ → List ℕ
 without_tabs_and_newlines s = filter (λ b. not (is_tab_or_newline b)) s
 
--- the text that the URL parser reads
+-- the input after both steps, as the state machine of the URL parser reads it
 unfoldable pub cleaned_text : List ℕ → List ℕ
 cleaned_text t = without_tabs_and_newlines (trimmed_text t)
 
--- what stands before the first c: the whole where there is none
+-- the bytes before the first c; the whole text if there is no c
 unfoldable pub before : ℕ → List ℕ → List ℕ
 before c [] = []
 before c (b ∷ bs) = if b == c then [] else b ∷ before c bs
 
--- what stands behind the first c, where there is one
+-- the bytes after the first c, if there is one
 unfoldable pub after : ℕ → List ℕ → Option (List ℕ)
 after c [] = None
 after c (b ∷ bs) = if b == c then Some bs else after c bs
 
--- what follows the scheme "data:", spelled in any ASCII case; none where the text begins otherwise
--- (URL, section 4.4, scheme state)
+-- the bytes after "data:", in any ASCII case; none if the text does not begin with it (URL, section
+-- 4.4, scheme state)
 unfoldable pub after_scheme : List ℕ → Option (List ℕ)
 after_scheme t =
     if bytes_eq (map to_ascii_lowercase (take 5 (cleaned_text t))) (codes "data:")
     then Some (drop 5 (cleaned_text t))
     else None
 
--- the opaque path with its query: what stands before the first '#' (URL, section 4.4, opaque path
+-- the opaque path with its query: the bytes before the first '#' (URL, section 4.4, opaque path
 -- state and query state)
 unfoldable pub front : List ℕ → List ℕ
 front s = before number_sign s
 
--- the fragment: what stands behind the first '#', where there is one (URL, section 4.4, fragment
--- state)
+-- the fragment: the bytes after the first '#', if there is one (URL, section 4.4, fragment state)
 unfoldable pub fragment : List ℕ → Option (List ℕ)
 fragment s = after number_sign s
 
 -- Percent-encoding (URL, section 1.3)
 
--- the C0 control percent-encode set, of a path: C0 controls and bytes above '~'
+-- the C0 control percent-encode set, which an opaque path uses: C0 controls and bytes above '~'
 abbrev pub in_path_set : ℕ → Bool
 in_path_set b = nat_lt b 32 || nat_lt 126 b
 
--- the query percent-encode set: the path's, and space, '"', '#', '<' and '>'
+-- the query percent-encode set: the set above, and space, '"', '#', '<' and '>'
 abbrev pub in_query_set : ℕ → Bool
 in_query_set b = in_path_set b
     || ((b == 32) || ((b == 34) || ((b == number_sign) || ((b == 60) || (b == 62)))))
 
--- the fragment percent-encode set: the path's, and space, '"', '<', '>' and '`'
+-- the fragment percent-encode set: the set of a path, and space, '"', '<', '>' and '`'
 abbrev pub in_fragment_set : ℕ → Bool
 in_fragment_set b = in_path_set b
     || ((b == 32) || ((b == 34) || ((b == 60) || ((b == 62) || (b == 96)))))
@@ -92,7 +91,7 @@ in_fragment_set b = in_path_set b
 abbrev pub hex_digit : ℕ → ℕ
 hex_digit d = if nat_lt d 10 then 48 + d else 55 + d
 
--- a byte of the set as '%' and its two digits, any other as itself
+-- a byte of the set as '%' and two hexadecimal digits; any other byte as it is
 abbrev pub encoded_byte : (ℕ → Bool) → ℕ → List ℕ
 encoded_byte in_set b = if in_set b then percent_sign ∷ hex_digit (b / 16) ∷ hex_digit (b % 16) ∷ []
     else b ∷ []
@@ -101,22 +100,24 @@ encoded_byte in_set b = if in_set b then percent_sign ∷ hex_digit (b / 16) ∷
 unfoldable pub percent_encoding : (ℕ → Bool) → List ℕ → List ℕ
 percent_encoding in_set s = flat_map (encoded_byte in_set) s
 
--- a fragment as the URL parser leaves it: without tabs and newlines, and encoded by its set
+-- the fragment that the URL parser produces: without tabs and newlines, and percent-encoded with the
+-- fragment percent-encode set
 abbrev pub encoded_fragment : List ℕ → List ℕ
 encoded_fragment s = percent_encoding in_fragment_set (without_tabs_and_newlines s)
 
--- the set of the last byte of a path: the path's, and space
+-- the set for the last byte of an opaque path: the set of a path, and space
 abbrev pub in_path_end_set : ℕ → Bool
 in_path_end_set b = in_path_set b || (b == 32)
 
--- an opaque path, encoded: a space at its end too, behind which stands '?' or '#', since the text
--- that the URL parser reads ends with no space; of a run of spaces only the last is encoded
+-- an opaque path, percent-encoded. A space at its end is encoded too: '?' or '#' follows it, since
+-- the input of the URL parser does not end with a space. Of several spaces at the end, only the last
+-- is encoded.
 unfoldable pub encoded_path : List ℕ → List ℕ
 encoded_path [] = []
 encoded_path (b ∷ []) = encoded_byte in_path_end_set b
 encoded_path (b ∷ c ∷ s) = encoded_byte in_path_set b ++ encoded_path (c ∷ s)
 
--- a path and, where there is one, '?' and its query, each encoded by its own set
+-- a path and, if there is a query, '?' and the query; each is percent-encoded with its own set
 abbrev pub with_query : List ℕ → Option (List ℕ) → List ℕ
 with_query path None = encoded_path path
 with_query path (Some query) = encoded_path path ++ 63 ∷ percent_encoding in_query_set query

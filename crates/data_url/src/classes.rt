@@ -1,4 +1,4 @@
-//! Classes of bytes, by one table.
+//! Classes of bytes, which are looked up in one table.
 
 ghost use Rattle.std.specs.Prelude.{◌≡◌, ◌==◌, ◌<◌, ◌≤◌, bit_and, false, length, not, slice_index, true, ℕ};
 ghost use Rattle.std.specs.List.{prefix_len};
@@ -17,10 +17,10 @@ pub(crate) enum Class {
     /// The bytes of the UTF-8 of quoted-string code points: U+0080 to U+00FF begin with 0xC2 or 0xC3, and every later code
     /// point begins with a greater byte.
     Quotable,
-    /// Those without `;`.
+    /// The same bytes without `;`.
     Unquoted,
-    /// The bytes of a path that are serialised as they are, and end neither it nor the header: printable ASCII and spaces,
-    /// but for `#`, `,` and `?`.
+    /// The bytes of a path that are serialised as they are and end neither the path nor the header: printable ASCII
+    /// and spaces, except `#`, `,` and `?`.
     PlainPath,
     /// HTTP whitespace (Fetch Standard, section 2.2).
     Whitespace,
@@ -28,7 +28,7 @@ pub(crate) enum Class {
     Unescaped,
 }
 
-/// For each byte a bit for each class that it is in.
+/// Has one byte for each byte, with a bit for each class that it is in.
 #[rattlefmt::skip]
 const CLASSES: [u8; 256] = [
     32, 32, 32, 32, 32, 32, 32, 32, 32, 54, 48, 32, 32, 48, 32, 32,
@@ -73,8 +73,8 @@ pub(crate) fn has(class: Class, byte: u8) -> bool
     CLASSES[byte as usize] & bit(class) != 0
 }
 
-/// By the low half of a byte, the bits of the columns in which it may be outside a class. A class that is short in most
-/// texts has all bits.
+/// Has, for each low half of a byte, the bits of the columns in which such a byte may be outside a class. A class whose
+/// runs are short in most texts has all bits.
 #[inline(always)]
 fn others(class: Class) -> [u8; 16]
     ensures { (b : ℕ) → b < 256 → is_marked result b ≡ false → in_class class b ≡ true }
@@ -97,7 +97,8 @@ pub(crate) fn span(class: Class, bytes: &[u8]) -> usize
     bytes.iter().take_while(|byte| has(class, **byte)).count()
 }
 
-/// How many bytes at the front are in a class, counted by rows of sixteen, which is faster than `span` if they are many.
+/// How many bytes at the front are in a class, counted in rows of sixteen. This is faster than `span` if there are
+/// many.
 #[inline(always)]
 pub(crate) fn long_span(class: Class, bytes: &[u8]) -> usize
     ensures front { result ≡ prefix_len (in_class class) bytes.now }

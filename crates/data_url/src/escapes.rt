@@ -1,5 +1,5 @@
-//! The body of a data: URL as it was given, in pieces: stretches of the text, and the values of escapes (URL
-//! Standard, section 1.3, percent-decode). Nothing is allocated.
+//! The body of a data: URL in pieces: slices of the input, and the values of escapes (URL Standard, section 1.3,
+//! percent-decode). Nothing is allocated.
 
 ghost use Rattle.std.specs.Prelude.{◌≡◌, ◌+◌, ◌*◌, ◌≤◌, ◌++◌, [], IfNone, IfSome, IsTrue, None, length};
 ghost use Rattle.std.specs.Option.{option_map};
@@ -91,7 +91,7 @@ impl<'a> Pieces<'a> {
     }
 
     /// Returns the next bytes, or None if the body has ended: a long stretch of the text as it is, or shorter ones and
-    /// the values of escapes, gathered in a room. The walk is moved out and back, so that it can stay in registers.
+    /// the values of escapes, gathered in a buffer. The walk is moved out and back, so that it can stay in registers.
     pub(crate) fn next_bytes<'r>(&mut self, room: &'r mut [u8; ROOM]) -> Option<&'r [u8]>
     where
         'a: 'r,

@@ -23,12 +23,12 @@ pub(crate) fn padding_fits()
     ensures { (b : List ℕ) → PaddingFits b }
 {}
 
-/// The first fault is the least place of one, and is there where there is one.
+/// The first fault has the smallest index of all faults; if there is a fault, there is a first one.
 pub(crate) fn least_fault()
     ensures { (b : List ℕ) → IsFirstFault b (first_fault b) }
 {}
 
-/// Tabs and newlines may be dropped before the fragment is cut off or from the fragment itself.
+/// Tabs and newlines can be removed before the fragment is cut off, or from the fragment itself.
 pub(crate) fn fragment_dropped()
     ensures { (tail : List ℕ) → fragment (without_tabs_and_newlines tail)
         ≡ option_map without_tabs_and_newlines (after number_sign tail) }

@@ -24,7 +24,7 @@ pub(crate) use whole::{decode_whole, room_for};
 /// ([Infra Standard, forgiving-base64 decode](https://infra.spec.whatwg.org/#forgiving-base64-decode)). There are
 /// four kinds:
 ///
-/// - an unexpected symbol, with its byte, which is neither white space nor `=` nor of the alphabet;
+/// - an unexpected symbol, with its byte, which is neither white space nor `=` nor in the alphabet;
 /// - an alphabet symbol after padding: a `=` is somewhere before it;
 /// - a lone alphabet symbol, left over after the groups of four;
 /// - padding: the number of `=` does not fit.

@@ -1,5 +1,4 @@
-//! The front of a data: URL's text as it was given: its scheme and its first comma (URL Standard,
-//! section 4.4).
+//! The front of a data: URL in the input: its scheme and its first comma (URL Standard, section 4.4).
 
 ghost use Rattle.std.specs.Prelude.{◌≡◌, None, IfSome, IfNone, true};
 ghost use Rattle.std.specs.List.{position};

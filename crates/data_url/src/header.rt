@@ -1,4 +1,4 @@
-//! The header of a data: URL (Fetch Standard, section 6), from its text as it was given.
+//! The header of a data: URL (Fetch Standard, section 6), from its text in the input.
 
 ghost use Rattle.std.specs.Prelude.{◌≡◌, Decides, IfOk, List, codes, map, string_bytes, true, ℕ};
 ghost use Rattle.std.specs.Char.{to_ascii_lowercase};
@@ -43,8 +43,8 @@ fn dropped_end_len(path: &[u8]) -> usize
         .count()
 }
 
-/// Splits a space off the end of a path, tabs and newlines aside, where a query follows it. Returns the path without it,
-/// and the space as it is written.
+/// Splits off the space at the end of a path that a query follows; tabs and newlines after the space are skipped.
+/// Returns the path without it, and the space as it is written.
 fn split_last_space<'a>(path: &'a [u8], query: &[u8]) -> (&'a [u8], &'static str)
     ensures { (header : List ℕ) → IsPathAndQuery header path.now query.now
         → encoded_parts result.0.now result.1.now query.now
@@ -62,8 +62,8 @@ fn split_last_space<'a>(path: &'a [u8], query: &[u8]) -> (&'a [u8], &'static str
     (&path[..space], ENCODED_SPACE)
 }
 
-/// Returns the text of a header, serialised. Room is taken for a text as long as the header; it grows where more is
-/// written.
+/// Returns the text of a header, serialised. Room for a text as long as the header is allocated first, and grows if
+/// more is written.
 #[inline(never)]
 fn serialised(alloc: Global, header: &[u8]) -> Result<String, AllocError>
     ensures { IfOk result (λ text. string_bytes text
@@ -160,7 +160,7 @@ pub(crate) fn read_media(alloc: Global, media: &str) -> Result<Mime, AllocError>
     parse_or_default(alloc, media)
 }
 
-/// The record of a text or, where it has none, the default one.
+/// The record of a text or, if it has none, the default one.
 fn parse_or_default(alloc: Global, text: &str) -> Result<Mime, AllocError>
     ensures { IfOk result (λ mime. IsRecordFor (chars text.now) (record_of mime)) }
 {

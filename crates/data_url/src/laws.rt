@@ -10,7 +10,7 @@ ghost use Rattle.data_url.specs.Url.{encoded_fragment, in_path_set, in_query_set
 
 use crate::mime::Mime;
 
-/// A record that a parse can give prints to a text that is a MIME type
+/// A record that parsing can return is printed as a text that is a MIME type
 /// ([MIME Sniffing Standard, sections 4.4 and 4.5](https://mimesniff.spec.whatwg.org/#parsing-a-mime-type)), and that
 /// text has the record and no other.
 pub fn canonical(mime: &Mime)
@@ -20,7 +20,7 @@ pub fn canonical(mime: &Mime)
         → other ≡ record_of mime.now }
 {}
 
-/// Two records that a parse can give are equal, as by `==`, exactly if their printed texts are
+/// Two records that parsing can return are equal, as by `==`, exactly if their printed texts are equal
 /// ([MIME Sniffing Standard, section 4.5](https://mimesniff.spec.whatwg.org/#serializing-a-mime-type)).
 pub fn same_text(first: &Mime, second: &Mime)
     requires first { IsWellformed (record_of first.now) }
@@ -38,18 +38,18 @@ pub fn fragment_again(fragment: &str)
     ensures bytes { Every is_fragment_byte (encoded_fragment fragment.now) }
 {}
 
-/// A text of base64 may be fed in two parts
-/// ([Infra Standard, forgiving-base64 decode](https://infra.spec.whatwg.org/#forgiving-base64-decode)). Where the first
-/// part has no fault, what it leaves goes on with the second as the whole text does: the bytes, the fault or the rest,
-/// and validity are the same.
+/// A text of base64 can be fed in two parts
+/// ([Infra Standard, forgiving-base64 decode](https://infra.spec.whatwg.org/#forgiving-base64-decode)). If the first
+/// part has no fault, decoding what is left over of it with the second part gives the same as decoding the whole text:
+/// the same bytes, the same fault or the same rest, and the same validity.
 pub fn two_feeds(first: &[u8], second: &[u8])
     requires { first_fault first.now ≡ None }
     ensures { TwoFeeds first.now second.now }
 {}
 
-/// Encoding bytes before they are percent-decoded changes nothing
-/// ([URL Standard, section 1.3](https://url.spec.whatwg.org/#percent-encoded-bytes)): bytes decode to the same as their
-/// encoded form does, by the set of a path and by that of a query.
+/// Percent-encoding bytes before they are percent-decoded changes nothing
+/// ([URL Standard, section 1.3](https://url.spec.whatwg.org/#percent-encoded-bytes)): bytes decode to the same bytes as
+/// their encoded form does, with the set of a path and with that of a query.
 pub fn encoding_first(bytes: &[u8])
     ensures path { percent_decoding bytes.now
         ≡ percent_decoding (percent_encoding in_path_set bytes.now) }

@@ -97,7 +97,7 @@ impl fmt::Display for MimeParsingError {
 
 impl Error for MimeParsingError {}
 
-/// Why a text gave no record
+/// Why a text has no record
 /// ([MIME Sniffing Standard, section 4.4](https://mimesniff.spec.whatwg.org/#parsing-a-mime-type)).
 #[derive(Debug, Drop)]
 pub enum MimeFromStrError {

@@ -26,7 +26,7 @@ pub(crate) enum EncodeSet {
 /// How many bytes are encoded at a time.
 const PART: usize = 64;
 
-/// How many bytes there is room for, which is more than a part is written as.
+/// The size of the buffer, in bytes: more than a part is written as.
 const ROOM: usize = 256;
 
 /// Returns true only if each byte of a part of whole rows is written as it is.
@@ -39,7 +39,7 @@ fn is_kept(set: EncodeSet, part: &[u8]) -> bool
     rows_len(others(set), part) == part.len()
 }
 
-/// Writes a row to a place in the room.
+/// Writes a row to a place in the buffer.
 #[inline(always)]
 fn put(room: &mut [u8; ROOM], at: usize, row: &[u8])
     requires room { at + 4 ≤ 256 }
@@ -49,7 +49,7 @@ fn put(room: &mut [u8; ROOM], at: usize, row: &[u8])
     room[at..at + 4].copy_from_slice(row);
 }
 
-/// Writes a part to the front of the room, without its tabs and newlines and percent-encoded, and
+/// Writes a part to the front of the buffer, without its tabs and newlines and percent-encoded, and
 /// returns how many bytes that takes.
 #[inline(always)]
 fn encode_part(set: EncodeSet, part: &[u8], room: &mut [u8; ROOM]) -> usize

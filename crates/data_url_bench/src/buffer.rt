@@ -18,7 +18,7 @@ impl<'a> Buffer<'a> {
         self.len
     }
 
-    /// Appends a piece, or refuses it where there is no room.
+    /// Appends a piece, or returns an error if there is no room.
     #[inline(always)]
     pub(crate) fn append(&mut self, piece: &[u8]) -> Result<(), ()> {
         let end = self.len.saturating_add(piece.len());

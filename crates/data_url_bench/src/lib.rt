@@ -1,9 +1,9 @@
-//! The public calls of `data_url`, each whole, for a driver outside of Rattle that times them (`bench` at the top of the
+//! The public functions of `data_url`, for a driver outside of Rattle that times them (`bench` at the top of the
 //! repository).
 //!
-//! Each export returns how many bytes the call gave, or `REFUSED`, and shows them in `out` as far as they fit there: a driver
-//! that compares gives room, and one that times gives none, so that nothing is copied. Where the call passes its bytes to a
-//! closure, `out` is where the closure puts them.
+//! Each export returns how many bytes the function returned, or `REFUSED`, and copies them to `out` as far as they fit
+//! there. A driver that compares passes an `out` with room; one that times passes an empty one, so that nothing is
+//! copied. If the function calls a closure with its bytes, the closure writes them to `out`.
 #![tactic(auto)]
 
 ghost use Rattle.std.specs.Prelude.{◌≡◌, length};
@@ -17,10 +17,10 @@ use data_url::forgiving_base64::{Decoder, decode_to_vec};
 use data_url::mime::Mime;
 use std::alloc::Global;
 
-/// The answer for a call that failed.
+/// The result of a call that failed.
 const REFUSED: usize = usize::MAX;
 
-/// Shows bytes as far as there is room, and returns how many they are.
+/// Copies bytes to `out` as far as they fit, and returns how many they are.
 fn show(bytes: &[u8], out: &mut [u8]) -> usize
     ensures { result ≡ length bytes.now }
 {
@@ -52,7 +52,7 @@ pub extern "C" fn data_url_base64_feed(input: &[u8], out: &mut [u8]) -> usize {
     buffer.len()
 }
 
-/// `DataUrl::process`; the answer is the number of parameters of the MIME type.
+/// `DataUrl::process`; returns the number of parameters of the MIME type.
 #[unsafe(no_mangle)]
 pub extern "C" fn data_url_process(alloc: Global, text: &[u8]) -> usize
     requires { IsUtf8 text.now }
@@ -128,7 +128,7 @@ pub extern "C" fn data_url_fragment(alloc: Global, text: &[u8], out: &mut [u8]) 
     }
 }
 
-/// `Mime::from_str`; the answer is the number of parameters.
+/// `Mime::from_str`; returns the number of parameters.
 #[unsafe(no_mangle)]
 pub extern "C" fn data_url_mime(alloc: Global, text: &[u8]) -> usize
     requires { IsUtf8 text.now }

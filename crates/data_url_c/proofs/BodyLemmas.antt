@@ -24,14 +24,14 @@ use Rattle.data_url_c.proofs.PartLemmas.{takes_both, takes_fault, taken_sound, w
 
 -- Plain bodies
 
--- the pieces so far are at the front of an output
+-- the pieces so far are at the start of an output
 pub record Copied (text out0 : List ℕ) (w : Walk) (out : List ℕ) (len : ℕ) : Type 0 where
   pub read : List ℕ
   pub text_is : w.text ≡ text
   pub body : plain_body text ≡ read ++ w.rest
   pub reaches : Reaches out0 read out len
 
--- the body, by what was read and the next piece
+-- the body, from what was read and the next piece
 body_more : (text read bytes rest rest' : List ℕ) → plain_body text ≡ read ++ rest → rest ≡ bytes ++ rest'
     → plain_body text ≡ (read ++ bytes) ++ rest'
 body_more text read bytes rest rest' h e = h ∙ ap (λ x. read ++ x) e ∙ sym (append_assoc read bytes rest')
@@ -47,7 +47,7 @@ copied_more {text} {out0} {out} {bytes} {out'} {w} {w'} {len} {len'} h t e k = r
 
 -- Base64
 
--- the pieces so far were fed after what waited
+-- the pieces so far were fed after what was left over
 pub record Fed (s0 s : DataUrlBase64) (text out0 : List ℕ) (w : Walk) (out : List ℕ) (len : ℕ) : Type 0 where
   pub read : List ℕ
   pub text_is : w.text ≡ text
@@ -55,7 +55,7 @@ pub record Fed (s0 s : DataUrlBase64) (text out0 : List ℕ) (w : Walk) (out : L
   pub takes : TakesText (waiting_text s0 ++ read) s out0 out 0 len
   pub size : length out ≡ length out0
 
--- what waits, and then nothing, leaves what waits
+-- what is left over, and then nothing, leaves the same over
 pub takes_nothing : (s : DataUrlBase64) (out : List ℕ) → is_good_state s ≡ true → length s.symbols ≡ 3
     → TakesText (waiting_text s ++ []) s out out 0 0
 unfolding fault_byte
@@ -96,7 +96,7 @@ pub fed_within : {s0 s : DataUrlBase64} {text out0 out : List ℕ} {w : Walk} {l
     → len ≤ length out
 fed_within h = omega (arith, h.takes.wrote.within, h.size)
 
--- the room for the next piece
+-- the output has room for the next piece
 pub fed_room : {s0 s : DataUrlBase64} {text out0 out : List ℕ} {w : Walk} {len : ℕ} (bytes rest : List ℕ)
     → Fed s0 s text out0 w out len → w.rest ≡ bytes ++ rest → is_good_state s0 ≡ true
     → 3 * (s0.pending + length (plain_body text)) ≤ 4 * length out0 → len ≤ length out
@@ -155,7 +155,7 @@ at_valid : (v : Bool) (P Q R S : Type 0) → (P → R) → (Q → S) → MatchBo
 at_valid true P Q R S f g h = f h
 at_valid false P Q R S f g h = g h
 
--- what was pushed after the first bytes
+-- the bytes that were written after the first ones
 pub ends_after : {out out' piece : List ℕ} {last : Last} {len : ℕ} (s : DataUrlBase64) (written : ℕ)
     → is_good_state s ≡ true → length s.symbols ≡ 3 → length last.bytes ≡ 3 → IsLast (waiting_text s) last
     → 4 * written + 3 * s.pending ≤ 4 * length out → piece ≡ take last.len last.bytes

@@ -1,4 +1,4 @@
--- The end of base64 that came in parts.
+-- The end of base64 that is fed in parts.
 use Rattle.std.proofs.Common.{◌≡◌, ℕ, ◌*◌, ◌≤◌, Bool, true, false, List, [], ◌∷◌, ◌++◌, length, map, take, Result, Ok}
 use Rattle.std.proofs.Common.{ap, ◌∙◌, arith}
 use Rattle.std.specs.Prelude.{MatchBool}
@@ -23,7 +23,7 @@ rest_room (p ∷ q ∷ []) h = omega arith
 rest_room (p ∷ q ∷ r ∷ []) h = omega arith
 rest_room (p ∷ q ∷ r ∷ s ∷ rest) h = absurd (omega arith)
 
--- the last bytes take less room than the symbols that wait
+-- the last bytes are fewer than the symbols that are left over
 pub last_room : (s : DataUrlBase64) → is_good_state s ≡ true → length (take s.pending s.symbols) ≡ s.pending
     → 4 * length (decoded (waiting_text s)) ≤ 3 * s.pending
 last_room s h size =
@@ -42,7 +42,7 @@ bytes_of_valid : (v : Bool) (P Q : Type 0) → v ≡ true → MatchBool v P Q �
 bytes_of_valid true P Q e h = h
 bytes_of_valid false P Q e h = absurd (cc)
 
--- the closure got the bytes of a valid text
+-- the closure was called with the bytes of a valid text
 pub gets_valid : {F : Type 0} {step : F → List ℕ → Result (Unit {0}) Infallible → F → Type 0} {f g : F} {u : List ℕ}
     {r : Result (Unit {0}) (DecodeError Infallible)} → DecodesText step f u r g → is_valid u ≡ true
     → GetsBytes step f (decoded u) (r ≡ Ok tt) g

@@ -1,4 +1,4 @@
--- The status of a fault, found by looking through the text again.
+-- The status of a fault, found by reading the text again.
 use Rattle.std.proofs.Common.{◌≡◌, ℕ, ◌+◌, ◌<◌, ◌≤◌, ◌%◌, Bool, true, false, cond, ◌||◌, List, [], ◌∷◌, ◌++◌, length}
 use Rattle.std.proofs.Common.{length-take-le, get_or, take, drop, drop_of_length-le, Option, None, Some, Result, Ok}
 use Rattle.std.proofs.Common.{Err, refl, sym, ap, ◌∙◌, arith, eqb, eqb-true}
@@ -48,12 +48,12 @@ step_by : (s t : Bool) (c : ℕ) (rest : List ℕ) → fault_byte s (c ∷ []) �
     → fault_byte s (c ∷ rest) ≡ fault_byte t rest
 step_by s t c rest h e = fault-append (c ∷ []) rest s h ∙ ap (λ v. fault_byte v rest) e
 
--- a symbol before any '=' is no fault
+-- a symbol before any '=' is not a fault
 pub after_symbol : (c : ℕ) (rest : List ℕ) → is_symbol c ≡ true → fault_byte false (c ∷ rest) ≡ fault_byte false rest
 after_symbol c rest h =
     step_by false false c rest (fault_symbol c h) (ap (λ v. v || false) (symbol_alone (classes c) h).1)
 
--- nor is white space
+-- white space is not a fault
 pub after_space : (s : Bool) (c : ℕ) (rest : List ℕ) → is_ascii_whitespace c ≡ true
     → fault_byte s (c ∷ rest) ≡ fault_byte s rest
 after_space s c rest h =
@@ -64,7 +64,7 @@ after_pad s c rest h =
     let is : c ≡ 61 = eqb-true c 61 h in
     step_by s true c rest (ap (λ b. fault_byte s (b ∷ [])) is ∙ fault_pad s) (ap (λ v. s || (v || false)) h ∙ or-true s)
 
--- the same by what is known of the flag before and after
+-- the same, from what is known about the flag before and after
 
 pub step_symbol : (s t : Bool) (c : ℕ) → s ≡ false → t ≡ s → is_symbol c ≡ true → (rest : List ℕ)
     → fault_byte s (c ∷ rest) ≡ fault_byte t rest
@@ -124,7 +124,7 @@ fault_unexpected s text padded at c g h l e w p k =
     sym (ap status_of_kind (kind_here s text padded at c g h l e (fault_other c padded w p k)
     ∙ ap (λ v. cond v AlphabetSymbolAfterPadding (UnexpectedSymbol c)) k))
 
--- a text that was looked through has no fault
+-- a text that was read to its end has no fault
 pub none_found : (s : DataUrlBase64) (text : List ℕ) (padded : Bool) (at : ℕ) → is_good_state s ≡ true
     → GoesOn s text padded at
     → length text ≤ at → is_some (first_fault (waiting_text s ++ text)) ≡ true → ⊥

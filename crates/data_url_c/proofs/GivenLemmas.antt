@@ -1,4 +1,4 @@
--- What a call gives of its bytes, by what its steps give.
+-- What a function returns for its input, from what the private functions return.
 use Rattle.std.proofs.Common.{◌≡◌, ℕ, Bool, true, false, List, ◌++◌, Option, None, Some, Result, Ok, Err, refl, sym, ap}
 use Rattle.std.proofs.Common.{◌∙◌, subst, inl, inr}
 use Rattle.std.specs.Global.{Global}
@@ -69,7 +69,7 @@ gives_body t u (Err NotUtf8) h = absurd h
 gives_body t u (Err NotAMimeType) h = absurd h
 gives_body t u (Err NoFragment) h = absurd h
 
--- of a text that is no URL
+-- the fragment of a text that is not a data: URL
 pub body_refused : (x : List ℕ) (refusal : Refusal) → RefusesUrl x refusal → GivesBody x (Err refusal)
 body_refused x NotADataUrl h = h
 body_refused x NoComma h = h
@@ -157,7 +157,7 @@ not_valid : {E : Type 0} (v : Bool) (x bytes : List ℕ) (r : Result (Unit {0}) 
 not_valid true x bytes r kind q h = absurd (let k = h.answer in cc)
 not_valid false x bytes r kind q h = (refl, let k = h.1 in cc, h.0)
 
--- what a closure that keeps its bytes has of a text that is not valid
+-- what a closure that appends its bytes holds for a text that is not valid
 pub decodes_before : {F E : Type 0} {step : F → List ℕ → Result (Unit {0}) E → F → Type 0} {f f' : F} {x : List ℕ}
     {r : Result (Unit {0}) (DecodeError E)} {kind : Kind} → DecodesText step f x r f'
     → r ≡ Err (decode.InvalidBase64 kind) → (J : F → List ℕ)
@@ -168,7 +168,7 @@ decodes_before {step = step} {f = f} {f' = f'} {x = x} {r = r} {kind = kind} h q
     let n = not_valid (is_valid x) x (joined_pieces h.run) r kind q k.1 in
     (n.0, n.1, run_reads step J keeps h.run f f' h.ran k.0 ∙ ap (λ b. J f ++ b) n.2)
 
--- what it has of a valid text
+-- what it holds for a valid text
 valid_all : {E : Type 0} (o : Option E) (v : Bool) (x all bytes : List ℕ) (r : Result (Unit {0}) (DecodeError E))
     → r ≡ Ok tt → MatchOption o
     (MatchBool v (IsAll x bytes r) ((bytes ≡ complete_bytes x) × (r ≡ Err (decode.InvalidBase64 (kind_of x)))))
@@ -181,9 +181,9 @@ pub decodes_valid : {F E : Type 0} {step : F → List ℕ → Result (Unit {0}) 
     {r : Result (Unit {0}) (DecodeError E)} → DecodesText step f x r f' → r ≡ Ok tt → is_valid x ≡ true
 decodes_valid {x = x} {r = r} h q = valid_all (refusal h.run) (is_valid x) x _ (joined_pieces h.run) r q h.gave
 
--- Answers
+-- Results
 
--- where the kind of a fault was not read, the answer is that of failed allocation
+-- if the kind of a fault was not read, the result is that of a failed allocation
 pub answers : (Gives : Given → Type 0) (given : Given) {old new : List ℕ} {r : DataUrlAnswer} → Gives given
     → ((kind : Kind) (before : Vec ℕ Global) → Gives (Err (InvalidBase64 kind before)) → Gives (Err OutOfMemory))
     → CrossesOrNot given old new r → Answers Gives old new r
@@ -191,7 +191,7 @@ answers Gives given g or (inl c) = record { given = given; is_given = g; crosses
 answers Gives given g or (inr c) =
     let f = c.0 in record { given = Err OutOfMemory; is_given = or f.0 f.1 (subst Gives f.2 g); crosses = c.1 }
 
--- a call that may give a fault of base64 may also find no memory
+-- a call that can return a fault of base64 can also fail to allocate
 
 pub body_or_memory : {x : List ℕ} (kind : Kind) (before : Vec ℕ Global) → GivesBody x (Err (InvalidBase64 kind before))
     → GivesBody x (Err OutOfMemory)

@@ -1,4 +1,4 @@
--- The kind of a fault of base64, read from its text.
+-- The kind of a fault of base64, read from its message.
 use Rattle.std.proofs.Common.{◌≡◌, ◌≢◌, ℕ, zero, suc, ◌+◌, ◌/◌, ◌%◌, ◌<◌, ◌^◌, false, List, [], ◌∷◌, ◌++◌, length}
 use Rattle.std.proofs.Common.{length-append, get_or, codes, refl, sym, ap, ◌∙◌, subst, inl, inr, arith}
 use Rattle.std.specs.Prelude.{◌==◌}
@@ -11,7 +11,7 @@ use Rattle.std.proofs.lemmas.Str.Parse.{without_leading_plus_none}
 use Rattle.data_url.specs.Base64.{AlphabetSymbolAfterPadding, Kind, LoneAlphabetSymbol, Padding, UnexpectedSymbol}
 use Rattle.data_url.specs.Base64.{kind_text}
 
--- digits that are fewer than they may be are those of a small number
+-- a number with fewer than k digits is below 10 ^ k
 few_digits : (k n : ℕ) (acc : List ℕ) → length (digits_onto k 10 false n acc) < k + length acc → n < 10 ^ k
 few_digits zero n acc h = absurd (omega arith)
 few_digits (suc k) n acc h = elim (cases_Bool (n / 10 == 0)) [
@@ -27,12 +27,12 @@ few_digits (suc k) n acc h = elim (cases_Bool (n / 10 == 0)) [
     power_some zero = omega arith
     power_some (suc k) = let p = power_some k in omega (arith, p)
 
--- so a number of fewer than 64 digits is the value of its digits
+-- a number with fewer than 64 digits is below 10 ^ 64
 decimal_small : (n : ℕ) → length (decimal n) < 64 → n < 10 ^ 64
 unfolding digits
 decimal_small n h = few_digits 64 n [] (omega (arith, h))
 
--- no digit is a plus
+-- a digit is not '+'
 no_plus : (ds : List ℕ) → AllDigits 10 ds → get_or ds 0 0 ≢ 43
 no_plus [] h e = absurd (omega arith)
 no_plus (c ∷ ds) h e = let k = subst (λ x. AllDigits 10 (x ∷ ds)) e h in absurd (omega (arith, k.0))

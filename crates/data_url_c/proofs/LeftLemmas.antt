@@ -1,4 +1,4 @@
--- What a text of base64 leaves after its groups, and how long these are.
+-- What is left over of a text of base64 after its groups, and how long the groups are.
 use Rattle.std.proofs.Common.{◌≡◌, ℕ, suc, ◌+◌, ◌*◌, ◌-◌, ◌/◌, ◌%◌, ◌<◌, ◌≤◌, Bool, true, false, cond, List, [], ◌∷◌}
 use Rattle.std.proofs.Common.{◌++◌, length, map, take, drop, min, set, eqb, Option, None, Some, refl, sym, ap, ◌∙◌}
 use Rattle.std.proofs.Common.{arith, get_or, length-append, length-take, length-drop, drop-cons, add-one, eqb-true}
@@ -19,9 +19,9 @@ use Rattle.data_url_c.specs.Parts.{IsLeftOf, TakesText, is_good_state, waiting_t
 use Rattle.data_url_c.specs.declared.parts.DataUrlBase64.{DataUrlBase64}
 use Rattle.data_url_c.proofs.PartLemmas.{good_from, good_parts, taken_sound}
 
--- How long the groups of a text are
+-- The length of the groups of a text
 
--- no more symbols than bytes
+-- a text has at most as many symbols as bytes
 pub filter_length : (t : List ℕ) → length (filter is_symbol t) ≤ length t
 filter_length [] = omega arith
 filter_length (c ∷ t) =
@@ -31,7 +31,7 @@ filter_length (c ∷ t) =
       | false ↦ omega (arith, filter_length t)
     ]
 
--- a beginning has no more symbols than the whole
+-- a prefix has at most as many symbols as the whole
 before_length : (u : List ℕ) (o : Option ℕ) → length (filter is_symbol (before_place u o)) ≤ length (filter is_symbol u)
 before_length u None = omega arith
 before_length u (Some i) =
@@ -51,7 +51,7 @@ complete_length u =
       before_length u (first_fault u),
     )
 
--- three bytes for each four symbols but those that are left over
+-- three bytes for each four symbols, except those that are left over
 groups_exact : (x : List ℕ) → 4 * length (groups x) + 3 * length (after_groups x) ≡ 3 * length x
 unfolding groups after_groups
 groups_exact [] = refl
@@ -75,9 +75,9 @@ complete_exact u e =
       length-after_groups (map symbol_value (filter is_symbol u)),
     )
 
--- What waits, and then a text
+-- What is left over, and then a text
 
--- the symbols of what waits, and of what waits and then a text
+-- the symbols of what is left over, and of what is left over and then a text
 pub waiting_symbols : (s : DataUrlBase64) (t : List ℕ) → is_good_state s ≡ true
     → filter is_symbol (waiting_text s ++ t) ≡ take s.pending s.symbols ++ filter is_symbol t
 waiting_symbols s t h = symbols_more (take s.pending s.symbols) s.padding
@@ -133,7 +133,7 @@ found_symbol s xs count missing at m i b j k l q e n f h =
     ∙ ap (λ x. b ∷ x) (h ∙ ap (λ x. filter is_symbol (drop x s)) (sym k))
     ∙ sym (filter_before s i b true (omega arith) q e)
 
--- fewer of what waits
+-- one symbol less is taken from what was left over
 pub waiting_less : (xs ys : List ℕ) (m n b : ℕ) → m + 1 ≡ n → take n xs ≡ take n ys → take m (set xs m b) ≡ take m ys
 waiting_less xs ys m n b e h =
     take-set-le m xs m b (omega arith) ∙ sym (take-take m n xs (omega arith)) ∙ ap (take m) h
@@ -151,7 +151,7 @@ found_all waiting s last missing at z h = (
       ∙ ap (λ x. (waiting ++ filter is_symbol (take at s)) ++ x) (sym h ∙ ap (λ n. drop n last) z),
 )
 
--- the text has no more, and all of what waits is left
+-- if the text has no more symbols, exactly the symbols that were left over before are missing
 pub found_waiting : (symbols s xs : List ℕ) (pending count missing : ℕ) → missing ≤ count → count ≤ 3 → pending ≤ 3
     → 0 < missing → length xs ≡ 3 → count ≡ (pending + length (filter is_symbol s) % 4) % 4
     → drop missing (take count xs) ≡ filter is_symbol s → take missing xs ≡ take missing symbols
@@ -166,7 +166,7 @@ found_waiting symbols s xs pending count missing a b c d e f g h =
           ∙ ap (λ x. take missing (take count xs) ++ x) (sym g) ∙ take-append-drop missing (take count xs),
     )
 
--- What is left
+-- What is left over
 
 groups_left : (front last : List ℕ) → length last ≤ 3 → length (front ++ last) % 4 ≡ length last
     → after_groups (front ++ last) ≡ last
@@ -189,7 +189,7 @@ left_all : (u : List ℕ) → list_all is_symbol (left_symbols u) ≡ true
 unfolding left_symbols
 left_all u = all_list (after_groups (filter is_symbol u)) (every_after (filter is_symbol u) (filter_every is_symbol u))
 
--- a state with these symbols and this padding is what the text leaves
+-- a state with these symbols and this padding is what is left over of the text
 pub is_left : (u : List ℕ) (s : DataUrlBase64) → length s.symbols ≡ 3 → s.pending ≤ 3 → s.padding ≤ 3
     → take s.pending s.symbols ≡ left_symbols u → s.padding ≡ left_padding u → IsLeftOf u s
 is_left u s size a b e f = record {
@@ -200,7 +200,7 @@ is_left u s size a b e f = record {
   padding_is = f;
 }
 
--- what was counted is left
+-- what was counted is left over
 pub counted_left : (s r : DataUrlBase64) (t : List ℕ) (count pads : ℕ) → is_good_state s ≡ true
     → count ≡ (s.pending + length (filter is_symbol t) % 4) % 4 → pads ≡ length (filter (λ c. eqb c 61) t)
     → r.pending ≡ count → r.padding ≡ min (s.padding + min pads 3) 3 → length r.symbols ≡ 3 → length s.symbols ≡ 3
@@ -225,7 +225,7 @@ counted_left s r t count pads h c p e f l m g =
     (ap (λ n. take n r.symbols) e ∙ left_symbols_are (waiting_text s ++ t) (take count r.symbols) size (g.0, all ∙ g.1))
     (omega (arith, padding))
 
--- Nothing is left
+-- Nothing is left over
 
 not_both : (c : ℕ) → is_symbol c ≡ true → eqb c 61 ≡ true → ⊥
 not_both c s p = both_ways (is_symbol c) (ap is_symbol (eqb-true c 61 p)) s
@@ -243,7 +243,7 @@ symbols_and_pads [] = omega arith
 symbols_and_pads (c ∷ t) = sum_case c (length t) (filter is_symbol t) (filter (λ c. eqb c 61) t) (is_symbol c)
     (eqb c 61) (not_both c) (symbols_and_pads t)
 
--- a text whose groups take each of its bytes
+-- a text whose groups use each of its bytes
 pub nothing_left : (u : List ℕ) (s : DataUrlBase64) (bytes len : ℕ) → first_fault u ≡ None → bytes ≡ length u
     → len ≡ length (complete_bytes u) → bytes % 4 ≡ 0 → bytes / 4 ≡ len / 3 → length s.symbols ≡ 3 → s.pending ≡ 0
     → s.padding ≡ 0 → IsLeftOf u s
@@ -258,7 +258,7 @@ nothing_left u s bytes len e a b c d size f g =
     (ap (λ n. take n s.symbols) f ∙ sym (nil_from_length (after_groups (filter is_symbol u)) none))
     (omega arith)
 
--- what waits and what was written take no more room than what was fed
+-- what is left over and what was written are together not longer than what was fed
 pub taken_room : (s t : DataUrlBase64) (a : List ℕ) {out out' : List ℕ} {status n : ℕ} → is_good_state s ≡ true
     → TakesText (waiting_text s ++ a) t out out' status n → status ≡ 0 → n ≤ length out'
     → 3 * t.pending + 4 * n ≤ 3 * (s.pending + length a)

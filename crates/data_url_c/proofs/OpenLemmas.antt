@@ -1,4 +1,4 @@
--- A URL is opened by its probe.
+-- A URL is opened with its probe.
 use Rattle.std.proofs.Common.{◌≡◌, Bor, ℕ, zero, suc, ◌+◌, ◌-◌, ◌<◌, ◌≤◌, Bool, true, false, nat_eq, List, [], ◌∷◌}
 use Rattle.std.proofs.Common.{◌++◌, length, length-append, get_or, take, drop, codes, Option, None, Some, Result, Ok}
 use Rattle.std.proofs.Common.{Err, position, refl, sym, ap, ◌∙◌, subst, inl, inr, arith, eqb-true}
@@ -63,7 +63,7 @@ fits_tail x comma low e =
     let few = suffix_len-le-length is_c0_control_or_space (drop (comma + 1) x) in
     omega (arith, e, few, length-drop (comma + 1) x)
 
--- the tail by its place and its length
+-- the tail, from its place and its length
 tail_is : (x : List ℕ) (comma low : ℕ) → low ≡ suffix_len is_c0_control_or_space (drop (comma + 1) x)
     → take (length x - (comma + 1) - low) (drop (comma + 1) x) ≡ tail_after x comma
 tail_is x comma low e =
@@ -128,7 +128,7 @@ body_of_probe : plain_body qq ≡ qq
 unfolding plain_body front before without_tabs_and_newlines percent_decoding
 body_of_probe = refl
 
--- What a probe gives is what the URL gives
+-- Reading the probe returns what reading the URL returns
 
 read_by : (a t : List ℕ) {old new : List ℕ} {r : DataUrlAnswer} {flag : Bool} → after 44 a ≡ None → IsBytes a
     → IsBytes (trimmed_text (a ++ 44 ∷ t)) → IsRead (a ++ 44 ∷ qq) old new r flag
@@ -281,7 +281,7 @@ default_read x items comma found {old} {new} {r} memory b p same f g h =
     let Q : ℕ → Type 0 = λ n. IsReadUrl x (tail_after x n) old new r false in
     subst Q (sym five) (subst P (sym is) (default_by t memory d h))
 
--- The answer
+-- The result
 
 crosses_refused : (x : List ℕ) (refusal : Refusal) {old new : List ℕ} {r : DataUrlAnswer} → RefusesUrl x refusal
     → CrossesOrNot (Err refusal) old new r → Crosses (Err refusal) old new r

@@ -1,4 +1,4 @@
--- Base64 in parts: what is fed, what is written, and what waits.
+-- Base64 in parts: what is fed, what is written, and what is left over.
 use Rattle.std.proofs.Common.{◌≡◌, ℕ, ◌+◌, ◌≤◌, true, false, List, [], ◌∷◌, ◌++◌, length, take, drop, Option, None}
 use Rattle.std.proofs.Common.{Some, is_some, Result, Ok, Err, refl, sym, ap, ◌∙◌, subst, arith, append_assoc, drop-drop}
 use Rattle.std.proofs.Common.{length-append, length-drop, ◌-◌, take_all}
@@ -40,7 +40,7 @@ good_parts s h =
     let b = and_parts (nat_le s.padding 3) (list_all is_symbol (take s.pending s.symbols)) a.1 in
     record { few_pending = leb-true s.pending 3 a.0; few_padding = leb-true s.padding 3 b.0; symbols = b.1 }
 
--- with few of both, the symbols decide
+-- a state with at most three symbols and at most three '=' is good exactly if its symbols are in the alphabet
 pub good_rest : (s : DataUrlBase64) → s.pending ≤ 3 → s.padding ≤ 3 → list_all is_symbol (take s.pending s.symbols)
     ≡ is_good_state s
 good_rest s a b = let p = le-leb s.pending 3 a in let q = le-leb s.padding 3 b in rw (p, q) refl
@@ -49,7 +49,7 @@ pub good_from : (s : DataUrlBase64) → s.pending ≤ 3 → s.padding ≤ 3 → 
     ≡ true → is_good_state s ≡ true
 good_from s a b c = sym (good_rest s a b) ∙ c
 
--- six '=' with the symbols that wait put over the first of them begin with the text of what waits
+-- six '=', the first of which are replaced by the symbols left over, begin with the text of what is left over
 pub waiting_taken : (s : DataUrlBase64) (symbols : List ℕ) → is_good_state s ≡ true
     → symbols ≡ take s.pending s.symbols → length symbols ≡ s.pending
     → take (s.pending + s.padding) (symbols ++ drop s.pending (replicate 6 61)) ≡ waiting_text s
@@ -65,19 +65,19 @@ waiting_taken s symbols h e size =
 
 module _ {F E : Type 0} (step : F → List ℕ → Result (Unit {0}) E → F → Type 0) {d d' : State F} {waiting u : List ℕ}
   where
-    -- what waits was refused
+    -- feeding what is left over returned an error
     pub waiting_refused : {x : DecodeError E} (text : List ℕ) → waiting ≡ u → Feeds step d waiting (Err x) d'
         → Feeds step d (u ++ text) (Err x) d'
     waiting_refused {x} text e h = subst (λ s. Feeds step d (s ++ text) (Err x) d') e (feeds_err step text h)
 
-    -- what waits was fed, and then a text
+    -- what is left over was fed, and then a text
     pub waiting_fed : {between : State F} {text : List ℕ} {r : Result (Unit {0}) (DecodeError E)} → waiting ≡ u
         → Feeds step d waiting (Ok tt) between → Feeds step between text r d' → Feeds step d (u ++ text) r d'
     waiting_fed {text = text} {r = r} e h k = subst (λ s. Feeds step d (s ++ text) r d') e (feeds_then step h k)
 
 -- What a run of calls writes
 
--- the bytes so far are at the front of an output, if they fit it
+-- the bytes so far are at the start of an output, if they fit
 abbrev pub Reaches : List ℕ → List ℕ → List ℕ → ℕ → Type 0
 Reaches out b bytes len = length b ≤ length out → (len ≡ length b) × (bytes ≡ b ++ drop (length b) out)
 
@@ -119,7 +119,7 @@ module _ {F E : Type 0} (step : F → List ℕ → Result (Unit {0}) E → F →
 
 -- What was decoded
 
--- bytes at the front of an output, and then what was there
+-- bytes at the start of an output, and then the bytes that were there
 pub writes_front : {bytes all out out' : List ℕ} {len : ℕ} → bytes ≡ all → len ≡ length bytes
     → out' ≡ bytes ++ drop (length bytes) out → length all ≤ length out → WritesFront all out out' len
 writes_front {bytes} {all} {out} {out'} {len} e l o fits = record {
@@ -135,14 +135,14 @@ no_refusal None = refl
 no_refusal (Some e) = elim e [ ]
 
 module _ {F : Type 0} {step : F → List ℕ → Result (Unit {0}) Infallible → F → Type 0} where
-  -- what a new decoder over a closure that never refuses gave of a text
+  -- what a new decoder did with a text, if its closure returns no error
   pub groups_fed : {f : F} {d d' : State F} {u : List ℕ} {r : Result (Unit {0}) (DecodeError Infallible)} → d ≡ start f
       → (h : Feeds step d u r d') → IsTaken u (joined_pieces h.run) r d'
   groups_fed {f} {d} {d'} {u} {r} e h =
       let P : State F → Type 0 = λ s. IsTaken (left_over s ++ u) (joined_pieces h.run) r d' in
       subst P e (match_at_none (refusal h.run) _ _ (no_refusal (refusal h.run)) h.gave)
 
--- what each call keeps, feeding keeps
+-- what each call preserves, feeding preserves
 pub fed_keeps : {F E A : Type 0} {step : F → List ℕ → Result (Unit {0}) E → F → Type 0} {d d' : State F} {u : List ℕ}
     {r : Result (Unit {0}) (DecodeError E)} → Feeds step d u r d' → (K : F → A)
     → ((g : F) (piece : List ℕ) (s : Result (Unit {0}) E) (g' : F) → step g piece s g' → K g ≡ K g')
@@ -195,7 +195,7 @@ module _ {F G E : Type 0} (inner : G → List ℕ → Result (Unit {0}) E → G 
 
 module _ {F E : Type 0} {step : F → List ℕ → Result (Unit {0}) E → F → Type 0} {f g : F} {all : List ℕ} {Ended : Type 0}
   where
-    -- what was written to an output, from its front on
+    -- what was written to an output, from its start on
     pub gets_reaches : {out' : List ℕ} {len' : ℕ} (out : List ℕ) (bytes : F → List ℕ) (len : F → ℕ)
         → GetsBytes step f all Ended g
         → ((p : F) (piece : List ℕ) (s : Result (Unit {0}) E) (q : F) → step p piece s q
@@ -207,17 +207,17 @@ module _ {F E : Type 0} {step : F → List ℕ → Result (Unit {0}) E → F →
         let k = last (omega (arith, fits, ap length h.bytes_are)) in
         (e ∙ k.0 ∙ ap length h.bytes_are, o ∙ k.1 ∙ ap (λ x. x ++ drop (length x) out) h.bytes_are)
 
-    -- what each call keeps, all of them keep
+    -- what each call preserves, all calls preserve
     pub gets_keep : {A : Type 0} → GetsBytes step f all Ended g → (K : F → A)
         → ((p : F) (piece : List ℕ) (s : Result (Unit {0}) E) (q : F) → step p piece s q → K p ≡ K q) → K f ≡ K g
     gets_keep h K keeps = run_keeps step K keeps h.run f g h.ran
 
--- bytes that fit an output and are at its front were written there
+-- bytes that fit into an output and are at its start were written there
 pub reaches_front : {bytes out out' : List ℕ} {len : ℕ} → Reaches out bytes out' len → length bytes ≤ length out
     → WritesFront bytes out out' len
 reaches_front h fits = let k = h fits in writes_front refl k.0 k.1 fits
 
--- the status of what was decoded
+-- the status of the decoded text
 pub groups_status : {E : Type 0} (u : List ℕ) {r : Result (Unit {0}) (DecodeError E)} (status : ℕ)
     → MatchOption (first_fault u) (r ≡ Ok tt) (λ place. r ≡ Err (InvalidBase64 (kind_of u))) → (r ≡ Ok tt → status ≡ 0)
     → (r ≡ Err (InvalidBase64 (kind_of u)) → status ≡ status_of_kind (kind_of u))
@@ -249,7 +249,7 @@ no_kind LoneAlphabetSymbol e = omega arith
 no_kind AlphabetSymbolAfterPadding e = omega arith
 no_kind (UnexpectedSymbol byte) e = omega arith
 
--- status 0 comes of a text without a fault, and only of one
+-- the status is 0 exactly if the text has no fault
 sound_by : (o : Option ℕ) (kind : Kind) (status : ℕ) (P Q : Type 0)
     → MatchOption o ((status ≡ 0) × P) (λ place. (status ≡ status_of_kind kind) × Q) → status ≡ 0 → (o ≡ None) × P
 sound_by None kind status P Q h e = (refl, h.1)

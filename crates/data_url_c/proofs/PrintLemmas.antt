@@ -1,4 +1,4 @@
--- Texts that are printed to a place of fixed size.
+-- Texts that are printed to a buffer of fixed size.
 use Rattle.std.proofs.Common.{◌≡◌, ◌⊎◌, ℕ, suc, [], ◌∷◌, ◌-◌, ◌<◌, ◌^◌, Bool, false, nat_eq, List, ◌++◌, length, take}
 use Rattle.std.proofs.Common.{drop, codes, refl, sym, ap, ◌∙◌, inl, inr, arith}
 use Rattle.std.specs.Global.{Global}

@@ -1,4 +1,4 @@
--- What the front of a URL up to its first comma decides: whether there is a scheme and a comma, and the header.
+-- What depends only on the URL up to its first comma: whether there is a scheme and a comma, and the header.
 use Rattle.std.proofs.Common.{◌≡◌, ℕ, zero, suc, ◌+◌, ◌-◌, ◌≤◌, Bool, true, false, List, [], ◌∷◌, ◌++◌, length}
 use Rattle.std.proofs.Common.{length-append, take, drop, map, codes, Option, None, Some, refl, sym, ap, ◌∙◌, subst, inl}
 use Rattle.std.proofs.Common.{inr, append_assoc, arith, eqb, eqb-true}
@@ -64,7 +64,7 @@ trimmed_around a t =
 
 -- The scheme
 
--- a raw front of a text whose kept bytes are the first n that are kept
+-- a prefix of a text, in which the bytes that are kept are the first n kept bytes of the text
 record HasFront (n : ℕ) (s : List ℕ) : Type 0 where
   front : List ℕ
   rest : List ℕ
@@ -120,14 +120,14 @@ has_scheme s h =
       spelled = ap (map to_ascii_lowercase) f.kept ∙ is;
     }
 
--- the first five kept bytes of a text are those of a long front of it
+-- the first five kept bytes of a text are those of a long prefix of it
 spelled_front : (x w : List ℕ) → 5 ≤ length (without_tabs_and_newlines x) → spelled (x ++ 44 ∷ w) ≡ spelled x
 spelled_front x w l =
     ap (λ s. bytes_eq (map to_ascii_lowercase s) (codes "data:"))
     (ap (take 5) (dropped_around 44 refl x w)
     ∙ take-append-le 5 (without_tabs_and_newlines x) (44 ∷ without_tabs_and_newlines w) l)
 
--- What the front decides
+-- What depends only on the prefix
 
 -- a text up to its first comma, trimmed, has no scheme; or a scheme and a '#'; or a scheme and a header
 pub data Decides (a : List ℕ) : Type 0 where
@@ -135,7 +135,7 @@ pub data Decides (a : List ℕ) : Type 0 where
   has_hash : (s : HasScheme (trimmed_front a)) (rest : List ℕ) → after 35 s.rest ≡ Some rest → Decides a
   has_header : (s : HasScheme (trimmed_front a)) → after 35 s.rest ≡ None → Decides a
 
--- no byte, no part of a text without it has it
+-- if a text does not have a byte, no part of it has the byte
 
 none_drop : (c n : ℕ) (s : List ℕ) → after c s ≡ None → after c (drop n s) ≡ None
 none_drop c zero s h = h
@@ -157,7 +157,7 @@ pub no_comma_in_scheme : after 44 (codes "data:") ≡ None
 unfolding after
 no_comma_in_scheme = refl
 
--- a comma among the first five kept bytes is none of the scheme's
+-- a text with a comma among its first five kept bytes does not begin with the scheme
 too_short : (x w : List ℕ) → after 44 x ≡ None → length (without_tabs_and_newlines x) ≤ 4
     → spelled (x ++ 44 ∷ w) ≡ false
 too_short x w h l = elim (cases_Bool (spelled (x ++ 44 ∷ w))) [
@@ -233,7 +233,7 @@ front_lacks_comma s None e h = ap (after 44) (before_all 35 s e) ∙ h
 front_lacks_comma s (Some rest) e h =
     let cut = is_cut 35 s rest e in none_front 44 (before 35 s) (35 ∷ rest) (sym (ap (after 44) cut.joined) ∙ h)
 
--- nor does what follows the '#' matter
+-- what follows the '#' does not matter
 front_stays : (s rest t : List ℕ) → after 35 s ≡ Some rest → front (s ++ t) ≡ front s
 unfolding front
 front_stays s rest t e =
@@ -276,7 +276,7 @@ ends_by a h (has_header s e) =
 pub ends : (a : List ℕ) → after 44 a ≡ None → Ends a
 ends a h = ends_by a h (decides a h)
 
--- What is known of one text by another with the same front
+-- What is known about a text from another text with the same prefix
 
 pub same_no_scheme : (a s t : List ℕ) → Ends a → IsBytes (trimmed_text (a ++ 44 ∷ s)) → staged (a ++ 44 ∷ s) ≡ NoScheme
     → staged (a ++ 44 ∷ t) ≡ NoScheme

@@ -53,14 +53,14 @@ body_last {tail} {window} {from} {end} h f (inr e) =
     let none : drop end tail ≡ [] = nil_from_length (drop end tail) (omega (arith, length-drop end tail)) in
     ap plain_body (tail_window h ∙ ap (λ s. window ++ s) none ∙ append-nil window)
 
--- any other one holds its beginning
+-- any other window holds a prefix of it
 pub body_first : {tail window : List ℕ} {from end : ℕ} {there : Bool} → IsWindowOf tail from window end
     → there ≡ is_some (after_first 35 window) → there ≡ false → plain_body (drop from tail) ≡ plain_body window ++ plain_body
     (drop end tail)
 body_first {tail} {window} {from} {end} h f e = ap plain_body (tail_window h)
     ∙ body_cut window (drop end tail) h.cut (no_fragment (after_first 35 window) (sym e ∙ f))
 
--- a window holds a beginning of the body
+-- a window holds a prefix of the body
 body_begins : {tail window : List ℕ} {from end : ℕ} → IsWindowOf tail from window end → (o : Option (List ℕ))
     → after_first 35 window ≡ o → (rest : List ℕ) × (plain_body (drop from tail) ≡ plain_body window ++ rest)
 body_begins {tail} {window} {from} {end} h None e = (
@@ -112,7 +112,7 @@ plain_ends {tail} {window} {before} {after} {end} {len} {there} {new} old w h e 
     let P : Outcome → Type 0 = λ o. EndsAs o before after 0 len in
     ended (subst P (sym (plain_left old h e ∙ ap Good (body_last w f last))) (refl, wrote)) spent
 
--- any other one
+-- any other window of a plain body
 pub plain_more : {tail window before after : List ℕ} {end len : ℕ} {there : Bool} (old new : DataUrlBody)
     → IsWindowOf tail old.from window end → IsGoodBody tail old → old.is_base64 ≡ 0 → there ≡ is_some (after_first 35 window)
     → there ≡ false → (end ≡ length tail → ⊥) → WritesFront (plain_body window) before after len → new.from ≡ end
@@ -222,7 +222,7 @@ steps_no_text {tail} {out} {r} s h l n a b =
     let P : ℕ → Type 0 = λ m. GoesOn tail s s out out r.len m in
     steps_on h l (subst P (sym a) (no_text n (record { state_stays = refl; output_stays = refl }) b))
 
--- a window of a tail that is not UTF-8 is not, if it may be cut at its ends
+-- a window of a tail that is UTF-8 is UTF-8 too, if it is cut at character boundaries
 pub window_utf8 : {tail : List ℕ} {from room end : ℕ} → IsPlanned tail from room end → IsUtf8 tail
     → IsUtf8 (take (end - from) (drop from tail))
 window_utf8 {tail} {from} {room} {end} h u = IsUtf8-between tail from end u h.order h.start h.edge

@@ -69,7 +69,7 @@ ends_good url r out out' len t room e answer h =
           (omega (arith, fits, ap (λ b. length (outcome_bytes b)) good.1)),
     )
 
--- a bad one, whose fault has this status
+-- a bad body, whose fault has this status
 pub ends_bad : {E : Type 0} (url : DataUrl) {tail : List ℕ} (r : Result (Unit {0}) (DecodeError E)) (kind : Kind)
     (out out' : List ℕ) (status len : ℕ)
     → url_tail url ≡ tail → length tail ≤ length out → r ≡ Err (Invalid kind) → BodyAnswers (url_body url) AnyAnswer r
@@ -105,7 +105,7 @@ written_twice {bytes} {out} {mid} {out'} {len} {len'} fits h size w =
           ∙ drop-append_seam bytes (drop (length bytes) out) ∙ ap (λ n. drop n out) long;
     }
 
--- a bad one, that was decoded again
+-- a bad body, which was decoded again
 pub ends_again : {E : Type 0} (url : DataUrl) {tail mid : List ℕ} {len : ℕ} (r : Result (Unit {0}) (DecodeError E))
     (kind : Kind)
     (out out' : List ℕ) (status len' : ℕ) → url_tail url ≡ tail → length tail ≤ length out → r ≡ Err (Invalid kind)
@@ -125,7 +125,7 @@ ends_again url {tail} {mid} {len} r kind out out' status len' t room e answer h 
     omega (arith, body_fits url out t room, ap (λ b. length (outcome_bytes b)) bad.1) in
     subst Q (sym bad.1) (again.0, written_twice fits (subst R bad.1 h) size again.1)
 
--- The answer
+-- The result
 
 shows_front : {bytes old new : List ℕ} {status status' len : ℕ} → status' ≡ status → length new ≡ length old
     → WritesFront bytes old new len

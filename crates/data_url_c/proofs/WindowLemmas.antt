@@ -1,4 +1,4 @@
--- Windows of a tail: a tail may be cut where no escape goes on.
+-- Windows of a tail: a tail can be cut where no escape goes on.
 use Rattle.std.proofs.Common.{◌≡◌, ◌⊎◌, ℕ, suc, ◌+◌, ◌*◌, ◌-◌, ◌<◌, ◌≤◌, true, false, cond, List, [], ◌∷◌, ◌++◌, length}
 use Rattle.std.proofs.Common.{take, drop, None, Some, refl, sym, ap, ◌∙◌, subst, inl, inr, arith, get_or, drop-cons}
 use Rattle.std.proofs.Common.{length-append, length-drop, length-take, drop-drop, rules, tests}
@@ -21,7 +21,7 @@ use Rattle.data_url.specs.Percent.{percent_decoding}
 use Rattle.data_url.specs.Url.{before, after, fragment, front, is_tab_or_newline, without_tabs_and_newlines}
 use Rattle.data_url_c.specs.Steps.Windows.{BeginsWithoutDigit, IsCut, IsEscapeEnd, IsWindow, is_closed}
 
--- nothing after the first '#' matters to what comes before it
+-- the text before the first '#' does not depend on the text after it
 before_left : (d r s : List ℕ) → after 35 d ≡ Some r → before 35 (d ++ s) ≡ before 35 d
 unfolding before after
 before_left [] r s h = absurd (cc)
@@ -83,7 +83,7 @@ no_digit_second : (b : ℕ) (t : List ℕ) → BeginsWithoutDigit t → two_digi
 no_digit_second b [] h = refl
 no_digit_second b (c ∷ t) h = and_right (is_ascii_hexdigit b) (is_ascii_hexdigit c) h
 
--- a text, and then one that begins with no digit
+-- a text, and then one that does not begin with a digit
 decode_before : (s t : List ℕ) → BeginsWithoutDigit t
     → percent_decoding (s ++ t) ≡ percent_decoding s ++ percent_decoding t
 unfolding percent_decoding
@@ -134,7 +134,7 @@ body_fragment a b r h =
 
 -- The last bytes of a window
 
--- no byte is a '%'
+-- none of the bytes is '%'
 abbrev pub NoPercent : List ℕ → Type 0
 NoPercent [] = Unit {0}
 NoPercent (b ∷ s) = (not (b == 37) ≡ true) × NoPercent s
@@ -160,7 +160,7 @@ ends_closed s (a ∷ []) l h = absurd (omega arith)
 ends_closed s (a ∷ b ∷ []) l h = two_closed s a b h.0 h.1.0
 ends_closed s (a ∷ b ∷ c ∷ t) l h = absurd (omega arith)
 
--- the scan saw two bytes, or all
+-- the scan has read two bytes, or all
 pub scan_closed : (window : List ℕ) (at kept : ℕ) → kept ≡ length (without_tabs_and_newlines (drop at window))
     → kept ≤ 2 → NoPercent (without_tabs_and_newlines (drop at window)) → (at ≡ 0) ⊎ (kept ≡ 2)
     → is_closed (without_tabs_and_newlines window) ≡ true
@@ -324,7 +324,7 @@ closed_hex (a ∷ b ∷ c ∷ s) l h = absurd (omega arith)
 pub escape_two : {text : List ℕ} {at digits : ℕ} → EscapeSoFar text at digits → digits ≡ 2 → IsEscapeEnd text at
 escape_two h e = escape_is h (inl (ap is_closed h.is ∙ closed_hex h.hex (h.size ∙ e) h.plain))
 
--- a byte that is no digit ends it
+-- a byte that is not a digit ends it
 pub escape_other : {text : List ℕ} {at digits : ℕ} → EscapeSoFar text at digits → at < length text
     → is_tab_or_newline (get_or text at 0) ≡ false → is_ascii_hexdigit (get_or text at 0) ≡ false → IsEscapeEnd text at
 escape_other {text} {at} h l t x =
@@ -369,7 +369,7 @@ before_shorter (b ∷ s) = let h = before_shorter s in
           omega arith
     ]
 
--- a body is no longer than its text, tabs and newlines aside
+-- a body is not longer than its text without tabs and newlines
 body_within : (s : List ℕ) → length (plain_body s) ≤ length (without_tabs_and_newlines s)
 unfolding plain_body front
 body_within s = omega (
@@ -394,7 +394,7 @@ window_all tail from limit e l =
       goes_on = λ utf8 some. some;
     }
 
--- a text that goes on after an edge has another one, four bytes on at most
+-- after a character boundary, if the text goes on, there is another one within four bytes
 next_edge : (tail : List ℕ) (from : ℕ) → IsUtf8 tail → IsCharBoundary tail from → from < length tail
     → (k : ℕ) × (from < k) × (k ≤ from + 4) × IsCharBoundary tail k
 next_edge tail from utf8 e l = first_char (drop from tail) (IsUtf8-drop tail from utf8 e) refl where
@@ -410,7 +410,7 @@ next_edge tail from utf8 e l = first_char (drop from tail) (IsUtf8-drop tail fro
             (omega arith) (IsUtf8-drop tail from utf8 e) (sym (u.1 ∙ same)),
       )
 
--- the window up to the last edge
+-- the window up to the last character boundary
 pub window_edge : (tail : List ℕ) (from limit end : ℕ) → IsCharBoundary tail from → 4 ≤ limit
     → limit < length (drop from tail) → from ≤ end → end ≤ from + limit → (from < end → IsCharBoundary tail end)
     → ((k : ℕ) → end < k → k ≤ from + limit → IsCharBoundary tail k → ⊥)

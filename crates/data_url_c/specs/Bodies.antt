@@ -7,8 +7,8 @@ use Rattle.data_url_c.specs.Parts.{DoesNothing, WritesFront, is_good_state, wait
 use Rattle.data_url_c.specs.declared.body.DataUrlBody.{DataUrlBody}
 use Rattle.data_url_c.specs.declared.parts.DataUrlStep.{DataUrlStep}
 
--- a body was written to the front of an output; of a bad one the bytes before its fault, whose status
--- is returned
+-- a body was written to the start of the output. For a bad body, the bytes before its fault were
+-- written, and the status is that of the fault.
 abbrev pub EndsAs : Outcome → List ℕ → List ℕ → ℕ → ℕ → Type 0
 EndsAs (Good bytes) before after status len = (status ≡ 0) × WritesFront bytes before after len
 EndsAs (Bad bytes kind) before after status len =
@@ -20,39 +20,39 @@ EndsAs (Bad bytes kind) before after status len =
 abbrev pub flag_of : DataUrlBody → Bool
 flag_of s = not (s.is_base64 == 0)
 
--- the body that is left: that of the rest of the tail, after what waits
+-- the rest of the body: what is left over in the state, and then the body of the rest of the tail
 abbrev pub body_left : List ℕ → DataUrlBody → Outcome
 body_left tail s = outcome (flag_of s) (waiting_text s.left ++ plain_body (drop s.from tail))
 
--- a state that calls may leave: the rest of the tail begins with a character, or is empty, and of a
--- plain body nothing waits
+-- a state that a call can return: the rest of the tail begins at a character boundary, and if the body
+-- is not base64, nothing is left over
 pub record IsGoodBody (tail : List ℕ) (s : DataUrlBody) : Type 0 where
   pub left : is_good_state s.left ≡ true
   pub edge : IsCharBoundary tail s.from
   pub plain : s.is_base64 ≡ 0 → (s.left.pending ≡ 0) × (s.left.padding ≡ 0)
 
--- an outcome with bytes put before its own
+-- an outcome, with more bytes before its own
 abbrev pub prepend : List ℕ → Outcome → Outcome
 prepend front (Good bytes) = Good (front ++ bytes)
 prepend front (Bad bytes kind) = Bad (front ++ bytes) kind
 
--- what a call on a good state did, by its status and its length
+-- what a call with a good state does, for each status
 pub data GoesOn (tail : List ℕ) (old new : DataUrlBody) (before after : List ℕ) (len : ℕ)
     : ℕ → Type 0 where
-  -- bytes were written, and then comes the rest
+  -- bytes were written, and the rest of the body is left
   more : {bytes : List ℕ} → WritesFront bytes before after len → IsGoodBody tail new
       → new.is_base64 ≡ old.is_base64 → old.from < new.from
       → body_left tail old ≡ prepend bytes (body_left tail new)
       → GoesOn tail old new before after len 11
-  -- the body ended, or its base64 has a fault; later calls refuse the state
+  -- the body ended, or its base64 has a fault; later calls reject the state
   ended : {status : ℕ} → EndsAs (body_left tail old) before after status len
       → (IsGoodBody tail new → ⊥) → GoesOn tail old new before after len status
   -- the tail is not UTF-8
   no_text : (IsUtf8 tail → ⊥) → DoesNothing old new before after → len ≡ 0
       → GoesOn tail old new before after len 4
 
--- what a call did: a state that no call left has status 12, and an output of less than eight bytes
--- status 5
+-- what a call does: a state that no call returned gives status 12, and an output of less than eight
+-- bytes status 5
 pub record StepsBody (tail : List ℕ) (old new : DataUrlBody) (before after : List ℕ)
     (r : DataUrlStep) : Type 0 where
   pub bad : (IsGoodBody tail old → ⊥)

@@ -1,4 +1,4 @@
--- What each call gives of the bytes that it is handed.
+-- What each function returns for its input.
 use Rattle.std.specs.Prelude.{[], ◌≡◌, Err, IsUtf8, List, None, Ok, Option, Some, chars, encode_utf8_all, false, true, ℕ}
 use Rattle.data_url.specs.Base64.{decoded, complete_bytes, is_valid, kind_of}
 use Rattle.data_url.specs.DataUrl.{IsAcceptable}
@@ -8,8 +8,8 @@ use Rattle.data_url_c.specs.Answers.{Given}
 use Rattle.data_url_c.specs.declared.refusal.Refusal.TheVariants.{InvalidBase64, NoComma, NoFragment, NotADataUrl, NotAMimeType, NotUtf8, OutOfMemory}
 use Rattle.data_url_c.specs.declared.refusal.Refusal.{Refusal}
 
--- why bytes are no data: URL: they are not UTF-8, or the Standard finds no scheme or no comma; or
--- memory was refused, of a text that has both
+-- why bytes are not a data: URL: they are not UTF-8, or the Standard finds no scheme or no comma; or
+-- allocation failed for a text that has both
 abbrev pub RefusesUrl : List ℕ → Refusal → Type 0
 RefusesUrl x NotUtf8 = IsUtf8 x → ⊥
 RefusesUrl x NotADataUrl = IsUtf8 x × (staged x ≡ NoScheme)
@@ -25,14 +25,14 @@ pub record IsUrlWith (x : List ℕ) (body : Outcome) (fragment : Option (List �
   pub is_text : IsUtf8 x
   pub staged_is : staged x ≡ Accepted type_text body fragment
 
--- the body, or the fault of its base64 with the bytes before it
+-- the body; or, if its base64 is not valid, the bytes before the fault and the kind of the fault
 abbrev pub GivesBody : List ℕ → Given → Type 0
 GivesBody x (Ok bytes) = (fragment : Option (List ℕ)) × IsUrlWith x (Good bytes.items) fragment
 GivesBody x (Err (InvalidBase64 kind before)) =
     (fragment : Option (List ℕ)) × IsUrlWith x (Bad before.items kind) fragment
 GivesBody x (Err refusal) = RefusesUrl x refusal
 
--- the record of the header, printed in UTF-8
+-- the text is the MIME type of the URL, serialised as UTF-8
 pub record IsTypeOfUrl (x text : List ℕ) : Type 0 where
   pub type_text : List ℕ
   pub body : Outcome
@@ -47,8 +47,8 @@ abbrev pub GivesMime : List ℕ → Given → Type 0
 GivesMime x (Ok text) = IsTypeOfUrl x text.items
 GivesMime x (Err refusal) = RefusesUrl x refusal
 
--- the encoded fragment of a URL with a good body, where it has one; of a bad body its fault, and no
--- bytes
+-- the encoded fragment of a URL with a good body, if it has a fragment; for a bad body, the kind of
+-- its fault, and no bytes
 abbrev pub GivesFragment : List ℕ → Given → Type 0
 GivesFragment x (Ok text) = (bytes : List ℕ) × IsUrlWith x (Good bytes) (Some text.items)
 GivesFragment x (Err NoFragment) = (bytes : List ℕ) × IsUrlWith x (Good bytes) None
@@ -57,7 +57,7 @@ GivesFragment x (Err (InvalidBase64 kind none)) =
     × (none.items ≡ [])
 GivesFragment x (Err refusal) = RefusesUrl x refusal
 
--- the record of a MIME type, printed in UTF-8
+-- a MIME type, serialised as UTF-8
 abbrev pub GivesType : List ℕ → Given → Type 0
 GivesType x (Ok text) =
     (mime : Record) × IsUtf8 x × Parses (chars x) mime
@@ -70,8 +70,8 @@ GivesType x (Err NoComma) = ⊥
 GivesType x (Err NoFragment) = ⊥
 GivesType x (Err (InvalidBase64 kind before)) = ⊥
 
--- what base64 stands for, or its fault with the bytes of the groups before it; of memory nothing is
--- known
+-- the decoded bytes; or, if the base64 is not valid, the bytes of the groups before the fault and the
+-- kind of the fault; or allocation failed
 abbrev pub GivesBase64 : List ℕ → Given → Type 0
 GivesBase64 x (Ok bytes) = (is_valid x ≡ true) × (bytes.items ≡ decoded x)
 GivesBase64 x (Err (InvalidBase64 kind before)) =

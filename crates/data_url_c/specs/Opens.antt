@@ -1,4 +1,4 @@
--- What opening a URL gives: its printed MIME type, its tail, and whether its body is base64.
+-- What opening a URL returns: its serialised MIME type, its tail, and whether its body is base64.
 use Rattle.std.specs.Prelude.{◌+◌, ◌≡◌, ◌≤◌, Err, IsUtf8, List, Ok, Option, Some, drop, encode_utf8_all, false, length, take, ℕ}
 use Rattle.data_url.specs.Fetch.{Accepted, has_base64_suffix, header_of, mime_text, outcome, plain_body, staged, tail_of}
 use Rattle.data_url.specs.Mime.{IsRecordOf, Record, printed}
@@ -7,12 +7,12 @@ use Rattle.data_url_c.specs.Gives.{RefusesUrl}
 use Rattle.data_url_c.specs.declared.answer.DataUrlAnswer.{DataUrlAnswer}
 use Rattle.data_url_c.specs.declared.open.DataUrlOpened.{DataUrlOpened}
 
--- the answer without the tail: the status and the length of the printed MIME type
+-- the result without the tail: the status and the length of the serialised MIME type
 abbrev pub answer_of : DataUrlOpened → DataUrlAnswer
 answer_of r = record { status = r.status; len = r.len }
 
--- where the tail begins in the bytes x and how long it is, and whether the body is base64: the body
--- is that of the tail, and the header's record is printed as the text
+-- r holds the start of the tail in the bytes x, its length, and whether the body is base64. The body
+-- is that of the tail, and the text is the serialised MIME type of the header.
 pub record IsOpened (x text : List ℕ) (r : DataUrlOpened) : Type 0 where
   pub header : List ℕ
   pub mime : Record
@@ -27,18 +27,18 @@ pub record IsOpened (x text : List ℕ) (r : DataUrlOpened) : Type 0 where
   pub staged_is : staged x ≡ Accepted (mime_text header)
       (outcome r.is_base64 (plain_body (take r.tail_len (drop r.tail x)))) fragment
 
--- no tail
+-- the result has no tail
 pub record HasNoTail (r : DataUrlOpened) : Type 0 where
   pub tail_is : r.tail ≡ 0
   pub len_is : r.tail_len ≡ 0
   pub base64_is : r.is_base64 ≡ false
 
--- what opening gives: the printed MIME type with the tail, or why there is none
+-- what opening returns: the serialised MIME type and the tail, or why there is no URL
 abbrev pub GivesUrl : List ℕ → Given → DataUrlOpened → Type 0
 GivesUrl x (Ok text) r = IsOpened x text.items r
 GivesUrl x (Err refusal) r = RefusesUrl x refusal × HasNoTail r
 
--- the answer of opening the bytes x, by the output as it was and as it is
+-- the result of opening the bytes x, with the output before the call (old) and after it (new)
 pub record Opens (x old new : List ℕ) (r : DataUrlOpened) : Type 0 where
   pub given : Given
   pub is_given : GivesUrl x given r

@@ -1,4 +1,4 @@
--- Base64 in parts: what feeding a part does, and what the end does.
+-- Base64 in parts: what feeding a part does, and what finishing does.
 use Rattle.std.specs.List.{list_all}
 use Rattle.std.specs.Prelude.{◌&&◌, ◌+◌, ◌++◌, ◌<◌, ◌≡◌, ◌≤◌, Bool, List, MatchBool, MatchOption, drop, false, length, nat_le, nat_lt, take, true, ℕ}
 use Rattle.data_url.specs.Base64.{complete_bytes, decoded, first_fault, is_symbol, is_valid, kind_of, left_padding, left_symbols, left_text}
@@ -7,49 +7,50 @@ use Rattle.data_url_c.specs.declared.parts.DataUrlBase64.{DataUrlBase64}
 use Rattle.data_url_c.specs.declared.parts.DataUrlFed.{DataUrlFed}
 use Rattle.data_url_c.specs.declared.parts.DataUrlStep.{DataUrlStep}
 
--- the text of what waits: the symbols and then the padding
+-- what is left over in a state, as a text: the symbols, then the padding
 abbrev pub waiting_text : DataUrlBase64 → List ℕ
 waiting_text s = left_text (take s.pending s.symbols) s.padding
 
--- a state that calls may leave: at most three symbols wait, and the padding is counted up to three
+-- a state that a call can return: at most three symbols are left over, and the padding is counted up
+-- to three
 abbrev pub is_good_state : DataUrlBase64 → Bool
 is_good_state s = nat_le s.pending 3
     && (nat_le s.padding 3 && list_all is_symbol (take s.pending s.symbols))
 
--- what waits is what the text u leaves
+-- what is left over in the state is what is left over of the text u
 pub record IsLeftOf (u : List ℕ) (s : DataUrlBase64) : Type 0 where
   pub good : is_good_state s ≡ true
   pub pending_is : s.pending ≡ length (left_symbols u)
   pub symbols_are : take s.pending s.symbols ≡ left_symbols u
   pub padding_is : s.padding ≡ left_padding u
 
--- these bytes, and nothing else, were written to the front of an output
+-- these bytes were written to the start of the output; the rest of it does not change
 pub record WritesFront (bytes old new : List ℕ) (len : ℕ) : Type 0 where
   pub within : len ≤ length old
   pub bytes_are : take len new ≡ bytes
   pub rest_stays : drop len new ≡ drop len old
 
--- of the text u the groups before its first fault were written, and the state is what u leaves; or,
--- where it has a fault, one that later calls refuse
+-- the bytes of the groups of u that are complete before its first fault were written. If u has no
+-- fault, the state holds what is left over of u; otherwise later calls reject the state.
 pub record TakesText (u : List ℕ) (new : DataUrlBase64) (before after : List ℕ) (status len : ℕ)
     : Type 0 where
   pub wrote : WritesFront (complete_bytes u) before after len
   pub ended : MatchOption (first_fault u) ((status ≡ 0) × IsLeftOf u new)
       (λ place. (status ≡ status_of_kind (kind_of u)) × (is_good_state new ≡ false))
 
--- how much of an input is read: all that fits the room, and at least one byte
+-- how much of an input is read: all of it if the output has room, and at least one byte
 pub record Reads (input room read : ℕ) : Type 0 where
   pub within : read ≤ input
   pub all : input + 3 ≤ room → read ≡ input
   pub some : 0 < input → 0 < read
 
--- nothing was done, and the answer is this
+-- the state and the output do not change
 pub record DoesNothing {S : Type 0} (old new : S) (before after : List ℕ) : Type 0 where
   pub state_stays : new ≡ old
   pub output_stays : after ≡ before
 
--- a part of a text: what was read of it is taken after what waits; a state that no call left has
--- status 12, and an output of less than four bytes status 5
+-- feeding a part of a text: what is read of it follows what is left over in the state. A state that
+-- no call returned gives status 12, and an output of less than four bytes status 5.
 abbrev pub FeedsPart : DataUrlBase64 → DataUrlBase64 → List ℕ → List ℕ → List ℕ → DataUrlFed → Type 0
 FeedsPart old new input before after r =
     MatchBool (is_good_state old)
@@ -59,7 +60,7 @@ FeedsPart old new input before after r =
     × TakesText (waiting_text old ++ take r.read input) new before after r.status r.len))
     (DoesNothing old new before after × (r.status ≡ 12) × (r.len ≡ 0) × (r.read ≡ 0))
 
--- the end of a valid text: the last bytes of what waits, where the output has room for them
+-- the end of a valid text: the last bytes are written, if the output has room for them
 pub record EndsText (u : List ℕ) (old new : DataUrlBase64) (before after : List ℕ)
     (r : DataUrlStep) : Type 0 where
   pub fits : length (decoded u) ≤ length before
@@ -67,7 +68,7 @@ pub record EndsText (u : List ℕ) (old new : DataUrlBase64) (before after : Lis
   pub is_too_small : length before < length (decoded u)
       → DoesNothing old new before after × (r.status ≡ 5) × (r.len ≡ length (decoded u))
 
--- the end of a text that is not valid: its fault
+-- the end of a text that is not valid: the status is that of its fault
 pub record EndsFaulty (u : List ℕ) (new : DataUrlBase64) (before after : List ℕ) (r : DataUrlStep)
     : Type 0 where
   pub output_stays : after ≡ before
@@ -75,7 +76,8 @@ pub record EndsFaulty (u : List ℕ) (new : DataUrlBase64) (before after : List 
   pub len_is : r.len ≡ 0
   pub spent : is_good_state new ≡ false
 
--- the end of a text, by what waits; a state that no call left has status 12
+-- the end of a text, from what is left over in the state; a state that no call returned gives
+-- status 12
 abbrev pub FinishesPart : DataUrlBase64 → DataUrlBase64 → List ℕ → List ℕ → DataUrlStep → Type 0
 FinishesPart old new before after r =
     MatchBool (is_good_state old)

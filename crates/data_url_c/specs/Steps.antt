@@ -1,4 +1,4 @@
--- What the private steps give: words that no contract of an export cites.
+-- What private functions return: definitions that no contract of an exported function uses.
 pub mod Opening
 pub mod Windows
 use Rattle.std.specs.Global.{Global}
@@ -27,23 +27,23 @@ use Rattle.data_url_c.specs.declared.parts.DataUrlStep.{DataUrlStep}
 use Rattle.data_url_c.specs.declared.parts.Last.{Last}
 use Rattle.data_url_c.specs.declared.refusal.Refusal.{Refusal}
 
--- any answer at all
+-- true of every result
 abbrev pub AnyAnswer : {A : Type 0} → A → Type 0
 AnyAnswer x = Unit {0}
 
--- the URL of the bytes, or why there is none
+-- the URL of the bytes, or why they are not a data: URL
 abbrev pub IsUrlFor : List ℕ → Result DataUrl Refusal → Type 0
 IsUrlFor x (Ok url) = IsUtf8 x × IsUrlOf x url
 IsUrlFor x (Err refusal) = RefusesUrl x refusal
 
--- the body, or the fault of its base64 with the bytes before it
+-- the body; or, if its base64 is not valid, the bytes before the fault and the kind of the fault
 abbrev pub HasBody : Outcome → Given → Type 0
 HasBody body (Ok bytes) = body ≡ Good bytes.items
 HasBody body (Err (InvalidBase64 kind before)) = body ≡ Bad before.items kind
 HasBody body (Err OutOfMemory) = Unit {0}
 HasBody body (Err refusal) = ⊥
 
--- a record's printed text
+-- the serialisation of a record
 abbrev pub HasText : Record → Given → Type 0
 HasText mime (Ok text) = text.items ≡ encode_utf8_all (printed mime)
 HasText mime (Err OutOfMemory) = Unit {0}
@@ -61,11 +61,12 @@ HasFragment url (Err (InvalidBase64 kind none)) =
 HasFragment url (Err OutOfMemory) = Unit {0}
 HasFragment url (Err refusal) = ⊥
 
--- the call gives a fault of base64
+-- the call returns a fault of base64
 abbrev pub IsFault : Given → Type 0
 IsFault given = (kind : Kind) × (before : Vec ℕ Global) × (given ≡ Err (InvalidBase64 kind before))
 
--- the answer to what a call gives; to a fault of base64 it may be that memory was refused
+-- the result in C of what a call returns; for a fault of base64 it can also be the result for a
+-- failed allocation
 abbrev pub CrossesOrNot : Given → List ℕ → List ℕ → DataUrlAnswer → Type 0
 CrossesOrNot given old new r = Crosses given old new r ⊎ (IsFault given × Crosses (Err OutOfMemory) old new r)
 
@@ -74,8 +75,7 @@ abbrev pub HasLength : Outcome → ℕ → Type 0
 HasLength (Good bytes) len = len ≡ min (length bytes) (2 ^ 64 - 1)
 HasLength (Bad bytes kind) len = Unit {0}
 
--- the header's record of a probe was printed to an output, and the flag says whether its body has one
--- byte
+-- the MIME type of a probe was written to the output, and the flag says whether its body has one byte
 pub record IsRead (x old new : List ℕ) (r : DataUrlAnswer) (flag : Bool) : Type 0 where
   pub url : DataUrl
   pub url_is : IsUrlOf x url
@@ -86,7 +86,7 @@ pub record IsRead (x old new : List ℕ) (r : DataUrlAnswer) (flag : Bool) : Typ
   pub len_is : HasLength (url_body url) len
   pub flag_is : flag ≡ (len == 1)
 
--- what a probe gives
+-- what reading a probe returns
 abbrev pub ReadsProbe : List ℕ → List ℕ → List ℕ → Result (DataUrlAnswer × Bool) Refusal → Type 0
 ReadsProbe x old new (Ok found) = IsRead x old new found.0 found.1
 ReadsProbe x old new (Err refusal) = RefusesUrl x refusal × (new ≡ old)
@@ -96,7 +96,8 @@ pub record Writes (piece old : List ℕ) (len : ℕ) (new : List ℕ) (len' : �
   pub fits : len + length piece ≤ length old
       → (len' ≡ len + length piece) × (new ≡ take len old ++ (piece ++ drop len' old))
 
--- the closure f, which is g now, was called with these bytes, piece by piece, and so it ended
+-- the closure f was called with these bytes, piece by piece, and is g after that; `Ended` is true of
+-- the end
 pub record GetsBytes {F E : Type 0} (step : F → List ℕ → Result (Unit {0}) E → F → Type 0) (f : F)
     (bytes : List ℕ) (Ended : Type 0) (g : F) : Type 0 where
   pub run : List (Call F E)
@@ -104,30 +105,32 @@ pub record GetsBytes {F E : Type 0} (step : F → List ℕ → Result (Unit {0})
   pub bytes_are : joined_pieces run ≡ bytes
   pub ended : Ended
 
--- the closure got the groups of the text u before its first fault, and r is the fault
+-- the closure was called with the bytes of the groups of u that are complete before its first fault; r
+-- is the error of the fault, or `Ok`
 abbrev pub GetsGroups : {F E : Type 0} → (F → List ℕ → Result (Unit {0}) E → F → Type 0) → F → List ℕ
     → Result (Unit {0}) (DecodeError E) → F → Type 0
 GetsGroups step f u r g =
     GetsBytes step f (complete_bytes u)
     (MatchOption (first_fault u) (r ≡ Ok tt) (λ place. r ≡ Err (decode.InvalidBase64 (kind_of u)))) g
 
--- the closure got the bytes of a body, and r is its fault
+-- the closure was called with the bytes of a body; r is the error of its fault, or `Ok`
 abbrev pub GetsBody : {F E : Type 0} → (F → List ℕ → Result (Unit {0}) E → F → Type 0) → F → Outcome
     → Result (Unit {0}) (DecodeError E) → F → Type 0
 GetsBody step f body r g = GetsBytes step f (outcome_bytes body) (Answers body AnyAnswer r) g
 
--- of the text u the groups before its first fault were written, and r has the status of the fault
+-- the bytes of the groups of u that are complete before its first fault were written; r has the status
+-- of the fault, or 0
 pub record DecodesGroups (u before after : List ℕ) (r : DataUrlStep) : Type 0 where
   pub wrote : WritesFront (complete_bytes u) before after r.len
   pub ended : MatchOption (first_fault u) (r.status ≡ 0)
       (λ place. r.status ≡ status_of_kind (kind_of u))
 
--- a text was taken after what waited
+-- a text was fed after what was left over
 abbrev pub FeedsText : DataUrlBase64 → DataUrlBase64 → List ℕ → List ℕ → List ℕ → DataUrlStep → Type 0
 FeedsText old new text before after r =
     TakesText (waiting_text old ++ text) new before after r.status r.len
 
--- the last bytes of the text u, where it is valid, or its fault
+-- the last bytes of the text u if it is valid, or the status of its fault
 pub record IsLast (u : List ℕ) (last : Last) : Type 0 where
   pub within : last.len ≤ 3
   pub ended : MatchBool (is_valid u)
@@ -138,13 +141,14 @@ pub record IsLast (u : List ℕ) (last : Last) : Type 0 where
 abbrev pub IsFragmentThere : List ℕ → Bool → Type 0
 IsFragmentThere text there = there ≡ is_some (after number_sign text)
 
--- the body that a text holds was fed after what waited
+-- the body of a text was fed after what was left over
 pub record FeedsBody (old new : DataUrlBase64) (text before after : List ℕ) (r : DataUrlStep)
     (there : Bool) : Type 0 where
   pub fed : FeedsText old new (plain_body text) before after r
   pub fragment : r.status ≡ 0 → IsFragmentThere text there
 
--- the last bytes of the text u were written after the first ones, or it is not valid and nothing was
+-- the decoded bytes of u were written after those written before; or u is not valid, and nothing more
+-- was written
 pub record EndsAfter (u : List ℕ) (written : ℕ) (before after : List ℕ) (r : DataUrlStep)
     : Type 0 where
   pub ended : MatchBool (is_valid u)
@@ -152,7 +156,7 @@ pub record EndsAfter (u : List ℕ) (written : ℕ) (before after : List ℕ) (r
       × (after ≡ take written before ++ (decoded u ++ drop r.len before)))
       ((r.status ≡ status_of_kind (kind_of u)) × (r.len ≡ written) × (after ≡ before))
 
--- the text is a window of the tail, from a place to another one, where the tail may be cut
+-- the window is the part of the tail between two indices, and the tail can be cut at its end
 pub record IsWindowOf (tail : List ℕ) (from : ℕ) (window : List ℕ) (end : ℕ) : Type 0 where
   pub order : from ≤ end
   pub within : end ≤ length tail
@@ -161,7 +165,7 @@ pub record IsWindowOf (tail : List ℕ) (from : ℕ) (window : List ℕ) (end : 
   pub edge : IsCharBoundary tail end
   pub goes_on : from < length tail → from < end
 
--- a window was found, and the room is for its body and what waits
+-- a window was found, and the room suffices for its body and three more bytes
 pub record IsPlanned (tail : List ℕ) (from room end : ℕ) : Type 0 where
   pub order : from ≤ end
   pub within : end ≤ length tail
@@ -171,7 +175,8 @@ pub record IsPlanned (tail : List ℕ) (from room end : ℕ) : Type 0 where
   pub cut : IsCut (take (end - from) (drop from tail)) (drop end tail)
   pub goes_on : from < length tail → from < end
 
--- the end of the next window, for a good state and enough room; or the step that there is instead
+-- the end of the next window, if the state is good and the room suffices; otherwise the result of the
+-- call, which changes nothing
 abbrev pub IsPlan : List ℕ → DataUrlBody → ℕ → Result ℕ DataUrlStep → Type 0
 IsPlan tail s room (Ok end) = IsGoodBody tail s × (8 ≤ room) × IsPlanned tail s.from room end
 IsPlan tail s room (Err step) = (out : List ℕ) → length out ≡ room → StepsBody tail s s out out step

@@ -1,4 +1,4 @@
-//! How an answer crosses to C: as a status, a length, and the bytes in the caller's output.
+//! How a result is passed to C: as a status, a length, and bytes in the caller's output.
 
 ghost use Rattle.std.specs.Prelude.{◌≡◌};
 ghost use Rattle.data_url_c.specs.Answers.{Shows};
@@ -7,7 +7,7 @@ ghost use Rattle.data_url_c.specs.Steps.{CrossesOrNot};
 use crate::kind::status_of;
 use crate::refusal::Refusal;
 
-/// All was done.
+/// The call succeeded.
 pub(crate) const DONE: u32 = 0;
 
 /// The text has no scheme `data:`.
@@ -16,16 +16,16 @@ const NOT_A_DATA_URL: u32 = 1;
 /// There is no comma before the fragment.
 const NO_COMMA: u32 = 2;
 
-/// Memory was refused.
+/// Allocation failed.
 const OUT_OF_MEMORY: u32 = 3;
 
 /// The text is not UTF-8.
 pub(crate) const NOT_UTF8: u32 = 4;
 
-/// The output has no room for the answer.
+/// The output is too small for the result.
 pub(crate) const OUTPUT_TOO_SMALL: u32 = 5;
 
-/// The text is no MIME type.
+/// The text is not a MIME type.
 const NOT_A_MIME_TYPE: u32 = 6;
 
 /// The URL has no fragment.
@@ -35,13 +35,13 @@ const NO_FRAGMENT: u32 = 7;
 #[repr(C)]
 #[derive(Clone, Copy)]
 pub struct DataUrlAnswer {
-    /// How the call ended: 0 where all was done.
+    /// How the call ended: 0 if it succeeded.
     pub status: u32,
-    /// How many bytes the answer has, whether or not they fit the output.
+    /// How many bytes the result has, whether or not they fit into the output.
     pub len: usize,
 }
 
-/// Shows bytes at the front of the output, with their status, or says that it is too small for them.
+/// Writes bytes to the start of the output and returns their status, or returns that the output is too small for them.
 pub(crate) fn show(status: u32, bytes: &[u8], out: &mut [u8]) -> DataUrlAnswer
     ensures { Shows status bytes.now out.old out.new result }
 {
@@ -56,15 +56,15 @@ pub(crate) fn show(status: u32, bytes: &[u8], out: &mut [u8]) -> DataUrlAnswer
     DataUrlAnswer { status, len }
 }
 
-/// The status of a refusal that has no bytes.
+/// The status of an error without bytes.
 fn tell(status: u32) -> DataUrlAnswer
     ensures { (result.status ≡ status) × (result.len ≡ 0) }
 {
     DataUrlAnswer { status, len: 0 }
 }
 
-/// Returns the answer of a call that gave bytes or failed. If the kind of a fault cannot be read, the status is that of
-/// failed allocation.
+/// Returns the result for C of a call that returned bytes or an error. If the kind of a fault cannot be read, the
+/// status is that of a failed allocation.
 pub(crate) fn answer(given: Result<Vec<u8>, Refusal>, out: &mut [u8]) -> DataUrlAnswer
     ensures { CrossesOrNot given out.old out.new result }
 {

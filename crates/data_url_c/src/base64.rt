@@ -1,4 +1,4 @@
-//! What the calls take of base64.
+//! What the exports need of base64.
 
 ghost use Rattle.std.specs.Fn.{CalledAt};
 ghost use Rattle.data_url.proofs.api.{DecodesText};

@@ -18,16 +18,16 @@ use data_url::escapes::{Piece, Pieces};
 /// The status of a body that goes on.
 const MORE: u32 = 11;
 
-/// The least room of an output that a body is decoded into.
+/// The smallest output that a body is decoded into, in bytes.
 const ROOM: usize = 8;
 
-/// A body in parts: where it goes on in its tail, and what waits. It begins at 0, with nothing waiting.
+/// A body in parts: where it goes on in its tail, and what is left over. It begins at 0, with nothing left over.
 #[repr(C)]
 #[derive(Clone, Copy)]
 pub struct DataUrlBody {
     /// Where the body goes on in the tail.
     pub from: usize,
-    /// What waits of base64.
+    /// What is left over of base64.
     pub left: DataUrlBase64,
     /// Whether the body is base64: 0 if it is not, and any other value if it is.
     pub is_base64: u8,
@@ -44,7 +44,7 @@ fn push_piece(piece: &Piece, out: &mut [u8], len: &mut usize)
     }
 }
 
-/// Feeds the bytes of a piece after what waits.
+/// Feeds the bytes of a piece after what is left over.
 #[inline(always)]
 fn feed_piece(state: &mut DataUrlBase64, piece: &Piece, out: &mut [u8]) -> DataUrlStep
     requires good { is_good_state state.old ≡ true }
@@ -57,8 +57,8 @@ fn feed_piece(state: &mut DataUrlBase64, piece: &Piece, out: &mut [u8]) -> DataU
     }
 }
 
-/// Writes the body that a text holds, percent-decoded, to an output that has room for it. Returns its length, and
-/// whether the text has a fragment.
+/// Writes the percent-decoded body of a text to an output that has room for it. Returns its length, and whether the
+/// text has a fragment.
 fn copy_body(text: &str, out: &mut [u8]) -> (usize, bool)
     requires { length (plain_body text.now) ≤ length out.old }
     ensures wrote { WritesFront (plain_body text.now) out.old out.new result.0 }
@@ -72,7 +72,7 @@ fn copy_body(text: &str, out: &mut [u8]) -> (usize, bool)
     (len, pieces.fragment().is_some())
 }
 
-/// Feeds the body that a text holds, percent-decoded, after what waits. Returns whether the text has a fragment, too.
+/// Feeds the percent-decoded body of a text after what is left over. Also returns whether the text has a fragment.
 fn feed_body(state: &mut DataUrlBase64, text: &str, out: &mut [u8]) -> (DataUrlStep, bool)
     requires good { is_good_state state.old ≡ true }
     requires array { length state.old.symbols ≡ 3 }
@@ -93,7 +93,8 @@ fn feed_body(state: &mut DataUrlBase64, text: &str, out: &mut [u8]) -> (DataUrlS
     (step, pieces.fragment().is_some())
 }
 
-/// Writes the last bytes of what waits after the bytes that are written. Of a text that is not valid there are none.
+/// Writes the last bytes of what is left over after the bytes that are written. If the text is not valid, there are
+/// none.
 fn end_body(state: &DataUrlBase64, written: usize, out: &mut [u8]) -> DataUrlStep
     requires good { is_good_state state.now ≡ true }
     requires room { 4 * written + 3 * state.now.pending ≤ 4 * length out.old }
@@ -108,7 +109,8 @@ fn end_body(state: &DataUrlBase64, written: usize, out: &mut [u8]) -> DataUrlSte
     }
 }
 
-/// Decodes a whole body of base64 into an output that has room for its text. Of base64 that is not valid it returns the status.
+/// Decodes a whole body of base64 into an output that has room for its text. If the base64 is not valid, returns its
+/// status.
 pub(crate) fn feed_whole(tail: &str, out: &mut [u8]) -> DataUrlStep
     requires { length tail.now ≤ length out.old }
     ensures { EndsAs (outcome true (plain_body tail.now)) out.old out.new
@@ -122,7 +124,7 @@ pub(crate) fn feed_whole(tail: &str, out: &mut [u8]) -> DataUrlStep
     end_body(&state, step.len, out)
 }
 
-/// Returns whether a call may have left the state.
+/// Returns whether a call can have returned the state.
 fn is_good_body(state: &DataUrlBody, tail: &[u8]) -> bool
     ensures { IsTrue result ↔ IsGoodBody tail.now state.now }
 {
@@ -189,7 +191,7 @@ fn base64_window(
     }
 }
 
-/// Returns where the next window ends, or what a call returns that decodes none.
+/// Returns where the next window ends, or the result of a call that decodes no window.
 fn plan(state: &DataUrlBody, tail: &[u8], room: usize) -> Result<usize, DataUrlStep>
     ensures { IsPlan tail.now state.now room result }
 {

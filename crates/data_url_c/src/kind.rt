@@ -1,4 +1,4 @@
-//! Why base64 is not valid, read from the text of the library's error, the only place that has its kind.
+//! Why base64 is not valid, read from the message of the library's error, the only place that has its kind.
 
 ghost use Rattle.std.specs.Prelude.{◌≡◌, ◌<◌, IfSome, length, ℕ};
 ghost use Rattle.data_url.specs.Base64.{Kind, UnexpectedSymbol, kind_text};
@@ -7,7 +7,7 @@ ghost use Rattle.data_url_c.specs.Answers.{status_of_kind};
 use data_url::forgiving_base64::InvalidBase64;
 use std::fmt::InlineText;
 
-/// The end of a printed text that did not fit its room.
+/// The end of a printed text that did not fit into its buffer.
 const CUT: &[u8; 3] = b"...";
 
 /// Base64 with padding that does not fit the symbols.
@@ -22,7 +22,7 @@ pub(crate) const SYMBOL_AFTER_PADDING: u32 = 10;
 /// Base64 with a byte that is not allowed: this and the byte.
 pub(crate) const UNEXPECTED_SYMBOL: u32 = 256;
 
-/// How many bytes an error's text has at most, with room to spare.
+/// The size of the buffer for an error's message: more than any message has.
 const ROOM: usize = 63;
 
 /// The byte that the text of an unexpected symbol names.
@@ -52,8 +52,8 @@ fn status_of_text(text: &str) -> Option<u32>
     }
 }
 
-/// Returns the status of base64 that is not valid: its kind, and of an unexpected symbol the byte too. None if the error's text
-/// could not be read, which does not happen.
+/// Returns the status of base64 that is not valid: from its kind and, for an unexpected symbol, the byte. Returns None
+/// if the error's message could not be read, which does not happen.
 pub(crate) fn status_of(refusal: &InvalidBase64) -> Option<u32>
     ensures { IfSome result (λ status. status ≡ status_of_kind refusal.now) }
 {

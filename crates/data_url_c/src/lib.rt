@@ -1,24 +1,24 @@
-//! The calls of `data_url` for C and for languages that call C: what a data: URL, a MIME type or base64 gives, put into an
-//! output that the caller owns. `bindings/c/data_url.h` declares them.
+//! The functions of `data_url` for C and for languages that call C. They read a data: URL, a MIME type or base64, and
+//! write the result to an output that the caller owns. `bindings/c/data_url.h` declares them.
 //!
-//! A slice crosses as a pointer, which is not null, and a length; `Global` crosses as nothing. No call asks anything more of
-//! its bytes: any bytes may come. Each returns a status and a length:
+//! A slice is passed as a pointer, which is not null, and a length; `Global` is not passed. The bytes may be any bytes.
+//! Each function returns a status and a length:
 //!
 //! | Status | Meaning | Length |
 //! |---|---|---|
-//! | 0 | done | of the answer, which is at the front of the output |
+//! | 0 | success | of the result, which is at the start of the output |
 //! | 1 | no scheme `data:` | 0 |
 //! | 2 | no comma before the fragment | 0 |
 //! | 3 | allocation failed | 0 |
 //! | 4 | the text is not UTF-8 | 0 |
-//! | 5 | the output is too small, and as it was | that is needed |
-//! | 6 | no MIME type | 0 |
+//! | 5 | the output is too small, and unchanged | that is needed |
+//! | 6 | the text is not a MIME type | 0 |
 //! | 7 | the URL has no fragment | 0 |
-//! | 8, 9, 10, 256 and a byte | base64 with padding that does not fit, a lone symbol, a symbol after padding, an unexpected byte | of what comes before the fault, at the front of the output |
+//! | 8, 9, 10, 256 and a byte | base64 with padding that does not fit, a lone symbol, a symbol after padding, an unexpected byte | of the bytes before the fault, at the start of the output |
 //! | 11 | the body goes on (`dataurl_body_next`) | of the part that was decoded |
-//! | 12 | a state that no call left | 0 |
+//! | 12 | a state that no call returned | 0 |
 //!
-//! The output after the bytes of an answer is as it was; if the length is 0, all of it.
+//! The output after the bytes of a result is unchanged; if the length is 0, all of it is.
 #![tactic(auto)]
 
 ghost use Rattle.std.specs.Prelude.{IsUtf8};
@@ -48,9 +48,9 @@ pub use parts::{DataUrlBase64, DataUrlFed, DataUrlStep};
 pub use refusal::Refusal;
 use std::alloc::Global;
 
-/// The body of a data: URL ([Fetch Standard, section 6](https://fetch.spec.whatwg.org/#data-url-processor)). Of base64 that
-/// is not valid the output has the bytes before the first fault. The body is decoded straight into an output that is at least
-/// as long as the text after the comma, and otherwise into a vector first.
+/// The body of a data: URL ([Fetch Standard, section 6](https://fetch.spec.whatwg.org/#data-url-processor)). If its
+/// base64 is not valid, the output has the bytes before the first fault. If the output is at least as long as the text
+/// after the comma, the body is decoded straight into it, and otherwise into a vector first.
 #[unsafe(no_mangle)]
 pub extern "C" fn dataurl_body(alloc: Global, url: &[u8], out: &mut [u8]) -> DataUrlAnswer
     ensures { Answers (GivesBody url.now) out.old out.new result }
@@ -81,8 +81,8 @@ pub extern "C" fn dataurl_mime(alloc: Global, url: &[u8], out: &mut [u8]) -> Dat
 }
 
 /// The fragment of a data: URL, percent-encoded
-/// ([URL Standard, section 4.4, fragment state](https://url.spec.whatwg.org/#fragment-state)). Of base64 that is not valid
-/// there is none, and nothing is put into the output.
+/// ([URL Standard, section 4.4, fragment state](https://url.spec.whatwg.org/#fragment-state)). If the body is base64
+/// that is not valid, there is no fragment, and nothing is written to the output.
 #[unsafe(no_mangle)]
 pub extern "C" fn dataurl_fragment(alloc: Global, url: &[u8], out: &mut [u8]) -> DataUrlAnswer
     ensures { Answers (GivesFragment url.now) out.old out.new result }
@@ -100,8 +100,8 @@ pub extern "C" fn dataurl_type(alloc: Global, text: &[u8], out: &mut [u8]) -> Da
 }
 
 /// Decodes base64
-/// ([Infra Standard, forgiving-base64 decode](https://infra.spec.whatwg.org/#forgiving-base64-decode)). Of base64 that is
-/// not valid the output has the bytes before the first fault. The text may be any bytes.
+/// ([Infra Standard, forgiving-base64 decode](https://infra.spec.whatwg.org/#forgiving-base64-decode)). If it is not
+/// valid, the output has the bytes before the first fault. The text may be any bytes.
 #[unsafe(no_mangle)]
 pub extern "C" fn dataurl_base64(alloc: Global, text: &[u8], out: &mut [u8]) -> DataUrlAnswer
     ensures { Answers (GivesBase64 text.now) out.old out.new result }
@@ -121,7 +121,7 @@ pub extern "C" fn dataurl_open(alloc: Global, url: &[u8], out: &mut [u8]) -> Dat
     }
 }
 
-/// Opens a data: URL that is known to be UTF-8, and so looks at no byte of its body.
+/// Opens a data: URL that is known to be UTF-8, and so reads no byte of its body.
 #[unsafe(no_mangle)]
 pub extern "C" fn dataurl_open_utf8(alloc: Global, url: &[u8], out: &mut [u8]) -> DataUrlOpened
     requires { IsUtf8 url.now }
@@ -133,7 +133,7 @@ pub extern "C" fn dataurl_open_utf8(alloc: Global, url: &[u8], out: &mut [u8]) -
 /// Feeds a part of base64
 /// ([Infra Standard, forgiving-base64 decode](https://infra.spec.whatwg.org/#forgiving-base64-decode)), cut anywhere, and
 /// writes the bytes of the groups that it completes. It reads the whole part if that has at most three bytes less than
-/// the output, and otherwise at least one byte. After a fault, the state is refused.
+/// the output, and otherwise at least one byte. After a fault, calls reject the state.
 #[unsafe(no_mangle)]
 pub extern "C" fn dataurl_base64_feed(
     state: &mut DataUrlBase64,
@@ -145,8 +145,8 @@ pub extern "C" fn dataurl_base64_feed(
     parts::feed(state, input, out)
 }
 
-/// Ends base64 that came in parts, and writes its last bytes, of which there are at most two. After that, the state is
-/// refused; if the output has no room for the last bytes, it is as it was.
+/// Ends base64 that was fed in parts, and writes its last bytes, of which there are at most two. After that, calls
+/// reject the state; but if the output has no room for the last bytes, the state is unchanged.
 #[unsafe(no_mangle)]
 pub extern "C" fn dataurl_base64_finish(state: &mut DataUrlBase64, out: &mut [u8]) -> DataUrlStep
     ensures { FinishesPart state.old state.new out.old out.new result }
@@ -154,9 +154,9 @@ pub extern "C" fn dataurl_base64_finish(state: &mut DataUrlBase64, out: &mut [u8
     parts::finish(state, out)
 }
 
-/// Decodes the next part of a body into the output, and takes no memory
+/// Decodes the next part of a body into the output, without allocation
 /// ([Fetch Standard, section 6](https://fetch.spec.whatwg.org/#data-url-processor)). The state begins with `from` at 0 and
-/// nothing waiting. Each call is given the same tail. While the status is 11, the body goes on.
+/// nothing left over. Each call is passed the same tail. While the status is 11, the body goes on.
 #[unsafe(no_mangle)]
 pub extern "C" fn dataurl_body_next(
     state: &mut DataUrlBody,

@@ -1,4 +1,4 @@
-//! Opening a URL: its MIME type, its tail and the kind of its body, by its header alone.
+//! Opening a URL: its MIME type, its tail and whether its body is base64, from its header alone.
 
 ghost use Rattle.std.specs.Prelude.{◌≡◌, ◌==◌, ◌++◌, ◌<◌, IfOk, Some, codes, length, slice_index, string_bytes, take};
 ghost use Rattle.std.specs.List.{position, suffix_len};
@@ -16,7 +16,7 @@ use data_url::DataUrl;
 use std::alloc::{AllocError, Global};
 use std::convert::Infallible;
 
-/// What a URL begins with whose header is empty.
+/// The start of a URL with an empty header.
 const NO_HEADER: &[u8; 6] = b"data:,";
 
 /// The MIME type of such a URL, as it is printed.
@@ -81,7 +81,7 @@ fn body_len(url: &DataUrl) -> usize
     }
 }
 
-/// Returns why a text is no data: URL, if allocation fails whenever it is one.
+/// Returns why a text is not a data: URL; for one that is, returns that allocation failed.
 fn refusal_of(alloc: Global, text: &str) -> Refusal
     ensures { RefusesUrl text.now result }
 {
@@ -124,7 +124,7 @@ fn read_url(
     }
 }
 
-/// Returns the answer of a text that is no URL.
+/// Returns the result for a text that is not a data: URL.
 pub(crate) fn refused(refusal: Refusal, out: &mut [u8]) -> DataUrlOpened
     ensures { IsRefused refusal out.old out.new result }
 {

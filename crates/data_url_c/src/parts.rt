@@ -14,22 +14,22 @@ use crate::output::push;
 use data_url::forgiving_base64::{DecodeError, Decoder};
 use std::convert::Infallible;
 
-/// The status of a state that no call left.
+/// The status for a state that no call returned.
 pub(crate) const BAD_STATE: u32 = 12;
 
-/// The least room of an output that base64 is fed to: the bytes of what waits and one byte of the text always fit.
+/// The smallest output that base64 is fed to: the bytes of what is left over and of one byte of the text always fit.
 const ROOM: usize = 4;
 
-/// How many bytes a text has at least that is fed in two steps.
+/// The smallest length of a text that is fed in two steps.
 const LONG: usize = 1024;
 
-/// Base64 that comes in parts: what waits for the next part. It begins as all zeros.
+/// Base64 in parts: what is left over for the next part. It begins as all zeros.
 #[repr(C)]
 #[derive(Clone, Copy)]
 pub struct DataUrlBase64 {
-    /// The symbols that wait: the first `pending` of these.
+    /// The symbols that are left over: the first `pending` of these.
     pub symbols: [u8; 3],
-    /// How many symbols wait.
+    /// How many symbols are left over.
     pub pending: u8,
     /// The number of `=` so far, where 3 means 3 or more.
     pub padding: u8,
@@ -39,7 +39,7 @@ pub struct DataUrlBase64 {
 #[repr(C)]
 #[derive(Clone, Copy)]
 pub struct DataUrlFed {
-    /// How the call ended: 0 if the part was taken.
+    /// How the call ended: 0 if the part has no fault.
     pub status: u32,
     /// How many bytes were written to the front of the output.
     pub len: usize,
@@ -51,20 +51,20 @@ pub struct DataUrlFed {
 #[repr(C)]
 #[derive(Clone, Copy)]
 pub struct DataUrlStep {
-    /// How the call ended: 0 if all was done.
+    /// How the call ended: 0 if it succeeded.
     pub status: u32,
     /// How many bytes were written to the front of the output.
     pub len: usize,
 }
 
-/// A state with nothing waiting.
+/// A state with nothing left over.
 pub(crate) const START: DataUrlBase64 = DataUrlBase64 {
     symbols: [0; 3],
     pending: 0,
     padding: 0,
 };
 
-/// A state that every later call refuses.
+/// A state that every later call rejects.
 pub(crate) const SPENT: DataUrlBase64 = DataUrlBase64 {
     symbols: [0; 3],
     pending: 255,
@@ -78,7 +78,7 @@ fn is_symbol_byte(byte: u8) -> bool
     byte.is_ascii_alphanumeric() | (byte == b'+') | (byte == b'/')
 }
 
-/// Returns whether a call may have left the state.
+/// Returns whether a call can have returned the state.
 pub(crate) fn is_good(state: &DataUrlBase64) -> bool
     ensures { result ≡ is_good_state state.now }
 {
@@ -93,7 +93,7 @@ pub(crate) fn is_good(state: &DataUrlBase64) -> bool
         .all(|byte| is_symbol_byte(*byte))
 }
 
-/// Returns the text of what waits, at the front of an array, and its length.
+/// Returns what is left over, as a text at the start of an array, and its length.
 fn waiting_text(state: &DataUrlBase64) -> ([u8; 6], usize)
     requires { is_good_state state.now ≡ true }
     ensures within { result.1 ≤ 6 }
@@ -105,7 +105,7 @@ fn waiting_text(state: &DataUrlBase64) -> ([u8; 6], usize)
     (text, pending + usize::from(state.padding))
 }
 
-/// Calls a closure with the bytes of the groups that a text completes after what waits, up to the first fault.
+/// Calls a closure with the bytes of the groups that what is left over and then a text complete, up to the first fault.
 fn feed_into<F>(
     state: &DataUrlBase64,
     text: &[u8],
@@ -125,7 +125,7 @@ where
     }
 }
 
-/// Returns the status of the first fault of what waits and then a text, which has one.
+/// Returns the status of the first fault of what is left over and then a text, which has one.
 fn fault_status(state: &DataUrlBase64, text: &[u8]) -> u32
     requires good { is_good_state state.now ≡ true }
     requires fault { is_some (first_fault (waiting_text state.now ++ text.now)) ≡ true }
@@ -146,7 +146,7 @@ fn fault_status(state: &DataUrlBase64, text: &[u8]) -> u32
     PADDING
 }
 
-/// Returns the status of what waits as a whole text, which is not valid.
+/// Returns the status of what is left over as a whole text, which is not valid.
 fn end_status(state: &DataUrlBase64) -> u32
     requires { is_good_state state.now ≡ true }
     ensures { result ≡ status_of_kind (kind_of (waiting_text state.now)) }
@@ -158,7 +158,7 @@ fn end_status(state: &DataUrlBase64) -> u32
     }
 }
 
-/// Writes the bytes of the groups that what waits and then a text complete, up to the first fault.
+/// Writes the bytes of the groups that what is left over and then a text complete, up to the first fault.
 fn decode_groups(state: &DataUrlBase64, text: &[u8], out: &mut [u8]) -> DataUrlStep
     requires good { is_good_state state.now ≡ true }
     requires room { 3 * (state.now.pending + length text.now) ≤ 4 * length out.old }
@@ -199,7 +199,7 @@ fn padding_count(text: &[u8]) -> usize
     count
 }
 
-/// Returns the symbols that are left over after the groups of what waits and then a text, `count` of them.
+/// Returns the `count` symbols after the groups of what is left over and then a text.
 fn last_symbols(state: &DataUrlBase64, text: &[u8], count: usize) -> [u8; 3]
     requires few { count ≤ 3 }
     requires good { is_good_state state.now ≡ true }
@@ -220,7 +220,7 @@ fn last_symbols(state: &DataUrlBase64, text: &[u8], count: usize) -> [u8; 3]
     symbols
 }
 
-/// Returns what waits after a text, by counting its symbols and its padding.
+/// Returns what is left over after a text, by counting its symbols and its padding.
 fn counted_after(state: &DataUrlBase64, text: &[u8]) -> DataUrlBase64
     requires good { is_good_state state.now ≡ true }
     ensures { IsLeftOf (waiting_text state.now ++ text.now) result }
@@ -234,7 +234,8 @@ fn counted_after(state: &DataUrlBase64, text: &[u8]) -> DataUrlBase64
     }
 }
 
-/// Returns what waits after a text whose groups gave `len` bytes. Where these took each byte of it, nothing waits.
+/// Returns what is left over after a text whose groups have `len` bytes. If each byte of the text is in these groups,
+/// nothing is left over.
 fn left_after(state: &DataUrlBase64, text: &[u8], len: usize) -> DataUrlBase64
     requires good { is_good_state state.now ≡ true }
     requires sound { first_fault (waiting_text state.now ++ text.now) ≡ None }
@@ -267,8 +268,8 @@ fn feed_part(state: &mut DataUrlBase64, text: &[u8], out: &mut [u8]) -> DataUrlS
     step
 }
 
-/// Feeds a text that its output has room for, a long one in two steps: of a text of symbols alone, the first takes whole
-/// groups, so that nothing waits after it and nothing has to be counted.
+/// Feeds a text that its output has room for, a long one in two steps. If the text has only symbols, the first step
+/// feeds whole groups, so that nothing is left over after it and nothing has to be counted.
 pub(crate) fn feed_text(state: &mut DataUrlBase64, text: &[u8], out: &mut [u8]) -> DataUrlStep
     requires good { is_good_state state.old ≡ true }
     requires room { 3 * (state.old.pending + length text.now) ≤ 4 * length out.old }
@@ -290,7 +291,7 @@ pub(crate) fn feed_text(state: &mut DataUrlBase64, text: &[u8], out: &mut [u8]) 
     }
 }
 
-/// Feeds a part of a text. Of an output that is too short for the whole part, as much is read as surely fits.
+/// Feeds a part of a text. If the output is too short for the whole part, reads as much as surely fits.
 pub(crate) fn feed(state: &mut DataUrlBase64, input: &[u8], out: &mut [u8]) -> DataUrlFed
     ensures { FeedsPart state.old state.new input.now out.old out.new result }
 {
@@ -325,7 +326,7 @@ pub(crate) struct Last {
     pub(crate) len: usize,
 }
 
-/// Returns the last bytes of what waits, or the status of its fault.
+/// Returns the last bytes of what is left over, or the status of its fault.
 pub(crate) fn last_bytes(state: &DataUrlBase64) -> Last
     requires { is_good_state state.now ≡ true }
     ensures { IsLast (waiting_text state.now) result }

@@ -1,4 +1,4 @@
-//! What the calls take of texts: data: URLs and MIME types.
+//! What the exports need of texts: data: URLs and MIME types.
 
 ghost use Rattle.std.specs.Prelude.{◌+◌, ◌≡◌, IsUtf8, MatchOption, length};
 ghost use Rattle.std.specs.Fn.{CalledAt};
@@ -14,7 +14,7 @@ use data_url::{DataUrl, DataUrlError};
 use std::alloc::{AllocError, Global};
 use std::convert::Infallible;
 
-/// The text of bytes, where they are UTF-8.
+/// The text of bytes, if they are UTF-8.
 pub(crate) fn text_of(bytes: &[u8]) -> Option<&str>
     ensures { MatchOption result (IsUtf8 bytes.now → ⊥) (λ text. IsUtf8 bytes.now
         × (text.now ≡ bytes.now)) }
@@ -65,7 +65,7 @@ where
     write
 }
 
-/// The body of a URL, or the fault of its base64 with the bytes before it.
+/// The body of a URL; if its base64 is not valid, the bytes before the fault and its kind.
 pub(crate) fn bytes_of(alloc: Global, url: &DataUrl) -> Result<Vec<u8>, Refusal>
     ensures { HasBody (url_body url.now) result }
 {

@@ -1,4 +1,4 @@
-//! Windows: parts of a tail that are decoded one after another, and where a tail may be cut.
+//! Windows: parts of a tail that are decoded one after another, and where a tail can be cut.
 
 ghost use Rattle.std.specs.Prelude.{◌≡◌, ◌+◌, ◌-◌, ◌<◌, ◌≤◌, ℕ, MatchOption, drop, length, slice_index, take, true};
 ghost use Rattle.std.specs.Str.{IsCharBoundary};
@@ -12,7 +12,7 @@ fn is_tab_or_newline(byte: u8) -> bool
     byte == b'\t' || byte == b'\n' || byte == b'\r'
 }
 
-/// Returns whether a text may be cut at a place: at its end, or before the first byte of a character.
+/// Returns whether a text can be cut at a place: at its end, or before the first byte of a character.
 pub(crate) fn is_edge(text: &[u8], at: usize) -> bool
     ensures { HoldsEdge text.now at result }
 {
@@ -23,7 +23,7 @@ pub(crate) fn is_edge(text: &[u8], at: usize) -> bool
     byte < 128 || byte >= 192
 }
 
-/// Returns the last place up to `end` where a text may be cut, or `from`.
+/// Returns the last place up to `end` where a text can be cut, or `from`.
 fn last_edge(text: &[u8], from: usize, end: usize) -> usize
     requires order { from ≤ end }
     requires within { end ≤ length text.now }
@@ -80,7 +80,7 @@ fn escape_end(text: &[u8]) -> usize
 }
 
 /// Returns where a window of a tail ends that begins at a place: its body fits the limit, and no escape goes on after
-/// it. A window that ends where it begins is of a tail that is not UTF-8, or at its end.
+/// it. If the window is empty, the tail is not UTF-8, or the window is at its end.
 pub(crate) fn window_end(tail: &[u8], from: usize, limit: usize) -> usize
     requires edge { IsCharBoundary tail.now from }
     requires limit { 4 ≤ limit }

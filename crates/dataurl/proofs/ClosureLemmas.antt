@@ -1,4 +1,4 @@
--- What is handed to a closure that gathers its pieces.
+-- What a closure that gathers its pieces is called with.
 use Rattle.std.proofs.Common.{◌≡◌, ℕ, List, [], ◌++◌, Option, None, Some, Result, Ok, Err, sym, ◌∙◌, subst}
 use Rattle.std.specs.Prelude.{MatchOption}
 use Rattle.std.proofs.lemmas.List.{append-nil}
@@ -20,7 +20,7 @@ use Rattle.dataurl.proofs.OutputLemmas.{appends_then, beginning_after, beginning
 
 -- Outputs
 
--- of an output so much was written, and then what waited was flushed
+-- a part of an output was written, and then the buffer
 pub output_flushed : (P : List ℕ → End → Type 0) (bytes after w k : List ℕ) (good end : End) → P bytes good
     → bytes ≡ w ++ after → IsFlushed after good k end → IsStreamed P (w ++ k) end
 output_flushed P bytes after w k good end p e flushed = let Q : List ℕ → Type 0 = λ s. P s good in
@@ -29,7 +29,7 @@ output_flushed P bytes after w k good end p e (not_flushed b) =
     let Q : List ℕ → Type 0 = λ s. IsProperPrefix (w ++ k) s in
     cut_short p (subst Q (sym e) (beginning_after w k after b))
 
--- a write failed before that
+-- a write failed before the end
 pub output_stopped : (P : List ℕ → End → Type 0) (whole w k : List ℕ) (whole_end end : End) → P whole whole_end
     → IsProperPrefix w whole → k ≡ [] → end ≡ Err Write → IsStreamed P (w ++ k) end
 output_stopped P whole w k whole_end end p b e q =
@@ -72,7 +72,7 @@ body_ended (Some failed) body bytes after w k r end h b s =
 module _ {F : Type 0} (step : F → List ℕ → Result (Unit {0}) WriteFailed → F → Type 0) (holds : F → Option (List ℕ))
     (waits : F → List ℕ) (gathers : (p : F) (piece : List ℕ) (s : Result (Unit {0}) WriteFailed) (q : F)
     → step p piece s q → Gathers piece (waits p) (waits q) (holds p) (holds q) s) where
-  -- pieces that were gathered by a closure with nothing waiting before, and settled
+  -- pieces that a closure with an empty buffer gathered, and the end of the output
   streams_by : (P : List ℕ → End → Type 0) (cs : List (Call F WriteFailed)) (f g : F)
       (r : Result (Unit {0}) (DecodeError WriteFailed)) (now : Option (List ℕ)) (end : End) → IsRun step f cs g
       → waits f ≡ [] → Settles r (waits g) (holds g) now end
@@ -104,7 +104,7 @@ module _ {F : Type 0} {step : F → List ℕ → Result (Unit {0}) WriteFailed �
 
 module _ {F : Type 0} {step : F → List ℕ → Result (Unit {0}) WriteFailed → F
     → Type 0} {f g : F} {r : Result (Unit {0}) (DecodeError WriteFailed)} where
-  -- what each call keeps, all of them keep
+  -- what each call preserves, all calls preserve
   pub body_keeps : {B : Type 0} {most : ℕ} {body : Outcome} → Decodes step f most body AnyAnswer r g → (kept : F → B)
       → ((p : F) (piece : List ℕ) (s : Result (Unit {0}) WriteFailed) (q : F) → step p piece s q → kept p ≡ kept q)
       → kept f ≡ kept g

@@ -20,7 +20,7 @@ no_word s body mime fragment type base64 =
     ∙ cond-false _ _ _ (test_from_different s (codes "type") type)
     ∙ cond-false _ _ _ (test_from_different s (codes "base64") base64)
 
--- one word that is none of the commands'
+-- one word that is not the word of a command
 pub no_command : {A : Type 0} (words : List (String A)) (w : String A) (s : List ℕ) → 1 ≤ length words
     → length words < 2 → w ≡ get_or words 0 w → s ≡ string_bytes w → (s ≡ codes "body" → ⊥) → (s ≡ codes "mime" → ⊥)
     → (s ≡ codes "fragment" → ⊥) → (s ≡ codes "type" → ⊥) → (s ≡ codes "base64" → ⊥)

@@ -117,7 +117,7 @@ text_not_read {c} {unread} {left} {fault} held t h =
           unread_run c left h.input (Err fault) fault t refl h.is_read;
     }
 
--- every command but base64 takes a text
+-- every command except base64 takes a text
 pub takes_text : (c : Command) → c ≢ Base64 → TakesText c
 takes_text Body other = tt
 takes_text MimeType other = tt

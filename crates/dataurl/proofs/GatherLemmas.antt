@@ -1,4 +1,4 @@
--- Gathering the pieces of an output, and runs of a closure that does.
+-- Gathering the pieces of an output, and runs of a closure that gathers them.
 use Rattle.std.proofs.Common.{◌≡◌, ℕ, List, [], ◌∷◌, ◌++◌, take, Option, None, Some, Result, Ok, Err, refl, sym, ap}
 use Rattle.std.proofs.Common.{◌∙◌, append_assoc, subst}
 use Rattle.std.specs.Prelude.{IsErr, MatchOption, MatchResult}
@@ -28,7 +28,7 @@ by_one before piece w k after (Err failed) e z h =
     let P : List ℕ → Type 0 = λ s. IsProperPrefix (w ++ k) (s ++ piece) in
     subst P e (beginning_after w k piece (written_some piece k (Err failed) failed refl h))
 
--- what waited was written, and then the piece as it is; nothing waits now
+-- the buffer was written, and then the piece; the buffer is empty now
 pub gathers_long : {before piece : List ℕ} {a b d : Option (List ℕ)} {r : Result (Unit {0}) WriteFailed} (n : ℕ)
     (bytes : List ℕ) → n ≡ 0 → Writes before a b (Ok tt) → Writes piece b d r
     → Gathers piece before (take n bytes) a d r
@@ -39,7 +39,7 @@ gathers_long {before} {piece} {a} {b} {d} {r} n bytes z w k = record {
       (written_all before w.written (Ok tt) refl w.is_written) (ap (λ m. take m bytes) z) k.is_written;
 }
 
--- what waited was not written whole
+-- the buffer was not written completely
 pub gathers_none : {before piece : List ℕ} {a b : Option (List ℕ)} {failed : WriteFailed} (after : List ℕ)
     → Writes before a b (Err failed) → Gathers piece before after a b (Err failed)
 gathers_none {before} {piece} {failed = failed} after w = record {
@@ -74,8 +74,8 @@ flushes_some {bytes} {failed = failed} end w = record {
 
 -- Runs
 
--- what was made of the pieces of a run: all was written or waits, in order; or one was refused, and a beginning of them
--- was written
+-- the pieces of a run: all of them were written or are in the buffer, in order; or a call returned an error, and a
+-- prefix of them was written
 pub record RunGathers (held now : Option (List ℕ)) (before after bytes : List ℕ) (refused : Option WriteFailed) : Type 0
   where
     pub written : List ℕ

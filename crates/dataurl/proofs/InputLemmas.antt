@@ -32,7 +32,7 @@ pub reads_all : (old new : Option (List ℕ)) (bytes : Vec ℕ Global) → Consu
     → ReadsAll old new (Ok bytes)
 reads_all old new bytes c e = record { input = bytes.items; consumed = c; is_read = whole refl e }
 
--- a read that took nothing is the end
+-- a read of no bytes means that the input ended
 pub reads_end : (old now new : Option (List ℕ)) (bytes : Vec ℕ Global) (n : ℕ) (buf : List ℕ) → n ≡ 0 → 0 < length buf
     → Consumes old now bytes.items → Consumes now new (take n buf) × (n ≡ 0 → 0 < length buf → IsAtEnd new)
     → ReadsAll old new (Ok bytes)

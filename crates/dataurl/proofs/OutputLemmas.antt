@@ -25,7 +25,7 @@ appends_kept (Some p) None c x h k = absurd h
 appends_kept (Some p) (Some q) None x h k = absurd k
 appends_kept (Some p) (Some q) (Some r) x h k = k ∙ h
 
--- so much of the bytes was written, and the rest is not yet
+-- a part of the bytes was written, and the rest is not written yet
 pub record Going (bytes rest : List ℕ) (old now : Option (List ℕ)) : Type 0 where
   pub written : List ℕ
   pub appended : Appends old now written
@@ -60,7 +60,7 @@ going_fails bytes rest old now new failed some k g =
           beginning (rest, g.joined, some);
     }
 
--- nothing was taken
+-- nothing was written
 pub going_stops : (bytes rest : List ℕ) (n : ℕ) (old now new : Option (List ℕ)) (failed : WriteFailed) → n ≡ 0
     → 0 < length rest → Appends now new (take n rest) → Going bytes rest old now → Writes bytes old new (Err failed)
 going_stops bytes rest n old now new failed z some a g =
@@ -74,14 +74,14 @@ pub to_the_end : (n : ℕ) (s t : List ℕ) → t ≡ s → take (length t - n) 
 to_the_end n s t e = ap (λ k. take (k - n) (drop n s)) (ap length e)
     ∙ take_all (length s - n) (drop n s) (le_of_eq (length-drop n s))
 
--- Beginnings
+-- Proper prefixes
 
--- what is a beginning, and not all, of a beginning is so of the whole
+-- a proper prefix of a prefix is a proper prefix of the whole
 pub beginning_of : (xs ys zs : List ℕ) → IsProperPrefix xs ys → IsPrefix ys zs → IsProperPrefix xs zs
 beginning_of xs ys zs b p =
     (b.0 ++ p.0, p.1 ∙ ap (λ s. s ++ p.0) b.1 ∙ append_assoc xs b.0 p.0, omega (arith, b.2, length-append b.0 p.0))
 
--- behind other bytes it is one too
+-- after the same bytes it is a proper prefix too
 pub beginning_after : (front xs ys : List ℕ) → IsProperPrefix xs ys → IsProperPrefix (front ++ xs) (front ++ ys)
 beginning_after front xs ys b = (b.0, ap (λ s. front ++ s) b.1 ∙ sym (append_assoc front xs b.0), b.2)
 

@@ -33,7 +33,7 @@ written_map f w e (whole_output h) = whole_output (f w e h)
 written_map f w e (cut_output {whole = whole} {end = end} h p) = cut_output (f whole end h) p
 written_map f w e no_output = no_output
 
--- what was written of an output is so of what that output means
+-- if one description of an output implies another, what was written of it is the same by both
 pub writes_map : {P Q : List ℕ → End → Type 0} {held now : Option (List ℕ)} {r : End}
     → ((w : List ℕ) (e : End) → P w e → Q w e) → WritesOf P held now r → WritesOf Q held now r
 writes_map {r = r} f h = record {
@@ -47,7 +47,7 @@ streamed_written : {P : List ℕ → End → Type 0} (w : List ℕ) (e : End) �
 streamed_written w e (all_streamed h) = whole_output h
 streamed_written w e (cut_short h b) = cut_output h b
 
--- what was streamed of an output was written of it
+-- an output that was streamed was written
 pub writes_streamed : {P : List ℕ → End → Type 0} {held now : Option (List ℕ)} {r : End} → Streams P held now r
     → WritesOf P held now r
 writes_streamed {r = r} h = record {

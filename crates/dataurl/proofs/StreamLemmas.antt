@@ -1,4 +1,4 @@
--- Base64 that is decoded as it is read: the clause of `run` for the command `base64`.
+-- Base64 that is decoded as it is read, for the contract of `run` with the command `base64`.
 use Rattle.std.proofs.Common.{◌≡◌, ◌≤◌, ◌⊎◌, inl, inr, ℕ, Bool, true, false, cond, List, [], ◌++◌, length, Option, None}
 use Rattle.std.proofs.Common.{Some, is_some, Result, Ok, Err, refl, sym, ap, ◌∙◌, subst, arith}
 use Rattle.std.specs.Io.KnownBytes.{Appends, Consumes, IsAtEnd, Keeps}
@@ -29,7 +29,7 @@ use Rattle.dataurl.proofs.OutputLemmas.{appends_then, beginning_after, beginning
 -- Reading
 
 module _ {F : Type 0} (step : F → List ℕ → Result (Unit {0}) WriteFailed → F → Type 0) where
-  -- what was read so far has no fault, and the decoder was fed it
+  -- what was read so far has no fault, and was fed to the decoder
   pub record Reading (f : F) (unread now : Option (List ℕ)) (d : State F) : Type 0 where
     pub input : List ℕ
     pub consumed : Consumes unread now input
@@ -51,7 +51,7 @@ module _ {F : Type 0} (step : F → List ℕ → Result (Unit {0}) WriteFailed �
       fed = feeds_then step h.fed more;
     }
 
-    -- a piece with a fault, or whose bytes the closure refused
+    -- a piece with a fault, or for whose bytes the closure returned an error
     pub reading_stops : {d' : State F} {g : F} {error : DecodeError WriteFailed} (piece : List ℕ)
         → Reading f unread now d → Consumes now left piece → length piece ≤ 4096
         → Feeds step d piece (Err error) d' → g ≡ d'.closure
@@ -95,9 +95,9 @@ module _ {F : Type 0} (step : F → List ℕ → Result (Unit {0}) WriteFailed �
     is_decoded = not_read (record { state = d; fed = h.fed; closure_is = sym e });
   }
 
--- Results: w was written before the last flush, and k by it
+-- Results: w was written before the last flush, and k by the last flush
 
--- all that was read is sound
+-- all the base64 that was read has no fault
 sound_of : (x : List ℕ) → first_fault x ≡ None → IsSoundBeforeLastPiece x
 sound_of x n = record { earlier = x; last = []; joined = sym (append-nil x); is_sound = n; is_piece = omega arith }
 
@@ -123,7 +123,7 @@ flush_stops x left after w k last end sound p e (not_flushed b) =
     let P : List ℕ → Type 0 = λ s. IsProperPrefix (w ++ k) s in
     base64_not_written sound (subst P (sym e) (beginning_after w k after b))
 
--- the output of a text without a fault, by whether it is valid
+-- the output for a text without a fault, for a valid one and for one that is not
 whole_output : (x : List ℕ) (v : Bool) → is_valid x ≡ v → first_fault x ≡ None
     → (end : End) × IsOutput x base64 (cond v (decoded x) (complete_bytes x)) end
 whole_output x true v n = (Ok tt, of_base64 v)
@@ -142,7 +142,7 @@ finished_ends x left bytes after w k r end false v over n h e s =
     flush_ends x left (complete_bytes x) after w k (Err (Base64 (kind_of x))) end over (of_no_base64 n v) (sym h.0 ∙ e)
     (subst P h.1 s)
 
--- a closure that refused ends with a failed write: what was written is less than all
+-- if the closure returned an error, a write failed: the bytes written are a proper prefix
 refused_write : {all bytes : List ℕ} (after w k : List ℕ) (r : Result (Unit {0}) (DecodeError WriteFailed)) (end : End)
     (failed : WriteFailed) → IsRefused all bytes failed r → IsProperPrefix w bytes → IsSettled r after k end
     → IsProperPrefix (w ++ k) all × (end ≡ Err Write)
@@ -213,7 +213,7 @@ module _ {F : Type 0} {step : F → List ℕ → Result (Unit {0}) WriteFailed �
   unread_fed e (stopped sound d) = absurd (let k = e in cc)
   unread_fed e (not_read d) = d
 
-  -- what each call keeps, all of them keep
+  -- what each call preserves, all calls preserve
   decoded_keeps : {B : Type 0} {f : F} {x : List ℕ} {left : Option (List ℕ)} {ended : Ended} {g : F} (kept : F → B)
       → ((p : F) (piece : List ℕ) (s : Result (Unit {0}) WriteFailed) (q : F) → step p piece s q → kept p ≡ kept q)
       → IsDecoded step f x left ended g → kept f ≡ kept g
@@ -229,7 +229,7 @@ module _ {F : Type 0} {step : F → List ℕ → Result (Unit {0}) WriteFailed �
       → kept f ≡ kept g
   reader_keeps d kept keeps = decoded_keeps kept keeps d.is_decoded
 
-  -- pieces that were gathered by a closure with nothing waiting before, and then a last flush
+  -- pieces that a closure with an empty buffer gathered, and then the last flush
   runs_by : {f g : F} {unread left now : Option (List ℕ)} {end : End} (holds : F → Option (List ℕ)) (waits : F → List ℕ)
       → ((p : F) (piece : List ℕ) (s : Result (Unit {0}) WriteFailed) (q : F) → step p piece s q
       → Gathers piece (waits p) (waits q) (holds p) (holds q) s)
@@ -251,7 +251,7 @@ module _ {F : Type 0} {step : F → List ℕ → Result (Unit {0}) WriteFailed �
         is_run = ends w.written (subst Q e w.took);
       }
 
-  -- the input was decoded as far as it was read
+  -- the input that was read was decoded
   pub decoded_runs : {f g : F} {unread left now : Option (List ℕ)} {ended : Ended} {end : End}
       {r : Result (Unit {0}) (DecodeError WriteFailed)}
       → DecodesReader step f unread left ended g → ended ≡ Decoded r

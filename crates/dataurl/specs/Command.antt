@@ -13,7 +13,7 @@ command_of_word word = if bytes_eq word (codes "body") then Some Body
     else if bytes_eq word (codes "base64") then Some Base64
     else None
 
--- the command of the words behind the program's name: there has to be exactly one
+-- the command of the words after the program's name: there has to be exactly one word
 abbrev pub command_of_words : List (List ℕ) → Option Command
 command_of_words [] = None
 command_of_words (word ∷ []) = command_of_word word

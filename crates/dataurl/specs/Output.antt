@@ -1,4 +1,4 @@
--- What each command writes of an input, and how it ends.
+-- What each command writes for an input, and how it ends.
 use Rattle.std.specs.Prelude.{[], ◌++◌, ◌∷◌, ◌≡◌, Err, IsUtf8, List, None, Ok, Option, Result, Some, chars, encode_utf8_all, false, true, ℕ}
 use Rattle.data_url.specs.Base64.{decoded, complete_bytes, first_fault, is_valid, kind_of}
 use Rattle.data_url.specs.Fetch.{Accepted, Bad, Good, NoComma as no_comma, NoScheme, Outcome, staged}
@@ -13,21 +13,21 @@ use Rattle.dataurl.specs.declared.fault.Fault.{Fault}
 abbrev pub End : Type 0
 End = Result (Unit {0}) Fault
 
--- a body's bytes, or those before a fault of its base64 and then that fault
+-- the bytes of a body; or, if its base64 is not valid, the bytes before the fault, and that fault
 pub data IsBodyOutput : Outcome → List ℕ → End → Type 0 where
   good_body : {bytes : List ℕ} → IsBodyOutput (Good bytes) bytes (Ok tt)
   bad_body : {bytes : List ℕ} {kind : _} → IsBodyOutput (Bad bytes kind) bytes (Err (Base64 kind))
 
--- a record's printed text, as UTF-8, and a line feed
+-- a serialised record, as UTF-8, and a line feed
 abbrev pub record_line : Record → List ℕ
 record_line m = encode_utf8_all (printed m) ++ 10 ∷ []
 
--- the line of the record of a URL's header text
+-- the line of the MIME type of a URL
 pub data IsRecordOutput (text : List ℕ) : List ℕ → End → Type 0 where
   record_of_url : {m : Record} → IsRecordOf text m → IsRecordOutput text (record_line m) (Ok tt)
 
--- the encoded fragment and a line feed, or nothing where there is none; of a body whose base64 has
--- a fault nothing, and the fault
+-- the encoded fragment and a line feed, or nothing if there is no fragment; if the base64 of the body
+-- is not valid, nothing, and its fault
 pub data IsFragmentOutput : Outcome → Option (List ℕ) → List ℕ → End → Type 0 where
   some_fragment : {bytes fragment : List ℕ}
       → IsFragmentOutput (Good bytes) (Some fragment) (fragment ++ 10 ∷ []) (Ok tt)
@@ -35,12 +35,12 @@ pub data IsFragmentOutput : Outcome → Option (List ℕ) → List ℕ → End �
   fragment_of_bad : {bytes : List ℕ} {kind : _} {fragment : Option (List ℕ)}
       → IsFragmentOutput (Bad bytes kind) fragment [] (Err (Base64 kind))
 
--- the line of the record of a text of code points, or nothing where it has none
+-- the line of the MIME type that a text is, or nothing if it is not a MIME type
 pub data IsTypeOutput (text : List ℕ) : List ℕ → End → Type 0 where
   record_of_text : {m : Record} → Parses text m → IsTypeOutput text (record_line m) (Ok tt)
   without_record : HasNoRecord text → IsTypeOutput text [] (Err Mime)
 
--- of a text: by what the staged Standard makes of it, or by its MIME type
+-- the output for a text, from the result of the data: URL processor or from its MIME type
 pub data IsTextOutput (x : List ℕ) : Command → List ℕ → End → Type 0 where
   without_scheme : {c : Command} → TakesUrl c → staged x ≡ NoScheme
       → IsTextOutput x c [] (Err NotADataUrl)
@@ -58,7 +58,7 @@ pub data IsTextOutput (x : List ℕ) : Command → List ℕ → End → Type 0 w
   type_of : {written : List ℕ} {end : End} → IsTypeOutput (chars x) written end
       → IsTextOutput x Canonical written end
 
--- of any input; one of base64 with a fault is not read to its end, so that it has no whole output
+-- the output for a whole input. Base64 with a fault is not read to its end, so there is no case for it.
 pub data IsOutput (x : List ℕ) : Command → List ℕ → End → Type 0 where
   of_text : {c : Command} {written : List ℕ} {end : End} → IsUtf8 x → IsTextOutput x c written end
       → IsOutput x c written end

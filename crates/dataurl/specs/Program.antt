@@ -7,8 +7,8 @@ use Rattle.dataurl.specs.Status.{status_of, status_of_end}
 use Rattle.dataurl.specs.declared.command.Command.{Command}
 use Rattle.dataurl.specs.declared.fault.Fault.{Fault}
 
--- the words could not be read; or they name no command; or the command ran, and its end has the
--- status. What the reader has left and the writer took stays as it was but where a command runs
+-- the words could not be read; or they name no command; or the command ran, and the status is that of
+-- its end. Only a command reads from the reader and writes to the writer.
 pub data Executes (unread left held now : Option (List ℕ))
     : Result (Vec (String Global) Global) Fault → ℕ → Type 0 where
   without_words : {fault : Fault} → left ≡ unread → now ≡ held

@@ -4,7 +4,7 @@ use Rattle.dataurl.specs.Output.{End}
 use Rattle.dataurl.specs.declared.fault.Fault.TheVariants.{Base64, Memory, Mime, NoComma, NotADataUrl, NotUtf8, Read, Write}
 use Rattle.dataurl.specs.declared.fault.Fault.{Fault}
 
--- 1 for what is wrong with the input, 3 for what is wrong with the machine
+-- 1 for an error in the input; 3 if reading, writing or allocation failed
 abbrev pub status_of : Fault → ℕ
 status_of NotADataUrl = 1
 status_of NoComma = 1
@@ -15,7 +15,7 @@ status_of Memory = 3
 status_of Read = 3
 status_of Write = 3
 
--- 0 where all was done
+-- 0 if the command succeeded
 abbrev pub status_of_end : End → ℕ
 status_of_end (Ok x) = 0
 status_of_end (Err fault) = status_of fault

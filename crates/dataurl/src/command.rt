@@ -3,7 +3,7 @@
 ghost use Rattle.std.specs.Prelude.{◌≡◌, map, string_bytes};
 ghost use Rattle.dataurl.specs.Command.{command_of_words};
 
-/// What the program is told to do with standard input.
+/// What the program does with standard input.
 #[derive(Clone, Copy)]
 pub enum Command {
     /// `body`: writes the body of a data: URL.
@@ -12,7 +12,7 @@ pub enum Command {
     MimeType,
     /// `fragment`: writes the encoded fragment of a data: URL, and a line feed.
     Fragment,
-    /// `type`: writes a MIME type as it is printed, and a line feed.
+    /// `type`: writes a serialised MIME type, and a line feed.
     Canonical,
     /// `base64`: writes the bytes of forgiving base64.
     Base64,

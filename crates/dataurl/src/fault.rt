@@ -1,4 +1,4 @@
-//! Why a command ended early, and what is said of it.
+//! Why a command ended early, and the message for it.
 
 ghost use Rattle.std.specs.Prelude.{◌≡◌};
 ghost use Rattle.dataurl.specs.Status.{status_of};
@@ -19,29 +19,29 @@ pub enum Fault {
     /// The base64 of the input is not valid.
     #[error("base64 not valid: {0}")]
     Base64(InvalidBase64),
-    /// The input is no MIME type.
+    /// The input is not a MIME type.
     #[error("invalid mime type")]
     Mime,
     /// The input is not UTF-8.
     #[error("input is not UTF-8")]
     NotUtf8,
-    /// Memory was refused.
+    /// Allocation failed.
     #[error("out of memory")]
     Memory,
     /// Standard input could not be read.
     #[error("read failed")]
     Read,
-    /// Standard output did not take all.
+    /// Standard output could not be written.
     #[error("write failed")]
     Write,
 }
 
-/// A writer did not take all that it was given.
+/// A write failed, or wrote nothing.
 #[derive(Clone, Copy)]
 pub(crate) struct WriteFailed;
 
 impl Fault {
-    /// The exit status: 1 for what is wrong with the input, 3 for what is wrong with the machine.
+    /// The exit status: 1 if the input is not valid, 3 if allocation, a read or a write failed.
     fn status(&self) -> u8
         ensures { result ≡ status_of self.now }
     {
@@ -63,7 +63,7 @@ pub fn report<W: Write>(fault: &Fault, writer: &mut W) -> u8
 }
 
 /// Writes the line on how to call the program and returns the exit status 2. Nothing is allocated, and a failed write is
-/// passed over.
+/// ignored.
 pub fn usage<W: Write>(writer: &mut W) -> u8
     ensures { result ≡ 2 }
 {

@@ -7,10 +7,10 @@ use crate::output::write_all;
 use data_url::forgiving_base64::DecodeError;
 use std::io::Write;
 
-/// The most bytes that wait to be written.
+/// The size of the buffer, in bytes.
 pub(crate) const ROOM: usize = 4096;
 
-/// The bytes of an output that were gathered and are not written yet.
+/// A buffer with the bytes of an output that are not written yet.
 #[derive(Drop)]
 pub(crate) struct Gathered {
     bytes: [u8; ROOM],
@@ -23,7 +23,7 @@ impl Gathered {
     ghost use Rattle.dataurl.specs.Steps.Gathering.{Flushes, Gathers, Settles, waiting_bytes};
     ghost use Rattle.dataurl.specs.Steps.Writing.{Writes};
 
-    /// Nothing is gathered yet.
+    /// An empty buffer.
     pub(crate) fn new() -> Gathered
         ensures { waiting_bytes result ≡ [] }
     {
@@ -33,7 +33,7 @@ impl Gathered {
         }
     }
 
-    /// Gathers a piece that fits after what waits.
+    /// Appends a piece that fits to the buffer.
     fn push(&mut self, piece: &[u8])
         requires { self.old.len + length piece.now ≤ 4096 }
         ensures { waiting_bytes self.new ≡ waiting_bytes self.old ++ piece.now }
@@ -43,7 +43,7 @@ impl Gathered {
         self.len = end;
     }
 
-    /// Writes what waits. A write that fails is not tried again.
+    /// Writes the bytes in the buffer. A write that fails is not tried again.
     fn flush<W: Write>(&mut self, writer: &mut W) -> Result<(), WriteFailed>
         ensures wrote { Writes (waiting_bytes self.old)
             (W.contents writer.old) (W.contents writer.new) result }
@@ -54,8 +54,8 @@ impl Gathered {
         write_all(writer, &self.bytes[..len])
     }
 
-    /// Takes a piece of an output: one that fits is gathered. Before any other is taken, what waits is written, and a
-    /// piece at least as long as the room goes to the writer as it is.
+    /// Adds a piece of an output. If it fits, it is appended to the buffer. Otherwise the buffer is written first; a
+    /// piece that is at least as long as the buffer is then written directly.
     pub(crate) fn take<W: Write>(&mut self, piece: &[u8], writer: &mut W) -> Result<(), WriteFailed>
         ensures { Gathers piece.now (waiting_bytes self.old) (waiting_bytes self.new)
             (W.contents writer.old) (W.contents writer.new) result }
@@ -74,7 +74,7 @@ impl Gathered {
         }
     }
 
-    /// Writes what waits, and then returns the end.
+    /// Writes the bytes in the buffer, and then returns the end.
     pub(crate) fn flush_before<W: Write>(
         &mut self,
         end: Result<(), Fault>,
@@ -89,7 +89,7 @@ impl Gathered {
         }
     }
 
-    /// Ends an output that was decoded with this answer: what waits is written first, and nothing after a failed write.
+    /// Ends an output that was decoded with this result: the buffer is written first, but nothing after a failed write.
     pub(crate) fn settle<W: Write>(
         &mut self,
         answer: Result<(), DecodeError<WriteFailed>>,

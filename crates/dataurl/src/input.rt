@@ -6,11 +6,11 @@ use crate::fault::Fault;
 use std::alloc::Global;
 use std::io::Read;
 
-/// The most bytes that are asked for at a time.
+/// The greatest number of bytes that are read at a time.
 pub(crate) const PIECE: usize = 4096;
 
-/// All the bytes that a reader has left. No failed read is tried again; a reader without an end is given up after
-/// 2^64 - 1 reads.
+/// All the bytes that a reader has left. A failed read is not tried again. If the reader has no end after 2^64 - 1
+/// reads, reading fails.
 fn read_all<R: Read>(alloc: Global, reader: &mut R) -> Result<Vec<u8>, Fault>
     ensures { ReadsAll (R.remaining reader.old) (R.remaining reader.new) result }
 {
@@ -30,7 +30,7 @@ fn read_all<R: Read>(alloc: Global, reader: &mut R) -> Result<Vec<u8>, Fault>
     Err(Fault::Read)
 }
 
-/// The text that a reader has left, read whole and then looked at.
+/// The text that a reader has left. All of it is read, and then checked to be UTF-8.
 pub(crate) fn read_text<R: Read>(alloc: Global, reader: &mut R) -> Result<String, Fault>
     ensures { ReadsText (R.remaining reader.old) (R.remaining reader.new) result }
 {

@@ -1,5 +1,5 @@
-//! `dataurl COMMAND` reads a data: URL, a MIME type or base64 from standard input and writes what the command gives of it to
-//! standard output. The commands are `body`, `mime`, `fragment`, `type` and `base64`.
+//! `dataurl COMMAND` reads a data: URL, a MIME type or base64 from standard input and writes the result of the command
+//! to standard output. The commands are `body`, `mime`, `fragment`, `type` and `base64`.
 #![tactic(auto)]
 
 mod command;

@@ -8,10 +8,10 @@ use crate::run::run;
 use std::alloc::Global;
 use std::io::{Read, Write};
 
-/// Runs the command of the words after the program's name, and returns the exit status: 0 where all was done, 1 for
-/// what is wrong with the input, 2 where the words are not exactly one that names a command, and 3 where the machine
-/// failed, the words themselves among it. Only where a command runs is anything read or written; each other end has one
-/// line on `errors`.
+/// Runs the command of the words after the program's name, and returns the exit status: 0 if it succeeded, 1 if the
+/// input is not valid, 2 if the words are not exactly one word that names a command, and 3 if allocation, a read or a
+/// write failed, or the words could not be read. Nothing is read or written unless a command is run, except that one
+/// line is written to `errors` if the status is not 0.
 pub fn execute<R: Read, W: Write, E: Write>(
     alloc: Global,
     words: Result<Vec<String>, Fault>,

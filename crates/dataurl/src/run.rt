@@ -1,4 +1,4 @@
-//! Runs a command: reads an input, and writes what it gives.
+//! Runs a command: reads an input, and writes the output for it.
 
 ghost use Rattle.std.specs.Prelude.{◌+◌, length};
 ghost use Rattle.std.specs.Fn.{CalledAt};
@@ -63,8 +63,8 @@ fn write_output<W: Write>(writer: &mut W, bytes: &[u8]) -> Result<(), Fault>
     }
 }
 
-/// Writes the body of a URL as it is decoded. It takes no memory: short pieces are gathered, and long ones are written as
-/// they are.
+/// Writes the body of a URL as it is decoded. Nothing is allocated: short pieces are gathered in a buffer, and long
+/// ones are written directly.
 fn write_body_of<W: Write>(url: &DataUrl, writer: &mut W) -> Result<(), Fault>
     ensures { Streams (IsBodyOutput (url_body url.now)) (W.contents writer.old)
         (W.contents writer.new) result }
@@ -90,7 +90,8 @@ fn write_record<W: Write>(alloc: Global, mime: &Mime, writer: &mut W) -> Result<
     write_output(writer, line.as_bytes())
 }
 
-/// Writes the encoded fragment of a URL and a line feed, or nothing where there is none, once all of its body was decoded.
+/// Decodes the whole body of a URL, and then writes its encoded fragment and a line feed, or nothing if there is no
+/// fragment.
 fn write_fragment_of<W: Write>(alloc: Global, url: &DataUrl, writer: &mut W) -> Result<(), Fault>
     ensures { WritesOf (IsFragmentOutput (url_body url.now) (url_fragment url.now))
         (W.contents writer.old) (W.contents writer.new) result }
@@ -157,7 +158,7 @@ fn write_type<W: Write>(alloc: Global, text: &str, writer: &mut W) -> Result<(),
     }
 }
 
-/// Writes what a command that takes a text gives of it.
+/// Writes the output of a command that takes a text.
 fn write_text<W: Write>(
     alloc: Global,
     command: Command,
@@ -178,21 +179,28 @@ fn write_text<W: Write>(
     }
 }
 
-/// Reads an input and writes what a command gives of it, and nothing else. All commands but `base64` read the whole input
-/// into memory and then ask that it is UTF-8; `base64` takes no memory, and decodes pieces of at most 4,096 bytes as they
-/// are read, up to the first fault.
+/// Reads an input, and writes the output of a command for it. All commands but `base64` read the whole input into
+/// memory, and then check that it is UTF-8. `base64` allocates nothing: it decodes pieces of at most 4,096 bytes as
+/// they are read, up to the first fault.
 ///
-/// Of what is wrong with the input, `NotUtf8` comes exactly where a text is asked for and the input is none;
-/// `NotADataUrl` and `NoComma` exactly where the Fetch Standard finds no scheme or no comma (section 6); `Mime` exactly
-/// where `type` is given a text that is no MIME type
-/// ([MIME Sniffing Standard, section 4.4](https://mimesniff.spec.whatwg.org/#parsing-a-mime-type)); `Base64` for a
-/// fault of the base64, before which `body` and `base64` have written what comes before it. Before the others nothing
-/// was written.
+/// If the input is not valid, the error is one of these:
 ///
-/// `Memory` if allocation failed, before anything was written; `Read` where a read failed or the reader had no end
-/// after 2^64 - 1 reads, when nothing was written but by `base64`, which has written the complete groups that were read;
-/// and `Write` where a write failed or took nothing, when a beginning of the output was written and not all. No failed
-/// read or write is tried again.
+/// - `NotUtf8`: the command takes a text, and the input is not UTF-8.
+/// - `NotADataUrl` or `NoComma`: the Fetch Standard (section 6) finds no scheme or no comma.
+/// - `Mime`: the command is `type`, and the text is not a MIME type
+///   ([MIME Sniffing Standard, section 4.4](https://mimesniff.spec.whatwg.org/#parsing-a-mime-type)).
+/// - `Base64`: the base64 has a fault. `body` and `base64` have written the bytes before it.
+///
+/// Except for `Base64`, nothing is written before these errors.
+///
+/// Otherwise it is one of these:
+///
+/// - `Memory`: allocation failed, before anything was written.
+/// - `Read`: a read failed, or the reader had no end after 2^64 - 1 reads. Only `base64` has written anything: the
+/// bytes of the complete groups that were read.
+/// - `Write`: a write failed or wrote nothing. A part of the output was written, but not all.
+///
+/// A read or write that fails is not tried again.
 pub fn run<R: Read, W: Write>(
     alloc: Global,
     command: Command,

@@ -20,8 +20,8 @@ pub(crate) enum Ended {
     Decoded(Result<(), DecodeError<WriteFailed>>),
 }
 
-/// Decodes the bytes of a reader up to its end or the first fault, and calls the closure with what they give. Returns the
-/// closure.
+/// Decodes the bytes of a reader up to its end or the first fault, and calls the closure with the decoded bytes.
+/// Returns the closure.
 fn decode_reader<R: Read, F>(reader: &mut R, ended: &mut Ended, write: F) -> F
 where
     F: FnMut(&[u8]) -> Result<(), WriteFailed>,
@@ -52,8 +52,8 @@ where
     decoder.into_closure()
 }
 
-/// Writes the bytes of a reader's base64 as it is read. What is gathered is written when 4,096 bytes wait, at the end, and
-/// before any fault is returned. Nothing is allocated.
+/// Writes the bytes of a reader's base64 as it is read. They are gathered in a buffer, which is written when it is
+/// full, at the end, and before a fault is returned. Nothing is allocated.
 pub(crate) fn write_base64<R: Read, W: Write>(reader: &mut R, writer: &mut W) -> Result<(), Fault>
     ensures { Runs Command.Base64 (R.remaining reader.old) (R.remaining reader.new)
         (W.contents writer.old) (W.contents writer.new) result }

@@ -1,4 +1,4 @@
--- Feeding a decoder with chunks in turn.
+-- Feeding a decoder chunks in turn.
 use Rattle.std.proofs.Common.{◌≡◌, ℕ, Bool, true, false, not, List, [], ◌∷◌, ◌++◌, Result, Ok, Err, refl, sym, ap, ◌∙◌}
 use Rattle.std.proofs.Common.{subst, append_assoc}
 use Rattle.std.proofs.lemmas.List.{append-nil}
@@ -16,7 +16,7 @@ joined_more chunks chunk = flat_map-append (λ x. x.now) chunks (chunk ∷ [])
     ∙ ap (λ s. joined chunks ++ s) (append-nil chunk.now)
 
 module _ {F E : Type 0} (step : F → List ℕ → Result (Unit {0}) E → F → Type 0) where
-  -- what feeding chunks did to a decoder, by whether it had failed before
+  -- what feeding chunks does to a decoder that has failed, and to one that has not
   abbrev Fed : Bool → State F → List (Bor (List ℕ)) → Bool → State F → Type 0
   Fed failed d chunks took d' = MatchBool failed ((took ≡ false) × (d' ≡ d)) (TakesChunks step d chunks took d')
 
@@ -44,7 +44,7 @@ module _ {F E : Type 0} (step : F → List ℕ → Result (Unit {0}) E → F →
     refuses = h.refuses;
   }
 
-  -- a decoder that has failed is fed with none of the chunks that follow
+  -- a decoder that has failed is not fed the chunks that follow
   pub chunks_stop : (d d' : State F) (xs ys : List (Bor (List ℕ))) → d'.failed ≡ true
       → FeedsChunks step d xs (not d'.failed) d' → FeedsChunks step d (xs ++ ys) false d'
   chunks_stop d d' xs ys e h = let P : Bool → Type 0 = λ failed. FeedsChunks step d xs (not failed) d' in

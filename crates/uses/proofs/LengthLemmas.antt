@@ -1,4 +1,4 @@
--- The length of a body is a number that a program can hold.
+-- The length of a body, as a `usize`.
 use Rattle.std.proofs.Common.{◌≡◌, ℕ, ◌<◌, ◌-◌, ◌^◌, min, List, length, Option, Ok, refl, ap, ◌∙◌, arith}
 use Rattle.data_url.specs.Fetch.{Accepted, Bad, Good, Outcome, outcome_bytes, staged}
 use Rattle.data_url.specs.DataUrl.{IsUrlOf, url_body}
@@ -19,7 +19,7 @@ accepted_good : (t : List ℕ) {type_text bytes : List ℕ} {o : Outcome} {fragm
     → staged t ≡ Accepted type_text o fragment → o ≡ Good bytes → staged t ≡ Accepted type_text (Good bytes) fragment
 accepted_good t {type_text = type_text} {fragment = fragment} e g = e ∙ ap (λ x. Accepted type_text x fragment) g
 
--- a length that was counted, no further than the greatest number, is that of the body
+-- a length that was counted, at most up to the greatest number, is that of the body
 pub exact_len : {t : List ℕ} {url : DataUrl} (len : ℕ) → IsUrlOf t url → length t < 2 ^ 64
     → IsLengthOf (url_body url) (Ok len) → HasLength t (Ok len)
 exact_len {t} {url} len u few h =

@@ -46,7 +46,7 @@ quote_at xs ys zs =
     ∙ get_or-append-add opening (ys ++ (34 ∷ zs)) (length ys) 0
     ∙ get_or-append_seam ys 34 zs 0
 
--- no quote stands behind the opening
+-- there is no quote after the opening
 pub none_ended : (page rest : List ℕ) (place : ℕ) → OpenedAt page place → rest ≡ drop (place + 2) page
     → ((k : ℕ) → k < length rest → get_or rest k 0 ≢ 34) → HasNoReference page
 none_ended page rest place o r none = λ xs ys zs e.
@@ -59,7 +59,7 @@ none_ended page rest place o r none = λ xs ys zs e.
     (ap (λ s. get_or s k 0) r ∙ get_or-drop (place + 2) page k 0 ∙ ap (λ n. get_or page n 0) at
     ∙ ap (λ s. get_or s (length xs + (7 + length ys)) 0) e ∙ quote_at xs ys zs)
 
--- what ends at a quote has the whole scheme
+-- a reference that ends at a quote has the whole scheme
 scheme_front : (k : ℕ) (s : List ℕ) → get_or (codes "data:" ++ s) k 0 ≡ 34
     → (rest : List ℕ) × (take k (codes "data:" ++ s) ≡ codes "data:" ++ rest)
 scheme_front zero s e = absurd (omega (arith, e))
@@ -95,7 +95,7 @@ is_reference page rest place k o r within quote none =
       first = λ xs ys e. omega (arith, o.first xs ys e, length-take place page);
     }
 
--- what stands behind a reference is shorter
+-- the text after a reference is shorter
 pub after_shorter : {page before reference after : List ℕ} → IsReference page before reference after
     → length after < length page
 after_shorter {page} {before} {reference} {after} h =
@@ -120,7 +120,7 @@ inlined_source reference (Text s) h = absurd h
 inlined_source reference (Inlined s response) h = h.0
 inlined_source reference (Refused s reason) h = h.0
 
--- the texts of the parts join to the page
+-- the concatenation of the texts of the parts is the page
 pub sources_join : (page : List ℕ) (parts : List Part) → IsPage page parts → flat_map source_of parts ≡ page
 sources_join page [] h = absurd h
 sources_join page (text ∷ []) h = append-nil (source_of text) ∙ text_source page text h.0
@@ -130,7 +130,7 @@ sources_join page (text ∷ part ∷ parts) h =
     ∙ ap (λ s. h.0 ++ (h.1 ++ s)) (sources_join h.2 parts h.6)
     ∙ sym h.3.joined
 
--- whatever parts the rest has, they follow those that the page has so far
+-- the parts of the rest follow the parts so far
 pub record Going (page rest : List ℕ) (parts : List Part) : Type 0 where
   pub then : (more : List Part) → IsPage rest more → IsPage page (parts ++ more)
 

@@ -1,4 +1,4 @@
--- The first of the highest rank, as far as the ranks were looked at.
+-- The first of the highest rank, among the ranks that were read.
 use Rattle.std.proofs.Common.{◌≡◌, ℕ, ◌<◌, ◌≤◌, ◌+◌, List, length, map, get_or, Option, None, Some, refl, sym, ap, ◌∙◌}
 use Rattle.std.proofs.Common.{arith}
 use borrow.Author.Count.{below_more}
@@ -19,7 +19,7 @@ pub record Leads (ranks : List ℕ) (i : ℕ) (best : Option ℕ) (highest : ℕ
 pub leads_none : (ranks : List ℕ) → Leads ranks 0 None 0
 leads_none ranks = record { below = λ j h. absurd (omega (arith, h)); leader = refl }
 
--- below the next place, where the rank at the place is known
+-- the same up to the next place, if the rank at the place is known
 below_next : (ranks : List ℕ) (i highest : ℕ) → ((m : ℕ) → m < i → slice_index ranks m ≤ highest)
     → slice_index ranks i ≤ highest → (j : ℕ) → j < i + 1 → slice_index ranks j ≤ highest
 below_next ranks i highest b e j k = below_more (λ m. slice_index ranks m ≤ highest) i b e j k

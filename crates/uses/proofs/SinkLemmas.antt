@@ -1,4 +1,4 @@
--- What a sink takes of a piece, and of the pieces of a body.
+-- What is written to a sink of a piece, and of the pieces of a body.
 use Rattle.std.proofs.Common.{◌≡◌, ℕ, ◌<◌, ◌+◌, ◌-◌, List, [], ◌++◌, length, take, drop, Option, None, Some, Result, Ok}
 use Rattle.std.proofs.Common.{Err, refl, sym, ap, ◌∙◌, append_assoc, take-append-drop, take_all, length-drop, le_of_eq}
 use Rattle.std.proofs.Common.{subst, arith, length-append}
@@ -39,7 +39,7 @@ keeps_same (Some xs) = refl
 
 -- One piece
 
--- so much of the piece was written, and the rest is not yet
+-- a part of the piece was written, and the rest is not written yet
 pub record Going (piece rest : List ℕ) (old now : Option (List ℕ)) : Type 0 where
   pub written : List ℕ
   pub taken : Appends old now written
@@ -68,7 +68,7 @@ pub going_fails : (piece rest : List ℕ) (old now new : Option (List ℕ)) → 
 going_fails piece rest old now new k g =
     record { bytes = g.written; taken = appends_kept old now new g.written g.taken k; begins = (rest, g.joined) }
 
--- a write that took so many bytes, and then no more
+-- a write that wrote n bytes, and then failed
 pub going_stops : (piece rest : List ℕ) (n : ℕ) (old now new : Option (List ℕ)) → Appends now new (take n rest)
     → Going piece rest old now → Writes piece old new (Err SinkFailed)
 going_stops piece rest n old now new a g =
@@ -82,7 +82,7 @@ to_the_end n s t e = ap (λ k. take (k - n) (drop n s)) (ap length e)
 
 -- The pieces of a body
 
--- what was written of a body under a limit, by the answer of decoding
+-- what was written of a body under a limit, from the result of decoding
 abbrev pub Streamed : Outcome → ℕ → Option (List ℕ) → Option (List ℕ) → Result (Unit {0}) (DecodeError Refusal) → Type 0
 Streamed body limit old new (Ok x) = StreamsBody body limit old new (Ok tt)
 Streamed body limit old new (Err (InvalidBase64 kind)) =
@@ -147,7 +147,7 @@ streamed_by room holds limit old g body (Err (WriteError OverLimit)) h =
     (omega (arith, h.2.0, ap length h.1.1, length-append h.0 h.1.0), within_whole h.1 h.2.1)
 streamed_by room holds limit old g body (Err (WriteError SinkFailed)) h = within_whole h.1 h.2
 
--- what a closure wrote that writes each piece within what is left of a limit
+-- what a closure wrote, if it writes each piece that fits into the rest of a limit
 pub streamed : {F : Type 0} {step : F → List ℕ → Result (Unit {0}) Refusal → F → Type 0} {f g : F} {most : ℕ}
     {body : Outcome} {r s : Result (Unit {0}) (DecodeError Refusal)} → Decodes step f most body AnyAnswer r g → r ≡ s
     → (room : F → ℕ) (holds : F → Option (List ℕ))

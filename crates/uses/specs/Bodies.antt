@@ -1,4 +1,4 @@
--- What decoding a body does to what a closure keeps.
+-- What decoding a body does to the state of a closure.
 use Rattle.std.specs.Prelude.{◌++◌, ◌-◌, ◌^◌, ◌≡◌, Err, List, Ok, Result, length, min, ℕ}
 use Rattle.data_url.specs.Base64.{Kind}
 use Rattle.data_url.specs.Fetch.{Bad, Good, Outcome, outcome_bytes}
@@ -6,17 +6,17 @@ use Rattle.data_url.specs.Run.{IsPrefix}
 use Rattle.data_url.specs.declared.forgiving_base64.DecodeToVecError.TheVariants.{InvalidBase64, OutOfMemory}
 use Rattle.data_url.specs.declared.forgiving_base64.DecodeToVecError.{DecodeToVecError}
 
--- any answer at all
+-- true of every result
 abbrev pub AnyAnswer : {A : Type 0} → A → Type 0
 AnyAnswer x = Unit {0}
 
--- the length of a good body, or the greatest number where it is more; or why the body is none
+-- the length of a good body, but at most 2 ^ 64 - 1; or the kind of the fault of a bad body
 abbrev pub IsLengthOf : Outcome → Result ℕ Kind → Type 0
 IsLengthOf (Good bytes) r = r ≡ Ok (min (length bytes) (2 ^ 64 - 1))
 IsLengthOf (Bad bytes kind) r = r ≡ Err kind
 
--- what stood there and then the body; the bytes before its fault; or a beginning that memory was
--- refused behind
+-- the old bytes, and then: the body; or the bytes before its fault; or, if allocation fails, a prefix
+-- of these
 abbrev pub Appends : Outcome → List ℕ → List ℕ → Result (Unit {0}) DecodeToVecError → Type 0
 Appends body old new (Ok x) = (bytes : List ℕ) × (body ≡ Good bytes) × (new ≡ old ++ bytes)
 Appends body old new (Err (InvalidBase64 kind)) =

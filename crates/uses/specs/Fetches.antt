@@ -28,13 +28,13 @@ pub record IsResponseTo (t : List ℕ) (r : Response) : Type 0 where
   pub status : r.status ≡ 200
   pub content_type : string_bytes r.content_type ≡ encode_utf8_all (printed mime)
 
--- what is answered to a text
+-- the result of fetching a URL
 abbrev pub Fetches : List ℕ → Result Response FetchError → Type 0
 Fetches t (Ok r) = IsResponseTo t r
 Fetches t (Err (Network reason)) = IsReasonOf (staged t) reason
 Fetches t (Err OutOfMemory) = IsAcceptable (staged t)
 
--- the length of the body of the response to a text, in bytes
+-- the length of the body of the response for a URL, in bytes
 abbrev pub HasLength : List ℕ → Result ℕ FetchError → Type 0
 HasLength t (Ok len) =
     (type_text bytes : List ℕ) × (fragment : Option (List ℕ))

@@ -10,18 +10,18 @@ use Rattle.data_url.specs.declared.mime.Mime.{Mime}
 use Rattle.uses.specs.declared.loader.LoadError.TheVariants.{InvalidBase64, NoComma, NotADataUrl, OutOfMemory, OverLimit, SinkFailed}
 use Rattle.uses.specs.declared.loader.LoadError.{LoadError}
 
--- what a sink holds, where that is known
+-- what a sink holds, if that is known
 abbrev pub Held : Type 0
 Held = Option (List ℕ)
 
--- a sink took a beginning of a text, of so many bytes at most
+-- a prefix of a text, of at most `limit` bytes, is appended to what a sink holds
 pub record TakesWithin (text : List ℕ) (limit : ℕ) (old new : Held) : Type 0 where
   pub bytes : List ℕ
   pub taken : Appends old new bytes
   pub begins : IsPrefix bytes text
   pub within : length bytes ≤ limit
 
--- what was written of a body under a limit, by how it ended; no refusal of a URL comes here
+-- what was written of a body under a limit, for each result; errors of reading a URL are not possible
 abbrev pub StreamsBody : Outcome → ℕ → Held → Held → Result (Unit {0}) LoadError → Type 0
 StreamsBody body limit old new (Ok x) =
     (bytes : List ℕ) × (body ≡ Good bytes) × (length bytes ≤ limit) × Appends old new bytes
@@ -34,12 +34,12 @@ StreamsBody body limit old new (Err NotADataUrl) = ⊥
 StreamsBody body limit old new (Err NoComma) = ⊥
 StreamsBody body limit old new (Err OutOfMemory) = ⊥
 
--- the text is a URL, with the text of its type and its body
+-- the text is a data: URL, with this text of its MIME type and this body
 pub record IsResource (t type_text : List ℕ) (body : Outcome) : Type 0 where
   pub fragment : Option (List ℕ)
   pub staged_is : staged t ≡ Accepted type_text body fragment
 
--- the text is a URL, and its body was written under a limit
+-- the text is a data: URL, and its body was written under a limit
 pub record LoadsBody (t : List ℕ) (limit : ℕ) (old new : Held) (r : Result (Unit {0}) LoadError)
     : Type 0 where
   pub type_text : List ℕ
@@ -47,7 +47,7 @@ pub record LoadsBody (t : List ℕ) (limit : ℕ) (old new : Held) (r : Result (
   pub resource : IsResource t type_text body
   pub streamed : StreamsBody body limit old new r
 
--- the same, with the record of its type
+-- the same without an error, and the record of its MIME type is returned
 pub record LoadsWhole (t : List ℕ) (limit : ℕ) (old new : Held) (mime : Mime) : Type 0 where
   pub type_text : List ℕ
   pub body : Outcome
@@ -55,7 +55,7 @@ pub record LoadsWhole (t : List ℕ) (limit : ℕ) (old new : Held) (mime : Mime
   pub record_is : IsRecordOf type_text (record_of mime)
   pub streamed : StreamsBody body limit old new (Ok tt)
 
--- what loading a text did to the sink, by its answer
+-- what loading a URL does to the sink, for each result
 abbrev pub Loads : List ℕ → ℕ → Held → Held → Result Mime LoadError → Type 0
 Loads t limit old new (Ok mime) = LoadsWhole t limit old new mime
 Loads t limit old new (Err NotADataUrl) = (staged t ≡ NoScheme) × Keeps old new

@@ -1,4 +1,4 @@
--- What the private steps of the callers do: words that no contract of a public call cites.
+-- What private functions do: definitions that no contract of a public function uses.
 use Rattle.std.specs.Borrow.{Bor}
 use Rattle.std.specs.Io.KnownBytes.{Appends}
 use Rattle.std.specs.Prelude.{◌+◌, ◌<◌, ◌≡◌, ◌≤◌, Err, List, MatchOption, Ok, Option, Result, length, ℕ}
@@ -14,33 +14,33 @@ use Rattle.uses.specs.declared.fetch.FetchError.{FetchError}
 use Rattle.uses.specs.declared.loader.Refusal.TheVariants as refused
 use Rattle.uses.specs.declared.loader.Refusal.{Refusal}
 
--- a sink took a beginning of a text, behind what it held
+-- a prefix of a text is appended to what a sink holds
 pub record TakesPrefix (text : List ℕ) (old new : Held) : Type 0 where
   pub bytes : List ℕ
   pub taken : Appends old new bytes
   pub begins : IsPrefix bytes text
 
--- a whole piece was written, or a beginning of it
+-- a whole piece was written; or a write failed, after a prefix of it
 abbrev pub Writes : List ℕ → Held → Held → Result (Unit {0}) Refusal → Type 0
 Writes piece old new (Ok x) = Appends old new piece
 Writes piece old new (Err refused.SinkFailed) = TakesPrefix piece old new
 Writes piece old new (Err refused.OverLimit) = ⊥
 
--- a piece was written and taken off the room; it did not fit, and nothing was written; or a
--- beginning of it was
+-- a piece was written, and its length is subtracted from the room; or it did not fit, and nothing was
+-- written; or a write failed, after a prefix of it
 abbrev pub WritesWithin : List ℕ → ℕ → ℕ → Held → Held → Result (Unit {0}) Refusal → Type 0
 WritesWithin piece room left old new (Ok x) = (room ≡ left + length piece) × Appends old new piece
 WritesWithin piece room left old new (Err refused.OverLimit) = (room < length piece) × (new ≡ old)
 WritesWithin piece room left old new (Err refused.SinkFailed) =
     (length piece ≤ room) × TakesPrefix piece old new
 
--- the URL of a text, or why there is none
+-- the URL of a text, or why the text is not a data: URL
 abbrev pub Opens : List ℕ → Result DataUrl FetchError → Type 0
 Opens t (Ok url) = IsUrlOf t url
 Opens t (Err (Network reason)) = IsReasonOf (staged t) reason
 Opens t (Err OutOfMemory) = IsAcceptable (staged t)
 
--- the first reference of a page with what stands before and behind it, where there is one
+-- the first reference of a page, with the text before and after it, if there is one
 abbrev pub FindsReference : List ℕ → Option (Bor (List ℕ) × Bor (List ℕ) × Bor (List ℕ)) → Type 0
 FindsReference page found =
     MatchOption found (HasNoReference page) (λ cut. IsReference page cut.0.now cut.1.now cut.2.now)

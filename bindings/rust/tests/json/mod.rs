@@ -1,4 +1,5 @@
-//! As much of JSON as the vectors have: null, whole numbers, strings, lists and objects. What is not well-formed panics.
+//! The part of JSON that the vectors use: null, integers, strings, lists and objects. Text that is not well-formed
+//! panics.
 
 use std::iter::Peekable;
 use std::str::Chars;
@@ -24,7 +25,7 @@ impl Json {
         value
     }
 
-    /// The value of a key, where the object has it.
+    /// The value of a key, if the object has it.
     pub fn get(&self, key: &str) -> Option<&Json> {
         let Json::Object(pairs) = self else {
             panic!("no object: {:?}", self)
@@ -52,7 +53,7 @@ struct Reader<'a> {
 }
 
 impl Reader<'_> {
-    /// The next character that is no space.
+    /// The next character that is not a space.
     fn peek(&mut self) -> Option<char> {
         while self.rest.next_if(char::is_ascii_whitespace).is_some() {}
         self.rest.peek().copied()
@@ -88,7 +89,7 @@ impl Reader<'_> {
         Json::Number(digits.parse().expect("a number"))
     }
 
-    /// What stands between two brackets, parted by commas.
+    /// The items between two brackets, separated by commas.
     fn between<T>(&mut self, open: char, close: char, item: fn(&mut Self) -> T) -> Vec<T> {
         self.expect(open);
         let mut items = Vec::new();

@@ -1,4 +1,4 @@
--- A closure or a decoder that takes a body piece by piece. For `decode_plain`, `decode_base64` and their callers.
+-- A closure or a decoder that gets a body piece by piece. For `decode_plain`, `decode_base64` and their callers.
 use Rattle.std.proofs.Common.{◌≡◌, ℕ, ◌+◌, ◌≤◌, List, [], ◌∷◌, ◌++◌, Bor, length, Option, None, Some, Result, Ok, Err}
 use Rattle.std.proofs.Common.{refl, sym, ap, ◌∙◌, subst, append_assoc, arith, length-append, suc, Bool, true, false}
 use Rattle.std.proofs.Common.{not, cond, ◌*◌, ◌-◌, min, filter, length-drop, length-take}
@@ -29,7 +29,7 @@ use Rattle.std.specs.List.{prefix_len, suffix_len}
 use Rattle.data_url.specs.declared.DataUrl.{DataUrl}
 use Rattle.data_url.proofs.forgiving_base64.Groups.{groups_length}
 
--- A closure that runs over a body, chunk by chunk.
+-- A closure that is called with a body, chunk by chunk.
 
 pub takes_next : {w w' : Walk} {given : Option (Bor (List ℕ))} {bytes : Bor (List ℕ)} → GivesBytes w given w'
     → given ≡ Some bytes → Takes w bytes.now w'
@@ -46,7 +46,7 @@ match_is_some (Some y) x P Q e q = let same : x ≡ y = cc in subst Q same q
 -- The runs
 
 module _ {F E : Type 0} (step : F → List ℕ → Result (Unit {0}) E → F → Type 0) where
-  -- the closure took the body as far as the walk
+  -- the closure was called with the body up to the place of the walk
   pub record Going (f : F) (text : List ℕ) (w : Walk) (g : F) : Type 0 where
     pub run : List (Call F E)
     pub ran : IsRun step f run g
@@ -146,7 +146,7 @@ module _ {F E : Type 0} (step : F → List ℕ → Result (Unit {0}) E → F →
 
 -- A base64 body, fed to a decoder chunk by chunk.
 
--- A body is no longer than its tail
+-- A body is not longer than its tail
 
 dropped_shorter : (s : List ℕ) → length (without_tabs_and_newlines s) ≤ length s
 unfolding without_tabs_and_newlines
@@ -186,9 +186,9 @@ body_shorter tail =
     let c = dropped_shorter tail in
     omega arith
 
--- What a decoder gives of a whole text is the outcome
+-- The result of decoding a whole text is the outcome
 
--- the answer with a place in it
+-- the result, with a place in it
 abbrev pub at_place : {E : Type 0} → ℕ → Result (Unit {0}) (DecodeError E) → Result ℕ (DecodeError E)
 at_place place (Ok x) = Ok place
 at_place place (Err e) = Err e
@@ -252,7 +252,7 @@ module _ {F E : Type 0} (step : F → List ℕ → Result (Unit {0}) E → F →
     gave = gives u (joined_pieces d.run) place good r (refusal d.run) (is_valid u) k d.gave;
   }
 
-  -- the decoder took the body as far as the walk
+  -- the decoder was fed the body up to the place of the walk
   pub record Fed (d : State F) (text : List ℕ) (w : Walk) (d' : State F) : Type 0 where
     pub read : List ℕ
     pub fed : Feeds step d read (Ok tt) d'
@@ -303,7 +303,7 @@ module _ {F E : Type 0} (step : F → List ℕ → Result (Unit {0}) E → F →
       let finished : Finishes step d1 r' g = subst (λ q. Finishes step d1 q g) same k in
       outcome_of place r' whole (decodes_finished step s h.fed finished) b
 
--- A body that was decoded by a closure that keeps the bytes that it accepts.
+-- A body that was decoded with a closure that appends its bytes.
 
 -- the body is good, and these are its bytes
 record WasGood {A : Type 0} (body : Outcome) (good : A → Type 0) (bytes : List ℕ) (x : A) : Type 0 where
@@ -317,7 +317,7 @@ good_answer (Good all) good bytes (Ok y) x q h = let e : y ≡ x = cc in
 good_answer (Good all) good bytes (Err e) x q h = absurd h.answer
 good_answer (Bad all kind) good bytes r x q h = absurd (let k = h.answer in cc)
 
--- an answer Ok comes of a run that was not refused
+-- if the result is Ok, no call of the run returned an error
 ok_given : {E A : Type 0} (o : Option E) (body : Outcome) (good : A → Type 0) (bytes : List ℕ)
     (r : Result A (DecodeError E)) (x : A) → r ≡ Ok x
     → MatchOption o (HandsOut body good bytes r) (λ e. IsRefused (outcome_bytes body) bytes e r)
@@ -341,7 +341,7 @@ bad_given (Some e) body good bytes r kind q h = absurd (let k = h.answer in cc)
 
 module _ {F E A : Type 0} {step : F → List ℕ → Result (Unit {0}) E → F → Type 0} {f f' : F} {most : ℕ} {body : Outcome}
     {good : A → Type 0} {r : Result A (DecodeError E)} where
-  -- what a closure that keeps its bytes has after a body that was decoded
+  -- what a closure that appends its bytes holds after a body was decoded
   pub body_reads : {x : A} → Decodes step f most body good r f' → r ≡ Ok x → (J : F → List ℕ)
       → ((g : F) (piece : List ℕ) (g' : F) → step g piece (Ok tt) g' → J g' ≡ J g ++ piece)
       → (all : List ℕ) × (body ≡ Good all) × (J f' ≡ J f ++ all)
@@ -360,18 +360,18 @@ module _ {F E A : Type 0} {step : F → List ℕ → Result (Unit {0}) E → F �
       → ((g : F) (piece : List ℕ) (s : Result (Unit {0}) E) (g' : F) → step g piece s g' → K g ≡ K g') → K f ≡ K f'
   body_keeps h K keeps = run_keeps step K keeps h.run f f' h.ran
 
-  -- an answer Ok comes of a good body
+  -- if the result is Ok, the body is good
   pub body_good : {x : A} → Decodes step f most body good r f' → r ≡ Ok x → (all : List ℕ) × (body ≡ Good all)
   body_good {x} h q = let k = ok_given (refusal h.run) body good (joined_pieces h.run) r x q h.gave in
       (joined_pieces h.run, k.1.body_is)
 
-  -- the error of a vector that was to have the body's bytes
+  -- the error of decoding a body into a vector
   pub body_error : (x : DecodeError E) → Decodes step f most body good r f' → r ≡ Err x
       → IsBodyErrorOf body (vec_error x)
   body_error (InvalidBase64 kind) h q = body_fault h q
   body_error (WriteError e) h q = tt
 
--- What is known of a closure's state behind a run, by what each of its calls does to that state.
+-- What is true of a closure's state after a run, from what each of its calls does to that state.
 
 -- Runs
 
@@ -386,7 +386,7 @@ module _ {F E : Type 0} (step : F → List ℕ → Result (Unit {0}) E → F →
     → kept (bytes ++ piece) g)
     (refuses : (bytes : List ℕ) (f : F) (piece : List ℕ) (e : E) (g : F) → kept bytes f → step f piece (Err e) g
     → stopped (bytes ++ piece) e g) where
-  -- behind one call and those that follow it
+  -- after one call and those that follow it
   one_more : (r : Result (Unit {0}) E) (bytes piece : List ℕ) (f after g : F) (cs : List (Call F E)) → kept bytes f
       → step f piece r after → (IsErr r → cs ≡ []) → IsRun step after cs g
       → (kept (bytes ++ piece) after → MatchOption (refusal cs) (kept ((bytes ++ piece) ++ joined_pieces cs) g)
@@ -412,8 +412,8 @@ module _ {F E : Type 0} (step : F → List ℕ → Result (Unit {0}) E → F →
   run_ends_from (c ∷ cs) bytes f g k ran = one_more c.answer bytes c.piece f c.after g cs k ran.0 ran.1 ran.2
       (λ more. run_ends_from cs (bytes ++ c.piece) c.after g more ran.2)
 
--- what each accepted call keeps of the bytes so far and the state holds behind an accepted run of all its bytes, and
--- what a refused call gives behind a refused one
+-- if each call that succeeds preserves `kept`, a property of the bytes so far and the state, then `kept` is true after
+-- a run without an error; if a call that fails makes `stopped` true, then `stopped` is true after a run with an error
 pub run_ends : {F E : Type 0} (step : F → List ℕ → Result (Unit {0}) E → F → Type 0) (cs : List (Call F E)) (f g : F)
     → IsRun step f cs g → (kept : List ℕ → F → Type 0) (stopped : List ℕ → E → F → Type 0)
     → ((bytes : List ℕ) (p : F) (piece : List ℕ) (q : F) → kept bytes p → step p piece (Ok tt) q
@@ -430,7 +430,7 @@ accepted_at : {F E : Type 0} (cs : List (Call F E)) (P : Type 0) (Q : E → Type
     → MatchOption (refusal cs) P Q → P
 accepted_at {E = E} cs P Q n h = let M : Option E → Type 0 = λ o. MatchOption o P Q in subst M n h
 
--- a measure that each accepted piece extends is extended by the whole run
+-- if each call that succeeds extends a measure by its piece, a run without an error extends it by all its bytes
 pub run_extends : {F E : Type 0} (step : F → List ℕ → Result (Unit {0}) E → F → Type 0) (cs : List (Call F E)) (f g : F)
     → IsRun step f cs g → refusal cs ≡ None → (measure : F → List ℕ)
     → ((p : F) (piece : List ℕ) (q : F) → step p piece (Ok tt) q → measure q ≡ measure p ++ piece)
@@ -441,7 +441,7 @@ run_extends step cs f g ran n measure extends =
     (λ bytes p piece q k s. extends p piece q s ∙ ap (λ x. x ++ piece) k ∙ append_assoc (measure f) bytes piece)
     (λ bytes p piece e q k s. tt) (sym (append-nil (measure f))))
 
--- a count to which each accepted piece adds its length has added the length of the whole run
+-- if each call that succeeds adds the length of its piece to a count, a run adds the length of all its bytes
 pub run_counts : {F E : Type 0} (step : F → List ℕ → Result (Unit {0}) E → F → Type 0) (cs : List (Call F E)) (f g : F)
     → IsRun step f cs g → refusal cs ≡ None → (count : F → ℕ)
     → ((p : F) (piece : List ℕ) (q : F) → step p piece (Ok tt) q → count q ≡ count p + length piece)
@@ -452,7 +452,7 @@ run_counts step cs f g ran n count adds =
     (λ bytes p piece q k s. let h = adds p piece q s in omega (arith, h, k, length-append bytes piece))
     (λ bytes p piece e q k s. tt) (omega arith))
 
--- the same of a count that goes no further than a greatest number
+-- the same for a count that stops at a greatest number
 pub run_counts_up_to : {F E : Type 0} (step : F → List ℕ → Result (Unit {0}) E → F → Type 0) (cs : List (Call F E))
     (f g : F) (most : ℕ) → IsRun step f cs g → refusal cs ≡ None → (count : F → ℕ) → count f ≤ most
     → ((p : F) (piece : List ℕ) (q : F) → step p piece (Ok tt) q → count q ≡ min (count p + length piece) most)
@@ -465,7 +465,7 @@ run_counts_up_to step cs f g most ran n count few adds =
 
 -- Bodies
 
--- how decoding a body ended, with what a closure then keeps of the bytes that it was handed
+-- how decoding a body ended, with what is then true of the closure and the bytes that it was called with
 abbrev pub EndsWith : {F E A : Type 0} → (List ℕ → F → Type 0) → (List ℕ → E → F → Type 0) → Outcome → (A → Type 0) → F
     → Result A (DecodeError E) → Type 0
 EndsWith kept stopped body good g (Ok x) = (bytes : List ℕ) × (body ≡ Good bytes) × good x × kept bytes g
@@ -493,8 +493,8 @@ module _ {F E A : Type 0} (kept : List ℕ → F → Type 0) (stopped : List ℕ
   ended_by None body bytes r h k = ended_whole body bytes r h k
   ended_by (Some e) body bytes r h k = ended_at body r (Err (WriteError e)) h.answer (bytes, h.bytes_begin, k)
 
--- what each accepted call keeps, and a refused one gives, of the bytes so far and the state, holds behind decoding, as
--- its answer s tells
+-- if each call that succeeds preserves `kept`, and a call that fails makes `stopped` true, then one of these is true
+-- after decoding, by its result s
 pub body_ends : {F E A : Type 0} {step : F → List ℕ → Result (Unit {0}) E → F → Type 0} {f g : F} {most : ℕ}
     {body : Outcome} {good : A → Type 0} {r s : Result A (DecodeError E)} → Decodes step f most body good r g → r ≡ s
     → (kept : List ℕ → F → Type 0) (stopped : List ℕ → E → F → Type 0)
@@ -508,8 +508,8 @@ body_ends {step = step} {f = f} {g = g} {body = body} {good = good} {r = r} {s =
     ended_at kept stopped good g body s r (sym e) (ended_by kept stopped good g (refusal d.run) body
     (joined_pieces d.run) r d.gave (run_ends step d.run f g d.ran kept stopped accepts refuses start))
 
--- a measure that each accepted piece extends, and each refused one by a beginning of it, is extended by what was handed
--- out, or a beginning of that
+-- if each call that succeeds extends a measure by its piece, and a call that fails extends it by a prefix of its piece,
+-- then decoding extends it by all the bytes, or by a prefix of them if a call fails
 pub body_extends : {F E A : Type 0} {step : F → List ℕ → Result (Unit {0}) E → F → Type 0} {f g : F} {most : ℕ}
     {body : Outcome} {good : A → Type 0} {r s : Result A (DecodeError E)} → Decodes step f most body good r g → r ≡ s
     → (measure : F → List ℕ)
@@ -576,7 +576,7 @@ outcome_shorter true s =
       | false ↦ b
     ]
 
--- a body, and what stands before its fault, has no more bytes than its tail
+-- a body, or the bytes before its fault, is not longer than its tail
 pub body_within_tail : (url : DataUrl) → length (outcome_bytes (url_body url)) ≤ length (url_tail url)
 body_within_tail url = omega (
   arith,
@@ -604,6 +604,6 @@ tail_shorter : (t tail : List ℕ) → tail_of t ≡ Some tail → length tail �
 unfolding tail_of
 tail_shorter t tail e = omega (arith, after_shorter 44 (trimmed_text t) tail e, trimmed_shorter t)
 
--- nor more than the text of its URL
+-- nor longer than the text of its URL
 pub body_within_text : {t : List ℕ} {url : DataUrl} → IsUrlOf t url → length (outcome_bytes (url_body url)) ≤ length t
 body_within_text {t} {url} h = omega (arith, body_within_tail url, tail_shorter t (url_tail url) h.tail_is)

@@ -1,4 +1,4 @@
--- Hexadecimal digits in a text, past tabs and newlines. For `escaped_byte`.
+-- Hexadecimal digits in a text, after tabs and newlines. For `escaped_byte`.
 use Rattle.std.proofs.Common.{◌≡◌, ℕ, ◌+◌, ◌*◌, ◌-◌, ◌<◌, ◌≤◌, Bool, true, false, not, cond, ◌&&◌, eqb, ltb, List, []}
 use Rattle.std.proofs.Common.{◌∷◌, length, drop, get_or, Option, None, Some, refl, sym, ap, ◌∙◌, arith, eqb-true, subst}
 use Rattle.std.specs.Prelude.{◌==◌, MatchOption}
@@ -19,7 +19,7 @@ pub code_is : (b : ℕ) → b < 256 → get_or DIGITS b 0 ≡ digit_code b
 code_is b l = eqb-true (get_or DIGITS b 0) (digit_code b) (agree_below_at (λ b. eqb (get_or DIGITS b 0) (digit_code b))
     (λ b. true) 256 b refl l)
 
--- what a code says of its byte
+-- what the entry of the table says about its byte
 
 tab_code : (b : ℕ) → b < 256 → eqb (digit_code b) 16 ≡ is_tab_or_newline b
 tab_code b l = agree_below_at (λ b. eqb (digit_code b) 16) is_tab_or_newline 256 b refl l
@@ -28,7 +28,7 @@ hex_code : (b : ℕ) → b < 256 → ltb (digit_code b) 16 ≡ (not (is_tab_or_n
 hex_code b l = agree_below_at (λ b. ltb (digit_code b) 16) (λ b. not (is_tab_or_newline b) && is_ascii_hexdigit b) 256 b
     refl l
 
--- neither a tab or newline nor a digit is a '%'
+-- a '%' is neither a tab or newline nor a digit
 not_percent : (b : ℕ) → b < 256 → digit_code b < 32 → not (b == 37) ≡ true
 not_percent b l h =
     sym (cond-true (ltb (digit_code b) 32) (not (b == 37)) true (lt-ltb (digit_code b) 32 h))
@@ -106,13 +106,13 @@ no_percent_at : (text : List ℕ) (place : ℕ) → place < length text → not 
     → before_percent (drop place text) ≡ 1 + before_percent (drop (place + 1) text)
 no_percent_at text place l h = prefix_len-drop_yes (λ b. not (b == 37)) text place 0 l h
 
--- a byte of a text that was looked at
+-- a byte of a text that was read
 pub record IsByte (text : List ℕ) (place b : ℕ) : Type 0 where
   pub within : place < length text
   pub byte_is : b ≡ get_or text place 0
   pub small : b < 256
 
--- in a text that is the same
+-- in an equal text
 pub byte_of : {text same : List ℕ} {place b : ℕ} → same ≡ text → place < length text → b ≡ get_or same place 0 → b < 256
     → IsByte text place b
 byte_of {text} {same} {place} {b} e w h l = record { within = w; byte_is = h ∙ ap (λ s. get_or s place 0) e; small = l }
@@ -155,7 +155,7 @@ none_left {text} {place} {looks} l = record {
   looks_are = omega arith;
 }
 
--- tabs and newlines were passed from one place to another
+-- from one place to another there are tabs and newlines, which were skipped
 pub record Passed (text : List ℕ) (place at looks looks' : ℕ) : Type 0 where
   pub forward : place ≤ at
   pub digit_stays : digit (drop place text) ≡ digit (drop at text)
@@ -271,7 +271,7 @@ both_digits {text} {place} {high} {low} {after} {end} {value = value} d f e =
       looks_are = omega arith;
     }
 
--- a tab or newline, and then what stands behind it
+-- a tab or newline, and then what was found after it
 pub digit_further : {text same : List ℕ} {place b value looks' : ℕ} (looks looks'' : ℕ) (found : Option (ℕ × ℕ))
     → same ≡ text → IsByte text place b → value ≡ digit_code b → value ≡ 16 → looks' ≡ looks + 1
     → MatchOption found (NoDigit same (place + 1) looks' looks'')

@@ -22,7 +22,7 @@ use Rattle.data_url.specs.Pieces.{text_of}
 use Rattle.data_url.specs.declared.escapes.cursor.Cursor.{Cursor}
 use Rattle.data_url.proofs.escapes.Reading.{paid_clear}
 
--- Blocks of a text: their marks, and stretches that are copied into a room.
+-- Blocks of a text: their marks, and stretches that are copied into a buffer.
 
 -- a list taken past its first part
 pub take_past : (p q : List ℕ) (n m : ℕ) → length p ≡ n → take (n + m) (p ++ q) ≡ p ++ take m q
@@ -32,7 +32,7 @@ take_past (x ∷ p) q n m e =
     let z : n + m ≡ suc (length p + m) = omega arith in
     ap (λ k. take k (x ∷ (p ++ q))) z ∙ ap (λ t. x ∷ t) (take_past p q (length p) m refl)
 
--- a stretch of which a whole block was copied
+-- a stretch, for which a whole block was copied
 pub copied : (room text mid post block : List ℕ) (len width start : ℕ) → len ≤ length room → width ≤ 64
     → start + 64 ≤ length text → length mid ≡ 64 → block ≡ take 64 (drop start text)
     → take (len + width) (take len room ++ (put_chunk 0 mid block ++ post)) ≡ take len room ++ slice_range text start
@@ -67,7 +67,7 @@ copied_wide room bytes text len width start long l w h e =
     copied room text (mid_of len (len + 64 - len) room) (post_of len (len + 64 - len) room)
     (chunk 0 64 (take (start + 64 - start) (drop start bytes))) len width start (omega arith) w h mid block
 
--- marks behind the text's end are none
+-- zeros after the end of a text have no marks
 no_marks : (k : ℕ) → mask_l (map is_marked (replicate k 0)) ≡ 0
 no_marks zero = refl
 no_marks (suc k) = let e = no_marks k in omega arith
@@ -86,7 +86,7 @@ marks_of_rest rest new zeros r k e z l h =
     ∙ ap (λ s. mask_l (map is_marked (rest ++ s))) tail
     ∙ marks_padded rest (64 - k)
 
--- the block that a text has at a place: whole, or the part of one
+-- the block of a text at a place: a whole one, or the rest of the text
 pub block_whole : (text bytes : List ℕ) (place : ℕ) → bytes ≡ text
     → 64 ≤ length (take (length bytes - place) (drop place bytes))
     → chunk 0 64 (take (64 - 0) (drop 0 (take (length bytes - place) (drop place bytes)))) ≡ slice_range text place
@@ -111,7 +111,7 @@ block_part text bytes place e short within =
     let k : length text - place ≡ min (place + 64) (length text) - place = omega arith in
     all ∙ sym (take_rest text place) ∙ ap (λ i. take i (drop place text)) k
 
--- a shifted mask is the mask of what is left
+-- a shifted mask is the mask of the rest of the list
 mask_half : (b : Bool) (bs : List Bool) → mask_l (b ∷ bs) / 2 ≡ mask_l bs
 mask_half true bs = omega arith
 mask_half false bs = omega arith
@@ -135,7 +135,7 @@ drop_taken (suc k) (suc n) [] = take_none (suc n - suc k)
 drop_taken (suc k) (suc n) (x ∷ xs) = let e : suc n - suc k ≡ n - k = omega arith in drop_taken k n xs
     ∙ ap (λ i. take i (drop k xs)) (sym e)
 
--- the marks of what is left of a block
+-- the marks of the rest of a block
 pub marks_later : (text : List ℕ) (base seen place : ℕ) → base ≤ place → place ≤ seen
     → mask_l (map is_marked (slice_range text base seen)) / 2 ^ (place - base) ≡ mask_l
     (map is_marked (slice_range text place seen))
@@ -206,7 +206,7 @@ looked_up v long =
     (λ m l. looked_at v long m (let k = length-swz_l w8 16 MARKED 0 (map low_half v) in let n = length-map v low_half in
     omega arith))
 
--- an entry is the byte itself exactly where that is marked
+-- an entry is equal to the byte exactly if the byte is marked
 marked_here : (b : ℕ) → b < 256 → eqb (entry b) b ≡ is_marked b
 marked_here b l = agree_below_at (λ b. eqb (entry b) b) is_marked 256 b refl l
 
@@ -229,7 +229,7 @@ marks_are v long fits =
 
 -- The next marked byte of a text, by the marks of a block.
 
--- where no lane passes, the mask is 0
+-- if no lane passes, the mask is 0
 mask_cases : (p : ℕ → Bool) (x : ℕ) (xs : List ℕ) (b : Bool) → p x ≡ b
     → cond (not b) (1 + prefix_len (λ y. not (p y)) xs) 0 ≡ suc (length xs)
     → (prefix_len (λ y. not (p y)) xs ≡ length xs → mask_l (map p xs) ≡ 0) → cond b 1 0 + 2 * mask_l (map p xs) ≡ 0
@@ -272,7 +272,7 @@ block_marks {c} {place} k e l =
       marks_are = k.block.marks_are ∙ ap (λ b. mask_l (map is_marked (slice_range (text_of c) b c.seen))) e;
     }
 
--- a mark was found so many bytes behind the place
+-- the next mark is `width` bytes after the place
 pub record IsFound (text : List ℕ) (place seen width : ℕ) : Type 0 where
   pub before : width < seen - place
   pub mark : IsNextMark text place (place + width)
@@ -311,7 +311,7 @@ pub found : {text : List ℕ} {place seen marks width : ℕ} → HasMarks text p
     → width ≡ count_trailing_zeros 64 marks → IsFound text place seen width
 found h n e = found_mark h n e
 
--- none was found in the block
+-- the block has no mark from the place on
 pub found_none : {text : List ℕ} {place seen marks : ℕ} → HasMarks text place seen marks → marks ≡ 0
     → IsClear text place seen
 found_none {text} {place} {seen} {marks} h e =
@@ -346,7 +346,7 @@ mark_at_end {text} {from} {to} l w e c = record {
       λ h. absurd (omega arith);
 }
 
--- the walk may look on from a later place, where no mark stands between
+-- the walk can go on from a later place, if there is no mark between the places
 pub looking_clear : {c : Cursor} {place more : ℕ} (to : ℕ) → Looking c place more → place ≤ to → to ≤ length (text_of c)
     → IsClear (text_of c) place to → Looking c to more
 looking_clear {c} {place} {more} to k l w h =
@@ -381,7 +381,7 @@ stays_then h k = record {
   ahead_stays = k.ahead_stays ∙ h.ahead_stays;
 }
 
--- the walk may look on after its block, where no mark is left in it
+-- the walk can go on after its block, if no mark is left in it
 pub looked_to : {c : Cursor} {from : ℕ} (to : ℕ) → Looking c from 0 → from ≤ c.seen → to ≡ c.seen
     → IsClear (text_of c) from c.seen → Looking c to 0 × IsClear (text_of c) from to
 looked_to {c} {from} to k l e h =

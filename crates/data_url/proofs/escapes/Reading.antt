@@ -24,14 +24,14 @@ use Rattle.data_url.specs.Steps.Window.{is_marked}
 
 -- Digits and escapes, in what is left without tabs and newlines
 
--- a tab or newline is no '#'
+-- a tab or newline is not '#'
 no_hash : (b : ℕ) → is_tab_or_newline b ≡ true → (b == 35) ≡ false
 no_hash b h = ne_eqb b 35 (λ (e : b ≡ 35). both_ways (is_tab_or_newline b) (ap is_tab_or_newline e) h)
 
 hex_no_hash : (b : ℕ) → is_ascii_hexdigit b ≡ true → (b == 35) ≡ false
 hex_no_hash b h = ne_eqb b 35 (λ (e : b ≡ 35). both_ways (is_ascii_hexdigit b) (ap is_ascii_hexdigit e) h)
 
--- a text that begins with a digit of the value, past tabs and newlines, and goes on with rest
+-- a text that begins with a digit of this value, after tabs and newlines, and goes on with rest
 record HasDigit (s : List ℕ) (value : ℕ) (rest : List ℕ) : Type 0 where
   pub at : ℕ
   pub hex : is_ascii_hexdigit at ≡ true
@@ -89,7 +89,7 @@ no_digit (b ∷ s) h = elim (cases_Bool (is_tab_or_newline b)) [
   ]
 ]
 
--- a text that begins with two digits, past tabs and newlines
+-- a text that begins with two digits, each after tabs and newlines
 record HasEscape (s : List ℕ) (value : ℕ) (rest : List ℕ) : Type 0 where
   pub high : ℕ
   pub low : ℕ
@@ -193,7 +193,7 @@ body_passes b s h = body_of (b ∷ s) (without_tabs_and_newlines s) (dropped_pas
 pub after_passes : (b : ℕ) (s : List ℕ) → is_tab_or_newline b ≡ true → after 35 (b ∷ s) ≡ after 35 s
 after_passes b s h = after_other 35 b s (no_hash b h)
 
--- a byte that stands for itself
+-- a byte that the body holds as it is
 keeps_byte : (b : ℕ) (s : List ℕ) → is_tab_or_newline b ≡ false → (b == 35) ≡ false
     → ((b == 37) && two_digits (before 35 (without_tabs_and_newlines s))) ≡ false
     → plain_body (b ∷ s) ≡ b ∷ plain_body s
@@ -232,7 +232,7 @@ pub after_escape : (s : List ℕ) (value : ℕ) (rest : List ℕ) → escape s �
     → after 35 (37 ∷ s) ≡ after 35 rest
 after_escape s value rest h = let e = has_escape s value rest h in after_percent s ∙ e.after_is
 
--- What a walk reads between two places of its text, one after the other, and the looks that are paid for.
+-- What a walk reads between two places of its text, and the bound on how many bytes it has read.
 
 -- Reads
 
@@ -355,9 +355,9 @@ ends_cases (b ∷ s) h = ap (λ v. plain_body (v ∷ s)) h ∙ body_hash s
 pub ends_empty : {text : List ℕ} {place : ℕ} → EndsAt text place → plain_body (drop place text) ≡ []
 ends_empty {text} {place} h = ends_cases (drop place text) h.begins
 
--- Paid looks
+-- The bound on the bytes read
 
--- what is paid for is at most three times the text
+-- the bound is at most three times the length of the text
 pub paid_le : (text : List ℕ) (seen place : ℕ) → seen ≤ length text → place ≤ length text
     → paid_looks text seen place ≤ 3 * length text
 paid_le text seen place s p =
@@ -365,7 +365,7 @@ paid_le text seen place s p =
     let d = length-drop place text in
     omega arith
 
--- a byte that is no '%' pays for one look
+-- a byte that is not '%' makes the bound greater by one
 pub paid_byte : (text : List ℕ) (seen place : ℕ) → place < length text → not (get_or text place 0 == 37) ≡ true
     → paid_looks text seen (place + 1) ≡ paid_looks text seen place + 1
 paid_byte text seen place l h =
@@ -373,7 +373,7 @@ paid_byte text seen place l h =
     prefix_len-drop_yes (λ b. not (b == 37)) text place 0 l h in
     omega arith
 
--- a '%' pays for two, and for the bytes behind it up to the next one
+-- at a '%' no bytes come before the next '%', so nothing is added to the bound for them
 pub paid_percent : (text : List ℕ) (seen place to : ℕ) → place < length text → get_or text place 0 ≡ 37
     → paid_looks text seen place ≡ seen + 2 * place
 paid_percent text seen place to l h =
@@ -397,7 +397,7 @@ paid_for text seen from (suc n) l h =
     let e = ap (paid_looks text seen) k in
     omega arith
 
--- so do bytes without marks
+-- so do several bytes without marks
 pub paid_clear : (text : List ℕ) (seen from to : ℕ) → from ≤ to → to ≤ length text → IsClear text from to
     → paid_looks text seen from ≤ paid_looks text seen to
 paid_clear text seen from to l w h =

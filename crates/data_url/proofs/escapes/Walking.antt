@@ -1,4 +1,4 @@
--- The steps of a walk, its pieces, and what it gathers. For `Cursor` and `Pieces`.
+-- The steps of a walk, its pieces, and the bytes that it gathers. For `Cursor` and `Pieces`.
 use Rattle.std.proofs.Common.{◌≡◌, ℕ, zero, suc, ◌+◌, ◌-◌, ◌<◌, ◌≤◌, true, false, List, [], ◌∷◌, ◌++◌, length, take}
 use Rattle.std.proofs.Common.{drop, get_or, None, Some, refl, sym, ap, ap₂, ◌∙◌, subst, inl, inr, arith, length-append}
 use Rattle.std.proofs.Common.{eqb-true, Bool, not, ◌||◌, ◌≢◌, ◌&&◌, Option, is_some, ◌*◌, cond, set, append_assoc}
@@ -142,7 +142,7 @@ after_shorter s rest h =
     let l = length-append (before 35 s) (35 ∷ rest) in
     omega arith
 
--- where the same follows the first '#' of a text and of its end, no '#' comes before that end
+-- if the same text follows the first '#' of a text and of its end, there is no '#' before that end
 none_before : (n : ℕ) (s : List ℕ) → after 35 s ≡ after 35 (drop n s) → after 35 (take n s) ≡ None
 none_before zero s h = after_nil 35
 none_before (suc n) [] h = after_nil 35
@@ -155,7 +155,7 @@ none_before (suc n) (b ∷ s) h = elim (cases_Bool (b == 35)) [
   | inr e ↦ after_other 35 b (take n s) e ∙ none_before n s (sym (after_other 35 b s e) ∙ h)
 ]
 
--- what a walk reads comes before the first '#'
+-- the bytes that a walk reads come before the first '#'
 pub in_front : {text bytes : List ℕ} {from to : ℕ} → Reads text from to bytes → IsInFront text from to
 unfolding front
 in_front {text} {bytes} {from} {to} r =
@@ -210,9 +210,9 @@ looking_kept : {c c' : Cursor} {place more : ℕ} (place' more' : ℕ) → Looki
 looking_kept place' more' k h f w l = looking_as place' more' k h.stays.on.text_stays h.base_stays h.seen_stays
     h.marks_stay f w l
 
--- What stands at a mark
+-- What is at a mark
 
--- a walk that looked at a byte
+-- a walk that read a byte
 pub record Looked (c : Cursor) (mark b : ℕ) : Type 0 where
   pub looking : Looking c mark 0
   pub within : mark < length (text_of c)
@@ -257,7 +257,7 @@ stop_escape {c} {c'} {mark} {b} {value} {end} k h s d =
     let n = d.looks_are in
     (subst P (sym t) e, looking_kept end 3 k.looking s (omega arith) d.within (omega arith))
 
--- none was found (found by `search`)
+-- there is no escape at the '%' (found by `search`)
 pub stop_percent : {c c' : Cursor} {mark b : ℕ} → Looked c mark b → b ≡ 37 → KeepsBlock c c'
     → NoDigits (text_of c) (mark + 1) (c.source.looks + 1) c'.source.looks → LonePercent (text_of c') mark
     × Looking c' (mark + 1) 0
@@ -342,7 +342,7 @@ stop_end {c} {mark} k h =
 
 -- Searching
 
--- tabs and newlines were passed, and a stretch was found up to a place
+-- tabs and newlines were skipped, and a stretch was found up to a place
 pub record Searching (c0 c : Cursor) (from : ℕ) : Type 0 where
   pub looking : Looking c from 0
   pub on : LooksOn c0 c
@@ -410,7 +410,7 @@ reached {c0} {c} {c1} {c2} {from} {mark} s m a b =
           (without_tabs_clear (text_of c0) from mark m.forward within clear));
     }
 
--- a '%' that begins no escape is part of the stretch
+-- a '%' that does not begin an escape is part of the stretch
 pub search_percent : {c0 c : Cursor} {mark : ℕ} → Reached c0 c mark → LonePercent (text_of c) mark
     → Looking c (mark + 1) 0 → Searching c0 c (mark + 1)
 search_percent {c0} {c} {mark} r p k =
@@ -432,7 +432,7 @@ search_percent {c0} {c} {mark} r p k =
           (without_tabs_byte (text_of c0) mark q.within tab);
     }
 
--- a tab or newline before any stretch is passed
+-- a tab or newline before the stretch is skipped
 pub search_passed : {c0 c : Cursor} (c' : Cursor) {mark : ℕ} → Reached c0 c mark → IsPassed (text_of c) mark
     → Looking c (mark + 1) 0 → mark ≡ c.place → text_of c' ≡ text_of c → c'.source.looks ≡ c.source.looks
     → c'.base ≡ c.base → c'.seen ≡ c.seen → c'.marks ≡ c.marks → c'.place ≡ mark + 1 → Searching c0 c' (mark + 1)
@@ -508,7 +508,7 @@ slice_read {c0} {c} {mark} {bytes} r e =
     let P : List ℕ → Type 0 = λ s. Reads (text_of c0) c0.place mark s in
     subst P (sym (e ∙ ap (λ t. slice_range t c.place mark) r.on.text_stays)) (reads_then r.passed r.stretch)
 
--- a walk that was only moved
+-- a walk that was only moved to another place
 moved_on : {c0 c : Cursor} (place : ℕ) (ahead : Ahead) → LooksOn c0 c
     → LooksOn c0 (record c { place = place; ahead = ahead })
 moved_on place ahead h = record { text_stays = h.text_stays; looks_grow = h.looks_grow }
@@ -608,7 +608,7 @@ end_here {c0} {c} {mark} r e = record { on = moved_on c.place End r.on; reads = 
 pub goes_as : {c0 c c' : Cursor} {next : Option Piece} → c' ≡ c → GoesOn c0 next c → GoesOn c0 next c'
 goes_as {c0} {c} {c'} {next} e g = let P : Cursor → Type 0 = λ w. GoesOn c0 next w in subst P (sym e) g
 
--- Walks that know something of their place
+-- Walks that know something about their place
 
 pub reads_in : {text same bytes : List ℕ} {from to : ℕ} → same ≡ text → Reads same from to bytes
     → Reads text from to bytes
@@ -638,7 +638,7 @@ piece_from : (next : Option Piece) {c c1 : Cursor} (to : ℕ) → LooksOn c c1 �
 piece_from None to on e h = tt
 piece_from (Some p) to on e h = piece_of p to on.text_stays e h
 
--- a walk that was only looked on with goes on as the one before (found by `search`)
+-- a walk that has only read its text goes on as the one before (found by `search`)
 pub goes_then : {c c1 c2 : Cursor} {next : Option Piece} → LooksOn c c1 → c1.place ≡ c.place → GoesOn c1 next c2
     → GoesOn c next c2
 goes_then {c} {c1} {c2} {next} on e g =
@@ -764,7 +764,7 @@ ahead_at c a k e = let P : Ahead → Type 0 = λ x. KnowsAhead c x in subst P e 
 pub ahead_is : (c : Cursor) (a : Ahead) → c.ahead ≡ a → KnowsAhead c a → KnowsAhead c c.ahead
 ahead_is c a e k = let P : Ahead → Type 0 = λ x. KnowsAhead c x in subst P (sym e) k
 
--- Bytes that are gathered in a room.
+-- Bytes that are gathered in a buffer.
 
 -- nothing is gathered
 pub gathers_none : (c : Cursor) (room : List ℕ) (len : ℕ) → c.place ≤ length (text_of c) → Gathers c c room room len len
@@ -790,7 +790,7 @@ gathers_then {c} {c1} {c2} {room} {room1} {room2} {len} {len1} {len2} g h =
       len_is = omega arith;
     }
 
--- one byte is written behind what is there
+-- one byte is appended to the buffer
 pub gathers_byte : {c c' : Cursor} {room : List ℕ} {len b : ℕ} → LooksOn c c'
     → Reads (text_of c) c.place c'.place (b ∷ []) → len < length room → Gathers c c' room (set room len b) len (len + 1)
 gathers_byte {c} {c'} {room} {len} {b} on r l = record {
@@ -802,7 +802,7 @@ gathers_byte {c} {c'} {room} {len} {b} on r l = record {
   len_is = refl;
 }
 
--- only the walk goes on (found by `search`)
+-- only the walk goes on, and nothing is written (found by `search`)
 pub gathers_nothing : {c c' : Cursor} {room : List ℕ} {len : ℕ} → LooksOn c c' → Reads (text_of c) c.place c'.place []
     → Gathers c c' room room len len
 gathers_nothing {c} {c'} {room} {len} on r = record {
@@ -840,7 +840,7 @@ room_on {c} {c'} {len} h l m s = record {
   for_block = λ k. let p : c.place < c.seen = omega arith in let q = h.for_block p in omega arith;
 }
 
--- the value of an escape behind another one
+-- the value of an escape directly after another one
 pub gathers_escape : {c0 c c' : Cursor} {room0 room : List ℕ} {len0 len value : ℕ} → Gathers c0 c room0 room len0 len
     → LooksOn c c' → EscapeAt (text_of c) c.place value c'.place → len < length room
     → Gathers c0 c' room0 (set room len value) len0 (len + 1)
@@ -850,9 +850,9 @@ pub room_escape : {c c' : Cursor} {len value : ℕ} → HasRoom c len → len < 
     → EscapeAt (text_of c) c.place value c'.place → c'.seen ≡ c.seen → HasRoom c' (len + 1)
 room_escape h l e s = room_on h l e.some s
 
--- what stands at a mark, in a walk that looked at it and then went on behind it
+-- what is at a mark, for a walk that read it and went on after it
 
--- the walk looked on, and then went to a place
+-- the walk read its text, and then went to a place
 pub record Went (c c1 c' : Cursor) (place : ℕ) : Type 0 where
   pub on : LooksOn c c1
   pub text_is : text_of c' ≡ text_of c1
@@ -886,7 +886,7 @@ gathers_value {c} {c1} {c'} {room} {len} {value} {end} w p l =
     let P : List ℕ → Type 0 = λ t. EscapeAt t c.place value end in
     gathers_byte (went_on w) (reads_to w.place_is (reads_escape (subst P w.on.text_stays p))) l
 
--- the walk goes on in its block, where no mark stands before a place
+-- the walk goes on in its block, if there is no mark before a place
 pub may_at : {c : Cursor} {len : ℕ} (width : ℕ) → MayGather c len → c.place < c.seen → c.place + width ≤ c.seen
     → IsClear (text_of c) c.place (c.place + width) → MayGather (record c { place = c.place + width; ahead = c.ahead })
     (len + width)
@@ -922,7 +922,7 @@ gathers_block {c} {c'} {room} {room'} {len} m h clear on e k =
     let w = m.looking.block.seen_le in
     gathers_slice (c.seen - c.place) on (omega arith) (omega arith) (subst C (sym n) clear) k
 
--- what is left to be walked, and whether the end was found
+-- how far the walk still has to go, and whether it is at the end
 abbrev pub measure : ℕ → ℕ → Bool → ℕ
 measure total place ended = 2 * (total - place) + cond ended 0 1
 
@@ -942,7 +942,7 @@ smaller c0 {c1} {c'} {room} {room'} {len} {len'} total u p t m g =
     ap (λ x. measure total x false) p ∙ ap (λ a. measure total c0.place (has_ended a)) (sym u) in
     omega arith
 
--- What a walk promises to the one who uses it.
+-- The contract of a walk.
 
 rest_over : {c : Cursor} → Knows c → has_ended c.ahead ≡ true → plain_body (drop c.place (text_of c)) ≡ []
 rest_over {c} k e = ends_empty (ended_of k e).ends

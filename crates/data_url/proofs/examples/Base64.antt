@@ -1,4 +1,4 @@
--- Base64 texts and what the definitions make of them, computed.
+-- Base64 texts and what the definitions say about them, by computation.
 use Rattle.std.proofs.Common.{◌≡◌, ℕ, true, false, List, [], ◌∷◌, ◌++◌, None, Some, codes, replicate, refl}
 use Rattle.data_url.specs.Base64.{AlphabetSymbolAfterPadding, LoneAlphabetSymbol, Padding, UnexpectedSymbol, decoded}
 use Rattle.data_url.specs.Base64.{complete_bytes, first_fault, is_valid, kind_of, left_padding, left_symbols, left_text}
@@ -41,13 +41,13 @@ form_feed : (is_valid (codes "Q" ++ 12 ∷ codes "Q") ≡ true) × (decoded (cod
 unfolding on_literals
 form_feed = (refl, refl)
 
--- the group before a wrong pad is done
+-- the group before wrong padding is decoded
 whole_group_and_pad : (is_valid (codes "QUJD=") ≡ false) × (complete_bytes (codes "QUJD=") ≡ codes "ABC")
     × (kind_of (codes "QUJD=") ≡ Padding)
 unfolding on_literals
 whole_group_and_pad = (refl, refl, refl)
 
--- an unexpected byte is the fault, also behind a pad
+-- an unexpected byte is the fault, also after padding
 unexpected_after_pad : (first_fault (codes "=!") ≡ Some 1) × (kind_of (codes "=!") ≡ UnexpectedSymbol 33)
 unfolding on_literals
 unexpected_after_pad = (refl, refl)
@@ -56,7 +56,7 @@ above_ascii : (first_fault (255 ∷ []) ≡ Some 0) × (kind_of (255 ∷ []) ≡
 unfolding on_literals
 above_ascii = (refl, refl)
 
--- only what stands before the first fault is done
+-- only the groups before the first fault are decoded
 done_before_fault : (complete_bytes (codes "QUJDQ!UJDQUJD") ≡ codes "ABC")
     × (kind_of (codes "QUJDQ!UJDQUJD") ≡ UnexpectedSymbol 33)
 unfolding on_literals
@@ -71,7 +71,7 @@ alphabet : (decoded (codes "AZaz09+/") ≡ 1 ∷ 150 ∷ 179 ∷ 211 ∷ 223 ∷
 unfolding on_literals
 alphabet = refl
 
--- what is left of a text: symbols in their order, and pads counted up to three
+-- what is left over of a text: symbols in order, and '=' counted up to three
 left : (left_text (left_symbols (codes "QUJDY W=")) (left_padding (codes "QUJDY W=")) ≡ codes "YW=")
     × (left_padding many_pads ≡ 3)
 unfolding on_literals

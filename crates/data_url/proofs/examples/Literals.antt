@@ -1,4 +1,4 @@
--- What examples unfold.
+-- The definitions that examples unfold.
 use Rattle.std.specs.Prelude.{⊤}
 use Rattle.data_url.specs.Url.{after_scheme, before, after, cleaned_text, without_tabs_and_newlines, encoded_path}
 use Rattle.data_url.specs.Url.{fragment, front, percent_encoding, serialised, trimmed_text}
@@ -11,7 +11,7 @@ use Rattle.data_url.specs.Fetch.{outcome, staged, staged_front, stripped_header,
 use Rattle.data_url.specs.CodePoints.{is_quotable, is_token}
 use Rattle.data_url.specs.Mime.{printed}
 
--- what an example unfolds to compute the definitions on a literal
+-- the definitions that an example unfolds to compute with a literal
 unfoldable pub on_literals : ⊤
 unfolding is_token is_quotable after_scheme before after cleaned_text without_tabs_and_newlines encoded_path fragment
     front percent_encoding serialised trimmed_text percent_decoding after_groups without_whitespace decoded

@@ -1,4 +1,4 @@
--- MIME texts with their records and printed texts: each record by a derivation in the grammar, each printed text
+-- MIME types with their records and printed texts. Each record has a derivation in the grammar; each printed text is
 -- computed.
 use Rattle.std.proofs.Common.{◌≡◌, ℕ, Bool, true, false, List, [], ◌∷◌, ◌++◌, Option, None, Some, inl, inr, codes}
 use Rattle.std.proofs.Common.{append-nil, eq-eqb, eqb, refl, subst, sym, ◌∙◌, ap, map}
@@ -52,7 +52,7 @@ head type_ subtype r t s b begins ends = record {
   begins = b;
 }
 
--- ';', a name without whitespace before it, and what gives its value
+-- ';', a name without whitespace before it, and the text that gives its value
 parameter : (name tail rest : List ℕ) (value : Option (List ℕ)) → DoesNotBegin is_http_whitespace name
     → list_all (λ c. not (ends_name c)) name ≡ true → GivesValue tail rest value
     → IsParameter (59 ∷ (name ++ tail)) rest (map to_ascii_lowercase name, value)
@@ -96,13 +96,13 @@ are_units (Escaped c ∷ us) h = (tt, are_units us (and_parts true (list_all is_
 quoted_units : (us : List QuotedUnit) → list_all is_unit us ≡ true → Quoted (flat_map unit_text us) (map unit_value us)
 quoted_units us h = record { units = us; each = are_units us h; text_is = refl; value_is = refl }
 
--- the code points of a text, each for itself
+-- the code points of a text, each as it is
 abbrev plainly : List ℕ → List QuotedUnit
 plainly t = map Plain t
 
 -- Examples
 
--- a semicolon in quotes, a value that is missing, and one that is quoted and empty
+-- a semicolon in quotes, a missing value, and an empty value in quotes
 quotes : Parses (codes "TEXT/HTML;a=" ++ (34 ∷ codes "b;c" ++ (34 ∷ codes ";d=;e=" ++ (34 ∷ 34 ∷ []))))
     (record {
       type_ = codes "text";
@@ -167,7 +167,7 @@ parses_x r items begins ends are = record {
   };
 }
 
--- every mark of the token code points stands in a name
+-- a name can have every mark that is a token code point
 token_marks : Parses (codes "x/x;!#$%&'*+-.^_`|~=v") (x_x ((codes "!#$%&'*+-.^_`|~", codes "v") ∷ []))
 unfolding on_literals
 token_marks = parses_x (codes ";!#$%&'*+-.^_`|~=v") ((codes "!#$%&'*+-.^_`|~", Some (codes "v")) ∷ []) refl refl (
@@ -178,7 +178,7 @@ token_marks = parses_x (codes ";!#$%&'*+-.^_`|~=v") ((codes "!#$%&'*+-.^_`|~", S
   refl,
 )
 
--- U+007F and U+0100 stand in no value, U+0080 and U+00FF do
+-- a value cannot have U+007F or U+0100; it can have U+0080 and U+00FF
 edges_of_values : Parses
     (codes "x/x;a=" ++ (127 ∷ codes ";b=" ++ (128 ∷ codes ";c=" ++ (255 ∷ codes ";d=" ++ (256 ∷ [])))))
     (x_x ((codes "b", 128 ∷ []) ∷ (codes "c", 255 ∷ []) ∷ []))
@@ -227,7 +227,7 @@ repeated_name = parses_x (codes ";a=1;A=2") ((codes "a", Some (codes "1")) ∷ (
       (codes ";A=2", [], refl, parameter (codes "A") _ _ _ refl refl (plain_value (codes "2") _ refl refl refl), refl),
     )
 
--- what stands behind a closing quote is dropped, and does not count
+-- the code points after a closing quote are ignored
 junk_after_quote : Parses (codes "x/x;a=" ++ (34 ∷ 98 ∷ 34 ∷ 256 ∷ [])) (x_x ((codes "a", codes "b") ∷ []))
 unfolding is_unit on_literals
 junk_after_quote = parses_x (codes ";a=" ++ (34 ∷ 98 ∷ 34 ∷ 256 ∷ [])) ((codes "a", Some (codes "b")) ∷ []) refl refl (
@@ -240,7 +240,7 @@ junk_after_quote = parses_x (codes ";a=" ++ (34 ∷ 98 ∷ 34 ∷ 256 ∷ [])) (
   refl,
 )
 
--- a quoted value is judged as a whole: a semicolon belongs to it, and U+0100 makes its pair invalid
+-- a quoted value is tested as a whole: it can have a semicolon, and U+0100 makes its pair invalid
 code_point_above : Parses (codes "x/x;a=" ++ (34 ∷ 98 ∷ 59 ∷ 256 ∷ 34 ∷ [])) (x_x [])
 unfolding is_unit on_literals
 code_point_above = parses_x (codes ";a=" ++ (34 ∷ 98 ∷ 59 ∷ 256 ∷ 34 ∷ []))
@@ -253,7 +253,7 @@ code_point_above = parses_x (codes ";a=" ++ (34 ∷ 98 ∷ 59 ∷ 256 ∷ 34 ∷
       refl,
     )
 
--- a lone backslash at the end of the text stands for itself
+-- a backslash at the end of the input is part of the value
 last_backslash : Parses (codes "x/x;a=" ++ (34 ∷ 92 ∷ [])) (x_x ((codes "a", 92 ∷ []) ∷ []))
 unfolding is_unit on_literals
 last_backslash = parses_x (codes ";a=" ++ (34 ∷ 92 ∷ [])) ((codes "a", Some (92 ∷ [])) ∷ []) refl refl (
@@ -265,7 +265,7 @@ last_backslash = parses_x (codes ";a=" ++ (34 ∷ 92 ∷ [])) ((codes "a", Some 
   refl,
 )
 
--- escapes, a quote inside a plain value, and a quoted string that the end of the text closes
+-- escapes, a quote inside a value without quotes, and a quoted string that ends with the input
 abbrev escapes_text : List ℕ
 escapes_text = codes ";a=" ++ (34 ∷ 113 ∷ 92 ∷ 34 ∷ 114 ∷ 34 ∷ codes
     ";b=" ++ (34 ∷ 92 ∷ 97 ∷ 34 ∷ codes ";c=d" ++ (34 ∷ codes "e;f=" ++ (34 ∷ 103 ∷ []))))
@@ -306,7 +306,7 @@ escapes = parses_x escapes_text ((codes "a", Some (113 ∷ 34 ∷ 114 ∷ [])) �
   ),
 )
 
--- a name that is empty and one that is no token take their quoted strings with them
+-- a parameter whose name is empty or not a token is ignored together with its quoted string
 invalid_names : Parses (codes "x/x;=q;" ++ (233 ∷ codes "=" ++ (34 ∷ codes "a;b=c" ++ (34 ∷ codes ";d=e"))))
     (x_x ((codes "d", codes "e") ∷ []))
 unfolding is_unit on_literals
@@ -325,7 +325,7 @@ invalid_names = parses_x (codes ";=q;" ++ (233 ∷ codes "=" ++ (34 ∷ codes "a
       ),
     )
 
--- whitespace at and_parts ends, behind the subtype and before a name goes; a name has none left at its front alone
+-- whitespace is removed at both ends, after the subtype and before a name; at the end of a name it is kept
 whitespace : Parses (codes " a/b ; c=d ") (record {
   type_ = codes "a";
   subtype = codes "b";
@@ -399,7 +399,7 @@ no_subtype s e m h = let k =
     subst (λ t. IsTrue (is_token_text t)) (sym (has_parts s h.type_ h.subtype h.parameters h.head).subtype_is
     ∙ e) h.head.is_subtype in cc
 
--- what stands behind the subtype begins no parameter
+-- the text after the subtype does not begin a parameter
 no_parameters : (s : List ℕ) (r : List ℕ) → parameters_in (trimmed_of is_http_whitespace s) ≡ r
     → (BeginsParameters r → ⊥) → HasNoRecord s
 unfolding on_literals
@@ -428,7 +428,7 @@ unfolding on_literals
 space_in_subtype = no_parameters (codes "a/b c") (codes "c") refl (λ (e : ◌≡◌ {A = ℕ} 99 59). let k : eqb 99 59 ≡ true =
     eq-eqb 99 59 e in cc)
 
--- '?' is no token code point, so a header with a query behind its subtype has the default record
+-- '?' is not a token code point, so a header with a query after its subtype has the default record
 question_mark : IsRecordOf (codes "a/b?c") default_record
 unfolding on_literals
 question_mark = inr (
@@ -437,7 +437,7 @@ question_mark = inr (
   refl,
 )
 
--- the empty header has it too
+-- the empty header has the default record too
 empty_header : IsRecordOf [] default_record
 unfolding on_literals
 empty_header = inr (empty_text, refl)
@@ -448,7 +448,7 @@ printed_default : printed default_record ≡ codes "text/plain;charset=US-ASCII"
 unfolding on_literals
 printed_default = refl
 
--- a value that needs quotes, and one that is empty
+-- a value that needs quotes, and an empty one
 printed_quotes : printed (record {
   type_ = codes "text";
   subtype = codes "html";
@@ -465,7 +465,7 @@ printed_escapes : printed (x_x ((codes "a", 113 ∷ 34 ∷ 114 ∷ []) ∷ (code
 unfolding on_literals
 printed_escapes = refl
 
--- a record that no text has is printed as it is
+-- a record that parsing cannot return is printed too
 printed_by_hand : printed (record { type_ = codes "a b"; subtype = []; parameters = ([], 233 ∷ []) ∷ [] })
     ≡ codes "a b/;=" ++ (34 ∷ 233 ∷ 34 ∷ [])
 unfolding on_literals

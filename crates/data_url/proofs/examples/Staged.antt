@@ -1,4 +1,4 @@
--- Whole texts and what the staged Standard makes of them, computed.
+-- Whole texts and the result of the data: URL processor for them, by computation.
 use Rattle.std.proofs.Common.{◌≡◌, [], ◌∷◌, ◌++◌, None, Some, codes, refl}
 use Rattle.data_url.specs.Base64.{Padding, UnexpectedSymbol}
 use Rattle.data_url.specs.Fetch.{Accepted, Bad, Good, NoComma, NoScheme, staged, tail_of}
@@ -41,7 +41,7 @@ split_by_return : staged (codes "data:,%4" ++ (13 ∷ codes "1")) ≡ Accepted [
 unfolding on_literals
 split_by_return = refl
 
--- what an escape gave is no part of another
+-- the byte of an escape is not part of another escape
 escaped_percent : staged (codes "data:,%2541%254") ≡ Accepted [] (Good (codes "%41%4")) None
 unfolding on_literals
 escaped_percent = refl

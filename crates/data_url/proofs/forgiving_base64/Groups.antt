@@ -27,7 +27,7 @@ use Rattle.data_url.proofs.forgiving_base64.Padding.{fits_with, any_filter, filt
 use Rattle.data_url.specs.Laws.{GoesOn, TwoFeeds}
 use Rattle.data_url.specs.Mime.{Every}
 
--- Groups that a text begins with.
+-- Groups at the start of a text.
 
 -- How many bytes groups have
 
@@ -104,7 +104,7 @@ fill_symbols held block n m long few fits all =
       held_are = refl;
     }
 
--- so many groups of a row that was written behind others
+-- the first c groups of a row that was written after g groups
 pub row_held : (old new bytes : List ℕ) (g c : ℕ) → take (3 * g + 12) new ≡ take (3 * g) old ++ bytes
     → 3 * g ≤ length old → c ≤ 4 → take (3 * (g + c)) new ≡ take (3 * g) old ++ take (3 * c) bytes
 row_held old new bytes g c e within few =
@@ -148,7 +148,7 @@ fill_one held (p ∷ q ∷ r ∷ s ∷ rest) bytes h all e =
       held_are = refl;
     }
 
--- The symbols ahead
+-- The symbols at the start
 
 pub ahead_all : (s : List ℕ) → list_all is_symbol (take (prefix_len is_symbol s) s) ≡ true
 ahead_all s =
@@ -177,7 +177,7 @@ all_before block m n h all =
 
 -- A text that is fed in two parts.
 
--- the text w stands for what a left
+-- decoding goes on from the text w as it does from what is left over of a
 pub record Stands (a w : List ℕ) : Type 0 where
   pub symbols : filter is_symbol w ≡ after_groups (filter is_symbol a)
   pub pads : min (length (filter is_pad w)) 3 ≡ min (length (filter is_pad a)) 3
@@ -309,7 +309,7 @@ module _ (a b w : List ℕ) (st : Stands a w) where
     decoded_is = decoded_both;
   }
 
--- What is left stands for a text
+-- Decoding goes on from what is left over
 
 min_min : (n : ℕ) → min (min n 3) 3 ≡ min n 3
 min_min n = omega arith

@@ -1,4 +1,4 @@
--- Feeding while bytes wait for the closure. For `feed_blocks`, `feed_spaced` and `flush`.
+-- Feeding while decoded bytes are held. For `feed_blocks`, `feed_spaced` and `flush`.
 use Rattle.std.proofs.Common.{◌≡◌, ℕ, ◌+◌, ◌-◌, ◌%◌, ◌<◌, ◌≤◌, Fits, w8, length-take, length-take-le, Bool, true, false}
 use Rattle.std.proofs.Common.{cond, min, ◌||◌, inl, inr, List, [], ◌∷◌, ◌++◌, length, map, drop, get_or, take, take-add}
 use Rattle.std.proofs.Common.{Option, None, Some, is_some, Result, Ok, Err, refl, ap, ap₂, sym, ◌∙◌, subst, arith}
@@ -31,7 +31,7 @@ use Rattle.data_url.proofs.forgiving_base64.Padding.{after_groups-append, after_
 use Rattle.data_url.proofs.forgiving_base64.Padding.{every_list_all, fault-append, fault_byte, groups-append, is_pad}
 use Rattle.data_url.proofs.forgiving_base64.Padding.{length-after_groups, space_alone, symbol_alone}
 
--- A text of symbols and white space has no fault and no pad
+-- A text of symbols and white space has no fault and no padding
 
 one_allowed : (c : ℕ) → is_symbol_or_space c ≡ true → (fault_byte false (c ∷ []) ≡ None) × (is_pad c ≡ false)
 one_allowed c h =
@@ -70,7 +70,7 @@ no_items : (l : List ℕ) → length l ≡ 0 → l ≡ []
 no_items [] e = refl
 no_items (b ∷ l) e = absurd (omega arith)
 
--- whole groups, where nothing came before them
+-- whole groups, if nothing came before them
 pub adds_groups : {F : Type 0} {d : State F} (t more : List ℕ) → d.symbols ≡ [] → d.padding ≡ 0 → d.failed ≡ false
     → AreGroups t more → Adds d t more d
 unfolding values
@@ -145,7 +145,7 @@ module _ {F E : Type 0} (step : F → List ℕ → Result (Unit {0}) E → F →
         going = k.going;
       }
 
-  -- what one call makes of the run
+  -- the run with one more call
   called_run : {d d1 d2 : State F} {t held piece : List ℕ} {r : Result (Unit {0}) (DecodeError E)}
       (h : Holds step d t held d1) (w : CallsOnce step d1 piece r d2)
       → IsRun step d.closure (h.run ++ record { piece = piece; answer = w.told; after = d2.closure } ∷ []) d2.closure
@@ -159,7 +159,7 @@ module _ {F E : Type 0} (step : F → List ℕ → Result (Unit {0}) E → F →
   called_bytes piece h told g = joined_pieces-append h.run (record { piece = piece; answer = told; after = g } ∷ [])
       ∙ ap (λ x. joined_pieces h.run ++ x) (append-nil piece)
 
-  -- the end, or a fault: all that is held is handed out, in one call
+  -- the end, or a fault: the closure is called once with all bytes that are held
   pub written_feeds : {d d1 d2 : State F} {t held : List ℕ} {r : Result (Unit {0}) (DecodeError E)}
       (h : Holds step d t held d1) → length h.run + 1 ≤ length t → CallsOnce step d1 held r d2 → Feeds step d t r d2
   written_feeds {d} {d1} {d2} {t} {held} {r} h few w =
@@ -213,7 +213,7 @@ module _ {F E : Type 0} (step : F → List ℕ → Result (Unit {0}) E → F →
   flushed_feeds [] h f = quiet_feeds h f.0 f.1
   flushed_feeds (b ∷ bs) h f = written_feeds h (omega (arith, h.calls)) f
 
-  -- symbols that wait, of which the first groups go out as one piece
+  -- symbols that are held; the closure is called with their first groups as one piece
   called_wait : {d s1 s2 : State F} {t x : List ℕ} {r : Result (Unit {0}) (DecodeError E)} (q y : List ℕ)
       (h : Holds step d t (x ++ y) (waiting s1 q)) (w : CallsOnce step s1 x r s2)
       → complete_bytes (left_over d ++ t) ≡ joined_pieces (h.run ++ record {
@@ -309,7 +309,7 @@ module _ {F E : Type 0} (step : F → List ℕ → Result (Unit {0}) E → F →
         };
       }
 
-  -- behind what was fed and flushed
+  -- after what was fed and flushed
   pub refused_feeds : {d d1 d2 d4 : State F} (d3 : State F) {r : Result (Unit {0}) (DecodeError E)} {kind : Kind}
       (t held : List ℕ) (c : ℕ) → Holds step d t held d1 → Refuses d1 c kind d2 → Flushes step d2 held (Ok tt) d3
       → d4 ≡ record d3 { failed = true } → r ≡ Err (InvalidBase64 kind) → Feeds step d (t ++ c ∷ []) r d4
@@ -321,7 +321,7 @@ module _ {F E : Type 0} (step : F → List ℕ → Result (Unit {0}) E → F →
 
 -- Some more text
 
--- whole groups that the text begins with
+-- whole groups at the start of the text
 pub gains_groups : {F : Type 0} {d : State F} {held text held' : List ℕ} (taken : ℕ) → 0 < taken → d.symbols ≡ []
     → d.padding ≡ 0 → d.failed ≡ false → Fills held text taken held' → Gains d held text taken d held'
 gains_groups {text = text} taken some is_q is_p going f = record {
@@ -332,7 +332,7 @@ gains_groups {text = text} taken some is_q is_p going f = record {
   held_are = f.held_are;
 }
 
--- a block of symbols, where nothing is held
+-- a block of symbols, if nothing is held
 whole_fills : {bytes : List ℕ} (block : List ℕ) → ((i : ℕ) → Fits w8 (get_or block i 0)) → 64 ≤ length block
     → true ≡ list_all is_symbol (take 64 block) → bytes ≡ groups (map value_of (take 64 block))
     → Fills [] block 64 bytes
@@ -354,14 +354,14 @@ pub byte_at : (s : List ℕ) (at : ℕ) → at < length s → get_or (take (leng
 byte_at s at h = ap (λ t. get_or t 0 0) (take_rest s at) ∙ get_or-drop at s 0 0 ∙ ap (λ n. get_or s n 0) (omega arith)
 
 module _ {F E : Type 0} (step : F → List ℕ → Result (Unit {0}) E → F → Type 0) where
-  -- a group that is handed out at once
+  -- a group that is passed to the closure at once
   pub group_feeds : {d d1 d2 : State F} {t : List ℕ} {r : Result (Unit {0}) (DecodeError E)} (group : List ℕ)
       → 1 ≤ length t → Adds d t group d1 → CallsOnce step d1 group r d2 → Feeds step d t r d2
   unfolding holds_from
   group_feeds group some a w = let none : length (holds_from step a).run ≡ 0 = refl in
       written_feeds step (holds_from step a) (omega arith) w
 
-  -- what is held stays where the next byte is refused
+  -- the bytes that are held stay if the next byte is a fault
   pub stays_holds : {d d1 d2 : State F} {t held held' : List ℕ} {c : ℕ} {kind : Kind} → Holds step d t held d1
       → Refuses d1 c kind d2 → held' ≡ held → Holds step d t held' d2
   stays_holds {d} {d1} {d2} {t} {held} {held'} h f e =
@@ -381,12 +381,12 @@ module _ {F E : Type 0} (step : F → List ℕ → Result (Unit {0}) E → F →
       let A : List ℕ → Type 0 = λ t. Adds d1 t g.more d2 in
       subst P (sym (take-add at taken s)) (subst Q (sym g.held_are) (holds_adds step h (subst A same g.adds)))
 
-  -- the flush was refused
+  -- the closure returned an error
   pub flush_refused : {d d1 d2 : State F} {x : DecodeError E} (s : List ℕ) (at : ℕ) (held : List ℕ)
       → Holds step d (take at s) held d1 → Flushes step d1 held (Err x) d2 → Feeds step d s (Err x) d2
   flush_refused s at held h f = feeds_stop step s at (flushed_feeds step held h f)
 
-  -- a fault, behind which nothing is read
+  -- a fault, after which nothing is read
   pub fault_feeds : {d d1 d2 d4 : State F} (d3 : State F) {r : Result (Unit {0}) (DecodeError E)} {kind : Kind}
       (s held held' : List ℕ) (at c : ℕ) → at < length s → c ≡ get_or s at 0
       → Holds step d (take at s) held d1 → Refuses d1 c kind d2 → held' ≡ held → Flushes step d2 held' (Ok tt) d3
@@ -436,7 +436,7 @@ module _ {F E : Type 0} (step : F → List ℕ → Result (Unit {0}) E → F →
       let Q : List ℕ → Type 0 = λ t. Feeds step d1 t r d2 in
       subst P (take-append-drop at s) (feeds_then step f (subst Q (take_rest s at) g))
 
--- Symbols that wait
+-- Symbols that are held
 
 values_wait : (q k : List ℕ) → groups (map symbol_value (q ++ k)) ≡ groups (map symbol_value q) ++ groups
     (map symbol_value (after_groups q ++ k))
@@ -490,7 +490,7 @@ block_rest q bytes long size front =
     ∙ ap (λ b. b ++ groups (map symbol_value (drop 64 q))) (sym first)
 
 module _ {F E : Type 0} (step : F → List ℕ → Result (Unit {0}) E → F → Type 0) where
-  -- nothing was read, and nothing waits
+  -- nothing was read, and nothing is held
   pub none_wait : {d : State F} {q : List ℕ} (every : Every is_symbol d.symbols) → IsBetweenGroups d → d.failed ≡ false
       → q ≡ [] → Holds step d [] (groups (map symbol_value q)) (waiting d q)
   unfolding groups after_groups
@@ -520,7 +520,7 @@ module _ {F E : Type 0} (step : F → List ℕ → Result (Unit {0}) E → F →
       (subst R (sym more) (subst Q (sym (values_wait q (filter is_symbol row)))
       (holds_adds step h (row_adds s q row (every_list_all q every) allowed (omega (arith, size)) is_p h.going))))
 
-  -- 64 symbols go out
+  -- the closure is called with the bytes of 64 symbols
   pub block_goes : {d s1 s2 : State F} {t : List ℕ} (q q' bytes : List ℕ) → 64 ≤ length q → length bytes ≡ 48
       → DecodesFront q bytes → q' ≡ drop 64 q → Holds step d t (groups (map symbol_value q)) (waiting s1 q)
       → CallsOnce step s1 bytes (Ok tt) s2 → Holds step d t (groups (map symbol_value q')) (waiting s2 q')
@@ -532,7 +532,7 @@ module _ {F E : Type 0} (step : F → List ℕ → Result (Unit {0}) E → F →
       subst Q (sym is) (subst R (rest_after q long)
       (part_holds step q size (subst P (block_rest q bytes long size front) h) w))
 
-  -- which is refused
+  -- and returns an error
   pub block_refused : {d s1 s2 : State F} {e : DecodeError E} (text : List ℕ) (at : ℕ) (q bytes : List ℕ)
       → 64 ≤ length q → length bytes ≡ 48 → DecodesFront q bytes
       → Holds step d (take at text) (groups (map symbol_value q)) (waiting s1 q) → CallsOnce step s1 bytes (Err e) s2

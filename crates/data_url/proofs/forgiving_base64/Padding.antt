@@ -20,7 +20,7 @@ use Rattle.std.specs.Int.{is_in_range}
 use Rattle.data_url.proofs.texts.CodePoints.{range_high}
 use Rattle.std.specs.Char.{is_ascii_whitespace}
 
--- A walk over a text that remembers whether it has seen a pad, with the classes of bytes as variables.
+-- A walk over a text that remembers whether it has seen padding, with the classes of bytes as variables.
 
 pub some_not_none : {A : Type 0} (x : A) → Some x ≡ None → ⊥
 some_not_none x e = cc
@@ -29,7 +29,7 @@ pub or_true : (b : Bool) → (b || true) ≡ true
 or_true true = refl
 or_true false = refl
 
--- a byte that may not stand there, by its classes and by whether a pad stands before it
+-- whether a byte is a fault, from its classes and whether there is padding before it
 abbrev pub bad : Bool → Bool → Bool → Bool → Bool
 bad space pad symbol seen = not (space || (pad || symbol)) || (symbol && seen)
 
@@ -58,14 +58,14 @@ pad_alone of_pad e = (refl, refl)
 pad_alone of_symbol e = absurd (false≢true e)
 pad_alone of_none e = absurd (false≢true e)
 
--- behind a pad no symbol stands
+-- after padding there is no symbol
 seen_step : {x y z : Bool} (c : ℕ) (f : List ℕ) → Class x y z → bad x y z true ≡ false → f ≡ [] → cond z (c ∷ f) f ≡ []
 seen_step c f of_space e h = h
 seen_step c f of_pad e h = h
 seen_step c f of_symbol e h = absurd (true≢false e)
 seen_step c f of_none e h = h
 
--- without white space there are the symbols, and then the pads
+-- without white space there are the symbols, and then the padding
 compact_step : {x y z : Bool} (s : Bool) (c : ℕ) (u f g : List ℕ) → Class x y z → bad x y z s ≡ false
     → ((s || y) ≡ true → f ≡ []) → u ≡ f ++ g → cond (not x) (c ∷ u) u ≡ cond z (c ∷ f) f ++ cond y (c ∷ g) g
 compact_step s c u f g of_space e none h = h
@@ -76,7 +76,7 @@ compact_step s c u f g of_symbol e none h = ap (λ (x : List ℕ). c ∷ x) h
 compact_step s c u f g of_none e none h = absurd (true≢false e)
 
 module _ (space pad symbol : ℕ → Bool) where
-  -- a byte that may not stand there, by whether a pad stands before it
+  -- whether a byte is a fault, from whether there is padding before it
   abbrev pub is_bad : Bool → ℕ → Bool
   is_bad seen c = bad (space c) (pad c) (symbol c) seen
 
@@ -89,7 +89,7 @@ module _ (space pad symbol : ℕ → Bool) where
   stop seen [] = None
   stop seen (c ∷ t) = cond (is_bad seen c) (Some c) (stop (seen || pad c) t)
 
-  -- what stands before it
+  -- the bytes before it
   abbrev pub ahead : Bool → List ℕ → List ℕ
   ahead seen [] = []
   ahead seen (c ∷ t) = cond (is_bad seen c) [] (c ∷ ahead (seen || pad c) t)
@@ -204,7 +204,7 @@ module _ (space pad symbol : ℕ → Bool) where
     abbrev is_not_space : ℕ → Bool
     is_not_space c = not (space c)
 
-    -- white space stops no walk
+    -- white space does not stop a walk
     pub stop_compact : (b : List ℕ) (s : Bool) → stop s (filter is_not_space b) ≡ stop s b
     stop_compact [] s = refl
     stop_compact (c ∷ t) s =
@@ -239,7 +239,7 @@ module _ (space pad symbol : ℕ → Bool) where
               (λ q. seen_none t (ap (λ x. stop x t) (sym q) ∙ k)) (compact_walk t (s || pad c) k)
         ] refl h
 
-    -- Texts of symbols and of pads
+    -- Texts of symbols and of padding
 
     pub stop_symbols : (q b : List ℕ) → Every symbol q → stop false (q ++ b) ≡ stop false b
     stop_symbols [] b h = refl
@@ -308,10 +308,10 @@ any_filter p (c ∷ t) =
       | false ↦ any_filter p t
     ]
 
--- The first fault of a text: it is the least place of one, and a walk that remembers whether it has seen a pad finds
--- it.
+-- The first fault of a text has the smallest index of all faults, and a walk that remembers whether it has seen padding
+-- finds it.
 
--- The least place
+-- The smallest index
 
 -- from a on and before e, the place is the first that passes, or none passes
 abbrev IsLeast : (ℕ → Bool) → ℕ → ℕ → Option ℕ → Type 0
@@ -342,9 +342,9 @@ pub first_fault_least : (b : List ℕ) → IsFirstFault b (first_fault b)
 unfolding first_fault
 first_fault_least b = least_is b _ (find_least (is_fault b) (length b) 0 (length b) (omega arith))
 
--- Which texts are valid, by the number of their symbols and of their pads.
+-- Which texts are valid, from the numbers of their symbols and of their '='.
 
--- whether so many pads fit, by the remainder of the number of symbols
+-- whether that many '=' fit, from the number of symbols modulo four
 abbrev pub fits_with : ℕ → ℕ → Bool
 fits_with r zero = not (eqb r 1)
 fits_with r (suc zero) = eqb r 3
@@ -355,12 +355,12 @@ and_true : (b : Bool) → (b && true) ≡ b
 and_true true = refl
 and_true false = refl
 
--- Taking pads off the end
+-- Removing padding from the end
 
 pub is_symbol_pad : is_symbol 61 ≡ false
 is_symbol_pad = refl
 
--- a symbol is no pad
+-- a symbol is not '='
 pub symbol_no_pad : (c : ℕ) → is_symbol c ≡ true → eqb c 61 ≡ false
 symbol_no_pad c h = ne_eqb c 61 (λ e. false≢true (sym is_symbol_pad ∙ ap is_symbol (sym e) ∙ h))
 
@@ -376,7 +376,7 @@ unfolding without_last_padding
 without_pad_more a [] = refl
 without_pad_more a (b ∷ t) = refl
 
--- one pad is taken off
+-- one '=' is removed
 pub without_pad_push : (q : List ℕ) → without_last_padding (q ++ 61 ∷ []) ≡ q
 unfolding without_last_padding
 without_pad_push [] = refl
@@ -392,7 +392,7 @@ without_pad_pads q n =
     ∙ ap without_last_padding (sym (append_assoc q (replicate n 61) (61 ∷ [])))
     ∙ without_pad_push (q ++ replicate n 61)
 
--- Symbols and pads
+-- Symbols and padding
 
 list_all_every : (q : List ℕ) → Every is_symbol q → list_all is_symbol q ≡ true
 list_all_every [] h = refl
@@ -402,7 +402,7 @@ list_all_pads : (q : List ℕ) (n : ℕ) → list_all is_symbol (q ++ replicate 
 list_all_pads [] n = refl
 list_all_pads (a ∷ t) n = and_right (is_symbol a) (list_all is_symbol (t ++ replicate (suc n) 61)) (list_all_pads t n)
 
--- the text left after pads were taken off passes
+-- the text passes after its padding is removed
 abbrev passes : List ℕ → Bool
 passes u = not (eqb (length u % 4) 1) && list_all is_symbol u
 
@@ -427,7 +427,7 @@ unpadded_symbols q h = cond_both (eqb (length q % 4) 0) (without_last_padding (w
 length_pads : (q : List ℕ) (n : ℕ) → length (q ++ replicate n 61) ≡ length q + n
 length_pads q n = length-append q (replicate n 61) ∙ ap (λ x. length q + x) (length-replicate n 61)
 
--- with no pad
+-- without padding
 none_passes : (q : List ℕ) → Every is_symbol q → passes (without_padding (q ++ [])) ≡ fits_with (length q % 4) 0
 none_passes q h = ap (λ x. passes (without_padding x)) (append-nil q) ∙ ap passes (unpadded_symbols q h)
     ∙ passes_symbols q _ h refl
@@ -491,7 +491,7 @@ symbols_pads_pass q (suc zero) h = one_passes q h
 symbols_pads_pass q (suc (suc zero)) h = two_passes q h
 symbols_pads_pass q (suc (suc (suc n))) h = more_passes q n
 
--- symbols and pads, with white space anywhere, are valid by their numbers
+-- whether symbols and padding, with white space anywhere, are valid depends on their numbers
 pub symbols_pads_valid : (b q : List ℕ) (p : ℕ) → IsSymbolsAndPadding b q p → is_valid b ≡ fits_with (length q % 4) p
 unfolding is_valid
 symbols_pads_valid b q p h = ap (λ x. passes (without_padding x)) h.compact_is ∙ symbols_pads_pass q p h.symbols_are
@@ -519,7 +519,7 @@ padding_fits b q p h = (
       ∙ from_fits (length q) p f,
 )
 
--- The definitions of base64 by a walk that remembers whether it has seen a pad.
+-- The definitions of base64, as a walk that remembers whether it has seen padding.
 
 abbrev pub is_pad : ℕ → Bool
 is_pad c = eqb c 61
@@ -558,15 +558,15 @@ classes c =
       ] refl
     ] refl
 
--- the byte at the first fault, where a pad may stand before the text
+-- the byte at the first fault; there may be padding before the text
 unfoldable pub fault_byte : Bool → List ℕ → Option ℕ
 fault_byte seen b = stop is_ascii_whitespace is_pad is_symbol seen b
 
--- what stands before it
+-- the bytes before it
 unfoldable pub before_fault : Bool → List ℕ → List ℕ
 before_fault seen b = ahead is_ascii_whitespace is_pad is_symbol seen b
 
--- why a text is refused, by the byte at its fault and by how many symbols it has
+-- why a text is not valid, from the byte at its fault and the number of its symbols
 abbrev pub kind_by : ℕ → Option ℕ → Kind
 kind_by n None = cond (eqb (n % 4) 1) LoneAlphabetSymbol Padding
 kind_by n (Some c) = cond (is_symbol c) AlphabetSymbolAfterPadding (UnexpectedSymbol c)
@@ -640,7 +640,7 @@ pub before_none : (a : List ℕ) (s : Bool) → fault_byte s a ≡ None → befo
 unfolding fault_byte before_fault
 before_none a s h = ahead_none is_ascii_whitespace is_pad is_symbol a s h
 
--- a fault settles what is handed out and the kind, whatever follows
+-- after a fault, the text that follows changes neither the complete bytes nor the kind
 pub done_stays : (a b : List ℕ) (x : ℕ) → fault_byte false a ≡ Some x → complete_bytes (a ++ b) ≡ complete_bytes a
 done_stays a b x h = done_is (a ++ b) ∙ ap (λ z. groups (values z)) (before-append_some a b false x h) ∙ sym (done_is a)
 
@@ -651,7 +651,7 @@ kind_fault a x h = kind_is a ∙ ap (kind_by (length (values a))) h
 pub kind_stays : (a b : List ℕ) (x : ℕ) → fault_byte false a ≡ Some x → kind_of a ≡ kind_of (a ++ b)
 kind_stays a b x h = kind_fault a x h ∙ sym (kind_fault (a ++ b) x (fault-append_some a b false x h))
 
--- Symbols and then pads
+-- Symbols and then padding
 
 pub fault_symbols : (q b : List ℕ) → Every is_symbol q → fault_byte false (q ++ b) ≡ fault_byte false b
 unfolding fault_byte
@@ -697,7 +697,7 @@ pads_are (c ∷ t) =
       | false ↦ λ e. pads_are t
     ] refl
 
--- a text without a fault is its symbols and then its pads
+-- a text without a fault is its symbols and then its padding
 pub no_fault_text : (b : List ℕ) → fault_byte false b ≡ None
     → IsSymbolsAndPadding b (filter is_symbol b) (length (filter is_pad b))
 unfolding fault_byte without_whitespace
@@ -715,7 +715,7 @@ pub every_list_all : (q : List ℕ) → list_all is_symbol q ≡ true → Every 
 every_list_all [] h = tt
 every_list_all (c ∷ t) h = let k = and_parts (is_symbol c) (list_all is_symbol t) h in (k.0, every_list_all t k.1)
 
--- at most one pad stood at the end
+-- the second list is the first one, or the first one without one '=' at its end
 data Cut : List ℕ → List ℕ → Type 0 where
   same : {s : List ℕ} → Cut s s
   pad : {s : List ℕ} → Cut (s ++ 61 ∷ []) s
@@ -734,7 +734,7 @@ cut_is (a ∷ []) = elim (is_pad a) as (λ v. is_pad a ≡ v → Cut (a ∷ []) 
 ] refl
 cut_is (a ∷ b ∷ t) = Cut-more a (b ∷ t) (without_last_padding (b ∷ t)) (cut_is (b ∷ t))
 
--- symbols with pads cut off have no fault
+-- symbols without their padding have no fault
 cut_none : {s u : List ℕ} → Cut s u → fault_byte false u ≡ None → fault_byte false s ≡ None
 cut_none {s} {u} same h = h
 cut_none {s} {u} pad h = fault-append u (61 ∷ []) false h ∙ fault_pads 1 (list_any is_pad u)
@@ -815,7 +815,7 @@ every_after (p ∷ q ∷ []) h = h
 every_after (p ∷ q ∷ r ∷ []) h = h
 every_after (p ∷ q ∷ r ∷ s ∷ rest) h = every_after rest h.1.1.1.1
 
--- two lists of one remainder, with the same behind them, have one remainder
+-- lists whose lengths are equal modulo four stay so if the same list is appended to both
 pub length_alike : (x y : List ℕ) → length (x ++ y) % 4 ≡ length (after_groups x ++ y) % 4
 length_alike x y = sym (length-after_groups (x ++ y)) ∙ ap length (after_groups-append x y)
     ∙ length-after_groups (after_groups x ++ y)

@@ -191,7 +191,7 @@ row_clear row others long e =
     ∙ sym (filter-append is_symbol a b)
     ∙ ap (filter is_symbol) (take-append-drop 8 row)
 
--- put one behind the other
+-- two half rows, one put after the other
 pub two_halves : (front row : List ℕ) (others : ℕ) {middle end : List ℕ} → length row ≡ 16 → others ≡ others_mask row
     → middle ≡ front ++ clear (take 8 (drop 0 row)) (others % 256)
     → end ≡ middle ++ clear (take 8 (drop 8 row)) (others / 256) → end ≡ front ++ filter is_symbol row
@@ -247,7 +247,7 @@ all_clear [] e = refl
 all_clear (b ∷ v) e = let p = no_bit (is_symbol b) (others_mask v) e in ap (λ l. b ∷ l) (all_clear v p.1)
     ∙ sym (ap (λ t. cond t (b ∷ filter is_symbol v) (filter is_symbol v)) p.0)
 
--- Symbols that were put together
+-- Symbols that were appended
 
 pub filter_symbols : (v : List ℕ) → list_all is_symbol (filter is_symbol v) ≡ true
 filter_symbols [] = refl
@@ -267,12 +267,12 @@ pub list_all_every : (q : List ℕ) → Every is_symbol q → list_all is_symbol
 list_all_every [] h = refl
 list_all_every (c ∷ q) h = ap₂ (λ s t. s && t) h.0 (list_all_every q h.1)
 
--- what is behind the first n
+-- the symbols after the first n
 pub all_after : (n : ℕ) (q : List ℕ) → list_all is_symbol q ≡ true → list_all is_symbol (drop n q) ≡ true
 all_after n q h = (and_parts (list_all is_symbol (take n q)) (list_all is_symbol (drop n q))
     (sym (list_all-append is_symbol (take n q) (drop n q)) ∙ ap (list_all is_symbol) (take-append-drop n q) ∙ h)).1
 
--- the rest behind a block, moved to the front
+-- the bytes after a block, moved to the front
 pub moved : (old b1 b2 b3 b4 w x y z : List ℕ) (len : ℕ) → 64 ≤ len → len < 128 → take 16 b1 ≡ w
     → take (16 + 16) b2 ≡ take 16 b1 ++ x → take (32 + 16) b3 ≡ take 32 b2 ++ y → take (48 + 16) b4 ≡ take 48 b3 ++ z
     → w ≡ take 16 (drop 64 old) → x ≡ take 16 (drop 80 old) → y ≡ take 16 (drop 96 old) → z ≡ take 16 (drop 112 old)

@@ -35,7 +35,7 @@ use Rattle.data_url.specs.declared.forgiving_base64.InvalidBase64Details.TheVari
 use Rattle.data_url.specs.Laws.{GoesOn}
 use Rattle.data_url.proofs.forgiving_base64.Groups.{two_feeds}
 
--- What little more text does behind what a decoder has left over, and what its end does.
+-- What a short text does after what is left over in a decoder, and what the end of the input does.
 
 pub groups_few : (x : List ℕ) → length x ≤ 3 → groups x ≡ []
 unfolding groups
@@ -60,7 +60,7 @@ before_one c s h =
     elim (is_bad is_ascii_whitespace is_pad is_symbol s c) as (λ v. cond v (Some c) None ≡ Some c
     → cond v [] (c ∷ []) ≡ []) [ true ↦ λ e. refl | false ↦ λ e. absurd (some_not_none c (sym e)) ] h
 
--- whether a pad stands among so many
+-- whether there is padding among p times '='
 abbrev pub has_pad : ℕ → Bool
 has_pad p = list_any is_pad (replicate p 61)
 
@@ -92,7 +92,7 @@ module _ (q : List ℕ) (p : ℕ) (every : Every is_symbol q) where
   unfolding values
   values_left = ap (map symbol_value) (symbols_of_text q p every)
 
-  -- what comes of some text t without a fault
+  -- the result for a text t without a fault
   pub done_more : (t : List ℕ) → fault_byte (has_pad p) t ≡ None → complete_bytes (left_text q p ++ t) ≡ groups
       (map symbol_value (q ++ filter is_symbol t))
   done_more t h =
@@ -108,7 +108,7 @@ module _ (q : List ℕ) (p : ℕ) (every : Every is_symbol q) where
   unfolding left_padding
   padding_more t = ap (λ x. min x 3) (pads_more t)
 
-  -- and of one bad byte
+  -- and for one bad byte
   pub done_bad : (c : ℕ) → length q ≤ 3 → fault_byte (has_pad p) (c ∷ []) ≡ Some c
       → complete_bytes (left_text q p ++ c ∷ []) ≡ []
   done_bad c few h =
@@ -168,7 +168,7 @@ pads_space c e = filter_one is_pad c false (space_alone (classes c) e).0
 pub fault_symbol : (c : ℕ) → is_symbol c ≡ true → fault_byte false (c ∷ []) ≡ None
 fault_symbol c e = let k = symbol_alone (classes c) e in fault_one c false false false true k.0 k.1 e
 
--- a symbol behind a pad
+-- a symbol after padding
 pub fault_after : (c : ℕ) → is_symbol c ≡ true → fault_byte true (c ∷ []) ≡ Some c
 fault_after c e = let k = symbol_alone (classes c) e in fault_one c true false false true k.0 k.1 e
 
@@ -186,7 +186,7 @@ pub has_pad_some : (p : ℕ) → 1 ≤ p → has_pad p ≡ true
 has_pad_some zero h = absurd (omega arith)
 has_pad_some (suc p) h = refl
 
--- Groups of four and what is left, written out
+-- Groups of four and what is left over, written out
 
 four_groups : (a b c e : ℕ) → groups (a ∷ b ∷ c ∷ e ∷ []) ≡ group_bytes (group_number a b c e)
 unfolding groups
@@ -226,7 +226,7 @@ two_items (a ∷ []) n l e = absurd (omega arith)
 two_items (a ∷ b ∷ []) n l e = absurd (omega arith)
 two_items (a ∷ b ∷ c ∷ f ∷ t) n l e = absurd (omega arith)
 
--- Which pads fit behind so many symbols
+-- How many '=' fit after a number of symbols
 
 one_unfit : (p : ℕ) → fits_with 1 p ≡ false
 one_unfit zero = refl
@@ -234,7 +234,7 @@ one_unfit (suc zero) = refl
 one_unfit (suc (suc zero)) = refl
 one_unfit (suc (suc (suc p))) = refl
 
--- What one call tells
+-- What one call returns
 
 pub bool_at_true : (b : Bool) (P Q : Type 0) → b ≡ true → P → MatchBool b P Q
 bool_at_true true P Q e h = h
@@ -251,10 +251,10 @@ pub told_call : {E : Type 0} (answer : Result (Unit {0}) E) (r : Result (Unit {0
 told_call (Ok x) r P all bytes q f h = f h
 told_call (Err e) r P all bytes q f h = record { bytes_begin = prefix_all bytes all q; answer = h }
 
--- A decoder that takes a little text
+-- A decoder that is fed a short text
 
 module _ {F : Type 0} where
-  -- text t with the symbols k and n pads
+  -- a text t with the symbols k and n times '='
   pub adds_text : {d d' : State F} (t k bytes : List ℕ) (n : ℕ) → Every is_symbol d.symbols
       → fault_byte (has_pad d.padding) t ≡ None → filter is_symbol t ≡ k → length (filter is_pad t) ≡ n
       → bytes ≡ groups (map symbol_value (d.symbols ++ k)) → length bytes ≤ 3 * length t → d'.closure ≡ d.closure
@@ -275,7 +275,7 @@ module _ {F : Type 0} where
         going = failed;
       }
 
-  -- which completes no group
+  -- the text completes no group
   adds_quiet : {d d' : State F} (t k : List ℕ) (n : ℕ) → Every is_symbol d.symbols
       → fault_byte (has_pad d.padding) t ≡ None → filter is_symbol t ≡ k → length (filter is_pad t) ≡ n
       → length (d.symbols ++ k) ≤ 3 → d'.closure ≡ d.closure → d'.symbols ≡ d.symbols ++ k
@@ -320,7 +320,7 @@ module _ {F : Type 0} where
       (rw append-nil few)
       refl (sym (append-nil d.symbols)) (min_same d.padding pads) going
 
-  -- a pad
+  -- a '='
   adds_equals : {d d' : State F} → Every is_symbol d.symbols → length d.symbols ≤ 3 → d.failed ≡ false
       → d' ≡ record d { padding = min (d.padding + 1) 3 } → Adds d (61 ∷ []) [] d'
   adds_equals {d} {d'} every few going same =
@@ -368,7 +368,7 @@ module _ {F : Type 0} where
         stays = same;
       }
 
-  -- a symbol behind a pad
+  -- a symbol after padding
   pub refuses_after : {d d' : State F} (c : ℕ) → Every is_symbol d.symbols → length d.symbols ≤ 3 → 1 ≤ d.padding
       → is_symbol c ≡ true → d' ≡ d → Refuses d c AlphabetSymbolAfterPadding d'
   refuses_after {d} c every few pads symbol same =
@@ -376,7 +376,7 @@ module _ {F : Type 0} where
       same
       (ap (λ v. cond v AlphabetSymbolAfterPadding (UnexpectedSymbol c)) (sym symbol))
 
-  -- a byte of no class
+  -- a byte that is in no class
   pub refuses_other : {d d' : State F} (c : ℕ) → Every is_symbol d.symbols → length d.symbols ≤ 3
       → is_ascii_whitespace c ≡ false → is_pad c ≡ false → is_symbol c ≡ false → d' ≡ d
       → Refuses d c (UnexpectedSymbol c) d'
@@ -385,7 +385,7 @@ module _ {F : Type 0} where
       (ap (λ v. cond v AlphabetSymbolAfterPadding (UnexpectedSymbol c)) (sym symbol))
 
 module _ {F E : Type 0} (step : F → List ℕ → Result (Unit {0}) E → F → Type 0) where
-  -- what completes no group is fed without a call
+  -- a text that completes no group is fed without a call
   pub adds_feeds : {d d' : State F} {t : List ℕ} → Adds d t [] d' → Feeds step d t (Ok tt) d'
   adds_feeds {d} {d'} {t} a = record {
     run = [];
@@ -453,7 +453,7 @@ module _ {F E : Type 0} (step : F → List ℕ → Result (Unit {0}) E → F →
   decoded_rest d q every is_q few = decoded_left d.symbols d.padding every
       ∙ ap (λ q. groups (map symbol_value q) ++ rest_bytes (after_groups (map symbol_value q))) is_q ∙ decoded_few q few
 
-  -- what is left over was handed out
+  -- the closure was called with the bytes of what is left over
   pub flushes_rest : (d d' : State F) {r : Result (Unit {0}) (DecodeError E)} (q piece : List ℕ)
       → Every is_symbol d.symbols → d.symbols ≡ q → length q ≤ 3 → piece ≡ rest_bytes (map symbol_value q)
       → 0 < length piece → CallsOnce step d piece r d' → Flushes step d (decoded (left_over d)) r d'
@@ -503,9 +503,9 @@ module _ {F E : Type 0} (step : F → List ℕ → Result (Unit {0}) E → F →
 
 -- Feeding a decoder, piece by piece.
 
--- Accepted on a, and then on b
+-- Feeding a without an error, and then b
 
--- what an accepted feed of a says, at the text u that is left over and then a
+-- what feeding a without an error shows, for the text u, which is what was left over and then a
 pub record Took {F : Type 0} (u bytes : List ℕ) (d : State F) : Type 0 where
   pub no_fault : first_fault u ≡ None
   pub bytes_are : bytes ≡ complete_bytes u
@@ -527,7 +527,7 @@ refused_ok : {E : Type 0} (o : Option E) (P : Type 0) (all bytes : List ℕ)
 refused_ok None P all bytes h = (refl, h)
 refused_ok (Some e) P all bytes h = absurd (let k = h.answer in cc)
 
--- what goes on from u with b is what goes on from v
+-- decoding goes on from u with b as it does from v
 taken_on : {F E : Type 0} (u b v bytes : List ℕ) (r : Result (Unit {0}) (DecodeError E)) (d : State F) → GoesOn u b v
     → IsTaken v bytes r d → IsTaken (u ++ b) (complete_bytes u ++ bytes) r d
 taken_on u b v bytes r d g h = record {
@@ -554,7 +554,7 @@ refused_on u all bytes whole e r q h = record {
   answer = h.answer;
 }
 
--- Refused on a, whatever follows
+-- An error in a, whatever follows
 
 done_cases : (u b : List ℕ) (o : Option ℕ) → fault_byte false u ≡ o
     → IsPrefix (complete_bytes u) (complete_bytes (u ++ b))
@@ -562,7 +562,7 @@ done_cases u b None h = let g = two_feeds u b (none_fault u h) in
     (complete_bytes (left_text (left_symbols u) (left_padding u) ++ b), g.done_is)
 done_cases u b (Some c) h = prefix_all (complete_bytes u) (complete_bytes (u ++ b)) (sym (done_stays u b c h))
 
--- what was handed out of a text is a beginning of what is handed out of a longer one
+-- the complete bytes of a text are a prefix of those of a longer text
 pub done_begins : (u b : List ℕ) → IsPrefix (complete_bytes u) (complete_bytes (u ++ b))
 done_begins u b = done_cases u b (fault_byte false u) refl
 
@@ -585,7 +585,7 @@ left_over_is : {F : Type 0} {d : State F} (u : List ℕ) → IsLeft u d
 left_over_is {d = d} u h = ap (λ q. left_text q d.padding) h.symbols_are
     ∙ ap (λ p. left_text (left_symbols u) p) h.padding_is
 
--- behind a text without a fault, b goes on as it does behind what is left of the text
+-- decoding b after a text without a fault is the same as decoding it after what is left over of the text
 pub left_goes_on : {F : Type 0} {d : State F} (u b : List ℕ) → first_fault u ≡ None → IsLeft u d
     → GoesOn u b (left_over d ++ b)
 left_goes_on u b none left =
@@ -599,16 +599,16 @@ module _ {F E : Type 0} (step : F → List ℕ → Result (Unit {0}) E → F →
       let k = refused_ok (refusal f.run) _ (complete_bytes (left_over d ++ a)) (joined_pieces f.run) f.gave in
       (k.0, taken_ok (left_over d ++ a) (joined_pieces f.run) d' k.1)
 
-  -- where a was accepted, b goes on as the text does
+  -- if a was fed without an error, decoding b goes on as in the whole text
   pub feeds_goes_on : {d d' : State F} {a : List ℕ} (b : List ℕ) (f : Feeds step d a (Ok tt) d')
       → GoesOn (left_over d ++ a) b (left_over d' ++ b)
   feeds_goes_on {d} {d'} {a} b f = let t = (feeds_took f).1 in left_goes_on (left_over d ++ a) b t.no_fault t.left
 
-  -- what a decoder gives on u, as it runs
+  -- what the closure is called with for u
   abbrev Gives : List ℕ → Option E → List ℕ → Result (Unit {0}) (DecodeError E) → State F → Type 0
   Gives u o bytes r d = MatchOption o (IsTaken u bytes r d) (λ e. IsRefused (complete_bytes u) bytes e r)
 
-  -- accepted on a, and then fed b, is fed a and then b
+  -- feeding a without an error and then b is feeding a followed by b
   pub feeds_then : {d d1 d2 : State F} {a b : List ℕ} {r : Result (Unit {0}) (DecodeError E)}
       → Feeds step d a (Ok tt) d1 → Feeds step d1 b r d2 → Feeds step d (a ++ b) r d2
   feeds_then {d} {d1} {d2} {a} {b} {r} f g =
@@ -634,7 +634,7 @@ module _ {F E : Type 0} (step : F → List ℕ → Result (Unit {0}) E → F →
             g.gave)));
       }
 
-  -- what was refused on a is refused on a and b
+  -- an error in a is an error in a followed by b
   pub feeds_err : {d d' : State F} {a : List ℕ} {x : DecodeError E} (b : List ℕ) → Feeds step d a (Err x) d'
       → Feeds step d (a ++ b) (Err x) d'
   feeds_err {d} {d'} {a} {x} b f =
@@ -659,7 +659,7 @@ module _ {F E : Type 0} (step : F → List ℕ → Result (Unit {0}) E → F →
 
   -- A text, byte by byte
 
-  -- a beginning of s that is refused
+  -- a prefix of s with an error
   pub feeds_stop : {d d' : State F} {x : DecodeError E} (s : List ℕ) (i : ℕ) → Feeds step d (take i s) (Err x) d'
       → Feeds step d s (Err x) d'
   feeds_stop {d} {d'} {x} s i f = let P : List ℕ → Type 0 = λ t. Feeds step d t (Err x) d' in

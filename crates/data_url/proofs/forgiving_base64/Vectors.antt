@@ -26,7 +26,7 @@ use Rattle.data_url.proofs.forgiving_base64.Padding.{groups-append, length-after
 
 -- The table of symbols is the alphabet.
 
--- what the table is to have
+-- the entry that the table should have
 abbrev pub entry_of : ℕ → ℕ
 entry_of b = cond (is_symbol b) (symbol_value b) NO_SYMBOL
 
@@ -62,7 +62,7 @@ space_is b l = agree_below_at std_whitespace is_ascii_whitespace 256 b refl l
 
 -- What a row of lanes computes, byte by byte.
 
--- Lanes that were computed from v
+-- Lanes that are computed from v
 
 zip2-map : (h : ℕ → ℕ → ℕ) (f g : ℕ → ℕ) (xs : List ℕ) → zip2 h (map f xs) (map g xs) ≡ map (λ x. h (f x) (g x)) xs
 zip2-map h f g [] = refl
@@ -233,7 +233,7 @@ packed_is v ns long h e =
 
 -- Blocks of four rows.
 
--- What is no symbol
+-- Bytes that are not symbols
 
 pub map_agree : {A : Type 0} (f g : ℕ → A) → ((b : ℕ) → b < 256 → f b ≡ g b) → (v : List ℕ) → Each1 (Fits w8) v
     → map f v ≡ map g v
@@ -509,12 +509,12 @@ values_of_rows text long =
     (length-map w value_of ∙ row_length text 0 (omega arith)) (length-map x value_of ∙ row_length text 16 (omega arith))
     (length-map y value_of ∙ row_length text 32 (omega arith))
 
--- rows that were put one behind another
+-- rows that were put one after another
 pub put_three : (b1 b2 b3 x y z : List ℕ) → take 16 b1 ≡ x → take (16 + 16) b2 ≡ take 16 b1 ++ y
     → take (32 + 16) b3 ≡ take 32 b2 ++ z → length b3 ≡ 48 → b3 ≡ (x ++ y) ++ z
 put_three b1 b2 b3 x y z p q r long = sym (take_all 48 b3 (omega arith)) ∙ r ∙ ap (λ l. l ++ z) (q ∙ ap (λ l. l ++ y) p)
 
--- a row of which the first n bytes count
+-- a row of which only the first n bytes matter
 pub row_put : (at n : ℕ) (old new row bytes : List ℕ) → at + 16 ≤ length old → n ≤ 16
     → take (at + 16) new ≡ take at old ++ row → take n row ≡ bytes → take (at + n) new ≡ take at old ++ bytes
 row_put at n old new row bytes room few e is =

@@ -24,11 +24,11 @@ split_bool : (b : Bool) (P Q : Type 0) → MatchBool b P Q → ((b ≡ true) × 
 split_bool true P Q h = inl (refl, h)
 split_bool false P Q h = inr (refl, h)
 
--- all that an accepting closure gets of a text
+-- all bytes that the closure is called with, if it returns no error
 abbrev pub whole_bytes : List ℕ → List ℕ
 whole_bytes u = cond (is_valid u) (decoded u) (complete_bytes u)
 
--- what was handed out before a fault is a beginning of all
+-- the complete bytes of a text are a prefix of all its bytes
 pub done_whole : (u : List ℕ) → IsPrefix (complete_bytes u) (whole_bytes u)
 done_whole u =
     elim (is_valid u) as (λ v. is_valid u ≡ v → IsPrefix (complete_bytes u) (cond v (decoded u) (complete_bytes u))) [
@@ -42,7 +42,7 @@ match_either : {A : Type 0} (o : Option A) (P Q : Type 0) → MatchOption o P (�
 match_either None P Q m f = f m
 match_either (Some i) P Q m f = m
 
--- a text that was refused as it was fed is not valid
+-- a text that has a fault while it is fed is not valid
 taken_invalid : {F E : Type 0} (u bytes : List ℕ) (r : Result (Unit {0}) (DecodeError E)) (x : DecodeError E)
     (d : State F) (o : Option ℕ) → r ≡ Err x → fault_byte false u ≡ o → IsTaken u bytes r d
     → MatchBool (is_valid u) (IsAll u bytes r) ((bytes ≡ complete_bytes u) × (r ≡ Err (InvalidBase64 (kind_of u))))
@@ -52,14 +52,14 @@ taken_invalid u bytes r x d (Some c) q h t = bool_at_false (is_valid u) _ _ (fau
     (t.bytes_are, match_either (first_fault u) _ _ t.answer (λ k. absurd (let e = k.0 in cc)))
 
 module _ {F E : Type 0} (step : F → List ℕ → Result (Unit {0}) E → F → Type 0) where
-  -- what a decoder gives of a whole text, as it runs
+  -- what the closure is called with for a whole text
   abbrev Whole : List ℕ → Option E → List ℕ → Result (Unit {0}) (DecodeError E) → Type 0
   Whole u o bytes r =
       MatchOption o (MatchBool (is_valid u) (IsAll u bytes r) ((bytes ≡ complete_bytes u)
       × (r ≡ Err (InvalidBase64 (kind_of u)))))
       (λ e. IsRefused (whole_bytes u) bytes e r)
 
-  -- refused as it was fed
+  -- an error while the text is fed
   refused_fed : {d d' : State F} {u : List ℕ} {x : DecodeError E} → Feeds step d u (Err x) d' → left_over d ++ u ≡ u
       → DecodesText step d.closure u (Err x) d'.closure
   refused_fed {d} {d'} {u} {x} f same =
@@ -135,7 +135,7 @@ module _ {F E : Type 0} (step : F → List ℕ → Result (Unit {0}) E → F →
             ]);
       }
 
-  -- a new decoder was fed nothing
+  -- a new decoder is fed nothing
   pub fed_nothing : {d : State F} {f : F} → d ≡ start f → Feeds step (start f) [] (Ok tt) d
   fed_nothing {d} {f} e = feeds_none step tt (omega arith) (omega arith) refl e
 
@@ -149,7 +149,7 @@ module _ {F E : Type 0} (step : F → List ℕ → Result (Unit {0}) E → F →
   decodes_finished {d} {d'} {f} {f'} {u} e g h = let P : State F → Type 0 = λ s. Feeds step s u (Ok tt) d' in
       fed_finished (subst P e g) refl h
 
--- A closure that keeps the bytes that it accepts
+-- A closure that appends its bytes
 
 all_ok : {E : Type 0} (o : Option E) (P : Type 0) (all bytes : List ℕ) (r : Result (Unit {0}) (DecodeError E))
     → r ≡ Ok tt → MatchOption o P (λ e. IsRefused all bytes e r) → (o ≡ None) × P
@@ -174,7 +174,7 @@ whole_ok : {E : Type 0} (v : Bool) (u bytes : List ℕ) (r : Result (Unit {0}) (
 whole_ok true u bytes r q h = h.bytes_are
 whole_ok false u bytes r q h = absurd (let k = h.1 in cc)
 
--- after an accepted run it has all their bytes behind its own
+-- after a run without an error, all bytes of the run are appended to it
 pub run_reads : {F E : Type 0} (step : F → List ℕ → Result (Unit {0}) E → F → Type 0) (J : F → List ℕ)
     → ((g : F) (piece : List ℕ) (g' : F) → step g piece (Ok tt) g' → J g' ≡ J g ++ piece)
     → (cs : List (Call F E)) (f f' : F) → IsRun step f cs f' → refusal cs ≡ None → J f' ≡ J f ++ joined_pieces cs
@@ -183,7 +183,7 @@ run_reads step J keeps (c ∷ cs) f f' ran n = call_reads step J keeps c f (J f'
     (accepted_call c.answer (refusal cs) n)
     (run_reads step J keeps cs c.after f' ran.2 (later_none c.answer (refusal cs) n))
 
--- what a closure that keeps its bytes has after a text that was decoded
+-- what a closure that appends its bytes holds after a text was decoded
 pub decodes_reads : {F E : Type 0} {step : F → List ℕ → Result (Unit {0}) E → F → Type 0} {f f' : F} {u : List ℕ}
     {r : Result (Unit {0}) (DecodeError E)} → DecodesText step f u r f' → r ≡ Ok tt → (J : F → List ℕ)
     → ((g : F) (piece : List ℕ) (g' : F) → step g piece (Ok tt) g' → J g' ≡ J g ++ piece) → J f' ≡ J f ++ decoded u
@@ -204,7 +204,7 @@ given_err : {E : Type 0} (o : Option E) (P : Type 0) (all bytes : List ℕ) (r :
 given_err None P all bytes r kind q h = h
 given_err (Some e) P all bytes r kind q h = absurd (let k = h.answer in cc)
 
--- the error of a vector that was to have the bytes
+-- the error of decoding into a vector
 pub text_error : {F E : Type 0} {step : F → List ℕ → Result (Unit {0}) E → F → Type 0} {f f' : F} {u : List ℕ}
     {r : Result (Unit {0}) (DecodeError E)} (x : DecodeError E) → DecodesText step f u r f' → r ≡ Err x
     → IsErrorOf u (vec_error x)
@@ -212,7 +212,7 @@ text_error {u = u} {r = r} (InvalidBase64 kind) h q = whole_err (is_valid u) u (
     (given_err (refusal h.run) _ (whole_bytes u) (joined_pieces h.run) r kind q h.gave)
 text_error (WriteError e) h q = tt
 
--- what each call keeps, a run keeps
+-- what each call preserves, a run preserves
 pub run_keeps : {F E A : Type 0} (step : F → List ℕ → Result (Unit {0}) E → F → Type 0) (K : F → A)
     → ((g : F) (piece : List ℕ) (r : Result (Unit {0}) E) (g' : F) → step g piece r g' → K g ≡ K g')
     → (cs : List (Call F E)) (f f' : F) → IsRun step f cs f' → K f ≡ K f'

@@ -21,7 +21,7 @@ use Rattle.data_url.proofs.percent.Encoding.{IsBytes, encoded_cons, encoded_nil}
 use Rattle.data_url.proofs.mime.Items.{every_append, every_from_all}
 use Rattle.data_url.proofs.texts.Bytes.{dropped_keeps, dropped_nil}
 
--- What is encoded has such bytes alone
+-- An encoded text has only such bytes
 
 outside_set : (b : ℕ) → b < 256 → in_fragment_set b ≡ false → is_fragment_byte b ≡ true
 outside_set b l h = sym (agree_below_at (λ c. not (in_fragment_set c)) is_fragment_byte 256 b refl l) ∙ ap not h

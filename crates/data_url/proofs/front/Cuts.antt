@@ -76,7 +76,7 @@ spelled_length : (s : List ℕ) (n : ℕ) → Spells s n → length (without_tab
 spelled_length s n h = sym (length-map (without_tabs_and_newlines s) to_ascii_lowercase) ∙ ap length h.spelled
     ∙ length-take n scheme ∙ omega (arith, h.open_at)
 
--- the text is over before the scheme is
+-- the text ends before the scheme does
 pub ends_early : (s : List ℕ) (n : ℕ) → Spells s n → HasNoScheme s
 ends_early s n h = false_from_ne_true (bytes_eq (map to_ascii_lowercase (take 5 (without_tabs_and_newlines s))) scheme)
     (λ e.
@@ -88,7 +88,7 @@ ends_early s n h = false_from_ne_true (bytes_eq (map to_ascii_lowercase (take 5 
     let below = h.open_at in
     omega (arith, five, short, below))
 
--- another byte stands in its place
+-- the next byte is not the next byte of the scheme
 pub differs : (text s : List ℕ) (n b : ℕ) (rest : List ℕ) → Spells s n → is_tab_or_newline b ≡ false
     → to_ascii_lowercase b ≢ get_or scheme n 0 → text ≡ s ++ b ∷ rest → HasNoScheme text
 differs text s n b rest h e ne is =
@@ -111,7 +111,7 @@ differs text s n b rest h e ne is =
     (length-map (without_tabs_and_newlines s) to_ascii_lowercase ∙ spelled_length s n h) in
     ne (sym at_n ∙ ap (λ t. get_or t n 0) whole))
 
--- a byte that is spelled so is ASCII
+-- a byte of the scheme, in any ASCII case, is ASCII
 pub scheme_is_ascii : (n b : ℕ) → n < 5 → to_ascii_lowercase b ≡ get_or scheme n 0 → b < 128
 scheme_is_ascii n b l e =
     let low : get_or scheme n 0 < 128 =
@@ -145,7 +145,7 @@ common_scheme text rest h e = record {
 
 -- The first comma or '#' of a text.
 
--- a text without the byte at the places below n lacks it before n
+-- a text that does not have the byte at an index below n does not have it before n
 lacks_in_take : (c : ℕ) (s : List ℕ) (n : ℕ) → ((k : ℕ) → k < n → (get_or s k 0 == c) ≡ false)
     → after c (take n s) ≡ None
 lacks_in_take c s n h = after_none c (take n s) (λ k l.
@@ -155,14 +155,14 @@ lacks_in_take c s n h = after_none c (take n s) (λ k l.
 cut_at : (s : List ℕ) (n : ℕ) → n < length s → s ≡ take n s ++ get_or s n 0 ∷ drop (n + 1) s
 cut_at s n l = sym (take-append-drop n s) ∙ ap (λ t. take n s ++ t) (drop_more s n 0 l)
 
--- what the place of the first comma or '#' tells
+-- what the place of the first comma or '#' shows
 pub record IsFrontEnd (s : List ℕ) (n : ℕ) : Type 0 where
   pub within : n < length s
   pub is : (get_or s n 0 ≡ 44) ⊎ (get_or s n 0 ≡ 35)
   pub no_comma : after 44 (take n s) ≡ None
   pub no_hash : after 35 (take n s) ≡ None
 
--- neither stands before the place
+-- neither ',' nor '#' is before the place
 abbrev pub NoEndBefore : List ℕ → ℕ → Type 0
 NoEndBefore s n = (k : ℕ) → k < n → ends_header (get_or s k 0) ≡ false
 
@@ -230,7 +230,7 @@ at_none s m h e =
 pub is_ascii_end : (s : List ℕ) (n : ℕ) → IsFrontEnd s n → get_or s n 0 < 128
 is_ascii_end s n f = ⊎_elim (λ h. omega arith) (λ h. omega arith) f.is
 
--- The bytes of a path that are serialised as they stand
+-- The bytes of a path that are serialised as they are
 
 pub plain_front : (s items : List ℕ) (n : ℕ) → items ≡ s → n ≡ prefix_len is_plain_path items
     → ((i : ℕ) → get_or s i 0 < 256) → (k : ℕ) → k < n → Plain (get_or s k 0)
@@ -272,7 +272,7 @@ pub no_front_end : (s items : List ℕ) (n : ℕ) (r : Option ℕ) → items ≡
     → after 44 (front s) ≡ None
 no_front_end s items n r e f h p g = at_none s n (no_end_ahead s items n e f h) (ends_ahead s items n r e p ∙ g)
 
--- what stands before the comma where it comes right behind the plain bytes
+-- the header, if the comma comes directly after the plain bytes
 pub plain_before : (s items header : List ℕ) (n k : ℕ) → items ≡ s → n ≡ prefix_len is_plain_path items → FitsBytes s
     → header ≡ take (n + k) s → n + k ≡ n → header_text (without_tabs_and_newlines header) ≡ header
 plain_before s items header n k e f h is same = plain_header s header n (plain_front s items n e f h) (is

@@ -66,7 +66,7 @@ path_other [] c e =
 path_other (b ∷ s) c e = path_more b s c ∙ ap (λ t. encoded_byte in_path_set b ++ t) (path_other s c e)
     ∙ sym (encoded_cons in_path_set b (s ++ c ∷ []))
 
--- tabs and newlines alone
+-- only tabs and newlines
 all_dropped : (s : List ℕ) → ((k : ℕ) → k < length s → is_tab_or_newline (get_or s k 0) ≡ true)
     → without_tabs_and_newlines s ≡ []
 all_dropped [] h = dropped_nil
@@ -91,7 +91,7 @@ suffix_stops p s m n e at =
     subst (λ v. p (get_or s v 0) ≡ false) back (subst (λ v. p v ≡ false) (get_or-reverse s m 0 (omega arith))
     (subst (λ v. p (get_or (reverse s) v 0) ≡ false) (sym e) (prefix_len_stops p (reverse s) 0 within)))
 
--- a text, cut before its last byte that is no tab or newline
+-- a text, cut before its last byte that is not a tab or newline
 pub dropped_end : (s : List ℕ) (m n : ℕ) → m ≡ suffix_len is_tab_or_newline s → length s ≡ (n + 1) + m
     → without_tabs_and_newlines s ≡ without_tabs_and_newlines (take n s) ++ get_or s n 0 ∷ []
 dropped_end s m n e at =
@@ -153,7 +153,7 @@ header_and_query path rest h =
     (without_tabs_and_newlines rest) lacks)
     ∙ ap (λ s. encoded_path (without_tabs_and_newlines path) ++ s) (sym query)
 
--- nothing behind a path
+-- nothing after a path
 nothing_after : (path : List ℕ) → encoded_parts path [] [] ≡ percent_encoding in_path_set
     (without_tabs_and_newlines path)
 nothing_after path = ap (λ s. percent_encoding in_path_set (without_tabs_and_newlines path) ++ s)
@@ -171,7 +171,7 @@ pub some_bytes : (s : List ℕ) (v : Bool) → v ≡ (length s == 0) → v ≡ f
 some_bytes [] v e f n = absurd (let k : true ≡ false = sym e ∙ f in cc)
 some_bytes (b ∷ s) v e f n = absurd (let k = n in cc)
 
--- where there is no last space, or no query
+-- if there is no last space, or no query
 pub parts_whole : (header path query : List ℕ) → IsPathAndQuery header path query → (query ≡ []) ⊎ HasNoLastSpace path
     → encoded_parts path [] query ≡ header_text (without_tabs_and_newlines header)
 parts_whole header path query h end = ⊎_elim
@@ -189,7 +189,7 @@ parts_whole header path query h end = ⊎_elim
     end)
     h.query_begins
 
--- where there is
+-- if there is
 pub parts_spaced : (header path front query : List ℕ) → IsPathAndQuery header path query → query ≢ []
     → WithoutSpace path front → encoded_parts front (codes "%20") query ≡ header_text (without_tabs_and_newlines header)
 parts_spaced header path front query h there w = ⊎_elim
@@ -282,7 +282,7 @@ ends_dropped s (last init b e h) =
 drop_nothing : (n : ℕ) → ◌≡◌ {A = List ℕ} (drop n []) []
 drop_nothing n = drop_of_length-le [] (omega arith)
 
--- so does taking bytes off the front, unless nothing is left
+-- so does removing bytes from the front, unless nothing is left
 ends_after : (n : ℕ) (s : List ℕ) → Ends s → Ends (drop n s)
 ends_after n s (nothing e) = nothing (ap (drop n) e ∙ drop_nothing n)
 ends_after n s (last init b e h) = elim (cases_lt (length init) n) [

@@ -1,4 +1,4 @@
--- The stages of the Standard, from a text as it was given to its record. For `DataUrl::process`.
+-- The stages of the Standard, from the input to its record. For `DataUrl::process`.
 use Rattle.std.proofs.Common.{◌≡◌, ℕ, zero, suc, ◌+◌, ◌-◌, ◌/◌, ◌%◌, ◌<◌, ◌≤◌, Bool, false, cond, List, [], ◌∷◌, ◌++◌}
 use Rattle.std.proofs.Common.{length, get_or, take, drop, reverse, Option, None, Some, refl, sym, ap, ◌∙◌, inl, inr}
 use Rattle.std.proofs.Common.{subst, ⊎_elim, arith, eqb-true, true, map, codes, ◌≢◌, is_some, IsTrue, Result}
@@ -42,7 +42,7 @@ use Rattle.data_url.specs.MimeType.{record_of}
 use Rattle.data_url.specs.declared.DataUrl.{DataUrl}
 use Rattle.data_url.specs.declared.forgiving_base64.DecodeError.{DecodeError}
 
--- Serialised headers hold printable bytes alone, so that trimming them is stripping their spaces.
+-- Serialised headers have only printable bytes, so that trimming them is the same as stripping their spaces.
 
 -- Serialised texts
 
@@ -170,7 +170,7 @@ printable_stripped s h =
     let front = drop (prefix_len is_space s) s in
     printable_take (length front - suffix_len is_space front) front (printable_drop (prefix_len is_space s) s h)
 
--- From the text as it was given, cut behind its scheme and at its first comma, to the stages of the Standard.
+-- From the input, cut after its scheme and at its first comma, to the stages of the Standard.
 
 -- Bytes
 
@@ -194,7 +194,7 @@ bytes_before c (b ∷ s) h = elim (b == c) as (λ v. IsBytes (cond v [] (b ∷ b
       (h.0, bytes_before c s h.1)
 ]
 
--- The scheme holds no comma
+-- The scheme has no comma
 
 lowercase_comma : (b : ℕ) → (to_ascii_lowercase b == 44) ≡ false → (b == 44) ≡ false
 lowercase_comma b h =
@@ -228,7 +228,7 @@ scheme_has_no_comma scheme e =
     lacks_before_dropping 44 refl scheme (lacks_comma (without_tabs_and_newlines scheme) (ap (after 44) e
     ∙ scheme_lacks))
 
--- Behind the scheme
+-- After the scheme
 
 scheme_length : (scheme : List ℕ) → map to_ascii_lowercase (without_tabs_and_newlines scheme) ≡ codes "data:"
     → length (without_tabs_and_newlines scheme) ≡ 5
@@ -261,7 +261,7 @@ after_none t h = cond-false (bytes_eq (map to_ascii_lowercase (take 5 (without_t
 
 -- Header, body and fragment
 
--- what stands behind a scheme, cut at its first comma
+-- the text after a scheme, cut at its first comma
 pub record IsStaged (rest header tail : List ℕ) : Type 0 where
   pub front_is : front (without_tabs_and_newlines rest) ≡ without_tabs_and_newlines header ++ 44 ∷ front
       (without_tabs_and_newlines tail)
@@ -287,7 +287,7 @@ pub front_of : (t a : List ℕ) → after_scheme t ≡ Some a → staged_front t
 unfolding staged_front
 front_of t a h = ap (option_map (λ a. serialised (front a))) h
 
--- the tail that a recoded one stands for
+-- s has a comma; t is the text after it with some bytes percent-encoded
 pub record HasTail (s t : List ℕ) : Type 0 where
   pub rest : List ℕ
   pub is : after 44 s ≡ Some rest
@@ -348,7 +348,7 @@ no_tail_of s x e h = no_tail_at (after 44 s) (after 44 x) e h where
   no_tail_at None (Some y) e h = absurd h
   no_tail_at (Some t) p e h = cc
 
--- cutting at a byte that is kept, and dropping, come to one
+-- cutting at a byte that is kept, and dropping tabs and newlines, can be done in either order
 before-without_tabs_and_newlines : (c : ℕ) → is_tab_or_newline c ≡ false → (s : List ℕ)
     → before c (without_tabs_and_newlines s) ≡ without_tabs_and_newlines (before c s)
 before-without_tabs_and_newlines c k [] = ap (before c) dropped_nil ∙ before_nil c
@@ -387,7 +387,7 @@ no_header t rest b s h =
 
 -- The record of a header.
 
--- a list of bytes by its places
+-- a list is a text of bytes if the number at each place is below 256
 pub bytes_by_place : (s : List ℕ) → ((i : ℕ) → get_or s i 0 < 256) → IsBytes s
 bytes_by_place [] h = tt
 bytes_by_place (b ∷ s) h = (h 0, bytes_by_place s (λ i. h (suc i)))
@@ -424,7 +424,7 @@ default_is type_ subtype charset value a b c d = λ i. record {
       (chars (c i), chars (d i)) ∷ [];
 }
 
--- A type that is left out
+-- A type that is missing
 
 pub plain_stays : (media : List ℕ) → get_or media 0 0 ≢ 59 → with_plain media ≡ media
 plain_stays [] n = refl
@@ -456,7 +456,7 @@ no_suffix header m e h = record {
   base64_is = sym (ap is_some e);
 }
 
--- what stands before the suffix is a beginning of the header
+-- the text before the suffix is a prefix of the header, so it is printable too
 word_begins : (s m : List ℕ) → before_word s ≡ Some m → IsPrintable s → IsPrintable m
 word_begins s m e h = cut (bytes_eq (map to_ascii_lowercase (last_bytes 6 s)) (codes "base64")) e where
   cut : (v : Bool) → cond v (Some (before_last 6 s)) None ≡ Some m → IsPrintable m
@@ -480,7 +480,7 @@ printable_media s m h e = at (before_word s) refl e where
   at None f k = absurd (cc)
   at (Some x) f k = semicolon_begins (without_end is_space x) m k (printable_end x (word_begins s x f h))
 
--- The head of a MIME type whose type is left out: that of "text/plain" with the parameters behind it.
+-- The head of a MIME type whose type is missing: that of "text/plain" with the parameters after it.
 
 -- "text" and "plain" are words
 
@@ -506,7 +506,7 @@ front_begins : (t back : List ℕ) → BeginsParameters (t ++ back) → BeginsPa
 front_begins [] back h = tt
 front_begins (c ∷ t) back h = h
 
--- behind a last code point that does not pass
+-- after a code point that does not pass
 ends_after : (p : ℕ → _) (c : ℕ) (t : List ℕ) → p c ≡ false → DoesNotEnd p t → DoesNotEnd p (c ∷ t)
 ends_after p c [] n h = n
 ends_after p c (d ∷ t) n h = h
@@ -538,7 +538,7 @@ plain_head_is s t b e =
     subst (λ a. IsHead (codes "text/plain" ++ s) a (chars (codes "plain")) t) chars_text
     (subst (λ a. IsHead (codes "text/plain" ++ s) (codes "text") a t) chars_subtype (head_of s t b e))
 
--- A type that is left out
+-- A type that is missing
 
 begins_at : (s : List ℕ) → get_or s 0 0 ≡ 59 → BeginsParameters s
 begins_at [] h = tt
@@ -556,7 +556,7 @@ plain_record media a b c m h e head record_is =
     subst (λ s. Parses s m) same (parses_parts (codes "text/plain" ++ chars media) a b c m head record_is) in
     parsed_for (with_plain media) m parsed (parses_wellformed (with_plain media) m parsed)
 
--- A text is refused or accepted as the staged Standard says.
+-- A text is accepted exactly if the Standard's data: URL processor accepts it.
 
 pub stages_no_scheme : (t : List ℕ) → HasNoScheme (trimmed_text t) → staged t ≡ NoScheme
 unfolding staged
@@ -600,13 +600,13 @@ is_acceptable t rest header tail b s h =
     (stages_accepted t rest header tail b s h (has_base64_suffix (header_text (without_tabs_and_newlines header)))
     refl)) tt
 
--- the Standard's body, percent-decoded, is the one that the tail holds
+-- the percent-decoded body of the Standard is the body of the tail
 body_of : (t header tail : List ℕ) → IsAccepted t header tail → option_map percent_decoding (encoded_body t) ≡ Some
     (plain_body tail)
 unfolding plain_body
 body_of t header tail a = ap (option_map percent_decoding) a.body_is ∙ ap (λ (x : List ℕ). Some x) a.decoded_is
 
--- the Standard's fragment, where there is one, is that of the tail
+-- the fragment of the Standard is the fragment of the tail; if one is missing, so is the other
 fragment_of : (t rest header tail : List ℕ) → IsSchemeAndRest (trimmed_text t) rest → IsHeaderAndTail rest header tail
     → option_map fragment (after_scheme t) ≡ Some (fragment (without_tabs_and_newlines tail))
 fragment_of t rest header tail s h = ap (option_map fragment) (after_is t rest s)
@@ -646,7 +646,7 @@ one_more_call step f g n body body' good r e d = subst (λ b. Decodes step f (n 
 pub no_fragment : (tail : List ℕ) (place : ℕ) → IsBodyEnd tail place → place ≡ length tail → None ≡ after 35 tail
 no_fragment tail place h e = sym (h.after_is ∙ ap rest_fragment (drop_all place tail (omega arith)))
 
--- a '#' stands at the place
+-- at the place there is a '#'
 pub record HasHash (tail : List ℕ) (place : ℕ) : Type 0 where
   pub within : place < length tail
   pub is : get_or tail place 0 ≡ 35

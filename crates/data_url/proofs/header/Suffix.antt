@@ -48,7 +48,7 @@ pub other_word : (s : List ℕ) (n : ℕ) → n + 6 ≡ length s → (map to_asc
 other_word s n e h = no_word s
     (λ k. h (subst (λ m. map to_ascii_lowercase (drop m s) ≡ word) (let d : length s - 6 ≡ n = omega arith in d) k))
 
--- the word stands there, and so many spaces before it
+-- the word is at the end, and there are that many spaces before it
 pub record HasWord (s : List ℕ) (n spaces : ℕ) : Type 0 where
   pub six : n + 6 ≡ length s
   pub is : map to_ascii_lowercase (drop n s) ≡ word
@@ -58,7 +58,7 @@ few_spaces : (s : List ℕ) (n spaces : ℕ) → HasWord s n spaces → spaces �
 few_spaces s n spaces h = let a = h.six in let b = h.spaces_are in
     omega (arith, suffix_len-le-length is_c0_control_or_space (take n s), length-take n s)
 
--- what stands before the spaces
+-- the text before the spaces
 after_word : (s : List ℕ) (n spaces : ℕ) → IsPrintable s → HasWord s n spaces
     → before_base64 s ≡ before_semicolon (take (n - spaces) s)
 unfolding before_base64
@@ -83,7 +83,7 @@ after_word s n spaces p h =
 abbrev semicolon : List ℕ
 semicolon = codes ";"
 
--- nothing stands before the spaces
+-- there is nothing before the spaces
 pub nothing_left : (s : List ℕ) (n spaces : ℕ) → IsPrintable s → HasWord s n spaces → n - spaces ≡ 0
     → before_base64 s ≡ None
 nothing_left s n spaces p h e = after_word s n spaces p h ∙ ap (λ m. before_semicolon (take m s)) e
@@ -126,7 +126,7 @@ with_semicolon s n spaces m p h e is =
     ((bytes_eq-Decides (last_bytes 1 (take (m + 1) s)) semicolon).1 (last_one s m within ∙ ap (λ b. b ∷ []) is))
     ∙ ap (λ (t : List ℕ). Some t) (before_one s m within)
 
--- The base64 suffix of a header with a query stands behind its '?'.
+-- The base64 suffix of a header with a query comes after its '?'.
 
 -- Spaces at the ends
 
@@ -189,7 +189,7 @@ word_after y q l =
     ∙ ap (λ m. cond (is_word (last_bytes 6 q)) (Some m) None) (before_last_after y q 6 l)
     ∙ map_cond (is_word (last_bytes 6 q)) y (before_last 6 q)
 
--- no '?' stands in the word
+-- the word has no '?'
 no_mark : (i : ℕ) → get_or word i 0 ≢ 63
 no_mark i e = ⊎_elim
     (λ (l : i < 6). both_ways (get_or word i 0 == 63)
@@ -225,7 +225,7 @@ semicolon_after : (x r : List ℕ) → is_some (before_semicolon (x ++ 63 ∷ r)
 semicolon_after x r = some_cond (bytes_eq (last_bytes 1 (x ++ 63 ∷ r)) (codes ";")) (before_last 1 (x ++ 63 ∷ r))
     ∙ ap (λ s. bytes_eq s (codes ";")) (last_after x (63 ∷ r) 1 (omega arith))
 
--- what the suffix hangs on
+-- what the suffix depends on
 abbrev after_mark : Option (List ℕ) → Bool
 after_mark None = false
 after_mark (Some m) = bytes_eq (last_bytes 1 (63 ∷ without_end is_space m)) (codes ";")
@@ -253,7 +253,7 @@ same_suffix x z q = ⊎_elim
     (λ (l : 6 ≤ length q). suffix_after x q l ∙ sym (suffix_after z q l))
     (cases_lt (length q) 6)
 
--- what stands before the '?' is nothing to the flag
+-- the flag does not depend on the text before the '?'
 pub same_flag : (a b query : List ℕ) → has_base64_suffix (a ++ 63 ∷ query) ≡ has_base64_suffix (b ++ 63 ∷ query)
 unfolding has_base64_suffix
 same_flag a b query =

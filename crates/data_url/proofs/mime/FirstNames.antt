@@ -37,9 +37,9 @@ use Rattle.std.specs.Ordering.{nat_cmp}
 use Rattle.std.specs.String.{string_cmp}
 use Rattle.data_url.proofs.mime.Items.{some_items}
 
--- Names looked for among the first pairs that are kept.
+-- Names that are searched among the first pairs that are kept.
 
--- the pairs that are looked through are the first ones
+-- the pairs that are searched one by one are the first ones
 pub among_first : (n : List ℕ) (items : List (String _ × String _)) (kept : KeptParameters) (k : ℕ)
     → k ≡ min LOOKED_THROUGH (length items) → items ≡ kept.pairs.items
     → has_name n (map (λ p. pair_of p) (take k items)) ≡ has_name n (first_of (pairs_of kept))
@@ -120,7 +120,7 @@ pub some_byte : (n : List ℕ) → is_token_text (chars n) ≡ true → 0 < leng
 some_byte [] h = absurd (false≢true (sym (ap is_token_text chars-nil) ∙ h))
 some_byte (b ∷ n) h = omega arith
 
--- the bytes of a name in lower case, and of a word that is known to be so
+-- the bytes of a name in lower case, and of a word that is known to be in lower case
 pub lower_bytes : (k : List ℕ) → IsUtf8 k → is_lowercase_name (chars k) ≡ true → map to_ascii_lowercase k ≡ k
 lower_bytes k u h =
     let bytes = name_bytes k u (lowercase_token (chars k) h) in
@@ -201,7 +201,7 @@ valid_pair (name, Some v) w t h =
     cond-true (is_token_text name && list_all is_quotable v) ((name, v) ∷ []) []
     (and_from (is_token_text name) (list_all is_quotable v) t q.0) ∙ ap (λ x. (name, x) ∷ []) (sym q.1)
 
--- The pairs kept of one more item
+-- The pairs that are kept with one more item
 
 or_none : (b : Bool) → (b || false) ≡ b
 or_none true = refl
@@ -231,7 +231,7 @@ first_snoc e (p ∷ ps) q =
     snoc_cases (has_name p.0 e) p (first_of_each_name (e ++ (p ∷ [])) (ps ++ (q ∷ [])))
     (first_of_each_name (e ++ (p ∷ [])) ps) (cond (has_name q.0 (e ++ (p ∷ ps))) [] (q ∷ [])) h
 
--- a kept pair of an equal name answers for one that is not kept
+-- if the earlier pairs have the name of p, they have each name that is equal to it
 named : (n : List ℕ) (e : List Pair) (p : Pair) → has_name p.0 e ≡ true → bytes_eq p.0 n ≡ true → has_name n e ≡ true
 named n e p h t = ap (λ x. has_name x e) (sym (equal_from_test p.0 n t)) ∙ h
 
@@ -281,7 +281,7 @@ kept_more items item = ap (first_of_each_name []) (flat_map-append valid_of item
     ∙ ap (λ x. valid_pairs items ++ x) (append-nil (valid_of item))) ∙ kept_with_one (valid_pairs items) (valid_of item)
     (valid_one item)
 
--- What the parser keeps of one parameter
+-- What the parser keeps for one parameter
 
 pub none_added : {A B : Type 0} (pairs : List (String A × String B)) (more : List Pair) → more ≡ []
     → map (λ p. pair_of p) pairs ≡ map (λ p. pair_of p) pairs ++ more
@@ -388,7 +388,7 @@ pub lowercase_bytes : {A : Type 0} (name : String A) → is_lowercase_name (code
 lowercase_bytes name h = name_bytes (string_bytes name) (IsUtf8-string_bytes name)
     (lowercase_token (code_points name) h)
 
--- where there are no pairs behind the first ones
+-- if there are no pairs after the first ones
 pub few_names : (n : List ℕ) (pairs : List Pair) → length pairs ≤ LOOKED_THROUGH
     → has_name n (drop LOOKED_THROUGH pairs) ≡ false
 few_names n pairs l = ap (has_name n) (drop_of_length-le pairs l)
@@ -399,7 +399,7 @@ pub first_names : {A : Type 0} (later : BTreeSet (String A)) (pairs : List Pair)
 first_names later pairs p l h n = h n ∙ few_names n pairs (omega arith)
     ∙ sym (few_names n (pairs ++ (p ∷ [])) (simp length-append (omega arith)))
 
--- where none of the first pairs has the name, the set is asked
+-- if none of the first pairs has the name, the set is searched
 pub set_knows : {A : Type 0} (later : BTreeSet (String A)) (pairs : List Pair) (p : Pair) (name : String A) (b : Bool)
     → HasLaterNames later pairs → string_bytes name ≡ p.0 → has_name p.0 (first_of pairs) ≡ false
     → b ≡ not (contains string_cmp later name) → b ≡ not (has_name p.0 pairs)
@@ -413,7 +413,7 @@ or_cond true false = refl
 or_cond false true = refl
 or_cond false false = refl
 
--- one more pair behind them
+-- one more pair after the first ones
 pub later_names : {A : Type 0} (later later' : BTreeSet (String A)) (pairs : List Pair) (p : Pair) (name : String A)
     → LOOKED_THROUGH ≤ length pairs → HasLaterNames later pairs → string_bytes name ≡ p.0
     → UpdatesBy string_cmp (λ k. slice_cmp nat_cmp (string_bytes name) (string_bytes k)) later later' true
@@ -436,9 +436,9 @@ indexed_more kept kept' p i l e h = record {
   later = λ n. h n ∙ ap (λ s. has_name n (drop LOOKED_THROUGH s)) (sym e);
 }
 
--- Records that a text gives are well formed, and a text with a head gives one.
+-- The record of a text is well-formed, and a text with a head has a record.
 
--- What holds of each valid pair holds of each that is kept
+-- What is true of each valid pair is true of each pair that is kept
 
 first_all : (p : Pair → Bool) (e ps : List Pair) → list_all p ps ≡ true → list_all p (first_of_each_name e ps) ≡ true
 first_all p e [] h = refl
@@ -506,7 +506,7 @@ first_distinct e (q ∷ ps) =
     (not_from_false (has_name q.0 (first_of_each_name (e ++ (q ∷ [])) ps))
     (none_again q.0 (e ++ (q ∷ [])) ps (own_name e q))) f)
 
--- Each record that a text gives is well formed
+-- Each record of a text is well-formed
 
 pub parses_wellformed : (s : List ℕ) (m : Record) → Parses s m → IsWellformed m
 parses_wellformed s m h = record {
@@ -521,7 +521,7 @@ parses_wellformed s m h = record {
       (all_quotable h.record_is.items);
 }
 
--- A head decides
+-- A text with a head has a record
 
 pub parses_parts : (s a b c : List ℕ) (m : Record) → IsHead s a b c → IsRecordOfParts a b c m → Parses s m
 parses_parts s a b c m h p = record { type_ = a; subtype = b; parameters = c; head = h; record_is = p }

@@ -26,7 +26,7 @@ in_value c = not (is_semicolon c)
 abbrev pub in_name : ℕ → Bool
 in_name c = not (ends_name c)
 
--- a value, where there is one, and what stands behind it
+-- a value, if there is one, and the text after it
 pub record Reading : Type 0 where
   pub value : Option (List ℕ)
   pub rest : List ℕ
@@ -42,18 +42,18 @@ plain_reading s = record {
       after_front in_value s;
 }
 
--- what stands behind '='
+-- the value in the text after '='
 abbrev pub reading_after : List ℕ → Reading
 reading_after [] = plain_reading []
 reading_after (c ∷ t) = cond (c == 34) (quoted_reading (quoted_value false t) (quoted_rest false t))
     (plain_reading (c ∷ t))
 
--- what stands behind a name
+-- the value in the text after a name
 abbrev pub reading : List ℕ → Reading
 reading [] = record { value = None; rest = [] }
 reading (c ∷ t) = cond (c == 61) (reading_after t) (record { value = None; rest = c ∷ t })
 
--- A text that gives a value reads so
+-- Reading a text that gives a value returns that value
 
 pub begins_no_value : (r : List ℕ) → BeginsParameters r → DoesNotBegin in_value r
 begins_no_value [] h = tt
@@ -107,13 +107,13 @@ reading_is _ _ _ (plain {rest} text value e d t) b = plain_after text rest d b �
 reading_is _ _ _ (quoted {value} {rest} text junk h e) b = quoted_is text value junk rest h e b
 reading_is _ _ _ (unclosed {value} text h) b = rw (append-nil text) (open_reading text value h)
 
--- Each text that stands behind a name gives a value
+-- Each text after a name gives a value
 
 -- the text is empty or begins with ';' or '='
 abbrev pub BeginsTail : List ℕ → Type 0
 BeginsTail x = DoesNotBegin in_name x
 
--- what the reading gives is given by a text before its rest
+-- the value that is read is given by a text, which the rest follows
 pub record IsReading (x : List ℕ) (r : Reading) : Type 0 where
   pub tail : List ℕ
   pub joined : x ≡ tail ++ r.rest
@@ -182,7 +182,7 @@ is_reading [] h = record { tail = []; joined = refl; gives = nothing; begins = t
 is_reading (c ∷ t) h = cond_both (c == 61) (reading_after t) (record { value = None; rest = c ∷ t })
     (λ r. IsReading (c ∷ t) r) (λ e. equals_reading c t (eqb-true c 61 e)) (λ e. no_reading c t (semicolon_from c h e))
 
--- One parameter, from behind its ';'
+-- One parameter, from after its ';'
 
 abbrev pub name_in : List ℕ → List ℕ
 name_in s = front_of in_name (after_front is_http_whitespace s)
@@ -235,7 +235,7 @@ pub has_parameter : (s : List ℕ) → HasParameterBefore s (item_in s) (rest_in
 has_parameter s = parameter_from s (reading (after_name s))
     (is_reading (after_name s) (after_begins in_name (after_front is_http_whitespace s)))
 
--- A parameter text reads so
+-- Reading the text of a parameter returns its item
 
 pub ends_of_rest : (p : ℕ → Bool) → p 59 ≡ false → (rest : List ℕ) → BeginsParameters rest → DoesNotBegin p rest
 ends_of_rest p e [] b = tt
@@ -253,7 +253,7 @@ pub not_begins_append : (p : ℕ → Bool) (a b : List ℕ) → DoesNotBegin p a
 not_begins_append p [] b h e = e
 not_begins_append p (c ∷ a) b h e = h
 
--- what is read behind a name that is given whole
+-- the name and the value, if the text is given in its parts
 reading_of_parts : (gap name tail rest : List ℕ) (value : Option (List ℕ)) → Every is_http_whitespace gap
     → DoesNotBegin is_http_whitespace name → Every in_name name → GivesValue tail rest value → BeginsParameters rest
     → (name_in (gap ++ (name ++ (tail ++ rest))) ≡ name)
@@ -379,7 +379,7 @@ pub every_append : (p : ℕ → Bool) (a b : List ℕ) → Every p a → Every p
 every_append p [] b h e = e
 every_append p (c ∷ a) b h e = (h.0, every_append p a b h.1 e)
 
--- the text without its longest front and its longest end of code points that pass
+-- the text without the longest prefix and the longest suffix of code points that pass
 abbrev pub trimmed_of : (ℕ → Bool) → List ℕ → List ℕ
 trimmed_of p s = without_back p (after_front p s)
 
@@ -399,7 +399,7 @@ trimmed_is p s t h = sym (ap (trimmed_of p) h.joined
 abbrev pub type_in : List ℕ → List ℕ
 type_in t = front_of is_token t
 
--- what stands behind the first code point
+-- the code points after the first one
 abbrev pub after_first : List ℕ → List ℕ
 after_first [] = []
 after_first (c ∷ t) = t
@@ -434,7 +434,7 @@ pub gap_no_token : (gap r : List ℕ) → Every is_http_whitespace gap → Begin
 gap_no_token [] r g b = ends_of_rest is_token semicolon_no_token r b
 gap_no_token (c ∷ gap) r g b = space_no_token c g.0
 
--- the parts of a text that is joined so
+-- the parts of a text that is such a concatenation
 pub record HasParts (t type_ subtype parameters : List ℕ) : Type 0 where
   pub type_is : type_in t ≡ type_
   pub subtype_is : subtype_in t ≡ subtype

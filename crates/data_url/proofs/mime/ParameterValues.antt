@@ -116,7 +116,7 @@ pub escaped_below : (c : ℕ) → is_escaped c ≡ true → c < 128
 escaped_below c h = ⊎_elim (λ e. let k = eqb-true c 34 e in omega arith) (λ e. let k = eqb-true c 92 e in omega arith)
     (or_cases (c == 34) (c == 92) h)
 
--- HTTP whitespace taken off
+-- HTTP whitespace removed
 
 pub whitespace_below : (c : ℕ) → is_http_whitespace c ≡ true → c < 128
 whitespace_below c h = ⊎_elim (λ e. let k = eqb-true c 9 e in omega arith)
@@ -307,7 +307,7 @@ unescape_ends_plain v r q value e l f h k =
     sym (append-nil (chars v)) ∙ ap (λ b. chars v ++ unescaped b []) (sym f)
     ∙ ap (λ t. chars v ++ unescaped e t) (sym (no_chars r l)) ∙ h ∙ unescaped_is (chars q) value k
 
--- A quoted string may be asked for quoted-string code points before it is unescaped
+-- A quoted string can be tested for quoted-string code points before its escapes are removed
 
 backslash_quotable : is_quotable 92 ≡ true
 unfolding is_quotable
@@ -333,7 +333,7 @@ quoted_quotable q v (inr (q', v', t, e, h)) =
     ∙ ap (λ b. b && list_all is_quotable (92 ∷ [])) (quoted_same q' v' h)
     ∙ sym (list_all-append is_quotable v' (92 ∷ [])) ∙ ap (list_all is_quotable) (sym e)
 
--- What a value's own text is
+-- The text of a value
 
 pub quotable_some : (v : List ℕ) → list_all is_quotable v ≡ true → quotable_value (Some v) ≡ Some v
 quotable_some v h = cond-true (list_all is_quotable v) (Some v) None h
@@ -376,12 +376,12 @@ plain_text self text value code e i h =
     let k = subst (λ s. IsValue s value) e i in
     ap Some h ∙ sym (ap quotable_value k.0 ∙ quotable_some (chars text.now) k.1)
 
--- Values without quotes: whether what stands before a ';' has quoted-string code points alone.
+-- Values without quotes: whether the text before a ';' has only quoted-string code points.
 
 no_semicolon_byte : (c : ℕ) → is_unquoted_byte c ≡ true → not (is_semicolon c) ≡ true
 no_semicolon_byte c h = (and_parts (is_quotable_byte c) (not (is_semicolon c)) h).1
 
--- what the two parts are in the bytes of a text
+-- the two parts of a text, in its bytes
 pub front_len : (bytes after : List ℕ) (quotable more : ℕ) → quotable ≡ prefix_len is_unquoted_byte bytes
     → after ≡ drop quotable bytes → more ≡ prefix_len (λ b. not (is_semicolon b)) after
     → quotable + more ≡ prefix_len (λ b. not (is_semicolon b)) bytes
@@ -392,7 +392,7 @@ all_quotable [] h = refl
 all_quotable (b ∷ bs) h = and_from (is_quotable_byte b) (list_all is_quotable_byte bs)
     (and_parts (is_quotable_byte b) (not (is_semicolon b)) h.0).0 (all_quotable bs h.1)
 
--- a front of a text that is no longer than its first part has quoted-string code points alone
+-- a prefix that is not longer than the first part has only quoted-string code points
 pub short_quotable : (text t more : List ℕ) (q : ℕ) → text ≡ t ++ more → IsUtf8 t → q ≡ prefix_len is_unquoted_byte text
     → length t ≤ q → list_all is_quotable (chars t) ≡ true
 short_quotable text t more q e u h few =
@@ -401,7 +401,7 @@ short_quotable text t more q e u h few =
     ap is_unquoted_byte (sym (get_or_append_left t more 0 k l) ∙ ap (λ x. get_or x k 0) (sym e))
     ∙ prefix_len_passes is_unquoted_byte text k 0 (subst (λ n. k < n) h (omega (arith, few)))))
 
--- a longer one that has no ';' has another
+-- a longer prefix without ';' has another code point
 pub long_other : (text t more : List ℕ) (q n : ℕ) → text ≡ t ++ more → IsUtf8 t → q ≡ prefix_len is_unquoted_byte text
     → n ≡ prefix_len (λ b. not (is_semicolon b)) text → length t ≤ n → q < length t
     → list_all is_quotable (chars t) ≡ false
@@ -418,7 +418,7 @@ long_other text t more q n e u h m few l =
     (λ w. false≢true (sym fails ∙ and_from (is_quotable_byte (get_or text q 0)) (p (get_or text q 0)) w passes)) in
     sym (quotable_chars t u) ∙ list_all_at is_quotable_byte t q 0 l (ap is_quotable_byte same ∙ other)
 
--- the bytes of a text without white space at its end begin it
+-- the bytes of a text without whitespace at its end are a prefix of its bytes
 pub trimmed_bytes : (text front t rest : List ℕ) → text ≡ front ++ rest → IsUtf8 front → IsUtf8 t
     → IsTrimmedEnd is_http_whitespace (chars front) (chars t) → (more : List ℕ) × (front ≡ t ++ more)
     × (text ≡ t ++ (more ++ rest))

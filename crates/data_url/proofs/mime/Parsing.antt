@@ -16,7 +16,7 @@ use Rattle.data_url.proofs.mime.Items.{ends_of_rest, tail_equal, all_from_every,
 use Rattle.data_url.proofs.mime.Items.{slash_no_token, trimmed_is, semicolon_from}
 use Rattle.std.specs.Char.{to_ascii_lowercase}
 
--- The head of a MIME type: what the parser cuts is it, and is it alone.
+-- The head of a MIME type: what the parser cuts is the head, and there is no other.
 
 pub not_begins_left : (p : ℕ → Bool) (a b : List ℕ) → DoesNotBegin p (a ++ b) → DoesNotBegin p a
 not_begins_left p [] b h = tt
@@ -33,7 +33,7 @@ trimmed_both p s a t f e = record {
   ends = e.ends;
 }
 
--- a text has one longest front that passes
+-- a text has one longest prefix that passes
 pub same_span : (p : ℕ → Bool) (a b c d : List ℕ) → a ++ b ≡ c ++ d → Every p a → DoesNotBegin p b → Every p c
     → DoesNotBegin p d → (a ≡ c) × (b ≡ d)
 same_span p a b c d e f g h k = (
@@ -42,7 +42,7 @@ same_span p a b c d e f g h k = (
       ∙ ap (after_front p) e ∙ after_is p c d h k,
 )
 
--- What the parser cut: the type with what stands behind it, the subtype with what stands behind it, and the parameters
+-- What the parser cut: the type with the text after it, the subtype with the text after it, and the parameters
 pub record Cut (s ty x : List ℕ) : Type 0 where
   pub text : List ℕ
   pub trimmed : IsTrimmed is_http_whitespace s text
@@ -140,7 +140,7 @@ pub begins_if : (x : List ℕ) (b : Bool) → IsUtf8 x → (length x == 0) ≡ f
 begins_if x true u n h = subst BeginsParameters (sym (chars_past_char x (drop h.0 x) 59 u h.1.split)) refl
 begins_if x false u n h = begins_semicolon x (chars x) u (nonempty_chars x u n) h refl
 
--- What the parser's steps give
+-- What the parser's functions return
 
 pub cut_from : (s a t ty x : List ℕ) → IsTrimmedFront is_http_whitespace s a → IsTrimmedEnd is_http_whitespace a t
     → t ≡ ty ++ x → Every is_token ty → DoesNotBegin is_token x → Cut s ty x
@@ -161,7 +161,7 @@ pub no_slash_bytes : (s ty x : List ℕ) → Cut s ty (chars x) → IsUtf8 x →
     → ⊥) → HasNoHead s
 no_slash_bytes s ty x k u h = no_slash s ty (chars x) k (λ w e. h (encode_utf8_all w) (begins_bytes x w 47 u e))
 
--- the text behind the slash
+-- the text after the slash
 pub slash_bytes : (s ty x y : List ℕ) → Cut s ty (chars x) → IsUtf8 x → x ≡ encode_utf8 47 ++ y
     → Cut s ty (47 ∷ chars y)
 slash_bytes s ty x y k u e = subst (Cut s ty) (chars_past_char x y 47 u e) k
@@ -185,9 +185,9 @@ pub no_semicolon : (x : List ℕ) → IsUtf8 x → BeginsParameters (chars x) �
     → ⊥) → chars x ≡ []
 no_semicolon x u b h = no_semicolon_text x (chars x) u b h refl
 
--- What the parser cuts of one parameter is one.
+-- What the parser cuts for one parameter is a parameter.
 
--- A value that begins with no '"'
+-- A value that does not begin with '"'
 
 pub plain_value : (s front after value : List ℕ) → DoesNotBegin is_quote s → s ≡ front ++ after
     → Without is_semicolon front → BeginsParameters after → IsTrimmedEnd is_http_whitespace front value
@@ -224,7 +224,7 @@ pub not_quote : (x : List ℕ) → IsUtf8 x → ((rest : List ℕ) → x ≡ enc
     → DoesNotBegin is_quote (chars x)
 not_quote x u n = not_quote_text x (chars x) u n refl
 
--- what stands behind an ASCII code point that was taken off
+-- the text after an ASCII code point that was removed
 pub stripped_chars : (x y : List ℕ) (c n : ℕ) → IsUtf8 x → HasCharAt c x 0 n → y ≡ drop n x → chars x ≡ c ∷ chars y
 stripped_chars x y c n u h e = chars_past_char x (drop n x) c u h.split ∙ ap (λ t. c ∷ chars t) (sym e)
 
@@ -247,7 +247,7 @@ closed_value_before s q raw w junk rest value e j h k n b = record {
   begins = b;
 }
 
--- A name, and what stands behind it
+-- A name, and the text after it
 
 no_value_text : (x cs : List ℕ) → IsUtf8 x → DoesNotBegin (λ c. not (ends_name c)) cs
     → ((rest : List ℕ) → x ≡ encode_utf8 61 ++ rest → ⊥) → chars x ≡ cs → BeginsParameters cs

@@ -92,7 +92,7 @@ parameter_text name value u =
 pub text_bytes : {A : Type 0} (s : String A) → string_bytes s ≡ encode_utf8_all (code_points s)
 text_bytes s = sym (encodes-chars (string_bytes s) (IsUtf8-string_bytes s))
 
--- what is left of the printed pairs
+-- the rest of the printed pairs
 abbrev pub pairs_text : {A B : Type 0} → List (String A × String B) → List ℕ
 pairs_text pairs = encode_utf8_all (flat_map printed_pair (map (λ p. pair_of p) pairs))
 
@@ -125,7 +125,7 @@ pub record_ends : {A B : Type 0} (pairs : List (String A × String B)) (i : ℕ)
 record_ends pairs i done whole l h = sym (append-nil done)
     ∙ ap (λ x. done ++ pairs_text x) (sym (drop_of_length-le pairs l)) ∙ h
 
--- the same by what a reference reads
+-- the same for a reference
 
 pub record_starts_by : (m : Mime) (a b : List ℕ) → a ≡ string_bytes m.type_ → b ≡ string_bytes m.subtype
     → ((a ++ (47 ∷ [])) ++ b) ++ pairs_text m.parameters.items ≡ encode_utf8_all (printed (record_of m))
@@ -138,13 +138,13 @@ pub pair_by : {A B : Type 0} (item : String A × String B) (a b : List ℕ) → 
     (printed_pair (pair_of item))
 pair_by item a b e f = ap₂ (λ x y. encode_utf8_all (printed_pair (chars x, chars y))) e f
 
--- what is written under any options is written under none
+-- what is written with any options is what is written without options
 pub written_plain : {W : Type 0} {took : W → List ℕ → W → Type 0} {f g : Formatter W} {bs : List ℕ} → IsPlainFormatter f
     → HasWrittenStyled took f bs g → HasWritten took f bs g
 written_plain {f = f} plain h =
     record { wrote = h.wrote; plain = record { bare = subst IsDefaultSpec (sym h.spec) plain.bare; flush = h.flush } }
 
--- A line that is held back
+-- A line that is buffered
 
 pub held_none : (l : Line) → l.len ≡ 0 → held l ≡ []
 held_none l e = ap (λ n. take n l.room) e
@@ -170,7 +170,7 @@ module _ {W : Type 0} {took : W → List ℕ → W → Type 0} where
       → HasAdded took f l b g m
   added_of_eq f g l m a b e = subst (λ (t : List ℕ). HasAdded took f l t g m) e
 
-  -- what is held is written, and then a text
+  -- the buffer is written, and then a text
   pub added_written : (f g h : Formatter W) (l m : Line) (a : List ℕ) → HasWrittenStyled took f (held l) g
       → HasWrittenStyled took g a h → m.len ≡ 0 → HasAdded took f l a h m
   added_written f g h l m a x y e = record {
@@ -179,7 +179,7 @@ module _ {W : Type 0} {took : W → List ℕ → W → Type 0} where
     joined = sym (append-nil (held l ++ a)) ∙ ap (λ t. (held l ++ a) ++ t) (sym (held_none m e));
   }
 
-  -- what is held is written, and then a text is held
+  -- the buffer is written, and then a text is put into it
   pub added_after : (f g : Formatter W) (l m n : Line) (a : List ℕ) → HasWrittenStyled took f (held l) g → m.len ≡ 0
       → held n ≡ held m ++ a → HasAdded took f l a g n
   added_after f g l m n a x e h = record {
@@ -188,7 +188,7 @@ module _ {W : Type 0} {took : W → List ℕ → W → Type 0} where
     joined = ap (λ t. held l ++ t) (sym (h ∙ ap (λ t. t ++ a) (held_none m e)));
   }
 
-  -- a whole that is added to an empty line is written once what is held is
+  -- a text that is added to an empty line is written when its buffer is
   pub added_then_written : (f g h : Formatter W) (l m : Line) (a : List ℕ) → held l ≡ [] → HasAdded took f l a g m
       → HasWrittenStyled took g (held m) h → HasWrittenStyled took f a h
   added_then_written f g h l m a e x y = has_written_styled_of_eq _ _ _ _ _ (sym x.joined ∙ ap (λ t. t ++ a) e)
@@ -239,7 +239,7 @@ same_pairs (p ∷ ps) (q ∷ qs) h =
     let rest : map texts_of_pair ps ≡ map texts_of_pair qs = cc in
     both (same_pair p q) (pointwise same_pair ps qs) (same_pair_of p q here) (same_pairs ps qs rest)
 
--- the test tells whether the texts are the same
+-- the test is true exactly if the texts are the same
 pub same_decides : (m n : Mime) → IsTrue (same_texts m n) ↔ SameTexts m n
 same_decides m n =
     let first = bytes_eq (string_bytes m.type_) (string_bytes n.type_) in

@@ -15,7 +15,7 @@ use lib.Utf8.{encode, next, scalar}
 use Rattle.data_url.specs.Steps.Parsing.{IsClosed, IsOpen}
 use Rattle.data_url.proofs.texts.CodePoints.{some_equal}
 
--- A quoted string, read from behind its opening quote, with one flag for "behind a backslash".
+-- A quoted string, read from after its opening quote, with a flag that says whether a backslash comes before.
 
 -- the value up to the closing quote, or to the end
 abbrev pub quoted_value : Bool → List ℕ → List ℕ
@@ -24,7 +24,7 @@ quoted_value true [] = 92 ∷ []
 quoted_value false (c ∷ t) = cond (c == 34) [] (cond (c == 92) (quoted_value true t) (c ∷ quoted_value false t))
 quoted_value true (c ∷ t) = c ∷ quoted_value false t
 
--- what stands behind the closing quote, where there is one
+-- the text after the closing quote, if there is one
 abbrev pub quoted_rest : Bool → List ℕ → Option (List ℕ)
 quoted_rest escaped [] = None
 quoted_rest false (c ∷ t) = cond (c == 34) (Some t) (cond (c == 92) (quoted_rest true t) (quoted_rest false t))
@@ -58,14 +58,14 @@ value_before q v x h = rw (h.text_is, h.value_is) (value_of_units h.units x h.ea
 pub rest_before : (q v x : List ℕ) → Quoted q v → quoted_rest false (q ++ x) ≡ quoted_rest false x
 rest_before q v x h = rw h.text_is (rest_of_units h.units x h.each)
 
--- a text in quotes reads so
+-- reading a text in quotes returns its value
 pub closed_value : (q v w : List ℕ) → Quoted q v → quoted_value false (q ++ (34 ∷ w)) ≡ v
 closed_value q v w h = value_before q v (34 ∷ w) h ∙ append-nil v
 
 pub closed_rest : (q v w : List ℕ) → Quoted q v → quoted_rest false (q ++ (34 ∷ w)) ≡ Some w
 closed_rest q v w h = rest_before q v (34 ∷ w) h
 
--- a text whose closing quote is missing reads so
+-- reading a text without a closing quote returns its value
 pub open_value : (q v : List ℕ) → QuotedOpen q v → quoted_value false q ≡ v
 open_value q v (inl h) = ap (quoted_value false) (sym (append-nil q)) ∙ (value_before q v [] h ∙ append-nil v)
 open_value q v (inr (q', v', t, e, h)) = ap (quoted_value false) t ∙ (value_before q' v' (92 ∷ []) h ∙ sym e)
@@ -74,7 +74,7 @@ pub open_rest : (q v : List ℕ) → QuotedOpen q v → quoted_rest false q ≡ 
 open_rest q v (inl h) = ap (quoted_rest false) (sym (append-nil q)) ∙ rest_before q v [] h
 open_rest q v (inr (q', v', t, e, h)) = ap (quoted_rest false) t ∙ rest_before q' v' (92 ∷ []) h
 
--- the text before what is left is quoted text of the value
+-- the text before the rest is the quoted text of the value
 abbrev pub IsRead : List ℕ → List ℕ → Option (List ℕ) → Type 0
 IsRead s value None = QuotedOpen s value
 IsRead s value (Some w) = (q : List ℕ) × (s ≡ q ++ (34 ∷ w)) × Quoted q value
@@ -109,7 +109,7 @@ read_more u s v (Some w) i h = (
 pub quoted_nil : Quoted [] []
 quoted_nil = record { units = []; each = tt; text_is = refl; value_is = refl }
 
--- what stands before a text that is read behind a backslash or not
+-- the text with a backslash before it if the flag is true
 abbrev pub flagged : Bool → List ℕ → List ℕ
 flagged false s = s
 flagged true s = 92 ∷ s
@@ -123,7 +123,7 @@ read_plain c t plain escaped false true e f = rw (eqb-true c 92 f) escaped
 read_plain c t plain escaped false false e f = read_more (Plain c) t (quoted_value false t) (quoted_rest false t)
     (eqb-false c 34 e, eqb-false c 92 f) plain
 
--- each text reads so
+-- reading any text returns its value and the rest
 pub is_read : (escaped : Bool) (s : List ℕ) → IsRead (flagged escaped s) (quoted_value escaped s)
     (quoted_rest escaped s)
 is_read false [] = inl quoted_nil
@@ -131,7 +131,7 @@ is_read true [] = inr ([], [], refl, refl, quoted_nil)
 is_read false (c ∷ t) = read_plain c t (is_read false t) (is_read true t) (c == 34) (c == 92) refl refl
 is_read true (c ∷ t) = read_more (Escaped c) t (quoted_value false t) (quoted_rest false t) tt (is_read false t)
 
--- The value without a look at quotes, as it is written
+-- The value as it is written, which does not look for quotes
 
 and_false : (b : Bool) → (b && false) ≡ false
 and_false true = refl
@@ -163,9 +163,9 @@ pub unescaped_is : (q v : List ℕ) → QuotedOpen q v → unescaped false q ≡
 unescaped_is q v (inl h) = ap (unescaped false) (sym (append-nil q)) ∙ (unescaped_before q v [] h ∙ append-nil v)
 unescaped_is q v (inr (q', v', t, e, h)) = ap (unescaped false) t ∙ (unescaped_before q' v' (92 ∷ []) h ∙ sym e)
 
--- The closing quote is found among the bytes of a text as among its code points.
+-- The closing quote is at the same place in the bytes of a text as in its code points.
 
--- no byte is ASCII
+-- none of the bytes is ASCII
 abbrev IsHigh : List ℕ → Type 0
 IsHigh [] = Unit {0}
 IsHigh (b ∷ t) = (128 ≤ b) × IsHigh t

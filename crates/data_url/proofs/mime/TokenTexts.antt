@@ -71,7 +71,7 @@ pub empty_token_text : (t : List ℕ) → (length t == 0) ≡ true → is_token_
 empty_token_text [] h = refl
 empty_token_text (c ∷ t) h = absurd (both_ways (length (c ∷ t) == 0) (ne_eqb (length (c ∷ t)) 0 (λ e. omega arith)) h)
 
--- The longest front by its length
+-- The longest prefix, from its length
 
 pub take_front : (p : ℕ → Bool) (s : List ℕ) → take (prefix_len p s) s ≡ front_of p s
 take_front p [] = refl
@@ -151,7 +151,7 @@ suc_test a b = elim (cases_eq a b) [
       ne_eqb (1 + a) (suc b) (λ k. e (omega arith)) ∙ sym (ne_eqb a b e)
 ]
 
--- whether the front is the whole
+-- whether the prefix is the whole text
 pub whole_front : (p : ℕ → Bool) (s : List ℕ) → list_all p s ≡ (prefix_len p s == length s)
 whole_front p [] = refl
 whole_front p (c ∷ s) =
@@ -162,7 +162,7 @@ whole_front p (c ∷ s) =
           sym (ne_eqb 0 (suc (length s)) (λ e. omega arith))
     ]
 
--- what the test of the front says of a text that is not empty
+-- what this test says about a text that is not empty
 pub token_text_by_front : (bs text : List ℕ) (n : ℕ) → IsUtf8 text → n ≡ prefix_len is_token bs → bs ≡ text
     → (length text == 0) ≡ false → (n == length text) ≡ is_token_text (chars text)
 token_text_by_front bs text n u e b h = ap (λ k. k == length text) (e ∙ ap (prefix_len is_token) b)

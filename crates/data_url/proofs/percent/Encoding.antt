@@ -1,4 +1,4 @@
--- Percent-encoding by rows of a table, and how encoded texts are read again. For `push_encoded`.
+-- Percent-encoding with the rows of a table, and decoding of encoded texts. For `push_encoded`.
 use Rattle.std.proofs.Common.{◌≡◌, ℕ, ◌*◌, ◌+◌, ◌-◌, ◌<◌, ◌&&◌, ◌||◌, Bool, false, true, List, [], ◌∷◌, length, take}
 use Rattle.std.proofs.Common.{drop, refl, ◌/◌, ◌%◌, not, ◌++◌, Option, None, Some, sym, ap, ◌∙◌, inl, inr, subst}
 use Rattle.std.proofs.Common.{⊎_elim, append-nil, append_assoc, arith, suc, cond, ◌≤◌, get_or, ap₂, take-append-drop}
@@ -70,7 +70,7 @@ pub kept_where : (m p : ℕ → Bool) → agree_below (λ b. m b || bytes_eq (by
 kept_where m p h b l e = (bytes_eq-Decides (byte_encoding p b) (b ∷ [])).0
     (unmarked_passes m (λ b. bytes_eq (byte_encoding p b) (b ∷ [])) h b l e)
 
--- Texts with some of their bytes percent-encoded: they decode alike, and their first commas stand at the same bytes.
+-- Texts with some of their bytes percent-encoded: they decode to the same bytes, and have the same first comma.
 
 abbrev pub IsBytes : List ℕ → Type 0
 IsBytes s = AllByRecursion (λ b. b < 256) s
@@ -87,7 +87,7 @@ pub data Recoded : List ℕ → List ℕ → Type 0 where
 abbrev no_hex : ℕ → Bool
 no_hex b = not (in_query_set b && is_ascii_hexdigit b)
 
--- a byte of the set is no hexadecimal digit
+-- a byte of the set is not a hexadecimal digit
 set_no_hex : (b : ℕ) → b < 256 → in_query_set b ≡ true → is_ascii_hexdigit b ≡ false
 set_no_hex b l h = elim (cases_Bool (is_ascii_hexdigit b)) [
   | inl e ↦ absurd (both_ways (no_hex b) (ap (λ v. not (v && is_ascii_hexdigit b)) h ∙ ap (λ v. not v) e)
@@ -133,7 +133,7 @@ unfolding percent_decoding
 decoded_escape b c s h k = cond-true (is_escape 37 b c) ((16 * digit_value b + digit_value c) ∷ percent_decoding s)
     (37 ∷ percent_decoding (b ∷ c ∷ s)) (ap (λ v. v && is_ascii_hexdigit c) h ∙ k)
 
--- what is written again is decoded to the byte
+-- the two digits of a byte are decoded to the byte
 decoded_written : (b : ℕ) (x : List ℕ) → b < 256 → percent_decoding (37 ∷ hex_digit (b / 16) ∷ hex_digit (b % 16) ∷ x)
     ≡ b ∷ percent_decoding x
 decoded_written b x l =
@@ -155,7 +155,7 @@ same_digits (written b h l (kept c r)) = sym (and_left (is_ascii_hexdigit b) (is
 same_digits (written b h l (written c k m r)) =
     sym (and_left (is_ascii_hexdigit b) (is_ascii_hexdigit c) (set_no_hex b l h))
 
--- a byte that is kept, before no escape
+-- a byte that is kept, and does not begin an escape
 keeps : {s x : List ℕ} (b : ℕ) → Recoded s x → ((b == 37) && two_digits s) ≡ false
     → percent_decoding x ≡ percent_decoding s → percent_decoding (b ∷ x) ≡ percent_decoding (b ∷ s)
 keeps {s} {x} b r h e = decoded_keeps b x (ap (λ v. (b == 37) && v) (same_digits r) ∙ h) ∙ ap (λ t. b ∷ t) e
@@ -172,7 +172,7 @@ escapes b c d s x h e =
     ∙ ap (λ t. (16 * digit_value c + digit_value d) ∷ t) e ∙ sym (decoded_escape c d s q.0 q.1)
     ∙ ap (λ v. percent_decoding (v ∷ c ∷ d ∷ s)) (sym f)
 
--- no digit stands first or second where a byte of the set does
+-- there are no two digits if the first or the second byte is not a digit
 no_escape : (b : ℕ) (v : Bool) → v ≡ false → ((b == 37) && v) ≡ false
 no_escape b v h = and_right (b == 37) v h
 
@@ -284,7 +284,7 @@ serialised_recoded (b ∷ s) h = elim (cases_Bool (b == 63)) [
 
 -- The first comma
 
--- what stands behind the first comma of both: nothing, or two texts of which one is the other recoded
+-- the texts after the first comma of both: none, or one is the other with some bytes percent-encoded
 abbrev pub RecodedTails : Option (List ℕ) → Option (List ℕ) → Type 0
 RecodedTails None None = Unit {0}
 RecodedTails None (Some y) = ⊥
@@ -311,7 +311,7 @@ recoded_tails (written {s} {x} b h l r) =
     (sym (after_other 44 b s (set_other b 44 refl h)))
     (subst (λ v. RecodedTails (after 44 s) v) (sym (after_written b x)) (recoded_tails r))
 
--- what stands before the first comma of an encoded text is the encoding of what stands before the first comma
+-- the bytes before the first comma of an encoded text are the encoding of the bytes before the first comma
 
 encoded_byte_lacks : (p : ℕ → Bool) (b : ℕ) → (b == 44) ≡ false → after 44 (encoded_byte p b) ≡ None
 encoded_byte_lacks p b h = cond_both (p b) (37 ∷ hex_digit (b / 16) ∷ hex_digit (b % 16) ∷ []) (b ∷ [])
@@ -494,7 +494,7 @@ kept_whole p (b ∷ s) h =
     sym (written_first p b s
     ∙ ap₂ (λ x y. x ++ y) (h 0 (omega arith)) (sym (kept_whole p s (λ k l. h (suc k) (omega arith)))))
 
--- a text of plain bytes is serialised as it stands
+-- a text of plain bytes is serialised as it is
 
 abbrev other_than_plain : ℕ → Bool
 other_than_plain b = is_tab_or_newline b || (in_path_set b || ((b == 35) || ((b == 44) || (b == 63))))
@@ -503,7 +503,7 @@ plain_is_none : (b : ℕ) → b < 256 → is_plain_path b ≡ true → other_tha
 plain_is_none b l h = sym (cond-true (is_plain_path b) (other_than_plain b) false h)
     ∙ agree_below_at (λ b. cond (is_plain_path b) (other_than_plain b) false) (λ b. false) 256 b refl l
 
--- what is known of a plain byte
+-- what is known about a plain byte
 pub record Plain (b : ℕ) : Type 0 where
   pub written_is : byte_encoding in_path_set b ≡ b ∷ []
   pub no_hash : (b == 35) ≡ false
@@ -534,7 +534,7 @@ plain_serialised s h =
     ∙ ap (percent_encoding in_path_set) (before_all 63 (without_tabs_and_newlines s) none)
     ∙ sym (kept_whole in_path_set s (λ k l. let b = h k l in b.written_is))
 
--- the bytes up to byte i are written at the front of the room
+-- the bytes up to byte i are written at the front of the buffer
 pub record PutTo (p : ℕ → Bool) (s : List ℕ) (i : ℕ) (room : List ℕ) (at : ℕ) : Type 0 where
   pub few : at ≤ 3 * i
   pub long : length room ≡ 256
@@ -564,7 +564,7 @@ put_more p s i room at row room' m l within r n h =
 
 -- Part by part
 
--- what was written behind a text before the rest
+-- what was written after the old text, from the bytes before the rest
 abbrev pub WroteBefore : (ℕ → Bool) → List ℕ → List ℕ → List ℕ → List ℕ → Type 0
 WroteBefore p s rest old text = text ++ encoded p rest ≡ old ++ encoded p s
 

@@ -55,7 +55,7 @@ pub match_at_none : {A : Type 0} (o : Option A) (P : Type 0) (Q : A → Type 0) 
 match_at_none None P Q e h = h
 match_at_none (Some x) P Q e h = absurd (some_not_none x e)
 
--- two options that are alike there or not there
+-- two options that are both `Some` or both `None`
 pub match_alike : {A B : Type 0} (o : Option A) (o' : Option B) (P P' Q Q' : Type 0) → is_some o ≡ is_some o' → (P → P')
     → (Q → Q') → MatchOption o P (λ x. Q) → MatchOption o' P' (λ x. Q')
 match_alike None None P P' Q Q' e f g h = f h
@@ -72,7 +72,7 @@ pub match_at : {A : Type 0} (o o' : Option A) (P : Type 0) (Q : A → Type 0) �
     → MatchOption o' P Q
 match_at {A = A} o o' P Q e h = let M : Option A → Type 0 = λ z. MatchOption z P Q in subst M (sym e) h
 
--- Beginnings
+-- Prefixes
 
 pub prefix_none : (xs : List ℕ) → IsPrefix [] xs
 prefix_none xs = (xs, refl)

@@ -32,7 +32,7 @@ pub before_nil : (c : ℕ) → before c [] ≡ []
 unfolding before
 before_nil c = refl
 
--- where the byte is not there
+-- if the text does not have the byte
 pub record Lacks (c b : ℕ) (s : List ℕ) : Type 0 where
   pub here : (b == c) ≡ false
   pub after_it : after c s ≡ None
@@ -70,7 +70,7 @@ before_at c a s h = before-append c a (c ∷ s) h ∙ ap (λ t. a ++ t) (before_
 pub after_at : (c : ℕ) (a s : List ℕ) → after c a ≡ None → after c (a ++ c ∷ s) ≡ Some s
 after_at c a s h = after-append c a (c ∷ s) h ∙ after_same c s
 
--- a text with the byte is what stands before it, the byte, and what stands behind it
+-- a text with the byte is the bytes before it, the byte, and the bytes after it
 pub record IsCut (c : ℕ) (s rest : List ℕ) : Type 0 where
   pub joined : s ≡ before c s ++ c ∷ rest
   pub lacks : after c (before c s) ≡ None
@@ -96,7 +96,7 @@ is_cut c (b ∷ s) rest h = elim (cases_Bool (b == c)) [
       }
 ]
 
--- no index holds the byte
+-- the byte is at no index
 pub after_none : (c : ℕ) (s : List ℕ) → ((k : ℕ) → k < length s → (get_or s k 0 == c) ≡ false) → after c s ≡ None
 after_none c [] h = after_nil c
 after_none c (b ∷ s) h = after_other c b s (h 0 (omega arith)) ∙ after_none c s (λ k l. h (suc k) (omega arith))
@@ -130,7 +130,7 @@ without_tabs_and_newlines-append (b ∷ a) s =
       | false ↦ ap (λ t. b ∷ t) (without_tabs_and_newlines-append a s)
     ]
 
--- a byte that is kept is there exactly if it was there before
+-- a text without tabs and newlines has another byte exactly if the text has it
 pub after-dropped_none : (c : ℕ) → is_tab_or_newline c ≡ false → (s : List ℕ) → after c s ≡ None
     → after c (without_tabs_and_newlines s) ≡ None
 after-dropped_none c k [] h = ap (after c) dropped_nil ∙ after_nil c
@@ -140,7 +140,7 @@ after-dropped_none c k (b ∷ s) h = let l = lacks c b s h in elim (cases_Bool (
       ∙ after-dropped_none c k s l.after_it
 ]
 
--- dropping, where a byte that is kept stands between
+-- dropping tabs and newlines on both sides of a byte that is kept
 pub dropped_around : (c : ℕ) → is_tab_or_newline c ≡ false → (a s : List ℕ)
     → without_tabs_and_newlines (a ++ c ∷ s) ≡ without_tabs_and_newlines a ++ c ∷ without_tabs_and_newlines s
 dropped_around c k a s = without_tabs_and_newlines-append a (c ∷ s)
@@ -157,7 +157,7 @@ fragment_cases tail (Some rest) h =
     ∙ after_at 35 (without_tabs_and_newlines (before 35 tail)) (without_tabs_and_newlines rest)
     (after-dropped_none 35 refl (before 35 tail) cut.lacks)
 
--- tabs and newlines may be dropped before the fragment is cut off or after it
+-- tabs and newlines can be dropped before the fragment is cut off, or after
 pub fragment_dropped : (tail : List ℕ)
     → fragment (without_tabs_and_newlines tail) ≡ option_map without_tabs_and_newlines (after 35 tail)
 fragment_dropped tail = fragment_cases tail (after 35 tail) refl

@@ -1,4 +1,4 @@
--- Texts of code points, cut where a code point passes no more, and where a text may be cut.
+-- Texts of code points, cut at the first code point that does not pass, and where a text can be cut.
 use Rattle.std.proofs.Common.{◌≡◌, ℕ, ◌≤◌, nat_le, Bool, true, false, cond, Some, List, [], ◌∷◌, ◌++◌, length, refl}
 use Rattle.std.proofs.Common.{sym, ap, ◌∙◌, arith, ◌+◌, ◌<◌, zero, suc, drop, get_or, ◌-◌, reverse, subst, ⊎_elim}
 use Rattle.std.proofs.lemmas.Bool.{and_parts, cond-true, cond-false, cond_both, leb-true, cases_lt}
@@ -12,7 +12,7 @@ use Rattle.data_url.specs.Mime.{DoesNotBegin, DoesNotEnd, Every, IsTrimmedEnd}
 use Rattle.data_url.specs.Url.{is_c0_control_or_space}
 use Rattle.std.proofs.lemmas.List.{get_or-reverse}
 
--- Texts cut at the first code point that passes no more, and ends taken off.
+-- Texts cut at the first code point that does not pass, and ends removed.
 
 pub some_equal : (a b : List ℕ) → Some a ≡ Some b → a ≡ b
 some_equal a b e = cc
@@ -24,12 +24,12 @@ no_chars (b ∷ r) e = absurd (omega arith)
 pub range_high : (low high c : ℕ) → is_in_range low high c ≡ true → c ≤ high
 range_high low high c r = leb-true c high (and_parts (nat_le low c) (nat_le c high) r).1
 
--- the longest front of code points that pass
+-- the longest prefix of code points that pass
 abbrev pub front_of : (ℕ → Bool) → List ℕ → List ℕ
 front_of p [] = []
 front_of p (c ∷ t) = cond (p c) (c ∷ front_of p t) []
 
--- what stands behind it
+-- the text after it
 abbrev pub after_front : (ℕ → Bool) → List ℕ → List ℕ
 after_front p [] = []
 after_front p (c ∷ t) = cond (p c) (after_front p t) (c ∷ t)
@@ -62,12 +62,12 @@ after_begins p [] = tt
 after_begins p (c ∷ t) = cond_both (p c) (after_front p t) (c ∷ t) (λ v. DoesNotBegin p v) (λ e. after_begins p t)
     (λ e. e)
 
--- one more code point before what is left of a text
+-- one more code point before the rest of a text
 abbrev pub keep_before : (ℕ → Bool) → ℕ → List ℕ → List ℕ
 keep_before p c [] = cond (p c) [] (c ∷ [])
 keep_before p c (d ∷ u) = c ∷ d ∷ u
 
--- the text without its longest end of code points that pass
+-- the text without the longest suffix of code points that pass
 abbrev pub without_back : (ℕ → Bool) → List ℕ → List ℕ
 without_back p [] = []
 without_back p (c ∷ t) = keep_before p c (without_back p t)
@@ -102,7 +102,7 @@ pub is_trimmed_end : (p : ℕ → Bool) (s : List ℕ) → IsTrimmedEnd p s (wit
 is_trimmed_end p [] = record { back = []; joined = refl; at_back = tt; ends = tt }
 is_trimmed_end p (c ∷ t) = trimmed_end_more p c t (without_back p t) (is_trimmed_end p t)
 
--- the front that passes, found in two parts
+-- the prefix that passes, found in two parts
 
 pub front_further : (p : ℕ → Bool) (bytes : List ℕ) (n : ℕ) → n ≤ length bytes
     → ((k : ℕ) → k < n → p (get_or bytes k 0) ≡ true) → prefix_len p bytes ≡ n + prefix_len p (drop n bytes)
@@ -125,7 +125,7 @@ in_parts p q h bytes after first more e d m =
           (λ k l. h (get_or bytes k 0) (prefix_len_passes p bytes k 0 (omega (arith, e)))),
     )
 
--- Where a text may be cut: behind bytes below 128, and at them.
+-- Where a text can be cut: before and after bytes below 128.
 
 module _ (p : ℕ → Bool) (ascii : (b : ℕ) → p b ≡ true → b < 128) (bs : List ℕ) (text : IsUtf8 bs) where
   pub boundary_after_front : 0 < prefix_len p bs → IsCharBoundary bs (prefix_len p bs)

@@ -1,4 +1,4 @@
--- Whole groups that a text begins with.
+-- The complete groups at the start of a text.
 use Rattle.std.specs.Char.{is_ascii_whitespace}
 use Rattle.std.specs.List.{list_all}
 use Rattle.std.specs.Prelude.{[], if◌then◌else◌, ◌%◌, ◌*◌, ◌++◌, ◌/◌, ◌==◌, ◌||◌, ◌∷◌, ◌≡◌, ◌≤◌, Bool, IsTrue, List, length, map, take, ℕ}
@@ -7,26 +7,27 @@ use Rattle.data_url.specs.Base64.{groups, is_symbol, symbol_value, values}
 abbrev pub is_symbol_or_space : ℕ → Bool
 is_symbol_or_space b = is_symbol b || is_ascii_whitespace b
 
--- the text is of symbols and white space alone, its symbols are whole groups, and these are their
--- bytes
+-- the text has only symbols and whitespace, its symbols are complete groups, and the bytes are those
+-- of these groups
 pub record AreGroups (text bytes : List ℕ) : Type 0 where
   pub alone : IsTrue (list_all is_symbol_or_space text)
   pub whole : length (values text) % 4 ≡ 0
   pub bytes_are : bytes ≡ groups (values text)
 
--- the groups of the first so many bytes of the text stand behind what was held
+-- held' is held followed by the bytes of the groups in the first `taken` bytes of the text
 pub record Fills (held text : List ℕ) (taken : ℕ) (held' : List ℕ) : Type 0 where
   pub within : taken ≤ length text
   pub more : List ℕ
   pub are : AreGroups (take taken text) more
   pub held_are : held' ≡ held ++ more
 
--- the items whose bits are clear, from the lowest bit on
+-- the items whose bits are zero; the lowest bit belongs to the first item
 abbrev pub clear : List ℕ → ℕ → List ℕ
 clear [] bits = []
 clear (x ∷ xs) bits = if bits % 2 == 0 then x ∷ clear xs (bits / 2) else clear xs (bits / 2)
 
--- the bytes begin with those of each number of groups, up to sixteen, that the symbols begin with
+-- for each m up to 16, if the symbols have m groups, the bytes begin with the bytes of the first m
+-- groups
 abbrev pub DecodesFront : List ℕ → List ℕ → Type 0
 DecodesFront symbols bytes = (m : ℕ) → m ≤ 16 → 4 * m ≤ length symbols
     → take (3 * m) bytes ≡ groups (map symbol_value (take (4 * m) symbols))

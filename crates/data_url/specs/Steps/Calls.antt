@@ -4,7 +4,8 @@ use Rattle.data_url.specs.Decoder.{State}
 use Rattle.data_url.specs.declared.forgiving_base64.DecodeError.TheVariants.{WriteError}
 use Rattle.data_url.specs.declared.forgiving_base64.DecodeError.{DecodeError}
 
--- d called its closure once, on the piece, failed if that refused, and is otherwise unchanged
+-- d calls its closure once, with the piece. If the closure returns an error, d has failed. Nothing
+-- else in d changes.
 pub record CallsOnce {F E : Type 0} (step : F → List ℕ → Result (Unit {0}) E → F → Type 0)
     (d : State F) (piece : List ℕ) (r : Result (Unit {0}) (DecodeError E)) (d' : State F)
     : Type 0 where

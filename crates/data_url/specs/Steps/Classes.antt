@@ -1,4 +1,4 @@
--- Classes of bytes, by tables.
+-- Classes of bytes, which are looked up in tables.
 use Rattle.std.specs.Prelude.{◌/◌, ◌<◌, ◌==◌, ◌≡◌, Bool, List, bit_and, false, not, slice_index, ℕ}
 use Rattle.data_url.specs.CodePoints.{is_http_whitespace, is_token}
 use Rattle.data_url.specs.Steps.Front.{is_plain_path}
@@ -7,7 +7,7 @@ use Rattle.data_url.specs.declared.classes.Class.TheVariants.{PlainPath, Quotabl
 use Rattle.data_url.specs.declared.classes.Class.{Class}
 use Rattle.data_url.specs.declared.classes.lanes.TheConstants.{COLUMNS}
 
--- the classes by their names in the code
+-- the class that a name in the code means
 abbrev pub in_class : Class → ℕ → Bool
 in_class Token = is_token
 in_class Quotable = is_quotable_byte
@@ -16,10 +16,11 @@ in_class PlainPath = is_plain_path
 in_class Whitespace = is_http_whitespace
 in_class Unescaped = λ b. not (is_escaped b)
 
--- false only for a byte of the class, by the two halves of the byte
+-- the lookup of a byte in the two tables, one for each half of the byte; false only for a byte of
+-- the class
 abbrev pub is_marked : List ℕ → ℕ → Bool
 is_marked others b = not (bit_and (slice_index others (bit_and b 15)) (slice_index COLUMNS (b / 16)) == 0)
 
--- so many bytes at the front are of the class
+-- the first n bytes are not marked, so they are of the class
 abbrev pub AreOf : List ℕ → List ℕ → ℕ → Type 0
 AreOf others bytes n = (k : ℕ) → k < n → is_marked others (slice_index bytes k) ≡ false

@@ -1,4 +1,4 @@
--- Hexadecimal digits behind a '%', and the looks that finding them takes.
+-- Hexadecimal digits after a '%', and how many bytes are read to find them.
 use Rattle.std.specs.Char.{digit_value, is_ascii_hexdigit}
 use Rattle.std.specs.Prelude.{if◌then◌else◌, ◌+◌, ◌-◌, ◌<◌, ◌≡◌, ◌≤◌, List, None, Some, drop, length, ℕ}
 use Rattle.data_url.specs.Pieces.{digit, escape}
@@ -11,7 +11,8 @@ digit_code b = if is_tab_or_newline b then 16
     else if is_ascii_hexdigit b then digit_value b
     else 32
 
--- a digit from a place on, where it ends, and a look at each byte up to there
+-- from an index on there is a digit with this value and this end; each byte up to the end was read
+-- once
 pub record DigitFound (text : List ℕ) (place looks value end looks' : ℕ) : Type 0 where
   pub some : place < end
   pub within : end ≤ length text
@@ -20,13 +21,14 @@ pub record DigitFound (text : List ℕ) (place looks value end looks' : ℕ) : T
   pub no_percent : before_percent (drop place text) ≡ (end - place) + before_percent (drop end text)
   pub looks_are : looks' ≡ looks + (end - place)
 
--- no digit: at most one look at the next '%', and else at bytes before it
+-- from an index on there is no digit; at most the bytes up to and including the next '%' were read
 pub record NoDigit (text : List ℕ) (place looks looks' : ℕ) : Type 0 where
   pub none_is : digit (drop place text) ≡ None
   pub looks_grow : looks ≤ looks'
   pub looks_are : looks' ≤ looks + 1 + before_percent (drop place text)
 
--- two digits from a place on
+-- from an index on there are two digits with this value and this end; each byte up to the end was
+-- read once
 pub record DigitsFound (text : List ℕ) (place looks value end looks' : ℕ) : Type 0 where
   pub two : place + 2 ≤ end
   pub within : end ≤ length text

@@ -1,4 +1,4 @@
--- What a decoder makes of some text while bytes wait to be handed out together.
+-- What a decoder does with input while decoded bytes are held, to be passed to the closure together.
 use Rattle.std.specs.Prelude.{[], ◌*◌, ◌++◌, ◌+◌, ◌∷◌, ◌≡◌, ◌≤◌, Err, List, MatchResult, None, Ok, Option, Result, Some, false, is_some, length, take, true, ℕ}
 use Rattle.data_url.specs.Base64.{Kind, after_groups, complete_bytes, first_fault, kind_of}
 use Rattle.data_url.specs.Decoder.{Feeds, IsLeft, State, left_over}
@@ -6,8 +6,8 @@ use Rattle.data_url.specs.Run.{Call, IsRun, joined_pieces, refusal}
 use Rattle.data_url.specs.Steps.Calls.{CallsOnce}
 use Rattle.data_url.specs.declared.forgiving_base64.DecodeError.{DecodeError}
 
--- d took the text with no call: these are the bytes of the groups that it completed, and d' has
--- left over what it leaves
+-- d reads the text without a call of the closure; the bytes are those of the groups that are then
+-- complete, and d' holds what is left over
 pub record Adds {F : Type 0} (d : State F) (text bytes : List ℕ) (d' : State F) : Type 0 where
   pub no_fault : first_fault (left_over d ++ text) ≡ None
   pub bytes_are : bytes ≡ complete_bytes (left_over d ++ text)
@@ -16,21 +16,21 @@ pub record Adds {F : Type 0} (d : State F) (text bytes : List ℕ) (d' : State F
   pub closure_stays : d'.closure ≡ d.closure
   pub going : d'.failed ≡ false
 
--- the byte is a fault of that kind behind what d has left over, which completes no group, and d
--- stays as it is
+-- after what is left over in d the byte is a fault of this kind; no group is complete, and d does not
+-- change
 pub record Refuses {F : Type 0} (d : State F) (byte : ℕ) (kind : Kind) (d' : State F) : Type 0 where
   pub fault : is_some (first_fault (left_over d ++ byte ∷ [])) ≡ true
   pub kind_is : kind_of (left_over d ++ byte ∷ []) ≡ kind
   pub none_done : complete_bytes (left_over d ++ byte ∷ []) ≡ []
   pub stays : d' ≡ d
 
--- the bytes of a group, where there is one
+-- the bytes of a group, if there is one
 abbrev pub bytes_in : Option (List ℕ) → List ℕ
 bytes_in None = []
 bytes_in (Some group) = group
 
--- d took so many bytes of the text, at least one, and the bytes of their groups stand behind those
--- that were held
+-- d reads the first `taken` bytes of the text, at least one; held' is held followed by the bytes of
+-- their groups
 pub record Gains {F : Type 0} (d : State F) (held text : List ℕ) (taken : ℕ) (d' : State F)
     (held' : List ℕ) : Type 0 where
   pub some : 1 ≤ taken
@@ -39,14 +39,14 @@ pub record Gains {F : Type 0} (d : State F) (held text : List ℕ) (taken : ℕ)
   pub adds : Adds d (take taken text) more d'
   pub held_are : held' ≡ held ++ more
 
--- d called its closure once on the bytes that are held, or not at all where none are
+-- d calls its closure once with the bytes that are held; if none are held, it does not call it
 abbrev pub Flushes : {F E : Type 0} → (F → List ℕ → Result (Unit {0}) E → F → Type 0) → State F
     → List ℕ → Result (Unit {0}) (DecodeError E) → State F → Type 0
 Flushes step d [] r d' = (r ≡ Ok tt) × (d' ≡ d)
 Flushes step d (b ∷ bs) r d' = CallsOnce step d (b ∷ bs) r d'
 
--- d took the text, ran its closure on all pieces of 48 bytes but what is held, which was accepted,
--- and is d' now
+-- d reads the text and is d' after that. All decoded bytes were passed to the closure, except those
+-- that are held, and no call returned an error. The length of the text bounds the number of calls.
 pub record Holds {F E : Type 0} (step : F → List ℕ → Result (Unit {0}) E → F → Type 0) (d : State F)
     (text held : List ℕ) (d' : State F) : Type 0 where
   pub run : List (Call F E)
@@ -58,13 +58,14 @@ pub record Holds {F E : Type 0} (step : F → List ℕ → Result (Unit {0}) E �
   pub calls : 48 * length run + length held ≤ 3 * length text
   pub going : d'.failed ≡ false
 
--- d took the first so many bytes of the text, and of their groups the last ones are held
+-- d reads the first `taken` bytes of the text, and holds the last of their decoded bytes
 pub record Reads {F E : Type 0} (step : F → List ℕ → Result (Unit {0}) E → F → Type 0)
     (d : State F) (text : List ℕ) (taken : ℕ) (held : List ℕ) (d' : State F) : Type 0 where
   pub within : taken ≤ length text
   pub holds : Holds step d (take taken text) held d'
 
--- d was fed the first so many bytes of the text, or the error is that of feeding the text
+-- d is fed the first n bytes of the text, where r is `Ok` of n; or r is the error of feeding d the
+-- whole text
 abbrev pub FeedsPart : {F E : Type 0} → (F → List ℕ → Result (Unit {0}) E → F → Type 0) → State F
     → List ℕ → Result ℕ (DecodeError E) → State F → Type 0
 FeedsPart step d text r d' = MatchResult r
@@ -75,6 +76,6 @@ FeedsPart step d text r d' = MatchResult r
 abbrev pub IsBetweenGroups : {F : Type 0} → State F → Type 0
 IsBetweenGroups d = (d.symbols ≡ []) × (d.padding ≡ 0)
 
--- d where of the symbols no more are left over than their groups leave
+-- d, but what is left over in it are the symbols after their complete groups
 abbrev pub waiting : {F : Type 0} → State F → List ℕ → State F
 waiting d symbols = record d { symbols = after_groups symbols }

@@ -1,21 +1,21 @@
--- What a vector makes of one byte, and of a row of values.
+-- What the vector code computes from one byte, and from a row of values.
 use Rattle.std.specs.Prelude.{[], if◌then◌else◌, ◌%◌, ◌+◌, ◌/◌, ◌==◌, ◌∷◌, List, bit_and, slice_index, ℕ}
 use Rattle.data_url.specs.Base64.{group_number}
 use Rattle.data_url.specs.declared.forgiving_base64.lanes.TheConstants.{HIGH_HALVES, LOW_HALVES, OFFSETS}
 
--- 0 exactly for a symbol, by the two halves of the byte
+-- the lookup of a byte in the two tables, one for each half of the byte; 0 exactly for a symbol
 abbrev pub mark_of : ℕ → ℕ
 mark_of b = bit_and (slice_index LOW_HALVES (bit_and b 15)) (slice_index HIGH_HALVES (b / 16))
 
--- the place of the offset of a byte: its high half or, for '/', one less
+-- the index of the offset of a byte: its high half or, for '/', one less
 abbrev pub offset_row : ℕ → ℕ
 offset_row b = (b / 16 + (if b == 47 then 255 else 0)) % 256
 
--- the value of a symbol, and some number below 64 for another byte
+-- the value of a symbol; for any other byte, some number below 64
 abbrev pub value_of : ℕ → ℕ
 value_of b = bit_and ((b + slice_index OFFSETS (offset_row b)) % 256) 63
 
--- the number of each whole group of four values
+-- the 24-bit number of each complete group of four values
 abbrev pub numbers : List ℕ → List ℕ
 numbers (p ∷ q ∷ r ∷ s ∷ rest) = group_number p q r s ∷ numbers rest
 numbers vs = []

@@ -1,12 +1,12 @@
--- How many looks at a text are paid for.
+-- A bound on how many bytes of a text are read.
 use Rattle.std.specs.List.{prefix_len}
 use Rattle.std.specs.Prelude.{◌*◌, ◌+◌, ◌==◌, List, drop, not, ℕ}
 use Rattle.data_url.specs.Url.{percent_sign}
 
--- how many bytes stand before the next '%'
+-- the number of bytes before the next '%'
 abbrev pub before_percent : List ℕ → ℕ
 before_percent s = prefix_len (λ b. not (b == percent_sign)) s
 
--- how many looks are paid for, where the text was seen up to a place and the walk stands at another
+-- how many bytes may have been read, if the blocks read so far end at `seen` and the walk is at `place`
 abbrev pub paid_looks : List ℕ → ℕ → ℕ → ℕ
 paid_looks text seen place = seen + 2 * place + before_percent (drop place text)

@@ -1,4 +1,4 @@
--- What the private steps of printing do: the end of what is written is held back.
+-- What the private functions that print do. Output is buffered: its end is held in a buffer.
 use Rattle.std.specs.Fmt.{HasWrittenStyled, IsFlush}
 use Rattle.std.specs.Prelude.{◌++◌, ◌≡◌, ◌≤◌, IsOk, List, Result, take, ℕ}
 use Rattle.std.specs.Str.{IsUtf8}
@@ -7,24 +7,24 @@ use Rattle.std.specs.declared.fmt.Formatter.{Formatter}
 use Rattle.data_url.specs.declared.mime.line.Line.{Line}
 use Rattle.data_url.specs.declared.mime.line.TheConstants.{ROOM}
 
--- the bytes that are held back
+-- the bytes in the buffer
 abbrev pub held : Line → List ℕ
 held line = take line.len line.room
 
--- they fit, and are a text
+-- these bytes fit into the buffer, and are UTF-8
 pub record IsHeld (line : Line) : Type 0 where
   pub fits : line.len ≤ ROOM
   pub text : IsUtf8 (held line)
 
--- from f and a line to g and another, a text is added: a beginning of it is written, behind what
--- was held, and the rest is held
+-- a text is appended: what was in the buffer and then the text is partly written to the formatter,
+-- and the rest is in the buffer after it
 pub record HasAdded {W : Type 0} (took : W → List ℕ → W → Type 0) (f : Formatter W) (line : Line)
     (text : List ℕ) (g : Formatter W) (after : Line) : Type 0 where
   pub written : List ℕ
   pub wrote : HasWrittenStyled took f written g
   pub joined : held line ++ text ≡ written ++ held after
 
--- the same where the answer is `Ok`
+-- the same, if the result is `Ok`
 abbrev pub AddsOnOk : {W : Type 0} → (W → List ℕ → W → Type 0) → Formatter W → Line
     → Result (Unit {0}) Error → List ℕ → Formatter W → Line → Type 0
 AddsOnOk took f line r text g after = IsFlush f → IsOk r → HasAdded took f line text g after

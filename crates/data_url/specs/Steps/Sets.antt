@@ -1,4 +1,4 @@
--- The percent-encode sets by their names in the code (URL Standard, section 1.3), and the rows of
+-- The percent-encode sets that names in the code mean (URL Standard, section 1.3), and the rows of
 -- their tables.
 use Rattle.std.specs.Prelude.{[], if◌then◌else◌, ◌≡◌, Bool, List, length, slice_index, take, ℕ}
 use Rattle.data_url.specs.Url.{encoded_byte, in_fragment_set, in_path_set, in_query_set, is_tab_or_newline}
@@ -10,11 +10,12 @@ in_set Path = in_path_set
 in_set Query = in_query_set
 in_set Fragment = in_fragment_set
 
--- what a byte is written as: nothing for a tab or newline
+-- the encoding of a byte: nothing for a tab or newline
 abbrev pub byte_encoding : (ℕ → Bool) → ℕ → List ℕ
 byte_encoding p b = if is_tab_or_newline b then [] else encoded_byte p b
 
--- a row of four bytes begins with what its byte is written as, and ends with how long that is
+-- a row of four bytes: the encoding of its byte at the start, and the length of that encoding at the
+-- end
 pub record IsRow (p : ℕ → Bool) (b : ℕ) (row : List ℕ) : Type 0 where
   pub four : length row ≡ 4
   pub len_is : slice_index row 3 ≡ length (byte_encoding p b)

@@ -9,8 +9,9 @@ use Rattle.data_url.specs.declared.forgiving_base64.DecodeError.{DecodeError}
 use Rattle.data_url.specs.declared.forgiving_base64.DecodeToVecError.TheVariants as to_vec
 use Rattle.data_url.specs.declared.forgiving_base64.DecodeToVecError.{DecodeToVecError}
 
--- the whole text u was decoded: its bytes if it is valid, or else those of the groups before its
--- first fault, or a beginning of these that the closure refused
+-- the whole text u is decoded. If it is valid, the closure is called with all its bytes; otherwise,
+-- with the bytes of the groups that are complete before the first fault. If the closure returns an
+-- error, it was called with a prefix of these bytes.
 pub record DecodesText {F E : Type 0} (step : F → List ℕ → Result (Unit {0}) E → F → Type 0) (f : F)
     (u : List ℕ) (r : Result (Unit {0}) (DecodeError E)) (f' : F) : Type 0 where
   pub run : List (Call F E)
@@ -21,7 +22,7 @@ pub record DecodesText {F E : Type 0} (step : F → List ℕ → Result (Unit {0
       ((joined_pieces run ≡ complete_bytes u) × (r ≡ Err (InvalidBase64 (kind_of u)))))
       (λ e. IsRefused (if is_valid u then decoded u else complete_bytes u) (joined_pieces run) e r)
 
--- the error of a vector that is filled by a closure: what that refuses is memory
+-- the error of decoding into a vector: its closure fails only if allocation fails
 abbrev pub vec_error : {E : Type 0} → DecodeError E → DecodeToVecError
 vec_error (InvalidBase64 kind) = to_vec.InvalidBase64 kind
 vec_error (WriteError e) = to_vec.OutOfMemory

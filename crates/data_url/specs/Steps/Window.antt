@@ -1,4 +1,4 @@
--- The bytes at which a body is not simply its text.
+-- The bytes of a text that its body does not hold as they are.
 use Rattle.std.specs.Prelude.{◌==◌, ◌||◌, Bool, ℕ}
 use Rattle.data_url.specs.Url.{is_tab_or_newline, number_sign, percent_sign}
 

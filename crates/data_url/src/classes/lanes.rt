@@ -6,11 +6,10 @@ ghost use Rattle.data_url.specs.Steps.Classes.{AreOf, is_marked};
 
 use std::simd::prelude::*;
 
-/// How many bytes are looked at together.
+/// How many bytes are tested together.
 const ROW: usize = 16;
 
-/// By the high half of a byte, the bit of its column: the halves of control bytes and of bytes beyond ASCII have one bit
-/// together.
+/// Has, for each high half of a byte, the bit of its column. Control bytes and bytes that are not ASCII share one bit.
 const COLUMNS: [u8; 16] = [1, 1, 2, 4, 8, 16, 32, 64, 1, 1, 1, 1, 1, 1, 1, 1];
 
 /// Returns a bit for each of the 16 bytes at a place, which is set where the byte may be outside a class.
@@ -25,7 +24,7 @@ fn marks_at(others: [u8; 16], bytes: &[u8], at: usize) -> u64
     (low & high).simd_ne(u8x16::splat(0)).to_bitmask()
 }
 
-/// Returns a number of bytes at the front, whole rows, that are all of a class.
+/// Returns the length of some whole rows at the front whose bytes are all in a class.
 #[inline(always)]
 pub(crate) fn rows_len(others: [u8; 16], bytes: &[u8]) -> usize
     ensures within { result ≤ length bytes.now }

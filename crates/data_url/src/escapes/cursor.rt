@@ -12,13 +12,13 @@ use super::Piece;
 use super::lanes::BLOCK;
 use super::source::Source;
 
-/// How many bytes are gathered at the most.
+/// The greatest number of bytes that are gathered.
 pub(crate) const ROOM: usize = 256;
 
-/// How many bytes an escape has, tabs and newlines aside.
+/// How many bytes an escape has, without tabs and newlines.
 const ESCAPE: usize = 3;
 
-/// How many marks of a block make it likely that its escapes follow one another.
+/// With this many marks in a block, its escapes are likely to follow one another.
 const MANY: u32 = 14;
 
 /// What is known of the text at the place of a walk.
@@ -46,7 +46,7 @@ pub(super) enum Stop {
     End,
 }
 
-/// A walk: its text, the block that was looked at last with its marks, its place, and what is known there.
+/// A walk: its text, the block that was read last with its marks, its place, and what is known there.
 #[derive(Drop)]
 pub(super) struct Cursor<'a> {
     source: Source<'a>,
@@ -261,7 +261,8 @@ impl<'a> Cursor<'a> {
         Piece::Slice(slice)
     }
 
-    /// The next bytes: a long stretch of the text as it is, or shorter ones and the values of escapes, gathered in a room.
+    /// The next bytes: a long stretch of the text as it is, or shorter ones and the values of escapes, gathered in a
+    /// buffer.
     #[inline(always)]
     pub(super) fn next_bytes<'r>(&mut self, room: &'r mut [u8; ROOM]) -> Option<&'r [u8]>
     where
@@ -284,8 +285,8 @@ impl<'a> Cursor<'a> {
         }
     }
 
-    /// Gathers the bytes of the next pieces in a room while they come in short stretches, and returns how many. None are
-    /// gathered where the body ends or a long stretch begins.
+    /// Gathers the bytes of the next pieces in a buffer while they come in short stretches, and returns how many. None
+    /// are gathered if the body ends or a long stretch begins.
     #[inline(always)]
     fn gather(&mut self, room: &mut [u8; ROOM]) -> usize
         requires { Knows self.old }
@@ -329,8 +330,7 @@ impl<'a> Cursor<'a> {
         }
     }
 
-    /// Returns whether to gather the block at the place: it has a mark, or bytes were gathered before and it is to fill
-    /// the room. Looks at the block.
+    /// Reads the block at the place, and returns whether to gather it: it has a mark, or bytes were gathered before it.
     #[inline(always)]
     fn is_mark_near(&mut self, len: usize) -> bool
         requires plain { IsPlain self.old.ahead }
@@ -355,8 +355,8 @@ impl<'a> Cursor<'a> {
         len > 0 || self.marks != 0
     }
 
-    /// Gathers what is left of the block that was looked at, after the bytes that were gathered before. A wide block has
-    /// another one after it, and in a dense one escapes follow one another.
+    /// Gathers the rest of the block that was read, after the bytes that were gathered before. A wide block has another
+    /// one after it, and in a dense block escapes follow one another.
     #[inline(always)]
     fn gather_block(&mut self, room: &mut [u8; ROOM], len: usize, wide: bool, dense: bool) -> usize
         requires may { MayGather self.old len }

@@ -8,7 +8,7 @@ use super::source::Source;
 /// What the table has for a tab or a newline.
 const PASSED: u8 = 16;
 
-/// By its byte the value of a hexadecimal digit, `PASSED`, or a greater number for any other byte.
+/// Has, for each byte, the value of a hexadecimal digit, `PASSED`, or a greater number for any other byte.
 const DIGITS: [u8; 256] = [
     32, 32, 32, 32, 32, 32, 32, 32, 32, 16, 16, 32, 32, 16, 32, 32, 32, 32, 32, 32, 32, 32, 32, 32,
     32, 32, 32, 32, 32, 32, 32, 32, 32, 32, 32, 32, 32, 32, 32, 32, 32, 32, 32, 32, 32, 32, 32, 32,
@@ -86,7 +86,7 @@ impl<'a> Source<'a> {
         }
     }
 
-    /// Returns the digit after a tab or newline, and the place after it. The text is looked at through a value of its own,
+    /// Returns the digit after a tab or newline, and the place after it. The text is read through a value of its own,
     /// so that the walk's can stay in registers.
     #[inline(always)]
     fn digit_past(&mut self, place: usize) -> Option<(u8, usize)>

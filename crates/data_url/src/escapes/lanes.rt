@@ -1,4 +1,4 @@
-//! The bytes at which a body is not simply its text, found 64 at a time.
+//! Finds the bytes of a text that its body does not hold as they are, 64 bytes at a time.
 
 ghost use Rattle.std.specs.Prelude.{◌≡◌, map};
 ghost use Rattle.std.specs.Simd.Lanes.{mask_l};
@@ -6,10 +6,10 @@ ghost use Rattle.data_url.specs.Steps.Window.{is_marked};
 
 use std::simd::prelude::*;
 
-/// How many bytes are looked at together.
+/// How many bytes are tested together.
 pub(super) const BLOCK: usize = 64;
 
-/// By the low half of a byte the marked byte with that half, or else a byte with another half.
+/// Has, for each low half of a byte, the marked byte with that half, or a byte with another half.
 const MARKED: [u8; 64] = [
     1, 0, 0, 35, 0, 37, 0, 0, 0, 9, 10, 0, 0, 13, 0, 0, 1, 0, 0, 35, 0, 37, 0, 0, 0, 9, 10, 0, 0,
     13, 0, 0, 1, 0, 0, 35, 0, 37, 0, 0, 0, 9, 10, 0, 0, 13, 0, 0, 1, 0, 0, 35, 0, 37, 0, 0, 0, 9,

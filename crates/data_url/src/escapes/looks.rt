@@ -1,4 +1,4 @@
-//! A count that takes no bytes: how many bytes of a text were examined.
+//! A count that exists in contracts alone: how many bytes of a text were examined.
 
 ghost use Rattle.std.specs.Prelude.{◌≡◌, ◌+◌};
 
@@ -13,7 +13,7 @@ struct Mark {
     before: Option<Snapshot<Mark>>,
 }
 
-/// How many bytes were looked at: a number without an upper end that contracts alone see.
+/// How many bytes were examined: a number without an upper bound, which only contracts see.
 #[derive(Drop)]
 pub(super) struct Looks {
     last: Snapshot<Mark>,

@@ -1,4 +1,4 @@
-//! The text of a body, whose bytes are examined through counted looks alone.
+//! The text of a body. Each byte of it that is examined is counted.
 
 ghost use Rattle.std.specs.Prelude.{◌≡◌, IsTrue, [], ◌+◌, ◌-◌, ◌^◌, ◌++◌, ◌<◌, ◌≤◌, drop, length, map, min, slice_index, slice_range, take};
 ghost use Rattle.std.specs.Simd.Lanes.{mask_l};
@@ -10,7 +10,7 @@ use super::looks::Looks;
 use std::mem::replace;
 use std::simd::prelude::*;
 
-/// A text that is looked at through a count.
+/// A text with a count of the bytes examined.
 #[derive(Drop)]
 pub(super) struct Source<'a> {
     text: &'a str,
@@ -18,7 +18,7 @@ pub(super) struct Source<'a> {
 }
 
 impl<'a> Source<'a> {
-    /// A text that was not looked at yet.
+    /// A text of which no byte was examined yet.
     #[inline(always)]
     pub(super) fn new(text: &'a str) -> Self
         ensures text { result.text.now ≡ text.entry.now }
@@ -30,7 +30,7 @@ impl<'a> Source<'a> {
         }
     }
 
-    /// Takes the text with its looks so far out, and leaves an empty text. So a text is always in one `Source`.
+    /// Takes the text and its count out, and leaves an empty text. So a text is always in one `Source`.
     #[inline(always)]
     pub(super) fn take(&mut self) -> Source<'a>
         ensures text { result.text.now ≡ self.old.text.now }
@@ -80,7 +80,7 @@ impl<'a> Source<'a> {
         }
     }
 
-    /// Returns a stretch of the text, to be passed on. None of its bytes is looked at.
+    /// Returns a stretch of the text. None of its bytes is examined.
     #[inline(always)]
     pub(super) fn cut(&self, start: usize, end: usize) -> &'a [u8]
         requires forward { start ≤ end }
@@ -90,8 +90,8 @@ impl<'a> Source<'a> {
         &self.text.as_bytes()[start..end]
     }
 
-    /// Copies a stretch of fewer than 64 bytes into a room. None of its bytes is looked at. What follows it in the
-    /// room may be lost.
+    /// Copies a stretch of fewer than 64 bytes into a buffer. None of its bytes is examined. The bytes after it in the
+    /// buffer may be overwritten.
     #[inline(always)]
     pub(super) fn copy(
         &self,

@@ -3,7 +3,7 @@
 ghost use Rattle.std.specs.Prelude.{◌≡◌, ◌<◌, IsTrue, [], ◌∷◌};
 ghost use Rattle.data_url.specs.Base64.{group_bytes, group_number, is_symbol, rest_bytes, symbol_value};
 
-/// What the table has for a byte that is no symbol.
+/// The entry of the table for a byte that is not a symbol.
 const NO_SYMBOL: u8 = 64;
 
 /// The value of each symbol, by its byte.
@@ -56,7 +56,7 @@ pub(crate) fn group_of(first: u8, second: u8, third: u8, fourth: u8) -> [u8; 3]
     ]
 }
 
-/// The byte of two symbols left over: the last four bits are dropped.
+/// The byte of two symbols left over: their last four bits are discarded.
 pub(crate) fn rest_of_two(first: u8, second: u8) -> [u8; 1]
     requires first { IsTrue (is_symbol first) }
     requires second { IsTrue (is_symbol second) }
@@ -66,7 +66,7 @@ pub(crate) fn rest_of_two(first: u8, second: u8) -> [u8; 1]
     [(number / 16) as u8]
 }
 
-/// The two bytes of three symbols left over: the last two bits are dropped.
+/// The two bytes of three symbols left over: their last two bits are discarded.
 pub(crate) fn rest_of_three(first: u8, second: u8, third: u8) -> [u8; 2]
     requires first { IsTrue (is_symbol first) }
     requires second { IsTrue (is_symbol second) }

@@ -29,7 +29,7 @@ pub(crate) fn is_whole(text: &[u8]) -> bool
     (upper | lower).simd_ne(u8x16::splat(0)).to_bitmask() == 0
 }
 
-/// A bit for each byte of a row, which is set where it is no symbol.
+/// A bit for each byte of a row, which is set if the byte is not a symbol.
 #[inline(always)]
 pub(crate) fn others(bytes: u8x16) -> u64
     ensures few { result < 65536 }
@@ -61,7 +61,7 @@ pub(crate) fn put(bytes: &mut [u8], at: usize, row: u8x16)
     row.copy_to_slice(&mut bytes[at..]);
 }
 
-/// Writes the bytes of the four groups of the first 16 bytes, which count as symbols, at a place, and four bytes more.
+/// Writes the bytes of the four groups of the first 16 bytes, read as symbols, at a place, and four bytes more.
 #[inline(always)]
 pub(crate) fn put_row(bytes: &mut [u8], at: usize, text: &[u8])
     requires room { at + 16 ≤ length bytes.old }
@@ -72,7 +72,7 @@ pub(crate) fn put_row(bytes: &mut [u8], at: usize, text: &[u8])
     put(bytes, at, decode_row(row(text, 0)));
 }
 
-/// The bytes of the sixteen groups of the first 64 bytes, which count as symbols.
+/// The bytes of the sixteen groups of the first 64 bytes, read as symbols.
 #[inline(always)]
 pub(crate) fn decode(text: &[u8]) -> [u8; 48]
     requires { 64 ≤ length text.now }

@@ -227,8 +227,8 @@ where
         self.pending == 0 && self.padding == 0
     }
 
-    /// Passes on the blocks of 64 symbols that a text begins with, each as one piece, where the next symbol begins a group.
-    /// Returns how many bytes of the text they take.
+    /// If the next symbol begins a group, calls the closure with each block of 64 symbols that a text begins with,
+    /// decoded as one piece. Returns how many bytes of the text they take.
     #[inline(always)]
     fn feed_blocks(&mut self, text: &[u8]) -> Result<usize, DecodeError<E>>
         requires callable { F.IsAlwaysCallable (state_of self.old).closure }
@@ -247,7 +247,7 @@ where
         Ok(at)
     }
 
-    /// Keeps symbols: the bytes of their groups in the piece, and what is left over.
+    /// Keeps symbols: the bytes of their groups in the piece, and the symbols that are left over.
     #[inline(always)]
     fn keep(&mut self, symbols: &Symbols, piece: &mut Piece)
         requires room { symbols.now.len < 64 }
@@ -260,9 +260,9 @@ where
         self.pending = symbols.len % 4;
     }
 
-    /// Feeds the blocks of 64 symbols and white space that a text begins with, where the next symbol begins a group, and
-    /// passes on pieces of sixteen groups. The groups after these are in the piece then. Returns how many bytes of the
-    /// text the blocks take.
+    /// If the next symbol begins a group, feeds the blocks of 64 symbols and white space that a text begins with. Calls
+    /// the closure with pieces of sixteen groups; the groups after these are then in the piece. Returns how many bytes
+    /// of the text the blocks take.
     fn feed_spaced(&mut self, text: &[u8], piece: &mut Piece) -> Result<usize, DecodeError<E>>
         requires callable { F.IsAlwaysCallable (state_of self.old).closure }
         requires going { (state_of self.old).failed ≡ false }
@@ -289,7 +289,7 @@ where
         Ok(at)
     }
 
-    /// Feeds such blocks of a text that is not short, where the next symbol begins a group, and else nothing.
+    /// Feeds such blocks if the text is not short and the next symbol begins a group, and otherwise nothing.
     #[inline(always)]
     fn feed_long(&mut self, text: &[u8], piece: &mut Piece) -> Result<usize, DecodeError<E>>
         requires callable { F.IsAlwaysCallable (state_of self.old).closure }
@@ -308,8 +308,8 @@ where
         self.feed_spaced(text, piece)
     }
 
-    /// Feeds the beginning of a text and passes on the groups in it, the last sixteen or fewer of them as one piece.
-    /// Returns how many bytes of the text it took, at least one if there is one.
+    /// Feeds the beginning of a text, and calls the closure with the bytes of the groups in it. The last groups, at
+    /// most sixteen, are one piece. Returns how many bytes of the text it took, at least one if there is one.
     #[inline(always)]
     fn feed_piece(&mut self, text: &[u8]) -> Result<usize, DecodeError<E>>
         requires callable { F.IsAlwaysCallable (state_of self.old).closure }
@@ -368,7 +368,7 @@ where
         (padding == 0 && self.pending != 1) || (padding < 3 && self.pending + padding == 4)
     }
 
-    /// Returns the fault of the symbols and the padding left over, if they end no valid text.
+    /// Returns the fault of the symbols and the padding left over, if a valid text cannot end with them.
     fn fault_at_end(&self) -> Option<InvalidBase64Details>
         ensures { IsFaultAtEnd (state_of self.now) result }
     {

@@ -7,15 +7,15 @@ ghost use Rattle.data_url.specs.Steps.Lanes.{mark_of, numbers, value_of};
 
 use std::simd::prelude::*;
 
-/// By the low half of a byte, the rows of the alphabet in which it is no symbol, a bit for each row.
+/// Has, for each low half of a byte, the rows of the alphabet in which it is not a symbol, as a bit for each row.
 const LOW_HALVES: [u8; 16] = [
     21, 17, 17, 17, 17, 17, 17, 17, 17, 17, 19, 26, 27, 27, 27, 26,
 ];
 
-/// By the high half of a byte, the bit of its row.
+/// Has, for each high half of a byte, the bit of its row.
 const HIGH_HALVES: [u8; 16] = [16, 16, 1, 2, 4, 8, 4, 8, 16, 16, 16, 16, 16, 16, 16, 16];
 
-/// By the high half of a symbol, and by 1 for '/', what added to the symbol gives its value, up to a multiple of 64.
+/// Has, for each high half of a symbol (1 for '/'), a number: the symbol plus it is the value, up to a multiple of 64.
 const OFFSETS: [u8; 16] = [0, 16, 19, 4, 191, 191, 185, 185, 0, 0, 0, 0, 0, 0, 0, 0];
 
 /// The weights of the first two values of a group, in half a number.
@@ -24,7 +24,7 @@ const UPPER_WEIGHTS: [u8; 16] = [64, 1, 0, 0, 64, 1, 0, 0, 64, 1, 0, 0, 64, 1, 0
 /// The weights of the last two.
 const LOWER_WEIGHTS: [u8; 16] = [0, 0, 64, 1, 0, 0, 64, 1, 0, 0, 64, 1, 0, 0, 64, 1];
 
-/// Marks each byte that is no symbol by a number that is not 0.
+/// Marks each byte that is not a symbol with a number that is not 0.
 #[inline(always)]
 pub(crate) fn marks_of(bytes: u8x16) -> u8x16
     ensures { result ≡ map mark_of bytes }
@@ -55,7 +55,7 @@ fn numbers_of(values: u8x16) -> u32x4
     (upper << u32x4::splat(12)) + lower
 }
 
-/// The bytes of a row's four groups, and four bytes more that say nothing.
+/// The bytes of a row's four groups, and four more bytes without meaning.
 #[inline(always)]
 pub(crate) fn decode_row(bytes: u8x16) -> u8x16
     ensures len { length result ≡ 16 }

@@ -1,4 +1,4 @@
-//! The bytes of whole groups of a text of base64 (RFC 4648, section 4), which are passed on together.
+//! The bytes of whole groups of a text of base64 (RFC 4648, section 4), which the closure is called with together.
 
 ghost use Rattle.std.specs.Prelude.{◌≡◌, ◌+◌, ◌*◌, ◌≤◌, ◌<◌, ◌++◌, [], length, take};
 ghost use Rattle.std.specs.List.{list_all};
@@ -8,10 +8,10 @@ ghost use Rattle.data_url.specs.Steps.Blocks.{Fills};
 use super::alphabet::{group_of, is_symbol};
 use super::blocks::{put_row, symbols_in_row};
 
-/// How many groups there is room for, which a block of 64 symbols has.
+/// The size of the buffer, in groups: as many as a block of 64 symbols has.
 pub(crate) const ROOM: usize = 16;
 
-/// With how many groups there is still room for the sixteen bytes that a row is written as.
+/// With at most this many groups there is still room for the sixteen bytes that a row is written as.
 const ROOM_FOR_ROW: usize = 10;
 
 /// The bytes of up to sixteen groups.

@@ -11,7 +11,7 @@ use super::blocks::{decode, others, put, row};
 use super::places::places_of;
 use std::simd::prelude::*;
 
-/// By the low half of a byte, the white space that has it.
+/// Has, for each low half of a byte, the white space with that half.
 const SPACES: [u8; 16] = [32, 0, 0, 0, 0, 0, 0, 0, 0, 9, 10, 0, 12, 13, 0, 0];
 
 /// Returns a bit for each byte of a row, which is set where it is white space.
@@ -66,7 +66,7 @@ fn put_half(room: &mut [u8], at: usize, row: u8x16, from: usize, bits: u8) -> us
     at + (8 - bits.count_ones() as usize)
 }
 
-/// Up to 127 symbols that follow one another in a text, but for white space.
+/// Up to 127 symbols that follow one another in a text, without the white space between them.
 #[derive(Drop)]
 pub(crate) struct Symbols {
     bytes: [u8; 144],

@@ -23,7 +23,7 @@ where
     }
 }
 
-/// Returns how many bytes a text of base64 gives at most, by its length in bytes.
+/// Returns how many bytes a text of base64 of this length decodes to at most.
 pub(crate) fn room_for(len: usize) -> usize
     ensures { result ≡ len / 4 * 3 + len % 4 * 3 / 4 }
 {

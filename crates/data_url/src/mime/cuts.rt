@@ -1,4 +1,4 @@
-//! Texts cut at a code point, and HTTP whitespace taken off.
+//! Texts cut at a code point, and texts without HTTP whitespace at an end.
 
 ghost use Rattle.std.specs.Prelude.{◌≡◌, ◌≤◌, ◌++◌, length, not};
 ghost use Rattle.std.specs.List.{prefix_len, suffix_len};

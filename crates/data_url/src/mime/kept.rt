@@ -11,10 +11,10 @@ ghost use Rattle.data_url.specs.Steps.Kept.{IsIndexed, first_of, pairs_of};
 use std::alloc::{AllocError, Global};
 use std::collections::BTreeSet;
 
-/// How many pairs are looked through one by one, which is faster for so few than a search in a set.
+/// How many pairs are searched one by one. For this few, that is faster than a search in a set.
 const LOOKED_THROUGH: usize = 128;
 
-/// The pairs that are kept, and the names of those after the first ones once more, to be found
+/// The pairs that are kept. The names of those after the first ones are also in a set, so that they are found fast
 /// among many.
 #[derive(Drop)]
 pub(super) struct KeptParameters {

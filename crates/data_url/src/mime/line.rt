@@ -1,4 +1,4 @@
-//! A line that is written in few calls.
+//! A buffer, so that a line is written in few calls.
 
 ghost use Rattle.std.specs.Fmt.{WritesStyledOnOk};
 ghost use Rattle.std.specs.Prelude.{◌≡◌, ◌+◌, ◌++◌, ◌≤◌, [], length};
@@ -6,10 +6,10 @@ ghost use Rattle.data_url.specs.Steps.Printing.{AddsOnOk, IsHeld, held};
 
 use std::{fmt, str};
 
-/// How many bytes are held back at the most.
+/// The size of the buffer, in bytes.
 const ROOM: usize = 128;
 
-/// The end of what is to be written, held back so that short texts are written as one.
+/// The end of the output, held in a buffer so that short texts are written together.
 #[derive(Drop)]
 pub(super) struct Line {
     room: [u8; ROOM],
@@ -17,7 +17,7 @@ pub(super) struct Line {
 }
 
 impl Line {
-    /// A line of which nothing is held.
+    /// A line with an empty buffer.
     #[inline(always)]
     pub(super) fn new() -> Line
         ensures none { held result ≡ [] }
@@ -29,7 +29,7 @@ impl Line {
         }
     }
 
-    /// Holds a text that there is room for.
+    /// Appends a text that fits to the buffer.
     #[inline(always)]
     fn hold(&mut self, text: &str)
         requires { self.old.len + length text.now ≤ 128 }
@@ -59,7 +59,7 @@ impl Line {
         Ok(())
     }
 
-    /// Adds a text that there is no room for until what is held is written.
+    /// Adds a text that does not fit until the buffer is written.
     #[inline(never)]
     fn push_past_room<W: fmt::Write>(
         &mut self,
@@ -78,7 +78,7 @@ impl Line {
         Ok(())
     }
 
-    /// Writes what is held.
+    /// Writes the buffer.
     pub(super) fn flush<W: fmt::Write>(&mut self, f: &mut fmt::Formatter<W>) -> fmt::Result
         requires { IsHeld self.old }
         ensures written { WritesStyledOnOk W.write_str_gives f.old result (held self.old) f.new }

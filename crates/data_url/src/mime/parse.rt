@@ -21,7 +21,7 @@ use super::values::{Value, lowercased};
 use crate::classes::{Class, long_span};
 use std::alloc::{AllocError, Global};
 
-/// The type, the subtype and the parameters of a text, as they are there.
+/// The type, the subtype and the parameters of a text, as slices of it.
 #[derive(Clone, Copy)]
 pub(crate) struct Head<'a> {
     pub(super) type_: &'a str,
@@ -38,7 +38,7 @@ struct Parameter<'a> {
 }
 
 impl<'a> Head<'a> {
-    /// The record of a MIME type of these parts. It takes memory for the record.
+    /// The record of a MIME type with these parts. It allocates the record.
     pub(crate) fn record(self, alloc: Global) -> Result<Mime, AllocError>
         requires type_ { IsTrue (is_token_text (chars self.type_.now)) }
         requires subtype { IsTrue (is_token_text (chars self.subtype.now)) }
@@ -161,13 +161,13 @@ fn split_quote(text: &str) -> Option<(&str, &str)>
     None
 }
 
-/// How many bytes of a text the shortest valid parameter takes, as `;a=b`, and about half of what others take.
+/// The length of the shortest valid parameter, such as `;a=b`, in bytes; about half of what most take.
 const LEAST_LEN: usize = 4;
 
-/// For how many parameters there is room at once at the most.
+/// The greatest number of parameters that room is allocated for at first.
 const MOST: usize = 32;
 
-/// For how many parameters there is room at once: for none in a text that is too short for one.
+/// For how many parameters room is allocated at first: for none if the text is too short for one.
 fn capacity_for(text: &str) -> usize {
     ((text.len() / LEAST_LEN + 1) / 2).min(MOST)
 }

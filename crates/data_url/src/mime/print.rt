@@ -29,7 +29,7 @@ pub(super) fn push_parameter<W: fmt::Write>(
     push_value(line, f, value)
 }
 
-/// Adds a value: a nonempty text of token code points as it is, any other in quotes.
+/// Adds a value: as it is if it is not empty and has only token code points, and otherwise in quotes.
 fn push_value<W: fmt::Write>(line: &mut Line, f: &mut fmt::Formatter<W>, value: &str) -> fmt::Result
     requires { IsHeld line.old }
     ensures added { AddsOnOk W.write_str_gives f.old line.old result

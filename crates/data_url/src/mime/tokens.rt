@@ -7,14 +7,14 @@ ghost use Rattle.data_url.specs.Mime.{DoesNotBegin, Every, is_token_text};
 
 use crate::classes::{Class, span};
 
-/// Whether a text is nonempty and of token code points alone.
+/// Whether a text is not empty and has only token code points.
 pub(super) fn is_token_text(text: &str) -> bool
     ensures { result ≡ is_token_text (chars text.now) }
 {
     !text.is_empty() && span(Class::Token, text.as_bytes()) == text.len()
 }
 
-/// Splits a text after its longest front of token code points.
+/// Splits a text after its longest prefix of token code points.
 pub(super) fn split_tokens(text: &str) -> (&str, &str)
     ensures joined { chars text.now ≡ chars result.0.now ++ chars result.1.now }
     ensures front { Every is_token (chars result.0.now) }

@@ -1,4 +1,4 @@
-//! Values of parameters, as they are in a text and as texts of their own.
+//! Values of parameters, as slices of a text and as texts of their own.
 
 ghost use Rattle.std.specs.Prelude.{◌≡◌, List, ℕ, IfOk, IsTrue, map};
 ghost use Rattle.std.specs.Char.{to_ascii_lowercase};
@@ -13,10 +13,10 @@ ghost use Rattle.data_url.specs.MimeType.{code_points};
 use crate::classes::{Class, long_span};
 use std::alloc::{AllocError, Global};
 
-/// A value as it is in a text.
+/// A value as a slice of a text.
 #[derive(Clone, Copy)]
 pub(super) enum Value<'a> {
-    /// No value, or one with a code point that is no quoted-string code point.
+    /// No value, or one with a code point that is not a quoted-string code point.
     Missing,
     /// A value without quotes, of quoted-string code points.
     Plain(&'a str),
@@ -41,8 +41,8 @@ impl<'a> Value<'a> {
     }
 }
 
-/// Whether a text has quoted-string code points alone. What escapes the others is one too, so a quoted string may be
-/// asked before it is unescaped.
+/// Whether a text has only quoted-string code points. `\` is one too, so a quoted string can be tested before its
+/// escapes are removed.
 fn is_quotable(text: &str) -> bool
     ensures { result ≡ list_all is_quotable (chars text.now) }
 {

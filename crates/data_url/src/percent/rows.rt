@@ -120,7 +120,7 @@ const FRAGMENT: [u8; 1024] = *b"\
     %F8\x03%F9\x03%FA\x03%FB\x03%FC\x03%FD\x03%FE\x03%FF\x03\
     ";
 
-/// By the low half of a byte, the bits of the columns in which it is not written as it is: of the C0 control
+/// Has, for each low half of a byte, the bits of the columns in which it is not written as it is, for the C0 control
 /// percent-encode set.
 const PATH_OTHERS: [u8; 16] = [1, 1, 1, 1, 1, 1, 1, 1, 1, 1, 1, 1, 1, 1, 1, 65];
 

@@ -1,4 +1,4 @@
--- What the steps of opening a URL give.
+-- What the private functions that open a URL return.
 use Rattle.std.specs.Global.{Global}
 use Rattle.std.specs.Prelude.{Vec, encode_utf8_all, ◌+◌, ◌≡◌, Bool, Err, List, Ok, Option, Result, Some, drop, ℕ}
 use Rattle.data_url.specs.Fetch.{Accepted, has_base64_suffix, header_of, mime_text, outcome, plain_body, staged, tail_of}
@@ -12,7 +12,7 @@ use Rattle.data_url_c.specs.declared.answer.DataUrlAnswer.{DataUrlAnswer}
 use Rattle.data_url_c.specs.declared.open.DataUrlOpened.{DataUrlOpened}
 use Rattle.data_url_c.specs.declared.refusal.Refusal.{Refusal}
 
--- the answer to a text that is no URL
+-- the result for a text that is not a data: URL
 pub record IsRefused (refusal : Refusal) (old new : List ℕ) (r : DataUrlOpened) : Type 0 where
   pub crosses : CrossesOrNot (Err refusal) old new (answer_of r)
   pub no_tail : HasNoTail r
@@ -21,7 +21,8 @@ pub record IsRefused (refusal : Refusal) (old new : List ℕ) (r : DataUrlOpened
 abbrev pub tail_after : List ℕ → ℕ → List ℕ
 tail_after x comma = without_end is_c0_control_or_space (drop (comma + 1) x)
 
--- the header of a URL with this tail was read: its record, printed to an output, and the flag
+-- the header of a URL with this tail was read: its MIME type is written to the output, and the flag
+-- says whether the body is base64
 pub record IsReadUrl (x tail old new : List ℕ) (r : DataUrlAnswer) (flag : Bool) : Type 0 where
   pub header : List ℕ
   pub mime : Record

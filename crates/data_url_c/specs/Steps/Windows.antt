@@ -1,11 +1,11 @@
--- Windows: where a tail may be cut, so that its parts decode to the parts of its body.
+-- Windows: the indices at which a tail can be cut, so that its parts decode to the parts of its body.
 use Rattle.std.specs.Char.{is_ascii_hexdigit}
 use Rattle.std.specs.Prelude.{[], ◌&&◌, ◌-◌, ◌<◌, ◌==◌, ◌∷◌, ◌≡◌, ◌≤◌, ◌⊎◌, ◌↔◌, Bool, IsTrue, IsUtf8, List, drop, false, length, not, slice_index, take, true, ℕ}
 use Rattle.std.specs.Str.{IsCharBoundary}
 use Rattle.data_url.specs.Fetch.{plain_body}
 use Rattle.data_url.specs.Url.{without_tabs_and_newlines}
 
--- the text may be cut at the place, between two characters
+-- the answer is true exactly if the index is a character boundary of the text
 abbrev pub HoldsEdge : List ℕ → ℕ → Bool → Type 0
 HoldsEdge text at answer = IsTrue answer ↔ IsCharBoundary text at
 
@@ -21,7 +21,7 @@ abbrev pub BeginsWithoutDigit : List ℕ → Type 0
 BeginsWithoutDigit [] = Unit {0}
 BeginsWithoutDigit (b ∷ rest) = is_ascii_hexdigit b ≡ false
 
--- no escape goes from the first text on into the second
+-- no escape begins in the first text and ends in the second
 abbrev pub IsCut : List ℕ → List ℕ → Type 0
 IsCut a b = (is_closed (without_tabs_and_newlines a) ≡ true)
     ⊎ BeginsWithoutDigit (without_tabs_and_newlines b)
@@ -34,7 +34,7 @@ pub record IsEscapeEnd (text : List ℕ) (end : ℕ) : Type 0 where
   pub cut : IsCut (take end text) (drop end text)
   pub ascii : slice_index text (end - 1) < 128
 
--- a window of a tail, from a place on: its body fits the limit, and the tail may be cut at its end
+-- a window of a tail, from an index on: its body fits the limit, and the tail can be cut at its end
 pub record IsWindow (tail : List ℕ) (from limit to : ℕ) : Type 0 where
   pub order : from ≤ to
   pub within : to ≤ length tail

@@ -13,7 +13,7 @@ const SPACED: &str =
      f7stg7NvlE3LaruSrjLnonWKTn9UGKzEesg61SHE/qaQQ0NV3vTH1lS6V6+o9jl8\n\
      zSOwW/r \tXL+iuItEnuj+h\u{c}lrWB8gpj7ktsjs0sW5=              =";
 
-/// Returns the six bits that a symbol stands for.
+/// Returns the six bits of a symbol.
 fn six_bits(byte: u8) -> Option<u8> {
     match byte {
         b'A'..=b'Z' => Some(byte - b'A'),

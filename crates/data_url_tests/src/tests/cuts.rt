@@ -1,4 +1,4 @@
-//! Where the calls that decode cut a body, and closures that refuse a piece.
+//! Where the functions that decode cut a body, and closures that return an error.
 
 use super::recorder::{Closure, Source};
 use super::with_run;
@@ -8,7 +8,7 @@ use std::alloc::Global;
 use std::process::Abort;
 use std::test::Fail;
 
-/// The error of a closure that refuses.
+/// The error of a closure.
 const REFUSED: usize = 7;
 
 /// The length of a long stretch.
@@ -31,7 +31,7 @@ fn lengths_of(
     Ok(record.lengths)
 }
 
-/// Returns how many pieces are longer than the room for short ones.
+/// Returns how many pieces are longer than the buffer for short ones.
 fn count_long(lengths: &[usize]) -> usize {
     lengths.iter().filter(|len| **len > ROOM).count()
 }
@@ -61,7 +61,7 @@ fn a_long_stretch_is_one_piece(rt: HostRuntime) -> Result<(), Fail> {
     assert_long(&rt, rt.alloc(), &AROUND_STRETCHES)
 }
 
-/// A part of a body, and how many bytes it stands for.
+/// A part of a body, and how many bytes it decodes to.
 const SHORT_PARTS: [(&str, usize); 6] = [
     ("%41", 1),
     ("a%41", 2),
@@ -87,7 +87,7 @@ fn short_stretches_are_gathered(rt: HostRuntime) -> Result<(), Fail> {
     assert_gathered(&rt, rt.alloc(), &SHORT_PARTS)
 }
 
-/// Appends a piece, and refuses it if there are then two bytes or more.
+/// Appends a piece, and returns an error if there are then two bytes or more.
 fn take_below_two(bytes: &mut Vec<u8>, piece: &[u8]) -> Result<(), usize> {
     let kept = bytes.extend_from_slice(piece).is_ok();
     if kept && bytes.len() < 2 {
@@ -97,7 +97,7 @@ fn take_below_two(bytes: &mut Vec<u8>, piece: &[u8]) -> Result<(), usize> {
     }
 }
 
-/// Asserts that a body ends with the piece that is refused.
+/// Asserts that the last piece of a body is the one for which the closure returns an error.
 fn assert_ends(rt: &impl Abort, alloc: Global, url: &DataUrl, closure: &Closure) {
     let mut bytes = Vec::new(alloc);
     let write = |piece: &[u8]| -> Result<(), usize> { take_below_two(&mut bytes, piece) };

@@ -7,7 +7,7 @@ use std::alloc::{AllocError, Global};
 use std::process::Abort;
 use std::test::Fail;
 
-/// The message for a text that is no MIME type.
+/// The message for a text that is not a MIME type.
 const NO_TYPE: &str = "invalid mime type";
 
 /// Each mark that a token may contain.
@@ -121,7 +121,7 @@ fn each_mark_of_a_token(rt: HostRuntime) -> Result<(), Fail> {
     Ok(())
 }
 
-/// Asserts that a value with this mark is quoted, and that a name with it is passed over.
+/// Asserts that a value with this mark is quoted, and that a parameter whose name has it is ignored.
 fn assert_quoted(rt: &impl Abort, alloc: Global, mark: char) -> Result<(), Fail> {
     let text = format!(in alloc; "x/x;a=v{mark};b{mark}=v;c=d")?;
     let wanted = format!(in alloc; "x/x;a=\"v{mark}\";c=d")?;

@@ -187,7 +187,7 @@ fn assert_at_place(
     Ok(())
 }
 
-/// Parts with bytes that do not stand for themselves, and two without.
+/// Parts with bytes that the body does not hold as they are, and two without.
 const SPECIALS: [&str; 15] = [
     "\t",
     "\n",

@@ -6,7 +6,7 @@ use data_url::{DataUrl, FragmentIdentifier};
 use std::alloc::{AllocError, Global};
 use std::process::Abort;
 
-/// How many calls at most are refused in turn.
+/// The greatest number of a call that fails in turn.
 const REFUSALS: usize = 100;
 
 /// Where the bytes come from.
@@ -18,7 +18,7 @@ pub enum Source<'a> {
     Base64(&'a [&'a [u8]]),
 }
 
-/// What becomes of the closure when the text has ended.
+/// What happens to the closure when the text has ended.
 #[derive(Drop)]
 pub enum Closure {
     /// It is dropped, by `decode` and by `finish`.
@@ -34,7 +34,7 @@ pub struct Record {
     pub bytes: Vec<u8>,
     /// The length of each piece.
     pub lengths: Vec<usize>,
-    /// The call that is refused, with its number as the error, or 0 for none.
+    /// The number of the call that fails, which is also its error, or 0 for none.
     refused: usize,
     /// The message of the error, or `#` and the fragment, or nothing.
     pub answer: String,
@@ -51,7 +51,8 @@ impl Record {
         }
     }
 
-    /// Records a call with a piece, and refuses it if it is the one to refuse. The error is 0 if allocation fails.
+    /// Records a call with a piece, and returns an error if it is the one that fails. The error is 0 if allocation
+    /// fails.
     fn take(&mut self, piece: &[u8]) -> Result<(), usize> {
         let kept = self.bytes.extend_from_slice(piece).is_ok();
         if !kept || self.lengths.push(piece.len()).is_err() {
@@ -151,7 +152,7 @@ fn record_base64(
 }
 
 impl<'a> Source<'a> {
-    /// Returns the record of decoding while this call is refused, or none if it is 0.
+    /// Returns the record of decoding while this call fails, or no call if it is 0.
     fn record(
         &self,
         rt: &impl Abort,
@@ -180,7 +181,7 @@ impl<'a> Source<'a> {
         Ok(dropped)
     }
 
-    /// Asserts that a refusal of this call is the result, and ends the calls, after a beginning of the bytes.
+    /// Asserts that the error of this call is the result, that no call follows it, and that the bytes are a prefix.
     fn assert_refused(
         &self,
         rt: &impl Abort,
@@ -198,8 +199,8 @@ impl<'a> Source<'a> {
         Ok(())
     }
 
-    /// Asserts the bytes and the result, and what a refusal of each of the first hundred calls does. A refusal of the call
-    /// after the last one, which never comes, changes nothing.
+    /// Asserts the bytes and the result, and what an error of each of the first hundred calls does. An error of the
+    /// call after the last one, which is never made, changes nothing.
     pub fn assert_is(
         &self,
         rt: &impl Abort,

@@ -1,4 +1,4 @@
-//! Large inputs: no size is refused.
+//! Large inputs: every size is accepted.
 
 use super::base64::assert_whole;
 use super::mime::{assert_mime, assert_read_again};

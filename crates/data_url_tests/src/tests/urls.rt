@@ -148,7 +148,7 @@ fn assert_body(
     Ok(())
 }
 
-/// Asserts the record, the body and the fragment of a text, or the message for a text that is no URL.
+/// Asserts the record, the body and the fragment of a text, or the message for a text that is not a data: URL.
 pub fn assert_url(rt: &impl Abort, alloc: Global, row: [&str; 4]) -> Result<(), Fail> {
     let [text, record, body, answer] = row;
     let url = match DataUrl::process(alloc, text) {
@@ -177,7 +177,7 @@ fn texts(rt: HostRuntime) -> Result<(), Fail> {
     assert_urls(&rt, rt.alloc(), &URLS)
 }
 
-/// Returns the record, the body, and the message or fragment of a beginning of that text, by its length.
+/// Returns the record, the body, and the message or fragment of the prefix of that text with this length.
 fn of_beginning(len: usize) -> [&'static str; 3] {
     let record = "text/plain;charset=x";
     match len {

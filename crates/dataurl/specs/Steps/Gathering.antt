@@ -1,4 +1,4 @@
--- What gathering the pieces of an output does: short ones wait until they are written together.
+-- Buffered output: short pieces are gathered in a buffer and written together.
 use Rattle.std.specs.Io.KnownBytes.{Appends}
 use Rattle.std.specs.Prelude.{[], ◌++◌, ◌≡◌, Err, List, MatchResult, Ok, Option, Result, take, ℕ}
 use Rattle.data_url.specs.declared.forgiving_base64.DecodeError.TheVariants.{InvalidBase64, WriteError}
@@ -9,12 +9,12 @@ use Rattle.dataurl.specs.declared.fault.Fault.TheVariants.{Base64, Write}
 use Rattle.dataurl.specs.declared.fault.WriteFailed.{WriteFailed}
 use Rattle.dataurl.specs.declared.gather.Gathered.{Gathered}
 
--- the bytes that were gathered and are not written yet
+-- the bytes in the buffer, which are not written yet
 abbrev pub waiting_bytes : Gathered → List ℕ
 waiting_bytes g = take g.len g.bytes
 
--- a piece was taken: what was written and what waits now are what waited before and the piece; or a
--- write failed, and what was written is a beginning of these and not all
+-- a piece was added: the bytes written and those in the buffer after it are the buffer before it and
+-- the piece. Or a write failed, and the bytes written are a proper prefix of these.
 pub record Gathers (piece before after : List ℕ) (old new : Option (List ℕ))
     (r : Result (Unit {0}) WriteFailed) : Type 0 where
   pub written : List ℕ
@@ -22,7 +22,7 @@ pub record Gathers (piece before after : List ℕ) (old new : Option (List ℕ))
   pub took : MatchResult r (λ x. before ++ piece ≡ written ++ after)
       (λ failed. IsProperPrefix written (before ++ piece))
 
--- of an output all was written, or a beginning that is not all and that the writer took
+-- all of an output was written; or a write failed, after a proper prefix of it
 pub data IsStreamed (IsOutput : List ℕ → End → Type 0) : List ℕ → End → Type 0 where
   all_streamed : {written : List ℕ} {end : End} → IsOutput written end
       → IsStreamed IsOutput written end
@@ -30,14 +30,14 @@ pub data IsStreamed (IsOutput : List ℕ → End → Type 0) : List ℕ → End 
       → IsProperPrefix written whole
       → IsStreamed IsOutput written (Err Write)
 
--- a writer took of an output
+-- what a writer holds after it was given an output
 pub record Streams (IsOutput : List ℕ → End → Type 0) (old new : Option (List ℕ)) (r : End)
     : Type 0 where
   pub written : List ℕ
   pub appended : Appends old new written
   pub is_streamed : IsStreamed IsOutput written r
 
--- what waited was written, and then comes the end; or a write failed before that
+-- the bytes in the buffer were written, and the end is this one; or a write failed
 pub data IsFlushed (bytes : List ℕ) (end : End) : List ℕ → End → Type 0 where
   flushed : IsFlushed bytes end bytes end
   not_flushed : {written : List ℕ} → IsProperPrefix written bytes
@@ -48,8 +48,7 @@ pub record Flushes (bytes : List ℕ) (end : End) (old new : Option (List ℕ)) 
   pub appended : Appends old new written
   pub is_flushed : IsFlushed bytes end written r
 
--- behind an answer of decoding: after a failed write nothing more is written, and else what waited
--- is
+-- after decoding: if a write failed, nothing more is written; otherwise the bytes in the buffer are
 abbrev pub IsSettled : Result (Unit {0}) (DecodeError WriteFailed) → List ℕ → List ℕ → End → Type 0
 IsSettled (Ok x) bytes written end = IsFlushed bytes (Ok tt) written end
 IsSettled (Err (InvalidBase64 kind)) bytes written end =

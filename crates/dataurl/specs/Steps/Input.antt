@@ -5,20 +5,20 @@ use Rattle.std.specs.Prelude.{◌≡◌, Err, IsUtf8, List, Ok, Option, Result, 
 use Rattle.dataurl.specs.declared.fault.Fault.TheVariants.{Memory, NotUtf8, Read}
 use Rattle.dataurl.specs.declared.fault.Fault.{Fault}
 
--- what was made of the bytes that were read, where left is what was not
+-- the result of reading a whole input, from the bytes read (input) and those not yet read (left)
 pub data IsRead (left : Option (List ℕ)) (input : List ℕ) : Result (Vec ℕ Global) Fault
     → Type 0 where
   whole : {bytes : Vec ℕ Global} → bytes.items ≡ input → IsAtEnd left → IsRead left input (Ok bytes)
   no_memory : IsRead left input (Err Memory)
   read_failed : IsRead left input (Err Read)
 
--- a reader gave bytes, and these came of them
+-- what a reader holds after the whole input was read
 pub record ReadsAll (old new : Option (List ℕ)) (r : Result (Vec ℕ Global) Fault) : Type 0 where
   pub input : List ℕ
   pub consumed : Consumes old new input
   pub is_read : IsRead new input r
 
--- the same, of a text
+-- the same for an input that has to be UTF-8
 pub data IsReadText (left : Option (List ℕ)) (input : List ℕ) : Result (String Global) Fault
     → Type 0 where
   whole_text : {text : String Global} → string_bytes text ≡ input → IsUtf8 input → IsAtEnd left

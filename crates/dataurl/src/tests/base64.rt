@@ -27,7 +27,7 @@ const TEXTS: [Row<'static>; 16] = [
     ("QUJD!QUJD", "ABC", "symbol with codepoint 33 not expected"),
 ];
 
-/// Asserts what comes of a text that is read in pieces.
+/// Asserts what the program does with a text that is read in pieces.
 fn assert_pieces(rt: &impl Abort, alloc: Global, row: &Row, peers: Peers) -> Result<(), Fail> {
     let (text, bytes, fault) = *row;
     let ended = outcome_of(rt, alloc, "base64", text.as_bytes(), peers)?;
@@ -41,7 +41,7 @@ fn assert_pieces(rt: &impl Abort, alloc: Global, row: &Row, peers: Peers) -> Res
     Ok(())
 }
 
-/// Asserts what comes of each text of a table: read byte by byte, and in two pieces.
+/// Asserts what the program does with each text of a table, read byte by byte and in two pieces.
 fn assert_texts(rt: &impl Abort, alloc: Global, rows: &[Row]) -> Result<(), Fail> {
     for row in rows {
         assert_pieces(rt, alloc, row, BYTEWISE)?;
@@ -57,7 +57,7 @@ fn texts_in_pieces(rt: HostRuntime) -> Result<(), Fail> {
     assert_texts(&rt, rt.alloc(), &TEXTS)
 }
 
-/// Asserts that nothing is read after the piece with the first fault, where each read gives this many bytes.
+/// Asserts that nothing is read after the piece with the first fault, if each read returns this many bytes.
 fn assert_reads(rt: &impl Abort, alloc: Global, after: &str, piece: usize) -> Result<(), Fail> {
     let peers = Peers {
         first: piece,
@@ -141,7 +141,7 @@ fn picture(alloc: Global) -> Result<Vec<u8>, AllocError> {
 
 const ALPHABET: [u8; 64] = *b"ABCDEFGHIJKLMNOPQRSTUVWXYZabcdefghijklmnopqrstuvwxyz0123456789+/";
 
-/// The base64 of bytes whose number divides by three.
+/// The base64 of bytes whose number is a multiple of three.
 fn encoded(alloc: Global, bytes: &[u8]) -> Result<Vec<u8>, AllocError> {
     let mut text = Vec::new(alloc);
     for group in bytes.chunks_exact(3) {

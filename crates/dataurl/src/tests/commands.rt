@@ -1,4 +1,4 @@
-//! Each command, what is wrong with its input, and the words of the command line.
+//! Each command, inputs that are not valid, and the words of the command line.
 
 use super::peers::{SOUND, outcome_of, status_by_calls};
 use crate::fault::{Fault, report};

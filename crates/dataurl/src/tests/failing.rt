@@ -112,7 +112,7 @@ fn rows(rt: HostRuntime) -> Result<(), Fail> {
     assert_rows(&rt, rt.alloc(), &ROWS)
 }
 
-/// How many bytes a command has written before its nth read, where each read gives one byte: of base64 whole groups.
+/// How many bytes a command has written before its nth read, if each read returns one byte: for base64, whole groups.
 fn written_before(words: &str, read: usize) -> usize {
     if words == "base64" {
         (read.saturating_sub(1) / 4).wrapping_mul(3)
@@ -121,7 +121,7 @@ fn written_before(words: &str, read: usize) -> usize {
     }
 }
 
-/// Asserts how a command ends that writes an output, where each of its reads fails in turn, and each of its writes.
+/// Asserts how a command that writes an output ends if each of its reads, and each of its writes, fails in turn.
 fn assert_failing(
     rt: &impl Abort,
     alloc: Global,

@@ -9,8 +9,8 @@ use std::io::{self, Read, Write};
 use std::process::Abort;
 use std::test::Fail;
 
-/// How a reader and a writer behave: how many bytes the first read gives and each other one, which read fails, how many
-/// bytes a write takes, and which write fails or takes nothing. Calls are counted from 1, and 0 means none.
+/// How a reader and a writer behave: how many bytes the first read returns, and each other read; which read fails; how
+/// many bytes a write writes; and which write fails or writes nothing. Calls are counted from 1, and 0 means none.
 #[derive(Clone, Copy)]
 pub(super) struct Peers {
     pub(super) first: usize,
@@ -21,7 +21,7 @@ pub(super) struct Peers {
     pub(super) takes_nothing: bool,
 }
 
-/// All that is asked for, and nothing fails.
+/// Each call reads or writes all bytes, and none fails.
 pub(super) const SOUND: Peers = Peers {
     first: usize::MAX,
     piece: usize::MAX,
@@ -31,7 +31,7 @@ pub(super) const SOUND: Peers = Peers {
     takes_nothing: false,
 };
 
-/// One byte at a time, and nothing fails.
+/// Each call reads or writes one byte, and none fails.
 pub(super) const BYTEWISE: Peers = Peers {
     first: 1,
     piece: 1,
@@ -118,7 +118,7 @@ impl Ended {
     }
 }
 
-/// The words of a command line: those of a text, which spaces part.
+/// The words of a command line, separated by spaces.
 pub(super) fn words_of(alloc: Global, text: &str) -> Result<Vec<String>, AllocError> {
     let mut words = Vec::new(alloc);
     for word in text.split(' ') {
@@ -183,7 +183,7 @@ fn outcome_by(
     })
 }
 
-/// Runs the program with these words on an input. It ends as the calls that it makes do.
+/// Runs the program with these words on an input, and asserts that the calls that it makes end the same.
 pub(super) fn outcome_of(
     rt: &impl Abort,
     alloc: Global,

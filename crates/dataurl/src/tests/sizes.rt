@@ -1,11 +1,11 @@
-//! Inputs of every size: one byte at a time, around the room that is gathered, and large.
+//! Inputs of every size: one byte at a time, around the size of the buffer, and large.
 
 use super::peers::{BYTEWISE, Peers, SOUND, outcome_of};
 use std::alloc::Global;
 use std::process::Abort;
 use std::test::Fail;
 
-/// Asserts what a command writes of an input.
+/// Asserts what a command writes for an input.
 fn assert_written(
     rt: &impl Abort,
     alloc: Global,
@@ -20,7 +20,7 @@ fn assert_written(
     Ok(())
 }
 
-/// Asserts what each command writes where header, body, fragment and value are so long.
+/// Asserts what each command writes if header, body, fragment and value have this length.
 fn assert_sizes(rt: &impl Abort, alloc: Global, len: usize, peers: Peers) -> Result<(), Fail> {
     let value = "d".repeat(alloc, len)?;
     let body = "e".repeat(alloc, len)?;

@@ -1,4 +1,4 @@
--- The decoder may be fed, and took the body as far as the walk.
+-- The decoder can be fed, and was fed the body up to the place of the walk.
 use Rattle.std.proofs.Common.{◌≡◌, ◌-◌, length, false}
 use Rattle.std.specs.Fn.{CalledAt, always_mut}
 use Rattle.data_url.specs.Decoder.{start, state_of}

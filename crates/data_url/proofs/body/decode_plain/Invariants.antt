@@ -1,4 +1,4 @@
--- The closure may be called, and took the body as far as the walk.
+-- The closure can be called, and was called with the body up to the place of the walk.
 use Rattle.std.proofs.Common.{◌-◌, length}
 use Rattle.std.specs.Fn.{CalledAt, always_mut}
 use Rattle.data_url.proofs.body.Decoding.{Going}

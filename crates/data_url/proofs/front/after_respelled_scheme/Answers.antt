@@ -23,7 +23,7 @@ loop-place-preserved-then-is_tab_or_newline c =
     (spells_passed (take c.loop-place.place c.args.text.now) c.loop-place.matched
     (get_or c.args.text.now c.loop-place.place 0) c.loop-place.invariant byte)
 
--- what is known of a byte that is not passed over
+-- what is known about a byte that is not skipped
 record Byte (text : List ℕ) (place : ℕ) : Type 0 where
   within : place < length text
   stays : is_tab_or_newline (get_or text place 0) ≡ false

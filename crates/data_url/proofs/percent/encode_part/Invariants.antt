@@ -1,4 +1,4 @@
--- The bytes that were read are written at the front of the room.
+-- The bytes that were read are written at the front of the buffer.
 use Rattle.data_url.specs.Steps.Sets.{in_set}
 use Rattle.data_url.proofs.percent.Encoding.{PutTo}
 use Rattle.data_url.proofs.percent.encode_part.Given as goal

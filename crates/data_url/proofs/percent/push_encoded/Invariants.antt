@@ -1,4 +1,4 @@
--- What stands before the rest is written.
+-- The bytes before the rest are written.
 use Rattle.std.specs.Prelude.{length, string_bytes}
 use Rattle.data_url.specs.Steps.Sets.{in_set}
 use Rattle.data_url.proofs.percent.Encoding.{WroteBefore}

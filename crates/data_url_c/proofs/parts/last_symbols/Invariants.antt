@@ -3,7 +3,8 @@ use Rattle.std.specs.List.{filter}
 use Rattle.data_url.specs.Base64.{is_symbol}
 use Rattle.data_url_c.proofs.parts.last_symbols.Given as goal
 
--- the symbols from the place on come after the missing ones, and before these are what waits
+-- from the index `missing` on, the symbols are those of the text from the place on; before it, they are those of the
+-- state
 abbrev pub invariant-loop-missing : goal.invariant-loop-missing
 invariant-loop-missing l = record {
   found : drop l.missing (take l.count l.symbols) ≡ filter is_symbol (drop l.at l.text);

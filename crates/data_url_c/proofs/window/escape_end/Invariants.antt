@@ -2,7 +2,7 @@ use Rattle.std.proofs.Common.{◌-◌, length}
 use Rattle.data_url_c.proofs.WindowLemmas.{EscapeSoFar}
 use Rattle.data_url_c.proofs.window.escape_end.Given as goal
 
--- the bytes so far, tabs and newlines aside, are '%' and digits
+-- the bytes so far, without tabs and newlines, are '%' and digits
 abbrev pub invariant-loop-at : goal.invariant-loop-at
 invariant-loop-at l = EscapeSoFar l.text l.at l.digits
 

@@ -2,7 +2,7 @@ use Rattle.std.proofs.Common.{ℕ, ◌<◌, ◌≤◌}
 use Rattle.std.specs.Str.{IsCharBoundary}
 use Rattle.data_url_c.proofs.window.last_edge.Given as goal
 
--- no place after this one, up to the end, is an edge
+-- after this place, up to the end, there is no character boundary
 abbrev pub invariant-loop-to : goal.invariant-loop-to
 invariant-loop-to l = record {
   order : l.from ≤ l.to;

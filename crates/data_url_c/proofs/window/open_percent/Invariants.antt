@@ -3,7 +3,7 @@ use Rattle.data_url.specs.Url.{without_tabs_and_newlines}
 use Rattle.data_url_c.proofs.WindowLemmas.{NoPercent}
 use Rattle.data_url_c.proofs.window.open_percent.Given as goal
 
--- the bytes from the place on, tabs and newlines aside, are few and none is a '%'
+-- the bytes from the place on, without tabs and newlines, are few, and none is '%'
 abbrev pub invariant-loop-at : goal.invariant-loop-at
 invariant-loop-at l = record {
   within : l.at ≤ length l.window;

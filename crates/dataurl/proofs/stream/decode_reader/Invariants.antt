@@ -1,4 +1,4 @@
--- The decoder may be fed, and was fed what was read.
+-- The decoder can be fed, and was fed what was read.
 use Rattle.std.proofs.Common.{◌≡◌, false, length}
 use Rattle.std.specs.Fn.{CalledAt, always_mut}
 use Rattle.data_url.specs.Decoder.{state_of}

@@ -1,4 +1,4 @@
--- The chunks so far were fed, and the closure may still be called.
+-- The chunks so far were fed, and the closure can still be called.
 use Rattle.std.proofs.Common.{not, take}
 use Rattle.std.specs.Fn.{CalledAt, always_mut}
 use Rattle.data_url.specs.Decoder.{state_of}

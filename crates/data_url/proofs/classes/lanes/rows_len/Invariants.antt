@@ -1,4 +1,4 @@
--- The rows that were looked at are of the class.
+-- The bytes of the rows that were tested are of the class.
 use Rattle.std.proofs.Common.{◌-◌, length}
 use Rattle.data_url.proofs.classes.Rows.{Looked}
 use Rattle.data_url.proofs.classes.lanes.rows_len.Given as goal

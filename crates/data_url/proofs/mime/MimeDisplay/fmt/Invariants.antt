@@ -1,4 +1,4 @@
--- What is added and what is left to add make up the whole.
+-- What was added and what is left to add are together the whole text.
 use Rattle.std.proofs.Common.{◌≡◌, ℕ, List, [], ◌++◌, drop, encode_utf8_all}
 use Rattle.std.specs.Fmt.{IsFlush}
 use Rattle.data_url.specs.Mime.{printed}

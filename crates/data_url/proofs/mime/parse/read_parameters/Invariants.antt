@@ -1,4 +1,4 @@
--- The items so far, and what is kept of them; the text gets shorter.
+-- The items so far, and the pairs that are kept of them; the rest of the text gets shorter.
 use Rattle.std.proofs.Common.{length}
 use denote.Text.{Utf8}
 use denote.Shadow.{shadow}

@@ -1,4 +1,4 @@
--- What is left of the string reads as the whole does.
+-- Reading the rest of the string returns the same as reading the whole string.
 use Rattle.std.proofs.Common.{◌≡◌, drop, false}
 use Rattle.data_url.proofs.mime.Quoted.{quoted_rest}
 use Rattle.data_url.proofs.mime.parse.split_quote.Given as goal

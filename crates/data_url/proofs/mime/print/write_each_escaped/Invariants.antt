@@ -1,4 +1,4 @@
--- What is written and what is left to write make up the whole.
+-- What was written and what is left to write are together the whole text.
 use Rattle.std.proofs.Common.{◌≡◌, ℕ, List, ◌++◌, encode_utf8_all}
 use Rattle.std.specs.Fmt.{HasWrittenStyled, IsFlush}
 use Rattle.std.specs.List.{flat_map}

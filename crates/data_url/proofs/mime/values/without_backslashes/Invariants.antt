@@ -1,4 +1,4 @@
--- What is written and what is left to read make up the value.
+-- What was written and the value of the rest are together the whole value.
 use Rattle.std.proofs.Common.{◌≡◌, ◌++◌, false}
 use Rattle.std.specs.Str.{IsUtf8, chars}
 use Rattle.std.specs.Str.Iter.{chars_rest}

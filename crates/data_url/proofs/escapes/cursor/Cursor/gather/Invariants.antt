@@ -1,4 +1,4 @@
--- So many bytes were gathered, and what is known of the walk is that its body ends or nothing.
+-- Some bytes are gathered; either the body ends at the place of the walk, or nothing is known about it.
 use Rattle.std.proofs.Common.{◌≤◌, length}
 use Rattle.data_url.specs.Steps.Walk.{Gathers, IsPlain, KnowsAhead}
 use Rattle.data_url.specs.Pieces.{has_ended, text_of}

@@ -1,4 +1,4 @@
--- So many bytes were gathered, and the walk stands behind an escape.
+-- Some bytes are gathered, and the walk is directly after an escape.
 use Rattle.std.proofs.Common.{◌≡◌, ◌+◌, ◌*◌, ◌-◌, ◌≤◌, length}
 use Rattle.data_url.specs.Steps.Walk.{Gathers, HasRoom, Looking}
 use Rattle.data_url.specs.Pieces.{text_of}

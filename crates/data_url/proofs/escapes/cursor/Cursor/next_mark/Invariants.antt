@@ -1,4 +1,4 @@
--- No mark comes before the place, and no byte after it was looked at.
+-- There is no mark before the place, and no byte after it was read.
 use Rattle.std.proofs.Common.{◌≤◌, ◌-◌, length}
 use Rattle.data_url.specs.Steps.Walk.{IsClear, Looking, Stays}
 use Rattle.data_url.specs.Pieces.{text_of}

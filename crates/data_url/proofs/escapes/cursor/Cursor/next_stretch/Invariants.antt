@@ -1,4 +1,4 @@
--- Tabs and newlines were passed, and a stretch was found up to the place where the search goes on.
+-- Tabs and newlines were skipped, and a stretch was found up to the place where the search goes on.
 use Rattle.std.proofs.Common.{◌-◌, length}
 use Rattle.data_url.specs.Pieces.{text_of}
 use Rattle.data_url.proofs.escapes.Walking.{Searching}

@@ -1,4 +1,4 @@
--- What was passed so far are tabs and newlines.
+-- All bytes skipped so far are tabs and newlines.
 use Rattle.std.proofs.Common.{◌≡◌, ◌≤◌, length}
 use Rattle.data_url.proofs.escapes.Hexadecimal.{Passed}
 use Rattle.data_url.proofs.escapes.source.Source.digit_further.Given as goal

@@ -4,7 +4,7 @@ use Rattle.data_url.specs.Decoder.{Feeds, state_of}
 use Rattle.data_url.specs.Steps.Holding.{IsBetweenGroups}
 use Rattle.data_url.proofs.forgiving_base64.decode.Decoder.feed_blocks.Given as goal
 
--- what was read was passed on
+-- the closure was called with the bytes of all groups that were read
 abbrev pub invariant-loop-at : goal.invariant-loop-at
 invariant-loop-at g l = record {
   callable : always_mut g.F.FnMut (state_of l.self).closure;

@@ -5,7 +5,7 @@ use Rattle.data_url.specs.Steps.Holding.{Holds}
 use Rattle.data_url.specs.Steps.Waiting.{bytes_of}
 use Rattle.data_url.proofs.forgiving_base64.decode.Decoder.feed_piece.Given as goal
 
--- what was read was taken, and what of it was not passed on is in the piece
+-- the text read so far was decoded; the bytes that the closure was not called with are in the piece
 abbrev pub invariant-loop-at : goal.invariant-loop-at
 invariant-loop-at g l = record {
   callable : always_mut g.F.FnMut (state_of l.self).closure;

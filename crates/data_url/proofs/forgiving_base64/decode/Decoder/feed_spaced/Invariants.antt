@@ -6,7 +6,7 @@ use Rattle.data_url.specs.Steps.Holding.{Holds, waiting}
 use Rattle.data_url.specs.Steps.Waiting.{symbols_of}
 use Rattle.data_url.proofs.forgiving_base64.decode.Decoder.feed_spaced.Given as goal
 
--- what was read was taken, and of its symbols those that wait were not passed on
+-- the text read so far was decoded, except the symbols that are held
 abbrev pub invariant-loop-at : goal.invariant-loop-at
 invariant-loop-at g l = record {
   callable : always_mut g.F.FnMut (state_of l.self).closure;

@@ -14,7 +14,7 @@ use Rattle.data_url.proofs.mime.kept.KeptParameters.push.Goals as goal
 use Rattle.data_url.proofs.mime.kept.KeptParameters.push.Goals.{else-len-ge-LOOKED_THROUGH-via-then-len-ge-LOOKED_THROUGH+in_ok-clone+in_ok-insert+else-not-branch}
 use Rattle.data_url.proofs.mime.kept.KeptParameters.push.Goals.{else-len-ge-LOOKED_THROUGH-via-else-len-ge-LOOKED_THROUGH}
 
--- the pair is new: it stands behind the others, and its name in the set where it is a later one
+-- the pair is new: it is appended to the others, and its name is in the set if it is a later one
 record IsPushed (old new : KeptParameters) (p : Pair) : Type 0 where
   pub is_new : has_name p.0 (pairs_of old) ≡ false
   pub pairs : new.pairs ≡ old.pairs
