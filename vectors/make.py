@@ -34,7 +34,7 @@ def with_each(text, bits):
 
 
 def mixed(seed, bits, count, most, front=""):
-    """So many texts of up to so many bits each, from a seed."""
+    """`count` random texts of at most `most` bits each, from a seed."""
     rng = random.Random(seed)
     return [front + "".join(rng.choice(bits) for _ in range(rng.randrange(1, most + 1))) for _ in range(count)]
 

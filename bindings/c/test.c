@@ -62,7 +62,7 @@ static void try_room(Call call, const void *text, size_t len, size_t room, uint3
     } else {
         check(is(answer, status, want_len), "answer", text);
         check(want_len == 0 || memcmp(out, want, want_len) == 0, "bytes", text);
-        check(is_filled(out + want_len, room + 1 - want_len), "behind the answer", text);
+        check(is_filled(out + want_len, room + 1 - want_len), "after the answer", text);
     }
     free(out);
 }

@@ -121,7 +121,7 @@ pub extern "C" fn dataurl_open(alloc: Global, url: &[u8], out: &mut [u8]) -> Dat
     }
 }
 
-/// Opens a data: URL that is known to be UTF-8, and so reads no byte of its body.
+/// Opens a data: URL that is known to be UTF-8. Of its body at most the end is read, to remove C0 controls and spaces.
 #[unsafe(no_mangle)]
 pub extern "C" fn dataurl_open_utf8(alloc: Global, url: &[u8], out: &mut [u8]) -> DataUrlOpened
     requires { IsUtf8 url.now }

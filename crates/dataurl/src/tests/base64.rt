@@ -121,7 +121,7 @@ const BEFORE_ROWS: [u8; 48] = [
 ];
 
 /// What comes after the rows: their Adler-32, the chunk's CRC, and the end chunk.
-const BEHIND_ROWS: [u8; 20] = [
+const AFTER_ROWS: [u8; 20] = [
     126, 98, 70, 104, 243, 135, 190, 33, 0, 0, 0, 0, 73, 69, 78, 68, 174, 66, 96, 130,
 ];
 
@@ -135,7 +135,7 @@ fn picture(alloc: Global) -> Result<Vec<u8>, AllocError> {
             file.push(row + column)?;
         }
     }
-    file.extend_from_slice(&BEHIND_ROWS)?;
+    file.extend_from_slice(&AFTER_ROWS)?;
     Ok(file)
 }
 
