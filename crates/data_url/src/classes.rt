@@ -17,7 +17,7 @@ pub(crate) enum Class {
     /// The bytes of the UTF-8 of quoted-string code points: U+0080 to U+00FF begin with 0xC2 or 0xC3, and every later code
     /// point begins with a greater byte.
     Quotable,
-    /// The same bytes without `;`.
+    /// The bytes of an unquoted value that is kept: those of `Quotable` without `;`.
     Unquoted,
     /// The bytes of a path that are serialised as they are and end neither the path nor the header: printable ASCII
     /// and spaces, except `#`, `,` and `?`.
