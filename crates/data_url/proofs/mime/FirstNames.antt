@@ -58,6 +58,7 @@ equal_from_test a c h = (bytes_eq-Decides a c).0 h
 pub test_from_equal : (a c : List ℕ) → a ≡ c → bytes_eq a c ≡ true
 test_from_equal a c e = (bytes_eq-Decides a c).1 e
 
+-- for texts that are not equal, the test of equality is false
 pub test_from_different : (a c : List ℕ) → (a ≡ c → ⊥) → bytes_eq a c ≡ false
 test_from_different a c n = false_from_ne_true (bytes_eq a c) (λ h. n (equal_from_test a c h))
 

@@ -363,6 +363,7 @@ has_one_item_list r b = record { some = some_items r b; only = only_items r }
 
 -- A text has at most one record.
 
+-- if `list_all p t` is true, each code point of t passes
 pub every_from_all : (p : ℕ → Bool) (t : List ℕ) → list_all p t ≡ true → Every p t
 every_from_all p [] h = tt
 every_from_all p (c ∷ t) h = let e = and_parts (p c) (list_all p t) h in (e.0, every_from_all p t e.1)
