@@ -144,12 +144,13 @@ and_false : (b : Bool) → (b && false) ≡ false
 and_false true = refl
 and_false false = refl
 
+-- the text without each '\' that escapes the next code point; the flag says whether a '\' comes before the text
 abbrev pub unescaped : Bool → List ℕ → List ℕ
 unescaped false [] = []
 unescaped true [] = 92 ∷ []
 unescaped escaped (c ∷ t) = cond ((c == 92) && not escaped) (unescaped true t) (c ∷ unescaped false t)
 
--- after an unescaped place, a code point other than '\' is kept
+-- if no '\' comes before a text, a first code point other than '\' is kept
 pub unescaped_one : (c : ℕ) (t : List ℕ) → (c == 92) ≡ false → unescaped false (c ∷ t) ≡ c ∷ unescaped false t
 unescaped_one c t e = cond-false ((c == 92) && true) (unescaped true t) (c ∷ unescaped false t) (ap (λ b. b && true) e)
 
