@@ -83,7 +83,7 @@ pub token_text_lower : (t : List ℕ) → is_token_text (map to_ascii_lowercase 
 token_text_lower [] = refl
 token_text_lower (c ∷ t) = all_token_lower (c ∷ t)
 
--- a text in lower case stays the same in lower case
+-- putting a text into lower case twice is the same as doing so once
 pub lower_twice : (t : List ℕ) → map to_ascii_lowercase (map to_ascii_lowercase t) ≡ map to_ascii_lowercase t
 lower_twice [] = refl
 lower_twice (c ∷ t) = ap₂ (λ x y. x ∷ y) (lowercase-lowercase c) (lower_twice t)
@@ -108,7 +108,7 @@ lower_chars bs u h =
 pub name_bytes : (bs : List ℕ) → IsUtf8 bs → is_token_text (chars bs) ≡ true → bs ≡ chars bs
 name_bytes bs u h = bytes_of_ascii bs u (token_text_ascii (chars bs) h)
 
--- a lower-case name stays the same in lower case
+-- a lower-case name in lower case is the name itself
 pub lower_is_itself : (t : List ℕ) → is_lowercase_name t ≡ true → map to_ascii_lowercase t ≡ t
 lower_is_itself t h =
     equal_from_test (map to_ascii_lowercase t) t
@@ -126,7 +126,7 @@ both_lower k n u w h t = (
   ap (map to_ascii_lowercase) (name_bytes n w t),
 )
 
--- a text of code points that is a token text has some bytes
+-- a token text has at least one byte
 pub some_byte : (n : List ℕ) → is_token_text (chars n) ≡ true → 0 < length n
 some_byte [] h = absurd (false≢true (sym (ap is_token_text chars-nil) ∙ h))
 some_byte (b ∷ n) h = omega arith
@@ -137,14 +137,14 @@ lower_bytes k u h =
     let bytes = name_bytes k u (lowercase_token (chars k) h) in
     subst (λ t. map to_ascii_lowercase t ≡ t) (sym bytes) (lower_is_itself (chars k) h)
 
--- if k and n are equal in lower case, and k is a lower-case name, the test of k and of n in lower case is true
+-- for a lower-case name k and a token text n that are equal in lower case, the test of k and of n in lower case is true
 pub names_equal : (k n : List ℕ) → IsUtf8 k → IsUtf8 n → is_lowercase_name (chars k) ≡ true
     → is_token_text (chars n) ≡ true → map to_ascii_lowercase k ≡ map to_ascii_lowercase n
     → bytes_eq (chars k) (map to_ascii_lowercase (chars n)) ≡ true
 names_equal k n u w h t e = let b = both_lower k n u w h t in
     test_from_equal (chars k) (map to_ascii_lowercase (chars n)) (sym b.0 ∙ e ∙ b.1)
 
--- if k and n are not equal in lower case, and k is a lower-case name, the test of k and of n in lower case is false
+-- for a lower-case name k and a token text n that differ in lower case, the test of k and of n in lower case is false
 pub names_differ : (k n : List ℕ) → IsUtf8 k → IsUtf8 n → is_lowercase_name (chars k) ≡ true
     → is_token_text (chars n) ≡ true → (map to_ascii_lowercase k ≡ map to_ascii_lowercase n → ⊥)
     → bytes_eq (chars k) (map to_ascii_lowercase (chars n)) ≡ false
@@ -179,7 +179,8 @@ look_finds n pairs i item l e t h =
     sym (or_left (bytes_eq (code_points item.0) n) (has_name n (map (λ p. pair_of p) (drop (i + 1) pairs))) t)
     ∙ sym (look_step n pairs i item l e) ∙ h
 
--- if the pair at index i does not have the name n, one of the pairs after it has it exactly if one of all pairs has it
+-- if the pairs from index i on have the name n exactly if all pairs have it, and pair i does not, so do those from i +
+-- 1 on
 pub look_goes_on : {A B : Type 0} (n : List ℕ) (pairs : List (String A × String B)) (i : ℕ) (item : String A × String B)
     → i < length pairs → item ≡ get_or pairs i item → bytes_eq (code_points item.0) n ≡ false
     → has_name n (map (λ p. pair_of p) (drop i pairs)) ≡ has_name n (map (λ p. pair_of p) pairs)

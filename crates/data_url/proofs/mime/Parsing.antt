@@ -52,7 +52,7 @@ pub record Cut (s ty x : List ℕ) : Type 0 where
   pub tokens : Every is_token ty
   pub begins : DoesNotBegin is_token x
 
--- y is the subtype su and then, after HTTP whitespace, p, which should be the text of the parameters
+-- y is su, its longest prefix of token code points, and then HTTP whitespace and p, which does not begin with it
 pub record CutAgain (y su p : List ℕ) : Type 0 where
   pub after : List ℕ
   pub joined : y ≡ su ++ after
@@ -203,8 +203,8 @@ no_semicolon_text : (x cs : List ℕ) → IsUtf8 x → BeginsParameters cs → (
 no_semicolon_text x [] u b h e = refl
 no_semicolon_text x (c ∷ cs) u b h e = absurd (h (encode_utf8_all cs) (begins_bytes x cs 59 u (e ∙ ap (λ d. d ∷ cs) b)))
 
--- if the code points of a UTF-8 text are empty or begin with ';', but its bytes do not begin with ';', the text is
--- empty
+-- if the code points of a UTF-8 text are empty or begin with ';', but its bytes do not begin with ';', it has no code
+-- points
 pub no_semicolon : (x : List ℕ) → IsUtf8 x → BeginsParameters (chars x) → ((rest : List ℕ) → x ≡ encode_utf8 59 ++ rest
     → ⊥) → chars x ≡ []
 no_semicolon x u b h = no_semicolon_text x (chars x) u b h refl
