@@ -463,7 +463,8 @@ run_extends step cs f g ran n measure extends =
     (λ bytes p piece q k s. extends p piece q s ∙ ap (λ x. x ++ piece) k ∙ append_assoc (measure f) bytes piece)
     (λ bytes p piece e q k s. tt) (sym (append-nil (measure f))))
 
--- if each call that succeeds adds the length of its piece to a count, a run adds the length of all its bytes
+-- if each call that succeeds adds the length of its piece to a count, a run without an error adds the length of all its
+-- bytes
 pub run_counts : {F E : Type 0} (step : F → List ℕ → Result (Unit {0}) E → F → Type 0) (cs : List (Call F E)) (f g : F)
     → IsRun step f cs g → refusal cs ≡ None → (count : F → ℕ)
     → ((p : F) (piece : List ℕ) (q : F) → step p piece (Ok tt) q → count q ≡ count p + length piece)
@@ -474,7 +475,8 @@ run_counts step cs f g ran n count adds =
     (λ bytes p piece q k s. let h = adds p piece q s in omega (arith, h, k, length-append bytes piece))
     (λ bytes p piece e q k s. tt) (omega arith))
 
--- the same for a count that stops at a greatest number
+-- if each call that succeeds adds the length of its piece to a count that stops at `most`, a run without an error adds
+-- the length of all its bytes, up to `most`
 pub run_counts_up_to : {F E : Type 0} (step : F → List ℕ → Result (Unit {0}) E → F → Type 0) (cs : List (Call F E))
     (f g : F) (most : ℕ) → IsRun step f cs g → refusal cs ≡ None → (count : F → ℕ) → count f ≤ most
     → ((p : F) (piece : List ℕ) (q : F) → step p piece (Ok tt) q → count q ≡ min (count p + length piece) most)
@@ -626,6 +628,6 @@ tail_shorter : (t tail : List ℕ) → tail_of t ≡ Some tail → length tail �
 unfolding tail_of
 tail_shorter t tail e = omega (arith, after_shorter 44 (trimmed_text t) tail e, trimmed_shorter t)
 
--- nor longer than the text of its URL
+-- a body, or the bytes before its fault, is not longer than the text of its URL
 pub body_within_text : {t : List ℕ} {url : DataUrl} → IsUrlOf t url → length (outcome_bytes (url_body url)) ≤ length t
 body_within_text {t} {url} h = omega (arith, body_within_tail url, tail_shorter t (url_tail url) h.tail_is)

@@ -692,7 +692,7 @@ one_more_call step f g n body body' good r e d = subst (λ b. Decodes step f (n 
 pub no_fragment : (tail : List ℕ) (place : ℕ) → IsBodyEnd tail place → place ≡ length tail → None ≡ after 35 tail
 no_fragment tail place h e = sym (h.after_is ∙ ap rest_fragment (drop_all place tail (omega arith)))
 
--- at the place there is a '#'
+-- at the place is the first '#' of the tail
 pub record HasHash (tail : List ℕ) (place : ℕ) : Type 0 where
   pub within : place < length tail
   pub is : get_or tail place 0 ≡ 35

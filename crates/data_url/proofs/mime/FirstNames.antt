@@ -94,7 +94,7 @@ lowercase_name t h = and_from (is_token_text (map to_ascii_lowercase t))
     (bytes_eq (map to_ascii_lowercase (map to_ascii_lowercase t)) (map to_ascii_lowercase t)) (token_text_lower t ∙ h)
     (test_from_equal (map to_ascii_lowercase (map to_ascii_lowercase t)) (map to_ascii_lowercase t) (lower_twice t))
 
--- a text of token code points, in lower case by its bytes
+-- the code points of a token text whose bytes are put into lower case are its code points in lower case
 pub lower_chars : (bs : List ℕ) → IsUtf8 bs → is_token_text (chars bs) ≡ true
     → chars (map to_ascii_lowercase bs) ≡ map to_ascii_lowercase (chars bs)
 lower_chars bs u h =
@@ -131,7 +131,7 @@ pub some_byte : (n : List ℕ) → is_token_text (chars n) ≡ true → 0 < leng
 some_byte [] h = absurd (false≢true (sym (ap is_token_text chars-nil) ∙ h))
 some_byte (b ∷ n) h = omega arith
 
--- the bytes of a name in lower case, and of a word that is known to be in lower case
+-- a lower-case name is equal to itself with each byte in lower case
 pub lower_bytes : (k : List ℕ) → IsUtf8 k → is_lowercase_name (chars k) ≡ true → map to_ascii_lowercase k ≡ k
 lower_bytes k u h =
     let bytes = name_bytes k u (lowercase_token (chars k) h) in
@@ -358,7 +358,7 @@ module _ (parameter : Parameter) (item : Item) (is : IsItem parameter item) wher
 
 -- The parser's loop over the parameters
 
--- what is kept so far, and what the rest adds
+-- the pairs are those kept of some items, and these items with those of the rest are the items of the whole text
 pub record KeepsOn (whole rest : List ℕ) (pairs : List Pair) : Type 0 where
   pub items : List Item
   pub goes_on : (more : List Item) → Items rest more → Items whole (items ++ more)
@@ -427,18 +427,18 @@ pub lowercase_bytes : {A : Type 0} (name : String A) → is_lowercase_name (code
 lowercase_bytes name h = name_bytes (string_bytes name) (IsUtf8-string_bytes name)
     (lowercase_token (code_points name) h)
 
--- if there are no pairs after the first ones
+-- if there are no more than `LOOKED_THROUGH` pairs, none of the later pairs has a name
 pub few_names : (n : List ℕ) (pairs : List Pair) → length pairs ≤ LOOKED_THROUGH
     → has_name n (drop LOOKED_THROUGH pairs) ≡ false
 few_names n pairs l = ap (has_name n) (drop_of_length-le pairs l)
 
--- one of the first pairs more
+-- if a new pair is one of the first pairs, the set still has the names of the later pairs
 pub first_names : {A : Type 0} (later : BTreeSet (String A)) (pairs : List Pair) (p : Pair)
     → length pairs < LOOKED_THROUGH → HasLaterNames later pairs → HasLaterNames later (pairs ++ (p ∷ []))
 first_names later pairs p l h n = h n ∙ few_names n pairs (omega arith)
     ∙ sym (few_names n (pairs ++ (p ∷ [])) (simp length-append (omega arith)))
 
--- if none of the first pairs has the name, the set is searched
+-- if none of the first pairs has the name of p, the set has it exactly if one of all pairs has it
 pub set_knows : {A : Type 0} (later : BTreeSet (String A)) (pairs : List Pair) (p : Pair) (name : String A) (b : Bool)
     → HasLaterNames later pairs → string_bytes name ≡ p.0 → has_name p.0 (first_of pairs) ≡ false
     → b ≡ not (contains string_cmp later name) → b ≡ not (has_name p.0 pairs)
@@ -452,7 +452,7 @@ or_cond true false = refl
 or_cond false true = refl
 or_cond false false = refl
 
--- one more pair after the first ones
+-- if a new pair comes after the first pairs, and its name is put into the set, the set has the names of the later pairs
 pub later_names : {A : Type 0} (later later' : BTreeSet (String A)) (pairs : List Pair) (p : Pair) (name : String A)
     → LOOKED_THROUGH ≤ length pairs → HasLaterNames later pairs → string_bytes name ≡ p.0
     → UpdatesBy string_cmp (λ k. slice_cmp nat_cmp (string_bytes name) (string_bytes k)) later later' true
@@ -465,7 +465,7 @@ later_names later later' pairs p name l h e u n =
     ∙ sym (has_pushed n (drop LOOKED_THROUGH pairs) p)
     ∙ ap (has_name n) (sym (drop-append-le LOOKED_THROUGH pairs (p ∷ []) l))
 
--- one more pair
+-- if a pair with a lower-case name is pushed, and the set has the names of the later pairs, the pairs stay indexed
 pub indexed_more : (kept kept' : KeptParameters) (p : Pair) → IsIndexed kept → is_lowercase_name p.0 ≡ true
     → pairs_of kept' ≡ pairs_of kept ++ (p ∷ []) → HasLaterNames kept'.later_names (pairs_of kept ++ (p ∷ []))
     → IsIndexed kept'

@@ -365,7 +365,7 @@ only_items r (item ∷ a) (item' ∷ b) h k =
     let n = only_items k.1 a b (subst (λ x. Items x a) e.1 h.4) k.4 in
     ap (λ x. x ∷ a) e.0 ∙ ap (λ x. item' ∷ x) n
 
--- one more parameter before the items of the rest
+-- if items are those of the rest after a parameter, then its item and these items are those of ';' and the text
 pub items_more : (s : List ℕ) (items : List Item) → Items (rest_in s) items → Items (59 ∷ s) (item_in s ∷ items)
 items_more s items h = let p = has_parameter s in (p.text, rest_in s, p.joined, p.is_parameter, h)
 
@@ -472,7 +472,7 @@ pub gap_no_token : (gap r : List ℕ) → Every is_http_whitespace gap → Begin
 gap_no_token [] r g b = ends_of_rest is_token semicolon_no_token r b
 gap_no_token (c ∷ gap) r g b = space_no_token c g.0
 
--- the parts of a text that is such a concatenation
+-- the parts that are read from t
 pub record HasParts (t type_ subtype parameters : List ℕ) : Type 0 where
   pub type_is : type_in t ≡ type_
   pub subtype_is : subtype_in t ≡ subtype

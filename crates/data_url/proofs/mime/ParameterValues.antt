@@ -280,7 +280,7 @@ scalar_first : (cs r : List ℕ) (c : ℕ) → all_scalars cs ≡ true → encod
 scalar_first cs r c s e = let k = cons_from_encodes cs r c e in
     (and_parts (scalar c) (all_scalars k.0) (ap all_scalars (sym k.1) ∙ s)).0
 
--- the first code point of a text is one
+-- the first code point of a UTF-8 text is a Unicode scalar value
 pub scalar_from : (r r' : List ℕ) (c : ℕ) → IsUtf8 r → r ≡ encode c ++ r' → IsScalar c
 scalar_from r r' c u e = scalar_first u.0 r' c u.1.0 (u.1.1 ∙ e)
 
@@ -415,7 +415,7 @@ plain_text self text value code e i h =
 no_semicolon_byte : (c : ℕ) → is_unquoted_byte c ≡ true → not (is_semicolon c) ≡ true
 no_semicolon_byte c h = (and_parts (is_quotable_byte c) (not (is_semicolon c)) h).1
 
--- the two parts of a text, in its bytes
+-- the longest prefix without ';' is the longest one of unquoted bytes, and then the longest one without ';' of the rest
 pub front_len : (bytes after : List ℕ) (quotable more : ℕ) → quotable ≡ prefix_len is_unquoted_byte bytes
     → after ≡ drop quotable bytes → more ≡ prefix_len (λ b. not (is_semicolon b)) after
     → quotable + more ≡ prefix_len (λ b. not (is_semicolon b)) bytes
@@ -426,7 +426,7 @@ all_quotable [] h = refl
 all_quotable (b ∷ bs) h = and_from (is_quotable_byte b) (list_all is_quotable_byte bs)
     (and_parts (is_quotable_byte b) (not (is_semicolon b)) h.0).0 (all_quotable bs h.1)
 
--- a prefix that is not longer than the first part has only quoted-string code points
+-- a prefix that is not longer than the longest prefix of unquoted bytes has only quoted-string code points
 pub short_quotable : (text t more : List ℕ) (q : ℕ) → text ≡ t ++ more → IsUtf8 t → q ≡ prefix_len is_unquoted_byte text
     → length t ≤ q → list_all is_quotable (chars t) ≡ true
 short_quotable text t more q e u h few =
@@ -435,7 +435,7 @@ short_quotable text t more q e u h few =
     ap is_unquoted_byte (sym (get_or_append_left t more 0 k l) ∙ ap (λ x. get_or x k 0) (sym e))
     ∙ prefix_len_passes is_unquoted_byte text k 0 (subst (λ n. k < n) h (omega (arith, few)))))
 
--- a longer prefix without ';' has another code point
+-- a prefix without ';' that is longer than the longest prefix of unquoted bytes has another code point
 pub long_other : (text t more : List ℕ) (q n : ℕ) → text ≡ t ++ more → IsUtf8 t → q ≡ prefix_len is_unquoted_byte text
     → n ≡ prefix_len (λ b. not (is_semicolon b)) text → length t ≤ n → q < length t
     → list_all is_quotable (chars t) ≡ false

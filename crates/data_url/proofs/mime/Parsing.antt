@@ -44,7 +44,7 @@ same_span p a b c d e f g h k = (
       ∙ ap (after_front p) e ∙ after_is p c d h k,
 )
 
--- What the parser cut: the type with the text after it, the subtype with the text after it, and the parameters
+-- s without HTTP whitespace at both ends is ty, its longest prefix of token code points, and then x
 pub record Cut (s ty x : List ℕ) : Type 0 where
   pub text : List ℕ
   pub trimmed : IsTrimmed is_http_whitespace s text
@@ -253,7 +253,7 @@ pub not_quote : (x : List ℕ) → IsUtf8 x → ((rest : List ℕ) → x ≡ enc
     → DoesNotBegin is_quote (chars x)
 not_quote x u n = not_quote_text x (chars x) u n refl
 
--- the text after an ASCII code point that was removed
+-- if c is the first code point of a UTF-8 text, and y is the text after its bytes, the code points are c and those of y
 pub stripped_chars : (x y : List ℕ) (c n : ℕ) → IsUtf8 x → HasCharAt c x 0 n → y ≡ drop n x → chars x ≡ c ∷ chars y
 stripped_chars x y c n u h e = chars_past_char x (drop n x) c u h.split ∙ ap (λ t. c ∷ chars t) (sym e)
 

@@ -100,7 +100,7 @@ parameter_text name value u =
 pub text_bytes : {A : Type 0} (s : String A) → string_bytes s ≡ encode_utf8_all (code_points s)
 text_bytes s = sym (encodes-chars (string_bytes s) (IsUtf8-string_bytes s))
 
--- the rest of the printed pairs
+-- the UTF-8 of the printed pairs
 abbrev pub pairs_text : {A B : Type 0} → List (String A × String B) → List ℕ
 pairs_text pairs = encode_utf8_all (flat_map printed_pair (map (λ p. pair_of p) pairs))
 
@@ -190,7 +190,7 @@ module _ {W : Type 0} {took : W → List ℕ → W → Type 0} where
       → HasAdded took f l b g m
   added_of_eq f g l m a b e = subst (λ (t : List ℕ). HasAdded took f l t g m) e
 
-  -- the buffer is written, and then a text
+  -- if the buffer is written, then a text, and the buffer is empty after that, the text is appended
   pub added_written : (f g h : Formatter W) (l m : Line) (a : List ℕ) → HasWrittenStyled took f (held l) g
       → HasWrittenStyled took g a h → m.len ≡ 0 → HasAdded took f l a h m
   added_written f g h l m a x y e = record {
@@ -199,7 +199,7 @@ module _ {W : Type 0} {took : W → List ℕ → W → Type 0} where
     joined = sym (append-nil (held l ++ a)) ∙ ap (λ t. (held l ++ a) ++ t) (sym (held_none m e));
   }
 
-  -- the buffer is written, and then a text is put into it
+  -- if the buffer is written and emptied, and then a text is put into it, the text is appended
   pub added_after : (f g : Formatter W) (l m n : Line) (a : List ℕ) → HasWrittenStyled took f (held l) g → m.len ≡ 0
       → held n ≡ held m ++ a → HasAdded took f l a g n
   added_after f g l m n a x e h = record {

@@ -30,7 +30,7 @@ quoted_rest escaped [] = None
 quoted_rest false (c ∷ t) = cond (c == 34) (Some t) (cond (c == 92) (quoted_rest true t) (quoted_rest false t))
 quoted_rest true (c ∷ t) = quoted_rest false t
 
--- each unit gives its value
+-- the value of units and then x is the values of the units, and then the value of x
 pub value_of_units : (units : List QuotedUnit) (x : List ℕ) → AllByRecursion IsUnit units
     → quoted_value false (flat_map unit_text units ++ x) ≡ map unit_value units ++ quoted_value false x
 value_of_units [] x h = refl
@@ -61,7 +61,7 @@ value_before q v x h = rw (h.text_is, h.value_is) (value_of_units h.units x h.ea
 pub rest_before : (q v x : List ℕ) → Quoted q v → quoted_rest false (q ++ x) ≡ quoted_rest false x
 rest_before q v x h = rw h.text_is (rest_of_units h.units x h.each)
 
--- reading a text in quotes returns its value
+-- the value of a quoted text, a '"', and any more text is the value of the quoted text
 pub closed_value : (q v w : List ℕ) → Quoted q v → quoted_value false (q ++ (34 ∷ w)) ≡ v
 closed_value q v w h = value_before q v (34 ∷ w) h ∙ append-nil v
 
@@ -69,7 +69,7 @@ closed_value q v w h = value_before q v (34 ∷ w) h ∙ append-nil v
 pub closed_rest : (q v w : List ℕ) → Quoted q v → quoted_rest false (q ++ (34 ∷ w)) ≡ Some w
 closed_rest q v w h = rest_before q v (34 ∷ w) h
 
--- reading a text without a closing quote returns its value
+-- the value of a quoted string without a closing quote is what is read from it
 pub open_value : (q v : List ℕ) → QuotedOpen q v → quoted_value false q ≡ v
 open_value q v (inl h) = ap (quoted_value false) (sym (append-nil q)) ∙ (value_before q v [] h ∙ append-nil v)
 open_value q v (inr (q', v', t, e, h)) = ap (quoted_value false) t ∙ (value_before q' v' (92 ∷ []) h ∙ sym e)

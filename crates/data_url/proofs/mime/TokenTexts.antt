@@ -97,7 +97,7 @@ drop_front p (c ∷ s) =
       | false ↦ refl
     ]
 
--- a text whose bytes do not begin with an ASCII code point that passes
+-- if only ASCII passes, and the UTF-8 of a text does not begin with a byte that passes, its code points do not either
 pub not_begins_encoded : (p : ℕ → Bool) → ((c : ℕ) → p c ≡ true → c < 128) → (cs : List ℕ)
     → DoesNotBegin p (encode_utf8_all cs) → DoesNotBegin p cs
 not_begins_encoded p a [] h = tt
@@ -164,7 +164,7 @@ suc_test a b = elim (cases_eq a b) [
       ne_eqb (1 + a) (suc b) (λ k. e (omega arith)) ∙ sym (ne_eqb a b e)
 ]
 
--- whether the prefix is the whole text
+-- each item of a text passes exactly if its longest prefix that passes is the whole text
 pub whole_front : (p : ℕ → Bool) (s : List ℕ) → list_all p s ≡ (prefix_len p s == length s)
 whole_front p [] = refl
 whole_front p (c ∷ s) =
@@ -175,7 +175,7 @@ whole_front p (c ∷ s) =
           sym (ne_eqb 0 (suc (length s)) (λ e. omega arith))
     ]
 
--- what this test says about a text that is not empty
+-- a UTF-8 text that is not empty is a token text exactly if its longest prefix of token code points is the whole text
 pub token_text_by_front : (bs text : List ℕ) (n : ℕ) → IsUtf8 text → n ≡ prefix_len is_token bs → bs ≡ text
     → (length text == 0) ≡ false → (n == length text) ≡ is_token_text (chars text)
 token_text_by_front bs text n u e b h = ap (λ k. k == length text) (e ∙ ap (prefix_len is_token) b)

@@ -67,7 +67,7 @@ pub fragment_row : (b : ℕ) → b < 256 → IsRow in_fragment_set b (row_at FRA
 fragment_row b l = row_of_test in_fragment_set b (row_at FRAGMENT b)
     (agree_below_at (λ b. is_row in_fragment_set b (row_at FRAGMENT b)) (λ b. true) 256 b refl l)
 
--- a byte that has no mark is written as it is
+-- if each byte is marked or written as it is, a byte without a mark is written as it is
 pub kept_where : (m p : ℕ → Bool) → agree_below (λ b. m b || bytes_eq (byte_encoding p b) (b ∷ [])) (λ _. true) 256
     ≡ true → (b : ℕ) → b < 256 → m b ≡ false → byte_encoding p b ≡ b ∷ []
 kept_where m p h b l e = (bytes_eq-Decides (byte_encoding p b) (b ∷ [])).0
@@ -435,7 +435,7 @@ before-serialised (b ∷ h) rest e =
 
 -- Percent-encoding a text without its tabs and newlines: byte by byte, and part by part.
 
--- what a text is written as
+-- the text without tabs and newlines, percent-encoded
 abbrev pub encoded : (ℕ → Bool) → List ℕ → List ℕ
 encoded p s = percent_encoding p (without_tabs_and_newlines s)
 
@@ -456,7 +456,7 @@ pub percent_encoding-append : (p : ℕ → Bool) (s t : List ℕ)
 unfolding percent_encoding
 percent_encoding-append p s t = flat_map-append (encoded_byte p) s t
 
--- a text is written as its two parts are
+-- a text is encoded as its first n bytes, and then its other bytes
 pub encoded_cut : (p : ℕ → Bool) (s : List ℕ) (n : ℕ) → encoded p s ≡ encoded p (take n s) ++ encoded p (drop n s)
 encoded_cut p s n = ap (encoded p) (sym (take-append-drop n s))
     ∙ ap (percent_encoding p) (without_tabs_and_newlines-append (take n s) (drop n s))
@@ -475,7 +475,7 @@ from_more p s i l = ap (encoded p) (drop_more s i 0 l) ∙ written_first p (get_
 from_end : (p : ℕ → Bool) (s : List ℕ) (i : ℕ) → length s ≤ i → encoded_from p s i ≡ []
 from_end p s i l = ap (encoded p) (drop_all i s l) ∙ encoded_empty p
 
--- this was written up to byte i
+-- the text is the encoding of the bytes before byte i
 abbrev pub WroteTo : (ℕ → Bool) → List ℕ → ℕ → List ℕ → Type 0
 WroteTo p s i text = text ++ encoded_from p s i ≡ encoded p s
 
@@ -517,7 +517,7 @@ written_short p b = elim (cases_Bool (is_tab_or_newline b)) [
 pub row_short : (p : ℕ → Bool) (b : ℕ) (row : List ℕ) → IsRow p b row → slice_index row 3 ≤ 3
 row_short p b row r = let k = written_short p b in let e = r.len_is in omega arith
 
--- a text whose bytes are written as they are
+-- if each byte is written as it is, the whole text is
 pub kept_whole : (p : ℕ → Bool) (s : List ℕ)
     → ((k : ℕ) → k < length s → byte_encoding p (get_or s k 0) ≡ get_or s k 0 ∷ []) → s ≡ encoded p s
 kept_whole p [] h = sym (encoded_empty p)
@@ -534,7 +534,7 @@ plain_is_none : (b : ℕ) → b < 256 → is_plain_path b ≡ true → other_tha
 plain_is_none b l h = sym (cond-true (is_plain_path b) (other_than_plain b) false h)
     ∙ agree_below_at (λ b. cond (is_plain_path b) (other_than_plain b) false) (λ b. false) 256 b refl l
 
--- what is known about a plain byte
+-- the byte is written as it is in a path, and is none of '#', ',' and '?'
 pub record Plain (b : ℕ) : Type 0 where
   pub written_is : byte_encoding in_path_set b ≡ b ∷ []
   pub no_hash : (b == 35) ≡ false
@@ -599,7 +599,7 @@ put_more p s i room at row room' m l within r n h =
 
 -- Part by part
 
--- what was written after the old text, from the bytes before the rest
+-- the text and then the encoding of rest are the old text and then the encoding of s
 abbrev pub WroteBefore : (ℕ → Bool) → List ℕ → List ℕ → List ℕ → List ℕ → Type 0
 WroteBefore p s rest old text = text ++ encoded p rest ≡ old ++ encoded p s
 
