@@ -198,7 +198,7 @@ body_shorter tail =
 
 -- The result of decoding a whole text is the outcome
 
--- a result, with a place in it if it is `Ok`
+-- the result, with the place as its value if it is `Ok`
 abbrev pub at_place : {E : Type 0} → ℕ → Result (Unit {0}) (DecodeError E) → Result ℕ (DecodeError E)
 at_place place (Ok x) = Ok place
 at_place place (Err e) = Err e

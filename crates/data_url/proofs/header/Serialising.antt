@@ -93,8 +93,8 @@ suffix_stops p s m n e at =
     subst (λ v. p (get_or s v 0) ≡ false) back (subst (λ v. p v ≡ false) (get_or-reverse s m 0 (omega arith))
     (subst (λ v. p (get_or (reverse s) v 0) ≡ false) (sym e) (prefix_len_stops p (reverse s) 0 within)))
 
--- if m tabs and newlines end a text, after byte n, the text without tabs and newlines is that of the first n bytes, and
--- then byte n
+-- if byte n is the last byte of a text that is not a tab or newline, the text without these is the first n bytes
+-- without these, and then byte n
 pub dropped_end : (s : List ℕ) (m n : ℕ) → m ≡ suffix_len is_tab_or_newline s → length s ≡ (n + 1) + m
     → without_tabs_and_newlines s ≡ without_tabs_and_newlines (take n s) ++ get_or s n 0 ∷ []
 dropped_end s m n e at =
