@@ -31,13 +31,16 @@ use Rattle.data_url.proofs.forgiving_base64.Groups.{groups_length}
 
 -- A closure that is called with a body, chunk by chunk.
 
+-- if the next of a walk is `Some bytes`, these are the next bytes of its body
 pub takes_next : {w w' : Walk} {given : Option (Bor (List ℕ))} {bytes : Bor (List ℕ)} → GivesBytes w given w'
     → given ≡ Some bytes → Takes w bytes.now w'
 takes_next {w} {w'} h e = let P : Option (Bor (List ℕ)) → Type 0 = λ o. GivesBytes w o w' in subst P e h
 
+-- if the next of a walk is `None`, the walk is at its end
 pub over_next : {w w' : Walk} {given : Option (Bor (List ℕ))} → GivesBytes w given w' → given ≡ None → IsOver w w'
 over_next {w} {w'} h e = let P : Option (Bor (List ℕ)) → Type 0 = λ o. GivesBytes w o w' in subst P e h
 
+-- if o is `Some x`, Q x implies `MatchOption o P Q`
 pub match_is_some : {A : Type 0} (o : Option A) (x : A) (P : Type 0) (Q : A → Type 0) → o ≡ Some x → Q x
     → MatchOption o P Q
 match_is_some None x P Q e q = absurd (some_not_none x (sym e))
@@ -56,6 +59,7 @@ module _ {F E : Type 0} (step : F → List ℕ → Result (Unit {0}) E → F →
     pub calls : length run ≤ w.place
     pub body : plain_body text ≡ joined_pieces run ++ w.rest
 
+  -- the empty run is `Going` for a walk at the front of its text
   pub going_none : (f : F) (text : List ℕ) → Going f text (walk_at_front text) f
   going_none f text = record {
     run = [];
@@ -68,6 +72,7 @@ module _ {F E : Type 0} (step : F → List ℕ → Result (Unit {0}) E → F →
     body = refl;
   }
 
+  -- if the walk takes bytes, and the closure accepts them, the run with that call is `Going` for the walk after it
   pub going_more : {f g h : F} {text bytes : List ℕ} {w w' : Walk} → Going f text w g → Takes w bytes w'
       → step g bytes (Ok tt) h → Going f text w' h
   going_more {f} {g} {h} {text} {bytes} {w} {w'} k t s =
@@ -93,6 +98,8 @@ module _ {F E : Type 0} (step : F → List ℕ → Result (Unit {0}) E → F →
             ∙ sym (joined_pieces-append k.run call));
       }
 
+  -- if nothing of the body is left, and the body ends at the place, the run decodes the body, with the result `Ok
+  -- place`
   pub going_ends : {f g : F} {text : List ℕ} {w : Walk} {place : ℕ} → Going f text w g → w.rest ≡ []
       → IsBodyEnd text place → Decodes step f (length text) (Good (plain_body text)) (IsBodyEnd text) (Ok place) g
   going_ends {f} {g} {text} {w} {place} k e b =
@@ -110,6 +117,8 @@ module _ {F E : Type 0} (step : F → List ℕ → Result (Unit {0}) E → F →
             });
       }
 
+  -- if the walk takes bytes, and the closure returns an error for them, the run with that call decodes the body, with
+  -- that error
   pub going_refused : {f g h : F} {text bytes : List ℕ} {w w' : Walk} (e : E) → Going f text w g → Takes w bytes w'
       → step g bytes (Err e) h → Decodes step f (length text) (Good (plain_body text)) (IsBodyEnd text)
       (Err (WriteError e)) h
@@ -178,6 +187,7 @@ percent_shorter (a ∷ b ∷ c ∷ s) =
     (λ v. length (cond v ((16 * digit_value b + digit_value c) ∷ percent_decoding s)
     (a ∷ percent_decoding (b ∷ c ∷ s))) ≤ suc (suc (suc (length s)))) [ true ↦ omega arith | false ↦ omega arith ]
 
+-- the body of a tail is not longer than the tail
 pub body_shorter : (tail : List ℕ) → length (plain_body tail) ≤ length tail
 unfolding plain_body front
 body_shorter tail =
@@ -188,7 +198,7 @@ body_shorter tail =
 
 -- The result of decoding a whole text is the outcome
 
--- the result, with a place in it
+-- the result, with the place as its value if it is `Ok`
 abbrev pub at_place : {E : Type 0} → ℕ → Result (Unit {0}) (DecodeError E) → Result ℕ (DecodeError E)
 at_place place (Ok x) = Ok place
 at_place place (Err e) = Err e
@@ -241,6 +251,8 @@ module _ {F E : Type 0} (step : F → List ℕ → Result (Unit {0}) E → F →
   gives u bytes place good r o true g h = gives_valid u bytes place good r o g h
   gives u bytes place good r o false g h = gives_invalid u bytes place good r o h
 
+  -- decoding the whole text u decodes a body whose outcome is that of u as base64; the result is the same, with the
+  -- place in it if it is `Ok`
   pub decodes_outcome : {f g : F} (u : List ℕ) (most place : ℕ) (good : ℕ → Type 0)
       (r : Result (Unit {0}) (DecodeError E)) → DecodesText step f u r g → length u + 1 ≤ most
       → (r ≡ Ok tt → good place) → Decodes step f most (outcome true u) good (at_place place r) g
@@ -259,6 +271,7 @@ module _ {F E : Type 0} (step : F → List ℕ → Result (Unit {0}) E → F →
     pub text_is : w.text ≡ text
     pub body : plain_body text ≡ read ++ w.rest
 
+  -- a decoder that was fed nothing is `Fed` for a walk at the front of its text
   pub fed_none : {d d' : State F} {text : List ℕ} {w : Walk} → w ≡ walk_at_front text → Feeds step d [] (Ok tt) d'
       → Fed d text w d'
   fed_none e h = record { read = []; fed = h; text_is = ap (λ w. w.text) e; body = ap (λ w. w.rest) (sym e) }
@@ -268,6 +281,7 @@ module _ {F E : Type 0} (step : F → List ℕ → Result (Unit {0}) E → F →
   fed_bytes {bytes = bytes} {w' = w'} h t = h.body ∙ ap (λ x. h.read ++ x) t.rest_is
       ∙ sym (append_assoc h.read bytes w'.rest)
 
+  -- if the walk takes bytes, and the decoder accepts them, the decoder is `Fed` for the walk after it
   pub fed_more : {d d1 d2 : State F} {text bytes : List ℕ} {w w' : Walk} → Fed d text w d1 → Takes w bytes w'
       → Feeds step d1 bytes (Ok tt) d2 → Fed d text w' d2
   fed_more {bytes = bytes} h t f = record {
@@ -286,6 +300,8 @@ module _ {F E : Type 0} (step : F → List ℕ → Result (Unit {0}) E → F →
       let few = body_shorter text in
       decodes_outcome (plain_body text) (length text + 1) place (IsBodyEnd text) r (subst D e d) (omega arith) b
 
+  -- if the walk takes bytes, and a decoder that was new at the front returns an error for them, this is the result of
+  -- decoding the base64 body
   pub fed_refused : {d d1 d2 : State F} {f : F} {text bytes : List ℕ} {w w' : Walk} {x : DecodeError E} → d ≡ start f
       → Fed d text w d1 → Takes w bytes w' → Feeds step d1 bytes (Err x) d2
       → Decodes step f (length text + 1) (outcome true (plain_body text)) (IsBodyEnd text) (Err x) d2.closure
@@ -293,6 +309,8 @@ module _ {F E : Type 0} (step : F → List ℕ → Result (Unit {0}) E → F →
       outcome_of 0 (Err x) (sym (fed_bytes h t))
       (decodes_refused step s (feeds_err step w'.rest (feeds_then step h.fed k))) (λ e. absurd (cc))
 
+  -- if nothing of the body is left, finishing a decoder that was new at the front gives the result of decoding the
+  -- base64 body, with the place in it if it is `Ok`
   pub fed_ended : {d d1 : State F} {f g : F} {text : List ℕ} {w : Walk}
       (place : ℕ) {r r' : Result (Unit {0}) (DecodeError E)}
       → d ≡ start f → Fed d text w d1 → w.rest ≡ [] → (r' ≡ Ok tt → IsBodyEnd text place) → Finishes step d1 r g
@@ -341,7 +359,8 @@ bad_given (Some e) body good bytes r kind q h = absurd (let k = h.answer in cc)
 
 module _ {F E A : Type 0} {step : F → List ℕ → Result (Unit {0}) E → F → Type 0} {f f' : F} {most : ℕ} {body : Outcome}
     {good : A → Type 0} {r : Result A (DecodeError E)} where
-  -- what a closure that appends its bytes holds after a body was decoded
+  -- if decoding returns `Ok`, and J is a measure that each call without an error extends by its piece, the body is
+  -- good, and J is extended by its bytes
   pub body_reads : {x : A} → Decodes step f most body good r f' → r ≡ Ok x → (J : F → List ℕ)
       → ((g : F) (piece : List ℕ) (g' : F) → step g piece (Ok tt) g' → J g' ≡ J g ++ piece)
       → (all : List ℕ) × (body ≡ Good all) × (J f' ≡ J f ++ all)
@@ -349,13 +368,16 @@ module _ {F E A : Type 0} {step : F → List ℕ → Result (Unit {0}) E → F �
       let k = ok_given (refusal h.run) body good (joined_pieces h.run) r x q h.gave in
       (joined_pieces h.run, k.1.body_is, run_reads step J keeps h.run f f' h.ran k.0)
 
+  -- if decoding returns `Ok x`, `good` is true of x
   pub body_answer : {x : A} → Decodes step f most body good r f' → r ≡ Ok x → good x
   body_answer {x} h q = (ok_given (refusal h.run) body good (joined_pieces h.run) r x q h.gave).1.answer
 
+  -- if decoding returns that base64 is not valid, the body is bad, with this kind of fault
   pub body_fault : {kind : _} → Decodes step f most body good r f' → r ≡ Err (InvalidBase64 kind)
       → (all : List ℕ) × (body ≡ Bad all kind)
   body_fault {kind} h q = bad_given (refusal h.run) body good (joined_pieces h.run) r kind q h.gave
 
+  -- what no call of the closure changes in its state is the same after decoding
   pub body_keeps : {B : Type 0} → Decodes step f most body good r f' → (K : F → B)
       → ((g : F) (piece : List ℕ) (s : Result (Unit {0}) E) (g' : F) → step g piece s g' → K g ≡ K g') → K f ≡ K f'
   body_keeps h K keeps = run_keeps step K keeps h.run f f' h.ran
@@ -365,7 +387,7 @@ module _ {F E A : Type 0} {step : F → List ℕ → Result (Unit {0}) E → F �
   body_good {x} h q = let k = ok_given (refusal h.run) body good (joined_pieces h.run) r x q h.gave in
       (joined_pieces h.run, k.1.body_is)
 
-  -- the error of decoding a body into a vector
+  -- an error of decoding a body, as an error of decoding into a vector, is an error of that body
   pub body_error : (x : DecodeError E) → Decodes step f most body good r f' → r ≡ Err x
       → IsBodyErrorOf body (vec_error x)
   body_error (InvalidBase64 kind) h q = body_fault h q
@@ -441,7 +463,8 @@ run_extends step cs f g ran n measure extends =
     (λ bytes p piece q k s. extends p piece q s ∙ ap (λ x. x ++ piece) k ∙ append_assoc (measure f) bytes piece)
     (λ bytes p piece e q k s. tt) (sym (append-nil (measure f))))
 
--- if each call that succeeds adds the length of its piece to a count, a run adds the length of all its bytes
+-- if each call that succeeds adds the length of its piece to a count, a run without an error adds the length of all its
+-- bytes
 pub run_counts : {F E : Type 0} (step : F → List ℕ → Result (Unit {0}) E → F → Type 0) (cs : List (Call F E)) (f g : F)
     → IsRun step f cs g → refusal cs ≡ None → (count : F → ℕ)
     → ((p : F) (piece : List ℕ) (q : F) → step p piece (Ok tt) q → count q ≡ count p + length piece)
@@ -452,7 +475,8 @@ run_counts step cs f g ran n count adds =
     (λ bytes p piece q k s. let h = adds p piece q s in omega (arith, h, k, length-append bytes piece))
     (λ bytes p piece e q k s. tt) (omega arith))
 
--- the same for a count that stops at a greatest number
+-- if each call that succeeds adds the length of its piece to a count that stops at `most`, a run without an error adds
+-- the length of all its bytes, up to `most`
 pub run_counts_up_to : {F E : Type 0} (step : F → List ℕ → Result (Unit {0}) E → F → Type 0) (cs : List (Call F E))
     (f g : F) (most : ℕ) → IsRun step f cs g → refusal cs ≡ None → (count : F → ℕ) → count f ≤ most
     → ((p : F) (piece : List ℕ) (q : F) → step p piece (Ok tt) q → count q ≡ min (count p + length piece) most)
@@ -604,6 +628,6 @@ tail_shorter : (t tail : List ℕ) → tail_of t ≡ Some tail → length tail �
 unfolding tail_of
 tail_shorter t tail e = omega (arith, after_shorter 44 (trimmed_text t) tail e, trimmed_shorter t)
 
--- nor longer than the text of its URL
+-- a body, or the bytes before its fault, is not longer than the text of its URL
 pub body_within_text : {t : List ℕ} {url : DataUrl} → IsUrlOf t url → length (outcome_bytes (url_body url)) ≤ length t
 body_within_text {t} {url} h = omega (arith, body_within_tail url, tail_shorter t (url_tail url) h.tail_is)

@@ -14,12 +14,15 @@ use Rattle.data_url.proofs.forgiving_base64.Vectors.{differs, joined}
 
 -- A row
 
+-- the 16 bytes from index `at` on
 abbrev pub row_at : List ℕ → ℕ → List ℕ
 row_at bytes at = take 16 (drop at bytes)
 
+-- if there are 16 bytes from an index on, the row at that index has length 16
 pub row_length : (bytes : List ℕ) (at : ℕ) → at + 16 ≤ length bytes → length (row_at bytes at) ≡ 16
 row_length bytes at room = length-take-le 16 (drop at bytes) (omega (arith, length-drop at bytes))
 
+-- what the lanes compute from a row with both tables is the mask of the row's marked bytes
 pub marks_are : (others v low high : List ℕ) → length v ≡ 16 → low ≡ map (λ b. get_or others (bit_and b 15) 0) v
     → high ≡ map (λ b. get_or COLUMNS (b / 16) 0) v
     → mask_l (map (top 7) (zip2 (λ a b. cond (differs a b) 255 0) (zip2 bit_and low high)
@@ -37,6 +40,7 @@ pub record Looked (others bytes : List ℕ) (at : ℕ) : Type 0 where
   pub within : at ≤ length bytes
   pub front : AreOf others bytes at
 
+-- if a row has no marked byte, the bytes before the end of the row are of the class, too
 pub one_row_more : (others bytes : List ℕ) (at marks : ℕ) → Looked others bytes at → at + 16 ≤ length bytes
     → marks ≡ mask_l (map (is_marked others) (row_at bytes at)) → marks ≡ 0 → Looked others bytes (at + 16)
 one_row_more others bytes at marks h room e none = record {
@@ -47,14 +51,16 @@ one_row_more others bytes at marks h room e none = record {
 
 -- From rows to bytes
 
+-- if the bit of each byte's entry in CLASSES agrees with the test p, it is set for a byte exactly if the byte passes
 pub entry_is : (p : ℕ → Bool) (bit : ℕ) → agree_below (λ b. not (bit_and (slice_index CLASSES b) bit == 0)) p 256 ≡ true
     → (b : ℕ) → b < 256 → not (bit_and (slice_index CLASSES b) bit == 0) ≡ p b
 entry_is p bit h b l = agree_below_at (λ b. not (bit_and (slice_index CLASSES b) bit == 0)) p 256 b h l
 
--- a byte that has no mark passes a test
+-- if each byte is marked or passes, a byte without a mark passes
 pub unmarked_passes : (m p : ℕ → Bool) → agree_below (λ b. m b || p b) (λ _. true) 256 ≡ true → (b : ℕ) → b < 256
     → m b ≡ false → p b ≡ true
 unmarked_passes m p h b l e = sym (ap (λ t. t || p b) e) ∙ agree_below_at (λ b. m b || p b) (λ _. true) 256 b h l
 
+-- if each byte is marked, a byte without a mark passes any test
 pub all_marked : (m p : ℕ → Bool) → agree_below m (λ _. true) 256 ≡ true → (b : ℕ) → b < 256 → m b ≡ false → p b ≡ true
 all_marked m p h b l e = absurd (false≢true (sym e ∙ agree_below_at m (λ _. true) 256 b h l))

@@ -407,6 +407,7 @@ no_parameters s r e n m h =
     n (subst BeginsParameters (sym (has_parts s h.type_ h.subtype h.parameters h.head).parameters_are
     ∙ e) h.head.begins)
 
+-- the empty text has no record
 pub empty_text : HasNoRecord []
 unfolding on_literals
 empty_text = no_type [] refl

@@ -35,6 +35,7 @@ byte_encoded b l = cond_both (in_fragment_set b) (37 ∷ hex_digit (b / 16) ∷ 
     (λ e. (refl, (digit_byte (b / 16) (omega arith), (digit_byte (b % 16) (omega arith), tt))))
     (λ e. (outside_set b l e, tt))
 
+-- the percent-encoding of a fragment has only bytes that an encoded fragment can have
 pub fragment_bytes : (s : List ℕ) → IsBytes s → Every is_fragment_byte (percent_encoding in_fragment_set s)
 fragment_bytes [] h = subst (Every is_fragment_byte) (sym (encoded_nil in_fragment_set)) tt
 fragment_bytes (b ∷ s) h = subst (Every is_fragment_byte) (sym (encoded_cons in_fragment_set b s))
@@ -141,6 +142,7 @@ staged_again t x h =
     ∙ ap (λ o. staged_fragment (staged_parts (Some x) o (encoded_body t))) (header_empty t f)
     ∙ ap (λ o. staged_fragment (staged_parts (Some x) (Some []) o)) (body_empty t f)
 
+-- a text of such bytes, read as a fragment, is percent-encoded as itself
 pub read_again : (x : List ℕ) → Every is_fragment_byte x → IsReadAgain x
 read_again x h =
     let t : List ℕ = codes "data:,#" ++ x in

@@ -33,6 +33,7 @@ pub record Spells (s : List ℕ) (n : ℕ) : Type 0 where
   pub open_at : n < 5
   pub spelled : map to_ascii_lowercase (without_tabs_and_newlines s) ≡ take n scheme
 
+-- the empty text spells no byte of the scheme
 pub spells_nothing : Spells [] 0
 spells_nothing = record { open_at = omega arith; spelled = ap (map to_ascii_lowercase) dropped_nil }
 
@@ -47,6 +48,7 @@ dropped_one_keeps : (b : ℕ) → is_tab_or_newline b ≡ false → (s : List �
 dropped_one_keeps b h s = without_tabs_and_newlines-append s (b ∷ [])
     ∙ ap (λ t. without_tabs_and_newlines s ++ t) (dropped_keeps b [] h ∙ ap (λ t. b ∷ t) dropped_nil)
 
+-- a tab or newline after a text does not change how many bytes of the scheme it spells
 pub spells_passed : (s : List ℕ) (n b : ℕ) → Spells s n → is_tab_or_newline b ≡ true → Spells (s ++ b ∷ []) n
 spells_passed s n b h e = record {
   open_at = h.open_at;
@@ -63,10 +65,14 @@ one_more s n b h e same =
     ∙ ap (λ c. take n scheme ++ c ∷ []) same
     ∙ sym (take_more scheme n 0 h.open_at)
 
+-- if the byte after a text is, in lower case, the next byte of the scheme, but not the last one, the text with that
+-- byte spells one byte more
 pub spells_more : (s : List ℕ) (n b : ℕ) → Spells s n → is_tab_or_newline b ≡ false
     → to_ascii_lowercase b ≡ get_or scheme n 0 → n + 1 ≢ 5 → Spells (s ++ b ∷ []) (n + 1)
 spells_more s n b h e same ne = record { open_at = omega (arith, h.open_at); spelled = one_more s n b h e same }
 
+-- if the byte after a text is, in lower case, the last byte of the scheme, the text with that byte spells the whole
+-- scheme
 pub spells_all : (s : List ℕ) (n b : ℕ) → Spells s n → is_tab_or_newline b ≡ false
     → to_ascii_lowercase b ≡ get_or scheme n 0 → n + 1 ≡ 5
     → map to_ascii_lowercase (without_tabs_and_newlines (s ++ b ∷ [])) ≡ scheme
@@ -76,7 +82,7 @@ spelled_length : (s : List ℕ) (n : ℕ) → Spells s n → length (without_tab
 spelled_length s n h = sym (length-map (without_tabs_and_newlines s) to_ascii_lowercase) ∙ ap length h.spelled
     ∙ length-take n scheme ∙ omega (arith, h.open_at)
 
--- the text ends before the scheme does
+-- a text that spells only a part of the scheme does not begin with the scheme
 pub ends_early : (s : List ℕ) (n : ℕ) → Spells s n → HasNoScheme s
 ends_early s n h = false_from_ne_true (bytes_eq (map to_ascii_lowercase (take 5 (without_tabs_and_newlines s))) scheme)
     (λ e.
@@ -88,7 +94,8 @@ ends_early s n h = false_from_ne_true (bytes_eq (map to_ascii_lowercase (take 5 
     let below = h.open_at in
     omega (arith, five, short, below))
 
--- the next byte is not the next byte of the scheme
+-- if a text spells a part of the scheme, and then a byte follows that is neither a tab or newline nor the next byte of
+-- the scheme, the text does not begin with the scheme
 pub differs : (text s : List ℕ) (n b : ℕ) (rest : List ℕ) → Spells s n → is_tab_or_newline b ≡ false
     → to_ascii_lowercase b ≢ get_or scheme n 0 → text ≡ s ++ b ∷ rest → HasNoScheme text
 differs text s n b rest h e ne is =
@@ -125,16 +132,19 @@ common_spelled : map to_ascii_lowercase (without_tabs_and_newlines scheme) ≡ s
 unfolding without_tabs_and_newlines
 common_spelled = refl
 
+-- if the test for "data:" at the front succeeds, the text is "data:" and then the text from its sixth byte on
 pub common_front : (text items : List ℕ) (r : Bool) → items ≡ text → r ≡ starts_with nat_eq items scheme → r ≡ true
     → text ≡ scheme ++ drop 5 text
 common_front text items r e f h = subst (λ s. s ≡ scheme ++ drop 5 s) e ((starts_is Decides-eqb items scheme r f).0 h)
 
+-- a UTF-8 text that begins with "data:" can be cut after it
 pub common_boundary : (text : List ℕ) → IsUtf8 text → text ≡ scheme ++ drop 5 text → IsCharBoundary text 5
 common_boundary text u h =
     let front : take 5 text ≡ scheme = ap (take 5) h ∙ take-append-le 5 scheme (drop 5 text) (omega arith) in
     let long : 5 ≤ length text = omega (arith, ap length h, length-append scheme (drop 5 text)) in
     IsCharBoundary-from_take text 5 u long (subst IsUtf8 (sym front) (IsUtf8-from_ascii scheme (ascii_all scheme refl)))
 
+-- a text that begins with "data:" has the scheme, and its rest is the text from the sixth byte on
 pub common_scheme : (text rest : List ℕ) → text ≡ scheme ++ drop 5 text → rest ≡ drop 5 text → IsSchemeAndRest text rest
 common_scheme text rest h e = record {
   scheme = scheme;
@@ -155,14 +165,14 @@ lacks_in_take c s n h = after_none c (take n s) (λ k l.
 cut_at : (s : List ℕ) (n : ℕ) → n < length s → s ≡ take n s ++ get_or s n 0 ∷ drop (n + 1) s
 cut_at s n l = sym (take-append-drop n s) ∙ ap (λ t. take n s ++ t) (drop_more s n 0 l)
 
--- what the place of the first comma or '#' shows
+-- at index n is the first ',' or '#' of the text
 pub record IsFrontEnd (s : List ℕ) (n : ℕ) : Type 0 where
   pub within : n < length s
   pub is : (get_or s n 0 ≡ 44) ⊎ (get_or s n 0 ≡ 35)
   pub no_comma : after 44 (take n s) ≡ None
   pub no_hash : after 35 (take n s) ≡ None
 
--- neither ',' nor '#' is before the place
+-- there is no ',' or '#' before index n
 abbrev pub NoEndBefore : List ℕ → ℕ → Type 0
 NoEndBefore s n = (k : ℕ) → k < n → ends_header (get_or s k 0) ≡ false
 
@@ -174,6 +184,8 @@ further_on s m k h g j l = ⊎_elim
     ap ends_header (ap (λ i. get_or s i 0) (sym back) ∙ sym (get_or-drop m s (j - m) 0)) ∙ g (j - m) (omega arith))
     (cases_lt j m)
 
+-- if there is no ',' or '#' before index m, and the first one of the bytes from m on is at their index k, the first one
+-- of the text is at m + k
 pub front_end_from : (s : List ℕ) (m k : ℕ) → NoEndBefore s m → position ends_header (drop m s) ≡ Some k
     → IsFrontEnd s (m + k)
 front_end_from s m k h e =
@@ -189,6 +201,7 @@ front_end_from s m k h e =
       no_hash = lacks_in_take 35 s n (λ k l. (or_parts (get_or s k 0 == 44) (get_or s k 0 == 35) (before k l)).1);
     }
 
+-- if the first ',' or '#' of a text is a ',', the bytes before it are the header, and those after it are the tail
 pub at_comma : (s : List ℕ) (n : ℕ) → IsFrontEnd s n → get_or s n 0 ≢ 35 → IsHeaderAndTail s (take n s) (drop (n + 1) s)
 at_comma s n f ne =
     let comma : get_or s n 0 ≡ 44 = ⊎_elim (λ h. h) (λ h. absurd (ne h)) f.is in
@@ -198,7 +211,7 @@ at_comma s n f ne =
       no_fragment = f.no_hash;
     }
 
--- a '#' comes first
+-- if the first ',' or '#' of a text is a '#', there is no ',' before the first '#'
 pub at_hash : (s : List ℕ) (n : ℕ) → IsFrontEnd s n → get_or s n 0 ≡ 35 → after 44 (front s) ≡ None
 unfolding front
 at_hash s n f h =
@@ -207,7 +220,7 @@ at_hash s n f h =
     ap (λ x. after 44 (before 35 x)) parts ∙ ap (after 44) (before_at 35 (take n s) (drop (n + 1) s) f.no_hash)
     ∙ f.no_comma
 
--- neither is there
+-- if a text has neither ',' nor '#', there is no ',' before its first '#'
 pub at_none : (s : List ℕ) (m : ℕ) → NoEndBefore s m → position ends_header (drop m s) ≡ None
     → after 44 (front s) ≡ None
 unfolding front
@@ -227,20 +240,24 @@ at_none s m h e =
     let no_hash = after_none 35 s (λ k l. (or_parts (get_or s k 0 == 44) (get_or s k 0 == 35) (fails k l)).1) in
     ap (after 44) (before_all 35 s no_hash) ∙ no_comma
 
+-- the byte at the index of the first ',' or '#' is ASCII
 pub is_ascii_end : (s : List ℕ) (n : ℕ) → IsFrontEnd s n → get_or s n 0 < 128
 is_ascii_end s n f = ⊎_elim (λ h. omega arith) (λ h. omega arith) f.is
 
 -- The bytes of a path that are serialised as they are
 
+-- if n is the length of the longest prefix of plain path bytes, each of the first n bytes is `Plain`
 pub plain_front : (s items : List ℕ) (n : ℕ) → items ≡ s → n ≡ prefix_len is_plain_path items
     → ((i : ℕ) → get_or s i 0 < 256) → (k : ℕ) → k < n → Plain (get_or s k 0)
 plain_front s items n e f h k l =
     plain_byte (get_or s k 0) (h k)
     (prefix_len_passes is_plain_path s k 0 (subst (λ m. k < m) (f ∙ ap (prefix_len is_plain_path) e) l))
 
+-- if the first n bytes are plain, there is no ',' or '#' before index n
 pub plain_no_end : (s : List ℕ) (n : ℕ) → ((k : ℕ) → k < n → Plain (get_or s k 0)) → NoEndBefore s n
 plain_no_end s n h k l = let p = h k l in ap₂ (λ x y. x || y) p.no_comma p.no_hash
 
+-- if the first n bytes are plain, they are a header that is serialised as it is
 pub plain_header : (s header : List ℕ) (n : ℕ) → ((k : ℕ) → k < n → Plain (get_or s k 0)) → header ≡ take n s
     → header_text (without_tabs_and_newlines header) ≡ header
 plain_header s header n h e = subst (λ t. header_text (without_tabs_and_newlines t) ≡ t) (sym e)
@@ -261,18 +278,21 @@ ends_ahead s items n r e p = ap (λ t. position ends_header (drop n t)) (sym e)
     ∙ ap (position ends_header) (sym (take_all (length items - n) (drop n items) (omega (arith, length-drop n items))))
     ∙ sym p
 
+-- if the first ',' or '#' after the n plain bytes at the front is at index k of the bytes after them, the first one of
+-- the text is at n + k
 pub front_end_at : (s items : List ℕ) (n k : ℕ) (r : Option ℕ) → items ≡ s → n ≡ prefix_len is_plain_path items
     → FitsBytes s → r ≡ position ends_header (take (length items - n) (drop n items)) → r ≡ Some k
     → IsFrontEnd s (n + k)
 front_end_at s items n k r e f h p g = front_end_from s n k (no_end_ahead s items n e f h) (ends_ahead s items n r e p
     ∙ g)
 
+-- if there is no ',' or '#' after the plain bytes at the front, there is no ',' before the first '#' of the text
 pub no_front_end : (s items : List ℕ) (n : ℕ) (r : Option ℕ) → items ≡ s → n ≡ prefix_len is_plain_path items
     → FitsBytes s → r ≡ position ends_header (take (length items - n) (drop n items)) → r ≡ None
     → after 44 (front s) ≡ None
 no_front_end s items n r e f h p g = at_none s n (no_end_ahead s items n e f h) (ends_ahead s items n r e p ∙ g)
 
--- the header, if the comma comes directly after the plain bytes
+-- if the ',' follows directly after the plain bytes at the front, the header is serialised as it is
 pub plain_before : (s items header : List ℕ) (n k : ℕ) → items ≡ s → n ≡ prefix_len is_plain_path items → FitsBytes s
     → header ≡ take (n + k) s → n + k ≡ n → header_text (without_tabs_and_newlines header) ≡ header
 plain_before s items header n k e f h is same = plain_header s header n (plain_front s items n e f h) (is

@@ -44,7 +44,7 @@ path_more : (b : ℕ) (s : List ℕ) (c : ℕ) → encoded_path (b ∷ (s ++ c �
 path_more b [] c = path_cons b (c ∷ [])
 path_more b (d ∷ s) c = path_cons b (d ∷ (s ++ c ∷ []))
 
--- a space at the end
+-- if a path ends with a space, this space is encoded as "%20", and the bytes before it with the path's set
 pub path_space : (s : List ℕ) → encoded_path (s ++ 32 ∷ []) ≡ percent_encoding in_path_set s ++ codes "%20"
 path_space [] = path_one 32 ∙ ap (λ t. t ++ codes "%20") (sym (encoded_nil in_path_set))
 path_space (b ∷ s) =
@@ -56,6 +56,7 @@ path_space (b ∷ s) =
 end_set : (c : ℕ) → (c == 32) ≡ false → in_path_end_set c ≡ in_path_set c
 end_set c e = ap (λ v. in_path_set c || v) e ∙ or-false (in_path_set c)
 
+-- a path that ends with another byte is encoded with the path's set
 pub path_other : (s : List ℕ) (c : ℕ) → (c == 32) ≡ false → encoded_path (s ++ c ∷ []) ≡ percent_encoding in_path_set
     (s ++ c ∷ [])
 path_other [] c e =
@@ -72,7 +73,7 @@ all_dropped : (s : List ℕ) → ((k : ℕ) → k < length s → is_tab_or_newli
 all_dropped [] h = dropped_nil
 all_dropped (b ∷ s) h = dropped_passes b s (h 0 (omega arith)) ∙ all_dropped s (λ k l. h (suc k) (omega arith))
 
--- the bytes of an end that passes, and the byte before it
+-- each byte of the longest suffix that passes does pass
 pub suffix_passes : (p : ℕ → Bool) (s : List ℕ) (m k : ℕ) → m ≡ suffix_len p s → length s ≤ k + m → k < length s
     → p (get_or s k 0) ≡ true
 suffix_passes p s m k e far l =
@@ -82,6 +83,7 @@ suffix_passes p s m k e far l =
     subst (λ v. p (get_or s v 0) ≡ true) back (subst (λ v. p v ≡ true) (get_or-reverse s j 0 (omega arith))
     (prefix_len_passes p (reverse s) j 0 within))
 
+-- the byte before the longest suffix that passes does not pass
 pub suffix_stops : (p : ℕ → Bool) (s : List ℕ) (m n : ℕ) → m ≡ suffix_len p s → length s ≡ (n + 1) + m
     → p (get_or s n 0) ≡ false
 suffix_stops p s m n e at =
@@ -91,7 +93,8 @@ suffix_stops p s m n e at =
     subst (λ v. p (get_or s v 0) ≡ false) back (subst (λ v. p v ≡ false) (get_or-reverse s m 0 (omega arith))
     (subst (λ v. p (get_or (reverse s) v 0) ≡ false) (sym e) (prefix_len_stops p (reverse s) 0 within)))
 
--- a text, cut before its last byte that is not a tab or newline
+-- if byte n is the last byte of a text that is not a tab or newline, the text without these is the first n bytes
+-- without these, and then byte n
 pub dropped_end : (s : List ℕ) (m n : ℕ) → m ≡ suffix_len is_tab_or_newline s → length s ≡ (n + 1) + m
     → without_tabs_and_newlines s ≡ without_tabs_and_newlines (take n s) ++ get_or s n 0 ∷ []
 dropped_end s m n e at =
@@ -106,16 +109,20 @@ dropped_end s m n e at =
     ap without_tabs_and_newlines parts ∙ dropped_around (get_or s n 0) kept (take n s) (drop (n + 1) s)
     ∙ ap (λ t. without_tabs_and_newlines (take n s) ++ get_or s n 0 ∷ t) none
 
+-- if a path ends with a space at index n and then only tabs and newlines, the first n bytes are the path without its
+-- last space
 pub without_space : (s : List ℕ) (m n : ℕ) → m ≡ suffix_len is_tab_or_newline s → length s ≡ (n + 1) + m
     → get_or s n 0 ≡ 32 → WithoutSpace s (take n s)
 without_space s m n e at is = dropped_end s m n e at ∙ ap (λ b. without_tabs_and_newlines (take n s) ++ b ∷ []) is
 
+-- if the last byte of a path that is not a tab or newline is not a space, the path has no last space
 pub has_other_end : (s : List ℕ) (m n : ℕ) → m ≡ suffix_len is_tab_or_newline s → length s ≡ (n + 1) + m
     → get_or s n 0 ≢ 32 → HasNoLastSpace s
 has_other_end s m n e at other =
     subst (λ t. encoded_path t ≡ percent_encoding in_path_set t) (sym (dropped_end s m n e at))
     (path_other (without_tabs_and_newlines (take n s)) (get_or s n 0) (ne_eqb (get_or s n 0) 32 other))
 
+-- a path of only tabs and newlines has no last space
 pub has_no_end : (s : List ℕ) (m : ℕ) → m ≡ suffix_len is_tab_or_newline s → length s ≤ m → HasNoLastSpace s
 has_no_end s m e all =
     subst (λ t. encoded_path t ≡ percent_encoding in_path_set t)
@@ -163,15 +170,17 @@ nothing_after path = ap (λ s. percent_encoding in_path_set (without_tabs_and_ne
 not-suc-eq-zero : {n : ℕ} → suc n ≡ 0 → ⊥
 not-suc-eq-zero e = omega arith
 
+-- a text of length zero is empty
 pub no_bytes : (s : List ℕ) → (length s == 0) ≡ true → s ≡ []
 no_bytes [] e = refl
 no_bytes (b ∷ s) e = absurd (not-suc-eq-zero (eqb-true (length (b ∷ s)) 0 e))
 
+-- a text whose length is not zero is not empty
 pub some_bytes : (s : List ℕ) (v : Bool) → v ≡ (length s == 0) → v ≡ false → s ≢ []
 some_bytes [] v e f n = absurd (let k : true ≡ false = sym e ∙ f in cc)
 some_bytes (b ∷ s) v e f n = absurd (let k = n in cc)
 
--- if there is no last space, or no query
+-- if the path has no last space, or there is no query, the encoded path and query are the serialised header
 pub parts_whole : (header path query : List ℕ) → IsPathAndQuery header path query → (query ≡ []) ⊎ HasNoLastSpace path
     → encoded_parts path [] query ≡ header_text (without_tabs_and_newlines header)
 parts_whole header path query h end = ⊎_elim
@@ -189,7 +198,8 @@ parts_whole header path query h end = ⊎_elim
     end)
     h.query_begins
 
--- if there is
+-- if the path has a last space, and there is a query, the encoded path without that space, "%20", and the encoded query
+-- are the serialised header
 pub parts_spaced : (header path front query : List ℕ) → IsPathAndQuery header path query → query ≢ []
     → WithoutSpace path front → encoded_parts front (codes "%20") query ≡ header_text (without_tabs_and_newlines header)
 parts_spaced header path front query h there w = ⊎_elim
@@ -212,7 +222,7 @@ is_true : (b : Bool) → not b ≡ false → b ≡ true
 is_true true h = refl
 is_true false h = absurd (let k = h in cc)
 
--- the cut at the first '?'
+-- the bytes before the first '?' of a text are its path, and the rest is its query
 pub cut_at_query : (text : List ℕ) (n : ℕ) → n ≡ prefix_len is_no_question_mark text
     → IsPathAndQuery text (take n text) (drop n text)
 cut_at_query text n e = record {

@@ -114,17 +114,20 @@ printable_at [] h i l = absurd (omega arith)
 printable_at (b ∷ s) h zero l = (h.0, h.1)
 printable_at (b ∷ s) h (suc i) l = printable_at s h.2 i (omega arith)
 
+-- the serialised text of a header of bytes is printable
 pub header_text_printable : (s : List ℕ) → IsBytes s → IsPrintable (header_text s)
 header_text_printable s h = printable_at (header_text s) (header_all s h)
 
 -- Parts of printable texts
 
+-- a printable text without its first n bytes is printable
 pub printable_drop : (n : ℕ) (s : List ℕ) → IsPrintable s → IsPrintable (drop n s)
 printable_drop n s h i l =
     let at : get_or (drop n s) i 0 ≡ get_or s (n + i) 0 = get_or-drop n s i 0 in
     let within : n + i < length s = omega (arith, length-drop n s) in
     subst (λ v. (32 ≤ v) × (v < 127)) (sym at) (h (n + i) within)
 
+-- the first n bytes of a printable text are printable
 pub printable_take : (n : ℕ) (s : List ℕ) → IsPrintable s → IsPrintable (take n s)
 printable_take n s h i l =
     let below : i < n = omega (arith, length-take n s) in
@@ -136,6 +139,7 @@ printable_reverse s h i l =
     let within : i < length s = omega (arith, length-reverse s) in
     subst (λ v. (32 ≤ v) × (v < 127)) (sym (get_or-reverse s i 0 within)) (h (length s - 1 - i) (omega arith))
 
+-- a printable text is ASCII
 pub printable_ascii : (s : List ℕ) → IsPrintable s → IsAscii s
 printable_ascii s h i = ⊎_elim (λ (l : i < length s). let k = h i l in omega arith)
     (λ (l : length s ≤ i). subst (λ v. v < 128) (sym (get_or_past s i 0 l)) (omega arith)) (cases_lt i (length s))
@@ -154,9 +158,11 @@ low_front (b ∷ s) h =
     ap (λ v. cond v (1 + prefix_len is_c0_control_or_space s) 0) (low_is_space b (h 0 (omega arith)).0)
     ∙ ap (λ n. cond (is_space b) (1 + n) 0) (low_front s (λ i l. h (suc i) (omega arith)))
 
+-- in a printable text, the longest suffix of C0 controls and spaces is as long as that of spaces
 pub low_end : (s : List ℕ) → IsPrintable s → suffix_len is_c0_control_or_space s ≡ suffix_len is_space s
 low_end s h = low_front (reverse s) (printable_reverse s h)
 
+-- a printable text without C0 controls and spaces at both ends is the text without spaces at both ends
 pub trimmed_is_stripped : (s : List ℕ) → IsPrintable s → trimmed_text s ≡ stripped_header s
 unfolding trimmed_text stripped_header
 trimmed_is_stripped s h =
@@ -164,6 +170,7 @@ trimmed_is_stripped s h =
     ∙ ap (λ n. take (length (drop (prefix_len is_space s) s) - n) (drop (prefix_len is_space s) s))
     (low_end (drop (prefix_len is_space s) s) (printable_drop (prefix_len is_space s) s h))
 
+-- a printable text without spaces at both ends is printable
 pub printable_stripped : (s : List ℕ) → IsPrintable s → IsPrintable (stripped_header s)
 unfolding stripped_header
 printable_stripped s h =
@@ -174,10 +181,12 @@ printable_stripped s h =
 
 -- Bytes
 
+-- if a ++ b is a text of bytes, so are a and b
 pub bytes_append : (a b : List ℕ) → IsBytes (a ++ b) → IsBytes a × IsBytes b
 bytes_append [] b h = (tt, h)
 bytes_append (x ∷ a) b h = let k = bytes_append a b h.1 in ((h.0, k.0), k.1)
 
+-- a text of bytes without tabs and newlines is a text of bytes
 pub bytes_dropped : (s : List ℕ) → IsBytes s → IsBytes (without_tabs_and_newlines s)
 bytes_dropped [] h = subst IsBytes (sym dropped_nil) tt
 bytes_dropped (b ∷ s) h = elim (cases_Bool (is_tab_or_newline b)) [
@@ -185,6 +194,7 @@ bytes_dropped (b ∷ s) h = elim (cases_Bool (is_tab_or_newline b)) [
   | inr e ↦ subst IsBytes (sym (dropped_keeps b s e)) (h.0, bytes_dropped s h.1)
 ]
 
+-- the part of a text of bytes before the first c is a text of bytes
 pub bytes_before : (c : ℕ) (s : List ℕ) → IsBytes s → IsBytes (before c s)
 unfolding before
 bytes_before c [] h = tt
@@ -200,6 +210,7 @@ lowercase_comma : (b : ℕ) → (to_ascii_lowercase b == 44) ≡ false → (b ==
 lowercase_comma b h =
     ne_eqb b 44 (λ (e : b ≡ 44). both_ways (to_ascii_lowercase b == 44) h (ap (λ v. to_ascii_lowercase v == 44) e))
 
+-- if a text in lower case has no comma, the text has none
 pub lacks_comma : (d : List ℕ) → after 44 (map to_ascii_lowercase d) ≡ None → after 44 d ≡ None
 lacks_comma [] h = h
 lacks_comma (b ∷ d) h = let l = lacks 44 (to_ascii_lowercase b) (map to_ascii_lowercase d) h in
@@ -222,6 +233,7 @@ abbrev scheme_lacks : after 44 (codes "data:") ≡ None
 unfolding after
 scheme_lacks = refl
 
+-- a text that without tabs and newlines, in any ASCII case, is "data:" has no comma
 pub scheme_has_no_comma : (scheme : List ℕ) → map to_ascii_lowercase (without_tabs_and_newlines scheme) ≡ codes "data:"
     → after 44 scheme ≡ None
 scheme_has_no_comma scheme e =
@@ -234,6 +246,7 @@ scheme_length : (scheme : List ℕ) → map to_ascii_lowercase (without_tabs_and
     → length (without_tabs_and_newlines scheme) ≡ 5
 scheme_length scheme e = sym (length-map (without_tabs_and_newlines scheme) to_ascii_lowercase) ∙ ap length e
 
+-- if the trimmed text is the scheme and then rest, the text after the scheme is rest without tabs and newlines
 pub after_is : (t rest : List ℕ) (h : IsSchemeAndRest (trimmed_text t) rest)
     → after_scheme t ≡ Some (without_tabs_and_newlines rest)
 unfolding after_scheme cleaned_text
@@ -254,6 +267,7 @@ after_is t rest h =
     (codes "data:")).1 first)
     ∙ ap (λ (s : List ℕ). Some s) others
 
+-- if the trimmed text does not begin with the scheme, there is no text after the scheme
 pub after_none : (t : List ℕ) → HasNoScheme (trimmed_text t) → after_scheme t ≡ None
 unfolding after_scheme cleaned_text
 after_none t h = cond-false (bytes_eq (map to_ascii_lowercase (take 5 (without_tabs_and_newlines (trimmed_text t))))
@@ -268,6 +282,8 @@ pub record IsStaged (rest header tail : List ℕ) : Type 0 where
   pub lacks_comma : after 44 (without_tabs_and_newlines header) ≡ None
   pub fragment_is : fragment (without_tabs_and_newlines rest) ≡ fragment (without_tabs_and_newlines tail)
 
+-- if rest is a header, the first comma, and a tail, its front is cut at the same comma after tabs and newlines are
+-- dropped, and its fragment is that of the tail
 pub is_staged : (rest header tail : List ℕ) → IsHeaderAndTail rest header tail → IsStaged rest header tail
 unfolding front fragment
 is_staged rest header tail h =
@@ -283,6 +299,7 @@ is_staged rest header tail h =
           (44 ∷ without_tabs_and_newlines tail) no_hash ∙ after_other 35 44 (without_tabs_and_newlines tail) refl;
     }
 
+-- if a is the text after the scheme, the staged front is the front of a, serialised
 pub front_of : (t a : List ℕ) → after_scheme t ≡ Some a → staged_front t ≡ Some (serialised (front a))
 unfolding staged_front
 front_of t a h = ap (option_map (λ a. serialised (front a))) h
@@ -318,6 +335,7 @@ tail_is_of t rest header tail s h =
     ∙ after-append 44 s.scheme (header ++ 44 ∷ tail) (scheme_has_no_comma s.scheme s.spelled)
     ∙ after_at 44 header tail h.no_comma
 
+-- a text with the scheme, and then a header, the first comma, and a tail has the stages of that header and tail
 pub is_accepted : (t rest header tail : List ℕ) → IsBytes rest → IsSchemeAndRest (trimmed_text t) rest
     → IsHeaderAndTail rest header tail → IsAccepted t header tail
 unfolding header_of encoded_body front
@@ -392,22 +410,27 @@ pub bytes_by_place : (s : List ℕ) → ((i : ℕ) → get_or s i 0 < 256) → I
 bytes_by_place [] h = tt
 bytes_by_place (b ∷ s) h = (h 0, bytes_by_place s (λ i. h (suc i)))
 
+-- the serialised text of a header is printable, if the header is a text of bytes
 pub header_printable : (s : List ℕ) → ((i : ℕ) → get_or s i 0 < 256)
     → IsPrintable (header_text (without_tabs_and_newlines s))
 header_printable s h = header_text_printable (without_tabs_and_newlines s) (bytes_dropped s (bytes_by_place s h))
 
 -- The default record
 
+-- the default record is well-formed
 pub default_wellformed : IsWellformed default_record
 unfolding on_literals
 default_wellformed = record { type_ = refl; subtype = refl; names = refl; distinct = refl; values = refl }
 
+-- if a text has no record, the default record is the record for it
 pub default_for : (s : List ℕ) (m : Record) → HasNoRecord s → m ≡ default_record → IsRecordFor s m
 default_for s m n e = record { is_record = inr (n, e); wellformed = subst IsWellformed (sym e) default_wellformed }
 
+-- a well-formed record that a text parses to is the record for it
 pub parsed_for : (s : List ℕ) (m : Record) → Parses s m → IsWellformed m → IsRecordFor s m
 parsed_for s m p w = record { is_record = inl p; wellformed = w }
 
+-- the record of "text", "plain", and the parameter "charset" with the value "US-ASCII" is the default record
 pub default_is : (type_ subtype charset value : List ℕ) → type_ ≡ codes "text" → subtype ≡ codes "plain"
     → charset ≡ codes "charset" → value ≡ codes "US-ASCII"
     → ◌≡◌ {A = Record} (record {
@@ -426,10 +449,12 @@ default_is type_ subtype charset value a b c d = λ i. record {
 
 -- A type that is missing
 
+-- a text that does not begin with ';' stays as it is
 pub plain_stays : (media : List ℕ) → get_or media 0 0 ≢ 59 → with_plain media ≡ media
 plain_stays [] n = refl
 plain_stays (c ∷ s) n = cond-false (c == 59) (codes "text/plain" ++ c ∷ s) (c ∷ s) (ne_eqb c 59 n)
 
+-- a text that begins with ';' has "text/plain" put before it
 pub plain_added : (media : List ℕ) → get_or media 0 0 ≡ 59 → with_plain media ≡ codes "text/plain" ++ media
 plain_added [] h = absurd (omega (arith, h))
 plain_added (c ∷ s) h = cond-true (c == 59) (codes "text/plain" ++ c ∷ s) (c ∷ s) (eq-eqb c 59 h)
@@ -440,6 +465,8 @@ chars_printable s h = chars-IsAscii s (printable_ascii s h)
 
 -- The suffix
 
+-- if media is the text before the base64 suffix of a header, the record for `with_plain media` is the record of the
+-- header, and its flag is true
 pub with_suffix : (header media : List ℕ) (m : Record) → before_base64 (stripped_header header) ≡ Some media
     → IsRecordFor (with_plain media) m → IsHeaderOf header m true
 unfolding mime_text media_of has_base64_suffix
@@ -448,6 +475,8 @@ with_suffix header media m e h = record {
   base64_is = sym (ap is_some e);
 }
 
+-- if a header has no base64 suffix, the record for `with_plain` of the stripped header is the record of the header, and
+-- its flag is false
 pub no_suffix : (header : List ℕ) (m : Record) → before_base64 (stripped_header header) ≡ None
     → IsRecordFor (with_plain (stripped_header header)) m → IsHeaderOf header m false
 unfolding mime_text media_of has_base64_suffix
@@ -472,6 +501,7 @@ semicolon_begins s m e h = cut (bytes_eq (last_bytes 1 s) (codes ";")) e where
 printable_end : (s : List ℕ) → IsPrintable s → IsPrintable (without_end is_space s)
 printable_end s h = printable_take (length s - suffix_len is_space s) s h
 
+-- the text before the base64 suffix of a printable text is printable
 pub printable_media : (s m : List ℕ) → IsPrintable s → before_base64 s ≡ Some m → IsPrintable m
 unfolding before_base64
 printable_media s m h e = at (before_word s) refl e where
@@ -532,6 +562,8 @@ head_of s t b e = record {
   begins = front_begins t e.back (subst BeginsParameters e.joined b);
 }
 
+-- if s is empty or begins with ';', "text/plain" ++ s has the type "text", the subtype "plain" and, as the text of its
+-- parameters, s without HTTP whitespace at its end
 pub plain_head_is : (s t : List ℕ) → BeginsParameters s → IsTrimmedEnd is_http_whitespace s t
     → IsHead (codes "text/plain" ++ s) (chars (codes "text")) (chars (codes "plain")) t
 plain_head_is s t b e =
@@ -544,9 +576,12 @@ begins_at : (s : List ℕ) → get_or s 0 0 ≡ 59 → BeginsParameters s
 begins_at [] h = tt
 begins_at (c ∷ s) h = h
 
+-- if a printable text begins with ';', the list of its code points begins with ';', too
 pub media_begins : (media : List ℕ) → IsPrintable media → get_or media 0 0 ≡ 59 → BeginsParameters (chars media)
 media_begins media h e = subst BeginsParameters (sym (chars_printable media h)) (begins_at media e)
 
+-- if a printable text begins with ';', the record of the parts of "text/plain" and the text is the record for
+-- `with_plain` of the text
 pub plain_record : (media a b c : List ℕ) (m : Record) → IsPrintable media → get_or media 0 0 ≡ 59
     → IsHead (codes "text/plain" ++ chars media) a b c → IsRecordOfParts a b c m → IsRecordFor (with_plain media) m
 plain_record media a b c m h e head record_is =
@@ -558,13 +593,17 @@ plain_record media a b c m h e head record_is =
 
 -- A text is accepted exactly if the Standard's data: URL processor accepts it.
 
+-- if the trimmed text does not begin with the scheme, the Standard finds no scheme
 pub stages_no_scheme : (t : List ℕ) → HasNoScheme (trimmed_text t) → staged t ≡ NoScheme
 unfolding staged
 stages_no_scheme t h = ap (staged_after t) (after_none t h)
 
+-- if the trimmed text is a text of bytes, so is the rest after its scheme
 pub rest_bytes : (t rest : List ℕ) → IsBytes (trimmed_text t) → IsSchemeAndRest (trimmed_text t) rest → IsBytes rest
 rest_bytes t rest b s = (bytes_append s.scheme rest (subst IsBytes s.joined b)).1
 
+-- if the trimmed text has the scheme, and there is no comma in the rest before its first '#', the Standard finds no
+-- comma
 pub stages_no_comma : (t rest : List ℕ) → IsBytes (trimmed_text t) → IsSchemeAndRest (trimmed_text t) rest
     → after 44 (front rest) ≡ None → staged t ≡ NoComma
 unfolding staged
@@ -573,7 +612,8 @@ stages_no_comma t rest b s h =
     ∙ ap (λ o. staged_parts (fragment (without_tabs_and_newlines rest)) o (encoded_body t))
     (no_header t rest (rest_bytes t rest b s) s h)
 
--- the body and the fragment of what is accepted are those of its tail
+-- if the trimmed text is the scheme, a header, the first comma, and a tail, the Standard accepts it; the MIME type is
+-- that of the header, and the body and the fragment are those of the tail
 pub stages_accepted : (t rest header tail : List ℕ) → IsBytes (trimmed_text t) → IsSchemeAndRest (trimmed_text t) rest
     → IsHeaderAndTail rest header tail → (flag : Bool)
     → flag ≡ has_base64_suffix (header_text (without_tabs_and_newlines header))
@@ -593,6 +633,7 @@ stages_accepted t rest header tail b s h flag f =
     ∙ ap (λ v. Accepted (mime_text text) (outcome v (percent_decoding (front (without_tabs_and_newlines tail))))
     (option_map (percent_encoding in_fragment_set) (fragment (without_tabs_and_newlines tail)))) (sym f)
 
+-- if the trimmed text is the scheme, a header, the first comma, and a tail, the Standard accepts it
 pub is_acceptable : (t rest header tail : List ℕ) → IsBytes (trimmed_text t) → IsSchemeAndRest (trimmed_text t) rest
     → IsHeaderAndTail rest header tail → IsAcceptable (staged t)
 is_acceptable t rest header tail b s h =
@@ -612,6 +653,8 @@ fragment_of : (t rest header tail : List ℕ) → IsSchemeAndRest (trimmed_text 
 fragment_of t rest header tail s h = ap (option_map fragment) (after_is t rest s)
     ∙ ap (λ (x : Option (List ℕ)). Some x) (is_staged rest header tail h).fragment_is
 
+-- if the trimmed text is the scheme, a header, the first comma, and the tail of u, and the record and the flag of u are
+-- those of the header, then u is the URL of the text
 pub is_url_of : (t rest header : List ℕ) (u : DataUrl) → IsBytes (trimmed_text t)
     → IsSchemeAndRest (trimmed_text t) rest → IsHeaderAndTail rest header (url_tail u)
     → IsHeaderOf (header_text (without_tabs_and_newlines header)) (record_of (mime_of u)) (is_base64 u) → IsUrlOf t u
@@ -631,10 +674,12 @@ is_url_of t rest header u b s h k =
 
 -- Decoding
 
+-- if the flag is false, the outcome of a body is the body as it is
 pub plain_outcome : (flag : Bool) (x : List ℕ) → flag ≡ false → Good x ≡ outcome flag x
 unfolding outcome
 plain_outcome flag x e = sym (ap (λ v. outcome v x) e)
 
+-- what decodes a body with at most n calls decodes an equal body with at most n + 1 calls
 pub one_more_call : {F E A : Type 0} (step : F → List ℕ → Result (Unit {0}) E → F → Type 0) (f g : F) (n : ℕ)
     (body body' : Outcome) (good : A → Type 0) (r : Result A (DecodeError E)) → body ≡ body'
     → Decodes step f n body good r g → Decodes step f (n + 1) body' good r g
@@ -643,15 +688,17 @@ one_more_call step f g n body body' good r e d = subst (λ b. Decodes step f (n 
 
 -- The fragment
 
+-- if the body of a tail ends where the tail ends, the tail has no '#'
 pub no_fragment : (tail : List ℕ) (place : ℕ) → IsBodyEnd tail place → place ≡ length tail → None ≡ after 35 tail
 no_fragment tail place h e = sym (h.after_is ∙ ap rest_fragment (drop_all place tail (omega arith)))
 
--- at the place there is a '#'
+-- at the place is the first '#' of the tail
 pub record HasHash (tail : List ℕ) (place : ℕ) : Type 0 where
   pub within : place < length tail
   pub is : get_or tail place 0 ≡ 35
   pub fragment_is : after 35 tail ≡ Some (drop (place + 1) tail)
 
+-- if the body of a tail does not end where the tail ends, it ends at the first '#' of the tail
 pub has_hash : (tail : List ℕ) (place : ℕ) → IsBodyEnd tail place → (place ≡ length tail → ⊥) → HasHash tail place
 has_hash tail place h n =
     let inside = h.within in
@@ -673,6 +720,7 @@ bytes_take zero s h = tt
 bytes_take (suc n) [] h = tt
 bytes_take (suc n) (b ∷ s) h = (h.0, bytes_take n s h.1)
 
+-- if each number of a text is below 256, the trimmed text is a text of bytes
 pub bytes_trimmed : (t : List ℕ) → ((i : ℕ) → get_or t i 0 < 256) → IsBytes (trimmed_text t)
 unfolding trimmed_text
 bytes_trimmed t h =

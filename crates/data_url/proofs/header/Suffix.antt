@@ -24,10 +24,11 @@ use Rattle.std.proofs.lemmas.List.Folds.{prefix_len-append}
 
 -- The base64 suffix, read from the end.
 
+-- the word of the suffix
 abbrev pub word : List ℕ
 word = codes "base64"
 
--- the last six bytes are not the word
+-- a text whose last six bytes are not "base64", in any ASCII case, has no base64 suffix
 pub no_word : (s : List ℕ) → (map to_ascii_lowercase (last_bytes 6 s) ≡ word → ⊥) → before_base64 s ≡ None
 unfolding before_base64
 no_word s h = ap (option_and_then (λ m. before_semicolon (without_end is_space m)))
@@ -35,7 +36,7 @@ no_word s h = ap (option_and_then (λ m. before_semicolon (without_end is_space 
     (false_from_ne_true (bytes_eq (map to_ascii_lowercase (last_bytes 6 s)) word)
     (λ e. h ((bytes_eq-Decides (map to_ascii_lowercase (last_bytes 6 s)) word).0 e))))
 
--- the text is too short for it
+-- a text of less than six bytes has no base64 suffix
 pub too_short : (s : List ℕ) → length s < 6 → before_base64 s ≡ None
 too_short s l = no_word s (λ e.
     let six : length (map to_ascii_lowercase (last_bytes 6 s)) ≡ 6 = ap length e in
@@ -43,6 +44,7 @@ too_short s l = no_word s (λ e.
     length-map (last_bytes 6 s) to_ascii_lowercase ∙ length-drop (length s - 6) s in
     omega (arith, six, len))
 
+-- the same, if the last six bytes begin at index n
 pub other_word : (s : List ℕ) (n : ℕ) → n + 6 ≡ length s → (map to_ascii_lowercase (drop n s) ≡ word → ⊥)
     → before_base64 s ≡ None
 other_word s n e h = no_word s
@@ -83,7 +85,7 @@ after_word s n spaces p h =
 abbrev semicolon : List ℕ
 semicolon = codes ";"
 
--- there is nothing before the spaces
+-- if there is nothing before the spaces and the word, there is no base64 suffix
 pub nothing_left : (s : List ℕ) (n spaces : ℕ) → IsPrintable s → HasWord s n spaces → n - spaces ≡ 0
     → before_base64 s ≡ None
 nothing_left s n spaces p h e = after_word s n spaces p h ∙ ap (λ m. before_semicolon (take m s)) e
@@ -104,6 +106,7 @@ before_one s n l =
     let at : length (take (n + 1) s) - 1 ≡ n = omega (arith, len) in
     ap (λ m. take m (take (n + 1) s)) at ∙ take-take n (n + 1) s (omega arith)
 
+-- if the byte before the spaces and the word is not ';', there is no base64 suffix
 pub no_semicolon : (s : List ℕ) (n spaces m : ℕ) → IsPrintable s → HasWord s n spaces → n - spaces ≡ m + 1
     → get_or s m 0 ≢ 59 → before_base64 s ≡ None
 no_semicolon s n spaces m p h e ne =
@@ -116,6 +119,7 @@ no_semicolon s n spaces m p h e ne =
     ∙ (bytes_eq-Decides (last_bytes 1 (take (m + 1) s)) semicolon).0 k in
     ne (ap (λ t. get_or t 0 0) same)))
 
+-- if the byte before the spaces and the word is a ';' at index m, the text before the suffix is the first m bytes
 pub with_semicolon : (s : List ℕ) (n spaces m : ℕ) → IsPrintable s → HasWord s n spaces → n - spaces ≡ m + 1
     → get_or s m 0 ≡ 59 → before_base64 s ≡ Some (take m s)
 with_semicolon s n spaces m p h e is =
@@ -130,7 +134,7 @@ with_semicolon s n spaces m p h e is =
 
 -- Spaces at the ends
 
--- the last bytes of a text stop at a byte that does not pass
+-- if b does not pass, the longest suffix of x ++ b ∷ q that passes is as long as that of q
 pub suffix_stop : (p : ℕ → Bool) (x q : List ℕ) (b : ℕ) → p b ≡ false → suffix_len p (x ++ b ∷ q) ≡ suffix_len p q
 suffix_stop p x q b f =
     let none : prefix_len p (b ∷ reverse x) ≡ 0 = prefix_len-drop_no p (b ∷ reverse x) 0 0 (omega arith) f in

@@ -52,12 +52,15 @@ among_first n items kept k e f =
 
 -- Equality of texts as a test
 
+-- if the test of equality is true, two texts are equal
 pub equal_from_test : (a c : List ℕ) → bytes_eq a c ≡ true → a ≡ c
 equal_from_test a c h = (bytes_eq-Decides a c).0 h
 
+-- if two texts are equal, the test of equality is true
 pub test_from_equal : (a c : List ℕ) → a ≡ c → bytes_eq a c ≡ true
 test_from_equal a c e = (bytes_eq-Decides a c).1 e
 
+-- for texts that are not equal, the test of equality is false
 pub test_from_different : (a c : List ℕ) → (a ≡ c → ⊥) → bytes_eq a c ≡ false
 test_from_different a c n = false_from_ne_true (bytes_eq a c) (λ h. n (equal_from_test a c h))
 
@@ -67,6 +70,7 @@ low_token : (c : ℕ) → c < 128 → is_token (to_ascii_lowercase c) ≡ is_tok
 unfolding is_token
 low_token c l = agree_below_at (λ x. is_token (to_ascii_lowercase x)) is_token 128 c refl l
 
+-- a code point in lower case is a token code point exactly if the code point is
 pub token_lower : (c : ℕ) → is_token (to_ascii_lowercase c) ≡ is_token c
 token_lower c = elim (cases_lt c 128) [ inl l ↦ low_token c l | inr l ↦ ap is_token ((lowercase_is c).2 (omega arith)) ]
 
@@ -74,20 +78,23 @@ all_token_lower : (t : List ℕ) → list_all is_token (map to_ascii_lowercase t
 all_token_lower [] = refl
 all_token_lower (c ∷ t) = ap₂ (λ x y. x && y) (token_lower c) (all_token_lower t)
 
+-- a text in lower case is a token text exactly if the text is
 pub token_text_lower : (t : List ℕ) → is_token_text (map to_ascii_lowercase t) ≡ is_token_text t
 token_text_lower [] = refl
 token_text_lower (c ∷ t) = all_token_lower (c ∷ t)
 
+-- putting a text into lower case twice is the same as doing so once
 pub lower_twice : (t : List ℕ) → map to_ascii_lowercase (map to_ascii_lowercase t) ≡ map to_ascii_lowercase t
 lower_twice [] = refl
 lower_twice (c ∷ t) = ap₂ (λ x y. x ∷ y) (lowercase-lowercase c) (lower_twice t)
 
+-- a token text in lower case is a lower-case name
 pub lowercase_name : (t : List ℕ) → is_token_text t ≡ true → is_lowercase_name (map to_ascii_lowercase t) ≡ true
 lowercase_name t h = and_from (is_token_text (map to_ascii_lowercase t))
     (bytes_eq (map to_ascii_lowercase (map to_ascii_lowercase t)) (map to_ascii_lowercase t)) (token_text_lower t ∙ h)
     (test_from_equal (map to_ascii_lowercase (map to_ascii_lowercase t)) (map to_ascii_lowercase t) (lower_twice t))
 
--- a text of token code points, in lower case by its bytes
+-- the code points of a token text whose bytes are put into lower case are its code points in lower case
 pub lower_chars : (bs : List ℕ) → IsUtf8 bs → is_token_text (chars bs) ≡ true
     → chars (map to_ascii_lowercase bs) ≡ map to_ascii_lowercase (chars bs)
 lower_chars bs u h =
@@ -97,14 +104,17 @@ lower_chars bs u h =
 
 -- Names compared in any case
 
+-- the bytes of a token text are its code points
 pub name_bytes : (bs : List ℕ) → IsUtf8 bs → is_token_text (chars bs) ≡ true → bs ≡ chars bs
 name_bytes bs u h = bytes_of_ascii bs u (token_text_ascii (chars bs) h)
 
+-- a lower-case name in lower case is the name itself
 pub lower_is_itself : (t : List ℕ) → is_lowercase_name t ≡ true → map to_ascii_lowercase t ≡ t
 lower_is_itself t h =
     equal_from_test (map to_ascii_lowercase t) t
     (and_parts (is_token_text t) (bytes_eq (map to_ascii_lowercase t) t) h).1
 
+-- a lower-case name is a token text
 pub lowercase_token : (t : List ℕ) → is_lowercase_name t ≡ true → is_token_text t ≡ true
 lowercase_token t h = (and_parts (is_token_text t) (bytes_eq (map to_ascii_lowercase t) t) h).0
 
@@ -116,22 +126,25 @@ both_lower k n u w h t = (
   ap (map to_ascii_lowercase) (name_bytes n w t),
 )
 
+-- a token text has at least one byte
 pub some_byte : (n : List ℕ) → is_token_text (chars n) ≡ true → 0 < length n
 some_byte [] h = absurd (false≢true (sym (ap is_token_text chars-nil) ∙ h))
 some_byte (b ∷ n) h = omega arith
 
--- the bytes of a name in lower case, and of a word that is known to be in lower case
+-- a lower-case name is equal to itself with each byte in lower case
 pub lower_bytes : (k : List ℕ) → IsUtf8 k → is_lowercase_name (chars k) ≡ true → map to_ascii_lowercase k ≡ k
 lower_bytes k u h =
     let bytes = name_bytes k u (lowercase_token (chars k) h) in
     subst (λ t. map to_ascii_lowercase t ≡ t) (sym bytes) (lower_is_itself (chars k) h)
 
+-- for a lower-case name k and a token text n that are equal in lower case, the test of k and of n in lower case is true
 pub names_equal : (k n : List ℕ) → IsUtf8 k → IsUtf8 n → is_lowercase_name (chars k) ≡ true
     → is_token_text (chars n) ≡ true → map to_ascii_lowercase k ≡ map to_ascii_lowercase n
     → bytes_eq (chars k) (map to_ascii_lowercase (chars n)) ≡ true
 names_equal k n u w h t e = let b = both_lower k n u w h t in
     test_from_equal (chars k) (map to_ascii_lowercase (chars n)) (sym b.0 ∙ e ∙ b.1)
 
+-- for a lower-case name k and a token text n that differ in lower case, the test of k and of n in lower case is false
 pub names_differ : (k n : List ℕ) → IsUtf8 k → IsUtf8 n → is_lowercase_name (chars k) ≡ true
     → is_token_text (chars n) ≡ true → (map to_ascii_lowercase k ≡ map to_ascii_lowercase n → ⊥)
     → bytes_eq (chars k) (map to_ascii_lowercase (chars n)) ≡ false
@@ -140,6 +153,7 @@ names_differ k n u w h t e = let b = both_lower k n u w h t in
 
 -- One step of the look-up
 
+-- if all names are lower-case, so is that of the pair at index i
 pub lowercase_at : {A B : Type 0} (pairs : List (String A × String B)) (i : ℕ) (item : String A × String B)
     → HasLowercaseNames (map (λ p. pair_of p) pairs) → i < length pairs → item ≡ get_or pairs i item
     → is_lowercase_name (code_points item.0) ≡ true
@@ -156,6 +170,7 @@ look_step n pairs i item l e = ap (λ s. has_name n (map (λ p. pair_of p) s)) (
     ∙ ap₂ (λ p k. bytes_eq (code_points p.0) n || has_name n (map (λ q. pair_of q) (drop k pairs))) (sym e)
     (sym (add-one i))
 
+-- if the pair at index i has the name n, one of the pairs has it
 pub look_finds : {A B : Type 0} (n : List ℕ) (pairs : List (String A × String B)) (i : ℕ) (item : String A × String B)
     → i < length pairs → item ≡ get_or pairs i item → bytes_eq (code_points item.0) n ≡ true
     → has_name n (map (λ p. pair_of p) (drop i pairs)) ≡ has_name n (map (λ p. pair_of p) pairs)
@@ -164,6 +179,8 @@ look_finds n pairs i item l e t h =
     sym (or_left (bytes_eq (code_points item.0) n) (has_name n (map (λ p. pair_of p) (drop (i + 1) pairs))) t)
     ∙ sym (look_step n pairs i item l e) ∙ h
 
+-- if the pairs from index i on have the name n exactly if all pairs have it, and pair i does not, so do those from i +
+-- 1 on
 pub look_goes_on : {A B : Type 0} (n : List ℕ) (pairs : List (String A × String B)) (i : ℕ) (item : String A × String B)
     → i < length pairs → item ≡ get_or pairs i item → bytes_eq (code_points item.0) n ≡ false
     → has_name n (map (λ p. pair_of p) (drop i pairs)) ≡ has_name n (map (λ p. pair_of p) pairs)
@@ -173,6 +190,7 @@ look_goes_on n pairs i item l e t h = ap (λ b. b || has_name n (map (λ p. pair
 
 -- What one more item adds
 
+-- if the name of an item is not a token text, the item adds no pair
 pub no_pair_token : (item : Item) (xs : List Pair) → is_token_text item.0 ≡ false → added_pairs xs item ≡ []
 no_pair_token (name, None) xs h = refl
 no_pair_token (name, Some v) xs h =
@@ -184,6 +202,7 @@ unless_none : (xs : List Pair) (p : Pair) (b : Bool) → has_name p.0 xs ≡ tru
 unless_none xs p true h = cond-true (has_name p.0 xs) [] (p ∷ []) h
 unless_none xs p false h = refl
 
+-- if one of the pairs has the name of an item, the item adds no pair
 pub no_pair_named : (item : Item) (xs : List Pair) → has_name item.0 xs ≡ true → added_pairs xs item ≡ []
 no_pair_named (name, None) xs h = refl
 no_pair_named (name, Some v) xs h = unless_none xs (name, v) (is_token_text name && list_all is_quotable v) h
@@ -193,6 +212,7 @@ some_quotable : (v w : List ℕ) (b : Bool) → ◌≡◌ {A = Option (List ℕ)
 some_quotable v w true h = (refl, some_equal w v h)
 some_quotable v w false h = absurd (let k = h in cc)
 
+-- if the name of an item is a token text, and w is its quotable value, the item has the pair of its name and w
 pub valid_pair : (item : Item) (w : List ℕ) → is_token_text item.0 ≡ true → Some w ≡ quotable_value item.1
     → valid_of item ≡ (item.0, w) ∷ []
 valid_pair (name, None) w t h = absurd (let k = h in cc)
@@ -207,11 +227,13 @@ or_none : (b : Bool) → (b || false) ≡ b
 or_none true = refl
 or_none false = refl
 
+-- one of the pairs of xs ++ ys has a name exactly if one of xs or one of ys has it
 pub has_append : (n : List ℕ) (xs ys : List Pair) → has_name n (xs ++ ys) ≡ (has_name n xs || has_name n ys)
 has_append n [] ys = refl
 has_append n (p ∷ xs) ys = ap (λ b. bytes_eq p.0 n || b) (has_append n xs ys)
     ∙ sym (or_assoc (bytes_eq p.0 n) (has_name n xs) (has_name n ys))
 
+-- one of the pairs has a name after p is pushed exactly if one had it before, or p has it
 pub has_pushed : (n : List ℕ) (xs : List Pair) (p : Pair)
     → has_name n (xs ++ (p ∷ [])) ≡ (has_name n xs || bytes_eq p.0 n)
 has_pushed n xs p = has_append n xs (p ∷ []) ∙ ap (λ b. has_name n xs || b) (or_none (bytes_eq p.0 n))
@@ -275,6 +297,7 @@ kept_with_one ps qs (inl e) = rw (e, append-nil ps) (sym (append-nil (first_of_e
 kept_with_one ps qs (inr (p, e)) =
     rw e (first_snoc [] ps p ∙ ap (λ b. first_of_each_name [] ps ++ cond b [] (p ∷ [])) (sym (has_first p.0 [] ps)))
 
+-- the pairs that are kept with one more item are those kept before, and then those that the item adds
 pub kept_more : (items : List Item) (item : Item) → kept_pairs (items ++ (item ∷ [])) ≡ kept_pairs items ++ added_pairs
     (kept_pairs items) item
 kept_more items item = ap (first_of_each_name []) (flat_map-append valid_of items (item ∷ [])
@@ -283,21 +306,25 @@ kept_more items item = ap (first_of_each_name []) (flat_map-append valid_of item
 
 -- What the parser keeps for one parameter
 
+-- if no pair is added, the pairs stay the same
 pub none_added : {A B : Type 0} (pairs : List (String A × String B)) (more : List Pair) → more ≡ []
     → map (λ p. pair_of p) pairs ≡ map (λ p. pair_of p) pairs ++ more
 none_added pairs more e = sym (ap (λ x. map (λ p. pair_of p) pairs ++ x) e ∙ append-nil (map (λ p. pair_of p) pairs))
 
+-- if a pair is pushed, and its code points are those to be added, these are added to the pairs of code points
 pub one_added : {A B : Type 0} (pairs pairs' : List (String A × String B)) (name : String A) (value : String B)
     (more : List Pair) → pairs' ≡ pairs ++ ((name, value) ∷ []) → more ≡ (code_points name, code_points value) ∷ []
     → map (λ p. pair_of p) pairs' ≡ map (λ p. pair_of p) pairs ++ more
 one_added pairs pairs' name value more e h = ap (map (λ p. pair_of p)) e
     ∙ map-append (λ p. pair_of p) pairs ((name, value) ∷ []) ∙ ap (λ x. map (λ p. pair_of p) pairs ++ x) (sym h)
 
+-- if all names of xs and of ys are lower-case, so are those of xs ++ ys
 pub lower_after : (xs ys : List Pair) → HasLowercaseNames xs → HasLowercaseNames ys → HasLowercaseNames (xs ++ ys)
 lower_after xs ys h k = list_all-append (λ (p : Pair). is_lowercase_name p.0) xs ys
     ∙ and_from (list_all (λ (p : Pair). is_lowercase_name p.0) xs) (list_all (λ (p : Pair). is_lowercase_name p.0) ys) h
     k
 
+-- if a name that is a token text is lower-case, the name of an item's pair is lower-case
 pub valid_lower : (name : List ℕ) (value : Option (List ℕ))
     → (is_token_text name ≡ true → is_lowercase_name name ≡ true) → HasLowercaseNames (valid_of (name, value))
 valid_lower name None h = refl
@@ -307,17 +334,22 @@ valid_lower name (Some v) h = cond_both (is_token_text name && list_all is_quota
     (λ e. refl)
 
 module _ (parameter : Parameter) (item : Item) (is : IsItem parameter item) where
+  -- the name of an item is a token text exactly if the name of its parameter is
   pub name_token : is_token_text item.0 ≡ is_token_text (chars parameter.name.now)
   name_token = ap is_token_text is.name ∙ token_text_lower (chars parameter.name.now)
 
+  -- if the name of a parameter is not a token text, its item adds no pair
   pub invalid_name : (xs : List Pair) (b : Bool) → b ≡ is_token_text (chars parameter.name.now) → b ≡ false
       → added_pairs xs item ≡ []
   invalid_name xs b e h = no_pair_token item xs (name_token ∙ sym e ∙ h)
 
+  -- if one of the pairs has the name of a parameter in lower case, its item adds no pair
   pub known_name : (xs : List Pair) → has_name (map to_ascii_lowercase (chars parameter.name.now)) xs ≡ true
       → added_pairs xs item ≡ []
   known_name xs h = no_pair_named item xs (ap (λ n. has_name n xs) is.name ∙ h)
 
+  -- if the name of a parameter is a token text, and the value is quotable, its item has the pair of the name in lower
+  -- case and the value
   pub new_pair : (name value : List ℕ) (b : Bool) → b ≡ is_token_text (chars parameter.name.now) → b ≡ true
       → name ≡ map to_ascii_lowercase (chars parameter.name.now) → Some value ≡ quotable_value item.1
       → valid_of item ≡ (name, value) ∷ []
@@ -326,13 +358,14 @@ module _ (parameter : Parameter) (item : Item) (is : IsItem parameter item) wher
 
 -- The parser's loop over the parameters
 
--- what is kept so far, and what the rest adds
+-- the pairs are those kept of some items, and these items with those of the rest are the items of the whole text
 pub record KeepsOn (whole rest : List ℕ) (pairs : List Pair) : Type 0 where
   pub items : List Item
   pub goes_on : (more : List Item) → Items rest more → Items whole (items ++ more)
   pub kept_is : pairs ≡ kept_pairs items
   pub begins : BeginsParameters rest
 
+-- if the text begins with a parameter, and the pairs get what its item adds, `KeepsOn` is true of the rest
 pub keeps_more : (whole rest s rest' : List ℕ) (pairs pairs' : List Pair) (item : Item) → KeepsOn whole rest pairs
     → rest ≡ 59 ∷ s → HasParameterBefore s item rest' → pairs' ≡ pairs ++ added_pairs pairs item
     → KeepsOn whole rest' pairs'
@@ -344,6 +377,7 @@ keeps_more whole rest s rest' pairs pairs' item k e p a = record {
   begins = p.begins;
 }
 
+-- if the text is empty, the pairs are those that are kept of the items of the whole text
 pub keeps_end : (whole rest : List ℕ) (pairs : List Pair) → KeepsOn whole rest pairs → rest ≡ []
     → (items : List Item) × Items whole items × (pairs ≡ kept_pairs items)
 keeps_end whole rest pairs k e = (k.items, subst (Items whole) (append-nil k.items) (k.goes_on [] e), k.kept_is)
@@ -352,6 +386,7 @@ keeps_end whole rest pairs k e = (k.items, subst (Items whole) (append-nil k.ite
 
 -- The first pairs and the others
 
+-- if all names are lower-case, so are those of the first k pairs
 pub lower_first : {A B : Type 0} (pairs : List (String A × String B)) (k : ℕ)
     → HasLowercaseNames (map (λ p. pair_of p) pairs) → HasLowercaseNames (map (λ p. pair_of p) (take k pairs))
 lower_first pairs k h =
@@ -366,17 +401,21 @@ first_or_later : (n : List ℕ) (pairs : List Pair)
 first_or_later n pairs = ap (has_name n) (sym (take-append-drop LOOKED_THROUGH pairs))
     ∙ has_append n (first_of pairs) (drop LOOKED_THROUGH pairs)
 
+-- if one of the first pairs has a name, one of all pairs has it
 pub named_first : (n : List ℕ) (pairs : List Pair) → has_name n (first_of pairs) ≡ true → has_name n pairs ≡ true
 named_first n pairs h = first_or_later n pairs
     ∙ or_left (has_name n (first_of pairs)) (has_name n (drop LOOKED_THROUGH pairs)) h
 
+-- if none of the first pairs has a name, one of all pairs has it exactly if one of the later pairs has it
 pub named_later : (n : List ℕ) (pairs : List Pair) → has_name n (first_of pairs) ≡ false
     → has_name n pairs ≡ has_name n (drop LOOKED_THROUGH pairs)
 named_later n pairs h = first_or_later n pairs ∙ ap (λ b. b || has_name n (drop LOOKED_THROUGH pairs)) h
 
+-- if one of the pairs has the name of p, p is not added
 pub unless_known : (pairs : List Pair) (p : Pair) → has_name p.0 pairs ≡ true → unless_named pairs (p ∷ []) ≡ []
 unless_known pairs p h = cond-true (has_name p.0 pairs) [] (p ∷ []) h
 
+-- if none of the pairs has the name of p, p is added
 pub unless_new : (pairs : List Pair) (p : Pair) → has_name p.0 pairs ≡ false → unless_named pairs (p ∷ []) ≡ p ∷ []
 unless_new pairs p h = cond-false (has_name p.0 pairs) [] (p ∷ []) h
 
@@ -388,18 +427,18 @@ pub lowercase_bytes : {A : Type 0} (name : String A) → is_lowercase_name (code
 lowercase_bytes name h = name_bytes (string_bytes name) (IsUtf8-string_bytes name)
     (lowercase_token (code_points name) h)
 
--- if there are no pairs after the first ones
+-- if there are no more than `LOOKED_THROUGH` pairs, none of the later pairs has a name
 pub few_names : (n : List ℕ) (pairs : List Pair) → length pairs ≤ LOOKED_THROUGH
     → has_name n (drop LOOKED_THROUGH pairs) ≡ false
 few_names n pairs l = ap (has_name n) (drop_of_length-le pairs l)
 
--- one of the first pairs more
+-- if a new pair is one of the first pairs, the set still has the names of the later pairs
 pub first_names : {A : Type 0} (later : BTreeSet (String A)) (pairs : List Pair) (p : Pair)
     → length pairs < LOOKED_THROUGH → HasLaterNames later pairs → HasLaterNames later (pairs ++ (p ∷ []))
 first_names later pairs p l h n = h n ∙ few_names n pairs (omega arith)
     ∙ sym (few_names n (pairs ++ (p ∷ [])) (simp length-append (omega arith)))
 
--- if none of the first pairs has the name, the set is searched
+-- if none of the first pairs has the name of p, the set has it exactly if one of all pairs has it
 pub set_knows : {A : Type 0} (later : BTreeSet (String A)) (pairs : List Pair) (p : Pair) (name : String A) (b : Bool)
     → HasLaterNames later pairs → string_bytes name ≡ p.0 → has_name p.0 (first_of pairs) ≡ false
     → b ≡ not (contains string_cmp later name) → b ≡ not (has_name p.0 pairs)
@@ -413,7 +452,7 @@ or_cond true false = refl
 or_cond false true = refl
 or_cond false false = refl
 
--- one more pair after the first ones
+-- if a new pair comes after the first pairs, and its name is put into the set, the set has the names of the later pairs
 pub later_names : {A : Type 0} (later later' : BTreeSet (String A)) (pairs : List Pair) (p : Pair) (name : String A)
     → LOOKED_THROUGH ≤ length pairs → HasLaterNames later pairs → string_bytes name ≡ p.0
     → UpdatesBy string_cmp (λ k. slice_cmp nat_cmp (string_bytes name) (string_bytes k)) later later' true
@@ -426,7 +465,7 @@ later_names later later' pairs p name l h e u n =
     ∙ sym (has_pushed n (drop LOOKED_THROUGH pairs) p)
     ∙ ap (has_name n) (sym (drop-append-le LOOKED_THROUGH pairs (p ∷ []) l))
 
--- one more pair
+-- if a pair with a lower-case name is pushed, and the set has the names of the later pairs, the pairs stay indexed
 pub indexed_more : (kept kept' : KeptParameters) (p : Pair) → IsIndexed kept → is_lowercase_name p.0 ≡ true
     → pairs_of kept' ≡ pairs_of kept ++ (p ∷ []) → HasLaterNames kept'.later_names (pairs_of kept ++ (p ∷ []))
     → IsIndexed kept'
@@ -508,6 +547,7 @@ first_distinct e (q ∷ ps) =
 
 -- Each record of a text is well-formed
 
+-- each record that a text parses to is well-formed
 pub parses_wellformed : (s : List ℕ) (m : Record) → Parses s m → IsWellformed m
 parses_wellformed s m h = record {
   type_ = ap is_lowercase_name h.record_is.type_is ∙ lowercase_name h.type_ h.head.is_type;
@@ -523,9 +563,11 @@ parses_wellformed s m h = record {
 
 -- A text with a head has a record
 
+-- a text that has a head parses to the record of the parts of that head
 pub parses_parts : (s a b c : List ℕ) (m : Record) → IsHead s a b c → IsRecordOfParts a b c m → Parses s m
 parses_parts s a b c m h p = record { type_ = a; subtype = b; parameters = c; head = h; record_is = p }
 
+-- a text that has a head has a record
 pub has_record : (s a b c : List ℕ) → IsHead s a b c → HasNoRecord s → ⊥
 has_record s a b c h n =
     let i = some_items c h.begins in
@@ -539,5 +581,6 @@ has_record s a b c h n =
           record { items = i.0; items_are = i.1; type_is = refl; subtype_is = refl; parameters_are = refl };
     })
 
+-- a text that has no head has no record
 pub no_record : (s : List ℕ) → HasNoHead s → HasNoRecord s
 no_record s n m h = n h.type_ h.subtype h.parameters h.head

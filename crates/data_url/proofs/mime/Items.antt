@@ -19,10 +19,11 @@ use Rattle.std.specs.List.{list_all}
 
 -- Each text that is empty or begins with ';' has one list of items.
 
--- no semicolon; no end of a name
+-- the code point does not end a value
 abbrev pub in_value : ℕ → Bool
 in_value c = not (is_semicolon c)
 
+-- the code point does not end a name
 abbrev pub in_name : ℕ → Bool
 in_name c = not (ends_name c)
 
@@ -31,10 +32,13 @@ pub record Reading : Type 0 where
   pub value : Option (List ℕ)
   pub rest : List ℕ
 
+-- the value of a quoted string, and the text from the next ';' after its closing quote on
 abbrev pub quoted_reading : List ℕ → Option (List ℕ) → Reading
 quoted_reading value None = record { value = Some value; rest = [] }
 quoted_reading value (Some w) = record { value = Some value; rest = after_front in_value w }
 
+-- the text before the first ';', without HTTP whitespace at its end, if that is not empty, and the text from that ';'
+-- on
 abbrev pub plain_reading : List ℕ → Reading
 plain_reading s = record {
   value = unless_empty (without_back is_http_whitespace (front_of in_value s));
@@ -55,6 +59,7 @@ reading (c ∷ t) = cond (c == 61) (reading_after t) (record { value = None; res
 
 -- Reading a text that gives a value returns that value
 
+-- a text that is empty or begins with ';' does not begin with a code point of a value
 pub begins_no_value : (r : List ℕ) → BeginsParameters r → DoesNotBegin in_value r
 begins_no_value [] h = tt
 begins_no_value (c ∷ r) h = ap in_value h
@@ -120,6 +125,7 @@ pub record IsReading (x : List ℕ) (r : Reading) : Type 0 where
   pub gives : GivesValue tail r.rest r.value
   pub begins : BeginsParameters r.rest
 
+-- a text that does not begin with a code point of a value is empty or begins with ';'
 pub begins_from : (s : List ℕ) → DoesNotBegin in_value s → BeginsParameters s
 begins_from [] h = tt
 begins_from (c ∷ s) h = eqb-true c 59 (not-false (c == 59) h)
@@ -173,10 +179,12 @@ equals_reading c t e = rw e (is_reading_after t)
 no_reading : (c : ℕ) (t : List ℕ) → c ≡ 59 → IsReading (c ∷ t) (record { value = None; rest = c ∷ t })
 no_reading c t e = record { tail = []; joined = refl; gives = nothing; begins = e }
 
+-- a code point that ends a name, and is not '=', is ';'
 pub semicolon_from : (c : ℕ) → in_name c ≡ false → (c == 61) ≡ false → c ≡ 59
 semicolon_from c h e = ⊎_elim (λ l. eqb-true c 59 l) (λ r. absurd (both_ways (c == 61) e r))
     (or_cases (c == 59) (c == 61) (not-false (ends_name c) h))
 
+-- reading a text that is empty or begins with ';' or '=' returns a value that it gives, and the rest
 pub is_reading : (x : List ℕ) → BeginsTail x → IsReading x (reading x)
 is_reading [] h = record { tail = []; joined = refl; gives = nothing; begins = tt }
 is_reading (c ∷ t) h = cond_both (c == 61) (reading_after t) (record { value = None; rest = c ∷ t })
@@ -184,18 +192,23 @@ is_reading (c ∷ t) h = cond_both (c == 61) (reading_after t) (record { value =
 
 -- One parameter, from after its ';'
 
+-- the name of a parameter, from the text after its ';'
 abbrev pub name_in : List ℕ → List ℕ
 name_in s = front_of in_name (after_front is_http_whitespace s)
 
+-- the text after that name
 abbrev pub after_name : List ℕ → List ℕ
 after_name s = after_front in_name (after_front is_http_whitespace s)
 
+-- the item of a parameter, from the text after its ';'
 abbrev pub item_in : List ℕ → Item
 item_in s = (map to_ascii_lowercase (name_in s), (reading (after_name s)).value)
 
+-- the text after that parameter
 abbrev pub rest_in : List ℕ → List ℕ
 rest_in s = (reading (after_name s)).rest
 
+-- if a text does not begin with a code point that passes p, its longest prefix that passes q does not either
 pub not_begins_front : (p q : ℕ → Bool) (s : List ℕ) → DoesNotBegin p s → DoesNotBegin p (front_of q s)
 not_begins_front p q [] h = tt
 not_begins_front p q (c ∷ s) h = cond_both (q c) (c ∷ front_of q s) [] (λ v. DoesNotBegin p v) (λ e. h) (λ e. tt)
@@ -227,16 +240,19 @@ parameter_from s r i = record {
   begins = i.begins;
 }
 
+-- the text after a parameter is not longer than the text after its ';'
 pub rest_shorter : (s rest : List ℕ) (item : Item) → HasParameterBefore s item rest → length rest ≤ length s
 rest_shorter s rest item h =
     omega (arith, ap length h.joined, length-append h.text rest, ap length h.is_parameter.joined)
 
+-- the text after a ';' begins with a parameter, whose item and rest are those read from the text
 pub has_parameter : (s : List ℕ) → HasParameterBefore s (item_in s) (rest_in s)
 has_parameter s = parameter_from s (reading (after_name s))
     (is_reading (after_name s) (after_begins in_name (after_front is_http_whitespace s)))
 
 -- Reading the text of a parameter returns its item
 
+-- if ';' does not pass, a text that is empty or begins with ';' does not begin with a code point that passes
 pub ends_of_rest : (p : ℕ → Bool) → p 59 ≡ false → (rest : List ℕ) → BeginsParameters rest → DoesNotBegin p rest
 ends_of_rest p e [] b = tt
 ends_of_rest p e (c ∷ r) b = ap p b ∙ e
@@ -249,6 +265,7 @@ ends_of_tail p e f _ _ _ (plain text value w d t) b = f
 ends_of_tail p e f _ _ _ (quoted text junk h w) b = f
 ends_of_tail p e f _ _ _ (unclosed text h) b = f
 
+-- if neither a nor b begins with a code point that passes, a ++ b does not either
 pub not_begins_append : (p : ℕ → Bool) (a b : List ℕ) → DoesNotBegin p a → DoesNotBegin p b → DoesNotBegin p (a ++ b)
 not_begins_append p [] b h e = e
 not_begins_append p (c ∷ a) b h e = h
@@ -268,9 +285,11 @@ reading_of_parts gap name tail rest value g d n v b =
           ∙ ap reading (after_is in_name name (tail ++ rest) n m) ∙ reading_is tail rest value v b,
     )
 
+-- appending is associative, for four texts
 pub append_four : (gap name tail rest : List ℕ) → (gap ++ (name ++ tail)) ++ rest ≡ gap ++ (name ++ (tail ++ rest))
 append_four gap name tail rest = append_assoc gap (name ++ tail) rest ∙ ap (λ x. gap ++ x) (append_assoc name tail rest)
 
+-- if a ∷ s and b ∷ t are equal, so are s and t
 pub tail_equal : (a b : ℕ) (s t : List ℕ) → a ∷ s ≡ b ∷ t → s ≡ t
 tail_equal a b s t e = cc
 
@@ -283,6 +302,7 @@ pair_equal : (a : List ℕ) (b : Option (List ℕ)) (c : List ℕ) (d : Option (
     → ◌≡◌ {A = Item} (a, b) (c, d)
 pair_equal a b c d p q = rw (p, q) refl
 
+-- the item that is read from the text of a parameter is that of the parameter
 pub item_is : (s text rest : List ℕ) (item : Item) → IsParameter text rest item → 59 ∷ s ≡ text ++ rest
     → BeginsParameters rest → item_in s ≡ item
 item_is s text rest item h e b =
@@ -290,6 +310,7 @@ item_is s text rest item h e b =
     ap item_in (parts_of s text rest item h e) ∙ pair_equal _ _ _ _ (ap (map to_ascii_lowercase) p.0 ∙ sym h.name_is)
     (ap (λ (r : Reading). r.value) p.1)
 
+-- the rest that is read from the text of a parameter is the text after the parameter
 pub rest_is : (s text rest : List ℕ) (item : Item) → IsParameter text rest item → 59 ∷ s ≡ text ++ rest
     → BeginsParameters rest → rest_in s ≡ rest
 rest_is s text rest item h e b =
@@ -298,6 +319,7 @@ rest_is s text rest item h e b =
 
 -- One list, and no other
 
+-- a text with a list of items is empty or begins with ';'
 pub begins_of_items : (r : List ℕ) (items : List Item) → Items r items → BeginsParameters r
 begins_of_items r [] h = subst BeginsParameters (sym h) tt
 begins_of_items r (item ∷ items) h = subst BeginsParameters (sym (h.2 ∙ ap (λ x. x ++ h.1) h.3.joined)) refl
@@ -309,6 +331,7 @@ pub record Begins (r : List ℕ) (item : Item) (rest : List ℕ) : Type 0 where
   pub item_is : item_in s ≡ item
   pub rest_is : rest_in s ≡ rest
 
+-- if the first item of a text is known, the text is ';' and then a text from which the item and its rest are read
 pub begins : (r : List ℕ) (item : Item) (items : List Item) (h : Items r (item ∷ items)) → Begins r item h.1
 begins r item items h =
     let s = h.3.gap ++ (h.3.name ++ (h.3.tail ++ h.1)) in
@@ -332,6 +355,7 @@ begins_same r item item' rest rest' h k =
 begins_not_empty : (r : List ℕ) (item : Item) (rest : List ℕ) → Begins r item rest → r ≡ [] → ⊥
 begins_not_empty r item rest h e = let k = sym e ∙ h.is in cc
 
+-- two lists of items of the same text are equal
 pub only_items : (r : List ℕ) (a b : List Item) → Items r a → Items r b → a ≡ b
 only_items r [] [] h k = refl
 only_items r [] (item ∷ b) h k = absurd (begins_not_empty r item k.1 (begins r item b k) h)
@@ -341,7 +365,7 @@ only_items r (item ∷ a) (item' ∷ b) h k =
     let n = only_items k.1 a b (subst (λ x. Items x a) e.1 h.4) k.4 in
     ap (λ x. x ∷ a) e.0 ∙ ap (λ x. item' ∷ x) n
 
--- one more parameter before the items of the rest
+-- if items are those of the rest after a parameter, then its item and these items are those of ';' and the text
 pub items_more : (s : List ℕ) (items : List Item) → Items (rest_in s) items → Items (59 ∷ s) (item_in s ∷ items)
 items_more s items h = let p = has_parameter s in (p.text, rest_in s, p.joined, p.is_parameter, h)
 
@@ -355,26 +379,32 @@ items_below (suc n) (c ∷ s) l b =
     let i = items_below n (rest_in s) below p.begins in
     subst (λ x. (items : List Item) × Items (x ∷ s) items) (sym b) (item_in s ∷ i.0, items_more s i.0 i.1)
 
+-- a text that is empty or begins with ';' has a list of items
 pub some_items : (r : List ℕ) → BeginsParameters r → (items : List Item) × Items r items
 some_items r b = items_below (suc (length r)) r (omega arith) b
 
+-- a text that is empty or begins with ';' has exactly one list of items
 pub has_one_item_list : (r : List ℕ) → BeginsParameters r → HasOneItemList r
 has_one_item_list r b = record { some = some_items r b; only = only_items r }
 
 -- A text has at most one record.
 
+-- if `list_all p t` is true, each code point of t passes
 pub every_from_all : (p : ℕ → Bool) (t : List ℕ) → list_all p t ≡ true → Every p t
 every_from_all p [] h = tt
 every_from_all p (c ∷ t) h = let e = and_parts (p c) (list_all p t) h in (e.0, every_from_all p t e.1)
 
+-- if each code point of t passes, `list_all p t` is true
 pub all_from_every : (p : ℕ → Bool) (t : List ℕ) → Every p t → list_all p t ≡ true
 all_from_every p [] h = refl
 all_from_every p (c ∷ t) h = and_from (p c) (list_all p t) h.0 (all_from_every p t h.1)
 
+-- each code point of a token text is a token code point
 pub every_token : (t : List ℕ) → is_token_text t ≡ true → Every is_token t
 every_token [] h = tt
 every_token (c ∷ t) h = every_from_all is_token (c ∷ t) h
 
+-- if each code point of a and of b passes, so does each of a ++ b
 pub every_append : (p : ℕ → Bool) (a b : List ℕ) → Every p a → Every p b → Every p (a ++ b)
 every_append p [] b h e = e
 every_append p (c ∷ a) b h e = (h.0, every_append p a b h.1 e)
@@ -390,12 +420,14 @@ trimmed_joined p front [] back f b d e = ap (without_back p) (ap (after_front p)
 trimmed_joined p front (c ∷ t) back f b d e = ap (without_back p) (after_is p front (c ∷ (t ++ back)) f d)
     ∙ without_back_joined p (c ∷ t) back b e
 
+-- if t is s without what passes at both ends, t is `trimmed_of p s`
 pub trimmed_is : (p : ℕ → Bool) (s t : List ℕ) → IsTrimmed p s t → t ≡ trimmed_of p s
 trimmed_is p s t h = sym (ap (trimmed_of p) h.joined
     ∙ trimmed_joined p h.front t h.back h.at_front h.at_back h.begins h.ends)
 
 -- The parts of a head
 
+-- the type of a trimmed text
 abbrev pub type_in : List ℕ → List ℕ
 type_in t = front_of is_token t
 
@@ -404,12 +436,15 @@ abbrev pub after_first : List ℕ → List ℕ
 after_first [] = []
 after_first (c ∷ t) = t
 
+-- the text after the slash that follows the type
 abbrev pub after_slash : List ℕ → List ℕ
 after_slash t = after_first (after_front is_token t)
 
+-- the subtype of a trimmed text
 abbrev pub subtype_in : List ℕ → List ℕ
 subtype_in t = front_of is_token (after_slash t)
 
+-- the text of the parameters of a trimmed text
 abbrev pub parameters_in : List ℕ → List ℕ
 parameters_in t = after_front is_http_whitespace (after_front is_token (after_slash t))
 
@@ -421,20 +456,23 @@ space_no_token c h = ⊎_elim (λ e. ap is_token (eqb-true c 9 e)) (λ h. ⊎_el
     (or_cases (c == 13) (c == 32) h)) (or_cases (c == 10) ((c == 13) || (c == 32)) h))
     (or_cases (c == 9) ((c == 10) || ((c == 13) || (c == 32))) h)
 
+-- ';' is not a token code point
 pub semicolon_no_token : is_token 59 ≡ false
 unfolding is_token
 semicolon_no_token = refl
 
+-- '/' is not a token code point
 pub slash_no_token : is_token 47 ≡ false
 unfolding is_token
 slash_no_token = refl
 
+-- HTTP whitespace and then a text that is empty or begins with ';' do not begin with a token code point
 pub gap_no_token : (gap r : List ℕ) → Every is_http_whitespace gap → BeginsParameters r
     → DoesNotBegin is_token (gap ++ r)
 gap_no_token [] r g b = ends_of_rest is_token semicolon_no_token r b
 gap_no_token (c ∷ gap) r g b = space_no_token c g.0
 
--- the parts of a text that is such a concatenation
+-- the parts that are read from t
 pub record HasParts (t type_ subtype parameters : List ℕ) : Type 0 where
   pub type_is : type_in t ≡ type_
   pub subtype_is : subtype_in t ≡ subtype
@@ -459,6 +497,7 @@ head_parts s type_ subtype r h = subst (λ x. HasParts x type_ subtype r) (sym h
     (parts_joined type_ subtype h.gap r (every_token type_ h.is_type) (every_token subtype h.is_subtype) h.in_gap
     h.begins)
 
+-- if a text has a head, its parts are those read from the text without HTTP whitespace at both ends
 pub has_parts : (s type_ subtype r : List ℕ) → IsHead s type_ subtype r
     → HasParts (trimmed_of is_http_whitespace s) type_ subtype r
 has_parts s type_ subtype r h =
@@ -468,9 +507,11 @@ has_parts s type_ subtype r h =
 record_equal : (m n : Record) → m.type_ ≡ n.type_ → m.subtype ≡ n.subtype → m.parameters ≡ n.parameters → m ≡ n
 record_equal m n t s p = λ i. record { type_ = t i; subtype = s i; parameters = p i }
 
+-- lists of items of two equal texts are equal
 pub same_items : (r r' : List ℕ) (a b : List Item) → r ≡ r' → Items r a → Items r' b → a ≡ b
 same_items r r' a b e h k = only_items r' a b (subst (λ x. Items x a) e h) k
 
+-- two records of the same text are equal
 pub has_at_most_one_record : (s : List ℕ) → HasAtMostOneRecord s
 has_at_most_one_record s m n h k =
     let p = has_parts s h.type_ h.subtype h.parameters h.head in

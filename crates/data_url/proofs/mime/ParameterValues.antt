@@ -37,6 +37,7 @@ use Rattle.data_url.specs.declared.mime.values.Value.TheVariants as slices
 
 -- A cut at the first byte that passes, of an ASCII class
 
+-- s is front and after, as texts of code points, cut before the first code point that passes t, or at the end
 pub record IsCut (t : ℕ → Bool) (s front after : List ℕ) : Type 0 where
   pub joined : chars s ≡ chars front ++ chars after
   pub in_front : Without t (chars front)
@@ -60,6 +61,7 @@ module _ (t : ℕ → Bool) (ascii : (c : ℕ) → t c ≡ true → c < 128) whe
       (sym (list_all-append (λ b. not (t b)) (encode_utf8 c) (encode_utf8_all cs)) ∙ h) in
       (char_fails c p.0, chars_fail cs p.1)
 
+  -- if no byte of a UTF-8 text passes, none of its code points does
   pub whole_without : (s bytes : List ℕ) (n : ℕ) → IsUtf8 s → bytes ≡ s → n ≡ prefix_len (λ b. not (t b)) bytes
       → n ≡ length s → Without t (chars s)
   whole_without s bytes n u b e h =
@@ -74,6 +76,7 @@ module _ (t : ℕ → Bool) (ascii : (c : ℕ) → t c ≡ true → c < 128) whe
       (sym (chars_past_char (b ∷ bs) bs b u (ap (λ e. e ++ bs) (sym (encode_ascii b (ascii b (fails b h))))))) h
 
   module _ (s : List ℕ) (u : IsUtf8 s) where
+    -- a UTF-8 text can be cut before its first byte that passes
     pub cut_boundary : IsCharBoundary s (prefix_len (λ b. not (t b)) s)
     cut_boundary = elim (cases_lt (prefix_len (λ b. not (t b)) s) (length s)) [
       | inl l ↦ IsCharBoundary-before_ascii s (prefix_len (λ b. not (t b)) s) l
@@ -82,6 +85,7 @@ module _ (t : ℕ → Bool) (ascii : (c : ℕ) → t c ≡ true → c < 128) whe
       | inr l ↦ (prefix_len-le-length (λ b. not (t b)) s, λ k. absurd (omega (arith, l, k)))
     ]
 
+    -- the bytes before the first byte that passes, and the bytes after them, are a cut of a UTF-8 text
     pub is_cut : IsCut t s (take (prefix_len (λ b. not (t b)) s) s) (drop (prefix_len (λ b. not (t b)) s) s)
     is_cut =
         let p : ℕ → Bool = λ b. not (t b) in
@@ -96,28 +100,34 @@ module _ (t : ℕ → Bool) (ascii : (c : ℕ) → t c ≡ true → c < 128) whe
           text = (front, after);
         }
 
+  -- a UTF-8 text can be cut before its first byte that passes, at index n
   pub boundary_by : (s bytes : List ℕ) (n : ℕ) → IsUtf8 s → n ≡ prefix_len (λ b. not (t b)) bytes → bytes ≡ s
       → IsCharBoundary s n
   boundary_by s bytes n u e b = subst (IsCharBoundary s) (sym (e ∙ ap (prefix_len (λ b. not (t b))) b))
       (cut_boundary s u)
 
+  -- two texts that are cut from a UTF-8 text before its first byte that passes, at index n, are a cut of it
   pub cut_by : (s bytes front after : List ℕ) (n : ℕ) → IsUtf8 s → n ≡ prefix_len (λ b. not (t b)) bytes → bytes ≡ s
       → front ≡ take n s → after ≡ drop n s → IsCut t s front after
   cut_by s bytes front after n u e b f g = let k = e ∙ ap (prefix_len (λ b. not (t b))) b in rw (f, g, k) (is_cut s u)
 
+-- ';' is ASCII
 pub semicolon_below : (c : ℕ) → is_semicolon c ≡ true → c < 128
 semicolon_below c h = let k = eqb-true c 59 h in omega arith
 
+-- ';' and '=' are ASCII
 pub name_end_below : (c : ℕ) → ends_name c ≡ true → c < 128
 name_end_below c h = ⊎_elim (λ e. let k = eqb-true c 59 e in omega arith) (λ e. let k = eqb-true c 61 e in omega arith)
     (or_cases (c == 59) (c == 61) h)
 
+-- '"' and '\' are ASCII
 pub escaped_below : (c : ℕ) → is_escaped c ≡ true → c < 128
 escaped_below c h = ⊎_elim (λ e. let k = eqb-true c 34 e in omega arith) (λ e. let k = eqb-true c 92 e in omega arith)
     (or_cases (c == 34) (c == 92) h)
 
 -- HTTP whitespace removed
 
+-- HTTP whitespace is ASCII
 pub whitespace_below : (c : ℕ) → is_http_whitespace c ≡ true → c < 128
 whitespace_below c h = ⊎_elim (λ e. let k = eqb-true c 9 e in omega arith)
     (λ h. ⊎_elim (λ e. let k = eqb-true c 10 e in omega arith)
@@ -125,6 +135,7 @@ whitespace_below c h = ⊎_elim (λ e. let k = eqb-true c 9 e in omega arith)
     (or_cases (c == 13) (c == 32) h)) (or_cases (c == 10) ((c == 13) || (c == 32)) h))
     (or_cases (c == 9) ((c == 10) || ((c == 13) || (c == 32))) h)
 
+-- the bytes of a UTF-8 text without HTTP whitespace at the front are the text of its code points without it
 pub whitespace_front : (s : List ℕ) → IsUtf8 s
     → IsTrimmedFront is_http_whitespace (chars s) (chars (drop (prefix_len is_http_whitespace s) s))
 whitespace_front s u =
@@ -147,6 +158,7 @@ not_ends p front (c ∷ d ∷ cs) h =
 encodes_last : (init : List ℕ) (c : ℕ) → encode_utf8_all (init ++ (c ∷ [])) ≡ encode_utf8_all init ++ encode_utf8 c
 encodes_last init c = encodes-append init (c ∷ []) ∙ ap (λ x. encode_utf8_all init ++ x) (append-nil (encode_utf8 c))
 
+-- if the item at each index passes, each item passes
 pub every_from : (p : ℕ → Bool) (s : List ℕ) → ((k : ℕ) → k < length s → p (get_or s k 0) ≡ true) → Every p s
 every_from p [] h = tt
 every_from p (b ∷ s) h = (h 0 (omega arith), every_from p s (λ k l. h (suc k) (omega arith)))
@@ -162,6 +174,8 @@ ends_other p below r u h = not_ends p [] (chars r) (λ init c e. false_from_ne_t
     let last : get_or r (length a) 0 ≡ c = ap (λ x. get_or x (length a) 0) whole ∙ get_or-append_seam a c [] 0 in
     false≢true (sym (h (length a) long) ∙ ap p last ∙ t)))
 
+-- if only ASCII bytes pass, the bytes of a UTF-8 text without its longest suffix that passes are the text of its code
+-- points without it
 pub trimmed_end : (p : ℕ → Bool) → ((c : ℕ) → p c ≡ true → c < 128) → (s : List ℕ) → IsUtf8 s
     → IsTrimmedEnd p (chars s) (chars (take (length s - suffix_len p s) s))
 trimmed_end p below s u =
@@ -182,6 +196,7 @@ trimmed_end p below s u =
           ap p (get_or-take k s n 0 (omega arith)) ∙ suffix_stops p s m n refl (omega arith));
     }
 
+-- the first n bytes of a UTF-8 text, without HTTP whitespace at the end, are its code points without it
 pub whitespace_end : (s : List ℕ) (n : ℕ) → IsUtf8 s → n ≡ length s - suffix_len is_http_whitespace s
     → IsTrimmedEnd is_http_whitespace (chars s) (chars (take n s))
 whitespace_end s n u e = subst (λ i. IsTrimmedEnd is_http_whitespace (chars s) (chars (take i s))) (sym e)
@@ -236,9 +251,11 @@ quotable_bytes [] = refl
 quotable_bytes (c ∷ cs) = list_all-append is_quotable_byte (encode c) (encode_utf8_all cs)
     ∙ ap₂ (λ x y. x && y) (quotable_encoded c) (quotable_bytes cs)
 
+-- each byte of a UTF-8 text passes `is_quotable_byte` exactly if each of its code points passes `is_quotable`
 pub quotable_chars : (bs : List ℕ) → IsUtf8 bs → list_all is_quotable_byte bs ≡ list_all is_quotable (chars bs)
 quotable_chars bs u = ap (list_all is_quotable_byte) (sym (encodes-chars bs u)) ∙ quotable_bytes (chars bs)
 
+-- the longest prefix of quotable bytes is the whole of a UTF-8 text exactly if each of its code points is quotable
 pub quotable_by_front : (bs text : List ℕ) (n : ℕ) → IsUtf8 text → n ≡ prefix_len is_quotable_byte bs → bs ≡ text
     → (n == length text) ≡ list_all is_quotable (chars text)
 quotable_by_front bs text n u e b = ap (λ k. k == length text) (e ∙ ap (prefix_len is_quotable_byte) b)
@@ -246,9 +263,11 @@ quotable_by_front bs text n u e b = ap (λ k. k == length text) (e ∙ ap (prefi
 
 -- The value of a quoted string, written code point by code point
 
+-- if c is '\', and e' is the opposite of e, then e' says whether c is a '\' that escapes the next code point
 pub then_escaped : (c : ℕ) (e e' : Bool) → c ≡ 92 → e' ≡ not e → e' ≡ ((c == 92) && not e)
 then_escaped c e e' h k = k ∙ ap (λ b. b && not e) (sym (eq-eqb c 92 h))
 
+-- if c is not '\', and e' is the test for '\', then e' says whether c is a '\' that escapes the next code point
 pub else_escaped : (c : ℕ) (e e' : Bool) → (c ≡ 92 → ⊥) → e' ≡ (c == 92) → e' ≡ ((c == 92) && not e)
 else_escaped c e e' h k = k ∙ ne_eqb c 92 h ∙ ap (λ b. b && not e) (sym (ne_eqb c 92 h))
 
@@ -261,21 +280,25 @@ scalar_first : (cs r : List ℕ) (c : ℕ) → all_scalars cs ≡ true → encod
 scalar_first cs r c s e = let k = cons_from_encodes cs r c e in
     (and_parts (scalar c) (all_scalars k.0) (ap all_scalars (sym k.1) ∙ s)).0
 
--- the first code point of a text is one
+-- the first code point of a UTF-8 text is a Unicode scalar value
 pub scalar_from : (r r' : List ℕ) (c : ℕ) → IsUtf8 r → r ≡ encode c ++ r' → IsScalar c
 scalar_from r r' c u e = scalar_first u.0 r' c u.1.0 (u.1.1 ∙ e)
 
+-- the encoding of a Unicode scalar value has this value as its only code point
 pub chars_encode : (c : ℕ) → IsScalar c → chars (encode c) ≡ c ∷ []
 chars_encode c s = chars_past_char (encode c) [] c (IsUtf8-encode c s) (sym (append-nil (encode c)))
     ∙ ap (λ t. c ∷ t) chars-nil
 
+-- the encoding of a Unicode scalar value, after a UTF-8 text, adds its code point to those of the text
 pub chars_push : (v : List ℕ) (c : ℕ) → IsUtf8 v → IsScalar c → chars (v ++ encode c) ≡ chars v ++ (c ∷ [])
 chars_push v c u s = chars-append v (encode c) u ∙ ap (λ t. chars v ++ t) (chars_encode c s)
 
+-- if nothing is written and the whole text q is left, what is written and what is left are the unescaped text of q
 pub unescape_starts : (v r q : List ℕ) → v ≡ [] → r ≡ q → chars v ++ unescaped false (chars r) ≡ unescaped false
     (chars q)
 unescape_starts v r q e f = rw (e, f, chars-nil) refl
 
+-- if the first code point of r is not a '\' that escapes, moving it to what is written preserves the whole
 pub unescape_pushes : (v v' r r' whole : List ℕ) (c : ℕ) (e e' : Bool) → IsUtf8 v → IsUtf8 r → r ≡ encode c ++ r'
     → v' ≡ v ++ encode c → e' ≡ ((c == 92) && not e) → e' ≡ false → chars v ++ unescaped e (chars r) ≡ whole
     → chars v' ++ unescaped e' (chars r') ≡ whole
@@ -286,6 +309,7 @@ unescape_pushes v v' r r' whole c e e' u w s g k f h =
     ∙ cond-false ((c == 92) && not e) (unescaped true (chars r')) (c ∷ unescaped false (chars r')) (sym k ∙ f)))
     ∙ h
 
+-- if the first code point of r is a '\' that escapes, leaving it out preserves the whole
 pub unescape_skips : (v r r' whole : List ℕ) (c : ℕ) (e e' : Bool) → IsUtf8 r → r ≡ encode c ++ r'
     → e' ≡ ((c == 92) && not e) → e' ≡ true → chars v ++ unescaped e (chars r) ≡ whole
     → chars v ++ unescaped e' (chars r') ≡ whole
@@ -295,12 +319,14 @@ unescape_skips v r r' whole c e e' w s k f h =
     ∙ cond-true ((c == 92) && not e) (unescaped true (chars r')) (c ∷ unescaped false (chars r')) (sym k ∙ f)))
     ∙ h
 
+-- if nothing is left after a '\' that would escape the next code point, writing this '\' gives the value
 pub unescape_ends : (v v' r q value : List ℕ) (e : Bool) → IsUtf8 v → length r ≡ 0 → e ≡ true → v' ≡ v ++ encode 92
     → chars v ++ unescaped e (chars r) ≡ unescaped false (chars q) → QuotedOpen (chars q) value → chars v' ≡ value
 unescape_ends v v' r q value e u l f g h k =
     ap chars g ∙ chars_push v 92 u refl ∙ ap (λ b. chars v ++ unescaped b []) (sym f)
     ∙ ap (λ t. chars v ++ unescaped e t) (sym (no_chars r l)) ∙ h ∙ unescaped_is (chars q) value k
 
+-- if nothing is left, and no '\' that escapes comes directly before, what is written is the value
 pub unescape_ends_plain : (v r q value : List ℕ) (e : Bool) → length r ≡ 0 → e ≡ false
     → chars v ++ unescaped e (chars r) ≡ unescaped false (chars q) → QuotedOpen (chars q) value → chars v ≡ value
 unescape_ends_plain v r q value e l f h k =
@@ -326,6 +352,7 @@ units_quotable (Escaped c ∷ units) = escaped_quotable c (list_all is_quotable 
 quoted_same : (q v : List ℕ) → Quoted q v → list_all is_quotable q ≡ list_all is_quotable v
 quoted_same q v h = rw (h.text_is, h.value_is) (units_quotable h.units)
 
+-- a quoted string has only quoted-string code points exactly if its value has
 pub quoted_quotable : (q v : List ℕ) → QuotedOpen q v → list_all is_quotable q ≡ list_all is_quotable v
 quoted_quotable q v (inl h) = quoted_same q v h
 quoted_quotable q v (inr (q', v', t, e, h)) =
@@ -335,12 +362,15 @@ quoted_quotable q v (inr (q', v', t, e, h)) =
 
 -- The text of a value
 
+-- a value of quoted-string code points is its own quotable value
 pub quotable_some : (v : List ℕ) → list_all is_quotable v ≡ true → quotable_value (Some v) ≡ Some v
 quotable_some v h = cond-true (list_all is_quotable v) (Some v) None h
 
+-- a value with another code point has no quotable value
 pub quotable_none : (v : List ℕ) → list_all is_quotable v ≡ false → quotable_value (Some v) ≡ None
 quotable_none v h = cond-false (list_all is_quotable v) (Some v) None h
 
+-- if the text in quotes has only quoted-string code points, its value is the quotable value
 pub quoted_text : (self : Value) (text : Bor (List ℕ)) (value : Option (List ℕ)) (code : List ℕ)
     → self ≡ slices.Quoted text → IsValue self value → true ≡ list_all is_quotable (chars text.now)
     → ((v : List ℕ) → QuotedOpen (chars text.now) v → code ≡ v)
@@ -350,12 +380,14 @@ quoted_text self text value code e i q h =
     ap Some (h k.0 k.2) ∙ sym (ap quotable_value k.1 ∙ quotable_some k.0 (sym (quoted_quotable (chars text.now) k.0 k.2)
     ∙ sym q))
 
+-- if the text in quotes has another code point, there is no quotable value
 pub no_quoted_text : (self : Value) (text : Bor (List ℕ)) (value : Option (List ℕ)) → self ≡ slices.Quoted text
     → IsValue self value → list_all is_quotable (chars text.now) ≡ false → None ≡ quotable_value value
 no_quoted_text self text value e i q =
     let k = subst (λ s. IsValue s value) e i in
     sym (ap quotable_value k.1 ∙ quotable_none k.0 (sym (quoted_quotable (chars text.now) k.0 k.2) ∙ q))
 
+-- if the value is missing, there is no quotable value
 pub missing_text : (self : Value) (value : Option (List ℕ)) → self ≡ slices.Missing → IsValue self value
     → None ≡ quotable_value value
 missing_text self value e i = let k = subst (λ s. IsValue s value) e i in sym k
@@ -367,9 +399,11 @@ stays_unescaped [] h = refl
 stays_unescaped (c ∷ cs) h = unescaped_one c cs (or_parts (c == 34) (c == 92) (not-true (is_escaped c) h.0)).1
     ∙ ap (λ t. c ∷ t) (stays_unescaped cs h.1)
 
+-- a quoted string without '"' and '\' is its own value
 pub copied : (v q value : List ℕ) → Without is_escaped (chars q) → v ≡ q → QuotedOpen (chars q) value → chars v ≡ value
 copied v q value h g k = ap chars g ∙ sym (stays_unescaped (chars q) h) ∙ unescaped_is (chars q) value k
 
+-- the text of a value without quotes is the quotable value
 pub plain_text : (self : Value) (text : Bor (List ℕ)) (value : Option (List ℕ)) (code : List ℕ)
     → self ≡ slices.Plain text → IsValue self value → code ≡ chars text.now → Some code ≡ quotable_value value
 plain_text self text value code e i h =
@@ -381,7 +415,7 @@ plain_text self text value code e i h =
 no_semicolon_byte : (c : ℕ) → is_unquoted_byte c ≡ true → not (is_semicolon c) ≡ true
 no_semicolon_byte c h = (and_parts (is_quotable_byte c) (not (is_semicolon c)) h).1
 
--- the two parts of a text, in its bytes
+-- the longest prefix without ';' is the longest one of unquoted bytes, and then the longest one without ';' of the rest
 pub front_len : (bytes after : List ℕ) (quotable more : ℕ) → quotable ≡ prefix_len is_unquoted_byte bytes
     → after ≡ drop quotable bytes → more ≡ prefix_len (λ b. not (is_semicolon b)) after
     → quotable + more ≡ prefix_len (λ b. not (is_semicolon b)) bytes
@@ -392,7 +426,7 @@ all_quotable [] h = refl
 all_quotable (b ∷ bs) h = and_from (is_quotable_byte b) (list_all is_quotable_byte bs)
     (and_parts (is_quotable_byte b) (not (is_semicolon b)) h.0).0 (all_quotable bs h.1)
 
--- a prefix that is not longer than the first part has only quoted-string code points
+-- a prefix that is not longer than the longest prefix of unquoted bytes has only quoted-string code points
 pub short_quotable : (text t more : List ℕ) (q : ℕ) → text ≡ t ++ more → IsUtf8 t → q ≡ prefix_len is_unquoted_byte text
     → length t ≤ q → list_all is_quotable (chars t) ≡ true
 short_quotable text t more q e u h few =
@@ -401,7 +435,7 @@ short_quotable text t more q e u h few =
     ap is_unquoted_byte (sym (get_or_append_left t more 0 k l) ∙ ap (λ x. get_or x k 0) (sym e))
     ∙ prefix_len_passes is_unquoted_byte text k 0 (subst (λ n. k < n) h (omega (arith, few)))))
 
--- a longer prefix without ';' has another code point
+-- a prefix without ';' that is longer than the longest prefix of unquoted bytes has another code point
 pub long_other : (text t more : List ℕ) (q n : ℕ) → text ≡ t ++ more → IsUtf8 t → q ≡ prefix_len is_unquoted_byte text
     → n ≡ prefix_len (λ b. not (is_semicolon b)) text → length t ≤ n → q < length t
     → list_all is_quotable (chars t) ≡ false

@@ -18,10 +18,12 @@ use Rattle.std.specs.Char.{to_ascii_lowercase}
 
 -- The head of a MIME type: what the parser cuts is the head, and there is no other.
 
+-- if a ++ b does not begin with a code point that passes, a does not either
 pub not_begins_left : (p : ℕ → Bool) (a b : List ℕ) → DoesNotBegin p (a ++ b) → DoesNotBegin p a
 not_begins_left p [] b h = tt
 not_begins_left p (c ∷ a) b h = h
 
+-- a text that is trimmed at the front, and then at the end, is trimmed at both ends
 pub trimmed_both : (p : ℕ → Bool) (s a t : List ℕ) → IsTrimmedFront p s a → IsTrimmedEnd p a t → IsTrimmed p s t
 trimmed_both p s a t f e = record {
   front = f.front;
@@ -42,7 +44,7 @@ same_span p a b c d e f g h k = (
       ∙ ap (after_front p) e ∙ after_is p c d h k,
 )
 
--- What the parser cut: the type with the text after it, the subtype with the text after it, and the parameters
+-- s without HTTP whitespace at both ends is ty, its longest prefix of token code points, and then x
 pub record Cut (s ty x : List ℕ) : Type 0 where
   pub text : List ℕ
   pub trimmed : IsTrimmed is_http_whitespace s text
@@ -50,6 +52,7 @@ pub record Cut (s ty x : List ℕ) : Type 0 where
   pub tokens : Every is_token ty
   pub begins : DoesNotBegin is_token x
 
+-- y is su, its longest prefix of token code points, and then HTTP whitespace and p, which does not begin with it
 pub record CutAgain (y su p : List ℕ) : Type 0 where
   pub after : List ℕ
   pub joined : y ≡ su ++ after
@@ -57,6 +60,7 @@ pub record CutAgain (y su p : List ℕ) : Type 0 where
   pub begins : DoesNotBegin is_token after
   pub front : IsTrimmedFront is_http_whitespace after p
 
+-- if a text that is cut into ty and x has a head, ty is its type, and x is '/' and then the rest of the head
 pub head_forced : (s ty x a b c : List ℕ) → Cut s ty x → (h : IsHead s a b c)
     → (ty ≡ a) × (x ≡ 47 ∷ (b ++ (h.gap ++ c)))
 head_forced s ty x a b c k h =
@@ -64,6 +68,7 @@ head_forced s ty x a b c k h =
     ∙ trimmed_is is_http_whitespace s k.text k.trimmed ∙ sym (trimmed_is is_http_whitespace s h.text h.trimmed)
     ∙ h.joined) k.tokens k.begins (every_token a h.is_type) slash_no_token
 
+-- if y is the rest of a head after its '/', and is cut into su and p, these are its subtype and its parameters
 pub rest_forced : (s y su p a b c : List ℕ) → CutAgain y su p → (h : IsHead s a b c) → y ≡ b ++ (h.gap ++ c)
     → (su ≡ b) × (p ≡ c)
 rest_forced s y su p a b c k h e =
@@ -77,18 +82,22 @@ rest_forced s y su p a b c k h e =
 not_empty : (a : List ℕ) → IsTrue (is_token_text a) → a ≡ [] → ⊥
 not_empty a h e = false≢true (sym (ap is_token_text e) ∙ h)
 
+-- if the text after the type does not begin with '/', there is no head
 pub no_slash : (s ty x : List ℕ) → Cut s ty x → ((w : List ℕ) → x ≡ 47 ∷ w → ⊥) → HasNoHead s
 no_slash s ty x k n a b c h = n (b ++ (h.gap ++ c)) (head_forced s ty x a b c k h).1
 
+-- if the type is empty, there is no head
 pub no_type : (s ty x : List ℕ) → Cut s ty x → ty ≡ [] → HasNoHead s
 no_type s ty x k e a b c h = not_empty a h.is_type (sym (head_forced s ty x a b c k h).0 ∙ e)
 
+-- if the subtype is empty, there is no head
 pub no_subtype : (s ty y su p : List ℕ) → Cut s ty (47 ∷ y) → CutAgain y su p → su ≡ [] → HasNoHead s
 no_subtype s ty y su p k g e a b c h =
     let f = rest_forced s y su p a b c g h
     (tail_equal 47 47 y (b ++ (h.gap ++ c)) (head_forced s ty (47 ∷ y) a b c k h).1) in
     not_empty b h.is_subtype (sym f.0 ∙ e)
 
+-- if the text after the subtype and HTTP whitespace is not empty and does not begin with ';', there is no head
 pub no_parameters : (s ty y su p : List ℕ) → Cut s ty (47 ∷ y) → CutAgain y su p → ¬ (BeginsParameters p) → HasNoHead s
 no_parameters s ty y su p k g n a b c h =
     let f = rest_forced s y su p a b c g h
@@ -99,6 +108,7 @@ nonempty_tokens : (a : List ℕ) → Every is_token a → (a ≡ [] → ⊥) →
 nonempty_tokens [] h n = absurd (n refl)
 nonempty_tokens (c ∷ a) h n = all_from_every is_token (c ∷ a) h
 
+-- if the type and the subtype are not empty, and the text after them is empty or begins with ';', they are the head
 pub is_head : (s ty y su p : List ℕ) → Cut s ty (47 ∷ y) → CutAgain y su p → (ty ≡ [] → ⊥) → (su ≡ [] → ⊥)
     → BeginsParameters p → IsHead s ty su p
 is_head s ty y su p k g t u b = record {
@@ -114,17 +124,21 @@ is_head s ty y su p k g t u b = record {
 
 -- From bytes
 
+-- a UTF-8 text whose first code point is c is the encoding of c and then the encoding of its other code points
 pub begins_bytes : (x w : List ℕ) (c : ℕ) → IsUtf8 x → chars x ≡ c ∷ w → x ≡ encode_utf8 c ++ encode_utf8_all w
 begins_bytes x w c u e = sym (encodes-chars x u) ∙ ap encode_utf8_all e
 
+-- a text of no bytes has no code points
 pub empty_chars : (x : List ℕ) → (length x == 0) ≡ true → chars x ≡ []
 empty_chars [] h = chars-nil
 empty_chars (c ∷ x) h = absurd (both_ways (length (c ∷ x) == 0) (ne_eqb (length (c ∷ x)) 0 (λ e. omega arith)) h)
 
+-- a UTF-8 text of some bytes has some code points
 pub nonempty_chars : (x : List ℕ) → IsUtf8 x → (length x == 0) ≡ false → chars x ≡ [] → ⊥
 nonempty_chars x u h e =
     both_ways (length x == 0) h (ap (λ t. length t == 0) (sym (encodes-chars x u) ∙ ap encode_utf8_all e))
 
+-- if the test for no bytes is true, the code points of the text are empty or begin with ';', as b says
 pub empty_begins : (x : List ℕ) (b : Bool) → b ≡ (length x == 0) → b ≡ true
     → MatchBool b (BeginsParameters (chars x)) (¬ (BeginsParameters (chars x)))
 empty_begins x b e h = rw h (subst BeginsParameters (sym (empty_chars x (sym e ∙ h))) tt)
@@ -134,6 +148,7 @@ begins_semicolon : (x cs : List ℕ) → IsUtf8 x → (cs ≡ [] → ⊥) → ((
 begins_semicolon x [] u n h e b = n refl
 begins_semicolon x (c ∷ cs) u n h e b = h (encode_utf8_all cs) (begins_bytes x cs 59 u (e ∙ ap (λ d. d ∷ cs) b))
 
+-- for a UTF-8 text that is not empty, the test for ';' at its front says whether its code points begin with ';'
 pub begins_if : (x : List ℕ) (b : Bool) → IsUtf8 x → (length x == 0) ≡ false
     → MatchBool b (HasPrefixMatch (FindsCharPrefix 59) x) (FindsCharPrefix 59 x None)
     → MatchBool b (BeginsParameters (chars x)) (¬ (BeginsParameters (chars x)))
@@ -142,6 +157,7 @@ begins_if x false u n h = begins_semicolon x (chars x) u (nonempty_chars x u n) 
 
 -- What the parser's functions return
 
+-- a text, trimmed at both ends and cut after its longest prefix of token code points, is cut into type and rest
 pub cut_from : (s a t ty x : List ℕ) → IsTrimmedFront is_http_whitespace s a → IsTrimmedEnd is_http_whitespace a t
     → t ≡ ty ++ x → Every is_token ty → DoesNotBegin is_token x → Cut s ty x
 cut_from s a t ty x f e j k b = record {
@@ -153,26 +169,32 @@ cut_from s a t ty x f e j k b = record {
   begins = b;
 }
 
+-- a text that is cut after its longest prefix of token code points, and then trimmed at the front of the rest, is cut
+-- into subtype and parameters
 pub cut_again : (y su z p : List ℕ) → y ≡ su ++ z → Every is_token su → DoesNotBegin is_token z
     → IsTrimmedFront is_http_whitespace z p → CutAgain y su p
 cut_again y su z p j k b f = record { after = z; joined = j; tokens = k; begins = b; front = f }
 
+-- if the bytes after the type do not begin with '/', there is no head
 pub no_slash_bytes : (s ty x : List ℕ) → Cut s ty (chars x) → IsUtf8 x → ((rest : List ℕ) → x ≡ encode_utf8 47 ++ rest
     → ⊥) → HasNoHead s
 no_slash_bytes s ty x k u h = no_slash s ty (chars x) k (λ w e. h (encode_utf8_all w) (begins_bytes x w 47 u e))
 
--- the text after the slash
+-- if the bytes after the type are '/' and then y, its code points are '/' and then those of y
 pub slash_bytes : (s ty x y : List ℕ) → Cut s ty (chars x) → IsUtf8 x → x ≡ encode_utf8 47 ++ y
     → Cut s ty (47 ∷ chars y)
 slash_bytes s ty x y k u e = subst (Cut s ty) (chars_past_char x y 47 u e) k
 
+-- the same, if y is the rest of these bytes after a '/'
 pub slash_cut : (s ty x y : List ℕ) (n : ℕ) → Cut s ty (chars x) → IsUtf8 x → HasCharAt 47 x 0 n → y ≡ drop n x
     → Cut s ty (47 ∷ chars y)
 slash_cut s ty x y n k u h e = slash_bytes s ty x y k u (h.split ∙ ap (λ t. encode_utf8 47 ++ t) (sym e))
 
+-- if b is the test for no bytes, and is true, the text has no code points
 pub empty_by : (x : List ℕ) (b : Bool) → b ≡ (length x == 0) → b ≡ true → chars x ≡ []
 empty_by x b e h = empty_chars x (sym e ∙ h)
 
+-- if b is the test for no bytes, and is false, a UTF-8 text has some code points
 pub nonempty_by : (x : List ℕ) (b : Bool) → IsUtf8 x → b ≡ (length x == 0) → b ≡ false → chars x ≡ [] → ⊥
 nonempty_by x b u e h k = nonempty_chars x u (sym e ∙ h) k
 
@@ -181,6 +203,8 @@ no_semicolon_text : (x cs : List ℕ) → IsUtf8 x → BeginsParameters cs → (
 no_semicolon_text x [] u b h e = refl
 no_semicolon_text x (c ∷ cs) u b h e = absurd (h (encode_utf8_all cs) (begins_bytes x cs 59 u (e ∙ ap (λ d. d ∷ cs) b)))
 
+-- if the code points of a UTF-8 text are empty or begin with ';', but its bytes do not begin with ';', it has no code
+-- points
 pub no_semicolon : (x : List ℕ) → IsUtf8 x → BeginsParameters (chars x) → ((rest : List ℕ) → x ≡ encode_utf8 59 ++ rest
     → ⊥) → chars x ≡ []
 no_semicolon x u b h = no_semicolon_text x (chars x) u b h refl
@@ -189,6 +213,8 @@ no_semicolon x u b h = no_semicolon_text x (chars x) u b h refl
 
 -- A value that does not begin with '"'
 
+-- if s does not begin with '"', the text before its first ';', without HTTP whitespace at its end, is the value after
+-- '='; none if it is empty
 pub plain_value : (s front after value : List ℕ) → DoesNotBegin is_quote s → s ≡ front ++ after
     → Without is_semicolon front → BeginsParameters after → IsTrimmedEnd is_http_whitespace front value
     → HasValueBefore (61 ∷ s) (unless_empty value) after
@@ -203,10 +229,12 @@ some_unless_empty : (value : List ℕ) → (value ≡ [] → ⊥) → unless_emp
 some_unless_empty [] n = absurd (n refl)
 some_unless_empty (c ∷ value) n = refl
 
+-- if this value is empty, there is none
 pub missing_value : (s front after value : List ℕ) → value ≡ [] → HasValueBefore (61 ∷ s) (unless_empty value) after
     → HasValueBefore (61 ∷ s) None after
 missing_value s front after value e h = subst (λ v. HasValueBefore (61 ∷ s) v after) (ap unless_empty e) h
 
+-- if this value is not empty, it is the value
 pub some_value : (s front after value : List ℕ) → (value ≡ [] → ⊥)
     → HasValueBefore (61 ∷ s) (unless_empty value) after → HasValueBefore (61 ∷ s) (Some value) after
 some_value s front after value n h = subst (λ v. HasValueBefore (61 ∷ s) v after) (some_unless_empty value n) h
@@ -220,14 +248,16 @@ not_quote_text x (c ∷ cs) u n e =
     false_from_ne_true (is_quote c)
     (λ h. n (encode_utf8_all cs) (begins_bytes x cs 34 u (e ∙ ap (λ d. d ∷ cs) (eqb-true c 34 h))))
 
+-- if the bytes of a UTF-8 text do not begin with '"', its code points do not either
 pub not_quote : (x : List ℕ) → IsUtf8 x → ((rest : List ℕ) → x ≡ encode_utf8 34 ++ rest → ⊥)
     → DoesNotBegin is_quote (chars x)
 not_quote x u n = not_quote_text x (chars x) u n refl
 
--- the text after an ASCII code point that was removed
+-- if c is the first code point of a UTF-8 text, and y is the text after its bytes, the code points are c and those of y
 pub stripped_chars : (x y : List ℕ) (c n : ℕ) → IsUtf8 x → HasCharAt c x 0 n → y ≡ drop n x → chars x ≡ c ∷ chars y
 stripped_chars x y c n u h e = chars_past_char x (drop n x) c u h.split ∙ ap (λ t. c ∷ chars t) (sym e)
 
+-- '=' and a quoted string without a closing quote give the value, and nothing follows it
 pub open_value_before : (s q : List ℕ) (value : List ℕ) → s ≡ 34 ∷ q → QuotedOpen q value
     → HasValueBefore (61 ∷ s) (Some value) (chars [])
 open_value_before s q value e h = subst (HasValueBefore (61 ∷ s) (Some value)) (sym chars-nil) (record {
@@ -237,6 +267,7 @@ open_value_before s q value e h = subst (HasValueBefore (61 ∷ s) (Some value))
   begins = tt;
 })
 
+-- '=', '"', a quoted text, '"', and a text without ';' give the value, if the rest is empty or begins with ';'
 pub closed_value_before : (s q raw w junk rest value : List ℕ) → s ≡ 34 ∷ q → q ≡ raw ++ (34 ∷ w) → Quoted raw value
     → w ≡ junk ++ rest → Without is_semicolon junk → BeginsParameters rest → HasValueBefore (61 ∷ s) (Some value) rest
 closed_value_before s q raw w junk rest value e j h k n b = record {
@@ -256,10 +287,12 @@ no_value_text x (c ∷ cs) u d n e =
     semicolon_from c d (false_from_ne_true (c == 61)
     (λ h. n (encode_utf8_all cs) (begins_bytes x cs 61 u (e ∙ ap (λ t. t ∷ cs) (eqb-true c 61 h)))))
 
+-- if a text after a name does not begin with '=', it gives no value, and the text is the rest
 pub no_value : (x : List ℕ) → IsUtf8 x → DoesNotBegin (λ c. not (ends_name c)) (chars x)
     → ((rest : List ℕ) → x ≡ encode_utf8 61 ++ rest → ⊥) → HasValueBefore (chars x) None (chars x)
 no_value x u d n = record { tail = []; joined = refl; gives = nothing; begins = no_value_text x (chars x) u d n refl }
 
+-- HTTP whitespace, a name, and a text that gives a value are a parameter after its ';'
 pub parameter_before : (s a name x : List ℕ) (value : Option (List ℕ)) (rest : List ℕ)
     → IsTrimmedFront is_http_whitespace s a → a ≡ name ++ x → Without ends_name name → HasValueBefore x value rest
     → HasParameterBefore s (map to_ascii_lowercase name, value) rest
@@ -281,6 +314,7 @@ parameter_before s a name x value rest f j n v = record {
   begins = v.begins;
 }
 
+-- a text equal to '=' and y gives the value that '=' and y give
 pub named_value_before : (x y : List ℕ) (value : Option (List ℕ)) (rest : List ℕ) → x ≡ 61 ∷ y
     → HasValueBefore (61 ∷ y) value rest → HasValueBefore x value rest
 named_value_before x y value rest e h = subst (λ t. HasValueBefore t value rest) (sym e) h

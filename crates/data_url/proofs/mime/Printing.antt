@@ -28,6 +28,8 @@ use Rattle.std.proofs.lemmas.Cmp.{nat_list_eq_equiv}
 
 -- Escaped text
 
+-- if the bytes so far and the escaped code points of r are the whole, they still are after the first code point of r is
+-- escaped and moved to them
 pub escaped_more : (r r' done whole : List ℕ) (c : ℕ) → IsUtf8 r → r ≡ encode_utf8 c ++ r'
     → done ++ encode_utf8_all (flat_map escaped_code_point (chars r)) ≡ whole
     → (done ++ encode_utf8_all (escaped_code_point c)) ++ encode_utf8_all (flat_map escaped_code_point (chars r'))
@@ -39,6 +41,7 @@ escaped_more r r' done whole c u e h =
     ∙ encodes-append (escaped_code_point c) (flat_map escaped_code_point (chars r'))))
     ∙ h
 
+-- if nothing is left to be escaped, the bytes so far are the whole
 pub escaped_end : (r done whole : List ℕ) → length r ≡ 0
     → done ++ encode_utf8_all (flat_map escaped_code_point (chars r)) ≡ whole → done ≡ whole
 escaped_end r done whole l h = sym (append-nil done) ∙ ap (λ x. done ++ encode_utf8_all (flat_map escaped_code_point x))
@@ -52,18 +55,21 @@ plain_chars (c ∷ cs) h =
     ap₂ (λ x y. x ++ y) (cond-false (is_escaped c) (92 ∷ c ∷ []) (c ∷ []) (not-true (is_escaped c) h.0))
     (plain_chars cs h.1)
 
+-- a text without '"' and '\' is the UTF-8 of its escaped code points
 pub plain_text : (v : List ℕ) → IsUtf8 v → Without is_escaped (chars v)
     → v ≡ encode_utf8_all (flat_map escaped_code_point (chars v))
 plain_text v u h = sym (encodes-chars v u) ∙ ap encode_utf8_all (sym (plain_chars (chars v) h))
 
 -- A value
 
+-- a value that is a token text is printed as it is
 pub token_value : (v : List ℕ) (b : Bool) → IsUtf8 v → b ≡ is_token_text (chars v) → b ≡ true
     → v ≡ encode_utf8_all (printed_value (chars v))
 token_value v b u e h = sym (encodes-chars v u)
     ∙ ap encode_utf8_all (sym (cond-true (is_token_text (chars v)) (chars v)
     (34 ∷ (flat_map escaped_code_point (chars v) ++ (34 ∷ []))) (sym e ∙ h)))
 
+-- a value that is not a token text is printed as its escaped code points in quotes
 pub quoted_value_text : (v : List ℕ) (b : Bool) → b ≡ is_token_text (chars v) → b ≡ false
     → ((34 ∷ []) ++ encode_utf8_all (flat_map escaped_code_point (chars v))) ++ (34 ∷ []) ≡ encode_utf8_all
     (printed_value (chars v))
@@ -77,6 +83,7 @@ quoted_value_text v b e h =
 
 -- A parameter
 
+-- ';', the name, '=', and the printed value are the UTF-8 of the printed pair
 pub parameter_text : (name value : List ℕ) → IsUtf8 name → (((59 ∷ []) ++ name) ++ (61 ∷ [])) ++ encode_utf8_all
     (printed_value (chars value)) ≡ encode_utf8_all (printed_pair (chars name, chars value))
 parameter_text name value u =
@@ -89,13 +96,15 @@ parameter_text name value u =
 
 -- A record
 
+-- the bytes of a `String` are the UTF-8 of its code points
 pub text_bytes : {A : Type 0} (s : String A) → string_bytes s ≡ encode_utf8_all (code_points s)
 text_bytes s = sym (encodes-chars (string_bytes s) (IsUtf8-string_bytes s))
 
--- the rest of the printed pairs
+-- the UTF-8 of the printed pairs
 abbrev pub pairs_text : {A B : Type 0} → List (String A × String B) → List ℕ
 pairs_text pairs = encode_utf8_all (flat_map printed_pair (map (λ p. pair_of p) pairs))
 
+-- the type, '/', the subtype, and the printed pairs are the UTF-8 of the printed record
 pub record_starts : (m : Mime) → ((string_bytes m.type_ ++ encode_utf8 47) ++ string_bytes m.subtype) ++ pairs_text
     m.parameters.items ≡ encode_utf8_all (printed (record_of m))
 unfolding printed
@@ -109,6 +118,8 @@ record_starts m =
     ∙ sym (encodes-append (code_points m.type_)
     (47 ∷ (code_points m.subtype ++ flat_map printed_pair (map (λ p. pair_of p) m.parameters.items))))
 
+-- if the bytes so far and the printed pairs from index i on are the whole, they still are after pair i is printed and
+-- moved to them
 pub record_more : {A B : Type 0} (pairs : List (String A × String B)) (i : ℕ) (item : String A × String B)
     (done whole : List ℕ) → i < length pairs → item ≡ get_or pairs i item → done ++ pairs_text (drop i pairs) ≡ whole
     → (done ++ encode_utf8_all (printed_pair (pair_of item))) ++ pairs_text (drop (i + 1) pairs) ≡ whole
@@ -120,6 +131,7 @@ record_more pairs i item done whole l e h =
     (flat_map printed_pair (map (λ p. pair_of p) (drop (i + 1) pairs)))))
     ∙ h
 
+-- if no pairs are left, the bytes so far are the whole
 pub record_ends : {A B : Type 0} (pairs : List (String A × String B)) (i : ℕ) (done whole : List ℕ) → length pairs ≤ i
     → done ++ pairs_text (drop i pairs) ≡ whole → done ≡ whole
 record_ends pairs i done whole l h = sym (append-nil done)
@@ -127,12 +139,14 @@ record_ends pairs i done whole l h = sym (append-nil done)
 
 -- the same for a reference
 
+-- the same, for two texts that are the bytes of the type and of the subtype
 pub record_starts_by : (m : Mime) (a b : List ℕ) → a ≡ string_bytes m.type_ → b ≡ string_bytes m.subtype
     → ((a ++ (47 ∷ [])) ++ b) ++ pairs_text m.parameters.items ≡ encode_utf8_all (printed (record_of m))
 record_starts_by m a b e f = ap (λ x. ((a ++ x) ++ b) ++ pairs_text m.parameters.items)
     (sym (encode_ascii 47 (omega arith))) ∙ ap₂ (λ x y. ((x ++ encode_utf8 47) ++ y) ++ pairs_text m.parameters.items) e
     f ∙ record_starts m
 
+-- the printed pair of two texts that are the bytes of an item is the printed pair of the item
 pub pair_by : {A B : Type 0} (item : String A × String B) (a b : List ℕ) → a ≡ string_bytes item.0
     → b ≡ string_bytes item.1 → encode_utf8_all (printed_pair (chars a, chars b)) ≡ encode_utf8_all
     (printed_pair (pair_of item))
@@ -146,17 +160,22 @@ written_plain {f = f} plain h =
 
 -- A line that is buffered
 
+-- a line of length zero holds no bytes
 pub held_none : (l : Line) → l.len ≡ 0 → held l ≡ []
 held_none l e = ap (λ n. take n l.room) e
 
+-- if the bytes that a line holds and the text a are UTF-8, m holds both, and m.len is at most 128, then the bytes of m
+-- fit and are UTF-8
 pub held_more : (l m : Line) (a : List ℕ) → IsUtf8 (held l) → IsUtf8 a → held m ≡ held l ++ a → m.len ≤ 128 → IsHeld m
 held_more l m a u w e h = record { fits = h; text = subst IsUtf8 (sym e) (IsUtf8-append (held l) a u w) }
 
 module _ {W : Type 0} {took : W → List ℕ → W → Type 0} where
+  -- a text that is put into the buffer alone is appended
   pub added_held : (f : Formatter W) (l m : Line) (a : List ℕ) → IsFlush f → held m ≡ held l ++ a
       → HasAdded took f l a f m
   added_held f l m a flush e = record { written = []; wrote = has_written_styled_nil _ f flush; joined = sym e }
 
+  -- if a is appended, and then b, then a ++ b is appended
   pub added_append : (f g h : Formatter W) (l m n : Line) (a b : List ℕ) → HasAdded took f l a g m
       → HasAdded took g m b h n → HasAdded took f l (a ++ b) h n
   added_append f g h l m n a b x y = record {
@@ -166,11 +185,12 @@ module _ {W : Type 0} {took : W → List ℕ → W → Type 0} where
         ∙ ap (λ t. x.written ++ t) y.joined ∙ sym (append_assoc x.written y.written (held n));
   }
 
+  -- if a is appended, a text that is equal to it is
   pub added_of_eq : (f g : Formatter W) (l m : Line) (a b : List ℕ) → a ≡ b → HasAdded took f l a g m
       → HasAdded took f l b g m
   added_of_eq f g l m a b e = subst (λ (t : List ℕ). HasAdded took f l t g m) e
 
-  -- the buffer is written, and then a text
+  -- if the buffer is written, then a text, and the buffer is empty after that, the text is appended
   pub added_written : (f g h : Formatter W) (l m : Line) (a : List ℕ) → HasWrittenStyled took f (held l) g
       → HasWrittenStyled took g a h → m.len ≡ 0 → HasAdded took f l a h m
   added_written f g h l m a x y e = record {
@@ -179,7 +199,7 @@ module _ {W : Type 0} {took : W → List ℕ → W → Type 0} where
     joined = sym (append-nil (held l ++ a)) ∙ ap (λ t. (held l ++ a) ++ t) (sym (held_none m e));
   }
 
-  -- the buffer is written, and then a text is put into it
+  -- if the buffer is written and emptied, and then a text is put into it, the text is appended
   pub added_after : (f g : Formatter W) (l m n : Line) (a : List ℕ) → HasWrittenStyled took f (held l) g → m.len ≡ 0
       → held n ≡ held m ++ a → HasAdded took f l a g n
   added_after f g l m n a x e h = record {
@@ -259,6 +279,7 @@ same_decides m n =
 
 -- copies
 
+-- if the texts of all pairs are equal one by one, the lists of texts of pairs are equal
 pub copied_pairs : {A B : Type 0} (ps qs : List (String A × String B))
     → AllZip (λ p q. (string_bytes q.0 ≡ string_bytes p.0) × (string_bytes q.1 ≡ string_bytes p.1)) ps qs
     → map texts_of_pair qs ≡ map texts_of_pair ps
@@ -281,6 +302,7 @@ pairs_seen (p ∷ ps) = ap (λ xs. pair_of p ∷ xs) (pairs_seen ps)
 abbrev record_with : List ℕ → List ℕ → List Pair → Record
 record_with a b c = record { type_ = a; subtype = b; parameters = c }
 
+-- if two MIME types have the same texts, their records of code points are equal
 pub same_seen : (m n : Mime) → SameTexts m n → record_of m ≡ record_of n
 same_seen m n h =
     let pairs : map pair_of m.parameters.items ≡ map pair_of n.parameters.items = pairs_seen m.parameters.items
@@ -300,6 +322,7 @@ pairs_spelled [] = refl
 pairs_spelled (p ∷ ps) = ap₂ (λ a b. (a, b) ∷ map texts_of_pair ps) (text_bytes p.0) (text_bytes p.1)
     ∙ ap (λ xs. pair_spelled (pair_of p) ∷ xs) (pairs_spelled ps)
 
+-- if the records of code points of two MIME types are equal, the MIME types have the same texts
 pub seen_same : (m n : Mime) → record_of m ≡ record_of n → SameTexts m n
 seen_same m n h = record {
   type_ = text_bytes m.type_ ∙ ap (λ (r : Record). encode_utf8_all r.type_) h ∙ sym (text_bytes n.type_);

@@ -30,7 +30,7 @@ quoted_rest escaped [] = None
 quoted_rest false (c ∷ t) = cond (c == 34) (Some t) (cond (c == 92) (quoted_rest true t) (quoted_rest false t))
 quoted_rest true (c ∷ t) = quoted_rest false t
 
--- each unit gives its value
+-- the value of units and then x is the values of the units, and then the value of x
 pub value_of_units : (units : List QuotedUnit) (x : List ℕ) → AllByRecursion IsUnit units
     → quoted_value false (flat_map unit_text units ++ x) ≡ map unit_value units ++ quoted_value false x
 value_of_units [] x h = refl
@@ -42,6 +42,7 @@ value_of_units (Plain c ∷ units) x h =
     ∙ ap (λ v. c ∷ v) (value_of_units units x h.1)
 value_of_units (Escaped c ∷ units) x h = ap (λ v. c ∷ v) (value_of_units units x h.1)
 
+-- units before a text do not change what the text after the closing quote is
 pub rest_of_units : (units : List QuotedUnit) (x : List ℕ) → AllByRecursion IsUnit units
     → quoted_rest false (flat_map unit_text units ++ x) ≡ quoted_rest false x
 rest_of_units [] x h = refl
@@ -52,24 +53,28 @@ rest_of_units (Plain c ∷ units) x h = cond-false (c == 34) (Some (flat_map uni
     (quoted_rest false (flat_map unit_text units ++ x)) (ne_eqb c 92 h.0.1) ∙ rest_of_units units x h.1
 rest_of_units (Escaped c ∷ units) x h = rest_of_units units x h.1
 
+-- the value of a quoted text and then x is the value of that text, and then the value of x
 pub value_before : (q v x : List ℕ) → Quoted q v → quoted_value false (q ++ x) ≡ v ++ quoted_value false x
 value_before q v x h = rw (h.text_is, h.value_is) (value_of_units h.units x h.each)
 
+-- a quoted text before x does not change what the text after the closing quote is
 pub rest_before : (q v x : List ℕ) → Quoted q v → quoted_rest false (q ++ x) ≡ quoted_rest false x
 rest_before q v x h = rw h.text_is (rest_of_units h.units x h.each)
 
--- reading a text in quotes returns its value
+-- the value of a quoted text, a '"', and any more text is the value of the quoted text
 pub closed_value : (q v w : List ℕ) → Quoted q v → quoted_value false (q ++ (34 ∷ w)) ≡ v
 closed_value q v w h = value_before q v (34 ∷ w) h ∙ append-nil v
 
+-- after a quoted text and its closing quote, the rest is the text after that quote
 pub closed_rest : (q v w : List ℕ) → Quoted q v → quoted_rest false (q ++ (34 ∷ w)) ≡ Some w
 closed_rest q v w h = rest_before q v (34 ∷ w) h
 
--- reading a text without a closing quote returns its value
+-- the value of a quoted string without a closing quote is what is read from it
 pub open_value : (q v : List ℕ) → QuotedOpen q v → quoted_value false q ≡ v
 open_value q v (inl h) = ap (quoted_value false) (sym (append-nil q)) ∙ (value_before q v [] h ∙ append-nil v)
 open_value q v (inr (q', v', t, e, h)) = ap (quoted_value false) t ∙ (value_before q' v' (92 ∷ []) h ∙ sym e)
 
+-- a quoted string without a closing quote has no text after one
 pub open_rest : (q v : List ℕ) → QuotedOpen q v → quoted_rest false q ≡ None
 open_rest q v (inl h) = ap (quoted_rest false) (sym (append-nil q)) ∙ rest_before q v [] h
 open_rest q v (inr (q', v', t, e, h)) = ap (quoted_rest false) t ∙ rest_before q' v' (92 ∷ []) h
@@ -79,6 +84,7 @@ abbrev pub IsRead : List ℕ → List ℕ → Option (List ℕ) → Type 0
 IsRead s value None = QuotedOpen s value
 IsRead s value (Some w) = (q : List ℕ) × (s ≡ q ++ (34 ∷ w)) × Quoted q value
 
+-- a unit and then a quoted text are a quoted text, whose value is the value of the unit, and then that of the text
 pub quoted_more : (u : QuotedUnit) (q v : List ℕ) → IsUnit u → Quoted q v → Quoted (unit_text u ++ q) (unit_value u ∷ v)
 quoted_more u q v i h = record {
   units = u ∷ h.units;
@@ -106,6 +112,7 @@ read_more u s v (Some w) i h = (
   quoted_more u h.0 v i h.2,
 )
 
+-- the empty text is a quoted text, and its value is empty
 pub quoted_nil : Quoted [] []
 quoted_nil = record { units = []; each = tt; text_is = refl; value_is = refl }
 
@@ -137,11 +144,13 @@ and_false : (b : Bool) → (b && false) ≡ false
 and_false true = refl
 and_false false = refl
 
+-- the text without each '\' that escapes the next code point; the flag says whether a '\' comes before the text
 abbrev pub unescaped : Bool → List ℕ → List ℕ
 unescaped false [] = []
 unescaped true [] = 92 ∷ []
 unescaped escaped (c ∷ t) = cond ((c == 92) && not escaped) (unescaped true t) (c ∷ unescaped false t)
 
+-- if no '\' comes before a text, a first code point other than '\' is kept
 pub unescaped_one : (c : ℕ) (t : List ℕ) → (c == 92) ≡ false → unescaped false (c ∷ t) ≡ c ∷ unescaped false t
 unescaped_one c t e = cond-false ((c == 92) && true) (unescaped true t) (c ∷ unescaped false t) (ap (λ b. b && true) e)
 
@@ -159,6 +168,7 @@ unescaped_units (Escaped c ∷ units) x h = unescaped_next c (flat_map unit_text
 unescaped_before : (q v x : List ℕ) → Quoted q v → unescaped false (q ++ x) ≡ v ++ unescaped false x
 unescaped_before q v x h = rw (h.text_is, h.value_is) (unescaped_units h.units x h.each)
 
+-- the value of a quoted string without a closing quote is what `unescaped` returns for it
 pub unescaped_is : (q v : List ℕ) → QuotedOpen q v → unescaped false q ≡ v
 unescaped_is q v (inl h) = ap (unescaped false) (sym (append-nil q)) ∙ (unescaped_before q v [] h ∙ append-nil v)
 unescaped_is q v (inr (q', v', t, e, h)) = ap (unescaped false) t ∙ (unescaped_before q' v' (92 ∷ []) h ∙ sym e)
@@ -213,6 +223,7 @@ ascii_rest : (e : Bool) (c : ℕ) (cs : List ℕ) → quoted_rest true (encode_u
 ascii_rest true c cs h k = k
 ascii_rest false c cs h k = mapped_cases (c == 34) (c == 92) cs (quoted_rest true cs) (quoted_rest false cs) _ _ h k
 
+-- the text after the closing quote of an encoded text is the encoding of the one of its code points
 pub rest_encodes : (e : Bool) (cs : List ℕ) → quoted_rest e (encode_utf8_all cs) ≡ option_map encode_utf8_all
     (quoted_rest e cs)
 rest_encodes e [] = refl
@@ -223,6 +234,7 @@ rest_encodes e (c ∷ cs) = elim (cases_lt c 128) [
       ∙ (rest_encodes false cs ∙ sym (ap (option_map encode_utf8_all) (skips_any e c cs l)))
 ]
 
+-- the bytes after the closing quote of a UTF-8 text are the encoding of the code points after it
 pub rest_chars : (bs : List ℕ) → IsUtf8 bs → quoted_rest false bs ≡ option_map encode_utf8_all
     (quoted_rest false (chars bs))
 rest_chars bs u = ap (quoted_rest false) (sym (encodes-chars bs u)) ∙ rest_encodes false (chars bs)
@@ -233,6 +245,7 @@ open_if : (s v : List ℕ) (o : Option (List ℕ)) → IsRead s v o → option_m
 open_if s v None h e = (v, h)
 open_if s v (Some w) h e = absurd (let k = e in cc)
 
+-- if the search for the closing quote of a UTF-8 text reaches its end, the text is a quoted string without one
 pub is_open : (bs text : List ℕ) (i : ℕ) (e : Bool) → IsUtf8 text → bs ≡ text → length bs ≤ i
     → quoted_rest e (drop i text) ≡ quoted_rest false text → IsOpen (chars text)
 is_open bs text i e u b l h =
@@ -273,6 +286,8 @@ chars_joined bs i u l e =
 range_take : (bs : List ℕ) (i : ℕ) → slice_range bs 0 i ≡ take i bs
 range_take bs i = ap (λ k. take k bs) (omega arith)
 
+-- if the search for the closing quote of a UTF-8 text stops at a '"' at index i, the text is a quoted string up to
+-- there, the quote, and the bytes after it
 pub is_closed : (bs raw after : List ℕ) (i : ℕ) → IsUtf8 bs → i < length bs → get_or bs i 0 ≡ 34
     → quoted_rest false (drop i bs) ≡ quoted_rest false bs → raw ≡ slice_range bs 0 i → after ≡ drop (i + 1) bs
     → IsUtf8 after → IsClosed bs raw after

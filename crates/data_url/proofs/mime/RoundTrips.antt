@@ -67,6 +67,7 @@ not_ends_append p (c ∷ []) [] h k = h
 not_ends_append p (c ∷ []) (d ∷ b) h k = k
 not_ends_append p (c ∷ d ∷ a) b h k = not_ends_append p (d ∷ a) b h k
 
+-- a text that ends with a code point that does not pass does not end with one that passes
 pub not_ends_last : (p : ℕ → Bool) (c : ℕ) → p c ≡ false → (a : List ℕ) → DoesNotEnd p (a ++ (c ∷ []))
 not_ends_last p c h [] = h
 not_ends_last p c h (d ∷ []) = h
@@ -258,6 +259,7 @@ printed_head m w = record {
   begins = pairs_begin m.parameters;
 }
 
+-- a well-formed record, printed, parses to the record
 pub printed_parses : (m : Record) → IsWellformed m → Parses (printed m) m
 printed_parses m w = record {
   type_ = m.type_;
@@ -273,8 +275,10 @@ printed_parses m w = record {
   };
 }
 
+-- a well-formed record, printed, parses to no other record
 pub printed_only : (m : Record) → IsWellformed m → (n : Record) → Parses (printed m) n → n ≡ m
 printed_only m w n h = has_at_most_one_record (printed m) n m h (printed_parses m w)
 
+-- if two well-formed records are printed the same, they are equal
 pub printed_same : (m n : Record) → IsWellformed m → IsWellformed n → printed m ≡ printed n → m ≡ n
 printed_same m n v w e = printed_only n w m (subst (λ s. Parses s m) e (printed_parses m v))

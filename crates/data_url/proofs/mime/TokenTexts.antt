@@ -37,11 +37,13 @@ token_below c h = ⊎_elim
     (or_cases (is_in_range 65 90 c || is_in_range 97 122 c || is_in_range 48 57 c)
     (list_any (λ m. m == c) (codes "!#$%&'*+-.^_`|~")) h)
 
+-- a text of which each code point is a token code point is ASCII
 pub all_tokens_ascii : (t : List ℕ) → list_all is_token t ≡ true → IsAscii t
 all_tokens_ascii [] h = IsAscii-nil
 all_tokens_ascii (c ∷ t) h = let e = and_parts (is_token c) (list_all is_token t) h in
     IsAscii-cons c t (token_below c e.0) (all_tokens_ascii t e.1)
 
+-- a token text is ASCII
 pub token_text_ascii : (t : List ℕ) → is_token_text t ≡ true → IsAscii t
 token_text_ascii [] h = IsAscii-nil
 token_text_ascii (c ∷ t) h = all_tokens_ascii (c ∷ t) h
@@ -63,16 +65,19 @@ token_text_chars bs u = elim (cases_Bool (is_token_text bs)) [
   | inr e ↦ e ∙ sym (not_token_chars bs u e)
 ]
 
+-- a text that is not empty is a token text exactly if each of its code points is a token code point
 pub nonempty_token_text : (t : List ℕ) → (length t == 0) ≡ false → is_token_text t ≡ list_all is_token t
 nonempty_token_text [] h = absurd (both_ways (0 == 0) h refl)
 nonempty_token_text (c ∷ t) h = refl
 
+-- the empty text is not a token text
 pub empty_token_text : (t : List ℕ) → (length t == 0) ≡ true → is_token_text t ≡ false
 empty_token_text [] h = refl
 empty_token_text (c ∷ t) h = absurd (both_ways (length (c ∷ t) == 0) (ne_eqb (length (c ∷ t)) 0 (λ e. omega arith)) h)
 
 -- The longest prefix, from its length
 
+-- the first `prefix_len p s` items of a text are its longest prefix that passes
 pub take_front : (p : ℕ → Bool) (s : List ℕ) → take (prefix_len p s) s ≡ front_of p s
 take_front p [] = refl
 take_front p (c ∷ s) =
@@ -82,6 +87,7 @@ take_front p (c ∷ s) =
       | false ↦ refl
     ]
 
+-- the items after the first `prefix_len p s` are the text after its longest prefix that passes
 pub drop_front : (p : ℕ → Bool) (s : List ℕ) → drop (prefix_len p s) s ≡ after_front p s
 drop_front p [] = refl
 drop_front p (c ∷ s) =
@@ -91,7 +97,7 @@ drop_front p (c ∷ s) =
       | false ↦ refl
     ]
 
--- a text whose bytes do not begin with an ASCII code point that passes
+-- if only ASCII passes, and the UTF-8 of a text does not begin with a byte that passes, its code points do not either
 pub not_begins_encoded : (p : ℕ → Bool) → ((c : ℕ) → p c ≡ true → c < 128) → (cs : List ℕ)
     → DoesNotBegin p (encode_utf8_all cs) → DoesNotBegin p cs
 not_begins_encoded p a [] h = tt
@@ -99,6 +105,7 @@ not_begins_encoded p a (c ∷ cs) h =
     false_from_ne_true (p c)
     (λ e. both_ways (p c) (subst (λ x. DoesNotBegin p (x ++ encode_utf8_all cs)) (encode_ascii c (a c e)) h) e)
 
+-- if only ASCII passes, and the bytes of a text do not begin with one that passes, its code points do not either
 pub not_begins_chars : (p : ℕ → Bool) → ((c : ℕ) → p c ≡ true → c < 128) → (bs : List ℕ) → IsUtf8 bs → DoesNotBegin p bs
     → DoesNotBegin p (chars bs)
 not_begins_chars p a bs u h = not_begins_encoded p a (chars bs) (subst (DoesNotBegin p) (sym (encodes-chars bs u)) h)
@@ -111,17 +118,21 @@ pub record IsSplit (p : ℕ → Bool) (bs front after : List ℕ) : Type 0 where
   pub text : IsUtf8 front × IsUtf8 after
 
 module _ (p : ℕ → Bool) (below : (c : ℕ) → p c ≡ true → c < 128) where
+  -- a text that passes is ASCII
   pub every_ascii : (t : List ℕ) → Every p t → IsAscii t
   every_ascii [] h = IsAscii-nil
   every_ascii (c ∷ t) h = IsAscii-cons c t (below c h.0) (every_ascii t h.1)
 
+  -- the longest prefix of bytes that pass is ASCII
   pub front_ascii : (bs : List ℕ) → IsAscii (take (prefix_len p bs) bs)
   front_ascii bs = subst IsAscii (sym (take_front p bs)) (every_ascii (front_of p bs) (front_passes p bs))
 
+  -- a UTF-8 text can be cut after its longest prefix of bytes that pass
   pub front_boundary : (bs : List ℕ) → IsUtf8 bs → IsCharBoundary bs (prefix_len p bs)
   front_boundary bs u = IsCharBoundary-from_take bs (prefix_len p bs) u (prefix_len-le-length p bs)
       (IsUtf8-from_ascii (take (prefix_len p bs) bs) (front_ascii bs))
 
+  -- a UTF-8 text is split there into the code points that pass at its front, and the rest
   pub is_split : (bs : List ℕ) → IsUtf8 bs → IsSplit p bs (take (prefix_len p bs) bs) (drop (prefix_len p bs) bs)
   is_split bs u =
       let front = IsUtf8-from_ascii (take (prefix_len p bs) bs) (front_ascii bs) in
@@ -136,9 +147,11 @@ module _ (p : ℕ → Bool) (below : (c : ℕ) → p c ≡ true → c < 128) whe
         text = (front, after);
       }
 
+-- a UTF-8 text can be cut after its longest prefix of token code points
 pub tokens_boundary_at : (text : List ℕ) (n : ℕ) → IsUtf8 text → n ≡ prefix_len is_token text → IsCharBoundary text n
 tokens_boundary_at text n u e = subst (IsCharBoundary text) (sym e) (front_boundary is_token token_below text u)
 
+-- a UTF-8 text is split after its longest prefix of token code points
 pub split_at_other : (text front after : List ℕ) (n : ℕ) → IsUtf8 text → n ≡ prefix_len is_token text
     → front ≡ take n text → after ≡ drop n text → IsSplit is_token text front after
 split_at_other text front after n u k f g = rw (f, g, k) (is_split is_token token_below text u)
@@ -151,7 +164,7 @@ suc_test a b = elim (cases_eq a b) [
       ne_eqb (1 + a) (suc b) (λ k. e (omega arith)) ∙ sym (ne_eqb a b e)
 ]
 
--- whether the prefix is the whole text
+-- each item of a text passes exactly if its longest prefix that passes is the whole text
 pub whole_front : (p : ℕ → Bool) (s : List ℕ) → list_all p s ≡ (prefix_len p s == length s)
 whole_front p [] = refl
 whole_front p (c ∷ s) =
@@ -162,7 +175,7 @@ whole_front p (c ∷ s) =
           sym (ne_eqb 0 (suc (length s)) (λ e. omega arith))
     ]
 
--- what this test says about a text that is not empty
+-- a UTF-8 text that is not empty is a token text exactly if its longest prefix of token code points is the whole text
 pub token_text_by_front : (bs text : List ℕ) (n : ℕ) → IsUtf8 text → n ≡ prefix_len is_token bs → bs ≡ text
     → (length text == 0) ≡ false → (n == length text) ≡ is_token_text (chars text)
 token_text_by_front bs text n u e b h = ap (λ k. k == length text) (e ∙ ap (prefix_len is_token) b)

@@ -52,19 +52,22 @@ row_of_test p b row h =
       begins = (bytes_eq-Decides (take (slice_index row 3) row) (byte_encoding p b)).0 f.1;
     }
 
+-- for each byte, PATH has the row that is the byte's encoding with the set of a path
 pub path_row : (b : ℕ) → b < 256 → IsRow in_path_set b (row_at PATH b)
 path_row b l = row_of_test in_path_set b (row_at PATH b) (agree_below_at (λ b. is_row in_path_set b (row_at PATH b))
     (λ b. true) 256 b refl l)
 
+-- for each byte, QUERY has the row that is the byte's encoding with the set of a query
 pub query_row : (b : ℕ) → b < 256 → IsRow in_query_set b (row_at QUERY b)
 query_row b l = row_of_test in_query_set b (row_at QUERY b)
     (agree_below_at (λ b. is_row in_query_set b (row_at QUERY b)) (λ b. true) 256 b refl l)
 
+-- for each byte, FRAGMENT has the row that is the byte's encoding with the set of a fragment
 pub fragment_row : (b : ℕ) → b < 256 → IsRow in_fragment_set b (row_at FRAGMENT b)
 fragment_row b l = row_of_test in_fragment_set b (row_at FRAGMENT b)
     (agree_below_at (λ b. is_row in_fragment_set b (row_at FRAGMENT b)) (λ b. true) 256 b refl l)
 
--- a byte that has no mark is written as it is
+-- if each byte is marked or written as it is, a byte without a mark is written as it is
 pub kept_where : (m p : ℕ → Bool) → agree_below (λ b. m b || bytes_eq (byte_encoding p b) (b ∷ [])) (λ _. true) 256
     ≡ true → (b : ℕ) → b < 256 → m b ≡ false → byte_encoding p b ≡ b ∷ []
 kept_where m p h b l e = (bytes_eq-Decides (byte_encoding p b) (b ∷ [])).0
@@ -72,6 +75,7 @@ kept_where m p h b l e = (bytes_eq-Decides (byte_encoding p b) (b ∷ [])).0
 
 -- Texts with some of their bytes percent-encoded: they decode to the same bytes, and have the same first comma.
 
+-- each number of the text is below 256
 abbrev pub IsBytes : List ℕ → Type 0
 IsBytes s = AllByRecursion (λ b. b < 256) s
 
@@ -119,6 +123,7 @@ two_digits [] = false
 two_digits (b ∷ []) = false
 two_digits (b ∷ c ∷ s) = is_ascii_hexdigit b && is_ascii_hexdigit c
 
+-- a byte stays as it is when the text is decoded, unless it is a '%' before two hexadecimal digits
 pub decoded_keeps : (a : ℕ) (s : List ℕ) → ((a == 37) && two_digits s) ≡ false
     → percent_decoding (a ∷ s) ≡ a ∷ percent_decoding s
 unfolding percent_decoding
@@ -127,6 +132,7 @@ decoded_keeps a (b ∷ []) h = refl
 decoded_keeps a (b ∷ c ∷ s) h = cond-false (is_escape a b c) ((16 * digit_value b + digit_value c) ∷ percent_decoding s)
     (a ∷ percent_decoding (b ∷ c ∷ s)) h
 
+-- '%' and two hexadecimal digits are decoded to one byte, and then the text after them is decoded
 pub decoded_escape : (b c : ℕ) (s : List ℕ) → is_ascii_hexdigit b ≡ true → is_ascii_hexdigit c ≡ true
     → percent_decoding (37 ∷ b ∷ c ∷ s) ≡ (16 * digit_value b + digit_value c) ∷ percent_decoding s
 unfolding percent_decoding
@@ -180,6 +186,7 @@ first_no_digit : (c : ℕ) (s : List ℕ) → is_ascii_hexdigit c ≡ false → 
 first_no_digit c [] h = refl
 first_no_digit c (d ∷ s) h = and_left (is_ascii_hexdigit c) (is_ascii_hexdigit d) h
 
+-- if x is s with some bytes of the query's set percent-encoded, both are decoded to the same bytes
 pub recoded-decoded : {s x : List ℕ} → Recoded s x → percent_decoding x ≡ percent_decoding s
 recoded-decoded none = refl
 recoded-decoded (written {s} {x} b h l r) = decoded_written b x l ∙ ap (λ t. b ∷ t) (recoded-decoded r)
@@ -201,10 +208,12 @@ recoded-decoded (kept b (kept c (kept {s} {x} d r))) =
 
 -- Encodings
 
+-- the empty text is percent-encoded as the empty text
 pub encoded_nil : (p : ℕ → Bool) → percent_encoding p [] ≡ []
 unfolding percent_encoding
 encoded_nil p = refl
 
+-- a percent-encoded text is its first byte, encoded, and then the rest, percent-encoded
 pub encoded_cons : (p : ℕ → Bool) (b : ℕ) (s : List ℕ)
     → percent_encoding p (b ∷ s) ≡ encoded_byte p b ++ percent_encoding p s
 unfolding percent_encoding
@@ -216,12 +225,15 @@ recoded_byte : (p : ℕ → Bool) → ((b : ℕ) → p b ≡ true → in_query_s
 recoded_byte p within b s x l r = cond_both (p b) (37 ∷ hex_digit (b / 16) ∷ hex_digit (b % 16) ∷ []) (b ∷ [])
     (λ t. Recoded (b ∷ s) (t ++ x)) (λ e. written b (within b e) l r) (λ e. kept b r)
 
+-- if each byte of the set p is in the query's set, the percent-encoding of a text with p is the text with some bytes of
+-- the query's set percent-encoded
 pub is_recoded : (p : ℕ → Bool) → ((b : ℕ) → p b ≡ true → in_query_set b ≡ true) → (s : List ℕ) → IsBytes s
     → Recoded s (percent_encoding p s)
 is_recoded p within [] h = subst (λ x. Recoded [] x) (sym (encoded_nil p)) none
 is_recoded p within (b ∷ s) h = subst (λ x. Recoded (b ∷ s) x) (sym (encoded_cons p b s))
     (recoded_byte p within b s (percent_encoding p s) h.0 (is_recoded p within s h.1))
 
+-- each byte of a path's set is in the query's set
 pub path_within_query : (b : ℕ) → in_path_set b ≡ true → in_query_set b ≡ true
 path_within_query b h = or_left (in_path_set b) ((b == 32) || ((b == 34) || ((b == 35) || ((b == 60) || (b == 62))))) h
 
@@ -232,29 +244,35 @@ abbrev pub path_byte_set : List ℕ → ℕ → Bool
 path_byte_set [] = in_path_end_set
 path_byte_set (c ∷ s) = in_path_set
 
+-- the empty path is encoded as the empty text
 pub path_nil : encoded_path [] ≡ []
 unfolding encoded_path
 path_nil = refl
 
+-- an encoded path is its first byte, encoded with the set for its place, and then the rest, encoded as a path
 pub path_cons : (b : ℕ) (path : List ℕ) → encoded_path (b ∷ path) ≡ encoded_byte (path_byte_set path) b ++ encoded_path
     path
 unfolding encoded_path
 path_cons b [] = sym (append-nil (encoded_byte in_path_end_set b))
 path_cons b (c ∷ s) = refl
 
+-- each byte of the set for the last byte of a path is in the query's set
 pub end_within_query : (b : ℕ) → in_path_end_set b ≡ true → in_query_set b ≡ true
 end_within_query b h =
     ⊎_elim (λ k. path_within_query b k) (λ k. subst (λ v. in_query_set v ≡ true) (sym (eqb-true b 32 k)) refl)
     (or_cases (in_path_set b) (b == 32) h)
 
+-- each byte of the set for a byte of a path, whatever follows it, is in the query's set
 pub path_byte_within : (path : List ℕ) (b : ℕ) → path_byte_set path b ≡ true → in_query_set b ≡ true
 path_byte_within [] b h = end_within_query b h
 path_byte_within (c ∷ s) b h = path_within_query b h
 
+-- the empty text is serialised as the empty text
 pub serialised_nil : serialised [] ≡ []
 unfolding serialised before after encoded_path
 serialised_nil = refl
 
+-- a text that begins with '?' is serialised as '?' and the rest, encoded with the query's set
 pub serialised_query : (s : List ℕ) → serialised (63 ∷ s) ≡ 63 ∷ percent_encoding in_query_set s
 unfolding serialised
 serialised_query s = ap (λ v. with_query v (after 63 (63 ∷ s))) (before_same 63 s)
@@ -266,12 +284,15 @@ with_query_cons b path None = path_cons b path
 with_query_cons b path (Some query) = ap (λ v. v ++ 63 ∷ percent_encoding in_query_set query) (path_cons b path)
     ∙ append_assoc (encoded_byte (path_byte_set path) b) (encoded_path path) (63 ∷ percent_encoding in_query_set query)
 
+-- a text that begins with another byte is serialised as that byte, encoded with the set for its place, and the rest,
+-- serialised
 pub serialised_path : (b : ℕ) (s : List ℕ) → (b == 63) ≡ false
     → serialised (b ∷ s) ≡ encoded_byte (path_byte_set (before 63 s)) b ++ serialised s
 unfolding serialised
 serialised_path b s h = ap (λ v. with_query v (after 63 (b ∷ s))) (before_other 63 b s h)
     ∙ ap (λ v. with_query (b ∷ before 63 s) v) (after_other 63 b s h) ∙ with_query_cons b (before 63 s) (after 63 s)
 
+-- the serialisation of a text of bytes is the text with some bytes of the query's set percent-encoded
 pub serialised_recoded : (s : List ℕ) → IsBytes s → Recoded s (serialised s)
 serialised_recoded [] h = subst (λ x. Recoded [] x) (sym serialised_nil) none
 serialised_recoded (b ∷ s) h = elim (cases_Bool (b == 63)) [
@@ -297,6 +318,8 @@ after_written b x =
     ∙ after_other 44 (hex_digit (b / 16)) (hex_digit (b % 16) ∷ x) (hex_digit_other (b / 16) 44 (omega arith))
     ∙ after_other 44 (hex_digit (b % 16)) x (hex_digit_other (b % 16) 44 (omega arith))
 
+-- if x is s with some bytes of the query's set percent-encoded, so are the texts after the first comma of both, or
+-- neither has a comma
 pub recoded_tails : {s x : List ℕ} → Recoded s x → RecodedTails (after 44 s) (after 44 x)
 recoded_tails none = subst (λ v. RecodedTails v v) (sym (after_nil 44)) tt
 recoded_tails (kept {s} {x} b r) = elim (cases_Bool (b == 44)) [
@@ -337,10 +360,12 @@ before_encoded p h (b ∷ s) = ap (before 44) (encoded_cons p b s) ∙ elim (cas
 
 -- the header's text, byte by byte
 
+-- the header text of the empty text is empty
 pub header_nil : header_text [] ≡ []
 unfolding header_text before after percent_encoding
 header_nil = refl
 
+-- the header text of a text that begins with '?' is '?' and the rest, encoded with the query's set
 pub header_query : (s : List ℕ) → header_text (63 ∷ s) ≡ 63 ∷ percent_encoding in_query_set s
 unfolding header_text
 header_query s = ap (λ v. header_parts v (after 63 (63 ∷ s))) (before_same 63 s)
@@ -356,6 +381,8 @@ header_cons : (b : ℕ) (path : List ℕ) (query : Option (List ℕ)) → header
 header_cons b path None = encoded_cons in_path_set b path
 header_cons b path (Some query) = with_query_cons b path (Some query)
 
+-- the header text of a text that begins with another byte is that byte, encoded with the set for its place, and the
+-- header text of the rest
 pub header_path : (b : ℕ) (s : List ℕ) → (b == 63) ≡ false
     → header_text (b ∷ s) ≡ encoded_byte (header_byte_set (before 63 s) (after 63 s)) b ++ header_text s
 unfolding header_text
@@ -379,6 +406,7 @@ end_lacks_comma : (path : List ℕ) → path_byte_set path 44 ≡ false
 end_lacks_comma [] = refl
 end_lacks_comma (c ∷ s) = refl
 
+-- if h has no comma, the bytes before the first comma of the serialisation of h ++ 44 ∷ rest are the header text of h
 pub before-serialised : (h rest : List ℕ) → after 44 h ≡ None → before 44 (serialised (h ++ 44 ∷ rest)) ≡ header_text h
 before-serialised [] rest e =
     ap (before 44) (serialised_path 44 rest refl ∙ encoded_comma (path_byte_set (before 63 rest))
@@ -407,7 +435,7 @@ before-serialised (b ∷ h) rest e =
 
 -- Percent-encoding a text without its tabs and newlines: byte by byte, and part by part.
 
--- what a text is written as
+-- the text without tabs and newlines, percent-encoded
 abbrev pub encoded : (ℕ → Bool) → List ℕ → List ℕ
 encoded p s = percent_encoding p (without_tabs_and_newlines s)
 
@@ -422,12 +450,13 @@ written_first p b s = elim (cases_Bool (is_tab_or_newline b)) [
       ∙ sym (ap (λ t. t ++ encoded p s) (cond-false (is_tab_or_newline b) [] (encoded_byte p b) e))
 ]
 
+-- the percent-encoding of s ++ t is that of s, then that of t
 pub percent_encoding-append : (p : ℕ → Bool) (s t : List ℕ)
     → percent_encoding p (s ++ t) ≡ percent_encoding p s ++ percent_encoding p t
 unfolding percent_encoding
 percent_encoding-append p s t = flat_map-append (encoded_byte p) s t
 
--- a text is written as its two parts are
+-- a text is encoded as its first n bytes, and then its other bytes
 pub encoded_cut : (p : ℕ → Bool) (s : List ℕ) (n : ℕ) → encoded p s ≡ encoded p (take n s) ++ encoded p (drop n s)
 encoded_cut p s n = ap (encoded p) (sym (take-append-drop n s))
     ∙ ap (percent_encoding p) (without_tabs_and_newlines-append (take n s) (drop n s))
@@ -446,7 +475,7 @@ from_more p s i l = ap (encoded p) (drop_more s i 0 l) ∙ written_first p (get_
 from_end : (p : ℕ → Bool) (s : List ℕ) (i : ℕ) → length s ≤ i → encoded_from p s i ≡ []
 from_end p s i l = ap (encoded p) (drop_all i s l) ∙ encoded_empty p
 
--- this was written up to byte i
+-- the text is the encoding of the bytes before byte i
 abbrev pub WroteTo : (ℕ → Bool) → List ℕ → ℕ → List ℕ → Type 0
 WroteTo p s i text = text ++ encoded_from p s i ≡ encoded p s
 
@@ -455,6 +484,7 @@ wrote_more : (p : ℕ → Bool) (s : List ℕ) (i : ℕ) (text : List ℕ) → W
 wrote_more p s i text w l = append_assoc text (byte_encoding p (get_or s i 0)) (encoded_from p s (i + 1))
     ∙ ap (λ t. text ++ t) (sym (from_more p s i l)) ∙ w
 
+-- if the text is written up to byte i and has no more bytes, the whole text is written
 pub wrote_all : (p : ℕ → Bool) (s : List ℕ) (i : ℕ) (text : List ℕ) → WroteTo p s i text → length s ≤ i
     → text ≡ encoded p s
 wrote_all p s i text w l = sym (append-nil text) ∙ ap (λ t. text ++ t) (sym (from_end p s i l)) ∙ w
@@ -483,10 +513,11 @@ written_short p b = elim (cases_Bool (is_tab_or_newline b)) [
   ]
 ]
 
+-- the encoding in a row has at most three bytes
 pub row_short : (p : ℕ → Bool) (b : ℕ) (row : List ℕ) → IsRow p b row → slice_index row 3 ≤ 3
 row_short p b row r = let k = written_short p b in let e = r.len_is in omega arith
 
--- a text whose bytes are written as they are
+-- if each byte is written as it is, the whole text is
 pub kept_whole : (p : ℕ → Bool) (s : List ℕ)
     → ((k : ℕ) → k < length s → byte_encoding p (get_or s k 0) ≡ get_or s k 0 ∷ []) → s ≡ encoded p s
 kept_whole p [] h = sym (encoded_empty p)
@@ -503,13 +534,14 @@ plain_is_none : (b : ℕ) → b < 256 → is_plain_path b ≡ true → other_tha
 plain_is_none b l h = sym (cond-true (is_plain_path b) (other_than_plain b) false h)
     ∙ agree_below_at (λ b. cond (is_plain_path b) (other_than_plain b) false) (λ b. false) 256 b refl l
 
--- what is known about a plain byte
+-- the byte is written as it is in a path, and is none of '#', ',' and '?'
 pub record Plain (b : ℕ) : Type 0 where
   pub written_is : byte_encoding in_path_set b ≡ b ∷ []
   pub no_hash : (b == 35) ≡ false
   pub no_comma : (b == 44) ≡ false
   pub no_query : (b == 63) ≡ false
 
+-- a byte that passes `is_plain_path` is `Plain`
 pub plain_byte : (b : ℕ) → b < 256 → is_plain_path b ≡ true → Plain b
 plain_byte b l h =
     let p = or_parts (is_tab_or_newline b) (in_path_set b || ((b == 35) || ((b == 44) || (b == 63))))
@@ -525,6 +557,7 @@ plain_byte b l h =
       no_query = t.1;
     }
 
+-- a text of plain bytes is serialised as it is, as a header
 pub plain_serialised : (s : List ℕ) → ((k : ℕ) → k < length s → Plain (get_or s k 0))
     → header_text (without_tabs_and_newlines s) ≡ s
 unfolding header_text
@@ -540,6 +573,8 @@ pub record PutTo (p : ℕ → Bool) (s : List ℕ) (i : ℕ) (room : List ℕ) (
   pub long : length room ≡ 256
   pub wrote : WroteTo p s i (take at room)
 
+-- if the bytes up to byte i are in the buffer, and the row of byte i is put after them, then the bytes up to byte i + 1
+-- are in the buffer
 pub put_more : (p : ℕ → Bool) (s : List ℕ) (i : ℕ) (room : List ℕ) (at : ℕ) (row room' : List ℕ) → PutTo p s i room at
     → i < length s → at ≤ 256 → IsRow p (get_or s i 0) row → length room' ≡ 256
     → take (at + 4) room' ≡ take at room ++ row → PutTo p s (i + 1) room' (at + slice_index row 3)
@@ -564,15 +599,17 @@ put_more p s i room at row room' m l within r n h =
 
 -- Part by part
 
--- what was written after the old text, from the bytes before the rest
+-- the text and then the encoding of rest are the old text and then the encoding of s
 abbrev pub WroteBefore : (ℕ → Bool) → List ℕ → List ℕ → List ℕ → List ℕ → Type 0
 WroteBefore p s rest old text = text ++ encoded p rest ≡ old ++ encoded p s
 
+-- if the encoding of the first n bytes of the rest is appended to what was written, the rest is without these bytes
 pub wrote_part : (p : ℕ → Bool) (s rest old text part : List ℕ) (n : ℕ) → WroteBefore p s rest old text
     → part ≡ encoded p (take n rest) → WroteBefore p s (drop n rest) old (text ++ part)
 wrote_part p s rest old text part n w h = append_assoc text part (encoded p (drop n rest))
     ∙ ap (λ t. text ++ t) (ap (λ t. t ++ encoded p (drop n rest)) h ∙ sym (encoded_cut p rest n)) ∙ w
 
+-- if there is no rest, what was written is the old text and then the encoding of the whole text
 pub wrote_parts : (p : ℕ → Bool) (s rest old text : List ℕ) → WroteBefore p s rest old text → rest ≡ []
     → text ≡ old ++ encoded p s
 wrote_parts p s rest old text w h = sym (append-nil text)
@@ -580,9 +617,11 @@ wrote_parts p s rest old text w h = sym (append-nil text)
 
 -- What is written is ASCII
 
+-- all bytes of the text are ASCII
 abbrev pub are_ascii : List ℕ → Bool
 are_ascii s = list_all (λ c. nat_lt c 128) s
 
+-- a text that passes the test `are_ascii` is ASCII
 pub ascii_all : (s : List ℕ) → are_ascii s ≡ true → IsAscii s
 ascii_all [] h = IsAscii-nil
 ascii_all (c ∷ s) h = let e = and_parts (nat_lt c 128) (are_ascii s) h in
@@ -605,12 +644,15 @@ encoded_ascii set (b ∷ s) h = subst IsAscii (sym (written_first (in_set set) b
     (IsAscii-append (byte_encoding (in_set set) b) (encoded (in_set set) s) (written_ascii set b (h 0))
     (encoded_ascii set s (λ i. h (suc i))))
 
+-- what a text of bytes is written as is UTF-8
 pub encoded_text : (set : EncodeSet) (s text : List ℕ) → ((i : ℕ) → get_or s i 0 < 256) → text ≡ encoded (in_set set) s
     → IsUtf8 text
 encoded_text set s text h e = subst IsUtf8 (sym e) (IsUtf8-from_ascii (encoded (in_set set) s) (encoded_ascii set s h))
 
+-- if the test whether the length is zero is true, the text is empty
 pub none_left : (s : List ℕ) (r : Bool) → r ≡ (length s == 0) → r ≡ true → s ≡ []
 none_left s r e h = nil_from_length s (eqb-true (length s) 0 (sym e ∙ h))
 
+-- if the test whether the length is zero is false, the text is not empty
 pub some_left : (s : List ℕ) (r : Bool) → r ≡ (length s == 0) → r ≡ false → 0 < length s
 some_left s r e h = let k = eqb-false (length s) 0 (sym e ∙ h) in omega arith

@@ -8,35 +8,42 @@ use Rattle.data_url.specs.Url.{before, after, without_tabs_and_newlines, fragmen
 
 -- one byte on
 
+-- a text that begins with c has no bytes before its first c
 pub before_same : (c : ℕ) (s : List ℕ) → before c (c ∷ s) ≡ []
 unfolding before
 before_same c s = cond-true (eqb c c) [] (c ∷ before c s) (eq-eqb c c refl)
 
+-- the bytes after the first c of a text that begins with c are the rest of that text
 pub after_same : (c : ℕ) (s : List ℕ) → after c (c ∷ s) ≡ Some s
 unfolding after
 after_same c s = cond-true (eqb c c) (Some s) (after c s) (eq-eqb c c refl)
 
+-- if b is not c, the bytes before the first c of b ∷ s are b and then the bytes before the first c of s
 pub before_other : (c b : ℕ) (s : List ℕ) → (b == c) ≡ false → before c (b ∷ s) ≡ b ∷ before c s
 unfolding before
 before_other c b s h = cond-false (eqb b c) [] (b ∷ before c s) h
 
+-- if b is not c, the bytes after the first c of b ∷ s are those after the first c of s
 pub after_other : (c b : ℕ) (s : List ℕ) → (b == c) ≡ false → after c (b ∷ s) ≡ after c s
 unfolding after
 after_other c b s h = cond-false (eqb b c) (Some s) (after c s) h
 
+-- the empty text has no c
 pub after_nil : (c : ℕ) → after c [] ≡ None
 unfolding after
 after_nil c = refl
 
+-- the empty text has no bytes before c
 pub before_nil : (c : ℕ) → before c [] ≡ []
 unfolding before
 before_nil c = refl
 
--- if the text does not have the byte
+-- b is not c, and s has no c
 pub record Lacks (c b : ℕ) (s : List ℕ) : Type 0 where
   pub here : (b == c) ≡ false
   pub after_it : after c s ≡ None
 
+-- if b ∷ s has no c, then b is not c, and s has no c
 pub lacks : (c b : ℕ) (s : List ℕ) → after c (b ∷ s) ≡ None → Lacks c b s
 unfolding after
 lacks c b s h = elim (b == c) as (λ v. (b == c) ≡ v → cond v (Some s) (after c s) ≡ None → Lacks c b s) [
@@ -45,36 +52,43 @@ lacks c b s h = elim (b == c) as (λ v. (b == c) ≡ v → cond v (Some s) (afte
   | false ↦ (λ e k. record { here = e; after_it = k })
 ] refl h
 
+-- if a has no c, the bytes before the first c of a ++ s are a and then the bytes before the first c of s
 pub before-append : (c : ℕ) (a s : List ℕ) → after c a ≡ None → before c (a ++ s) ≡ a ++ before c s
 before-append c [] s h = refl
 before-append c (b ∷ a) s h = let k = lacks c b a h in before_other c b (a ++ s) k.here
     ∙ ap (λ t. b ∷ t) (before-append c a s k.after_it)
 
+-- if a has no c, the bytes after the first c of a ++ s are those after the first c of s
 pub after-append : (c : ℕ) (a s : List ℕ) → after c a ≡ None → after c (a ++ s) ≡ after c s
 after-append c [] s h = refl
 after-append c (b ∷ a) s h = let k = lacks c b a h in after_other c b (a ++ s) k.here
     ∙ after-append c a s k.after_it
 
+-- if a has no c, the bytes before c are the whole of a
 pub before_all : (c : ℕ) (a : List ℕ) → after c a ≡ None → before c a ≡ a
 before_all c [] h = before_nil c
 before_all c (b ∷ a) h = let k = lacks c b a h in before_other c b a k.here
     ∙ ap (λ t. b ∷ t) (before_all c a k.after_it)
 
+-- a text with the empty text appended is the text itself
 pub append-nil : (a : List ℕ) → a ++ [] ≡ a
 append-nil [] = refl
 append-nil (b ∷ a) = ap (λ t. b ∷ t) (append-nil a)
 
+-- if a has no c, the bytes before the first c of a ++ c ∷ s are a
 pub before_at : (c : ℕ) (a s : List ℕ) → after c a ≡ None → before c (a ++ c ∷ s) ≡ a
 before_at c a s h = before-append c a (c ∷ s) h ∙ ap (λ t. a ++ t) (before_same c s) ∙ append-nil a
 
+-- if a has no c, the bytes after the first c of a ++ c ∷ s are s
 pub after_at : (c : ℕ) (a s : List ℕ) → after c a ≡ None → after c (a ++ c ∷ s) ≡ Some s
 after_at c a s h = after-append c a (c ∷ s) h ∙ after_same c s
 
--- a text with the byte is the bytes before it, the byte, and the bytes after it
+-- s is the bytes before its first c, then c, then rest; there is no c among the bytes before
 pub record IsCut (c : ℕ) (s rest : List ℕ) : Type 0 where
   pub joined : s ≡ before c s ++ c ∷ rest
   pub lacks : after c (before c s) ≡ None
 
+-- if rest is the text after the first c of s, then s is the bytes before that c, then c, then rest
 pub is_cut : (c : ℕ) (s rest : List ℕ) → after c s ≡ Some rest → IsCut c s rest
 is_cut c [] rest h = absurd (let k : None ≡ Some rest = sym (after_nil c) ∙ h in cc)
 is_cut c (b ∷ s) rest h = elim (cases_Bool (b == c)) [
@@ -96,27 +110,31 @@ is_cut c (b ∷ s) rest h = elim (cases_Bool (b == c)) [
       }
 ]
 
--- the byte is at no index
+-- if c is at no index of the text, the text has no c
 pub after_none : (c : ℕ) (s : List ℕ) → ((k : ℕ) → k < length s → (get_or s k 0 == c) ≡ false) → after c s ≡ None
 after_none c [] h = after_nil c
 after_none c (b ∷ s) h = after_other c b s (h 0 (omega arith)) ∙ after_none c s (λ k l. h (suc k) (omega arith))
 
 -- Dropping
 
+-- the empty text without tabs and newlines is empty
 pub dropped_nil : without_tabs_and_newlines [] ≡ []
 unfolding without_tabs_and_newlines
 dropped_nil = refl
 
+-- a tab or newline at the front of a text is dropped
 pub dropped_passes : (b : ℕ) (s : List ℕ) → is_tab_or_newline b ≡ true
     → without_tabs_and_newlines (b ∷ s) ≡ without_tabs_and_newlines s
 unfolding without_tabs_and_newlines
 dropped_passes b s h = ap (λ v. cond (not v) (b ∷ without_tabs_and_newlines s) (without_tabs_and_newlines s)) h
 
+-- a byte at the front of a text that is neither a tab nor a newline is kept
 pub dropped_keeps : (b : ℕ) (s : List ℕ) → is_tab_or_newline b ≡ false
     → without_tabs_and_newlines (b ∷ s) ≡ b ∷ without_tabs_and_newlines s
 unfolding without_tabs_and_newlines
 dropped_keeps b s h = ap (λ v. cond (not v) (b ∷ without_tabs_and_newlines s) (without_tabs_and_newlines s)) h
 
+-- dropping tabs and newlines from a ++ s drops them from a and from s
 pub without_tabs_and_newlines-append : (a s : List ℕ)
     → without_tabs_and_newlines (a ++ s) ≡ without_tabs_and_newlines a ++ without_tabs_and_newlines s
 unfolding without_tabs_and_newlines
@@ -130,7 +148,7 @@ without_tabs_and_newlines-append (b ∷ a) s =
       | false ↦ ap (λ t. b ∷ t) (without_tabs_and_newlines-append a s)
     ]
 
--- a text without tabs and newlines has another byte exactly if the text has it
+-- if c is not a tab or newline and a text has no c, then the text without tabs and newlines has no c
 pub after-dropped_none : (c : ℕ) → is_tab_or_newline c ≡ false → (s : List ℕ) → after c s ≡ None
     → after c (without_tabs_and_newlines s) ≡ None
 after-dropped_none c k [] h = ap (after c) dropped_nil ∙ after_nil c
@@ -140,7 +158,7 @@ after-dropped_none c k (b ∷ s) h = let l = lacks c b s h in elim (cases_Bool (
       ∙ after-dropped_none c k s l.after_it
 ]
 
--- dropping tabs and newlines on both sides of a byte that is kept
+-- if c is not a tab or newline, dropping these from a ++ c ∷ s drops them from a and from s, and keeps c
 pub dropped_around : (c : ℕ) → is_tab_or_newline c ≡ false → (a s : List ℕ)
     → without_tabs_and_newlines (a ++ c ∷ s) ≡ without_tabs_and_newlines a ++ c ∷ without_tabs_and_newlines s
 dropped_around c k a s = without_tabs_and_newlines-append a (c ∷ s)

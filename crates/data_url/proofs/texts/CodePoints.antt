@@ -14,13 +14,16 @@ use Rattle.std.proofs.lemmas.List.{get_or-reverse}
 
 -- Texts cut at the first code point that does not pass, and ends removed.
 
+-- if `Some a` and `Some b` are equal, so are a and b
 pub some_equal : (a b : List ℕ) → Some a ≡ Some b → a ≡ b
 some_equal a b e = cc
 
+-- a text of no bytes has no code points
 pub no_chars : (r : List ℕ) → length r ≡ 0 → chars r ≡ []
 no_chars [] e = chars-nil
 no_chars (b ∷ r) e = absurd (omega arith)
 
+-- a number in the range from low to high is at most high
 pub range_high : (low high c : ℕ) → is_in_range low high c ≡ true → c ≤ high
 range_high low high c r = leb-true c high (and_parts (nat_le low c) (nat_le c high) r).1
 
@@ -34,16 +37,20 @@ abbrev pub after_front : (ℕ → Bool) → List ℕ → List ℕ
 after_front p [] = []
 after_front p (c ∷ t) = cond (p c) (after_front p t) (c ∷ t)
 
+-- if all of a passes, and b does not begin with a code point that passes, the longest prefix of a ++ b that passes is a
 pub front_is : (p : ℕ → Bool) (a b : List ℕ) → Every p a → DoesNotBegin p b → front_of p (a ++ b) ≡ a
 front_is p [] [] h e = refl
 front_is p [] (c ∷ b) h e = cond-false (p c) (c ∷ front_of p b) [] e
 front_is p (c ∷ a) b h e = cond-true (p c) (c ∷ front_of p (a ++ b)) [] h.0 ∙ ap (λ t. c ∷ t) (front_is p a b h.1 e)
 
+-- if all of a passes, and b does not begin with a code point that passes, b is the text after the longest prefix of a
+-- ++ b that passes
 pub after_is : (p : ℕ → Bool) (a b : List ℕ) → Every p a → DoesNotBegin p b → after_front p (a ++ b) ≡ b
 after_is p [] [] h e = refl
 after_is p [] (c ∷ b) h e = cond-false (p c) (after_front p b) (c ∷ b) e
 after_is p (c ∷ a) b h e = cond-true (p c) (after_front p (a ++ b)) (c ∷ (a ++ b)) h.0 ∙ after_is p a b h.1 e
 
+-- a text is its longest prefix that passes, then the text after that prefix
 pub front_joined : (p : ℕ → Bool) (s : List ℕ) → s ≡ front_of p s ++ after_front p s
 front_joined p [] = refl
 front_joined p (c ∷ t) =
@@ -53,10 +60,12 @@ front_joined p (c ∷ t) =
       | false ↦ refl
     ]
 
+-- each code point of the longest prefix that passes does pass
 pub front_passes : (p : ℕ → Bool) (s : List ℕ) → Every p (front_of p s)
 front_passes p [] = tt
 front_passes p (c ∷ t) = cond_both (p c) (c ∷ front_of p t) [] (λ v. Every p v) (λ e. (e, front_passes p t)) (λ e. tt)
 
+-- the text after the longest prefix that passes does not begin with a code point that passes
 pub after_begins : (p : ℕ → Bool) (s : List ℕ) → DoesNotBegin p (after_front p s)
 after_begins p [] = tt
 after_begins p (c ∷ t) = cond_both (p c) (after_front p t) (c ∷ t) (λ v. DoesNotBegin p v) (λ e. after_begins p t)
@@ -76,12 +85,15 @@ back_passes : (p : ℕ → Bool) (back : List ℕ) → Every p back → without_
 back_passes p [] h = refl
 back_passes p (c ∷ back) h = ap (keep_before p c) (back_passes p back h.1) ∙ cond-true (p c) [] (c ∷ []) h.0
 
+-- if all of back passes, and t does not end with a code point that passes, then t ++ back without its longest suffix
+-- that passes is t
 pub without_back_joined : (p : ℕ → Bool) (t back : List ℕ) → Every p back → DoesNotEnd p t
     → without_back p (t ++ back) ≡ t
 without_back_joined p [] back h e = back_passes p back h
 without_back_joined p (c ∷ []) back h e = ap (keep_before p c) (back_passes p back h) ∙ cond-false (p c) [] (c ∷ []) e
 without_back_joined p (c ∷ d ∷ t) back h e = ap (keep_before p c) (without_back_joined p (d ∷ t) back h e)
 
+-- if t is s without its longest suffix that passes, then t is `without_back p s`
 pub trimmed_end_is : (p : ℕ → Bool) (s t : List ℕ) → IsTrimmedEnd p s t → t ≡ without_back p s
 trimmed_end_is p s t h = sym (ap (without_back p) h.joined ∙ without_back_joined p t h.back h.at_back h.ends)
 
@@ -98,12 +110,14 @@ trimmed_end_more p c t (d ∷ u) h = record {
   ends = h.ends;
 }
 
+-- `without_back p s` is s without its longest suffix that passes
 pub is_trimmed_end : (p : ℕ → Bool) (s : List ℕ) → IsTrimmedEnd p s (without_back p s)
 is_trimmed_end p [] = record { back = []; joined = refl; at_back = tt; ends = tt }
 is_trimmed_end p (c ∷ t) = trimmed_end_more p c t (without_back p t) (is_trimmed_end p t)
 
 -- the prefix that passes, found in two parts
 
+-- if the first n bytes pass, the longest prefix that passes is n bytes longer than that of the text after these bytes
 pub front_further : (p : ℕ → Bool) (bytes : List ℕ) (n : ℕ) → n ≤ length bytes
     → ((k : ℕ) → k < n → p (get_or bytes k 0) ≡ true) → prefix_len p bytes ≡ n + prefix_len p (drop n bytes)
 front_further p bytes zero l h = omega arith
@@ -113,6 +127,8 @@ front_further p bytes (suc n) l h =
     let more : n + 1 ≡ suc n = omega arith in
     omega (arith, before, here, ap (λ m. prefix_len p (drop m bytes)) more)
 
+-- if p implies q, the longest prefix that passes q is the longest one that passes p, and then the longest one of the
+-- bytes after it that passes q
 pub in_parts : (p q : ℕ → Bool) → ((c : ℕ) → p c ≡ true → q c ≡ true) → (bytes after : List ℕ) (first more : ℕ)
     → first ≡ prefix_len p bytes → after ≡ drop first bytes → more ≡ prefix_len q after
     → first + more ≡ prefix_len q bytes
@@ -128,6 +144,7 @@ in_parts p q h bytes after first more e d m =
 -- Where a text can be cut: before and after bytes below 128.
 
 module _ (p : ℕ → Bool) (ascii : (b : ℕ) → p b ≡ true → b < 128) (bs : List ℕ) (text : IsUtf8 bs) where
+  -- if only ASCII bytes pass, a UTF-8 text can be cut after its longest prefix that passes, unless that prefix is empty
   pub boundary_after_front : 0 < prefix_len p bs → IsCharBoundary bs (prefix_len p bs)
   boundary_after_front h =
       let last : prefix_len p bs - 1 < prefix_len p bs = omega arith in
@@ -148,9 +165,11 @@ module _ (p : ℕ → Bool) (ascii : (b : ℕ) → p b ≡ true → b < 128) (bs
       IsCharBoundary-before_ascii bs (length bs - suffix_len p bs) (omega arith)
       (ascii (get_or bs (length bs - suffix_len p bs) 0) (ap p (sym byte) ∙ passes))
 
+  -- if only ASCII bytes pass, a UTF-8 text can be cut before its longest suffix that passes
   pub boundary_before_end : IsCharBoundary bs (length bs - suffix_len p bs)
   boundary_before_end = ⊎_elim (λ h. before_end h) (λ h. (omega arith, λ l. absurd (omega arith)))
       (cases_lt 0 (suffix_len p bs))
 
+-- a C0 control or a space is ASCII
 pub is_low : (b : ℕ) → is_c0_control_or_space b ≡ true → b < 128
 is_low b h = omega (arith, leb-true b 32 h)
