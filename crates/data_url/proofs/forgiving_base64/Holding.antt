@@ -105,7 +105,7 @@ told_ok (Ok x) r e h = refl
 told_ok (Err x) r e h = absurd (cc)
 
 module _ {F E : Type 0} (step : F → List ℕ → Result (Unit {0}) E → F → Type 0) where
-  -- if d reads t without a call, it holds all bytes of t
+  -- if d reads t without a call, it holds the decoded bytes
   pub holds_from : {d d' : State F} {t more : List ℕ} → Adds d t more d' → Holds step d t more d'
   holds_from a = record {
     run = [];

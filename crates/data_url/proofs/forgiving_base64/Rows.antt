@@ -153,8 +153,7 @@ half_is row from long l =
     ap (λ n. get_or row n 0) there ∙ sym (get_or-take 8 (drop from row) k 0 (omega arith) ∙ get_or-drop from row k 0))
     ∙ pick_l_whole 0 v 8 (length-take-le 8 (drop from row) (omega (arith, length-drop from row)))
 
--- if the first c places are those of the clear bits, a lookup of them finds the bytes of the half row whose bits are
--- clear
+-- a lookup of the places of the clear bits finds the bytes of the half row whose bits are clear
 pub half_clear : (row v js : List ℕ) (from bits c : ℕ) → length row ≡ 16 → length v ≡ 16 → from ≤ 8
     → Each1 (λ p. p < 8) v → take c v ≡ clear (range_with_len 0 8) bits → js ≡ map (λ p. add8 p from) v
     → take c (swz_l w8 16 row 0 js) ≡ clear (take 8 (drop from row)) bits
@@ -396,7 +395,7 @@ fits_symbols [] h i = record { fits = omega arith }
 fits_symbols (b ∷ s) h zero = record { fits = symbol_lt b (and_parts (is_symbol b) (list_all is_symbol s) h).0 }
 fits_symbols (b ∷ s) h (suc i) = fits_symbols s (and_parts (is_symbol b) (list_all is_symbol s) h).1 i
 
--- the bytes of 64 values begin with those of the groups of the first len bytes, if these are symbols
+-- the bytes of 64 values begin with those of up to 16 groups of the first len bytes, if these are symbols
 pub front_is : (s bytes : List ℕ) (len : ℕ) → length s ≡ 144 → len < 128 → list_all is_symbol (take len s) ≡ true
     → bytes ≡ groups (map value_of (take 64 s)) → DecodesFront (take len s) bytes
 front_is s bytes len long few all e m a b =

@@ -320,7 +320,7 @@ prefix_not_not : (p : ℕ → Bool) (xs : List ℕ) → prefix_len (λ x. not (n
 prefix_not_not p [] = refl
 prefix_not_not p (x ∷ xs) = ap₂ (λ t n. cond t (1 + n) 0) (not_not (p x)) (prefix_not_not p xs)
 
--- if the mask is zero, all bytes are symbols at the start
+-- if the mask is zero, the symbols at the start are all n bytes
 pub none_ahead : {n : ℕ} (v : List ℕ) → length v ≡ n → others_mask v ≡ 0 → n ≡ prefix_len is_symbol v
 none_ahead v long e = sym long ∙ sym (leading_from_mask_l is_other v e) ∙ prefix_not_not is_symbol v
 
