@@ -284,14 +284,14 @@ ends a h = ends_by a h (decides a h)
 
 -- What is known about a text from another text with the same prefix
 
--- if the stages of one text with the prefix a end with `NoScheme`, so do those of any other
+-- if the stages of one text with the prefix a and a comma end with `NoScheme`, so do those of any other
 pub same_no_scheme : (a s t : List ℕ) → Ends a → IsBytes (trimmed_text (a ++ 44 ∷ s)) → staged (a ++ 44 ∷ s) ≡ NoScheme
     → staged (a ++ 44 ∷ t) ≡ NoScheme
 same_no_scheme a s t (all_no_scheme f) b h = f t
 same_no_scheme a s t (all_no_comma f) b h = absurd (let k : NoComma ≡ NoScheme = sym (f s b) ∙ h in cc)
 same_no_scheme a s t (all_accepted header f) b h = absurd (let k = sym (f s b).staged_is ∙ h in cc)
 
--- if the stages of one text with the prefix a end with `NoComma`, so do those of any other
+-- if the stages of one text with the prefix a and a comma end with `NoComma`, so do those of any other
 pub same_no_comma : (a s t : List ℕ) → Ends a → IsBytes (trimmed_text (a ++ 44 ∷ s))
     → IsBytes (trimmed_text (a ++ 44 ∷ t))
     → staged (a ++ 44 ∷ s) ≡ NoComma → staged (a ++ 44 ∷ t) ≡ NoComma
@@ -299,7 +299,7 @@ same_no_comma a s t (all_no_scheme f) b d h = absurd (let k : NoScheme ≡ NoCom
 same_no_comma a s t (all_no_comma f) b d h = f t d
 same_no_comma a s t (all_accepted header f) b d h = absurd (let k = sym (f s b).staged_is ∙ h in cc)
 
--- if one text with the prefix a is acceptable, so is any other
+-- if one text with the prefix a and a comma is acceptable, so is any other
 pub same_acceptable : (a s t : List ℕ) → Ends a → IsBytes (trimmed_text (a ++ 44 ∷ s))
     → IsBytes (trimmed_text (a ++ 44 ∷ t))
     → IsAcceptable (staged (a ++ 44 ∷ s)) → IsAcceptable (staged (a ++ 44 ∷ t))
@@ -307,7 +307,7 @@ same_acceptable a s t (all_no_scheme f) b d h = absurd (subst IsAcceptable (f s)
 same_acceptable a s t (all_no_comma f) b d h = absurd (subst IsAcceptable (f s b) h)
 same_acceptable a s t (all_accepted header f) b d h = subst IsAcceptable (sym (f t d).staged_is) tt
 
--- if one text with the prefix a is acceptable and has a header, any other is accepted with that header
+-- if one text with the prefix a and a comma is acceptable and has a header, any other is accepted with it
 pub same_header : (a s t header : List ℕ) → Ends a → IsBytes (trimmed_text (a ++ 44 ∷ s))
     → IsBytes (trimmed_text (a ++ 44 ∷ t)) → header_of (a ++ 44 ∷ s) ≡ Some header → IsAcceptable (staged (a ++ 44 ∷ s))
     → IsAcceptedWith (a ++ 44 ∷ t) header (trimmed_tail t)

@@ -67,22 +67,22 @@ abbrev pub has_pad : ℕ → Bool
 has_pad p = list_any is_pad (replicate p 61)
 
 module _ (q : List ℕ) (p : ℕ) (every : Every is_symbol q) where
-  -- after the symbols q and p times '=', the fault is that of t, where the '=' count as padding before t
+  -- the fault of q, p times '=' and then t is that of t, where the '=' count as padding before t
   pub fault_more : (t : List ℕ) → fault_byte false (left_text q p ++ t) ≡ fault_byte (has_pad p) t
   fault_more t = fault-append (left_text q p) t false (fault_text q p every)
       ∙ ap (λ s. fault_byte s t) (any_of_text q p every)
 
-  -- the bytes before the fault are q, the '=', and then the bytes of t before its fault
+  -- the bytes before the fault of q, p times '=' and then t are q, the '=' and those of t before its fault
   pub before_more : (t : List ℕ) → before_fault false (left_text q p ++ t) ≡ left_text q p ++ before_fault (has_pad p) t
   before_more t = before-append (left_text q p) t false (fault_text q p every)
       ∙ ap (λ s. left_text q p ++ before_fault s t) (any_of_text q p every)
 
-  -- the symbols are q and then those of t
+  -- the symbols of q, p times '=' and then t are q and those of t
   pub symbols_more : (t : List ℕ) → filter is_symbol (left_text q p ++ t) ≡ q ++ filter is_symbol t
   symbols_more t = filter-append is_symbol (left_text q p) t
       ∙ ap (λ x. x ++ filter is_symbol t) (symbols_of_text q p every)
 
-  -- the number of '=' is p more than that of t
+  -- the number of '=' in q, p times '=' and then t is p more than in t
   pub pads_more : (t : List ℕ) → length (filter is_pad (left_text q p ++ t)) ≡ p + length (filter is_pad t)
   pads_more t =
       ap length (filter-append is_pad (left_text q p) t)
@@ -90,7 +90,7 @@ module _ (q : List ℕ) (p : ℕ) (every : Every is_symbol q) where
       ∙ ap (λ x. length x + length (filter is_pad t)) (pads_of_text q p every)
       ∙ ap (λ x. x + length (filter is_pad t)) (length-replicate p 61)
 
-  -- the values are those of q and of the symbols of t
+  -- the values of q, p times '=' and then t are those of q and of the symbols of t
   pub values_more : (t : List ℕ) → values (left_text q p ++ t) ≡ map symbol_value (q ++ filter is_symbol t)
   unfolding values
   values_more t = ap (map symbol_value) (symbols_more t)
@@ -100,7 +100,7 @@ module _ (q : List ℕ) (p : ℕ) (every : Every is_symbol q) where
   unfolding values
   values_left = ap (map symbol_value) (symbols_of_text q p every)
 
-  -- if t has no fault, the complete bytes are those of the groups of q and the symbols of t
+  -- if t has no fault, the complete bytes of q, p times '=' and then t are those of q and the symbols of t
   pub done_more : (t : List ℕ) → fault_byte (has_pad p) t ≡ None → complete_bytes (left_text q p ++ t) ≡ groups
       (map symbol_value (q ++ filter is_symbol t))
   done_more t h =
@@ -108,17 +108,17 @@ module _ (q : List ℕ) (p : ℕ) (every : Every is_symbol q) where
       ∙ ap (λ x. groups (values x)) (before_none (left_text q p ++ t) false (fault_more t ∙ h))
       ∙ ap groups (values_more t)
 
-  -- the symbols left over are those of q and t after their complete groups
+  -- the symbols left over of q, p times '=' and then t are those of q and t after their complete groups
   pub left_more : (t : List ℕ) → left_symbols (left_text q p ++ t) ≡ after_groups (q ++ filter is_symbol t)
   unfolding left_symbols
   left_more t = ap after_groups (symbols_more t)
 
-  -- the padding left over is p and the number of '=' in t, but at most 3
+  -- the padding left over of q, p times '=' and then t is p and the number of '=' in t, but at most 3
   pub padding_more : (t : List ℕ) → left_padding (left_text q p ++ t) ≡ min (p + length (filter is_pad t)) 3
   unfolding left_padding
   padding_more t = ap (λ x. min x 3) (pads_more t)
 
-  -- if c is a fault after at most three symbols, no group is complete
+  -- if c is a fault after at most three symbols and p times '=', no group is complete
   pub done_bad : (c : ℕ) → length q ≤ 3 → fault_byte (has_pad p) (c ∷ []) ≡ Some c
       → complete_bytes (left_text q p ++ c ∷ []) ≡ []
   done_bad c few h =
@@ -128,7 +128,8 @@ module _ (q : List ℕ) (p : ℕ) (every : Every is_symbol q) where
       ∙ ap groups values_left
       ∙ groups_few (map symbol_value q) (omega (arith, few, length-map q symbol_value))
 
-  -- if c is a fault, its kind is a symbol after padding if c is a symbol, and an unexpected byte otherwise
+  -- the kind of a fault c after q and p times '=' is a symbol after padding for a symbol, and an unexpected byte
+  -- otherwise
   pub kind_bad : (c : ℕ) → fault_byte (has_pad p) (c ∷ []) ≡ Some c
       → kind_of (left_text q p ++ c ∷ []) ≡ cond (is_symbol c) AlphabetSymbolAfterPadding (UnexpectedSymbol c)
   kind_bad c h = kind_fault (left_text q p ++ c ∷ []) c (fault_more (c ∷ []) ∙ h)
@@ -147,7 +148,7 @@ module _ (q : List ℕ) (p : ℕ) (every : Every is_symbol q) where
   unfolding decoded
   decoded_left = ap (λ x. groups x ++ rest_bytes (after_groups x)) values_left
 
-  -- the kind is a lone symbol if the number of symbols modulo four is one, and padding otherwise
+  -- the kind of q and p times '=' is a lone symbol if the length of q modulo four is one, and padding otherwise
   pub kind_left : kind_of (left_text q p) ≡ cond (eqb (length q % 4) 1) LoneAlphabetSymbol Padding
   kind_left =
       kind_is (left_text q p)

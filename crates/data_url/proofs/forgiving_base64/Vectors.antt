@@ -199,7 +199,7 @@ numbers_row f h =
     (one_number (f 8) (f 9) (f 10) (f 11) (h 8) (h 9) (h 10) (h 11))
     (one_number (f 12) (f 13) (f 14) (f 15) (h 12) (h 13) (h 14) (h 15))
 
--- what lanes compute from 16 values are the numbers of their groups
+-- from 16 values below 64, lanes compute the numbers of their groups
 pub numbers_is : (v : List ℕ) → length v ≡ 16 → Each1 (λ x. x < 64) v → computed v ≡ numbers v
 numbers_is v long h = let P : List ℕ → Type 0 = λ l. computed l ≡ numbers l in
     subst P (row_is v long) (numbers_row (λ k. get_or v k 0) (λ k. below_at v k h))
@@ -267,7 +267,7 @@ differs a b = not (eqb a b)
 abbrev pub is_other : ℕ → Bool
 is_other b = not (is_symbol b)
 
--- the mask of the marks that are not zero is the mask of the bytes that are no symbols
+-- the mask of the marks of 16 bytes that are not zero is the mask of the bytes that are no symbols
 pub others_is : (v marks : List ℕ) → length v ≡ 16 → Each1 (Fits w8) v → marks ≡ map mark_of v
     → mask_l (map (top 7)
     (zip2 (λ a b. cond (differs a b) 255 0) marks
