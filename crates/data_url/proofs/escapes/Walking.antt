@@ -810,7 +810,7 @@ gathers_none c room len w = record {
   len_is = omega arith;
 }
 
--- two gathers, one after the other, are one
+-- what is gathered in two steps, one after the other, is gathered in both together
 pub gathers_then : {c c1 c2 : Cursor} {room room1 room2 : List ℕ} {len len1 len2 : ℕ} → Gathers c c1 room room1 len len1
     → Gathers c1 c2 room1 room2 len1 len2 → Gathers c c2 room room2 len len2
 gathers_then {c} {c1} {c2} {room} {room1} {room2} {len} {len1} {len2} g h =
@@ -971,7 +971,7 @@ smaller_by : (total place place' : ℕ) (ended : Bool) → place ≤ place' → 
 smaller_by total place place' true l w m = omega arith
 smaller_by total place place' false l w m = omega arith
 
--- each gather by which the walk moves or ends makes the measure smaller
+-- gathering bytes makes the measure smaller, if the walk moves or ends
 pub smaller : (c0 : Cursor) {c1 c' : Cursor} {room room' : List ℕ} {len len' : ℕ} (total : ℕ) → c0.ahead ≡ Unknown
     → c1.place ≡ c0.place → length (text_of c1) ≡ total → Moves c1 c' → Gathers c1 c' room room' len len'
     → measure total c'.place (has_ended c'.ahead) < measure total c0.place (has_ended c0.ahead)

@@ -49,7 +49,7 @@ whole_length (p ∷ q ∷ []) h = absurd (omega arith)
 whole_length (p ∷ q ∷ r ∷ []) h = absurd (omega arith)
 whole_length (p ∷ q ∷ r ∷ s ∷ rest) h = let e : length rest % 4 ≡ 0 = omega arith in omega (arith, whole_length rest e)
 
--- if x has 4 * m values, the first 3 * m bytes of its groups are those of its first 4 * m values
+-- if x has at least 4 * m values, the first 3 * m bytes of its groups are those of its first 4 * m values
 pub take_groups : (m : ℕ) (x : List ℕ) → 4 * m ≤ length x → take (3 * m) (groups x) ≡ groups (take (4 * m) x)
 take_groups m x h =
     let front = take (4 * m) x in

@@ -208,7 +208,7 @@ module _ {F E : Type 0} (step : F → List ℕ → Result (Unit {0}) E → F →
         });
       }))
 
-  -- after t was read, a flush of the bytes that are held feeds t
+  -- reading t, and then flushing the bytes that are held, feeds t
   pub flushed_feeds : {d d1 d2 : State F} {t : List ℕ} {r : Result (Unit {0}) (DecodeError E)} (held : List ℕ)
       → Holds step d t held d1 → Flushes step d1 held r d2 → Feeds step d t r d2
   flushed_feeds [] h f = quiet_feeds h f.0 f.1

@@ -347,7 +347,7 @@ no_items : (l : List ℕ) → length l ≡ 0 → l ≡ []
 no_items [] e = refl
 no_items (b ∷ l) e = absurd (omega arith)
 
--- the values that are left over are those after as many as the largest multiple of four
+-- the values left over are those from the largest multiple of four on
 pub after_is : (q : List ℕ) → after_groups q ≡ drop (length q / 4 * 4) q
 after_is q =
     let at = length q / 4 * 4 in
