@@ -36,6 +36,7 @@ body_more : (text read bytes rest rest' : List ℕ) → plain_body text ≡ read
     → plain_body text ≡ (read ++ bytes) ++ rest'
 body_more text read bytes rest rest' h e = h ∙ ap (λ x. read ++ x) e ∙ sym (append_assoc read bytes rest')
 
+-- one piece more is written after the pieces so far
 pub copied_more : {text out0 out bytes out' : List ℕ} {w w' : Walk} {len len' : ℕ} → Copied text out0 w out len
     → w'.text ≡ w.text → w.rest ≡ bytes ++ w'.rest → Writes bytes out len out' len' → Copied text out0 w' out' len'
 copied_more {text} {out0} {out} {bytes} {out'} {w} {w'} {len} {len'} h t e k = record {
@@ -81,6 +82,7 @@ takes_nothing s out h size =
           (refl, is_left (waiting_text s ++ []) s size few few_padding symbols padding);
     }
 
+-- before the first piece nothing was fed
 pub fed_none : (s : DataUrlBase64) (text out : List ℕ) → is_good_state s ≡ true → length s.symbols ≡ 3
     → Fed s s text out (walk_at_front text) out 0
 fed_none s text out h size = record {
@@ -92,6 +94,7 @@ fed_none s text out h size = record {
       refl;
 }
 
+-- the bytes that feeding wrote are within the output
 pub fed_within : {s0 s : DataUrlBase64} {text out0 out : List ℕ} {w : Walk} {len : ℕ} → Fed s0 s text out0 w out len
     → len ≤ length out
 fed_within h = omega (arith, h.takes.wrote.within, h.size)
@@ -191,15 +194,18 @@ ends_after {out} {out'} {piece} {last} {len} s written h size three k room p w =
 
 -- Outcomes
 
+-- a body that is not base64 is good, and is its bytes
 pub outcome_plain : (flag : Bool) (x : List ℕ) → flag ≡ false → outcome flag x ≡ Good x
 unfolding outcome
 outcome_plain true x e = absurd (cc)
 outcome_plain false x e = refl
 
+-- a body of valid base64 is good, and is the bytes that it decodes to
 pub outcome_valid : (x : List ℕ) → is_valid x ≡ true → outcome true x ≡ Good (decoded x)
 unfolding outcome
 outcome_valid x e = ap (λ v. cond v (Good (decoded x)) (Bad (complete_bytes x) (kind_of x))) e
 
+-- a body of base64 that is not valid is bad, with the bytes of the complete groups and the kind of the fault
 pub outcome_invalid : (x : List ℕ) → is_valid x ≡ false → outcome true x ≡ Bad (complete_bytes x) (kind_of x)
 unfolding outcome
 outcome_invalid x e = ap (λ v. cond v (Good (decoded x)) (Bad (complete_bytes x) (kind_of x))) e
@@ -263,6 +269,7 @@ ends_cases {u} {before} {mid} {s} {n} after r false e h size k room short =
       subst W (sym k.1) (subst X (sym k.2) h.wrote),
     )
 
+-- if a base64 body u was fed without a fault and then ended, the bytes of its outcome were written
 pub ends_whole : {u before mid after : List ℕ} {s : DataUrlBase64} {status n : ℕ} {r : DataUrlStep} (flag : Bool)
     → flag ≡ true → TakesText u s before mid status n → status ≡ 0 → length mid ≡ length before
     → EndsAfter (waiting_text s) n mid after r → 4 * n + 3 * s.pending ≤ 4 * length before

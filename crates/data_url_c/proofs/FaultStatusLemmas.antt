@@ -26,6 +26,7 @@ is_faulty_by : {E : Type 0} (o : Option ℕ) (kind : Kind) (told : Kind) (r : Re
 is_faulty_by (Some place) kind told r e h = refl
 is_faulty_by None kind told r e h = absurd (let k : Ok tt ≡ Err (InvalidBase64 told) = sym h ∙ e in cc)
 
+-- if decoding a text returns the error of a fault, the text has a first fault
 pub is_faulty : {E : Type 0} (u : List ℕ) (told : Kind) {r : Result (Unit {0}) (DecodeError E)}
     → MatchOption (first_fault u) (r ≡ Ok tt) (λ place. r ≡ Err (InvalidBase64 (kind_of u)))
     → r ≡ Err (InvalidBase64 told)
@@ -59,6 +60,7 @@ pub after_space : (s : Bool) (c : ℕ) (rest : List ℕ) → is_ascii_whitespace
 after_space s c rest h =
     step_by s s c rest (fault_space c s h) (ap (λ v. s || (v || false)) (space_alone (classes c) h).0 ∙ or-false s)
 
+-- a '=' is not a fault, and there is padding after it
 pub after_pad : (s : Bool) (c : ℕ) (rest : List ℕ) → (c == 61) ≡ true → fault_byte s (c ∷ rest) ≡ fault_byte true rest
 after_pad s c rest h =
     let is : c ≡ 61 = eqb-true c 61 h in
@@ -66,15 +68,18 @@ after_pad s c rest h =
 
 -- the same, from what is known about the flag before and after
 
+-- a symbol before any '=' is passed, and the flag stays as it is
 pub step_symbol : (s t : Bool) (c : ℕ) → s ≡ false → t ≡ s → is_symbol c ≡ true → (rest : List ℕ)
     → fault_byte s (c ∷ rest) ≡ fault_byte t rest
 step_symbol s t c e f h rest =
     ap (λ v. fault_byte v (c ∷ rest)) e ∙ after_symbol c rest h ∙ ap (λ v. fault_byte v rest) (sym (f ∙ e))
 
+-- a '=' is passed, and the flag is true after it
 pub step_pad : (s t : Bool) (c : ℕ) → t ≡ true → (c == 61) ≡ true → (rest : List ℕ)
     → fault_byte s (c ∷ rest) ≡ fault_byte t rest
 step_pad s t c e h rest = after_pad s c rest h ∙ ap (λ v. fault_byte v rest) (sym e)
 
+-- whitespace is passed, and the flag stays as it is
 pub step_space : (s t : Bool) (c : ℕ) → t ≡ s → is_ascii_whitespace c ≡ true → (rest : List ℕ)
     → fault_byte s (c ∷ rest) ≡ fault_byte t rest
 step_space s t c e h rest = after_space s c rest h ∙ ap (λ v. fault_byte v rest) (sym e)
@@ -85,6 +90,7 @@ step_space s t c e h rest = after_space s c rest h ∙ ap (λ v. fault_byte v re
 abbrev pub GoesOn : DataUrlBase64 → List ℕ → Bool → ℕ → Type 0
 GoesOn s text padded at = fault_byte padded (drop at text) ≡ fault_byte (has_pad s.padding) text
 
+-- if the byte at an index is passed, the same is true from the next index on
 pub goes_on : (s : DataUrlBase64) (text : List ℕ) (padded now : Bool) (at c : ℕ) → GoesOn s text padded at
     → at < length text
     → c ≡ get_or text at 0 → ((rest : List ℕ) → fault_byte padded (c ∷ rest) ≡ fault_byte now rest)
@@ -109,6 +115,7 @@ kind_here s text padded at c g h l e f =
     ∙ fault-append_some (c ∷ []) (drop (at + 1) text) padded c f in
     kind_fault (waiting_text s ++ text) c (fault_more q s.padding every text ∙ sym h ∙ found)
 
+-- if no earlier byte is a fault, and the byte at an index is a symbol after padding, the status is 10
 pub fault_after_padding : (s : DataUrlBase64) (text : List ℕ) (at c : ℕ) → is_good_state s ≡ true → GoesOn s text true at
     → at < length text
     → c ≡ get_or text at 0 → is_symbol c ≡ true → 10 ≡ status_of_kind (kind_of (waiting_text s ++ text))
@@ -116,6 +123,7 @@ fault_after_padding s text at c g h l e k =
     sym (ap status_of_kind (kind_here s text true at c g h l e (fault_after c k)
     ∙ ap (λ v. cond v AlphabetSymbolAfterPadding (UnexpectedSymbol c)) k))
 
+-- if no earlier byte is a fault, and the byte at an index is in no class, the status is 256 plus the byte
 pub fault_unexpected : (s : DataUrlBase64) (text : List ℕ) (padded : Bool) (at c : ℕ) → is_good_state s ≡ true
     → GoesOn s text padded at
     → at < length text → c ≡ get_or text at 0 → is_ascii_whitespace c ≡ false → (c == 61) ≡ false → is_symbol c ≡ false
@@ -139,6 +147,7 @@ none_found s text padded at g h l k =
 
 -- The end
 
+-- the status of what is left over in a good state is 9 if there is one symbol, and 8 otherwise
 pub end_is : (s : DataUrlBase64) → is_good_state s ≡ true → length s.symbols ≡ 3
     → status_of_kind (kind_of (waiting_text s)) ≡ cond (eqb s.pending 1) 9 8
 end_is s g l =

@@ -32,6 +32,7 @@ use Rattle.data_url_c.specs.declared.refusal.Refusal.TheVariants.{NotAMimeType, 
 
 -- URLs
 
+-- a text with accepted stages is acceptable
 pub accepted : (x : List ℕ) {type_text : List ℕ} {body : Outcome} {fragment : Option (List ℕ)}
     → staged x ≡ Accepted type_text body fragment → IsAcceptable (staged x)
 accepted x e = subst IsAcceptable (sym e) tt
@@ -45,6 +46,7 @@ encoded_is (Some f) = refl
 abbrev staged_part : DataUrl → Option (List ℕ)
 staged_part url = option_map (percent_encoding in_fragment_set) (fragment_in (without_tabs_and_newlines (url_tail url)))
 
+-- a text of a URL has the body and the fragment of that URL
 pub url_with : {x : List ℕ} {url : DataUrl} {body : Outcome} {fragment : Option (List ℕ)} → IsUtf8 x → IsUrlOf x url
     → url_body url ≡ body → option_map encoded_fragment (after 35 (url_tail url)) ≡ fragment
     → IsUrlWith x body fragment
@@ -58,6 +60,7 @@ url_with {url = url} {body = body} t u b f =
           ∙ ap (λ o. Accepted (mime_text u.header) body o) e;
     }
 
+-- a result that has the body of a URL is a result for the text of that URL
 pub gives_body : {x : List ℕ} {url : DataUrl} → IsUtf8 x → IsUrlOf x url → (given : Given)
     → HasBody (url_body url) given → GivesBody x given
 gives_body t u (Ok bytes) h = (_, url_with t u h refl)
@@ -79,6 +82,7 @@ body_refused x NotAMimeType h = h
 body_refused x NoFragment h = h
 body_refused x (InvalidBase64 kind before) h = absurd h
 
+-- a result that has the fragment of a URL is a result for the text of that URL
 pub gives_fragment : {x : List ℕ} {url : DataUrl} → IsUtf8 x → IsUrlOf x url → (given : Given) → HasFragment url given
     → GivesFragment x given
 gives_fragment t u (Ok text) h = (h.0, url_with t u h.1 h.2)
@@ -90,6 +94,7 @@ gives_fragment t u (Err NoComma) h = absurd h
 gives_fragment t u (Err NotUtf8) h = absurd h
 gives_fragment t u (Err NotAMimeType) h = absurd h
 
+-- a result that has the serialised MIME type of a URL is a result for the text of that URL
 pub gives_mime : {x : List ℕ} {url : DataUrl} {mime : Mime} → IsUtf8 x → IsUrlOf x url → mime ≡ mime_of url
     → (given : Given) → HasText (record_of mime) given → GivesMime x given
 gives_mime {url = url} t u e (Ok text) h =
@@ -115,6 +120,7 @@ gives_mime t u e (Err NotAMimeType) h = absurd h
 
 -- MIME types
 
+-- a result that has the serialisation of a record is a result for a text that parses to that record
 pub gives_type : {x s : List ℕ} {mime : Record} → IsUtf8 x → s ≡ x → Parses (chars s) mime → (given : Given)
     → HasText mime given → GivesType x given
 gives_type {mime = mime} t e p (Ok text) h = let P : List ℕ → Type 0 = λ y. Parses (chars y) mime in
@@ -128,6 +134,7 @@ gives_type t e p (Err NoComma) h = absurd h
 gives_type t e p (Err NotUtf8) h = absurd h
 gives_type t e p (Err NotAMimeType) h = absurd h
 
+-- if parsing a text as a MIME type returns a parsing error, the text has no record
 pub no_record : {x s : List ℕ} {r : Result Mime MimeFromStrError} {e : MimeFromStrError} {p : MimeParsingError} → s ≡ x
     → r ≡ Err e → e ≡ Parsing p → (IsParsingError r → HasNoRecord (chars s)) → HasNoRecord (chars x)
 no_record same h k refused =
@@ -135,6 +142,7 @@ no_record same h k refused =
     let Q : List ℕ → Type 0 = λ y. HasNoRecord (chars y) in
     subst Q same (refused (subst IsParsingError (sym h) (subst P (sym k) tt)))
 
+-- if parsing a text as a MIME type fails because of memory, it is false that the text has no record
 pub some_record : {x s : List ℕ} {r : Result Mime MimeFromStrError} {e : MimeFromStrError} → s ≡ x → r ≡ Err e
     → e ≡ NoMemory → (HasNoRecord (chars s) → IsParsingError r) → HasNoRecord (chars x) → ⊥
 some_record same h k refused none =
@@ -177,6 +185,7 @@ valid_all None true x all bytes r q h = refl
 valid_all None false x all bytes r q h = absurd (let k = h.1 in cc)
 valid_all (Some e) v x all bytes r q h = absurd (let k = h.answer in cc)
 
+-- if decoding a text returns `Ok`, the text is valid
 pub decodes_valid : {F E : Type 0} {step : F → List ℕ → Result (Unit {0}) E → F → Type 0} {f f' : F} {x : List ℕ}
     {r : Result (Unit {0}) (DecodeError E)} → DecodesText step f x r f' → r ≡ Ok tt → is_valid x ≡ true
 decodes_valid {x = x} {r = r} h q = valid_all (refusal h.run) (is_valid x) x _ (joined_pieces h.run) r q h.gave
@@ -193,10 +202,12 @@ answers Gives given g or (inr c) =
 
 -- a call that can return a fault of base64 can also fail to allocate
 
+-- a body with a fault may also be returned as a failed allocation
 pub body_or_memory : {x : List ℕ} (kind : Kind) (before : Vec ℕ Global) → GivesBody x (Err (InvalidBase64 kind before))
     → GivesBody x (Err OutOfMemory)
 body_or_memory {x} kind before g = (g.1.is_text, accepted x g.1.staged_is)
 
+-- the fragment of a body with a fault may also be returned as a failed allocation
 pub fragment_or_memory : {x : List ℕ} (kind : Kind) (before : Vec ℕ Global)
     → GivesFragment x (Err (InvalidBase64 kind before)) → GivesFragment x (Err OutOfMemory)
 fragment_or_memory {x} kind before g = (g.2.is_text, accepted x g.2.staged_is)

@@ -60,6 +60,7 @@ groups_exact (p ∷ q ∷ []) = refl
 groups_exact (p ∷ q ∷ r ∷ []) = refl
 groups_exact (p ∷ q ∷ r ∷ s ∷ rest) = let h = groups_exact rest in omega arith
 
+-- without a fault, the complete bytes are three for each four symbols that are not left over
 pub complete_exact : (u : List ℕ) → first_fault u ≡ None → 4 * length (complete_bytes u) + 3 * length (left_symbols u)
     ≡ 3 * length (filter is_symbol u)
 unfolding complete_bytes values left_symbols
@@ -83,6 +84,7 @@ pub waiting_symbols : (s : DataUrlBase64) (t : List ℕ) → is_good_state s ≡
 waiting_symbols s t h = symbols_more (take s.pending s.symbols) s.padding
     (every_list_all (take s.pending s.symbols) (good_parts s h).symbols) t
 
+-- what is left over in a good state, and then t, has at most `pending` symbols and one for each byte of t
 pub waiting_length : (s : DataUrlBase64) (t : List ℕ) → is_good_state s ≡ true
     → length (filter is_symbol (waiting_text s ++ t)) ≤ s.pending + length t
 waiting_length s t h =
@@ -95,6 +97,7 @@ waiting_length s t h =
       filter_length t,
     )
 
+-- the length of what is left over, and then t
 pub text_length : (s : DataUrlBase64) (t : List ℕ) → s.pending ≤ length s.symbols
     → length (waiting_text s ++ t) ≡ s.pending + s.padding + length t
 text_length s t h =
@@ -123,6 +126,7 @@ found_one xs count m b l k =
     let few : length (take count xs) ≡ count = length-take-le count xs k in
     ap (drop m) (take-set-lt count xs m b l) ∙ drop-set (take count xs) m b (omega arith)
 
+-- a symbol before those that were found at the end of a text is put before them
 pub found_symbol : (s xs : List ℕ) (count missing at m i b : ℕ) → m + 1 ≡ missing → i + 1 ≡ at → at ≤ length s
     → b ≡ get_or s i 0 → is_symbol b ≡ true → missing ≤ count → count ≤ length xs
     → drop missing (take count xs) ≡ filter is_symbol (drop at s) → drop m (take count (set xs m b)) ≡ filter is_symbol
@@ -175,6 +179,7 @@ groups_left front last few e =
     after_groups-append front last ∙ ap (λ x. after_groups (x ++ last)) (nil_from_length (after_groups front) whole)
     ∙ after_few last few
 
+-- the last symbols of a text are those left over, if they are as many as all symbols modulo four
 pub left_symbols_are : (s last : List ℕ) → length last ≡ length (filter is_symbol s) % 4
     → (front : List ℕ) × (filter is_symbol s ≡ front ++ last) → last ≡ left_symbols s
 unfolding left_symbols

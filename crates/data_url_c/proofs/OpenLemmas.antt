@@ -39,6 +39,7 @@ use Rattle.data_url_c.proofs.ProbeLemmas.{same_no_scheme, tail_of_cut, trimmed_a
 
 -- Cutting at the comma
 
+-- the index at which the first comma is found is within the text, and there is a comma
 pub at_comma : (x : List ℕ) (comma : ℕ) → position (λ b. b == 44) x ≡ Some comma
     → (comma < length x) × (get_or x comma 0 ≡ 44)
 at_comma x comma h =
@@ -57,6 +58,7 @@ cut_at x comma h =
     sym (take-append-drop comma x)
     ∙ ap (λ t. take comma x ++ t) (drop_more x comma 0 at.0 ∙ ap (λ b. b ∷ drop (comma + 1) x) at.1)
 
+-- the C0 controls and spaces at the end of what follows the comma are at most as many as its bytes
 pub fits_tail : (x : List ℕ) (comma low : ℕ) → low ≡ suffix_len is_c0_control_or_space (drop (comma + 1) x)
     → low ≤ length x - (comma + 1)
 fits_tail x comma low e =
@@ -184,6 +186,7 @@ reads_by a t old new (Err refusal) n b d p h x comma u e f =
     let R : List ℕ → Type 0 = λ y. RefusesUrl y refusal in
     (subst R (sym e) (refused_by a t refusal n b d p (subst IsUtf8 e u) h.0), h.1)
 
+-- what reading a probe returns is what reading the URL returns, if the probe is the text up to its comma and ",QQ"
 pub reads_url : (x probe old new : List ℕ) (comma : ℕ) (r : Result (DataUrlAnswer × Bool) Refusal) → IsUtf8 x
     → IsUtf8 probe → ((i : ℕ) → get_or x i 0 < 256) → position (λ b. b == 44) x ≡ Some comma
     → probe ≡ take comma x ++ codes ",QQ"
@@ -262,6 +265,7 @@ default_by t memory d h =
           ∙ ap (λ v. Accepted (mime_text []) (outcome v (plain_body (trimmed_tail t))) with.fragment_is) not_base64;
     }
 
+-- a text that begins with "data:," has the default MIME type, and its body is not base64
 pub default_read : (x items : List ℕ) (comma : ℕ) (found : Bool) {old new : List ℕ} {r : DataUrlAnswer} → Global
     → ((i : ℕ) → get_or x i 0 < 256) → position (λ b. b == 44) x ≡ Some comma → items ≡ x
     → found ≡ starts_with nat_eq items (codes "data:,") → found ≡ true → Shows 0 default_text old new r
@@ -291,6 +295,7 @@ crosses_refused x refusal h (inr c) =
     let e : refusal ≡ InvalidBase64 f.0 f.1 = let k = f.2 in cc in
     absurd (subst (RefusesUrl x) e h)
 
+-- if the bytes are refused as a URL, opening them returns that refusal and no tail
 pub opens_refused : (x : List ℕ) (refusal : Refusal) {old mid new : List ℕ} {r : DataUrlOpened} → RefusesUrl x refusal
     → mid ≡ old → IsRefused refusal mid new r → Opens x old new r
 opens_refused x refusal {old} {mid} {new} {r} h e k =
@@ -301,6 +306,7 @@ opens_refused x refusal {old} {mid} {new} {r} h e k =
       crosses = subst P e (crosses_refused x refusal h k.crosses);
     }
 
+-- if the header of a URL was read, opening the URL returns its MIME type, its tail, and whether it is base64
 pub opens_read : (x : List ℕ) (comma low : ℕ) {r : DataUrlAnswer} {flag : Bool} {old new : List ℕ} → IsUtf8 x
     → position (λ b. b == 44) x ≡ Some comma → low ≡ suffix_len is_c0_control_or_space (drop (comma + 1) x)
     → IsReadUrl x (tail_after x comma) old new r flag

@@ -34,6 +34,7 @@ pub record GoodParts (s : DataUrlBase64) : Type 0 where
   pub few_padding : s.padding ≤ 3
   pub symbols : list_all is_symbol (take s.pending s.symbols) ≡ true
 
+-- what is true of a good state, part by part
 pub good_parts : (s : DataUrlBase64) → is_good_state s ≡ true → GoodParts s
 good_parts s h =
     let a = and_parts (nat_le s.pending 3) (nat_le s.padding 3 && list_all is_symbol (take s.pending s.symbols)) h in
@@ -45,6 +46,7 @@ pub good_rest : (s : DataUrlBase64) → s.pending ≤ 3 → s.padding ≤ 3 → 
     ≡ is_good_state s
 good_rest s a b = let p = le-leb s.pending 3 a in let q = le-leb s.padding 3 b in rw (p, q) refl
 
+-- a state with these parts is good
 pub good_from : (s : DataUrlBase64) → s.pending ≤ 3 → s.padding ≤ 3 → list_all is_symbol (take s.pending s.symbols)
     ≡ true → is_good_state s ≡ true
 good_from s a b c = sym (good_rest s a b) ∙ c
@@ -130,6 +132,7 @@ writes_front {bytes} {all} {out} {out'} {len} e l o fits = record {
       ∙ ap (λ n. drop n out) (sym l);
 }
 
+-- a closure that cannot fail has no error
 pub no_refusal : (o : Option Infallible) → o ≡ None
 no_refusal None = refl
 no_refusal (Some e) = elim e [ ]
@@ -152,10 +155,12 @@ fed_keeps {step = step} {d = d} {d' = d'} h K keeps = run_keeps step K keeps h.r
 module _ {F G E : Type 0} (inner : G → List ℕ → Result (Unit {0}) E → G → Type 0) (outer : F → List ℕ
     → Result (Unit {0}) E → F → Type 0) (K : G → F) (maps : (g : G) (piece : List ℕ) (r : Result (Unit {0}) E) (g' : G)
     → inner g piece r g' → outer (K g) piece r (K g')) where
+  -- the calls of the other closure, from those of the first
   pub outer_calls : List (Call G E) → List (Call F E)
   outer_calls [] = []
   outer_calls (c ∷ cs) = record { piece = c.piece; answer = c.answer; after = K c.after } ∷ outer_calls cs
 
+  -- these calls are a run of the other closure
   pub outer_ran : (cs : List (Call G E)) (f g : G) → IsRun inner f cs g → IsRun outer (K f) (outer_calls cs) (K g)
   unfolding outer_calls
   outer_ran [] f g ran = ap K ran
@@ -165,6 +170,7 @@ module _ {F G E : Type 0} (inner : G → List ℕ → Result (Unit {0}) E → G 
     outer_ran cs c.after g ran.2,
   )
 
+  -- these calls have the same pieces
   pub outer_joined : (cs : List (Call G E)) → joined_pieces (outer_calls cs) ≡ joined_pieces cs
   unfolding outer_calls
   outer_joined [] = refl
@@ -255,17 +261,20 @@ sound_by : (o : Option ℕ) (kind : Kind) (status : ℕ) (P Q : Type 0)
 sound_by None kind status P Q h e = (refl, h.1)
 sound_by (Some place) kind status P Q h e = absurd (no_kind kind (sym h.0 ∙ e))
 
+-- a status that is not 0 is that of a fault
 pub faulty_by : (o : Option ℕ) (kind : Kind) (status : ℕ) (P Q : Type 0)
     → MatchOption o ((status ≡ 0) × P) (λ place. (status ≡ status_of_kind kind) × Q) → (status ≡ 0 → ⊥)
     → is_some o ≡ true × (status ≡ status_of_kind kind) × Q
 faulty_by None kind status P Q h e = absurd (e h.0)
 faulty_by (Some place) kind status P Q h e = (refl, h.0, h.1)
 
+-- if the status is 0, the text has no fault, and the state holds what is left over of it
 pub taken_sound : {u : List ℕ} {s : DataUrlBase64} {before after : List ℕ} {status len : ℕ}
     → TakesText u s before after status len → status ≡ 0 → (first_fault u ≡ None) × IsLeftOf u s
 taken_sound {u} {s} {status = status} h e = sound_by (first_fault u) (kind_of u) status (IsLeftOf u s)
     (is_good_state s ≡ false) h.ended e
 
+-- if a state holds what is left over of a text, its text is the symbols and the padding that are left over
 pub left_text_is : {u : List ℕ} {s : DataUrlBase64} → IsLeftOf u s
     → waiting_text s ≡ left_text (left_symbols u) (left_padding u)
 left_text_is {u} {s} h = ap (λ q. left_text q s.padding) h.symbols_are ∙ ap (left_text (left_symbols u)) h.padding_is
@@ -298,6 +307,7 @@ takes_both {u} {s} {t} {out} {out1} {out2} {out'} {first} {status} {n} {m} b a z
           h.ended;
     }
 
+-- if `fault_byte` finds a fault, it finds a byte c
 pub fault_cases : (u : List ℕ) (o : Option ℕ) → fault_byte false u ≡ o → is_some o ≡ true
     → (c : ℕ) × (fault_byte false u ≡ Some c)
 fault_cases u None e h = absurd (cc)

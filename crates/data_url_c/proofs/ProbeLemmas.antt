@@ -49,9 +49,11 @@ end_stop p x q b f =
 abbrev pub trimmed_front : List ℕ → List ℕ
 trimmed_front a = without_front is_c0_control_or_space a
 
+-- the tail without C0 controls and spaces at its end
 abbrev pub trimmed_tail : List ℕ → List ℕ
 trimmed_tail t = without_end is_c0_control_or_space t
 
+-- trimming a text with a comma is trimming its front before the comma and its end after the comma
 pub trimmed_around : (a t : List ℕ) → trimmed_text (a ++ 44 ∷ t) ≡ trimmed_front a ++ 44 ∷ trimmed_tail t
 unfolding trimmed_text
 trimmed_around a t =
@@ -99,6 +101,7 @@ has_front (suc n) (b ∷ s) l = elim (cases_Bool (is_tab_or_newline b)) [
 abbrev spelled : List ℕ → Bool
 spelled s = bytes_eq (map to_ascii_lowercase (take 5 (without_tabs_and_newlines s))) (codes "data:")
 
+-- the text begins with the scheme, in any case and with tabs and newlines among its letters
 pub record HasScheme (s : List ℕ) : Type 0 where
   pub scheme : List ℕ
   pub rest : List ℕ
@@ -147,12 +150,14 @@ none_front c [] q h = after_nil c
 none_front c (b ∷ p) q h =
     let k = lacks c b (p ++ q) h in after_other c b p k.here ∙ none_front c p q k.after_it
 
+-- the tail of a text is what follows its first comma, trimmed at its end
 pub tail_of_cut : (a t : List ℕ) → after 44 a ≡ None → tail_of (a ++ 44 ∷ t) ≡ Some (trimmed_tail t)
 unfolding tail_of
 tail_of_cut a t n =
     ap (after 44) (trimmed_around a t)
     ∙ after_at 44 (trimmed_front a) (trimmed_tail t) (none_drop 44 (prefix_len is_c0_control_or_space a) a n)
 
+-- the scheme has no comma
 pub no_comma_in_scheme : after 44 (codes "data:") ≡ None
 unfolding after
 no_comma_in_scheme = refl
@@ -273,17 +278,20 @@ ends_by a h (has_header s e) =
     let comma = rest_lacks_comma (trimmed_front a) s (none_drop 44 (prefix_len is_c0_control_or_space a) a h) in
     all_accepted (header_text (without_tabs_and_newlines s.rest)) (λ t b. accepted_with a t s comma e b)
 
+-- if a has no comma, the stages of a text that begins with a and a comma end alike
 pub ends : (a : List ℕ) → after 44 a ≡ None → Ends a
 ends a h = ends_by a h (decides a h)
 
 -- What is known about a text from another text with the same prefix
 
+-- if the stages of one text with the prefix a and a comma end with `NoScheme`, so do those of any other
 pub same_no_scheme : (a s t : List ℕ) → Ends a → IsBytes (trimmed_text (a ++ 44 ∷ s)) → staged (a ++ 44 ∷ s) ≡ NoScheme
     → staged (a ++ 44 ∷ t) ≡ NoScheme
 same_no_scheme a s t (all_no_scheme f) b h = f t
 same_no_scheme a s t (all_no_comma f) b h = absurd (let k : NoComma ≡ NoScheme = sym (f s b) ∙ h in cc)
 same_no_scheme a s t (all_accepted header f) b h = absurd (let k = sym (f s b).staged_is ∙ h in cc)
 
+-- if the stages of one text with the prefix a and a comma end with `NoComma`, so do those of any other
 pub same_no_comma : (a s t : List ℕ) → Ends a → IsBytes (trimmed_text (a ++ 44 ∷ s))
     → IsBytes (trimmed_text (a ++ 44 ∷ t))
     → staged (a ++ 44 ∷ s) ≡ NoComma → staged (a ++ 44 ∷ t) ≡ NoComma
@@ -291,6 +299,7 @@ same_no_comma a s t (all_no_scheme f) b d h = absurd (let k : NoScheme ≡ NoCom
 same_no_comma a s t (all_no_comma f) b d h = f t d
 same_no_comma a s t (all_accepted header f) b d h = absurd (let k = sym (f s b).staged_is ∙ h in cc)
 
+-- if one text with the prefix a and a comma is acceptable, so is any other
 pub same_acceptable : (a s t : List ℕ) → Ends a → IsBytes (trimmed_text (a ++ 44 ∷ s))
     → IsBytes (trimmed_text (a ++ 44 ∷ t))
     → IsAcceptable (staged (a ++ 44 ∷ s)) → IsAcceptable (staged (a ++ 44 ∷ t))
@@ -298,6 +307,7 @@ same_acceptable a s t (all_no_scheme f) b d h = absurd (subst IsAcceptable (f s)
 same_acceptable a s t (all_no_comma f) b d h = absurd (subst IsAcceptable (f s b) h)
 same_acceptable a s t (all_accepted header f) b d h = subst IsAcceptable (sym (f t d).staged_is) tt
 
+-- if one text with the prefix a and a comma is acceptable and has a header, any other is accepted with it
 pub same_header : (a s t header : List ℕ) → Ends a → IsBytes (trimmed_text (a ++ 44 ∷ s))
     → IsBytes (trimmed_text (a ++ 44 ∷ t)) → header_of (a ++ 44 ∷ s) ≡ Some header → IsAcceptable (staged (a ++ 44 ∷ s))
     → IsAcceptedWith (a ++ 44 ∷ t) header (trimmed_tail t)

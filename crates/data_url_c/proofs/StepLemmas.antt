@@ -212,10 +212,12 @@ base64_more {tail} {window} {before} {after} {end} {len} old new w l f none ne h
 
 -- Calls
 
+-- what a call with a good state and an output of at least eight bytes does, from `GoesOn`
 pub steps_on : {tail before after : List ℕ} {s t : DataUrlBody} {r : DataUrlStep} → IsGoodBody tail s
     → 8 ≤ length before → GoesOn tail s t before after r.len r.status → StepsBody tail s t before after r
 steps_on h l g = record { bad = λ n. absurd (n h); small = λ _ m. absurd (omega arith); goes = λ _ _. g }
 
+-- if the tail is not UTF-8, a call with a good state changes nothing and returns the status 4
 pub steps_no_text : {tail out : List ℕ} {r : DataUrlStep} (s : DataUrlBody) → IsGoodBody tail s → 8 ≤ length out
     → (IsUtf8 tail → ⊥) → r.status ≡ 4 → r.len ≡ 0 → StepsBody tail s s out out r
 steps_no_text {tail} {out} {r} s h l n a b =

@@ -167,6 +167,7 @@ answers_by {old = old} {len = len} memory t u small size (Bad bytes kind) e h =
       crosses = shown;
     }
 
+-- if the body of a URL was written into the output, the answer is that of the body
 pub answers_into : {x : List ℕ} {url : DataUrl} {old new : List ℕ} {status len : ℕ} → Global → IsUtf8 x → IsUrlOf x url
     → length old < 2 ^ 63
     → length new ≡ length old → EndsAs (url_body url) old new status len

@@ -191,6 +191,7 @@ pub scan_kept : (s : List ℕ) (i at : ℕ) → i + 1 ≡ at → at ≤ length s
 scan_kept s i at e l t = ap without_tabs_and_newlines (drop_next s i (get_or s i 0) (omega arith) refl)
     ∙ dropped_keeps (get_or s i 0) (drop (i + 1) s) t ∙ ap (λ n. get_or s i 0 ∷ without_tabs_and_newlines (drop n s)) e
 
+-- a byte that is not '%' passes the test for bytes other than '%'
 pub no_percent : (b : ℕ) → (b ≡ 37 → ⊥) → not (b == 37) ≡ true
 no_percent b h = ap not (ne_eqb b 37 h)
 
@@ -338,6 +339,7 @@ escape_all {text} {at} h l =
     let none : drop at text ≡ [] = nil_from_length (drop at text) (omega (arith, length-drop at text)) in
     escape_is h (inr (subst BeginsWithoutDigit (sym (ap without_tabs_and_newlines none ∙ dropped_nil)) tt))
 
+-- the empty end of a window has no bytes, so none of them is a '%'
 pub scan_begins : (window : List ℕ) → (0 ≡ length (without_tabs_and_newlines (drop (length window) window)))
     × NoPercent (without_tabs_and_newlines (drop (length window) window))
 scan_begins window =

@@ -28,16 +28,19 @@ url_for x r url e (no_scheme_is h) = absurd (let k = e in cc)
 url_for x r url e (no_comma_is h) = absurd (let k = e in cc)
 url_for x r url e (no_url_memory h) = absurd (let k = e in cc)
 
+-- writing the body of a URL is what the command `body` writes for its text
 pub body_writes_of : {x : List ℕ} {url : DataUrl} {held now : Option (List ℕ)} {r : End} → IsUrlFor x (Ok url)
     → WritesOf (IsBodyOutput (url_body url)) held now r → WritesOf (IsTextOutput x Body) held now r
 body_writes_of {x} {url} h w = let u = url_for x (Ok url) url refl h in writes_map (λ s e k. body_of u.staged_is k) w
 
+-- writing the fragment of a URL is what the command `fragment` writes for its text
 pub fragment_writes_of : {x : List ℕ} {url : DataUrl} {held now : Option (List ℕ)} {r : End} → IsUrlFor x (Ok url)
     → WritesOf (IsFragmentOutput (url_body url) (url_fragment url)) held now r
     → WritesOf (IsTextOutput x Fragment) held now r
 fragment_writes_of {x} {url} h w = let u = url_for x (Ok url) url refl h in
     writes_map (λ s e k. fragment_of u.staged_is k) w
 
+-- writing the line of the MIME type of a URL is what the command `mime` writes for its text
 pub mime_writes_of : {x : List ℕ} {url : DataUrl} {held now : Option (List ℕ)} {r : End} (mime : Mime)
     → IsUrlFor x (Ok url) → mime ≡ mime_type_of url → WritesOf (IsExactly (record_line (record_of mime))) held now r
     → WritesOf (IsTextOutput x MimeType) held now r
@@ -56,6 +59,7 @@ refused_as x c held r fault t e (no_comma_is h) = let P : Fault → Type 0 =
 refused_as x c held r fault t e (no_url_memory h) = let P : Fault → Type 0 =
     λ f. WritesOf (IsTextOutput x c) held held (Err f) in subst P (cc) (writes_no_memory held)
 
+-- if there is no URL for a text, a command that takes one writes nothing and ends with that fault
 pub refused_url : {x : List ℕ} {fault : Fault} (c : Command) (held : Option (List ℕ)) → TakesUrl c
     → IsUrlFor x (Err fault) → WritesOf (IsTextOutput x c) held held (Err fault)
 refused_url {x} {fault} c held t h = refused_as x c held (Err fault) fault t refl h
@@ -81,6 +85,7 @@ text_run t u end written r (whole_output h) = complete end (of_text u h)
 text_run t u end written r (cut_output h p) = not_written end (of_text u h) p
 text_run t u end written r no_output = no_memory t
 
+-- reading a text and then writing the output for it is a run of a command that takes a text
 pub text_runs : {c : Command} {unread left held now : Option (List ℕ)} {text : String Global} {r : End} (x : List ℕ)
     → TakesText c → ReadsText unread left (Ok text) → x ≡ string_bytes text → WritesOf (IsTextOutput x c) held now r
     → Runs c unread left held now r
@@ -105,6 +110,7 @@ unread_run c left input r fault t e no_text_memory = let P : Fault → Type 0 = 
 unread_run c left input r fault t e text_read_failed = let P : Fault → Type 0 = λ f. IsResult input left c [] (Err f) in
     subst P (cc) (not_read t)
 
+-- if the text is not read, a command that takes a text ends with that fault and writes nothing
 pub text_not_read : {c : Command} {unread left : Option (List ℕ)} {fault : Fault} (held : Option (List ℕ)) → TakesText c
     → ReadsText unread left (Err fault) → Runs c unread left held held (Err fault)
 text_not_read {c} {unread} {left} {fault} held t h =

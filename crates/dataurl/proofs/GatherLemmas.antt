@@ -54,6 +54,7 @@ gathers_none {before} {piece} {failed = failed} after w = record {
 flush_whole : (bytes w : List ℕ) (end : End) → w ≡ bytes → IsFlushed bytes end w end
 flush_whole bytes w end e = let P : List ℕ → Type 0 = λ s. IsFlushed bytes end s end in subst P (sym e) flushed
 
+-- if the bytes in the buffer are all written, the end stays as it is
 pub flushes_all : {bytes : List ℕ} {a b : Option (List ℕ)} (end : End) → Writes bytes a b (Ok tt)
     → Flushes bytes end a b end
 flushes_all {bytes} end w = record {
@@ -63,6 +64,7 @@ flushes_all {bytes} end w = record {
       flush_whole bytes w.written end (written_all bytes w.written (Ok tt) refl w.is_written);
 }
 
+-- if the bytes in the buffer are not all written, the end is a failed write
 pub flushes_some : {bytes : List ℕ} {a b : Option (List ℕ)} {failed : WriteFailed} (end : End)
     → Writes bytes a b (Err failed) → Flushes bytes end a b (Err Write)
 flushes_some {bytes} {failed = failed} end w = record {
@@ -124,6 +126,7 @@ module _ {F : Type 0} (step : F → List ℕ → Result (Unit {0}) WriteFailed �
   run_stops [] f g e ran = ran
   run_stops (c ∷ cs) f g e ran = absurd (let k = e in cc)
 
+  -- if each call gathers its piece, a run gathers the pieces of all its calls
   pub run_gathers : (cs : List (Call F WriteFailed)) (f g : F) → IsRun step f cs g
       → RunGathers (holds f) (holds g) (waits f) (waits g) (joined_pieces cs) (refusal cs)
   run_gathers [] f g ran =

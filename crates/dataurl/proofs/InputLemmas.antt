@@ -12,22 +12,26 @@ use Rattle.dataurl.specs.declared.fault.Fault.{Fault}
 use Rattle.dataurl.specs.declared.fault.Fault.TheVariants.{Base64, Memory, Mime, NoComma, NotADataUrl, NotUtf8, Read}
 use Rattle.dataurl.specs.declared.fault.Fault.TheVariants.{Write}
 
+-- a reader that does not change has consumed nothing
 pub consumes_none : (old : Option (List ℕ)) → Consumes old old []
 consumes_none None = tt
 consumes_none (Some xs) = refl
 
+-- two parts that are consumed one after the other are consumed together
 pub consumes_then : (a b c : Option (List ℕ)) (x y : List ℕ) → Consumes a b x → Consumes b c y → Consumes a c (x ++ y)
 consumes_then None b c x y h k = tt
 consumes_then (Some p) None c x y h k = absurd h
 consumes_then (Some p) (Some q) None x y h k = absurd k
 consumes_then (Some p) (Some q) (Some r) x y h k = h ∙ ap (λ s. x ++ s) k ∙ sym (append_assoc x y r)
 
+-- a reader that does not change after a part was consumed has consumed that part
 pub consumes_kept : (a b c : Option (List ℕ)) (x : List ℕ) → Consumes a b x → Keeps b c → Consumes a c x
 consumes_kept None b c x h k = tt
 consumes_kept (Some p) None c x h k = absurd h
 consumes_kept (Some p) (Some q) None x h k = absurd k
 consumes_kept (Some p) (Some q) (Some r) x h k = h ∙ ap (λ s. x ++ s) (sym k)
 
+-- if the bytes consumed are those returned, and the input is at its end, the whole input was read
 pub reads_all : (old new : Option (List ℕ)) (bytes : Vec ℕ Global) → Consumes old new bytes.items → IsAtEnd new
     → ReadsAll old new (Ok bytes)
 reads_all old new bytes c e = record { input = bytes.items; consumed = c; is_read = whole refl e }
@@ -43,11 +47,13 @@ reads_end old now new bytes n buf z some c r =
     ∙ append-nil bytes.items in
     reads_all old new bytes (subst P same all) (r.1 z some)
 
+-- if allocation fails after a part and one more piece were consumed, reading the whole input returns that fault
 pub reads_no_memory : (old now new : Option (List ℕ)) (bytes piece : List ℕ) → Consumes old now bytes
     → Consumes now new piece → ReadsAll old new (Err Memory)
 reads_no_memory old now new bytes piece c d =
     record { input = bytes ++ piece; consumed = consumes_then old now new bytes piece c d; is_read = no_memory }
 
+-- if a read fails after a part was consumed, and consumes nothing, reading the whole input returns that fault
 pub reads_failed : (old now new : Option (List ℕ)) (bytes : List ℕ) → Consumes old now bytes → Keeps now new
     → ReadsAll old new (Err Read)
 reads_failed old now new bytes c k = record {
@@ -57,6 +63,7 @@ reads_failed old now new bytes c k = record {
       read_failed;
 }
 
+-- reading the whole input may return a failed read after any part was consumed
 pub reads_no_end : (old new : Option (List ℕ)) (bytes : List ℕ) → Consumes old new bytes → ReadsAll old new (Err Read)
 reads_no_end old new bytes c = record { input = bytes; consumed = c; is_read = read_failed }
 
@@ -76,6 +83,7 @@ failed_is left input (Err Mime) fault e h = elim h [ ]
 failed_is left input (Err NotUtf8) fault e h = elim h [ ]
 failed_is left input (Err Write) fault e h = elim h [ ]
 
+-- a fault of reading the whole input is a fault of reading it as a text
 pub text_failed : (old new : Option (List ℕ)) (fault : Fault) → ReadsAll old new (Err fault)
     → ReadsText old new (Err fault)
 text_failed old new fault h = record {
@@ -91,6 +99,7 @@ read_items left input (Ok b) bytes e (whole same end) = let k : b ≡ bytes = cc
     (ap (λ v. v.items) (sym k) ∙ same, end)
 read_items left input (Err f) bytes e h = absurd (let k = e in cc)
 
+-- a text with the bytes of the whole input is the input, read as a text
 pub text_whole : (old new : Option (List ℕ)) (bytes : Vec ℕ Global) (text : String Global) → ReadsAll old new (Ok bytes)
     → string_bytes text ≡ bytes.items → ReadsText old new (Ok text)
 text_whole old new bytes text h e =
@@ -102,6 +111,7 @@ text_whole old new bytes text h e =
           whole_text (e ∙ k.0) (subst IsUtf8 (e ∙ k.0) (IsUtf8-string_bytes text)) k.1;
     }
 
+-- if the whole input is not UTF-8, reading it as a text returns that fault
 pub text_refused : (old new : Option (List ℕ)) (bytes : Vec ℕ Global) → ReadsAll old new (Ok bytes)
     → (IsUtf8 bytes.items → ⊥) → ReadsText old new (Err NotUtf8)
 text_refused old new bytes h u =

@@ -9,16 +9,19 @@ use Rattle.dataurl.specs.Runs.{IsProperPrefix}
 use Rattle.dataurl.specs.Steps.Writing.{IsWritten, Writes, all, beginning}
 use Rattle.dataurl.specs.declared.fault.WriteFailed.{WriteFailed}
 
+-- nothing is appended to a writer that does not change
 pub appends_none : (old : Option (List ℕ)) → Appends old old []
 appends_none None = tt
 appends_none (Some xs) = sym (append-nil xs)
 
+-- two parts that are appended one after the other are appended together
 pub appends_then : (a b c : Option (List ℕ)) (x y : List ℕ) → Appends a b x → Appends b c y → Appends a c (x ++ y)
 appends_then None b c x y h k = tt
 appends_then (Some p) None c x y h k = absurd h
 appends_then (Some p) (Some q) None x y h k = absurd k
 appends_then (Some p) (Some q) (Some r) x y h k = k ∙ ap (λ s. s ++ y) h ∙ append_assoc p x y
 
+-- a writer that does not change after a part was appended has had only that part appended
 pub appends_kept : (a b c : Option (List ℕ)) (x : List ℕ) → Appends a b x → Keeps b c → Appends a c x
 appends_kept None b c x h k = tt
 appends_kept (Some p) None c x h k = absurd h
@@ -31,9 +34,11 @@ pub record Going (bytes rest : List ℕ) (old now : Option (List ℕ)) : Type 0 
   pub appended : Appends old now written
   pub joined : bytes ≡ written ++ rest
 
+-- at the start nothing is written, and all bytes are left
 pub going_none : (bytes : List ℕ) (old : Option (List ℕ)) → Going bytes bytes old old
 going_none bytes old = record { written = []; appended = appends_none old; joined = refl }
 
+-- after n of the bytes that are left are appended, the others are left
 pub going_more : (bytes rest : List ℕ) (n : ℕ) (old now new : Option (List ℕ)) → Going bytes rest old now
     → Appends now new (take n rest) → Going bytes (drop n rest) old new
 going_more bytes rest n old now new g a = record {
@@ -43,6 +48,7 @@ going_more bytes rest n old now new g a = record {
       ∙ sym (append_assoc g.written (take n rest) (drop n rest));
 }
 
+-- if no bytes are left, all are written
 pub going_ends : (bytes rest : List ℕ) (old now : Option (List ℕ)) → rest ≡ [] → Going bytes rest old now
     → Writes bytes old now (Ok tt)
 going_ends bytes rest old now e g =
@@ -50,6 +56,7 @@ going_ends bytes rest old now e g =
     let P : List ℕ → Type 0 = λ w. IsWritten bytes w (Ok tt) in
     record { written = g.written; appended = g.appended; is_written = subst P (sym same) all }
 
+-- if bytes are left and a write fails, a proper prefix of all bytes is written
 pub going_fails : (bytes rest : List ℕ) (old now new : Option (List ℕ)) (failed : WriteFailed) → 0 < length rest
     → Keeps now new → Going bytes rest old now → Writes bytes old new (Err failed)
 going_fails bytes rest old now new failed some k g =
@@ -87,11 +94,13 @@ beginning_after front xs ys b = (b.0, ap (λ s. front ++ s) b.1 ∙ sym (append_
 
 -- One write
 
+-- if writing returns `Ok`, all bytes are written
 pub written_all : (bytes written : List ℕ) (r : Result (Unit {0}) WriteFailed) → r ≡ Ok tt → IsWritten bytes written r
     → written ≡ bytes
 written_all bytes written r e all = refl
 written_all bytes written r e (beginning p) = absurd (let k = e in cc)
 
+-- if writing returns an error, a proper prefix of the bytes is written
 pub written_some : (bytes written : List ℕ) (r : Result (Unit {0}) WriteFailed) (failed : WriteFailed) → r ≡ Err failed
     → IsWritten bytes written r → IsProperPrefix written bytes
 written_some bytes written r failed e all = absurd (let k = e in cc)

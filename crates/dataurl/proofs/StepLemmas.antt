@@ -65,9 +65,11 @@ pub writes_as : {P : List ℕ → End → Type 0} {bytes : List ℕ} {held now :
     → WritesOf (IsExactly bytes) held now r → WritesOf P held now r
 writes_as {P} {bytes} p h = writes_map (λ w e x. exactly_is P bytes w e p x) h
 
+-- an output of no bytes is written by writing nothing
 pub writes_nothing : {P : List ℕ → End → Type 0} {r : End} (held : Option (List ℕ)) → P [] r → WritesOf P held held r
 writes_nothing held p = record { written = []; appended = appends_none held; is_written = whole_output p }
 
+-- a failed allocation may be returned for any output if nothing is written
 pub writes_no_memory : {P : List ℕ → End → Type 0} (held : Option (List ℕ)) → WritesOf P held held (Err Memory)
 writes_no_memory held = record { written = []; appended = appends_none held; is_written = no_output }
 
@@ -81,6 +83,7 @@ exact_cut : (bytes w : List ℕ) (r : Result (Unit {0}) WriteFailed) (failed : W
 exact_cut bytes w r failed e all = absurd (let k = e in cc)
 exact_cut bytes w r failed e (beginning p) = cut_output exactly p
 
+-- if these bytes are written, the output that is exactly these bytes is written
 pub writes_exactly : {bytes : List ℕ} {held now : Option (List ℕ)} → Writes bytes held now (Ok tt)
     → WritesOf (IsExactly bytes) held now (Ok tt)
 writes_exactly {bytes} h = record {
@@ -90,6 +93,7 @@ writes_exactly {bytes} h = record {
       exact_whole bytes h.written (Ok tt) refl h.is_written;
 }
 
+-- if a write of these bytes fails, a part of the output that is exactly these bytes is written
 pub writes_beginning : {bytes : List ℕ} {held now : Option (List ℕ)} {failed : WriteFailed}
     → Writes bytes held now (Err failed) → WritesOf (IsExactly bytes) held now (Err Write)
 writes_beginning {bytes} {failed = failed} h = record {
@@ -101,6 +105,7 @@ writes_beginning {bytes} {failed = failed} h = record {
 
 -- MIME types
 
+-- if a text does not parse as a MIME type, the command `type` writes nothing and ends with that fault
 pub type_refused : (x : List ℕ) (r : Result Mime MimeFromStrError) (e : MimeFromStrError) (p : MimeParsingError)
     → r ≡ Err e → e ≡ Parsing p → (IsParsingError r → HasNoRecord (chars x)) → IsTextOutput x Canonical [] (Err no_mime)
 type_refused x r e p h k refused =
@@ -143,15 +148,18 @@ module _ {F E : Type 0} {step : F → List ℕ → Result (Unit {0}) E → F →
       (encoded_line (option_map without_tabs_and_newlines (option_map fragment_text x))) (Ok tt) in
       subst P (sym good.1) (found_line (url_tail url) good.0 x (body_answer h e))
 
+  -- if decoding a body returns a fragment, its line is the output
   pub fragment_there : (url : DataUrl) {found : FragmentIdentifier}
       → Decodes step f most (url_body url) (IsFragmentOf (url_tail url)) r g → r ≡ Ok (Some found)
       → IsFragmentOutput (url_body url) (url_fragment url) (fragment_line found) (Ok tt)
   fragment_there url h e = of_found url h e
 
+  -- if decoding a body returns no fragment, the output is empty
   pub fragment_missing : (url : DataUrl) → Decodes step f most (url_body url) (IsFragmentOf (url_tail url)) r g
       → r ≡ Ok None → IsFragmentOutput (url_body url) (url_fragment url) [] (Ok tt)
   fragment_missing url h e = of_found url h e
 
+  -- if the base64 of a body has a fault, the output is empty, and the end is that fault
   pub fragment_refused : (url : DataUrl) {kind kind' : _}
       → Decodes step f most (url_body url) (IsFragmentOf (url_tail url)) r g → r ≡ Err (InvalidBase64 kind)
       → kind' ≡ kind → IsFragmentOutput (url_body url) (url_fragment url) [] (Err (Base64 kind'))

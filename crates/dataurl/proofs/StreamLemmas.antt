@@ -35,6 +35,7 @@ module _ {F : Type 0} (step : F → List ℕ → Result (Unit {0}) WriteFailed �
     pub consumed : Consumes unread now input
     pub fed : Feeds step (start f) input (Ok tt) d
 
+  -- a new decoder has read nothing
   pub reading_none : {f : F} {d : State F} (unread : Option (List ℕ)) → d ≡ start f → Reading f unread unread d
   reading_none unread e = record { input = []; consumed = consumes_none unread; fed = fed_nothing step e }
 
@@ -223,6 +224,7 @@ module _ {F : Type 0} {step : F → List ℕ → Result (Unit {0}) WriteFailed �
   decoded_keeps {f = f} kept keeps (not_read d) = run_keeps step kept keeps d.fed.run f d.state.closure d.fed.ran
       ∙ ap kept d.closure_is
 
+  -- what each call preserves, decoding from a reader preserves
   pub reader_keeps : {B : Type 0} {f g : F} {unread left : Option (List ℕ)} {ended : Ended}
       → DecodesReader step f unread left ended g → (kept : F → B)
       → ((p : F) (piece : List ℕ) (s : Result (Unit {0}) WriteFailed) (q : F) → step p piece s q → kept p ≡ kept q)

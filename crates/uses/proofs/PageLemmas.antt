@@ -23,6 +23,7 @@ pub record OpenedAt (page : List ℕ) (place : ℕ) : Type 0 where
 at_seam : (page xs ys : List ℕ) → page ≡ xs ++ ys → drop (length xs) page ≡ ys
 at_seam page xs ys e = ap (λ s. drop (length xs) s) e ∙ drop-append_seam xs ys
 
+-- if the opening of a reference is found in a page, the first reference is opened there
 pub opened : (page : List ℕ) (place end : ℕ) → FindsText opening page (Some (place, end)) → OpenedAt page place
 opened page place end m = record {
   rest = drop end page;
@@ -33,6 +34,7 @@ opened page place end m = record {
   ];
 }
 
+-- if the opening of a reference is not found in a page, the page has no reference
 pub none_opened : (page : List ℕ) → FindsText opening page None → HasNoReference page
 none_opened page m = λ xs ys zs e. m (length xs)
     (omega (arith, ap length e, length-append xs (opening ++ (ys ++ (34 ∷ zs))))) (ys ++ (34 ∷ zs))
@@ -76,6 +78,7 @@ no_quote_before rest k within none xs ys e =
     none (length xs) few (sym (get_or-take k rest (length xs) 0 few) ∙ ap (λ s. get_or s (length xs) 0) e
     ∙ get_or-append_seam xs 34 ys 0)
 
+-- if a reference is opened, and the next '"' is at an index of the rest, the text between is the reference
 pub is_reference : (page rest : List ℕ) (place k : ℕ) → OpenedAt page place → rest ≡ drop (place + 2) page
     → k < length rest → get_or rest k 0 ≡ 34 → ((m : ℕ) → m < k → get_or rest m 0 ≢ 34)
     → IsReference page (take (place + 2) page) (take k rest) (drop k rest)
@@ -134,9 +137,11 @@ sources_join page (text ∷ part ∷ parts) h =
 pub record Going (page rest : List ℕ) (parts : List Part) : Type 0 where
   pub then : (more : List Part) → IsPage rest more → IsPage page (parts ++ more)
 
+-- at the start of a page there are no parts, and the whole page is left
 pub going_none : (page : List ℕ) → Going page page []
 going_none page = record { then = λ more h. h }
 
+-- the text before the next reference and the part of that reference are two more parts
 pub going_more : {page rest before reference after : List ℕ} {parts : List Part} (text part : Part)
     → Going page rest parts → IsReference rest before reference after → IsText before text → Inlines reference part
     → Going page after ((parts ++ text ∷ []) ++ part ∷ [])
@@ -147,6 +152,7 @@ going_more {page} {rest} {before} {reference} {after} {parts} text part g is t i
       (g.then (text ∷ part ∷ more) (before, reference, after, is, t, i, h));
 }
 
+-- if the rest has no reference, it is the last part
 pub going_ends : {page rest : List ℕ} {parts : List Part} (text : Part) → Going page rest parts → IsText rest text
     → HasNoReference rest → IsPage page (parts ++ text ∷ [])
 going_ends text g t none = g.then (text ∷ []) (t, none)

@@ -12,10 +12,12 @@ IsLeader ranks i highest None = highest ≡ 0
 IsLeader ranks i highest (Some p) = (p < i) × (slice_index ranks p ≡ highest) × (0 < highest)
     × ((j : ℕ) → j < p → slice_index ranks j < highest)
 
+-- `highest` is at least each of the first i ranks, and `best` is the index of its first occurrence, if it is not 0
 pub record Leads (ranks : List ℕ) (i : ℕ) (best : Option ℕ) (highest : ℕ) : Type 0 where
   pub below : (j : ℕ) → j < i → slice_index ranks j ≤ highest
   pub leader : IsLeader ranks i highest best
 
+-- of no ranks the highest is 0, and there is no best one
 pub leads_none : (ranks : List ℕ) → Leads ranks 0 None 0
 leads_none ranks = record { below = λ j h. absurd (omega (arith, h)); leader = refl }
 
@@ -24,6 +26,7 @@ below_next : (ranks : List ℕ) (i highest : ℕ) → ((m : ℕ) → m < i → s
     → slice_index ranks i ≤ highest → (j : ℕ) → j < i + 1 → slice_index ranks j ≤ highest
 below_next ranks i highest b e j k = below_more (λ m. slice_index ranks m ≤ highest) i b e j k
 
+-- a rank that is higher than the highest so far is the best
 pub leads_higher : {ranks : List ℕ} {best : Option ℕ} {highest : ℕ} (i rank : ℕ) → Leads ranks i best highest
     → slice_index ranks i ≡ rank → highest < rank → Leads ranks (i + 1) (Some i) rank
 leads_higher {ranks} {best} {highest} i rank l e h = record {
@@ -36,6 +39,7 @@ still_leads : (ranks : List ℕ) (highest : ℕ) (best : Option ℕ) (i : ℕ) �
 still_leads ranks highest None i h = h
 still_leads ranks highest (Some p) i h = (omega (arith, h.0), h.1, h.2, h.3)
 
+-- a rank that is at most the highest so far changes nothing
 pub leads_no_higher : {ranks : List ℕ} {best : Option ℕ} {highest : ℕ} (i rank : ℕ) → Leads ranks i best highest
     → slice_index ranks i ≡ rank → rank ≤ highest → Leads ranks (i + 1) best highest
 leads_no_higher {ranks} {best} {highest} i rank l e h = record {
@@ -53,6 +57,7 @@ best_of ranks n highest (Some p) e b h = record {
   first = λ i k. omega (arith, h.3 i k, h.1);
 }
 
+-- after all ranks, the best so far is the best
 pub leads_all : {ranks : List ℕ} {best : Option ℕ} {highest n : ℕ} → n ≡ length ranks → Leads ranks n best highest
     → IsBest ranks best
 leads_all {ranks} {best} {highest} {n} e l = best_of ranks n highest best e l.below l.leader

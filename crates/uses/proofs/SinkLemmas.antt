@@ -17,10 +17,12 @@ use Rattle.uses.specs.declared.loader.LoadError.TheVariants as errors
 use Rattle.uses.specs.declared.loader.Refusal.{Refusal}
 use Rattle.uses.specs.declared.loader.Refusal.TheVariants.{OverLimit, SinkFailed}
 
+-- nothing is appended to a sink that does not change
 pub appends_none : (old : Option (List ℕ)) → Appends old old []
 appends_none None = tt
 appends_none (Some xs) = sym (append-nil xs)
 
+-- two parts that are appended one after the other are appended together
 pub appends_then : (a b c : Option (List ℕ)) (x y : List ℕ) → Appends a b x → Appends b c y → Appends a c (x ++ y)
 appends_then None b c x y h k = tt
 appends_then (Some p) None c x y h k = absurd h
@@ -33,6 +35,7 @@ appends_kept (Some p) None c x h k = absurd h
 appends_kept (Some p) (Some q) None x h k = absurd k
 appends_kept (Some p) (Some q) (Some r) x h k = k ∙ h
 
+-- a sink that does not change keeps what it holds
 pub keeps_same : (old : Option (List ℕ)) → Keeps old old
 keeps_same None = tt
 keeps_same (Some xs) = refl
@@ -45,9 +48,11 @@ pub record Going (piece rest : List ℕ) (old now : Option (List ℕ)) : Type 0 
   pub taken : Appends old now written
   pub joined : piece ≡ written ++ rest
 
+-- at the start nothing is written, and the whole piece is left
 pub going_none : (piece : List ℕ) (old : Option (List ℕ)) → Going piece piece old old
 going_none piece old = record { written = []; taken = appends_none old; joined = refl }
 
+-- after n of the bytes that are left are appended, the others are left
 pub going_more : (piece rest : List ℕ) (n : ℕ) (old now new : Option (List ℕ)) → Going piece rest old now
     → Appends now new (take n rest) → Going piece (drop n rest) old new
 going_more piece rest n old now new g a = record {
@@ -57,12 +62,14 @@ going_more piece rest n old now new g a = record {
       ∙ sym (append_assoc g.written (take n rest) (drop n rest));
 }
 
+-- if no bytes are left, the whole piece is written
 pub going_ends : (piece rest : List ℕ) (old now : Option (List ℕ)) → rest ≡ [] → Going piece rest old now
     → Writes piece old now (Ok tt)
 going_ends piece rest old now e g =
     let P : List ℕ → Type 0 = λ w. Appends old now w in
     subst P (sym (append-nil g.written) ∙ ap (λ s. g.written ++ s) (sym e) ∙ sym g.joined) g.taken
 
+-- if the sink fails without a change, a part of the piece is written
 pub going_fails : (piece rest : List ℕ) (old now new : Option (List ℕ)) → Keeps now new → Going piece rest old now
     → Writes piece old new (Err SinkFailed)
 going_fails piece rest old now new k g =

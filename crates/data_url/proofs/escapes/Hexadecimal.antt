@@ -15,6 +15,7 @@ use Rattle.data_url.specs.declared.escapes.digits.TheConstants.{DIGITS}
 
 -- the table
 
+-- each entry of the table is the code of its byte
 pub code_is : (b : ℕ) → b < 256 → get_or DIGITS b 0 ≡ digit_code b
 code_is b l = eqb-true (get_or DIGITS b 0) (digit_code b) (agree_below_at (λ b. eqb (get_or DIGITS b 0) (digit_code b))
     (λ b. true) 256 b refl l)
@@ -54,15 +55,18 @@ both_right false q h = h
 
 -- digits by one byte
 
+-- there is no digit in the empty text
 pub digit_nil : digit [] ≡ None
 unfolding digit
 digit_nil = refl
 
+-- a tab or newline before a digit is skipped
 pub digit_tab : (b : ℕ) (s : List ℕ) → is_tab_or_newline b ≡ true → digit (b ∷ s) ≡ digit s
 unfolding digit
 digit_tab b s h = cond-true (is_tab_or_newline b) (digit s) (cond (is_ascii_hexdigit b) (Some (digit_value b, s)) None)
     h
 
+-- a byte that is not a tab or newline is the digit, if it is hexadecimal; otherwise there is no digit
 pub digit_here : (b : ℕ) (s : List ℕ) → is_tab_or_newline b ≡ false
     → digit (b ∷ s) ≡ cond (is_ascii_hexdigit b) (Some (digit_value b, s)) None
 unfolding digit
@@ -117,6 +121,7 @@ pub byte_of : {text same : List ℕ} {place b : ℕ} → same ≡ text → place
     → IsByte text place b
 byte_of {text} {same} {place} {b} e w h l = record { within = w; byte_is = h ∙ ap (λ s. get_or s place 0) e; small = l }
 
+-- a byte whose code is below 16 is a digit, with its code as the value
 pub found_here : {text : List ℕ} {place b value looks looks' : ℕ} → IsByte text place b → value ≡ digit_code b
     → value < 16 → looks' ≡ looks + 1 → DigitFound text place looks value (place + 1) looks'
 found_here {text} {place} {b} {value} {looks} {looks'} at code small n =
@@ -136,6 +141,7 @@ found_here {text} {place} {b} {value} {looks} {looks'} at code small n =
       looks_are = omega arith;
     }
 
+-- if the code of a byte is above 16, there is no digit from its index on
 pub none_here : {text : List ℕ} {place b value looks looks' : ℕ} → IsByte text place b → value ≡ digit_code b
     → 16 < value → looks' ≡ looks + 1 → NoDigit text place looks looks'
 none_here {text} {place} {b} {value} {looks} {looks'} at code great n =
@@ -147,6 +153,7 @@ none_here {text} {place} {b} {value} {looks} {looks'} at code great n =
       looks_are = omega arith;
     }
 
+-- at the end of the text there is no digit
 pub none_left : {text : List ℕ} {place looks : ℕ} → length text ≤ place → NoDigit text place looks looks
 none_left {text} {place} {looks} l = record {
   none_is = ap digit (drop_all place text l) ∙ digit_nil;
@@ -162,9 +169,11 @@ pub record Passed (text : List ℕ) (place at looks looks' : ℕ) : Type 0 where
   pub no_percent : before_percent (drop place text) ≡ (at - place) + before_percent (drop at text)
   pub looks_are : looks' ≡ looks + (at - place)
 
+-- from an index to itself nothing is skipped
 pub passed_none : {text : List ℕ} {place looks : ℕ} → Passed text place place looks looks
 passed_none = record { forward = omega arith; digit_stays = refl; no_percent = omega arith; looks_are = omega arith }
 
+-- if the code of the next byte is 16, it is also skipped
 pub passed_more : {text : List ℕ} {place at b value looks looks' looks'' : ℕ} → Passed text place at looks looks'
     → IsByte text at b → value ≡ digit_code b → value ≡ 16 → looks'' ≡ looks' + 1
     → Passed text place (at + 1) looks looks''
@@ -186,6 +195,7 @@ passed_more {text} {place} {at} {b} {value} {looks} {looks'} {looks''} p here co
       looks_are = omega arith;
     }
 
+-- a digit that is found after skipped bytes is found from their start on
 pub passed_found : {text : List ℕ} {place at value end looks looks' looks'' : ℕ} → Passed text place at looks looks'
     → DigitFound text at looks' value end looks'' → DigitFound text place looks value end looks''
 passed_found {text} {place} {at} {value} {end} {looks} {looks'} {looks''} p d =
@@ -204,6 +214,7 @@ passed_found {text} {place} {at} {value} {end} {looks} {looks'} {looks''} p d =
       looks_are = omega arith;
     }
 
+-- if there is no digit after skipped bytes, there is none from their start on
 pub passed_no : {text : List ℕ} {place at looks looks' looks'' : ℕ} → Passed text place at looks looks'
     → NoDigit text at looks' looks'' → NoDigit text place looks looks''
 passed_no p n =
@@ -229,6 +240,7 @@ escape_both : (s rest last : List ℕ) (high low : ℕ) → digit s ≡ Some (hi
 unfolding escape
 escape_both s rest last high low h k = ap with_high_digit h ∙ ap (with_low_digit high) k
 
+-- if there is no first digit, there are not two digits
 pub no_high : {text : List ℕ} {place looks looks' : ℕ} → NoDigit text place looks looks'
     → NoDigits text place looks looks'
 no_high {text} {place} n = record {
@@ -238,6 +250,7 @@ no_high {text} {place} n = record {
   looks_are = n.looks_are;
 }
 
+-- if there is no digit after the first one, there are not two digits
 pub no_low : {text : List ℕ} {place high after looks looks' looks'' : ℕ}
     → DigitFound text place looks high after looks' → NoDigit text after looks' looks''
     → NoDigits text place looks looks''
@@ -254,6 +267,7 @@ no_low {text} {place} {high} {after} d n =
       looks_are = omega arith;
     }
 
+-- a digit and a digit after it are two digits
 pub both_digits : {text : List ℕ} {place high low after end looks looks' looks'' value : ℕ}
     → DigitFound text place looks high after looks' → DigitFound text after looks' low end looks''
     → value ≡ high * 16 + low → DigitsFound text place looks value end looks''
@@ -283,22 +297,26 @@ digit_further {text} {same} {place} {b} {value} {looks'} looks looks'' found e a
     (λ d. DigitFound t (place + 1) looks' d.0 d.1 looks'') in
     match_map found _ _ _ _ (λ k. passed_no p k) (λ d k. passed_found p k) (subst P e h)
 
+-- the same as `no_high`
 pub digits_no_high : {text : List ℕ} {place looks looks' : ℕ} → NoDigit text place looks looks'
     → NoDigits text place looks looks'
 digits_no_high n = no_high n
 
+-- the same as `no_low`, with the second digit looked for in an equal text
 pub digits_no_low : {text same : List ℕ} {place high after looks looks' looks'' : ℕ} → same ≡ text
     → DigitFound text place looks high after looks' → NoDigit same after looks' looks''
     → NoDigits text place looks looks''
 digits_no_low {text} {same} {place} {high} {after} {looks} {looks'} {looks''} e d n = let P : List ℕ → Type 0 =
     λ t. NoDigit t after looks' looks'' in no_low d (subst P e n)
 
+-- the same as `both_digits`, with the second digit looked for in an equal text
 pub digits_both : {text same : List ℕ} {place high low after end looks looks' looks'' : ℕ} → same ≡ text
     → DigitFound text place looks high after looks' → DigitFound same after looks' low end looks''
     → DigitsFound text place looks (high * 16 + low) end looks''
 digits_both {text} {same} {place} {high} {low} {after} {end} {looks} {looks'} {looks''} e d f = let P : List ℕ
     → Type 0 = λ t. DigitFound t after looks' low end looks'' in both_digits d (subst P e f) refl
 
+-- two bytes, one after the other, whose codes are below 16 are two digits
 pub two_found : {text same : List ℕ} {place high low a b looks looks' looks'' : ℕ} → same ≡ text → IsByte text place a
     → IsByte text (place + 1) b → high ≡ digit_code a → high < 16 → low ≡ digit_code b → low < 16 → looks' ≡ looks + 1
     → looks'' ≡ looks' + 1 → DigitsFound text place looks (high * 16 + low) (place + 2) looks''

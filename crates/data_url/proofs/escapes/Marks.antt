@@ -50,6 +50,7 @@ copied room text mid post block len width start l w h m b =
     ∙ take-take width 64 (drop start text) w
     ∙ ap (λ k. take k (drop start text)) (sym n))
 
+-- the same for a buffer of 256 bytes, as the code copies the block
 pub copied_wide : (room bytes text : List ℕ) (len width start : ℕ) → length room ≡ 256 → len + 64 ≤ 256 → width ≤ 64
     → start + 64 ≤ length text → bytes ≡ text
     → take (len + width) (put_mid len (len + 64 - len) room (put_chunk 0 (mid_of len (len + 64 - len) room)
@@ -72,6 +73,7 @@ no_marks : (k : ℕ) → mask_l (map is_marked (replicate k 0)) ≡ 0
 no_marks zero = refl
 no_marks (suc k) = let e = no_marks k in omega arith
 
+-- zeros that are appended do not change the marks
 pub marks_padded : (xs : List ℕ) (k : ℕ) → mask_l (map is_marked (xs ++ replicate k 0)) ≡ mask_l (map is_marked xs)
 marks_padded [] k = no_marks k
 marks_padded (x ∷ xs) k = ap (λ m. cond (is_marked x) 1 0 + 2 * m) (marks_padded xs k)
@@ -100,6 +102,7 @@ block_whole text bytes place e long =
     ap (λ s. take 64 (take 64 s)) all ∙ take-take 64 64 (drop place text) (omega arith)
     ∙ ap (λ i. take i (drop place text)) k
 
+-- if fewer than 64 bytes are left, the block is these bytes
 pub block_part : (text bytes : List ℕ) (place : ℕ) → bytes ≡ text
     → length (take (length bytes - place) (drop place bytes)) < 64 → place ≤ length text
     → take (length bytes - place) (drop place bytes) ≡ slice_range text place (min (place + 64) (length text))
@@ -116,6 +119,7 @@ mask_half : (b : Bool) (bs : List Bool) → mask_l (b ∷ bs) / 2 ≡ mask_l bs
 mask_half true bs = omega arith
 mask_half false bs = omega arith
 
+-- a mask that is shifted by k bits is the mask of the list without its first k items
 pub mask_later : (bs : List Bool) (k : ℕ) → mask_l bs / 2 ^ k ≡ mask_l (drop k bs)
 mask_later bs zero = omega arith
 mask_later [] (suc k) = omega arith
@@ -124,10 +128,12 @@ mask_later (b ∷ bs) (suc k) =
     ap (λ n. mask_l (b ∷ bs) / n) p ∙ sym (div-div-eq-div-mul (mask_l (b ∷ bs)) 2 (2 ^ k))
     ∙ ap (λ n. n / 2 ^ k) (mask_half b bs) ∙ mask_later bs k
 
+-- nothing can be taken from the empty list
 pub take_none : (k : ℕ) → ◌≡◌ {A = List ℕ} [] (take k [])
 take_none zero = refl
 take_none (suc k) = refl
 
+-- the first n items without the first k are n - k items after the first k
 pub drop_taken : (k n : ℕ) (xs : List ℕ) → drop k (take n xs) ≡ take (n - k) (drop k xs)
 drop_taken zero n xs = let e : n - zero ≡ n = omega arith in ap (λ i. take i xs) (sym e)
 drop_taken (suc k) zero xs = let e : zero - suc k ≡ zero = omega arith in ap (λ i. take i (drop (suc k) xs)) (sym e)
@@ -157,9 +163,11 @@ low_half b = bit_and b 15
 low_lt : (b : ℕ) → low_half b < 16
 low_lt b = let e = and_mask b 4 in omega (arith, e)
 
+-- the low halves of 64 bytes, as lanes compute them
 abbrev pub lows : List ℕ → List ℕ
 lows v = zip2 bit_and v (replicate 64 15)
 
+-- what lanes compute is the low half of each byte
 pub lows_are : (v : List ℕ) → length v ≡ 64 → lows v ≡ map low_half v
 lows_are v long = zip2_splat bit_and v 64 15 long
 
@@ -167,6 +175,7 @@ each_low : (v : List ℕ) → Each1 (λ j. j < 16) (map low_half v)
 each_low [] = tt
 each_low (b ∷ v) = (low_lt b, each_low v)
 
+-- the low halves satisfy the swizzle's precondition
 pub lows_ok : (v : List ℕ) → length v ≡ 64 → SwzOk w8 16 64 0 (lows v)
 lows_ok v long =
     let e = lows_are v long in
@@ -198,6 +207,7 @@ looked_at v long m l =
     ∙ ap (λ k. get_or MARKED k 0) same
     ∙ sym (get_or-map entry v m 0 0 (omega arith))
 
+-- a swizzle by the low halves looks up the entry of each byte
 pub looked_up : (v : List ℕ) → length v ≡ 64 → swz_l w8 16 MARKED 0 (lows v) ≡ map entry v
 looked_up v long =
     ap (λ js. swz_l w8 16 MARKED 0 js) (lows_are v long)
@@ -217,6 +227,7 @@ marked_each (b ∷ v) h =
     ap (λ x. x ∷ map (λ b. eqb (entry b) b) v) (marked_here b (omega arith))
     ∙ ap (λ t. is_marked b ∷ t) (marked_each v h.1)
 
+-- the mask that lanes compute is that of the marked bytes
 pub marks_are : (v : List ℕ) → length v ≡ 64 → Each1 (Fits w8) v
     → mask_l (map (top 7) (zip2 (λ a b. cond (eqb a b) 255 0) (swz_l w8 16 MARKED 0 (lows v)) v)) % 2 ^ 64 ≡ mask_l
     (map is_marked v)
@@ -247,6 +258,7 @@ pub record HasMarks (text : List ℕ) (place seen marks : ℕ) : Type 0 where
   pub short : seen ≤ place + 64
   pub marks_are : marks ≡ mask_l (map is_marked (chunk place (seen - place) text))
 
+-- the marks of a block, shifted by the distance from its start to an index, are those from the index on
 pub has_marks : {c : Cursor} {place marks : ℕ} → Looking c place 0 → place ≤ c.seen
     → marks ≡ c.marks / 2 ^ (place - c.base) → HasMarks (text_of c) place c.seen marks
 has_marks {c} {place} {marks} k l e =
@@ -307,6 +319,7 @@ found_mark {text} {place} {seen} {marks} {width} h n e =
       };
     }
 
+-- if the marks are not zero, the next mark is as many bytes after the index as the marks have trailing zeros
 pub found : {text : List ℕ} {place seen marks width : ℕ} → HasMarks text place seen marks → (marks ≡ 0 → ⊥)
     → width ≡ count_trailing_zeros 64 marks → IsFound text place seen width
 found h n e = found_mark h n e
@@ -320,10 +333,12 @@ found_none {text} {place} {seen} {marks} h e =
     λ k a b. none_from_empty_mask is_marked text place (seen - place) 0 (omega arith) (sym h.marks_are ∙ e) k a
     (omega arith)
 
+-- if two ranges, one after the other, have no marks, neither does the range of both
 pub clear_then : (text : List ℕ) (from middle to : ℕ) → IsClear text from middle → IsClear text middle to
     → IsClear text from to
 clear_then text from middle to a b k l h = elim (cases_lt k middle) [ inl e ↦ a k l e | inr e ↦ b k e h ]
 
+-- the next mark after a range without marks is also the next mark from the start of that range
 pub mark_then : {text : List ℕ} {from middle to : ℕ} → from ≤ middle → IsClear text from middle
     → IsNextMark text middle to → IsNextMark text from to
 mark_then {text} {from} {middle} {to} l c m = let f = m.forward in
@@ -335,7 +350,7 @@ mark_then {text} {from} {middle} {to} l c m = let f = m.forward in
           m.marked;
     }
 
--- found by `search`
+-- if there are no marks up to the end of the text, the next mark is that end (found by `search`)
 pub mark_at_end : {text : List ℕ} {from to : ℕ} → from ≤ to → to ≤ length text → length text ≤ to → IsClear text from to
     → IsNextMark text from to
 mark_at_end {text} {from} {to} l w e c = record {
@@ -359,9 +374,11 @@ looking_clear {c} {place} {more} to k l w h =
 pub mark_in : {text same : List ℕ} {from to : ℕ} → same ≡ text → IsNextMark same from to → IsNextMark text from to
 mark_in {text} {same} {from} {to} e m = let P : List ℕ → Type 0 = λ t. IsNextMark t from to in subst P e m
 
+-- a range without marks in an equal text has none in the text
 pub clear_in : {text same : List ℕ} (from to : ℕ) → same ≡ text → IsClear same from to → IsClear text from to
 clear_in {text} {same} from to e m = let P : List ℕ → Type 0 = λ t. IsClear t from to in subst P e m
 
+-- a walk that does not change stays at its index
 pub stays_here : (c : Cursor) → Stays c c
 stays_here c = record {
   on = record { text_stays = refl; looks_grow = omega arith };
@@ -370,6 +387,7 @@ stays_here c = record {
       refl;
 }
 
+-- if two steps, one after the other, stay at the index, so do both together
 pub stays_then : {a b c : Cursor} → Stays a b → Stays b c → Stays a c
 stays_then h k = record {
   on = record {

@@ -179,17 +179,21 @@ percent_nil : percent_decoding [] ≡ []
 unfolding percent_decoding
 percent_nil = refl
 
+-- the empty text has an empty body
 pub body_nil : plain_body [] ≡ []
 body_nil = body_of [] [] dropped_nil ∙ ap percent_decoding (before_nil 35) ∙ percent_nil
 
+-- a text that begins with '#' has an empty body
 pub body_hash : (s : List ℕ) → plain_body (35 ∷ s) ≡ []
 body_hash s = body_of (35 ∷ s) (35 ∷ without_tabs_and_newlines s) (dropped_keeps 35 s refl)
     ∙ ap percent_decoding (before_same 35 (without_tabs_and_newlines s)) ∙ percent_nil
 
+-- a tab or newline at the front does not change the body
 pub body_passes : (b : ℕ) (s : List ℕ) → is_tab_or_newline b ≡ true → plain_body (b ∷ s) ≡ plain_body s
 body_passes b s h = body_of (b ∷ s) (without_tabs_and_newlines s) (dropped_passes b s h)
     ∙ sym (body_of s (without_tabs_and_newlines s) refl)
 
+-- a tab or newline at the front does not change what follows the first '#'
 pub after_passes : (b : ℕ) (s : List ℕ) → is_tab_or_newline b ≡ true → after 35 (b ∷ s) ≡ after 35 s
 after_passes b s h = after_other 35 b s (no_hash b h)
 
@@ -203,13 +207,16 @@ keeps_byte b s t n k =
     ∙ decoded_keeps b (before 35 (without_tabs_and_newlines s)) k
     ∙ ap (λ t. b ∷ t) (sym (body_of s (without_tabs_and_newlines s) refl))
 
+-- a byte that is not a tab, a newline, '#' or '%' is in the body as it is
 pub body_keeps : (b : ℕ) (s : List ℕ) → is_tab_or_newline b ≡ false → (b == 35) ≡ false → (b == 37) ≡ false
     → plain_body (b ∷ s) ≡ b ∷ plain_body s
 body_keeps b s t n p = keeps_byte b s t n (and_left (b == 37) (two_digits (before 35 (without_tabs_and_newlines s))) p)
 
+-- a '%' that does not begin an escape is in the body as it is
 pub body_percent : (s : List ℕ) → escape s ≡ None → plain_body (37 ∷ s) ≡ 37 ∷ plain_body s
 body_percent s h = keeps_byte 37 s refl refl (same_two_digits (without_tabs_and_newlines s) (no_escape s h))
 
+-- an escape is in the body as the byte of its value
 pub body_escape : (s : List ℕ) (value : ℕ) (rest : List ℕ) → escape s ≡ Some (value, rest)
     → plain_body (37 ∷ s) ≡ value ∷ plain_body rest
 body_escape s value rest h =
@@ -225,9 +232,11 @@ body_escape s value rest h =
     ∙ ap (λ x. x ∷ percent_decoding (before 35 (without_tabs_and_newlines rest))) e.value_is
     ∙ ap (λ t. value ∷ t) (sym (body_of rest (without_tabs_and_newlines rest) refl))
 
+-- a '%' at the front does not change what follows the first '#'
 pub after_percent : (s : List ℕ) → after 35 (37 ∷ s) ≡ after 35 s
 after_percent s = after_other 35 37 s refl
 
+-- an escape at the front does not change what follows the first '#'
 pub after_escape : (s : List ℕ) (value : ℕ) (rest : List ℕ) → escape s ≡ Some (value, rest)
     → after 35 (37 ∷ s) ≡ after 35 rest
 after_escape s value rest h = let e = has_escape s value rest h in after_percent s ∙ e.after_is
@@ -236,9 +245,11 @@ after_escape s value rest h = let e = has_escape s value rest h in after_percent
 
 -- Reads
 
+-- between an index and itself nothing is read
 pub reads_none : (text : List ℕ) (place : ℕ) → place ≤ length text → Reads text place place []
 reads_none text place l = record { few = omega arith; within = l; body = refl; after_is = refl }
 
+-- what is read in two ranges, one after the other, is joined in the range of both
 pub reads_then : {text a b : List ℕ} {from middle to : ℕ} → Reads text from middle a → Reads text middle to b
     → Reads text from to (a ++ b)
 reads_then {text} {a} {b} {from} {middle} {to} r s =
@@ -260,6 +271,7 @@ at_byte : (text : List ℕ) (place b : ℕ) → place < length text → get_or t
     → drop place text ≡ b ∷ drop (place + 1) text
 at_byte text place b l e = at_place text place l ∙ ap (λ v. v ∷ drop (place + 1) text) e
 
+-- a tab or newline is read as no byte
 pub reads_passed : {text : List ℕ} {place : ℕ} → place < length text → is_tab_or_newline (get_or text place 0) ≡ true
     → Reads text place (place + 1) []
 reads_passed {text} {place} l h = record {
@@ -269,6 +281,7 @@ reads_passed {text} {place} l h = record {
   after_is = ap (after 35) (at_place text place l) ∙ after_passes (get_or text place 0) (drop (place + 1) text) h;
 }
 
+-- a '%' that does not begin an escape is read as it is
 pub reads_percent : {text : List ℕ} {place : ℕ} → LonePercent text place → Reads text place (place + 1) (37 ∷ [])
 reads_percent {text} {place} p =
     let e = at_byte text place 37 p.within p.percent in
@@ -280,6 +293,7 @@ reads_percent {text} {place} p =
       after_is = ap (after 35) e ∙ after_percent (drop (place + 1) text);
     }
 
+-- an escape is read as the byte of its value
 pub reads_escape : {text : List ℕ} {place value end : ℕ} → EscapeAt text place value end
     → Reads text place end (value ∷ [])
 reads_escape {text} {place} {value} {end} p =
@@ -339,6 +353,7 @@ clear_for text from (suc n) l h =
     let Q : List ℕ → Type 0 = λ s. Reads text from (from + suc n) s in
     subst Q bytes (subst P k (reads_then first more))
 
+-- a range without marks is read as it is
 pub reads_clear : {text : List ℕ} {from to : ℕ} → from ≤ to → to ≤ length text → IsClear text from to
     → Reads text from to (slice_range text from to)
 reads_clear {text} {from} {to} l w h =
@@ -352,6 +367,7 @@ ends_cases : (s : List ℕ) → BeginsFragment s → plain_body s ≡ []
 ends_cases [] h = body_nil
 ends_cases (b ∷ s) h = ap (λ v. plain_body (v ∷ s)) h ∙ body_hash s
 
+-- where the body ends, nothing of it is left
 pub ends_empty : {text : List ℕ} {place : ℕ} → EndsAt text place → plain_body (drop place text) ≡ []
 ends_empty {text} {place} h = ends_cases (drop place text) h.begins
 

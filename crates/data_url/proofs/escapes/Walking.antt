@@ -33,9 +33,11 @@ use Rattle.data_url.specs.Steps.Chunks.{IsOver, Takes}
 
 -- Ranges
 
+-- the range from an index to itself is empty
 pub slice_none : (text : List ℕ) (place : ℕ) → slice_range text place place ≡ []
 slice_none text place = let e : place - place ≡ 0 = omega arith in ap (λ n. take n (drop place text)) e
 
+-- the range from an index to the next one is the byte there
 pub slice_one : (text : List ℕ) (place : ℕ) → place < length text
     → slice_range text place (place + 1) ≡ get_or text place 0 ∷ []
 slice_one text place l =
@@ -56,6 +58,7 @@ taken_twice (suc n) m [] = taken_none (suc n) m
 taken_twice (suc n) m (x ∷ xs) = let e : suc (n + m) ≡ suc n + m = omega arith in ap (λ t. x ∷ t) (taken_twice n m xs)
     ∙ ap (λ k. take k (x ∷ xs)) e
 
+-- two ranges, of which the second begins where the first ends, are one range
 pub slice_join : (text : List ℕ) (a b c : ℕ) → a ≤ b → b ≤ c → slice_range text a b ++ slice_range text b c
     ≡ slice_range text a c
 slice_join text a b c l h =
@@ -68,14 +71,17 @@ slice_join text a b c l h =
 
 -- Tabs and newlines
 
+-- a range from an index to itself is skipped
 pub skipped_none : (text : List ℕ) (place : ℕ) → IsSkipped text place place
 skipped_none text place = ap without_tabs_and_newlines (slice_none text place) ∙ dropped_nil
 
+-- if there is a tab or newline at an index, the range to the next index is skipped
 pub skipped_byte : (text : List ℕ) (place : ℕ) → place < length text → is_tab_or_newline (get_or text place 0) ≡ true
     → IsSkipped text place (place + 1)
 skipped_byte text place l h =
     ap without_tabs_and_newlines (slice_one text place l) ∙ dropped_passes (get_or text place 0) [] h ∙ dropped_nil
 
+-- if two ranges, one after the other, are skipped, so is the range of both
 pub skipped_then : (text : List ℕ) (a b c : ℕ) → a ≤ b → b ≤ c → IsSkipped text a b → IsSkipped text b c
     → IsSkipped text a c
 skipped_then text a b c l m h k =
@@ -87,9 +93,11 @@ skipped_then text a b c l m h k =
 abbrev pub IsWithoutTabs : List ℕ → ℕ → ℕ → Type 0
 IsWithoutTabs text from to = without_tabs_and_newlines (slice_range text from to) ≡ slice_range text from to
 
+-- a range from an index to itself has no tab or newline
 pub without_tabs_none : (text : List ℕ) (place : ℕ) → IsWithoutTabs text place place
 without_tabs_none text place = skipped_none text place ∙ sym (slice_none text place)
 
+-- if there is no tab or newline at an index, the range to the next index has none
 pub without_tabs_byte : (text : List ℕ) (place : ℕ) → place < length text
     → is_tab_or_newline (get_or text place 0) ≡ false → IsWithoutTabs text place (place + 1)
 without_tabs_byte text place l h =
@@ -97,6 +105,7 @@ without_tabs_byte text place l h =
     ap without_tabs_and_newlines (slice_one text place l) ∙ dropped_keeps b [] h ∙ ap (λ s. b ∷ s) dropped_nil
     ∙ sym (slice_one text place l)
 
+-- if two ranges, one after the other, have no tab or newline, neither does the range of both
 pub without_tabs_then : (text : List ℕ) (a b c : ℕ) → a ≤ b → b ≤ c → IsWithoutTabs text a b → IsWithoutTabs text b c
     → IsWithoutTabs text a c
 without_tabs_then text a b c l m h k =
@@ -178,6 +187,7 @@ block_as {text} {text'} {base} {base'} {seen} {seen'} {marks} {marks'} t b s m k
     let S : ℕ → Type 0 = λ x. IsBlock text base seen x in
     subst P (sym t) (subst Q (sym b) (subst R (sym s) (subst S (sym m) k)))
 
+-- a walk with the same text and block can go on at a later index, if the bytes read are within the bound there
 pub looking_as : {c c' : Cursor} {place more : ℕ} (place' more' : ℕ) → Looking c place more → text_of c' ≡ text_of c
     → c'.base ≡ c.base → c'.seen ≡ c.seen → c'.marks ≡ c.marks → place ≤ place' → place' ≤ length (text_of c)
     → c'.source.looks + more' ≤ paid_looks (text_of c) c.seen place' → Looking c' place' more'
@@ -194,6 +204,7 @@ looking_as {c} {c'} {place} {more} place' more' k t b s m f w l =
           omega arith;
     }
 
+-- a walk that changes nothing but the number of bytes read, which does not become smaller, keeps its block
 pub keeps : {c c' : Cursor} → text_of c' ≡ text_of c → c.source.looks ≤ c'.source.looks → c'.base ≡ c.base
     → c'.seen ≡ c.seen → c'.marks ≡ c.marks → c'.place ≡ c.place → c'.ahead ≡ c.ahead → KeepsBlock c c'
 keeps t l b s m p a =
@@ -218,10 +229,12 @@ pub record Looked (c : Cursor) (mark b : ℕ) : Type 0 where
   pub within : mark < length (text_of c)
   pub byte_is : b ≡ get_or (text_of c) mark 0
 
+-- a walk that can go on at a mark and has read the byte there is `Looked`
 pub looked : {c : Cursor} {mark b : ℕ} → Looking c mark 0 → mark < length (text_of c) → b ≡ get_or (text_of c) mark 0
     → Looked c mark b
 looked k w e = record { looking = k; within = w; byte_is = e }
 
+-- two digits in an equal text are two digits in the text
 pub digits_in : {text same : List ℕ} {place looks looks' value end last : ℕ} → same ≡ text → looks' ≡ looks
     → DigitsFound same place looks' value end last → DigitsFound text place looks value end last
 digits_in {text} {same} {place} {looks} {looks'} {value} {end} {last} e n d =
@@ -229,7 +242,7 @@ digits_in {text} {same} {place} {looks} {looks'} {value} {end} {last} e n d =
     let Q : ℕ → Type 0 = λ l. DigitsFound same place l value end last in
     subst P e (subst Q n d)
 
--- found by `search`
+-- if there are not two digits in an equal text, there are not in the text (found by `search`)
 pub no_digits_in : {text same : List ℕ} {place looks looks' last : ℕ} → same ≡ text → looks' ≡ looks
     → NoDigits same place looks' last → NoDigits text place looks last
 no_digits_in {text} {same} {place} {looks} {looks'} {last} e n d =
@@ -282,7 +295,7 @@ marked_tab false true p e a b = absurd (let k : true ≡ false = a in cc)
 marked_tab false false true e a b = absurd (let k : true ≡ false = b in cc)
 marked_tab false false false e a b = absurd (let k : false ≡ true = e in cc)
 
--- found by `search`
+-- a marked byte that is neither '%' nor '#' is a tab or newline (found by `search`)
 pub stop_passed : {c c' : Cursor} {mark b : ℕ} → Looked c mark b → is_marked (get_or (text_of c) mark 0) ≡ true
     → (b ≡ 37 → ⊥) → (b ≡ 35 → ⊥) → KeepsBlock c c' → c'.source.looks ≡ c.source.looks + 1 → IsPassed (text_of c') mark
     × Looking c' (mark + 1) 0
@@ -308,6 +321,7 @@ begins_hash s b rest e h = subst BeginsFragment (sym e) h
 begins_empty : (s : List ℕ) → s ≡ [] → BeginsFragment s
 begins_empty s e = subst BeginsFragment (sym e) tt
 
+-- a walk ends at a '#'
 pub stop_hash : {c c' : Cursor} {mark b : ℕ} → Looked c mark b → b ≡ 35 → KeepsBlock c c'
     → c'.source.looks ≡ c.source.looks + 1 → Ended c' mark
 stop_hash {c} {c'} {mark} {b} k h s n =
@@ -351,6 +365,7 @@ pub record Searching (c0 c : Cursor) (from : ℕ) : Type 0 where
   pub skipped : IsSkipped (text_of c0) c0.place c.place
   pub kept : IsWithoutTabs (text_of c0) c.place from
 
+-- a walk that can go on at its index begins a search there
 pub searching_none : {c : Cursor} → Looking c c.place 0 → Searching c c c.place
 searching_none {c} k =
     let P : List ℕ → Type 0 = λ s. Reads (text_of c) c.place c.place s in
@@ -371,6 +386,7 @@ pub record Reached (c0 c : Cursor) (mark : ℕ) : Type 0 where
   pub skipped : IsSkipped (text_of c0) c0.place c.place
   pub kept : IsWithoutTabs (text_of c0) c.place mark
 
+-- two steps, one after the other, keep the text and do not make the number of bytes read smaller, if each does so
 pub on_then : {a b c : Cursor} → LooksOn a b → LooksOn b c → LooksOn a c
 on_then h k = record {
   text_stays = k.text_stays ∙ h.text_stays;
@@ -386,6 +402,7 @@ stretch_on {text} {place} {from} {to} a b =
     let P : List ℕ → Type 0 = λ s. Reads text place to s in
     subst P (slice_join text place from to (omega arith) (omega arith)) (reads_then a b)
 
+-- a search that finds the next mark reaches it
 pub reached : {c0 c c1 c2 : Cursor} {from mark : ℕ} → Searching c0 c from → IsNextMark (text_of c) from mark
     → Stays c c1 → KeepsBlock c1 c2 → Reached c0 c2 mark
 reached {c0} {c} {c1} {c2} {from} {mark} s m a b =
@@ -524,6 +541,7 @@ piece_in {c0} {c} mark {to} p on cut s =
     let Q : List ℕ → Type 0 = λ t. IsPiece t c0.place to p in
     subst Q on.text_stays (cut.1 c0.place to (subst P (sym on.text_stays) s))
 
+-- the stretch up to a tab or newline is a piece, and the walk goes on after the tab or newline
 pub slice_passed : {c0 c : Cursor} {mark : ℕ} (p : Piece) → Reached c0 c mark → IsPassed (text_of c) mark
     → mark ≢ c.place → IsCut c0 c mark p → GoesOn c0 (Some p) (record c { place = mark + 1; ahead = Unknown })
 slice_passed {c0} {c} {mark} p r h n cut =
@@ -541,6 +559,7 @@ slice_passed {c0} {c} {mark} p r h n cut =
       ended = tt;
     }
 
+-- the stretch up to an escape is a piece, and the walk goes on with the escape
 pub slice_escape : {c0 c : Cursor} {mark value end : ℕ} (p : Piece) → Reached c0 c mark
     → EscapeAt (text_of c) mark value end → mark ≢ c.place → IsCut c0 c mark p
     → GoesOn c0 (Some p) (record c { place = mark; ahead = Escape value end })
@@ -562,6 +581,7 @@ slice_escape {c0} {c} {mark} {value} {end} p r h n cut =
       ended = tt;
     }
 
+-- the stretch up to the end of the body is a piece, and the walk ends
 pub slice_end : {c0 c : Cursor} {mark : ℕ} (p : Piece) → Reached c0 c mark → Ended c mark → mark ≢ c.place
     → IsCut c0 c mark p → GoesOn c0 (Some p) (record c { place = mark; ahead = End })
 slice_end {c0} {c} {mark} p r h n cut =
@@ -575,6 +595,7 @@ slice_end {c0} {c} {mark} p r h n cut =
       ended = tt;
     }
 
+-- an escape at the index of the walk is a piece, and the walk goes on after it
 pub byte_here : {c0 c : Cursor} {mark value end : ℕ} → Reached c0 c mark → EscapeAt (text_of c) mark value end
     → mark ≡ c.place → GoesOn c0 (Some (Byte value)) (record c { place = end; ahead = AfterEscape })
 byte_here {c0} {c} {mark} {value} {end} r h e =
@@ -600,16 +621,18 @@ byte_here {c0} {c} {mark} {value} {end} r h e =
       ended = tt;
     }
 
--- found by `search`
+-- a walk whose search reached a mark at its index can end without a piece (found by `search`)
 pub end_here : {c0 c : Cursor} {mark : ℕ} → Reached c0 c mark → mark ≡ c.place
     → GoesOn c0 None (record c { ahead = End })
 end_here {c0} {c} {mark} r e = record { on = moved_on c.place End r.on; reads = r.passed; piece = tt; ended = refl }
 
+-- an equal walk goes on in the same way
 pub goes_as : {c0 c c' : Cursor} {next : Option Piece} → c' ≡ c → GoesOn c0 next c → GoesOn c0 next c'
 goes_as {c0} {c} {c'} {next} e g = let P : Cursor → Type 0 = λ w. GoesOn c0 next w in subst P (sym e) g
 
 -- Walks that know something about their place
 
+-- what is read of an equal text is read of the text
 pub reads_in : {text same bytes : List ℕ} {from to : ℕ} → same ≡ text → Reads same from to bytes
     → Reads text from to bytes
 reads_in {text} {same} {bytes} {from} {to} e r = let P : List ℕ → Type 0 = λ t. Reads t from to bytes in subst P e r
@@ -651,6 +674,7 @@ goes_then {c} {c1} {c2} {next} on e g =
       ended = g.ended;
     }
 
+-- what is true of every walk stays true if the walk goes on, and what its `ahead` says is true
 pub knows_on : {c c' : Cursor} {next : Option Piece} → Knows c → GoesOn c next c' → KnowsAhead c' c'.ahead → Knows c'
 knows_on {c} {c'} {next} k g a =
     let text = g.on.text_stays in
@@ -672,6 +696,7 @@ escape_piece {text} {place} {value} {end} q = record {
   value_is = q.value_is;
 }
 
+-- an escape that is known at the index of the walk is the next piece
 pub byte_known : {c : Cursor} {value end : ℕ} → EscapeAt (text_of c) c.place value end
     → GoesOn c (Some (Byte value)) (record c { place = end; ahead = AfterEscape })
 byte_known {c} {value} {end} q =
@@ -682,6 +707,7 @@ byte_known {c} {value} {end} q =
       ended = tt;
     }
 
+-- a walk that keeps its text and goes from an escape to its end returns the value as a piece
 pub byte_after : {c c' : Cursor} {value : ℕ} → LooksOn c c' → EscapeAt (text_of c) c.place value c'.place
     → GoesOn c (Some (Byte value)) c'
 byte_after {c} {c'} {value} on q =
@@ -698,10 +724,11 @@ ended_cases AfterEscape k e = absurd (cc)
 ended_cases (Escape value end) k e = absurd (cc)
 ended_cases End k e = k
 
--- a walk that has ended
+-- a walk that has ended is at the end of its body
 pub ended_of : {c : Cursor} → Knows c → has_ended c.ahead ≡ true → Ended c c.place
 ended_of {c} k e = ended_cases c.ahead k.ahead_is e
 
+-- a walk that has ended can return no piece and stay as it is
 pub over : {c : Cursor} → Ended c c.place → has_ended c.ahead ≡ true → GoesOn c None c
 over {c} h e = record {
   on = record { text_stays = refl; looks_grow = omega arith };
@@ -715,6 +742,7 @@ begun_fragment : (s : List ℕ) → BeginsFragment s → after 35 s ≡ rest_fra
 begun_fragment [] h = after_nil 35
 begun_fragment (b ∷ s) h = ap (λ v. after 35 (v ∷ s)) h ∙ after_same 35 s
 
+-- where a walk ends, the body of its text ends
 pub body_end : {c : Cursor} → Knows c → Ended c c.place → IsBodyEnd (text_of c) c.place
 body_end {c} k h = record {
   within = h.ends.within;
@@ -723,10 +751,12 @@ body_end {c} k h = record {
       ∙ begun_fragment (drop c.place (text_of c)) h.ends.begins;
 }
 
+-- a walk that is at the end of its text has no fragment
 pub no_fragment : {c : Cursor} → Knows c → c.place ≡ length (text_of c)
     → ◌≡◌ {A = Option (List ℕ)} None (after 35 (text_of c))
 no_fragment {c} k e = sym (k.after_is ∙ ap (after 35) (drop_all c.place (text_of c) (omega arith)) ∙ after_nil 35)
 
+-- a walk that ends, but not at the end of its text, is at a '#'
 pub hash_at : {c : Cursor} → Ended c c.place → (c.place ≡ length (text_of c) → ⊥) → (c.place < length (text_of c))
     × (get_or (text_of c) c.place 0 ≡ 35)
 hash_at {c} h n =
@@ -741,6 +771,7 @@ hash_at {c} h n =
     subst P (drop_more (text_of c) c.place 0 l) h.ends.begins in
     (l, b)
 
+-- if a walk ends, but not at the end of its text, the fragment is what follows the '#' at its index
 pub some_fragment : {c : Cursor} → Knows c → Ended c c.place → (c.place ≡ length (text_of c) → ⊥)
     → Some (drop (c.place + 1) (text_of c)) ≡ after 35 (text_of c)
 some_fragment {c} k h n =
@@ -748,6 +779,7 @@ some_fragment {c} k h n =
     sym (k.after_is ∙ begun_fragment (drop c.place (text_of c)) h.ends.begins
     ∙ ap rest_fragment (drop_more (text_of c) c.place 0 at.0))
 
+-- whether a walk can go on at an index does not depend on its own index or its `ahead`
 pub moved_looking : {c : Cursor} {place more : ℕ} (p : ℕ) (a : Ahead) → Looking c place more
     → Looking (record c { place = p; ahead = a }) place more
 moved_looking p a k = record {
@@ -758,9 +790,11 @@ moved_looking p a k = record {
       k.looks_are_paid;
 }
 
+-- if `ahead` is a, and what it says is true, what a says is true
 pub ahead_at : (c : Cursor) (a : Ahead) → KnowsAhead c c.ahead → c.ahead ≡ a → KnowsAhead c a
 ahead_at c a k e = let P : Ahead → Type 0 = λ x. KnowsAhead c x in subst P e k
 
+-- if `ahead` is a, and what a says is true, what `ahead` says is true
 pub ahead_is : (c : Cursor) (a : Ahead) → c.ahead ≡ a → KnowsAhead c a → KnowsAhead c c.ahead
 ahead_is c a e k = let P : Ahead → Type 0 = λ x. KnowsAhead c x in subst P (sym e) k
 
@@ -776,6 +810,7 @@ gathers_none c room len w = record {
   len_is = omega arith;
 }
 
+-- what is gathered in two steps, one after the other, is gathered in both together
 pub gathers_then : {c c1 c2 : Cursor} {room room1 room2 : List ℕ} {len len1 len2 : ℕ} → Gathers c c1 room room1 len len1
     → Gathers c1 c2 room1 room2 len1 len2 → Gathers c c2 room room2 len len2
 gathers_then {c} {c1} {c2} {room} {room1} {room2} {len} {len1} {len2} g h =
@@ -846,6 +881,7 @@ pub gathers_escape : {c0 c c' : Cursor} {room0 room : List ℕ} {len0 len value 
     → Gathers c0 c' room0 (set room len value) len0 (len + 1)
 gathers_escape g on e l = gathers_then g (gathers_byte on (reads_escape e) l)
 
+-- a buffer that has room and is not full has room after the value of an escape is appended
 pub room_escape : {c c' : Cursor} {len value : ℕ} → HasRoom c len → len < 256
     → EscapeAt (text_of c) c.place value c'.place → c'.seen ≡ c.seen → HasRoom c' (len + 1)
 room_escape h l e s = room_on h l e.some s
@@ -867,12 +903,14 @@ reads_to : {text : List ℕ} {from to to' : ℕ} {bytes : List ℕ} → to' ≡ 
     → Reads text from to' bytes
 reads_to {text} {from} {to} {to'} {bytes} e r = let P : ℕ → Type 0 = λ x. Reads text from x bytes in subst P (sym e) r
 
+-- a walk that goes on after a '%' that does not begin an escape appends the '%'
 pub gathers_percent : {c c1 c' : Cursor} {room : List ℕ} {len : ℕ} → Went c c1 c' (c.place + 1)
     → LonePercent (text_of c1) c.place → len < length room → Gathers c c' room (set room len 37) len (len + 1)
 gathers_percent {c} {c1} {c'} {room} {len} w p l =
     let P : List ℕ → Type 0 = λ t. LonePercent t c.place in
     gathers_byte (went_on w) (reads_to w.place_is (reads_percent (subst P w.on.text_stays p))) l
 
+-- a walk that goes on after a tab or newline appends nothing
 pub gathers_passed : {c c1 c' : Cursor} {room : List ℕ} {len : ℕ} → Went c c1 c' (c.place + 1)
     → IsPassed (text_of c1) c.place → Gathers c c' room room len len
 gathers_passed {c} {c1} {c'} {room} {len} w p =
@@ -880,6 +918,7 @@ gathers_passed {c} {c1} {c'} {room} {len} w p =
     let q : IsPassed (text_of c) c.place = subst P w.on.text_stays p in
     gathers_nothing (went_on w) (reads_to w.place_is (reads_passed q.within q.passed))
 
+-- a walk that goes on after an escape appends its value
 pub gathers_value : {c c1 c' : Cursor} {room : List ℕ} {len value end : ℕ} → Went c c1 c' end
     → EscapeAt (text_of c1) c.place value end → len < length room → Gathers c c' room (set room len value) len (len + 1)
 gathers_value {c} {c1} {c'} {room} {len} {value} {end} w p l =
@@ -912,6 +951,7 @@ may_after {c} {len} m h clear =
       room = record { some = omega arith; for_block = λ k. absurd (omega arith) };
     }
 
+-- a walk that goes to the end of a block without marks appends the rest of the block
 pub gathers_block : {c c' : Cursor} {room room' : List ℕ} {len : ℕ} → MayGather c len → c.place < c.seen
     → IsClear (text_of c) c.place c.seen → LooksOn c c' → c'.place ≡ c.seen
     → take (len + (c.seen - c.place)) room' ≡ take len room ++ slice_range (text_of c) c.place
@@ -931,6 +971,7 @@ smaller_by : (total place place' : ℕ) (ended : Bool) → place ≤ place' → 
 smaller_by total place place' true l w m = omega arith
 smaller_by total place place' false l w m = omega arith
 
+-- gathering bytes makes the measure smaller, if the walk moves or ends
 pub smaller : (c0 : Cursor) {c1 c' : Cursor} {room room' : List ℕ} {len len' : ℕ} (total : ℕ) → c0.ahead ≡ Unknown
     → c1.place ≡ c0.place → length (text_of c1) ≡ total → Moves c1 c' → Gathers c1 c' room room' len len'
     → measure total c'.place (has_ended c'.ahead) < measure total c0.place (has_ended c0.ahead)
@@ -947,6 +988,7 @@ smaller c0 {c1} {c'} {room} {room'} {len} {len'} total u p t m g =
 rest_over : {c : Cursor} → Knows c → has_ended c.ahead ≡ true → plain_body (drop c.place (text_of c)) ≡ []
 rest_over {c} k e = ends_empty (ended_of k e).ends
 
+-- if there is no next piece, nothing of the body is left
 pub over_rest : (next : Option Piece) {c c' : Cursor} → GoesOn c next c' → Knows c'
     → IfNone next (plain_body (drop c'.place (text_of c')) ≡ [])
 over_rest None g k = rest_over k g.ended
@@ -963,9 +1005,11 @@ some_bytes (Slice slice) text from to w h =
     omega arith
 some_bytes (Byte byte) text from to w h = omega arith
 
+-- a piece has at least one byte
 pub piece_some : {p : Piece} {c c' : Cursor} → GoesOn c (Some p) c' → 0 < length (bytes_of p)
 piece_some {p} {c} {c'} g = some_bytes p (text_of c) c.place c'.place g.reads.within g.piece
 
+-- a walk that has ended returns no further piece
 pub again : (next : Option Piece) {c c' : Cursor} → Knows c → GoesOn c next c' → has_ended c.ahead ≡ true → next ≡ None
 again None k g e = refl
 again (Some p) {c} {c'} k g e =
@@ -984,6 +1028,7 @@ looks_cases c (Escape value end) k = let l = k.1.looks_are_paid in let m =
     paid_le (text_of c) c.seen end k.1.block.seen_le k.1.within in omega arith
 looks_cases c End k = k.few_looks
 
+-- a walk has read at most three times as many bytes as its text has
 pub few_looks : {c : Cursor} → Knows c → c.source.looks ≤ 3 * length (text_of c)
 few_looks {c} k = looks_cases c c.ahead k.ahead_is
 
@@ -1019,6 +1064,7 @@ before_next {c} {c1} {c2} {room0} {room} {len} {next} g e h =
     let none : g.bytes ≡ [] = nil_from_length g.bytes (omega arith) in
     reads_then (subst P none g.reads) (reads_in g.on.text_stays h.reads)
 
+-- if nothing was gathered, and then came a piece, the walk returns the bytes of the piece
 pub takes_next : {c c1 c2 : Cursor} {room0 room : List ℕ} {len : ℕ} (p : Piece) → Gathers c c1 room0 room 0 len
     → len ≡ 0
     → GoesOn c1 (Some p) c2 → Takes (walk_of c) (bytes_of p) (walk_of c2)
@@ -1036,6 +1082,7 @@ takes_next {c} {c1} {c2} {room0} {room} {len} p g e h =
       some = piece_some h;
     }
 
+-- if nothing was gathered, and then came no piece, the walk is at its end
 pub over_next : {c c1 c2 : Cursor} {room0 room : List ℕ} {len : ℕ} → Gathers c c1 room0 room 0 len → len ≡ 0
     → GoesOn c1 None c2 → Knows c2 → IsOver (walk_of c) (walk_of c2)
 over_next {c} {c1} {c2} g e h k =

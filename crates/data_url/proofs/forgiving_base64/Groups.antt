@@ -31,6 +31,7 @@ use Rattle.data_url.specs.Mime.{Every}
 
 -- How many bytes groups have
 
+-- the bytes of the groups are at most three for each four values
 pub groups_length : (x : List ℕ) → 4 * length (groups x) ≤ 3 * length x
 unfolding groups
 groups_length [] = omega arith
@@ -39,6 +40,7 @@ groups_length (p ∷ q ∷ []) = omega arith
 groups_length (p ∷ q ∷ r ∷ []) = omega arith
 groups_length (p ∷ q ∷ r ∷ s ∷ rest) = omega (arith, groups_length rest)
 
+-- if the number of values is a multiple of four, the bytes are three for each four values
 pub whole_length : (x : List ℕ) → length x % 4 ≡ 0 → 4 * length (groups x) ≡ 3 * length x
 unfolding groups
 whole_length [] h = omega arith
@@ -47,6 +49,7 @@ whole_length (p ∷ q ∷ []) h = absurd (omega arith)
 whole_length (p ∷ q ∷ r ∷ []) h = absurd (omega arith)
 whole_length (p ∷ q ∷ r ∷ s ∷ rest) h = let e : length rest % 4 ≡ 0 = omega arith in omega (arith, whole_length rest e)
 
+-- if x has at least 4 * m values, the first 3 * m bytes of its groups are those of its first 4 * m values
 pub take_groups : (m : ℕ) (x : List ℕ) → 4 * m ≤ length x → take (3 * m) (groups x) ≡ groups (take (4 * m) x)
 take_groups m x h =
     let front = take (4 * m) x in
@@ -58,12 +61,14 @@ take_groups m x h =
 
 -- A text of symbols
 
+-- for bytes that are symbols, `value_of` is `symbol_value`
 pub symbols_values : (s : List ℕ) → ((i : ℕ) → Fits w8 (get_or s i 0)) → list_all is_symbol s ≡ true
     → map value_of s ≡ map symbol_value s
 symbols_values [] fits h = refl
 symbols_values (b ∷ s) fits h = let p = and_parts (is_symbol b) (list_all is_symbol s) h in
     ap₂ (λ x (y : List ℕ). x ∷ y) (value_is b (fits 0).fits p.0) (symbols_values s (λ i. fits (suc i)) p.1)
 
+-- the values of a text of symbols are the value of each of its bytes
 pub values_symbols : (s : List ℕ) → list_all is_symbol s ≡ true → values s ≡ map symbol_value s
 unfolding values
 values_symbols s h = ap (map symbol_value) (filter_all is_symbol s (every_list_all s h))
@@ -73,6 +78,7 @@ symbols_alone [] h = refl
 symbols_alone (b ∷ s) h = let p = and_parts (is_symbol b) (list_all is_symbol s) h in
     ap₂ (λ x y. x && y) (ap (λ t. t || is_ascii_whitespace b) p.0) (symbols_alone s p.1)
 
+-- if each byte of s is at most 255, so is each of its first n bytes
 pub fits_take : (n : ℕ) (s : List ℕ) → ((i : ℕ) → Fits w8 (get_or s i 0)) → (i : ℕ) → Fits w8 (get_or (take n s) i 0)
 fits_take n s fits i =
     elim (cases_lt i n) [
@@ -150,6 +156,7 @@ fill_one held (p ∷ q ∷ r ∷ s ∷ rest) bytes h all e =
 
 -- The symbols at the start
 
+-- the bytes that `prefix_len is_symbol` counts are symbols
 pub ahead_all : (s : List ℕ) → list_all is_symbol (take (prefix_len is_symbol s) s) ≡ true
 ahead_all s =
     let n = prefix_len is_symbol s in
@@ -157,6 +164,7 @@ ahead_all s =
     let l : k < n = omega (arith, length-take n s) in
     subst (λ x. is_symbol x ≡ true) (sym (get_or-take n s k 0 l)) (prefix_len_passes is_symbol s k 0 l)))
 
+-- if n is the number of symbols at the start of 16 bytes of a row, n is at most 16 and the first n bytes are symbols
 pub row_ahead : (row : List ℕ) (n : ℕ) → n ≡ prefix_len is_symbol (take 16 row)
     → (n ≤ 16) × (list_all is_symbol (take n row) ≡ true)
 row_ahead row n e =
@@ -166,6 +174,7 @@ row_ahead row n e =
           ∙ ahead_all (take 16 row),
     )
 
+-- if the first n bytes are symbols, so are the first m, where m is at most n
 pub all_before : (block : List ℕ) (m n : ℕ) → m ≤ n → list_all is_symbol (take n block) ≡ true
     → list_all is_symbol (take m block) ≡ true
 all_before block m n h all =
@@ -185,6 +194,7 @@ pub record Stands (a w : List ℕ) : Type 0 where
   pub no_fault : fault_byte false a ≡ None
   pub none_left : fault_byte false w ≡ None
 
+-- the values of a ++ b are those of a and then those of b
 pub values-append : (a b : List ℕ) → values (a ++ b) ≡ values a ++ values b
 unfolding values
 values-append a b = ap (map symbol_value) (filter-append is_symbol a b) ∙ map-append symbol_value (filter is_symbol a)
@@ -194,6 +204,7 @@ kind_alike : (m n : ℕ) (o : Option ℕ) → m % 4 ≡ n % 4 → kind_by m o �
 kind_alike m n None e = rw e refl
 kind_alike m n (Some c) e = refl
 
+-- p times '=' fit exactly if `min p 3` times do
 pub fits_min : (r p : ℕ) → fits_with r p ≡ fits_with r (min p 3)
 fits_min r zero = refl
 fits_min r (suc zero) = refl
@@ -296,6 +307,7 @@ module _ (a b w : List ℕ) (st : Stands a w) where
   unfolding left_padding
   padding_both = length_pads
 
+  -- given `Stands a w`, decoding b after a is the same as decoding w ++ b
   pub goes_on : GoesOn a b (w ++ b)
   goes_on = record {
     done_is = done_both;
@@ -318,6 +330,7 @@ any_min : (t : List ℕ) → list_any is_pad (replicate (min (length t) 3) 61) �
 any_min [] = refl
 any_min (c ∷ t) = let e : min (suc (length t)) 3 ≡ suc (min (length t) 2) = omega arith in rw e refl
 
+-- if a has no fault, decoding goes on from what is left over of a
 pub left_stands : (a : List ℕ) → fault_byte false a ≡ None → Stands a (left_text (left_symbols a) (left_padding a))
 unfolding left_symbols left_padding
 left_stands a h =
@@ -333,5 +346,6 @@ left_stands a h =
       none_left = fault_text q p every;
     }
 
+-- if a has no fault, decoding a ++ b is the same as decoding a, and then what is left over of a with b
 pub two_feeds : (a b : List ℕ) → first_fault a ≡ None → TwoFeeds a b
 two_feeds a b h = goes_on a b (left_text (left_symbols a) (left_padding a)) (left_stands a (fault_none a h))

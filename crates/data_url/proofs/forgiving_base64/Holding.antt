@@ -105,7 +105,7 @@ told_ok (Ok x) r e h = refl
 told_ok (Err x) r e h = absurd (cc)
 
 module _ {F E : Type 0} (step : F → List ℕ → Result (Unit {0}) E → F → Type 0) where
-  -- without a call
+  -- if d reads t without a call, it holds the decoded bytes
   pub holds_from : {d d' : State F} {t more : List ℕ} → Adds d t more d' → Holds step d t more d'
   holds_from a = record {
     run = [];
@@ -118,7 +118,7 @@ module _ {F E : Type 0} (step : F → List ℕ → Result (Unit {0}) E → F →
     going = a.going;
   }
 
-  -- and then more text
+  -- if d holds bytes after a, and then reads b, it holds those of b after them
   pub holds_adds : {d d1 d2 : State F} {a b held more : List ℕ} → Holds step d a held d1 → Adds d1 b more d2
       → Holds step d (a ++ b) (held ++ more) d2
   holds_adds {d} {d1} {d2} {a} {b} {held} {more} h k =
@@ -208,6 +208,7 @@ module _ {F E : Type 0} (step : F → List ℕ → Result (Unit {0}) E → F →
         });
       }))
 
+  -- reading t, and then flushing the bytes that are held, feeds t
   pub flushed_feeds : {d d1 d2 : State F} {t : List ℕ} {r : Result (Unit {0}) (DecodeError E)} (held : List ℕ)
       → Holds step d t held d1 → Flushes step d1 held r d2 → Feeds step d t r d2
   flushed_feeds [] h f = quiet_feeds h f.0 f.1
@@ -226,6 +227,7 @@ module _ {F E : Type 0} (step : F → List ℕ → Result (Unit {0}) E → F →
       sym h.bytes_are ∙ sym (append_assoc (joined_pieces h.run) x y)
       ∙ ap (λ b. b ++ y) (sym (called_bytes x h w.told s2.closure))
 
+  -- if the closure accepts the first 48 bytes that are held, the other bytes are still held
   pub part_holds : {d s1 s2 : State F} {t x y : List ℕ} (q : List ℕ) → length x ≡ 48
       → Holds step d t (x ++ y) (waiting s1 q) → CallsOnce step s1 x (Ok tt) s2 → Holds step d t y (waiting s2 q)
   part_holds {d} {s1} {s2} {t} {x} {y} q full h w =
@@ -258,6 +260,7 @@ module _ {F E : Type 0} (step : F → List ℕ → Result (Unit {0}) E → F →
   refused_call (Ok u) r x P all bytes e begins h = absurd (cc)
   refused_call (Err y) r x P all bytes e begins h = record { bytes_begin = begins; answer = h }
 
+  -- if the closure returns an error for the first 48 bytes that are held, so does feeding t
   pub part_refused : {d s1 s2 : State F} {t x : List ℕ} {e : DecodeError E} (q y : List ℕ) → length x ≡ 48
       → Holds step d t (x ++ y) (waiting s1 q) → CallsOnce step s1 x (Err e) s2 → Feeds step d t (Err e) s2
   part_refused {d} {s1} {s2} {t} {x} {e} q y full h w =
@@ -291,6 +294,7 @@ module _ {F E : Type 0} (step : F → List ℕ → Result (Unit {0}) E → F →
 
   -- A fault
 
+  -- if c is a fault and completes no group, feeding c returns its error without a call, and d has failed
   pub refuses_feeds : {d d' : State F} {r : Result (Unit {0}) (DecodeError E)} {kind : Kind} (left : List ℕ) (c : ℕ)
       → left_over d ≡ left → is_some (first_fault (left ++ c ∷ [])) ≡ true → kind_of (left ++ c ∷ []) ≡ kind
       → complete_bytes (left ++ c ∷ []) ≡ [] → d' ≡ record d { failed = true } → r ≡ Err (InvalidBase64 kind)
@@ -309,7 +313,7 @@ module _ {F E : Type 0} (step : F → List ℕ → Result (Unit {0}) E → F →
         };
       }
 
-  -- after what was fed and flushed
+  -- if c is a fault after t, and the bytes held after t are flushed, feeding t and then c returns the error of c
   pub refused_feeds : {d d1 d2 d4 : State F} (d3 : State F) {r : Result (Unit {0}) (DecodeError E)} {kind : Kind}
       (t held : List ℕ) (c : ℕ) → Holds step d t held d1 → Refuses d1 c kind d2 → Flushes step d2 held (Ok tt) d3
       → d4 ≡ record d3 { failed = true } → r ≡ Err (InvalidBase64 kind) → Feeds step d (t ++ c ∷ []) r d4
@@ -350,6 +354,7 @@ whole_fills {bytes} block fits long all is =
 
 -- The steps of a feed
 
+-- the first byte of the text from an index on is the byte at that index
 pub byte_at : (s : List ℕ) (at : ℕ) → at < length s → get_or (take (length s - at) (drop at s)) 0 0 ≡ get_or s at 0
 byte_at s at h = ap (λ t. get_or t 0 0) (take_rest s at) ∙ get_or-drop at s 0 0 ∙ ap (λ n. get_or s n 0) (omega arith)
 
@@ -369,7 +374,7 @@ module _ {F E : Type 0} (step : F → List ℕ → Result (Unit {0}) E → F →
       let Q : List ℕ → Type 0 = λ l. Holds step d t l d1 in
       subst P (sym f.stays) (subst Q (sym e) h)
 
-  -- some more of the text s
+  -- d reads `taken` more bytes of s after the first `at` bytes
   pub gains_holds : {d d1 d2 : State F} {held held' : List ℕ} {taken : ℕ} (s : List ℕ) (at : ℕ)
       → Holds step d (take at s) held d1 → Gains d1 held (take (length s - at) (drop at s)) taken d2 held'
       → Holds step d (take (at + taken) s) held' d2
@@ -381,12 +386,12 @@ module _ {F E : Type 0} (step : F → List ℕ → Result (Unit {0}) E → F →
       let A : List ℕ → Type 0 = λ t. Adds d1 t g.more d2 in
       subst P (sym (take-add at taken s)) (subst Q (sym g.held_are) (holds_adds step h (subst A same g.adds)))
 
-  -- the closure returned an error
+  -- if the closure returns an error for the bytes that are held, so does feeding s
   pub flush_refused : {d d1 d2 : State F} {x : DecodeError E} (s : List ℕ) (at : ℕ) (held : List ℕ)
       → Holds step d (take at s) held d1 → Flushes step d1 held (Err x) d2 → Feeds step d s (Err x) d2
   flush_refused s at held h f = feeds_stop step s at (flushed_feeds step held h f)
 
-  -- a fault, after which nothing is read
+  -- if the byte at an index is a fault, feeding s returns its error after the bytes before it are flushed
   pub fault_feeds : {d d1 d2 d4 : State F} (d3 : State F) {r : Result (Unit {0}) (DecodeError E)} {kind : Kind}
       (s held held' : List ℕ) (at c : ℕ) → at < length s → c ≡ get_or s at 0
       → Holds step d (take at s) held d1 → Refuses d1 c kind d2 → held' ≡ held → Flushes step d2 held' (Ok tt) d3
@@ -402,7 +407,7 @@ module _ {F E : Type 0} (step : F → List ℕ → Result (Unit {0}) E → F →
 
   -- Blocks
 
-  -- more of a text
+  -- feeding `at` bytes of s, and then `taken` more, is the same as feeding them together
   pub feeds_part : {d d1 d2 : State F} {r : Result (Unit {0}) (DecodeError E)} (s : List ℕ) (at taken : ℕ)
       → Feeds step d (take at s) (Ok tt) d1 → Feeds step d1 (take taken (take (length s - at) (drop at s))) r d2
       → Feeds step d (take (at + taken) s) r d2
@@ -427,7 +432,7 @@ module _ {F E : Type 0} (step : F → List ℕ → Result (Unit {0}) E → F →
       feeds_part s at 64 fed (group_feeds bytes (omega (arith, length-take-le 64 block long))
       (subst A (sym f.held_are) (adds_groups (take 64 block) f.more none.0 none.1 fed.failed f.are)) w)
 
-  -- the rest of a text
+  -- feeding the first `at` bytes of s, and then the rest of s, is the same as feeding s
   pub feeds_last : {d d1 d2 : State F} {r : Result (Unit {0}) (DecodeError E)} (s : List ℕ) (at : ℕ)
       → Feeds step d (take at s) (Ok tt) d1 → Feeds step d1 (take (length s - at) (drop at s)) r d2
       → Feeds step d s r d2
@@ -500,7 +505,7 @@ module _ {F E : Type 0} (step : F → List ℕ → Result (Unit {0}) E → F →
       subst P (sym is) (subst Q none.0
       (holds_from step (adds_none every (omega (arith, ap length none.0)) (omega (arith, none.1)) going)))
 
-  -- a block more
+  -- a block of symbols and whitespace is read, and its symbols are held after those before
   pub block_waits : {d : State F} (s : State F) (text q q' : List ℕ) (at : ℕ) → list_all is_symbol q ≡ true
       → at + 64 ≤ length text → list_all is_symbol_or_space (take 64 (take (length text - at) (drop at text))) ≡ true
       → q' ≡ q ++ filter is_symbol (take 64 (take (length text - at) (drop at text))) → s.padding ≡ 0
@@ -532,7 +537,7 @@ module _ {F E : Type 0} (step : F → List ℕ → Result (Unit {0}) E → F →
       subst Q (sym is) (subst R (rest_after q long)
       (part_holds step q size (subst P (block_rest q bytes long size front) h) w))
 
-  -- and returns an error
+  -- if the closure returns an error for the bytes of 64 symbols, so does feeding the text
   pub block_refused : {d s1 s2 : State F} {e : DecodeError E} (text : List ℕ) (at : ℕ) (q bytes : List ℕ)
       → 64 ≤ length q → length bytes ≡ 48 → DecodesFront q bytes
       → Holds step d (take at text) (groups (map symbol_value q)) (waiting s1 q) → CallsOnce step s1 bytes (Err e) s2

@@ -22,9 +22,11 @@ use Rattle.std.specs.Char.{is_ascii_whitespace}
 
 -- A walk over a text that remembers whether it has seen padding, with the classes of bytes as variables.
 
+-- `Some` is not `None`
 pub some_not_none : {A : Type 0} (x : A) → Some x ≡ None → ⊥
 some_not_none x e = cc
 
+-- `b || true` is true
 pub or_true : (b : Bool) → (b || true) ≡ true
 or_true true = refl
 or_true false = refl
@@ -40,18 +42,21 @@ pub data Class : Bool → Bool → Bool → Type 0 where
   of_symbol : Class false false true
   of_none : Class false false false
 
+-- whitespace is neither padding nor a symbol
 pub space_alone : {x y z : Bool} → Class x y z → x ≡ true → (y ≡ false) × (z ≡ false)
 space_alone of_space e = (refl, refl)
 space_alone of_pad e = absurd (false≢true e)
 space_alone of_symbol e = absurd (false≢true e)
 space_alone of_none e = absurd (false≢true e)
 
+-- a symbol is neither whitespace nor padding
 pub symbol_alone : {x y z : Bool} → Class x y z → z ≡ true → (x ≡ false) × (y ≡ false)
 symbol_alone of_space e = absurd (false≢true e)
 symbol_alone of_pad e = absurd (false≢true e)
 symbol_alone of_symbol e = (refl, refl)
 symbol_alone of_none e = absurd (false≢true e)
 
+-- padding is neither whitespace nor a symbol
 pub pad_alone : {x y z : Bool} → Class x y z → y ≡ true → (x ≡ false) × (z ≡ false)
 pad_alone of_space e = absurd (false≢true e)
 pad_alone of_pad e = (refl, refl)
@@ -80,6 +85,7 @@ module _ (space pad symbol : ℕ → Bool) where
   abbrev pub is_bad : Bool → ℕ → Bool
   is_bad seen c = bad (space c) (pad c) (symbol c) seen
 
+  -- whether the byte at an index is a fault, from the bytes before it
   abbrev pub is_bad_at : List ℕ → ℕ → Bool
   is_bad_at b i = not (space (get_or b i 0) || (pad (get_or b i 0) || symbol (get_or b i 0))) || (symbol
       (get_or b i 0) && list_any pad (take i b))
@@ -130,6 +136,7 @@ module _ (space pad symbol : ℕ → Bool) where
       ∙ ap (λ n. stop_place n (list_any pad (p ++ c ∷ [])) t) (length_push p c)
       ∙ ap (λ s. stop_place (length p + 1) s t) (any_push p c))
 
+  -- the bytes of p ++ b before the place where a walk over b stops are p and then those that the walk passes
   pub before_walk : (p b : List ℕ) (n : ℕ) (s : Bool) → length p ≡ n
       → before_place (p ++ b) (stop_place n s b) ≡ p ++ ahead s b
   before_walk p [] n s e = refl
@@ -143,6 +150,7 @@ module _ (space pad symbol : ℕ → Bool) where
             ∙ append_assoc p (c ∷ []) (ahead (s || pad c) t)
       ]
 
+  -- the byte of p ++ b at the place where a walk over b stops is the byte that stops it
   pub byte_walk : (p b : List ℕ) (n : ℕ) (s : Bool) → length p ≡ n → byte_at (p ++ b) (stop_place n s b) ≡ stop s b
   byte_walk p [] n s e = refl
   byte_walk p (c ∷ t) n s e =
@@ -166,6 +174,7 @@ module _ (space pad symbol : ℕ → Bool) where
         | false ↦ λ e. stop-append t b (s || pad c) e ∙ ap (λ x. stop x b) (or_assoc s (pad c) (list_any pad t))
       ] h
 
+  -- if a walk does not stop in a, it passes a and then what it passes of b
   pub ahead-append : (a b : List ℕ) (s : Bool) → stop s a ≡ None → ahead s (a ++ b) ≡ a ++ ahead (s || list_any pad a) b
   ahead-append [] b s h = ap (λ x. ahead x b) (sym (or-false s))
   ahead-append (c ∷ t) b s h =
@@ -176,6 +185,7 @@ module _ (space pad symbol : ℕ → Bool) where
             ∙ ap (λ x. t ++ ahead x b) (or_assoc s (pad c) (list_any pad t)))
       ] h
 
+  -- a walk that does not stop passes the whole text
   pub ahead_none : (a : List ℕ) (s : Bool) → stop s a ≡ None → ahead s a ≡ a
   ahead_none a s h = ap (ahead s) (sym (append-nil a)) ∙ ahead-append a [] s h ∙ append-nil a
 
@@ -189,6 +199,7 @@ module _ (space pad symbol : ℕ → Bool) where
         | false ↦ λ e. stop-append_some t b (s || pad c) x e
       ] h
 
+  -- if a walk stops in a, it passes the same bytes of a ++ b as of a
   pub ahead-append_some : (a b : List ℕ) (s : Bool) (x : ℕ) → stop s a ≡ Some x → ahead s (a ++ b) ≡ ahead s a
   ahead-append_some [] b s x h = absurd (some_not_none x (sym h))
   ahead-append_some (c ∷ t) b s x h =
@@ -219,6 +230,7 @@ module _ (space pad symbol : ℕ → Bool) where
               ∙ ap (λ (x : Option ℕ). cond (is_bad s c) (Some c) x) (stop_compact t (s || pad c))
         ]
 
+    -- if a walk after padding does not stop, the text has no symbols
     pub seen_none : (b : List ℕ) → stop true b ≡ None → filter symbol b ≡ []
     seen_none [] h = refl
     seen_none (c ∷ t) h =
@@ -228,6 +240,7 @@ module _ (space pad symbol : ℕ → Bool) where
           | false ↦ λ e k. seen_step c (filter symbol t) (classes c) e (seen_none t k)
         ] refl h
 
+    -- if a walk does not stop, the text without whitespace is its symbols and then its padding
     pub compact_walk : (b : List ℕ) (s : Bool) → stop s b ≡ None
         → filter is_not_space b ≡ filter symbol b ++ filter pad b
     compact_walk [] s h = refl
@@ -241,6 +254,7 @@ module _ (space pad symbol : ℕ → Bool) where
 
     -- Texts of symbols and of padding
 
+    -- a walk that has seen no padding passes symbols, and stops where it stops in the text after them
     pub stop_symbols : (q b : List ℕ) → Every symbol q → stop false (q ++ b) ≡ stop false b
     stop_symbols [] b h = refl
     stop_symbols (c ∷ t) b h =
@@ -250,6 +264,7 @@ module _ (space pad symbol : ℕ → Bool) where
         let i : pad c ≡ false = f.1 in
         rw (e, g, i) (stop_symbols t b h.1)
 
+    -- a walk does not stop in padding
     pub stop_pads : (n c : ℕ) (s : Bool) → pad c ≡ true → stop s (replicate n c) ≡ None
     stop_pads zero c s e = refl
     stop_pads (suc n) c s e =
@@ -258,6 +273,7 @@ module _ (space pad symbol : ℕ → Bool) where
         let i : symbol c ≡ false = f.1 in
         rw (e, g, i) (stop_pads n c (s || true) e)
 
+    -- padding has no symbols
     pub filter_pads : (n c : ℕ) → pad c ≡ true → filter symbol (replicate n c) ≡ []
     filter_pads zero c e = refl
     filter_pads (suc n) c e =
@@ -265,6 +281,7 @@ module _ (space pad symbol : ℕ → Bool) where
         let i : symbol c ≡ false = f.1 in
         rw i (filter_pads n c e)
 
+    -- symbols have no padding
     pub filter_symbols : (q : List ℕ) → Every symbol q → filter pad q ≡ []
     filter_symbols [] h = refl
     filter_symbols (c ∷ t) h =
@@ -272,6 +289,7 @@ module _ (space pad symbol : ℕ → Bool) where
         let i : pad c ≡ false = f.1 in
         rw i (filter_symbols t h.1)
 
+    -- none of the symbols is padding
     pub any_symbols : (q : List ℕ) → Every symbol q → list_any pad q ≡ false
     any_symbols [] h = refl
     any_symbols (c ∷ t) h =
@@ -281,6 +299,7 @@ module _ (space pad symbol : ℕ → Bool) where
 
 -- What a filter keeps
 
+-- all that a filter keeps passes
 pub filter_every : (p : ℕ → Bool) (b : List ℕ) → Every p (filter p b)
 filter_every p [] = tt
 filter_every p (c ∷ t) = elim (p c) as (λ v. p c ≡ v → Every p (cond v (c ∷ filter p t) (filter p t))) [
@@ -289,16 +308,19 @@ filter_every p (c ∷ t) = elim (p c) as (λ v. p c ≡ v → Every p (cond v (c
   | false ↦ λ e. filter_every p t
 ] refl
 
+-- if all items of a list pass, a filter keeps the whole list
 pub filter_all : (p : ℕ → Bool) (b : List ℕ) → Every p b → filter p b ≡ b
 filter_all p [] h = refl
 filter_all p (c ∷ t) h =
     let e : p c ≡ true = h.0 in
     rw e (ap (λ (x : List ℕ). c ∷ x) (filter_all p t h.1))
 
+-- whether a list has items
 abbrev pub is_nonempty : List ℕ → Bool
 is_nonempty [] = false
 is_nonempty (c ∷ t) = true
 
+-- an item passes exactly if a filter keeps something
 pub any_filter : (p : ℕ → Bool) (b : List ℕ) → list_any p b ≡ is_nonempty (filter p b)
 any_filter p [] = refl
 any_filter p (c ∷ t) =
@@ -338,6 +360,7 @@ least_is : (b : List ℕ) (o : Option ℕ) → IsLeast (is_fault b) 0 (length b)
 least_is b None h = λ i l. h i (omega arith) l
 least_is b (Some i) (l, m, t, f) = (m, t, λ k n. f k (omega arith) n)
 
+-- `first_fault` is the smallest index of a fault, or `None` if there is no fault
 pub first_fault_least : (b : List ℕ) → IsFirstFault b (first_fault b)
 unfolding first_fault
 first_fault_least b = least_is b _ (find_least (is_fault b) (length b) 0 (length b) (omega arith))
@@ -357,6 +380,7 @@ and_true false = refl
 
 -- Removing padding from the end
 
+-- '=' is not a symbol
 pub is_symbol_pad : is_symbol 61 ≡ false
 is_symbol_pad = refl
 
@@ -364,6 +388,7 @@ is_symbol_pad = refl
 pub symbol_no_pad : (c : ℕ) → is_symbol c ≡ true → eqb c 61 ≡ false
 symbol_no_pad c h = ne_eqb c 61 (λ e. false≢true (sym is_symbol_pad ∙ ap is_symbol (sym e) ∙ h))
 
+-- symbols have no '=' at their end to remove
 pub without_pad_symbols : (q : List ℕ) → Every is_symbol q → without_last_padding q ≡ q
 unfolding without_last_padding
 without_pad_symbols [] h = refl
@@ -382,10 +407,12 @@ unfolding without_last_padding
 without_pad_push [] = refl
 without_pad_push (a ∷ t) = without_pad_more a t ∙ ap (λ x. a ∷ x) (without_pad_push t)
 
+-- n + 1 times '=' is n times '=' and then one more
 pub replicate_push : (n : ℕ) → replicate {A = ℕ} (suc n) 61 ≡ replicate n 61 ++ 61 ∷ []
 replicate_push zero = refl
 replicate_push (suc n) = ap (λ (x : List ℕ). 61 ∷ x) (replicate_push n)
 
+-- of n + 1 times '=' at the end, n are left after one is removed
 pub without_pad_pads : (q : List ℕ) (n : ℕ) → without_last_padding (q ++ replicate (suc n) 61) ≡ q ++ replicate n 61
 without_pad_pads q n =
     ap (λ x. without_last_padding (q ++ x)) (replicate_push n)
@@ -504,14 +531,17 @@ fits_from k (suc zero) e = inr (inl (refl, eqb-true (k % 4) 3 e))
 fits_from k (suc (suc zero)) e = inr (inr (refl, eqb-true (k % 4) 2 e))
 fits_from k (suc (suc (suc n))) e = absurd (false≢true e)
 
+-- if p times '=' fit k symbols, `fits_with` is true
 pub from_fits : (k p : ℕ) → Fits k p → fits_with (k % 4) p ≡ true
 from_fits k p (inl (z, n)) = rw z (not_from_false (eqb (k % 4) 1) (ne_eqb (k % 4) 1 n))
 from_fits k p (inr (inl (z, n))) = rw z (eq-eqb (k % 4) 3 n)
 from_fits k p (inr (inr (z, n))) = rw z (eq-eqb (k % 4) 2 n)
 
+-- if p times '=' do not fit k symbols, `fits_with` is false
 pub from_unfit : (k p : ℕ) → (Fits k p → ⊥) → fits_with (k % 4) p ≡ false
 from_unfit k p h = false_from_ne_true (fits_with (k % 4) p) (λ e. h (fits_from k p e))
 
+-- a text of symbols and padding is valid exactly if their numbers fit
 pub padding_fits : (b : List ℕ) → PaddingFits b
 padding_fits b q p h = (
   λ v. fits_from (length q) p (sym (symbols_pads_valid b q p h) ∙ v),
@@ -521,6 +551,7 @@ padding_fits b q p h = (
 
 -- The definitions of base64, as a walk that remembers whether it has seen padding.
 
+-- whether a byte is '='
 abbrev pub is_pad : ℕ → Bool
 is_pad c = eqb c 61
 
@@ -548,6 +579,7 @@ at_symbol : (z : Bool) → Class false false z
 at_symbol true = of_symbol
 at_symbol false = of_none
 
+-- each byte is in at most one of the classes whitespace, '=' and symbol
 pub classes : (c : ℕ) → Class (is_ascii_whitespace c) (is_pad c) (is_symbol c)
 classes c =
     elim (is_ascii_whitespace c) as (λ x. is_ascii_whitespace c ≡ x → Class x (is_pad c) (is_symbol c)) [
@@ -593,49 +625,60 @@ kind_byte : (b : List ℕ) (o : Option ℕ)
 kind_byte b None = refl
 kind_byte b (Some i) = refl
 
+-- `first_fault` finds a fault exactly if `fault_byte` does
 pub fault_some : (b : List ℕ) → is_some (first_fault b) ≡ is_some (fault_byte false b)
 fault_some b = some_byte b (first_fault b) ∙ ap is_some (byte_is b)
 
+-- if `first_fault` finds no fault, `fault_byte` finds none
 pub fault_none : (b : List ℕ) → first_fault b ≡ None → fault_byte false b ≡ None
 fault_none b e = sym (byte_is b) ∙ ap (byte_at is_ascii_whitespace is_pad is_symbol b) e
 
+-- if `fault_byte` finds no fault, `first_fault` finds none
 pub none_fault : (b : List ℕ) → fault_byte false b ≡ None → first_fault b ≡ None
 none_fault b e = none_byte b (first_fault b) (byte_is b ∙ e)
 
+-- the kind of a text, from the number of its symbols and the byte at its fault
 pub kind_is : (b : List ℕ) → kind_of b ≡ kind_by (length (values b)) (fault_byte false b)
 unfolding kind_of
 kind_is b = kind_byte b (first_fault b) ∙ ap (kind_by (length (values b))) (byte_is b)
 
+-- `before_fault` is the text before its first fault, or the whole text if there is no fault
 pub before_is : (b : List ℕ) → before_place b (first_fault b) ≡ before_fault false b
 unfolding before_fault
 before_is b = ap (before_place b) (first_fault_walk b)
     ∙ before_walk is_ascii_whitespace is_pad is_symbol [] b 0 false refl
 
+-- the complete bytes are those of the groups before the fault
 pub done_is : (b : List ℕ) → complete_bytes b ≡ groups (values (before_fault false b))
 unfolding complete_bytes
 done_is b = ap (λ x. groups (values x)) (before_is b)
 
 -- Two texts
 
+-- if a has no fault, the fault of a ++ b is that of b, where padding in a counts as padding before b
 pub fault-append : (a b : List ℕ) (s : Bool) → fault_byte s a ≡ None
     → fault_byte s (a ++ b) ≡ fault_byte (s || list_any is_pad a) b
 unfolding fault_byte
 fault-append a b s h = stop-append is_ascii_whitespace is_pad is_symbol a b s h
 
+-- if a has a fault, a ++ b has the same fault
 pub fault-append_some : (a b : List ℕ) (s : Bool) (x : ℕ) → fault_byte s a ≡ Some x → fault_byte s (a ++ b) ≡ Some x
 unfolding fault_byte
 fault-append_some a b s x h = stop-append_some is_ascii_whitespace is_pad is_symbol a b s x h
 
+-- if a has no fault, the bytes of a ++ b before the fault are a and then those of b before its fault
 pub before-append : (a b : List ℕ) (s : Bool) → fault_byte s a ≡ None
     → before_fault s (a ++ b) ≡ a ++ before_fault (s || list_any is_pad a) b
 unfolding fault_byte before_fault
 before-append a b s h = ahead-append is_ascii_whitespace is_pad is_symbol a b s h
 
+-- if a has a fault, the bytes before the fault of a ++ b are those before the fault of a
 pub before-append_some : (a b : List ℕ) (s : Bool) (x : ℕ) → fault_byte s a ≡ Some x
     → before_fault s (a ++ b) ≡ before_fault s a
 unfolding fault_byte before_fault
 before-append_some a b s x h = ahead-append_some is_ascii_whitespace is_pad is_symbol a b s x h
 
+-- if there is no fault, `before_fault` is the whole text
 pub before_none : (a : List ℕ) (s : Bool) → fault_byte s a ≡ None → before_fault s a ≡ a
 unfolding fault_byte before_fault
 before_none a s h = ahead_none is_ascii_whitespace is_pad is_symbol a s h
@@ -644,29 +687,36 @@ before_none a s h = ahead_none is_ascii_whitespace is_pad is_symbol a s h
 pub done_stays : (a b : List ℕ) (x : ℕ) → fault_byte false a ≡ Some x → complete_bytes (a ++ b) ≡ complete_bytes a
 done_stays a b x h = done_is (a ++ b) ∙ ap (λ z. groups (values z)) (before-append_some a b false x h) ∙ sym (done_is a)
 
+-- at a fault the kind is a symbol after padding for a symbol, and an unexpected byte otherwise
 pub kind_fault : (a : List ℕ) (x : ℕ) → fault_byte false a ≡ Some x
     → kind_of a ≡ cond (is_symbol x) AlphabetSymbolAfterPadding (UnexpectedSymbol x)
 kind_fault a x h = kind_is a ∙ ap (kind_by (length (values a))) h
 
+-- if a has a fault, a ++ b has the same kind
 pub kind_stays : (a b : List ℕ) (x : ℕ) → fault_byte false a ≡ Some x → kind_of a ≡ kind_of (a ++ b)
 kind_stays a b x h = kind_fault a x h ∙ sym (kind_fault (a ++ b) x (fault-append_some a b false x h))
 
 -- Symbols and then padding
 
+-- symbols at the front do not change the fault
 pub fault_symbols : (q b : List ℕ) → Every is_symbol q → fault_byte false (q ++ b) ≡ fault_byte false b
 unfolding fault_byte
 fault_symbols q b h = stop_symbols is_ascii_whitespace is_pad is_symbol classes q b h
 
+-- n times '=' has no fault
 pub fault_pads : (n : ℕ) (s : Bool) → fault_byte s (replicate n 61) ≡ None
 unfolding fault_byte
 fault_pads n s = stop_pads is_ascii_whitespace is_pad is_symbol classes n 61 s refl
 
+-- symbols and then n times '=' have no fault
 pub fault_text : (q : List ℕ) (n : ℕ) → Every is_symbol q → fault_byte false (q ++ replicate n 61) ≡ None
 fault_text q n h = fault_symbols q (replicate n 61) h ∙ fault_pads n false
 
+-- n times '=' has no symbols
 pub symbols_of_pads : (n : ℕ) → filter is_symbol (replicate n 61) ≡ []
 symbols_of_pads n = filter_pads is_ascii_whitespace is_pad is_symbol classes n 61 refl
 
+-- the symbols of q and then n times '=' are q
 pub symbols_of_text : (q : List ℕ) (n : ℕ) → Every is_symbol q → filter is_symbol (q ++ replicate n 61) ≡ q
 symbols_of_text q n h = filter-append is_symbol q (replicate n 61)
     ∙ ap (λ x. filter is_symbol q ++ x) (symbols_of_pads n) ∙ append-nil (filter is_symbol q) ∙ filter_all is_symbol q h
@@ -675,12 +725,14 @@ pads_of_pads : (n : ℕ) → filter is_pad (replicate n 61) ≡ replicate n 61
 pads_of_pads zero = refl
 pads_of_pads (suc n) = ap (λ (x : List ℕ). 61 ∷ x) (pads_of_pads n)
 
+-- the padding of q and then n times '=' is n times '='
 pub pads_of_text : (q : List ℕ) (n : ℕ) → Every is_symbol q → filter is_pad (q ++ replicate n 61) ≡ replicate n 61
 pads_of_text q n h =
     filter-append is_pad q (replicate n 61)
     ∙ ap (λ x. x ++ filter is_pad (replicate n 61)) (filter_symbols is_ascii_whitespace is_pad is_symbol classes q h)
     ∙ pads_of_pads n
 
+-- whether q and then n times '=' have padding is whether n times '=' has
 pub any_of_text : (q : List ℕ) (n : ℕ) → Every is_symbol q → list_any is_pad (q ++ replicate n 61) ≡ list_any is_pad
     (replicate n 61)
 any_of_text q n h = list_any-append is_pad q (replicate n 61) ∙ ap (λ x. x || list_any is_pad (replicate n 61))
@@ -707,10 +759,12 @@ no_fault_text b h = record {
       ∙ ap (λ x. filter is_symbol b ++ x) (pads_are b);
 }
 
+-- a text without a fault is valid exactly if the number of its '=' fits the number of its symbols
 pub no_fault_valid : (b : List ℕ) → fault_byte false b ≡ None → is_valid b ≡ fits_with (length (filter is_symbol b) % 4)
     (length (filter is_pad b))
 no_fault_valid b h = symbols_pads_valid b (filter is_symbol b) (length (filter is_pad b)) (no_fault_text b h)
 
+-- if `list_all is_symbol` is true, every byte is a symbol
 pub every_list_all : (q : List ℕ) → list_all is_symbol q ≡ true → Every is_symbol q
 every_list_all [] h = tt
 every_list_all (c ∷ t) h = let k = and_parts (is_symbol c) (list_all is_symbol t) h in (k.0, every_list_all t k.1)
@@ -765,6 +819,7 @@ valid_no_fault b h =
     ∙ unpadded_none (without_whitespace b) (fault_every (without_padding (without_whitespace b))
     (every_list_all (without_padding (without_whitespace b)) parts.1))
 
+-- a text with a fault is not valid
 pub fault_invalid : (b : List ℕ) (x : ℕ) → fault_byte false b ≡ Some x → is_valid b ≡ false
 fault_invalid b x h = false_from_ne_true (is_valid b) (λ v. absurd (some_not_none x (sym h ∙ valid_no_fault b v)))
 
@@ -773,6 +828,7 @@ fault_invalid b x h = false_from_ne_true (is_valid b) (λ v. absurd (some_not_no
 four_more : (n : ℕ) → n % 4 ≡ suc (suc (suc (suc n))) % 4
 four_more n = omega arith
 
+-- the bytes of x ++ y are those of the groups of x, and then those of what is left over of x followed by y
 pub groups-append : (x y : List ℕ) → groups (x ++ y) ≡ groups x ++ groups (after_groups x ++ y)
 unfolding groups after_groups
 groups-append [] y = refl
@@ -783,6 +839,7 @@ groups-append (p ∷ q ∷ r ∷ s ∷ rest) y =
     ap (λ x. group_bytes (group_number p q r s) ++ x) (groups-append rest y)
     ∙ sym (append_assoc (group_bytes (group_number p q r s)) (groups rest) (groups (after_groups rest ++ y)))
 
+-- what is left over of x ++ y is what is left over of the rest of x followed by y
 pub after_groups-append : (x y : List ℕ) → after_groups (x ++ y) ≡ after_groups (after_groups x ++ y)
 unfolding after_groups
 after_groups-append [] y = refl
@@ -791,6 +848,7 @@ after_groups-append (p ∷ q ∷ []) y = refl
 after_groups-append (p ∷ q ∷ r ∷ []) y = refl
 after_groups-append (p ∷ q ∷ r ∷ s ∷ rest) y = after_groups-append rest y
 
+-- what is left over of a mapped list is what is left over of the list, mapped
 pub after_groups-map : (f : ℕ → ℕ) (x : List ℕ) → after_groups (map f x) ≡ map f (after_groups x)
 unfolding after_groups
 after_groups-map f [] = refl
@@ -799,6 +857,7 @@ after_groups-map f (p ∷ q ∷ []) = refl
 after_groups-map f (p ∷ q ∷ r ∷ []) = refl
 after_groups-map f (p ∷ q ∷ r ∷ s ∷ rest) = after_groups-map f rest
 
+-- the number of values that are left over is the length modulo four
 pub length-after_groups : (x : List ℕ) → length (after_groups x) ≡ length x % 4
 unfolding after_groups
 length-after_groups [] = refl
@@ -807,6 +866,7 @@ length-after_groups (p ∷ q ∷ []) = refl
 length-after_groups (p ∷ q ∷ r ∷ []) = refl
 length-after_groups (p ∷ q ∷ r ∷ s ∷ rest) = length-after_groups rest ∙ four_more (length rest)
 
+-- if all bytes are symbols, so are those left over after the groups
 pub every_after : (x : List ℕ) → Every is_symbol x → Every is_symbol (after_groups x)
 unfolding after_groups
 every_after [] h = h

@@ -87,6 +87,7 @@ right : (b : ℕ) → b < 256 → is_right b ≡ true
 unfolding count_ones
 right b l = agree_below_at is_right (λ b. true) 256 b refl l
 
+-- the first places in the row of b are those of its clear bits
 pub places_clear : (b : ℕ) → b < 256 → take (8 - count_ones b) (places b) ≡ clear (range_with_len 0 8) b
 places_clear b l = alike_same (take (8 - count_ones b) (places b)) (clear (range_with_len 0 8) b)
     (and_parts (alike (take (8 - count_ones b) (places b)) (clear (range_with_len 0 8) b)) _ (right b l)).0
@@ -95,11 +96,13 @@ each_below : (v : List ℕ) → list_all (λ p. ltb p 8) v ≡ true → Each1 (�
 each_below [] h = tt
 each_below (x ∷ v) h = let p = and_parts (ltb x 8) (list_all (λ p. ltb p 8) v) h in (ltb-true x 8 p.0, each_below v p.1)
 
+-- all places in the row of b are below 8
 pub places_small : (b : ℕ) → b < 256 → Each1 (λ p. p < 8) (places b)
 places_small b l =
     each_below (places b) (and_parts (list_all (λ p. ltb p 8) (places b)) _
     (and_parts (alike (take (8 - count_ones b) (places b)) (clear (range_with_len 0 8) b)) _ (right b l)).1).0
 
+-- a byte has at most eight bits that are set
 pub ones_few : (b : ℕ) → b < 256 → count_ones b < 9
 ones_few b l = ltb-true (count_ones b) 9 (and_parts (list_all (λ p. ltb p 8) (places b)) _
     (and_parts (alike (take (8 - count_ones b) (places b)) (clear (range_with_len 0 8) b)) _ (right b l)).1).1
@@ -109,6 +112,7 @@ ones_few b l = ltb-true (count_ones b) 9 (and_parts (list_all (λ p. ltb p 8) (p
 abbrev add8 : ℕ → ℕ → ℕ
 add8 a b = (a + b) % 256
 
+-- places below 8 are below 16 after at most 8 is added to each
 pub places_below : (v : List ℕ) (from : ℕ) → length v ≡ 16 → from ≤ 8 → Each1 (λ p. p < 8) v → {js : List ℕ}
     → js ≡ map (λ p. add8 p from) v → Each1 (λ j. j < 16) js
 places_below v from long l h {js} e =
@@ -149,6 +153,7 @@ half_is row from long l =
     ap (λ n. get_or row n 0) there ∙ sym (get_or-take 8 (drop from row) k 0 (omega arith) ∙ get_or-drop from row k 0))
     ∙ pick_l_whole 0 v 8 (length-take-le 8 (drop from row) (omega (arith, length-drop from row)))
 
+-- a lookup of the places of the clear bits finds the bytes of the half row whose bits are clear
 pub half_clear : (row v js : List ℕ) (from bits c : ℕ) → length row ≡ 16 → length v ≡ 16 → from ≤ 8
     → Each1 (λ p. p < 8) v → take c v ≡ clear (range_with_len 0 8) bits → js ≡ map (λ p. add8 p from) v
     → take c (swz_l w8 16 row 0 js) ≡ clear (take 8 (drop from row)) bits
@@ -171,6 +176,7 @@ half_clear row v js from bits c long wide l small is e =
 half_sum : (a b : ℕ) → a < 256 → ((a + 256 * b) % 256 ≡ a) × ((a + 256 * b) / 256 ≡ b)
 half_sum a b l = (omega arith, omega arith)
 
+-- the bytes of both halves of a row whose bits in the mask are clear are the symbols of the row
 pub row_clear : (row : List ℕ) (others : ℕ) → length row ≡ 16 → others ≡ others_mask row
     → clear (take 8 (drop 0 row)) (others % 256) ++ clear (take 8 (drop 8 row)) (others / 256) ≡ filter is_symbol row
 row_clear row others long e =
@@ -208,6 +214,7 @@ low b = bit_and b 15
 abbrev space_entry : ℕ → ℕ
 space_entry b = get_or SPACES (low b) 0
 
+-- the mask of the bytes that are equal to their entry in `SPACES` is the mask of the whitespace
 pub spaces_are : (v : List ℕ) (js : List ℕ) → length v ≡ 16 → Each1 (Fits w8) v → js ≡ map low v
     → mask_l (map (top 7) (zip2 (λ a b. cond (eqb a b) 255 0) (swz_l w8 16 SPACES 0 js) v)) % 2 ^ 64 ≡ mask_l
     (map is_ascii_whitespace v)
@@ -226,6 +233,7 @@ first_bits true false m n e = (refl, omega (arith, e))
 first_bits false true m n e = (refl, omega (arith, e))
 first_bits false false m n e = absurd (omega (arith, e))
 
+-- if the mask of the bytes that are no symbols is that of the whitespace, all bytes are symbols or whitespace
 pub only_spaces : (v : List ℕ) → others_mask v ≡ mask_l (map is_ascii_whitespace v)
     → list_all is_symbol_or_space v ≡ true
 only_spaces [] e = refl
@@ -236,12 +244,13 @@ no_bit : (s : Bool) (m : ℕ) → cond (not s) 1 0 + 2 * m ≡ 0 → (s ≡ true
 no_bit true m e = (refl, omega (arith, e))
 no_bit false m e = absurd (omega (arith, e))
 
+-- if the mask of the bytes that are no symbols is zero, all bytes are symbols or whitespace
 pub only_symbols : (v : List ℕ) → others_mask v ≡ 0 → list_all is_symbol_or_space v ≡ true
 only_symbols [] e = refl
 only_symbols (b ∷ v) e = let p = no_bit (is_symbol b) (others_mask v) e in
     ap₂ (λ s t. (s || is_ascii_whitespace b) && t) p.0 (only_symbols v p.1)
 
--- a row of symbols alone
+-- if the mask of the bytes that are no symbols is zero, all bytes are symbols
 pub all_clear : (v : List ℕ) → others_mask v ≡ 0 → v ≡ filter is_symbol v
 all_clear [] e = refl
 all_clear (b ∷ v) e = let p = no_bit (is_symbol b) (others_mask v) e in ap (λ l. b ∷ l) (all_clear v p.1)
@@ -249,6 +258,7 @@ all_clear (b ∷ v) e = let p = no_bit (is_symbol b) (others_mask v) e in ap (λ
 
 -- Symbols that were appended
 
+-- all bytes of a text that a filter of symbols keeps are symbols
 pub filter_symbols : (v : List ℕ) → list_all is_symbol (filter is_symbol v) ≡ true
 filter_symbols [] = refl
 filter_symbols (b ∷ v) =
@@ -258,11 +268,13 @@ filter_symbols (b ∷ v) =
       | false ↦ λ e. filter_symbols v
     ] refl
 
+-- symbols with the symbols of a text appended are all symbols
 pub all_more : (x y z : List ℕ) → list_all is_symbol x ≡ true → z ≡ x ++ filter is_symbol y
     → list_all is_symbol z ≡ true
 all_more x y z h e = ap (list_all is_symbol) e ∙ list_all-append is_symbol x (filter is_symbol y)
     ∙ ap₂ (λ s t. s && t) h (filter_symbols y)
 
+-- if every byte is a symbol, `list_all is_symbol` is true
 pub list_all_every : (q : List ℕ) → Every is_symbol q → list_all is_symbol q ≡ true
 list_all_every [] h = refl
 list_all_every (c ∷ q) h = ap₂ (λ s t. s && t) h.0 (list_all_every q h.1)
@@ -295,6 +307,7 @@ both_spaced : (x y : List ℕ) → list_all is_symbol_or_space x ≡ true → li
     → list_all is_symbol_or_space (x ++ y) ≡ true
 both_spaced x y m n = list_all-append is_symbol_or_space x y ∙ ap₂ (λ s t. s && t) m n
 
+-- if four rows have only symbols and whitespace, so do their 64 bytes together
 pub four_spaced : (text r1 r2 r3 : List ℕ) → r1 ≡ drop 16 text → r2 ≡ drop 32 text → r3 ≡ drop 48 text
     → list_all is_symbol_or_space (take 16 text) ≡ true → list_all is_symbol_or_space (take 16 r1) ≡ true
     → list_all is_symbol_or_space (take 16 r2) ≡ true → list_all is_symbol_or_space (take 16 r3) ≡ true
@@ -308,6 +321,7 @@ four_spaced text r1 r2 r3 d e f p q r s =
     ∙ both_spaced (take 16 text) (b ++ (c ++ h)) p
     (both_spaced b (c ++ h) (ap all (sym d) ∙ q) (both_spaced c h (ap all (sym e) ∙ r) (ap all (sym f) ∙ s)))
 
+-- appending the symbols of four rows, one row at a time, appends the symbols of their 64 bytes
 pub four_added : (text r1 r2 r3 q0 q1 q2 q3 q4 : List ℕ) → r1 ≡ drop 16 text → r2 ≡ drop 32 text → r3 ≡ drop 48 text
     → q1 ≡ q0 ++ filter is_symbol (take 16 text) → q2 ≡ q1 ++ filter is_symbol (take 16 r1)
     → q3 ≡ q2 ++ filter is_symbol (take 16 r2) → q4 ≡ q3 ++ filter is_symbol (take 16 r3)
@@ -333,6 +347,7 @@ no_items : (l : List ℕ) → length l ≡ 0 → l ≡ []
 no_items [] e = refl
 no_items (b ∷ l) e = absurd (omega arith)
 
+-- the values left over are those from the largest multiple of four on
 pub after_is : (q : List ℕ) → after_groups q ≡ drop (length q / 4 * 4) q
 after_is q =
     let at = length q / 4 * 4 in
@@ -344,6 +359,7 @@ after_is q =
     ∙ ap (λ x. after_groups (x ++ drop at q)) none
     ∙ after_few (drop at q) (omega (arith, length-drop at q))
 
+-- the first `len % 4` of the three items after the complete groups are those that are left over
 pub three_last : (s : List ℕ) (len : ℕ) → length s ≡ 144 → len < 64
     → take (len % 4) (get_or s (len / 4 * 4) 0 ∷ get_or s (len / 4 * 4 + 1) 0 ∷ get_or s (len / 4 * 4 + 2) 0 ∷ [])
     ≡ after_groups (take len s)
@@ -370,6 +386,7 @@ three_last s len long few =
 
 -- The bytes of the first groups
 
+-- a symbol is below 256
 pub symbol_lt : (b : ℕ) → is_symbol b ≡ true → b < 256
 symbol_lt b h = grind arith
 
@@ -378,6 +395,7 @@ fits_symbols [] h i = record { fits = omega arith }
 fits_symbols (b ∷ s) h zero = record { fits = symbol_lt b (and_parts (is_symbol b) (list_all is_symbol s) h).0 }
 fits_symbols (b ∷ s) h (suc i) = fits_symbols s (and_parts (is_symbol b) (list_all is_symbol s) h).1 i
 
+-- the bytes of 64 values begin with those of up to 16 groups of the first len bytes, if these are symbols
 pub front_is : (s bytes : List ℕ) (len : ℕ) → length s ≡ 144 → len < 128 → list_all is_symbol (take len s) ≡ true
     → bytes ≡ groups (map value_of (take 64 s)) → DecodesFront (take len s) bytes
 front_is s bytes len long few all e m a b =

@@ -37,6 +37,7 @@ use Rattle.data_url.proofs.forgiving_base64.Groups.{two_feeds}
 
 -- What a short text does after what is left over in a decoder, and what the end of the input does.
 
+-- at most three values have no complete group
 pub groups_few : (x : List ℕ) → length x ≤ 3 → groups x ≡ []
 unfolding groups
 groups_few [] h = refl
@@ -45,6 +46,7 @@ groups_few (a ∷ b ∷ []) h = refl
 groups_few (a ∷ b ∷ c ∷ []) h = refl
 groups_few (a ∷ b ∷ c ∷ e ∷ t) h = absurd (omega arith)
 
+-- at most three values are all left over after the groups
 pub after_few : (x : List ℕ) → length x ≤ 3 → after_groups x ≡ x
 unfolding after_groups
 after_few [] h = refl
@@ -65,18 +67,22 @@ abbrev pub has_pad : ℕ → Bool
 has_pad p = list_any is_pad (replicate p 61)
 
 module _ (q : List ℕ) (p : ℕ) (every : Every is_symbol q) where
+  -- the fault of q, p times '=' and then t is that of t, where the '=' count as padding before t
   pub fault_more : (t : List ℕ) → fault_byte false (left_text q p ++ t) ≡ fault_byte (has_pad p) t
   fault_more t = fault-append (left_text q p) t false (fault_text q p every)
       ∙ ap (λ s. fault_byte s t) (any_of_text q p every)
 
+  -- the bytes before the fault of q, p times '=' and then t are q, the '=' and those of t before its fault
   pub before_more : (t : List ℕ) → before_fault false (left_text q p ++ t) ≡ left_text q p ++ before_fault (has_pad p) t
   before_more t = before-append (left_text q p) t false (fault_text q p every)
       ∙ ap (λ s. left_text q p ++ before_fault s t) (any_of_text q p every)
 
+  -- the symbols of q, p times '=' and then t are q and those of t
   pub symbols_more : (t : List ℕ) → filter is_symbol (left_text q p ++ t) ≡ q ++ filter is_symbol t
   symbols_more t = filter-append is_symbol (left_text q p) t
       ∙ ap (λ x. x ++ filter is_symbol t) (symbols_of_text q p every)
 
+  -- the number of '=' in q, p times '=' and then t is p more than in t
   pub pads_more : (t : List ℕ) → length (filter is_pad (left_text q p ++ t)) ≡ p + length (filter is_pad t)
   pads_more t =
       ap length (filter-append is_pad (left_text q p) t)
@@ -84,15 +90,17 @@ module _ (q : List ℕ) (p : ℕ) (every : Every is_symbol q) where
       ∙ ap (λ x. length x + length (filter is_pad t)) (pads_of_text q p every)
       ∙ ap (λ x. x + length (filter is_pad t)) (length-replicate p 61)
 
+  -- the values of q, p times '=' and then t are those of q and of the symbols of t
   pub values_more : (t : List ℕ) → values (left_text q p ++ t) ≡ map symbol_value (q ++ filter is_symbol t)
   unfolding values
   values_more t = ap (map symbol_value) (symbols_more t)
 
+  -- the values of q and p times '=' are those of q
   pub values_left : values (left_text q p) ≡ map symbol_value q
   unfolding values
   values_left = ap (map symbol_value) (symbols_of_text q p every)
 
-  -- the result for a text t without a fault
+  -- if t has no fault, the complete bytes of q, p times '=' and then t are those of q and the symbols of t
   pub done_more : (t : List ℕ) → fault_byte (has_pad p) t ≡ None → complete_bytes (left_text q p ++ t) ≡ groups
       (map symbol_value (q ++ filter is_symbol t))
   done_more t h =
@@ -100,15 +108,17 @@ module _ (q : List ℕ) (p : ℕ) (every : Every is_symbol q) where
       ∙ ap (λ x. groups (values x)) (before_none (left_text q p ++ t) false (fault_more t ∙ h))
       ∙ ap groups (values_more t)
 
+  -- the symbols left over of q, p times '=' and then t are those of q and t after their complete groups
   pub left_more : (t : List ℕ) → left_symbols (left_text q p ++ t) ≡ after_groups (q ++ filter is_symbol t)
   unfolding left_symbols
   left_more t = ap after_groups (symbols_more t)
 
+  -- the padding left over of q, p times '=' and then t is p and the number of '=' in t, but at most 3
   pub padding_more : (t : List ℕ) → left_padding (left_text q p ++ t) ≡ min (p + length (filter is_pad t)) 3
   unfolding left_padding
   padding_more t = ap (λ x. min x 3) (pads_more t)
 
-  -- and for one bad byte
+  -- if c is a fault after at most three symbols and p times '=', no group is complete
   pub done_bad : (c : ℕ) → length q ≤ 3 → fault_byte (has_pad p) (c ∷ []) ≡ Some c
       → complete_bytes (left_text q p ++ c ∷ []) ≡ []
   done_bad c few h =
@@ -118,11 +128,13 @@ module _ (q : List ℕ) (p : ℕ) (every : Every is_symbol q) where
       ∙ ap groups values_left
       ∙ groups_few (map symbol_value q) (omega (arith, few, length-map q symbol_value))
 
+  -- the kind of a fault c after q and p times '=' is a symbol after padding for a symbol, and an unexpected byte
+  -- otherwise
   pub kind_bad : (c : ℕ) → fault_byte (has_pad p) (c ∷ []) ≡ Some c
       → kind_of (left_text q p ++ c ∷ []) ≡ cond (is_symbol c) AlphabetSymbolAfterPadding (UnexpectedSymbol c)
   kind_bad c h = kind_fault (left_text q p ++ c ∷ []) c (fault_more (c ∷ []) ∙ h)
 
-  -- as the end
+  -- q and p times '=' are valid exactly if p fits the number of symbols
   pub valid_left : is_valid (left_text q p) ≡ fits_with (length q % 4) p
   valid_left =
       no_fault_valid (left_text q p) (fault_text q p every)
@@ -130,11 +142,13 @@ module _ (q : List ℕ) (p : ℕ) (every : Every is_symbol q) where
       ∙ ap (λ x. fits_with (length q % 4) (length x)) (pads_of_text q p every)
       ∙ ap (fits_with (length q % 4)) (length-replicate p 61)
 
+  -- q and p times '=' decode to the bytes of the groups of q and those of the values after them
   pub decoded_left : decoded (left_text q p) ≡ groups (map symbol_value q) ++ rest_bytes
       (after_groups (map symbol_value q))
   unfolding decoded
   decoded_left = ap (λ x. groups x ++ rest_bytes (after_groups x)) values_left
 
+  -- the kind of q and p times '=' is a lone symbol if the length of q modulo four is one, and padding otherwise
   pub kind_left : kind_of (left_text q p) ≡ cond (eqb (length q % 4) 1) LoneAlphabetSymbol Padding
   kind_left =
       kind_is (left_text q p)
@@ -156,32 +170,40 @@ fault_one c s x y z e f g =
 filter_one : (p : ℕ → Bool) (c : ℕ) (v : Bool) → p c ≡ v → filter p (c ∷ []) ≡ cond v (c ∷ []) []
 filter_one p c v e = ap (λ w. cond w (c ∷ []) []) e
 
+-- whitespace is no fault, with or without padding before it
 pub fault_space : (c : ℕ) (s : Bool) → is_ascii_whitespace c ≡ true → fault_byte s (c ∷ []) ≡ None
 fault_space c s e = let k = space_alone (classes c) e in fault_one c s true false false e k.0 k.1
 
+-- a byte of whitespace has no symbols
 pub symbols_space : (c : ℕ) → is_ascii_whitespace c ≡ true → filter is_symbol (c ∷ []) ≡ []
 symbols_space c e = filter_one is_symbol c false (space_alone (classes c) e).1
 
+-- a byte of whitespace has no '='
 pub pads_space : (c : ℕ) → is_ascii_whitespace c ≡ true → filter is_pad (c ∷ []) ≡ []
 pads_space c e = filter_one is_pad c false (space_alone (classes c) e).0
 
+-- a symbol without padding before it is no fault
 pub fault_symbol : (c : ℕ) → is_symbol c ≡ true → fault_byte false (c ∷ []) ≡ None
 fault_symbol c e = let k = symbol_alone (classes c) e in fault_one c false false false true k.0 k.1 e
 
--- a symbol after padding
+-- a symbol after padding is a fault
 pub fault_after : (c : ℕ) → is_symbol c ≡ true → fault_byte true (c ∷ []) ≡ Some c
 fault_after c e = let k = symbol_alone (classes c) e in fault_one c true false false true k.0 k.1 e
 
+-- the symbols of a text of one symbol are that symbol
 pub symbols_symbol : (c : ℕ) → is_symbol c ≡ true → filter is_symbol (c ∷ []) ≡ c ∷ []
 symbols_symbol c e = filter_one is_symbol c true e
 
+-- a symbol has no '='
 pub pads_symbol : (c : ℕ) → is_symbol c ≡ true → filter is_pad (c ∷ []) ≡ []
 pads_symbol c e = filter_one is_pad c false (symbol_alone (classes c) e).1
 
+-- a byte that is neither whitespace nor '=' nor a symbol is a fault
 pub fault_other : (c : ℕ) (s : Bool) → is_ascii_whitespace c ≡ false → is_pad c ≡ false → is_symbol c ≡ false
     → fault_byte s (c ∷ []) ≡ Some c
 fault_other c s e f g = fault_one c s false false false e f g
 
+-- if p is at least one, there is padding among p times '='
 pub has_pad_some : (p : ℕ) → 1 ≤ p → has_pad p ≡ true
 has_pad_some zero h = absurd (omega arith)
 has_pad_some (suc p) h = refl
@@ -210,7 +232,7 @@ fault_nil : (s : Bool) → fault_byte s [] ≡ None
 unfolding fault_byte
 fault_nil s = refl
 
--- three places, written out
+-- the first three items of a list of three items, written out
 pub three_items : (s : List ℕ) (n : ℕ) → length s ≡ 3 → n ≡ 3
     → take n s ≡ get_or s 0 0 ∷ get_or s 1 0 ∷ get_or s 2 0 ∷ []
 three_items (a ∷ b ∷ c ∷ []) n l e = rw e refl
@@ -219,6 +241,7 @@ three_items (a ∷ []) n l e = absurd (omega arith)
 three_items (a ∷ b ∷ []) n l e = absurd (omega arith)
 three_items (a ∷ b ∷ c ∷ f ∷ t) n l e = absurd (omega arith)
 
+-- the first two items of a list of three items, written out
 pub two_items : (s : List ℕ) (n : ℕ) → length s ≡ 3 → n ≡ 2 → take n s ≡ get_or s 0 0 ∷ get_or s 1 0 ∷ []
 two_items (a ∷ b ∷ c ∷ []) n l e = rw e refl
 two_items [] n l e = absurd (omega arith)
@@ -236,14 +259,17 @@ one_unfit (suc (suc (suc p))) = refl
 
 -- What one call returns
 
+-- if b is true, P is enough for `MatchBool b P Q`
 pub bool_at_true : (b : Bool) (P Q : Type 0) → b ≡ true → P → MatchBool b P Q
 bool_at_true true P Q e h = h
 bool_at_true false P Q e h = absurd (false≢true e)
 
+-- if b is false, Q is enough for `MatchBool b P Q`
 pub bool_at_false : (b : Bool) (P Q : Type 0) → b ≡ false → Q → MatchBool b P Q
 bool_at_false true P Q e h = absurd (true≢false e)
 bool_at_false false P Q e h = h
 
+-- after one call with all bytes: P if the call returned no error, and otherwise r is its error
 pub told_call : {E : Type 0} (answer : Result (Unit {0}) E) (r : Result (Unit {0}) (DecodeError E)) (P : Type 0)
     (all bytes : List ℕ) → bytes ≡ all → (r ≡ Ok tt → P)
     → MatchResult answer (λ u. r ≡ Ok tt) (λ e. r ≡ Err (WriteError e))
@@ -254,7 +280,7 @@ told_call (Err e) r P all bytes q f h = record { bytes_begin = prefix_all bytes 
 -- A decoder that is fed a short text
 
 module _ {F : Type 0} where
-  -- a text t with the symbols k and n times '='
+  -- d reads a text t without a fault that has the symbols k and n times '=', if the fields of d' are what is left over
   pub adds_text : {d d' : State F} (t k bytes : List ℕ) (n : ℕ) → Every is_symbol d.symbols
       → fault_byte (has_pad d.padding) t ≡ None → filter is_symbol t ≡ k → length (filter is_pad t) ≡ n
       → bytes ≡ groups (map symbol_value (d.symbols ++ k)) → length bytes ≤ 3 * length t → d'.closure ≡ d.closure
@@ -286,7 +312,7 @@ module _ {F : Type 0} where
       (omega (arith, few, length-map (d.symbols ++ k) symbol_value)))) (omega arith)
       same (symbols ∙ sym (after_few (d.symbols ++ k) few)) padding failed
 
-  -- a symbol that is kept
+  -- d reads a symbol after at most two symbols and no padding: it keeps the symbol, and no group is complete
   pub adds_kept : {d d' : State F} (c : ℕ) → Every is_symbol d.symbols → length d.symbols + 1 ≤ 3 → d.padding ≡ 0
       → is_symbol c ≡ true → d'.closure ≡ d.closure → d'.symbols ≡ d.symbols ++ c ∷ [] → d'.padding ≡ d.padding
       → d'.failed ≡ false → Adds d (c ∷ []) [] d'
@@ -298,7 +324,7 @@ module _ {F : Type 0} where
       (omega (arith, few, length-append d.symbols (c ∷ [])))
       same symbols (padding ∙ none ∙ ap (λ p. min (p + 0) 3) (sym none)) failed
 
-  -- a byte of white space
+  -- d reads a byte of whitespace, and does not change
   pub adds_space : {d : State F} (c : ℕ) → Every is_symbol d.symbols → length d.symbols ≤ 3 → d.padding ≤ 3
       → is_ascii_whitespace c ≡ true → d.failed ≡ false → Adds d (c ∷ []) [] d
   adds_space {d} c every few pads space going =
@@ -309,7 +335,7 @@ module _ {F : Type 0} where
       (rw append-nil few)
       refl (sym (append-nil d.symbols)) (min_same d.padding pads) going
 
-  -- no text at all
+  -- d reads the empty text, and does not change
   pub adds_none : {d : State F} → Every is_symbol d.symbols → length d.symbols ≤ 3 → d.padding ≤ 3 → d.failed ≡ false
       → Adds d [] [] d
   adds_none {d} every few pads going =
@@ -332,6 +358,7 @@ module _ {F : Type 0} where
       (ap (λ (s : State F). s.closure) same) (ap (λ (s : State F). s.symbols) same ∙ sym (append-nil d.symbols))
       (ap (λ (s : State F). s.padding) same) (ap (λ (s : State F). s.failed) same ∙ going)
 
+  -- d reads a '=': it counts it, up to three
   pub adds_pad : {d d' : State F} (c : ℕ) → c ≡ 61 → Every is_symbol d.symbols → length d.symbols ≤ 3 → d.failed ≡ false
       → d' ≡ record d { padding = min (d.padding + 1) 3 } → Adds d (c ∷ []) [] d'
   adds_pad {d} {d'} c e every few going same = let P : ℕ → Type 0 = λ x. Adds d (x ∷ []) [] d' in
@@ -368,7 +395,7 @@ module _ {F : Type 0} where
         stays = same;
       }
 
-  -- a symbol after padding
+  -- if d has padding, it refuses a symbol
   pub refuses_after : {d d' : State F} (c : ℕ) → Every is_symbol d.symbols → length d.symbols ≤ 3 → 1 ≤ d.padding
       → is_symbol c ≡ true → d' ≡ d → Refuses d c AlphabetSymbolAfterPadding d'
   refuses_after {d} c every few pads symbol same =
@@ -376,7 +403,7 @@ module _ {F : Type 0} where
       same
       (ap (λ v. cond v AlphabetSymbolAfterPadding (UnexpectedSymbol c)) (sym symbol))
 
-  -- a byte that is in no class
+  -- d refuses a byte that is neither whitespace nor '=' nor a symbol
   pub refuses_other : {d d' : State F} (c : ℕ) → Every is_symbol d.symbols → length d.symbols ≤ 3
       → is_ascii_whitespace c ≡ false → is_pad c ≡ false → is_symbol c ≡ false → d' ≡ d
       → Refuses d c (UnexpectedSymbol c) d'
@@ -399,7 +426,7 @@ module _ {F E : Type 0} (step : F → List ℕ → Result (Unit {0}) E → F →
     };
   }
 
-  -- no text at all
+  -- feeding the empty text returns `Ok`, and d does not change
   pub feeds_none : {d d' : State F} → Every is_symbol d.symbols → length d.symbols ≤ 3 → d.padding ≤ 3
       → d.failed ≡ false → d' ≡ d → Feeds step d [] (Ok tt) d'
   feeds_none {d} {d'} every few pads going same = let P : State F → Type 0 = λ s. Feeds step d [] (Ok tt) s in
@@ -414,6 +441,7 @@ module _ {F E : Type 0} (step : F → List ℕ → Result (Unit {0}) E → F →
 
   -- The end
 
+  -- if the padding of d fits its symbols, what is left over in d is valid
   pub valid_fits : (d : State F) (k : ℕ) → Every is_symbol d.symbols → length d.symbols ≡ k → Fits k d.padding
       → is_valid (left_over d) ≡ true
   valid_fits d k every count h = valid_left d.symbols d.padding every ∙ ap (λ n. fits_with (n % 4) d.padding) count
@@ -424,7 +452,7 @@ module _ {F E : Type 0} (step : F → List ℕ → Result (Unit {0}) E → F →
   invalid_unfit d k every count h = valid_left d.symbols d.padding every ∙ ap (λ n. fits_with (n % 4) d.padding) count
       ∙ from_unfit k d.padding h
 
-  -- a lone symbol
+  -- if d has one symbol, the fault at the end is a lone symbol
   pub lone_fault : (d : State F) (k : ℕ) → Every is_symbol d.symbols → length d.symbols ≡ k → k ≡ 1
       → (Fits k d.padding → ⊥) → IsFaultAtEnd d (Some LoneAlphabetSymbolDetails)
   lone_fault d k every count one h = (
@@ -433,7 +461,7 @@ module _ {F E : Type 0} (step : F → List ℕ → Result (Unit {0}) E → F →
         ∙ ap (λ n. cond (eqb (n % 4) 1) LoneAlphabetSymbol Padding) (count ∙ one)),
   )
 
-  -- padding that does not fit
+  -- if d has at most three symbols, but not one, and padding that does not fit, the fault at the end is padding
   pub padding_fault : (d : State F) (k : ℕ) → Every is_symbol d.symbols → length d.symbols ≡ k → k ≤ 3 → k ≢ 1
       → (Fits k d.padding → ⊥) → IsFaultAtEnd d (Some PaddingDetails)
   padding_fault d k every count few many h = (
@@ -465,7 +493,7 @@ module _ {F E : Type 0} (step : F → List ℕ → Result (Unit {0}) E → F →
   no_items [] h = refl
   no_items (a ∷ s) h = absurd (omega arith)
 
-  -- nothing is left over
+  -- if what is left over is valid and has at most one symbol, it decodes to no bytes: d makes no call
   pub flushes_nothing : (d : State F) (k : ℕ) → Every is_symbol d.symbols → length d.symbols ≡ k → k ≤ 1
       → is_valid (left_over d) ≡ true → Flushes step d (decoded (left_over d)) (Ok tt) d
   flushes_nothing d zero every count few valid =
@@ -496,7 +524,7 @@ module _ {F E : Type 0} (step : F → List ℕ → Result (Unit {0}) E → F →
             (λ x. record { bytes_are = bytes; answer = x }) w.answer);
       }
 
-  -- the end of a valid text
+  -- if what is left over is valid, a call with the bytes that it decodes to, or none for no bytes, finishes d
   pub finishes_flushed : (d d' : State F) {r : Result (Unit {0}) (DecodeError E)} → is_valid (left_over d) ≡ true
       → Flushes step d (decoded (left_over d)) r d' → Finishes step d r d'.closure
   finishes_flushed d d' valid w = flushed_finishes d d' (decoded (left_over d)) refl valid w
@@ -593,6 +621,7 @@ left_goes_on u b none left =
     subst G (sym (left_over_is u left)) (two_feeds u b none)
 
 module _ {F E : Type 0} (step : F → List ℕ → Result (Unit {0}) E → F → Type 0) where
+  -- if feeding a returns `Ok`, no call returned an error, and the closure got all complete bytes
   pub feeds_took : {d d' : State F} {a : List ℕ} (f : Feeds step d a (Ok tt) d') → (refusal f.run ≡ None)
       × Took (left_over d ++ a) (joined_pieces f.run) d'
   feeds_took {d} {d'} {a} f =
@@ -659,7 +688,7 @@ module _ {F E : Type 0} (step : F → List ℕ → Result (Unit {0}) E → F →
 
   -- A text, byte by byte
 
-  -- a prefix of s with an error
+  -- if feeding the first i bytes of s returns an error, feeding s returns it
   pub feeds_stop : {d d' : State F} {x : DecodeError E} (s : List ℕ) (i : ℕ) → Feeds step d (take i s) (Err x) d'
       → Feeds step d s (Err x) d'
   feeds_stop {d} {d'} {x} s i f = let P : List ℕ → Type 0 = λ t. Feeds step d t (Err x) d' in

@@ -30,21 +30,26 @@ use Rattle.data_url.proofs.forgiving_base64.Padding.{groups-append, length-after
 abbrev pub entry_of : ℕ → ℕ
 entry_of b = cond (is_symbol b) (symbol_value b) NO_SYMBOL
 
+-- each entry of the table is the one that it should have
 pub table_is : (b : ℕ) → b < 256 → get_or VALUES b 0 ≡ entry_of b
 table_is b l = eqb-true (get_or VALUES b 0) (entry_of b) (agree_below_at (λ b. eqb (get_or VALUES b 0) (entry_of b))
     (λ b. true) 256 b refl l)
 
+-- the value of a symbol is below 64
 pub value_lt : (b : ℕ) → b < 256 → is_symbol b ≡ true → symbol_value b < 64
 value_lt b l h =
     ltb-true (symbol_value b) 64 (sym (cond-true (is_symbol b) (ltb (symbol_value b) 64) true h)
     ∙ agree_below_at (λ b. cond (is_symbol b) (ltb (symbol_value b) 64) true) (λ b. true) 256 b refl l)
 
+-- the entry of a symbol is its value
 pub entry_symbol : (b : ℕ) → b < 256 → is_symbol b ≡ true → get_or VALUES b 0 ≡ symbol_value b
 entry_symbol b l h = table_is b l ∙ cond-true (is_symbol b) (symbol_value b) NO_SYMBOL h
 
+-- the entry of any other byte is `NO_SYMBOL`
 pub entry_other : (b : ℕ) → b < 256 → is_symbol b ≡ false → get_or VALUES b 0 ≡ NO_SYMBOL
 entry_other b l h = table_is b l ∙ cond-false (is_symbol b) (symbol_value b) NO_SYMBOL h
 
+-- the entry of a symbol is below 64
 pub entry_lt : (b : ℕ) → b < 256 → is_symbol b ≡ true → get_or VALUES b 0 < 64
 entry_lt b l h = let e = entry_symbol b l h in let k = value_lt b l h in omega (arith, e, k)
 
@@ -68,14 +73,17 @@ zip2-map : (h : ℕ → ℕ → ℕ) (f g : ℕ → ℕ) (xs : List ℕ) → zip
 zip2-map h f g [] = refl
 zip2-map h f g (x ∷ xs) = ap (λ r. h (f x) (g x) ∷ r) (zip2-map h f g xs)
 
+-- if a and b are computed from v item by item, so is `zip2 h a b`
 pub joined : (h : ℕ → ℕ → ℕ) (f g : ℕ → ℕ) (v : List ℕ) {a b : List ℕ} → a ≡ map f v → b ≡ map g v
     → zip2 h a b ≡ map (λ x. h (f x) (g x)) v
 joined h f g v p q = ap₂ (zip2 h) p q ∙ zip2-map h f g v
 
+-- n times y is what a constant function computes from n items
 pub splat_is : (v : List ℕ) (n y : ℕ) → length v ≡ n → replicate n y ≡ map (λ _. y) v
 splat_is [] n y e = ap (λ k. replicate k y) (sym e)
 splat_is (x ∷ xs) n y e = ap (λ k. replicate k y) (sym e) ∙ ap (λ r. y ∷ r) (splat_is xs (length xs) y refl)
 
+-- v is what the identity computes from v
 pub itself : (v : List ℕ) → v ≡ map (λ x. x) v
 itself [] = refl
 itself (x ∷ xs) = ap (λ r. x ∷ r) (itself xs)
@@ -85,10 +93,12 @@ chosen-map : (t : ℕ → Bool) (f g : ℕ → ℕ) (xs : List ℕ) → sel_l (m
 chosen-map t f g [] = refl
 chosen-map t f g (x ∷ xs) = ap (λ r. cond (t x) (f x) (g x) ∷ r) (chosen-map t f g xs)
 
+-- if a mask and two lists are computed from v item by item, so is the choice between their items
 pub chosen : (t : ℕ → Bool) (f g : ℕ → ℕ) (v : List ℕ) {m : List Bool} {a b : List ℕ} → m ≡ map t v → a ≡ map f v
     → b ≡ map g v → sel_l m a b ≡ map (λ x. cond (t x) (f x) (g x)) v
 chosen t f g v {m} {a} {b} e p q = ap (λ k. sel_l k a b) e ∙ ap₂ (sel_l (map t v)) p q ∙ chosen-map t f g v
 
+-- each item of a list of bytes is below 256
 pub lane_fits : (v : List ℕ) (i : ℕ) → Each1 (Fits w8) v → get_or v i 0 < 256
 lane_fits [] i h = omega arith
 lane_fits (x ∷ xs) zero h = h.0.fits
@@ -96,6 +106,7 @@ lane_fits (x ∷ xs) (suc i) h = lane_fits xs i h.1
 
 -- Looking up
 
+-- if indices below 16 are computed from bytes, the swizzle's precondition is satisfied
 pub places_ok : (g : ℕ → ℕ) (v js : List ℕ) → length v ≡ 16 → js ≡ map g v → ((x : ℕ) → x < 256 → g x < 16)
     → Each1 (Fits w8) v → SwzOk w8 16 16 0 js
 places_ok g v js long e small fits =
@@ -107,6 +118,7 @@ places_ok g v js long e small fits =
     each_small [] h = tt
     each_small (x ∷ xs) h = (small x h.0.fits, each_small xs h.1)
 
+-- if indices below 16 are computed from bytes, a swizzle looks up the entry of each byte at its index
 pub looked_up : (t : List ℕ) (g : ℕ → ℕ) (v js : List ℕ) → length v ≡ 16 → Each1 (Fits w8) v → js ≡ map g v
     → ((x : ℕ) → x < 256 → g x < 16) → swz_l w8 16 t 0 js ≡ map (λ x. get_or t (g x) 0) v
 looked_up t g v js whole fits e small =
@@ -123,9 +135,11 @@ looked_up t g v js whole fits e small =
 
 -- The tables are the alphabet
 
+-- the mark of a byte is zero exactly if the byte is a symbol
 pub mark_is : (b : ℕ) → b < 256 → not (eqb (mark_of b) 0) ≡ not (is_symbol b)
 mark_is b l = agree_below_at (λ b. not (eqb (mark_of b) 0)) (λ b. not (is_symbol b)) 256 b refl l
 
+-- `value_of` is the value of a symbol
 pub value_is : (b : ℕ) → b < 256 → is_symbol b ≡ true → value_of b ≡ symbol_value b
 value_is b l s =
     let same = agree_below_at (λ b. cond (is_symbol b) (eqb (value_of b) (symbol_value b)) true)
@@ -135,6 +149,7 @@ value_is b l s =
 value_below : (b : ℕ) → value_of b < 64
 value_below b = omega (arith, and_le_r ((b + get_or OFFSETS (offset_row b) 0) % 256) 63)
 
+-- all values are below 64
 pub values_below : (v : List ℕ) → Each1 (λ x. x < 64) (map value_of v)
 values_below [] = tt
 values_below (b ∷ v) = (value_below b, values_below v)
@@ -159,6 +174,7 @@ add32 a b = (a + b) % 2 ^ 32
 abbrev shl32 : ℕ → ℕ → ℕ
 shl32 a b = a * 2 ^ b % 2 ^ 32
 
+-- the numbers of the groups of a row, as lanes compute them
 abbrev pub computed : List ℕ → List ℕ
 computed v =
     zip2 add32
@@ -183,6 +199,7 @@ numbers_row f h =
     (one_number (f 8) (f 9) (f 10) (f 11) (h 8) (h 9) (h 10) (h 11))
     (one_number (f 12) (f 13) (f 14) (f 15) (h 12) (h 13) (h 14) (h 15))
 
+-- from 16 values below 64, lanes compute the numbers of their groups
 pub numbers_is : (v : List ℕ) → length v ≡ 16 → Each1 (λ x. x < 64) v → computed v ≡ numbers v
 numbers_is v long h = let P : List ℕ → Type 0 = λ l. computed l ≡ numbers l in
     subst P (row_is v long) (numbers_row (λ k. get_or v k 0) (λ k. below_at v k h))
@@ -226,6 +243,7 @@ packed_row f h =
     (e 3 1 (omega arith) (omega arith)) (e 3 0 (omega arith) (omega arith))
     refl)))
 
+-- the bytes that are packed from the numbers of 16 values are those of their groups
 pub packed_is : (v ns : List ℕ) → length v ≡ 16 → Each1 (λ x. x < 64) v → ns ≡ numbers v → packed ns ≡ groups v
 packed_is v ns long h e =
     let P : List ℕ → Type 0 = λ l. packed (numbers l) ≡ groups l in
@@ -235,17 +253,21 @@ packed_is v ns long h e =
 
 -- Bytes that are not symbols
 
+-- two functions that agree below 256 give the same list for bytes
 pub map_agree : {A : Type 0} (f g : ℕ → A) → ((b : ℕ) → b < 256 → f b ≡ g b) → (v : List ℕ) → Each1 (Fits w8) v
     → map f v ≡ map g v
 map_agree f g h [] fits = refl
 map_agree f g h (b ∷ v) fits = ap₂ (λ x (y : List _). x ∷ y) (h b fits.0.fits) (map_agree f g h v fits.1)
 
+-- whether two numbers differ
 abbrev pub differs : ℕ → ℕ → Bool
 differs a b = not (eqb a b)
 
+-- whether a byte is not a symbol
 abbrev pub is_other : ℕ → Bool
 is_other b = not (is_symbol b)
 
+-- the mask of the marks of 16 bytes that are not zero is the mask of the bytes that are no symbols
 pub others_is : (v marks : List ℕ) → length v ≡ 16 → Each1 (Fits w8) v → marks ≡ map mark_of v
     → mask_l (map (top 7)
     (zip2 (λ a b. cond (differs a b) 255 0) marks
@@ -258,9 +280,11 @@ others_is v marks long fits e =
 
 -- Rows of a text
 
+-- a row that is within the text has 16 bytes
 pub row_length : (text : List ℕ) (at : ℕ) → at + 16 ≤ length text → length (take 16 (drop at text)) ≡ 16
 row_length text at h = length-take-le 16 (drop at text) (omega (arith, length-drop at text))
 
+-- a block of 64 bytes is its four rows
 pub split_block : (text : List ℕ)
     → take 64 text ≡ take 16
     (drop 0 text) ++ (take 16 (drop 16 text) ++ (take 16 (drop 32 text) ++ take 16 (drop 48 text)))
@@ -274,13 +298,16 @@ split_block text = take-add 48 16 text ∙ ap (λ x. x ++ take 16 (drop 48 text)
 pow_more : (n m : ℕ) → 2 ^ suc n * m ≡ 2 * (2 ^ n * m)
 pow_more n m = rw (pow-succ' 2 n) (omega arith)
 
+-- the mask of a ++ b is that of a and, above its bits, that of b
 pub mask_l-append : (a b : List Bool) → mask_l (a ++ b) ≡ mask_l a + 2 ^ length a * mask_l b
 mask_l-append [] b = omega arith
 mask_l-append (x ∷ a) b = omega (arith, mask_l-append a b, pow_more (length a) (mask_l b))
 
+-- the mask of the bytes that are no symbols
 abbrev pub others_mask : List ℕ → ℕ
 others_mask v = mask_l (map is_other v)
 
+-- the mask of 16 bytes is below 65536
 pub mask_lt : (v : List ℕ) → length v ≡ 16 → others_mask v < 65536
 mask_lt v long = let P : ℕ → Type 0 = λ n. others_mask v < 2 ^ n in
     subst P (length-map v is_other ∙ long) (mask_l-lt (map is_other v))
@@ -293,9 +320,11 @@ prefix_not_not : (p : ℕ → Bool) (xs : List ℕ) → prefix_len (λ x. not (n
 prefix_not_not p [] = refl
 prefix_not_not p (x ∷ xs) = ap₂ (λ t n. cond t (1 + n) 0) (not_not (p x)) (prefix_not_not p xs)
 
+-- if the mask is zero, the symbols at the start are all n bytes
 pub none_ahead : {n : ℕ} (v : List ℕ) → length v ≡ n → others_mask v ≡ 0 → n ≡ prefix_len is_symbol v
 none_ahead v long e = sym long ∙ sym (leading_from_mask_l is_other v e) ∙ prefix_not_not is_symbol v
 
+-- if the mask is not zero, its trailing zeros are as many as there are symbols at the start
 pub first_ahead : (v : List ℕ) → length v ≤ 64 → 0 < others_mask v
     → count_trailing_zeros 64 (others_mask v) ≡ prefix_len is_symbol v
 first_ahead v long h = trailing_mask_l is_other 64 v long h ∙ prefix_not_not is_symbol v
@@ -354,6 +383,7 @@ unmarked_or (x ∷ xs) (y ∷ ys) e f g =
 
 -- Groups of rows
 
+-- if x is complete groups, the bytes of x ++ y are those of x and then those of y
 pub groups_whole : (x y : List ℕ) → length x % 4 ≡ 0 → groups (x ++ y) ≡ groups x ++ groups y
 groups_whole x y h = groups-append x y
     ∙ ap (λ z. groups x ++ groups (z ++ y)) (nothing (after_groups x) (length-after_groups x ∙ h))
@@ -390,6 +420,7 @@ zip_lt (x ∷ xs) (y ∷ ys) e f g = (or_lt 8 x y f.0 g.0, zip_lt xs ys (omega a
 abbrev zeros : List ℕ
 zeros = 0 ∷ 0 ∷ 0 ∷ 0 ∷ 0 ∷ 0 ∷ 0 ∷ 0 ∷ 0 ∷ 0 ∷ 0 ∷ 0 ∷ 0 ∷ 0 ∷ 0 ∷ 0 ∷ []
 
+-- the marks of four rows, combined by a bitwise or
 abbrev pub all_marks : List ℕ → List ℕ → List ℕ → List ℕ → List ℕ
 all_marks a b c d = zip2 bit_or (zip2 bit_or a b) (zip2 bit_or c d)
 
@@ -421,6 +452,7 @@ marks_whole r0 r1 r2 r3 l0 l1 l2 l3 f0 f1 f2 f3 =
     ∙ ap (λ t. list_all is_symbol r0 && t) (list_all-append is_symbol r1 (r2 ++ r3)
     ∙ ap (λ t. list_all is_symbol r1 && t) (list_all-append is_symbol r2 r3)))
 
+-- the combined marks of four rows are all zero exactly if the 64 bytes are symbols
 pub whole_is : (text m0 m1 m2 m3 r0 r1 r2 r3 : List ℕ) → 64 ≤ length text → ((i : ℕ) → Fits w8 (get_or text i 0))
     → r0 ≡ take 16 (drop 0 text) → r1 ≡ take 16 (drop 16 text) → r2 ≡ take 16 (drop 32 text)
     → r3 ≡ take 16 (drop 48 text)
@@ -459,6 +491,7 @@ whole_is text m0 m1 m2 m3 r0 r1 r2 r3 long fits a b c d p q r s =
 
 -- Sixteen groups
 
+-- the first 12 bytes of each of four rows, as three shuffles join them
 abbrev pub shuffled : List ℕ → List ℕ → List ℕ → List ℕ → List ℕ
 shuffled a b c d =
     (pick_l 0 (a ++ b) (0 ∷ 1 ∷ 2 ∷ 3 ∷ 4 ∷ 5 ∷ 6 ∷ 7 ∷ 8 ∷ 9 ∷ 10 ∷ 11 ∷ 16 ∷ 17 ∷ 18 ∷ 19 ∷ [])
@@ -525,6 +558,7 @@ row_put at n old new row bytes room few e is =
     ∙ take-append-add (take at old) row n
     ∙ ap (λ l. take at old ++ l) is
 
+-- if the first 12 bytes of four rows are those of their groups, joined they are those of all 16 groups
 pub decoded_block : (text a b c d r0 r1 r2 r3 bytes : List ℕ) → 64 ≤ length text → length a ≡ 16 → length b ≡ 16
     → length c ≡ 16 → length d ≡ 16
     → r0 ≡ take 16 (drop 0 text) → r1 ≡ take 16 (drop 16 text) → r2 ≡ take 16 (drop 32 text)

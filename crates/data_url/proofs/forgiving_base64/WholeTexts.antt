@@ -139,11 +139,13 @@ module _ {F E : Type 0} (step : F → List ℕ → Result (Unit {0}) E → F →
   pub fed_nothing : {d : State F} {f : F} → d ≡ start f → Feeds step (start f) [] (Ok tt) d
   fed_nothing {d} {f} e = feeds_none step tt (omega arith) (omega arith) refl e
 
+  -- if feeding a new decoder the text u returns an error, decoding u returns it
   pub decodes_refused : {d d' : State F} {f : F} {u : List ℕ} {x : DecodeError E} → d ≡ start f
       → Feeds step d u (Err x) d' → DecodesText step f u (Err x) d'.closure
   decodes_refused {d} {d'} {f} {u} {x} e g = let P : State F → Type 0 = λ s. Feeds step s u (Err x) d' in
       refused_fed (subst P e g) refl
 
+  -- feeding a new decoder the text u and then finishing it decodes u
   pub decodes_finished : {d d' : State F} {f f' : F} {u : List ℕ} {r : Result (Unit {0}) (DecodeError E)} → d ≡ start f
       → Feeds step d u (Ok tt) d' → Finishes step d' r f' → DecodesText step f u r f'
   decodes_finished {d} {d'} {f} {f'} {u} e g h = let P : State F → Type 0 = λ s. Feeds step s u (Ok tt) d' in
@@ -220,6 +222,7 @@ run_keeps step K keeps [] f f' ran = ap K ran
 run_keeps step K keeps (c ∷ cs) f f' ran = keeps f c.piece c.answer c.after ran.0
     ∙ run_keeps step K keeps cs c.after f' ran.2
 
+-- what each call preserves, decoding a text preserves
 pub decodes_keeps : {F E A : Type 0} {step : F → List ℕ → Result (Unit {0}) E → F → Type 0} {f f' : F} {u : List ℕ}
     {r : Result (Unit {0}) (DecodeError E)} → DecodesText step f u r f' → (K : F → A)
     → ((g : F) (piece : List ℕ) (r : Result (Unit {0}) E) (g' : F) → step g piece r g' → K g ≡ K g') → K f ≡ K f'
