@@ -1,5 +1,5 @@
 -- The only proofs of the library that callers may use. docs/CALLING.md says what they are for.
-pub use Rattle.data_url.proofs.body.Decoding.{EndsWith, body_answer, body_ends, body_error, body_extends, body_fault}
+pub use Rattle.data_url.proofs.body.Decoding.{EndsWith, body_answer, body_ends, body_extends, body_fault}
 pub use Rattle.data_url.proofs.body.Decoding.{body_good, body_keeps, body_reads, body_shorter, body_within_tail}
 pub use Rattle.data_url.proofs.body.Decoding.{body_within_text, run_counts, run_counts_up_to, run_ends, run_extends}
 unfoldable pub use Rattle.data_url.proofs.examples.Literals.{on_literals}

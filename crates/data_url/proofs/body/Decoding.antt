@@ -4,7 +4,7 @@ use Rattle.std.proofs.Common.{refl, sym, ap, ◌∙◌, subst, append_assoc, ari
 use Rattle.std.proofs.Common.{not, cond, ◌*◌, ◌-◌, min, filter, length-drop, length-take}
 use Rattle.std.specs.Prelude.{MatchOption, ◌==◌, MatchBool, IsErr}
 use Rattle.std.proofs.lemmas.List.{append-nil, length-map}
-use Rattle.data_url.specs.Errors.{IsRefused, IsBodyErrorOf}
+use Rattle.data_url.specs.Errors.{IsRefused}
 use Rattle.data_url.specs.Run.{Call, IsRun, joined_pieces, refusal, IsPrefix, or_error}
 use Rattle.data_url.specs.Fetch.{Good, outcome_bytes, plain_body, Bad, outcome, Outcome, tail_of}
 use Rattle.data_url.specs.Pieces.{Walk, walk_at_front}
@@ -21,7 +21,7 @@ use Rattle.data_url.specs.Url.{before, without_tabs_and_newlines, front, is_tab_
 use Rattle.data_url.specs.Url.{is_c0_control_or_space, trimmed_text, without_front}
 use Rattle.data_url.specs.Percent.{is_escape, percent_decoding}
 use Rattle.data_url.specs.Decoder.{Feeds, Finishes, IsAll, State, start}
-use Rattle.data_url.specs.Steps.Whole.{DecodesText, vec_error}
+use Rattle.data_url.specs.Steps.Whole.{DecodesText}
 use Rattle.data_url.specs.declared.forgiving_base64.DecodeError.{DecodeError}
 use Rattle.data_url.proofs.forgiving_base64.Steps.{feeds_err, feeds_then}
 use Rattle.data_url.proofs.forgiving_base64.WholeTexts.{decodes_finished, decodes_refused, run_keeps, run_reads}
@@ -386,12 +386,6 @@ module _ {F E A : Type 0} {step : F → List ℕ → Result (Unit {0}) E → F �
   pub body_good : {x : A} → Decodes step f most body good r f' → r ≡ Ok x → (all : List ℕ) × (body ≡ Good all)
   body_good {x} h q = let k = ok_given (refusal h.run) body good (joined_pieces h.run) r x q h.gave in
       (joined_pieces h.run, k.1.body_is)
-
-  -- an error of decoding a body, as an error of decoding into a vector, is an error of that body
-  pub body_error : (x : DecodeError E) → Decodes step f most body good r f' → r ≡ Err x
-      → IsBodyErrorOf body (vec_error x)
-  body_error (InvalidBase64 kind) h q = body_fault h q
-  body_error (WriteError e) h q = tt
 
 -- What is true of a closure's state after a run, from what each of its calls does to that state.
 

@@ -297,19 +297,14 @@ digit_further {text} {same} {place} {b} {value} {looks'} looks looks'' found e a
     (λ d. DigitFound t (place + 1) looks' d.0 d.1 looks'') in
     match_map found _ _ _ _ (λ k. passed_no p k) (λ d k. passed_found p k) (subst P e h)
 
--- the same as `no_high`
-pub digits_no_high : {text : List ℕ} {place looks looks' : ℕ} → NoDigit text place looks looks'
-    → NoDigits text place looks looks'
-digits_no_high n = no_high n
-
--- the same as `no_low`, with the second digit looked for in an equal text
+-- after a digit without another one there is no escape, even if the second digit is looked for in an equal text
 pub digits_no_low : {text same : List ℕ} {place high after looks looks' looks'' : ℕ} → same ≡ text
     → DigitFound text place looks high after looks' → NoDigit same after looks' looks''
     → NoDigits text place looks looks''
 digits_no_low {text} {same} {place} {high} {after} {looks} {looks'} {looks''} e d n = let P : List ℕ → Type 0 =
     λ t. NoDigit t after looks' looks'' in no_low d (subst P e n)
 
--- the same as `both_digits`, with the second digit looked for in an equal text
+-- two digits are an escape, even if the second one is looked for in an equal text
 pub digits_both : {text same : List ℕ} {place high low after end looks looks' looks'' : ℕ} → same ≡ text
     → DigitFound text place looks high after looks' → DigitFound same after looks' low end looks''
     → DigitsFound text place looks (high * 16 + low) end looks''

@@ -728,16 +728,6 @@ ended_cases End k e = k
 pub ended_of : {c : Cursor} → Knows c → has_ended c.ahead ≡ true → Ended c c.place
 ended_of {c} k e = ended_cases c.ahead k.ahead_is e
 
--- a walk that has ended can return no piece and stay as it is
-pub over : {c : Cursor} → Ended c c.place → has_ended c.ahead ≡ true → GoesOn c None c
-over {c} h e = record {
-  on = record { text_stays = refl; looks_grow = omega arith };
-  reads =
-      reads_none (text_of c) c.place h.ends.within;
-  piece = tt;
-  ended = e;
-}
-
 begun_fragment : (s : List ℕ) → BeginsFragment s → after 35 s ≡ rest_fragment s
 begun_fragment [] h = after_nil 35
 begun_fragment (b ∷ s) h = ap (λ v. after 35 (v ∷ s)) h ∙ after_same 35 s

@@ -6,13 +6,13 @@ use Rattle.std.proofs.lemmas.List.{append-nil}
 use Rattle.std.proofs.lemmas.Bool.{cond-true}
 use Rattle.data_url.specs.Base64.{decoded, complete_bytes, first_fault, is_valid, kind_of, left_padding, left_symbols}
 use Rattle.data_url.specs.Base64.{left_text}
-use Rattle.data_url.specs.Steps.Whole.{DecodesText, vec_error}
+use Rattle.data_url.specs.Steps.Whole.{DecodesText}
 use Rattle.data_url.specs.Decoder.{Feeds, Finishes, IsAll, IsTaken, State, left_over, start}
-use Rattle.data_url.specs.Errors.{IsErrorOf, IsRefused}
+use Rattle.data_url.specs.Errors.{IsRefused}
 use Rattle.data_url.specs.Laws.{GoesOn}
 use Rattle.data_url.specs.Run.{Call, IsPrefix, IsRun, joined_pieces, or_error, refusal}
 use Rattle.data_url.specs.declared.forgiving_base64.DecodeError.{DecodeError}
-use Rattle.data_url.specs.declared.forgiving_base64.DecodeError.TheVariants.{InvalidBase64, WriteError}
+use Rattle.data_url.specs.declared.forgiving_base64.DecodeError.TheVariants.{InvalidBase64}
 use Rattle.data_url.proofs.forgiving_base64.Steps.{bool_at_false, bool_at_true, feeds_none, feeds_goes_on, feeds_took}
 use Rattle.data_url.proofs.forgiving_base64.Groups.{two_feeds}
 use Rattle.data_url.proofs.runs.Runs.{joined_pieces-append, later_none, match_at, match_at_none, match_map, match_none}
@@ -193,26 +193,6 @@ decodes_reads {F} {E} {step} {f} {f'} {u} {r} h q J keeps =
     let k = all_ok (refusal h.run) _ (whole_bytes u) (joined_pieces h.run) r q h.gave in
     run_reads step J keeps h.run f f' h.ran k.0
     ∙ ap (λ x. J f ++ x) (whole_ok (is_valid u) u (joined_pieces h.run) r q k.1)
-
-whole_err : {E : Type 0} (v : Bool) (u bytes : List ℕ) (r : Result (Unit {0}) (DecodeError E)) (kind : _)
-    → r ≡ Err (InvalidBase64 kind)
-    → MatchBool v (IsAll u bytes r) ((bytes ≡ complete_bytes u) × (r ≡ Err (InvalidBase64 (kind_of u))))
-    → (v ≡ false) × (kind ≡ kind_of u)
-whole_err true u bytes r kind q h = absurd (let k = h.answer in cc)
-whole_err false u bytes r kind q h = (refl, let k = h.1 in cc)
-
-given_err : {E : Type 0} (o : Option E) (P : Type 0) (all bytes : List ℕ) (r : Result (Unit {0}) (DecodeError E))
-    (kind : _) → r ≡ Err (InvalidBase64 kind) → MatchOption o P (λ e. IsRefused all bytes e r) → P
-given_err None P all bytes r kind q h = h
-given_err (Some e) P all bytes r kind q h = absurd (let k = h.answer in cc)
-
--- the error of decoding into a vector
-pub text_error : {F E : Type 0} {step : F → List ℕ → Result (Unit {0}) E → F → Type 0} {f f' : F} {u : List ℕ}
-    {r : Result (Unit {0}) (DecodeError E)} (x : DecodeError E) → DecodesText step f u r f' → r ≡ Err x
-    → IsErrorOf u (vec_error x)
-text_error {u = u} {r = r} (InvalidBase64 kind) h q = whole_err (is_valid u) u (joined_pieces h.run) r kind q
-    (given_err (refusal h.run) _ (whole_bytes u) (joined_pieces h.run) r kind q h.gave)
-text_error (WriteError e) h q = tt
 
 -- what each call preserves, a run preserves
 pub run_keeps : {F E A : Type 0} (step : F → List ℕ → Result (Unit {0}) E → F → Type 0) (K : F → A)

@@ -1,8 +1,8 @@
-use Rattle.data_url.proofs.escapes.Hexadecimal.{digits_both, digits_no_high, digits_no_low}
+use Rattle.data_url.proofs.escapes.Hexadecimal.{digits_both, no_high, digits_no_low}
 use Rattle.data_url.proofs.escapes.source.Source.escaped_byte.Goals as goal
 
 pub returns-in_err-high-clause-found : goal.returns-in_err-high-clause-found
-returns-in_err-high-clause-found c = rw c.from_residual.ensures (digits_no_high c.in_err-high.ensures.found)
+returns-in_err-high-clause-found c = rw c.from_residual.ensures (no_high c.in_err-high.ensures.found)
 
 pub returns-in_err-low-clause-found : goal.returns-in_err-low-clause-found
 returns-in_err-low-clause-found c =
