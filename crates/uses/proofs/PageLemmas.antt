@@ -98,19 +98,6 @@ is_reference page rest place k o r within quote none =
       first = λ xs ys e. omega (arith, o.first xs ys e, length-take place page);
     }
 
--- the text after a reference is shorter
-pub after_shorter : {page before reference after : List ℕ} → IsReference page before reference after
-    → length after < length page
-after_shorter {page} {before} {reference} {after} h =
-    omega (
-      arith,
-      ap length h.joined,
-      length-append before (reference ++ after),
-      length-append reference after,
-      ap length h.before_is,
-      length-append h.start (61 ∷ 34 ∷ []),
-    )
-
 -- Parts
 
 text_source : (text : List ℕ) (p : Part) → IsText text p → source_of p ≡ text
@@ -137,10 +124,6 @@ sources_join page (text ∷ part ∷ parts) h =
 pub record Going (page rest : List ℕ) (parts : List Part) : Type 0 where
   pub then : (more : List Part) → IsPage rest more → IsPage page (parts ++ more)
 
--- at the start of a page there are no parts, and the whole page is left
-pub going_none : (page : List ℕ) → Going page page []
-going_none page = record { then = λ more h. h }
-
 -- the text before the next reference and the part of that reference are two more parts
 pub going_more : {page rest before reference after : List ℕ} {parts : List Part} (text part : Part)
     → Going page rest parts → IsReference rest before reference after → IsText before text → Inlines reference part
@@ -151,8 +134,3 @@ going_more {page} {rest} {before} {reference} {after} {parts} text part g is t i
       subst P (sym (append_assoc (parts ++ text ∷ []) (part ∷ []) more ∙ append_assoc parts (text ∷ []) (part ∷ more)))
       (g.then (text ∷ part ∷ more) (before, reference, after, is, t, i, h));
 }
-
--- if the rest has no reference, it is the last part
-pub going_ends : {page rest : List ℕ} {parts : List Part} (text : Part) → Going page rest parts → IsText rest text
-    → HasNoReference rest → IsPage page (parts ++ text ∷ [])
-going_ends text g t none = g.then (text ∷ []) (t, none)

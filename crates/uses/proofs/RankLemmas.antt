@@ -1,10 +1,9 @@
 -- The first of the highest rank, among the ranks that were read.
-use Rattle.std.proofs.Common.{◌≡◌, ℕ, ◌<◌, ◌≤◌, ◌+◌, List, length, map, get_or, Option, None, Some, refl, sym, ap, ◌∙◌}
+use Rattle.std.proofs.Common.{◌≡◌, ℕ, ◌<◌, ◌≤◌, ◌+◌, List, length, map, get_or, Option, None, Some, sym, ap, ◌∙◌}
 use Rattle.std.proofs.Common.{arith}
 use borrow.Author.Count.{below_more}
 use Rattle.std.specs.Prelude.{slice_index}
 use Rattle.std.proofs.lemmas.List.{get_or-map}
-use Rattle.uses.specs.Ranks.{IsBest}
 
 -- none of the ranks below i is more than 0, or this is the first of the highest
 abbrev pub IsLeader : List ℕ → ℕ → ℕ → Option ℕ → Type 0
@@ -16,10 +15,6 @@ IsLeader ranks i highest (Some p) = (p < i) × (slice_index ranks p ≡ highest)
 pub record Leads (ranks : List ℕ) (i : ℕ) (best : Option ℕ) (highest : ℕ) : Type 0 where
   pub below : (j : ℕ) → j < i → slice_index ranks j ≤ highest
   pub leader : IsLeader ranks i highest best
-
--- of no ranks the highest is 0, and there is no best one
-pub leads_none : (ranks : List ℕ) → Leads ranks 0 None 0
-leads_none ranks = record { below = λ j h. absurd (omega (arith, h)); leader = refl }
 
 -- the same up to the next place, if the rank at the place is known
 below_next : (ranks : List ℕ) (i highest : ℕ) → ((m : ℕ) → m < i → slice_index ranks m ≤ highest)
@@ -46,21 +41,6 @@ leads_no_higher {ranks} {best} {highest} i rank l e h = record {
   below = below_next ranks i highest l.below (omega (arith, e, h));
   leader = still_leads ranks highest best i l.leader;
 }
-
-best_of : (ranks : List ℕ) (n highest : ℕ) (best : Option ℕ) → n ≡ length ranks
-    → ((j : ℕ) → j < n → slice_index ranks j ≤ highest) → IsLeader ranks n highest best → IsBest ranks best
-best_of ranks n highest None e b h = λ i k. omega (arith, b i (omega arith), h)
-best_of ranks n highest (Some p) e b h = record {
-  within = omega (arith, h.0);
-  fits = omega (arith, h.1, h.2);
-  highest = λ i k. omega (arith, b i (omega arith), h.1);
-  first = λ i k. omega (arith, h.3 i k, h.1);
-}
-
--- after all ranks, the best so far is the best
-pub leads_all : {ranks : List ℕ} {best : Option ℕ} {highest n : ℕ} → n ≡ length ranks → Leads ranks n best highest
-    → IsBest ranks best
-leads_all {ranks} {best} {highest} {n} e l = best_of ranks n highest best e l.below l.leader
 
 -- the rank of an item that was read
 pub rank_at : {A : Type 0} (f : A → ℕ) (xs : List A) (i : ℕ) (x : A) → i < length xs → x ≡ get_or xs i x

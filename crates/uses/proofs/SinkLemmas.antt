@@ -35,11 +35,6 @@ appends_kept (Some p) None c x h k = absurd h
 appends_kept (Some p) (Some q) None x h k = absurd k
 appends_kept (Some p) (Some q) (Some r) x h k = k ∙ h
 
--- a sink that does not change keeps what it holds
-pub keeps_same : (old : Option (List ℕ)) → Keeps old old
-keeps_same None = tt
-keeps_same (Some xs) = refl
-
 -- One piece
 
 -- a part of the piece was written, and the rest is not written yet
