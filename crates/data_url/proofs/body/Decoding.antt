@@ -61,16 +61,7 @@ module _ {F E : Type 0} (step : F → List ℕ → Result (Unit {0}) E → F →
 
   -- the empty run is `Going` for a walk at the front of its text
   pub going_none : (f : F) (text : List ℕ) → Going f text (walk_at_front text) f
-  going_none f text = record {
-    run = [];
-    ran = refl;
-    accepted = refl;
-    text_is = refl;
-    place = omega arith;
-    calls =
-        omega arith;
-    body = refl;
-  }
+  going_none f text = grind arith
 
   -- if the walk takes bytes, and the closure accepts them, the run with that call is `Going` for the walk after it
   pub going_more : {f g h : F} {text bytes : List ℕ} {w w' : Walk} → Going f text w g → Takes w bytes w'
@@ -102,20 +93,7 @@ module _ {F E : Type 0} (step : F → List ℕ → Result (Unit {0}) E → F →
   -- place`
   pub going_ends : {f g : F} {text : List ℕ} {w : Walk} {place : ℕ} → Going f text w g → w.rest ≡ []
       → IsBodyEnd text place → Decodes step f (length text) (Good (plain_body text)) (IsBodyEnd text) (Ok place) g
-  going_ends {f} {g} {text} {w} {place} k e b =
-      let calls = k.calls in
-      let within = k.place in
-      record {
-        run = k.run;
-        ran = k.ran;
-        calls = omega arith;
-        gave = match_none (refusal k.run) _ _ k.accepted
-            (record {
-              bytes_are = sym (k.body ∙ ap (λ x. joined_pieces k.run ++ x) e
-                  ∙ append-nil (joined_pieces k.run));
-              answer = b;
-            });
-      }
+  going_ends {f} {g} {text} {w} {place} k e b = grind (arith, match_none, append-nil)
 
   -- if the walk takes bytes, and the closure returns an error for them, the run with that call decodes the body, with
   -- that error
@@ -160,20 +138,12 @@ module _ {F E : Type 0} (step : F → List ℕ → Result (Unit {0}) E → F →
 dropped_shorter : (s : List ℕ) → length (without_tabs_and_newlines s) ≤ length s
 unfolding without_tabs_and_newlines
 dropped_shorter [] = omega arith
-dropped_shorter (b ∷ s) = let h = dropped_shorter s in
-    elim (is_tab_or_newline b) as
-    (λ v. length (cond (not v) (b ∷ without_tabs_and_newlines s) (without_tabs_and_newlines s)) ≤ suc
-    (length s)) [ true ↦ omega arith | false ↦ omega arith ]
+dropped_shorter (b ∷ s) = grind (arith, (dropped_shorter s))
 
 before_shorter : (c : ℕ) (s : List ℕ) → length (before c s) ≤ length s
 unfolding before
 before_shorter c [] = omega arith
-before_shorter c (b ∷ s) = let h = before_shorter c s in
-    elim (b == c) as (λ v. length (cond v [] (b ∷ before c s)) ≤ suc (length s)) [
-      | true ↦ omega arith
-      | false ↦
-          omega arith
-    ]
+before_shorter c (b ∷ s) = grind (arith, (before_shorter c s))
 
 percent_shorter : (s : List ℕ) → length (percent_decoding s) ≤ length s
 unfolding percent_decoding
@@ -190,11 +160,7 @@ percent_shorter (a ∷ b ∷ c ∷ s) =
 -- the body of a tail is not longer than the tail
 pub body_shorter : (tail : List ℕ) → length (plain_body tail) ≤ length tail
 unfolding plain_body front
-body_shorter tail =
-    let a = percent_shorter (before 35 (without_tabs_and_newlines tail)) in
-    let b = before_shorter 35 (without_tabs_and_newlines tail) in
-    let c = dropped_shorter tail in
-    omega arith
+body_shorter tail = grind (arith, percent_shorter, before_shorter, dropped_shorter)
 
 -- The result of decoding a whole text is the outcome
 
@@ -219,13 +185,8 @@ module _ {F E : Type 0} (step : F → List ℕ → Result (Unit {0}) E → F →
       → MatchOption o (IsAll u bytes r) (λ e. IsRefused (decoded u) bytes e r)
       → MatchOption o (HandsOut (Good (decoded u)) good bytes (at_place place r))
       (λ e. IsRefused (outcome_bytes (Good (decoded u))) bytes e (at_place place r))
-  gives_valid u bytes place good r None g h =
-      record { bytes_are = h.bytes_are; answer = at_ok place r (decoded u) good h.answer (g h.answer) }
-  gives_valid u bytes place good r (Some e) g h = record {
-    bytes_begin = h.bytes_begin;
-    answer =
-        at_err place r (WriteError e) h.answer;
-  }
+  gives_valid u bytes place good r None g h = grind (arith, at_ok)
+  gives_valid u bytes place good r (Some e) g h = grind (arith, at_err)
 
   gives_invalid : (u bytes : List ℕ) (place : ℕ) (good : ℕ → Type 0) (r : Result (Unit {0}) (DecodeError E))
       (o : Option E)
@@ -233,13 +194,8 @@ module _ {F E : Type 0} (step : F → List ℕ → Result (Unit {0}) E → F →
       (λ e. IsRefused (complete_bytes u) bytes e r)
       → MatchOption o (HandsOut (Bad (complete_bytes u) (kind_of u)) good bytes (at_place place r))
       (λ e. IsRefused (outcome_bytes (Bad (complete_bytes u) (kind_of u))) bytes e (at_place place r))
-  gives_invalid u bytes place good r None h =
-      record { bytes_are = h.0; answer = at_err place r (InvalidBase64 (kind_of u)) h.1 }
-  gives_invalid u bytes place good r (Some e) h = record {
-    bytes_begin = h.bytes_begin;
-    answer =
-        at_err place r (WriteError e) h.answer;
-  }
+  gives_invalid u bytes place good r None h = grind (arith, at_err)
+  gives_invalid u bytes place good r (Some e) h = grind (arith, at_err)
 
   gives : (u bytes : List ℕ) (place : ℕ) (good : ℕ → Type 0) (r : Result (Unit {0}) (DecodeError E)) (o : Option E)
       (v : Bool) → (r ≡ Ok tt → good place)
@@ -257,12 +213,7 @@ module _ {F E : Type 0} (step : F → List ℕ → Result (Unit {0}) E → F →
       (r : Result (Unit {0}) (DecodeError E)) → DecodesText step f u r g → length u + 1 ≤ most
       → (r ≡ Ok tt → good place) → Decodes step f most (outcome true u) good (at_place place r) g
   unfolding outcome
-  decodes_outcome u most place good r d l k = record {
-    run = d.run;
-    ran = d.ran;
-    calls = let c = d.calls in omega arith;
-    gave = gives u (joined_pieces d.run) place good r (refusal d.run) (is_valid u) k d.gave;
-  }
+  decodes_outcome u most place good r d l k = grind (arith, gives)
 
   -- the decoder was fed the body up to the place of the walk
   pub record Fed (d : State F) (text : List ℕ) (w : Walk) (d' : State F) : Type 0 where
@@ -278,8 +229,7 @@ module _ {F E : Type 0} (step : F → List ℕ → Result (Unit {0}) E → F →
 
   fed_bytes : {d d1 : State F} {text bytes : List ℕ} {w w' : Walk} (h : Fed d text w d1) → Takes w bytes w'
       → plain_body text ≡ (h.read ++ bytes) ++ w'.rest
-  fed_bytes {bytes = bytes} {w' = w'} h t = h.body ∙ ap (λ x. h.read ++ x) t.rest_is
-      ∙ sym (append_assoc h.read bytes w'.rest)
+  fed_bytes {bytes = bytes} {w' = w'} h t = grind (arith, append_assoc)
 
   -- if the walk takes bytes, and the decoder accepts them, the decoder is `Fed` for the walk after it
   pub fed_more : {d d1 d2 : State F} {text bytes : List ℕ} {w w' : Walk} → Fed d text w d1 → Takes w bytes w'
@@ -295,10 +245,7 @@ module _ {F E : Type 0} (step : F → List ℕ → Result (Unit {0}) E → F →
   outcome_of : {f g : F} {text u : List ℕ} (place : ℕ) (r : Result (Unit {0}) (DecodeError E)) → u ≡ plain_body text
       → DecodesText step f u r g → (r ≡ Ok tt → IsBodyEnd text place)
       → Decodes step f (length text + 1) (outcome true (plain_body text)) (IsBodyEnd text) (at_place place r) g
-  outcome_of {f} {g} {text} {u} place r e d b =
-      let D : List ℕ → Type 0 = λ x. DecodesText step f x r g in
-      let few = body_shorter text in
-      decodes_outcome (plain_body text) (length text + 1) place (IsBodyEnd text) r (subst D e d) (omega arith) b
+  outcome_of {f} {g} {text} {u} place r e d b = grind (arith, body_shorter, decodes_outcome)
 
   -- if the walk takes bytes, and a decoder that was new at the front returns an error for them, this is the result of
   -- decoding the base64 body
@@ -330,8 +277,7 @@ record WasGood {A : Type 0} (body : Outcome) (good : A → Type 0) (bytes : List
 
 good_answer : {E A : Type 0} (body : Outcome) (good : A → Type 0) (bytes : List ℕ) (r : Result A (DecodeError E))
     (x : A) → r ≡ Ok x → HandsOut body good bytes r → WasGood body good bytes x
-good_answer (Good all) good bytes (Ok y) x q h = let e : y ≡ x = cc in
-    record { body_is = ap Good (sym h.bytes_are); answer = rw e at h.answer }
+good_answer (Good all) good bytes (Ok y) x q h = grind arith
 good_answer (Good all) good bytes (Err e) x q h = absurd h.answer
 good_answer (Bad all kind) good bytes r x q h = absurd (let k = h.answer in cc)
 
@@ -364,9 +310,7 @@ module _ {F E A : Type 0} {step : F → List ℕ → Result (Unit {0}) E → F �
   pub body_reads : {x : A} → Decodes step f most body good r f' → r ≡ Ok x → (J : F → List ℕ)
       → ((g : F) (piece : List ℕ) (g' : F) → step g piece (Ok tt) g' → J g' ≡ J g ++ piece)
       → (all : List ℕ) × (body ≡ Good all) × (J f' ≡ J f ++ all)
-  body_reads {x} h q J keeps =
-      let k = ok_given (refusal h.run) body good (joined_pieces h.run) r x q h.gave in
-      (joined_pieces h.run, k.1.body_is, run_reads step J keeps h.run f f' h.ran k.0)
+  body_reads {x} h q J keeps = grind (arith, ok_given, run_reads)
 
   -- if decoding returns `Ok x`, `good` is true of x
   pub body_answer : {x : A} → Decodes step f most body good r f' → r ≡ Ok x → good x
@@ -384,8 +328,7 @@ module _ {F E A : Type 0} {step : F → List ℕ → Result (Unit {0}) E → F �
 
   -- if the result is Ok, the body is good
   pub body_good : {x : A} → Decodes step f most body good r f' → r ≡ Ok x → (all : List ℕ) × (body ≡ Good all)
-  body_good {x} h q = let k = ok_given (refusal h.run) body good (joined_pieces h.run) r x q h.gave in
-      (joined_pieces h.run, k.1.body_is)
+  body_good {x} h q = grind (arith, ok_given)
 
 -- What is true of a closure's state after a run, from what each of its calls does to that state.
 
@@ -409,22 +352,12 @@ module _ {F E : Type 0} (step : F → List ℕ → Result (Unit {0}) E → F →
       (λ e. stopped ((bytes ++ piece) ++ joined_pieces cs) e g))
       → MatchOption (or_error r (refusal cs)) (kept (bytes ++ (piece ++ joined_pieces cs)) g)
       (λ e. stopped (bytes ++ (piece ++ joined_pieces cs)) e g)
-  one_more (Ok tt) bytes piece f after g cs k s last ran more =
-      let P : List ℕ → Type 0 = λ x. MatchOption (refusal cs) (kept x g) (λ e. stopped x e g) in
-      subst P (append_assoc bytes piece (joined_pieces cs)) (more (accepts bytes f piece after k s))
-  one_more (Err e) bytes piece f after g cs k s last ran more =
-      let none = last refl in
-      let P : List ℕ → Type 0 = λ x. stopped (bytes ++ x) e g in
-      let Q : F → Type 0 = λ x. stopped (bytes ++ piece) e x in
-      subst P (sym (ap (λ x. piece ++ joined_pieces x) none ∙ append-nil piece))
-      (subst Q (run_stops step cs after g none ran) (refuses bytes f piece e after k s))
+  one_more (Ok tt) bytes piece f after g cs k s last ran more = grind (arith, append_assoc)
+  one_more (Err e) bytes piece f after g cs k s last ran more = grind (arith, append-nil, run_stops)
 
   run_ends_from : (cs : List (Call F E)) (bytes : List ℕ) (f g : F) → kept bytes f → IsRun step f cs g
       → MatchOption (refusal cs) (kept (bytes ++ joined_pieces cs) g) (λ e. stopped (bytes ++ joined_pieces cs) e g)
-  run_ends_from [] bytes f g k ran =
-      let P : F → Type 0 = λ x. kept (bytes ++ []) x in
-      let Q : List ℕ → Type 0 = λ x. kept x f in
-      subst P ran (subst Q (sym (append-nil bytes)) k)
+  run_ends_from [] bytes f g k ran = grind (arith, append-nil)
   run_ends_from (c ∷ cs) bytes f g k ran = one_more c.answer bytes c.piece f c.after g cs k ran.0 ran.1 ran.2
       (λ more. run_ends_from cs (bytes ++ c.piece) c.after g more ran.2)
 
@@ -495,15 +428,13 @@ module _ {F E A : Type 0} (kept : List ℕ → F → Type 0) (stopped : List ℕ
     (g : F) where
   ended_at : (body : Outcome) (r s : Result A (DecodeError E)) → r ≡ s → EndsWith kept stopped body good g s
       → EndsWith kept stopped body good g r
-  ended_at body r s e h = let P : Result A (DecodeError E) → Type 0 = λ x. EndsWith kept stopped body good g x in
-      subst P (sym e) h
+  ended_at body r s e h = grind arith
 
   ended_whole : (body : Outcome) (bytes : List ℕ) (r : Result A (DecodeError E)) → HandsOut body good bytes r
       → kept bytes g → EndsWith kept stopped body good g r
   ended_whole (Good all) bytes (Ok x) h k = (bytes, ap Good (sym h.bytes_are), h.answer, k)
   ended_whole (Good all) bytes (Err e) h k = absurd h.answer
-  ended_whole (Bad all kind) bytes r h k = ended_at (Bad all kind) r (Err (InvalidBase64 kind)) h.answer
-      (bytes, ap (λ x. Bad x kind) (sym h.bytes_are), k)
+  ended_whole (Bad all kind) bytes r h k = grind (arith, ended_at)
 
   ended_by : (o : Option E) (body : Outcome) (bytes : List ℕ) (r : Result A (DecodeError E))
       → MatchOption o (HandsOut body good bytes r) (λ e. IsRefused (outcome_bytes body) bytes e r)
@@ -549,12 +480,7 @@ body_extends {f = f} d e measure accepts refuses =
 
 symbols_shorter : (s : List ℕ) → length (filter is_symbol s) ≤ length s
 symbols_shorter [] = omega arith
-symbols_shorter (b ∷ s) = let h = symbols_shorter s in
-    elim (is_symbol b) as (λ v. length (cond v (b ∷ filter is_symbol s) (filter is_symbol s)) ≤ length (b ∷ s)) [
-      | true ↦
-          omega arith
-      | false ↦ omega arith
-    ]
+symbols_shorter (b ∷ s) = grind (arith, (symbols_shorter s))
 
 values_shorter : (s : List ℕ) → length (values s) ≤ length s
 unfolding values
@@ -578,29 +504,16 @@ before_place_shorter s (Some i) = omega (arith, length-take i s)
 
 done_shorter : (s : List ℕ) → length (complete_bytes s) ≤ length s
 unfolding complete_bytes
-done_shorter s = let t : List ℕ = before_place s (first_fault s) in
-    omega (arith, groups_length (values t), values_shorter t, before_place_shorter s (first_fault s))
+done_shorter s = grind (arith, groups_length, values_shorter, before_place_shorter)
 
 outcome_shorter : (flag : Bool) (s : List ℕ) → length (outcome_bytes (outcome flag s)) ≤ length s
 unfolding outcome
 outcome_shorter false s = omega arith
-outcome_shorter true s =
-    let a = decoded_shorter s in
-    let b = done_shorter s in
-    elim (is_valid s) as (λ v. length
-    (outcome_bytes (cond v (Good (decoded s)) (Bad (complete_bytes s) (kind_of s)))) ≤ length s) [
-      | true ↦
-          a
-      | false ↦ b
-    ]
+outcome_shorter true s = grind (arith, decoded_shorter, done_shorter)
 
 -- a body, or the bytes before its fault, is not longer than its tail
 pub body_within_tail : (url : DataUrl) → length (outcome_bytes (url_body url)) ≤ length (url_tail url)
-body_within_tail url = omega (
-  arith,
-  outcome_shorter (is_base64 url) (plain_body (url_tail url)),
-  body_shorter (url_tail url),
-)
+body_within_tail url = grind (arith, outcome_shorter, body_shorter)
 
 after_shorter : (c : ℕ) (s rest : List ℕ) → after c s ≡ Some rest → length rest ≤ length s
 unfolding after
@@ -613,10 +526,7 @@ after_shorter c (b ∷ s) rest e =
 
 trimmed_shorter : (t : List ℕ) → length (trimmed_text t) ≤ length t
 unfolding trimmed_text
-trimmed_shorter t =
-    let p = is_c0_control_or_space in
-    let s : List ℕ = without_front p t in
-    omega (arith, length-take (length s - suffix_len p s) s, length-drop (prefix_len p t) t)
+trimmed_shorter t = grind (arith, length-take, length-drop)
 
 tail_shorter : (t tail : List ℕ) → tail_of t ≡ Some tail → length tail ≤ length t
 unfolding tail_of

@@ -31,9 +31,7 @@ hex_code b l = agree_below_at (λ b. ltb (digit_code b) 16) (λ b. not (is_tab_o
 
 -- a '%' is neither a tab or newline nor a digit
 not_percent : (b : ℕ) → b < 256 → digit_code b < 32 → not (b == 37) ≡ true
-not_percent b l h =
-    sym (cond-true (ltb (digit_code b) 32) (not (b == 37)) true (lt-ltb (digit_code b) 32 h))
-    ∙ agree_below_at (λ b. cond (ltb (digit_code b) 32) (not (b == 37)) true) (λ b. true) 256 b refl l
+not_percent b l h = grind (arith, cond-true, ltb, lt-ltb, agree_below_at)
 
 is_tab : (b : ℕ) → b < 256 → digit_code b ≡ 16 → is_tab_or_newline b ≡ true
 is_tab b l h = sym (tab_code b l) ∙ ap (λ v. eqb v 16) h
@@ -63,26 +61,16 @@ digit_nil = refl
 -- a tab or newline before a digit is skipped
 pub digit_tab : (b : ℕ) (s : List ℕ) → is_tab_or_newline b ≡ true → digit (b ∷ s) ≡ digit s
 unfolding digit
-digit_tab b s h = cond-true (is_tab_or_newline b) (digit s) (cond (is_ascii_hexdigit b) (Some (digit_value b, s)) None)
-    h
+digit_tab b s h = grind (arith, cond-true)
 
 -- a byte that is not a tab or newline is the digit, if it is hexadecimal; otherwise there is no digit
 pub digit_here : (b : ℕ) (s : List ℕ) → is_tab_or_newline b ≡ false
     → digit (b ∷ s) ≡ cond (is_ascii_hexdigit b) (Some (digit_value b, s)) None
 unfolding digit
-digit_here b s h = cond-false (is_tab_or_newline b) (digit s)
-    (cond (is_ascii_hexdigit b) (Some (digit_value b, s)) None) h
+digit_here b s h = grind (arith, cond-false)
 
 digit_found : (b : ℕ) (s : List ℕ) → b < 256 → digit_code b < 16 → digit (b ∷ s) ≡ Some (digit_code b, s)
-digit_found b s l h =
-    let k = is_digit b l h in
-    let tab = both_left (is_tab_or_newline b) (is_ascii_hexdigit b) k in
-    let hex = both_right (is_tab_or_newline b) (is_ascii_hexdigit b) k in
-    let code : digit_code b ≡ digit_value b =
-    cond-false (is_tab_or_newline b) 16 (cond (is_ascii_hexdigit b) (digit_value b) 32) tab
-    ∙ cond-true (is_ascii_hexdigit b) (digit_value b) 32 hex in
-    digit_here b s tab ∙ cond-true (is_ascii_hexdigit b) (Some (digit_value b, s)) None hex
-    ∙ ap (λ v. Some (v, s)) (sym code)
+digit_found b s l h = grind (arith, is_digit, both_left, both_right, cond-false, cond-true, digit_here)
 
 other_test : (b : ℕ) → b < 256 → 16 < digit_code b
     → cond (ltb 16 (digit_code b)) (not (is_tab_or_newline b) && not (is_ascii_hexdigit b)) true ≡ true
@@ -125,42 +113,16 @@ byte_of {text} {same} {place} {b} e w h l = record { within = w; byte_is = h ∙
 pub found_here : {text : List ℕ} {place b value looks looks' : ℕ} → IsByte text place b → value ≡ digit_code b
     → value < 16 → looks' ≡ looks + 1 → DigitFound text place looks value (place + 1) looks'
 found_here {text} {place} {b} {value} {looks} {looks'} at code small n =
-    let e = at.byte_is in
-    let h : digit_code b < 16 = omega arith in
-    let w = at.within in
-    let no : not (get_or text place 0 == 37) ≡ true = ap (λ v. not (v == 37)) (sym e)
-    ∙ not_percent b at.small (omega arith) in
-    let more = no_percent_at text place w no in
-    record {
-      some = omega arith;
-      within = omega arith;
-      small = small;
-      digit_is = ap digit (at_place text place w) ∙ ap (λ v. digit (v ∷ drop (place + 1) text)) (sym e)
-          ∙ digit_found b (drop (place + 1) text) at.small h ∙ ap (λ v. Some (v, drop (place + 1) text)) (sym code);
-      no_percent = omega arith;
-      looks_are = omega arith;
-    }
+    grind (arith, not_percent, no_percent_at, at_place, digit_found)
 
 -- if the code of a byte is above 16, there is no digit from its index on
 pub none_here : {text : List ℕ} {place b value looks looks' : ℕ} → IsByte text place b → value ≡ digit_code b
     → 16 < value → looks' ≡ looks + 1 → NoDigit text place looks looks'
-none_here {text} {place} {b} {value} {looks} {looks'} at code great n =
-    let h : 16 < digit_code b = omega arith in
-    record {
-      none_is = ap digit (at_place text place at.within) ∙ ap (λ v. digit (v ∷ drop (place + 1) text)) (sym at.byte_is)
-          ∙ digit_other b (drop (place + 1) text) at.small h;
-      looks_grow = omega arith;
-      looks_are = omega arith;
-    }
+none_here {text} {place} {b} {value} {looks} {looks'} at code great n = grind (arith, at_place, digit_other)
 
 -- at the end of the text there is no digit
 pub none_left : {text : List ℕ} {place looks : ℕ} → length text ≤ place → NoDigit text place looks looks
-none_left {text} {place} {looks} l = record {
-  none_is = ap digit (drop_all place text l) ∙ digit_nil;
-  looks_grow =
-      omega arith;
-  looks_are = omega arith;
-}
+none_left {text} {place} {looks} l = grind (arith, drop_all, digit_nil)
 
 -- from one place to another there are tabs and newlines, which were skipped
 pub record Passed (text : List ℕ) (place at looks looks' : ℕ) : Type 0 where
@@ -178,52 +140,17 @@ pub passed_more : {text : List ℕ} {place at b value looks looks' looks'' : ℕ
     → IsByte text at b → value ≡ digit_code b → value ≡ 16 → looks'' ≡ looks' + 1
     → Passed text place (at + 1) looks looks''
 passed_more {text} {place} {at} {b} {value} {looks} {looks'} {looks''} p here code tab n =
-    let h : digit_code b ≡ 16 = omega arith in
-    let e = here.byte_is in
-    let w = here.within in
-    let no : not (get_or text at 0 == 37) ≡ true = ap (λ v. not (v == 37)) (sym e)
-    ∙ not_percent b here.small (omega arith) in
-    let more = no_percent_at text at w no in
-    let f = p.forward in
-    let q = p.no_percent in
-    let k = p.looks_are in
-    record {
-      forward = omega arith;
-      digit_stays = p.digit_stays ∙ ap digit (at_place text at w) ∙ ap (λ v. digit (v ∷ drop (at + 1) text)) (sym e)
-          ∙ digit_tab b (drop (at + 1) text) (is_tab b here.small h);
-      no_percent = omega arith;
-      looks_are = omega arith;
-    }
+    grind (arith, not_percent, no_percent_at, at_place, digit_tab, is_tab)
 
 -- a digit that is found after skipped bytes is found from their start on
 pub passed_found : {text : List ℕ} {place at value end looks looks' looks'' : ℕ} → Passed text place at looks looks'
     → DigitFound text at looks' value end looks'' → DigitFound text place looks value end looks''
-passed_found {text} {place} {at} {value} {end} {looks} {looks'} {looks''} p d =
-    let f = p.forward in
-    let q = p.no_percent in
-    let k = p.looks_are in
-    let s = d.some in
-    let r = d.no_percent in
-    let m = d.looks_are in
-    record {
-      some = omega arith;
-      within = d.within;
-      small = d.small;
-      digit_is = p.digit_stays ∙ d.digit_is;
-      no_percent = omega arith;
-      looks_are = omega arith;
-    }
+passed_found {text} {place} {at} {value} {end} {looks} {looks'} {looks''} p d = grind arith
 
 -- if there is no digit after skipped bytes, there is none from their start on
 pub passed_no : {text : List ℕ} {place at looks looks' looks'' : ℕ} → Passed text place at looks looks'
     → NoDigit text at looks' looks'' → NoDigit text place looks looks''
-passed_no p n =
-    let f = p.forward in
-    let q = p.no_percent in
-    let k = p.looks_are in
-    let m = n.looks_are in
-    let g = n.looks_grow in
-    record { none_is = p.digit_stays ∙ n.none_is; looks_grow = omega arith; looks_are = omega arith }
+passed_no p n = grind arith
 
 -- two digits
 
@@ -243,47 +170,19 @@ escape_both s rest last high low h k = ap with_high_digit h ∙ ap (with_low_dig
 -- if there is no first digit, there are not two digits
 pub no_high : {text : List ℕ} {place looks looks' : ℕ} → NoDigit text place looks looks'
     → NoDigits text place looks looks'
-no_high {text} {place} n = record {
-  none_is = escape_none (drop place text) n.none_is;
-  looks_grow =
-      n.looks_grow;
-  looks_are = n.looks_are;
-}
+no_high {text} {place} n = grind (arith, escape_none)
 
 -- if there is no digit after the first one, there are not two digits
 pub no_low : {text : List ℕ} {place high after looks looks' looks'' : ℕ}
     → DigitFound text place looks high after looks' → NoDigit text after looks' looks''
     → NoDigits text place looks looks''
-no_low {text} {place} {high} {after} d n =
-    let s = d.some in
-    let r = d.no_percent in
-    let m = d.looks_are in
-    let k = n.looks_are in
-    let g = n.looks_grow in
-    record {
-      none_is = escape_high (drop place text) (drop after text) high d.digit_is n.none_is;
-      looks_grow =
-          omega arith;
-      looks_are = omega arith;
-    }
+no_low {text} {place} {high} {after} d n = grind (arith, escape_high)
 
 -- a digit and a digit after it are two digits
 pub both_digits : {text : List ℕ} {place high low after end looks looks' looks'' value : ℕ}
     → DigitFound text place looks high after looks' → DigitFound text after looks' low end looks''
     → value ≡ high * 16 + low → DigitsFound text place looks value end looks''
-both_digits {text} {place} {high} {low} {after} {end} {value = value} d f e =
-    let s = d.some in
-    let m = d.looks_are in
-    let t = f.some in
-    let k = f.looks_are in
-    let v : 16 * high + low ≡ value = omega arith in
-    record {
-      two = omega arith;
-      within = f.within;
-      value_is = escape_both (drop place text) (drop after text) (drop end text) high low d.digit_is f.digit_is
-          ∙ ap (λ x. Some (x, drop end text)) v;
-      looks_are = omega arith;
-    }
+both_digits {text} {place} {high} {low} {after} {end} {value = value} d f e = grind (arith, escape_both)
 
 -- a tab or newline, and then what was found after it
 pub digit_further : {text same : List ℕ} {place b value looks' : ℕ} (looks looks'' : ℕ) (found : Option (ℕ × ℕ))

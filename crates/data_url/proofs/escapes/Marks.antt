@@ -106,13 +106,7 @@ block_whole text bytes place e long =
 pub block_part : (text bytes : List ℕ) (place : ℕ) → bytes ≡ text
     → length (take (length bytes - place) (drop place bytes)) < 64 → place ≤ length text
     → take (length bytes - place) (drop place bytes) ≡ slice_range text place (min (place + 64) (length text))
-block_part text bytes place e short within =
-    let all : take (length bytes - place) (drop place bytes) ≡ drop place text = take_rest bytes place
-    ∙ ap (drop place) e in
-    let n = ap length all in
-    let d = length-drop place text in
-    let k : length text - place ≡ min (place + 64) (length text) - place = omega arith in
-    all ∙ sym (take_rest text place) ∙ ap (λ i. take i (drop place text)) k
+block_part text bytes place e short within = grind (arith, take_rest, length-drop)
 
 -- a shifted mask is the mask of the rest of the list
 mask_half : (b : Bool) (bs : List Bool) → mask_l (b ∷ bs) / 2 ≡ mask_l bs
@@ -138,21 +132,13 @@ pub drop_taken : (k n : ℕ) (xs : List ℕ) → drop k (take n xs) ≡ take (n 
 drop_taken zero n xs = let e : n - zero ≡ n = omega arith in ap (λ i. take i xs) (sym e)
 drop_taken (suc k) zero xs = let e : zero - suc k ≡ zero = omega arith in ap (λ i. take i (drop (suc k) xs)) (sym e)
 drop_taken (suc k) (suc n) [] = take_none (suc n - suc k)
-drop_taken (suc k) (suc n) (x ∷ xs) = let e : suc n - suc k ≡ n - k = omega arith in drop_taken k n xs
-    ∙ ap (λ i. take i (drop k xs)) (sym e)
+drop_taken (suc k) (suc n) (x ∷ xs) = grind (arith, (drop_taken k n xs))
 
 -- the marks of the rest of a block
 pub marks_later : (text : List ℕ) (base seen place : ℕ) → base ≤ place → place ≤ seen
     → mask_l (map is_marked (slice_range text base seen)) / 2 ^ (place - base) ≡ mask_l
     (map is_marked (slice_range text place seen))
-marks_later text base seen place l h =
-    let k : base + (place - base) ≡ place = omega arith in
-    let n : seen - base - (place - base) ≡ seen - place = omega arith in
-    mask_later (map is_marked (slice_range text base seen)) (place - base)
-    ∙ ap mask_l (drop-map is_marked (place - base) (slice_range text base seen)
-    ∙ ap (map is_marked) (drop_taken (place - base) (seen - base) (drop base text)
-    ∙ ap (take (seen - base - (place - base))) (drop-drop (place - base) base text ∙ ap (λ i. drop i text) k)
-    ∙ ap (λ i. take i (drop place text)) n))
+marks_later text base seen place l h = grind (arith, mask_later, drop-map, drop_taken, drop-drop)
 
 -- The marks of a block: lanes that are looked up in a table and compared.
 
@@ -222,10 +208,7 @@ marked_here b l = agree_below_at (λ b. eqb (entry b) b) is_marked 256 b refl l
 
 marked_each : (v : List ℕ) → Each1 (Fits w8) v → map (λ b. eqb (entry b) b) v ≡ map is_marked v
 marked_each [] h = refl
-marked_each (b ∷ v) h =
-    let l = h.0.fits in
-    ap (λ x. x ∷ map (λ b. eqb (entry b) b) v) (marked_here b (omega arith))
-    ∙ ap (λ t. is_marked b ∷ t) (marked_each v h.1)
+marked_each (b ∷ v) h = grind (arith, eqb, marked_here, (marked_each v h.1))
 
 -- the mask that lanes compute is that of the marked bytes
 pub marks_are : (v : List ℕ) → length v ≡ 64 → Each1 (Fits w8) v
@@ -261,28 +244,12 @@ pub record HasMarks (text : List ℕ) (place seen marks : ℕ) : Type 0 where
 -- the marks of a block, shifted by the distance from its start to an index, are those from the index on
 pub has_marks : {c : Cursor} {place marks : ℕ} → Looking c place 0 → place ≤ c.seen
     → marks ≡ c.marks / 2 ^ (place - c.base) → HasMarks (text_of c) place c.seen marks
-has_marks {c} {place} {marks} k l e =
-    let b = k.base_le in
-    let s = k.block.short in
-    record {
-      within = k.block.seen_le;
-      forward = l;
-      short = omega arith;
-      marks_are = e ∙ ap (λ m. m / 2 ^ (place - c.base)) k.block.marks_are
-          ∙ marks_later (text_of c) c.base c.seen place b l;
-    }
+has_marks {c} {place} {marks} k l e = grind (arith, marks_are, marks_later)
 
 -- the marks of a block from its front on
 pub block_marks : {c : Cursor} {place : ℕ} → Looking c place 0 → c.base ≡ place → place ≤ c.seen
     → HasMarks (text_of c) place c.seen c.marks
-block_marks {c} {place} k e l =
-    let s = k.block.short in
-    record {
-      within = k.block.seen_le;
-      forward = l;
-      short = omega arith;
-      marks_are = k.block.marks_are ∙ ap (λ b. mask_l (map is_marked (slice_range (text_of c) b c.seen))) e;
-    }
+block_marks {c} {place} k e l = grind (arith, marks_are)
 
 -- the next mark is `width` bytes after the place
 pub record IsFound (text : List ℕ) (place seen width : ℕ) : Type 0 where
@@ -295,29 +262,17 @@ lt_from_le a b l n = elim (cases_lt a b) [ inl e ↦ e | inr e ↦ absurd (n (om
 found_mark : {text : List ℕ} {place seen marks width : ℕ} → HasMarks text place seen marks → marks ≢ 0
     → width ≡ count_trailing_zeros 64 marks → IsFound text place seen width
 found_mark {text} {place} {seen} {marks} {width} h n e =
-    let w = h.within in
-    let f = h.forward in
-    let s = h.short in
-    let xs = chunk place (seen - place) text in
-    let d = length-drop place text in
-    let long : length xs ≡ seen - place = length-take-le (seen - place) (drop place text) (omega arith) in
-    let m : marks ≡ mask_l (map is_marked xs) = h.marks_are in
-    let counted : width ≡ prefix_len (λ x. not (is_marked x)) xs = e ∙ ap (count_trailing_zeros 64) m
-    ∙ trailing_mask_l is_marked 64 xs (omega arith) (omega arith) in
-    let room : place + (seen - place) ≤ length text = omega arith in
-    let le = run_in_chunk_le is_marked text place (seen - place) width 0 room counted in
-    let before : width < seen - place =
-    lt_from_le width (seen - place) le
-    (λ (k : width ≡ seen - place). n (m ∙ mask_none is_marked xs (sym counted ∙ k ∙ sym long))) in
-    record {
-      before = before;
-      mark = record {
-        forward = omega arith;
-        within = omega arith;
-        clear = run_in_chunk_fails is_marked text place (seen - place) width 0 room counted;
-        marked = λ _. run_in_chunk_stops is_marked text place (seen - place) width 0 room counted before;
-      };
-    }
+    grind (
+      arith,
+      length-drop,
+      length-take-le,
+      trailing_mask_l,
+      run_in_chunk_le,
+      lt_from_le,
+      mask_none,
+      run_in_chunk_fails,
+      run_in_chunk_stops,
+    )
 
 -- if the marks are not zero, the next mark is as many bytes after the index as the marks have trailing zeros
 pub found : {text : List ℕ} {place seen marks width : ℕ} → HasMarks text place seen marks → (marks ≡ 0 → ⊥)
@@ -327,11 +282,7 @@ found h n e = found_mark h n e
 -- the block has no mark from the place on
 pub found_none : {text : List ℕ} {place seen marks : ℕ} → HasMarks text place seen marks → marks ≡ 0
     → IsClear text place seen
-found_none {text} {place} {seen} {marks} h e =
-    let w = h.within in
-    let f = h.forward in
-    λ k a b. none_from_empty_mask is_marked text place (seen - place) 0 (omega arith) (sym h.marks_are ∙ e) k a
-    (omega arith)
+found_none {text} {place} {seen} {marks} h e = grind (arith, none_from_empty_mask)
 
 -- if two ranges, one after the other, have no marks, neither does the range of both
 pub clear_then : (text : List ℕ) (from middle to : ℕ) → IsClear text from middle → IsClear text middle to
@@ -341,25 +292,12 @@ clear_then text from middle to a b k l h = elim (cases_lt k middle) [ inl e ↦ 
 -- the next mark after a range without marks is also the next mark from the start of that range
 pub mark_then : {text : List ℕ} {from middle to : ℕ} → from ≤ middle → IsClear text from middle
     → IsNextMark text middle to → IsNextMark text from to
-mark_then {text} {from} {middle} {to} l c m = let f = m.forward in
-    record {
-      forward = omega arith;
-      within = m.within;
-      clear = clear_then text from middle to c m.clear;
-      marked =
-          m.marked;
-    }
+mark_then {text} {from} {middle} {to} l c m = grind (arith, clear_then)
 
 -- if there are no marks up to the end of the text, the next mark is that end (found by `search`)
 pub mark_at_end : {text : List ℕ} {from to : ℕ} → from ≤ to → to ≤ length text → length text ≤ to → IsClear text from to
     → IsNextMark text from to
-mark_at_end {text} {from} {to} l w e c = record {
-  forward = l;
-  within = w;
-  clear = c;
-  marked =
-      λ h. absurd (omega arith);
-}
+mark_at_end {text} {from} {to} l w e c = grind arith
 
 -- the walk can go on from a later place, if there is no mark between the places
 pub looking_clear : {c : Cursor} {place more : ℕ} (to : ℕ) → Looking c place more → place ≤ to → to ≤ length (text_of c)
@@ -380,24 +318,11 @@ clear_in {text} {same} from to e m = let P : List ℕ → Type 0 = λ t. IsClear
 
 -- a walk that does not change stays at its index
 pub stays_here : (c : Cursor) → Stays c c
-stays_here c = record {
-  on = record { text_stays = refl; looks_grow = omega arith };
-  place_stays = refl;
-  ahead_stays =
-      refl;
-}
+stays_here c = grind arith
 
 -- if two steps, one after the other, stay at the index, so do both together
 pub stays_then : {a b c : Cursor} → Stays a b → Stays b c → Stays a c
-stays_then h k = record {
-  on = record {
-    text_stays = k.on.text_stays ∙ h.on.text_stays;
-    looks_grow = let x = h.on.looks_grow in let y =
-        k.on.looks_grow in omega arith;
-  };
-  place_stays = k.place_stays ∙ h.place_stays;
-  ahead_stays = k.ahead_stays ∙ h.ahead_stays;
-}
+stays_then h k = grind arith
 
 -- the walk can go on after its block, if no mark is left in it
 pub looked_to : {c : Cursor} {from : ℕ} (to : ℕ) → Looking c from 0 → from ≤ c.seen → to ≡ c.seen

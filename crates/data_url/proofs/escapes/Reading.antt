@@ -41,21 +41,10 @@ record HasDigit (s : List ℕ) (value : ℕ) (rest : List ℕ) : Type 0 where
 
 digit_at : (b : ℕ) (s : List ℕ) (value : ℕ) (rest : List ℕ) → is_tab_or_newline b ≡ false → is_ascii_hexdigit b ≡ true
     → ◌≡◌ {A = Option (ℕ × List ℕ)} (Some (digit_value b, s)) (Some (value, rest)) → HasDigit (b ∷ s) value rest
-digit_at b s value rest t h e =
-    let both : ◌≡◌ {A = ℕ × List ℕ} (digit_value b, s) (value, rest) = cc in
-    let value_is : digit_value b ≡ value = ap (λ (p : ℕ × List ℕ). p.0) both in
-    let rest_is : s ≡ rest = ap (λ (p : ℕ × List ℕ). p.1) both in
-    record {
-      at = b;
-      hex = h;
-      value_is = value_is;
-      dropped_is = dropped_keeps b s t ∙ ap (λ r. b ∷ without_tabs_and_newlines r) rest_is;
-      after_is = after_other 35 b s (hex_no_hash b h) ∙ ap (after 35) rest_is;
-    }
+digit_at b s value rest t h e = grind (arith, dropped_keeps, after_other, hex_no_hash)
 
 has_digit : (s : List ℕ) (value : ℕ) (rest : List ℕ) → digit s ≡ Some (value, rest) → HasDigit s value rest
-has_digit [] value rest h = absurd (let k : ◌≡◌ {A = Option (ℕ × List ℕ)} None (Some (value, rest)) = sym digit_nil
-    ∙ h in cc)
+has_digit [] value rest h = grind (arith, digit_nil)
 has_digit (b ∷ s) value rest h = elim (cases_Bool (is_tab_or_newline b)) [
   | inl e ↦
       let k = has_digit s value rest (sym (digit_tab b s e) ∙ h) in
@@ -141,8 +130,7 @@ first_no_digit (b ∷ s) h = and_left (is_ascii_hexdigit b) (begins_with_digit s
 
 no_low_cases : (s middle : List ℕ) (high : ℕ) (o : Option (ℕ × List ℕ)) → HasDigit s high middle → digit middle ≡ o
     → with_low_digit high o ≡ None → begins_with_two_digits (without_tabs_and_newlines s) ≡ false
-no_low_cases s middle high None a e h = ap begins_with_two_digits a.dropped_is
-    ∙ and_right (is_ascii_hexdigit a.at) (begins_with_digit (without_tabs_and_newlines middle)) (no_digit middle e)
+no_low_cases s middle high None a e h = grind (arith, and_right, no_digit)
 no_low_cases s middle high (Some low) a e h = absurd (cc)
 
 no_high_cases : (s : List ℕ) (o : Option (ℕ × List ℕ)) → digit s ≡ o → with_high_digit o ≡ None
@@ -156,10 +144,7 @@ no_escape s h = no_high_cases s (digit s) refl h
 
 same_two_digits : (s : List ℕ) → begins_with_two_digits s ≡ false → two_digits (before 35 s) ≡ false
 same_two_digits [] h = ap two_digits (before_nil 35)
-same_two_digits (b ∷ []) h = elim (cases_Bool (b == 35)) [
-  | inl e ↦ ap (λ x. two_digits (before 35 (x ∷ []))) (eqb-true b 35 e) ∙ ap two_digits (before_same 35 [])
-  | inr e ↦ ap two_digits (before_other 35 b [] e ∙ ap (λ t. b ∷ t) (before_nil 35))
-]
+same_two_digits (b ∷ []) h = grind (arith, cases_Bool, two_digits, eqb-true, before_same, before_other, before_nil)
 same_two_digits (b ∷ c ∷ s) h = elim (cases_Bool (b == 35)) [
   | inl e ↦ ap (λ x. two_digits (before 35 (x ∷ c ∷ s))) (eqb-true b 35 e) ∙ ap two_digits (before_same 35 (c ∷ s))
   | inr e ↦ ap two_digits (before_other 35 b (c ∷ s) e) ∙ elim (cases_Bool (c == 35)) [
@@ -185,13 +170,11 @@ body_nil = body_of [] [] dropped_nil ∙ ap percent_decoding (before_nil 35) ∙
 
 -- a text that begins with '#' has an empty body
 pub body_hash : (s : List ℕ) → plain_body (35 ∷ s) ≡ []
-body_hash s = body_of (35 ∷ s) (35 ∷ without_tabs_and_newlines s) (dropped_keeps 35 s refl)
-    ∙ ap percent_decoding (before_same 35 (without_tabs_and_newlines s)) ∙ percent_nil
+body_hash s = grind (arith, body_of, dropped_keeps, before_same, percent_nil)
 
 -- a tab or newline at the front does not change the body
 pub body_passes : (b : ℕ) (s : List ℕ) → is_tab_or_newline b ≡ true → plain_body (b ∷ s) ≡ plain_body s
-body_passes b s h = body_of (b ∷ s) (without_tabs_and_newlines s) (dropped_passes b s h)
-    ∙ sym (body_of s (without_tabs_and_newlines s) refl)
+body_passes b s h = grind (arith, body_of, dropped_passes)
 
 -- a tab or newline at the front does not change what follows the first '#'
 pub after_passes : (b : ℕ) (s : List ℕ) → is_tab_or_newline b ≡ true → after 35 (b ∷ s) ≡ after 35 s
@@ -201,11 +184,7 @@ after_passes b s h = after_other 35 b s (no_hash b h)
 keeps_byte : (b : ℕ) (s : List ℕ) → is_tab_or_newline b ≡ false → (b == 35) ≡ false
     → ((b == 37) && two_digits (before 35 (without_tabs_and_newlines s))) ≡ false
     → plain_body (b ∷ s) ≡ b ∷ plain_body s
-keeps_byte b s t n k =
-    body_of (b ∷ s) (b ∷ without_tabs_and_newlines s) (dropped_keeps b s t)
-    ∙ ap percent_decoding (before_other 35 b (without_tabs_and_newlines s) n)
-    ∙ decoded_keeps b (before 35 (without_tabs_and_newlines s)) k
-    ∙ ap (λ t. b ∷ t) (sym (body_of s (without_tabs_and_newlines s) refl))
+keeps_byte b s t n k = grind (arith, body_of, dropped_keeps, before_other, decoded_keeps)
 
 -- a byte that is not a tab, a newline, '#' or '%' is in the body as it is
 pub body_keeps : (b : ℕ) (s : List ℕ) → is_tab_or_newline b ≡ false → (b == 35) ≡ false → (b == 37) ≡ false
@@ -252,16 +231,7 @@ reads_none text place l = record { few = omega arith; within = l; body = refl; a
 -- what is read in two ranges, one after the other, is joined in the range of both
 pub reads_then : {text a b : List ℕ} {from middle to : ℕ} → Reads text from middle a → Reads text middle to b
     → Reads text from to (a ++ b)
-reads_then {text} {a} {b} {from} {middle} {to} r s =
-    let f = r.few in
-    let g = s.few in
-    let l = length-append a b in
-    record {
-      few = omega arith;
-      within = s.within;
-      body = r.body ∙ ap (λ t. a ++ t) s.body ∙ sym (append_assoc a b (plain_body (drop to text)));
-      after_is = r.after_is ∙ s.after_is;
-    }
+reads_then {text} {a} {b} {from} {middle} {to} r s = grind (arith, length-append, append_assoc)
 
 at_place : (text : List ℕ) (place : ℕ) → place < length text → drop place text ≡ get_or text place 0 ∷ drop
     (place + 1) text
@@ -274,37 +244,16 @@ at_byte text place b l e = at_place text place l ∙ ap (λ v. v ∷ drop (place
 -- a tab or newline is read as no byte
 pub reads_passed : {text : List ℕ} {place : ℕ} → place < length text → is_tab_or_newline (get_or text place 0) ≡ true
     → Reads text place (place + 1) []
-reads_passed {text} {place} l h = record {
-  few = omega arith;
-  within = omega arith;
-  body = ap plain_body (at_place text place l) ∙ body_passes (get_or text place 0) (drop (place + 1) text) h;
-  after_is = ap (after 35) (at_place text place l) ∙ after_passes (get_or text place 0) (drop (place + 1) text) h;
-}
+reads_passed {text} {place} l h = grind (arith, at_place, body_passes, after_passes)
 
 -- a '%' that does not begin an escape is read as it is
 pub reads_percent : {text : List ℕ} {place : ℕ} → LonePercent text place → Reads text place (place + 1) (37 ∷ [])
-reads_percent {text} {place} p =
-    let e = at_byte text place 37 p.within p.percent in
-    let w = p.within in
-    record {
-      few = omega arith;
-      within = omega arith;
-      body = ap plain_body e ∙ body_percent (drop (place + 1) text) p.no_escape;
-      after_is = ap (after 35) e ∙ after_percent (drop (place + 1) text);
-    }
+reads_percent {text} {place} p = grind (arith, at_byte, body_percent, after_percent)
 
 -- an escape is read as the byte of its value
 pub reads_escape : {text : List ℕ} {place value end : ℕ} → EscapeAt text place value end
     → Reads text place end (value ∷ [])
-reads_escape {text} {place} {value} {end} p =
-    let s = p.some in
-    let e = at_byte text place 37 (let w = p.within in omega arith) p.percent in
-    record {
-      few = omega arith;
-      within = p.within;
-      body = ap plain_body e ∙ body_escape (drop (place + 1) text) value (drop end text) p.value_is;
-      after_is = ap (after 35) e ∙ after_escape (drop (place + 1) text) value (drop end text) p.value_is;
-    }
+reads_escape {text} {place} {value} {end} p = grind (arith, at_byte, body_escape, after_escape)
 
 -- a byte that is not marked
 pub unmarked_tab : (t h p : Bool) → (t || (h || p)) ≡ false → t ≡ false
@@ -324,24 +273,12 @@ unmarked_percent false false p e = e
 reads_byte : {text : List ℕ} {place : ℕ} → place < length text → is_marked (get_or text place 0) ≡ false
     → Reads text place (place + 1) (get_or text place 0 ∷ [])
 reads_byte {text} {place} l h =
-    let b = get_or text place 0 in
-    let tab = unmarked_tab (is_tab_or_newline b) (b == 35) (b == 37) h in
-    let hash = unmarked_hash (is_tab_or_newline b) (b == 35) (b == 37) h in
-    let percent = unmarked_percent (is_tab_or_newline b) (b == 35) (b == 37) h in
-    record {
-      few = omega arith;
-      within = omega arith;
-      body = ap plain_body (at_place text place l) ∙ body_keeps b (drop (place + 1) text) tab hash percent;
-      after_is = ap (after 35) (at_place text place l) ∙ after_other 35 b (drop (place + 1) text) hash;
-    }
+    grind (arith, unmarked_tab, unmarked_hash, unmarked_percent, at_place, body_keeps, after_other)
 
 -- a stretch without marks, by how many bytes it has
 clear_for : (text : List ℕ) (from n : ℕ) → from + n ≤ length text → IsClear text from (from + n)
     → Reads text from (from + n) (take n (drop from text))
-clear_for text from zero l h =
-    let P : ℕ → Type 0 = λ to. Reads text from to [] in
-    let e : from ≡ from + zero = omega arith in
-    subst P e (reads_none text from (omega arith))
+clear_for text from zero l h = grind (arith, reads_none)
 clear_for text from (suc n) l h =
     let w : from < length text = omega arith in
     let first = reads_byte {text = text} {place = from} w (h from (omega arith) (omega arith)) in
@@ -376,33 +313,21 @@ ends_empty {text} {place} h = ends_cases (drop place text) h.begins
 -- the bound is at most three times the length of the text
 pub paid_le : (text : List ℕ) (seen place : ℕ) → seen ≤ length text → place ≤ length text
     → paid_looks text seen place ≤ 3 * length text
-paid_le text seen place s p =
-    let l = prefix_len-le-length (λ b. not (b == 37)) (drop place text) in
-    let d = length-drop place text in
-    omega arith
+paid_le text seen place s p = grind (arith, prefix_len-le-length, length-drop)
 
 -- a byte that is not '%' makes the bound greater by one
 pub paid_byte : (text : List ℕ) (seen place : ℕ) → place < length text → not (get_or text place 0 == 37) ≡ true
     → paid_looks text seen (place + 1) ≡ paid_looks text seen place + 1
-paid_byte text seen place l h =
-    let e : before_percent (drop place text) ≡ 1 + before_percent (drop (place + 1) text) =
-    prefix_len-drop_yes (λ b. not (b == 37)) text place 0 l h in
-    omega arith
+paid_byte text seen place l h = grind (arith, prefix_len-drop_yes)
 
 -- at a '%' no bytes come before the next '%', so nothing is added to the bound for them
 pub paid_percent : (text : List ℕ) (seen place to : ℕ) → place < length text → get_or text place 0 ≡ 37
     → paid_looks text seen place ≡ seen + 2 * place
-paid_percent text seen place to l h =
-    let e : before_percent (drop place text) ≡ 0 = prefix_len-drop_no (λ b. not (b == 37)) text place 0 l
-    (ap (λ b. not (b == 37)) h) in
-    omega arith
+paid_percent text seen place to l h = grind (arith, prefix_len-drop_no)
 
 paid_for : (text : List ℕ) (seen from n : ℕ) → from + n ≤ length text → IsClear text from (from + n)
     → paid_looks text seen from ≤ paid_looks text seen (from + n)
-paid_for text seen from zero l h =
-    let e : from + zero ≡ from = omega arith in
-    let k : paid_looks text seen (from + zero) ≡ paid_looks text seen from = ap (paid_looks text seen) e in
-    omega arith
+paid_for text seen from zero l h = grind arith
 paid_for text seen from (suc n) l h =
     let w : from < length text = omega arith in
     let b = get_or text from 0 in

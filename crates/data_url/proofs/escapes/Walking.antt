@@ -40,17 +40,14 @@ slice_none text place = let e : place - place ≡ 0 = omega arith in ap (λ n. t
 -- the range from an index to the next one is the byte there
 pub slice_one : (text : List ℕ) (place : ℕ) → place < length text
     → slice_range text place (place + 1) ≡ get_or text place 0 ∷ []
-slice_one text place l =
-    let e : place + 1 - place ≡ 1 = omega arith in
-    ap (λ n. take n (drop place text)) e ∙ ap (take 1) (drop_more text place 0 l)
+slice_one text place l = grind (arith, drop_more)
 
 drop_none : (n : ℕ) → ◌≡◌ {A = List ℕ} (drop n []) []
 drop_none zero = refl
 drop_none (suc n) = refl
 
 taken_none : (n m : ℕ) → ◌≡◌ {A = List ℕ} (take n [] ++ take m (drop n [])) (take (n + m) [])
-taken_none n m = ap (λ s. s ++ take m (drop {A = ℕ} n [])) (sym (take_none n)) ∙ ap (take m) (drop_none n)
-    ∙ sym (take_none m) ∙ take_none (n + m)
+taken_none n m = grind (arith, take_none, drop_none)
 
 taken_twice : (n m : ℕ) (xs : List ℕ) → take n xs ++ take m (drop n xs) ≡ take (n + m) xs
 taken_twice zero m xs = let e : m ≡ zero + m = omega arith in ap (λ k. take k xs) e
@@ -78,8 +75,7 @@ skipped_none text place = ap without_tabs_and_newlines (slice_none text place) �
 -- if there is a tab or newline at an index, the range to the next index is skipped
 pub skipped_byte : (text : List ℕ) (place : ℕ) → place < length text → is_tab_or_newline (get_or text place 0) ≡ true
     → IsSkipped text place (place + 1)
-skipped_byte text place l h =
-    ap without_tabs_and_newlines (slice_one text place l) ∙ dropped_passes (get_or text place 0) [] h ∙ dropped_nil
+skipped_byte text place l h = grind (arith, slice_one, dropped_passes, dropped_nil)
 
 -- if two ranges, one after the other, are skipped, so is the range of both
 pub skipped_then : (text : List ℕ) (a b c : ℕ) → a ≤ b → b ≤ c → IsSkipped text a b → IsSkipped text b c
@@ -100,10 +96,7 @@ without_tabs_none text place = skipped_none text place ∙ sym (slice_none text 
 -- if there is no tab or newline at an index, the range to the next index has none
 pub without_tabs_byte : (text : List ℕ) (place : ℕ) → place < length text
     → is_tab_or_newline (get_or text place 0) ≡ false → IsWithoutTabs text place (place + 1)
-without_tabs_byte text place l h =
-    let b = get_or text place 0 in
-    ap without_tabs_and_newlines (slice_one text place l) ∙ dropped_keeps b [] h ∙ ap (λ s. b ∷ s) dropped_nil
-    ∙ sym (slice_one text place l)
+without_tabs_byte text place l h = grind (arith, slice_one, dropped_keeps, dropped_nil)
 
 -- if two ranges, one after the other, have no tab or newline, neither does the range of both
 pub without_tabs_then : (text : List ℕ) (a b c : ℕ) → a ≤ b → b ≤ c → IsWithoutTabs text a b → IsWithoutTabs text b c
@@ -121,13 +114,14 @@ without_tabs_for text from zero l h =
     let e : from ≡ from + zero = omega arith in
     subst P e (without_tabs_none text from)
 without_tabs_for text from (suc n) l h =
-    let b = get_or text from 0 in
-    let tab = unmarked_tab (is_tab_or_newline b) (b == 35) (b == 37) (h from (omega arith) (omega arith)) in
-    let more = without_tabs_for text (from + 1) n (omega arith) (λ i x y. h i (omega arith) (omega arith)) in
-    let e : from + 1 + n ≡ from + suc n = omega arith in
-    let P : ℕ → Type 0 = λ to. IsWithoutTabs text from to in
-    subst P e (without_tabs_then text from (from + 1) (from + 1 + n) (omega arith) (omega arith)
-    (without_tabs_byte text from (omega arith) tab) more)
+    grind (
+      arith,
+      unmarked_tab,
+      (without_tabs_for text (from + 1) n (omega arith) (λ i x y. h i (omega arith) (omega
+          arith))),
+      without_tabs_then,
+      without_tabs_byte,
+    )
 
 -- a stretch without marks has no tab or newline
 pub without_tabs_clear : (text : List ℕ) (from to : ℕ) → from ≤ to → to ≤ length text → IsClear text from to
@@ -167,59 +161,30 @@ none_before (suc n) (b ∷ s) h = elim (cases_Bool (b == 35)) [
 -- the bytes that a walk reads come before the first '#'
 pub in_front : {text bytes : List ℕ} {from to : ℕ} → Reads text from to bytes → IsInFront text from to
 unfolding front
-in_front {text} {bytes} {from} {to} r =
-    let few = r.few in
-    let e : from + (to - from) ≡ to = omega arith in
-    let d : drop (to - from) (drop from text) ≡ drop to text =
-    drop-drop (to - from) from text ∙ ap (λ i. drop i text) e in
-    before_all 35 (slice_range text from to)
-    (none_before (to - from) (drop from text) (r.after_is ∙ sym (ap (after 35) d)))
+in_front {text} {bytes} {from} {to} r = grind (arith, drop-drop, before_all, none_before)
 
 -- The steps of a walk.
 
 -- the same block of the same text
 block_as : {text text' : List ℕ} {base base' seen seen' marks marks' : ℕ} → text' ≡ text → base' ≡ base → seen' ≡ seen
     → marks' ≡ marks → IsBlock text base seen marks → IsBlock text' base' seen' marks'
-block_as {text} {text'} {base} {base'} {seen} {seen'} {marks} {marks'} t b s m k =
-    let P : List ℕ → Type 0 = λ x. IsBlock x base' seen' marks' in
-    let Q : ℕ → Type 0 = λ x. IsBlock text x seen' marks' in
-    let R : ℕ → Type 0 = λ x. IsBlock text base x marks' in
-    let S : ℕ → Type 0 = λ x. IsBlock text base seen x in
-    subst P (sym t) (subst Q (sym b) (subst R (sym s) (subst S (sym m) k)))
+block_as {text} {text'} {base} {base'} {seen} {seen'} {marks} {marks'} t b s m k = grind arith
 
 -- a walk with the same text and block can go on at a later index, if the bytes read are within the bound there
 pub looking_as : {c c' : Cursor} {place more : ℕ} (place' more' : ℕ) → Looking c place more → text_of c' ≡ text_of c
     → c'.base ≡ c.base → c'.seen ≡ c.seen → c'.marks ≡ c.marks → place ≤ place' → place' ≤ length (text_of c)
     → c'.source.looks + more' ≤ paid_looks (text_of c) c.seen place' → Looking c' place' more'
-looking_as {c} {c'} {place} {more} place' more' k t b s m f w l =
-    let e = k.base_le in
-    let n = ap length t in
-    let p : paid_looks (text_of c') c'.seen place' ≡ paid_looks (text_of c) c.seen place' =
-    ap (λ x. paid_looks x c'.seen place') t ∙ ap (λ x. paid_looks (text_of c) x place') s in
-    record {
-      block = block_as t b s m k.block;
-      base_le = omega arith;
-      within = omega arith;
-      looks_are_paid =
-          omega arith;
-    }
+looking_as {c} {c'} {place} {more} place' more' k t b s m f w l = grind (arith, block_as)
 
 -- a walk that changes nothing but the number of bytes read, which does not become smaller, keeps its block
 pub keeps : {c c' : Cursor} → text_of c' ≡ text_of c → c.source.looks ≤ c'.source.looks → c'.base ≡ c.base
     → c'.seen ≡ c.seen → c'.marks ≡ c.marks → c'.place ≡ c.place → c'.ahead ≡ c.ahead → KeepsBlock c c'
-keeps t l b s m p a =
-    record {
-      stays = record { on = record { text_stays = t; looks_grow = l }; place_stays = p; ahead_stays = a };
-      base_stays = b;
-      seen_stays = s;
-      marks_stay = m;
-    }
+keeps t l b s m p a = grind arith
 
 looking_kept : {c c' : Cursor} {place more : ℕ} (place' more' : ℕ) → Looking c place more → KeepsBlock c c'
     → place ≤ place' → place' ≤ length (text_of c) → c'.source.looks + more' ≤ paid_looks (text_of c) c.seen place'
     → Looking c' place' more'
-looking_kept place' more' k h f w l = looking_as place' more' k h.stays.on.text_stays h.base_stays h.seen_stays
-    h.marks_stay f w l
+looking_kept place' more' k h f w l = grind (arith, looking_as)
 
 -- What is at a mark
 
@@ -237,18 +202,12 @@ looked k w e = record { looking = k; within = w; byte_is = e }
 -- two digits in an equal text are two digits in the text
 pub digits_in : {text same : List ℕ} {place looks looks' value end last : ℕ} → same ≡ text → looks' ≡ looks
     → DigitsFound same place looks' value end last → DigitsFound text place looks value end last
-digits_in {text} {same} {place} {looks} {looks'} {value} {end} {last} e n d =
-    let P : List ℕ → Type 0 = λ t. DigitsFound t place looks value end last in
-    let Q : ℕ → Type 0 = λ l. DigitsFound same place l value end last in
-    subst P e (subst Q n d)
+digits_in {text} {same} {place} {looks} {looks'} {value} {end} {last} e n d = grind arith
 
 -- if there are not two digits in an equal text, there are not in the text (found by `search`)
 pub no_digits_in : {text same : List ℕ} {place looks looks' last : ℕ} → same ≡ text → looks' ≡ looks
     → NoDigits same place looks' last → NoDigits text place looks last
-no_digits_in {text} {same} {place} {looks} {looks'} {last} e n d =
-    let P : List ℕ → Type 0 = λ t. NoDigits t place looks last in
-    let Q : ℕ → Type 0 = λ l. NoDigits same place l last in
-    subst P e (subst Q n d)
+no_digits_in {text} {same} {place} {looks} {looks'} {last} e n d = grind arith
 
 -- the escape of a '%' was found
 pub stop_escape : {c c' : Cursor} {mark b value end : ℕ} → Looked c mark b → b ≡ 37 → KeepsBlock c c'
@@ -367,16 +326,7 @@ pub record Searching (c0 c : Cursor) (from : ℕ) : Type 0 where
 
 -- a walk that can go on at its index begins a search there
 pub searching_none : {c : Cursor} → Looking c c.place 0 → Searching c c c.place
-searching_none {c} k =
-    let P : List ℕ → Type 0 = λ s. Reads (text_of c) c.place c.place s in
-    record {
-      looking = k;
-      on = record { text_stays = refl; looks_grow = omega arith };
-      passed = reads_none (text_of c) c.place k.within;
-      stretch = subst P (sym (slice_none (text_of c) c.place)) (reads_none (text_of c) c.place k.within);
-      skipped = skipped_none (text_of c) c.place;
-      kept = without_tabs_none (text_of c) c.place;
-    }
+searching_none {c} k = grind (arith, reads_none, slice_none, skipped_none, without_tabs_none)
 
 -- the stretch reaches a mark
 pub record Reached (c0 c : Cursor) (mark : ℕ) : Type 0 where
@@ -388,11 +338,7 @@ pub record Reached (c0 c : Cursor) (mark : ℕ) : Type 0 where
 
 -- two steps, one after the other, keep the text and do not make the number of bytes read smaller, if each does so
 pub on_then : {a b c : Cursor} → LooksOn a b → LooksOn b c → LooksOn a c
-on_then h k = record {
-  text_stays = k.text_stays ∙ h.text_stays;
-  looks_grow = let x = h.looks_grow in let y =
-      k.looks_grow in omega arith;
-}
+on_then h k = grind arith
 
 stretch_on : {text : List ℕ} {place from to : ℕ} → Reads text place from (slice_range text place from)
     → Reads text from to (slice_range text from to) → Reads text place to (slice_range text place to)
@@ -431,53 +377,24 @@ reached {c0} {c} {c1} {c2} {from} {mark} s m a b =
 pub search_percent : {c0 c : Cursor} {mark : ℕ} → Reached c0 c mark → LonePercent (text_of c) mark
     → Looking c (mark + 1) 0 → Searching c0 c (mark + 1)
 search_percent {c0} {c} {mark} r p k =
-    let text : text_of c ≡ text_of c0 = r.on.text_stays in
-    let P : List ℕ → Type 0 = λ t. LonePercent t mark in
-    let q : LonePercent (text_of c0) mark = subst P text p in
-    let Q : List ℕ → Type 0 = λ s. Reads (text_of c0) mark (mark + 1) s in
-    let one : 37 ∷ [] ≡ slice_range (text_of c0) mark (mark + 1) = ap (λ b. b ∷ []) (sym q.percent)
-    ∙ sym (slice_one (text_of c0) mark q.within) in
-    let tab : is_tab_or_newline (get_or (text_of c0) mark 0) ≡ false = ap is_tab_or_newline q.percent in
-    let f = r.stretch.few in
-    record {
-      looking = k;
-      on = r.on;
-      passed = r.passed;
-      stretch = stretch_on r.stretch (subst Q one (reads_percent q));
-      skipped = r.skipped;
-      kept = without_tabs_then (text_of c0) c.place mark (mark + 1) (omega arith) (omega arith) r.kept
-          (without_tabs_byte (text_of c0) mark q.within tab);
-    }
+    grind (arith, slice_one, stretch_on, reads_percent, without_tabs_then, without_tabs_byte)
 
 -- a tab or newline before the stretch is skipped
 pub search_passed : {c0 c : Cursor} (c' : Cursor) {mark : ℕ} → Reached c0 c mark → IsPassed (text_of c) mark
     → Looking c (mark + 1) 0 → mark ≡ c.place → text_of c' ≡ text_of c → c'.source.looks ≡ c.source.looks
     → c'.base ≡ c.base → c'.seen ≡ c.seen → c'.marks ≡ c.marks → c'.place ≡ mark + 1 → Searching c0 c' (mark + 1)
 search_passed {c0} {c} c' {mark} r p k e t n b s m a =
-    let text : text_of c ≡ text_of c0 = r.on.text_stays in
-    let P : List ℕ → Type 0 = λ x. IsPassed x mark in
-    let q : IsPassed (text_of c0) mark = subst P text p in
-    let Q : ℕ → Type 0 = λ x. Reads (text_of c0) c0.place x [] in
-    let first : Reads (text_of c0) c0.place mark [] = subst Q (sym e) r.passed in
-    let both : Reads (text_of c0) c0.place (mark + 1) [] = reads_then first (reads_passed q.within q.passed) in
-    let l = k.looks_are_paid in
-    let w = both.within in
-    let S : ℕ → Type 0 = λ x. Reads (text_of c0) x (mark + 1) (slice_range (text_of c0) x (mark + 1)) in
-    let T : List ℕ → Type 0 = λ x. Reads (text_of c0) (mark + 1) (mark + 1) x in
-    let U : ℕ → Type 0 = λ x. IsSkipped (text_of c0) c0.place x in
-    let V : ℕ → Type 0 = λ x. IsWithoutTabs (text_of c0) x (mark + 1) in
-    let f = first.few in
-    record {
-      looking = looking_as (mark + 1) 0 k t b s m (omega arith) k.within (omega arith);
-      on = record { text_stays = t ∙ text; looks_grow = let g = r.on.looks_grow in omega arith };
-      passed = subst Q (sym a) both;
-      stretch = subst S (sym a) (subst T (sym (slice_none (text_of c0) (mark + 1)))
-          (reads_none (text_of c0) (mark + 1) w));
-      skipped = subst U (sym a) (skipped_then (text_of c0) c0.place mark (mark + 1) (omega arith) (omega arith)
-          (subst U (sym e) r.skipped)
-          (skipped_byte (text_of c0) mark q.within q.passed));
-      kept = subst V (sym a) (without_tabs_none (text_of c0) (mark + 1));
-    }
+    grind (
+      arith,
+      reads_then,
+      reads_passed,
+      looking_as,
+      slice_none,
+      reads_none,
+      skipped_then,
+      skipped_byte,
+      without_tabs_none,
+    )
 
 -- Pieces
 
@@ -500,30 +417,11 @@ stops_end (b ∷ s) h = ap (λ v. is_slice_end (v ∷ s)) h
 slice_piece : {c0 c : Cursor} {mark to : ℕ} {bytes : List ℕ} → Reached c0 c mark → mark ≢ c.place
     → Reads (text_of c0) mark to [] → IsSkipped (text_of c0) mark to → bytes ≡ slice_range (text_of c) c.place mark
     → is_slice_end (drop mark (text_of c0)) ≡ true → IsStretch (text_of c0) c0.place to bytes
-slice_piece {c0} {c} {mark} {to} {bytes} r n after skipped e h =
-    let f = r.passed.few in
-    let g = r.stretch.few in
-    let a = after.few in
-    let is : bytes ≡ slice_range (text_of c0) c.place mark = e ∙ ap (λ t. slice_range t c.place mark) r.on.text_stays in
-    record {
-      start = c.place;
-      end = mark;
-      from_le = omega arith;
-      nonempty = omega arith;
-      to_le = omega arith;
-      skipped_before = r.skipped;
-      slice_is = is;
-      without_tabs = ap without_tabs_and_newlines is ∙ r.kept ∙ sym is;
-      stops_there = h;
-      skipped_after = skipped;
-      in_front = in_front (reads_then (reads_then r.passed r.stretch) after);
-    }
+slice_piece {c0} {c} {mark} {to} {bytes} r n after skipped e h = grind (arith, in_front, reads_then)
 
 slice_read : {c0 c : Cursor} {mark : ℕ} {bytes : List ℕ} → Reached c0 c mark
     → bytes ≡ slice_range (text_of c) c.place mark → Reads (text_of c0) c0.place mark bytes
-slice_read {c0} {c} {mark} {bytes} r e =
-    let P : List ℕ → Type 0 = λ s. Reads (text_of c0) c0.place mark s in
-    subst P (sym (e ∙ ap (λ t. slice_range t c.place mark) r.on.text_stays)) (reads_then r.passed r.stretch)
+slice_read {c0} {c} {mark} {bytes} r e = grind (arith, reads_then)
 
 -- a walk that was only moved to another place
 moved_on : {c0 c : Cursor} (place : ℕ) (ahead : Ahead) → LooksOn c0 c
@@ -536,64 +434,38 @@ IsCut c0 c mark p = (bytes_of p ≡ slice_range (text_of c) c.place mark)
 
 piece_in : {c0 c : Cursor} (mark : ℕ) {to : ℕ} (p : Piece) → LooksOn c0 c → IsCut c0 c mark p
     → IsStretch (text_of c0) c0.place to (bytes_of p) → IsPiece (text_of c0) c0.place to p
-piece_in {c0} {c} mark {to} p on cut s =
-    let P : List ℕ → Type 0 = λ t. IsStretch t c0.place to (bytes_of p) in
-    let Q : List ℕ → Type 0 = λ t. IsPiece t c0.place to p in
-    subst Q on.text_stays (cut.1 c0.place to (subst P (sym on.text_stays) s))
+piece_in {c0} {c} mark {to} p on cut s = grind arith
 
 -- the stretch up to a tab or newline is a piece, and the walk goes on after the tab or newline
 pub slice_passed : {c0 c : Cursor} {mark : ℕ} (p : Piece) → Reached c0 c mark → IsPassed (text_of c) mark
     → mark ≢ c.place → IsCut c0 c mark p → GoesOn c0 (Some p) (record c { place = mark + 1; ahead = Unknown })
 slice_passed {c0} {c} {mark} p r h n cut =
-    let text : text_of c ≡ text_of c0 = r.on.text_stays in
-    let P : List ℕ → Type 0 = λ x. IsPassed x mark in
-    let q : IsPassed (text_of c0) mark = subst P text h in
-    let stop = stops_tab (drop mark (text_of c0)) (get_or (text_of c0) mark 0) (drop (mark + 1) (text_of c0))
-    (drop_more (text_of c0) mark 0 q.within) q.passed in
-    let R : List ℕ → Type 0 = λ s. Reads (text_of c0) c0.place (mark + 1) s in
-    record {
-      on = moved_on (mark + 1) Unknown r.on;
-      reads = subst R (append-nil (bytes_of p)) (reads_then (slice_read r cut.0) (reads_passed q.within q.passed));
-      piece = piece_in mark p r.on cut (slice_piece r n (reads_passed q.within q.passed)
-          (skipped_byte (text_of c0) mark q.within q.passed) cut.0 stop);
-      ended = tt;
-    }
+    grind (
+      arith,
+      stops_tab,
+      drop_more,
+      moved_on,
+      append-nil,
+      reads_then,
+      slice_read,
+      reads_passed,
+      piece_in,
+      slice_piece,
+      skipped_byte,
+    )
 
 -- the stretch up to an escape is a piece, and the walk goes on with the escape
 pub slice_escape : {c0 c : Cursor} {mark value end : ℕ} (p : Piece) → Reached c0 c mark
     → EscapeAt (text_of c) mark value end → mark ≢ c.place → IsCut c0 c mark p
     → GoesOn c0 (Some p) (record c { place = mark; ahead = Escape value end })
 slice_escape {c0} {c} {mark} {value} {end} p r h n cut =
-    let text : text_of c ≡ text_of c0 = r.on.text_stays in
-    let P : List ℕ → Type 0 = λ x. EscapeAt x mark value end in
-    let q : EscapeAt (text_of c0) mark value end = subst P text h in
-    let some = q.some in
-    let within = q.within in
-    let here : drop mark (text_of c0) ≡ 37 ∷ drop (mark + 1) (text_of c0) = drop_more (text_of c0) mark 0 (omega arith)
-    ∙ ap (λ v. v ∷ drop (mark + 1) (text_of c0)) q.percent in
-    let stop = stops_percent (drop mark (text_of c0)) (drop (mark + 1) (text_of c0)) (value, drop end (text_of c0)) here
-    q.value_is in
-    record {
-      on = moved_on mark (Escape value end) r.on;
-      reads = slice_read r cut.0;
-      piece = piece_in mark p r.on cut (slice_piece r n (reads_none (text_of c0) mark r.stretch.within)
-          (skipped_none (text_of c0) mark) cut.0 stop);
-      ended = tt;
-    }
+    grind (arith, drop_more, stops_percent, moved_on, slice_read, piece_in, slice_piece, reads_none, skipped_none)
 
 -- the stretch up to the end of the body is a piece, and the walk ends
 pub slice_end : {c0 c : Cursor} {mark : ℕ} (p : Piece) → Reached c0 c mark → Ended c mark → mark ≢ c.place
     → IsCut c0 c mark p → GoesOn c0 (Some p) (record c { place = mark; ahead = End })
 slice_end {c0} {c} {mark} p r h n cut =
-    let P : List ℕ → Type 0 = λ x. BeginsFragment (drop mark x) in
-    let begins : BeginsFragment (drop mark (text_of c0)) = subst P r.on.text_stays h.ends.begins in
-    record {
-      on = moved_on mark End r.on;
-      reads = slice_read r cut.0;
-      piece = piece_in mark p r.on cut (slice_piece r n (reads_none (text_of c0) mark r.stretch.within)
-          (skipped_none (text_of c0) mark) cut.0 (stops_end (drop mark (text_of c0)) begins));
-      ended = tt;
-    }
+    grind (arith, moved_on, slice_read, piece_in, slice_piece, reads_none, skipped_none, stops_end)
 
 -- an escape at the index of the walk is a piece, and the walk goes on after it
 pub byte_here : {c0 c : Cursor} {mark value end : ℕ} → Reached c0 c mark → EscapeAt (text_of c) mark value end
@@ -639,17 +511,11 @@ reads_in {text} {same} {bytes} {from} {to} e r = let P : List ℕ → Type 0 = �
 
 stretch_from : {text same slice : List ℕ} {from from' to : ℕ} → same ≡ text → from' ≡ from
     → IsStretch same from' to slice → IsStretch text from to slice
-stretch_from {text} {same} {slice} {from} {from'} {to} t e s =
-    let P : List ℕ → Type 0 = λ x. IsStretch x from' to slice in
-    let Q : ℕ → Type 0 = λ x. IsStretch text x to slice in
-    subst Q e (subst P t s)
+stretch_from {text} {same} {slice} {from} {from'} {to} t e s = grind arith
 
 escape_from : {text same : List ℕ} {from from' to byte : ℕ} → same ≡ text → from' ≡ from → IsEscape same from' to byte
     → IsEscape text from to byte
-escape_from {text} {same} {from} {from'} {to} {byte} t e s =
-    let P : List ℕ → Type 0 = λ x. IsEscape x from' to byte in
-    let Q : ℕ → Type 0 = λ x. IsEscape text x to byte in
-    subst Q e (subst P t s)
+escape_from {text} {same} {from} {from'} {to} {byte} t e s = grind arith
 
 piece_of : (p : Piece) {text same : List ℕ} {from from' : ℕ} (to : ℕ) → same ≡ text → from' ≡ from
     → IsPiece same from' to p → IsPiece text from to p
@@ -664,15 +530,7 @@ piece_from (Some p) to on e h = piece_of p to on.text_stays e h
 -- a walk that has only read its text goes on as the one before (found by `search`)
 pub goes_then : {c c1 c2 : Cursor} {next : Option Piece} → LooksOn c c1 → c1.place ≡ c.place → GoesOn c1 next c2
     → GoesOn c next c2
-goes_then {c} {c1} {c2} {next} on e g =
-    let text = on.text_stays in
-    let P : ℕ → Type 0 = λ p. Reads (text_of c) p c2.place (bytes_of_next next) in
-    record {
-      on = on_then on g.on;
-      reads = subst P e (reads_in text g.reads);
-      piece = piece_from next c2.place on e g.piece;
-      ended = g.ended;
-    }
+goes_then {c} {c1} {c2} {next} on e g = grind (arith, on_then, reads_in, piece_from)
 
 -- what is true of every walk stays true if the walk goes on, and what its `ahead` says is true
 pub knows_on : {c c' : Cursor} {next : Option Piece} → Knows c → GoesOn c next c' → KnowsAhead c' c'.ahead → Knows c'
@@ -734,12 +592,7 @@ begun_fragment (b ∷ s) h = ap (λ v. after 35 (v ∷ s)) h ∙ after_same 35 s
 
 -- where a walk ends, the body of its text ends
 pub body_end : {c : Cursor} → Knows c → Ended c c.place → IsBodyEnd (text_of c) c.place
-body_end {c} k h = record {
-  within = h.ends.within;
-  begins = h.ends.begins;
-  after_is = k.after_is
-      ∙ begun_fragment (drop c.place (text_of c)) h.ends.begins;
-}
+body_end {c} k h = grind (arith, begun_fragment)
 
 -- a walk that is at the end of its text has no fragment
 pub no_fragment : {c : Cursor} → Knows c → c.place ≡ length (text_of c)
@@ -749,36 +602,17 @@ no_fragment {c} k e = sym (k.after_is ∙ ap (after 35) (drop_all c.place (text_
 -- a walk that ends, but not at the end of its text, is at a '#'
 pub hash_at : {c : Cursor} → Ended c c.place → (c.place ≡ length (text_of c) → ⊥) → (c.place < length (text_of c))
     × (get_or (text_of c) c.place 0 ≡ 35)
-hash_at {c} h n =
-    let w = h.ends.within in
-    let l : c.place < length (text_of c) = elim (cases_lt c.place (length (text_of c))) [
-      | inl e ↦ e
-      | inr e ↦
-          absurd (n (omega arith))
-    ] in
-    let P : List ℕ → Type 0 = BeginsFragment in
-    let b : BeginsFragment (get_or (text_of c) c.place 0 ∷ drop (c.place + 1) (text_of c)) =
-    subst P (drop_more (text_of c) c.place 0 l) h.ends.begins in
-    (l, b)
+hash_at {c} h n = grind (arith, cases_lt, drop_more)
 
 -- if a walk ends, but not at the end of its text, the fragment is what follows the '#' at its index
 pub some_fragment : {c : Cursor} → Knows c → Ended c c.place → (c.place ≡ length (text_of c) → ⊥)
     → Some (drop (c.place + 1) (text_of c)) ≡ after 35 (text_of c)
-some_fragment {c} k h n =
-    let at = hash_at h n in
-    sym (k.after_is ∙ begun_fragment (drop c.place (text_of c)) h.ends.begins
-    ∙ ap rest_fragment (drop_more (text_of c) c.place 0 at.0))
+some_fragment {c} k h n = grind (arith, hash_at, begun_fragment, drop_more)
 
 -- whether a walk can go on at an index does not depend on its own index or its `ahead`
 pub moved_looking : {c : Cursor} {place more : ℕ} (p : ℕ) (a : Ahead) → Looking c place more
     → Looking (record c { place = p; ahead = a }) place more
-moved_looking p a k = record {
-  block = k.block;
-  base_le = k.base_le;
-  within = k.within;
-  looks_are_paid =
-      k.looks_are_paid;
-}
+moved_looking p a k = grind arith
 
 -- if `ahead` is a, and what it says is true, what a says is true
 pub ahead_at : (c : Cursor) (a : Ahead) → KnowsAhead c c.ahead → c.ahead ≡ a → KnowsAhead c a
@@ -792,52 +626,23 @@ ahead_is c a e k = let P : Ahead → Type 0 = λ x. KnowsAhead c x in subst P (s
 
 -- nothing is gathered
 pub gathers_none : (c : Cursor) (room : List ℕ) (len : ℕ) → c.place ≤ length (text_of c) → Gathers c c room room len len
-gathers_none c room len w = record {
-  bytes = [];
-  on = record { text_stays = refl; looks_grow = omega arith };
-  reads = reads_none (text_of c) c.place w;
-  room_is = sym (append-nil (take len room));
-  len_is = omega arith;
-}
+gathers_none c room len w = grind (arith, reads_none, append-nil)
 
 -- what is gathered in two steps, one after the other, is gathered in both together
 pub gathers_then : {c c1 c2 : Cursor} {room room1 room2 : List ℕ} {len len1 len2 : ℕ} → Gathers c c1 room room1 len len1
     → Gathers c1 c2 room1 room2 len1 len2 → Gathers c c2 room room2 len len2
 gathers_then {c} {c1} {c2} {room} {room1} {room2} {len} {len1} {len2} g h =
-    let l = length-append g.bytes h.bytes in
-    let m = g.len_is in
-    let n = h.len_is in
-    record {
-      bytes = g.bytes ++ h.bytes;
-      on = on_then g.on h.on;
-      reads = reads_then g.reads (reads_in g.on.text_stays h.reads);
-      room_is = h.room_is ∙ ap (λ s. s ++ h.bytes) g.room_is ∙ append_assoc (take len room) g.bytes h.bytes;
-      len_is = omega arith;
-    }
+    grind (arith, length-append, on_then, reads_then, reads_in, append_assoc)
 
 -- one byte is appended to the buffer
 pub gathers_byte : {c c' : Cursor} {room : List ℕ} {len b : ℕ} → LooksOn c c'
     → Reads (text_of c) c.place c'.place (b ∷ []) → len < length room → Gathers c c' room (set room len b) len (len + 1)
-gathers_byte {c} {c'} {room} {len} {b} on r l = record {
-  bytes = b ∷ [];
-  on = on;
-  reads = r;
-  room_is =
-      take_more_set room len b l;
-  len_is = refl;
-}
+gathers_byte {c} {c'} {room} {len} {b} on r l = grind (arith, take_more_set)
 
 -- only the walk goes on, and nothing is written (found by `search`)
 pub gathers_nothing : {c c' : Cursor} {room : List ℕ} {len : ℕ} → LooksOn c c' → Reads (text_of c) c.place c'.place []
     → Gathers c c' room room len len
-gathers_nothing {c} {c'} {room} {len} on r = record {
-  bytes = [];
-  on = on;
-  reads = r;
-  room_is =
-      sym (append-nil (take len room));
-  len_is = omega arith;
-}
+gathers_nothing {c} {c'} {room} {len} on r = grind (arith, append-nil)
 
 -- a stretch is copied
 pub gathers_slice : {c c' : Cursor} {room room' : List ℕ} {len : ℕ} (width : ℕ) → LooksOn c c'
@@ -860,10 +665,7 @@ gathers_slice {c} {c'} {room} {room'} {len} width on e w clear h =
 
 room_on : {c c' : Cursor} {len : ℕ} → HasRoom c len → len < 256 → c.place < c'.place → c'.seen ≡ c.seen
     → HasRoom c' (len + 1)
-room_on {c} {c'} {len} h l m s = record {
-  some = omega arith;
-  for_block = λ k. let p : c.place < c.seen = omega arith in let q = h.for_block p in omega arith;
-}
+room_on {c} {c'} {len} h l m s = grind arith
 
 -- the value of an escape directly after another one
 pub gathers_escape : {c0 c c' : Cursor} {room0 room : List ℕ} {len0 len value : ℕ} → Gathers c0 c room0 room len0 len
@@ -886,8 +688,7 @@ pub record Went (c c1 c' : Cursor) (place : ℕ) : Type 0 where
   pub place_is : c'.place ≡ place
 
 went_on : {c c1 c' : Cursor} {place : ℕ} → Went c c1 c' place → LooksOn c c'
-went_on w = let g = w.on.looks_grow in let l = w.looks_are in
-    record { text_stays = w.text_is ∙ w.on.text_stays; looks_grow = omega arith }
+went_on w = grind arith
 
 reads_to : {text : List ℕ} {from to to' : ℕ} {bytes : List ℕ} → to' ≡ to → Reads text from to bytes
     → Reads text from to' bytes
@@ -896,24 +697,18 @@ reads_to {text} {from} {to} {to'} {bytes} e r = let P : ℕ → Type 0 = λ x. R
 -- a walk that goes on after a '%' that does not begin an escape appends the '%'
 pub gathers_percent : {c c1 c' : Cursor} {room : List ℕ} {len : ℕ} → Went c c1 c' (c.place + 1)
     → LonePercent (text_of c1) c.place → len < length room → Gathers c c' room (set room len 37) len (len + 1)
-gathers_percent {c} {c1} {c'} {room} {len} w p l =
-    let P : List ℕ → Type 0 = λ t. LonePercent t c.place in
-    gathers_byte (went_on w) (reads_to w.place_is (reads_percent (subst P w.on.text_stays p))) l
+gathers_percent {c} {c1} {c'} {room} {len} w p l = grind (arith, gathers_byte, went_on, reads_to, reads_percent)
 
 -- a walk that goes on after a tab or newline appends nothing
 pub gathers_passed : {c c1 c' : Cursor} {room : List ℕ} {len : ℕ} → Went c c1 c' (c.place + 1)
     → IsPassed (text_of c1) c.place → Gathers c c' room room len len
-gathers_passed {c} {c1} {c'} {room} {len} w p =
-    let P : List ℕ → Type 0 = λ t. IsPassed t c.place in
-    let q : IsPassed (text_of c) c.place = subst P w.on.text_stays p in
-    gathers_nothing (went_on w) (reads_to w.place_is (reads_passed q.within q.passed))
+gathers_passed {c} {c1} {c'} {room} {len} w p = grind (arith, gathers_nothing, went_on, reads_to, reads_passed)
 
 -- a walk that goes on after an escape appends its value
 pub gathers_value : {c c1 c' : Cursor} {room : List ℕ} {len value end : ℕ} → Went c c1 c' end
     → EscapeAt (text_of c1) c.place value end → len < length room → Gathers c c' room (set room len value) len (len + 1)
 gathers_value {c} {c1} {c'} {room} {len} {value} {end} w p l =
-    let P : List ℕ → Type 0 = λ t. EscapeAt t c.place value end in
-    gathers_byte (went_on w) (reads_to w.place_is (reads_escape (subst P w.on.text_stays p))) l
+    grind (arith, gathers_byte, went_on, reads_to, reads_escape)
 
 -- the walk goes on in its block, if there is no mark before a place
 pub may_at : {c : Cursor} {len : ℕ} (width : ℕ) → MayGather c len → c.place < c.seen → c.place + width ≤ c.seen
@@ -946,11 +741,7 @@ pub gathers_block : {c c' : Cursor} {room room' : List ℕ} {len : ℕ} → MayG
     → IsClear (text_of c) c.place c.seen → LooksOn c c' → c'.place ≡ c.seen
     → take (len + (c.seen - c.place)) room' ≡ take len room ++ slice_range (text_of c) c.place
     (c.place + (c.seen - c.place)) → Gathers c c' room room' len (len + (c.seen - c.place))
-gathers_block {c} {c'} {room} {room'} {len} m h clear on e k =
-    let n : c.place + (c.seen - c.place) ≡ c.seen = omega arith in
-    let C : ℕ → Type 0 = λ x. IsClear (text_of c) c.place x in
-    let w = m.looking.block.seen_le in
-    gathers_slice (c.seen - c.place) on (omega arith) (omega arith) (subst C (sym n) clear) k
+gathers_block {c} {c'} {room} {room'} {len} m h clear on e k = grind (arith, gathers_slice)
 
 -- how far the walk still has to go, and whether it is at the end
 abbrev pub measure : ℕ → ℕ → Bool → ℕ
@@ -965,13 +756,7 @@ smaller_by total place place' false l w m = omega arith
 pub smaller : (c0 : Cursor) {c1 c' : Cursor} {room room' : List ℕ} {len len' : ℕ} (total : ℕ) → c0.ahead ≡ Unknown
     → c1.place ≡ c0.place → length (text_of c1) ≡ total → Moves c1 c' → Gathers c1 c' room room' len len'
     → measure total c'.place (has_ended c'.ahead) < measure total c0.place (has_ended c0.ahead)
-smaller c0 {c1} {c'} {room} {room'} {len} {len'} total u p t m g =
-    let f = g.reads.few in
-    let w = g.reads.within in
-    let k = smaller_by total c1.place c'.place (has_ended c'.ahead) (omega arith) (omega arith) m in
-    let e : measure total c1.place false ≡ measure total c0.place (has_ended c0.ahead) =
-    ap (λ x. measure total x false) p ∙ ap (λ a. measure total c0.place (has_ended a)) (sym u) in
-    omega arith
+smaller c0 {c1} {c'} {room} {room'} {len} {len'} total u p t m g = grind (arith, smaller_by)
 
 -- The contract of a walk.
 
@@ -986,13 +771,7 @@ over_rest (Some p) g k = tt
 
 some_bytes : (p : Piece) (text : List ℕ) (from to : ℕ) → to ≤ length text → IsPiece text from to p
     → 0 < length (bytes_of p)
-some_bytes (Slice slice) text from to w h =
-    let a = h.nonempty in
-    let b = h.to_le in
-    let d = length-drop h.start text in
-    let long : length slice.now ≡ h.end - h.start = ap length h.slice_is
-    ∙ length-take-le (h.end - h.start) (drop h.start text) (omega arith) in
-    omega arith
+some_bytes (Slice slice) text from to w h = grind (arith, length-drop, length-take-le)
 some_bytes (Byte byte) text from to w h = omega arith
 
 -- a piece has at least one byte
@@ -1010,12 +789,9 @@ again (Some p) {c} {c'} k g e =
     absurd (omega arith)
 
 looks_cases : (c : Cursor) (a : Ahead) → KnowsAhead c a → c.source.looks ≤ 3 * length (text_of c)
-looks_cases c Unknown k = let l = k.looks_are_paid in let m =
-    paid_le (text_of c) c.seen c.place k.block.seen_le k.within in omega arith
-looks_cases c AfterEscape k = let l = k.looks_are_paid in let m =
-    paid_le (text_of c) c.seen c.place k.block.seen_le k.within in omega arith
-looks_cases c (Escape value end) k = let l = k.1.looks_are_paid in let m =
-    paid_le (text_of c) c.seen end k.1.block.seen_le k.1.within in omega arith
+looks_cases c Unknown k = grind (arith, paid_le)
+looks_cases c AfterEscape k = grind (arith, paid_le)
+looks_cases c (Escape value end) k = grind (arith, paid_le)
 looks_cases c End k = k.few_looks
 
 -- a walk has read at most three times as many bytes as its text has
@@ -1027,58 +803,21 @@ few_looks {c} k = looks_cases c c.ahead k.ahead_is
 -- what was gathered (found by `search`)
 pub takes_gathered : {c c' : Cursor} {room0 room : List ℕ} {len : ℕ} → Gathers c c' room0 room 0 len → 0 < len
     → Takes (walk_of c) (take len room) (walk_of c')
-takes_gathered {c} {c'} {room0} {room} {len} g some =
-    let f = g.reads.few in
-    let n = g.len_is in
-    let bytes : take len room ≡ g.bytes = g.room_is in
-    let l = ap length bytes in
-    let t = ap length g.on.text_stays in
-    let w = g.reads.within in
-    record {
-      text_stays = g.on.text_stays;
-      rest_is =
-          g.reads.body ∙ ap (λ s. s ++ plain_body (drop c'.place (text_of c))) (sym bytes)
-          ∙ ap (λ t. take len room ++ plain_body (drop c'.place t)) (sym g.on.text_stays);
-      place = omega arith;
-      within = omega arith;
-      some = omega arith;
-    }
+takes_gathered {c} {c'} {room0} {room} {len} g some = grind arith
 
 -- nothing was gathered, and then came a piece
 before_next : {c c1 c2 : Cursor} {room0 room : List ℕ} {len : ℕ} {next : Option Piece} → Gathers c c1 room0 room 0 len
     → len ≡ 0
     → GoesOn c1 next c2 → Reads (text_of c) c.place c2.place (bytes_of_next next)
-before_next {c} {c1} {c2} {room0} {room} {len} {next} g e h =
-    let n = g.len_is in
-    let P : List ℕ → Type 0 = λ s. Reads (text_of c) c.place c1.place s in
-    let none : g.bytes ≡ [] = nil_from_length g.bytes (omega arith) in
-    reads_then (subst P none g.reads) (reads_in g.on.text_stays h.reads)
+before_next {c} {c1} {c2} {room0} {room} {len} {next} g e h = grind (arith, nil_from_length, reads_then, reads_in)
 
 -- if nothing was gathered, and then came a piece, the walk returns the bytes of the piece
 pub takes_next : {c c1 c2 : Cursor} {room0 room : List ℕ} {len : ℕ} (p : Piece) → Gathers c c1 room0 room 0 len
     → len ≡ 0
     → GoesOn c1 (Some p) c2 → Takes (walk_of c) (bytes_of p) (walk_of c2)
-takes_next {c} {c1} {c2} {room0} {room} {len} p g e h =
-    let r = before_next g e h in
-    let few = r.few in
-    let w = r.within in
-    let text : text_of c2 ≡ text_of c = h.on.text_stays ∙ g.on.text_stays in
-    let t = ap length text in
-    record {
-      text_stays = text;
-      rest_is = r.body ∙ ap (λ t. bytes_of p ++ plain_body (drop c2.place t)) (sym text);
-      place = omega arith;
-      within = omega arith;
-      some = piece_some h;
-    }
+takes_next {c} {c1} {c2} {room0} {room} {len} p g e h = grind (arith, before_next, piece_some)
 
 -- if nothing was gathered, and then came no piece, the walk is at its end
 pub over_next : {c c1 c2 : Cursor} {room0 room : List ℕ} {len : ℕ} → Gathers c c1 room0 room 0 len → len ≡ 0
     → GoesOn c1 None c2 → Knows c2 → IsOver (walk_of c) (walk_of c2)
-over_next {c} {c1} {c2} g e h k =
-    let text : text_of c2 ≡ text_of c = h.on.text_stays ∙ g.on.text_stays in
-    record {
-      text_stays = text;
-      rest_is = (before_next g e h).body ∙ ap (λ t. plain_body (drop c2.place t)) (sym text) ∙ rest_over k h.ended;
-      ended = h.ended;
-    }
+over_next {c} {c1} {c2} g e h k = grind (arith, before_next, rest_over)

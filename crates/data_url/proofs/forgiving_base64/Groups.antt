@@ -80,35 +80,25 @@ symbols_alone (b ∷ s) h = let p = and_parts (is_symbol b) (list_all is_symbol 
 
 -- if each byte of s is at most 255, so is each of its first n bytes
 pub fits_take : (n : ℕ) (s : List ℕ) → ((i : ℕ) → Fits w8 (get_or s i 0)) → (i : ℕ) → Fits w8 (get_or (take n s) i 0)
-fits_take n s fits i =
-    elim (cases_lt i n) [
-      | inl l ↦ subst (Fits w8) (sym (get_or-take n s i 0 l)) (fits i)
-      | inr l ↦ subst (Fits w8) (sym (get_or_past (take n s) i 0 (omega (arith, length-take n s))))
-          (record { fits = omega arith })
-    ]
+fits_take n s fits i = grind (arith, cases_lt, w8, get_or-take, get_or_past, length-take)
 
 -- the groups of the first symbols of n bytes
 pub fill_symbols : (held block : List ℕ) (n m : ℕ) → n ≤ length block → 4 * m ≤ n
     → ((i : ℕ) → Fits w8 (get_or block i 0)) → list_all is_symbol (take (4 * m) block) ≡ true
     → Fills held block (4 * m) (held ++ take (3 * m) (groups (map value_of (take n block))))
 fill_symbols held block n m long few fits all =
-    let text = take (4 * m) block in
-    let size : length text ≡ 4 * m = length-take-le (4 * m) block (omega arith) in
-    let is = values_symbols text all in
-    record {
-      within = omega arith;
-      more = take (3 * m) (groups (map value_of (take n block)));
-      are = record {
-        alone = symbols_alone text all;
-        whole = omega (arith, ap length is, length-map text symbol_value, size);
-        bytes_are =
-            take_groups m (map value_of (take n block))
-            (omega (arith, length-map (take n block) value_of, length-take-le n block long))
-            ∙ ap groups (take-map value_of (4 * m) (take n block) ∙ ap (map value_of) (take-take (4 * m) n block few)
-            ∙ symbols_values text (fits_take (4 * m) block fits) all ∙ sym is);
-      };
-      held_are = refl;
-    }
+    grind (
+      arith,
+      length-take-le,
+      values_symbols,
+      symbols_alone,
+      length-map,
+      take_groups,
+      take-map,
+      take-take,
+      symbols_values,
+      fits_take,
+    )
 
 -- the first c groups of a row that was written after g groups
 pub row_held : (old new bytes : List ℕ) (g c : ℕ) → take (3 * g + 12) new ≡ take (3 * g) old ++ bytes
@@ -123,12 +113,7 @@ row_held old new bytes g c e within few =
 -- no group
 pub fill_none : (held text : List ℕ) → Fills held text 0 held
 unfolding groups values
-fill_none held text = record {
-  within = omega arith;
-  more = [];
-  are = record { alone = refl; whole = refl; bytes_are = refl };
-  held_are = sym (append-nil held);
-}
+fill_none held text = grind (arith, append-nil)
 
 -- one group
 pub fill_one : (held text bytes : List ℕ) → 4 ≤ length text → list_all is_symbol (take 4 text) ≡ true
@@ -140,29 +125,13 @@ fill_one held [] bytes h all e = absurd (omega arith)
 fill_one held (p ∷ []) bytes h all e = absurd (omega arith)
 fill_one held (p ∷ q ∷ []) bytes h all e = absurd (omega arith)
 fill_one held (p ∷ q ∷ r ∷ []) bytes h all e = absurd (omega arith)
-fill_one held (p ∷ q ∷ r ∷ s ∷ rest) bytes h all e =
-    let text : List ℕ = p ∷ q ∷ r ∷ s ∷ [] in
-    let is = values_symbols text all in
-    record {
-      within = h;
-      more = take 3 bytes;
-      are = record {
-        alone = symbols_alone text all;
-        whole = ap (λ l. length l % 4) is;
-        bytes_are = ap (take 3) e ∙ sym (ap groups is);
-      };
-      held_are = refl;
-    }
+fill_one held (p ∷ q ∷ r ∷ s ∷ rest) bytes h all e = grind (arith, values_symbols, symbols_alone)
 
 -- The symbols at the start
 
 -- the bytes that `prefix_len is_symbol` counts are symbols
 pub ahead_all : (s : List ℕ) → list_all is_symbol (take (prefix_len is_symbol s) s) ≡ true
-ahead_all s =
-    let n = prefix_len is_symbol s in
-    list_all-from_AllPass is_symbol (take n s) (All-from_get_or (λ x. is_symbol x ≡ true) (take n s) 0 (λ k inside.
-    let l : k < n = omega (arith, length-take n s) in
-    subst (λ x. is_symbol x ≡ true) (sym (get_or-take n s k 0 l)) (prefix_len_passes is_symbol s k 0 l)))
+ahead_all s = grind (arith, list_all-from_AllPass, length-take, get_or-take, prefix_len_passes)
 
 -- if n is the number of symbols at the start of 16 bytes of a row, n is at most 16 and the first n bytes are symbols
 pub row_ahead : (row : List ℕ) (n : ℕ) → n ≡ prefix_len is_symbol (take 16 row)
@@ -197,8 +166,7 @@ pub record Stands (a w : List ℕ) : Type 0 where
 -- the values of a ++ b are those of a and then those of b
 pub values-append : (a b : List ℕ) → values (a ++ b) ≡ values a ++ values b
 unfolding values
-values-append a b = ap (map symbol_value) (filter-append is_symbol a b) ∙ map-append symbol_value (filter is_symbol a)
-    (filter is_symbol b)
+values-append a b = grind (arith, filter-append, map-append)
 
 kind_alike : (m n : ℕ) (o : Option ℕ) → m % 4 ≡ n % 4 → kind_by m o ≡ kind_by n o
 kind_alike m n None e = rw e refl
@@ -217,91 +185,49 @@ min_alike m n k e = omega arith
 valid_by : (x y : List ℕ) → fault_byte false x ≡ fault_byte false y
     → length (filter is_symbol x) % 4 ≡ length (filter is_symbol y) % 4
     → min (length (filter is_pad x)) 3 ≡ min (length (filter is_pad y)) 3 → is_valid x ≡ is_valid y
-valid_by x y e f g =
-    elim (fault_byte false y) as (λ o. fault_byte false y ≡ o → is_valid x ≡ is_valid y) [
-      | None ↦ λ h.
-          no_fault_valid x (e ∙ h)
-          ∙ fits_min (length (filter is_symbol x) % 4) (length (filter is_pad x))
-          ∙ ap (λ r. fits_with r (min (length (filter is_pad x)) 3)) f
-          ∙ ap (fits_with (length (filter is_symbol y) % 4)) g
-          ∙ sym (fits_min (length (filter is_symbol y) % 4) (length (filter is_pad y)))
-          ∙ sym (no_fault_valid y h)
-      | Some c ↦ λ h. fault_invalid x c (e ∙ h) ∙ sym (fault_invalid y c h)
-    ] refl
+valid_by x y e f g = grind (arith, fault_byte, no_fault_valid, fits_min, is_pad, fits_with, fault_invalid)
 
 module _ (a b w : List ℕ) (st : Stands a w) where
   fault_both : fault_byte false (a ++ b) ≡ fault_byte false (w ++ b)
-  fault_both = fault-append a b false st.no_fault ∙ ap (λ s. fault_byte s b) (sym st.seen)
-      ∙ sym (fault-append w b false st.none_left)
+  fault_both = grind (arith, fault-append, fault_byte)
 
   symbols_left : (t : List ℕ) → filter is_symbol (w ++ t) ≡ after_groups (filter is_symbol a) ++ filter is_symbol t
   symbols_left t = filter-append is_symbol w t ∙ ap (λ x. x ++ filter is_symbol t) st.symbols
 
   values_left : (t : List ℕ) → values (w ++ t) ≡ after_groups (values a) ++ values t
   unfolding values
-  values_left t =
-      ap (map symbol_value) (symbols_left t)
-      ∙ map-append symbol_value (after_groups (filter is_symbol a)) (filter is_symbol t)
-      ∙ ap (λ x. x ++ map symbol_value (filter is_symbol t)) (sym (after_groups-map symbol_value (filter is_symbol a)))
+  values_left t = grind (arith, symbols_left, map-append, after_groups-map)
 
   length_symbols : length (filter is_symbol (a ++ b)) % 4 ≡ length (filter is_symbol (w ++ b)) % 4
-  length_symbols =
-      ap (λ x. length x % 4) (filter-append is_symbol a b)
-      ∙ length_alike (filter is_symbol a) (filter is_symbol b)
-      ∙ ap (λ x. length x % 4) (sym (symbols_left b))
+  length_symbols = grind (arith, filter-append, length_alike, symbols_left)
 
   length_values : length (values (a ++ b)) % 4 ≡ length (values (w ++ b)) % 4
   unfolding values
-  length_values =
-      ap (λ x. x % 4) (length-map (filter is_symbol (a ++ b)) symbol_value)
-      ∙ length_symbols
-      ∙ ap (λ x. x % 4) (sym (length-map (filter is_symbol (w ++ b)) symbol_value))
+  length_values = grind (arith, length-map, length_symbols)
 
   length_pads : min (length (filter is_pad (a ++ b))) 3 ≡ min (length (filter is_pad (w ++ b))) 3
-  length_pads =
-      ap (λ x. min (length x) 3) (filter-append is_pad a b)
-      ∙ ap (λ x. min x 3) (length-append (filter is_pad a) (filter is_pad b))
-      ∙ min_alike (length (filter is_pad a)) (length (filter is_pad w)) (length (filter is_pad b)) (sym st.pads)
-      ∙ ap (λ x. min x 3) (sym (length-append (filter is_pad w) (filter is_pad b)))
-      ∙ ap (λ x. min (length x) 3) (sym (filter-append is_pad w b))
+  length_pads = grind (arith, filter-append, is_pad, length-append, min_alike)
 
   done_first : complete_bytes a ≡ groups (values a)
   done_first = done_is a ∙ ap (λ x. groups (values x)) (before_none a false st.no_fault)
 
   -- the groups of a and then t
   groups_both : (t : List ℕ) → groups (values (a ++ t)) ≡ complete_bytes a ++ groups (values (w ++ t))
-  groups_both t =
-      ap groups (values-append a t)
-      ∙ groups-append (values a) (values t)
-      ∙ ap (λ x. x ++ groups (after_groups (values a) ++ values t)) (sym done_first)
-      ∙ ap (λ x. complete_bytes a ++ groups x) (sym (values_left t))
+  groups_both t = grind (arith, values-append, groups-append, done_first, values_left)
 
   done_both : complete_bytes (a ++ b) ≡ complete_bytes a ++ complete_bytes (w ++ b)
-  done_both =
-      done_is (a ++ b)
-      ∙ ap (λ x. groups (values x)) (before-append a b false st.no_fault)
-      ∙ groups_both (before_fault (list_any is_pad a) b)
-      ∙ ap (λ s. complete_bytes a ++ groups (values (w ++ before_fault s b))) (sym st.seen)
-      ∙ ap (λ x. complete_bytes a ++ groups (values x)) (sym (before-append w b false st.none_left))
-      ∙ ap (λ x. complete_bytes a ++ x) (sym (done_is (w ++ b)))
+  done_both = grind (arith, done_is, before-append, groups_both, before_fault, is_pad)
 
   after_both : after_groups (values (a ++ b)) ≡ after_groups (values (w ++ b))
-  after_both = ap after_groups (values-append a b) ∙ after_groups-append (values a) (values b)
-      ∙ ap after_groups (sym (values_left b))
+  after_both = grind (arith, values-append, after_groups-append, values_left)
 
   decoded_both : decoded (a ++ b) ≡ complete_bytes a ++ decoded (w ++ b)
   unfolding decoded
-  decoded_both =
-      ap (λ x. x ++ rest_bytes (after_groups (values (a ++ b)))) (groups_both b)
-      ∙ append_assoc (complete_bytes a) (groups (values (w ++ b))) (rest_bytes (after_groups (values (a ++ b))))
-      ∙ ap (λ x. complete_bytes a ++ (groups (values (w ++ b)) ++ rest_bytes x)) after_both
+  decoded_both = grind (arith, groups_both, append_assoc, after_both)
 
   left_both : left_symbols (a ++ b) ≡ left_symbols (w ++ b)
   unfolding left_symbols
-  left_both =
-      ap after_groups (filter-append is_symbol a b)
-      ∙ after_groups-append (filter is_symbol a) (filter is_symbol b)
-      ∙ ap after_groups (sym (symbols_left b))
+  left_both = grind (arith, filter-append, after_groups-append, symbols_left)
 
   padding_both : left_padding (a ++ b) ≡ left_padding (w ++ b)
   unfolding left_padding
@@ -309,17 +235,26 @@ module _ (a b w : List ℕ) (st : Stands a w) where
 
   -- given `Stands a w`, decoding b after a is the same as decoding w ++ b
   pub goes_on : GoesOn a b (w ++ b)
-  goes_on = record {
-    done_is = done_both;
-    fault_is = fault_some (a ++ b) ∙ ap is_some fault_both ∙ sym (fault_some (w ++ b));
-    kind_is = kind_is (a ++ b) ∙ ap (kind_by (length (values (a ++ b)))) fault_both
-        ∙ kind_alike (length (values (a ++ b))) (length (values (w ++ b))) (fault_byte false (w ++ b)) length_values
-        ∙ sym (kind_is (w ++ b));
-    symbols_left = left_both;
-    padding_left = padding_both;
-    valid_is = valid_by (a ++ b) (w ++ b) fault_both length_symbols length_pads;
-    decoded_is = decoded_both;
-  }
+  goes_on =
+      grind (
+        arith,
+        done_is,
+        done_both,
+        fault_some,
+        fault_both,
+        kind_is,
+        kind_by,
+        kind_alike,
+        fault_byte,
+        length_values,
+        symbols_left,
+        left_both,
+        padding_both,
+        valid_by,
+        length_symbols,
+        length_pads,
+        decoded_both,
+      )
 
 -- Decoding goes on from what is left over
 
@@ -334,17 +269,20 @@ any_min (c ∷ t) = let e : min (suc (length t)) 3 ≡ suc (min (length t) 2) = 
 pub left_stands : (a : List ℕ) → fault_byte false a ≡ None → Stands a (left_text (left_symbols a) (left_padding a))
 unfolding left_symbols left_padding
 left_stands a h =
-    let q : List ℕ = after_groups (filter is_symbol a) in
-    let p : ℕ = min (length (filter is_pad a)) 3 in
-    let every : Every is_symbol q = every_after (filter is_symbol a) (filter_every is_symbol a) in
-    record {
-      symbols = symbols_of_text q p every;
-      pads = ap (λ x. min (length x) 3) (pads_of_text q p every) ∙ ap (λ x. min x 3) (length-replicate p 61)
-          ∙ min_min (length (filter is_pad a));
-      seen = any_of_text q p every ∙ any_min (filter is_pad a) ∙ sym (any_filter is_pad a);
-      no_fault = h;
-      none_left = fault_text q p every;
-    }
+    grind (
+      arith,
+      is_pad,
+      every_after,
+      filter_every,
+      symbols_of_text,
+      pads_of_text,
+      length-replicate,
+      min_min,
+      any_of_text,
+      any_min,
+      any_filter,
+      fault_text,
+    )
 
 -- if a has no fault, decoding a ++ b is the same as decoding a, and then what is left over of a with b
 pub two_feeds : (a b : List ℕ) → first_fault a ≡ None → TwoFeeds a b

@@ -34,11 +34,7 @@ use Rattle.data_url.proofs.forgiving_base64.Padding.{length-after_groups, space_
 -- A text of symbols and white space has no fault and no padding
 
 one_allowed : (c : ℕ) → is_symbol_or_space c ≡ true → (fault_byte false (c ∷ []) ≡ None) × (is_pad c ≡ false)
-one_allowed c h =
-    elim (or_cases (is_symbol c) (is_ascii_whitespace c) h) [
-      | inl s ↦ (fault_symbol c s, (symbol_alone (classes c) s).1)
-      | inr w ↦ (fault_space c false w, (space_alone (classes c) w).0)
-    ]
+one_allowed c h = grind (arith, or_cases, fault_symbol, symbol_alone, classes, fault_space, space_alone)
 
 allowed_fault : (t : List ℕ) → list_all is_symbol_or_space t ≡ true → fault_byte false t ≡ None
 unfolding fault_byte
@@ -59,12 +55,7 @@ allowed_pads (c ∷ t) h =
 
 filter_length : (t : List ℕ) → length (filter is_symbol t) ≤ length t
 filter_length [] = omega arith
-filter_length (c ∷ t) =
-    elim (is_symbol c) as (λ s. length (cond s (c ∷ filter is_symbol t) (filter is_symbol t)) ≤ length (c ∷ t)) [
-      | true ↦
-          omega (arith, filter_length t)
-      | false ↦ omega (arith, filter_length t)
-    ]
+filter_length (c ∷ t) = grind (arith, (filter_length t))
 
 no_items : (l : List ℕ) → length l ≡ 0 → l ≡ []
 no_items [] e = refl
@@ -107,16 +98,7 @@ told_ok (Err x) r e h = absurd (cc)
 module _ {F E : Type 0} (step : F → List ℕ → Result (Unit {0}) E → F → Type 0) where
   -- if d reads t without a call, it holds the decoded bytes
   pub holds_from : {d d' : State F} {t more : List ℕ} → Adds d t more d' → Holds step d t more d'
-  holds_from a = record {
-    run = [];
-    ran = sym a.closure_stays;
-    accepted = refl;
-    bytes_are = a.bytes_are;
-    no_fault = a.no_fault;
-    left = a.left;
-    calls = omega (arith, a.few);
-    going = a.going;
-  }
+  holds_from a = grind arith
 
   -- if d holds bytes after a, and then reads b, it holds those of b after them
   pub holds_adds : {d d1 d2 : State F} {a b held more : List ℕ} → Holds step d a held d1 → Adds d1 b more d2
@@ -149,15 +131,12 @@ module _ {F E : Type 0} (step : F → List ℕ → Result (Unit {0}) E → F →
   called_run : {d d1 d2 : State F} {t held piece : List ℕ} {r : Result (Unit {0}) (DecodeError E)}
       (h : Holds step d t held d1) (w : CallsOnce step d1 piece r d2)
       → IsRun step d.closure (h.run ++ record { piece = piece; answer = w.told; after = d2.closure } ∷ []) d2.closure
-  called_run {d} {d1} {d2} {piece = piece} h w =
-      run-append step h.run (record { piece = piece; answer = w.told; after = d2.closure } ∷ []) d.closure d1.closure
-      d2.closure h.ran h.accepted (one_call step d1.closure d2.closure piece w.told w.called)
+  called_run {d} {d1} {d2} {piece = piece} h w = grind (arith, run-append, one_call)
 
   called_bytes : {d d1 : State F} {t held : List ℕ} (piece : List ℕ) (h : Holds step d t held d1)
       (told : Result (Unit {0}) E) (g : F)
       → joined_pieces (h.run ++ record { piece = piece; answer = told; after = g } ∷ []) ≡ joined_pieces h.run ++ piece
-  called_bytes piece h told g = joined_pieces-append h.run (record { piece = piece; answer = told; after = g } ∷ [])
-      ∙ ap (λ x. joined_pieces h.run ++ x) (append-nil piece)
+  called_bytes piece h told g = grind (arith, joined_pieces-append, append-nil)
 
   -- the end, or a fault: the closure is called once with all bytes that are held
   pub written_feeds : {d d1 d2 : State F} {t held : List ℕ} {r : Result (Unit {0}) (DecodeError E)}
@@ -192,21 +171,7 @@ module _ {F E : Type 0} (step : F → List ℕ → Result (Unit {0}) E → F →
 
   quiet_feeds : {d d1 d2 : State F} {t : List ℕ} {r : Result (Unit {0}) (DecodeError E)} → Holds step d t [] d1
       → r ≡ Ok tt → d2 ≡ d1 → Feeds step d t r d2
-  quiet_feeds {d} {d1} {d2} {t} {r} h e same =
-      let u = left_over d ++ t in
-      let P : State F → Type 0 = λ s. Feeds step d t (Ok tt) s in
-      let Q : Result (Unit {0}) (DecodeError E) → Type 0 = λ x. Feeds step d t x d2 in
-      subst Q (sym e) (subst P (sym same) (record {
-        run = h.run;
-        ran = h.ran;
-        calls = omega (arith, h.calls);
-        failed = h.going;
-        gave = match_none (refusal h.run) _ _ h.accepted (record {
-          bytes_are = sym (append-nil (joined_pieces h.run))
-              ∙ h.bytes_are;
-          answer = match_none (first_fault u) _ _ h.no_fault (refl, h.left);
-        });
-      }))
+  quiet_feeds {d} {d1} {d2} {t} {r} h e same = grind (arith, match_none, append-nil)
 
   -- reading t, and then flushing the bytes that are held, feeds t
   pub flushed_feeds : {d d1 d2 : State F} {t : List ℕ} {r : Result (Unit {0}) (DecodeError E)} (held : List ℕ)
@@ -299,19 +264,7 @@ module _ {F E : Type 0} (step : F → List ℕ → Result (Unit {0}) E → F →
       → left_over d ≡ left → is_some (first_fault (left ++ c ∷ [])) ≡ true → kind_of (left ++ c ∷ []) ≡ kind
       → complete_bytes (left ++ c ∷ []) ≡ [] → d' ≡ record d { failed = true } → r ≡ Err (InvalidBase64 kind)
       → Feeds step d (c ∷ []) r d'
-  refuses_feeds {d} {d'} {r} {kind} left c e fault is_kind nothing same told =
-      let u : left_over d ++ c ∷ [] ≡ left ++ c ∷ [] = ap (λ l. l ++ c ∷ []) e in
-      record {
-        run = [];
-        ran = sym (ap (λ (s : State F). s.closure) same);
-        calls = omega arith;
-        failed = ap (λ (s : State F). s.failed) same ∙ sym (ap is_err told);
-        gave = record {
-          bytes_are = sym (ap complete_bytes u ∙ nothing);
-          answer = match_some (first_fault (left_over d ++ c ∷ [])) _ _ (ap (λ t. is_some (first_fault t)) u ∙ fault)
-              (told ∙ ap (λ z. Err (InvalidBase64 z)) (sym (ap kind_of u ∙ is_kind)));
-        };
-      }
+  refuses_feeds {d} {d'} {r} {kind} left c e fault is_kind nothing same told = grind (arith, match_some)
 
   -- if c is a fault after t, and the bytes held after t are flushed, feeding t and then c returns the error of c
   pub refused_feeds : {d d1 d2 d4 : State F} (d3 : State F) {r : Result (Unit {0}) (DecodeError E)} {kind : Kind}
@@ -369,22 +322,13 @@ module _ {F E : Type 0} (step : F → List ℕ → Result (Unit {0}) E → F →
   -- the bytes that are held stay if the next byte is a fault
   pub stays_holds : {d d1 d2 : State F} {t held held' : List ℕ} {c : ℕ} {kind : Kind} → Holds step d t held d1
       → Refuses d1 c kind d2 → held' ≡ held → Holds step d t held' d2
-  stays_holds {d} {d1} {d2} {t} {held} {held'} h f e =
-      let P : State F → Type 0 = λ s. Holds step d t held' s in
-      let Q : List ℕ → Type 0 = λ l. Holds step d t l d1 in
-      subst P (sym f.stays) (subst Q (sym e) h)
+  stays_holds {d} {d1} {d2} {t} {held} {held'} h f e = grind arith
 
   -- d reads `taken` more bytes of s after the first `at` bytes
   pub gains_holds : {d d1 d2 : State F} {held held' : List ℕ} {taken : ℕ} (s : List ℕ) (at : ℕ)
       → Holds step d (take at s) held d1 → Gains d1 held (take (length s - at) (drop at s)) taken d2 held'
       → Holds step d (take (at + taken) s) held' d2
-  gains_holds {d} {d1} {d2} {held} {held'} {taken} s at h g =
-      let same : take taken (take (length s - at) (drop at s)) ≡ take taken (drop at s) =
-      ap (take taken) (take_rest s at) in
-      let P : List ℕ → Type 0 = λ t. Holds step d t held' d2 in
-      let Q : List ℕ → Type 0 = λ l. Holds step d (take at s ++ take taken (drop at s)) l d2 in
-      let A : List ℕ → Type 0 = λ t. Adds d1 t g.more d2 in
-      subst P (sym (take-add at taken s)) (subst Q (sym g.held_are) (holds_adds step h (subst A same g.adds)))
+  gains_holds {d} {d1} {d2} {held} {held'} {taken} s at h g = grind (arith, take_rest, take-add, holds_adds)
 
   -- if the closure returns an error for the bytes that are held, so does feeding s
   pub flush_refused : {d d1 d2 : State F} {x : DecodeError E} (s : List ℕ) (at : ℕ) (held : List ℕ)
@@ -411,10 +355,7 @@ module _ {F E : Type 0} (step : F → List ℕ → Result (Unit {0}) E → F →
   pub feeds_part : {d d1 d2 : State F} {r : Result (Unit {0}) (DecodeError E)} (s : List ℕ) (at taken : ℕ)
       → Feeds step d (take at s) (Ok tt) d1 → Feeds step d1 (take taken (take (length s - at) (drop at s))) r d2
       → Feeds step d (take (at + taken) s) r d2
-  feeds_part {d} {d1} {d2} {r} s at taken f g =
-      let P : List ℕ → Type 0 = λ t. Feeds step d t r d2 in
-      let Q : List ℕ → Type 0 = λ t. Feeds step d1 (take taken t) r d2 in
-      subst P (sym (take-add at taken s)) (feeds_then step f (subst Q (take_rest s at) g))
+  feeds_part {d} {d1} {d2} {r} s at taken f g = grind (arith, take-add, feeds_then, take_rest)
 
   -- a block of symbols is a full piece
   pub block_feeds : {d d1 d2 : State F} {bytes : List ℕ} {r : Result (Unit {0}) (DecodeError E)} (s : List ℕ) (at : ℕ)
@@ -445,12 +386,7 @@ module _ {F E : Type 0} (step : F → List ℕ → Result (Unit {0}) E → F →
 
 values_wait : (q k : List ℕ) → groups (map symbol_value (q ++ k)) ≡ groups (map symbol_value q) ++ groups
     (map symbol_value (after_groups q ++ k))
-values_wait q k =
-    ap groups (map-append symbol_value q k)
-    ∙ groups-append (map symbol_value q) (map symbol_value k)
-    ∙ ap (λ x. groups (map symbol_value q) ++ groups x)
-    (ap (λ x. x ++ map symbol_value k) (after_groups-map symbol_value q)
-    ∙ sym (map-append symbol_value (after_groups q) k))
+values_wait q k = grind (arith, map-append, groups-append, after_groups-map)
 
 -- a row of symbols and white space
 row_adds : {F : Type 0} (d : State F) (q row : List ℕ) → Every is_symbol q → list_all is_symbol_or_space row ≡ true
@@ -499,11 +435,7 @@ module _ {F E : Type 0} (step : F → List ℕ → Result (Unit {0}) E → F →
   pub none_wait : {d : State F} {q : List ℕ} (every : Every is_symbol d.symbols) → IsBetweenGroups d → d.failed ≡ false
       → q ≡ [] → Holds step d [] (groups (map symbol_value q)) (waiting d q)
   unfolding groups after_groups
-  none_wait {d} {q} every none going is =
-      let P : List ℕ → Type 0 = λ l. Holds step d [] (groups (map symbol_value l)) (waiting d l) in
-      let Q : List ℕ → Type 0 = λ l. Holds step d [] [] (record d { symbols = l }) in
-      subst P (sym is) (subst Q none.0
-      (holds_from step (adds_none every (omega (arith, ap length none.0)) (omega (arith, none.1)) going)))
+  none_wait {d} {q} every none going is = grind (arith, holds_from, adds_none)
 
   -- a block of symbols and whitespace is read, and its symbols are held after those before
   pub block_waits : {d : State F} (s : State F) (text q q' : List ℕ) (at : ℕ) → list_all is_symbol q ≡ true

@@ -74,9 +74,7 @@ seen_step c f of_none e h = h
 compact_step : {x y z : Bool} (s : Bool) (c : ℕ) (u f g : List ℕ) → Class x y z → bad x y z s ≡ false
     → ((s || y) ≡ true → f ≡ []) → u ≡ f ++ g → cond (not x) (c ∷ u) u ≡ cond z (c ∷ f) f ++ cond y (c ∷ g) g
 compact_step s c u f g of_space e none h = h
-compact_step s c u f g of_pad e none h =
-    let k : f ≡ [] = none (or_true s) in
-    ap (λ (x : List ℕ). c ∷ x) (h ∙ ap (λ x. x ++ g) k) ∙ ap (λ x. x ++ (c ∷ g)) (sym k)
+compact_step s c u f g of_pad e none h = grind (arith, or_true)
 compact_step s c u f g of_symbol e none h = ap (λ (x : List ℕ). c ∷ x) h
 compact_step s c u f g of_none e none h = absurd (true≢false e)
 
@@ -114,11 +112,7 @@ module _ (space pad symbol : ℕ → Bool) where
   any_push p c = list_any-append pad p (c ∷ []) ∙ ap (λ x. list_any pad p || x) (or-false (pad c))
 
   bad_here : (p t : List ℕ) (c : ℕ) → is_bad_at (p ++ c ∷ t) (length p) ≡ is_bad (list_any pad p) c
-  bad_here p t c =
-      ap (λ (x : ℕ). not (space x || (pad x || symbol x)) || (symbol x && list_any pad (take (length p) (p ++ c ∷ t))))
-      (get_or_at p c t 0 (length p) refl)
-      ∙ ap (λ (x : List ℕ). not (space c || (pad c || symbol c)) || (symbol c && list_any pad x))
-      (take_at p (c ∷ t) (length p) refl)
+  bad_here p t c = grind (arith, get_or_at, take_at)
 
   cond_same : {X : Type 0} (b d : Bool) (x y z : X) → b ≡ d → y ≡ z → cond b x y ≡ cond d x z
   cond_same b d x y z e f = cc
@@ -128,39 +122,35 @@ module _ (space pad symbol : ℕ → Bool) where
       (length p) (list_any pad p) b
   find_walk p [] = refl
   find_walk p (c ∷ t) =
-      cond_same _ _ (Some (length p)) _ _ (bad_here p t c)
-      (ap (λ (z : List ℕ). find (is_bad_at z) (range_with_len (length p + 1) (length t)))
-      (sym (append_assoc p (c ∷ []) t))
-      ∙ ap (λ n. find (is_bad_at ((p ++ c ∷ []) ++ t)) (range_with_len n (length t))) (sym (length_push p c))
-      ∙ find_walk (p ++ c ∷ []) t
-      ∙ ap (λ n. stop_place n (list_any pad (p ++ c ∷ [])) t) (length_push p c)
-      ∙ ap (λ s. stop_place (length p + 1) s t) (any_push p c))
+      grind (arith, cond_same, bad_here, append_assoc, length_push, (find_walk (p ++ c ∷ []) t), any_push)
 
   -- the bytes of p ++ b before the place where a walk over b stops are p and then those that the walk passes
   pub before_walk : (p b : List ℕ) (n : ℕ) (s : Bool) → length p ≡ n
       → before_place (p ++ b) (stop_place n s b) ≡ p ++ ahead s b
   before_walk p [] n s e = refl
   before_walk p (c ∷ t) n s e =
-      elim (is_bad s c) as (λ v. before_place (p ++ c ∷ t) (cond v (Some n) (stop_place (n + 1) (s || pad c) t))
-      ≡ p ++ cond v [] (c ∷ ahead (s || pad c) t)) [
-        | true ↦ take_at p (c ∷ t) n e ∙ sym (append-nil p)
-        | false ↦
-            ap (λ (z : List ℕ). before_place z (stop_place (n + 1) (s || pad c) t)) (sym (append_assoc p (c ∷ []) t))
-            ∙ before_walk (p ++ c ∷ []) t (n + 1) (s || pad c) (length_push p c ∙ ap (λ x. x + 1) e)
-            ∙ append_assoc p (c ∷ []) (ahead (s || pad c) t)
-      ]
+      grind (
+        arith,
+        take_at,
+        append-nil,
+        append_assoc,
+        (before_walk (p ++ c ∷ []) t (n + 1) (s || pad c) (length_push
+            p c ∙ ap (λ x. x + 1) e)),
+        length_push,
+      )
 
   -- the byte of p ++ b at the place where a walk over b stops is the byte that stops it
   pub byte_walk : (p b : List ℕ) (n : ℕ) (s : Bool) → length p ≡ n → byte_at (p ++ b) (stop_place n s b) ≡ stop s b
   byte_walk p [] n s e = refl
   byte_walk p (c ∷ t) n s e =
-      elim (is_bad s c) as (λ v. byte_at (p ++ c ∷ t) (cond v (Some n) (stop_place (n + 1) (s || pad c) t)) ≡ cond v
-      (Some c) (stop (s || pad c) t)) [
-        | true ↦ ap Some (get_or_at p c t 0 n e)
-        | false ↦
-            ap (λ (z : List ℕ). byte_at z (stop_place (n + 1) (s || pad c) t)) (sym (append_assoc p (c ∷ []) t))
-            ∙ byte_walk (p ++ c ∷ []) t (n + 1) (s || pad c) (length_push p c ∙ ap (λ x. x + 1) e)
-      ]
+      grind (
+        arith,
+        get_or_at,
+        append_assoc,
+        (byte_walk (p ++ c ∷ []) t (n + 1) (s || pad c) (length_push p c ∙ ap (λ
+            x. x + 1) e)),
+        length_push,
+      )
 
   -- Two texts
 
@@ -219,16 +209,7 @@ module _ (space pad symbol : ℕ → Bool) where
     pub stop_compact : (b : List ℕ) (s : Bool) → stop s (filter is_not_space b) ≡ stop s b
     stop_compact [] s = refl
     stop_compact (c ∷ t) s =
-        elim (cases_Bool (space c)) [
-          | inl e ↦
-              let f = space_alone (classes c) e in
-              let g : pad c ≡ false = f.0 in
-              let h : symbol c ≡ false = f.1 in
-              rw (e, g, h) (stop_compact t s ∙ ap (λ x. stop x t) (sym (or-false s)))
-          | inr e ↦
-              ap (λ v. stop s (cond (not v) (c ∷ filter is_not_space t) (filter is_not_space t))) e
-              ∙ ap (λ (x : Option ℕ). cond (is_bad s c) (Some c) x) (stop_compact t (s || pad c))
-        ]
+        grind (arith, cases_Bool, space_alone, classes, (stop_compact t s), or-false, (stop_compact t (s || pad c)))
 
     -- if a walk after padding does not stop, the text has no symbols
     pub seen_none : (b : List ℕ) → stop true b ≡ None → filter symbol b ≡ []
@@ -257,63 +238,39 @@ module _ (space pad symbol : ℕ → Bool) where
     -- a walk that has seen no padding passes symbols, and stops where it stops in the text after them
     pub stop_symbols : (q b : List ℕ) → Every symbol q → stop false (q ++ b) ≡ stop false b
     stop_symbols [] b h = refl
-    stop_symbols (c ∷ t) b h =
-        let e : symbol c ≡ true = h.0 in
-        let f = symbol_alone (classes c) e in
-        let g : space c ≡ false = f.0 in
-        let i : pad c ≡ false = f.1 in
-        rw (e, g, i) (stop_symbols t b h.1)
+    stop_symbols (c ∷ t) b h = grind (arith, symbol_alone, classes, (stop_symbols t b h.1))
 
     -- a walk does not stop in padding
     pub stop_pads : (n c : ℕ) (s : Bool) → pad c ≡ true → stop s (replicate n c) ≡ None
     stop_pads zero c s e = refl
-    stop_pads (suc n) c s e =
-        let f = pad_alone (classes c) e in
-        let g : space c ≡ false = f.0 in
-        let i : symbol c ≡ false = f.1 in
-        rw (e, g, i) (stop_pads n c (s || true) e)
+    stop_pads (suc n) c s e = grind (arith, pad_alone, classes, (stop_pads n c (s || true) e))
 
     -- padding has no symbols
     pub filter_pads : (n c : ℕ) → pad c ≡ true → filter symbol (replicate n c) ≡ []
     filter_pads zero c e = refl
-    filter_pads (suc n) c e =
-        let f = pad_alone (classes c) e in
-        let i : symbol c ≡ false = f.1 in
-        rw i (filter_pads n c e)
+    filter_pads (suc n) c e = grind (arith, pad_alone, classes, (filter_pads n c e))
 
     -- symbols have no padding
     pub filter_symbols : (q : List ℕ) → Every symbol q → filter pad q ≡ []
     filter_symbols [] h = refl
-    filter_symbols (c ∷ t) h =
-        let f = symbol_alone (classes c) h.0 in
-        let i : pad c ≡ false = f.1 in
-        rw i (filter_symbols t h.1)
+    filter_symbols (c ∷ t) h = grind (arith, symbol_alone, classes, (filter_symbols t h.1))
 
     -- none of the symbols is padding
     pub any_symbols : (q : List ℕ) → Every symbol q → list_any pad q ≡ false
     any_symbols [] h = refl
-    any_symbols (c ∷ t) h =
-        let f = symbol_alone (classes c) h.0 in
-        let i : pad c ≡ false = f.1 in
-        rw i (any_symbols t h.1)
+    any_symbols (c ∷ t) h = grind (arith, symbol_alone, classes, (any_symbols t h.1))
 
 -- What a filter keeps
 
 -- all that a filter keeps passes
 pub filter_every : (p : ℕ → Bool) (b : List ℕ) → Every p (filter p b)
 filter_every p [] = tt
-filter_every p (c ∷ t) = elim (p c) as (λ v. p c ≡ v → Every p (cond v (c ∷ filter p t) (filter p t))) [
-  | true ↦
-      λ e. (e, filter_every p t)
-  | false ↦ λ e. filter_every p t
-] refl
+filter_every p (c ∷ t) = grind (arith, (filter_every p t))
 
 -- if all items of a list pass, a filter keeps the whole list
 pub filter_all : (p : ℕ → Bool) (b : List ℕ) → Every p b → filter p b ≡ b
 filter_all p [] h = refl
-filter_all p (c ∷ t) h =
-    let e : p c ≡ true = h.0 in
-    rw e (ap (λ (x : List ℕ). c ∷ x) (filter_all p t h.1))
+filter_all p (c ∷ t) h = grind (arith, (filter_all p t h.1))
 
 -- whether a list has items
 abbrev pub is_nonempty : List ℕ → Bool
@@ -323,12 +280,7 @@ is_nonempty (c ∷ t) = true
 -- an item passes exactly if a filter keeps something
 pub any_filter : (p : ℕ → Bool) (b : List ℕ) → list_any p b ≡ is_nonempty (filter p b)
 any_filter p [] = refl
-any_filter p (c ∷ t) =
-    elim (p c) as (λ v. (v || list_any p t) ≡ is_nonempty (cond v (c ∷ filter p t) (filter p t))) [
-      | true ↦
-          refl
-      | false ↦ any_filter p t
-    ]
+any_filter p (c ∷ t) = grind (arith, (any_filter p t))
 
 -- The first fault of a text has the smallest index of all faults, and a walk that remembers whether it has seen padding
 -- finds it.
@@ -341,8 +293,7 @@ IsLeast p a e None = (i : ℕ) → a ≤ i → i < e → p i ≡ false
 IsLeast p a e (Some i) = (a ≤ i) × (i < e) × (p i ≡ true) × ((k : ℕ) → a ≤ k → k < i → p k ≡ false)
 
 at_first : (p : ℕ → Bool) (a k : ℕ) → p a ≡ false → (a + 1 ≤ k → p k ≡ false) → a ≤ k → p k ≡ false
-at_first p a k here later l =
-    elim (cases_eq a k) [ inl q ↦ rw (← q) here | inr q ↦ later (omega arith) ]
+at_first p a k here later l = grind (arith, cases_eq)
 
 least_more : (p : ℕ → Bool) (a e : ℕ) (o : Option ℕ) → p a ≡ false → IsLeast p (a + 1) e o → IsLeast p a e o
 least_more p a e None here h = λ i l m. at_first p a i here (λ n. h i n m) l
@@ -350,11 +301,7 @@ least_more p a e (Some i) here (l, m, t, f) = (omega arith, m, t, λ k n q. at_f
 
 find_least : (p : ℕ → Bool) (n a e : ℕ) → e ≡ a + n → IsLeast p a e (find p (range_with_len a n))
 find_least p zero a e q = λ i l m. absurd (omega arith)
-find_least p (suc n) a e q =
-    elim (p a) as (λ v. p a ≡ v → IsLeast p a e (cond v (Some a) (find p (range_with_len (a + 1) n)))) [
-      | true ↦ λ h. (omega arith, omega arith, h, λ k l m. absurd (omega arith))
-      | false ↦ λ h. least_more p a e _ h (find_least p n (a + 1) e (omega arith))
-    ] refl
+find_least p (suc n) a e q = grind (arith, least_more, (find_least p n (a + 1) e (omega arith)))
 
 least_is : (b : List ℕ) (o : Option ℕ) → IsLeast (is_fault b) 0 (length b) o → IsFirstFault b o
 least_is b None h = λ i l. h i (omega arith) l
@@ -414,10 +361,7 @@ replicate_push (suc n) = ap (λ (x : List ℕ). 61 ∷ x) (replicate_push n)
 
 -- of n + 1 times '=' at the end, n are left after one is removed
 pub without_pad_pads : (q : List ℕ) (n : ℕ) → without_last_padding (q ++ replicate (suc n) 61) ≡ q ++ replicate n 61
-without_pad_pads q n =
-    ap (λ x. without_last_padding (q ++ x)) (replicate_push n)
-    ∙ ap without_last_padding (sym (append_assoc q (replicate n 61) (61 ∷ [])))
-    ∙ without_pad_push (q ++ replicate n 61)
+without_pad_pads q n = grind (arith, replicate_push, append_assoc, without_pad_push)
 
 -- Symbols and padding
 
@@ -434,12 +378,10 @@ abbrev passes : List ℕ → Bool
 passes u = not (eqb (length u % 4) 1) && list_all is_symbol u
 
 passes_symbols : (q : List ℕ) (r : Bool) → Every is_symbol q → not (eqb (length q % 4) 1) ≡ r → passes q ≡ r
-passes_symbols q r h e = ap (λ x. not (eqb (length q % 4) 1) && x) (list_all_every q h)
-    ∙ and_true (not (eqb (length q % 4) 1)) ∙ e
+passes_symbols q r h e = grind (arith, eqb, list_all_every, and_true)
 
 passes_pads : (q : List ℕ) (n : ℕ) → passes (q ++ replicate (suc n) 61) ≡ false
-passes_pads q n = and_right (not (eqb (length (q ++ replicate (suc n) 61) % 4) 1))
-    (list_all is_symbol (q ++ replicate (suc n) 61)) (list_all_pads q n)
+passes_pads q n = grind (arith, and_right, eqb, list_all_pads)
 
 passes_cond : (t r : Bool) (u w : List ℕ) → passes w ≡ false → (t ≡ true → passes u ≡ r) → (t ≡ false → r ≡ false)
     → passes (cond t u w) ≡ r
@@ -448,31 +390,23 @@ passes_cond false r u w h good bad = h ∙ sym (bad refl)
 
 unpadded_symbols : (q : List ℕ) → Every is_symbol q → without_padding q ≡ q
 unfolding without_padding
-unpadded_symbols q h = cond_both (eqb (length q % 4) 0) (without_last_padding (without_last_padding q)) q (λ x. x ≡ q)
-    (λ e. ap without_last_padding (without_pad_symbols q h) ∙ without_pad_symbols q h) (λ e. refl)
+unpadded_symbols q h = grind (arith, cond_both, eqb, without_pad_symbols)
 
 length_pads : (q : List ℕ) (n : ℕ) → length (q ++ replicate n 61) ≡ length q + n
 length_pads q n = length-append q (replicate n 61) ∙ ap (λ x. length q + x) (length-replicate n 61)
 
 -- without padding
 none_passes : (q : List ℕ) → Every is_symbol q → passes (without_padding (q ++ [])) ≡ fits_with (length q % 4) 0
-none_passes q h = ap (λ x. passes (without_padding x)) (append-nil q) ∙ ap passes (unpadded_symbols q h)
-    ∙ passes_symbols q _ h refl
+none_passes q h = grind (arith, append-nil, unpadded_symbols, passes_symbols)
 
 one_true : (k m : ℕ) → m ≡ k + 1 → eqb (m % 4) 0 ≡ true → not (eqb (k % 4) 1) ≡ eqb (k % 4) 3
-one_true k m l e =
-    let z = eqb-true (m % 4) 0 e in
-    let three : k % 4 ≡ 3 = omega (arith, z) in
-    rw three refl
+one_true k m l e = grind (arith, eqb-true)
 
 one_false : (k m : ℕ) → m ≡ k + 1 → eqb (m % 4) 0 ≡ false → eqb (k % 4) 3 ≡ false
 one_false k m l e = ne_eqb (k % 4) 3 (λ h. eqb-false (m % 4) 0 e (omega (arith, h)))
 
 two_true : (k m : ℕ) → m ≡ k + 2 → eqb (m % 4) 0 ≡ true → not (eqb (k % 4) 1) ≡ eqb (k % 4) 2
-two_true k m l e =
-    let z = eqb-true (m % 4) 0 e in
-    let two : k % 4 ≡ 2 = omega (arith, z) in
-    rw two refl
+two_true k m l e = grind (arith, eqb-true)
 
 two_false : (k m : ℕ) → m ≡ k + 2 → eqb (m % 4) 0 ≡ false → eqb (k % 4) 2 ≡ false
 two_false k m l e = ne_eqb (k % 4) 2 (λ h. eqb-false (m % 4) 0 e (omega (arith, h)))
@@ -556,14 +490,7 @@ abbrev pub is_pad : ℕ → Bool
 is_pad c = eqb c 61
 
 whitespace_low : (c : ℕ) → is_ascii_whitespace c ≡ true → c < 33
-whitespace_low c e =
-    elim (or_cases (is_in_range 9 10 c || is_in_range 12 13 c) (is_in_range 32 32 c) e) [
-      | inl r ↦ elim (or_cases (is_in_range 9 10 c) (is_in_range 12 13 c) r) [
-        | inl r ↦ let k = range_high 9 10 c r in omega arith
-        | inr r ↦ let k = range_high 12 13 c r in omega arith
-      ]
-      | inr r ↦ let k = range_high 32 32 c r in omega arith
-    ]
+whitespace_low c e = grind (arith, or_cases, range_high)
 
 -- each byte is in at most one class
 at_space : (c : ℕ) → is_ascii_whitespace c ≡ true → Class true (is_pad c) (is_symbol c)
@@ -718,8 +645,7 @@ symbols_of_pads n = filter_pads is_ascii_whitespace is_pad is_symbol classes n 6
 
 -- the symbols of q and then n times '=' are q
 pub symbols_of_text : (q : List ℕ) (n : ℕ) → Every is_symbol q → filter is_symbol (q ++ replicate n 61) ≡ q
-symbols_of_text q n h = filter-append is_symbol q (replicate n 61)
-    ∙ ap (λ x. filter is_symbol q ++ x) (symbols_of_pads n) ∙ append-nil (filter is_symbol q) ∙ filter_all is_symbol q h
+symbols_of_text q n h = grind (arith, filter-append, symbols_of_pads, append-nil, filter_all)
 
 pads_of_pads : (n : ℕ) → filter is_pad (replicate n 61) ≡ replicate n 61
 pads_of_pads zero = refl
@@ -742,22 +668,13 @@ any_of_text q n h = list_any-append is_pad q (replicate n 61) ∙ ap (λ x. x ||
 
 pads_are : (b : List ℕ) → filter is_pad b ≡ replicate (length (filter is_pad b)) 61
 pads_are [] = refl
-pads_are (c ∷ t) =
-    elim (is_pad c) as (λ v. is_pad c ≡ v → cond v (c ∷ filter is_pad t) (filter is_pad t) ≡ replicate
-    (length (cond v (c ∷ filter is_pad t) (filter is_pad t))) 61) [
-      | true ↦ λ e. ap (λ (x : ℕ). x ∷ filter is_pad t) (eqb-true c 61 e) ∙ ap (λ (x : List ℕ). 61 ∷ x) (pads_are t)
-      | false ↦ λ e. pads_are t
-    ] refl
+pads_are (c ∷ t) = grind (arith, eqb-true, (pads_are t))
 
 -- a text without a fault is its symbols and then its padding
 pub no_fault_text : (b : List ℕ) → fault_byte false b ≡ None
     → IsSymbolsAndPadding b (filter is_symbol b) (length (filter is_pad b))
 unfolding fault_byte without_whitespace
-no_fault_text b h = record {
-  symbols_are = filter_every is_symbol b;
-  compact_is = compact_walk is_ascii_whitespace is_pad is_symbol classes b false h
-      ∙ ap (λ x. filter is_symbol b ++ x) (pads_are b);
-}
+no_fault_text b h = grind (arith, filter_every, compact_walk, classes, pads_are)
 
 -- a text without a fault is valid exactly if the number of its '=' fits the number of its symbols
 pub no_fault_valid : (b : List ℕ) → fault_byte false b ≡ None → is_valid b ≡ fits_with (length (filter is_symbol b) % 4)
@@ -835,9 +752,7 @@ groups-append [] y = refl
 groups-append (p ∷ []) y = refl
 groups-append (p ∷ q ∷ []) y = refl
 groups-append (p ∷ q ∷ r ∷ []) y = refl
-groups-append (p ∷ q ∷ r ∷ s ∷ rest) y =
-    ap (λ x. group_bytes (group_number p q r s) ++ x) (groups-append rest y)
-    ∙ sym (append_assoc (group_bytes (group_number p q r s)) (groups rest) (groups (after_groups rest ++ y)))
+groups-append (p ∷ q ∷ r ∷ s ∷ rest) y = grind (arith, (groups-append rest y), append_assoc)
 
 -- what is left over of x ++ y is what is left over of the rest of x followed by y
 pub after_groups-append : (x y : List ℕ) → after_groups (x ++ y) ≡ after_groups (after_groups x ++ y)

@@ -32,34 +32,17 @@ use Rattle.data_url.proofs.escapes.Marks.{drop_taken}
 
 clear_map : (f : ℕ → ℕ) (xs : List ℕ) (m : ℕ) → clear (map f xs) m ≡ map f (clear xs m)
 clear_map f [] m = refl
-clear_map f (x ∷ xs) m =
-    elim (eqb (m % 2) 0) as (λ t. cond t (f x ∷ clear (map f xs) (m / 2)) (clear (map f xs) (m / 2)) ≡ map f
-    (cond t (x ∷ clear xs (m / 2)) (clear xs (m / 2)))) [
-      | true ↦ ap (λ l. f x ∷ l) (clear_map f xs (m / 2))
-      | false ↦ clear_map f xs (m / 2)
-    ]
+clear_map f (x ∷ xs) m = grind (arith, eqb, (clear_map f xs (m / 2)))
 
 clear_even : (x : ℕ) (xs : List ℕ) (m : ℕ) → clear (x ∷ xs) (0 + 2 * m) ≡ x ∷ clear xs m
-clear_even x xs m =
-    let r : (0 + 2 * m) % 2 ≡ 0 = omega arith in
-    let h : (0 + 2 * m) / 2 ≡ m = omega arith in
-    ap (λ n. cond (eqb n 0) (x ∷ clear xs ((0 + 2 * m) / 2)) (clear xs ((0 + 2 * m) / 2))) r
-    ∙ ap (λ n. x ∷ clear xs n) h
+clear_even x xs m = grind (arith, eqb)
 
 clear_odd : (x : ℕ) (xs : List ℕ) (m : ℕ) → clear (x ∷ xs) (1 + 2 * m) ≡ clear xs m
-clear_odd x xs m =
-    let r : (1 + 2 * m) % 2 ≡ 1 = omega arith in
-    let h : (1 + 2 * m) / 2 ≡ m = omega arith in
-    ap (λ n. cond (eqb n 0) (x ∷ clear xs ((1 + 2 * m) / 2)) (clear xs ((1 + 2 * m) / 2))) r ∙ ap (λ n. clear xs n) h
+clear_odd x xs m = grind (arith, eqb)
 
 clear_mask : (v : List ℕ) → clear v (others_mask v) ≡ filter is_symbol v
 clear_mask [] = refl
-clear_mask (x ∷ v) =
-    elim (is_symbol x) as (λ t. clear (x ∷ v) (cond (not t) 1 0 + 2 * others_mask v) ≡ cond t (x ∷ filter is_symbol v)
-    (filter is_symbol v)) [
-      | true ↦ clear_even x v (others_mask v) ∙ ap (λ l. x ∷ l) (clear_mask v)
-      | false ↦ clear_odd x v (others_mask v) ∙ clear_mask v
-    ]
+clear_mask (x ∷ v) = grind (arith, others_mask, clear_even, (clear_mask v), clear_odd)
 
 -- The table of places
 
@@ -89,8 +72,7 @@ right b l = agree_below_at is_right (λ b. true) 256 b refl l
 
 -- the first places in the row of b are those of its clear bits
 pub places_clear : (b : ℕ) → b < 256 → take (8 - count_ones b) (places b) ≡ clear (range_with_len 0 8) b
-places_clear b l = alike_same (take (8 - count_ones b) (places b)) (clear (range_with_len 0 8) b)
-    (and_parts (alike (take (8 - count_ones b) (places b)) (clear (range_with_len 0 8) b)) _ (right b l)).0
+places_clear b l = grind (arith, alike_same, and_parts, right)
 
 each_below : (v : List ℕ) → list_all (λ p. ltb p 8) v ≡ true → Each1 (λ p. p < 8) v
 each_below [] h = tt
@@ -141,8 +123,7 @@ looked_at t js long small =
 map_range : (f g : ℕ → ℕ) (a n : ℕ) → ((k : ℕ) → a ≤ k → k < a + n → f k ≡ g k)
     → map f (range_with_len a n) ≡ map g (range_with_len a n)
 map_range f g a zero h = refl
-map_range f g a (suc n) h = ap₂ (λ x (y : List ℕ). x ∷ y) (h a (omega arith) (omega arith))
-    (map_range f g (a + 1) n (λ k p q. h k (omega arith) (omega arith)))
+map_range f g a (suc n) h = grind (arith, (map_range f g (a + 1) n (λ k p q. h k (omega arith) (omega arith))))
 
 half_is : (row : List ℕ) (from : ℕ) → length row ≡ 16 → from ≤ 8
     → map (λ p. get_or row (add8 p from) 0) (range_with_len 0 8) ≡ take 8 (drop from row)
@@ -201,10 +182,7 @@ row_clear row others long e =
 pub two_halves : (front row : List ℕ) (others : ℕ) {middle end : List ℕ} → length row ≡ 16 → others ≡ others_mask row
     → middle ≡ front ++ clear (take 8 (drop 0 row)) (others % 256)
     → end ≡ middle ++ clear (take 8 (drop 8 row)) (others / 256) → end ≡ front ++ filter is_symbol row
-two_halves front row others long e p q =
-    q ∙ ap (λ l. l ++ clear (take 8 (drop 8 row)) (others / 256)) p
-    ∙ append_assoc front (clear (take 8 (drop 0 row)) (others % 256)) (clear (take 8 (drop 8 row)) (others / 256))
-    ∙ ap (λ l. front ++ l) (row_clear row others long e)
+two_halves front row others long e p q = grind (arith, append_assoc, row_clear)
 
 -- White space alone between symbols
 
@@ -261,18 +239,12 @@ all_clear (b ∷ v) e = let p = no_bit (is_symbol b) (others_mask v) e in ap (λ
 -- all bytes of a text that a filter of symbols keeps are symbols
 pub filter_symbols : (v : List ℕ) → list_all is_symbol (filter is_symbol v) ≡ true
 filter_symbols [] = refl
-filter_symbols (b ∷ v) =
-    elim (is_symbol b) as (λ t. is_symbol b ≡ t
-    → list_all is_symbol (cond t (b ∷ filter is_symbol v) (filter is_symbol v)) ≡ true) [
-      | true ↦ λ e. ap₂ (λ s t. s && t) e (filter_symbols v)
-      | false ↦ λ e. filter_symbols v
-    ] refl
+filter_symbols (b ∷ v) = grind (arith, (filter_symbols v))
 
 -- symbols with the symbols of a text appended are all symbols
 pub all_more : (x y z : List ℕ) → list_all is_symbol x ≡ true → z ≡ x ++ filter is_symbol y
     → list_all is_symbol z ≡ true
-all_more x y z h e = ap (list_all is_symbol) e ∙ list_all-append is_symbol x (filter is_symbol y)
-    ∙ ap₂ (λ s t. s && t) h (filter_symbols y)
+all_more x y z h e = grind (arith, list_all-append, filter_symbols)
 
 -- if every byte is a symbol, `list_all is_symbol` is true
 pub list_all_every : (q : List ℕ) → Every is_symbol q → list_all is_symbol q ≡ true

@@ -58,9 +58,7 @@ after_few (a ∷ b ∷ c ∷ e ∷ t) h = absurd (omega arith)
 -- a bad byte is where the text stops
 before_one : (c : ℕ) (s : Bool) → fault_byte s (c ∷ []) ≡ Some c → before_fault s (c ∷ []) ≡ []
 unfolding fault_byte before_fault
-before_one c s h =
-    elim (is_bad is_ascii_whitespace is_pad is_symbol s c) as (λ v. cond v (Some c) None ≡ Some c
-    → cond v [] (c ∷ []) ≡ []) [ true ↦ λ e. refl | false ↦ λ e. absurd (some_not_none c (sym e)) ] h
+before_one c s h = grind (arith, is_bad, is_pad, some_not_none)
 
 -- whether there is padding among p times '='
 abbrev pub has_pad : ℕ → Bool
@@ -69,26 +67,19 @@ has_pad p = list_any is_pad (replicate p 61)
 module _ (q : List ℕ) (p : ℕ) (every : Every is_symbol q) where
   -- the fault of q, p times '=' and then t is that of t, where the '=' count as padding before t
   pub fault_more : (t : List ℕ) → fault_byte false (left_text q p ++ t) ≡ fault_byte (has_pad p) t
-  fault_more t = fault-append (left_text q p) t false (fault_text q p every)
-      ∙ ap (λ s. fault_byte s t) (any_of_text q p every)
+  fault_more t = grind (arith, fault-append, fault_text, fault_byte, any_of_text)
 
   -- the bytes before the fault of q, p times '=' and then t are q, the '=' and those of t before its fault
   pub before_more : (t : List ℕ) → before_fault false (left_text q p ++ t) ≡ left_text q p ++ before_fault (has_pad p) t
-  before_more t = before-append (left_text q p) t false (fault_text q p every)
-      ∙ ap (λ s. left_text q p ++ before_fault s t) (any_of_text q p every)
+  before_more t = grind (arith, before-append, fault_text, before_fault, any_of_text)
 
   -- the symbols of q, p times '=' and then t are q and those of t
   pub symbols_more : (t : List ℕ) → filter is_symbol (left_text q p ++ t) ≡ q ++ filter is_symbol t
-  symbols_more t = filter-append is_symbol (left_text q p) t
-      ∙ ap (λ x. x ++ filter is_symbol t) (symbols_of_text q p every)
+  symbols_more t = grind (arith, filter-append, symbols_of_text)
 
   -- the number of '=' in q, p times '=' and then t is p more than in t
   pub pads_more : (t : List ℕ) → length (filter is_pad (left_text q p ++ t)) ≡ p + length (filter is_pad t)
-  pads_more t =
-      ap length (filter-append is_pad (left_text q p) t)
-      ∙ length-append (filter is_pad (left_text q p)) (filter is_pad t)
-      ∙ ap (λ x. length x + length (filter is_pad t)) (pads_of_text q p every)
-      ∙ ap (λ x. x + length (filter is_pad t)) (length-replicate p 61)
+  pads_more t = grind (arith, filter-append, is_pad, length-append, pads_of_text, length-replicate)
 
   -- the values of q, p times '=' and then t are those of q and of the symbols of t
   pub values_more : (t : List ℕ) → values (left_text q p ++ t) ≡ map symbol_value (q ++ filter is_symbol t)
@@ -103,10 +94,7 @@ module _ (q : List ℕ) (p : ℕ) (every : Every is_symbol q) where
   -- if t has no fault, the complete bytes of q, p times '=' and then t are those of q and the symbols of t
   pub done_more : (t : List ℕ) → fault_byte (has_pad p) t ≡ None → complete_bytes (left_text q p ++ t) ≡ groups
       (map symbol_value (q ++ filter is_symbol t))
-  done_more t h =
-      done_is (left_text q p ++ t)
-      ∙ ap (λ x. groups (values x)) (before_none (left_text q p ++ t) false (fault_more t ∙ h))
-      ∙ ap groups (values_more t)
+  done_more t h = grind (arith, done_is, before_none, fault_more, values_more)
 
   -- the symbols left over of q, p times '=' and then t are those of q and t after their complete groups
   pub left_more : (t : List ℕ) → left_symbols (left_text q p ++ t) ≡ after_groups (q ++ filter is_symbol t)
@@ -121,12 +109,7 @@ module _ (q : List ℕ) (p : ℕ) (every : Every is_symbol q) where
   -- if c is a fault after at most three symbols and p times '=', no group is complete
   pub done_bad : (c : ℕ) → length q ≤ 3 → fault_byte (has_pad p) (c ∷ []) ≡ Some c
       → complete_bytes (left_text q p ++ c ∷ []) ≡ []
-  done_bad c few h =
-      done_is (left_text q p ++ c ∷ [])
-      ∙ ap (λ x. groups (values x)) (before_more (c ∷ []) ∙ ap (λ x. left_text q p ++ x) (before_one c (has_pad p) h)
-      ∙ append-nil (left_text q p))
-      ∙ ap groups values_left
-      ∙ groups_few (map symbol_value q) (omega (arith, few, length-map q symbol_value))
+  done_bad c few h = grind (arith, done_is, before_more, before_one, append-nil, values_left, groups_few, length-map)
 
   -- the kind of a fault c after q and p times '=' is a symbol after padding for a symbol, and an unexpected byte
   -- otherwise
@@ -137,10 +120,7 @@ module _ (q : List ℕ) (p : ℕ) (every : Every is_symbol q) where
   -- q and p times '=' are valid exactly if p fits the number of symbols
   pub valid_left : is_valid (left_text q p) ≡ fits_with (length q % 4) p
   valid_left =
-      no_fault_valid (left_text q p) (fault_text q p every)
-      ∙ ap (λ x. fits_with (length x % 4) (length (filter is_pad (left_text q p)))) (symbols_of_text q p every)
-      ∙ ap (λ x. fits_with (length q % 4) (length x)) (pads_of_text q p every)
-      ∙ ap (fits_with (length q % 4)) (length-replicate p 61)
+      grind (arith, no_fault_valid, fault_text, fits_with, is_pad, symbols_of_text, pads_of_text, length-replicate)
 
   -- q and p times '=' decode to the bytes of the groups of q and those of the values after them
   pub decoded_left : decoded (left_text q p) ≡ groups (map symbol_value q) ++ rest_bytes
@@ -150,11 +130,7 @@ module _ (q : List ℕ) (p : ℕ) (every : Every is_symbol q) where
 
   -- the kind of q and p times '=' is a lone symbol if the length of q modulo four is one, and padding otherwise
   pub kind_left : kind_of (left_text q p) ≡ cond (eqb (length q % 4) 1) LoneAlphabetSymbol Padding
-  kind_left =
-      kind_is (left_text q p)
-      ∙ ap (λ o. kind_by (length (values (left_text q p))) o) (fault_text q p every)
-      ∙ ap (λ x. cond (eqb (length x % 4) 1) LoneAlphabetSymbol Padding) values_left
-      ∙ ap (λ n. cond (eqb (n % 4) 1) LoneAlphabetSymbol Padding) (length-map q symbol_value)
+  kind_left = grind (arith, kind_is, kind_by, fault_text, eqb, values_left, length-map)
 
 -- One byte, by its class
 
@@ -164,8 +140,7 @@ bad_by x x' y y' z z' s e f g = ap (λ v. bad v y z s) e ∙ ap (λ v. bad x' v 
 fault_one : (c : ℕ) (s x y z : Bool) → is_ascii_whitespace c ≡ x → is_pad c ≡ y → is_symbol c ≡ z
     → fault_byte s (c ∷ []) ≡ cond (bad x y z s) (Some c) None
 unfolding fault_byte
-fault_one c s x y z e f g =
-    ap (λ v. cond v (Some c) None) (bad_by (is_ascii_whitespace c) x (is_pad c) y (is_symbol c) z s e f g)
+fault_one c s x y z e f g = grind (arith, bad_by, is_pad)
 
 filter_one : (p : ℕ → Bool) (c : ℕ) (v : Bool) → p c ≡ v → filter p (c ∷ []) ≡ cond v (c ∷ []) []
 filter_one p c v e = ap (λ w. cond w (c ∷ []) []) e
@@ -220,10 +195,7 @@ four_after a b c e = refl
 
 decoded_few : (q : List ℕ) → length q ≤ 3
     → groups (map symbol_value q) ++ rest_bytes (after_groups (map symbol_value q)) ≡ rest_bytes (map symbol_value q)
-decoded_few q few =
-    let short : length (map symbol_value q) ≤ 3 = omega (arith, few, length-map q symbol_value) in
-    ap (λ x. x ++ rest_bytes (after_groups (map symbol_value q))) (groups_few (map symbol_value q) short)
-    ∙ ap rest_bytes (after_few (map symbol_value q) short)
+decoded_few q few = grind (arith, length-map, groups_few, after_few)
 
 min_same : (p : ℕ) → p ≤ 3 → p ≡ min (p + 0) 3
 min_same p h = omega arith
@@ -287,19 +259,7 @@ module _ {F : Type 0} where
       → d'.symbols ≡ after_groups (d.symbols ++ k) → d'.padding ≡ min (d.padding + n) 3 → d'.failed ≡ false
       → Adds d t bytes d'
   adds_text {d} {d'} t k bytes n every good is_k is_n is_bytes few same symbols padding failed =
-      let q = d.symbols in
-      let p = d.padding in
-      record {
-        no_fault = none_fault (left_text q p ++ t) (fault_more q p every t ∙ good);
-        bytes_are = is_bytes ∙ sym (done_more q p every t good ∙ ap (λ x. groups (map symbol_value (q ++ x))) is_k);
-        left = record {
-          symbols_are = symbols ∙ sym (left_more q p every t ∙ ap (λ x. after_groups (q ++ x)) is_k);
-          padding_is = padding ∙ sym (padding_more q p every t ∙ ap (λ x. min (p + x) 3) is_n);
-        };
-        few = few;
-        closure_stays = same;
-        going = failed;
-      }
+      grind (arith, none_fault, fault_more, done_more, left_more, padding_more)
 
   -- the text completes no group
   adds_quiet : {d d' : State F} (t k : List ℕ) (n : ℕ) → Every is_symbol d.symbols
@@ -385,15 +345,7 @@ module _ {F : Type 0} where
   refuses_bad : {d d' : State F} {kind : Kind} (c : ℕ) → Every is_symbol d.symbols → length d.symbols ≤ 3
       → fault_byte (has_pad d.padding) (c ∷ []) ≡ Some c → d' ≡ d → kind ≡ cond (is_symbol c) AlphabetSymbolAfterPadding
       (UnexpectedSymbol c) → Refuses d c kind d'
-  refuses_bad {d} c every few bad same told =
-      let q = d.symbols in
-      let p = d.padding in
-      record {
-        fault = fault_some (left_text q p ++ c ∷ []) ∙ ap is_some (fault_more q p every (c ∷ []) ∙ bad);
-        kind_is = kind_bad q p every c bad ∙ sym told;
-        none_done = done_bad q p every c few bad;
-        stays = same;
-      }
+  refuses_bad {d} c every few bad same told = grind (arith, fault_some, fault_more, bad, kind_is, kind_bad, done_bad)
 
   -- if d has padding, it refuses a symbol
   pub refuses_after : {d d' : State F} (c : ℕ) → Every is_symbol d.symbols → length d.symbols ≤ 3 → 1 ≤ d.padding
@@ -414,23 +366,12 @@ module _ {F : Type 0} where
 module _ {F E : Type 0} (step : F → List ℕ → Result (Unit {0}) E → F → Type 0) where
   -- a text that completes no group is fed without a call
   pub adds_feeds : {d d' : State F} {t : List ℕ} → Adds d t [] d' → Feeds step d t (Ok tt) d'
-  adds_feeds {d} {d'} {t} a = record {
-    run = [];
-    ran = sym a.closure_stays;
-    calls = omega arith;
-    failed = a.going;
-    gave = record {
-      bytes_are = a.bytes_are;
-      answer = match_none (first_fault (left_over d ++ t)) _ _ a.no_fault
-          (refl, a.left);
-    };
-  }
+  adds_feeds {d} {d'} {t} a = grind (arith, match_none)
 
   -- feeding the empty text returns `Ok`, and d does not change
   pub feeds_none : {d d' : State F} → Every is_symbol d.symbols → length d.symbols ≤ 3 → d.padding ≤ 3
       → d.failed ≡ false → d' ≡ d → Feeds step d [] (Ok tt) d'
-  feeds_none {d} {d'} every few pads going same = let P : State F → Type 0 = λ s. Feeds step d [] (Ok tt) s in
-      subst P (sym same) (adds_feeds (adds_none every few pads going))
+  feeds_none {d} {d'} every few pads going same = grind (arith, adds_feeds, adds_none)
 
   -- One call
 
@@ -444,32 +385,21 @@ module _ {F E : Type 0} (step : F → List ℕ → Result (Unit {0}) E → F →
   -- if the padding of d fits its symbols, what is left over in d is valid
   pub valid_fits : (d : State F) (k : ℕ) → Every is_symbol d.symbols → length d.symbols ≡ k → Fits k d.padding
       → is_valid (left_over d) ≡ true
-  valid_fits d k every count h = valid_left d.symbols d.padding every ∙ ap (λ n. fits_with (n % 4) d.padding) count
-      ∙ from_fits k d.padding h
+  valid_fits d k every count h = grind (arith, valid_left, fits_with, from_fits)
 
   invalid_unfit : (d : State F) (k : ℕ) → Every is_symbol d.symbols → length d.symbols ≡ k → (Fits k d.padding → ⊥)
       → is_valid (left_over d) ≡ false
-  invalid_unfit d k every count h = valid_left d.symbols d.padding every ∙ ap (λ n. fits_with (n % 4) d.padding) count
-      ∙ from_unfit k d.padding h
+  invalid_unfit d k every count h = grind (arith, valid_left, fits_with, from_unfit)
 
   -- if d has one symbol, the fault at the end is a lone symbol
   pub lone_fault : (d : State F) (k : ℕ) → Every is_symbol d.symbols → length d.symbols ≡ k → k ≡ 1
       → (Fits k d.padding → ⊥) → IsFaultAtEnd d (Some LoneAlphabetSymbolDetails)
-  lone_fault d k every count one h = (
-    invalid_unfit d k every count h,
-    sym (kind_left d.symbols d.padding every
-        ∙ ap (λ n. cond (eqb (n % 4) 1) LoneAlphabetSymbol Padding) (count ∙ one)),
-  )
+  lone_fault d k every count one h = grind (arith, invalid_unfit, kind_left, eqb)
 
   -- if d has at most three symbols, but not one, and padding that does not fit, the fault at the end is padding
   pub padding_fault : (d : State F) (k : ℕ) → Every is_symbol d.symbols → length d.symbols ≡ k → k ≤ 3 → k ≢ 1
       → (Fits k d.padding → ⊥) → IsFaultAtEnd d (Some PaddingDetails)
-  padding_fault d k every count few many h = (
-    invalid_unfit d k every count h,
-    sym (kind_left d.symbols d.padding every
-        ∙ ap (λ n. cond (eqb (n % 4) 1) LoneAlphabetSymbol Padding) count
-        ∙ ap (λ v. cond v LoneAlphabetSymbol Padding) (ne_eqb (k % 4) 1 (λ e. many (omega (arith, e))))),
-  )
+  padding_fault d k every count few many h = grind (arith, invalid_unfit, kind_left, eqb, ne_eqb)
 
   flushes_call : (d d' : State F) {r : Result (Unit {0}) (DecodeError E)} (piece : List ℕ) → 0 < length piece
       → CallsOnce step d piece r d' → Flushes step d piece r d'
@@ -478,16 +408,13 @@ module _ {F E : Type 0} (step : F → List ℕ → Result (Unit {0}) E → F →
 
   decoded_rest : (d : State F) (q : List ℕ) → Every is_symbol d.symbols → d.symbols ≡ q → length q ≤ 3
       → decoded (left_over d) ≡ rest_bytes (map symbol_value q)
-  decoded_rest d q every is_q few = decoded_left d.symbols d.padding every
-      ∙ ap (λ q. groups (map symbol_value q) ++ rest_bytes (after_groups (map symbol_value q))) is_q ∙ decoded_few q few
+  decoded_rest d q every is_q few = grind (arith, decoded_left, decoded_few)
 
   -- the closure was called with the bytes of what is left over
   pub flushes_rest : (d d' : State F) {r : Result (Unit {0}) (DecodeError E)} (q piece : List ℕ)
       → Every is_symbol d.symbols → d.symbols ≡ q → length q ≤ 3 → piece ≡ rest_bytes (map symbol_value q)
       → 0 < length piece → CallsOnce step d piece r d' → Flushes step d (decoded (left_over d)) r d'
-  flushes_rest d d' {r} q piece every is_q few is_piece some w =
-      subst (λ b. Flushes step d b r d') (is_piece ∙ sym (decoded_rest d q every is_q few))
-      (flushes_call d d' piece some w)
+  flushes_rest d d' {r} q piece every is_q few is_piece some w = grind (arith, decoded_rest, flushes_call)
 
   no_items : (s : List ℕ) → length s ≡ 0 → s ≡ []
   no_items [] h = refl
@@ -496,23 +423,14 @@ module _ {F E : Type 0} (step : F → List ℕ → Result (Unit {0}) E → F →
   -- if what is left over is valid and has at most one symbol, it decodes to no bytes: d makes no call
   pub flushes_nothing : (d : State F) (k : ℕ) → Every is_symbol d.symbols → length d.symbols ≡ k → k ≤ 1
       → is_valid (left_over d) ≡ true → Flushes step d (decoded (left_over d)) (Ok tt) d
-  flushes_nothing d zero every count few valid =
-      subst (λ b. Flushes step d b (Ok tt) d) (sym (decoded_rest d [] every (no_items d.symbols count) (omega arith)))
-      (refl, refl)
-  flushes_nothing d (suc zero) every count few valid =
-      absurd (false≢true (sym (valid_left d.symbols d.padding every ∙ ap (λ n. fits_with (n % 4) d.padding) count
-      ∙ one_unfit d.padding) ∙ valid))
+  flushes_nothing d zero every count few valid = grind (arith, decoded_rest, no_items)
+  flushes_nothing d (suc zero) every count few valid = grind (arith, false≢true, valid_left, fits_with, one_unfit)
   flushes_nothing d (suc (suc k)) every count few valid = absurd (omega arith)
 
   flushed_finishes : (d d' : State F) {r : Result (Unit {0}) (DecodeError E)} (bytes : List ℕ)
       → bytes ≡ decoded (left_over d) → is_valid (left_over d) ≡ true → Flushes step d bytes r d'
       → Finishes step d r d'.closure
-  flushed_finishes d d' {r} [] e valid (told, same) = record {
-    run = [];
-    ran = sym (ap (λ (s : State F). s.closure) same);
-    calls = omega arith;
-    gave = bool_at_true (is_valid (left_over d)) _ _ valid (record { bytes_are = e; answer = told });
-  }
+  flushed_finishes d d' {r} [] e valid (told, same) = grind (arith, bool_at_true)
   flushed_finishes d d' {r} (b ∷ bs) e valid w =
       let bytes : (b ∷ bs) ++ [] ≡ decoded (left_over d) = append-nil (b ∷ bs) ∙ e in
       record {
@@ -545,10 +463,7 @@ ok_no_fault None r e x k l h = (refl, h)
 ok_no_fault (Some i) r e x k l h = absurd (cc)
 
 taken_ok : {F E : Type 0} (u bytes : List ℕ) (d : State F) → IsTaken {E = E} u bytes (Ok tt) d → Took u bytes d
-taken_ok {E = E} u bytes d h =
-    let k = ok_no_fault {E = E} (first_fault u) (Ok tt) (Err (InvalidBase64 (kind_of u))) (InvalidBase64 (kind_of u))
-    refl refl h.answer in
-    record { no_fault = k.0; bytes_are = h.bytes_are; left = k.1.1 }
+taken_ok {E = E} u bytes d h = grind (arith, ok_no_fault)
 
 refused_ok : {E : Type 0} (o : Option E) (P : Type 0) (all bytes : List ℕ)
     → MatchOption o P (λ e. IsRefused {A = Unit {0}} all bytes e (Ok tt)) → (o ≡ None) × P
@@ -558,21 +473,7 @@ refused_ok (Some e) P all bytes h = absurd (let k = h.answer in cc)
 -- decoding goes on from u with b as it does from v
 taken_on : {F E : Type 0} (u b v bytes : List ℕ) (r : Result (Unit {0}) (DecodeError E)) (d : State F) → GoesOn u b v
     → IsTaken v bytes r d → IsTaken (u ++ b) (complete_bytes u ++ bytes) r d
-taken_on u b v bytes r d g h = record {
-  bytes_are = ap (λ x. complete_bytes u ++ x) h.bytes_are ∙ sym g.done_is;
-  answer =
-      match_alike (first_fault v) (first_fault (u ++ b)) _ _ _ _ (sym g.fault_is)
-      (λ k. (
-        k.0,
-        record {
-          symbols_are = k.1.symbols_are ∙ sym g.symbols_left;
-          padding_is = k.1.padding_is
-              ∙ sym g.padding_left;
-        },
-      ))
-      (λ k. k ∙ ap (λ x. Err (InvalidBase64 x)) (sym g.kind_is))
-      h.answer;
-}
+taken_on u b v bytes r d g h = grind (arith, match_alike)
 
 refused_on : {E : Type 0} (u all bytes whole : List ℕ) (e : E) (r : Result (Unit {0}) (DecodeError E))
     → whole ≡ complete_bytes u ++ all → IsRefused all bytes e r → IsRefused whole (complete_bytes u ++ bytes) e r
@@ -596,8 +497,7 @@ done_begins u b = done_cases u b (fault_byte false u) refl
 
 taken_cases : {F E : Type 0} (u b bytes : List ℕ) (x : DecodeError E) (d : State F) (o : Option ℕ)
     → fault_byte false u ≡ o → IsTaken u bytes (Err x) d → IsTaken (u ++ b) bytes (Err x) d
-taken_cases u b bytes x d None h t = absurd (let k = match_at_none (first_fault u) _ _ (none_fault u h) t.answer in
-    let e = k.0 in cc)
+taken_cases u b bytes x d None h t = grind (arith, match_at_none, none_fault)
 taken_cases u b bytes x d (Some c) h t = record {
   bytes_are = t.bytes_are ∙ sym (done_stays u b c h);
   answer =
@@ -610,8 +510,7 @@ taken_cases u b bytes x d (Some c) h t = record {
 
 left_over_is : {F : Type 0} {d : State F} (u : List ℕ) → IsLeft u d
     → left_over d ≡ left_text (left_symbols u) (left_padding u)
-left_over_is {d = d} u h = ap (λ q. left_text q d.padding) h.symbols_are
-    ∙ ap (λ p. left_text (left_symbols u) p) h.padding_is
+left_over_is {d = d} u h = grind arith
 
 -- decoding b after a text without a fault is the same as decoding it after what is left over of the text
 pub left_goes_on : {F : Type 0} {d : State F} (u b : List ℕ) → first_fault u ≡ None → IsLeft u d
@@ -624,9 +523,7 @@ module _ {F E : Type 0} (step : F → List ℕ → Result (Unit {0}) E → F →
   -- if feeding a returns `Ok`, no call returned an error, and the closure got all complete bytes
   pub feeds_took : {d d' : State F} {a : List ℕ} (f : Feeds step d a (Ok tt) d') → (refusal f.run ≡ None)
       × Took (left_over d ++ a) (joined_pieces f.run) d'
-  feeds_took {d} {d'} {a} f =
-      let k = refused_ok (refusal f.run) _ (complete_bytes (left_over d ++ a)) (joined_pieces f.run) f.gave in
-      (k.0, taken_ok (left_over d ++ a) (joined_pieces f.run) d' k.1)
+  feeds_took {d} {d'} {a} f = grind (arith, refused_ok, taken_ok)
 
   -- if a was fed without an error, decoding b goes on as in the whole text
   pub feeds_goes_on : {d d' : State F} {a : List ℕ} (b : List ℕ) (f : Feeds step d a (Ok tt) d')
@@ -641,27 +538,20 @@ module _ {F E : Type 0} (step : F → List ℕ → Result (Unit {0}) E → F →
   pub feeds_then : {d d1 d2 : State F} {a b : List ℕ} {r : Result (Unit {0}) (DecodeError E)}
       → Feeds step d a (Ok tt) d1 → Feeds step d1 b r d2 → Feeds step d (a ++ b) r d2
   feeds_then {d} {d1} {d2} {a} {b} {r} f g =
-      let k = feeds_took f in
-      let on = feeds_goes_on b f in
-      let bytes : joined_pieces (f.run ++ g.run) ≡ complete_bytes (left_over d ++ a) ++ joined_pieces g.run =
-      joined_pieces-append f.run g.run ∙ ap (λ x. x ++ joined_pieces g.run) k.1.bytes_are in
-      let M : List ℕ → Type 0 = λ x. Gives ((left_over d ++ a) ++ b) (refusal g.run) x r d2 in
-      let N : List ℕ → Type 0 = λ u. Gives u (refusal (f.run ++ g.run)) (joined_pieces (f.run ++ g.run)) r d2 in
-      record {
-        run = f.run ++ g.run;
-        ran = run-append step f.run g.run d.closure d1.closure d2.closure f.ran k.0 g.ran;
-        calls = omega (arith, f.calls, g.calls, length-append f.run g.run, length-append a b);
-        failed = g.failed;
-        gave =
-            subst N (append_assoc (left_over d) a b)
-            (match_at (refusal g.run) (refusal (f.run ++ g.run)) _ _ (refusal-append f.run g.run k.0)
-            (subst M (sym bytes)
-            (match_map (refusal g.run) _ _ _ _
-            (taken_on (left_over d ++ a) b (left_over d1 ++ b) (joined_pieces g.run) r d2 on)
-            (λ e. refused_on (left_over d ++ a) (complete_bytes (left_over d1 ++ b)) (joined_pieces g.run) _ e r
-            on.done_is)
-            g.gave)));
-      }
+      grind (
+        arith,
+        feeds_took,
+        feeds_goes_on,
+        joined_pieces-append,
+        run-append,
+        length-append,
+        append_assoc,
+        match_at,
+        refusal-append,
+        match_map,
+        taken_on,
+        refused_on,
+      )
 
   -- an error in a is an error in a followed by b
   pub feeds_err : {d d' : State F} {a : List ℕ} {x : DecodeError E} (b : List ℕ) → Feeds step d a (Err x) d'

@@ -37,9 +37,7 @@ table_is b l = eqb-true (get_or VALUES b 0) (entry_of b) (agree_below_at (λ b. 
 
 -- the value of a symbol is below 64
 pub value_lt : (b : ℕ) → b < 256 → is_symbol b ≡ true → symbol_value b < 64
-value_lt b l h =
-    ltb-true (symbol_value b) 64 (sym (cond-true (is_symbol b) (ltb (symbol_value b) 64) true h)
-    ∙ agree_below_at (λ b. cond (is_symbol b) (ltb (symbol_value b) 64) true) (λ b. true) 256 b refl l)
+value_lt b l h = grind (arith, ltb-true, cond-true, ltb, agree_below_at)
 
 -- the entry of a symbol is its value
 pub entry_symbol : (b : ℕ) → b < 256 → is_symbol b ≡ true → get_or VALUES b 0 ≡ symbol_value b
@@ -55,11 +53,7 @@ entry_lt b l h = let e = entry_symbol b l h in let k = value_lt b l h in omega (
 
 -- an entry is below the mark exactly at a symbol
 pub symbol_is : (b : ℕ) → b < 256 → ltb (get_or VALUES b 0) 64 ≡ is_symbol b
-symbol_is b l =
-    elim (is_symbol b) as (λ v. is_symbol b ≡ v → ltb (get_or VALUES b 0) 64 ≡ v) [
-      | true ↦ λ e. lt-ltb (get_or VALUES b 0) 64 (entry_lt b l e)
-      | false ↦ λ e. le-ltb (get_or VALUES b 0) 64 (let k = entry_other b l e in omega (arith, k))
-    ] refl
+symbol_is b l = grind (arith, ltb, lt-ltb, entry_lt, le-ltb, entry_other)
 
 -- the standard library's class of white space is that of forgiving base64
 pub space_is : (b : ℕ) → b < 256 → std_whitespace b ≡ is_ascii_whitespace b
@@ -192,12 +186,7 @@ four_same : {a b c d a' b' c' d' : ℕ} → a ≡ a' → b ≡ b' → c ≡ c' �
 four_same p q r s = cc
 
 numbers_row : (f : ℕ → ℕ) → ((k : ℕ) → f k < 64) → computed (row f) ≡ numbers (row f)
-numbers_row f h =
-    four_same
-    (one_number (f 0) (f 1) (f 2) (f 3) (h 0) (h 1) (h 2) (h 3))
-    (one_number (f 4) (f 5) (f 6) (f 7) (h 4) (h 5) (h 6) (h 7))
-    (one_number (f 8) (f 9) (f 10) (f 11) (h 8) (h 9) (h 10) (h 11))
-    (one_number (f 12) (f 13) (f 14) (f 15) (h 12) (h 13) (h 14) (h 15))
+numbers_row f h = grind (arith, four_same, one_number)
 
 -- from 16 values below 64, lanes compute the numbers of their groups
 pub numbers_is : (v : List ℕ) → length v ≡ 16 → Each1 (λ x. x < 64) v → computed v ≡ numbers v
@@ -213,11 +202,7 @@ packed ns = take 12 (pick_l 0 (digits_l 256 16 (number_l 4294967296 ns))
 
 group_same : {x y z : ℕ} (n : ℕ) {r s : List ℕ} → n < 16777216 → x ≡ n / 256 ^ 2 % 256 → y ≡ n / 256 ^ 1 % 256
     → z ≡ n / 256 ^ 0 % 256 → r ≡ s → x ∷ y ∷ z ∷ r ≡ group_bytes n ++ s
-group_same {x} {y} {z} n {r} {s} l p q o e =
-    let first : x ≡ n / 65536 = omega arith in
-    let second : y ≡ n / 256 % 256 = omega arith in
-    let third : z ≡ n % 256 = omega arith in
-    cc
+group_same {x} {y} {z} n {r} {s} l p q o e = grind arith
 
 number_lt : (a b c d : ℕ) → a < 64 → b < 64 → c < 64 → d < 64 → group_number a b c d < 16777216
 number_lt a b c d p q r s = omega arith
@@ -309,8 +294,7 @@ others_mask v = mask_l (map is_other v)
 
 -- the mask of 16 bytes is below 65536
 pub mask_lt : (v : List ℕ) → length v ≡ 16 → others_mask v < 65536
-mask_lt v long = let P : ℕ → Type 0 = λ n. others_mask v < 2 ^ n in
-    subst P (length-map v is_other ∙ long) (mask_l-lt (map is_other v))
+mask_lt v long = grind (arith, length-map, mask_l-lt)
 
 not_not : (b : Bool) → not (not b) ≡ b
 not_not true = refl
@@ -336,22 +320,7 @@ unmarked m = eqb m 0
 
 unmarked_mask : (xs : List ℕ) → eqb (mask_l (map (λ m. differs m 0) xs)) 0 ≡ list_all unmarked xs
 unmarked_mask [] = refl
-unmarked_mask (x ∷ xs) =
-    elim (eqb x 0) as (λ t. eqb (cond (not t) 1 0 + 2 * mask_l (map (λ m. differs m 0) xs)) 0
-    ≡ (t && list_all unmarked xs)) [
-      | true ↦ half (mask_l (map (λ m. differs m 0) xs)) ∙ unmarked_mask xs
-      | false ↦ odd (mask_l (map (λ m. differs m 0) xs))
-    ]
-  where
-    half : (n : ℕ) → eqb (0 + 2 * n) 0 ≡ eqb n 0
-    half n = elim (cases_eq n 0) [
-      | inl e ↦ eq-eqb (0 + 2 * n) 0 (omega arith) ∙ sym (eq-eqb n 0 e)
-      | inr e ↦
-          ne_eqb (0 + 2 * n) 0 (λ f. e (omega arith)) ∙ sym (ne_eqb n 0 e)
-    ]
-
-    odd : (n : ℕ) → eqb (1 + 2 * n) 0 ≡ false
-    odd n = ne_eqb (1 + 2 * n) 0 (λ e. omega arith)
+unmarked_mask (x ∷ xs) = grind (arith, eqb, (unmarked_mask xs), cases_eq, eq-eqb, ne_eqb)
 
 or_unmarked : (x y : ℕ) → x < 256 → y < 256 → unmarked (bit_or x y) ≡ (unmarked x && unmarked y)
 or_unmarked x y a b =
@@ -377,9 +346,7 @@ unmarked_or : (xs ys : List ℕ) → length xs ≡ length ys → Each1 (λ x. x 
 unmarked_or [] [] e f g = refl
 unmarked_or [] (y ∷ ys) e f g = absurd (omega arith)
 unmarked_or (x ∷ xs) [] e f g = absurd (omega arith)
-unmarked_or (x ∷ xs) (y ∷ ys) e f g =
-    ap₂ (λ s t. s && t) (or_unmarked x y f.0 g.0) (unmarked_or xs ys (omega arith) f.1 g.1)
-    ∙ regroup (unmarked x) (unmarked y) (list_all unmarked xs) (list_all unmarked ys)
+unmarked_or (x ∷ xs) (y ∷ ys) e f g = grind (arith, or_unmarked, (unmarked_or xs ys (omega arith) f.1 g.1), regroup)
 
 -- Groups of rows
 
@@ -429,28 +396,18 @@ marks_whole : (r0 r1 r2 r3 : List ℕ) → length r0 ≡ 16 → length r1 ≡ 16
     → list_all unmarked (all_marks (map mark_of r0) (map mark_of r1) (map mark_of r2) (map mark_of r3))
     ≡ list_all is_symbol (r0 ++ (r1 ++ (r2 ++ r3)))
 marks_whole r0 r1 r2 r3 l0 l1 l2 l3 f0 f1 f2 f3 =
-    let e0 = length-map r0 mark_of ∙ l0 in
-    let e1 = length-map r1 mark_of ∙ l1 in
-    let e2 = length-map r2 mark_of ∙ l2 in
-    let e3 = length-map r3 mark_of ∙ l3 in
-    let u = map mark_of r0 in
-    let v = map mark_of r1 in
-    let x = map mark_of r2 in
-    let y = map mark_of r3 in
-    let lu = length-zip2 bit_or u v (e0 ∙ sym e1) ∙ e0 in
-    let lx = length-zip2 bit_or x y (e2 ∙ sym e3) ∙ e2 in
-    unmarked_or (zip2 bit_or u v) (zip2 bit_or x y) (lu ∙ sym lx)
-    (zip_lt u v (e0 ∙ sym e1) (marks_lt r0 f0) (marks_lt r1 f1))
-    (zip_lt x y (e2 ∙ sym e3) (marks_lt r2 f2) (marks_lt r3 f3))
-    ∙ ap₂ (λ s t. s && t)
-    (unmarked_or u v (e0 ∙ sym e1) (marks_lt r0 f0) (marks_lt r1 f1)
-    ∙ ap₂ (λ s t. s && t) (all_unmarked r0 f0) (all_unmarked r1 f1))
-    (unmarked_or x y (e2 ∙ sym e3) (marks_lt r2 f2) (marks_lt r3 f3)
-    ∙ ap₂ (λ s t. s && t) (all_unmarked r2 f2) (all_unmarked r3 f3))
-    ∙ and_assoc (list_all is_symbol r0) (list_all is_symbol r1) (list_all is_symbol r2 && list_all is_symbol r3)
-    ∙ sym (list_all-append is_symbol r0 (r1 ++ (r2 ++ r3))
-    ∙ ap (λ t. list_all is_symbol r0 && t) (list_all-append is_symbol r1 (r2 ++ r3)
-    ∙ ap (λ t. list_all is_symbol r1 && t) (list_all-append is_symbol r2 r3)))
+    grind (
+      arith,
+      length-map,
+      length-zip2,
+      bit_or,
+      unmarked_or,
+      zip_lt,
+      marks_lt,
+      all_unmarked,
+      and_assoc,
+      list_all-append,
+    )
 
 -- the combined marks of four rows are all zero exactly if the 64 bytes are symbols
 pub whole_is : (text m0 m1 m2 m3 r0 r1 r2 r3 : List ℕ) → 64 ≤ length text → ((i : ℕ) → Fits w8 (get_or text i 0))
@@ -522,10 +479,7 @@ shuffled_is a b c d p q r s =
 
 groups_of_rows : (w x y z : List ℕ) → length w ≡ 16 → length x ≡ 16 → length y ≡ 16
     → groups (w ++ (x ++ (y ++ z))) ≡ groups w ++ (groups x ++ (groups y ++ groups z))
-groups_of_rows w x y z p q r =
-    groups_whole w (x ++ (y ++ z)) (omega arith)
-    ∙ ap (λ l. groups w ++ l) (groups_whole x (y ++ z) (omega arith)
-    ∙ ap (λ l. groups x ++ l) (groups_whole y z (omega arith)))
+groups_of_rows w x y z p q r = grind (arith, groups_whole)
 
 values_of_rows : (text : List ℕ) → 64 ≤ length text → groups (map value_of (take 64 text))
     ≡ groups (map value_of (take 16 (drop 0 text))) ++ (groups (map value_of (take 16 (drop 16 text))) ++ (groups
@@ -567,8 +521,4 @@ pub decoded_block : (text a b c d r0 r1 r2 r3 bytes : List ℕ) → 64 ≤ lengt
     → take 12 d ≡ groups (map value_of r3)
     → bytes ≡ shuffled a b c d → bytes ≡ groups (map value_of (take 64 text))
 decoded_block text a b c d r0 r1 r2 r3 bytes long la lb lc ld e0 e1 e2 e3 p q r s e =
-    let of : List ℕ → List ℕ = λ l. groups (map value_of l) in
-    e ∙ shuffled_is a b c d la lb lc ld
-    ∙ ap₂ (λ (x y : List ℕ). x ++ y) (p ∙ ap of e0) (ap₂ (λ (x y : List ℕ). x ++ y) (q ∙ ap of e1)
-    (ap₂ (λ (x y : List ℕ). x ++ y) (r ∙ ap of e2) (s ∙ ap of e3)))
-    ∙ sym (values_of_rows text long)
+    grind (arith, shuffled_is, values_of_rows)

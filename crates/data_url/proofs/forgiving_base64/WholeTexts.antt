@@ -46,10 +46,8 @@ match_either (Some i) P Q m f = m
 taken_invalid : {F E : Type 0} (u bytes : List ℕ) (r : Result (Unit {0}) (DecodeError E)) (x : DecodeError E)
     (d : State F) (o : Option ℕ) → r ≡ Err x → fault_byte false u ≡ o → IsTaken u bytes r d
     → MatchBool (is_valid u) (IsAll u bytes r) ((bytes ≡ complete_bytes u) × (r ≡ Err (InvalidBase64 (kind_of u))))
-taken_invalid u bytes r x d None q h t = absurd (let k = match_at_none (first_fault u) _ _ (none_fault u h) t.answer in
-    let e = k.0 in cc)
-taken_invalid u bytes r x d (Some c) q h t = bool_at_false (is_valid u) _ _ (fault_invalid u c h)
-    (t.bytes_are, match_either (first_fault u) _ _ t.answer (λ k. absurd (let e = k.0 in cc)))
+taken_invalid u bytes r x d None q h t = grind (arith, match_at_none, none_fault)
+taken_invalid u bytes r x d (Some c) q h t = grind (arith, bool_at_false, fault_invalid, match_either)
 
 module _ {F E : Type 0} (step : F → List ℕ → Result (Unit {0}) E → F → Type 0) where
   -- what the closure is called with for a whole text
@@ -142,8 +140,7 @@ module _ {F E : Type 0} (step : F → List ℕ → Result (Unit {0}) E → F →
   -- if feeding a new decoder the text u returns an error, decoding u returns it
   pub decodes_refused : {d d' : State F} {f : F} {u : List ℕ} {x : DecodeError E} → d ≡ start f
       → Feeds step d u (Err x) d' → DecodesText step f u (Err x) d'.closure
-  decodes_refused {d} {d'} {f} {u} {x} e g = let P : State F → Type 0 = λ s. Feeds step s u (Err x) d' in
-      refused_fed (subst P e g) refl
+  decodes_refused {d} {d'} {f} {u} {x} e g = grind (arith, refused_fed)
 
   -- feeding a new decoder the text u and then finishing it decodes u
   pub decodes_finished : {d d' : State F} {f f' : F} {u : List ℕ} {r : Result (Unit {0}) (DecodeError E)} → d ≡ start f
@@ -166,9 +163,7 @@ call_reads : {F E : Type 0} (step : F → List ℕ → Result (Unit {0}) E → F
     → ((g : F) (piece : List ℕ) (g' : F) → step g piece (Ok tt) g' → J g' ≡ J g ++ piece)
     → (c : Call F E) (f : F) (last rest : List ℕ) → step f c.piece c.answer c.after → c.answer ≡ Ok tt
     → last ≡ J c.after ++ rest → last ≡ J f ++ (c.piece ++ rest)
-call_reads {F} {E} step J keeps c f last rest s e h =
-    let P : Result (Unit {0}) E → Type 0 = λ r. step f c.piece r c.after in
-    h ∙ ap (λ x. x ++ rest) (keeps f c.piece c.after (subst P e s)) ∙ append_assoc (J f) c.piece rest
+call_reads {F} {E} step J keeps c f last rest s e h = grind (arith, append_assoc)
 
 whole_ok : {E : Type 0} (v : Bool) (u bytes : List ℕ) (r : Result (Unit {0}) (DecodeError E)) → r ≡ Ok tt
     → MatchBool v (IsAll u bytes r) ((bytes ≡ complete_bytes u) × (r ≡ Err (InvalidBase64 (kind_of u))))
@@ -189,18 +184,14 @@ run_reads step J keeps (c ∷ cs) f f' ran n = call_reads step J keeps c f (J f'
 pub decodes_reads : {F E : Type 0} {step : F → List ℕ → Result (Unit {0}) E → F → Type 0} {f f' : F} {u : List ℕ}
     {r : Result (Unit {0}) (DecodeError E)} → DecodesText step f u r f' → r ≡ Ok tt → (J : F → List ℕ)
     → ((g : F) (piece : List ℕ) (g' : F) → step g piece (Ok tt) g' → J g' ≡ J g ++ piece) → J f' ≡ J f ++ decoded u
-decodes_reads {F} {E} {step} {f} {f'} {u} {r} h q J keeps =
-    let k = all_ok (refusal h.run) _ (whole_bytes u) (joined_pieces h.run) r q h.gave in
-    run_reads step J keeps h.run f f' h.ran k.0
-    ∙ ap (λ x. J f ++ x) (whole_ok (is_valid u) u (joined_pieces h.run) r q k.1)
+decodes_reads {F} {E} {step} {f} {f'} {u} {r} h q J keeps = grind (arith, all_ok, run_reads, whole_ok)
 
 -- what each call preserves, a run preserves
 pub run_keeps : {F E A : Type 0} (step : F → List ℕ → Result (Unit {0}) E → F → Type 0) (K : F → A)
     → ((g : F) (piece : List ℕ) (r : Result (Unit {0}) E) (g' : F) → step g piece r g' → K g ≡ K g')
     → (cs : List (Call F E)) (f f' : F) → IsRun step f cs f' → K f ≡ K f'
 run_keeps step K keeps [] f f' ran = ap K ran
-run_keeps step K keeps (c ∷ cs) f f' ran = keeps f c.piece c.answer c.after ran.0
-    ∙ run_keeps step K keeps cs c.after f' ran.2
+run_keeps step K keeps (c ∷ cs) f f' ran = grind (arith, (run_keeps step K keeps cs c.after f' ran.2))
 
 -- what each call preserves, decoding a text preserves
 pub decodes_keeps : {F E A : Type 0} {step : F → List ℕ → Result (Unit {0}) E → F → Type 0} {f f' : F} {u : List ℕ}

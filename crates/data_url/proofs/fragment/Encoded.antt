@@ -30,25 +30,17 @@ digit_byte : (d : ℕ) → d < 16 → is_fragment_byte (hex_digit d) ≡ true
 digit_byte d l = agree_below_at (λ d. is_fragment_byte (hex_digit d)) (λ d. true) 16 d refl l
 
 byte_encoded : (b : ℕ) → b < 256 → Every is_fragment_byte (encoded_byte in_fragment_set b)
-byte_encoded b l = cond_both (in_fragment_set b) (37 ∷ hex_digit (b / 16) ∷ hex_digit (b % 16) ∷ []) (b ∷ [])
-    (λ t. Every is_fragment_byte t)
-    (λ e. (refl, (digit_byte (b / 16) (omega arith), (digit_byte (b % 16) (omega arith), tt))))
-    (λ e. (outside_set b l e, tt))
+byte_encoded b l = grind (arith, cond_both, digit_byte, outside_set)
 
 -- the percent-encoding of a fragment has only bytes that an encoded fragment can have
 pub fragment_bytes : (s : List ℕ) → IsBytes s → Every is_fragment_byte (percent_encoding in_fragment_set s)
 fragment_bytes [] h = subst (Every is_fragment_byte) (sym (encoded_nil in_fragment_set)) tt
-fragment_bytes (b ∷ s) h = subst (Every is_fragment_byte) (sym (encoded_cons in_fragment_set b s))
-    (every_append is_fragment_byte (encoded_byte in_fragment_set b) (percent_encoding in_fragment_set s)
-    (byte_encoded b h.0) (fragment_bytes s h.1))
+fragment_bytes (b ∷ s) h = grind (arith, encoded_cons, every_append, byte_encoded, (fragment_bytes s h.1))
 
 -- Such bytes stay as they are
 
 byte_below : (b : ℕ) → is_fragment_byte b ≡ true → b < 256
-byte_below b h =
-    let range = (and_parts (is_in_range 33 126 b) (not ((b == 34) || ((b == 60) || ((b == 62) || (b == 96))))) h).0 in
-    let high : b ≤ 126 = leb-true b 126 (and_parts (nat_le 33 b) (nat_le b 126) range).1 in
-    omega arith
+byte_below b h = grind (arith, and_parts, leb-true)
 
 abbrev excludes : (ℕ → Bool) → ℕ → Bool
 excludes p b = not (is_fragment_byte b && p b)
@@ -57,24 +49,17 @@ excluded : (p : ℕ → Bool) (b : ℕ) → excludes p b ≡ true → is_fragmen
 excluded p b e h = false_from_ne_true (p b) (λ k. both_ways (excludes p b) (ap (λ v. not (v && p b)) h ∙ ap not k) e)
 
 not_in_set : (b : ℕ) → is_fragment_byte b ≡ true → in_fragment_set b ≡ false
-not_in_set b h = excluded in_fragment_set b (agree_below_at (excludes in_fragment_set) (λ c. true) 256 b refl
-    (byte_below b h)) h
+not_in_set b h = grind (arith, excluded, agree_below_at, byte_below)
 
 not_low : (b : ℕ) → is_fragment_byte b ≡ true → is_c0_control_or_space b ≡ false
-not_low b h = excluded is_c0_control_or_space b (agree_below_at (excludes is_c0_control_or_space) (λ c. true) 256 b refl
-    (byte_below b h)) h
+not_low b h = grind (arith, excluded, agree_below_at, byte_below)
 
 not_dropped : (b : ℕ) → is_fragment_byte b ≡ true → is_tab_or_newline b ≡ false
-not_dropped b h = excluded is_tab_or_newline b (agree_below_at (excludes is_tab_or_newline) (λ c. true) 256 b refl
-    (byte_below b h)) h
+not_dropped b h = grind (arith, excluded, agree_below_at, byte_below)
 
 encoded_itself : (x : List ℕ) → Every is_fragment_byte x → percent_encoding in_fragment_set x ≡ x
 encoded_itself [] h = encoded_nil in_fragment_set
-encoded_itself (b ∷ x) h =
-    encoded_cons in_fragment_set b x
-    ∙ ap (λ t. t ++ percent_encoding in_fragment_set x)
-    (cond-false (in_fragment_set b) (37 ∷ hex_digit (b / 16) ∷ hex_digit (b % 16) ∷ []) (b ∷ []) (not_in_set b h.0))
-    ∙ ap (λ t. b ∷ t) (encoded_itself x h.1)
+encoded_itself (b ∷ x) h = grind (arith, encoded_cons, cond-false, not_in_set, (encoded_itself x h.1))
 
 dropped_itself : (t : List ℕ) → Every is_fragment_byte t → without_tabs_and_newlines t ≡ t
 dropped_itself [] h = dropped_nil
@@ -94,10 +79,7 @@ no_low_end t h = no_low_front (reverse t) (every_reverse t h)
 
 trimmed_itself : (t : List ℕ) → Every is_fragment_byte t → trimmed_text t ≡ t
 unfolding trimmed_text
-trimmed_itself t h =
-    ap (without_end is_c0_control_or_space) (ap (λ n. drop n t) (no_low_front t h))
-    ∙ ap (λ n. take (length t - n) t) (no_low_end t h)
-    ∙ take_all (length t - 0) t (omega arith)
+trimmed_itself t h = grind (arith, no_low_front, no_low_end, take_all)
 
 cleaned_itself : (t : List ℕ) → Every is_fragment_byte t → cleaned_text t ≡ t
 unfolding cleaned_text
@@ -107,10 +89,7 @@ cleaned_itself t h = ap without_tabs_and_newlines (trimmed_itself t h) ∙ dropp
 
 after_data : (t x : List ℕ) → cleaned_text t ≡ codes "data:,#" ++ x → after_scheme t ≡ Some (44 ∷ 35 ∷ x)
 unfolding after_scheme
-after_data t x h =
-    let P : List ℕ → Type 0 = λ s. cond (bytes_eq (map to_ascii_lowercase (take 5 s)) (codes "data:"))
-    (Some (drop 5 s)) None ≡ Some (44 ∷ 35 ∷ x) in
-    subst P (sym h) refl
+after_data t x h = grind arith
 
 front_comma : (x : List ℕ) → serialised (front (44 ∷ 35 ∷ x)) ≡ 44 ∷ []
 unfolding front before after serialised encoded_path percent_encoding
@@ -135,17 +114,8 @@ body_empty t h = ap (option_and_then (after 44)) h
 staged_again : (t x : List ℕ) → after_scheme t ≡ Some (44 ∷ 35 ∷ x)
     → staged_fragment (staged t) ≡ Some (percent_encoding in_fragment_set x)
 unfolding staged
-staged_again t x h =
-    let f = front_of_comma t x h in
-    ap (λ a. staged_fragment (staged_after t a)) h
-    ∙ ap (λ o. staged_fragment (staged_parts o (header_of t) (encoded_body t))) (fragment_after x)
-    ∙ ap (λ o. staged_fragment (staged_parts (Some x) o (encoded_body t))) (header_empty t f)
-    ∙ ap (λ o. staged_fragment (staged_parts (Some x) (Some []) o)) (body_empty t f)
+staged_again t x h = grind (arith, front_of_comma, fragment_after, header_empty, body_empty)
 
 -- a text of such bytes, read as a fragment, is percent-encoded as itself
 pub read_again : (x : List ℕ) → Every is_fragment_byte x → IsReadAgain x
-read_again x h =
-    let t : List ℕ = codes "data:,#" ++ x in
-    let every : Every is_fragment_byte t = every_append is_fragment_byte (codes "data:,#") x
-    (every_from_all is_fragment_byte (codes "data:,#") refl) h in
-    staged_again t x (after_data t x (cleaned_itself t every)) ∙ ap (λ (s : List ℕ). Some s) (encoded_itself x h)
+read_again x h = grind (arith, every_append, every_from_all, staged_again, after_data, cleaned_itself, encoded_itself)

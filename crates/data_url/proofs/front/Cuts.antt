@@ -39,31 +39,19 @@ spells_nothing = record { open_at = omega arith; spelled = ap (map to_ascii_lowe
 
 dropped_one_passes : (b : ℕ) → is_tab_or_newline b ≡ true → (s : List ℕ)
     → without_tabs_and_newlines (s ++ b ∷ []) ≡ without_tabs_and_newlines s
-dropped_one_passes b h s = without_tabs_and_newlines-append s (b ∷ [])
-    ∙ ap (λ t. without_tabs_and_newlines s ++ t) (dropped_passes b [] h ∙ dropped_nil)
-    ∙ append-nil (without_tabs_and_newlines s)
+dropped_one_passes b h s = grind (arith, without_tabs_and_newlines-append, dropped_passes, dropped_nil, append-nil)
 
 dropped_one_keeps : (b : ℕ) → is_tab_or_newline b ≡ false → (s : List ℕ)
     → without_tabs_and_newlines (s ++ b ∷ []) ≡ without_tabs_and_newlines s ++ b ∷ []
-dropped_one_keeps b h s = without_tabs_and_newlines-append s (b ∷ [])
-    ∙ ap (λ t. without_tabs_and_newlines s ++ t) (dropped_keeps b [] h ∙ ap (λ t. b ∷ t) dropped_nil)
+dropped_one_keeps b h s = grind (arith, without_tabs_and_newlines-append, dropped_keeps, dropped_nil)
 
 -- a tab or newline after a text does not change how many bytes of the scheme it spells
 pub spells_passed : (s : List ℕ) (n b : ℕ) → Spells s n → is_tab_or_newline b ≡ true → Spells (s ++ b ∷ []) n
-spells_passed s n b h e = record {
-  open_at = h.open_at;
-  spelled = ap (map to_ascii_lowercase) (dropped_one_passes b e s)
-      ∙ h.spelled;
-}
+spells_passed s n b h e = grind (arith, dropped_one_passes)
 
 one_more : (s : List ℕ) (n b : ℕ) → Spells s n → is_tab_or_newline b ≡ false → to_ascii_lowercase b ≡ get_or scheme n 0
     → map to_ascii_lowercase (without_tabs_and_newlines (s ++ b ∷ [])) ≡ take (n + 1) scheme
-one_more s n b h e same =
-    ap (map to_ascii_lowercase) (dropped_one_keeps b e s)
-    ∙ map-append to_ascii_lowercase (without_tabs_and_newlines s) (b ∷ [])
-    ∙ ap (λ t. t ++ to_ascii_lowercase b ∷ []) h.spelled
-    ∙ ap (λ c. take n scheme ++ c ∷ []) same
-    ∙ sym (take_more scheme n 0 h.open_at)
+one_more s n b h e same = grind (arith, dropped_one_keeps, map-append, take_more)
 
 -- if the byte after a text is, in lower case, the next byte of the scheme, but not the last one, the text with that
 -- byte spells one byte more
@@ -79,8 +67,7 @@ pub spells_all : (s : List ℕ) (n b : ℕ) → Spells s n → is_tab_or_newline
 spells_all s n b h e same whole = one_more s n b h e same ∙ ap (λ k. take k scheme) whole
 
 spelled_length : (s : List ℕ) (n : ℕ) → Spells s n → length (without_tabs_and_newlines s) ≡ n
-spelled_length s n h = sym (length-map (without_tabs_and_newlines s) to_ascii_lowercase) ∙ ap length h.spelled
-    ∙ length-take n scheme ∙ omega (arith, h.open_at)
+spelled_length s n h = grind (arith, length-map, length-take)
 
 -- a text that spells only a part of the scheme does not begin with the scheme
 pub ends_early : (s : List ℕ) (n : ℕ) → Spells s n → HasNoScheme s
@@ -120,11 +107,7 @@ differs text s n b rest h e ne is =
 
 -- a byte of the scheme, in any ASCII case, is ASCII
 pub scheme_is_ascii : (n b : ℕ) → n < 5 → to_ascii_lowercase b ≡ get_or scheme n 0 → b < 128
-scheme_is_ascii n b l e =
-    let low : get_or scheme n 0 < 128 =
-    ltb-true (get_or scheme n 0) 128 (agree_below_at (λ n. ltb (get_or scheme n 0) 128) (λ n. true) 5 n refl l) in
-    ⊎_elim (λ h. h) (λ (h : 128 ≤ b). let stays : to_ascii_lowercase b ≡ b = (lowercase_is b).2 (omega arith) in
-    omega arith) (cases_lt b 128)
+scheme_is_ascii n b l e = grind (arith, ltb-true, agree_below_at, ltb, ⊎_elim, lowercase_is, cases_lt)
 
 -- The scheme as it is commonly spelled
 
@@ -146,21 +129,14 @@ common_boundary text u h =
 
 -- a text that begins with "data:" has the scheme, and its rest is the text from the sixth byte on
 pub common_scheme : (text rest : List ℕ) → text ≡ scheme ++ drop 5 text → rest ≡ drop 5 text → IsSchemeAndRest text rest
-common_scheme text rest h e = record {
-  scheme = scheme;
-  joined = h ∙ ap (λ s. scheme ++ s) (sym e);
-  spelled =
-      common_spelled;
-}
+common_scheme text rest h e = grind (arith, common_spelled)
 
 -- The first comma or '#' of a text.
 
 -- a text that does not have the byte at an index below n does not have it before n
 lacks_in_take : (c : ℕ) (s : List ℕ) (n : ℕ) → ((k : ℕ) → k < n → (get_or s k 0 == c) ≡ false)
     → after c (take n s) ≡ None
-lacks_in_take c s n h = after_none c (take n s) (λ k l.
-    let below : k < n = omega (arith, length-take n s) in
-    ap (λ v. v == c) (get_or-take n s k 0 below) ∙ h k below)
+lacks_in_take c s n h = grind (arith, after_none, length-take, get_or-take)
 
 cut_at : (s : List ℕ) (n : ℕ) → n < length s → s ≡ take n s ++ get_or s n 0 ∷ drop (n + 1) s
 cut_at s n l = sym (take-append-drop n s) ∙ ap (λ t. take n s ++ t) (drop_more s n 0 l)
@@ -203,13 +179,7 @@ front_end_from s m k h e =
 
 -- if the first ',' or '#' of a text is a ',', the bytes before it are the header, and those after it are the tail
 pub at_comma : (s : List ℕ) (n : ℕ) → IsFrontEnd s n → get_or s n 0 ≢ 35 → IsHeaderAndTail s (take n s) (drop (n + 1) s)
-at_comma s n f ne =
-    let comma : get_or s n 0 ≡ 44 = ⊎_elim (λ h. h) (λ h. absurd (ne h)) f.is in
-    record {
-      joined = cut_at s n f.within ∙ ap (λ b. take n s ++ b ∷ drop (n + 1) s) comma;
-      no_comma = f.no_comma;
-      no_fragment = f.no_hash;
-    }
+at_comma s n f ne = grind (arith, ⊎_elim, cut_at)
 
 -- if the first ',' or '#' of a text is a '#', there is no ',' before the first '#'
 pub at_hash : (s : List ℕ) (n : ℕ) → IsFrontEnd s n → get_or s n 0 ≡ 35 → after 44 (front s) ≡ None
@@ -249,9 +219,7 @@ is_ascii_end s n f = ⊎_elim (λ h. omega arith) (λ h. omega arith) f.is
 -- if n is the length of the longest prefix of plain path bytes, each of the first n bytes is `Plain`
 pub plain_front : (s items : List ℕ) (n : ℕ) → items ≡ s → n ≡ prefix_len is_plain_path items
     → ((i : ℕ) → get_or s i 0 < 256) → (k : ℕ) → k < n → Plain (get_or s k 0)
-plain_front s items n e f h k l =
-    plain_byte (get_or s k 0) (h k)
-    (prefix_len_passes is_plain_path s k 0 (subst (λ m. k < m) (f ∙ ap (prefix_len is_plain_path) e) l))
+plain_front s items n e f h k l = grind (arith, plain_byte, prefix_len_passes)
 
 -- if the first n bytes are plain, there is no ',' or '#' before index n
 pub plain_no_end : (s : List ℕ) (n : ℕ) → ((k : ℕ) → k < n → Plain (get_or s k 0)) → NoEndBefore s n
@@ -260,10 +228,7 @@ plain_no_end s n h k l = let p = h k l in ap₂ (λ x y. x || y) p.no_comma p.no
 -- if the first n bytes are plain, they are a header that is serialised as it is
 pub plain_header : (s header : List ℕ) (n : ℕ) → ((k : ℕ) → k < n → Plain (get_or s k 0)) → header ≡ take n s
     → header_text (without_tabs_and_newlines header) ≡ header
-plain_header s header n h e = subst (λ t. header_text (without_tabs_and_newlines t) ≡ t) (sym e)
-    (plain_serialised (take n s) (λ k l.
-    let below : k < n = omega (arith, length-take n s) in
-    subst Plain (sym (get_or-take n s k 0 below)) (h k below)))
+plain_header s header n h e = grind (arith, plain_serialised, length-take, get_or-take)
 
 abbrev FitsBytes : List ℕ → Type 0
 FitsBytes s = (i : ℕ) → get_or s i 0 < 256
@@ -274,9 +239,7 @@ no_end_ahead s items n e f h = plain_no_end s n (plain_front s items n e f h)
 
 ends_ahead : (s items : List ℕ) (n : ℕ) (r : Option ℕ) → items ≡ s
     → r ≡ position ends_header (take (length items - n) (drop n items)) → position ends_header (drop n s) ≡ r
-ends_ahead s items n r e p = ap (λ t. position ends_header (drop n t)) (sym e)
-    ∙ ap (position ends_header) (sym (take_all (length items - n) (drop n items) (omega (arith, length-drop n items))))
-    ∙ sym p
+ends_ahead s items n r e p = grind (arith, position, take_all, length-drop)
 
 -- if the first ',' or '#' after the n plain bytes at the front is at index k of the bytes after them, the first one of
 -- the text is at n + k

@@ -47,10 +47,7 @@ path_more b (d ∷ s) c = path_cons b (d ∷ (s ++ c ∷ []))
 -- if a path ends with a space, this space is encoded as "%20", and the bytes before it with the path's set
 pub path_space : (s : List ℕ) → encoded_path (s ++ 32 ∷ []) ≡ percent_encoding in_path_set s ++ codes "%20"
 path_space [] = path_one 32 ∙ ap (λ t. t ++ codes "%20") (sym (encoded_nil in_path_set))
-path_space (b ∷ s) =
-    path_more b s 32 ∙ ap (λ t. encoded_byte in_path_set b ++ t) (path_space s)
-    ∙ sym (append_assoc (encoded_byte in_path_set b) (percent_encoding in_path_set s) (codes "%20"))
-    ∙ ap (λ t. t ++ codes "%20") (sym (encoded_cons in_path_set b s))
+path_space (b ∷ s) = grind (arith, path_more, (path_space s), append_assoc, encoded_cons)
 
 -- another byte at the end
 end_set : (c : ℕ) → (c == 32) ≡ false → in_path_end_set c ≡ in_path_set c
@@ -59,13 +56,8 @@ end_set c e = ap (λ v. in_path_set c || v) e ∙ or-false (in_path_set c)
 -- a path that ends with another byte is encoded with the path's set
 pub path_other : (s : List ℕ) (c : ℕ) → (c == 32) ≡ false → encoded_path (s ++ c ∷ []) ≡ percent_encoding in_path_set
     (s ++ c ∷ [])
-path_other [] c e =
-    path_one c ∙ ap (λ v. cond v (37 ∷ hex_digit (c / 16) ∷ hex_digit (c % 16) ∷ []) (c ∷ [])) (end_set c e)
-    ∙ sym (append-nil (encoded_byte in_path_set c))
-    ∙ ap (λ t. encoded_byte in_path_set c ++ t) (sym (encoded_nil in_path_set))
-    ∙ sym (encoded_cons in_path_set c [])
-path_other (b ∷ s) c e = path_more b s c ∙ ap (λ t. encoded_byte in_path_set b ++ t) (path_other s c e)
-    ∙ sym (encoded_cons in_path_set b (s ++ c ∷ []))
+path_other [] c e = grind (arith, path_one, end_set, append-nil, encoded_nil, encoded_cons)
+path_other (b ∷ s) c e = grind (arith, path_more, (path_other s c e), encoded_cons)
 
 -- only tabs and newlines
 all_dropped : (s : List ℕ) → ((k : ℕ) → k < length s → is_tab_or_newline (get_or s k 0) ≡ true)
@@ -124,10 +116,7 @@ has_other_end s m n e at other =
 
 -- a path of only tabs and newlines has no last space
 pub has_no_end : (s : List ℕ) (m : ℕ) → m ≡ suffix_len is_tab_or_newline s → length s ≤ m → HasNoLastSpace s
-has_no_end s m e all =
-    subst (λ t. encoded_path t ≡ percent_encoding in_path_set t)
-    (sym (all_dropped s (λ k l. suffix_passes is_tab_or_newline s m k e (omega arith) l))) (path_nil
-    ∙ sym (encoded_nil in_path_set))
+has_no_end s m e all = grind (arith, all_dropped, suffix_passes, path_nil, encoded_nil)
 
 -- The parts of a header
 
@@ -135,10 +124,7 @@ has_no_end s m e all =
 header_alone : (path : List ℕ) → after 63 path ≡ None → header_text (without_tabs_and_newlines path)
     ≡ percent_encoding in_path_set (without_tabs_and_newlines path)
 unfolding header_text
-header_alone path h =
-    let lacks = after-dropped_none 63 refl path h in
-    ap (header_parts (before 63 (without_tabs_and_newlines path))) lacks
-    ∙ ap (percent_encoding in_path_set) (before_all 63 (without_tabs_and_newlines path) lacks)
+header_alone path h = grind (arith, after-dropped_none, before_all)
 
 -- with one
 header_and_query : (path rest : List ℕ) → after 63 path ≡ None
@@ -146,25 +132,20 @@ header_and_query : (path rest : List ℕ) → after 63 path ≡ None
     (without_tabs_and_newlines path) ++ percent_encoding in_query_set (without_tabs_and_newlines (63 ∷ rest))
 unfolding header_text
 header_and_query path rest h =
-    let lacks = after-dropped_none 63 refl path h in
-    let query : percent_encoding in_query_set (without_tabs_and_newlines (63 ∷ rest)) ≡ 63 ∷ percent_encoding
-    in_query_set (without_tabs_and_newlines rest) = ap (percent_encoding in_query_set) (dropped_keeps 63 rest refl)
-    ∙ encoded_cons in_query_set 63 (without_tabs_and_newlines rest) in
-    let whole : without_tabs_and_newlines (path ++ 63 ∷ rest) ≡ without_tabs_and_newlines
-    path ++ 63 ∷ without_tabs_and_newlines rest = without_tabs_and_newlines-append path (63 ∷ rest)
-    ∙ ap (λ s. without_tabs_and_newlines path ++ s) (dropped_keeps 63 rest refl) in
-    ap (λ s. header_parts (before 63 s) (after 63 s)) whole
-    ∙ ap (λ p. header_parts p (after 63 (without_tabs_and_newlines path ++ 63 ∷ without_tabs_and_newlines rest)))
-    (before_at 63 (without_tabs_and_newlines path) (without_tabs_and_newlines rest) lacks)
-    ∙ ap (header_parts (without_tabs_and_newlines path)) (after_at 63 (without_tabs_and_newlines path)
-    (without_tabs_and_newlines rest) lacks)
-    ∙ ap (λ s. encoded_path (without_tabs_and_newlines path) ++ s) (sym query)
+    grind (
+      arith,
+      after-dropped_none,
+      dropped_keeps,
+      encoded_cons,
+      without_tabs_and_newlines-append,
+      before_at,
+      after_at,
+    )
 
 -- nothing after a path
 nothing_after : (path : List ℕ) → encoded_parts path [] [] ≡ percent_encoding in_path_set
     (without_tabs_and_newlines path)
-nothing_after path = ap (λ s. percent_encoding in_path_set (without_tabs_and_newlines path) ++ s)
-    (ap (percent_encoding in_query_set) dropped_nil ∙ encoded_nil in_query_set) ∙ append-nil _
+nothing_after path = grind (arith, dropped_nil, encoded_nil, append-nil)
 
 -- no bytes, or some
 not-suc-eq-zero : {n : ℕ} → suc n ≡ 0 → ⊥
@@ -183,36 +164,13 @@ some_bytes (b ∷ s) v e f n = absurd (let k = n in cc)
 -- if the path has no last space, or there is no query, the encoded path and query are the serialised header
 pub parts_whole : (header path query : List ℕ) → IsPathAndQuery header path query → (query ≡ []) ⊎ HasNoLastSpace path
     → encoded_parts path [] query ≡ header_text (without_tabs_and_newlines header)
-parts_whole header path query h end = ⊎_elim
-    (λ none.
-    ap (encoded_parts path []) none ∙ nothing_after path ∙ sym (header_alone path h.path_ends)
-    ∙ ap (λ s. header_text (without_tabs_and_newlines s)) (sym (h.joined ∙ ap (λ s. path ++ s) none ∙ append-nil path)))
-    (λ some.
-    ⊎_elim
-    (λ none. absurd (let k : 63 ∷ some.0 ≡ [] = sym some.1 ∙ none in cc))
-    (λ other.
-    ap (encoded_parts path []) some.1
-    ∙ ap (λ s. s ++ percent_encoding in_query_set (without_tabs_and_newlines (63 ∷ some.0))) (sym other)
-    ∙ sym (header_and_query path some.0 h.path_ends)
-    ∙ ap (λ s. header_text (without_tabs_and_newlines s)) (sym (h.joined ∙ ap (λ s. path ++ s) some.1)))
-    end)
-    h.query_begins
+parts_whole header path query h end = grind (arith, ⊎_elim, nothing_after, header_alone, append-nil, header_and_query)
 
 -- if the path has a last space, and there is a query, the encoded path without that space, "%20", and the encoded query
 -- are the serialised header
 pub parts_spaced : (header path front query : List ℕ) → IsPathAndQuery header path query → query ≢ []
     → WithoutSpace path front → encoded_parts front (codes "%20") query ≡ header_text (without_tabs_and_newlines header)
-parts_spaced header path front query h there w = ⊎_elim
-    (λ none. absurd (there none))
-    (λ some.
-    ap (encoded_parts front (codes "%20")) some.1
-    ∙ sym (append_assoc (percent_encoding in_path_set (without_tabs_and_newlines front)) (codes "%20")
-    (percent_encoding in_query_set (without_tabs_and_newlines (63 ∷ some.0))))
-    ∙ ap (λ s. s ++ percent_encoding in_query_set (without_tabs_and_newlines (63 ∷ some.0)))
-    (sym (ap encoded_path w ∙ path_space (without_tabs_and_newlines front)))
-    ∙ sym (header_and_query path some.0 h.path_ends)
-    ∙ ap (λ s. header_text (without_tabs_and_newlines s)) (sym (h.joined ∙ ap (λ s. path ++ s) some.1)))
-    h.query_begins
+parts_spaced header path front query h there w = grind (arith, ⊎_elim, append_assoc, path_space, header_and_query)
 
 is_false : (b : Bool) → not b ≡ true → b ≡ false
 is_false true h = absurd (let k = h in cc)
@@ -268,13 +226,7 @@ ends_trimmed s =
     ]
 
 not_tab : (b : ℕ) → is_c0_control_or_space b ≡ false → is_tab_or_newline b ≡ false
-not_tab b h =
-    let l : 32 < b = leb-false b 32 h in
-    rw (
-      ne_eqb b 9 (λ e. omega (arith, l, e)),
-      ne_eqb b 10 (λ e. omega (arith, l, e)),
-      ne_eqb b 13 (λ e. omega (arith, l, e)),
-    ) refl
+not_tab b h = grind (arith, leb-false, ne_eqb)
 
 not_space : (b : ℕ) → is_c0_control_or_space b ≡ false → is_space b ≡ false
 not_space b h = let l : 32 < b = leb-false b 32 h in ne_eqb b 32 (λ e. omega (arith, l, e))
@@ -319,8 +271,7 @@ given_of false s a h = absurd (let k : None ≡ Some a = h in cc)
 
 after_is : (t a : List ℕ) → after_scheme t ≡ Some a → a ≡ drop 5 (cleaned_text t)
 unfolding after_scheme
-after_is t a h = given_of (bytes_eq (map to_ascii_lowercase (take 5 (cleaned_text t))) (codes "data:"))
-    (drop 5 (cleaned_text t)) a h
+after_is t a h = grind (arith, given_of)
 
 -- what follows the scheme does not end with a space
 pub no_last_space : (t a : List ℕ) → after_scheme t ≡ Some a → DoesNotEnd is_space a
@@ -363,8 +314,7 @@ differs_last path init b e = elim (cases_Bool (b == 32)) [
 ]
 
 differs_by : (path : List ℕ) → HasLast path → Differs path
-differs_by path (without_last e) =
-    same_path (ap encoded_path e ∙ path_nil ∙ sym (ap (percent_encoding in_path_set) e ∙ encoded_nil in_path_set))
+differs_by path (without_last e) = grind (arith, path_nil, encoded_nil)
 differs_by path (with_last init b e) = differs_last path init b e
 
 -- The flag of a text whose first comma is known
@@ -384,12 +334,7 @@ comma_before x y rest h =
 -- the header of a text whose first comma, if there is one, comes after its '?'
 comma_after : (u query : List ℕ) → after 44 u ≡ None → (o : Option (List ℕ)) → after 44 query ≡ o
     → before_comma (u ++ 63 ∷ query) ≡ option_map (λ r. u ++ 63 ∷ before 44 query) o
-comma_after u query h o e =
-    let found : after 44 (u ++ 63 ∷ query) ≡ o = after-append 44 u (63 ∷ query) h ∙ after_other 44 63 query refl
-    ∙ e in
-    let front : before 44 (u ++ 63 ∷ query) ≡ u ++ 63 ∷ before 44 query =
-    before-append 44 u (63 ∷ query) h ∙ ap (λ t. u ++ t) (before_other 44 63 query refl) in
-    ap (option_map (λ r. before 44 (u ++ 63 ∷ query))) found ∙ ap (λ t. option_map (λ r. t) o) front
+comma_after u query h o e = grind (arith, after-append, after_other, before-append, before_other)
 
 flag_after : (u v query : List ℕ) → after 44 u ≡ None → after 44 v ≡ None → (o : Option (List ℕ))
     → after 44 query ≡ o
@@ -412,38 +357,21 @@ no_comma_in_space = refl
 -- the flag of a path that ends with "%20" or with a space, before its query
 flag_of_query : (x query : List ℕ) (o : Option (List ℕ)) → after 44 x ≡ o
     → base64_flag ((x ++ codes "%20") ++ 63 ∷ query) ≡ base64_flag ((x ++ codes " ") ++ 63 ∷ query)
-flag_of_query x query None e =
-    flag_after (x ++ codes "%20") (x ++ codes " ") query
-    (after-append 44 x (codes "%20") e ∙ no_comma_in_escape) (after-append 44 x (codes " ") e ∙ no_comma_in_space)
-    (after 44 query) refl
-flag_of_query x query (Some rest) e =
-    let one = append_assoc x (codes "%20") (63 ∷ query) in
-    let two = append_assoc x (codes " ") (63 ∷ query) in
-    ap (option_map has_base64_suffix)
-    (ap before_comma one ∙ comma_before x (codes "%20" ++ 63 ∷ query) rest e
-    ∙ sym (ap before_comma two ∙ comma_before x (codes " " ++ 63 ∷ query) rest e))
+flag_of_query x query None e = grind (arith, flag_after, after-append, no_comma_in_escape, no_comma_in_space)
+flag_of_query x query (Some rest) e = grind (arith, append_assoc, comma_before)
 
 -- the flag of such a path without a query
 flag_of_path : (x : List ℕ) (o : Option (List ℕ)) → after 44 x ≡ o
     → base64_flag (x ++ codes "%20") ≡ base64_flag (x ++ codes " ")
-flag_of_path x None e =
-    let one : after 44 (x ++ codes "%20") ≡ None = after-append 44 x (codes "%20") e ∙ no_comma_in_escape in
-    let two : after 44 (x ++ codes " ") ≡ None = after-append 44 x (codes " ") e ∙ no_comma_in_space in
-    ap (option_map has_base64_suffix)
-    (ap (option_map (λ r. before 44 (x ++ codes "%20"))) one
-    ∙ sym (ap (option_map (λ r. before 44 (x ++ codes " "))) two))
-flag_of_path x (Some rest) e =
-    ap (option_map has_base64_suffix) (comma_before x (codes "%20") rest e ∙ sym (comma_before x (codes " ") rest e))
+flag_of_path x None e = grind (arith, after-append, no_comma_in_escape, no_comma_in_space)
+flag_of_path x (Some rest) e = grind (arith, comma_before)
 
 flag_by : (path : List ℕ) (o : Option (List ℕ)) → Differs path
     → base64_flag (with_query path o) ≡ base64_flag (with_query_and_spaces path o)
 flag_by path None (same_path e) = ap base64_flag e
 flag_by path (Some query) (same_path e) = ap (λ t. base64_flag (t ++ 63 ∷ percent_encoding in_query_set query)) e
 flag_by path None (last_space x e f) = ap base64_flag e ∙ flag_of_path x (after 44 x) refl ∙ sym (ap base64_flag f)
-flag_by path (Some query) (last_space x e f) =
-    let q = percent_encoding in_query_set query in
-    ap (λ t. base64_flag (t ++ 63 ∷ q)) e ∙ flag_of_query x q (after 44 x) refl
-    ∙ sym (ap (λ t. base64_flag (t ++ 63 ∷ q)) f)
+flag_by path (Some query) (last_space x e f) = grind (arith, flag_of_query)
 
 -- the flag is the same by both rules
 pub flag_of_spaces : (s : List ℕ) → base64_flag (serialised s) ≡ base64_flag (serialised_with_spaces s)

@@ -55,34 +55,23 @@ printable_append [] s h k = k
 printable_append (b ∷ a) s h k = (h.0, h.1, printable_append a s h.2 k)
 
 hex_printable : (d : ℕ) → d < 16 → (32 ≤ hex_digit d) × (hex_digit d < 127)
-hex_printable d l = cond_both (nat_lt d 10) (48 + d) (55 + d) (λ v. (32 ≤ v) × (v < 127))
-    (λ e. (omega arith, omega arith)) (λ e. (omega arith, omega arith))
+hex_printable d l = grind (arith, cond_both)
 
 outside_path : (b : ℕ) → in_path_set b ≡ false → (32 ≤ b) × (b < 127)
-outside_path b h = let p = or_parts (nat_lt b 32) (nat_lt 126 b) h in (ltb-low b p.0, ltb-high b p.1) where
-  ltb-low : (b : ℕ) → nat_lt b 32 ≡ false → 32 ≤ b
-  ltb-low b e = ltb-false b 32 e
-
-  ltb-high : (b : ℕ) → nat_lt 126 b ≡ false → b < 127
-  ltb-high b e = let k = ltb-false 126 b e in omega arith
+outside_path b h = grind (arith, or_parts, ltb-false)
 
 outside_query : (b : ℕ) → in_query_set b ≡ false → (32 ≤ b) × (b < 127)
-outside_query b h = outside_path b
-    (or_parts (in_path_set b) ((b == 32) || ((b == 34) || ((b == 35) || ((b == 60) || (b == 62))))) h).0
+outside_query b h = grind (arith, outside_path, or_parts)
 
 byte_printable : (p : ℕ → Bool) → ((b : ℕ) → p b ≡ false → (32 ≤ b) × (b < 127)) → (b : ℕ) → b < 256
     → printable (encoded_byte p b)
-byte_printable p outside b l = cond_both (p b) (37 ∷ hex_digit (b / 16) ∷ hex_digit (b % 16) ∷ []) (b ∷ []) printable
-    (λ e. let h = hex_printable (b / 16) (omega arith) in let k = hex_printable (b % 16) (omega arith) in
-    (omega arith, omega arith, (h.0, h.1, (k.0, k.1, tt))))
-    (λ e. let h = outside b e in (h.0, h.1, tt))
+byte_printable p outside b l = grind (arith, cond_both, hex_printable)
 
 encoded_printable : (p : ℕ → Bool) → ((b : ℕ) → p b ≡ false → (32 ≤ b) × (b < 127)) → (s : List ℕ) → IsBytes s
     → printable (percent_encoding p s)
 encoded_printable p outside [] h = subst printable (sym (encoded_nil p)) tt
 encoded_printable p outside (b ∷ s) h =
-    subst printable (sym (encoded_cons p b s)) (printable_append (encoded_byte p b) (percent_encoding p s)
-    (byte_printable p outside b h.0) (encoded_printable p outside s h.1))
+    grind (arith, encoded_cons, printable_append, byte_printable, (encoded_printable p outside s h.1))
 
 outside_path_byte : (path : List ℕ) (b : ℕ) → path_byte_set path b ≡ false → (32 ≤ b) × (b < 127)
 outside_path_byte [] b h = outside_path b (or_parts (in_path_set b) (b == 32) h).0
@@ -95,19 +84,21 @@ outside_header_byte path (Some query) b h = outside_path_byte path b h
 
 header_all : (s : List ℕ) → IsBytes s → printable (header_text s)
 header_all [] h = subst printable (sym header_nil) tt
-header_all (b ∷ s) h = elim (cases_Bool (b == 63)) [
-  | inl e ↦ let f : b ≡ 63 = eqb-true b 63 e in subst (λ v. printable (header_text (v ∷ s))) (sym f)
-      (subst printable (sym (header_query s)) (
-        omega arith,
-        omega arith,
-        encoded_printable in_query_set outside_query s
-            h.1,
-      ))
-  | inr e ↦
-      let set = header_byte_set (before 63 s) (after 63 s) in
-      subst printable (sym (header_path b s e)) (printable_append (encoded_byte set b) (header_text s)
-      (byte_printable set (outside_header_byte (before 63 s) (after 63 s)) b h.0) (header_all s h.1))
-]
+header_all (b ∷ s) h =
+    grind (
+      arith,
+      cases_Bool,
+      eqb-true,
+      header_query,
+      encoded_printable,
+      outside_query,
+      header_byte_set,
+      header_path,
+      printable_append,
+      byte_printable,
+      outside_header_byte,
+      (header_all s h.1),
+    )
 
 printable_at : (s : List ℕ) → printable s → IsPrintable s
 printable_at [] h i l = absurd (omega arith)
@@ -122,35 +113,23 @@ header_text_printable s h = printable_at (header_text s) (header_all s h)
 
 -- a printable text without its first n bytes is printable
 pub printable_drop : (n : ℕ) (s : List ℕ) → IsPrintable s → IsPrintable (drop n s)
-printable_drop n s h i l =
-    let at : get_or (drop n s) i 0 ≡ get_or s (n + i) 0 = get_or-drop n s i 0 in
-    let within : n + i < length s = omega (arith, length-drop n s) in
-    subst (λ v. (32 ≤ v) × (v < 127)) (sym at) (h (n + i) within)
+printable_drop n s h i l = grind (arith, get_or-drop, length-drop)
 
 -- the first n bytes of a printable text are printable
 pub printable_take : (n : ℕ) (s : List ℕ) → IsPrintable s → IsPrintable (take n s)
-printable_take n s h i l =
-    let below : i < n = omega (arith, length-take n s) in
-    let within : i < length s = omega (arith, length-take n s) in
-    subst (λ v. (32 ≤ v) × (v < 127)) (sym (get_or-take n s i 0 below)) (h i within)
+printable_take n s h i l = grind (arith, length-take, get_or-take)
 
 printable_reverse : (s : List ℕ) → IsPrintable s → IsPrintable (reverse s)
-printable_reverse s h i l =
-    let within : i < length s = omega (arith, length-reverse s) in
-    subst (λ v. (32 ≤ v) × (v < 127)) (sym (get_or-reverse s i 0 within)) (h (length s - 1 - i) (omega arith))
+printable_reverse s h i l = grind (arith, length-reverse, get_or-reverse)
 
 -- a printable text is ASCII
 pub printable_ascii : (s : List ℕ) → IsPrintable s → IsAscii s
-printable_ascii s h i = ⊎_elim (λ (l : i < length s). let k = h i l in omega arith)
-    (λ (l : length s ≤ i). subst (λ v. v < 128) (sym (get_or_past s i 0 l)) (omega arith)) (cases_lt i (length s))
+printable_ascii s h i = grind (arith, ⊎_elim, get_or_past, cases_lt)
 
 -- Spaces are the only low bytes
 
 low_is_space : (b : ℕ) → 32 ≤ b → is_c0_control_or_space b ≡ is_space b
-low_is_space b h = elim (cases_Bool (b == 32)) [
-  | inl e ↦ le-leb b 32 (let f : b ≡ 32 = eqb-true b 32 e in omega arith) ∙ sym e
-  | inr e ↦ lt-leb b 32 (let n = eqb-false b 32 e in omega arith) ∙ sym e
-]
+low_is_space b h = grind (arith, cases_Bool, le-leb, eqb-true, lt-leb, eqb-false)
 
 low_front : (s : List ℕ) → IsPrintable s → prefix_len is_c0_control_or_space s ≡ prefix_len is_space s
 low_front [] h = refl
@@ -165,17 +144,12 @@ low_end s h = low_front (reverse s) (printable_reverse s h)
 -- a printable text without C0 controls and spaces at both ends is the text without spaces at both ends
 pub trimmed_is_stripped : (s : List ℕ) → IsPrintable s → trimmed_text s ≡ stripped_header s
 unfolding trimmed_text stripped_header
-trimmed_is_stripped s h =
-    ap (without_end is_c0_control_or_space) (ap (λ n. drop n s) (low_front s h))
-    ∙ ap (λ n. take (length (drop (prefix_len is_space s) s) - n) (drop (prefix_len is_space s) s))
-    (low_end (drop (prefix_len is_space s) s) (printable_drop (prefix_len is_space s) s h))
+trimmed_is_stripped s h = grind (arith, low_front, low_end, printable_drop)
 
 -- a printable text without spaces at both ends is printable
 pub printable_stripped : (s : List ℕ) → IsPrintable s → IsPrintable (stripped_header s)
 unfolding stripped_header
-printable_stripped s h =
-    let front = drop (prefix_len is_space s) s in
-    printable_take (length front - suffix_len is_space front) front (printable_drop (prefix_len is_space s) s h)
+printable_stripped s h = grind (arith, printable_take, printable_drop)
 
 -- From the input, cut after its scheme and at its first comma, to the stages of the Standard.
 
@@ -189,26 +163,18 @@ bytes_append (x ∷ a) b h = let k = bytes_append a b h.1 in ((h.0, k.0), k.1)
 -- a text of bytes without tabs and newlines is a text of bytes
 pub bytes_dropped : (s : List ℕ) → IsBytes s → IsBytes (without_tabs_and_newlines s)
 bytes_dropped [] h = subst IsBytes (sym dropped_nil) tt
-bytes_dropped (b ∷ s) h = elim (cases_Bool (is_tab_or_newline b)) [
-  | inl e ↦ subst IsBytes (sym (dropped_passes b s e)) (bytes_dropped s h.1)
-  | inr e ↦ subst IsBytes (sym (dropped_keeps b s e)) (h.0, bytes_dropped s h.1)
-]
+bytes_dropped (b ∷ s) h = grind (arith, cases_Bool, dropped_passes, (bytes_dropped s h.1), dropped_keeps)
 
 -- the part of a text of bytes before the first c is a text of bytes
 pub bytes_before : (c : ℕ) (s : List ℕ) → IsBytes s → IsBytes (before c s)
 unfolding before
 bytes_before c [] h = tt
-bytes_before c (b ∷ s) h = elim (b == c) as (λ v. IsBytes (cond v [] (b ∷ before c s))) [
-  | true ↦ tt
-  | false ↦
-      (h.0, bytes_before c s h.1)
-]
+bytes_before c (b ∷ s) h = grind (arith, (bytes_before c s h.1))
 
 -- The scheme has no comma
 
 lowercase_comma : (b : ℕ) → (to_ascii_lowercase b == 44) ≡ false → (b == 44) ≡ false
-lowercase_comma b h =
-    ne_eqb b 44 (λ (e : b ≡ 44). both_ways (to_ascii_lowercase b == 44) h (ap (λ v. to_ascii_lowercase v == 44) e))
+lowercase_comma b h = grind (arith, ne_eqb, both_ways)
 
 -- if a text in lower case has no comma, the text has none
 pub lacks_comma : (d : List ℕ) → after 44 (map to_ascii_lowercase d) ≡ None → after 44 d ≡ None
@@ -270,8 +236,7 @@ after_is t rest h =
 -- if the trimmed text does not begin with the scheme, there is no text after the scheme
 pub after_none : (t : List ℕ) → HasNoScheme (trimmed_text t) → after_scheme t ≡ None
 unfolding after_scheme cleaned_text
-after_none t h = cond-false (bytes_eq (map to_ascii_lowercase (take 5 (without_tabs_and_newlines (trimmed_text t))))
-    (codes "data:")) (Some (drop 5 (without_tabs_and_newlines (trimmed_text t)))) None h
+after_none t h = grind (arith, cond-false)
 
 -- Header, body and fragment
 
@@ -287,17 +252,16 @@ pub record IsStaged (rest header tail : List ℕ) : Type 0 where
 pub is_staged : (rest header tail : List ℕ) → IsHeaderAndTail rest header tail → IsStaged rest header tail
 unfolding front fragment
 is_staged rest header tail h =
-    let parts : without_tabs_and_newlines rest ≡ without_tabs_and_newlines header ++ 44 ∷ without_tabs_and_newlines
-    tail = ap without_tabs_and_newlines h.joined ∙ dropped_around 44 refl header tail in
-    let no_hash = after-dropped_none 35 refl header h.no_fragment in
-    record {
-      front_is = ap (before 35) parts ∙ before-append 35 (without_tabs_and_newlines header)
-          (44 ∷ without_tabs_and_newlines tail) no_hash ∙ ap (λ s. without_tabs_and_newlines header ++ s)
-          (before_other 35 44 (without_tabs_and_newlines tail) refl);
-      lacks_comma = after-dropped_none 44 refl header h.no_comma;
-      fragment_is = ap (after 35) parts ∙ after-append 35 (without_tabs_and_newlines header)
-          (44 ∷ without_tabs_and_newlines tail) no_hash ∙ after_other 35 44 (without_tabs_and_newlines tail) refl;
-    }
+    grind (
+      arith,
+      dropped_around,
+      after-dropped_none,
+      before-append,
+      before_other,
+      lacks_comma,
+      after-append,
+      after_other,
+    )
 
 -- if a is the text after the scheme, the staged front is the front of a, serialised
 pub front_of : (t a : List ℕ) → after_scheme t ≡ Some a → staged_front t ≡ Some (serialised (front a))
@@ -315,9 +279,7 @@ has_tail_of None s t e h = absurd h
 has_tail_of (Some rest) s t e h = record { rest = rest; is = e; recoded = h }
 
 has_tail : (s header t : List ℕ) → IsBytes s → s ≡ header ++ 44 ∷ t → after 44 header ≡ None → HasTail (serialised s) t
-has_tail s header t b e h = has_tail_of (after 44 (serialised s)) (serialised s) t refl
-    (subst (λ o. RecodedTails o (after 44 (serialised s))) (ap (after 44) e ∙ after_at 44 header t h)
-    (recoded_tails (serialised_recoded s b)))
+has_tail s header t b e h = grind (arith, has_tail_of, after_at, recoded_tails, serialised_recoded)
 
 -- the stages of a text that is accepted, by its raw header and tail
 pub record IsAccepted (t header tail : List ℕ) : Type 0 where
@@ -330,10 +292,7 @@ pub record IsAccepted (t header tail : List ℕ) : Type 0 where
 tail_is_of : (t rest header tail : List ℕ) → IsSchemeAndRest (trimmed_text t) rest → IsHeaderAndTail rest header tail
     → tail_of t ≡ Some tail
 unfolding tail_of
-tail_is_of t rest header tail s h =
-    ap (after 44) (s.joined ∙ ap (λ r. s.scheme ++ r) h.joined)
-    ∙ after-append 44 s.scheme (header ++ 44 ∷ tail) (scheme_has_no_comma s.scheme s.spelled)
-    ∙ after_at 44 header tail h.no_comma
+tail_is_of t rest header tail s h = grind (arith, after-append, scheme_has_no_comma, after_at)
 
 -- a text with the scheme, and then a header, the first comma, and a tail has the stages of that header and tail
 pub is_accepted : (t rest header tail : List ℕ) → IsBytes rest → IsSchemeAndRest (trimmed_text t) rest
@@ -360,36 +319,29 @@ is_accepted t rest header tail b s h =
 -- No comma
 
 no_tail_of : (s x : List ℕ) → after 44 s ≡ None → RecodedTails (after 44 s) (after 44 x) → after 44 x ≡ None
-no_tail_of s x e h = no_tail_at (after 44 s) (after 44 x) e h where
-  no_tail_at : (o p : Option (List ℕ)) → o ≡ None → RecodedTails o p → p ≡ None
-  no_tail_at None None e h = refl
-  no_tail_at None (Some y) e h = absurd h
-  no_tail_at (Some t) p e h = cc
+no_tail_of s x e h = grind arith
 
 -- cutting at a byte that is kept, and dropping tabs and newlines, can be done in either order
 before-without_tabs_and_newlines : (c : ℕ) → is_tab_or_newline c ≡ false → (s : List ℕ)
     → before c (without_tabs_and_newlines s) ≡ without_tabs_and_newlines (before c s)
-before-without_tabs_and_newlines c k [] = ap (before c) dropped_nil ∙ before_nil c
-    ∙ sym (ap without_tabs_and_newlines (before_nil c) ∙ dropped_nil)
-before-without_tabs_and_newlines c k (b ∷ s) = elim (cases_Bool (b == c)) [
-  | inl e ↦ let f : b ≡ c = eqb-true b c e in
-      subst (λ v. before c (without_tabs_and_newlines (v ∷ s)) ≡ without_tabs_and_newlines (before c (v ∷ s))) (sym f)
-      (ap (before c) (dropped_keeps c s k) ∙ before_same c (without_tabs_and_newlines s)
-      ∙ sym (ap without_tabs_and_newlines (before_same c s) ∙ dropped_nil))
-  | inr e ↦ elim (cases_Bool (is_tab_or_newline b)) [
-    | inl d ↦ ap (before c) (dropped_passes b s d) ∙ before-without_tabs_and_newlines c k s
-        ∙ sym (ap without_tabs_and_newlines (before_other c b s e) ∙ dropped_passes b (before c s) d)
-    | inr d ↦ ap (before c) (dropped_keeps b s d) ∙ before_other c b (without_tabs_and_newlines s) e
-        ∙ ap (λ t. b ∷ t) (before-without_tabs_and_newlines c k s)
-        ∙ sym (ap without_tabs_and_newlines (before_other c b s e) ∙ dropped_keeps b (before c s) d)
-  ]
-]
+before-without_tabs_and_newlines c k [] = grind (arith, dropped_nil, before_nil)
+before-without_tabs_and_newlines c k (b ∷ s) =
+    grind (
+      arith,
+      cases_Bool,
+      eqb-true,
+      dropped_keeps,
+      before_same,
+      dropped_nil,
+      dropped_passes,
+      (before-without_tabs_and_newlines c k s),
+      before_other,
+    )
 
 front_lacks : (rest : List ℕ) → after 44 (front rest) ≡ None → after 44 (front (without_tabs_and_newlines rest))
     ≡ None
 unfolding front
-front_lacks rest h = ap (after 44) (before-without_tabs_and_newlines 35 refl rest)
-    ∙ after-dropped_none 44 refl (before 35 rest) h
+front_lacks rest h = grind (arith, before-without_tabs_and_newlines, after-dropped_none)
 
 -- a text with the scheme whose front has no comma has no header
 pub no_header : (t rest : List ℕ) → IsBytes rest → IsSchemeAndRest (trimmed_text t) rest → after 44 (front rest) ≡ None
@@ -440,12 +392,7 @@ pub default_is : (type_ subtype charset value : List ℕ) → type_ ≡ codes "t
           (chars charset, chars value) ∷ [];
     }) default_record
 unfolding chars
-default_is type_ subtype charset value a b c d = λ i. record {
-  type_ = chars (a i);
-  subtype = chars (b i);
-  parameters =
-      (chars (c i), chars (d i)) ∷ [];
-}
+default_is type_ subtype charset value a b c d = grind arith
 
 -- A type that is missing
 
@@ -470,33 +417,21 @@ chars_printable s h = chars-IsAscii s (printable_ascii s h)
 pub with_suffix : (header media : List ℕ) (m : Record) → before_base64 (stripped_header header) ≡ Some media
     → IsRecordFor (with_plain media) m → IsHeaderOf header m true
 unfolding mime_text media_of has_base64_suffix
-with_suffix header media m e h = record {
-  record_is = subst (λ s. IsRecordFor (with_plain s) m) (sym (ap (λ o. unwrap_or o (stripped_header header)) e)) h;
-  base64_is = sym (ap is_some e);
-}
+with_suffix header media m e h = grind arith
 
 -- if a header has no base64 suffix, the record for `with_plain` of the stripped header is the record of the header, and
 -- its flag is false
 pub no_suffix : (header : List ℕ) (m : Record) → before_base64 (stripped_header header) ≡ None
     → IsRecordFor (with_plain (stripped_header header)) m → IsHeaderOf header m false
 unfolding mime_text media_of has_base64_suffix
-no_suffix header m e h = record {
-  record_is = subst (λ s. IsRecordFor (with_plain s) m) (sym (ap (λ o. unwrap_or o (stripped_header header)) e)) h;
-  base64_is = sym (ap is_some e);
-}
+no_suffix header m e h = grind arith
 
 -- the text before the suffix is a prefix of the header, so it is printable too
 word_begins : (s m : List ℕ) → before_word s ≡ Some m → IsPrintable s → IsPrintable m
-word_begins s m e h = cut (bytes_eq (map to_ascii_lowercase (last_bytes 6 s)) (codes "base64")) e where
-  cut : (v : Bool) → cond v (Some (before_last 6 s)) None ≡ Some m → IsPrintable m
-  cut true k = let same : before_last 6 s ≡ m = cc in subst IsPrintable same (printable_take (length s - 6) s h)
-  cut false k = absurd (cc)
+word_begins s m e h = grind (arith, printable_take)
 
 semicolon_begins : (s m : List ℕ) → before_semicolon s ≡ Some m → IsPrintable s → IsPrintable m
-semicolon_begins s m e h = cut (bytes_eq (last_bytes 1 s) (codes ";")) e where
-  cut : (v : Bool) → cond v (Some (before_last 1 s)) None ≡ Some m → IsPrintable m
-  cut true k = let same : before_last 1 s ≡ m = cc in subst IsPrintable same (printable_take (length s - 1) s h)
-  cut false k = absurd (cc)
+semicolon_begins s m e h = grind (arith, printable_take)
 
 printable_end : (s : List ℕ) → IsPrintable s → IsPrintable (without_end is_space s)
 printable_end s h = printable_take (length s - suffix_len is_space s) s h
@@ -566,9 +501,7 @@ head_of s t b e = record {
 -- parameters, s without HTTP whitespace at its end
 pub plain_head_is : (s t : List ℕ) → BeginsParameters s → IsTrimmedEnd is_http_whitespace s t
     → IsHead (codes "text/plain" ++ s) (chars (codes "text")) (chars (codes "plain")) t
-plain_head_is s t b e =
-    subst (λ a. IsHead (codes "text/plain" ++ s) a (chars (codes "plain")) t) chars_text
-    (subst (λ a. IsHead (codes "text/plain" ++ s) (codes "text") a t) chars_subtype (head_of s t b e))
+plain_head_is s t b e = grind (arith, chars_text, chars_subtype, head_of)
 
 -- A type that is missing
 
@@ -683,8 +616,7 @@ plain_outcome flag x e = sym (ap (λ v. outcome v x) e)
 pub one_more_call : {F E A : Type 0} (step : F → List ℕ → Result (Unit {0}) E → F → Type 0) (f g : F) (n : ℕ)
     (body body' : Outcome) (good : A → Type 0) (r : Result A (DecodeError E)) → body ≡ body'
     → Decodes step f n body good r g → Decodes step f (n + 1) body' good r g
-one_more_call step f g n body body' good r e d = subst (λ b. Decodes step f (n + 1) b good r g) e
-    (record { run = d.run; ran = d.ran; calls = let c = d.calls in omega arith; gave = d.gave })
+one_more_call step f g n body body' good r e d = grind arith
 
 -- The fragment
 
@@ -723,7 +655,4 @@ bytes_take (suc n) (b ∷ s) h = (h.0, bytes_take n s h.1)
 -- if each number of a text is below 256, the trimmed text is a text of bytes
 pub bytes_trimmed : (t : List ℕ) → ((i : ℕ) → get_or t i 0 < 256) → IsBytes (trimmed_text t)
 unfolding trimmed_text
-bytes_trimmed t h =
-    let front = drop (prefix_len is_c0_control_or_space t) t in
-    bytes_take (length front - suffix_len is_c0_control_or_space front) front
-    (bytes_drop (prefix_len is_c0_control_or_space t) t (bytes_by_place t h))
+bytes_trimmed t h = grind (arith, bytes_take, bytes_drop, bytes_by_place)

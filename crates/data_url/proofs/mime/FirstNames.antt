@@ -90,9 +90,7 @@ lower_twice (c ∷ t) = ap₂ (λ x y. x ∷ y) (lowercase-lowercase c) (lower_t
 
 -- a token text in lower case is a lower-case name
 pub lowercase_name : (t : List ℕ) → is_token_text t ≡ true → is_lowercase_name (map to_ascii_lowercase t) ≡ true
-lowercase_name t h = and_from (is_token_text (map to_ascii_lowercase t))
-    (bytes_eq (map to_ascii_lowercase (map to_ascii_lowercase t)) (map to_ascii_lowercase t)) (token_text_lower t ∙ h)
-    (test_from_equal (map to_ascii_lowercase (map to_ascii_lowercase t)) (map to_ascii_lowercase t) (lower_twice t))
+lowercase_name t h = grind (arith, and_from, token_text_lower, test_from_equal, lower_twice)
 
 -- the code points of a token text whose bytes are put into lower case are its code points in lower case
 pub lower_chars : (bs : List ℕ) → IsUtf8 bs → is_token_text (chars bs) ≡ true
@@ -110,9 +108,7 @@ name_bytes bs u h = bytes_of_ascii bs u (token_text_ascii (chars bs) h)
 
 -- a lower-case name in lower case is the name itself
 pub lower_is_itself : (t : List ℕ) → is_lowercase_name t ≡ true → map to_ascii_lowercase t ≡ t
-lower_is_itself t h =
-    equal_from_test (map to_ascii_lowercase t) t
-    (and_parts (is_token_text t) (bytes_eq (map to_ascii_lowercase t) t) h).1
+lower_is_itself t h = grind (arith, equal_from_test, and_parts)
 
 -- a lower-case name is a token text
 pub lowercase_token : (t : List ℕ) → is_lowercase_name t ≡ true → is_token_text t ≡ true
@@ -120,11 +116,7 @@ lowercase_token t h = (and_parts (is_token_text t) (bytes_eq (map to_ascii_lower
 
 both_lower : (k n : List ℕ) → IsUtf8 k → IsUtf8 n → is_lowercase_name (chars k) ≡ true → is_token_text (chars n) ≡ true
     → (map to_ascii_lowercase k ≡ chars k) × (map to_ascii_lowercase n ≡ map to_ascii_lowercase (chars n))
-both_lower k n u w h t = (
-  ap (map to_ascii_lowercase) (name_bytes k u (lowercase_token (chars k) h))
-      ∙ lower_is_itself (chars k) h,
-  ap (map to_ascii_lowercase) (name_bytes n w t),
-)
+both_lower k n u w h t = grind (arith, name_bytes, lowercase_token, lower_is_itself)
 
 -- a token text has at least one byte
 pub some_byte : (n : List ℕ) → is_token_text (chars n) ≡ true → 0 < length n
@@ -133,23 +125,19 @@ some_byte (b ∷ n) h = omega arith
 
 -- a lower-case name is equal to itself with each byte in lower case
 pub lower_bytes : (k : List ℕ) → IsUtf8 k → is_lowercase_name (chars k) ≡ true → map to_ascii_lowercase k ≡ k
-lower_bytes k u h =
-    let bytes = name_bytes k u (lowercase_token (chars k) h) in
-    subst (λ t. map to_ascii_lowercase t ≡ t) (sym bytes) (lower_is_itself (chars k) h)
+lower_bytes k u h = grind (arith, name_bytes, lowercase_token, lower_is_itself)
 
 -- for a lower-case name k and a token text n that are equal in lower case, the test of k and of n in lower case is true
 pub names_equal : (k n : List ℕ) → IsUtf8 k → IsUtf8 n → is_lowercase_name (chars k) ≡ true
     → is_token_text (chars n) ≡ true → map to_ascii_lowercase k ≡ map to_ascii_lowercase n
     → bytes_eq (chars k) (map to_ascii_lowercase (chars n)) ≡ true
-names_equal k n u w h t e = let b = both_lower k n u w h t in
-    test_from_equal (chars k) (map to_ascii_lowercase (chars n)) (sym b.0 ∙ e ∙ b.1)
+names_equal k n u w h t e = grind (arith, both_lower, test_from_equal)
 
 -- for a lower-case name k and a token text n that differ in lower case, the test of k and of n in lower case is false
 pub names_differ : (k n : List ℕ) → IsUtf8 k → IsUtf8 n → is_lowercase_name (chars k) ≡ true
     → is_token_text (chars n) ≡ true → (map to_ascii_lowercase k ≡ map to_ascii_lowercase n → ⊥)
     → bytes_eq (chars k) (map to_ascii_lowercase (chars n)) ≡ false
-names_differ k n u w h t e = let b = both_lower k n u w h t in
-    test_from_different (chars k) (map to_ascii_lowercase (chars n)) (λ q. e (b.0 ∙ q ∙ sym b.1))
+names_differ k n u w h t e = grind (arith, both_lower, test_from_different)
 
 -- One step of the look-up
 
@@ -157,18 +145,12 @@ names_differ k n u w h t e = let b = both_lower k n u w h t in
 pub lowercase_at : {A B : Type 0} (pairs : List (String A × String B)) (i : ℕ) (item : String A × String B)
     → HasLowercaseNames (map (λ p. pair_of p) pairs) → i < length pairs → item ≡ get_or pairs i item
     → is_lowercase_name (code_points item.0) ≡ true
-lowercase_at pairs i item h l e =
-    let test : Pair → Bool = λ p. is_lowercase_name p.0 in
-    true_from_ne_false (is_lowercase_name (code_points item.0))
-    (λ f. false≢true (sym (list_all_at (λ p. test (pair_of p)) pairs i item l (ap (λ p. test (pair_of p)) (sym e)
-    ∙ f)) ∙ sym (list_all-map test (λ p. pair_of p) pairs) ∙ h))
+lowercase_at pairs i item h l e = grind (arith, true_from_ne_false, false≢true, list_all_at, list_all-map)
 
 look_step : {A B : Type 0} (n : List ℕ) (pairs : List (String A × String B)) (i : ℕ) (item : String A × String B)
     → i < length pairs → item ≡ get_or pairs i item → has_name n (map (λ p. pair_of p) (drop i pairs))
     ≡ (bytes_eq (code_points item.0) n || has_name n (map (λ p. pair_of p) (drop (i + 1) pairs)))
-look_step n pairs i item l e = ap (λ s. has_name n (map (λ p. pair_of p) s)) (drop-cons pairs i item l)
-    ∙ ap₂ (λ p k. bytes_eq (code_points p.0) n || has_name n (map (λ q. pair_of q) (drop k pairs))) (sym e)
-    (sym (add-one i))
+look_step n pairs i item l e = grind (arith, drop-cons, add-one)
 
 -- if the pair at index i has the name n, one of the pairs has it
 pub look_finds : {A B : Type 0} (n : List ℕ) (pairs : List (String A × String B)) (i : ℕ) (item : String A × String B)
@@ -193,9 +175,7 @@ look_goes_on n pairs i item l e t h = ap (λ b. b || has_name n (map (λ p. pair
 -- if the name of an item is not a token text, the item adds no pair
 pub no_pair_token : (item : Item) (xs : List Pair) → is_token_text item.0 ≡ false → added_pairs xs item ≡ []
 no_pair_token (name, None) xs h = refl
-no_pair_token (name, Some v) xs h =
-    ap (unless_named xs) (cond-false (is_token_text name && list_all is_quotable v) ((name, v) ∷ []) []
-    (and_left (is_token_text name) (list_all is_quotable v) h))
+no_pair_token (name, Some v) xs h = grind (arith, cond-false, and_left)
 
 unless_none : (xs : List Pair) (p : Pair) (b : Bool) → has_name p.0 xs ≡ true
     → unless_named xs (cond b (p ∷ []) []) ≡ []
@@ -216,10 +196,7 @@ some_quotable v w false h = absurd (let k = h in cc)
 pub valid_pair : (item : Item) (w : List ℕ) → is_token_text item.0 ≡ true → Some w ≡ quotable_value item.1
     → valid_of item ≡ (item.0, w) ∷ []
 valid_pair (name, None) w t h = absurd (let k = h in cc)
-valid_pair (name, Some v) w t h =
-    let q = some_quotable v w (list_all is_quotable v) h in
-    cond-true (is_token_text name && list_all is_quotable v) ((name, v) ∷ []) []
-    (and_from (is_token_text name) (list_all is_quotable v) t q.0) ∙ ap (λ x. (name, x) ∷ []) (sym q.1)
+valid_pair (name, Some v) w t h = grind (arith, some_quotable, cond-true, and_from)
 
 -- The pairs that are kept with one more item
 
@@ -230,8 +207,7 @@ or_none false = refl
 -- one of the pairs of xs ++ ys has a name exactly if one of xs or one of ys has it
 pub has_append : (n : List ℕ) (xs ys : List Pair) → has_name n (xs ++ ys) ≡ (has_name n xs || has_name n ys)
 has_append n [] ys = refl
-has_append n (p ∷ xs) ys = ap (λ b. bytes_eq p.0 n || b) (has_append n xs ys)
-    ∙ sym (or_assoc (bytes_eq p.0 n) (has_name n xs) (has_name n ys))
+has_append n (p ∷ xs) ys = grind (arith, (has_append n xs ys), or_assoc)
 
 -- one of the pairs has a name after p is pushed exactly if one had it before, or p has it
 pub has_pushed : (n : List ℕ) (xs : List Pair) (p : Pair)
@@ -246,12 +222,7 @@ snoc_cases false p whole front back h = ap (λ x. p ∷ x) h
 first_snoc : (e ps : List Pair) (q : Pair) → first_of_each_name e (ps ++ (q ∷ [])) ≡ first_of_each_name e ps ++ cond
     (has_name q.0 (e ++ ps)) [] (q ∷ [])
 first_snoc e [] q = rw (append-nil e) refl
-first_snoc e (p ∷ ps) q =
-    let h = first_snoc (e ++ (p ∷ [])) ps q
-    ∙ ap (λ x. first_of_each_name (e ++ (p ∷ [])) ps ++ cond (has_name q.0 x) [] (q ∷ []))
-    (append_assoc e (p ∷ []) ps) in
-    snoc_cases (has_name p.0 e) p (first_of_each_name (e ++ (p ∷ [])) (ps ++ (q ∷ [])))
-    (first_of_each_name (e ++ (p ∷ [])) ps) (cond (has_name q.0 (e ++ (p ∷ ps))) [] (q ∷ [])) h
+first_snoc e (p ∷ ps) q = grind (arith, (first_snoc (e ++ (p ∷ [])) ps q), append_assoc, snoc_cases)
 
 -- if the earlier pairs have the name of p, they have each name that is equal to it
 named : (n : List ℕ) (e : List Pair) (p : Pair) → has_name p.0 e ≡ true → bytes_eq p.0 n ≡ true → has_name n e ≡ true
@@ -271,17 +242,12 @@ first_cases : (n : List ℕ) (e : List Pair) (p : Pair) (kept_rest ps : List Pai
     → ((has_name n e || bytes_eq p.0 n) || has_name n kept_rest) ≡ ((has_name n e || bytes_eq p.0 n) || has_name n ps)
     → (has_name n e || has_name n (cond (has_name p.0 e) kept_rest (p ∷ kept_rest)))
     ≡ (has_name n e || (bytes_eq p.0 n || has_name n ps))
-first_cases n e p kept_rest ps h = cond_both (has_name p.0 e) kept_rest (p ∷ kept_rest)
-    (λ x. (has_name n e || has_name n x) ≡ (has_name n e || (bytes_eq p.0 n || has_name n ps)))
-    (λ k. skip_test (has_name n e) (bytes_eq p.0 n) (has_name n kept_rest) (has_name n ps) (named n e p k) h)
-    (λ k. take_test (has_name n e) (bytes_eq p.0 n) (has_name n kept_rest) (has_name n ps) h)
+first_cases n e p kept_rest ps h = grind (arith, cond_both, skip_test, named, take_test)
 
 has_first : (n : List ℕ) (e ps : List Pair) → (has_name n e || has_name n (first_of_each_name e ps))
     ≡ (has_name n e || has_name n ps)
 has_first n e [] = refl
-has_first n e (p ∷ ps) = first_cases n e p (first_of_each_name (e ++ (p ∷ [])) ps) ps
-    (ap (λ b. b || has_name n (first_of_each_name (e ++ (p ∷ [])) ps)) (sym (has_pushed n e p))
-    ∙ has_first n (e ++ (p ∷ [])) ps ∙ ap (λ b. b || has_name n ps) (has_pushed n e p))
+has_first n e (p ∷ ps) = grind (arith, first_cases, has_pushed, (has_first n (e ++ (p ∷ [])) ps))
 
 one_or_none : (b : Bool) (q : Pair) → (cond b (q ∷ []) [] ≡ []) ⊎ ((p : Pair) × (cond b (q ∷ []) [] ≡ p ∷ []))
 one_or_none true q = inr (q, refl)
@@ -300,9 +266,7 @@ kept_with_one ps qs (inr (p, e)) =
 -- the pairs that are kept with one more item are those kept before, and then those that the item adds
 pub kept_more : (items : List Item) (item : Item) → kept_pairs (items ++ (item ∷ [])) ≡ kept_pairs items ++ added_pairs
     (kept_pairs items) item
-kept_more items item = ap (first_of_each_name []) (flat_map-append valid_of items (item ∷ [])
-    ∙ ap (λ x. valid_pairs items ++ x) (append-nil (valid_of item))) ∙ kept_with_one (valid_pairs items) (valid_of item)
-    (valid_one item)
+kept_more items item = grind (arith, flat_map-append, append-nil, kept_with_one, valid_one)
 
 -- What the parser keeps for one parameter
 
@@ -315,23 +279,17 @@ none_added pairs more e = sym (ap (λ x. map (λ p. pair_of p) pairs ++ x) e ∙
 pub one_added : {A B : Type 0} (pairs pairs' : List (String A × String B)) (name : String A) (value : String B)
     (more : List Pair) → pairs' ≡ pairs ++ ((name, value) ∷ []) → more ≡ (code_points name, code_points value) ∷ []
     → map (λ p. pair_of p) pairs' ≡ map (λ p. pair_of p) pairs ++ more
-one_added pairs pairs' name value more e h = ap (map (λ p. pair_of p)) e
-    ∙ map-append (λ p. pair_of p) pairs ((name, value) ∷ []) ∙ ap (λ x. map (λ p. pair_of p) pairs ++ x) (sym h)
+one_added pairs pairs' name value more e h = grind (arith, map-append)
 
 -- if all names of xs and of ys are lower-case, so are those of xs ++ ys
 pub lower_after : (xs ys : List Pair) → HasLowercaseNames xs → HasLowercaseNames ys → HasLowercaseNames (xs ++ ys)
-lower_after xs ys h k = list_all-append (λ (p : Pair). is_lowercase_name p.0) xs ys
-    ∙ and_from (list_all (λ (p : Pair). is_lowercase_name p.0) xs) (list_all (λ (p : Pair). is_lowercase_name p.0) ys) h
-    k
+lower_after xs ys h k = grind (arith, list_all-append, and_from)
 
 -- if a name that is a token text is lower-case, the name of an item's pair is lower-case
 pub valid_lower : (name : List ℕ) (value : Option (List ℕ))
     → (is_token_text name ≡ true → is_lowercase_name name ≡ true) → HasLowercaseNames (valid_of (name, value))
 valid_lower name None h = refl
-valid_lower name (Some v) h = cond_both (is_token_text name && list_all is_quotable v)
-    ((name, v) ∷ []) [] HasLowercaseNames
-    (λ e. and_from (is_lowercase_name name) true (h (and_parts (is_token_text name) (list_all is_quotable v) e).0) refl)
-    (λ e. refl)
+valid_lower name (Some v) h = grind (arith, cond_both, and_from, and_parts)
 
 module _ (parameter : Parameter) (item : Item) (is : IsItem parameter item) where
   -- the name of an item is a token text exactly if the name of its parameter is
@@ -353,8 +311,7 @@ module _ (parameter : Parameter) (item : Item) (is : IsItem parameter item) wher
   pub new_pair : (name value : List ℕ) (b : Bool) → b ≡ is_token_text (chars parameter.name.now) → b ≡ true
       → name ≡ map to_ascii_lowercase (chars parameter.name.now) → Some value ≡ quotable_value item.1
       → valid_of item ≡ (name, value) ∷ []
-  new_pair name value b e h n v = valid_pair item value (name_token ∙ sym e ∙ h) v
-      ∙ ap (λ x. (x, value) ∷ []) (is.name ∙ sym n)
+  new_pair name value b e h n v = grind (arith, valid_pair, name_token)
 
 -- The parser's loop over the parameters
 
@@ -403,8 +360,7 @@ first_or_later n pairs = ap (has_name n) (sym (take-append-drop LOOKED_THROUGH p
 
 -- if one of the first pairs has a name, one of all pairs has it
 pub named_first : (n : List ℕ) (pairs : List Pair) → has_name n (first_of pairs) ≡ true → has_name n pairs ≡ true
-named_first n pairs h = first_or_later n pairs
-    ∙ or_left (has_name n (first_of pairs)) (has_name n (drop LOOKED_THROUGH pairs)) h
+named_first n pairs h = grind (arith, first_or_later, or_left)
 
 -- if none of the first pairs has a name, one of all pairs has it exactly if one of the later pairs has it
 pub named_later : (n : List ℕ) (pairs : List Pair) → has_name n (first_of pairs) ≡ false
@@ -469,11 +425,7 @@ later_names later later' pairs p name l h e u n =
 pub indexed_more : (kept kept' : KeptParameters) (p : Pair) → IsIndexed kept → is_lowercase_name p.0 ≡ true
     → pairs_of kept' ≡ pairs_of kept ++ (p ∷ []) → HasLaterNames kept'.later_names (pairs_of kept ++ (p ∷ []))
     → IsIndexed kept'
-indexed_more kept kept' p i l e h = record {
-  lower = subst HasLowercaseNames (sym e)
-      (lower_after (pairs_of kept) (p ∷ []) i.lower (and_from (is_lowercase_name p.0) true l refl));
-  later = λ n. h n ∙ ap (λ s. has_name n (drop LOOKED_THROUGH s)) (sym e);
-}
+indexed_more kept kept' p i l e h = grind (arith, lower_after, and_from)
 
 -- The record of a text is well-formed, and a text with a head has a record.
 
@@ -495,22 +447,16 @@ all_append p xs ys h k = list_all-append p xs ys ∙ and_from (list_all p xs) (l
 valid_quotable : (name : List ℕ) (value : Option (List ℕ)) → list_all (λ (p : Pair). list_all is_quotable p.1)
     (valid_of (name, value)) ≡ true
 valid_quotable name None = refl
-valid_quotable name (Some v) = cond_both (is_token_text name && list_all is_quotable v) ((name, v) ∷ []) []
-    (λ x. list_all (λ (p : Pair). list_all is_quotable p.1) x ≡ true)
-    (λ e. and_from (list_all is_quotable v) true (and_parts (is_token_text name) (list_all is_quotable v) e).1 refl)
-    (λ e. refl)
+valid_quotable name (Some v) = grind (arith, cond_both, and_from, and_parts)
 
 all_quotable : (items : List Item) → list_all (λ (p : Pair). list_all is_quotable p.1) (valid_pairs items) ≡ true
 all_quotable [] = refl
-all_quotable (item ∷ items) = all_append (λ (p : Pair). list_all is_quotable p.1) (valid_of item) (valid_pairs items)
-    (valid_quotable item.0 item.1) (all_quotable items)
+all_quotable (item ∷ items) = grind (arith, all_append, valid_quotable, (all_quotable items))
 
 all_lower : (r : List ℕ) (items : List Item) → Items r items → HasLowercaseNames (valid_pairs items)
 all_lower r [] h = refl
-all_lower r (item ∷ items) h = all_append (λ (p : Pair). is_lowercase_name p.0) (valid_of item) (valid_pairs items)
-    (valid_lower item.0 item.1 (λ t. ap is_lowercase_name h.3.name_is
-    ∙ lowercase_name h.3.name (sym (token_text_lower h.3.name) ∙ ap is_token_text (sym h.3.name_is) ∙ t)))
-    (all_lower h.1 items h.4)
+all_lower r (item ∷ items) h =
+    grind (arith, all_append, valid_lower, lowercase_name, token_text_lower, (all_lower h.1 items h.4))
 
 -- No name is kept twice
 
@@ -524,42 +470,28 @@ pushed_has n e q h = has_append n e (q ∷ []) ∙ or_left (has_name n e) (has_n
 none_again : (n : List ℕ) (e ps : List Pair) → has_name n e ≡ true → has_name n (first_of_each_name e ps) ≡ false
 none_again n e [] h = refl
 none_again n e (q ∷ ps) h =
-    let f = none_again n (e ++ (q ∷ [])) ps (pushed_has n e q h) in
-    cond_both (has_name q.0 e) (first_of_each_name (e ++ (q ∷ [])) ps) (q ∷ first_of_each_name (e ++ (q ∷ [])) ps)
-    (λ x. has_name n x ≡ false) (λ c. f)
-    (λ c. ap (λ b. b || has_name n (first_of_each_name (e ++ (q ∷ [])) ps))
-    (false_from_ne_true (bytes_eq q.0 n) (λ t. has_itself n e q t c h)) ∙ f)
+    grind (
+      arith,
+      (none_again n (e ++ (q ∷ [])) ps (pushed_has n e q h)),
+      pushed_has,
+      cond_both,
+      false_from_ne_true,
+      has_itself,
+    )
 
 own_name : (e : List Pair) (q : Pair) → has_name q.0 (e ++ (q ∷ [])) ≡ true
-own_name e q = has_append q.0 e (q ∷ []) ∙ or_right (has_name q.0 e) (has_name q.0 (q ∷ []))
-    (or_left (bytes_eq q.0 q.0) false (test_from_equal q.0 q.0 refl))
+own_name e q = grind (arith, has_append, or_right, or_left, test_from_equal)
 
 first_distinct : (e ps : List Pair) → has_distinct_names (first_of_each_name e ps) ≡ true
 first_distinct e [] = refl
 first_distinct e (q ∷ ps) =
-    let f = first_distinct (e ++ (q ∷ [])) ps in
-    cond_both (has_name q.0 e) (first_of_each_name (e ++ (q ∷ [])) ps) (q ∷ first_of_each_name (e ++ (q ∷ [])) ps)
-    (λ x. has_distinct_names x ≡ true) (λ c. f)
-    (λ c. and_from (not (has_name q.0 (first_of_each_name (e ++ (q ∷ [])) ps)))
-    (has_distinct_names (first_of_each_name (e ++ (q ∷ [])) ps))
-    (not_from_false (has_name q.0 (first_of_each_name (e ++ (q ∷ [])) ps))
-    (none_again q.0 (e ++ (q ∷ [])) ps (own_name e q))) f)
+    grind (arith, (first_distinct (e ++ (q ∷ [])) ps), cond_both, and_from, not_from_false, none_again, own_name)
 
 -- Each record of a text is well-formed
 
 -- each record that a text parses to is well-formed
 pub parses_wellformed : (s : List ℕ) (m : Record) → Parses s m → IsWellformed m
-parses_wellformed s m h = record {
-  type_ = ap is_lowercase_name h.record_is.type_is ∙ lowercase_name h.type_ h.head.is_type;
-  subtype = ap is_lowercase_name h.record_is.subtype_is ∙ lowercase_name h.subtype h.head.is_subtype;
-  names = ap (list_all (λ (p : Pair). is_lowercase_name p.0)) h.record_is.parameters_are
-      ∙ first_all (λ (p : Pair). is_lowercase_name p.0) [] (valid_pairs h.record_is.items)
-      (all_lower h.parameters h.record_is.items h.record_is.items_are);
-  distinct = ap has_distinct_names h.record_is.parameters_are ∙ first_distinct [] (valid_pairs h.record_is.items);
-  values = ap (list_all (λ (p : Pair). list_all is_quotable p.1)) h.record_is.parameters_are
-      ∙ first_all (λ (p : Pair). list_all is_quotable p.1) [] (valid_pairs h.record_is.items)
-      (all_quotable h.record_is.items);
-}
+parses_wellformed s m h = grind (arith, lowercase_name, first_all, all_lower, first_distinct, all_quotable)
 
 -- A text with a head has a record
 

@@ -80,16 +80,12 @@ plain_is text rest value e b t =
 plain_after : (text rest : List ℕ) → DoesNotBegin is_quote text → BeginsParameters rest
     → reading_after (text ++ rest) ≡ plain_reading (text ++ rest)
 plain_after [] [] h b = refl
-plain_after [] (c ∷ r) h b = cond-false (c == 34) (quoted_reading (quoted_value false r) (quoted_rest false r))
-    (plain_reading (c ∷ r)) (ap (λ x. x == 34) b)
-plain_after (c ∷ t) r h b =
-    cond-false (c == 34) (quoted_reading (quoted_value false (t ++ r)) (quoted_rest false (t ++ r)))
-    (plain_reading (c ∷ (t ++ r))) h
+plain_after [] (c ∷ r) h b = grind (arith, cond-false, quoted_value, quoted_rest)
+plain_after (c ∷ t) r h b = grind (arith, cond-false, quoted_value, quoted_rest)
 
 nothing_is : (rest : List ℕ) → BeginsParameters rest → reading rest ≡ record { value = None; rest = rest }
 nothing_is [] b = refl
-nothing_is (c ∷ r) b = cond-false (c == 61) (reading_after r) (record { value = None; rest = c ∷ r })
-    (ap (λ x. x == 61) b)
+nothing_is (c ∷ r) b = grind (arith, cond-false)
 
 closed_reading : (q v w : List ℕ) → Quoted q v → quoted_reading (quoted_value false (q ++ (34 ∷ w)))
     (quoted_rest false (q ++ (34 ∷ w))) ≡ record { value = Some v; rest = after_front in_value w }
@@ -135,8 +131,7 @@ begins_after s = begins_from (after_front in_value s) (after_begins in_value s)
 
 front_not_quote : (s : List ℕ) → DoesNotBegin is_quote s → DoesNotBegin is_quote (front_of in_value s)
 front_not_quote [] h = tt
-front_not_quote (c ∷ s) h = cond_both (in_value c) (c ∷ front_of in_value s) [] (λ v. DoesNotBegin is_quote v) (λ e. h)
-    (λ e. tt)
+front_not_quote (c ∷ s) h = grind (arith, cond_both, front_of)
 
 is_plain_reading : (s : List ℕ) → DoesNotBegin is_quote s → IsReading (61 ∷ s) (plain_reading s)
 is_plain_reading s h = record {
@@ -181,14 +176,12 @@ no_reading c t e = record { tail = []; joined = refl; gives = nothing; begins = 
 
 -- a code point that ends a name, and is not '=', is ';'
 pub semicolon_from : (c : ℕ) → in_name c ≡ false → (c == 61) ≡ false → c ≡ 59
-semicolon_from c h e = ⊎_elim (λ l. eqb-true c 59 l) (λ r. absurd (both_ways (c == 61) e r))
-    (or_cases (c == 59) (c == 61) (not-false (ends_name c) h))
+semicolon_from c h e = grind (arith, ⊎_elim, eqb-true, both_ways, or_cases, not-false)
 
 -- reading a text that is empty or begins with ';' or '=' returns a value that it gives, and the rest
 pub is_reading : (x : List ℕ) → BeginsTail x → IsReading x (reading x)
 is_reading [] h = record { tail = []; joined = refl; gives = nothing; begins = tt }
-is_reading (c ∷ t) h = cond_both (c == 61) (reading_after t) (record { value = None; rest = c ∷ t })
-    (λ r. IsReading (c ∷ t) r) (λ e. equals_reading c t (eqb-true c 61 e)) (λ e. no_reading c t (semicolon_from c h e))
+is_reading (c ∷ t) h = grind (arith, cond_both, equals_reading, eqb-true, no_reading, semicolon_from)
 
 -- One parameter, from after its ';'
 
@@ -215,10 +208,7 @@ not_begins_front p q (c ∷ s) h = cond_both (q c) (c ∷ front_of q s) [] (λ v
 
 parameter_joined : (s : List ℕ) (r : Reading) (i : IsReading (after_name s) r)
     → s ≡ (front_of is_http_whitespace s ++ (name_in s ++ i.tail)) ++ r.rest
-parameter_joined s r i = front_joined is_http_whitespace s ∙ ap (λ x. front_of is_http_whitespace s ++ x)
-    (front_joined in_name (after_front is_http_whitespace s) ∙ ap (λ x. name_in s ++ x) i.joined
-    ∙ sym (append_assoc (name_in s) i.tail r.rest))
-    ∙ sym (append_assoc (front_of is_http_whitespace s) (name_in s ++ i.tail) r.rest)
+parameter_joined s r i = grind (arith, front_joined, front_of, after_front, append_assoc)
 
 parameter_from : (s : List ℕ) (r : Reading) → IsReading (after_name s) r
     → HasParameterBefore s (map to_ascii_lowercase (name_in s), r.value) r.rest
@@ -242,13 +232,11 @@ parameter_from s r i = record {
 
 -- the text after a parameter is not longer than the text after its ';'
 pub rest_shorter : (s rest : List ℕ) (item : Item) → HasParameterBefore s item rest → length rest ≤ length s
-rest_shorter s rest item h =
-    omega (arith, ap length h.joined, length-append h.text rest, ap length h.is_parameter.joined)
+rest_shorter s rest item h = grind (arith, length-append)
 
 -- the text after a ';' begins with a parameter, whose item and rest are those read from the text
 pub has_parameter : (s : List ℕ) → HasParameterBefore s (item_in s) (rest_in s)
-has_parameter s = parameter_from s (reading (after_name s))
-    (is_reading (after_name s) (after_begins in_name (after_front is_http_whitespace s)))
+has_parameter s = grind (arith, parameter_from, is_reading, after_begins, after_front)
 
 -- Reading the text of a parameter returns its item
 
@@ -295,8 +283,7 @@ tail_equal a b s t e = cc
 
 parts_of : (s text rest : List ℕ) (item : Item) (h : IsParameter text rest item) → 59 ∷ s ≡ text ++ rest
     → s ≡ h.gap ++ (h.name ++ (h.tail ++ rest))
-parts_of s text rest item h e = tail_equal 59 59 s (h.gap ++ (h.name ++ (h.tail ++ rest))) (e
-    ∙ ap (λ x. x ++ rest) h.joined ∙ ap (λ x. 59 ∷ x) (append_four h.gap h.name h.tail rest))
+parts_of s text rest item h e = grind (arith, tail_equal, append_four)
 
 pair_equal : (a : List ℕ) (b : Option (List ℕ)) (c : List ℕ) (d : Option (List ℕ)) → a ≡ c → b ≡ d
     → ◌≡◌ {A = Item} (a, b) (c, d)
@@ -348,9 +335,7 @@ begins r item items h =
 
 begins_same : (r : List ℕ) (item item' : Item) (rest rest' : List ℕ) → Begins r item rest → Begins r item' rest'
     → (item ≡ item') × (rest ≡ rest')
-begins_same r item item' rest rest' h k =
-    let e = tail_equal 59 59 h.s k.s (sym h.is ∙ k.is) in
-    (sym h.item_is ∙ ap item_in e ∙ k.item_is, sym h.rest_is ∙ ap rest_in e ∙ k.rest_is)
+begins_same r item item' rest rest' h k = grind (arith, tail_equal)
 
 begins_not_empty : (r : List ℕ) (item : Item) (rest : List ℕ) → Begins r item rest → r ≡ [] → ⊥
 begins_not_empty r item rest h e = let k = sym e ∙ h.is in cc
@@ -417,13 +402,11 @@ trimmed_joined : (p : ℕ → Bool) (front t back : List ℕ) → Every p front 
     → DoesNotEnd p t → trimmed_of p (front ++ (t ++ back)) ≡ t
 trimmed_joined p front [] back f b d e = ap (without_back p) (ap (after_front p) (sym (append-nil (front ++ back)))
     ∙ after_is p (front ++ back) [] (every_append p front back f b) tt)
-trimmed_joined p front (c ∷ t) back f b d e = ap (without_back p) (after_is p front (c ∷ (t ++ back)) f d)
-    ∙ without_back_joined p (c ∷ t) back b e
+trimmed_joined p front (c ∷ t) back f b d e = grind (arith, without_back, after_is, without_back_joined)
 
 -- if t is s without what passes at both ends, t is `trimmed_of p s`
 pub trimmed_is : (p : ℕ → Bool) (s t : List ℕ) → IsTrimmed p s t → t ≡ trimmed_of p s
-trimmed_is p s t h = sym (ap (trimmed_of p) h.joined
-    ∙ trimmed_joined p h.front t h.back h.at_front h.at_back h.begins h.ends)
+trimmed_is p s t h = grind (arith, trimmed_joined)
 
 -- The parts of a head
 
@@ -451,10 +434,7 @@ parameters_in t = after_front is_http_whitespace (after_front is_token (after_sl
 -- no code point of HTTP whitespace is a token code point
 space_no_token : (c : ℕ) → is_http_whitespace c ≡ true → is_token c ≡ false
 unfolding is_token
-space_no_token c h = ⊎_elim (λ e. ap is_token (eqb-true c 9 e)) (λ h. ⊎_elim (λ e. ap is_token (eqb-true c 10 e))
-    (λ h. ⊎_elim (λ e. ap is_token (eqb-true c 13 e)) (λ e. ap is_token (eqb-true c 32 e))
-    (or_cases (c == 13) (c == 32) h)) (or_cases (c == 10) ((c == 13) || (c == 32)) h))
-    (or_cases (c == 9) ((c == 10) || ((c == 13) || (c == 32))) h)
+space_no_token c h = grind (arith, ⊎_elim, eqb-true, or_cases)
 
 -- ';' is not a token code point
 pub semicolon_no_token : is_token 59 ≡ false
@@ -482,15 +462,7 @@ parts_joined : (type_ subtype gap r : List ℕ) → Every is_token type_ → Eve
     → Every is_http_whitespace gap → BeginsParameters r
     → HasParts (type_ ++ (47 ∷ (subtype ++ (gap ++ r)))) type_ subtype r
 parts_joined type_ subtype gap r t s g b =
-    let slash = ap after_first (after_is is_token type_ (47 ∷ (subtype ++ (gap ++ r))) t slash_no_token) in
-    let n = gap_no_token gap r g b in
-    record {
-      type_is = front_is is_token type_ (47 ∷ (subtype ++ (gap ++ r))) t slash_no_token;
-      subtype_is = ap (front_of is_token) slash ∙ front_is is_token subtype (gap ++ r) s n;
-      parameters_are = ap (λ x. after_front is_http_whitespace (after_front is_token x)) slash
-          ∙ ap (after_front is_http_whitespace) (after_is is_token subtype (gap ++ r) s n)
-          ∙ after_is is_http_whitespace gap r g (ends_of_rest is_http_whitespace refl r b);
-    }
+    grind (arith, after_is, slash_no_token, gap_no_token, front_is, front_of, after_front, ends_of_rest)
 
 head_parts : (s type_ subtype r : List ℕ) (h : IsHead s type_ subtype r) → HasParts h.text type_ subtype r
 head_parts s type_ subtype r h = subst (λ x. HasParts x type_ subtype r) (sym h.joined)

@@ -49,10 +49,7 @@ module _ (t : ℕ → Bool) (ascii : (c : ℕ) → t c ≡ true → c < 128) whe
   fails b h = not-false (t b) h
 
   char_fails : (c : ℕ) → list_all (λ b. not (t b)) (encode_utf8 c) ≡ true → not (t c) ≡ true
-  char_fails c h = elim (cases_Bool (t c)) [
-    | inl e ↦ (and_parts (not (t c)) true (sym (ap (list_all (λ b. not (t b))) (encode_ascii c (ascii c e))) ∙ h)).0
-    | inr e ↦ not_from_false (t c) e
-  ]
+  char_fails c h = grind (arith, cases_Bool, and_parts, encode_ascii, not_from_false)
 
   chars_fail : (cs : List ℕ) → list_all (λ b. not (t b)) (encode_utf8_all cs) ≡ true → Without t cs
   chars_fail [] h = tt
@@ -64,10 +61,7 @@ module _ (t : ℕ → Bool) (ascii : (c : ℕ) → t c ≡ true → c < 128) whe
   -- if no byte of a UTF-8 text passes, none of its code points does
   pub whole_without : (s bytes : List ℕ) (n : ℕ) → IsUtf8 s → bytes ≡ s → n ≡ prefix_len (λ b. not (t b)) bytes
       → n ≡ length s → Without t (chars s)
-  whole_without s bytes n u b e h =
-      let p : ℕ → Bool = λ b. not (t b) in
-      chars_fail (chars s) (ap (list_all p) (encodes-chars s u) ∙ whole_front p s
-      ∙ eq-eqb (prefix_len p s) (length s) (sym (e ∙ ap (prefix_len p) b) ∙ h))
+  whole_without s bytes n u b e h = grind (arith, chars_fail, encodes-chars, whole_front, eq-eqb)
 
   begins_with : (bs : List ℕ) → IsUtf8 bs → DoesNotBegin (λ b. not (t b)) bs → DoesNotBegin (λ c. not (t c)) (chars bs)
   begins_with [] u h = subst (DoesNotBegin (λ c. not (t c))) (sym chars-nil) tt
@@ -78,12 +72,7 @@ module _ (t : ℕ → Bool) (ascii : (c : ℕ) → t c ≡ true → c < 128) whe
   module _ (s : List ℕ) (u : IsUtf8 s) where
     -- a UTF-8 text can be cut before its first byte that passes
     pub cut_boundary : IsCharBoundary s (prefix_len (λ b. not (t b)) s)
-    cut_boundary = elim (cases_lt (prefix_len (λ b. not (t b)) s) (length s)) [
-      | inl l ↦ IsCharBoundary-before_ascii s (prefix_len (λ b. not (t b)) s) l
-          (ascii (get_or s (prefix_len (λ b. not (t b)) s) 0) (fails (get_or s (prefix_len (λ b. not (t b)) s) 0)
-          (prefix_len_stops (λ b. not (t b)) s 0 l)))
-      | inr l ↦ (prefix_len-le-length (λ b. not (t b)) s, λ k. absurd (omega (arith, l, k)))
-    ]
+    cut_boundary = grind (arith, cases_lt, fails, prefix_len_stops, prefix_len-le-length)
 
     -- the bytes before the first byte that passes, and the bytes after them, are a cut of a UTF-8 text
     pub is_cut : IsCut t s (take (prefix_len (λ b. not (t b)) s) s) (drop (prefix_len (λ b. not (t b)) s) s)
@@ -103,8 +92,7 @@ module _ (t : ℕ → Bool) (ascii : (c : ℕ) → t c ≡ true → c < 128) whe
   -- a UTF-8 text can be cut before its first byte that passes, at index n
   pub boundary_by : (s bytes : List ℕ) (n : ℕ) → IsUtf8 s → n ≡ prefix_len (λ b. not (t b)) bytes → bytes ≡ s
       → IsCharBoundary s n
-  boundary_by s bytes n u e b = subst (IsCharBoundary s) (sym (e ∙ ap (prefix_len (λ b. not (t b))) b))
-      (cut_boundary s u)
+  boundary_by s bytes n u e b = grind (arith, cut_boundary)
 
   -- two texts that are cut from a UTF-8 text before its first byte that passes, at index n, are a cut of it
   pub cut_by : (s bytes front after : List ℕ) (n : ℕ) → IsUtf8 s → n ≡ prefix_len (λ b. not (t b)) bytes → bytes ≡ s
@@ -117,23 +105,17 @@ semicolon_below c h = let k = eqb-true c 59 h in omega arith
 
 -- ';' and '=' are ASCII
 pub name_end_below : (c : ℕ) → ends_name c ≡ true → c < 128
-name_end_below c h = ⊎_elim (λ e. let k = eqb-true c 59 e in omega arith) (λ e. let k = eqb-true c 61 e in omega arith)
-    (or_cases (c == 59) (c == 61) h)
+name_end_below c h = grind (arith, ⊎_elim, eqb-true, or_cases)
 
 -- '"' and '\' are ASCII
 pub escaped_below : (c : ℕ) → is_escaped c ≡ true → c < 128
-escaped_below c h = ⊎_elim (λ e. let k = eqb-true c 34 e in omega arith) (λ e. let k = eqb-true c 92 e in omega arith)
-    (or_cases (c == 34) (c == 92) h)
+escaped_below c h = grind (arith, ⊎_elim, eqb-true, or_cases)
 
 -- HTTP whitespace removed
 
 -- HTTP whitespace is ASCII
 pub whitespace_below : (c : ℕ) → is_http_whitespace c ≡ true → c < 128
-whitespace_below c h = ⊎_elim (λ e. let k = eqb-true c 9 e in omega arith)
-    (λ h. ⊎_elim (λ e. let k = eqb-true c 10 e in omega arith)
-    (λ h. ⊎_elim (λ e. let k = eqb-true c 13 e in omega arith) (λ e. let k = eqb-true c 32 e in omega arith)
-    (or_cases (c == 13) (c == 32) h)) (or_cases (c == 10) ((c == 13) || (c == 32)) h))
-    (or_cases (c == 9) ((c == 10) || ((c == 13) || (c == 32))) h)
+whitespace_below c h = grind (arith, ⊎_elim, eqb-true, or_cases)
 
 -- the bytes of a UTF-8 text without HTTP whitespace at the front are the text of its code points without it
 pub whitespace_front : (s : List ℕ) → IsUtf8 s
@@ -199,8 +181,7 @@ trimmed_end p below s u =
 -- the first n bytes of a UTF-8 text, without HTTP whitespace at the end, are its code points without it
 pub whitespace_end : (s : List ℕ) (n : ℕ) → IsUtf8 s → n ≡ length s - suffix_len is_http_whitespace s
     → IsTrimmedEnd is_http_whitespace (chars s) (chars (take n s))
-whitespace_end s n u e = subst (λ i. IsTrimmedEnd is_http_whitespace (chars s) (chars (take i s))) (sym e)
-    (trimmed_end is_http_whitespace whitespace_below s u)
+whitespace_end s n u e = grind (arith, trimmed_end, whitespace_below)
 
 -- Values as texts of their own.
 
@@ -208,23 +189,17 @@ whitespace_end s n u e = subst (λ i. IsTrimmedEnd is_http_whitespace (chars s) 
 
 quotable_below : (c : ℕ) → is_quotable c ≡ true → c < 256
 unfolding is_quotable
-quotable_below c h = ⊎_elim (λ r. ⊎_elim (λ e. let k = eqb-true c 9 e in omega arith) (λ r. let k =
-    range_high 32 126 c r in omega arith) (or_cases (c == 9) (is_in_range 32 126 c) r)) (λ r. let k =
-    range_high 128 255 c r in omega arith) (or_cases ((c == 9) || is_in_range 32 126 c) (is_in_range 128 255 c) h)
+quotable_below c h = grind (arith, ⊎_elim, eqb-true, range_high, or_cases)
 
 quotable_byte_below : (b : ℕ) → is_quotable_byte b ≡ true → b < 196
 unfolding is_quotable_byte
-quotable_byte_below b h =
-    ⊎_elim (λ r. ⊎_elim (λ e. let k = eqb-true b 9 e in omega arith) (λ r. let k = range_high 32 126 b r in omega arith)
-    (or_cases (b == 9) (is_in_range 32 126 b) r)) (λ r. let k = range_high 128 195 b r in omega arith)
-    (or_cases ((b == 9) || is_in_range 32 126 b) (is_in_range 128 195 b) h)
+quotable_byte_below b h = grind (arith, ⊎_elim, eqb-true, range_high, or_cases)
 
 not_quotable : (c : ℕ) → 256 ≤ c → is_quotable c ≡ false
 not_quotable c l = false_from_ne_true (is_quotable c) (λ h. let k = quotable_below c h in absurd (omega arith))
 
 high_byte : (b : ℕ) (t : List ℕ) → 196 ≤ b → list_all is_quotable_byte (b ∷ t) ≡ false
-high_byte b t l = and_left (is_quotable_byte b) (list_all is_quotable_byte t)
-    (false_from_ne_true (is_quotable_byte b) (λ h. let k = quotable_byte_below b h in absurd (omega arith)))
+high_byte b t l = grind (arith, and_left, false_from_ne_true, quotable_byte_below)
 
 low_quotable : (c : ℕ) → c < 2048 → list_all is_quotable_byte (encode c) ≡ is_quotable c
 unfolding encode is_quotable is_quotable_byte
@@ -232,24 +207,14 @@ low_quotable c l = agree_below_at (λ x. list_all is_quotable_byte (encode x)) i
 
 high_quotable : (c : ℕ) → 2048 ≤ c → list_all is_quotable_byte (encode c) ≡ false
 unfolding encode
-high_quotable c l =
-    let P : List ℕ → Type 0 = λ x. list_all is_quotable_byte x ≡ false in
-    subst P (sym (cond-false (ltb c 128) (c ∷ []) _ (le-ltb c 128 (omega arith))))
-    (subst P (sym (cond-false (ltb c 2048) _ _ (le-ltb c 2048 l)))
-    (cond_both (ltb c 65536) _ _ P (λ k. high_byte (224 + c / 4096) (next (c / 64) ∷ next c ∷ []) (omega arith))
-    (λ k. high_byte (240 + c / 262144) (next (c / 4096) ∷ next (c / 64) ∷ next c ∷ []) (omega arith))))
+high_quotable c l = grind (arith, cond-false, ltb, le-ltb, cond_both, high_byte)
 
 quotable_encoded : (c : ℕ) → list_all is_quotable_byte (encode c) ≡ is_quotable c
-quotable_encoded c = elim (cases_lt c 2048) [
-  | inl l ↦ low_quotable c l
-  | inr l ↦ high_quotable c l
-      ∙ sym (not_quotable c (omega arith))
-]
+quotable_encoded c = grind (arith, cases_lt, low_quotable, high_quotable, not_quotable)
 
 quotable_bytes : (cs : List ℕ) → list_all is_quotable_byte (encode_utf8_all cs) ≡ list_all is_quotable cs
 quotable_bytes [] = refl
-quotable_bytes (c ∷ cs) = list_all-append is_quotable_byte (encode c) (encode_utf8_all cs)
-    ∙ ap₂ (λ x y. x && y) (quotable_encoded c) (quotable_bytes cs)
+quotable_bytes (c ∷ cs) = grind (arith, list_all-append, encode_utf8_all, quotable_encoded, (quotable_bytes cs))
 
 -- each byte of a UTF-8 text passes `is_quotable_byte` exactly if each of its code points passes `is_quotable`
 pub quotable_chars : (bs : List ℕ) → IsUtf8 bs → list_all is_quotable_byte bs ≡ list_all is_quotable (chars bs)
@@ -277,8 +242,7 @@ unescaped_step true c t = refl
 unescaped_step false c t = refl
 
 scalar_first : (cs r : List ℕ) (c : ℕ) → all_scalars cs ≡ true → encode_utf8_all cs ≡ encode c ++ r → IsScalar c
-scalar_first cs r c s e = let k = cons_from_encodes cs r c e in
-    (and_parts (scalar c) (all_scalars k.0) (ap all_scalars (sym k.1) ∙ s)).0
+scalar_first cs r c s e = grind (arith, cons_from_encodes, and_parts)
 
 -- the first code point of a UTF-8 text is a Unicode scalar value
 pub scalar_from : (r r' : List ℕ) (c : ℕ) → IsUtf8 r → r ≡ encode c ++ r' → IsScalar c
@@ -313,11 +277,7 @@ unescape_pushes v v' r r' whole c e e' u w s g k f h =
 pub unescape_skips : (v r r' whole : List ℕ) (c : ℕ) (e e' : Bool) → IsUtf8 r → r ≡ encode c ++ r'
     → e' ≡ ((c == 92) && not e) → e' ≡ true → chars v ++ unescaped e (chars r) ≡ whole
     → chars v ++ unescaped e' (chars r') ≡ whole
-unescape_skips v r r' whole c e e' w s k f h =
-    ap (λ b. chars v ++ unescaped b (chars r')) f
-    ∙ ap (λ x. chars v ++ x) (sym (ap (unescaped e) (chars_past_char r r' c w s) ∙ unescaped_step e c (chars r')
-    ∙ cond-true ((c == 92) && not e) (unescaped true (chars r')) (c ∷ unescaped false (chars r')) (sym k ∙ f)))
-    ∙ h
+unescape_skips v r r' whole c e e' w s k f h = grind (arith, unescaped, chars_past_char, unescaped_step, cond-true)
 
 -- if nothing is left after a '\' that would escape the next code point, writing this '\' gives the value
 pub unescape_ends : (v v' r q value : List ℕ) (e : Bool) → IsUtf8 v → length r ≡ 0 → e ≡ true → v' ≡ v ++ encode 92
@@ -346,8 +306,7 @@ units_quotable : (units : List QuotedUnit) → list_all is_quotable (flat_map un
     (map unit_value units)
 units_quotable [] = refl
 units_quotable (Plain c ∷ units) = ap (λ b. is_quotable c && b) (units_quotable units)
-units_quotable (Escaped c ∷ units) = escaped_quotable c (list_all is_quotable (flat_map unit_text units))
-    ∙ ap (λ b. is_quotable c && b) (units_quotable units)
+units_quotable (Escaped c ∷ units) = grind (arith, escaped_quotable, (units_quotable units))
 
 quoted_same : (q v : List ℕ) → Quoted q v → list_all is_quotable q ≡ list_all is_quotable v
 quoted_same q v h = rw (h.text_is, h.value_is) (units_quotable h.units)
@@ -355,10 +314,7 @@ quoted_same q v h = rw (h.text_is, h.value_is) (units_quotable h.units)
 -- a quoted string has only quoted-string code points exactly if its value has
 pub quoted_quotable : (q v : List ℕ) → QuotedOpen q v → list_all is_quotable q ≡ list_all is_quotable v
 quoted_quotable q v (inl h) = quoted_same q v h
-quoted_quotable q v (inr (q', v', t, e, h)) =
-    ap (list_all is_quotable) t ∙ list_all-append is_quotable q' (92 ∷ [])
-    ∙ ap (λ b. b && list_all is_quotable (92 ∷ [])) (quoted_same q' v' h)
-    ∙ sym (list_all-append is_quotable v' (92 ∷ [])) ∙ ap (list_all is_quotable) (sym e)
+quoted_quotable q v (inr (q', v', t, e, h)) = grind (arith, list_all-append, quoted_same)
 
 -- The text of a value
 
@@ -375,17 +331,12 @@ pub quoted_text : (self : Value) (text : Bor (List ℕ)) (value : Option (List �
     → self ≡ slices.Quoted text → IsValue self value → true ≡ list_all is_quotable (chars text.now)
     → ((v : List ℕ) → QuotedOpen (chars text.now) v → code ≡ v)
     → ◌≡◌ {A = Option (List ℕ)} (Some code) (quotable_value value)
-quoted_text self text value code e i q h =
-    let k = subst (λ s. IsValue s value) e i in
-    ap Some (h k.0 k.2) ∙ sym (ap quotable_value k.1 ∙ quotable_some k.0 (sym (quoted_quotable (chars text.now) k.0 k.2)
-    ∙ sym q))
+quoted_text self text value code e i q h = grind (arith, quotable_some, quoted_quotable)
 
 -- if the text in quotes has another code point, there is no quotable value
 pub no_quoted_text : (self : Value) (text : Bor (List ℕ)) (value : Option (List ℕ)) → self ≡ slices.Quoted text
     → IsValue self value → list_all is_quotable (chars text.now) ≡ false → None ≡ quotable_value value
-no_quoted_text self text value e i q =
-    let k = subst (λ s. IsValue s value) e i in
-    sym (ap quotable_value k.1 ∙ quotable_none k.0 (sym (quoted_quotable (chars text.now) k.0 k.2) ∙ q))
+no_quoted_text self text value e i q = grind (arith, quotable_none, quoted_quotable)
 
 -- if the value is missing, there is no quotable value
 pub missing_text : (self : Value) (value : Option (List ℕ)) → self ≡ slices.Missing → IsValue self value
@@ -396,8 +347,7 @@ missing_text self value e i = let k = subst (λ s. IsValue s value) e i in sym k
 
 stays_unescaped : (cs : List ℕ) → Without is_escaped cs → unescaped false cs ≡ cs
 stays_unescaped [] h = refl
-stays_unescaped (c ∷ cs) h = unescaped_one c cs (or_parts (c == 34) (c == 92) (not-true (is_escaped c) h.0)).1
-    ∙ ap (λ t. c ∷ t) (stays_unescaped cs h.1)
+stays_unescaped (c ∷ cs) h = grind (arith, unescaped_one, or_parts, not-true, (stays_unescaped cs h.1))
 
 -- a quoted string without '"' and '\' is its own value
 pub copied : (v q value : List ℕ) → Without is_escaped (chars q) → v ≡ q → QuotedOpen (chars q) value → chars v ≡ value
@@ -406,9 +356,7 @@ copied v q value h g k = ap chars g ∙ sym (stays_unescaped (chars q) h) ∙ un
 -- the text of a value without quotes is the quotable value
 pub plain_text : (self : Value) (text : Bor (List ℕ)) (value : Option (List ℕ)) (code : List ℕ)
     → self ≡ slices.Plain text → IsValue self value → code ≡ chars text.now → Some code ≡ quotable_value value
-plain_text self text value code e i h =
-    let k = subst (λ s. IsValue s value) e i in
-    ap Some h ∙ sym (ap quotable_value k.0 ∙ quotable_some (chars text.now) k.1)
+plain_text self text value code e i h = grind (arith, quotable_some)
 
 -- Values without quotes: whether the text before a ';' has only quoted-string code points.
 
@@ -423,8 +371,7 @@ front_len = in_parts is_unquoted_byte (λ b. not (is_semicolon b)) no_semicolon_
 
 all_quotable : (bs : List ℕ) → Every is_unquoted_byte bs → list_all is_quotable_byte bs ≡ true
 all_quotable [] h = refl
-all_quotable (b ∷ bs) h = and_from (is_quotable_byte b) (list_all is_quotable_byte bs)
-    (and_parts (is_quotable_byte b) (not (is_semicolon b)) h.0).0 (all_quotable bs h.1)
+all_quotable (b ∷ bs) h = grind (arith, and_from, and_parts, (all_quotable bs h.1))
 
 -- a prefix that is not longer than the longest prefix of unquoted bytes has only quoted-string code points
 pub short_quotable : (text t more : List ℕ) (q : ℕ) → text ≡ t ++ more → IsUtf8 t → q ≡ prefix_len is_unquoted_byte text

@@ -25,24 +25,12 @@ not_begins_left p (c ∷ a) b h = h
 
 -- a text that is trimmed at the front, and then at the end, is trimmed at both ends
 pub trimmed_both : (p : ℕ → Bool) (s a t : List ℕ) → IsTrimmedFront p s a → IsTrimmedEnd p a t → IsTrimmed p s t
-trimmed_both p s a t f e = record {
-  front = f.front;
-  back = e.back;
-  joined = f.joined ∙ ap (λ x. f.front ++ x) e.joined;
-  at_front = f.at_front;
-  at_back = e.at_back;
-  begins = not_begins_left p t e.back (subst (DoesNotBegin p) e.joined f.begins);
-  ends = e.ends;
-}
+trimmed_both p s a t f e = grind (arith, not_begins_left)
 
 -- a text has one longest prefix that passes
 pub same_span : (p : ℕ → Bool) (a b c d : List ℕ) → a ++ b ≡ c ++ d → Every p a → DoesNotBegin p b → Every p c
     → DoesNotBegin p d → (a ≡ c) × (b ≡ d)
-same_span p a b c d e f g h k = (
-  sym (front_is p a b f g) ∙ ap (front_of p) e ∙ front_is p c d h k,
-  sym (after_is p a b f g)
-      ∙ ap (after_front p) e ∙ after_is p c d h k,
-)
+same_span p a b c d e f g h k = grind (arith, front_is, front_of, after_is, after_front)
 
 -- s without HTTP whitespace at both ends is ty, its longest prefix of token code points, and then x
 pub record Cut (s ty x : List ℕ) : Type 0 where
@@ -71,13 +59,7 @@ head_forced s ty x a b c k h =
 -- if y is the rest of a head after its '/', and is cut into su and p, these are its subtype and its parameters
 pub rest_forced : (s y su p a b c : List ℕ) → CutAgain y su p → (h : IsHead s a b c) → y ≡ b ++ (h.gap ++ c)
     → (su ≡ b) × (p ≡ c)
-rest_forced s y su p a b c k h e =
-    let w = same_span is_token su k.after b (h.gap ++ c) (sym k.joined ∙ e) k.tokens k.begins
-    (every_token b h.is_subtype) (gap_no_token h.gap c h.in_gap h.begins) in (
-      w.0,
-      (same_span is_http_whitespace k.front.front p h.gap c (sym k.front.joined ∙ w.1) k.front.at_front
-          k.front.begins h.in_gap (ends_of_rest is_http_whitespace refl c h.begins)).1,
-    )
+rest_forced s y su p a b c k h e = grind (arith, same_span, every_token, gap_no_token, ends_of_rest)
 
 not_empty : (a : List ℕ) → IsTrue (is_token_text a) → a ≡ [] → ⊥
 not_empty a h e = false≢true (sym (ap is_token_text e) ∙ h)
@@ -111,16 +93,7 @@ nonempty_tokens (c ∷ a) h n = all_from_every is_token (c ∷ a) h
 -- if the type and the subtype are not empty, and the text after them is empty or begins with ';', they are the head
 pub is_head : (s ty y su p : List ℕ) → Cut s ty (47 ∷ y) → CutAgain y su p → (ty ≡ [] → ⊥) → (su ≡ [] → ⊥)
     → BeginsParameters p → IsHead s ty su p
-is_head s ty y su p k g t u b = record {
-  text = k.text;
-  gap = g.front.front;
-  trimmed = k.trimmed;
-  joined = k.joined ∙ ap (λ x. ty ++ (47 ∷ x)) (g.joined ∙ ap (λ x. su ++ x) g.front.joined);
-  is_type = nonempty_tokens ty k.tokens t;
-  is_subtype = nonempty_tokens su g.tokens u;
-  in_gap = g.front.at_front;
-  begins = b;
-}
+is_head s ty y su p k g t u b = grind (arith, nonempty_tokens)
 
 -- From bytes
 
@@ -160,14 +133,7 @@ begins_if x false u n h = begins_semicolon x (chars x) u (nonempty_chars x u n) 
 -- a text, trimmed at both ends and cut after its longest prefix of token code points, is cut into type and rest
 pub cut_from : (s a t ty x : List ℕ) → IsTrimmedFront is_http_whitespace s a → IsTrimmedEnd is_http_whitespace a t
     → t ≡ ty ++ x → Every is_token ty → DoesNotBegin is_token x → Cut s ty x
-cut_from s a t ty x f e j k b = record {
-  text = t;
-  trimmed = trimmed_both is_http_whitespace s a t f e;
-  joined =
-      j;
-  tokens = k;
-  begins = b;
-}
+cut_from s a t ty x f e j k b = grind (arith, trimmed_both)
 
 -- a text that is cut after its longest prefix of token code points, and then trimmed at the front of the rest, is cut
 -- into subtype and parameters

@@ -34,26 +34,18 @@ pub escaped_more : (r r' done whole : List ℕ) (c : ℕ) → IsUtf8 r → r ≡
     → done ++ encode_utf8_all (flat_map escaped_code_point (chars r)) ≡ whole
     → (done ++ encode_utf8_all (escaped_code_point c)) ++ encode_utf8_all (flat_map escaped_code_point (chars r'))
     ≡ whole
-escaped_more r r' done whole c u e h =
-    append_assoc done (encode_utf8_all (escaped_code_point c))
-    (encode_utf8_all (flat_map escaped_code_point (chars r')))
-    ∙ ap (λ x. done ++ x) (sym (ap (λ x. encode_utf8_all (flat_map escaped_code_point x)) (chars_past_char r r' c u e)
-    ∙ encodes-append (escaped_code_point c) (flat_map escaped_code_point (chars r'))))
-    ∙ h
+escaped_more r r' done whole c u e h = grind (arith, append_assoc, encode_utf8_all, chars_past_char, encodes-append)
 
 -- if nothing is left to be escaped, the bytes so far are the whole
 pub escaped_end : (r done whole : List ℕ) → length r ≡ 0
     → done ++ encode_utf8_all (flat_map escaped_code_point (chars r)) ≡ whole → done ≡ whole
-escaped_end r done whole l h = sym (append-nil done) ∙ ap (λ x. done ++ encode_utf8_all (flat_map escaped_code_point x))
-    (sym (no_chars r l)) ∙ h
+escaped_end r done whole l h = grind (arith, append-nil, encode_utf8_all, no_chars)
 
 -- A text with nothing to escape
 
 plain_chars : (cs : List ℕ) → Without is_escaped cs → flat_map escaped_code_point cs ≡ cs
 plain_chars [] h = refl
-plain_chars (c ∷ cs) h =
-    ap₂ (λ x y. x ++ y) (cond-false (is_escaped c) (92 ∷ c ∷ []) (c ∷ []) (not-true (is_escaped c) h.0))
-    (plain_chars cs h.1)
+plain_chars (c ∷ cs) h = grind (arith, cond-false, not-true, (plain_chars cs h.1))
 
 -- a text without '"' and '\' is the UTF-8 of its escaped code points
 pub plain_text : (v : List ℕ) → IsUtf8 v → Without is_escaped (chars v)
@@ -65,21 +57,14 @@ plain_text v u h = sym (encodes-chars v u) ∙ ap encode_utf8_all (sym (plain_ch
 -- a value that is a token text is printed as it is
 pub token_value : (v : List ℕ) (b : Bool) → IsUtf8 v → b ≡ is_token_text (chars v) → b ≡ true
     → v ≡ encode_utf8_all (printed_value (chars v))
-token_value v b u e h = sym (encodes-chars v u)
-    ∙ ap encode_utf8_all (sym (cond-true (is_token_text (chars v)) (chars v)
-    (34 ∷ (flat_map escaped_code_point (chars v) ++ (34 ∷ []))) (sym e ∙ h)))
+token_value v b u e h = grind (arith, encodes-chars, encode_utf8_all, cond-true)
 
 -- a value that is not a token text is printed as its escaped code points in quotes
 pub quoted_value_text : (v : List ℕ) (b : Bool) → b ≡ is_token_text (chars v) → b ≡ false
     → ((34 ∷ []) ++ encode_utf8_all (flat_map escaped_code_point (chars v))) ++ (34 ∷ []) ≡ encode_utf8_all
     (printed_value (chars v))
 quoted_value_text v b e h =
-    ap (λ x. (x ++ encode_utf8_all (flat_map escaped_code_point (chars v))) ++ x) (sym (encode_ascii 34 (omega arith)))
-    ∙ append_assoc (encode_utf8 34) (encode_utf8_all (flat_map escaped_code_point (chars v))) (encode_utf8 34)
-    ∙ ap (λ x. encode_utf8 34 ++ x) (ap (λ x. encode_utf8_all (flat_map escaped_code_point (chars v)) ++ x)
-    (sym (append-nil (encode_utf8 34))) ∙ sym (encodes-append (flat_map escaped_code_point (chars v)) (34 ∷ [])))
-    ∙ ap encode_utf8_all (sym (cond-false (is_token_text (chars v)) (chars v)
-    (34 ∷ (flat_map escaped_code_point (chars v) ++ (34 ∷ []))) (sym e ∙ h)))
+    grind (arith, encode_utf8_all, encode_ascii, append_assoc, encode_utf8, append-nil, encodes-append, cond-false)
 
 -- A parameter
 
@@ -87,12 +72,7 @@ quoted_value_text v b e h =
 pub parameter_text : (name value : List ℕ) → IsUtf8 name → (((59 ∷ []) ++ name) ++ (61 ∷ [])) ++ encode_utf8_all
     (printed_value (chars value)) ≡ encode_utf8_all (printed_pair (chars name, chars value))
 parameter_text name value u =
-    ap₂ (λ x y. ((x ++ name) ++ y) ++ encode_utf8_all (printed_value (chars value)))
-    (sym (encode_ascii 59 (omega arith))) (sym (encode_ascii 61 (omega arith)))
-    ∙ append_assoc (encode_utf8 59 ++ name) (encode_utf8 61) (encode_utf8_all (printed_value (chars value)))
-    ∙ append_assoc (encode_utf8 59) name (encode_utf8 61 ++ encode_utf8_all (printed_value (chars value)))
-    ∙ ap (λ x. encode_utf8 59 ++ x) (ap (λ x. x ++ (encode_utf8 61 ++ encode_utf8_all (printed_value (chars value))))
-    (sym (encodes-chars name u)) ∙ sym (encodes-append (chars name) (61 ∷ printed_value (chars value))))
+    grind (arith, encode_utf8_all, encode_ascii, append_assoc, encode_utf8, encodes-chars, encodes-append)
 
 -- A record
 
@@ -108,15 +88,7 @@ pairs_text pairs = encode_utf8_all (flat_map printed_pair (map (λ p. pair_of p)
 pub record_starts : (m : Mime) → ((string_bytes m.type_ ++ encode_utf8 47) ++ string_bytes m.subtype) ++ pairs_text
     m.parameters.items ≡ encode_utf8_all (printed (record_of m))
 unfolding printed
-record_starts m =
-    append_assoc (string_bytes m.type_ ++ encode_utf8 47) (string_bytes m.subtype) (pairs_text m.parameters.items)
-    ∙ append_assoc (string_bytes m.type_) (encode_utf8 47) (string_bytes m.subtype ++ pairs_text m.parameters.items)
-    ∙ ap₂ (λ x y. x ++ (encode_utf8 47 ++ (y ++ pairs_text m.parameters.items))) (text_bytes m.type_)
-    (text_bytes m.subtype)
-    ∙ ap (λ x. encode_utf8_all (code_points m.type_) ++ (encode_utf8 47 ++ x))
-    (sym (encodes-append (code_points m.subtype) (flat_map printed_pair (map (λ p. pair_of p) m.parameters.items))))
-    ∙ sym (encodes-append (code_points m.type_)
-    (47 ∷ (code_points m.subtype ++ flat_map printed_pair (map (λ p. pair_of p) m.parameters.items))))
+record_starts m = grind (arith, append_assoc, string_bytes, encode_utf8, text_bytes, encode_utf8_all, encodes-append)
 
 -- if the bytes so far and the printed pairs from index i on are the whole, they still are after pair i is printed and
 -- moved to them
@@ -124,18 +96,12 @@ pub record_more : {A B : Type 0} (pairs : List (String A × String B)) (i : ℕ)
     (done whole : List ℕ) → i < length pairs → item ≡ get_or pairs i item → done ++ pairs_text (drop i pairs) ≡ whole
     → (done ++ encode_utf8_all (printed_pair (pair_of item))) ++ pairs_text (drop (i + 1) pairs) ≡ whole
 record_more pairs i item done whole l e h =
-    append_assoc done (encode_utf8_all (printed_pair (pair_of item))) (pairs_text (drop (i + 1) pairs))
-    ∙ ap (λ x. done ++ x)
-    (sym (ap pairs_text (drop-cons pairs i item l ∙ ap₂ (λ p k. p ∷ drop k pairs) (sym e) (sym (add-one i)))
-    ∙ encodes-append (printed_pair (pair_of item))
-    (flat_map printed_pair (map (λ p. pair_of p) (drop (i + 1) pairs)))))
-    ∙ h
+    grind (arith, append_assoc, encode_utf8_all, drop-cons, add-one, encodes-append)
 
 -- if no pairs are left, the bytes so far are the whole
 pub record_ends : {A B : Type 0} (pairs : List (String A × String B)) (i : ℕ) (done whole : List ℕ) → length pairs ≤ i
     → done ++ pairs_text (drop i pairs) ≡ whole → done ≡ whole
-record_ends pairs i done whole l h = sym (append-nil done)
-    ∙ ap (λ x. done ++ pairs_text x) (sym (drop_of_length-le pairs l)) ∙ h
+record_ends pairs i done whole l h = grind (arith, append-nil, drop_of_length-le)
 
 -- the same for a reference
 
@@ -155,8 +121,7 @@ pair_by item a b e f = ap₂ (λ x y. encode_utf8_all (printed_pair (chars x, ch
 -- what is written with any options is what is written without options
 pub written_plain : {W : Type 0} {took : W → List ℕ → W → Type 0} {f g : Formatter W} {bs : List ℕ} → IsPlainFormatter f
     → HasWrittenStyled took f bs g → HasWritten took f bs g
-written_plain {f = f} plain h =
-    record { wrote = h.wrote; plain = record { bare = subst IsDefaultSpec (sym h.spec) plain.bare; flush = h.flush } }
+written_plain {f = f} plain h = grind arith
 
 -- A line that is buffered
 
@@ -202,17 +167,12 @@ module _ {W : Type 0} {took : W → List ℕ → W → Type 0} where
   -- if the buffer is written and emptied, and then a text is put into it, the text is appended
   pub added_after : (f g : Formatter W) (l m n : Line) (a : List ℕ) → HasWrittenStyled took f (held l) g → m.len ≡ 0
       → held n ≡ held m ++ a → HasAdded took f l a g n
-  added_after f g l m n a x e h = record {
-    written = held l;
-    wrote = x;
-    joined = ap (λ t. held l ++ t) (sym (h ∙ ap (λ t. t ++ a) (held_none m e)));
-  }
+  added_after f g l m n a x e h = grind (arith, held_none)
 
   -- a text that is added to an empty line is written when its buffer is
   pub added_then_written : (f g h : Formatter W) (l m : Line) (a : List ℕ) → held l ≡ [] → HasAdded took f l a g m
       → HasWrittenStyled took g (held m) h → HasWrittenStyled took f a h
-  added_then_written f g h l m a e x y = has_written_styled_of_eq _ _ _ _ _ (sym x.joined ∙ ap (λ t. t ++ a) e)
-      (has_written_styled_append _ _ _ _ _ _ x.wrote y)
+  added_then_written f g h l m a e x y = grind (arith, has_written_styled_of_eq, has_written_styled_append)
 
 -- Records of the same texts.
 
@@ -235,9 +195,7 @@ pair_same p q h =
     ap (λ x. (x, string_bytes p.1)) first ∙ ap (λ x. (string_bytes q.0, x)) second
 
 same_pair_of : {A B : Type 0} (p q : String A × String B) → texts_of_pair p ≡ texts_of_pair q → same_pair p q ≡ true
-same_pair_of p q h = both (bytes_eq (string_bytes p.0) (string_bytes q.0))
-    (bytes_eq (string_bytes p.1) (string_bytes q.1)) (same_bytes _ _ (ap (λ x. x.0) h))
-    (same_bytes _ _ (ap (λ x. x.1) h))
+same_pair_of p q h = grind (arith, both, string_bytes, same_bytes)
 
 pairs_same : {A B : Type 0} (ps qs : List (String A × String B)) → pointwise same_pair ps qs ≡ true
     → map texts_of_pair ps ≡ map texts_of_pair qs
@@ -245,9 +203,7 @@ pairs_same [] [] h = refl
 pairs_same [] (q ∷ qs) h = absurd (cc)
 pairs_same (p ∷ ps) [] h = absurd (cc)
 pairs_same (p ∷ ps) (q ∷ qs) h =
-    let here = pair_same p q (first_so (same_pair p q) (pointwise same_pair ps qs) h) in
-    let rest = pairs_same ps qs (second_so (same_pair p q) (pointwise same_pair ps qs) h) in
-    ap (λ x. x ∷ map texts_of_pair ps) here ∙ ap (λ xs. texts_of_pair q ∷ xs) rest
+    grind (arith, pair_same, (pairs_same ps qs (second_so (same_pair p q) (pointwise same_pair ps qs) h)))
 
 same_pairs : {A B : Type 0} (ps qs : List (String A × String B)) → map texts_of_pair ps ≡ map texts_of_pair qs
     → pointwise same_pair ps qs ≡ true
@@ -261,21 +217,7 @@ same_pairs (p ∷ ps) (q ∷ qs) h =
 
 -- the test is true exactly if the texts are the same
 pub same_decides : (m n : Mime) → IsTrue (same_texts m n) ↔ SameTexts m n
-same_decides m n =
-    let first = bytes_eq (string_bytes m.type_) (string_bytes n.type_) in
-    let second = bytes_eq (string_bytes m.subtype) (string_bytes n.subtype) in
-    let third = pointwise same_pair m.parameters.items n.parameters.items in (
-      λ h. record {
-        type_ = bytes_same (string_bytes m.type_) (string_bytes n.type_) (first_so first (second && third) h);
-        subtype = bytes_same (string_bytes m.subtype) (string_bytes n.subtype)
-            (first_so second third (second_so first (second && third) h));
-        parameters = pairs_same m.parameters.items n.parameters.items
-            (second_so second third (second_so first (second && third) h));
-      },
-      λ h. both first (second && third) (same_bytes (string_bytes m.type_) (string_bytes n.type_) h.type_)
-          (both second third (same_bytes (string_bytes m.subtype) (string_bytes n.subtype) h.subtype)
-          (same_pairs m.parameters.items n.parameters.items h.parameters)),
-    )
+same_decides m n = grind (arith, string_bytes, bytes_same, pairs_same, both, same_bytes, same_pairs)
 
 -- copies
 
@@ -286,10 +228,7 @@ pub copied_pairs : {A B : Type 0} (ps qs : List (String A × String B))
 copied_pairs [] [] h = refl
 copied_pairs [] (q ∷ qs) h = absurd h
 copied_pairs (p ∷ ps) [] h = absurd h
-copied_pairs (p ∷ ps) (q ∷ qs) h =
-    ap (λ x. (x, string_bytes q.1) ∷ map texts_of_pair qs) h.0.0
-    ∙ ap (λ x. (string_bytes p.0, x) ∷ map texts_of_pair qs) h.0.1
-    ∙ ap (λ xs. texts_of_pair p ∷ xs) (copied_pairs ps qs h.1)
+copied_pairs (p ∷ ps) (q ∷ qs) h = grind (arith, string_bytes, (copied_pairs ps qs h.1))
 
 -- code points follow from bytes
 abbrev pair_seen : List ℕ × List ℕ → Pair
@@ -304,12 +243,7 @@ record_with a b c = record { type_ = a; subtype = b; parameters = c }
 
 -- if two MIME types have the same texts, their records of code points are equal
 pub same_seen : (m n : Mime) → SameTexts m n → record_of m ≡ record_of n
-same_seen m n h =
-    let pairs : map pair_of m.parameters.items ≡ map pair_of n.parameters.items = pairs_seen m.parameters.items
-    ∙ ap (map pair_seen) h.parameters ∙ sym (pairs_seen n.parameters.items) in
-    ap (λ a. record_with a (chars (string_bytes m.subtype)) (map pair_of m.parameters.items)) (ap chars h.type_)
-    ∙ ap (λ b. record_with (chars (string_bytes n.type_)) b (map pair_of m.parameters.items)) (ap chars h.subtype)
-    ∙ ap (λ c. record_with (chars (string_bytes n.type_)) (chars (string_bytes n.subtype)) c) pairs
+same_seen m n h = grind (arith, pairs_seen, string_bytes)
 
 -- bytes follow from code points
 
@@ -319,8 +253,7 @@ pair_spelled p = (encode_utf8_all p.0, encode_utf8_all p.1)
 pairs_spelled : {A B : Type 0} (ps : List (String A × String B))
     → map texts_of_pair ps ≡ map pair_spelled (map pair_of ps)
 pairs_spelled [] = refl
-pairs_spelled (p ∷ ps) = ap₂ (λ a b. (a, b) ∷ map texts_of_pair ps) (text_bytes p.0) (text_bytes p.1)
-    ∙ ap (λ xs. pair_spelled (pair_of p) ∷ xs) (pairs_spelled ps)
+pairs_spelled (p ∷ ps) = grind (arith, text_bytes, (pairs_spelled ps))
 
 -- if the records of code points of two MIME types are equal, the MIME types have the same texts
 pub seen_same : (m n : Mime) → record_of m ≡ record_of n → SameTexts m n

@@ -34,23 +34,14 @@ quoted_rest true (c ∷ t) = quoted_rest false t
 pub value_of_units : (units : List QuotedUnit) (x : List ℕ) → AllByRecursion IsUnit units
     → quoted_value false (flat_map unit_text units ++ x) ≡ map unit_value units ++ quoted_value false x
 value_of_units [] x h = refl
-value_of_units (Plain c ∷ units) x h =
-    cond-false (c == 34) [] (cond (c == 92) (quoted_value true (flat_map unit_text units ++ x))
-    (c ∷ quoted_value false (flat_map unit_text units ++ x))) (ne_eqb c 34 h.0.0)
-    ∙ cond-false (c == 92) (quoted_value true (flat_map unit_text units ++ x))
-    (c ∷ quoted_value false (flat_map unit_text units ++ x)) (ne_eqb c 92 h.0.1)
-    ∙ ap (λ v. c ∷ v) (value_of_units units x h.1)
+value_of_units (Plain c ∷ units) x h = grind (arith, cond-false, ne_eqb, (value_of_units units x h.1))
 value_of_units (Escaped c ∷ units) x h = ap (λ v. c ∷ v) (value_of_units units x h.1)
 
 -- units before a text do not change what the text after the closing quote is
 pub rest_of_units : (units : List QuotedUnit) (x : List ℕ) → AllByRecursion IsUnit units
     → quoted_rest false (flat_map unit_text units ++ x) ≡ quoted_rest false x
 rest_of_units [] x h = refl
-rest_of_units (Plain c ∷ units) x h = cond-false (c == 34) (Some (flat_map unit_text units ++ x))
-    (cond (c == 92) (quoted_rest true (flat_map unit_text units ++ x))
-    (quoted_rest false (flat_map unit_text units ++ x))) (ne_eqb c 34 h.0.0)
-    ∙ cond-false (c == 92) (quoted_rest true (flat_map unit_text units ++ x))
-    (quoted_rest false (flat_map unit_text units ++ x)) (ne_eqb c 92 h.0.1) ∙ rest_of_units units x h.1
+rest_of_units (Plain c ∷ units) x h = grind (arith, cond-false, ne_eqb, (rest_of_units units x h.1))
 rest_of_units (Escaped c ∷ units) x h = rest_of_units units x h.1
 
 -- the value of a quoted text and then x is the value of that text, and then the value of x
@@ -160,10 +151,8 @@ unescaped_next c t = cond-false ((c == 92) && false) (unescaped true t) (c ∷ u
 unescaped_units : (units : List QuotedUnit) (x : List ℕ) → AllByRecursion IsUnit units
     → unescaped false (flat_map unit_text units ++ x) ≡ map unit_value units ++ unescaped false x
 unescaped_units [] x h = refl
-unescaped_units (Plain c ∷ units) x h = unescaped_one c (flat_map unit_text units ++ x) (ne_eqb c 92 h.0.1)
-    ∙ ap (λ v. c ∷ v) (unescaped_units units x h.1)
-unescaped_units (Escaped c ∷ units) x h = unescaped_next c (flat_map unit_text units ++ x)
-    ∙ ap (λ v. c ∷ v) (unescaped_units units x h.1)
+unescaped_units (Plain c ∷ units) x h = grind (arith, unescaped_one, ne_eqb, (unescaped_units units x h.1))
+unescaped_units (Escaped c ∷ units) x h = grind (arith, unescaped_next, (unescaped_units units x h.1))
 
 unescaped_before : (q v x : List ℕ) → Quoted q v → unescaped false (q ++ x) ≡ v ++ unescaped false x
 unescaped_before q v x h = rw (h.text_is, h.value_is) (unescaped_units h.units x h.each)
@@ -181,9 +170,7 @@ IsHigh [] = Unit {0}
 IsHigh (b ∷ t) = (128 ≤ b) × IsHigh t
 
 skips : (b : ℕ) (t : List ℕ) → 128 ≤ b → quoted_rest false (b ∷ t) ≡ quoted_rest false t
-skips b t h = cond-false (b == 34) (Some t) (cond (b == 92) (quoted_rest true t) (quoted_rest false t))
-    (ne_eqb b 34 (λ e. omega arith)) ∙ cond-false (b == 92) (quoted_rest true t) (quoted_rest false t)
-    (ne_eqb b 92 (λ e. omega arith))
+skips b t h = grind (arith, cond-false, ne_eqb)
 
 skips_any : (e : Bool) (b : ℕ) (t : List ℕ) → 128 ≤ b → quoted_rest e (b ∷ t) ≡ quoted_rest false t
 skips_any true b t h = refl
@@ -199,16 +186,7 @@ skips_all e b t x h k = skips_any e b (t ++ x) h ∙ skips_high t x k
 -- the bytes of a code point that is not ASCII
 skips_encoded : (e : Bool) (c : ℕ) (x : List ℕ) → 128 ≤ c → quoted_rest e (encode c ++ x) ≡ quoted_rest false x
 unfolding encode
-skips_encoded e c x h =
-    let one : ltb c 128 ≡ false = le-ltb c 128 h in
-    let P : List ℕ → Type 0 = λ l. quoted_rest e (l ++ x) ≡ quoted_rest false x in
-    subst P (sym (cond-false (ltb c 128) (c ∷ []) _ one))
-    (cond_both (ltb c 2048) _ _ P
-    (λ k. skips_all e (192 + c / 64) (next c ∷ []) x (omega arith) (omega arith, tt))
-    (λ k. cond_both (ltb c 65536) _ _ P
-    (λ k. skips_all e (224 + c / 4096) (next (c / 64) ∷ next c ∷ []) x (omega arith) (omega arith, (omega arith, tt)))
-    (λ k. skips_all e (240 + c / 262144) (next (c / 4096) ∷ next (c / 64) ∷ next c ∷ []) x (omega arith)
-    (omega arith, (omega arith, (omega arith, tt))))))
+skips_encoded e c x h = grind (arith, ltb, le-ltb, cond-false, cond_both, skips_all)
 
 mapped_cases : (b d : Bool) (t : List ℕ) (x y : Option (List ℕ)) (x' y' : Option (List ℕ))
     → x' ≡ option_map encode_utf8_all x → y' ≡ option_map encode_utf8_all y
@@ -227,12 +205,19 @@ ascii_rest false c cs h k = mapped_cases (c == 34) (c == 92) cs (quoted_rest tru
 pub rest_encodes : (e : Bool) (cs : List ℕ) → quoted_rest e (encode_utf8_all cs) ≡ option_map encode_utf8_all
     (quoted_rest e cs)
 rest_encodes e [] = refl
-rest_encodes e (c ∷ cs) = elim (cases_lt c 128) [
-  | inl l ↦ ap (λ x. quoted_rest e (x ++ encode_utf8_all cs)) (encode_ascii c l)
-      ∙ ascii_rest e c cs (rest_encodes true cs) (rest_encodes false cs)
-  | inr l ↦ skips_encoded e c (encode_utf8_all cs) l
-      ∙ (rest_encodes false cs ∙ sym (ap (option_map encode_utf8_all) (skips_any e c cs l)))
-]
+rest_encodes e (c ∷ cs) =
+    grind (
+      arith,
+      cases_lt,
+      encode_utf8_all,
+      encode_ascii,
+      ascii_rest,
+      (rest_encodes true cs),
+      (rest_encodes false
+          cs),
+      skips_encoded,
+      skips_any,
+    )
 
 -- the bytes after the closing quote of a UTF-8 text are the encoding of the code points after it
 pub rest_chars : (bs : List ℕ) → IsUtf8 bs → quoted_rest false bs ≡ option_map encode_utf8_all
@@ -248,11 +233,7 @@ open_if s v (Some w) h e = absurd (let k = e in cc)
 -- if the search for the closing quote of a UTF-8 text reaches its end, the text is a quoted string without one
 pub is_open : (bs text : List ℕ) (i : ℕ) (e : Bool) → IsUtf8 text → bs ≡ text → length bs ≤ i
     → quoted_rest e (drop i text) ≡ quoted_rest false text → IsOpen (chars text)
-is_open bs text i e u b l h =
-    let n : drop i text ≡ [] = drop_of_length-le text (subst (λ x. length x ≤ i) b l) in
-    let none : quoted_rest false text ≡ None = sym h ∙ ap (quoted_rest e) n in
-    open_if (chars text) (quoted_value false (chars text)) (quoted_rest false (chars text)) (is_read false (chars text))
-    (sym (rest_chars text u) ∙ none)
+is_open bs text i e u b l h = grind (arith, drop_of_length-le, open_if, is_read, rest_chars)
 
 -- The closing quote
 
@@ -265,12 +246,7 @@ closed_if : (bs raw after v : List ℕ) (o : Option (List ℕ)) → IsRead (char
     → chars bs ≡ chars raw ++ (34 ∷ chars after) → IsUtf8 after → IsClosed bs raw after
 closed_if bs raw after v None h e s j u = absurd (let k = e in cc)
 closed_if bs raw after v (Some w) h e s j u =
-    let rest : chars after ≡ w = ap chars (sym (some_equal _ _ e))
-    ∙ chars-encodes w (and_parts (scalar 34) (all_scalars w) (scalars_after h.0 (34 ∷ w) (ap all_scalars (sym h.1)
-    ∙ s))).1 in
-    let front : h.0 ≡ chars raw = append_cancel_right h.0 (chars raw) (34 ∷ w) (sym h.1 ∙ j
-    ∙ ap (λ x. chars raw ++ (34 ∷ x)) rest) in
-    record { value = v; is_quoted = subst (λ x. Quoted x v) front h.2; joined = j; utf8 = u }
+    grind (arith, some_equal, chars-encodes, and_parts, scalars_after, append_cancel_right)
 
 quote_joined : (bs : List ℕ) (i : ℕ) → IsUtf8 bs → i < length bs → get_or bs i 0 ≡ 34 → drop i bs ≡ 34 ∷ drop (i + 1) bs
 quote_joined bs i u l e = drop-cons bs i 0 l ∙ ap₂ (λ x y. x ∷ y) e (ap (λ k. drop k bs) (sym (add-one i)))
@@ -292,8 +268,4 @@ pub is_closed : (bs raw after : List ℕ) (i : ℕ) → IsUtf8 bs → i < length
     → quoted_rest false (drop i bs) ≡ quoted_rest false bs → raw ≡ slice_range bs 0 i → after ≡ drop (i + 1) bs
     → IsUtf8 after → IsClosed bs raw after
 is_closed bs raw after i u l e h r b w =
-    let one : quoted_rest false bs ≡ Some after = sym h ∙ ap (quoted_rest false) (quote_joined bs i u l e)
-    ∙ ap Some (sym b) in
-    closed_if bs raw after (quoted_value false (chars bs)) (quoted_rest false (chars bs)) (is_read false (chars bs))
-    (sym (rest_chars bs u) ∙ one) (scalars-chars bs u) (chars_joined bs i u l e
-    ∙ ap₂ (λ x y. chars x ++ (34 ∷ chars y)) (sym (r ∙ range_take bs i)) (sym b)) w
+    grind (arith, quote_joined, closed_if, is_read, rest_chars, scalars-chars, chars_joined, range_take)

@@ -41,16 +41,7 @@ is_row p b row = (length row == 4) && ((slice_index row 3 == length (byte_encodi
     (take (slice_index row 3) row) (byte_encoding p b))
 
 row_of_test : (p : ℕ → Bool) (b : ℕ) (row : List ℕ) → is_row p b row ≡ true → IsRow p b row
-row_of_test p b row h =
-    let e = and_parts (length row == 4) ((slice_index row 3 == length (byte_encoding p b)) && bytes_eq
-    (take (slice_index row 3) row) (byte_encoding p b)) h in
-    let f = and_parts (slice_index row 3 == length (byte_encoding p b))
-    (bytes_eq (take (slice_index row 3) row) (byte_encoding p b)) e.1 in
-    record {
-      four = eqb-true (length row) 4 e.0;
-      len_is = eqb-true (slice_index row 3) (length (byte_encoding p b)) f.0;
-      begins = (bytes_eq-Decides (take (slice_index row 3) row) (byte_encoding p b)).0 f.1;
-    }
+row_of_test p b row h = grind (arith, and_parts, eqb-true, bytes_eq-Decides)
 
 -- for each byte, PATH has the row that is the byte's encoding with the set of a path
 pub path_row : (b : ℕ) → b < 256 → IsRow in_path_set b (row_at PATH b)
@@ -104,16 +95,13 @@ set_other : (b c : ℕ) → in_query_set c ≡ false → in_query_set b ≡ true
 set_other b c e h = ne_eqb b c (λ (k : b ≡ c). both_ways (in_query_set b) (ap in_query_set k ∙ e) h)
 
 hex_digit_value : (d : ℕ) → d < 16 → digit_value (hex_digit d) ≡ d
-hex_digit_value d l =
-    eqb-true (digit_value (hex_digit d)) d (agree_below_at (λ d. digit_value (hex_digit d) == d)
-    (λ c. true) 16 d refl l)
+hex_digit_value d l = grind (arith, eqb-true, agree_below_at)
 
 hex_digit_hex : (d : ℕ) → d < 16 → is_ascii_hexdigit (hex_digit d) ≡ true
 hex_digit_hex d l = agree_below_at (λ d. is_ascii_hexdigit (hex_digit d)) (λ c. true) 16 d refl l
 
 hex_digit_other : (d c : ℕ) → c < 48 → (hex_digit d == c) ≡ false
-hex_digit_other d c l = cond_both (nat_lt d 10) (48 + d) (55 + d) (λ v. (v == c) ≡ false)
-    (λ e. ne_eqb (48 + d) c (λ k. omega arith)) (λ e. ne_eqb (55 + d) c (λ k. omega arith))
+hex_digit_other d c l = grind (arith, cond_both, ne_eqb)
 
 -- Decoding by one byte
 
@@ -129,54 +117,37 @@ pub decoded_keeps : (a : ℕ) (s : List ℕ) → ((a == 37) && two_digits s) ≡
 unfolding percent_decoding
 decoded_keeps a [] h = refl
 decoded_keeps a (b ∷ []) h = refl
-decoded_keeps a (b ∷ c ∷ s) h = cond-false (is_escape a b c) ((16 * digit_value b + digit_value c) ∷ percent_decoding s)
-    (a ∷ percent_decoding (b ∷ c ∷ s)) h
+decoded_keeps a (b ∷ c ∷ s) h = grind (arith, cond-false)
 
 -- '%' and two hexadecimal digits are decoded to one byte, and then the text after them is decoded
 pub decoded_escape : (b c : ℕ) (s : List ℕ) → is_ascii_hexdigit b ≡ true → is_ascii_hexdigit c ≡ true
     → percent_decoding (37 ∷ b ∷ c ∷ s) ≡ (16 * digit_value b + digit_value c) ∷ percent_decoding s
 unfolding percent_decoding
-decoded_escape b c s h k = cond-true (is_escape 37 b c) ((16 * digit_value b + digit_value c) ∷ percent_decoding s)
-    (37 ∷ percent_decoding (b ∷ c ∷ s)) (ap (λ v. v && is_ascii_hexdigit c) h ∙ k)
+decoded_escape b c s h k = grind (arith, cond-true)
 
 -- the two digits of a byte are decoded to the byte
 decoded_written : (b : ℕ) (x : List ℕ) → b < 256 → percent_decoding (37 ∷ hex_digit (b / 16) ∷ hex_digit (b % 16) ∷ x)
     ≡ b ∷ percent_decoding x
-decoded_written b x l =
-    let high : b / 16 < 16 = omega arith in
-    let low : b % 16 < 16 = omega arith in
-    decoded_escape (hex_digit (b / 16)) (hex_digit (b % 16)) x (hex_digit_hex (b / 16) high)
-    (hex_digit_hex (b % 16) low)
-    ∙ ap (λ v. v ∷ percent_decoding x) (ap (λ v. 16 * v + digit_value (hex_digit (b % 16)))
-    (hex_digit_value (b / 16) high) ∙ ap (λ v. 16 * (b / 16) + v) (hex_digit_value (b % 16) low) ∙ omega arith)
+decoded_written b x l = grind (arith, decoded_escape, hex_digit_hex, hex_digit_value)
 
 same_digits : {s x : List ℕ} → Recoded s x → two_digits x ≡ two_digits s
 same_digits none = refl
 same_digits (kept b none) = refl
 same_digits (kept b (kept c r)) = refl
-same_digits (kept b (written c h l r)) = and_right (is_ascii_hexdigit b) false refl
-    ∙ sym (and_right (is_ascii_hexdigit b) (is_ascii_hexdigit c) (set_no_hex c l h))
+same_digits (kept b (written c h l r)) = grind (arith, and_right, set_no_hex)
 same_digits (written b h l none) = refl
 same_digits (written b h l (kept c r)) = sym (and_left (is_ascii_hexdigit b) (is_ascii_hexdigit c) (set_no_hex b l h))
-same_digits (written b h l (written c k m r)) =
-    sym (and_left (is_ascii_hexdigit b) (is_ascii_hexdigit c) (set_no_hex b l h))
+same_digits (written b h l (written c k m r)) = grind (arith, and_left, set_no_hex)
 
 -- a byte that is kept, and does not begin an escape
 keeps : {s x : List ℕ} (b : ℕ) → Recoded s x → ((b == 37) && two_digits s) ≡ false
     → percent_decoding x ≡ percent_decoding s → percent_decoding (b ∷ x) ≡ percent_decoding (b ∷ s)
-keeps {s} {x} b r h e = decoded_keeps b x (ap (λ v. (b == 37) && v) (same_digits r) ∙ h) ∙ ap (λ t. b ∷ t) e
-    ∙ sym (decoded_keeps b s h)
+keeps {s} {x} b r h e = grind (arith, decoded_keeps, same_digits)
 
 -- a '%' that is kept, before two digits
 escapes : (b c d : ℕ) (s x : List ℕ) → ((b == 37) && (is_ascii_hexdigit c && is_ascii_hexdigit d)) ≡ true
     → percent_decoding x ≡ percent_decoding s → percent_decoding (b ∷ c ∷ d ∷ x) ≡ percent_decoding (b ∷ c ∷ d ∷ s)
-escapes b c d s x h e =
-    let p = and_parts (b == 37) (is_ascii_hexdigit c && is_ascii_hexdigit d) h in
-    let q = and_parts (is_ascii_hexdigit c) (is_ascii_hexdigit d) p.1 in
-    let f : b ≡ 37 = eqb-true b 37 p.0 in
-    ap (λ v. percent_decoding (v ∷ c ∷ d ∷ x)) f ∙ decoded_escape c d x q.0 q.1
-    ∙ ap (λ t. (16 * digit_value c + digit_value d) ∷ t) e ∙ sym (decoded_escape c d s q.0 q.1)
-    ∙ ap (λ v. percent_decoding (v ∷ c ∷ d ∷ s)) (sym f)
+escapes b c d s x h e = grind (arith, and_parts, eqb-true, decoded_escape)
 
 -- there are no two digits if the first or the second byte is not a digit
 no_escape : (b : ℕ) (v : Bool) → v ≡ false → ((b == 37) && v) ≡ false
@@ -230,8 +201,7 @@ recoded_byte p within b s x l r = cond_both (p b) (37 ∷ hex_digit (b / 16) ∷
 pub is_recoded : (p : ℕ → Bool) → ((b : ℕ) → p b ≡ true → in_query_set b ≡ true) → (s : List ℕ) → IsBytes s
     → Recoded s (percent_encoding p s)
 is_recoded p within [] h = subst (λ x. Recoded [] x) (sym (encoded_nil p)) none
-is_recoded p within (b ∷ s) h = subst (λ x. Recoded (b ∷ s) x) (sym (encoded_cons p b s))
-    (recoded_byte p within b s (percent_encoding p s) h.0 (is_recoded p within s h.1))
+is_recoded p within (b ∷ s) h = grind (arith, encoded_cons, recoded_byte, (is_recoded p within s h.1))
 
 -- each byte of a path's set is in the query's set
 pub path_within_query : (b : ℕ) → in_path_set b ≡ true → in_query_set b ≡ true
@@ -258,9 +228,7 @@ path_cons b (c ∷ s) = refl
 
 -- each byte of the set for the last byte of a path is in the query's set
 pub end_within_query : (b : ℕ) → in_path_end_set b ≡ true → in_query_set b ≡ true
-end_within_query b h =
-    ⊎_elim (λ k. path_within_query b k) (λ k. subst (λ v. in_query_set v ≡ true) (sym (eqb-true b 32 k)) refl)
-    (or_cases (in_path_set b) (b == 32) h)
+end_within_query b h = grind (arith, ⊎_elim, path_within_query, eqb-true, or_cases)
 
 -- each byte of the set for a byte of a path, whatever follows it, is in the query's set
 pub path_byte_within : (path : List ℕ) (b : ℕ) → path_byte_set path b ≡ true → in_query_set b ≡ true
@@ -275,22 +243,19 @@ serialised_nil = refl
 -- a text that begins with '?' is serialised as '?' and the rest, encoded with the query's set
 pub serialised_query : (s : List ℕ) → serialised (63 ∷ s) ≡ 63 ∷ percent_encoding in_query_set s
 unfolding serialised
-serialised_query s = ap (λ v. with_query v (after 63 (63 ∷ s))) (before_same 63 s)
-    ∙ ap (λ v. with_query [] v) (after_same 63 s) ∙ ap (λ v. v ++ 63 ∷ percent_encoding in_query_set s) path_nil
+serialised_query s = grind (arith, before_same, after_same, path_nil)
 
 with_query_cons : (b : ℕ) (path : List ℕ) (query : Option (List ℕ))
     → with_query (b ∷ path) query ≡ encoded_byte (path_byte_set path) b ++ with_query path query
 with_query_cons b path None = path_cons b path
-with_query_cons b path (Some query) = ap (λ v. v ++ 63 ∷ percent_encoding in_query_set query) (path_cons b path)
-    ∙ append_assoc (encoded_byte (path_byte_set path) b) (encoded_path path) (63 ∷ percent_encoding in_query_set query)
+with_query_cons b path (Some query) = grind (arith, path_cons, append_assoc)
 
 -- a text that begins with another byte is serialised as that byte, encoded with the set for its place, and the rest,
 -- serialised
 pub serialised_path : (b : ℕ) (s : List ℕ) → (b == 63) ≡ false
     → serialised (b ∷ s) ≡ encoded_byte (path_byte_set (before 63 s)) b ++ serialised s
 unfolding serialised
-serialised_path b s h = ap (λ v. with_query v (after 63 (b ∷ s))) (before_other 63 b s h)
-    ∙ ap (λ v. with_query (b ∷ before 63 s) v) (after_other 63 b s h) ∙ with_query_cons b (before 63 s) (after 63 s)
+serialised_path b s h = grind (arith, before_other, after_other, with_query_cons)
 
 -- the serialisation of a text of bytes is the text with some bytes of the query's set percent-encoded
 pub serialised_recoded : (s : List ℕ) → IsBytes s → Recoded s (serialised s)
@@ -313,50 +278,40 @@ RecodedTails (Some t) None = ⊥
 RecodedTails (Some t) (Some y) = Recoded t y
 
 after_written : (b : ℕ) (x : List ℕ) → after 44 (37 ∷ hex_digit (b / 16) ∷ hex_digit (b % 16) ∷ x) ≡ after 44 x
-after_written b x =
-    after_other 44 37 (hex_digit (b / 16) ∷ hex_digit (b % 16) ∷ x) refl
-    ∙ after_other 44 (hex_digit (b / 16)) (hex_digit (b % 16) ∷ x) (hex_digit_other (b / 16) 44 (omega arith))
-    ∙ after_other 44 (hex_digit (b % 16)) x (hex_digit_other (b % 16) 44 (omega arith))
+after_written b x = grind (arith, after_other, hex_digit_other)
 
 -- if x is s with some bytes of the query's set percent-encoded, so are the texts after the first comma of both, or
 -- neither has a comma
 pub recoded_tails : {s x : List ℕ} → Recoded s x → RecodedTails (after 44 s) (after 44 x)
 recoded_tails none = subst (λ v. RecodedTails v v) (sym (after_nil 44)) tt
-recoded_tails (kept {s} {x} b r) = elim (cases_Bool (b == 44)) [
-  | inl e ↦ let f : b ≡ 44 = eqb-true b 44 e in subst (λ v. RecodedTails (after 44 (v ∷ s)) (after 44 (v ∷ x)))
-      (sym f) (subst (λ v. RecodedTails v (after 44 (44 ∷ x))) (sym (after_same 44 s))
-      (subst (λ v. RecodedTails (Some s) v) (sym (after_same 44 x)) r))
-  | inr e ↦ subst (λ v. RecodedTails v (after 44 (b ∷ x))) (sym (after_other 44 b s e))
-      (subst (λ v. RecodedTails (after 44 s) v) (sym (after_other 44 b x e)) (recoded_tails r))
-]
-recoded_tails (written {s} {x} b h l r) =
-    subst (λ v. RecodedTails v (after 44 (37 ∷ hex_digit (b / 16) ∷ hex_digit (b % 16) ∷ x)))
-    (sym (after_other 44 b s (set_other b 44 refl h)))
-    (subst (λ v. RecodedTails (after 44 s) v) (sym (after_written b x)) (recoded_tails r))
+recoded_tails (kept {s} {x} b r) = grind (arith, cases_Bool, eqb-true, after_same, after_other, (recoded_tails r))
+recoded_tails (written {s} {x} b h l r) = grind (arith, after_other, set_other, after_written, (recoded_tails r))
 
 -- the bytes before the first comma of an encoded text are the encoding of the bytes before the first comma
 
 encoded_byte_lacks : (p : ℕ → Bool) (b : ℕ) → (b == 44) ≡ false → after 44 (encoded_byte p b) ≡ None
-encoded_byte_lacks p b h = cond_both (p b) (37 ∷ hex_digit (b / 16) ∷ hex_digit (b % 16) ∷ []) (b ∷ [])
-    (λ t. after 44 t ≡ None) (λ e. after_written b [] ∙ after_nil 44) (λ e. after_other 44 b [] h ∙ after_nil 44)
+encoded_byte_lacks p b h = grind (arith, cond_both, after_written, after_nil, after_other)
 
 encoded_comma : (p : ℕ → Bool) → p 44 ≡ false → (s : List ℕ) → encoded_byte p 44 ++ s ≡ 44 ∷ s
-encoded_comma p h s =
-    ap (λ t. t ++ s) (cond-false (p 44) (37 ∷ hex_digit (44 / 16) ∷ hex_digit (44 % 16) ∷ []) (44 ∷ []) h)
+encoded_comma p h s = grind (arith, cond-false)
 
 before_encoded : (p : ℕ → Bool) → p 44 ≡ false → (s : List ℕ) → before 44 (percent_encoding p s) ≡ percent_encoding p
     (before 44 s)
-before_encoded p h [] = ap (before 44) (encoded_nil p) ∙ before_nil 44 ∙ sym (ap (percent_encoding p) (before_nil 44)
-    ∙ encoded_nil p)
-before_encoded p h (b ∷ s) = ap (before 44) (encoded_cons p b s) ∙ elim (cases_Bool (b == 44)) [
-  | inl e ↦ let f : b ≡ 44 = eqb-true b 44 e in
-      subst (λ v. before 44 (encoded_byte p v ++ percent_encoding p s) ≡ percent_encoding p (before 44 (v ∷ s))) (sym f)
-      (ap (before 44) (encoded_comma p h (percent_encoding p s)) ∙ before_same 44 (percent_encoding p s)
-      ∙ sym (ap (percent_encoding p) (before_same 44 s) ∙ encoded_nil p))
-  | inr e ↦ before-append 44 (encoded_byte p b) (percent_encoding p s) (encoded_byte_lacks p b e)
-      ∙ ap (λ t. encoded_byte p b ++ t) (before_encoded p h s) ∙ sym (ap (percent_encoding p) (before_other 44 b s e)
-      ∙ encoded_cons p b (before 44 s))
-]
+before_encoded p h [] = grind (arith, encoded_nil, before_nil)
+before_encoded p h (b ∷ s) =
+    grind (
+      arith,
+      encoded_cons,
+      cases_Bool,
+      eqb-true,
+      encoded_comma,
+      before_same,
+      encoded_nil,
+      before-append,
+      encoded_byte_lacks,
+      (before_encoded p h s),
+      before_other,
+    )
 
 -- the header's text, byte by byte
 
@@ -368,8 +323,7 @@ header_nil = refl
 -- the header text of a text that begins with '?' is '?' and the rest, encoded with the query's set
 pub header_query : (s : List ℕ) → header_text (63 ∷ s) ≡ 63 ∷ percent_encoding in_query_set s
 unfolding header_text
-header_query s = ap (λ v. header_parts v (after 63 (63 ∷ s))) (before_same 63 s)
-    ∙ ap (λ v. header_parts [] v) (after_same 63 s) ∙ ap (λ v. v ++ 63 ∷ percent_encoding in_query_set s) path_nil
+header_query s = grind (arith, before_same, after_same, path_nil)
 
 -- the set of a byte before the rest of a header, without or with a query
 abbrev pub header_byte_set : List ℕ → Option (List ℕ) → ℕ → Bool
@@ -386,8 +340,7 @@ header_cons b path (Some query) = with_query_cons b path (Some query)
 pub header_path : (b : ℕ) (s : List ℕ) → (b == 63) ≡ false
     → header_text (b ∷ s) ≡ encoded_byte (header_byte_set (before 63 s) (after 63 s)) b ++ header_text s
 unfolding header_text
-header_path b s h = ap (λ v. header_parts v (after 63 (b ∷ s))) (before_other 63 b s h)
-    ∙ ap (λ v. header_parts (b ∷ before 63 s) v) (after_other 63 b s h) ∙ header_cons b (before 63 s) (after 63 s)
+header_path b s h = grind (arith, before_other, after_other, header_cons)
 
 -- what follows the header leaves the sets of its bytes as they are
 same_set : (h rest : List ℕ) (o : Option (List ℕ)) → after 63 h ≡ o
@@ -395,12 +348,7 @@ same_set : (h rest : List ℕ) (o : Option (List ℕ)) → after 63 h ≡ o
 same_set [] rest None e = ap path_byte_set (before_other 63 44 rest refl)
 same_set [] rest (Some query) e = absurd (let k = sym (after_nil 63) ∙ e in cc)
 same_set (c ∷ h) rest None e = let k = lacks 63 c h e in ap path_byte_set (before_other 63 c (h ++ 44 ∷ rest) k.here)
-same_set (c ∷ h) rest (Some query) e = elim (cases_Bool (c == 63)) [
-  | inl f ↦ let g : c ≡ 63 = eqb-true c 63 f in
-      subst (λ v. path_byte_set (before 63 (v ∷ (h ++ 44 ∷ rest))) ≡ path_byte_set (before 63 (v ∷ h))) (sym g)
-      (ap path_byte_set (before_same 63 (h ++ 44 ∷ rest) ∙ sym (before_same 63 h)))
-  | inr f ↦ ap path_byte_set (before_other 63 c (h ++ 44 ∷ rest) f) ∙ sym (ap path_byte_set (before_other 63 c h f))
-]
+same_set (c ∷ h) rest (Some query) e = grind (arith, cases_Bool, eqb-true, before_same, before_other)
 
 end_lacks_comma : (path : List ℕ) → path_byte_set path 44 ≡ false
 end_lacks_comma [] = refl
@@ -408,11 +356,7 @@ end_lacks_comma (c ∷ s) = refl
 
 -- if h has no comma, the bytes before the first comma of the serialisation of h ++ 44 ∷ rest are the header text of h
 pub before-serialised : (h rest : List ℕ) → after 44 h ≡ None → before 44 (serialised (h ++ 44 ∷ rest)) ≡ header_text h
-before-serialised [] rest e =
-    ap (before 44) (serialised_path 44 rest refl ∙ encoded_comma (path_byte_set (before 63 rest))
-    (end_lacks_comma (before 63 rest)) (serialised rest))
-    ∙ before_same 44 (serialised rest)
-    ∙ sym header_nil
+before-serialised [] rest e = grind (arith, serialised_path, encoded_comma, end_lacks_comma, before_same, header_nil)
 before-serialised (b ∷ h) rest e =
     let k = lacks 44 b h e in
     elim (cases_Bool (b == 63)) [
@@ -443,12 +387,7 @@ encoded_empty : (p : ℕ → Bool) → encoded p [] ≡ []
 encoded_empty p = ap (percent_encoding p) dropped_nil ∙ encoded_nil p
 
 written_first : (p : ℕ → Bool) (b : ℕ) (s : List ℕ) → encoded p (b ∷ s) ≡ byte_encoding p b ++ encoded p s
-written_first p b s = elim (cases_Bool (is_tab_or_newline b)) [
-  | inl e ↦ ap (percent_encoding p) (dropped_passes b s e)
-      ∙ sym (ap (λ t. t ++ encoded p s) (cond-true (is_tab_or_newline b) [] (encoded_byte p b) e))
-  | inr e ↦ ap (percent_encoding p) (dropped_keeps b s e) ∙ encoded_cons p b (without_tabs_and_newlines s)
-      ∙ sym (ap (λ t. t ++ encoded p s) (cond-false (is_tab_or_newline b) [] (encoded_byte p b) e))
-]
+written_first p b s = grind (arith, cases_Bool, dropped_passes, cond-true, dropped_keeps, encoded_cons, cond-false)
 
 -- the percent-encoding of s ++ t is that of s, then that of t
 pub percent_encoding-append : (p : ℕ → Bool) (s t : List ℕ)
@@ -481,8 +420,7 @@ WroteTo p s i text = text ++ encoded_from p s i ≡ encoded p s
 
 wrote_more : (p : ℕ → Bool) (s : List ℕ) (i : ℕ) (text : List ℕ) → WroteTo p s i text → i < length s
     → WroteTo p s (i + 1) (text ++ byte_encoding p (get_or s i 0))
-wrote_more p s i text w l = append_assoc text (byte_encoding p (get_or s i 0)) (encoded_from p s (i + 1))
-    ∙ ap (λ t. text ++ t) (sym (from_more p s i l)) ∙ w
+wrote_more p s i text w l = grind (arith, append_assoc, from_more)
 
 -- if the text is written up to byte i and has no more bytes, the whole text is written
 pub wrote_all : (p : ℕ → Bool) (s : List ℕ) (i : ℕ) (text : List ℕ) → WroteTo p s i text → length s ≤ i
@@ -504,14 +442,7 @@ one_written : (p : ℕ → Bool) (b : ℕ) → p b ≡ false → encoded_byte p 
 one_written p b e = cond-false (p b) _ (b ∷ []) e
 
 written_short : (p : ℕ → Bool) (b : ℕ) → length (byte_encoding p b) ≤ 3
-written_short p b = elim (cases_Bool (is_tab_or_newline b)) [
-  | inl e ↦ let k : length (byte_encoding p b) ≡ 0 = ap length (none_written p b e) in omega arith
-  | inr e ↦ elim (cases_Bool (p b)) [
-    | inl f ↦ let k : length (byte_encoding p b) ≡ 3 = ap length (byte_written p b e) ∙ three_written p b f in
-        omega arith
-    | inr f ↦ let k : length (byte_encoding p b) ≡ 1 = ap length (byte_written p b e ∙ one_written p b f) in omega arith
-  ]
-]
+written_short p b = grind (arith, cases_Bool, none_written, byte_written, three_written, one_written)
 
 -- the encoding in a row has at most three bytes
 pub row_short : (p : ℕ → Bool) (b : ℕ) (row : List ℕ) → IsRow p b row → slice_index row 3 ≤ 3
@@ -531,8 +462,7 @@ abbrev other_than_plain : ℕ → Bool
 other_than_plain b = is_tab_or_newline b || (in_path_set b || ((b == 35) || ((b == 44) || (b == 63))))
 
 plain_is_none : (b : ℕ) → b < 256 → is_plain_path b ≡ true → other_than_plain b ≡ false
-plain_is_none b l h = sym (cond-true (is_plain_path b) (other_than_plain b) false h)
-    ∙ agree_below_at (λ b. cond (is_plain_path b) (other_than_plain b) false) (λ b. false) 256 b refl l
+plain_is_none b l h = grind (arith, cond-true, agree_below_at)
 
 -- the byte is written as it is in a path, and is none of '#', ',' and '?'
 pub record Plain (b : ℕ) : Type 0 where
@@ -543,29 +473,13 @@ pub record Plain (b : ℕ) : Type 0 where
 
 -- a byte that passes `is_plain_path` is `Plain`
 pub plain_byte : (b : ℕ) → b < 256 → is_plain_path b ≡ true → Plain b
-plain_byte b l h =
-    let p = or_parts (is_tab_or_newline b) (in_path_set b || ((b == 35) || ((b == 44) || (b == 63))))
-    (plain_is_none b l h) in
-    let q = or_parts (in_path_set b) ((b == 35) || ((b == 44) || (b == 63))) p.1 in
-    let r = or_parts (b == 35) ((b == 44) || (b == 63)) q.1 in
-    let t = or_parts (b == 44) (b == 63) r.1 in
-    record {
-      written_is = byte_written in_path_set b p.0 ∙ one_written in_path_set b q.0;
-      no_hash = r.0;
-      no_comma =
-          t.0;
-      no_query = t.1;
-    }
+plain_byte b l h = grind (arith, or_parts, plain_is_none, byte_written, one_written)
 
 -- a text of plain bytes is serialised as it is, as a header
 pub plain_serialised : (s : List ℕ) → ((k : ℕ) → k < length s → Plain (get_or s k 0))
     → header_text (without_tabs_and_newlines s) ≡ s
 unfolding header_text
-plain_serialised s h =
-    let none = after-dropped_none 63 refl s (after_none 63 s (λ k l. let b = h k l in b.no_query)) in
-    ap (λ o. header_parts (before 63 (without_tabs_and_newlines s)) o) none
-    ∙ ap (percent_encoding in_path_set) (before_all 63 (without_tabs_and_newlines s) none)
-    ∙ sym (kept_whole in_path_set s (λ k l. let b = h k l in b.written_is))
+plain_serialised s h = grind (arith, after-dropped_none, after_none, before_all, kept_whole)
 
 -- the bytes up to byte i are written at the front of the buffer
 pub record PutTo (p : ℕ → Bool) (s : List ℕ) (i : ℕ) (room : List ℕ) (at : ℕ) : Type 0 where
@@ -606,14 +520,12 @@ WroteBefore p s rest old text = text ++ encoded p rest ≡ old ++ encoded p s
 -- if the encoding of the first n bytes of the rest is appended to what was written, the rest is without these bytes
 pub wrote_part : (p : ℕ → Bool) (s rest old text part : List ℕ) (n : ℕ) → WroteBefore p s rest old text
     → part ≡ encoded p (take n rest) → WroteBefore p s (drop n rest) old (text ++ part)
-wrote_part p s rest old text part n w h = append_assoc text part (encoded p (drop n rest))
-    ∙ ap (λ t. text ++ t) (ap (λ t. t ++ encoded p (drop n rest)) h ∙ sym (encoded_cut p rest n)) ∙ w
+wrote_part p s rest old text part n w h = grind (arith, append_assoc, encoded_cut)
 
 -- if there is no rest, what was written is the old text and then the encoding of the whole text
 pub wrote_parts : (p : ℕ → Bool) (s rest old text : List ℕ) → WroteBefore p s rest old text → rest ≡ []
     → text ≡ old ++ encoded p s
-wrote_parts p s rest old text w h = sym (append-nil text)
-    ∙ ap (λ t. text ++ t) (sym (ap (encoded p) h ∙ encoded_empty p)) ∙ w
+wrote_parts p s rest old text w h = grind (arith, append-nil, encoded_empty)
 
 -- What is written is ASCII
 
@@ -628,15 +540,9 @@ ascii_all (c ∷ s) h = let e = and_parts (nat_lt c 128) (are_ascii s) h in
     IsAscii-cons c s (ltb-true c 128 e.0) (ascii_all s e.1)
 
 written_ascii : (set : EncodeSet) (b : ℕ) → b < 256 → IsAscii (byte_encoding (in_set set) b)
-written_ascii Path b l =
-    ascii_all (byte_encoding in_path_set b) (agree_below_at (λ b. are_ascii (byte_encoding in_path_set b))
-    (λ b. true) 256 b refl l)
-written_ascii Query b l =
-    ascii_all (byte_encoding in_query_set b) (agree_below_at (λ b. are_ascii (byte_encoding in_query_set b))
-    (λ b. true) 256 b refl l)
-written_ascii Fragment b l =
-    ascii_all (byte_encoding in_fragment_set b) (agree_below_at (λ b. are_ascii (byte_encoding in_fragment_set b))
-    (λ b. true) 256 b refl l)
+written_ascii Path b l = grind (arith, ascii_all, agree_below_at)
+written_ascii Query b l = grind (arith, ascii_all, agree_below_at)
+written_ascii Fragment b l = grind (arith, ascii_all, agree_below_at)
 
 encoded_ascii : (set : EncodeSet) (s : List ℕ) → ((i : ℕ) → get_or s i 0 < 256) → IsAscii (encoded (in_set set) s)
 encoded_ascii set [] h = subst IsAscii (sym (encoded_empty (in_set set))) IsAscii-nil

@@ -46,11 +46,7 @@ pub record Lacks (c b : ℕ) (s : List ℕ) : Type 0 where
 -- if b ∷ s has no c, then b is not c, and s has no c
 pub lacks : (c b : ℕ) (s : List ℕ) → after c (b ∷ s) ≡ None → Lacks c b s
 unfolding after
-lacks c b s h = elim (b == c) as (λ v. (b == c) ≡ v → cond v (Some s) (after c s) ≡ None → Lacks c b s) [
-  | true ↦
-      (λ e k. absurd (let x : Some s ≡ None = k in cc))
-  | false ↦ (λ e k. record { here = e; after_it = k })
-] refl h
+lacks c b s h = grind arith
 
 -- if a has no c, the bytes before the first c of a ++ s are a and then the bytes before the first c of s
 pub before-append : (c : ℕ) (a s : List ℕ) → after c a ≡ None → before c (a ++ s) ≡ a ++ before c s
@@ -139,14 +135,7 @@ pub without_tabs_and_newlines-append : (a s : List ℕ)
     → without_tabs_and_newlines (a ++ s) ≡ without_tabs_and_newlines a ++ without_tabs_and_newlines s
 unfolding without_tabs_and_newlines
 without_tabs_and_newlines-append [] s = refl
-without_tabs_and_newlines-append (b ∷ a) s =
-    elim (is_tab_or_newline b) as (λ v. cond (not v) (b ∷ without_tabs_and_newlines (a ++ s))
-    (without_tabs_and_newlines (a ++ s)) ≡ cond (not v) (b ∷ without_tabs_and_newlines a)
-    (without_tabs_and_newlines a) ++ without_tabs_and_newlines s) [
-      | true ↦
-          without_tabs_and_newlines-append a s
-      | false ↦ ap (λ t. b ∷ t) (without_tabs_and_newlines-append a s)
-    ]
+without_tabs_and_newlines-append (b ∷ a) s = grind (arith, (without_tabs_and_newlines-append a s))
 
 -- if c is not a tab or newline and a text has no c, then the text without tabs and newlines has no c
 pub after-dropped_none : (c : ℕ) → is_tab_or_newline c ≡ false → (s : List ℕ) → after c s ≡ None
@@ -161,8 +150,7 @@ after-dropped_none c k (b ∷ s) h = let l = lacks c b s h in elim (cases_Bool (
 -- if c is not a tab or newline, dropping these from a ++ c ∷ s drops them from a and from s, and keeps c
 pub dropped_around : (c : ℕ) → is_tab_or_newline c ≡ false → (a s : List ℕ)
     → without_tabs_and_newlines (a ++ c ∷ s) ≡ without_tabs_and_newlines a ++ c ∷ without_tabs_and_newlines s
-dropped_around c k a s = without_tabs_and_newlines-append a (c ∷ s)
-    ∙ ap (λ t. without_tabs_and_newlines a ++ t) (dropped_keeps c s k)
+dropped_around c k a s = grind (arith, without_tabs_and_newlines-append, dropped_keeps)
 
 fragment_cases : (tail : List ℕ) (o : Option (List ℕ)) → after 35 tail ≡ o
     → fragment (without_tabs_and_newlines tail) ≡ option_map without_tabs_and_newlines o

@@ -53,12 +53,7 @@ after_is p (c ∷ a) b h e = cond-true (p c) (after_front p (a ++ b)) (c ∷ (a 
 -- a text is its longest prefix that passes, then the text after that prefix
 pub front_joined : (p : ℕ → Bool) (s : List ℕ) → s ≡ front_of p s ++ after_front p s
 front_joined p [] = refl
-front_joined p (c ∷ t) =
-    elim (p c) as (λ v. c ∷ t ≡ cond v (c ∷ front_of p t) [] ++ cond v (after_front p t) (c ∷ t)) [
-      | true ↦
-          ap (λ u. c ∷ u) (front_joined p t)
-      | false ↦ refl
-    ]
+front_joined p (c ∷ t) = grind (arith, (front_joined p t))
 
 -- each code point of the longest prefix that passes does pass
 pub front_passes : (p : ℕ → Bool) (s : List ℕ) → Every p (front_of p s)
@@ -68,8 +63,7 @@ front_passes p (c ∷ t) = cond_both (p c) (c ∷ front_of p t) [] (λ v. Every 
 -- the text after the longest prefix that passes does not begin with a code point that passes
 pub after_begins : (p : ℕ → Bool) (s : List ℕ) → DoesNotBegin p (after_front p s)
 after_begins p [] = tt
-after_begins p (c ∷ t) = cond_both (p c) (after_front p t) (c ∷ t) (λ v. DoesNotBegin p v) (λ e. after_begins p t)
-    (λ e. e)
+after_begins p (c ∷ t) = grind (arith, cond_both, (after_begins p t))
 
 -- one more code point before the rest of a text
 abbrev pub keep_before : (ℕ → Bool) → ℕ → List ℕ → List ℕ
@@ -102,13 +96,7 @@ trimmed_end_more : (p : ℕ → Bool) (c : ℕ) (t u : List ℕ) → IsTrimmedEn
 trimmed_end_more p c t [] h = cond_both (p c) [] (c ∷ []) (λ v. IsTrimmedEnd p (c ∷ t) v)
     (λ e. record { back = c ∷ h.back; joined = ap (λ v. c ∷ v) h.joined; at_back = (e, h.at_back); ends = tt })
     (λ e. record { back = h.back; joined = ap (λ v. c ∷ v) h.joined; at_back = h.at_back; ends = e })
-trimmed_end_more p c t (d ∷ u) h = record {
-  back = h.back;
-  joined = ap (λ v. c ∷ v) h.joined;
-  at_back =
-      h.at_back;
-  ends = h.ends;
-}
+trimmed_end_more p c t (d ∷ u) h = grind arith
 
 -- `without_back p s` is s without its longest suffix that passes
 pub is_trimmed_end : (p : ℕ → Bool) (s : List ℕ) → IsTrimmedEnd p s (without_back p s)
@@ -132,14 +120,7 @@ front_further p bytes (suc n) l h =
 pub in_parts : (p q : ℕ → Bool) → ((c : ℕ) → p c ≡ true → q c ≡ true) → (bytes after : List ℕ) (first more : ℕ)
     → first ≡ prefix_len p bytes → after ≡ drop first bytes → more ≡ prefix_len q after
     → first + more ≡ prefix_len q bytes
-in_parts p q h bytes after first more e d m =
-    omega (
-      arith,
-      m,
-      ap (prefix_len q) d,
-      front_further q bytes first (omega (arith, e, prefix_len-le-length p bytes))
-          (λ k l. h (get_or bytes k 0) (prefix_len_passes p bytes k 0 (omega (arith, e)))),
-    )
+in_parts p q h bytes after first more e d m = grind (arith, front_further, prefix_len-le-length, prefix_len_passes)
 
 -- Where a text can be cut: before and after bytes below 128.
 
@@ -167,8 +148,7 @@ module _ (p : ℕ → Bool) (ascii : (b : ℕ) → p b ≡ true → b < 128) (bs
 
   -- if only ASCII bytes pass, a UTF-8 text can be cut before its longest suffix that passes
   pub boundary_before_end : IsCharBoundary bs (length bs - suffix_len p bs)
-  boundary_before_end = ⊎_elim (λ h. before_end h) (λ h. (omega arith, λ l. absurd (omega arith)))
-      (cases_lt 0 (suffix_len p bs))
+  boundary_before_end = grind (arith, ⊎_elim, before_end, cases_lt)
 
 -- a C0 control or a space is ASCII
 pub is_low : (b : ℕ) → is_c0_control_or_space b ≡ true → b < 128
