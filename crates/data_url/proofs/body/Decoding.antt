@@ -66,8 +66,7 @@ module _ {F E : Type 0} (step : F → List ℕ → Result (Unit {0}) E → F →
   -- if the walk takes bytes, and the closure accepts them, the run with that call is `Going` for the walk after it
   pub going_more : {f g h : F} {text bytes : List ℕ} {w w' : Walk} → Going f text w g → Takes w bytes w'
       → step g bytes (Ok tt) h → Going f text w' h
-  going_more {f} {g} {h} {text} {bytes} {w} {w'} k t s =
-      let call : List (Call F E) = record { piece = bytes; answer = Ok tt; after = h } ∷ [] in
+  going_more {f} {g} {h} {text} {bytes} {w} {w'} k t s = let call : List (Call F E) = record { piece = bytes; answer = Ok tt; after = h } ∷ [] in
       let longer : length (k.run ++ call) ≡ length k.run + 1 = length-append k.run call ∙ omega arith in
       let calls = k.calls in
       let some = t.some in
@@ -82,11 +81,7 @@ module _ {F E : Type 0} (step : F → List ℕ → Result (Unit {0}) E → F →
         text_is = same;
         place = omega arith;
         calls = omega arith;
-        body =
-            k.body ∙ ap (λ x. joined_pieces k.run ++ x) t.rest_is
-            ∙ sym (append_assoc (joined_pieces k.run) bytes w'.rest)
-            ∙ ap (λ x. x ++ w'.rest) (ap (λ x. joined_pieces k.run ++ x) (sym (append-nil bytes))
-            ∙ sym (joined_pieces-append k.run call));
+        body = cc (k.body, t.rest_is, append_assoc (joined_pieces k.run) bytes w'.rest, append-nil bytes, joined_pieces-append k.run call);
       }
 
   -- if nothing of the body is left, and the body ends at the place, the run decodes the body, with the result `Ok
@@ -100,8 +95,7 @@ module _ {F E : Type 0} (step : F → List ℕ → Result (Unit {0}) E → F →
   pub going_refused : {f g h : F} {text bytes : List ℕ} {w w' : Walk} (e : E) → Going f text w g → Takes w bytes w'
       → step g bytes (Err e) h → Decodes step f (length text) (Good (plain_body text)) (IsBodyEnd text)
       (Err (WriteError e)) h
-  going_refused {f} {g} {h} {text} {bytes} {w} {w'} e k t s =
-      let call : List (Call F E) = record { piece = bytes; answer = Err e; after = h } ∷ [] in
+  going_refused {f} {g} {h} {text} {bytes} {w} {w'} e k t s = let call : List (Call F E) = record { piece = bytes; answer = Err e; after = h } ∷ [] in
       let longer : length (k.run ++ call) ≡ length k.run + 1 = length-append k.run call ∙ omega arith in
       let calls = k.calls in
       let some = t.some in
@@ -110,8 +104,7 @@ module _ {F E : Type 0} (step : F → List ℕ → Result (Unit {0}) E → F →
       let size = ap length same in
       let within = t.within in
       let last : refusal (k.run ++ call) ≡ Some e = refusal-append k.run call k.accepted in
-      let all : joined_pieces (k.run ++ call) ≡ joined_pieces k.run ++ bytes = joined_pieces-append k.run call
-      ∙ ap (λ x. joined_pieces k.run ++ x) (append-nil bytes) in
+      let all : joined_pieces (k.run ++ call) ≡ joined_pieces k.run ++ bytes = cc (joined_pieces-append k.run call, append-nil bytes) in
       record {
         run = k.run ++ call;
         ran = run-append step k.run call f g h k.ran k.accepted (s, λ e. refl, refl);
@@ -123,8 +116,7 @@ module _ {F E : Type 0} (step : F → List ℕ → Result (Unit {0}) E → F →
             (record {
               bytes_begin = (
                 w'.rest,
-                k.body ∙ ap (λ x. joined_pieces k.run ++ x) t.rest_is
-                    ∙ sym (append_assoc (joined_pieces k.run) bytes w'.rest) ∙ ap (λ x. x ++ w'.rest) (sym all),
+                cc (k.body, t.rest_is, append_assoc (joined_pieces k.run) bytes w'.rest),
               );
               answer =
                   refl;

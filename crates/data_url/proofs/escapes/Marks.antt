@@ -37,18 +37,11 @@ pub copied : (room text mid post block : List ℕ) (len width start : ℕ) → l
     → start + 64 ≤ length text → length mid ≡ 64 → block ≡ take 64 (drop start text)
     → take (len + width) (take len room ++ (put_chunk 0 mid block ++ post)) ≡ take len room ++ slice_range text start
     (start + width)
-copied room text mid post block len width start l w h m b =
-    let d = length-drop start text in
+copied room text mid post block len width start l w h m b = let d = length-drop start text in
     let long : length (take 64 (drop start text)) ≡ 64 = length-take-le 64 (drop start text) (omega arith) in
     let size : length block ≡ 64 = ap length b ∙ long in
     let whole : put_chunk 0 mid block ≡ block = put_chunk_whole mid block (m ∙ sym size) in
-    let n : start + width - start ≡ width = omega arith in
-    take_past (take len room) (put_chunk 0 mid block ++ post) len width (length-take-le len room l)
-    ∙ ap (λ s. take len room ++ s)
-    (take-append-le width (put_chunk 0 mid block) post (let e = ap length whole in omega arith)
-    ∙ ap (take width) (whole ∙ b)
-    ∙ take-take width 64 (drop start text) w
-    ∙ ap (λ k. take k (drop start text)) (sym n))
+    let n : start + width - start ≡ width = omega arith in cc (take_past (take len room) (put_chunk 0 mid block ++ post) len width (length-take-le len room l), take-append-le width (put_chunk 0 mid block) post (let e = ap length whole in omega arith), take-take width 64 (drop start text) w)
 
 -- the same for a buffer of 256 bytes, as the code copies the block
 pub copied_wide : (room bytes text : List ℕ) (len width start : ℕ) → length room ≡ 256 → len + 64 ≤ 256 → width ≤ 64
@@ -56,15 +49,11 @@ pub copied_wide : (room bytes text : List ℕ) (len width start : ℕ) → lengt
     → take (len + width) (put_mid len (len + 64 - len) room (put_chunk 0 (mid_of len (len + 64 - len) room)
     (chunk 0 64 (take (start + 64 - start) (drop start bytes))))) ≡ take len room ++ slice_range text start
     (start + width)
-copied_wide room bytes text len width start long l w h e =
-    let n : len + 64 - len ≡ 64 = omega arith in
+copied_wide room bytes text len width start long l w h e = let n : len + 64 - len ≡ 64 = omega arith in
     let k : start + 64 - start ≡ 64 = omega arith in
     let d = length-drop len room in
-    let mid : length (mid_of len (len + 64 - len) room) ≡ 64 = length-take-le (len + 64 - len) (drop len room)
-    (omega arith) ∙ n in
-    let block : chunk 0 64 (take (start + 64 - start) (drop start bytes)) ≡ take 64 (drop start text) =
-    ap (λ i. take 64 (take i (drop start bytes))) k ∙ take-take 64 64 (drop start bytes) (omega arith)
-    ∙ ap (λ s. take 64 (drop start s)) e in
+    let mid : length (mid_of len (len + 64 - len) room) ≡ 64 = cc (length-take-le (len + 64 - len) (drop len room) (omega arith)) in
+    let block : chunk 0 64 (take (start + 64 - start) (drop start bytes)) ≡ take 64 (drop start text) = cc (take-take 64 64 (drop start bytes) (omega arith)) in
     copied room text (mid_of len (len + 64 - len) room) (post_of len (len + 64 - len) room)
     (chunk 0 64 (take (start + 64 - start) (drop start bytes))) len width start (omega arith) w h mid block
 
@@ -82,25 +71,18 @@ marks_padded (x ∷ xs) k = ap (λ m. cond (is_marked x) 1 0 + 2 * m) (marks_pad
 pub marks_of_rest : (rest new zeros : List ℕ) (r k : ℕ) → new ≡ rest → zeros ≡ replicate 64 0 → k ≡ length rest
     → r ≡ mask_l (map is_marked (put_mid 0 k zeros new)) → r ≡ mask_l (map is_marked rest)
 marks_of_rest rest new zeros r k e z l h =
-    let tail : drop k zeros ≡ replicate (64 - k) 0 = ap (drop k) z ∙ drop-replicate k 64 0 in
-    h
-    ∙ ap (λ s. mask_l (map is_marked (s ++ drop k zeros))) e
-    ∙ ap (λ s. mask_l (map is_marked (rest ++ s))) tail
-    ∙ marks_padded rest (64 - k)
+    let tail : drop k zeros ≡ replicate (64 - k) 0 = ap (drop k) z ∙ drop-replicate k 64 0 in cc (marks_padded rest
+    (64 - k))
 
 -- the block of a text at a place: a whole one, or the rest of the text
 pub block_whole : (text bytes : List ℕ) (place : ℕ) → bytes ≡ text
     → 64 ≤ length (take (length bytes - place) (drop place bytes))
     → chunk 0 64 (take (64 - 0) (drop 0 (take (length bytes - place) (drop place bytes)))) ≡ slice_range text place
     (min (place + 64) (length text))
-block_whole text bytes place e long =
-    let all : take (length bytes - place) (drop place bytes) ≡ drop place text = take_rest bytes place
-    ∙ ap (drop place) e in
+block_whole text bytes place e long = let all : take (length bytes - place) (drop place bytes) ≡ drop place text = cc (take_rest bytes place) in
     let n = ap length all in
     let d = length-drop place text in
-    let k : 64 ≡ min (place + 64) (length text) - place = omega arith in
-    ap (λ s. take 64 (take 64 s)) all ∙ take-take 64 64 (drop place text) (omega arith)
-    ∙ ap (λ i. take i (drop place text)) k
+    let k : 64 ≡ min (place + 64) (length text) - place = omega arith in cc (take-take 64 64 (drop place text) (omega arith))
 
 -- if fewer than 64 bytes are left, the block is these bytes
 pub block_part : (text bytes : List ℕ) (place : ℕ) → bytes ≡ text
@@ -118,9 +100,12 @@ pub mask_later : (bs : List Bool) (k : ℕ) → mask_l bs / 2 ^ k ≡ mask_l (dr
 mask_later bs zero = omega arith
 mask_later [] (suc k) = omega arith
 mask_later (b ∷ bs) (suc k) =
-    let p : 2 ^ suc k ≡ 2 * 2 ^ k = pow-suc 2 k ∙ mul_comm (2 ^ k) 2 in
-    ap (λ n. mask_l (b ∷ bs) / n) p ∙ sym (div-div-eq-div-mul (mask_l (b ∷ bs)) 2 (2 ^ k))
-    ∙ ap (λ n. n / 2 ^ k) (mask_half b bs) ∙ mask_later bs k
+    let p : 2 ^ suc k ≡ 2 * 2 ^ k = pow-suc 2 k ∙ mul_comm (2 ^ k) 2 in cc (
+      div-div-eq-div-mul (mask_l (b ∷ bs)) 2 (2
+          ^ k),
+      mask_half b bs,
+      mask_later bs k,
+    )
 
 -- nothing can be taken from the empty list
 pub take_none : (k : ℕ) → ◌≡◌ {A = List ℕ} [] (take k [])
@@ -180,27 +165,23 @@ entry b = get_or MARKED (low_half b) 0
 
 looked_at : (v : List ℕ) → length v ≡ 64 → (m : ℕ) → m < 64 → get_or (swz_l w8 16 MARKED 0 (map low_half v)) m 0
     ≡ get_or (map entry v) m 0
-looked_at v long m l =
-    let ll : length (map low_half v) ≡ 64 = length-map v low_half ∙ long in
+looked_at v long m l = let ll : length (map low_half v) ≡ 64 = length-map v low_half ∙ long in
     let e : get_or (map low_half v) m 0 ≡ low_half (get_or v m 0) = get_or-map low_half v m 0 0 (omega arith) in
     let h = low_lt (get_or v m 0) in
     let j : get_or (map low_half v) m 0 < 16 = omega arith in
     let at = 16 * ((0 + m) / 16) + get_or (map low_half v) m 0 in
     let in_range : at < 64 = omega arith in
-    let same : at % 16 ≡ low_half (get_or v m 0) = omega arith in
-    get_or-swz_l_below w8 16 MARKED 0 (map low_half v) m (omega arith) j
-    ∙ repeats at in_range
-    ∙ ap (λ k. get_or MARKED k 0) same
-    ∙ sym (get_or-map entry v m 0 0 (omega arith))
+    let same : at % 16 ≡ low_half (get_or v m 0) = omega arith in cc (get_or-swz_l_below w8 16 MARKED 0 (map low_half v) m (omega arith) j, repeats at in_range, get_or-map entry v m 0 0 (omega arith))
 
 -- a swizzle by the low halves looks up the entry of each byte
 pub looked_up : (v : List ℕ) → length v ≡ 64 → swz_l w8 16 MARKED 0 (lows v) ≡ map entry v
 looked_up v long =
-    ap (λ js. swz_l w8 16 MARKED 0 js) (lows_are v long)
-    ∙ ext_get_or 0 (swz_l w8 16 MARKED 0 (map low_half v)) (map entry v)
-    (length-swz_l w8 16 MARKED 0 (map low_half v) ∙ length-map v low_half ∙ sym (length-map v entry))
-    (λ m l. looked_at v long m (let k = length-swz_l w8 16 MARKED 0 (map low_half v) in let n = length-map v low_half in
-    omega arith))
+    cc (
+      lows_are v long,
+      ext_get_or 0 (swz_l w8 16 MARKED 0 (map low_half v)) (map entry v) (length-swz_l w8 16
+          MARKED 0 (map low_half v) ∙ length-map v low_half ∙ sym (length-map v entry)) (λ m l. looked_at v long m (let k =
+          length-swz_l w8 16 MARKED 0 (map low_half v) in let n = length-map v low_half in omega arith)),
+    )
 
 -- an entry is equal to the byte exactly if the byte is marked
 marked_here : (b : ℕ) → b < 256 → eqb (entry b) b ≡ is_marked b
@@ -215,11 +196,14 @@ pub marks_are : (v : List ℕ) → length v ≡ 64 → Each1 (Fits w8) v
     → mask_l (map (top 7) (zip2 (λ a b. cond (eqb a b) 255 0) (swz_l w8 16 MARKED 0 (lows v)) v)) % 2 ^ 64 ≡ mask_l
     (map is_marked v)
 marks_are v long fits =
-    ap (λ ms. mask_l ms % 2 ^ 64)
-    (tops_compared w8 eqb (swz_l w8 16 MARKED 0 (lows v)) v
-    ∙ zip2_of_maps eqb entry (λ b. b) v (looked_up v long) (sym (map-id v))
-    ∙ marked_each v fits)
-    ∙ mask_l-mod (map is_marked v) 64 (let l = length-map v is_marked in omega arith)
+    cc (
+      tops_compared w8 eqb (swz_l w8 16 MARKED 0 (lows v)) v,
+      zip2_of_maps eqb entry (λ b. b) v (looked_up v long)
+          (sym (map-id v)),
+      marked_each v fits,
+      mask_l-mod (map is_marked v) 64 (let l = length-map v is_marked in omega
+          arith),
+    )
 
 -- The next marked byte of a text, by the marks of a block.
 

@@ -198,18 +198,9 @@ body_percent s h = keeps_byte 37 s refl refl (same_two_digits (without_tabs_and_
 -- an escape is in the body as the byte of its value
 pub body_escape : (s : List ℕ) (value : ℕ) (rest : List ℕ) → escape s ≡ Some (value, rest)
     → plain_body (37 ∷ s) ≡ value ∷ plain_body rest
-body_escape s value rest h =
-    let e = has_escape s value rest h in
+body_escape s value rest h = let e = has_escape s value rest h in
     let front_is : before 35 (without_tabs_and_newlines s) ≡ e.high ∷ e.low ∷ before 35
-    (without_tabs_and_newlines rest) =
-    ap (before 35) e.dropped_is
-    ∙ before_other 35 e.high (e.low ∷ without_tabs_and_newlines rest) (hex_no_hash e.high e.high_hex)
-    ∙ ap (λ t. e.high ∷ t) (before_other 35 e.low (without_tabs_and_newlines rest) (hex_no_hash e.low e.low_hex)) in
-    body_of (37 ∷ s) (37 ∷ without_tabs_and_newlines s) (dropped_keeps 37 s refl)
-    ∙ ap percent_decoding (before_other 35 37 (without_tabs_and_newlines s) refl ∙ ap (λ t. 37 ∷ t) front_is)
-    ∙ decoded_escape e.high e.low (before 35 (without_tabs_and_newlines rest)) e.high_hex e.low_hex
-    ∙ ap (λ x. x ∷ percent_decoding (before 35 (without_tabs_and_newlines rest))) e.value_is
-    ∙ ap (λ t. value ∷ t) (sym (body_of rest (without_tabs_and_newlines rest) refl))
+    (without_tabs_and_newlines rest) = cc (e.dropped_is, before_other 35 e.high (e.low ∷ without_tabs_and_newlines rest) (hex_no_hash e.high e.high_hex), before_other 35 e.low (without_tabs_and_newlines rest) (hex_no_hash e.low e.low_hex)) in cc (body_of (37 ∷ s) (37 ∷ without_tabs_and_newlines s) (dropped_keeps 37 s refl), before_other 35 37 (without_tabs_and_newlines s) refl, decoded_escape e.high e.low (before 35 (without_tabs_and_newlines rest)) e.high_hex e.low_hex, e.value_is, body_of rest (without_tabs_and_newlines rest) refl)
 
 -- a '%' at the front does not change what follows the first '#'
 pub after_percent : (s : List ℕ) → after 35 (37 ∷ s) ≡ after 35 s

@@ -52,19 +52,13 @@ taken_none n m = grind (arith, take_none, drop_none)
 taken_twice : (n m : ℕ) (xs : List ℕ) → take n xs ++ take m (drop n xs) ≡ take (n + m) xs
 taken_twice zero m xs = let e : m ≡ zero + m = omega arith in ap (λ k. take k xs) e
 taken_twice (suc n) m [] = taken_none (suc n) m
-taken_twice (suc n) m (x ∷ xs) = let e : suc (n + m) ≡ suc n + m = omega arith in ap (λ t. x ∷ t) (taken_twice n m xs)
-    ∙ ap (λ k. take k (x ∷ xs)) e
+taken_twice (suc n) m (x ∷ xs) = let e : suc (n + m) ≡ suc n + m = omega arith in cc (taken_twice n m xs)
 
 -- two ranges, of which the second begins where the first ends, are one range
 pub slice_join : (text : List ℕ) (a b c : ℕ) → a ≤ b → b ≤ c → slice_range text a b ++ slice_range text b c
     ≡ slice_range text a c
-slice_join text a b c l h =
-    let e : a + (b - a) ≡ b = omega arith in
-    let n : b - a + (c - b) ≡ c - a = omega arith in
-    ap (λ i. take (b - a) (drop a text) ++ take (c - b) (drop i text)) (sym e)
-    ∙ ap (λ s. take (b - a) (drop a text) ++ take (c - b) s) (sym (drop-drop (b - a) a text))
-    ∙ taken_twice (b - a) (c - b) (drop a text)
-    ∙ ap (λ k. take k (drop a text)) n
+slice_join text a b c l h = let e : a + (b - a) ≡ b = omega arith in
+    let n : b - a + (c - b) ≡ c - a = omega arith in cc (drop-drop (b - a) a text, taken_twice (b - a) (c - b) (drop a text))
 
 -- Tabs and newlines
 
@@ -81,9 +75,7 @@ skipped_byte text place l h = grind (arith, slice_one, dropped_passes, dropped_n
 pub skipped_then : (text : List ℕ) (a b c : ℕ) → a ≤ b → b ≤ c → IsSkipped text a b → IsSkipped text b c
     → IsSkipped text a c
 skipped_then text a b c l m h k =
-    ap without_tabs_and_newlines (sym (slice_join text a b c l m))
-    ∙ without_tabs_and_newlines-append (slice_range text a b) (slice_range text b c)
-    ∙ ap₂ (λ x y. x ++ y) h k
+    cc (slice_join text a b c l m, without_tabs_and_newlines-append (slice_range text a b) (slice_range text b c))
 
 -- between two places of the text there is no tab or newline
 abbrev pub IsWithoutTabs : List ℕ → ℕ → ℕ → Type 0
@@ -102,10 +94,7 @@ without_tabs_byte text place l h = grind (arith, slice_one, dropped_keeps, dropp
 pub without_tabs_then : (text : List ℕ) (a b c : ℕ) → a ≤ b → b ≤ c → IsWithoutTabs text a b → IsWithoutTabs text b c
     → IsWithoutTabs text a c
 without_tabs_then text a b c l m h k =
-    ap without_tabs_and_newlines (sym (slice_join text a b c l m))
-    ∙ without_tabs_and_newlines-append (slice_range text a b) (slice_range text b c)
-    ∙ ap₂ (λ x y. x ++ y) h k
-    ∙ slice_join text a b c l m
+    cc (slice_join text a b c l m, without_tabs_and_newlines-append (slice_range text a b) (slice_range text b c))
 
 without_tabs_for : (text : List ℕ) (from n : ℕ) → from + n ≤ length text → IsClear text from (from + n)
     → IsWithoutTabs text from (from + n)
@@ -258,8 +247,7 @@ marked_tab false false false e a b = absurd (let k : false ≡ true = e in cc)
 pub stop_passed : {c c' : Cursor} {mark b : ℕ} → Looked c mark b → is_marked (get_or (text_of c) mark 0) ≡ true
     → (b ≡ 37 → ⊥) → (b ≡ 35 → ⊥) → KeepsBlock c c' → c'.source.looks ≡ c.source.looks + 1 → IsPassed (text_of c') mark
     × Looking c' (mark + 1) 0
-stop_passed {c} {c'} {mark} {b} k m p h s n =
-    let t = s.stays.on.text_stays in
+stop_passed {c} {c'} {mark} {b} k m p h s n = let t = s.stays.on.text_stays in
     let w = k.within in
     let same = k.byte_is in
     let marked : is_marked b ≡ true = ap is_marked same ∙ m in
@@ -268,8 +256,7 @@ stop_passed {c} {c'} {mark} {b} k m p h s n =
     (ne_eqb b 35 h) percent in
     let e : IsPassed (text_of c) mark = record { within = k.within; passed = ap is_tab_or_newline (sym same) ∙ tab } in
     let P : List ℕ → Type 0 = λ x. IsPassed x mark in
-    let no : not (get_or (text_of c) mark 0 == 37) ≡ true = ap (λ v. not (v == 37)) (sym same)
-    ∙ ap (λ v. not v) percent in
+    let no : not (get_or (text_of c) mark 0 == 37) ≡ true = cc in
     let paid_here = paid_byte (text_of c) c.seen mark k.within no in
     let l = k.looking.looks_are_paid in
     (subst P (sym t) e, looking_kept (mark + 1) 0 k.looking s (omega arith) (omega arith) (omega arith))
@@ -283,16 +270,14 @@ begins_empty s e = subst BeginsFragment (sym e) tt
 -- a walk ends at a '#'
 pub stop_hash : {c c' : Cursor} {mark b : ℕ} → Looked c mark b → b ≡ 35 → KeepsBlock c c'
     → c'.source.looks ≡ c.source.looks + 1 → Ended c' mark
-stop_hash {c} {c'} {mark} {b} k h s n =
-    let t = s.stays.on.text_stays in
+stop_hash {c} {c'} {mark} {b} k h s n = let t = s.stays.on.text_stays in
     let w = k.within in
     let same = k.byte_is in
     let size = ap length t in
     let e : drop mark (text_of c) ≡ get_or (text_of c) mark 0 ∷ drop (mark + 1) (text_of c) =
     drop_more (text_of c) mark 0 w in
     let begins : BeginsFragment (drop mark (text_of c)) =
-    begins_hash (drop mark (text_of c)) (get_or (text_of c) mark 0) (drop (mark + 1) (text_of c)) e (sym same
-    ∙ h) in
+    begins_hash (drop mark (text_of c)) (get_or (text_of c) mark 0) (drop (mark + 1) (text_of c)) e (cc) in
     let P : List ℕ → Type 0 = λ x. BeginsFragment (drop mark x) in
     let no : not (get_or (text_of c) mark 0 == 37) ≡ true = ap (λ v. not (v == 37)) (sym same ∙ h) in
     let paid_here = paid_byte (text_of c) c.seen mark k.within no in
@@ -534,11 +519,9 @@ goes_then {c} {c1} {c2} {next} on e g = grind (arith, on_then, reads_in, piece_f
 
 -- what is true of every walk stays true if the walk goes on, and what its `ahead` says is true
 pub knows_on : {c c' : Cursor} {next : Option Piece} → Knows c → GoesOn c next c' → KnowsAhead c' c'.ahead → Knows c'
-knows_on {c} {c'} {next} k g a =
-    let text = g.on.text_stays in
+knows_on {c} {c'} {next} k g a = let text = g.on.text_stays in
     record {
-      after_is = ap (after 35) text ∙ k.after_is ∙ g.reads.after_is
-          ∙ ap (λ t. after 35 (drop c'.place t)) (sym text);
+      after_is = cc (k.after_is, g.reads.after_is);
       ahead_is = a;
     }
 

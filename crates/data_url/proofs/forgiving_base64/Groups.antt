@@ -51,13 +51,9 @@ whole_length (p ∷ q ∷ r ∷ s ∷ rest) h = let e : length rest % 4 ≡ 0 = 
 
 -- if x has at least 4 * m values, the first 3 * m bytes of its groups are those of its first 4 * m values
 pub take_groups : (m : ℕ) (x : List ℕ) → 4 * m ≤ length x → take (3 * m) (groups x) ≡ groups (take (4 * m) x)
-take_groups m x h =
-    let front = take (4 * m) x in
+take_groups m x h = let front = take (4 * m) x in
     let long : length front ≡ 4 * m = length-take-le (4 * m) x h in
-    let size : length (groups front) ≡ 3 * m = omega (arith, whole_length front (omega arith)) in
-    ap (λ l. take (3 * m) (groups l)) (sym (take-append-drop (4 * m) x))
-    ∙ ap (take (3 * m)) (groups_whole front (drop (4 * m) x) (omega arith))
-    ∙ take_at (groups front) (groups (drop (4 * m) x)) (3 * m) size
+    let size : length (groups front) ≡ 3 * m = omega (arith, whole_length front (omega arith)) in cc (take-append-drop (4 * m) x, groups_whole front (drop (4 * m) x) (omega arith), take_at (groups front) (groups (drop (4 * m) x)) (3 * m) size)
 
 -- A text of symbols
 
@@ -105,10 +101,7 @@ pub row_held : (old new bytes : List ℕ) (g c : ℕ) → take (3 * g + 12) new 
     → 3 * g ≤ length old → c ≤ 4 → take (3 * (g + c)) new ≡ take (3 * g) old ++ take (3 * c) bytes
 row_held old new bytes g c e within few =
     let size : 3 * (g + c) ≡ length (take (3 * g) old) + 3 * c = omega (arith, length-take-le (3 * g) old within) in
-    sym (take-take (3 * (g + c)) (3 * g + 12) new (omega arith))
-    ∙ ap (take (3 * (g + c))) e
-    ∙ ap (λ n. take n (take (3 * g) old ++ bytes)) size
-    ∙ take-append-add (take (3 * g) old) bytes (3 * c)
+    cc (take-take (3 * (g + c)) (3 * g + 12) new (omega arith), take-append-add (take (3 * g) old) bytes (3 * c))
 
 -- no group
 pub fill_none : (held text : List ℕ) → Fills held text 0 held
@@ -136,22 +129,18 @@ ahead_all s = grind (arith, list_all-from_AllPass, length-take, get_or-take, pre
 -- if n is the number of symbols at the start of 16 bytes of a row, n is at most 16 and the first n bytes are symbols
 pub row_ahead : (row : List ℕ) (n : ℕ) → n ≡ prefix_len is_symbol (take 16 row)
     → (n ≤ 16) × (list_all is_symbol (take n row) ≡ true)
-row_ahead row n e =
-    let l : n ≤ 16 = omega (arith, e, prefix_len-le-length is_symbol (take 16 row), length-take 16 row) in (
-      l,
-      ap (list_all is_symbol) (sym (take-take n 16 row l)) ∙ ap (λ k. list_all is_symbol (take k (take 16 row))) e
-          ∙ ahead_all (take 16 row),
-    )
+row_ahead row n e = let l : n ≤ 16 = omega (arith, e, prefix_len-le-length is_symbol (take 16 row), length-take 16 row) in (
+  l,
+  cc (take-take n 16 row l, ahead_all (take 16 row)),
+)
 
 -- if the first n bytes are symbols, so are the first m, where m is at most n
 pub all_before : (block : List ℕ) (m n : ℕ) → m ≤ n → list_all is_symbol (take n block) ≡ true
     → list_all is_symbol (take m block) ≡ true
-all_before block m n h all =
-    let rest = take (n - m) (drop m block) in
+all_before block m n h all = let rest = take (n - m) (drop m block) in
     let back : m + (n - m) ≡ n = omega arith in
     (and_parts (list_all is_symbol (take m block)) (list_all is_symbol rest)
-    (sym (list_all-append is_symbol (take m block) rest) ∙ ap (list_all is_symbol) (sym (take-add m (n - m) block)
-    ∙ ap (λ k. take k block) back) ∙ all)).0
+    (cc (list_all-append is_symbol (take m block) rest, take-add m (n - m) block))).0
 
 -- A text that is fed in two parts.
 

@@ -103,8 +103,7 @@ module _ {F E : Type 0} (step : F → List ℕ → Result (Unit {0}) E → F →
   -- if d holds bytes after a, and then reads b, it holds those of b after them
   pub holds_adds : {d d1 d2 : State F} {a b held more : List ℕ} → Holds step d a held d1 → Adds d1 b more d2
       → Holds step d (a ++ b) (held ++ more) d2
-  holds_adds {d} {d1} {d2} {a} {b} {held} {more} h k =
-      let u = left_over d ++ a in
+  holds_adds {d} {d1} {d2} {a} {b} {held} {more} h k = let u = left_over d ++ a in
       let on = left_goes_on u b h.no_fault h.left in
       let same : u ++ b ≡ left_over d ++ (a ++ b) = append_assoc (left_over d) a b in
       let R : F → Type 0 = λ f. IsRun step d.closure h.run f in
@@ -112,12 +111,7 @@ module _ {F E : Type 0} (step : F → List ℕ → Result (Unit {0}) E → F →
         run = h.run;
         ran = subst R (sym k.closure_stays) h.ran;
         accepted = h.accepted;
-        bytes_are =
-            sym (append_assoc (joined_pieces h.run) held more)
-            ∙ ap (λ x. x ++ more) h.bytes_are
-            ∙ ap (λ x. complete_bytes u ++ x) k.bytes_are
-            ∙ sym on.done_is
-            ∙ ap complete_bytes same;
+        bytes_are = cc (append_assoc (joined_pieces h.run) held more, h.bytes_are, k.bytes_are, on.done_is);
         no_fault = ap first_fault (sym same) ∙ none_from (first_fault (u ++ b)) (on.fault_is ∙ ap is_some k.no_fault);
         left = record {
           symbols_are = k.left.symbols_are ∙ sym on.symbols_left ∙ ap left_symbols same;
@@ -141,8 +135,7 @@ module _ {F E : Type 0} (step : F → List ℕ → Result (Unit {0}) E → F →
   -- the end, or a fault: the closure is called once with all bytes that are held
   pub written_feeds : {d d1 d2 : State F} {t held : List ℕ} {r : Result (Unit {0}) (DecodeError E)}
       (h : Holds step d t held d1) → length h.run + 1 ≤ length t → CallsOnce step d1 held r d2 → Feeds step d t r d2
-  written_feeds {d} {d1} {d2} {t} {held} {r} h few w =
-      let u = left_over d ++ t in
+  written_feeds {d} {d1} {d2} {t} {held} {r} h few w = let u = left_over d ++ t in
       let call : Call F E = record { piece = held; answer = w.told; after = d2.closure } in
       let bytes = called_bytes held h w.told d2.closure ∙ h.bytes_are in
       record {
@@ -161,8 +154,7 @@ module _ {F E : Type 0} (step : F → List ℕ → Result (Unit {0}) E → F →
                     e,
                     record {
                       symbols_are = w.symbols_stay ∙ h.left.symbols_are;
-                      padding_is = w.padding_stays
-                          ∙ h.left.padding_is;
+                      padding_is = cc (w.padding_stays, h.left.padding_is);
                     },
                   );
             })
@@ -189,8 +181,7 @@ module _ {F E : Type 0} (step : F → List ℕ → Result (Unit {0}) E → F →
             s2.closure;
       } ∷ []) ++ y
   called_wait {s2 = s2} {x = x} q y h w =
-      sym h.bytes_are ∙ sym (append_assoc (joined_pieces h.run) x y)
-      ∙ ap (λ b. b ++ y) (sym (called_bytes x h w.told s2.closure))
+      cc (h.bytes_are, append_assoc (joined_pieces h.run) x y, called_bytes x h w.told s2.closure)
 
   -- if the closure accepts the first 48 bytes that are held, the other bytes are still held
   pub part_holds : {d s1 s2 : State F} {t x y : List ℕ} (q : List ℕ) → length x ≡ 48
@@ -340,12 +331,10 @@ module _ {F E : Type 0} (step : F → List ℕ → Result (Unit {0}) E → F →
       (s held held' : List ℕ) (at c : ℕ) → at < length s → c ≡ get_or s at 0
       → Holds step d (take at s) held d1 → Refuses d1 c kind d2 → held' ≡ held → Flushes step d2 held' (Ok tt) d3
       → d4 ≡ record d3 { failed = true } → r ≡ Err (InvalidBase64 kind) → Feeds step d s r d4
-  fault_feeds {d} {d1} {d2} {d4} d3 {r} {kind} s held held' at c inside is h f same flushed failed told =
-      let A : List ℕ → Type 0 = λ l. Holds step d (take at s) l d1 in
+  fault_feeds {d} {d1} {d2} {d4} d3 {r} {kind} s held held' at c inside is h f same flushed failed told = let A : List ℕ → Type 0 = λ l. Holds step d (take at s) l d1 in
       let P : List ℕ → Type 0 = λ t. Feeds step d t (Err (InvalidBase64 kind)) d4 in
       let Q : Result (Unit {0}) (DecodeError E) → Type 0 = λ x. Feeds step d s x d4 in
-      let more : take at s ++ c ∷ [] ≡ take (at + 1) s = ap (λ b. take at s ++ b ∷ []) is
-      ∙ sym (take_more s at 0 inside) in
+      let more : take at s ++ c ∷ [] ≡ take (at + 1) s = cc (take_more s at 0 inside) in
       subst Q (sym told) (feeds_stop step s (at + 1)
       (subst P more (refused_feeds step d3 (take at s) held' c (subst A (sym same) h) f flushed failed refl)))
 
@@ -411,24 +400,28 @@ row_adds d q row every all some is_p going =
     refl (after_groups-append q k) (is_p ∙ ap (λ p. min (p + 0) 3) (sym is_p)) going
 
 rest_after : (q : List ℕ) → 64 ≤ length q → after_groups q ≡ after_groups (drop 64 q)
-rest_after q long =
-    let none : after_groups (take 64 q) ≡ [] =
+rest_after q long = let none : after_groups (take 64 q) ≡ [] =
     no_items (after_groups (take 64 q))
-    (omega (arith, length-after_groups (take 64 q), length-take-le 64 q long)) in
-    ap after_groups (sym (take-append-drop 64 q)) ∙ after_groups-append (take 64 q) (drop 64 q)
-    ∙ ap (λ x. after_groups (x ++ drop 64 q)) none
+    (omega (arith, length-after_groups (take 64 q), length-take-le 64 q long)) in cc (take-append-drop 64 q, after_groups-append (take 64 q) (drop 64 q))
 
 -- the groups of 64 symbols and of the rest
 block_rest : (q bytes : List ℕ) → 64 ≤ length q → length bytes ≡ 48 → DecodesFront q bytes
     → groups (map symbol_value q) ≡ bytes ++ groups (map symbol_value (drop 64 q))
 block_rest q bytes long size front =
-    let first : bytes ≡ groups (map symbol_value (take 64 q)) = sym (take_all 48 bytes (omega arith))
-    ∙ front 16 (omega arith) (omega arith) in
-    ap (λ l. groups (map symbol_value l)) (sym (take-append-drop 64 q))
-    ∙ ap groups (map-append symbol_value (take 64 q) (drop 64 q))
-    ∙ groups_whole (map symbol_value (take 64 q)) (map symbol_value (drop 64 q))
-    (omega (arith, length-map (take 64 q) symbol_value, length-take-le 64 q long))
-    ∙ ap (λ b. b ++ groups (map symbol_value (drop 64 q))) (sym first)
+    let first : bytes ≡ groups (map symbol_value (take 64 q)) = cc (
+      take_all 48 bytes (omega arith),
+      front 16 (omega
+          arith) (omega arith),
+    ) in cc (
+      take-append-drop 64 q,
+      map-append symbol_value (take 64 q) (drop 64 q),
+      groups_whole
+          (map symbol_value (take 64 q)) (map symbol_value (drop 64 q)) (omega (
+            arith,
+            length-map (take 64 q) symbol_value,
+            length-take-le 64 q long,
+          )),
+    )
 
 module _ {F E : Type 0} (step : F → List ℕ → Result (Unit {0}) E → F → Type 0) where
   -- nothing was read, and nothing is held
@@ -443,11 +436,9 @@ module _ {F E : Type 0} (step : F → List ℕ → Result (Unit {0}) E → F →
       → q' ≡ q ++ filter is_symbol (take 64 (take (length text - at) (drop at text))) → s.padding ≡ 0
       → Holds step d (take at text) (groups (map symbol_value q)) (waiting s q)
       → Holds step d (take (at + 64) text) (groups (map symbol_value q')) (waiting s q')
-  block_waits {d} s text q q' at every within all is is_p h =
-      let rest : take (length text - at) (drop at text) ≡ drop at text = take_rest text at in
+  block_waits {d} s text q q' at every within all is is_p h = let rest : take (length text - at) (drop at text) ≡ drop at text = take_rest text at in
       let row = take 64 (drop at text) in
-      let allowed : list_all is_symbol_or_space row ≡ true = ap (λ t. list_all is_symbol_or_space (take 64 t))
-      (sym rest) ∙ all in
+      let allowed : list_all is_symbol_or_space row ≡ true = cc in
       let more : q' ≡ q ++ filter is_symbol row = is ∙ ap (λ t. q ++ filter is_symbol (take 64 t)) rest in
       let size : length row ≡ 64 = length-take-le 64 (drop at text) (omega (arith, length-drop at text)) in
       let P : List ℕ → Type 0 = λ t. Holds step d t (groups (map symbol_value q')) (waiting s q') in

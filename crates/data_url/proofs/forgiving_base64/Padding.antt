@@ -128,29 +128,25 @@ module _ (space pad symbol : ℕ → Bool) where
   pub before_walk : (p b : List ℕ) (n : ℕ) (s : Bool) → length p ≡ n
       → before_place (p ++ b) (stop_place n s b) ≡ p ++ ahead s b
   before_walk p [] n s e = refl
-  before_walk p (c ∷ t) n s e =
-      grind (
-        arith,
-        take_at,
-        append-nil,
-        append_assoc,
-        (before_walk (p ++ c ∷ []) t (n + 1) (s || pad c) (length_push
-            p c ∙ ap (λ x. x + 1) e)),
-        length_push,
-      )
+  before_walk p (c ∷ t) n s e = grind (
+    arith,
+    take_at,
+    append-nil,
+    append_assoc,
+    (before_walk (p ++ c ∷ []) t (n + 1) (s || pad c) (cc (length_push p c))),
+    length_push,
+  )
 
   -- the byte of p ++ b at the place where a walk over b stops is the byte that stops it
   pub byte_walk : (p b : List ℕ) (n : ℕ) (s : Bool) → length p ≡ n → byte_at (p ++ b) (stop_place n s b) ≡ stop s b
   byte_walk p [] n s e = refl
-  byte_walk p (c ∷ t) n s e =
-      grind (
-        arith,
-        get_or_at,
-        append_assoc,
-        (byte_walk (p ++ c ∷ []) t (n + 1) (s || pad c) (length_push p c ∙ ap (λ
-            x. x + 1) e)),
-        length_push,
-      )
+  byte_walk p (c ∷ t) n s e = grind (
+    arith,
+    get_or_at,
+    append_assoc,
+    (byte_walk (p ++ c ∷ []) t (n + 1) (s || pad c) (cc (length_push p c))),
+    length_push,
+  )
 
   -- Two texts
 
@@ -167,12 +163,10 @@ module _ (space pad symbol : ℕ → Bool) where
   -- if a walk does not stop in a, it passes a and then what it passes of b
   pub ahead-append : (a b : List ℕ) (s : Bool) → stop s a ≡ None → ahead s (a ++ b) ≡ a ++ ahead (s || list_any pad a) b
   ahead-append [] b s h = ap (λ x. ahead x b) (sym (or-false s))
-  ahead-append (c ∷ t) b s h =
-      elim (is_bad s c) as (λ v. cond v (Some c) (stop (s || pad c) t) ≡ None
+  ahead-append (c ∷ t) b s h = elim (is_bad s c) as (λ v. cond v (Some c) (stop (s || pad c) t) ≡ None
       → cond v [] (c ∷ ahead (s || pad c) (t ++ b)) ≡ c ∷ (t ++ ahead (s || (pad c || list_any pad t)) b)) [
         | true ↦ λ e. absurd (some_not_none c e)
-        | false ↦ λ e. ap (λ (x : List ℕ). c ∷ x) (ahead-append t b (s || pad c) e
-            ∙ ap (λ x. t ++ ahead x b) (or_assoc s (pad c) (list_any pad t)))
+        | false ↦ λ e. ap (λ (x : List ℕ). c ∷ x) (cc (ahead-append t b (s || pad c) e, or_assoc s (pad c) (list_any pad t)))
       ] h
 
   -- a walk that does not stop passes the whole text
@@ -414,35 +408,28 @@ two_false k m l e = ne_eqb (k % 4) 2 (λ h. eqb-false (m % 4) 0 e (omega (arith,
 one_passes : (q : List ℕ) → Every is_symbol q → passes (without_padding (q ++ replicate 1 61)) ≡ fits_with
     (length q % 4) 1
 unfolding without_padding
-one_passes q h =
-    passes_cond (eqb (length (q ++ replicate 1 61) % 4) 0) _
+one_passes q h = passes_cond (eqb (length (q ++ replicate 1 61) % 4) 0) _
     (without_last_padding (without_last_padding (q ++ replicate 1 61))) (q ++ replicate 1 61)
     (passes_pads q 0)
-    (λ e. ap (λ x. passes (without_last_padding x)) (without_pad_pads q 0 ∙ append-nil q)
-    ∙ ap passes (without_pad_symbols q h) ∙ passes_symbols q _ h (one_true (length q) _ (length_pads q 1) e))
+    (λ e. cc (without_pad_pads q 0, append-nil q, without_pad_symbols q h, passes_symbols q _ h (one_true (length q) _ (length_pads q 1) e)))
     (λ e. one_false (length q) _ (length_pads q 1) e)
 
 two_passes : (q : List ℕ) → Every is_symbol q → passes (without_padding (q ++ replicate 2 61)) ≡ fits_with
     (length q % 4) 2
 unfolding without_padding
-two_passes q h =
-    passes_cond (eqb (length (q ++ replicate 2 61) % 4) 0) _
+two_passes q h = passes_cond (eqb (length (q ++ replicate 2 61) % 4) 0) _
     (without_last_padding (without_last_padding (q ++ replicate 2 61))) (q ++ replicate 2 61)
     (passes_pads q 1)
-    (λ e. ap (λ x. passes (without_last_padding x)) (without_pad_pads q 1)
-    ∙ ap passes (without_pad_pads q 0 ∙ append-nil q)
-    ∙ passes_symbols q _ h (two_true (length q) _ (length_pads q 2) e))
+    (λ e. cc (without_pad_pads q 1, without_pad_pads q 0, append-nil q, passes_symbols q _ h (two_true (length q) _ (length_pads q 2) e)))
     (λ e. two_false (length q) _ (length_pads q 2) e)
 
 more_passes : (q : List ℕ) (n : ℕ) → passes (without_padding (q ++ replicate (suc (suc (suc n))) 61)) ≡ false
 unfolding without_padding
-more_passes q n =
-    passes_cond (eqb (length (q ++ replicate (suc (suc (suc n))) 61) % 4) 0) false
+more_passes q n = passes_cond (eqb (length (q ++ replicate (suc (suc (suc n))) 61) % 4) 0) false
     (without_last_padding (without_last_padding (q ++ replicate (suc (suc (suc n))) 61)))
     (q ++ replicate (suc (suc (suc n))) 61)
     (passes_pads q (suc (suc n)))
-    (λ e. ap (λ x. passes (without_last_padding x)) (without_pad_pads q (suc (suc n)))
-    ∙ ap passes (without_pad_pads q (suc n)) ∙ passes_pads q n)
+    (λ e. cc (without_pad_pads q (suc (suc n)), without_pad_pads q (suc n), passes_pads q n))
     (λ e. refl)
 
 symbols_pads_pass : (q : List ℕ) (p : ℕ) → Every is_symbol q → passes (without_padding (q ++ replicate p 61))
@@ -479,8 +466,7 @@ from_unfit k p h = false_from_ne_true (fits_with (k % 4) p) (λ e. h (fits_from 
 pub padding_fits : (b : List ℕ) → PaddingFits b
 padding_fits b q p h = (
   λ v. fits_from (length q) p (sym (symbols_pads_valid b q p h) ∙ v),
-  λ f. symbols_pads_valid b q p h
-      ∙ from_fits (length q) p f,
+  λ f. cc (symbols_pads_valid b q p h, from_fits (length q) p f),
 )
 
 -- The definitions of base64, as a walk that remembers whether it has seen padding.
@@ -494,12 +480,9 @@ whitespace_low c e = grind (arith, or_cases, range_high)
 
 -- each byte is in at most one class
 at_space : (c : ℕ) → is_ascii_whitespace c ≡ true → Class true (is_pad c) (is_symbol c)
-at_space c e =
-    let low : c < 33 = whitespace_low c e in
-    let pad : is_pad c ≡ false = ap (λ v. v && is_pad c) (sym e)
-    ∙ agree_below_at (λ c. is_ascii_whitespace c && is_pad c) (λ c. false) 33 c refl low in
-    let symbol : is_symbol c ≡ false = ap (λ v. v && is_symbol c) (sym e)
-    ∙ agree_below_at (λ c. is_ascii_whitespace c && is_symbol c) (λ c. false) 33 c refl low in
+at_space c e = let low : c < 33 = whitespace_low c e in
+    let pad : is_pad c ≡ false = cc (agree_below_at (λ c. is_ascii_whitespace c && is_pad c) (λ c. false) 33 c refl low) in
+    let symbol : is_symbol c ≡ false = cc (agree_below_at (λ c. is_ascii_whitespace c && is_symbol c) (λ c. false) 33 c refl low) in
     subst (λ y. Class true y (is_symbol c)) (sym pad) (subst (λ z. Class true false z) (sym symbol) of_space)
 
 at_symbol : (z : Bool) → Class false false z
@@ -536,8 +519,7 @@ first_fault_walk b = find_walk is_ascii_whitespace is_pad is_symbol [] b
 
 byte_is : (b : List ℕ) → byte_at is_ascii_whitespace is_pad is_symbol b (first_fault b) ≡ fault_byte false b
 unfolding fault_byte
-byte_is b = ap (byte_at is_ascii_whitespace is_pad is_symbol b) (first_fault_walk b)
-    ∙ byte_walk is_ascii_whitespace is_pad is_symbol [] b 0 false refl
+byte_is b = cc (first_fault_walk b, byte_walk is_ascii_whitespace is_pad is_symbol [] b 0 false refl)
 
 some_byte : (b : List ℕ) (o : Option ℕ) → is_some o ≡ is_some (byte_at is_ascii_whitespace is_pad is_symbol b o)
 some_byte b None = refl
@@ -572,8 +554,7 @@ kind_is b = kind_byte b (first_fault b) ∙ ap (kind_by (length (values b))) (by
 -- `before_fault` is the text before its first fault, or the whole text if there is no fault
 pub before_is : (b : List ℕ) → before_place b (first_fault b) ≡ before_fault false b
 unfolding before_fault
-before_is b = ap (before_place b) (first_fault_walk b)
-    ∙ before_walk is_ascii_whitespace is_pad is_symbol [] b 0 false refl
+before_is b = cc (first_fault_walk b, before_walk is_ascii_whitespace is_pad is_symbol [] b 0 false refl)
 
 -- the complete bytes are those of the groups before the fault
 pub done_is : (b : List ℕ) → complete_bytes b ≡ groups (values (before_fault false b))
@@ -654,9 +635,11 @@ pads_of_pads (suc n) = ap (λ (x : List ℕ). 61 ∷ x) (pads_of_pads n)
 -- the padding of q and then n times '=' is n times '='
 pub pads_of_text : (q : List ℕ) (n : ℕ) → Every is_symbol q → filter is_pad (q ++ replicate n 61) ≡ replicate n 61
 pads_of_text q n h =
-    filter-append is_pad q (replicate n 61)
-    ∙ ap (λ x. x ++ filter is_pad (replicate n 61)) (filter_symbols is_ascii_whitespace is_pad is_symbol classes q h)
-    ∙ pads_of_pads n
+    cc (
+      filter-append is_pad q (replicate n 61),
+      filter_symbols is_ascii_whitespace is_pad is_symbol classes q h,
+      pads_of_pads n,
+    )
 
 -- whether q and then n times '=' have padding is whether n times '=' has
 pub any_of_text : (q : List ℕ) (n : ℕ) → Every is_symbol q → list_any is_pad (q ++ replicate n 61) ≡ list_any is_pad
@@ -729,12 +712,8 @@ fault_compact b = stop_compact is_ascii_whitespace is_pad is_symbol classes b fa
 -- a valid text has no fault
 pub valid_no_fault : (b : List ℕ) → is_valid b ≡ true → fault_byte false b ≡ None
 unfolding is_valid
-valid_no_fault b h =
-    let parts = and_parts (not (eqb (length (without_padding (without_whitespace b)) % 4) 1))
-    (list_all is_symbol (without_padding (without_whitespace b))) h in
-    sym (fault_compact b)
-    ∙ unpadded_none (without_whitespace b) (fault_every (without_padding (without_whitespace b))
-    (every_list_all (without_padding (without_whitespace b)) parts.1))
+valid_no_fault b h = let parts = and_parts (not (eqb (length (without_padding (without_whitespace b)) % 4) 1))
+    (list_all is_symbol (without_padding (without_whitespace b))) h in cc (fault_compact b, unpadded_none (without_whitespace b) (fault_every (without_padding (without_whitespace b)) (every_list_all (without_padding (without_whitespace b)) parts.1)))
 
 -- a text with a fault is not valid
 pub fault_invalid : (b : List ℕ) (x : ℕ) → fault_byte false b ≡ Some x → is_valid b ≡ false
@@ -792,5 +771,4 @@ every_after (p ∷ q ∷ r ∷ s ∷ rest) h = every_after rest h.1.1.1.1
 
 -- lists whose lengths are equal modulo four stay so if the same list is appended to both
 pub length_alike : (x y : List ℕ) → length (x ++ y) % 4 ≡ length (after_groups x ++ y) % 4
-length_alike x y = sym (length-after_groups (x ++ y)) ∙ ap length (after_groups-append x y)
-    ∙ length-after_groups (after_groups x ++ y)
+length_alike x y = cc (length-after_groups (x ++ y), after_groups-append x y, length-after_groups (after_groups x ++ y))

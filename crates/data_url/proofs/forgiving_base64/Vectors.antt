@@ -115,17 +115,13 @@ places_ok g v js long e small fits =
 -- if indices below 16 are computed from bytes, a swizzle looks up the entry of each byte at its index
 pub looked_up : (t : List ℕ) (g : ℕ → ℕ) (v js : List ℕ) → length v ≡ 16 → Each1 (Fits w8) v → js ≡ map g v
     → ((x : ℕ) → x < 256 → g x < 16) → swz_l w8 16 t 0 js ≡ map (λ x. get_or t (g x) 0) v
-looked_up t g v js whole fits e small =
-    let long : length js ≡ 16 = ap length e ∙ length-map v g ∙ whole in
+looked_up t g v js whole fits e small = let long : length js ≡ 16 = ap length e ∙ length-map v g ∙ whole in
     ext_get_or 0 _ _ (length-swz_l w8 16 t 0 js ∙ long ∙ sym (length-map v (λ x. get_or t (g x) 0) ∙ whole)) (λ i h.
     let lt : i < 16 = omega (arith, length-swz_l w8 16 t 0 js) in
     let within : i < length v = omega (arith, whole) in
     let is : get_or js i 0 ≡ g (get_or v i 0) = ap (λ l. get_or l i 0) e ∙ get_or-map g v i 0 0 within in
     let below : get_or js i 0 < 16 = omega (arith, small (get_or v i 0) (lane_fits v i fits)) in
-    let place : 16 * ((0 + i) / 16) + get_or js i 0 ≡ get_or js i 0 = omega arith in
-    get_or-swz_l_below w8 16 t 0 js i (omega arith) below
-    ∙ ap (λ k. get_or t k 0) (place ∙ is)
-    ∙ sym (get_or-map (λ x. get_or t (g x) 0) v i 0 0 within))
+    let place : 16 * ((0 + i) / 16) + get_or js i 0 ≡ get_or js i 0 = omega arith in cc (get_or-swz_l_below w8 16 t 0 js i (omega arith) below, get_or-map (λ x. get_or t (g x) 0) v i 0 0 within))
 
 -- The tables are the alphabet
 
@@ -258,10 +254,12 @@ pub others_is : (v marks : List ℕ) → length v ≡ 16 → Each1 (Fits w8) v �
     (zip2 (λ a b. cond (differs a b) 255 0) marks
     (0 ∷ 0 ∷ 0 ∷ 0 ∷ 0 ∷ 0 ∷ 0 ∷ 0 ∷ 0 ∷ 0 ∷ 0 ∷ 0 ∷ 0 ∷ 0 ∷ 0 ∷ 0 ∷ []))) % 2 ^ 64 ≡ mask_l (map is_other v)
 others_is v marks long fits e =
-    bitmask_splat w8 differs marks 16 0 (ap length e ∙ length-map v mark_of ∙ long) (omega arith)
-    ∙ ap (λ l. mask_l (map (λ x. differs x 0) l)) e
-    ∙ ap mask_l (map-map (λ x. differs x 0) mark_of v)
-    ∙ ap mask_l (map_agree (λ x. differs (mark_of x) 0) is_other mark_is v fits)
+    cc (
+      bitmask_splat w8 differs marks 16 0 (ap length e ∙ length-map v mark_of ∙ long) (omega arith),
+      map-map (λ x.
+          differs x 0) mark_of v,
+      map_agree (λ x. differs (mark_of x) 0) is_other mark_is v fits,
+    )
 
 -- Rows of a text
 
@@ -323,17 +321,13 @@ unmarked_mask [] = refl
 unmarked_mask (x ∷ xs) = grind (arith, eqb, (unmarked_mask xs), cases_eq, eq-eqb, ne_eqb)
 
 or_unmarked : (x y : ℕ) → x < 256 → y < 256 → unmarked (bit_or x y) ≡ (unmarked x && unmarked y)
-or_unmarked x y a b =
-    elim (cases_eq x 0) [
-      | inl p ↦ elim (cases_eq y 0) [
-        | inl q ↦ eq-eqb (bit_or x y) 0 (omega (arith, or_add_and x y))
-            ∙ sym (ap₂ (λ s t. s && t) (eq-eqb x 0 p) (eq-eqb y 0 q))
-        | inr q ↦ ne_eqb (bit_or x y) 0 (λ e. q (omega (arith, or_add_and x y, and_le_l x y, and_le_r x y)))
-            ∙ sym (ap₂ (λ s t. s && t) (eq-eqb x 0 p) (ne_eqb y 0 q))
-      ]
-      | inr p ↦ ne_eqb (bit_or x y) 0 (λ e. p (omega (arith, or_add_and x y, and_le_l x y, and_le_r x y)))
-          ∙ sym (ap (λ s. s && unmarked y) (ne_eqb x 0 p))
-    ]
+or_unmarked x y a b = elim (cases_eq x 0) [
+  | inl p ↦ elim (cases_eq y 0) [
+    | inl q ↦ cc (eq-eqb (bit_or x y) 0 (omega (arith, or_add_and x y)), eq-eqb x 0 p, eq-eqb y 0 q)
+    | inr q ↦ cc (ne_eqb (bit_or x y) 0 (λ e. q (omega (arith, or_add_and x y, and_le_l x y, and_le_r x y))), eq-eqb x 0 p, ne_eqb y 0 q)
+  ]
+  | inr p ↦ cc (ne_eqb (bit_or x y) 0 (λ e. p (omega (arith, or_add_and x y, and_le_l x y, and_le_r x y))), ne_eqb x 0 p)
+]
 
 regroup : (p q r s : Bool) → ((p && q) && (r && s)) ≡ ((p && r) && (q && s))
 regroup true true r s = refl
@@ -416,8 +410,7 @@ pub whole_is : (text m0 m1 m2 m3 r0 r1 r2 r3 : List ℕ) → 64 ≤ length text 
     → m0 ≡ map mark_of r0 → m1 ≡ map mark_of r1 → m2 ≡ map mark_of r2 → m3 ≡ map mark_of r3
     → eqb (mask_l (map (top 7) (zip2 (λ a b. cond (differs a b) 255 0) (all_marks m0 m1 m2 m3) zeros)) % 2 ^ 64) 0
     ≡ list_all is_symbol (take 64 text)
-whole_is text m0 m1 m2 m3 r0 r1 r2 r3 long fits a b c d p q r s =
-    let e0 : m0 ≡ map mark_of (take 16 (drop 0 text)) = p ∙ ap (map mark_of) a in
+whole_is text m0 m1 m2 m3 r0 r1 r2 r3 long fits a b c d p q r s = let e0 : m0 ≡ map mark_of (take 16 (drop 0 text)) = p ∙ ap (map mark_of) a in
     let e1 : m1 ≡ map mark_of (take 16 (drop 16 text)) = q ∙ ap (map mark_of) b in
     let e2 : m2 ≡ map mark_of (take 16 (drop 32 text)) = r ∙ ap (map mark_of) c in
     let e3 : m3 ≡ map mark_of (take 16 (drop 48 text)) = s ∙ ap (map mark_of) d in
@@ -436,15 +429,7 @@ whole_is text m0 m1 m2 m3 r0 r1 r2 r3 long fits a b c d p q r s =
     let y = map mark_of (take 16 (drop 48 text)) in
     let lu = length-zip2 bit_or u v (n0 ∙ sym n1) ∙ n0 in
     let lx = length-zip2 bit_or x y (n2 ∙ sym n3) ∙ n2 in
-    let ln = length-zip2 bit_or (zip2 bit_or u v) (zip2 bit_or x y) (lu ∙ sym lx) ∙ lu in
-    ap (λ l. eqb (mask_l (map (top 7) (zip2 (λ a b. cond (differs a b) 255 0) l zeros)) % 2 ^ 64) 0) same
-    ∙ ap (λ n. eqb n 0) (bitmask_splat w8 differs (all_marks u v x y) 16 0 ln (omega arith))
-    ∙ unmarked_mask (all_marks u v x y)
-    ∙ marks_whole (take 16 (drop 0 text)) (take 16 (drop 16 text)) (take 16 (drop 32 text)) (take 16 (drop 48 text)) l0
-    l1 l2 l3
-    (chunk-fits w8 0 16 text fits) (chunk-fits w8 16 16 text fits) (chunk-fits w8 32 16 text fits)
-    (chunk-fits w8 48 16 text fits)
-    ∙ ap (list_all is_symbol) (sym (split_block text))
+    let ln = length-zip2 bit_or (zip2 bit_or u v) (zip2 bit_or x y) (lu ∙ sym lx) ∙ lu in cc (bitmask_splat w8 differs (all_marks u v x y) 16 0 ln (omega arith), unmarked_mask (all_marks u v x y), marks_whole (take 16 (drop 0 text)) (take 16 (drop 16 text)) (take 16 (drop 32 text)) (take 16 (drop 48 text)) l0 l1 l2 l3 (chunk-fits w8 0 16 text fits) (chunk-fits w8 16 16 text fits) (chunk-fits w8 32 16 text fits) (chunk-fits w8 48 16 text fits), split_block text)
 
 -- Sixteen groups
 
@@ -484,17 +469,10 @@ groups_of_rows w x y z p q r = grind (arith, groups_whole)
 values_of_rows : (text : List ℕ) → 64 ≤ length text → groups (map value_of (take 64 text))
     ≡ groups (map value_of (take 16 (drop 0 text))) ++ (groups (map value_of (take 16 (drop 16 text))) ++ (groups
     (map value_of (take 16 (drop 32 text))) ++ groups (map value_of (take 16 (drop 48 text)))))
-values_of_rows text long =
-    let w = take 16 (drop 0 text) in
+values_of_rows text long = let w = take 16 (drop 0 text) in
     let x = take 16 (drop 16 text) in
     let y = take 16 (drop 32 text) in
-    let z = take 16 (drop 48 text) in
-    ap (λ l. groups (map value_of l)) (split_block text)
-    ∙ ap groups (map-append value_of w (x ++ (y ++ z)) ∙ ap (λ l. map value_of w ++ l) (map-append value_of x (y ++ z)
-    ∙ ap (λ l. map value_of x ++ l) (map-append value_of y z)))
-    ∙ groups_of_rows (map value_of w) (map value_of x) (map value_of y) (map value_of z)
-    (length-map w value_of ∙ row_length text 0 (omega arith)) (length-map x value_of ∙ row_length text 16 (omega arith))
-    (length-map y value_of ∙ row_length text 32 (omega arith))
+    let z = take 16 (drop 48 text) in cc (split_block text, map-append value_of w (x ++ (y ++ z)), map-append value_of x (y ++ z), map-append value_of y z, groups_of_rows (map value_of w) (map value_of x) (map value_of y) (map value_of z) (length-map w value_of ∙ row_length text 0 (omega arith)) (length-map x value_of ∙ row_length text 16 (omega arith)) (length-map y value_of ∙ row_length text 32 (omega arith)))
 
 -- rows that were put one after another
 pub put_three : (b1 b2 b3 x y z : List ℕ) → take 16 b1 ≡ x → take (16 + 16) b2 ≡ take 16 b1 ++ y
@@ -505,12 +483,8 @@ put_three b1 b2 b3 x y z p q r long = sym (take_all 48 b3 (omega arith)) ∙ r �
 pub row_put : (at n : ℕ) (old new row bytes : List ℕ) → at + 16 ≤ length old → n ≤ 16
     → take (at + 16) new ≡ take at old ++ row → take n row ≡ bytes → take (at + n) new ≡ take at old ++ bytes
 row_put at n old new row bytes room few e is =
-    let size : at + n ≡ length (take at old) + n = omega (arith, length-take-le at old (omega arith)) in
-    sym (take-take (at + n) (at + 16) new (omega arith))
-    ∙ ap (take (at + n)) e
-    ∙ ap (λ n. take n (take at old ++ row)) size
-    ∙ take-append-add (take at old) row n
-    ∙ ap (λ l. take at old ++ l) is
+    let size : at + n ≡ length (take at old) + n = omega (arith, length-take-le at old (omega arith)) in cc
+    (take-take (at + n) (at + 16) new (omega arith), take-append-add (take at old) row n)
 
 -- if the first 12 bytes of four rows are those of their groups, joined they are those of all 16 groups
 pub decoded_block : (text a b c d r0 r1 r2 r3 bytes : List ℕ) → 64 ≤ length text → length a ≡ 16 → length b ≡ 16

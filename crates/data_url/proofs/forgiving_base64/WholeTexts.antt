@@ -81,17 +81,13 @@ module _ {F E : Type 0} (step : F → List ℕ → Result (Unit {0}) E → F →
   -- fed and finished
   fed_finished : {d d' : State F} {u : List ℕ} {r : Result (Unit {0}) (DecodeError E)} {f' : F}
       → Feeds step d u (Ok tt) d' → left_over d ++ u ≡ u → Finishes step d' r f' → DecodesText step d.closure u r f'
-  fed_finished {d} {d'} {u} {r} {f'} f same g =
-      let k = feeds_took step f in
+  fed_finished {d} {d'} {u} {r} {f'} f same g = let k = feeds_took step f in
       let taken : joined_pieces f.run ≡ complete_bytes u = k.1.bytes_are ∙ ap complete_bytes same in
       let G : List ℕ → Type 0 = λ w. GoesOn w [] (left_over d' ++ []) in
       let on : G u = subst G same (feeds_goes_on step [] f) in
-      let valid : is_valid u ≡ is_valid (left_over d') = ap is_valid (sym (append-nil u)) ∙ on.valid_is
-      ∙ ap is_valid (append-nil (left_over d')) in
-      let kind : kind_of u ≡ kind_of (left_over d') = ap kind_of (sym (append-nil u)) ∙ on.kind_is
-      ∙ ap kind_of (append-nil (left_over d')) in
-      let all : decoded u ≡ complete_bytes u ++ decoded (left_over d') = ap decoded (sym (append-nil u)) ∙ on.decoded_is
-      ∙ ap (λ w. complete_bytes u ++ decoded w) (append-nil (left_over d')) in
+      let valid : is_valid u ≡ is_valid (left_over d') = cc (append-nil u, on.valid_is, append-nil (left_over d')) in
+      let kind : kind_of u ≡ kind_of (left_over d') = cc (append-nil u, on.kind_is, append-nil (left_over d')) in
+      let all : decoded u ≡ complete_bytes u ++ decoded (left_over d') = cc (append-nil u, on.decoded_is, append-nil (left_over d')) in
       let bytes : joined_pieces (f.run ++ g.run) ≡ complete_bytes u ++ joined_pieces g.run =
       joined_pieces-append f.run g.run ∙ ap (λ x. x ++ joined_pieces g.run) taken in
       record {
@@ -126,8 +122,7 @@ module _ {F E : Type 0} (step : F → List ℕ → Result (Unit {0}) E → F →
               | inr (v, h) ↦
                   match_none (refusal g.run) _ _ (ap refusal h.0)
                   (bool_at_false (is_valid u) _ _ (valid ∙ v) (
-                    bytes ∙ ap (λ x. complete_bytes u ++ joined_pieces x) h.0
-                        ∙ append-nil (complete_bytes u),
+                    cc (h.0, append-nil (complete_bytes u)),
                     h.1 ∙ ap (λ z. Err (InvalidBase64 z)) (sym kind),
                   ))
             ]);

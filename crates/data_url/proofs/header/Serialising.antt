@@ -89,17 +89,13 @@ suffix_stops p s m n e at =
 -- without these, and then byte n
 pub dropped_end : (s : List ℕ) (m n : ℕ) → m ≡ suffix_len is_tab_or_newline s → length s ≡ (n + 1) + m
     → without_tabs_and_newlines s ≡ without_tabs_and_newlines (take n s) ++ get_or s n 0 ∷ []
-dropped_end s m n e at =
-    let l : n < length s = omega arith in
+dropped_end s m n e at = let l : n < length s = omega arith in
     let kept = suffix_stops is_tab_or_newline s m n e at in
-    let parts : s ≡ take n s ++ get_or s n 0 ∷ drop (n + 1) s = sym (take-append-drop n s)
-    ∙ ap (λ t. take n s ++ t) (drop_more s n 0 l) in
+    let parts : s ≡ take n s ++ get_or s n 0 ∷ drop (n + 1) s = cc (take-append-drop n s, drop_more s n 0 l) in
     let none : without_tabs_and_newlines (drop (n + 1) s) ≡ [] = all_dropped (drop (n + 1) s) (λ k w.
     let within : (n + 1) + k < length s = omega (arith, length-drop (n + 1) s) in
     subst (λ v. is_tab_or_newline v ≡ true) (sym (get_or-drop (n + 1) s k 0))
-    (suffix_passes is_tab_or_newline s m ((n + 1) + k) e (omega arith) within)) in
-    ap without_tabs_and_newlines parts ∙ dropped_around (get_or s n 0) kept (take n s) (drop (n + 1) s)
-    ∙ ap (λ t. without_tabs_and_newlines (take n s) ++ get_or s n 0 ∷ t) none
+    (suffix_passes is_tab_or_newline s m ((n + 1) + k) e (omega arith) within)) in cc (dropped_around (get_or s n 0) kept (take n s) (drop (n + 1) s))
 
 -- if a path ends with a space at index n and then only tabs and newlines, the first n bytes are the path without its
 -- last space
@@ -186,17 +182,11 @@ pub cut_at_query : (text : List ℕ) (n : ℕ) → n ≡ prefix_len is_no_questi
 cut_at_query text n e = record {
   joined = sym (take-append-drop n text);
   path_ends = after_none 63 (take n text) (λ k l.
-      let below : k < n = omega (arith, length-take n text) in
-      ap (λ v. v == 63) (get_or-take n text k 0 below)
-      ∙ is_false _ (prefix_len_passes is_no_question_mark text k 0 (subst (λ m. k < m) e below)));
+      let below : k < n = omega (arith, length-take n text) in cc (get_or-take n text k 0 below, is_false _ (prefix_len_passes is_no_question_mark text k 0 (subst (λ m. k < m) e below))));
   query_begins = ⊎_elim
       (λ (l : n < length text). inr (
         drop (n + 1) text,
-        drop_more text n 0 l
-            ∙ ap (λ b. b ∷ drop (n + 1) text)
-            (eqb-true (get_or text n 0) 63
-            (is_true _ (subst (λ m. is_no_question_mark (get_or text m 0) ≡ false) (sym e)
-            (prefix_len_stops is_no_question_mark text 0 (subst (λ m. m < length text) e l))))),
+        cc (drop_more text n 0 l, eqb-true (get_or text n 0) 63 (is_true _ (subst (λ m. is_no_question_mark (get_or text m 0) ≡ false) (sym e) (prefix_len_stops is_no_question_mark text 0 (subst (λ m. m < length text) e l))))),
       ))
       (λ (l : length text ≤ n). inl (drop_all n text l))
       (cases_lt n (length text));
@@ -234,12 +224,9 @@ not_space b h = let l : 32 < b = leb-false b 32 h in ne_eqb b 32 (λ e. omega (a
 -- dropping tabs and newlines keeps the last byte
 ends_dropped : (s : List ℕ) → Ends s → Ends (without_tabs_and_newlines s)
 ends_dropped s (nothing e) = nothing (ap without_tabs_and_newlines e ∙ dropped_nil)
-ends_dropped s (last init b e h) =
-    let one : without_tabs_and_newlines (b ∷ []) ≡ b ∷ [] = dropped_keeps b [] (not_tab b h)
-    ∙ ap (λ t. b ∷ t) dropped_nil in
+ends_dropped s (last init b e h) = let one : without_tabs_and_newlines (b ∷ []) ≡ b ∷ [] = cc (dropped_keeps b [] (not_tab b h), dropped_nil) in
     last (without_tabs_and_newlines init) b
-    (ap without_tabs_and_newlines e ∙ without_tabs_and_newlines-append init (b ∷ [])
-    ∙ ap (λ t. without_tabs_and_newlines init ++ t) one) h
+    (cc (without_tabs_and_newlines-append init (b ∷ []))) h
 
 drop_nothing : (n : ℕ) → ◌≡◌ {A = List ℕ} (drop n []) []
 drop_nothing n = drop_of_length-le [] (omega arith)
@@ -308,8 +295,7 @@ differs_last path init b e = elim (cases_Bool (b == 32)) [
   | inl h ↦
       let is : path ≡ init ++ 32 ∷ [] = e ∙ ap (λ c. init ++ c ∷ []) (eqb-true b 32 h) in
       last_space (percent_encoding in_path_set init) (ap encoded_path is ∙ path_space init)
-      (ap (percent_encoding in_path_set) is ∙ percent_encoding-append in_path_set init (32 ∷ [])
-      ∙ ap (λ t. percent_encoding in_path_set init ++ t) space_encoded)
+      (cc (percent_encoding-append in_path_set init (32 ∷ []), space_encoded))
   | inr h ↦ same_path (ap encoded_path e ∙ path_other init b h ∙ sym (ap (percent_encoding in_path_set) e))
 ]
 
@@ -342,9 +328,7 @@ flag_after : (u v query : List ℕ) → after 44 u ≡ None → after 44 v ≡ N
 flag_after u v query h k None e =
     ap (option_map has_base64_suffix) (comma_after u query h None e ∙ sym (comma_after v query k None e))
 flag_after u v query h k (Some rest) e =
-    ap (option_map has_base64_suffix) (comma_after u query h (Some rest) e)
-    ∙ ap Some (same_flag u v (before 44 query))
-    ∙ sym (ap (option_map has_base64_suffix) (comma_after v query k (Some rest) e))
+    cc (comma_after u query h (Some rest) e, same_flag u v (before 44 query), comma_after v query k (Some rest) e)
 
 no_comma_in_escape : after 44 (codes "%20") ≡ None
 unfolding after

@@ -133,9 +133,7 @@ low_is_space b h = grind (arith, cases_Bool, le-leb, eqb-true, lt-leb, eqb-false
 
 low_front : (s : List ℕ) → IsPrintable s → prefix_len is_c0_control_or_space s ≡ prefix_len is_space s
 low_front [] h = refl
-low_front (b ∷ s) h =
-    ap (λ v. cond v (1 + prefix_len is_c0_control_or_space s) 0) (low_is_space b (h 0 (omega arith)).0)
-    ∙ ap (λ n. cond (is_space b) (1 + n) 0) (low_front s (λ i l. h (suc i) (omega arith)))
+low_front (b ∷ s) h = cc (low_is_space b (h 0 (omega arith)).0, low_front s (λ i l. h (suc i) (omega arith)))
 
 -- in a printable text, the longest suffix of C0 controls and spaces is as long as that of spaces
 pub low_end : (s : List ℕ) → IsPrintable s → suffix_len is_c0_control_or_space s ≡ suffix_len is_space s
@@ -216,22 +214,12 @@ scheme_length scheme e = sym (length-map (without_tabs_and_newlines scheme) to_a
 pub after_is : (t rest : List ℕ) (h : IsSchemeAndRest (trimmed_text t) rest)
     → after_scheme t ≡ Some (without_tabs_and_newlines rest)
 unfolding after_scheme cleaned_text
-after_is t rest h =
-    let parts : without_tabs_and_newlines (trimmed_text t) ≡ without_tabs_and_newlines
-    h.scheme ++ without_tabs_and_newlines rest = ap without_tabs_and_newlines h.joined
-    ∙ without_tabs_and_newlines-append h.scheme rest in
+after_is t rest h = let parts : without_tabs_and_newlines (trimmed_text t) ≡ without_tabs_and_newlines
+    h.scheme ++ without_tabs_and_newlines rest = cc (h.joined, without_tabs_and_newlines-append h.scheme rest) in
     let five = scheme_length h.scheme h.spelled in
-    let first : map to_ascii_lowercase (take 5 (without_tabs_and_newlines (trimmed_text t))) ≡ codes "data:" =
-    ap (λ s. map to_ascii_lowercase (take 5 s)) parts
-    ∙ ap (map to_ascii_lowercase) (take_at (without_tabs_and_newlines h.scheme) (without_tabs_and_newlines rest) 5
-    five) ∙ h.spelled in
+    let first : map to_ascii_lowercase (take 5 (without_tabs_and_newlines (trimmed_text t))) ≡ codes "data:" = cc (take_at (without_tabs_and_newlines h.scheme) (without_tabs_and_newlines rest) 5 five, h.spelled) in
     let others : drop 5 (without_tabs_and_newlines (trimmed_text t)) ≡ without_tabs_and_newlines rest =
-    ap (drop 5) parts ∙ drop_at (without_tabs_and_newlines h.scheme) (without_tabs_and_newlines rest) 5 five in
-    cond-true (bytes_eq (map to_ascii_lowercase (take 5 (without_tabs_and_newlines (trimmed_text t)))) (codes "data:"))
-    (Some (drop 5 (without_tabs_and_newlines (trimmed_text t)))) None
-    ((bytes_eq-Decides (map to_ascii_lowercase (take 5 (without_tabs_and_newlines (trimmed_text t))))
-    (codes "data:")).1 first)
-    ∙ ap (λ (s : List ℕ). Some s) others
+    ap (drop 5) parts ∙ drop_at (without_tabs_and_newlines h.scheme) (without_tabs_and_newlines rest) 5 five in cc (cond-true (bytes_eq (map to_ascii_lowercase (take 5 (without_tabs_and_newlines (trimmed_text t)))) (codes "data:")) (Some (drop 5 (without_tabs_and_newlines (trimmed_text t)))) None ((bytes_eq-Decides (map to_ascii_lowercase (take 5 (without_tabs_and_newlines (trimmed_text t)))) (codes "data:")).1 first))
 
 -- if the trimmed text does not begin with the scheme, there is no text after the scheme
 pub after_none : (t : List ℕ) → HasNoScheme (trimmed_text t) → after_scheme t ≡ None
@@ -298,19 +286,14 @@ tail_is_of t rest header tail s h = grind (arith, after-append, scheme_has_no_co
 pub is_accepted : (t rest header tail : List ℕ) → IsBytes rest → IsSchemeAndRest (trimmed_text t) rest
     → IsHeaderAndTail rest header tail → IsAccepted t header tail
 unfolding header_of encoded_body front
-is_accepted t rest header tail b s h =
-    let staged = is_staged rest header tail h in
+is_accepted t rest header tail b s h = let staged = is_staged rest header tail h in
     let f = front_of t (without_tabs_and_newlines rest) (after_is t rest s) in
     let bytes = bytes_before 35 (without_tabs_and_newlines rest) (bytes_dropped rest b) in
     let k = has_tail (front (without_tabs_and_newlines rest)) (without_tabs_and_newlines header)
     (front (without_tabs_and_newlines tail)) bytes staged.front_is staged.lacks_comma in
     record {
       body = k.rest;
-      header_is = ap (option_and_then before_comma) f
-          ∙ ap (option_map (λ r. before 44 (serialised (front (without_tabs_and_newlines rest))))) k.is
-          ∙ ap (λ (x : List ℕ). Some x) (ap (λ x. before 44 (serialised x)) staged.front_is
-          ∙ before-serialised (without_tabs_and_newlines header) (front (without_tabs_and_newlines tail))
-          staged.lacks_comma);
+      header_is = cc (k.is, staged.front_is, before-serialised (without_tabs_and_newlines header) (front (without_tabs_and_newlines tail)) staged.lacks_comma);
       body_is = ap (option_and_then (after 44)) f ∙ k.is;
       decoded_is = recoded-decoded k.recoded;
       tail_is = tail_is_of t rest header tail s h;
@@ -347,13 +330,8 @@ front_lacks rest h = grind (arith, before-without_tabs_and_newlines, after-dropp
 pub no_header : (t rest : List ℕ) → IsBytes rest → IsSchemeAndRest (trimmed_text t) rest → after 44 (front rest) ≡ None
     → header_of t ≡ None
 unfolding header_of front
-no_header t rest b s h =
-    let raw : after 44 (front (without_tabs_and_newlines rest)) ≡ None = front_lacks rest h in
-    let bytes = bytes_before 35 (without_tabs_and_newlines rest) (bytes_dropped rest b) in
-    ap (option_and_then before_comma) (front_of t (without_tabs_and_newlines rest) (after_is t rest s))
-    ∙ ap (option_map (λ r. before 44 (serialised (front (without_tabs_and_newlines rest)))))
-    (no_tail_of (front (without_tabs_and_newlines rest)) (serialised (front (without_tabs_and_newlines rest))) raw
-    (recoded_tails (serialised_recoded (front (without_tabs_and_newlines rest)) bytes)))
+no_header t rest b s h = let raw : after 44 (front (without_tabs_and_newlines rest)) ≡ None = front_lacks rest h in
+    let bytes = bytes_before 35 (without_tabs_and_newlines rest) (bytes_dropped rest b) in cc (front_of t (without_tabs_and_newlines rest) (after_is t rest s), no_tail_of (front (without_tabs_and_newlines rest)) (serialised (front (without_tabs_and_newlines rest))) raw (recoded_tails (serialised_recoded (front (without_tabs_and_newlines rest)) bytes)))
 
 -- The record of a header.
 
@@ -540,10 +518,7 @@ rest_bytes t rest b s = (bytes_append s.scheme rest (subst IsBytes s.joined b)).
 pub stages_no_comma : (t rest : List ℕ) → IsBytes (trimmed_text t) → IsSchemeAndRest (trimmed_text t) rest
     → after 44 (front rest) ≡ None → staged t ≡ NoComma
 unfolding staged
-stages_no_comma t rest b s h =
-    ap (staged_after t) (after_is t rest s)
-    ∙ ap (λ o. staged_parts (fragment (without_tabs_and_newlines rest)) o (encoded_body t))
-    (no_header t rest (rest_bytes t rest b s) s h)
+stages_no_comma t rest b s h = cc (after_is t rest s, no_header t rest (rest_bytes t rest b s) s h)
 
 -- if the trimmed text is the scheme, a header, the first comma, and a tail, the Standard accepts it; the MIME type is
 -- that of the header, and the body and the fragment are those of the tail
@@ -553,18 +528,8 @@ pub stages_accepted : (t rest header tail : List ℕ) → IsBytes (trimmed_text 
     → staged t ≡ Accepted (mime_text (header_text (without_tabs_and_newlines header))) (outcome flag (plain_body tail))
     (option_map (percent_encoding in_fragment_set) (fragment (without_tabs_and_newlines tail)))
 unfolding staged plain_body
-stages_accepted t rest header tail b s h flag f =
-    let a = is_accepted t rest header tail (rest_bytes t rest b s) s h in
-    let text = header_text (without_tabs_and_newlines header) in
-    ap (staged_after t) (after_is t rest s)
-    ∙ ap (λ o. staged_parts (fragment (without_tabs_and_newlines rest)) o (encoded_body t)) a.header_is
-    ∙ ap (staged_parts (fragment (without_tabs_and_newlines rest)) (Some text)) a.body_is
-    ∙ ap (λ o. Accepted (mime_text text) (outcome (has_base64_suffix text) (percent_decoding a.body))
-    (option_map (percent_encoding in_fragment_set) o)) (is_staged rest header tail h).fragment_is
-    ∙ ap (λ x. Accepted (mime_text text) (outcome (has_base64_suffix text) x)
-    (option_map (percent_encoding in_fragment_set) (fragment (without_tabs_and_newlines tail)))) a.decoded_is
-    ∙ ap (λ v. Accepted (mime_text text) (outcome v (percent_decoding (front (without_tabs_and_newlines tail))))
-    (option_map (percent_encoding in_fragment_set) (fragment (without_tabs_and_newlines tail)))) (sym f)
+stages_accepted t rest header tail b s h flag f = let a = is_accepted t rest header tail (rest_bytes t rest b s) s h in
+    let text = header_text (without_tabs_and_newlines header) in cc (after_is t rest s, a.header_is, a.body_is, (is_staged rest header tail h).fragment_is, a.decoded_is)
 
 -- if the trimmed text is the scheme, a header, the first comma, and a tail, the Standard accepts it
 pub is_acceptable : (t rest header tail : List ℕ) → IsBytes (trimmed_text t) → IsSchemeAndRest (trimmed_text t) rest
@@ -583,8 +548,7 @@ body_of t header tail a = ap (option_map percent_decoding) a.body_is ∙ ap (λ 
 -- the fragment of the Standard is the fragment of the tail; if one is missing, so is the other
 fragment_of : (t rest header tail : List ℕ) → IsSchemeAndRest (trimmed_text t) rest → IsHeaderAndTail rest header tail
     → option_map fragment (after_scheme t) ≡ Some (fragment (without_tabs_and_newlines tail))
-fragment_of t rest header tail s h = ap (option_map fragment) (after_is t rest s)
-    ∙ ap (λ (x : Option (List ℕ)). Some x) (is_staged rest header tail h).fragment_is
+fragment_of t rest header tail s h = cc (after_is t rest s, (is_staged rest header tail h).fragment_is)
 
 -- if the trimmed text is the scheme, a header, the first comma, and the tail of u, and the record and the flag of u are
 -- those of the header, then u is the URL of the text

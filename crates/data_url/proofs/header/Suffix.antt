@@ -76,26 +76,14 @@ before_one s n l = grind (arith, length-take-le, take-take)
 -- if the byte before the spaces and the word is not ';', there is no base64 suffix
 pub no_semicolon : (s : List ℕ) (n spaces m : ℕ) → IsPrintable s → HasWord s n spaces → n - spaces ≡ m + 1
     → get_or s m 0 ≢ 59 → before_base64 s ≡ None
-no_semicolon s n spaces m p h e ne =
-    let six = h.six in
-    let within : m < length s = omega arith in
-    after_word s n spaces p h ∙ ap (λ k. before_semicolon (take k s)) e
-    ∙ cond-false (bytes_eq (last_bytes 1 (take (m + 1) s)) semicolon) (Some (before_last 1 (take (m + 1) s))) None
-    (false_from_ne_true (bytes_eq (last_bytes 1 (take (m + 1) s)) semicolon) (λ k.
-    let same : get_or s m 0 ∷ [] ≡ semicolon = sym (last_one s m within)
-    ∙ (bytes_eq-Decides (last_bytes 1 (take (m + 1) s)) semicolon).0 k in
-    ne (ap (λ t. get_or t 0 0) same)))
+no_semicolon s n spaces m p h e ne = let six = h.six in
+    let within : m < length s = omega arith in cc (after_word s n spaces p h, cond-false (bytes_eq (last_bytes 1 (take (m + 1) s)) semicolon) (Some (before_last 1 (take (m + 1) s))) None (false_from_ne_true (bytes_eq (last_bytes 1 (take (m + 1) s)) semicolon) (λ k. let same : get_or s m 0 ∷ [] ≡ semicolon = sym (last_one s m within) ∙ (bytes_eq-Decides (last_bytes 1 (take (m + 1) s)) semicolon).0 k in ne (ap (λ t. get_or t 0 0) same))))
 
 -- if the byte before the spaces and the word is a ';' at index m, the text before the suffix is the first m bytes
 pub with_semicolon : (s : List ℕ) (n spaces m : ℕ) → IsPrintable s → HasWord s n spaces → n - spaces ≡ m + 1
     → get_or s m 0 ≡ 59 → before_base64 s ≡ Some (take m s)
-with_semicolon s n spaces m p h e is =
-    let six = h.six in
-    let within : m < length s = omega arith in
-    after_word s n spaces p h ∙ ap (λ k. before_semicolon (take k s)) e
-    ∙ cond-true (bytes_eq (last_bytes 1 (take (m + 1) s)) semicolon) (Some (before_last 1 (take (m + 1) s))) None
-    ((bytes_eq-Decides (last_bytes 1 (take (m + 1) s)) semicolon).1 (last_one s m within ∙ ap (λ b. b ∷ []) is))
-    ∙ ap (λ (t : List ℕ). Some t) (before_one s m within)
+with_semicolon s n spaces m p h e is = let six = h.six in
+    let within : m < length s = omega arith in cc (after_word s n spaces p h, cond-true (bytes_eq (last_bytes 1 (take (m + 1) s)) semicolon) (Some (before_last 1 (take (m + 1) s))) None ((bytes_eq-Decides (last_bytes 1 (take (m + 1) s)) semicolon).1 (last_one s m within ∙ ap (λ b. b ∷ []) is)), before_one s m within)
 
 -- The base64 suffix of a header with a query comes after its '?'.
 
@@ -103,16 +91,8 @@ with_semicolon s n spaces m p h e is =
 
 -- if b does not pass, the longest suffix of x ++ b ∷ q that passes is as long as that of q
 pub suffix_stop : (p : ℕ → Bool) (x q : List ℕ) (b : ℕ) → p b ≡ false → suffix_len p (x ++ b ∷ q) ≡ suffix_len p q
-suffix_stop p x q b f =
-    let none : prefix_len p (b ∷ reverse x) ≡ 0 = prefix_len-drop_no p (b ∷ reverse x) 0 0 (omega arith) f in
-    let turned : reverse (x ++ b ∷ q) ≡ reverse q ++ b ∷ reverse x = reverse-append x (b ∷ q)
-    ∙ ap (λ t. t ++ reverse x) (reverse-append (b ∷ []) q) ∙ append_assoc (reverse q) (b ∷ []) (reverse x) in
-    ap (prefix_len p) turned ∙ prefix_len-append p (reverse q) (b ∷ reverse x)
-    ∙ cond_both (eqb (prefix_len p (reverse q)) (length (reverse q)))
-    (length (reverse q) + prefix_len p (b ∷ reverse x)) (prefix_len p (reverse q))
-    (λ v. v ≡ prefix_len p (reverse q))
-    (λ e. let k : prefix_len p (reverse q) ≡ length (reverse q) = eqb-true _ _ e in omega (arith, k, none))
-    (λ e. refl)
+suffix_stop p x q b f = let none : prefix_len p (b ∷ reverse x) ≡ 0 = prefix_len-drop_no p (b ∷ reverse x) 0 0 (omega arith) f in
+    let turned : reverse (x ++ b ∷ q) ≡ reverse q ++ b ∷ reverse x = cc (reverse-append x (b ∷ q), reverse-append (b ∷ []) q, append_assoc (reverse q) (b ∷ []) (reverse x)) in cc (prefix_len-append p (reverse q) (b ∷ reverse x), cond_both (eqb (prefix_len p (reverse q)) (length (reverse q))) (length (reverse q) + prefix_len p (b ∷ reverse x)) (prefix_len p (reverse q)) (λ v. v ≡ prefix_len p (reverse q)) (λ e. let k : prefix_len p (reverse q) ≡ length (reverse q) = eqb-true _ _ e in omega (arith, k, none)) (λ e. refl))
 
 front_stop : (p : ℕ → Bool) (x q : List ℕ) (b : ℕ) → p b ≡ false → prefix_len p (x ++ b ∷ q) ≤ length x
 front_stop p x q b f = grind (arith, prefix_len-drop_no, prefix_len-append, cond_both, eqb, prefix_len-le-length)
@@ -163,11 +143,9 @@ too_near x q l = no_word (x ++ 63 ∷ q) (λ e.
     let size : length s ≡ length x + suc (length q) = length-append x (63 ∷ q) in
     let place = length x - skipped in
     let whole : skipped + place ≡ length x = omega (arith, size) in
-    let here : get_or (drop skipped s) place 0 ≡ 63 = get_or-drop skipped s place 0 ∙ ap (λ n. get_or s n 0) whole
-    ∙ mark_at x q in
+    let here : get_or (drop skipped s) place 0 ≡ 63 = cc (get_or-drop skipped s place 0, mark_at x q) in
     let within : place < length (drop skipped s) = omega (arith, size, length-drop skipped s) in
-    no_mark place (ap (λ t. get_or t place 0) (sym e) ∙ get_or-map to_ascii_lowercase (drop skipped s) place 0 0 within
-    ∙ ap to_ascii_lowercase here))
+    no_mark place (cc (get_or-map to_ascii_lowercase (drop skipped s) place 0 0 within)))
 
 -- The whole
 
@@ -193,10 +171,12 @@ by_word x (Some m) = grind (arith, append_assoc, end_after, semicolon_after)
 suffix_after : (x q : List ℕ) → 6 ≤ length q → is_some (before_base64 (x ++ 63 ∷ q)) ≡ after_mark (before_word q)
 unfolding before_base64
 suffix_after x q l =
-    let f : List ℕ → Option (List ℕ) = λ m. before_semicolon (without_end is_space m) in
-    ap (λ s. is_some (option_and_then f (before_word s))) (sym (append_assoc x (63 ∷ []) q))
-    ∙ ap (λ o. is_some (option_and_then f o)) (word_after (x ++ 63 ∷ []) q l)
-    ∙ by_word x (before_word q)
+    let f : List ℕ → Option (List ℕ) = λ m. before_semicolon (without_end is_space m) in cc (
+      append_assoc x (63 ∷ [])
+          q,
+      word_after (x ++ 63 ∷ []) q l,
+      by_word x (before_word q),
+    )
 
 same_suffix : (x z q : List ℕ) → is_some (before_base64 (x ++ 63 ∷ q)) ≡ is_some (before_base64 (z ++ 63 ∷ q))
 same_suffix x z q = grind (arith, ⊎_elim, too_near, suffix_after, cases_lt)

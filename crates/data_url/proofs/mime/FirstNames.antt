@@ -43,10 +43,7 @@ use Rattle.data_url.proofs.mime.Items.{some_items}
 pub among_first : (n : List ℕ) (items : List (String _ × String _)) (kept : KeptParameters) (k : ℕ)
     → k ≡ min LOOKED_THROUGH (length items) → items ≡ kept.pairs.items
     → has_name n (map (λ p. pair_of p) (take k items)) ≡ has_name n (first_of (pairs_of kept))
-among_first n items kept k e f =
-    ap (λ s. has_name n (map (λ p. pair_of p) s)) (ap (λ i. take i items) e ∙ take_min LOOKED_THROUGH items)
-    ∙ ap (has_name n) (sym (take-map (λ p. pair_of p) LOOKED_THROUGH items))
-    ∙ ap (λ s. has_name n (take LOOKED_THROUGH (map (λ p. pair_of p) s))) f
+among_first n items kept k e f = cc (take_min LOOKED_THROUGH items, take-map (λ p. pair_of p) LOOKED_THROUGH items)
 
 -- Which pairs are kept.
 
@@ -96,9 +93,11 @@ lowercase_name t h = grind (arith, and_from, token_text_lower, test_from_equal, 
 pub lower_chars : (bs : List ℕ) → IsUtf8 bs → is_token_text (chars bs) ≡ true
     → chars (map to_ascii_lowercase bs) ≡ map to_ascii_lowercase (chars bs)
 lower_chars bs u h =
-    let a = token_text_ascii bs (token_text_chars bs u ∙ h) in
-    chars-IsAscii (map to_ascii_lowercase bs) (IsAscii-map to_ascii_lowercase bs lowercase_ascii a)
-    ∙ ap (map to_ascii_lowercase) (sym (chars-IsAscii bs a))
+    let a = token_text_ascii bs (token_text_chars bs u ∙ h) in cc (
+      chars-IsAscii (map to_ascii_lowercase bs)
+          (IsAscii-map to_ascii_lowercase bs lowercase_ascii a),
+      chars-IsAscii bs a,
+    )
 
 -- Names compared in any case
 
@@ -167,8 +166,7 @@ pub look_goes_on : {A B : Type 0} (n : List ℕ) (pairs : List (String A × Stri
     → i < length pairs → item ≡ get_or pairs i item → bytes_eq (code_points item.0) n ≡ false
     → has_name n (map (λ p. pair_of p) (drop i pairs)) ≡ has_name n (map (λ p. pair_of p) pairs)
     → has_name n (map (λ p. pair_of p) (drop (i + 1) pairs)) ≡ has_name n (map (λ p. pair_of p) pairs)
-look_goes_on n pairs i item l e t h = ap (λ b. b || has_name n (map (λ p. pair_of p) (drop (i + 1) pairs))) (sym t)
-    ∙ sym (look_step n pairs i item l e) ∙ h
+look_goes_on n pairs i item l e t h = cc (look_step n pairs i item l e)
 
 -- What one more item adds
 
@@ -346,12 +344,9 @@ keeps_end whole rest pairs k e = (k.items, subst (Items whole) (append-nil k.ite
 -- if all names are lower-case, so are those of the first k pairs
 pub lower_first : {A B : Type 0} (pairs : List (String A × String B)) (k : ℕ)
     → HasLowercaseNames (map (λ p. pair_of p) pairs) → HasLowercaseNames (map (λ p. pair_of p) (take k pairs))
-lower_first pairs k h =
-    let test : Pair → Bool = λ p. is_lowercase_name p.0 in
+lower_first pairs k h = let test : Pair → Bool = λ p. is_lowercase_name p.0 in
     let all = map (λ p. pair_of p) pairs in
-    let e = sym (list_all-append test (take k all) (drop k all)) ∙ ap (list_all test) (take-append-drop k all) ∙ h in
-    ap (list_all test) (sym (take-map (λ p. pair_of p) k pairs))
-    ∙ (and_parts (list_all test (take k all)) (list_all test (drop k all)) e).0
+    let e = sym (list_all-append test (take k all) (drop k all)) ∙ ap (list_all test) (take-append-drop k all) ∙ h in cc (take-map (λ p. pair_of p) k pairs, (and_parts (list_all test (take k all)) (list_all test (drop k all)) e).0)
 
 first_or_later : (n : List ℕ) (pairs : List Pair)
     → has_name n pairs ≡ (has_name n (first_of pairs) || has_name n (drop LOOKED_THROUGH pairs))
@@ -398,9 +393,7 @@ first_names later pairs p l h n = h n ∙ few_names n pairs (omega arith)
 pub set_knows : {A : Type 0} (later : BTreeSet (String A)) (pairs : List Pair) (p : Pair) (name : String A) (b : Bool)
     → HasLaterNames later pairs → string_bytes name ≡ p.0 → has_name p.0 (first_of pairs) ≡ false
     → b ≡ not (contains string_cmp later name) → b ≡ not (has_name p.0 pairs)
-set_knows later pairs p name b h e f a = a
-    ∙ ap not (h (string_bytes name) ∙ ap (λ n. has_name n (drop LOOKED_THROUGH pairs)) e
-    ∙ sym (named_later p.0 pairs f))
+set_knows later pairs p name b h e f a = cc (h (string_bytes name), named_later p.0 pairs f)
 
 or_cond : (b x : Bool) → cond b true x ≡ (x || b)
 or_cond true true = refl
@@ -414,12 +407,15 @@ pub later_names : {A : Type 0} (later later' : BTreeSet (String A)) (pairs : Lis
     → UpdatesBy string_cmp (λ k. slice_cmp nat_cmp (string_bytes name) (string_bytes k)) later later' true
     → HasLaterNames later' (pairs ++ (p ∷ []))
 later_names later later' pairs p name l h e u n =
-    btree_set_updates_text (string_bytes name) later later' true u n
-    ∙ or_cond (bytes_eq (string_bytes name) n) (contains_text later n)
-    ∙ ap (λ b. b || bytes_eq (string_bytes name) n) (h n)
-    ∙ ap (λ s. has_name n (drop LOOKED_THROUGH pairs) || bytes_eq s n) e
-    ∙ sym (has_pushed n (drop LOOKED_THROUGH pairs) p)
-    ∙ ap (has_name n) (sym (drop-append-le LOOKED_THROUGH pairs (p ∷ []) l))
+    cc (
+      btree_set_updates_text (string_bytes name) later later' true u n,
+      or_cond (bytes_eq (string_bytes name) n)
+          (contains_text later n),
+      h n,
+      has_pushed n (drop LOOKED_THROUGH pairs) p,
+      drop-append-le LOOKED_THROUGH pairs (p
+          ∷ []) l,
+    )
 
 -- if a pair with a lower-case name is pushed, and the set has the names of the later pairs, the pairs stay indexed
 pub indexed_more : (kept kept' : KeptParameters) (p : Pair) → IsIndexed kept → is_lowercase_name p.0 ≡ true

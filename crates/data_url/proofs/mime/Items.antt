@@ -152,8 +152,7 @@ is_quoted_reading s v None h = record {
 }
 is_quoted_reading s v (Some w) h = record {
   tail = 61 ∷ 34 ∷ (h.0 ++ (34 ∷ front_of in_value w));
-  joined = ap (λ x. 61 ∷ 34 ∷ x) (h.1 ∙ ap (λ x. h.0 ++ (34 ∷ x)) (front_joined in_value w)
-      ∙ sym (append_assoc h.0 (34 ∷ front_of in_value w) (after_front in_value w)));
+  joined = ap (λ x. 61 ∷ 34 ∷ x) (cc (h.1, front_joined in_value w, append_assoc h.0 (34 ∷ front_of in_value w) (after_front in_value w)));
   gives = quoted h.0 (front_of in_value w) h.2 (front_passes in_value w);
   begins = begins_after w;
 }
@@ -263,14 +262,12 @@ reading_of_parts : (gap name tail rest : List ℕ) (value : Option (List ℕ)) �
     → DoesNotBegin is_http_whitespace name → Every in_name name → GivesValue tail rest value → BeginsParameters rest
     → (name_in (gap ++ (name ++ (tail ++ rest))) ≡ name)
     × (reading (after_name (gap ++ (name ++ (tail ++ rest)))) ≡ record { value = value; rest = rest })
-reading_of_parts gap name tail rest value g d n v b =
-    let e = after_is is_http_whitespace gap (name ++ (tail ++ rest)) g
+reading_of_parts gap name tail rest value g d n v b = let e = after_is is_http_whitespace gap (name ++ (tail ++ rest)) g
     (not_begins_append is_http_whitespace name (tail ++ rest) d
     (ends_of_tail is_http_whitespace refl refl tail rest value v b)) in
     let m = ends_of_tail in_name refl refl tail rest value v b in (
       ap (front_of in_name) e ∙ front_is in_name name (tail ++ rest) n m,
-      ap (λ x. reading (after_front in_name x)) e
-          ∙ ap reading (after_is in_name name (tail ++ rest) n m) ∙ reading_is tail rest value v b,
+      cc (after_is in_name name (tail ++ rest) n m, reading_is tail rest value v b),
     )
 
 -- appending is associative, for four texts
@@ -485,13 +482,9 @@ same_items r r' a b e h k = only_items r' a b (subst (λ x. Items x a) e h) k
 
 -- two records of the same text are equal
 pub has_at_most_one_record : (s : List ℕ) → HasAtMostOneRecord s
-has_at_most_one_record s m n h k =
-    let p = has_parts s h.type_ h.subtype h.parameters h.head in
+has_at_most_one_record s m n h k = let p = has_parts s h.type_ h.subtype h.parameters h.head in
     let q = has_parts s k.type_ k.subtype k.parameters k.head in
     record_equal m n
     (h.record_is.type_is ∙ ap (map to_ascii_lowercase) (sym p.type_is ∙ q.type_is) ∙ sym k.record_is.type_is)
-    (h.record_is.subtype_is ∙ ap (map to_ascii_lowercase) (sym p.subtype_is ∙ q.subtype_is)
-    ∙ sym k.record_is.subtype_is)
-    (h.record_is.parameters_are
-    ∙ ap kept_pairs (same_items h.parameters k.parameters h.record_is.items k.record_is.items (sym p.parameters_are
-    ∙ q.parameters_are) h.record_is.items_are k.record_is.items_are) ∙ sym k.record_is.parameters_are)
+    (cc (h.record_is.subtype_is, p.subtype_is, q.subtype_is, k.record_is.subtype_is))
+    (cc (h.record_is.parameters_are, same_items h.parameters k.parameters h.record_is.items k.record_is.items (sym p.parameters_are ∙ q.parameters_are) h.record_is.items_are k.record_is.items_are, k.record_is.parameters_are))

@@ -76,15 +76,13 @@ module _ (t : ℕ → Bool) (ascii : (c : ℕ) → t c ≡ true → c < 128) whe
 
     -- the bytes before the first byte that passes, and the bytes after them, are a cut of a UTF-8 text
     pub is_cut : IsCut t s (take (prefix_len (λ b. not (t b)) s) s) (drop (prefix_len (λ b. not (t b)) s) s)
-    is_cut =
-        let p : ℕ → Bool = λ b. not (t b) in
+    is_cut = let p : ℕ → Bool = λ b. not (t b) in
         let n = prefix_len p s in
         let front = IsUtf8-take s n u cut_boundary in
         let after = IsUtf8-drop s n u cut_boundary in
         record {
           joined = ap chars (sym (take-append-drop n s)) ∙ chars-append (take n s) (drop n s) front;
-          in_front = chars_fail (chars (take n s)) (ap (list_all p) (encodes-chars (take n s) front ∙ take_front p s)
-              ∙ all_from_every p (front_of p s) (front_passes p s));
+          in_front = chars_fail (chars (take n s)) (cc (encodes-chars (take n s) front, take_front p s, all_from_every p (front_of p s) (front_passes p s)));
           begins = begins_with (drop n s) after (subst (DoesNotBegin p) (sym (drop_front p s)) (after_begins p s));
           text = (front, after);
         }
@@ -150,8 +148,7 @@ ends_other : (p : ℕ → Bool) → ((c : ℕ) → p c ≡ true → c < 128) →
     → ((n : ℕ) → length r ≡ n + 1 → p (get_or r n 0) ≡ false) → DoesNotEnd p (chars r)
 ends_other p below r u h = not_ends p [] (chars r) (λ init c e. false_from_ne_true (p c) (λ t.
     let a = encode_utf8_all init in
-    let whole : r ≡ a ++ (c ∷ []) = sym (encodes-chars r u) ∙ ap encode_utf8_all e ∙ encodes_last init c
-    ∙ ap (λ x. a ++ x) (encode_ascii c (below c t)) in
+    let whole : r ≡ a ++ (c ∷ []) = cc (encodes-chars r u, encodes_last init c, encode_ascii c (below c t)) in
     let long : length r ≡ length a + 1 = ap length whole ∙ length-append a (c ∷ []) in
     let last : get_or r (length a) 0 ≡ c = ap (λ x. get_or x (length a) 0) whole ∙ get_or-append_seam a c [] 0 in
     false≢true (sym (h (length a) long) ∙ ap p last ∙ t)))
@@ -160,8 +157,7 @@ ends_other p below r u h = not_ends p [] (chars r) (λ init c e. false_from_ne_t
 -- points without it
 pub trimmed_end : (p : ℕ → Bool) → ((c : ℕ) → p c ≡ true → c < 128) → (s : List ℕ) → IsUtf8 s
     → IsTrimmedEnd p (chars s) (chars (take (length s - suffix_len p s) s))
-trimmed_end p below s u =
-    let m = suffix_len p s in
+trimmed_end p below s u = let m = suffix_len p s in
     let few = suffix_len-le-length p s in
     let k = length s - m in
     let front = IsUtf8-take s k u (boundary_before_end p below s u) in
@@ -170,8 +166,7 @@ trimmed_end p below s u =
     ap p (get_or-drop k s i 0) ∙ suffix_passes p s m (k + i) refl (omega arith) (omega arith)) in
     record {
       back = drop k s;
-      joined = ap chars (sym (take-append-drop k s)) ∙ chars-append (take k s) (drop k s) front
-          ∙ ap (λ x. chars (take k s) ++ x) (chars-IsAscii (drop k s) (every_ascii p below (drop k s) passes));
+      joined = cc (take-append-drop k s, chars-append (take k s) (drop k s) front, chars-IsAscii (drop k s) (every_ascii p below (drop k s) passes));
       at_back = passes;
       ends = ends_other p below (take k s) front (λ n e.
           let long : length (take k s) ≡ k = length-take-le k s (omega arith) in
@@ -223,8 +218,7 @@ quotable_chars bs u = ap (list_all is_quotable_byte) (sym (encodes-chars bs u)) 
 -- the longest prefix of quotable bytes is the whole of a UTF-8 text exactly if each of its code points is quotable
 pub quotable_by_front : (bs text : List ℕ) (n : ℕ) → IsUtf8 text → n ≡ prefix_len is_quotable_byte bs → bs ≡ text
     → (n == length text) ≡ list_all is_quotable (chars text)
-quotable_by_front bs text n u e b = ap (λ k. k == length text) (e ∙ ap (prefix_len is_quotable_byte) b)
-    ∙ sym (whole_front is_quotable_byte text) ∙ quotable_chars text u
+quotable_by_front bs text n u e b = cc (whole_front is_quotable_byte text, quotable_chars text u)
 
 -- The value of a quoted string, written code point by code point
 
@@ -250,8 +244,7 @@ scalar_from r r' c u e = scalar_first u.0 r' c u.1.0 (u.1.1 ∙ e)
 
 -- the encoding of a Unicode scalar value has this value as its only code point
 pub chars_encode : (c : ℕ) → IsScalar c → chars (encode c) ≡ c ∷ []
-chars_encode c s = chars_past_char (encode c) [] c (IsUtf8-encode c s) (sym (append-nil (encode c)))
-    ∙ ap (λ t. c ∷ t) chars-nil
+chars_encode c s = cc (chars_past_char (encode c) [] c (IsUtf8-encode c s) (sym (append-nil (encode c))), chars-nil)
 
 -- the encoding of a Unicode scalar value, after a UTF-8 text, adds its code point to those of the text
 pub chars_push : (v : List ℕ) (c : ℕ) → IsUtf8 v → IsScalar c → chars (v ++ encode c) ≡ chars v ++ (c ∷ [])
@@ -267,11 +260,14 @@ pub unescape_pushes : (v v' r r' whole : List ℕ) (c : ℕ) (e e' : Bool) → I
     → v' ≡ v ++ encode c → e' ≡ ((c == 92) && not e) → e' ≡ false → chars v ++ unescaped e (chars r) ≡ whole
     → chars v' ++ unescaped e' (chars r') ≡ whole
 unescape_pushes v v' r r' whole c e e' u w s g k f h =
-    ap₂ (λ x y. x ++ y) (ap chars g ∙ chars_push v c u (scalar_from r r' c w s)) (ap (λ b. unescaped b (chars r')) f)
-    ∙ append_assoc (chars v) (c ∷ []) (unescaped false (chars r'))
-    ∙ ap (λ x. chars v ++ x) (sym (ap (unescaped e) (chars_past_char r r' c w s) ∙ unescaped_step e c (chars r')
-    ∙ cond-false ((c == 92) && not e) (unescaped true (chars r')) (c ∷ unescaped false (chars r')) (sym k ∙ f)))
-    ∙ h
+    cc (
+      chars_push v c u (scalar_from r r' c w s),
+      append_assoc (chars v) (c ∷ []) (unescaped false (chars r')),
+      chars_past_char r r' c w s,
+      unescaped_step e c (chars r'),
+      cond-false ((c == 92) && not e) (unescaped true (chars
+          r')) (c ∷ unescaped false (chars r')) (sym k ∙ f),
+    )
 
 -- if the first code point of r is a '\' that escapes, leaving it out preserves the whole
 pub unescape_skips : (v r r' whole : List ℕ) (c : ℕ) (e e' : Bool) → IsUtf8 r → r ≡ encode c ++ r'
@@ -282,16 +278,12 @@ unescape_skips v r r' whole c e e' w s k f h = grind (arith, unescaped, chars_pa
 -- if nothing is left after a '\' that would escape the next code point, writing this '\' gives the value
 pub unescape_ends : (v v' r q value : List ℕ) (e : Bool) → IsUtf8 v → length r ≡ 0 → e ≡ true → v' ≡ v ++ encode 92
     → chars v ++ unescaped e (chars r) ≡ unescaped false (chars q) → QuotedOpen (chars q) value → chars v' ≡ value
-unescape_ends v v' r q value e u l f g h k =
-    ap chars g ∙ chars_push v 92 u refl ∙ ap (λ b. chars v ++ unescaped b []) (sym f)
-    ∙ ap (λ t. chars v ++ unescaped e t) (sym (no_chars r l)) ∙ h ∙ unescaped_is (chars q) value k
+unescape_ends v v' r q value e u l f g h k = cc (chars_push v 92 u refl, no_chars r l, unescaped_is (chars q) value k)
 
 -- if nothing is left, and no '\' that escapes comes directly before, what is written is the value
 pub unescape_ends_plain : (v r q value : List ℕ) (e : Bool) → length r ≡ 0 → e ≡ false
     → chars v ++ unescaped e (chars r) ≡ unescaped false (chars q) → QuotedOpen (chars q) value → chars v ≡ value
-unescape_ends_plain v r q value e l f h k =
-    sym (append-nil (chars v)) ∙ ap (λ b. chars v ++ unescaped b []) (sym f)
-    ∙ ap (λ t. chars v ++ unescaped e t) (sym (no_chars r l)) ∙ h ∙ unescaped_is (chars q) value k
+unescape_ends_plain v r q value e l f h k = cc (append-nil (chars v), no_chars r l, unescaped_is (chars q) value k)
 
 -- A quoted string can be tested for quoted-string code points before its escapes are removed
 
@@ -377,19 +369,19 @@ all_quotable (b ∷ bs) h = grind (arith, and_from, and_parts, (all_quotable bs 
 pub short_quotable : (text t more : List ℕ) (q : ℕ) → text ≡ t ++ more → IsUtf8 t → q ≡ prefix_len is_unquoted_byte text
     → length t ≤ q → list_all is_quotable (chars t) ≡ true
 short_quotable text t more q e u h few =
-    sym (quotable_chars t u)
-    ∙ all_quotable t (every_from is_unquoted_byte t (λ k l.
-    ap is_unquoted_byte (sym (get_or_append_left t more 0 k l) ∙ ap (λ x. get_or x k 0) (sym e))
-    ∙ prefix_len_passes is_unquoted_byte text k 0 (subst (λ n. k < n) h (omega (arith, few)))))
+    cc (
+      quotable_chars t u,
+      all_quotable t (every_from is_unquoted_byte t (λ k l. ap is_unquoted_byte (sym
+          (get_or_append_left t more 0 k l) ∙ ap (λ x. get_or x k 0) (sym e)) ∙ prefix_len_passes is_unquoted_byte text k 0
+          (subst (λ n. k < n) h (omega (arith, few))))),
+    )
 
 -- a prefix without ';' that is longer than the longest prefix of unquoted bytes has another code point
 pub long_other : (text t more : List ℕ) (q n : ℕ) → text ≡ t ++ more → IsUtf8 t → q ≡ prefix_len is_unquoted_byte text
     → n ≡ prefix_len (λ b. not (is_semicolon b)) text → length t ≤ n → q < length t
     → list_all is_quotable (chars t) ≡ false
-long_other text t more q n e u h m few l =
-    let p : ℕ → Bool = λ b. not (is_semicolon b) in
-    let same : get_or t q 0 ≡ get_or text q 0 = sym (get_or_append_left t more 0 q l)
-    ∙ ap (λ x. get_or x q 0) (sym e) in
+long_other text t more q n e u h m few l = let p : ℕ → Bool = λ b. not (is_semicolon b) in
+    let same : get_or t q 0 ≡ get_or text q 0 = cc (get_or_append_left t more 0 q l) in
     let long : length text ≡ length t + length more = ap length e ∙ length-append t more in
     let passes : p (get_or text q 0) ≡ true =
     prefix_len_passes p text q 0 (subst (λ i. q < i) m (omega (arith, few))) in
@@ -403,8 +395,6 @@ long_other text t more q n e u h m few l =
 pub trimmed_bytes : (text front t rest : List ℕ) → text ≡ front ++ rest → IsUtf8 front → IsUtf8 t
     → IsTrimmedEnd is_http_whitespace (chars front) (chars t) → (more : List ℕ) × (front ≡ t ++ more)
     × (text ≡ t ++ (more ++ rest))
-trimmed_bytes text front t rest e u w h =
-    let back = encode_utf8_all h.back in
-    let is : front ≡ t ++ back = sym (encodes-chars front u) ∙ ap encode_utf8_all h.joined
-    ∙ encodes-append (chars t) h.back ∙ ap (λ x. x ++ back) (encodes-chars t w) in
+trimmed_bytes text front t rest e u w h = let back = encode_utf8_all h.back in
+    let is : front ≡ t ++ back = cc (encodes-chars front u, h.joined, encodes-append (chars t) h.back, encodes-chars t w) in
     (back, is, e ∙ ap (λ x. x ++ rest) is ∙ append_assoc t back rest)

@@ -238,8 +238,7 @@ pub closed_value_before : (s q raw w junk rest value : List ℕ) → s ≡ 34 �
     → w ≡ junk ++ rest → Without is_semicolon junk → BeginsParameters rest → HasValueBefore (61 ∷ s) (Some value) rest
 closed_value_before s q raw w junk rest value e j h k n b = record {
   tail = 61 ∷ 34 ∷ (raw ++ (34 ∷ junk));
-  joined = ap (λ x. 61 ∷ x) (e ∙ ap (λ x. 34 ∷ x) (j ∙ ap (λ x. raw ++ (34 ∷ x)) k
-      ∙ sym (append_assoc raw (34 ∷ junk) rest)));
+  joined = ap (λ x. 61 ∷ x) (cc (append_assoc raw (34 ∷ junk) rest));
   gives = quoted raw junk h n;
   begins = b;
 }
@@ -264,8 +263,7 @@ pub parameter_before : (s a name x : List ℕ) (value : Option (List ℕ)) (rest
     → HasParameterBefore s (map to_ascii_lowercase name, value) rest
 parameter_before s a name x value rest f j n v = record {
   text = 59 ∷ (f.front ++ (name ++ v.tail));
-  joined = ap (λ t. 59 ∷ t) (f.joined ∙ ap (λ t. f.front ++ t) (j ∙ ap (λ t. name ++ t) v.joined
-      ∙ sym (append_assoc name v.tail rest)) ∙ sym (append_assoc f.front (name ++ v.tail) rest));
+  joined = ap (λ t. 59 ∷ t) (cc (f.joined, v.joined, append_assoc name v.tail rest, append_assoc f.front (name ++ v.tail) rest));
   is_parameter = record {
     gap = f.front;
     name = name;

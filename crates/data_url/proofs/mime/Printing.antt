@@ -108,9 +108,7 @@ record_ends pairs i done whole l h = grind (arith, append-nil, drop_of_length-le
 -- the same, for two texts that are the bytes of the type and of the subtype
 pub record_starts_by : (m : Mime) (a b : List ℕ) → a ≡ string_bytes m.type_ → b ≡ string_bytes m.subtype
     → ((a ++ (47 ∷ [])) ++ b) ++ pairs_text m.parameters.items ≡ encode_utf8_all (printed (record_of m))
-record_starts_by m a b e f = ap (λ x. ((a ++ x) ++ b) ++ pairs_text m.parameters.items)
-    (sym (encode_ascii 47 (omega arith))) ∙ ap₂ (λ x y. ((x ++ encode_utf8 47) ++ y) ++ pairs_text m.parameters.items) e
-    f ∙ record_starts m
+record_starts_by m a b e f = cc (encode_ascii 47 (omega arith), record_starts m)
 
 -- the printed pair of two texts that are the bytes of an item is the printed pair of the item
 pub pair_by : {A B : Type 0} (item : String A × String B) (a b : List ℕ) → a ≡ string_bytes item.0
@@ -146,8 +144,7 @@ module _ {W : Type 0} {took : W → List ℕ → W → Type 0} where
   added_append f g h l m n a b x y = record {
     written = x.written ++ y.written;
     wrote = has_written_styled_append _ _ _ _ _ _ x.wrote y.wrote;
-    joined = sym (append_assoc (held l) a b) ∙ ap (λ t. t ++ b) x.joined ∙ append_assoc x.written (held m) b
-        ∙ ap (λ t. x.written ++ t) y.joined ∙ sym (append_assoc x.written y.written (held n));
+    joined = cc (append_assoc (held l) a b, x.joined, append_assoc x.written (held m) b, y.joined, append_assoc x.written y.written (held n));
   }
 
   -- if a is appended, a text that is equal to it is

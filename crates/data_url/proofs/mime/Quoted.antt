@@ -91,15 +91,13 @@ read_more u s v None i (inl h) = inl (quoted_more u s v i h)
 read_more u s v None i (inr (q, w, t, e, h)) = inr (
   unit_text u ++ q,
   unit_value u ∷ w,
-  ap (λ x. unit_text u ++ x) t
-      ∙ sym (append_assoc (unit_text u) q (92 ∷ [])),
+  cc (append_assoc (unit_text u) q (92 ∷ [])),
   ap (λ x. unit_value u ∷ x) e,
   quoted_more u q w i h,
 )
 read_more u s v (Some w) i h = (
   unit_text u ++ h.0,
-  ap (λ x. unit_text u ++ x) h.1
-      ∙ sym (append_assoc (unit_text u) h.0 (34 ∷ w)),
+  cc (h.1, append_assoc (unit_text u) h.0 (34 ∷ w)),
   quoted_more u h.0 v i h.2,
 )
 
@@ -254,10 +252,13 @@ quote_joined bs i u l e = drop-cons bs i 0 l ∙ ap₂ (λ x y. x ∷ y) e (ap (
 chars_joined : (bs : List ℕ) (i : ℕ) → IsUtf8 bs → i < length bs → get_or bs i 0 ≡ 34
     → chars bs ≡ chars (take i bs) ++ (34 ∷ chars (drop (i + 1) bs))
 chars_joined bs i u l e =
-    let b = IsCharBoundary-before_ascii bs i l (omega arith) in
-    ap chars (sym (take-append-drop i bs)) ∙ chars-append (take i bs) (drop i bs) (IsUtf8-take bs i u b)
-    ∙ ap (λ x. chars (take i bs) ++ x) (chars_past_char (drop i bs) (drop (i + 1) bs) 34 (IsUtf8-drop bs i u b)
-    (quote_joined bs i u l e ∙ ap (λ x. x ++ drop (i + 1) bs) (sym (encode_ascii 34 (omega arith)))))
+    let b = IsCharBoundary-before_ascii bs i l (omega arith) in cc (
+      take-append-drop i bs,
+      chars-append (take i bs)
+          (drop i bs) (IsUtf8-take bs i u b),
+      chars_past_char (drop i bs) (drop (i + 1) bs) 34 (IsUtf8-drop bs i u b)
+          (quote_joined bs i u l e ∙ ap (λ x. x ++ drop (i + 1) bs) (sym (encode_ascii 34 (omega arith)))),
+    )
 
 range_take : (bs : List ℕ) (i : ℕ) → slice_range bs 0 i ≡ take i bs
 range_take bs i = ap (λ k. take k bs) (omega arith)

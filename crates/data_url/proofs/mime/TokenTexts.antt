@@ -126,12 +126,10 @@ module _ (p : ℕ → Bool) (below : (c : ℕ) → p c ≡ true → c < 128) whe
 
   -- a UTF-8 text is split there into the code points that pass at its front, and the rest
   pub is_split : (bs : List ℕ) → IsUtf8 bs → IsSplit p bs (take (prefix_len p bs) bs) (drop (prefix_len p bs) bs)
-  is_split bs u =
-      let front = IsUtf8-from_ascii (take (prefix_len p bs) bs) (front_ascii bs) in
+  is_split bs u = let front = IsUtf8-from_ascii (take (prefix_len p bs) bs) (front_ascii bs) in
       let after = IsUtf8-drop bs (prefix_len p bs) u (front_boundary bs u) in
       record {
-        joined = ap chars (sym (take-append-drop (prefix_len p bs) bs))
-            ∙ chars-append (take (prefix_len p bs) bs) (drop (prefix_len p bs) bs) front;
+        joined = cc (take-append-drop (prefix_len p bs) bs, chars-append (take (prefix_len p bs) bs) (drop (prefix_len p bs) bs) front);
         in_front = subst (Every p) (sym (chars-IsAscii (take (prefix_len p bs) bs) (front_ascii bs)))
             (subst (Every p) (sym (take_front p bs)) (front_passes p bs));
         begins = not_begins_chars p below (drop (prefix_len p bs) bs) after

@@ -357,24 +357,14 @@ end_lacks_comma (c ∷ s) = refl
 -- if h has no comma, the bytes before the first comma of the serialisation of h ++ 44 ∷ rest are the header text of h
 pub before-serialised : (h rest : List ℕ) → after 44 h ≡ None → before 44 (serialised (h ++ 44 ∷ rest)) ≡ header_text h
 before-serialised [] rest e = grind (arith, serialised_path, encoded_comma, end_lacks_comma, before_same, header_nil)
-before-serialised (b ∷ h) rest e =
-    let k = lacks 44 b h e in
+before-serialised (b ∷ h) rest e = let k = lacks 44 b h e in
     elim (cases_Bool (b == 63)) [
       | inl f ↦
           let g : b ≡ 63 = eqb-true b 63 f in
           subst (λ v. before 44 (serialised (v ∷ (h ++ 44 ∷ rest))) ≡ header_text (v ∷ h)) (sym g)
-          (ap (before 44) (serialised_query (h ++ 44 ∷ rest))
-          ∙ before_other 44 63 (percent_encoding in_query_set (h ++ 44 ∷ rest)) refl
-          ∙ ap (λ t. 63 ∷ t) (before_encoded in_query_set refl (h ++ 44 ∷ rest)
-          ∙ ap (percent_encoding in_query_set) (before_at 44 h rest k.after_it))
-          ∙ sym (header_query h))
+          (cc (serialised_query (h ++ 44 ∷ rest), before_other 44 63 (percent_encoding in_query_set (h ++ 44 ∷ rest)) refl, before_encoded in_query_set refl (h ++ 44 ∷ rest), before_at 44 h rest k.after_it, header_query h))
       | inr f ↦
-          let set = path_byte_set (before 63 (h ++ 44 ∷ rest)) in
-          ap (before 44) (serialised_path b (h ++ 44 ∷ rest) f)
-          ∙ before-append 44 (encoded_byte set b) (serialised (h ++ 44 ∷ rest)) (encoded_byte_lacks set b k.here)
-          ∙ ap (λ t. encoded_byte set b ++ t) (before-serialised h rest k.after_it)
-          ∙ ap (λ p. encoded_byte p b ++ header_text h) (same_set h rest (after 63 h) refl)
-          ∙ sym (header_path b h f)
+          let set = path_byte_set (before 63 (h ++ 44 ∷ rest)) in cc (serialised_path b (h ++ 44 ∷ rest) f, before-append 44 (encoded_byte set b) (serialised (h ++ 44 ∷ rest)) (encoded_byte_lacks set b k.here), before-serialised h rest k.after_it, same_set h rest (after 63 h) refl, header_path b h f)
     ]
 
 -- Percent-encoding a text without its tabs and newlines: byte by byte, and part by part.
@@ -453,8 +443,7 @@ pub kept_whole : (p : ℕ → Bool) (s : List ℕ)
     → ((k : ℕ) → k < length s → byte_encoding p (get_or s k 0) ≡ get_or s k 0 ∷ []) → s ≡ encoded p s
 kept_whole p [] h = sym (encoded_empty p)
 kept_whole p (b ∷ s) h =
-    sym (written_first p b s
-    ∙ ap₂ (λ x y. x ++ y) (h 0 (omega arith)) (sym (kept_whole p s (λ k l. h (suc k) (omega arith)))))
+    sym (cc (written_first p b s, h 0 (omega arith), kept_whole p s (λ k l. h (suc k) (omega arith))))
 
 -- a text of plain bytes is serialised as it is
 
@@ -492,18 +481,12 @@ pub record PutTo (p : ℕ → Bool) (s : List ℕ) (i : ℕ) (room : List ℕ) (
 pub put_more : (p : ℕ → Bool) (s : List ℕ) (i : ℕ) (room : List ℕ) (at : ℕ) (row room' : List ℕ) → PutTo p s i room at
     → i < length s → at ≤ 256 → IsRow p (get_or s i 0) row → length room' ≡ 256
     → take (at + 4) room' ≡ take at room ++ row → PutTo p s (i + 1) room' (at + slice_index row 3)
-put_more p s i room at row room' m l within r n h =
-    let long_room = m.long in
+put_more p s i room at row room' m l within r n h = let long_room = m.long in
     let width = slice_index row 3 in
     let short = row_short p (get_or s i 0) row r in
     let f = m.few in
     let long : length (take at room) ≡ at = length-take-le at room (omega arith) in
-    let front : take (at + width) room' ≡ take at room ++ byte_encoding p (get_or s i 0) =
-    sym (take-take (at + width) (at + 4) room' (omega arith))
-    ∙ ap (take (at + width)) h
-    ∙ ap (λ n. take (n + width) (take at room ++ row)) (sym long)
-    ∙ take-append-add (take at room) row width
-    ∙ ap (λ t. take at room ++ t) r.begins in
+    let front : take (at + width) room' ≡ take at room ++ byte_encoding p (get_or s i 0) = cc (take-take (at + width) (at + 4) room' (omega arith), take-append-add (take at room) row width, r.begins) in
     record {
       few = omega arith;
       long = n;

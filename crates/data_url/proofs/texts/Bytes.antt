@@ -63,8 +63,7 @@ after-append c (b ∷ a) s h = let k = lacks c b a h in after_other c b (a ++ s)
 -- if a has no c, the bytes before c are the whole of a
 pub before_all : (c : ℕ) (a : List ℕ) → after c a ≡ None → before c a ≡ a
 before_all c [] h = before_nil c
-before_all c (b ∷ a) h = let k = lacks c b a h in before_other c b a k.here
-    ∙ ap (λ t. b ∷ t) (before_all c a k.after_it)
+before_all c (b ∷ a) h = let k = lacks c b a h in cc (before_other c b a k.here, before_all c a k.after_it)
 
 -- a text with the empty text appended is the text itself
 pub append-nil : (a : List ℕ) → a ++ [] ≡ a
@@ -143,8 +142,7 @@ pub after-dropped_none : (c : ℕ) → is_tab_or_newline c ≡ false → (s : Li
 after-dropped_none c k [] h = ap (after c) dropped_nil ∙ after_nil c
 after-dropped_none c k (b ∷ s) h = let l = lacks c b s h in elim (cases_Bool (is_tab_or_newline b)) [
   | inl e ↦ ap (after c) (dropped_passes b s e) ∙ after-dropped_none c k s l.after_it
-  | inr e ↦ ap (after c) (dropped_keeps b s e) ∙ after_other c b (without_tabs_and_newlines s) l.here
-      ∙ after-dropped_none c k s l.after_it
+  | inr e ↦ cc (dropped_keeps b s e, after_other c b (without_tabs_and_newlines s) l.here, after-dropped_none c k s l.after_it)
 ]
 
 -- if c is not a tab or newline, dropping these from a ++ c ∷ s drops them from a and from s, and keeps c
@@ -157,11 +155,13 @@ fragment_cases : (tail : List ℕ) (o : Option (List ℕ)) → after 35 tail ≡
 unfolding fragment
 fragment_cases tail None h = after-dropped_none 35 refl tail h
 fragment_cases tail (Some rest) h =
-    let cut = is_cut 35 tail rest h in
-    ap (λ t. after 35 (without_tabs_and_newlines t)) cut.joined
-    ∙ ap (after 35) (dropped_around 35 refl (before 35 tail) rest)
-    ∙ after_at 35 (without_tabs_and_newlines (before 35 tail)) (without_tabs_and_newlines rest)
-    (after-dropped_none 35 refl (before 35 tail) cut.lacks)
+    let cut = is_cut 35 tail rest h in cc (
+      cut.joined,
+      dropped_around 35 refl (before 35 tail) rest,
+      after_at 35
+          (without_tabs_and_newlines (before 35 tail)) (without_tabs_and_newlines rest) (after-dropped_none 35 refl (before
+          35 tail) cut.lacks),
+    )
 
 -- tabs and newlines can be dropped before the fragment is cut off, or after
 pub fragment_dropped : (tail : List ℕ)
