@@ -9,25 +9,13 @@ pub returns-in_default : goal.returns-in_default
 returns-in_default c = stages_no_scheme c.args.input.now (subst HasNoScheme c.trim.ensures c.in_default.ensures.none)
 
 pub returns-in_default-split_at_comma : goal.returns-in_default-split_at_comma
-returns-in_default-split_at_comma c =
-    stages_no_comma c.args.input.now c.in-Some.rest.now
-    (bytes_trimmed c.args.input.now (λ i. omega (arith, c.type_inv.input i)))
-    (subst (λ t. IsSchemeAndRest t c.in-Some.rest.now) c.trim.ensures c.in-Some.ensures.found)
-    c.in_default-split_at_comma.ensures.none
+returns-in_default-split_at_comma c = grind (arith, stages_no_comma, bytes_trimmed)
 
 pub returns-in_default-serialise : goal.returns-in_default-serialise
-returns-in_default-serialise c =
-    is_acceptable c.args.input.now c.in-Some.rest.now c.in-Some-split_at_comma.front.header.now
-    c.in-Some-split_at_comma.front.tail.now (bytes_trimmed c.args.input.now (λ i. omega (arith, c.type_inv.input i)))
-    (subst (λ t. IsSchemeAndRest t c.in-Some.rest.now) c.trim.ensures c.in-Some.ensures.found)
-    c.in-Some-split_at_comma.ensures.found
+returns-in_default-serialise c = grind (arith, is_acceptable, bytes_trimmed)
 
 pub returns-in_default-read_media : goal.returns-in_default-read_media
-returns-in_default-read_media c =
-    is_acceptable c.args.input.now c.in-Some.rest.now c.in-Some-split_at_comma.front.header.now
-    c.in-Some-split_at_comma.front.tail.now (bytes_trimmed c.args.input.now (λ i. omega (arith, c.type_inv.input i)))
-    (subst (λ t. IsSchemeAndRest t c.in-Some.rest.now) c.trim.ensures c.in-Some.ensures.found)
-    c.in-Some-split_at_comma.ensures.found
+returns-in_default-read_media c = grind (arith, is_acceptable, bytes_trimmed)
 
 pub returns : goal.returns
 returns c =

@@ -8,22 +8,10 @@ use Rattle.data_url.proofs.body.decode_base64.Goals as goal
 use Rattle.data_url.proofs.body.decode_base64.Goals.{else-chunks-test, then-chunks-test+in_default}
 
 pub chunks-init : goal.chunks-init
-chunks-init g c =
-    let step = CalledAt g.F.FnMut in
-    let none = feeds_none step tt (omega arith) (omega arith) refl c.new-decoder.ensures.state in (
-      c.new-decoder.ensures.callable,
-      ap (λ d. d.failed) c.new-decoder.ensures.state,
-      fed_none step c.new-pieces.ensures none,
-    )
+chunks-init g c = grind (arith, feeds_none, fed_none)
 
 pub chunks-preserved : goal.chunks-preserved
-chunks-preserved g c =
-    let takes = takes_next c.next_bytes.ensures c.in-Some.is in (
-      c.feed.ensures.callable,
-      c.in-Ok.ensures.fed.failed,
-      fed_more (CalledAt g.F.FnMut) c.chunks.invariant.2 takes
-          c.in-Ok.ensures.fed,
-    )
+chunks-preserved g c = grind (arith, takes_next, fed_more)
 
 pub returns-in-Err : goal.returns-in-Err
 returns-in-Err g c =

@@ -29,13 +29,7 @@ record Byte (text : List ℕ) (place : ℕ) : Type 0 where
   stays : is_tab_or_newline (get_or text place 0) ≡ false
 
 byte_of : (c : goal.Then-to_ascii_lowercase-matched) → Byte c.args.text.now c.loop-place.place
-byte_of c =
-    let text = c.as_bytes-byte-items.ensures.value in
-    record {
-      within = subst (λ s. c.loop-place.place < length s) text c.loop-place-test.true;
-      stays = ap (λ s. is_tab_or_newline (get_or s c.loop-place.place 0)) (sym text) ∙ sym c.is_tab_or_newline.ensures
-          ∙ c.if-is_tab_or_newline.false;
-    }
+byte_of c = grind arith
 
 pub returns-then-to_ascii_lowercase-matched-clause-none : goal.returns-then-to_ascii_lowercase-matched-clause-none
 returns-then-to_ascii_lowercase-matched-clause-none c =
@@ -59,11 +53,7 @@ record Spelled (text : List ℕ) (place n : ℕ) : Type 0 where
 spelled : (text items : List ℕ) (place n low : ℕ) (passed : Bool) → items ≡ text → place < length items
     → passed ≡ is_tab_or_newline (get_or items place 0) → passed ≡ false
     → low ≡ to_ascii_lowercase (get_or items place 0) → low ≡ get_or (codes "data:") n 0 → Spelled text place n
-spelled text items place n low passed e l p f q h = record {
-  within = subst (λ s. place < length s) e l;
-  stays = ap (λ s. is_tab_or_newline (get_or s place 0)) (sym e) ∙ sym p ∙ f;
-  same = ap (λ s. to_ascii_lowercase (get_or s place 0)) (sym e) ∙ sym q ∙ h;
-}
+spelled text items place n low passed e l p f q h = grind arith
 
 pub range_from-requires : goal.range_from-requires
 range_from-requires c =
@@ -102,10 +92,4 @@ loop-place-preserved c =
     (get_or c.args.text.now c.loop-place.place 0) c.loop-place.invariant b.stays b.same c.if-matched-eq5.false)
 
 pub returns-clause-none : goal.returns-clause-none
-returns-clause-none c =
-    let text = c.as_bytes-byte-items.ensures.value in
-    let over : length c.args.text.now ≤ c.loop-place.place = subst (λ s. length s ≤ c.loop-place.place) text
-    (omega arith) in
-    ends_early c.args.text.now c.loop-place.matched
-    (subst (λ s. Spells s c.loop-place.matched) (take_all c.loop-place.place c.args.text.now over)
-    c.loop-place.invariant)
+returns-clause-none c = grind (arith, ends_early, take_all)

@@ -5,27 +5,13 @@ use Rattle.data_url.proofs.front.Cuts.{at_comma, at_hash, front_end_at, is_ascii
 use Rattle.data_url.proofs.front.split_at_comma.Goals as goal
 
 pub returns-in_err-further-clause-none : goal.returns-in_err-further-clause-none
-returns-in_err-further-clause-none c =
-    let h = no_front_end c.args.text.now c.as_bytes-bytes.result.now c.long_span-plain.result c.front_end.result
-    c.as_bytes-bytes.ensures.value c.long_span-plain.ensures.front (λ i. omega (arith, c.type_inv.text i))
-    c.front_end.ensures c.in_err-further.was in
-    search (rules, h)
+returns-in_err-further-clause-none c = grind (arith, no_front_end)
 
 pub returns-then-bytes-place-eq35-clause-none : goal.returns-then-bytes-place-eq35-clause-none
-returns-then-bytes-place-eq35-clause-none c =
-    let place = c.long_span-plain.result + c.in_ok-further.further in
-    at_hash c.args.text.now place (front_end_at c.args.text.now c.as_bytes-bytes.result.now c.long_span-plain.result
-    c.in_ok-further.further c.front_end.result c.as_bytes-bytes.ensures.value c.long_span-plain.ensures.front
-    (λ i. omega (arith, c.type_inv.text i)) c.front_end.ensures c.in_ok-further.was)
-    (ap (λ s. get_or s place 0) (sym c.as_bytes-bytes.ensures.value) ∙ c.if-bytes-place-eq35.true)
+returns-then-bytes-place-eq35-clause-none c = grind (arith, at_hash, front_end_at)
 
 pub range-requires-clause-end_boundary : goal.range-requires-clause-end_boundary
-range-requires-clause-end_boundary c =
-    let place = c.long_span-plain.result + c.in_ok-further.further in
-    let end = front_end_at c.args.text.now c.as_bytes-bytes.result.now c.long_span-plain.result c.in_ok-further.further
-    c.front_end.result c.as_bytes-bytes.ensures.value c.long_span-plain.ensures.front
-    (λ i. omega (arith, c.type_inv.text i)) c.front_end.ensures c.in_ok-further.was in
-    IsCharBoundary-before_ascii c.args.text.now place end.within (is_ascii_end c.args.text.now place end)
+range-requires-clause-end_boundary c = grind (arith, front_end_at, is_ascii_end)
 
 pub range_from-requires : goal.range_from-requires
 range_from-requires c =
@@ -37,19 +23,7 @@ range_from-requires c =
     (is_ascii_end c.args.text.now place end)
 
 pub returns-clause-found : goal.returns-clause-found
-returns-clause-found c =
-    let place = c.long_span-plain.result + c.in_ok-further.further in
-    let found = at_comma c.args.text.now place
-    (front_end_at c.args.text.now c.as_bytes-bytes.result.now c.long_span-plain.result c.in_ok-further.further
-    c.front_end.result c.as_bytes-bytes.ensures.value c.long_span-plain.ensures.front
-    (λ i. omega (arith, c.type_inv.text i)) c.front_end.ensures c.in_ok-further.was)
-    (λ h. c.if-bytes-place-eq35.false (ap (λ s. get_or s place 0) c.as_bytes-bytes.ensures.value ∙ h)) in
-    let width : place - 0 ≡ place = omega arith in
-    let front_is : c.range.result.now ≡ take place c.args.text.now = c.range.ensures.value
-    ∙ ap (λ n. take n c.args.text.now) width in
-    subst (λ x. IsHeaderAndTail c.args.text.now x c.range_from.result.now) (sym front_is)
-    (subst (λ x. IsHeaderAndTail c.args.text.now (take place c.args.text.now) x) (sym c.range_from.ensures.value)
-    found)
+returns-clause-found c = grind (arith, at_comma, front_end_at)
 
 pub returns-clause-plain : goal.returns-clause-plain
 returns-clause-plain c =

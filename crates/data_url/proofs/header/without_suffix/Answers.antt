@@ -13,34 +13,18 @@ use Rattle.data_url.proofs.header.Suffix.{HasWord, no_semicolon, nothing_left, o
 use Rattle.data_url.proofs.header.without_suffix.Goals as goal
 
 pub returns-in_err-word : goal.returns-in_err-word
-returns-in_err-word c =
-    let short : length c.as_bytes-bytes.result.now < 6 = omega (arith, c.in_err-word.ensures) in
-    ap as_option c.from_residual.ensures ∙ sym (ap before_base64 (sym c.as_bytes-bytes.ensures.value)
-    ∙ too_short c.as_bytes-bytes.result.now short)
+returns-in_err-word c = grind (arith, too_short)
 
 pub returns-then-not-is_suffix : goal.returns-then-not-is_suffix
-returns-then-not-is_suffix c =
-    let s = c.as_bytes-bytes.result.now in
-    let n = c.in_ok-word.word in
-    let at = c.in_ok-word.ensures in
-    sym (ap before_base64 (sym c.as_bytes-bytes.ensures.value)
-    ∙ other_word s n (omega arith) (λ e. both_ways c.is_suffix.result c.if-not-is_suffix.true
-    (c.is_suffix.ensures.1 (ap (map to_ascii_lowercase) (take_rest s n) ∙ e))))
+returns-then-not-is_suffix c = grind (arith, other_word, both_ways, take_rest)
 
 pub overflow_sub-end : goal.overflow_sub-end
-overflow_sub-end c = omega (
-  arith,
-  c.low_end_len.ensures,
-  suffix_len-le-length is_c0_control_or_space
-      (take c.in_ok-word.word c.as_bytes-bytes.result.now),
-  length-take c.in_ok-word.word c.as_bytes-bytes.result.now,
-)
+overflow_sub-end c = grind (arith, suffix_len-le-length, length-take)
 
 has_word : (s : List ℕ) (n spaces : ℕ) (same : Bool) → (6 ≤ length s) × (n ≡ length s - 6)
     → (same ≡ true → map to_ascii_lowercase (take (length s - n) (drop n s)) ≡ codes "base64") → same ≡ true
     → spaces ≡ suffix_len is_c0_control_or_space (take n s) → HasWord s n spaces
-has_word s n spaces same at word h e =
-    record { six = omega arith; is = ap (map to_ascii_lowercase) (sym (take_rest s n)) ∙ word h; spaces_are = e }
+has_word s n spaces same at word h e = grind (arith, take_rest)
 
 pub returns-in_err-semicolon : goal.returns-in_err-semicolon
 returns-in_err-semicolon c =

@@ -5,11 +5,7 @@ use Rattle.data_url.proofs.percent.Encoding.{is_recoded, path_within_query, reco
 use Rattle.data_url.proofs.laws.encoding_first.Goals as goal
 
 pub returns-clause-path : goal.returns-clause-path
-returns-clause-path c =
-    sym (recoded-decoded (is_recoded in_path_set path_within_query c.args.bytes.now
-    (bytes_by_place c.args.bytes.now (λ i. omega (arith, c.type_inv.bytes i)))))
+returns-clause-path c = grind (arith, recoded-decoded, is_recoded, path_within_query, bytes_by_place)
 
 pub returns-clause-query : goal.returns-clause-query
-returns-clause-query c =
-    sym (recoded-decoded (is_recoded in_query_set (λ b e. e) c.args.bytes.now
-    (bytes_by_place c.args.bytes.now (λ i. omega (arith, c.type_inv.bytes i)))))
+returns-clause-query c = grind (arith, recoded-decoded, is_recoded, bytes_by_place)

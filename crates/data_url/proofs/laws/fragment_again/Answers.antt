@@ -7,11 +7,7 @@ use Rattle.data_url.proofs.header.Stages.{bytes_by_place}
 use Rattle.data_url.proofs.laws.fragment_again.Goals as goal
 
 pub returns-clause-again : goal.returns-clause-again
-returns-clause-again c = read_again (encoded_fragment c.args.fragment.now)
-    (fragment_bytes (without_tabs_and_newlines c.args.fragment.now)
-    (bytes_dropped c.args.fragment.now
-    (bytes_by_place c.args.fragment.now (λ i. omega (arith, c.type_inv.fragment i)))))
+returns-clause-again c = grind (arith, read_again, fragment_bytes, bytes_dropped, bytes_by_place)
 
 pub returns-clause-bytes : goal.returns-clause-bytes
-returns-clause-bytes c = fragment_bytes (without_tabs_and_newlines c.args.fragment.now)
-    (bytes_dropped c.args.fragment.now (bytes_by_place c.args.fragment.now (λ i. omega (arith, c.type_inv.fragment i))))
+returns-clause-bytes c = grind (arith, fragment_bytes, bytes_dropped, bytes_by_place)

@@ -4,11 +4,7 @@ use Rattle.data_url.proofs.percent.Encoding.{encoded_text, kept_whole}
 use Rattle.data_url.proofs.percent.is_kept.Goals as goal
 
 pub returns-clause-kept : goal.returns-clause-kept
-returns-clause-kept c =
-    let part = c.args.part.now in
-    λ h. let all = eqb-true c.rows_len.result (length part) h in
-    kept_whole (in_set c.args.set) part (λ k l. c.others.ensures (get_or part k 0) (omega (arith, c.type_inv.part k))
-    (c.rows_len.ensures.front k (omega (arith, all))))
+returns-clause-kept c = grind (arith, eqb-true, kept_whole)
 
 pub returns-clause-text : goal.returns-clause-text
 returns-clause-text c =

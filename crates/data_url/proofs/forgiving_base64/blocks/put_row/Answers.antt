@@ -5,7 +5,4 @@ use Rattle.data_url.proofs.forgiving_base64.Vectors.{row_put}
 use Rattle.data_url.proofs.forgiving_base64.blocks.put_row.Goals as goal
 
 pub returns : goal.returns
-returns c =
-    row_put c.args.at 12 c.args.bytes.now c.put.new.bytes c.decode_row.result _ c.requires.room
-    (omega arith) c.put.ensures
-    (c.decode_row.ensures.bytes ∙ ap (λ l. groups (map value_of l)) c.row.ensures)
+returns c = grind (arith, row_put)

@@ -4,15 +4,7 @@ use Rattle.data_url.proofs.forgiving_base64.Vectors.{first_ahead, none_ahead, ot
 use Rattle.data_url.proofs.forgiving_base64.blocks.symbols_in_row.Goals as goal
 
 pub returns-then-all-eq0 : goal.returns-then-all-eq0
-returns-then-all-eq0 c =
-    let text = c.args.text.now in
-    let mask = c.others-all.ensures.mask ∙ ap others_mask c.row.ensures in
-    none_ahead (take 16 text) (length-take-le 16 text c.requires) (sym mask ∙ c.if-all-eq0.true)
+returns-then-all-eq0 c = grind (arith, others_mask, none_ahead, length-take-le)
 
 pub returns-else-all-eq0 : goal.returns-else-all-eq0
-returns-else-all-eq0 c =
-    let text = c.args.text.now in
-    let mask = c.others-all.ensures.mask ∙ ap others_mask c.row.ensures in
-    let some : 0 < others_mask (take 16 text) = omega (arith, mask, c.if-all-eq0.false) in
-    ap (count_trailing_zeros 64) mask ∙ first_ahead (take 16 text) (omega (arith, length-take-le 16 text c.requires))
-    some
+returns-else-all-eq0 c = grind (arith, others_mask, first_ahead, length-take-le)

@@ -6,13 +6,10 @@ use Rattle.data_url.proofs.texts.CodePoints.{boundary_before_end}
 use Rattle.data_url.proofs.mime.cuts.without_trailing_whitespace.Goals as goal
 
 pub overflow_sub-text : goal.overflow_sub-text
-overflow_sub-text c = rw (c.trailing_len-len.ensures, c.as_bytes.ensures.value)
-    (suffix_len-le-length is_http_whitespace c.args.text.now)
+overflow_sub-text c = grind (arith, suffix_len-le-length)
 
 pub range-requires-clause-end_boundary : goal.range-requires-clause-end_boundary
-range-requires-clause-end_boundary c = rw (c.trailing_len-len.ensures, c.as_bytes.ensures.value)
-    (boundary_before_end is_http_whitespace whitespace_below c.args.text.now c.utf8.text)
+range-requires-clause-end_boundary c = grind (arith, boundary_before_end, whitespace_below)
 
 pub returns : goal.returns
-returns c = rw (c.range.ensures.value, c.trailing_len-len.ensures, c.as_bytes.ensures.value)
-    (whitespace_end c.args.text.now _ c.utf8.text (omega arith))
+returns c = grind (arith, whitespace_end)

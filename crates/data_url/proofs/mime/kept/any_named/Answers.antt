@@ -11,29 +11,16 @@ pub overflow_sub-name : goal.overflow_sub-name
 overflow_sub-name c = let some = some_byte c.args.name.now c.requires.token in omega arith
 
 pub bounds-as_bytes-name : goal.bounds-as_bytes-name
-bounds-as_bytes-name c = let some = some_byte c.args.name.now c.requires.token in
-    omega (arith, ap length c.as_bytes.ensures.value)
+bounds-as_bytes-name c = grind (arith, some_byte)
 
 pub is_named-requires-clause-some : goal.is_named-requires-clause-some
 is_named-requires-clause-some c = some_byte c.args.name.now c.requires.token
 
 pub is_named-requires-clause-key : goal.is_named-requires-clause-key
-is_named-requires-clause-key c =
-    let i = c.loop-key-item.result in
-    subst (λ t. map to_ascii_lowercase t ≡ t) (sym c.as_str.ensures.value)
-    (lower_bytes (string_bytes i.0) (IsUtf8-string_bytes i.0)
-    (lowercase_at c.args.pairs.now c.loop-key.key-index i c.requires.pairs c.loop-key-test.true c.loop-key-item.is))
+is_named-requires-clause-key c = grind (arith, lower_bytes, string_bytes, lowercase_at)
 
 pub returns-then-is_named : goal.returns-then-is_named
-returns-then-is_named c =
-    let i = c.loop-key-item.result in
-    let low = lowercase_at c.args.pairs.now c.loop-key.key-index i c.requires.pairs c.loop-key-test.true
-    c.loop-key-item.is in
-    look_finds (map to_ascii_lowercase (chars c.args.name.now)) c.args.pairs.now c.loop-key.key-index i
-    c.loop-key-test.true c.loop-key-item.is
-    (names_equal (string_bytes i.0) c.args.name.now (IsUtf8-string_bytes i.0) c.utf8.name low c.requires.token
-    (ap (map to_ascii_lowercase) (sym c.as_str.ensures.value) ∙ c.is_named.ensures.0 c.if-is_named.true))
-    c.loop-key.invariant
+returns-then-is_named c = grind (arith, lowercase_at, look_finds, names_equal, string_bytes)
 
 pub loop-key-preserved : goal.loop-key-preserved
 loop-key-preserved c =

@@ -8,11 +8,7 @@ use Rattle.data_url.proofs.mime.Parsing.{stripped_chars}
 use Rattle.data_url.proofs.mime.parse.read_parameters.Goals as goal
 
 pub returns-then-is_empty : goal.returns-then-is_empty
-returns-then-is_empty c = (
-  [],
-  empty_by c.args.text.now c.is_empty.result c.is_empty.ensures c.if-is_empty.true,
-  ap (map (λ p. pair_of p)) c.new.ensures.items,
-)
+returns-then-is_empty c = grind (arith, empty_by)
 
 pub loop-after-smaller : goal.loop-after-smaller
 loop-after-smaller c =

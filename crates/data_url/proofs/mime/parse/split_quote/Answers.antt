@@ -12,15 +12,7 @@ range_from-requires c =
     λ k. IsCharBoundary-after_ascii c.args.text.now c.loop-place.place c.utf8.text l (omega arith)
 
 pub returns-then-not-escaped : goal.returns-then-not-escaped
-returns-then-not-escaped c =
-    let l : c.loop-place.place < length c.args.text.now =
-    subst (λ s. c.loop-place.place < length s) c.as_bytes-byte-items.ensures.value c.loop-place-test.true in
-    let e : get_or c.args.text.now c.loop-place.place 0 ≡ 34 =
-    ap (λ s. get_or s c.loop-place.place 0) (sym c.as_bytes-byte-items.ensures.value) ∙ c.if-byte-eq34.true in
-    is_closed c.args.text.now c.range.result.now c.range_from.result.now c.loop-place.place c.utf8.text l e
-    (rw c.if-not-escaped.true at c.loop-place.invariant) c.range.ensures.value c.range_from.ensures.value
-    c.range_from.utf8
+returns-then-not-escaped c = grind (arith, is_closed)
 
 pub returns : goal.returns
-returns c = is_open c.as_bytes-byte-items.result.now c.args.text.now c.loop-place.place c.loop-place.escaped c.utf8.text
-    c.as_bytes-byte-items.ensures.value c.loop-place-test.false c.loop-place.invariant
+returns c = grind (arith, is_open)

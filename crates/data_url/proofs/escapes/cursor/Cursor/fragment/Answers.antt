@@ -6,8 +6,4 @@ pub returns-then-self-len : goal.returns-then-self-len
 returns-then-self-len c = no_fragment c.requires.knows (c.if-self-len.true ∙ c.len.ensures)
 
 pub returns : goal.returns
-returns c =
-    let n = c.len.ensures in
-    ap (λ (s : List ℕ). Some s) c.after.ensures
-    ∙ some_fragment c.requires.knows (ended_of c.requires.knows c.requires.ended)
-    (λ e. c.if-self-len.false (omega arith))
+returns c = grind (arith, some_fragment, ended_of)

@@ -7,11 +7,7 @@ pub loop-from-init : goal.loop-from-init
 loop-from-init c = searching_none c.requires
 
 pub overflow_add-from : goal.overflow_add-from
-overflow_add-from c =
-    let l = ap length (c.stop_from.ensures.keeps.stays.on.text_stays ∙ c.next_mark-mark.ensures.stays.on.text_stays) in
-    let b = c.next_mark-mark.ensures.bound in
-    let w = c.in-Stays.ensures.stop.0.within in
-    omega arith
+overflow_add-from c = grind arith
 
 pub loop-from-preserved-in-Stays : goal.loop-from-preserved-in-Stays
 loop-from-preserved-in-Stays c =
@@ -20,18 +16,10 @@ loop-from-preserved-in-Stays c =
     search_percent r c.in-Stays.ensures.stop.0 c.in-Stays.ensures.stop.1
 
 pub overflow_add-self : goal.overflow_add-self
-overflow_add-self c =
-    let l = ap length (c.stop_from.ensures.keeps.stays.on.text_stays ∙ c.next_mark-mark.ensures.stays.on.text_stays) in
-    let b = c.next_mark-mark.ensures.bound in
-    let w = c.in-Passed.ensures.stop.0.within in
-    omega arith
+overflow_add-self c = grind arith
 
 pub overflow_add-from-in-Passed : goal.overflow_add-from-in-Passed
-overflow_add-from-in-Passed c =
-    let l = ap length (c.stop_from.ensures.keeps.stays.on.text_stays ∙ c.next_mark-mark.ensures.stays.on.text_stays) in
-    let b = c.next_mark-mark.ensures.bound in
-    let w = c.in-Passed.ensures.stop.0.within in
-    omega arith
+overflow_add-from-in-Passed c = grind arith
 
 pub loop-from-preserved : goal.loop-from-preserved
 loop-from-preserved c =
@@ -41,11 +29,7 @@ loop-from-preserved c =
     refl
 
 pub overflow_add-mark : goal.overflow_add-mark
-overflow_add-mark c =
-    let l = ap length (c.stop_from.ensures.keeps.stays.on.text_stays ∙ c.next_mark-mark.ensures.stays.on.text_stays) in
-    let b = c.next_mark-mark.ensures.bound in
-    let w = c.in-Passed-2.ensures.stop.0.within in
-    omega arith
+overflow_add-mark c = grind arith
 
 pub returns-in-Passed-2-clause-goes : goal.returns-in-Passed-2-clause-goes
 returns-in-Passed-2-clause-goes c =

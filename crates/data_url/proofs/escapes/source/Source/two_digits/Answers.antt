@@ -7,11 +7,7 @@ pub overflow_mul-result : goal.overflow_mul-result
 overflow_mul-result c = omega (arith, le_or_l c.digit_code-high.result c.digit_code-low.result)
 
 pub overflow_add-result : goal.overflow_add-result
-overflow_add-result c = omega (
-  arith,
-  le_or_l c.digit_code-high.result c.digit_code-low.result,
-  le_or_r c.digit_code-high.result c.digit_code-low.result,
-)
+overflow_add-result c = grind (arith, le_or_l, le_or_r)
 
 pub returns-clause-found : goal.returns-clause-found
 returns-clause-found c =

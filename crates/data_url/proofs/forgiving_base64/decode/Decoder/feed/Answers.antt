@@ -7,20 +7,10 @@ use Rattle.data_url.proofs.forgiving_base64.Padding.{every_list_all}
 use Rattle.data_url.proofs.forgiving_base64.decode.Decoder.feed.Goals as goal
 
 pub loop-at-init : goal.loop-at-init
-loop-at-init g c =
-    let d = c.args.self.now in
-    record {
-      callable = c.requires.callable;
-      within = omega arith;
-      fed = feeds_none (CalledAt g.F.FnMut) (every_list_all (take d.pending d.symbols) d.pending_symbols)
-          (omega (arith, length-take d.pending d.symbols, d.few_pending)) d.few_padding c.requires.going refl;
-    }
+loop-at-init g c = grind (arith, feeds_none, every_list_all, length-take)
 
 pub returns-in_err-at-clause-fed : goal.returns-in_err-at-clause-fed
-returns-in_err-at-clause-fed g c =
-    let p = err_from_is_err_and c.from_residual.result c.from_residual.ensures.1 in
-    rw (p.1, p.2) (feeds_last (CalledAt g.F.FnMut) c.args.input.now c.loop-at.at c.loop-at.invariant.fed
-    c.in_err-at.ensures.fed)
+returns-in_err-at-clause-fed g c = grind (arith, err_from_is_err_and, feeds_last)
 
 pub returns-in_err-at-2-clause-fed : goal.returns-in_err-at-2-clause-fed
 returns-in_err-at-2-clause-fed g c =

@@ -8,22 +8,10 @@ use Rattle.data_url.proofs.forgiving_base64.Padding.{every_list_all}
 use Rattle.data_url.proofs.forgiving_base64.decode.Decoder.feed_blocks.Goals as goal
 
 pub returns-then-not-is_between_groups-clause-fed : goal.returns-then-not-is_between_groups-clause-fed
-returns-then-not-is_between_groups-clause-fed g c = let d = c.args.self.now in (
-  omega arith,
-  feeds_none (CalledAt g.F.FnMut) (every_list_all (take d.pending d.symbols) d.pending_symbols)
-      (omega (arith, length-take d.pending d.symbols, d.few_pending)) d.few_padding c.requires.going refl,
-)
+returns-then-not-is_between_groups-clause-fed g c = grind (arith, feeds_none, every_list_all, length-take)
 
 pub loop-at-init : goal.loop-at-init
-loop-at-init g c =
-    let d = c.args.self.now in
-    record {
-      callable = c.requires.callable;
-      within = omega arith;
-      between = c.is_between_groups.ensures c.if-not-is_between_groups.false;
-      fed = feeds_none (CalledAt g.F.FnMut) (every_list_all (take d.pending d.symbols) d.pending_symbols)
-          (omega (arith, length-take d.pending d.symbols, d.few_pending)) d.few_padding c.requires.going refl;
-    }
+loop-at-init g c = grind (arith, feeds_none, every_list_all, length-take)
 
 pub returns-in_err-write-clause-fed : goal.returns-in_err-write-clause-fed
 returns-in_err-write-clause-fed g c =

@@ -19,7 +19,4 @@ returns-in-3-clause-flushed g c =
     (omega arith) c.write-in-3.ensures.wrote
 
 pub returns-in_default-clause-flushed : goal.returns-in_default-clause-flushed
-returns-in_default-clause-flushed g c =
-    let d = c.args.self.now in
-    flushes_nothing (CalledAt g.F.FnMut) _ d.pending (every_list_all (take d.pending d.symbols) d.pending_symbols)
-    (omega (arith, length-take d.pending d.symbols)) (omega arith) c.requires.valid
+returns-in_default-clause-flushed g c = grind (arith, flushes_nothing, every_list_all, length-take)
