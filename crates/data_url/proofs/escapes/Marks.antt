@@ -246,7 +246,7 @@ lt_from_le a b l n = elim (cases_lt a b) [ inl e ↦ e | inr e ↦ absurd (n (om
 found_mark : {text : List ℕ} {place seen marks width : ℕ} → HasMarks text place seen marks → marks ≢ 0
     → width ≡ count_trailing_zeros 64 marks → IsFound text place seen width
 found_mark {text} {place} {seen} {marks} {width} h n e =
-    grind (
+    search (
       arith,
       length-drop,
       length-take-le,

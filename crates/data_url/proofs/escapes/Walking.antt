@@ -103,7 +103,7 @@ without_tabs_for text from zero l h =
     let e : from ≡ from + zero = omega arith in
     subst P e (without_tabs_none text from)
 without_tabs_for text from (suc n) l h =
-    grind (
+    search (
       arith,
       unmarked_tab,
       (without_tabs_for text (from + 1) n (omega arith) (λ i x y. h i (omega arith) (omega
@@ -369,7 +369,7 @@ pub search_passed : {c0 c : Cursor} (c' : Cursor) {mark : ℕ} → Reached c0 c 
     → Looking c (mark + 1) 0 → mark ≡ c.place → text_of c' ≡ text_of c → c'.source.looks ≡ c.source.looks
     → c'.base ≡ c.base → c'.seen ≡ c.seen → c'.marks ≡ c.marks → c'.place ≡ mark + 1 → Searching c0 c' (mark + 1)
 search_passed {c0} {c} c' {mark} r p k e t n b s m a =
-    grind (
+    search (
       arith,
       reads_then,
       reads_passed,
@@ -425,7 +425,7 @@ piece_in {c0} {c} mark {to} p on cut s = grind arith
 pub slice_passed : {c0 c : Cursor} {mark : ℕ} (p : Piece) → Reached c0 c mark → IsPassed (text_of c) mark
     → mark ≢ c.place → IsCut c0 c mark p → GoesOn c0 (Some p) (record c { place = mark + 1; ahead = Unknown })
 slice_passed {c0} {c} {mark} p r h n cut =
-    grind (
+    search (
       arith,
       stops_tab,
       drop_more,
@@ -540,24 +540,12 @@ escape_piece {text} {place} {value} {end} q = record {
 -- an escape that is known at the index of the walk is the next piece
 pub byte_known : {c : Cursor} {value end : ℕ} → EscapeAt (text_of c) c.place value end
     → GoesOn c (Some (Byte value)) (record c { place = end; ahead = AfterEscape })
-byte_known {c} {value} {end} q =
-    record {
-      on = record { text_stays = refl; looks_grow = omega arith };
-      reads = reads_escape q;
-      piece = escape_piece q;
-      ended = tt;
-    }
+byte_known {c} {value} {end} q = search (arith, reads_escape, escape_piece)
 
 -- a walk that keeps its text and goes from an escape to its end returns the value as a piece
 pub byte_after : {c c' : Cursor} {value : ℕ} → LooksOn c c' → EscapeAt (text_of c) c.place value c'.place
     → GoesOn c (Some (Byte value)) c'
-byte_after {c} {c'} {value} on q =
-    record {
-      on = on;
-      reads = reads_escape q;
-      piece = escape_piece q;
-      ended = tt;
-    }
+byte_after {c} {c'} {value} on q = search (arith, reads_escape, escape_piece)
 
 ended_cases : {c : Cursor} (a : Ahead) → KnowsAhead c a → has_ended a ≡ true → Ended c c.place
 ended_cases Unknown k e = absurd (cc)

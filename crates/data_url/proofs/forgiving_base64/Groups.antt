@@ -83,7 +83,7 @@ pub fill_symbols : (held block : List ℕ) (n m : ℕ) → n ≤ length block �
     → ((i : ℕ) → Fits w8 (get_or block i 0)) → list_all is_symbol (take (4 * m) block) ≡ true
     → Fills held block (4 * m) (held ++ take (3 * m) (groups (map value_of (take n block))))
 fill_symbols held block n m long few fits all =
-    grind (
+    search (
       arith,
       length-take-le,
       values_symbols,
@@ -225,7 +225,7 @@ module _ (a b w : List ℕ) (st : Stands a w) where
   -- given `Stands a w`, decoding b after a is the same as decoding w ++ b
   pub goes_on : GoesOn a b (w ++ b)
   goes_on =
-      grind (
+      search (
         arith,
         done_is,
         done_both,
@@ -258,7 +258,7 @@ any_min (c ∷ t) = let e : min (suc (length t)) 3 ≡ suc (min (length t) 2) = 
 pub left_stands : (a : List ℕ) → fault_byte false a ≡ None → Stands a (left_text (left_symbols a) (left_padding a))
 unfolding left_symbols left_padding
 left_stands a h =
-    grind (
+    search (
       arith,
       is_pad,
       every_after,

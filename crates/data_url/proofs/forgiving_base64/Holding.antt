@@ -272,13 +272,7 @@ module _ {F E : Type 0} (step : F → List ℕ → Result (Unit {0}) E → F →
 -- whole groups at the start of the text
 pub gains_groups : {F : Type 0} {d : State F} {held text held' : List ℕ} (taken : ℕ) → 0 < taken → d.symbols ≡ []
     → d.padding ≡ 0 → d.failed ≡ false → Fills held text taken held' → Gains d held text taken d held'
-gains_groups {text = text} taken some is_q is_p going f = record {
-  some = omega arith;
-  within = f.within;
-  more = f.more;
-  adds = adds_groups (take taken text) f.more is_q is_p going f.are;
-  held_are = f.held_are;
-}
+gains_groups {text = text} taken some is_q is_p going f = search (arith, adds_groups)
 
 -- a block of symbols, if nothing is held
 whole_fills : {bytes : List ℕ} (block : List ℕ) → ((i : ℕ) → Fits w8 (get_or block i 0)) → 64 ≤ length block

@@ -128,25 +128,29 @@ module _ (space pad symbol : ℕ → Bool) where
   pub before_walk : (p b : List ℕ) (n : ℕ) (s : Bool) → length p ≡ n
       → before_place (p ++ b) (stop_place n s b) ≡ p ++ ahead s b
   before_walk p [] n s e = refl
-  before_walk p (c ∷ t) n s e = grind (
-    arith,
-    take_at,
-    append-nil,
-    append_assoc,
-    (before_walk (p ++ c ∷ []) t (n + 1) (s || pad c) (cc (length_push p c))),
-    length_push,
-  )
+  before_walk p (c ∷ t) n s e =
+      search (
+        arith,
+        take_at,
+        append-nil,
+        append_assoc,
+        (before_walk (p ++ c ∷ []) t (n + 1) (s || pad c) (cc
+            (length_push p c))),
+        length_push,
+      )
 
   -- the byte of p ++ b at the place where a walk over b stops is the byte that stops it
   pub byte_walk : (p b : List ℕ) (n : ℕ) (s : Bool) → length p ≡ n → byte_at (p ++ b) (stop_place n s b) ≡ stop s b
   byte_walk p [] n s e = refl
-  byte_walk p (c ∷ t) n s e = grind (
-    arith,
-    get_or_at,
-    append_assoc,
-    (byte_walk (p ++ c ∷ []) t (n + 1) (s || pad c) (cc (length_push p c))),
-    length_push,
-  )
+  byte_walk p (c ∷ t) n s e =
+      search (
+        arith,
+        get_or_at,
+        append_assoc,
+        (byte_walk (p ++ c ∷ []) t (n + 1) (s || pad c) (cc (length_push p
+            c))),
+        length_push,
+      )
 
   -- Two texts
 
@@ -425,12 +429,7 @@ two_passes q h = passes_cond (eqb (length (q ++ replicate 2 61) % 4) 0) _
 
 more_passes : (q : List ℕ) (n : ℕ) → passes (without_padding (q ++ replicate (suc (suc (suc n))) 61)) ≡ false
 unfolding without_padding
-more_passes q n = passes_cond (eqb (length (q ++ replicate (suc (suc (suc n))) 61) % 4) 0) false
-    (without_last_padding (without_last_padding (q ++ replicate (suc (suc (suc n))) 61)))
-    (q ++ replicate (suc (suc (suc n))) 61)
-    (passes_pads q (suc (suc n)))
-    (λ e. cc (without_pad_pads q (suc (suc n)), without_pad_pads q (suc n), passes_pads q n))
-    (λ e. refl)
+more_passes q n = search (arith, passes_cond, eqb, passes_pads, without_pad_pads)
 
 symbols_pads_pass : (q : List ℕ) (p : ℕ) → Every is_symbol q → passes (without_padding (q ++ replicate p 61))
     ≡ fits_with (length q % 4) p

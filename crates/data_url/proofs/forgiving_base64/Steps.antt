@@ -288,12 +288,7 @@ module _ {F : Type 0} where
   pub adds_space : {d : State F} (c : ℕ) → Every is_symbol d.symbols → length d.symbols ≤ 3 → d.padding ≤ 3
       → is_ascii_whitespace c ≡ true → d.failed ≡ false → Adds d (c ∷ []) [] d
   adds_space {d} c every few pads space going =
-      adds_quiet (c ∷ []) [] 0 every
-      (fault_space c (has_pad d.padding) space)
-      (symbols_space c space)
-      (ap length (pads_space c space))
-      (rw append-nil few)
-      refl (sym (append-nil d.symbols)) (min_same d.padding pads) going
+      search (arith, adds_quiet, fault_space, symbols_space, pads_space, append-nil, min_same)
 
   -- d reads the empty text, and does not change
   pub adds_none : {d : State F} → Every is_symbol d.symbols → length d.symbols ≤ 3 → d.padding ≤ 3 → d.failed ≡ false
@@ -535,7 +530,7 @@ module _ {F E : Type 0} (step : F → List ℕ → Result (Unit {0}) E → F →
   pub feeds_then : {d d1 d2 : State F} {a b : List ℕ} {r : Result (Unit {0}) (DecodeError E)}
       → Feeds step d a (Ok tt) d1 → Feeds step d1 b r d2 → Feeds step d (a ++ b) r d2
   feeds_then {d} {d1} {d2} {a} {b} {r} f g =
-      grind (
+      search (
         arith,
         feeds_took,
         feeds_goes_on,

@@ -390,7 +390,7 @@ marks_whole : (r0 r1 r2 r3 : List ℕ) → length r0 ≡ 16 → length r1 ≡ 16
     → list_all unmarked (all_marks (map mark_of r0) (map mark_of r1) (map mark_of r2) (map mark_of r3))
     ≡ list_all is_symbol (r0 ++ (r1 ++ (r2 ++ r3)))
 marks_whole r0 r1 r2 r3 l0 l1 l2 l3 f0 f1 f2 f3 =
-    grind (
+    search (
       arith,
       length-map,
       length-zip2,

@@ -128,7 +128,7 @@ header_and_query : (path rest : List ℕ) → after 63 path ≡ None
     (without_tabs_and_newlines path) ++ percent_encoding in_query_set (without_tabs_and_newlines (63 ∷ rest))
 unfolding header_text
 header_and_query path rest h =
-    grind (
+    search (
       arith,
       after-dropped_none,
       dropped_keeps,
@@ -248,9 +248,7 @@ ends_with_no_space s (last init b e h) =
 
 ends_cleaned : (t : List ℕ) → Ends (cleaned_text t)
 unfolding cleaned_text trimmed_text
-ends_cleaned t =
-    ends_dropped (without_end is_c0_control_or_space (without_front is_c0_control_or_space t))
-    (ends_trimmed (without_front is_c0_control_or_space t))
+ends_cleaned t = search (arith, ends_dropped, ends_trimmed)
 
 given_of : (v : Bool) (s a : List ℕ) → cond v (Some s) None ≡ Some a → a ≡ s
 given_of true s a h = cc

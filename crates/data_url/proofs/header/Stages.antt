@@ -85,7 +85,7 @@ outside_header_byte path (Some query) b h = outside_path_byte path b h
 header_all : (s : List ℕ) → IsBytes s → printable (header_text s)
 header_all [] h = subst printable (sym header_nil) tt
 header_all (b ∷ s) h =
-    grind (
+    search (
       arith,
       cases_Bool,
       eqb-true,
@@ -240,7 +240,7 @@ pub record IsStaged (rest header tail : List ℕ) : Type 0 where
 pub is_staged : (rest header tail : List ℕ) → IsHeaderAndTail rest header tail → IsStaged rest header tail
 unfolding front fragment
 is_staged rest header tail h =
-    grind (
+    search (
       arith,
       dropped_around,
       after-dropped_none,
@@ -309,7 +309,7 @@ before-without_tabs_and_newlines : (c : ℕ) → is_tab_or_newline c ≡ false �
     → before c (without_tabs_and_newlines s) ≡ without_tabs_and_newlines (before c s)
 before-without_tabs_and_newlines c k [] = grind (arith, dropped_nil, before_nil)
 before-without_tabs_and_newlines c k (b ∷ s) =
-    grind (
+    search (
       arith,
       cases_Bool,
       eqb-true,

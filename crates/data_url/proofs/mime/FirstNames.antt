@@ -466,7 +466,7 @@ pushed_has n e q h = has_append n e (q ∷ []) ∙ or_left (has_name n e) (has_n
 none_again : (n : List ℕ) (e ps : List Pair) → has_name n e ≡ true → has_name n (first_of_each_name e ps) ≡ false
 none_again n e [] h = refl
 none_again n e (q ∷ ps) h =
-    grind (
+    search (
       arith,
       (none_again n (e ++ (q ∷ [])) ps (pushed_has n e q h)),
       pushed_has,

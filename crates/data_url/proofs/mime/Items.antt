@@ -262,13 +262,8 @@ reading_of_parts : (gap name tail rest : List ℕ) (value : Option (List ℕ)) �
     → DoesNotBegin is_http_whitespace name → Every in_name name → GivesValue tail rest value → BeginsParameters rest
     → (name_in (gap ++ (name ++ (tail ++ rest))) ≡ name)
     × (reading (after_name (gap ++ (name ++ (tail ++ rest)))) ≡ record { value = value; rest = rest })
-reading_of_parts gap name tail rest value g d n v b = let e = after_is is_http_whitespace gap (name ++ (tail ++ rest)) g
-    (not_begins_append is_http_whitespace name (tail ++ rest) d
-    (ends_of_tail is_http_whitespace refl refl tail rest value v b)) in
-    let m = ends_of_tail in_name refl refl tail rest value v b in (
-      ap (front_of in_name) e ∙ front_is in_name name (tail ++ rest) n m,
-      cc (after_is in_name name (tail ++ rest) n m, reading_is tail rest value v b),
-    )
+reading_of_parts gap name tail rest value g d n v b =
+    search (arith, after_is, not_begins_append, ends_of_tail, front_of, front_is, reading_is)
 
 -- appending is associative, for four texts
 pub append_four : (gap name tail rest : List ℕ) → (gap ++ (name ++ tail)) ++ rest ≡ gap ++ (name ++ (tail ++ rest))

@@ -204,7 +204,7 @@ pub rest_encodes : (e : Bool) (cs : List ℕ) → quoted_rest e (encode_utf8_all
     (quoted_rest e cs)
 rest_encodes e [] = refl
 rest_encodes e (c ∷ cs) =
-    grind (
+    search (
       arith,
       cases_lt,
       encode_utf8_all,

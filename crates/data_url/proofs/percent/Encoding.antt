@@ -299,7 +299,7 @@ before_encoded : (p : ℕ → Bool) → p 44 ≡ false → (s : List ℕ) → be
     (before 44 s)
 before_encoded p h [] = grind (arith, encoded_nil, before_nil)
 before_encoded p h (b ∷ s) =
-    grind (
+    search (
       arith,
       encoded_cons,
       cases_Bool,

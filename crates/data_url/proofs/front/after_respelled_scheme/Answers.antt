@@ -12,13 +12,10 @@ pub loop-place-init : goal.loop-place-init
 loop-place-init c = spells_nothing
 
 pub loop-place-preserved-then-is_tab_or_newline : goal.loop-place-preserved-then-is_tab_or_newline
-loop-place-preserved-then-is_tab_or_newline c =
-    let text = c.as_bytes-byte-items.ensures.value in
+loop-place-preserved-then-is_tab_or_newline c = let text = c.as_bytes-byte-items.ensures.value in
     let within : c.loop-place.place < length c.args.text.now =
     subst (λ s. c.loop-place.place < length s) text c.loop-place-test.true in
-    let byte : is_tab_or_newline (get_or c.args.text.now c.loop-place.place 0) ≡ true =
-    ap (λ s. is_tab_or_newline (get_or s c.loop-place.place 0)) (sym text) ∙ sym c.is_tab_or_newline.ensures
-    ∙ c.if-is_tab_or_newline.true in
+    let byte : is_tab_or_newline (get_or c.args.text.now c.loop-place.place 0) ≡ true = cc (c.is_tab_or_newline.ensures, c.if-is_tab_or_newline.true) in
     subst (λ s. Spells s c.loop-place.matched) (sym (take_more c.args.text.now c.loop-place.place 0 within))
     (spells_passed (take c.loop-place.place c.args.text.now) c.loop-place.matched
     (get_or c.args.text.now c.loop-place.place 0) c.loop-place.invariant byte)
@@ -32,17 +29,12 @@ byte_of : (c : goal.Then-to_ascii_lowercase-matched) → Byte c.args.text.now c.
 byte_of c = grind arith
 
 pub returns-then-to_ascii_lowercase-matched-clause-none : goal.returns-then-to_ascii_lowercase-matched-clause-none
-returns-then-to_ascii_lowercase-matched-clause-none c =
-    let b = byte_of c in
-    let lower : c.to_ascii_lowercase.result ≡ to_ascii_lowercase (get_or c.args.text.now c.loop-place.place 0) =
-    c.to_ascii_lowercase.ensures.value
-    ∙ ap (λ s. to_ascii_lowercase (get_or s c.loop-place.place 0)) c.as_bytes-byte-items.ensures.value in
+returns-then-to_ascii_lowercase-matched-clause-none c = let b = byte_of c in
+    let lower : c.to_ascii_lowercase.result ≡ to_ascii_lowercase (get_or c.args.text.now c.loop-place.place 0) = cc (c.to_ascii_lowercase.ensures.value, c.as_bytes-byte-items.ensures.value) in
     differs c.args.text.now (take c.loop-place.place c.args.text.now) c.loop-place.matched
     (get_or c.args.text.now c.loop-place.place 0) (drop (c.loop-place.place + 1) c.args.text.now)
     c.loop-place.invariant b.stays (λ e. c.if-to_ascii_lowercase-matched.true (lower ∙ e))
-    (sym (take-append-drop c.loop-place.place c.args.text.now)
-    ∙ ap (λ t. take c.loop-place.place c.args.text.now ++ t)
-    (drop_more c.args.text.now c.loop-place.place 0 b.within))
+    (cc (take-append-drop c.loop-place.place c.args.text.now, drop_more c.args.text.now c.loop-place.place 0 b.within))
 
 -- a byte that spells the next one of the scheme
 record Spelled (text : List ℕ) (place n : ℕ) : Type 0 where
@@ -66,19 +58,14 @@ range_from-requires c =
     c.loop-place.invariant.open_at b.same)
 
 pub returns-then-matched-eq5-clause-found : goal.returns-then-matched-eq5-clause-found
-returns-then-matched-eq5-clause-found c =
-    let b = spelled c.args.text.now c.as_bytes-byte-items.result.now c.loop-place.place c.loop-place.matched
+returns-then-matched-eq5-clause-found c = let b = spelled c.args.text.now c.as_bytes-byte-items.result.now c.loop-place.place c.loop-place.matched
     c.to_ascii_lowercase.result c.is_tab_or_newline.result c.as_bytes-byte-items.ensures.value
     c.loop-place-test.true c.is_tab_or_newline.ensures c.if-is_tab_or_newline.false
     c.to_ascii_lowercase.ensures.value c.if-to_ascii_lowercase-matched.false in
     record {
       scheme = take (c.loop-place.place + 1) c.args.text.now;
-      joined = sym (take-append-drop (c.loop-place.place + 1) c.args.text.now)
-          ∙ ap (λ s. take (c.loop-place.place + 1) c.args.text.now ++ s) (sym c.range_from.ensures.value);
-      spelled = ap (λ s. map to_ascii_lowercase (without_tabs_and_newlines s))
-          (take_more c.args.text.now c.loop-place.place 0 b.within)
-          ∙ spells_all (take c.loop-place.place c.args.text.now) c.loop-place.matched
-          (get_or c.args.text.now c.loop-place.place 0) c.loop-place.invariant b.stays b.same c.if-matched-eq5.true;
+      joined = cc (take-append-drop (c.loop-place.place + 1) c.args.text.now, c.range_from.ensures.value);
+      spelled = cc (take_more c.args.text.now c.loop-place.place 0 b.within, spells_all (take c.loop-place.place c.args.text.now) c.loop-place.matched (get_or c.args.text.now c.loop-place.place 0) c.loop-place.invariant b.stays b.same c.if-matched-eq5.true);
     }
 
 pub loop-place-preserved : goal.loop-place-preserved

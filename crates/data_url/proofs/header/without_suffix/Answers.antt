@@ -27,37 +27,25 @@ has_word : (s : List ℕ) (n spaces : ℕ) (same : Bool) → (6 ≤ length s) ×
 has_word s n spaces same at word h e = grind (arith, take_rest)
 
 pub returns-in_err-semicolon : goal.returns-in_err-semicolon
-returns-in_err-semicolon c =
-    let s = c.as_bytes-bytes.result.now in
+returns-in_err-semicolon c = let s = c.as_bytes-bytes.result.now in
     let n = c.in_ok-word.word in
     let printable = subst IsPrintable (sym c.as_bytes-bytes.ensures.value) c.requires in
     let word = has_word s n c.low_end_len.result c.is_suffix.result c.in_ok-word.ensures c.is_suffix.ensures.0
-    c.if-not-is_suffix.false c.low_end_len.ensures in
-    ap as_option c.from_residual-in_err-semicolon.ensures ∙ sym (ap before_base64 (sym c.as_bytes-bytes.ensures.value)
-    ∙ nothing_left s n c.low_end_len.result printable word (omega (arith, c.in_err-semicolon.ensures)))
+    c.if-not-is_suffix.false c.low_end_len.ensures in cc (c.from_residual-in_err-semicolon.ensures, c.as_bytes-bytes.ensures.value, nothing_left s n c.low_end_len.result printable word (omega (arith, c.in_err-semicolon.ensures)))
 
 pub returns-then-bytes-semicolon-ne59 : goal.returns-then-bytes-semicolon-ne59
-returns-then-bytes-semicolon-ne59 c =
-    let s = c.as_bytes-bytes.result.now in
+returns-then-bytes-semicolon-ne59 c = let s = c.as_bytes-bytes.result.now in
     let n = c.in_ok-word.word in
     let printable = subst IsPrintable (sym c.as_bytes-bytes.ensures.value) c.requires in
     let word = has_word s n c.low_end_len.result c.is_suffix.result c.in_ok-word.ensures c.is_suffix.ensures.0
     c.if-not-is_suffix.false c.low_end_len.ensures in
-    sym (ap before_base64 (sym c.as_bytes-bytes.ensures.value)
-    ∙ no_semicolon s n c.low_end_len.result c.in_ok-semicolon.semicolon printable word
-    (omega (arith, c.in_ok-semicolon.ensures)) c.if-bytes-semicolon-ne59.true)
+    sym (cc (c.as_bytes-bytes.ensures.value, no_semicolon s n c.low_end_len.result c.in_ok-semicolon.semicolon printable word (omega (arith, c.in_ok-semicolon.ensures)) c.if-bytes-semicolon-ne59.true))
 
 pub returns : goal.returns
-returns c =
-    let s = c.as_bytes-bytes.result.now in
+returns c = let s = c.as_bytes-bytes.result.now in
     let n = c.in_ok-word.word in
     let m = c.in_ok-semicolon.semicolon in
     let printable = subst IsPrintable (sym c.as_bytes-bytes.ensures.value) c.requires in
     let word = has_word s n c.low_end_len.result c.is_suffix.result c.in_ok-word.ensures c.is_suffix.ensures.0
     c.if-not-is_suffix.false c.low_end_len.ensures in
-    let width : m - 0 ≡ m = omega arith in
-    ap (λ (t : List ℕ). Some t) (c.range.ensures.value ∙ ap (λ k. take k c.args.header.now) width
-    ∙ ap (take m) (sym c.as_bytes-bytes.ensures.value))
-    ∙ sym (ap before_base64 (sym c.as_bytes-bytes.ensures.value)
-    ∙ with_semicolon s n c.low_end_len.result m printable word (omega (arith, c.in_ok-semicolon.ensures))
-    c.if-bytes-semicolon-ne59.false)
+    let width : m - 0 ≡ m = omega arith in cc (c.range.ensures.value, c.as_bytes-bytes.ensures.value, with_semicolon s n c.low_end_len.result m printable word (omega (arith, c.in_ok-semicolon.ensures)) c.if-bytes-semicolon-ne59.false)

@@ -23,13 +23,11 @@ pub returns-then-is_named : goal.returns-then-is_named
 returns-then-is_named c = grind (arith, lowercase_at, look_finds, names_equal, string_bytes)
 
 pub loop-key-preserved : goal.loop-key-preserved
-loop-key-preserved c =
-    let i = c.loop-key-item.result in
+loop-key-preserved c = let i = c.loop-key-item.result in
     let low = lowercase_at c.args.pairs.now c.loop-key.key-index i c.requires.pairs c.loop-key-test.true
     c.loop-key-item.is in
     look_goes_on (map to_ascii_lowercase (chars c.args.name.now)) c.args.pairs.now c.loop-key.key-index i
     c.loop-key-test.true c.loop-key-item.is
     (names_differ (string_bytes i.0) c.args.name.now (IsUtf8-string_bytes i.0) c.utf8.name low c.requires.token
-    (λ e. false≢true (sym c.if-is_named.false
-    ∙ c.is_named.ensures.1 (ap (map to_ascii_lowercase) c.as_str.ensures.value ∙ e))))
+    (λ e. false≢true (cc (c.if-is_named.false, c.is_named.ensures.1 (ap (map to_ascii_lowercase) c.as_str.ensures.value ∙ e)))))
     c.loop-key.invariant

@@ -25,8 +25,7 @@ split_at-requires c =
     c.as_bytes-bytes.ensures.value
 
 pub returns-then-is_empty-clause-value : goal.returns-then-is_empty-clause-value
-returns-then-is_empty-clause-value c =
-    let text = c.args.text.now in
+returns-then-is_empty-clause-value c = let text = c.args.text.now in
     let bytes = c.as_bytes-bytes.result.now in
     let front = c.split_at.result.0.now in
     let rest = c.split_at.result.1.now in
@@ -41,8 +40,7 @@ returns-then-is_empty-clause-value c =
     let h = plain_value _ _ _ _ c.requires s.joined s.in_front (begins_from (chars rest) s.begins)
     c.without_trailing_whitespace-value.ensures in
     let b = trimmed_bytes text front t rest
-    (sym (ap₂ (λ (x y : List ℕ). x ++ y) c.split_at.ensures.front c.split_at.ensures.back
-    ∙ take-append-drop len text)) s.text.0 u c.without_trailing_whitespace-value.ensures in
+    (sym (cc (c.split_at.ensures.front, c.split_at.ensures.back, take-append-drop len text))) s.text.0 u c.without_trailing_whitespace-value.ensures in
     let first = c.long_span-quotable.ensures.front ∙ ap (prefix_len is_unquoted_byte) c.as_bytes-bytes.ensures.value in
     let whole = n ∙ ap (prefix_len (λ x. not (is_semicolon x))) c.as_bytes-bytes.ensures.value in
     let few : length t ≤ len = omega (
@@ -69,8 +67,7 @@ returns-then-is_empty-clause-value c =
     ]
 
 pub returns-clause-value : goal.returns-clause-value
-returns-clause-value c =
-    let text = c.args.text.now in
+returns-clause-value c = let text = c.args.text.now in
     let bytes = c.as_bytes-bytes.result.now in
     let front = c.split_at.result.0.now in
     let rest = c.split_at.result.1.now in
@@ -85,8 +82,7 @@ returns-clause-value c =
     let h = plain_value _ _ _ _ c.requires s.joined s.in_front (begins_from (chars rest) s.begins)
     c.without_trailing_whitespace-value.ensures in
     let b = trimmed_bytes text front t rest
-    (sym (ap₂ (λ (x y : List ℕ). x ++ y) c.split_at.ensures.front c.split_at.ensures.back
-    ∙ take-append-drop len text)) s.text.0 u c.without_trailing_whitespace-value.ensures in
+    (sym (cc (c.split_at.ensures.front, c.split_at.ensures.back, take-append-drop len text))) s.text.0 u c.without_trailing_whitespace-value.ensures in
     let first = c.long_span-quotable.ensures.front ∙ ap (prefix_len is_unquoted_byte) c.as_bytes-bytes.ensures.value in (
       Some (chars t),
       (refl, short_quotable text t _ quotable b.2 u first c.if-value-quotable.false),

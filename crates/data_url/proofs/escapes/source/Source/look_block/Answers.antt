@@ -6,12 +6,16 @@ use Rattle.data_url.proofs.escapes.source.Source.look_block.Goals as goal
 
 pub returns-then-rest-lt-BLOCK-clause-marks : goal.returns-then-rest-lt-BLOCK-clause-marks
 returns-then-rest-lt-BLOCK-clause-marks c =
-    c.last_marks.ensures
-    ∙ ap (λ s. mask_l (map is_marked s)) (block_part c.args.self.now.text.now c.as_bytes.result.now c.args.place
-    c.as_bytes.ensures.value c.if-rest-lt-BLOCK.true c.requires)
+    cc (
+      c.last_marks.ensures,
+      block_part c.args.self.now.text.now c.as_bytes.result.now c.args.place
+          c.as_bytes.ensures.value c.if-rest-lt-BLOCK.true c.requires,
+    )
 
 pub returns-else-rest-lt-BLOCK-clause-marks : goal.returns-else-rest-lt-BLOCK-clause-marks
 returns-else-rest-lt-BLOCK-clause-marks c =
-    c.marks_of.ensures
-    ∙ ap (λ s. mask_l (map is_marked s)) (block_whole c.args.self.now.text.now c.as_bytes.result.now c.args.place
-    c.as_bytes.ensures.value c.if-rest-lt-BLOCK.false)
+    cc (
+      c.marks_of.ensures,
+      block_whole c.args.self.now.text.now c.as_bytes.result.now c.args.place
+          c.as_bytes.ensures.value c.if-rest-lt-BLOCK.false,
+    )

@@ -8,16 +8,7 @@ use Rattle.data_url.proofs.forgiving_base64.Padding.{every_list_all}
 use Rattle.data_url.proofs.forgiving_base64.decode.Decoder.feed_spaced.Goals as goal
 
 pub loop-at-init : goal.loop-at-init
-loop-at-init g c =
-    let d = c.args.self.now in
-    record {
-      callable = c.requires.callable;
-      within = omega arith;
-      few = omega (arith, c.new-symbols.ensures.len);
-      padding = c.requires.between.1;
-      holds = none_wait (CalledAt g.F.FnMut) (every_list_all (take d.pending d.symbols) d.pending_symbols)
-          c.requires.between c.requires.going c.new-symbols.ensures.none;
-    }
+loop-at-init g c = search (arith, none_wait, every_list_all)
 
 pub returns-in_err-write-clause-fed : goal.returns-in_err-write-clause-fed
 returns-in_err-write-clause-fed g c =

@@ -10,10 +10,8 @@ use Rattle.data_url.proofs.mime.FirstNames.{lower_first}
 use Rattle.data_url.proofs.mime.kept.KeptParameters.is_among_first.Goals as goal
 
 pub any_named-requires-clause-pairs : goal.any_named-requires-clause-pairs
-any_named-requires-clause-pairs c =
-    lower_first c.deref.result.now c.min.result
-    (ap (λ s. list_all (λ (p : Pair). is_lowercase_name p.0) (map (λ p. pair_of p) s)) c.deref.ensures.value
-    ∙ c.requires.indexed.lower)
+any_named-requires-clause-pairs c = lower_first c.deref.result.now c.min.result
+    (cc (c.deref.ensures.value, c.requires.indexed.lower))
 
 pub returns : goal.returns
 returns c =
