@@ -81,14 +81,14 @@ module _ {F E : Type 0} (step : F → List ℕ → Result (Unit {0}) E → F →
         text_is = same;
         place = omega arith;
         calls = omega arith;
-        body = cc (k.body, t.rest_is, append_assoc (joined_pieces k.run) bytes w'.rest, append-nil bytes, joined_pieces-append k.run call);
+        body = cc (append_assoc (joined_pieces k.run) bytes w'.rest, append-nil bytes, joined_pieces-append k.run call);
       }
 
   -- if nothing of the body is left, and the body ends at the place, the run decodes the body, with the result `Ok
   -- place`
   pub going_ends : {f g : F} {text : List ℕ} {w : Walk} {place : ℕ} → Going f text w g → w.rest ≡ []
       → IsBodyEnd text place → Decodes step f (length text) (Good (plain_body text)) (IsBodyEnd text) (Ok place) g
-  going_ends {f} {g} {text} {w} {place} k e b = grind (arith, match_none, append-nil)
+  going_ends {f} {g} {text} {w} {place} k e b = grind (arith, append-nil)
 
   -- if the walk takes bytes, and the closure returns an error for them, the run with that call decodes the body, with
   -- that error
@@ -116,7 +116,7 @@ module _ {F E : Type 0} (step : F → List ℕ → Result (Unit {0}) E → F →
             (record {
               bytes_begin = (
                 w'.rest,
-                cc (k.body, t.rest_is, append_assoc (joined_pieces k.run) bytes w'.rest),
+                cc (append_assoc (joined_pieces k.run) bytes w'.rest),
               );
               answer =
                   refl;
@@ -177,8 +177,8 @@ module _ {F E : Type 0} (step : F → List ℕ → Result (Unit {0}) E → F →
       → MatchOption o (IsAll u bytes r) (λ e. IsRefused (decoded u) bytes e r)
       → MatchOption o (HandsOut (Good (decoded u)) good bytes (at_place place r))
       (λ e. IsRefused (outcome_bytes (Good (decoded u))) bytes e (at_place place r))
-  gives_valid u bytes place good r None g h = grind (arith, at_ok)
-  gives_valid u bytes place good r (Some e) g h = grind (arith, at_err)
+  gives_valid u bytes place good r None g h = grind arith
+  gives_valid u bytes place good r (Some e) g h = grind arith
 
   gives_invalid : (u bytes : List ℕ) (place : ℕ) (good : ℕ → Type 0) (r : Result (Unit {0}) (DecodeError E))
       (o : Option E)
@@ -186,8 +186,8 @@ module _ {F E : Type 0} (step : F → List ℕ → Result (Unit {0}) E → F →
       (λ e. IsRefused (complete_bytes u) bytes e r)
       → MatchOption o (HandsOut (Bad (complete_bytes u) (kind_of u)) good bytes (at_place place r))
       (λ e. IsRefused (outcome_bytes (Bad (complete_bytes u) (kind_of u))) bytes e (at_place place r))
-  gives_invalid u bytes place good r None h = grind (arith, at_err)
-  gives_invalid u bytes place good r (Some e) h = grind (arith, at_err)
+  gives_invalid u bytes place good r None h = grind arith
+  gives_invalid u bytes place good r (Some e) h = grind arith
 
   gives : (u bytes : List ℕ) (place : ℕ) (good : ℕ → Type 0) (r : Result (Unit {0}) (DecodeError E)) (o : Option E)
       (v : Bool) → (r ≡ Ok tt → good place)
@@ -205,7 +205,7 @@ module _ {F E : Type 0} (step : F → List ℕ → Result (Unit {0}) E → F →
       (r : Result (Unit {0}) (DecodeError E)) → DecodesText step f u r g → length u + 1 ≤ most
       → (r ≡ Ok tt → good place) → Decodes step f most (outcome true u) good (at_place place r) g
   unfolding outcome
-  decodes_outcome u most place good r d l k = grind (arith, gives)
+  decodes_outcome u most place good r d l k = grind arith
 
   -- the decoder was fed the body up to the place of the walk
   pub record Fed (d : State F) (text : List ℕ) (w : Walk) (d' : State F) : Type 0 where
@@ -302,7 +302,7 @@ module _ {F E A : Type 0} {step : F → List ℕ → Result (Unit {0}) E → F �
   pub body_reads : {x : A} → Decodes step f most body good r f' → r ≡ Ok x → (J : F → List ℕ)
       → ((g : F) (piece : List ℕ) (g' : F) → step g piece (Ok tt) g' → J g' ≡ J g ++ piece)
       → (all : List ℕ) × (body ≡ Good all) × (J f' ≡ J f ++ all)
-  body_reads {x} h q J keeps = grind (arith, ok_given, run_reads)
+  body_reads {x} h q J keeps = grind (arith, run_reads)
 
   -- if decoding returns `Ok x`, `good` is true of x
   pub body_answer : {x : A} → Decodes step f most body good r f' → r ≡ Ok x → good x
@@ -320,7 +320,7 @@ module _ {F E A : Type 0} {step : F → List ℕ → Result (Unit {0}) E → F �
 
   -- if the result is Ok, the body is good
   pub body_good : {x : A} → Decodes step f most body good r f' → r ≡ Ok x → (all : List ℕ) × (body ≡ Good all)
-  body_good {x} h q = grind (arith, ok_given)
+  body_good {x} h q = grind arith
 
 -- What is true of a closure's state after a run, from what each of its calls does to that state.
 
@@ -345,7 +345,7 @@ module _ {F E : Type 0} (step : F → List ℕ → Result (Unit {0}) E → F →
       → MatchOption (or_error r (refusal cs)) (kept (bytes ++ (piece ++ joined_pieces cs)) g)
       (λ e. stopped (bytes ++ (piece ++ joined_pieces cs)) e g)
   one_more (Ok tt) bytes piece f after g cs k s last ran more = grind (arith, append_assoc)
-  one_more (Err e) bytes piece f after g cs k s last ran more = grind (arith, append-nil, run_stops)
+  one_more (Err e) bytes piece f after g cs k s last ran more = grind (arith, append-nil)
 
   run_ends_from : (cs : List (Call F E)) (bytes : List ℕ) (f g : F) → kept bytes f → IsRun step f cs g
       → MatchOption (refusal cs) (kept (bytes ++ joined_pieces cs) g) (λ e. stopped (bytes ++ joined_pieces cs) e g)
@@ -426,7 +426,7 @@ module _ {F E A : Type 0} (kept : List ℕ → F → Type 0) (stopped : List ℕ
       → kept bytes g → EndsWith kept stopped body good g r
   ended_whole (Good all) bytes (Ok x) h k = (bytes, ap Good (sym h.bytes_are), h.answer, k)
   ended_whole (Good all) bytes (Err e) h k = absurd h.answer
-  ended_whole (Bad all kind) bytes r h k = grind (arith, ended_at)
+  ended_whole (Bad all kind) bytes r h k = grind arith
 
   ended_by : (o : Option E) (body : Outcome) (bytes : List ℕ) (r : Result A (DecodeError E))
       → MatchOption o (HandsOut body good bytes r) (λ e. IsRefused (outcome_bytes body) bytes e r)

@@ -31,7 +31,7 @@ hex_code b l = agree_below_at (λ b. ltb (digit_code b) 16) (λ b. not (is_tab_o
 
 -- a '%' is neither a tab or newline nor a digit
 not_percent : (b : ℕ) → b < 256 → digit_code b < 32 → not (b == 37) ≡ true
-not_percent b l h = grind (arith, cond-true, ltb, lt-ltb, agree_below_at)
+not_percent b l h = grind arith
 
 is_tab : (b : ℕ) → b < 256 → digit_code b ≡ 16 → is_tab_or_newline b ≡ true
 is_tab b l h = sym (tab_code b l) ∙ ap (λ v. eqb v 16) h
@@ -61,16 +61,16 @@ digit_nil = refl
 -- a tab or newline before a digit is skipped
 pub digit_tab : (b : ℕ) (s : List ℕ) → is_tab_or_newline b ≡ true → digit (b ∷ s) ≡ digit s
 unfolding digit
-digit_tab b s h = grind (arith, cond-true)
+digit_tab b s h = grind arith
 
 -- a byte that is not a tab or newline is the digit, if it is hexadecimal; otherwise there is no digit
 pub digit_here : (b : ℕ) (s : List ℕ) → is_tab_or_newline b ≡ false
     → digit (b ∷ s) ≡ cond (is_ascii_hexdigit b) (Some (digit_value b, s)) None
 unfolding digit
-digit_here b s h = grind (arith, cond-false)
+digit_here b s h = grind arith
 
 digit_found : (b : ℕ) (s : List ℕ) → b < 256 → digit_code b < 16 → digit (b ∷ s) ≡ Some (digit_code b, s)
-digit_found b s l h = grind (arith, is_digit, both_left, both_right, cond-false, cond-true, digit_here)
+digit_found b s l h = grind (arith, digit_here)
 
 other_test : (b : ℕ) → b < 256 → 16 < digit_code b
     → cond (ltb 16 (digit_code b)) (not (is_tab_or_newline b) && not (is_ascii_hexdigit b)) true ≡ true
@@ -110,7 +110,7 @@ byte_of {text} {same} {place} {b} e w h l = record { within = w; byte_is = h ∙
 pub found_here : {text : List ℕ} {place b value looks looks' : ℕ} → IsByte text place b → value ≡ digit_code b
     → value < 16 → looks' ≡ looks + 1 → DigitFound text place looks value (place + 1) looks'
 found_here {text} {place} {b} {value} {looks} {looks'} at code small n =
-    grind (arith, not_percent, no_percent_at, at_place, digit_found)
+    grind (arith, not_percent, at_place, digit_found)
 
 -- if the code of a byte is above 16, there is no digit from its index on
 pub none_here : {text : List ℕ} {place b value looks looks' : ℕ} → IsByte text place b → value ≡ digit_code b
@@ -137,7 +137,7 @@ pub passed_more : {text : List ℕ} {place at b value looks looks' looks'' : ℕ
     → IsByte text at b → value ≡ digit_code b → value ≡ 16 → looks'' ≡ looks' + 1
     → Passed text place (at + 1) looks looks''
 passed_more {text} {place} {at} {b} {value} {looks} {looks'} {looks''} p here code tab n =
-    grind (arith, not_percent, no_percent_at, at_place, digit_tab, is_tab)
+    grind (arith, not_percent, at_place, digit_tab, is_tab)
 
 -- a digit that is found after skipped bytes is found from their start on
 pub passed_found : {text : List ℕ} {place at value end looks looks' looks'' : ℕ} → Passed text place at looks looks'

@@ -71,8 +71,7 @@ marks_padded (x ∷ xs) k = ap (λ m. cond (is_marked x) 1 0 + 2 * m) (marks_pad
 pub marks_of_rest : (rest new zeros : List ℕ) (r k : ℕ) → new ≡ rest → zeros ≡ replicate 64 0 → k ≡ length rest
     → r ≡ mask_l (map is_marked (put_mid 0 k zeros new)) → r ≡ mask_l (map is_marked rest)
 marks_of_rest rest new zeros r k e z l h =
-    let tail : drop k zeros ≡ replicate (64 - k) 0 = ap (drop k) z ∙ drop-replicate k 64 0 in cc (marks_padded rest
-    (64 - k))
+    let tail : drop k zeros ≡ replicate (64 - k) 0 = ap (drop k) z ∙ drop-replicate k 64 0 in cc (marks_padded rest (64 - k))
 
 -- the block of a text at a place: a whole one, or the rest of the text
 pub block_whole : (text bytes : List ℕ) (place : ℕ) → bytes ≡ text
@@ -100,12 +99,7 @@ pub mask_later : (bs : List Bool) (k : ℕ) → mask_l bs / 2 ^ k ≡ mask_l (dr
 mask_later bs zero = omega arith
 mask_later [] (suc k) = omega arith
 mask_later (b ∷ bs) (suc k) =
-    let p : 2 ^ suc k ≡ 2 * 2 ^ k = pow-suc 2 k ∙ mul_comm (2 ^ k) 2 in cc (
-      div-div-eq-div-mul (mask_l (b ∷ bs)) 2 (2
-          ^ k),
-      mask_half b bs,
-      mask_later bs k,
-    )
+    let p : 2 ^ suc k ≡ 2 * 2 ^ k = pow-suc 2 k ∙ mul_comm (2 ^ k) 2 in cc (div-div-eq-div-mul (mask_l (b ∷ bs)) 2 (2 ^ k), mask_half b bs, mask_later bs k)
 
 -- nothing can be taken from the empty list
 pub take_none : (k : ℕ) → ◌≡◌ {A = List ℕ} [] (take k [])
@@ -176,12 +170,7 @@ looked_at v long m l = let ll : length (map low_half v) ≡ 64 = length-map v lo
 -- a swizzle by the low halves looks up the entry of each byte
 pub looked_up : (v : List ℕ) → length v ≡ 64 → swz_l w8 16 MARKED 0 (lows v) ≡ map entry v
 looked_up v long =
-    cc (
-      lows_are v long,
-      ext_get_or 0 (swz_l w8 16 MARKED 0 (map low_half v)) (map entry v) (length-swz_l w8 16
-          MARKED 0 (map low_half v) ∙ length-map v low_half ∙ sym (length-map v entry)) (λ m l. looked_at v long m (let k =
-          length-swz_l w8 16 MARKED 0 (map low_half v) in let n = length-map v low_half in omega arith)),
-    )
+    cc (lows_are v long, ext_get_or 0 (swz_l w8 16 MARKED 0 (map low_half v)) (map entry v) (length-swz_l w8 16 MARKED 0 (map low_half v) ∙ length-map v low_half ∙ sym (length-map v entry)) (λ m l. looked_at v long m (let k = length-swz_l w8 16 MARKED 0 (map low_half v) in let n = length-map v low_half in omega arith)))
 
 -- an entry is equal to the byte exactly if the byte is marked
 marked_here : (b : ℕ) → b < 256 → eqb (entry b) b ≡ is_marked b
@@ -189,21 +178,14 @@ marked_here b l = agree_below_at (λ b. eqb (entry b) b) is_marked 256 b refl l
 
 marked_each : (v : List ℕ) → Each1 (Fits w8) v → map (λ b. eqb (entry b) b) v ≡ map is_marked v
 marked_each [] h = refl
-marked_each (b ∷ v) h = grind (arith, eqb, marked_here, (marked_each v h.1))
+marked_each (b ∷ v) h = grind (arith, marked_here, (marked_each v h.1))
 
 -- the mask that lanes compute is that of the marked bytes
 pub marks_are : (v : List ℕ) → length v ≡ 64 → Each1 (Fits w8) v
     → mask_l (map (top 7) (zip2 (λ a b. cond (eqb a b) 255 0) (swz_l w8 16 MARKED 0 (lows v)) v)) % 2 ^ 64 ≡ mask_l
     (map is_marked v)
 marks_are v long fits =
-    cc (
-      tops_compared w8 eqb (swz_l w8 16 MARKED 0 (lows v)) v,
-      zip2_of_maps eqb entry (λ b. b) v (looked_up v long)
-          (sym (map-id v)),
-      marked_each v fits,
-      mask_l-mod (map is_marked v) 64 (let l = length-map v is_marked in omega
-          arith),
-    )
+    cc (tops_compared w8 eqb (swz_l w8 16 MARKED 0 (lows v)) v, zip2_of_maps eqb entry (λ b. b) v (looked_up v long) (sym (map-id v)), marked_each v fits, mask_l-mod (map is_marked v) 64 (let l = length-map v is_marked in omega arith))
 
 -- The next marked byte of a text, by the marks of a block.
 
@@ -228,12 +210,12 @@ pub record HasMarks (text : List ℕ) (place seen marks : ℕ) : Type 0 where
 -- the marks of a block, shifted by the distance from its start to an index, are those from the index on
 pub has_marks : {c : Cursor} {place marks : ℕ} → Looking c place 0 → place ≤ c.seen
     → marks ≡ c.marks / 2 ^ (place - c.base) → HasMarks (text_of c) place c.seen marks
-has_marks {c} {place} {marks} k l e = grind (arith, marks_are, marks_later)
+has_marks {c} {place} {marks} k l e = grind (arith, marks_later)
 
 -- the marks of a block from its front on
 pub block_marks : {c : Cursor} {place : ℕ} → Looking c place 0 → c.base ≡ place → place ≤ c.seen
     → HasMarks (text_of c) place c.seen c.marks
-block_marks {c} {place} k e l = grind (arith, marks_are)
+block_marks {c} {place} k e l = grind arith
 
 -- the next mark is `width` bytes after the place
 pub record IsFound (text : List ℕ) (place seen width : ℕ) : Type 0 where
@@ -246,17 +228,7 @@ lt_from_le a b l n = elim (cases_lt a b) [ inl e ↦ e | inr e ↦ absurd (n (om
 found_mark : {text : List ℕ} {place seen marks width : ℕ} → HasMarks text place seen marks → marks ≢ 0
     → width ≡ count_trailing_zeros 64 marks → IsFound text place seen width
 found_mark {text} {place} {seen} {marks} {width} h n e =
-    search (
-      arith,
-      length-drop,
-      length-take-le,
-      trailing_mask_l,
-      run_in_chunk_le,
-      lt_from_le,
-      mask_none,
-      run_in_chunk_fails,
-      run_in_chunk_stops,
-    )
+    search (arith, length-drop, length-take-le, trailing_mask_l, run_in_chunk_le, mask_none, run_in_chunk_fails, run_in_chunk_stops)
 
 -- if the marks are not zero, the next mark is as many bytes after the index as the marks have trailing zeros
 pub found : {text : List ℕ} {place seen marks width : ℕ} → HasMarks text place seen marks → (marks ≡ 0 → ⊥)
@@ -276,7 +248,7 @@ clear_then text from middle to a b k l h = elim (cases_lt k middle) [ inl e ↦ 
 -- the next mark after a range without marks is also the next mark from the start of that range
 pub mark_then : {text : List ℕ} {from middle to : ℕ} → from ≤ middle → IsClear text from middle
     → IsNextMark text middle to → IsNextMark text from to
-mark_then {text} {from} {middle} {to} l c m = grind (arith, clear_then)
+mark_then {text} {from} {middle} {to} l c m = grind arith
 
 -- if there are no marks up to the end of the text, the next mark is that end (found by `search`)
 pub mark_at_end : {text : List ℕ} {from to : ℕ} → from ≤ to → to ≤ length text → length text ≤ to → IsClear text from to

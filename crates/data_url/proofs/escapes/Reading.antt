@@ -41,7 +41,7 @@ record HasDigit (s : List ℕ) (value : ℕ) (rest : List ℕ) : Type 0 where
 
 digit_at : (b : ℕ) (s : List ℕ) (value : ℕ) (rest : List ℕ) → is_tab_or_newline b ≡ false → is_ascii_hexdigit b ≡ true
     → ◌≡◌ {A = Option (ℕ × List ℕ)} (Some (digit_value b, s)) (Some (value, rest)) → HasDigit (b ∷ s) value rest
-digit_at b s value rest t h e = grind (arith, dropped_keeps, after_other, hex_no_hash)
+digit_at b s value rest t h e = grind (arith, dropped_keeps, after_other)
 
 has_digit : (s : List ℕ) (value : ℕ) (rest : List ℕ) → digit s ≡ Some (value, rest) → HasDigit s value rest
 has_digit [] value rest h = grind (arith, digit_nil)
@@ -130,7 +130,7 @@ first_no_digit (b ∷ s) h = and_left (is_ascii_hexdigit b) (begins_with_digit s
 
 no_low_cases : (s middle : List ℕ) (high : ℕ) (o : Option (ℕ × List ℕ)) → HasDigit s high middle → digit middle ≡ o
     → with_low_digit high o ≡ None → begins_with_two_digits (without_tabs_and_newlines s) ≡ false
-no_low_cases s middle high None a e h = grind (arith, and_right, no_digit)
+no_low_cases s middle high None a e h = grind (arith, no_digit)
 no_low_cases s middle high (Some low) a e h = absurd (cc)
 
 no_high_cases : (s : List ℕ) (o : Option (ℕ × List ℕ)) → digit s ≡ o → with_high_digit o ≡ None
@@ -144,7 +144,7 @@ no_escape s h = no_high_cases s (digit s) refl h
 
 same_two_digits : (s : List ℕ) → begins_with_two_digits s ≡ false → two_digits (before 35 s) ≡ false
 same_two_digits [] h = ap two_digits (before_nil 35)
-same_two_digits (b ∷ []) h = grind (arith, cases_Bool, two_digits, eqb-true, before_same, before_other, before_nil)
+same_two_digits (b ∷ []) h = grind (arith, before_same, before_other, before_nil)
 same_two_digits (b ∷ c ∷ s) h = elim (cases_Bool (b == 35)) [
   | inl e ↦ ap (λ x. two_digits (before 35 (x ∷ c ∷ s))) (eqb-true b 35 e) ∙ ap two_digits (before_same 35 (c ∷ s))
   | inr e ↦ ap two_digits (before_other 35 b (c ∷ s) e) ∙ elim (cases_Bool (c == 35)) [
@@ -264,12 +264,12 @@ unmarked_percent false false p e = e
 reads_byte : {text : List ℕ} {place : ℕ} → place < length text → is_marked (get_or text place 0) ≡ false
     → Reads text place (place + 1) (get_or text place 0 ∷ [])
 reads_byte {text} {place} l h =
-    grind (arith, unmarked_tab, unmarked_hash, unmarked_percent, at_place, body_keeps, after_other)
+    grind (arith, at_place, body_keeps, after_other)
 
 -- a stretch without marks, by how many bytes it has
 clear_for : (text : List ℕ) (from n : ℕ) → from + n ≤ length text → IsClear text from (from + n)
     → Reads text from (from + n) (take n (drop from text))
-clear_for text from zero l h = grind (arith, reads_none)
+clear_for text from zero l h = grind arith
 clear_for text from (suc n) l h =
     let w : from < length text = omega arith in
     let first = reads_byte {text = text} {place = from} w (h from (omega arith) (omega arith)) in

@@ -47,7 +47,7 @@ drop_none zero = refl
 drop_none (suc n) = refl
 
 taken_none : (n m : ℕ) → ◌≡◌ {A = List ℕ} (take n [] ++ take m (drop n [])) (take (n + m) [])
-taken_none n m = grind (arith, take_none, drop_none)
+taken_none n m = grind arith
 
 taken_twice : (n m : ℕ) (xs : List ℕ) → take n xs ++ take m (drop n xs) ≡ take (n + m) xs
 taken_twice zero m xs = let e : m ≡ zero + m = omega arith in ap (λ k. take k xs) e
@@ -103,14 +103,7 @@ without_tabs_for text from zero l h =
     let e : from ≡ from + zero = omega arith in
     subst P e (without_tabs_none text from)
 without_tabs_for text from (suc n) l h =
-    search (
-      arith,
-      unmarked_tab,
-      (without_tabs_for text (from + 1) n (omega arith) (λ i x y. h i (omega arith) (omega
-          arith))),
-      without_tabs_then,
-      without_tabs_byte,
-    )
+    search (arith, (without_tabs_for text (from + 1) n (omega arith) (λ i x y. h i (omega arith) (omega arith))), without_tabs_then, without_tabs_byte)
 
 -- a stretch without marks has no tab or newline
 pub without_tabs_clear : (text : List ℕ) (from to : ℕ) → from ≤ to → to ≤ length text → IsClear text from to
@@ -163,7 +156,7 @@ block_as {text} {text'} {base} {base'} {seen} {seen'} {marks} {marks'} t b s m k
 pub looking_as : {c c' : Cursor} {place more : ℕ} (place' more' : ℕ) → Looking c place more → text_of c' ≡ text_of c
     → c'.base ≡ c.base → c'.seen ≡ c.seen → c'.marks ≡ c.marks → place ≤ place' → place' ≤ length (text_of c)
     → c'.source.looks + more' ≤ paid_looks (text_of c) c.seen place' → Looking c' place' more'
-looking_as {c} {c'} {place} {more} place' more' k t b s m f w l = grind (arith, block_as)
+looking_as {c} {c'} {place} {more} place' more' k t b s m f w l = grind arith
 
 -- a walk that changes nothing but the number of bytes read, which does not become smaller, keeps its block
 pub keeps : {c c' : Cursor} → text_of c' ≡ text_of c → c.source.looks ≤ c'.source.looks → c'.base ≡ c.base
@@ -173,7 +166,7 @@ keeps t l b s m p a = grind arith
 looking_kept : {c c' : Cursor} {place more : ℕ} (place' more' : ℕ) → Looking c place more → KeepsBlock c c'
     → place ≤ place' → place' ≤ length (text_of c) → c'.source.looks + more' ≤ paid_looks (text_of c) c.seen place'
     → Looking c' place' more'
-looking_kept place' more' k h f w l = grind (arith, looking_as)
+looking_kept place' more' k h f w l = grind arith
 
 -- What is at a mark
 
@@ -311,7 +304,7 @@ pub record Searching (c0 c : Cursor) (from : ℕ) : Type 0 where
 
 -- a walk that can go on at its index begins a search there
 pub searching_none : {c : Cursor} → Looking c c.place 0 → Searching c c c.place
-searching_none {c} k = grind (arith, reads_none, slice_none, skipped_none, without_tabs_none)
+searching_none {c} k = grind (arith, skipped_none)
 
 -- the stretch reaches a mark
 pub record Reached (c0 c : Cursor) (mark : ℕ) : Type 0 where
@@ -369,17 +362,7 @@ pub search_passed : {c0 c : Cursor} (c' : Cursor) {mark : ℕ} → Reached c0 c 
     → Looking c (mark + 1) 0 → mark ≡ c.place → text_of c' ≡ text_of c → c'.source.looks ≡ c.source.looks
     → c'.base ≡ c.base → c'.seen ≡ c.seen → c'.marks ≡ c.marks → c'.place ≡ mark + 1 → Searching c0 c' (mark + 1)
 search_passed {c0} {c} c' {mark} r p k e t n b s m a =
-    search (
-      arith,
-      reads_then,
-      reads_passed,
-      looking_as,
-      slice_none,
-      reads_none,
-      skipped_then,
-      skipped_byte,
-      without_tabs_none,
-    )
+    search (arith, reads_passed, skipped_then, skipped_byte)
 
 -- Pieces
 
@@ -402,11 +385,11 @@ stops_end (b ∷ s) h = ap (λ v. is_slice_end (v ∷ s)) h
 slice_piece : {c0 c : Cursor} {mark to : ℕ} {bytes : List ℕ} → Reached c0 c mark → mark ≢ c.place
     → Reads (text_of c0) mark to [] → IsSkipped (text_of c0) mark to → bytes ≡ slice_range (text_of c) c.place mark
     → is_slice_end (drop mark (text_of c0)) ≡ true → IsStretch (text_of c0) c0.place to bytes
-slice_piece {c0} {c} {mark} {to} {bytes} r n after skipped e h = grind (arith, in_front, reads_then)
+slice_piece {c0} {c} {mark} {to} {bytes} r n after skipped e h = grind (arith, in_front)
 
 slice_read : {c0 c : Cursor} {mark : ℕ} {bytes : List ℕ} → Reached c0 c mark
     → bytes ≡ slice_range (text_of c) c.place mark → Reads (text_of c0) c0.place mark bytes
-slice_read {c0} {c} {mark} {bytes} r e = grind (arith, reads_then)
+slice_read {c0} {c} {mark} {bytes} r e = grind arith
 
 -- a walk that was only moved to another place
 moved_on : {c0 c : Cursor} (place : ℕ) (ahead : Ahead) → LooksOn c0 c
@@ -425,32 +408,20 @@ piece_in {c0} {c} mark {to} p on cut s = grind arith
 pub slice_passed : {c0 c : Cursor} {mark : ℕ} (p : Piece) → Reached c0 c mark → IsPassed (text_of c) mark
     → mark ≢ c.place → IsCut c0 c mark p → GoesOn c0 (Some p) (record c { place = mark + 1; ahead = Unknown })
 slice_passed {c0} {c} {mark} p r h n cut =
-    search (
-      arith,
-      stops_tab,
-      drop_more,
-      moved_on,
-      append-nil,
-      reads_then,
-      slice_read,
-      reads_passed,
-      piece_in,
-      slice_piece,
-      skipped_byte,
-    )
+    search (arith, drop_more, reads_passed, slice_piece, skipped_byte)
 
 -- the stretch up to an escape is a piece, and the walk goes on with the escape
 pub slice_escape : {c0 c : Cursor} {mark value end : ℕ} (p : Piece) → Reached c0 c mark
     → EscapeAt (text_of c) mark value end → mark ≢ c.place → IsCut c0 c mark p
     → GoesOn c0 (Some p) (record c { place = mark; ahead = Escape value end })
 slice_escape {c0} {c} {mark} {value} {end} p r h n cut =
-    grind (arith, drop_more, stops_percent, moved_on, slice_read, piece_in, slice_piece, reads_none, skipped_none)
+    grind (arith, drop_more, slice_piece, skipped_none)
 
 -- the stretch up to the end of the body is a piece, and the walk ends
 pub slice_end : {c0 c : Cursor} {mark : ℕ} (p : Piece) → Reached c0 c mark → Ended c mark → mark ≢ c.place
     → IsCut c0 c mark p → GoesOn c0 (Some p) (record c { place = mark; ahead = End })
 slice_end {c0} {c} {mark} p r h n cut =
-    grind (arith, moved_on, slice_read, piece_in, slice_piece, reads_none, skipped_none, stops_end)
+    grind (arith, slice_piece, skipped_none)
 
 -- an escape at the index of the walk is a piece, and the walk goes on after it
 pub byte_here : {c0 c : Cursor} {mark value end : ℕ} → Reached c0 c mark → EscapeAt (text_of c) mark value end
@@ -515,13 +486,13 @@ piece_from (Some p) to on e h = piece_of p to on.text_stays e h
 -- a walk that has only read its text goes on as the one before (found by `search`)
 pub goes_then : {c c1 c2 : Cursor} {next : Option Piece} → LooksOn c c1 → c1.place ≡ c.place → GoesOn c1 next c2
     → GoesOn c next c2
-goes_then {c} {c1} {c2} {next} on e g = grind (arith, on_then, reads_in, piece_from)
+goes_then {c} {c1} {c2} {next} on e g = grind arith
 
 -- what is true of every walk stays true if the walk goes on, and what its `ahead` says is true
 pub knows_on : {c c' : Cursor} {next : Option Piece} → Knows c → GoesOn c next c' → KnowsAhead c' c'.ahead → Knows c'
 knows_on {c} {c'} {next} k g a = let text = g.on.text_stays in
     record {
-      after_is = cc (k.after_is, g.reads.after_is);
+      after_is = cc;
       ahead_is = a;
     }
 
@@ -573,7 +544,7 @@ no_fragment {c} k e = sym (k.after_is ∙ ap (after 35) (drop_all c.place (text_
 -- a walk that ends, but not at the end of its text, is at a '#'
 pub hash_at : {c : Cursor} → Ended c c.place → (c.place ≡ length (text_of c) → ⊥) → (c.place < length (text_of c))
     × (get_or (text_of c) c.place 0 ≡ 35)
-hash_at {c} h n = grind (arith, cases_lt, drop_more)
+hash_at {c} h n = grind (arith, drop_more)
 
 -- if a walk ends, but not at the end of its text, the fragment is what follows the '#' at its index
 pub some_fragment : {c : Cursor} → Knows c → Ended c c.place → (c.place ≡ length (text_of c) → ⊥)
@@ -597,13 +568,13 @@ ahead_is c a e k = let P : Ahead → Type 0 = λ x. KnowsAhead c x in subst P (s
 
 -- nothing is gathered
 pub gathers_none : (c : Cursor) (room : List ℕ) (len : ℕ) → c.place ≤ length (text_of c) → Gathers c c room room len len
-gathers_none c room len w = grind (arith, reads_none, append-nil)
+gathers_none c room len w = grind (arith, append-nil)
 
 -- what is gathered in two steps, one after the other, is gathered in both together
 pub gathers_then : {c c1 c2 : Cursor} {room room1 room2 : List ℕ} {len len1 len2 : ℕ} → Gathers c c1 room room1 len len1
     → Gathers c1 c2 room1 room2 len1 len2 → Gathers c c2 room room2 len len2
 gathers_then {c} {c1} {c2} {room} {room1} {room2} {len} {len1} {len2} g h =
-    grind (arith, length-append, on_then, reads_then, reads_in, append_assoc)
+    grind (arith, length-append, append_assoc)
 
 -- one byte is appended to the buffer
 pub gathers_byte : {c c' : Cursor} {room : List ℕ} {len b : ℕ} → LooksOn c c'
@@ -668,18 +639,18 @@ reads_to {text} {from} {to} {to'} {bytes} e r = let P : ℕ → Type 0 = λ x. R
 -- a walk that goes on after a '%' that does not begin an escape appends the '%'
 pub gathers_percent : {c c1 c' : Cursor} {room : List ℕ} {len : ℕ} → Went c c1 c' (c.place + 1)
     → LonePercent (text_of c1) c.place → len < length room → Gathers c c' room (set room len 37) len (len + 1)
-gathers_percent {c} {c1} {c'} {room} {len} w p l = grind (arith, gathers_byte, went_on, reads_to, reads_percent)
+gathers_percent {c} {c1} {c'} {room} {len} w p l = grind (arith, gathers_byte, reads_percent)
 
 -- a walk that goes on after a tab or newline appends nothing
 pub gathers_passed : {c c1 c' : Cursor} {room : List ℕ} {len : ℕ} → Went c c1 c' (c.place + 1)
     → IsPassed (text_of c1) c.place → Gathers c c' room room len len
-gathers_passed {c} {c1} {c'} {room} {len} w p = grind (arith, gathers_nothing, went_on, reads_to, reads_passed)
+gathers_passed {c} {c1} {c'} {room} {len} w p = grind (arith, gathers_nothing, reads_passed)
 
 -- a walk that goes on after an escape appends its value
 pub gathers_value : {c c1 c' : Cursor} {room : List ℕ} {len value end : ℕ} → Went c c1 c' end
     → EscapeAt (text_of c1) c.place value end → len < length room → Gathers c c' room (set room len value) len (len + 1)
 gathers_value {c} {c1} {c'} {room} {len} {value} {end} w p l =
-    grind (arith, gathers_byte, went_on, reads_to, reads_escape)
+    grind (arith, gathers_byte, reads_escape)
 
 -- the walk goes on in its block, if there is no mark before a place
 pub may_at : {c : Cursor} {len : ℕ} (width : ℕ) → MayGather c len → c.place < c.seen → c.place + width ≤ c.seen
@@ -727,7 +698,7 @@ smaller_by total place place' false l w m = omega arith
 pub smaller : (c0 : Cursor) {c1 c' : Cursor} {room room' : List ℕ} {len len' : ℕ} (total : ℕ) → c0.ahead ≡ Unknown
     → c1.place ≡ c0.place → length (text_of c1) ≡ total → Moves c1 c' → Gathers c1 c' room room' len len'
     → measure total c'.place (has_ended c'.ahead) < measure total c0.place (has_ended c0.ahead)
-smaller c0 {c1} {c'} {room} {room'} {len} {len'} total u p t m g = grind (arith, smaller_by)
+smaller c0 {c1} {c'} {room} {room'} {len} {len'} total u p t m g = grind arith
 
 -- The contract of a walk.
 
@@ -780,15 +751,15 @@ takes_gathered {c} {c'} {room0} {room} {len} g some = grind arith
 before_next : {c c1 c2 : Cursor} {room0 room : List ℕ} {len : ℕ} {next : Option Piece} → Gathers c c1 room0 room 0 len
     → len ≡ 0
     → GoesOn c1 next c2 → Reads (text_of c) c.place c2.place (bytes_of_next next)
-before_next {c} {c1} {c2} {room0} {room} {len} {next} g e h = grind (arith, nil_from_length, reads_then, reads_in)
+before_next {c} {c1} {c2} {room0} {room} {len} {next} g e h = grind arith
 
 -- if nothing was gathered, and then came a piece, the walk returns the bytes of the piece
 pub takes_next : {c c1 c2 : Cursor} {room0 room : List ℕ} {len : ℕ} (p : Piece) → Gathers c c1 room0 room 0 len
     → len ≡ 0
     → GoesOn c1 (Some p) c2 → Takes (walk_of c) (bytes_of p) (walk_of c2)
-takes_next {c} {c1} {c2} {room0} {room} {len} p g e h = grind (arith, before_next, piece_some)
+takes_next {c} {c1} {c2} {room0} {room} {len} p g e h = grind (arith, piece_some)
 
 -- if nothing was gathered, and then came no piece, the walk is at its end
 pub over_next : {c c1 c2 : Cursor} {room0 room : List ℕ} {len : ℕ} → Gathers c c1 room0 room 0 len → len ≡ 0
     → GoesOn c1 None c2 → Knows c2 → IsOver (walk_of c) (walk_of c2)
-over_next {c} {c1} {c2} g e h k = grind (arith, before_next, rest_over)
+over_next {c} {c1} {c2} g e h k = grind (arith, rest_over)

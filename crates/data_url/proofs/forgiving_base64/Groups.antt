@@ -76,25 +76,14 @@ symbols_alone (b ∷ s) h = let p = and_parts (is_symbol b) (list_all is_symbol 
 
 -- if each byte of s is at most 255, so is each of its first n bytes
 pub fits_take : (n : ℕ) (s : List ℕ) → ((i : ℕ) → Fits w8 (get_or s i 0)) → (i : ℕ) → Fits w8 (get_or (take n s) i 0)
-fits_take n s fits i = grind (arith, cases_lt, w8, get_or-take, get_or_past, length-take)
+fits_take n s fits i = grind (arith, get_or-take, get_or_past, length-take)
 
 -- the groups of the first symbols of n bytes
 pub fill_symbols : (held block : List ℕ) (n m : ℕ) → n ≤ length block → 4 * m ≤ n
     → ((i : ℕ) → Fits w8 (get_or block i 0)) → list_all is_symbol (take (4 * m) block) ≡ true
     → Fills held block (4 * m) (held ++ take (3 * m) (groups (map value_of (take n block))))
 fill_symbols held block n m long few fits all =
-    search (
-      arith,
-      length-take-le,
-      values_symbols,
-      symbols_alone,
-      length-map,
-      take_groups,
-      take-map,
-      take-take,
-      symbols_values,
-      fits_take,
-    )
+    search (arith, length-take-le, values_symbols, symbols_alone, length-map, take_groups, take-map, take-take, symbols_values, fits_take)
 
 -- the first c groups of a row that was written after g groups
 pub row_held : (old new bytes : List ℕ) (g c : ℕ) → take (3 * g + 12) new ≡ take (3 * g) old ++ bytes
@@ -118,7 +107,7 @@ fill_one held [] bytes h all e = absurd (omega arith)
 fill_one held (p ∷ []) bytes h all e = absurd (omega arith)
 fill_one held (p ∷ q ∷ []) bytes h all e = absurd (omega arith)
 fill_one held (p ∷ q ∷ r ∷ []) bytes h all e = absurd (omega arith)
-fill_one held (p ∷ q ∷ r ∷ s ∷ rest) bytes h all e = grind (arith, values_symbols, symbols_alone)
+fill_one held (p ∷ q ∷ r ∷ s ∷ rest) bytes h all e = grind (arith, values_symbols)
 
 -- The symbols at the start
 
@@ -174,11 +163,11 @@ min_alike m n k e = omega arith
 valid_by : (x y : List ℕ) → fault_byte false x ≡ fault_byte false y
     → length (filter is_symbol x) % 4 ≡ length (filter is_symbol y) % 4
     → min (length (filter is_pad x)) 3 ≡ min (length (filter is_pad y)) 3 → is_valid x ≡ is_valid y
-valid_by x y e f g = grind (arith, fault_byte, no_fault_valid, fits_min, is_pad, fits_with, fault_invalid)
+valid_by x y e f g = grind (arith, no_fault_valid, fault_invalid)
 
 module _ (a b w : List ℕ) (st : Stands a w) where
   fault_both : fault_byte false (a ++ b) ≡ fault_byte false (w ++ b)
-  fault_both = grind (arith, fault-append, fault_byte)
+  fault_both = grind (arith, fault-append)
 
   symbols_left : (t : List ℕ) → filter is_symbol (w ++ t) ≡ after_groups (filter is_symbol a) ++ filter is_symbol t
   symbols_left t = filter-append is_symbol w t ∙ ap (λ x. x ++ filter is_symbol t) st.symbols
@@ -188,14 +177,14 @@ module _ (a b w : List ℕ) (st : Stands a w) where
   values_left t = grind (arith, symbols_left, map-append, after_groups-map)
 
   length_symbols : length (filter is_symbol (a ++ b)) % 4 ≡ length (filter is_symbol (w ++ b)) % 4
-  length_symbols = grind (arith, filter-append, length_alike, symbols_left)
+  length_symbols = grind (arith, filter-append, length_alike)
 
   length_values : length (values (a ++ b)) % 4 ≡ length (values (w ++ b)) % 4
   unfolding values
   length_values = grind (arith, length-map, length_symbols)
 
   length_pads : min (length (filter is_pad (a ++ b))) 3 ≡ min (length (filter is_pad (w ++ b))) 3
-  length_pads = grind (arith, filter-append, is_pad, length-append, min_alike)
+  length_pads = grind (arith, filter-append, length-append)
 
   done_first : complete_bytes a ≡ groups (values a)
   done_first = done_is a ∙ ap (λ x. groups (values x)) (before_none a false st.no_fault)
@@ -205,7 +194,7 @@ module _ (a b w : List ℕ) (st : Stands a w) where
   groups_both t = grind (arith, values-append, groups-append, done_first, values_left)
 
   done_both : complete_bytes (a ++ b) ≡ complete_bytes a ++ complete_bytes (w ++ b)
-  done_both = grind (arith, done_is, before-append, groups_both, before_fault, is_pad)
+  done_both = grind (arith, done_is, before-append, groups_both)
 
   after_both : after_groups (values (a ++ b)) ≡ after_groups (values (w ++ b))
   after_both = grind (arith, values-append, after_groups-append, values_left)
@@ -216,7 +205,7 @@ module _ (a b w : List ℕ) (st : Stands a w) where
 
   left_both : left_symbols (a ++ b) ≡ left_symbols (w ++ b)
   unfolding left_symbols
-  left_both = grind (arith, filter-append, after_groups-append, symbols_left)
+  left_both = grind (arith, filter-append, after_groups-append)
 
   padding_both : left_padding (a ++ b) ≡ left_padding (w ++ b)
   unfolding left_padding
@@ -225,25 +214,7 @@ module _ (a b w : List ℕ) (st : Stands a w) where
   -- given `Stands a w`, decoding b after a is the same as decoding w ++ b
   pub goes_on : GoesOn a b (w ++ b)
   goes_on =
-      search (
-        arith,
-        done_is,
-        done_both,
-        fault_some,
-        fault_both,
-        kind_is,
-        kind_by,
-        kind_alike,
-        fault_byte,
-        length_values,
-        symbols_left,
-        left_both,
-        padding_both,
-        valid_by,
-        length_symbols,
-        length_pads,
-        decoded_both,
-      )
+      search (arith, done_is, done_both, fault_some, fault_both, kind_is, length_values, left_both, padding_both, valid_by, length_symbols, length_pads, decoded_both)
 
 -- Decoding goes on from what is left over
 
@@ -258,20 +229,7 @@ any_min (c ∷ t) = let e : min (suc (length t)) 3 ≡ suc (min (length t) 2) = 
 pub left_stands : (a : List ℕ) → fault_byte false a ≡ None → Stands a (left_text (left_symbols a) (left_padding a))
 unfolding left_symbols left_padding
 left_stands a h =
-    search (
-      arith,
-      is_pad,
-      every_after,
-      filter_every,
-      symbols_of_text,
-      pads_of_text,
-      length-replicate,
-      min_min,
-      any_of_text,
-      any_min,
-      any_filter,
-      fault_text,
-    )
+    search (arith, every_after, filter_every, symbols_of_text, pads_of_text, length-replicate, any_filter, fault_text)
 
 -- if a has no fault, decoding a ++ b is the same as decoding a, and then what is left over of a with b
 pub two_feeds : (a b : List ℕ) → first_fault a ≡ None → TwoFeeds a b

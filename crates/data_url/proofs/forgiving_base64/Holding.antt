@@ -34,7 +34,7 @@ use Rattle.data_url.proofs.forgiving_base64.Padding.{length-after_groups, space_
 -- A text of symbols and white space has no fault and no padding
 
 one_allowed : (c : ℕ) → is_symbol_or_space c ≡ true → (fault_byte false (c ∷ []) ≡ None) × (is_pad c ≡ false)
-one_allowed c h = grind (arith, or_cases, fault_symbol, symbol_alone, classes, fault_space, space_alone)
+one_allowed c h = grind (arith, fault_symbol, fault_space)
 
 allowed_fault : (t : List ℕ) → list_all is_symbol_or_space t ≡ true → fault_byte false t ≡ None
 unfolding fault_byte
@@ -111,7 +111,7 @@ module _ {F E : Type 0} (step : F → List ℕ → Result (Unit {0}) E → F →
         run = h.run;
         ran = subst R (sym k.closure_stays) h.ran;
         accepted = h.accepted;
-        bytes_are = cc (append_assoc (joined_pieces h.run) held more, h.bytes_are, k.bytes_are, on.done_is);
+        bytes_are = cc (append_assoc (joined_pieces h.run) held more);
         no_fault = ap first_fault (sym same) ∙ none_from (first_fault (u ++ b)) (on.fault_is ∙ ap is_some k.no_fault);
         left = record {
           symbols_are = k.left.symbols_are ∙ sym on.symbols_left ∙ ap left_symbols same;
@@ -125,7 +125,7 @@ module _ {F E : Type 0} (step : F → List ℕ → Result (Unit {0}) E → F →
   called_run : {d d1 d2 : State F} {t held piece : List ℕ} {r : Result (Unit {0}) (DecodeError E)}
       (h : Holds step d t held d1) (w : CallsOnce step d1 piece r d2)
       → IsRun step d.closure (h.run ++ record { piece = piece; answer = w.told; after = d2.closure } ∷ []) d2.closure
-  called_run {d} {d1} {d2} {piece = piece} h w = grind (arith, run-append, one_call)
+  called_run {d} {d1} {d2} {piece = piece} h w = grind (arith, run-append)
 
   called_bytes : {d d1 : State F} {t held : List ℕ} (piece : List ℕ) (h : Holds step d t held d1)
       (told : Result (Unit {0}) E) (g : F)
@@ -154,7 +154,7 @@ module _ {F E : Type 0} (step : F → List ℕ → Result (Unit {0}) E → F →
                     e,
                     record {
                       symbols_are = w.symbols_stay ∙ h.left.symbols_are;
-                      padding_is = cc (w.padding_stays, h.left.padding_is);
+                      padding_is = cc;
                     },
                   );
             })
@@ -163,7 +163,7 @@ module _ {F E : Type 0} (step : F → List ℕ → Result (Unit {0}) E → F →
 
   quiet_feeds : {d d1 d2 : State F} {t : List ℕ} {r : Result (Unit {0}) (DecodeError E)} → Holds step d t [] d1
       → r ≡ Ok tt → d2 ≡ d1 → Feeds step d t r d2
-  quiet_feeds {d} {d1} {d2} {t} {r} h e same = grind (arith, match_none, append-nil)
+  quiet_feeds {d} {d1} {d2} {t} {r} h e same = grind (arith, append-nil)
 
   -- reading t, and then flushing the bytes that are held, feeds t
   pub flushed_feeds : {d d1 d2 : State F} {t : List ℕ} {r : Result (Unit {0}) (DecodeError E)} (held : List ℕ)
@@ -181,7 +181,7 @@ module _ {F E : Type 0} (step : F → List ℕ → Result (Unit {0}) E → F →
             s2.closure;
       } ∷ []) ++ y
   called_wait {s2 = s2} {x = x} q y h w =
-      cc (h.bytes_are, append_assoc (joined_pieces h.run) x y, called_bytes x h w.told s2.closure)
+      cc (append_assoc (joined_pieces h.run) x y, called_bytes x h w.told s2.closure)
 
   -- if the closure accepts the first 48 bytes that are held, the other bytes are still held
   pub part_holds : {d s1 s2 : State F} {t x y : List ℕ} (q : List ℕ) → length x ≡ 48
@@ -255,7 +255,7 @@ module _ {F E : Type 0} (step : F → List ℕ → Result (Unit {0}) E → F →
       → left_over d ≡ left → is_some (first_fault (left ++ c ∷ [])) ≡ true → kind_of (left ++ c ∷ []) ≡ kind
       → complete_bytes (left ++ c ∷ []) ≡ [] → d' ≡ record d { failed = true } → r ≡ Err (InvalidBase64 kind)
       → Feeds step d (c ∷ []) r d'
-  refuses_feeds {d} {d'} {r} {kind} left c e fault is_kind nothing same told = grind (arith, match_some)
+  refuses_feeds {d} {d'} {r} {kind} left c e fault is_kind nothing same told = grind arith
 
   -- if c is a fault after t, and the bytes held after t are flushed, feeding t and then c returns the error of c
   pub refused_feeds : {d d1 d2 d4 : State F} (d3 : State F) {r : Result (Unit {0}) (DecodeError E)} {kind : Kind}
@@ -402,27 +402,14 @@ rest_after q long = let none : after_groups (take 64 q) ≡ [] =
 block_rest : (q bytes : List ℕ) → 64 ≤ length q → length bytes ≡ 48 → DecodesFront q bytes
     → groups (map symbol_value q) ≡ bytes ++ groups (map symbol_value (drop 64 q))
 block_rest q bytes long size front =
-    let first : bytes ≡ groups (map symbol_value (take 64 q)) = cc (
-      take_all 48 bytes (omega arith),
-      front 16 (omega
-          arith) (omega arith),
-    ) in cc (
-      take-append-drop 64 q,
-      map-append symbol_value (take 64 q) (drop 64 q),
-      groups_whole
-          (map symbol_value (take 64 q)) (map symbol_value (drop 64 q)) (omega (
-            arith,
-            length-map (take 64 q) symbol_value,
-            length-take-le 64 q long,
-          )),
-    )
+    let first : bytes ≡ groups (map symbol_value (take 64 q)) = cc (take_all 48 bytes (omega arith), front 16 (omega arith) (omega arith)) in cc (take-append-drop 64 q, map-append symbol_value (take 64 q) (drop 64 q), groups_whole (map symbol_value (take 64 q)) (map symbol_value (drop 64 q)) (omega (arith, length-map (take 64 q) symbol_value, length-take-le 64 q long)))
 
 module _ {F E : Type 0} (step : F → List ℕ → Result (Unit {0}) E → F → Type 0) where
   -- nothing was read, and nothing is held
   pub none_wait : {d : State F} {q : List ℕ} (every : Every is_symbol d.symbols) → IsBetweenGroups d → d.failed ≡ false
       → q ≡ [] → Holds step d [] (groups (map symbol_value q)) (waiting d q)
   unfolding groups after_groups
-  none_wait {d} {q} every none going is = grind (arith, holds_from, adds_none)
+  none_wait {d} {q} every none going is = grind (arith, adds_none)
 
   -- a block of symbols and whitespace is read, and its symbols are held after those before
   pub block_waits : {d : State F} (s : State F) (text q q' : List ℕ) (at : ℕ) → list_all is_symbol q ≡ true

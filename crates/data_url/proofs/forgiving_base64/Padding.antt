@@ -74,7 +74,7 @@ seen_step c f of_none e h = h
 compact_step : {x y z : Bool} (s : Bool) (c : ℕ) (u f g : List ℕ) → Class x y z → bad x y z s ≡ false
     → ((s || y) ≡ true → f ≡ []) → u ≡ f ++ g → cond (not x) (c ∷ u) u ≡ cond z (c ∷ f) f ++ cond y (c ∷ g) g
 compact_step s c u f g of_space e none h = h
-compact_step s c u f g of_pad e none h = grind (arith, or_true)
+compact_step s c u f g of_pad e none h = grind arith
 compact_step s c u f g of_symbol e none h = ap (λ (x : List ℕ). c ∷ x) h
 compact_step s c u f g of_none e none h = absurd (true≢false e)
 
@@ -122,35 +122,20 @@ module _ (space pad symbol : ℕ → Bool) where
       (length p) (list_any pad p) b
   find_walk p [] = refl
   find_walk p (c ∷ t) =
-      grind (arith, cond_same, bad_here, append_assoc, length_push, (find_walk (p ++ c ∷ []) t), any_push)
+      grind (arith, bad_here, append_assoc, length_push, (find_walk (p ++ c ∷ []) t), any_push)
 
   -- the bytes of p ++ b before the place where a walk over b stops are p and then those that the walk passes
   pub before_walk : (p b : List ℕ) (n : ℕ) (s : Bool) → length p ≡ n
       → before_place (p ++ b) (stop_place n s b) ≡ p ++ ahead s b
   before_walk p [] n s e = refl
   before_walk p (c ∷ t) n s e =
-      search (
-        arith,
-        take_at,
-        append-nil,
-        append_assoc,
-        (before_walk (p ++ c ∷ []) t (n + 1) (s || pad c) (cc
-            (length_push p c))),
-        length_push,
-      )
+      search (arith, take_at, append-nil, append_assoc, (before_walk (p ++ c ∷ []) t (n + 1) (s || pad c) (cc (length_push p c))))
 
   -- the byte of p ++ b at the place where a walk over b stops is the byte that stops it
   pub byte_walk : (p b : List ℕ) (n : ℕ) (s : Bool) → length p ≡ n → byte_at (p ++ b) (stop_place n s b) ≡ stop s b
   byte_walk p [] n s e = refl
   byte_walk p (c ∷ t) n s e =
-      search (
-        arith,
-        get_or_at,
-        append_assoc,
-        (byte_walk (p ++ c ∷ []) t (n + 1) (s || pad c) (cc (length_push p
-            c))),
-        length_push,
-      )
+      search (arith, get_or_at, append_assoc, (byte_walk (p ++ c ∷ []) t (n + 1) (s || pad c) (cc (length_push p c))))
 
   -- Two texts
 
@@ -207,7 +192,7 @@ module _ (space pad symbol : ℕ → Bool) where
     pub stop_compact : (b : List ℕ) (s : Bool) → stop s (filter is_not_space b) ≡ stop s b
     stop_compact [] s = refl
     stop_compact (c ∷ t) s =
-        grind (arith, cases_Bool, space_alone, classes, (stop_compact t s), or-false, (stop_compact t (s || pad c)))
+        grind (arith, space_alone, (stop_compact t (s || pad c)))
 
     -- if a walk after padding does not stop, the text has no symbols
     pub seen_none : (b : List ℕ) → stop true b ≡ None → filter symbol b ≡ []
@@ -236,27 +221,27 @@ module _ (space pad symbol : ℕ → Bool) where
     -- a walk that has seen no padding passes symbols, and stops where it stops in the text after them
     pub stop_symbols : (q b : List ℕ) → Every symbol q → stop false (q ++ b) ≡ stop false b
     stop_symbols [] b h = refl
-    stop_symbols (c ∷ t) b h = grind (arith, symbol_alone, classes, (stop_symbols t b h.1))
+    stop_symbols (c ∷ t) b h = grind (arith, symbol_alone, (stop_symbols t b h.1))
 
     -- a walk does not stop in padding
     pub stop_pads : (n c : ℕ) (s : Bool) → pad c ≡ true → stop s (replicate n c) ≡ None
     stop_pads zero c s e = refl
-    stop_pads (suc n) c s e = grind (arith, pad_alone, classes, (stop_pads n c (s || true) e))
+    stop_pads (suc n) c s e = grind (arith, pad_alone, (stop_pads n c (s || true) e))
 
     -- padding has no symbols
     pub filter_pads : (n c : ℕ) → pad c ≡ true → filter symbol (replicate n c) ≡ []
     filter_pads zero c e = refl
-    filter_pads (suc n) c e = grind (arith, pad_alone, classes, (filter_pads n c e))
+    filter_pads (suc n) c e = grind (arith, pad_alone, (filter_pads n c e))
 
     -- symbols have no padding
     pub filter_symbols : (q : List ℕ) → Every symbol q → filter pad q ≡ []
     filter_symbols [] h = refl
-    filter_symbols (c ∷ t) h = grind (arith, symbol_alone, classes, (filter_symbols t h.1))
+    filter_symbols (c ∷ t) h = grind (arith, symbol_alone, (filter_symbols t h.1))
 
     -- none of the symbols is padding
     pub any_symbols : (q : List ℕ) → Every symbol q → list_any pad q ≡ false
     any_symbols [] h = refl
-    any_symbols (c ∷ t) h = grind (arith, symbol_alone, classes, (any_symbols t h.1))
+    any_symbols (c ∷ t) h = grind (arith, symbol_alone, (any_symbols t h.1))
 
 -- What a filter keeps
 
@@ -291,7 +276,7 @@ IsLeast p a e None = (i : ℕ) → a ≤ i → i < e → p i ≡ false
 IsLeast p a e (Some i) = (a ≤ i) × (i < e) × (p i ≡ true) × ((k : ℕ) → a ≤ k → k < i → p k ≡ false)
 
 at_first : (p : ℕ → Bool) (a k : ℕ) → p a ≡ false → (a + 1 ≤ k → p k ≡ false) → a ≤ k → p k ≡ false
-at_first p a k here later l = grind (arith, cases_eq)
+at_first p a k here later l = grind arith
 
 least_more : (p : ℕ → Bool) (a e : ℕ) (o : Option ℕ) → p a ≡ false → IsLeast p (a + 1) e o → IsLeast p a e o
 least_more p a e None here h = λ i l m. at_first p a i here (λ n. h i n m) l
@@ -299,7 +284,7 @@ least_more p a e (Some i) here (l, m, t, f) = (omega arith, m, t, λ k n q. at_f
 
 find_least : (p : ℕ → Bool) (n a e : ℕ) → e ≡ a + n → IsLeast p a e (find p (range_with_len a n))
 find_least p zero a e q = λ i l m. absurd (omega arith)
-find_least p (suc n) a e q = grind (arith, least_more, (find_least p n (a + 1) e (omega arith)))
+find_least p (suc n) a e q = grind (arith, (find_least p n (a + 1) e (omega arith)))
 
 least_is : (b : List ℕ) (o : Option ℕ) → IsLeast (is_fault b) 0 (length b) o → IsFirstFault b o
 least_is b None h = λ i l. h i (omega arith) l
@@ -376,10 +361,10 @@ abbrev passes : List ℕ → Bool
 passes u = not (eqb (length u % 4) 1) && list_all is_symbol u
 
 passes_symbols : (q : List ℕ) (r : Bool) → Every is_symbol q → not (eqb (length q % 4) 1) ≡ r → passes q ≡ r
-passes_symbols q r h e = grind (arith, eqb, list_all_every, and_true)
+passes_symbols q r h e = grind (arith, list_all_every)
 
 passes_pads : (q : List ℕ) (n : ℕ) → passes (q ++ replicate (suc n) 61) ≡ false
-passes_pads q n = grind (arith, and_right, eqb, list_all_pads)
+passes_pads q n = grind (arith, list_all_pads)
 
 passes_cond : (t r : Bool) (u w : List ℕ) → passes w ≡ false → (t ≡ true → passes u ≡ r) → (t ≡ false → r ≡ false)
     → passes (cond t u w) ≡ r
@@ -388,7 +373,7 @@ passes_cond false r u w h good bad = h ∙ sym (bad refl)
 
 unpadded_symbols : (q : List ℕ) → Every is_symbol q → without_padding q ≡ q
 unfolding without_padding
-unpadded_symbols q h = grind (arith, cond_both, eqb, without_pad_symbols)
+unpadded_symbols q h = grind (arith, without_pad_symbols)
 
 length_pads : (q : List ℕ) (n : ℕ) → length (q ++ replicate n 61) ≡ length q + n
 length_pads q n = length-append q (replicate n 61) ∙ ap (λ x. length q + x) (length-replicate n 61)
@@ -398,13 +383,13 @@ none_passes : (q : List ℕ) → Every is_symbol q → passes (without_padding (
 none_passes q h = grind (arith, append-nil, unpadded_symbols, passes_symbols)
 
 one_true : (k m : ℕ) → m ≡ k + 1 → eqb (m % 4) 0 ≡ true → not (eqb (k % 4) 1) ≡ eqb (k % 4) 3
-one_true k m l e = grind (arith, eqb-true)
+one_true k m l e = grind arith
 
 one_false : (k m : ℕ) → m ≡ k + 1 → eqb (m % 4) 0 ≡ false → eqb (k % 4) 3 ≡ false
 one_false k m l e = ne_eqb (k % 4) 3 (λ h. eqb-false (m % 4) 0 e (omega (arith, h)))
 
 two_true : (k m : ℕ) → m ≡ k + 2 → eqb (m % 4) 0 ≡ true → not (eqb (k % 4) 1) ≡ eqb (k % 4) 2
-two_true k m l e = grind (arith, eqb-true)
+two_true k m l e = grind arith
 
 two_false : (k m : ℕ) → m ≡ k + 2 → eqb (m % 4) 0 ≡ false → eqb (k % 4) 2 ≡ false
 two_false k m l e = ne_eqb (k % 4) 2 (λ h. eqb-false (m % 4) 0 e (omega (arith, h)))
@@ -429,7 +414,7 @@ two_passes q h = passes_cond (eqb (length (q ++ replicate 2 61) % 4) 0) _
 
 more_passes : (q : List ℕ) (n : ℕ) → passes (without_padding (q ++ replicate (suc (suc (suc n))) 61)) ≡ false
 unfolding without_padding
-more_passes q n = search (arith, passes_cond, eqb, passes_pads, without_pad_pads)
+more_passes q n = search (arith, passes_cond, passes_pads, without_pad_pads)
 
 symbols_pads_pass : (q : List ℕ) (p : ℕ) → Every is_symbol q → passes (without_padding (q ++ replicate p 61))
     ≡ fits_with (length q % 4) p
@@ -475,7 +460,7 @@ abbrev pub is_pad : ℕ → Bool
 is_pad c = eqb c 61
 
 whitespace_low : (c : ℕ) → is_ascii_whitespace c ≡ true → c < 33
-whitespace_low c e = grind (arith, or_cases, range_high)
+whitespace_low c e = grind arith
 
 -- each byte is in at most one class
 at_space : (c : ℕ) → is_ascii_whitespace c ≡ true → Class true (is_pad c) (is_symbol c)
@@ -634,11 +619,7 @@ pads_of_pads (suc n) = ap (λ (x : List ℕ). 61 ∷ x) (pads_of_pads n)
 -- the padding of q and then n times '=' is n times '='
 pub pads_of_text : (q : List ℕ) (n : ℕ) → Every is_symbol q → filter is_pad (q ++ replicate n 61) ≡ replicate n 61
 pads_of_text q n h =
-    cc (
-      filter-append is_pad q (replicate n 61),
-      filter_symbols is_ascii_whitespace is_pad is_symbol classes q h,
-      pads_of_pads n,
-    )
+    cc (filter-append is_pad q (replicate n 61), filter_symbols is_ascii_whitespace is_pad is_symbol classes q h, pads_of_pads n)
 
 -- whether q and then n times '=' have padding is whether n times '=' has
 pub any_of_text : (q : List ℕ) (n : ℕ) → Every is_symbol q → list_any is_pad (q ++ replicate n 61) ≡ list_any is_pad
@@ -650,7 +631,7 @@ any_of_text q n h = list_any-append is_pad q (replicate n 61) ∙ ap (λ x. x ||
 
 pads_are : (b : List ℕ) → filter is_pad b ≡ replicate (length (filter is_pad b)) 61
 pads_are [] = refl
-pads_are (c ∷ t) = grind (arith, eqb-true, (pads_are t))
+pads_are (c ∷ t) = grind (arith, (pads_are t))
 
 -- a text without a fault is its symbols and then its padding
 pub no_fault_text : (b : List ℕ) → fault_byte false b ≡ None
@@ -730,7 +711,7 @@ groups-append [] y = refl
 groups-append (p ∷ []) y = refl
 groups-append (p ∷ q ∷ []) y = refl
 groups-append (p ∷ q ∷ r ∷ []) y = refl
-groups-append (p ∷ q ∷ r ∷ s ∷ rest) y = grind (arith, (groups-append rest y), append_assoc)
+groups-append (p ∷ q ∷ r ∷ s ∷ rest) y = grind (arith, (groups-append rest y))
 
 -- what is left over of x ++ y is what is left over of the rest of x followed by y
 pub after_groups-append : (x y : List ℕ) → after_groups (x ++ y) ≡ after_groups (after_groups x ++ y)

@@ -32,17 +32,17 @@ use Rattle.data_url.proofs.escapes.Marks.{drop_taken}
 
 clear_map : (f : ℕ → ℕ) (xs : List ℕ) (m : ℕ) → clear (map f xs) m ≡ map f (clear xs m)
 clear_map f [] m = refl
-clear_map f (x ∷ xs) m = grind (arith, eqb, (clear_map f xs (m / 2)))
+clear_map f (x ∷ xs) m = grind (arith, (clear_map f xs (m / 2)))
 
 clear_even : (x : ℕ) (xs : List ℕ) (m : ℕ) → clear (x ∷ xs) (0 + 2 * m) ≡ x ∷ clear xs m
-clear_even x xs m = grind (arith, eqb)
+clear_even x xs m = grind arith
 
 clear_odd : (x : ℕ) (xs : List ℕ) (m : ℕ) → clear (x ∷ xs) (1 + 2 * m) ≡ clear xs m
-clear_odd x xs m = grind (arith, eqb)
+clear_odd x xs m = grind arith
 
 clear_mask : (v : List ℕ) → clear v (others_mask v) ≡ filter is_symbol v
 clear_mask [] = refl
-clear_mask (x ∷ v) = grind (arith, others_mask, clear_even, (clear_mask v), clear_odd)
+clear_mask (x ∷ v) = grind (arith, (clear_mask v), clear_odd)
 
 -- The table of places
 
@@ -72,7 +72,7 @@ right b l = agree_below_at is_right (λ b. true) 256 b refl l
 
 -- the first places in the row of b are those of its clear bits
 pub places_clear : (b : ℕ) → b < 256 → take (8 - count_ones b) (places b) ≡ clear (range_with_len 0 8) b
-places_clear b l = grind (arith, alike_same, and_parts, right)
+places_clear b l = grind (arith, alike_same, right)
 
 each_below : (v : List ℕ) → list_all (λ p. ltb p 8) v ≡ true → Each1 (λ p. p < 8) v
 each_below [] h = tt
@@ -124,13 +124,7 @@ map_range f g a (suc n) h = grind (arith, (map_range f g (a + 1) n (λ k p q. h 
 half_is : (row : List ℕ) (from : ℕ) → length row ≡ 16 → from ≤ 8
     → map (λ p. get_or row (add8 p from) 0) (range_with_len 0 8) ≡ take 8 (drop from row)
 half_is row from long l =
-    let v = take 8 (drop from row) in cc (
-      map_range (λ p. get_or row (add8 p from) 0) (λ k. get_or v k 0) 0 8 (λ k a
-          b. let there : add8 k from ≡ from + k = omega arith in ap (λ n. get_or row n 0) there ∙ sym (get_or-take 8 (drop
-          from row) k 0 (omega arith) ∙ get_or-drop from row k 0)),
-      pick_l_whole 0 v 8 (length-take-le 8 (drop from row)
-          (omega (arith, length-drop from row))),
-    )
+    let v = take 8 (drop from row) in cc (map_range (λ p. get_or row (add8 p from) 0) (λ k. get_or v k 0) 0 8 (λ k a b. let there : add8 k from ≡ from + k = omega arith in ap (λ n. get_or row n 0) there ∙ sym (get_or-take 8 (drop from row) k 0 (omega arith) ∙ get_or-drop from row k 0)), pick_l_whole 0 v 8 (length-take-le 8 (drop from row) (omega (arith, length-drop from row))))
 
 -- a lookup of the places of the clear bits finds the bytes of the half row whose bits are clear
 pub half_clear : (row v js : List ℕ) (from bits c : ℕ) → length row ≡ 16 → length v ≡ 16 → from ≤ 8
@@ -165,7 +159,7 @@ row_clear row others long e = let a = take 8 row in
     let Q : ℕ → Type 0 = λ n. others_mask a < 2 ^ n in
     let small : others_mask a < 256 = subst Q (length-map a is_other ∙ wide) (mask_l-lt (map is_other a)) in
     let sum : others ≡ others_mask a + 256 * others_mask b = cc (take-append-drop 8 row, map-append is_other a b, mask_l-append (map is_other a) (map is_other b), length-map a is_other) in
-    let parts = half_sum (others_mask a) (others_mask b) small in cc (parts.0, clear_mask a, take_all 8 b (omega arith), parts.1, clear_mask b, filter-append is_symbol a b, take-append-drop 8 row)
+    let parts = half_sum (others_mask a) (others_mask b) small in cc (clear_mask a, take_all 8 b (omega arith), clear_mask b, filter-append is_symbol a b, take-append-drop 8 row)
 
 -- two half rows, one put after the other
 pub two_halves : (front row : List ℕ) (others : ℕ) {middle end : List ℕ} → length row ≡ 16 → others ≡ others_mask row
@@ -186,15 +180,7 @@ pub spaces_are : (v : List ℕ) (js : List ℕ) → length v ≡ 16 → Each1 (F
     → mask_l (map (top 7) (zip2 (λ a b. cond (eqb a b) 255 0) (swz_l w8 16 SPACES 0 js) v)) % 2 ^ 64 ≡ mask_l
     (map is_ascii_whitespace v)
 spaces_are v js long fits e =
-    cc (
-      tops_compared w8 eqb (swz_l w8 16 SPACES 0 js) v,
-      zip2_of_maps eqb space_entry (λ b. b) v (looked_up SPACES
-          low v js long fits e (λ x h. omega (arith, and_le_r x 15))) (sym (map-id v)),
-      map_agree (λ b. eqb (space_entry b)
-          b) is_ascii_whitespace (λ b l. agree_below_at (λ b. eqb (space_entry b) b) is_ascii_whitespace 256 b refl l) v
-          fits,
-      mask_l-mod (map is_ascii_whitespace v) 64 (omega (arith, length-map v is_ascii_whitespace)),
-    )
+    cc (tops_compared w8 eqb (swz_l w8 16 SPACES 0 js) v, zip2_of_maps eqb space_entry (λ b. b) v (looked_up SPACES low v js long fits e (λ x h. omega (arith, and_le_r x 15))) (sym (map-id v)), map_agree (λ b. eqb (space_entry b) b) is_ascii_whitespace (λ b l. agree_below_at (λ b. eqb (space_entry b) b) is_ascii_whitespace 256 b refl l) v fits, mask_l-mod (map is_ascii_whitespace v) 64 (omega (arith, length-map v is_ascii_whitespace)))
 
 first_bits : (s w : Bool) (m n : ℕ) → cond (not s) 1 0 + 2 * m ≡ cond w 1 0 + 2 * n → ((s || w) ≡ true) × (m ≡ n)
 first_bits true true m n e = (refl, omega (arith, e))
@@ -222,7 +208,7 @@ only_symbols (b ∷ v) e = let p = no_bit (is_symbol b) (others_mask v) e in
 -- if the mask of the bytes that are no symbols is zero, all bytes are symbols
 pub all_clear : (v : List ℕ) → others_mask v ≡ 0 → v ≡ filter is_symbol v
 all_clear [] e = refl
-all_clear (b ∷ v) e = let p = no_bit (is_symbol b) (others_mask v) e in cc (all_clear v p.1, p.0)
+all_clear (b ∷ v) e = let p = no_bit (is_symbol b) (others_mask v) e in cc (all_clear v p.1)
 
 -- Symbols that were appended
 

@@ -58,7 +58,7 @@ after_few (a ∷ b ∷ c ∷ e ∷ t) h = absurd (omega arith)
 -- a bad byte is where the text stops
 before_one : (c : ℕ) (s : Bool) → fault_byte s (c ∷ []) ≡ Some c → before_fault s (c ∷ []) ≡ []
 unfolding fault_byte before_fault
-before_one c s h = grind (arith, is_bad, is_pad, some_not_none)
+before_one c s h = grind arith
 
 -- whether there is padding among p times '='
 abbrev pub has_pad : ℕ → Bool
@@ -67,11 +67,11 @@ has_pad p = list_any is_pad (replicate p 61)
 module _ (q : List ℕ) (p : ℕ) (every : Every is_symbol q) where
   -- the fault of q, p times '=' and then t is that of t, where the '=' count as padding before t
   pub fault_more : (t : List ℕ) → fault_byte false (left_text q p ++ t) ≡ fault_byte (has_pad p) t
-  fault_more t = grind (arith, fault-append, fault_text, fault_byte, any_of_text)
+  fault_more t = grind (arith, fault-append, fault_text, any_of_text)
 
   -- the bytes before the fault of q, p times '=' and then t are q, the '=' and those of t before its fault
   pub before_more : (t : List ℕ) → before_fault false (left_text q p ++ t) ≡ left_text q p ++ before_fault (has_pad p) t
-  before_more t = grind (arith, before-append, fault_text, before_fault, any_of_text)
+  before_more t = grind (arith, before-append, fault_text, any_of_text)
 
   -- the symbols of q, p times '=' and then t are q and those of t
   pub symbols_more : (t : List ℕ) → filter is_symbol (left_text q p ++ t) ≡ q ++ filter is_symbol t
@@ -79,7 +79,7 @@ module _ (q : List ℕ) (p : ℕ) (every : Every is_symbol q) where
 
   -- the number of '=' in q, p times '=' and then t is p more than in t
   pub pads_more : (t : List ℕ) → length (filter is_pad (left_text q p ++ t)) ≡ p + length (filter is_pad t)
-  pads_more t = grind (arith, filter-append, is_pad, length-append, pads_of_text, length-replicate)
+  pads_more t = grind (arith, filter-append, length-append, pads_of_text, length-replicate)
 
   -- the values of q, p times '=' and then t are those of q and of the symbols of t
   pub values_more : (t : List ℕ) → values (left_text q p ++ t) ≡ map symbol_value (q ++ filter is_symbol t)
@@ -120,7 +120,7 @@ module _ (q : List ℕ) (p : ℕ) (every : Every is_symbol q) where
   -- q and p times '=' are valid exactly if p fits the number of symbols
   pub valid_left : is_valid (left_text q p) ≡ fits_with (length q % 4) p
   valid_left =
-      grind (arith, no_fault_valid, fault_text, fits_with, is_pad, symbols_of_text, pads_of_text, length-replicate)
+      grind (arith, no_fault_valid, fault_text, symbols_of_text, pads_of_text)
 
   -- q and p times '=' decode to the bytes of the groups of q and those of the values after them
   pub decoded_left : decoded (left_text q p) ≡ groups (map symbol_value q) ++ rest_bytes
@@ -130,7 +130,7 @@ module _ (q : List ℕ) (p : ℕ) (every : Every is_symbol q) where
 
   -- the kind of q and p times '=' is a lone symbol if the length of q modulo four is one, and padding otherwise
   pub kind_left : kind_of (left_text q p) ≡ cond (eqb (length q % 4) 1) LoneAlphabetSymbol Padding
-  kind_left = grind (arith, kind_is, kind_by, fault_text, eqb, values_left, length-map)
+  kind_left = grind (arith, kind_is, fault_text, values_left, length-map)
 
 -- One byte, by its class
 
@@ -140,7 +140,7 @@ bad_by x x' y y' z z' s e f g = ap (λ v. bad v y z s) e ∙ ap (λ v. bad x' v 
 fault_one : (c : ℕ) (s x y z : Bool) → is_ascii_whitespace c ≡ x → is_pad c ≡ y → is_symbol c ≡ z
     → fault_byte s (c ∷ []) ≡ cond (bad x y z s) (Some c) None
 unfolding fault_byte
-fault_one c s x y z e f g = grind (arith, bad_by, is_pad)
+fault_one c s x y z e f g = grind arith
 
 filter_one : (p : ℕ → Bool) (c : ℕ) (v : Bool) → p c ≡ v → filter p (c ∷ []) ≡ cond v (c ∷ []) []
 filter_one p c v e = ap (λ w. cond w (c ∷ []) []) e
@@ -338,7 +338,7 @@ module _ {F : Type 0} where
   refuses_bad : {d d' : State F} {kind : Kind} (c : ℕ) → Every is_symbol d.symbols → length d.symbols ≤ 3
       → fault_byte (has_pad d.padding) (c ∷ []) ≡ Some c → d' ≡ d → kind ≡ cond (is_symbol c) AlphabetSymbolAfterPadding
       (UnexpectedSymbol c) → Refuses d c kind d'
-  refuses_bad {d} c every few bad same told = grind (arith, fault_some, fault_more, bad, kind_is, kind_bad, done_bad)
+  refuses_bad {d} c every few bad same told = grind (arith, fault_some, fault_more, kind_is, done_bad)
 
   -- if d has padding, it refuses a symbol
   pub refuses_after : {d d' : State F} (c : ℕ) → Every is_symbol d.symbols → length d.symbols ≤ 3 → 1 ≤ d.padding
@@ -359,12 +359,12 @@ module _ {F : Type 0} where
 module _ {F E : Type 0} (step : F → List ℕ → Result (Unit {0}) E → F → Type 0) where
   -- a text that completes no group is fed without a call
   pub adds_feeds : {d d' : State F} {t : List ℕ} → Adds d t [] d' → Feeds step d t (Ok tt) d'
-  adds_feeds {d} {d'} {t} a = grind (arith, match_none)
+  adds_feeds {d} {d'} {t} a = grind arith
 
   -- feeding the empty text returns `Ok`, and d does not change
   pub feeds_none : {d d' : State F} → Every is_symbol d.symbols → length d.symbols ≤ 3 → d.padding ≤ 3
       → d.failed ≡ false → d' ≡ d → Feeds step d [] (Ok tt) d'
-  feeds_none {d} {d'} every few pads going same = grind (arith, adds_feeds, adds_none)
+  feeds_none {d} {d'} every few pads going same = grind (arith, adds_none)
 
   -- One call
 
@@ -378,21 +378,21 @@ module _ {F E : Type 0} (step : F → List ℕ → Result (Unit {0}) E → F →
   -- if the padding of d fits its symbols, what is left over in d is valid
   pub valid_fits : (d : State F) (k : ℕ) → Every is_symbol d.symbols → length d.symbols ≡ k → Fits k d.padding
       → is_valid (left_over d) ≡ true
-  valid_fits d k every count h = grind (arith, valid_left, fits_with, from_fits)
+  valid_fits d k every count h = grind (arith, valid_left)
 
   invalid_unfit : (d : State F) (k : ℕ) → Every is_symbol d.symbols → length d.symbols ≡ k → (Fits k d.padding → ⊥)
       → is_valid (left_over d) ≡ false
-  invalid_unfit d k every count h = grind (arith, valid_left, fits_with, from_unfit)
+  invalid_unfit d k every count h = grind (arith, valid_left)
 
   -- if d has one symbol, the fault at the end is a lone symbol
   pub lone_fault : (d : State F) (k : ℕ) → Every is_symbol d.symbols → length d.symbols ≡ k → k ≡ 1
       → (Fits k d.padding → ⊥) → IsFaultAtEnd d (Some LoneAlphabetSymbolDetails)
-  lone_fault d k every count one h = grind (arith, invalid_unfit, kind_left, eqb)
+  lone_fault d k every count one h = grind (arith, invalid_unfit, kind_left)
 
   -- if d has at most three symbols, but not one, and padding that does not fit, the fault at the end is padding
   pub padding_fault : (d : State F) (k : ℕ) → Every is_symbol d.symbols → length d.symbols ≡ k → k ≤ 3 → k ≢ 1
       → (Fits k d.padding → ⊥) → IsFaultAtEnd d (Some PaddingDetails)
-  padding_fault d k every count few many h = grind (arith, invalid_unfit, kind_left, eqb, ne_eqb)
+  padding_fault d k every count few many h = grind (arith, invalid_unfit, kind_left)
 
   flushes_call : (d d' : State F) {r : Result (Unit {0}) (DecodeError E)} (piece : List ℕ) → 0 < length piece
       → CallsOnce step d piece r d' → Flushes step d piece r d'
@@ -407,7 +407,7 @@ module _ {F E : Type 0} (step : F → List ℕ → Result (Unit {0}) E → F →
   pub flushes_rest : (d d' : State F) {r : Result (Unit {0}) (DecodeError E)} (q piece : List ℕ)
       → Every is_symbol d.symbols → d.symbols ≡ q → length q ≤ 3 → piece ≡ rest_bytes (map symbol_value q)
       → 0 < length piece → CallsOnce step d piece r d' → Flushes step d (decoded (left_over d)) r d'
-  flushes_rest d d' {r} q piece every is_q few is_piece some w = grind (arith, decoded_rest, flushes_call)
+  flushes_rest d d' {r} q piece every is_q few is_piece some w = grind (arith, decoded_rest)
 
   no_items : (s : List ℕ) → length s ≡ 0 → s ≡ []
   no_items [] h = refl
@@ -417,13 +417,13 @@ module _ {F E : Type 0} (step : F → List ℕ → Result (Unit {0}) E → F →
   pub flushes_nothing : (d : State F) (k : ℕ) → Every is_symbol d.symbols → length d.symbols ≡ k → k ≤ 1
       → is_valid (left_over d) ≡ true → Flushes step d (decoded (left_over d)) (Ok tt) d
   flushes_nothing d zero every count few valid = grind (arith, decoded_rest, no_items)
-  flushes_nothing d (suc zero) every count few valid = grind (arith, false≢true, valid_left, fits_with, one_unfit)
+  flushes_nothing d (suc zero) every count few valid = grind (arith, valid_left)
   flushes_nothing d (suc (suc k)) every count few valid = absurd (omega arith)
 
   flushed_finishes : (d d' : State F) {r : Result (Unit {0}) (DecodeError E)} (bytes : List ℕ)
       → bytes ≡ decoded (left_over d) → is_valid (left_over d) ≡ true → Flushes step d bytes r d'
       → Finishes step d r d'.closure
-  flushed_finishes d d' {r} [] e valid (told, same) = grind (arith, bool_at_true)
+  flushed_finishes d d' {r} [] e valid (told, same) = grind arith
   flushed_finishes d d' {r} (b ∷ bs) e valid w =
       let bytes : (b ∷ bs) ++ [] ≡ decoded (left_over d) = append-nil (b ∷ bs) ∙ e in
       record {
@@ -456,7 +456,7 @@ ok_no_fault None r e x k l h = (refl, h)
 ok_no_fault (Some i) r e x k l h = absurd (cc)
 
 taken_ok : {F E : Type 0} (u bytes : List ℕ) (d : State F) → IsTaken {E = E} u bytes (Ok tt) d → Took u bytes d
-taken_ok {E = E} u bytes d h = grind (arith, ok_no_fault)
+taken_ok {E = E} u bytes d h = grind arith
 
 refused_ok : {E : Type 0} (o : Option E) (P : Type 0) (all bytes : List ℕ)
     → MatchOption o P (λ e. IsRefused {A = Unit {0}} all bytes e (Ok tt)) → (o ≡ None) × P
@@ -466,7 +466,7 @@ refused_ok (Some e) P all bytes h = absurd (let k = h.answer in cc)
 -- decoding goes on from u with b as it does from v
 taken_on : {F E : Type 0} (u b v bytes : List ℕ) (r : Result (Unit {0}) (DecodeError E)) (d : State F) → GoesOn u b v
     → IsTaken v bytes r d → IsTaken (u ++ b) (complete_bytes u ++ bytes) r d
-taken_on u b v bytes r d g h = grind (arith, match_alike)
+taken_on u b v bytes r d g h = grind arith
 
 refused_on : {E : Type 0} (u all bytes whole : List ℕ) (e : E) (r : Result (Unit {0}) (DecodeError E))
     → whole ≡ complete_bytes u ++ all → IsRefused all bytes e r → IsRefused whole (complete_bytes u ++ bytes) e r
@@ -490,7 +490,7 @@ done_begins u b = done_cases u b (fault_byte false u) refl
 
 taken_cases : {F E : Type 0} (u b bytes : List ℕ) (x : DecodeError E) (d : State F) (o : Option ℕ)
     → fault_byte false u ≡ o → IsTaken u bytes (Err x) d → IsTaken (u ++ b) bytes (Err x) d
-taken_cases u b bytes x d None h t = grind (arith, match_at_none, none_fault)
+taken_cases u b bytes x d None h t = grind (arith, none_fault)
 taken_cases u b bytes x d (Some c) h t = record {
   bytes_are = t.bytes_are ∙ sym (done_stays u b c h);
   answer =
@@ -515,7 +515,7 @@ module _ {F E : Type 0} (step : F → List ℕ → Result (Unit {0}) E → F →
   -- if feeding a returns `Ok`, no call returned an error, and the closure got all complete bytes
   pub feeds_took : {d d' : State F} {a : List ℕ} (f : Feeds step d a (Ok tt) d') → (refusal f.run ≡ None)
       × Took (left_over d ++ a) (joined_pieces f.run) d'
-  feeds_took {d} {d'} {a} f = grind (arith, refused_ok, taken_ok)
+  feeds_took {d} {d'} {a} f = grind arith
 
   -- if a was fed without an error, decoding b goes on as in the whole text
   pub feeds_goes_on : {d d' : State F} {a : List ℕ} (b : List ℕ) (f : Feeds step d a (Ok tt) d')
@@ -530,20 +530,7 @@ module _ {F E : Type 0} (step : F → List ℕ → Result (Unit {0}) E → F →
   pub feeds_then : {d d1 d2 : State F} {a b : List ℕ} {r : Result (Unit {0}) (DecodeError E)}
       → Feeds step d a (Ok tt) d1 → Feeds step d1 b r d2 → Feeds step d (a ++ b) r d2
   feeds_then {d} {d1} {d2} {a} {b} {r} f g =
-      search (
-        arith,
-        feeds_took,
-        feeds_goes_on,
-        joined_pieces-append,
-        run-append,
-        length-append,
-        append_assoc,
-        match_at,
-        refusal-append,
-        match_map,
-        taken_on,
-        refused_on,
-      )
+      search (arith, feeds_goes_on, joined_pieces-append, run-append, length-append, append_assoc, refusal-append)
 
   -- an error in a is an error in a followed by b
   pub feeds_err : {d d' : State F} {a : List ℕ} {x : DecodeError E} (b : List ℕ) → Feeds step d a (Err x) d'

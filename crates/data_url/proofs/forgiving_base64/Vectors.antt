@@ -37,7 +37,7 @@ table_is b l = eqb-true (get_or VALUES b 0) (entry_of b) (agree_below_at (λ b. 
 
 -- the value of a symbol is below 64
 pub value_lt : (b : ℕ) → b < 256 → is_symbol b ≡ true → symbol_value b < 64
-value_lt b l h = grind (arith, ltb-true, cond-true, ltb, agree_below_at)
+value_lt b l h = grind arith
 
 -- the entry of a symbol is its value
 pub entry_symbol : (b : ℕ) → b < 256 → is_symbol b ≡ true → get_or VALUES b 0 ≡ symbol_value b
@@ -53,7 +53,7 @@ entry_lt b l h = let e = entry_symbol b l h in let k = value_lt b l h in omega (
 
 -- an entry is below the mark exactly at a symbol
 pub symbol_is : (b : ℕ) → b < 256 → ltb (get_or VALUES b 0) 64 ≡ is_symbol b
-symbol_is b l = grind (arith, ltb, lt-ltb, entry_lt, le-ltb, entry_other)
+symbol_is b l = grind (arith, entry_lt, le-ltb, entry_other)
 
 -- the standard library's class of white space is that of forgiving base64
 pub space_is : (b : ℕ) → b < 256 → std_whitespace b ≡ is_ascii_whitespace b
@@ -182,7 +182,7 @@ four_same : {a b c d a' b' c' d' : ℕ} → a ≡ a' → b ≡ b' → c ≡ c' �
 four_same p q r s = cc
 
 numbers_row : (f : ℕ → ℕ) → ((k : ℕ) → f k < 64) → computed (row f) ≡ numbers (row f)
-numbers_row f h = grind (arith, four_same, one_number)
+numbers_row f h = grind arith
 
 -- from 16 values below 64, lanes compute the numbers of their groups
 pub numbers_is : (v : List ℕ) → length v ≡ 16 → Each1 (λ x. x < 64) v → computed v ≡ numbers v
@@ -254,12 +254,7 @@ pub others_is : (v marks : List ℕ) → length v ≡ 16 → Each1 (Fits w8) v �
     (zip2 (λ a b. cond (differs a b) 255 0) marks
     (0 ∷ 0 ∷ 0 ∷ 0 ∷ 0 ∷ 0 ∷ 0 ∷ 0 ∷ 0 ∷ 0 ∷ 0 ∷ 0 ∷ 0 ∷ 0 ∷ 0 ∷ 0 ∷ []))) % 2 ^ 64 ≡ mask_l (map is_other v)
 others_is v marks long fits e =
-    cc (
-      bitmask_splat w8 differs marks 16 0 (ap length e ∙ length-map v mark_of ∙ long) (omega arith),
-      map-map (λ x.
-          differs x 0) mark_of v,
-      map_agree (λ x. differs (mark_of x) 0) is_other mark_is v fits,
-    )
+    cc (bitmask_splat w8 differs marks 16 0 (ap length e ∙ length-map v mark_of ∙ long) (omega arith), map-map (λ x. differs x 0) mark_of v, map_agree (λ x. differs (mark_of x) 0) is_other mark_is v fits)
 
 -- Rows of a text
 
@@ -318,13 +313,13 @@ unmarked m = eqb m 0
 
 unmarked_mask : (xs : List ℕ) → eqb (mask_l (map (λ m. differs m 0) xs)) 0 ≡ list_all unmarked xs
 unmarked_mask [] = refl
-unmarked_mask (x ∷ xs) = grind (arith, eqb, (unmarked_mask xs), cases_eq, eq-eqb, ne_eqb)
+unmarked_mask (x ∷ xs) = grind (arith, (unmarked_mask xs))
 
 or_unmarked : (x y : ℕ) → x < 256 → y < 256 → unmarked (bit_or x y) ≡ (unmarked x && unmarked y)
 or_unmarked x y a b = elim (cases_eq x 0) [
   | inl p ↦ elim (cases_eq y 0) [
-    | inl q ↦ cc (eq-eqb (bit_or x y) 0 (omega (arith, or_add_and x y)), eq-eqb x 0 p, eq-eqb y 0 q)
-    | inr q ↦ cc (ne_eqb (bit_or x y) 0 (λ e. q (omega (arith, or_add_and x y, and_le_l x y, and_le_r x y))), eq-eqb x 0 p, ne_eqb y 0 q)
+    | inl q ↦ cc
+    | inr q ↦ cc
   ]
   | inr p ↦ cc (ne_eqb (bit_or x y) 0 (λ e. p (omega (arith, or_add_and x y, and_le_l x y, and_le_r x y))), ne_eqb x 0 p)
 ]
@@ -340,7 +335,7 @@ unmarked_or : (xs ys : List ℕ) → length xs ≡ length ys → Each1 (λ x. x 
 unmarked_or [] [] e f g = refl
 unmarked_or [] (y ∷ ys) e f g = absurd (omega arith)
 unmarked_or (x ∷ xs) [] e f g = absurd (omega arith)
-unmarked_or (x ∷ xs) (y ∷ ys) e f g = grind (arith, or_unmarked, (unmarked_or xs ys (omega arith) f.1 g.1), regroup)
+unmarked_or (x ∷ xs) (y ∷ ys) e f g = grind (arith, or_unmarked, (unmarked_or xs ys (omega arith) f.1 g.1))
 
 -- Groups of rows
 
@@ -390,18 +385,7 @@ marks_whole : (r0 r1 r2 r3 : List ℕ) → length r0 ≡ 16 → length r1 ≡ 16
     → list_all unmarked (all_marks (map mark_of r0) (map mark_of r1) (map mark_of r2) (map mark_of r3))
     ≡ list_all is_symbol (r0 ++ (r1 ++ (r2 ++ r3)))
 marks_whole r0 r1 r2 r3 l0 l1 l2 l3 f0 f1 f2 f3 =
-    search (
-      arith,
-      length-map,
-      length-zip2,
-      bit_or,
-      unmarked_or,
-      zip_lt,
-      marks_lt,
-      all_unmarked,
-      and_assoc,
-      list_all-append,
-    )
+    search (arith, length-map, length-zip2, unmarked_or, zip_lt, marks_lt, all_unmarked, list_all-append)
 
 -- the combined marks of four rows are all zero exactly if the 64 bytes are symbols
 pub whole_is : (text m0 m1 m2 m3 r0 r1 r2 r3 : List ℕ) → 64 ≤ length text → ((i : ℕ) → Fits w8 (get_or text i 0))

@@ -46,8 +46,8 @@ match_either (Some i) P Q m f = m
 taken_invalid : {F E : Type 0} (u bytes : List ℕ) (r : Result (Unit {0}) (DecodeError E)) (x : DecodeError E)
     (d : State F) (o : Option ℕ) → r ≡ Err x → fault_byte false u ≡ o → IsTaken u bytes r d
     → MatchBool (is_valid u) (IsAll u bytes r) ((bytes ≡ complete_bytes u) × (r ≡ Err (InvalidBase64 (kind_of u))))
-taken_invalid u bytes r x d None q h t = grind (arith, match_at_none, none_fault)
-taken_invalid u bytes r x d (Some c) q h t = grind (arith, bool_at_false, fault_invalid, match_either)
+taken_invalid u bytes r x d None q h t = grind (arith, none_fault)
+taken_invalid u bytes r x d (Some c) q h t = grind (arith, fault_invalid)
 
 module _ {F E : Type 0} (step : F → List ℕ → Result (Unit {0}) E → F → Type 0) where
   -- what the closure is called with for a whole text
@@ -85,9 +85,9 @@ module _ {F E : Type 0} (step : F → List ℕ → Result (Unit {0}) E → F →
       let taken : joined_pieces f.run ≡ complete_bytes u = k.1.bytes_are ∙ ap complete_bytes same in
       let G : List ℕ → Type 0 = λ w. GoesOn w [] (left_over d' ++ []) in
       let on : G u = subst G same (feeds_goes_on step [] f) in
-      let valid : is_valid u ≡ is_valid (left_over d') = cc (append-nil u, on.valid_is, append-nil (left_over d')) in
-      let kind : kind_of u ≡ kind_of (left_over d') = cc (append-nil u, on.kind_is, append-nil (left_over d')) in
-      let all : decoded u ≡ complete_bytes u ++ decoded (left_over d') = cc (append-nil u, on.decoded_is, append-nil (left_over d')) in
+      let valid : is_valid u ≡ is_valid (left_over d') = cc (append-nil u, append-nil (left_over d')) in
+      let kind : kind_of u ≡ kind_of (left_over d') = cc (append-nil u, append-nil (left_over d')) in
+      let all : decoded u ≡ complete_bytes u ++ decoded (left_over d') = cc (append-nil u, append-nil (left_over d')) in
       let bytes : joined_pieces (f.run ++ g.run) ≡ complete_bytes u ++ joined_pieces g.run =
       joined_pieces-append f.run g.run ∙ ap (λ x. x ++ joined_pieces g.run) taken in
       record {
@@ -122,7 +122,7 @@ module _ {F E : Type 0} (step : F → List ℕ → Result (Unit {0}) E → F →
               | inr (v, h) ↦
                   match_none (refusal g.run) _ _ (ap refusal h.0)
                   (bool_at_false (is_valid u) _ _ (valid ∙ v) (
-                    cc (h.0, append-nil (complete_bytes u)),
+                    cc (append-nil (complete_bytes u)),
                     h.1 ∙ ap (λ z. Err (InvalidBase64 z)) (sym kind),
                   ))
             ]);
@@ -179,7 +179,7 @@ run_reads step J keeps (c ∷ cs) f f' ran n = call_reads step J keeps c f (J f'
 pub decodes_reads : {F E : Type 0} {step : F → List ℕ → Result (Unit {0}) E → F → Type 0} {f f' : F} {u : List ℕ}
     {r : Result (Unit {0}) (DecodeError E)} → DecodesText step f u r f' → r ≡ Ok tt → (J : F → List ℕ)
     → ((g : F) (piece : List ℕ) (g' : F) → step g piece (Ok tt) g' → J g' ≡ J g ++ piece) → J f' ≡ J f ++ decoded u
-decodes_reads {F} {E} {step} {f} {f'} {u} {r} h q J keeps = grind (arith, all_ok, run_reads, whole_ok)
+decodes_reads {F} {E} {step} {f} {f'} {u} {r} h q J keeps = grind (arith, run_reads)
 
 -- what each call preserves, a run preserves
 pub run_keeps : {F E A : Type 0} (step : F → List ℕ → Result (Unit {0}) E → F → Type 0) (K : F → A)

@@ -30,17 +30,17 @@ digit_byte : (d : ℕ) → d < 16 → is_fragment_byte (hex_digit d) ≡ true
 digit_byte d l = agree_below_at (λ d. is_fragment_byte (hex_digit d)) (λ d. true) 16 d refl l
 
 byte_encoded : (b : ℕ) → b < 256 → Every is_fragment_byte (encoded_byte in_fragment_set b)
-byte_encoded b l = grind (arith, cond_both, digit_byte, outside_set)
+byte_encoded b l = grind (arith, digit_byte)
 
 -- the percent-encoding of a fragment has only bytes that an encoded fragment can have
 pub fragment_bytes : (s : List ℕ) → IsBytes s → Every is_fragment_byte (percent_encoding in_fragment_set s)
 fragment_bytes [] h = subst (Every is_fragment_byte) (sym (encoded_nil in_fragment_set)) tt
-fragment_bytes (b ∷ s) h = grind (arith, encoded_cons, every_append, byte_encoded, (fragment_bytes s h.1))
+fragment_bytes (b ∷ s) h = grind (arith, encoded_cons, byte_encoded, (fragment_bytes s h.1))
 
 -- Such bytes stay as they are
 
 byte_below : (b : ℕ) → is_fragment_byte b ≡ true → b < 256
-byte_below b h = grind (arith, and_parts, leb-true)
+byte_below b h = grind arith
 
 abbrev excludes : (ℕ → Bool) → ℕ → Bool
 excludes p b = not (is_fragment_byte b && p b)
@@ -49,17 +49,17 @@ excluded : (p : ℕ → Bool) (b : ℕ) → excludes p b ≡ true → is_fragmen
 excluded p b e h = false_from_ne_true (p b) (λ k. both_ways (excludes p b) (ap (λ v. not (v && p b)) h ∙ ap not k) e)
 
 not_in_set : (b : ℕ) → is_fragment_byte b ≡ true → in_fragment_set b ≡ false
-not_in_set b h = grind (arith, excluded, agree_below_at, byte_below)
+not_in_set b h = grind arith
 
 not_low : (b : ℕ) → is_fragment_byte b ≡ true → is_c0_control_or_space b ≡ false
-not_low b h = grind (arith, excluded, agree_below_at, byte_below)
+not_low b h = grind arith
 
 not_dropped : (b : ℕ) → is_fragment_byte b ≡ true → is_tab_or_newline b ≡ false
-not_dropped b h = grind (arith, excluded, agree_below_at, byte_below)
+not_dropped b h = grind arith
 
 encoded_itself : (x : List ℕ) → Every is_fragment_byte x → percent_encoding in_fragment_set x ≡ x
 encoded_itself [] h = encoded_nil in_fragment_set
-encoded_itself (b ∷ x) h = grind (arith, encoded_cons, cond-false, not_in_set, (encoded_itself x h.1))
+encoded_itself (b ∷ x) h = grind (arith, encoded_cons, (encoded_itself x h.1))
 
 dropped_itself : (t : List ℕ) → Every is_fragment_byte t → without_tabs_and_newlines t ≡ t
 dropped_itself [] h = dropped_nil
@@ -79,7 +79,7 @@ no_low_end t h = no_low_front (reverse t) (every_reverse t h)
 
 trimmed_itself : (t : List ℕ) → Every is_fragment_byte t → trimmed_text t ≡ t
 unfolding trimmed_text
-trimmed_itself t h = grind (arith, no_low_front, no_low_end, take_all)
+trimmed_itself t h = grind (arith, no_low_end, take_all)
 
 cleaned_itself : (t : List ℕ) → Every is_fragment_byte t → cleaned_text t ≡ t
 unfolding cleaned_text
@@ -118,4 +118,4 @@ staged_again t x h = grind (arith, front_of_comma, fragment_after, header_empty,
 
 -- a text of such bytes, read as a fragment, is percent-encoded as itself
 pub read_again : (x : List ℕ) → Every is_fragment_byte x → IsReadAgain x
-read_again x h = grind (arith, every_append, every_from_all, staged_again, after_data, cleaned_itself, encoded_itself)
+read_again x h = grind (arith, staged_again, after_data, cleaned_itself, encoded_itself)

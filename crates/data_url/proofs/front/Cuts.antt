@@ -51,7 +51,7 @@ spells_passed s n b h e = grind (arith, dropped_one_passes)
 
 one_more : (s : List ℕ) (n b : ℕ) → Spells s n → is_tab_or_newline b ≡ false → to_ascii_lowercase b ≡ get_or scheme n 0
     → map to_ascii_lowercase (without_tabs_and_newlines (s ++ b ∷ [])) ≡ take (n + 1) scheme
-one_more s n b h e same = grind (arith, dropped_one_keeps, map-append, take_more)
+one_more s n b h e same = grind (arith, dropped_one_keeps, map-append)
 
 -- if the byte after a text is, in lower case, the next byte of the scheme, but not the last one, the text with that
 -- byte spells one byte more
@@ -95,7 +95,7 @@ differs text s n b rest h e ne is = false_from_ne_true (bytes_eq (map to_ascii_l
 
 -- a byte of the scheme, in any ASCII case, is ASCII
 pub scheme_is_ascii : (n b : ℕ) → n < 5 → to_ascii_lowercase b ≡ get_or scheme n 0 → b < 128
-scheme_is_ascii n b l e = grind (arith, ltb-true, agree_below_at, ltb, ⊎_elim, lowercase_is, cases_lt)
+scheme_is_ascii n b l e = grind arith
 
 -- The scheme as it is commonly spelled
 
@@ -167,17 +167,13 @@ front_end_from s m k h e =
 
 -- if the first ',' or '#' of a text is a ',', the bytes before it are the header, and those after it are the tail
 pub at_comma : (s : List ℕ) (n : ℕ) → IsFrontEnd s n → get_or s n 0 ≢ 35 → IsHeaderAndTail s (take n s) (drop (n + 1) s)
-at_comma s n f ne = grind (arith, ⊎_elim, cut_at)
+at_comma s n f ne = grind (arith, cut_at)
 
 -- if the first ',' or '#' of a text is a '#', there is no ',' before the first '#'
 pub at_hash : (s : List ℕ) (n : ℕ) → IsFrontEnd s n → get_or s n 0 ≡ 35 → after 44 (front s) ≡ None
 unfolding front
 at_hash s n f h =
-    let parts : s ≡ take n s ++ 35 ∷ drop (n + 1) s = cc (cut_at s n f.within) in cc (
-      before_at 35 (take n s) (drop
-          (n + 1) s) f.no_hash,
-      f.no_comma,
-    )
+    let parts : s ≡ take n s ++ 35 ∷ drop (n + 1) s = cc (cut_at s n f.within) in cc (before_at 35 (take n s) (drop (n + 1) s) f.no_hash, f.no_comma)
 
 -- if a text has neither ',' nor '#', there is no ',' before its first '#'
 pub at_none : (s : List ℕ) (m : ℕ) → NoEndBefore s m → position ends_header (drop m s) ≡ None
@@ -205,7 +201,7 @@ is_ascii_end s n f = ⊎_elim (λ h. omega arith) (λ h. omega arith) f.is
 -- if n is the length of the longest prefix of plain path bytes, each of the first n bytes is `Plain`
 pub plain_front : (s items : List ℕ) (n : ℕ) → items ≡ s → n ≡ prefix_len is_plain_path items
     → ((i : ℕ) → get_or s i 0 < 256) → (k : ℕ) → k < n → Plain (get_or s k 0)
-plain_front s items n e f h k l = grind (arith, plain_byte, prefix_len_passes)
+plain_front s items n e f h k l = grind (arith, prefix_len_passes)
 
 -- if the first n bytes are plain, there is no ',' or '#' before index n
 pub plain_no_end : (s : List ℕ) (n : ℕ) → ((k : ℕ) → k < n → Plain (get_or s k 0)) → NoEndBefore s n
@@ -225,7 +221,7 @@ no_end_ahead s items n e f h = plain_no_end s n (plain_front s items n e f h)
 
 ends_ahead : (s items : List ℕ) (n : ℕ) (r : Option ℕ) → items ≡ s
     → r ≡ position ends_header (take (length items - n) (drop n items)) → position ends_header (drop n s) ≡ r
-ends_ahead s items n r e p = grind (arith, position, take_all, length-drop)
+ends_ahead s items n r e p = grind (arith, take_all, length-drop)
 
 -- if the first ',' or '#' after the n plain bytes at the front is at index k of the bytes after them, the first one of
 -- the text is at n + k

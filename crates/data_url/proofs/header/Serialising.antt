@@ -47,7 +47,7 @@ path_more b (d ∷ s) c = path_cons b (d ∷ (s ++ c ∷ []))
 -- if a path ends with a space, this space is encoded as "%20", and the bytes before it with the path's set
 pub path_space : (s : List ℕ) → encoded_path (s ++ 32 ∷ []) ≡ percent_encoding in_path_set s ++ codes "%20"
 path_space [] = path_one 32 ∙ ap (λ t. t ++ codes "%20") (sym (encoded_nil in_path_set))
-path_space (b ∷ s) = grind (arith, path_more, (path_space s), append_assoc, encoded_cons)
+path_space (b ∷ s) = grind (arith, path_more, (path_space s), encoded_cons)
 
 -- another byte at the end
 end_set : (c : ℕ) → (c == 32) ≡ false → in_path_end_set c ≡ in_path_set c
@@ -56,7 +56,7 @@ end_set c e = ap (λ v. in_path_set c || v) e ∙ or-false (in_path_set c)
 -- a path that ends with another byte is encoded with the path's set
 pub path_other : (s : List ℕ) (c : ℕ) → (c == 32) ≡ false → encoded_path (s ++ c ∷ []) ≡ percent_encoding in_path_set
     (s ++ c ∷ [])
-path_other [] c e = grind (arith, path_one, end_set, append-nil, encoded_nil, encoded_cons)
+path_other [] c e = grind (arith, path_one, encoded_nil, encoded_cons)
 path_other (b ∷ s) c e = grind (arith, path_more, (path_other s c e), encoded_cons)
 
 -- only tabs and newlines
@@ -128,15 +128,7 @@ header_and_query : (path rest : List ℕ) → after 63 path ≡ None
     (without_tabs_and_newlines path) ++ percent_encoding in_query_set (without_tabs_and_newlines (63 ∷ rest))
 unfolding header_text
 header_and_query path rest h =
-    search (
-      arith,
-      after-dropped_none,
-      dropped_keeps,
-      encoded_cons,
-      without_tabs_and_newlines-append,
-      before_at,
-      after_at,
-    )
+    search (arith, after-dropped_none, dropped_keeps, encoded_cons, without_tabs_and_newlines-append, before_at, after_at)
 
 -- nothing after a path
 nothing_after : (path : List ℕ) → encoded_parts path [] [] ≡ percent_encoding in_path_set
@@ -160,13 +152,13 @@ some_bytes (b ∷ s) v e f n = absurd (let k = n in cc)
 -- if the path has no last space, or there is no query, the encoded path and query are the serialised header
 pub parts_whole : (header path query : List ℕ) → IsPathAndQuery header path query → (query ≡ []) ⊎ HasNoLastSpace path
     → encoded_parts path [] query ≡ header_text (without_tabs_and_newlines header)
-parts_whole header path query h end = grind (arith, ⊎_elim, nothing_after, header_alone, append-nil, header_and_query)
+parts_whole header path query h end = grind (arith, nothing_after, header_alone, append-nil, header_and_query)
 
 -- if the path has a last space, and there is a query, the encoded path without that space, "%20", and the encoded query
 -- are the serialised header
 pub parts_spaced : (header path front query : List ℕ) → IsPathAndQuery header path query → query ≢ []
     → WithoutSpace path front → encoded_parts front (codes "%20") query ≡ header_text (without_tabs_and_newlines header)
-parts_spaced header path front query h there w = grind (arith, ⊎_elim, append_assoc, path_space, header_and_query)
+parts_spaced header path front query h there w = grind (arith, append_assoc, path_space, header_and_query)
 
 is_false : (b : Bool) → not b ≡ true → b ≡ false
 is_false true h = absurd (let k = h in cc)
@@ -216,7 +208,7 @@ ends_trimmed s =
     ]
 
 not_tab : (b : ℕ) → is_c0_control_or_space b ≡ false → is_tab_or_newline b ≡ false
-not_tab b h = grind (arith, leb-false, ne_eqb)
+not_tab b h = grind arith
 
 not_space : (b : ℕ) → is_c0_control_or_space b ≡ false → is_space b ≡ false
 not_space b h = let l : 32 < b = leb-false b 32 h in ne_eqb b 32 (λ e. omega (arith, l, e))
@@ -256,7 +248,7 @@ given_of false s a h = absurd (let k : None ≡ Some a = h in cc)
 
 after_is : (t a : List ℕ) → after_scheme t ≡ Some a → a ≡ drop 5 (cleaned_text t)
 unfolding after_scheme
-after_is t a h = grind (arith, given_of)
+after_is t a h = grind arith
 
 -- what follows the scheme does not end with a space
 pub no_last_space : (t a : List ℕ) → after_scheme t ≡ Some a → DoesNotEnd is_space a

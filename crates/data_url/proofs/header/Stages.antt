@@ -55,23 +55,23 @@ printable_append [] s h k = k
 printable_append (b ∷ a) s h k = (h.0, h.1, printable_append a s h.2 k)
 
 hex_printable : (d : ℕ) → d < 16 → (32 ≤ hex_digit d) × (hex_digit d < 127)
-hex_printable d l = grind (arith, cond_both)
+hex_printable d l = grind arith
 
 outside_path : (b : ℕ) → in_path_set b ≡ false → (32 ≤ b) × (b < 127)
-outside_path b h = grind (arith, or_parts, ltb-false)
+outside_path b h = grind arith
 
 outside_query : (b : ℕ) → in_query_set b ≡ false → (32 ≤ b) × (b < 127)
-outside_query b h = grind (arith, outside_path, or_parts)
+outside_query b h = grind arith
 
 byte_printable : (p : ℕ → Bool) → ((b : ℕ) → p b ≡ false → (32 ≤ b) × (b < 127)) → (b : ℕ) → b < 256
     → printable (encoded_byte p b)
-byte_printable p outside b l = grind (arith, cond_both, hex_printable)
+byte_printable p outside b l = grind arith
 
 encoded_printable : (p : ℕ → Bool) → ((b : ℕ) → p b ≡ false → (32 ≤ b) × (b < 127)) → (s : List ℕ) → IsBytes s
     → printable (percent_encoding p s)
 encoded_printable p outside [] h = subst printable (sym (encoded_nil p)) tt
 encoded_printable p outside (b ∷ s) h =
-    grind (arith, encoded_cons, printable_append, byte_printable, (encoded_printable p outside s h.1))
+    grind (arith, encoded_cons, (encoded_printable p outside s h.1))
 
 outside_path_byte : (path : List ℕ) (b : ℕ) → path_byte_set path b ≡ false → (32 ≤ b) × (b < 127)
 outside_path_byte [] b h = outside_path b (or_parts (in_path_set b) (b == 32) h).0
@@ -85,20 +85,7 @@ outside_header_byte path (Some query) b h = outside_path_byte path b h
 header_all : (s : List ℕ) → IsBytes s → printable (header_text s)
 header_all [] h = subst printable (sym header_nil) tt
 header_all (b ∷ s) h =
-    search (
-      arith,
-      cases_Bool,
-      eqb-true,
-      header_query,
-      encoded_printable,
-      outside_query,
-      header_byte_set,
-      header_path,
-      printable_append,
-      byte_printable,
-      outside_header_byte,
-      (header_all s h.1),
-    )
+    search (arith, header_query, encoded_printable, header_path, (header_all s h.1))
 
 printable_at : (s : List ℕ) → printable s → IsPrintable s
 printable_at [] h i l = absurd (omega arith)
@@ -124,12 +111,12 @@ printable_reverse s h i l = grind (arith, length-reverse, get_or-reverse)
 
 -- a printable text is ASCII
 pub printable_ascii : (s : List ℕ) → IsPrintable s → IsAscii s
-printable_ascii s h i = grind (arith, ⊎_elim, get_or_past, cases_lt)
+printable_ascii s h i = grind (arith, get_or_past)
 
 -- Spaces are the only low bytes
 
 low_is_space : (b : ℕ) → 32 ≤ b → is_c0_control_or_space b ≡ is_space b
-low_is_space b h = grind (arith, cases_Bool, le-leb, eqb-true, lt-leb, eqb-false)
+low_is_space b h = grind arith
 
 low_front : (s : List ℕ) → IsPrintable s → prefix_len is_c0_control_or_space s ≡ prefix_len is_space s
 low_front [] h = refl
@@ -161,7 +148,7 @@ bytes_append (x ∷ a) b h = let k = bytes_append a b h.1 in ((h.0, k.0), k.1)
 -- a text of bytes without tabs and newlines is a text of bytes
 pub bytes_dropped : (s : List ℕ) → IsBytes s → IsBytes (without_tabs_and_newlines s)
 bytes_dropped [] h = subst IsBytes (sym dropped_nil) tt
-bytes_dropped (b ∷ s) h = grind (arith, cases_Bool, dropped_passes, (bytes_dropped s h.1), dropped_keeps)
+bytes_dropped (b ∷ s) h = grind (arith, dropped_passes, (bytes_dropped s h.1), dropped_keeps)
 
 -- the part of a text of bytes before the first c is a text of bytes
 pub bytes_before : (c : ℕ) (s : List ℕ) → IsBytes s → IsBytes (before c s)
@@ -172,7 +159,7 @@ bytes_before c (b ∷ s) h = grind (arith, (bytes_before c s h.1))
 -- The scheme has no comma
 
 lowercase_comma : (b : ℕ) → (to_ascii_lowercase b == 44) ≡ false → (b == 44) ≡ false
-lowercase_comma b h = grind (arith, ne_eqb, both_ways)
+lowercase_comma b h = grind arith
 
 -- if a text in lower case has no comma, the text has none
 pub lacks_comma : (d : List ℕ) → after 44 (map to_ascii_lowercase d) ≡ None → after 44 d ≡ None
@@ -215,16 +202,16 @@ pub after_is : (t rest : List ℕ) (h : IsSchemeAndRest (trimmed_text t) rest)
     → after_scheme t ≡ Some (without_tabs_and_newlines rest)
 unfolding after_scheme cleaned_text
 after_is t rest h = let parts : without_tabs_and_newlines (trimmed_text t) ≡ without_tabs_and_newlines
-    h.scheme ++ without_tabs_and_newlines rest = cc (h.joined, without_tabs_and_newlines-append h.scheme rest) in
+    h.scheme ++ without_tabs_and_newlines rest = cc (without_tabs_and_newlines-append h.scheme rest) in
     let five = scheme_length h.scheme h.spelled in
-    let first : map to_ascii_lowercase (take 5 (without_tabs_and_newlines (trimmed_text t))) ≡ codes "data:" = cc (take_at (without_tabs_and_newlines h.scheme) (without_tabs_and_newlines rest) 5 five, h.spelled) in
+    let first : map to_ascii_lowercase (take 5 (without_tabs_and_newlines (trimmed_text t))) ≡ codes "data:" = cc (take_at (without_tabs_and_newlines h.scheme) (without_tabs_and_newlines rest) 5 five) in
     let others : drop 5 (without_tabs_and_newlines (trimmed_text t)) ≡ without_tabs_and_newlines rest =
-    ap (drop 5) parts ∙ drop_at (without_tabs_and_newlines h.scheme) (without_tabs_and_newlines rest) 5 five in cc (cond-true (bytes_eq (map to_ascii_lowercase (take 5 (without_tabs_and_newlines (trimmed_text t)))) (codes "data:")) (Some (drop 5 (without_tabs_and_newlines (trimmed_text t)))) None ((bytes_eq-Decides (map to_ascii_lowercase (take 5 (without_tabs_and_newlines (trimmed_text t)))) (codes "data:")).1 first))
+    ap (drop 5) parts ∙ drop_at (without_tabs_and_newlines h.scheme) (without_tabs_and_newlines rest) 5 five in cc
 
 -- if the trimmed text does not begin with the scheme, there is no text after the scheme
 pub after_none : (t : List ℕ) → HasNoScheme (trimmed_text t) → after_scheme t ≡ None
 unfolding after_scheme cleaned_text
-after_none t h = grind (arith, cond-false)
+after_none t h = grind arith
 
 -- Header, body and fragment
 
@@ -240,16 +227,7 @@ pub record IsStaged (rest header tail : List ℕ) : Type 0 where
 pub is_staged : (rest header tail : List ℕ) → IsHeaderAndTail rest header tail → IsStaged rest header tail
 unfolding front fragment
 is_staged rest header tail h =
-    search (
-      arith,
-      dropped_around,
-      after-dropped_none,
-      before-append,
-      before_other,
-      lacks_comma,
-      after-append,
-      after_other,
-    )
+    search (arith, dropped_around, after-dropped_none, before-append, before_other, after-append, after_other)
 
 -- if a is the text after the scheme, the staged front is the front of a, serialised
 pub front_of : (t a : List ℕ) → after_scheme t ≡ Some a → staged_front t ≡ Some (serialised (front a))
@@ -267,7 +245,7 @@ has_tail_of None s t e h = absurd h
 has_tail_of (Some rest) s t e h = record { rest = rest; is = e; recoded = h }
 
 has_tail : (s header t : List ℕ) → IsBytes s → s ≡ header ++ 44 ∷ t → after 44 header ≡ None → HasTail (serialised s) t
-has_tail s header t b e h = grind (arith, has_tail_of, after_at, recoded_tails, serialised_recoded)
+has_tail s header t b e h = grind (arith, after_at, recoded_tails, serialised_recoded)
 
 -- the stages of a text that is accepted, by its raw header and tail
 pub record IsAccepted (t header tail : List ℕ) : Type 0 where
@@ -293,7 +271,7 @@ is_accepted t rest header tail b s h = let staged = is_staged rest header tail h
     (front (without_tabs_and_newlines tail)) bytes staged.front_is staged.lacks_comma in
     record {
       body = k.rest;
-      header_is = cc (k.is, staged.front_is, before-serialised (without_tabs_and_newlines header) (front (without_tabs_and_newlines tail)) staged.lacks_comma);
+      header_is = cc (before-serialised (without_tabs_and_newlines header) (front (without_tabs_and_newlines tail)) staged.lacks_comma);
       body_is = ap (option_and_then (after 44)) f ∙ k.is;
       decoded_is = recoded-decoded k.recoded;
       tail_is = tail_is_of t rest header tail s h;
@@ -309,17 +287,7 @@ before-without_tabs_and_newlines : (c : ℕ) → is_tab_or_newline c ≡ false �
     → before c (without_tabs_and_newlines s) ≡ without_tabs_and_newlines (before c s)
 before-without_tabs_and_newlines c k [] = grind (arith, dropped_nil, before_nil)
 before-without_tabs_and_newlines c k (b ∷ s) =
-    search (
-      arith,
-      cases_Bool,
-      eqb-true,
-      dropped_keeps,
-      before_same,
-      dropped_nil,
-      dropped_passes,
-      (before-without_tabs_and_newlines c k s),
-      before_other,
-    )
+    search (arith, dropped_keeps, before_same, dropped_nil, dropped_passes, (before-without_tabs_and_newlines c k s), before_other)
 
 front_lacks : (rest : List ℕ) → after 44 (front rest) ≡ None → after 44 (front (without_tabs_and_newlines rest))
     ≡ None
@@ -529,7 +497,7 @@ pub stages_accepted : (t rest header tail : List ℕ) → IsBytes (trimmed_text 
     (option_map (percent_encoding in_fragment_set) (fragment (without_tabs_and_newlines tail)))
 unfolding staged plain_body
 stages_accepted t rest header tail b s h flag f = let a = is_accepted t rest header tail (rest_bytes t rest b s) s h in
-    let text = header_text (without_tabs_and_newlines header) in cc (after_is t rest s, a.header_is, a.body_is, (is_staged rest header tail h).fragment_is, a.decoded_is)
+    let text = header_text (without_tabs_and_newlines header) in cc (after_is t rest s, (is_staged rest header tail h).fragment_is)
 
 -- if the trimmed text is the scheme, a header, the first comma, and a tail, the Standard accepts it
 pub is_acceptable : (t rest header tail : List ℕ) → IsBytes (trimmed_text t) → IsSchemeAndRest (trimmed_text t) rest

@@ -31,11 +31,11 @@ word = codes "base64"
 -- a text whose last six bytes are not "base64", in any ASCII case, has no base64 suffix
 pub no_word : (s : List ℕ) → (map to_ascii_lowercase (last_bytes 6 s) ≡ word → ⊥) → before_base64 s ≡ None
 unfolding before_base64
-no_word s h = grind (arith, cond-false, false_from_ne_true, bytes_eq-Decides)
+no_word s h = grind (arith, bytes_eq-Decides)
 
 -- a text of less than six bytes has no base64 suffix
 pub too_short : (s : List ℕ) → length s < 6 → before_base64 s ≡ None
-too_short s l = grind (arith, no_word, length-map, length-drop)
+too_short s l = grind (arith, no_word, length-map)
 
 -- the same, if the last six bytes begin at index n
 pub other_word : (s : List ℕ) (n : ℕ) → n + 6 ≡ length s → (map to_ascii_lowercase (drop n s) ≡ word → ⊥)
@@ -56,7 +56,7 @@ after_word : (s : List ℕ) (n spaces : ℕ) → IsPrintable s → HasWord s n s
     → before_base64 s ≡ before_semicolon (take (n - spaces) s)
 unfolding before_base64
 after_word s n spaces p h =
-    grind (arith, few_spaces, length-take-le, low_end, printable_take, take-take, cond-true, bytes_eq-Decides)
+    grind (arith, length-take-le, low_end, printable_take, take-take)
 
 abbrev semicolon : List ℕ
 semicolon = codes ";"
@@ -95,7 +95,7 @@ suffix_stop p x q b f = let none : prefix_len p (b ∷ reverse x) ≡ 0 = prefix
     let turned : reverse (x ++ b ∷ q) ≡ reverse q ++ b ∷ reverse x = cc (reverse-append x (b ∷ q), reverse-append (b ∷ []) q, append_assoc (reverse q) (b ∷ []) (reverse x)) in cc (prefix_len-append p (reverse q) (b ∷ reverse x), cond_both (eqb (prefix_len p (reverse q)) (length (reverse q))) (length (reverse q) + prefix_len p (b ∷ reverse x)) (prefix_len p (reverse q)) (λ v. v ≡ prefix_len p (reverse q)) (λ e. let k : prefix_len p (reverse q) ≡ length (reverse q) = eqb-true _ _ e in omega (arith, k, none)) (λ e. refl))
 
 front_stop : (p : ℕ → Bool) (x q : List ℕ) (b : ℕ) → p b ≡ false → prefix_len p (x ++ b ∷ q) ≤ length x
-front_stop p x q b f = grind (arith, prefix_len-drop_no, prefix_len-append, cond_both, eqb, prefix_len-le-length)
+front_stop p x q b f = grind (arith, prefix_len-append, prefix_len-le-length)
 
 end_after : (x q : List ℕ) → without_end is_space (x ++ 63 ∷ q) ≡ x ++ 63 ∷ without_end is_space q
 end_after x q =
@@ -126,11 +126,11 @@ map_cond true y m = refl
 map_cond false y m = refl
 
 word_after : (y q : List ℕ) → 6 ≤ length q → before_word (y ++ q) ≡ option_map (λ m. y ++ m) (before_word q)
-word_after y q l = grind (arith, last_after, before_last_after, map_cond)
+word_after y q l = grind (arith, last_after, before_last_after)
 
 -- the word has no '?'
 no_mark : (i : ℕ) → get_or word i 0 ≢ 63
-no_mark i e = grind (arith, ⊎_elim, both_ways, agree_below_at, get_or_past, cases_lt)
+no_mark i e = grind arith
 
 mark_at : (x q : List ℕ) → get_or (x ++ 63 ∷ q) (length x) 0 ≡ 63
 mark_at [] q = refl
@@ -155,7 +155,7 @@ some_cond false a = refl
 
 semicolon_after : (x r : List ℕ) → is_some (before_semicolon (x ++ 63 ∷ r)) ≡ bytes_eq (last_bytes 1 (63 ∷ r))
     (codes ";")
-semicolon_after x r = grind (arith, some_cond, last_after)
+semicolon_after x r = grind (arith, last_after)
 
 -- what the suffix depends on
 abbrev after_mark : Option (List ℕ) → Bool
@@ -171,15 +171,10 @@ by_word x (Some m) = grind (arith, append_assoc, end_after, semicolon_after)
 suffix_after : (x q : List ℕ) → 6 ≤ length q → is_some (before_base64 (x ++ 63 ∷ q)) ≡ after_mark (before_word q)
 unfolding before_base64
 suffix_after x q l =
-    let f : List ℕ → Option (List ℕ) = λ m. before_semicolon (without_end is_space m) in cc (
-      append_assoc x (63 ∷ [])
-          q,
-      word_after (x ++ 63 ∷ []) q l,
-      by_word x (before_word q),
-    )
+    let f : List ℕ → Option (List ℕ) = λ m. before_semicolon (without_end is_space m) in cc (append_assoc x (63 ∷ []) q, word_after (x ++ 63 ∷ []) q l, by_word x (before_word q))
 
 same_suffix : (x z q : List ℕ) → is_some (before_base64 (x ++ 63 ∷ q)) ≡ is_some (before_base64 (z ++ 63 ∷ q))
-same_suffix x z q = grind (arith, ⊎_elim, too_near, suffix_after, cases_lt)
+same_suffix x z q = grind (arith, too_near, suffix_after)
 
 -- the flag does not depend on the text before the '?'
 pub same_flag : (a b query : List ℕ) → has_base64_suffix (a ++ 63 ∷ query) ≡ has_base64_suffix (b ++ 63 ∷ query)

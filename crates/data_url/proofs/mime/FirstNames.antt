@@ -87,17 +87,13 @@ lower_twice (c ∷ t) = ap₂ (λ x y. x ∷ y) (lowercase-lowercase c) (lower_t
 
 -- a token text in lower case is a lower-case name
 pub lowercase_name : (t : List ℕ) → is_token_text t ≡ true → is_lowercase_name (map to_ascii_lowercase t) ≡ true
-lowercase_name t h = grind (arith, and_from, token_text_lower, test_from_equal, lower_twice)
+lowercase_name t h = grind (arith, token_text_lower, test_from_equal, lower_twice)
 
 -- the code points of a token text whose bytes are put into lower case are its code points in lower case
 pub lower_chars : (bs : List ℕ) → IsUtf8 bs → is_token_text (chars bs) ≡ true
     → chars (map to_ascii_lowercase bs) ≡ map to_ascii_lowercase (chars bs)
 lower_chars bs u h =
-    let a = token_text_ascii bs (token_text_chars bs u ∙ h) in cc (
-      chars-IsAscii (map to_ascii_lowercase bs)
-          (IsAscii-map to_ascii_lowercase bs lowercase_ascii a),
-      chars-IsAscii bs a,
-    )
+    let a = token_text_ascii bs (token_text_chars bs u ∙ h) in cc (chars-IsAscii (map to_ascii_lowercase bs) (IsAscii-map to_ascii_lowercase bs lowercase_ascii a), chars-IsAscii bs a)
 
 -- Names compared in any case
 
@@ -107,7 +103,7 @@ name_bytes bs u h = bytes_of_ascii bs u (token_text_ascii (chars bs) h)
 
 -- a lower-case name in lower case is the name itself
 pub lower_is_itself : (t : List ℕ) → is_lowercase_name t ≡ true → map to_ascii_lowercase t ≡ t
-lower_is_itself t h = grind (arith, equal_from_test, and_parts)
+lower_is_itself t h = grind (arith, equal_from_test)
 
 -- a lower-case name is a token text
 pub lowercase_token : (t : List ℕ) → is_lowercase_name t ≡ true → is_token_text t ≡ true
@@ -115,7 +111,7 @@ lowercase_token t h = (and_parts (is_token_text t) (bytes_eq (map to_ascii_lower
 
 both_lower : (k n : List ℕ) → IsUtf8 k → IsUtf8 n → is_lowercase_name (chars k) ≡ true → is_token_text (chars n) ≡ true
     → (map to_ascii_lowercase k ≡ chars k) × (map to_ascii_lowercase n ≡ map to_ascii_lowercase (chars n))
-both_lower k n u w h t = grind (arith, name_bytes, lowercase_token, lower_is_itself)
+both_lower k n u w h t = grind (arith, name_bytes, lower_is_itself)
 
 -- a token text has at least one byte
 pub some_byte : (n : List ℕ) → is_token_text (chars n) ≡ true → 0 < length n
@@ -124,13 +120,13 @@ some_byte (b ∷ n) h = omega arith
 
 -- a lower-case name is equal to itself with each byte in lower case
 pub lower_bytes : (k : List ℕ) → IsUtf8 k → is_lowercase_name (chars k) ≡ true → map to_ascii_lowercase k ≡ k
-lower_bytes k u h = grind (arith, name_bytes, lowercase_token, lower_is_itself)
+lower_bytes k u h = grind (arith, name_bytes, lower_is_itself)
 
 -- for a lower-case name k and a token text n that are equal in lower case, the test of k and of n in lower case is true
 pub names_equal : (k n : List ℕ) → IsUtf8 k → IsUtf8 n → is_lowercase_name (chars k) ≡ true
     → is_token_text (chars n) ≡ true → map to_ascii_lowercase k ≡ map to_ascii_lowercase n
     → bytes_eq (chars k) (map to_ascii_lowercase (chars n)) ≡ true
-names_equal k n u w h t e = grind (arith, both_lower, test_from_equal)
+names_equal k n u w h t e = grind (arith, both_lower)
 
 -- for a lower-case name k and a token text n that differ in lower case, the test of k and of n in lower case is false
 pub names_differ : (k n : List ℕ) → IsUtf8 k → IsUtf8 n → is_lowercase_name (chars k) ≡ true
@@ -144,12 +140,12 @@ names_differ k n u w h t e = grind (arith, both_lower, test_from_different)
 pub lowercase_at : {A B : Type 0} (pairs : List (String A × String B)) (i : ℕ) (item : String A × String B)
     → HasLowercaseNames (map (λ p. pair_of p) pairs) → i < length pairs → item ≡ get_or pairs i item
     → is_lowercase_name (code_points item.0) ≡ true
-lowercase_at pairs i item h l e = grind (arith, true_from_ne_false, false≢true, list_all_at, list_all-map)
+lowercase_at pairs i item h l e = grind (arith, list_all_at, list_all-map)
 
 look_step : {A B : Type 0} (n : List ℕ) (pairs : List (String A × String B)) (i : ℕ) (item : String A × String B)
     → i < length pairs → item ≡ get_or pairs i item → has_name n (map (λ p. pair_of p) (drop i pairs))
     ≡ (bytes_eq (code_points item.0) n || has_name n (map (λ p. pair_of p) (drop (i + 1) pairs)))
-look_step n pairs i item l e = grind (arith, drop-cons, add-one)
+look_step n pairs i item l e = grind (arith, drop-cons)
 
 -- if the pair at index i has the name n, one of the pairs has it
 pub look_finds : {A B : Type 0} (n : List ℕ) (pairs : List (String A × String B)) (i : ℕ) (item : String A × String B)
@@ -173,7 +169,7 @@ look_goes_on n pairs i item l e t h = cc (look_step n pairs i item l e)
 -- if the name of an item is not a token text, the item adds no pair
 pub no_pair_token : (item : Item) (xs : List Pair) → is_token_text item.0 ≡ false → added_pairs xs item ≡ []
 no_pair_token (name, None) xs h = refl
-no_pair_token (name, Some v) xs h = grind (arith, cond-false, and_left)
+no_pair_token (name, Some v) xs h = grind arith
 
 unless_none : (xs : List Pair) (p : Pair) (b : Bool) → has_name p.0 xs ≡ true
     → unless_named xs (cond b (p ∷ []) []) ≡ []
@@ -194,7 +190,7 @@ some_quotable v w false h = absurd (let k = h in cc)
 pub valid_pair : (item : Item) (w : List ℕ) → is_token_text item.0 ≡ true → Some w ≡ quotable_value item.1
     → valid_of item ≡ (item.0, w) ∷ []
 valid_pair (name, None) w t h = absurd (let k = h in cc)
-valid_pair (name, Some v) w t h = grind (arith, some_quotable, cond-true, and_from)
+valid_pair (name, Some v) w t h = grind arith
 
 -- The pairs that are kept with one more item
 
@@ -205,7 +201,7 @@ or_none false = refl
 -- one of the pairs of xs ++ ys has a name exactly if one of xs or one of ys has it
 pub has_append : (n : List ℕ) (xs ys : List Pair) → has_name n (xs ++ ys) ≡ (has_name n xs || has_name n ys)
 has_append n [] ys = refl
-has_append n (p ∷ xs) ys = grind (arith, (has_append n xs ys), or_assoc)
+has_append n (p ∷ xs) ys = grind (arith, (has_append n xs ys))
 
 -- one of the pairs has a name after p is pushed exactly if one had it before, or p has it
 pub has_pushed : (n : List ℕ) (xs : List Pair) (p : Pair)
@@ -220,7 +216,7 @@ snoc_cases false p whole front back h = ap (λ x. p ∷ x) h
 first_snoc : (e ps : List Pair) (q : Pair) → first_of_each_name e (ps ++ (q ∷ [])) ≡ first_of_each_name e ps ++ cond
     (has_name q.0 (e ++ ps)) [] (q ∷ [])
 first_snoc e [] q = rw (append-nil e) refl
-first_snoc e (p ∷ ps) q = grind (arith, (first_snoc (e ++ (p ∷ [])) ps q), append_assoc, snoc_cases)
+first_snoc e (p ∷ ps) q = grind (arith, (first_snoc (e ++ (p ∷ [])) ps q), append_assoc)
 
 -- if the earlier pairs have the name of p, they have each name that is equal to it
 named : (n : List ℕ) (e : List Pair) (p : Pair) → has_name p.0 e ≡ true → bytes_eq p.0 n ≡ true → has_name n e ≡ true
@@ -240,7 +236,7 @@ first_cases : (n : List ℕ) (e : List Pair) (p : Pair) (kept_rest ps : List Pai
     → ((has_name n e || bytes_eq p.0 n) || has_name n kept_rest) ≡ ((has_name n e || bytes_eq p.0 n) || has_name n ps)
     → (has_name n e || has_name n (cond (has_name p.0 e) kept_rest (p ∷ kept_rest)))
     ≡ (has_name n e || (bytes_eq p.0 n || has_name n ps))
-first_cases n e p kept_rest ps h = grind (arith, cond_both, skip_test, named, take_test)
+first_cases n e p kept_rest ps h = grind (arith, named)
 
 has_first : (n : List ℕ) (e ps : List Pair) → (has_name n e || has_name n (first_of_each_name e ps))
     ≡ (has_name n e || has_name n ps)
@@ -264,7 +260,7 @@ kept_with_one ps qs (inr (p, e)) =
 -- the pairs that are kept with one more item are those kept before, and then those that the item adds
 pub kept_more : (items : List Item) (item : Item) → kept_pairs (items ++ (item ∷ [])) ≡ kept_pairs items ++ added_pairs
     (kept_pairs items) item
-kept_more items item = grind (arith, flat_map-append, append-nil, kept_with_one, valid_one)
+kept_more items item = grind (arith, flat_map-append, kept_with_one)
 
 -- What the parser keeps for one parameter
 
@@ -281,13 +277,13 @@ one_added pairs pairs' name value more e h = grind (arith, map-append)
 
 -- if all names of xs and of ys are lower-case, so are those of xs ++ ys
 pub lower_after : (xs ys : List Pair) → HasLowercaseNames xs → HasLowercaseNames ys → HasLowercaseNames (xs ++ ys)
-lower_after xs ys h k = grind (arith, list_all-append, and_from)
+lower_after xs ys h k = grind (arith, list_all-append)
 
 -- if a name that is a token text is lower-case, the name of an item's pair is lower-case
 pub valid_lower : (name : List ℕ) (value : Option (List ℕ))
     → (is_token_text name ≡ true → is_lowercase_name name ≡ true) → HasLowercaseNames (valid_of (name, value))
 valid_lower name None h = refl
-valid_lower name (Some v) h = grind (arith, cond_both, and_from, and_parts)
+valid_lower name (Some v) h = grind arith
 
 module _ (parameter : Parameter) (item : Item) (is : IsItem parameter item) where
   -- the name of an item is a token text exactly if the name of its parameter is
@@ -309,7 +305,7 @@ module _ (parameter : Parameter) (item : Item) (is : IsItem parameter item) wher
   pub new_pair : (name value : List ℕ) (b : Bool) → b ≡ is_token_text (chars parameter.name.now) → b ≡ true
       → name ≡ map to_ascii_lowercase (chars parameter.name.now) → Some value ≡ quotable_value item.1
       → valid_of item ≡ (name, value) ∷ []
-  new_pair name value b e h n v = grind (arith, valid_pair, name_token)
+  new_pair name value b e h n v = grind (arith, name_token)
 
 -- The parser's loop over the parameters
 
@@ -355,7 +351,7 @@ first_or_later n pairs = ap (has_name n) (sym (take-append-drop LOOKED_THROUGH p
 
 -- if one of the first pairs has a name, one of all pairs has it
 pub named_first : (n : List ℕ) (pairs : List Pair) → has_name n (first_of pairs) ≡ true → has_name n pairs ≡ true
-named_first n pairs h = grind (arith, first_or_later, or_left)
+named_first n pairs h = grind (arith, first_or_later)
 
 -- if none of the first pairs has a name, one of all pairs has it exactly if one of the later pairs has it
 pub named_later : (n : List ℕ) (pairs : List Pair) → has_name n (first_of pairs) ≡ false
@@ -407,21 +403,13 @@ pub later_names : {A : Type 0} (later later' : BTreeSet (String A)) (pairs : Lis
     → UpdatesBy string_cmp (λ k. slice_cmp nat_cmp (string_bytes name) (string_bytes k)) later later' true
     → HasLaterNames later' (pairs ++ (p ∷ []))
 later_names later later' pairs p name l h e u n =
-    cc (
-      btree_set_updates_text (string_bytes name) later later' true u n,
-      or_cond (bytes_eq (string_bytes name) n)
-          (contains_text later n),
-      h n,
-      has_pushed n (drop LOOKED_THROUGH pairs) p,
-      drop-append-le LOOKED_THROUGH pairs (p
-          ∷ []) l,
-    )
+    cc (btree_set_updates_text (string_bytes name) later later' true u n, or_cond (bytes_eq (string_bytes name) n) (contains_text later n), h n, has_pushed n (drop LOOKED_THROUGH pairs) p, drop-append-le LOOKED_THROUGH pairs (p ∷ []) l)
 
 -- if a pair with a lower-case name is pushed, and the set has the names of the later pairs, the pairs stay indexed
 pub indexed_more : (kept kept' : KeptParameters) (p : Pair) → IsIndexed kept → is_lowercase_name p.0 ≡ true
     → pairs_of kept' ≡ pairs_of kept ++ (p ∷ []) → HasLaterNames kept'.later_names (pairs_of kept ++ (p ∷ []))
     → IsIndexed kept'
-indexed_more kept kept' p i l e h = grind (arith, lower_after, and_from)
+indexed_more kept kept' p i l e h = grind (arith, lower_after)
 
 -- The record of a text is well-formed, and a text with a head has a record.
 
@@ -443,16 +431,16 @@ all_append p xs ys h k = list_all-append p xs ys ∙ and_from (list_all p xs) (l
 valid_quotable : (name : List ℕ) (value : Option (List ℕ)) → list_all (λ (p : Pair). list_all is_quotable p.1)
     (valid_of (name, value)) ≡ true
 valid_quotable name None = refl
-valid_quotable name (Some v) = grind (arith, cond_both, and_from, and_parts)
+valid_quotable name (Some v) = grind arith
 
 all_quotable : (items : List Item) → list_all (λ (p : Pair). list_all is_quotable p.1) (valid_pairs items) ≡ true
 all_quotable [] = refl
-all_quotable (item ∷ items) = grind (arith, all_append, valid_quotable, (all_quotable items))
+all_quotable (item ∷ items) = grind (arith, (all_quotable items))
 
 all_lower : (r : List ℕ) (items : List Item) → Items r items → HasLowercaseNames (valid_pairs items)
 all_lower r [] h = refl
 all_lower r (item ∷ items) h =
-    grind (arith, all_append, valid_lower, lowercase_name, token_text_lower, (all_lower h.1 items h.4))
+    grind (arith, lowercase_name, token_text_lower, (all_lower h.1 items h.4))
 
 -- No name is kept twice
 
@@ -466,22 +454,15 @@ pushed_has n e q h = has_append n e (q ∷ []) ∙ or_left (has_name n e) (has_n
 none_again : (n : List ℕ) (e ps : List Pair) → has_name n e ≡ true → has_name n (first_of_each_name e ps) ≡ false
 none_again n e [] h = refl
 none_again n e (q ∷ ps) h =
-    search (
-      arith,
-      (none_again n (e ++ (q ∷ [])) ps (pushed_has n e q h)),
-      pushed_has,
-      cond_both,
-      false_from_ne_true,
-      has_itself,
-    )
+    search (arith, (none_again n (e ++ (q ∷ [])) ps (pushed_has n e q h)), has_itself)
 
 own_name : (e : List Pair) (q : Pair) → has_name q.0 (e ++ (q ∷ [])) ≡ true
-own_name e q = grind (arith, has_append, or_right, or_left, test_from_equal)
+own_name e q = grind (arith, has_append, test_from_equal)
 
 first_distinct : (e ps : List Pair) → has_distinct_names (first_of_each_name e ps) ≡ true
 first_distinct e [] = refl
 first_distinct e (q ∷ ps) =
-    grind (arith, (first_distinct (e ++ (q ∷ [])) ps), cond_both, and_from, not_from_false, none_again, own_name)
+    grind (arith, (first_distinct (e ++ (q ∷ [])) ps), none_again, own_name)
 
 -- Each record of a text is well-formed
 

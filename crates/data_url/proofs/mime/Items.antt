@@ -80,12 +80,12 @@ plain_is text rest value e b t =
 plain_after : (text rest : List ℕ) → DoesNotBegin is_quote text → BeginsParameters rest
     → reading_after (text ++ rest) ≡ plain_reading (text ++ rest)
 plain_after [] [] h b = refl
-plain_after [] (c ∷ r) h b = grind (arith, cond-false, quoted_value, quoted_rest)
-plain_after (c ∷ t) r h b = grind (arith, cond-false, quoted_value, quoted_rest)
+plain_after [] (c ∷ r) h b = grind arith
+plain_after (c ∷ t) r h b = grind arith
 
 nothing_is : (rest : List ℕ) → BeginsParameters rest → reading rest ≡ record { value = None; rest = rest }
 nothing_is [] b = refl
-nothing_is (c ∷ r) b = grind (arith, cond-false)
+nothing_is (c ∷ r) b = grind arith
 
 closed_reading : (q v w : List ℕ) → Quoted q v → quoted_reading (quoted_value false (q ++ (34 ∷ w)))
     (quoted_rest false (q ++ (34 ∷ w))) ≡ record { value = Some v; rest = after_front in_value w }
@@ -131,7 +131,7 @@ begins_after s = begins_from (after_front in_value s) (after_begins in_value s)
 
 front_not_quote : (s : List ℕ) → DoesNotBegin is_quote s → DoesNotBegin is_quote (front_of in_value s)
 front_not_quote [] h = tt
-front_not_quote (c ∷ s) h = grind (arith, cond_both, front_of)
+front_not_quote (c ∷ s) h = grind arith
 
 is_plain_reading : (s : List ℕ) → DoesNotBegin is_quote s → IsReading (61 ∷ s) (plain_reading s)
 is_plain_reading s h = record {
@@ -152,7 +152,7 @@ is_quoted_reading s v None h = record {
 }
 is_quoted_reading s v (Some w) h = record {
   tail = 61 ∷ 34 ∷ (h.0 ++ (34 ∷ front_of in_value w));
-  joined = ap (λ x. 61 ∷ 34 ∷ x) (cc (h.1, front_joined in_value w, append_assoc h.0 (34 ∷ front_of in_value w) (after_front in_value w)));
+  joined = ap (λ x. 61 ∷ 34 ∷ x) (cc (front_joined in_value w, append_assoc h.0 (34 ∷ front_of in_value w) (after_front in_value w)));
   gives = quoted h.0 (front_of in_value w) h.2 (front_passes in_value w);
   begins = begins_after w;
 }
@@ -175,12 +175,12 @@ no_reading c t e = record { tail = []; joined = refl; gives = nothing; begins = 
 
 -- a code point that ends a name, and is not '=', is ';'
 pub semicolon_from : (c : ℕ) → in_name c ≡ false → (c == 61) ≡ false → c ≡ 59
-semicolon_from c h e = grind (arith, ⊎_elim, eqb-true, both_ways, or_cases, not-false)
+semicolon_from c h e = grind arith
 
 -- reading a text that is empty or begins with ';' or '=' returns a value that it gives, and the rest
 pub is_reading : (x : List ℕ) → BeginsTail x → IsReading x (reading x)
 is_reading [] h = record { tail = []; joined = refl; gives = nothing; begins = tt }
-is_reading (c ∷ t) h = grind (arith, cond_both, equals_reading, eqb-true, no_reading, semicolon_from)
+is_reading (c ∷ t) h = grind (arith, equals_reading, no_reading)
 
 -- One parameter, from after its ';'
 
@@ -207,7 +207,7 @@ not_begins_front p q (c ∷ s) h = cond_both (q c) (c ∷ front_of q s) [] (λ v
 
 parameter_joined : (s : List ℕ) (r : Reading) (i : IsReading (after_name s) r)
     → s ≡ (front_of is_http_whitespace s ++ (name_in s ++ i.tail)) ++ r.rest
-parameter_joined s r i = grind (arith, front_joined, front_of, after_front, append_assoc)
+parameter_joined s r i = grind (arith, front_joined, append_assoc)
 
 parameter_from : (s : List ℕ) (r : Reading) → IsReading (after_name s) r
     → HasParameterBefore s (map to_ascii_lowercase (name_in s), r.value) r.rest
@@ -235,7 +235,7 @@ rest_shorter s rest item h = grind (arith, length-append)
 
 -- the text after a ';' begins with a parameter, whose item and rest are those read from the text
 pub has_parameter : (s : List ℕ) → HasParameterBefore s (item_in s) (rest_in s)
-has_parameter s = grind (arith, parameter_from, is_reading, after_begins, after_front)
+has_parameter s = grind (arith, parameter_from, is_reading, after_begins)
 
 -- Reading the text of a parameter returns its item
 
@@ -263,7 +263,7 @@ reading_of_parts : (gap name tail rest : List ℕ) (value : Option (List ℕ)) �
     → (name_in (gap ++ (name ++ (tail ++ rest))) ≡ name)
     × (reading (after_name (gap ++ (name ++ (tail ++ rest)))) ≡ record { value = value; rest = rest })
 reading_of_parts gap name tail rest value g d n v b =
-    search (arith, after_is, not_begins_append, ends_of_tail, front_of, front_is, reading_is)
+    search (arith, after_is, not_begins_append, ends_of_tail, front_is, reading_is)
 
 -- appending is associative, for four texts
 pub append_four : (gap name tail rest : List ℕ) → (gap ++ (name ++ tail)) ++ rest ≡ gap ++ (name ++ (tail ++ rest))
@@ -275,7 +275,7 @@ tail_equal a b s t e = cc
 
 parts_of : (s text rest : List ℕ) (item : Item) (h : IsParameter text rest item) → 59 ∷ s ≡ text ++ rest
     → s ≡ h.gap ++ (h.name ++ (h.tail ++ rest))
-parts_of s text rest item h e = grind (arith, tail_equal, append_four)
+parts_of s text rest item h e = grind (arith, append_four)
 
 pair_equal : (a : List ℕ) (b : Option (List ℕ)) (c : List ℕ) (d : Option (List ℕ)) → a ≡ c → b ≡ d
     → ◌≡◌ {A = Item} (a, b) (c, d)
@@ -327,7 +327,7 @@ begins r item items h =
 
 begins_same : (r : List ℕ) (item item' : Item) (rest rest' : List ℕ) → Begins r item rest → Begins r item' rest'
     → (item ≡ item') × (rest ≡ rest')
-begins_same r item item' rest rest' h k = grind (arith, tail_equal)
+begins_same r item item' rest rest' h k = grind arith
 
 begins_not_empty : (r : List ℕ) (item : Item) (rest : List ℕ) → Begins r item rest → r ≡ [] → ⊥
 begins_not_empty r item rest h e = let k = sym e ∙ h.is in cc
@@ -394,7 +394,7 @@ trimmed_joined : (p : ℕ → Bool) (front t back : List ℕ) → Every p front 
     → DoesNotEnd p t → trimmed_of p (front ++ (t ++ back)) ≡ t
 trimmed_joined p front [] back f b d e = ap (without_back p) (ap (after_front p) (sym (append-nil (front ++ back)))
     ∙ after_is p (front ++ back) [] (every_append p front back f b) tt)
-trimmed_joined p front (c ∷ t) back f b d e = grind (arith, without_back, after_is, without_back_joined)
+trimmed_joined p front (c ∷ t) back f b d e = grind (arith, after_is, without_back_joined)
 
 -- if t is s without what passes at both ends, t is `trimmed_of p s`
 pub trimmed_is : (p : ℕ → Bool) (s t : List ℕ) → IsTrimmed p s t → t ≡ trimmed_of p s
@@ -426,7 +426,7 @@ parameters_in t = after_front is_http_whitespace (after_front is_token (after_sl
 -- no code point of HTTP whitespace is a token code point
 space_no_token : (c : ℕ) → is_http_whitespace c ≡ true → is_token c ≡ false
 unfolding is_token
-space_no_token c h = grind (arith, ⊎_elim, eqb-true, or_cases)
+space_no_token c h = grind (arith, eqb-true)
 
 -- ';' is not a token code point
 pub semicolon_no_token : is_token 59 ≡ false
@@ -454,7 +454,7 @@ parts_joined : (type_ subtype gap r : List ℕ) → Every is_token type_ → Eve
     → Every is_http_whitespace gap → BeginsParameters r
     → HasParts (type_ ++ (47 ∷ (subtype ++ (gap ++ r)))) type_ subtype r
 parts_joined type_ subtype gap r t s g b =
-    grind (arith, after_is, slash_no_token, gap_no_token, front_is, front_of, after_front, ends_of_rest)
+    grind (arith, after_is, slash_no_token, gap_no_token, front_is)
 
 head_parts : (s type_ subtype r : List ℕ) (h : IsHead s type_ subtype r) → HasParts h.text type_ subtype r
 head_parts s type_ subtype r h = subst (λ x. HasParts x type_ subtype r) (sym h.joined)
@@ -481,5 +481,5 @@ has_at_most_one_record s m n h k = let p = has_parts s h.type_ h.subtype h.param
     let q = has_parts s k.type_ k.subtype k.parameters k.head in
     record_equal m n
     (h.record_is.type_is ∙ ap (map to_ascii_lowercase) (sym p.type_is ∙ q.type_is) ∙ sym k.record_is.type_is)
-    (cc (h.record_is.subtype_is, p.subtype_is, q.subtype_is, k.record_is.subtype_is))
-    (cc (h.record_is.parameters_are, same_items h.parameters k.parameters h.record_is.items k.record_is.items (sym p.parameters_are ∙ q.parameters_are) h.record_is.items_are k.record_is.items_are, k.record_is.parameters_are))
+    (cc)
+    (cc (same_items h.parameters k.parameters h.record_is.items k.record_is.items (sym p.parameters_are ∙ q.parameters_are) h.record_is.items_are k.record_is.items_are))

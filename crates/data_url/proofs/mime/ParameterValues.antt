@@ -49,7 +49,7 @@ module _ (t : ℕ → Bool) (ascii : (c : ℕ) → t c ≡ true → c < 128) whe
   fails b h = not-false (t b) h
 
   char_fails : (c : ℕ) → list_all (λ b. not (t b)) (encode_utf8 c) ≡ true → not (t c) ≡ true
-  char_fails c h = grind (arith, cases_Bool, and_parts, encode_ascii, not_from_false)
+  char_fails c h = grind (arith, encode_ascii)
 
   chars_fail : (cs : List ℕ) → list_all (λ b. not (t b)) (encode_utf8_all cs) ≡ true → Without t cs
   chars_fail [] h = tt
@@ -61,7 +61,7 @@ module _ (t : ℕ → Bool) (ascii : (c : ℕ) → t c ≡ true → c < 128) whe
   -- if no byte of a UTF-8 text passes, none of its code points does
   pub whole_without : (s bytes : List ℕ) (n : ℕ) → IsUtf8 s → bytes ≡ s → n ≡ prefix_len (λ b. not (t b)) bytes
       → n ≡ length s → Without t (chars s)
-  whole_without s bytes n u b e h = grind (arith, chars_fail, encodes-chars, whole_front, eq-eqb)
+  whole_without s bytes n u b e h = grind (arith, chars_fail, encodes-chars, whole_front)
 
   begins_with : (bs : List ℕ) → IsUtf8 bs → DoesNotBegin (λ b. not (t b)) bs → DoesNotBegin (λ c. not (t c)) (chars bs)
   begins_with [] u h = subst (DoesNotBegin (λ c. not (t c))) (sym chars-nil) tt
@@ -72,7 +72,7 @@ module _ (t : ℕ → Bool) (ascii : (c : ℕ) → t c ≡ true → c < 128) whe
   module _ (s : List ℕ) (u : IsUtf8 s) where
     -- a UTF-8 text can be cut before its first byte that passes
     pub cut_boundary : IsCharBoundary s (prefix_len (λ b. not (t b)) s)
-    cut_boundary = grind (arith, cases_lt, fails, prefix_len_stops, prefix_len-le-length)
+    cut_boundary = grind (arith, prefix_len_stops, prefix_len-le-length)
 
     -- the bytes before the first byte that passes, and the bytes after them, are a cut of a UTF-8 text
     pub is_cut : IsCut t s (take (prefix_len (λ b. not (t b)) s) s) (drop (prefix_len (λ b. not (t b)) s) s)
@@ -103,17 +103,17 @@ semicolon_below c h = let k = eqb-true c 59 h in omega arith
 
 -- ';' and '=' are ASCII
 pub name_end_below : (c : ℕ) → ends_name c ≡ true → c < 128
-name_end_below c h = grind (arith, ⊎_elim, eqb-true, or_cases)
+name_end_below c h = grind arith
 
 -- '"' and '\' are ASCII
 pub escaped_below : (c : ℕ) → is_escaped c ≡ true → c < 128
-escaped_below c h = grind (arith, ⊎_elim, eqb-true, or_cases)
+escaped_below c h = grind arith
 
 -- HTTP whitespace removed
 
 -- HTTP whitespace is ASCII
 pub whitespace_below : (c : ℕ) → is_http_whitespace c ≡ true → c < 128
-whitespace_below c h = grind (arith, ⊎_elim, eqb-true, or_cases)
+whitespace_below c h = grind arith
 
 -- the bytes of a UTF-8 text without HTTP whitespace at the front are the text of its code points without it
 pub whitespace_front : (s : List ℕ) → IsUtf8 s
@@ -176,7 +176,7 @@ trimmed_end p below s u = let m = suffix_len p s in
 -- the first n bytes of a UTF-8 text, without HTTP whitespace at the end, are its code points without it
 pub whitespace_end : (s : List ℕ) (n : ℕ) → IsUtf8 s → n ≡ length s - suffix_len is_http_whitespace s
     → IsTrimmedEnd is_http_whitespace (chars s) (chars (take n s))
-whitespace_end s n u e = grind (arith, trimmed_end, whitespace_below)
+whitespace_end s n u e = grind (arith, trimmed_end)
 
 -- Values as texts of their own.
 
@@ -184,17 +184,17 @@ whitespace_end s n u e = grind (arith, trimmed_end, whitespace_below)
 
 quotable_below : (c : ℕ) → is_quotable c ≡ true → c < 256
 unfolding is_quotable
-quotable_below c h = grind (arith, ⊎_elim, eqb-true, range_high, or_cases)
+quotable_below c h = grind arith
 
 quotable_byte_below : (b : ℕ) → is_quotable_byte b ≡ true → b < 196
 unfolding is_quotable_byte
-quotable_byte_below b h = grind (arith, ⊎_elim, eqb-true, range_high, or_cases)
+quotable_byte_below b h = grind arith
 
 not_quotable : (c : ℕ) → 256 ≤ c → is_quotable c ≡ false
 not_quotable c l = false_from_ne_true (is_quotable c) (λ h. let k = quotable_below c h in absurd (omega arith))
 
 high_byte : (b : ℕ) (t : List ℕ) → 196 ≤ b → list_all is_quotable_byte (b ∷ t) ≡ false
-high_byte b t l = grind (arith, and_left, false_from_ne_true, quotable_byte_below)
+high_byte b t l = grind (arith, quotable_byte_below)
 
 low_quotable : (c : ℕ) → c < 2048 → list_all is_quotable_byte (encode c) ≡ is_quotable c
 unfolding encode is_quotable is_quotable_byte
@@ -202,14 +202,14 @@ low_quotable c l = agree_below_at (λ x. list_all is_quotable_byte (encode x)) i
 
 high_quotable : (c : ℕ) → 2048 ≤ c → list_all is_quotable_byte (encode c) ≡ false
 unfolding encode
-high_quotable c l = grind (arith, cond-false, ltb, le-ltb, cond_both, high_byte)
+high_quotable c l = grind (arith, high_byte)
 
 quotable_encoded : (c : ℕ) → list_all is_quotable_byte (encode c) ≡ is_quotable c
-quotable_encoded c = grind (arith, cases_lt, low_quotable, high_quotable, not_quotable)
+quotable_encoded c = grind (arith, low_quotable, high_quotable, not_quotable)
 
 quotable_bytes : (cs : List ℕ) → list_all is_quotable_byte (encode_utf8_all cs) ≡ list_all is_quotable cs
 quotable_bytes [] = refl
-quotable_bytes (c ∷ cs) = grind (arith, list_all-append, encode_utf8_all, quotable_encoded, (quotable_bytes cs))
+quotable_bytes (c ∷ cs) = grind (arith, list_all-append, quotable_encoded, (quotable_bytes cs))
 
 -- each byte of a UTF-8 text passes `is_quotable_byte` exactly if each of its code points passes `is_quotable`
 pub quotable_chars : (bs : List ℕ) → IsUtf8 bs → list_all is_quotable_byte bs ≡ list_all is_quotable (chars bs)
@@ -236,7 +236,7 @@ unescaped_step true c t = refl
 unescaped_step false c t = refl
 
 scalar_first : (cs r : List ℕ) (c : ℕ) → all_scalars cs ≡ true → encode_utf8_all cs ≡ encode c ++ r → IsScalar c
-scalar_first cs r c s e = grind (arith, cons_from_encodes, and_parts)
+scalar_first cs r c s e = grind (arith, cons_from_encodes)
 
 -- the first code point of a UTF-8 text is a Unicode scalar value
 pub scalar_from : (r r' : List ℕ) (c : ℕ) → IsUtf8 r → r ≡ encode c ++ r' → IsScalar c
@@ -260,20 +260,13 @@ pub unescape_pushes : (v v' r r' whole : List ℕ) (c : ℕ) (e e' : Bool) → I
     → v' ≡ v ++ encode c → e' ≡ ((c == 92) && not e) → e' ≡ false → chars v ++ unescaped e (chars r) ≡ whole
     → chars v' ++ unescaped e' (chars r') ≡ whole
 unescape_pushes v v' r r' whole c e e' u w s g k f h =
-    cc (
-      chars_push v c u (scalar_from r r' c w s),
-      append_assoc (chars v) (c ∷ []) (unescaped false (chars r')),
-      chars_past_char r r' c w s,
-      unescaped_step e c (chars r'),
-      cond-false ((c == 92) && not e) (unescaped true (chars
-          r')) (c ∷ unescaped false (chars r')) (sym k ∙ f),
-    )
+    cc (chars_push v c u (scalar_from r r' c w s), append_assoc (chars v) (c ∷ []) (unescaped false (chars r')), chars_past_char r r' c w s)
 
 -- if the first code point of r is a '\' that escapes, leaving it out preserves the whole
 pub unescape_skips : (v r r' whole : List ℕ) (c : ℕ) (e e' : Bool) → IsUtf8 r → r ≡ encode c ++ r'
     → e' ≡ ((c == 92) && not e) → e' ≡ true → chars v ++ unescaped e (chars r) ≡ whole
     → chars v ++ unescaped e' (chars r') ≡ whole
-unescape_skips v r r' whole c e e' w s k f h = grind (arith, unescaped, chars_past_char, unescaped_step, cond-true)
+unescape_skips v r r' whole c e e' w s k f h = grind (arith, chars_past_char)
 
 -- if nothing is left after a '\' that would escape the next code point, writing this '\' gives the value
 pub unescape_ends : (v v' r q value : List ℕ) (e : Bool) → IsUtf8 v → length r ≡ 0 → e ≡ true → v' ≡ v ++ encode 92
@@ -323,12 +316,12 @@ pub quoted_text : (self : Value) (text : Bor (List ℕ)) (value : Option (List �
     → self ≡ slices.Quoted text → IsValue self value → true ≡ list_all is_quotable (chars text.now)
     → ((v : List ℕ) → QuotedOpen (chars text.now) v → code ≡ v)
     → ◌≡◌ {A = Option (List ℕ)} (Some code) (quotable_value value)
-quoted_text self text value code e i q h = grind (arith, quotable_some, quoted_quotable)
+quoted_text self text value code e i q h = grind (arith, quoted_quotable)
 
 -- if the text in quotes has another code point, there is no quotable value
 pub no_quoted_text : (self : Value) (text : Bor (List ℕ)) (value : Option (List ℕ)) → self ≡ slices.Quoted text
     → IsValue self value → list_all is_quotable (chars text.now) ≡ false → None ≡ quotable_value value
-no_quoted_text self text value e i q = grind (arith, quotable_none, quoted_quotable)
+no_quoted_text self text value e i q = grind (arith, quoted_quotable)
 
 -- if the value is missing, there is no quotable value
 pub missing_text : (self : Value) (value : Option (List ℕ)) → self ≡ slices.Missing → IsValue self value
@@ -339,7 +332,7 @@ missing_text self value e i = let k = subst (λ s. IsValue s value) e i in sym k
 
 stays_unescaped : (cs : List ℕ) → Without is_escaped cs → unescaped false cs ≡ cs
 stays_unescaped [] h = refl
-stays_unescaped (c ∷ cs) h = grind (arith, unescaped_one, or_parts, not-true, (stays_unescaped cs h.1))
+stays_unescaped (c ∷ cs) h = grind (arith, (stays_unescaped cs h.1))
 
 -- a quoted string without '"' and '\' is its own value
 pub copied : (v q value : List ℕ) → Without is_escaped (chars q) → v ≡ q → QuotedOpen (chars q) value → chars v ≡ value
@@ -348,7 +341,7 @@ copied v q value h g k = ap chars g ∙ sym (stays_unescaped (chars q) h) ∙ un
 -- the text of a value without quotes is the quotable value
 pub plain_text : (self : Value) (text : Bor (List ℕ)) (value : Option (List ℕ)) (code : List ℕ)
     → self ≡ slices.Plain text → IsValue self value → code ≡ chars text.now → Some code ≡ quotable_value value
-plain_text self text value code e i h = grind (arith, quotable_some)
+plain_text self text value code e i h = grind arith
 
 -- Values without quotes: whether the text before a ';' has only quoted-string code points.
 
@@ -363,18 +356,13 @@ front_len = in_parts is_unquoted_byte (λ b. not (is_semicolon b)) no_semicolon_
 
 all_quotable : (bs : List ℕ) → Every is_unquoted_byte bs → list_all is_quotable_byte bs ≡ true
 all_quotable [] h = refl
-all_quotable (b ∷ bs) h = grind (arith, and_from, and_parts, (all_quotable bs h.1))
+all_quotable (b ∷ bs) h = grind (arith, (all_quotable bs h.1))
 
 -- a prefix that is not longer than the longest prefix of unquoted bytes has only quoted-string code points
 pub short_quotable : (text t more : List ℕ) (q : ℕ) → text ≡ t ++ more → IsUtf8 t → q ≡ prefix_len is_unquoted_byte text
     → length t ≤ q → list_all is_quotable (chars t) ≡ true
 short_quotable text t more q e u h few =
-    cc (
-      quotable_chars t u,
-      all_quotable t (every_from is_unquoted_byte t (λ k l. ap is_unquoted_byte (sym
-          (get_or_append_left t more 0 k l) ∙ ap (λ x. get_or x k 0) (sym e)) ∙ prefix_len_passes is_unquoted_byte text k 0
-          (subst (λ n. k < n) h (omega (arith, few))))),
-    )
+    cc (quotable_chars t u, all_quotable t (every_from is_unquoted_byte t (λ k l. ap is_unquoted_byte (sym (get_or_append_left t more 0 k l) ∙ ap (λ x. get_or x k 0) (sym e)) ∙ prefix_len_passes is_unquoted_byte text k 0 (subst (λ n. k < n) h (omega (arith, few))))))
 
 -- a prefix without ';' that is longer than the longest prefix of unquoted bytes has another code point
 pub long_other : (text t more : List ℕ) (q n : ℕ) → text ≡ t ++ more → IsUtf8 t → q ≡ prefix_len is_unquoted_byte text
@@ -396,5 +384,5 @@ pub trimmed_bytes : (text front t rest : List ℕ) → text ≡ front ++ rest �
     → IsTrimmedEnd is_http_whitespace (chars front) (chars t) → (more : List ℕ) × (front ≡ t ++ more)
     × (text ≡ t ++ (more ++ rest))
 trimmed_bytes text front t rest e u w h = let back = encode_utf8_all h.back in
-    let is : front ≡ t ++ back = cc (encodes-chars front u, h.joined, encodes-append (chars t) h.back, encodes-chars t w) in
+    let is : front ≡ t ++ back = cc (encodes-chars front u, encodes-append (chars t) h.back, encodes-chars t w) in
     (back, is, e ∙ ap (λ x. x ++ rest) is ∙ append_assoc t back rest)

@@ -25,12 +25,12 @@ not_begins_left p (c ∷ a) b h = h
 
 -- a text that is trimmed at the front, and then at the end, is trimmed at both ends
 pub trimmed_both : (p : ℕ → Bool) (s a t : List ℕ) → IsTrimmedFront p s a → IsTrimmedEnd p a t → IsTrimmed p s t
-trimmed_both p s a t f e = grind (arith, not_begins_left)
+trimmed_both p s a t f e = grind arith
 
 -- a text has one longest prefix that passes
 pub same_span : (p : ℕ → Bool) (a b c d : List ℕ) → a ++ b ≡ c ++ d → Every p a → DoesNotBegin p b → Every p c
     → DoesNotBegin p d → (a ≡ c) × (b ≡ d)
-same_span p a b c d e f g h k = grind (arith, front_is, front_of, after_is, after_front)
+same_span p a b c d e f g h k = grind (arith, front_is, after_is)
 
 -- s without HTTP whitespace at both ends is ty, its longest prefix of token code points, and then x
 pub record Cut (s ty x : List ℕ) : Type 0 where
@@ -59,7 +59,7 @@ head_forced s ty x a b c k h =
 -- if y is the rest of a head after its '/', and is cut into su and p, these are its subtype and its parameters
 pub rest_forced : (s y su p a b c : List ℕ) → CutAgain y su p → (h : IsHead s a b c) → y ≡ b ++ (h.gap ++ c)
     → (su ≡ b) × (p ≡ c)
-rest_forced s y su p a b c k h e = grind (arith, same_span, every_token, gap_no_token, ends_of_rest)
+rest_forced s y su p a b c k h e = grind (arith, same_span, every_token, gap_no_token)
 
 not_empty : (a : List ℕ) → IsTrue (is_token_text a) → a ≡ [] → ⊥
 not_empty a h e = false≢true (sym (ap is_token_text e) ∙ h)
@@ -133,7 +133,7 @@ begins_if x false u n h = begins_semicolon x (chars x) u (nonempty_chars x u n) 
 -- a text, trimmed at both ends and cut after its longest prefix of token code points, is cut into type and rest
 pub cut_from : (s a t ty x : List ℕ) → IsTrimmedFront is_http_whitespace s a → IsTrimmedEnd is_http_whitespace a t
     → t ≡ ty ++ x → Every is_token ty → DoesNotBegin is_token x → Cut s ty x
-cut_from s a t ty x f e j k b = grind (arith, trimmed_both)
+cut_from s a t ty x f e j k b = grind arith
 
 -- a text that is cut after its longest prefix of token code points, and then trimmed at the front of the rest, is cut
 -- into subtype and parameters
@@ -263,7 +263,7 @@ pub parameter_before : (s a name x : List ℕ) (value : Option (List ℕ)) (rest
     → HasParameterBefore s (map to_ascii_lowercase name, value) rest
 parameter_before s a name x value rest f j n v = record {
   text = 59 ∷ (f.front ++ (name ++ v.tail));
-  joined = ap (λ t. 59 ∷ t) (cc (f.joined, v.joined, append_assoc name v.tail rest, append_assoc f.front (name ++ v.tail) rest));
+  joined = ap (λ t. 59 ∷ t) (cc (append_assoc name v.tail rest, append_assoc f.front (name ++ v.tail) rest));
   is_parameter = record {
     gap = f.front;
     name = name;

@@ -34,18 +34,18 @@ pub escaped_more : (r r' done whole : List ℕ) (c : ℕ) → IsUtf8 r → r ≡
     → done ++ encode_utf8_all (flat_map escaped_code_point (chars r)) ≡ whole
     → (done ++ encode_utf8_all (escaped_code_point c)) ++ encode_utf8_all (flat_map escaped_code_point (chars r'))
     ≡ whole
-escaped_more r r' done whole c u e h = grind (arith, append_assoc, encode_utf8_all, chars_past_char, encodes-append)
+escaped_more r r' done whole c u e h = grind (arith, append_assoc, chars_past_char)
 
 -- if nothing is left to be escaped, the bytes so far are the whole
 pub escaped_end : (r done whole : List ℕ) → length r ≡ 0
     → done ++ encode_utf8_all (flat_map escaped_code_point (chars r)) ≡ whole → done ≡ whole
-escaped_end r done whole l h = grind (arith, append-nil, encode_utf8_all, no_chars)
+escaped_end r done whole l h = grind (arith, append-nil, no_chars)
 
 -- A text with nothing to escape
 
 plain_chars : (cs : List ℕ) → Without is_escaped cs → flat_map escaped_code_point cs ≡ cs
 plain_chars [] h = refl
-plain_chars (c ∷ cs) h = grind (arith, cond-false, not-true, (plain_chars cs h.1))
+plain_chars (c ∷ cs) h = grind (arith, (plain_chars cs h.1))
 
 -- a text without '"' and '\' is the UTF-8 of its escaped code points
 pub plain_text : (v : List ℕ) → IsUtf8 v → Without is_escaped (chars v)
@@ -57,14 +57,14 @@ plain_text v u h = sym (encodes-chars v u) ∙ ap encode_utf8_all (sym (plain_ch
 -- a value that is a token text is printed as it is
 pub token_value : (v : List ℕ) (b : Bool) → IsUtf8 v → b ≡ is_token_text (chars v) → b ≡ true
     → v ≡ encode_utf8_all (printed_value (chars v))
-token_value v b u e h = grind (arith, encodes-chars, encode_utf8_all, cond-true)
+token_value v b u e h = grind (arith, encodes-chars)
 
 -- a value that is not a token text is printed as its escaped code points in quotes
 pub quoted_value_text : (v : List ℕ) (b : Bool) → b ≡ is_token_text (chars v) → b ≡ false
     → ((34 ∷ []) ++ encode_utf8_all (flat_map escaped_code_point (chars v))) ++ (34 ∷ []) ≡ encode_utf8_all
     (printed_value (chars v))
 quoted_value_text v b e h =
-    grind (arith, encode_utf8_all, encode_ascii, append_assoc, encode_utf8, append-nil, encodes-append, cond-false)
+    grind (arith, encode_ascii, encodes-append)
 
 -- A parameter
 
@@ -72,7 +72,7 @@ quoted_value_text v b e h =
 pub parameter_text : (name value : List ℕ) → IsUtf8 name → (((59 ∷ []) ++ name) ++ (61 ∷ [])) ++ encode_utf8_all
     (printed_value (chars value)) ≡ encode_utf8_all (printed_pair (chars name, chars value))
 parameter_text name value u =
-    grind (arith, encode_utf8_all, encode_ascii, append_assoc, encode_utf8, encodes-chars, encodes-append)
+    grind (arith, encode_ascii, append_assoc, encodes-chars, encodes-append)
 
 -- A record
 
@@ -88,7 +88,7 @@ pairs_text pairs = encode_utf8_all (flat_map printed_pair (map (λ p. pair_of p)
 pub record_starts : (m : Mime) → ((string_bytes m.type_ ++ encode_utf8 47) ++ string_bytes m.subtype) ++ pairs_text
     m.parameters.items ≡ encode_utf8_all (printed (record_of m))
 unfolding printed
-record_starts m = grind (arith, append_assoc, string_bytes, encode_utf8, text_bytes, encode_utf8_all, encodes-append)
+record_starts m = grind (arith, append_assoc, text_bytes, encodes-append)
 
 -- if the bytes so far and the printed pairs from index i on are the whole, they still are after pair i is printed and
 -- moved to them
@@ -96,7 +96,7 @@ pub record_more : {A B : Type 0} (pairs : List (String A × String B)) (i : ℕ)
     (done whole : List ℕ) → i < length pairs → item ≡ get_or pairs i item → done ++ pairs_text (drop i pairs) ≡ whole
     → (done ++ encode_utf8_all (printed_pair (pair_of item))) ++ pairs_text (drop (i + 1) pairs) ≡ whole
 record_more pairs i item done whole l e h =
-    grind (arith, append_assoc, encode_utf8_all, drop-cons, add-one, encodes-append)
+    grind (arith, append_assoc, drop-cons, encodes-append)
 
 -- if no pairs are left, the bytes so far are the whole
 pub record_ends : {A B : Type 0} (pairs : List (String A × String B)) (i : ℕ) (done whole : List ℕ) → length pairs ≤ i
@@ -144,7 +144,7 @@ module _ {W : Type 0} {took : W → List ℕ → W → Type 0} where
   added_append f g h l m n a b x y = record {
     written = x.written ++ y.written;
     wrote = has_written_styled_append _ _ _ _ _ _ x.wrote y.wrote;
-    joined = cc (append_assoc (held l) a b, x.joined, append_assoc x.written (held m) b, y.joined, append_assoc x.written y.written (held n));
+    joined = cc (append_assoc (held l) a b, append_assoc x.written (held m) b, append_assoc x.written y.written (held n));
   }
 
   -- if a is appended, a text that is equal to it is
@@ -164,12 +164,12 @@ module _ {W : Type 0} {took : W → List ℕ → W → Type 0} where
   -- if the buffer is written and emptied, and then a text is put into it, the text is appended
   pub added_after : (f g : Formatter W) (l m n : Line) (a : List ℕ) → HasWrittenStyled took f (held l) g → m.len ≡ 0
       → held n ≡ held m ++ a → HasAdded took f l a g n
-  added_after f g l m n a x e h = grind (arith, held_none)
+  added_after f g l m n a x e h = grind arith
 
   -- a text that is added to an empty line is written when its buffer is
   pub added_then_written : (f g h : Formatter W) (l m : Line) (a : List ℕ) → held l ≡ [] → HasAdded took f l a g m
       → HasWrittenStyled took g (held m) h → HasWrittenStyled took f a h
-  added_then_written f g h l m a e x y = grind (arith, has_written_styled_of_eq, has_written_styled_append)
+  added_then_written f g h l m a e x y = grind (arith, has_written_styled_append)
 
 -- Records of the same texts.
 
@@ -192,7 +192,7 @@ pair_same p q h =
     ap (λ x. (x, string_bytes p.1)) first ∙ ap (λ x. (string_bytes q.0, x)) second
 
 same_pair_of : {A B : Type 0} (p q : String A × String B) → texts_of_pair p ≡ texts_of_pair q → same_pair p q ≡ true
-same_pair_of p q h = grind (arith, both, string_bytes, same_bytes)
+same_pair_of p q h = grind (arith, same_bytes)
 
 pairs_same : {A B : Type 0} (ps qs : List (String A × String B)) → pointwise same_pair ps qs ≡ true
     → map texts_of_pair ps ≡ map texts_of_pair qs
@@ -214,7 +214,7 @@ same_pairs (p ∷ ps) (q ∷ qs) h =
 
 -- the test is true exactly if the texts are the same
 pub same_decides : (m n : Mime) → IsTrue (same_texts m n) ↔ SameTexts m n
-same_decides m n = grind (arith, string_bytes, bytes_same, pairs_same, both, same_bytes, same_pairs)
+same_decides m n = grind (arith, bytes_same, pairs_same, same_bytes, same_pairs)
 
 -- copies
 
@@ -225,7 +225,7 @@ pub copied_pairs : {A B : Type 0} (ps qs : List (String A × String B))
 copied_pairs [] [] h = refl
 copied_pairs [] (q ∷ qs) h = absurd h
 copied_pairs (p ∷ ps) [] h = absurd h
-copied_pairs (p ∷ ps) (q ∷ qs) h = grind (arith, string_bytes, (copied_pairs ps qs h.1))
+copied_pairs (p ∷ ps) (q ∷ qs) h = grind (arith, (copied_pairs ps qs h.1))
 
 -- code points follow from bytes
 abbrev pair_seen : List ℕ × List ℕ → Pair
@@ -240,7 +240,7 @@ record_with a b c = record { type_ = a; subtype = b; parameters = c }
 
 -- if two MIME types have the same texts, their records of code points are equal
 pub same_seen : (m n : Mime) → SameTexts m n → record_of m ≡ record_of n
-same_seen m n h = grind (arith, pairs_seen, string_bytes)
+same_seen m n h = grind (arith, pairs_seen)
 
 -- bytes follow from code points
 

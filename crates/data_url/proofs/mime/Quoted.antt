@@ -34,14 +34,14 @@ quoted_rest true (c ∷ t) = quoted_rest false t
 pub value_of_units : (units : List QuotedUnit) (x : List ℕ) → AllByRecursion IsUnit units
     → quoted_value false (flat_map unit_text units ++ x) ≡ map unit_value units ++ quoted_value false x
 value_of_units [] x h = refl
-value_of_units (Plain c ∷ units) x h = grind (arith, cond-false, ne_eqb, (value_of_units units x h.1))
+value_of_units (Plain c ∷ units) x h = grind (arith, (value_of_units units x h.1))
 value_of_units (Escaped c ∷ units) x h = ap (λ v. c ∷ v) (value_of_units units x h.1)
 
 -- units before a text do not change what the text after the closing quote is
 pub rest_of_units : (units : List QuotedUnit) (x : List ℕ) → AllByRecursion IsUnit units
     → quoted_rest false (flat_map unit_text units ++ x) ≡ quoted_rest false x
 rest_of_units [] x h = refl
-rest_of_units (Plain c ∷ units) x h = grind (arith, cond-false, ne_eqb, (rest_of_units units x h.1))
+rest_of_units (Plain c ∷ units) x h = grind (arith, (rest_of_units units x h.1))
 rest_of_units (Escaped c ∷ units) x h = rest_of_units units x h.1
 
 -- the value of a quoted text and then x is the value of that text, and then the value of x
@@ -97,7 +97,7 @@ read_more u s v None i (inr (q, w, t, e, h)) = inr (
 )
 read_more u s v (Some w) i h = (
   unit_text u ++ h.0,
-  cc (h.1, append_assoc (unit_text u) h.0 (34 ∷ w)),
+  cc (append_assoc (unit_text u) h.0 (34 ∷ w)),
   quoted_more u h.0 v i h.2,
 )
 
@@ -149,8 +149,8 @@ unescaped_next c t = cond-false ((c == 92) && false) (unescaped true t) (c ∷ u
 unescaped_units : (units : List QuotedUnit) (x : List ℕ) → AllByRecursion IsUnit units
     → unescaped false (flat_map unit_text units ++ x) ≡ map unit_value units ++ unescaped false x
 unescaped_units [] x h = refl
-unescaped_units (Plain c ∷ units) x h = grind (arith, unescaped_one, ne_eqb, (unescaped_units units x h.1))
-unescaped_units (Escaped c ∷ units) x h = grind (arith, unescaped_next, (unescaped_units units x h.1))
+unescaped_units (Plain c ∷ units) x h = grind (arith, (unescaped_units units x h.1))
+unescaped_units (Escaped c ∷ units) x h = grind (arith, (unescaped_units units x h.1))
 
 unescaped_before : (q v x : List ℕ) → Quoted q v → unescaped false (q ++ x) ≡ v ++ unescaped false x
 unescaped_before q v x h = rw (h.text_is, h.value_is) (unescaped_units h.units x h.each)
@@ -168,7 +168,7 @@ IsHigh [] = Unit {0}
 IsHigh (b ∷ t) = (128 ≤ b) × IsHigh t
 
 skips : (b : ℕ) (t : List ℕ) → 128 ≤ b → quoted_rest false (b ∷ t) ≡ quoted_rest false t
-skips b t h = grind (arith, cond-false, ne_eqb)
+skips b t h = grind arith
 
 skips_any : (e : Bool) (b : ℕ) (t : List ℕ) → 128 ≤ b → quoted_rest e (b ∷ t) ≡ quoted_rest false t
 skips_any true b t h = refl
@@ -184,7 +184,7 @@ skips_all e b t x h k = skips_any e b (t ++ x) h ∙ skips_high t x k
 -- the bytes of a code point that is not ASCII
 skips_encoded : (e : Bool) (c : ℕ) (x : List ℕ) → 128 ≤ c → quoted_rest e (encode c ++ x) ≡ quoted_rest false x
 unfolding encode
-skips_encoded e c x h = grind (arith, ltb, le-ltb, cond-false, cond_both, skips_all)
+skips_encoded e c x h = grind arith
 
 mapped_cases : (b d : Bool) (t : List ℕ) (x y : Option (List ℕ)) (x' y' : Option (List ℕ))
     → x' ≡ option_map encode_utf8_all x → y' ≡ option_map encode_utf8_all y
@@ -204,18 +204,7 @@ pub rest_encodes : (e : Bool) (cs : List ℕ) → quoted_rest e (encode_utf8_all
     (quoted_rest e cs)
 rest_encodes e [] = refl
 rest_encodes e (c ∷ cs) =
-    search (
-      arith,
-      cases_lt,
-      encode_utf8_all,
-      encode_ascii,
-      ascii_rest,
-      (rest_encodes true cs),
-      (rest_encodes false
-          cs),
-      skips_encoded,
-      skips_any,
-    )
+    search (arith, encode_ascii, (rest_encodes true cs), (rest_encodes false cs), skips_encoded)
 
 -- the bytes after the closing quote of a UTF-8 text are the encoding of the code points after it
 pub rest_chars : (bs : List ℕ) → IsUtf8 bs → quoted_rest false bs ≡ option_map encode_utf8_all
@@ -244,7 +233,7 @@ closed_if : (bs raw after v : List ℕ) (o : Option (List ℕ)) → IsRead (char
     → chars bs ≡ chars raw ++ (34 ∷ chars after) → IsUtf8 after → IsClosed bs raw after
 closed_if bs raw after v None h e s j u = absurd (let k = e in cc)
 closed_if bs raw after v (Some w) h e s j u =
-    grind (arith, some_equal, chars-encodes, and_parts, scalars_after, append_cancel_right)
+    grind (arith, chars-encodes, scalars_after, append_cancel_right)
 
 quote_joined : (bs : List ℕ) (i : ℕ) → IsUtf8 bs → i < length bs → get_or bs i 0 ≡ 34 → drop i bs ≡ 34 ∷ drop (i + 1) bs
 quote_joined bs i u l e = drop-cons bs i 0 l ∙ ap₂ (λ x y. x ∷ y) e (ap (λ k. drop k bs) (sym (add-one i)))
@@ -252,13 +241,7 @@ quote_joined bs i u l e = drop-cons bs i 0 l ∙ ap₂ (λ x y. x ∷ y) e (ap (
 chars_joined : (bs : List ℕ) (i : ℕ) → IsUtf8 bs → i < length bs → get_or bs i 0 ≡ 34
     → chars bs ≡ chars (take i bs) ++ (34 ∷ chars (drop (i + 1) bs))
 chars_joined bs i u l e =
-    let b = IsCharBoundary-before_ascii bs i l (omega arith) in cc (
-      take-append-drop i bs,
-      chars-append (take i bs)
-          (drop i bs) (IsUtf8-take bs i u b),
-      chars_past_char (drop i bs) (drop (i + 1) bs) 34 (IsUtf8-drop bs i u b)
-          (quote_joined bs i u l e ∙ ap (λ x. x ++ drop (i + 1) bs) (sym (encode_ascii 34 (omega arith)))),
-    )
+    let b = IsCharBoundary-before_ascii bs i l (omega arith) in cc (take-append-drop i bs, chars-append (take i bs) (drop i bs) (IsUtf8-take bs i u b), chars_past_char (drop i bs) (drop (i + 1) bs) 34 (IsUtf8-drop bs i u b) (quote_joined bs i u l e ∙ ap (λ x. x ++ drop (i + 1) bs) (sym (encode_ascii 34 (omega arith)))))
 
 range_take : (bs : List ℕ) (i : ℕ) → slice_range bs 0 i ≡ take i bs
 range_take bs i = ap (λ k. take k bs) (omega arith)

@@ -196,7 +196,7 @@ apart_more : (earlier : List Pair) (p : Pair) (pairs : List Pair) → Apart earl
     → Apart (earlier ++ (p ∷ [])) pairs
 apart_more earlier p [] h k = tt
 apart_more earlier p (q ∷ pairs) h k = let f = or_parts (bytes_eq q.0 p.0) (has_name p.0 pairs) k in (
-  cc (has_append q.0 earlier (p ∷ []), h.0, other_name q.0 p.0 f.0),
+  cc (has_append q.0 earlier (p ∷ []), other_name q.0 p.0 f.0),
   apart_more earlier p pairs h.1 f.1,
 )
 
@@ -204,13 +204,7 @@ first_itself : (earlier pairs : List Pair) → Apart earlier pairs → has_disti
     → first_of_each_name earlier pairs ≡ pairs
 first_itself earlier [] h k = refl
 first_itself earlier (p ∷ pairs) h k =
-    let d = and_parts (not (has_name p.0 pairs)) (has_distinct_names pairs) k in cc (
-      cond-false (has_name p.0
-          earlier) (first_of_each_name (earlier ++ (p ∷ [])) pairs) (p ∷ first_of_each_name (earlier ++ (p ∷ [])) pairs)
-          h.0,
-      first_itself (earlier ++ (p ∷ [])) pairs (apart_more earlier p pairs h.1 (not-true (has_name p.0 pairs)
-          d.0)) d.1,
-    )
+    let d = and_parts (not (has_name p.0 pairs)) (has_distinct_names pairs) k in cc (first_itself (earlier ++ (p ∷ [])) pairs (apart_more earlier p pairs h.1 (not-true (has_name p.0 pairs) d.0)) d.1)
 
 all_kept : (m : Record) → IsWellformed m → m.parameters ≡ kept_pairs (map item_of m.parameters)
 all_kept m w = sym (ap (first_of_each_name []) (all_valid m.parameters w.names w.values)

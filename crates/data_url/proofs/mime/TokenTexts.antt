@@ -53,11 +53,11 @@ pub bytes_of_ascii : (bs : List ℕ) → IsUtf8 bs → IsAscii (chars bs) → bs
 bytes_of_ascii bs u h = sym (encodes-chars bs u) ∙ encodes-IsAscii (chars bs) h
 
 not_token_chars : (bs : List ℕ) → IsUtf8 bs → is_token_text bs ≡ false → is_token_text (chars bs) ≡ false
-not_token_chars bs u h = grind (arith, false_from_ne_true, both_ways, bytes_of_ascii, token_text_ascii)
+not_token_chars bs u h = grind (arith, bytes_of_ascii, token_text_ascii)
 
 -- a text is one of token code points exactly if its bytes are
 pub token_text_chars : (bs : List ℕ) → IsUtf8 bs → is_token_text bs ≡ is_token_text (chars bs)
-token_text_chars bs u = grind (arith, cases_Bool, chars-IsAscii, token_text_ascii, not_token_chars)
+token_text_chars bs u = grind (arith, chars-IsAscii, token_text_ascii, not_token_chars)
 
 -- a text that is not empty is a token text exactly if each of its code points is a token code point
 pub nonempty_token_text : (t : List ℕ) → (length t == 0) ≡ false → is_token_text t ≡ list_all is_token t
@@ -95,7 +95,7 @@ drop_front p (c ∷ s) =
 pub not_begins_encoded : (p : ℕ → Bool) → ((c : ℕ) → p c ≡ true → c < 128) → (cs : List ℕ)
     → DoesNotBegin p (encode_utf8_all cs) → DoesNotBegin p cs
 not_begins_encoded p a [] h = tt
-not_begins_encoded p a (c ∷ cs) h = grind (arith, false_from_ne_true, both_ways, encode_utf8_all, encode_ascii)
+not_begins_encoded p a (c ∷ cs) h = grind (arith, encode_ascii)
 
 -- if only ASCII passes, and the bytes of a text do not begin with one that passes, its code points do not either
 pub not_begins_chars : (p : ℕ → Bool) → ((c : ℕ) → p c ≡ true → c < 128) → (bs : List ℕ) → IsUtf8 bs → DoesNotBegin p bs
@@ -147,12 +147,12 @@ pub split_at_other : (text front after : List ℕ) (n : ℕ) → IsUtf8 text →
 split_at_other text front after n u k f g = rw (f, g, k) (is_split is_token token_below text u)
 
 suc_test : (a b : ℕ) → (1 + a == suc b) ≡ (a == b)
-suc_test a b = grind (arith, cases_eq, eq-eqb, ne_eqb)
+suc_test a b = grind arith
 
 -- each item of a text passes exactly if its longest prefix that passes is the whole text
 pub whole_front : (p : ℕ → Bool) (s : List ℕ) → list_all p s ≡ (prefix_len p s == length s)
 whole_front p [] = refl
-whole_front p (c ∷ s) = grind (arith, (whole_front p s), suc_test, ne_eqb)
+whole_front p (c ∷ s) = grind (arith, (whole_front p s))
 
 -- a UTF-8 text that is not empty is a token text exactly if its longest prefix of token code points is the whole text
 pub token_text_by_front : (bs text : List ℕ) (n : ℕ) → IsUtf8 text → n ≡ prefix_len is_token bs → bs ≡ text

@@ -41,7 +41,7 @@ is_row p b row = (length row == 4) && ((slice_index row 3 == length (byte_encodi
     (take (slice_index row 3) row) (byte_encoding p b))
 
 row_of_test : (p : ℕ → Bool) (b : ℕ) (row : List ℕ) → is_row p b row ≡ true → IsRow p b row
-row_of_test p b row h = grind (arith, and_parts, eqb-true, bytes_eq-Decides)
+row_of_test p b row h = grind (arith, eqb-true)
 
 -- for each byte, PATH has the row that is the byte's encoding with the set of a path
 pub path_row : (b : ℕ) → b < 256 → IsRow in_path_set b (row_at PATH b)
@@ -95,13 +95,13 @@ set_other : (b c : ℕ) → in_query_set c ≡ false → in_query_set b ≡ true
 set_other b c e h = ne_eqb b c (λ (k : b ≡ c). both_ways (in_query_set b) (ap in_query_set k ∙ e) h)
 
 hex_digit_value : (d : ℕ) → d < 16 → digit_value (hex_digit d) ≡ d
-hex_digit_value d l = grind (arith, eqb-true, agree_below_at)
+hex_digit_value d l = grind arith
 
 hex_digit_hex : (d : ℕ) → d < 16 → is_ascii_hexdigit (hex_digit d) ≡ true
 hex_digit_hex d l = agree_below_at (λ d. is_ascii_hexdigit (hex_digit d)) (λ c. true) 16 d refl l
 
 hex_digit_other : (d c : ℕ) → c < 48 → (hex_digit d == c) ≡ false
-hex_digit_other d c l = grind (arith, cond_both, ne_eqb)
+hex_digit_other d c l = grind arith
 
 -- Decoding by one byte
 
@@ -117,13 +117,13 @@ pub decoded_keeps : (a : ℕ) (s : List ℕ) → ((a == 37) && two_digits s) ≡
 unfolding percent_decoding
 decoded_keeps a [] h = refl
 decoded_keeps a (b ∷ []) h = refl
-decoded_keeps a (b ∷ c ∷ s) h = grind (arith, cond-false)
+decoded_keeps a (b ∷ c ∷ s) h = grind arith
 
 -- '%' and two hexadecimal digits are decoded to one byte, and then the text after them is decoded
 pub decoded_escape : (b c : ℕ) (s : List ℕ) → is_ascii_hexdigit b ≡ true → is_ascii_hexdigit c ≡ true
     → percent_decoding (37 ∷ b ∷ c ∷ s) ≡ (16 * digit_value b + digit_value c) ∷ percent_decoding s
 unfolding percent_decoding
-decoded_escape b c s h k = grind (arith, cond-true)
+decoded_escape b c s h k = grind arith
 
 -- the two digits of a byte are decoded to the byte
 decoded_written : (b : ℕ) (x : List ℕ) → b < 256 → percent_decoding (37 ∷ hex_digit (b / 16) ∷ hex_digit (b % 16) ∷ x)
@@ -134,10 +134,10 @@ same_digits : {s x : List ℕ} → Recoded s x → two_digits x ≡ two_digits s
 same_digits none = refl
 same_digits (kept b none) = refl
 same_digits (kept b (kept c r)) = refl
-same_digits (kept b (written c h l r)) = grind (arith, and_right, set_no_hex)
+same_digits (kept b (written c h l r)) = grind (arith, set_no_hex)
 same_digits (written b h l none) = refl
 same_digits (written b h l (kept c r)) = sym (and_left (is_ascii_hexdigit b) (is_ascii_hexdigit c) (set_no_hex b l h))
-same_digits (written b h l (written c k m r)) = grind (arith, and_left, set_no_hex)
+same_digits (written b h l (written c k m r)) = grind (arith, set_no_hex)
 
 -- a byte that is kept, and does not begin an escape
 keeps : {s x : List ℕ} (b : ℕ) → Recoded s x → ((b == 37) && two_digits s) ≡ false
@@ -147,7 +147,7 @@ keeps {s} {x} b r h e = grind (arith, decoded_keeps, same_digits)
 -- a '%' that is kept, before two digits
 escapes : (b c d : ℕ) (s x : List ℕ) → ((b == 37) && (is_ascii_hexdigit c && is_ascii_hexdigit d)) ≡ true
     → percent_decoding x ≡ percent_decoding s → percent_decoding (b ∷ c ∷ d ∷ x) ≡ percent_decoding (b ∷ c ∷ d ∷ s)
-escapes b c d s x h e = grind (arith, and_parts, eqb-true, decoded_escape)
+escapes b c d s x h e = grind (arith, decoded_escape)
 
 -- there are no two digits if the first or the second byte is not a digit
 no_escape : (b : ℕ) (v : Bool) → v ≡ false → ((b == 37) && v) ≡ false
@@ -228,7 +228,7 @@ path_cons b (c ∷ s) = refl
 
 -- each byte of the set for the last byte of a path is in the query's set
 pub end_within_query : (b : ℕ) → in_path_end_set b ≡ true → in_query_set b ≡ true
-end_within_query b h = grind (arith, ⊎_elim, path_within_query, eqb-true, or_cases)
+end_within_query b h = grind arith
 
 -- each byte of the set for a byte of a path, whatever follows it, is in the query's set
 pub path_byte_within : (path : List ℕ) (b : ℕ) → path_byte_set path b ≡ true → in_query_set b ≡ true
@@ -248,7 +248,7 @@ serialised_query s = grind (arith, before_same, after_same, path_nil)
 with_query_cons : (b : ℕ) (path : List ℕ) (query : Option (List ℕ))
     → with_query (b ∷ path) query ≡ encoded_byte (path_byte_set path) b ++ with_query path query
 with_query_cons b path None = path_cons b path
-with_query_cons b path (Some query) = grind (arith, path_cons, append_assoc)
+with_query_cons b path (Some query) = grind (arith, path_cons)
 
 -- a text that begins with another byte is serialised as that byte, encoded with the set for its place, and the rest,
 -- serialised
@@ -278,40 +278,28 @@ RecodedTails (Some t) None = ⊥
 RecodedTails (Some t) (Some y) = Recoded t y
 
 after_written : (b : ℕ) (x : List ℕ) → after 44 (37 ∷ hex_digit (b / 16) ∷ hex_digit (b % 16) ∷ x) ≡ after 44 x
-after_written b x = grind (arith, after_other, hex_digit_other)
+after_written b x = grind (arith, after_other)
 
 -- if x is s with some bytes of the query's set percent-encoded, so are the texts after the first comma of both, or
 -- neither has a comma
 pub recoded_tails : {s x : List ℕ} → Recoded s x → RecodedTails (after 44 s) (after 44 x)
 recoded_tails none = subst (λ v. RecodedTails v v) (sym (after_nil 44)) tt
-recoded_tails (kept {s} {x} b r) = grind (arith, cases_Bool, eqb-true, after_same, after_other, (recoded_tails r))
+recoded_tails (kept {s} {x} b r) = grind (arith, after_same, after_other, (recoded_tails r))
 recoded_tails (written {s} {x} b h l r) = grind (arith, after_other, set_other, after_written, (recoded_tails r))
 
 -- the bytes before the first comma of an encoded text are the encoding of the bytes before the first comma
 
 encoded_byte_lacks : (p : ℕ → Bool) (b : ℕ) → (b == 44) ≡ false → after 44 (encoded_byte p b) ≡ None
-encoded_byte_lacks p b h = grind (arith, cond_both, after_written, after_nil, after_other)
+encoded_byte_lacks p b h = grind (arith, after_nil, after_other)
 
 encoded_comma : (p : ℕ → Bool) → p 44 ≡ false → (s : List ℕ) → encoded_byte p 44 ++ s ≡ 44 ∷ s
-encoded_comma p h s = grind (arith, cond-false)
+encoded_comma p h s = grind arith
 
 before_encoded : (p : ℕ → Bool) → p 44 ≡ false → (s : List ℕ) → before 44 (percent_encoding p s) ≡ percent_encoding p
     (before 44 s)
 before_encoded p h [] = grind (arith, encoded_nil, before_nil)
 before_encoded p h (b ∷ s) =
-    search (
-      arith,
-      encoded_cons,
-      cases_Bool,
-      eqb-true,
-      encoded_comma,
-      before_same,
-      encoded_nil,
-      before-append,
-      encoded_byte_lacks,
-      (before_encoded p h s),
-      before_other,
-    )
+    search (arith, encoded_cons, before_same, encoded_nil, (before_encoded p h s), before_other)
 
 -- the header's text, byte by byte
 
@@ -348,7 +336,7 @@ same_set : (h rest : List ℕ) (o : Option (List ℕ)) → after 63 h ≡ o
 same_set [] rest None e = ap path_byte_set (before_other 63 44 rest refl)
 same_set [] rest (Some query) e = absurd (let k = sym (after_nil 63) ∙ e in cc)
 same_set (c ∷ h) rest None e = let k = lacks 63 c h e in ap path_byte_set (before_other 63 c (h ++ 44 ∷ rest) k.here)
-same_set (c ∷ h) rest (Some query) e = grind (arith, cases_Bool, eqb-true, before_same, before_other)
+same_set (c ∷ h) rest (Some query) e = grind (arith, before_same, before_other)
 
 end_lacks_comma : (path : List ℕ) → path_byte_set path 44 ≡ false
 end_lacks_comma [] = refl
@@ -356,7 +344,7 @@ end_lacks_comma (c ∷ s) = refl
 
 -- if h has no comma, the bytes before the first comma of the serialisation of h ++ 44 ∷ rest are the header text of h
 pub before-serialised : (h rest : List ℕ) → after 44 h ≡ None → before 44 (serialised (h ++ 44 ∷ rest)) ≡ header_text h
-before-serialised [] rest e = grind (arith, serialised_path, encoded_comma, end_lacks_comma, before_same, header_nil)
+before-serialised [] rest e = grind (arith, serialised_path, before_same, header_nil)
 before-serialised (b ∷ h) rest e = let k = lacks 44 b h e in
     elim (cases_Bool (b == 63)) [
       | inl f ↦
@@ -377,7 +365,7 @@ encoded_empty : (p : ℕ → Bool) → encoded p [] ≡ []
 encoded_empty p = ap (percent_encoding p) dropped_nil ∙ encoded_nil p
 
 written_first : (p : ℕ → Bool) (b : ℕ) (s : List ℕ) → encoded p (b ∷ s) ≡ byte_encoding p b ++ encoded p s
-written_first p b s = grind (arith, cases_Bool, dropped_passes, cond-true, dropped_keeps, encoded_cons, cond-false)
+written_first p b s = grind (arith, dropped_passes, dropped_keeps, encoded_cons)
 
 -- the percent-encoding of s ++ t is that of s, then that of t
 pub percent_encoding-append : (p : ℕ → Bool) (s t : List ℕ)
@@ -432,7 +420,7 @@ one_written : (p : ℕ → Bool) (b : ℕ) → p b ≡ false → encoded_byte p 
 one_written p b e = cond-false (p b) _ (b ∷ []) e
 
 written_short : (p : ℕ → Bool) (b : ℕ) → length (byte_encoding p b) ≤ 3
-written_short p b = grind (arith, cases_Bool, none_written, byte_written, three_written, one_written)
+written_short p b = grind arith
 
 -- the encoding in a row has at most three bytes
 pub row_short : (p : ℕ → Bool) (b : ℕ) (row : List ℕ) → IsRow p b row → slice_index row 3 ≤ 3
@@ -451,7 +439,7 @@ abbrev other_than_plain : ℕ → Bool
 other_than_plain b = is_tab_or_newline b || (in_path_set b || ((b == 35) || ((b == 44) || (b == 63))))
 
 plain_is_none : (b : ℕ) → b < 256 → is_plain_path b ≡ true → other_than_plain b ≡ false
-plain_is_none b l h = grind (arith, cond-true, agree_below_at)
+plain_is_none b l h = grind arith
 
 -- the byte is written as it is in a path, and is none of '#', ',' and '?'
 pub record Plain (b : ℕ) : Type 0 where
@@ -462,7 +450,7 @@ pub record Plain (b : ℕ) : Type 0 where
 
 -- a byte that passes `is_plain_path` is `Plain`
 pub plain_byte : (b : ℕ) → b < 256 → is_plain_path b ≡ true → Plain b
-plain_byte b l h = grind (arith, or_parts, plain_is_none, byte_written, one_written)
+plain_byte b l h = grind arith
 
 -- a text of plain bytes is serialised as it is, as a header
 pub plain_serialised : (s : List ℕ) → ((k : ℕ) → k < length s → Plain (get_or s k 0))
@@ -486,7 +474,7 @@ put_more p s i room at row room' m l within r n h = let long_room = m.long in
     let short = row_short p (get_or s i 0) row r in
     let f = m.few in
     let long : length (take at room) ≡ at = length-take-le at room (omega arith) in
-    let front : take (at + width) room' ≡ take at room ++ byte_encoding p (get_or s i 0) = cc (take-take (at + width) (at + 4) room' (omega arith), take-append-add (take at room) row width, r.begins) in
+    let front : take (at + width) room' ≡ take at room ++ byte_encoding p (get_or s i 0) = cc (take-take (at + width) (at + 4) room' (omega arith), take-append-add (take at room) row width) in
     record {
       few = omega arith;
       long = n;
@@ -523,9 +511,9 @@ ascii_all (c ∷ s) h = let e = and_parts (nat_lt c 128) (are_ascii s) h in
     IsAscii-cons c s (ltb-true c 128 e.0) (ascii_all s e.1)
 
 written_ascii : (set : EncodeSet) (b : ℕ) → b < 256 → IsAscii (byte_encoding (in_set set) b)
-written_ascii Path b l = grind (arith, ascii_all, agree_below_at)
-written_ascii Query b l = grind (arith, ascii_all, agree_below_at)
-written_ascii Fragment b l = grind (arith, ascii_all, agree_below_at)
+written_ascii Path b l = grind arith
+written_ascii Query b l = grind arith
+written_ascii Fragment b l = grind arith
 
 encoded_ascii : (set : EncodeSet) (s : List ℕ) → ((i : ℕ) → get_or s i 0 < 256) → IsAscii (encoded (in_set set) s)
 encoded_ascii set [] h = subst IsAscii (sym (encoded_empty (in_set set))) IsAscii-nil

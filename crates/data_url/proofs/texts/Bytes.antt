@@ -155,13 +155,7 @@ fragment_cases : (tail : List ℕ) (o : Option (List ℕ)) → after 35 tail ≡
 unfolding fragment
 fragment_cases tail None h = after-dropped_none 35 refl tail h
 fragment_cases tail (Some rest) h =
-    let cut = is_cut 35 tail rest h in cc (
-      cut.joined,
-      dropped_around 35 refl (before 35 tail) rest,
-      after_at 35
-          (without_tabs_and_newlines (before 35 tail)) (without_tabs_and_newlines rest) (after-dropped_none 35 refl (before
-          35 tail) cut.lacks),
-    )
+    let cut = is_cut 35 tail rest h in cc (dropped_around 35 refl (before 35 tail) rest, after_at 35 (without_tabs_and_newlines (before 35 tail)) (without_tabs_and_newlines rest) (after-dropped_none 35 refl (before 35 tail) cut.lacks))
 
 -- tabs and newlines can be dropped before the fragment is cut off, or after
 pub fragment_dropped : (tail : List ℕ)

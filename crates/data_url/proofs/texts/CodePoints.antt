@@ -63,7 +63,7 @@ front_passes p (c ∷ t) = cond_both (p c) (c ∷ front_of p t) [] (λ v. Every 
 -- the text after the longest prefix that passes does not begin with a code point that passes
 pub after_begins : (p : ℕ → Bool) (s : List ℕ) → DoesNotBegin p (after_front p s)
 after_begins p [] = tt
-after_begins p (c ∷ t) = grind (arith, cond_both, (after_begins p t))
+after_begins p (c ∷ t) = grind (arith, (after_begins p t))
 
 -- one more code point before the rest of a text
 abbrev pub keep_before : (ℕ → Bool) → ℕ → List ℕ → List ℕ
@@ -148,7 +148,7 @@ module _ (p : ℕ → Bool) (ascii : (b : ℕ) → p b ≡ true → b < 128) (bs
 
   -- if only ASCII bytes pass, a UTF-8 text can be cut before its longest suffix that passes
   pub boundary_before_end : IsCharBoundary bs (length bs - suffix_len p bs)
-  boundary_before_end = grind (arith, ⊎_elim, before_end, cases_lt)
+  boundary_before_end = grind (arith, before_end)
 
 -- a C0 control or a space is ASCII
 pub is_low : (b : ℕ) → is_c0_control_or_space b ≡ true → b < 128

@@ -11,7 +11,7 @@ pub chunks-init : goal.chunks-init
 chunks-init g c = grind (arith, feeds_none, fed_none)
 
 pub chunks-preserved : goal.chunks-preserved
-chunks-preserved g c = grind (arith, takes_next, fed_more)
+chunks-preserved g c = grind (arith, fed_more)
 
 pub returns-in-Err : goal.returns-in-Err
 returns-in-Err g c =

@@ -15,7 +15,7 @@ pub loop-place-preserved-then-is_tab_or_newline : goal.loop-place-preserved-then
 loop-place-preserved-then-is_tab_or_newline c = let text = c.as_bytes-byte-items.ensures.value in
     let within : c.loop-place.place < length c.args.text.now =
     subst (λ s. c.loop-place.place < length s) text c.loop-place-test.true in
-    let byte : is_tab_or_newline (get_or c.args.text.now c.loop-place.place 0) ≡ true = cc (c.is_tab_or_newline.ensures, c.if-is_tab_or_newline.true) in
+    let byte : is_tab_or_newline (get_or c.args.text.now c.loop-place.place 0) ≡ true = cc in
     subst (λ s. Spells s c.loop-place.matched) (sym (take_more c.args.text.now c.loop-place.place 0 within))
     (spells_passed (take c.loop-place.place c.args.text.now) c.loop-place.matched
     (get_or c.args.text.now c.loop-place.place 0) c.loop-place.invariant byte)
@@ -30,7 +30,7 @@ byte_of c = grind arith
 
 pub returns-then-to_ascii_lowercase-matched-clause-none : goal.returns-then-to_ascii_lowercase-matched-clause-none
 returns-then-to_ascii_lowercase-matched-clause-none c = let b = byte_of c in
-    let lower : c.to_ascii_lowercase.result ≡ to_ascii_lowercase (get_or c.args.text.now c.loop-place.place 0) = cc (c.to_ascii_lowercase.ensures.value, c.as_bytes-byte-items.ensures.value) in
+    let lower : c.to_ascii_lowercase.result ≡ to_ascii_lowercase (get_or c.args.text.now c.loop-place.place 0) = cc in
     differs c.args.text.now (take c.loop-place.place c.args.text.now) c.loop-place.matched
     (get_or c.args.text.now c.loop-place.place 0) (drop (c.loop-place.place + 1) c.args.text.now)
     c.loop-place.invariant b.stays (λ e. c.if-to_ascii_lowercase-matched.true (lower ∙ e))
@@ -64,7 +64,7 @@ returns-then-matched-eq5-clause-found c = let b = spelled c.args.text.now c.as_b
     c.to_ascii_lowercase.ensures.value c.if-to_ascii_lowercase-matched.false in
     record {
       scheme = take (c.loop-place.place + 1) c.args.text.now;
-      joined = cc (take-append-drop (c.loop-place.place + 1) c.args.text.now, c.range_from.ensures.value);
+      joined = cc (take-append-drop (c.loop-place.place + 1) c.args.text.now);
       spelled = cc (take_more c.args.text.now c.loop-place.place 0 b.within, spells_all (take c.loop-place.place c.args.text.now) c.loop-place.matched (get_or c.args.text.now c.loop-place.place 0) c.loop-place.invariant b.stays b.same c.if-matched-eq5.true);
     }
 

@@ -11,7 +11,7 @@ pub returns-then-bytes-place-eq35-clause-none : goal.returns-then-bytes-place-eq
 returns-then-bytes-place-eq35-clause-none c = grind (arith, at_hash, front_end_at)
 
 pub range-requires-clause-end_boundary : goal.range-requires-clause-end_boundary
-range-requires-clause-end_boundary c = grind (arith, front_end_at, is_ascii_end)
+range-requires-clause-end_boundary c = grind (arith, front_end_at)
 
 pub range_from-requires : goal.range_from-requires
 range_from-requires c =

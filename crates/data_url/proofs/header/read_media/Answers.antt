@@ -19,10 +19,10 @@ returns-then-is_empty c = let bytes = c.as_bytes-bytes.ensures.value in
 
 pub plain_head-requires : goal.plain_head-requires
 plain_head-requires c =
-    media_begins c.args.media.now c.requires (cc (c.as_bytes-bytes.ensures.value, c.if-bytes-eq59.true))
+    media_begins c.args.media.now c.requires (cc)
 
 pub returns-then-bytes-eq59 : goal.returns-then-bytes-eq59
-returns-then-bytes-eq59 c = let first : get_or c.args.media.now 0 0 ≡ 59 = cc (c.as_bytes-bytes.ensures.value, c.if-bytes-eq59.true) in
+returns-then-bytes-eq59 c = let first : get_or c.args.media.now 0 0 ≡ 59 = cc in
     IfOk-weaker c.record.result _ _ (λ mime h. plain_record c.args.media.now _ _ _ (record_of mime) c.requires first
     c.plain_head.ensures h) c.record.ensures
 

@@ -9,7 +9,7 @@ pub overflow_sub-path : goal.overflow_sub-path
 overflow_sub-path c = grind (arith, suffix_len-le-length)
 
 pub returns-then-is_empty : goal.returns-then-is_empty
-returns-then-is_empty c = grind (arith, parts_whole, no_bytes)
+returns-then-is_empty c = grind (arith, parts_whole)
 
 pub returns-in_default : goal.returns-in_default
 returns-in_default c = grind (arith, parts_whole, has_no_end)
@@ -18,4 +18,4 @@ pub returns-then-path-space-ne32 : goal.returns-then-path-space-ne32
 returns-then-path-space-ne32 c = grind (arith, parts_whole, has_other_end)
 
 pub returns : goal.returns
-returns c = grind (arith, parts_spaced, some_bytes, without_space)
+returns c = grind (arith, parts_spaced, without_space)

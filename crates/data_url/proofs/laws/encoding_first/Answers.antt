@@ -5,7 +5,7 @@ use Rattle.data_url.proofs.percent.Encoding.{is_recoded, path_within_query, reco
 use Rattle.data_url.proofs.laws.encoding_first.Goals as goal
 
 pub returns-clause-path : goal.returns-clause-path
-returns-clause-path c = grind (arith, recoded-decoded, is_recoded, path_within_query, bytes_by_place)
+returns-clause-path c = grind (arith, recoded-decoded, is_recoded, bytes_by_place)
 
 pub returns-clause-query : goal.returns-clause-query
 returns-clause-query c = grind (arith, recoded-decoded, is_recoded, bytes_by_place)

@@ -4,7 +4,7 @@ use Rattle.data_url.proofs.percent.Encoding.{encoded_text, kept_whole}
 use Rattle.data_url.proofs.percent.is_kept.Goals as goal
 
 pub returns-clause-kept : goal.returns-clause-kept
-returns-clause-kept c = grind (arith, eqb-true, kept_whole)
+returns-clause-kept c = grind (arith, kept_whole)
 
 pub returns-clause-text : goal.returns-clause-text
 returns-clause-text c =

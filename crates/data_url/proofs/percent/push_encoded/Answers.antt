@@ -7,13 +7,13 @@ use Rattle.data_url.proofs.percent.push_encoded.Goals as goal
 use Rattle.data_url.proofs.percent.push_encoded.Goals.{then-is_kept, else-is_kept}
 
 pub from_utf8_unchecked-requires : goal.from_utf8_unchecked-requires
-from_utf8_unchecked-requires c = grind (arith, then-is_kept, else-is_kept)
+from_utf8_unchecked-requires c = grind arith
 
 pub loop-rest-preserved : goal.loop-rest-preserved
-loop-rest-preserved c = grind (arith, encoded, then-is_kept, else-is_kept, wrote_part)
+loop-rest-preserved c = grind (arith, wrote_part)
 
 pub loop-rest-smaller : goal.loop-rest-smaller
-loop-rest-smaller c = grind (arith, some_left, length-drop)
+loop-rest-smaller c = grind arith
 
 pub returns : goal.returns
 returns c = grind (arith, wrote_parts, none_left)

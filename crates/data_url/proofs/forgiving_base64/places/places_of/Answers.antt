@@ -6,7 +6,7 @@ use Rattle.data_url.proofs.forgiving_base64.Rows.{ones_few, places_clear, places
 use Rattle.data_url.proofs.forgiving_base64.places.places_of.Goals as goal
 
 pub returns-clause-few : goal.returns-clause-few
-returns-clause-few c = grind (arith, length-take-le, length-drop, ones_few)
+returns-clause-few c = grind (arith, ones_few)
 
 pub returns-clause-small : goal.returns-clause-small
 returns-clause-small c = grind (arith, places_small)

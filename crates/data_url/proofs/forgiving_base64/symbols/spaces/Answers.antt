@@ -10,4 +10,4 @@ swizzle-found c = places_ok (λ x. bit_and x 15) c.args.bytes _ c.fits-bytes.0
     (zip2_splat bit_and c.args.bytes 16 15 c.fits-bytes.0) (λ x h. omega (arith, and_le_r x 15)) c.fits-bytes.1
 
 pub returns : goal.returns
-returns c = search (arith, spaces_are, zip2_splat, bit_and)
+returns c = search (arith, spaces_are, zip2_splat)

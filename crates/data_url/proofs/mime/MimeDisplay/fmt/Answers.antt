@@ -39,7 +39,7 @@ loop-name-preserved g c = (
         now.1,
         now.2 ++ encode_utf8_all (printed_pair (pair_of item)),
         added_append _ _ _ _ _ _ _ _ now.3 one,
-        record_more items c.loop-name.name-index item now.2 _ l (cc (c.loop-name-item.is, c.deref-name-items.ensures.value)) now.4,
+        record_more items c.loop-name.name-index item now.2 _ l (cc) now.4,
       ),
 )
 

@@ -9,7 +9,7 @@ pub overflow_sub-text : goal.overflow_sub-text
 overflow_sub-text c = grind (arith, suffix_len-le-length)
 
 pub range-requires-clause-end_boundary : goal.range-requires-clause-end_boundary
-range-requires-clause-end_boundary c = grind (arith, boundary_before_end, whitespace_below)
+range-requires-clause-end_boundary c = grind (arith, boundary_before_end)
 
 pub returns : goal.returns
 returns c = grind (arith, whitespace_end)

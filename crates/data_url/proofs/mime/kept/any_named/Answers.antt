@@ -17,10 +17,10 @@ pub is_named-requires-clause-some : goal.is_named-requires-clause-some
 is_named-requires-clause-some c = some_byte c.args.name.now c.requires.token
 
 pub is_named-requires-clause-key : goal.is_named-requires-clause-key
-is_named-requires-clause-key c = grind (arith, lower_bytes, string_bytes, lowercase_at)
+is_named-requires-clause-key c = grind (arith, lower_bytes, lowercase_at)
 
 pub returns-then-is_named : goal.returns-then-is_named
-returns-then-is_named c = grind (arith, lowercase_at, look_finds, names_equal, string_bytes)
+returns-then-is_named c = grind (arith, lowercase_at, look_finds, names_equal)
 
 pub loop-key-preserved : goal.loop-key-preserved
 loop-key-preserved c = let i = c.loop-key-item.result in
@@ -29,5 +29,5 @@ loop-key-preserved c = let i = c.loop-key-item.result in
     look_goes_on (map to_ascii_lowercase (chars c.args.name.now)) c.args.pairs.now c.loop-key.key-index i
     c.loop-key-test.true c.loop-key-item.is
     (names_differ (string_bytes i.0) c.args.name.now (IsUtf8-string_bytes i.0) c.utf8.name low c.requires.token
-    (λ e. false≢true (cc (c.if-is_named.false, c.is_named.ensures.1 (ap (map to_ascii_lowercase) c.as_str.ensures.value ∙ e)))))
+    (λ e. false≢true (cc (c.is_named.ensures.1 (ap (map to_ascii_lowercase) c.as_str.ensures.value ∙ e)))))
     c.loop-key.invariant

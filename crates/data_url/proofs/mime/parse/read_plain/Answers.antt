@@ -40,7 +40,7 @@ returns-then-is_empty-clause-value c = let text = c.args.text.now in
     let h = plain_value _ _ _ _ c.requires s.joined s.in_front (begins_from (chars rest) s.begins)
     c.without_trailing_whitespace-value.ensures in
     let b = trimmed_bytes text front t rest
-    (sym (cc (c.split_at.ensures.front, c.split_at.ensures.back, take-append-drop len text))) s.text.0 u c.without_trailing_whitespace-value.ensures in
+    (sym (cc (take-append-drop len text))) s.text.0 u c.without_trailing_whitespace-value.ensures in
     let first = c.long_span-quotable.ensures.front ∙ ap (prefix_len is_unquoted_byte) c.as_bytes-bytes.ensures.value in
     let whole = n ∙ ap (prefix_len (λ x. not (is_semicolon x))) c.as_bytes-bytes.ensures.value in
     let few : length t ≤ len = omega (
@@ -82,7 +82,7 @@ returns-clause-value c = let text = c.args.text.now in
     let h = plain_value _ _ _ _ c.requires s.joined s.in_front (begins_from (chars rest) s.begins)
     c.without_trailing_whitespace-value.ensures in
     let b = trimmed_bytes text front t rest
-    (sym (cc (c.split_at.ensures.front, c.split_at.ensures.back, take-append-drop len text))) s.text.0 u c.without_trailing_whitespace-value.ensures in
+    (sym (cc (take-append-drop len text))) s.text.0 u c.without_trailing_whitespace-value.ensures in
     let first = c.long_span-quotable.ensures.front ∙ ap (prefix_len is_unquoted_byte) c.as_bytes-bytes.ensures.value in (
       Some (chars t),
       (refl, short_quotable text t _ quotable b.2 u first c.if-value-quotable.false),

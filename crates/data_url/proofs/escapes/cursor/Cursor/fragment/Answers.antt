@@ -6,4 +6,4 @@ pub returns-then-self-len : goal.returns-then-self-len
 returns-then-self-len c = no_fragment c.requires.knows (c.if-self-len.true ∙ c.len.ensures)
 
 pub returns : goal.returns
-returns c = grind (arith, some_fragment, ended_of)
+returns c = grind (arith, some_fragment)

@@ -3,4 +3,4 @@ use Rattle.data_url.proofs.escapes.Walking.{gathers_escape, room_escape}
 use Rattle.data_url.proofs.escapes.cursor.Cursor.gather_escapes.Goals as goal
 
 pub loop-len-preserved : goal.loop-len-preserved
-loop-len-preserved c = grind (arith, gathers_escape, room_escape)
+loop-len-preserved c = grind (arith, gathers_escape)

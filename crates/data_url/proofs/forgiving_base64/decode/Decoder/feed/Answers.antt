@@ -10,7 +10,7 @@ pub loop-at-init : goal.loop-at-init
 loop-at-init g c = grind (arith, feeds_none, every_list_all, length-take)
 
 pub returns-in_err-at-clause-fed : goal.returns-in_err-at-clause-fed
-returns-in_err-at-clause-fed g c = grind (arith, err_from_is_err_and, feeds_last)
+returns-in_err-at-clause-fed g c = grind (arith, feeds_last)
 
 pub returns-in_err-at-2-clause-fed : goal.returns-in_err-at-2-clause-fed
 returns-in_err-at-2-clause-fed g c =

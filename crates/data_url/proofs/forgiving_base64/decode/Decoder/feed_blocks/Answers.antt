@@ -11,7 +11,7 @@ pub returns-then-not-is_between_groups-clause-fed : goal.returns-then-not-is_bet
 returns-then-not-is_between_groups-clause-fed g c = grind (arith, feeds_none, every_list_all, length-take)
 
 pub loop-at-init : goal.loop-at-init
-loop-at-init g c = grind (arith, feeds_none, every_list_all, length-take)
+loop-at-init g c = grind (arith, feeds_none)
 
 pub returns-in_err-write-clause-fed : goal.returns-in_err-write-clause-fed
 returns-in_err-write-clause-fed g c =

@@ -8,7 +8,7 @@ use Rattle.data_url.proofs.forgiving_base64.Holding.{stays_holds}
 use Rattle.data_url.proofs.forgiving_base64.decode.Decoder.feed_piece.Goals as goal
 
 pub loop-at-preserved : goal.loop-at-preserved
-loop-at-preserved g c = grind (arith, length-drop, gains_holds)
+loop-at-preserved g c = grind (arith, gains_holds)
 
 pub returns-in_err-flush-in-Err-clause-fed : goal.returns-in_err-flush-in-Err-clause-fed
 returns-in_err-flush-in-Err-clause-fed g c =

@@ -25,7 +25,7 @@ pub returns-else-is_ascii_whitespace : goal.returns-else-is_ascii_whitespace
 returns-else-is_ascii_whitespace g c = let d = c.args.self.now in
     refuses_other c.args.byte (every_list_all (take d.pending d.symbols) d.pending_symbols)
     (omega (arith, length-take d.pending d.symbols, d.few_pending))
-    (cc (space_is c.args.byte (omega arith), c.is_ascii_whitespace.ensures.value, c.if-is_ascii_whitespace.false))
+    (cc)
     (ne_eqb c.args.byte 61 c.if-byte-eq61.false)
     (sym c.is_symbol.ensures ∙ c.if-is_symbol.false)
     refl

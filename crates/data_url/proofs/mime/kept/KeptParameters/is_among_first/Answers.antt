@@ -11,7 +11,7 @@ use Rattle.data_url.proofs.mime.kept.KeptParameters.is_among_first.Goals as goal
 
 pub any_named-requires-clause-pairs : goal.any_named-requires-clause-pairs
 any_named-requires-clause-pairs c = lower_first c.deref.result.now c.min.result
-    (cc (c.deref.ensures.value, c.requires.indexed.lower))
+    (cc)
 
 pub returns : goal.returns
 returns c =
