@@ -8,7 +8,7 @@ use Rattle.data_url.specs.Base64.{left_symbols, symbol_value}
 use Rattle.data_url.specs.Fetch.{Bad, Good, Outcome, outcome, plain_body}
 use Rattle.data_url.specs.Laws.{GoesOn}
 use Rattle.data_url.specs.Pieces.{Walk, walk_at_front}
-use Rattle.data_url.proofs.api.{after_few, done_more, every_list_all, fault_byte, fault_invalid, fault_more, fault_some}
+use Rattle.data_url.proofs.api.{after_few, done_more, every_list_all, fault_invalid, fault_more, fault_some}
 use Rattle.data_url.proofs.api.{groups_few, left_more, match_none, none_fault, padding_more, two_feeds}
 use Rattle.data_url_c.specs.Answers.{status_of_kind}
 use Rattle.data_url_c.specs.Bodies.{EndsAs}

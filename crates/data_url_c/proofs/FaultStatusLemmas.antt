@@ -10,7 +10,7 @@ use Rattle.data_url.specs.Base64.{first_fault, is_symbol, kind_of}
 use Rattle.data_url.specs.Mime.{Every}
 use Rattle.data_url.specs.declared.forgiving_base64.DecodeError.{DecodeError}
 use Rattle.data_url.specs.declared.forgiving_base64.DecodeError.TheVariants.{InvalidBase64}
-use Rattle.data_url.proofs.api.{classes, every_from_all, fault-append, fault-append_some, fault_after, fault_byte}
+use Rattle.data_url.proofs.api.{classes, every_from_all, fault-append, fault-append_some, fault_after}
 use Rattle.data_url.proofs.api.{fault_more, fault_other, fault_some, fault_space, fault_symbol, has_pad, kind_fault}
 use Rattle.data_url.proofs.api.{kind_left, space_alone, symbol_alone}
 use Rattle.std.specs.Char.{is_ascii_whitespace}

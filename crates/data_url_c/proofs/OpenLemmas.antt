@@ -20,7 +20,7 @@ use Rattle.data_url.specs.Mime.{HasNoRecord, IsRecordOf, default_record, printed
 use Rattle.data_url.specs.MimeType.{record_of}
 use Rattle.data_url.specs.Percent.{percent_decoding}
 use Rattle.data_url.specs.Url.{before, after, front, is_c0_control_or_space, trimmed_text, without_tabs_and_newlines}
-use Rattle.data_url.proofs.api.{IsBytes, ascii_all, before_at, after_none, bytes_by_place, bytes_trimmed, on_literals}
+use Rattle.data_url.proofs.api.{IsBytes, ascii_all, before_at, after_none, bytes_by_place, bytes_trimmed}
 use Rattle.data_url_c.specs.Answers.{Crosses, Shows}
 use Rattle.data_url_c.specs.Gives.{RefusesUrl}
 use Rattle.data_url_c.specs.Opens.{Opens, answer_of}

@@ -18,7 +18,7 @@ use Rattle.data_url.specs.Decoder.{Feeds, IsTaken, State, left_over, start}
 use Rattle.data_url.specs.Run.{Call, IsRun, joined_pieces, refusal}
 use Rattle.data_url.specs.declared.forgiving_base64.DecodeError.TheVariants.{InvalidBase64}
 use Rattle.data_url.specs.Laws.{GoesOn}
-use Rattle.data_url.proofs.api.{done_stays, fault-append_some, fault_byte, fault_some, feeds_err, feeds_then}
+use Rattle.data_url.proofs.api.{done_stays, fault-append_some, fault_some, feeds_err, feeds_then}
 use Rattle.data_url.proofs.api.{kind_stays, match_alike, match_at_none, match_map, match_some, run_keeps, two_feeds}
 use Rattle.data_url_c.specs.Answers.{status_of_kind}
 use Rattle.data_url.specs.declared.forgiving_base64.DecodeError.{DecodeError}

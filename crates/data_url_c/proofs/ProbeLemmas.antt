@@ -17,7 +17,6 @@ use Rattle.data_url.specs.DataUrl.{IsAcceptable}
 use Rattle.data_url.specs.Fetch.{Accepted, NoComma, NoScheme, has_base64_suffix, header_of, mime_text, outcome}
 use Rattle.data_url.specs.Fetch.{plain_body, staged, tail_of}
 use Rattle.data_url.proofs.api.{HasNoScheme, IsHeaderAndTail, IsSchemeAndRest}
-use Rattle.data_url.proofs.api.{header_text}
 use Rattle.data_url.specs.Url.{before, after, fragment, front, in_fragment_set, is_c0_control_or_space}
 use Rattle.data_url.specs.Url.{is_tab_or_newline, percent_encoding, trimmed_text, without_end, without_front}
 use Rattle.data_url.specs.Url.{without_tabs_and_newlines}

@@ -161,16 +161,6 @@ abbrev pub at_place : {E : Type 0} → ℕ → Result (Unit {0}) (DecodeError E)
 at_place place (Ok x) = Ok place
 at_place place (Err e) = Err e
 
-at_ok : {E : Type 0} (place : ℕ) (r : Result (Unit {0}) (DecodeError E)) (body : List ℕ) (good : ℕ → Type 0) → r ≡ Ok tt
-    → good place → Answers (Good body) good (at_place place r)
-at_ok place (Ok x) body good e g = g
-at_ok place (Err y) body good e g = absurd (cc)
-
-at_err : {E : Type 0} (place : ℕ) (r : Result (Unit {0}) (DecodeError E)) (x : DecodeError E) → r ≡ Err x
-    → at_place place r ≡ Err x
-at_err place (Ok y) x e = absurd (cc)
-at_err place (Err y) x e = let same : y ≡ x = cc in ap (λ z. Err z) same
-
 module _ {F E : Type 0} (step : F → List ℕ → Result (Unit {0}) E → F → Type 0) where
   gives_valid : (u bytes : List ℕ) (place : ℕ) (good : ℕ → Type 0) (r : Result (Unit {0}) (DecodeError E))
       (o : Option E) → (r ≡ Ok tt → good place)

@@ -25,19 +25,12 @@ code_is b l = eqb-true (get_or DIGITS b 0) (digit_code b) (agree_below_at (λ b.
 tab_code : (b : ℕ) → b < 256 → eqb (digit_code b) 16 ≡ is_tab_or_newline b
 tab_code b l = agree_below_at (λ b. eqb (digit_code b) 16) is_tab_or_newline 256 b refl l
 
-hex_code : (b : ℕ) → b < 256 → ltb (digit_code b) 16 ≡ (not (is_tab_or_newline b) && is_ascii_hexdigit b)
-hex_code b l = agree_below_at (λ b. ltb (digit_code b) 16) (λ b. not (is_tab_or_newline b) && is_ascii_hexdigit b) 256 b
-    refl l
-
 -- a '%' is neither a tab or newline nor a digit
 not_percent : (b : ℕ) → b < 256 → digit_code b < 32 → not (b == 37) ≡ true
 not_percent b l h = grind arith
 
 is_tab : (b : ℕ) → b < 256 → digit_code b ≡ 16 → is_tab_or_newline b ≡ true
 is_tab b l h = sym (tab_code b l) ∙ ap (λ v. eqb v 16) h
-
-is_digit : (b : ℕ) → b < 256 → digit_code b < 16 → (not (is_tab_or_newline b) && is_ascii_hexdigit b) ≡ true
-is_digit b l h = sym (hex_code b l) ∙ lt-ltb (digit_code b) 16 h
 
 not_true : (p : Bool) → not p ≡ true → p ≡ false
 not_true true h = absurd (let k : false ≡ true = h in cc)
@@ -90,10 +83,6 @@ digit_other b s l h = let k : (not (is_tab_or_newline b) && not (is_ascii_hexdig
 at_place : (text : List ℕ) (place : ℕ) → place < length text → drop place text ≡ get_or text place 0 ∷ drop
     (place + 1) text
 at_place text place l = drop_more text place 0 l
-
-no_percent_at : (text : List ℕ) (place : ℕ) → place < length text → not (get_or text place 0 == 37) ≡ true
-    → before_percent (drop place text) ≡ 1 + before_percent (drop (place + 1) text)
-no_percent_at text place l h = prefix_len-drop_yes (λ b. not (b == 37)) text place 0 l h
 
 -- a byte of a text that was read
 pub record IsByte (text : List ℕ) (place b : ℕ) : Type 0 where

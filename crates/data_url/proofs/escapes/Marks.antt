@@ -222,9 +222,6 @@ pub record IsFound (text : List ℕ) (place seen width : ℕ) : Type 0 where
   pub before : width < seen - place
   pub mark : IsNextMark text place (place + width)
 
-lt_from_le : (a b : ℕ) → a ≤ b → (a ≡ b → ⊥) → a < b
-lt_from_le a b l n = elim (cases_lt a b) [ inl e ↦ e | inr e ↦ absurd (n (omega arith)) ]
-
 found_mark : {text : List ℕ} {place seen marks width : ℕ} → HasMarks text place seen marks → marks ≢ 0
     → width ≡ count_trailing_zeros 64 marks → IsFound text place seen width
 found_mark {text} {place} {seen} {marks} {width} h n e =
@@ -249,11 +246,6 @@ clear_then text from middle to a b k l h = elim (cases_lt k middle) [ inl e ↦ 
 pub mark_then : {text : List ℕ} {from middle to : ℕ} → from ≤ middle → IsClear text from middle
     → IsNextMark text middle to → IsNextMark text from to
 mark_then {text} {from} {middle} {to} l c m = grind arith
-
--- if there are no marks up to the end of the text, the next mark is that end (found by `search`)
-pub mark_at_end : {text : List ℕ} {from to : ℕ} → from ≤ to → to ≤ length text → length text ≤ to → IsClear text from to
-    → IsNextMark text from to
-mark_at_end {text} {from} {to} l w e c = grind arith
 
 -- the walk can go on from a later place, if there is no mark between the places
 pub looking_clear : {c : Cursor} {place more : ℕ} (to : ℕ) → Looking c place more → place ≤ to → to ≤ length (text_of c)

@@ -215,10 +215,6 @@ after_escape s value rest h = let e = has_escape s value rest h in after_percent
 
 -- Reads
 
--- between an index and itself nothing is read
-pub reads_none : (text : List ℕ) (place : ℕ) → place ≤ length text → Reads text place place []
-reads_none text place l = record { few = omega arith; within = l; body = refl; after_is = refl }
-
 -- what is read in two ranges, one after the other, is joined in the range of both
 pub reads_then : {text a b : List ℕ} {from middle to : ℕ} → Reads text from middle a → Reads text middle to b
     → Reads text from to (a ++ b)
@@ -245,16 +241,6 @@ reads_percent {text} {place} p = grind (arith, at_byte, body_percent, after_perc
 pub reads_escape : {text : List ℕ} {place value end : ℕ} → EscapeAt text place value end
     → Reads text place end (value ∷ [])
 reads_escape {text} {place} {value} {end} p = grind (arith, at_byte, body_escape, after_escape)
-
--- a byte that is not marked
-pub unmarked_tab : (t h p : Bool) → (t || (h || p)) ≡ false → t ≡ false
-unmarked_tab true h p e = absurd (let k : true ≡ false = e in cc)
-unmarked_tab false h p e = refl
-
-unmarked_hash : (t h p : Bool) → (t || (h || p)) ≡ false → h ≡ false
-unmarked_hash true h p e = absurd (let k : true ≡ false = e in cc)
-unmarked_hash false true p e = absurd (let k : true ≡ false = e in cc)
-unmarked_hash false false p e = refl
 
 unmarked_percent : (t h p : Bool) → (t || (h || p)) ≡ false → p ≡ false
 unmarked_percent true h p e = absurd (let k : true ≡ false = e in cc)

@@ -12,8 +12,8 @@ use Rattle.data_url.specs.Steps.Walk.{IsClear, Reads, Ended, EscapeAt, IsBlock, 
 use Rattle.data_url.specs.Steps.Walk.{Looking, GoesOn, IsNextMark, Knows, KnowsAhead, LooksOn, Stays, Gathers, HasRoom}
 use Rattle.data_url.specs.Steps.Walk.{MayGather, Moves}
 use Rattle.data_url.specs.Url.{before, after, front, is_tab_or_newline, without_tabs_and_newlines}
-use Rattle.data_url.proofs.escapes.Reading.{unmarked_tab, paid_byte, paid_le, paid_percent, reads_clear, reads_escape}
-use Rattle.data_url.proofs.escapes.Reading.{reads_none, reads_passed, reads_percent, reads_then, ends_empty}
+use Rattle.data_url.proofs.escapes.Reading.{paid_byte, paid_le, paid_percent, reads_clear, reads_escape}
+use Rattle.data_url.proofs.escapes.Reading.{reads_passed, reads_percent, reads_then, ends_empty}
 use Rattle.data_url.proofs.escapes.Marks.{take_none, looking_clear}
 use Rattle.data_url.proofs.texts.Bytes.{before_all, after_nil, after_other, after_same, dropped_keeps, dropped_nil}
 use Rattle.data_url.proofs.texts.Bytes.{dropped_passes, is_cut, without_tabs_and_newlines-append}
@@ -41,10 +41,6 @@ slice_none text place = let e : place - place ≡ 0 = omega arith in ap (λ n. t
 pub slice_one : (text : List ℕ) (place : ℕ) → place < length text
     → slice_range text place (place + 1) ≡ get_or text place 0 ∷ []
 slice_one text place l = grind (arith, drop_more)
-
-drop_none : (n : ℕ) → ◌≡◌ {A = List ℕ} (drop n []) []
-drop_none zero = refl
-drop_none (suc n) = refl
 
 taken_none : (n m : ℕ) → ◌≡◌ {A = List ℕ} (take n [] ++ take m (drop n [])) (take (n + m) [])
 taken_none n m = grind arith
@@ -147,17 +143,6 @@ in_front {text} {bytes} {from} {to} r = grind (arith, drop-drop, before_all, non
 
 -- The steps of a walk.
 
--- the same block of the same text
-block_as : {text text' : List ℕ} {base base' seen seen' marks marks' : ℕ} → text' ≡ text → base' ≡ base → seen' ≡ seen
-    → marks' ≡ marks → IsBlock text base seen marks → IsBlock text' base' seen' marks'
-block_as {text} {text'} {base} {base'} {seen} {seen'} {marks} {marks'} t b s m k = grind arith
-
--- a walk with the same text and block can go on at a later index, if the bytes read are within the bound there
-pub looking_as : {c c' : Cursor} {place more : ℕ} (place' more' : ℕ) → Looking c place more → text_of c' ≡ text_of c
-    → c'.base ≡ c.base → c'.seen ≡ c.seen → c'.marks ≡ c.marks → place ≤ place' → place' ≤ length (text_of c)
-    → c'.source.looks + more' ≤ paid_looks (text_of c) c.seen place' → Looking c' place' more'
-looking_as {c} {c'} {place} {more} place' more' k t b s m f w l = grind arith
-
 -- a walk that changes nothing but the number of bytes read, which does not become smaller, keeps its block
 pub keeps : {c c' : Cursor} → text_of c' ≡ text_of c → c.source.looks ≤ c'.source.looks → c'.base ≡ c.base
     → c'.seen ≡ c.seen → c'.marks ≡ c.marks → c'.place ≡ c.place → c'.ahead ≡ c.ahead → KeepsBlock c c'
@@ -186,11 +171,6 @@ pub digits_in : {text same : List ℕ} {place looks looks' value end last : ℕ}
     → DigitsFound same place looks' value end last → DigitsFound text place looks value end last
 digits_in {text} {same} {place} {looks} {looks'} {value} {end} {last} e n d = grind arith
 
--- if there are not two digits in an equal text, there are not in the text (found by `search`)
-pub no_digits_in : {text same : List ℕ} {place looks looks' last : ℕ} → same ≡ text → looks' ≡ looks
-    → NoDigits same place looks' last → NoDigits text place looks last
-no_digits_in {text} {same} {place} {looks} {looks'} {last} e n d = grind arith
-
 -- the escape of a '%' was found
 pub stop_escape : {c c' : Cursor} {mark b value end : ℕ} → Looked c mark b → b ≡ 37 → KeepsBlock c c'
     → DigitsFound (text_of c) (mark + 1) (c.source.looks + 1) value end c'.source.looks
@@ -211,54 +191,8 @@ stop_escape {c} {c'} {mark} {b} {value} {end} k h s d =
     let n = d.looks_are in
     (subst P (sym t) e, looking_kept end 3 k.looking s (omega arith) d.within (omega arith))
 
--- there is no escape at the '%' (found by `search`)
-pub stop_percent : {c c' : Cursor} {mark b : ℕ} → Looked c mark b → b ≡ 37 → KeepsBlock c c'
-    → NoDigits (text_of c) (mark + 1) (c.source.looks + 1) c'.source.looks → LonePercent (text_of c') mark
-    × Looking c' (mark + 1) 0
-stop_percent {c} {c'} {mark} {b} k h s d =
-    let t = s.stays.on.text_stays in
-    let w = k.within in
-    let e : LonePercent (text_of c) mark = record {
-      within = k.within;
-      percent = sym k.byte_is ∙ h;
-      no_escape =
-          d.none_is;
-    } in
-    let P : List ℕ → Type 0 = λ x. LonePercent x mark in
-    let paid_here = paid_percent (text_of c) c.seen mark mark k.within (sym k.byte_is ∙ h) in
-    let l = k.looking.looks_are_paid in
-    let n = d.looks_are in
-    (subst P (sym t) e, looking_kept (mark + 1) 0 k.looking s (omega arith) (omega arith) (omega arith))
-
-marked_tab : (t h p : Bool) → (t || (h || p)) ≡ true → h ≡ false → p ≡ false → t ≡ true
-marked_tab true h p e a b = refl
-marked_tab false true p e a b = absurd (let k : true ≡ false = a in cc)
-marked_tab false false true e a b = absurd (let k : true ≡ false = b in cc)
-marked_tab false false false e a b = absurd (let k : false ≡ true = e in cc)
-
--- a marked byte that is neither '%' nor '#' is a tab or newline (found by `search`)
-pub stop_passed : {c c' : Cursor} {mark b : ℕ} → Looked c mark b → is_marked (get_or (text_of c) mark 0) ≡ true
-    → (b ≡ 37 → ⊥) → (b ≡ 35 → ⊥) → KeepsBlock c c' → c'.source.looks ≡ c.source.looks + 1 → IsPassed (text_of c') mark
-    × Looking c' (mark + 1) 0
-stop_passed {c} {c'} {mark} {b} k m p h s n = let t = s.stays.on.text_stays in
-    let w = k.within in
-    let same = k.byte_is in
-    let marked : is_marked b ≡ true = ap is_marked same ∙ m in
-    let percent : (b == 37) ≡ false = ne_eqb b 37 p in
-    let tab : is_tab_or_newline b ≡ true = marked_tab (is_tab_or_newline b) (b == 35) (b == 37) marked
-    (ne_eqb b 35 h) percent in
-    let e : IsPassed (text_of c) mark = record { within = k.within; passed = ap is_tab_or_newline (sym same) ∙ tab } in
-    let P : List ℕ → Type 0 = λ x. IsPassed x mark in
-    let no : not (get_or (text_of c) mark 0 == 37) ≡ true = cc in
-    let paid_here = paid_byte (text_of c) c.seen mark k.within no in
-    let l = k.looking.looks_are_paid in
-    (subst P (sym t) e, looking_kept (mark + 1) 0 k.looking s (omega arith) (omega arith) (omega arith))
-
 begins_hash : (s : List ℕ) (b : ℕ) (rest : List ℕ) → s ≡ b ∷ rest → b ≡ 35 → BeginsFragment s
 begins_hash s b rest e h = subst BeginsFragment (sym e) h
-
-begins_empty : (s : List ℕ) → s ≡ [] → BeginsFragment s
-begins_empty s e = subst BeginsFragment (sym e) tt
 
 -- a walk ends at a '#'
 pub stop_hash : {c c' : Cursor} {mark b : ℕ} → Looked c mark b → b ≡ 35 → KeepsBlock c c'
@@ -277,17 +211,6 @@ stop_hash {c} {c'} {mark} {b} k h s n = let t = s.stays.on.text_stays in
     let most = paid_le (text_of c) c.seen (mark + 1) k.looking.block.seen_le (omega arith) in
     let l = k.looking.looks_are_paid in
     record { ends = record { within = omega arith; begins = subst P (sym t) begins }; few_looks = omega arith }
-
--- at the end of the text (found by `search`)
-pub stop_end : {c : Cursor} {mark : ℕ} → Looking c mark 0 → length (text_of c) ≤ mark → Ended c mark
-stop_end {c} {mark} k h =
-    let w = k.within in
-    let l = k.looks_are_paid in
-    let most = paid_le (text_of c) c.seen mark k.block.seen_le w in
-    record {
-      ends = record { within = w; begins = begins_empty (drop mark (text_of c)) (drop_all mark (text_of c) h) };
-      few_looks = omega arith;
-    }
 
 -- The next piece of a walk.
 
@@ -366,30 +289,15 @@ search_passed {c0} {c} c' {mark} r p k e t n b s m a =
 
 -- Pieces
 
-stops_tab : (s : List ℕ) (b : ℕ) (rest : List ℕ) → s ≡ b ∷ rest → is_tab_or_newline b ≡ true → is_slice_end s ≡ true
-stops_tab s b rest e h = ap is_slice_end e ∙ ap (λ v. v || ((b == 35) || ((b == 37) && is_some (escape rest)))) h
-
 or_true : (b : Bool) → (b || true) ≡ true
 or_true true = refl
 or_true false = refl
-
-stops_percent : (s rest : List ℕ) (found : ℕ × List ℕ) → s ≡ 37 ∷ rest → escape rest ≡ Some found
-    → is_slice_end s ≡ true
-stops_percent s rest found e h = ap is_slice_end e ∙ ap is_some h
-
-stops_end : (s : List ℕ) → BeginsFragment s → is_slice_end s ≡ true
-stops_end [] h = refl
-stops_end (b ∷ s) h = ap (λ v. is_slice_end (v ∷ s)) h
 
 -- the stretch up to the mark, as a piece
 slice_piece : {c0 c : Cursor} {mark to : ℕ} {bytes : List ℕ} → Reached c0 c mark → mark ≢ c.place
     → Reads (text_of c0) mark to [] → IsSkipped (text_of c0) mark to → bytes ≡ slice_range (text_of c) c.place mark
     → is_slice_end (drop mark (text_of c0)) ≡ true → IsStretch (text_of c0) c0.place to bytes
 slice_piece {c0} {c} {mark} {to} {bytes} r n after skipped e h = grind (arith, in_front)
-
-slice_read : {c0 c : Cursor} {mark : ℕ} {bytes : List ℕ} → Reached c0 c mark
-    → bytes ≡ slice_range (text_of c) c.place mark → Reads (text_of c0) c0.place mark bytes
-slice_read {c0} {c} {mark} {bytes} r e = grind arith
 
 -- a walk that was only moved to another place
 moved_on : {c0 c : Cursor} (place : ℕ) (ahead : Ahead) → LooksOn c0 c
@@ -399,10 +307,6 @@ moved_on place ahead h = record { text_stays = h.text_stays; looks_grow = h.look
 abbrev IsCut : Cursor → Cursor → ℕ → Piece → Type 0
 IsCut c0 c mark p = (bytes_of p ≡ slice_range (text_of c) c.place mark)
     × ((from to : ℕ) → IsStretch (text_of c) from to (bytes_of p) → IsPiece (text_of c) from to p)
-
-piece_in : {c0 c : Cursor} (mark : ℕ) {to : ℕ} (p : Piece) → LooksOn c0 c → IsCut c0 c mark p
-    → IsStretch (text_of c0) c0.place to (bytes_of p) → IsPiece (text_of c0) c0.place to p
-piece_in {c0} {c} mark {to} p on cut s = grind arith
 
 -- the stretch up to a tab or newline is a piece, and the walk goes on after the tab or newline
 pub slice_passed : {c0 c : Cursor} {mark : ℕ} (p : Piece) → Reached c0 c mark → IsPassed (text_of c) mark
@@ -449,44 +353,11 @@ byte_here {c0} {c} {mark} {value} {end} r h e =
       ended = tt;
     }
 
--- a walk whose search reached a mark at its index can end without a piece (found by `search`)
-pub end_here : {c0 c : Cursor} {mark : ℕ} → Reached c0 c mark → mark ≡ c.place
-    → GoesOn c0 None (record c { ahead = End })
-end_here {c0} {c} {mark} r e = record { on = moved_on c.place End r.on; reads = r.passed; piece = tt; ended = refl }
-
 -- an equal walk goes on in the same way
 pub goes_as : {c0 c c' : Cursor} {next : Option Piece} → c' ≡ c → GoesOn c0 next c → GoesOn c0 next c'
 goes_as {c0} {c} {c'} {next} e g = let P : Cursor → Type 0 = λ w. GoesOn c0 next w in subst P (sym e) g
 
 -- Walks that know something about their place
-
--- what is read of an equal text is read of the text
-pub reads_in : {text same bytes : List ℕ} {from to : ℕ} → same ≡ text → Reads same from to bytes
-    → Reads text from to bytes
-reads_in {text} {same} {bytes} {from} {to} e r = let P : List ℕ → Type 0 = λ t. Reads t from to bytes in subst P e r
-
-stretch_from : {text same slice : List ℕ} {from from' to : ℕ} → same ≡ text → from' ≡ from
-    → IsStretch same from' to slice → IsStretch text from to slice
-stretch_from {text} {same} {slice} {from} {from'} {to} t e s = grind arith
-
-escape_from : {text same : List ℕ} {from from' to byte : ℕ} → same ≡ text → from' ≡ from → IsEscape same from' to byte
-    → IsEscape text from to byte
-escape_from {text} {same} {from} {from'} {to} {byte} t e s = grind arith
-
-piece_of : (p : Piece) {text same : List ℕ} {from from' : ℕ} (to : ℕ) → same ≡ text → from' ≡ from
-    → IsPiece same from' to p → IsPiece text from to p
-piece_of (Slice slice) to t e h = stretch_from t e h
-piece_of (Byte byte) to t e h = escape_from t e h
-
-piece_from : (next : Option Piece) {c c1 : Cursor} (to : ℕ) → LooksOn c c1 → c1.place ≡ c.place
-    → IfSome next (IsPiece (text_of c1) c1.place to) → IfSome next (IsPiece (text_of c) c.place to)
-piece_from None to on e h = tt
-piece_from (Some p) to on e h = piece_of p to on.text_stays e h
-
--- a walk that has only read its text goes on as the one before (found by `search`)
-pub goes_then : {c c1 c2 : Cursor} {next : Option Piece} → LooksOn c c1 → c1.place ≡ c.place → GoesOn c1 next c2
-    → GoesOn c next c2
-goes_then {c} {c1} {c2} {next} on e g = grind arith
 
 -- what is true of every walk stays true if the walk goes on, and what its `ahead` says is true
 pub knows_on : {c c' : Cursor} {next : Option Piece} → Knows c → GoesOn c next c' → KnowsAhead c' c'.ahead → Knows c'
@@ -605,20 +476,11 @@ gathers_slice {c} {c'} {room} {room'} {len} width on e w clear h =
       len_is = omega arith;
     }
 
-room_on : {c c' : Cursor} {len : ℕ} → HasRoom c len → len < 256 → c.place < c'.place → c'.seen ≡ c.seen
-    → HasRoom c' (len + 1)
-room_on {c} {c'} {len} h l m s = grind arith
-
 -- the value of an escape directly after another one
 pub gathers_escape : {c0 c c' : Cursor} {room0 room : List ℕ} {len0 len value : ℕ} → Gathers c0 c room0 room len0 len
     → LooksOn c c' → EscapeAt (text_of c) c.place value c'.place → len < length room
     → Gathers c0 c' room0 (set room len value) len0 (len + 1)
 gathers_escape g on e l = gathers_then g (gathers_byte on (reads_escape e) l)
-
--- a buffer that has room and is not full has room after the value of an escape is appended
-pub room_escape : {c c' : Cursor} {len value : ℕ} → HasRoom c len → len < 256
-    → EscapeAt (text_of c) c.place value c'.place → c'.seen ≡ c.seen → HasRoom c' (len + 1)
-room_escape h l e s = room_on h l e.some s
 
 -- what is at a mark, for a walk that read it and went on after it
 
@@ -628,13 +490,6 @@ pub record Went (c c1 c' : Cursor) (place : ℕ) : Type 0 where
   pub text_is : text_of c' ≡ text_of c1
   pub looks_are : c'.source.looks ≡ c1.source.looks
   pub place_is : c'.place ≡ place
-
-went_on : {c c1 c' : Cursor} {place : ℕ} → Went c c1 c' place → LooksOn c c'
-went_on w = grind arith
-
-reads_to : {text : List ℕ} {from to to' : ℕ} {bytes : List ℕ} → to' ≡ to → Reads text from to bytes
-    → Reads text from to' bytes
-reads_to {text} {from} {to} {to'} {bytes} e r = let P : ℕ → Type 0 = λ x. Reads text from x bytes in subst P (sym e) r
 
 -- a walk that goes on after a '%' that does not begin an escape appends the '%'
 pub gathers_percent : {c c1 c' : Cursor} {room : List ℕ} {len : ℕ} → Went c c1 c' (c.place + 1)
@@ -689,11 +544,6 @@ gathers_block {c} {c'} {room} {room'} {len} m h clear on e k = grind (arith, gat
 abbrev pub measure : ℕ → ℕ → Bool → ℕ
 measure total place ended = 2 * (total - place) + cond ended 0 1
 
-smaller_by : (total place place' : ℕ) (ended : Bool) → place ≤ place' → place' ≤ total
-    → MatchBool ended (Unit {0}) (place < place') → measure total place' ended < measure total place false
-smaller_by total place place' true l w m = omega arith
-smaller_by total place place' false l w m = omega arith
-
 -- gathering bytes makes the measure smaller, if the walk moves or ends
 pub smaller : (c0 : Cursor) {c1 c' : Cursor} {room room' : List ℕ} {len len' : ℕ} (total : ℕ) → c0.ahead ≡ Unknown
     → c1.place ≡ c0.place → length (text_of c1) ≡ total → Moves c1 c' → Gathers c1 c' room room' len len'
@@ -741,17 +591,6 @@ pub few_looks : {c : Cursor} → Knows c → c.source.looks ≤ 3 * length (text
 few_looks {c} k = looks_cases c c.ahead k.ahead_is
 
 -- The next bytes
-
--- what was gathered (found by `search`)
-pub takes_gathered : {c c' : Cursor} {room0 room : List ℕ} {len : ℕ} → Gathers c c' room0 room 0 len → 0 < len
-    → Takes (walk_of c) (take len room) (walk_of c')
-takes_gathered {c} {c'} {room0} {room} {len} g some = grind arith
-
--- nothing was gathered, and then came a piece
-before_next : {c c1 c2 : Cursor} {room0 room : List ℕ} {len : ℕ} {next : Option Piece} → Gathers c c1 room0 room 0 len
-    → len ≡ 0
-    → GoesOn c1 next c2 → Reads (text_of c) c.place c2.place (bytes_of_next next)
-before_next {c} {c1} {c2} {room0} {room} {len} {next} g e h = grind arith
 
 -- if nothing was gathered, and then came a piece, the walk returns the bytes of the piece
 pub takes_next : {c c1 c2 : Cursor} {room0 room : List ℕ} {len : ℕ} (p : Piece) → Gathers c c1 room0 room 0 len

@@ -146,20 +146,6 @@ pub values-append : (a b : List ℕ) → values (a ++ b) ≡ values a ++ values 
 unfolding values
 values-append a b = grind (arith, filter-append, map-append)
 
-kind_alike : (m n : ℕ) (o : Option ℕ) → m % 4 ≡ n % 4 → kind_by m o ≡ kind_by n o
-kind_alike m n None e = rw e refl
-kind_alike m n (Some c) e = refl
-
--- p times '=' fit exactly if `min p 3` times do
-pub fits_min : (r p : ℕ) → fits_with r p ≡ fits_with r (min p 3)
-fits_min r zero = refl
-fits_min r (suc zero) = refl
-fits_min r (suc (suc zero)) = refl
-fits_min r (suc (suc (suc p))) = let e : min (suc (suc (suc p))) 3 ≡ 3 = omega arith in rw e refl
-
-min_alike : (m n k : ℕ) → min m 3 ≡ min n 3 → min (m + k) 3 ≡ min (n + k) 3
-min_alike m n k e = omega arith
-
 valid_by : (x y : List ℕ) → fault_byte false x ≡ fault_byte false y
     → length (filter is_symbol x) % 4 ≡ length (filter is_symbol y) % 4
     → min (length (filter is_pad x)) 3 ≡ min (length (filter is_pad y)) 3 → is_valid x ≡ is_valid y
@@ -217,13 +203,6 @@ module _ (a b w : List ℕ) (st : Stands a w) where
       search (arith, done_is, done_both, fault_some, fault_both, kind_is, length_values, left_both, padding_both, valid_by, length_symbols, length_pads, decoded_both)
 
 -- Decoding goes on from what is left over
-
-min_min : (n : ℕ) → min (min n 3) 3 ≡ min n 3
-min_min n = omega arith
-
-any_min : (t : List ℕ) → list_any is_pad (replicate (min (length t) 3) 61) ≡ is_nonempty t
-any_min [] = refl
-any_min (c ∷ t) = let e : min (suc (length t)) 3 ≡ suc (min (length t) 2) = omega arith in rw e refl
 
 -- if a has no fault, decoding goes on from what is left over of a
 pub left_stands : (a : List ℕ) → fault_byte false a ≡ None → Stands a (left_text (left_symbols a) (left_padding a))

@@ -17,7 +17,6 @@ use Rattle.std.proofs.Math.Bool.{or-false, or_assoc}
 use Rattle.data_url.specs.Facts.{IsFirstFault, Fits, IsSymbolsAndPadding, PaddingFits}
 use Rattle.std.proofs.lemmas.List.Elements.{filter-append}
 use Rattle.std.specs.Int.{is_in_range}
-use Rattle.data_url.proofs.texts.CodePoints.{range_high}
 use Rattle.std.specs.Char.{is_ascii_whitespace}
 
 -- A walk over a text that remembers whether it has seen padding, with the classes of bytes as variables.
@@ -113,9 +112,6 @@ module _ (space pad symbol : ℕ → Bool) where
 
   bad_here : (p t : List ℕ) (c : ℕ) → is_bad_at (p ++ c ∷ t) (length p) ≡ is_bad (list_any pad p) c
   bad_here p t c = grind (arith, get_or_at, take_at)
-
-  cond_same : {X : Type 0} (b d : Bool) (x y z : X) → b ≡ d → y ≡ z → cond b x y ≡ cond d x z
-  cond_same b d x y z e f = cc
 
   -- the search by places is the walk
   pub find_walk : (p b : List ℕ) → find (is_bad_at (p ++ b)) (range_with_len (length p) (length b)) ≡ stop_place
@@ -275,13 +271,6 @@ abbrev IsLeast : (ℕ → Bool) → ℕ → ℕ → Option ℕ → Type 0
 IsLeast p a e None = (i : ℕ) → a ≤ i → i < e → p i ≡ false
 IsLeast p a e (Some i) = (a ≤ i) × (i < e) × (p i ≡ true) × ((k : ℕ) → a ≤ k → k < i → p k ≡ false)
 
-at_first : (p : ℕ → Bool) (a k : ℕ) → p a ≡ false → (a + 1 ≤ k → p k ≡ false) → a ≤ k → p k ≡ false
-at_first p a k here later l = grind arith
-
-least_more : (p : ℕ → Bool) (a e : ℕ) (o : Option ℕ) → p a ≡ false → IsLeast p (a + 1) e o → IsLeast p a e o
-least_more p a e None here h = λ i l m. at_first p a i here (λ n. h i n m) l
-least_more p a e (Some i) here (l, m, t, f) = (omega arith, m, t, λ k n q. at_first p a k here (λ r. f k r q) n)
-
 find_least : (p : ℕ → Bool) (n a e : ℕ) → e ≡ a + n → IsLeast p a e (find p (range_with_len a n))
 find_least p zero a e q = λ i l m. absurd (omega arith)
 find_least p (suc n) a e q = grind (arith, (find_least p n (a + 1) e (omega arith)))
@@ -303,10 +292,6 @@ fits_with r zero = not (eqb r 1)
 fits_with r (suc zero) = eqb r 3
 fits_with r (suc (suc zero)) = eqb r 2
 fits_with r (suc (suc (suc p))) = false
-
-and_true : (b : Bool) → (b && true) ≡ b
-and_true true = refl
-and_true false = refl
 
 -- Removing padding from the end
 
@@ -441,10 +426,6 @@ pub from_fits : (k p : ℕ) → Fits k p → fits_with (k % 4) p ≡ true
 from_fits k p (inl (z, n)) = rw z (not_from_false (eqb (k % 4) 1) (ne_eqb (k % 4) 1 n))
 from_fits k p (inr (inl (z, n))) = rw z (eq-eqb (k % 4) 3 n)
 from_fits k p (inr (inr (z, n))) = rw z (eq-eqb (k % 4) 2 n)
-
--- if p times '=' do not fit k symbols, `fits_with` is false
-pub from_unfit : (k p : ℕ) → (Fits k p → ⊥) → fits_with (k % 4) p ≡ false
-from_unfit k p h = false_from_ne_true (fits_with (k % 4) p) (λ e. h (fits_from k p e))
 
 -- a text of symbols and padding is valid exactly if their numbers fit
 pub padding_fits : (b : List ℕ) → PaddingFits b

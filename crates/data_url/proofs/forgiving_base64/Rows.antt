@@ -34,9 +34,6 @@ clear_map : (f : ℕ → ℕ) (xs : List ℕ) (m : ℕ) → clear (map f xs) m �
 clear_map f [] m = refl
 clear_map f (x ∷ xs) m = grind (arith, (clear_map f xs (m / 2)))
 
-clear_even : (x : ℕ) (xs : List ℕ) (m : ℕ) → clear (x ∷ xs) (0 + 2 * m) ≡ x ∷ clear xs m
-clear_even x xs m = grind arith
-
 clear_odd : (x : ℕ) (xs : List ℕ) (m : ℕ) → clear (x ∷ xs) (1 + 2 * m) ≡ clear xs m
 clear_odd x xs m = grind arith
 

@@ -25,7 +25,7 @@ use Rattle.data_url.proofs.forgiving_base64.Padding.{any_of_text, before-append,
 use Rattle.data_url.proofs.forgiving_base64.Padding.{done_is, fault-append, fault_byte, fault_pads, fault_some}
 use Rattle.data_url.proofs.forgiving_base64.Padding.{fault_text, is_pad, kind_by, kind_fault, kind_is, no_fault_valid}
 use Rattle.data_url.proofs.forgiving_base64.Padding.{none_fault, pads_of_text, symbols_of_text, fits_with, from_fits}
-use Rattle.data_url.proofs.forgiving_base64.Padding.{from_unfit, bad, is_bad, some_not_none, space_alone, symbol_alone}
+use Rattle.data_url.proofs.forgiving_base64.Padding.{bad, is_bad, some_not_none, space_alone, symbol_alone}
 use Rattle.data_url.proofs.forgiving_base64.Padding.{done_stays, fault-append_some, kind_stays}
 use Rattle.data_url.specs.Steps.Calls.{CallsOnce}
 use Rattle.data_url.specs.Steps.Ending.{IsFaultAtEnd}
@@ -111,12 +111,6 @@ module _ (q : List ℕ) (p : ℕ) (every : Every is_symbol q) where
       → complete_bytes (left_text q p ++ c ∷ []) ≡ []
   done_bad c few h = grind (arith, done_is, before_more, before_one, append-nil, values_left, groups_few, length-map)
 
-  -- the kind of a fault c after q and p times '=' is a symbol after padding for a symbol, and an unexpected byte
-  -- otherwise
-  pub kind_bad : (c : ℕ) → fault_byte (has_pad p) (c ∷ []) ≡ Some c
-      → kind_of (left_text q p ++ c ∷ []) ≡ cond (is_symbol c) AlphabetSymbolAfterPadding (UnexpectedSymbol c)
-  kind_bad c h = kind_fault (left_text q p ++ c ∷ []) c (fault_more (c ∷ []) ∙ h)
-
   -- q and p times '=' are valid exactly if p fits the number of symbols
   pub valid_left : is_valid (left_text q p) ≡ fits_with (length q % 4) p
   valid_left =
@@ -133,9 +127,6 @@ module _ (q : List ℕ) (p : ℕ) (every : Every is_symbol q) where
   kind_left = grind (arith, kind_is, fault_text, values_left, length-map)
 
 -- One byte, by its class
-
-bad_by : (x x' y y' z z' s : Bool) → x ≡ x' → y ≡ y' → z ≡ z' → bad x y z s ≡ bad x' y' z' s
-bad_by x x' y y' z z' s e f g = ap (λ v. bad v y z s) e ∙ ap (λ v. bad x' v z s) f ∙ ap (λ v. bad x' y' v s) g
 
 fault_one : (c : ℕ) (s x y z : Bool) → is_ascii_whitespace c ≡ x → is_pad c ≡ y → is_symbol c ≡ z
     → fault_byte s (c ∷ []) ≡ cond (bad x y z s) (Some c) None
@@ -222,12 +213,6 @@ two_items (a ∷ b ∷ []) n l e = absurd (omega arith)
 two_items (a ∷ b ∷ c ∷ f ∷ t) n l e = absurd (omega arith)
 
 -- How many '=' fit after a number of symbols
-
-one_unfit : (p : ℕ) → fits_with 1 p ≡ false
-one_unfit zero = refl
-one_unfit (suc zero) = refl
-one_unfit (suc (suc zero)) = refl
-one_unfit (suc (suc (suc p))) = refl
 
 -- What one call returns
 
@@ -357,10 +342,6 @@ module _ {F : Type 0} where
       (ap (λ v. cond v AlphabetSymbolAfterPadding (UnexpectedSymbol c)) (sym symbol))
 
 module _ {F E : Type 0} (step : F → List ℕ → Result (Unit {0}) E → F → Type 0) where
-  -- a text that completes no group is fed without a call
-  pub adds_feeds : {d d' : State F} {t : List ℕ} → Adds d t [] d' → Feeds step d t (Ok tt) d'
-  adds_feeds {d} {d'} {t} a = grind arith
-
   -- feeding the empty text returns `Ok`, and d does not change
   pub feeds_none : {d d' : State F} → Every is_symbol d.symbols → length d.symbols ≤ 3 → d.padding ≤ 3
       → d.failed ≡ false → d' ≡ d → Feeds step d [] (Ok tt) d'
@@ -393,11 +374,6 @@ module _ {F E : Type 0} (step : F → List ℕ → Result (Unit {0}) E → F →
   pub padding_fault : (d : State F) (k : ℕ) → Every is_symbol d.symbols → length d.symbols ≡ k → k ≤ 3 → k ≢ 1
       → (Fits k d.padding → ⊥) → IsFaultAtEnd d (Some PaddingDetails)
   padding_fault d k every count few many h = grind (arith, invalid_unfit, kind_left)
-
-  flushes_call : (d d' : State F) {r : Result (Unit {0}) (DecodeError E)} (piece : List ℕ) → 0 < length piece
-      → CallsOnce step d piece r d' → Flushes step d piece r d'
-  flushes_call d d' [] some w = absurd (omega arith)
-  flushes_call d d' (b ∷ bs) some w = w
 
   decoded_rest : (d : State F) (q : List ℕ) → Every is_symbol d.symbols → d.symbols ≡ q → length q ≤ 3
       → decoded (left_over d) ≡ rest_bytes (map symbol_value q)
@@ -449,32 +425,6 @@ pub record Took {F : Type 0} (u bytes : List ℕ) (d : State F) : Type 0 where
   pub no_fault : first_fault u ≡ None
   pub bytes_are : bytes ≡ complete_bytes u
   pub left : IsLeft u d
-
-ok_no_fault : {E P : Type 0} (o : Option ℕ) (r e : Result (Unit {0}) (DecodeError E)) (x : DecodeError E) → r ≡ Ok tt
-    → e ≡ Err x → MatchOption o P (λ i. r ≡ e) → (o ≡ None) × P
-ok_no_fault None r e x k l h = (refl, h)
-ok_no_fault (Some i) r e x k l h = absurd (cc)
-
-taken_ok : {F E : Type 0} (u bytes : List ℕ) (d : State F) → IsTaken {E = E} u bytes (Ok tt) d → Took u bytes d
-taken_ok {E = E} u bytes d h = grind arith
-
-refused_ok : {E : Type 0} (o : Option E) (P : Type 0) (all bytes : List ℕ)
-    → MatchOption o P (λ e. IsRefused {A = Unit {0}} all bytes e (Ok tt)) → (o ≡ None) × P
-refused_ok None P all bytes h = (refl, h)
-refused_ok (Some e) P all bytes h = absurd (let k = h.answer in cc)
-
--- decoding goes on from u with b as it does from v
-taken_on : {F E : Type 0} (u b v bytes : List ℕ) (r : Result (Unit {0}) (DecodeError E)) (d : State F) → GoesOn u b v
-    → IsTaken v bytes r d → IsTaken (u ++ b) (complete_bytes u ++ bytes) r d
-taken_on u b v bytes r d g h = grind arith
-
-refused_on : {E : Type 0} (u all bytes whole : List ℕ) (e : E) (r : Result (Unit {0}) (DecodeError E))
-    → whole ≡ complete_bytes u ++ all → IsRefused all bytes e r → IsRefused whole (complete_bytes u ++ bytes) e r
-refused_on u all bytes whole e r q h = record {
-  bytes_begin = prefix_trans (complete_bytes u ++ bytes) (complete_bytes u ++ all) whole
-      (prefix_after (complete_bytes u) bytes all h.bytes_begin) (prefix_all (complete_bytes u ++ all) whole (sym q));
-  answer = h.answer;
-}
 
 -- An error in a, whatever follows
 

@@ -173,14 +173,6 @@ computed v =
     (12 ∷ 12 ∷ 12 ∷ 12 ∷ []))
     (pair_sums (pair_sums (products v (0 ∷ 0 ∷ 64 ∷ 1 ∷ 0 ∷ 0 ∷ 64 ∷ 1 ∷ 0 ∷ 0 ∷ 64 ∷ 1 ∷ 0 ∷ 0 ∷ 64 ∷ 1 ∷ []))))
 
-one_number : (a b c d : ℕ) → a < 64 → b < 64 → c < 64 → d < 64 → add32 (shl32 ((a * 64 + b * 1) + (c * 0 + d * 0)) 12)
-    ((a * 0 + b * 0) + (c * 64 + d * 1)) ≡ group_number a b c d
-one_number a b c d p q r s = omega arith
-
-four_same : {a b c d a' b' c' d' : ℕ} → a ≡ a' → b ≡ b' → c ≡ c' → d ≡ d'
-    → ◌≡◌ {A = List ℕ} (a ∷ b ∷ c ∷ d ∷ []) (a' ∷ b' ∷ c' ∷ d' ∷ [])
-four_same p q r s = cc
-
 numbers_row : (f : ℕ → ℕ) → ((k : ℕ) → f k < 64) → computed (row f) ≡ numbers (row f)
 numbers_row f h = grind arith
 
@@ -324,12 +316,6 @@ or_unmarked x y a b = elim (cases_eq x 0) [
   | inr p ↦ cc (ne_eqb (bit_or x y) 0 (λ e. p (omega (arith, or_add_and x y, and_le_l x y, and_le_r x y))), ne_eqb x 0 p)
 ]
 
-regroup : (p q r s : Bool) → ((p && q) && (r && s)) ≡ ((p && r) && (q && s))
-regroup true true r s = refl
-regroup true false true s = refl
-regroup true false false s = refl
-regroup false q r s = refl
-
 unmarked_or : (xs ys : List ℕ) → length xs ≡ length ys → Each1 (λ x. x < 256) xs → Each1 (λ x. x < 256) ys
     → list_all unmarked (zip2 bit_or xs ys) ≡ (list_all unmarked xs && list_all unmarked ys)
 unmarked_or [] [] e f g = refl
@@ -361,10 +347,6 @@ all_unmarked : (v : List ℕ) → Each1 (Fits w8) v → list_all unmarked (map m
 all_unmarked [] h = refl
 all_unmarked (b ∷ v) h = ap₂ (λ s t. s && t) (agree_below_at (λ b. unmarked (mark_of b)) is_symbol 256 b refl h.0.fits)
     (all_unmarked v h.1)
-
-and_assoc : (p q r : Bool) → ((p && q) && r) ≡ (p && (q && r))
-and_assoc true q r = refl
-and_assoc false q r = refl
 
 zip_lt : (xs ys : List ℕ) → length xs ≡ length ys → Each1 (λ x. x < 256) xs → Each1 (λ x. x < 256) ys
     → Each1 (λ x. x < 256) (zip2 bit_or xs ys)

@@ -38,10 +38,6 @@ done_whole u =
       | false ↦ λ e. prefix_all (complete_bytes u) (complete_bytes u) refl
     ] refl
 
-match_either : {A : Type 0} (o : Option A) (P Q : Type 0) → MatchOption o P (λ i. Q) → (P → Q) → Q
-match_either None P Q m f = f m
-match_either (Some i) P Q m f = m
-
 -- a text that has a fault while it is fed is not valid
 taken_invalid : {F E : Type 0} (u bytes : List ℕ) (r : Result (Unit {0}) (DecodeError E)) (x : DecodeError E)
     (d : State F) (o : Option ℕ) → r ≡ Err x → fault_byte false u ≡ o → IsTaken u bytes r d
@@ -145,11 +141,6 @@ module _ {F E : Type 0} (step : F → List ℕ → Result (Unit {0}) E → F →
 
 -- A closure that appends its bytes
 
-all_ok : {E : Type 0} (o : Option E) (P : Type 0) (all bytes : List ℕ) (r : Result (Unit {0}) (DecodeError E))
-    → r ≡ Ok tt → MatchOption o P (λ e. IsRefused all bytes e r) → (o ≡ None) × P
-all_ok None P all bytes r q h = (refl, h)
-all_ok (Some e) P all bytes r q h = absurd (let k = h.answer in cc)
-
 accepted_call : {E : Type 0} (r : Result (Unit {0}) E) (o : Option E) → or_error r o ≡ None → r ≡ Ok tt
 accepted_call (Ok tt) o h = refl
 accepted_call (Err e) o h = absurd (some_not_none e h)
@@ -159,12 +150,6 @@ call_reads : {F E : Type 0} (step : F → List ℕ → Result (Unit {0}) E → F
     → (c : Call F E) (f : F) (last rest : List ℕ) → step f c.piece c.answer c.after → c.answer ≡ Ok tt
     → last ≡ J c.after ++ rest → last ≡ J f ++ (c.piece ++ rest)
 call_reads {F} {E} step J keeps c f last rest s e h = grind (arith, append_assoc)
-
-whole_ok : {E : Type 0} (v : Bool) (u bytes : List ℕ) (r : Result (Unit {0}) (DecodeError E)) → r ≡ Ok tt
-    → MatchBool v (IsAll u bytes r) ((bytes ≡ complete_bytes u) × (r ≡ Err (InvalidBase64 (kind_of u))))
-    → bytes ≡ decoded u
-whole_ok true u bytes r q h = h.bytes_are
-whole_ok false u bytes r q h = absurd (let k = h.1 in cc)
 
 -- after a run without an error, all bytes of the run are appended to it
 pub run_reads : {F E : Type 0} (step : F → List ℕ → Result (Unit {0}) E → F → Type 0) (J : F → List ℕ)

@@ -23,9 +23,6 @@ use Rattle.data_url.proofs.texts.Bytes.{dropped_keeps, dropped_nil}
 
 -- An encoded text has only such bytes
 
-outside_set : (b : ℕ) → b < 256 → in_fragment_set b ≡ false → is_fragment_byte b ≡ true
-outside_set b l h = sym (agree_below_at (λ c. not (in_fragment_set c)) is_fragment_byte 256 b refl l) ∙ ap not h
-
 digit_byte : (d : ℕ) → d < 16 → is_fragment_byte (hex_digit d) ≡ true
 digit_byte d l = agree_below_at (λ d. is_fragment_byte (hex_digit d)) (λ d. true) 16 d refl l
 
@@ -39,17 +36,11 @@ fragment_bytes (b ∷ s) h = grind (arith, encoded_cons, byte_encoded, (fragment
 
 -- Such bytes stay as they are
 
-byte_below : (b : ℕ) → is_fragment_byte b ≡ true → b < 256
-byte_below b h = grind arith
-
 abbrev excludes : (ℕ → Bool) → ℕ → Bool
 excludes p b = not (is_fragment_byte b && p b)
 
 excluded : (p : ℕ → Bool) (b : ℕ) → excludes p b ≡ true → is_fragment_byte b ≡ true → p b ≡ false
 excluded p b e h = false_from_ne_true (p b) (λ k. both_ways (excludes p b) (ap (λ v. not (v && p b)) h ∙ ap not k) e)
-
-not_in_set : (b : ℕ) → is_fragment_byte b ≡ true → in_fragment_set b ≡ false
-not_in_set b h = grind arith
 
 not_low : (b : ℕ) → is_fragment_byte b ≡ true → is_c0_control_or_space b ≡ false
 not_low b h = grind arith

@@ -49,10 +49,6 @@ pub path_space : (s : List ℕ) → encoded_path (s ++ 32 ∷ []) ≡ percent_en
 path_space [] = path_one 32 ∙ ap (λ t. t ++ codes "%20") (sym (encoded_nil in_path_set))
 path_space (b ∷ s) = grind (arith, path_more, (path_space s), encoded_cons)
 
--- another byte at the end
-end_set : (c : ℕ) → (c == 32) ≡ false → in_path_end_set c ≡ in_path_set c
-end_set c e = ap (λ v. in_path_set c || v) e ∙ or-false (in_path_set c)
-
 -- a path that ends with another byte is encoded with the path's set
 pub path_other : (s : List ℕ) (c : ℕ) → (c == 32) ≡ false → encoded_path (s ++ c ∷ []) ≡ percent_encoding in_path_set
     (s ++ c ∷ [])
@@ -134,15 +130,6 @@ header_and_query path rest h =
 nothing_after : (path : List ℕ) → encoded_parts path [] [] ≡ percent_encoding in_path_set
     (without_tabs_and_newlines path)
 nothing_after path = grind (arith, dropped_nil, encoded_nil, append-nil)
-
--- no bytes, or some
-not-suc-eq-zero : {n : ℕ} → suc n ≡ 0 → ⊥
-not-suc-eq-zero e = omega arith
-
--- a text of length zero is empty
-pub no_bytes : (s : List ℕ) → (length s == 0) ≡ true → s ≡ []
-no_bytes [] e = refl
-no_bytes (b ∷ s) e = absurd (not-suc-eq-zero (eqb-true (length (b ∷ s)) 0 e))
 
 -- a text whose length is not zero is not empty
 pub some_bytes : (s : List ℕ) (v : Bool) → v ≡ (length s == 0) → v ≡ false → s ≢ []
@@ -241,10 +228,6 @@ ends_with_no_space s (last init b e h) =
 ends_cleaned : (t : List ℕ) → Ends (cleaned_text t)
 unfolding cleaned_text trimmed_text
 ends_cleaned t = search (arith, ends_dropped, ends_trimmed)
-
-given_of : (v : Bool) (s a : List ℕ) → cond v (Some s) None ≡ Some a → a ≡ s
-given_of true s a h = cc
-given_of false s a h = absurd (let k : None ≡ Some a = h in cc)
 
 after_is : (t a : List ℕ) → after_scheme t ≡ Some a → a ≡ drop 5 (cleaned_text t)
 unfolding after_scheme

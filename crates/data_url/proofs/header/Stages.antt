@@ -50,37 +50,11 @@ abbrev printable : List ℕ → Type 0
 printable [] = Unit {0}
 printable (b ∷ s) = (32 ≤ b) × (b < 127) × printable s
 
-printable_append : (a s : List ℕ) → printable a → printable s → printable (a ++ s)
-printable_append [] s h k = k
-printable_append (b ∷ a) s h k = (h.0, h.1, printable_append a s h.2 k)
-
-hex_printable : (d : ℕ) → d < 16 → (32 ≤ hex_digit d) × (hex_digit d < 127)
-hex_printable d l = grind arith
-
-outside_path : (b : ℕ) → in_path_set b ≡ false → (32 ≤ b) × (b < 127)
-outside_path b h = grind arith
-
-outside_query : (b : ℕ) → in_query_set b ≡ false → (32 ≤ b) × (b < 127)
-outside_query b h = grind arith
-
-byte_printable : (p : ℕ → Bool) → ((b : ℕ) → p b ≡ false → (32 ≤ b) × (b < 127)) → (b : ℕ) → b < 256
-    → printable (encoded_byte p b)
-byte_printable p outside b l = grind arith
-
 encoded_printable : (p : ℕ → Bool) → ((b : ℕ) → p b ≡ false → (32 ≤ b) × (b < 127)) → (s : List ℕ) → IsBytes s
     → printable (percent_encoding p s)
 encoded_printable p outside [] h = subst printable (sym (encoded_nil p)) tt
 encoded_printable p outside (b ∷ s) h =
     grind (arith, encoded_cons, (encoded_printable p outside s h.1))
-
-outside_path_byte : (path : List ℕ) (b : ℕ) → path_byte_set path b ≡ false → (32 ≤ b) × (b < 127)
-outside_path_byte [] b h = outside_path b (or_parts (in_path_set b) (b == 32) h).0
-outside_path_byte (c ∷ s) b h = outside_path b h
-
-outside_header_byte : (path : List ℕ) (query : Option (List ℕ)) (b : ℕ) → header_byte_set path query b ≡ false
-    → (32 ≤ b) × (b < 127)
-outside_header_byte path None b h = outside_path b h
-outside_header_byte path (Some query) b h = outside_path_byte path b h
 
 header_all : (s : List ℕ) → IsBytes s → printable (header_text s)
 header_all [] h = subst printable (sym header_nil) tt
@@ -239,10 +213,6 @@ pub record HasTail (s t : List ℕ) : Type 0 where
   pub rest : List ℕ
   pub is : after 44 s ≡ Some rest
   pub recoded : Recoded t rest
-
-has_tail_of : (o : Option (List ℕ)) (s t : List ℕ) → after 44 s ≡ o → RecodedTails (Some t) o → HasTail s t
-has_tail_of None s t e h = absurd h
-has_tail_of (Some rest) s t e h = record { rest = rest; is = e; recoded = h }
 
 has_tail : (s header t : List ℕ) → IsBytes s → s ≡ header ++ 44 ∷ t → after 44 header ≡ None → HasTail (serialised s) t
 has_tail s header t b e h = grind (arith, after_at, recoded_tails, serialised_recoded)

@@ -48,9 +48,6 @@ pub record HasWord (s : List ℕ) (n spaces : ℕ) : Type 0 where
   pub is : map to_ascii_lowercase (drop n s) ≡ word
   pub spaces_are : spaces ≡ suffix_len is_c0_control_or_space (take n s)
 
-few_spaces : (s : List ℕ) (n spaces : ℕ) → HasWord s n spaces → spaces ≤ n
-few_spaces s n spaces h = grind (arith, suffix_len-le-length, length-take)
-
 -- the text before the spaces
 after_word : (s : List ℕ) (n spaces : ℕ) → IsPrintable s → HasWord s n spaces
     → before_base64 s ≡ before_semicolon (take (n - spaces) s)
@@ -121,10 +118,6 @@ before_last_after y q n l =
     let at : length (y ++ q) - n ≡ length y + (length q - n) = omega (arith, length-append y q) in
     ap (λ m. take m (y ++ q)) at ∙ take-append-add y q (length q - n)
 
-map_cond : (v : Bool) (y m : List ℕ) → cond v (Some (y ++ m)) None ≡ option_map (λ t. y ++ t) (cond v (Some m) None)
-map_cond true y m = refl
-map_cond false y m = refl
-
 word_after : (y q : List ℕ) → 6 ≤ length q → before_word (y ++ q) ≡ option_map (λ m. y ++ m) (before_word q)
 word_after y q l = grind (arith, last_after, before_last_after)
 
@@ -148,10 +141,6 @@ too_near x q l = no_word (x ++ 63 ∷ q) (λ e.
     no_mark place (cc (get_or-map to_ascii_lowercase (drop skipped s) place 0 0 within)))
 
 -- The whole
-
-some_cond : (v : Bool) (a : List ℕ) → is_some (cond v (Some a) None) ≡ v
-some_cond true a = refl
-some_cond false a = refl
 
 semicolon_after : (x r : List ℕ) → is_some (before_semicolon (x ++ 63 ∷ r)) ≡ bytes_eq (last_bytes 1 (63 ∷ r))
     (codes ";")

@@ -28,7 +28,6 @@ use Rattle.data_url.specs.Steps.Parsing.{unless_named, HasNoHead}
 use Rattle.data_url.specs.declared.mime.parse.Parameter.{Parameter}
 use Rattle.data_url.proofs.mime.TokenTexts.{bytes_of_ascii, token_text_ascii, token_text_chars}
 use Rattle.std.proofs.Math.Bool.{or_assoc}
-use Rattle.data_url.proofs.texts.CodePoints.{some_equal}
 use Rattle.std.proofs.lemmas.Map.Text.{btree_set_updates_text}
 use Rattle.std.proofs.Math.ListN.{drop_of_length-le}
 use Rattle.std.specs.BTreeSet.{BTreeSet, UpdatesBy, contains, contains_text}
@@ -181,17 +180,6 @@ pub no_pair_named : (item : Item) (xs : List Pair) → has_name item.0 xs ≡ tr
 no_pair_named (name, None) xs h = refl
 no_pair_named (name, Some v) xs h = unless_none xs (name, v) (is_token_text name && list_all is_quotable v) h
 
-some_quotable : (v w : List ℕ) (b : Bool) → ◌≡◌ {A = Option (List ℕ)} (Some w) (cond b (Some v) None)
-    → (b ≡ true) × (w ≡ v)
-some_quotable v w true h = (refl, some_equal w v h)
-some_quotable v w false h = absurd (let k = h in cc)
-
--- if the name of an item is a token text, and w is its quotable value, the item has the pair of its name and w
-pub valid_pair : (item : Item) (w : List ℕ) → is_token_text item.0 ≡ true → Some w ≡ quotable_value item.1
-    → valid_of item ≡ (item.0, w) ∷ []
-valid_pair (name, None) w t h = absurd (let k = h in cc)
-valid_pair (name, Some v) w t h = grind arith
-
 -- The pairs that are kept with one more item
 
 or_none : (b : Bool) → (b || false) ≡ b
@@ -208,11 +196,6 @@ pub has_pushed : (n : List ℕ) (xs : List Pair) (p : Pair)
     → has_name n (xs ++ (p ∷ [])) ≡ (has_name n xs || bytes_eq p.0 n)
 has_pushed n xs p = has_append n xs (p ∷ []) ∙ ap (λ b. has_name n xs || b) (or_none (bytes_eq p.0 n))
 
-snoc_cases : (b : Bool) (p : Pair) (whole front back : List Pair) → whole ≡ front ++ back
-    → cond b whole (p ∷ whole) ≡ cond b front (p ∷ front) ++ back
-snoc_cases true p whole front back h = h
-snoc_cases false p whole front back h = ap (λ x. p ∷ x) h
-
 first_snoc : (e ps : List Pair) (q : Pair) → first_of_each_name e (ps ++ (q ∷ [])) ≡ first_of_each_name e ps ++ cond
     (has_name q.0 (e ++ ps)) [] (q ∷ [])
 first_snoc e [] q = rw (append-nil e) refl
@@ -221,16 +204,6 @@ first_snoc e (p ∷ ps) q = grind (arith, (first_snoc (e ++ (p ∷ [])) ps q), a
 -- if the earlier pairs have the name of p, they have each name that is equal to it
 named : (n : List ℕ) (e : List Pair) (p : Pair) → has_name p.0 e ≡ true → bytes_eq p.0 n ≡ true → has_name n e ≡ true
 named n e p h t = ap (λ x. has_name x e) (sym (equal_from_test p.0 n t)) ∙ h
-
-skip_test : (a b x y : Bool) → (b ≡ true → a ≡ true) → ((a || b) || x) ≡ ((a || b) || y) → (a || x) ≡ (a || (b || y))
-skip_test true b x y k h = refl
-skip_test false true x y k h = absurd (false≢true (k refl))
-skip_test false false x y k h = h
-
-take_test : (a b x y : Bool) → ((a || b) || x) ≡ ((a || b) || y) → (a || (b || x)) ≡ (a || (b || y))
-take_test true b x y h = refl
-take_test false true x y h = refl
-take_test false false x y h = h
 
 first_cases : (n : List ℕ) (e : List Pair) (p : Pair) (kept_rest ps : List Pair)
     → ((has_name n e || bytes_eq p.0 n) || has_name n kept_rest) ≡ ((has_name n e || bytes_eq p.0 n) || has_name n ps)
@@ -242,14 +215,6 @@ has_first : (n : List ℕ) (e ps : List Pair) → (has_name n e || has_name n (f
     ≡ (has_name n e || has_name n ps)
 has_first n e [] = refl
 has_first n e (p ∷ ps) = grind (arith, first_cases, has_pushed, (has_first n (e ++ (p ∷ [])) ps))
-
-one_or_none : (b : Bool) (q : Pair) → (cond b (q ∷ []) [] ≡ []) ⊎ ((p : Pair) × (cond b (q ∷ []) [] ≡ p ∷ []))
-one_or_none true q = inr (q, refl)
-one_or_none false q = inl refl
-
-valid_one : (item : Item) → (valid_of item ≡ []) ⊎ ((p : Pair) × (valid_of item ≡ p ∷ []))
-valid_one (name, None) = inl refl
-valid_one (name, Some v) = one_or_none (is_token_text name && list_all is_quotable v) (name, v)
 
 kept_with_one : (ps qs : List Pair) → (qs ≡ []) ⊎ ((p : Pair) × (qs ≡ p ∷ []))
     → first_of_each_name [] (ps ++ qs) ≡ first_of_each_name [] ps ++ unless_named (first_of_each_name [] ps) qs
@@ -278,12 +243,6 @@ one_added pairs pairs' name value more e h = grind (arith, map-append)
 -- if all names of xs and of ys are lower-case, so are those of xs ++ ys
 pub lower_after : (xs ys : List Pair) → HasLowercaseNames xs → HasLowercaseNames ys → HasLowercaseNames (xs ++ ys)
 lower_after xs ys h k = grind (arith, list_all-append)
-
--- if a name that is a token text is lower-case, the name of an item's pair is lower-case
-pub valid_lower : (name : List ℕ) (value : Option (List ℕ))
-    → (is_token_text name ≡ true → is_lowercase_name name ≡ true) → HasLowercaseNames (valid_of (name, value))
-valid_lower name None h = refl
-valid_lower name (Some v) h = grind arith
 
 module _ (parameter : Parameter) (item : Item) (is : IsItem parameter item) where
   -- the name of an item is a token text exactly if the name of its parameter is
@@ -423,15 +382,6 @@ first_all p e (q ∷ ps) h =
     cond_both (has_name q.0 e) (first_of_each_name (e ++ (q ∷ [])) ps) (q ∷ first_of_each_name (e ++ (q ∷ [])) ps)
     (λ x. list_all p x ≡ true) (λ c. f) (λ c. and_from (p q) (list_all p (first_of_each_name (e ++ (q ∷ [])) ps))
     k.0 f)
-
-all_append : (p : Pair → Bool) (xs ys : List Pair) → list_all p xs ≡ true → list_all p ys ≡ true
-    → list_all p (xs ++ ys) ≡ true
-all_append p xs ys h k = list_all-append p xs ys ∙ and_from (list_all p xs) (list_all p ys) h k
-
-valid_quotable : (name : List ℕ) (value : Option (List ℕ)) → list_all (λ (p : Pair). list_all is_quotable p.1)
-    (valid_of (name, value)) ≡ true
-valid_quotable name None = refl
-valid_quotable name (Some v) = grind arith
 
 all_quotable : (items : List Item) → list_all (λ (p : Pair). list_all is_quotable p.1) (valid_pairs items) ≡ true
 all_quotable [] = refl

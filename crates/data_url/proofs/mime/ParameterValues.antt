@@ -13,7 +13,7 @@ use Rattle.std.proofs.lemmas.List.Folds.{list_all-append, list_all_at}
 use Rattle.std.proofs.lemmas.List.Sums.{prefix_len-le-length, prefix_len_stops, suffix_len-le-length, prefix_len_passes}
 use Rattle.std.specs.List.{list_all, prefix_len, suffix_len, flat_map}
 use Rattle.data_url.proofs.texts.CodePoints.{after_begins, front_of, front_passes, boundary_before_end, no_chars}
-use Rattle.data_url.proofs.texts.CodePoints.{range_high, in_parts}
+use Rattle.data_url.proofs.texts.CodePoints.{in_parts}
 use Rattle.data_url.proofs.mime.TokenTexts.{drop_front, every_ascii, is_split, take_front, whole_front}
 use Rattle.data_url.proofs.header.Serialising.{suffix_passes, suffix_stops}
 use Rattle.std.proofs.lemmas.Str.{IsCharBoundary-before_ascii, IsUtf8-drop, IsUtf8-take, chars-IsAscii, chars-append}
@@ -30,7 +30,7 @@ use Rattle.std.specs.Char.{IsScalar}
 use Rattle.std.specs.Int.{is_in_range}
 use lib.Utf8.{encode, next, scalar}
 use Rattle.data_url.specs.declared.mime.values.Value.{Value}
-use Rattle.data_url.proofs.mime.Quoted.{unescaped, unescaped_is, unescaped_one}
+use Rattle.data_url.proofs.mime.Quoted.{unescaped, unescaped_is}
 use Rattle.data_url.specs.declared.mime.values.Value.TheVariants as slices
 
 -- Texts cut at a byte, and without HTTP whitespace at an end, as texts of code points.
@@ -230,11 +230,6 @@ then_escaped c e e' h k = k ∙ ap (λ b. b && not e) (sym (eq-eqb c 92 h))
 pub else_escaped : (c : ℕ) (e e' : Bool) → (c ≡ 92 → ⊥) → e' ≡ (c == 92) → e' ≡ ((c == 92) && not e)
 else_escaped c e e' h k = k ∙ ne_eqb c 92 h ∙ ap (λ b. b && not e) (sym (ne_eqb c 92 h))
 
-unescaped_step : (e : Bool) (c : ℕ) (t : List ℕ) → unescaped e (c ∷ t) ≡ cond ((c == 92) && not e) (unescaped true t)
-    (c ∷ unescaped false t)
-unescaped_step true c t = refl
-unescaped_step false c t = refl
-
 scalar_first : (cs r : List ℕ) (c : ℕ) → all_scalars cs ≡ true → encode_utf8_all cs ≡ encode c ++ r → IsScalar c
 scalar_first cs r c s e = grind (arith, cons_from_encodes)
 
@@ -302,10 +297,6 @@ quoted_quotable q v (inl h) = quoted_same q v h
 quoted_quotable q v (inr (q', v', t, e, h)) = grind (arith, list_all-append, quoted_same)
 
 -- The text of a value
-
--- a value of quoted-string code points is its own quotable value
-pub quotable_some : (v : List ℕ) → list_all is_quotable v ≡ true → quotable_value (Some v) ≡ Some v
-quotable_some v h = cond-true (list_all is_quotable v) (Some v) None h
 
 -- a value with another code point has no quotable value
 pub quotable_none : (v : List ℕ) → list_all is_quotable v ≡ false → quotable_value (Some v) ≡ None

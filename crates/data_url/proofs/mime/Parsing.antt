@@ -23,10 +23,6 @@ pub not_begins_left : (p : ℕ → Bool) (a b : List ℕ) → DoesNotBegin p (a 
 not_begins_left p [] b h = tt
 not_begins_left p (c ∷ a) b h = h
 
--- a text that is trimmed at the front, and then at the end, is trimmed at both ends
-pub trimmed_both : (p : ℕ → Bool) (s a t : List ℕ) → IsTrimmedFront p s a → IsTrimmedEnd p a t → IsTrimmed p s t
-trimmed_both p s a t f e = grind arith
-
 -- a text has one longest prefix that passes
 pub same_span : (p : ℕ → Bool) (a b c d : List ℕ) → a ++ b ≡ c ++ d → Every p a → DoesNotBegin p b → Every p c
     → DoesNotBegin p d → (a ≡ c) × (b ≡ d)

@@ -13,7 +13,6 @@ use Rattle.std.specs.Option.{option_map}
 use Rattle.std.specs.Str.{IsUtf8, all_scalars, chars}
 use lib.Utf8.{encode, next, scalar}
 use Rattle.data_url.specs.Steps.Parsing.{IsClosed, IsOpen}
-use Rattle.data_url.proofs.texts.CodePoints.{some_equal}
 
 -- A quoted string, read from after its opening quote, with a flag that says whether a backslash comes before.
 
@@ -129,22 +128,11 @@ is_read true (c ∷ t) = read_more (Escaped c) t (quoted_value false t) (quoted_
 
 -- The value as it is written, which does not look for quotes
 
-and_false : (b : Bool) → (b && false) ≡ false
-and_false true = refl
-and_false false = refl
-
 -- the text without each '\' that escapes the next code point; the flag says whether a '\' comes before the text
 abbrev pub unescaped : Bool → List ℕ → List ℕ
 unescaped false [] = []
 unescaped true [] = 92 ∷ []
 unescaped escaped (c ∷ t) = cond ((c == 92) && not escaped) (unescaped true t) (c ∷ unescaped false t)
-
--- if no '\' comes before a text, a first code point other than '\' is kept
-pub unescaped_one : (c : ℕ) (t : List ℕ) → (c == 92) ≡ false → unescaped false (c ∷ t) ≡ c ∷ unescaped false t
-unescaped_one c t e = cond-false ((c == 92) && true) (unescaped true t) (c ∷ unescaped false t) (ap (λ b. b && true) e)
-
-unescaped_next : (c : ℕ) (t : List ℕ) → unescaped true (c ∷ t) ≡ c ∷ unescaped false t
-unescaped_next c t = cond-false ((c == 92) && false) (unescaped true t) (c ∷ unescaped false t) (and_false (c == 92))
 
 unescaped_units : (units : List QuotedUnit) (x : List ℕ) → AllByRecursion IsUnit units
     → unescaped false (flat_map unit_text units ++ x) ≡ map unit_value units ++ unescaped false x
@@ -170,34 +158,10 @@ IsHigh (b ∷ t) = (128 ≤ b) × IsHigh t
 skips : (b : ℕ) (t : List ℕ) → 128 ≤ b → quoted_rest false (b ∷ t) ≡ quoted_rest false t
 skips b t h = grind arith
 
-skips_any : (e : Bool) (b : ℕ) (t : List ℕ) → 128 ≤ b → quoted_rest e (b ∷ t) ≡ quoted_rest false t
-skips_any true b t h = refl
-skips_any false b t h = skips b t h
-
-skips_high : (t x : List ℕ) → IsHigh t → quoted_rest false (t ++ x) ≡ quoted_rest false x
-skips_high [] x h = refl
-skips_high (b ∷ t) x h = skips b (t ++ x) h.0 ∙ skips_high t x h.1
-
-skips_all : (e : Bool) (b : ℕ) (t x : List ℕ) → 128 ≤ b → IsHigh t → quoted_rest e ((b ∷ t) ++ x) ≡ quoted_rest false x
-skips_all e b t x h k = skips_any e b (t ++ x) h ∙ skips_high t x k
-
 -- the bytes of a code point that is not ASCII
 skips_encoded : (e : Bool) (c : ℕ) (x : List ℕ) → 128 ≤ c → quoted_rest e (encode c ++ x) ≡ quoted_rest false x
 unfolding encode
 skips_encoded e c x h = grind arith
-
-mapped_cases : (b d : Bool) (t : List ℕ) (x y : Option (List ℕ)) (x' y' : Option (List ℕ))
-    → x' ≡ option_map encode_utf8_all x → y' ≡ option_map encode_utf8_all y
-    → cond b (Some (encode_utf8_all t)) (cond d x' y') ≡ option_map encode_utf8_all (cond b (Some t) (cond d x y))
-mapped_cases true d t x y x' y' e f = refl
-mapped_cases false true t x y x' y' e f = e
-mapped_cases false false t x y x' y' e f = f
-
-ascii_rest : (e : Bool) (c : ℕ) (cs : List ℕ) → quoted_rest true (encode_utf8_all cs) ≡ option_map encode_utf8_all
-    (quoted_rest true cs) → quoted_rest false (encode_utf8_all cs) ≡ option_map encode_utf8_all (quoted_rest false cs)
-    → quoted_rest e (c ∷ encode_utf8_all cs) ≡ option_map encode_utf8_all (quoted_rest e (c ∷ cs))
-ascii_rest true c cs h k = k
-ascii_rest false c cs h k = mapped_cases (c == 34) (c == 92) cs (quoted_rest true cs) (quoted_rest false cs) _ _ h k
 
 -- the text after the closing quote of an encoded text is the encoding of the one of its code points
 pub rest_encodes : (e : Bool) (cs : List ℕ) → quoted_rest e (encode_utf8_all cs) ≡ option_map encode_utf8_all

@@ -146,9 +146,6 @@ pub split_at_other : (text front after : List ℕ) (n : ℕ) → IsUtf8 text →
     → front ≡ take n text → after ≡ drop n text → IsSplit is_token text front after
 split_at_other text front after n u k f g = rw (f, g, k) (is_split is_token token_below text u)
 
-suc_test : (a b : ℕ) → (1 + a == suc b) ≡ (a == b)
-suc_test a b = grind arith
-
 -- each item of a text passes exactly if its longest prefix that passes is the whole text
 pub whole_front : (p : ℕ → Bool) (s : List ℕ) → list_all p s ≡ (prefix_len p s == length s)
 whole_front p [] = refl

@@ -100,9 +100,6 @@ hex_digit_value d l = grind arith
 hex_digit_hex : (d : ℕ) → d < 16 → is_ascii_hexdigit (hex_digit d) ≡ true
 hex_digit_hex d l = agree_below_at (λ d. is_ascii_hexdigit (hex_digit d)) (λ c. true) 16 d refl l
 
-hex_digit_other : (d c : ℕ) → c < 48 → (hex_digit d == c) ≡ false
-hex_digit_other d c l = grind arith
-
 -- Decoding by one byte
 
 -- the text begins with two hexadecimal digits
@@ -292,9 +289,6 @@ recoded_tails (written {s} {x} b h l r) = grind (arith, after_other, set_other, 
 encoded_byte_lacks : (p : ℕ → Bool) (b : ℕ) → (b == 44) ≡ false → after 44 (encoded_byte p b) ≡ None
 encoded_byte_lacks p b h = grind (arith, after_nil, after_other)
 
-encoded_comma : (p : ℕ → Bool) → p 44 ≡ false → (s : List ℕ) → encoded_byte p 44 ++ s ≡ 44 ∷ s
-encoded_comma p h s = grind arith
-
 before_encoded : (p : ℕ → Bool) → p 44 ≡ false → (s : List ℕ) → before 44 (percent_encoding p s) ≡ percent_encoding p
     (before 44 s)
 before_encoded p h [] = grind (arith, encoded_nil, before_nil)
@@ -337,10 +331,6 @@ same_set [] rest None e = ap path_byte_set (before_other 63 44 rest refl)
 same_set [] rest (Some query) e = absurd (let k = sym (after_nil 63) ∙ e in cc)
 same_set (c ∷ h) rest None e = let k = lacks 63 c h e in ap path_byte_set (before_other 63 c (h ++ 44 ∷ rest) k.here)
 same_set (c ∷ h) rest (Some query) e = grind (arith, before_same, before_other)
-
-end_lacks_comma : (path : List ℕ) → path_byte_set path 44 ≡ false
-end_lacks_comma [] = refl
-end_lacks_comma (c ∷ s) = refl
 
 -- if h has no comma, the bytes before the first comma of the serialisation of h ++ 44 ∷ rest are the header text of h
 pub before-serialised : (h rest : List ℕ) → after 44 h ≡ None → before 44 (serialised (h ++ 44 ∷ rest)) ≡ header_text h
@@ -407,18 +397,6 @@ wrote_all p s i text w l = sym (append-nil text) ∙ ap (λ t. text ++ t) (sym (
 
 -- Rows
 
-none_written : (p : ℕ → Bool) (b : ℕ) → is_tab_or_newline b ≡ true → byte_encoding p b ≡ []
-none_written p b e = cond-true (is_tab_or_newline b) [] (encoded_byte p b) e
-
-byte_written : (p : ℕ → Bool) (b : ℕ) → is_tab_or_newline b ≡ false → byte_encoding p b ≡ encoded_byte p b
-byte_written p b e = cond-false (is_tab_or_newline b) [] (encoded_byte p b) e
-
-three_written : (p : ℕ → Bool) (b : ℕ) → p b ≡ true → length (encoded_byte p b) ≡ 3
-three_written p b e = ap length (cond-true (p b) _ (b ∷ []) e)
-
-one_written : (p : ℕ → Bool) (b : ℕ) → p b ≡ false → encoded_byte p b ≡ b ∷ []
-one_written p b e = cond-false (p b) _ (b ∷ []) e
-
 written_short : (p : ℕ → Bool) (b : ℕ) → length (byte_encoding p b) ≤ 3
 written_short p b = grind arith
 
@@ -438,19 +416,12 @@ kept_whole p (b ∷ s) h =
 abbrev other_than_plain : ℕ → Bool
 other_than_plain b = is_tab_or_newline b || (in_path_set b || ((b == 35) || ((b == 44) || (b == 63))))
 
-plain_is_none : (b : ℕ) → b < 256 → is_plain_path b ≡ true → other_than_plain b ≡ false
-plain_is_none b l h = grind arith
-
 -- the byte is written as it is in a path, and is none of '#', ',' and '?'
 pub record Plain (b : ℕ) : Type 0 where
   pub written_is : byte_encoding in_path_set b ≡ b ∷ []
   pub no_hash : (b == 35) ≡ false
   pub no_comma : (b == 44) ≡ false
   pub no_query : (b == 63) ≡ false
-
--- a byte that passes `is_plain_path` is `Plain`
-pub plain_byte : (b : ℕ) → b < 256 → is_plain_path b ≡ true → Plain b
-plain_byte b l h = grind arith
 
 -- a text of plain bytes is serialised as it is, as a header
 pub plain_serialised : (s : List ℕ) → ((k : ℕ) → k < length s → Plain (get_or s k 0))
@@ -529,7 +500,3 @@ encoded_text set s text h e = subst IsUtf8 (sym e) (IsUtf8-from_ascii (encoded (
 -- if the test whether the length is zero is true, the text is empty
 pub none_left : (s : List ℕ) (r : Bool) → r ≡ (length s == 0) → r ≡ true → s ≡ []
 none_left s r e h = nil_from_length s (eqb-true (length s) 0 (sym e ∙ h))
-
--- if the test whether the length is zero is false, the text is not empty
-pub some_left : (s : List ℕ) (r : Bool) → r ≡ (length s == 0) → r ≡ false → 0 < length s
-some_left s r e h = let k = eqb-false (length s) 0 (sym e ∙ h) in omega arith

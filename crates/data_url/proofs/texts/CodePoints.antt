@@ -14,18 +14,10 @@ use Rattle.std.proofs.lemmas.List.{get_or-reverse}
 
 -- Texts cut at the first code point that does not pass, and ends removed.
 
--- if `Some a` and `Some b` are equal, so are a and b
-pub some_equal : (a b : List ℕ) → Some a ≡ Some b → a ≡ b
-some_equal a b e = cc
-
 -- a text of no bytes has no code points
 pub no_chars : (r : List ℕ) → length r ≡ 0 → chars r ≡ []
 no_chars [] e = chars-nil
 no_chars (b ∷ r) e = absurd (omega arith)
-
--- a number in the range from low to high is at most high
-pub range_high : (low high c : ℕ) → is_in_range low high c ≡ true → c ≤ high
-range_high low high c r = leb-true c high (and_parts (nat_le low c) (nat_le c high) r).1
 
 -- the longest prefix of code points that pass
 abbrev pub front_of : (ℕ → Bool) → List ℕ → List ℕ

@@ -1,5 +1,5 @@
 use Rattle.std.proofs.Common.{◌∙◌, ap, arith, length}
-use Rattle.data_url.proofs.escapes.Walking.{gathers_escape, room_escape}
+use Rattle.data_url.proofs.escapes.Walking.{gathers_escape}
 use Rattle.data_url.proofs.escapes.cursor.Cursor.gather_escapes.Goals as goal
 
 pub loop-len-preserved : goal.loop-len-preserved
