@@ -1,7 +1,7 @@
 -- A closure or a decoder that gets a body piece by piece. For `decode_plain`, `decode_base64` and their callers.
 use Rattle.std.proofs.Common.{◌≡◌, ℕ, ◌+◌, ◌≤◌, List, [], ◌∷◌, ◌++◌, Bor, length, Option, None, Some, Result, Ok, Err}
 use Rattle.std.proofs.Common.{refl, sym, ap, ◌∙◌, subst, append_assoc, arith, length-append, suc, Bool, true, false}
-use Rattle.std.proofs.Common.{not, cond, ◌*◌, ◌-◌, min, filter, length-drop, length-take}
+use Rattle.std.proofs.Common.{cond, ◌*◌, min, filter, length-drop, length-take}
 use Rattle.std.specs.Prelude.{MatchOption, ◌==◌, MatchBool, IsErr}
 use Rattle.std.proofs.lemmas.List.{append-nil, length-map}
 use Rattle.data_url.specs.Errors.{IsRefused}
@@ -10,22 +10,21 @@ use Rattle.data_url.specs.Fetch.{Good, outcome_bytes, plain_body, Bad, outcome, 
 use Rattle.data_url.specs.Pieces.{Walk, walk_at_front}
 use Rattle.data_url.specs.Steps.Chunks.{GivesBytes, IsOver, Takes}
 use Rattle.data_url.specs.Steps.Tail.{IsBodyEnd}
-use Rattle.data_url.specs.DataUrl.{Decodes, HandsOut, Answers, IsUrlOf, is_base64, url_body, url_tail}
+use Rattle.data_url.specs.DataUrl.{Decodes, HandsOut, IsUrlOf, url_body, url_tail}
 use Rattle.data_url.specs.declared.forgiving_base64.DecodeError.TheVariants.{WriteError, InvalidBase64}
 use Rattle.data_url.proofs.forgiving_base64.Padding.{some_not_none}
-use Rattle.data_url.proofs.runs.Runs.{joined_pieces-append, match_none, refusal-append, run-append, prefix_after}
+use Rattle.data_url.proofs.runs.Runs.{joined_pieces-append, refusal-append, run-append, prefix_after}
 use Rattle.std.specs.Char.{digit_value}
-use Rattle.data_url.specs.Base64.{decoded, complete_bytes, is_valid, kind_of, after_groups, before_place, first_fault}
+use Rattle.data_url.specs.Base64.{decoded, complete_bytes, kind_of, after_groups, before_place}
 use Rattle.data_url.specs.Base64.{groups, is_symbol, rest_bytes, symbol_value, values}
-use Rattle.data_url.specs.Url.{before, without_tabs_and_newlines, front, is_tab_or_newline, after}
-use Rattle.data_url.specs.Url.{is_c0_control_or_space, trimmed_text, without_front}
+use Rattle.data_url.specs.Url.{before, without_tabs_and_newlines, front, after}
+use Rattle.data_url.specs.Url.{trimmed_text}
 use Rattle.data_url.specs.Percent.{is_escape, percent_decoding}
 use Rattle.data_url.specs.Decoder.{Feeds, Finishes, IsAll, State, start}
 use Rattle.data_url.specs.Steps.Whole.{DecodesText}
 use Rattle.data_url.specs.declared.forgiving_base64.DecodeError.{DecodeError}
 use Rattle.data_url.proofs.forgiving_base64.Steps.{feeds_err, feeds_then}
 use Rattle.data_url.proofs.forgiving_base64.WholeTexts.{decodes_finished, decodes_refused, run_keeps, run_reads}
-use Rattle.std.specs.List.{prefix_len, suffix_len}
 use Rattle.data_url.specs.declared.DataUrl.{DataUrl}
 use Rattle.data_url.proofs.forgiving_base64.Groups.{groups_length}
 

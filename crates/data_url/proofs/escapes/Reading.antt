@@ -4,7 +4,7 @@ use Rattle.std.proofs.Common.{◌∙◌, inl, inr, eqb-true, zero, suc, ◌-◌,
 use Rattle.std.proofs.Common.{get_or, subst, append_assoc, arith, length-append}
 use Rattle.std.specs.Prelude.{◌==◌, ◌&&◌, slice_range}
 use Rattle.std.specs.Char.{digit_value, is_ascii_hexdigit}
-use Rattle.std.proofs.lemmas.Bool.{and_left, and_right, both_ways, cases_Bool, cond-true, cond-false, ne_eqb}
+use Rattle.std.proofs.lemmas.Bool.{and_left, both_ways, cases_Bool, cond-true, cond-false, ne_eqb}
 use Rattle.data_url.specs.Url.{before, after, without_tabs_and_newlines, front, is_tab_or_newline}
 use Rattle.data_url.specs.Percent.{percent_decoding}
 use Rattle.data_url.specs.Fetch.{plain_body}
@@ -15,7 +15,7 @@ use Rattle.data_url.proofs.texts.Bytes.{dropped_passes}
 use Rattle.data_url.proofs.percent.Encoding.{decoded_escape, decoded_keeps, two_digits}
 use Rattle.std.proofs.lemmas.List.{drop_more, length-drop}
 use Rattle.std.proofs.lemmas.List.Sums.{prefix_len-drop_yes, prefix_len-drop_no, prefix_len-le-length}
-use Rattle.data_url.specs.Steps.Looks.{before_percent, paid_looks}
+use Rattle.data_url.specs.Steps.Looks.{paid_looks}
 use Rattle.data_url.specs.Steps.Tail.{BeginsFragment}
 use Rattle.data_url.specs.Steps.Walk.{EndsAt, EscapeAt, IsClear, LonePercent, Reads}
 use Rattle.data_url.specs.Steps.Window.{is_marked}

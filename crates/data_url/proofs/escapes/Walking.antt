@@ -1,26 +1,25 @@
 -- The steps of a walk, its pieces, and the bytes that it gathers. For `Cursor` and `Pieces`.
 use Rattle.std.proofs.Common.{◌≡◌, ℕ, zero, suc, ◌+◌, ◌-◌, ◌<◌, ◌≤◌, true, false, List, [], ◌∷◌, ◌++◌, length, take}
-use Rattle.std.proofs.Common.{drop, get_or, None, Some, refl, sym, ap, ap₂, ◌∙◌, subst, inl, inr, arith, length-append}
-use Rattle.std.proofs.Common.{eqb-true, Bool, not, ◌||◌, ◌≢◌, ◌&&◌, Option, is_some, ◌*◌, cond, set, append_assoc}
-use Rattle.std.specs.Prelude.{◌==◌, slice_range, IfSome, MatchBool, IfNone}
-use Rattle.std.proofs.lemmas.Bool.{cases_Bool, ne_eqb, cases_lt}
+use Rattle.std.proofs.Common.{drop, get_or, None, Some, refl, sym, ap, ◌∙◌, subst, inl, inr, arith, length-append}
+use Rattle.std.proofs.Common.{eqb-true, Bool, not, ◌||◌, ◌≢◌, Option, ◌*◌, cond, set, append_assoc}
+use Rattle.std.specs.Prelude.{◌==◌, slice_range, IfNone}
+use Rattle.std.proofs.lemmas.Bool.{cases_Bool}
 use Rattle.std.proofs.lemmas.List.{drop_more, drop-drop, length-drop, drop_all, append-nil, take_more_set}
-use Rattle.std.proofs.lemmas.List.{length-take-le, nil_from_length}
-use Rattle.data_url.specs.Pieces.{IsInFront, IsSkipped, text_of, IsEscape, IsPiece, IsStretch, bytes_of, bytes_of_next}
-use Rattle.data_url.specs.Pieces.{escape, has_ended, is_slice_end, walk_of}
-use Rattle.data_url.specs.Steps.Walk.{IsClear, Reads, Ended, EscapeAt, IsBlock, IsPassed, KeepsBlock, LonePercent}
-use Rattle.data_url.specs.Steps.Walk.{Looking, GoesOn, IsNextMark, Knows, KnowsAhead, LooksOn, Stays, Gathers, HasRoom}
+use Rattle.std.proofs.lemmas.List.{length-take-le}
+use Rattle.data_url.specs.Pieces.{IsInFront, IsSkipped, text_of, IsEscape, IsPiece, IsStretch, bytes_of}
+use Rattle.data_url.specs.Pieces.{has_ended, is_slice_end, walk_of}
+use Rattle.data_url.specs.Steps.Walk.{IsClear, Reads, Ended, EscapeAt, IsPassed, KeepsBlock, LonePercent}
+use Rattle.data_url.specs.Steps.Walk.{Looking, GoesOn, IsNextMark, Knows, KnowsAhead, LooksOn, Stays, Gathers}
 use Rattle.data_url.specs.Steps.Walk.{MayGather, Moves}
 use Rattle.data_url.specs.Url.{before, after, front, is_tab_or_newline, without_tabs_and_newlines}
 use Rattle.data_url.proofs.escapes.Reading.{paid_byte, paid_le, paid_percent, reads_clear, reads_escape}
 use Rattle.data_url.proofs.escapes.Reading.{reads_passed, reads_percent, reads_then, ends_empty}
-use Rattle.data_url.proofs.escapes.Marks.{take_none, looking_clear}
+use Rattle.data_url.proofs.escapes.Marks.{looking_clear}
 use Rattle.data_url.proofs.texts.Bytes.{before_all, after_nil, after_other, after_same, dropped_keeps, dropped_nil}
 use Rattle.data_url.proofs.texts.Bytes.{dropped_passes, is_cut, without_tabs_and_newlines-append}
-use Rattle.data_url.specs.Steps.Digits.{DigitsFound, NoDigits}
+use Rattle.data_url.specs.Steps.Digits.{DigitsFound}
 use Rattle.data_url.specs.Steps.Looks.{paid_looks}
 use Rattle.data_url.specs.Steps.Tail.{BeginsFragment, IsBodyEnd, rest_fragment}
-use Rattle.data_url.specs.Steps.Window.{is_marked}
 use Rattle.data_url.specs.declared.escapes.cursor.Cursor.{Cursor}
 use Rattle.data_url.specs.declared.escapes.Piece.{Piece}
 use Rattle.data_url.specs.declared.escapes.Piece.TheVariants.{Byte, Slice}

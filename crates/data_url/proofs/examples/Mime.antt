@@ -1,14 +1,14 @@
 -- MIME types with their records and printed texts. Each record has a derivation in the grammar; each printed text is
 -- computed.
-use Rattle.std.proofs.Common.{◌≡◌, ℕ, Bool, true, false, List, [], ◌∷◌, ◌++◌, Option, None, Some, inl, inr, codes}
-use Rattle.std.proofs.Common.{append-nil, eq-eqb, eqb, refl, subst, sym, ◌∙◌, ap, map}
+use Rattle.std.proofs.Common.{◌≡◌, ℕ, Bool, true, false, List, [], ◌∷◌, ◌++◌, Option, None, Some, inl, codes}
+use Rattle.std.proofs.Common.{append-nil, eq-eqb, refl, subst, sym, ◌∙◌, ap, map}
 use Rattle.std.specs.Prelude.{◌==◌, IsTrue, ◌≢◌, not, ◌&&◌}
 use Rattle.std.specs.List.{AllByRecursion, flat_map, list_all}
 use Rattle.std.specs.Char.{to_ascii_lowercase}
 use Rattle.data_url.specs.CodePoints.{ends_name, is_http_whitespace, is_semicolon}
 use Rattle.data_url.specs.Mime.{BeginsParameters, DoesNotBegin, DoesNotEnd, Escaped, GivesValue, HasNoRecord, IsHead}
-use Rattle.data_url.specs.Mime.{IsParameter, IsRecordOf, IsTrimmed, IsTrimmedEnd, IsUnit, Item, Items, Pair, Parses}
-use Rattle.data_url.specs.Mime.{Plain, Quoted, QuotedUnit, Record, default_record, is_quote, is_token_text, kept_pairs}
+use Rattle.data_url.specs.Mime.{IsParameter, IsTrimmed, IsTrimmedEnd, IsUnit, Item, Items, Pair, Parses}
+use Rattle.data_url.specs.Mime.{Plain, Quoted, QuotedUnit, Record, is_quote, is_token_text, kept_pairs}
 use Rattle.data_url.specs.Mime.{plain, printed, quoted, unclosed, unit_text, unit_value, unless_empty}
 use Rattle.data_url.proofs.examples.Literals.{on_literals}
 use Rattle.data_url.proofs.mime.Items.{every_from_all, has_parts, parameters_in, subtype_in, trimmed_of, type_in}

@@ -1,7 +1,7 @@
 -- Whole texts and the result of the data: URL processor for them, by computation.
-use Rattle.std.proofs.Common.{◌≡◌, [], ◌∷◌, ◌++◌, None, Some, codes, refl}
-use Rattle.data_url.specs.Base64.{Padding, UnexpectedSymbol}
-use Rattle.data_url.specs.Fetch.{Accepted, Bad, Good, NoComma, NoScheme, staged, tail_of}
+use Rattle.std.proofs.Common.{◌≡◌, [], ◌∷◌, ◌++◌, None, codes, refl}
+use Rattle.data_url.specs.Base64.{UnexpectedSymbol}
+use Rattle.data_url.specs.Fetch.{Accepted, Bad, Good, NoScheme, staged}
 use Rattle.data_url.proofs.examples.Literals.{on_literals}
 
 escape : staged (codes "data:,Hello%20World!") ≡ Accepted [] (Good (codes "Hello World!")) None

@@ -1,31 +1,29 @@
 -- Groups of four symbols, and texts that are fed in two parts.
-use Rattle.std.proofs.Common.{inl, inr, ◌≡◌, ℕ, suc, ◌+◌, ◌-◌, ◌*◌, ◌%◌, ◌<◌, ◌≤◌, true, ◌&&◌, ◌||◌, List, [], ◌∷◌}
-use Rattle.std.proofs.Common.{◌++◌, map, length, get_or, take, drop, Fits, w8, refl, sym, ap, ap₂, ◌∙◌, subst, arith}
-use Rattle.std.proofs.Common.{length-take, length-take-le, take-add, zero, false, min, replicate, Option, None, Some}
-use Rattle.std.proofs.Common.{is_some, append_assoc, length-append}
+use Rattle.std.proofs.Common.{◌≡◌, ℕ, suc, ◌+◌, ◌-◌, ◌*◌, ◌%◌, ◌≤◌, true, ◌&&◌, ◌||◌, List, [], ◌∷◌}
+use Rattle.std.proofs.Common.{◌++◌, map, length, get_or, take, drop, Fits, w8, refl, ap, ap₂, ◌∙◌, arith}
+use Rattle.std.proofs.Common.{length-take, length-take-le, take-add, false, min, None}
+use Rattle.std.proofs.Common.{append_assoc, length-append}
 use Rattle.std.specs.List.{list_all, prefix_len, filter, list_any}
-use Rattle.std.proofs.lemmas.Bool.{and_parts, cases_lt}
+use Rattle.std.proofs.lemmas.Bool.{and_parts}
 use Rattle.std.proofs.lemmas.List.{append-nil, get_or-take, get_or_past, length-map, take-append-drop, take-map}
 use Rattle.std.proofs.lemmas.List.{take-take, take_at, map-append, length-replicate}
-use Rattle.std.proofs.lemmas.List.Elements.{All-from_get_or, filter-append}
+use Rattle.std.proofs.lemmas.List.Elements.{filter-append}
 use Rattle.std.proofs.lemmas.List.Folds.{list_all-append}
 use Rattle.std.proofs.lemmas.List.Sums.{list_all-from_AllPass, prefix_len-le-length, prefix_len_passes}
 use Rattle.std.proofs.Math.Seq.{take-append-add}
 use Rattle.data_url.specs.Base64.{group_bytes, group_number, groups, is_symbol, symbol_value, values, after_groups}
 use Rattle.data_url.specs.Base64.{decoded, complete_bytes, first_fault, is_valid, left_padding, left_symbols, left_text}
-use Rattle.data_url.specs.Base64.{rest_bytes}
 use Rattle.std.specs.Char.{is_ascii_whitespace}
 use Rattle.data_url.specs.Steps.Blocks.{Fills, is_symbol_or_space}
 use Rattle.data_url.specs.Steps.Lanes.{value_of}
 use Rattle.data_url.proofs.forgiving_base64.Vectors.{groups_whole, value_is}
 use Rattle.data_url.proofs.forgiving_base64.Padding.{every_list_all, filter_all, after_groups-append, after_groups-map}
-use Rattle.data_url.proofs.forgiving_base64.Padding.{any_of_text, before-append, before_fault, before_none, done_is}
+use Rattle.data_url.proofs.forgiving_base64.Padding.{before-append, before_none, done_is}
 use Rattle.data_url.proofs.forgiving_base64.Padding.{every_after, fault-append, fault_byte, fault_invalid, fault_none}
-use Rattle.data_url.proofs.forgiving_base64.Padding.{fault_some, fault_text, groups-append, is_pad, kind_by, kind_is}
+use Rattle.data_url.proofs.forgiving_base64.Padding.{fault_some, fault_text, groups-append, is_pad, kind_is}
 use Rattle.data_url.proofs.forgiving_base64.Padding.{length_alike, no_fault_valid, pads_of_text, symbols_of_text}
-use Rattle.data_url.proofs.forgiving_base64.Padding.{fits_with, any_filter, filter_every, is_nonempty}
+use Rattle.data_url.proofs.forgiving_base64.Padding.{any_filter, filter_every}
 use Rattle.data_url.specs.Laws.{GoesOn, TwoFeeds}
-use Rattle.data_url.specs.Mime.{Every}
 
 -- Groups at the start of a text.
 

@@ -5,18 +5,17 @@ use Rattle.std.proofs.Common.{append_assoc, ◌<◌, ◌≤◌, arith, ◌%◌, 
 use Rattle.std.specs.List.{filter, find, list_any, range_with_len, list_all}
 use Rattle.std.proofs.lemmas.List.{append-nil, get_or_at, take_at, length_push, length-replicate}
 use Rattle.std.proofs.lemmas.List.Folds.{list_any-append}
-use Rattle.std.proofs.lemmas.Bool.{cases_Bool, false≢true, true≢false, cases_eq, eqb-true, eq-eqb, ne_eqb, eqb-false}
-use Rattle.std.proofs.lemmas.Bool.{not-true, not_from_false, cond-false, cond_both, and_from, and_right}
-use Rattle.std.proofs.lemmas.Bool.{false_from_ne_true, agree_below_at, and_parts, or_cases}
+use Rattle.std.proofs.lemmas.Bool.{false≢true, true≢false, eqb-true, eq-eqb, ne_eqb, eqb-false}
+use Rattle.std.proofs.lemmas.Bool.{not-true, not_from_false, cond-false, and_from, and_right}
+use Rattle.std.proofs.lemmas.Bool.{false_from_ne_true, agree_below_at, and_parts}
 use Rattle.data_url.specs.Base64.{before_place, first_fault, is_fault, is_symbol, is_valid, without_padding}
 use Rattle.data_url.specs.Base64.{without_last_padding, AlphabetSymbolAfterPadding, Kind, LoneAlphabetSymbol, Padding}
-use Rattle.data_url.specs.Base64.{UnexpectedSymbol, after_groups, without_whitespace, complete_bytes, group_bytes}
-use Rattle.data_url.specs.Base64.{group_number, groups, kind_at, kind_of, values}
+use Rattle.data_url.specs.Base64.{UnexpectedSymbol, after_groups, without_whitespace, complete_bytes}
+use Rattle.data_url.specs.Base64.{groups, kind_at, kind_of, values}
 use Rattle.data_url.specs.Mime.{Every}
 use Rattle.std.proofs.Math.Bool.{or-false, or_assoc}
 use Rattle.data_url.specs.Facts.{IsFirstFault, Fits, IsSymbolsAndPadding, PaddingFits}
 use Rattle.std.proofs.lemmas.List.Elements.{filter-append}
-use Rattle.std.specs.Int.{is_in_range}
 use Rattle.std.specs.Char.{is_ascii_whitespace}
 
 -- A walk over a text that remembers whether it has seen padding, with the classes of bytes as variables.

@@ -1,12 +1,12 @@
 -- What a decoder does with more bytes, and at its end. For `Decoder`.
 use Rattle.std.proofs.Common.{◌≡◌, ◌≢◌, ℕ, suc, zero, ◌+◌, ◌*◌, ◌%◌, ◌<◌, ◌≤◌, Bool, true, false, cond, eqb, get_or}
-use Rattle.std.proofs.Common.{take, List, [], ◌∷◌, ◌++◌, length, map, min, replicate, None, Some, is_some, Result, Ok}
+use Rattle.std.proofs.Common.{take, List, [], ◌∷◌, ◌++◌, length, map, min, replicate, None, Some, Result, Ok}
 use Rattle.std.proofs.Common.{Err, refl, ap, sym, ◌∙◌, subst, arith, length-append, drop, Option, append_assoc}
 use Rattle.std.specs.Prelude.{MatchOption, MatchBool, MatchResult}
 use Rattle.std.specs.List.{filter, list_any}
 use Rattle.std.proofs.lemmas.List.{append-nil, length-map, length-replicate, take-append-drop}
 use Rattle.std.proofs.lemmas.List.Elements.{filter-append}
-use Rattle.std.proofs.lemmas.Bool.{false≢true, true≢false, ne_eqb}
+use Rattle.std.proofs.lemmas.Bool.{false≢true, true≢false}
 use Rattle.data_url.specs.Base64.{AlphabetSymbolAfterPadding, Kind, LoneAlphabetSymbol, Padding, UnexpectedSymbol}
 use Rattle.data_url.specs.Base64.{after_groups, decoded, complete_bytes, first_fault, group_bytes, group_number, groups}
 use Rattle.data_url.specs.Base64.{is_symbol, is_valid, kind_of, left_padding, left_symbols, left_text, rest_bytes}
@@ -19,13 +19,13 @@ use Rattle.data_url.specs.Run.{IsRun, or_error, IsPrefix, joined_pieces, refusal
 use Rattle.data_url.specs.Steps.Holding.{Adds, Flushes, Refuses}
 use Rattle.data_url.specs.declared.forgiving_base64.DecodeError.{DecodeError}
 use Rattle.data_url.specs.declared.forgiving_base64.DecodeError.TheVariants.{WriteError, InvalidBase64}
-use Rattle.data_url.proofs.runs.Runs.{match_none, prefix_all, joined_pieces-append, match_alike, match_at, match_map}
-use Rattle.data_url.proofs.runs.Runs.{match_at_none, prefix_after, prefix_trans, refusal-append, run-append}
+use Rattle.data_url.proofs.runs.Runs.{prefix_all, joined_pieces-append, match_alike, match_map}
+use Rattle.data_url.proofs.runs.Runs.{prefix_trans, refusal-append, run-append}
 use Rattle.data_url.proofs.forgiving_base64.Padding.{any_of_text, before-append, before_fault, before_none, classes}
 use Rattle.data_url.proofs.forgiving_base64.Padding.{done_is, fault-append, fault_byte, fault_pads, fault_some}
-use Rattle.data_url.proofs.forgiving_base64.Padding.{fault_text, is_pad, kind_by, kind_fault, kind_is, no_fault_valid}
-use Rattle.data_url.proofs.forgiving_base64.Padding.{none_fault, pads_of_text, symbols_of_text, fits_with, from_fits}
-use Rattle.data_url.proofs.forgiving_base64.Padding.{bad, is_bad, some_not_none, space_alone, symbol_alone}
+use Rattle.data_url.proofs.forgiving_base64.Padding.{fault_text, is_pad, kind_is, no_fault_valid}
+use Rattle.data_url.proofs.forgiving_base64.Padding.{none_fault, pads_of_text, symbols_of_text, fits_with}
+use Rattle.data_url.proofs.forgiving_base64.Padding.{bad, space_alone, symbol_alone}
 use Rattle.data_url.proofs.forgiving_base64.Padding.{done_stays, fault-append_some, kind_stays}
 use Rattle.data_url.specs.Steps.Calls.{CallsOnce}
 use Rattle.data_url.specs.Steps.Ending.{IsFaultAtEnd}

@@ -1,29 +1,28 @@
 -- The stages of the Standard, from the input to its record. For `DataUrl::process`.
-use Rattle.std.proofs.Common.{◌≡◌, ℕ, zero, suc, ◌+◌, ◌-◌, ◌/◌, ◌%◌, ◌<◌, ◌≤◌, Bool, false, cond, List, [], ◌∷◌, ◌++◌}
+use Rattle.std.proofs.Common.{◌≡◌, ℕ, zero, suc, ◌+◌, ◌-◌, ◌<◌, ◌≤◌, Bool, false, List, [], ◌∷◌, ◌++◌}
 use Rattle.std.proofs.Common.{length, get_or, take, drop, reverse, Option, None, Some, refl, sym, ap, ◌∙◌, inl, inr}
-use Rattle.std.proofs.Common.{subst, ⊎_elim, arith, eqb-true, true, map, codes, ◌≢◌, is_some, IsTrue, Result}
-use Rattle.std.specs.Prelude.{◌==◌, ◌||◌, nat_lt, option_and_then, unwrap_or}
+use Rattle.std.proofs.Common.{subst, arith, true, map, codes, ◌≢◌, IsTrue, Result}
+use Rattle.std.specs.Prelude.{◌==◌, option_and_then}
 use Rattle.std.specs.List.{prefix_len, suffix_len}
-use Rattle.std.specs.Str.{IsAscii, bytes_eq, chars}
-use Rattle.std.proofs.lemmas.Bool.{cases_Bool, cases_lt, cond_both, eqb-false, le-leb, lt-leb, ltb-false, or_parts}
+use Rattle.std.specs.Str.{IsAscii, chars}
+use Rattle.std.proofs.lemmas.Bool.{cases_Bool}
 use Rattle.std.proofs.lemmas.Bool.{cond-true, cond-false, both_ways, ne_eqb, eq-eqb}
 use Rattle.std.proofs.lemmas.List.{get_or-drop, get_or-reverse, get_or-take, get_or_past, length-drop, length-reverse}
 use Rattle.std.proofs.lemmas.List.{length-take, drop_at, length-map, take_at, drop_all, drop_more}
-use Rattle.data_url.specs.Url.{before, after, encoded_byte, hex_digit, in_path_set, in_query_set}
+use Rattle.data_url.specs.Url.{before, after}
 use Rattle.data_url.specs.Url.{is_c0_control_or_space, percent_encoding, trimmed_text, without_end, after_scheme}
 use Rattle.data_url.specs.Url.{cleaned_text, without_tabs_and_newlines, fragment, front, is_tab_or_newline, serialised}
 use Rattle.data_url.specs.Url.{in_fragment_set}
-use Rattle.data_url.specs.Fetch.{is_space, stripped_header, before_comma, encoded_body, header_of, staged_front}
-use Rattle.data_url.specs.Fetch.{tail_of, before_base64, before_last, before_semicolon, before_word, has_base64_suffix}
-use Rattle.data_url.specs.Fetch.{last_bytes, media_of, mime_text, with_plain, Accepted, Good, NoComma, NoScheme}
-use Rattle.data_url.specs.Fetch.{Outcome, outcome, plain_body, staged, staged_after, staged_parts}
+use Rattle.data_url.specs.Fetch.{is_space, stripped_header, encoded_body, header_of, staged_front}
+use Rattle.data_url.specs.Fetch.{tail_of, before_base64, before_semicolon, before_word, has_base64_suffix}
+use Rattle.data_url.specs.Fetch.{media_of, mime_text, with_plain, Accepted, Good, NoComma, NoScheme}
+use Rattle.data_url.specs.Fetch.{Outcome, outcome, plain_body, staged, staged_after}
 use Rattle.data_url.specs.Steps.Header.{IsPrintable, header_text, IsHeaderOf, IsRecordFor}
-use Rattle.data_url.proofs.percent.Encoding.{IsBytes, encoded_cons, encoded_nil, header_byte_set, header_nil}
-use Rattle.data_url.proofs.percent.Encoding.{header_path, header_query, path_byte_set, Recoded, RecodedTails}
+use Rattle.data_url.proofs.percent.Encoding.{IsBytes, encoded_cons, encoded_nil, header_nil}
+use Rattle.data_url.proofs.percent.Encoding.{header_path, header_query, Recoded, RecodedTails}
 use Rattle.data_url.proofs.percent.Encoding.{before-serialised, recoded-decoded, recoded_tails, serialised_recoded}
 use Rattle.std.specs.Option.{option_map}
 use Rattle.std.specs.Char.{to_ascii_lowercase}
-use Rattle.std.proofs.lemmas.Slice.Eq.{bytes_eq-Decides}
 use Rattle.data_url.specs.Percent.{percent_decoding}
 use Rattle.data_url.specs.Steps.Front.{HasNoScheme, IsHeaderAndTail, IsSchemeAndRest}
 use Rattle.data_url.proofs.texts.Bytes.{before-append, before_nil, before_other, before_same, after-append}

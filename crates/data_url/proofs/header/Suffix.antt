@@ -1,15 +1,15 @@
 -- The suffix `;base64` of a header. For `split_suffix`.
 use Rattle.std.proofs.Common.{◌≡◌, ◌≢◌, ℕ, ◌+◌, ◌-◌, ◌<◌, ◌≤◌, List, [], ◌∷◌, length, get_or, take, drop, map, codes}
-use Rattle.std.proofs.Common.{None, Some, sym, ap, ◌∙◌, subst, arith, suc, Bool, true, false, cond, ◌++◌, length-append}
-use Rattle.std.proofs.Common.{reverse, Option, is_some, refl, ⊎_elim, append_assoc, eqb}
-use Rattle.std.specs.Prelude.{option_and_then, ◌==◌}
+use Rattle.std.proofs.Common.{None, Some, sym, ap, ◌∙◌, arith, suc, Bool, false, ◌++◌, length-append}
+use Rattle.std.proofs.Common.{reverse, Option, is_some, refl, append_assoc, eqb}
+use Rattle.std.specs.Prelude.{option_and_then}
 use Rattle.std.specs.Char.{to_ascii_lowercase}
 use Rattle.std.specs.List.{suffix_len, prefix_len}
 use Rattle.std.specs.Str.{bytes_eq}
-use Rattle.std.proofs.lemmas.Bool.{cond-true, cond-false, false_from_ne_true, agree_below_at, both_ways, cases_lt}
+use Rattle.std.proofs.lemmas.Bool.{cond-true, cond-false, false_from_ne_true}
 use Rattle.std.proofs.lemmas.Bool.{cond_both, eqb-true}
-use Rattle.std.proofs.lemmas.List.{drop_all, drop_more, get_or-take, length-drop, length-map, length-take}
-use Rattle.std.proofs.lemmas.List.{length-take-le, take-take, drop-append-le, get_or-drop, get_or-map, get_or_past}
+use Rattle.std.proofs.lemmas.List.{drop_all, drop_more, get_or-take, length-drop, length-map}
+use Rattle.std.proofs.lemmas.List.{length-take-le, take-take, drop-append-le, get_or-drop, get_or-map}
 use Rattle.std.proofs.lemmas.List.{reverse-append}
 use Rattle.std.proofs.lemmas.List.Sums.{suffix_len-le-length, prefix_len-drop_no, prefix_len-le-length}
 use Rattle.std.proofs.lemmas.Slice.Eq.{bytes_eq-Decides}

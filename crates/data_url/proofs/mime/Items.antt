@@ -1,13 +1,13 @@
 -- A text has one list of items, and at most one record.
 use Rattle.std.proofs.Common.{◌≡◌, ℕ, zero, suc, ◌<◌, ◌≤◌, ◌==◌, Bool, false, not, cond, List, [], ◌∷◌, ◌++◌, Option}
 use Rattle.std.proofs.Common.{None, Some, map, length, refl, sym, ap, ◌∙◌, subst, append_assoc, append-nil, arith}
-use Rattle.std.proofs.Common.{length-append, eqb-true, ⊎_elim, true, ◌||◌}
-use Rattle.std.proofs.lemmas.Bool.{both_ways, cond-false, cond_both, not-false, or_cases, and_from, and_parts}
+use Rattle.std.proofs.Common.{length-append, eqb-true, true}
+use Rattle.std.proofs.lemmas.Bool.{cond_both, not-false, and_from, and_parts}
 use Rattle.std.specs.Char.{to_ascii_lowercase}
 use Rattle.data_url.specs.CodePoints.{ends_name, is_http_whitespace, is_semicolon, is_token}
 use Rattle.data_url.specs.Mime.{BeginsParameters, DoesNotBegin, Every, GivesValue, IsParameter, IsTrimmedEnd, Item}
 use Rattle.data_url.specs.Mime.{Items, Quoted, QuotedOpen, is_quote, lone_equals, nothing, plain, quoted, unclosed}
-use Rattle.data_url.specs.Mime.{unless_empty, DoesNotEnd, IsHead, IsTrimmed, Record, is_token_text, kept_pairs}
+use Rattle.data_url.specs.Mime.{unless_empty, DoesNotEnd, IsHead, IsTrimmed, Record, is_token_text}
 use Rattle.data_url.specs.Facts.{HasOneItemList, HasAtMostOneRecord}
 use Rattle.data_url.specs.Steps.Parsing.{HasParameterBefore}
 use Rattle.data_url.proofs.texts.CodePoints.{after_begins, after_front, after_is, front_is, front_joined, front_of}

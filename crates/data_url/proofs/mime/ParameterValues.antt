@@ -1,13 +1,12 @@
 -- Values of parameters, and texts without white space at an end. For `cuts.rt` and `read_plain`.
-use Rattle.std.proofs.Common.{◌≡◌, ℕ, suc, ◌+◌, ◌-◌, ◌<◌, ◌==◌, ◌||◌, Bool, true, false, not, List, [], ◌∷◌, ◌++◌}
+use Rattle.std.proofs.Common.{◌≡◌, ℕ, suc, ◌+◌, ◌-◌, ◌<◌, ◌==◌, Bool, true, false, not, List, [], ◌∷◌, ◌++◌}
 use Rattle.std.proofs.Common.{length, get_or, take, drop, encode_utf8, encode_utf8_all, refl, sym, ap, ◌∙◌, subst}
 use Rattle.std.proofs.Common.{append_assoc, append-nil, arith, inl, inr, take-append-drop, length-append, length-drop}
-use Rattle.std.proofs.Common.{length-take-le, eqb-true, ⊎_elim, ◌/◌, ◌≤◌, ◌&&◌, cond, Option, None, Some, Bor, map, ap₂}
-use Rattle.std.proofs.Common.{ltb}
+use Rattle.std.proofs.Common.{length-take-le, eqb-true, ◌≤◌, ◌&&◌, Option, None, Some, Bor, map}
 use Rattle.std.proofs.Math.Seq.{get_or-append_seam}
-use Rattle.std.proofs.lemmas.Bool.{and_parts, cases_Bool, cases_lt, eq-eqb, false_from_ne_true, false≢true, not-false}
-use Rattle.std.proofs.lemmas.Bool.{not_from_false, or_cases, agree_below_at, cond-true, ne_eqb, and_left, cond-false}
-use Rattle.std.proofs.lemmas.Bool.{cond_both, le-ltb, not-true, or_parts, and_from}
+use Rattle.std.proofs.lemmas.Bool.{and_parts, eq-eqb, false_from_ne_true, false≢true, not-false}
+use Rattle.std.proofs.lemmas.Bool.{agree_below_at, ne_eqb, cond-false}
+use Rattle.std.proofs.lemmas.Bool.{and_from}
 use Rattle.std.proofs.lemmas.List.{get_or-drop, get_or-take, get_or_append_left}
 use Rattle.std.proofs.lemmas.List.Folds.{list_all-append, list_all_at}
 use Rattle.std.proofs.lemmas.List.Sums.{prefix_len-le-length, prefix_len_stops, suffix_len-le-length, prefix_len_passes}
@@ -16,7 +15,7 @@ use Rattle.data_url.proofs.texts.CodePoints.{after_begins, front_of, front_passe
 use Rattle.data_url.proofs.texts.CodePoints.{in_parts}
 use Rattle.data_url.proofs.mime.TokenTexts.{drop_front, every_ascii, is_split, take_front, whole_front}
 use Rattle.data_url.proofs.header.Serialising.{suffix_passes, suffix_stops}
-use Rattle.std.proofs.lemmas.Str.{IsCharBoundary-before_ascii, IsUtf8-drop, IsUtf8-take, chars-IsAscii, chars-append}
+use Rattle.std.proofs.lemmas.Str.{IsUtf8-drop, IsUtf8-take, chars-IsAscii, chars-append}
 use Rattle.std.proofs.lemmas.Str.{chars-nil, chars_past_char, encode_ascii, encodes-append, encodes-chars}
 use Rattle.std.proofs.lemmas.Str.{IsUtf8-encode, cons_from_encodes}
 use Rattle.std.specs.Str.{IsCharBoundary, IsUtf8, chars, all_scalars}
@@ -27,8 +26,7 @@ use Rattle.data_url.specs.Steps.Parsing.{IsTrimmedFront, is_escaped, IsValue, is
 use Rattle.data_url.specs.Steps.Parsing.{is_unquoted_byte}
 use Rattle.data_url.proofs.mime.Items.{all_from_every}
 use Rattle.std.specs.Char.{IsScalar}
-use Rattle.std.specs.Int.{is_in_range}
-use lib.Utf8.{encode, next, scalar}
+use lib.Utf8.{encode}
 use Rattle.data_url.specs.declared.mime.values.Value.{Value}
 use Rattle.data_url.proofs.mime.Quoted.{unescaped, unescaped_is}
 use Rattle.data_url.specs.declared.mime.values.Value.TheVariants as slices

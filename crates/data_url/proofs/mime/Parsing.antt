@@ -11,8 +11,8 @@ use Rattle.data_url.specs.CodePoints.{is_http_whitespace, is_token, ends_name, i
 use Rattle.data_url.specs.Mime.{BeginsParameters, DoesNotBegin, Every, IsHead, IsTrimmed, IsTrimmedEnd, is_token_text}
 use Rattle.data_url.specs.Mime.{Quoted, QuotedOpen, Without, is_quote, nothing, plain, quoted, unclosed, unless_empty}
 use Rattle.data_url.specs.Steps.Parsing.{HasNoHead, IsTrimmedFront, HasParameterBefore, HasValueBefore}
-use Rattle.data_url.proofs.texts.CodePoints.{after_front, after_is, front_is, front_of}
-use Rattle.data_url.proofs.mime.Items.{ends_of_rest, tail_equal, all_from_every, every_token, gap_no_token}
+use Rattle.data_url.proofs.texts.CodePoints.{after_is, front_is}
+use Rattle.data_url.proofs.mime.Items.{tail_equal, all_from_every, every_token, gap_no_token}
 use Rattle.data_url.proofs.mime.Items.{slash_no_token, trimmed_is, semicolon_from}
 use Rattle.std.specs.Char.{to_ascii_lowercase}
 

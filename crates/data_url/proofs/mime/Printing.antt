@@ -1,14 +1,13 @@
 -- Printed records, and records of the same texts. For `Display` and `PartialEq` of `Mime`.
 use Rattle.std.proofs.Common.{◌≡◌, ℕ, ◌+◌, ◌<◌, ◌≤◌, Bool, true, false, List, [], ◌∷◌, ◌++◌, length, get_or, take, drop}
 use Rattle.std.proofs.Common.{String, string_bytes, map, encode_utf8, encode_utf8_all, refl, sym, ap, ap₂, ◌∙◌, subst}
-use Rattle.std.proofs.Common.{append_assoc, append-nil, drop-cons, drop_of_length-le, add-one, arith}
+use Rattle.std.proofs.Common.{append_assoc, append-nil, drop-cons, drop_of_length-le, arith}
 use lib.Utf8.{encode}
-use Rattle.std.proofs.lemmas.Bool.{cond-false, cond-true, not-true}
 use Rattle.std.proofs.lemmas.Str.{IsUtf8-append, IsUtf8-string_bytes, chars_past_char, encode_ascii, encodes-append}
 use Rattle.std.proofs.lemmas.Str.{encodes-chars}
 use Rattle.std.specs.declared.fmt.Formatter.{Formatter}
-use Rattle.std.proofs.Output.{has_written_styled_append, has_written_styled_nil, has_written_styled_of_eq}
-use Rattle.std.specs.Fmt.{HasWritten, HasWrittenStyled, IsDefaultSpec, IsFlush, IsPlainFormatter}
+use Rattle.std.proofs.Output.{has_written_styled_append, has_written_styled_nil}
+use Rattle.std.specs.Fmt.{HasWritten, HasWrittenStyled, IsFlush, IsPlainFormatter}
 use Rattle.data_url.specs.Steps.Printing.{HasAdded, IsHeld, held}
 use Rattle.data_url.specs.declared.mime.line.Line.{Line}
 use Rattle.std.specs.List.{flat_map, AllZip}

@@ -1,9 +1,9 @@
 -- Quoted strings. For `values.rt`.
 use Rattle.std.proofs.Common.{◌≡◌, ℕ, ◌==◌, ◌&&◌, not, Bool, true, false, cond, List, [], ◌∷◌, ◌++◌, Option, None, Some}
-use Rattle.std.proofs.Common.{map, refl, sym, ap, ◌∙◌, append_assoc, append-nil, eqb-true, inl, inr, ◌+◌, ◌/◌, ◌<◌, ◌≤◌}
-use Rattle.std.proofs.Common.{length, get_or, take, drop, slice_range, encode_utf8_all, ap₂, subst, arith, ltb}
+use Rattle.std.proofs.Common.{map, refl, sym, ap, ◌∙◌, append_assoc, append-nil, eqb-true, inl, inr, ◌+◌, ◌<◌, ◌≤◌}
+use Rattle.std.proofs.Common.{length, get_or, take, drop, slice_range, encode_utf8_all, ap₂, arith}
 use Rattle.std.proofs.Common.{take-append-drop, drop-cons, drop_of_length-le, add-one}
-use Rattle.std.proofs.lemmas.Bool.{cond-false, eqb-false, ne_eqb, and_parts, cases_lt, cond_both, le-ltb}
+use Rattle.std.proofs.lemmas.Bool.{eqb-false, and_parts}
 use Rattle.std.specs.List.{AllByRecursion, flat_map}
 use Rattle.data_url.specs.Mime.{Escaped, IsUnit, Plain, Quoted, QuotedOpen, QuotedUnit, unit_text, unit_value}
 use Rattle.std.proofs.lemmas.List.{append_cancel_right}
@@ -11,7 +11,7 @@ use Rattle.std.proofs.lemmas.Str.{IsCharBoundary-before_ascii, IsUtf8-drop, IsUt
 use Rattle.std.proofs.lemmas.Str.{chars_past_char, encode_ascii, encodes-chars, scalars-chars}
 use Rattle.std.specs.Option.{option_map}
 use Rattle.std.specs.Str.{IsUtf8, all_scalars, chars}
-use lib.Utf8.{encode, next, scalar}
+use lib.Utf8.{encode, scalar}
 use Rattle.data_url.specs.Steps.Parsing.{IsClosed, IsOpen}
 
 -- A quoted string, read from after its opening quote, with a flag that says whether a backslash comes before.

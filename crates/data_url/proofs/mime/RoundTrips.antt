@@ -1,7 +1,7 @@
 -- Parsing a printed record returns the record.
 use Rattle.std.proofs.Common.{◌≡◌, ℕ, ◌==◌, ◌||◌, ◌&&◌, Bool, true, false, not, List, [], ◌∷◌, ◌++◌, Some, map, refl}
 use Rattle.std.proofs.Common.{sym, ap, ◌∙◌, subst, append-nil}
-use Rattle.std.proofs.lemmas.Bool.{agree_below, agree_below_at, and_from, and_parts, both_ways, cond-false, cond-true}
+use Rattle.std.proofs.lemmas.Bool.{agree_below, agree_below_at, and_from, and_parts, both_ways, cond-true}
 use Rattle.std.proofs.lemmas.Bool.{cond_both, eqb-false, false_from_ne_true, not-true, or_parts}
 use Rattle.std.specs.List.{AllByRecursion, flat_map, list_all}
 use Rattle.std.specs.Str.{bytes_eq}

@@ -1,12 +1,12 @@
 -- Percent-encoding with the rows of a table, and decoding of encoded texts. For `push_encoded`.
 use Rattle.std.proofs.Common.{◌≡◌, ℕ, ◌*◌, ◌+◌, ◌-◌, ◌<◌, ◌&&◌, ◌||◌, Bool, false, true, List, [], ◌∷◌, length, take}
 use Rattle.std.proofs.Common.{drop, refl, ◌/◌, ◌%◌, not, ◌++◌, Option, None, Some, sym, ap, ◌∙◌, inl, inr, subst}
-use Rattle.std.proofs.Common.{⊎_elim, append-nil, append_assoc, arith, suc, cond, ◌≤◌, get_or, ap₂, take-append-drop}
+use Rattle.std.proofs.Common.{append-nil, append_assoc, arith, suc, ◌≤◌, get_or, take-append-drop}
 use Rattle.std.specs.Prelude.{◌==◌, slice_index, nat_lt}
 use Rattle.std.specs.Str.{bytes_eq, IsAscii, IsUtf8}
 use Rattle.std.proofs.lemmas.Bool.{agree_below, agree_below_at, and_parts, eqb-true, and_left, and_right, cases_Bool}
-use Rattle.std.proofs.lemmas.Bool.{cond-true, cond-false, cond_both, both_ways, ne_eqb, or_cases, or_left, eqb-false}
-use Rattle.std.proofs.lemmas.Bool.{ltb-true, or_parts}
+use Rattle.std.proofs.lemmas.Bool.{cond_both, both_ways, ne_eqb, or_left}
+use Rattle.std.proofs.lemmas.Bool.{ltb-true}
 use Rattle.std.proofs.lemmas.Slice.Eq.{bytes_eq-Decides}
 use Rattle.data_url.specs.Url.{in_fragment_set, in_path_set, in_query_set, before, after, encoded_byte, encoded_path}
 use Rattle.data_url.specs.Url.{hex_digit, in_path_end_set, percent_encoding, serialised, with_query}
@@ -17,7 +17,7 @@ use Rattle.data_url.proofs.classes.Rows.{unmarked_passes}
 use Rattle.std.specs.Char.{digit_value, is_ascii_hexdigit}
 use Rattle.std.specs.List.{AllByRecursion, list_all}
 use Rattle.data_url.specs.Steps.Header.{header_parts, header_text}
-use Rattle.data_url.specs.Percent.{is_escape, percent_decoding}
+use Rattle.data_url.specs.Percent.{percent_decoding}
 use Rattle.data_url.proofs.texts.Bytes.{before-append, before_at, before_nil, before_other, before_same, after_nil}
 use Rattle.data_url.proofs.texts.Bytes.{after_other, after_same, lacks, before_all, after-dropped_none, after_none}
 use Rattle.data_url.proofs.texts.Bytes.{without_tabs_and_newlines-append, dropped_keeps, dropped_nil, dropped_passes}
@@ -26,7 +26,6 @@ use Rattle.std.proofs.lemmas.Grind.{flat_map-append}
 use Rattle.std.proofs.lemmas.List.{drop_all, drop_more, length-take-le, nil_from_length, take-take}
 use Rattle.std.proofs.lemmas.Str.{IsAscii-append, IsUtf8-from_ascii}
 use Rattle.std.proofs.lemmas.Str.Ascii.{IsAscii-cons, IsAscii-nil}
-use Rattle.data_url.specs.Steps.Front.{is_plain_path}
 use Rattle.data_url.specs.declared.percent.EncodeSet.TheVariants.{Fragment, Path, Query}
 use Rattle.data_url.specs.declared.percent.EncodeSet.{EncodeSet}
 

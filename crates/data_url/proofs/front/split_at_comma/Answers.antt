@@ -1,6 +1,5 @@
-use Rattle.std.proofs.Common.{◌≡◌, ◌+◌, ◌-◌, get_or, take, sym, ap, ◌∙◌, arith, eqb-true, rules, subst}
-use Rattle.std.proofs.lemmas.Str.{IsCharBoundary-after_ascii, IsCharBoundary-before_ascii}
-use Rattle.data_url.specs.Steps.Front.{IsHeaderAndTail}
+use Rattle.std.proofs.Common.{◌≡◌, ◌+◌, ◌-◌, take, arith, eqb-true}
+use Rattle.std.proofs.lemmas.Str.{IsCharBoundary-after_ascii}
 use Rattle.data_url.proofs.front.Cuts.{at_comma, at_hash, front_end_at, is_ascii_end, no_front_end, plain_before}
 use Rattle.data_url.proofs.front.split_at_comma.Goals as goal
 

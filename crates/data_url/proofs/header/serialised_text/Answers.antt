@@ -1,5 +1,4 @@
-use Rattle.std.proofs.Common.{arith, subst, sym, ◌∙◌}
-use Rattle.data_url.specs.Steps.Header.{IsPrintable, IsSerialised}
+use Rattle.std.proofs.Common.{arith}
 use Rattle.data_url.proofs.header.Stages.{header_printable}
 use Rattle.data_url.proofs.header.serialised_text.Goals as goal
 

@@ -1,8 +1,7 @@
-use Rattle.std.proofs.Common.{◌≤◌, length, arith, inl, inr, sym, ◌∙◌, subst}
+use Rattle.std.proofs.Common.{arith}
 use Rattle.std.proofs.lemmas.List.Sums.{suffix_len-le-length}
-use Rattle.data_url.specs.Url.{is_tab_or_newline}
 use Rattle.data_url.proofs.header.Serialising.{has_no_end, has_other_end, parts_spaced, parts_whole}
-use Rattle.data_url.proofs.header.Serialising.{some_bytes, without_space}
+use Rattle.data_url.proofs.header.Serialising.{without_space}
 use Rattle.data_url.proofs.header.split_last_space.Goals as goal
 
 pub overflow_sub-path : goal.overflow_sub-path

@@ -1,6 +1,4 @@
 use Rattle.std.proofs.Common.{arith}
-use Rattle.data_url.specs.Url.{without_tabs_and_newlines}
-use Rattle.data_url.specs.Url.{encoded_fragment}
 use Rattle.data_url.proofs.fragment.Encoded.{fragment_bytes, read_again}
 use Rattle.data_url.proofs.header.Stages.{bytes_dropped}
 use Rattle.data_url.proofs.header.Stages.{bytes_by_place}

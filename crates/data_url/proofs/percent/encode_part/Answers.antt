@@ -1,4 +1,4 @@
-use Rattle.std.proofs.Common.{◌≤◌, ◌*◌, ◌<◌, length, arith}
+use Rattle.std.proofs.Common.{arith}
 use Rattle.data_url.specs.Steps.Sets.{in_set}
 use Rattle.data_url.proofs.percent.Encoding.{encoded_text, put_more, wrote_all}
 use Rattle.data_url.proofs.percent.encode_part.Goals as goal

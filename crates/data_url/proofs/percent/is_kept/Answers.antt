@@ -1,5 +1,4 @@
-use Rattle.std.proofs.Common.{length, get_or, eqb-true, arith}
-use Rattle.data_url.specs.Steps.Sets.{in_set}
+use Rattle.std.proofs.Common.{arith}
 use Rattle.data_url.proofs.percent.Encoding.{encoded_text, kept_whole}
 use Rattle.data_url.proofs.percent.is_kept.Goals as goal
 

@@ -1,8 +1,5 @@
-use Rattle.std.proofs.Common.{◌≡◌, ◌<◌, ◌++◌, ℕ, List, Bor, ap, sym, ◌∙◌, subst, length, length-drop, arith}
-use Rattle.std.specs.Prelude.{string_bytes}
-use Rattle.std.specs.Str.{IsUtf8}
-use Rattle.data_url.specs.Steps.Sets.{in_set}
-use Rattle.data_url.proofs.percent.Encoding.{encoded, none_left, wrote_part, wrote_parts}
+use Rattle.std.proofs.Common.{arith}
+use Rattle.data_url.proofs.percent.Encoding.{none_left, wrote_part, wrote_parts}
 use Rattle.data_url.proofs.percent.push_encoded.Goals as goal
 use Rattle.data_url.proofs.percent.push_encoded.Goals.{then-is_kept, else-is_kept}
 

@@ -1,6 +1,4 @@
-use Rattle.std.proofs.Common.{map, ap, ◌∙◌, arith}
-use Rattle.data_url.specs.Base64.{groups}
-use Rattle.data_url.specs.Steps.Lanes.{value_of}
+use Rattle.std.proofs.Common.{arith}
 use Rattle.data_url.proofs.forgiving_base64.Vectors.{row_put}
 use Rattle.data_url.proofs.forgiving_base64.blocks.put_row.Goals as goal
 

@@ -1,6 +1,5 @@
-use Rattle.std.proofs.Common.{◌<◌, take, ap, sym, ◌∙◌, arith, length-take-le}
-use lib.Count.{count_trailing_zeros}
-use Rattle.data_url.proofs.forgiving_base64.Vectors.{first_ahead, none_ahead, others_mask}
+use Rattle.std.proofs.Common.{arith}
+use Rattle.data_url.proofs.forgiving_base64.Vectors.{first_ahead, none_ahead}
 use Rattle.data_url.proofs.forgiving_base64.blocks.symbols_in_row.Goals as goal
 
 pub returns-then-all-eq0 : goal.returns-then-all-eq0

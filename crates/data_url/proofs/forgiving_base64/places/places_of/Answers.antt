@@ -1,7 +1,4 @@
-use Rattle.std.proofs.Common.{◌*◌, ◌<◌, ℕ, List, drop, length, take, ap, sym, ◌∙◌, subst, arith, length-drop}
-use Rattle.std.proofs.Common.{length-take-le}
-use lib.Lanes.{Each1}
-use Rattle.data_url.specs.declared.forgiving_base64.places.TheConstants.{CLEAR_PLACES}
+use Rattle.std.proofs.Common.{take, ap, ◌∙◌, arith}
 use Rattle.data_url.proofs.forgiving_base64.Rows.{ones_few, places_clear, places_small}
 use Rattle.data_url.proofs.forgiving_base64.places.places_of.Goals as goal
 

@@ -1,4 +1,4 @@
-use Rattle.std.proofs.Common.{◌<◌, ◌≤◌, ◌++◌, length, encode_utf8_all, get_or, refl, ap, ◌∙◌, subst}
+use Rattle.std.proofs.Common.{◌<◌, ◌≤◌, ◌++◌, length, encode_utf8_all, refl, subst}
 use Rattle.std.proofs.Output.{has_written_styled_of_eq}
 use Rattle.data_url.specs.Mime.{printed_pair}
 use Rattle.data_url.specs.MimeType.{pair_of}

@@ -1,7 +1,6 @@
 use Rattle.std.proofs.Common.{arith}
 use Rattle.std.proofs.lemmas.List.Sums.{suffix_len-le-length}
-use Rattle.data_url.specs.CodePoints.{is_http_whitespace}
-use Rattle.data_url.proofs.mime.ParameterValues.{whitespace_below, whitespace_end}
+use Rattle.data_url.proofs.mime.ParameterValues.{whitespace_end}
 use Rattle.data_url.proofs.texts.CodePoints.{boundary_before_end}
 use Rattle.data_url.proofs.mime.cuts.without_trailing_whitespace.Goals as goal
 

@@ -1,6 +1,5 @@
-use Rattle.std.proofs.Common.{◌<◌, ◌≤◌, length, map, [], arith, ap, ◌∙◌}
+use Rattle.std.proofs.Common.{◌<◌, ◌≤◌, length, arith, ap, ◌∙◌}
 use Rattle.std.specs.Str.{chars}
-use Rattle.data_url.specs.MimeType.{pair_of}
 use Rattle.data_url.proofs.mime.Parsing.{empty_by, no_semicolon}
 use Rattle.data_url.proofs.mime.FirstNames.{keeps_end, keeps_more}
 use Rattle.data_url.proofs.mime.Items.{rest_shorter}

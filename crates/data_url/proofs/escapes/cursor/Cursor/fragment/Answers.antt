@@ -1,5 +1,5 @@
-use Rattle.std.proofs.Common.{ap, ◌∙◌, List, ℕ, Some, arith}
-use Rattle.data_url.proofs.escapes.Walking.{ended_of, no_fragment, some_fragment}
+use Rattle.std.proofs.Common.{◌∙◌, arith}
+use Rattle.data_url.proofs.escapes.Walking.{no_fragment, some_fragment}
 use Rattle.data_url.proofs.escapes.cursor.Cursor.fragment.Goals as goal
 
 pub returns-then-self-len : goal.returns-then-self-len

@@ -1,4 +1,4 @@
-use Rattle.std.proofs.Common.{◌∙◌, ap, arith, length}
+use Rattle.std.proofs.Common.{arith}
 use Rattle.data_url.proofs.escapes.Walking.{gathers_escape}
 use Rattle.data_url.proofs.escapes.cursor.Cursor.gather_escapes.Goals as goal
 

@@ -1,4 +1,4 @@
-use Rattle.std.proofs.Common.{ap, refl, ◌∙◌, length, arith}
+use Rattle.std.proofs.Common.{refl, arith}
 use Rattle.data_url.proofs.escapes.Walking.{byte_here, goes_as, reached, search_passed, search_percent, searching_none}
 use Rattle.data_url.proofs.escapes.Walking.{slice_end, slice_escape, slice_passed}
 use Rattle.data_url.proofs.escapes.cursor.Cursor.next_stretch.Goals as goal

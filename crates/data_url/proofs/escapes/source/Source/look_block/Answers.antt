@@ -1,6 +1,3 @@
-use Rattle.std.proofs.Common.{ap, map, ◌∙◌}
-use Rattle.std.specs.Simd.Lanes.{mask_l}
-use Rattle.data_url.specs.Steps.Window.{is_marked}
 use Rattle.data_url.proofs.escapes.Marks.{block_part, block_whole}
 use Rattle.data_url.proofs.escapes.source.Source.look_block.Goals as goal
 

@@ -1,4 +1,4 @@
-use Rattle.std.proofs.Common.{Err, ap, arith, rules, length-drop}
+use Rattle.std.proofs.Common.{Err, ap, arith}
 use Rattle.std.proofs.lemmas.Result.{err_from_is_err_and}
 use Rattle.std.specs.Fn.{CalledAt}
 use Rattle.data_url.specs.Decoder.{state_of}

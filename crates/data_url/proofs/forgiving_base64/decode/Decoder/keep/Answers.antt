@@ -1,6 +1,4 @@
-use Rattle.std.proofs.Common.{◌*◌, ◌/◌, ◌++◌, take, ap, sym, ◌∙◌, arith, length-take-le}
-use Rattle.std.specs.List.{list_all}
-use Rattle.data_url.specs.Base64.{is_symbol}
+use Rattle.std.proofs.Common.{arith, length-take-le}
 use Rattle.data_url.proofs.forgiving_base64.Padding.{every_after, every_list_all}
 use Rattle.data_url.proofs.forgiving_base64.Rows.{groups_front, list_all_every}
 use Rattle.data_url.proofs.forgiving_base64.decode.Decoder.keep.Goals as goal

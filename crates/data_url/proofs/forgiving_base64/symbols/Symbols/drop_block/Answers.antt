@@ -1,6 +1,4 @@
-use Rattle.std.proofs.Common.{take, ap, ◌∙◌}
-use Rattle.std.specs.List.{list_all}
-use Rattle.data_url.specs.Base64.{is_symbol}
+use Rattle.std.proofs.Common.{take}
 use Rattle.data_url.proofs.forgiving_base64.Rows.{all_after, moved}
 use Rattle.data_url.proofs.forgiving_base64.symbols.Symbols.drop_block.Goals as goal
 

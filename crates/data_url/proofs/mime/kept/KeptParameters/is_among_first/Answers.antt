@@ -1,9 +1,6 @@
 use Rattle.std.proofs.Common.{ap, map, min, sym, ◌∙◌}
 use Rattle.std.specs.Char.{to_ascii_lowercase}
-use Rattle.std.specs.List.{list_all}
 use Rattle.std.specs.Str.{chars}
-use Rattle.data_url.specs.Mime.{Pair, is_lowercase_name}
-use Rattle.data_url.specs.MimeType.{pair_of}
 use Rattle.data_url.specs.declared.mime.kept.TheConstants.{LOOKED_THROUGH}
 use Rattle.data_url.proofs.mime.FirstNames.{among_first}
 use Rattle.data_url.proofs.mime.FirstNames.{lower_first}
