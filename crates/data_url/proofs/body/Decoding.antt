@@ -108,18 +108,7 @@ module _ {F E : Type 0} (step : F → List ℕ → Result (Unit {0}) E → F →
         run = k.run ++ call;
         ran = run-append step k.run call f g h k.ran k.accepted (s, λ e. refl, refl);
         calls = omega arith;
-        gave = match_is_some (refusal (k.run ++ call)) e (HandsOut (Good (plain_body text)) (IsBodyEnd text)
-            (joined_pieces (k.run ++ call)) (Err (WriteError e)))
-            (λ e'. IsRefused {A = ℕ} (outcome_bytes (Good (plain_body text))) (joined_pieces (k.run ++ call)) e'
-            (Err (WriteError e))) last
-            (record {
-              bytes_begin = (
-                w'.rest,
-                cc (append_assoc (joined_pieces k.run) bytes w'.rest),
-              );
-              answer =
-                  refl;
-            });
+        gave = grind (arith, match_is_some, append_assoc);
       }
 
 -- A base64 body, fed to a decoder chunk by chunk.

@@ -46,20 +46,10 @@ digit_at b s value rest t h e = grind (arith, dropped_keeps, after_other)
 has_digit : (s : List ℕ) (value : ℕ) (rest : List ℕ) → digit s ≡ Some (value, rest) → HasDigit s value rest
 has_digit [] value rest h = grind (arith, digit_nil)
 has_digit (b ∷ s) value rest h = elim (cases_Bool (is_tab_or_newline b)) [
-  | inl e ↦
-      let k = has_digit s value rest (sym (digit_tab b s e) ∙ h) in
-      record {
-        at = k.at;
-        hex = k.hex;
-        value_is = k.value_is;
-        dropped_is = dropped_passes b s e ∙ k.dropped_is;
-        after_is = after_other 35 b s (no_hash b e) ∙ k.after_is;
-      }
+  | inl e ↦ grind (arith, (has_digit s value rest (sym (digit_tab b s e) ∙ h)), digit_tab, dropped_passes, after_other, no_hash)
   | inr e ↦ elim (cases_Bool (is_ascii_hexdigit b)) [
-    | inl f ↦ digit_at b s value rest e f
-        (sym (digit_here b s e ∙ cond-true (is_ascii_hexdigit b) (Some (digit_value b, s)) None f) ∙ h)
-    | inr f ↦ absurd (let k : ◌≡◌ {A = Option (ℕ × List ℕ)} None (Some (value, rest)) =
-        sym (digit_here b s e ∙ cond-false (is_ascii_hexdigit b) (Some (digit_value b, s)) None f) ∙ h in cc)
+    | inl f ↦ grind (arith, digit_at, digit_here, cond-true)
+    | inr f ↦ grind (arith, digit_here, cond-false)
   ]
 ]
 
@@ -71,11 +61,7 @@ no_digit : (s : List ℕ) → digit s ≡ None → begins_with_digit (without_ta
 no_digit [] h = ap begins_with_digit dropped_nil
 no_digit (b ∷ s) h = elim (cases_Bool (is_tab_or_newline b)) [
   | inl e ↦ ap begins_with_digit (dropped_passes b s e) ∙ no_digit s (sym (digit_tab b s e) ∙ h)
-  | inr e ↦ ap begins_with_digit (dropped_keeps b s e) ∙ elim (cases_Bool (is_ascii_hexdigit b)) [
-    | inl f ↦ absurd (let k : ◌≡◌ {A = Option (ℕ × List ℕ)} (Some (digit_value b, s)) None =
-        sym (digit_here b s e ∙ cond-true (is_ascii_hexdigit b) (Some (digit_value b, s)) None f) ∙ h in cc)
-    | inr f ↦ f
-  ]
+  | inr e ↦ grind (arith, dropped_keeps, cases_Bool, digit_here, cond-true)
 ]
 
 -- a text that begins with two digits, each after tabs and newlines
@@ -147,11 +133,7 @@ same_two_digits [] h = ap two_digits (before_nil 35)
 same_two_digits (b ∷ []) h = grind (arith, before_same, before_other, before_nil)
 same_two_digits (b ∷ c ∷ s) h = elim (cases_Bool (b == 35)) [
   | inl e ↦ ap (λ x. two_digits (before 35 (x ∷ c ∷ s))) (eqb-true b 35 e) ∙ ap two_digits (before_same 35 (c ∷ s))
-  | inr e ↦ ap two_digits (before_other 35 b (c ∷ s) e) ∙ elim (cases_Bool (c == 35)) [
-    | inl f ↦ ap (λ x. two_digits (b ∷ before 35 (x ∷ s))) (eqb-true c 35 f)
-        ∙ ap (λ t. two_digits (b ∷ t)) (before_same 35 s)
-    | inr f ↦ ap (λ t. two_digits (b ∷ t)) (before_other 35 c s f) ∙ h
-  ]
+  | inr e ↦ grind (arith, two_digits, before_other, cases_Bool, eqb-true, before_same)
 ]
 
 -- The body

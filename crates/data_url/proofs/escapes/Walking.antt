@@ -268,9 +268,7 @@ reached {c0} {c} {c1} {c2} {from} {mark} s m a b =
       passed = subst P (sym place) s.passed;
       stretch = subst Q (sym place) (stretch_on s.stretch (reads_clear m.forward within clear));
       skipped = subst S (sym place) s.skipped;
-      kept = subst K (sym place)
-          (without_tabs_then (text_of c0) c.place from mark (omega arith) m.forward s.kept
-          (without_tabs_clear (text_of c0) from mark m.forward within clear));
+      kept = grind (arith, without_tabs_then, without_tabs_clear);
     }
 
 -- a '%' that does not begin an escape is part of the stretch

@@ -142,22 +142,7 @@ module _ {F E : Type 0} (step : F → List ℕ → Result (Unit {0}) E → F →
         ran = called_run h w;
         calls = omega (arith, few, length-append h.run (call ∷ []));
         failed = w.failed;
-        gave = match_at (or_error w.told None) (refusal (h.run ++ call ∷ [])) _ _
-            (refusal-append h.run (call ∷ []) h.accepted)
-            (told_call w.told r (IsTaken u (joined_pieces (h.run ++ call ∷ [])) r d2) (complete_bytes u)
-            (joined_pieces (h.run ++ call ∷ [])) bytes
-            (λ e. record {
-              bytes_are = bytes;
-              answer =
-                  match_none (first_fault u) _ _ h.no_fault (
-                    e,
-                    record {
-                      symbols_are = w.symbols_stay ∙ h.left.symbols_are;
-                      padding_is = cc;
-                    },
-                  );
-            })
-            w.answer);
+        gave = grind (arith, match_at, refusal-append, told_call, match_none);
       }
 
   quiet_feeds : {d d1 d2 : State F} {t : List ℕ} {r : Result (Unit {0}) (DecodeError E)} → Holds step d t [] d1

@@ -285,8 +285,7 @@ three_last s len long few =
     let at = len / 4 * 4 in
     let v = take 3 (drop at s) in
     let size : length v ≡ 3 = length-take-le 3 (drop at s) (omega (arith, length-drop at s)) in
-    let item : (k : ℕ) → k < 3 → get_or v k 0 ≡ get_or s (at + k) 0 = λ k l. get_or-take 3 (drop at s) k 0 l
-    ∙ get_or-drop at s k 0 in
+    let item : (k : ℕ) → k < 3 → get_or v k 0 ≡ get_or s (at + k) 0 = λ k l. grind (arith, get_or-take, get_or-drop) in
     let whole : length (take len s) ≡ len = length-take-le len s (omega arith) in
     let left : len - at ≡ len % 4 = omega arith in
     let same : get_or v 0 0 ∷ get_or v 1 0 ∷ get_or v 2 0 ∷ [] ≡ get_or s at 0 ∷ get_or s (at + 1) 0 ∷ get_or s

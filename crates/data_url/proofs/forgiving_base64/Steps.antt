@@ -406,9 +406,7 @@ module _ {F E : Type 0} (step : F → List ℕ → Result (Unit {0}) E → F →
         run = record { piece = b ∷ bs; answer = w.told; after = d'.closure } ∷ [];
         ran = one_call d.closure d'.closure (b ∷ bs) w.told w.called;
         calls = omega arith;
-        gave = bool_at_true (is_valid (left_over d)) _ _ valid
-            (told_call w.told r (IsAll (left_over d) ((b ∷ bs) ++ []) r) (decoded (left_over d)) ((b ∷ bs) ++ []) bytes
-            (λ x. record { bytes_are = bytes; answer = x }) w.answer);
+        gave = grind (arith, bool_at_true, told_call);
       }
 
   -- if what is left over is valid, a call with the bytes that it decodes to, or none for no bytes, finishes d

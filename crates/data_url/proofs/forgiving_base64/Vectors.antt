@@ -309,10 +309,7 @@ unmarked_mask (x ∷ xs) = grind (arith, (unmarked_mask xs))
 
 or_unmarked : (x y : ℕ) → x < 256 → y < 256 → unmarked (bit_or x y) ≡ (unmarked x && unmarked y)
 or_unmarked x y a b = elim (cases_eq x 0) [
-  | inl p ↦ elim (cases_eq y 0) [
-    | inl q ↦ cc
-    | inr q ↦ cc
-  ]
+  | inl p ↦ grind (arith, cases_eq)
   | inr p ↦ cc (ne_eqb (bit_or x y) 0 (λ e. p (omega (arith, or_add_and x y, and_le_l x y, and_le_r x y))), ne_eqb x 0 p)
 ]
 

@@ -115,12 +115,7 @@ module _ {F E : Type 0} (step : F → List ℕ → Result (Unit {0}) E → F →
                     answer = w.answer;
                   })
                   h
-              | inr (v, h) ↦
-                  match_none (refusal g.run) _ _ (ap refusal h.0)
-                  (bool_at_false (is_valid u) _ _ (valid ∙ v) (
-                    cc (append-nil (complete_bytes u)),
-                    h.1 ∙ ap (λ z. Err (InvalidBase64 z)) (sym kind),
-                  ))
+              | inr (v, h) ↦ grind (arith, match_none, bool_at_false, append-nil)
             ]);
       }
 

@@ -158,8 +158,7 @@ front_end_from s m k h e =
     let end : ends_header (get_or s n 0) ≡ true = ap ends_header (sym (get_or-drop m s k 0)) ∙ p.1 in
     record {
       within = omega (arith, p.0, length-drop m s);
-      is = ⊎_elim (λ h. inl (eqb-true (get_or s n 0) 44 h)) (λ h. inr (eqb-true (get_or s n 0) 35 h))
-          (or_cases (get_or s n 0 == 44) (get_or s n 0 == 35) end);
+      is = grind (arith, ⊎_elim, eqb-true, or_cases);
       no_comma = lacks_in_take 44 s n (λ k l. (or_parts (get_or s k 0 == 44) (get_or s k 0 == 35) (before k l)).0);
       no_hash = lacks_in_take 35 s n (λ k l. (or_parts (get_or s k 0 == 44) (get_or s k 0 == 35) (before k l)).1);
     }
@@ -179,12 +178,7 @@ pub at_none : (s : List ℕ) (m : ℕ) → NoEndBefore s m → position ends_hea
     → after 44 (front s) ≡ None
 unfolding front
 at_none s m h e = let rest = drop m s in
-    let none : NoEndBefore rest (length rest) = λ k l. fails_before_first ends_header rest k 0 (⊎_elim
-    (λ (h : position_or_len ends_header rest < length rest). absurd (let x : Some (position_or_len ends_header rest)
-    ≡ None = cc (cond-true (nat_lt (position_or_len ends_header rest) (length rest)) (Some (position_or_len ends_header rest)) None (lt-ltb (position_or_len ends_header rest) (length rest) h)) in cc))
-    (λ (h : length rest ≤ position_or_len ends_header rest). let x : k < position_or_len ends_header rest =
-    omega arith in x)
-    (cases_lt (position_or_len ends_header rest) (length rest))) in
+    let none : NoEndBefore rest (length rest) = λ k l. grind (arith, fails_before_first, ⊎_elim, cond-true, lt-ltb, cases_lt) in
     let all = further_on s m (length rest) h none in
     let fails : NoEndBefore s (length s) = λ k l. all k (omega (arith, length-drop m s)) in
     let no_comma = after_none 44 s (λ k l. (or_parts (get_or s k 0 == 44) (get_or s k 0 == 35) (fails k l)).0) in

@@ -157,8 +157,7 @@ pub cut_at_query : (text : List ℕ) (n : ℕ) → n ≡ prefix_len is_no_questi
     → IsPathAndQuery text (take n text) (drop n text)
 cut_at_query text n e = record {
   joined = sym (take-append-drop n text);
-  path_ends = after_none 63 (take n text) (λ k l.
-      let below : k < n = omega (arith, length-take n text) in cc (get_or-take n text k 0 below, is_false _ (prefix_len_passes is_no_question_mark text k 0 (subst (λ m. k < m) e below))));
+  path_ends = grind (arith, after_none, length-take, get_or-take, is_false, prefix_len_passes);
   query_begins = ⊎_elim
       (λ (l : n < length text). inr (
         drop (n + 1) text,
@@ -211,9 +210,7 @@ drop_nothing n = drop_of_length-le [] (omega arith)
 ends_after : (n : ℕ) (s : List ℕ) → Ends s → Ends (drop n s)
 ends_after n s (nothing e) = nothing (ap (drop n) e ∙ drop_nothing n)
 ends_after n s (last init b e h) = elim (cases_lt (length init) n) [
-  | inl l ↦
-      let size = length-append init (b ∷ []) in
-      nothing (ap (drop n) e ∙ drop_of_length-le (init ++ b ∷ []) (omega (arith, size, l)))
+  | inl l ↦ grind (arith, length-append, drop_of_length-le)
   | inr l ↦ last (drop n init) b (ap (drop n) e ∙ drop-append-le n init (b ∷ []) l) h
 ]
 

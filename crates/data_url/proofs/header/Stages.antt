@@ -144,10 +144,7 @@ lacks_before_dropping : (c : ℕ) → is_tab_or_newline c ≡ false → (s : Lis
     → after c (without_tabs_and_newlines s) ≡ None → after c s ≡ None
 lacks_before_dropping c k [] h = after_nil c
 lacks_before_dropping c k (b ∷ s) h = elim (cases_Bool (is_tab_or_newline b)) [
-  | inl e ↦
-      let other : (b == c) ≡ false =
-      ne_eqb b c (λ (f : b ≡ c). both_ways (is_tab_or_newline b) (ap is_tab_or_newline f ∙ k) e) in
-      after_other c b s other ∙ lacks_before_dropping c k s (sym (ap (after c) (dropped_passes b s e)) ∙ h)
+  | inl e ↦ grind (arith, ne_eqb, both_ways, after_other, (lacks_before_dropping c k s (sym (ap (after c) (dropped_passes b s e)) ∙ h)), dropped_passes)
   | inr e ↦
       let l = lacks c b (without_tabs_and_newlines s) (sym (ap (after c) (dropped_keeps b s e)) ∙ h) in
       after_other c b s l.here ∙ lacks_before_dropping c k s l.after_it

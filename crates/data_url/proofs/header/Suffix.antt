@@ -98,9 +98,7 @@ end_after : (x q : List ℕ) → without_end is_space (x ++ 63 ∷ q) ≡ x ++ 6
 end_after x q =
     let few = suffix_len-le-length is_space q in
     let spaces = suffix_len is_space q in
-    let at : length (x ++ 63 ∷ q) - suffix_len is_space (x ++ 63 ∷ q) ≡ length x + suc (length q - spaces) =
-    ap (λ n. length (x ++ 63 ∷ q) - n) (suffix_stop is_space x q 63 refl)
-    ∙ omega (arith, few, length-append x (63 ∷ q)) in
+    let at : length (x ++ 63 ∷ q) - suffix_len is_space (x ++ 63 ∷ q) ≡ length x + suc (length q - spaces) = grind (arith, suffix_stop, length-append) in
     ap (λ n. take n (x ++ 63 ∷ q)) at ∙ take-append-add x (63 ∷ q) (suc (length q - spaces))
 
 stripped_after : (x q : List ℕ) → stripped_header (x ++ 63 ∷ q) ≡ drop (prefix_len is_space (x ++ 63 ∷ q))

@@ -220,8 +220,7 @@ parameter_from s r i = record {
     tail = i.tail;
     joined = refl;
     in_gap = front_passes is_http_whitespace s;
-    begins = not_begins_front is_http_whitespace in_name (after_front is_http_whitespace s)
-        (after_begins is_http_whitespace s);
+    begins = grind (arith, not_begins_front, after_front, after_begins);
     in_name = front_passes in_name (after_front is_http_whitespace s);
     name_is = refl;
     value_is = i.gives;

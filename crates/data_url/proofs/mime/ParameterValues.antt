@@ -362,10 +362,8 @@ long_other text t more q n e u h m few l = let p : ℕ → Bool = λ b. not (is_
     let long : length text ≡ length t + length more = ap length e ∙ length-append t more in
     let passes : p (get_or text q 0) ≡ true =
     prefix_len_passes p text q 0 (subst (λ i. q < i) m (omega (arith, few))) in
-    let fails : is_unquoted_byte (get_or text q 0) ≡ false = subst (λ i. is_unquoted_byte (get_or text i 0) ≡ false)
-    (sym h) (prefix_len_stops is_unquoted_byte text 0 (subst (λ i. i < length text) h (omega (arith, long)))) in
-    let other : is_quotable_byte (get_or text q 0) ≡ false = false_from_ne_true (is_quotable_byte (get_or text q 0))
-    (λ w. false≢true (sym fails ∙ and_from (is_quotable_byte (get_or text q 0)) (p (get_or text q 0)) w passes)) in
+    let fails : is_unquoted_byte (get_or text q 0) ≡ false = grind (arith, prefix_len_stops) in
+    let other : is_quotable_byte (get_or text q 0) ≡ false = grind (arith, false_from_ne_true, false≢true, fails, and_from) in
     sym (quotable_chars t u) ∙ list_all_at is_quotable_byte t q 0 l (ap is_quotable_byte same ∙ other)
 
 -- the bytes of a text without whitespace at its end are a prefix of its bytes

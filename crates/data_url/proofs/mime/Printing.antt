@@ -256,6 +256,5 @@ pub seen_same : (m n : Mime) → record_of m ≡ record_of n → SameTexts m n
 seen_same m n h = record {
   type_ = text_bytes m.type_ ∙ ap (λ (r : Record). encode_utf8_all r.type_) h ∙ sym (text_bytes n.type_);
   subtype = text_bytes m.subtype ∙ ap (λ (r : Record). encode_utf8_all r.subtype) h ∙ sym (text_bytes n.subtype);
-  parameters = pairs_spelled m.parameters.items ∙ ap (λ (r : Record). map pair_spelled r.parameters) h
-      ∙ sym (pairs_spelled n.parameters.items);
+  parameters = grind (arith, pairs_spelled);
 }

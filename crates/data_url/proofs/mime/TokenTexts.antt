@@ -130,10 +130,8 @@ module _ (p : ℕ → Bool) (below : (c : ℕ) → p c ≡ true → c < 128) whe
       let after = IsUtf8-drop bs (prefix_len p bs) u (front_boundary bs u) in
       record {
         joined = cc (take-append-drop (prefix_len p bs) bs, chars-append (take (prefix_len p bs) bs) (drop (prefix_len p bs) bs) front);
-        in_front = subst (Every p) (sym (chars-IsAscii (take (prefix_len p bs) bs) (front_ascii bs)))
-            (subst (Every p) (sym (take_front p bs)) (front_passes p bs));
-        begins = not_begins_chars p below (drop (prefix_len p bs) bs) after
-            (subst (DoesNotBegin p) (sym (drop_front p bs)) (after_begins p bs));
+        in_front = grind (arith, chars-IsAscii, front_ascii, take_front, front_passes);
+        begins = grind (arith, not_begins_chars, drop_front, after_begins);
         text = (front, after);
       }
 

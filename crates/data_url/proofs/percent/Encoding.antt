@@ -259,9 +259,7 @@ serialised_recoded [] h = subst (λ x. Recoded [] x) (sym serialised_nil) none
 serialised_recoded (b ∷ s) h = elim (cases_Bool (b == 63)) [
   | inl e ↦ let f : b ≡ 63 = eqb-true b 63 e in subst (λ v. Recoded (v ∷ s) (serialised (v ∷ s))) (sym f)
       (subst (λ x. Recoded (63 ∷ s) x) (sym (serialised_query s)) (kept 63 (is_recoded in_query_set (λ b e. e) s h.1)))
-  | inr e ↦ subst (λ x. Recoded (b ∷ s) x) (sym (serialised_path b s e))
-      (recoded_byte (path_byte_set (before 63 s)) (path_byte_within (before 63 s)) b s (serialised s) h.0
-      (serialised_recoded s h.1))
+  | inr e ↦ grind (arith, serialised_path, recoded_byte, path_byte_within, (serialised_recoded s h.1))
 ]
 
 -- The first comma
@@ -336,10 +334,7 @@ pub before-serialised : (h rest : List ℕ) → after 44 h ≡ None → before 4
 before-serialised [] rest e = grind (arith, serialised_path, before_same, header_nil)
 before-serialised (b ∷ h) rest e = let k = lacks 44 b h e in
     elim (cases_Bool (b == 63)) [
-      | inl f ↦
-          let g : b ≡ 63 = eqb-true b 63 f in
-          subst (λ v. before 44 (serialised (v ∷ (h ++ 44 ∷ rest))) ≡ header_text (v ∷ h)) (sym g)
-          (cc (serialised_query (h ++ 44 ∷ rest), before_other 44 63 (percent_encoding in_query_set (h ++ 44 ∷ rest)) refl, before_encoded in_query_set refl (h ++ 44 ∷ rest), before_at 44 h rest k.after_it, header_query h))
+      | inl f ↦ grind (arith, eqb-true, serialised_query, before_other, before_encoded, before_at, header_query)
       | inr f ↦
           let set = path_byte_set (before 63 (h ++ 44 ∷ rest)) in cc (serialised_path b (h ++ 44 ∷ rest) f, before-append 44 (encoded_byte set b) (serialised (h ++ 44 ∷ rest)) (encoded_byte_lacks set b k.here), before-serialised h rest k.after_it, same_set h rest (after 63 h) refl, header_path b h f)
     ]

@@ -87,22 +87,8 @@ pub record IsCut (c : ℕ) (s rest : List ℕ) : Type 0 where
 pub is_cut : (c : ℕ) (s rest : List ℕ) → after c s ≡ Some rest → IsCut c s rest
 is_cut c [] rest h = absurd (let k : None ≡ Some rest = sym (after_nil c) ∙ h in cc)
 is_cut c (b ∷ s) rest h = elim (cases_Bool (b == c)) [
-  | inl e ↦
-      let same : b ≡ c = eqb-true b c e in
-      let front : before c (b ∷ s) ≡ [] = ap (λ x. before c (x ∷ s)) same ∙ before_same c s in
-      let tail : Some s ≡ Some rest = sym (ap (λ x. after c (x ∷ s)) same ∙ after_same c s) ∙ h in
-      let tail_is : s ≡ rest = cc in
-      record {
-        joined = ap (λ x. x ∷ s) same ∙ ap (λ t. c ∷ t) tail_is ∙ ap (λ t. t ++ c ∷ rest) (sym front);
-        lacks = ap (after c) front ∙ after_nil c;
-      }
-  | inr e ↦
-      let cut = is_cut c s rest (sym (after_other c b s e) ∙ h) in
-      let front = before_other c b s e in
-      record {
-        joined = ap (λ t. b ∷ t) cut.joined ∙ ap (λ t. t ++ c ∷ rest) (sym front);
-        lacks = ap (after c) front ∙ after_other c b (before c s) e ∙ cut.lacks;
-      }
+  | inl e ↦ grind (arith, eqb-true, before_same, after_same, lacks, after_nil)
+  | inr e ↦ grind (arith, (is_cut c s rest (sym (after_other c b s e) ∙ h)), after_other, before_other, lacks)
 ]
 
 -- if c is at no index of the text, the text has no c

@@ -20,13 +20,7 @@ returns-in-Err g c =
 
 pub returns-in-Ok-answer : goal.returns-in-Ok-answer
 returns-in-Ok-answer g c =
-    let over : (c.chunks.pieces.rest ≡ []) × (c.chunks-test.pieces.text ≡ c.chunks.pieces.text) =
-    elim c.chunks-test.branch [
-      | else-chunks-test w ↦ (c.has_ended.ensures.over w.chunks-test.false, ap (λ p. p.text) w.pieces-is)
-      | then-chunks-test+in_default w ↦
-          let o = over_next w.next_bytes.ensures w.in_default.is in
-          (o.rest_is, ap (λ p. p.text) w.pieces-is ∙ o.text_stays)
-    ] in
+    let over : (c.chunks.pieces.rest ≡ []) × (c.chunks-test.pieces.text ≡ c.chunks.pieces.text) = grind (arith, else-chunks-test, then-chunks-test+in_default, over_next) in
     let P : List ℕ → Type 0 = λ t. IsBodyEnd t c.end.result in
     let end : IsBodyEnd c.args.tail.now c.end.result = subst P (over.1 ∙ c.chunks.invariant.2.text_is) c.end.ensures in
     fed_ended (CalledAt g.F.FnMut) c.end.result refl c.chunks.invariant.2 over.0
@@ -34,9 +28,6 @@ returns-in-Ok-answer g c =
 
 pub returns : goal.returns
 returns g c =
-    let over : c.chunks.pieces.rest ≡ [] = elim c.chunks-test.branch [
-      | else-chunks-test w ↦ c.has_ended.ensures.over w.chunks-test.false
-      | then-chunks-test+in_default w ↦ (over_next w.next_bytes.ensures w.in_default.is).rest_is
-    ] in
+    let over : c.chunks.pieces.rest ≡ [] = grind (arith, else-chunks-test, then-chunks-test+in_default, over_next) in
     fed_ended (CalledAt g.F.FnMut) 0 refl c.chunks.invariant.2 over
     (λ e. absurd (cc)) c.finish_with-answer.ensures.finished c.in-Err-answer.is

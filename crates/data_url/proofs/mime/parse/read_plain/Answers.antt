@@ -51,12 +51,7 @@ returns-then-is_empty-clause-value c = let text = c.args.text.now in
       length-take len text,
     ) in
     elim c.then-is_empty.branch [
-      | then-is_empty-via-then-is_empty w ↦ (
-        None,
-        refl,
-        missing_value (chars text) (chars front) _ _
-            (empty_by t c.is_empty.result c.is_empty.ensures w.if-is_empty.true) h,
-      )
+      | then-is_empty-via-then-is_empty w ↦ grind (arith, missing_value, empty_by)
       | then-is_empty-via-else-is_empty+then-value-quotable w ↦ (
         Some (chars t),
         quotable_none (chars t)

@@ -35,15 +35,7 @@ loop-place-init c = elim c.if-place-self.branch [
             omega (arith, l, w.place-is);
         clear = to.1;
       }
-  | else-place-self w ↦
-      let P : ℕ → Type 0 = λ p. Looking c.args.self.now p 0 in
-      record {
-        looking = subst P (sym w.place-is) c.requires;
-        stays = stays_here c.args.self.now;
-        unseen = omega (arith, w.place-is, w.if-place-self.false);
-        forward = omega (arith, w.place-is);
-        clear = λ k a b. absurd (omega (arith, w.place-is));
-      }
+  | else-place-self w ↦ grind (arith, stays_here)
 ]
 
 pub overflow_add-result-then-self-ne0 : goal.overflow_add-result-then-self-ne0

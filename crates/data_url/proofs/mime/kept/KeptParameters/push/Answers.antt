@@ -44,8 +44,7 @@ pushed c =
           record {
             is_new = named_later p.0 (pairs_of old) c.requires.new ∙ few_names p.0 (pairs_of old) (omega arith);
             pairs = ap (λ k. k.pairs) w.self-is;
-            later = λ n. ap (λ k. contains_text k.later_names n) w.self-is
-                ∙ first_names old.later_names (pairs_of old) p l c.requires.indexed.later n;
+            later = λ n. grind (arith, first_names);
           }
     ]
 
