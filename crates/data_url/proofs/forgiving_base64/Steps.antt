@@ -12,7 +12,7 @@ use Rattle.data_url.specs.Base64.{after_groups, decoded, complete_bytes, first_f
 use Rattle.data_url.specs.Base64.{is_symbol, is_valid, kind_of, left_padding, left_symbols, left_text, rest_bytes}
 use Rattle.data_url.specs.Base64.{symbol_value, values}
 use Rattle.std.specs.Char.{is_ascii_whitespace}
-use Rattle.data_url.specs.Decoder.{Feeds, Finishes, IsAll, State, left_over, IsLeft, IsTaken}
+use Rattle.data_url.specs.Decoder.{Feeds, Finishes, State, left_over, IsLeft, IsTaken}
 use Rattle.data_url.specs.Errors.{IsRefused}
 use Rattle.data_url.specs.Mime.{Every}
 use Rattle.data_url.specs.Run.{IsRun, or_error, IsPrefix, joined_pieces, refusal}

@@ -1,7 +1,7 @@
 -- The scheme, and the first comma of a text. For `after_scheme` and `split_at_comma`.
 use Rattle.std.proofs.Common.{◌≡◌, ◌≢◌, ℕ, ◌+◌, ◌<◌, ◌≤◌, Bool, true, false, List, [], ◌∷◌, ◌++◌, length, get_or, take}
 use Rattle.std.proofs.Common.{drop, map, nat_eq, subst, length-append, codes, min, refl, sym, ap, ◌∙◌, ⊎_elim}
-use Rattle.std.proofs.Common.{arith, ◌-◌, Option, None, Some, position, ap₂, inl, inr, ◌⊎◌, eqb-true}
+use Rattle.std.proofs.Common.{arith, ◌-◌, Option, None, Some, position, ap₂, ◌⊎◌, eqb-true}
 use Rattle.std.specs.Char.{to_ascii_lowercase}
 use Rattle.std.specs.Str.{bytes_eq, IsCharBoundary, IsUtf8}
 use Rattle.std.proofs.lemmas.Bool.{cases_lt, false_from_ne_true, cond-true, lt-ltb, or_cases}
@@ -9,7 +9,7 @@ use Rattle.std.proofs.lemmas.Bool.{or_parts}
 use Rattle.std.proofs.lemmas.List.{get_or_at, get_or-take, length-map, length-take, map-append, take-append-le}
 use Rattle.std.proofs.lemmas.List.{take-map, drop_more, get_or-drop, length-drop, take-append-drop, take_all}
 use Rattle.std.proofs.lemmas.Slice.Eq.{bytes_eq-Decides, starts_is}
-use Rattle.std.specs.List.{starts_with, position_or_len, prefix_len}
+use Rattle.std.specs.List.{starts_with, prefix_len}
 use Rattle.std.proofs.lemmas.Bool.Decides.{Decides-eqb}
 use Rattle.std.proofs.lemmas.Str.{IsCharBoundary-from_take, IsUtf8-from_ascii}
 use Rattle.data_url.specs.Url.{without_tabs_and_newlines, is_tab_or_newline, after, front}
@@ -17,7 +17,7 @@ use Rattle.data_url.specs.Steps.Front.{HasNoScheme, IsSchemeAndRest, IsHeaderAnd
 use Rattle.data_url.proofs.percent.Encoding.{ascii_all, Plain, plain_serialised}
 use Rattle.data_url.proofs.texts.Bytes.{append-nil, without_tabs_and_newlines-append, dropped_keeps, dropped_nil}
 use Rattle.data_url.proofs.texts.Bytes.{dropped_passes, before_all, before_at, after_none}
-use Rattle.std.specs.Prelude.{◌==◌, ◌||◌, nat_lt}
+use Rattle.std.specs.Prelude.{◌==◌, ◌||◌}
 use Rattle.std.proofs.lemmas.List.Quantifiers.{position-Some}
 use Rattle.std.proofs.lemmas.List.Sums.{fails_before_first, prefix_len_passes}
 use Rattle.data_url.specs.Steps.Header.{header_text}

@@ -1,4 +1,4 @@
-use Rattle.std.proofs.Common.{◌+◌, ◌≤◌, None, Some, not, length, length-append, length-take, refl, sym}
+use Rattle.std.proofs.Common.{◌+◌, ◌≤◌, Some, not, length, length-append, length-take, refl, sym}
 use Rattle.std.proofs.Common.{ap, ◌∙◌, arith, take-append-drop}
 use Rattle.std.proofs.lemmas.List.{take_rest}
 use Rattle.std.specs.List.{prefix_len}

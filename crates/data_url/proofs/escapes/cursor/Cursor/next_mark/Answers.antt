@@ -1,6 +1,5 @@
-use Rattle.std.proofs.Common.{ℕ, ap, arith, length, refl, subst, sym, ◌∙◌}
+use Rattle.std.proofs.Common.{ap, arith, length, refl, ◌∙◌}
 use Rattle.data_url.specs.Pieces.{text_of}
-use Rattle.data_url.specs.Steps.Walk.{Looking}
 use Rattle.data_url.proofs.escapes.Marks.{block_marks, clear_in, clear_then, found, found_none, has_marks, looked_to}
 use Rattle.data_url.proofs.escapes.Marks.{looking_clear, mark_in, mark_then, stays_here, stays_then}
 use Rattle.data_url.proofs.escapes.cursor.Cursor.next_mark.Goals as goal
