@@ -27,16 +27,7 @@ rest_room (p ∷ q ∷ r ∷ s ∷ rest) h = absurd (omega arith)
 pub last_room : (s : DataUrlBase64) → is_good_state s ≡ true → length (take s.pending s.symbols) ≡ s.pending
     → 4 * length (decoded (waiting_text s)) ≤ 3 * s.pending
 last_room s h size =
-    let parts = good_parts s h in
-    let q : List ℕ = take s.pending s.symbols in
-    let few = parts.few_pending in
-    let long : length (map symbol_value q) ≡ s.pending = length-map q symbol_value ∙ size in
-    let after : after_groups (map symbol_value q) ≡ map symbol_value q = after_few (map symbol_value q) (omega arith) in
-    let all : decoded (waiting_text s) ≡ rest_bytes (map symbol_value q) =
-    decoded_left q s.padding (every_list_all q parts.symbols)
-    ∙ ap (λ x. x ++ rest_bytes (after_groups (map symbol_value q))) (groups_few (map symbol_value q) (omega arith))
-    ∙ ap rest_bytes after in
-    omega (arith, ap length all, rest_room (map symbol_value q) (omega arith))
+    grind (arith, good_parts, length-map, after_few, decoded_left, every_list_all, groups_few, rest_room)
 
 bytes_of_valid : (v : Bool) (P Q : Type 0) → v ≡ true → MatchBool v P Q → P
 bytes_of_valid true P Q e h = h
@@ -46,7 +37,4 @@ bytes_of_valid false P Q e h = absurd (cc)
 pub gets_valid : {F : Type 0} {step : F → List ℕ → Result (Unit {0}) Infallible → F → Type 0} {f g : F} {u : List ℕ}
     {r : Result (Unit {0}) (DecodeError Infallible)} → DecodesText step f u r g → is_valid u ≡ true
     → GetsBytes step f (decoded u) (r ≡ Ok tt) g
-gets_valid {u = u} h v =
-    let all = bytes_of_valid (is_valid u) _ _ v
-    (match_at_none (refusal h.run) _ _ (no_refusal (refusal h.run)) h.gave) in
-    record { run = h.run; ran = h.ran; bytes_are = all.bytes_are; ended = all.answer }
+gets_valid {u = u} h v = grind (arith, bytes_of_valid, match_at_none, no_refusal)

@@ -38,9 +38,7 @@ no_plus [] h e = absurd (omega arith)
 no_plus (c ∷ ds) h e = let k = subst (λ x. AllDigits 10 (x ∷ ds)) e h in absurd (omega (arith, k.0))
 
 decimal_value : (n : ℕ) → length (decimal n) < 64 → digits_value 10 (without_leading_plus (decimal n)) ≡ n
-decimal_value n h =
-    let is = decimal_is_IsNumeral_wide n (decimal_small n h) in
-    ap (digits_value 10) (without_leading_plus_none (decimal n) (no_plus (decimal n) is.0.1)) ∙ is.1
+decimal_value n h = grind (arith, decimal_is_IsNumeral_wide, decimal_small, without_leading_plus_none, no_plus)
 
 -- the number in the text of an unexpected symbol
 pub number_is : (text rest number : List ℕ) (byte found : ℕ) → length text < 64
@@ -48,16 +46,7 @@ pub number_is : (text rest number : List ℕ) (byte found : ℕ) → length text
     → text ≡ codes "symbol with codepoint " ++ rest → rest ≡ number ++ codes " not expected"
     → found ≡ digits_value 10 (without_leading_plus number) → found ≡ byte
 number_is text rest number byte found short h e f v =
-    let after : rest ≡ decimal byte ++ codes " not expected" =
-    append_cancel_left (codes "symbol with codepoint ") rest (decimal byte ++ codes " not expected") (sym e ∙ h) in
-    let is : number ≡ decimal byte =
-    append_cancel_right number (decimal byte) (codes " not expected") (sym f ∙ after) in
-    let a = length-append (codes "symbol with codepoint ") rest in
-    let b = length-append number (codes " not expected") in
-    let c = ap length e in
-    let d = ap length f in
-    let g = ap length is in
-    v ∙ ap (λ s. digits_value 10 (without_leading_plus s)) is ∙ decimal_value byte (omega (arith, a, b, c, d, g, short))
+    grind (arith, append_cancel_left, append_cancel_right, length-append, decimal_value)
 
 -- The texts of the other kinds
 

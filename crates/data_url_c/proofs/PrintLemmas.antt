@@ -16,12 +16,7 @@ use denote.RawPtr.{null_ptr}
 pub not_cut : (bytes shown items : List ℕ) (r : Bool) → (shown ≡ bytes) ⊎ (drop (length shown - 3) shown ≡ codes "...")
     → items ≡ shown → r ≡ ends_with nat_eq items (codes "...") → r ≡ false → items ≡ bytes
 not_cut bytes shown items r (inl k) e f g = e ∙ k
-not_cut bytes shown items r (inr k) e f g =
-    let n = length items - 3 in
-    let end : drop n items ≡ codes "..." = ap (λ s. drop (length s - 3) s) e ∙ k in
-    let split : items ≡ take n items ++ codes "..." =
-    sym (take-append-drop n items) ∙ ap (λ s. take n items ++ s) end in
-    absurd (both_ways r g ((ends_is Decides-eqb items (codes "...") r f).1 (take n items) split))
+not_cut bytes shown items r (inr k) e f g = grind (arith, take-append-drop, both_ways, ends_is)
 
 -- ASCII is encoded as it is
 pub ascii_encoded : (s : List ℕ) → IsAscii s → s ≡ encode_utf8_all s

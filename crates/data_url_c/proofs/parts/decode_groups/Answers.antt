@@ -42,6 +42,4 @@ returns-in-Err-InvalidBase64 c =
     }
 
 pub fault_status-status-requires-clause-fault : goal.fault_status-status-requires-clause-fault
-fault_status-status-requires-clause-fault c =
-    let told : c.feed_into.result ≡ Err (InvalidBase64 c.in-Err-InvalidBase64.field-0-0) = search rules in
-    is_faulty (waiting_text c.args.state.now ++ c.args.text.now) _ c.feed_into.ensures.ended told
+fault_status-status-requires-clause-fault c = grind (arith, is_faulty)

@@ -27,9 +27,4 @@ returns-then-at-gt0 c =
     c.last_edge-end.ensures.within c.if-at-gt0.true c.in-Some.ensures.0 c.in-Some.ensures.1
 
 pub returns : goal.returns
-returns c =
-    let tail = c.args.tail.now in
-    let long : c.args.limit < length (drop c.args.from tail) = search (rules, length-drop c.args.from tail) in
-    let P : List ℕ → Type 0 = λ s. IsEscapeEnd s c.escape_end.result in
-    window_escape tail c.args.from c.args.limit c.escape_end.result (omega (arith, long, length-drop c.args.from tail))
-    c.requires.limit (subst P (end_sliced c.args.from tail) c.escape_end.ensures)
+returns c = grind (arith, length-drop, window_escape, end_sliced)
