@@ -61,24 +61,7 @@ pub takes_nothing : (s : DataUrlBase64) (out : List ℕ) → is_good_state s ≡
     → TakesText (waiting_text s ++ []) s out out 0 0
 unfolding fault_byte
 takes_nothing s out h size =
-    grind (
-      arith,
-      good_parts,
-      every_list_all,
-      length-take-le,
-      none_fault,
-      fault_more,
-      done_more,
-      groups_few,
-      length-map,
-      length-append,
-      left_more,
-      append-nil,
-      after_few,
-      padding_more,
-      match_none,
-      is_left,
-    )
+    grind (arith, good_parts, every_list_all, length-take-le, none_fault, fault_more, done_more, groups_few, length-map, left_more, append-nil, after_few, padding_more)
 
 -- before the first piece nothing was fed
 pub fed_none : (s : DataUrlBase64) (text out : List ℕ) → is_good_state s ≡ true → length s.symbols ≡ 3
@@ -103,7 +86,7 @@ pub fed_room : {s0 s : DataUrlBase64} {text out0 out : List ℕ} {w : Walk} {len
     → 3 * (s0.pending + length (plain_body text)) ≤ 4 * length out0 → len ≤ length out
     → 3 * (s.pending + length bytes) + 4 * len ≤ 4 * length out
 fed_room {s0} {s} {text} {out0} {out} {w} {len} bytes rest h e good room within =
-    grind (arith, body_more, taken_room, length-append)
+    grind (arith, taken_room, length-append)
 
 -- one piece more
 pub fed_more : {s0 s s' : DataUrlBase64} {text out0 out part out2 out' : List ℕ} {w w' : Walk} {status len m : ℕ}
@@ -155,7 +138,7 @@ pub ends_after : {out out' piece : List ℕ} {last : Last} {len : ℕ} (s : Data
     → Writes piece out written out' len → EndsAfter (waiting_text s) written out out'
     (record { status = last.status; len = len })
 ends_after {out} {out'} {piece} {last} {len} s written h size three k room p w =
-    grind (arith, length-take-le, at_valid, good_parts, last_room, nil_from_length, take-append-drop)
+    grind (arith, length-take-le, last_room, take-append-drop)
 
 -- Outcomes
 
@@ -222,7 +205,7 @@ ends_cases {u} {before} {mid} {s} {n} after r false e h size k room short = let 
     let sound = taken_sound h refl in
     let G : List ℕ → Type 0 = λ x. GoesOn u [] (x ++ []) in
     let on : GoesOn u [] (w ++ []) = subst G (sym (left_text_is sound.1)) (two_feeds u [] sound.0) in
-    let invalid : is_valid u ≡ false = cc (append-nil u, on.valid_is, append-nil w) in
+    let invalid : is_valid u ≡ false = cc (append-nil u, append-nil w) in
     let kind : kind_of u ≡ kind_of w = ap kind_of (sym (append-nil u)) ∙ on.kind_is ∙ ap kind_of (append-nil w) in
     let P : Outcome → Type 0 = λ o. EndsAs o before after r.status r.len in
     let W : ℕ → Type 0 = λ m. WritesFront (complete_bytes u) before after m in
@@ -238,4 +221,4 @@ pub ends_whole : {u before mid after : List ℕ} {s : DataUrlBase64} {status n :
     → EndsAfter (waiting_text s) n mid after r → 4 * n + 3 * s.pending ≤ 4 * length before
     → EndsAs (outcome flag u) before after r.status r.len
 ends_whole {u} {before} {mid} {after} {s} {status} {n} {r} flag e h z size k room =
-    grind (arith, taken_sound, ends_cases, last_room)
+    grind (arith, ends_cases, last_room)

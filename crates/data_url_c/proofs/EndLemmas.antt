@@ -27,7 +27,7 @@ rest_room (p ∷ q ∷ r ∷ s ∷ rest) h = absurd (omega arith)
 pub last_room : (s : DataUrlBase64) → is_good_state s ≡ true → length (take s.pending s.symbols) ≡ s.pending
     → 4 * length (decoded (waiting_text s)) ≤ 3 * s.pending
 last_room s h size =
-    grind (arith, good_parts, length-map, after_few, decoded_left, every_list_all, groups_few, rest_room)
+    grind (arith, length-map, after_few, decoded_left, every_list_all, groups_few)
 
 bytes_of_valid : (v : Bool) (P Q : Type 0) → v ≡ true → MatchBool v P Q → P
 bytes_of_valid true P Q e h = h
@@ -37,4 +37,4 @@ bytes_of_valid false P Q e h = absurd (cc)
 pub gets_valid : {F : Type 0} {step : F → List ℕ → Result (Unit {0}) Infallible → F → Type 0} {f g : F} {u : List ℕ}
     {r : Result (Unit {0}) (DecodeError Infallible)} → DecodesText step f u r g → is_valid u ≡ true
     → GetsBytes step f (decoded u) (r ≡ Ok tt) g
-gets_valid {u = u} h v = grind (arith, bytes_of_valid, match_at_none, no_refusal)
+gets_valid {u = u} h v = grind arith

@@ -51,23 +51,23 @@ step_by s t c rest h e = fault-append (c ∷ []) rest s h ∙ ap (λ v. fault_by
 
 -- a symbol before any '=' is not a fault
 pub after_symbol : (c : ℕ) (rest : List ℕ) → is_symbol c ≡ true → fault_byte false (c ∷ rest) ≡ fault_byte false rest
-after_symbol c rest h = grind (arith, step_by, fault_symbol, symbol_alone, classes)
+after_symbol c rest h = grind (arith, step_by, fault_symbol)
 
 -- white space is not a fault
 pub after_space : (s : Bool) (c : ℕ) (rest : List ℕ) → is_ascii_whitespace c ≡ true
     → fault_byte s (c ∷ rest) ≡ fault_byte s rest
-after_space s c rest h = grind (arith, step_by, fault_space, space_alone, classes, or-false)
+after_space s c rest h = grind (arith, step_by, fault_space)
 
 -- a '=' is not a fault, and there is padding after it
 pub after_pad : (s : Bool) (c : ℕ) (rest : List ℕ) → (c == 61) ≡ true → fault_byte s (c ∷ rest) ≡ fault_byte true rest
-after_pad s c rest h = grind (arith, eqb-true, step_by, fault_byte, fault_pad, or-true)
+after_pad s c rest h = grind (arith, step_by, fault_pad)
 
 -- the same, from what is known about the flag before and after
 
 -- a symbol before any '=' is passed, and the flag stays as it is
 pub step_symbol : (s t : Bool) (c : ℕ) → s ≡ false → t ≡ s → is_symbol c ≡ true → (rest : List ℕ)
     → fault_byte s (c ∷ rest) ≡ fault_byte t rest
-step_symbol s t c e f h rest = grind (arith, fault_byte, after_symbol)
+step_symbol s t c e f h rest = grind (arith, after_symbol)
 
 -- a '=' is passed, and the flag is true after it
 pub step_pad : (s t : Bool) (c : ℕ) → t ≡ true → (c == 61) ≡ true → (rest : List ℕ)
@@ -90,7 +90,7 @@ pub goes_on : (s : DataUrlBase64) (text : List ℕ) (padded now : Bool) (at c : 
     → at < length text
     → c ≡ get_or text at 0 → ((rest : List ℕ) → fault_byte padded (c ∷ rest) ≡ fault_byte now rest)
     → GoesOn s text now (at + 1)
-goes_on s text padded now at c h l e step = grind (arith, fault_byte, drop_more)
+goes_on s text padded now at c h l e step = grind (arith, drop_more)
 
 -- the kind of the whole, at a byte with a fault
 pub kind_here : (s : DataUrlBase64) (text : List ℕ) (padded : Bool) (at c : ℕ) → is_good_state s ≡ true
@@ -124,11 +124,11 @@ pub none_found : (s : DataUrlBase64) (text : List ℕ) (padded : Bool) (at : ℕ
     → GoesOn s text padded at
     → length text ≤ at → is_some (first_fault (waiting_text s ++ text)) ≡ true → ⊥
 none_found s text padded at g h l k =
-    grind (arith, every_from_all, good_parts, fault_byte, fault_more, drop_of_length-le, fault_nothing, fault_some)
+    grind (arith, every_from_all, fault_more, drop_of_length-le, fault_nothing, fault_some)
 
 -- The end
 
 -- the status of what is left over in a good state is 9 if there is one symbol, and 8 otherwise
 pub end_is : (s : DataUrlBase64) → is_good_state s ≡ true → length s.symbols ≡ 3
     → status_of_kind (kind_of (waiting_text s)) ≡ cond (eqb s.pending 1) 9 8
-end_is s g l = grind (arith, good_parts, every_from_all, length-take-le, kind_left, eqb)
+end_is s g l = grind (arith, kind_left)

@@ -38,7 +38,7 @@ no_plus [] h e = absurd (omega arith)
 no_plus (c ∷ ds) h e = let k = subst (λ x. AllDigits 10 (x ∷ ds)) e h in absurd (omega (arith, k.0))
 
 decimal_value : (n : ℕ) → length (decimal n) < 64 → digits_value 10 (without_leading_plus (decimal n)) ≡ n
-decimal_value n h = grind (arith, decimal_is_IsNumeral_wide, decimal_small, without_leading_plus_none, no_plus)
+decimal_value n h = grind (arith, decimal_is_IsNumeral_wide, decimal_small)
 
 -- the number in the text of an unexpected symbol
 pub number_is : (text rest number : List ℕ) (byte found : ℕ) → length text < 64
@@ -46,7 +46,7 @@ pub number_is : (text rest number : List ℕ) (byte found : ℕ) → length text
     → text ≡ codes "symbol with codepoint " ++ rest → rest ≡ number ++ codes " not expected"
     → found ≡ digits_value 10 (without_leading_plus number) → found ≡ byte
 number_is text rest number byte found short h e f v =
-    grind (arith, append_cancel_left, append_cancel_right, length-append, decimal_value)
+    grind (arith, append_cancel_right, length-append, decimal_value)
 
 -- The texts of the other kinds
 

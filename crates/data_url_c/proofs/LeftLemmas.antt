@@ -59,7 +59,7 @@ complete_exact u e = grind (arith, groups_exact, length-map, length-after_groups
 -- the symbols of what is left over, and of what is left over and then a text
 pub waiting_symbols : (s : DataUrlBase64) (t : List ℕ) → is_good_state s ≡ true
     → filter is_symbol (waiting_text s ++ t) ≡ take s.pending s.symbols ++ filter is_symbol t
-waiting_symbols s t h = grind (arith, symbols_more, every_list_all, good_parts)
+waiting_symbols s t h = grind (arith, symbols_more, every_list_all)
 
 -- what is left over in a good state, and then t, has at most `pending` symbols and one for each byte of t
 pub waiting_length : (s : DataUrlBase64) (t : List ℕ) → is_good_state s ≡ true
@@ -80,7 +80,7 @@ filter_first b bs v e = ap (λ v. cond v (b ∷ filter is_symbol bs) (filter is_
 -- the byte before the place
 filter_before : (s : List ℕ) (i b : ℕ) (v : Bool) → i < length s → b ≡ get_or s i 0 → is_symbol b ≡ v
     → filter is_symbol (drop i s) ≡ cond v (b ∷ filter is_symbol (drop (i + 1) s)) (filter is_symbol (drop (i + 1) s))
-filter_before s i b v l q e = grind (arith, add-one, drop-cons, filter_first)
+filter_before s i b v l q e = grind (arith, drop-cons)
 
 -- a symbol is put before those that were found
 found_one : (xs : List ℕ) (count m b : ℕ) → m < count → count ≤ length xs
@@ -148,7 +148,7 @@ left_all u = all_list (after_groups (filter is_symbol u)) (every_after (filter i
 -- a state with these symbols and this padding is what is left over of the text
 pub is_left : (u : List ℕ) (s : DataUrlBase64) → length s.symbols ≡ 3 → s.pending ≤ 3 → s.padding ≤ 3
     → take s.pending s.symbols ≡ left_symbols u → s.padding ≡ left_padding u → IsLeftOf u s
-is_left u s size a b e f = grind (arith, good_from, left_all, length-take-le)
+is_left u s size a b e f = grind (arith, left_all, length-take-le)
 
 -- what was counted is left over
 pub counted_left : (s r : DataUrlBase64) (t : List ℕ) (count pads : ℕ) → is_good_state s ≡ true
@@ -190,7 +190,7 @@ sum_case c n x y false false k h = omega arith
 -- no byte is a symbol and padding
 symbols_and_pads : (t : List ℕ) → length (filter is_symbol t) + length (filter (λ c. eqb c 61) t) ≤ length t
 symbols_and_pads [] = omega arith
-symbols_and_pads (c ∷ t) = grind (arith, sum_case, eqb, not_both, (symbols_and_pads t))
+symbols_and_pads (c ∷ t) = grind (arith, (symbols_and_pads t))
 
 -- a text whose groups use each of its bytes
 pub nothing_left : (u : List ℕ) (s : DataUrlBase64) (bytes len : ℕ) → first_fault u ≡ None → bytes ≡ length u
@@ -198,7 +198,7 @@ pub nothing_left : (u : List ℕ) (s : DataUrlBase64) (bytes len : ℕ) → firs
     → s.padding ≡ 0 → IsLeftOf u s
 unfolding left_padding left_symbols
 nothing_left u s bytes len e a b c d size f g =
-    grind (arith, complete_exact, symbols_and_pads, length-after_groups, eqb, is_left, nil_from_length)
+    grind (arith, complete_exact, symbols_and_pads, nil_from_length)
 
 -- what is left over and what was written are together not longer than what was fed
 pub taken_room : (s t : DataUrlBase64) (a : List ℕ) {out out' : List ℕ} {status n : ℕ} → is_good_state s ≡ true

@@ -42,7 +42,7 @@ use Rattle.data_url_c.proofs.ProbeLemmas.{same_no_scheme, tail_of_cut, trimmed_a
 -- the index at which the first comma is found is within the text, and there is a comma
 pub at_comma : (x : List ℕ) (comma : ℕ) → position (λ b. b == 44) x ≡ Some comma
     → (comma < length x) × (get_or x comma 0 ≡ 44)
-at_comma x comma h = grind (arith, position-Some, eqb-true)
+at_comma x comma h = grind (arith, position-Some)
 
 none_before : (x : List ℕ) (comma : ℕ) → position (λ b. b == 44) x ≡ Some comma → after 44 (take comma x) ≡ None
 none_before x comma h =
@@ -52,7 +52,7 @@ none_before x comma h =
     ap (λ v. v == 44) (get_or-take comma x k 0 below) ∙ p.2 k below)
 
 cut_at : (x : List ℕ) (comma : ℕ) → position (λ b. b == 44) x ≡ Some comma → x ≡ take comma x ++ 44 ∷ drop (comma + 1) x
-cut_at x comma h = let at = at_comma x comma h in cc (take-append-drop comma x, drop_more x comma 0 at.0, at.1)
+cut_at x comma h = let at = at_comma x comma h in cc (take-append-drop comma x, drop_more x comma 0 at.0)
 
 -- the C0 controls and spaces at the end of what follows the comma are at most as many as its bytes
 pub fits_tail : (x : List ℕ) (comma low : ℕ) → low ≡ suffix_len is_c0_control_or_space (drop (comma + 1) x)
@@ -98,7 +98,7 @@ tail_of_probe : trimmed_tail qq ≡ qq
 tail_of_probe = refl
 
 bytes_probe : (a : List ℕ) → IsBytes a → IsBytes (trimmed_text (a ++ 44 ∷ qq))
-bytes_probe a h = grind (arith, trimmed_around, bytes_join, trimmed_front, bytes_drop)
+bytes_probe a h = grind (arith, trimmed_around, bytes_join, bytes_drop)
 
 -- The probe's body
 
@@ -128,7 +128,7 @@ read_by a t {flag = flag} n b d h = let probe = bytes_probe a b in
     let is = accepted (a ++ 44 ∷ qq) u.staged_is in
     let own = same_header a qq qq u.header (ends a n) probe probe u.header_is is in
     let with = same_header a qq t u.header (ends a n) probe d u.header_is is in
-    let tail : url_tail h.url ≡ qq = same_Some (url_tail h.url) qq (cc (u.tail_is, own.tail_is, tail_of_probe)) in
+    let tail : url_tail h.url ≡ qq = same_Some (url_tail h.url) qq (cc) in
     let body : url_body h.url ≡ outcome (is_base64 h.url) qq =
     ap (outcome (is_base64 h.url)) (ap plain_body tail ∙ body_of_probe) in
     let length = subst (λ o. HasLength o h.len) body h.len_is in
@@ -162,7 +162,7 @@ refused_by a t (InvalidBase64 kind before) n b d p u h = absurd h
 reads_by : (a t old new : List ℕ) (r : Result (DataUrlAnswer × Bool) Refusal) → after 44 a ≡ None → IsBytes a
     → IsBytes (trimmed_text (a ++ 44 ∷ t)) → IsUtf8 (a ++ 44 ∷ qq) → ReadsProbe (a ++ 44 ∷ qq) old new r → (x : List ℕ)
     (comma : ℕ) → IsUtf8 x → x ≡ a ++ 44 ∷ t → tail_after x comma ≡ trimmed_tail t → ReadsUrl x comma old new r
-reads_by a t old new (Ok found) n b d p h x comma u e f = grind (arith, trimmed_tail, read_by)
+reads_by a t old new (Ok found) n b d p h x comma u e f = grind (arith, read_by)
 reads_by a t old new (Err refusal) n b d p h x comma u e f = grind (arith, refused_by)
 
 -- what reading a probe returns is what reading the URL returns, if the probe is the text up to its comma and ",QQ"
@@ -239,7 +239,7 @@ default_by t memory d h = let with = same_header scheme qq t [] (ends scheme no_
       shown = h;
       flag_is = sym not_base64;
       tail_is = with.tail_is;
-      staged_is = cc (with.staged_is, not_base64);
+      staged_is = cc not_base64;
     }
 
 -- a text that begins with "data:," has the default MIME type, and its body is not base64

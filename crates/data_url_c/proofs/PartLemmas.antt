@@ -36,7 +36,7 @@ pub record GoodParts (s : DataUrlBase64) : Type 0 where
 
 -- what is true of a good state, part by part
 pub good_parts : (s : DataUrlBase64) → is_good_state s ≡ true → GoodParts s
-good_parts s h = grind (arith, and_parts, leb-true)
+good_parts s h = grind arith
 
 -- a state with at most three symbols and at most three '=' is good exactly if its symbols are in the alphabet
 pub good_rest : (s : DataUrlBase64) → s.pending ≤ 3 → s.padding ≤ 3 → list_all is_symbol (take s.pending s.symbols)
@@ -94,13 +94,7 @@ module _ {F E : Type 0} (step : F → List ℕ → Result (Unit {0}) E → F →
       → Reaches out b (bytes f) (len f) → Reaches out (b ++ joined_pieces cs) (bytes g) (len g)
   run_reaches out [] b f g ran h = grind (arith, append-nil)
   run_reaches out (c ∷ cs) b f g ran h =
-      grind (
-        arith,
-        append_assoc,
-        (run_reaches out cs (b ++ c.piece) c.after g ran.2 (reaches_more out b (bytes f)
-            c.piece (bytes c.after) (len f) (len c.after) h (writes f c.piece c.answer c.after ran.0))),
-        reaches_more,
-      )
+      grind (arith, append_assoc, (run_reaches out cs (b ++ c.piece) c.after g ran.2 (reaches_more out b (bytes f) c.piece (bytes c.after) (len f) (len c.after) h (writes f c.piece c.answer c.after ran.0))))
 
 -- What was decoded
 
@@ -118,7 +112,7 @@ module _ {F : Type 0} {step : F → List ℕ → Result (Unit {0}) Infallible �
   -- what a new decoder did with a text, if its closure returns no error
   pub groups_fed : {f : F} {d d' : State F} {u : List ℕ} {r : Result (Unit {0}) (DecodeError Infallible)} → d ≡ start f
       → (h : Feeds step d u r d') → IsTaken u (joined_pieces h.run) r d'
-  groups_fed {f} {d} {d'} {u} {r} e h = grind (arith, match_at_none, no_refusal)
+  groups_fed {f} {d} {d'} {u} {r} e h = grind arith
 
 -- what each call preserves, feeding preserves
 pub fed_keeps : {F E A : Type 0} {step : F → List ℕ → Result (Unit {0}) E → F → Type 0} {d d' : State F} {u : List ℕ}
@@ -139,7 +133,7 @@ module _ {F G E : Type 0} (inner : G → List ℕ → Result (Unit {0}) E → G 
   pub outer_ran : (cs : List (Call G E)) (f g : G) → IsRun inner f cs g → IsRun outer (K f) (outer_calls cs) (K g)
   unfolding outer_calls
   outer_ran [] f g ran = ap K ran
-  outer_ran (c ∷ cs) f g ran = grind (arith, outer_calls, (outer_ran cs c.after g ran.2))
+  outer_ran (c ∷ cs) f g ran = grind (arith, (outer_ran cs c.after g ran.2))
 
   -- these calls have the same pieces
   pub outer_joined : (cs : List (Call G E)) → joined_pieces (outer_calls cs) ≡ joined_pieces cs
@@ -150,14 +144,14 @@ module _ {F G E : Type 0} (inner : G → List ℕ → Result (Unit {0}) E → G 
   -- a closure that calls another one with its pieces
   pub passes_on : {f g : G} {w w' : F} {bytes : List ℕ} {Ended : Type 0} (run : List (Call G E)) → IsRun inner f run g
       → joined_pieces run ≡ bytes → Ended → K f ≡ w → w' ≡ K g → GetsBytes outer w bytes Ended w'
-  passes_on {f} {g} {w} {w'} run ran all ended a b = grind (arith, outer_calls, outer_ran, outer_joined)
+  passes_on {f} {g} {w} {w'} run ran all ended a b = grind (arith, outer_ran, outer_joined)
 
   -- a decoder over such a closure
   pub passes_groups : {f : G} {d d' : State G} {u : List ℕ} {r : Result (Unit {0}) (DecodeError E)} {w w' : F}
       → d ≡ start f
       → (h : Feeds inner d u r d') → IsTaken u (joined_pieces h.run) r d' → K f ≡ w → w' ≡ K d'.closure
       → GetsGroups outer w u r w'
-  passes_groups {f} {d} {d'} {u} e h taken a b = grind (arith, passes_on, match_map)
+  passes_groups {f} {d} {d'} {u} e h taken a b = grind (arith, passes_on)
 
 module _ {F E : Type 0} {step : F → List ℕ → Result (Unit {0}) E → F → Type 0} {f g : F} {all : List ℕ} {Ended : Type 0}
   where
@@ -231,7 +225,7 @@ faulty_by (Some place) kind status P Q h e = (refl, h.0, h.1)
 -- if the status is 0, the text has no fault, and the state holds what is left over of it
 pub taken_sound : {u : List ℕ} {s : DataUrlBase64} {before after : List ℕ} {status len : ℕ}
     → TakesText u s before after status len → status ≡ 0 → (first_fault u ≡ None) × IsLeftOf u s
-taken_sound {u} {s} {status = status} h e = grind (arith, sound_by)
+taken_sound {u} {s} {status = status} h e = grind arith
 
 -- if a state holds what is left over of a text, its text is the symbols and the padding that are left over
 pub left_text_is : {u : List ℕ} {s : DataUrlBase64} → IsLeftOf u s

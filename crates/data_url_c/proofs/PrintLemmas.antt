@@ -16,7 +16,7 @@ use denote.RawPtr.{null_ptr}
 pub not_cut : (bytes shown items : List ℕ) (r : Bool) → (shown ≡ bytes) ⊎ (drop (length shown - 3) shown ≡ codes "...")
     → items ≡ shown → r ≡ ends_with nat_eq items (codes "...") → r ≡ false → items ≡ bytes
 not_cut bytes shown items r (inl k) e f g = e ∙ k
-not_cut bytes shown items r (inr k) e f g = grind (arith, take-append-drop, both_ways, ends_is)
+not_cut bytes shown items r (inr k) e f g = grind arith
 
 -- ASCII is encoded as it is
 pub ascii_encoded : (s : List ℕ) → IsAscii s → s ≡ encode_utf8_all s

@@ -29,7 +29,7 @@ use Rattle.data_url.proofs.api.{stages_accepted, stages_no_comma, stages_no_sche
 -- Trimming
 
 prefix_stop : (p : ℕ → Bool) (x q : List ℕ) (b : ℕ) → p b ≡ false → prefix_len p (x ++ b ∷ q) ≡ prefix_len p x
-prefix_stop p x q b f = grind (arith, prefix_len-drop_no, prefix_len-append, cond_both, eqb, eqb-true)
+prefix_stop p x q b f = grind (arith, prefix_len-append)
 
 end_stop : (p : ℕ → Bool) (x q : List ℕ) (b : ℕ) → p b ≡ false → without_end p (x ++ b ∷ q) ≡ x ++ b ∷ without_end p q
 end_stop p x q b f =
@@ -113,7 +113,7 @@ has_scheme s h =
 
 -- the first five kept bytes of a text are those of a long prefix of it
 spelled_front : (x w : List ℕ) → 5 ≤ length (without_tabs_and_newlines x) → spelled (x ++ 44 ∷ w) ≡ spelled x
-spelled_front x w l = grind (arith, dropped_around, take-append-le)
+spelled_front x w l = grind (arith, dropped_around)
 
 -- What depends only on the prefix
 
@@ -217,12 +217,7 @@ front_lacks_comma s (Some rest) e h =
 front_stays : (s rest t : List ℕ) → after 35 s ≡ Some rest → front (s ++ t) ≡ front s
 unfolding front
 front_stays s rest t e =
-    let cut = is_cut 35 s rest e in cc (
-      cut.joined,
-      append_assoc (before 35 s) (35 ∷ rest) t,
-      before_at 35 (before 35
-          s) (rest ++ t) cut.lacks,
-    )
+    let cut = is_cut 35 s rest e in cc (append_assoc (before 35 s) (35 ∷ rest) t, before_at 35 (before 35 s) (rest ++ t) cut.lacks)
 
 accepted_with : (a t : List ℕ) (s : HasScheme (trimmed_front a)) → after 44 s.rest ≡ None → after 35 s.rest ≡ None
     → IsBytes (trimmed_text (a ++ 44 ∷ t))
@@ -288,4 +283,4 @@ pub same_header : (a s t header : List ℕ) → Ends a → IsBytes (trimmed_text
     → IsAcceptedWith (a ++ 44 ∷ t) header (trimmed_tail t)
 same_header a s t header (all_no_scheme f) b d h k = absurd (subst IsAcceptable (f s) k)
 same_header a s t header (all_no_comma f) b d h k = absurd (subst IsAcceptable (f s b) k)
-same_header a s t header (all_accepted other f) b d h k = grind (arith, same_Some)
+same_header a s t header (all_accepted other f) b d h k = grind arith

@@ -28,7 +28,7 @@ use Rattle.data_url_c.proofs.WindowLemmas.{body_cut, body_fragment}
 tail_window : {tail window : List ℕ} {from end : ℕ} → IsWindowOf tail from window end
     → drop from tail ≡ window ++ drop end tail
 tail_window {tail} {window} {from} {end} h = let order = h.order in
-    let whole : from + (end - from) ≡ end = omega arith in cc (take-append-drop (end - from) (drop from tail), h.window_is, drop-drop (end - from) from tail)
+    let whole : from + (end - from) ≡ end = omega arith in cc (take-append-drop (end - from) (drop from tail), drop-drop (end - from) from tail)
 
 some_fragment : (o : Option (List ℕ)) → true ≡ is_some o → (r : List ℕ) × (o ≡ Some r)
 some_fragment None e = absurd (cc)
@@ -78,7 +78,7 @@ flag_plain n e = ap (λ m. not (m == 0)) e
 
 plain_left : {tail : List ℕ} (s : DataUrlBody) → IsGoodBody tail s → s.is_base64 ≡ 0
     → body_left tail s ≡ Good (plain_body (drop s.from tail))
-plain_left {tail} s h e = grind (arith, outcome_plain, flag_plain)
+plain_left {tail} s h e = grind (arith, outcome_plain)
 
 -- the state at the end of a window
 good_at : {tail : List ℕ} {old new : DataUrlBody} {end : ℕ} → IsGoodBody tail old → new.from ≡ end → new.left ≡ old.left
@@ -150,7 +150,7 @@ outcome_cases u rest s false e on = grind (arith, outcome_invalid)
 outcome_more : {u before after : List ℕ} {s : DataUrlBase64} {status n : ℕ} (rest : List ℕ)
     → TakesText u s before after status n → status ≡ 0 → outcome true (u ++ rest) ≡ prepend (complete_bytes u)
     (outcome true (waiting_text s ++ rest))
-outcome_more {u} {before} {after} {s} rest h z = grind (arith, taken_sound, outcome_cases, left_text_is, two_feeds)
+outcome_more {u} {before} {after} {s} rest h z = grind (arith, outcome_cases, two_feeds)
 
 -- any other window
 pub base64_more : {tail window before after : List ℕ} {end len status : ℕ} {there : Bool} (old new : DataUrlBody)

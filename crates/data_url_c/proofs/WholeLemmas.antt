@@ -58,7 +58,7 @@ pub ends_good : {E : Type 0} (url : DataUrl) {tail : List ℕ} (r : Result (Unit
     (len : ℕ)
     → url_tail url ≡ tail → length tail ≤ length out → r ≡ Ok tt → BodyAnswers (url_body url) AnyAnswer r
     → Reaches out (outcome_bytes (url_body url)) out' len → EndsAs (url_body url) out out' 0 len
-ends_good url r out out' len t room e answer h = grind (arith, body_fits, good_of, writes_front)
+ends_good url r out out' len t room e answer h = grind (arith, body_fits, writes_front)
 
 -- a bad body, whose fault has this status
 pub ends_bad : {E : Type 0} (url : DataUrl) {tail : List ℕ} (r : Result (Unit {0}) (DecodeError E)) (kind : Kind)
@@ -66,7 +66,7 @@ pub ends_bad : {E : Type 0} (url : DataUrl) {tail : List ℕ} (r : Result (Unit 
     → url_tail url ≡ tail → length tail ≤ length out → r ≡ Err (Invalid kind) → BodyAnswers (url_body url) AnyAnswer r
     → status ≡ status_of_kind kind → Reaches out (outcome_bytes (url_body url)) out' len
     → EndsAs (url_body url) out out' status len
-ends_bad url r kind out out' status len t room e answer named h = grind (arith, body_fits, bad_of, writes_front)
+ends_bad url r kind out out' status len t room e answer named h = grind (arith, body_fits, writes_front)
 
 flag_of_bad : (flag : Bool) (x bytes : List ℕ) (kind : Kind) → outcome flag x ≡ Bad bytes kind → flag ≡ true
 unfolding outcome

@@ -35,7 +35,7 @@ before_left (x ∷ d) r s h =
 -- Decoding two texts
 
 not_percent : (a : ℕ) (s : List ℕ) → not (a == 37) ≡ true → ((a == 37) && two_digits s) ≡ false
-not_percent a s h = grind (arith, cases_Bool, both_ways, two_digits)
+not_percent a s h = grind arith
 
 -- what is closed stays closed without its first bytes
 closed_rest : (a : ℕ) (s : List ℕ) → is_closed (a ∷ s) ≡ true → is_closed s ≡ true
@@ -57,7 +57,7 @@ decode_closed : (s t : List ℕ) → is_closed s ≡ true
 unfolding is_closed percent_decoding
 decode_closed [] t h = refl
 decode_closed (a ∷ []) t h = decoded_keeps a t (not_percent a t h)
-decode_closed (a ∷ b ∷ []) t h = grind (arith, and_parts, decoded_keeps, not_percent)
+decode_closed (a ∷ b ∷ []) t h = grind arith
 decode_closed (a ∷ b ∷ c ∷ rest) t h =
     decode_step a b c rest t (decode_closed rest t (closed_rest c rest (closed_rest b (c ∷ rest) h)))
     (decode_closed (b ∷ c ∷ rest) t h)
@@ -77,7 +77,7 @@ decode_before : (s t : List ℕ) → BeginsWithoutDigit t
 unfolding percent_decoding
 decode_before [] t h = refl
 decode_before (a ∷ []) t h = decoded_keeps a t (and_right (a == 37) (two_digits t) (no_digit_first t h))
-decode_before (a ∷ b ∷ []) t h = grind (arith, decoded_keeps, and_right, two_digits, no_digit_second, no_digit_first)
+decode_before (a ∷ b ∷ []) t h = grind (arith, and_right)
 decode_before (a ∷ b ∷ c ∷ rest) t h = decode_step a b c rest t (decode_before rest t h)
     (decode_before (b ∷ c ∷ rest) t h)
 
@@ -92,16 +92,7 @@ begins_before (b ∷ t) h = grind arith
 pub body_cut : (a b : List ℕ) → IsCut a b → after 35 a ≡ None → plain_body (a ++ b) ≡ plain_body a ++ plain_body b
 unfolding plain_body front
 body_cut a b h n =
-    grind (
-      arith,
-      after-dropped_none,
-      without_tabs_and_newlines-append,
-      before-append,
-      before_all,
-      decode_closed,
-      decode_before,
-      begins_before,
-    )
+    grind (arith, after-dropped_none, without_tabs_and_newlines-append, before-append, before_all, decode_closed, decode_before, begins_before)
 
 -- a window with a fragment holds the whole body
 pub body_fragment : (a b r : List ℕ) → after 35 a ≡ Some r → plain_body (a ++ b) ≡ plain_body a
@@ -190,14 +181,14 @@ pub scan_kept_step : (window : List ℕ) (at kept i : ℕ) → i + 1 ≡ at → 
     → NoPercent (without_tabs_and_newlines (drop at window))
     → (kept + 1 ≡ length (without_tabs_and_newlines (drop i window)))
     × NoPercent (without_tabs_and_newlines (drop i window))
-scan_kept_step window at kept i e l t p k n = grind (arith, scan_kept, no_percent)
+scan_kept_step window at kept i e l t p k n = grind (arith, scan_kept)
 
 take_next : (s : List ℕ) (i : ℕ) → i < length s → without_tabs_and_newlines (take (i + 1) s) ≡ without_tabs_and_newlines
     (take i s) ++ without_tabs_and_newlines (get_or s i 0 ∷ [])
 take_next s i l = cc (take_more s i 0 l, without_tabs_and_newlines-append (take i s) (get_or s i 0 ∷ []))
 
 tab_below : (b : ℕ) → is_tab_or_newline b ≡ true → b < 128
-tab_below b h = grind (arith, cases_Bool, ltb-true, ltb-false, ne_eqb, both_ways)
+tab_below b h = grind arith
 
 hex_below : (b : ℕ) → is_ascii_hexdigit b ≡ true → b < 128
 hex_below b h = search (rules, tests, h)
@@ -211,12 +202,12 @@ join_no_percent (b ∷ s) t h k = (h.0, join_no_percent s t h.1 k)
 
 -- nothing but the '%'
 pub escape_begins : (text : List ℕ) → 0 < length text → get_or text 0 0 ≡ 37 → EscapeSoFar text 1 0
-escape_begins text l e = grind (arith, take_more, dropped_keeps, dropped_nil)
+escape_begins text l e = grind (arith, dropped_keeps, dropped_nil)
 
 -- a tab or newline more
 pub escape_tab : {text : List ℕ} {at digits : ℕ} → EscapeSoFar text at digits → at < length text
     → is_tab_or_newline (get_or text at 0) ≡ true → EscapeSoFar text (at + 1) digits
-escape_tab {text} {at} {digits} h l t = grind (arith, take_next, dropped_passes, dropped_nil, append-nil, tab_below)
+escape_tab {text} {at} {digits} h l t = grind (arith, take_next, dropped_passes, dropped_nil, append-nil)
 
 -- a digit more
 pub escape_digit : {text : List ℕ} {at digits : ℕ} → EscapeSoFar text at digits → at < length text
@@ -229,7 +220,7 @@ escape_digit {text} {at} {digits} h l t x n = let same : at + 1 - 1 ≡ at = ome
       within = omega arith;
       few = omega arith;
       hex = h.hex ++ get_or text at 0 ∷ [];
-      is = cc (take_next text at l, dropped_keeps (get_or text at 0) [] t, dropped_nil, h.is);
+      is = cc (take_next text at l, dropped_keeps (get_or text at 0) [] t, dropped_nil);
       size = length-append h.hex (get_or text at 0 ∷ []) ∙ ap (λ m. m + 1) h.size;
       plain = join_no_percent h.hex (get_or text at 0 ∷ []) h.plain (hex_no_percent (get_or text at 0) x, tt);
       ascii = omega (arith, hex_below (get_or text at 0) x, ap (λ i. get_or text i 0) same);
@@ -253,7 +244,7 @@ escape_two h e = escape_is h (inl (ap is_closed h.is ∙ closed_hex h.hex (h.siz
 -- a byte that is not a digit ends it
 pub escape_other : {text : List ℕ} {at digits : ℕ} → EscapeSoFar text at digits → at < length text
     → is_tab_or_newline (get_or text at 0) ≡ false → is_ascii_hexdigit (get_or text at 0) ≡ false → IsEscapeEnd text at
-escape_other {text} {at} h l t x = grind (arith, scan_kept, escape_is)
+escape_other {text} {at} h l t x = grind (arith, scan_kept)
 
 -- the end of the text ends it
 pub escape_all : {text : List ℕ} {at digits : ℕ} → EscapeSoFar text at digits → length text ≤ at → IsEscapeEnd text at
@@ -317,7 +308,7 @@ pub window_edge : (tail : List ℕ) (from limit end : ℕ) → IsCharBoundary ta
     → ((k : ℕ) → end < k → k ≤ from + limit → IsCharBoundary tail k → ⊥)
     → is_closed (without_tabs_and_newlines (take (end - from) (drop from tail))) ≡ true → IsWindow tail from limit end
 window_edge tail from limit end e four long order within edge last closed =
-    grind (arith, length-drop, body_shorter, length-take, cases_lt, next_edge)
+    grind (arith, body_shorter, length-take, next_edge)
 
 -- the window up to a '%'
 pub window_percent : (tail : List ℕ) (from limit end at : ℕ) → limit < length (drop from tail) → from ≤ length tail

@@ -11,7 +11,7 @@ pub returns-then-step-ne-DONE : goal.returns-then-step-ne-DONE
 returns-then-step-ne-DONE c = grind (arith, base64_fault)
 
 pub end_body-step-requires-clause-room : goal.end_body-step-requires-clause-room
-end_body-step-requires-clause-room c = grind (arith, good_parts, taken_room)
+end_body-step-requires-clause-room c = grind (arith, taken_room)
 
 pub returns-then-has_fragment : goal.returns-then-has_fragment
 returns-then-has_fragment c =

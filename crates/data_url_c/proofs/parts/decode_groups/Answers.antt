@@ -42,4 +42,4 @@ returns-in-Err-InvalidBase64 c =
     }
 
 pub fault_status-status-requires-clause-fault : goal.fault_status-status-requires-clause-fault
-fault_status-status-requires-clause-fault c = grind (arith, is_faulty)
+fault_status-status-requires-clause-fault c = grind arith

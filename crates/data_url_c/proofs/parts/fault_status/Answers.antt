@@ -26,16 +26,7 @@ returns-then-not-is_ascii_whitespace c =
 
 pub loop-byte-preserved : goal.loop-byte-preserved
 loop-byte-preserved c =
-    grind (
-      arith,
-      then-is_symbol_byte+else-padded,
-      goes_on,
-      step_symbol,
-      else-is_symbol_byte+then-byte-eq61,
-      step_pad,
-      else-is_symbol_byte+else-byte-eq61+else-not-is_ascii_whitespace,
-      step_space,
-    )
+    grind (arith, goes_on, step_symbol, step_pad, step_space)
 
 pub returns : goal.returns
 returns c = grind (arith, none_found)

@@ -21,7 +21,7 @@ loop-missing-preserved-then-is_symbol_byte c =
     }
 
 pub returns-else-at-gt0 : goal.returns-else-at-gt0
-returns-else-at-gt0 c = grind (arith, good_parts, found_waiting)
+returns-else-at-gt0 c = grind (arith, found_waiting)
 
 pub returns-after-loop-missing : goal.returns-after-loop-missing
 returns-after-loop-missing c =

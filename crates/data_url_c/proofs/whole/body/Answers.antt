@@ -12,7 +12,7 @@ returns-in-Err c =
     answers (GivesBody c.args.text.now) (Err c.in-Err.refusal) g body_or_memory c.answer.ensures
 
 pub decode_into-status-requires-clause-tail : goal.decode_into-status-requires-clause-tail
-decode_into-status-requires-clause-tail c = grind (arith, same_Some)
+decode_into-status-requires-clause-tail c = grind arith
 
 pub returns-in-Some : goal.returns-in-Some
 returns-in-Some c = grind (arith, answers_into)

@@ -27,4 +27,4 @@ returns-then-at-gt0 c =
     c.last_edge-end.ensures.within c.if-at-gt0.true c.in-Some.ensures.0 c.in-Some.ensures.1
 
 pub returns : goal.returns
-returns c = grind (arith, length-drop, window_escape, end_sliced)
+returns c = grind (arith, window_escape, end_sliced)
