@@ -1,15 +1,14 @@
 -- Bodies, decoded into an output.
-use Rattle.std.proofs.Common.{◌≡◌, ℕ, ◌+◌, ◌*◌, ◌≤◌, Bool, true, false, cond, List, [], ◌++◌, length, map, take, drop}
-use Rattle.std.proofs.Common.{None, refl, sym, ap, ◌∙◌, subst, arith, append_assoc, drop-drop, length-append}
+use Rattle.std.proofs.Common.{◌≡◌, ℕ, ◌+◌, ◌*◌, ◌≤◌, Bool, true, false, cond, List, [], ◌++◌, length, take, drop}
+use Rattle.std.proofs.Common.{refl, sym, ap, ◌∙◌, subst, arith, append_assoc, drop-drop, length-append}
 use Rattle.std.specs.Prelude.{MatchBool}
-use Rattle.std.proofs.lemmas.List.{append-nil, length-map, length-take-le, nil_from_length, take-append-drop}
-use Rattle.data_url.specs.Base64.{after_groups, complete_bytes, decoded, first_fault, is_valid, kind_of, left_padding}
-use Rattle.data_url.specs.Base64.{left_symbols, symbol_value}
+use Rattle.std.proofs.lemmas.List.{append-nil, length-map, length-take-le, take-append-drop}
+use Rattle.data_url.specs.Base64.{complete_bytes, decoded, first_fault, is_valid, kind_of}
 use Rattle.data_url.specs.Fetch.{Bad, Good, Outcome, outcome, plain_body}
 use Rattle.data_url.specs.Laws.{GoesOn}
 use Rattle.data_url.specs.Pieces.{Walk, walk_at_front}
 use Rattle.data_url.proofs.api.{after_few, done_more, every_list_all, fault_byte, fault_invalid, fault_more, fault_some}
-use Rattle.data_url.proofs.api.{groups_few, left_more, match_none, none_fault, padding_more, two_feeds}
+use Rattle.data_url.proofs.api.{groups_few, left_more, none_fault, padding_more, two_feeds}
 use Rattle.data_url_c.specs.Answers.{status_of_kind}
 use Rattle.data_url_c.specs.Bodies.{EndsAs}
 use Rattle.data_url_c.specs.Parts.{IsLeftOf, TakesText, WritesFront, is_good_state, waiting_text}
@@ -18,7 +17,7 @@ use Rattle.data_url_c.specs.declared.parts.DataUrlBase64.{DataUrlBase64}
 use Rattle.data_url_c.specs.declared.parts.DataUrlStep.{DataUrlStep}
 use Rattle.data_url_c.specs.declared.parts.Last.{Last}
 use Rattle.data_url_c.proofs.EndLemmas.{last_room}
-use Rattle.data_url_c.proofs.LeftLemmas.{is_left, taken_room}
+use Rattle.data_url_c.proofs.LeftLemmas.{taken_room}
 use Rattle.data_url_c.proofs.PartLemmas.{Reaches, fault_cases, faulty_by, good_parts, left_text_is, reaches_more}
 use Rattle.data_url_c.proofs.PartLemmas.{takes_both, takes_fault, taken_sound, writes_front}
 
@@ -126,10 +125,6 @@ fed_fault {s0} {s} {s'} {text} {out0} {out} {part} {out2} {out'} {w} {status} {l
     subst P whole (takes_fault rest all ne)
 
 -- The end
-
-at_valid : (v : Bool) (P Q R S : Type 0) → (P → R) → (Q → S) → MatchBool v P Q → MatchBool v R S
-at_valid true P Q R S f g h = f h
-at_valid false P Q R S f g h = g h
 
 -- the bytes that were written after the first ones
 pub ends_after : {out out' piece : List ℕ} {last : Last} {len : ℕ} (s : DataUrlBase64) (written : ℕ)

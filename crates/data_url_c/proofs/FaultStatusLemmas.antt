@@ -1,37 +1,21 @@
 -- The status of a fault, found by reading the text again.
-use Rattle.std.proofs.Common.{◌≡◌, ℕ, ◌+◌, ◌<◌, ◌≤◌, ◌%◌, Bool, true, false, cond, ◌||◌, List, [], ◌∷◌, ◌++◌, length}
-use Rattle.std.proofs.Common.{length-take-le, get_or, take, drop, drop_of_length-le, Option, None, Some, Result, Ok}
-use Rattle.std.proofs.Common.{Err, refl, sym, ap, ◌∙◌, arith, eqb, eqb-true}
-use Rattle.std.specs.Prelude.{◌==◌, MatchOption, is_some}
+use Rattle.std.proofs.Common.{◌≡◌, ℕ, ◌+◌, ◌<◌, ◌≤◌, Bool, true, false, cond, ◌||◌, List, [], ◌∷◌, ◌++◌, length}
+use Rattle.std.proofs.Common.{get_or, take, drop, drop_of_length-le, None, Some}
+use Rattle.std.proofs.Common.{refl, sym, ap, ◌∙◌, arith, eqb}
+use Rattle.std.specs.Prelude.{◌==◌, is_some}
 use Rattle.std.specs.List.{list_any}
 use Rattle.std.proofs.lemmas.List.{drop_more}
-use Rattle.data_url.specs.Base64.{AlphabetSymbolAfterPadding, Kind, LoneAlphabetSymbol, Padding, UnexpectedSymbol}
+use Rattle.data_url.specs.Base64.{AlphabetSymbolAfterPadding, UnexpectedSymbol}
 use Rattle.data_url.specs.Base64.{first_fault, is_symbol, kind_of}
 use Rattle.data_url.specs.Mime.{Every}
-use Rattle.data_url.specs.declared.forgiving_base64.DecodeError.{DecodeError}
-use Rattle.data_url.specs.declared.forgiving_base64.DecodeError.TheVariants.{InvalidBase64}
-use Rattle.data_url.proofs.api.{classes, every_from_all, fault-append, fault-append_some, fault_after, fault_byte}
+use Rattle.data_url.proofs.api.{every_from_all, fault-append, fault-append_some, fault_after, fault_byte}
 use Rattle.data_url.proofs.api.{fault_more, fault_other, fault_some, fault_space, fault_symbol, has_pad, kind_fault}
-use Rattle.data_url.proofs.api.{kind_left, space_alone, symbol_alone}
+use Rattle.data_url.proofs.api.{kind_left}
 use Rattle.std.specs.Char.{is_ascii_whitespace}
-use Rattle.std.proofs.Math.Bool.{or-false, or-true}
 use Rattle.data_url_c.specs.Answers.{status_of_kind}
 use Rattle.data_url_c.specs.Parts.{is_good_state, waiting_text}
 use Rattle.data_url_c.specs.declared.parts.DataUrlBase64.{DataUrlBase64}
 use Rattle.data_url_c.proofs.PartLemmas.{good_parts}
-
-is_faulty_by : {E : Type 0} (o : Option ℕ) (kind : Kind) (told : Kind) (r : Result (Unit {0}) (DecodeError E))
-    → r ≡ Err (InvalidBase64 told)
-    → MatchOption o (r ≡ Ok tt) (λ place. r ≡ Err (InvalidBase64 kind)) → is_some o ≡ true
-is_faulty_by (Some place) kind told r e h = refl
-is_faulty_by None kind told r e h = absurd (let k : Ok tt ≡ Err (InvalidBase64 told) = sym h ∙ e in cc)
-
--- if decoding a text returns the error of a fault, the text has a first fault
-pub is_faulty : {E : Type 0} (u : List ℕ) (told : Kind) {r : Result (Unit {0}) (DecodeError E)}
-    → MatchOption (first_fault u) (r ≡ Ok tt) (λ place. r ≡ Err (InvalidBase64 (kind_of u)))
-    → r ≡ Err (InvalidBase64 told)
-    → is_some (first_fault u) ≡ true
-is_faulty u told {r = r} h e = is_faulty_by (first_fault u) (kind_of u) told r e h
 
 fault_nothing : (s : Bool) → fault_byte s [] ≡ None
 unfolding fault_byte

@@ -1,13 +1,12 @@
 -- The kind of a fault of base64, read from its message.
 use Rattle.std.proofs.Common.{◌≡◌, ◌≢◌, ℕ, zero, suc, ◌+◌, ◌/◌, ◌%◌, ◌<◌, ◌^◌, false, List, [], ◌∷◌, ◌++◌, length}
-use Rattle.std.proofs.Common.{length-append, get_or, codes, refl, sym, ap, ◌∙◌, subst, inl, inr, arith}
+use Rattle.std.proofs.Common.{length-append, codes, refl, ap, inl, inr, arith}
 use Rattle.std.specs.Prelude.{◌==◌}
 use Rattle.std.specs.Fmt.{decimal, digit_glyph, digits, digits_onto}
-use Rattle.std.specs.Str.Parse.{AllDigits, digits_value, without_leading_plus}
+use Rattle.std.specs.Str.Parse.{digits_value, without_leading_plus}
 use Rattle.std.proofs.lemmas.Bool.{cases_Bool, cond-false, eqb-true}
 use Rattle.std.proofs.lemmas.Fmt.{decimal_is_IsNumeral_wide}
-use Rattle.std.proofs.lemmas.List.{append_cancel_left, append_cancel_right}
-use Rattle.std.proofs.lemmas.Str.Parse.{without_leading_plus_none}
+use Rattle.std.proofs.lemmas.List.{append_cancel_right}
 use Rattle.data_url.specs.Base64.{AlphabetSymbolAfterPadding, Kind, LoneAlphabetSymbol, Padding, UnexpectedSymbol}
 use Rattle.data_url.specs.Base64.{kind_text}
 
@@ -31,11 +30,6 @@ few_digits (suc k) n acc h = elim (cases_Bool (n / 10 == 0)) [
 decimal_small : (n : ℕ) → length (decimal n) < 64 → n < 10 ^ 64
 unfolding digits
 decimal_small n h = few_digits 64 n [] (omega (arith, h))
-
--- a digit is not '+'
-no_plus : (ds : List ℕ) → AllDigits 10 ds → get_or ds 0 0 ≢ 43
-no_plus [] h e = absurd (omega arith)
-no_plus (c ∷ ds) h e = let k = subst (λ x. AllDigits 10 (x ∷ ds)) e h in absurd (omega (arith, k.0))
 
 decimal_value : (n : ℕ) → length (decimal n) < 64 → digits_value 10 (without_leading_plus (decimal n)) ≡ n
 decimal_value n h = grind (arith, decimal_is_IsNumeral_wide, decimal_small)

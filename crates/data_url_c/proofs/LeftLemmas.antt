@@ -1,23 +1,21 @@
 -- What is left over of a text of base64 after its groups, and how long the groups are.
-use Rattle.std.proofs.Common.{◌≡◌, ℕ, suc, ◌+◌, ◌*◌, ◌-◌, ◌/◌, ◌%◌, ◌<◌, ◌≤◌, Bool, true, false, cond, List, [], ◌∷◌}
-use Rattle.std.proofs.Common.{◌++◌, length, map, take, drop, min, set, eqb, Option, None, Some, refl, sym, ap, ◌∙◌}
-use Rattle.std.proofs.Common.{arith, get_or, length-append, length-take, length-drop, drop-cons, add-one, eqb-true}
+use Rattle.std.proofs.Common.{◌≡◌, ℕ, ◌+◌, ◌*◌, ◌-◌, ◌/◌, ◌%◌, ◌<◌, ◌≤◌, Bool, true, cond, List, [], ◌∷◌}
+use Rattle.std.proofs.Common.{◌++◌, length, take, drop, min, set, eqb, Option, None, Some, refl, sym, ap, ◌∙◌}
+use Rattle.std.proofs.Common.{arith, get_or, length-append, length-take, length-drop, drop-cons}
 use Rattle.std.proofs.Common.{append_assoc}
 use Rattle.std.specs.List.{filter, list_all}
-use Rattle.std.specs.Prelude.{replicate}
 use Rattle.std.proofs.Math.Seq.{take-set-lt}
-use Rattle.std.proofs.lemmas.Bool.{both_ways}
 use Rattle.std.proofs.lemmas.List.{drop-set, length-map, length-replicate, length-take-le, nil_from_length}
 use Rattle.std.proofs.lemmas.List.{take-append-drop, take-set-le, take-take}
 use Rattle.std.proofs.lemmas.List.Elements.{filter-append}
 use Rattle.data_url.specs.Base64.{after_groups, before_place, complete_bytes, first_fault, groups, is_symbol}
-use Rattle.data_url.specs.Base64.{left_padding, left_symbols, symbol_value, values}
+use Rattle.data_url.specs.Base64.{left_padding, left_symbols, values}
 use Rattle.data_url.specs.Mime.{Every}
 use Rattle.data_url.proofs.api.{after_few, after_groups-append, every_after, every_list_all, filter_every}
 use Rattle.data_url.proofs.api.{groups_length, length-after_groups, padding_more, symbols_more}
 use Rattle.data_url_c.specs.Parts.{IsLeftOf, TakesText, is_good_state, waiting_text}
 use Rattle.data_url_c.specs.declared.parts.DataUrlBase64.{DataUrlBase64}
-use Rattle.data_url_c.proofs.PartLemmas.{good_from, good_parts, taken_sound}
+use Rattle.data_url_c.proofs.PartLemmas.{good_parts, taken_sound}
 
 -- The length of the groups of a text
 
@@ -72,10 +70,6 @@ pub text_length : (s : DataUrlBase64) (t : List ℕ) → s.pending ≤ length s.
 text_length s t h = grind (arith, length-append, length-take-le, length-replicate)
 
 -- The last symbols, found from the end on
-
-filter_first : (b : ℕ) (bs : List ℕ) (v : Bool) → is_symbol b ≡ v
-    → filter is_symbol (b ∷ bs) ≡ cond v (b ∷ filter is_symbol bs) (filter is_symbol bs)
-filter_first b bs v e = ap (λ v. cond v (b ∷ filter is_symbol bs) (filter is_symbol bs)) e
 
 -- the byte before the place
 filter_before : (s : List ℕ) (i b : ℕ) (v : Bool) → i < length s → b ≡ get_or s i 0 → is_symbol b ≡ v
@@ -176,16 +170,6 @@ counted_left s r t count pads h c p e f l m g =
     (omega (arith, padding))
 
 -- Nothing is left over
-
-not_both : (c : ℕ) → is_symbol c ≡ true → eqb c 61 ≡ true → ⊥
-not_both c s p = both_ways (is_symbol c) (ap is_symbol (eqb-true c 61 p)) s
-
-sum_case : (c n : ℕ) (x y : List ℕ) (s p : Bool) → (s ≡ true → p ≡ true → ⊥) → length x + length y ≤ n
-    → length (cond s (c ∷ x) x) + length (cond p (c ∷ y) y) ≤ suc n
-sum_case c n x y true true k h = absurd (k refl refl)
-sum_case c n x y true false k h = omega arith
-sum_case c n x y false true k h = omega arith
-sum_case c n x y false false k h = omega arith
 
 -- no byte is a symbol and padding
 symbols_and_pads : (t : List ℕ) → length (filter is_symbol t) + length (filter (λ c. eqb c 61) t) ≤ length t

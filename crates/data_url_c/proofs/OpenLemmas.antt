@@ -1,7 +1,7 @@
 -- A URL is opened with its probe.
 use Rattle.std.proofs.Common.{◌≡◌, Bor, ℕ, zero, suc, ◌+◌, ◌-◌, ◌<◌, ◌≤◌, Bool, true, false, nat_eq, List, [], ◌∷◌}
 use Rattle.std.proofs.Common.{◌++◌, length, length-append, get_or, take, drop, codes, Option, None, Some, Result, Ok}
-use Rattle.std.proofs.Common.{Err, position, refl, sym, ap, ◌∙◌, subst, inl, inr, arith, eqb-true}
+use Rattle.std.proofs.Common.{Err, position, refl, sym, ap, ◌∙◌, subst, inl, inr, arith}
 use Rattle.std.specs.Global.{Global}
 use Rattle.std.specs.Prelude.{◌==◌, IfSome, IsUtf8, encode_utf8_all}
 use Rattle.std.specs.Str.Pattern.{GetsRange}
@@ -14,7 +14,7 @@ use Rattle.std.proofs.lemmas.Slice.Eq.{starts_is}
 use Rattle.data_url.specs.Base64.{after_groups, decoded, groups, is_valid, values, without_last_padding}
 use Rattle.data_url.specs.Base64.{without_padding, without_whitespace}
 use Rattle.data_url.specs.DataUrl.{IsAcceptable, is_base64, mime_of, url_body, url_tail}
-use Rattle.data_url.specs.Fetch.{Accepted, has_base64_suffix, header_of, mime_text, outcome, plain_body, staged}
+use Rattle.data_url.specs.Fetch.{has_base64_suffix, header_of, mime_text, outcome, plain_body, staged}
 use Rattle.data_url.specs.Fetch.{tail_of}
 use Rattle.data_url.specs.Mime.{HasNoRecord, IsRecordOf, default_record, printed}
 use Rattle.data_url.specs.MimeType.{record_of}
@@ -35,7 +35,7 @@ use Rattle.std.proofs.lemmas.Option.{same_Some}
 use Rattle.data_url_c.proofs.GivenLemmas.{accepted}
 use Rattle.data_url_c.proofs.PrintLemmas.{ascii_encoded, vec_of}
 use Rattle.data_url_c.proofs.ProbeLemmas.{ends, no_comma_in_scheme, same_acceptable, same_header, same_no_comma}
-use Rattle.data_url_c.proofs.ProbeLemmas.{same_no_scheme, tail_of_cut, trimmed_around, trimmed_front, trimmed_tail}
+use Rattle.data_url_c.proofs.ProbeLemmas.{same_no_scheme, tail_of_cut, trimmed_around, trimmed_tail}
 
 -- Cutting at the comma
 
@@ -93,9 +93,6 @@ bytes_drop (suc n) (c ∷ a) h = bytes_drop n a h.1
 
 abbrev qq : List ℕ
 qq = codes "QQ"
-
-tail_of_probe : trimmed_tail qq ≡ qq
-tail_of_probe = refl
 
 bytes_probe : (a : List ℕ) → IsBytes a → IsBytes (trimmed_text (a ++ 44 ∷ qq))
 bytes_probe a h = grind (arith, trimmed_around, bytes_join, bytes_drop)

@@ -3,8 +3,8 @@ use Rattle.std.proofs.Common.{◌≡◌, ℕ, ◌+◌, ◌≤◌, true, false, L
 use Rattle.std.proofs.Common.{Some, is_some, Result, Ok, Err, refl, sym, ap, ◌∙◌, subst, arith, append_assoc, drop-drop}
 use Rattle.std.proofs.Common.{length-append, length-drop, ◌-◌, take_all}
 use Rattle.std.specs.List.{list_all}
-use Rattle.std.specs.Prelude.{nat_le, ◌&&◌, replicate}
-use Rattle.std.proofs.lemmas.Bool.{and_parts, le-leb, leb-true}
+use Rattle.std.specs.Prelude.{replicate}
+use Rattle.std.proofs.lemmas.Bool.{le-leb}
 use borrow.Rule.Slice.PartMut.{post_of}
 use Rattle.std.proofs.lemmas.List.{append-nil, drop-replicate, length-take-le, nil_from_length, take-append-drop}
 use Rattle.std.proofs.lemmas.List.{take-replicate}
@@ -12,14 +12,14 @@ use Rattle.std.proofs.lemmas.Slice.{drop-append-drop}
 use Rattle.std.proofs.Math.Seq.{drop-append-add, drop-append_seam, take-append-add, take-append_seam}
 use Rattle.std.specs.Prelude.{MatchOption}
 use Rattle.std.specs.declared.convert.Infallible.{Infallible}
-use Rattle.data_url.specs.Base64.{AlphabetSymbolAfterPadding, Kind, LoneAlphabetSymbol, Padding, UnexpectedSymbol}
+use Rattle.data_url.specs.Base64.{Kind}
 use Rattle.data_url.specs.Base64.{first_fault, is_symbol, kind_of, left_padding, left_symbols, left_text}
-use Rattle.data_url.specs.Decoder.{Feeds, IsTaken, State, left_over, start}
-use Rattle.data_url.specs.Run.{Call, IsRun, joined_pieces, refusal}
+use Rattle.data_url.specs.Decoder.{Feeds, IsTaken, State, start}
+use Rattle.data_url.specs.Run.{Call, IsRun, joined_pieces}
 use Rattle.data_url.specs.declared.forgiving_base64.DecodeError.TheVariants.{InvalidBase64}
 use Rattle.data_url.specs.Laws.{GoesOn}
 use Rattle.data_url.proofs.api.{done_stays, fault-append_some, fault_byte, fault_some, feeds_err, feeds_then}
-use Rattle.data_url.proofs.api.{kind_stays, match_alike, match_at_none, match_map, match_some, run_keeps, two_feeds}
+use Rattle.data_url.proofs.api.{kind_stays, match_alike, match_map, match_some, run_keeps, two_feeds}
 use Rattle.data_url_c.specs.Answers.{status_of_kind}
 use Rattle.data_url.specs.declared.forgiving_base64.DecodeError.{DecodeError}
 use Rattle.data_url_c.specs.Parts.{IsLeftOf, TakesText, WritesFront, is_good_state, waiting_text}
@@ -42,11 +42,6 @@ good_parts s h = grind arith
 pub good_rest : (s : DataUrlBase64) → s.pending ≤ 3 → s.padding ≤ 3 → list_all is_symbol (take s.pending s.symbols)
     ≡ is_good_state s
 good_rest s a b = let p = le-leb s.pending 3 a in let q = le-leb s.padding 3 b in rw (p, q) refl
-
--- a state with these parts is good
-pub good_from : (s : DataUrlBase64) → s.pending ≤ 3 → s.padding ≤ 3 → list_all is_symbol (take s.pending s.symbols)
-    ≡ true → is_good_state s ≡ true
-good_from s a b c = sym (good_rest s a b) ∙ c
 
 -- six '=', the first of which are replaced by the symbols left over, begin with the text of what is left over
 pub waiting_taken : (s : DataUrlBase64) (symbols : List ℕ) → is_good_state s ≡ true
@@ -202,18 +197,6 @@ writes_both {x} {y} {out} {out1} {out2} {out'} {n} {m} a b within size e =
           ap (drop (n + m)) e ∙ ap (λ k. drop (k + m) seam) (sym long) ∙ drop-append-add (take n out1) out2 m
           ∙ b.rest_stays ∙ ap (drop m) a.rest_stays ∙ drop-drop m n out ∙ ap (λ k. drop k out) (omega arith);
     }
-
-no_kind : (kind : Kind) → status_of_kind kind ≡ 0 → ⊥
-no_kind Padding e = omega arith
-no_kind LoneAlphabetSymbol e = omega arith
-no_kind AlphabetSymbolAfterPadding e = omega arith
-no_kind (UnexpectedSymbol byte) e = omega arith
-
--- the status is 0 exactly if the text has no fault
-sound_by : (o : Option ℕ) (kind : Kind) (status : ℕ) (P Q : Type 0)
-    → MatchOption o ((status ≡ 0) × P) (λ place. (status ≡ status_of_kind kind) × Q) → status ≡ 0 → (o ≡ None) × P
-sound_by None kind status P Q h e = (refl, h.1)
-sound_by (Some place) kind status P Q h e = absurd (no_kind kind (sym h.0 ∙ e))
 
 -- a status that is not 0 is that of a fault
 pub faulty_by : (o : Option ℕ) (kind : Kind) (status : ℕ) (P Q : Type 0)

@@ -1,15 +1,11 @@
 -- Texts that are printed to a buffer of fixed size.
-use Rattle.std.proofs.Common.{◌≡◌, ◌⊎◌, ℕ, suc, [], ◌∷◌, ◌-◌, ◌<◌, ◌^◌, Bool, false, nat_eq, List, ◌++◌, length, take}
+use Rattle.std.proofs.Common.{◌≡◌, ◌⊎◌, ℕ, suc, [], ◌∷◌, ◌-◌, ◌<◌, ◌^◌, Bool, false, nat_eq, List, ◌++◌, length}
 use Rattle.std.proofs.Common.{drop, codes, refl, sym, ap, ◌∙◌, inl, inr, arith}
 use Rattle.std.specs.Global.{Global}
 use Rattle.std.specs.List.{ends_with}
 use Rattle.std.specs.Prelude.{Vec, encode_utf8_all}
 use Rattle.std.specs.Str.{IsAscii}
 use Rattle.std.proofs.lemmas.Str.{encode_ascii}
-use Rattle.std.proofs.lemmas.Bool.{both_ways}
-use Rattle.std.proofs.lemmas.Bool.Decides.{Decides-eqb}
-use Rattle.std.proofs.lemmas.List.{take-append-drop}
-use Rattle.std.proofs.lemmas.Slice.Eq.{ends_is}
 use denote.RawPtr.{null_ptr}
 
 -- a text that does not end in dots was not cut

@@ -2,13 +2,13 @@
 use Rattle.std.proofs.Common.{◌≡◌, ◌⊎◌, ℕ, ◌+◌, ◌*◌, ◌-◌, ◌<◌, ◌≤◌, Bool, true, false, List, [], ◌++◌, length, take}
 use Rattle.std.proofs.Common.{drop, Option, None, Some, is_some, refl, sym, ap, ◌∙◌, subst, inl, inr, arith}
 use Rattle.std.proofs.Common.{append_assoc, drop-drop, length-drop}
-use Rattle.std.specs.Prelude.{IsUtf8, ◌==◌, not, replicate}
+use Rattle.std.specs.Prelude.{IsUtf8, ◌==◌, not}
 use Rattle.std.proofs.lemmas.Str.{IsUtf8-between}
 use Rattle.std.specs.Str.{IsCharBoundary}
 use Rattle.std.proofs.lemmas.Bool.{both_ways, ne_eqb}
 use Rattle.std.proofs.lemmas.List.{append-nil, nil_from_length, take-append-drop}
 use Rattle.data_url.specs.Base64.{complete_bytes, first_fault, is_valid, kind_of}
-use Rattle.data_url.specs.Fetch.{Bad, Good, Outcome, outcome, plain_body}
+use Rattle.data_url.specs.Fetch.{Good, Outcome, outcome, plain_body}
 use Rattle.data_url.specs.Laws.{GoesOn as LeftGoesOn}
 use Rattle.data_url.specs.Url.{after as after_first}
 use Rattle.data_url.proofs.api.{two_feeds}
@@ -20,7 +20,7 @@ use Rattle.data_url_c.specs.declared.body.DataUrlBody.{DataUrlBody}
 use Rattle.data_url_c.specs.declared.parts.DataUrlBase64.{DataUrlBase64}
 use Rattle.data_url_c.specs.declared.parts.DataUrlStep.{DataUrlStep}
 use Rattle.data_url_c.proofs.BodyLemmas.{ends_fault, ends_whole, outcome_invalid, outcome_plain, outcome_valid}
-use Rattle.data_url_c.proofs.PartLemmas.{faulty_by, left_text_is, taken_sound, takes_fault}
+use Rattle.data_url_c.proofs.PartLemmas.{faulty_by, taken_sound, takes_fault}
 use Rattle.data_url_c.proofs.WindowLemmas.{body_cut, body_fragment}
 
 -- The tail from the window on
@@ -72,9 +72,6 @@ further : {tail window : List ℕ} {from end : ℕ} → IsWindowOf tail from win
 further {tail} {window} {from} {end} h ne = let a = h.order in let b = h.within in h.goes_on (omega arith)
 
 -- Plain bodies
-
-flag_plain : (n : ℕ) → n ≡ 0 → not (n == 0) ≡ false
-flag_plain n e = ap (λ m. not (m == 0)) e
 
 plain_left : {tail : List ℕ} (s : DataUrlBody) → IsGoodBody tail s → s.is_base64 ≡ 0
     → body_left tail s ≡ Good (plain_body (drop s.from tail))

@@ -1,5 +1,5 @@
 -- Whole bodies, decoded into an output.
-use Rattle.std.proofs.Common.{◌≡◌, ℕ, ◌<◌, ◌≤◌, ◌^◌, Bool, true, false, List, ◌++◌, length, drop, Result, Ok, Err, refl}
+use Rattle.std.proofs.Common.{◌≡◌, ℕ, ◌<◌, ◌≤◌, ◌^◌, Bool, true, false, List, length, Result, Ok, Err, refl}
 use Rattle.std.proofs.Common.{sym, ap, ◌∙◌, subst, arith}
 use Rattle.std.specs.Global.{Global}
 use Rattle.std.specs.Prelude.{IsUtf8}
@@ -36,12 +36,6 @@ module _ {F G : Type 0} (inner : G → List ℕ → Result (Unit {0}) Infallible
   passes_body h a b =
       let gave = match_at_none (refusal h.run) _ _ (no_refusal (refusal h.run)) h.gave in
       passes_on inner outer K maps h.run h.ran gave.bytes_are gave.answer a b
-
-good_of : {E : Type 0} (body : Outcome) (r : Result (Unit {0}) (DecodeError E)) → r ≡ Ok tt
-    → BodyAnswers body AnyAnswer r
-    → (bytes : List ℕ) × (body ≡ Good bytes)
-good_of (Good bytes) r e h = (bytes, refl)
-good_of (Bad bytes kind) r e h = absurd (let k = sym e ∙ h in cc)
 
 bad_of : {E : Type 0} (body : Outcome) (r : Result (Unit {0}) (DecodeError E)) (kind : Kind) → r ≡ Err (Invalid kind)
     → BodyAnswers body AnyAnswer r → (bytes : List ℕ) × (body ≡ Bad bytes kind)

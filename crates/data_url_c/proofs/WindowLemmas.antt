@@ -1,11 +1,11 @@
 -- Windows of a tail: a tail can be cut where no escape goes on.
-use Rattle.std.proofs.Common.{◌≡◌, ◌⊎◌, ℕ, suc, ◌+◌, ◌*◌, ◌-◌, ◌<◌, ◌≤◌, true, false, cond, List, [], ◌∷◌, ◌++◌, length}
+use Rattle.std.proofs.Common.{◌≡◌, ◌⊎◌, ℕ, ◌+◌, ◌*◌, ◌-◌, ◌<◌, ◌≤◌, true, false, cond, List, [], ◌∷◌, ◌++◌, length}
 use Rattle.std.proofs.Common.{take, drop, None, Some, refl, sym, ap, ◌∙◌, subst, inl, inr, arith, get_or, drop-cons}
 use Rattle.std.proofs.Common.{length-append, length-drop, length-take, drop-drop, rules, tests}
 use Rattle.std.specs.Char.{digit_value, is_ascii_hexdigit}
-use Rattle.std.specs.Prelude.{IsUtf8, ◌&&◌, ◌==◌, ◌||◌, nat_lt, not, option_map}
+use Rattle.std.specs.Prelude.{IsUtf8, ◌&&◌, ◌==◌, not}
 use Rattle.std.specs.Str.{IsCharBoundary}
-use Rattle.std.proofs.lemmas.Bool.{cases_lt, and_left, and_parts, and_right, both_ways, cases_Bool, ltb-false, ltb-true}
+use Rattle.std.proofs.lemmas.Bool.{and_left, and_parts, and_right, both_ways}
 use Rattle.std.proofs.lemmas.Bool.{ne_eqb}
 use Rattle.data_url.proofs.api.{before-append, before_all, after-dropped_none, body_shorter, decoded_keeps}
 use Rattle.data_url.proofs.api.{dropped_keeps, dropped_nil, dropped_passes, fragment_dropped, two_digits}
@@ -13,7 +13,7 @@ use Rattle.data_url.proofs.api.{without_tabs_and_newlines-append}
 use Rattle.std.proofs.Math.Seq.{drop-length}
 use Rattle.std.specs.Char.{len_utf8}
 use Rattle.std.specs.Prelude.{encode_utf8_all}
-use Rattle.std.proofs.lemmas.Str.{IsCharBoundary-after_ascii, IsCharBoundary-before_ascii, IsCharBoundary-past_char}
+use Rattle.std.proofs.lemmas.Str.{IsCharBoundary-after_ascii, IsCharBoundary-past_char}
 use Rattle.std.proofs.lemmas.Str.{IsUtf8-drop, len_utf8_bounds}
 use Rattle.std.proofs.lemmas.List.{append-nil, get_or-drop, get_or-take, nil_from_length, take-append-drop, take_more}
 use Rattle.data_url.specs.Fetch.{plain_body}
@@ -66,10 +66,6 @@ no_digit_first : (t : List ℕ) → BeginsWithoutDigit t → two_digits t ≡ fa
 no_digit_first [] h = refl
 no_digit_first (b ∷ []) h = refl
 no_digit_first (b ∷ c ∷ t) h = and_left (is_ascii_hexdigit b) (is_ascii_hexdigit c) h
-
-no_digit_second : (b : ℕ) (t : List ℕ) → BeginsWithoutDigit t → two_digits (b ∷ t) ≡ false
-no_digit_second b [] h = refl
-no_digit_second b (c ∷ t) h = and_right (is_ascii_hexdigit b) (is_ascii_hexdigit c) h
 
 -- a text, and then one that does not begin with a digit
 decode_before : (s t : List ℕ) → BeginsWithoutDigit t
@@ -186,9 +182,6 @@ scan_kept_step window at kept i e l t p k n = grind (arith, scan_kept)
 take_next : (s : List ℕ) (i : ℕ) → i < length s → without_tabs_and_newlines (take (i + 1) s) ≡ without_tabs_and_newlines
     (take i s) ++ without_tabs_and_newlines (get_or s i 0 ∷ [])
 take_next s i l = cc (take_more s i 0 l, without_tabs_and_newlines-append (take i s) (get_or s i 0 ∷ []))
-
-tab_below : (b : ℕ) → is_tab_or_newline b ≡ true → b < 128
-tab_below b h = grind arith
 
 hex_below : (b : ℕ) → is_ascii_hexdigit b ≡ true → b < 128
 hex_below b h = search (rules, tests, h)

@@ -1,4 +1,4 @@
-use Rattle.std.proofs.Common.{◌≡◌, ◌⊎◌, ◌≤◌, arith, inl, inr, length, refl, rules, true}
+use Rattle.std.proofs.Common.{◌≡◌, ◌⊎◌, ◌≤◌, arith, inl, inr, length, rules, true}
 use Rattle.data_url.specs.Fetch.{plain_body}
 use Rattle.data_url_c.proofs.LeftLemmas.{taken_room}
 use Rattle.data_url_c.proofs.PartLemmas.{good_parts}

@@ -1,4 +1,4 @@
-use Rattle.std.proofs.Common.{◌∙◌, arith}
+use Rattle.std.proofs.Common.{arith}
 use Rattle.data_url_c.proofs.OpenLemmas.{at_comma, default_read, reads_url}
 use Rattle.data_url_c.proofs.open.read_url.Goals as goal
 

@@ -4,7 +4,6 @@ use Rattle.data_url.specs.declared.forgiving_base64.DecodeError.TheVariants.{Inv
 use Rattle.data_url_c.specs.Parts.{waiting_text}
 use Rattle.data_url_c.specs.contracts.parts.fn.decode_groups.write as closure
 use Rattle.data_url_c.proofs.LeftLemmas.{complete_length, waiting_length}
-use Rattle.data_url_c.proofs.FaultStatusLemmas.{is_faulty}
 use Rattle.data_url_c.proofs.PartLemmas.{gets_keep, gets_reaches, groups_status, reaches_front}
 use Rattle.data_url_c.proofs.parts.decode_groups.Goals as goal
 

@@ -1,8 +1,8 @@
-use Rattle.std.proofs.Common.{rules, ◌≡◌, ◌<◌, arith, get_or, length, true, false, refl, subst}
+use Rattle.std.proofs.Common.{rules, ◌≡◌, arith, get_or, false, refl}
 use Rattle.std.specs.Char.{is_ascii_whitespace}
 use Rattle.std.specs.Prelude.{◌==◌}
 use Rattle.data_url.specs.Base64.{is_symbol}
-use Rattle.data_url_c.proofs.FaultStatusLemmas.{GoesOn, fault_after_padding, fault_unexpected, goes_on, none_found, step_pad}
+use Rattle.data_url_c.proofs.FaultStatusLemmas.{fault_after_padding, fault_unexpected, goes_on, none_found, step_pad}
 use Rattle.data_url_c.proofs.FaultStatusLemmas.{step_space, step_symbol}
 use Rattle.data_url_c.proofs.parts.fault_status.Goals.{then-is_symbol_byte+else-padded}
 use Rattle.data_url_c.proofs.parts.fault_status.Goals.{else-is_symbol_byte+then-byte-eq61}

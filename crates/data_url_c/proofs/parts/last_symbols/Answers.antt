@@ -1,8 +1,5 @@
-use Rattle.std.proofs.Common.{◌≡◌, ◌-◌, ◌∙◌, arith, drop, get_or, refl, rules, sym, take, ap}
-use Rattle.std.specs.List.{filter}
-use Rattle.data_url.specs.Base64.{is_symbol}
+use Rattle.std.proofs.Common.{◌-◌, ◌∙◌, arith, get_or, refl, rules, sym, take}
 use Rattle.data_url_c.proofs.LeftLemmas.{found_all, found_symbol, found_waiting, waiting_less}
-use Rattle.data_url_c.proofs.PartLemmas.{good_parts}
 use Rattle.data_url_c.proofs.parts.last_symbols.Goals as goal
 
 pub loop-missing-preserved-then-is_symbol_byte : goal.loop-missing-preserved-then-is_symbol_byte

@@ -1,6 +1,4 @@
-use Rattle.std.proofs.Common.{Err, arith, length, rules, sym, ◌≡◌, ◌∙◌}
-use Rattle.std.proofs.lemmas.Option.{same_Some}
-use Rattle.data_url.specs.DataUrl.{url_tail}
+use Rattle.std.proofs.Common.{Err, arith}
 use Rattle.data_url_c.specs.Gives.{GivesBody}
 use Rattle.data_url_c.proofs.GivenLemmas.{answers, body_or_memory, body_refused, gives_body}
 use Rattle.data_url_c.proofs.WholeLemmas.{answers_into}

@@ -1,4 +1,4 @@
-use Rattle.std.proofs.Common.{◌∙◌, ◌+◌, arith, rules, subst, sym, ℕ}
+use Rattle.std.proofs.Common.{◌+◌, arith, rules, subst, sym, ℕ}
 use Rattle.data_url_c.proofs.WindowLemmas.{EscapeSoFar, escape_all, escape_begins, escape_digit, escape_other}
 use Rattle.data_url_c.proofs.WindowLemmas.{escape_tab, escape_two}
 use Rattle.data_url_c.proofs.window.escape_end.Goals as goal

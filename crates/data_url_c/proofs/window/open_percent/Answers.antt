@@ -1,4 +1,4 @@
-use Rattle.std.proofs.Common.{◌∙◌, ◌-◌, arith, inl, inr, sym}
+use Rattle.std.proofs.Common.{◌∙◌, ◌-◌, arith, inl, sym}
 use Rattle.data_url_c.proofs.WindowLemmas.{scan_begins, scan_closed, scan_kept_step, scan_tab_step}
 use Rattle.data_url_c.proofs.window.open_percent.Goals as goal
 

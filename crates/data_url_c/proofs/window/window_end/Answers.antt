@@ -1,5 +1,4 @@
-use Rattle.std.proofs.Common.{◌<◌, arith, drop, length, length-drop, rules, subst, List, ℕ}
-use Rattle.data_url_c.specs.Steps.Windows.{IsEscapeEnd}
+use Rattle.std.proofs.Common.{◌<◌, arith, drop, length, length-drop, rules}
 use Rattle.data_url_c.proofs.PartLemmas.{end_sliced}
 use Rattle.data_url_c.proofs.WindowLemmas.{window_all, window_edge, window_escape, window_percent}
 use Rattle.data_url_c.proofs.window.window_end.Goals as goal
