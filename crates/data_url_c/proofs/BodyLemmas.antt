@@ -1,15 +1,14 @@
 -- Bodies, decoded into an output.
-use Rattle.std.proofs.Common.{◌≡◌, ℕ, ◌+◌, ◌*◌, ◌≤◌, Bool, true, false, cond, List, [], ◌++◌, length, map, take, drop}
-use Rattle.std.proofs.Common.{None, refl, sym, ap, ◌∙◌, subst, arith, append_assoc, drop-drop, length-append}
+use Rattle.std.proofs.Common.{◌≡◌, ℕ, ◌+◌, ◌*◌, ◌≤◌, Bool, true, false, cond, List, [], ◌++◌, length, take, drop}
+use Rattle.std.proofs.Common.{refl, sym, ap, ◌∙◌, subst, arith, append_assoc, drop-drop, length-append}
 use Rattle.std.specs.Prelude.{MatchBool}
-use Rattle.std.proofs.lemmas.List.{append-nil, length-map, length-take-le, nil_from_length, take-append-drop}
-use Rattle.data_url.specs.Base64.{after_groups, complete_bytes, decoded, first_fault, is_valid, kind_of, left_padding}
-use Rattle.data_url.specs.Base64.{left_symbols, symbol_value}
+use Rattle.std.proofs.lemmas.List.{append-nil, length-map, length-take-le, take-append-drop}
+use Rattle.data_url.specs.Base64.{complete_bytes, decoded, first_fault, is_valid, kind_of}
 use Rattle.data_url.specs.Fetch.{Bad, Good, Outcome, outcome, plain_body}
 use Rattle.data_url.specs.Laws.{GoesOn}
 use Rattle.data_url.specs.Pieces.{Walk, walk_at_front}
-use Rattle.data_url.proofs.api.{after_few, done_more, every_list_all, fault_invalid, fault_more, fault_some}
-use Rattle.data_url.proofs.api.{groups_few, left_more, match_none, none_fault, padding_more, two_feeds}
+use Rattle.data_url.proofs.api.{after_few, done_more, every_list_all, fault_byte, fault_invalid, fault_more, fault_some}
+use Rattle.data_url.proofs.api.{groups_few, left_more, none_fault, padding_more, two_feeds}
 use Rattle.data_url_c.specs.Answers.{status_of_kind}
 use Rattle.data_url_c.specs.Bodies.{EndsAs}
 use Rattle.data_url_c.specs.Parts.{IsLeftOf, TakesText, WritesFront, is_good_state, waiting_text}
@@ -18,7 +17,7 @@ use Rattle.data_url_c.specs.declared.parts.DataUrlBase64.{DataUrlBase64}
 use Rattle.data_url_c.specs.declared.parts.DataUrlStep.{DataUrlStep}
 use Rattle.data_url_c.specs.declared.parts.Last.{Last}
 use Rattle.data_url_c.proofs.EndLemmas.{last_room}
-use Rattle.data_url_c.proofs.LeftLemmas.{is_left, taken_room}
+use Rattle.data_url_c.proofs.LeftLemmas.{taken_room}
 use Rattle.data_url_c.proofs.PartLemmas.{Reaches, fault_cases, faulty_by, good_parts, left_text_is, reaches_more}
 use Rattle.data_url_c.proofs.PartLemmas.{takes_both, takes_fault, taken_sound, writes_front}
 
@@ -61,26 +60,7 @@ pub takes_nothing : (s : DataUrlBase64) (out : List ℕ) → is_good_state s ≡
     → TakesText (waiting_text s ++ []) s out out 0 0
 unfolding fault_byte
 takes_nothing s out h size =
-    let parts = good_parts s h in
-    let q : List ℕ = take s.pending s.symbols in
-    let every = every_list_all q parts.symbols in
-    let few = parts.few_pending in
-    let few_padding = parts.few_padding in
-    let short : length q ≤ 3 = omega (arith, length-take-le s.pending s.symbols (omega arith)) in
-    let none : first_fault (waiting_text s ++ []) ≡ None =
-    none_fault (waiting_text s ++ []) (fault_more q s.padding every []) in
-    let bytes : complete_bytes (waiting_text s ++ []) ≡ [] = done_more q s.padding every [] refl
-    ∙ groups_few (map symbol_value (q ++ []))
-    (omega (arith, length-map (q ++ []) symbol_value, length-append {A = ℕ} q [])) in
-    let symbols : q ≡ left_symbols (waiting_text s ++ []) =
-    sym (left_more q s.padding every [] ∙ ap after_groups (append-nil q) ∙ after_few q short) in
-    let padding : s.padding ≡ left_padding (waiting_text s ++ []) =
-    sym (padding_more q s.padding every [] ∙ omega arith) in
-    record {
-      wrote = record { within = omega arith; bytes_are = sym bytes; rest_stays = refl };
-      ended = match_none (first_fault (waiting_text s ++ [])) _ _ none
-          (refl, is_left (waiting_text s ++ []) s size few few_padding symbols padding);
-    }
+    grind (arith, good_parts, every_list_all, length-take-le, none_fault, fault_more, done_more, groups_few, length-map, left_more, append-nil, after_few, padding_more)
 
 -- before the first piece nothing was fed
 pub fed_none : (s : DataUrlBase64) (text out : List ℕ) → is_good_state s ≡ true → length s.symbols ≡ 3
@@ -105,15 +85,7 @@ pub fed_room : {s0 s : DataUrlBase64} {text out0 out : List ℕ} {w : Walk} {len
     → 3 * (s0.pending + length (plain_body text)) ≤ 4 * length out0 → len ≤ length out
     → 3 * (s.pending + length bytes) + 4 * len ≤ 4 * length out
 fed_room {s0} {s} {text} {out0} {out} {w} {len} bytes rest h e good room within =
-    let size = h.size in
-    let all = ap length (body_more text h.read bytes w.rest rest h.body e) in
-    omega (
-      arith,
-      taken_room s0 s h.read good h.takes refl within,
-      all,
-      length-append (h.read ++ bytes) rest,
-      length-append h.read bytes,
-    )
+    grind (arith, taken_room, length-append)
 
 -- one piece more
 pub fed_more : {s0 s s' : DataUrlBase64} {text out0 out part out2 out' : List ℕ} {w w' : Walk} {status len m : ℕ}
@@ -154,10 +126,6 @@ fed_fault {s0} {s} {s'} {text} {out0} {out} {part} {out2} {out'} {w} {status} {l
 
 -- The end
 
-at_valid : (v : Bool) (P Q R S : Type 0) → (P → R) → (Q → S) → MatchBool v P Q → MatchBool v R S
-at_valid true P Q R S f g h = f h
-at_valid false P Q R S f g h = g h
-
 -- the bytes that were written after the first ones
 pub ends_after : {out out' piece : List ℕ} {last : Last} {len : ℕ} (s : DataUrlBase64) (written : ℕ)
     → is_good_state s ≡ true → length s.symbols ≡ 3 → length last.bytes ≡ 3 → IsLast (waiting_text s) last
@@ -165,32 +133,7 @@ pub ends_after : {out out' piece : List ℕ} {last : Last} {len : ℕ} (s : Data
     → Writes piece out written out' len → EndsAfter (waiting_text s) written out out'
     (record { status = last.status; len = len })
 ends_after {out} {out'} {piece} {last} {len} s written h size three k room p w =
-    let u = waiting_text s in
-    let within = k.within in
-    let long : length piece ≡ last.len = ap length p ∙ length-take-le last.len last.bytes (omega arith) in
-    record {
-      ended = at_valid (is_valid u) _ _ _ _
-          (λ v.
-          let same : piece ≡ decoded u = p ∙ v.1 in
-          let few = (good_parts s h).few_pending in
-          let g = w.fits (omega (
-            arith,
-            ap length same,
-            last_room s h (length-take-le s.pending s.symbols (omega arith)),
-          )) in
-          (v.0, g.0 ∙ ap (λ x. written + length x) same, g.1 ∙ ap (λ x. take written out ++ (x ++ drop len out)) same))
-          (λ v.
-          let none : length piece ≡ 0 = long ∙ v.1 in
-          let empty : piece ≡ [] = nil_from_length piece none in
-          let g = w.fits (omega arith) in
-          let n : len ≡ written = omega (arith, g.0) in (
-            v.0,
-            n,
-            g.1 ∙ ap (λ x. take written out ++ (x ++ drop len out)) empty
-                ∙ ap (λ m. take written out ++ drop m out) n ∙ take-append-drop written out,
-          ))
-          k.ended;
-    }
+    grind (arith, length-take-le, last_room, take-append-drop)
 
 -- Outcomes
 
@@ -253,13 +196,11 @@ ends_cases {u} {before} {mid} {s} {n} after r true e h size k room short =
     let P : Outcome → Type 0 = λ o. EndsAs o before after r.status r.len in
     subst P (sym (outcome_valid u valid))
     (k.0, writes_front all (sym long) is (omega (arith, ap length all, long, k.1)))
-ends_cases {u} {before} {mid} {s} {n} after r false e h size k room short =
-    let w = waiting_text s in
+ends_cases {u} {before} {mid} {s} {n} after r false e h size k room short = let w = waiting_text s in
     let sound = taken_sound h refl in
     let G : List ℕ → Type 0 = λ x. GoesOn u [] (x ++ []) in
     let on : GoesOn u [] (w ++ []) = subst G (sym (left_text_is sound.1)) (two_feeds u [] sound.0) in
-    let invalid : is_valid u ≡ false = ap is_valid (sym (append-nil u)) ∙ on.valid_is ∙ ap is_valid (append-nil w)
-    ∙ sym e in
+    let invalid : is_valid u ≡ false = cc (append-nil u, append-nil w) in
     let kind : kind_of u ≡ kind_of w = ap kind_of (sym (append-nil u)) ∙ on.kind_is ∙ ap kind_of (append-nil w) in
     let P : Outcome → Type 0 = λ o. EndsAs o before after r.status r.len in
     let W : ℕ → Type 0 = λ m. WritesFront (complete_bytes u) before after m in
@@ -275,8 +216,4 @@ pub ends_whole : {u before mid after : List ℕ} {s : DataUrlBase64} {status n :
     → EndsAfter (waiting_text s) n mid after r → 4 * n + 3 * s.pending ≤ 4 * length before
     → EndsAs (outcome flag u) before after r.status r.len
 ends_whole {u} {before} {mid} {after} {s} {status} {n} {r} flag e h z size k room =
-    let P : Bool → Type 0 = λ v. EndsAs (outcome v u) before after r.status r.len in
-    let R : ℕ → Type 0 = λ m. TakesText u s before mid m n in
-    let left = (taken_sound h z).1 in
-    subst P (sym e) (ends_cases after r (is_valid (waiting_text s)) refl (subst R z h) size k.ended room
-    (last_room s left.good (ap length left.symbols_are ∙ sym left.pending_is)))
+    grind (arith, ends_cases, last_room)

@@ -1,52 +1,26 @@
 -- The end of base64 that is fed in parts.
-use Rattle.std.proofs.Common.{◌≡◌, ℕ, ◌*◌, ◌≤◌, Bool, true, false, List, [], ◌∷◌, ◌++◌, length, map, take, Result, Ok}
-use Rattle.std.proofs.Common.{ap, ◌∙◌, arith}
-use Rattle.std.specs.Prelude.{MatchBool}
+use Rattle.std.proofs.Common.{◌≡◌, ℕ, ◌*◌, ◌≤◌, true, List, length, take, Result, Ok}
+use Rattle.std.proofs.Common.{arith}
 use Rattle.std.specs.declared.convert.Infallible.{Infallible}
 use Rattle.std.proofs.lemmas.List.{length-map}
-use Rattle.data_url.specs.Base64.{after_groups, decoded, is_valid, rest_bytes, symbol_value}
-use Rattle.data_url.specs.Run.{refusal}
+use Rattle.data_url.specs.Base64.{decoded, is_valid}
 use Rattle.data_url.proofs.api.{DecodesText}
 use Rattle.data_url.specs.declared.forgiving_base64.DecodeError.{DecodeError}
-use Rattle.data_url.proofs.api.{after_few, decoded_left, every_list_all, groups_few, match_at_none}
+use Rattle.data_url.proofs.api.{after_few, decoded_left, every_list_all, groups_few}
 use Rattle.data_url_c.specs.Parts.{is_good_state, waiting_text}
 use Rattle.data_url_c.specs.Steps.{GetsBytes}
 use Rattle.data_url_c.specs.declared.parts.DataUrlBase64.{DataUrlBase64}
-use Rattle.data_url_c.proofs.PartLemmas.{good_parts, no_refusal}
 
 -- The last bytes
-
-rest_room : (x : List ℕ) → length x ≤ 3 → 4 * length (rest_bytes x) ≤ 3 * length x
-rest_room [] h = omega arith
-rest_room (p ∷ []) h = omega arith
-rest_room (p ∷ q ∷ []) h = omega arith
-rest_room (p ∷ q ∷ r ∷ []) h = omega arith
-rest_room (p ∷ q ∷ r ∷ s ∷ rest) h = absurd (omega arith)
 
 -- the last bytes are fewer than the symbols that are left over
 pub last_room : (s : DataUrlBase64) → is_good_state s ≡ true → length (take s.pending s.symbols) ≡ s.pending
     → 4 * length (decoded (waiting_text s)) ≤ 3 * s.pending
 last_room s h size =
-    let parts = good_parts s h in
-    let q : List ℕ = take s.pending s.symbols in
-    let few = parts.few_pending in
-    let long : length (map symbol_value q) ≡ s.pending = length-map q symbol_value ∙ size in
-    let after : after_groups (map symbol_value q) ≡ map symbol_value q = after_few (map symbol_value q) (omega arith) in
-    let all : decoded (waiting_text s) ≡ rest_bytes (map symbol_value q) =
-    decoded_left q s.padding (every_list_all q parts.symbols)
-    ∙ ap (λ x. x ++ rest_bytes (after_groups (map symbol_value q))) (groups_few (map symbol_value q) (omega arith))
-    ∙ ap rest_bytes after in
-    omega (arith, ap length all, rest_room (map symbol_value q) (omega arith))
-
-bytes_of_valid : (v : Bool) (P Q : Type 0) → v ≡ true → MatchBool v P Q → P
-bytes_of_valid true P Q e h = h
-bytes_of_valid false P Q e h = absurd (cc)
+    grind (arith, length-map, after_few, decoded_left, every_list_all, groups_few)
 
 -- the closure was called with the bytes of a valid text
 pub gets_valid : {F : Type 0} {step : F → List ℕ → Result (Unit {0}) Infallible → F → Type 0} {f g : F} {u : List ℕ}
     {r : Result (Unit {0}) (DecodeError Infallible)} → DecodesText step f u r g → is_valid u ≡ true
     → GetsBytes step f (decoded u) (r ≡ Ok tt) g
-gets_valid {u = u} h v =
-    let all = bytes_of_valid (is_valid u) _ _ v
-    (match_at_none (refusal h.run) _ _ (no_refusal (refusal h.run)) h.gave) in
-    record { run = h.run; ran = h.ran; bytes_are = all.bytes_are; ended = all.answer }
+gets_valid {u = u} h v = grind arith

@@ -1,37 +1,21 @@
 -- The status of a fault, found by reading the text again.
-use Rattle.std.proofs.Common.{◌≡◌, ℕ, ◌+◌, ◌<◌, ◌≤◌, ◌%◌, Bool, true, false, cond, ◌||◌, List, [], ◌∷◌, ◌++◌, length}
-use Rattle.std.proofs.Common.{length-take-le, get_or, take, drop, drop_of_length-le, Option, None, Some, Result, Ok}
-use Rattle.std.proofs.Common.{Err, refl, sym, ap, ◌∙◌, arith, eqb, eqb-true}
-use Rattle.std.specs.Prelude.{◌==◌, MatchOption, is_some}
+use Rattle.std.proofs.Common.{◌≡◌, ℕ, ◌+◌, ◌<◌, ◌≤◌, Bool, true, false, cond, ◌||◌, List, [], ◌∷◌, ◌++◌, length}
+use Rattle.std.proofs.Common.{get_or, take, drop, drop_of_length-le, None, Some}
+use Rattle.std.proofs.Common.{refl, sym, ap, ◌∙◌, arith, eqb}
+use Rattle.std.specs.Prelude.{◌==◌, is_some}
 use Rattle.std.specs.List.{list_any}
 use Rattle.std.proofs.lemmas.List.{drop_more}
-use Rattle.data_url.specs.Base64.{AlphabetSymbolAfterPadding, Kind, LoneAlphabetSymbol, Padding, UnexpectedSymbol}
+use Rattle.data_url.specs.Base64.{AlphabetSymbolAfterPadding, UnexpectedSymbol}
 use Rattle.data_url.specs.Base64.{first_fault, is_symbol, kind_of}
 use Rattle.data_url.specs.Mime.{Every}
-use Rattle.data_url.specs.declared.forgiving_base64.DecodeError.{DecodeError}
-use Rattle.data_url.specs.declared.forgiving_base64.DecodeError.TheVariants.{InvalidBase64}
-use Rattle.data_url.proofs.api.{classes, every_from_all, fault-append, fault-append_some, fault_after}
+use Rattle.data_url.proofs.api.{every_from_all, fault-append, fault-append_some, fault_after, fault_byte}
 use Rattle.data_url.proofs.api.{fault_more, fault_other, fault_some, fault_space, fault_symbol, has_pad, kind_fault}
-use Rattle.data_url.proofs.api.{kind_left, space_alone, symbol_alone}
+use Rattle.data_url.proofs.api.{kind_left}
 use Rattle.std.specs.Char.{is_ascii_whitespace}
-use Rattle.std.proofs.Math.Bool.{or-false, or-true}
 use Rattle.data_url_c.specs.Answers.{status_of_kind}
 use Rattle.data_url_c.specs.Parts.{is_good_state, waiting_text}
 use Rattle.data_url_c.specs.declared.parts.DataUrlBase64.{DataUrlBase64}
 use Rattle.data_url_c.proofs.PartLemmas.{good_parts}
-
-is_faulty_by : {E : Type 0} (o : Option ℕ) (kind : Kind) (told : Kind) (r : Result (Unit {0}) (DecodeError E))
-    → r ≡ Err (InvalidBase64 told)
-    → MatchOption o (r ≡ Ok tt) (λ place. r ≡ Err (InvalidBase64 kind)) → is_some o ≡ true
-is_faulty_by (Some place) kind told r e h = refl
-is_faulty_by None kind told r e h = absurd (let k : Ok tt ≡ Err (InvalidBase64 told) = sym h ∙ e in cc)
-
--- if decoding a text returns the error of a fault, the text has a first fault
-pub is_faulty : {E : Type 0} (u : List ℕ) (told : Kind) {r : Result (Unit {0}) (DecodeError E)}
-    → MatchOption (first_fault u) (r ≡ Ok tt) (λ place. r ≡ Err (InvalidBase64 (kind_of u)))
-    → r ≡ Err (InvalidBase64 told)
-    → is_some (first_fault u) ≡ true
-is_faulty u told {r = r} h e = is_faulty_by (first_fault u) (kind_of u) told r e h
 
 fault_nothing : (s : Bool) → fault_byte s [] ≡ None
 unfolding fault_byte
@@ -51,28 +35,23 @@ step_by s t c rest h e = fault-append (c ∷ []) rest s h ∙ ap (λ v. fault_by
 
 -- a symbol before any '=' is not a fault
 pub after_symbol : (c : ℕ) (rest : List ℕ) → is_symbol c ≡ true → fault_byte false (c ∷ rest) ≡ fault_byte false rest
-after_symbol c rest h =
-    step_by false false c rest (fault_symbol c h) (ap (λ v. v || false) (symbol_alone (classes c) h).1)
+after_symbol c rest h = grind (arith, step_by, fault_symbol)
 
 -- white space is not a fault
 pub after_space : (s : Bool) (c : ℕ) (rest : List ℕ) → is_ascii_whitespace c ≡ true
     → fault_byte s (c ∷ rest) ≡ fault_byte s rest
-after_space s c rest h =
-    step_by s s c rest (fault_space c s h) (ap (λ v. s || (v || false)) (space_alone (classes c) h).0 ∙ or-false s)
+after_space s c rest h = grind (arith, step_by, fault_space)
 
 -- a '=' is not a fault, and there is padding after it
 pub after_pad : (s : Bool) (c : ℕ) (rest : List ℕ) → (c == 61) ≡ true → fault_byte s (c ∷ rest) ≡ fault_byte true rest
-after_pad s c rest h =
-    let is : c ≡ 61 = eqb-true c 61 h in
-    step_by s true c rest (ap (λ b. fault_byte s (b ∷ [])) is ∙ fault_pad s) (ap (λ v. s || (v || false)) h ∙ or-true s)
+after_pad s c rest h = grind (arith, step_by, fault_pad)
 
 -- the same, from what is known about the flag before and after
 
 -- a symbol before any '=' is passed, and the flag stays as it is
 pub step_symbol : (s t : Bool) (c : ℕ) → s ≡ false → t ≡ s → is_symbol c ≡ true → (rest : List ℕ)
     → fault_byte s (c ∷ rest) ≡ fault_byte t rest
-step_symbol s t c e f h rest =
-    ap (λ v. fault_byte v (c ∷ rest)) e ∙ after_symbol c rest h ∙ ap (λ v. fault_byte v rest) (sym (f ∙ e))
+step_symbol s t c e f h rest = grind (arith, after_symbol)
 
 -- a '=' is passed, and the flag is true after it
 pub step_pad : (s t : Bool) (c : ℕ) → t ≡ true → (c == 61) ≡ true → (rest : List ℕ)
@@ -95,24 +74,16 @@ pub goes_on : (s : DataUrlBase64) (text : List ℕ) (padded now : Bool) (at c : 
     → at < length text
     → c ≡ get_or text at 0 → ((rest : List ℕ) → fault_byte padded (c ∷ rest) ≡ fault_byte now rest)
     → GoesOn s text now (at + 1)
-goes_on s text padded now at c h l e step =
-    sym (step (drop (at + 1) text))
-    ∙ ap (λ b. fault_byte padded (b ∷ drop (at + 1) text)) e
-    ∙ ap (fault_byte padded) (sym (drop_more text at 0 l))
-    ∙ h
+goes_on s text padded now at c h l e step = grind (arith, drop_more)
 
 -- the kind of the whole, at a byte with a fault
 pub kind_here : (s : DataUrlBase64) (text : List ℕ) (padded : Bool) (at c : ℕ) → is_good_state s ≡ true
     → GoesOn s text padded at
     → at < length text → c ≡ get_or text at 0 → fault_byte padded (c ∷ []) ≡ Some c
     → kind_of (waiting_text s ++ text) ≡ cond (is_symbol c) AlphabetSymbolAfterPadding (UnexpectedSymbol c)
-kind_here s text padded at c g h l e f =
-    let q = take s.pending s.symbols in
+kind_here s text padded at c g h l e f = let q = take s.pending s.symbols in
     let every : Every is_symbol q = every_from_all is_symbol q (good_parts s g).symbols in
-    let found : fault_byte padded (drop at text) ≡ Some c =
-    ap (fault_byte padded) (drop_more text at 0 l)
-    ∙ ap (λ b. fault_byte padded (b ∷ drop (at + 1) text)) (sym e)
-    ∙ fault-append_some (c ∷ []) (drop (at + 1) text) padded c f in
+    let found : fault_byte padded (drop at text) ≡ Some c = cc (drop_more text at 0 l, fault-append_some (c ∷ []) (drop (at + 1) text) padded c f) in
     kind_fault (waiting_text s ++ text) c (fault_more q s.padding every text ∙ sym h ∙ found)
 
 -- if no earlier byte is a fault, and the byte at an index is a symbol after padding, the status is 10
@@ -137,28 +108,11 @@ pub none_found : (s : DataUrlBase64) (text : List ℕ) (padded : Bool) (at : ℕ
     → GoesOn s text padded at
     → length text ≤ at → is_some (first_fault (waiting_text s ++ text)) ≡ true → ⊥
 none_found s text padded at g h l k =
-    let q = take s.pending s.symbols in
-    let every : Every is_symbol q = every_from_all is_symbol q (good_parts s g).symbols in
-    let none : fault_byte false (waiting_text s ++ text) ≡ None =
-    fault_more q s.padding every text ∙ sym h ∙ ap (fault_byte padded) (drop_of_length-le text l)
-    ∙ fault_nothing padded in
-    let e : false ≡ true = sym (fault_some (waiting_text s ++ text) ∙ ap is_some none) ∙ k in
-    absurd (let f : false ≡ true = e in cc)
+    grind (arith, every_from_all, fault_more, drop_of_length-le, fault_nothing, fault_some)
 
 -- The end
 
 -- the status of what is left over in a good state is 9 if there is one symbol, and 8 otherwise
 pub end_is : (s : DataUrlBase64) → is_good_state s ≡ true → length s.symbols ≡ 3
     → status_of_kind (kind_of (waiting_text s)) ≡ cond (eqb s.pending 1) 9 8
-end_is s g l =
-    let parts = good_parts s g in
-    let few = parts.few_pending in
-    let q = take s.pending s.symbols in
-    let every : Every is_symbol q = every_from_all is_symbol q parts.symbols in
-    let n : length q % 4 ≡ s.pending = omega (arith, few, l, length-take-le s.pending s.symbols) in
-    ap status_of_kind (kind_left q s.padding every ∙ ap (λ k. cond (eqb k 1) LoneAlphabetSymbol Padding) n)
-    ∙ lone_or_not (eqb s.pending 1)
-  where
-    lone_or_not : (v : Bool) → status_of_kind (cond v LoneAlphabetSymbol Padding) ≡ cond v 9 8
-    lone_or_not true = refl
-    lone_or_not false = refl
+end_is s g l = grind (arith, kind_left)

@@ -1,13 +1,12 @@
 -- The kind of a fault of base64, read from its message.
 use Rattle.std.proofs.Common.{◌≡◌, ◌≢◌, ℕ, zero, suc, ◌+◌, ◌/◌, ◌%◌, ◌<◌, ◌^◌, false, List, [], ◌∷◌, ◌++◌, length}
-use Rattle.std.proofs.Common.{length-append, get_or, codes, refl, sym, ap, ◌∙◌, subst, inl, inr, arith}
+use Rattle.std.proofs.Common.{length-append, codes, refl, ap, inl, inr, arith}
 use Rattle.std.specs.Prelude.{◌==◌}
 use Rattle.std.specs.Fmt.{decimal, digit_glyph, digits, digits_onto}
-use Rattle.std.specs.Str.Parse.{AllDigits, digits_value, without_leading_plus}
+use Rattle.std.specs.Str.Parse.{digits_value, without_leading_plus}
 use Rattle.std.proofs.lemmas.Bool.{cases_Bool, cond-false, eqb-true}
 use Rattle.std.proofs.lemmas.Fmt.{decimal_is_IsNumeral_wide}
-use Rattle.std.proofs.lemmas.List.{append_cancel_left, append_cancel_right}
-use Rattle.std.proofs.lemmas.Str.Parse.{without_leading_plus_none}
+use Rattle.std.proofs.lemmas.List.{append_cancel_right}
 use Rattle.data_url.specs.Base64.{AlphabetSymbolAfterPadding, Kind, LoneAlphabetSymbol, Padding, UnexpectedSymbol}
 use Rattle.data_url.specs.Base64.{kind_text}
 
@@ -32,15 +31,8 @@ decimal_small : (n : ℕ) → length (decimal n) < 64 → n < 10 ^ 64
 unfolding digits
 decimal_small n h = few_digits 64 n [] (omega (arith, h))
 
--- a digit is not '+'
-no_plus : (ds : List ℕ) → AllDigits 10 ds → get_or ds 0 0 ≢ 43
-no_plus [] h e = absurd (omega arith)
-no_plus (c ∷ ds) h e = let k = subst (λ x. AllDigits 10 (x ∷ ds)) e h in absurd (omega (arith, k.0))
-
 decimal_value : (n : ℕ) → length (decimal n) < 64 → digits_value 10 (without_leading_plus (decimal n)) ≡ n
-decimal_value n h =
-    let is = decimal_is_IsNumeral_wide n (decimal_small n h) in
-    ap (digits_value 10) (without_leading_plus_none (decimal n) (no_plus (decimal n) is.0.1)) ∙ is.1
+decimal_value n h = grind (arith, decimal_is_IsNumeral_wide, decimal_small)
 
 -- the number in the text of an unexpected symbol
 pub number_is : (text rest number : List ℕ) (byte found : ℕ) → length text < 64
@@ -48,16 +40,7 @@ pub number_is : (text rest number : List ℕ) (byte found : ℕ) → length text
     → text ≡ codes "symbol with codepoint " ++ rest → rest ≡ number ++ codes " not expected"
     → found ≡ digits_value 10 (without_leading_plus number) → found ≡ byte
 number_is text rest number byte found short h e f v =
-    let after : rest ≡ decimal byte ++ codes " not expected" =
-    append_cancel_left (codes "symbol with codepoint ") rest (decimal byte ++ codes " not expected") (sym e ∙ h) in
-    let is : number ≡ decimal byte =
-    append_cancel_right number (decimal byte) (codes " not expected") (sym f ∙ after) in
-    let a = length-append (codes "symbol with codepoint ") rest in
-    let b = length-append number (codes " not expected") in
-    let c = ap length e in
-    let d = ap length f in
-    let g = ap length is in
-    v ∙ ap (λ s. digits_value 10 (without_leading_plus s)) is ∙ decimal_value byte (omega (arith, a, b, c, d, g, short))
+    grind (arith, append_cancel_right, length-append, decimal_value)
 
 -- The texts of the other kinds
 

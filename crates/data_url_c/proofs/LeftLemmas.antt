@@ -1,35 +1,28 @@
 -- What is left over of a text of base64 after its groups, and how long the groups are.
-use Rattle.std.proofs.Common.{◌≡◌, ℕ, suc, ◌+◌, ◌*◌, ◌-◌, ◌/◌, ◌%◌, ◌<◌, ◌≤◌, Bool, true, false, cond, List, [], ◌∷◌}
-use Rattle.std.proofs.Common.{◌++◌, length, map, take, drop, min, set, eqb, Option, None, Some, refl, sym, ap, ◌∙◌}
-use Rattle.std.proofs.Common.{arith, get_or, length-append, length-take, length-drop, drop-cons, add-one, eqb-true}
+use Rattle.std.proofs.Common.{◌≡◌, ℕ, ◌+◌, ◌*◌, ◌-◌, ◌/◌, ◌%◌, ◌<◌, ◌≤◌, Bool, true, cond, List, [], ◌∷◌}
+use Rattle.std.proofs.Common.{◌++◌, length, take, drop, min, set, eqb, Option, None, Some, refl, sym, ap, ◌∙◌}
+use Rattle.std.proofs.Common.{arith, get_or, length-append, length-take, length-drop, drop-cons}
 use Rattle.std.proofs.Common.{append_assoc}
 use Rattle.std.specs.List.{filter, list_all}
-use Rattle.std.specs.Prelude.{replicate}
 use Rattle.std.proofs.Math.Seq.{take-set-lt}
-use Rattle.std.proofs.lemmas.Bool.{both_ways}
 use Rattle.std.proofs.lemmas.List.{drop-set, length-map, length-replicate, length-take-le, nil_from_length}
 use Rattle.std.proofs.lemmas.List.{take-append-drop, take-set-le, take-take}
 use Rattle.std.proofs.lemmas.List.Elements.{filter-append}
 use Rattle.data_url.specs.Base64.{after_groups, before_place, complete_bytes, first_fault, groups, is_symbol}
-use Rattle.data_url.specs.Base64.{left_padding, left_symbols, symbol_value, values}
+use Rattle.data_url.specs.Base64.{left_padding, left_symbols, values}
 use Rattle.data_url.specs.Mime.{Every}
 use Rattle.data_url.proofs.api.{after_few, after_groups-append, every_after, every_list_all, filter_every}
 use Rattle.data_url.proofs.api.{groups_length, length-after_groups, padding_more, symbols_more}
 use Rattle.data_url_c.specs.Parts.{IsLeftOf, TakesText, is_good_state, waiting_text}
 use Rattle.data_url_c.specs.declared.parts.DataUrlBase64.{DataUrlBase64}
-use Rattle.data_url_c.proofs.PartLemmas.{good_from, good_parts, taken_sound}
+use Rattle.data_url_c.proofs.PartLemmas.{good_parts, taken_sound}
 
 -- The length of the groups of a text
 
 -- a text has at most as many symbols as bytes
 pub filter_length : (t : List ℕ) → length (filter is_symbol t) ≤ length t
 filter_length [] = omega arith
-filter_length (c ∷ t) =
-    elim (is_symbol c) as (λ s. length (cond s (c ∷ filter is_symbol t) (filter is_symbol t)) ≤ length (c ∷ t)) [
-      | true ↦
-          omega (arith, filter_length t)
-      | false ↦ omega (arith, filter_length t)
-    ]
+filter_length (c ∷ t) = grind (arith, (filter_length t))
 
 -- a prefix has at most as many symbols as the whole
 before_length : (u : List ℕ) (o : Option ℕ) → length (filter is_symbol (before_place u o)) ≤ length (filter is_symbol u)
@@ -42,14 +35,7 @@ before_length u (Some i) =
 -- three bytes for four symbols, at most
 pub complete_length : (u : List ℕ) → 4 * length (complete_bytes u) ≤ 3 * length (filter is_symbol u)
 unfolding complete_bytes values
-complete_length u =
-    let front = before_place u (first_fault u) in
-    omega (
-      arith,
-      groups_length (map symbol_value (filter is_symbol front)),
-      length-map (filter is_symbol front) symbol_value,
-      before_length u (first_fault u),
-    )
+complete_length u = grind (arith, groups_length, length-map, before_length)
 
 -- three bytes for each four symbols, except those that are left over
 groups_exact : (x : List ℕ) → 4 * length (groups x) + 3 * length (after_groups x) ≡ 3 * length x
@@ -64,67 +50,36 @@ groups_exact (p ∷ q ∷ r ∷ s ∷ rest) = let h = groups_exact rest in omega
 pub complete_exact : (u : List ℕ) → first_fault u ≡ None → 4 * length (complete_bytes u) + 3 * length (left_symbols u)
     ≡ 3 * length (filter is_symbol u)
 unfolding complete_bytes values left_symbols
-complete_exact u e =
-    let all : complete_bytes u ≡ groups (map symbol_value (filter is_symbol u)) =
-    ap (λ o. groups (map symbol_value (filter is_symbol (before_place u o)))) e in
-    omega (
-      arith,
-      ap length all,
-      groups_exact (map symbol_value (filter is_symbol u)),
-      length-map (filter is_symbol u) symbol_value,
-      length-after_groups (filter is_symbol u),
-      length-after_groups (map symbol_value (filter is_symbol u)),
-    )
+complete_exact u e = grind (arith, groups_exact, length-map, length-after_groups)
 
 -- What is left over, and then a text
 
 -- the symbols of what is left over, and of what is left over and then a text
 pub waiting_symbols : (s : DataUrlBase64) (t : List ℕ) → is_good_state s ≡ true
     → filter is_symbol (waiting_text s ++ t) ≡ take s.pending s.symbols ++ filter is_symbol t
-waiting_symbols s t h = symbols_more (take s.pending s.symbols) s.padding
-    (every_list_all (take s.pending s.symbols) (good_parts s h).symbols) t
+waiting_symbols s t h = grind (arith, symbols_more, every_list_all)
 
 -- what is left over in a good state, and then t, has at most `pending` symbols and one for each byte of t
 pub waiting_length : (s : DataUrlBase64) (t : List ℕ) → is_good_state s ≡ true
     → length (filter is_symbol (waiting_text s ++ t)) ≤ s.pending + length t
-waiting_length s t h =
-    let e = ap length (waiting_symbols s t h) in
-    omega (
-      arith,
-      e,
-      length-append (take s.pending s.symbols) (filter is_symbol t),
-      length-take s.pending s.symbols,
-      filter_length t,
-    )
+waiting_length s t h = grind (arith, waiting_symbols, length-append, length-take, filter_length)
 
 -- the length of what is left over, and then t
 pub text_length : (s : DataUrlBase64) (t : List ℕ) → s.pending ≤ length s.symbols
     → length (waiting_text s ++ t) ≡ s.pending + s.padding + length t
-text_length s t h =
-    length-append (waiting_text s) t
-    ∙ ap (λ n. n + length t) (length-append (take s.pending s.symbols) (replicate s.padding 61)
-    ∙ ap (λ n. n + length {A = ℕ} (replicate s.padding 61)) (length-take-le s.pending s.symbols h)
-    ∙ ap (λ n. s.pending + n) (length-replicate s.padding 61))
+text_length s t h = grind (arith, length-append, length-take-le, length-replicate)
 
 -- The last symbols, found from the end on
-
-filter_first : (b : ℕ) (bs : List ℕ) (v : Bool) → is_symbol b ≡ v
-    → filter is_symbol (b ∷ bs) ≡ cond v (b ∷ filter is_symbol bs) (filter is_symbol bs)
-filter_first b bs v e = ap (λ v. cond v (b ∷ filter is_symbol bs) (filter is_symbol bs)) e
 
 -- the byte before the place
 filter_before : (s : List ℕ) (i b : ℕ) (v : Bool) → i < length s → b ≡ get_or s i 0 → is_symbol b ≡ v
     → filter is_symbol (drop i s) ≡ cond v (b ∷ filter is_symbol (drop (i + 1) s)) (filter is_symbol (drop (i + 1) s))
-filter_before s i b v l q e =
-    let first : drop i s ≡ b ∷ drop (i + 1) s = rw (add-one, drop-cons s i 0) (ap (λ x. x ∷ drop (suc i) s) (sym q)) in
-    ap (filter is_symbol) first ∙ filter_first b (drop (i + 1) s) v e
+filter_before s i b v l q e = grind (arith, drop-cons)
 
 -- a symbol is put before those that were found
 found_one : (xs : List ℕ) (count m b : ℕ) → m < count → count ≤ length xs
     → drop m (take count (set xs m b)) ≡ b ∷ drop (m + 1) (take count xs)
-found_one xs count m b l k =
-    let few : length (take count xs) ≡ count = length-take-le count xs k in
-    ap (drop m) (take-set-lt count xs m b l) ∙ drop-set (take count xs) m b (omega arith)
+found_one xs count m b l k = grind (arith, length-take-le, take-set-lt, drop-set)
 
 -- a symbol before those that were found at the end of a text is put before them
 pub found_symbol : (s xs : List ℕ) (count missing at m i b : ℕ) → m + 1 ≡ missing → i + 1 ≡ at → at ≤ length s
@@ -132,16 +87,12 @@ pub found_symbol : (s xs : List ℕ) (count missing at m i b : ℕ) → m + 1 �
     → drop missing (take count xs) ≡ filter is_symbol (drop at s) → drop m (take count (set xs m b)) ≡ filter is_symbol
     (drop i s)
 found_symbol s xs count missing at m i b j k l q e n f h =
-    found_one xs count m b (omega arith) f
-    ∙ ap (λ x. b ∷ drop x (take count xs)) j
-    ∙ ap (λ x. b ∷ x) (h ∙ ap (λ x. filter is_symbol (drop x s)) (sym k))
-    ∙ sym (filter_before s i b true (omega arith) q e)
+    cc (found_one xs count m b (omega arith) f, filter_before s i b true (omega arith) q e)
 
 -- one symbol less is taken from what was left over
 pub waiting_less : (xs ys : List ℕ) (m n b : ℕ) → m + 1 ≡ n → take n xs ≡ take n ys → take m (set xs m b) ≡ take m ys
 waiting_less xs ys m n b e h =
-    take-set-le m xs m b (omega arith) ∙ sym (take-take m n xs (omega arith)) ∙ ap (take m) h
-    ∙ take-take m n ys (omega arith)
+    cc (take-set-le m xs m b (omega arith), take-take m n xs (omega arith), take-take m n ys (omega arith))
 
 -- all were found
 pub found_all : (waiting s last : List ℕ) (missing at : ℕ) → missing ≡ 0
@@ -149,10 +100,7 @@ pub found_all : (waiting s last : List ℕ) (missing at : ℕ) → missing ≡ 0
     → (front : List ℕ) × (waiting ++ filter is_symbol s ≡ front ++ last)
 found_all waiting s last missing at z h = (
   waiting ++ filter is_symbol (take at s),
-  ap (λ x. waiting ++ x) (ap (filter is_symbol) (sym (take-append-drop at s))
-      ∙ filter-append is_symbol (take at s) (drop at s))
-      ∙ sym (append_assoc waiting (filter is_symbol (take at s)) (filter is_symbol (drop at s)))
-      ∙ ap (λ x. (waiting ++ filter is_symbol (take at s)) ++ x) (sym h ∙ ap (λ n. drop n last) z),
+  cc (take-append-drop at s, filter-append is_symbol (take at s) (drop at s), append_assoc waiting (filter is_symbol (take at s)) (filter is_symbol (drop at s))),
 )
 
 -- if the text has no more symbols, exactly the symbols that were left over before are missing
@@ -175,16 +123,13 @@ found_waiting symbols s xs pending count missing a b c d e f g h =
 groups_left : (front last : List ℕ) → length last ≤ 3 → length (front ++ last) % 4 ≡ length last
     → after_groups (front ++ last) ≡ last
 groups_left front last few e =
-    let whole : length (after_groups front) ≡ 0 = omega (arith, length-after_groups front, length-append front last) in
-    after_groups-append front last ∙ ap (λ x. after_groups (x ++ last)) (nil_from_length (after_groups front) whole)
-    ∙ after_few last few
+    grind (arith, length-after_groups, length-append, after_groups-append, nil_from_length, after_few)
 
 -- the last symbols of a text are those left over, if they are as many as all symbols modulo four
 pub left_symbols_are : (s last : List ℕ) → length last ≡ length (filter is_symbol s) % 4
     → (front : List ℕ) × (filter is_symbol s ≡ front ++ last) → last ≡ left_symbols s
 unfolding left_symbols
-left_symbols_are s last e h =
-    sym (ap after_groups h.1 ∙ groups_left h.0 last (omega (arith, e)) (ap (λ x. length x % 4) (sym h.1) ∙ sym e))
+left_symbols_are s last e h = grind (arith, groups_left)
 
 all_list : (q : List ℕ) → Every is_symbol q → list_all is_symbol q ≡ true
 all_list [] h = refl
@@ -197,13 +142,7 @@ left_all u = all_list (after_groups (filter is_symbol u)) (every_after (filter i
 -- a state with these symbols and this padding is what is left over of the text
 pub is_left : (u : List ℕ) (s : DataUrlBase64) → length s.symbols ≡ 3 → s.pending ≤ 3 → s.padding ≤ 3
     → take s.pending s.symbols ≡ left_symbols u → s.padding ≡ left_padding u → IsLeftOf u s
-is_left u s size a b e f = record {
-  good = good_from s a b (ap (list_all is_symbol) e ∙ left_all u);
-  pending_is =
-      sym (length-take-le s.pending s.symbols (omega arith)) ∙ ap length e;
-  symbols_are = e;
-  padding_is = f;
-}
+is_left u s size a b e f = grind (arith, left_all, length-take-le)
 
 -- what was counted is left over
 pub counted_left : (s r : DataUrlBase64) (t : List ℕ) (count pads : ℕ) → is_good_state s ≡ true
@@ -232,21 +171,10 @@ counted_left s r t count pads h c p e f l m g =
 
 -- Nothing is left over
 
-not_both : (c : ℕ) → is_symbol c ≡ true → eqb c 61 ≡ true → ⊥
-not_both c s p = both_ways (is_symbol c) (ap is_symbol (eqb-true c 61 p)) s
-
-sum_case : (c n : ℕ) (x y : List ℕ) (s p : Bool) → (s ≡ true → p ≡ true → ⊥) → length x + length y ≤ n
-    → length (cond s (c ∷ x) x) + length (cond p (c ∷ y) y) ≤ suc n
-sum_case c n x y true true k h = absurd (k refl refl)
-sum_case c n x y true false k h = omega arith
-sum_case c n x y false true k h = omega arith
-sum_case c n x y false false k h = omega arith
-
 -- no byte is a symbol and padding
 symbols_and_pads : (t : List ℕ) → length (filter is_symbol t) + length (filter (λ c. eqb c 61) t) ≤ length t
 symbols_and_pads [] = omega arith
-symbols_and_pads (c ∷ t) = sum_case c (length t) (filter is_symbol t) (filter (λ c. eqb c 61) t) (is_symbol c)
-    (eqb c 61) (not_both c) (symbols_and_pads t)
+symbols_and_pads (c ∷ t) = grind (arith, (symbols_and_pads t))
 
 -- a text whose groups use each of its bytes
 pub nothing_left : (u : List ℕ) (s : DataUrlBase64) (bytes len : ℕ) → first_fault u ≡ None → bytes ≡ length u
@@ -254,14 +182,7 @@ pub nothing_left : (u : List ℕ) (s : DataUrlBase64) (bytes len : ℕ) → firs
     → s.padding ≡ 0 → IsLeftOf u s
 unfolding left_padding left_symbols
 nothing_left u s bytes len e a b c d size f g =
-    let exact = complete_exact u e in
-    let sum = symbols_and_pads u in
-    let last = length-after_groups (filter is_symbol u) in
-    let none : length (after_groups (filter is_symbol u)) ≡ 0 = omega arith in
-    let pads : length (filter (λ c. eqb c 61) u) ≡ 0 = omega arith in
-    is_left u s size (omega arith) (omega arith)
-    (ap (λ n. take n s.symbols) f ∙ sym (nil_from_length (after_groups (filter is_symbol u)) none))
-    (omega arith)
+    grind (arith, complete_exact, symbols_and_pads, nil_from_length)
 
 -- what is left over and what was written are together not longer than what was fed
 pub taken_room : (s t : DataUrlBase64) (a : List ℕ) {out out' : List ℕ} {status n : ℕ} → is_good_state s ≡ true

@@ -1,7 +1,7 @@
 -- A URL is opened with its probe.
 use Rattle.std.proofs.Common.{◌≡◌, Bor, ℕ, zero, suc, ◌+◌, ◌-◌, ◌<◌, ◌≤◌, Bool, true, false, nat_eq, List, [], ◌∷◌}
 use Rattle.std.proofs.Common.{◌++◌, length, length-append, get_or, take, drop, codes, Option, None, Some, Result, Ok}
-use Rattle.std.proofs.Common.{Err, position, refl, sym, ap, ◌∙◌, subst, inl, inr, arith, eqb-true}
+use Rattle.std.proofs.Common.{Err, position, refl, sym, ap, ◌∙◌, subst, inl, inr, arith}
 use Rattle.std.specs.Global.{Global}
 use Rattle.std.specs.Prelude.{◌==◌, IfSome, IsUtf8, encode_utf8_all}
 use Rattle.std.specs.Str.Pattern.{GetsRange}
@@ -14,13 +14,13 @@ use Rattle.std.proofs.lemmas.Slice.Eq.{starts_is}
 use Rattle.data_url.specs.Base64.{after_groups, decoded, groups, is_valid, values, without_last_padding}
 use Rattle.data_url.specs.Base64.{without_padding, without_whitespace}
 use Rattle.data_url.specs.DataUrl.{IsAcceptable, is_base64, mime_of, url_body, url_tail}
-use Rattle.data_url.specs.Fetch.{Accepted, has_base64_suffix, header_of, mime_text, outcome, plain_body, staged}
+use Rattle.data_url.specs.Fetch.{has_base64_suffix, header_of, mime_text, outcome, plain_body, staged}
 use Rattle.data_url.specs.Fetch.{tail_of}
 use Rattle.data_url.specs.Mime.{HasNoRecord, IsRecordOf, default_record, printed}
 use Rattle.data_url.specs.MimeType.{record_of}
 use Rattle.data_url.specs.Percent.{percent_decoding}
 use Rattle.data_url.specs.Url.{before, after, front, is_c0_control_or_space, trimmed_text, without_tabs_and_newlines}
-use Rattle.data_url.proofs.api.{IsBytes, ascii_all, before_at, after_none, bytes_by_place, bytes_trimmed}
+use Rattle.data_url.proofs.api.{IsBytes, ascii_all, before_at, after_none, bytes_by_place, bytes_trimmed, on_literals}
 use Rattle.data_url_c.specs.Answers.{Crosses, Shows}
 use Rattle.data_url_c.specs.Gives.{RefusesUrl}
 use Rattle.data_url_c.specs.Opens.{Opens, answer_of}
@@ -35,15 +35,14 @@ use Rattle.std.proofs.lemmas.Option.{same_Some}
 use Rattle.data_url_c.proofs.GivenLemmas.{accepted}
 use Rattle.data_url_c.proofs.PrintLemmas.{ascii_encoded, vec_of}
 use Rattle.data_url_c.proofs.ProbeLemmas.{ends, no_comma_in_scheme, same_acceptable, same_header, same_no_comma}
-use Rattle.data_url_c.proofs.ProbeLemmas.{same_no_scheme, tail_of_cut, trimmed_around, trimmed_front, trimmed_tail}
+use Rattle.data_url_c.proofs.ProbeLemmas.{same_no_scheme, tail_of_cut, trimmed_around, trimmed_tail}
 
 -- Cutting at the comma
 
 -- the index at which the first comma is found is within the text, and there is a comma
 pub at_comma : (x : List ℕ) (comma : ℕ) → position (λ b. b == 44) x ≡ Some comma
     → (comma < length x) × (get_or x comma 0 ≡ 44)
-at_comma x comma h =
-    let p = position-Some (λ b. b == 44) x comma 0 h in (p.0, eqb-true (get_or x comma 0) 44 p.1)
+at_comma x comma h = grind (arith, position-Some)
 
 none_before : (x : List ℕ) (comma : ℕ) → position (λ b. b == 44) x ≡ Some comma → after 44 (take comma x) ≡ None
 none_before x comma h =
@@ -53,26 +52,17 @@ none_before x comma h =
     ap (λ v. v == 44) (get_or-take comma x k 0 below) ∙ p.2 k below)
 
 cut_at : (x : List ℕ) (comma : ℕ) → position (λ b. b == 44) x ≡ Some comma → x ≡ take comma x ++ 44 ∷ drop (comma + 1) x
-cut_at x comma h =
-    let at = at_comma x comma h in
-    sym (take-append-drop comma x)
-    ∙ ap (λ t. take comma x ++ t) (drop_more x comma 0 at.0 ∙ ap (λ b. b ∷ drop (comma + 1) x) at.1)
+cut_at x comma h = let at = at_comma x comma h in cc (take-append-drop comma x, drop_more x comma 0 at.0)
 
 -- the C0 controls and spaces at the end of what follows the comma are at most as many as its bytes
 pub fits_tail : (x : List ℕ) (comma low : ℕ) → low ≡ suffix_len is_c0_control_or_space (drop (comma + 1) x)
     → low ≤ length x - (comma + 1)
-fits_tail x comma low e =
-    let few = suffix_len-le-length is_c0_control_or_space (drop (comma + 1) x) in
-    omega (arith, e, few, length-drop (comma + 1) x)
+fits_tail x comma low e = grind (arith, suffix_len-le-length, length-drop)
 
 -- the tail, from its place and its length
 tail_is : (x : List ℕ) (comma low : ℕ) → low ≡ suffix_len is_c0_control_or_space (drop (comma + 1) x)
     → take (length x - (comma + 1) - low) (drop (comma + 1) x) ≡ tail_after x comma
-tail_is x comma low e =
-    let n : length x - (comma + 1) - low
-    ≡ length (drop (comma + 1) x) - suffix_len is_c0_control_or_space (drop (comma + 1) x) =
-    omega (arith, e, length-drop (comma + 1) x) in
-    ap (λ k. take k (drop (comma + 1) x)) n
+tail_is x comma low e = grind (arith, length-drop)
 
 -- the tail
 pub tail_found : (x : List ℕ) (comma low end : ℕ) (r : Option (Bor (List ℕ))) → position (λ b. b == 44) x ≡ Some comma
@@ -104,13 +94,8 @@ bytes_drop (suc n) (c ∷ a) h = bytes_drop n a h.1
 abbrev qq : List ℕ
 qq = codes "QQ"
 
-tail_of_probe : trimmed_tail qq ≡ qq
-tail_of_probe = refl
-
 bytes_probe : (a : List ℕ) → IsBytes a → IsBytes (trimmed_text (a ++ 44 ∷ qq))
-bytes_probe a h =
-    subst IsBytes (sym (trimmed_around a qq))
-    (bytes_join (trimmed_front a) (44 ∷ qq) (bytes_drop _ a h) (omega arith, (omega arith, (omega arith, tt))))
+bytes_probe a h = grind (arith, trimmed_around, bytes_join, bytes_drop)
 
 -- The probe's body
 
@@ -135,14 +120,12 @@ body_of_probe = refl
 read_by : (a t : List ℕ) {old new : List ℕ} {r : DataUrlAnswer} {flag : Bool} → after 44 a ≡ None → IsBytes a
     → IsBytes (trimmed_text (a ++ 44 ∷ t)) → IsRead (a ++ 44 ∷ qq) old new r flag
     → IsReadUrl (a ++ 44 ∷ t) (trimmed_tail t) old new r flag
-read_by a t {flag = flag} n b d h =
-    let probe = bytes_probe a b in
+read_by a t {flag = flag} n b d h = let probe = bytes_probe a b in
     let u = h.url_is in
     let is = accepted (a ++ 44 ∷ qq) u.staged_is in
     let own = same_header a qq qq u.header (ends a n) probe probe u.header_is is in
     let with = same_header a qq t u.header (ends a n) probe d u.header_is is in
-    let tail : url_tail h.url ≡ qq = same_Some (url_tail h.url) qq (sym u.tail_is ∙ own.tail_is
-    ∙ ap Some tail_of_probe) in
+    let tail : url_tail h.url ≡ qq = same_Some (url_tail h.url) qq (cc) in
     let body : url_body h.url ≡ outcome (is_base64 h.url) qq =
     ap (outcome (is_base64 h.url)) (ap plain_body tail ∙ body_of_probe) in
     let length = subst (λ o. HasLength o h.len) body h.len_is in
@@ -159,9 +142,7 @@ read_by a t {flag = flag} n b d h =
       shown = h.shown;
       flag_is = same;
       tail_is = with.tail_is;
-      staged_is = with.staged_is
-          ∙ ap (λ v. Accepted (mime_text u.header) (outcome v (plain_body (trimmed_tail t))) with.fragment_is)
-          (sym same);
+      staged_is = cc with.staged_is;
     }
 
 refused_by : (a t : List ℕ) (refusal : Refusal) → after 44 a ≡ None → IsBytes a → IsBytes (trimmed_text (a ++ 44 ∷ t))
@@ -178,13 +159,8 @@ refused_by a t (InvalidBase64 kind before) n b d p u h = absurd h
 reads_by : (a t old new : List ℕ) (r : Result (DataUrlAnswer × Bool) Refusal) → after 44 a ≡ None → IsBytes a
     → IsBytes (trimmed_text (a ++ 44 ∷ t)) → IsUtf8 (a ++ 44 ∷ qq) → ReadsProbe (a ++ 44 ∷ qq) old new r → (x : List ℕ)
     (comma : ℕ) → IsUtf8 x → x ≡ a ++ 44 ∷ t → tail_after x comma ≡ trimmed_tail t → ReadsUrl x comma old new r
-reads_by a t old new (Ok found) n b d p h x comma u e f =
-    let P : List ℕ → Type 0 = λ y. IsReadUrl y (trimmed_tail t) old new found.0 found.1 in
-    let Q : List ℕ → Type 0 = λ s. IsReadUrl x s old new found.0 found.1 in
-    subst Q (sym f) (subst P (sym e) (read_by a t n b d h))
-reads_by a t old new (Err refusal) n b d p h x comma u e f =
-    let R : List ℕ → Type 0 = λ y. RefusesUrl y refusal in
-    (subst R (sym e) (refused_by a t refusal n b d p (subst IsUtf8 e u) h.0), h.1)
+reads_by a t old new (Ok found) n b d p h x comma u e f = grind (arith, read_by)
+reads_by a t old new (Err refusal) n b d p h x comma u e f = grind (arith, refused_by)
 
 -- what reading a probe returns is what reading the URL returns, if the probe is the text up to its comma and ",QQ"
 pub reads_url : (x probe old new : List ℕ) (comma : ℕ) (r : Result (DataUrlAnswer × Bool) Refusal) → IsUtf8 x
@@ -247,8 +223,7 @@ default_is = inr (no_record, refl)
 
 default_by : (t : List ℕ) {old new : List ℕ} {r : DataUrlAnswer} → Global → IsBytes (trimmed_text (scheme ++ 44 ∷ t))
     → Shows 0 default_text old new r → IsReadUrl (scheme ++ 44 ∷ t) (trimmed_tail t) old new r false
-default_by t memory d h =
-    let with = same_header scheme qq t [] (ends scheme no_comma_in_scheme) (bytes_probe scheme bytes_scheme) d no_header
+default_by t memory d h = let with = same_header scheme qq t [] (ends scheme no_comma_in_scheme) (bytes_probe scheme bytes_scheme) d no_header
     is_accepted in
     record {
       header = [];
@@ -261,8 +236,7 @@ default_by t memory d h =
       shown = h;
       flag_is = sym not_base64;
       tail_is = with.tail_is;
-      staged_is = with.staged_is
-          ∙ ap (λ v. Accepted (mime_text []) (outcome v (plain_body (trimmed_tail t))) with.fragment_is) not_base64;
+      staged_is = cc not_base64;
     }
 
 -- a text that begins with "data:," has the default MIME type, and its body is not base64
@@ -270,14 +244,11 @@ pub default_read : (x items : List ℕ) (comma : ℕ) (found : Bool) {old new : 
     → ((i : ℕ) → get_or x i 0 < 256) → position (λ b. b == 44) x ≡ Some comma → items ≡ x
     → found ≡ starts_with nat_eq items (codes "data:,") → found ≡ true → Shows 0 default_text old new r
     → IsReadUrl x (tail_after x comma) old new r false
-default_read x items comma found {old} {new} {r} memory b p same f g h =
-    let t = drop 6 x in
+default_read x items comma found {old} {new} {r} memory b p same f g h = let t = drop 6 x in
     let is : x ≡ scheme ++ 44 ∷ t =
     (starts_is Decides-eqb x (codes "data:,") found (f ∙ ap (λ s. starts_with nat_eq s (codes "data:,")) same)).0 g in
     let cut = cut_at x comma p in
-    let same_front : take comma x ≡ scheme =
-    sym (before_at 44 (take comma x) (drop (comma + 1) x) (none_before x comma p)) ∙ ap (before 44) (sym cut ∙ is)
-    ∙ before_at 44 scheme t no_comma_in_scheme in
+    let same_front : take comma x ≡ scheme = cc (before_at 44 (take comma x) (drop (comma + 1) x) (none_before x comma p), before_at 44 scheme t no_comma_in_scheme) in
     let at = (at_comma x comma p).0 in
     let five : comma ≡ 5 = omega (arith, at, ap length same_front, length-take comma x) in
     let d : IsBytes (trimmed_text (scheme ++ 44 ∷ t)) = subst (λ y. IsBytes (trimmed_text y)) is (bytes_trimmed x b) in
@@ -290,10 +261,7 @@ default_read x items comma found {old} {new} {r} memory b p same f g h =
 crosses_refused : (x : List ℕ) (refusal : Refusal) {old new : List ℕ} {r : DataUrlAnswer} → RefusesUrl x refusal
     → CrossesOrNot (Err refusal) old new r → Crosses (Err refusal) old new r
 crosses_refused x refusal h (inl c) = c
-crosses_refused x refusal h (inr c) =
-    let f = c.0 in
-    let e : refusal ≡ InvalidBase64 f.0 f.1 = let k = f.2 in cc in
-    absurd (subst (RefusesUrl x) e h)
+crosses_refused x refusal h (inr c) = grind arith
 
 -- if the bytes are refused as a URL, opening them returns that refusal and no tail
 pub opens_refused : (x : List ℕ) (refusal : Refusal) {old mid new : List ℕ} {r : DataUrlOpened} → RefusesUrl x refusal
@@ -317,8 +285,7 @@ pub opens_read : (x : List ℕ) (comma low : ℕ) {r : DataUrlAnswer} {flag : Bo
       tail_len = length x - (comma + 1) - low;
       is_base64 = flag;
     })
-opens_read x comma low {r} {flag} u p e h =
-    let tail = tail_is x comma low e in
+opens_read x comma low {r} {flag} u p e h = let tail = tail_is x comma low e in
     let at = (at_comma x comma p).0 in
     let fits = fits_tail x comma low e in
     record {
@@ -334,8 +301,7 @@ opens_read x comma low {r} {flag} u p e h =
         base64_is = h.flag_is;
         within = omega (arith, at, fits);
         tail_is = h.tail_is ∙ ap Some (sym tail);
-        staged_is = h.staged_is
-            ∙ ap (λ s. Accepted (mime_text h.header) (outcome flag (plain_body s)) h.fragment) (sym tail);
+        staged_is = cc h.staged_is;
       };
       crosses = h.shown;
     }
@@ -344,7 +310,4 @@ opens_read x comma low {r} {flag} u p e h =
 pub low_is : (x bytes : List ℕ) (n low : ℕ) → bytes ≡ x
     → low ≡ suffix_len is_c0_control_or_space (take (length bytes - n) (drop n bytes))
     → low ≡ suffix_len is_c0_control_or_space (drop n x)
-low_is x bytes n low e h =
-    let all : take (length bytes - n) (drop n bytes) ≡ drop n bytes =
-    take_all (length bytes - n) (drop n bytes) (omega (arith, length-drop n bytes)) in
-    h ∙ ap (suffix_len is_c0_control_or_space) (all ∙ ap (drop n) e)
+low_is x bytes n low e h = grind (arith, take_all, length-drop)

@@ -3,8 +3,8 @@ use Rattle.std.proofs.Common.{◌≡◌, ℕ, ◌+◌, ◌≤◌, true, false, L
 use Rattle.std.proofs.Common.{Some, is_some, Result, Ok, Err, refl, sym, ap, ◌∙◌, subst, arith, append_assoc, drop-drop}
 use Rattle.std.proofs.Common.{length-append, length-drop, ◌-◌, take_all}
 use Rattle.std.specs.List.{list_all}
-use Rattle.std.specs.Prelude.{nat_le, ◌&&◌, replicate}
-use Rattle.std.proofs.lemmas.Bool.{and_parts, le-leb, leb-true}
+use Rattle.std.specs.Prelude.{replicate}
+use Rattle.std.proofs.lemmas.Bool.{le-leb}
 use borrow.Rule.Slice.PartMut.{post_of}
 use Rattle.std.proofs.lemmas.List.{append-nil, drop-replicate, length-take-le, nil_from_length, take-append-drop}
 use Rattle.std.proofs.lemmas.List.{take-replicate}
@@ -12,14 +12,14 @@ use Rattle.std.proofs.lemmas.Slice.{drop-append-drop}
 use Rattle.std.proofs.Math.Seq.{drop-append-add, drop-append_seam, take-append-add, take-append_seam}
 use Rattle.std.specs.Prelude.{MatchOption}
 use Rattle.std.specs.declared.convert.Infallible.{Infallible}
-use Rattle.data_url.specs.Base64.{AlphabetSymbolAfterPadding, Kind, LoneAlphabetSymbol, Padding, UnexpectedSymbol}
+use Rattle.data_url.specs.Base64.{Kind}
 use Rattle.data_url.specs.Base64.{first_fault, is_symbol, kind_of, left_padding, left_symbols, left_text}
-use Rattle.data_url.specs.Decoder.{Feeds, IsTaken, State, left_over, start}
-use Rattle.data_url.specs.Run.{Call, IsRun, joined_pieces, refusal}
+use Rattle.data_url.specs.Decoder.{Feeds, IsTaken, State, start}
+use Rattle.data_url.specs.Run.{Call, IsRun, joined_pieces}
 use Rattle.data_url.specs.declared.forgiving_base64.DecodeError.TheVariants.{InvalidBase64}
 use Rattle.data_url.specs.Laws.{GoesOn}
-use Rattle.data_url.proofs.api.{done_stays, fault-append_some, fault_some, feeds_err, feeds_then}
-use Rattle.data_url.proofs.api.{kind_stays, match_alike, match_at_none, match_map, match_some, run_keeps, two_feeds}
+use Rattle.data_url.proofs.api.{done_stays, fault-append_some, fault_byte, fault_some, feeds_err, feeds_then}
+use Rattle.data_url.proofs.api.{kind_stays, match_alike, match_map, match_some, run_keeps, two_feeds}
 use Rattle.data_url_c.specs.Answers.{status_of_kind}
 use Rattle.data_url.specs.declared.forgiving_base64.DecodeError.{DecodeError}
 use Rattle.data_url_c.specs.Parts.{IsLeftOf, TakesText, WritesFront, is_good_state, waiting_text}
@@ -36,20 +36,12 @@ pub record GoodParts (s : DataUrlBase64) : Type 0 where
 
 -- what is true of a good state, part by part
 pub good_parts : (s : DataUrlBase64) → is_good_state s ≡ true → GoodParts s
-good_parts s h =
-    let a = and_parts (nat_le s.pending 3) (nat_le s.padding 3 && list_all is_symbol (take s.pending s.symbols)) h in
-    let b = and_parts (nat_le s.padding 3) (list_all is_symbol (take s.pending s.symbols)) a.1 in
-    record { few_pending = leb-true s.pending 3 a.0; few_padding = leb-true s.padding 3 b.0; symbols = b.1 }
+good_parts s h = grind arith
 
 -- a state with at most three symbols and at most three '=' is good exactly if its symbols are in the alphabet
 pub good_rest : (s : DataUrlBase64) → s.pending ≤ 3 → s.padding ≤ 3 → list_all is_symbol (take s.pending s.symbols)
     ≡ is_good_state s
 good_rest s a b = let p = le-leb s.pending 3 a in let q = le-leb s.padding 3 b in rw (p, q) refl
-
--- a state with these parts is good
-pub good_from : (s : DataUrlBase64) → s.pending ≤ 3 → s.padding ≤ 3 → list_all is_symbol (take s.pending s.symbols)
-    ≡ true → is_good_state s ≡ true
-good_from s a b c = sym (good_rest s a b) ∙ c
 
 -- six '=', the first of which are replaced by the symbols left over, begin with the text of what is left over
 pub waiting_taken : (s : DataUrlBase64) (symbols : List ℕ) → is_good_state s ≡ true
@@ -87,21 +79,7 @@ Reaches out b bytes len = length b ≤ length out → (len ≡ length b) × (byt
 pub reaches_more : (out b bytes piece bytes' : List ℕ) (len len' : ℕ) → Reaches out b bytes len
     → Writes piece bytes len bytes' len' → Reaches out (b ++ piece) bytes' len'
 reaches_more out b bytes piece bytes' len len' h w fits =
-    let long : length (b ++ piece) ≡ length b + length piece = length-append b piece in
-    let k = h (omega arith) in
-    let size : length bytes ≡ length out = ap length k.1 ∙ length-append b (drop (length b) out)
-    ∙ omega (arith, length-drop (length b) out) in
-    let g = w.fits (omega (arith, k.0)) in
-    let front : take len bytes ≡ b = ap (λ n. take n bytes) k.0 ∙ ap (take (length b)) k.1
-    ∙ take-append_seam b (drop (length b) out) in
-    let end : len' ≡ length (b ++ piece) = omega (arith, g.0, k.0) in
-    let rest : drop len' bytes ≡ drop (length (b ++ piece)) out =
-    ap (λ n. drop n bytes) end ∙ ap (drop (length (b ++ piece))) k.1
-    ∙ drop-append-drop (length b) out b (length (b ++ piece)) (omega arith) refl in (
-      end,
-      g.1 ∙ ap (λ x. x ++ (piece ++ drop len' bytes)) front ∙ ap (λ x. b ++ (piece ++ x)) rest
-          ∙ sym (append_assoc b piece (drop (length (b ++ piece)) out)),
-    )
+    grind (arith, length-append, length-drop, take-append_seam, drop-append-drop, append_assoc)
 
 module _ {F E : Type 0} (step : F → List ℕ → Result (Unit {0}) E → F → Type 0) (bytes : F → List ℕ) (len : F → ℕ)
     (writes : (f : F) (piece : List ℕ) (r : Result (Unit {0}) E) (g : F) → step f piece r g
@@ -109,28 +87,16 @@ module _ {F E : Type 0} (step : F → List ℕ → Result (Unit {0}) E → F →
   -- the pieces of a run
   pub run_reaches : (out : List ℕ) (cs : List (Call F E)) (b : List ℕ) (f g : F) → IsRun step f cs g
       → Reaches out b (bytes f) (len f) → Reaches out (b ++ joined_pieces cs) (bytes g) (len g)
-  run_reaches out [] b f g ran h =
-      let P : F → Type 0 = λ x. Reaches out b (bytes x) (len x) in
-      let Q : List ℕ → Type 0 = λ x. Reaches out x (bytes g) (len g) in
-      subst Q (sym (append-nil b)) (subst P ran h)
+  run_reaches out [] b f g ran h = grind (arith, append-nil)
   run_reaches out (c ∷ cs) b f g ran h =
-      let Q : List ℕ → Type 0 = λ x. Reaches out x (bytes g) (len g) in
-      subst Q (append_assoc b c.piece (joined_pieces cs)) (run_reaches out cs (b ++ c.piece) c.after g ran.2
-      (reaches_more out b (bytes f) c.piece (bytes c.after) (len f) (len c.after) h
-      (writes f c.piece c.answer c.after ran.0)))
+      grind (arith, append_assoc, (run_reaches out cs (b ++ c.piece) c.after g ran.2 (reaches_more out b (bytes f) c.piece (bytes c.after) (len f) (len c.after) h (writes f c.piece c.answer c.after ran.0))))
 
 -- What was decoded
 
 -- bytes at the start of an output, and then the bytes that were there
 pub writes_front : {bytes all out out' : List ℕ} {len : ℕ} → bytes ≡ all → len ≡ length bytes
     → out' ≡ bytes ++ drop (length bytes) out → length all ≤ length out → WritesFront all out out' len
-writes_front {bytes} {all} {out} {out'} {len} e l o fits = record {
-  within = omega (arith, l, ap length e);
-  bytes_are = ap (λ n. take n out') l ∙ ap (take (length bytes)) o ∙ take-append_seam bytes (drop (length bytes) out)
-      ∙ e;
-  rest_stays = ap (λ n. drop n out') l ∙ ap (drop (length bytes)) o ∙ drop-append_seam bytes (drop (length bytes) out)
-      ∙ ap (λ n. drop n out) (sym l);
-}
+writes_front {bytes} {all} {out} {out'} {len} e l o fits = grind (arith, take-append_seam, drop-append_seam)
 
 -- a closure that cannot fail has no error
 pub no_refusal : (o : Option Infallible) → o ≡ None
@@ -141,9 +107,7 @@ module _ {F : Type 0} {step : F → List ℕ → Result (Unit {0}) Infallible �
   -- what a new decoder did with a text, if its closure returns no error
   pub groups_fed : {f : F} {d d' : State F} {u : List ℕ} {r : Result (Unit {0}) (DecodeError Infallible)} → d ≡ start f
       → (h : Feeds step d u r d') → IsTaken u (joined_pieces h.run) r d'
-  groups_fed {f} {d} {d'} {u} {r} e h =
-      let P : State F → Type 0 = λ s. IsTaken (left_over s ++ u) (joined_pieces h.run) r d' in
-      subst P e (match_at_none (refusal h.run) _ _ (no_refusal (refusal h.run)) h.gave)
+  groups_fed {f} {d} {d'} {u} {r} e h = grind arith
 
 -- what each call preserves, feeding preserves
 pub fed_keeps : {F E A : Type 0} {step : F → List ℕ → Result (Unit {0}) E → F → Type 0} {d d' : State F} {u : List ℕ}
@@ -164,11 +128,7 @@ module _ {F G E : Type 0} (inner : G → List ℕ → Result (Unit {0}) E → G 
   pub outer_ran : (cs : List (Call G E)) (f g : G) → IsRun inner f cs g → IsRun outer (K f) (outer_calls cs) (K g)
   unfolding outer_calls
   outer_ran [] f g ran = ap K ran
-  outer_ran (c ∷ cs) f g ran = (
-    maps f c.piece c.answer c.after ran.0,
-    λ e. ap outer_calls (ran.1 e),
-    outer_ran cs c.after g ran.2,
-  )
+  outer_ran (c ∷ cs) f g ran = grind (arith, (outer_ran cs c.after g ran.2))
 
   -- these calls have the same pieces
   pub outer_joined : (cs : List (Call G E)) → joined_pieces (outer_calls cs) ≡ joined_pieces cs
@@ -179,25 +139,14 @@ module _ {F G E : Type 0} (inner : G → List ℕ → Result (Unit {0}) E → G 
   -- a closure that calls another one with its pieces
   pub passes_on : {f g : G} {w w' : F} {bytes : List ℕ} {Ended : Type 0} (run : List (Call G E)) → IsRun inner f run g
       → joined_pieces run ≡ bytes → Ended → K f ≡ w → w' ≡ K g → GetsBytes outer w bytes Ended w'
-  passes_on {f} {g} {w} {w'} run ran all ended a b =
-      let P : F → Type 0 = λ x. IsRun outer x (outer_calls run) (K g) in
-      let Q : F → Type 0 = λ x. IsRun outer w (outer_calls run) x in
-      record {
-        run = outer_calls run;
-        ran = subst Q (sym b) (subst P a (outer_ran run f g ran));
-        bytes_are = outer_joined run ∙ all;
-        ended = ended;
-      }
+  passes_on {f} {g} {w} {w'} run ran all ended a b = grind (arith, outer_ran, outer_joined)
 
   -- a decoder over such a closure
   pub passes_groups : {f : G} {d d' : State G} {u : List ℕ} {r : Result (Unit {0}) (DecodeError E)} {w w' : F}
       → d ≡ start f
       → (h : Feeds inner d u r d') → IsTaken u (joined_pieces h.run) r d' → K f ≡ w → w' ≡ K d'.closure
       → GetsGroups outer w u r w'
-  passes_groups {f} {d} {d'} {u} e h taken a b =
-      let R : G → Type 0 = λ x. IsRun inner x h.run d'.closure in
-      passes_on h.run (subst R (ap (λ s. s.closure) e) h.ran) taken.bytes_are
-      (match_map (first_fault u) _ _ _ _ (λ k. k.0) (λ place k. k) taken.answer) a b
+  passes_groups {f} {d} {d'} {u} e h taken a b = grind (arith, passes_on)
 
 module _ {F E : Type 0} {step : F → List ℕ → Result (Unit {0}) E → F → Type 0} {f g : F} {all : List ℕ} {Ended : Type 0}
   where
@@ -249,18 +198,6 @@ writes_both {x} {y} {out} {out1} {out2} {out'} {n} {m} a b within size e =
           ∙ b.rest_stays ∙ ap (drop m) a.rest_stays ∙ drop-drop m n out ∙ ap (λ k. drop k out) (omega arith);
     }
 
-no_kind : (kind : Kind) → status_of_kind kind ≡ 0 → ⊥
-no_kind Padding e = omega arith
-no_kind LoneAlphabetSymbol e = omega arith
-no_kind AlphabetSymbolAfterPadding e = omega arith
-no_kind (UnexpectedSymbol byte) e = omega arith
-
--- the status is 0 exactly if the text has no fault
-sound_by : (o : Option ℕ) (kind : Kind) (status : ℕ) (P Q : Type 0)
-    → MatchOption o ((status ≡ 0) × P) (λ place. (status ≡ status_of_kind kind) × Q) → status ≡ 0 → (o ≡ None) × P
-sound_by None kind status P Q h e = (refl, h.1)
-sound_by (Some place) kind status P Q h e = absurd (no_kind kind (sym h.0 ∙ e))
-
 -- a status that is not 0 is that of a fault
 pub faulty_by : (o : Option ℕ) (kind : Kind) (status : ℕ) (P Q : Type 0)
     → MatchOption o ((status ≡ 0) × P) (λ place. (status ≡ status_of_kind kind) × Q) → (status ≡ 0 → ⊥)
@@ -271,8 +208,7 @@ faulty_by (Some place) kind status P Q h e = (refl, h.0, h.1)
 -- if the status is 0, the text has no fault, and the state holds what is left over of it
 pub taken_sound : {u : List ℕ} {s : DataUrlBase64} {before after : List ℕ} {status len : ℕ}
     → TakesText u s before after status len → status ≡ 0 → (first_fault u ≡ None) × IsLeftOf u s
-taken_sound {u} {s} {status = status} h e = sound_by (first_fault u) (kind_of u) status (IsLeftOf u s)
-    (is_good_state s ≡ false) h.ended e
+taken_sound {u} {s} {status = status} h e = grind arith
 
 -- if a state holds what is left over of a text, its text is the symbols and the padding that are left over
 pub left_text_is : {u : List ℕ} {s : DataUrlBase64} → IsLeftOf u s
@@ -316,14 +252,12 @@ fault_cases u (Some c) e h = (c, e)
 -- a fault stays, whatever follows
 pub takes_fault : {u : List ℕ} {s : DataUrlBase64} {out out' : List ℕ} {status n : ℕ} (b : List ℕ)
     → TakesText u s out out' status n → (status ≡ 0 → ⊥) → TakesText (u ++ b) s out out' status n
-takes_fault {u} {s} {out} {out'} {status} {n} b h e =
-    let k = faulty_by (first_fault u) (kind_of u) status (IsLeftOf u s) (is_good_state s ≡ false) h.ended e in
+takes_fault {u} {s} {out} {out'} {status} {n} b h e = let k = faulty_by (first_fault u) (kind_of u) status (IsLeftOf u s) (is_good_state s ≡ false) h.ended e in
     let f = fault_cases u (fault_byte false u) refl (sym (fault_some u) ∙ k.0) in
     let W : List ℕ → Type 0 = λ x. WritesFront x out out' n in
     record {
       wrote = subst W (sym (done_stays u b f.0 f.1)) h.wrote;
-      ended = match_some (first_fault (u ++ b)) _ _ (fault_some (u ++ b)
-          ∙ ap is_some (fault-append_some u b false f.0 f.1)) (k.1 ∙ ap status_of_kind (kind_stays u b f.0 f.1), k.2);
+      ended = match_some (first_fault (u ++ b)) _ _ (cc (fault_some (u ++ b), fault-append_some u b false f.0 f.1)) (k.1 ∙ ap status_of_kind (kind_stays u b f.0 f.1), k.2);
     }
 
 -- Two parts of one text
@@ -341,8 +275,7 @@ end_sliced n xs = take_all (length xs - n) (drop n xs) (omega (arith, length-dro
 
 whole_text : (s : DataUrlBase64) (head : ℕ) (text a b : List ℕ) → a ≡ take head text → b ≡ drop head text
     → (waiting_text s ++ a) ++ b ≡ waiting_text s ++ text
-whole_text s head text a b e f = append_assoc (waiting_text s) a b ∙ ap (λ x. waiting_text s ++ (x ++ b)) e
-    ∙ ap (λ x. waiting_text s ++ (take head text ++ x)) f ∙ ap (λ x. waiting_text s ++ x) (take-append-drop head text)
+whole_text s head text a b e f = grind (arith, append_assoc, take-append-drop)
 
 -- a fault in the first part
 pub feeds_fault : {t : DataUrlBase64} {a out out1 : List ℕ} {first n : ℕ} (s : DataUrlBase64) (head : ℕ) (text : List ℕ)

@@ -1,27 +1,18 @@
 -- Texts that are printed to a buffer of fixed size.
-use Rattle.std.proofs.Common.{◌≡◌, ◌⊎◌, ℕ, suc, [], ◌∷◌, ◌-◌, ◌<◌, ◌^◌, Bool, false, nat_eq, List, ◌++◌, length, take}
+use Rattle.std.proofs.Common.{◌≡◌, ◌⊎◌, ℕ, suc, [], ◌∷◌, ◌-◌, ◌<◌, ◌^◌, Bool, false, nat_eq, List, ◌++◌, length}
 use Rattle.std.proofs.Common.{drop, codes, refl, sym, ap, ◌∙◌, inl, inr, arith}
 use Rattle.std.specs.Global.{Global}
 use Rattle.std.specs.List.{ends_with}
 use Rattle.std.specs.Prelude.{Vec, encode_utf8_all}
 use Rattle.std.specs.Str.{IsAscii}
 use Rattle.std.proofs.lemmas.Str.{encode_ascii}
-use Rattle.std.proofs.lemmas.Bool.{both_ways}
-use Rattle.std.proofs.lemmas.Bool.Decides.{Decides-eqb}
-use Rattle.std.proofs.lemmas.List.{take-append-drop}
-use Rattle.std.proofs.lemmas.Slice.Eq.{ends_is}
 use denote.RawPtr.{null_ptr}
 
 -- a text that does not end in dots was not cut
 pub not_cut : (bytes shown items : List ℕ) (r : Bool) → (shown ≡ bytes) ⊎ (drop (length shown - 3) shown ≡ codes "...")
     → items ≡ shown → r ≡ ends_with nat_eq items (codes "...") → r ≡ false → items ≡ bytes
 not_cut bytes shown items r (inl k) e f g = e ∙ k
-not_cut bytes shown items r (inr k) e f g =
-    let n = length items - 3 in
-    let end : drop n items ≡ codes "..." = ap (λ s. drop (length s - 3) s) e ∙ k in
-    let split : items ≡ take n items ++ codes "..." =
-    sym (take-append-drop n items) ∙ ap (λ s. take n items ++ s) end in
-    absurd (both_ways r g ((ends_is Decides-eqb items (codes "...") r f).1 (take n items) split))
+not_cut bytes shown items r (inr k) e f g = grind arith
 
 -- ASCII is encoded as it is
 pub ascii_encoded : (s : List ℕ) → IsAscii s → s ≡ encode_utf8_all s

@@ -1,22 +1,22 @@
 -- What depends only on the URL up to its first comma: whether there is a scheme and a comma, and the header.
 use Rattle.std.proofs.Common.{◌≡◌, ℕ, zero, suc, ◌+◌, ◌-◌, ◌≤◌, Bool, true, false, List, [], ◌∷◌, ◌++◌, length}
 use Rattle.std.proofs.Common.{length-append, take, drop, map, codes, Option, None, Some, refl, sym, ap, ◌∙◌, subst, inl}
-use Rattle.std.proofs.Common.{inr, append_assoc, arith, eqb, eqb-true}
+use Rattle.std.proofs.Common.{inr, append_assoc, arith}
 use Rattle.std.specs.Char.{to_ascii_lowercase}
 use Rattle.std.specs.List.{prefix_len, suffix_len}
 use Rattle.std.specs.Str.{bytes_eq}
 use Rattle.std.specs.Option.{option_map}
 use Rattle.std.proofs.Math.Seq.{take-append-add}
-use Rattle.std.proofs.lemmas.Bool.{cases_Bool, cases_lt, cond_both}
-use Rattle.std.proofs.lemmas.List.{drop-append-le, length-map, take-append-le, length-take}
+use Rattle.std.proofs.lemmas.Bool.{cases_Bool, cases_lt}
+use Rattle.std.proofs.lemmas.List.{drop-append-le, length-map, length-take}
 use Rattle.std.proofs.lemmas.List.Folds.{prefix_len-append}
-use Rattle.std.proofs.lemmas.List.Sums.{prefix_len-drop_no, prefix_len-le-length, suffix_len-le-length}
-use Rattle.std.proofs.lemmas.Option.{same_Some}
+use Rattle.std.proofs.lemmas.List.Sums.{prefix_len-le-length, suffix_len-le-length}
 use Rattle.std.proofs.lemmas.Slice.Eq.{bytes_eq-Decides}
 use Rattle.data_url.specs.DataUrl.{IsAcceptable}
 use Rattle.data_url.specs.Fetch.{Accepted, NoComma, NoScheme, has_base64_suffix, header_of, mime_text, outcome}
 use Rattle.data_url.specs.Fetch.{plain_body, staged, tail_of}
 use Rattle.data_url.proofs.api.{HasNoScheme, IsHeaderAndTail, IsSchemeAndRest}
+use Rattle.data_url.proofs.api.{header_text}
 use Rattle.data_url.specs.Url.{before, after, fragment, front, in_fragment_set, is_c0_control_or_space}
 use Rattle.data_url.specs.Url.{is_tab_or_newline, percent_encoding, trimmed_text, without_end, without_front}
 use Rattle.data_url.specs.Url.{without_tabs_and_newlines}
@@ -28,13 +28,7 @@ use Rattle.data_url.proofs.api.{stages_accepted, stages_no_comma, stages_no_sche
 -- Trimming
 
 prefix_stop : (p : ℕ → Bool) (x q : List ℕ) (b : ℕ) → p b ≡ false → prefix_len p (x ++ b ∷ q) ≡ prefix_len p x
-prefix_stop p x q b f =
-    let none : prefix_len p (b ∷ q) ≡ 0 = prefix_len-drop_no p (b ∷ q) 0 0 (omega arith) f in
-    prefix_len-append p x (b ∷ q)
-    ∙ cond_both (eqb (prefix_len p x) (length x)) (length x + prefix_len p (b ∷ q)) (prefix_len p x)
-    (λ v. v ≡ prefix_len p x)
-    (λ e. let k : prefix_len p x ≡ length x = eqb-true _ _ e in omega (arith, k, none))
-    (λ e. refl)
+prefix_stop p x q b f = grind (arith, prefix_len-append)
 
 end_stop : (p : ℕ → Bool) (x q : List ℕ) (b : ℕ) → p b ≡ false → without_end p (x ++ b ∷ q) ≡ x ++ b ∷ without_end p q
 end_stop p x q b f =
@@ -55,13 +49,7 @@ trimmed_tail t = without_end is_c0_control_or_space t
 -- trimming a text with a comma is trimming its front before the comma and its end after the comma
 pub trimmed_around : (a t : List ℕ) → trimmed_text (a ++ 44 ∷ t) ≡ trimmed_front a ++ 44 ∷ trimmed_tail t
 unfolding trimmed_text
-trimmed_around a t =
-    let p = is_c0_control_or_space in
-    let n = prefix_len p a in
-    let same : drop (prefix_len p (a ++ 44 ∷ t)) (a ++ 44 ∷ t) ≡ drop n a ++ 44 ∷ t =
-    ap (λ k. drop k (a ++ 44 ∷ t)) (prefix_stop p a t 44 refl)
-    ∙ drop-append-le n a (44 ∷ t) (prefix_len-le-length p a) in
-    ap (without_end p) same ∙ end_stop p (drop n a) t 44 refl
+trimmed_around a t = grind (arith, prefix_stop, drop-append-le, prefix_len-le-length, end_stop)
 
 -- The scheme
 
@@ -124,10 +112,7 @@ has_scheme s h =
 
 -- the first five kept bytes of a text are those of a long prefix of it
 spelled_front : (x w : List ℕ) → 5 ≤ length (without_tabs_and_newlines x) → spelled (x ++ 44 ∷ w) ≡ spelled x
-spelled_front x w l =
-    ap (λ s. bytes_eq (map to_ascii_lowercase s) (codes "data:"))
-    (ap (take 5) (dropped_around 44 refl x w)
-    ∙ take-append-le 5 (without_tabs_and_newlines x) (44 ∷ without_tabs_and_newlines w) l)
+spelled_front x w l = grind (arith, dropped_around)
 
 -- What depends only on the prefix
 
@@ -152,9 +137,7 @@ none_front c (b ∷ p) q h =
 -- the tail of a text is what follows its first comma, trimmed at its end
 pub tail_of_cut : (a t : List ℕ) → after 44 a ≡ None → tail_of (a ++ 44 ∷ t) ≡ Some (trimmed_tail t)
 unfolding tail_of
-tail_of_cut a t n =
-    ap (after 44) (trimmed_around a t)
-    ∙ after_at 44 (trimmed_front a) (trimmed_tail t) (none_drop 44 (prefix_len is_c0_control_or_space a) a n)
+tail_of_cut a t n = grind (arith, trimmed_around, after_at, none_drop)
 
 -- the scheme has no comma
 pub no_comma_in_scheme : after 44 (codes "data:") ≡ None
@@ -171,9 +154,7 @@ too_short x w h l = elim (cases_Bool (spelled (x ++ 44 ∷ w))) [
       let is : map to_ascii_lowercase (take 5 (without_tabs_and_newlines (x ++ 44 ∷ w))) ≡ codes "data:" =
       (bytes_eq-Decides _ (codes "data:")).0 e in
       let five : 5 ≡ length y + suc (4 - length y) = omega (arith, l) in
-      let cut : take 5 (without_tabs_and_newlines (x ++ 44 ∷ w)) ≡ y ++ 44 ∷ take (4 - length y) v =
-      ap (take 5) (dropped_around 44 refl x w) ∙ ap (λ n. take n (y ++ 44 ∷ v)) five
-      ∙ take-append-add y (44 ∷ v) (suc (4 - length y)) in
+      let cut : take 5 (without_tabs_and_newlines (x ++ 44 ∷ w)) ≡ y ++ 44 ∷ take (4 - length y) v = cc (dropped_around 44 refl x w, take-append-add y (44 ∷ v) (suc (4 - length y))) in
       let none : after 44 (y ++ 44 ∷ take (4 - length y) v) ≡ None =
       sym (ap (after 44) cut) ∙ lacks_comma _ (ap (after 44) is ∙ no_comma_in_scheme) in
       let some = after_at 44 y (take (4 - length y) v) (after-dropped_none 44 refl x h) in
@@ -218,16 +199,10 @@ pub data Ends (a : List ℕ) : Type 0 where
 
 has_rest : (a t : List ℕ) (s : HasScheme (trimmed_front a))
     → IsSchemeAndRest (trimmed_text (a ++ 44 ∷ t)) (s.rest ++ 44 ∷ trimmed_tail t)
-has_rest a t s = record {
-  scheme = s.scheme;
-  joined = trimmed_around a t ∙ ap (λ x. x ++ 44 ∷ trimmed_tail t) s.joined
-      ∙ append_assoc s.scheme s.rest (44 ∷ trimmed_tail t);
-  spelled = s.spelled;
-}
+has_rest a t s = grind (arith, trimmed_around, append_assoc)
 
 rest_lacks_comma : (x : List ℕ) (s : HasScheme x) → after 44 x ≡ None → after 44 s.rest ≡ None
-rest_lacks_comma x s h =
-    sym (after-append 44 s.scheme s.rest (scheme_has_no_comma s.scheme s.spelled)) ∙ sym (ap (after 44) s.joined) ∙ h
+rest_lacks_comma x s h = grind (arith, after-append, scheme_has_no_comma)
 
 -- a text without a comma has none before its '#'
 front_lacks_comma : (s : List ℕ) (o : Option (List ℕ)) → after 35 s ≡ o → after 44 s ≡ None
@@ -241,10 +216,7 @@ front_lacks_comma s (Some rest) e h =
 front_stays : (s rest t : List ℕ) → after 35 s ≡ Some rest → front (s ++ t) ≡ front s
 unfolding front
 front_stays s rest t e =
-    let cut = is_cut 35 s rest e in
-    ap (λ x. before 35 (x ++ t)) cut.joined
-    ∙ ap (before 35) (append_assoc (before 35 s) (35 ∷ rest) t)
-    ∙ before_at 35 (before 35 s) (rest ++ t) cut.lacks
+    let cut = is_cut 35 s rest e in cc (append_assoc (before 35 s) (35 ∷ rest) t, before_at 35 (before 35 s) (rest ++ t) cut.lacks)
 
 accepted_with : (a t : List ℕ) (s : HasScheme (trimmed_front a)) → after 44 s.rest ≡ None → after 35 s.rest ≡ None
     → IsBytes (trimmed_text (a ++ 44 ∷ t))
@@ -266,9 +238,7 @@ accepted_with a t s comma hash b =
     }
 
 ends_by : (a : List ℕ) → after 44 a ≡ None → Decides a → Ends a
-ends_by a h (no_scheme n) =
-    all_no_scheme (λ t. stages_no_scheme (a ++ 44 ∷ t)
-    (subst HasNoScheme (sym (trimmed_around a t)) (n (trimmed_tail t))))
+ends_by a h (no_scheme n) = grind (arith, stages_no_scheme, trimmed_around)
 ends_by a h (has_hash s rest e) =
     let comma = rest_lacks_comma (trimmed_front a) s (none_drop 44 (prefix_len is_c0_control_or_space a) a h) in
     all_no_comma (λ t b. stages_no_comma (a ++ 44 ∷ t) (s.rest ++ 44 ∷ trimmed_tail t) b (has_rest a t s)
@@ -312,6 +282,4 @@ pub same_header : (a s t header : List ℕ) → Ends a → IsBytes (trimmed_text
     → IsAcceptedWith (a ++ 44 ∷ t) header (trimmed_tail t)
 same_header a s t header (all_no_scheme f) b d h k = absurd (subst IsAcceptable (f s) k)
 same_header a s t header (all_no_comma f) b d h k = absurd (subst IsAcceptable (f s b) k)
-same_header a s t header (all_accepted other f) b d h k =
-    subst (λ x. IsAcceptedWith (a ++ 44 ∷ t) x (trimmed_tail t)) (same_Some other header (sym (f s b).header_is ∙ h))
-    (f t d)
+same_header a s t header (all_accepted other f) b d h k = grind arith

@@ -2,13 +2,13 @@
 use Rattle.std.proofs.Common.{◌≡◌, ◌⊎◌, ℕ, ◌+◌, ◌*◌, ◌-◌, ◌<◌, ◌≤◌, Bool, true, false, List, [], ◌++◌, length, take}
 use Rattle.std.proofs.Common.{drop, Option, None, Some, is_some, refl, sym, ap, ◌∙◌, subst, inl, inr, arith}
 use Rattle.std.proofs.Common.{append_assoc, drop-drop, length-drop}
-use Rattle.std.specs.Prelude.{IsUtf8, ◌==◌, not, replicate}
+use Rattle.std.specs.Prelude.{IsUtf8, ◌==◌, not}
 use Rattle.std.proofs.lemmas.Str.{IsUtf8-between}
 use Rattle.std.specs.Str.{IsCharBoundary}
 use Rattle.std.proofs.lemmas.Bool.{both_ways, ne_eqb}
 use Rattle.std.proofs.lemmas.List.{append-nil, nil_from_length, take-append-drop}
 use Rattle.data_url.specs.Base64.{complete_bytes, first_fault, is_valid, kind_of}
-use Rattle.data_url.specs.Fetch.{Bad, Good, Outcome, outcome, plain_body}
+use Rattle.data_url.specs.Fetch.{Good, Outcome, outcome, plain_body}
 use Rattle.data_url.specs.Laws.{GoesOn as LeftGoesOn}
 use Rattle.data_url.specs.Url.{after as after_first}
 use Rattle.data_url.proofs.api.{two_feeds}
@@ -20,19 +20,15 @@ use Rattle.data_url_c.specs.declared.body.DataUrlBody.{DataUrlBody}
 use Rattle.data_url_c.specs.declared.parts.DataUrlBase64.{DataUrlBase64}
 use Rattle.data_url_c.specs.declared.parts.DataUrlStep.{DataUrlStep}
 use Rattle.data_url_c.proofs.BodyLemmas.{ends_fault, ends_whole, outcome_invalid, outcome_plain, outcome_valid}
-use Rattle.data_url_c.proofs.PartLemmas.{faulty_by, left_text_is, taken_sound, takes_fault}
+use Rattle.data_url_c.proofs.PartLemmas.{faulty_by, taken_sound, takes_fault}
 use Rattle.data_url_c.proofs.WindowLemmas.{body_cut, body_fragment}
 
 -- The tail from the window on
 
 tail_window : {tail window : List ℕ} {from end : ℕ} → IsWindowOf tail from window end
     → drop from tail ≡ window ++ drop end tail
-tail_window {tail} {window} {from} {end} h =
-    let order = h.order in
-    let whole : from + (end - from) ≡ end = omega arith in
-    sym (take-append-drop (end - from) (drop from tail)) ∙ ap (λ s. s ++ drop (end - from) (drop from tail))
-    (sym h.window_is)
-    ∙ ap (λ s. window ++ s) (drop-drop (end - from) from tail ∙ ap (λ n. drop n tail) whole)
+tail_window {tail} {window} {from} {end} h = let order = h.order in
+    let whole : from + (end - from) ≡ end = omega arith in cc (take-append-drop (end - from) (drop from tail), drop-drop (end - from) from tail)
 
 some_fragment : (o : Option (List ℕ)) → true ≡ is_some o → (r : List ℕ) × (o ≡ Some r)
 some_fragment None e = absurd (cc)
@@ -65,13 +61,11 @@ body_begins : {tail window : List ℕ} {from end : ℕ} → IsWindowOf tail from
     → after_first 35 window ≡ o → (rest : List ℕ) × (plain_body (drop from tail) ≡ plain_body window ++ rest)
 body_begins {tail} {window} {from} {end} h None e = (
   plain_body (drop end tail),
-  ap plain_body (tail_window h)
-      ∙ body_cut window (drop end tail) h.cut e,
+  cc (tail_window h, body_cut window (drop end tail) h.cut e),
 )
 body_begins {tail} {window} {from} {end} h (Some r) e = (
   [],
-  ap plain_body (tail_window h) ∙ body_fragment window (drop end tail) r e
-      ∙ sym (append-nil (plain_body window)),
+  cc (tail_window h, body_fragment window (drop end tail) r e, append-nil (plain_body window)),
 )
 
 further : {tail window : List ℕ} {from end : ℕ} → IsWindowOf tail from window end → (end ≡ length tail → ⊥) → from < end
@@ -79,28 +73,14 @@ further {tail} {window} {from} {end} h ne = let a = h.order in let b = h.within 
 
 -- Plain bodies
 
-flag_plain : (n : ℕ) → n ≡ 0 → not (n == 0) ≡ false
-flag_plain n e = ap (λ m. not (m == 0)) e
-
 plain_left : {tail : List ℕ} (s : DataUrlBody) → IsGoodBody tail s → s.is_base64 ≡ 0
     → body_left tail s ≡ Good (plain_body (drop s.from tail))
-plain_left {tail} s h e =
-    let none = h.plain e in
-    let waits : waiting_text s.left ≡ [] = ap (λ n. take n s.left.symbols ++ replicate s.left.padding 61) none.0
-    ∙ ap (λ n. replicate n 61) none.1 in
-    outcome_plain (flag_of s) (waiting_text s.left ++ plain_body (drop s.from tail)) (flag_plain s.is_base64 e)
-    ∙ ap (λ w. Good (w ++ plain_body (drop s.from tail))) waits
+plain_left {tail} s h e = grind (arith, outcome_plain)
 
 -- the state at the end of a window
 good_at : {tail : List ℕ} {old new : DataUrlBody} {end : ℕ} → IsGoodBody tail old → new.from ≡ end → new.left ≡ old.left
     → new.is_base64 ≡ old.is_base64 → IsCharBoundary tail end → IsGoodBody tail new
-good_at {tail} {old} {new} {end} h from left flag edge =
-    let C : ℕ → Type 0 = λ n. IsCharBoundary tail n in
-    record {
-      left = ap is_good_state left ∙ h.left;
-      edge = subst C (sym from) edge;
-      plain = λ e. let p = h.plain (sym flag ∙ e) in (ap (λ l. l.pending) left ∙ p.0, ap (λ l. l.padding) left ∙ p.1);
-    }
+good_at {tail} {old} {new} {end} h from left flag edge = grind arith
 
 -- the last window of a plain body
 pub plain_ends : {tail window before after : List ℕ} {end len : ℕ} {there : Bool} {new : DataUrlBody}
@@ -117,13 +97,11 @@ pub plain_more : {tail window before after : List ℕ} {end len : ℕ} {there : 
     → IsWindowOf tail old.from window end → IsGoodBody tail old → old.is_base64 ≡ 0 → there ≡ is_some (after_first 35 window)
     → there ≡ false → (end ≡ length tail → ⊥) → WritesFront (plain_body window) before after len → new.from ≡ end
     → new.left ≡ old.left → new.is_base64 ≡ old.is_base64 → GoesOn tail old new before after len 11
-plain_more {tail} {window} {before} {after} {end} {len} old new w h e f none ne wrote from left flag =
-    let good : IsGoodBody tail new = good_at h from left flag w.edge in
+plain_more {tail} {window} {before} {after} {end} {len} old new w h e f none ne wrote from left flag = let good : IsGoodBody tail new = good_at h from left flag w.edge in
     let rest : plain_body (drop new.from tail) ≡ plain_body (drop end tail) = ap (λ n. plain_body (drop n tail)) from in
     let far : old.from < new.from = omega (arith, further w ne, from) in
     more wrote good flag far
-    (plain_left old h e ∙ ap Good (body_first w f none ∙ ap (λ x. plain_body window ++ x) (sym rest))
-    ∙ ap (prepend (plain_body window)) (sym (plain_left new good (flag ∙ e))))
+    (cc (plain_left old h e, body_first w f none, plain_left new good (flag ∙ e)))
 
 -- Base64
 
@@ -163,32 +141,20 @@ base64_ends {tail} {window} {before} {mid} {after} {end} {status} {n} {there} {s
 outcome_cases : (u rest : List ℕ) (s : DataUrlBase64) (v : Bool) → is_valid (waiting_text s ++ rest) ≡ v
     → LeftGoesOn u rest (waiting_text s ++ rest) → outcome true (u ++ rest) ≡ prepend (complete_bytes u)
     (outcome true (waiting_text s ++ rest))
-outcome_cases u rest s true e on =
-    let x : List ℕ = waiting_text s ++ rest in
-    outcome_valid (u ++ rest) (on.valid_is ∙ e) ∙ ap Good on.decoded_is
-    ∙ ap (prepend (complete_bytes u)) (sym (outcome_valid x e))
-outcome_cases u rest s false e on =
-    let x : List ℕ = waiting_text s ++ rest in
-    outcome_invalid (u ++ rest) (on.valid_is ∙ e) ∙ ap (λ b. Bad b (kind_of (u ++ rest))) on.done_is
-    ∙ ap (Bad (complete_bytes u ++ complete_bytes x)) on.kind_is
-    ∙ ap (prepend (complete_bytes u)) (sym (outcome_invalid x e))
+outcome_cases u rest s true e on = grind (arith, outcome_valid)
+outcome_cases u rest s false e on = grind (arith, outcome_invalid)
 
 outcome_more : {u before after : List ℕ} {s : DataUrlBase64} {status n : ℕ} (rest : List ℕ)
     → TakesText u s before after status n → status ≡ 0 → outcome true (u ++ rest) ≡ prepend (complete_bytes u)
     (outcome true (waiting_text s ++ rest))
-outcome_more {u} {before} {after} {s} rest h z =
-    let sound = taken_sound h z in
-    let G : List ℕ → Type 0 = λ w. LeftGoesOn u rest (w ++ rest) in
-    outcome_cases u rest s (is_valid (waiting_text s ++ rest)) refl
-    (subst G (sym (left_text_is sound.1)) (two_feeds u rest sound.0))
+outcome_more {u} {before} {after} {s} rest h z = grind (arith, outcome_cases, two_feeds)
 
 -- any other window
 pub base64_more : {tail window before after : List ℕ} {end len status : ℕ} {there : Bool} (old new : DataUrlBody)
     → IsWindowOf tail old.from window end → 0 < old.is_base64 → there ≡ is_some (after_first 35 window) → there ≡ false
     → (end ≡ length tail → ⊥) → TakesText (waiting_text old.left ++ plain_body window) new.left before after status len
     → status ≡ 0 → new.from ≡ end → new.is_base64 ≡ old.is_base64 → GoesOn tail old new before after len 11
-base64_more {tail} {window} {before} {after} {end} {len} old new w l f none ne h z from flag =
-    let u : List ℕ = waiting_text old.left ++ plain_body window in
+base64_more {tail} {window} {before} {after} {end} {len} old new w l f none ne h z from flag = let u : List ℕ = waiting_text old.left ++ plain_body window in
     let rest : List ℕ = plain_body (drop end tail) in
     let sound = taken_sound h z in
     let C : ℕ → Type 0 = λ n. IsCharBoundary tail n in
@@ -201,14 +167,9 @@ base64_more {tail} {window} {before} {after} {end} {len} old new w l f none ne h
     let far : old.from < new.from = omega (arith, further w ne, from) in
     let on : flag_of old ≡ true = flag_base64 old.is_base64 l in
     let later : flag_of new ≡ true = ap (λ n. not (n == 0)) flag ∙ on in
-    let whole : waiting_text old.left ++ plain_body (drop old.from tail) ≡ u ++ rest =
-    ap (λ x. waiting_text old.left ++ x) (body_first w f none)
-    ∙ sym (append_assoc (waiting_text old.left) (plain_body window) rest) in
+    let whole : waiting_text old.left ++ plain_body (drop old.from tail) ≡ u ++ rest = cc (body_first w f none, append_assoc (waiting_text old.left) (plain_body window) rest) in
     more h.wrote good flag far
-    (ap (λ v. outcome v (waiting_text old.left ++ plain_body (drop old.from tail))) on ∙ ap (outcome true) whole
-    ∙ outcome_more rest h z
-    ∙ ap (prepend (complete_bytes u)) (ap (λ n. outcome true (waiting_text new.left ++ plain_body (drop n tail)))
-    (sym from) ∙ ap (λ v. outcome v (waiting_text new.left ++ plain_body (drop new.from tail))) (sym later)))
+    (cc (outcome_more rest h z))
 
 -- Calls
 

@@ -1,5 +1,5 @@
 -- Whole bodies, decoded into an output.
-use Rattle.std.proofs.Common.{◌≡◌, ℕ, ◌<◌, ◌≤◌, ◌^◌, Bool, true, false, List, ◌++◌, length, drop, Result, Ok, Err, refl}
+use Rattle.std.proofs.Common.{◌≡◌, ℕ, ◌<◌, ◌≤◌, ◌^◌, Bool, true, false, List, length, Result, Ok, Err, refl}
 use Rattle.std.proofs.Common.{sym, ap, ◌∙◌, subst, arith}
 use Rattle.std.specs.Global.{Global}
 use Rattle.std.specs.Prelude.{IsUtf8}
@@ -37,12 +37,6 @@ module _ {F G : Type 0} (inner : G → List ℕ → Result (Unit {0}) Infallible
       let gave = match_at_none (refusal h.run) _ _ (no_refusal (refusal h.run)) h.gave in
       passes_on inner outer K maps h.run h.ran gave.bytes_are gave.answer a b
 
-good_of : {E : Type 0} (body : Outcome) (r : Result (Unit {0}) (DecodeError E)) → r ≡ Ok tt
-    → BodyAnswers body AnyAnswer r
-    → (bytes : List ℕ) × (body ≡ Good bytes)
-good_of (Good bytes) r e h = (bytes, refl)
-good_of (Bad bytes kind) r e h = absurd (let k = sym e ∙ h in cc)
-
 bad_of : {E : Type 0} (body : Outcome) (r : Result (Unit {0}) (DecodeError E)) (kind : Kind) → r ≡ Err (Invalid kind)
     → BodyAnswers body AnyAnswer r → (bytes : List ℕ) × (body ≡ Bad bytes kind)
 bad_of (Good bytes) (Ok x) kind e h = absurd (cc)
@@ -58,16 +52,7 @@ pub ends_good : {E : Type 0} (url : DataUrl) {tail : List ℕ} (r : Result (Unit
     (len : ℕ)
     → url_tail url ≡ tail → length tail ≤ length out → r ≡ Ok tt → BodyAnswers (url_body url) AnyAnswer r
     → Reaches out (outcome_bytes (url_body url)) out' len → EndsAs (url_body url) out out' 0 len
-ends_good url r out out' len t room e answer h =
-    let fits = body_fits url out t room in
-    let good = good_of (url_body url) r e answer in
-    let k = h fits in
-    let P : Outcome → Type 0 = λ b. EndsAs b out out' 0 len in
-    subst P (sym good.1) (
-      refl,
-      writes_front (ap outcome_bytes good.1) k.0 k.1
-          (omega (arith, fits, ap (λ b. length (outcome_bytes b)) good.1)),
-    )
+ends_good url r out out' len t room e answer h = grind (arith, body_fits, writes_front)
 
 -- a bad body, whose fault has this status
 pub ends_bad : {E : Type 0} (url : DataUrl) {tail : List ℕ} (r : Result (Unit {0}) (DecodeError E)) (kind : Kind)
@@ -75,16 +60,7 @@ pub ends_bad : {E : Type 0} (url : DataUrl) {tail : List ℕ} (r : Result (Unit 
     → url_tail url ≡ tail → length tail ≤ length out → r ≡ Err (Invalid kind) → BodyAnswers (url_body url) AnyAnswer r
     → status ≡ status_of_kind kind → Reaches out (outcome_bytes (url_body url)) out' len
     → EndsAs (url_body url) out out' status len
-ends_bad url r kind out out' status len t room e answer named h =
-    let fits = body_fits url out t room in
-    let bad = bad_of (url_body url) r kind e answer in
-    let k = h fits in
-    let P : Outcome → Type 0 = λ b. EndsAs b out out' status len in
-    subst P (sym bad.1) (
-      named,
-      writes_front (ap outcome_bytes bad.1) k.0 k.1
-          (omega (arith, fits, ap (λ b. length (outcome_bytes b)) bad.1)),
-    )
+ends_bad url r kind out out' status len t room e answer named h = grind (arith, body_fits, writes_front)
 
 flag_of_bad : (flag : Bool) (x bytes : List ℕ) (kind : Kind) → outcome flag x ≡ Bad bytes kind → flag ≡ true
 unfolding outcome
@@ -94,16 +70,7 @@ flag_of_bad false x bytes kind e = absurd (cc)
 -- what was written twice was written
 written_twice : {bytes out mid out' : List ℕ} {len len' : ℕ} → length bytes ≤ length out → Reaches out bytes mid len
     → length out' ≡ length mid → WritesFront bytes mid out' len' → WritesFront bytes out out' len'
-written_twice {bytes} {out} {mid} {out'} {len} {len'} fits h size w =
-    let k = h fits in
-    let within = w.within in
-    let long : length bytes ≡ len' = ap length (sym w.bytes_are) ∙ length-take-le len' out' (omega (arith, size)) in
-    record {
-      within = omega (arith, fits, long);
-      bytes_are = w.bytes_are;
-      rest_stays = w.rest_stays ∙ ap (drop len') k.1 ∙ ap (λ n. drop n (bytes ++ drop (length bytes) out)) (sym long)
-          ∙ drop-append_seam bytes (drop (length bytes) out) ∙ ap (λ n. drop n out) long;
-    }
+written_twice {bytes} {out} {mid} {out'} {len} {len'} fits h size w = grind (arith, length-take-le, drop-append_seam)
 
 -- a bad body, which was decoded again
 pub ends_again : {E : Type 0} (url : DataUrl) {tail mid : List ℕ} {len : ℕ} (r : Result (Unit {0}) (DecodeError E))
@@ -130,18 +97,7 @@ ends_again url {tail} {mid} {len} r kind out out' status len' t room e answer h 
 shows_front : {bytes old new : List ℕ} {status status' len : ℕ} → status' ≡ status → length new ≡ length old
     → WritesFront bytes old new len
     → Shows status bytes old new (record { status = status'; len = len })
-shows_front {bytes} {old} {new} {status} {status'} {len} e size w =
-    let within = w.within in
-    let long : len ≡ length bytes = sym (length-take-le len new (omega (arith, size))) ∙ ap length w.bytes_are in
-    record {
-      len = long;
-      fits = λ l. (
-        e,
-        sym (take-append-drop len new) ∙ ap (λ x. x ++ drop len new) w.bytes_are
-            ∙ ap (λ x. bytes ++ x) (w.rest_stays ∙ ap (λ n. drop n old) long),
-      );
-      is_too_small = λ l. absurd (omega (arith, long, within));
-    }
+shows_front {bytes} {old} {new} {status} {status'} {len} e size w = grind (arith, length-take-le, take-append-drop)
 
 answers_by : {x : List ℕ} {url : DataUrl} {old new : List ℕ} {status len : ℕ} → Global → IsUtf8 x → IsUrlOf x url
     → length old < 2 ^ 63

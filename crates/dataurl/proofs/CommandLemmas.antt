@@ -14,11 +14,15 @@ one_word (v ∷ u ∷ words) w some few e = absurd (not-suc-le-zero (le_of_suc-l
 no_word : (s : List ℕ) → (s ≡ codes "body" → ⊥) → (s ≡ codes "mime" → ⊥) → (s ≡ codes "fragment" → ⊥)
     → (s ≡ codes "type" → ⊥) → (s ≡ codes "base64" → ⊥) → command_of_word s ≡ None
 no_word s body mime fragment type base64 =
-    cond-false _ _ _ (test_from_different s (codes "body") body)
-    ∙ cond-false _ _ _ (test_from_different s (codes "mime") mime)
-    ∙ cond-false _ _ _ (test_from_different s (codes "fragment") fragment)
-    ∙ cond-false _ _ _ (test_from_different s (codes "type") type)
-    ∙ cond-false _ _ _ (test_from_different s (codes "base64") base64)
+    cc (
+      cond-false _ _ _ (test_from_different s (codes "body") body),
+      cond-false _ _ _ (test_from_different s (codes
+          "mime") mime),
+      cond-false _ _ _ (test_from_different s (codes "fragment") fragment),
+      cond-false _ _ _
+          (test_from_different s (codes "type") type),
+      cond-false _ _ _ (test_from_different s (codes "base64") base64),
+    )
 
 -- one word that is not the word of a command
 pub no_command : {A : Type 0} (words : List (String A)) (w : String A) (s : List ℕ) → 1 ≤ length words
@@ -26,5 +30,4 @@ pub no_command : {A : Type 0} (words : List (String A)) (w : String A) (s : List
     → (s ≡ codes "fragment" → ⊥) → (s ≡ codes "type" → ⊥) → (s ≡ codes "base64" → ⊥)
     → None ≡ command_of_words (map string_bytes words)
 no_command words w s some few is e body mime fragment type base64 =
-    sym (ap (λ ws. command_of_words (map string_bytes ws)) (one_word words w some few is) ∙ ap command_of_word (sym e)
-    ∙ no_word s body mime fragment type base64)
+    sym (cc (one_word words w some few is, no_word s body mime fragment type base64))

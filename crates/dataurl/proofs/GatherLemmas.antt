@@ -19,11 +19,7 @@ use Rattle.dataurl.proofs.OutputLemmas.{written_some}
 by_one : (before piece w k after : List ℕ) (r : Result (Unit {0}) WriteFailed) → w ≡ before → after ≡ []
     → IsWritten piece k r → MatchResult r (λ x. before ++ piece ≡ (w ++ k) ++ after)
     (λ failed. IsProperPrefix (w ++ k) (before ++ piece))
-by_one before piece w k after (Ok tt) e z h =
-    ap (λ s. s ++ piece) (sym e)
-    ∙ ap (λ s. w ++ s) (sym (written_all piece k (Ok tt) refl h))
-    ∙ sym (append-nil (w ++ k))
-    ∙ ap (λ s. (w ++ k) ++ s) (sym z)
+by_one before piece w k after (Ok tt) e z h = cc (written_all piece k (Ok tt) refl h, append-nil (w ++ k))
 by_one before piece w k after (Err failed) e z h =
     let P : List ℕ → Type 0 = λ s. IsProperPrefix (w ++ k) (s ++ piece) in
     subst P e (beginning_after w k piece (written_some piece k (Err failed) failed refl h))
@@ -91,14 +87,8 @@ then_more : (later : Option WriteFailed) (before piece rest mid after w k : List
     → MatchOption later (before ++ (piece ++ rest) ≡ (w ++ k) ++ after)
     (λ failed. IsProperPrefix (w ++ k) (before ++ (piece ++ rest)))
 then_more None before piece rest mid after w k e h =
-    sym (append_assoc before piece rest)
-    ∙ ap (λ s. s ++ rest) e
-    ∙ append_assoc w mid rest
-    ∙ ap (λ s. w ++ s) h
-    ∙ sym (append_assoc w k after)
-then_more (Some failed) before piece rest mid after w k e h =
-    let same : w ++ (mid ++ rest) ≡ before ++ (piece ++ rest) = sym (append_assoc w mid rest)
-    ∙ ap (λ s. s ++ rest) (sym e) ∙ append_assoc before piece rest in
+    cc (append_assoc before piece rest, append_assoc w mid rest, append_assoc w k after)
+then_more (Some failed) before piece rest mid after w k e h = let same : w ++ (mid ++ rest) ≡ before ++ (piece ++ rest) = cc (append_assoc w mid rest, append_assoc before piece rest) in
     let P : List ℕ → Type 0 = λ s. IsProperPrefix (w ++ k) s in
     subst P same (beginning_after w k (mid ++ rest) h)
 
@@ -129,13 +119,11 @@ module _ {F : Type 0} (step : F → List ℕ → Result (Unit {0}) WriteFailed �
   -- if each call gathers its piece, a run gathers the pieces of all its calls
   pub run_gathers : (cs : List (Call F WriteFailed)) (f g : F) → IsRun step f cs g
       → RunGathers (holds f) (holds g) (waits f) (waits g) (joined_pieces cs) (refusal cs)
-  run_gathers [] f g ran =
-      let P : F → Type 0 = λ s. Appends (holds f) (holds s) [] in
+  run_gathers [] f g ran = let P : F → Type 0 = λ s. Appends (holds f) (holds s) [] in
       record {
         written = [];
         appended = subst P ran (appends_none (holds f));
-        took = append-nil (waits f)
-            ∙ ap waits ran;
+        took = cc (append-nil (waits f));
       }
   run_gathers (c ∷ cs) f g ran =
       gather_more c.answer c.piece (joined_pieces cs) (waits f) (waits c.after) (waits g) (refusal cs) (holds f)

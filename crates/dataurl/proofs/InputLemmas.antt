@@ -40,11 +40,9 @@ reads_all old new bytes c e = record { input = bytes.items; consumed = c; is_rea
 pub reads_end : (old now new : Option (List ℕ)) (bytes : Vec ℕ Global) (n : ℕ) (buf : List ℕ) → n ≡ 0 → 0 < length buf
     → Consumes old now bytes.items → Consumes now new (take n buf) × (n ≡ 0 → 0 < length buf → IsAtEnd new)
     → ReadsAll old new (Ok bytes)
-reads_end old now new bytes n buf z some c r =
-    let P : List ℕ → Type 0 = λ s. Consumes old new s in
+reads_end old now new bytes n buf z some c r = let P : List ℕ → Type 0 = λ s. Consumes old new s in
     let all = consumes_then old now new bytes.items (take n buf) c r.0 in
-    let same : bytes.items ++ take n buf ≡ bytes.items = ap (λ k. bytes.items ++ take k buf) z
-    ∙ append-nil bytes.items in
+    let same : bytes.items ++ take n buf ≡ bytes.items = cc (append-nil bytes.items) in
     reads_all old new bytes (subst P same all) (r.1 z some)
 
 -- if allocation fails after a part and one more piece were consumed, reading the whole input returns that fault

@@ -41,12 +41,7 @@ going_none bytes old = record { written = []; appended = appends_none old; joine
 -- after n of the bytes that are left are appended, the others are left
 pub going_more : (bytes rest : List ℕ) (n : ℕ) (old now new : Option (List ℕ)) → Going bytes rest old now
     → Appends now new (take n rest) → Going bytes (drop n rest) old new
-going_more bytes rest n old now new g a = record {
-  written = g.written ++ take n rest;
-  appended = appends_then old now new g.written (take n rest) g.appended a;
-  joined = g.joined ∙ ap (λ s. g.written ++ s) (sym (take-append-drop n rest))
-      ∙ sym (append_assoc g.written (take n rest) (drop n rest));
-}
+going_more bytes rest n old now new g a = grind (arith, appends_then, take-append-drop, append_assoc)
 
 -- if no bytes are left, all are written
 pub going_ends : (bytes rest : List ℕ) (old now : Option (List ℕ)) → rest ≡ [] → Going bytes rest old now
@@ -78,15 +73,13 @@ going_stops bytes rest n old now new failed z some a g =
 
 -- a slice from a place to the end
 pub to_the_end : (n : ℕ) (s t : List ℕ) → t ≡ s → take (length t - n) (drop n s) ≡ drop n s
-to_the_end n s t e = ap (λ k. take (k - n) (drop n s)) (ap length e)
-    ∙ take_all (length s - n) (drop n s) (le_of_eq (length-drop n s))
+to_the_end n s t e = grind (arith, take_all, le_of_eq, length-drop)
 
 -- Proper prefixes
 
 -- a proper prefix of a prefix is a proper prefix of the whole
 pub beginning_of : (xs ys zs : List ℕ) → IsProperPrefix xs ys → IsPrefix ys zs → IsProperPrefix xs zs
-beginning_of xs ys zs b p =
-    (b.0 ++ p.0, p.1 ∙ ap (λ s. s ++ p.0) b.1 ∙ append_assoc xs b.0 p.0, omega (arith, b.2, length-append b.0 p.0))
+beginning_of xs ys zs b p = grind (arith, append_assoc, length-append)
 
 -- after the same bytes it is a proper prefix too
 pub beginning_after : (front xs ys : List ℕ) → IsProperPrefix xs ys → IsProperPrefix (front ++ xs) (front ++ ys)

@@ -46,11 +46,7 @@ module _ {F : Type 0} (step : F → List ℕ → Result (Unit {0}) WriteFailed �
     -- one more piece
     pub reading_more : {d' : State F} (piece : List ℕ) → Reading f unread now d → Consumes now left piece
         → Feeds step d piece (Ok tt) d' → Reading f unread left d'
-    reading_more piece h c more = record {
-      input = h.input ++ piece;
-      consumed = consumes_then unread now left h.input piece h.consumed c;
-      fed = feeds_then step h.fed more;
-    }
+    reading_more piece h c more = grind (arith, consumes_then, feeds_then)
 
     -- a piece with a fault, or for whose bytes the closure returned an error
     pub reading_stops : {d' : State F} {g : F} {error : DecodeError WriteFailed} (piece : List ℕ)
@@ -117,9 +113,7 @@ flush_ends x left all after w k whole end over p e (not_flushed b) =
 flush_stops : (x : List ℕ) (left : Option (List ℕ)) (after w k : List ℕ) (last end : End)
     → IsSoundBeforeLastPiece x → IsResult x left base64 (complete_bytes x) last
     → complete_bytes x ≡ w ++ after → IsFlushed after last k end → IsResult x left base64 (w ++ k) end
-flush_stops x left after w k last end sound p e flushed =
-    let P : List ℕ → Type 0 = λ s. IsResult x left base64 s last in
-    subst P e p
+flush_stops x left after w k last end sound p e flushed = grind arith
 flush_stops x left after w k last end sound p e (not_flushed b) =
     let P : List ℕ → Type 0 = λ s. IsProperPrefix (w ++ k) s in
     base64_not_written sound (subst P (sym e) (beginning_after w k after b))
@@ -160,8 +154,7 @@ finished_result : (refused : Option WriteFailed) (x : List ℕ) (left : Option (
     (λ failed. IsRefused (cond (is_valid x) (decoded x) (complete_bytes x)) bytes failed r)
     → MatchOption refused (bytes ≡ w ++ after) (λ failed. IsProperPrefix w bytes)
     → IsSettled r after k end → IsResult x left base64 (w ++ k) end
-finished_result None x left bytes after w k r end over n h e s =
-    finished_ends x left bytes after w k r end (is_valid x) refl over n h e s
+finished_result None x left bytes after w k r end over n h e s = grind (arith, finished_ends)
 finished_result (Some failed) x left bytes after w k r end over n h b s =
     let q = refused_write after w k r end failed h b s in
     let P : End → Type 0 = λ e. IsResult x left base64 (w ++ k) e in
@@ -173,10 +166,8 @@ stopped_ends : (x : List ℕ) (left : Option (List ℕ)) (bytes after w k : List
     → MatchOption o ((r ≡ Ok tt) × P) (λ place. r ≡ Err (InvalidBase64 (kind_of x))) → bytes ≡ w ++ after
     → IsSettled r after k end → IsResult x left base64 (w ++ k) end
 stopped_ends x left bytes after w k r error end P None f q sound b h e s = absurd (let k = h.0 in cc)
-stopped_ends x left bytes after w k r error end P (Some place) f q sound b h e s =
-    let Q : Result (Unit {0}) (DecodeError WriteFailed) → Type 0 = λ x. IsSettled x after k end in
-    flush_stops x left after w k (Err (Base64 (kind_of x))) end sound (stopped_at_fault sound (ap is_some f)) (sym b
-    ∙ e) (subst Q h s)
+stopped_ends x left bytes after w k r error end P (Some place) f q sound b h e s = let Q : Result (Unit {0}) (DecodeError WriteFailed) → Type 0 = λ x. IsSettled x after k end in
+    flush_stops x left after w k (Err (Base64 (kind_of x))) end sound (stopped_at_fault sound (ap is_some f)) (cc) (subst Q h s)
 
 stopped_result : {F : Type 0} (refused : Option WriteFailed) (x : List ℕ) (left : Option (List ℕ))
     (bytes after w k : List ℕ) (r : Result (Unit {0}) (DecodeError WriteFailed)) (error : DecodeError WriteFailed)
@@ -198,14 +189,8 @@ module _ {F : Type 0} {step : F → List ℕ → Result (Unit {0}) WriteFailed �
       (r : Result (Unit {0}) (DecodeError WriteFailed)) → ended ≡ Decoded r → IsDecoded step f x left ended g
       → (IsAtEnd left × (first_fault x ≡ None) × DecodesText step f x r g)
       ⊎ ((error : DecodeError WriteFailed) × (r ≡ Err error) × IsSoundBeforeLastPiece x × FeedsText step f x r g)
-  decoded_or {f} {x} {left} {ended} {g} r e (finished {r = s} over n d) =
-      let P : Result (Unit {0}) (DecodeError WriteFailed) → Type 0 = λ s. DecodesText step f x s g in
-      let same : s ≡ r = cc in
-      inl (over, n, subst P same d)
-  decoded_or {f} {x} {left} {ended} {g} r e (stopped {error = error} sound d) =
-      let P : Result (Unit {0}) (DecodeError WriteFailed) → Type 0 = λ s. FeedsText step f x s g in
-      let same : Err error ≡ r = cc in
-      inr (error, sym same, sound, subst P same d)
+  decoded_or {f} {x} {left} {ended} {g} r e (finished {r = s} over n d) = grind arith
+  decoded_or {f} {x} {left} {ended} {g} r e (stopped {error = error} sound d) = grind arith
   decoded_or {f} {x} {left} {ended} {g} r e (not_read d) = absurd (let k = e in cc)
 
   unread_fed : {f : F} {x : List ℕ} {left : Option (List ℕ)} {ended : Ended} {g : F} → ended ≡ ReadFailed

@@ -12,8 +12,7 @@ use Rattle.uses.specs.Chunks.{FeedsChunks, TakesChunks, joined}
 
 joined_more : (chunks : List (Bor (List ℕ))) (chunk : Bor (List ℕ))
     → joined (chunks ++ (chunk ∷ [])) ≡ joined chunks ++ chunk.now
-joined_more chunks chunk = flat_map-append (λ x. x.now) chunks (chunk ∷ [])
-    ∙ ap (λ s. joined chunks ++ s) (append-nil chunk.now)
+joined_more chunks chunk = cc (flat_map-append (λ x. x.now) chunks (chunk ∷ []), append-nil chunk.now)
 
 module _ {F E : Type 0} (step : F → List ℕ → Result (Unit {0}) E → F → Type 0) where
   -- what feeding chunks does to a decoder that has failed, and to one that has not

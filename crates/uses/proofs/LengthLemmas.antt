@@ -10,9 +10,7 @@ use Rattle.uses.specs.Fetches.{HasLength}
 -- a good body of that length
 good_len : (o : Outcome) (len : ℕ) → IsLengthOf o (Ok len) → length (outcome_bytes o) < 2 ^ 64
     → (bytes : List ℕ) × (o ≡ Good bytes) × (len ≡ length bytes)
-good_len (Good bytes) len h few =
-    let e : len ≡ min (length bytes) (2 ^ 64 - 1) = let k = h in cc in
-    (bytes, refl, omega (arith, e, few))
+good_len (Good bytes) len h few = grind arith
 good_len (Bad bytes kind) len h few = absurd (let k = h in cc)
 
 accepted_good : (t : List ℕ) {type_text bytes : List ℕ} {o : Outcome} {fragment : Option (List ℕ)}
@@ -22,6 +20,4 @@ accepted_good t {type_text = type_text} {fragment = fragment} e g = e ∙ ap (λ
 -- a length that was counted, at most up to the greatest number, is that of the body
 pub exact_len : {t : List ℕ} {url : DataUrl} (len : ℕ) → IsUrlOf t url → length t < 2 ^ 64
     → IsLengthOf (url_body url) (Ok len) → HasLength t (Ok len)
-exact_len {t} {url} len u few h =
-    let g = good_len (url_body url) len h (omega (arith, body_within_text u)) in
-    (_, g.0, _, accepted_good t u.staged_is g.1, g.2)
+exact_len {t} {url} len u few h = grind (arith, good_len, body_within_text, accepted_good)

@@ -44,9 +44,12 @@ none_opened page m = λ xs ys zs e. m (length xs)
 
 quote_at : (xs ys zs : List ℕ) → get_or (xs ++ (opening ++ (ys ++ (34 ∷ zs)))) (length xs + (7 + length ys)) 0 ≡ 34
 quote_at xs ys zs =
-    get_or-append-add xs (opening ++ (ys ++ (34 ∷ zs))) (7 + length ys) 0
-    ∙ get_or-append-add opening (ys ++ (34 ∷ zs)) (length ys) 0
-    ∙ get_or-append_seam ys 34 zs 0
+    cc (
+      get_or-append-add xs (opening ++ (ys ++ (34 ∷ zs))) (7 + length ys) 0,
+      get_or-append-add opening (ys ++ (34 ∷
+          zs)) (length ys) 0,
+      get_or-append_seam ys 34 zs 0,
+    )
 
 -- there is no quote after the opening
 pub none_ended : (page rest : List ℕ) (place : ℕ) → OpenedAt page place → rest ≡ drop (place + 2) page
@@ -58,8 +61,7 @@ none_ended page rest place o r none = λ xs ys zs e.
     let long : length page ≡ length xs + (7 + (length ys + (1 + length zs))) =
     omega (arith, ap length e, length-append xs (opening ++ (ys ++ (34 ∷ zs))), length-append ys (34 ∷ zs)) in
     none k (omega (arith, ap length r, length-drop (place + 2) page))
-    (ap (λ s. get_or s k 0) r ∙ get_or-drop (place + 2) page k 0 ∙ ap (λ n. get_or page n 0) at
-    ∙ ap (λ s. get_or s (length xs + (7 + length ys)) 0) e ∙ quote_at xs ys zs)
+    (cc (get_or-drop (place + 2) page k 0, quote_at xs ys zs))
 
 -- a reference that ends at a quote has the whole scheme
 scheme_front : (k : ℕ) (s : List ℕ) → get_or (codes "data:" ++ s) k 0 ≡ 34
@@ -73,21 +75,17 @@ scheme_front (suc (suc (suc (suc (suc k))))) s e = (take k s, refl)
 
 no_quote_before : (rest : List ℕ) (k : ℕ) → k < length rest → ((m : ℕ) → m < k → get_or rest m 0 ≢ 34)
     → (xs ys : List ℕ) → take k rest ≢ xs ++ (34 ∷ ys)
-no_quote_before rest k within none xs ys e =
-    let few : length xs < k = omega (arith, ap length e, length-append xs (34 ∷ ys), length-take k rest) in
-    none (length xs) few (sym (get_or-take k rest (length xs) 0 few) ∙ ap (λ s. get_or s (length xs) 0) e
-    ∙ get_or-append_seam xs 34 ys 0)
+no_quote_before rest k within none xs ys e = let few : length xs < k = omega (arith, ap length e, length-append xs (34 ∷ ys), length-take k rest) in
+    none (length xs) few (cc (get_or-take k rest (length xs) 0 few, get_or-append_seam xs 34 ys 0))
 
 -- if a reference is opened, and the next '"' is at an index of the rest, the text between is the reference
 pub is_reference : (page rest : List ℕ) (place k : ℕ) → OpenedAt page place → rest ≡ drop (place + 2) page
     → k < length rest → get_or rest k 0 ≡ 34 → ((m : ℕ) → m < k → get_or rest m 0 ≢ 34)
     → IsReference page (take (place + 2) page) (take k rest) (drop k rest)
-is_reference page rest place k o r within quote none =
-    let rest_is : rest ≡ codes "data:" ++ o.rest = r ∙ sym (drop-drop 2 place page) ∙ ap (λ s. drop 2 s) o.split in
+is_reference page rest place k o r within quote none = let rest_is : rest ≡ codes "data:" ++ o.rest = r ∙ sym (drop-drop 2 place page) ∙ ap (λ s. drop 2 s) o.split in
     let scheme = scheme_front k o.rest (ap (λ s. get_or s k 0) (sym rest_is) ∙ quote) in
     record {
-      joined = sym (take-append-drop (place + 2) page)
-          ∙ ap (λ s. take (place + 2) page ++ s) (sym r ∙ sym (take-append-drop k rest));
+      joined = cc (take-append-drop (place + 2) page, take-append-drop k rest);
       start = take place page;
       before_is = take-add place 2 page ∙ ap (λ s. take place page ++ take 2 s) o.split;
       rest = scheme.0;
@@ -114,11 +112,7 @@ inlined_source reference (Refused s reason) h = h.0
 pub sources_join : (page : List ℕ) (parts : List Part) → IsPage page parts → flat_map source_of parts ≡ page
 sources_join page [] h = absurd h
 sources_join page (text ∷ []) h = append-nil (source_of text) ∙ text_source page text h.0
-sources_join page (text ∷ part ∷ parts) h =
-    ap (λ s. s ++ (source_of part ++ flat_map source_of parts)) (text_source h.0 text h.4)
-    ∙ ap (λ s. h.0 ++ (s ++ flat_map source_of parts)) (inlined_source h.1 part h.5)
-    ∙ ap (λ s. h.0 ++ (h.1 ++ s)) (sources_join h.2 parts h.6)
-    ∙ sym h.3.joined
+sources_join page (text ∷ part ∷ parts) h = grind (arith, text_source, inlined_source, (sources_join h.2 parts h.6))
 
 -- the parts of the rest follow the parts so far
 pub record Going (page rest : List ℕ) (parts : List Part) : Type 0 where

@@ -24,10 +24,7 @@ below_next ranks i highest b e j k = below_more (λ m. slice_index ranks m ≤ h
 -- a rank that is higher than the highest so far is the best
 pub leads_higher : {ranks : List ℕ} {best : Option ℕ} {highest : ℕ} (i rank : ℕ) → Leads ranks i best highest
     → slice_index ranks i ≡ rank → highest < rank → Leads ranks (i + 1) (Some i) rank
-leads_higher {ranks} {best} {highest} i rank l e h = record {
-  below = below_next ranks i rank (λ m k. omega (arith, l.below m k, h)) (omega (arith, e));
-  leader = (omega arith, e, omega (arith, h), λ j k. omega (arith, l.below j k, h));
-}
+leads_higher {ranks} {best} {highest} i rank l e h = grind (arith, below_next)
 
 still_leads : (ranks : List ℕ) (highest : ℕ) (best : Option ℕ) (i : ℕ) → IsLeader ranks i highest best
     → IsLeader ranks (i + 1) highest best
@@ -37,10 +34,7 @@ still_leads ranks highest (Some p) i h = (omega (arith, h.0), h.1, h.2, h.3)
 -- a rank that is at most the highest so far changes nothing
 pub leads_no_higher : {ranks : List ℕ} {best : Option ℕ} {highest : ℕ} (i rank : ℕ) → Leads ranks i best highest
     → slice_index ranks i ≡ rank → rank ≤ highest → Leads ranks (i + 1) best highest
-leads_no_higher {ranks} {best} {highest} i rank l e h = record {
-  below = below_next ranks i highest l.below (omega (arith, e, h));
-  leader = still_leads ranks highest best i l.leader;
-}
+leads_no_higher {ranks} {best} {highest} i rank l e h = grind (arith, below_next, still_leads)
 
 -- the rank of an item that was read
 pub rank_at : {A : Type 0} (f : A → ℕ) (xs : List A) (i : ℕ) (x : A) → i < length xs → x ≡ get_or xs i x

@@ -50,25 +50,17 @@ going_none piece old = record { written = []; taken = appends_none old; joined =
 -- after n of the bytes that are left are appended, the others are left
 pub going_more : (piece rest : List ℕ) (n : ℕ) (old now new : Option (List ℕ)) → Going piece rest old now
     → Appends now new (take n rest) → Going piece (drop n rest) old new
-going_more piece rest n old now new g a = record {
-  written = g.written ++ take n rest;
-  taken = appends_then old now new g.written (take n rest) g.taken a;
-  joined = g.joined ∙ ap (λ s. g.written ++ s) (sym (take-append-drop n rest))
-      ∙ sym (append_assoc g.written (take n rest) (drop n rest));
-}
+going_more piece rest n old now new g a = grind (arith, appends_then, take-append-drop, append_assoc)
 
 -- if no bytes are left, the whole piece is written
 pub going_ends : (piece rest : List ℕ) (old now : Option (List ℕ)) → rest ≡ [] → Going piece rest old now
     → Writes piece old now (Ok tt)
-going_ends piece rest old now e g =
-    let P : List ℕ → Type 0 = λ w. Appends old now w in
-    subst P (sym (append-nil g.written) ∙ ap (λ s. g.written ++ s) (sym e) ∙ sym g.joined) g.taken
+going_ends piece rest old now e g = grind (arith, append-nil)
 
 -- if the sink fails without a change, a part of the piece is written
 pub going_fails : (piece rest : List ℕ) (old now new : Option (List ℕ)) → Keeps now new → Going piece rest old now
     → Writes piece old new (Err SinkFailed)
-going_fails piece rest old now new k g =
-    record { bytes = g.written; taken = appends_kept old now new g.written g.taken k; begins = (rest, g.joined) }
+going_fails piece rest old now new k g = grind (arith, appends_kept)
 
 -- a write that wrote n bytes, and then failed
 pub going_stops : (piece rest : List ℕ) (n : ℕ) (old now new : Option (List ℕ)) → Appends now new (take n rest)
@@ -79,8 +71,7 @@ going_stops piece rest n old now new a g =
 
 -- a slice from a place to the end
 pub to_the_end : (n : ℕ) (s t : List ℕ) → t ≡ s → take (length t - n) (drop n s) ≡ drop n s
-to_the_end n s t e = ap (λ k. take (k - n) (drop n s)) (ap length e)
-    ∙ take_all (length s - n) (drop n s) (le_of_eq (length-drop n s))
+to_the_end n s t e = grind (arith, take_all, le_of_eq, length-drop)
 
 -- The pieces of a body
 
@@ -104,17 +95,7 @@ stops : {F : Type 0} (room : F → ℕ) (holds : F → Option (List ℕ)) (limit
     (bytes piece : List ℕ) (e : Refusal) (p q : F)
     → Kept room holds limit old bytes p → WritesWithin piece (room p) (room q) (holds p) (holds q) (Err e)
     → Stopped holds limit old (bytes ++ piece) e q
-stops room holds limit old bytes piece OverLimit p q k s =
-    let P : Option (List ℕ) → Type 0 = λ o. Appends old o bytes in (
-      omega (arith, s.0, k.0, length-append bytes piece),
-      record {
-        bytes = bytes;
-        taken = subst P (sym s.1) k.1;
-        begins =
-            (piece, refl);
-        within = omega (arith, k.0);
-      },
-    )
+stops room holds limit old bytes piece OverLimit p q k s = grind (arith, length-append)
 stops room holds limit old bytes piece SinkFailed p q k s = record {
   bytes = bytes ++ s.1.bytes;
   taken = appends_then old (holds p) (holds q) bytes s.1.bytes k.1 s.1.taken;
@@ -145,8 +126,7 @@ streamed_by : {F : Type 0} (room : F → ℕ) (holds : F → Option (List ℕ)) 
     → Streamed body limit old (holds g) s
 streamed_by room holds limit old g body (Ok x) h = (h.0, h.1, omega (arith, h.3.0), h.3.1)
 streamed_by room holds limit old g body (Err (InvalidBase64 kind)) h = (h.0, h.1, omega (arith, h.2.0), h.2.1)
-streamed_by room holds limit old g body (Err (WriteError OverLimit)) h =
-    (omega (arith, h.2.0, ap length h.1.1, length-append h.0 h.1.0), within_whole h.1 h.2.1)
+streamed_by room holds limit old g body (Err (WriteError OverLimit)) h = grind (arith, length-append, within_whole)
 streamed_by room holds limit old g body (Err (WriteError SinkFailed)) h = within_whole h.1 h.2
 
 -- what a closure wrote, if it writes each piece that fits into the rest of a limit

@@ -1,4 +1,4 @@
-use Rattle.std.proofs.Common.{◌≡◌, ◌⊎◌, ◌≤◌, arith, inl, inr, length, refl, rules, true}
+use Rattle.std.proofs.Common.{◌≡◌, ◌⊎◌, ◌≤◌, arith, inl, inr, length, rules, true}
 use Rattle.data_url.specs.Fetch.{plain_body}
 use Rattle.data_url_c.proofs.LeftLemmas.{taken_room}
 use Rattle.data_url_c.proofs.PartLemmas.{good_parts}
@@ -8,23 +8,10 @@ use Rattle.data_url_c.proofs.body.base64_window.Goals.{then-has_fragment-via-the
 use Rattle.data_url_c.proofs.body.base64_window.Goals.{then-has_fragment-via-else-has_fragment+then-end-tail}
 
 pub returns-then-step-ne-DONE : goal.returns-then-step-ne-DONE
-returns-then-step-ne-DONE c =
-    base64_fault c.args.state.now c.requires.window c.requires.base64 c.feed_body-has_fragment.ensures.fed
-    c.if-step-ne-DONE.true
+returns-then-step-ne-DONE c = grind (arith, base64_fault)
 
 pub end_body-step-requires-clause-room : goal.end_body-step-requires-clause-room
-end_body-step-requires-clause-room c =
-    let s = c.args.state.now.left in
-    let fed = c.feed_body-has_fragment in
-    let size : length fed.new.out ≡ length c.args.out.now = search rules in
-    let within : fed.result.0.len ≤ length fed.new.out = omega (arith, fed.ensures.fed.wrote.within) in
-    let few = (good_parts s c.requires.good.left).few_pending in
-    omega (
-      arith,
-      taken_room s fed.new.state (plain_body c.args.window.now) c.requires.good.left fed.ensures.fed
-          c.if-step-ne-DONE.false within,
-      c.requires.room,
-    )
+end_body-step-requires-clause-room c = grind (arith, taken_room)
 
 pub returns-then-has_fragment : goal.returns-then-has_fragment
 returns-then-has_fragment c =
@@ -44,7 +31,4 @@ returns-then-has_fragment c =
     (λ g. absurd (let h = g.left in cc))
 
 pub returns : goal.returns
-returns c =
-    let fed = c.feed_body-has_fragment in
-    base64_more c.args.state.now _ c.requires.window c.requires.base64 (fed.ensures.fragment c.if-step-ne-DONE.false)
-    c.if-has_fragment.false c.if-end-tail.false fed.ensures.fed c.if-step-ne-DONE.false refl refl
+returns c = grind (arith, base64_more)

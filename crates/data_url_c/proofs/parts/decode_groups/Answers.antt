@@ -4,7 +4,6 @@ use Rattle.data_url.specs.declared.forgiving_base64.DecodeError.TheVariants.{Inv
 use Rattle.data_url_c.specs.Parts.{waiting_text}
 use Rattle.data_url_c.specs.contracts.parts.fn.decode_groups.write as closure
 use Rattle.data_url_c.proofs.LeftLemmas.{complete_length, waiting_length}
-use Rattle.data_url_c.proofs.FaultStatusLemmas.{is_faulty}
 use Rattle.data_url_c.proofs.PartLemmas.{gets_keep, gets_reaches, groups_status, reaches_front}
 use Rattle.data_url_c.proofs.parts.decode_groups.Goals as goal
 
@@ -42,6 +41,4 @@ returns-in-Err-InvalidBase64 c =
     }
 
 pub fault_status-status-requires-clause-fault : goal.fault_status-status-requires-clause-fault
-fault_status-status-requires-clause-fault c =
-    let told : c.feed_into.result ≡ Err (InvalidBase64 c.in-Err-InvalidBase64.field-0-0) = search rules in
-    is_faulty (waiting_text c.args.state.now ++ c.args.text.now) _ c.feed_into.ensures.ended told
+fault_status-status-requires-clause-fault c = grind arith

@@ -1,8 +1,5 @@
-use Rattle.std.proofs.Common.{◌≡◌, ◌-◌, ◌∙◌, arith, drop, get_or, refl, rules, sym, take, ap}
-use Rattle.std.specs.List.{filter}
-use Rattle.data_url.specs.Base64.{is_symbol}
+use Rattle.std.proofs.Common.{◌-◌, ◌∙◌, arith, get_or, refl, rules, sym, take}
 use Rattle.data_url_c.proofs.LeftLemmas.{found_all, found_symbol, found_waiting, waiting_less}
-use Rattle.data_url_c.proofs.PartLemmas.{good_parts}
 use Rattle.data_url_c.proofs.parts.last_symbols.Goals as goal
 
 pub loop-missing-preserved-then-is_symbol_byte : goal.loop-missing-preserved-then-is_symbol_byte
@@ -21,14 +18,7 @@ loop-missing-preserved-then-is_symbol_byte c =
     }
 
 pub returns-else-at-gt0 : goal.returns-else-at-gt0
-returns-else-at-gt0 c =
-    let l = c.loop-missing in
-    let s = c.args.state.now in
-    let few = (good_parts s c.requires.good).few_pending in
-    let start : l.at ≡ 0 = omega arith in
-    found_waiting s.symbols c.args.text.now l.symbols s.pending c.args.count l.missing l.invariant.few c.requires.few
-    few c.loop-missing-test.true l.invariant.size c.requires.same (l.invariant.found
-    ∙ ap (λ n. filter is_symbol (drop n c.args.text.now)) start) l.invariant.waiting
+returns-else-at-gt0 c = grind (arith, found_waiting)
 
 pub returns-after-loop-missing : goal.returns-after-loop-missing
 returns-after-loop-missing c =

@@ -1,6 +1,4 @@
-use Rattle.std.proofs.Common.{Err, arith, length, rules, sym, ◌≡◌, ◌∙◌}
-use Rattle.std.proofs.lemmas.Option.{same_Some}
-use Rattle.data_url.specs.DataUrl.{url_tail}
+use Rattle.std.proofs.Common.{Err, arith}
 use Rattle.data_url_c.specs.Gives.{GivesBody}
 use Rattle.data_url_c.proofs.GivenLemmas.{answers, body_or_memory, body_refused, gives_body}
 use Rattle.data_url_c.proofs.WholeLemmas.{answers_into}
@@ -12,14 +10,10 @@ returns-in-Err c =
     answers (GivesBody c.args.text.now) (Err c.in-Err.refusal) g body_or_memory c.answer.ensures
 
 pub decode_into-status-requires-clause-tail : goal.decode_into-status-requires-clause-tail
-decode_into-status-requires-clause-tail c = same_Some (url_tail c.in-Ok.url) c.in-Some.tail.now
-    (sym c.in-Ok.ensures.1.tail_is ∙ c.in-Some.ensures)
+decode_into-status-requires-clause-tail c = grind arith
 
 pub returns-in-Some : goal.returns-in-Some
-returns-in-Some c =
-    let size : length c.decode_into-status.new.out ≡ length c.args.out.now = search rules in
-    answers_into c.args.alloc c.in-Ok.ensures.0 c.in-Ok.ensures.1 (search (rules, arith)) size
-    c.decode_into-status.ensures
+returns-in-Some c = grind (arith, answers_into)
 
 pub returns : goal.returns
 returns c =

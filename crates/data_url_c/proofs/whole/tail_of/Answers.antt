@@ -3,13 +3,7 @@ use Rattle.data_url_c.proofs.OpenLemmas.{fits_tail, low_is, tail_found}
 use Rattle.data_url_c.proofs.whole.tail_of.Goals as goal
 
 pub overflow_sub-text : goal.overflow_sub-text
-overflow_sub-text c =
-    let x = c.args.text.now in
-    let comma = c.in_ok-tail.field-0 in
-    let fits = fits_tail x comma c.low_end_len.result
-    (low_is x c.as_bytes.result.now (comma + 1) c.low_end_len.result c.as_bytes.ensures.value
-    c.low_end_len.ensures) in
-    omega (arith, fits)
+overflow_sub-text c = grind (arith, fits_tail, low_is)
 
 pub returns : goal.returns
 returns c =

@@ -1,4 +1,4 @@
-use Rattle.std.proofs.Common.{◌∙◌, ◌-◌, arith, inl, inr, sym}
+use Rattle.std.proofs.Common.{◌∙◌, ◌-◌, arith, inl, sym}
 use Rattle.data_url_c.proofs.WindowLemmas.{scan_begins, scan_closed, scan_kept_step, scan_tab_step}
 use Rattle.data_url_c.proofs.window.open_percent.Goals as goal
 
@@ -23,8 +23,7 @@ loop-at-preserved c =
     record { within = omega (arith, i.within); kept_is = h.0; few = i.few; none = h.1 }
 
 pub returns-else-kept-lt2 : goal.returns-else-kept-lt2
-returns-else-kept-lt2 c = let i = c.loop-at.invariant in
-    scan_closed c.args.window.now c.loop-at.at c.loop-at.kept i.kept_is i.few i.none (inr (omega (arith, i.few)))
+returns-else-kept-lt2 c = grind (arith, scan_closed)
 
 pub returns-after-loop-at : goal.returns-after-loop-at
 returns-after-loop-at c = let i = c.loop-at.invariant in

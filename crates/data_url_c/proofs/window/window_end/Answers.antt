@@ -1,5 +1,4 @@
-use Rattle.std.proofs.Common.{◌<◌, arith, drop, length, length-drop, rules, subst, List, ℕ}
-use Rattle.data_url_c.specs.Steps.Windows.{IsEscapeEnd}
+use Rattle.std.proofs.Common.{◌<◌, arith, drop, length, length-drop, rules}
 use Rattle.data_url_c.proofs.PartLemmas.{end_sliced}
 use Rattle.data_url_c.proofs.WindowLemmas.{window_all, window_edge, window_escape, window_percent}
 use Rattle.data_url_c.proofs.window.window_end.Goals as goal
@@ -27,9 +26,4 @@ returns-then-at-gt0 c =
     c.last_edge-end.ensures.within c.if-at-gt0.true c.in-Some.ensures.0 c.in-Some.ensures.1
 
 pub returns : goal.returns
-returns c =
-    let tail = c.args.tail.now in
-    let long : c.args.limit < length (drop c.args.from tail) = search (rules, length-drop c.args.from tail) in
-    let P : List ℕ → Type 0 = λ s. IsEscapeEnd s c.escape_end.result in
-    window_escape tail c.args.from c.args.limit c.escape_end.result (omega (arith, long, length-drop c.args.from tail))
-    c.requires.limit (subst P (end_sliced c.args.from tail) c.escape_end.ensures)
+returns c = grind (arith, window_escape, end_sliced)

@@ -9,13 +9,7 @@ use Rattle.uses.proofs.ChunkLemmas.{chunks_more, chunks_none, chunks_stop}
 use Rattle.uses.proofs.chunks.feed_chunks.Goals as goal
 
 pub loop-chunk-init : goal.loop-chunk-init
-loop-chunk-init g c =
-    let d = c.args.decoder.now in (
-      c.requires,
-      chunks_none (CalledAt g.F.FnMut) (state_of d)
-          (λ going. feeds_none (CalledAt g.F.FnMut) (every_list_all (take d.pending d.symbols) d.pending_symbols)
-          (omega (arith, length-take d.pending d.symbols, d.few_pending)) d.few_padding going refl),
-    )
+loop-chunk-init g c = grind (arith, chunks_none, feeds_none, every_list_all, length-take)
 
 pub returns-then-has_failed-clause-fed : goal.returns-then-has_failed-clause-fed
 returns-then-has_failed-clause-fed g c =
