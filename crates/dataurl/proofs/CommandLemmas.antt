@@ -1,6 +1,6 @@
 -- The words of the commands.
 use Rattle.std.proofs.Common.{◌≡◌, ℕ, ◌<◌, ◌≤◌, List, [], ◌∷◌, get_or, length, map, None, String, string_bytes, codes}
-use Rattle.std.proofs.Common.{sym, ap, ◌∙◌, not-suc-le-zero, le_of_suc-le-suc}
+use Rattle.std.proofs.Common.{sym, ap, not-suc-le-zero, le_of_suc-le-suc}
 use Rattle.std.proofs.lemmas.Bool.{cond-false}
 use Rattle.data_url.proofs.api.{test_from_different}
 use Rattle.dataurl.specs.Command.{command_of_word, command_of_words}

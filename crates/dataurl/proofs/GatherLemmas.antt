@@ -1,6 +1,6 @@
 -- Gathering the pieces of an output, and runs of a closure that gathers them.
 use Rattle.std.proofs.Common.{◌≡◌, ℕ, List, [], ◌∷◌, ◌++◌, take, Option, None, Some, Result, Ok, Err, refl, sym, ap}
-use Rattle.std.proofs.Common.{◌∙◌, append_assoc, subst}
+use Rattle.std.proofs.Common.{append_assoc, subst}
 use Rattle.std.specs.Prelude.{IsErr, MatchOption, MatchResult}
 use Rattle.std.specs.Io.KnownBytes.{Appends}
 use Rattle.std.proofs.lemmas.List.{append-nil}

@@ -1,5 +1,5 @@
 -- The length of a body, as a `usize`.
-use Rattle.std.proofs.Common.{◌≡◌, ℕ, ◌<◌, ◌-◌, ◌^◌, min, List, length, Option, Ok, refl, ap, ◌∙◌, arith}
+use Rattle.std.proofs.Common.{◌≡◌, ℕ, ◌<◌, ◌^◌, List, length, Option, Ok, ap, ◌∙◌, arith}
 use Rattle.data_url.specs.Fetch.{Accepted, Bad, Good, Outcome, outcome_bytes, staged}
 use Rattle.data_url.specs.DataUrl.{IsUrlOf, url_body}
 use Rattle.data_url.specs.declared.DataUrl.{DataUrl}

@@ -1,7 +1,7 @@
 -- What is written to a sink of a piece, and of the pieces of a body.
 use Rattle.std.proofs.Common.{◌≡◌, ℕ, ◌<◌, ◌+◌, ◌-◌, List, [], ◌++◌, length, take, drop, Option, None, Some, Result, Ok}
 use Rattle.std.proofs.Common.{Err, refl, sym, ap, ◌∙◌, append_assoc, take-append-drop, take_all, length-drop, le_of_eq}
-use Rattle.std.proofs.Common.{subst, arith, length-append}
+use Rattle.std.proofs.Common.{arith, length-append}
 use Rattle.std.proofs.lemmas.List.{append-nil}
 use Rattle.std.specs.Io.KnownBytes.{Appends, Keeps}
 use Rattle.data_url.specs.DataUrl.{Decodes}

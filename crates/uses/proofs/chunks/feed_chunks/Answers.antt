@@ -1,4 +1,4 @@
-use Rattle.std.proofs.Common.{arith, ◌≡◌, ◌∙◌, Bor, List, ℕ, false, true, not, [], take, drop, get_or, refl, sym, subst}
+use Rattle.std.proofs.Common.{arith, ◌≡◌, ◌∙◌, Bor, List, ℕ, false, true, not, [], take, drop, get_or, sym, subst}
 use Rattle.std.proofs.Common.{length-take, take-append-drop}
 use Rattle.std.proofs.lemmas.List.{take_more}
 use Rattle.std.specs.Fn.{CalledAt}

@@ -1,5 +1,4 @@
-use Rattle.std.proofs.Common.{◌∙◌, arith, sym}
-use Rattle.uses.specs.Ranks.{rank_for}
+use Rattle.std.proofs.Common.{arith}
 use Rattle.uses.proofs.RankLemmas.{leads_higher, leads_no_higher, rank_at}
 use Rattle.uses.proofs.negotiation.best.Goals as goal
 use Rattle.uses.proofs.negotiation.best.Goals.{then-highest-rank, else-highest-rank}
