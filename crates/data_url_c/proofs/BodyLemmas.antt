@@ -60,7 +60,21 @@ pub takes_nothing : (s : DataUrlBase64) (out : List ℕ) → is_good_state s ≡
     → TakesText (waiting_text s ++ []) s out out 0 0
 unfolding fault_byte
 takes_nothing s out h size =
-    grind (arith, good_parts, every_list_all, length-take-le, none_fault, fault_more, done_more, groups_few, length-map, left_more, append-nil, after_few, padding_more)
+    grind (
+      arith,
+      good_parts,
+      every_list_all,
+      length-take-le,
+      none_fault,
+      fault_more,
+      done_more,
+      groups_few,
+      length-map,
+      left_more,
+      append-nil,
+      after_few,
+      padding_more,
+    )
 
 -- before the first piece nothing was fed
 pub fed_none : (s : DataUrlBase64) (text out : List ℕ) → is_good_state s ≡ true → length s.symbols ≡ 3

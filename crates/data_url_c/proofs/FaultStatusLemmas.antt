@@ -83,11 +83,15 @@ pub kind_here : (s : DataUrlBase64) (text : List ℕ) (padded : Bool) (at c : �
     → kind_of (waiting_text s ++ text) ≡ cond (is_symbol c) AlphabetSymbolAfterPadding (UnexpectedSymbol c)
 kind_here s text padded at c g h l e f = let q = take s.pending s.symbols in
     let every : Every is_symbol q = every_from_all is_symbol q (good_parts s g).symbols in
-    let found : fault_byte padded (drop at text) ≡ Some c = cc (drop_more text at 0 l, fault-append_some (c ∷ []) (drop (at + 1) text) padded c f) in
+    let found : fault_byte padded (drop at text) ≡ Some c = cc (
+      drop_more text at 0 l,
+      fault-append_some (c ∷ []) (drop (at + 1) text) padded c f,
+    ) in
     kind_fault (waiting_text s ++ text) c (fault_more q s.padding every text ∙ sym h ∙ found)
 
 -- if no earlier byte is a fault, and the byte at an index is a symbol after padding, the status is 10
-pub fault_after_padding : (s : DataUrlBase64) (text : List ℕ) (at c : ℕ) → is_good_state s ≡ true → GoesOn s text true at
+pub fault_after_padding : (s : DataUrlBase64) (text : List ℕ) (at c : ℕ) → is_good_state s
+    ≡ true → GoesOn s text true at
     → at < length text
     → c ≡ get_or text at 0 → is_symbol c ≡ true → 10 ≡ status_of_kind (kind_of (waiting_text s ++ text))
 fault_after_padding s text at c g h l e k =

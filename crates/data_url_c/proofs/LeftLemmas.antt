@@ -22,7 +22,7 @@ use Rattle.data_url_c.proofs.PartLemmas.{good_parts, taken_sound}
 -- a text has at most as many symbols as bytes
 pub filter_length : (t : List ℕ) → length (filter is_symbol t) ≤ length t
 filter_length [] = omega arith
-filter_length (c ∷ t) = grind (arith, (filter_length t))
+filter_length (c ∷ t) = grind (arith, filter_length t)
 
 -- a prefix has at most as many symbols as the whole
 before_length : (u : List ℕ) (o : Option ℕ) → length (filter is_symbol (before_place u o)) ≤ length (filter is_symbol u)
@@ -100,7 +100,11 @@ pub found_all : (waiting s last : List ℕ) (missing at : ℕ) → missing ≡ 0
     → (front : List ℕ) × (waiting ++ filter is_symbol s ≡ front ++ last)
 found_all waiting s last missing at z h = (
   waiting ++ filter is_symbol (take at s),
-  cc (take-append-drop at s, filter-append is_symbol (take at s) (drop at s), append_assoc waiting (filter is_symbol (take at s)) (filter is_symbol (drop at s))),
+  cc (
+    take-append-drop at s,
+    filter-append is_symbol (take at s) (drop at s),
+    append_assoc waiting (filter is_symbol (take at s)) (filter is_symbol (drop at s)),
+  ),
 )
 
 -- if the text has no more symbols, exactly the symbols that were left over before are missing
@@ -174,7 +178,7 @@ counted_left s r t count pads h c p e f l m g =
 -- no byte is a symbol and padding
 symbols_and_pads : (t : List ℕ) → length (filter is_symbol t) + length (filter (λ c. eqb c 61) t) ≤ length t
 symbols_and_pads [] = omega arith
-symbols_and_pads (c ∷ t) = grind (arith, (symbols_and_pads t))
+symbols_and_pads (c ∷ t) = grind (arith, symbols_and_pads t)
 
 -- a text whose groups use each of its bytes
 pub nothing_left : (u : List ℕ) (s : DataUrlBase64) (bytes len : ℕ) → first_fault u ≡ None → bytes ≡ length u

@@ -223,7 +223,8 @@ default_is = inr (no_record, refl)
 
 default_by : (t : List ℕ) {old new : List ℕ} {r : DataUrlAnswer} → Global → IsBytes (trimmed_text (scheme ++ 44 ∷ t))
     → Shows 0 default_text old new r → IsReadUrl (scheme ++ 44 ∷ t) (trimmed_tail t) old new r false
-default_by t memory d h = let with = same_header scheme qq t [] (ends scheme no_comma_in_scheme) (bytes_probe scheme bytes_scheme) d no_header
+default_by t memory d h =
+    let with = same_header scheme qq t [] (ends scheme no_comma_in_scheme) (bytes_probe scheme bytes_scheme) d no_header
     is_accepted in
     record {
       header = [];
@@ -248,7 +249,11 @@ default_read x items comma found {old} {new} {r} memory b p same f g h = let t =
     let is : x ≡ scheme ++ 44 ∷ t =
     (starts_is Decides-eqb x (codes "data:,") found (f ∙ ap (λ s. starts_with nat_eq s (codes "data:,")) same)).0 g in
     let cut = cut_at x comma p in
-    let same_front : take comma x ≡ scheme = cc (before_at 44 (take comma x) (drop (comma + 1) x) (none_before x comma p), before_at 44 scheme t no_comma_in_scheme) in
+    let same_front : take comma x ≡ scheme = cc (
+      before_at 44 (take comma x) (drop (comma + 1) x) (none_before x
+          comma p),
+      before_at 44 scheme t no_comma_in_scheme,
+    ) in
     let at = (at_comma x comma p).0 in
     let five : comma ≡ 5 = omega (arith, at, ap length same_front, length-take comma x) in
     let d : IsBytes (trimmed_text (scheme ++ 44 ∷ t)) = subst (λ y. IsBytes (trimmed_text y)) is (bytes_trimmed x b) in

@@ -89,7 +89,12 @@ module _ {F E : Type 0} (step : F → List ℕ → Result (Unit {0}) E → F →
       → Reaches out b (bytes f) (len f) → Reaches out (b ++ joined_pieces cs) (bytes g) (len g)
   run_reaches out [] b f g ran h = grind (arith, append-nil)
   run_reaches out (c ∷ cs) b f g ran h =
-      grind (arith, append_assoc, (run_reaches out cs (b ++ c.piece) c.after g ran.2 (reaches_more out b (bytes f) c.piece (bytes c.after) (len f) (len c.after) h (writes f c.piece c.answer c.after ran.0))))
+      grind (
+        arith,
+        append_assoc,
+        run_reaches out cs (b ++ c.piece) c.after g ran.2 (reaches_more out b (bytes f)
+            c.piece (bytes c.after) (len f) (len c.after) h (writes f c.piece c.answer c.after ran.0)),
+      )
 
 -- What was decoded
 
@@ -128,7 +133,7 @@ module _ {F G E : Type 0} (inner : G → List ℕ → Result (Unit {0}) E → G 
   pub outer_ran : (cs : List (Call G E)) (f g : G) → IsRun inner f cs g → IsRun outer (K f) (outer_calls cs) (K g)
   unfolding outer_calls
   outer_ran [] f g ran = ap K ran
-  outer_ran (c ∷ cs) f g ran = grind (arith, (outer_ran cs c.after g ran.2))
+  outer_ran (c ∷ cs) f g ran = grind (arith, outer_ran cs c.after g ran.2)
 
   -- these calls have the same pieces
   pub outer_joined : (cs : List (Call G E)) → joined_pieces (outer_calls cs) ≡ joined_pieces cs
@@ -252,12 +257,17 @@ fault_cases u (Some c) e h = (c, e)
 -- a fault stays, whatever follows
 pub takes_fault : {u : List ℕ} {s : DataUrlBase64} {out out' : List ℕ} {status n : ℕ} (b : List ℕ)
     → TakesText u s out out' status n → (status ≡ 0 → ⊥) → TakesText (u ++ b) s out out' status n
-takes_fault {u} {s} {out} {out'} {status} {n} b h e = let k = faulty_by (first_fault u) (kind_of u) status (IsLeftOf u s) (is_good_state s ≡ false) h.ended e in
+takes_fault {u} {s} {out} {out'} {status} {n} b h e =
+    let k = faulty_by (first_fault u) (kind_of u) status (IsLeftOf u s) (is_good_state s ≡ false) h.ended e in
     let f = fault_cases u (fault_byte false u) refl (sym (fault_some u) ∙ k.0) in
     let W : List ℕ → Type 0 = λ x. WritesFront x out out' n in
     record {
       wrote = subst W (sym (done_stays u b f.0 f.1)) h.wrote;
-      ended = match_some (first_fault (u ++ b)) _ _ (cc (fault_some (u ++ b), fault-append_some u b false f.0 f.1)) (k.1 ∙ ap status_of_kind (kind_stays u b f.0 f.1), k.2);
+      ended =
+          match_some (first_fault (u ++ b)) _ _ (cc (
+            fault_some (u ++ b),
+            fault-append_some u b false f.0 f.1,
+          )) (k.1 ∙ ap status_of_kind (kind_stays u b f.0 f.1), k.2);
     }
 
 -- Two parts of one text

@@ -154,7 +154,11 @@ too_short x w h l = elim (cases_Bool (spelled (x ++ 44 ∷ w))) [
       let is : map to_ascii_lowercase (take 5 (without_tabs_and_newlines (x ++ 44 ∷ w))) ≡ codes "data:" =
       (bytes_eq-Decides _ (codes "data:")).0 e in
       let five : 5 ≡ length y + suc (4 - length y) = omega (arith, l) in
-      let cut : take 5 (without_tabs_and_newlines (x ++ 44 ∷ w)) ≡ y ++ 44 ∷ take (4 - length y) v = cc (dropped_around 44 refl x w, take-append-add y (44 ∷ v) (suc (4 - length y))) in
+      let cut : take 5 (without_tabs_and_newlines (x ++ 44 ∷ w))
+      ≡ y ++ 44 ∷ take (4 - length y) v = cc (
+        dropped_around 44 refl x w,
+        take-append-add y (44 ∷ v) (suc (4 - length y)),
+      ) in
       let none : after 44 (y ++ 44 ∷ take (4 - length y) v) ≡ None =
       sym (ap (after 44) cut) ∙ lacks_comma _ (ap (after 44) is ∙ no_comma_in_scheme) in
       let some = after_at 44 y (take (4 - length y) v) (after-dropped_none 44 refl x h) in
@@ -216,7 +220,8 @@ front_lacks_comma s (Some rest) e h =
 front_stays : (s rest t : List ℕ) → after 35 s ≡ Some rest → front (s ++ t) ≡ front s
 unfolding front
 front_stays s rest t e =
-    let cut = is_cut 35 s rest e in cc (append_assoc (before 35 s) (35 ∷ rest) t, before_at 35 (before 35 s) (rest ++ t) cut.lacks)
+    let cut = is_cut 35 s rest e in
+    cc (append_assoc (before 35 s) (35 ∷ rest) t, before_at 35 (before 35 s) (rest ++ t) cut.lacks)
 
 accepted_with : (a t : List ℕ) (s : HasScheme (trimmed_front a)) → after 44 s.rest ≡ None → after 35 s.rest ≡ None
     → IsBytes (trimmed_text (a ++ 44 ∷ t))

@@ -28,7 +28,8 @@ use Rattle.data_url_c.proofs.WindowLemmas.{body_cut, body_fragment}
 tail_window : {tail window : List ℕ} {from end : ℕ} → IsWindowOf tail from window end
     → drop from tail ≡ window ++ drop end tail
 tail_window {tail} {window} {from} {end} h = let order = h.order in
-    let whole : from + (end - from) ≡ end = omega arith in cc (take-append-drop (end - from) (drop from tail), drop-drop (end - from) from tail)
+    let whole : from + (end - from) ≡ end = omega arith in
+    cc (take-append-drop (end - from) (drop from tail), drop-drop (end - from) from tail)
 
 some_fragment : (o : Option (List ℕ)) → true ≡ is_some o → (r : List ℕ) × (o ≡ Some r)
 some_fragment None e = absurd (cc)
@@ -51,7 +52,8 @@ body_last {tail} {window} {from} {end} h f (inr e) =
 
 -- any other window holds a prefix of it
 pub body_first : {tail window : List ℕ} {from end : ℕ} {there : Bool} → IsWindowOf tail from window end
-    → there ≡ is_some (after_first 35 window) → there ≡ false → plain_body (drop from tail) ≡ plain_body window ++ plain_body
+    → there ≡ is_some (after_first 35 window) → there ≡ false → plain_body (drop from tail)
+    ≡ plain_body window ++ plain_body
     (drop end tail)
 body_first {tail} {window} {from} {end} h f e = ap plain_body (tail_window h)
     ∙ body_cut window (drop end tail) h.cut (no_fragment (after_first 35 window) (sym e ∙ f))
@@ -94,10 +96,12 @@ plain_ends {tail} {window} {before} {after} {end} {len} {there} {new} old w h e 
 
 -- any other window of a plain body
 pub plain_more : {tail window before after : List ℕ} {end len : ℕ} {there : Bool} (old new : DataUrlBody)
-    → IsWindowOf tail old.from window end → IsGoodBody tail old → old.is_base64 ≡ 0 → there ≡ is_some (after_first 35 window)
+    → IsWindowOf tail old.from window end → IsGoodBody tail old → old.is_base64 ≡ 0 → there
+    ≡ is_some (after_first 35 window)
     → there ≡ false → (end ≡ length tail → ⊥) → WritesFront (plain_body window) before after len → new.from ≡ end
     → new.left ≡ old.left → new.is_base64 ≡ old.is_base64 → GoesOn tail old new before after len 11
-plain_more {tail} {window} {before} {after} {end} {len} old new w h e f none ne wrote from left flag = let good : IsGoodBody tail new = good_at h from left flag w.edge in
+plain_more {tail} {window} {before} {after} {end} {len} old new w h e f none ne wrote from left flag =
+    let good : IsGoodBody tail new = good_at h from left flag w.edge in
     let rest : plain_body (drop new.from tail) ≡ plain_body (drop end tail) = ap (λ n. plain_body (drop n tail)) from in
     let far : old.from < new.from = omega (arith, further w ne, from) in
     more wrote good flag far
@@ -154,7 +158,8 @@ pub base64_more : {tail window before after : List ℕ} {end len status : ℕ} {
     → IsWindowOf tail old.from window end → 0 < old.is_base64 → there ≡ is_some (after_first 35 window) → there ≡ false
     → (end ≡ length tail → ⊥) → TakesText (waiting_text old.left ++ plain_body window) new.left before after status len
     → status ≡ 0 → new.from ≡ end → new.is_base64 ≡ old.is_base64 → GoesOn tail old new before after len 11
-base64_more {tail} {window} {before} {after} {end} {len} old new w l f none ne h z from flag = let u : List ℕ = waiting_text old.left ++ plain_body window in
+base64_more {tail} {window} {before} {after} {end} {len} old new w l f none ne h z from flag =
+    let u : List ℕ = waiting_text old.left ++ plain_body window in
     let rest : List ℕ = plain_body (drop end tail) in
     let sound = taken_sound h z in
     let C : ℕ → Type 0 = λ n. IsCharBoundary tail n in
@@ -167,7 +172,10 @@ base64_more {tail} {window} {before} {after} {end} {len} old new w l f none ne h
     let far : old.from < new.from = omega (arith, further w ne, from) in
     let on : flag_of old ≡ true = flag_base64 old.is_base64 l in
     let later : flag_of new ≡ true = ap (λ n. not (n == 0)) flag ∙ on in
-    let whole : waiting_text old.left ++ plain_body (drop old.from tail) ≡ u ++ rest = cc (body_first w f none, append_assoc (waiting_text old.left) (plain_body window) rest) in
+    let whole : waiting_text old.left ++ plain_body (drop old.from tail) ≡ u ++ rest = cc (
+      body_first w f none,
+      append_assoc (waiting_text old.left) (plain_body window) rest,
+    ) in
     more h.wrote good flag far
     (cc (outcome_more rest h z))
 

@@ -88,7 +88,16 @@ begins_before (b ∷ t) h = grind arith
 pub body_cut : (a b : List ℕ) → IsCut a b → after 35 a ≡ None → plain_body (a ++ b) ≡ plain_body a ++ plain_body b
 unfolding plain_body front
 body_cut a b h n =
-    grind (arith, after-dropped_none, without_tabs_and_newlines-append, before-append, before_all, decode_closed, decode_before, begins_before)
+    grind (
+      arith,
+      after-dropped_none,
+      without_tabs_and_newlines-append,
+      before-append,
+      before_all,
+      decode_closed,
+      decode_before,
+      begins_before,
+    )
 
 -- a window with a fragment holds the whole body
 pub body_fragment : (a b r : List ℕ) → after 35 a ≡ Some r → plain_body (a ++ b) ≡ plain_body a
@@ -129,7 +138,8 @@ pub scan_closed : (window : List ℕ) (at kept : ℕ) → kept ≡ length (witho
     → is_closed (without_tabs_and_newlines window) ≡ true
 scan_closed window at kept e few h (inl z) = grind (arith, few_closed)
 scan_closed window at kept e few h (inr two) = let last : List ℕ = without_tabs_and_newlines (drop at window) in
-    let all : without_tabs_and_newlines window ≡ without_tabs_and_newlines (take at window) ++ last = cc (take-append-drop at window, without_tabs_and_newlines-append (take at window) (drop at window)) in
+    let all : without_tabs_and_newlines window ≡ without_tabs_and_newlines (take at window) ++ last = cc
+    (take-append-drop at window, without_tabs_and_newlines-append (take at window) (drop at window)) in
     ap is_closed all ∙ ends_closed (without_tabs_and_newlines (take at window)) last (omega (arith, e)) h
 
 drop_next : (s : List ℕ) (i b : ℕ) → i < length s → b ≡ get_or s i 0 → drop i s ≡ b ∷ drop (i + 1) s
@@ -267,7 +277,7 @@ decoded_shorter (a ∷ b ∷ c ∷ s) =
 before_shorter : (s : List ℕ) → length (before 35 s) ≤ length s
 unfolding before
 before_shorter [] = omega arith
-before_shorter (b ∷ s) = grind (arith, (before_shorter s))
+before_shorter (b ∷ s) = grind (arith, before_shorter s)
 
 -- a body is not longer than its text without tabs and newlines
 body_within : (s : List ℕ) → length (plain_body s) ≤ length (without_tabs_and_newlines s)

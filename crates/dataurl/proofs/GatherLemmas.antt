@@ -88,7 +88,11 @@ then_more : (later : Option WriteFailed) (before piece rest mid after w k : List
     (λ failed. IsProperPrefix (w ++ k) (before ++ (piece ++ rest)))
 then_more None before piece rest mid after w k e h =
     cc (append_assoc before piece rest, append_assoc w mid rest, append_assoc w k after)
-then_more (Some failed) before piece rest mid after w k e h = let same : w ++ (mid ++ rest) ≡ before ++ (piece ++ rest) = cc (append_assoc w mid rest, append_assoc before piece rest) in
+then_more (Some failed) before piece rest mid after w k e h =
+    let same : w ++ (mid ++ rest) ≡ before ++ (piece ++ rest) = cc (
+      append_assoc w mid rest,
+      append_assoc before piece rest,
+    ) in
     let P : List ℕ → Type 0 = λ s. IsProperPrefix (w ++ k) s in
     subst P same (beginning_after w k (mid ++ rest) h)
 

@@ -166,8 +166,10 @@ stopped_ends : (x : List ℕ) (left : Option (List ℕ)) (bytes after w k : List
     → MatchOption o ((r ≡ Ok tt) × P) (λ place. r ≡ Err (InvalidBase64 (kind_of x))) → bytes ≡ w ++ after
     → IsSettled r after k end → IsResult x left base64 (w ++ k) end
 stopped_ends x left bytes after w k r error end P None f q sound b h e s = absurd (let k = h.0 in cc)
-stopped_ends x left bytes after w k r error end P (Some place) f q sound b h e s = let Q : Result (Unit {0}) (DecodeError WriteFailed) → Type 0 = λ x. IsSettled x after k end in
-    flush_stops x left after w k (Err (Base64 (kind_of x))) end sound (stopped_at_fault sound (ap is_some f)) (cc) (subst Q h s)
+stopped_ends x left bytes after w k r error end P (Some place) f q sound b h e s =
+    let Q : Result (Unit {0}) (DecodeError WriteFailed) → Type 0 = λ x. IsSettled x after k end in
+    flush_stops x left after w k (Err (Base64 (kind_of x))) end sound (stopped_at_fault sound (ap is_some f)) (cc)
+    (subst Q h s)
 
 stopped_result : {F : Type 0} (refused : Option WriteFailed) (x : List ℕ) (left : Option (List ℕ))
     (bytes after w k : List ℕ) (r : Result (Unit {0}) (DecodeError WriteFailed)) (error : DecodeError WriteFailed)
@@ -250,7 +252,8 @@ module _ {F : Type 0} {step : F → List ℕ → Result (Unit {0}) WriteFailed �
       elim (decoded_or r e d.is_decoded) [
         | inl h ↦
             runs_by holds waits gathers h.2.run g d.input s.written h.2.ran refl z d.consumed s.appended
-            (λ w took. finished_result (refusal h.2.run) d.input left (joined_pieces h.2.run) (waits g) w s.written r end
+            (λ w took. finished_result (refusal h.2.run) d.input left (joined_pieces h.2.run) (waits g) w s.written r
+            end
             h.0 h.1 h.2.gave took s.is_settled)
         | inr h ↦
             let fed = h.3.fed in

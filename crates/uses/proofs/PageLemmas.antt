@@ -75,14 +75,16 @@ scheme_front (suc (suc (suc (suc (suc k))))) s e = (take k s, refl)
 
 no_quote_before : (rest : List ℕ) (k : ℕ) → k < length rest → ((m : ℕ) → m < k → get_or rest m 0 ≢ 34)
     → (xs ys : List ℕ) → take k rest ≢ xs ++ (34 ∷ ys)
-no_quote_before rest k within none xs ys e = let few : length xs < k = omega (arith, ap length e, length-append xs (34 ∷ ys), length-take k rest) in
+no_quote_before rest k within none xs ys e =
+    let few : length xs < k = omega (arith, ap length e, length-append xs (34 ∷ ys), length-take k rest) in
     none (length xs) few (cc (get_or-take k rest (length xs) 0 few, get_or-append_seam xs 34 ys 0))
 
 -- if a reference is opened, and the next '"' is at an index of the rest, the text between is the reference
 pub is_reference : (page rest : List ℕ) (place k : ℕ) → OpenedAt page place → rest ≡ drop (place + 2) page
     → k < length rest → get_or rest k 0 ≡ 34 → ((m : ℕ) → m < k → get_or rest m 0 ≢ 34)
     → IsReference page (take (place + 2) page) (take k rest) (drop k rest)
-is_reference page rest place k o r within quote none = let rest_is : rest ≡ codes "data:" ++ o.rest = r ∙ sym (drop-drop 2 place page) ∙ ap (λ s. drop 2 s) o.split in
+is_reference page rest place k o r within quote none =
+    let rest_is : rest ≡ codes "data:" ++ o.rest = r ∙ sym (drop-drop 2 place page) ∙ ap (λ s. drop 2 s) o.split in
     let scheme = scheme_front k o.rest (ap (λ s. get_or s k 0) (sym rest_is) ∙ quote) in
     record {
       joined = cc (take-append-drop (place + 2) page, take-append-drop k rest);
@@ -112,7 +114,7 @@ inlined_source reference (Refused s reason) h = h.0
 pub sources_join : (page : List ℕ) (parts : List Part) → IsPage page parts → flat_map source_of parts ≡ page
 sources_join page [] h = absurd h
 sources_join page (text ∷ []) h = append-nil (source_of text) ∙ text_source page text h.0
-sources_join page (text ∷ part ∷ parts) h = grind (arith, text_source, inlined_source, (sources_join h.2 parts h.6))
+sources_join page (text ∷ part ∷ parts) h = grind (arith, text_source, inlined_source, sources_join h.2 parts h.6)
 
 -- the parts of the rest follow the parts so far
 pub record Going (page rest : List ℕ) (parts : List Part) : Type 0 where

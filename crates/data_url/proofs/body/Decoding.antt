@@ -65,7 +65,8 @@ module _ {F E : Type 0} (step : F → List ℕ → Result (Unit {0}) E → F →
   -- if the walk takes bytes, and the closure accepts them, the run with that call is `Going` for the walk after it
   pub going_more : {f g h : F} {text bytes : List ℕ} {w w' : Walk} → Going f text w g → Takes w bytes w'
       → step g bytes (Ok tt) h → Going f text w' h
-  going_more {f} {g} {h} {text} {bytes} {w} {w'} k t s = let call : List (Call F E) = record { piece = bytes; answer = Ok tt; after = h } ∷ [] in
+  going_more {f} {g} {h} {text} {bytes} {w} {w'} k t s =
+      let call : List (Call F E) = record { piece = bytes; answer = Ok tt; after = h } ∷ [] in
       let longer : length (k.run ++ call) ≡ length k.run + 1 = length-append k.run call ∙ omega arith in
       let calls = k.calls in
       let some = t.some in
@@ -94,7 +95,8 @@ module _ {F E : Type 0} (step : F → List ℕ → Result (Unit {0}) E → F →
   pub going_refused : {f g h : F} {text bytes : List ℕ} {w w' : Walk} (e : E) → Going f text w g → Takes w bytes w'
       → step g bytes (Err e) h → Decodes step f (length text) (Good (plain_body text)) (IsBodyEnd text)
       (Err (WriteError e)) h
-  going_refused {f} {g} {h} {text} {bytes} {w} {w'} e k t s = let call : List (Call F E) = record { piece = bytes; answer = Err e; after = h } ∷ [] in
+  going_refused {f} {g} {h} {text} {bytes} {w} {w'} e k t s =
+      let call : List (Call F E) = record { piece = bytes; answer = Err e; after = h } ∷ [] in
       let longer : length (k.run ++ call) ≡ length k.run + 1 = length-append k.run call ∙ omega arith in
       let calls = k.calls in
       let some = t.some in
@@ -103,7 +105,10 @@ module _ {F E : Type 0} (step : F → List ℕ → Result (Unit {0}) E → F →
       let size = ap length same in
       let within = t.within in
       let last : refusal (k.run ++ call) ≡ Some e = refusal-append k.run call k.accepted in
-      let all : joined_pieces (k.run ++ call) ≡ joined_pieces k.run ++ bytes = cc (joined_pieces-append k.run call, append-nil bytes) in
+      let all : joined_pieces (k.run ++ call) ≡ joined_pieces k.run ++ bytes = cc (
+        joined_pieces-append k.run call,
+        append-nil bytes,
+      ) in
       record {
         run = k.run ++ call;
         ran = run-append step k.run call f g h k.ran k.accepted (s, λ e. refl, refl);
@@ -118,12 +123,12 @@ module _ {F E : Type 0} (step : F → List ℕ → Result (Unit {0}) E → F →
 dropped_shorter : (s : List ℕ) → length (without_tabs_and_newlines s) ≤ length s
 unfolding without_tabs_and_newlines
 dropped_shorter [] = omega arith
-dropped_shorter (b ∷ s) = grind (arith, (dropped_shorter s))
+dropped_shorter (b ∷ s) = grind (arith, dropped_shorter s)
 
 before_shorter : (c : ℕ) (s : List ℕ) → length (before c s) ≤ length s
 unfolding before
 before_shorter c [] = omega arith
-before_shorter c (b ∷ s) = grind (arith, (before_shorter c s))
+before_shorter c (b ∷ s) = grind (arith, before_shorter c s)
 
 percent_shorter : (s : List ℕ) → length (percent_decoding s) ≤ length s
 unfolding percent_decoding
@@ -450,7 +455,7 @@ body_extends {f = f} d e measure accepts refuses =
 
 symbols_shorter : (s : List ℕ) → length (filter is_symbol s) ≤ length s
 symbols_shorter [] = omega arith
-symbols_shorter (b ∷ s) = grind (arith, (symbols_shorter s))
+symbols_shorter (b ∷ s) = grind (arith, symbols_shorter s)
 
 values_shorter : (s : List ℕ) → length (values s) ≤ length s
 unfolding values

@@ -28,9 +28,15 @@ pub marks_are : (others v low high : List ℕ) → length v ≡ 16 → low ≡ m
     → mask_l (map (top 7) (zip2 (λ a b. cond (differs a b) 255 0) (zip2 bit_and low high)
     (0 ∷ 0 ∷ 0 ∷ 0 ∷ 0 ∷ 0 ∷ 0 ∷ 0 ∷ 0 ∷ 0 ∷ 0 ∷ 0 ∷ 0 ∷ 0 ∷ 0 ∷ 0 ∷ []))) % 2 ^ 64 ≡ mask_l
     (map (is_marked others) v)
-marks_are others v low high long p q = let column : ℕ → ℕ = λ b. bit_and (get_or others (bit_and b 15) 0) (get_or COLUMNS (b / 16) 0) in
+marks_are others v low high long p q =
+    let column : ℕ → ℕ = λ b. bit_and (get_or others (bit_and b 15) 0) (get_or COLUMNS (b / 16) 0) in
     let marks : zip2 bit_and low high ≡ map column v = joined bit_and (λ b. get_or others (bit_and b 15) 0)
-    (λ b. get_or COLUMNS (b / 16) 0) v p q in cc (bitmask_splat w8 differs (zip2 bit_and low high) 16 0 (ap length marks ∙ length-map v column ∙ long) (omega arith), map-map (λ x. differs x 0) column v)
+    (λ b. get_or COLUMNS (b / 16) 0) v p q in
+    cc (
+      bitmask_splat w8 differs (zip2 bit_and low high) 16 0 (ap length marks ∙ length-map v column
+          ∙ long) (omega arith),
+      map-map (λ x. differs x 0) column v,
+    )
 
 -- the bytes before a place are of a class
 pub record Looked (others bytes : List ℕ) (at : ℕ) : Type 0 where

@@ -71,7 +71,13 @@ other_test b l h = agree_below_at
     (λ b. true) 256 b refl l
 
 digit_other : (b : ℕ) (s : List ℕ) → b < 256 → 16 < digit_code b → digit (b ∷ s) ≡ None
-digit_other b s l h = let k : (not (is_tab_or_newline b) && not (is_ascii_hexdigit b)) ≡ true = cc (cond-true (ltb 16 (digit_code b)) (not (is_tab_or_newline b) && not (is_ascii_hexdigit b)) true (lt-ltb 16 (digit_code b) h), other_test b l h) in
+digit_other b s l h =
+    let k : (not (is_tab_or_newline b) && not (is_ascii_hexdigit b))
+    ≡ true = cc (
+      cond-true (ltb 16 (digit_code b)) (not (is_tab_or_newline b) && not (is_ascii_hexdigit b)) true
+          (lt-ltb 16 (digit_code b) h),
+      other_test b l h,
+    ) in
     let tab = both_left (is_tab_or_newline b) (not (is_ascii_hexdigit b)) k in
     let hex : is_ascii_hexdigit b ≡ false =
     not_true (is_ascii_hexdigit b) (both_right (is_tab_or_newline b) (not (is_ascii_hexdigit b)) k) in

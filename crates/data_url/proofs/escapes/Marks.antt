@@ -41,7 +41,12 @@ copied room text mid post block len width start l w h m b = let d = length-drop 
     let long : length (take 64 (drop start text)) ≡ 64 = length-take-le 64 (drop start text) (omega arith) in
     let size : length block ≡ 64 = ap length b ∙ long in
     let whole : put_chunk 0 mid block ≡ block = put_chunk_whole mid block (m ∙ sym size) in
-    let n : start + width - start ≡ width = omega arith in cc (take_past (take len room) (put_chunk 0 mid block ++ post) len width (length-take-le len room l), take-append-le width (put_chunk 0 mid block) post (let e = ap length whole in omega arith), take-take width 64 (drop start text) w)
+    let n : start + width - start ≡ width = omega arith in
+    cc (
+      take_past (take len room) (put_chunk 0 mid block ++ post) len width (length-take-le len room l),
+      take-append-le width (put_chunk 0 mid block) post (let e = ap length whole in omega arith),
+      take-take width 64 (drop start text) w,
+    )
 
 -- the same for a buffer of 256 bytes, as the code copies the block
 pub copied_wide : (room bytes text : List ℕ) (len width start : ℕ) → length room ≡ 256 → len + 64 ≤ 256 → width ≤ 64
@@ -52,8 +57,10 @@ pub copied_wide : (room bytes text : List ℕ) (len width start : ℕ) → lengt
 copied_wide room bytes text len width start long l w h e = let n : len + 64 - len ≡ 64 = omega arith in
     let k : start + 64 - start ≡ 64 = omega arith in
     let d = length-drop len room in
-    let mid : length (mid_of len (len + 64 - len) room) ≡ 64 = cc (length-take-le (len + 64 - len) (drop len room) (omega arith)) in
-    let block : chunk 0 64 (take (start + 64 - start) (drop start bytes)) ≡ take 64 (drop start text) = cc (take-take 64 64 (drop start bytes) (omega arith)) in
+    let mid : length (mid_of len (len + 64 - len) room) ≡ 64 = cc (length-take-le (len + 64 - len) (drop len room)
+    (omega arith)) in
+    let block : chunk 0 64 (take (start + 64 - start) (drop start bytes))
+    ≡ take 64 (drop start text) = cc (take-take 64 64 (drop start bytes) (omega arith)) in
     copied room text (mid_of len (len + 64 - len) room) (post_of len (len + 64 - len) room)
     (chunk 0 64 (take (start + 64 - start) (drop start bytes))) len width start (omega arith) w h mid block
 
@@ -71,17 +78,20 @@ marks_padded (x ∷ xs) k = ap (λ m. cond (is_marked x) 1 0 + 2 * m) (marks_pad
 pub marks_of_rest : (rest new zeros : List ℕ) (r k : ℕ) → new ≡ rest → zeros ≡ replicate 64 0 → k ≡ length rest
     → r ≡ mask_l (map is_marked (put_mid 0 k zeros new)) → r ≡ mask_l (map is_marked rest)
 marks_of_rest rest new zeros r k e z l h =
-    let tail : drop k zeros ≡ replicate (64 - k) 0 = ap (drop k) z ∙ drop-replicate k 64 0 in cc (marks_padded rest (64 - k))
+    let tail : drop k zeros ≡ replicate (64 - k) 0 = ap (drop k) z ∙ drop-replicate k 64 0 in
+    cc (marks_padded rest (64 - k))
 
 -- the block of a text at a place: a whole one, or the rest of the text
 pub block_whole : (text bytes : List ℕ) (place : ℕ) → bytes ≡ text
     → 64 ≤ length (take (length bytes - place) (drop place bytes))
     → chunk 0 64 (take (64 - 0) (drop 0 (take (length bytes - place) (drop place bytes)))) ≡ slice_range text place
     (min (place + 64) (length text))
-block_whole text bytes place e long = let all : take (length bytes - place) (drop place bytes) ≡ drop place text = cc (take_rest bytes place) in
+block_whole text bytes place e long =
+    let all : take (length bytes - place) (drop place bytes) ≡ drop place text = cc (take_rest bytes place) in
     let n = ap length all in
     let d = length-drop place text in
-    let k : 64 ≡ min (place + 64) (length text) - place = omega arith in cc (take-take 64 64 (drop place text) (omega arith))
+    let k : 64 ≡ min (place + 64) (length text) - place = omega arith in
+    cc (take-take 64 64 (drop place text) (omega arith))
 
 -- if fewer than 64 bytes are left, the block is these bytes
 pub block_part : (text bytes : List ℕ) (place : ℕ) → bytes ≡ text
@@ -99,7 +109,8 @@ pub mask_later : (bs : List Bool) (k : ℕ) → mask_l bs / 2 ^ k ≡ mask_l (dr
 mask_later bs zero = omega arith
 mask_later [] (suc k) = omega arith
 mask_later (b ∷ bs) (suc k) =
-    let p : 2 ^ suc k ≡ 2 * 2 ^ k = pow-suc 2 k ∙ mul_comm (2 ^ k) 2 in cc (div-div-eq-div-mul (mask_l (b ∷ bs)) 2 (2 ^ k), mask_half b bs, mask_later bs k)
+    let p : 2 ^ suc k ≡ 2 * 2 ^ k = pow-suc 2 k ∙ mul_comm (2 ^ k) 2 in
+    cc (div-div-eq-div-mul (mask_l (b ∷ bs)) 2 (2 ^ k), mask_half b bs, mask_later bs k)
 
 -- nothing can be taken from the empty list
 pub take_none : (k : ℕ) → ◌≡◌ {A = List ℕ} [] (take k [])
@@ -111,7 +122,7 @@ pub drop_taken : (k n : ℕ) (xs : List ℕ) → drop k (take n xs) ≡ take (n 
 drop_taken zero n xs = let e : n - zero ≡ n = omega arith in ap (λ i. take i xs) (sym e)
 drop_taken (suc k) zero xs = let e : zero - suc k ≡ zero = omega arith in ap (λ i. take i (drop (suc k) xs)) (sym e)
 drop_taken (suc k) (suc n) [] = take_none (suc n - suc k)
-drop_taken (suc k) (suc n) (x ∷ xs) = grind (arith, (drop_taken k n xs))
+drop_taken (suc k) (suc n) (x ∷ xs) = grind (arith, drop_taken k n xs)
 
 -- the marks of the rest of a block
 pub marks_later : (text : List ℕ) (base seen place : ℕ) → base ≤ place → place ≤ seen
@@ -165,12 +176,22 @@ looked_at v long m l = let ll : length (map low_half v) ≡ 64 = length-map v lo
     let j : get_or (map low_half v) m 0 < 16 = omega arith in
     let at = 16 * ((0 + m) / 16) + get_or (map low_half v) m 0 in
     let in_range : at < 64 = omega arith in
-    let same : at % 16 ≡ low_half (get_or v m 0) = omega arith in cc (get_or-swz_l_below w8 16 MARKED 0 (map low_half v) m (omega arith) j, repeats at in_range, get_or-map entry v m 0 0 (omega arith))
+    let same : at % 16 ≡ low_half (get_or v m 0) = omega arith in
+    cc (
+      get_or-swz_l_below w8 16 MARKED 0 (map low_half v) m (omega arith) j,
+      repeats at in_range,
+      get_or-map entry v m 0 0 (omega arith),
+    )
 
 -- a swizzle by the low halves looks up the entry of each byte
 pub looked_up : (v : List ℕ) → length v ≡ 64 → swz_l w8 16 MARKED 0 (lows v) ≡ map entry v
 looked_up v long =
-    cc (lows_are v long, ext_get_or 0 (swz_l w8 16 MARKED 0 (map low_half v)) (map entry v) (length-swz_l w8 16 MARKED 0 (map low_half v) ∙ length-map v low_half ∙ sym (length-map v entry)) (λ m l. looked_at v long m (let k = length-swz_l w8 16 MARKED 0 (map low_half v) in let n = length-map v low_half in omega arith)))
+    cc (
+      lows_are v long,
+      ext_get_or 0 (swz_l w8 16 MARKED 0 (map low_half v)) (map entry v) (length-swz_l w8 16
+          MARKED 0 (map low_half v) ∙ length-map v low_half ∙ sym (length-map v entry)) (λ m l. looked_at v long m (let
+          k = length-swz_l w8 16 MARKED 0 (map low_half v) in let n = length-map v low_half in omega arith)),
+    )
 
 -- an entry is equal to the byte exactly if the byte is marked
 marked_here : (b : ℕ) → b < 256 → eqb (entry b) b ≡ is_marked b
@@ -178,14 +199,19 @@ marked_here b l = agree_below_at (λ b. eqb (entry b) b) is_marked 256 b refl l
 
 marked_each : (v : List ℕ) → Each1 (Fits w8) v → map (λ b. eqb (entry b) b) v ≡ map is_marked v
 marked_each [] h = refl
-marked_each (b ∷ v) h = grind (arith, marked_here, (marked_each v h.1))
+marked_each (b ∷ v) h = grind (arith, marked_here, marked_each v h.1)
 
 -- the mask that lanes compute is that of the marked bytes
 pub marks_are : (v : List ℕ) → length v ≡ 64 → Each1 (Fits w8) v
     → mask_l (map (top 7) (zip2 (λ a b. cond (eqb a b) 255 0) (swz_l w8 16 MARKED 0 (lows v)) v)) % 2 ^ 64 ≡ mask_l
     (map is_marked v)
 marks_are v long fits =
-    cc (tops_compared w8 eqb (swz_l w8 16 MARKED 0 (lows v)) v, zip2_of_maps eqb entry (λ b. b) v (looked_up v long) (sym (map-id v)), marked_each v fits, mask_l-mod (map is_marked v) 64 (let l = length-map v is_marked in omega arith))
+    cc (
+      tops_compared w8 eqb (swz_l w8 16 MARKED 0 (lows v)) v,
+      zip2_of_maps eqb entry (λ b. b) v (looked_up v long) (sym (map-id v)),
+      marked_each v fits,
+      mask_l-mod (map is_marked v) 64 (let l = length-map v is_marked in omega arith),
+    )
 
 -- The next marked byte of a text, by the marks of a block.
 
@@ -225,7 +251,16 @@ pub record IsFound (text : List ℕ) (place seen width : ℕ) : Type 0 where
 found_mark : {text : List ℕ} {place seen marks width : ℕ} → HasMarks text place seen marks → marks ≢ 0
     → width ≡ count_trailing_zeros 64 marks → IsFound text place seen width
 found_mark {text} {place} {seen} {marks} {width} h n e =
-    search (arith, length-drop, length-take-le, trailing_mask_l, run_in_chunk_le, mask_none, run_in_chunk_fails, run_in_chunk_stops)
+    search (
+      arith,
+      length-drop,
+      length-take-le,
+      trailing_mask_l,
+      run_in_chunk_le,
+      mask_none,
+      run_in_chunk_fails,
+      run_in_chunk_stops,
+    )
 
 -- if the marks are not zero, the next mark is as many bytes after the index as the marks have trailing zeros
 pub found : {text : List ℕ} {place seen marks width : ℕ} → HasMarks text place seen marks → (marks ≡ 0 → ⊥)

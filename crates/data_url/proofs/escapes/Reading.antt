@@ -46,7 +46,14 @@ digit_at b s value rest t h e = grind (arith, dropped_keeps, after_other)
 has_digit : (s : List ℕ) (value : ℕ) (rest : List ℕ) → digit s ≡ Some (value, rest) → HasDigit s value rest
 has_digit [] value rest h = grind (arith, digit_nil)
 has_digit (b ∷ s) value rest h = elim (cases_Bool (is_tab_or_newline b)) [
-  | inl e ↦ grind (arith, (has_digit s value rest (sym (digit_tab b s e) ∙ h)), digit_tab, dropped_passes, after_other, no_hash)
+  | inl e ↦ grind (
+    arith,
+    has_digit s value rest (sym (digit_tab b s e) ∙ h),
+    digit_tab,
+    dropped_passes,
+    after_other,
+    no_hash,
+  )
   | inr e ↦ elim (cases_Bool (is_ascii_hexdigit b)) [
     | inl f ↦ grind (arith, digit_at, digit_here, cond-true)
     | inr f ↦ grind (arith, digit_here, cond-false)
@@ -182,7 +189,20 @@ pub body_escape : (s : List ℕ) (value : ℕ) (rest : List ℕ) → escape s �
     → plain_body (37 ∷ s) ≡ value ∷ plain_body rest
 body_escape s value rest h = let e = has_escape s value rest h in
     let front_is : before 35 (without_tabs_and_newlines s) ≡ e.high ∷ e.low ∷ before 35
-    (without_tabs_and_newlines rest) = cc (e.dropped_is, before_other 35 e.high (e.low ∷ without_tabs_and_newlines rest) (hex_no_hash e.high e.high_hex), before_other 35 e.low (without_tabs_and_newlines rest) (hex_no_hash e.low e.low_hex)) in cc (body_of (37 ∷ s) (37 ∷ without_tabs_and_newlines s) (dropped_keeps 37 s refl), before_other 35 37 (without_tabs_and_newlines s) refl, decoded_escape e.high e.low (before 35 (without_tabs_and_newlines rest)) e.high_hex e.low_hex, e.value_is, body_of rest (without_tabs_and_newlines rest) refl)
+    (without_tabs_and_newlines rest) = cc (
+      e.dropped_is,
+      before_other 35 e.high (e.low ∷ without_tabs_and_newlines
+          rest) (hex_no_hash e.high e.high_hex),
+      before_other 35 e.low (without_tabs_and_newlines rest) (hex_no_hash
+          e.low e.low_hex),
+    ) in
+    cc (
+      body_of (37 ∷ s) (37 ∷ without_tabs_and_newlines s) (dropped_keeps 37 s refl),
+      before_other 35 37 (without_tabs_and_newlines s) refl,
+      decoded_escape e.high e.low (before 35 (without_tabs_and_newlines rest)) e.high_hex e.low_hex,
+      e.value_is,
+      body_of rest (without_tabs_and_newlines rest) refl,
+    )
 
 -- a '%' at the front does not change what follows the first '#'
 pub after_percent : (s : List ℕ) → after 35 (37 ∷ s) ≡ after 35 s

@@ -53,7 +53,8 @@ taken_twice (suc n) m (x ∷ xs) = let e : suc (n + m) ≡ suc n + m = omega ari
 pub slice_join : (text : List ℕ) (a b c : ℕ) → a ≤ b → b ≤ c → slice_range text a b ++ slice_range text b c
     ≡ slice_range text a c
 slice_join text a b c l h = let e : a + (b - a) ≡ b = omega arith in
-    let n : b - a + (c - b) ≡ c - a = omega arith in cc (drop-drop (b - a) a text, taken_twice (b - a) (c - b) (drop a text))
+    let n : b - a + (c - b) ≡ c - a = omega arith in
+    cc (drop-drop (b - a) a text, taken_twice (b - a) (c - b) (drop a text))
 
 -- Tabs and newlines
 
@@ -98,7 +99,12 @@ without_tabs_for text from zero l h =
     let e : from ≡ from + zero = omega arith in
     subst P e (without_tabs_none text from)
 without_tabs_for text from (suc n) l h =
-    search (arith, (without_tabs_for text (from + 1) n (omega arith) (λ i x y. h i (omega arith) (omega arith))), without_tabs_then, without_tabs_byte)
+    search (
+      arith,
+      without_tabs_for text (from + 1) n (omega arith) (λ i x y. h i (omega arith) (omega arith)),
+      without_tabs_then,
+      without_tabs_byte,
+    )
 
 -- a stretch without marks has no tab or newline
 pub without_tabs_clear : (text : List ℕ) (from to : ℕ) → from ≤ to → to ≤ length text → IsClear text from to
@@ -449,7 +455,7 @@ pub gathers_byte : {c c' : Cursor} {room : List ℕ} {len b : ℕ} → LooksOn c
     → Reads (text_of c) c.place c'.place (b ∷ []) → len < length room → Gathers c c' room (set room len b) len (len + 1)
 gathers_byte {c} {c'} {room} {len} {b} on r l = grind (arith, take_more_set)
 
--- only the walk goes on, and nothing is written (found by `search`)
+-- only the walk goes on, and nothing is written
 pub gathers_nothing : {c c' : Cursor} {room : List ℕ} {len : ℕ} → LooksOn c c' → Reads (text_of c) c.place c'.place []
     → Gathers c c' room room len len
 gathers_nothing {c} {c'} {room} {len} on r = grind (arith, append-nil)

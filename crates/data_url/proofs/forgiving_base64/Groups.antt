@@ -51,7 +51,12 @@ whole_length (p ∷ q ∷ r ∷ s ∷ rest) h = let e : length rest % 4 ≡ 0 = 
 pub take_groups : (m : ℕ) (x : List ℕ) → 4 * m ≤ length x → take (3 * m) (groups x) ≡ groups (take (4 * m) x)
 take_groups m x h = let front = take (4 * m) x in
     let long : length front ≡ 4 * m = length-take-le (4 * m) x h in
-    let size : length (groups front) ≡ 3 * m = omega (arith, whole_length front (omega arith)) in cc (take-append-drop (4 * m) x, groups_whole front (drop (4 * m) x) (omega arith), take_at (groups front) (groups (drop (4 * m) x)) (3 * m) size)
+    let size : length (groups front) ≡ 3 * m = omega (arith, whole_length front (omega arith)) in
+    cc (
+      take-append-drop (4 * m) x,
+      groups_whole front (drop (4 * m) x) (omega arith),
+      take_at (groups front) (groups (drop (4 * m) x)) (3 * m) size,
+    )
 
 -- A text of symbols
 
@@ -81,7 +86,18 @@ pub fill_symbols : (held block : List ℕ) (n m : ℕ) → n ≤ length block �
     → ((i : ℕ) → Fits w8 (get_or block i 0)) → list_all is_symbol (take (4 * m) block) ≡ true
     → Fills held block (4 * m) (held ++ take (3 * m) (groups (map value_of (take n block))))
 fill_symbols held block n m long few fits all =
-    search (arith, length-take-le, values_symbols, symbols_alone, length-map, take_groups, take-map, take-take, symbols_values, fits_take)
+    search (
+      arith,
+      length-take-le,
+      values_symbols,
+      symbols_alone,
+      length-map,
+      take_groups,
+      take-map,
+      take-take,
+      symbols_values,
+      fits_take,
+    )
 
 -- the first c groups of a row that was written after g groups
 pub row_held : (old new bytes : List ℕ) (g c : ℕ) → take (3 * g + 12) new ≡ take (3 * g) old ++ bytes
@@ -116,10 +132,11 @@ ahead_all s = grind (arith, list_all-from_AllPass, length-take, get_or-take, pre
 -- if n is the number of symbols at the start of 16 bytes of a row, n is at most 16 and the first n bytes are symbols
 pub row_ahead : (row : List ℕ) (n : ℕ) → n ≡ prefix_len is_symbol (take 16 row)
     → (n ≤ 16) × (list_all is_symbol (take n row) ≡ true)
-row_ahead row n e = let l : n ≤ 16 = omega (arith, e, prefix_len-le-length is_symbol (take 16 row), length-take 16 row) in (
-  l,
-  cc (take-take n 16 row l, ahead_all (take 16 row)),
-)
+row_ahead row n e =
+    let l : n ≤ 16 = omega (arith, e, prefix_len-le-length is_symbol (take 16 row), length-take 16 row) in (
+      l,
+      cc (take-take n 16 row l, ahead_all (take 16 row)),
+    )
 
 -- if the first n bytes are symbols, so are the first m, where m is at most n
 pub all_before : (block : List ℕ) (m n : ℕ) → m ≤ n → list_all is_symbol (take n block) ≡ true
@@ -198,7 +215,21 @@ module _ (a b w : List ℕ) (st : Stands a w) where
   -- given `Stands a w`, decoding b after a is the same as decoding w ++ b
   pub goes_on : GoesOn a b (w ++ b)
   goes_on =
-      search (arith, done_is, done_both, fault_some, fault_both, kind_is, length_values, left_both, padding_both, valid_by, length_symbols, length_pads, decoded_both)
+      search (
+        arith,
+        done_is,
+        done_both,
+        fault_some,
+        fault_both,
+        kind_is,
+        length_values,
+        left_both,
+        padding_both,
+        valid_by,
+        length_symbols,
+        length_pads,
+        decoded_both,
+      )
 
 -- Decoding goes on from what is left over
 

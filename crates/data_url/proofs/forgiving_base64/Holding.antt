@@ -54,7 +54,7 @@ allowed_pads (c ∷ t) h =
 
 filter_length : (t : List ℕ) → length (filter is_symbol t) ≤ length t
 filter_length [] = omega arith
-filter_length (c ∷ t) = grind (arith, (filter_length t))
+filter_length (c ∷ t) = grind (arith, filter_length t)
 
 no_items : (l : List ℕ) → length l ≡ 0 → l ≡ []
 no_items [] e = refl
@@ -309,7 +309,8 @@ module _ {F E : Type 0} (step : F → List ℕ → Result (Unit {0}) E → F →
       (s held held' : List ℕ) (at c : ℕ) → at < length s → c ≡ get_or s at 0
       → Holds step d (take at s) held d1 → Refuses d1 c kind d2 → held' ≡ held → Flushes step d2 held' (Ok tt) d3
       → d4 ≡ record d3 { failed = true } → r ≡ Err (InvalidBase64 kind) → Feeds step d s r d4
-  fault_feeds {d} {d1} {d2} {d4} d3 {r} {kind} s held held' at c inside is h f same flushed failed told = let A : List ℕ → Type 0 = λ l. Holds step d (take at s) l d1 in
+  fault_feeds {d} {d1} {d2} {d4} d3 {r} {kind} s held held' at c inside is h f same flushed failed told =
+      let A : List ℕ → Type 0 = λ l. Holds step d (take at s) l d1 in
       let P : List ℕ → Type 0 = λ t. Feeds step d t (Err (InvalidBase64 kind)) d4 in
       let Q : Result (Unit {0}) (DecodeError E) → Type 0 = λ x. Feeds step d s x d4 in
       let more : take at s ++ c ∷ [] ≡ take (at + 1) s = cc (take_more s at 0 inside) in
@@ -380,13 +381,26 @@ row_adds d q row every all some is_p going =
 rest_after : (q : List ℕ) → 64 ≤ length q → after_groups q ≡ after_groups (drop 64 q)
 rest_after q long = let none : after_groups (take 64 q) ≡ [] =
     no_items (after_groups (take 64 q))
-    (omega (arith, length-after_groups (take 64 q), length-take-le 64 q long)) in cc (take-append-drop 64 q, after_groups-append (take 64 q) (drop 64 q))
+    (omega (arith, length-after_groups (take 64 q), length-take-le 64 q long)) in
+    cc (take-append-drop 64 q, after_groups-append (take 64 q) (drop 64 q))
 
 -- the groups of 64 symbols and of the rest
 block_rest : (q bytes : List ℕ) → 64 ≤ length q → length bytes ≡ 48 → DecodesFront q bytes
     → groups (map symbol_value q) ≡ bytes ++ groups (map symbol_value (drop 64 q))
 block_rest q bytes long size front =
-    let first : bytes ≡ groups (map symbol_value (take 64 q)) = cc (take_all 48 bytes (omega arith), front 16 (omega arith) (omega arith)) in cc (take-append-drop 64 q, map-append symbol_value (take 64 q) (drop 64 q), groups_whole (map symbol_value (take 64 q)) (map symbol_value (drop 64 q)) (omega (arith, length-map (take 64 q) symbol_value, length-take-le 64 q long)))
+    let first : bytes ≡ groups (map symbol_value (take 64 q)) = cc (
+      take_all 48 bytes (omega arith),
+      front 16 (omega arith) (omega arith),
+    ) in
+    cc (
+      take-append-drop 64 q,
+      map-append symbol_value (take 64 q) (drop 64 q),
+      groups_whole (map symbol_value (take 64 q)) (map symbol_value (drop 64 q)) (omega (
+        arith,
+        length-map (take 64 q) symbol_value,
+        length-take-le 64 q long,
+      )),
+    )
 
 module _ {F E : Type 0} (step : F → List ℕ → Result (Unit {0}) E → F → Type 0) where
   -- nothing was read, and nothing is held
@@ -401,7 +415,8 @@ module _ {F E : Type 0} (step : F → List ℕ → Result (Unit {0}) E → F →
       → q' ≡ q ++ filter is_symbol (take 64 (take (length text - at) (drop at text))) → s.padding ≡ 0
       → Holds step d (take at text) (groups (map symbol_value q)) (waiting s q)
       → Holds step d (take (at + 64) text) (groups (map symbol_value q')) (waiting s q')
-  block_waits {d} s text q q' at every within all is is_p h = let rest : take (length text - at) (drop at text) ≡ drop at text = take_rest text at in
+  block_waits {d} s text q q' at every within all is is_p h =
+      let rest : take (length text - at) (drop at text) ≡ drop at text = take_rest text at in
       let row = take 64 (drop at text) in
       let allowed : list_all is_symbol_or_space row ≡ true = cc in
       let more : q' ≡ q ++ filter is_symbol row = is ∙ ap (λ t. q ++ filter is_symbol (take 64 t)) rest in

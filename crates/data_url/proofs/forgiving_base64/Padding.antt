@@ -117,20 +117,27 @@ module _ (space pad symbol : ℕ → Bool) where
       (length p) (list_any pad p) b
   find_walk p [] = refl
   find_walk p (c ∷ t) =
-      grind (arith, bad_here, append_assoc, length_push, (find_walk (p ++ c ∷ []) t), any_push)
+      grind (arith, bad_here, append_assoc, length_push, find_walk (p ++ c ∷ []) t, any_push)
 
   -- the bytes of p ++ b before the place where a walk over b stops are p and then those that the walk passes
   pub before_walk : (p b : List ℕ) (n : ℕ) (s : Bool) → length p ≡ n
       → before_place (p ++ b) (stop_place n s b) ≡ p ++ ahead s b
   before_walk p [] n s e = refl
   before_walk p (c ∷ t) n s e =
-      search (arith, take_at, append-nil, append_assoc, (before_walk (p ++ c ∷ []) t (n + 1) (s || pad c) (cc (length_push p c))))
+      search (
+        arith,
+        take_at,
+        append-nil,
+        append_assoc,
+        before_walk (p ++ c ∷ []) t (n + 1) (s || pad c) (cc
+            (length_push p c)),
+      )
 
   -- the byte of p ++ b at the place where a walk over b stops is the byte that stops it
   pub byte_walk : (p b : List ℕ) (n : ℕ) (s : Bool) → length p ≡ n → byte_at (p ++ b) (stop_place n s b) ≡ stop s b
   byte_walk p [] n s e = refl
   byte_walk p (c ∷ t) n s e =
-      search (arith, get_or_at, append_assoc, (byte_walk (p ++ c ∷ []) t (n + 1) (s || pad c) (cc (length_push p c))))
+      search (arith, get_or_at, append_assoc, byte_walk (p ++ c ∷ []) t (n + 1) (s || pad c) (cc (length_push p c)))
 
   -- Two texts
 
@@ -150,7 +157,10 @@ module _ (space pad symbol : ℕ → Bool) where
   ahead-append (c ∷ t) b s h = elim (is_bad s c) as (λ v. cond v (Some c) (stop (s || pad c) t) ≡ None
       → cond v [] (c ∷ ahead (s || pad c) (t ++ b)) ≡ c ∷ (t ++ ahead (s || (pad c || list_any pad t)) b)) [
         | true ↦ λ e. absurd (some_not_none c e)
-        | false ↦ λ e. ap (λ (x : List ℕ). c ∷ x) (cc (ahead-append t b (s || pad c) e, or_assoc s (pad c) (list_any pad t)))
+        | false ↦ λ e. ap (λ (x : List ℕ). c ∷ x) (cc (
+          ahead-append t b (s || pad c) e,
+          or_assoc s (pad c) (list_any pad t),
+        ))
       ] h
 
   -- a walk that does not stop passes the whole text
@@ -187,7 +197,7 @@ module _ (space pad symbol : ℕ → Bool) where
     pub stop_compact : (b : List ℕ) (s : Bool) → stop s (filter is_not_space b) ≡ stop s b
     stop_compact [] s = refl
     stop_compact (c ∷ t) s =
-        grind (arith, space_alone, (stop_compact t (s || pad c)))
+        grind (arith, space_alone, stop_compact t (s || pad c))
 
     -- if a walk after padding does not stop, the text has no symbols
     pub seen_none : (b : List ℕ) → stop true b ≡ None → filter symbol b ≡ []
@@ -216,39 +226,39 @@ module _ (space pad symbol : ℕ → Bool) where
     -- a walk that has seen no padding passes symbols, and stops where it stops in the text after them
     pub stop_symbols : (q b : List ℕ) → Every symbol q → stop false (q ++ b) ≡ stop false b
     stop_symbols [] b h = refl
-    stop_symbols (c ∷ t) b h = grind (arith, symbol_alone, (stop_symbols t b h.1))
+    stop_symbols (c ∷ t) b h = grind (arith, symbol_alone, stop_symbols t b h.1)
 
     -- a walk does not stop in padding
     pub stop_pads : (n c : ℕ) (s : Bool) → pad c ≡ true → stop s (replicate n c) ≡ None
     stop_pads zero c s e = refl
-    stop_pads (suc n) c s e = grind (arith, pad_alone, (stop_pads n c (s || true) e))
+    stop_pads (suc n) c s e = grind (arith, pad_alone, stop_pads n c (s || true) e)
 
     -- padding has no symbols
     pub filter_pads : (n c : ℕ) → pad c ≡ true → filter symbol (replicate n c) ≡ []
     filter_pads zero c e = refl
-    filter_pads (suc n) c e = grind (arith, pad_alone, (filter_pads n c e))
+    filter_pads (suc n) c e = grind (arith, pad_alone, filter_pads n c e)
 
     -- symbols have no padding
     pub filter_symbols : (q : List ℕ) → Every symbol q → filter pad q ≡ []
     filter_symbols [] h = refl
-    filter_symbols (c ∷ t) h = grind (arith, symbol_alone, (filter_symbols t h.1))
+    filter_symbols (c ∷ t) h = grind (arith, symbol_alone, filter_symbols t h.1)
 
     -- none of the symbols is padding
     pub any_symbols : (q : List ℕ) → Every symbol q → list_any pad q ≡ false
     any_symbols [] h = refl
-    any_symbols (c ∷ t) h = grind (arith, symbol_alone, (any_symbols t h.1))
+    any_symbols (c ∷ t) h = grind (arith, symbol_alone, any_symbols t h.1)
 
 -- What a filter keeps
 
 -- all that a filter keeps passes
 pub filter_every : (p : ℕ → Bool) (b : List ℕ) → Every p (filter p b)
 filter_every p [] = tt
-filter_every p (c ∷ t) = grind (arith, (filter_every p t))
+filter_every p (c ∷ t) = grind (arith, filter_every p t)
 
 -- if all items of a list pass, a filter keeps the whole list
 pub filter_all : (p : ℕ → Bool) (b : List ℕ) → Every p b → filter p b ≡ b
 filter_all p [] h = refl
-filter_all p (c ∷ t) h = grind (arith, (filter_all p t h.1))
+filter_all p (c ∷ t) h = grind (arith, filter_all p t h.1)
 
 -- whether a list has items
 abbrev pub is_nonempty : List ℕ → Bool
@@ -258,7 +268,7 @@ is_nonempty (c ∷ t) = true
 -- an item passes exactly if a filter keeps something
 pub any_filter : (p : ℕ → Bool) (b : List ℕ) → list_any p b ≡ is_nonempty (filter p b)
 any_filter p [] = refl
-any_filter p (c ∷ t) = grind (arith, (any_filter p t))
+any_filter p (c ∷ t) = grind (arith, any_filter p t)
 
 -- The first fault of a text has the smallest index of all faults, and a walk that remembers whether it has seen padding
 -- finds it.
@@ -272,7 +282,7 @@ IsLeast p a e (Some i) = (a ≤ i) × (i < e) × (p i ≡ true) × ((k : ℕ) �
 
 find_least : (p : ℕ → Bool) (n a e : ℕ) → e ≡ a + n → IsLeast p a e (find p (range_with_len a n))
 find_least p zero a e q = λ i l m. absurd (omega arith)
-find_least p (suc n) a e q = grind (arith, (find_least p n (a + 1) e (omega arith)))
+find_least p (suc n) a e q = grind (arith, find_least p n (a + 1) e (omega arith))
 
 least_is : (b : List ℕ) (o : Option ℕ) → IsLeast (is_fault b) 0 (length b) o → IsFirstFault b o
 least_is b None h = λ i l. h i (omega arith) l
@@ -384,7 +394,12 @@ unfolding without_padding
 one_passes q h = passes_cond (eqb (length (q ++ replicate 1 61) % 4) 0) _
     (without_last_padding (without_last_padding (q ++ replicate 1 61))) (q ++ replicate 1 61)
     (passes_pads q 0)
-    (λ e. cc (without_pad_pads q 0, append-nil q, without_pad_symbols q h, passes_symbols q _ h (one_true (length q) _ (length_pads q 1) e)))
+    (λ e. cc (
+      without_pad_pads q 0,
+      append-nil q,
+      without_pad_symbols q h,
+      passes_symbols q _ h (one_true (length q) _ (length_pads q 1) e),
+    ))
     (λ e. one_false (length q) _ (length_pads q 1) e)
 
 two_passes : (q : List ℕ) → Every is_symbol q → passes (without_padding (q ++ replicate 2 61)) ≡ fits_with
@@ -393,7 +408,12 @@ unfolding without_padding
 two_passes q h = passes_cond (eqb (length (q ++ replicate 2 61) % 4) 0) _
     (without_last_padding (without_last_padding (q ++ replicate 2 61))) (q ++ replicate 2 61)
     (passes_pads q 1)
-    (λ e. cc (without_pad_pads q 1, without_pad_pads q 0, append-nil q, passes_symbols q _ h (two_true (length q) _ (length_pads q 2) e)))
+    (λ e. cc (
+      without_pad_pads q 1,
+      without_pad_pads q 0,
+      append-nil q,
+      passes_symbols q _ h (two_true (length q) _ (length_pads q 2) e),
+    ))
     (λ e. two_false (length q) _ (length_pads q 2) e)
 
 more_passes : (q : List ℕ) (n : ℕ) → passes (without_padding (q ++ replicate (suc (suc (suc n))) 61)) ≡ false
@@ -445,8 +465,10 @@ whitespace_low c e = grind arith
 -- each byte is in at most one class
 at_space : (c : ℕ) → is_ascii_whitespace c ≡ true → Class true (is_pad c) (is_symbol c)
 at_space c e = let low : c < 33 = whitespace_low c e in
-    let pad : is_pad c ≡ false = cc (agree_below_at (λ c. is_ascii_whitespace c && is_pad c) (λ c. false) 33 c refl low) in
-    let symbol : is_symbol c ≡ false = cc (agree_below_at (λ c. is_ascii_whitespace c && is_symbol c) (λ c. false) 33 c refl low) in
+    let pad : is_pad c ≡ false = cc (agree_below_at (λ c. is_ascii_whitespace c && is_pad c) (λ c. false) 33 c refl
+    low) in
+    let symbol : is_symbol c ≡ false = cc (agree_below_at (λ c. is_ascii_whitespace c && is_symbol c) (λ c. false) 33
+    c refl low) in
     subst (λ y. Class true y (is_symbol c)) (sym pad) (subst (λ z. Class true false z) (sym symbol) of_space)
 
 at_symbol : (z : Bool) → Class false false z
@@ -599,7 +621,11 @@ pads_of_pads (suc n) = ap (λ (x : List ℕ). 61 ∷ x) (pads_of_pads n)
 -- the padding of q and then n times '=' is n times '='
 pub pads_of_text : (q : List ℕ) (n : ℕ) → Every is_symbol q → filter is_pad (q ++ replicate n 61) ≡ replicate n 61
 pads_of_text q n h =
-    cc (filter-append is_pad q (replicate n 61), filter_symbols is_ascii_whitespace is_pad is_symbol classes q h, pads_of_pads n)
+    cc (
+      filter-append is_pad q (replicate n 61),
+      filter_symbols is_ascii_whitespace is_pad is_symbol classes q h,
+      pads_of_pads n,
+    )
 
 -- whether q and then n times '=' have padding is whether n times '=' has
 pub any_of_text : (q : List ℕ) (n : ℕ) → Every is_symbol q → list_any is_pad (q ++ replicate n 61) ≡ list_any is_pad
@@ -611,7 +637,7 @@ any_of_text q n h = list_any-append is_pad q (replicate n 61) ∙ ap (λ x. x ||
 
 pads_are : (b : List ℕ) → filter is_pad b ≡ replicate (length (filter is_pad b)) 61
 pads_are [] = refl
-pads_are (c ∷ t) = grind (arith, (pads_are t))
+pads_are (c ∷ t) = grind (arith, pads_are t)
 
 -- a text without a fault is its symbols and then its padding
 pub no_fault_text : (b : List ℕ) → fault_byte false b ≡ None
@@ -673,7 +699,12 @@ fault_compact b = stop_compact is_ascii_whitespace is_pad is_symbol classes b fa
 pub valid_no_fault : (b : List ℕ) → is_valid b ≡ true → fault_byte false b ≡ None
 unfolding is_valid
 valid_no_fault b h = let parts = and_parts (not (eqb (length (without_padding (without_whitespace b)) % 4) 1))
-    (list_all is_symbol (without_padding (without_whitespace b))) h in cc (fault_compact b, unpadded_none (without_whitespace b) (fault_every (without_padding (without_whitespace b)) (every_list_all (without_padding (without_whitespace b)) parts.1)))
+    (list_all is_symbol (without_padding (without_whitespace b))) h in
+    cc (
+      fault_compact b,
+      unpadded_none (without_whitespace b) (fault_every (without_padding (without_whitespace b))
+          (every_list_all (without_padding (without_whitespace b)) parts.1)),
+    )
 
 -- a text with a fault is not valid
 pub fault_invalid : (b : List ℕ) (x : ℕ) → fault_byte false b ≡ Some x → is_valid b ≡ false
@@ -691,7 +722,7 @@ groups-append [] y = refl
 groups-append (p ∷ []) y = refl
 groups-append (p ∷ q ∷ []) y = refl
 groups-append (p ∷ q ∷ r ∷ []) y = refl
-groups-append (p ∷ q ∷ r ∷ s ∷ rest) y = grind (arith, (groups-append rest y))
+groups-append (p ∷ q ∷ r ∷ s ∷ rest) y = grind (arith, groups-append rest y)
 
 -- what is left over of x ++ y is what is left over of the rest of x followed by y
 pub after_groups-append : (x y : List ℕ) → after_groups (x ++ y) ≡ after_groups (after_groups x ++ y)

@@ -32,14 +32,14 @@ use Rattle.data_url.proofs.escapes.Marks.{drop_taken}
 
 clear_map : (f : ℕ → ℕ) (xs : List ℕ) (m : ℕ) → clear (map f xs) m ≡ map f (clear xs m)
 clear_map f [] m = refl
-clear_map f (x ∷ xs) m = grind (arith, (clear_map f xs (m / 2)))
+clear_map f (x ∷ xs) m = grind (arith, clear_map f xs (m / 2))
 
 clear_odd : (x : ℕ) (xs : List ℕ) (m : ℕ) → clear (x ∷ xs) (1 + 2 * m) ≡ clear xs m
 clear_odd x xs m = grind arith
 
 clear_mask : (v : List ℕ) → clear v (others_mask v) ≡ filter is_symbol v
 clear_mask [] = refl
-clear_mask (x ∷ v) = grind (arith, (clear_mask v), clear_odd)
+clear_mask (x ∷ v) = grind (arith, clear_mask v, clear_odd)
 
 -- The table of places
 
@@ -108,20 +108,28 @@ below_at (x ∷ v) zero h = h.0
 below_at (x ∷ v) (suc i) h = below_at v i h.1
 
 looked_at : (t js : List ℕ) → length js ≡ 16 → Each1 (λ j. j < 16) js → swz_l w8 16 t 0 js ≡ map (λ j. get_or t j 0) js
-looked_at t js long small = ext_get_or 0 _ _ (length-swz_l w8 16 t 0 js ∙ sym (length-map js (λ j. get_or t j 0))) (λ i h.
+looked_at t js long small = ext_get_or 0 _ _ (length-swz_l w8 16 t 0 js
+    ∙ sym (length-map js (λ j. get_or t j 0))) (λ i h.
     let lt : i < 16 = omega (arith, length-swz_l w8 16 t 0 js) in
     let below = below_at js i small in
-    let place : 16 * ((0 + i) / 16) + get_or js i 0 ≡ get_or js i 0 = omega arith in cc (get_or-swz_l_below w8 16 t 0 js i (omega arith) below, get_or-map (λ j. get_or t j 0) js i 0 0 (omega arith)))
+    let place : 16 * ((0 + i) / 16) + get_or js i 0 ≡ get_or js i 0 = omega arith in
+    cc (get_or-swz_l_below w8 16 t 0 js i (omega arith) below, get_or-map (λ j. get_or t j 0) js i 0 0 (omega arith)))
 
 map_range : (f g : ℕ → ℕ) (a n : ℕ) → ((k : ℕ) → a ≤ k → k < a + n → f k ≡ g k)
     → map f (range_with_len a n) ≡ map g (range_with_len a n)
 map_range f g a zero h = refl
-map_range f g a (suc n) h = grind (arith, (map_range f g (a + 1) n (λ k p q. h k (omega arith) (omega arith))))
+map_range f g a (suc n) h = grind (arith, map_range f g (a + 1) n (λ k p q. h k (omega arith) (omega arith)))
 
 half_is : (row : List ℕ) (from : ℕ) → length row ≡ 16 → from ≤ 8
     → map (λ p. get_or row (add8 p from) 0) (range_with_len 0 8) ≡ take 8 (drop from row)
 half_is row from long l =
-    let v = take 8 (drop from row) in cc (map_range (λ p. get_or row (add8 p from) 0) (λ k. get_or v k 0) 0 8 (λ k a b. let there : add8 k from ≡ from + k = omega arith in ap (λ n. get_or row n 0) there ∙ sym (get_or-take 8 (drop from row) k 0 (omega arith) ∙ get_or-drop from row k 0)), pick_l_whole 0 v 8 (length-take-le 8 (drop from row) (omega (arith, length-drop from row))))
+    let v = take 8 (drop from row) in
+    cc (
+      map_range (λ p. get_or row (add8 p from) 0) (λ k. get_or v k 0) 0 8 (λ k a b. let there : add8 k from
+          ≡ from + k = omega arith in ap (λ n. get_or row n 0) there
+          ∙ sym (get_or-take 8 (drop from row) k 0 (omega arith) ∙ get_or-drop from row k 0)),
+      pick_l_whole 0 v 8 (length-take-le 8 (drop from row) (omega (arith, length-drop from row))),
+    )
 
 -- a lookup of the places of the clear bits finds the bytes of the half row whose bits are clear
 pub half_clear : (row v js : List ℕ) (from bits c : ℕ) → length row ≡ 16 → length v ≡ 16 → from ≤ 8
@@ -155,8 +163,14 @@ row_clear row others long e = let a = take 8 row in
     let rest : length b ≡ 8 = omega (arith, length-drop 8 row) in
     let Q : ℕ → Type 0 = λ n. others_mask a < 2 ^ n in
     let small : others_mask a < 256 = subst Q (length-map a is_other ∙ wide) (mask_l-lt (map is_other a)) in
-    let sum : others ≡ others_mask a + 256 * others_mask b = cc (take-append-drop 8 row, map-append is_other a b, mask_l-append (map is_other a) (map is_other b), length-map a is_other) in
-    let parts = half_sum (others_mask a) (others_mask b) small in cc (clear_mask a, take_all 8 b (omega arith), clear_mask b, filter-append is_symbol a b, take-append-drop 8 row)
+    let sum : others ≡ others_mask a + 256 * others_mask b = cc (
+      take-append-drop 8 row,
+      map-append is_other a b,
+      mask_l-append (map is_other a) (map is_other b),
+      length-map a is_other,
+    ) in
+    let parts = half_sum (others_mask a) (others_mask b) small in
+    cc (clear_mask a, take_all 8 b (omega arith), clear_mask b, filter-append is_symbol a b, take-append-drop 8 row)
 
 -- two half rows, one put after the other
 pub two_halves : (front row : List ℕ) (others : ℕ) {middle end : List ℕ} → length row ≡ 16 → others ≡ others_mask row
@@ -177,7 +191,17 @@ pub spaces_are : (v : List ℕ) (js : List ℕ) → length v ≡ 16 → Each1 (F
     → mask_l (map (top 7) (zip2 (λ a b. cond (eqb a b) 255 0) (swz_l w8 16 SPACES 0 js) v)) % 2 ^ 64 ≡ mask_l
     (map is_ascii_whitespace v)
 spaces_are v js long fits e =
-    cc (tops_compared w8 eqb (swz_l w8 16 SPACES 0 js) v, zip2_of_maps eqb space_entry (λ b. b) v (looked_up SPACES low v js long fits e (λ x h. omega (arith, and_le_r x 15))) (sym (map-id v)), map_agree (λ b. eqb (space_entry b) b) is_ascii_whitespace (λ b l. agree_below_at (λ b. eqb (space_entry b) b) is_ascii_whitespace 256 b refl l) v fits, mask_l-mod (map is_ascii_whitespace v) 64 (omega (arith, length-map v is_ascii_whitespace)))
+    cc (
+      tops_compared w8 eqb (swz_l w8 16 SPACES 0 js) v,
+      zip2_of_maps eqb space_entry (λ b. b) v (looked_up SPACES
+          low v js long fits e (λ x h. omega (arith, and_le_r x 15))) (sym (map-id v)),
+      map_agree (λ b. eqb (space_entry b) b) is_ascii_whitespace (λ b l. agree_below_at (λ b. eqb (space_entry b)
+          b) is_ascii_whitespace 256 b refl l) v fits,
+      mask_l-mod (map is_ascii_whitespace v) 64 (omega (
+        arith,
+        length-map v is_ascii_whitespace,
+      )),
+    )
 
 first_bits : (s w : Bool) (m n : ℕ) → cond (not s) 1 0 + 2 * m ≡ cond w 1 0 + 2 * n → ((s || w) ≡ true) × (m ≡ n)
 first_bits true true m n e = (refl, omega (arith, e))
@@ -212,7 +236,7 @@ all_clear (b ∷ v) e = let p = no_bit (is_symbol b) (others_mask v) e in cc (al
 -- all bytes of a text that a filter of symbols keeps are symbols
 pub filter_symbols : (v : List ℕ) → list_all is_symbol (filter is_symbol v) ≡ true
 filter_symbols [] = refl
-filter_symbols (b ∷ v) = grind (arith, (filter_symbols v))
+filter_symbols (b ∷ v) = grind (arith, filter_symbols v)
 
 -- symbols with the symbols of a text appended are all symbols
 pub all_more : (x y z : List ℕ) → list_all is_symbol x ≡ true → z ≡ x ++ filter is_symbol y
@@ -235,7 +259,15 @@ pub moved : (old b1 b2 b3 b4 w x y z : List ℕ) (len : ℕ) → 64 ≤ len → 
     → w ≡ take 16 (drop 64 old) → x ≡ take 16 (drop 80 old) → y ≡ take 16 (drop 96 old) → z ≡ take 16 (drop 112 old)
     → take (len - 64) b4 ≡ drop 64 (take len old)
 moved old b1 b2 b3 b4 w x y z len few many p q r s d e f g = let far = drop 64 old in
-    let front : take 64 b4 ≡ take 64 far = cc (append_assoc (w ++ x) y z, append_assoc w x (y ++ z), drop-drop 16 64 old, drop-drop 32 64 old, drop-drop 48 64 old, split_block far) in cc (take-take (len - 64) 64 b4 (omega arith), take-take (len - 64) 64 far (omega arith), drop_taken 64 len old)
+    let front : take 64 b4 ≡ take 64 far = cc (
+      append_assoc (w ++ x) y z,
+      append_assoc w x (y ++ z),
+      drop-drop 16 64 old,
+      drop-drop 32 64 old,
+      drop-drop 48 64 old,
+      split_block far,
+    ) in
+    cc (take-take (len - 64) 64 b4 (omega arith), take-take (len - 64) 64 far (omega arith), drop_taken 64 len old)
 
 -- four rows
 
@@ -251,7 +283,12 @@ pub four_spaced : (text r1 r2 r3 : List ℕ) → r1 ≡ drop 16 text → r2 ≡ 
 four_spaced text r1 r2 r3 d e f p q r s = let all : List ℕ → Bool = λ l. list_all is_symbol_or_space (take 16 l) in
     let b = take 16 (drop 16 text) in
     let c = take 16 (drop 32 text) in
-    let h = take 16 (drop 48 text) in cc (split_block text, both_spaced (take 16 text) (b ++ (c ++ h)) p (both_spaced b (c ++ h) (ap all (sym d) ∙ q) (both_spaced c h (ap all (sym e) ∙ r) (ap all (sym f) ∙ s))))
+    let h = take 16 (drop 48 text) in
+    cc (
+      split_block text,
+      both_spaced (take 16 text) (b ++ (c ++ h)) p (both_spaced b (c ++ h) (ap all (sym d)
+          ∙ q) (both_spaced c h (ap all (sym e) ∙ r) (ap all (sym f) ∙ s))),
+    )
 
 -- appending the symbols of four rows, one row at a time, appends the symbols of their 64 bytes
 pub four_added : (text r1 r2 r3 q0 q1 q2 q3 q4 : List ℕ) → r1 ≡ drop 16 text → r2 ≡ drop 32 text → r3 ≡ drop 48 text
@@ -262,7 +299,18 @@ four_added text r1 r2 r3 q0 q1 q2 q3 q4 d e f p q r s = let of : List ℕ → Li
     let a = of text in
     let b = of (drop 16 text) in
     let c = of (drop 32 text) in
-    let h = of (drop 48 text) in cc (append_assoc ((q0 ++ a) ++ b) c h, append_assoc (q0 ++ a) b (c ++ h), append_assoc q0 a (b ++ (c ++ h)), split_block text, filter-append is_symbol (take 16 text) (take 16 (drop 16 text) ++ (take 16 (drop 32 text) ++ take 16 (drop 48 text))), filter-append is_symbol (take 16 (drop 16 text)) (take 16 (drop 32 text) ++ take 16 (drop 48 text)), filter-append is_symbol (take 16 (drop 32 text)) (take 16 (drop 48 text)))
+    let h = of (drop 48 text) in
+    cc (
+      append_assoc ((q0 ++ a) ++ b) c h,
+      append_assoc (q0 ++ a) b (c ++ h),
+      append_assoc q0 a (b ++ (c ++ h)),
+      split_block text,
+      filter-append is_symbol (take 16 text) (take 16 (drop 16 text) ++ (take 16 (drop 32 text)
+          ++ take 16 (drop 48 text))),
+      filter-append is_symbol (take 16 (drop 16 text)) (take 16 (drop 32 text) ++ take
+          16 (drop 48 text)),
+      filter-append is_symbol (take 16 (drop 32 text)) (take 16 (drop 48 text)),
+    )
 
 -- the symbols in no whole group
 no_items : (l : List ℕ) → length l ≡ 0 → l ≡ []
@@ -275,7 +323,15 @@ after_is q = let at = length q / 4 * 4 in
     let within : at ≤ length q = omega arith in
     let none : after_groups (take at q) ≡ [] =
     no_items (after_groups (take at q))
-    (omega (arith, length-after_groups (take at q), length-take-le at q within)) in cc (take-append-drop at q, after_groups-append (take at q) (drop at q), after_few (drop at q) (omega (arith, length-drop at q)))
+    (omega (arith, length-after_groups (take at q), length-take-le at q within)) in
+    cc (
+      take-append-drop at q,
+      after_groups-append (take at q) (drop at q),
+      after_few (drop at q) (omega (
+        arith,
+        length-drop at q,
+      )),
+    )
 
 -- the first `len % 4` of the three items after the complete groups are those that are left over
 pub three_last : (s : List ℕ) (len : ℕ) → length s ≡ 144 → len < 64
@@ -320,7 +376,17 @@ front_is s bytes len long few all e m a b = let size : length (take len s) ≡ l
     let front : take n s ≡ take n (take len s) = sym (take-take n len s (omega arith)) in
     let every : list_all is_symbol (take n (take len s)) ≡ true =
     (and_parts (list_all is_symbol (take n (take len s))) (list_all is_symbol (drop n (take len s)))
-    (cc (list_all-append is_symbol (take n (take len s)) (drop n (take len s)), take-append-drop n (take len s)))).0 in cc (take_groups m (map value_of (take 64 s)) (omega (arith, length-map (take 64 s) value_of, length-take-le 64 s (omega arith))), take-map value_of n (take 64 s), take-take n 64 s (omega arith), symbols_values (take n (take len s)) (fits_symbols (take n (take len s)) every) every)
+    (cc (list_all-append is_symbol (take n (take len s)) (drop n (take len s)), take-append-drop n (take len s)))).0 in
+    cc (
+      take_groups m (map value_of (take 64 s)) (omega (
+        arith,
+        length-map (take 64 s) value_of,
+        length-take-le 64 s (omega arith),
+      )),
+      take-map value_of n (take 64 s),
+      take-take n 64 s (omega arith),
+      symbols_values (take n (take len s)) (fits_symbols (take n (take len s)) every) every,
+    )
 
 -- all groups of fewer than 64 symbols
 pub groups_front : (q bytes : List ℕ) → length q < 64 → DecodesFront q bytes
@@ -328,4 +394,12 @@ pub groups_front : (q bytes : List ℕ) → length q < 64 → DecodesFront q byt
 groups_front q bytes few front = let m = length q / 4 in
     let a = take (4 * m) q in
     let b = drop (4 * m) q in
-    let long : length a ≡ 4 * m = length-take-le (4 * m) q (omega arith) in cc (front m (omega arith) (omega arith), take-append-drop (4 * m) q, map-append symbol_value a b, groups_whole (map symbol_value a) (map symbol_value b) (omega (arith, length-map a symbol_value)), groups_few (map symbol_value b) (omega (arith, length-map b symbol_value, length-drop (4 * m) q)), append-nil (groups (map symbol_value a)))
+    let long : length a ≡ 4 * m = length-take-le (4 * m) q (omega arith) in
+    cc (
+      front m (omega arith) (omega arith),
+      take-append-drop (4 * m) q,
+      map-append symbol_value a b,
+      groups_whole (map symbol_value a) (map symbol_value b) (omega (arith, length-map a symbol_value)),
+      groups_few (map symbol_value b) (omega (arith, length-map b symbol_value, length-drop (4 * m) q)),
+      append-nil (groups (map symbol_value a)),
+    )

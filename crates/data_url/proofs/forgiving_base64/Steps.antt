@@ -309,7 +309,8 @@ module _ {F : Type 0} where
       → d.symbols ≡ x ∷ y ∷ z ∷ [] → d.padding ≡ 0 → is_symbol c ≡ true
       → group ≡ group_bytes (group_number (symbol_value x) (symbol_value y) (symbol_value z) (symbol_value c))
       → d'.closure ≡ d.closure → d'.symbols ≡ [] → d'.padding ≡ 0 → d'.failed ≡ false → Adds d (c ∷ []) group d'
-  adds_group {d} {d'} x y z c group every is_q is_p symbol is_group same symbols padding failed = let all : d.symbols ++ c ∷ [] ≡ x ∷ y ∷ z ∷ c ∷ [] = ap (λ k. k ++ c ∷ []) is_q in
+  adds_group {d} {d'} x y z c group every is_q is_p symbol is_group same symbols padding failed =
+      let all : d.symbols ++ c ∷ [] ≡ x ∷ y ∷ z ∷ c ∷ [] = ap (λ k. k ++ c ∷ []) is_q in
       adds_text (c ∷ []) (c ∷ []) group 0 every
       (ap (λ p. fault_byte (has_pad p) (c ∷ [])) is_p ∙ fault_symbol c symbol)
       (symbols_symbol c symbol)
@@ -442,7 +443,11 @@ taken_cases u b bytes x d None h t = grind (arith, none_fault)
 taken_cases u b bytes x d (Some c) h t = record {
   bytes_are = t.bytes_are ∙ sym (done_stays u b c h);
   answer =
-      match_alike (first_fault u) (first_fault (u ++ b)) _ _ _ _ (cc (fault_some u, fault-append_some u b false c h, fault_some (u ++ b)))
+      match_alike (first_fault u) (first_fault (u ++ b)) _ _ _ _ (cc (
+        fault_some u,
+        fault-append_some u b false c h,
+        fault_some (u ++ b),
+      ))
       (λ k. absurd (let e = k.0 in cc))
       (λ k. k ∙ ap (λ z. Err (InvalidBase64 z)) (kind_stays u b c h))
       t.answer;

@@ -121,7 +121,8 @@ looked_up t g v js whole fits e small = let long : length js ≡ 16 = ap length 
     let within : i < length v = omega (arith, whole) in
     let is : get_or js i 0 ≡ g (get_or v i 0) = ap (λ l. get_or l i 0) e ∙ get_or-map g v i 0 0 within in
     let below : get_or js i 0 < 16 = omega (arith, small (get_or v i 0) (lane_fits v i fits)) in
-    let place : 16 * ((0 + i) / 16) + get_or js i 0 ≡ get_or js i 0 = omega arith in cc (get_or-swz_l_below w8 16 t 0 js i (omega arith) below, get_or-map (λ x. get_or t (g x) 0) v i 0 0 within))
+    let place : 16 * ((0 + i) / 16) + get_or js i 0 ≡ get_or js i 0 = omega arith in
+    cc (get_or-swz_l_below w8 16 t 0 js i (omega arith) below, get_or-map (λ x. get_or t (g x) 0) v i 0 0 within))
 
 -- The tables are the alphabet
 
@@ -246,7 +247,11 @@ pub others_is : (v marks : List ℕ) → length v ≡ 16 → Each1 (Fits w8) v �
     (zip2 (λ a b. cond (differs a b) 255 0) marks
     (0 ∷ 0 ∷ 0 ∷ 0 ∷ 0 ∷ 0 ∷ 0 ∷ 0 ∷ 0 ∷ 0 ∷ 0 ∷ 0 ∷ 0 ∷ 0 ∷ 0 ∷ 0 ∷ []))) % 2 ^ 64 ≡ mask_l (map is_other v)
 others_is v marks long fits e =
-    cc (bitmask_splat w8 differs marks 16 0 (ap length e ∙ length-map v mark_of ∙ long) (omega arith), map-map (λ x. differs x 0) mark_of v, map_agree (λ x. differs (mark_of x) 0) is_other mark_is v fits)
+    cc (
+      bitmask_splat w8 differs marks 16 0 (ap length e ∙ length-map v mark_of ∙ long) (omega arith),
+      map-map (λ x. differs x 0) mark_of v,
+      map_agree (λ x. differs (mark_of x) 0) is_other mark_is v fits,
+    )
 
 -- Rows of a text
 
@@ -305,12 +310,15 @@ unmarked m = eqb m 0
 
 unmarked_mask : (xs : List ℕ) → eqb (mask_l (map (λ m. differs m 0) xs)) 0 ≡ list_all unmarked xs
 unmarked_mask [] = refl
-unmarked_mask (x ∷ xs) = grind (arith, (unmarked_mask xs))
+unmarked_mask (x ∷ xs) = grind (arith, unmarked_mask xs)
 
 or_unmarked : (x y : ℕ) → x < 256 → y < 256 → unmarked (bit_or x y) ≡ (unmarked x && unmarked y)
 or_unmarked x y a b = elim (cases_eq x 0) [
   | inl p ↦ grind (arith, cases_eq)
-  | inr p ↦ cc (ne_eqb (bit_or x y) 0 (λ e. p (omega (arith, or_add_and x y, and_le_l x y, and_le_r x y))), ne_eqb x 0 p)
+  | inr p ↦ cc (
+    ne_eqb (bit_or x y) 0 (λ e. p (omega (arith, or_add_and x y, and_le_l x y, and_le_r x y))),
+    ne_eqb x 0 p,
+  )
 ]
 
 unmarked_or : (xs ys : List ℕ) → length xs ≡ length ys → Each1 (λ x. x < 256) xs → Each1 (λ x. x < 256) ys
@@ -318,7 +326,7 @@ unmarked_or : (xs ys : List ℕ) → length xs ≡ length ys → Each1 (λ x. x 
 unmarked_or [] [] e f g = refl
 unmarked_or [] (y ∷ ys) e f g = absurd (omega arith)
 unmarked_or (x ∷ xs) [] e f g = absurd (omega arith)
-unmarked_or (x ∷ xs) (y ∷ ys) e f g = grind (arith, or_unmarked, (unmarked_or xs ys (omega arith) f.1 g.1))
+unmarked_or (x ∷ xs) (y ∷ ys) e f g = grind (arith, or_unmarked, unmarked_or xs ys (omega arith) f.1 g.1)
 
 -- Groups of rows
 
@@ -373,7 +381,8 @@ pub whole_is : (text m0 m1 m2 m3 r0 r1 r2 r3 : List ℕ) → 64 ≤ length text 
     → m0 ≡ map mark_of r0 → m1 ≡ map mark_of r1 → m2 ≡ map mark_of r2 → m3 ≡ map mark_of r3
     → eqb (mask_l (map (top 7) (zip2 (λ a b. cond (differs a b) 255 0) (all_marks m0 m1 m2 m3) zeros)) % 2 ^ 64) 0
     ≡ list_all is_symbol (take 64 text)
-whole_is text m0 m1 m2 m3 r0 r1 r2 r3 long fits a b c d p q r s = let e0 : m0 ≡ map mark_of (take 16 (drop 0 text)) = p ∙ ap (map mark_of) a in
+whole_is text m0 m1 m2 m3 r0 r1 r2 r3 long fits a b c d p q r s =
+    let e0 : m0 ≡ map mark_of (take 16 (drop 0 text)) = p ∙ ap (map mark_of) a in
     let e1 : m1 ≡ map mark_of (take 16 (drop 16 text)) = q ∙ ap (map mark_of) b in
     let e2 : m2 ≡ map mark_of (take 16 (drop 32 text)) = r ∙ ap (map mark_of) c in
     let e3 : m3 ≡ map mark_of (take 16 (drop 48 text)) = s ∙ ap (map mark_of) d in
@@ -392,7 +401,15 @@ whole_is text m0 m1 m2 m3 r0 r1 r2 r3 long fits a b c d p q r s = let e0 : m0 �
     let y = map mark_of (take 16 (drop 48 text)) in
     let lu = length-zip2 bit_or u v (n0 ∙ sym n1) ∙ n0 in
     let lx = length-zip2 bit_or x y (n2 ∙ sym n3) ∙ n2 in
-    let ln = length-zip2 bit_or (zip2 bit_or u v) (zip2 bit_or x y) (lu ∙ sym lx) ∙ lu in cc (bitmask_splat w8 differs (all_marks u v x y) 16 0 ln (omega arith), unmarked_mask (all_marks u v x y), marks_whole (take 16 (drop 0 text)) (take 16 (drop 16 text)) (take 16 (drop 32 text)) (take 16 (drop 48 text)) l0 l1 l2 l3 (chunk-fits w8 0 16 text fits) (chunk-fits w8 16 16 text fits) (chunk-fits w8 32 16 text fits) (chunk-fits w8 48 16 text fits), split_block text)
+    let ln = length-zip2 bit_or (zip2 bit_or u v) (zip2 bit_or x y) (lu ∙ sym lx) ∙ lu in
+    cc (
+      bitmask_splat w8 differs (all_marks u v x y) 16 0 ln (omega arith),
+      unmarked_mask (all_marks u v x y),
+      marks_whole (take 16 (drop 0 text)) (take 16 (drop 16 text)) (take 16 (drop 32 text)) (take 16 (drop 48
+          text)) l0 l1 l2 l3 (chunk-fits w8 0 16 text fits) (chunk-fits w8 16 16 text fits) (chunk-fits w8 32 16 text
+          fits) (chunk-fits w8 48 16 text fits),
+      split_block text,
+    )
 
 -- Sixteen groups
 
@@ -435,7 +452,16 @@ values_of_rows : (text : List ℕ) → 64 ≤ length text → groups (map value_
 values_of_rows text long = let w = take 16 (drop 0 text) in
     let x = take 16 (drop 16 text) in
     let y = take 16 (drop 32 text) in
-    let z = take 16 (drop 48 text) in cc (split_block text, map-append value_of w (x ++ (y ++ z)), map-append value_of x (y ++ z), map-append value_of y z, groups_of_rows (map value_of w) (map value_of x) (map value_of y) (map value_of z) (length-map w value_of ∙ row_length text 0 (omega arith)) (length-map x value_of ∙ row_length text 16 (omega arith)) (length-map y value_of ∙ row_length text 32 (omega arith)))
+    let z = take 16 (drop 48 text) in
+    cc (
+      split_block text,
+      map-append value_of w (x ++ (y ++ z)),
+      map-append value_of x (y ++ z),
+      map-append value_of y z,
+      groups_of_rows (map value_of w) (map value_of x) (map value_of y) (map value_of z)
+          (length-map w value_of ∙ row_length text 0 (omega arith)) (length-map x value_of
+          ∙ row_length text 16 (omega arith)) (length-map y value_of ∙ row_length text 32 (omega arith)),
+    )
 
 -- rows that were put one after another
 pub put_three : (b1 b2 b3 x y z : List ℕ) → take 16 b1 ≡ x → take (16 + 16) b2 ≡ take 16 b1 ++ y

@@ -166,7 +166,7 @@ pub run_keeps : {F E A : Type 0} (step : F → List ℕ → Result (Unit {0}) E 
     → ((g : F) (piece : List ℕ) (r : Result (Unit {0}) E) (g' : F) → step g piece r g' → K g ≡ K g')
     → (cs : List (Call F E)) (f f' : F) → IsRun step f cs f' → K f ≡ K f'
 run_keeps step K keeps [] f f' ran = ap K ran
-run_keeps step K keeps (c ∷ cs) f f' ran = grind (arith, (run_keeps step K keeps cs c.after f' ran.2))
+run_keeps step K keeps (c ∷ cs) f f' ran = grind (arith, run_keeps step K keeps cs c.after f' ran.2)
 
 -- what each call preserves, decoding a text preserves
 pub decodes_keeps : {F E A : Type 0} {step : F → List ℕ → Result (Unit {0}) E → F → Type 0} {f f' : F} {u : List ℕ}

@@ -28,7 +28,7 @@ byte_encoded b l = grind (arith, digit_byte)
 -- the percent-encoding of a fragment has only bytes that an encoded fragment can have
 pub fragment_bytes : (s : List ℕ) → IsBytes s → Every is_fragment_byte (percent_encoding in_fragment_set s)
 fragment_bytes [] h = subst (Every is_fragment_byte) (sym (encoded_nil in_fragment_set)) tt
-fragment_bytes (b ∷ s) h = grind (arith, encoded_cons, byte_encoded, (fragment_bytes s h.1))
+fragment_bytes (b ∷ s) h = grind (arith, encoded_cons, byte_encoded, fragment_bytes s h.1)
 
 -- Such bytes stay as they are
 
@@ -46,7 +46,7 @@ not_dropped b h = grind arith
 
 encoded_itself : (x : List ℕ) → Every is_fragment_byte x → percent_encoding in_fragment_set x ≡ x
 encoded_itself [] h = encoded_nil in_fragment_set
-encoded_itself (b ∷ x) h = grind (arith, encoded_cons, (encoded_itself x h.1))
+encoded_itself (b ∷ x) h = grind (arith, encoded_cons, encoded_itself x h.1)
 
 dropped_itself : (t : List ℕ) → Every is_fragment_byte t → without_tabs_and_newlines t ≡ t
 dropped_itself [] h = dropped_nil

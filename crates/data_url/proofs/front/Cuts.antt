@@ -75,7 +75,8 @@ ends_early s n h = false_from_ne_true (bytes_eq (map to_ascii_lowercase (take 5 
     let whole = (bytes_eq-Decides (map to_ascii_lowercase (take 5 (without_tabs_and_newlines s))) scheme).0 e in
     let five : length (take 5 (without_tabs_and_newlines s)) ≡ 5 =
     sym (length-map (take 5 (without_tabs_and_newlines s)) to_ascii_lowercase) ∙ ap length whole in
-    let short : length (take 5 (without_tabs_and_newlines s)) ≡ min 5 n = cc (length-take 5 (without_tabs_and_newlines s), spelled_length s n h) in
+    let short : length (take 5 (without_tabs_and_newlines s))
+    ≡ min 5 n = cc (length-take 5 (without_tabs_and_newlines s), spelled_length s n h) in
     let below = h.open_at in
     omega (arith, five, short, below))
 
@@ -83,13 +84,26 @@ ends_early s n h = false_from_ne_true (bytes_eq (map to_ascii_lowercase (take 5 
 -- the scheme, the text does not begin with the scheme
 pub differs : (text s : List ℕ) (n b : ℕ) (rest : List ℕ) → Spells s n → is_tab_or_newline b ≡ false
     → to_ascii_lowercase b ≢ get_or scheme n 0 → text ≡ s ++ b ∷ rest → HasNoScheme text
-differs text s n b rest h e ne is = false_from_ne_true (bytes_eq (map to_ascii_lowercase (take 5 (without_tabs_and_newlines text))) scheme) (λ e'.
+differs text s n b rest h e ne is =
+    false_from_ne_true (bytes_eq (map to_ascii_lowercase (take 5 (without_tabs_and_newlines text))) scheme) (λ e'.
     let whole = (bytes_eq-Decides (map to_ascii_lowercase (take 5 (without_tabs_and_newlines text))) scheme).0 e' in
-    let parts : without_tabs_and_newlines text ≡ without_tabs_and_newlines s ++ b ∷ without_tabs_and_newlines rest = cc (without_tabs_and_newlines-append s (b ∷ rest), dropped_keeps b rest e) in
+    let parts : without_tabs_and_newlines text ≡ without_tabs_and_newlines s ++ b ∷ without_tabs_and_newlines rest =
+    cc (without_tabs_and_newlines-append s (b ∷ rest), dropped_keeps b rest e) in
     let lowered : map to_ascii_lowercase (take 5 (without_tabs_and_newlines text)) ≡ take 5
     (map to_ascii_lowercase (without_tabs_and_newlines s) ++ to_ascii_lowercase b ∷ map to_ascii_lowercase
-    (without_tabs_and_newlines rest)) = cc (take-map to_ascii_lowercase 5 (without_tabs_and_newlines text), map-append to_ascii_lowercase (without_tabs_and_newlines s) (b ∷ without_tabs_and_newlines rest)) in
-    let at_n : get_or (map to_ascii_lowercase (take 5 (without_tabs_and_newlines text))) n 0 ≡ to_ascii_lowercase b = cc (get_or-take 5 (map to_ascii_lowercase (without_tabs_and_newlines s) ++ to_ascii_lowercase b ∷ map to_ascii_lowercase (without_tabs_and_newlines rest)) n 0 h.open_at, get_or_at (map to_ascii_lowercase (without_tabs_and_newlines s)) (to_ascii_lowercase b) (map to_ascii_lowercase (without_tabs_and_newlines rest)) 0 n (length-map (without_tabs_and_newlines s) to_ascii_lowercase ∙ spelled_length s n h)) in
+    (without_tabs_and_newlines rest)) =
+    cc (
+      take-map to_ascii_lowercase 5 (without_tabs_and_newlines text),
+      map-append to_ascii_lowercase (without_tabs_and_newlines s) (b ∷ without_tabs_and_newlines rest),
+    ) in
+    let at_n : get_or (map to_ascii_lowercase (take 5 (without_tabs_and_newlines text))) n 0
+    ≡ to_ascii_lowercase b = cc (
+      get_or-take 5 (map to_ascii_lowercase (without_tabs_and_newlines s) ++
+          to_ascii_lowercase b ∷ map to_ascii_lowercase (without_tabs_and_newlines rest)) n 0 h.open_at,
+      get_or_at (map to_ascii_lowercase (without_tabs_and_newlines s)) (to_ascii_lowercase b) (map
+          to_ascii_lowercase (without_tabs_and_newlines rest)) 0 n (length-map (without_tabs_and_newlines s)
+          to_ascii_lowercase ∙ spelled_length s n h),
+    ) in
     ne (sym at_n ∙ ap (λ t. get_or t n 0) whole))
 
 -- a byte of the scheme, in any ASCII case, is ASCII
@@ -171,14 +185,22 @@ at_comma s n f ne = grind (arith, cut_at)
 pub at_hash : (s : List ℕ) (n : ℕ) → IsFrontEnd s n → get_or s n 0 ≡ 35 → after 44 (front s) ≡ None
 unfolding front
 at_hash s n f h =
-    let parts : s ≡ take n s ++ 35 ∷ drop (n + 1) s = cc (cut_at s n f.within) in cc (before_at 35 (take n s) (drop (n + 1) s) f.no_hash, f.no_comma)
+    let parts : s ≡ take n s ++ 35 ∷ drop (n + 1) s = cc (cut_at s n f.within) in
+    cc (before_at 35 (take n s) (drop (n + 1) s) f.no_hash, f.no_comma)
 
 -- if a text has neither ',' nor '#', there is no ',' before its first '#'
 pub at_none : (s : List ℕ) (m : ℕ) → NoEndBefore s m → position ends_header (drop m s) ≡ None
     → after 44 (front s) ≡ None
 unfolding front
 at_none s m h e = let rest = drop m s in
-    let none : NoEndBefore rest (length rest) = λ k l. grind (arith, fails_before_first, ⊎_elim, cond-true, lt-ltb, cases_lt) in
+    let none : NoEndBefore rest (length rest) = λ k l. grind (
+      arith,
+      fails_before_first,
+      ⊎_elim,
+      cond-true,
+      lt-ltb,
+      cases_lt,
+    ) in
     let all = further_on s m (length rest) h none in
     let fails : NoEndBefore s (length s) = λ k l. all k (omega (arith, length-drop m s)) in
     let no_comma = after_none 44 s (λ k l. (or_parts (get_or s k 0 == 44) (get_or s k 0 == 35) (fails k l)).0) in

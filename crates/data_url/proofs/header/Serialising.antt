@@ -44,13 +44,13 @@ path_more b (d ∷ s) c = path_cons b (d ∷ (s ++ c ∷ []))
 -- if a path ends with a space, this space is encoded as "%20", and the bytes before it with the path's set
 pub path_space : (s : List ℕ) → encoded_path (s ++ 32 ∷ []) ≡ percent_encoding in_path_set s ++ codes "%20"
 path_space [] = path_one 32 ∙ ap (λ t. t ++ codes "%20") (sym (encoded_nil in_path_set))
-path_space (b ∷ s) = grind (arith, path_more, (path_space s), encoded_cons)
+path_space (b ∷ s) = grind (arith, path_more, path_space s, encoded_cons)
 
 -- a path that ends with another byte is encoded with the path's set
 pub path_other : (s : List ℕ) (c : ℕ) → (c == 32) ≡ false → encoded_path (s ++ c ∷ []) ≡ percent_encoding in_path_set
     (s ++ c ∷ [])
 path_other [] c e = grind (arith, path_one, encoded_nil, encoded_cons)
-path_other (b ∷ s) c e = grind (arith, path_more, (path_other s c e), encoded_cons)
+path_other (b ∷ s) c e = grind (arith, path_more, path_other s c e, encoded_cons)
 
 -- only tabs and newlines
 all_dropped : (s : List ℕ) → ((k : ℕ) → k < length s → is_tab_or_newline (get_or s k 0) ≡ true)
@@ -88,7 +88,8 @@ dropped_end s m n e at = let l : n < length s = omega arith in
     let none : without_tabs_and_newlines (drop (n + 1) s) ≡ [] = all_dropped (drop (n + 1) s) (λ k w.
     let within : (n + 1) + k < length s = omega (arith, length-drop (n + 1) s) in
     subst (λ v. is_tab_or_newline v ≡ true) (sym (get_or-drop (n + 1) s k 0))
-    (suffix_passes is_tab_or_newline s m ((n + 1) + k) e (omega arith) within)) in cc (dropped_around (get_or s n 0) kept (take n s) (drop (n + 1) s))
+    (suffix_passes is_tab_or_newline s m ((n + 1) + k) e (omega arith) within)) in
+    cc (dropped_around (get_or s n 0) kept (take n s) (drop (n + 1) s))
 
 -- if a path ends with a space at index n and then only tabs and newlines, the first n bytes are the path without its
 -- last space
@@ -121,7 +122,15 @@ header_and_query : (path rest : List ℕ) → after 63 path ≡ None
     (without_tabs_and_newlines path) ++ percent_encoding in_query_set (without_tabs_and_newlines (63 ∷ rest))
 unfolding header_text
 header_and_query path rest h =
-    search (arith, after-dropped_none, dropped_keeps, encoded_cons, without_tabs_and_newlines-append, before_at, after_at)
+    search (
+      arith,
+      after-dropped_none,
+      dropped_keeps,
+      encoded_cons,
+      without_tabs_and_newlines-append,
+      before_at,
+      after_at,
+    )
 
 -- nothing after a path
 nothing_after : (path : List ℕ) → encoded_parts path [] [] ≡ percent_encoding in_path_set
@@ -161,7 +170,12 @@ cut_at_query text n e = record {
   query_begins = ⊎_elim
       (λ (l : n < length text). inr (
         drop (n + 1) text,
-        cc (drop_more text n 0 l, eqb-true (get_or text n 0) 63 (is_true _ (subst (λ m. is_no_question_mark (get_or text m 0) ≡ false) (sym e) (prefix_len_stops is_no_question_mark text 0 (subst (λ m. m < length text) e l))))),
+        cc (
+          drop_more text n 0 l,
+          eqb-true (get_or text n 0) 63 (is_true _ (subst (λ m. is_no_question_mark (get_or
+              text m 0) ≡ false) (sym e) (prefix_len_stops is_no_question_mark text 0 (subst (λ m. m < length text) e
+              l)))),
+        ),
       ))
       (λ (l : length text ≤ n). inl (drop_all n text l))
       (cases_lt n (length text));
@@ -199,7 +213,8 @@ not_space b h = let l : 32 < b = leb-false b 32 h in ne_eqb b 32 (λ e. omega (a
 -- dropping tabs and newlines keeps the last byte
 ends_dropped : (s : List ℕ) → Ends s → Ends (without_tabs_and_newlines s)
 ends_dropped s (nothing e) = nothing (ap without_tabs_and_newlines e ∙ dropped_nil)
-ends_dropped s (last init b e h) = let one : without_tabs_and_newlines (b ∷ []) ≡ b ∷ [] = cc (dropped_keeps b [] (not_tab b h), dropped_nil) in
+ends_dropped s (last init b e h) =
+    let one : without_tabs_and_newlines (b ∷ []) ≡ b ∷ [] = cc (dropped_keeps b [] (not_tab b h), dropped_nil) in
     last (without_tabs_and_newlines init) b
     (cc (without_tabs_and_newlines-append init (b ∷ []))) h
 

@@ -53,12 +53,12 @@ encoded_printable : (p : ℕ → Bool) → ((b : ℕ) → p b ≡ false → (32 
     → printable (percent_encoding p s)
 encoded_printable p outside [] h = subst printable (sym (encoded_nil p)) tt
 encoded_printable p outside (b ∷ s) h =
-    grind (arith, encoded_cons, (encoded_printable p outside s h.1))
+    grind (arith, encoded_cons, encoded_printable p outside s h.1)
 
 header_all : (s : List ℕ) → IsBytes s → printable (header_text s)
 header_all [] h = subst printable (sym header_nil) tt
 header_all (b ∷ s) h =
-    search (arith, header_query, encoded_printable, header_path, (header_all s h.1))
+    search (arith, header_query, encoded_printable, header_path, header_all s h.1)
 
 printable_at : (s : List ℕ) → printable s → IsPrintable s
 printable_at [] h i l = absurd (omega arith)
@@ -121,13 +121,13 @@ bytes_append (x ∷ a) b h = let k = bytes_append a b h.1 in ((h.0, k.0), k.1)
 -- a text of bytes without tabs and newlines is a text of bytes
 pub bytes_dropped : (s : List ℕ) → IsBytes s → IsBytes (without_tabs_and_newlines s)
 bytes_dropped [] h = subst IsBytes (sym dropped_nil) tt
-bytes_dropped (b ∷ s) h = grind (arith, dropped_passes, (bytes_dropped s h.1), dropped_keeps)
+bytes_dropped (b ∷ s) h = grind (arith, dropped_passes, bytes_dropped s h.1, dropped_keeps)
 
 -- the part of a text of bytes before the first c is a text of bytes
 pub bytes_before : (c : ℕ) (s : List ℕ) → IsBytes s → IsBytes (before c s)
 unfolding before
 bytes_before c [] h = tt
-bytes_before c (b ∷ s) h = grind (arith, (bytes_before c s h.1))
+bytes_before c (b ∷ s) h = grind (arith, bytes_before c s h.1)
 
 -- The scheme has no comma
 
@@ -144,7 +144,15 @@ lacks_before_dropping : (c : ℕ) → is_tab_or_newline c ≡ false → (s : Lis
     → after c (without_tabs_and_newlines s) ≡ None → after c s ≡ None
 lacks_before_dropping c k [] h = after_nil c
 lacks_before_dropping c k (b ∷ s) h = elim (cases_Bool (is_tab_or_newline b)) [
-  | inl e ↦ grind (arith, ne_eqb, both_ways, after_other, (lacks_before_dropping c k s (sym (ap (after c) (dropped_passes b s e)) ∙ h)), dropped_passes)
+  | inl e ↦ grind (
+    arith,
+    ne_eqb,
+    both_ways,
+    after_other,
+    lacks_before_dropping c k s (sym (ap (after c)
+        (dropped_passes b s e)) ∙ h),
+    dropped_passes,
+  )
   | inr e ↦
       let l = lacks c b (without_tabs_and_newlines s) (sym (ap (after c) (dropped_keeps b s e)) ∙ h) in
       after_other c b s l.here ∙ lacks_before_dropping c k s l.after_it
@@ -174,7 +182,8 @@ unfolding after_scheme cleaned_text
 after_is t rest h = let parts : without_tabs_and_newlines (trimmed_text t) ≡ without_tabs_and_newlines
     h.scheme ++ without_tabs_and_newlines rest = cc (without_tabs_and_newlines-append h.scheme rest) in
     let five = scheme_length h.scheme h.spelled in
-    let first : map to_ascii_lowercase (take 5 (without_tabs_and_newlines (trimmed_text t))) ≡ codes "data:" = cc (take_at (without_tabs_and_newlines h.scheme) (without_tabs_and_newlines rest) 5 five) in
+    let first : map to_ascii_lowercase (take 5 (without_tabs_and_newlines (trimmed_text t)))
+    ≡ codes "data:" = cc (take_at (without_tabs_and_newlines h.scheme) (without_tabs_and_newlines rest) 5 five) in
     let others : drop 5 (without_tabs_and_newlines (trimmed_text t)) ≡ without_tabs_and_newlines rest =
     ap (drop 5) parts ∙ drop_at (without_tabs_and_newlines h.scheme) (without_tabs_and_newlines rest) 5 five in cc
 
@@ -237,7 +246,9 @@ is_accepted t rest header tail b s h = let staged = is_staged rest header tail h
     (front (without_tabs_and_newlines tail)) bytes staged.front_is staged.lacks_comma in
     record {
       body = k.rest;
-      header_is = cc (before-serialised (without_tabs_and_newlines header) (front (without_tabs_and_newlines tail)) staged.lacks_comma);
+      header_is =
+          cc (before-serialised (without_tabs_and_newlines header) (front (without_tabs_and_newlines tail))
+          staged.lacks_comma);
       body_is = ap (option_and_then (after 44)) f ∙ k.is;
       decoded_is = recoded-decoded k.recoded;
       tail_is = tail_is_of t rest header tail s h;
@@ -253,7 +264,15 @@ before-without_tabs_and_newlines : (c : ℕ) → is_tab_or_newline c ≡ false �
     → before c (without_tabs_and_newlines s) ≡ without_tabs_and_newlines (before c s)
 before-without_tabs_and_newlines c k [] = grind (arith, dropped_nil, before_nil)
 before-without_tabs_and_newlines c k (b ∷ s) =
-    search (arith, dropped_keeps, before_same, dropped_nil, dropped_passes, (before-without_tabs_and_newlines c k s), before_other)
+    search (
+      arith,
+      dropped_keeps,
+      before_same,
+      dropped_nil,
+      dropped_passes,
+      before-without_tabs_and_newlines c k s,
+      before_other,
+    )
 
 front_lacks : (rest : List ℕ) → after 44 (front rest) ≡ None → after 44 (front (without_tabs_and_newlines rest))
     ≡ None
@@ -265,7 +284,12 @@ pub no_header : (t rest : List ℕ) → IsBytes rest → IsSchemeAndRest (trimme
     → header_of t ≡ None
 unfolding header_of front
 no_header t rest b s h = let raw : after 44 (front (without_tabs_and_newlines rest)) ≡ None = front_lacks rest h in
-    let bytes = bytes_before 35 (without_tabs_and_newlines rest) (bytes_dropped rest b) in cc (front_of t (without_tabs_and_newlines rest) (after_is t rest s), no_tail_of (front (without_tabs_and_newlines rest)) (serialised (front (without_tabs_and_newlines rest))) raw (recoded_tails (serialised_recoded (front (without_tabs_and_newlines rest)) bytes)))
+    let bytes = bytes_before 35 (without_tabs_and_newlines rest) (bytes_dropped rest b) in
+    cc (
+      front_of t (without_tabs_and_newlines rest) (after_is t rest s),
+      no_tail_of (front (without_tabs_and_newlines rest)) (serialised (front (without_tabs_and_newlines rest))) raw
+          (recoded_tails (serialised_recoded (front (without_tabs_and_newlines rest)) bytes)),
+    )
 
 -- The record of a header.
 
@@ -463,7 +487,8 @@ pub stages_accepted : (t rest header tail : List ℕ) → IsBytes (trimmed_text 
     (option_map (percent_encoding in_fragment_set) (fragment (without_tabs_and_newlines tail)))
 unfolding staged plain_body
 stages_accepted t rest header tail b s h flag f = let a = is_accepted t rest header tail (rest_bytes t rest b s) s h in
-    let text = header_text (without_tabs_and_newlines header) in cc (after_is t rest s, (is_staged rest header tail h).fragment_is)
+    let text = header_text (without_tabs_and_newlines header) in
+    cc (after_is t rest s, (is_staged rest header tail h).fragment_is)
 
 -- if the trimmed text is the scheme, a header, the first comma, and a tail, the Standard accepts it
 pub is_acceptable : (t rest header tail : List ℕ) → IsBytes (trimmed_text t) → IsSchemeAndRest (trimmed_text t) rest

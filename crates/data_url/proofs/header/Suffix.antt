@@ -74,13 +74,27 @@ before_one s n l = grind (arith, length-take-le, take-take)
 pub no_semicolon : (s : List ℕ) (n spaces m : ℕ) → IsPrintable s → HasWord s n spaces → n - spaces ≡ m + 1
     → get_or s m 0 ≢ 59 → before_base64 s ≡ None
 no_semicolon s n spaces m p h e ne = let six = h.six in
-    let within : m < length s = omega arith in cc (after_word s n spaces p h, cond-false (bytes_eq (last_bytes 1 (take (m + 1) s)) semicolon) (Some (before_last 1 (take (m + 1) s))) None (false_from_ne_true (bytes_eq (last_bytes 1 (take (m + 1) s)) semicolon) (λ k. let same : get_or s m 0 ∷ [] ≡ semicolon = sym (last_one s m within) ∙ (bytes_eq-Decides (last_bytes 1 (take (m + 1) s)) semicolon).0 k in ne (ap (λ t. get_or t 0 0) same))))
+    let within : m < length s = omega arith in
+    cc (
+      after_word s n spaces p h,
+      cond-false (bytes_eq (last_bytes 1 (take (m + 1) s)) semicolon) (Some (before_last
+          1 (take (m + 1) s))) None (false_from_ne_true (bytes_eq (last_bytes 1 (take (m + 1) s)) semicolon) (λ k. let
+          same : get_or s m 0 ∷ [] ≡ semicolon = sym (last_one s m within)
+          ∙ (bytes_eq-Decides (last_bytes 1 (take (m + 1) s)) semicolon).0 k in ne (ap (λ t. get_or t 0 0) same))),
+    )
 
 -- if the byte before the spaces and the word is a ';' at index m, the text before the suffix is the first m bytes
 pub with_semicolon : (s : List ℕ) (n spaces m : ℕ) → IsPrintable s → HasWord s n spaces → n - spaces ≡ m + 1
     → get_or s m 0 ≡ 59 → before_base64 s ≡ Some (take m s)
 with_semicolon s n spaces m p h e is = let six = h.six in
-    let within : m < length s = omega arith in cc (after_word s n spaces p h, cond-true (bytes_eq (last_bytes 1 (take (m + 1) s)) semicolon) (Some (before_last 1 (take (m + 1) s))) None ((bytes_eq-Decides (last_bytes 1 (take (m + 1) s)) semicolon).1 (last_one s m within ∙ ap (λ b. b ∷ []) is)), before_one s m within)
+    let within : m < length s = omega arith in
+    cc (
+      after_word s n spaces p h,
+      cond-true (bytes_eq (last_bytes 1 (take (m + 1) s)) semicolon) (Some (before_last
+          1 (take (m + 1) s))) None ((bytes_eq-Decides (last_bytes 1 (take (m + 1) s)) semicolon).1 (last_one s m
+          within ∙ ap (λ b. b ∷ []) is)),
+      before_one s m within,
+    )
 
 -- The base64 suffix of a header with a query comes after its '?'.
 
@@ -88,8 +102,20 @@ with_semicolon s n spaces m p h e is = let six = h.six in
 
 -- if b does not pass, the longest suffix of x ++ b ∷ q that passes is as long as that of q
 pub suffix_stop : (p : ℕ → Bool) (x q : List ℕ) (b : ℕ) → p b ≡ false → suffix_len p (x ++ b ∷ q) ≡ suffix_len p q
-suffix_stop p x q b f = let none : prefix_len p (b ∷ reverse x) ≡ 0 = prefix_len-drop_no p (b ∷ reverse x) 0 0 (omega arith) f in
-    let turned : reverse (x ++ b ∷ q) ≡ reverse q ++ b ∷ reverse x = cc (reverse-append x (b ∷ q), reverse-append (b ∷ []) q, append_assoc (reverse q) (b ∷ []) (reverse x)) in cc (prefix_len-append p (reverse q) (b ∷ reverse x), cond_both (eqb (prefix_len p (reverse q)) (length (reverse q))) (length (reverse q) + prefix_len p (b ∷ reverse x)) (prefix_len p (reverse q)) (λ v. v ≡ prefix_len p (reverse q)) (λ e. let k : prefix_len p (reverse q) ≡ length (reverse q) = eqb-true _ _ e in omega (arith, k, none)) (λ e. refl))
+suffix_stop p x q b f =
+    let none : prefix_len p (b ∷ reverse x) ≡ 0 = prefix_len-drop_no p (b ∷ reverse x) 0 0 (omega arith) f in
+    let turned : reverse (x ++ b ∷ q) ≡ reverse q ++ b ∷ reverse x = cc (
+      reverse-append x (b ∷ q),
+      reverse-append (b ∷ []) q,
+      append_assoc (reverse q) (b ∷ []) (reverse x),
+    ) in
+    cc (
+      prefix_len-append p (reverse q) (b ∷ reverse x),
+      cond_both (eqb (prefix_len p (reverse q)) (length (reverse
+          q))) (length (reverse q) + prefix_len p (b ∷ reverse x)) (prefix_len p (reverse q)) (λ v. v
+          ≡ prefix_len p (reverse q)) (λ e. let k : prefix_len p (reverse q)
+          ≡ length (reverse q) = eqb-true _ _ e in omega (arith, k, none)) (λ e. refl),
+    )
 
 front_stop : (p : ℕ → Bool) (x q : List ℕ) (b : ℕ) → p b ≡ false → prefix_len p (x ++ b ∷ q) ≤ length x
 front_stop p x q b f = grind (arith, prefix_len-append, prefix_len-le-length)
@@ -98,7 +124,8 @@ end_after : (x q : List ℕ) → without_end is_space (x ++ 63 ∷ q) ≡ x ++ 6
 end_after x q =
     let few = suffix_len-le-length is_space q in
     let spaces = suffix_len is_space q in
-    let at : length (x ++ 63 ∷ q) - suffix_len is_space (x ++ 63 ∷ q) ≡ length x + suc (length q - spaces) = grind (arith, suffix_stop, length-append) in
+    let at : length (x ++ 63 ∷ q) - suffix_len is_space (x ++ 63 ∷ q)
+    ≡ length x + suc (length q - spaces) = grind (arith, suffix_stop, length-append) in
     ap (λ n. take n (x ++ 63 ∷ q)) at ∙ take-append-add x (63 ∷ q) (suc (length q - spaces))
 
 stripped_after : (x q : List ℕ) → stripped_header (x ++ 63 ∷ q) ≡ drop (prefix_len is_space (x ++ 63 ∷ q))
@@ -158,7 +185,8 @@ by_word x (Some m) = grind (arith, append_assoc, end_after, semicolon_after)
 suffix_after : (x q : List ℕ) → 6 ≤ length q → is_some (before_base64 (x ++ 63 ∷ q)) ≡ after_mark (before_word q)
 unfolding before_base64
 suffix_after x q l =
-    let f : List ℕ → Option (List ℕ) = λ m. before_semicolon (without_end is_space m) in cc (append_assoc x (63 ∷ []) q, word_after (x ++ 63 ∷ []) q l, by_word x (before_word q))
+    let f : List ℕ → Option (List ℕ) = λ m. before_semicolon (without_end is_space m) in
+    cc (append_assoc x (63 ∷ []) q, word_after (x ++ 63 ∷ []) q l, by_word x (before_word q))
 
 same_suffix : (x z q : List ℕ) → is_some (before_base64 (x ++ 63 ∷ q)) ≡ is_some (before_base64 (z ++ 63 ∷ q))
 same_suffix x z q = grind (arith, too_near, suffix_after)

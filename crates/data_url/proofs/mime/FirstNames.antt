@@ -90,7 +90,11 @@ lowercase_name t h = grind (arith, token_text_lower, test_from_equal, lower_twic
 pub lower_chars : (bs : List ℕ) → IsUtf8 bs → is_token_text (chars bs) ≡ true
     → chars (map to_ascii_lowercase bs) ≡ map to_ascii_lowercase (chars bs)
 lower_chars bs u h =
-    let a = token_text_ascii bs (token_text_chars bs u ∙ h) in cc (chars-IsAscii (map to_ascii_lowercase bs) (IsAscii-map to_ascii_lowercase bs lowercase_ascii a), chars-IsAscii bs a)
+    let a = token_text_ascii bs (token_text_chars bs u ∙ h) in
+    cc (
+      chars-IsAscii (map to_ascii_lowercase bs) (IsAscii-map to_ascii_lowercase bs lowercase_ascii a),
+      chars-IsAscii bs a,
+    )
 
 -- Names compared in any case
 
@@ -187,7 +191,7 @@ or_none false = refl
 -- one of the pairs of xs ++ ys has a name exactly if one of xs or one of ys has it
 pub has_append : (n : List ℕ) (xs ys : List Pair) → has_name n (xs ++ ys) ≡ (has_name n xs || has_name n ys)
 has_append n [] ys = refl
-has_append n (p ∷ xs) ys = grind (arith, (has_append n xs ys))
+has_append n (p ∷ xs) ys = grind (arith, has_append n xs ys)
 
 -- one of the pairs has a name after p is pushed exactly if one had it before, or p has it
 pub has_pushed : (n : List ℕ) (xs : List Pair) (p : Pair)
@@ -197,7 +201,7 @@ has_pushed n xs p = has_append n xs (p ∷ []) ∙ ap (λ b. has_name n xs || b)
 first_snoc : (e ps : List Pair) (q : Pair) → first_of_each_name e (ps ++ (q ∷ [])) ≡ first_of_each_name e ps ++ cond
     (has_name q.0 (e ++ ps)) [] (q ∷ [])
 first_snoc e [] q = rw (append-nil e) refl
-first_snoc e (p ∷ ps) q = grind (arith, (first_snoc (e ++ (p ∷ [])) ps q), append_assoc)
+first_snoc e (p ∷ ps) q = grind (arith, first_snoc (e ++ (p ∷ [])) ps q, append_assoc)
 
 -- if the earlier pairs have the name of p, they have each name that is equal to it
 named : (n : List ℕ) (e : List Pair) (p : Pair) → has_name p.0 e ≡ true → bytes_eq p.0 n ≡ true → has_name n e ≡ true
@@ -212,7 +216,7 @@ first_cases n e p kept_rest ps h = grind (arith, named)
 has_first : (n : List ℕ) (e ps : List Pair) → (has_name n e || has_name n (first_of_each_name e ps))
     ≡ (has_name n e || has_name n ps)
 has_first n e [] = refl
-has_first n e (p ∷ ps) = grind (arith, first_cases, has_pushed, (has_first n (e ++ (p ∷ [])) ps))
+has_first n e (p ∷ ps) = grind (arith, first_cases, has_pushed, has_first n (e ++ (p ∷ [])) ps)
 
 kept_with_one : (ps qs : List Pair) → (qs ≡ []) ⊎ ((p : Pair) × (qs ≡ p ∷ []))
     → first_of_each_name [] (ps ++ qs) ≡ first_of_each_name [] ps ++ unless_named (first_of_each_name [] ps) qs
@@ -299,7 +303,8 @@ pub lower_first : {A B : Type 0} (pairs : List (String A × String B)) (k : ℕ)
     → HasLowercaseNames (map (λ p. pair_of p) pairs) → HasLowercaseNames (map (λ p. pair_of p) (take k pairs))
 lower_first pairs k h = let test : Pair → Bool = λ p. is_lowercase_name p.0 in
     let all = map (λ p. pair_of p) pairs in
-    let e = sym (list_all-append test (take k all) (drop k all)) ∙ ap (list_all test) (take-append-drop k all) ∙ h in cc (take-map (λ p. pair_of p) k pairs, (and_parts (list_all test (take k all)) (list_all test (drop k all)) e).0)
+    let e = sym (list_all-append test (take k all) (drop k all)) ∙ ap (list_all test) (take-append-drop k all) ∙ h in
+    cc (take-map (λ p. pair_of p) k pairs, (and_parts (list_all test (take k all)) (list_all test (drop k all)) e).0)
 
 first_or_later : (n : List ℕ) (pairs : List Pair)
     → has_name n pairs ≡ (has_name n (first_of pairs) || has_name n (drop LOOKED_THROUGH pairs))
@@ -360,7 +365,13 @@ pub later_names : {A : Type 0} (later later' : BTreeSet (String A)) (pairs : Lis
     → UpdatesBy string_cmp (λ k. slice_cmp nat_cmp (string_bytes name) (string_bytes k)) later later' true
     → HasLaterNames later' (pairs ++ (p ∷ []))
 later_names later later' pairs p name l h e u n =
-    cc (btree_set_updates_text (string_bytes name) later later' true u n, or_cond (bytes_eq (string_bytes name) n) (contains_text later n), h n, has_pushed n (drop LOOKED_THROUGH pairs) p, drop-append-le LOOKED_THROUGH pairs (p ∷ []) l)
+    cc (
+      btree_set_updates_text (string_bytes name) later later' true u n,
+      or_cond (bytes_eq (string_bytes name) n) (contains_text later n),
+      h n,
+      has_pushed n (drop LOOKED_THROUGH pairs) p,
+      drop-append-le LOOKED_THROUGH pairs (p ∷ []) l,
+    )
 
 -- if a pair with a lower-case name is pushed, and the set has the names of the later pairs, the pairs stay indexed
 pub indexed_more : (kept kept' : KeptParameters) (p : Pair) → IsIndexed kept → is_lowercase_name p.0 ≡ true
@@ -383,12 +394,12 @@ first_all p e (q ∷ ps) h =
 
 all_quotable : (items : List Item) → list_all (λ (p : Pair). list_all is_quotable p.1) (valid_pairs items) ≡ true
 all_quotable [] = refl
-all_quotable (item ∷ items) = grind (arith, (all_quotable items))
+all_quotable (item ∷ items) = grind (arith, all_quotable items)
 
 all_lower : (r : List ℕ) (items : List Item) → Items r items → HasLowercaseNames (valid_pairs items)
 all_lower r [] h = refl
 all_lower r (item ∷ items) h =
-    grind (arith, lowercase_name, token_text_lower, (all_lower h.1 items h.4))
+    grind (arith, lowercase_name, token_text_lower, all_lower h.1 items h.4)
 
 -- No name is kept twice
 
@@ -402,7 +413,7 @@ pushed_has n e q h = has_append n e (q ∷ []) ∙ or_left (has_name n e) (has_n
 none_again : (n : List ℕ) (e ps : List Pair) → has_name n e ≡ true → has_name n (first_of_each_name e ps) ≡ false
 none_again n e [] h = refl
 none_again n e (q ∷ ps) h =
-    search (arith, (none_again n (e ++ (q ∷ [])) ps (pushed_has n e q h)), has_itself)
+    search (arith, none_again n (e ++ (q ∷ [])) ps (pushed_has n e q h), has_itself)
 
 own_name : (e : List Pair) (q : Pair) → has_name q.0 (e ++ (q ∷ [])) ≡ true
 own_name e q = grind (arith, has_append, test_from_equal)
@@ -410,7 +421,7 @@ own_name e q = grind (arith, has_append, test_from_equal)
 first_distinct : (e ps : List Pair) → has_distinct_names (first_of_each_name e ps) ≡ true
 first_distinct e [] = refl
 first_distinct e (q ∷ ps) =
-    grind (arith, (first_distinct (e ++ (q ∷ [])) ps), none_again, own_name)
+    grind (arith, first_distinct (e ++ (q ∷ [])) ps, none_again, own_name)
 
 -- Each record of a text is well-formed
 

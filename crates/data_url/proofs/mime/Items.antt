@@ -152,7 +152,12 @@ is_quoted_reading s v None h = record {
 }
 is_quoted_reading s v (Some w) h = record {
   tail = 61 ∷ 34 ∷ (h.0 ++ (34 ∷ front_of in_value w));
-  joined = ap (λ x. 61 ∷ 34 ∷ x) (cc (front_joined in_value w, append_assoc h.0 (34 ∷ front_of in_value w) (after_front in_value w)));
+  joined =
+      ap (λ x. 61 ∷ 34 ∷ x) (cc (
+        front_joined in_value w,
+        append_assoc h.0 (34 ∷ front_of in_value w) (after_front
+            in_value w),
+      ));
   gives = quoted h.0 (front_of in_value w) h.2 (front_passes in_value w);
   begins = begins_after w;
 }
@@ -481,4 +486,5 @@ has_at_most_one_record s m n h k = let p = has_parts s h.type_ h.subtype h.param
     record_equal m n
     (h.record_is.type_is ∙ ap (map to_ascii_lowercase) (sym p.type_is ∙ q.type_is) ∙ sym k.record_is.type_is)
     (cc)
-    (cc (same_items h.parameters k.parameters h.record_is.items k.record_is.items (sym p.parameters_are ∙ q.parameters_are) h.record_is.items_are k.record_is.items_are))
+    (cc (same_items h.parameters k.parameters h.record_is.items k.record_is.items (sym p.parameters_are
+    ∙ q.parameters_are) h.record_is.items_are k.record_is.items_are))

@@ -80,7 +80,11 @@ module _ (t : ℕ → Bool) (ascii : (c : ℕ) → t c ≡ true → c < 128) whe
         let after = IsUtf8-drop s n u cut_boundary in
         record {
           joined = ap chars (sym (take-append-drop n s)) ∙ chars-append (take n s) (drop n s) front;
-          in_front = chars_fail (chars (take n s)) (cc (encodes-chars (take n s) front, take_front p s, all_from_every p (front_of p s) (front_passes p s)));
+          in_front = chars_fail (chars (take n s)) (cc (
+            encodes-chars (take n s) front,
+            take_front p s,
+            all_from_every p (front_of p s) (front_passes p s),
+          ));
           begins = begins_with (drop n s) after (subst (DoesNotBegin p) (sym (drop_front p s)) (after_begins p s));
           text = (front, after);
         }
@@ -164,7 +168,12 @@ trimmed_end p below s u = let m = suffix_len p s in
     ap p (get_or-drop k s i 0) ∙ suffix_passes p s m (k + i) refl (omega arith) (omega arith)) in
     record {
       back = drop k s;
-      joined = cc (take-append-drop k s, chars-append (take k s) (drop k s) front, chars-IsAscii (drop k s) (every_ascii p below (drop k s) passes));
+      joined =
+          cc (
+            take-append-drop k s,
+            chars-append (take k s) (drop k s) front,
+            chars-IsAscii (drop k s) (every_ascii p below (drop k s) passes),
+          );
       at_back = passes;
       ends = ends_other p below (take k s) front (λ n e.
           let long : length (take k s) ≡ k = length-take-le k s (omega arith) in
@@ -207,7 +216,7 @@ quotable_encoded c = grind (arith, low_quotable, high_quotable, not_quotable)
 
 quotable_bytes : (cs : List ℕ) → list_all is_quotable_byte (encode_utf8_all cs) ≡ list_all is_quotable cs
 quotable_bytes [] = refl
-quotable_bytes (c ∷ cs) = grind (arith, list_all-append, quotable_encoded, (quotable_bytes cs))
+quotable_bytes (c ∷ cs) = grind (arith, list_all-append, quotable_encoded, quotable_bytes cs)
 
 -- each byte of a UTF-8 text passes `is_quotable_byte` exactly if each of its code points passes `is_quotable`
 pub quotable_chars : (bs : List ℕ) → IsUtf8 bs → list_all is_quotable_byte bs ≡ list_all is_quotable (chars bs)
@@ -253,7 +262,11 @@ pub unescape_pushes : (v v' r r' whole : List ℕ) (c : ℕ) (e e' : Bool) → I
     → v' ≡ v ++ encode c → e' ≡ ((c == 92) && not e) → e' ≡ false → chars v ++ unescaped e (chars r) ≡ whole
     → chars v' ++ unescaped e' (chars r') ≡ whole
 unescape_pushes v v' r r' whole c e e' u w s g k f h =
-    cc (chars_push v c u (scalar_from r r' c w s), append_assoc (chars v) (c ∷ []) (unescaped false (chars r')), chars_past_char r r' c w s)
+    cc (
+      chars_push v c u (scalar_from r r' c w s),
+      append_assoc (chars v) (c ∷ []) (unescaped false (chars r')),
+      chars_past_char r r' c w s,
+    )
 
 -- if the first code point of r is a '\' that escapes, leaving it out preserves the whole
 pub unescape_skips : (v r r' whole : List ℕ) (c : ℕ) (e e' : Bool) → IsUtf8 r → r ≡ encode c ++ r'
@@ -284,7 +297,7 @@ units_quotable : (units : List QuotedUnit) → list_all is_quotable (flat_map un
     (map unit_value units)
 units_quotable [] = refl
 units_quotable (Plain c ∷ units) = ap (λ b. is_quotable c && b) (units_quotable units)
-units_quotable (Escaped c ∷ units) = grind (arith, escaped_quotable, (units_quotable units))
+units_quotable (Escaped c ∷ units) = grind (arith, escaped_quotable, units_quotable units)
 
 quoted_same : (q v : List ℕ) → Quoted q v → list_all is_quotable q ≡ list_all is_quotable v
 quoted_same q v h = rw (h.text_is, h.value_is) (units_quotable h.units)
@@ -321,7 +334,7 @@ missing_text self value e i = let k = subst (λ s. IsValue s value) e i in sym k
 
 stays_unescaped : (cs : List ℕ) → Without is_escaped cs → unescaped false cs ≡ cs
 stays_unescaped [] h = refl
-stays_unescaped (c ∷ cs) h = grind (arith, (stays_unescaped cs h.1))
+stays_unescaped (c ∷ cs) h = grind (arith, stays_unescaped cs h.1)
 
 -- a quoted string without '"' and '\' is its own value
 pub copied : (v q value : List ℕ) → Without is_escaped (chars q) → v ≡ q → QuotedOpen (chars q) value → chars v ≡ value
@@ -345,13 +358,18 @@ front_len = in_parts is_unquoted_byte (λ b. not (is_semicolon b)) no_semicolon_
 
 all_quotable : (bs : List ℕ) → Every is_unquoted_byte bs → list_all is_quotable_byte bs ≡ true
 all_quotable [] h = refl
-all_quotable (b ∷ bs) h = grind (arith, (all_quotable bs h.1))
+all_quotable (b ∷ bs) h = grind (arith, all_quotable bs h.1)
 
 -- a prefix that is not longer than the longest prefix of unquoted bytes has only quoted-string code points
 pub short_quotable : (text t more : List ℕ) (q : ℕ) → text ≡ t ++ more → IsUtf8 t → q ≡ prefix_len is_unquoted_byte text
     → length t ≤ q → list_all is_quotable (chars t) ≡ true
 short_quotable text t more q e u h few =
-    cc (quotable_chars t u, all_quotable t (every_from is_unquoted_byte t (λ k l. ap is_unquoted_byte (sym (get_or_append_left t more 0 k l) ∙ ap (λ x. get_or x k 0) (sym e)) ∙ prefix_len_passes is_unquoted_byte text k 0 (subst (λ n. k < n) h (omega (arith, few))))))
+    cc (
+      quotable_chars t u,
+      all_quotable t (every_from is_unquoted_byte t (λ k l. ap is_unquoted_byte (sym
+          (get_or_append_left t more 0 k l) ∙ ap (λ x. get_or x k 0) (sym e))
+          ∙ prefix_len_passes is_unquoted_byte text k 0 (subst (λ n. k < n) h (omega (arith, few))))),
+    )
 
 -- a prefix without ';' that is longer than the longest prefix of unquoted bytes has another code point
 pub long_other : (text t more : List ℕ) (q n : ℕ) → text ≡ t ++ more → IsUtf8 t → q ≡ prefix_len is_unquoted_byte text
@@ -363,7 +381,13 @@ long_other text t more q n e u h m few l = let p : ℕ → Bool = λ b. not (is_
     let passes : p (get_or text q 0) ≡ true =
     prefix_len_passes p text q 0 (subst (λ i. q < i) m (omega (arith, few))) in
     let fails : is_unquoted_byte (get_or text q 0) ≡ false = grind (arith, prefix_len_stops) in
-    let other : is_quotable_byte (get_or text q 0) ≡ false = grind (arith, false_from_ne_true, false≢true, fails, and_from) in
+    let other : is_quotable_byte (get_or text q 0) ≡ false = grind (
+      arith,
+      false_from_ne_true,
+      false≢true,
+      fails,
+      and_from,
+    ) in
     sym (quotable_chars t u) ∙ list_all_at is_quotable_byte t q 0 l (ap is_quotable_byte same ∙ other)
 
 -- the bytes of a text without whitespace at its end are a prefix of its bytes

@@ -44,7 +44,7 @@ escaped_end r done whole l h = grind (arith, append-nil, no_chars)
 
 plain_chars : (cs : List ℕ) → Without is_escaped cs → flat_map escaped_code_point cs ≡ cs
 plain_chars [] h = refl
-plain_chars (c ∷ cs) h = grind (arith, (plain_chars cs h.1))
+plain_chars (c ∷ cs) h = grind (arith, plain_chars cs h.1)
 
 -- a text without '"' and '\' is the UTF-8 of its escaped code points
 pub plain_text : (v : List ℕ) → IsUtf8 v → Without is_escaped (chars v)
@@ -143,7 +143,8 @@ module _ {W : Type 0} {took : W → List ℕ → W → Type 0} where
   added_append f g h l m n a b x y = record {
     written = x.written ++ y.written;
     wrote = has_written_styled_append _ _ _ _ _ _ x.wrote y.wrote;
-    joined = cc (append_assoc (held l) a b, append_assoc x.written (held m) b, append_assoc x.written y.written (held n));
+    joined =
+        cc (append_assoc (held l) a b, append_assoc x.written (held m) b, append_assoc x.written y.written (held n));
   }
 
   -- if a is appended, a text that is equal to it is
@@ -199,7 +200,7 @@ pairs_same [] [] h = refl
 pairs_same [] (q ∷ qs) h = absurd (cc)
 pairs_same (p ∷ ps) [] h = absurd (cc)
 pairs_same (p ∷ ps) (q ∷ qs) h =
-    grind (arith, pair_same, (pairs_same ps qs (second_so (same_pair p q) (pointwise same_pair ps qs) h)))
+    grind (arith, pair_same, pairs_same ps qs (second_so (same_pair p q) (pointwise same_pair ps qs) h))
 
 same_pairs : {A B : Type 0} (ps qs : List (String A × String B)) → map texts_of_pair ps ≡ map texts_of_pair qs
     → pointwise same_pair ps qs ≡ true
@@ -224,7 +225,7 @@ pub copied_pairs : {A B : Type 0} (ps qs : List (String A × String B))
 copied_pairs [] [] h = refl
 copied_pairs [] (q ∷ qs) h = absurd h
 copied_pairs (p ∷ ps) [] h = absurd h
-copied_pairs (p ∷ ps) (q ∷ qs) h = grind (arith, (copied_pairs ps qs h.1))
+copied_pairs (p ∷ ps) (q ∷ qs) h = grind (arith, copied_pairs ps qs h.1)
 
 -- code points follow from bytes
 abbrev pair_seen : List ℕ × List ℕ → Pair
@@ -249,7 +250,7 @@ pair_spelled p = (encode_utf8_all p.0, encode_utf8_all p.1)
 pairs_spelled : {A B : Type 0} (ps : List (String A × String B))
     → map texts_of_pair ps ≡ map pair_spelled (map pair_of ps)
 pairs_spelled [] = refl
-pairs_spelled (p ∷ ps) = grind (arith, text_bytes, (pairs_spelled ps))
+pairs_spelled (p ∷ ps) = grind (arith, text_bytes, pairs_spelled ps)
 
 -- if the records of code points of two MIME types are equal, the MIME types have the same texts
 pub seen_same : (m n : Mime) → record_of m ≡ record_of n → SameTexts m n

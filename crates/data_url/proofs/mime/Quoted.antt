@@ -33,14 +33,14 @@ quoted_rest true (c ∷ t) = quoted_rest false t
 pub value_of_units : (units : List QuotedUnit) (x : List ℕ) → AllByRecursion IsUnit units
     → quoted_value false (flat_map unit_text units ++ x) ≡ map unit_value units ++ quoted_value false x
 value_of_units [] x h = refl
-value_of_units (Plain c ∷ units) x h = grind (arith, (value_of_units units x h.1))
+value_of_units (Plain c ∷ units) x h = grind (arith, value_of_units units x h.1)
 value_of_units (Escaped c ∷ units) x h = ap (λ v. c ∷ v) (value_of_units units x h.1)
 
 -- units before a text do not change what the text after the closing quote is
 pub rest_of_units : (units : List QuotedUnit) (x : List ℕ) → AllByRecursion IsUnit units
     → quoted_rest false (flat_map unit_text units ++ x) ≡ quoted_rest false x
 rest_of_units [] x h = refl
-rest_of_units (Plain c ∷ units) x h = grind (arith, (rest_of_units units x h.1))
+rest_of_units (Plain c ∷ units) x h = grind (arith, rest_of_units units x h.1)
 rest_of_units (Escaped c ∷ units) x h = rest_of_units units x h.1
 
 -- the value of a quoted text and then x is the value of that text, and then the value of x
@@ -137,8 +137,8 @@ unescaped escaped (c ∷ t) = cond ((c == 92) && not escaped) (unescaped true t)
 unescaped_units : (units : List QuotedUnit) (x : List ℕ) → AllByRecursion IsUnit units
     → unescaped false (flat_map unit_text units ++ x) ≡ map unit_value units ++ unescaped false x
 unescaped_units [] x h = refl
-unescaped_units (Plain c ∷ units) x h = grind (arith, (unescaped_units units x h.1))
-unescaped_units (Escaped c ∷ units) x h = grind (arith, (unescaped_units units x h.1))
+unescaped_units (Plain c ∷ units) x h = grind (arith, unescaped_units units x h.1)
+unescaped_units (Escaped c ∷ units) x h = grind (arith, unescaped_units units x h.1)
 
 unescaped_before : (q v x : List ℕ) → Quoted q v → unescaped false (q ++ x) ≡ v ++ unescaped false x
 unescaped_before q v x h = rw (h.text_is, h.value_is) (unescaped_units h.units x h.each)
@@ -168,7 +168,7 @@ pub rest_encodes : (e : Bool) (cs : List ℕ) → quoted_rest e (encode_utf8_all
     (quoted_rest e cs)
 rest_encodes e [] = refl
 rest_encodes e (c ∷ cs) =
-    search (arith, encode_ascii, (rest_encodes true cs), (rest_encodes false cs), skips_encoded)
+    search (arith, encode_ascii, rest_encodes true cs, rest_encodes false cs, skips_encoded)
 
 -- the bytes after the closing quote of a UTF-8 text are the encoding of the code points after it
 pub rest_chars : (bs : List ℕ) → IsUtf8 bs → quoted_rest false bs ≡ option_map encode_utf8_all
@@ -205,7 +205,13 @@ quote_joined bs i u l e = drop-cons bs i 0 l ∙ ap₂ (λ x y. x ∷ y) e (ap (
 chars_joined : (bs : List ℕ) (i : ℕ) → IsUtf8 bs → i < length bs → get_or bs i 0 ≡ 34
     → chars bs ≡ chars (take i bs) ++ (34 ∷ chars (drop (i + 1) bs))
 chars_joined bs i u l e =
-    let b = IsCharBoundary-before_ascii bs i l (omega arith) in cc (take-append-drop i bs, chars-append (take i bs) (drop i bs) (IsUtf8-take bs i u b), chars_past_char (drop i bs) (drop (i + 1) bs) 34 (IsUtf8-drop bs i u b) (quote_joined bs i u l e ∙ ap (λ x. x ++ drop (i + 1) bs) (sym (encode_ascii 34 (omega arith)))))
+    let b = IsCharBoundary-before_ascii bs i l (omega arith) in
+    cc (
+      take-append-drop i bs,
+      chars-append (take i bs) (drop i bs) (IsUtf8-take bs i u b),
+      chars_past_char (drop i bs) (drop (i + 1) bs) 34 (IsUtf8-drop bs i u b) (quote_joined bs i u l e
+          ∙ ap (λ x. x ++ drop (i + 1) bs) (sym (encode_ascii 34 (omega arith)))),
+    )
 
 range_take : (bs : List ℕ) (i : ℕ) → slice_range bs 0 i ≡ take i bs
 range_take bs i = ap (λ k. take k bs) (omega arith)

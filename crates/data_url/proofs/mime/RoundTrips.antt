@@ -204,7 +204,9 @@ first_itself : (earlier pairs : List Pair) → Apart earlier pairs → has_disti
     → first_of_each_name earlier pairs ≡ pairs
 first_itself earlier [] h k = refl
 first_itself earlier (p ∷ pairs) h k =
-    let d = and_parts (not (has_name p.0 pairs)) (has_distinct_names pairs) k in cc (first_itself (earlier ++ (p ∷ [])) pairs (apart_more earlier p pairs h.1 (not-true (has_name p.0 pairs) d.0)) d.1)
+    let d = and_parts (not (has_name p.0 pairs)) (has_distinct_names pairs) k in
+    cc (first_itself (earlier ++ (p ∷ [])) pairs (apart_more earlier p pairs h.1 (not-true (has_name p.0 pairs) d.0))
+    d.1)
 
 all_kept : (m : Record) → IsWellformed m → m.parameters ≡ kept_pairs (map item_of m.parameters)
 all_kept m w = sym (ap (first_of_each_name []) (all_valid m.parameters w.names w.values)

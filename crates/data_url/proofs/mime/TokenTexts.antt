@@ -129,7 +129,12 @@ module _ (p : ℕ → Bool) (below : (c : ℕ) → p c ≡ true → c < 128) whe
   is_split bs u = let front = IsUtf8-from_ascii (take (prefix_len p bs) bs) (front_ascii bs) in
       let after = IsUtf8-drop bs (prefix_len p bs) u (front_boundary bs u) in
       record {
-        joined = cc (take-append-drop (prefix_len p bs) bs, chars-append (take (prefix_len p bs) bs) (drop (prefix_len p bs) bs) front);
+        joined =
+            cc (
+              take-append-drop (prefix_len p bs) bs,
+              chars-append (take (prefix_len p bs) bs) (drop (prefix_len p
+                  bs) bs) front,
+            );
         in_front = grind (arith, chars-IsAscii, front_ascii, take_front, front_passes);
         begins = grind (arith, not_begins_chars, drop_front, after_begins);
         text = (front, after);
@@ -147,7 +152,7 @@ split_at_other text front after n u k f g = rw (f, g, k) (is_split is_token toke
 -- each item of a text passes exactly if its longest prefix that passes is the whole text
 pub whole_front : (p : ℕ → Bool) (s : List ℕ) → list_all p s ≡ (prefix_len p s == length s)
 whole_front p [] = refl
-whole_front p (c ∷ s) = grind (arith, (whole_front p s))
+whole_front p (c ∷ s) = grind (arith, whole_front p s)
 
 -- a UTF-8 text that is not empty is a token text exactly if its longest prefix of token code points is the whole text
 pub token_text_by_front : (bs text : List ℕ) (n : ℕ) → IsUtf8 text → n ≡ prefix_len is_token bs → bs ≡ text

@@ -197,7 +197,7 @@ recoded_byte p within b s x l r = cond_both (p b) (37 ∷ hex_digit (b / 16) ∷
 pub is_recoded : (p : ℕ → Bool) → ((b : ℕ) → p b ≡ true → in_query_set b ≡ true) → (s : List ℕ) → IsBytes s
     → Recoded s (percent_encoding p s)
 is_recoded p within [] h = subst (λ x. Recoded [] x) (sym (encoded_nil p)) none
-is_recoded p within (b ∷ s) h = grind (arith, encoded_cons, recoded_byte, (is_recoded p within s h.1))
+is_recoded p within (b ∷ s) h = grind (arith, encoded_cons, recoded_byte, is_recoded p within s h.1)
 
 -- each byte of a path's set is in the query's set
 pub path_within_query : (b : ℕ) → in_path_set b ≡ true → in_query_set b ≡ true
@@ -259,7 +259,7 @@ serialised_recoded [] h = subst (λ x. Recoded [] x) (sym serialised_nil) none
 serialised_recoded (b ∷ s) h = elim (cases_Bool (b == 63)) [
   | inl e ↦ let f : b ≡ 63 = eqb-true b 63 e in subst (λ v. Recoded (v ∷ s) (serialised (v ∷ s))) (sym f)
       (subst (λ x. Recoded (63 ∷ s) x) (sym (serialised_query s)) (kept 63 (is_recoded in_query_set (λ b e. e) s h.1)))
-  | inr e ↦ grind (arith, serialised_path, recoded_byte, path_byte_within, (serialised_recoded s h.1))
+  | inr e ↦ grind (arith, serialised_path, recoded_byte, path_byte_within, serialised_recoded s h.1)
 ]
 
 -- The first comma
@@ -278,8 +278,8 @@ after_written b x = grind (arith, after_other)
 -- neither has a comma
 pub recoded_tails : {s x : List ℕ} → Recoded s x → RecodedTails (after 44 s) (after 44 x)
 recoded_tails none = subst (λ v. RecodedTails v v) (sym (after_nil 44)) tt
-recoded_tails (kept {s} {x} b r) = grind (arith, after_same, after_other, (recoded_tails r))
-recoded_tails (written {s} {x} b h l r) = grind (arith, after_other, set_other, after_written, (recoded_tails r))
+recoded_tails (kept {s} {x} b r) = grind (arith, after_same, after_other, recoded_tails r)
+recoded_tails (written {s} {x} b h l r) = grind (arith, after_other, set_other, after_written, recoded_tails r)
 
 -- the bytes before the first comma of an encoded text are the encoding of the bytes before the first comma
 
@@ -290,7 +290,7 @@ before_encoded : (p : ℕ → Bool) → p 44 ≡ false → (s : List ℕ) → be
     (before 44 s)
 before_encoded p h [] = grind (arith, encoded_nil, before_nil)
 before_encoded p h (b ∷ s) =
-    search (arith, encoded_cons, before_same, encoded_nil, (before_encoded p h s), before_other)
+    search (arith, encoded_cons, before_same, encoded_nil, before_encoded p h s, before_other)
 
 -- the header's text, byte by byte
 
@@ -336,7 +336,15 @@ before-serialised (b ∷ h) rest e = let k = lacks 44 b h e in
     elim (cases_Bool (b == 63)) [
       | inl f ↦ grind (arith, eqb-true, serialised_query, before_other, before_encoded, before_at, header_query)
       | inr f ↦
-          let set = path_byte_set (before 63 (h ++ 44 ∷ rest)) in cc (serialised_path b (h ++ 44 ∷ rest) f, before-append 44 (encoded_byte set b) (serialised (h ++ 44 ∷ rest)) (encoded_byte_lacks set b k.here), before-serialised h rest k.after_it, same_set h rest (after 63 h) refl, header_path b h f)
+          let set = path_byte_set (before 63 (h ++ 44 ∷ rest)) in
+          cc (
+            serialised_path b (h ++ 44 ∷ rest) f,
+            before-append 44 (encoded_byte set b) (serialised (h ++ 44 ∷
+                rest)) (encoded_byte_lacks set b k.here),
+            before-serialised h rest k.after_it,
+            same_set h rest (after 63 h) refl,
+            header_path b h f,
+          )
     ]
 
 -- Percent-encoding a text without its tabs and newlines: byte by byte, and part by part.
@@ -439,7 +447,11 @@ put_more p s i room at row room' m l within r n h = let long_room = m.long in
     let short = row_short p (get_or s i 0) row r in
     let f = m.few in
     let long : length (take at room) ≡ at = length-take-le at room (omega arith) in
-    let front : take (at + width) room' ≡ take at room ++ byte_encoding p (get_or s i 0) = cc (take-take (at + width) (at + 4) room' (omega arith), take-append-add (take at room) row width) in
+    let front : take (at + width) room' ≡ take at room ++ byte_encoding p (get_or s i 0) = cc (
+      take-take (at + width)
+          (at + 4) room' (omega arith),
+      take-append-add (take at room) row width,
+    ) in
     record {
       few = omega arith;
       long = n;

@@ -88,7 +88,7 @@ pub is_cut : (c : ℕ) (s rest : List ℕ) → after c s ≡ Some rest → IsCut
 is_cut c [] rest h = absurd (let k : None ≡ Some rest = sym (after_nil c) ∙ h in cc)
 is_cut c (b ∷ s) rest h = elim (cases_Bool (b == c)) [
   | inl e ↦ grind (arith, eqb-true, before_same, after_same, lacks, after_nil)
-  | inr e ↦ grind (arith, (is_cut c s rest (sym (after_other c b s e) ∙ h)), after_other, before_other, lacks)
+  | inr e ↦ grind (arith, is_cut c s rest (sym (after_other c b s e) ∙ h), after_other, before_other, lacks)
 ]
 
 -- if c is at no index of the text, the text has no c
@@ -120,7 +120,7 @@ pub without_tabs_and_newlines-append : (a s : List ℕ)
     → without_tabs_and_newlines (a ++ s) ≡ without_tabs_and_newlines a ++ without_tabs_and_newlines s
 unfolding without_tabs_and_newlines
 without_tabs_and_newlines-append [] s = refl
-without_tabs_and_newlines-append (b ∷ a) s = grind (arith, (without_tabs_and_newlines-append a s))
+without_tabs_and_newlines-append (b ∷ a) s = grind (arith, without_tabs_and_newlines-append a s)
 
 -- if c is not a tab or newline and a text has no c, then the text without tabs and newlines has no c
 pub after-dropped_none : (c : ℕ) → is_tab_or_newline c ≡ false → (s : List ℕ) → after c s ≡ None
@@ -128,7 +128,11 @@ pub after-dropped_none : (c : ℕ) → is_tab_or_newline c ≡ false → (s : Li
 after-dropped_none c k [] h = ap (after c) dropped_nil ∙ after_nil c
 after-dropped_none c k (b ∷ s) h = let l = lacks c b s h in elim (cases_Bool (is_tab_or_newline b)) [
   | inl e ↦ ap (after c) (dropped_passes b s e) ∙ after-dropped_none c k s l.after_it
-  | inr e ↦ cc (dropped_keeps b s e, after_other c b (without_tabs_and_newlines s) l.here, after-dropped_none c k s l.after_it)
+  | inr e ↦ cc (
+    dropped_keeps b s e,
+    after_other c b (without_tabs_and_newlines s) l.here,
+    after-dropped_none c k s l.after_it,
+  )
 ]
 
 -- if c is not a tab or newline, dropping these from a ++ c ∷ s drops them from a and from s, and keeps c
@@ -141,7 +145,12 @@ fragment_cases : (tail : List ℕ) (o : Option (List ℕ)) → after 35 tail ≡
 unfolding fragment
 fragment_cases tail None h = after-dropped_none 35 refl tail h
 fragment_cases tail (Some rest) h =
-    let cut = is_cut 35 tail rest h in cc (dropped_around 35 refl (before 35 tail) rest, after_at 35 (without_tabs_and_newlines (before 35 tail)) (without_tabs_and_newlines rest) (after-dropped_none 35 refl (before 35 tail) cut.lacks))
+    let cut = is_cut 35 tail rest h in
+    cc (
+      dropped_around 35 refl (before 35 tail) rest,
+      after_at 35 (without_tabs_and_newlines (before 35 tail))
+          (without_tabs_and_newlines rest) (after-dropped_none 35 refl (before 35 tail) cut.lacks),
+    )
 
 -- tabs and newlines can be dropped before the fragment is cut off, or after
 pub fragment_dropped : (tail : List ℕ)

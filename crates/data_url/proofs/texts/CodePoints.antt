@@ -44,7 +44,7 @@ after_is p (c ∷ a) b h e = cond-true (p c) (after_front p (a ++ b)) (c ∷ (a 
 -- a text is its longest prefix that passes, then the text after that prefix
 pub front_joined : (p : ℕ → Bool) (s : List ℕ) → s ≡ front_of p s ++ after_front p s
 front_joined p [] = refl
-front_joined p (c ∷ t) = grind (arith, (front_joined p t))
+front_joined p (c ∷ t) = grind (arith, front_joined p t)
 
 -- each code point of the longest prefix that passes does pass
 pub front_passes : (p : ℕ → Bool) (s : List ℕ) → Every p (front_of p s)
@@ -54,7 +54,7 @@ front_passes p (c ∷ t) = cond_both (p c) (c ∷ front_of p t) [] (λ v. Every 
 -- the text after the longest prefix that passes does not begin with a code point that passes
 pub after_begins : (p : ℕ → Bool) (s : List ℕ) → DoesNotBegin p (after_front p s)
 after_begins p [] = tt
-after_begins p (c ∷ t) = grind (arith, (after_begins p t))
+after_begins p (c ∷ t) = grind (arith, after_begins p t)
 
 -- one more code point before the rest of a text
 abbrev pub keep_before : (ℕ → Bool) → ℕ → List ℕ → List ℕ

@@ -20,7 +20,12 @@ returns-in-Err g c =
 
 pub returns-in-Ok-answer : goal.returns-in-Ok-answer
 returns-in-Ok-answer g c =
-    let over : (c.chunks.pieces.rest ≡ []) × (c.chunks-test.pieces.text ≡ c.chunks.pieces.text) = grind (arith, else-chunks-test, then-chunks-test+in_default, over_next) in
+    let over : (c.chunks.pieces.rest ≡ []) × (c.chunks-test.pieces.text ≡ c.chunks.pieces.text) = grind (
+      arith,
+      else-chunks-test,
+      then-chunks-test+in_default,
+      over_next,
+    ) in
     let P : List ℕ → Type 0 = λ t. IsBodyEnd t c.end.result in
     let end : IsBodyEnd c.args.tail.now c.end.result = subst P (over.1 ∙ c.chunks.invariant.2.text_is) c.end.ensures in
     fed_ended (CalledAt g.F.FnMut) c.end.result refl c.chunks.invariant.2 over.0

@@ -58,14 +58,20 @@ range_from-requires c =
     c.loop-place.invariant.open_at b.same)
 
 pub returns-then-matched-eq5-clause-found : goal.returns-then-matched-eq5-clause-found
-returns-then-matched-eq5-clause-found c = let b = spelled c.args.text.now c.as_bytes-byte-items.result.now c.loop-place.place c.loop-place.matched
+returns-then-matched-eq5-clause-found c =
+    let b = spelled c.args.text.now c.as_bytes-byte-items.result.now c.loop-place.place c.loop-place.matched
     c.to_ascii_lowercase.result c.is_tab_or_newline.result c.as_bytes-byte-items.ensures.value
     c.loop-place-test.true c.is_tab_or_newline.ensures c.if-is_tab_or_newline.false
     c.to_ascii_lowercase.ensures.value c.if-to_ascii_lowercase-matched.false in
     record {
       scheme = take (c.loop-place.place + 1) c.args.text.now;
       joined = cc (take-append-drop (c.loop-place.place + 1) c.args.text.now);
-      spelled = cc (take_more c.args.text.now c.loop-place.place 0 b.within, spells_all (take c.loop-place.place c.args.text.now) c.loop-place.matched (get_or c.args.text.now c.loop-place.place 0) c.loop-place.invariant b.stays b.same c.if-matched-eq5.true);
+      spelled =
+          cc (
+            take_more c.args.text.now c.loop-place.place 0 b.within,
+            spells_all (take c.loop-place.place c.args.text.now) c.loop-place.matched (get_or c.args.text.now
+                c.loop-place.place 0) c.loop-place.invariant b.stays b.same c.if-matched-eq5.true,
+          );
     }
 
 pub loop-place-preserved : goal.loop-place-preserved

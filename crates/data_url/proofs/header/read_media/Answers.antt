@@ -13,7 +13,8 @@ use Rattle.data_url.proofs.header.read_media.Goals as goal
 
 pub returns-then-is_empty : goal.returns-then-is_empty
 returns-then-is_empty c = let bytes = c.as_bytes-bytes.ensures.value in
-    let none : c.args.media.now ≡ [] = nil_from_length c.args.media.now (cc (eqb-true (length c.as_bytes-bytes.result.now) 0 (sym c.is_empty.ensures ∙ c.if-is_empty.true))) in
+    let none : c.args.media.now ≡ [] = nil_from_length c.args.media.now (cc (eqb-true (length
+    c.as_bytes-bytes.result.now) 0 (sym c.is_empty.ensures ∙ c.if-is_empty.true))) in
     IfOk-weaker c.default_mime.result _ _ (λ mime h. default_for (with_plain c.args.media.now) (record_of mime)
     (subst (λ s. HasNoRecord (with_plain s)) (sym none) empty_text) h) c.default_mime.ensures
 
@@ -29,6 +30,10 @@ returns-then-bytes-eq59 c = let first : get_or c.args.media.now 0 0 ≡ 59 = cc 
 pub returns : goal.returns
 returns c = let unlike : get_or c.args.media.now 0 0 ≢ 59 =
     λ e. c.if-bytes-eq59.false (ap (λ s. get_or s 0 0) c.as_bytes-bytes.ensures.value ∙ e) in
-    let same : chars c.args.media.now ≡ with_plain c.args.media.now = cc (chars_printable c.args.media.now c.requires, plain_stays c.args.media.now unlike) in
+    let same : chars c.args.media.now ≡ with_plain c.args.media.now = cc (
+      chars_printable c.args.media.now
+          c.requires,
+      plain_stays c.args.media.now unlike,
+    ) in
     IfOk-weaker c.parse_or_default.result _ _ (λ mime h. subst (λ s. IsRecordFor s (record_of mime)) same h)
     c.parse_or_default.ensures

@@ -28,7 +28,8 @@ returns-in_err-semicolon c = let s = c.as_bytes-bytes.result.now in
     let n = c.in_ok-word.word in
     let printable = subst IsPrintable (sym c.as_bytes-bytes.ensures.value) c.requires in
     let word = has_word s n c.low_end_len.result c.is_suffix.result c.in_ok-word.ensures c.is_suffix.ensures.0
-    c.if-not-is_suffix.false c.low_end_len.ensures in cc (nothing_left s n c.low_end_len.result printable word (omega (arith, c.in_err-semicolon.ensures)))
+    c.if-not-is_suffix.false c.low_end_len.ensures in
+    cc (nothing_left s n c.low_end_len.result printable word (omega (arith, c.in_err-semicolon.ensures)))
 
 pub returns-then-bytes-semicolon-ne59 : goal.returns-then-bytes-semicolon-ne59
 returns-then-bytes-semicolon-ne59 c = let s = c.as_bytes-bytes.result.now in
@@ -36,7 +37,10 @@ returns-then-bytes-semicolon-ne59 c = let s = c.as_bytes-bytes.result.now in
     let printable = subst IsPrintable (sym c.as_bytes-bytes.ensures.value) c.requires in
     let word = has_word s n c.low_end_len.result c.is_suffix.result c.in_ok-word.ensures c.is_suffix.ensures.0
     c.if-not-is_suffix.false c.low_end_len.ensures in
-    sym (cc (no_semicolon s n c.low_end_len.result c.in_ok-semicolon.semicolon printable word (omega (arith, c.in_ok-semicolon.ensures)) c.if-bytes-semicolon-ne59.true))
+    sym (cc (no_semicolon s n c.low_end_len.result c.in_ok-semicolon.semicolon printable word (omega (
+      arith,
+      c.in_ok-semicolon.ensures,
+    )) c.if-bytes-semicolon-ne59.true))
 
 pub returns : goal.returns
 returns c = let s = c.as_bytes-bytes.result.now in
@@ -45,4 +49,8 @@ returns c = let s = c.as_bytes-bytes.result.now in
     let printable = subst IsPrintable (sym c.as_bytes-bytes.ensures.value) c.requires in
     let word = has_word s n c.low_end_len.result c.is_suffix.result c.in_ok-word.ensures c.is_suffix.ensures.0
     c.if-not-is_suffix.false c.low_end_len.ensures in
-    let width : m - 0 ≡ m = omega arith in cc (with_semicolon s n c.low_end_len.result m printable word (omega (arith, c.in_ok-semicolon.ensures)) c.if-bytes-semicolon-ne59.false)
+    let width : m - 0 ≡ m = omega arith in
+    cc (with_semicolon s n c.low_end_len.result m printable word (omega (
+      arith,
+      c.in_ok-semicolon.ensures,
+    )) c.if-bytes-semicolon-ne59.false)

@@ -20,7 +20,10 @@ pub loop-at-preserved : goal.loop-at-preserved
 loop-at-preserved c = elim c.if-not-is_tab_or_newline.branch [
   | then-not-is_tab_or_newline+else-digits-eq2+else-not-is_ascii_hexdigit w ↦
       let P : ℕ → Type 0 = λ d. EscapeSoFar c.args.text.now (c.loop-at.at + 1) d in
-      subst P (sym w.digits-is) (escape_digit c.loop-at.invariant c.loop-at-test.true (cc) (search (rules, w.if-not-is_ascii_hexdigit.false)) w.if-digits-eq2.false)
+      subst P (sym w.digits-is) (escape_digit c.loop-at.invariant c.loop-at-test.true (cc) (search (
+        rules,
+        w.if-not-is_ascii_hexdigit.false,
+      )) w.if-digits-eq2.false)
   | else-not-is_tab_or_newline w ↦
       let P : ℕ → Type 0 = λ d. EscapeSoFar c.args.text.now (c.loop-at.at + 1) d in
       subst P (sym w.digits-is) (escape_tab c.loop-at.invariant c.loop-at-test.true (cc))

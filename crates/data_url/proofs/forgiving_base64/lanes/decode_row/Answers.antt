@@ -11,4 +11,7 @@ numbers_of-requires c = let P : List ℕ → Type 0 = λ v. Each1 (λ x. x < 64)
 
 pub returns-clause-bytes : goal.returns-clause-bytes
 returns-clause-bytes c =
-    let P : List ℕ → Type 0 = λ v. Each1 (λ x. x < 64) v in cc (packed_is c.values_of.result c.numbers_of.result (ap length c.values_of.ensures ∙ length-map c.args.bytes value_of ∙ c.fits-bytes.0) (subst P (sym c.values_of.ensures) (values_below c.args.bytes)) c.numbers_of.ensures)
+    let P : List ℕ → Type 0 = λ v. Each1 (λ x. x < 64) v in
+    cc (packed_is c.values_of.result c.numbers_of.result (ap length c.values_of.ensures
+    ∙ length-map c.args.bytes value_of ∙ c.fits-bytes.0) (subst P (sym c.values_of.ensures) (values_below
+    c.args.bytes)) c.numbers_of.ensures)

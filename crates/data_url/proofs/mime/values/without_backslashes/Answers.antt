@@ -23,7 +23,8 @@ loop-c-preserved-in-Continue-branch-2 c =
     ] in (
       IsUtf8-past_char _ _ _ c.loop-c.invariant.0 c.in-Some.ensures.steps.0,
       unescape_pushes (string_bytes c.loop-c.value) (string_bytes c.push.new.self) _ _ _ _ _ _
-          (IsUtf8-string_bytes c.loop-c.value) c.loop-c.invariant.0 c.in-Some.ensures.steps.0 c.in_ok-push.ensures.bytes e
+          (IsUtf8-string_bytes c.loop-c.value) c.loop-c.invariant.0 c.in-Some.ensures.steps.0
+          c.in_ok-push.ensures.bytes e
           c.if-not-escaped.true c.loop-c.invariant.1,
     )
 

@@ -22,9 +22,13 @@ returns-then-others-eq0-clause-added c =
 pub invariant_of-self-2-clause-symbols : goal.invariant_of-self-2-clause-symbols
 invariant_of-self-2-clause-symbols c = let s = c.args.self.now in
     all_more (take s.len s.bytes) c.row-row.result _ s.symbols
-    (two_halves (take s.len s.bytes) c.row-row.result c.others-others.result (cc) c.others-others.ensures.mask c.put_half-middle.ensures.put
+    (two_halves (take s.len s.bytes) c.row-row.result c.others-others.result (cc) c.others-others.ensures.mask
+    c.put_half-middle.ensures.put
     c.put_half-self.ensures.put)
 
 pub returns-clause-added : goal.returns-clause-added
 returns-clause-added c =
-    let s = c.args.self.now in cc (two_halves (take s.len s.bytes) c.row-row.result c.others-others.result (ap length c.row-row.ensures ∙ length-take-le 16 c.args.text.now c.requires.row) c.others-others.ensures.mask c.put_half-middle.ensures.put c.put_half-self.ensures.put)
+    let s = c.args.self.now in
+    cc (two_halves (take s.len s.bytes) c.row-row.result c.others-others.result (ap length c.row-row.ensures
+    ∙ length-take-le 16 c.args.text.now c.requires.row) c.others-others.ensures.mask
+    c.put_half-middle.ensures.put c.put_half-self.ensures.put)
