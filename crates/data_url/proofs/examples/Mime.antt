@@ -1,14 +1,14 @@
 -- MIME types with their records and printed texts. Each record has a derivation in the grammar; each printed text is
 -- computed.
-use Rattle.std.proofs.Common.{◌≡◌, ℕ, Bool, true, false, List, [], ◌∷◌, ◌++◌, Option, None, Some, inl, codes}
-use Rattle.std.proofs.Common.{append-nil, eq-eqb, refl, subst, sym, ◌∙◌, ap, map}
+use Rattle.std.proofs.Common.{◌≡◌, ℕ, Bool, true, false, List, [], ◌∷◌, ◌++◌, Option, None, Some, inl, inr, codes}
+use Rattle.std.proofs.Common.{append-nil, eq-eqb, eqb, refl, subst, sym, ◌∙◌, ap, map}
 use Rattle.std.specs.Prelude.{◌==◌, IsTrue, ◌≢◌, not, ◌&&◌}
 use Rattle.std.specs.List.{AllByRecursion, flat_map, list_all}
 use Rattle.std.specs.Char.{to_ascii_lowercase}
 use Rattle.data_url.specs.CodePoints.{ends_name, is_http_whitespace, is_semicolon}
 use Rattle.data_url.specs.Mime.{BeginsParameters, DoesNotBegin, DoesNotEnd, Escaped, GivesValue, HasNoRecord, IsHead}
-use Rattle.data_url.specs.Mime.{IsParameter, IsTrimmed, IsTrimmedEnd, IsUnit, Item, Items, Pair, Parses}
-use Rattle.data_url.specs.Mime.{Plain, Quoted, QuotedUnit, Record, is_quote, is_token_text, kept_pairs}
+use Rattle.data_url.specs.Mime.{IsParameter, IsRecordOf, IsTrimmed, IsTrimmedEnd, IsUnit, Item, Items, Pair, Parses}
+use Rattle.data_url.specs.Mime.{Plain, Quoted, QuotedUnit, Record, default_record, is_quote, is_token_text, kept_pairs}
 use Rattle.data_url.specs.Mime.{plain, printed, quoted, unclosed, unit_text, unit_value, unless_empty}
 use Rattle.data_url.proofs.examples.Literals.{on_literals}
 use Rattle.data_url.proofs.mime.Items.{every_from_all, has_parts, parameters_in, subtype_in, trimmed_of, type_in}
@@ -167,6 +167,104 @@ parses_x r items begins ends are = record {
   };
 }
 
+-- a name can have every mark that is a token code point
+token_marks : Parses (codes "x/x;!#$%&'*+-.^_`|~=v") (x_x ((codes "!#$%&'*+-.^_`|~", codes "v") ∷ []))
+unfolding on_literals
+token_marks = parses_x (codes ";!#$%&'*+-.^_`|~=v") ((codes "!#$%&'*+-.^_`|~", Some (codes "v")) ∷ []) refl refl (
+  codes ";!#$%&'*+-.^_`|~=v",
+  [],
+  refl,
+  parameter (codes "!#$%&'*+-.^_`|~") _ _ _ refl refl (plain_value (codes "v") _ refl refl refl),
+  refl,
+)
+
+-- a value cannot have U+007F or U+0100; it can have U+0080 and U+00FF
+edges_of_values : Parses
+    (codes "x/x;a=" ++ (127 ∷ codes ";b=" ++ (128 ∷ codes ";c=" ++ (255 ∷ codes ";d=" ++ (256 ∷ [])))))
+    (x_x ((codes "b", 128 ∷ []) ∷ (codes "c", 255 ∷ []) ∷ []))
+unfolding on_literals
+edges_of_values = parses_x
+    (codes ";a=" ++ (127 ∷ codes ";b=" ++ (128 ∷ codes ";c=" ++ (255 ∷ codes ";d=" ++ (256 ∷ [])))))
+    ((codes "a", Some (127 ∷ [])) ∷ (codes "b", Some (128 ∷ [])) ∷ (codes "c", Some (255 ∷ [])) ∷ (
+      codes "d",
+      Some (256 ∷ []),
+    ) ∷ []) refl refl (
+      codes ";a=" ++ (127 ∷ []),
+      codes ";b=" ++ (128 ∷ codes ";c=" ++ (255 ∷ codes ";d=" ++ (256 ∷ []))),
+      refl,
+      parameter (codes "a") _ _ _ refl refl (plain_value (127 ∷ []) _ refl refl refl),
+      (
+        codes ";b=" ++ (128 ∷ []),
+        codes ";c=" ++ (255 ∷ codes ";d=" ++ (256 ∷ [])),
+        refl,
+        parameter (codes "b") _ _ _ refl refl (plain_value (128 ∷ []) _ refl refl refl),
+        (
+          codes ";c=" ++ (255 ∷ []),
+          codes ";d=" ++ (256 ∷ []),
+          refl,
+          parameter (codes "c") _ _ _ refl refl (plain_value (255 ∷ []) _ refl refl refl),
+          (
+            codes ";d=" ++ (256 ∷ []),
+            [],
+            refl,
+            parameter (codes "d") _ _ _ refl refl
+                (plain_value (256 ∷ []) _ refl refl refl),
+            refl,
+          ),
+        ),
+      ),
+    )
+
+-- names are lower-cased before they are compared, and the first pair of a name is kept
+repeated_name : Parses (codes "x/x;a=1;A=2") (x_x ((codes "a", codes "1") ∷ []))
+unfolding on_literals
+repeated_name = parses_x (codes ";a=1;A=2") ((codes "a", Some (codes "1")) ∷ (codes "a", Some (codes "2")) ∷ []) refl
+    refl (
+      codes ";a=1",
+      codes ";A=2",
+      refl,
+      parameter (codes "a") _ _ _ refl refl (plain_value (codes "1") _ refl refl refl),
+      (codes ";A=2", [], refl, parameter (codes "A") _ _ _ refl refl (plain_value (codes "2") _ refl refl refl), refl),
+    )
+
+-- the code points after a closing quote are ignored
+junk_after_quote : Parses (codes "x/x;a=" ++ (34 ∷ 98 ∷ 34 ∷ 256 ∷ [])) (x_x ((codes "a", codes "b") ∷ []))
+unfolding is_unit on_literals
+junk_after_quote = parses_x (codes ";a=" ++ (34 ∷ 98 ∷ 34 ∷ 256 ∷ [])) ((codes "a", Some (codes "b")) ∷ []) refl refl (
+  codes ";a=" ++ (34 ∷ 98 ∷ 34 ∷ 256 ∷ []),
+  [],
+  refl,
+  parameter (codes "a") _ _ _ refl refl
+      (quoted (codes "b") (256 ∷ []) (quoted_units (plainly (codes "b")) refl)
+      (every_from_all (λ c. not (is_semicolon c)) (256 ∷ []) refl)),
+  refl,
+)
+
+-- a quoted value is tested as a whole: it can have a semicolon, and U+0100 makes its pair invalid
+code_point_above : Parses (codes "x/x;a=" ++ (34 ∷ 98 ∷ 59 ∷ 256 ∷ 34 ∷ [])) (x_x [])
+unfolding is_unit on_literals
+code_point_above = parses_x (codes ";a=" ++ (34 ∷ 98 ∷ 59 ∷ 256 ∷ 34 ∷ []))
+    ((codes "a", Some (98 ∷ 59 ∷ 256 ∷ [])) ∷ []) refl refl (
+      codes ";a=" ++ (34 ∷ 98 ∷ 59 ∷ 256 ∷ 34 ∷ []),
+      [],
+      refl,
+      parameter (codes "a") _ _ _ refl refl
+          (quoted (98 ∷ 59 ∷ 256 ∷ []) [] (quoted_units (plainly (98 ∷ 59 ∷ 256 ∷ [])) refl) tt),
+      refl,
+    )
+
+-- a backslash at the end of the input is part of the value
+last_backslash : Parses (codes "x/x;a=" ++ (34 ∷ 92 ∷ [])) (x_x ((codes "a", 92 ∷ []) ∷ []))
+unfolding is_unit on_literals
+last_backslash = parses_x (codes ";a=" ++ (34 ∷ 92 ∷ [])) ((codes "a", Some (92 ∷ [])) ∷ []) refl refl (
+  codes ";a=" ++ (34 ∷ 92 ∷ []),
+  [],
+  refl,
+  parameter (codes "a") _ _ _ refl refl
+      (unclosed (92 ∷ []) (inr ([], [], refl, refl, quoted_units [] refl))),
+  refl,
+)
+
 -- escapes, a quote inside a value without quotes, and a quoted string that ends with the input
 abbrev escapes_text : List ℕ
 escapes_text = codes ";a=" ++ (34 ∷ 113 ∷ 92 ∷ 34 ∷ 114 ∷ 34 ∷ codes
@@ -207,6 +305,25 @@ escapes = parses_x escapes_text ((codes "a", Some (113 ∷ 34 ∷ 114 ∷ [])) �
     ),
   ),
 )
+
+-- a parameter whose name is empty or not a token is ignored together with its quoted string
+invalid_names : Parses (codes "x/x;=q;" ++ (233 ∷ codes "=" ++ (34 ∷ codes "a;b=c" ++ (34 ∷ codes ";d=e"))))
+    (x_x ((codes "d", codes "e") ∷ []))
+unfolding is_unit on_literals
+invalid_names = parses_x (codes ";=q;" ++ (233 ∷ codes "=" ++ (34 ∷ codes "a;b=c" ++ (34 ∷ codes ";d=e"))))
+    (([], Some (codes "q")) ∷ (233 ∷ [], Some (codes "a;b=c")) ∷ (codes "d", Some (codes "e")) ∷ []) refl refl (
+      codes ";=q",
+      59 ∷ 233 ∷ codes "=" ++ (34 ∷ codes "a;b=c" ++ (34 ∷ codes ";d=e")),
+      refl,
+      parameter [] _ _ _ tt refl (plain_value (codes "q") _ refl refl refl),
+      (
+        59 ∷ 233 ∷ codes "=" ++ (34 ∷ codes "a;b=c" ++ (34 ∷ [])),
+        codes ";d=e",
+        refl,
+        parameter (233 ∷ []) _ _ _ refl refl (quoted (codes "a;b=c") [] (quoted_units (plainly (codes "a;b=c")) refl) tt),
+        (codes ";d=e", [], refl, parameter (codes "d") _ _ _ refl refl (plain_value (codes "e") _ refl refl refl), refl),
+      ),
+    )
 
 -- whitespace is removed at both ends, after the subtype and before a name; at the end of a name it is kept
 whitespace : Parses (codes " a/b ; c=d ") (record {
@@ -299,7 +416,38 @@ no_slash : HasNoRecord (codes "a")
 unfolding on_literals
 no_slash = no_subtype (codes "a") refl
 
+empty_subtype : HasNoRecord (codes "a/")
+unfolding on_literals
+empty_subtype = no_subtype (codes "a/") refl
+
+empty_type : HasNoRecord (codes "/b")
+unfolding on_literals
+empty_type = no_type (codes "/b") refl
+
+space_in_subtype : HasNoRecord (codes "a/b c")
+unfolding on_literals
+space_in_subtype = no_parameters (codes "a/b c") (codes "c") refl (λ (e : ◌≡◌ {A = ℕ} 99 59). let k : eqb 99 59 ≡ true =
+    eq-eqb 99 59 e in cc)
+
+-- '?' is not a token code point, so a header with a query after its subtype has the default record
+question_mark : IsRecordOf (codes "a/b?c") default_record
+unfolding on_literals
+question_mark = inr (
+  no_parameters (codes "a/b?c") (codes "?c") refl
+      (λ (e : ◌≡◌ {A = ℕ} 63 59). let k : eqb 63 59 ≡ true = eq-eqb 63 59 e in cc),
+  refl,
+)
+
+-- the empty header has the default record too
+empty_header : IsRecordOf [] default_record
+unfolding on_literals
+empty_header = inr (empty_text, refl)
+
 -- Printed texts
+
+printed_default : printed default_record ≡ codes "text/plain;charset=US-ASCII"
+unfolding on_literals
+printed_default = refl
 
 -- a value that needs quotes, and an empty one
 printed_quotes : printed (record {
@@ -311,3 +459,15 @@ printed_quotes : printed (record {
     ≡ codes "text/html;a=" ++ (34 ∷ codes "b;c" ++ (34 ∷ codes ";e=" ++ (34 ∷ 34 ∷ [])))
 unfolding on_literals
 printed_quotes = refl
+
+-- '"' and '\' are escaped
+printed_escapes : printed (x_x ((codes "a", 113 ∷ 34 ∷ 114 ∷ []) ∷ (codes "b", 92 ∷ []) ∷ (codes "f", codes "g") ∷ []))
+    ≡ codes "x/x;a=" ++ (34 ∷ 113 ∷ 92 ∷ 34 ∷ 114 ∷ 34 ∷ codes ";b=" ++ (34 ∷ 92 ∷ 92 ∷ 34 ∷ codes ";f=g"))
+unfolding on_literals
+printed_escapes = refl
+
+-- a record that parsing cannot return is printed too
+printed_by_hand : printed (record { type_ = codes "a b"; subtype = []; parameters = ([], 233 ∷ []) ∷ [] })
+    ≡ codes "a b/;=" ++ (34 ∷ 233 ∷ 34 ∷ [])
+unfolding on_literals
+printed_by_hand = refl
