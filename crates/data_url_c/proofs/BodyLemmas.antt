@@ -210,7 +210,8 @@ ends_cases {u} {before} {mid} {s} {n} after r true e h size k room short =
     let P : Outcome → Type 0 = λ o. EndsAs o before after r.status r.len in
     subst P (sym (outcome_valid u valid))
     (k.0, writes_front all (sym long) is (omega (arith, ap length all, long, k.1)))
-ends_cases {u} {before} {mid} {s} {n} after r false e h size k room short = let w = waiting_text s in
+ends_cases {u} {before} {mid} {s} {n} after r false e h size k room short =
+    let w = waiting_text s in
     let sound = taken_sound h refl in
     let G : List ℕ → Type 0 = λ x. GoesOn u [] (x ++ []) in
     let on : GoesOn u [] (w ++ []) = subst G (sym (left_text_is sound.1)) (two_feeds u [] sound.0) in

@@ -81,7 +81,8 @@ pub kind_here : (s : DataUrlBase64) (text : List ℕ) (padded : Bool) (at c : �
     → GoesOn s text padded at
     → at < length text → c ≡ get_or text at 0 → fault_byte padded (c ∷ []) ≡ Some c
     → kind_of (waiting_text s ++ text) ≡ cond (is_symbol c) AlphabetSymbolAfterPadding (UnexpectedSymbol c)
-kind_here s text padded at c g h l e f = let q = take s.pending s.symbols in
+kind_here s text padded at c g h l e f =
+    let q = take s.pending s.symbols in
     let every : Every is_symbol q = every_from_all is_symbol q (good_parts s g).symbols in
     let found : fault_byte padded (drop at text) ≡ Some c = cc (
       drop_more text at 0 l,

@@ -245,7 +245,8 @@ pub default_read : (x items : List ℕ) (comma : ℕ) (found : Bool) {old new : 
     → ((i : ℕ) → get_or x i 0 < 256) → position (λ b. b == 44) x ≡ Some comma → items ≡ x
     → found ≡ starts_with nat_eq items (codes "data:,") → found ≡ true → Shows 0 default_text old new r
     → IsReadUrl x (tail_after x comma) old new r false
-default_read x items comma found {old} {new} {r} memory b p same f g h = let t = drop 6 x in
+default_read x items comma found {old} {new} {r} memory b p same f g h =
+    let t = drop 6 x in
     let is : x ≡ scheme ++ 44 ∷ t =
     (starts_is Decides-eqb x (codes "data:,") found (f ∙ ap (λ s. starts_with nat_eq s (codes "data:,")) same)).0 g in
     let cut = cut_at x comma p in
@@ -290,7 +291,8 @@ pub opens_read : (x : List ℕ) (comma low : ℕ) {r : DataUrlAnswer} {flag : Bo
       tail_len = length x - (comma + 1) - low;
       is_base64 = flag;
     })
-opens_read x comma low {r} {flag} u p e h = let tail = tail_is x comma low e in
+opens_read x comma low {r} {flag} u p e h =
+    let tail = tail_is x comma low e in
     let at = (at_comma x comma p).0 in
     let fits = fits_tail x comma low e in
     record {

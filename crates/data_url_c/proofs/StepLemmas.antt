@@ -27,7 +27,8 @@ use Rattle.data_url_c.proofs.WindowLemmas.{body_cut, body_fragment}
 
 tail_window : {tail window : List ℕ} {from end : ℕ} → IsWindowOf tail from window end
     → drop from tail ≡ window ++ drop end tail
-tail_window {tail} {window} {from} {end} h = let order = h.order in
+tail_window {tail} {window} {from} {end} h =
+    let order = h.order in
     let whole : from + (end - from) ≡ end = omega arith in
     cc (take-append-drop (end - from) (drop from tail), drop-drop (end - from) from tail)
 

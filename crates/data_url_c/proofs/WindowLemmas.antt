@@ -137,7 +137,8 @@ pub scan_closed : (window : List ℕ) (at kept : ℕ) → kept ≡ length (witho
     → kept ≤ 2 → NoPercent (without_tabs_and_newlines (drop at window)) → (at ≡ 0) ⊎ (kept ≡ 2)
     → is_closed (without_tabs_and_newlines window) ≡ true
 scan_closed window at kept e few h (inl z) = grind (arith, few_closed)
-scan_closed window at kept e few h (inr two) = let last : List ℕ = without_tabs_and_newlines (drop at window) in
+scan_closed window at kept e few h (inr two) =
+    let last : List ℕ = without_tabs_and_newlines (drop at window) in
     let all : without_tabs_and_newlines window ≡ without_tabs_and_newlines (take at window) ++ last = cc
     (take-append-drop at window, without_tabs_and_newlines-append (take at window) (drop at window)) in
     ap is_closed all ∙ ends_closed (without_tabs_and_newlines (take at window)) last (omega (arith, e)) h
@@ -216,7 +217,8 @@ escape_tab {text} {at} {digits} h l t = grind (arith, take_next, dropped_passes,
 pub escape_digit : {text : List ℕ} {at digits : ℕ} → EscapeSoFar text at digits → at < length text
     → is_tab_or_newline (get_or text at 0) ≡ false → is_ascii_hexdigit (get_or text at 0) ≡ true → (digits ≡ 2 → ⊥)
     → EscapeSoFar text (at + 1) (digits + 1)
-escape_digit {text} {at} {digits} h l t x n = let same : at + 1 - 1 ≡ at = omega arith in
+escape_digit {text} {at} {digits} h l t x n =
+    let same : at + 1 - 1 ≡ at = omega arith in
     let few = h.few in
     record {
       some = omega arith;

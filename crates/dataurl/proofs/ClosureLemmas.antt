@@ -23,7 +23,8 @@ use Rattle.dataurl.proofs.OutputLemmas.{appends_then, beginning_after, beginning
 -- a part of an output was written, and then the buffer
 pub output_flushed : (P : List ℕ → End → Type 0) (bytes after w k : List ℕ) (good end : End) → P bytes good
     → bytes ≡ w ++ after → IsFlushed after good k end → IsStreamed P (w ++ k) end
-output_flushed P bytes after w k good end p e flushed = let Q : List ℕ → Type 0 = λ s. P s good in
+output_flushed P bytes after w k good end p e flushed =
+    let Q : List ℕ → Type 0 = λ s. P s good in
     all_streamed (subst Q e p)
 output_flushed P bytes after w k good end p e (not_flushed b) =
     let Q : List ℕ → Type 0 = λ s. IsProperPrefix (w ++ k) s in

@@ -37,7 +37,8 @@ body_writes_of {x} {url} h w = let u = url_for x (Ok url) url refl h in writes_m
 pub fragment_writes_of : {x : List ℕ} {url : DataUrl} {held now : Option (List ℕ)} {r : End} → IsUrlFor x (Ok url)
     → WritesOf (IsFragmentOutput (url_body url) (url_fragment url)) held now r
     → WritesOf (IsTextOutput x Fragment) held now r
-fragment_writes_of {x} {url} h w = let u = url_for x (Ok url) url refl h in
+fragment_writes_of {x} {url} h w =
+    let u = url_for x (Ok url) url refl h in
     writes_map (λ s e k. fragment_of u.staged_is k) w
 
 -- writing the line of the MIME type of a URL is what the command `mime` writes for its text
@@ -103,11 +104,14 @@ text_runs {c} {unread} {left} {held} {now} {text} {r} x t h e w =
 unread_run : (c : Command) (left : Option (List ℕ)) (input : List ℕ) (r : Result (String Global) Fault) (fault : Fault)
     → TakesText c → r ≡ Err fault → IsReadText left input r → IsResult input left c [] (Err fault)
 unread_run c left input r fault t e (whole_text b u end) = absurd (let k = e in cc)
-unread_run c left input r fault t e (not_utf8 u end) = let P : Fault → Type 0 = λ f. IsResult input left c [] (Err f) in
+unread_run c left input r fault t e (not_utf8 u end) =
+    let P : Fault → Type 0 = λ f. IsResult input left c [] (Err f) in
     subst P (cc) (complete end (of_no_text t u))
-unread_run c left input r fault t e no_text_memory = let P : Fault → Type 0 = λ f. IsResult input left c [] (Err f) in
+unread_run c left input r fault t e no_text_memory =
+    let P : Fault → Type 0 = λ f. IsResult input left c [] (Err f) in
     subst P (cc) (no_memory t)
-unread_run c left input r fault t e text_read_failed = let P : Fault → Type 0 = λ f. IsResult input left c [] (Err f) in
+unread_run c left input r fault t e text_read_failed =
+    let P : Fault → Type 0 = λ f. IsResult input left c [] (Err f) in
     subst P (cc) (not_read t)
 
 -- if the text is not read, a command that takes a text ends with that fault and writes nothing

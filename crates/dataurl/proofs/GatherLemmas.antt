@@ -123,7 +123,8 @@ module _ {F : Type 0} (step : F → List ℕ → Result (Unit {0}) WriteFailed �
   -- if each call gathers its piece, a run gathers the pieces of all its calls
   pub run_gathers : (cs : List (Call F WriteFailed)) (f g : F) → IsRun step f cs g
       → RunGathers (holds f) (holds g) (waits f) (waits g) (joined_pieces cs) (refusal cs)
-  run_gathers [] f g ran = let P : F → Type 0 = λ s. Appends (holds f) (holds s) [] in
+  run_gathers [] f g ran =
+      let P : F → Type 0 = λ s. Appends (holds f) (holds s) [] in
       record {
         written = [];
         appended = subst P ran (appends_none (holds f));

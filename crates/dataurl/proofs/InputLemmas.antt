@@ -40,7 +40,8 @@ reads_all old new bytes c e = record { input = bytes.items; consumed = c; is_rea
 pub reads_end : (old now new : Option (List ℕ)) (bytes : Vec ℕ Global) (n : ℕ) (buf : List ℕ) → n ≡ 0 → 0 < length buf
     → Consumes old now bytes.items → Consumes now new (take n buf) × (n ≡ 0 → 0 < length buf → IsAtEnd new)
     → ReadsAll old new (Ok bytes)
-reads_end old now new bytes n buf z some c r = let P : List ℕ → Type 0 = λ s. Consumes old new s in
+reads_end old now new bytes n buf z some c r =
+    let P : List ℕ → Type 0 = λ s. Consumes old new s in
     let all = consumes_then old now new bytes.items (take n buf) c r.0 in
     let same : bytes.items ++ take n buf ≡ bytes.items = cc (append-nil bytes.items) in
     reads_all old new bytes (subst P same all) (r.1 z some)
@@ -93,7 +94,8 @@ text_failed old new fault h = record {
 
 read_items : (left : Option (List ℕ)) (input : List ℕ) (r : Result (Vec ℕ Global) Fault) (bytes : Vec ℕ Global)
     → r ≡ Ok bytes → IsRead left input r → (bytes.items ≡ input) × IsAtEnd left
-read_items left input (Ok b) bytes e (whole same end) = let k : b ≡ bytes = cc in
+read_items left input (Ok b) bytes e (whole same end) =
+    let k : b ≡ bytes = cc in
     (ap (λ v. v.items) (sym k) ∙ same, end)
 read_items left input (Err f) bytes e h = absurd (let k = e in cc)
 

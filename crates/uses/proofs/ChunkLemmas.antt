@@ -46,14 +46,16 @@ module _ {F E : Type 0} (step : F → List ℕ → Result (Unit {0}) E → F →
   -- a decoder that has failed is not fed the chunks that follow
   pub chunks_stop : (d d' : State F) (xs ys : List (Bor (List ℕ))) → d'.failed ≡ true
       → FeedsChunks step d xs (not d'.failed) d' → FeedsChunks step d (xs ++ ys) false d'
-  chunks_stop d d' xs ys e h = let P : Bool → Type 0 = λ failed. FeedsChunks step d xs (not failed) d' in
+  chunks_stop d d' xs ys e h =
+      let P : Bool → Type 0 = λ failed. FeedsChunks step d xs (not failed) d' in
       others_by d.failed d d' xs ys (subst P e h)
 
   more_by : (failed : Bool) (d d1 d2 : State F) (xs : List (Bor (List ℕ))) (chunk : Bor (List ℕ))
       (r : Result (Unit {0}) (DecodeError E))
       → Fed failed d xs true d1 → Feeds step d1 chunk.now r d2 → Fed failed d (xs ++ (chunk ∷ [])) (not (is_err r)) d2
   more_by true d d1 d2 xs chunk r h g = absurd (let k = h.0 in cc)
-  more_by false d d1 d2 xs chunk (Ok x) h g = let P : List ℕ → Type 0 = λ s. Feeds step d s (Ok tt) d2 in
+  more_by false d d1 d2 xs chunk (Ok x) h g =
+      let P : List ℕ → Type 0 = λ s. Feeds step d s (Ok tt) d2 in
       subst P (sym (joined_more xs chunk)) (feeds_then step h g)
   more_by false d d1 d2 xs chunk (Err e) h g = record {
     taken = xs;

@@ -268,7 +268,8 @@ bad_answer : {E A : Type 0} (body : Outcome) (good : A → Type 0) (bytes : List
     (kind : _) → r ≡ Err (InvalidBase64 kind) → HandsOut body good bytes r → (all : List ℕ) × (body ≡ Bad all kind)
 bad_answer (Good all) good bytes (Ok y) kind q h = absurd (let k = q in cc)
 bad_answer (Good all) good bytes (Err e) kind q h = absurd h.answer
-bad_answer (Bad all kind') good bytes r kind q h = let k = h.answer in let e : kind' ≡ kind = cc in
+bad_answer (Bad all kind') good bytes r kind q h =
+    let k = h.answer in let e : kind' ≡ kind = cc in
     (all, ap (λ x. Bad all x) e)
 
 bad_given : {E A : Type 0} (o : Option E) (body : Outcome) (good : A → Type 0) (bytes : List ℕ)

@@ -37,7 +37,8 @@ pub copied : (room text mid post block : List ℕ) (len width start : ℕ) → l
     → start + 64 ≤ length text → length mid ≡ 64 → block ≡ take 64 (drop start text)
     → take (len + width) (take len room ++ (put_chunk 0 mid block ++ post)) ≡ take len room ++ slice_range text start
     (start + width)
-copied room text mid post block len width start l w h m b = let d = length-drop start text in
+copied room text mid post block len width start l w h m b =
+    let d = length-drop start text in
     let long : length (take 64 (drop start text)) ≡ 64 = length-take-le 64 (drop start text) (omega arith) in
     let size : length block ≡ 64 = ap length b ∙ long in
     let whole : put_chunk 0 mid block ≡ block = put_chunk_whole mid block (m ∙ sym size) in
@@ -54,7 +55,8 @@ pub copied_wide : (room bytes text : List ℕ) (len width start : ℕ) → lengt
     → take (len + width) (put_mid len (len + 64 - len) room (put_chunk 0 (mid_of len (len + 64 - len) room)
     (chunk 0 64 (take (start + 64 - start) (drop start bytes))))) ≡ take len room ++ slice_range text start
     (start + width)
-copied_wide room bytes text len width start long l w h e = let n : len + 64 - len ≡ 64 = omega arith in
+copied_wide room bytes text len width start long l w h e =
+    let n : len + 64 - len ≡ 64 = omega arith in
     let k : start + 64 - start ≡ 64 = omega arith in
     let d = length-drop len room in
     let mid : length (mid_of len (len + 64 - len) room) ≡ 64 = cc (length-take-le (len + 64 - len) (drop len room)
@@ -170,7 +172,8 @@ entry b = get_or MARKED (low_half b) 0
 
 looked_at : (v : List ℕ) → length v ≡ 64 → (m : ℕ) → m < 64 → get_or (swz_l w8 16 MARKED 0 (map low_half v)) m 0
     ≡ get_or (map entry v) m 0
-looked_at v long m l = let ll : length (map low_half v) ≡ 64 = length-map v low_half ∙ long in
+looked_at v long m l =
+    let ll : length (map low_half v) ≡ 64 = length-map v low_half ∙ long in
     let e : get_or (map low_half v) m 0 ≡ low_half (get_or v m 0) = get_or-map low_half v m 0 0 (omega arith) in
     let h = low_lt (get_or v m 0) in
     let j : get_or (map low_half v) m 0 < 16 = omega arith in

@@ -187,7 +187,8 @@ body_percent s h = keeps_byte 37 s refl refl (same_two_digits (without_tabs_and_
 -- an escape is in the body as the byte of its value
 pub body_escape : (s : List ℕ) (value : ℕ) (rest : List ℕ) → escape s ≡ Some (value, rest)
     → plain_body (37 ∷ s) ≡ value ∷ plain_body rest
-body_escape s value rest h = let e = has_escape s value rest h in
+body_escape s value rest h =
+    let e = has_escape s value rest h in
     let front_is : before 35 (without_tabs_and_newlines s) ≡ e.high ∷ e.low ∷ before 35
     (without_tabs_and_newlines rest) = cc (
       e.dropped_is,

@@ -52,7 +52,8 @@ taken_twice (suc n) m (x ∷ xs) = let e : suc (n + m) ≡ suc n + m = omega ari
 -- two ranges, of which the second begins where the first ends, are one range
 pub slice_join : (text : List ℕ) (a b c : ℕ) → a ≤ b → b ≤ c → slice_range text a b ++ slice_range text b c
     ≡ slice_range text a c
-slice_join text a b c l h = let e : a + (b - a) ≡ b = omega arith in
+slice_join text a b c l h =
+    let e : a + (b - a) ≡ b = omega arith in
     let n : b - a + (c - b) ≡ c - a = omega arith in
     cc (drop-drop (b - a) a text, taken_twice (b - a) (c - b) (drop a text))
 
@@ -202,7 +203,8 @@ begins_hash s b rest e h = subst BeginsFragment (sym e) h
 -- a walk ends at a '#'
 pub stop_hash : {c c' : Cursor} {mark b : ℕ} → Looked c mark b → b ≡ 35 → KeepsBlock c c'
     → c'.source.looks ≡ c.source.looks + 1 → Ended c' mark
-stop_hash {c} {c'} {mark} {b} k h s n = let t = s.stays.on.text_stays in
+stop_hash {c} {c'} {mark} {b} k h s n =
+    let t = s.stays.on.text_stays in
     let w = k.within in
     let same = k.byte_is in
     let size = ap length t in
@@ -364,7 +366,8 @@ goes_as {c0} {c} {c'} {next} e g = let P : Cursor → Type 0 = λ w. GoesOn c0 n
 
 -- what is true of every walk stays true if the walk goes on, and what its `ahead` says is true
 pub knows_on : {c c' : Cursor} {next : Option Piece} → Knows c → GoesOn c next c' → KnowsAhead c' c'.ahead → Knows c'
-knows_on {c} {c'} {next} k g a = let text = g.on.text_stays in
+knows_on {c} {c'} {next} k g a =
+    let text = g.on.text_stays in
     record {
       after_is = cc;
       ahead_is = a;

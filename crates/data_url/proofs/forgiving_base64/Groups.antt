@@ -49,7 +49,8 @@ whole_length (p ∷ q ∷ r ∷ s ∷ rest) h = let e : length rest % 4 ≡ 0 = 
 
 -- if x has at least 4 * m values, the first 3 * m bytes of its groups are those of its first 4 * m values
 pub take_groups : (m : ℕ) (x : List ℕ) → 4 * m ≤ length x → take (3 * m) (groups x) ≡ groups (take (4 * m) x)
-take_groups m x h = let front = take (4 * m) x in
+take_groups m x h =
+    let front = take (4 * m) x in
     let long : length front ≡ 4 * m = length-take-le (4 * m) x h in
     let size : length (groups front) ≡ 3 * m = omega (arith, whole_length front (omega arith)) in
     cc (
@@ -64,7 +65,8 @@ take_groups m x h = let front = take (4 * m) x in
 pub symbols_values : (s : List ℕ) → ((i : ℕ) → Fits w8 (get_or s i 0)) → list_all is_symbol s ≡ true
     → map value_of s ≡ map symbol_value s
 symbols_values [] fits h = refl
-symbols_values (b ∷ s) fits h = let p = and_parts (is_symbol b) (list_all is_symbol s) h in
+symbols_values (b ∷ s) fits h =
+    let p = and_parts (is_symbol b) (list_all is_symbol s) h in
     ap₂ (λ x (y : List ℕ). x ∷ y) (value_is b (fits 0).fits p.0) (symbols_values s (λ i. fits (suc i)) p.1)
 
 -- the values of a text of symbols are the value of each of its bytes
@@ -74,7 +76,8 @@ values_symbols s h = ap (map symbol_value) (filter_all is_symbol s (every_list_a
 
 symbols_alone : (s : List ℕ) → list_all is_symbol s ≡ true → list_all is_symbol_or_space s ≡ true
 symbols_alone [] h = refl
-symbols_alone (b ∷ s) h = let p = and_parts (is_symbol b) (list_all is_symbol s) h in
+symbols_alone (b ∷ s) h =
+    let p = and_parts (is_symbol b) (list_all is_symbol s) h in
     ap₂ (λ x y. x && y) (ap (λ t. t || is_ascii_whitespace b) p.0) (symbols_alone s p.1)
 
 -- if each byte of s is at most 255, so is each of its first n bytes
@@ -141,7 +144,8 @@ row_ahead row n e =
 -- if the first n bytes are symbols, so are the first m, where m is at most n
 pub all_before : (block : List ℕ) (m n : ℕ) → m ≤ n → list_all is_symbol (take n block) ≡ true
     → list_all is_symbol (take m block) ≡ true
-all_before block m n h all = let rest = take (n - m) (drop m block) in
+all_before block m n h all =
+    let rest = take (n - m) (drop m block) in
     let back : m + (n - m) ≡ n = omega arith in
     (and_parts (list_all is_symbol (take m block)) (list_all is_symbol rest)
     (cc (list_all-append is_symbol (take m block) rest, take-add m (n - m) block))).0

@@ -102,7 +102,8 @@ module _ {F E : Type 0} (step : F → List ℕ → Result (Unit {0}) E → F →
   -- if d holds bytes after a, and then reads b, it holds those of b after them
   pub holds_adds : {d d1 d2 : State F} {a b held more : List ℕ} → Holds step d a held d1 → Adds d1 b more d2
       → Holds step d (a ++ b) (held ++ more) d2
-  holds_adds {d} {d1} {d2} {a} {b} {held} {more} h k = let u = left_over d ++ a in
+  holds_adds {d} {d1} {d2} {a} {b} {held} {more} h k =
+      let u = left_over d ++ a in
       let on = left_goes_on u b h.no_fault h.left in
       let same : u ++ b ≡ left_over d ++ (a ++ b) = append_assoc (left_over d) a b in
       let R : F → Type 0 = λ f. IsRun step d.closure h.run f in
@@ -134,7 +135,8 @@ module _ {F E : Type 0} (step : F → List ℕ → Result (Unit {0}) E → F →
   -- the end, or a fault: the closure is called once with all bytes that are held
   pub written_feeds : {d d1 d2 : State F} {t held : List ℕ} {r : Result (Unit {0}) (DecodeError E)}
       (h : Holds step d t held d1) → length h.run + 1 ≤ length t → CallsOnce step d1 held r d2 → Feeds step d t r d2
-  written_feeds {d} {d1} {d2} {t} {held} {r} h few w = let u = left_over d ++ t in
+  written_feeds {d} {d1} {d2} {t} {held} {r} h few w =
+      let u = left_over d ++ t in
       let call : Call F E = record { piece = held; answer = w.told; after = d2.closure } in
       let bytes = called_bytes held h w.told d2.closure ∙ h.bytes_are in
       record {
@@ -285,7 +287,8 @@ module _ {F E : Type 0} (step : F → List ℕ → Result (Unit {0}) E → F →
   pub group_feeds : {d d1 d2 : State F} {t : List ℕ} {r : Result (Unit {0}) (DecodeError E)} (group : List ℕ)
       → 1 ≤ length t → Adds d t group d1 → CallsOnce step d1 group r d2 → Feeds step d t r d2
   unfolding holds_from
-  group_feeds group some a w = let none : length (holds_from step a).run ≡ 0 = refl in
+  group_feeds group some a w =
+      let none : length (holds_from step a).run ≡ 0 = refl in
       written_feeds step (holds_from step a) (omega arith) w
 
   -- the bytes that are held stay if the next byte is a fault

@@ -464,7 +464,8 @@ whitespace_low c e = grind arith
 
 -- each byte is in at most one class
 at_space : (c : ℕ) → is_ascii_whitespace c ≡ true → Class true (is_pad c) (is_symbol c)
-at_space c e = let low : c < 33 = whitespace_low c e in
+at_space c e =
+    let low : c < 33 = whitespace_low c e in
     let pad : is_pad c ≡ false = cc (agree_below_at (λ c. is_ascii_whitespace c && is_pad c) (λ c. false) 33 c refl
     low) in
     let symbol : is_symbol c ≡ false = cc (agree_below_at (λ c. is_ascii_whitespace c && is_symbol c) (λ c. false) 33

@@ -53,7 +53,8 @@ alike_same : (xs ys : List ℕ) → alike xs ys ≡ true → xs ≡ ys
 alike_same [] [] h = refl
 alike_same [] (y ∷ ys) h = absurd (true≢false (sym h))
 alike_same (x ∷ xs) [] h = absurd (true≢false (sym h))
-alike_same (x ∷ xs) (y ∷ ys) h = let p = and_parts (eqb x y) (alike xs ys) h in
+alike_same (x ∷ xs) (y ∷ ys) h =
+    let p = and_parts (eqb x y) (alike xs ys) h in
     ap₂ (λ a (b : List ℕ). a ∷ b) (eqb-true x y p.0) (alike_same xs ys p.1)
 
 abbrev places : ℕ → List ℕ
@@ -157,7 +158,8 @@ half_sum a b l = (omega arith, omega arith)
 -- the bytes of both halves of a row whose bits in the mask are clear are the symbols of the row
 pub row_clear : (row : List ℕ) (others : ℕ) → length row ≡ 16 → others ≡ others_mask row
     → clear (take 8 (drop 0 row)) (others % 256) ++ clear (take 8 (drop 8 row)) (others / 256) ≡ filter is_symbol row
-row_clear row others long e = let a = take 8 row in
+row_clear row others long e =
+    let a = take 8 row in
     let b = drop 8 row in
     let wide : length a ≡ 8 = length-take-le 8 row (omega arith) in
     let rest : length b ≡ 8 = omega (arith, length-drop 8 row) in
@@ -223,7 +225,8 @@ no_bit false m e = absurd (omega (arith, e))
 -- if the mask of the bytes that are no symbols is zero, all bytes are symbols or whitespace
 pub only_symbols : (v : List ℕ) → others_mask v ≡ 0 → list_all is_symbol_or_space v ≡ true
 only_symbols [] e = refl
-only_symbols (b ∷ v) e = let p = no_bit (is_symbol b) (others_mask v) e in
+only_symbols (b ∷ v) e =
+    let p = no_bit (is_symbol b) (others_mask v) e in
     ap₂ (λ s t. (s || is_ascii_whitespace b) && t) p.0 (only_symbols v p.1)
 
 -- if the mask of the bytes that are no symbols is zero, all bytes are symbols
@@ -258,7 +261,8 @@ pub moved : (old b1 b2 b3 b4 w x y z : List ℕ) (len : ℕ) → 64 ≤ len → 
     → take (16 + 16) b2 ≡ take 16 b1 ++ x → take (32 + 16) b3 ≡ take 32 b2 ++ y → take (48 + 16) b4 ≡ take 48 b3 ++ z
     → w ≡ take 16 (drop 64 old) → x ≡ take 16 (drop 80 old) → y ≡ take 16 (drop 96 old) → z ≡ take 16 (drop 112 old)
     → take (len - 64) b4 ≡ drop 64 (take len old)
-moved old b1 b2 b3 b4 w x y z len few many p q r s d e f g = let far = drop 64 old in
+moved old b1 b2 b3 b4 w x y z len few many p q r s d e f g =
+    let far = drop 64 old in
     let front : take 64 b4 ≡ take 64 far = cc (
       append_assoc (w ++ x) y z,
       append_assoc w x (y ++ z),
@@ -280,7 +284,8 @@ pub four_spaced : (text r1 r2 r3 : List ℕ) → r1 ≡ drop 16 text → r2 ≡ 
     → list_all is_symbol_or_space (take 16 text) ≡ true → list_all is_symbol_or_space (take 16 r1) ≡ true
     → list_all is_symbol_or_space (take 16 r2) ≡ true → list_all is_symbol_or_space (take 16 r3) ≡ true
     → list_all is_symbol_or_space (take 64 text) ≡ true
-four_spaced text r1 r2 r3 d e f p q r s = let all : List ℕ → Bool = λ l. list_all is_symbol_or_space (take 16 l) in
+four_spaced text r1 r2 r3 d e f p q r s =
+    let all : List ℕ → Bool = λ l. list_all is_symbol_or_space (take 16 l) in
     let b = take 16 (drop 16 text) in
     let c = take 16 (drop 32 text) in
     let h = take 16 (drop 48 text) in
@@ -295,7 +300,8 @@ pub four_added : (text r1 r2 r3 q0 q1 q2 q3 q4 : List ℕ) → r1 ≡ drop 16 te
     → q1 ≡ q0 ++ filter is_symbol (take 16 text) → q2 ≡ q1 ++ filter is_symbol (take 16 r1)
     → q3 ≡ q2 ++ filter is_symbol (take 16 r2) → q4 ≡ q3 ++ filter is_symbol (take 16 r3)
     → q4 ≡ q0 ++ filter is_symbol (take 64 text)
-four_added text r1 r2 r3 q0 q1 q2 q3 q4 d e f p q r s = let of : List ℕ → List ℕ = λ l. filter is_symbol (take 16 l) in
+four_added text r1 r2 r3 q0 q1 q2 q3 q4 d e f p q r s =
+    let of : List ℕ → List ℕ = λ l. filter is_symbol (take 16 l) in
     let a = of text in
     let b = of (drop 16 text) in
     let c = of (drop 32 text) in
@@ -319,7 +325,8 @@ no_items (b ∷ l) e = absurd (omega arith)
 
 -- the values left over are those from the largest multiple of four on
 pub after_is : (q : List ℕ) → after_groups q ≡ drop (length q / 4 * 4) q
-after_is q = let at = length q / 4 * 4 in
+after_is q =
+    let at = length q / 4 * 4 in
     let within : at ≤ length q = omega arith in
     let none : after_groups (take at q) ≡ [] =
     no_items (after_groups (take at q))
@@ -371,7 +378,8 @@ fits_symbols (b ∷ s) h (suc i) = fits_symbols s (and_parts (is_symbol b) (list
 -- the bytes of 64 values begin with those of up to 16 groups of the first len bytes, if these are symbols
 pub front_is : (s bytes : List ℕ) (len : ℕ) → length s ≡ 144 → len < 128 → list_all is_symbol (take len s) ≡ true
     → bytes ≡ groups (map value_of (take 64 s)) → DecodesFront (take len s) bytes
-front_is s bytes len long few all e m a b = let size : length (take len s) ≡ len = length-take-le len s (omega arith) in
+front_is s bytes len long few all e m a b =
+    let size : length (take len s) ≡ len = length-take-le len s (omega arith) in
     let n = 4 * m in
     let front : take n s ≡ take n (take len s) = sym (take-take n len s (omega arith)) in
     let every : list_all is_symbol (take n (take len s)) ≡ true =
@@ -391,7 +399,8 @@ front_is s bytes len long few all e m a b = let size : length (take len s) ≡ l
 -- all groups of fewer than 64 symbols
 pub groups_front : (q bytes : List ℕ) → length q < 64 → DecodesFront q bytes
     → take (3 * (length q / 4)) bytes ≡ groups (map symbol_value q)
-groups_front q bytes few front = let m = length q / 4 in
+groups_front q bytes few front =
+    let m = length q / 4 in
     let a = take (4 * m) q in
     let b = drop (4 * m) q in
     let long : length a ≡ 4 * m = length-take-le (4 * m) q (omega arith) in

@@ -301,7 +301,8 @@ module _ {F : Type 0} where
   -- d reads a '=': it counts it, up to three
   pub adds_pad : {d d' : State F} (c : ℕ) → c ≡ 61 → Every is_symbol d.symbols → length d.symbols ≤ 3 → d.failed ≡ false
       → d' ≡ record d { padding = min (d.padding + 1) 3 } → Adds d (c ∷ []) [] d'
-  adds_pad {d} {d'} c e every few going same = let P : ℕ → Type 0 = λ x. Adds d (x ∷ []) [] d' in
+  adds_pad {d} {d'} c e every few going same =
+      let P : ℕ → Type 0 = λ x. Adds d (x ∷ []) [] d' in
       subst P (sym e) (adds_equals every few going same)
 
   -- the fourth symbol completes a group
@@ -429,7 +430,8 @@ pub record Took {F : Type 0} (u bytes : List ℕ) (d : State F) : Type 0 where
 
 done_cases : (u b : List ℕ) (o : Option ℕ) → fault_byte false u ≡ o
     → IsPrefix (complete_bytes u) (complete_bytes (u ++ b))
-done_cases u b None h = let g = two_feeds u b (none_fault u h) in
+done_cases u b None h =
+    let g = two_feeds u b (none_fault u h) in
     (complete_bytes (left_text (left_symbols u) (left_padding u) ++ b), g.done_is)
 done_cases u b (Some c) h = prefix_all (complete_bytes u) (complete_bytes (u ++ b)) (sym (done_stays u b c h))
 
@@ -513,5 +515,6 @@ module _ {F E : Type 0} (step : F → List ℕ → Result (Unit {0}) E → F →
   -- if feeding the first i bytes of s returns an error, feeding s returns it
   pub feeds_stop : {d d' : State F} {x : DecodeError E} (s : List ℕ) (i : ℕ) → Feeds step d (take i s) (Err x) d'
       → Feeds step d s (Err x) d'
-  feeds_stop {d} {d'} {x} s i f = let P : List ℕ → Type 0 = λ t. Feeds step d t (Err x) d' in
+  feeds_stop {d} {d'} {x} s i f =
+      let P : List ℕ → Type 0 = λ t. Feeds step d t (Err x) d' in
       subst P (take-append-drop i s) (feeds_err (drop i s) f)

@@ -115,7 +115,8 @@ places_ok g v js long e small fits =
 -- if indices below 16 are computed from bytes, a swizzle looks up the entry of each byte at its index
 pub looked_up : (t : List ℕ) (g : ℕ → ℕ) (v js : List ℕ) → length v ≡ 16 → Each1 (Fits w8) v → js ≡ map g v
     → ((x : ℕ) → x < 256 → g x < 16) → swz_l w8 16 t 0 js ≡ map (λ x. get_or t (g x) 0) v
-looked_up t g v js whole fits e small = let long : length js ≡ 16 = ap length e ∙ length-map v g ∙ whole in
+looked_up t g v js whole fits e small =
+    let long : length js ≡ 16 = ap length e ∙ length-map v g ∙ whole in
     ext_get_or 0 _ _ (length-swz_l w8 16 t 0 js ∙ long ∙ sym (length-map v (λ x. get_or t (g x) 0) ∙ whole)) (λ i h.
     let lt : i < 16 = omega (arith, length-swz_l w8 16 t 0 js) in
     let within : i < length v = omega (arith, whole) in
@@ -179,7 +180,8 @@ numbers_row f h = grind arith
 
 -- from 16 values below 64, lanes compute the numbers of their groups
 pub numbers_is : (v : List ℕ) → length v ≡ 16 → Each1 (λ x. x < 64) v → computed v ≡ numbers v
-numbers_is v long h = let P : List ℕ → Type 0 = λ l. computed l ≡ numbers l in
+numbers_is v long h =
+    let P : List ℕ → Type 0 = λ l. computed l ≡ numbers l in
     subst P (row_is v long) (numbers_row (λ k. get_or v k 0) (λ k. below_at v k h))
 
 -- Bytes of numbers
@@ -449,7 +451,8 @@ groups_of_rows w x y z p q r = grind (arith, groups_whole)
 values_of_rows : (text : List ℕ) → 64 ≤ length text → groups (map value_of (take 64 text))
     ≡ groups (map value_of (take 16 (drop 0 text))) ++ (groups (map value_of (take 16 (drop 16 text))) ++ (groups
     (map value_of (take 16 (drop 32 text))) ++ groups (map value_of (take 16 (drop 48 text)))))
-values_of_rows text long = let w = take 16 (drop 0 text) in
+values_of_rows text long =
+    let w = take 16 (drop 0 text) in
     let x = take 16 (drop 16 text) in
     let y = take 16 (drop 32 text) in
     let z = take 16 (drop 48 text) in

@@ -77,7 +77,8 @@ module _ {F E : Type 0} (step : F → List ℕ → Result (Unit {0}) E → F →
   -- fed and finished
   fed_finished : {d d' : State F} {u : List ℕ} {r : Result (Unit {0}) (DecodeError E)} {f' : F}
       → Feeds step d u (Ok tt) d' → left_over d ++ u ≡ u → Finishes step d' r f' → DecodesText step d.closure u r f'
-  fed_finished {d} {d'} {u} {r} {f'} f same g = let k = feeds_took step f in
+  fed_finished {d} {d'} {u} {r} {f'} f same g =
+      let k = feeds_took step f in
       let taken : joined_pieces f.run ≡ complete_bytes u = k.1.bytes_are ∙ ap complete_bytes same in
       let G : List ℕ → Type 0 = λ w. GoesOn w [] (left_over d' ++ []) in
       let on : G u = subst G same (feeds_goes_on step [] f) in
@@ -131,7 +132,8 @@ module _ {F E : Type 0} (step : F → List ℕ → Result (Unit {0}) E → F →
   -- feeding a new decoder the text u and then finishing it decodes u
   pub decodes_finished : {d d' : State F} {f f' : F} {u : List ℕ} {r : Result (Unit {0}) (DecodeError E)} → d ≡ start f
       → Feeds step d u (Ok tt) d' → Finishes step d' r f' → DecodesText step f u r f'
-  decodes_finished {d} {d'} {f} {f'} {u} e g h = let P : State F → Type 0 = λ s. Feeds step s u (Ok tt) d' in
+  decodes_finished {d} {d'} {f} {f'} {u} e g h =
+      let P : State F → Type 0 = λ s. Feeds step s u (Ok tt) d' in
       fed_finished (subst P e g) refl h
 
 -- A closure that appends its bytes

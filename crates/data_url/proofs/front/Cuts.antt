@@ -192,7 +192,8 @@ at_hash s n f h =
 pub at_none : (s : List ℕ) (m : ℕ) → NoEndBefore s m → position ends_header (drop m s) ≡ None
     → after 44 (front s) ≡ None
 unfolding front
-at_none s m h e = let rest = drop m s in
+at_none s m h e =
+    let rest = drop m s in
     let none : NoEndBefore rest (length rest) = λ k l. grind (
       arith,
       fails_before_first,

@@ -82,7 +82,8 @@ suffix_stops p s m n e at =
 -- without these, and then byte n
 pub dropped_end : (s : List ℕ) (m n : ℕ) → m ≡ suffix_len is_tab_or_newline s → length s ≡ (n + 1) + m
     → without_tabs_and_newlines s ≡ without_tabs_and_newlines (take n s) ++ get_or s n 0 ∷ []
-dropped_end s m n e at = let l : n < length s = omega arith in
+dropped_end s m n e at =
+    let l : n < length s = omega arith in
     let kept = suffix_stops is_tab_or_newline s m n e at in
     let parts : s ≡ take n s ++ get_or s n 0 ∷ drop (n + 1) s = cc (take-append-drop n s, drop_more s n 0 l) in
     let none : without_tabs_and_newlines (drop (n + 1) s) ≡ [] = all_dropped (drop (n + 1) s) (λ k w.

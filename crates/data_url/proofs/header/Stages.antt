@@ -137,7 +137,8 @@ lowercase_comma b h = grind arith
 -- if a text in lower case has no comma, the text has none
 pub lacks_comma : (d : List ℕ) → after 44 (map to_ascii_lowercase d) ≡ None → after 44 d ≡ None
 lacks_comma [] h = h
-lacks_comma (b ∷ d) h = let l = lacks 44 (to_ascii_lowercase b) (map to_ascii_lowercase d) h in
+lacks_comma (b ∷ d) h =
+    let l = lacks 44 (to_ascii_lowercase b) (map to_ascii_lowercase d) h in
     after_other 44 b d (lowercase_comma b l.here) ∙ lacks_comma d l.after_it
 
 lacks_before_dropping : (c : ℕ) → is_tab_or_newline c ≡ false → (s : List ℕ)
@@ -239,7 +240,8 @@ tail_is_of t rest header tail s h = grind (arith, after-append, scheme_has_no_co
 pub is_accepted : (t rest header tail : List ℕ) → IsBytes rest → IsSchemeAndRest (trimmed_text t) rest
     → IsHeaderAndTail rest header tail → IsAccepted t header tail
 unfolding header_of encoded_body front
-is_accepted t rest header tail b s h = let staged = is_staged rest header tail h in
+is_accepted t rest header tail b s h =
+    let staged = is_staged rest header tail h in
     let f = front_of t (without_tabs_and_newlines rest) (after_is t rest s) in
     let bytes = bytes_before 35 (without_tabs_and_newlines rest) (bytes_dropped rest b) in
     let k = has_tail (front (without_tabs_and_newlines rest)) (without_tabs_and_newlines header)
@@ -283,7 +285,8 @@ front_lacks rest h = grind (arith, before-without_tabs_and_newlines, after-dropp
 pub no_header : (t rest : List ℕ) → IsBytes rest → IsSchemeAndRest (trimmed_text t) rest → after 44 (front rest) ≡ None
     → header_of t ≡ None
 unfolding header_of front
-no_header t rest b s h = let raw : after 44 (front (without_tabs_and_newlines rest)) ≡ None = front_lacks rest h in
+no_header t rest b s h =
+    let raw : after 44 (front (without_tabs_and_newlines rest)) ≡ None = front_lacks rest h in
     let bytes = bytes_before 35 (without_tabs_and_newlines rest) (bytes_dropped rest b) in
     cc (
       front_of t (without_tabs_and_newlines rest) (after_is t rest s),
@@ -486,7 +489,8 @@ pub stages_accepted : (t rest header tail : List ℕ) → IsBytes (trimmed_text 
     → staged t ≡ Accepted (mime_text (header_text (without_tabs_and_newlines header))) (outcome flag (plain_body tail))
     (option_map (percent_encoding in_fragment_set) (fragment (without_tabs_and_newlines tail)))
 unfolding staged plain_body
-stages_accepted t rest header tail b s h flag f = let a = is_accepted t rest header tail (rest_bytes t rest b s) s h in
+stages_accepted t rest header tail b s h flag f =
+    let a = is_accepted t rest header tail (rest_bytes t rest b s) s h in
     let text = header_text (without_tabs_and_newlines header) in
     cc (after_is t rest s, (is_staged rest header tail h).fragment_is)
 

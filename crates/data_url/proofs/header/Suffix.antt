@@ -73,7 +73,8 @@ before_one s n l = grind (arith, length-take-le, take-take)
 -- if the byte before the spaces and the word is not ';', there is no base64 suffix
 pub no_semicolon : (s : List ℕ) (n spaces m : ℕ) → IsPrintable s → HasWord s n spaces → n - spaces ≡ m + 1
     → get_or s m 0 ≢ 59 → before_base64 s ≡ None
-no_semicolon s n spaces m p h e ne = let six = h.six in
+no_semicolon s n spaces m p h e ne =
+    let six = h.six in
     let within : m < length s = omega arith in
     cc (
       after_word s n spaces p h,
@@ -86,7 +87,8 @@ no_semicolon s n spaces m p h e ne = let six = h.six in
 -- if the byte before the spaces and the word is a ';' at index m, the text before the suffix is the first m bytes
 pub with_semicolon : (s : List ℕ) (n spaces m : ℕ) → IsPrintable s → HasWord s n spaces → n - spaces ≡ m + 1
     → get_or s m 0 ≡ 59 → before_base64 s ≡ Some (take m s)
-with_semicolon s n spaces m p h e is = let six = h.six in
+with_semicolon s n spaces m p h e is =
+    let six = h.six in
     let within : m < length s = omega arith in
     cc (
       after_word s n spaces p h,

@@ -301,7 +301,8 @@ keeps_end whole rest pairs k e = (k.items, subst (Items whole) (append-nil k.ite
 -- if all names are lower-case, so are those of the first k pairs
 pub lower_first : {A B : Type 0} (pairs : List (String A × String B)) (k : ℕ)
     → HasLowercaseNames (map (λ p. pair_of p) pairs) → HasLowercaseNames (map (λ p. pair_of p) (take k pairs))
-lower_first pairs k h = let test : Pair → Bool = λ p. is_lowercase_name p.0 in
+lower_first pairs k h =
+    let test : Pair → Bool = λ p. is_lowercase_name p.0 in
     let all = map (λ p. pair_of p) pairs in
     let e = sym (list_all-append test (take k all) (drop k all)) ∙ ap (list_all test) (take-append-drop k all) ∙ h in
     cc (take-map (λ p. pair_of p) k pairs, (and_parts (list_all test (take k all)) (list_all test (drop k all)) e).0)

@@ -481,7 +481,8 @@ same_items r r' a b e h k = only_items r' a b (subst (λ x. Items x a) e h) k
 
 -- two records of the same text are equal
 pub has_at_most_one_record : (s : List ℕ) → HasAtMostOneRecord s
-has_at_most_one_record s m n h k = let p = has_parts s h.type_ h.subtype h.parameters h.head in
+has_at_most_one_record s m n h k =
+    let p = has_parts s h.type_ h.subtype h.parameters h.head in
     let q = has_parts s k.type_ k.subtype k.parameters k.head in
     record_equal m n
     (h.record_is.type_is ∙ ap (map to_ascii_lowercase) (sym p.type_is ∙ q.type_is) ∙ sym k.record_is.type_is)

@@ -74,7 +74,8 @@ module _ (t : ℕ → Bool) (ascii : (c : ℕ) → t c ≡ true → c < 128) whe
 
     -- the bytes before the first byte that passes, and the bytes after them, are a cut of a UTF-8 text
     pub is_cut : IsCut t s (take (prefix_len (λ b. not (t b)) s) s) (drop (prefix_len (λ b. not (t b)) s) s)
-    is_cut = let p : ℕ → Bool = λ b. not (t b) in
+    is_cut =
+        let p : ℕ → Bool = λ b. not (t b) in
         let n = prefix_len p s in
         let front = IsUtf8-take s n u cut_boundary in
         let after = IsUtf8-drop s n u cut_boundary in
@@ -159,7 +160,8 @@ ends_other p below r u h = not_ends p [] (chars r) (λ init c e. false_from_ne_t
 -- points without it
 pub trimmed_end : (p : ℕ → Bool) → ((c : ℕ) → p c ≡ true → c < 128) → (s : List ℕ) → IsUtf8 s
     → IsTrimmedEnd p (chars s) (chars (take (length s - suffix_len p s) s))
-trimmed_end p below s u = let m = suffix_len p s in
+trimmed_end p below s u =
+    let m = suffix_len p s in
     let few = suffix_len-le-length p s in
     let k = length s - m in
     let front = IsUtf8-take s k u (boundary_before_end p below s u) in
@@ -375,7 +377,8 @@ short_quotable text t more q e u h few =
 pub long_other : (text t more : List ℕ) (q n : ℕ) → text ≡ t ++ more → IsUtf8 t → q ≡ prefix_len is_unquoted_byte text
     → n ≡ prefix_len (λ b. not (is_semicolon b)) text → length t ≤ n → q < length t
     → list_all is_quotable (chars t) ≡ false
-long_other text t more q n e u h m few l = let p : ℕ → Bool = λ b. not (is_semicolon b) in
+long_other text t more q n e u h m few l =
+    let p : ℕ → Bool = λ b. not (is_semicolon b) in
     let same : get_or t q 0 ≡ get_or text q 0 = cc (get_or_append_left t more 0 q l) in
     let long : length text ≡ length t + length more = ap length e ∙ length-append t more in
     let passes : p (get_or text q 0) ≡ true =
@@ -394,6 +397,7 @@ long_other text t more q n e u h m few l = let p : ℕ → Bool = λ b. not (is_
 pub trimmed_bytes : (text front t rest : List ℕ) → text ≡ front ++ rest → IsUtf8 front → IsUtf8 t
     → IsTrimmedEnd is_http_whitespace (chars front) (chars t) → (more : List ℕ) × (front ≡ t ++ more)
     × (text ≡ t ++ (more ++ rest))
-trimmed_bytes text front t rest e u w h = let back = encode_utf8_all h.back in
+trimmed_bytes text front t rest e u w h =
+    let back = encode_utf8_all h.back in
     let is : front ≡ t ++ back = cc (encodes-chars front u, encodes-append (chars t) h.back, encodes-chars t w) in
     (back, is, e ∙ ap (λ x. x ++ rest) is ∙ append_assoc t back rest)

@@ -40,7 +40,8 @@ token_below c h = ⊎_elim
 -- a text of which each code point is a token code point is ASCII
 pub all_tokens_ascii : (t : List ℕ) → list_all is_token t ≡ true → IsAscii t
 all_tokens_ascii [] h = IsAscii-nil
-all_tokens_ascii (c ∷ t) h = let e = and_parts (is_token c) (list_all is_token t) h in
+all_tokens_ascii (c ∷ t) h =
+    let e = and_parts (is_token c) (list_all is_token t) h in
     IsAscii-cons c t (token_below c e.0) (all_tokens_ascii t e.1)
 
 -- a token text is ASCII
@@ -126,7 +127,8 @@ module _ (p : ℕ → Bool) (below : (c : ℕ) → p c ≡ true → c < 128) whe
 
   -- a UTF-8 text is split there into the code points that pass at its front, and the rest
   pub is_split : (bs : List ℕ) → IsUtf8 bs → IsSplit p bs (take (prefix_len p bs) bs) (drop (prefix_len p bs) bs)
-  is_split bs u = let front = IsUtf8-from_ascii (take (prefix_len p bs) bs) (front_ascii bs) in
+  is_split bs u =
+      let front = IsUtf8-from_ascii (take (prefix_len p bs) bs) (front_ascii bs) in
       let after = IsUtf8-drop bs (prefix_len p bs) u (front_boundary bs u) in
       record {
         joined =

@@ -332,7 +332,8 @@ same_set (c ∷ h) rest (Some query) e = grind (arith, before_same, before_other
 -- if h has no comma, the bytes before the first comma of the serialisation of h ++ 44 ∷ rest are the header text of h
 pub before-serialised : (h rest : List ℕ) → after 44 h ≡ None → before 44 (serialised (h ++ 44 ∷ rest)) ≡ header_text h
 before-serialised [] rest e = grind (arith, serialised_path, before_same, header_nil)
-before-serialised (b ∷ h) rest e = let k = lacks 44 b h e in
+before-serialised (b ∷ h) rest e =
+    let k = lacks 44 b h e in
     elim (cases_Bool (b == 63)) [
       | inl f ↦ grind (arith, eqb-true, serialised_query, before_other, before_encoded, before_at, header_query)
       | inr f ↦
@@ -442,7 +443,8 @@ pub record PutTo (p : ℕ → Bool) (s : List ℕ) (i : ℕ) (room : List ℕ) (
 pub put_more : (p : ℕ → Bool) (s : List ℕ) (i : ℕ) (room : List ℕ) (at : ℕ) (row room' : List ℕ) → PutTo p s i room at
     → i < length s → at ≤ 256 → IsRow p (get_or s i 0) row → length room' ≡ 256
     → take (at + 4) room' ≡ take at room ++ row → PutTo p s (i + 1) room' (at + slice_index row 3)
-put_more p s i room at row room' m l within r n h = let long_room = m.long in
+put_more p s i room at row room' m l within r n h =
+    let long_room = m.long in
     let width = slice_index row 3 in
     let short = row_short p (get_or s i 0) row r in
     let f = m.few in
@@ -484,7 +486,8 @@ are_ascii s = list_all (λ c. nat_lt c 128) s
 -- a text that passes the test `are_ascii` is ASCII
 pub ascii_all : (s : List ℕ) → are_ascii s ≡ true → IsAscii s
 ascii_all [] h = IsAscii-nil
-ascii_all (c ∷ s) h = let e = and_parts (nat_lt c 128) (are_ascii s) h in
+ascii_all (c ∷ s) h =
+    let e = and_parts (nat_lt c 128) (are_ascii s) h in
     IsAscii-cons c s (ltb-true c 128 e.0) (ascii_all s e.1)
 
 written_ascii : (set : EncodeSet) (b : ℕ) → b < 256 → IsAscii (byte_encoding (in_set set) b)

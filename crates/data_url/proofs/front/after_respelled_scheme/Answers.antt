@@ -12,7 +12,8 @@ pub loop-place-init : goal.loop-place-init
 loop-place-init c = spells_nothing
 
 pub loop-place-preserved-then-is_tab_or_newline : goal.loop-place-preserved-then-is_tab_or_newline
-loop-place-preserved-then-is_tab_or_newline c = let text = c.as_bytes-byte-items.ensures.value in
+loop-place-preserved-then-is_tab_or_newline c =
+    let text = c.as_bytes-byte-items.ensures.value in
     let within : c.loop-place.place < length c.args.text.now =
     subst (λ s. c.loop-place.place < length s) text c.loop-place-test.true in
     let byte : is_tab_or_newline (get_or c.args.text.now c.loop-place.place 0) ≡ true = cc in
@@ -29,7 +30,8 @@ byte_of : (c : goal.Then-to_ascii_lowercase-matched) → Byte c.args.text.now c.
 byte_of c = grind arith
 
 pub returns-then-to_ascii_lowercase-matched-clause-none : goal.returns-then-to_ascii_lowercase-matched-clause-none
-returns-then-to_ascii_lowercase-matched-clause-none c = let b = byte_of c in
+returns-then-to_ascii_lowercase-matched-clause-none c =
+    let b = byte_of c in
     let lower : c.to_ascii_lowercase.result ≡ to_ascii_lowercase (get_or c.args.text.now c.loop-place.place 0) = cc in
     differs c.args.text.now (take c.loop-place.place c.args.text.now) c.loop-place.matched
     (get_or c.args.text.now c.loop-place.place 0) (drop (c.loop-place.place + 1) c.args.text.now)

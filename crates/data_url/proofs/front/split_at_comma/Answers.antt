@@ -25,7 +25,8 @@ pub returns-clause-found : goal.returns-clause-found
 returns-clause-found c = grind (arith, at_comma, front_end_at)
 
 pub returns-clause-plain : goal.returns-clause-plain
-returns-clause-plain c = let place = c.long_span-plain.result + c.in_ok-further.further in
+returns-clause-plain c =
+    let place = c.long_span-plain.result + c.in_ok-further.further in
     let width : place - 0 ≡ place = omega arith in
     let front_is : c.range.result.now ≡ take place c.args.text.now = cc c.range.ensures.value in
     λ h. plain_before c.args.text.now c.as_bytes-bytes.result.now c.range.result.now c.long_span-plain.result

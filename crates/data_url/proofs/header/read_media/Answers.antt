@@ -12,7 +12,8 @@ use Rattle.data_url.proofs.header.Stages.{media_begins, plain_record}
 use Rattle.data_url.proofs.header.read_media.Goals as goal
 
 pub returns-then-is_empty : goal.returns-then-is_empty
-returns-then-is_empty c = let bytes = c.as_bytes-bytes.ensures.value in
+returns-then-is_empty c =
+    let bytes = c.as_bytes-bytes.ensures.value in
     let none : c.args.media.now ≡ [] = nil_from_length c.args.media.now (cc (eqb-true (length
     c.as_bytes-bytes.result.now) 0 (sym c.is_empty.ensures ∙ c.if-is_empty.true))) in
     IfOk-weaker c.default_mime.result _ _ (λ mime h. default_for (with_plain c.args.media.now) (record_of mime)
@@ -23,7 +24,8 @@ plain_head-requires c =
     media_begins c.args.media.now c.requires (cc)
 
 pub returns-then-bytes-eq59 : goal.returns-then-bytes-eq59
-returns-then-bytes-eq59 c = let first : get_or c.args.media.now 0 0 ≡ 59 = cc in
+returns-then-bytes-eq59 c =
+    let first : get_or c.args.media.now 0 0 ≡ 59 = cc in
     IfOk-weaker c.record.result _ _ (λ mime h. plain_record c.args.media.now _ _ _ (record_of mime) c.requires first
     c.plain_head.ensures h) c.record.ensures
 

@@ -24,7 +24,8 @@ has_word : (s : List ℕ) (n spaces : ℕ) (same : Bool) → (6 ≤ length s) ×
 has_word s n spaces same at word h e = grind (arith, take_rest)
 
 pub returns-in_err-semicolon : goal.returns-in_err-semicolon
-returns-in_err-semicolon c = let s = c.as_bytes-bytes.result.now in
+returns-in_err-semicolon c =
+    let s = c.as_bytes-bytes.result.now in
     let n = c.in_ok-word.word in
     let printable = subst IsPrintable (sym c.as_bytes-bytes.ensures.value) c.requires in
     let word = has_word s n c.low_end_len.result c.is_suffix.result c.in_ok-word.ensures c.is_suffix.ensures.0
@@ -32,7 +33,8 @@ returns-in_err-semicolon c = let s = c.as_bytes-bytes.result.now in
     cc (nothing_left s n c.low_end_len.result printable word (omega (arith, c.in_err-semicolon.ensures)))
 
 pub returns-then-bytes-semicolon-ne59 : goal.returns-then-bytes-semicolon-ne59
-returns-then-bytes-semicolon-ne59 c = let s = c.as_bytes-bytes.result.now in
+returns-then-bytes-semicolon-ne59 c =
+    let s = c.as_bytes-bytes.result.now in
     let n = c.in_ok-word.word in
     let printable = subst IsPrintable (sym c.as_bytes-bytes.ensures.value) c.requires in
     let word = has_word s n c.low_end_len.result c.is_suffix.result c.in_ok-word.ensures c.is_suffix.ensures.0
@@ -43,7 +45,8 @@ returns-then-bytes-semicolon-ne59 c = let s = c.as_bytes-bytes.result.now in
     )) c.if-bytes-semicolon-ne59.true))
 
 pub returns : goal.returns
-returns c = let s = c.as_bytes-bytes.result.now in
+returns c =
+    let s = c.as_bytes-bytes.result.now in
     let n = c.in_ok-word.word in
     let m = c.in_ok-semicolon.semicolon in
     let printable = subst IsPrintable (sym c.as_bytes-bytes.ensures.value) c.requires in

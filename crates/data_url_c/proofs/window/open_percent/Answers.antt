@@ -26,5 +26,6 @@ pub returns-else-kept-lt2 : goal.returns-else-kept-lt2
 returns-else-kept-lt2 c = grind (arith, scan_closed)
 
 pub returns-after-loop-at : goal.returns-after-loop-at
-returns-after-loop-at c = let i = c.loop-at.invariant in
+returns-after-loop-at c =
+    let i = c.loop-at.invariant in
     scan_closed c.args.window.now c.loop-at.at c.loop-at.kept i.kept_is i.few i.none (inl (omega arith))

@@ -6,7 +6,8 @@ use Rattle.data_url.proofs.forgiving_base64.lanes.decode_row.Goals as goal
 use lib.Lanes.{Each1}
 
 pub numbers_of-requires : goal.numbers_of-requires
-numbers_of-requires c = let P : List ℕ → Type 0 = λ v. Each1 (λ x. x < 64) v in
+numbers_of-requires c =
+    let P : List ℕ → Type 0 = λ v. Each1 (λ x. x < 64) v in
     subst P (sym c.values_of.ensures) (values_below c.args.bytes)
 
 pub returns-clause-bytes : goal.returns-clause-bytes

@@ -23,7 +23,8 @@ pub returns-then-is_named : goal.returns-then-is_named
 returns-then-is_named c = grind (arith, lowercase_at, look_finds, names_equal)
 
 pub loop-key-preserved : goal.loop-key-preserved
-loop-key-preserved c = let i = c.loop-key-item.result in
+loop-key-preserved c =
+    let i = c.loop-key-item.result in
     let low = lowercase_at c.args.pairs.now c.loop-key.key-index i c.requires.pairs c.loop-key-test.true
     c.loop-key-item.is in
     look_goes_on (map to_ascii_lowercase (chars c.args.name.now)) c.args.pairs.now c.loop-key.key-index i

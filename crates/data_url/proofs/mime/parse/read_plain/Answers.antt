@@ -25,7 +25,8 @@ split_at-requires c =
     c.as_bytes-bytes.ensures.value
 
 pub returns-then-is_empty-clause-value : goal.returns-then-is_empty-clause-value
-returns-then-is_empty-clause-value c = let text = c.args.text.now in
+returns-then-is_empty-clause-value c =
+    let text = c.args.text.now in
     let bytes = c.as_bytes-bytes.result.now in
     let front = c.split_at.result.0.now in
     let rest = c.split_at.result.1.now in
@@ -62,7 +63,8 @@ returns-then-is_empty-clause-value c = let text = c.args.text.now in
     ]
 
 pub returns-clause-value : goal.returns-clause-value
-returns-clause-value c = let text = c.args.text.now in
+returns-clause-value c =
+    let text = c.args.text.now in
     let bytes = c.as_bytes-bytes.result.now in
     let front = c.split_at.result.0.now in
     let rest = c.split_at.result.1.now in

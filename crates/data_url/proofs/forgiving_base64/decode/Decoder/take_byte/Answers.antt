@@ -22,7 +22,8 @@ returns-then-is_ascii_whitespace g c =
     c.requires
 
 pub returns-else-is_ascii_whitespace : goal.returns-else-is_ascii_whitespace
-returns-else-is_ascii_whitespace g c = let d = c.args.self.now in
+returns-else-is_ascii_whitespace g c =
+    let d = c.args.self.now in
     refuses_other c.args.byte (every_list_all (take d.pending d.symbols) d.pending_symbols)
     (omega (arith, length-take d.pending d.symbols, d.few_pending))
     (cc)

@@ -20,7 +20,8 @@ returns-then-others-eq0-clause-added c =
     c.put.ensures ∙ ap (λ l. take s.len s.bytes ++ l) (alone c.row-row.result c.args.text.now c.row-row.ensures k)
 
 pub invariant_of-self-2-clause-symbols : goal.invariant_of-self-2-clause-symbols
-invariant_of-self-2-clause-symbols c = let s = c.args.self.now in
+invariant_of-self-2-clause-symbols c =
+    let s = c.args.self.now in
     all_more (take s.len s.bytes) c.row-row.result _ s.symbols
     (two_halves (take s.len s.bytes) c.row-row.result c.others-others.result (cc) c.others-others.ensures.mask
     c.put_half-middle.ensures.put
