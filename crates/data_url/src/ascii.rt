@@ -17,23 +17,8 @@ pub(crate) fn is_tab_or_newline(byte: u8) -> bool
 pub(crate) fn trim(text: &str) -> &str
     ensures { result.now ≡ trimmed_text text.now }
 {
-    trim_end(trim_start(text))
-}
-
-/// The text without those at its start.
-fn trim_start(text: &str) -> &str
-    ensures { result.now ≡ without_front is_c0_control_or_space text.now }
-{
-    let low = low_front_len(text.as_bytes());
-    &text[low..]
-}
-
-/// The text without those at its end.
-fn trim_end(text: &str) -> &str
-    ensures { result.now ≡ without_end is_c0_control_or_space text.now }
-{
-    let low = low_end_len(text.as_bytes());
-    &text[..text.len() - low]
+    let text = &text[low_front_len(text.as_bytes())..];
+    &text[..text.len() - low_end_len(text.as_bytes())]
 }
 
 /// How many bytes at the front are C0 controls or spaces.

@@ -78,13 +78,6 @@ fn serialised(alloc: Global, header: &[u8]) -> Result<String, AllocError>
     Ok(text)
 }
 
-/// Whether bytes spell the word of the suffix, in any ASCII case.
-fn is_suffix(bytes: &[u8]) -> bool
-    ensures { Decides result (map to_ascii_lowercase bytes.now ≡ codes "base64") }
-{
-    bytes.eq_ignore_ascii_case(&SUFFIX)
-}
-
 /// Returns the text before `;`, spaces and `base64` (in any ASCII case) at the end of a header, or None if it ends
 /// otherwise.
 fn without_suffix(header: &str) -> Option<&str>
@@ -93,7 +86,7 @@ fn without_suffix(header: &str) -> Option<&str>
 {
     let bytes = header.as_bytes();
     let word = bytes.len().checked_sub(SUFFIX.len())?;
-    if !is_suffix(&bytes[word..]) {
+    if !bytes[word..].eq_ignore_ascii_case(&SUFFIX) {
         return None;
     }
     let end = word - low_end_len(&bytes[..word]);
@@ -145,26 +138,16 @@ pub(crate) fn split_suffix(header: &str) -> (&str, bool)
     }
 }
 
-/// Returns the record of a header without its suffix. A type that is left out is `text/plain`.
+/// Returns the record of a header without its suffix or, if it has none, the default record. A type that is left out is
+/// `text/plain`.
 pub(crate) fn read_media(alloc: Global, media: &str) -> Result<Mime, AllocError>
     requires { IsPrintable media.now }
     ensures { IfOk result (λ mime. IsRecordFor (with_plain media.now) (record_of mime)) }
 {
-    let bytes = media.as_bytes();
-    if bytes.is_empty() {
-        return default_mime(alloc);
-    }
-    if bytes[0] == b';' {
+    if media.as_bytes().starts_with(b";") {
         return plain_head(media).record(alloc);
     }
-    parse_or_default(alloc, media)
-}
-
-/// The record of a text or, if it has none, the default one.
-fn parse_or_default(alloc: Global, text: &str) -> Result<Mime, AllocError>
-    ensures { IfOk result (λ mime. IsRecordFor (chars text.now) (record_of mime)) }
-{
-    match read_head(text) {
+    match read_head(media) {
         Some(head) => head.record(alloc),
         None => default_mime(alloc),
     }

@@ -167,11 +167,6 @@ const LEAST_LEN: usize = 4;
 /// The greatest number of parameters that room is allocated for at first.
 const MOST: usize = 32;
 
-/// For how many parameters room is allocated at first: for none if the text is too short for one.
-fn capacity_for(text: &str) -> usize {
-    ((text.len() / LEAST_LEN + 1) / 2).min(MOST)
-}
-
 /// The parameters that are kept of a text that is empty or begins with `;`.
 pub(super) fn read_parameters(
     alloc: Global,
@@ -184,7 +179,8 @@ pub(super) fn read_parameters(
     if text.is_empty() {
         return Ok(Vec::new(alloc));
     }
-    let mut kept = KeptParameters::with_capacity(alloc, capacity_for(text))?;
+    let capacity = ((text.len() / LEAST_LEN + 1) / 2).min(MOST);
+    let mut kept = KeptParameters::with_capacity(alloc, capacity)?;
     let mut rest = text;
     while let Some(after) = rest.strip_prefix(';') {
         let parameter = read_parameter(after);

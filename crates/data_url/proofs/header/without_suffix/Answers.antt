@@ -12,8 +12,8 @@ use Rattle.data_url.proofs.header.without_suffix.Goals as goal
 pub returns-in_err-word : goal.returns-in_err-word
 returns-in_err-word c = grind (arith, too_short)
 
-pub returns-then-not-is_suffix : goal.returns-then-not-is_suffix
-returns-then-not-is_suffix c = grind (arith, other_word, take_rest)
+pub returns-then-not-eq_ignore_ascii_case : goal.returns-then-not-eq_ignore_ascii_case
+returns-then-not-eq_ignore_ascii_case c = grind (arith, other_word, take_rest)
 
 pub overflow_sub-end : goal.overflow_sub-end
 overflow_sub-end c = grind (arith, suffix_len-le-length, length-take)
@@ -28,8 +28,8 @@ returns-in_err-semicolon c =
     let s = c.as_bytes-bytes.result.now in
     let n = c.in_ok-word.word in
     let printable = subst IsPrintable (sym c.as_bytes-bytes.ensures.value) c.requires in
-    let word = has_word s n c.low_end_len.result c.is_suffix.result c.in_ok-word.ensures c.is_suffix.ensures.0
-    c.if-not-is_suffix.false c.low_end_len.ensures in
+    let word = has_word s n c.low_end_len.result c.eq_ignore_ascii_case.result c.in_ok-word.ensures c.eq_ignore_ascii_case.ensures.test.0
+    c.if-not-eq_ignore_ascii_case.false c.low_end_len.ensures in
     cc (nothing_left s n c.low_end_len.result printable word (omega (arith, c.in_err-semicolon.ensures)))
 
 pub returns-then-bytes-semicolon-ne59 : goal.returns-then-bytes-semicolon-ne59
@@ -37,8 +37,8 @@ returns-then-bytes-semicolon-ne59 c =
     let s = c.as_bytes-bytes.result.now in
     let n = c.in_ok-word.word in
     let printable = subst IsPrintable (sym c.as_bytes-bytes.ensures.value) c.requires in
-    let word = has_word s n c.low_end_len.result c.is_suffix.result c.in_ok-word.ensures c.is_suffix.ensures.0
-    c.if-not-is_suffix.false c.low_end_len.ensures in
+    let word = has_word s n c.low_end_len.result c.eq_ignore_ascii_case.result c.in_ok-word.ensures c.eq_ignore_ascii_case.ensures.test.0
+    c.if-not-eq_ignore_ascii_case.false c.low_end_len.ensures in
     sym (cc (no_semicolon s n c.low_end_len.result c.in_ok-semicolon.semicolon printable word (omega (
       arith,
       c.in_ok-semicolon.ensures,
@@ -50,8 +50,8 @@ returns c =
     let n = c.in_ok-word.word in
     let m = c.in_ok-semicolon.semicolon in
     let printable = subst IsPrintable (sym c.as_bytes-bytes.ensures.value) c.requires in
-    let word = has_word s n c.low_end_len.result c.is_suffix.result c.in_ok-word.ensures c.is_suffix.ensures.0
-    c.if-not-is_suffix.false c.low_end_len.ensures in
+    let word = has_word s n c.low_end_len.result c.eq_ignore_ascii_case.result c.in_ok-word.ensures c.eq_ignore_ascii_case.ensures.test.0
+    c.if-not-eq_ignore_ascii_case.false c.low_end_len.ensures in
     let width : m - 0 ≡ m = omega arith in
     cc (with_semicolon s n c.low_end_len.result m printable word (omega (
       arith,
