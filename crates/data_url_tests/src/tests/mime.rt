@@ -14,13 +14,15 @@ const NO_TYPE: &str = "invalid mime type";
 const MARKS: &str = "!#$%&'*+-.^_`|~";
 
 /// Texts, and how their records are printed, or the message for a text that has no record.
-const TEXTS: [[&str; 2]; 40] = [
+const TEXTS: [[&str; 2]; 42] = [
     [
         "TEXT/HTML;a=\"b;c\";d=;e=\"\"",
         "text/html;a=\"b;c\";e=\"\"",
     ],
     ["x/x;a=1;A=2", "x/x;a=1"],
+    ["x/x;AbC=1;aBc=2", "x/x;abc=1"],
     ["x/x;a=\"b\"\u{100}", "x/x;a=b"],
+    ["x/x;a=\"b\"c;d=e", "x/x;a=b;d=e"],
     ["x/x;a=\"b;\u{100}\"", "x/x"],
     ["x/x;a=\"\\", "x/x;a=\"\\\\\""],
     [" a/b ; c=d ", "a/b;c=d"],
