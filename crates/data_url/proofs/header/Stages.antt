@@ -532,19 +532,6 @@ is_url_of t rest header u b s h k =
       staged_is = stages_accepted t rest header (url_tail u) b s h (is_base64 u) k.base64_is;
     }
 
--- Decoding
-
--- if the flag is false, the outcome of a body is the body as it is
-pub plain_outcome : (flag : Bool) (x : List ℕ) → flag ≡ false → Good x ≡ outcome flag x
-unfolding outcome
-plain_outcome flag x e = sym (ap (λ v. outcome v x) e)
-
--- what decodes a body with at most n calls decodes an equal body with at most n + 1 calls
-pub one_more_call : {F E A : Type 0} (step : F → List ℕ → Result (Unit {0}) E → F → Type 0) (f g : F) (n : ℕ)
-    (body body' : Outcome) (good : A → Type 0) (r : Result A (DecodeError E)) → body ≡ body'
-    → Decodes step f n body good r g → Decodes step f (n + 1) body' good r g
-one_more_call step f g n body body' good r e d = grind arith
-
 -- The fragment
 
 -- if the body of a tail ends where the tail ends, the tail has no '#'
