@@ -13,7 +13,7 @@ use crate::forgiving_base64::{DecodeError, Decoder};
 
 /// Calls a closure with the pieces of the body of a tail, until it returns an error. Returns this error, or the place
 /// in the tail where the body ends.
-fn walk<F, E>(tail: &str, take: &mut F) -> Result<usize, E>
+fn decode_pieces<F, E>(tail: &str, take: &mut F) -> Result<usize, E>
 where
     F: FnMut(&[u8]) -> Result<(), E>,
     requires { IsCallableUntilError F.FnMut take.old }
@@ -46,25 +46,18 @@ where
         (outcome base64 (plain_body tail.now)) (IsBodyEnd tail.now) result.0 result.1 }
 {
     if !base64 {
-        return match walk(tail, &mut write) {
-            Ok(place) => (Ok(place), write),
-            Err(error) => (Err(DecodeError::WriteError(error)), write),
-        };
+        let place = decode_pieces(tail, &mut write);
+        return (place.map_err(DecodeError::WriteError), write);
     }
     let mut decoder = Decoder::new(write);
     let mut feed = |bytes: &[u8]| -> Result<(), DecodeError<E>>
         requires callable { F.IsAlwaysCallable (state_of decoder).closure }
         requires going { (state_of decoder).failed ≡ false }
-    {
-        decoder.feed(bytes)
-    };
-    match walk(tail, &mut feed) {
+    { decoder.feed(bytes) };
+    match decode_pieces(tail, &mut feed) {
         Ok(place) => {
             let (ended, write) = decoder.finish_with();
-            match ended {
-                Ok(()) => (Ok(place), write),
-                Err(error) => (Err(error), write),
-            }
+            (ended.map(|()| place), write)
         }
         Err(error) => (Err(error), decoder.into_closure()),
     }

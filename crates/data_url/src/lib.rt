@@ -197,9 +197,11 @@ impl<'a> DataUrl<'a> {
         let Ok(mut bytes) = Vec::with_capacity(alloc, room) else {
             return Err(DecodeToVecError::OutOfMemory);
         };
-        let ended = decode_body(self.tail, self.base64, |piece: &[u8]| -> Result<(), AllocError> {
-            bytes.extend_from_slice(piece)
-        });
+        let ended = decode_body(
+            self.tail,
+            self.base64,
+            |piece: &[u8]| -> Result<(), AllocError> { bytes.extend_from_slice(piece) },
+        );
         match ended.0 {
             Ok(place) => Ok((bytes, self.fragment_at(place))),
             Err(error) => Err(DecodeToVecError::of(error)),

@@ -1,4 +1,4 @@
--- A closure or a decoder that gets a body piece by piece. For `decode_plain`, `decode_base64` and their callers.
+-- A closure or a decoder that gets a body piece by piece. For `decode_pieces`, `decode_body` and its callers.
 use Rattle.std.proofs.Common.{◌≡◌, ℕ, ◌+◌, ◌≤◌, List, [], ◌∷◌, ◌++◌, Bor, length, Option, None, Some, Result, Ok, Err}
 use Rattle.std.proofs.Common.{refl, sym, ap, ◌∙◌, subst, append_assoc, arith, length-append, suc, Bool, true, false}
 use Rattle.std.proofs.Common.{cond, ◌*◌, min, filter, length-drop, length-take}
@@ -9,12 +9,11 @@ use Rattle.std.proofs.lemmas.List.{append-nil, length-map}
 use Rattle.data_url.specs.Errors.{IsRefused}
 use Rattle.data_url.specs.Run.{Call, IsRun, joined_pieces, refusal, IsPrefix, or_error}
 use Rattle.data_url.specs.Fetch.{Good, outcome_bytes, plain_body, Bad, outcome, Outcome, tail_of}
-use Rattle.data_url.specs.Pieces.{Walk, walk_at_front}
-use Rattle.data_url.specs.Steps.Chunks.{GivesBytes, IsCallableUntilError, IsOver, Takes, TakesBody}
+use Rattle.data_url.specs.Pieces.{Walk}
+use Rattle.data_url.specs.Steps.Chunks.{GivesBytes, IsCallableUntilError, Takes, TakesBody}
 use Rattle.data_url.specs.Steps.Tail.{IsBodyEnd}
 use Rattle.data_url.specs.DataUrl.{Decodes, HandsOut, IsUrlOf, url_body, url_tail}
 use Rattle.data_url.specs.declared.forgiving_base64.DecodeError.TheVariants.{WriteError, InvalidBase64}
-use Rattle.data_url.proofs.forgiving_base64.Padding.{some_not_none}
 use Rattle.data_url.proofs.runs.Runs.{joined_pieces-append, match_at, refusal-append, run-append, prefix_after}
 use Rattle.std.specs.Char.{digit_value}
 use Rattle.data_url.specs.Base64.{decoded, complete_bytes, kind_of, after_groups, before_place}
@@ -38,10 +37,6 @@ pub takes_next : {w w' : Walk} {given : Option (Bor (List ℕ))} {bytes : Bor (L
     → given ≡ Some bytes → Takes w bytes.now w'
 takes_next {w} {w'} h e = let P : Option (Bor (List ℕ)) → Type 0 = λ o. GivesBytes w o w' in subst P e h
 
--- if the next of a walk is `None`, the walk is at its end
-pub over_next : {w w' : Walk} {given : Option (Bor (List ℕ))} → GivesBytes w given w' → given ≡ None → IsOver w w'
-over_next {w} {w'} h e = let P : Option (Bor (List ℕ)) → Type 0 = λ o. GivesBytes w o w' in subst P e h
-
 -- The runs
 
 module _ {F E : Type 0} (step : F → List ℕ → Result (Unit {0}) E → F → Type 0) where
@@ -54,10 +49,6 @@ module _ {F E : Type 0} (step : F → List ℕ → Result (Unit {0}) E → F →
     pub place : w.place ≤ length text
     pub calls : length run ≤ w.place
     pub body : plain_body text ≡ joined_pieces run ++ w.rest
-
-  -- the empty run is `Going` for a walk at the front of its text
-  pub going_none : (f : F) (text : List ℕ) → Going f text (walk_at_front text) f
-  going_none f text = grind arith
 
   -- if the walk takes bytes, and the closure accepts them, the run with that call is `Going` for the walk after it
   pub going_more : {f g h : F} {text bytes : List ℕ} {w w' : Walk} → Going f text w g → Takes w bytes w'
@@ -81,11 +72,6 @@ module _ {F E : Type 0} (step : F → List ℕ → Result (Unit {0}) E → F →
         body = cc (append_assoc (joined_pieces k.run) bytes w'.rest, append-nil bytes, joined_pieces-append k.run call);
       }
 
-  -- if nothing of the body is left, and the body ends at the place, the closure took the body, with the result `Ok place`
-  pub going_ends : {f g : F} {text : List ℕ} {w : Walk} {place : ℕ} → Going f text w g → w.rest ≡ []
-      → IsBodyEnd text place → TakesBody step f text (Ok place) g
-  going_ends {f} {g} {text} {w} {place} k e b = grind (arith, append-nil)
-
   -- if the walk takes bytes, and the closure returns an error for them, the closure took the body, with that error
   pub going_refused : {f g h : F} {text bytes : List ℕ} {w w' : Walk} (e : E) → Going f text w g → Takes w bytes w'
       → step g bytes (Err e) h → TakesBody step f text (Err e) h
@@ -108,8 +94,6 @@ module _ {F E : Type 0} (step : F → List ℕ → Result (Unit {0}) E → F →
         calls = omega arith;
         gave = (last, (w'.rest, cc (append_assoc (joined_pieces k.run) bytes w'.rest)));
       }
-
--- A base64 body, fed to a decoder chunk by chunk.
 
 -- A body is not longer than its tail
 
@@ -143,9 +127,14 @@ body_shorter tail = grind (arith, percent_shorter, before_shorter, dropped_short
 -- The result of decoding a whole text is the outcome
 
 -- the result, with the place as its value if it is `Ok`
-abbrev pub at_place : {E : Type 0} → ℕ → Result (Unit {0}) (DecodeError E) → Result ℕ (DecodeError E)
+abbrev at_place : {E : Type 0} → ℕ → Result (Unit {0}) (DecodeError E) → Result ℕ (DecodeError E)
 at_place place (Ok x) = Ok place
 at_place place (Err e) = Err e
+
+mapped : {E : Type 0} (place : ℕ) (p : Result (Unit {0}) (DecodeError E)) (q : Result ℕ (DecodeError E))
+    → MatchResult p (λ x. q ≡ Ok place) (λ e. q ≡ Err e) → at_place place p ≡ q
+mapped place (Ok x) q m = sym m
+mapped place (Err e) q m = sym m
 
 module _ {F E : Type 0} (step : F → List ℕ → Result (Unit {0}) E → F → Type 0) where
   gives_valid : (u bytes : List ℕ) (place : ℕ) (good : ℕ → Type 0) (r : Result (Unit {0}) (DecodeError E))
@@ -290,8 +279,6 @@ pub run_ends : {F E : Type 0} (step : F → List ℕ → Result (Unit {0}) E →
 run_ends step cs f g ran kept stopped accepts refuses start =
     run_ends_from step kept stopped accepts refuses cs [] f g start ran
 
--- Measures
-
 accepted_at : {F E : Type 0} (cs : List (Call F E)) (P : Type 0) (Q : E → Type 0) → refusal cs ≡ None
     → MatchOption (refusal cs) P Q → P
 accepted_at {E = E} cs P Q n h = let M : Option E → Type 0 = λ o. MatchOption o P Q in subst M n h
@@ -305,6 +292,8 @@ run_preserves step K keeps cs f g ran n k =
     (run_ends step cs f g ran (λ bytes p. K p) (λ bytes e p. Unit {0}) (λ bytes p piece q. keeps p piece q)
     (λ bytes p piece e q k s. tt) k)
 
+-- The closure that is called with a body
+
 -- a closure that can always be called can be called until it returns an error
 pub until_error : {F E : Type 0} (closure : Mut F (Bor (List ℕ) × Unit {0}) (Result (Unit {0}) E)) (f : F)
     → always_mut closure f → IsCallableUntilError closure f
@@ -313,18 +302,28 @@ until_error closure f h run g ran n bytes =
     (λ p piece q i s. mut_next closure p (s.shown, tt) (Ok tt) q q s.called refl i) run f g ran n h in
     (k.at ((bytes, tt) ∷ [])).0
 
--- a closure that took a body decodes it, if it is not base64
-module _ {F E : Type 0} (step : F → List ℕ → Result (Unit {0}) E → F → Type 0) {f g : F} {text : List ℕ}
-    {flag : Bool} {r : Result ℕ E} where
-  pub plain_taken : {place : ℕ} → flag ≡ false → TakesBody step f text r g → r ≡ Ok place
-      → Decodes step f (length text + 1) (outcome flag (plain_body text)) (IsBodyEnd text) (Ok place) g
-  unfolding outcome
-  plain_taken {place} b t e = grind (arith)
+-- what no call of a closure changes in its state is the same after it took a body
+pub took_keeps : {F E B : Type 0} {step : F → List ℕ → Result (Unit {0}) E → F → Type 0} {f g : F} {text : List ℕ}
+    {r : Result ℕ E} → TakesBody step f text r g → (K : F → B)
+    → ((p : F) (piece : List ℕ) (s : Result (Unit {0}) E) (q : F) → step p piece s q → K p ≡ K q) → K f ≡ K g
+took_keeps {step = step} {f = f} {g = g} t K keeps = run_keeps step K keeps t.run f g t.ran
 
-  pub plain_refused : {e : E} → flag ≡ false → TakesBody step f text r g → r ≡ Err e
-      → Decodes step f (length text + 1) (outcome flag (plain_body text)) (IsBodyEnd text) (Err (WriteError e)) g
-  unfolding outcome
-  plain_refused {e} b t q = grind (arith)
+-- what each call that succeeds preserves is true after a closure took a whole body
+pub took_preserves : {F E : Type 0} {step : F → List ℕ → Result (Unit {0}) E → F → Type 0} {f g : F} {text : List ℕ}
+    {r : Result ℕ E} {place : ℕ} → TakesBody step f text r g → r ≡ Ok place → (K : F → Type 0)
+    → ((p : F) (piece : List ℕ) (q : F) → K p → step p piece (Ok tt) q → K q) → K f → K g
+took_preserves {step = step} {f = f} {g = g} {text = text} {r = Ok x} t e K keeps k =
+    run_preserves step K keeps t.run f g t.ran t.gave.1 k
+took_preserves {r = Err x} t e K keeps k = absurd (cc)
+
+-- a closure that took a body decodes it, if it is not base64
+pub plain_taken : {F E : Type 0} (step : F → List ℕ → Result (Unit {0}) E → F → Type 0) {f g : F} {text : List ℕ}
+    {flag : Bool} {r : Result ℕ E} {r' : Result ℕ (DecodeError E)} → flag ≡ false → TakesBody step f text r g
+    → MatchResult r (λ place. r' ≡ Ok place) (λ e. r' ≡ Err (WriteError e))
+    → Decodes step f (length text + 1) (outcome flag (plain_body text)) (IsBodyEnd text) r' g
+unfolding outcome
+plain_taken step {f} {g} {text} {flag} {r = Ok place} {r'} b t m = grind arith
+plain_taken step {f} {g} {text} {flag} {r = Err e} {r'} b t m = grind arith
 
 -- A base64 body, fed to a decoder piece by piece.
 
@@ -354,22 +353,19 @@ module _ {C F E : Type 0} {outer : C → List ℕ → Result (Unit {0}) (DecodeE
   -- if a closure that feeds a new decoder takes a whole body, and then the decoder is finished, this is the result of
   -- decoding the body as base64
   pub fed_ended : {f g : F} {c c' : C} {text : List ℕ} {r : Result ℕ (DecodeError E)} {place : ℕ}
-      {p q : Result (Unit {0}) (DecodeError E)} → state c ≡ start f → TakesBody outer c text r c' → r ≡ Ok place
-      → Finishes step (state c') p g → p ≡ q
-      → Decodes step f (length text + 1) (outcome true (plain_body text)) (IsBodyEnd text) (at_place place q) g
-  fed_ended {f} {g} {c} {c'} {text} {r} {place} {p} {q} s took e ended same =
+      {p : Result (Unit {0}) (DecodeError E)} {q : Result ℕ (DecodeError E)} → state c ≡ start f
+      → TakesBody outer c text r c' → r ≡ Ok place → Finishes step (state c') p g
+      → MatchResult p (λ x. q ≡ Ok place) (λ e. q ≡ Err e)
+      → Decodes step f (length text + 1) (outcome true (plain_body text)) (IsBodyEnd text) q g
+  fed_ended {f} {g} {c} {c'} {text} {r} {place} {p} {q} s took e ended m =
       let t = subst (λ q. TakesBody outer c text q c') e took in
       let k = match_at (refusal t.run) None _ _ (sym t.gave.1) (fed c c' t.run s t.ran) in
-      let h = subst (λ q. Finishes step (state c') q g) same ended in
-      outcome_of step place q (sym t.gave.2) (decodes_finished step refl k h) (λ _. t.gave.0)
+      let D : Result ℕ (DecodeError E) → Type 0 = λ q. Decodes step f (length text + 1)
+      (outcome true (plain_body text)) (IsBodyEnd text) q g in
+      subst D (mapped place p q m)
+      (outcome_of step place p (sym t.gave.2) (decodes_finished step refl k ended) (λ _. t.gave.0))
 
--- what each call that succeeds preserves is true after a closure took a whole body
-pub took_preserves : {F E : Type 0} {step : F → List ℕ → Result (Unit {0}) E → F → Type 0} {f g : F} {text : List ℕ}
-    {r : Result ℕ E} {place : ℕ} → TakesBody step f text r g → r ≡ Ok place → (K : F → Type 0)
-    → ((p : F) (piece : List ℕ) (q : F) → K p → step p piece (Ok tt) q → K q) → K f → K g
-took_preserves {step = step} {f = f} {g = g} {text = text} {r = Ok x} t e K keeps k =
-    run_preserves step K keeps t.run f g t.ran t.gave.1 k
-took_preserves {r = Err x} t e K keeps k = absurd (cc)
+-- Measures
 
 -- if each call that succeeds extends a measure by its piece, a run without an error extends it by all its bytes
 pub run_extends : {F E : Type 0} (step : F → List ℕ → Result (Unit {0}) E → F → Type 0) (cs : List (Call F E)) (f g : F)

@@ -1,7 +1,8 @@
 -- The bytes that a walk returns while a body is decoded, and what a closure does with them.
 use Rattle.std.specs.Borrow.{Bor}
 use Rattle.std.specs.Fn.{CalledAt, Mut}
-use Rattle.std.specs.Prelude.{[], ◌++◌, ◌+◌, ◌<◌, ◌≡◌, ◌≤◌, List, MatchOption, MatchResult, None, Option, Result, Some, length, true, ℕ}
+use Rattle.std.specs.Prelude.{[], ◌++◌, ◌+◌, ◌<◌, ◌≡◌, ◌≤◌, List, MatchOption, MatchResult, None}
+use Rattle.std.specs.Prelude.{Option, Result, Some, length, true, ℕ}
 use Rattle.data_url.specs.Fetch.{plain_body}
 use Rattle.data_url.specs.Pieces.{Walk}
 use Rattle.data_url.specs.Run.{Call, IsPrefix, IsRun, joined_pieces, refusal}
@@ -26,7 +27,8 @@ abbrev pub GivesBytes : Walk → Option (Bor (List ℕ)) → Walk → Type 0
 GivesBytes w given w' = MatchOption given (IsOver w w') (λ bytes. Takes w bytes.now w')
 
 -- after calls that return no error, the closure f may be called with any bytes
-abbrev pub IsCallableUntilError : {F E : Type 0} → Mut F (Bor (List ℕ) × Unit {0}) (Result (Unit {0}) E) → F → Type 0
+abbrev pub IsCallableUntilError : {F E : Type 0} → Mut F (Bor (List ℕ) × Unit {0}) (Result (Unit {0}) E)
+    → F → Type 0
 IsCallableUntilError {F} {E} closure f = (run : List (Call F E)) (g : F) → IsRun (CalledAt closure) f run g
     → refusal run ≡ None → (bytes : Bor (List ℕ)) → closure.pre g (bytes, tt)
 

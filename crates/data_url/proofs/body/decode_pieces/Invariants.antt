@@ -2,7 +2,7 @@
 use Rattle.std.proofs.Common.{◌-◌, length}
 use Rattle.std.specs.Fn.{CalledAt}
 use Rattle.data_url.proofs.body.Decoding.{Going}
-use Rattle.data_url.proofs.body.walk.Given as goal
+use Rattle.data_url.proofs.body.decode_pieces.Given as goal
 
 abbrev pub invariant-chunks : goal.invariant-chunks
 invariant-chunks g l = Going (CalledAt g.F.FnMut) l.fn.take l.fn.tail l.pieces l.take

@@ -1,7 +1,7 @@
 use Rattle.std.proofs.Common.{refl}
 use Rattle.std.specs.Fn.{CalledAt}
 use Rattle.data_url.proofs.body.Decoding.{going_more, going_refused, takes_next}
-use Rattle.data_url.proofs.body.walk.Goals as goal
+use Rattle.data_url.proofs.body.decode_pieces.Goals as goal
 
 pub chunks-preserved : goal.chunks-preserved
 chunks-preserved g c =
