@@ -1,21 +1,23 @@
 //! Bodies: a closure is called with their bytes, piece by piece.
 
-ghost use Rattle.std.specs.Prelude.{◌+◌, length, true};
+ghost use Rattle.std.specs.Prelude.{◌+◌, ◌≡◌, false, length};
 ghost use Rattle.std.specs.Fn.{CalledAt};
+ghost use Rattle.data_url.specs.Steps.Chunks.{IsCallableUntilError, TakesBody};
 ghost use Rattle.data_url.specs.Steps.Tail.{IsBodyEnd};
-ghost use Rattle.data_url.specs.Fetch.{Good, outcome, plain_body};
+ghost use Rattle.data_url.specs.Fetch.{outcome, plain_body};
 ghost use Rattle.data_url.specs.DataUrl.{Decodes};
+ghost use Rattle.data_url.specs.Decoder.{state_of};
 
 use crate::escapes::{Pieces, ROOM};
 use crate::forgiving_base64::{DecodeError, Decoder};
 
-/// Calls a closure with the body of a tail that is not base64. Returns the place in the tail where the body ends.
-pub(crate) fn decode_plain<F, E>(tail: &str, mut write: F) -> (Result<usize, DecodeError<E>>, F)
+/// Calls a closure with the pieces of the body of a tail, until it returns an error. Returns this error, or the place
+/// in the tail where the body ends.
+fn decode_pieces<F, E>(tail: &str, take: &mut F) -> Result<usize, E>
 where
     F: FnMut(&[u8]) -> Result<(), E>,
-    requires { F.IsAlwaysCallable write }
-    ensures { Decodes (CalledAt F.FnMut) write (length tail.now) (Good (plain_body tail.now))
-        (IsBodyEnd tail.now) result.0 result.1 }
+    requires { IsCallableUntilError F.FnMut take.old }
+    ensures { TakesBody (CalledAt F.FnMut) take.old tail.now result take.new }
 {
     let mut pieces = Pieces::new(tail);
     let mut room = [0; ROOM];
@@ -23,37 +25,40 @@ where
         let Some(bytes) = pieces.next_bytes(&mut room) else {
             break 'chunks;
         };
-        match write(bytes) {
+        match take(bytes) {
             Ok(()) => {}
-            Err(error) => return (Err(DecodeError::WriteError(error)), write),
+            Err(error) => return Err(error),
         }
     }
-    (Ok(pieces.end()), write)
+    Ok(pieces.end())
 }
 
-/// Calls a closure with the bytes of the base64 body of a tail. Returns the place in the tail where the body ends.
-pub(crate) fn decode_base64<F, E>(tail: &str, write: F) -> (Result<usize, DecodeError<E>>, F)
+/// Calls a closure with the body of a tail, decoded if it is base64. Returns the place in the tail where the body ends.
+pub(crate) fn decode_body<F, E>(
+    tail: &str,
+    base64: bool,
+    mut write: F,
+) -> (Result<usize, DecodeError<E>>, F)
 where
     F: FnMut(&[u8]) -> Result<(), E>,
     requires { F.IsAlwaysCallable write }
     ensures { Decodes (CalledAt F.FnMut) write (length tail.now + 1)
-        (outcome true (plain_body tail.now)) (IsBodyEnd tail.now) result.0 result.1 }
+        (outcome base64 (plain_body tail.now)) (IsBodyEnd tail.now) result.0 result.1 }
 {
-    let mut decoder = Decoder::new(write);
-    let mut pieces = Pieces::new(tail);
-    let mut room = [0; ROOM];
-    'chunks: while !pieces.has_ended() {
-        let Some(bytes) = pieces.next_bytes(&mut room) else {
-            break 'chunks;
-        };
-        match decoder.feed(bytes) {
-            Ok(()) => {}
-            Err(error) => return (Err(error), decoder.into_closure()),
-        }
+    if !base64 {
+        let place = decode_pieces(tail, &mut write);
+        return (place.map_err(DecodeError::WriteError), write);
     }
-    let (answer, write) = decoder.finish_with();
-    match answer {
-        Ok(()) => (Ok(pieces.end()), write),
-        Err(error) => (Err(error), write),
+    let mut decoder = Decoder::new(write);
+    let mut feed = |bytes: &[u8]| -> Result<(), DecodeError<E>>
+        requires callable { F.IsAlwaysCallable (state_of decoder).closure }
+        requires going { (state_of decoder).failed ≡ false }
+    { decoder.feed(bytes) };
+    match decode_pieces(tail, &mut feed) {
+        Ok(place) => {
+            let (ended, write) = decoder.finish_with();
+            (ended.map(|()| place), write)
+        }
+        Err(error) => (Err(error), decoder.into_closure()),
     }
 }

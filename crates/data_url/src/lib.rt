@@ -22,7 +22,7 @@ pub mod mime;
 mod percent;
 
 use ascii::trim;
-use body::{decode_base64, decode_plain};
+use body::decode_body;
 use forgiving_base64::{DecodeError, DecodeToVecError, room_for};
 pub use fragment::FragmentIdentifier;
 use front::{after_scheme, split_at_comma};
@@ -109,21 +109,6 @@ impl<'a> DataUrl<'a> {
         &self.mime_type
     }
 
-    /// Calls a closure with the body. Returns the place in the tail where the body ends.
-    fn decode_to_place<F, E>(&self, write: F) -> (Result<usize, DecodeError<E>>, F)
-    where
-        F: FnMut(&[u8]) -> Result<(), E>,
-        requires { F.IsAlwaysCallable write }
-        ensures { Decodes (CalledAt F.FnMut) write (length (url_tail self.now) + 1)
-            (url_body self.now) (IsBodyEnd (url_tail self.now)) result.0 result.1 }
-    {
-        if self.base64 {
-            decode_base64(self.tail, write)
-        } else {
-            decode_plain(self.tail, write)
-        }
-    }
-
     /// Returns the fragment of a URL whose body ends at the place.
     fn fragment_at(&self, place: usize) -> Option<FragmentIdentifier<'a>>
         requires { IsBodyEnd (url_tail self.now) place }
@@ -160,7 +145,7 @@ impl<'a> DataUrl<'a> {
         ensures { Decodes (CalledAt F.FnMut) write_body_bytes (length (url_tail self.now) + 1)
             (url_body self.now) (IsFragmentOf (url_tail self.now)) result.0 result.1 }
     {
-        let (answer, write) = self.decode_to_place(write_body_bytes);
+        let (answer, write) = decode_body(self.tail, self.base64, write_body_bytes);
         match answer {
             Ok(place) => (Ok(self.fragment_at(place)), write),
             Err(error) => (Err(error), write),
@@ -212,9 +197,11 @@ impl<'a> DataUrl<'a> {
         let Ok(mut bytes) = Vec::with_capacity(alloc, room) else {
             return Err(DecodeToVecError::OutOfMemory);
         };
-        let ended = self.decode_to_place(|piece: &[u8]| -> Result<(), AllocError> {
-            bytes.extend_from_slice(piece)
-        });
+        let ended = decode_body(
+            self.tail,
+            self.base64,
+            |piece: &[u8]| -> Result<(), AllocError> { bytes.extend_from_slice(piece) },
+        );
         match ended.0 {
             Ok(place) => Ok((bytes, self.fragment_at(place))),
             Err(error) => Err(DecodeToVecError::of(error)),

@@ -1,19 +1,20 @@
--- A closure or a decoder that gets a body piece by piece. For `decode_plain`, `decode_base64` and their callers.
+-- A closure or a decoder that gets a body piece by piece. For `decode_pieces`, `decode_body` and its callers.
 use Rattle.std.proofs.Common.{◌≡◌, ℕ, ◌+◌, ◌≤◌, List, [], ◌∷◌, ◌++◌, Bor, length, Option, None, Some, Result, Ok, Err}
 use Rattle.std.proofs.Common.{refl, sym, ap, ◌∙◌, subst, append_assoc, arith, length-append, suc, Bool, true, false}
 use Rattle.std.proofs.Common.{cond, ◌*◌, min, filter, length-drop, length-take}
-use Rattle.std.specs.Prelude.{MatchOption, ◌==◌, MatchBool, IsErr}
+use Rattle.std.specs.Prelude.{MatchOption, MatchResult, ◌==◌, MatchBool, IsErr}
+use Rattle.std.specs.Fn.{CalledAt, Mut, always_mut}
+use denote.Param.Always.{mut_next}
 use Rattle.std.proofs.lemmas.List.{append-nil, length-map}
 use Rattle.data_url.specs.Errors.{IsRefused}
 use Rattle.data_url.specs.Run.{Call, IsRun, joined_pieces, refusal, IsPrefix, or_error}
 use Rattle.data_url.specs.Fetch.{Good, outcome_bytes, plain_body, Bad, outcome, Outcome, tail_of}
-use Rattle.data_url.specs.Pieces.{Walk, walk_at_front}
-use Rattle.data_url.specs.Steps.Chunks.{GivesBytes, IsOver, Takes}
+use Rattle.data_url.specs.Pieces.{Walk}
+use Rattle.data_url.specs.Steps.Chunks.{GivesBytes, IsCallableUntilError, Takes, TakesBody}
 use Rattle.data_url.specs.Steps.Tail.{IsBodyEnd}
 use Rattle.data_url.specs.DataUrl.{Decodes, HandsOut, IsUrlOf, url_body, url_tail}
 use Rattle.data_url.specs.declared.forgiving_base64.DecodeError.TheVariants.{WriteError, InvalidBase64}
-use Rattle.data_url.proofs.forgiving_base64.Padding.{some_not_none}
-use Rattle.data_url.proofs.runs.Runs.{joined_pieces-append, refusal-append, run-append, prefix_after}
+use Rattle.data_url.proofs.runs.Runs.{joined_pieces-append, match_at, refusal-append, run-append, prefix_after}
 use Rattle.std.specs.Char.{digit_value}
 use Rattle.data_url.specs.Base64.{decoded, complete_bytes, kind_of, after_groups, before_place}
 use Rattle.data_url.specs.Base64.{groups, is_symbol, rest_bytes, symbol_value, values}
@@ -24,7 +25,8 @@ use Rattle.data_url.specs.Decoder.{Feeds, Finishes, IsAll, State, start}
 use Rattle.data_url.specs.Steps.Whole.{DecodesText}
 use Rattle.data_url.specs.declared.forgiving_base64.DecodeError.{DecodeError}
 use Rattle.data_url.proofs.forgiving_base64.Steps.{feeds_err, feeds_then}
-use Rattle.data_url.proofs.forgiving_base64.WholeTexts.{decodes_finished, decodes_refused, run_keeps, run_reads}
+use Rattle.data_url.proofs.forgiving_base64.WholeTexts.{decodes_finished, decodes_refused, fed_nothing, run_keeps}
+use Rattle.data_url.proofs.forgiving_base64.WholeTexts.{run_reads}
 use Rattle.data_url.specs.declared.DataUrl.{DataUrl}
 use Rattle.data_url.proofs.forgiving_base64.Groups.{groups_length}
 
@@ -34,16 +36,6 @@ use Rattle.data_url.proofs.forgiving_base64.Groups.{groups_length}
 pub takes_next : {w w' : Walk} {given : Option (Bor (List ℕ))} {bytes : Bor (List ℕ)} → GivesBytes w given w'
     → given ≡ Some bytes → Takes w bytes.now w'
 takes_next {w} {w'} h e = let P : Option (Bor (List ℕ)) → Type 0 = λ o. GivesBytes w o w' in subst P e h
-
--- if the next of a walk is `None`, the walk is at its end
-pub over_next : {w w' : Walk} {given : Option (Bor (List ℕ))} → GivesBytes w given w' → given ≡ None → IsOver w w'
-over_next {w} {w'} h e = let P : Option (Bor (List ℕ)) → Type 0 = λ o. GivesBytes w o w' in subst P e h
-
--- if o is `Some x`, Q x implies `MatchOption o P Q`
-pub match_is_some : {A : Type 0} (o : Option A) (x : A) (P : Type 0) (Q : A → Type 0) → o ≡ Some x → Q x
-    → MatchOption o P Q
-match_is_some None x P Q e q = absurd (some_not_none x (sym e))
-match_is_some (Some y) x P Q e q = let same : x ≡ y = cc in subst Q same q
 
 -- The runs
 
@@ -57,10 +49,6 @@ module _ {F E : Type 0} (step : F → List ℕ → Result (Unit {0}) E → F →
     pub place : w.place ≤ length text
     pub calls : length run ≤ w.place
     pub body : plain_body text ≡ joined_pieces run ++ w.rest
-
-  -- the empty run is `Going` for a walk at the front of its text
-  pub going_none : (f : F) (text : List ℕ) → Going f text (walk_at_front text) f
-  going_none f text = grind arith
 
   -- if the walk takes bytes, and the closure accepts them, the run with that call is `Going` for the walk after it
   pub going_more : {f g h : F} {text bytes : List ℕ} {w w' : Walk} → Going f text w g → Takes w bytes w'
@@ -84,25 +72,16 @@ module _ {F E : Type 0} (step : F → List ℕ → Result (Unit {0}) E → F →
         body = cc (append_assoc (joined_pieces k.run) bytes w'.rest, append-nil bytes, joined_pieces-append k.run call);
       }
 
-  -- if nothing of the body is left, and the body ends at the place, the run decodes the body, with the result `Ok
-  -- place`
-  pub going_ends : {f g : F} {text : List ℕ} {w : Walk} {place : ℕ} → Going f text w g → w.rest ≡ []
-      → IsBodyEnd text place → Decodes step f (length text) (Good (plain_body text)) (IsBodyEnd text) (Ok place) g
-  going_ends {f} {g} {text} {w} {place} k e b = grind (arith, append-nil)
-
-  -- if the walk takes bytes, and the closure returns an error for them, the run with that call decodes the body, with
-  -- that error
+  -- if the walk takes bytes, and the closure returns an error for them, the closure took the body, with that error
   pub going_refused : {f g h : F} {text bytes : List ℕ} {w w' : Walk} (e : E) → Going f text w g → Takes w bytes w'
-      → step g bytes (Err e) h → Decodes step f (length text) (Good (plain_body text)) (IsBodyEnd text)
-      (Err (WriteError e)) h
+      → step g bytes (Err e) h → TakesBody step f text (Err e) h
   going_refused {f} {g} {h} {text} {bytes} {w} {w'} e k t s =
       let call : List (Call F E) = record { piece = bytes; answer = Err e; after = h } ∷ [] in
       let longer : length (k.run ++ call) ≡ length k.run + 1 = length-append k.run call ∙ omega arith in
       let calls = k.calls in
       let some = t.some in
       let place = t.place in
-      let same : w'.text ≡ text = t.text_stays ∙ k.text_is in
-      let size = ap length same in
+      let size = ap length (t.text_stays ∙ k.text_is) in
       let within = t.within in
       let last : refusal (k.run ++ call) ≡ Some e = refusal-append k.run call k.accepted in
       let all : joined_pieces (k.run ++ call) ≡ joined_pieces k.run ++ bytes = cc (
@@ -113,10 +92,8 @@ module _ {F E : Type 0} (step : F → List ℕ → Result (Unit {0}) E → F →
         run = k.run ++ call;
         ran = run-append step k.run call f g h k.ran k.accepted (s, λ e. refl, refl);
         calls = omega arith;
-        gave = grind (arith, match_is_some, append_assoc);
+        gave = (last, (w'.rest, cc (append_assoc (joined_pieces k.run) bytes w'.rest)));
       }
-
--- A base64 body, fed to a decoder chunk by chunk.
 
 -- A body is not longer than its tail
 
@@ -150,9 +127,14 @@ body_shorter tail = grind (arith, percent_shorter, before_shorter, dropped_short
 -- The result of decoding a whole text is the outcome
 
 -- the result, with the place as its value if it is `Ok`
-abbrev pub at_place : {E : Type 0} → ℕ → Result (Unit {0}) (DecodeError E) → Result ℕ (DecodeError E)
+abbrev at_place : {E : Type 0} → ℕ → Result (Unit {0}) (DecodeError E) → Result ℕ (DecodeError E)
 at_place place (Ok x) = Ok place
 at_place place (Err e) = Err e
+
+mapped : {E : Type 0} (place : ℕ) (p : Result (Unit {0}) (DecodeError E)) (q : Result ℕ (DecodeError E))
+    → MatchResult p (λ x. q ≡ Ok place) (λ e. q ≡ Err e) → at_place place p ≡ q
+mapped place (Ok x) q m = sym m
+mapped place (Err e) q m = sym m
 
 module _ {F E : Type 0} (step : F → List ℕ → Result (Unit {0}) E → F → Type 0) where
   gives_valid : (u bytes : List ℕ) (place : ℕ) (good : ℕ → Type 0) (r : Result (Unit {0}) (DecodeError E))
@@ -190,58 +172,11 @@ module _ {F E : Type 0} (step : F → List ℕ → Result (Unit {0}) E → F →
   unfolding outcome
   decodes_outcome u most place good r d l k = grind arith
 
-  -- the decoder was fed the body up to the place of the walk
-  pub record Fed (d : State F) (text : List ℕ) (w : Walk) (d' : State F) : Type 0 where
-    pub read : List ℕ
-    pub fed : Feeds step d read (Ok tt) d'
-    pub text_is : w.text ≡ text
-    pub body : plain_body text ≡ read ++ w.rest
-
-  -- a decoder that was fed nothing is `Fed` for a walk at the front of its text
-  pub fed_none : {d d' : State F} {text : List ℕ} {w : Walk} → w ≡ walk_at_front text → Feeds step d [] (Ok tt) d'
-      → Fed d text w d'
-  fed_none e h = record { read = []; fed = h; text_is = ap (λ w. w.text) e; body = ap (λ w. w.rest) (sym e) }
-
-  fed_bytes : {d d1 : State F} {text bytes : List ℕ} {w w' : Walk} (h : Fed d text w d1) → Takes w bytes w'
-      → plain_body text ≡ (h.read ++ bytes) ++ w'.rest
-  fed_bytes {bytes = bytes} {w' = w'} h t = grind (arith, append_assoc)
-
-  -- if the walk takes bytes, and the decoder accepts them, the decoder is `Fed` for the walk after it
-  pub fed_more : {d d1 d2 : State F} {text bytes : List ℕ} {w w' : Walk} → Fed d text w d1 → Takes w bytes w'
-      → Feeds step d1 bytes (Ok tt) d2 → Fed d text w' d2
-  fed_more {bytes = bytes} h t f = record {
-    read = h.read ++ bytes;
-    fed = feeds_then step h.fed f;
-    text_is = t.text_stays ∙ h.text_is;
-    body = fed_bytes h t;
-  }
-
   -- the outcome of the whole body
   outcome_of : {f g : F} {text u : List ℕ} (place : ℕ) (r : Result (Unit {0}) (DecodeError E)) → u ≡ plain_body text
       → DecodesText step f u r g → (r ≡ Ok tt → IsBodyEnd text place)
       → Decodes step f (length text + 1) (outcome true (plain_body text)) (IsBodyEnd text) (at_place place r) g
   outcome_of {f} {g} {text} {u} place r e d b = grind (arith, body_shorter, decodes_outcome)
-
-  -- if the walk takes bytes, and a decoder that was new at the front returns an error for them, this is the result of
-  -- decoding the base64 body
-  pub fed_refused : {d d1 d2 : State F} {f : F} {text bytes : List ℕ} {w w' : Walk} {x : DecodeError E} → d ≡ start f
-      → Fed d text w d1 → Takes w bytes w' → Feeds step d1 bytes (Err x) d2
-      → Decodes step f (length text + 1) (outcome true (plain_body text)) (IsBodyEnd text) (Err x) d2.closure
-  fed_refused {w' = w'} {x = x} s h t k =
-      outcome_of 0 (Err x) (sym (fed_bytes h t))
-      (decodes_refused step s (feeds_err step w'.rest (feeds_then step h.fed k))) (λ e. absurd (cc))
-
-  -- if nothing of the body is left, finishing a decoder that was new at the front gives the result of decoding the
-  -- base64 body, with the place in it if it is `Ok`
-  pub fed_ended : {d d1 : State F} {f g : F} {text : List ℕ} {w : Walk}
-      (place : ℕ) {r r' : Result (Unit {0}) (DecodeError E)}
-      → d ≡ start f → Fed d text w d1 → w.rest ≡ [] → (r' ≡ Ok tt → IsBodyEnd text place) → Finishes step d1 r g
-      → r ≡ r'
-      → Decodes step f (length text + 1) (outcome true (plain_body text)) (IsBodyEnd text) (at_place place r') g
-  fed_ended {d1 = d1} {g = g} place {r} {r'} s h e b k same =
-      let whole : h.read ≡ plain_body _ = sym (h.body ∙ ap (λ x. h.read ++ x) e ∙ append-nil h.read) in
-      let finished : Finishes step d1 r' g = subst (λ q. Finishes step d1 q g) same k in
-      outcome_of place r' whole (decodes_finished step s h.fed finished) b
 
 -- A body that was decoded with a closure that appends its bytes.
 
@@ -310,11 +245,6 @@ module _ {F E A : Type 0} {step : F → List ℕ → Result (Unit {0}) E → F �
 
 -- Runs
 
-run_stops : {F E : Type 0} (step : F → List ℕ → Result (Unit {0}) E → F → Type 0) (cs : List (Call F E)) (f g : F)
-    → cs ≡ [] → IsRun step f cs g → f ≡ g
-run_stops step [] f g e ran = ran
-run_stops step (c ∷ cs) f g e ran = absurd (let k = e in cc)
-
 module _ {F E : Type 0} (step : F → List ℕ → Result (Unit {0}) E → F → Type 0)
     (kept : List ℕ → F → Type 0) (stopped : List ℕ → E → F → Type 0)
     (accepts : (bytes : List ℕ) (f : F) (piece : List ℕ) (g : F) → kept bytes f → step f piece (Ok tt) g
@@ -349,11 +279,93 @@ pub run_ends : {F E : Type 0} (step : F → List ℕ → Result (Unit {0}) E →
 run_ends step cs f g ran kept stopped accepts refuses start =
     run_ends_from step kept stopped accepts refuses cs [] f g start ran
 
--- Measures
-
 accepted_at : {F E : Type 0} (cs : List (Call F E)) (P : Type 0) (Q : E → Type 0) → refusal cs ≡ None
     → MatchOption (refusal cs) P Q → P
 accepted_at {E = E} cs P Q n h = let M : Option E → Type 0 = λ o. MatchOption o P Q in subst M n h
+
+-- what each call that succeeds preserves is true after a run without an error
+pub run_preserves : {F E : Type 0} (step : F → List ℕ → Result (Unit {0}) E → F → Type 0) (K : F → Type 0)
+    → ((p : F) (piece : List ℕ) (q : F) → K p → step p piece (Ok tt) q → K q)
+    → (cs : List (Call F E)) (f g : F) → IsRun step f cs g → refusal cs ≡ None → K f → K g
+run_preserves step K keeps cs f g ran n k =
+    accepted_at cs (K g) (λ e. Unit {0}) n
+    (run_ends step cs f g ran (λ bytes p. K p) (λ bytes e p. Unit {0}) (λ bytes p piece q. keeps p piece q)
+    (λ bytes p piece e q k s. tt) k)
+
+-- The closure that is called with a body
+
+-- a closure that can always be called can be called until it returns an error
+pub until_error : {F E : Type 0} (closure : Mut F (Bor (List ℕ) × Unit {0}) (Result (Unit {0}) E)) (f : F)
+    → always_mut closure f → IsCallableUntilError closure f
+until_error closure f h run g ran n bytes =
+    let k = run_preserves (CalledAt closure) (always_mut closure)
+    (λ p piece q i s. mut_next closure p (s.shown, tt) (Ok tt) q q s.called refl i) run f g ran n h in
+    (k.at ((bytes, tt) ∷ [])).0
+
+-- what no call of a closure changes in its state is the same after it took a body
+pub took_keeps : {F E B : Type 0} {step : F → List ℕ → Result (Unit {0}) E → F → Type 0} {f g : F} {text : List ℕ}
+    {r : Result ℕ E} → TakesBody step f text r g → (K : F → B)
+    → ((p : F) (piece : List ℕ) (s : Result (Unit {0}) E) (q : F) → step p piece s q → K p ≡ K q) → K f ≡ K g
+took_keeps {step = step} {f = f} {g = g} t K keeps = run_keeps step K keeps t.run f g t.ran
+
+-- what each call that succeeds preserves is true after a closure took a whole body
+pub took_preserves : {F E : Type 0} {step : F → List ℕ → Result (Unit {0}) E → F → Type 0} {f g : F} {text : List ℕ}
+    {r : Result ℕ E} {place : ℕ} → TakesBody step f text r g → r ≡ Ok place → (K : F → Type 0)
+    → ((p : F) (piece : List ℕ) (q : F) → K p → step p piece (Ok tt) q → K q) → K f → K g
+took_preserves {step = step} {f = f} {g = g} {text = text} {r = Ok x} t e K keeps k =
+    run_preserves step K keeps t.run f g t.ran t.gave.1 k
+took_preserves {r = Err x} t e K keeps k = absurd (cc)
+
+-- a closure that took a body decodes it, if it is not base64
+pub plain_taken : {F E : Type 0} (step : F → List ℕ → Result (Unit {0}) E → F → Type 0) {f g : F} {text : List ℕ}
+    {flag : Bool} {r : Result ℕ E} {r' : Result ℕ (DecodeError E)} → flag ≡ false → TakesBody step f text r g
+    → MatchResult r (λ place. r' ≡ Ok place) (λ e. r' ≡ Err (WriteError e))
+    → Decodes step f (length text + 1) (outcome flag (plain_body text)) (IsBodyEnd text) r' g
+unfolding outcome
+plain_taken step {f} {g} {text} {flag} {r = Ok place} {r'} b t m = grind arith
+plain_taken step {f} {g} {text} {flag} {r = Err e} {r'} b t m = grind arith
+
+-- A base64 body, fed to a decoder piece by piece.
+
+module _ {C F E : Type 0} {outer : C → List ℕ → Result (Unit {0}) (DecodeError E) → C → Type 0}
+    (step : F → List ℕ → Result (Unit {0}) E → F → Type 0) (state : C → State F)
+    (feeds : (p : C) (piece : List ℕ) (r : Result (Unit {0}) (DecodeError E)) (q : C) → outer p piece r q
+    → Feeds step (state p) piece r (state q)) where
+  fed : {f : F} (c c' : C) (run : List (Call C (DecodeError E))) → state c ≡ start f → IsRun outer c run c'
+      → MatchOption (refusal run) (Feeds step (start f) (joined_pieces run) (Ok tt) (state c'))
+      (λ e. Feeds step (start f) (joined_pieces run) (Err e) (state c'))
+  fed {f} c c' run s ran =
+      run_ends outer run c c' ran (λ bytes q. Feeds step (start f) bytes (Ok tt) (state q))
+      (λ bytes e q. Feeds step (start f) bytes (Err e) (state q))
+      (λ bytes p piece q k o. feeds_then step k (feeds p piece (Ok tt) q o))
+      (λ bytes p piece e q k o. feeds_then step k (feeds p piece (Err e) q o)) (fed_nothing step s)
+
+  -- if a closure that feeds a new decoder takes a body up to an error, this is the result of decoding it as base64
+  pub fed_refused : {f : F} {c c' : C} {text : List ℕ} {r : Result ℕ (DecodeError E)} {x : DecodeError E}
+      → state c ≡ start f → TakesBody outer c text r c' → r ≡ Err x
+      → Decodes step f (length text + 1) (outcome true (plain_body text)) (IsBodyEnd text) (Err x) (state c').closure
+  fed_refused {f} {c} {c'} {text} {r} {x} s took e =
+      let t = subst (λ q. TakesBody outer c text q c') e took in
+      let k = match_at (refusal t.run) (Some x) _ _ (sym t.gave.0) (fed c c' t.run s t.ran) in
+      outcome_of step 0 (Err x) (sym t.gave.1.1) (decodes_refused step refl (feeds_err step t.gave.1.0 k))
+      (λ e. absurd (cc))
+
+  -- if a closure that feeds a new decoder takes a whole body, and then the decoder is finished, this is the result of
+  -- decoding the body as base64
+  pub fed_ended : {f g : F} {c c' : C} {text : List ℕ} {r : Result ℕ (DecodeError E)} {place : ℕ}
+      {p : Result (Unit {0}) (DecodeError E)} {q : Result ℕ (DecodeError E)} → state c ≡ start f
+      → TakesBody outer c text r c' → r ≡ Ok place → Finishes step (state c') p g
+      → MatchResult p (λ x. q ≡ Ok place) (λ e. q ≡ Err e)
+      → Decodes step f (length text + 1) (outcome true (plain_body text)) (IsBodyEnd text) q g
+  fed_ended {f} {g} {c} {c'} {text} {r} {place} {p} {q} s took e ended m =
+      let t = subst (λ q. TakesBody outer c text q c') e took in
+      let k = match_at (refusal t.run) None _ _ (sym t.gave.1) (fed c c' t.run s t.ran) in
+      let D : Result ℕ (DecodeError E) → Type 0 = λ q. Decodes step f (length text + 1)
+      (outcome true (plain_body text)) (IsBodyEnd text) q g in
+      subst D (mapped place p q m)
+      (outcome_of step place p (sym t.gave.2) (decodes_finished step refl k ended) (λ _. t.gave.0))
+
+-- Measures
 
 -- if each call that succeeds extends a measure by its piece, a run without an error extends it by all its bytes
 pub run_extends : {F E : Type 0} (step : F → List ℕ → Result (Unit {0}) E → F → Type 0) (cs : List (Call F E)) (f g : F)

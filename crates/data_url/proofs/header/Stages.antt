@@ -1,7 +1,7 @@
 -- The stages of the Standard, from the input to its record. For `DataUrl::process`.
 use Rattle.std.proofs.Common.{◌≡◌, ℕ, zero, suc, ◌+◌, ◌-◌, ◌<◌, ◌≤◌, Bool, false, List, [], ◌∷◌, ◌++◌}
 use Rattle.std.proofs.Common.{length, get_or, take, drop, reverse, Option, None, Some, refl, sym, ap, ◌∙◌, inl, inr}
-use Rattle.std.proofs.Common.{subst, arith, true, map, codes, ◌≢◌, IsTrue, Result}
+use Rattle.std.proofs.Common.{subst, arith, true, map, codes, ◌≢◌, IsTrue}
 use Rattle.std.specs.Prelude.{◌==◌, option_and_then}
 use Rattle.std.specs.List.{prefix_len, suffix_len}
 use Rattle.std.specs.Str.{IsAscii, chars}
@@ -15,8 +15,8 @@ use Rattle.data_url.specs.Url.{cleaned_text, without_tabs_and_newlines, fragment
 use Rattle.data_url.specs.Url.{in_fragment_set}
 use Rattle.data_url.specs.Fetch.{is_space, stripped_header, encoded_body, header_of, staged_front}
 use Rattle.data_url.specs.Fetch.{tail_of, before_base64, before_semicolon, before_word, has_base64_suffix}
-use Rattle.data_url.specs.Fetch.{media_of, mime_text, with_plain, Accepted, Good, NoComma, NoScheme}
-use Rattle.data_url.specs.Fetch.{Outcome, outcome, plain_body, staged, staged_after}
+use Rattle.data_url.specs.Fetch.{media_of, mime_text, with_plain, Accepted, NoComma, NoScheme}
+use Rattle.data_url.specs.Fetch.{outcome, plain_body, staged, staged_after}
 use Rattle.data_url.specs.Steps.Header.{IsPrintable, header_text, IsHeaderOf, IsRecordFor}
 use Rattle.data_url.proofs.percent.Encoding.{IsBytes, encoded_cons, encoded_nil, header_nil}
 use Rattle.data_url.proofs.percent.Encoding.{header_path, header_query, Recoded, RecodedTails}
@@ -36,10 +36,9 @@ use Rattle.data_url.proofs.examples.Literals.{on_literals}
 use Rattle.data_url.specs.CodePoints.{is_http_whitespace}
 use Rattle.data_url.proofs.mime.FirstNames.{parses_parts, parses_wellformed}
 use Rattle.data_url.specs.Steps.Tail.{BeginsFragment, IsBodyEnd, rest_fragment}
-use Rattle.data_url.specs.DataUrl.{Decodes, IsAcceptable, IsUrlOf, is_base64, mime_of, url_tail}
+use Rattle.data_url.specs.DataUrl.{IsAcceptable, IsUrlOf, is_base64, mime_of, url_tail}
 use Rattle.data_url.specs.MimeType.{record_of}
 use Rattle.data_url.specs.declared.DataUrl.{DataUrl}
-use Rattle.data_url.specs.declared.forgiving_base64.DecodeError.{DecodeError}
 
 -- Serialised headers have only printable bytes, so that trimming them is the same as stripping their spaces.
 
@@ -531,19 +530,6 @@ is_url_of t rest header u b s h k =
       fragment_is = fragment_of t rest header (url_tail u) s h;
       staged_is = stages_accepted t rest header (url_tail u) b s h (is_base64 u) k.base64_is;
     }
-
--- Decoding
-
--- if the flag is false, the outcome of a body is the body as it is
-pub plain_outcome : (flag : Bool) (x : List ℕ) → flag ≡ false → Good x ≡ outcome flag x
-unfolding outcome
-plain_outcome flag x e = sym (ap (λ v. outcome v x) e)
-
--- what decodes a body with at most n calls decodes an equal body with at most n + 1 calls
-pub one_more_call : {F E A : Type 0} (step : F → List ℕ → Result (Unit {0}) E → F → Type 0) (f g : F) (n : ℕ)
-    (body body' : Outcome) (good : A → Type 0) (r : Result A (DecodeError E)) → body ≡ body'
-    → Decodes step f n body good r g → Decodes step f (n + 1) body' good r g
-one_more_call step f g n body body' good r e d = grind arith
 
 -- The fragment
 

@@ -1,0 +1,53 @@
+use Rattle.std.proofs.Common.{◌≡◌, Err, Ok, false, rules}
+use Rattle.std.specs.Fn.{CalledAt, always_mut}
+use Rattle.std.specs.Prelude.{MatchResult}
+use Rattle.data_url.specs.Decoder.{Finishes, state_of}
+use Rattle.data_url.specs.declared.forgiving_base64.DecodeError.TheVariants.{WriteError}
+use Rattle.data_url.proofs.body.Decoding.{fed_ended, fed_refused, plain_taken, run_preserves, took_keeps}
+use Rattle.data_url.proofs.body.Decoding.{took_preserves, until_error}
+use Rattle.data_url.proofs.body.decode_body.Goals as goal
+
+pub decode_pieces-place-requires : goal.decode_pieces-place-requires
+decode_pieces-place-requires g c = until_error g.F.FnMut c.args.write c.requires
+
+pub returns-then-not-base64 : goal.returns-then-not-base64
+returns-then-not-base64 g c =
+    let mapped : MatchResult c.decode_pieces-place.result (λ x. c.map_err.result ≡ Ok x)
+    (λ e. c.map_err.result ≡ Err (WriteError e)) = search rules in
+    plain_taken (CalledAt g.F.FnMut) c.if-not-base64.true c.decode_pieces-place.ensures mapped
+
+pub decode_pieces-requires : goal.decode_pieces-requires
+decode_pieces-requires g c = λ run h ran n bytes.
+    run_preserves _ (λ p. always_mut g.F.FnMut p.0.now.write_bytes × (p.0.now.failed ≡ false))
+    (λ p piece q i k. search (rules, i)) run _ h ran n (search rules)
+
+pub finish_with-ended-requires-clause-callable : goal.finish_with-ended-requires-clause-callable
+finish_with-ended-requires-clause-callable g c =
+    let name = took_keeps c.decode_pieces.ensures (λ p. p.0.ghost_name) (λ p piece r q k. search rules) in
+    let can = took_preserves c.decode_pieces.ensures c.in-Ok.is (λ p. always_mut g.F.FnMut p.0.now.write_bytes)
+    (λ p piece q i k. search (rules, i)) (search rules) in
+    search (rules, name, can)
+
+pub finish_with-ended-requires-clause-going : goal.finish_with-ended-requires-clause-going
+finish_with-ended-requires-clause-going g c =
+    let name = took_keeps c.decode_pieces.ensures (λ p. p.0.ghost_name) (λ p piece r q k. search rules) in
+    let going = took_preserves c.decode_pieces.ensures c.in-Ok.is (λ p. p.0.now.failed ≡ false)
+    (λ p piece q i k. search (rules, i)) (search rules) in
+    search (rules, name, going)
+
+pub returns-in-Ok : goal.returns-in-Ok
+returns-in-Ok g c =
+    let name = took_keeps c.decode_pieces.ensures (λ p. p.0.ghost_name) (λ p piece r q k. search rules) in
+    let ended : Finishes (CalledAt g.F.FnMut) (state_of c.decode_pieces.new.take.0.now) c.finish_with-ended.result.0
+    c.finish_with-ended.result.1 = search (rules, name) in
+    let mapped : MatchResult c.finish_with-ended.result.0 (λ x. c.map.result ≡ Ok c.in-Ok.place)
+    (λ e. c.map.result ≡ Err e) = search rules in
+    rw c.if-not-base64.false (fed_ended (CalledAt g.F.FnMut) (λ p. state_of p.0.now) (λ p piece r q k. search rules)
+    c.new-decoder.ensures.state c.decode_pieces.ensures c.in-Ok.is ended mapped)
+
+pub returns-in-Err : goal.returns-in-Err
+returns-in-Err g c =
+    let name = took_keeps c.decode_pieces.ensures (λ p. p.0.ghost_name) (λ p piece r q k. search rules) in
+    let refused = fed_refused (CalledAt g.F.FnMut) (λ p. state_of p.0.now) (λ p piece r q k. search rules)
+    c.new-decoder.ensures.state c.decode_pieces.ensures c.in-Err.is in
+    search (rules, name, refused)
