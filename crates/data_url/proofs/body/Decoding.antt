@@ -19,7 +19,7 @@ use Rattle.data_url.specs.Base64.{decoded, complete_bytes, kind_of, after_groups
 use Rattle.data_url.specs.Base64.{groups, is_symbol, rest_bytes, symbol_value, values}
 use Rattle.data_url.specs.Url.{before, without_tabs_and_newlines, front, after}
 use Rattle.data_url.specs.Url.{trimmed_text}
-use Rattle.data_url.specs.Percent.{is_escape, percent_decoding}
+use Rattle.data_url.specs.Percent.{begins_with_escape, percent_decoding}
 use Rattle.data_url.specs.Decoder.{Feeds, Finishes, IsAll, State, start}
 use Rattle.data_url.specs.Steps.Whole.{DecodesText}
 use Rattle.data_url.specs.declared.forgiving_base64.DecodeError.{DecodeError}
@@ -138,7 +138,7 @@ percent_shorter (a ∷ b ∷ []) = omega arith
 percent_shorter (a ∷ b ∷ c ∷ s) =
     let h = percent_shorter s in
     let k : length (percent_decoding (b ∷ c ∷ s)) ≤ suc (suc (length s)) = percent_shorter (b ∷ c ∷ s) in
-    elim (is_escape a b c) as
+    elim (begins_with_escape (a ∷ b ∷ c ∷ s)) as
     (λ v. length (cond v ((16 * digit_value b + digit_value c) ∷ percent_decoding s)
     (a ∷ percent_decoding (b ∷ c ∷ s))) ≤ suc (suc (suc (length s)))) [ true ↦ omega arith | false ↦ omega arith ]
 
