@@ -7,7 +7,7 @@ use Rattle.data_url.specs.Percent.{begins_with_escape, percent_decoding}
 use Rattle.data_url.specs.Url.{front, is_tab_or_newline, number_sign, without_tabs_and_newlines}
 use Rattle.data_url.specs.declared.escapes.Piece.TheVariants.{Byte, Slice}
 use Rattle.data_url.specs.declared.escapes.Piece.{Piece}
-use Rattle.data_url.specs.declared.escapes.cursor.Ahead.TheVariants.{AfterEscape, End, Escape, Unknown}
+use Rattle.data_url.specs.declared.escapes.cursor.Ahead.TheVariants.{End}
 use Rattle.data_url.specs.declared.escapes.cursor.Ahead.{Ahead}
 use Rattle.data_url.specs.declared.escapes.cursor.Cursor.{Cursor}
 
@@ -72,10 +72,8 @@ text_of c = c.source.text.now
 
 -- whether a walk has ended
 abbrev pub has_ended : Ahead → Bool
-has_ended Unknown = false
-has_ended AfterEscape = false
-has_ended (Escape value end) = false
 has_ended End = true
+has_ended ahead = false
 
 -- the walk of a `Pieces`, from its fields
 abbrev pub walk_of : Cursor → Walk

@@ -15,9 +15,8 @@ command_of_word word = if bytes_eq word (codes "body") then Some Body
 
 -- the command of the words after the program's name: there has to be exactly one word
 abbrev pub command_of_words : List (List ℕ) → Option Command
-command_of_words [] = None
 command_of_words (word ∷ []) = command_of_word word
-command_of_words (word ∷ other ∷ words) = None
+command_of_words words = None
 
 -- the command takes a data: URL
 abbrev pub TakesUrl : Command → Type 0

@@ -5,7 +5,9 @@ use Rattle.std.proofs.Common.{cond, ◌*◌, min, filter, length-drop, length-ta
 use Rattle.std.specs.Prelude.{MatchOption, ◌==◌, MatchBool, IsErr}
 use Rattle.std.proofs.lemmas.List.{append-nil, length-map}
 use Rattle.data_url.specs.Errors.{IsRefused}
-use Rattle.data_url.specs.Run.{Call, IsRun, joined_pieces, refusal, IsPrefix, or_error}
+use Rattle.data_url.specs.Run.{Call, IsRun, joined_pieces, refusal, IsPrefix}
+use Rattle.std.specs.Option.{option_or}
+use Rattle.std.specs.Result.{result_err}
 use Rattle.data_url.specs.Fetch.{Good, outcome_bytes, plain_body, Bad, outcome, Outcome, tail_of}
 use Rattle.data_url.specs.Pieces.{Walk, walk_at_front}
 use Rattle.data_url.specs.Steps.Chunks.{GivesBytes, IsOver, Takes}
@@ -326,7 +328,7 @@ module _ {F E : Type 0} (step : F → List ℕ → Result (Unit {0}) E → F →
       → step f piece r after → (IsErr r → cs ≡ []) → IsRun step after cs g
       → (kept (bytes ++ piece) after → MatchOption (refusal cs) (kept ((bytes ++ piece) ++ joined_pieces cs) g)
       (λ e. stopped ((bytes ++ piece) ++ joined_pieces cs) e g))
-      → MatchOption (or_error r (refusal cs)) (kept (bytes ++ (piece ++ joined_pieces cs)) g)
+      → MatchOption (option_or (result_err r) (refusal cs)) (kept (bytes ++ (piece ++ joined_pieces cs)) g)
       (λ e. stopped (bytes ++ (piece ++ joined_pieces cs)) e g)
   one_more (Ok tt) bytes piece f after g cs k s last ran more = grind (arith, append_assoc)
   one_more (Err e) bytes piece f after g cs k s last ran more = grind (arith, append-nil)
