@@ -68,8 +68,7 @@ abbrev pub rest_bytes : List ℕ → List ℕ
 rest_bytes (p ∷ q ∷ r ∷ rest) =
     ((p * 64 + q) * 64 + r) / 4 / 256 ∷ ((p * 64 + q) * 64 + r) / 4 % 256 ∷ []
 rest_bytes (p ∷ q ∷ []) = (p * 64 + q) / 16 ∷ []
-rest_bytes (p ∷ []) = []
-rest_bytes [] = []
+rest_bytes vs = []
 
 -- the values of the symbols of a text
 unfoldable pub values : List ℕ → List ℕ

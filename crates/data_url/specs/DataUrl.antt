@@ -61,9 +61,8 @@ pub record IsUrlOf (t : List ℕ) (u : DataUrl) : Type 0 where
 
 -- the text has the scheme and a comma
 abbrev pub IsAcceptable : Staged → Type 0
-IsAcceptable NoScheme = ⊥
-IsAcceptable NoComma = ⊥
 IsAcceptable (Accepted text body fragment) = Unit {0}
+IsAcceptable s = ⊥
 
 -- the result for a text: an error exactly if the Standard finds no scheme or no comma, or if
 -- allocation fails; `OutOfMemory` is returned only for a text that has both

@@ -1,6 +1,6 @@
 -- When each error is returned, and its message.
 use Rattle.std.specs.Option.{option_map}
-use Rattle.std.specs.Prelude.{◌++◌, ◌≡◌, Err, List, Ok, Option, Result, Some, codes, false, ℕ, ⊤}
+use Rattle.std.specs.Prelude.{◌++◌, ◌≡◌, Err, List, Option, Result, Some, codes, false, ℕ, ⊤}
 use Rattle.data_url.specs.Base64.{is_valid, kind_of, kind_text}
 use Rattle.data_url.specs.Fetch.{Bad, Outcome}
 use Rattle.data_url.specs.Run.{IsPrefix}
@@ -51,9 +51,8 @@ vec_error_text to_vec.OutOfMemory = codes "out of memory"
 
 -- the result says that the text is not a MIME type
 abbrev pub IsParsingError : Result Mime MimeFromStrError → Type 0
-IsParsingError (Ok m) = ⊥
 IsParsingError (Err (from_str.Parsing e)) = Unit {0}
-IsParsingError (Err from_str.OutOfMemory) = ⊥
+IsParsingError r = ⊥
 
 abbrev pub mime_error_text : MimeFromStrError → List ℕ
 mime_error_text (from_str.Parsing inner) = codes "invalid mime type"

@@ -1,10 +1,10 @@
 -- Facts about the definitions, which the contracts of `facts` state.
-use Rattle.std.specs.Prelude.{◌%◌, ◌++◌, ◌<◌, ◌↔◌, ◌≡◌, ◌≢◌, ◌⊎◌, ◌∷◌, Bool, IsTrue, List, None, Option, Some, false, length, replicate, ℕ}
+use Rattle.std.specs.Prelude.{◌%◌, ◌++◌, ◌<◌, ◌↔◌, ◌≡◌, ◌≢◌, ◌⊎◌, Bool, IsTrue, List, None, Option, Some, false, length, replicate, ℕ}
 use Rattle.std.specs.Option.{option_map}
 use Rattle.data_url.specs.Base64.{without_whitespace, is_fault, is_symbol, is_valid}
 use Rattle.data_url.specs.Fetch.{before_comma, has_base64_suffix}
 use Rattle.data_url.specs.Mime.{Every, Item, Items, Parses, Record}
-use Rattle.data_url.specs.Url.{before, after, in_path_set, in_query_set, percent_encoding}
+use Rattle.data_url.specs.Url.{before, after, in_path_set, percent_encoding, with_query}
 
 -- the text is a concatenation of parameters, and has exactly one list of items
 pub record HasOneItemList (r : List ℕ) : Type 0 where
@@ -35,15 +35,9 @@ IsFirstFault b None = (i : ℕ) → i < length b → is_fault b i ≡ false
 IsFirstFault b (Some i) = (i < length b) × IsTrue (is_fault b i)
     × ((k : ℕ) → k < i → is_fault b k ≡ false)
 
--- a path and, if there is one, its query, serialised such that no space of the path is encoded
-abbrev pub with_query_and_spaces : List ℕ → Option (List ℕ) → List ℕ
-with_query_and_spaces path None = percent_encoding in_path_set path
-with_query_and_spaces path (Some query) =
-    percent_encoding in_path_set path ++ 63 ∷ percent_encoding in_query_set query
-
 -- a front, serialised by the rule that no space of the path is encoded
 abbrev pub serialised_with_spaces : List ℕ → List ℕ
-serialised_with_spaces s = with_query_and_spaces (before 63 s) (after 63 s)
+serialised_with_spaces s = with_query (percent_encoding in_path_set (before 63 s)) (after 63 s)
 
 -- whether the header of a serialised front has the base64 suffix, if there is a header
 abbrev pub base64_flag : List ℕ → Option Bool

@@ -113,8 +113,7 @@ abbrev pub staged_parts : Option (List ℕ) → Option (List ℕ) → Option (Li
 staged_parts fragment (Some header) (Some body) =
     Accepted (mime_text header) (outcome (has_base64_suffix header) (percent_decoding body))
     (option_map (percent_encoding in_fragment_set) fragment)
-staged_parts fragment (Some header) None = NoComma
-staged_parts fragment None body = NoComma
+staged_parts fragment header body = NoComma
 
 abbrev pub staged_after : List ℕ → Option (List ℕ) → Staged
 staged_after t None = NoScheme
@@ -125,6 +124,5 @@ unfoldable pub staged : List ℕ → Staged
 staged t = staged_after t (after_scheme t)
 
 abbrev pub staged_fragment : Staged → Option (List ℕ)
-staged_fragment NoScheme = None
-staged_fragment NoComma = None
 staged_fragment (Accepted text body fragment) = fragment
+staged_fragment s = None

@@ -71,30 +71,13 @@ is_token_text (c ∷ t) = list_all is_token (c ∷ t)
 
 -- HTTP quoted strings (Fetch, section 2.2), without their quotes
 
--- a unit of a quoted string: a code point as it is, or a code point after a '\'
-pub data QuotedUnit : Type 0 where
-  Plain : ℕ → QuotedUnit
-  Escaped : ℕ → QuotedUnit
-
--- '"' and '\' are allowed only after a '\'
-abbrev pub IsUnit : QuotedUnit → Type 0
-IsUnit (Plain c) = (c ≢ 34) × (c ≢ 92)
-IsUnit (Escaped c) = Unit {0}
-
-abbrev pub unit_text : QuotedUnit → List ℕ
-unit_text (Plain c) = c ∷ []
-unit_text (Escaped c) = 92 ∷ c ∷ []
-
-abbrev pub unit_value : QuotedUnit → ℕ
-unit_value (Plain c) = c
-unit_value (Escaped c) = c
-
--- the text is a concatenation of units, and the value is the list of the values of these units
-pub record Quoted (text value : List ℕ) : Type 0 where
-  pub units : List QuotedUnit
-  pub each : AllByRecursion IsUnit units
-  pub text_is : text ≡ flat_map unit_text units
-  pub value_is : value ≡ map unit_value units
+-- the text of a quoted string, and its value. A code point other than '"' and '\' stands for itself; a
+-- '\' and the code point after it stand for that code point.
+pub data Quoted : List ℕ → List ℕ → Type 0 where
+  nothing_quoted : Quoted [] []
+  as_itself : {text value : List ℕ} (c : ℕ) → c ≢ 34 → c ≢ 92 → Quoted text value
+      → Quoted (c ∷ text) (c ∷ value)
+  after_backslash : {text value : List ℕ} (c : ℕ) → Quoted text value → Quoted (92 ∷ c ∷ text) (c ∷ value)
 
 -- the text of a quoted string without a closing quote: it may end with one more '\', which is then
 -- the last code point of the value

@@ -2,8 +2,10 @@
 use Rattle.std.specs.Borrow.{Bor}
 use Rattle.std.specs.Cmp.Lexicographic.{lists_equiv, on_texts_equal, pointwise}
 use Rattle.std.specs.Cmp.{IsEquivalence, and_equiv, on_equiv}
+use Rattle.std.specs.List.{find}
+use Rattle.std.specs.Option.{option_map}
 use Rattle.std.specs.Ordering.{eq_of_both, on}
-use Rattle.std.specs.Prelude.{[], if◌then◌else◌, ◌∷◌, ◌≡◌, Bool, List, None, Option, Some, String, map, string_bytes, ℕ}
+use Rattle.std.specs.Prelude.{◌≡◌, Bool, List, Option, String, map, string_bytes, ℕ}
 use Rattle.std.specs.Str.{bytes_eq, chars}
 use Rattle.data_url.specs.Mime.{Pair, Record}
 use Rattle.data_url.specs.declared.mime.Mime.{Mime}
@@ -53,11 +55,9 @@ same_texts_equiv = and_equiv (on_texts_equal (λ m. string_bytes m.type_))
 
 -- the text that a reference refers to, if there is a reference
 abbrev pub as_option : Option (Bor (List ℕ)) → Option (List ℕ)
-as_option None = None
-as_option (Some s) = Some s.now
+as_option o = option_map (λ s. s.now) o
 
 -- the value of the first pair that has the name; names and values are bytes
 abbrev pub value_of_name : {A B : Type 0} → List ℕ → List (String A × String B) → Option (List ℕ)
-value_of_name name [] = None
-value_of_name name (p ∷ ps) = if bytes_eq (string_bytes p.0) name then Some (string_bytes p.1)
-    else value_of_name name ps
+value_of_name name ps =
+    option_map (λ p. string_bytes p.1) (find (λ p. bytes_eq (string_bytes p.0) name) ps)

@@ -1,5 +1,7 @@
 -- The calls of a closure.
-use Rattle.std.specs.Prelude.{[], ◌++◌, ◌∷◌, ◌≡◌, Err, IsErr, List, None, Ok, Option, Result, Some, ℕ}
+use Rattle.std.specs.Option.{option_or}
+use Rattle.std.specs.Result.{result_err}
+use Rattle.std.specs.Prelude.{[], ◌++◌, ◌∷◌, ◌≡◌, IsErr, List, None, Option, Result, ℕ}
 
 -- one call of a closure: its argument, its result, and the state of the closure after it
 pub record Call (F : Type 0) (E : Type 0) : Type 0 where
@@ -20,15 +22,10 @@ abbrev pub joined_pieces : {F E : Type 0} → List (Call F E) → List ℕ
 joined_pieces [] = []
 joined_pieces (c ∷ cs) = c.piece ++ joined_pieces cs
 
--- the error of a result; if there is none, the second argument
-abbrev pub or_error : {E : Type 0} → Result (Unit {0}) E → Option E → Option E
-or_error (Ok x) o = o
-or_error (Err e) o = Some e
-
 -- the error that ended a run, if there was one
 abbrev pub refusal : {F E : Type 0} → List (Call F E) → Option E
 refusal [] = None
-refusal (c ∷ cs) = or_error c.answer (refusal cs)
+refusal (c ∷ cs) = option_or (result_err c.answer) (refusal cs)
 
 -- the second text begins with the first, which may be empty or the whole
 abbrev pub IsPrefix : List ℕ → List ℕ → Type 0

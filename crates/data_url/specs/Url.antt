@@ -117,11 +117,11 @@ encoded_path [] = []
 encoded_path (b ∷ []) = encoded_byte in_path_end_set b
 encoded_path (b ∷ c ∷ s) = encoded_byte in_path_set b ++ encoded_path (c ∷ s)
 
--- a path and, if there is a query, '?' and the query; each is percent-encoded with its own set
+-- the encoded path and, if there is a query, '?' and the query, percent-encoded
 abbrev pub with_query : List ℕ → Option (List ℕ) → List ℕ
-with_query path None = encoded_path path
-with_query path (Some query) = encoded_path path ++ 63 ∷ percent_encoding in_query_set query
+with_query path None = path
+with_query path (Some query) = path ++ 63 ∷ percent_encoding in_query_set query
 
 -- an opaque path with its query, serialised: the first '?' ends the path (URL, section 4.5)
 unfoldable pub serialised : List ℕ → List ℕ
-serialised s = with_query (before 63 s) (after 63 s)
+serialised s = with_query (encoded_path (before 63 s)) (after 63 s)

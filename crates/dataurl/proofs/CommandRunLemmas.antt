@@ -1,5 +1,5 @@
 -- A command whose input was read whole.
-use Rattle.std.proofs.Common.{◌≡◌, ◌≢◌, ℕ, List, [], Option, Result, Ok, Err, String, string_bytes, IsUtf8, refl, ◌∙◌}
+use Rattle.std.proofs.Common.{◌≡◌, ℕ, List, [], Option, Result, Ok, Err, String, string_bytes, IsUtf8, refl, ◌∙◌}
 use Rattle.std.proofs.Common.{subst}
 use Rattle.std.specs.Global.{Global}
 use Rattle.std.specs.Io.KnownBytes.{IsAtEnd}
@@ -16,7 +16,7 @@ use Rattle.dataurl.specs.Steps.Parts.{IsExactly, IsUrlFor, IsWrittenOf, WritesOf
 use Rattle.dataurl.specs.Steps.Parts.{no_scheme_is, no_url_memory, url_fragment, url_is, whole_output}
 use Rattle.dataurl.specs.declared.fault.Fault.{Fault}
 use Rattle.dataurl.specs.declared.command.Command.{Command}
-use Rattle.dataurl.specs.declared.command.Command.TheVariants.{Base64, Body, Canonical, Fragment, MimeType}
+use Rattle.dataurl.specs.declared.command.Command.TheVariants.{Body, Fragment, MimeType}
 use Rattle.dataurl.proofs.OutputLemmas.{appends_none}
 use Rattle.dataurl.proofs.StepLemmas.{writes_as, writes_map, writes_no_memory, writes_nothing}
 
@@ -126,11 +126,3 @@ text_not_read {c} {unread} {left} {fault} held t h =
       is_run =
           unread_run c left h.input (Err fault) fault t refl h.is_read;
     }
-
--- every command except base64 takes a text
-pub takes_text : (c : Command) → c ≢ Base64 → TakesText c
-takes_text Body other = tt
-takes_text MimeType other = tt
-takes_text Fragment other = tt
-takes_text Canonical other = tt
-takes_text Base64 other = absurd (other refl)

@@ -4,7 +4,9 @@ use Rattle.std.proofs.Common.{append_assoc, subst}
 use Rattle.std.specs.Prelude.{IsErr, MatchOption, MatchResult}
 use Rattle.std.specs.Io.KnownBytes.{Appends}
 use Rattle.std.proofs.lemmas.List.{append-nil}
-use Rattle.data_url.specs.Run.{Call, IsRun, joined_pieces, or_error, refusal}
+use Rattle.data_url.specs.Run.{Call, IsRun, joined_pieces, refusal}
+use Rattle.std.specs.Option.{option_or}
+use Rattle.std.specs.Result.{result_err}
 use Rattle.dataurl.specs.Output.{End}
 use Rattle.dataurl.specs.Steps.Gathering.{Flushes, Gathers, IsFlushed, flushed, not_flushed}
 use Rattle.dataurl.specs.Runs.{IsProperPrefix}
@@ -98,7 +100,7 @@ then_more (Some failed) before piece rest mid after w k e h =
 
 gather_more : (r : Result (Unit {0}) WriteFailed) (piece rest before mid after : List ℕ) (later : Option WriteFailed)
     (a b d : Option (List ℕ)) → Gathers piece before mid a b r → (IsErr r → b ≡ d) → RunGathers b d mid after rest later
-    → RunGathers a d before after (piece ++ rest) (or_error r later)
+    → RunGathers a d before after (piece ++ rest) (option_or (result_err r) later)
 gather_more (Ok tt) piece rest before mid after later a b d g last k = record {
   written = g.written ++ k.written;
   appended = appends_then a b d g.written k.written g.appended k.appended;

@@ -1,5 +1,5 @@
 -- The words of the commands.
-use Rattle.std.specs.Prelude.{[], if◌then◌else◌, ◌∷◌, List, None, Option, Some, codes, ℕ}
+use Rattle.std.specs.Prelude.{[], if◌then◌else◌, ◌∷◌, ◌≢◌, List, None, Option, Some, codes, ℕ}
 use Rattle.std.specs.Str.{bytes_eq}
 use Rattle.dataurl.specs.declared.command.Command.TheVariants.{Base64, Body, Canonical, Fragment, MimeType}
 use Rattle.dataurl.specs.declared.command.Command.{Command}
@@ -15,22 +15,13 @@ command_of_word word = if bytes_eq word (codes "body") then Some Body
 
 -- the command of the words after the program's name: there has to be exactly one word
 abbrev pub command_of_words : List (List ℕ) → Option Command
-command_of_words [] = None
 command_of_words (word ∷ []) = command_of_word word
-command_of_words (word ∷ other ∷ words) = None
+command_of_words words = None
 
 -- the command takes a data: URL
 abbrev pub TakesUrl : Command → Type 0
-TakesUrl Body = Unit {0}
-TakesUrl MimeType = Unit {0}
-TakesUrl Fragment = Unit {0}
-TakesUrl Canonical = ⊥
-TakesUrl Base64 = ⊥
+TakesUrl c = (c ≢ Canonical) × (c ≢ Base64)
 
 -- the command takes a text: its whole input is read into memory, and has to be UTF-8
 abbrev pub TakesText : Command → Type 0
-TakesText Body = Unit {0}
-TakesText MimeType = Unit {0}
-TakesText Fragment = Unit {0}
-TakesText Canonical = Unit {0}
-TakesText Base64 = ⊥
+TakesText c = c ≢ Base64

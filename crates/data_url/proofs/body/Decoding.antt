@@ -7,7 +7,9 @@ use Rattle.std.specs.Fn.{CalledAt, Mut, always_mut}
 use denote.Param.Always.{mut_next}
 use Rattle.std.proofs.lemmas.List.{append-nil, length-map}
 use Rattle.data_url.specs.Errors.{IsRefused}
-use Rattle.data_url.specs.Run.{Call, IsRun, joined_pieces, refusal, IsPrefix, or_error}
+use Rattle.data_url.specs.Run.{Call, IsRun, joined_pieces, refusal, IsPrefix}
+use Rattle.std.specs.Option.{option_or}
+use Rattle.std.specs.Result.{result_err}
 use Rattle.data_url.specs.Fetch.{Good, outcome_bytes, plain_body, Bad, outcome, Outcome, tail_of}
 use Rattle.data_url.specs.Pieces.{Walk}
 use Rattle.data_url.specs.Steps.Chunks.{GivesBytes, IsCallableUntilError, Takes, TakesBody}
@@ -20,7 +22,7 @@ use Rattle.data_url.specs.Base64.{decoded, complete_bytes, kind_of, after_groups
 use Rattle.data_url.specs.Base64.{groups, is_symbol, rest_bytes, symbol_value, values}
 use Rattle.data_url.specs.Url.{before, without_tabs_and_newlines, front, after}
 use Rattle.data_url.specs.Url.{trimmed_text}
-use Rattle.data_url.specs.Percent.{is_escape, percent_decoding}
+use Rattle.data_url.specs.Percent.{begins_with_escape, percent_decoding}
 use Rattle.data_url.specs.Decoder.{Feeds, Finishes, IsAll, State, start}
 use Rattle.data_url.specs.Steps.Whole.{DecodesText}
 use Rattle.data_url.specs.declared.forgiving_base64.DecodeError.{DecodeError}
@@ -115,7 +117,7 @@ percent_shorter (a ∷ b ∷ []) = omega arith
 percent_shorter (a ∷ b ∷ c ∷ s) =
     let h = percent_shorter s in
     let k : length (percent_decoding (b ∷ c ∷ s)) ≤ suc (suc (length s)) = percent_shorter (b ∷ c ∷ s) in
-    elim (is_escape a b c) as
+    elim (begins_with_escape (a ∷ b ∷ c ∷ s)) as
     (λ v. length (cond v ((16 * digit_value b + digit_value c) ∷ percent_decoding s)
     (a ∷ percent_decoding (b ∷ c ∷ s))) ≤ suc (suc (suc (length s)))) [ true ↦ omega arith | false ↦ omega arith ]
 
@@ -256,7 +258,7 @@ module _ {F E : Type 0} (step : F → List ℕ → Result (Unit {0}) E → F →
       → step f piece r after → (IsErr r → cs ≡ []) → IsRun step after cs g
       → (kept (bytes ++ piece) after → MatchOption (refusal cs) (kept ((bytes ++ piece) ++ joined_pieces cs) g)
       (λ e. stopped ((bytes ++ piece) ++ joined_pieces cs) e g))
-      → MatchOption (or_error r (refusal cs)) (kept (bytes ++ (piece ++ joined_pieces cs)) g)
+      → MatchOption (option_or (result_err r) (refusal cs)) (kept (bytes ++ (piece ++ joined_pieces cs)) g)
       (λ e. stopped (bytes ++ (piece ++ joined_pieces cs)) e g)
   one_more (Ok tt) bytes piece f after g cs k s last ran more = grind (arith, append_assoc)
   one_more (Err e) bytes piece f after g cs k s last ran more = grind (arith, append-nil)

@@ -8,7 +8,7 @@ use Rattle.std.proofs.lemmas.Bool.{and_left, both_ways, cases_Bool, cond-true, c
 use Rattle.data_url.specs.Url.{before, after, without_tabs_and_newlines, front, is_tab_or_newline}
 use Rattle.data_url.specs.Percent.{percent_decoding}
 use Rattle.data_url.specs.Fetch.{plain_body}
-use Rattle.data_url.specs.Pieces.{digit, escape, with_high_digit, with_low_digit}
+use Rattle.data_url.specs.Steps.Digits.{digit, escape, with_high_digit, with_low_digit}
 use Rattle.data_url.proofs.escapes.Hexadecimal.{digit_here, digit_nil, digit_tab}
 use Rattle.data_url.proofs.texts.Bytes.{before_nil, before_other, before_same, after_other, dropped_keeps, dropped_nil}
 use Rattle.data_url.proofs.texts.Bytes.{dropped_passes}
@@ -72,7 +72,7 @@ no_digit (b ∷ s) h = elim (cases_Bool (is_tab_or_newline b)) [
 ]
 
 -- a text that begins with two digits, each after tabs and newlines
-record HasEscape (s : List ℕ) (value : ℕ) (rest : List ℕ) : Type 0 where
+pub record HasEscape (s : List ℕ) (value : ℕ) (rest : List ℕ) : Type 0 where
   pub high : ℕ
   pub low : ℕ
   pub high_hex : is_ascii_hexdigit high ≡ true
@@ -109,7 +109,7 @@ high_cases s value rest None e h = absurd (cc)
 high_cases s value rest (Some high) e h = low_cases s high.1 high.0 value rest (digit high.1)
     (has_digit s high.0 high.1 e) refl h
 
-has_escape : (s : List ℕ) (value : ℕ) (rest : List ℕ) → escape s ≡ Some (value, rest) → HasEscape s value rest
+pub has_escape : (s : List ℕ) (value : ℕ) (rest : List ℕ) → escape s ≡ Some (value, rest) → HasEscape s value rest
 unfolding escape
 has_escape s value rest h = high_cases s value rest (digit s) refl h
 
@@ -149,7 +149,7 @@ body_of : (tail s : List ℕ) → without_tabs_and_newlines tail ≡ s → plain
 unfolding plain_body front
 body_of tail s e = ap (λ x. percent_decoding (before 35 x)) e
 
-percent_nil : percent_decoding [] ≡ []
+pub percent_nil : percent_decoding [] ≡ []
 unfolding percent_decoding
 percent_nil = refl
 

@@ -5,15 +5,16 @@ use Rattle.std.proofs.Common.{eqb-true, Bool, not, ◌||◌, ◌≢◌, Option, 
 use Rattle.std.specs.Prelude.{◌==◌, slice_range, IfNone}
 use Rattle.std.proofs.lemmas.Bool.{cases_Bool}
 use Rattle.std.proofs.lemmas.List.{drop_more, drop-drop, length-drop, drop_all, append-nil, take_more_set}
-use Rattle.std.proofs.lemmas.List.{length-take-le}
-use Rattle.data_url.specs.Pieces.{IsInFront, IsSkipped, text_of, IsEscape, IsPiece, IsStretch, bytes_of}
-use Rattle.data_url.specs.Pieces.{has_ended, is_slice_end, walk_of}
+use Rattle.std.proofs.lemmas.List.{length-take-le, append_cancel_right, take-append-drop}
+use Rattle.data_url.specs.Pieces.{text_of, IsEscape, IsPiece, IsStretch, bytes_of, has_ended, is_slice_end, walk_of}
 use Rattle.data_url.specs.Steps.Walk.{IsClear, Reads, Ended, EscapeAt, IsPassed, KeepsBlock, LonePercent}
 use Rattle.data_url.specs.Steps.Walk.{Looking, GoesOn, IsNextMark, Knows, KnowsAhead, LooksOn, Stays, Gathers}
 use Rattle.data_url.specs.Steps.Walk.{MayGather, Moves}
 use Rattle.data_url.specs.Url.{before, after, front, is_tab_or_newline, without_tabs_and_newlines}
 use Rattle.data_url.proofs.escapes.Reading.{paid_byte, paid_le, paid_percent, reads_clear, reads_escape}
-use Rattle.data_url.proofs.escapes.Reading.{reads_passed, reads_percent, reads_then, ends_empty}
+use Rattle.data_url.proofs.escapes.Reading.{reads_passed, reads_percent, reads_then, ends_empty, has_escape}
+use Rattle.data_url.proofs.escapes.Reading.{HasEscape, percent_nil}
+use Rattle.data_url.proofs.percent.Encoding.{decoded_escape}
 use Rattle.data_url.proofs.escapes.Marks.{looking_clear}
 use Rattle.data_url.proofs.texts.Bytes.{before_all, after_nil, after_other, after_same, dropped_keeps, dropped_nil}
 use Rattle.data_url.proofs.texts.Bytes.{dropped_passes, is_cut, without_tabs_and_newlines-append}
@@ -57,7 +58,16 @@ slice_join text a b c l h =
     let n : b - a + (c - b) ≡ c - a = omega arith in
     cc (drop-drop (b - a) a text, taken_twice (b - a) (c - b) (drop a text))
 
+slice_rest : (text : List ℕ) (a b : ℕ) → a ≤ b → slice_range text a b ++ drop b text ≡ drop a text
+slice_rest text a b l =
+    let e : a + (b - a) ≡ b = omega arith in
+    cc (drop-drop (b - a) a text, take-append-drop (b - a) (drop a text))
+
 -- Tabs and newlines
+
+-- between two indices of the text there are only tabs and newlines
+abbrev pub IsSkipped : List ℕ → ℕ → ℕ → Type 0
+IsSkipped text from to = without_tabs_and_newlines (slice_range text from to) ≡ []
 
 -- a range from an index to itself is skipped
 pub skipped_none : (text : List ℕ) (place : ℕ) → IsSkipped text place place
@@ -68,11 +78,16 @@ pub skipped_byte : (text : List ℕ) (place : ℕ) → place < length text → i
     → IsSkipped text place (place + 1)
 skipped_byte text place l h = grind (arith, slice_one, dropped_passes, dropped_nil)
 
+-- two ranges, one after the other, without tabs and newlines, are the range of both without them
+pub kept_then : (text : List ℕ) (a b c : ℕ) → a ≤ b → b ≤ c → without_tabs_and_newlines (slice_range text a b)
+    ++ without_tabs_and_newlines (slice_range text b c) ≡ without_tabs_and_newlines (slice_range text a c)
+kept_then text a b c l m = sym (without_tabs_and_newlines-append (slice_range text a b) (slice_range text b c))
+    ∙ ap without_tabs_and_newlines (slice_join text a b c l m)
+
 -- if two ranges, one after the other, are skipped, so is the range of both
 pub skipped_then : (text : List ℕ) (a b c : ℕ) → a ≤ b → b ≤ c → IsSkipped text a b → IsSkipped text b c
     → IsSkipped text a c
-skipped_then text a b c l m h k =
-    cc (slice_join text a b c l m, without_tabs_and_newlines-append (slice_range text a b) (slice_range text b c))
+skipped_then text a b c l m h k = cc (kept_then text a b c l m)
 
 -- between two places of the text there is no tab or newline
 abbrev pub IsWithoutTabs : List ℕ → ℕ → ℕ → Type 0
@@ -90,8 +105,7 @@ without_tabs_byte text place l h = grind (arith, slice_one, dropped_keeps, dropp
 -- if two ranges, one after the other, have no tab or newline, neither does the range of both
 pub without_tabs_then : (text : List ℕ) (a b c : ℕ) → a ≤ b → b ≤ c → IsWithoutTabs text a b → IsWithoutTabs text b c
     → IsWithoutTabs text a c
-without_tabs_then text a b c l m h k =
-    cc (slice_join text a b c l m, without_tabs_and_newlines-append (slice_range text a b) (slice_range text b c))
+without_tabs_then text a b c l m h k = cc (kept_then text a b c l m, slice_join text a b c l m)
 
 without_tabs_for : (text : List ℕ) (from n : ℕ) → from + n ≤ length text → IsClear text from (from + n)
     → IsWithoutTabs text from (from + n)
@@ -143,7 +157,8 @@ none_before (suc n) (b ∷ s) h = elim (cases_Bool (b == 35)) [
 ]
 
 -- the bytes that a walk reads come before the first '#'
-pub in_front : {text bytes : List ℕ} {from to : ℕ} → Reads text from to bytes → IsInFront text from to
+pub in_front : {text bytes : List ℕ} {from to : ℕ} → Reads text from to bytes
+    → front (slice_range text from to) ≡ slice_range text from to
 unfolding front
 in_front {text} {bytes} {from} {to} r = grind (arith, drop-drop, before_all, none_before)
 
@@ -190,6 +205,7 @@ stop_escape {c} {c'} {mark} {b} {value} {end} k h s d =
       percent =
           sym k.byte_is ∙ h;
       value_is = d.value_is;
+      ends = d.ends;
     } in
     let P : List ℕ → Type 0 = λ x. EscapeAt x mark value end in
     let paid_here = paid_percent (text_of c) c.seen mark mark k.within (sym k.byte_is ∙ h) in
@@ -302,7 +318,17 @@ or_true false = refl
 slice_piece : {c0 c : Cursor} {mark to : ℕ} {bytes : List ℕ} → Reached c0 c mark → mark ≢ c.place
     → Reads (text_of c0) mark to [] → IsSkipped (text_of c0) mark to → bytes ≡ slice_range (text_of c) c.place mark
     → is_slice_end (drop mark (text_of c0)) ≡ true → IsStretch (text_of c0) c0.place to bytes
-slice_piece {c0} {c} {mark} {to} {bytes} r n after skipped e h = grind (arith, in_front)
+slice_piece {c0} {c} {mark} {to} {bytes} r n after skipped e h =
+    let a = r.passed.few in
+    let b = r.stretch.few in
+    let l = after.few in
+    grind (
+      arith,
+      in_front r.stretch,
+      append-nil,
+      kept_then (text_of c0) c0.place c.place mark (omega arith) (omega arith),
+      kept_then (text_of c0) c0.place mark to (omega arith) (omega arith),
+    )
 
 -- a walk that was only moved to another place
 moved_on : {c0 c : Cursor} (place : ℕ) (ahead : Ahead) → LooksOn c0 c
@@ -319,12 +345,47 @@ pub slice_passed : {c0 c : Cursor} {mark : ℕ} (p : Piece) → Reached c0 c mar
 slice_passed {c0} {c} {mark} p r h n cut =
     search (arith, drop_more, reads_passed, slice_piece, skipped_byte)
 
+escape_kept : {text : List ℕ} {place value end : ℕ} → EscapeAt text place value end
+    → (d : HasEscape (drop (place + 1) text) value (drop end text)) → without_tabs_and_newlines (drop place text)
+    ≡ 37 ∷ d.high ∷ d.low ∷ without_tabs_and_newlines (drop end text)
+escape_kept {text} {place} {value} {end} q d = grind (arith, drop_more, dropped_keeps)
+
+-- before an escape a slice may end
+escape_ends : {text : List ℕ} {place value end : ℕ} → EscapeAt text place value end
+    → is_slice_end (drop place text) ≡ true
+escape_ends {text} {place} {value} {end} q =
+    let d = has_escape (drop (place + 1) text) value (drop end text) q.value_is in
+    grind (arith, drop_more, escape_kept q d)
+
+-- an escape, with what is skipped before it, is a piece
+escape_piece : {text : List ℕ} {from place value end : ℕ} → from ≤ place → IsSkipped text from place
+    → EscapeAt text place value end → IsEscape text from end value
+escape_piece {text} {from} {place} {value} {end} l skipped q =
+    let d = has_escape (drop (place + 1) text) value (drop end text) q.value_is in
+    let some = q.some in
+    let all = slice_rest text place end (omega arith) in
+    let kept : without_tabs_and_newlines (slice_range text place end) ≡ 37 ∷ d.high ∷ d.low ∷ [] =
+    append_cancel_right _ _ (without_tabs_and_newlines (drop end text)) (cc (
+      all,
+      without_tabs_and_newlines-append (slice_range text place end) (drop end text),
+      escape_kept q d,
+    )) in
+    let both : without_tabs_and_newlines (slice_range text from end) ≡ 37 ∷ d.high ∷ d.low ∷ [] =
+    cc (kept_then text from place end l (omega arith), skipped, kept) in
+    record {
+      is_escape = cc (both, d.high_hex, d.low_hex);
+      value_is = cc (both, decoded_escape d.high d.low [] d.high_hex d.low_hex, d.value_is, percent_nil);
+      ends = q.ends;
+    }
+
 -- the stretch up to an escape is a piece, and the walk goes on with the escape
 pub slice_escape : {c0 c : Cursor} {mark value end : ℕ} (p : Piece) → Reached c0 c mark
     → EscapeAt (text_of c) mark value end → mark ≢ c.place → IsCut c0 c mark p
     → GoesOn c0 (Some p) (record c { place = mark; ahead = Escape value end })
 slice_escape {c0} {c} {mark} {value} {end} p r h n cut =
-    grind (arith, drop_more, slice_piece, skipped_none)
+    let ends : is_slice_end (drop mark (text_of c0)) ≡ true =
+    sym (ap (λ t. is_slice_end (drop mark t)) r.on.text_stays) ∙ escape_ends h in
+    grind (arith, slice_piece, skipped_none)
 
 -- the stretch up to the end of the body is a piece, and the walk ends
 pub slice_end : {c0 c : Cursor} {mark : ℕ} (p : Piece) → Reached c0 c mark → Ended c mark → mark ≢ c.place
@@ -342,19 +403,10 @@ byte_here {c0} {c} {mark} {value} {end} r h e =
     let Q : ℕ → Type 0 = λ x. Reads (text_of c0) c0.place x [] in
     let S : ℕ → Type 0 = λ x. IsSkipped (text_of c0) c0.place x in
     let f = r.passed.few in
-    let reads = reads_then (subst Q (sym e) r.passed) (reads_escape q) in
     record {
       on = moved_on end AfterEscape r.on;
-      reads = reads;
-      piece = record {
-        start = mark;
-        from_le = omega arith;
-        nonempty = q.some;
-        skipped_before = subst S (sym e) r.skipped;
-        in_front = in_front reads;
-        percent = q.percent;
-        value_is = q.value_is;
-      };
+      reads = reads_then (subst Q (sym e) r.passed) (reads_escape q);
+      piece = escape_piece (omega arith) (subst S (sym e) r.skipped) q;
       ended = tt;
     }
 
@@ -373,27 +425,17 @@ knows_on {c} {c'} {next} k g a =
       ahead_is = a;
     }
 
--- an escape at the walk's place is a piece
-escape_piece : {text : List ℕ} {place value end : ℕ} → EscapeAt text place value end → IsEscape text place end value
-escape_piece {text} {place} {value} {end} q = record {
-  start = place;
-  from_le = omega arith;
-  nonempty = q.some;
-  skipped_before = skipped_none text place;
-  in_front = in_front (reads_escape q);
-  percent = q.percent;
-  value_is = q.value_is;
-}
-
 -- an escape that is known at the index of the walk is the next piece
 pub byte_known : {c : Cursor} {value end : ℕ} → EscapeAt (text_of c) c.place value end
     → GoesOn c (Some (Byte value)) (record c { place = end; ahead = AfterEscape })
-byte_known {c} {value} {end} q = search (arith, reads_escape, escape_piece)
+byte_known {c} {value} {end} q =
+    search (arith, reads_escape, escape_piece (omega arith) (skipped_none (text_of c) c.place) q)
 
 -- a walk that keeps its text and goes from an escape to its end returns the value as a piece
 pub byte_after : {c c' : Cursor} {value : ℕ} → LooksOn c c' → EscapeAt (text_of c) c.place value c'.place
     → GoesOn c (Some (Byte value)) c'
-byte_after {c} {c'} {value} on q = search (arith, reads_escape, escape_piece)
+byte_after {c} {c'} {value} on q =
+    search (arith, reads_escape, escape_piece (omega arith) (skipped_none (text_of c) c.place) q)
 
 ended_cases : {c : Cursor} (a : Ahead) → KnowsAhead c a → has_ended a ≡ true → Ended c c.place
 ended_cases Unknown k e = absurd (cc)

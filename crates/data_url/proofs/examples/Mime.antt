@@ -3,13 +3,13 @@
 use Rattle.std.proofs.Common.{◌≡◌, ℕ, Bool, true, false, List, [], ◌∷◌, ◌++◌, Option, None, Some, inl, inr, codes}
 use Rattle.std.proofs.Common.{append-nil, eq-eqb, eqb, refl, subst, sym, ◌∙◌, ap, map}
 use Rattle.std.specs.Prelude.{◌==◌, IsTrue, ◌≢◌, not, ◌&&◌}
-use Rattle.std.specs.List.{AllByRecursion, flat_map, list_all}
+use Rattle.std.specs.List.{list_all}
 use Rattle.std.specs.Char.{to_ascii_lowercase}
 use Rattle.data_url.specs.CodePoints.{ends_name, is_http_whitespace, is_semicolon}
-use Rattle.data_url.specs.Mime.{BeginsParameters, DoesNotBegin, DoesNotEnd, Escaped, GivesValue, HasNoRecord, IsHead}
-use Rattle.data_url.specs.Mime.{IsParameter, IsRecordOf, IsTrimmed, IsTrimmedEnd, IsUnit, Item, Items, Pair, Parses}
-use Rattle.data_url.specs.Mime.{Plain, Quoted, QuotedUnit, Record, default_record, is_quote, is_token_text, kept_pairs}
-use Rattle.data_url.specs.Mime.{plain, printed, quoted, unclosed, unit_text, unit_value, unless_empty}
+use Rattle.data_url.specs.Mime.{BeginsParameters, DoesNotBegin, DoesNotEnd, GivesValue, HasNoRecord, IsHead}
+use Rattle.data_url.specs.Mime.{IsParameter, IsRecordOf, IsTrimmed, IsTrimmedEnd, Item, Items, Pair, Parses}
+use Rattle.data_url.specs.Mime.{Quoted, Record, default_record, is_quote, is_token_text, kept_pairs}
+use Rattle.data_url.specs.Mime.{after_backslash, nothing_quoted, plain, as_itself, printed, quoted, unclosed, unless_empty}
 use Rattle.data_url.proofs.examples.Literals.{on_literals}
 use Rattle.data_url.proofs.mime.Items.{every_from_all, has_parts, parameters_in, subtype_in, trimmed_of, type_in}
 use Rattle.std.proofs.lemmas.Bool.{and_parts}
@@ -77,28 +77,21 @@ plain_value text rest semicolons quotes ends =
     plain text text (every_from_all (λ c. not (is_semicolon c)) text semicolons) quotes
     (untrimmed_end is_http_whitespace text ends)
 
-is_unit : QuotedUnit → Bool
-is_unit (Plain c) = not (c == 34) && not (c == 92)
-is_unit (Escaped c) = true
+is_plain : ℕ → Bool
+is_plain c = not (c == 34) && not (c == 92)
 
 differs : (c d : ℕ) → not (c == d) ≡ true → c ≢ d
 differs c d h e = let k : false ≡ true = sym (ap not (eq-eqb c d e)) ∙ h in cc
 
-are_units : (us : List QuotedUnit) → list_all is_unit us ≡ true → AllByRecursion IsUnit us
-unfolding is_unit
-are_units [] h = tt
-are_units (Plain c ∷ us) h =
-    let e = and_parts (not (c == 34) && not (c == 92)) (list_all is_unit us) h in
-    let f = and_parts (not (c == 34)) (not (c == 92)) e.0 in
-    ((differs c 34 f.0, differs c 92 f.1), are_units us e.1)
-are_units (Escaped c ∷ us) h = (tt, are_units us (and_parts true (list_all is_unit us) h).1)
-
-quoted_units : (us : List QuotedUnit) → list_all is_unit us ≡ true → Quoted (flat_map unit_text us) (map unit_value us)
-quoted_units us h = record { units = us; each = are_units us h; text_is = refl; value_is = refl }
+-- a code point as it is
+one : {text value : List ℕ} (c : ℕ) → is_plain c ≡ true → Quoted text value → Quoted (c ∷ text) (c ∷ value)
+unfolding is_plain
+one c h q = let f = and_parts (not (c == 34)) (not (c == 92)) h in as_itself c (differs c 34 f.0) (differs c 92 f.1) q
 
 -- the code points of a text, each as it is
-abbrev plainly : List ℕ → List QuotedUnit
-plainly t = map Plain t
+each : (t : List ℕ) → list_all is_plain t ≡ true → Quoted t t
+each [] h = nothing_quoted
+each (c ∷ t) h = let e = and_parts (is_plain c) (list_all is_plain t) h in one c e.0 (each t e.1)
 
 -- Examples
 
@@ -110,7 +103,7 @@ quotes : Parses (codes "TEXT/HTML;a=" ++ (34 ∷ codes "b;c" ++ (34 ∷ codes ";
       parameters =
           (codes "a", codes "b;c") ∷ (codes "e", []) ∷ [];
     })
-unfolding is_unit on_literals
+unfolding is_plain on_literals
 quotes = record {
   type_ = codes "TEXT";
   subtype = codes "HTML";
@@ -123,7 +116,7 @@ quotes = record {
       codes ";a=" ++ (34 ∷ codes "b;c" ++ (34 ∷ [])),
       codes ";d=;e=" ++ (34 ∷ 34 ∷ []),
       refl,
-      parameter (codes "a") _ _ _ refl refl (quoted (codes "b;c") [] (quoted_units (plainly (codes "b;c")) refl) tt),
+      parameter (codes "a") _ _ _ refl refl (quoted (codes "b;c") [] (each (codes "b;c") refl) tt),
       (
         codes ";d=",
         codes ";e=" ++ (34 ∷ 34 ∷ []),
@@ -134,7 +127,7 @@ quotes = record {
           [],
           refl,
           parameter (codes "e") _ _ _ refl refl
-              (quoted [] [] (quoted_units [] refl) tt),
+              (quoted [] [] (nothing_quoted) tt),
           refl,
         ),
       ),
@@ -229,39 +222,39 @@ repeated_name = parses_x (codes ";a=1;A=2") ((codes "a", Some (codes "1")) ∷ (
 
 -- the code points after a closing quote are ignored
 junk_after_quote : Parses (codes "x/x;a=" ++ (34 ∷ 98 ∷ 34 ∷ 256 ∷ [])) (x_x ((codes "a", codes "b") ∷ []))
-unfolding is_unit on_literals
+unfolding is_plain on_literals
 junk_after_quote = parses_x (codes ";a=" ++ (34 ∷ 98 ∷ 34 ∷ 256 ∷ [])) ((codes "a", Some (codes "b")) ∷ []) refl refl (
   codes ";a=" ++ (34 ∷ 98 ∷ 34 ∷ 256 ∷ []),
   [],
   refl,
   parameter (codes "a") _ _ _ refl refl
-      (quoted (codes "b") (256 ∷ []) (quoted_units (plainly (codes "b")) refl)
+      (quoted (codes "b") (256 ∷ []) (each (codes "b") refl)
       (every_from_all (λ c. not (is_semicolon c)) (256 ∷ []) refl)),
   refl,
 )
 
 -- a quoted value is tested as a whole: it can have a semicolon, and U+0100 makes its pair invalid
 code_point_above : Parses (codes "x/x;a=" ++ (34 ∷ 98 ∷ 59 ∷ 256 ∷ 34 ∷ [])) (x_x [])
-unfolding is_unit on_literals
+unfolding is_plain on_literals
 code_point_above = parses_x (codes ";a=" ++ (34 ∷ 98 ∷ 59 ∷ 256 ∷ 34 ∷ []))
     ((codes "a", Some (98 ∷ 59 ∷ 256 ∷ [])) ∷ []) refl refl (
       codes ";a=" ++ (34 ∷ 98 ∷ 59 ∷ 256 ∷ 34 ∷ []),
       [],
       refl,
       parameter (codes "a") _ _ _ refl refl
-          (quoted (98 ∷ 59 ∷ 256 ∷ []) [] (quoted_units (plainly (98 ∷ 59 ∷ 256 ∷ [])) refl) tt),
+          (quoted (98 ∷ 59 ∷ 256 ∷ []) [] (each (98 ∷ 59 ∷ 256 ∷ []) refl) tt),
       refl,
     )
 
 -- a backslash at the end of the input is part of the value
 last_backslash : Parses (codes "x/x;a=" ++ (34 ∷ 92 ∷ [])) (x_x ((codes "a", 92 ∷ []) ∷ []))
-unfolding is_unit on_literals
+unfolding is_plain on_literals
 last_backslash = parses_x (codes ";a=" ++ (34 ∷ 92 ∷ [])) ((codes "a", Some (92 ∷ [])) ∷ []) refl refl (
   codes ";a=" ++ (34 ∷ 92 ∷ []),
   [],
   refl,
   parameter (codes "a") _ _ _ refl refl
-      (unclosed (92 ∷ []) (inr ([], [], refl, refl, quoted_units [] refl))),
+      (unclosed (92 ∷ []) (inr ([], [], refl, refl, nothing_quoted))),
   refl,
 )
 
@@ -275,7 +268,7 @@ escapes : Parses (codes "x/x" ++ escapes_text)
       codes "f",
       codes "g",
     ) ∷ []))
-unfolding is_unit on_literals
+unfolding is_plain on_literals
 escapes = parses_x escapes_text ((codes "a", Some (113 ∷ 34 ∷ 114 ∷ [])) ∷ (codes "b", Some (codes "a")) ∷ (
   codes "c",
   Some (100 ∷ 34 ∷ 101 ∷ []),
@@ -284,12 +277,12 @@ escapes = parses_x escapes_text ((codes "a", Some (113 ∷ 34 ∷ 114 ∷ [])) �
   codes ";b=" ++ (34 ∷ 92 ∷ 97 ∷ 34 ∷ codes ";c=d" ++ (34 ∷ codes "e;f=" ++ (34 ∷ 103 ∷ []))),
   refl,
   parameter (codes "a") _ _ _ refl refl
-      (quoted (113 ∷ 92 ∷ 34 ∷ 114 ∷ []) [] (quoted_units (Plain 113 ∷ Escaped 34 ∷ Plain 114 ∷ []) refl) tt),
+      (quoted (113 ∷ 92 ∷ 34 ∷ 114 ∷ []) [] (one 113 refl (after_backslash 34 (one 114 refl nothing_quoted))) tt),
   (
     codes ";b=" ++ (34 ∷ 92 ∷ 97 ∷ 34 ∷ []),
     codes ";c=d" ++ (34 ∷ codes "e;f=" ++ (34 ∷ 103 ∷ [])),
     refl,
-    parameter (codes "b") _ _ _ refl refl (quoted (92 ∷ 97 ∷ []) [] (quoted_units (Escaped 97 ∷ []) refl) tt),
+    parameter (codes "b") _ _ _ refl refl (quoted (92 ∷ 97 ∷ []) [] (after_backslash 97 nothing_quoted) tt),
     (
       codes ";c=d" ++ (34 ∷ 101 ∷ []),
       codes ";f=" ++ (34 ∷ 103 ∷ []),
@@ -299,7 +292,7 @@ escapes = parses_x escapes_text ((codes "a", Some (113 ∷ 34 ∷ 114 ∷ [])) �
         codes ";f=" ++ (34 ∷ 103 ∷ []),
         [],
         refl,
-        parameter (codes "f") _ _ _ refl refl (unclosed (103 ∷ []) (inl (quoted_units (plainly (codes "g")) refl))),
+        parameter (codes "f") _ _ _ refl refl (unclosed (103 ∷ []) (inl (each (codes "g") refl))),
         refl,
       ),
     ),
@@ -309,7 +302,7 @@ escapes = parses_x escapes_text ((codes "a", Some (113 ∷ 34 ∷ 114 ∷ [])) �
 -- a parameter whose name is empty or not a token is ignored together with its quoted string
 invalid_names : Parses (codes "x/x;=q;" ++ (233 ∷ codes "=" ++ (34 ∷ codes "a;b=c" ++ (34 ∷ codes ";d=e"))))
     (x_x ((codes "d", codes "e") ∷ []))
-unfolding is_unit on_literals
+unfolding is_plain on_literals
 invalid_names = parses_x (codes ";=q;" ++ (233 ∷ codes "=" ++ (34 ∷ codes "a;b=c" ++ (34 ∷ codes ";d=e"))))
     (([], Some (codes "q")) ∷ (233 ∷ [], Some (codes "a;b=c")) ∷ (codes "d", Some (codes "e")) ∷ []) refl refl (
       codes ";=q",
@@ -320,7 +313,7 @@ invalid_names = parses_x (codes ";=q;" ++ (233 ∷ codes "=" ++ (34 ∷ codes "a
         59 ∷ 233 ∷ codes "=" ++ (34 ∷ codes "a;b=c" ++ (34 ∷ [])),
         codes ";d=e",
         refl,
-        parameter (233 ∷ []) _ _ _ refl refl (quoted (codes "a;b=c") [] (quoted_units (plainly (codes "a;b=c")) refl) tt),
+        parameter (233 ∷ []) _ _ _ refl refl (quoted (codes "a;b=c") [] (each (codes "a;b=c") refl) tt),
         (codes ";d=e", [], refl, parameter (codes "d") _ _ _ refl refl (plain_value (codes "e") _ refl refl refl), refl),
       ),
     )

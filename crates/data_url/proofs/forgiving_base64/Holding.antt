@@ -13,7 +13,9 @@ use Rattle.data_url.specs.Base64.{left_padding, left_symbols, left_text, symbol_
 use Rattle.data_url.specs.Decoder.{Feeds, IsTaken, State, left_over}
 use Rattle.data_url.specs.Errors.{IsRefused}
 use Rattle.data_url.specs.Mime.{Every}
-use Rattle.data_url.specs.Run.{Call, IsPrefix, IsRun, joined_pieces, or_error, refusal}
+use Rattle.data_url.specs.Run.{Call, IsPrefix, IsRun, joined_pieces, refusal}
+use Rattle.std.specs.Option.{option_or}
+use Rattle.std.specs.Result.{result_err}
 use Rattle.data_url.specs.Steps.Calls.{CallsOnce}
 use Rattle.data_url.specs.Steps.Blocks.{AreGroups, DecodesFront, Fills, is_symbol_or_space}
 use Rattle.data_url.specs.Steps.Holding.{Adds, Flushes, Gains, Holds, IsBetweenGroups, Refuses, waiting}
@@ -90,7 +92,7 @@ none_from None e = refl
 none_from (Some x) e = absurd (true≢false e)
 
 told_ok : {E : Type 0} (told : Result (Unit {0}) E) (r : Result (Unit {0}) (DecodeError E)) → r ≡ Ok tt
-    → MatchResult told (λ u. r ≡ Ok tt) (λ e. r ≡ Err (WriteError e)) → or_error told None ≡ None
+    → MatchResult told (λ u. r ≡ Ok tt) (λ e. r ≡ Err (WriteError e)) → option_or (result_err told) None ≡ None
 told_ok (Ok x) r e h = refl
 told_ok (Err x) r e h = absurd (cc)
 
@@ -198,7 +200,7 @@ module _ {F E : Type 0} (step : F → List ℕ → Result (Unit {0}) E → F →
   refused_call : (told : Result (Unit {0}) E) (r : Result (Unit {0}) (DecodeError E)) (x : DecodeError E) (P : Type 0)
       (all bytes : List ℕ) → r ≡ Err x → IsPrefix bytes all
       → MatchResult told (λ u. r ≡ Ok tt) (λ e. r ≡ Err (WriteError e))
-      → MatchOption (or_error told None) P (λ e. IsRefused all bytes e r)
+      → MatchOption (option_or (result_err told) None) P (λ e. IsRefused all bytes e r)
   refused_call (Ok u) r x P all bytes e begins h = absurd (cc)
   refused_call (Err y) r x P all bytes e begins h = record { bytes_begin = begins; answer = h }
 
@@ -223,7 +225,7 @@ module _ {F E : Type 0} (step : F → List ℕ → Result (Unit {0}) E → F →
         ran = called_run h v;
         calls = omega (arith, h.calls, full, length-append h.run (call ∷ []), length-append x y);
         failed = w.failed;
-        gave = match_at (or_error w.told None) (refusal (h.run ++ call ∷ [])) _ _
+        gave = match_at (option_or (result_err w.told) None) (refusal (h.run ++ call ∷ [])) _ _
             (refusal-append h.run (call ∷ []) h.accepted)
             (refused_call w.told (Err e) e (IsTaken u (joined_pieces (h.run ++ call ∷ [])) (Err e) s2)
             (complete_bytes u) (joined_pieces (h.run ++ call ∷ [])) refl (y, called_wait q y h w) w.answer);

@@ -15,7 +15,9 @@ use Rattle.std.specs.Char.{is_ascii_whitespace}
 use Rattle.data_url.specs.Decoder.{Feeds, Finishes, State, left_over, IsLeft, IsTaken}
 use Rattle.data_url.specs.Errors.{IsRefused}
 use Rattle.data_url.specs.Mime.{Every}
-use Rattle.data_url.specs.Run.{IsRun, or_error, IsPrefix, joined_pieces, refusal}
+use Rattle.data_url.specs.Run.{IsRun, IsPrefix, joined_pieces, refusal}
+use Rattle.std.specs.Option.{option_or}
+use Rattle.std.specs.Result.{result_err}
 use Rattle.data_url.specs.Steps.Holding.{Adds, Flushes, Refuses}
 use Rattle.data_url.specs.declared.forgiving_base64.DecodeError.{DecodeError}
 use Rattle.data_url.specs.declared.forgiving_base64.DecodeError.TheVariants.{WriteError, InvalidBase64}
@@ -230,7 +232,7 @@ bool_at_false false P Q e h = h
 pub told_call : {E : Type 0} (answer : Result (Unit {0}) E) (r : Result (Unit {0}) (DecodeError E)) (P : Type 0)
     (all bytes : List ℕ) → bytes ≡ all → (r ≡ Ok tt → P)
     → MatchResult answer (λ u. r ≡ Ok tt) (λ e. r ≡ Err (WriteError e))
-    → MatchOption (or_error answer None) P (λ e. IsRefused all bytes e r)
+    → MatchOption (option_or (result_err answer) None) P (λ e. IsRefused all bytes e r)
 told_call (Ok x) r P all bytes q f h = f h
 told_call (Err e) r P all bytes q f h = record { bytes_begin = prefix_all bytes all q; answer = h }
 

@@ -10,7 +10,9 @@ use Rattle.data_url.specs.Steps.Whole.{DecodesText}
 use Rattle.data_url.specs.Decoder.{Feeds, Finishes, IsAll, IsTaken, State, left_over, start}
 use Rattle.data_url.specs.Errors.{IsRefused}
 use Rattle.data_url.specs.Laws.{GoesOn}
-use Rattle.data_url.specs.Run.{Call, IsPrefix, IsRun, joined_pieces, or_error, refusal}
+use Rattle.data_url.specs.Run.{Call, IsPrefix, IsRun, joined_pieces, refusal}
+use Rattle.std.specs.Option.{option_or}
+use Rattle.std.specs.Result.{result_err}
 use Rattle.data_url.specs.declared.forgiving_base64.DecodeError.{DecodeError}
 use Rattle.data_url.specs.declared.forgiving_base64.DecodeError.TheVariants.{InvalidBase64}
 use Rattle.data_url.proofs.forgiving_base64.Steps.{bool_at_false, bool_at_true, feeds_none, feeds_goes_on, feeds_took}
@@ -138,7 +140,7 @@ module _ {F E : Type 0} (step : F → List ℕ → Result (Unit {0}) E → F →
 
 -- A closure that appends its bytes
 
-accepted_call : {E : Type 0} (r : Result (Unit {0}) E) (o : Option E) → or_error r o ≡ None → r ≡ Ok tt
+accepted_call : {E : Type 0} (r : Result (Unit {0}) E) (o : Option E) → option_or (result_err r) o ≡ None → r ≡ Ok tt
 accepted_call (Ok tt) o h = refl
 accepted_call (Err e) o h = absurd (some_not_none e h)
 

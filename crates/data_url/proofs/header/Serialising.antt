@@ -22,7 +22,7 @@ use Rattle.data_url.proofs.texts.Bytes.{dropped_passes, before-append, after-app
 use Rattle.data_url.proofs.texts.Bytes.{is_cut}
 use Rattle.data_url.proofs.percent.Encoding.{encoded_cons, encoded_nil, path_cons, path_nil, percent_encoding-append}
 use Rattle.std.specs.Option.{option_map}
-use Rattle.data_url.specs.Facts.{base64_flag, serialised_with_spaces, with_query_and_spaces}
+use Rattle.data_url.specs.Facts.{base64_flag, serialised_with_spaces}
 use Rattle.data_url.specs.Fetch.{before_comma, has_base64_suffix, is_space}
 use Rattle.data_url.specs.Mime.{DoesNotEnd}
 use Rattle.data_url.proofs.header.Suffix.{same_flag}
@@ -334,7 +334,8 @@ flag_of_path x None e = grind (arith, after-append, no_comma_in_escape, no_comma
 flag_of_path x (Some rest) e = grind (arith, comma_before)
 
 flag_by : (path : List ℕ) (o : Option (List ℕ)) → Differs path
-    → base64_flag (with_query path o) ≡ base64_flag (with_query_and_spaces path o)
+    → base64_flag (with_query (encoded_path path) o)
+    ≡ base64_flag (with_query (percent_encoding in_path_set path) o)
 flag_by path None (same_path e) = ap base64_flag e
 flag_by path (Some query) (same_path e) = ap (λ t. base64_flag (t ++ 63 ∷ percent_encoding in_query_set query)) e
 flag_by path None (last_space x e f) = ap base64_flag e ∙ flag_of_path x (after 44 x) refl ∙ sym (ap base64_flag f)

@@ -2,7 +2,7 @@
 use Rattle.std.proofs.Common.{◌≡◌, ℕ, suc, ◌+◌, ◌-◌, ◌<◌, ◌==◌, Bool, true, false, not, List, [], ◌∷◌, ◌++◌}
 use Rattle.std.proofs.Common.{length, get_or, take, drop, encode_utf8, encode_utf8_all, refl, sym, ap, ◌∙◌, subst}
 use Rattle.std.proofs.Common.{append_assoc, append-nil, arith, inl, inr, take-append-drop, length-append, length-drop}
-use Rattle.std.proofs.Common.{length-take-le, eqb-true, ◌≤◌, ◌&&◌, Option, None, Some, Bor, map}
+use Rattle.std.proofs.Common.{length-take-le, eqb-true, ◌≤◌, ◌&&◌, Option, None, Some, Bor}
 use Rattle.std.proofs.Math.Seq.{get_or-append_seam}
 use Rattle.std.proofs.lemmas.Bool.{and_parts, eq-eqb, false_from_ne_true, false≢true, not-false}
 use Rattle.std.proofs.lemmas.Bool.{agree_below_at, ne_eqb, cond-false}
@@ -10,7 +10,7 @@ use Rattle.std.proofs.lemmas.Bool.{and_from}
 use Rattle.std.proofs.lemmas.List.{get_or-drop, get_or-take, get_or_append_left}
 use Rattle.std.proofs.lemmas.List.Folds.{list_all-append, list_all_at}
 use Rattle.std.proofs.lemmas.List.Sums.{prefix_len-le-length, prefix_len_stops, suffix_len-le-length, prefix_len_passes}
-use Rattle.std.specs.List.{list_all, prefix_len, suffix_len, flat_map}
+use Rattle.std.specs.List.{list_all, prefix_len, suffix_len}
 use Rattle.data_url.proofs.texts.CodePoints.{after_begins, front_of, front_passes, boundary_before_end, no_chars}
 use Rattle.data_url.proofs.texts.CodePoints.{in_parts}
 use Rattle.data_url.proofs.mime.TokenTexts.{drop_front, every_ascii, is_split, take_front, whole_front}
@@ -20,8 +20,8 @@ use Rattle.std.proofs.lemmas.Str.{chars-nil, chars_past_char, encode_ascii, enco
 use Rattle.std.proofs.lemmas.Str.{IsUtf8-encode, cons_from_encodes}
 use Rattle.std.specs.Str.{IsCharBoundary, IsUtf8, chars, all_scalars}
 use Rattle.data_url.specs.CodePoints.{ends_name, is_http_whitespace, is_semicolon, is_quotable}
-use Rattle.data_url.specs.Mime.{DoesNotBegin, DoesNotEnd, Every, IsTrimmedEnd, Without, Escaped, Plain, Quoted}
-use Rattle.data_url.specs.Mime.{QuotedOpen, QuotedUnit, unit_text, unit_value}
+use Rattle.data_url.specs.Mime.{DoesNotBegin, DoesNotEnd, Every, IsTrimmedEnd, Without, Quoted}
+use Rattle.data_url.specs.Mime.{QuotedOpen, after_backslash, nothing_quoted, as_itself}
 use Rattle.data_url.specs.Steps.Parsing.{IsTrimmedFront, is_escaped, IsValue, is_quotable_byte, quotable_value}
 use Rattle.data_url.specs.Steps.Parsing.{is_unquoted_byte}
 use Rattle.data_url.proofs.mime.Items.{all_from_every}
@@ -295,14 +295,10 @@ backslash_quotable = refl
 escaped_quotable : (c : ℕ) (b : Bool) → (is_quotable 92 && (is_quotable c && b)) ≡ (is_quotable c && b)
 escaped_quotable c b = ap (λ x. x && (is_quotable c && b)) backslash_quotable
 
-units_quotable : (units : List QuotedUnit) → list_all is_quotable (flat_map unit_text units) ≡ list_all is_quotable
-    (map unit_value units)
-units_quotable [] = refl
-units_quotable (Plain c ∷ units) = ap (λ b. is_quotable c && b) (units_quotable units)
-units_quotable (Escaped c ∷ units) = grind (arith, escaped_quotable, units_quotable units)
-
 quoted_same : (q v : List ℕ) → Quoted q v → list_all is_quotable q ≡ list_all is_quotable v
-quoted_same q v h = rw (h.text_is, h.value_is) (units_quotable h.units)
+quoted_same q v nothing_quoted = refl
+quoted_same q v (as_itself {text} {value} c n m h) = ap (λ b. is_quotable c && b) (quoted_same text value h)
+quoted_same q v (after_backslash {text} {value} c h) = grind (arith, escaped_quotable, quoted_same text value h)
 
 -- a quoted string has only quoted-string code points exactly if its value has
 pub quoted_quotable : (q v : List ℕ) → QuotedOpen q v → list_all is_quotable q ≡ list_all is_quotable v

@@ -1,11 +1,10 @@
 -- Quoted strings. For `values.rt`.
 use Rattle.std.proofs.Common.{◌≡◌, ℕ, ◌==◌, ◌&&◌, not, Bool, true, false, cond, List, [], ◌∷◌, ◌++◌, Option, None, Some}
-use Rattle.std.proofs.Common.{map, refl, sym, ap, ◌∙◌, append_assoc, append-nil, eqb-true, inl, inr, ◌+◌, ◌<◌, ◌≤◌}
+use Rattle.std.proofs.Common.{refl, sym, ap, ◌∙◌, append_assoc, append-nil, eqb-true, inl, inr, ◌+◌, ◌<◌, ◌≤◌}
 use Rattle.std.proofs.Common.{length, get_or, take, drop, slice_range, encode_utf8_all, ap₂, arith}
 use Rattle.std.proofs.Common.{take-append-drop, drop-cons, drop_of_length-le, add-one}
 use Rattle.std.proofs.lemmas.Bool.{eqb-false, and_parts}
-use Rattle.std.specs.List.{AllByRecursion, flat_map}
-use Rattle.data_url.specs.Mime.{Escaped, IsUnit, Plain, Quoted, QuotedOpen, QuotedUnit, unit_text, unit_value}
+use Rattle.data_url.specs.Mime.{Quoted, QuotedOpen, after_backslash, nothing_quoted, as_itself}
 use Rattle.std.proofs.lemmas.List.{append_cancel_right}
 use Rattle.std.proofs.lemmas.Str.{IsCharBoundary-before_ascii, IsUtf8-drop, IsUtf8-take, chars-append, chars-encodes}
 use Rattle.std.proofs.lemmas.Str.{chars_past_char, encode_ascii, encodes-chars, scalars-chars}
@@ -29,27 +28,17 @@ quoted_rest escaped [] = None
 quoted_rest false (c ∷ t) = cond (c == 34) (Some t) (cond (c == 92) (quoted_rest true t) (quoted_rest false t))
 quoted_rest true (c ∷ t) = quoted_rest false t
 
--- the value of units and then x is the values of the units, and then the value of x
-pub value_of_units : (units : List QuotedUnit) (x : List ℕ) → AllByRecursion IsUnit units
-    → quoted_value false (flat_map unit_text units ++ x) ≡ map unit_value units ++ quoted_value false x
-value_of_units [] x h = refl
-value_of_units (Plain c ∷ units) x h = grind (arith, value_of_units units x h.1)
-value_of_units (Escaped c ∷ units) x h = ap (λ v. c ∷ v) (value_of_units units x h.1)
-
--- units before a text do not change what the text after the closing quote is
-pub rest_of_units : (units : List QuotedUnit) (x : List ℕ) → AllByRecursion IsUnit units
-    → quoted_rest false (flat_map unit_text units ++ x) ≡ quoted_rest false x
-rest_of_units [] x h = refl
-rest_of_units (Plain c ∷ units) x h = grind (arith, rest_of_units units x h.1)
-rest_of_units (Escaped c ∷ units) x h = rest_of_units units x h.1
-
 -- the value of a quoted text and then x is the value of that text, and then the value of x
 pub value_before : (q v x : List ℕ) → Quoted q v → quoted_value false (q ++ x) ≡ v ++ quoted_value false x
-value_before q v x h = rw (h.text_is, h.value_is) (value_of_units h.units x h.each)
+value_before q v x nothing_quoted = refl
+value_before q v x (as_itself {text} {value} c n m h) = grind (arith, value_before text value x h)
+value_before q v x (after_backslash {text} {value} c h) = ap (λ v. c ∷ v) (value_before text value x h)
 
 -- a quoted text before x does not change what the text after the closing quote is
 pub rest_before : (q v x : List ℕ) → Quoted q v → quoted_rest false (q ++ x) ≡ quoted_rest false x
-rest_before q v x h = rw h.text_is (rest_of_units h.units x h.each)
+rest_before q v x nothing_quoted = refl
+rest_before q v x (as_itself {text} {value} c n m h) = grind (arith, rest_before text value x h)
+rest_before q v x (after_backslash {text} {value} c h) = rest_before text value x h
 
 -- the value of a quoted text, a '"', and any more text is the value of the quoted text
 pub closed_value : (q v w : List ℕ) → Quoted q v → quoted_value false (q ++ (34 ∷ w)) ≡ v
@@ -74,35 +63,17 @@ abbrev pub IsRead : List ℕ → List ℕ → Option (List ℕ) → Type 0
 IsRead s value None = QuotedOpen s value
 IsRead s value (Some w) = (q : List ℕ) × (s ≡ q ++ (34 ∷ w)) × Quoted q value
 
--- a unit and then a quoted text are a quoted text, whose value is the value of the unit, and then that of the text
-pub quoted_more : (u : QuotedUnit) (q v : List ℕ) → IsUnit u → Quoted q v → Quoted (unit_text u ++ q) (unit_value u ∷ v)
-quoted_more u q v i h = record {
-  units = u ∷ h.units;
-  each = (i, h.each);
-  text_is =
-      ap (λ t. unit_text u ++ t) h.text_is;
-  value_is = ap (λ t. unit_value u ∷ t) h.value_is;
-}
-
-read_more : (u : QuotedUnit) (s v : List ℕ) (r : Option (List ℕ)) → IsUnit u → IsRead s v r
-    → IsRead (unit_text u ++ s) (unit_value u ∷ v) r
-read_more u s v None i (inl h) = inl (quoted_more u s v i h)
-read_more u s v None i (inr (q, w, t, e, h)) = inr (
-  unit_text u ++ q,
-  unit_value u ∷ w,
-  cc (append_assoc (unit_text u) q (92 ∷ [])),
-  ap (λ x. unit_value u ∷ x) e,
-  quoted_more u q w i h,
+read_more : (x : List ℕ) (c : ℕ) (s v : List ℕ) (r : Option (List ℕ))
+    → ((q w : List ℕ) → Quoted q w → Quoted (x ++ q) (c ∷ w)) → IsRead s v r → IsRead (x ++ s) (c ∷ v) r
+read_more x c s v None more (inl h) = inl (more s v h)
+read_more x c s v None more (inr (q, w, t, e, h)) = inr (
+  x ++ q,
+  c ∷ w,
+  cc (append_assoc x q (92 ∷ [])),
+  ap (λ y. c ∷ y) e,
+  more q w h,
 )
-read_more u s v (Some w) i h = (
-  unit_text u ++ h.0,
-  cc (append_assoc (unit_text u) h.0 (34 ∷ w)),
-  quoted_more u h.0 v i h.2,
-)
-
--- the empty text is a quoted text, and its value is empty
-pub quoted_nil : Quoted [] []
-quoted_nil = record { units = []; each = tt; text_is = refl; value_is = refl }
+read_more x c s v (Some w) more h = (x ++ h.0, cc (append_assoc x h.0 (34 ∷ w)), more h.0 v h.2)
 
 -- the text with a backslash before it if the flag is true
 abbrev pub flagged : Bool → List ℕ → List ℕ
@@ -113,18 +84,19 @@ read_plain : (c : ℕ) (t : List ℕ) → IsRead (flagged false t) (quoted_value
     → IsRead (flagged true t) (quoted_value true t) (quoted_rest true t) → (b d : Bool) → (c == 34) ≡ b → (c == 92) ≡ d
     → IsRead (c ∷ t) (cond b [] (cond d (quoted_value true t) (c ∷ quoted_value false t)))
     (cond b (Some t) (cond d (quoted_rest true t) (quoted_rest false t)))
-read_plain c t plain escaped true d e f = ([], ap (λ x. x ∷ t) (eqb-true c 34 e), quoted_nil)
+read_plain c t plain escaped true d e f = ([], ap (λ x. x ∷ t) (eqb-true c 34 e), nothing_quoted)
 read_plain c t plain escaped false true e f = rw (eqb-true c 92 f) escaped
-read_plain c t plain escaped false false e f = read_more (Plain c) t (quoted_value false t) (quoted_rest false t)
-    (eqb-false c 34 e, eqb-false c 92 f) plain
+read_plain c t plain escaped false false e f = read_more (c ∷ []) c t (quoted_value false t) (quoted_rest false t)
+    (λ q w. as_itself c (eqb-false c 34 e) (eqb-false c 92 f)) plain
 
 -- reading any text returns its value and the rest
 pub is_read : (escaped : Bool) (s : List ℕ) → IsRead (flagged escaped s) (quoted_value escaped s)
     (quoted_rest escaped s)
-is_read false [] = inl quoted_nil
-is_read true [] = inr ([], [], refl, refl, quoted_nil)
+is_read false [] = inl nothing_quoted
+is_read true [] = inr ([], [], refl, refl, nothing_quoted)
 is_read false (c ∷ t) = read_plain c t (is_read false t) (is_read true t) (c == 34) (c == 92) refl refl
-is_read true (c ∷ t) = read_more (Escaped c) t (quoted_value false t) (quoted_rest false t) tt (is_read false t)
+is_read true (c ∷ t) =
+    read_more (92 ∷ c ∷ []) c t (quoted_value false t) (quoted_rest false t) (λ q w. after_backslash c) (is_read false t)
 
 -- The value as it is written, which does not look for quotes
 
@@ -134,14 +106,10 @@ unescaped false [] = []
 unescaped true [] = 92 ∷ []
 unescaped escaped (c ∷ t) = cond ((c == 92) && not escaped) (unescaped true t) (c ∷ unescaped false t)
 
-unescaped_units : (units : List QuotedUnit) (x : List ℕ) → AllByRecursion IsUnit units
-    → unescaped false (flat_map unit_text units ++ x) ≡ map unit_value units ++ unescaped false x
-unescaped_units [] x h = refl
-unescaped_units (Plain c ∷ units) x h = grind (arith, unescaped_units units x h.1)
-unescaped_units (Escaped c ∷ units) x h = grind (arith, unescaped_units units x h.1)
-
 unescaped_before : (q v x : List ℕ) → Quoted q v → unescaped false (q ++ x) ≡ v ++ unescaped false x
-unescaped_before q v x h = rw (h.text_is, h.value_is) (unescaped_units h.units x h.each)
+unescaped_before q v x nothing_quoted = refl
+unescaped_before q v x (as_itself {text} {value} c n m h) = grind (arith, unescaped_before text value x h)
+unescaped_before q v x (after_backslash {text} {value} c h) = grind (arith, unescaped_before text value x h)
 
 -- the value of a quoted string without a closing quote is what `unescaped` returns for it
 pub unescaped_is : (q v : List ℕ) → QuotedOpen q v → unescaped false q ≡ v

@@ -6,15 +6,14 @@ use Rattle.std.proofs.lemmas.Bool.{cond_both, eqb-false, false_from_ne_true, not
 use Rattle.std.specs.List.{AllByRecursion, flat_map, list_all}
 use Rattle.std.specs.Str.{bytes_eq}
 use Rattle.data_url.specs.CodePoints.{ends_name, is_http_whitespace, is_quotable, is_semicolon, is_token}
-use Rattle.data_url.specs.Mime.{BeginsParameters, DoesNotBegin, DoesNotEnd, Escaped, Every, GivesValue, IsHead}
-use Rattle.data_url.specs.Mime.{IsParameter, IsTrimmed, IsTrimmedEnd, IsWellformed, Item, Items, Pair, Parses, Plain}
+use Rattle.data_url.specs.Mime.{BeginsParameters, DoesNotBegin, DoesNotEnd, Every, GivesValue, IsHead}
+use Rattle.data_url.specs.Mime.{IsParameter, IsTrimmed, IsTrimmedEnd, IsWellformed, Item, Items, Pair, Parses}
 use Rattle.data_url.specs.Mime.{Quoted, Record, Without, escaped_code_point, first_of_each_name, has_distinct_names}
 use Rattle.data_url.specs.Mime.{has_name, is_lowercase_name, is_quote, is_token_text, kept_pairs, plain, printed}
-use Rattle.data_url.specs.Mime.{printed_pair, printed_value, quoted, unless_empty, valid_pairs}
+use Rattle.data_url.specs.Mime.{printed_pair, printed_value, quoted, unless_empty, valid_pairs, after_backslash, nothing_quoted, as_itself}
 use Rattle.data_url.proofs.mime.Items.{not_begins_append, every_token, has_at_most_one_record}
 use Rattle.data_url.proofs.mime.FirstNames.{has_append, lower_is_itself, lowercase_token, test_from_different}
 use Rattle.data_url.proofs.mime.FirstNames.{test_from_equal}
-use Rattle.data_url.proofs.mime.Quoted.{quoted_more, quoted_nil}
 use Rattle.data_url.proofs.mime.TokenTexts.{token_below}
 
 -- Token code points
@@ -76,12 +75,11 @@ not_ends_last p c h (d ∷ e ∷ a) = not_ends_last p c h (e ∷ a)
 -- A value
 
 quoted_escaped : (v : List ℕ) → Quoted (flat_map escaped_code_point v) v
-quoted_escaped [] = quoted_nil
+quoted_escaped [] = nothing_quoted
 quoted_escaped (c ∷ v) = cond_both ((c == 34) || (c == 92)) (92 ∷ c ∷ []) (c ∷ [])
     (λ t. Quoted (t ++ flat_map escaped_code_point v) (c ∷ v))
-    (λ e. quoted_more (Escaped c) (flat_map escaped_code_point v) v tt (quoted_escaped v))
-    (λ e. let p = or_parts (c == 34) (c == 92) e in quoted_more (Plain c) (flat_map escaped_code_point v) v
-    (eqb-false c 34 p.0, eqb-false c 92 p.1) (quoted_escaped v))
+    (λ e. after_backslash c (quoted_escaped v))
+    (λ e. let p = or_parts (c == 34) (c == 92) e in as_itself c (eqb-false c 34 p.0) (eqb-false c 92 p.1) (quoted_escaped v))
 
 is_nonempty : (v : List ℕ) → is_token_text v ≡ true → unless_empty v ≡ Some v
 is_nonempty [] h = absurd (both_ways false refl h)

@@ -242,7 +242,8 @@ unfolding serialised
 serialised_query s = grind (arith, before_same, after_same, path_nil)
 
 with_query_cons : (b : ℕ) (path : List ℕ) (query : Option (List ℕ))
-    → with_query (b ∷ path) query ≡ encoded_byte (path_byte_set path) b ++ with_query path query
+    → with_query (encoded_path (b ∷ path)) query
+    ≡ encoded_byte (path_byte_set path) b ++ with_query (encoded_path path) query
 with_query_cons b path None = path_cons b path
 with_query_cons b path (Some query) = grind (arith, path_cons)
 

@@ -4,19 +4,21 @@ use Rattle.std.proofs.Common.{◌∙◌, append_assoc, subst, true}
 use Rattle.std.proofs.lemmas.List.{append-nil}
 use Rattle.std.specs.Prelude.{IsErr, MatchOption}
 use Rattle.std.proofs.lemmas.Bool.{false≢true, true≢false}
-use Rattle.data_url.specs.Run.{Call, IsPrefix, IsRun, joined_pieces, or_error, refusal}
+use Rattle.data_url.specs.Run.{Call, IsPrefix, IsRun, joined_pieces, refusal}
+use Rattle.std.specs.Option.{option_or}
+use Rattle.std.specs.Result.{result_err}
 use Rattle.data_url.proofs.forgiving_base64.Padding.{some_not_none}
 
-ok_is_no_error : {E : Type 0} (r : Result (Unit {0}) E) (o : Option E) → or_error r o ≡ None → IsErr r → ⊥
+ok_is_no_error : {E : Type 0} (r : Result (Unit {0}) E) (o : Option E) → option_or (result_err r) o ≡ None → IsErr r → ⊥
 ok_is_no_error (Ok x) o h e = false≢true e
 ok_is_no_error (Err x) o h e = some_not_none x h
 
 -- if the error of a result, or else o, is `None`, then o is `None`
-pub later_none : {E : Type 0} (r : Result (Unit {0}) E) (o : Option E) → or_error r o ≡ None → o ≡ None
+pub later_none : {E : Type 0} (r : Result (Unit {0}) E) (o : Option E) → option_or (result_err r) o ≡ None → o ≡ None
 later_none (Ok x) o h = h
 later_none (Err x) o h = absurd (some_not_none x h)
 
-or_same : {E : Type 0} (r : Result (Unit {0}) E) (o p : Option E) → or_error r o ≡ None → or_error r p ≡ p
+or_same : {E : Type 0} (r : Result (Unit {0}) E) (o p : Option E) → option_or (result_err r) o ≡ None → option_or (result_err r) p ≡ p
 or_same (Ok x) o p h = refl
 or_same (Err x) o p h = absurd (some_not_none x h)
 

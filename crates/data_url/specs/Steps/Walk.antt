@@ -1,8 +1,10 @@
 -- A walk over the text of a body: what its steps find, and what stays true.
+use Rattle.std.specs.Char.{is_ascii_hexdigit}
 use Rattle.std.specs.Prelude.{◌*◌, ◌++◌, ◌+◌, ◌-◌, ◌<◌, ◌≡◌, ◌≤◌, Bool, IfNone, IfSome, List, MatchBool, None, Option, Some, drop, false, length, map, slice_index, slice_range, take, true, ℕ}
 use Rattle.std.specs.Simd.Lanes.{mask_l}
 use Rattle.data_url.specs.Fetch.{plain_body}
-use Rattle.data_url.specs.Pieces.{IsPiece, bytes_of_next, escape, has_ended, text_of}
+use Rattle.data_url.specs.Pieces.{IsPiece, bytes_of_next, has_ended, text_of}
+use Rattle.data_url.specs.Steps.Digits.{escape}
 use Rattle.data_url.specs.Steps.Looks.{paid_looks}
 use Rattle.data_url.specs.Steps.Tail.{BeginsFragment}
 use Rattle.data_url.specs.Steps.Window.{is_marked}
@@ -29,6 +31,7 @@ pub record EscapeAt (text : List ℕ) (place value end : ℕ) : Type 0 where
   pub within : end ≤ length text
   pub percent : slice_index text place ≡ percent_sign
   pub value_is : escape (drop (place + 1) text) ≡ Some (value, drop end text)
+  pub ends : is_ascii_hexdigit (slice_index text (end - 1)) ≡ true
 
 -- at the index there is a '%' that does not begin an escape
 pub record LonePercent (text : List ℕ) (place : ℕ) : Type 0 where
