@@ -165,15 +165,7 @@ pub values-append : (a b : List ℕ) → values (a ++ b) ≡ values a ++ values 
 unfolding values
 values-append a b = grind (arith, filter-append, map-append)
 
-valid_by : (x y : List ℕ) → fault_byte false x ≡ fault_byte false y
-    → length (filter is_symbol x) % 4 ≡ length (filter is_symbol y) % 4
-    → min (length (filter is_pad x)) 3 ≡ min (length (filter is_pad y)) 3 → is_valid x ≡ is_valid y
-valid_by x y e f g = grind (arith, no_fault_valid, fault_invalid)
-
 module _ (a b w : List ℕ) (st : Stands a w) where
-  fault_both : fault_byte false (a ++ b) ≡ fault_byte false (w ++ b)
-  fault_both = grind (arith, fault-append)
-
   symbols_left : (t : List ℕ) → filter is_symbol (w ++ t) ≡ after_groups (filter is_symbol a) ++ filter is_symbol t
   symbols_left t = filter-append is_symbol w t ∙ ap (λ x. x ++ filter is_symbol t) st.symbols
 
@@ -181,25 +173,16 @@ module _ (a b w : List ℕ) (st : Stands a w) where
   unfolding values
   values_left t = grind (arith, symbols_left, map-append, after_groups-map)
 
-  length_symbols : length (filter is_symbol (a ++ b)) % 4 ≡ length (filter is_symbol (w ++ b)) % 4
-  length_symbols = grind (arith, filter-append, length_alike)
-
   length_values : length (values (a ++ b)) % 4 ≡ length (values (w ++ b)) % 4
   unfolding values
-  length_values = grind (arith, length-map, length_symbols)
+  length_values = grind (arith, length-map, filter-append, length_alike)
 
   length_pads : min (length (filter is_pad (a ++ b))) 3 ≡ min (length (filter is_pad (w ++ b))) 3
   length_pads = grind (arith, filter-append, length-append)
 
-  done_first : complete_bytes a ≡ groups (values a)
-  done_first = done_is a ∙ ap (λ x. groups (values x)) (before_none a false st.no_fault)
-
   -- the groups of a and then t
   groups_both : (t : List ℕ) → groups (values (a ++ t)) ≡ complete_bytes a ++ groups (values (w ++ t))
-  groups_both t = grind (arith, values-append, groups-append, done_first, values_left)
-
-  done_both : complete_bytes (a ++ b) ≡ complete_bytes a ++ complete_bytes (w ++ b)
-  done_both = grind (arith, done_is, before-append, groups_both)
+  groups_both t = grind (arith, values-append, groups-append, done_is, before_none, values_left)
 
   after_both : after_groups (values (a ++ b)) ≡ after_groups (values (w ++ b))
   after_both = grind (arith, values-append, after_groups-append, values_left)
@@ -222,15 +205,18 @@ module _ (a b w : List ℕ) (st : Stands a w) where
       search (
         arith,
         done_is,
-        done_both,
+        before-append,
+        groups_both,
         fault_some,
-        fault_both,
+        fault-append,
         kind_is,
         length_values,
         left_both,
         padding_both,
-        valid_by,
-        length_symbols,
+        no_fault_valid,
+        fault_invalid,
+        filter-append,
+        length_alike,
         length_pads,
         decoded_both,
       )

@@ -149,14 +149,10 @@ module _ {F E : Type 0} (step : F → List ℕ → Result (Unit {0}) E → F →
         gave = grind (arith, match_at, refusal-append, told_call, match_none);
       }
 
-  quiet_feeds : {d d1 d2 : State F} {t : List ℕ} {r : Result (Unit {0}) (DecodeError E)} → Holds step d t [] d1
-      → r ≡ Ok tt → d2 ≡ d1 → Feeds step d t r d2
-  quiet_feeds {d} {d1} {d2} {t} {r} h e same = grind (arith, append-nil)
-
   -- reading t, and then flushing the bytes that are held, feeds t
   pub flushed_feeds : {d d1 d2 : State F} {t : List ℕ} {r : Result (Unit {0}) (DecodeError E)} (held : List ℕ)
       → Holds step d t held d1 → Flushes step d1 held r d2 → Feeds step d t r d2
-  flushed_feeds [] h f = quiet_feeds h f.0 f.1
+  flushed_feeds [] h f = grind (arith, append-nil)
   flushed_feeds (b ∷ bs) h f = written_feeds h (omega (arith, h.calls)) f
 
   -- symbols that are held; the closure is called with their first groups as one piece
@@ -297,12 +293,6 @@ module _ {F E : Type 0} (step : F → List ℕ → Result (Unit {0}) E → F →
   pub stays_holds : {d d1 d2 : State F} {t held held' : List ℕ} {c : ℕ} {kind : Kind} → Holds step d t held d1
       → Refuses d1 c kind d2 → held' ≡ held → Holds step d t held' d2
   stays_holds {d} {d1} {d2} {t} {held} {held'} h f e = grind arith
-
-  -- d reads `taken` more bytes of s after the first `at` bytes
-  pub gains_holds : {d d1 d2 : State F} {held held' : List ℕ} {taken : ℕ} (s : List ℕ) (at : ℕ)
-      → Holds step d (take at s) held d1 → Gains d1 held (take (length s - at) (drop at s)) taken d2 held'
-      → Holds step d (take (at + taken) s) held' d2
-  gains_holds {d} {d1} {d2} {held} {held'} {taken} s at h g = grind (arith, take_rest, take-add, holds_adds)
 
   -- if the closure returns an error for the bytes that are held, so does feeding s
   pub flush_refused : {d d1 d2 : State F} {x : DecodeError E} (s : List ℕ) (at : ℕ) (held : List ℕ)

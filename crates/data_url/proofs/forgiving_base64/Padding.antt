@@ -106,18 +106,12 @@ module _ (space pad symbol : ℕ → Bool) where
   byte_at b None = None
   byte_at b (Some i) = Some (get_or b i 0)
 
-  any_push : (p : List ℕ) (c : ℕ) → list_any pad (p ++ c ∷ []) ≡ (list_any pad p || pad c)
-  any_push p c = list_any-append pad p (c ∷ []) ∙ ap (λ x. list_any pad p || x) (or-false (pad c))
-
-  bad_here : (p t : List ℕ) (c : ℕ) → is_bad_at (p ++ c ∷ t) (length p) ≡ is_bad (list_any pad p) c
-  bad_here p t c = grind (arith, get_or_at, take_at)
-
   -- the search by places is the walk
   pub find_walk : (p b : List ℕ) → find (is_bad_at (p ++ b)) (range_with_len (length p) (length b)) ≡ stop_place
       (length p) (list_any pad p) b
   find_walk p [] = refl
   find_walk p (c ∷ t) =
-      grind (arith, bad_here, append_assoc, length_push, find_walk (p ++ c ∷ []) t, any_push)
+      grind (arith, get_or_at, take_at, append_assoc, length_push, find_walk (p ++ c ∷ []) t, list_any-append, or-false)
 
   -- the bytes of p ++ b before the place where a walk over b stops are p and then those that the walk passes
   pub before_walk : (p b : List ℕ) (n : ℕ) (s : Bool) → length p ≡ n
@@ -304,19 +298,11 @@ fits_with r (suc (suc (suc p))) = false
 
 -- Removing padding from the end
 
--- '=' is not a symbol
-pub is_symbol_pad : is_symbol 61 ≡ false
-is_symbol_pad = refl
-
--- a symbol is not '='
-pub symbol_no_pad : (c : ℕ) → is_symbol c ≡ true → eqb c 61 ≡ false
-symbol_no_pad c h = ne_eqb c 61 (λ e. false≢true (sym is_symbol_pad ∙ ap is_symbol (sym e) ∙ h))
-
 -- symbols have no '=' at their end to remove
 pub without_pad_symbols : (q : List ℕ) → Every is_symbol q → without_last_padding q ≡ q
 unfolding without_last_padding
 without_pad_symbols [] h = refl
-without_pad_symbols (a ∷ []) h = cond-false (eqb a 61) [] (a ∷ []) (symbol_no_pad a h.0)
+without_pad_symbols (a ∷ []) h = grind (arith, cond-false, ne_eqb, false≢true)
 without_pad_symbols (a ∷ b ∷ t) h = ap (λ x. a ∷ x) (without_pad_symbols (b ∷ t) h.1)
 
 without_pad_more : (a : ℕ) (t : List ℕ) → without_last_padding (a ∷ t ++ 61 ∷ []) ≡ a ∷ without_last_padding
@@ -372,10 +358,6 @@ unpadded_symbols q h = grind (arith, without_pad_symbols)
 length_pads : (q : List ℕ) (n : ℕ) → length (q ++ replicate n 61) ≡ length q + n
 length_pads q n = length-append q (replicate n 61) ∙ ap (λ x. length q + x) (length-replicate n 61)
 
--- without padding
-none_passes : (q : List ℕ) → Every is_symbol q → passes (without_padding (q ++ [])) ≡ fits_with (length q % 4) 0
-none_passes q h = grind (arith, append-nil, unpadded_symbols, passes_symbols)
-
 one_true : (k m : ℕ) → m ≡ k + 1 → eqb (m % 4) 0 ≡ true → not (eqb (k % 4) 1) ≡ eqb (k % 4) 3
 one_true k m l e = grind arith
 
@@ -422,7 +404,7 @@ more_passes q n = search (arith, passes_cond, passes_pads, without_pad_pads)
 
 symbols_pads_pass : (q : List ℕ) (p : ℕ) → Every is_symbol q → passes (without_padding (q ++ replicate p 61))
     ≡ fits_with (length q % 4) p
-symbols_pads_pass q zero h = none_passes q h
+symbols_pads_pass q zero h = grind (arith, append-nil, unpadded_symbols, passes_symbols)
 symbols_pads_pass q (suc zero) h = one_passes q h
 symbols_pads_pass q (suc (suc zero)) h = two_passes q h
 symbols_pads_pass q (suc (suc (suc n))) h = more_passes q n

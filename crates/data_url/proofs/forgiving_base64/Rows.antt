@@ -34,12 +34,9 @@ clear_map : (f : ℕ → ℕ) (xs : List ℕ) (m : ℕ) → clear (map f xs) m �
 clear_map f [] m = refl
 clear_map f (x ∷ xs) m = grind (arith, clear_map f xs (m / 2))
 
-clear_odd : (x : ℕ) (xs : List ℕ) (m : ℕ) → clear (x ∷ xs) (1 + 2 * m) ≡ clear xs m
-clear_odd x xs m = grind arith
-
 clear_mask : (v : List ℕ) → clear v (others_mask v) ≡ filter is_symbol v
 clear_mask [] = refl
-clear_mask (x ∷ v) = grind (arith, clear_mask v, clear_odd)
+clear_mask (x ∷ v) = grind (arith, clear_mask v)
 
 -- The table of places
 
@@ -366,13 +363,9 @@ three_last s len long few =
 
 -- The bytes of the first groups
 
--- a symbol is below 256
-pub symbol_lt : (b : ℕ) → is_symbol b ≡ true → b < 256
-symbol_lt b h = grind arith
-
 fits_symbols : (s : List ℕ) → list_all is_symbol s ≡ true → (i : ℕ) → Fits w8 (get_or s i 0)
 fits_symbols [] h i = record { fits = omega arith }
-fits_symbols (b ∷ s) h zero = record { fits = symbol_lt b (and_parts (is_symbol b) (list_all is_symbol s) h).0 }
+fits_symbols (b ∷ s) h zero = grind (arith, and_parts)
 fits_symbols (b ∷ s) h (suc i) = fits_symbols s (and_parts (is_symbol b) (list_all is_symbol s) h).1 i
 
 -- the bytes of 64 values begin with those of up to 16 groups of the first len bytes, if these are symbols

@@ -71,10 +71,6 @@ module _ (q : List ℕ) (p : ℕ) (every : Every is_symbol q) where
   pub fault_more : (t : List ℕ) → fault_byte false (left_text q p ++ t) ≡ fault_byte (has_pad p) t
   fault_more t = grind (arith, fault-append, fault_text, any_of_text)
 
-  -- the bytes before the fault of q, p times '=' and then t are q, the '=' and those of t before its fault
-  pub before_more : (t : List ℕ) → before_fault false (left_text q p ++ t) ≡ left_text q p ++ before_fault (has_pad p) t
-  before_more t = grind (arith, before-append, fault_text, any_of_text)
-
   -- the symbols of q, p times '=' and then t are q and those of t
   pub symbols_more : (t : List ℕ) → filter is_symbol (left_text q p ++ t) ≡ q ++ filter is_symbol t
   symbols_more t = grind (arith, filter-append, symbols_of_text)
@@ -107,11 +103,6 @@ module _ (q : List ℕ) (p : ℕ) (every : Every is_symbol q) where
   pub padding_more : (t : List ℕ) → left_padding (left_text q p ++ t) ≡ min (p + length (filter is_pad t)) 3
   unfolding left_padding
   padding_more t = ap (λ x. min x 3) (pads_more t)
-
-  -- if c is a fault after at most three symbols and p times '=', no group is complete
-  pub done_bad : (c : ℕ) → length q ≤ 3 → fault_byte (has_pad p) (c ∷ []) ≡ Some c
-      → complete_bytes (left_text q p ++ c ∷ []) ≡ []
-  done_bad c few h = grind (arith, done_is, before_more, before_one, append-nil, values_left, groups_few, length-map)
 
   -- q and p times '=' are valid exactly if p fits the number of symbols
   pub valid_left : is_valid (left_text q p) ≡ fits_with (length q % 4) p
@@ -185,10 +176,6 @@ four_groups a b c e = refl
 four_after : (a b c e : ℕ) → after_groups (a ∷ b ∷ c ∷ e ∷ []) ≡ []
 unfolding after_groups
 four_after a b c e = refl
-
-decoded_few : (q : List ℕ) → length q ≤ 3
-    → groups (map symbol_value q) ++ rest_bytes (after_groups (map symbol_value q)) ≡ rest_bytes (map symbol_value q)
-decoded_few q few = grind (arith, length-map, groups_few, after_few)
 
 min_same : (p : ℕ) → p ≤ 3 → p ≡ min (p + 0) 3
 min_same p h = omega arith
@@ -323,27 +310,49 @@ module _ {F : Type 0} where
       same (symbols ∙ sym (ap after_groups all ∙ four_after x y z c))
       (padding ∙ ap (λ p. min (p + 0) 3) (sym is_p)) failed
 
-  -- a bad byte
-  refuses_bad : {d d' : State F} {kind : Kind} (c : ℕ) → Every is_symbol d.symbols → length d.symbols ≤ 3
-      → fault_byte (has_pad d.padding) (c ∷ []) ≡ Some c → d' ≡ d → kind ≡ cond (is_symbol c) AlphabetSymbolAfterPadding
-      (UnexpectedSymbol c) → Refuses d c kind d'
-  refuses_bad {d} c every few bad same told = grind (arith, fault_some, fault_more, kind_is, done_bad)
-
   -- if d has padding, it refuses a symbol
   pub refuses_after : {d d' : State F} (c : ℕ) → Every is_symbol d.symbols → length d.symbols ≤ 3 → 1 ≤ d.padding
       → is_symbol c ≡ true → d' ≡ d → Refuses d c AlphabetSymbolAfterPadding d'
   refuses_after {d} c every few pads symbol same =
-      refuses_bad c every few (ap (λ s. fault_byte s (c ∷ [])) (has_pad_some d.padding pads) ∙ fault_after c symbol)
-      same
-      (ap (λ v. cond v AlphabetSymbolAfterPadding (UnexpectedSymbol c)) (sym symbol))
+      grind (
+        arith,
+        has_pad_some,
+        fault_after,
+        fault_some,
+        fault_more,
+        kind_is,
+        done_is,
+        before-append,
+        fault_text,
+        any_of_text,
+        before_one,
+        append-nil,
+        values_left,
+        groups_few,
+        length-map,
+      )
 
   -- d refuses a byte that is neither whitespace nor '=' nor a symbol
   pub refuses_other : {d d' : State F} (c : ℕ) → Every is_symbol d.symbols → length d.symbols ≤ 3
       → is_ascii_whitespace c ≡ false → is_pad c ≡ false → is_symbol c ≡ false → d' ≡ d
       → Refuses d c (UnexpectedSymbol c) d'
   refuses_other {d} c every few space pad symbol same =
-      refuses_bad c every few (fault_other c (has_pad d.padding) space pad symbol) same
-      (ap (λ v. cond v AlphabetSymbolAfterPadding (UnexpectedSymbol c)) (sym symbol))
+      grind (
+        arith,
+        fault_other,
+        fault_some,
+        fault_more,
+        kind_is,
+        done_is,
+        before-append,
+        fault_text,
+        any_of_text,
+        before_one,
+        append-nil,
+        values_left,
+        groups_few,
+        length-map,
+      )
 
 module _ {F E : Type 0} (step : F → List ℕ → Result (Unit {0}) E → F → Type 0) where
   -- feeding the empty text returns `Ok`, and d does not change
@@ -360,35 +369,6 @@ module _ {F E : Type 0} (step : F → List ℕ → Result (Unit {0}) E → F →
 
   -- The end
 
-  -- if the padding of d fits its symbols, what is left over in d is valid
-  pub valid_fits : (d : State F) (k : ℕ) → Every is_symbol d.symbols → length d.symbols ≡ k → Fits k d.padding
-      → is_valid (left_over d) ≡ true
-  valid_fits d k every count h = grind (arith, valid_left)
-
-  invalid_unfit : (d : State F) (k : ℕ) → Every is_symbol d.symbols → length d.symbols ≡ k → (Fits k d.padding → ⊥)
-      → is_valid (left_over d) ≡ false
-  invalid_unfit d k every count h = grind (arith, valid_left)
-
-  -- if d has one symbol, the fault at the end is a lone symbol
-  pub lone_fault : (d : State F) (k : ℕ) → Every is_symbol d.symbols → length d.symbols ≡ k → k ≡ 1
-      → (Fits k d.padding → ⊥) → IsFaultAtEnd d (Some LoneAlphabetSymbolDetails)
-  lone_fault d k every count one h = grind (arith, invalid_unfit, kind_left)
-
-  -- if d has at most three symbols, but not one, and padding that does not fit, the fault at the end is padding
-  pub padding_fault : (d : State F) (k : ℕ) → Every is_symbol d.symbols → length d.symbols ≡ k → k ≤ 3 → k ≢ 1
-      → (Fits k d.padding → ⊥) → IsFaultAtEnd d (Some PaddingDetails)
-  padding_fault d k every count few many h = grind (arith, invalid_unfit, kind_left)
-
-  decoded_rest : (d : State F) (q : List ℕ) → Every is_symbol d.symbols → d.symbols ≡ q → length q ≤ 3
-      → decoded (left_over d) ≡ rest_bytes (map symbol_value q)
-  decoded_rest d q every is_q few = grind (arith, decoded_left, decoded_few)
-
-  -- the closure was called with the bytes of what is left over
-  pub flushes_rest : (d d' : State F) {r : Result (Unit {0}) (DecodeError E)} (q piece : List ℕ)
-      → Every is_symbol d.symbols → d.symbols ≡ q → length q ≤ 3 → piece ≡ rest_bytes (map symbol_value q)
-      → 0 < length piece → CallsOnce step d piece r d' → Flushes step d (decoded (left_over d)) r d'
-  flushes_rest d d' {r} q piece every is_q few is_piece some w = grind (arith, decoded_rest)
-
   no_items : (s : List ℕ) → length s ≡ 0 → s ≡ []
   no_items [] h = refl
   no_items (a ∷ s) h = absurd (omega arith)
@@ -396,7 +376,7 @@ module _ {F E : Type 0} (step : F → List ℕ → Result (Unit {0}) E → F →
   -- if what is left over is valid and has at most one symbol, it decodes to no bytes: d makes no call
   pub flushes_nothing : (d : State F) (k : ℕ) → Every is_symbol d.symbols → length d.symbols ≡ k → k ≤ 1
       → is_valid (left_over d) ≡ true → Flushes step d (decoded (left_over d)) (Ok tt) d
-  flushes_nothing d zero every count few valid = grind (arith, decoded_rest, no_items)
+  flushes_nothing d zero every count few valid = grind (arith, decoded_left, length-map, groups_few, after_few, no_items)
   flushes_nothing d (suc zero) every count few valid = grind (arith, valid_left)
   flushes_nothing d (suc (suc k)) every count few valid = absurd (omega arith)
 

@@ -22,13 +22,10 @@ use Rattle.data_url.proofs.texts.Bytes.{dropped_keeps, dropped_nil}
 digit_byte : (d : ℕ) → d < 16 → is_fragment_byte (hex_digit d) ≡ true
 digit_byte d l = agree_below_at (λ d. is_fragment_byte (hex_digit d)) (λ d. true) 16 d refl l
 
-byte_encoded : (b : ℕ) → b < 256 → Every is_fragment_byte (encoded_byte in_fragment_set b)
-byte_encoded b l = grind (arith, digit_byte)
-
 -- the percent-encoding of a fragment has only bytes that an encoded fragment can have
 pub fragment_bytes : (s : List ℕ) → IsBytes s → Every is_fragment_byte (percent_encoding in_fragment_set s)
 fragment_bytes [] h = subst (Every is_fragment_byte) (sym (encoded_nil in_fragment_set)) tt
-fragment_bytes (b ∷ s) h = grind (arith, encoded_cons, byte_encoded, fragment_bytes s h.1)
+fragment_bytes (b ∷ s) h = grind (arith, encoded_cons, digit_byte, fragment_bytes s h.1)
 
 -- Such bytes stay as they are
 
@@ -37,9 +34,6 @@ excludes p b = not (is_fragment_byte b && p b)
 
 excluded : (p : ℕ → Bool) (b : ℕ) → excludes p b ≡ true → is_fragment_byte b ≡ true → p b ≡ false
 excluded p b e h = false_from_ne_true (p b) (λ k. both_ways (excludes p b) (ap (λ v. not (v && p b)) h ∙ ap not k) e)
-
-not_low : (b : ℕ) → is_fragment_byte b ≡ true → is_c0_control_or_space b ≡ false
-not_low b h = grind arith
 
 not_dropped : (b : ℕ) → is_fragment_byte b ≡ true → is_tab_or_newline b ≡ false
 not_dropped b h = grind arith
@@ -54,19 +48,16 @@ dropped_itself (b ∷ t) h = dropped_keeps b t (not_dropped b h.0) ∙ ap (λ s.
 
 no_low_front : (t : List ℕ) → Every is_fragment_byte t → prefix_len is_c0_control_or_space t ≡ 0
 no_low_front [] h = refl
-no_low_front (b ∷ t) h = cond-false (is_c0_control_or_space b) _ 0 (not_low b h.0)
+no_low_front (b ∷ t) h = grind (arith, cond-false)
 
 every_reverse : (t : List ℕ) → Every is_fragment_byte t → Every is_fragment_byte (reverse t)
 every_reverse [] h = tt
 every_reverse (b ∷ t) h = subst (Every is_fragment_byte) (sym (reverse-append (b ∷ []) t))
     (every_append is_fragment_byte (reverse t) (b ∷ []) (every_reverse t h.1) (h.0, tt))
 
-no_low_end : (t : List ℕ) → Every is_fragment_byte t → suffix_len is_c0_control_or_space t ≡ 0
-no_low_end t h = no_low_front (reverse t) (every_reverse t h)
-
 trimmed_itself : (t : List ℕ) → Every is_fragment_byte t → trimmed_text t ≡ t
 unfolding trimmed_text
-trimmed_itself t h = grind (arith, no_low_end, take_all)
+trimmed_itself t h = grind (arith, no_low_front, every_reverse, take_all)
 
 cleaned_itself : (t : List ℕ) → Every is_fragment_byte t → cleaned_text t ≡ t
 unfolding cleaned_text

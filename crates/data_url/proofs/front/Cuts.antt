@@ -32,25 +32,13 @@ pub record Spells (s : List ℕ) (n : ℕ) : Type 0 where
   pub open_at : n < 5
   pub spelled : map to_ascii_lowercase (without_tabs_and_newlines s) ≡ take n scheme
 
--- the empty text spells no byte of the scheme
-pub spells_nothing : Spells [] 0
-spells_nothing = record { open_at = omega arith; spelled = ap (map to_ascii_lowercase) dropped_nil }
-
-dropped_one_passes : (b : ℕ) → is_tab_or_newline b ≡ true → (s : List ℕ)
-    → without_tabs_and_newlines (s ++ b ∷ []) ≡ without_tabs_and_newlines s
-dropped_one_passes b h s = grind (arith, without_tabs_and_newlines-append, dropped_passes, dropped_nil, append-nil)
-
-dropped_one_keeps : (b : ℕ) → is_tab_or_newline b ≡ false → (s : List ℕ)
-    → without_tabs_and_newlines (s ++ b ∷ []) ≡ without_tabs_and_newlines s ++ b ∷ []
-dropped_one_keeps b h s = grind (arith, without_tabs_and_newlines-append, dropped_keeps, dropped_nil)
-
 -- a tab or newline after a text does not change how many bytes of the scheme it spells
 pub spells_passed : (s : List ℕ) (n b : ℕ) → Spells s n → is_tab_or_newline b ≡ true → Spells (s ++ b ∷ []) n
-spells_passed s n b h e = grind (arith, dropped_one_passes)
+spells_passed s n b h e = grind (arith, without_tabs_and_newlines-append, dropped_passes, dropped_nil, append-nil)
 
 one_more : (s : List ℕ) (n b : ℕ) → Spells s n → is_tab_or_newline b ≡ false → to_ascii_lowercase b ≡ get_or scheme n 0
     → map to_ascii_lowercase (without_tabs_and_newlines (s ++ b ∷ [])) ≡ take (n + 1) scheme
-one_more s n b h e same = grind (arith, dropped_one_keeps, map-append)
+one_more s n b h e same = grind (arith, without_tabs_and_newlines-append, dropped_keeps, dropped_nil, map-append)
 
 -- if the byte after a text is, in lower case, the next byte of the scheme, but not the last one, the text with that
 -- byte spells one byte more
@@ -105,10 +93,6 @@ differs text s n b rest h e ne is =
           to_ascii_lowercase ∙ spelled_length s n h),
     ) in
     ne (sym at_n ∙ ap (λ t. get_or t n 0) whole))
-
--- a byte of the scheme, in any ASCII case, is ASCII
-pub scheme_is_ascii : (n b : ℕ) → n < 5 → to_ascii_lowercase b ≡ get_or scheme n 0 → b < 128
-scheme_is_ascii n b l e = grind arith
 
 -- The scheme as it is commonly spelled
 
@@ -207,10 +191,6 @@ at_none s m h e =
     let no_comma = after_none 44 s (λ k l. (or_parts (get_or s k 0 == 44) (get_or s k 0 == 35) (fails k l)).0) in
     let no_hash = after_none 35 s (λ k l. (or_parts (get_or s k 0 == 44) (get_or s k 0 == 35) (fails k l)).1) in
     ap (after 44) (before_all 35 s no_hash) ∙ no_comma
-
--- the byte at the index of the first ',' or '#' is ASCII
-pub is_ascii_end : (s : List ℕ) (n : ℕ) → IsFrontEnd s n → get_or s n 0 < 128
-is_ascii_end s n f = ⊎_elim (λ h. omega arith) (λ h. omega arith) f.is
 
 -- The bytes of a path that are serialised as they are
 

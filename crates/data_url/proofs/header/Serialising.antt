@@ -92,12 +92,6 @@ dropped_end s m n e at =
     (suffix_passes is_tab_or_newline s m ((n + 1) + k) e (omega arith) within)) in
     cc (dropped_around (get_or s n 0) kept (take n s) (drop (n + 1) s))
 
--- if a path ends with a space at index n and then only tabs and newlines, the first n bytes are the path without its
--- last space
-pub without_space : (s : List ℕ) (m n : ℕ) → m ≡ suffix_len is_tab_or_newline s → length s ≡ (n + 1) + m
-    → get_or s n 0 ≡ 32 → WithoutSpace s (take n s)
-without_space s m n e at is = dropped_end s m n e at ∙ ap (λ b. without_tabs_and_newlines (take n s) ++ b ∷ []) is
-
 -- if the last byte of a path that is not a tab or newline is not a space, the path has no last space
 pub has_other_end : (s : List ℕ) (m n : ℕ) → m ≡ suffix_len is_tab_or_newline s → length s ≡ (n + 1) + m
     → get_or s n 0 ≢ 32 → HasNoLastSpace s
@@ -133,11 +127,6 @@ header_and_query path rest h =
       after_at,
     )
 
--- nothing after a path
-nothing_after : (path : List ℕ) → encoded_parts path [] [] ≡ percent_encoding in_path_set
-    (without_tabs_and_newlines path)
-nothing_after path = grind (arith, dropped_nil, encoded_nil, append-nil)
-
 -- a text whose length is not zero is not empty
 pub some_bytes : (s : List ℕ) (v : Bool) → v ≡ (length s == 0) → v ≡ false → s ≢ []
 some_bytes [] v e f n = absurd (let k : true ≡ false = sym e ∙ f in cc)
@@ -146,7 +135,7 @@ some_bytes (b ∷ s) v e f n = absurd (let k = n in cc)
 -- if the path has no last space, or there is no query, the encoded path and query are the serialised header
 pub parts_whole : (header path query : List ℕ) → IsPathAndQuery header path query → (query ≡ []) ⊎ HasNoLastSpace path
     → encoded_parts path [] query ≡ header_text (without_tabs_and_newlines header)
-parts_whole header path query h end = grind (arith, nothing_after, header_alone, append-nil, header_and_query)
+parts_whole header path query h end = grind (arith, dropped_nil, encoded_nil, header_alone, append-nil, header_and_query)
 
 -- if the path has a last space, and there is a query, the encoded path without that space, "%20", and the encoded query
 -- are the serialised header
@@ -219,12 +208,9 @@ ends_dropped s (last init b e h) =
     last (without_tabs_and_newlines init) b
     (cc (without_tabs_and_newlines-append init (b ∷ []))) h
 
-drop_nothing : (n : ℕ) → ◌≡◌ {A = List ℕ} (drop n []) []
-drop_nothing n = drop_of_length-le [] (omega arith)
-
 -- so does removing bytes from the front, unless nothing is left
 ends_after : (n : ℕ) (s : List ℕ) → Ends s → Ends (drop n s)
-ends_after n s (nothing e) = nothing (ap (drop n) e ∙ drop_nothing n)
+ends_after n s (nothing e) = grind (arith, drop_of_length-le)
 ends_after n s (last init b e h) = elim (cases_lt (length init) n) [
   | inl l ↦ grind (arith, length-append, drop_of_length-le)
   | inr l ↦ last (drop n init) b (ap (drop n) e ∙ drop-append-le n init (b ∷ []) l) h
@@ -300,18 +286,12 @@ comma_before x y rest h =
     ap (before 44) joined ∙ before_at 44 (before 44 x) (rest ++ y) cut.lacks in
     ap (option_map (λ r. before 44 (x ++ y))) found ∙ ap Some front
 
--- the header of a text whose first comma, if there is one, comes after its '?'
-comma_after : (u query : List ℕ) → after 44 u ≡ None → (o : Option (List ℕ)) → after 44 query ≡ o
-    → before_comma (u ++ 63 ∷ query) ≡ option_map (λ r. u ++ 63 ∷ before 44 query) o
-comma_after u query h o e = grind (arith, after-append, after_other, before-append, before_other)
-
 flag_after : (u v query : List ℕ) → after 44 u ≡ None → after 44 v ≡ None → (o : Option (List ℕ))
     → after 44 query ≡ o
     → base64_flag (u ++ 63 ∷ query) ≡ base64_flag (v ++ 63 ∷ query)
-flag_after u v query h k None e =
-    ap (option_map has_base64_suffix) (comma_after u query h None e ∙ sym (comma_after v query k None e))
+flag_after u v query h k None e = grind (arith, after-append, after_other, before-append, before_other)
 flag_after u v query h k (Some rest) e =
-    cc (comma_after u query h (Some rest) e, same_flag u v (before 44 query), comma_after v query k (Some rest) e)
+    grind (arith, same_flag, after-append, after_other, before-append, before_other)
 
 no_comma_in_escape : after 44 (codes "%20") ≡ None
 unfolding after

@@ -70,20 +70,9 @@ header_text_printable s h = printable_at (header_text s) (header_all s h)
 
 -- Parts of printable texts
 
--- a printable text without its first n bytes is printable
-pub printable_drop : (n : ℕ) (s : List ℕ) → IsPrintable s → IsPrintable (drop n s)
-printable_drop n s h i l = grind (arith, get_or-drop, length-drop)
-
 -- the first n bytes of a printable text are printable
 pub printable_take : (n : ℕ) (s : List ℕ) → IsPrintable s → IsPrintable (take n s)
 printable_take n s h i l = grind (arith, length-take, get_or-take)
-
-printable_reverse : (s : List ℕ) → IsPrintable s → IsPrintable (reverse s)
-printable_reverse s h i l = grind (arith, length-reverse, get_or-reverse)
-
--- a printable text is ASCII
-pub printable_ascii : (s : List ℕ) → IsPrintable s → IsAscii s
-printable_ascii s h i = grind (arith, get_or_past)
 
 -- Spaces are the only low bytes
 
@@ -96,17 +85,17 @@ low_front (b ∷ s) h = cc (low_is_space b (h 0 (omega arith)).0, low_front s (�
 
 -- in a printable text, the longest suffix of C0 controls and spaces is as long as that of spaces
 pub low_end : (s : List ℕ) → IsPrintable s → suffix_len is_c0_control_or_space s ≡ suffix_len is_space s
-low_end s h = low_front (reverse s) (printable_reverse s h)
+low_end s h = grind (arith, low_front, length-reverse, get_or-reverse)
 
 -- a printable text without C0 controls and spaces at both ends is the text without spaces at both ends
 pub trimmed_is_stripped : (s : List ℕ) → IsPrintable s → trimmed_text s ≡ stripped_header s
 unfolding trimmed_text stripped_header
-trimmed_is_stripped s h = grind (arith, low_front, low_end, printable_drop)
+trimmed_is_stripped s h = grind (arith, low_front, low_end, get_or-drop, length-drop)
 
 -- a printable text without spaces at both ends is printable
 pub printable_stripped : (s : List ℕ) → IsPrintable s → IsPrintable (stripped_header s)
 unfolding stripped_header
-printable_stripped s h = grind (arith, printable_take, printable_drop)
+printable_stripped s h = grind (arith, printable_take, get_or-drop, length-drop)
 
 -- From the input, cut after its scheme and at its first comma, to the stages of the Standard.
 
@@ -300,11 +289,6 @@ pub bytes_by_place : (s : List ℕ) → ((i : ℕ) → get_or s i 0 < 256) → I
 bytes_by_place [] h = tt
 bytes_by_place (b ∷ s) h = (h 0, bytes_by_place s (λ i. h (suc i)))
 
--- the serialised text of a header is printable, if the header is a text of bytes
-pub header_printable : (s : List ℕ) → ((i : ℕ) → get_or s i 0 < 256)
-    → IsPrintable (header_text (without_tabs_and_newlines s))
-header_printable s h = header_text_printable (without_tabs_and_newlines s) (bytes_dropped s (bytes_by_place s h))
-
 -- The default record
 
 -- the default record is well-formed
@@ -346,7 +330,7 @@ plain_added (c ∷ s) h = cond-true (c == 59) (codes "text/plain" ++ c ∷ s) (c
 
 -- the code points of printable bytes are the bytes
 pub chars_printable : (s : List ℕ) → IsPrintable s → chars s ≡ s
-chars_printable s h = chars-IsAscii s (printable_ascii s h)
+chars_printable s h = grind (arith, chars-IsAscii, get_or_past)
 
 -- The suffix
 

@@ -33,15 +33,6 @@ pub no_word : (s : List ℕ) → (map to_ascii_lowercase (last_bytes 6 s) ≡ wo
 unfolding before_base64
 no_word s h = grind (arith, bytes_eq-Decides)
 
--- a text of less than six bytes has no base64 suffix
-pub too_short : (s : List ℕ) → length s < 6 → before_base64 s ≡ None
-too_short s l = grind (arith, no_word, length-map)
-
--- the same, if the last six bytes begin at index n
-pub other_word : (s : List ℕ) (n : ℕ) → n + 6 ≡ length s → (map to_ascii_lowercase (drop n s) ≡ word → ⊥)
-    → before_base64 s ≡ None
-other_word s n e h = grind (arith, no_word)
-
 -- the word is at the end, and there are that many spaces before it
 pub record HasWord (s : List ℕ) (n spaces : ℕ) : Type 0 where
   pub six : n + 6 ≡ length s
@@ -119,9 +110,6 @@ suffix_stop p x q b f =
           ≡ length (reverse q) = eqb-true _ _ e in omega (arith, k, none)) (λ e. refl),
     )
 
-front_stop : (p : ℕ → Bool) (x q : List ℕ) (b : ℕ) → p b ≡ false → prefix_len p (x ++ b ∷ q) ≤ length x
-front_stop p x q b f = grind (arith, prefix_len-append, prefix_len-le-length)
-
 end_after : (x q : List ℕ) → without_end is_space (x ++ 63 ∷ q) ≡ x ++ 63 ∷ without_end is_space q
 end_after x q =
     let few = suffix_len-le-length is_space q in
@@ -133,7 +121,7 @@ end_after x q =
 stripped_after : (x q : List ℕ) → stripped_header (x ++ 63 ∷ q) ≡ drop (prefix_len is_space (x ++ 63 ∷ q))
     x ++ 63 ∷ without_end is_space q
 unfolding stripped_header
-stripped_after x q = grind (arith, drop-append-le, front_stop, end_after)
+stripped_after x q = grind (arith, drop-append-le, prefix_len-append, prefix_len-le-length, end_after)
 
 -- The word
 
@@ -190,10 +178,7 @@ suffix_after x q l =
     let f : List ℕ → Option (List ℕ) = λ m. before_semicolon (without_end is_space m) in
     cc (append_assoc x (63 ∷ []) q, word_after (x ++ 63 ∷ []) q l, by_word x (before_word q))
 
-same_suffix : (x z q : List ℕ) → is_some (before_base64 (x ++ 63 ∷ q)) ≡ is_some (before_base64 (z ++ 63 ∷ q))
-same_suffix x z q = grind (arith, too_near, suffix_after)
-
 -- the flag does not depend on the text before the '?'
 pub same_flag : (a b query : List ℕ) → has_base64_suffix (a ++ 63 ∷ query) ≡ has_base64_suffix (b ++ 63 ∷ query)
 unfolding has_base64_suffix
-same_flag a b query = grind (arith, stripped_after, same_suffix)
+same_flag a b query = grind (arith, stripped_after, too_near, suffix_after)

@@ -98,10 +98,6 @@ lower_chars bs u h =
 
 -- Names compared in any case
 
--- the bytes of a token text are its code points
-pub name_bytes : (bs : List ℕ) → IsUtf8 bs → is_token_text (chars bs) ≡ true → bs ≡ chars bs
-name_bytes bs u h = bytes_of_ascii bs u (token_text_ascii (chars bs) h)
-
 -- a lower-case name in lower case is the name itself
 pub lower_is_itself : (t : List ℕ) → is_lowercase_name t ≡ true → map to_ascii_lowercase t ≡ t
 lower_is_itself t h = grind (arith, equal_from_test)
@@ -112,16 +108,12 @@ lowercase_token t h = (and_parts (is_token_text t) (bytes_eq (map to_ascii_lower
 
 both_lower : (k n : List ℕ) → IsUtf8 k → IsUtf8 n → is_lowercase_name (chars k) ≡ true → is_token_text (chars n) ≡ true
     → (map to_ascii_lowercase k ≡ chars k) × (map to_ascii_lowercase n ≡ map to_ascii_lowercase (chars n))
-both_lower k n u w h t = grind (arith, name_bytes, lower_is_itself)
+both_lower k n u w h t = grind (arith, lower_is_itself, bytes_of_ascii, token_text_ascii)
 
 -- a token text has at least one byte
 pub some_byte : (n : List ℕ) → is_token_text (chars n) ≡ true → 0 < length n
 some_byte [] h = absurd (false≢true (sym (ap is_token_text chars-nil) ∙ h))
 some_byte (b ∷ n) h = omega arith
-
--- a lower-case name is equal to itself with each byte in lower case
-pub lower_bytes : (k : List ℕ) → IsUtf8 k → is_lowercase_name (chars k) ≡ true → map to_ascii_lowercase k ≡ k
-lower_bytes k u h = grind (arith, name_bytes, lower_is_itself)
 
 -- for a lower-case name k and a token text n that are equal in lower case, the test of k and of n in lower case is true
 pub names_equal : (k n : List ℕ) → IsUtf8 k → IsUtf8 n → is_lowercase_name (chars k) ≡ true
@@ -142,28 +134,6 @@ pub lowercase_at : {A B : Type 0} (pairs : List (String A × String B)) (i : ℕ
     → HasLowercaseNames (map (λ p. pair_of p) pairs) → i < length pairs → item ≡ get_or pairs i item
     → is_lowercase_name (code_points item.0) ≡ true
 lowercase_at pairs i item h l e = grind (arith, list_all_at, list_all-map)
-
-look_step : {A B : Type 0} (n : List ℕ) (pairs : List (String A × String B)) (i : ℕ) (item : String A × String B)
-    → i < length pairs → item ≡ get_or pairs i item → has_name n (map (λ p. pair_of p) (drop i pairs))
-    ≡ (bytes_eq (code_points item.0) n || has_name n (map (λ p. pair_of p) (drop (i + 1) pairs)))
-look_step n pairs i item l e = grind (arith, drop-cons)
-
--- if the pair at index i has the name n, one of the pairs has it
-pub look_finds : {A B : Type 0} (n : List ℕ) (pairs : List (String A × String B)) (i : ℕ) (item : String A × String B)
-    → i < length pairs → item ≡ get_or pairs i item → bytes_eq (code_points item.0) n ≡ true
-    → has_name n (map (λ p. pair_of p) (drop i pairs)) ≡ has_name n (map (λ p. pair_of p) pairs)
-    → true ≡ has_name n (map (λ p. pair_of p) pairs)
-look_finds n pairs i item l e t h =
-    sym (or_left (bytes_eq (code_points item.0) n) (has_name n (map (λ p. pair_of p) (drop (i + 1) pairs))) t)
-    ∙ sym (look_step n pairs i item l e) ∙ h
-
--- if the pairs from index i on have the name n exactly if all pairs have it, and pair i does not, so do those from i +
--- 1 on
-pub look_goes_on : {A B : Type 0} (n : List ℕ) (pairs : List (String A × String B)) (i : ℕ) (item : String A × String B)
-    → i < length pairs → item ≡ get_or pairs i item → bytes_eq (code_points item.0) n ≡ false
-    → has_name n (map (λ p. pair_of p) (drop i pairs)) ≡ has_name n (map (λ p. pair_of p) pairs)
-    → has_name n (map (λ p. pair_of p) (drop (i + 1) pairs)) ≡ has_name n (map (λ p. pair_of p) pairs)
-look_goes_on n pairs i item l e t h = cc (look_step n pairs i item l e)
 
 -- What one more item adds
 
@@ -207,16 +177,10 @@ first_snoc e (p ∷ ps) q = grind (arith, first_snoc (e ++ (p ∷ [])) ps q, app
 named : (n : List ℕ) (e : List Pair) (p : Pair) → has_name p.0 e ≡ true → bytes_eq p.0 n ≡ true → has_name n e ≡ true
 named n e p h t = ap (λ x. has_name x e) (sym (equal_from_test p.0 n t)) ∙ h
 
-first_cases : (n : List ℕ) (e : List Pair) (p : Pair) (kept_rest ps : List Pair)
-    → ((has_name n e || bytes_eq p.0 n) || has_name n kept_rest) ≡ ((has_name n e || bytes_eq p.0 n) || has_name n ps)
-    → (has_name n e || has_name n (cond (has_name p.0 e) kept_rest (p ∷ kept_rest)))
-    ≡ (has_name n e || (bytes_eq p.0 n || has_name n ps))
-first_cases n e p kept_rest ps h = grind (arith, named)
-
 has_first : (n : List ℕ) (e ps : List Pair) → (has_name n e || has_name n (first_of_each_name e ps))
     ≡ (has_name n e || has_name n ps)
 has_first n e [] = refl
-has_first n e (p ∷ ps) = grind (arith, first_cases, has_pushed, has_first n (e ++ (p ∷ [])) ps)
+has_first n e (p ∷ ps) = grind (arith, named, has_pushed, has_first n (e ++ (p ∷ [])) ps)
 
 kept_with_one : (ps qs : List Pair) → (qs ≡ []) ⊎ ((p : Pair) × (qs ≡ p ∷ []))
     → first_of_each_name [] (ps ++ qs) ≡ first_of_each_name [] ps ++ unless_named (first_of_each_name [] ps) qs
@@ -242,19 +206,11 @@ pub one_added : {A B : Type 0} (pairs pairs' : List (String A × String B)) (nam
     → map (λ p. pair_of p) pairs' ≡ map (λ p. pair_of p) pairs ++ more
 one_added pairs pairs' name value more e h = grind (arith, map-append)
 
--- if all names of xs and of ys are lower-case, so are those of xs ++ ys
-pub lower_after : (xs ys : List Pair) → HasLowercaseNames xs → HasLowercaseNames ys → HasLowercaseNames (xs ++ ys)
-lower_after xs ys h k = grind (arith, list_all-append)
-
 module _ (parameter : Parameter) (item : Item) (is : IsItem parameter item) where
-  -- the name of an item is a token text exactly if the name of its parameter is
-  pub name_token : is_token_text item.0 ≡ is_token_text (chars parameter.name.now)
-  name_token = ap is_token_text is.name ∙ token_text_lower (chars parameter.name.now)
-
   -- if the name of a parameter is not a token text, its item adds no pair
   pub invalid_name : (xs : List Pair) (b : Bool) → b ≡ is_token_text (chars parameter.name.now) → b ≡ false
       → added_pairs xs item ≡ []
-  invalid_name xs b e h = no_pair_token item xs (name_token ∙ sym e ∙ h)
+  invalid_name xs b e h = grind (arith, no_pair_token, token_text_lower)
 
   -- if one of the pairs has the name of a parameter in lower case, its item adds no pair
   pub known_name : (xs : List Pair) → has_name (map to_ascii_lowercase (chars parameter.name.now)) xs ≡ true
@@ -266,7 +222,7 @@ module _ (parameter : Parameter) (item : Item) (is : IsItem parameter item) wher
   pub new_pair : (name value : List ℕ) (b : Bool) → b ≡ is_token_text (chars parameter.name.now) → b ≡ true
       → name ≡ map to_ascii_lowercase (chars parameter.name.now) → Some value ≡ quotable_value item.1
       → valid_of item ≡ (name, value) ∷ []
-  new_pair name value b e h n v = grind (arith, name_token)
+  new_pair name value b e h n v = grind (arith, token_text_lower)
 
 -- The parser's loop over the parameters
 
@@ -334,8 +290,7 @@ unless_new pairs p h = cond-false (has_name p.0 pairs) [] (p ∷ []) h
 -- a name in lower case is its bytes
 pub lowercase_bytes : {A : Type 0} (name : String A) → is_lowercase_name (code_points name) ≡ true
     → string_bytes name ≡ code_points name
-lowercase_bytes name h = name_bytes (string_bytes name) (IsUtf8-string_bytes name)
-    (lowercase_token (code_points name) h)
+lowercase_bytes name h = grind (arith, IsUtf8-string_bytes, lowercase_token, bytes_of_ascii, token_text_ascii)
 
 -- if there are no more than `LOOKED_THROUGH` pairs, none of the later pairs has a name
 pub few_names : (n : List ℕ) (pairs : List Pair) → length pairs ≤ LOOKED_THROUGH
@@ -378,7 +333,7 @@ later_names later later' pairs p name l h e u n =
 pub indexed_more : (kept kept' : KeptParameters) (p : Pair) → IsIndexed kept → is_lowercase_name p.0 ≡ true
     → pairs_of kept' ≡ pairs_of kept ++ (p ∷ []) → HasLaterNames kept'.later_names (pairs_of kept ++ (p ∷ []))
     → IsIndexed kept'
-indexed_more kept kept' p i l e h = grind (arith, lower_after)
+indexed_more kept kept' p i l e h = grind (arith, list_all-append)
 
 -- The record of a text is well-formed, and a text with a head has a record.
 
@@ -404,25 +359,18 @@ all_lower r (item ∷ items) h =
 
 -- No name is kept twice
 
-has_itself : (n : List ℕ) (e : List Pair) (q : Pair) → bytes_eq q.0 n ≡ true → has_name q.0 e ≡ false
-    → has_name n e ≡ true → ⊥
-has_itself n e q t f h = both_ways (has_name q.0 e) f (ap (λ x. has_name x e) (equal_from_test q.0 n t) ∙ h)
-
 pushed_has : (n : List ℕ) (e : List Pair) (q : Pair) → has_name n e ≡ true → has_name n (e ++ (q ∷ [])) ≡ true
 pushed_has n e q h = has_append n e (q ∷ []) ∙ or_left (has_name n e) (has_name n (q ∷ [])) h
 
 none_again : (n : List ℕ) (e ps : List Pair) → has_name n e ≡ true → has_name n (first_of_each_name e ps) ≡ false
 none_again n e [] h = refl
 none_again n e (q ∷ ps) h =
-    search (arith, none_again n (e ++ (q ∷ [])) ps (pushed_has n e q h), has_itself)
-
-own_name : (e : List Pair) (q : Pair) → has_name q.0 (e ++ (q ∷ [])) ≡ true
-own_name e q = grind (arith, has_append, test_from_equal)
+    search (arith, none_again n (e ++ (q ∷ [])) ps (pushed_has n e q h), both_ways, equal_from_test)
 
 first_distinct : (e ps : List Pair) → has_distinct_names (first_of_each_name e ps) ≡ true
 first_distinct e [] = refl
 first_distinct e (q ∷ ps) =
-    grind (arith, first_distinct (e ++ (q ∷ [])) ps, none_again, own_name)
+    grind (arith, first_distinct (e ++ (q ∷ [])) ps, none_again, has_append, test_from_equal)
 
 -- Each record of a text is well-formed
 

@@ -11,7 +11,7 @@ use Rattle.data_url.specs.Mime.{unless_empty, DoesNotEnd, IsHead, IsTrimmed, Rec
 use Rattle.data_url.specs.Facts.{HasOneItemList, HasAtMostOneRecord}
 use Rattle.data_url.specs.Steps.Parsing.{HasParameterBefore}
 use Rattle.data_url.proofs.texts.CodePoints.{after_begins, after_front, after_is, front_is, front_joined, front_of}
-use Rattle.data_url.proofs.texts.CodePoints.{front_passes, is_trimmed_end, trimmed_end_is, without_back}
+use Rattle.data_url.proofs.texts.CodePoints.{front_passes, is_trimmed_end, without_back}
 use Rattle.data_url.proofs.texts.CodePoints.{without_back_joined}
 use Rattle.data_url.proofs.mime.Quoted.{IsRead, closed_rest, closed_value, is_read, open_rest, open_value, quoted_rest}
 use Rattle.data_url.proofs.mime.Quoted.{quoted_value}
@@ -64,19 +64,6 @@ pub begins_no_value : (r : List ℕ) → BeginsParameters r → DoesNotBegin in_
 begins_no_value [] h = tt
 begins_no_value (c ∷ r) h = ap in_value h
 
-plain_is : (text rest value : List ℕ) → Every in_value text → BeginsParameters rest
-    → IsTrimmedEnd is_http_whitespace text value → plain_reading (text ++ rest) ≡ record {
-      value =
-          unless_empty value;
-      rest = rest;
-    }
-plain_is text rest value e b t =
-    rw (
-      front_is in_value text rest e (begins_no_value rest b),
-      after_is in_value text rest e (begins_no_value rest b),
-      trimmed_end_is is_http_whitespace text value t,
-    ) refl
-
 plain_after : (text rest : List ℕ) → DoesNotBegin is_quote text → BeginsParameters rest
     → reading_after (text ++ rest) ≡ plain_reading (text ++ rest)
 plain_after [] [] h b = refl
@@ -104,7 +91,8 @@ reading_is : (tail rest : List ℕ) (value : Option (List ℕ)) → GivesValue t
     → reading (tail ++ rest) ≡ record { value = value; rest = rest }
 reading_is _ _ _ (nothing {rest}) b = nothing_is rest b
 reading_is _ _ _ lone_equals b = refl
-reading_is _ _ _ (plain {rest} text value e d t) b = plain_after text rest d b ∙ plain_is text rest value e b t
+reading_is _ _ _ (plain {rest} text value e d t) b =
+    grind (arith, plain_after, front_is, begins_no_value, after_is, without_back_joined)
 reading_is _ _ _ (quoted {value} {rest} text junk h e) b = quoted_is text value junk rest h e b
 reading_is _ _ _ (unclosed {value} text h) b = rw (append-nil text) (open_reading text value h)
 
@@ -172,9 +160,6 @@ is_reading_after (c ∷ t) = cond_both (c == 34) (quoted_reading (quoted_value f
     (plain_reading (c ∷ t)) (λ r. IsReading (61 ∷ c ∷ t) r) (λ e. quote_reading c t (eqb-true c 34 e))
     (λ e. is_plain_reading (c ∷ t) e)
 
-equals_reading : (c : ℕ) (t : List ℕ) → c ≡ 61 → IsReading (c ∷ t) (reading_after t)
-equals_reading c t e = rw e (is_reading_after t)
-
 no_reading : (c : ℕ) (t : List ℕ) → c ≡ 59 → IsReading (c ∷ t) (record { value = None; rest = c ∷ t })
 no_reading c t e = record { tail = []; joined = refl; gives = nothing; begins = e }
 
@@ -185,7 +170,7 @@ semicolon_from c h e = grind arith
 -- reading a text that is empty or begins with ';' or '=' returns a value that it gives, and the rest
 pub is_reading : (x : List ℕ) → BeginsTail x → IsReading x (reading x)
 is_reading [] h = record { tail = []; joined = refl; gives = nothing; begins = tt }
-is_reading (c ∷ t) h = grind (arith, equals_reading, no_reading)
+is_reading (c ∷ t) h = grind (arith, is_reading_after, no_reading)
 
 -- One parameter, from after its ';'
 
@@ -333,14 +318,11 @@ begins_same : (r : List ℕ) (item item' : Item) (rest rest' : List ℕ) → Beg
     → (item ≡ item') × (rest ≡ rest')
 begins_same r item item' rest rest' h k = grind arith
 
-begins_not_empty : (r : List ℕ) (item : Item) (rest : List ℕ) → Begins r item rest → r ≡ [] → ⊥
-begins_not_empty r item rest h e = let k = sym e ∙ h.is in cc
-
 -- two lists of items of the same text are equal
 pub only_items : (r : List ℕ) (a b : List Item) → Items r a → Items r b → a ≡ b
 only_items r [] [] h k = refl
-only_items r [] (item ∷ b) h k = absurd (begins_not_empty r item k.1 (begins r item b k) h)
-only_items r (item ∷ a) [] h k = absurd (begins_not_empty r item h.1 (begins r item a h) k)
+only_items r [] (item ∷ b) h k = grind (arith, begins)
+only_items r (item ∷ a) [] h k = grind (arith, begins)
 only_items r (item ∷ a) (item' ∷ b) h k =
     let e = begins_same r item item' h.1 k.1 (begins r item a h) (begins r item' b k) in
     let n = only_items k.1 a b (subst (λ x. Items x a) e.1 h.4) k.4 in
@@ -454,16 +436,8 @@ pub record HasParts (t type_ subtype parameters : List ℕ) : Type 0 where
   pub subtype_is : subtype_in t ≡ subtype
   pub parameters_are : parameters_in t ≡ parameters
 
-parts_joined : (type_ subtype gap r : List ℕ) → Every is_token type_ → Every is_token subtype
-    → Every is_http_whitespace gap → BeginsParameters r
-    → HasParts (type_ ++ (47 ∷ (subtype ++ (gap ++ r)))) type_ subtype r
-parts_joined type_ subtype gap r t s g b =
-    grind (arith, after_is, slash_no_token, gap_no_token, front_is)
-
 head_parts : (s type_ subtype r : List ℕ) (h : IsHead s type_ subtype r) → HasParts h.text type_ subtype r
-head_parts s type_ subtype r h = subst (λ x. HasParts x type_ subtype r) (sym h.joined)
-    (parts_joined type_ subtype h.gap r (every_token type_ h.is_type) (every_token subtype h.is_subtype) h.in_gap
-    h.begins)
+head_parts s type_ subtype r h = grind (arith, every_token, after_is, slash_no_token, gap_no_token, front_is)
 
 -- if a text has a head, its parts are those read from the text without HTTP whitespace at both ends
 pub has_parts : (s type_ subtype r : List ℕ) → IsHead s type_ subtype r

@@ -1,4 +1,5 @@
 -- Values of parameters, and texts without white space at an end. For `cuts.rt` and `read_plain`.
+use Rattle.data_url.proofs.texts.CodePoints.{front_further}
 use Rattle.std.proofs.Common.{◌≡◌, ℕ, suc, ◌+◌, ◌-◌, ◌<◌, ◌==◌, Bool, true, false, not, List, [], ◌∷◌, ◌++◌}
 use Rattle.std.proofs.Common.{length, get_or, take, drop, encode_utf8, encode_utf8_all, refl, sym, ap, ◌∙◌, subst}
 use Rattle.std.proofs.Common.{append_assoc, append-nil, arith, inl, inr, take-append-drop, length-append, length-drop}
@@ -12,7 +13,6 @@ use Rattle.std.proofs.lemmas.List.Folds.{list_all-append, list_all_at}
 use Rattle.std.proofs.lemmas.List.Sums.{prefix_len-le-length, prefix_len_stops, suffix_len-le-length, prefix_len_passes}
 use Rattle.std.specs.List.{list_all, prefix_len, suffix_len}
 use Rattle.data_url.proofs.texts.CodePoints.{after_begins, front_of, front_passes, boundary_before_end, no_chars}
-use Rattle.data_url.proofs.texts.CodePoints.{in_parts}
 use Rattle.data_url.proofs.mime.TokenTexts.{drop_front, every_ascii, is_split, take_front, whole_front}
 use Rattle.data_url.proofs.header.Serialising.{suffix_passes, suffix_stops}
 use Rattle.std.proofs.lemmas.Str.{IsUtf8-drop, IsUtf8-take, chars-IsAscii, chars-append}
@@ -199,26 +199,17 @@ quotable_byte_below : (b : ℕ) → is_quotable_byte b ≡ true → b < 196
 unfolding is_quotable_byte
 quotable_byte_below b h = grind arith
 
-not_quotable : (c : ℕ) → 256 ≤ c → is_quotable c ≡ false
-not_quotable c l = false_from_ne_true (is_quotable c) (λ h. let k = quotable_below c h in absurd (omega arith))
-
-high_byte : (b : ℕ) (t : List ℕ) → 196 ≤ b → list_all is_quotable_byte (b ∷ t) ≡ false
-high_byte b t l = grind (arith, quotable_byte_below)
-
 low_quotable : (c : ℕ) → c < 2048 → list_all is_quotable_byte (encode c) ≡ is_quotable c
 unfolding encode is_quotable is_quotable_byte
 low_quotable c l = agree_below_at (λ x. list_all is_quotable_byte (encode x)) is_quotable 2048 c refl l
 
 high_quotable : (c : ℕ) → 2048 ≤ c → list_all is_quotable_byte (encode c) ≡ false
 unfolding encode
-high_quotable c l = grind (arith, high_byte)
-
-quotable_encoded : (c : ℕ) → list_all is_quotable_byte (encode c) ≡ is_quotable c
-quotable_encoded c = grind (arith, low_quotable, high_quotable, not_quotable)
+high_quotable c l = grind (arith, quotable_byte_below)
 
 quotable_bytes : (cs : List ℕ) → list_all is_quotable_byte (encode_utf8_all cs) ≡ list_all is_quotable cs
 quotable_bytes [] = refl
-quotable_bytes (c ∷ cs) = grind (arith, list_all-append, quotable_encoded, quotable_bytes cs)
+quotable_bytes (c ∷ cs) = grind (arith, list_all-append, low_quotable, high_quotable, false_from_ne_true, quotable_below, quotable_bytes cs)
 
 -- each byte of a UTF-8 text passes `is_quotable_byte` exactly if each of its code points passes `is_quotable`
 pub quotable_chars : (bs : List ℕ) → IsUtf8 bs → list_all is_quotable_byte bs ≡ list_all is_quotable (chars bs)
@@ -239,13 +230,6 @@ then_escaped c e e' h k = k ∙ ap (λ b. b && not e) (sym (eq-eqb c 92 h))
 pub else_escaped : (c : ℕ) (e e' : Bool) → (c ≡ 92 → ⊥) → e' ≡ (c == 92) → e' ≡ ((c == 92) && not e)
 else_escaped c e e' h k = k ∙ ne_eqb c 92 h ∙ ap (λ b. b && not e) (sym (ne_eqb c 92 h))
 
-scalar_first : (cs r : List ℕ) (c : ℕ) → all_scalars cs ≡ true → encode_utf8_all cs ≡ encode c ++ r → IsScalar c
-scalar_first cs r c s e = grind (arith, cons_from_encodes)
-
--- the first code point of a UTF-8 text is a Unicode scalar value
-pub scalar_from : (r r' : List ℕ) (c : ℕ) → IsUtf8 r → r ≡ encode c ++ r' → IsScalar c
-scalar_from r r' c u e = scalar_first u.0 r' c u.1.0 (u.1.1 ∙ e)
-
 -- the encoding of a Unicode scalar value has this value as its only code point
 pub chars_encode : (c : ℕ) → IsScalar c → chars (encode c) ≡ c ∷ []
 chars_encode c s = cc (chars_past_char (encode c) [] c (IsUtf8-encode c s) (sym (append-nil (encode c))), chars-nil)
@@ -264,11 +248,7 @@ pub unescape_pushes : (v v' r r' whole : List ℕ) (c : ℕ) (e e' : Bool) → I
     → v' ≡ v ++ encode c → e' ≡ ((c == 92) && not e) → e' ≡ false → chars v ++ unescaped e (chars r) ≡ whole
     → chars v' ++ unescaped e' (chars r') ≡ whole
 unescape_pushes v v' r r' whole c e e' u w s g k f h =
-    cc (
-      chars_push v c u (scalar_from r r' c w s),
-      append_assoc (chars v) (c ∷ []) (unescaped false (chars r')),
-      chars_past_char r r' c w s,
-    )
+    grind (arith, chars_push, append_assoc, chars_past_char, cons_from_encodes)
 
 -- if the first code point of r is a '\' that escapes, leaving it out preserves the whole
 pub unescape_skips : (v r r' whole : List ℕ) (c : ℕ) (e e' : Bool) → IsUtf8 r → r ≡ encode c ++ r'
@@ -345,14 +325,11 @@ plain_text self text value code e i h = grind arith
 
 -- Values without quotes: whether the text before a ';' has only quoted-string code points.
 
-no_semicolon_byte : (c : ℕ) → is_unquoted_byte c ≡ true → not (is_semicolon c) ≡ true
-no_semicolon_byte c h = (and_parts (is_quotable_byte c) (not (is_semicolon c)) h).1
-
 -- the longest prefix without ';' is the longest one of unquoted bytes, and then the longest one without ';' of the rest
 pub front_len : (bytes after : List ℕ) (quotable more : ℕ) → quotable ≡ prefix_len is_unquoted_byte bytes
     → after ≡ drop quotable bytes → more ≡ prefix_len (λ b. not (is_semicolon b)) after
     → quotable + more ≡ prefix_len (λ b. not (is_semicolon b)) bytes
-front_len = in_parts is_unquoted_byte (λ b. not (is_semicolon b)) no_semicolon_byte
+front_len = grind (arith, and_parts, front_further, prefix_len-le-length, prefix_len_passes)
 
 all_quotable : (bs : List ℕ) → Every is_unquoted_byte bs → list_all is_quotable_byte bs ≡ true
 all_quotable [] h = refl

@@ -142,15 +142,10 @@ pub no_slash_bytes : (s ty x : List ℕ) → Cut s ty (chars x) → IsUtf8 x →
     → ⊥) → HasNoHead s
 no_slash_bytes s ty x k u h = no_slash s ty (chars x) k (λ w e. h (encode_utf8_all w) (begins_bytes x w 47 u e))
 
--- if the bytes after the type are '/' and then y, its code points are '/' and then those of y
-pub slash_bytes : (s ty x y : List ℕ) → Cut s ty (chars x) → IsUtf8 x → x ≡ encode_utf8 47 ++ y
-    → Cut s ty (47 ∷ chars y)
-slash_bytes s ty x y k u e = subst (Cut s ty) (chars_past_char x y 47 u e) k
-
 -- the same, if y is the rest of these bytes after a '/'
 pub slash_cut : (s ty x y : List ℕ) (n : ℕ) → Cut s ty (chars x) → IsUtf8 x → HasCharAt 47 x 0 n → y ≡ drop n x
     → Cut s ty (47 ∷ chars y)
-slash_cut s ty x y n k u h e = slash_bytes s ty x y k u (h.split ∙ ap (λ t. encode_utf8 47 ++ t) (sym e))
+slash_cut s ty x y n k u h e = grind (arith, chars_past_char)
 
 -- if b is the test for no bytes, and is true, the text has no code points
 pub empty_by : (x : List ℕ) (b : Bool) → b ≡ (length x == 0) → b ≡ true → chars x ≡ []
@@ -190,11 +185,6 @@ plain_value s front after value d j w b t = record {
 some_unless_empty : (value : List ℕ) → (value ≡ [] → ⊥) → unless_empty value ≡ Some value
 some_unless_empty [] n = absurd (n refl)
 some_unless_empty (c ∷ value) n = refl
-
--- if this value is empty, there is none
-pub missing_value : (s front after value : List ℕ) → value ≡ [] → HasValueBefore (61 ∷ s) (unless_empty value) after
-    → HasValueBefore (61 ∷ s) None after
-missing_value s front after value e h = subst (λ v. HasValueBefore (61 ∷ s) v after) (ap unless_empty e) h
 
 -- if this value is not empty, it is the value
 pub some_value : (s front after value : List ℕ) → (value ≡ [] → ⊥)

@@ -53,12 +53,9 @@ token_text_ascii (c ∷ t) h = all_tokens_ascii (c ∷ t) h
 pub bytes_of_ascii : (bs : List ℕ) → IsUtf8 bs → IsAscii (chars bs) → bs ≡ chars bs
 bytes_of_ascii bs u h = sym (encodes-chars bs u) ∙ encodes-IsAscii (chars bs) h
 
-not_token_chars : (bs : List ℕ) → IsUtf8 bs → is_token_text bs ≡ false → is_token_text (chars bs) ≡ false
-not_token_chars bs u h = grind (arith, bytes_of_ascii, token_text_ascii)
-
 -- a text is one of token code points exactly if its bytes are
 pub token_text_chars : (bs : List ℕ) → IsUtf8 bs → is_token_text bs ≡ is_token_text (chars bs)
-token_text_chars bs u = grind (arith, chars-IsAscii, token_text_ascii, not_token_chars)
+token_text_chars bs u = grind (arith, chars-IsAscii, token_text_ascii, bytes_of_ascii)
 
 -- a text that is not empty is a token text exactly if each of its code points is a token code point
 pub nonempty_token_text : (t : List ℕ) → (length t == 0) ≡ false → is_token_text t ≡ list_all is_token t
@@ -98,11 +95,6 @@ pub not_begins_encoded : (p : ℕ → Bool) → ((c : ℕ) → p c ≡ true → 
 not_begins_encoded p a [] h = tt
 not_begins_encoded p a (c ∷ cs) h = grind (arith, encode_ascii)
 
--- if only ASCII passes, and the bytes of a text do not begin with one that passes, its code points do not either
-pub not_begins_chars : (p : ℕ → Bool) → ((c : ℕ) → p c ≡ true → c < 128) → (bs : List ℕ) → IsUtf8 bs → DoesNotBegin p bs
-    → DoesNotBegin p (chars bs)
-not_begins_chars p a bs u h = not_begins_encoded p a (chars bs) (subst (DoesNotBegin p) (sym (encodes-chars bs u)) h)
-
 -- a text cut at the first byte that does not pass, of an ASCII class
 pub record IsSplit (p : ℕ → Bool) (bs front after : List ℕ) : Type 0 where
   pub joined : chars bs ≡ chars front ++ chars after
@@ -138,7 +130,7 @@ module _ (p : ℕ → Bool) (below : (c : ℕ) → p c ≡ true → c < 128) whe
                   bs) bs) front,
             );
         in_front = grind (arith, chars-IsAscii, front_ascii, take_front, front_passes);
-        begins = grind (arith, not_begins_chars, drop_front, after_begins);
+        begins = grind (arith, not_begins_encoded, encodes-chars, drop_front, after_begins);
         text = (front, after);
       }
 

@@ -199,10 +199,6 @@ pub is_recoded : (p : ℕ → Bool) → ((b : ℕ) → p b ≡ true → in_query
 is_recoded p within [] h = subst (λ x. Recoded [] x) (sym (encoded_nil p)) none
 is_recoded p within (b ∷ s) h = grind (arith, encoded_cons, recoded_byte, is_recoded p within s h.1)
 
--- each byte of a path's set is in the query's set
-pub path_within_query : (b : ℕ) → in_path_set b ≡ true → in_query_set b ≡ true
-path_within_query b h = or_left (in_path_set b) ((b == 32) || ((b == 34) || ((b == 35) || ((b == 60) || (b == 62))))) h
-
 -- The serialised front, byte by byte
 
 -- the set of a byte before the rest of its path
@@ -222,14 +218,10 @@ unfolding encoded_path
 path_cons b [] = sym (append-nil (encoded_byte in_path_end_set b))
 path_cons b (c ∷ s) = refl
 
--- each byte of the set for the last byte of a path is in the query's set
-pub end_within_query : (b : ℕ) → in_path_end_set b ≡ true → in_query_set b ≡ true
-end_within_query b h = grind arith
-
 -- each byte of the set for a byte of a path, whatever follows it, is in the query's set
 pub path_byte_within : (path : List ℕ) (b : ℕ) → path_byte_set path b ≡ true → in_query_set b ≡ true
-path_byte_within [] b h = end_within_query b h
-path_byte_within (c ∷ s) b h = path_within_query b h
+path_byte_within [] b h = grind arith
+path_byte_within (c ∷ s) b h = grind (arith, or_left)
 
 -- the empty text is serialised as the empty text
 pub serialised_nil : serialised [] ≡ []
@@ -367,24 +359,11 @@ pub percent_encoding-append : (p : ℕ → Bool) (s t : List ℕ)
 unfolding percent_encoding
 percent_encoding-append p s t = flat_map-append (encoded_byte p) s t
 
--- a text is encoded as its first n bytes, and then its other bytes
-pub encoded_cut : (p : ℕ → Bool) (s : List ℕ) (n : ℕ) → encoded p s ≡ encoded p (take n s) ++ encoded p (drop n s)
-encoded_cut p s n = ap (encoded p) (sym (take-append-drop n s))
-    ∙ ap (percent_encoding p) (without_tabs_and_newlines-append (take n s) (drop n s))
-    ∙ percent_encoding-append p (without_tabs_and_newlines (take n s)) (without_tabs_and_newlines (drop n s))
-
 -- Byte by byte
 
 -- what the text from byte i on is written as
 abbrev pub encoded_from : (ℕ → Bool) → List ℕ → ℕ → List ℕ
 encoded_from p s i = encoded p (drop i s)
-
-from_more : (p : ℕ → Bool) (s : List ℕ) (i : ℕ) → i < length s
-    → encoded_from p s i ≡ byte_encoding p (get_or s i 0) ++ encoded_from p s (i + 1)
-from_more p s i l = ap (encoded p) (drop_more s i 0 l) ∙ written_first p (get_or s i 0) (drop (i + 1) s)
-
-from_end : (p : ℕ → Bool) (s : List ℕ) (i : ℕ) → length s ≤ i → encoded_from p s i ≡ []
-from_end p s i l = ap (encoded p) (drop_all i s l) ∙ encoded_empty p
 
 -- the text is the encoding of the bytes before byte i
 abbrev pub WroteTo : (ℕ → Bool) → List ℕ → ℕ → List ℕ → Type 0
@@ -392,21 +371,18 @@ WroteTo p s i text = text ++ encoded_from p s i ≡ encoded p s
 
 wrote_more : (p : ℕ → Bool) (s : List ℕ) (i : ℕ) (text : List ℕ) → WroteTo p s i text → i < length s
     → WroteTo p s (i + 1) (text ++ byte_encoding p (get_or s i 0))
-wrote_more p s i text w l = grind (arith, append_assoc, from_more)
+wrote_more p s i text w l = grind (arith, append_assoc, drop_more, written_first, get_or)
 
 -- if the text is written up to byte i and has no more bytes, the whole text is written
 pub wrote_all : (p : ℕ → Bool) (s : List ℕ) (i : ℕ) (text : List ℕ) → WroteTo p s i text → length s ≤ i
     → text ≡ encoded p s
-wrote_all p s i text w l = sym (append-nil text) ∙ ap (λ t. text ++ t) (sym (from_end p s i l)) ∙ w
+wrote_all p s i text w l = grind (arith, append-nil, drop_all, encoded_empty)
 
 -- Rows
 
-written_short : (p : ℕ → Bool) (b : ℕ) → length (byte_encoding p b) ≤ 3
-written_short p b = grind arith
-
 -- the encoding in a row has at most three bytes
 pub row_short : (p : ℕ → Bool) (b : ℕ) (row : List ℕ) → IsRow p b row → slice_index row 3 ≤ 3
-row_short p b row r = let k = written_short p b in let e = r.len_is in omega arith
+row_short p b row r = grind arith
 
 -- if each byte is written as it is, the whole text is
 pub kept_whole : (p : ℕ → Bool) (s : List ℕ)
@@ -467,11 +443,6 @@ put_more p s i room at row room' m l within r n h =
 -- the text and then the encoding of rest are the old text and then the encoding of s
 abbrev pub WroteBefore : (ℕ → Bool) → List ℕ → List ℕ → List ℕ → List ℕ → Type 0
 WroteBefore p s rest old text = text ++ encoded p rest ≡ old ++ encoded p s
-
--- if the encoding of the first n bytes of the rest is appended to what was written, the rest is without these bytes
-pub wrote_part : (p : ℕ → Bool) (s rest old text part : List ℕ) (n : ℕ) → WroteBefore p s rest old text
-    → part ≡ encoded p (take n rest) → WroteBefore p s (drop n rest) old (text ++ part)
-wrote_part p s rest old text part n w h = grind (arith, append_assoc, encoded_cut)
 
 -- if there is no rest, what was written is the old text and then the encoding of the whole text
 pub wrote_parts : (p : ℕ → Bool) (s rest old text : List ℕ) → WroteBefore p s rest old text → rest ≡ []

@@ -78,10 +78,6 @@ without_back_joined p [] back h e = back_passes p back h
 without_back_joined p (c ∷ []) back h e = ap (keep_before p c) (back_passes p back h) ∙ cond-false (p c) [] (c ∷ []) e
 without_back_joined p (c ∷ d ∷ t) back h e = ap (keep_before p c) (without_back_joined p (d ∷ t) back h e)
 
--- if t is s without its longest suffix that passes, then t is `without_back p s`
-pub trimmed_end_is : (p : ℕ → Bool) (s t : List ℕ) → IsTrimmedEnd p s t → t ≡ without_back p s
-trimmed_end_is p s t h = sym (ap (without_back p) h.joined ∙ without_back_joined p t h.back h.at_back h.ends)
-
 trimmed_end_more : (p : ℕ → Bool) (c : ℕ) (t u : List ℕ) → IsTrimmedEnd p t u
     → IsTrimmedEnd p (c ∷ t) (keep_before p c u)
 trimmed_end_more p c t [] h = cond_both (p c) [] (c ∷ []) (λ v. IsTrimmedEnd p (c ∷ t) v)
@@ -105,13 +101,6 @@ front_further p bytes (suc n) l h =
     let here = prefix_len-drop_yes p bytes n 0 (omega arith) (h n (omega arith)) in
     let more : n + 1 ≡ suc n = omega arith in
     omega (arith, before, here, ap (λ m. prefix_len p (drop m bytes)) more)
-
--- if p implies q, the longest prefix that passes q is the longest one that passes p, and then the longest one of the
--- bytes after it that passes q
-pub in_parts : (p q : ℕ → Bool) → ((c : ℕ) → p c ≡ true → q c ≡ true) → (bytes after : List ℕ) (first more : ℕ)
-    → first ≡ prefix_len p bytes → after ≡ drop first bytes → more ≡ prefix_len q after
-    → first + more ≡ prefix_len q bytes
-in_parts p q h bytes after first more e d m = grind (arith, front_further, prefix_len-le-length, prefix_len_passes)
 
 -- Where a text can be cut: before and after bytes below 128.
 
@@ -140,7 +129,3 @@ module _ (p : ℕ → Bool) (ascii : (b : ℕ) → p b ≡ true → b < 128) (bs
   -- if only ASCII bytes pass, a UTF-8 text can be cut before its longest suffix that passes
   pub boundary_before_end : IsCharBoundary bs (length bs - suffix_len p bs)
   boundary_before_end = grind (arith, before_end)
-
--- a C0 control or a space is ASCII
-pub is_low : (b : ℕ) → is_c0_control_or_space b ≡ true → b < 128
-is_low b h = omega (arith, leb-true b 32 h)

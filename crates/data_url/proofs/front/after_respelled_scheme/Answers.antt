@@ -1,15 +1,16 @@
+use Rattle.data_url.proofs.texts.Bytes.{dropped_nil}
 use Rattle.std.proofs.Common.{◌≡◌, ◌<◌, ◌+◌, ℕ, Bool, true, false, List, length, get_or, take, drop}
 use Rattle.std.proofs.Common.{codes, sym, ◌∙◌, subst, arith}
 use Rattle.std.specs.Char.{to_ascii_lowercase}
 use Rattle.std.proofs.lemmas.List.{drop_more, take_all, take_more, take-append-drop}
 use Rattle.std.proofs.lemmas.Str.{IsCharBoundary-after_ascii}
 use Rattle.data_url.specs.Url.{is_tab_or_newline}
-use Rattle.data_url.proofs.front.Cuts.{Spells, differs, ends_early, scheme_is_ascii, spells_all, spells_more}
-use Rattle.data_url.proofs.front.Cuts.{spells_nothing, spells_passed}
+use Rattle.data_url.proofs.front.Cuts.{Spells, differs, ends_early, spells_all, spells_more}
+use Rattle.data_url.proofs.front.Cuts.{spells_passed}
 use Rattle.data_url.proofs.front.after_respelled_scheme.Goals as goal
 
 pub loop-place-init : goal.loop-place-init
-loop-place-init c = spells_nothing
+loop-place-init c = grind (arith, dropped_nil)
 
 pub loop-place-preserved-then-is_tab_or_newline : goal.loop-place-preserved-then-is_tab_or_newline
 loop-place-preserved-then-is_tab_or_newline c =
@@ -50,14 +51,7 @@ spelled : (text items : List ℕ) (place n low : ℕ) (passed : Bool) → items 
 spelled text items place n low passed e l p f q h = grind arith
 
 pub range_from-requires : goal.range_from-requires
-range_from-requires c =
-    let b = spelled c.args.text.now c.as_bytes-byte-items.result.now c.loop-place.place c.loop-place.matched
-    c.to_ascii_lowercase.result c.is_tab_or_newline.result c.as_bytes-byte-items.ensures.value
-    c.loop-place-test.true c.is_tab_or_newline.ensures c.if-is_tab_or_newline.false
-    c.to_ascii_lowercase.ensures.value c.if-to_ascii_lowercase-matched.false in
-    λ _. IsCharBoundary-after_ascii c.args.text.now c.loop-place.place c.utf8.text b.within
-    (scheme_is_ascii c.loop-place.matched (get_or c.args.text.now c.loop-place.place 0)
-    c.loop-place.invariant.open_at b.same)
+range_from-requires c = grind (arith, spelled, IsCharBoundary-after_ascii, get_or)
 
 pub returns-then-matched-eq5-clause-found : goal.returns-then-matched-eq5-clause-found
 returns-then-matched-eq5-clause-found c =

@@ -1,6 +1,6 @@
 use Rattle.std.proofs.Common.{◌≡◌, ◌+◌, ◌-◌, take, arith, eqb-true}
 use Rattle.std.proofs.lemmas.Str.{IsCharBoundary-after_ascii}
-use Rattle.data_url.proofs.front.Cuts.{at_comma, at_hash, front_end_at, is_ascii_end, no_front_end, plain_before}
+use Rattle.data_url.proofs.front.Cuts.{at_comma, at_hash, front_end_at, no_front_end, plain_before}
 use Rattle.data_url.proofs.front.split_at_comma.Goals as goal
 
 pub returns-in_err-further-clause-none : goal.returns-in_err-further-clause-none
@@ -13,13 +13,7 @@ pub range-requires-clause-end_boundary : goal.range-requires-clause-end_boundary
 range-requires-clause-end_boundary c = grind (arith, front_end_at)
 
 pub range_from-requires : goal.range_from-requires
-range_from-requires c =
-    let place = c.long_span-plain.result + c.in_ok-further.further in
-    let end = front_end_at c.args.text.now c.as_bytes-bytes.result.now c.long_span-plain.result c.in_ok-further.further
-    c.front_end.result c.as_bytes-bytes.ensures.value c.long_span-plain.ensures.front
-    (λ i. omega (arith, c.type_inv.text i)) c.front_end.ensures c.in_ok-further.was in
-    λ _. IsCharBoundary-after_ascii c.args.text.now place c.utf8.text end.within
-    (is_ascii_end c.args.text.now place end)
+range_from-requires c = grind (arith, front_end_at, IsCharBoundary-after_ascii)
 
 pub returns-clause-found : goal.returns-clause-found
 returns-clause-found c = grind (arith, at_comma, front_end_at)

@@ -1,7 +1,7 @@
+use Rattle.data_url.proofs.header.Serialising.{dropped_end}
 use Rattle.std.proofs.Common.{arith}
 use Rattle.std.proofs.lemmas.List.Sums.{suffix_len-le-length}
 use Rattle.data_url.proofs.header.Serialising.{has_no_end, has_other_end, parts_spaced, parts_whole}
-use Rattle.data_url.proofs.header.Serialising.{without_space}
 use Rattle.data_url.proofs.header.split_last_space.Goals as goal
 
 pub overflow_sub-path : goal.overflow_sub-path
@@ -17,4 +17,4 @@ pub returns-then-path-space-ne32 : goal.returns-then-path-space-ne32
 returns-then-path-space-ne32 c = grind (arith, parts_whole, has_other_end)
 
 pub returns : goal.returns
-returns c = grind (arith, parts_spaced, without_space)
+returns c = grind (arith, parts_spaced, dropped_end)

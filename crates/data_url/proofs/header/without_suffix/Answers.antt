@@ -1,3 +1,5 @@
+use Rattle.std.proofs.lemmas.List.{length-map}
+use Rattle.data_url.proofs.header.Suffix.{no_word}
 use Rattle.std.proofs.Common.{◌≡◌, ℕ, ◌-◌, ◌≤◌, Bool, true, List, length, take, drop, map, codes, sym}
 use Rattle.std.proofs.Common.{subst, arith}
 use Rattle.std.specs.Char.{to_ascii_lowercase}
@@ -6,14 +8,14 @@ use Rattle.std.proofs.lemmas.List.{length-take, take_rest}
 use Rattle.std.proofs.lemmas.List.Sums.{suffix_len-le-length}
 use Rattle.data_url.specs.Steps.Header.{IsPrintable}
 use Rattle.data_url.specs.Url.{is_c0_control_or_space}
-use Rattle.data_url.proofs.header.Suffix.{HasWord, no_semicolon, nothing_left, other_word, too_short, with_semicolon}
+use Rattle.data_url.proofs.header.Suffix.{HasWord, no_semicolon, nothing_left, with_semicolon}
 use Rattle.data_url.proofs.header.without_suffix.Goals as goal
 
 pub returns-in_err-word : goal.returns-in_err-word
-returns-in_err-word c = grind (arith, too_short)
+returns-in_err-word c = grind (arith, no_word, length-map)
 
 pub returns-then-not-eq_ignore_ascii_case : goal.returns-then-not-eq_ignore_ascii_case
-returns-then-not-eq_ignore_ascii_case c = grind (arith, other_word, take_rest)
+returns-then-not-eq_ignore_ascii_case c = grind (arith, no_word, take_rest)
 
 pub overflow_sub-end : goal.overflow_sub-end
 overflow_sub-end c = grind (arith, suffix_len-le-length, length-take)

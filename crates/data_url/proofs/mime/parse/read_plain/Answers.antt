@@ -8,7 +8,7 @@ use Rattle.data_url.specs.Steps.Parsing.{is_unquoted_byte}
 use Rattle.data_url.proofs.mime.ParameterValues.{boundary_by, cut_by, semicolon_below}
 use Rattle.data_url.proofs.mime.Parsing.{empty_by, nonempty_by}
 use Rattle.data_url.proofs.mime.Items.{begins_from}
-use Rattle.data_url.proofs.mime.Parsing.{missing_value, plain_value, some_value}
+use Rattle.data_url.proofs.mime.Parsing.{plain_value, some_value}
 use Rattle.data_url.proofs.mime.ParameterValues.{front_len, long_other, short_quotable, trimmed_bytes}
 use Rattle.data_url.proofs.mime.ParameterValues.{quotable_none}
 use Rattle.data_url.proofs.mime.parse.read_plain.Goals as goal
@@ -52,7 +52,7 @@ returns-then-is_empty-clause-value c =
       length-take len text,
     ) in
     elim c.then-is_empty.branch [
-      | then-is_empty-via-then-is_empty w ↦ grind (arith, missing_value, empty_by)
+      | then-is_empty-via-then-is_empty w ↦ grind (arith, empty_by)
       | then-is_empty-via-else-is_empty+then-value-quotable w ↦ (
         Some (chars t),
         quotable_none (chars t)
