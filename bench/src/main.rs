@@ -53,8 +53,10 @@ const ROUND: f64 = 600_000.0;
 /// A call: it returns how many bytes its result has, and copies them to the output as far as they fit.
 type Call = fn(&[u8], &mut [u8]) -> usize;
 
-/// Returns the nanoseconds of one call, as the mean over `count` calls.
+/// Returns the nanoseconds of one call, as the mean over `count` calls. A call before these is not timed: it brings the text
+/// into the caches, so that the order of the calls in a round does not matter.
 fn time(call: Call, text: &[u8], room: &mut [u8], count: usize) -> f64 {
+    black_box(call(black_box(text), black_box(&mut *room)));
     let start = Instant::now();
     for _ in 0..count {
         black_box(call(black_box(text), black_box(&mut *room)));
