@@ -31,7 +31,9 @@ use Rattle.data_url.proofs.texts.Bytes.{without_tabs_and_newlines-append, droppe
 use Rattle.data_url.proofs.texts.Bytes.{dropped_passes, lacks}
 use Rattle.std.proofs.lemmas.Str.{chars-IsAscii}
 use Rattle.data_url.specs.Mime.{HasNoRecord, IsWellformed, Parses, Record, default_record, BeginsParameters, DoesNotEnd}
-use Rattle.data_url.specs.Mime.{IsHead, IsRecordOfParts, IsTrimmedEnd, is_token_text}
+use Rattle.data_url.specs.Mime.{IsHead, IsRecordOfParts, is_token_text}
+use Rattle.data_url.specs.Steps.Parsing.{IsTrimmedEnd}
+use Rattle.data_url.proofs.texts.CodePoints.{trimmed_end_is}
 use Rattle.data_url.proofs.examples.Literals.{on_literals}
 use Rattle.data_url.specs.CodePoints.{is_http_whitespace}
 use Rattle.data_url.proofs.mime.FirstNames.{parses_parts, parses_wellformed}
@@ -418,18 +420,13 @@ ends_after p c (d ∷ t) n h = h
 head_of : (s t : List ℕ) → BeginsParameters s → IsTrimmedEnd is_http_whitespace s t
     → IsHead (codes "text/plain" ++ s) (codes "text") (codes "plain") t
 head_of s t b e = record {
-  text = codes "text/plain" ++ t;
   gap = [];
-  trimmed = record {
-    front = [];
+  joined = sym (trimmed_end_is is_http_whitespace (codes "text/plain" ++ s) (codes "text/plain" ++ t) (record {
     back = e.back;
     joined = ap (λ x. codes "text/plain" ++ x) e.joined;
-    at_front = tt;
     at_back = e.at_back;
-    begins = refl;
     ends = ends_after is_http_whitespace 110 t refl e.ends;
-  };
-  joined = refl;
+  }));
   is_type = token_text;
   is_subtype = token_plain;
   in_gap = tt;
