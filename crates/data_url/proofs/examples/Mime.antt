@@ -296,7 +296,13 @@ invalid_names = parses_x (codes ";=q;" ++ (233 ∷ codes "=" ++ (34 ∷ codes "a
         codes ";d=e",
         refl,
         parameter (233 ∷ []) _ _ _ refl refl (quoted (codes "a;b=c") [] (each (codes "a;b=c") refl) tt),
-        (codes ";d=e", [], refl, parameter (codes "d") _ _ _ refl refl (plain_value (codes "e") _ refl refl refl), refl),
+        (
+          codes ";d=e",
+          [],
+          refl,
+          parameter (codes "d") _ _ _ refl refl (plain_value (codes "e") _ refl refl refl),
+          refl,
+        ),
       ),
     )
 

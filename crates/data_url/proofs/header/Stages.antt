@@ -16,7 +16,7 @@ use Rattle.data_url.specs.Url.{in_fragment_set}
 use Rattle.data_url.specs.Fetch.{is_space, stripped_header, encoded_body, header_of, staged_front}
 use Rattle.data_url.specs.Fetch.{tail_of, before_base64, before_semicolon, before_word, has_base64_suffix}
 use Rattle.data_url.specs.Fetch.{media_of, mime_text, with_plain, Accepted, Good, NoComma, NoScheme}
-use Rattle.data_url.specs.Fetch.{Outcome, outcome, plain_body, staged, staged_after}
+use Rattle.data_url.specs.Fetch.{Outcome, outcome, plain_body, staged}
 use Rattle.data_url.specs.Steps.Header.{IsPrintable, header_text, IsHeaderOf, IsRecordFor}
 use Rattle.data_url.proofs.percent.Encoding.{IsBytes, encoded_cons, encoded_nil, header_nil}
 use Rattle.data_url.proofs.percent.Encoding.{header_path, header_query, Recoded, RecodedTails}
@@ -465,7 +465,7 @@ plain_record media a b c m h e head record_is =
 -- if the trimmed text does not begin with the scheme, the Standard finds no scheme
 pub stages_no_scheme : (t : List ℕ) → HasNoScheme (trimmed_text t) → staged t ≡ NoScheme
 unfolding staged
-stages_no_scheme t h = ap (staged_after t) (after_none t h)
+stages_no_scheme t h = cc (after_none t h)
 
 -- if the trimmed text is a text of bytes, so is the rest after its scheme
 pub rest_bytes : (t rest : List ℕ) → IsBytes (trimmed_text t) → IsSchemeAndRest (trimmed_text t) rest → IsBytes rest

@@ -81,7 +81,8 @@ quoted_escaped [] = nothing_quoted
 quoted_escaped (c ∷ v) = cond_both ((c == 34) || (c == 92)) (92 ∷ c ∷ []) (c ∷ [])
     (λ t. Quoted (t ++ flat_map escaped_code_point v) (c ∷ v))
     (λ e. after_backslash c (quoted_escaped v))
-    (λ e. let p = or_parts (c == 34) (c == 92) e in as_itself c (eqb-false c 34 p.0) (eqb-false c 92 p.1) (quoted_escaped v))
+    (λ e. let p = or_parts (c == 34) (c == 92) e in as_itself c (eqb-false c 34 p.0) (eqb-false c 92 p.1)
+    (quoted_escaped v))
 
 is_nonempty : (v : List ℕ) → is_token_text v ≡ true → unless_empty v ≡ Some v
 is_nonempty [] h = absurd (both_ways false refl h)
