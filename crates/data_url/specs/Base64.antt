@@ -4,6 +4,8 @@ use Rattle.std.specs.Char.{is_ascii_whitespace}
 use Rattle.std.specs.Fmt.{decimal}
 use Rattle.std.specs.Int.{is_in_range}
 use Rattle.std.specs.List.{find, list_all, list_any, range_with_len}
+use Rattle.data_url.specs.declared.forgiving_base64.InvalidBase64Details.TheVariants.{AlphabetSymbolAfterPadding, LoneAlphabetSymbol, Padding, UnexpectedSymbol}
+use Rattle.data_url.specs.declared.forgiving_base64.InvalidBase64Details.{InvalidBase64Details}
 use Rattle.std.specs.Prelude.{[], if◌then◌else◌, ◌%◌, ◌&&◌, ◌*◌, ◌++◌, ◌+◌, ◌-◌, ◌/◌, ◌==◌, ◌||◌, ◌∷◌, Bool, List, None, Option, Some, codes, filter, length, map, min, not, replicate, slice_index, take, ℕ}
 
 -- a symbol of the alphabet: 'A' to 'Z', 'a' to 'z', '0' to '9', '+' and '/'
@@ -104,11 +106,8 @@ complete_bytes b = groups (values (before_place b (first_fault b)))
 
 -- why a text is not valid: a byte that is not allowed, a symbol after padding, a symbol that is
 -- alone in its group, or padding that does not fit the number of symbols
-pub data Kind : Type 0 where
-  UnexpectedSymbol : ℕ → Kind
-  AlphabetSymbolAfterPadding : Kind
-  LoneAlphabetSymbol : Kind
-  Padding : Kind
+abbrev pub Kind : Type 0
+Kind = InvalidBase64Details
 
 -- the kind of the byte at the first fault; if there is no fault, the number of symbols decides
 abbrev pub kind_at : List ℕ → Option ℕ → Kind

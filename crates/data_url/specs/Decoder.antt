@@ -58,12 +58,6 @@ pub record Feeds {F E : Type 0} (step : F → List ℕ → Result (Unit {0}) E �
       (IsTaken (left_over d ++ b) (joined_pieces run) r d')
       (λ e. IsRefused (complete_bytes (left_over d ++ b)) (joined_pieces run) e r)
 
--- the bytes are all those that the valid text u decodes to, and the result is `Ok`
-pub record IsAll {E : Type 0} (u bytes : List ℕ) (r : Result (Unit {0}) (DecodeError E))
-    : Type 0 where
-  pub bytes_are : bytes ≡ decoded u
-  pub answer : r ≡ Ok tt
-
 -- finishing d returns r, and its closure is f after it. The closure is called at most once, and not
 -- at all if what is left over in d is not valid.
 pub record Finishes {F E : Type 0} (step : F → List ℕ → Result (Unit {0}) E → F → Type 0)
@@ -72,6 +66,6 @@ pub record Finishes {F E : Type 0} (step : F → List ℕ → Result (Unit {0}) 
   pub ran : IsRun step d.closure run f
   pub calls : length run ≤ 1
   pub gave : MatchBool (is_valid (left_over d))
-      (MatchOption (refusal run) (IsAll (left_over d) (joined_pieces run) r)
+      (MatchOption (refusal run) ((joined_pieces run ≡ decoded (left_over d)) × (r ≡ Ok tt))
       (λ e. IsRefused (decoded (left_over d)) (joined_pieces run) e r))
       ((run ≡ []) × (r ≡ Err (InvalidBase64 (kind_of (left_over d)))))

@@ -1,6 +1,6 @@
 -- The data: URL processor (Fetch Standard, section 6), stage by stage, over whole byte sequences.
 use Rattle.std.specs.Char.{to_ascii_lowercase}
-use Rattle.std.specs.Option.{option_map}
+use Rattle.std.specs.Option.{option_map, option_map_or}
 use Rattle.std.specs.Prelude.{[], if◌then◌else◌, ◌++◌, ◌-◌, ◌==◌, ◌∷◌, Bool, List, None, Option, Some, codes, drop, is_some, length, map, option_and_then, take, unwrap_or, ℕ}
 use Rattle.std.specs.Str.{bytes_eq}
 use Rattle.data_url.specs.Base64.{Kind, decoded, complete_bytes, is_valid, kind_of}
@@ -42,23 +42,17 @@ is_space b = b == 32
 unfoldable pub stripped_header : List ℕ → List ℕ
 stripped_header h = without_end is_space (without_front is_space h)
 
--- the last n bytes, and the bytes before them
-abbrev pub last_bytes : ℕ → List ℕ → List ℕ
-last_bytes n s = drop (length s - n) s
-
-abbrev pub before_last : ℕ → List ℕ → List ℕ
-before_last n s = take (length s - n) s
+-- the text without its last n bytes, if these pass the test
+abbrev pub without_last : ℕ → (List ℕ → Bool) → List ℕ → Option (List ℕ)
+without_last n p s = if p (drop (length s - n) s) then Some (take (length s - n) s) else None
 
 -- the bytes before a final "base64", in any ASCII case
 abbrev pub before_word : List ℕ → Option (List ℕ)
-before_word s =
-    if bytes_eq (map to_ascii_lowercase (last_bytes 6 s)) (codes "base64")
-    then Some (before_last 6 s)
-    else None
+before_word s = without_last 6 (λ w. bytes_eq (map to_ascii_lowercase w) (codes "base64")) s
 
 -- the bytes before a final ';'
 abbrev pub before_semicolon : List ℕ → Option (List ℕ)
-before_semicolon s = if bytes_eq (last_bytes 1 s) (codes ";") then Some (before_last 1 s) else None
+before_semicolon s = without_last 1 (λ w. bytes_eq w (codes ";")) s
 
 -- if the text ends with ';', any number of spaces, and "base64": the bytes before that ';' (step 11)
 unfoldable pub before_base64 : List ℕ → Option (List ℕ)
@@ -115,13 +109,10 @@ staged_parts fragment (Some header) (Some body) =
     (option_map (percent_encoding in_fragment_set) fragment)
 staged_parts fragment header body = NoComma
 
-abbrev pub staged_after : List ℕ → Option (List ℕ) → Staged
-staged_after t None = NoScheme
-staged_after t (Some a) = staged_parts (fragment a) (header_of t) (encoded_body t)
-
 -- the result of the data: URL processor for a text
 unfoldable pub staged : List ℕ → Staged
-staged t = staged_after t (after_scheme t)
+staged t = option_map_or (λ a. staged_parts (fragment a) (header_of t) (encoded_body t))
+    (after_scheme t) NoScheme
 
 abbrev pub staged_fragment : Staged → Option (List ℕ)
 staged_fragment (Accepted text body fragment) = fragment

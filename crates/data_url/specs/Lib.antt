@@ -11,7 +11,7 @@
 --   Mime        the grammar of a MIME type, its record, and the serialisation of a record
 --
 -- What the public functions do:
---   DataUrl, Decoder, MimeType, Pieces, Looks, InvalidBase64   what contracts see of each type
+--   DataUrl, Decoder, MimeType, Pieces, Looks   what contracts see of each type
 --   Run         the calls of a closure
 --   Errors      when each error is returned, and its message
 --   Facts, Laws what the functions of `facts` and `laws` prove about the definitions above
@@ -24,7 +24,6 @@ pub mod Decoder
 pub mod Errors
 pub mod Facts
 pub mod Fetch
-pub mod InvalidBase64
 pub mod Laws
 pub mod Looks
 pub mod Mime

@@ -5,6 +5,7 @@ use Rattle.std.specs.List.{AllByRecursion, flat_map, list_all, list_any}
 use Rattle.std.specs.Prelude.{[], if◌then◌else◌, ◌&&◌, ◌++◌, ◌==◌, ◌||◌, ◌∷◌, ◌≡◌, ◌≢◌, ◌⊎◌, Bool, IsTrue, List, None, Option, Some, codes, false, map, not, true, ℕ}
 use Rattle.std.specs.Str.{bytes_eq}
 use Rattle.data_url.specs.CodePoints.{ends_name, is_http_whitespace, is_quotable, is_semicolon, is_token}
+use Rattle.data_url.specs.Url.{without_end, without_front}
 
 -- Records
 
@@ -46,23 +47,6 @@ abbrev pub DoesNotEnd : (ℕ → Bool) → List ℕ → Type 0
 DoesNotEnd p [] = Unit {0}
 DoesNotEnd p (c ∷ []) = p c ≡ false
 DoesNotEnd p (c ∷ d ∷ t) = DoesNotEnd p (d ∷ t)
-
--- t is s without the longest prefix and the longest suffix of code points that pass
-pub record IsTrimmed (p : ℕ → Bool) (s t : List ℕ) : Type 0 where
-  pub front : List ℕ
-  pub back : List ℕ
-  pub joined : s ≡ front ++ (t ++ back)
-  pub at_front : Every p front
-  pub at_back : Every p back
-  pub begins : DoesNotBegin p t
-  pub ends : DoesNotEnd p t
-
--- t is s without the longest suffix of code points that pass
-pub record IsTrimmedEnd (p : ℕ → Bool) (s t : List ℕ) : Type 0 where
-  pub back : List ℕ
-  pub joined : s ≡ t ++ back
-  pub at_back : Every p back
-  pub ends : DoesNotEnd p t
 
 -- the text is not empty, and has only HTTP token code points
 abbrev pub is_token_text : List ℕ → Bool
@@ -107,9 +91,8 @@ pub data GivesValue : List ℕ → List ℕ → Option (List ℕ) → Type 0 whe
   -- '=' at the end of the input
   lone_equals : GivesValue (61 ∷ []) [] None
   -- '=' and a text that does not begin with '"'; HTTP whitespace at its end is removed
-  plain : {rest : List ℕ} (text value : List ℕ) → Without is_semicolon text
-      → DoesNotBegin is_quote text → IsTrimmedEnd is_http_whitespace text value
-      → GivesValue (61 ∷ text) rest (unless_empty value)
+  plain : {rest : List ℕ} (text : List ℕ) → Without is_semicolon text → DoesNotBegin is_quote text
+      → GivesValue (61 ∷ text) rest (unless_empty (without_end is_http_whitespace text))
   -- '=', a quoted string in quotes, and any code points up to the next ';'
   quoted : {value rest : List ℕ} (text junk : List ℕ) → Quoted text value
       → Without is_semicolon junk → GivesValue (61 ∷ 34 ∷ (text ++ (34 ∷ junk))) rest (Some value)
@@ -171,10 +154,9 @@ BeginsParameters (c ∷ r) = c ≡ 59
 -- s, without HTTP whitespace at both ends, is a type, '/', a subtype, HTTP whitespace, and the text
 -- of the parameters
 pub record IsHead (s type_ subtype parameters : List ℕ) : Type 0 where
-  pub text : List ℕ
   pub gap : List ℕ
-  pub trimmed : IsTrimmed is_http_whitespace s text
-  pub joined : text ≡ type_ ++ (47 ∷ (subtype ++ (gap ++ parameters)))
+  pub joined : without_end is_http_whitespace (without_front is_http_whitespace s)
+      ≡ type_ ++ (47 ∷ (subtype ++ (gap ++ parameters)))
   pub is_type : IsTrue (is_token_text type_)
   pub is_subtype : IsTrue (is_token_text subtype)
   pub in_gap : Every is_http_whitespace gap

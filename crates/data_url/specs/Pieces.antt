@@ -1,7 +1,8 @@
 -- A body in pieces (URL Standard, section 1.3, percent-decode): what contracts see of a walk over
 -- its text.
 use Rattle.std.specs.Char.{is_ascii_hexdigit}
-use Rattle.std.specs.Prelude.{[], ◌-◌, ◌<◌, ◌==◌, ◌||◌, ◌∷◌, ◌≡◌, ◌≤◌, Bool, List, None, Option, Some, drop, false, slice_index, slice_range, true, ℕ}
+use Rattle.std.specs.Option.{option_map_or}
+use Rattle.std.specs.Prelude.{[], ◌-◌, ◌<◌, ◌==◌, ◌||◌, ◌∷◌, ◌≡◌, ◌≤◌, Bool, List, Option, drop, false, slice_index, slice_range, true, ℕ}
 use Rattle.data_url.specs.Fetch.{plain_body}
 use Rattle.data_url.specs.Percent.{begins_with_escape, percent_decoding}
 use Rattle.data_url.specs.Url.{front, is_tab_or_newline, number_sign, without_tabs_and_newlines}
@@ -48,8 +49,7 @@ bytes_of (Slice slice) = slice.now
 bytes_of (Byte byte) = byte ∷ []
 
 abbrev pub bytes_of_next : Option Piece → List ℕ
-bytes_of_next None = []
-bytes_of_next (Some piece) = bytes_of piece
+bytes_of_next next = option_map_or bytes_of next []
 
 -- a walk over a text: the text, the current index, the concatenation of the pieces from there on,
 -- whether the walk has ended, and how many bytes were read

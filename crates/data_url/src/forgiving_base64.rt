@@ -50,11 +50,10 @@ enum InvalidBase64Details {
 
 impl Model for InvalidBase64 {
     ghost use Rattle.data_url.specs.Base64.{Kind};
-    ghost use Rattle.data_url.specs.InvalidBase64.{kind_of_details};
 
     ghost Value = { Kind };
 
-    ghost view = { λ refusal. kind_of_details refusal.details };
+    ghost view = { λ refusal. refusal.details };
 }
 
 impl fmt::Display for InvalidBase64 {

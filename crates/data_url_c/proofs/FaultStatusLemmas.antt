@@ -5,7 +5,7 @@ use Rattle.std.proofs.Common.{refl, sym, ap, ◌∙◌, arith, eqb}
 use Rattle.std.specs.Prelude.{◌==◌, is_some}
 use Rattle.std.specs.List.{list_any}
 use Rattle.std.proofs.lemmas.List.{drop_more}
-use Rattle.data_url.specs.Base64.{AlphabetSymbolAfterPadding, UnexpectedSymbol}
+use Rattle.data_url.specs.declared.forgiving_base64.InvalidBase64Details.TheVariants.{AlphabetSymbolAfterPadding, UnexpectedSymbol}
 use Rattle.data_url.specs.Base64.{first_fault, is_symbol, kind_of}
 use Rattle.data_url.specs.Mime.{Every}
 use Rattle.data_url.proofs.api.{every_from_all, fault-append, fault-append_some, fault_after, fault_byte}

@@ -3,9 +3,8 @@ use Rattle.std.proofs.Common.{◌≡◌, ℕ, Bool, true, false, List, ◌++◌,
 use Rattle.std.proofs.Common.{◌∙◌, subst, inl, inr}
 use Rattle.std.specs.Global.{Global}
 use Rattle.std.specs.Prelude.{IsUtf8, Vec, MatchBool, MatchOption, chars, option_map}
-use Rattle.data_url.specs.Base64.{Kind, complete_bytes, is_valid, kind_of}
+use Rattle.data_url.specs.Base64.{Kind, complete_bytes, decoded, is_valid, kind_of}
 use Rattle.data_url.specs.DataUrl.{IsAcceptable, IsUrlOf, mime_of, url_body, url_tail}
-use Rattle.data_url.specs.Decoder.{IsAll}
 use Rattle.data_url.specs.Errors.{IsParsingError, IsRefused}
 use Rattle.data_url.specs.Fetch.{Accepted, Outcome, mime_text, staged}
 use Rattle.data_url.specs.Mime.{HasNoRecord, Parses, Record}
@@ -160,9 +159,10 @@ given_by (Some e) P all bytes r kind q h = absurd (let k = h.answer in cc)
 
 not_valid : {E : Type 0} (v : Bool) (x bytes : List ℕ) (r : Result (Unit {0}) (DecodeError E)) (kind : Kind)
     → r ≡ Err (decode.InvalidBase64 kind)
-    → MatchBool v (IsAll x bytes r) ((bytes ≡ complete_bytes x) × (r ≡ Err (decode.InvalidBase64 (kind_of x))))
+    → MatchBool v ((bytes ≡ decoded x) × (r ≡ Ok tt)) ((bytes ≡ complete_bytes x)
+    × (r ≡ Err (decode.InvalidBase64 (kind_of x))))
     → (v ≡ false) × (kind ≡ kind_of x) × (bytes ≡ complete_bytes x)
-not_valid true x bytes r kind q h = absurd (let k = h.answer in cc)
+not_valid true x bytes r kind q h = absurd (let k = h.1 in cc)
 not_valid false x bytes r kind q h = (refl, let k = h.1 in cc, h.0)
 
 -- what a closure that appends its bytes holds for a text that is not valid
@@ -179,7 +179,8 @@ decodes_before {step = step} {f = f} {f' = f'} {x = x} {r = r} {kind = kind} h q
 -- what it holds for a valid text
 valid_all : {E : Type 0} (o : Option E) (v : Bool) (x all bytes : List ℕ) (r : Result (Unit {0}) (DecodeError E))
     → r ≡ Ok tt → MatchOption o
-    (MatchBool v (IsAll x bytes r) ((bytes ≡ complete_bytes x) × (r ≡ Err (decode.InvalidBase64 (kind_of x)))))
+    (MatchBool v ((bytes ≡ decoded x) × (r ≡ Ok tt)) ((bytes ≡ complete_bytes x)
+    × (r ≡ Err (decode.InvalidBase64 (kind_of x)))))
     (λ e. IsRefused all bytes e r) → v ≡ true
 valid_all None true x all bytes r q h = refl
 valid_all None false x all bytes r q h = absurd (let k = h.1 in cc)

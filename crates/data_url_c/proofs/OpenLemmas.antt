@@ -208,14 +208,8 @@ default_printed = ascii_encoded default_text (ascii_all default_text refl)
 -- an empty text has no '/'
 no_record : HasNoRecord []
 no_record m h =
-    let k = h.head in
-    let after = 47 ∷ (h.subtype ++ (k.gap ++ h.parameters)) in
-    let text = ap length k.trimmed.joined in
-    let around = length-append k.trimmed.front (k.text ++ k.trimmed.back) in
-    let back = length-append k.text k.trimmed.back in
-    let parts = ap length k.joined in
-    let slash = length-append h.type_ after in
-    omega (arith, text, around, back, parts, slash)
+    let after = 47 ∷ (h.subtype ++ (h.head.gap ++ h.parameters)) in
+    omega (arith, ap length h.head.joined, length-append h.type_ after)
 
 default_is : IsRecordOf (mime_text []) default_record
 unfolding on_literals

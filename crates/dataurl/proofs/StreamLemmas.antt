@@ -5,7 +5,7 @@ use Rattle.std.specs.Io.KnownBytes.{Appends, Consumes, IsAtEnd, Keeps}
 use Rattle.std.specs.Prelude.{MatchBool, MatchOption}
 use Rattle.std.proofs.lemmas.List.{append-nil}
 use Rattle.data_url.specs.Base64.{decoded, complete_bytes, first_fault, is_valid, kind_of}
-use Rattle.data_url.specs.Decoder.{Feeds, Finishes, IsAll, IsTaken, State, start}
+use Rattle.data_url.specs.Decoder.{Feeds, Finishes, IsTaken, State, start}
 use Rattle.data_url.specs.Errors.{IsRefused}
 use Rattle.data_url.specs.Run.{Call, IsRun, joined_pieces, refusal}
 use Rattle.data_url.proofs.api.{DecodesText}
@@ -127,11 +127,12 @@ whole_output x false v n = (Err (Base64 (kind_of x)), of_no_base64 n v)
 finished_ends : (x : List ℕ) (left : Option (List ℕ)) (bytes after w k : List ℕ)
     (r : Result (Unit {0}) (DecodeError WriteFailed)) (end : End) (v : Bool) → is_valid x ≡ v
     → IsAtEnd left → first_fault x ≡ None
-    → MatchBool v (IsAll x bytes r) ((bytes ≡ complete_bytes x) × (r ≡ Err (InvalidBase64 (kind_of x))))
+    → MatchBool v ((bytes ≡ decoded x) × (r ≡ Ok tt)) ((bytes ≡ complete_bytes x)
+    × (r ≡ Err (InvalidBase64 (kind_of x))))
     → bytes ≡ w ++ after → IsSettled r after k end → IsResult x left base64 (w ++ k) end
 finished_ends x left bytes after w k r end true v over n h e s =
     let P : Result (Unit {0}) (DecodeError WriteFailed) → Type 0 = λ x. IsSettled x after k end in
-    flush_ends x left (decoded x) after w k (Ok tt) end over (of_base64 v) (sym h.bytes_are ∙ e) (subst P h.answer s)
+    flush_ends x left (decoded x) after w k (Ok tt) end over (of_base64 v) (sym h.0 ∙ e) (subst P h.1 s)
 finished_ends x left bytes after w k r end false v over n h e s =
     let P : Result (Unit {0}) (DecodeError WriteFailed) → Type 0 = λ x. IsSettled x after k end in
     flush_ends x left (complete_bytes x) after w k (Err (Base64 (kind_of x))) end over (of_no_base64 n v) (sym h.0 ∙ e)
@@ -150,7 +151,8 @@ refused_write {all} {bytes} after w k r end failed h b s =
 finished_result : (refused : Option WriteFailed) (x : List ℕ) (left : Option (List ℕ)) (bytes after w k : List ℕ)
     (r : Result (Unit {0}) (DecodeError WriteFailed)) (end : End) → IsAtEnd left → first_fault x ≡ None
     → MatchOption refused
-    (MatchBool (is_valid x) (IsAll x bytes r) ((bytes ≡ complete_bytes x) × (r ≡ Err (InvalidBase64 (kind_of x)))))
+    (MatchBool (is_valid x) ((bytes ≡ decoded x) × (r ≡ Ok tt)) ((bytes ≡ complete_bytes x)
+    × (r ≡ Err (InvalidBase64 (kind_of x)))))
     (λ failed. IsRefused (cond (is_valid x) (decoded x) (complete_bytes x)) bytes failed r)
     → MatchOption refused (bytes ≡ w ++ after) (λ failed. IsProperPrefix w bytes)
     → IsSettled r after k end → IsResult x left base64 (w ++ k) end

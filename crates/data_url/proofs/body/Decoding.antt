@@ -23,7 +23,7 @@ use Rattle.data_url.specs.Base64.{groups, is_symbol, rest_bytes, symbol_value, v
 use Rattle.data_url.specs.Url.{before, without_tabs_and_newlines, front, after}
 use Rattle.data_url.specs.Url.{trimmed_text}
 use Rattle.data_url.specs.Percent.{begins_with_escape, percent_decoding}
-use Rattle.data_url.specs.Decoder.{Feeds, Finishes, IsAll, State, start}
+use Rattle.data_url.specs.Decoder.{Feeds, Finishes, State, start}
 use Rattle.data_url.specs.Steps.Whole.{DecodesText}
 use Rattle.data_url.specs.declared.forgiving_base64.DecodeError.{DecodeError}
 use Rattle.data_url.proofs.forgiving_base64.Steps.{feeds_err, feeds_then}
@@ -141,7 +141,7 @@ mapped place (Err e) q m = sym m
 module _ {F E : Type 0} (step : F → List ℕ → Result (Unit {0}) E → F → Type 0) where
   gives_valid : (u bytes : List ℕ) (place : ℕ) (good : ℕ → Type 0) (r : Result (Unit {0}) (DecodeError E))
       (o : Option E) → (r ≡ Ok tt → good place)
-      → MatchOption o (IsAll u bytes r) (λ e. IsRefused (decoded u) bytes e r)
+      → MatchOption o ((bytes ≡ decoded u) × (r ≡ Ok tt)) (λ e. IsRefused (decoded u) bytes e r)
       → MatchOption o (HandsOut (Good (decoded u)) good bytes (at_place place r))
       (λ e. IsRefused (outcome_bytes (Good (decoded u))) bytes e (at_place place r))
   gives_valid u bytes place good r None g h = grind arith
@@ -158,7 +158,7 @@ module _ {F E : Type 0} (step : F → List ℕ → Result (Unit {0}) E → F →
 
   gives : (u bytes : List ℕ) (place : ℕ) (good : ℕ → Type 0) (r : Result (Unit {0}) (DecodeError E)) (o : Option E)
       (v : Bool) → (r ≡ Ok tt → good place)
-      → MatchOption o (MatchBool v (IsAll u bytes r) ((bytes ≡ complete_bytes u)
+      → MatchOption o (MatchBool v ((bytes ≡ decoded u) × (r ≡ Ok tt)) ((bytes ≡ complete_bytes u)
       × (r ≡ Err (InvalidBase64 (kind_of u))))) (λ e. IsRefused (cond v (decoded u) (complete_bytes u)) bytes e r)
       → MatchOption o (HandsOut (cond v (Good (decoded u)) (Bad (complete_bytes u) (kind_of u))) good bytes
       (at_place place r)) (λ e. IsRefused

@@ -1,50 +1,32 @@
 -- MIME types with their records and printed texts. Each record has a derivation in the grammar; each printed text is
 -- computed.
 use Rattle.std.proofs.Common.{◌≡◌, ℕ, Bool, true, false, List, [], ◌∷◌, ◌++◌, Option, None, Some, inl, inr, codes}
-use Rattle.std.proofs.Common.{append-nil, eq-eqb, eqb, refl, subst, sym, ◌∙◌, ap, map}
+use Rattle.std.proofs.Common.{eq-eqb, eqb, refl, subst, sym, ◌∙◌, ap, map}
 use Rattle.std.specs.Prelude.{◌==◌, IsTrue, ◌≢◌, not, ◌&&◌}
 use Rattle.std.specs.List.{list_all}
 use Rattle.std.specs.Char.{to_ascii_lowercase}
 use Rattle.data_url.specs.CodePoints.{ends_name, is_http_whitespace, is_semicolon}
-use Rattle.data_url.specs.Mime.{BeginsParameters, DoesNotBegin, DoesNotEnd, GivesValue, HasNoRecord, IsHead}
-use Rattle.data_url.specs.Mime.{IsParameter, IsRecordOf, IsTrimmed, IsTrimmedEnd, Item, Items, Pair, Parses}
+use Rattle.data_url.specs.Mime.{BeginsParameters, DoesNotBegin, GivesValue, HasNoRecord, IsHead}
+use Rattle.data_url.specs.Mime.{IsParameter, IsRecordOf, Item, Items, Pair, Parses}
 use Rattle.data_url.specs.Mime.{Quoted, Record, default_record, is_quote, is_token_text, kept_pairs}
 use Rattle.data_url.specs.Mime.{after_backslash, nothing_quoted, plain, as_itself, printed, quoted, unclosed, unless_empty}
+use Rattle.data_url.specs.Url.{without_end}
 use Rattle.data_url.proofs.examples.Literals.{on_literals}
 use Rattle.data_url.proofs.mime.Items.{every_from_all, has_parts, parameters_in, subtype_in, trimmed_of, type_in}
 use Rattle.std.proofs.lemmas.Bool.{and_parts}
 
 -- Derivations on literals
 
--- a text that has no whitespace at its ends
-untrimmed : (p : ℕ → Bool) (t : List ℕ) → DoesNotBegin p t → DoesNotEnd p t → IsTrimmed p t t
-untrimmed p t begins ends = record {
-  front = [];
-  back = [];
-  joined = sym (append-nil t);
-  at_front = tt;
-  at_back =
-      tt;
-  begins = begins;
-  ends = ends;
-}
-
-untrimmed_end : (p : ℕ → Bool) (t : List ℕ) → DoesNotEnd p t → IsTrimmedEnd p t t
-untrimmed_end p t ends = record { back = []; joined = sym (append-nil t); at_back = tt; ends = ends }
-
 -- the text of a type, a subtype and parameters
 abbrev head_text : List ℕ → List ℕ → List ℕ → List ℕ
 head_text type_ subtype r = type_ ++ (47 ∷ (subtype ++ r))
 
 head : (type_ subtype r : List ℕ) → IsTrue (is_token_text type_) → IsTrue (is_token_text subtype) → BeginsParameters r
-    → DoesNotBegin is_http_whitespace (head_text type_ subtype r)
-    → DoesNotEnd is_http_whitespace (head_text type_ subtype r) → IsHead (head_text type_ subtype r) type_ subtype r
-head type_ subtype r t s b begins ends = record {
-  text = head_text type_ subtype r;
+    → trimmed_of is_http_whitespace (head_text type_ subtype r) ≡ head_text type_ subtype r
+    → IsHead (head_text type_ subtype r) type_ subtype r
+head type_ subtype r t s b trimmed = record {
   gap = [];
-  trimmed =
-      untrimmed is_http_whitespace (head_text type_ subtype r) begins ends;
-  joined = refl;
+  joined = trimmed;
   is_type = t;
   is_subtype =
       s;
@@ -72,10 +54,9 @@ parameter name tail rest value begins names gives = record {
 
 -- '=' and a text without quotes and whitespace at its end
 plain_value : (text rest : List ℕ) → list_all (λ c. not (is_semicolon c)) text ≡ true → DoesNotBegin is_quote text
-    → DoesNotEnd is_http_whitespace text → GivesValue (61 ∷ text) rest (unless_empty text)
-plain_value text rest semicolons quotes ends =
-    plain text text (every_from_all (λ c. not (is_semicolon c)) text semicolons) quotes
-    (untrimmed_end is_http_whitespace text ends)
+    → without_end is_http_whitespace text ≡ text → GivesValue (61 ∷ text) rest (unless_empty text)
+plain_value text rest semicolons quotes ends = subst (λ v. GivesValue (61 ∷ text) rest (unless_empty v)) ends
+    (plain text (every_from_all (λ c. not (is_semicolon c)) text semicolons) quotes)
 
 is_plain : ℕ → Bool
 is_plain c = not (c == 34) && not (c == 92)
@@ -109,7 +90,7 @@ quotes = record {
   subtype = codes "HTML";
   parameters = codes ";a=" ++ (34 ∷ codes "b;c" ++ (34 ∷ codes ";d=;e=" ++ (34 ∷ 34 ∷ [])));
   head = head (codes "TEXT") (codes "HTML")
-      (codes ";a=" ++ (34 ∷ codes "b;c" ++ (34 ∷ codes ";d=;e=" ++ (34 ∷ 34 ∷ [])))) refl refl refl refl refl;
+      (codes ";a=" ++ (34 ∷ codes "b;c" ++ (34 ∷ codes ";d=;e=" ++ (34 ∷ 34 ∷ [])))) refl refl refl refl;
   record_is = record {
     items = (codes "a", Some (codes "b;c")) ∷ (codes "d", None) ∷ (codes "e", Some []) ∷ [];
     items_are = (
@@ -121,7 +102,7 @@ quotes = record {
         codes ";d=",
         codes ";e=" ++ (34 ∷ 34 ∷ []),
         refl,
-        parameter (codes "d") _ _ _ refl refl (plain_value [] _ refl tt tt),
+        parameter (codes "d") _ _ _ refl refl (plain_value [] _ refl tt refl),
         (
           codes ";e=" ++ (34 ∷ 34 ∷ []),
           [],
@@ -143,14 +124,15 @@ abbrev x_x : List Pair → Record
 x_x pairs = record { type_ = codes "x"; subtype = codes "x"; parameters = pairs }
 
 -- a text of type and subtype x whose parameters have these items
-parses_x : (r : List ℕ) (items : List Item) → BeginsParameters r → DoesNotEnd is_http_whitespace (codes "x/x" ++ r)
+parses_x : (r : List ℕ) (items : List Item) → BeginsParameters r
+    → trimmed_of is_http_whitespace (codes "x/x" ++ r) ≡ codes "x/x" ++ r
     → Items r items → Parses (codes "x/x" ++ r) (x_x (kept_pairs items))
 unfolding on_literals
 parses_x r items begins ends are = record {
   type_ = codes "x";
   subtype = codes "x";
   parameters = r;
-  head = head (codes "x") (codes "x") r refl refl begins refl ends;
+  head = head (codes "x") (codes "x") r refl refl begins ends;
   record_is = record {
     items = items;
     items_are = are;
@@ -314,7 +296,13 @@ invalid_names = parses_x (codes ";=q;" ++ (233 ∷ codes "=" ++ (34 ∷ codes "a
         codes ";d=e",
         refl,
         parameter (233 ∷ []) _ _ _ refl refl (quoted (codes "a;b=c") [] (each (codes "a;b=c") refl) tt),
-        (codes ";d=e", [], refl, parameter (codes "d") _ _ _ refl refl (plain_value (codes "e") _ refl refl refl), refl),
+        (
+          codes ";d=e",
+          [],
+          refl,
+          parameter (codes "d") _ _ _ refl refl (plain_value (codes "e") _ refl refl refl),
+          refl,
+        ),
       ),
     )
 
@@ -331,19 +319,7 @@ whitespace = record {
   subtype = codes "b";
   parameters = codes "; c=d";
   head = record {
-    text = codes "a/b ; c=d";
     gap = codes " ";
-    trimmed = record {
-      front = codes " ";
-      back = codes " ";
-      joined = refl;
-      at_front =
-          every_from_all is_http_whitespace (codes " ") refl;
-      at_back =
-          every_from_all is_http_whitespace (codes " ") refl;
-      begins = refl;
-      ends = refl;
-    };
     joined = refl;
     is_type = refl;
     is_subtype = refl;

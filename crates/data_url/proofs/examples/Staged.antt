@@ -1,6 +1,6 @@
 -- Whole texts and the result of the data: URL processor for them, by computation.
 use Rattle.std.proofs.Common.{◌≡◌, [], ◌∷◌, ◌++◌, None, Some, codes, refl}
-use Rattle.data_url.specs.Base64.{Padding, UnexpectedSymbol}
+use Rattle.data_url.specs.declared.forgiving_base64.InvalidBase64Details.TheVariants.{Padding, UnexpectedSymbol}
 use Rattle.data_url.specs.Fetch.{Accepted, Bad, Good, NoComma, NoScheme, staged, tail_of}
 use Rattle.data_url.proofs.examples.Literals.{on_literals}
 

@@ -9,8 +9,10 @@ use Rattle.std.proofs.lemmas.Bool.{false≢true, true≢false, eqb-true, eq-eqb,
 use Rattle.std.proofs.lemmas.Bool.{not-true, not_from_false, cond-false, and_from, and_right}
 use Rattle.std.proofs.lemmas.Bool.{false_from_ne_true, agree_below_at, and_parts}
 use Rattle.data_url.specs.Base64.{before_place, first_fault, is_fault, is_symbol, is_valid, without_padding}
-use Rattle.data_url.specs.Base64.{without_last_padding, AlphabetSymbolAfterPadding, Kind, LoneAlphabetSymbol, Padding}
-use Rattle.data_url.specs.Base64.{UnexpectedSymbol, after_groups, without_whitespace, complete_bytes}
+use Rattle.data_url.specs.Base64.{without_last_padding, Kind}
+use Rattle.data_url.specs.declared.forgiving_base64.InvalidBase64Details.TheVariants.{AlphabetSymbolAfterPadding, LoneAlphabetSymbol, Padding}
+use Rattle.data_url.specs.Base64.{after_groups, without_whitespace, complete_bytes}
+use Rattle.data_url.specs.declared.forgiving_base64.InvalidBase64Details.TheVariants.{UnexpectedSymbol}
 use Rattle.data_url.specs.Base64.{groups, kind_at, kind_of, values}
 use Rattle.data_url.specs.Mime.{Every}
 use Rattle.std.proofs.Math.Bool.{or-false, or_assoc}

@@ -7,7 +7,8 @@ use Rattle.std.specs.List.{filter, list_any}
 use Rattle.std.proofs.lemmas.List.{append-nil, length-map, length-replicate, take-append-drop}
 use Rattle.std.proofs.lemmas.List.Elements.{filter-append}
 use Rattle.std.proofs.lemmas.Bool.{false≢true, true≢false}
-use Rattle.data_url.specs.Base64.{AlphabetSymbolAfterPadding, Kind, LoneAlphabetSymbol, Padding, UnexpectedSymbol}
+use Rattle.data_url.specs.Base64.{Kind}
+use Rattle.data_url.specs.declared.forgiving_base64.InvalidBase64Details.TheVariants.{AlphabetSymbolAfterPadding, LoneAlphabetSymbol, Padding, UnexpectedSymbol}
 use Rattle.data_url.specs.Base64.{after_groups, decoded, complete_bytes, first_fault, group_bytes, group_number, groups}
 use Rattle.data_url.specs.Base64.{is_symbol, is_valid, kind_of, left_padding, left_symbols, left_text, rest_bytes}
 use Rattle.data_url.specs.Base64.{symbol_value, values}
@@ -32,8 +33,6 @@ use Rattle.data_url.proofs.forgiving_base64.Padding.{done_stays, fault-append_so
 use Rattle.data_url.specs.Steps.Calls.{CallsOnce}
 use Rattle.data_url.specs.Steps.Ending.{IsFaultAtEnd}
 use Rattle.data_url.specs.Facts.{Fits}
-use Rattle.data_url.specs.declared.forgiving_base64.InvalidBase64Details.TheVariants.{LoneAlphabetSymbol as LoneAlphabetSymbolDetails}
-use Rattle.data_url.specs.declared.forgiving_base64.InvalidBase64Details.TheVariants.{Padding as PaddingDetails}
 use Rattle.data_url.specs.Laws.{GoesOn}
 use Rattle.data_url.proofs.forgiving_base64.Groups.{two_feeds}
 

@@ -7,7 +7,7 @@ use Rattle.std.proofs.lemmas.Bool.{cond-true}
 use Rattle.data_url.specs.Base64.{decoded, complete_bytes, is_valid, kind_of, left_padding, left_symbols}
 use Rattle.data_url.specs.Base64.{left_text}
 use Rattle.data_url.specs.Steps.Whole.{DecodesText}
-use Rattle.data_url.specs.Decoder.{Feeds, Finishes, IsAll, IsTaken, State, left_over, start}
+use Rattle.data_url.specs.Decoder.{Feeds, Finishes, IsTaken, State, left_over, start}
 use Rattle.data_url.specs.Errors.{IsRefused}
 use Rattle.data_url.specs.Laws.{GoesOn}
 use Rattle.data_url.specs.Run.{Call, IsPrefix, IsRun, joined_pieces, refusal}
@@ -43,7 +43,8 @@ done_whole u =
 -- a text that has a fault while it is fed is not valid
 taken_invalid : {F E : Type 0} (u bytes : List ℕ) (r : Result (Unit {0}) (DecodeError E)) (x : DecodeError E)
     (d : State F) (o : Option ℕ) → r ≡ Err x → fault_byte false u ≡ o → IsTaken u bytes r d
-    → MatchBool (is_valid u) (IsAll u bytes r) ((bytes ≡ complete_bytes u) × (r ≡ Err (InvalidBase64 (kind_of u))))
+    → MatchBool (is_valid u) ((bytes ≡ decoded u) × (r ≡ Ok tt)) ((bytes ≡ complete_bytes u)
+    × (r ≡ Err (InvalidBase64 (kind_of u))))
 taken_invalid u bytes r x d None q h t = grind (arith, none_fault)
 taken_invalid u bytes r x d (Some c) q h t = grind (arith, fault_invalid)
 
@@ -51,7 +52,7 @@ module _ {F E : Type 0} (step : F → List ℕ → Result (Unit {0}) E → F →
   -- what the closure is called with for a whole text
   abbrev Whole : List ℕ → Option E → List ℕ → Result (Unit {0}) (DecodeError E) → Type 0
   Whole u o bytes r =
-      MatchOption o (MatchBool (is_valid u) (IsAll u bytes r) ((bytes ≡ complete_bytes u)
+      MatchOption o (MatchBool (is_valid u) ((bytes ≡ decoded u) × (r ≡ Ok tt)) ((bytes ≡ complete_bytes u)
       × (r ≡ Err (InvalidBase64 (kind_of u)))))
       (λ e. IsRefused (whole_bytes u) bytes e r)
 
@@ -99,11 +100,7 @@ module _ {F E : Type 0} (step : F → List ℕ → Result (Unit {0}) E → F →
                   let good : is_valid u ≡ true = valid ∙ v in
                   match_map (refusal g.run) _ _ _ _
                   (λ w. bool_at_true (is_valid u) _ _ good
-                  (record {
-                    bytes_are = bytes ∙ ap (λ x. complete_bytes u ++ x) w.bytes_are ∙ sym all;
-                    answer =
-                        w.answer;
-                  }))
+                  (bytes ∙ ap (λ x. complete_bytes u ++ x) w.0 ∙ sym all, w.1))
                   (λ e w. record {
                     bytes_begin =
                         prefix_trans (joined_pieces (f.run ++ g.run)) (complete_bytes u ++ joined_pieces g.run)

@@ -15,8 +15,7 @@ use Rattle.data_url.specs.Url.{cleaned_text, without_tabs_and_newlines, fragment
 use Rattle.data_url.specs.Url.{in_fragment_set}
 use Rattle.data_url.specs.Fetch.{is_space, stripped_header, encoded_body, header_of, staged_front}
 use Rattle.data_url.specs.Fetch.{tail_of, before_base64, before_semicolon, before_word, has_base64_suffix}
-use Rattle.data_url.specs.Fetch.{media_of, mime_text, with_plain, Accepted, NoComma, NoScheme}
-use Rattle.data_url.specs.Fetch.{outcome, plain_body, staged, staged_after}
+use Rattle.data_url.specs.Fetch.{media_of, mime_text, with_plain, Accepted, NoComma, NoScheme, outcome, plain_body, staged, Good, Outcome}
 use Rattle.data_url.specs.Steps.Header.{IsPrintable, header_text, IsHeaderOf, IsRecordFor}
 use Rattle.data_url.proofs.percent.Encoding.{IsBytes, encoded_cons, encoded_nil, header_nil}
 use Rattle.data_url.proofs.percent.Encoding.{header_path, header_query, Recoded, RecodedTails}
@@ -31,7 +30,9 @@ use Rattle.data_url.proofs.texts.Bytes.{without_tabs_and_newlines-append, droppe
 use Rattle.data_url.proofs.texts.Bytes.{dropped_passes, lacks}
 use Rattle.std.proofs.lemmas.Str.{chars-IsAscii}
 use Rattle.data_url.specs.Mime.{HasNoRecord, IsWellformed, Parses, Record, default_record, BeginsParameters, DoesNotEnd}
-use Rattle.data_url.specs.Mime.{IsHead, IsRecordOfParts, IsTrimmedEnd, is_token_text}
+use Rattle.data_url.specs.Mime.{IsHead, IsRecordOfParts, is_token_text}
+use Rattle.data_url.specs.Steps.Parsing.{IsTrimmedEnd}
+use Rattle.data_url.proofs.texts.CodePoints.{trimmed_end_is}
 use Rattle.data_url.proofs.examples.Literals.{on_literals}
 use Rattle.data_url.specs.CodePoints.{is_http_whitespace}
 use Rattle.data_url.proofs.mime.FirstNames.{parses_parts, parses_wellformed}
@@ -401,18 +402,13 @@ ends_after p c (d ∷ t) n h = h
 head_of : (s t : List ℕ) → BeginsParameters s → IsTrimmedEnd is_http_whitespace s t
     → IsHead (codes "text/plain" ++ s) (codes "text") (codes "plain") t
 head_of s t b e = record {
-  text = codes "text/plain" ++ t;
   gap = [];
-  trimmed = record {
-    front = [];
+  joined = sym (trimmed_end_is is_http_whitespace (codes "text/plain" ++ s) (codes "text/plain" ++ t) (record {
     back = e.back;
     joined = ap (λ x. codes "text/plain" ++ x) e.joined;
-    at_front = tt;
     at_back = e.at_back;
-    begins = refl;
     ends = ends_after is_http_whitespace 110 t refl e.ends;
-  };
-  joined = refl;
+  }));
   is_type = token_text;
   is_subtype = token_plain;
   in_gap = tt;
@@ -451,7 +447,7 @@ plain_record media a b c m h e head record_is =
 -- if the trimmed text does not begin with the scheme, the Standard finds no scheme
 pub stages_no_scheme : (t : List ℕ) → HasNoScheme (trimmed_text t) → staged t ≡ NoScheme
 unfolding staged
-stages_no_scheme t h = ap (staged_after t) (after_none t h)
+stages_no_scheme t h = cc (after_none t h)
 
 -- if the trimmed text is a text of bytes, so is the rest after its scheme
 pub rest_bytes : (t rest : List ℕ) → IsBytes (trimmed_text t) → IsSchemeAndRest (trimmed_text t) rest → IsBytes rest

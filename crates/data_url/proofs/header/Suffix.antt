@@ -14,7 +14,7 @@ use Rattle.std.proofs.lemmas.List.{reverse-append}
 use Rattle.std.proofs.lemmas.List.Sums.{suffix_len-le-length, prefix_len-drop_no, prefix_len-le-length}
 use Rattle.std.proofs.lemmas.Slice.Eq.{bytes_eq-Decides}
 use Rattle.data_url.specs.Url.{is_c0_control_or_space, without_end}
-use Rattle.data_url.specs.Fetch.{before_base64, before_last, before_semicolon, is_space, last_bytes, before_word}
+use Rattle.data_url.specs.Fetch.{before_base64, before_semicolon, is_space, before_word}
 use Rattle.data_url.specs.Fetch.{has_base64_suffix, stripped_header}
 use Rattle.data_url.specs.Steps.Header.{IsPrintable}
 use Rattle.data_url.proofs.header.Stages.{low_end, printable_take}
@@ -27,6 +27,13 @@ use Rattle.std.proofs.lemmas.List.Folds.{prefix_len-append}
 -- the word of the suffix
 abbrev pub word : List ℕ
 word = codes "base64"
+
+-- the last n bytes, and the bytes before them
+abbrev last_bytes : ℕ → List ℕ → List ℕ
+last_bytes n s = drop (length s - n) s
+
+abbrev before_last : ℕ → List ℕ → List ℕ
+before_last n s = take (length s - n) s
 
 -- a text whose last six bytes are not "base64", in any ASCII case, has no base64 suffix
 pub no_word : (s : List ℕ) → (map to_ascii_lowercase (last_bytes 6 s) ≡ word → ⊥) → before_base64 s ≡ None

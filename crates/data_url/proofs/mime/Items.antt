@@ -5,14 +5,14 @@ use Rattle.std.proofs.Common.{length-append, eqb-true, true}
 use Rattle.std.proofs.lemmas.Bool.{cond_both, not-false, and_from, and_parts}
 use Rattle.std.specs.Char.{to_ascii_lowercase}
 use Rattle.data_url.specs.CodePoints.{ends_name, is_http_whitespace, is_semicolon, is_token}
-use Rattle.data_url.specs.Mime.{BeginsParameters, DoesNotBegin, Every, GivesValue, IsParameter, IsTrimmedEnd, Item}
+use Rattle.data_url.specs.Mime.{BeginsParameters, DoesNotBegin, Every, GivesValue, IsParameter, Item}
 use Rattle.data_url.specs.Mime.{Items, Quoted, QuotedOpen, is_quote, lone_equals, nothing, plain, quoted, unclosed}
-use Rattle.data_url.specs.Mime.{unless_empty, DoesNotEnd, IsHead, IsTrimmed, Record, is_token_text}
+use Rattle.data_url.specs.Mime.{unless_empty, IsHead, Record, is_token_text}
+use Rattle.data_url.specs.Url.{without_end, without_front}
 use Rattle.data_url.specs.Facts.{HasOneItemList, HasAtMostOneRecord}
 use Rattle.data_url.specs.Steps.Parsing.{HasParameterBefore}
 use Rattle.data_url.proofs.texts.CodePoints.{after_begins, after_front, after_is, front_is, front_joined, front_of}
-use Rattle.data_url.proofs.texts.CodePoints.{front_passes, is_trimmed_end, without_back}
-use Rattle.data_url.proofs.texts.CodePoints.{without_back_joined}
+use Rattle.data_url.proofs.texts.CodePoints.{front_passes}
 use Rattle.data_url.proofs.mime.Quoted.{IsRead, closed_rest, closed_value, is_read, open_rest, open_value, quoted_rest}
 use Rattle.data_url.proofs.mime.Quoted.{quoted_value}
 use Rattle.std.specs.List.{list_all}
@@ -41,7 +41,7 @@ quoted_reading value (Some w) = record { value = Some value; rest = after_front 
 -- on
 abbrev pub plain_reading : List ℕ → Reading
 plain_reading s = record {
-  value = unless_empty (without_back is_http_whitespace (front_of in_value s));
+  value = unless_empty (without_end is_http_whitespace (front_of in_value s));
   rest =
       after_front in_value s;
 }
@@ -63,6 +63,14 @@ reading (c ∷ t) = cond (c == 61) (reading_after t) (record { value = None; res
 pub begins_no_value : (r : List ℕ) → BeginsParameters r → DoesNotBegin in_value r
 begins_no_value [] h = tt
 begins_no_value (c ∷ r) h = ap in_value h
+
+plain_is : (text rest : List ℕ) → Every in_value text → BeginsParameters rest → plain_reading (text ++ rest)
+    ≡ record { value = unless_empty (without_end is_http_whitespace text); rest = rest }
+plain_is text rest e b =
+    rw (
+      front_is in_value text rest e (begins_no_value rest b),
+      after_is in_value text rest e (begins_no_value rest b),
+    ) refl
 
 plain_after : (text rest : List ℕ) → DoesNotBegin is_quote text → BeginsParameters rest
     → reading_after (text ++ rest) ≡ plain_reading (text ++ rest)
@@ -91,8 +99,7 @@ reading_is : (tail rest : List ℕ) (value : Option (List ℕ)) → GivesValue t
     → reading (tail ++ rest) ≡ record { value = value; rest = rest }
 reading_is _ _ _ (nothing {rest}) b = nothing_is rest b
 reading_is _ _ _ lone_equals b = refl
-reading_is _ _ _ (plain {rest} text value e d t) b =
-    grind (arith, plain_after, front_is, begins_no_value, after_is, without_back_joined)
+reading_is _ _ _ (plain {rest} text e d) b = plain_after text rest d b ∙ plain_is text rest e b
 reading_is _ _ _ (quoted {value} {rest} text junk h e) b = quoted_is text value junk rest h e b
 reading_is _ _ _ (unclosed {value} text h) b = rw (append-nil text) (open_reading text value h)
 
@@ -125,8 +132,7 @@ is_plain_reading : (s : List ℕ) → DoesNotBegin is_quote s → IsReading (61 
 is_plain_reading s h = record {
   tail = 61 ∷ front_of in_value s;
   joined = ap (λ x. 61 ∷ x) (front_joined in_value s);
-  gives = plain (front_of in_value s) (without_back is_http_whitespace (front_of in_value s)) (front_passes in_value s)
-      (front_not_quote s h) (is_trimmed_end is_http_whitespace (front_of in_value s));
+  gives = plain (front_of in_value s) (front_passes in_value s) (front_not_quote s h);
   begins = begins_after s;
 }
 
@@ -237,7 +243,7 @@ ends_of_tail : (p : ℕ → Bool) → p 59 ≡ false → p 61 ≡ false → (tai
     → GivesValue tail rest value → BeginsParameters rest → DoesNotBegin p (tail ++ rest)
 ends_of_tail p e f _ _ _ (nothing {rest}) b = ends_of_rest p e rest b
 ends_of_tail p e f _ _ _ lone_equals b = f
-ends_of_tail p e f _ _ _ (plain text value w d t) b = f
+ends_of_tail p e f _ _ _ (plain text w d) b = f
 ends_of_tail p e f _ _ _ (quoted text junk h w) b = f
 ends_of_tail p e f _ _ _ (unclosed text h) b = f
 
@@ -374,17 +380,7 @@ every_append p (c ∷ a) b h e = (h.0, every_append p a b h.1 e)
 
 -- the text without the longest prefix and the longest suffix of code points that pass
 abbrev pub trimmed_of : (ℕ → Bool) → List ℕ → List ℕ
-trimmed_of p s = without_back p (after_front p s)
-
-trimmed_joined : (p : ℕ → Bool) (front t back : List ℕ) → Every p front → Every p back → DoesNotBegin p t
-    → DoesNotEnd p t → trimmed_of p (front ++ (t ++ back)) ≡ t
-trimmed_joined p front [] back f b d e = ap (without_back p) (ap (after_front p) (sym (append-nil (front ++ back)))
-    ∙ after_is p (front ++ back) [] (every_append p front back f b) tt)
-trimmed_joined p front (c ∷ t) back f b d e = grind (arith, after_is, without_back_joined)
-
--- if t is s without what passes at both ends, t is `trimmed_of p s`
-pub trimmed_is : (p : ℕ → Bool) (s t : List ℕ) → IsTrimmed p s t → t ≡ trimmed_of p s
-trimmed_is p s t h = grind (arith, trimmed_joined)
+trimmed_of p s = without_end p (without_front p s)
 
 -- The parts of a head
 
@@ -436,15 +432,18 @@ pub record HasParts (t type_ subtype parameters : List ℕ) : Type 0 where
   pub subtype_is : subtype_in t ≡ subtype
   pub parameters_are : parameters_in t ≡ parameters
 
-head_parts : (s type_ subtype r : List ℕ) (h : IsHead s type_ subtype r) → HasParts h.text type_ subtype r
-head_parts s type_ subtype r h = grind (arith, every_token, after_is, slash_no_token, gap_no_token, front_is)
+parts_joined : (type_ subtype gap r : List ℕ) → Every is_token type_ → Every is_token subtype
+    → Every is_http_whitespace gap → BeginsParameters r
+    → HasParts (type_ ++ (47 ∷ (subtype ++ (gap ++ r)))) type_ subtype r
+parts_joined type_ subtype gap r t s g b =
+    grind (arith, after_is, slash_no_token, gap_no_token, front_is)
 
 -- if a text has a head, its parts are those read from the text without HTTP whitespace at both ends
 pub has_parts : (s type_ subtype r : List ℕ) → IsHead s type_ subtype r
     → HasParts (trimmed_of is_http_whitespace s) type_ subtype r
-has_parts s type_ subtype r h =
-    subst (λ x. HasParts x type_ subtype r) (trimmed_is is_http_whitespace s h.text h.trimmed)
-    (head_parts s type_ subtype r h)
+has_parts s type_ subtype r h = subst (λ x. HasParts x type_ subtype r) (sym h.joined)
+    (parts_joined type_ subtype h.gap r (every_token type_ h.is_type) (every_token subtype h.is_subtype) h.in_gap
+    h.begins)
 
 record_equal : (m n : Record) → m.type_ ≡ n.type_ → m.subtype ≡ n.subtype → m.parameters ≡ n.parameters → m ≡ n
 record_equal m n t s p = λ i. record { type_ = t i; subtype = s i; parameters = p i }

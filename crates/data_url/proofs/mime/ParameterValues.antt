@@ -20,9 +20,9 @@ use Rattle.std.proofs.lemmas.Str.{chars-nil, chars_past_char, encode_ascii, enco
 use Rattle.std.proofs.lemmas.Str.{IsUtf8-encode, cons_from_encodes}
 use Rattle.std.specs.Str.{IsCharBoundary, IsUtf8, chars, all_scalars}
 use Rattle.data_url.specs.CodePoints.{ends_name, is_http_whitespace, is_semicolon, is_quotable}
-use Rattle.data_url.specs.Mime.{DoesNotBegin, DoesNotEnd, Every, IsTrimmedEnd, Without, Quoted}
+use Rattle.data_url.specs.Mime.{DoesNotBegin, DoesNotEnd, Every, Without, Quoted}
 use Rattle.data_url.specs.Mime.{QuotedOpen, after_backslash, nothing_quoted, as_itself}
-use Rattle.data_url.specs.Steps.Parsing.{IsTrimmedFront, is_escaped, IsValue, is_quotable_byte, quotable_value}
+use Rattle.data_url.specs.Steps.Parsing.{IsTrimmedEnd, IsTrimmedFront, is_escaped, IsValue, is_quotable_byte, quotable_value}
 use Rattle.data_url.specs.Steps.Parsing.{is_unquoted_byte}
 use Rattle.data_url.proofs.mime.Items.{all_from_every}
 use Rattle.std.specs.Char.{IsScalar}

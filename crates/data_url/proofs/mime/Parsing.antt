@@ -8,12 +8,14 @@ use Rattle.std.specs.Bool.{MatchBool}
 use Rattle.std.specs.Str.{IsUtf8, chars}
 use Rattle.std.specs.Str.Pattern.{FindsCharPrefix, HasCharAt, HasPrefixMatch}
 use Rattle.data_url.specs.CodePoints.{is_http_whitespace, is_token, ends_name, is_semicolon}
-use Rattle.data_url.specs.Mime.{BeginsParameters, DoesNotBegin, Every, IsHead, IsTrimmed, IsTrimmedEnd, is_token_text}
+use Rattle.data_url.specs.Mime.{BeginsParameters, DoesNotBegin, Every, GivesValue, IsHead, is_token_text}
 use Rattle.data_url.specs.Mime.{Quoted, QuotedOpen, Without, is_quote, nothing, plain, quoted, unclosed, unless_empty}
-use Rattle.data_url.specs.Steps.Parsing.{HasNoHead, IsTrimmedFront, HasParameterBefore, HasValueBefore}
+use Rattle.data_url.specs.Steps.Parsing.{HasNoHead, IsTrimmedEnd, IsTrimmedFront, HasParameterBefore, HasValueBefore}
 use Rattle.data_url.proofs.texts.CodePoints.{after_is, front_is}
 use Rattle.data_url.proofs.mime.Items.{tail_equal, all_from_every, every_token, gap_no_token}
-use Rattle.data_url.proofs.mime.Items.{slash_no_token, trimmed_is, semicolon_from}
+use Rattle.data_url.proofs.mime.Items.{slash_no_token, trimmed_of, semicolon_from}
+use Rattle.data_url.proofs.texts.CodePoints.{trimmed_end_is, trimmed_front_is}
+use Rattle.data_url.specs.Url.{without_end}
 use Rattle.std.specs.Char.{to_ascii_lowercase}
 
 -- The head of a MIME type: what the parser cuts is the head, and there is no other.
@@ -30,9 +32,7 @@ same_span p a b c d e f g h k = grind (arith, front_is, after_is)
 
 -- s without HTTP whitespace at both ends is ty, its longest prefix of token code points, and then x
 pub record Cut (s ty x : List ℕ) : Type 0 where
-  pub text : List ℕ
-  pub trimmed : IsTrimmed is_http_whitespace s text
-  pub joined : text ≡ ty ++ x
+  pub joined : trimmed_of is_http_whitespace s ≡ ty ++ x
   pub tokens : Every is_token ty
   pub begins : DoesNotBegin is_token x
 
@@ -48,9 +48,8 @@ pub record CutAgain (y su p : List ℕ) : Type 0 where
 pub head_forced : (s ty x a b c : List ℕ) → Cut s ty x → (h : IsHead s a b c)
     → (ty ≡ a) × (x ≡ 47 ∷ (b ++ (h.gap ++ c)))
 head_forced s ty x a b c k h =
-    same_span is_token ty x a (47 ∷ (b ++ (h.gap ++ c))) (sym k.joined
-    ∙ trimmed_is is_http_whitespace s k.text k.trimmed ∙ sym (trimmed_is is_http_whitespace s h.text h.trimmed)
-    ∙ h.joined) k.tokens k.begins (every_token a h.is_type) slash_no_token
+    same_span is_token ty x a (47 ∷ (b ++ (h.gap ++ c))) (sym k.joined ∙ h.joined) k.tokens k.begins
+    (every_token a h.is_type) slash_no_token
 
 -- if y is the rest of a head after its '/', and is cut into su and p, these are its subtype and its parameters
 pub rest_forced : (s y su p a b c : List ℕ) → CutAgain y su p → (h : IsHead s a b c) → y ≡ b ++ (h.gap ++ c)
@@ -129,7 +128,12 @@ begins_if x false u n h = begins_semicolon x (chars x) u (nonempty_chars x u n) 
 -- a text, trimmed at both ends and cut after its longest prefix of token code points, is cut into type and rest
 pub cut_from : (s a t ty x : List ℕ) → IsTrimmedFront is_http_whitespace s a → IsTrimmedEnd is_http_whitespace a t
     → t ≡ ty ++ x → Every is_token ty → DoesNotBegin is_token x → Cut s ty x
-cut_from s a t ty x f e j k b = grind arith
+cut_from s a t ty x f e j k b = record {
+  joined = sym (ap (without_end is_http_whitespace) (trimmed_front_is is_http_whitespace s a f))
+      ∙ sym (trimmed_end_is is_http_whitespace a t e) ∙ j;
+  tokens = k;
+  begins = b;
+}
 
 -- a text that is cut after its longest prefix of token code points, and then trimmed at the front of the rest, is cut
 -- into subtype and parameters
@@ -142,10 +146,11 @@ pub no_slash_bytes : (s ty x : List ℕ) → Cut s ty (chars x) → IsUtf8 x →
     → ⊥) → HasNoHead s
 no_slash_bytes s ty x k u h = no_slash s ty (chars x) k (λ w e. h (encode_utf8_all w) (begins_bytes x w 47 u e))
 
--- the same, if y is the rest of these bytes after a '/'
+-- if the bytes after the type are '/' and then y, its code points are '/' and then those of y
 pub slash_cut : (s ty x y : List ℕ) (n : ℕ) → Cut s ty (chars x) → IsUtf8 x → HasCharAt 47 x 0 n → y ≡ drop n x
     → Cut s ty (47 ∷ chars y)
-slash_cut s ty x y n k u h e = grind (arith, chars_past_char)
+slash_cut s ty x y n k u h e =
+    subst (Cut s ty) (chars_past_char x y 47 u (h.split ∙ ap (λ t. encode_utf8 47 ++ t) (sym e))) k
 
 -- if b is the test for no bytes, and is true, the text has no code points
 pub empty_by : (x : List ℕ) (b : Bool) → b ≡ (length x == 0) → b ≡ true → chars x ≡ []
@@ -178,7 +183,9 @@ pub plain_value : (s front after value : List ℕ) → DoesNotBegin is_quote s �
 plain_value s front after value d j w b t = record {
   tail = 61 ∷ front;
   joined = ap (λ x. 61 ∷ x) j;
-  gives = plain front value w (not_begins_left is_quote front after (subst (DoesNotBegin is_quote) j d)) t;
+  gives = subst (λ v. GivesValue (61 ∷ front) after (unless_empty v))
+      (sym (trimmed_end_is is_http_whitespace front value t))
+      (plain front w (not_begins_left is_quote front after (subst (DoesNotBegin is_quote) j d)));
   begins = b;
 }
 

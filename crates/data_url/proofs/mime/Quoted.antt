@@ -96,7 +96,8 @@ is_read false [] = inl nothing_quoted
 is_read true [] = inr ([], [], refl, refl, nothing_quoted)
 is_read false (c ∷ t) = read_plain c t (is_read false t) (is_read true t) (c == 34) (c == 92) refl refl
 is_read true (c ∷ t) =
-    read_more (92 ∷ c ∷ []) c t (quoted_value false t) (quoted_rest false t) (λ q w. after_backslash c) (is_read false t)
+    read_more (92 ∷ c ∷ []) c t (quoted_value false t) (quoted_rest false t) (λ q w. after_backslash c)
+    (is_read false t)
 
 -- The value as it is written, which does not look for quotes
 

@@ -1,13 +1,13 @@
 -- Parsing a printed record returns the record.
 use Rattle.std.proofs.Common.{◌≡◌, ℕ, ◌==◌, ◌||◌, ◌&&◌, Bool, true, false, not, List, [], ◌∷◌, ◌++◌, Some, map, refl}
-use Rattle.std.proofs.Common.{sym, ap, ◌∙◌, subst, append-nil}
+use Rattle.std.proofs.Common.{arith, sym, ap, ◌∙◌, subst}
 use Rattle.std.proofs.lemmas.Bool.{agree_below, agree_below_at, and_from, and_parts, both_ways, cond-true}
 use Rattle.std.proofs.lemmas.Bool.{cond_both, eqb-false, false_from_ne_true, not-true, or_parts}
 use Rattle.std.specs.List.{AllByRecursion, flat_map, list_all}
 use Rattle.std.specs.Str.{bytes_eq}
 use Rattle.data_url.specs.CodePoints.{ends_name, is_http_whitespace, is_quotable, is_semicolon, is_token}
 use Rattle.data_url.specs.Mime.{BeginsParameters, DoesNotBegin, DoesNotEnd, Every, GivesValue, IsHead}
-use Rattle.data_url.specs.Mime.{IsParameter, IsTrimmed, IsTrimmedEnd, IsWellformed, Item, Items, Pair, Parses}
+use Rattle.data_url.specs.Mime.{IsParameter, IsWellformed, Item, Items, Pair, Parses}
 use Rattle.data_url.specs.Mime.{Quoted, Record, Without, escaped_code_point, first_of_each_name, has_distinct_names}
 use Rattle.data_url.specs.Mime.{has_name, is_lowercase_name, is_quote, is_token_text, kept_pairs, plain, printed}
 use Rattle.data_url.specs.Mime.{printed_pair, printed_value, quoted, unless_empty, valid_pairs, after_backslash, nothing_quoted, as_itself}
@@ -15,6 +15,8 @@ use Rattle.data_url.proofs.mime.Items.{not_begins_append, every_token, has_at_mo
 use Rattle.data_url.proofs.mime.FirstNames.{has_append, lower_is_itself, lowercase_token, test_from_different}
 use Rattle.data_url.proofs.mime.FirstNames.{test_from_equal}
 use Rattle.data_url.proofs.mime.TokenTexts.{token_below}
+use Rattle.data_url.proofs.texts.CodePoints.{end_stays}
+use Rattle.data_url.specs.Url.{without_end, without_front}
 
 -- Token code points
 
@@ -79,21 +81,19 @@ quoted_escaped [] = nothing_quoted
 quoted_escaped (c ∷ v) = cond_both ((c == 34) || (c == 92)) (92 ∷ c ∷ []) (c ∷ [])
     (λ t. Quoted (t ++ flat_map escaped_code_point v) (c ∷ v))
     (λ e. after_backslash c (quoted_escaped v))
-    (λ e. let p = or_parts (c == 34) (c == 92) e in as_itself c (eqb-false c 34 p.0) (eqb-false c 92 p.1) (quoted_escaped v))
+    (λ e. let p = or_parts (c == 34) (c == 92) e in as_itself c (eqb-false c 34 p.0) (eqb-false c 92 p.1)
+    (quoted_escaped v))
 
 is_nonempty : (v : List ℕ) → is_token_text v ≡ true → unless_empty v ≡ Some v
 is_nonempty [] h = absurd (both_ways false refl h)
 is_nonempty (c ∷ v) h = refl
 
-itself_trimmed : (p : ℕ → Bool) (v : List ℕ) → DoesNotEnd p v → IsTrimmedEnd p v v
-itself_trimmed p v h = record { back = []; joined = sym (append-nil v); at_back = tt; ends = h }
-
 plain_value : (v rest : List ℕ) → is_token_text v ≡ true → GivesValue (61 ∷ v) rest (Some v)
 plain_value v rest h =
     let t = every_token v h in
-    subst (GivesValue (61 ∷ v) rest) (is_nonempty v h) (plain v v (tokens_without is_semicolon token_not_semicolon v t)
-    (tokens_not_begin is_quote token_not_quote v t)
-    (itself_trimmed is_http_whitespace v (tokens_not_end is_http_whitespace token_not_space v t)))
+    subst (GivesValue (61 ∷ v) rest) (ap unless_empty (end_stays is_http_whitespace v (tokens_not_end is_http_whitespace
+    token_not_space v t)) ∙ is_nonempty v h)
+    (plain v (tokens_without is_semicolon token_not_semicolon v t) (tokens_not_begin is_quote token_not_quote v t))
 
 gives_value : (v rest : List ℕ) → GivesValue (61 ∷ printed_value v) rest (Some v)
 gives_value v rest = cond_both (is_token_text v) v (34 ∷ (flat_map escaped_code_point v ++ (34 ∷ [])))
@@ -212,18 +212,9 @@ all_kept m w = sym (ap (first_of_each_name []) (all_valid m.parameters w.names w
 
 -- The whole
 
-is_trimmed : (s : List ℕ) → DoesNotBegin is_http_whitespace s → DoesNotEnd is_http_whitespace s
-    → IsTrimmed is_http_whitespace s s
-is_trimmed s b e = record {
-  front = [];
-  back = [];
-  joined = sym (append-nil s);
-  at_front = tt;
-  at_back = tt;
-  begins =
-      b;
-  ends = e;
-}
+front_stays : (p : ℕ → Bool) (s : List ℕ) → DoesNotBegin p s → without_front p s ≡ s
+front_stays p [] b = refl
+front_stays p (c ∷ s) b = grind arith
 
 printed_begins : (m : Record) → IsWellformed m → DoesNotBegin is_http_whitespace (printed m)
 unfolding printed
@@ -243,10 +234,9 @@ printed_ends m w =
 printed_head : (m : Record) → IsWellformed m → IsHead (printed m) m.type_ m.subtype (flat_map printed_pair m.parameters)
 unfolding printed
 printed_head m w = record {
-  text = printed m;
   gap = [];
-  trimmed = is_trimmed (printed m) (printed_begins m w) (printed_ends m w);
-  joined = refl;
+  joined = ap (without_end is_http_whitespace) (front_stays is_http_whitespace (printed m) (printed_begins m w))
+      ∙ end_stays is_http_whitespace (printed m) (printed_ends m w);
   is_type = lowercase_token m.type_ w.type_;
   is_subtype = lowercase_token m.subtype w.subtype;
   in_gap = tt;

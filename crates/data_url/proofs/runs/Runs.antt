@@ -18,7 +18,8 @@ pub later_none : {E : Type 0} (r : Result (Unit {0}) E) (o : Option E) → optio
 later_none (Ok x) o h = h
 later_none (Err x) o h = absurd (some_not_none x h)
 
-or_same : {E : Type 0} (r : Result (Unit {0}) E) (o p : Option E) → option_or (result_err r) o ≡ None → option_or (result_err r) p ≡ p
+or_same : {E : Type 0} (r : Result (Unit {0}) E) (o p : Option E) → option_or (result_err r) o ≡ None
+    → option_or (result_err r) p ≡ p
 or_same (Ok x) o p h = refl
 or_same (Err x) o p h = absurd (some_not_none x h)
 

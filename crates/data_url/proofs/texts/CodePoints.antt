@@ -6,9 +6,13 @@ use Rattle.std.proofs.lemmas.Str.{chars-nil, IsCharBoundary-after_ascii, IsCharB
 use Rattle.std.specs.Str.{chars, IsCharBoundary, IsUtf8}
 use Rattle.std.specs.List.{prefix_len, suffix_len}
 use Rattle.std.proofs.lemmas.List.Sums.{prefix_len-drop_yes, prefix_len-le-length, prefix_len_passes}
-use Rattle.std.proofs.lemmas.List.Sums.{suffix_len-le-length}
-use Rattle.data_url.specs.Mime.{DoesNotBegin, DoesNotEnd, Every, IsTrimmedEnd}
-use Rattle.data_url.specs.Url.{is_c0_control_or_space}
+use Rattle.std.proofs.lemmas.List.Sums.{suffix_len-le-length, suffix_len_is}
+use Rattle.std.proofs.Math.Seq.{get_or-append_right, take-append_seam}
+use Rattle.std.proofs.Math.ListN.{get_or-append}
+use Rattle.std.proofs.Common.{append-nil, false, length-append, take}
+use Rattle.data_url.specs.Mime.{DoesNotBegin, DoesNotEnd, Every}
+use Rattle.data_url.specs.Steps.Parsing.{IsTrimmedEnd, IsTrimmedFront}
+use Rattle.data_url.specs.Url.{is_c0_control_or_space, without_end, without_front}
 use Rattle.std.proofs.lemmas.List.{get_or-reverse}
 
 -- Texts cut at the first code point that does not pass, and ends removed.
@@ -56,39 +60,52 @@ pub after_begins : (p : ℕ → Bool) (s : List ℕ) → DoesNotBegin p (after_f
 after_begins p [] = tt
 after_begins p (c ∷ t) = grind (arith, after_begins p t)
 
--- one more code point before the rest of a text
-abbrev pub keep_before : (ℕ → Bool) → ℕ → List ℕ → List ℕ
-keep_before p c [] = cond (p c) [] (c ∷ [])
-keep_before p c (d ∷ u) = c ∷ d ∷ u
+-- the text after the longest prefix that passes is the text without it
+pub after_without : (p : ℕ → Bool) (s : List ℕ) → after_front p s ≡ without_front p s
+after_without p [] = refl
+after_without p (c ∷ t) =
+    let more : suc (prefix_len p t) ≡ 1 + prefix_len p t = omega arith in
+    elim (p c) as (λ v. cond v (after_front p t) (c ∷ t) ≡ drop (cond v (1 + prefix_len p t) 0) (c ∷ t)) [
+      | true ↦ after_without p t ∙ ap (λ n. drop n (c ∷ t)) more
+      | false ↦ refl
+    ]
 
--- the text without the longest suffix of code points that pass
-abbrev pub without_back : (ℕ → Bool) → List ℕ → List ℕ
-without_back p [] = []
-without_back p (c ∷ t) = keep_before p c (without_back p t)
+-- if t is s without its longest prefix that passes, t is `without_front p s`
+pub trimmed_front_is : (p : ℕ → Bool) (s t : List ℕ) → IsTrimmedFront p s t → t ≡ without_front p s
+trimmed_front_is p s t h = sym (ap (after_front p) h.joined ∙ after_is p h.front t h.at_front h.begins)
+    ∙ after_without p s
 
-back_passes : (p : ℕ → Bool) (back : List ℕ) → Every p back → without_back p back ≡ []
-back_passes p [] h = refl
-back_passes p (c ∷ back) h = ap (keep_before p c) (back_passes p back h.1) ∙ cond-true (p c) [] (c ∷ []) h.0
+every_at : (p : ℕ → Bool) (s : List ℕ) → Every p s → (k : ℕ) → k < length s → p (get_or s k 0) ≡ true
+every_at p [] h k l = absurd (omega arith)
+every_at p (c ∷ s) h zero l = h.0
+every_at p (c ∷ s) h (suc k) l = every_at p s h.1 k (omega arith)
 
--- if all of back passes, and t does not end with a code point that passes, then t ++ back without its longest suffix
--- that passes is t
-pub without_back_joined : (p : ℕ → Bool) (t back : List ℕ) → Every p back → DoesNotEnd p t
-    → without_back p (t ++ back) ≡ t
-without_back_joined p [] back h e = back_passes p back h
-without_back_joined p (c ∷ []) back h e = ap (keep_before p c) (back_passes p back h) ∙ cond-false (p c) [] (c ∷ []) e
-without_back_joined p (c ∷ d ∷ t) back h e = ap (keep_before p c) (without_back_joined p (d ∷ t) back h e)
+last_stops : (p : ℕ → Bool) (t : List ℕ) → DoesNotEnd p t → 0 < length t → p (get_or t (length t - 1) 0) ≡ false
+last_stops p [] h l = absurd (omega arith)
+last_stops p (c ∷ []) h l = h
+last_stops p (c ∷ d ∷ t) h l =
+    let n : length (c ∷ d ∷ t) - 1 ≡ suc (length (d ∷ t) - 1) = omega arith in
+    ap (λ k. p (get_or (c ∷ d ∷ t) k 0)) n ∙ last_stops p (d ∷ t) h (omega arith)
 
-trimmed_end_more : (p : ℕ → Bool) (c : ℕ) (t u : List ℕ) → IsTrimmedEnd p t u
-    → IsTrimmedEnd p (c ∷ t) (keep_before p c u)
-trimmed_end_more p c t [] h = cond_both (p c) [] (c ∷ []) (λ v. IsTrimmedEnd p (c ∷ t) v)
-    (λ e. record { back = c ∷ h.back; joined = ap (λ v. c ∷ v) h.joined; at_back = (e, h.at_back); ends = tt })
-    (λ e. record { back = h.back; joined = ap (λ v. c ∷ v) h.joined; at_back = h.at_back; ends = e })
-trimmed_end_more p c t (d ∷ u) h = grind arith
+back_len : (p : ℕ → Bool) (t back : List ℕ) → Every p back → DoesNotEnd p t
+    → suffix_len p (t ++ back) ≡ length (t ++ back) - length t
+back_len p t back h e =
+    suffix_len_is p (t ++ back) (length t) 0 (omega (arith, length-append t back))
+    (λ k l m. ap p (get_or-append_right t back k 0 l) ∙ every_at p back h (k - length t)
+    (omega (arith, length-append t back)))
+    (λ l. ap p (get_or-append t back 0 (length t - 1) (omega arith)) ∙ last_stops p t e l)
 
--- `without_back p s` is s without its longest suffix that passes
-pub is_trimmed_end : (p : ℕ → Bool) (s : List ℕ) → IsTrimmedEnd p s (without_back p s)
-is_trimmed_end p [] = record { back = []; joined = refl; at_back = tt; ends = tt }
-is_trimmed_end p (c ∷ t) = trimmed_end_more p c t (without_back p t) (is_trimmed_end p t)
+-- if t is s without its longest suffix that passes, t is `without_end p s`
+pub trimmed_end_is : (p : ℕ → Bool) (s t : List ℕ) → IsTrimmedEnd p s t → t ≡ without_end p s
+trimmed_end_is p s t h =
+    let few = length-append t h.back in
+    let n : length (t ++ h.back) - suffix_len p (t ++ h.back) ≡ length t =
+    omega (arith, back_len p t h.back h.at_back h.ends) in
+    sym (ap (without_end p) h.joined ∙ ap (λ k. take k (t ++ h.back)) n ∙ take-append_seam t h.back)
+
+-- a text that does not end with a code point that passes has no suffix that passes
+pub end_stays : (p : ℕ → Bool) (t : List ℕ) → DoesNotEnd p t → without_end p t ≡ t
+end_stays p t e = sym (trimmed_end_is p t t (record { back = []; joined = sym (append-nil t); at_back = tt; ends = e }))
 
 -- the prefix that passes, found in two parts
 

@@ -5,7 +5,7 @@ use Rattle.std.specs.List.{list_all}
 use Rattle.std.specs.Prelude.{[], if◌then◌else◌, ◌&&◌, ◌++◌, ◌==◌, ◌||◌, ◌∷◌, ◌≡◌, Bool, IsTrue, List, None, Option, Some, map, not, ℕ}
 use Rattle.std.specs.Str.{IsUtf8, chars}
 use Rattle.data_url.specs.CodePoints.{is_quotable, is_semicolon}
-use Rattle.data_url.specs.Mime.{BeginsParameters, DoesNotBegin, Every, GivesValue, IsHead, IsParameter, Item, Pair, Quoted, QuotedOpen, has_name, is_lowercase_name, valid_of}
+use Rattle.data_url.specs.Mime.{BeginsParameters, DoesNotBegin, DoesNotEnd, Every, GivesValue, IsHead, IsParameter, Item, Pair, Quoted, QuotedOpen, has_name, is_lowercase_name, valid_of}
 use Rattle.data_url.specs.declared.mime.parse.Parameter.{Parameter}
 use Rattle.data_url.specs.declared.mime.values.Value.TheVariants as slices
 use Rattle.data_url.specs.declared.mime.values.Value.{Value}
@@ -16,6 +16,13 @@ pub record IsTrimmedFront (p : ℕ → Bool) (s t : List ℕ) : Type 0 where
   pub joined : s ≡ front ++ t
   pub at_front : Every p front
   pub begins : DoesNotBegin p t
+
+-- t is s without the longest suffix of code points that pass
+pub record IsTrimmedEnd (p : ℕ → Bool) (s t : List ℕ) : Type 0 where
+  pub back : List ℕ
+  pub joined : s ≡ t ++ back
+  pub at_back : Every p back
+  pub ends : DoesNotEnd p t
 
 -- x, the text after a name, is the text that gives the value, and then rest
 pub record HasValueBefore (x : List ℕ) (value : Option (List ℕ)) (rest : List ℕ) : Type 0 where

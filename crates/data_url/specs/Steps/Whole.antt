@@ -1,7 +1,6 @@
 -- What decoding a whole text of base64 does.
-use Rattle.std.specs.Prelude.{if◌then◌else◌, ◌+◌, ◌≡◌, ◌≤◌, Err, List, MatchBool, MatchOption, Result, length, ℕ}
+use Rattle.std.specs.Prelude.{if◌then◌else◌, ◌+◌, ◌≡◌, ◌≤◌, Err, List, MatchBool, MatchOption, Ok, Result, length, ℕ}
 use Rattle.data_url.specs.Base64.{decoded, complete_bytes, is_valid, kind_of}
-use Rattle.data_url.specs.Decoder.{IsAll}
 use Rattle.data_url.specs.Errors.{IsRefused}
 use Rattle.data_url.specs.Run.{Call, IsRun, joined_pieces, refusal}
 use Rattle.data_url.specs.declared.forgiving_base64.DecodeError.TheVariants.{InvalidBase64, WriteError}
@@ -18,7 +17,7 @@ pub record DecodesText {F E : Type 0} (step : F → List ℕ → Result (Unit {0
   pub ran : IsRun step f run f'
   pub calls : length run ≤ length u + 1
   pub gave : MatchOption (refusal run)
-      (MatchBool (is_valid u) (IsAll u (joined_pieces run) r)
+      (MatchBool (is_valid u) ((joined_pieces run ≡ decoded u) × (r ≡ Ok tt))
       ((joined_pieces run ≡ complete_bytes u) × (r ≡ Err (InvalidBase64 (kind_of u)))))
       (λ e. IsRefused (if is_valid u then decoded u else complete_bytes u) (joined_pieces run) e r)
 

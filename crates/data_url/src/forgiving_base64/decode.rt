@@ -39,7 +39,6 @@ where
 {
     ghost use Rattle.std.specs.Fn.{CalledAt};
     ghost use Rattle.data_url.specs.Decoder.{Feeds, Finishes, left_over, start, state_of};
-    ghost use Rattle.data_url.specs.InvalidBase64.{kind_of_details};
     ghost use Rattle.data_url.specs.Base64.{decoded, groups, symbol_value};
     ghost use Rattle.data_url.specs.Steps.Calls.{CallsOnce};
     ghost use Rattle.data_url.specs.Steps.Ending.{IsFaultAtEnd};
@@ -97,7 +96,7 @@ where
     /// Makes the decoder fail, and returns the error.
     fn refuse(&mut self, details: InvalidBase64Details) -> DecodeError<E>
         ensures state { state_of self.new ≡ record (state_of self.old) { failed = true } }
-        ensures kind { result ≡ DecodeError.InvalidBase64 (kind_of_details details) }
+        ensures kind { result ≡ DecodeError.InvalidBase64 details }
     {
         self.failed = true;
         DecodeError::InvalidBase64(InvalidBase64 { details })
@@ -110,7 +109,7 @@ where
         ensures { MatchResult result
             (λ group. Adds (state_of self.old) (symbol ∷ []) (bytes_in group) (state_of self.new))
             (λ details.
-            Refuses (state_of self.old) symbol (kind_of_details details) (state_of self.new)) }
+            Refuses (state_of self.old) symbol details (state_of self.new)) }
     {
         if self.padding > 0 {
             return Err(InvalidBase64Details::AlphabetSymbolAfterPadding);
@@ -131,7 +130,7 @@ where
         ensures { MatchResult result
             (λ group. Adds (state_of self.old) (byte ∷ []) (bytes_in group) (state_of self.new))
             (λ details.
-            Refuses (state_of self.old) byte (kind_of_details details) (state_of self.new)) }
+            Refuses (state_of self.old) byte details (state_of self.new)) }
     {
         if is_symbol(byte) {
             self.take_symbol(byte)
@@ -155,7 +154,7 @@ where
             (λ taken. Gains (state_of self.old) (bytes_of piece.old) (byte ∷ []) taken
             (state_of self.new) (bytes_of piece.new))
             (λ details.
-            Refuses (state_of self.old) byte (kind_of_details details) (state_of self.new)
+            Refuses (state_of self.old) byte details (state_of self.new)
             × (bytes_of piece.new ≡ bytes_of piece.old)) }
     {
         if let Some(group) = self.take_byte(byte)? {
@@ -193,7 +192,7 @@ where
             (λ taken. Gains (state_of self.old) (bytes_of piece.old) text.now taken
             (state_of self.new) (bytes_of piece.new))
             (λ details.
-            Refuses (state_of self.old) (slice_index text.now 0) (kind_of_details details)
+            Refuses (state_of self.old) (slice_index text.now 0) details
             (state_of self.new)
             × (bytes_of piece.new ≡ bytes_of piece.old)) }
     {

@@ -4,8 +4,8 @@ ghost use Rattle.std.specs.Prelude.{◌≡◌, ◌≤◌, ◌++◌, length, not}
 ghost use Rattle.std.specs.List.{prefix_len, suffix_len};
 ghost use Rattle.std.specs.Str.{IsUtf8, chars};
 ghost use Rattle.data_url.specs.CodePoints.{ends_name, is_http_whitespace, is_semicolon};
-ghost use Rattle.data_url.specs.Mime.{BeginsParameters, DoesNotBegin, IsTrimmedEnd, Without};
-ghost use Rattle.data_url.specs.Steps.Parsing.{IsTrimmedFront};
+ghost use Rattle.data_url.specs.Mime.{BeginsParameters, DoesNotBegin, Without};
+ghost use Rattle.data_url.specs.Steps.Parsing.{IsTrimmedEnd, IsTrimmedFront};
 
 use crate::classes::{Class, has, span};
 
