@@ -126,12 +126,6 @@ drop_taken (suc k) zero xs = let e : zero - suc k ≡ zero = omega arith in ap (
 drop_taken (suc k) (suc n) [] = take_none (suc n - suc k)
 drop_taken (suc k) (suc n) (x ∷ xs) = grind (arith, drop_taken k n xs)
 
--- the marks of the rest of a block
-pub marks_later : (text : List ℕ) (base seen place : ℕ) → base ≤ place → place ≤ seen
-    → mask_l (map is_marked (slice_range text base seen)) / 2 ^ (place - base) ≡ mask_l
-    (map is_marked (slice_range text place seen))
-marks_later text base seen place l h = grind (arith, mask_later, drop-map, drop_taken, drop-drop)
-
 -- The marks of a block: lanes that are looked up in a table and compared.
 
 -- the low half of a byte
@@ -239,7 +233,7 @@ pub record HasMarks (text : List ℕ) (place seen marks : ℕ) : Type 0 where
 -- the marks of a block, shifted by the distance from its start to an index, are those from the index on
 pub has_marks : {c : Cursor} {place marks : ℕ} → Looking c place 0 → place ≤ c.seen
     → marks ≡ c.marks / 2 ^ (place - c.base) → HasMarks (text_of c) place c.seen marks
-has_marks {c} {place} {marks} k l e = grind (arith, marks_later)
+has_marks {c} {place} {marks} k l e = grind (arith, mask_later, drop-map, drop_taken, drop-drop)
 
 -- the marks of a block from its front on
 pub block_marks : {c : Cursor} {place : ℕ} → Looking c place 0 → c.base ≡ place → place ≤ c.seen

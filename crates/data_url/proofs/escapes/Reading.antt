@@ -165,10 +165,6 @@ body_hash s = grind (arith, body_of, dropped_keeps, before_same, percent_nil)
 pub body_passes : (b : ℕ) (s : List ℕ) → is_tab_or_newline b ≡ true → plain_body (b ∷ s) ≡ plain_body s
 body_passes b s h = grind (arith, body_of, dropped_passes)
 
--- a tab or newline at the front does not change what follows the first '#'
-pub after_passes : (b : ℕ) (s : List ℕ) → is_tab_or_newline b ≡ true → after 35 (b ∷ s) ≡ after 35 s
-after_passes b s h = after_other 35 b s (no_hash b h)
-
 -- a byte that the body holds as it is
 keeps_byte : (b : ℕ) (s : List ℕ) → is_tab_or_newline b ≡ false → (b == 35) ≡ false
     → ((b == 37) && two_digits (before 35 (without_tabs_and_newlines s))) ≡ false
@@ -234,7 +230,7 @@ at_byte text place b l e = at_place text place l ∙ ap (λ v. v ∷ drop (place
 -- a tab or newline is read as no byte
 pub reads_passed : {text : List ℕ} {place : ℕ} → place < length text → is_tab_or_newline (get_or text place 0) ≡ true
     → Reads text place (place + 1) []
-reads_passed {text} {place} l h = grind (arith, at_place, body_passes, after_passes)
+reads_passed {text} {place} l h = grind (arith, at_place, body_passes, after_other)
 
 -- a '%' that does not begin an escape is read as it is
 pub reads_percent : {text : List ℕ} {place : ℕ} → LonePercent text place → Reads text place (place + 1) (37 ∷ [])

@@ -73,11 +73,6 @@ IsSkipped text from to = without_tabs_and_newlines (slice_range text from to) �
 pub skipped_none : (text : List ℕ) (place : ℕ) → IsSkipped text place place
 skipped_none text place = ap without_tabs_and_newlines (slice_none text place) ∙ dropped_nil
 
--- if there is a tab or newline at an index, the range to the next index is skipped
-pub skipped_byte : (text : List ℕ) (place : ℕ) → place < length text → is_tab_or_newline (get_or text place 0) ≡ true
-    → IsSkipped text place (place + 1)
-skipped_byte text place l h = grind (arith, slice_one, dropped_passes, dropped_nil)
-
 -- two ranges, one after the other, without tabs and newlines, are the range of both without them
 pub kept_then : (text : List ℕ) (a b c : ℕ) → a ≤ b → b ≤ c → without_tabs_and_newlines (slice_range text a b)
     ++ without_tabs_and_newlines (slice_range text b c) ≡ without_tabs_and_newlines (slice_range text a c)
@@ -97,11 +92,6 @@ IsWithoutTabs text from to = without_tabs_and_newlines (slice_range text from to
 pub without_tabs_none : (text : List ℕ) (place : ℕ) → IsWithoutTabs text place place
 without_tabs_none text place = skipped_none text place ∙ sym (slice_none text place)
 
--- if there is no tab or newline at an index, the range to the next index has none
-pub without_tabs_byte : (text : List ℕ) (place : ℕ) → place < length text
-    → is_tab_or_newline (get_or text place 0) ≡ false → IsWithoutTabs text place (place + 1)
-without_tabs_byte text place l h = grind (arith, slice_one, dropped_keeps, dropped_nil)
-
 -- if two ranges, one after the other, have no tab or newline, neither does the range of both
 pub without_tabs_then : (text : List ℕ) (a b c : ℕ) → a ≤ b → b ≤ c → IsWithoutTabs text a b → IsWithoutTabs text b c
     → IsWithoutTabs text a c
@@ -118,7 +108,9 @@ without_tabs_for text from (suc n) l h =
       arith,
       without_tabs_for text (from + 1) n (omega arith) (λ i x y. h i (omega arith) (omega arith)),
       without_tabs_then,
-      without_tabs_byte,
+      slice_one,
+      dropped_keeps,
+      dropped_nil,
     )
 
 -- a stretch without marks has no tab or newline
@@ -299,14 +291,14 @@ reached {c0} {c} {c1} {c2} {from} {mark} s m a b =
 pub search_percent : {c0 c : Cursor} {mark : ℕ} → Reached c0 c mark → LonePercent (text_of c) mark
     → Looking c (mark + 1) 0 → Searching c0 c (mark + 1)
 search_percent {c0} {c} {mark} r p k =
-    grind (arith, slice_one, stretch_on, reads_percent, without_tabs_then, without_tabs_byte)
+    grind (arith, slice_one, stretch_on, reads_percent, without_tabs_then, dropped_keeps, dropped_nil)
 
 -- a tab or newline before the stretch is skipped
 pub search_passed : {c0 c : Cursor} (c' : Cursor) {mark : ℕ} → Reached c0 c mark → IsPassed (text_of c) mark
     → Looking c (mark + 1) 0 → mark ≡ c.place → text_of c' ≡ text_of c → c'.source.looks ≡ c.source.looks
     → c'.base ≡ c.base → c'.seen ≡ c.seen → c'.marks ≡ c.marks → c'.place ≡ mark + 1 → Searching c0 c' (mark + 1)
 search_passed {c0} {c} c' {mark} r p k e t n b s m a =
-    search (arith, reads_passed, skipped_then, skipped_byte)
+    search (arith, reads_passed, skipped_then, slice_one, dropped_passes)
 
 -- Pieces
 
@@ -343,7 +335,7 @@ IsCut c0 c mark p = (bytes_of p ≡ slice_range (text_of c) c.place mark)
 pub slice_passed : {c0 c : Cursor} {mark : ℕ} (p : Piece) → Reached c0 c mark → IsPassed (text_of c) mark
     → mark ≢ c.place → IsCut c0 c mark p → GoesOn c0 (Some p) (record c { place = mark + 1; ahead = Unknown })
 slice_passed {c0} {c} {mark} p r h n cut =
-    search (arith, drop_more, reads_passed, slice_piece, skipped_byte)
+    search (arith, drop_more, reads_passed, slice_piece, dropped_passes, dropped_nil)
 
 escape_kept : {text : List ℕ} {place value end : ℕ} → EscapeAt text place value end
     → (d : HasEscape (drop (place + 1) text) value (drop end text)) → without_tabs_and_newlines (drop place text)
@@ -355,7 +347,7 @@ escape_ends : {text : List ℕ} {place value end : ℕ} → EscapeAt text place 
     → is_slice_end (drop place text) ≡ true
 escape_ends {text} {place} {value} {end} q =
     let d = has_escape (drop (place + 1) text) value (drop end text) q.value_is in
-    grind (arith, drop_more, escape_kept q d)
+    grind (arith, escape_kept q d)
 
 -- an escape, with what is skipped before it, is a piece
 escape_piece : {text : List ℕ} {from place value end : ℕ} → from ≤ place → IsSkipped text from place
@@ -538,16 +530,6 @@ pub record Went (c c1 c' : Cursor) (place : ℕ) : Type 0 where
   pub text_is : text_of c' ≡ text_of c1
   pub looks_are : c'.source.looks ≡ c1.source.looks
   pub place_is : c'.place ≡ place
-
--- a walk that goes on after a '%' that does not begin an escape appends the '%'
-pub gathers_percent : {c c1 c' : Cursor} {room : List ℕ} {len : ℕ} → Went c c1 c' (c.place + 1)
-    → LonePercent (text_of c1) c.place → len < length room → Gathers c c' room (set room len 37) len (len + 1)
-gathers_percent {c} {c1} {c'} {room} {len} w p l = grind (arith, gathers_byte, reads_percent)
-
--- a walk that goes on after a tab or newline appends nothing
-pub gathers_passed : {c c1 c' : Cursor} {room : List ℕ} {len : ℕ} → Went c c1 c' (c.place + 1)
-    → IsPassed (text_of c1) c.place → Gathers c c' room room len len
-gathers_passed {c} {c1} {c'} {room} {len} w p = grind (arith, gathers_nothing, reads_passed)
 
 -- a walk that goes on after an escape appends its value
 pub gathers_value : {c c1 c' : Cursor} {room : List ℕ} {len value end : ℕ} → Went c c1 c' end

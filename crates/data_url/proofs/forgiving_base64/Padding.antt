@@ -113,7 +113,7 @@ module _ (space pad symbol : ℕ → Bool) where
       (length p) (list_any pad p) b
   find_walk p [] = refl
   find_walk p (c ∷ t) =
-      grind (arith, get_or_at, take_at, append_assoc, length_push, find_walk (p ++ c ∷ []) t, list_any-append, or-false)
+      grind (arith, get_or_at, take_at, append_assoc, length_push, find_walk (p ++ c ∷ []) t, list_any-append)
 
   -- the bytes of p ++ b before the place where a walk over b stops are p and then those that the walk passes
   pub before_walk : (p b : List ℕ) (n : ℕ) (s : Bool) → length p ≡ n
@@ -304,7 +304,7 @@ fits_with r (suc (suc (suc p))) = false
 pub without_pad_symbols : (q : List ℕ) → Every is_symbol q → without_last_padding q ≡ q
 unfolding without_last_padding
 without_pad_symbols [] h = refl
-without_pad_symbols (a ∷ []) h = grind (arith, cond-false, ne_eqb, false≢true)
+without_pad_symbols (a ∷ []) h = grind (arith, false≢true)
 without_pad_symbols (a ∷ b ∷ t) h = ap (λ x. a ∷ x) (without_pad_symbols (b ∷ t) h.1)
 
 without_pad_more : (a : ℕ) (t : List ℕ) → without_last_padding (a ∷ t ++ 61 ∷ []) ≡ a ∷ without_last_padding

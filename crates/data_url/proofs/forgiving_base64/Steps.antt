@@ -375,7 +375,7 @@ module _ {F E : Type 0} (step : F → List ℕ → Result (Unit {0}) E → F →
   -- if what is left over is valid and has at most one symbol, it decodes to no bytes: d makes no call
   pub flushes_nothing : (d : State F) (k : ℕ) → Every is_symbol d.symbols → length d.symbols ≡ k → k ≤ 1
       → is_valid (left_over d) ≡ true → Flushes step d (decoded (left_over d)) (Ok tt) d
-  flushes_nothing d zero every count few valid = grind (arith, decoded_left, length-map, groups_few, after_few, no_items)
+  flushes_nothing d zero every count few valid = grind (arith, decoded_left, groups_few, after_few, no_items)
   flushes_nothing d (suc zero) every count few valid = grind (arith, valid_left)
   flushes_nothing d (suc (suc k)) every count few valid = absurd (omega arith)
 

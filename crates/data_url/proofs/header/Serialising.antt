@@ -289,9 +289,9 @@ comma_before x y rest h =
 flag_after : (u v query : List ℕ) → after 44 u ≡ None → after 44 v ≡ None → (o : Option (List ℕ))
     → after 44 query ≡ o
     → base64_flag (u ++ 63 ∷ query) ≡ base64_flag (v ++ 63 ∷ query)
-flag_after u v query h k None e = grind (arith, after-append, after_other, before-append, before_other)
+flag_after u v query h k None e = grind (arith, after-append, after_other)
 flag_after u v query h k (Some rest) e =
-    grind (arith, same_flag, after-append, after_other, before-append, before_other)
+    grind (arith, same_flag, after-append, before-append, before_other)
 
 no_comma_in_escape : after 44 (codes "%20") ≡ None
 unfolding after

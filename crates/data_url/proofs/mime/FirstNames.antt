@@ -210,7 +210,7 @@ module _ (parameter : Parameter) (item : Item) (is : IsItem parameter item) wher
   -- if the name of a parameter is not a token text, its item adds no pair
   pub invalid_name : (xs : List Pair) (b : Bool) → b ≡ is_token_text (chars parameter.name.now) → b ≡ false
       → added_pairs xs item ≡ []
-  invalid_name xs b e h = grind (arith, no_pair_token, token_text_lower)
+  invalid_name xs b e h = grind (arith, token_text_lower)
 
   -- if one of the pairs has the name of a parameter in lower case, its item adds no pair
   pub known_name : (xs : List Pair) → has_name (map to_ascii_lowercase (chars parameter.name.now)) xs ≡ true
@@ -290,7 +290,7 @@ unless_new pairs p h = cond-false (has_name p.0 pairs) [] (p ∷ []) h
 -- a name in lower case is its bytes
 pub lowercase_bytes : {A : Type 0} (name : String A) → is_lowercase_name (code_points name) ≡ true
     → string_bytes name ≡ code_points name
-lowercase_bytes name h = grind (arith, IsUtf8-string_bytes, lowercase_token, bytes_of_ascii, token_text_ascii)
+lowercase_bytes name h = grind (arith, IsUtf8-string_bytes, bytes_of_ascii, token_text_ascii)
 
 -- if there are no more than `LOOKED_THROUGH` pairs, none of the later pairs has a name
 pub few_names : (n : List ℕ) (pairs : List Pair) → length pairs ≤ LOOKED_THROUGH
@@ -365,7 +365,7 @@ pushed_has n e q h = has_append n e (q ∷ []) ∙ or_left (has_name n e) (has_n
 none_again : (n : List ℕ) (e ps : List Pair) → has_name n e ≡ true → has_name n (first_of_each_name e ps) ≡ false
 none_again n e [] h = refl
 none_again n e (q ∷ ps) h =
-    search (arith, none_again n (e ++ (q ∷ [])) ps (pushed_has n e q h), both_ways, equal_from_test)
+    search (arith, none_again n (e ++ (q ∷ [])) ps (pushed_has n e q h), equal_from_test)
 
 first_distinct : (e ps : List Pair) → has_distinct_names (first_of_each_name e ps) ≡ true
 first_distinct e [] = refl

@@ -209,7 +209,7 @@ high_quotable c l = grind (arith, quotable_byte_below)
 
 quotable_bytes : (cs : List ℕ) → list_all is_quotable_byte (encode_utf8_all cs) ≡ list_all is_quotable cs
 quotable_bytes [] = refl
-quotable_bytes (c ∷ cs) = grind (arith, list_all-append, low_quotable, high_quotable, false_from_ne_true, quotable_below, quotable_bytes cs)
+quotable_bytes (c ∷ cs) = grind (arith, list_all-append, low_quotable, high_quotable, quotable_below, quotable_bytes cs)
 
 -- each byte of a UTF-8 text passes `is_quotable_byte` exactly if each of its code points passes `is_quotable`
 pub quotable_chars : (bs : List ℕ) → IsUtf8 bs → list_all is_quotable_byte bs ≡ list_all is_quotable (chars bs)
@@ -272,13 +272,10 @@ backslash_quotable : is_quotable 92 ≡ true
 unfolding is_quotable
 backslash_quotable = refl
 
-escaped_quotable : (c : ℕ) (b : Bool) → (is_quotable 92 && (is_quotable c && b)) ≡ (is_quotable c && b)
-escaped_quotable c b = ap (λ x. x && (is_quotable c && b)) backslash_quotable
-
 quoted_same : (q v : List ℕ) → Quoted q v → list_all is_quotable q ≡ list_all is_quotable v
 quoted_same q v nothing_quoted = refl
 quoted_same q v (as_itself {text} {value} c n m h) = ap (λ b. is_quotable c && b) (quoted_same text value h)
-quoted_same q v (after_backslash {text} {value} c h) = grind (arith, escaped_quotable, quoted_same text value h)
+quoted_same q v (after_backslash {text} {value} c h) = grind (arith, backslash_quotable, quoted_same text value h)
 
 -- a quoted string has only quoted-string code points exactly if its value has
 pub quoted_quotable : (q v : List ℕ) → QuotedOpen q v → list_all is_quotable q ≡ list_all is_quotable v
@@ -329,7 +326,7 @@ plain_text self text value code e i h = grind arith
 pub front_len : (bytes after : List ℕ) (quotable more : ℕ) → quotable ≡ prefix_len is_unquoted_byte bytes
     → after ≡ drop quotable bytes → more ≡ prefix_len (λ b. not (is_semicolon b)) after
     → quotable + more ≡ prefix_len (λ b. not (is_semicolon b)) bytes
-front_len = grind (arith, and_parts, front_further, prefix_len-le-length, prefix_len_passes)
+front_len = grind (arith, front_further, prefix_len-le-length, prefix_len_passes)
 
 all_quotable : (bs : List ℕ) → Every is_unquoted_byte bs → list_all is_quotable_byte bs ≡ true
 all_quotable [] h = refl

@@ -371,7 +371,7 @@ WroteTo p s i text = text ++ encoded_from p s i ≡ encoded p s
 
 wrote_more : (p : ℕ → Bool) (s : List ℕ) (i : ℕ) (text : List ℕ) → WroteTo p s i text → i < length s
     → WroteTo p s (i + 1) (text ++ byte_encoding p (get_or s i 0))
-wrote_more p s i text w l = grind (arith, append_assoc, drop_more, written_first, get_or)
+wrote_more p s i text w l = grind (arith, append_assoc, drop_more, written_first)
 
 -- if the text is written up to byte i and has no more bytes, the whole text is written
 pub wrote_all : (p : ℕ → Bool) (s : List ℕ) (i : ℕ) (text : List ℕ) → WroteTo p s i text → length s ≤ i

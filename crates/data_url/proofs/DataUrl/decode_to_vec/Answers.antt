@@ -11,4 +11,4 @@ returns-in-Ok-0₀-clause-body c =
     let n = body_keeps c.decode_body-ended.ensures (λ f. f.0.ghost_name) (λ g p r g' k. search rules) in
     let e = h.2 ∙ ap (λ x. x ++ h.0) c.in-Ok.ensures.items in
     let b = h.1 ∙ ap Good (sym e) in
-    search (rules, b, n)
+    search (rules, n)

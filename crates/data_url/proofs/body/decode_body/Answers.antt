@@ -26,14 +26,14 @@ finish_with-ended-requires-clause-callable g c =
     let name = took_keeps c.decode_pieces.ensures (λ p. p.0.ghost_name) (λ p piece r q k. search rules) in
     let can = took_preserves c.decode_pieces.ensures c.in-Ok.is (λ p. always_mut g.F.FnMut p.0.now.write_bytes)
     (λ p piece q i k. search (rules, i)) (search rules) in
-    search (rules, name, can)
+    search (rules, can)
 
 pub finish_with-ended-requires-clause-going : goal.finish_with-ended-requires-clause-going
 finish_with-ended-requires-clause-going g c =
     let name = took_keeps c.decode_pieces.ensures (λ p. p.0.ghost_name) (λ p piece r q k. search rules) in
     let going = took_preserves c.decode_pieces.ensures c.in-Ok.is (λ p. p.0.now.failed ≡ false)
     (λ p piece q i k. search (rules, i)) (search rules) in
-    search (rules, name, going)
+    search (rules, going)
 
 pub returns-in-Ok : goal.returns-in-Ok
 returns-in-Ok g c =
@@ -50,4 +50,4 @@ returns-in-Err g c =
     let name = took_keeps c.decode_pieces.ensures (λ p. p.0.ghost_name) (λ p piece r q k. search rules) in
     let refused = fed_refused (CalledAt g.F.FnMut) (λ p. state_of p.0.now) (λ p piece r q k. search rules)
     c.new-decoder.ensures.state c.decode_pieces.ensures c.in-Err.is in
-    search (rules, name, refused)
+    search (rules, refused)

@@ -51,7 +51,7 @@ spelled : (text items : List ℕ) (place n low : ℕ) (passed : Bool) → items 
 spelled text items place n low passed e l p f q h = grind arith
 
 pub range_from-requires : goal.range_from-requires
-range_from-requires c = grind (arith, spelled, IsCharBoundary-after_ascii, get_or)
+range_from-requires c = grind (arith, IsCharBoundary-after_ascii)
 
 pub returns-then-matched-eq5-clause-found : goal.returns-then-matched-eq5-clause-found
 returns-then-matched-eq5-clause-found c =

@@ -15,7 +15,7 @@ pub returns-in_err-word : goal.returns-in_err-word
 returns-in_err-word c = grind (arith, no_word, length-map)
 
 pub returns-then-not-eq_ignore_ascii_case : goal.returns-then-not-eq_ignore_ascii_case
-returns-then-not-eq_ignore_ascii_case c = grind (arith, no_word, take_rest)
+returns-then-not-eq_ignore_ascii_case c = grind (arith, no_word)
 
 pub overflow_sub-end : goal.overflow_sub-end
 overflow_sub-end c = grind (arith, suffix_len-le-length, length-take)

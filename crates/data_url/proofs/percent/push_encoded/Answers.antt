@@ -12,7 +12,7 @@ from_utf8_unchecked-requires c = grind arith
 
 pub loop-rest-preserved : goal.loop-rest-preserved
 loop-rest-preserved c =
-    grind (arith, append_assoc, take-append-drop, without_tabs_and_newlines-append, percent_encoding-append)
+    grind (arith, append_assoc, without_tabs_and_newlines-append, percent_encoding-append)
 
 pub loop-rest-smaller : goal.loop-rest-smaller
 loop-rest-smaller c = grind arith

@@ -25,7 +25,7 @@ pub is_named-requires-clause-key : goal.is_named-requires-clause-key
 is_named-requires-clause-key c = grind (arith, lowercase_at, lower_is_itself, bytes_of_ascii, token_text_ascii)
 
 pub returns-then-is_named : goal.returns-then-is_named
-returns-then-is_named c = grind (arith, lowercase_at, names_equal, or_left, drop-cons)
+returns-then-is_named c = grind (arith, lowercase_at, names_equal, drop-cons)
 
 pub loop-key-preserved : goal.loop-key-preserved
-loop-key-preserved c = grind (arith, lowercase_at, names_differ, IsUtf8-string_bytes, false≢true, drop-cons)
+loop-key-preserved c = grind (arith, lowercase_at, names_differ, drop-cons)

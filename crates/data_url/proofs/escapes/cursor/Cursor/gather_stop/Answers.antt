@@ -1,12 +1,16 @@
+use Rattle.data_url.proofs.escapes.Walking.{gathers_nothing}
+use Rattle.data_url.proofs.escapes.Reading.{reads_passed}
+use Rattle.data_url.proofs.escapes.Walking.{gathers_byte}
+use Rattle.data_url.proofs.escapes.Reading.{reads_percent}
 use Rattle.std.proofs.Common.{refl, arith}
-use Rattle.data_url.proofs.escapes.Walking.{gathers_passed, gathers_percent, gathers_then, gathers_value}
+use Rattle.data_url.proofs.escapes.Walking.{gathers_then, gathers_value}
 use Rattle.data_url.proofs.escapes.cursor.Cursor.gather_stop.Goals as goal
 
 pub returns-in-Stays-clause-gathers : goal.returns-in-Stays-clause-gathers
-returns-in-Stays-clause-gathers c = grind (arith, gathers_percent)
+returns-in-Stays-clause-gathers c = grind (arith, gathers_byte, reads_percent)
 
 pub returns-in-Passed-clause-gathers : goal.returns-in-Passed-clause-gathers
-returns-in-Passed-clause-gathers c = grind (arith, gathers_passed)
+returns-in-Passed-clause-gathers c = grind (arith, gathers_nothing, reads_passed)
 
 pub returns-then-dense-clause-gathers : goal.returns-then-dense-clause-gathers
 returns-then-dense-clause-gathers c =

@@ -10,7 +10,7 @@ pub returns-then-has_fitting_padding : goal.returns-then-has_fitting_padding
 returns-then-has_fitting_padding g c = grind (arith, every_list_all, length-take, valid_left)
 
 pub returns-then-self-eq1 : goal.returns-then-self-eq1
-returns-then-self-eq1 g c = grind (arith, every_list_all, length-take, valid_left, kind_left)
+returns-then-self-eq1 g c = grind (arith, valid_left, kind_left)
 
 pub returns-else-self-eq1 : goal.returns-else-self-eq1
 returns-else-self-eq1 g c = grind (arith, every_list_all, length-take, valid_left, kind_left)

@@ -10,11 +10,11 @@ use Rattle.data_url.proofs.forgiving_base64.decode.Decoder.write_rest.Goals as g
 
 pub returns-in-2-clause-flushed : goal.returns-in-2-clause-flushed
 returns-in-2-clause-flushed g c =
-    grind (arith, every_list_all, two_items, decoded_left, length-map, groups_few, after_few)
+    grind (arith, decoded_left, groups_few, after_few)
 
 pub returns-in-3-clause-flushed : goal.returns-in-3-clause-flushed
 returns-in-3-clause-flushed g c =
-    grind (arith, every_list_all, three_items, decoded_left, length-map, groups_few, after_few)
+    grind (arith, decoded_left, groups_few, after_few)
 
 pub returns-in_default-clause-flushed : goal.returns-in_default-clause-flushed
 returns-in_default-clause-flushed g c = grind (arith, flushes_nothing, every_list_all, length-take)
