@@ -1,15 +1,14 @@
 -- The only proofs of the library that callers may use. docs/CALLING.md says what they are for.
 pub use Rattle.data_url.proofs.body.Decoding.{EndsWith, body_answer, body_ends, body_extends, body_fault}
-pub use Rattle.data_url.proofs.body.Decoding.{body_good, body_keeps, body_reads, body_shorter, body_within_tail}
+pub use Rattle.data_url.proofs.body.Decoding.{body_good, body_keeps, body_shorter, body_within_tail}
 pub use Rattle.data_url.proofs.body.Decoding.{body_within_text, run_counts, run_counts_up_to, run_ends, run_extends}
 unfoldable pub use Rattle.data_url.proofs.examples.Literals.{on_literals}
 pub use Rattle.data_url.proofs.forgiving_base64.Groups.{groups_length, two_feeds}
 unfoldable pub use Rattle.data_url.proofs.forgiving_base64.Padding.{fault_byte}
-pub use Rattle.data_url.proofs.forgiving_base64.Padding.{after_groups-append, classes, done_stays, every_after}
+pub use Rattle.data_url.proofs.forgiving_base64.Padding.{after_groups-append, done_stays, every_after}
 pub use Rattle.data_url.proofs.forgiving_base64.Padding.{every_list_all, fault-append, fault-append_some}
 pub use Rattle.data_url.proofs.forgiving_base64.Padding.{fault_invalid, fault_some, filter_every, kind_fault}
-pub use Rattle.data_url.proofs.forgiving_base64.Padding.{kind_stays, length-after_groups, none_fault, space_alone}
-pub use Rattle.data_url.proofs.forgiving_base64.Padding.{symbol_alone}
+pub use Rattle.data_url.proofs.forgiving_base64.Padding.{kind_stays, length-after_groups, none_fault}
 pub use Rattle.data_url.proofs.forgiving_base64.Steps.{after_few, bool_at_true, decoded_left, done_more, fault_after}
 pub use Rattle.data_url.proofs.forgiving_base64.Steps.{fault_more, fault_other, fault_space, fault_symbol, feeds_err}
 pub use Rattle.data_url.proofs.forgiving_base64.Steps.{feeds_none, feeds_then, feeds_took, groups_few, has_pad}

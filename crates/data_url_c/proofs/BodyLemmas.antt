@@ -84,8 +84,7 @@ fed_none s text out h size = record {
   text_is = refl;
   body = refl;
   takes = takes_nothing s out h size;
-  size =
-      refl;
+  size = refl;
 }
 
 -- the bytes that feeding wrote are within the output

@@ -104,8 +104,7 @@ gives_mime {url = url} t u e (Ok text) h =
       fragment = _;
       mime = record_of (mime_of url);
       is_text = t;
-      staged_is =
-          u.staged_is;
+      staged_is = u.staged_is;
       record_is = u.record_is;
       text_is = subst P e h;
     }

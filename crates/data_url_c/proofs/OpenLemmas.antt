@@ -245,8 +245,7 @@ default_read x items comma found {old} {new} {r} memory b p same f g h =
     (starts_is Decides-eqb x (codes "data:,") found (f ∙ ap (λ s. starts_with nat_eq s (codes "data:,")) same)).0 g in
     let cut = cut_at x comma p in
     let same_front : take comma x ≡ scheme = cc (
-      before_at 44 (take comma x) (drop (comma + 1) x) (none_before x
-          comma p),
+      before_at 44 (take comma x) (drop (comma + 1) x) (none_before x comma p),
       before_at 44 scheme t no_comma_in_scheme,
     ) in
     let at = (at_comma x comma p).0 in

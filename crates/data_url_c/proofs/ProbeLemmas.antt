@@ -103,12 +103,7 @@ has_scheme s h =
     let size : length five ≡ 5 = sym (length-map five to_ascii_lowercase) ∙ ap length is in
     let whole = length-take 5 (without_tabs_and_newlines s) in
     let f = has_front 5 s (omega (arith, size, whole)) in
-    record {
-      scheme = f.front;
-      rest = f.rest;
-      joined = f.joined;
-      spelled = ap (map to_ascii_lowercase) f.kept ∙ is;
-    }
+    record { scheme = f.front; rest = f.rest; joined = f.joined; spelled = ap (map to_ascii_lowercase) f.kept ∙ is }
 
 -- the first five kept bytes of a text are those of a long prefix of it
 spelled_front : (x w : List ℕ) → 5 ≤ length (without_tabs_and_newlines x) → spelled (x ++ 44 ∷ w) ≡ spelled x
@@ -197,8 +192,7 @@ pub data Ends (a : List ℕ) : Type 0 where
   all_no_scheme : ((t : List ℕ) → staged (a ++ 44 ∷ t) ≡ NoScheme) → Ends a
   all_no_comma : ((t : List ℕ) → IsBytes (trimmed_text (a ++ 44 ∷ t)) → staged (a ++ 44 ∷ t) ≡ NoComma) → Ends a
   all_accepted : (header : List ℕ)
-      → ((t : List ℕ) → IsBytes (trimmed_text (a ++ 44 ∷ t))
-      → IsAcceptedWith (a ++ 44 ∷ t) header (trimmed_tail t))
+      → ((t : List ℕ) → IsBytes (trimmed_text (a ++ 44 ∷ t)) → IsAcceptedWith (a ++ 44 ∷ t) header (trimmed_tail t))
       → Ends a
 
 has_rest : (a t : List ℕ) (s : HasScheme (trimmed_front a))

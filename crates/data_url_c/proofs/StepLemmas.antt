@@ -167,8 +167,7 @@ base64_more {tail} {window} {before} {after} {end} {len} old new w l f none ne h
     let good : IsGoodBody tail new = record {
       left = sound.1.good;
       edge = subst C (sym from) w.edge;
-      plain =
-          λ e. absurd (omega (arith, flag, l, e));
+      plain = λ e. absurd (omega (arith, flag, l, e));
     } in
     let far : old.from < new.from = omega (arith, further w ne, from) in
     let on : flag_of old ≡ true = flag_base64 old.is_base64 l in

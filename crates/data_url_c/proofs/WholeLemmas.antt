@@ -118,8 +118,7 @@ answers_by {old = old} {len = len} memory t u small size (Bad bytes kind) e h =
     let long = shown.len in
     record {
       given = Err (InvalidBase64 kind (vec_of memory bytes (omega (arith, long, within))));
-      is_given =
-          (_, url_with t u e refl);
+      is_given = (_, url_with t u e refl);
       crosses = shown;
     }
 

@@ -16,8 +16,7 @@ no_word : (s : List ℕ) → (s ≡ codes "body" → ⊥) → (s ≡ codes "mime
 no_word s body mime fragment type base64 =
     cc (
       cond-false _ _ _ (test_from_different s (codes "body") body),
-      cond-false _ _ _ (test_from_different s (codes
-          "mime") mime),
+      cond-false _ _ _ (test_from_different s (codes "mime") mime),
       cond-false _ _ _ (test_from_different s (codes "fragment") fragment),
       cond-false _ _ _
           (test_from_different s (codes "type") type),

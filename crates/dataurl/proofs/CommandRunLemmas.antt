@@ -123,6 +123,5 @@ text_not_read {c} {unread} {left} {fault} held t h =
       written = [];
       consumed = h.consumed;
       appended = appends_none held;
-      is_run =
-          unread_run c left h.input (Err fault) fault t refl h.is_read;
+      is_run = unread_run c left h.input (Err fault) fault t refl h.is_read;
     }

@@ -58,8 +58,7 @@ pub flushes_all : {bytes : List ℕ} {a b : Option (List ℕ)} (end : End) → W
 flushes_all {bytes} end w = record {
   written = w.written;
   appended = w.appended;
-  is_flushed =
-      flush_whole bytes w.written end (written_all bytes w.written (Ok tt) refl w.is_written);
+  is_flushed = flush_whole bytes w.written end (written_all bytes w.written (Ok tt) refl w.is_written);
 }
 
 -- if the bytes in the buffer are not all written, the end is a failed write
@@ -68,8 +67,7 @@ pub flushes_some : {bytes : List ℕ} {a b : Option (List ℕ)} {failed : WriteF
 flushes_some {bytes} {failed = failed} end w = record {
   written = w.written;
   appended = w.appended;
-  is_flushed =
-      not_flushed (written_some bytes w.written (Err failed) failed refl w.is_written);
+  is_flushed = not_flushed (written_some bytes w.written (Err failed) failed refl w.is_written);
 }
 
 -- Runs
@@ -127,11 +125,7 @@ module _ {F : Type 0} (step : F → List ℕ → Result (Unit {0}) WriteFailed �
       → RunGathers (holds f) (holds g) (waits f) (waits g) (joined_pieces cs) (refusal cs)
   run_gathers [] f g ran =
       let P : F → Type 0 = λ s. Appends (holds f) (holds s) [] in
-      record {
-        written = [];
-        appended = subst P ran (appends_none (holds f));
-        took = cc (append-nil (waits f));
-      }
+      record { written = []; appended = subst P ran (appends_none (holds f)); took = cc (append-nil (waits f)) }
   run_gathers (c ∷ cs) f g ran =
       gather_more c.answer c.piece (joined_pieces cs) (waits f) (waits c.after) (waits g) (refusal cs) (holds f)
       (holds c.after) (holds g) (gathers f c.piece c.answer c.after ran.0)

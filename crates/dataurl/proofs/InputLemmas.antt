@@ -58,8 +58,7 @@ pub reads_failed : (old now new : Option (List ℕ)) (bytes : List ℕ) → Cons
 reads_failed old now new bytes c k = record {
   input = bytes;
   consumed = consumes_kept old now new bytes c k;
-  is_read =
-      read_failed;
+  is_read = read_failed;
 }
 
 -- reading the whole input may return a failed read after any part was consumed
@@ -88,8 +87,7 @@ pub text_failed : (old new : Option (List ℕ)) (fault : Fault) → ReadsAll old
 text_failed old new fault h = record {
   input = h.input;
   consumed = h.consumed;
-  is_read =
-      failed_is new h.input (Err fault) fault refl h.is_read;
+  is_read = failed_is new h.input (Err fault) fault refl h.is_read;
 }
 
 read_items : (left : Option (List ℕ)) (input : List ℕ) (r : Result (Vec ℕ Global) Fault) (bytes : Vec ℕ Global)
@@ -107,8 +105,7 @@ text_whole old new bytes text h e =
     record {
       input = h.input;
       consumed = h.consumed;
-      is_read =
-          whole_text (e ∙ k.0) (subst IsUtf8 (e ∙ k.0) (IsUtf8-string_bytes text)) k.1;
+      is_read = whole_text (e ∙ k.0) (subst IsUtf8 (e ∙ k.0) (IsUtf8-string_bytes text)) k.1;
     }
 
 -- if the whole input is not UTF-8, reading it as a text returns that fault

@@ -58,8 +58,7 @@ going_fails bytes rest old now new failed some k g =
     record {
       written = g.written;
       appended = appends_kept old now new g.written g.appended k;
-      is_written =
-          beginning (rest, g.joined, some);
+      is_written = beginning (rest, g.joined, some);
     }
 
 -- nothing was written

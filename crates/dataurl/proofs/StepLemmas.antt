@@ -39,8 +39,7 @@ pub writes_map : {P Q : List ℕ → End → Type 0} {held now : Option (List �
 writes_map {r = r} f h = record {
   written = h.written;
   appended = h.appended;
-  is_written =
-      written_map f h.written r h.is_written;
+  is_written = written_map f h.written r h.is_written;
 }
 
 streamed_written : {P : List ℕ → End → Type 0} (w : List ℕ) (e : End) → IsStreamed P w e → IsWrittenOf P w e
@@ -53,8 +52,7 @@ pub writes_streamed : {P : List ℕ → End → Type 0} {held now : Option (List
 writes_streamed {r = r} h = record {
   written = h.written;
   appended = h.appended;
-  is_written =
-      streamed_written h.written r h.is_streamed;
+  is_written = streamed_written h.written r h.is_streamed;
 }
 
 exactly_is : (P : List ℕ → End → Type 0) (bytes w : List ℕ) (e : End) → P bytes (Ok tt) → IsExactly bytes w e → P w e
@@ -89,8 +87,7 @@ pub writes_exactly : {bytes : List ℕ} {held now : Option (List ℕ)} → Write
 writes_exactly {bytes} h = record {
   written = h.written;
   appended = h.appended;
-  is_written =
-      exact_whole bytes h.written (Ok tt) refl h.is_written;
+  is_written = exact_whole bytes h.written (Ok tt) refl h.is_written;
 }
 
 -- if a write of these bytes fails, a part of the output that is exactly these bytes is written
@@ -99,8 +96,7 @@ pub writes_beginning : {bytes : List ℕ} {held now : Option (List ℕ)} {failed
 writes_beginning {bytes} {failed = failed} h = record {
   written = h.written;
   appended = h.appended;
-  is_written =
-      exact_cut bytes h.written (Err failed) failed refl h.is_written;
+  is_written = exact_cut bytes h.written (Err failed) failed refl h.is_written;
 }
 
 -- MIME types

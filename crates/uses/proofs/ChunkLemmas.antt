@@ -61,8 +61,7 @@ module _ {F E : Type 0} (step : F → List ℕ → Result (Unit {0}) E → F →
     taken = xs;
     refused = chunk;
     others = [];
-    chunks_are =
-        refl;
+    chunks_are = refl;
     between = d1;
     takes = h;
     error = e;

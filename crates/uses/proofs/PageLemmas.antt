@@ -46,8 +46,7 @@ quote_at : (xs ys zs : List ℕ) → get_or (xs ++ (opening ++ (ys ++ (34 ∷ zs
 quote_at xs ys zs =
     cc (
       get_or-append-add xs (opening ++ (ys ++ (34 ∷ zs))) (7 + length ys) 0,
-      get_or-append-add opening (ys ++ (34 ∷
-          zs)) (length ys) 0,
+      get_or-append-add opening (ys ++ (34 ∷ zs)) (length ys) 0,
       get_or-append_seam ys 34 zs 0,
     )
 

@@ -115,8 +115,7 @@ within_whole : {text whole : List ℕ} {limit : ℕ} {old new : Option (List ℕ
 within_whole {text} {whole} p t = record {
   bytes = t.bytes;
   taken = t.taken;
-  begins =
-      prefix_trans t.bytes text whole t.begins p;
+  begins = prefix_trans t.bytes text whole t.begins p;
   within = t.within;
 }
 

@@ -188,10 +188,8 @@ body_escape s value rest h =
     let front_is : before 35 (without_tabs_and_newlines s) ≡ e.high ∷ e.low ∷ before 35
     (without_tabs_and_newlines rest) = cc (
       e.dropped_is,
-      before_other 35 e.high (e.low ∷ without_tabs_and_newlines
-          rest) (hex_no_hash e.high e.high_hex),
-      before_other 35 e.low (without_tabs_and_newlines rest) (hex_no_hash
-          e.low e.low_hex),
+      before_other 35 e.high (e.low ∷ without_tabs_and_newlines rest) (hex_no_hash e.high e.high_hex),
+      before_other 35 e.low (without_tabs_and_newlines rest) (hex_no_hash e.low e.low_hex),
     ) in
     cc (
       body_of (37 ∷ s) (37 ∷ without_tabs_and_newlines s) (dropped_keeps 37 s refl),

@@ -10,7 +10,7 @@ use Rattle.data_url.specs.Pieces.{text_of, IsEscape, IsPiece, IsStretch, bytes_o
 use Rattle.data_url.specs.Steps.Walk.{IsClear, Reads, Ended, EscapeAt, IsPassed, KeepsBlock, LonePercent}
 use Rattle.data_url.specs.Steps.Walk.{Looking, GoesOn, IsNextMark, Knows, KnowsAhead, LooksOn, Stays, Gathers}
 use Rattle.data_url.specs.Steps.Walk.{MayGather, Moves}
-use Rattle.data_url.specs.Url.{before, after, front, is_tab_or_newline, without_tabs_and_newlines}
+use Rattle.data_url.specs.Url.{before, after, front, without_tabs_and_newlines}
 use Rattle.data_url.proofs.escapes.Reading.{paid_byte, paid_le, paid_percent, reads_clear, reads_escape}
 use Rattle.data_url.proofs.escapes.Reading.{reads_passed, reads_percent, reads_then, ends_empty, has_escape}
 use Rattle.data_url.proofs.escapes.Reading.{HasEscape, percent_nil}
@@ -194,8 +194,7 @@ stop_escape {c} {c'} {mark} {b} {value} {end} k h s d =
     let e : EscapeAt (text_of c) mark value end = record {
       some = omega arith;
       within = d.within;
-      percent =
-          sym k.byte_is ∙ h;
+      percent = sym k.byte_is ∙ h;
       value_is = d.value_is;
       ends = d.ends;
     } in
@@ -412,10 +411,7 @@ goes_as {c0} {c} {c'} {next} e g = let P : Cursor → Type 0 = λ w. GoesOn c0 n
 pub knows_on : {c c' : Cursor} {next : Option Piece} → Knows c → GoesOn c next c' → KnowsAhead c' c'.ahead → Knows c'
 knows_on {c} {c'} {next} k g a =
     let text = g.on.text_stays in
-    record {
-      after_is = cc;
-      ahead_is = a;
-    }
+    record { after_is = cc; ahead_is = a }
 
 -- an escape that is known at the index of the walk is the next piece
 pub byte_known : {c : Cursor} {value end : ℕ} → EscapeAt (text_of c) c.place value end
@@ -476,10 +472,6 @@ pub ahead_is : (c : Cursor) (a : Ahead) → c.ahead ≡ a → KnowsAhead c a →
 ahead_is c a e k = let P : Ahead → Type 0 = λ x. KnowsAhead c x in subst P (sym e) k
 
 -- Bytes that are gathered in a buffer.
-
--- nothing is gathered
-pub gathers_none : (c : Cursor) (room : List ℕ) (len : ℕ) → c.place ≤ length (text_of c) → Gathers c c room room len len
-gathers_none c room len w = grind (arith, append-nil)
 
 -- what is gathered in two steps, one after the other, is gathered in both together
 pub gathers_then : {c c1 c2 : Cursor} {room room1 room2 : List ℕ} {len len1 len2 : ℕ} → Gathers c c1 room room1 len len1

@@ -28,8 +28,7 @@ head type_ subtype r t s b trimmed = record {
   gap = [];
   joined = trimmed;
   is_type = t;
-  is_subtype =
-      s;
+  is_subtype = s;
   in_gap = tt;
   begins = b;
 }
@@ -43,13 +42,11 @@ parameter name tail rest value begins names gives = record {
   name = name;
   tail = tail;
   joined = refl;
-  in_gap =
-      tt;
+  in_gap = tt;
   begins = begins;
   in_name = every_from_all (λ c. not (ends_name c)) name names;
   name_is = refl;
-  value_is =
-      gives;
+  value_is = gives;
 }
 
 -- '=' and a text without quotes and whitespace at its end
@@ -81,8 +78,7 @@ quotes : Parses (codes "TEXT/HTML;a=" ++ (34 ∷ codes "b;c" ++ (34 ∷ codes ";
     (record {
       type_ = codes "text";
       subtype = codes "html";
-      parameters =
-          (codes "a", codes "b;c") ∷ (codes "e", []) ∷ [];
+      parameters = (codes "a", codes "b;c") ∷ (codes "e", []) ∷ [];
     })
 unfolding is_plain on_literals
 quotes = record {
@@ -133,13 +129,7 @@ parses_x r items begins ends are = record {
   subtype = codes "x";
   parameters = r;
   head = head (codes "x") (codes "x") r refl refl begins ends;
-  record_is = record {
-    items = items;
-    items_are = are;
-    type_is = refl;
-    subtype_is = refl;
-    parameters_are = refl;
-  };
+  record_is = record { items = items; items_are = are; type_is = refl; subtype_is = refl; parameters_are = refl };
 }
 
 -- a name can have every mark that is a token code point
@@ -310,8 +300,7 @@ invalid_names = parses_x (codes ";=q;" ++ (233 ∷ codes "=" ++ (34 ∷ codes "a
 whitespace : Parses (codes " a/b ; c=d ") (record {
   type_ = codes "a";
   subtype = codes "b";
-  parameters =
-      (codes "c", codes "d") ∷ [];
+  parameters = (codes "c", codes "d") ∷ [];
 })
 unfolding on_literals
 whitespace = record {
@@ -336,15 +325,12 @@ whitespace = record {
         gap = codes " ";
         name = codes "c";
         tail = codes "=d";
-        joined =
-            refl;
+        joined = refl;
         in_gap = every_from_all is_http_whitespace (codes " ") refl;
         begins = refl;
-        in_name =
-            every_from_all (λ c. not (ends_name c)) (codes "c") refl;
+        in_name = every_from_all (λ c. not (ends_name c)) (codes "c") refl;
         name_is = refl;
-        value_is =
-            plain_value (codes "d") _ refl refl refl;
+        value_is = plain_value (codes "d") _ refl refl refl;
       },
       refl,
     );
@@ -422,8 +408,7 @@ printed_default = refl
 printed_quotes : printed (record {
   type_ = codes "text";
   subtype = codes "html";
-  parameters =
-      (codes "a", codes "b;c") ∷ (codes "e", []) ∷ [];
+  parameters = (codes "a", codes "b;c") ∷ (codes "e", []) ∷ [];
 })
     ≡ codes "text/html;a=" ++ (34 ∷ codes "b;c" ++ (34 ∷ codes ";e=" ++ (34 ∷ 34 ∷ [])))
 unfolding on_literals

@@ -161,8 +161,7 @@ module _ {F E : Type 0} (step : F → List ℕ → Result (Unit {0}) E → F →
       → complete_bytes (left_over d ++ t) ≡ joined_pieces (h.run ++ record {
         piece = x;
         answer = w.told;
-        after =
-            s2.closure;
+        after = s2.closure;
       } ∷ []) ++ y
   called_wait {s2 = s2} {x = x} q y h w =
       cc (append_assoc (joined_pieces h.run) x y, called_bytes x h w.told s2.closure)
@@ -178,8 +177,7 @@ module _ {F E : Type 0} (step : F → List ℕ → Result (Unit {0}) E → F →
         called = w.called;
         answer = w.answer;
         failed = w.failed;
-        symbols_stay =
-            refl;
+        symbols_stay = refl;
         padding_stays = w.padding_stays;
       } in
       record {
@@ -212,8 +210,7 @@ module _ {F E : Type 0} (step : F → List ℕ → Result (Unit {0}) E → F →
         called = w.called;
         answer = w.answer;
         failed = w.failed;
-        symbols_stay =
-            refl;
+        symbols_stay = refl;
         padding_stays = w.padding_stays;
       } in
       record {

@@ -6,7 +6,7 @@ use Rattle.std.specs.List.{filter, find, list_any, range_with_len, list_all}
 use Rattle.std.proofs.lemmas.List.{append-nil, get_or_at, take_at, length_push, length-replicate}
 use Rattle.std.proofs.lemmas.List.Folds.{list_any-append}
 use Rattle.std.proofs.lemmas.Bool.{false≢true, true≢false, eqb-true, eq-eqb, ne_eqb, eqb-false}
-use Rattle.std.proofs.lemmas.Bool.{not-true, not_from_false, cond-false, and_from, and_right}
+use Rattle.std.proofs.lemmas.Bool.{not-true, not_from_false, and_from, and_right}
 use Rattle.std.proofs.lemmas.Bool.{false_from_ne_true, agree_below_at, and_parts}
 use Rattle.data_url.specs.Base64.{before_place, first_fault, is_fault, is_symbol, is_valid, without_padding}
 use Rattle.data_url.specs.Base64.{without_last_padding, Kind}
@@ -125,8 +125,7 @@ module _ (space pad symbol : ℕ → Bool) where
         take_at,
         append-nil,
         append_assoc,
-        before_walk (p ++ c ∷ []) t (n + 1) (s || pad c) (cc
-            (length_push p c)),
+        before_walk (p ++ c ∷ []) t (n + 1) (s || pad c) (cc (length_push p c)),
       )
 
   -- the byte of p ++ b at the place where a walk over b stops is the byte that stops it

@@ -196,10 +196,7 @@ spaces_are v js long fits e =
           low v js long fits e (λ x h. omega (arith, and_le_r x 15))) (sym (map-id v)),
       map_agree (λ b. eqb (space_entry b) b) is_ascii_whitespace (λ b l. agree_below_at (λ b. eqb (space_entry b)
           b) is_ascii_whitespace 256 b refl l) v fits,
-      mask_l-mod (map is_ascii_whitespace v) 64 (omega (
-        arith,
-        length-map v is_ascii_whitespace,
-      )),
+      mask_l-mod (map is_ascii_whitespace v) 64 (omega (arith, length-map v is_ascii_whitespace)),
     )
 
 first_bits : (s w : Bool) (m n : ℕ) → cond (not s) 1 0 + 2 * m ≡ cond w 1 0 + 2 * n → ((s || w) ≡ true) × (m ≡ n)
@@ -310,8 +307,7 @@ four_added text r1 r2 r3 q0 q1 q2 q3 q4 d e f p q r s =
       split_block text,
       filter-append is_symbol (take 16 text) (take 16 (drop 16 text) ++ (take 16 (drop 32 text)
           ++ take 16 (drop 48 text))),
-      filter-append is_symbol (take 16 (drop 16 text)) (take 16 (drop 32 text) ++ take
-          16 (drop 48 text)),
+      filter-append is_symbol (take 16 (drop 16 text)) (take 16 (drop 32 text) ++ take 16 (drop 48 text)),
       filter-append is_symbol (take 16 (drop 32 text)) (take 16 (drop 48 text)),
     )
 
@@ -331,10 +327,7 @@ after_is q =
     cc (
       take-append-drop at q,
       after_groups-append (take at q) (drop at q),
-      after_few (drop at q) (omega (
-        arith,
-        length-drop at q,
-      )),
+      after_few (drop at q) (omega (arith, length-drop at q)),
     )
 
 -- the first `len % 4` of the three items after the complete groups are those that are left over

@@ -1,5 +1,5 @@
 -- What a decoder does with more bytes, and at its end. For `Decoder`.
-use Rattle.std.proofs.Common.{◌≡◌, ◌≢◌, ℕ, suc, zero, ◌+◌, ◌*◌, ◌%◌, ◌<◌, ◌≤◌, Bool, true, false, cond, eqb, get_or}
+use Rattle.std.proofs.Common.{◌≡◌, ℕ, suc, zero, ◌+◌, ◌*◌, ◌%◌, ◌≤◌, Bool, true, false, cond, eqb, get_or}
 use Rattle.std.proofs.Common.{take, List, [], ◌∷◌, ◌++◌, length, map, min, replicate, None, Some, Result, Ok}
 use Rattle.std.proofs.Common.{Err, refl, ap, sym, ◌∙◌, subst, arith, length-append, drop, Option, append_assoc}
 use Rattle.std.specs.Prelude.{MatchOption, MatchBool, MatchResult}
@@ -7,7 +7,6 @@ use Rattle.std.specs.List.{filter, list_any}
 use Rattle.std.proofs.lemmas.List.{append-nil, length-map, length-replicate, take-append-drop}
 use Rattle.std.proofs.lemmas.List.Elements.{filter-append}
 use Rattle.std.proofs.lemmas.Bool.{false≢true, true≢false}
-use Rattle.data_url.specs.Base64.{Kind}
 use Rattle.data_url.specs.declared.forgiving_base64.InvalidBase64Details.TheVariants.{AlphabetSymbolAfterPadding, LoneAlphabetSymbol, Padding, UnexpectedSymbol}
 use Rattle.data_url.specs.Base64.{after_groups, decoded, complete_bytes, first_fault, group_bytes, group_number, groups}
 use Rattle.data_url.specs.Base64.{is_symbol, is_valid, kind_of, left_padding, left_symbols, left_text, rest_bytes}
@@ -30,9 +29,6 @@ use Rattle.data_url.proofs.forgiving_base64.Padding.{fault_text, is_pad, kind_is
 use Rattle.data_url.proofs.forgiving_base64.Padding.{none_fault, pads_of_text, symbols_of_text, fits_with}
 use Rattle.data_url.proofs.forgiving_base64.Padding.{bad, space_alone, symbol_alone}
 use Rattle.data_url.proofs.forgiving_base64.Padding.{done_stays, fault-append_some, kind_stays}
-use Rattle.data_url.specs.Steps.Calls.{CallsOnce}
-use Rattle.data_url.specs.Steps.Ending.{IsFaultAtEnd}
-use Rattle.data_url.specs.Facts.{Fits}
 use Rattle.data_url.specs.Laws.{GoesOn}
 use Rattle.data_url.proofs.forgiving_base64.Groups.{two_feeds}
 
@@ -191,14 +187,6 @@ three_items [] n l e = absurd (omega arith)
 three_items (a ∷ []) n l e = absurd (omega arith)
 three_items (a ∷ b ∷ []) n l e = absurd (omega arith)
 three_items (a ∷ b ∷ c ∷ f ∷ t) n l e = absurd (omega arith)
-
--- the first two items of a list of three items, written out
-pub two_items : (s : List ℕ) (n : ℕ) → length s ≡ 3 → n ≡ 2 → take n s ≡ get_or s 0 0 ∷ get_or s 1 0 ∷ []
-two_items (a ∷ b ∷ c ∷ []) n l e = rw e refl
-two_items [] n l e = absurd (omega arith)
-two_items (a ∷ []) n l e = absurd (omega arith)
-two_items (a ∷ b ∷ []) n l e = absurd (omega arith)
-two_items (a ∷ b ∷ c ∷ f ∷ t) n l e = absurd (omega arith)
 
 -- How many '=' fit after a number of symbols
 
@@ -485,8 +473,7 @@ module _ {F E : Type 0} (step : F → List ℕ → Result (Unit {0}) E → F →
             (λ e h. record {
               bytes_begin = prefix_trans (joined_pieces f.run) (complete_bytes (left_over d ++ a))
                   (complete_bytes ((left_over d ++ a) ++ b)) h.bytes_begin (done_begins (left_over d ++ a) b);
-              answer =
-                  h.answer;
+              answer = h.answer;
             })
             f.gave);
       }

@@ -99,8 +99,7 @@ module _ {F E : Type 0} (step : F → List ℕ → Result (Unit {0}) E → F →
               | inl (v, h) ↦
                   let good : is_valid u ≡ true = valid ∙ v in
                   match_map (refusal g.run) _ _ _ _
-                  (λ w. bool_at_true (is_valid u) _ _ good
-                  (bytes ∙ ap (λ x. complete_bytes u ++ x) w.0 ∙ sym all, w.1))
+                  (λ w. bool_at_true (is_valid u) _ _ good (bytes ∙ ap (λ x. complete_bytes u ++ x) w.0 ∙ sym all, w.1))
                   (λ e w. record {
                     bytes_begin =
                         prefix_trans (joined_pieces (f.run ++ g.run)) (complete_bytes u ++ joined_pieces g.run)
@@ -108,8 +107,7 @@ module _ {F E : Type 0} (step : F → List ℕ → Result (Unit {0}) E → F →
                         (complete_bytes u ++ joined_pieces g.run) bytes)
                         (prefix_trans (complete_bytes u ++ joined_pieces g.run)
                         (complete_bytes u ++ decoded (left_over d')) (whole_bytes u)
-                        (prefix_after (complete_bytes u) (joined_pieces g.run) (decoded (left_over d'))
-                        w.bytes_begin)
+                        (prefix_after (complete_bytes u) (joined_pieces g.run) (decoded (left_over d')) w.bytes_begin)
                         (prefix_all (complete_bytes u ++ decoded (left_over d')) (whole_bytes u)
                         (sym (cond-true (is_valid u) (decoded u) (complete_bytes u) good ∙ all))));
                     answer = w.answer;

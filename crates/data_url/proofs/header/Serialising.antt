@@ -23,7 +23,7 @@ use Rattle.data_url.proofs.texts.Bytes.{is_cut}
 use Rattle.data_url.proofs.percent.Encoding.{encoded_cons, encoded_nil, path_cons, path_nil, percent_encoding-append}
 use Rattle.std.specs.Option.{option_map}
 use Rattle.data_url.specs.Facts.{base64_flag, serialised_with_spaces}
-use Rattle.data_url.specs.Fetch.{before_comma, has_base64_suffix, is_space}
+use Rattle.data_url.specs.Fetch.{before_comma, is_space}
 use Rattle.data_url.specs.Mime.{DoesNotEnd}
 use Rattle.data_url.proofs.header.Suffix.{same_flag}
 use Rattle.data_url.proofs.mime.RoundTrips.{not_ends_last}

@@ -1,10 +1,10 @@
 -- The stages of the Standard, from the input to its record. For `DataUrl::process`.
 use Rattle.std.proofs.Common.{◌≡◌, ℕ, zero, suc, ◌+◌, ◌-◌, ◌<◌, ◌≤◌, Bool, false, List, [], ◌∷◌, ◌++◌}
-use Rattle.std.proofs.Common.{length, get_or, take, drop, reverse, Option, None, Some, refl, sym, ap, ◌∙◌, inl, inr}
+use Rattle.std.proofs.Common.{length, get_or, take, drop, Option, None, Some, refl, sym, ap, ◌∙◌, inl, inr}
 use Rattle.std.proofs.Common.{subst, arith, true, map, codes, ◌≢◌, IsTrue}
 use Rattle.std.specs.Prelude.{◌==◌, option_and_then}
 use Rattle.std.specs.List.{prefix_len, suffix_len}
-use Rattle.std.specs.Str.{IsAscii, chars}
+use Rattle.std.specs.Str.{chars}
 use Rattle.std.proofs.lemmas.Bool.{cases_Bool}
 use Rattle.std.proofs.lemmas.Bool.{cond-true, cond-false, both_ways, ne_eqb, eq-eqb}
 use Rattle.std.proofs.lemmas.List.{get_or-drop, get_or-reverse, get_or-take, get_or_past, length-drop, length-reverse}
@@ -15,7 +15,7 @@ use Rattle.data_url.specs.Url.{cleaned_text, without_tabs_and_newlines, fragment
 use Rattle.data_url.specs.Url.{in_fragment_set}
 use Rattle.data_url.specs.Fetch.{is_space, stripped_header, encoded_body, header_of, staged_front}
 use Rattle.data_url.specs.Fetch.{tail_of, before_base64, before_semicolon, before_word, has_base64_suffix}
-use Rattle.data_url.specs.Fetch.{media_of, mime_text, with_plain, Accepted, NoComma, NoScheme, outcome, plain_body, staged, Good, Outcome}
+use Rattle.data_url.specs.Fetch.{media_of, mime_text, with_plain, Accepted, NoComma, NoScheme, outcome, plain_body, staged}
 use Rattle.data_url.specs.Steps.Header.{IsPrintable, header_text, IsHeaderOf, IsRecordFor}
 use Rattle.data_url.proofs.percent.Encoding.{IsBytes, encoded_cons, encoded_nil, header_nil}
 use Rattle.data_url.proofs.percent.Encoding.{header_path, header_query, Recoded, RecodedTails}
@@ -139,8 +139,7 @@ lacks_before_dropping c k (b ∷ s) h = elim (cases_Bool (is_tab_or_newline b)) 
     ne_eqb,
     both_ways,
     after_other,
-    lacks_before_dropping c k s (sym (ap (after c)
-        (dropped_passes b s e)) ∙ h),
+    lacks_before_dropping c k s (sym (ap (after c) (dropped_passes b s e)) ∙ h),
     dropped_passes,
   )
   | inr e ↦
@@ -311,8 +310,7 @@ pub default_is : (type_ subtype charset value : List ℕ) → type_ ≡ codes "t
     → ◌≡◌ {A = Record} (record {
       type_ = chars type_;
       subtype = chars subtype;
-      parameters =
-          (chars charset, chars value) ∷ [];
+      parameters = (chars charset, chars value) ∷ [];
     }) default_record
 unfolding chars
 default_is type_ subtype charset value a b c d = grind arith

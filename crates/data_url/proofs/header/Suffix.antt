@@ -8,7 +8,7 @@ use Rattle.std.specs.List.{suffix_len, prefix_len}
 use Rattle.std.specs.Str.{bytes_eq}
 use Rattle.std.proofs.lemmas.Bool.{cond-true, cond-false, false_from_ne_true}
 use Rattle.std.proofs.lemmas.Bool.{cond_both, eqb-true}
-use Rattle.std.proofs.lemmas.List.{drop_all, drop_more, get_or-take, length-drop, length-map}
+use Rattle.std.proofs.lemmas.List.{drop_all, drop_more, get_or-take, length-drop}
 use Rattle.std.proofs.lemmas.List.{length-take-le, take-take, drop-append-le, get_or-drop, get_or-map}
 use Rattle.std.proofs.lemmas.List.{reverse-append}
 use Rattle.std.proofs.lemmas.List.Sums.{suffix_len-le-length, prefix_len-drop_no, prefix_len-le-length}

@@ -1,7 +1,7 @@
 -- Which parameters are kept: the first of each name. For `kept.rt`, and that a record is well formed.
-use Rattle.std.proofs.Common.{◌≡◌, ℕ, List, String, ap, length, map, min, sym, take, ◌∙◌, ◌+◌, ◌<◌, ◌||◌, ◌&&◌, ◌⊎◌}
+use Rattle.std.proofs.Common.{◌≡◌, ℕ, List, String, ap, length, map, min, sym, take, ◌∙◌, ◌<◌, ◌||◌, ◌&&◌, ◌⊎◌}
 use Rattle.std.proofs.Common.{Bool, true, false, cond, [], ◌∷◌, ◌++◌, get_or, drop, None, Some, refl, ap₂}
-use Rattle.std.proofs.Common.{subst, append_assoc, append-nil, arith, inl, inr, drop-cons, ◌≤◌, not}
+use Rattle.std.proofs.Common.{subst, append_assoc, append-nil, arith, inl, inr, ◌≤◌, not}
 use Rattle.std.proofs.Common.{string_bytes}
 use Rattle.std.proofs.lemmas.List.{take-map, take_min, map-append, drop-append-le, length-append, take-append-drop}
 use Rattle.data_url.specs.Mime.{has_name, BeginsParameters, Item, Items, Pair, first_of_each_name, is_lowercase_name}
@@ -12,7 +12,7 @@ use Rattle.data_url.specs.Steps.Kept.{first_of, pairs_of, HasLaterNames, IsIndex
 use Rattle.data_url.specs.declared.mime.kept.KeptParameters.{KeptParameters}
 use Rattle.data_url.specs.declared.mime.kept.TheConstants.{LOOKED_THROUGH}
 use Rattle.std.proofs.lemmas.Bool.{agree_below_at, and_from, and_parts, cases_lt, cond-false, cond-true}
-use Rattle.std.proofs.lemmas.Bool.{cond_both, false_from_ne_true, false≢true, or_left, both_ways}
+use Rattle.std.proofs.lemmas.Bool.{cond_both, false_from_ne_true, false≢true, or_left}
 use Rattle.std.proofs.lemmas.List.Folds.{list_all-append, list_all-map, list_all_at}
 use Rattle.std.proofs.lemmas.Grind.{flat_map-append}
 use Rattle.std.proofs.lemmas.Slice.Eq.{bytes_eq-Decides}
@@ -136,11 +136,6 @@ pub lowercase_at : {A B : Type 0} (pairs : List (String A × String B)) (i : ℕ
 lowercase_at pairs i item h l e = grind (arith, list_all_at, list_all-map)
 
 -- What one more item adds
-
--- if the name of an item is not a token text, the item adds no pair
-pub no_pair_token : (item : Item) (xs : List Pair) → is_token_text item.0 ≡ false → added_pairs xs item ≡ []
-no_pair_token (name, None) xs h = refl
-no_pair_token (name, Some v) xs h = grind arith
 
 unless_none : (xs : List Pair) (p : Pair) (b : Bool) → has_name p.0 xs ≡ true
     → unless_named xs (cond b (p ∷ []) []) ≡ []
@@ -345,8 +340,7 @@ first_all p e (q ∷ ps) h =
     let k = and_parts (p q) (list_all p ps) h in
     let f = first_all p (e ++ (q ∷ [])) ps k.1 in
     cond_both (has_name q.0 e) (first_of_each_name (e ++ (q ∷ [])) ps) (q ∷ first_of_each_name (e ++ (q ∷ [])) ps)
-    (λ x. list_all p x ≡ true) (λ c. f) (λ c. and_from (p q) (list_all p (first_of_each_name (e ++ (q ∷ [])) ps))
-    k.0 f)
+    (λ x. list_all p x ≡ true) (λ c. f) (λ c. and_from (p q) (list_all p (first_of_each_name (e ++ (q ∷ [])) ps)) k.0 f)
 
 all_quotable : (items : List Item) → list_all (λ (p : Pair). list_all is_quotable p.1) (valid_pairs items) ≡ true
 all_quotable [] = refl
@@ -394,8 +388,7 @@ has_record s a b c h n =
       subtype = b;
       parameters = c;
       head = h;
-      record_is =
-          record { items = i.0; items_are = i.1; type_is = refl; subtype_is = refl; parameters_are = refl };
+      record_is = record { items = i.0; items_are = i.1; type_is = refl; subtype_is = refl; parameters_are = refl };
     })
 
 -- a text that has no head has no record

@@ -42,8 +42,7 @@ quoted_reading value (Some w) = record { value = Some value; rest = after_front 
 abbrev pub plain_reading : List ℕ → Reading
 plain_reading s = record {
   value = unless_empty (without_end is_http_whitespace (front_of in_value s));
-  rest =
-      after_front in_value s;
+  rest = after_front in_value s;
 }
 
 -- the value in the text after '='
@@ -140,8 +139,7 @@ is_quoted_reading : (s v : List ℕ) (w : Option (List ℕ)) → IsRead s v w �
 is_quoted_reading s v None h = record {
   tail = 61 ∷ 34 ∷ s;
   joined = ap (λ x. 61 ∷ 34 ∷ x) (sym (append-nil s));
-  gives =
-      unclosed s h;
+  gives = unclosed s h;
   begins = tt;
 }
 is_quoted_reading s v (Some w) h = record {
@@ -149,8 +147,7 @@ is_quoted_reading s v (Some w) h = record {
   joined =
       ap (λ x. 61 ∷ 34 ∷ x) (cc (
         front_joined in_value w,
-        append_assoc h.0 (34 ∷ front_of in_value w) (after_front
-            in_value w),
+        append_assoc h.0 (34 ∷ front_of in_value w) (after_front in_value w),
       ));
   gives = quoted h.0 (front_of in_value w) h.2 (front_passes in_value w);
   begins = begins_after w;
@@ -316,8 +313,7 @@ begins r item items h =
       s = s;
       is = h.2 ∙ sym e;
       item_is = item_is s h.0 h.1 item h.3 e b;
-      rest_is =
-          rest_is s h.0 h.1 item h.3 e b;
+      rest_is = rest_is s h.0 h.1 item h.3 e b;
     }
 
 begins_same : (r : List ℕ) (item item' : Item) (rest rest' : List ℕ) → Begins r item rest → Begins r item' rest'

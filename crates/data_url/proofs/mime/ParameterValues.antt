@@ -18,7 +18,7 @@ use Rattle.data_url.proofs.header.Serialising.{suffix_passes, suffix_stops}
 use Rattle.std.proofs.lemmas.Str.{IsUtf8-drop, IsUtf8-take, chars-IsAscii, chars-append}
 use Rattle.std.proofs.lemmas.Str.{chars-nil, chars_past_char, encode_ascii, encodes-append, encodes-chars}
 use Rattle.std.proofs.lemmas.Str.{IsUtf8-encode, cons_from_encodes}
-use Rattle.std.specs.Str.{IsCharBoundary, IsUtf8, chars, all_scalars}
+use Rattle.std.specs.Str.{IsCharBoundary, IsUtf8, chars}
 use Rattle.data_url.specs.CodePoints.{ends_name, is_http_whitespace, is_semicolon, is_quotable}
 use Rattle.data_url.specs.Mime.{DoesNotBegin, DoesNotEnd, Every, Without, Quoted}
 use Rattle.data_url.specs.Mime.{QuotedOpen, after_backslash, nothing_quoted, as_itself}
@@ -126,8 +126,7 @@ whitespace_front s u =
     record {
       front = chars (take (prefix_len is_http_whitespace s) s);
       joined = h.joined;
-      at_front =
-          h.in_front;
+      at_front = h.in_front;
       begins = h.begins;
     }
 

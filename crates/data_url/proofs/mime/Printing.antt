@@ -235,9 +235,6 @@ pairs_seen : {A B : Type 0} (ps : List (String A × String B)) → map pair_of p
 pairs_seen [] = refl
 pairs_seen (p ∷ ps) = ap (λ xs. pair_of p ∷ xs) (pairs_seen ps)
 
-abbrev record_with : List ℕ → List ℕ → List Pair → Record
-record_with a b c = record { type_ = a; subtype = b; parameters = c }
-
 -- if two MIME types have the same texts, their records of code points are equal
 pub same_seen : (m n : Mime) → SameTexts m n → record_of m ≡ record_of n
 same_seen m n h = grind (arith, pairs_seen)

@@ -119,11 +119,6 @@ unescaped_is q v (inr (q', v', t, e, h)) = ap (unescaped false) t ∙ (unescaped
 
 -- The closing quote is at the same place in the bytes of a text as in its code points.
 
--- none of the bytes is ASCII
-abbrev IsHigh : List ℕ → Type 0
-IsHigh [] = Unit {0}
-IsHigh (b ∷ t) = (128 ≤ b) × IsHigh t
-
 skips : (b : ℕ) (t : List ℕ) → 128 ≤ b → quoted_rest false (b ∷ t) ≡ quoted_rest false t
 skips b t h = grind arith
 

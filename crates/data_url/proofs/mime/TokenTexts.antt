@@ -126,8 +126,7 @@ module _ (p : ℕ → Bool) (below : (c : ℕ) → p c ≡ true → c < 128) whe
         joined =
             cc (
               take-append-drop (prefix_len p bs) bs,
-              chars-append (take (prefix_len p bs) bs) (drop (prefix_len p
-                  bs) bs) front,
+              chars-append (take (prefix_len p bs) bs) (drop (prefix_len p bs) bs) front,
             );
         in_front = grind (arith, chars-IsAscii, front_ascii, take_front, front_passes);
         begins = grind (arith, not_begins_encoded, encodes-chars, drop_front, after_begins);

@@ -1,7 +1,7 @@
 -- Percent-encoding with the rows of a table, and decoding of encoded texts. For `push_encoded`.
 use Rattle.std.proofs.Common.{◌≡◌, ℕ, ◌*◌, ◌+◌, ◌-◌, ◌<◌, ◌&&◌, ◌||◌, Bool, false, true, List, [], ◌∷◌, length, take}
 use Rattle.std.proofs.Common.{drop, refl, ◌/◌, ◌%◌, not, ◌++◌, Option, None, Some, sym, ap, ◌∙◌, inl, inr, subst}
-use Rattle.std.proofs.Common.{append-nil, append_assoc, arith, suc, ◌≤◌, get_or, take-append-drop}
+use Rattle.std.proofs.Common.{append-nil, append_assoc, arith, suc, ◌≤◌, get_or}
 use Rattle.std.specs.Prelude.{◌==◌, slice_index, nat_lt}
 use Rattle.std.specs.Str.{bytes_eq, IsAscii, IsUtf8}
 use Rattle.std.proofs.lemmas.Bool.{agree_below, agree_below_at, and_parts, eqb-true, and_left, and_right, cases_Bool}
@@ -10,7 +10,7 @@ use Rattle.std.proofs.lemmas.Bool.{ltb-true}
 use Rattle.std.proofs.lemmas.Slice.Eq.{bytes_eq-Decides}
 use Rattle.data_url.specs.Url.{in_fragment_set, in_path_set, in_query_set, before, after, encoded_byte, encoded_path}
 use Rattle.data_url.specs.Url.{hex_digit, in_path_end_set, percent_encoding, serialised, with_query}
-use Rattle.data_url.specs.Url.{without_tabs_and_newlines, is_tab_or_newline}
+use Rattle.data_url.specs.Url.{without_tabs_and_newlines}
 use Rattle.data_url.specs.Steps.Sets.{IsRow, byte_encoding, in_set}
 use Rattle.data_url.specs.declared.percent.rows.TheConstants.{FRAGMENT, PATH, QUERY}
 use Rattle.data_url.proofs.classes.Rows.{unmarked_passes}
@@ -20,7 +20,7 @@ use Rattle.data_url.specs.Steps.Header.{header_parts, header_text}
 use Rattle.data_url.specs.Percent.{percent_decoding}
 use Rattle.data_url.proofs.texts.Bytes.{before-append, before_at, before_nil, before_other, before_same, after_nil}
 use Rattle.data_url.proofs.texts.Bytes.{after_other, after_same, lacks, before_all, after-dropped_none, after_none}
-use Rattle.data_url.proofs.texts.Bytes.{without_tabs_and_newlines-append, dropped_keeps, dropped_nil, dropped_passes}
+use Rattle.data_url.proofs.texts.Bytes.{dropped_keeps, dropped_nil, dropped_passes}
 use Rattle.std.proofs.Math.Seq.{take-append-add}
 use Rattle.std.proofs.lemmas.Grind.{flat_map-append}
 use Rattle.std.proofs.lemmas.List.{drop_all, drop_more, length-take-le, nil_from_length, take-take}
@@ -333,8 +333,7 @@ before-serialised (b ∷ h) rest e =
           let set = path_byte_set (before 63 (h ++ 44 ∷ rest)) in
           cc (
             serialised_path b (h ++ 44 ∷ rest) f,
-            before-append 44 (encoded_byte set b) (serialised (h ++ 44 ∷
-                rest)) (encoded_byte_lacks set b k.here),
+            before-append 44 (encoded_byte set b) (serialised (h ++ 44 ∷ rest)) (encoded_byte_lacks set b k.here),
             before-serialised h rest k.after_it,
             same_set h rest (after 63 h) refl,
             header_path b h f,
@@ -393,9 +392,6 @@ kept_whole p (b ∷ s) h =
 
 -- a text of plain bytes is serialised as it is
 
-abbrev other_than_plain : ℕ → Bool
-other_than_plain b = is_tab_or_newline b || (in_path_set b || ((b == 35) || ((b == 44) || (b == 63))))
-
 -- the byte is written as it is in a path, and is none of '#', ',' and '?'
 pub record Plain (b : ℕ) : Type 0 where
   pub written_is : byte_encoding in_path_set b ≡ b ∷ []
@@ -434,8 +430,7 @@ put_more p s i room at row room' m l within r n h =
     record {
       few = omega arith;
       long = n;
-      wrote =
-          subst (WroteTo p s (i + 1)) (sym front) (wrote_more p s i (take at room) m.wrote l);
+      wrote = subst (WroteTo p s (i + 1)) (sym front) (wrote_more p s i (take at room) m.wrote l);
     }
 
 -- Part by part

@@ -1,7 +1,7 @@
 -- Texts of code points, cut at the first code point that does not pass, and where a text can be cut.
 use Rattle.std.proofs.Common.{◌≡◌, ℕ, ◌≤◌, Bool, true, cond, List, [], ◌∷◌, ◌++◌, length, refl}
 use Rattle.std.proofs.Common.{sym, ap, ◌∙◌, arith, ◌+◌, ◌<◌, zero, suc, drop, get_or, ◌-◌, reverse, subst}
-use Rattle.std.proofs.lemmas.Bool.{cond-true, cond-false, cond_both, leb-true}
+use Rattle.std.proofs.lemmas.Bool.{cond-true, cond-false, cond_both}
 use Rattle.std.proofs.lemmas.Str.{chars-nil, IsCharBoundary-after_ascii, IsCharBoundary-before_ascii}
 use Rattle.std.specs.Str.{chars, IsCharBoundary, IsUtf8}
 use Rattle.std.specs.List.{prefix_len, suffix_len}
@@ -12,7 +12,7 @@ use Rattle.std.proofs.Math.ListN.{get_or-append}
 use Rattle.std.proofs.Common.{append-nil, false, length-append, take}
 use Rattle.data_url.specs.Mime.{DoesNotBegin, DoesNotEnd, Every}
 use Rattle.data_url.specs.Steps.Parsing.{IsTrimmedEnd, IsTrimmedFront}
-use Rattle.data_url.specs.Url.{is_c0_control_or_space, without_end, without_front}
+use Rattle.data_url.specs.Url.{without_end, without_front}
 use Rattle.std.proofs.lemmas.List.{get_or-reverse}
 
 -- Texts cut at the first code point that does not pass, and ends removed.

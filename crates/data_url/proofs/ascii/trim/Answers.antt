@@ -1,7 +1,5 @@
-use Rattle.std.proofs.lemmas.Bool.{leb-true}
 use Rattle.std.proofs.Common.{arith}
 use Rattle.std.proofs.lemmas.List.Sums.{suffix_len-le-length}
-use Rattle.data_url.specs.Url.{is_c0_control_or_space}
 use Rattle.data_url.proofs.texts.CodePoints.{boundary_after_front, boundary_before_end}
 use Rattle.data_url.proofs.ascii.trim.Goals as goal
 

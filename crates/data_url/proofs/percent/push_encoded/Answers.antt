@@ -1,5 +1,4 @@
 use Rattle.data_url.proofs.percent.Encoding.{percent_encoding-append}
-use Rattle.std.proofs.Common.{take-append-drop}
 use Rattle.data_url.proofs.texts.Bytes.{without_tabs_and_newlines-append}
 use Rattle.std.proofs.Common.{append_assoc}
 use Rattle.std.proofs.Common.{arith}

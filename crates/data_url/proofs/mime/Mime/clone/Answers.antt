@@ -16,8 +16,7 @@ returns-clause-seen c =
     let copy : Mime = record {
       type_ = c.in_ok-clone.field-0;
       subtype = c.in_ok-clone-2.field-0;
-      parameters =
-          c.in_ok-clone-3.field-0;
+      parameters = c.in_ok-clone-3.field-0;
     } in
     let same : SameTexts copy c.args.self.now = returns-clause-texts c in
     same_seen copy c.args.self.now same

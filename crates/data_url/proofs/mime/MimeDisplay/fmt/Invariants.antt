@@ -12,5 +12,4 @@ abbrev pub invariant-loop-name : goal.invariant-loop-name
 invariant-loop-name g l =
     IsHeld l.line × (IsFlush l.fn.f → (start : Line) × (held start ≡ []) × (done : List ℕ)
     × HasAdded g.W.Write.write_str_gives l.fn.f start done l.f l.line
-    × (done ++ pairs_text (drop l.name-index l.self.parameters.items) ≡ encode_utf8_all
-    (printed (record_of l.self))))
+    × (done ++ pairs_text (drop l.name-index l.self.parameters.items) ≡ encode_utf8_all (printed (record_of l.self))))

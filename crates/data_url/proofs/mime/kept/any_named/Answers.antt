@@ -2,12 +2,7 @@ use Rattle.data_url.proofs.mime.TokenTexts.{bytes_of_ascii}
 use Rattle.data_url.proofs.mime.FirstNames.{lower_is_itself}
 use Rattle.data_url.proofs.mime.TokenTexts.{token_text_ascii}
 use Rattle.std.proofs.Common.{drop-cons}
-use Rattle.std.proofs.lemmas.Bool.{or_left}
-use Rattle.std.proofs.Common.{arith, map, ap, ◌∙◌, string_bytes}
-use Rattle.std.proofs.lemmas.Bool.{false≢true}
-use Rattle.std.proofs.lemmas.Str.{IsUtf8-string_bytes}
-use Rattle.std.specs.Char.{to_ascii_lowercase}
-use Rattle.std.specs.Str.{chars}
+use Rattle.std.proofs.Common.{arith}
 use Rattle.data_url.proofs.mime.FirstNames.{lowercase_at, names_differ}
 use Rattle.data_url.proofs.mime.FirstNames.{names_equal, some_byte}
 use Rattle.data_url.proofs.mime.kept.any_named.Goals as goal

@@ -27,11 +27,7 @@ returns c =
     record {
       parameter = (
         (map to_ascii_lowercase (chars c.split_name.result.0.now), r.0),
-        record {
-          name = refl;
-          value =
-              r.1;
-        },
+        record { name = refl; value = r.1 },
         parameter_before _ _ _ _ _ _ c.without_leading_whitespace.ensures s.joined s.front
             (named_value_before _ _ _ _ e r.2),
       );

@@ -18,8 +18,7 @@ returns-then-dense-clause-gathers c =
     gathers_then (gathers_value (record {
       on = c.stop_at.ensures.keeps.stays.on;
       text_is = refl;
-      looks_are =
-          refl;
+      looks_are = refl;
       place_is = refl;
     }) c.in-Escape.ensures.stop.0 (omega arith)) c.gather_escapes-len.ensures.gathers
 

@@ -30,8 +30,7 @@ loop-place-init c = elim c.if-place-self.branch [
         looking = to.0;
         stays = stays_here c.args.self.now;
         unseen = omega (arith, w.place-is);
-        forward =
-            omega (arith, l, w.place-is);
+        forward = omega (arith, l, w.place-is);
         clear = to.1;
       }
   | else-place-self w ↦ grind (arith, stays_here)

@@ -1,8 +1,6 @@
 use Rattle.data_url.proofs.forgiving_base64.Steps.{kind_left}
 use Rattle.data_url.proofs.forgiving_base64.Steps.{valid_left}
-use Rattle.std.proofs.Common.{take, arith, length-take}
-use Rattle.std.specs.Fn.{CalledAt}
-use Rattle.data_url.specs.Decoder.{state_of}
+use Rattle.std.proofs.Common.{arith, length-take}
 use Rattle.data_url.proofs.forgiving_base64.Padding.{every_list_all}
 use Rattle.data_url.proofs.forgiving_base64.decode.Decoder.fault_at_end.Goals as goal
 
