@@ -92,14 +92,6 @@ pub fed_within : {s0 s : DataUrlBase64} {text out0 out : List ℕ} {w : Walk} {l
     → len ≤ length out
 fed_within h = omega (arith, h.takes.wrote.within, h.size)
 
--- the output has room for the next piece
-pub fed_room : {s0 s : DataUrlBase64} {text out0 out : List ℕ} {w : Walk} {len : ℕ} (bytes rest : List ℕ)
-    → Fed s0 s text out0 w out len → w.rest ≡ bytes ++ rest → is_good_state s0 ≡ true
-    → 3 * (s0.pending + length (plain_body text)) ≤ 4 * length out0 → len ≤ length out
-    → 3 * (s.pending + length bytes) + 4 * len ≤ 4 * length out
-fed_room {s0} {s} {text} {out0} {out} {w} {len} bytes rest h e good room within =
-    grind (arith, taken_room, length-append)
-
 -- one piece more
 pub fed_more : {s0 s s' : DataUrlBase64} {text out0 out part out2 out' : List ℕ} {w w' : Walk} {status len m : ℕ}
     (bytes : List ℕ) → Fed s0 s text out0 w out len → w'.text ≡ w.text → w.rest ≡ bytes ++ w'.rest

@@ -48,21 +48,6 @@ after_pad s c rest h = grind (arith, step_by, fault_pad)
 
 -- the same, from what is known about the flag before and after
 
--- a symbol before any '=' is passed, and the flag stays as it is
-pub step_symbol : (s t : Bool) (c : ℕ) → s ≡ false → t ≡ s → is_symbol c ≡ true → (rest : List ℕ)
-    → fault_byte s (c ∷ rest) ≡ fault_byte t rest
-step_symbol s t c e f h rest = grind (arith, after_symbol)
-
--- a '=' is passed, and the flag is true after it
-pub step_pad : (s t : Bool) (c : ℕ) → t ≡ true → (c == 61) ≡ true → (rest : List ℕ)
-    → fault_byte s (c ∷ rest) ≡ fault_byte t rest
-step_pad s t c e h rest = after_pad s c rest h ∙ ap (λ v. fault_byte v rest) (sym e)
-
--- whitespace is passed, and the flag stays as it is
-pub step_space : (s t : Bool) (c : ℕ) → t ≡ s → is_ascii_whitespace c ≡ true → (rest : List ℕ)
-    → fault_byte s (c ∷ rest) ≡ fault_byte t rest
-step_space s t c e h rest = after_space s c rest h ∙ ap (λ v. fault_byte v rest) (sym e)
-
 -- The loop: no fault before a place, and from there on the same
 
 -- the byte at the first fault from a place on is that of the whole text

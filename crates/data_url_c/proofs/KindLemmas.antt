@@ -32,16 +32,13 @@ decimal_small : (n : ℕ) → length (decimal n) < 64 → n < 10 ^ 64
 unfolding digits
 decimal_small n h = few_digits 64 n [] (omega (arith, h))
 
-decimal_value : (n : ℕ) → length (decimal n) < 64 → digits_value 10 (without_leading_plus (decimal n)) ≡ n
-decimal_value n h = grind (arith, decimal_is_IsNumeral_wide, decimal_small)
-
 -- the number in the text of an unexpected symbol
 pub number_is : (text rest number : List ℕ) (byte found : ℕ) → length text < 64
     → text ≡ kind_text (UnexpectedSymbol byte)
     → text ≡ codes "symbol with codepoint " ++ rest → rest ≡ number ++ codes " not expected"
     → found ≡ digits_value 10 (without_leading_plus number) → found ≡ byte
 number_is text rest number byte found short h e f v =
-    grind (arith, append_cancel_right, length-append, decimal_value)
+    grind (arith, append_cancel_right, length-append, decimal_is_IsNumeral_wide, decimal_small)
 
 -- The texts of the other kinds
 

@@ -124,16 +124,11 @@ found_waiting symbols s xs pending count missing a b c d e f g h =
 
 -- What is left over
 
-groups_left : (front last : List ℕ) → length last ≤ 3 → length (front ++ last) % 4 ≡ length last
-    → after_groups (front ++ last) ≡ last
-groups_left front last few e =
-    grind (arith, length-after_groups, length-append, after_groups-append, nil_from_length, after_few)
-
 -- the last symbols of a text are those left over, if they are as many as all symbols modulo four
 pub left_symbols_are : (s last : List ℕ) → length last ≡ length (filter is_symbol s) % 4
     → (front : List ℕ) × (filter is_symbol s ≡ front ++ last) → last ≡ left_symbols s
 unfolding left_symbols
-left_symbols_are s last e h = grind (arith, groups_left)
+left_symbols_are s last e h = grind (arith, length-after_groups, length-append, after_groups-append, nil_from_length, after_few)
 
 all_list : (q : List ℕ) → Every is_symbol q → list_all is_symbol q ≡ true
 all_list [] h = refl

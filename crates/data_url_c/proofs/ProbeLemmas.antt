@@ -27,9 +27,6 @@ use Rattle.data_url.proofs.api.{stages_accepted, stages_no_comma, stages_no_sche
 
 -- Trimming
 
-prefix_stop : (p : ℕ → Bool) (x q : List ℕ) (b : ℕ) → p b ≡ false → prefix_len p (x ++ b ∷ q) ≡ prefix_len p x
-prefix_stop p x q b f = grind (arith, prefix_len-append)
-
 end_stop : (p : ℕ → Bool) (x q : List ℕ) (b : ℕ) → p b ≡ false → without_end p (x ++ b ∷ q) ≡ x ++ b ∷ without_end p q
 end_stop p x q b f =
     let few = suffix_len-le-length p q in
@@ -49,7 +46,7 @@ trimmed_tail t = without_end is_c0_control_or_space t
 -- trimming a text with a comma is trimming its front before the comma and its end after the comma
 pub trimmed_around : (a t : List ℕ) → trimmed_text (a ++ 44 ∷ t) ≡ trimmed_front a ++ 44 ∷ trimmed_tail t
 unfolding trimmed_text
-trimmed_around a t = grind (arith, prefix_stop, drop-append-le, prefix_len-le-length, end_stop)
+trimmed_around a t = grind (arith, prefix_len-append, drop-append-le, prefix_len-le-length, end_stop)
 
 -- The scheme
 

@@ -67,11 +67,6 @@ unfolding outcome
 flag_of_bad true x bytes kind e = refl
 flag_of_bad false x bytes kind e = absurd (cc)
 
--- what was written twice was written
-written_twice : {bytes out mid out' : List ℕ} {len len' : ℕ} → length bytes ≤ length out → Reaches out bytes mid len
-    → length out' ≡ length mid → WritesFront bytes mid out' len' → WritesFront bytes out out' len'
-written_twice {bytes} {out} {mid} {out'} {len} {len'} fits h size w = grind (arith, length-take-le, drop-append_seam)
-
 -- a bad body, which was decoded again
 pub ends_again : {E : Type 0} (url : DataUrl) {tail mid : List ℕ} {len : ℕ} (r : Result (Unit {0}) (DecodeError E))
     (kind : Kind)
@@ -80,17 +75,7 @@ pub ends_again : {E : Type 0} (url : DataUrl) {tail mid : List ℕ} {len : ℕ} 
     → length out' ≡ length mid
     → EndsAs (outcome true (plain_body tail)) mid out' status len' → EndsAs (url_body url) out out' status len'
 ends_again url {tail} {mid} {len} r kind out out' status len' t room e answer h size k =
-    let bad = bad_of (url_body url) r kind e answer in
-    let on = flag_of_bad (is_base64 url) (plain_body (url_tail url)) bad.0 kind bad.1 in
-    let P : Outcome → Type 0 = λ o. EndsAs o mid out' status len' in
-    let Q : Outcome → Type 0 = λ o. EndsAs o out out' status len' in
-    let R : Outcome → Type 0 = λ o. Reaches out (outcome_bytes o) mid len in
-    let again =
-    subst P (ap (λ s. outcome true (plain_body s)) (sym t) ∙ ap (λ v. outcome v (plain_body (url_tail url))) (sym on)
-    ∙ bad.1) k in
-    let fits : length bad.0 ≤ length out =
-    omega (arith, body_fits url out t room, ap (λ b. length (outcome_bytes b)) bad.1) in
-    subst Q (sym bad.1) (again.0, written_twice fits (subst R bad.1 h) size again.1)
+    grind (arith, bad_of, flag_of_bad, body_fits, length-take-le, drop-append_seam)
 
 -- The result
 

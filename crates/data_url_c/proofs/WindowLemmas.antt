@@ -34,9 +34,6 @@ before_left (x ∷ d) r s h =
 
 -- Decoding two texts
 
-not_percent : (a : ℕ) (s : List ℕ) → not (a == 37) ≡ true → ((a == 37) && two_digits s) ≡ false
-not_percent a s h = grind arith
-
 -- what is closed stays closed without its first bytes
 closed_rest : (a : ℕ) (s : List ℕ) → is_closed (a ∷ s) ≡ true → is_closed s ≡ true
 unfolding is_closed
@@ -56,7 +53,7 @@ decode_closed : (s t : List ℕ) → is_closed s ≡ true
     → percent_decoding (s ++ t) ≡ percent_decoding s ++ percent_decoding t
 unfolding is_closed percent_decoding
 decode_closed [] t h = refl
-decode_closed (a ∷ []) t h = decoded_keeps a t (not_percent a t h)
+decode_closed (a ∷ []) t h = grind (arith, decoded_keeps)
 decode_closed (a ∷ b ∷ []) t h = grind arith
 decode_closed (a ∷ b ∷ c ∷ rest) t h =
     decode_step a b c rest t (decode_closed rest t (closed_rest c rest (closed_rest b (c ∷ rest) h)))
@@ -146,20 +143,6 @@ scan_closed window at kept e few h (inr two) =
 drop_next : (s : List ℕ) (i b : ℕ) → i < length s → b ≡ get_or s i 0 → drop i s ≡ b ∷ drop (i + 1) s
 drop_next s i b l e = grind (arith, drop-cons)
 
--- a tab or newline before them
-pub scan_tab : (s : List ℕ) (i at : ℕ) → i + 1 ≡ at → at ≤ length s → is_tab_or_newline (get_or s i 0) ≡ true
-    → without_tabs_and_newlines (drop i s) ≡ without_tabs_and_newlines (drop at s)
-scan_tab s i at e l t = grind (arith, drop_next, dropped_passes)
-
--- another byte before them
-pub scan_kept : (s : List ℕ) (i at : ℕ) → i + 1 ≡ at → at ≤ length s → is_tab_or_newline (get_or s i 0) ≡ false
-    → without_tabs_and_newlines (drop i s) ≡ get_or s i 0 ∷ without_tabs_and_newlines (drop at s)
-scan_kept s i at e l t = grind (arith, drop_next, dropped_keeps)
-
--- a byte that is not '%' passes the test for bytes other than '%'
-pub no_percent : (b : ℕ) → (b ≡ 37 → ⊥) → not (b == 37) ≡ true
-no_percent b h = ap not (ne_eqb b 37 h)
-
 -- An escape that goes on
 
 -- the bytes so far: '%', tabs and newlines, and digits
@@ -179,7 +162,7 @@ pub scan_tab_step : (window : List ℕ) (at kept i : ℕ) → i + 1 ≡ at → a
     → NoPercent (without_tabs_and_newlines (drop at window))
     → (kept ≡ length (without_tabs_and_newlines (drop i window)))
     × NoPercent (without_tabs_and_newlines (drop i window))
-scan_tab_step window at kept i e l t k n = grind (arith, scan_tab)
+scan_tab_step window at kept i e l t k n = grind (arith, drop_next, dropped_passes)
 
 -- one byte more
 pub scan_kept_step : (window : List ℕ) (at kept i : ℕ) → i + 1 ≡ at → at ≤ length window
@@ -188,7 +171,7 @@ pub scan_kept_step : (window : List ℕ) (at kept i : ℕ) → i + 1 ≡ at → 
     → NoPercent (without_tabs_and_newlines (drop at window))
     → (kept + 1 ≡ length (without_tabs_and_newlines (drop i window)))
     × NoPercent (without_tabs_and_newlines (drop i window))
-scan_kept_step window at kept i e l t p k n = grind (arith, scan_kept)
+scan_kept_step window at kept i e l t p k n = grind (arith, drop_next, dropped_keeps)
 
 take_next : (s : List ℕ) (i : ℕ) → i < length s → without_tabs_and_newlines (take (i + 1) s) ≡ without_tabs_and_newlines
     (take i s) ++ without_tabs_and_newlines (get_or s i 0 ∷ [])
@@ -198,15 +181,11 @@ hex_below : (b : ℕ) → is_ascii_hexdigit b ≡ true → b < 128
 hex_below b h = search (rules, tests, h)
 
 hex_no_percent : (b : ℕ) → is_ascii_hexdigit b ≡ true → not (b == 37) ≡ true
-hex_no_percent b h = no_percent b (λ (e : b ≡ 37). both_ways (is_ascii_hexdigit b) (ap is_ascii_hexdigit e) h)
+hex_no_percent b h = grind (arith, both_ways, ne_eqb)
 
 join_no_percent : (s t : List ℕ) → NoPercent s → NoPercent t → NoPercent (s ++ t)
 join_no_percent [] t h k = k
 join_no_percent (b ∷ s) t h k = (h.0, join_no_percent s t h.1 k)
-
--- nothing but the '%'
-pub escape_begins : (text : List ℕ) → 0 < length text → get_or text 0 0 ≡ 37 → EscapeSoFar text 1 0
-escape_begins text l e = grind (arith, dropped_keeps, dropped_nil)
 
 -- a tab or newline more
 pub escape_tab : {text : List ℕ} {at digits : ℕ} → EscapeSoFar text at digits → at < length text
@@ -249,7 +228,7 @@ escape_two h e = escape_is h (inl (ap is_closed h.is ∙ closed_hex h.hex (h.siz
 -- a byte that is not a digit ends it
 pub escape_other : {text : List ℕ} {at digits : ℕ} → EscapeSoFar text at digits → at < length text
     → is_tab_or_newline (get_or text at 0) ≡ false → is_ascii_hexdigit (get_or text at 0) ≡ false → IsEscapeEnd text at
-escape_other {text} {at} h l t x = grind (arith, scan_kept)
+escape_other {text} {at} h l t x = grind (arith, drop_next, dropped_keeps)
 
 -- the end of the text ends it
 pub escape_all : {text : List ℕ} {at digits : ℕ} → EscapeSoFar text at digits → length text ≤ at → IsEscapeEnd text at
@@ -285,11 +264,6 @@ before_shorter (b ∷ s) = grind (arith, before_shorter s)
 body_within : (s : List ℕ) → length (plain_body s) ≤ length (without_tabs_and_newlines s)
 unfolding plain_body front
 body_within s = grind (arith, decoded_shorter, before_shorter)
-
--- the window that holds the rest of the tail
-pub window_all : (tail : List ℕ) (from limit : ℕ) → IsCharBoundary tail from → length (drop from tail) ≤ limit
-    → IsWindow tail from limit (length tail)
-window_all tail from limit e l = grind (arith, drop-length, dropped_nil, body_shorter, length-take)
 
 -- after a character boundary, if the text goes on, there is another one within four bytes
 next_edge : (tail : List ℕ) (from : ℕ) → IsUtf8 tail → IsCharBoundary tail from → from < length tail

@@ -1,6 +1,8 @@
+use Rattle.std.proofs.Common.{length-append}
+use Rattle.data_url_c.proofs.LeftLemmas.{taken_room}
 use Rattle.std.proofs.Common.{◌-◌, arith, drop, length, length-drop, length-take, rules, subst, sym}
 use Rattle.data_url.specs.Pieces.{Walk, bytes_of}
-use Rattle.data_url_c.proofs.BodyLemmas.{Fed, fed_fault, fed_more, fed_none, fed_room, fed_within}
+use Rattle.data_url_c.proofs.BodyLemmas.{Fed, fed_fault, fed_more, fed_none, fed_within}
 use Rattle.data_url_c.proofs.PartLemmas.{end_sliced, end_written}
 use Rattle.data_url_c.proofs.body.feed_body.Goals as goal
 
@@ -12,11 +14,7 @@ loop-piece-init c =
     c.requires.array)
 
 pub feed_piece-step-requires-clause-room : goal.feed_piece-step-requires-clause-room
-feed_piece-step-requires-clause-room c =
-    let l = c.loop-piece in
-    let room = fed_room (bytes_of c.in-Some.piece) c.next.new.self.rest l.invariant c.in-Some.ensures.bytes
-    c.requires.good c.requires.room (fed_within l.invariant) in
-    omega (arith, room, length-take (length l.out - l.len) (drop l.len l.out), length-drop l.len l.out)
+feed_piece-step-requires-clause-room c = grind (arith, fed_within, length-take, length-drop, taken_room, length-append)
 
 pub returns-then-step-ne-DONE : goal.returns-then-step-ne-DONE
 returns-then-step-ne-DONE c =

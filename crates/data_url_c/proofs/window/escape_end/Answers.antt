@@ -1,5 +1,7 @@
+use Rattle.data_url.proofs.api.{dropped_keeps}
+use Rattle.data_url.proofs.api.{dropped_nil}
 use Rattle.std.proofs.Common.{◌+◌, arith, rules, subst, sym, ℕ}
-use Rattle.data_url_c.proofs.WindowLemmas.{EscapeSoFar, escape_all, escape_begins, escape_digit, escape_other}
+use Rattle.data_url_c.proofs.WindowLemmas.{EscapeSoFar, escape_all, escape_digit, escape_other}
 use Rattle.data_url_c.proofs.WindowLemmas.{escape_tab, escape_two}
 use Rattle.data_url_c.proofs.window.escape_end.Goals as goal
 use Rattle.data_url_c.proofs.window.escape_end.Goals.{then-not-is_tab_or_newline+else-digits-eq2+else-not-is_ascii_hexdigit}
@@ -7,7 +9,7 @@ use Rattle.data_url_c.proofs.window.escape_end.Goals.{else-not-is_tab_or_newline
 use Rattle.data_url_c.proofs.window.escape_end.Goals.{then-digits-eq2-via-else-digits-eq2+then-not-is_ascii_hexdigit}
 
 pub loop-at-init : goal.loop-at-init
-loop-at-init c = escape_begins c.args.text.now c.requires.some c.requires.percent
+loop-at-init c = grind (arith, dropped_keeps, dropped_nil)
 
 pub returns-then-digits-eq2 : goal.returns-then-digits-eq2
 returns-then-digits-eq2 c = elim c.then-digits-eq2.branch [

@@ -1,13 +1,14 @@
+use Rattle.data_url.proofs.api.{body_shorter}
+use Rattle.std.proofs.Math.Seq.{drop-length}
+use Rattle.data_url.proofs.api.{dropped_nil}
+use Rattle.std.proofs.Common.{length-take}
 use Rattle.std.proofs.Common.{◌<◌, arith, drop, length, length-drop, rules}
 use Rattle.data_url_c.proofs.PartLemmas.{end_sliced}
-use Rattle.data_url_c.proofs.WindowLemmas.{window_all, window_edge, window_escape, window_percent}
+use Rattle.data_url_c.proofs.WindowLemmas.{window_edge, window_escape, window_percent}
 use Rattle.data_url_c.proofs.window.window_end.Goals as goal
 
 pub returns-then-rest-limit : goal.returns-then-rest-limit
-returns-then-rest-limit c =
-    let tail = c.args.tail.now in
-    let within = c.requires.edge.0 in
-    window_all tail c.args.from c.args.limit c.requires.edge (search (rules, length-drop c.args.from tail))
+returns-then-rest-limit c = grind (arith, length-drop, drop-length, dropped_nil, body_shorter, length-take)
 
 pub returns-in_default : goal.returns-in_default
 returns-in_default c =
