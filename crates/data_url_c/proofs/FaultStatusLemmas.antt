@@ -5,7 +5,8 @@ use Rattle.std.proofs.Common.{refl, sym, ap, ◌∙◌, arith, eqb}
 use Rattle.std.specs.Prelude.{◌==◌, is_some}
 use Rattle.std.specs.List.{list_any}
 use Rattle.std.proofs.lemmas.List.{drop_more}
-use Rattle.data_url.specs.declared.forgiving_base64.InvalidBase64Details.TheVariants.{AlphabetSymbolAfterPadding, UnexpectedSymbol}
+use Rattle.data_url.specs.declared.forgiving_base64.InvalidBase64Details.TheVariants.{AlphabetSymbolAfterPadding}
+use Rattle.data_url.specs.declared.forgiving_base64.InvalidBase64Details.TheVariants.{UnexpectedSymbol}
 use Rattle.data_url.specs.Base64.{first_fault, is_symbol, kind_of}
 use Rattle.data_url.specs.Mime.{Every}
 use Rattle.data_url.proofs.api.{every_from_all, fault-append, fault-append_some, fault_after, fault_byte}
@@ -17,17 +18,20 @@ use Rattle.data_url_c.specs.Parts.{is_good_state, waiting_text}
 use Rattle.data_url_c.specs.declared.parts.DataUrlBase64.{DataUrlBase64}
 use Rattle.data_url_c.proofs.PartLemmas.{good_parts}
 
+-- the empty text has no faulty byte
 fault_nothing : (s : Bool) → fault_byte s [] ≡ None
 unfolding fault_byte
 fault_nothing s = refl
 
 -- One byte
 
+-- a text of one '=' has no faulty byte
 fault_pad : (s : Bool) → fault_byte s (61 ∷ []) ≡ None
 unfolding fault_byte
 fault_pad true = refl
 fault_pad false = refl
 
+-- if a byte is not a fault, the faulty byte of a text that begins with it is that of the rest of the text
 step_by : (s t : Bool) (c : ℕ) (rest : List ℕ) → fault_byte s (c ∷ []) ≡ None
     → (s || list_any (λ b. b == 61) (c ∷ [])) ≡ t
     → fault_byte s (c ∷ rest) ≡ fault_byte t rest
@@ -45,8 +49,6 @@ after_space s c rest h = grind (arith, step_by, fault_space)
 -- a '=' is not a fault, and there is padding after it
 pub after_pad : (s : Bool) (c : ℕ) (rest : List ℕ) → (c == 61) ≡ true → fault_byte s (c ∷ rest) ≡ fault_byte true rest
 after_pad s c rest h = grind (arith, step_by, fault_pad)
-
--- the same, from what is known about the flag before and after
 
 -- The loop: no fault before a place, and from there on the same
 

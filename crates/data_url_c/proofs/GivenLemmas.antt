@@ -36,6 +36,7 @@ pub accepted : (x : List ℕ) {type_text : List ℕ} {body : Outcome} {fragment 
     → staged x ≡ Accepted type_text body fragment → IsAcceptable (staged x)
 accepted x e = subst IsAcceptable (sym e) tt
 
+-- a fragment without tabs and newlines, percent-encoded, is the encoded fragment, if there is one
 encoded_is : (found : Option (List ℕ)) → option_map (percent_encoding in_fragment_set)
     (option_map without_tabs_and_newlines found) ≡ option_map encoded_fragment found
 encoded_is None = refl
@@ -150,12 +151,14 @@ some_record same h k refused none =
 
 -- Base64
 
+-- if the result is that base64 is not valid, the closure returned no error, and the match implies P
 given_by : {E : Type 0} (o : Option E) (P : Type 0) (all bytes : List ℕ) (r : Result (Unit {0}) (DecodeError E))
     (kind : Kind) → r ≡ Err (decode.InvalidBase64 kind) → MatchOption o P (λ e. IsRefused all bytes e r)
     → (o ≡ None) × P
 given_by None P all bytes r kind q h = (refl, h)
 given_by (Some e) P all bytes r kind q h = absurd (let k = h.answer in cc)
 
+-- if the result is that base64 is not valid, the text is not valid, and the kind and the bytes are those of its fault
 not_valid : {E : Type 0} (v : Bool) (x bytes : List ℕ) (r : Result (Unit {0}) (DecodeError E)) (kind : Kind)
     → r ≡ Err (decode.InvalidBase64 kind)
     → MatchBool v ((bytes ≡ decoded x) × (r ≡ Ok tt)) ((bytes ≡ complete_bytes x)

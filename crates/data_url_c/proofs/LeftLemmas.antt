@@ -128,12 +128,15 @@ found_waiting symbols s xs pending count missing a b c d e f g h =
 pub left_symbols_are : (s last : List ℕ) → length last ≡ length (filter is_symbol s) % 4
     → (front : List ℕ) × (filter is_symbol s ≡ front ++ last) → last ≡ left_symbols s
 unfolding left_symbols
-left_symbols_are s last e h = grind (arith, length-after_groups, length-append, after_groups-append, nil_from_length, after_few)
+left_symbols_are s last e h =
+    grind (arith, length-after_groups, length-append, after_groups-append, nil_from_length, after_few)
 
+-- if each item of a list is a symbol, `list_all is_symbol` is true of the list
 all_list : (q : List ℕ) → Every is_symbol q → list_all is_symbol q ≡ true
 all_list [] h = refl
 all_list (c ∷ t) h = let a = h.0 in let b = all_list t h.1 in rw (a, b) refl
 
+-- what is left over of a text has only symbols
 left_all : (u : List ℕ) → list_all is_symbol (left_symbols u) ≡ true
 unfolding left_symbols
 left_all u = all_list (after_groups (filter is_symbol u)) (every_after (filter is_symbol u) (filter_every is_symbol u))

@@ -44,6 +44,7 @@ pub at_comma : (x : List ℕ) (comma : ℕ) → position (λ b. b == 44) x ≡ S
     → (comma < length x) × (get_or x comma 0 ≡ 44)
 at_comma x comma h = grind (arith, position-Some)
 
+-- there is no comma before the index at which the first one is found
 none_before : (x : List ℕ) (comma : ℕ) → position (λ b. b == 44) x ≡ Some comma → after 44 (take comma x) ≡ None
 none_before x comma h =
     let p = position-Some (λ b. b == 44) x comma 0 h in
@@ -51,6 +52,7 @@ none_before x comma h =
     let below : k < comma = omega (arith, l, length-take comma x) in
     ap (λ v. v == 44) (get_or-take comma x k 0 below) ∙ p.2 k below)
 
+-- a text is what comes before its first comma, the comma, and what follows it
 cut_at : (x : List ℕ) (comma : ℕ) → position (λ b. b == 44) x ≡ Some comma → x ≡ take comma x ++ 44 ∷ drop (comma + 1) x
 cut_at x comma h = let at = at_comma x comma h in cc (take-append-drop comma x, drop_more x comma 0 at.0)
 
@@ -78,45 +80,55 @@ tail_found x comma low end (Some t) p l e h =
 
 -- Bytes
 
+-- the first part of a text of bytes is a text of bytes
 bytes_front : (a b : List ℕ) → IsBytes (a ++ b) → IsBytes a
 bytes_front [] b h = tt
 bytes_front (c ∷ a) b h = (h.0, bytes_front a b h.1)
 
+-- two texts of bytes, one after the other, are a text of bytes
 bytes_join : (a b : List ℕ) → IsBytes a → IsBytes b → IsBytes (a ++ b)
 bytes_join [] b h k = k
 bytes_join (c ∷ a) b h k = (h.0, bytes_join a b h.1 k)
 
+-- a text of bytes without its first n bytes is a text of bytes
 bytes_drop : (n : ℕ) (a : List ℕ) → IsBytes a → IsBytes (drop n a)
 bytes_drop zero a h = h
 bytes_drop (suc n) [] h = tt
 bytes_drop (suc n) (c ∷ a) h = bytes_drop n a h.1
 
+-- the encoded body of a probe
 abbrev qq : List ℕ
 qq = codes "QQ"
 
+-- the trimmed probe of a text of bytes is a text of bytes
 bytes_probe : (a : List ℕ) → IsBytes a → IsBytes (trimmed_text (a ++ 44 ∷ qq))
 bytes_probe a h = grind (arith, trimmed_around, bytes_join, bytes_drop)
 
 -- The probe's body
 
+-- if the body of a probe is not base64, it does not have one byte
 length_plain : (len : ℕ) → HasLength (outcome false qq) len → (len == 1) ≡ false
 unfolding outcome
 length_plain len h = ap (λ n. n == 1) h
 
+-- if the body of a probe is base64, it has one byte
 length_base64 : (len : ℕ) → HasLength (outcome true qq) len → (len == 1) ≡ true
 unfolding outcome is_valid decoded values groups after_groups without_whitespace without_padding without_last_padding
 length_base64 len h = ap (λ n. n == 1) h
 
+-- the body of a probe has one byte exactly if it is base64
 flag_of_length : (flag : Bool) (len : ℕ) → HasLength (outcome flag qq) len → (len == 1) ≡ flag
 flag_of_length true len h = length_base64 len h
 flag_of_length false len h = length_plain len h
 
+-- the plain body of a probe is "QQ"
 body_of_probe : plain_body qq ≡ qq
 unfolding plain_body front before without_tabs_and_newlines percent_decoding
 body_of_probe = refl
 
 -- Reading the probe returns what reading the URL returns
 
+-- if a probe was read, so was the header of each URL with the same text before the comma
 read_by : (a t : List ℕ) {old new : List ℕ} {r : DataUrlAnswer} {flag : Bool} → after 44 a ≡ None → IsBytes a
     → IsBytes (trimmed_text (a ++ 44 ∷ t)) → IsRead (a ++ 44 ∷ qq) old new r flag
     → IsReadUrl (a ++ 44 ∷ t) (trimmed_tail t) old new r flag
@@ -145,6 +157,7 @@ read_by a t {flag = flag} n b d h = let probe = bytes_probe a b in
       staged_is = cc with.staged_is;
     }
 
+-- if a probe is refused, so is each URL with the same text before the comma, and for the same reason
 refused_by : (a t : List ℕ) (refusal : Refusal) → after 44 a ≡ None → IsBytes a → IsBytes (trimmed_text (a ++ 44 ∷ t))
     → IsUtf8 (a ++ 44 ∷ qq) → IsUtf8 (a ++ 44 ∷ t) → RefusesUrl (a ++ 44 ∷ qq) refusal
     → RefusesUrl (a ++ 44 ∷ t) refusal
@@ -156,6 +169,7 @@ refused_by a t NotAMimeType n b d p u h = absurd h
 refused_by a t NoFragment n b d p u h = absurd h
 refused_by a t (InvalidBase64 kind before) n b d p u h = absurd h
 
+-- what reading a probe returns is what reading a URL with the same text before the comma returns
 reads_by : (a t old new : List ℕ) (r : Result (DataUrlAnswer × Bool) Refusal) → after 44 a ≡ None → IsBytes a
     → IsBytes (trimmed_text (a ++ 44 ∷ t)) → IsUtf8 (a ++ 44 ∷ qq) → ReadsProbe (a ++ 44 ∷ qq) old new r → (x : List ℕ)
     (comma : ℕ) → IsUtf8 x → x ≡ a ++ 44 ∷ t → tail_after x comma ≡ trimmed_tail t → ReadsUrl x comma old new r
@@ -180,27 +194,34 @@ reads_url x probe old new comma r u v b p e h =
 
 -- A URL without a header
 
+-- the scheme, in lower case
 abbrev scheme : List ℕ
 scheme = codes "data:"
 
+-- the scheme is a text of bytes
 bytes_scheme : IsBytes scheme
 bytes_scheme = (omega arith, (omega arith, (omega arith, (omega arith, (omega arith, tt)))))
 
+-- the probe of a URL without a header has an empty header
 no_header : header_of (scheme ++ 44 ∷ qq) ≡ Some []
 unfolding on_literals
 no_header = refl
 
+-- the probe of a URL without a header is acceptable
 is_accepted : IsAcceptable (staged (scheme ++ 44 ∷ qq))
 unfolding on_literals
 is_accepted = tt
 
+-- an empty header has no base64 suffix
 not_base64 : has_base64_suffix [] ≡ false
 unfolding on_literals
 not_base64 = refl
 
+-- the text of the default MIME type
 abbrev default_text : List ℕ
 default_text = codes "text/plain;charset=US-ASCII"
 
+-- the default record is printed as the text of the default MIME type
 default_printed : default_text ≡ encode_utf8_all (printed default_record)
 unfolding on_literals
 default_printed = ascii_encoded default_text (ascii_all default_text refl)
@@ -211,10 +232,12 @@ no_record m h =
     let after = 47 ∷ (h.subtype ++ (h.head.gap ++ h.parameters)) in
     omega (arith, ap length h.head.joined, length-append h.type_ after)
 
+-- the record of an empty header is the default record
 default_is : IsRecordOf (mime_text []) default_record
 unfolding on_literals
 default_is = inr (no_record, refl)
 
+-- a URL without a header has the default MIME type, and its body is not base64
 default_by : (t : List ℕ) {old new : List ℕ} {r : DataUrlAnswer} → Global → IsBytes (trimmed_text (scheme ++ 44 ∷ t))
     → Shows 0 default_text old new r → IsReadUrl (scheme ++ 44 ∷ t) (trimmed_tail t) old new r false
 default_by t memory d h =
@@ -257,6 +280,7 @@ default_read x items comma found {old} {new} {r} memory b p same f g h =
 
 -- The result
 
+-- the result for a refused URL is that of its refusal, which is not a fault of base64
 crosses_refused : (x : List ℕ) (refusal : Refusal) {old new : List ℕ} {r : DataUrlAnswer} → RefusesUrl x refusal
     → CrossesOrNot (Err refusal) old new r → Crosses (Err refusal) old new r
 crosses_refused x refusal h (inl c) = c

@@ -283,6 +283,7 @@ end_written n xs ys =
 pub end_sliced : (n : ℕ) (xs : List ℕ) → take (length xs - n) (drop n xs) ≡ drop n xs
 end_sliced n xs = take_all (length xs - n) (drop n xs) (omega (arith, length-drop n xs))
 
+-- what waits, and then both parts of a text, is what waits, and then the whole text
 whole_text : (s : DataUrlBase64) (head : ℕ) (text a b : List ℕ) → a ≡ take head text → b ≡ drop head text
     → (waiting_text s ++ a) ++ b ≡ waiting_text s ++ text
 whole_text s head text a b e f = grind (arith, append_assoc, take-append-drop)

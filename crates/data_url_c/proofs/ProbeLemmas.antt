@@ -27,6 +27,7 @@ use Rattle.data_url.proofs.api.{stages_accepted, stages_no_comma, stages_no_sche
 
 -- Trimming
 
+-- if b does not pass, x ++ b ∷ q loses at its end only the longest suffix of q that passes
 end_stop : (p : ℕ → Bool) (x q : List ℕ) (b : ℕ) → p b ≡ false → without_end p (x ++ b ∷ q) ≡ x ++ b ∷ without_end p q
 end_stop p x q b f =
     let few = suffix_len-le-length p q in
@@ -57,6 +58,7 @@ record HasFront (n : ℕ) (s : List ℕ) : Type 0 where
   joined : s ≡ front ++ rest
   kept : without_tabs_and_newlines front ≡ take n (without_tabs_and_newlines s)
 
+-- a text with at least n kept bytes has a prefix whose kept bytes are the first n of them
 has_front : (n : ℕ) (s : List ℕ) → n ≤ length (without_tabs_and_newlines s) → HasFront n s
 has_front zero s l = record { front = []; rest = s; joined = refl; kept = dropped_nil }
 has_front (suc n) [] l = let e = ap length dropped_nil in absurd (omega (arith, e, l))
@@ -92,6 +94,7 @@ pub record HasScheme (s : List ℕ) : Type 0 where
   pub joined : s ≡ scheme ++ rest
   pub spelled : map to_ascii_lowercase (without_tabs_and_newlines scheme) ≡ codes "data:"
 
+-- if `spelled` is true of a text, the text begins with the scheme
 has_scheme : (s : List ℕ) → spelled s ≡ true → HasScheme s
 has_scheme s h =
     let five = take 5 (without_tabs_and_newlines s) in
@@ -116,11 +119,13 @@ pub data Decides (a : List ℕ) : Type 0 where
 
 -- if a text does not have a byte, no part of it has the byte
 
+-- if a text does not have c, the text without its first n bytes does not have it
 none_drop : (c n : ℕ) (s : List ℕ) → after c s ≡ None → after c (drop n s) ≡ None
 none_drop c zero s h = h
 none_drop c (suc n) [] h = h
 none_drop c (suc n) (b ∷ s) h = none_drop c n s (lacks c b s h).after_it
 
+-- if p ++ q does not have c, p does not have it
 none_front : (c : ℕ) (p q : List ℕ) → after c (p ++ q) ≡ None → after c p ≡ None
 none_front c [] q h = after_nil c
 none_front c (b ∷ p) q h =
@@ -158,10 +163,12 @@ too_short x w h l = elim (cases_Bool (spelled (x ++ 44 ∷ w))) [
   | inr e ↦ e
 ]
 
+-- a trimmed text with a scheme is decided by whether there is a '#' after the scheme
 decides_by : (a : List ℕ) (s : HasScheme (trimmed_front a)) (o : Option (List ℕ)) → after 35 s.rest ≡ o → Decides a
 decides_by a s None e = has_header s e
 decides_by a s (Some rest) e = has_hash s rest e
 
+-- each text up to its first comma, trimmed, has no scheme; or a scheme and a '#'; or a scheme and a header
 decides : (a : List ℕ) → after 44 a ≡ None → Decides a
 decides a h =
     let x = trimmed_front a in
@@ -192,10 +199,12 @@ pub data Ends (a : List ℕ) : Type 0 where
       → ((t : List ℕ) → IsBytes (trimmed_text (a ++ 44 ∷ t)) → IsAcceptedWith (a ++ 44 ∷ t) header (trimmed_tail t))
       → Ends a
 
+-- a trimmed text with a scheme is the scheme, the rest up to the comma, the comma, and the trimmed tail
 has_rest : (a t : List ℕ) (s : HasScheme (trimmed_front a))
     → IsSchemeAndRest (trimmed_text (a ++ 44 ∷ t)) (s.rest ++ 44 ∷ trimmed_tail t)
 has_rest a t s = grind (arith, trimmed_around, append_assoc)
 
+-- if a text has no comma, there is none after its scheme
 rest_lacks_comma : (x : List ℕ) (s : HasScheme x) → after 44 x ≡ None → after 44 s.rest ≡ None
 rest_lacks_comma x s h = grind (arith, after-append, scheme_has_no_comma)
 
@@ -214,6 +223,7 @@ front_stays s rest t e =
     let cut = is_cut 35 s rest e in
     cc (append_assoc (before 35 s) (35 ∷ rest) t, before_at 35 (before 35 s) (rest ++ t) cut.lacks)
 
+-- a text with a scheme, and without '#' before its first comma, is accepted with its serialised header
 accepted_with : (a t : List ℕ) (s : HasScheme (trimmed_front a)) → after 44 s.rest ≡ None → after 35 s.rest ≡ None
     → IsBytes (trimmed_text (a ++ 44 ∷ t))
     → IsAcceptedWith (a ++ 44 ∷ t) (header_text (without_tabs_and_newlines s.rest)) (trimmed_tail t)
@@ -233,6 +243,7 @@ accepted_with a t s comma hash b =
           (has_base64_suffix (header_text (without_tabs_and_newlines s.rest))) refl;
     }
 
+-- if a text up to its first comma is decided, the stages end alike, whatever follows the comma
 ends_by : (a : List ℕ) → after 44 a ≡ None → Decides a → Ends a
 ends_by a h (no_scheme n) = grind (arith, stages_no_scheme, trimmed_around)
 ends_by a h (has_hash s rest e) =

@@ -25,6 +25,7 @@ use Rattle.data_url_c.proofs.WindowLemmas.{body_cut, body_fragment}
 
 -- The tail from the window on
 
+-- the tail from the start of a window on is the window, and then the tail from its end on
 tail_window : {tail window : List ℕ} {from end : ℕ} → IsWindowOf tail from window end
     → drop from tail ≡ window ++ drop end tail
 tail_window {tail} {window} {from} {end} h =
@@ -32,10 +33,12 @@ tail_window {tail} {window} {from} {end} h =
     let whole : from + (end - from) ≡ end = omega arith in
     cc (take-append-drop (end - from) (drop from tail), drop-drop (end - from) from tail)
 
+-- if an option is a `Some`, it has a value
 some_fragment : (o : Option (List ℕ)) → true ≡ is_some o → (r : List ℕ) × (o ≡ Some r)
 some_fragment None e = absurd (cc)
 some_fragment (Some r) e = (r, refl)
 
+-- if an option is not a `Some`, it is `None`
 no_fragment : (o : Option (List ℕ)) → false ≡ is_some o → o ≡ None
 no_fragment None e = refl
 no_fragment (Some r) e = absurd (cc)
@@ -71,11 +74,13 @@ body_begins {tail} {window} {from} {end} h (Some r) e = (
   cc (tail_window h, body_fragment window (drop end tail) r e, append-nil (plain_body window)),
 )
 
+-- a window that does not end where the tail ends is not empty
 further : {tail window : List ℕ} {from end : ℕ} → IsWindowOf tail from window end → (end ≡ length tail → ⊥) → from < end
 further {tail} {window} {from} {end} h ne = let a = h.order in let b = h.within in h.goes_on (omega arith)
 
 -- Plain bodies
 
+-- if a body is not base64, what is left of it is the body of the rest of the tail
 plain_left : {tail : List ℕ} (s : DataUrlBody) → IsGoodBody tail s → s.is_base64 ≡ 0
     → body_left tail s ≡ Good (plain_body (drop s.from tail))
 plain_left {tail} s h e = grind (arith, outcome_plain)
@@ -110,6 +115,7 @@ plain_more {tail} {window} {before} {after} {end} {len} old new w h e f none ne 
 
 -- Base64
 
+-- the test `not (n == 0)` is true of a number above 0
 flag_base64 : (n : ℕ) → 0 < n → not (n == 0) ≡ true
 flag_base64 n l = ap not (ne_eqb n 0 (λ (e : n ≡ 0). omega arith))
 
@@ -143,12 +149,14 @@ base64_ends {tail} {window} {before} {mid} {after} {end} {status} {n} {there} {s
     ended (subst P (sym (body_last w f last)) (ends_whole (flag_of old) (flag_base64 old.is_base64 l) h z size k room))
     spent
 
+-- valid or not, u and a rest decode to the complete bytes of u, and then what is left over of u and the rest
 outcome_cases : (u rest : List ℕ) (s : DataUrlBase64) (v : Bool) → is_valid (waiting_text s ++ rest) ≡ v
     → LeftGoesOn u rest (waiting_text s ++ rest) → outcome true (u ++ rest) ≡ prepend (complete_bytes u)
     (outcome true (waiting_text s ++ rest))
 outcome_cases u rest s true e on = grind (arith, outcome_valid)
 outcome_cases u rest s false e on = grind (arith, outcome_invalid)
 
+-- after u was taken without a fault, u and a rest decode to the complete bytes of u, and then what is left over
 outcome_more : {u before after : List ℕ} {s : DataUrlBase64} {status n : ℕ} (rest : List ℕ)
     → TakesText u s before after status n → status ≡ 0 → outcome true (u ++ rest) ≡ prepend (complete_bytes u)
     (outcome true (waiting_text s ++ rest))

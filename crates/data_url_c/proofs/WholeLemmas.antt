@@ -37,12 +37,14 @@ module _ {F G : Type 0} (inner : G → List ℕ → Result (Unit {0}) Infallible
       let gave = match_at_none (refusal h.run) _ _ (no_refusal (refusal h.run)) h.gave in
       passes_on inner outer K maps h.run h.ran gave.bytes_are gave.answer a b
 
+-- if the answer for a body is that base64 is not valid, the body is bad, with this kind of fault
 bad_of : {E : Type 0} (body : Outcome) (r : Result (Unit {0}) (DecodeError E)) (kind : Kind) → r ≡ Err (Invalid kind)
     → BodyAnswers body AnyAnswer r → (bytes : List ℕ) × (body ≡ Bad bytes kind)
 bad_of (Good bytes) (Ok x) kind e h = absurd (cc)
 bad_of (Good bytes) (Err x) kind e h = absurd h
 bad_of (Bad bytes other) r kind e h = let same : other ≡ kind = cc in (bytes, ap (λ k. Bad bytes k) same)
 
+-- an output at least as long as the tail has room for the bytes of the body
 body_fits : (url : DataUrl) {tail : List ℕ} (out : List ℕ) → url_tail url ≡ tail → length tail ≤ length out
     → length (outcome_bytes (url_body url)) ≤ length out
 body_fits url out t room = let few = body_within_tail url in omega (arith, few, ap length t, room)
@@ -62,6 +64,7 @@ pub ends_bad : {E : Type 0} (url : DataUrl) {tail : List ℕ} (r : Result (Unit 
     → EndsAs (url_body url) out out' status len
 ends_bad url r kind out out' status len t room e answer named h = grind (arith, body_fits, writes_front)
 
+-- only a base64 body can be bad
 flag_of_bad : (flag : Bool) (x bytes : List ℕ) (kind : Kind) → outcome flag x ≡ Bad bytes kind → flag ≡ true
 unfolding outcome
 flag_of_bad true x bytes kind e = refl
@@ -79,11 +82,13 @@ ends_again url {tail} {mid} {len} r kind out out' status len' t room e answer h 
 
 -- The result
 
+-- if bytes were written to the start of the output, the result shows them
 shows_front : {bytes old new : List ℕ} {status status' len : ℕ} → status' ≡ status → length new ≡ length old
     → WritesFront bytes old new len
     → Shows status bytes old new (record { status = status'; len = len })
 shows_front {bytes} {old} {new} {status} {status'} {len} e size w = grind (arith, length-take-le, take-append-drop)
 
+-- if the outcome of a URL's body was written to the output, the answer gives that body
 answers_by : {x : List ℕ} {url : DataUrl} {old new : List ℕ} {status len : ℕ} → Global → IsUtf8 x → IsUrlOf x url
     → length old < 2 ^ 63
     → length new ≡ length old → (o : Outcome) → url_body url ≡ o → EndsAs o old new status len

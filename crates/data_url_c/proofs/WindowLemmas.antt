@@ -59,6 +59,7 @@ decode_closed (a ∷ b ∷ c ∷ rest) t h =
     decode_step a b c rest t (decode_closed rest t (closed_rest c rest (closed_rest b (c ∷ rest) h)))
     (decode_closed (b ∷ c ∷ rest) t h)
 
+-- a text that does not begin with a digit does not begin with two digits
 no_digit_first : (t : List ℕ) → BeginsWithoutDigit t → two_digits t ≡ false
 no_digit_first [] h = refl
 no_digit_first (b ∷ []) h = refl
@@ -76,6 +77,7 @@ decode_before (a ∷ b ∷ c ∷ rest) t h = decode_step a b c rest t (decode_be
 
 -- Bodies
 
+-- if a text does not begin with a digit, neither do its bytes before the first '#'
 begins_before : (t : List ℕ) → BeginsWithoutDigit t → BeginsWithoutDigit (before 35 t)
 unfolding before
 begins_before [] h = tt
@@ -116,6 +118,7 @@ few_closed (a ∷ []) l h = h.0
 few_closed (a ∷ b ∷ []) l h = ap (λ v. v && not (b == 37)) h.0 ∙ h.1.0
 few_closed (a ∷ b ∷ c ∷ s) l h = absurd (omega arith)
 
+-- if neither of the last two bytes of a text is '%', the text is closed
 two_closed : (s : List ℕ) (a b : ℕ) → not (a == 37) ≡ true → not (b == 37) ≡ true → is_closed (s ++ a ∷ b ∷ []) ≡ true
 unfolding is_closed
 two_closed [] a b h k = ap (λ v. v && not (b == 37)) h ∙ k
@@ -123,6 +126,7 @@ two_closed (x ∷ []) a b h k = two_closed [] a b h k
 two_closed (x ∷ y ∷ []) a b h k = two_closed (y ∷ []) a b h k
 two_closed (x ∷ y ∷ z ∷ s) a b h k = two_closed (y ∷ z ∷ s) a b h k
 
+-- a text that ends with two bytes without '%' is closed
 ends_closed : (s t : List ℕ) → length t ≡ 2 → NoPercent t → is_closed (s ++ t) ≡ true
 ends_closed s [] l h = absurd (omega arith)
 ends_closed s (a ∷ []) l h = absurd (omega arith)
@@ -140,6 +144,7 @@ scan_closed window at kept e few h (inr two) =
     (take-append-drop at window, without_tabs_and_newlines-append (take at window) (drop at window)) in
     ap is_closed all ∙ ends_closed (without_tabs_and_newlines (take at window)) last (omega (arith, e)) h
 
+-- a text from an index on is the byte there, and then the text from the next index on
 drop_next : (s : List ℕ) (i b : ℕ) → i < length s → b ≡ get_or s i 0 → drop i s ≡ b ∷ drop (i + 1) s
 drop_next s i b l e = grind (arith, drop-cons)
 
@@ -173,16 +178,20 @@ pub scan_kept_step : (window : List ℕ) (at kept i : ℕ) → i + 1 ≡ at → 
     × NoPercent (without_tabs_and_newlines (drop i window))
 scan_kept_step window at kept i e l t p k n = grind (arith, drop_next, dropped_keeps)
 
+-- without tabs and newlines, the first i + 1 bytes are the first i bytes, and then the byte at index i
 take_next : (s : List ℕ) (i : ℕ) → i < length s → without_tabs_and_newlines (take (i + 1) s) ≡ without_tabs_and_newlines
     (take i s) ++ without_tabs_and_newlines (get_or s i 0 ∷ [])
 take_next s i l = cc (take_more s i 0 l, without_tabs_and_newlines-append (take i s) (get_or s i 0 ∷ []))
 
+-- a hexadecimal digit is below 128
 hex_below : (b : ℕ) → is_ascii_hexdigit b ≡ true → b < 128
 hex_below b h = search (rules, tests, h)
 
+-- a hexadecimal digit is not '%'
 hex_no_percent : (b : ℕ) → is_ascii_hexdigit b ≡ true → not (b == 37) ≡ true
 hex_no_percent b h = grind (arith, both_ways, ne_eqb)
 
+-- if two texts have no '%', neither has the one after the other
 join_no_percent : (s t : List ℕ) → NoPercent s → NoPercent t → NoPercent (s ++ t)
 join_no_percent [] t h k = k
 join_no_percent (b ∷ s) t h k = (h.0, join_no_percent s t h.1 k)
@@ -210,10 +219,12 @@ escape_digit {text} {at} {digits} h l t x n =
       ascii = omega (arith, hex_below (get_or text at 0) x, ap (λ i. get_or text i 0) same);
     }
 
+-- an escape that was read so far ends where the text can be cut
 escape_is : {text : List ℕ} {at digits : ℕ} → EscapeSoFar text at digits → IsCut (take at text) (drop at text)
     → IsEscapeEnd text at
 escape_is {text} {at} {digits} h c = grind arith
 
+-- a '%' and two bytes that are not '%' are closed
 closed_hex : (hex : List ℕ) → length hex ≡ 2 → NoPercent hex → is_closed (37 ∷ hex) ≡ true
 unfolding is_closed
 closed_hex [] l h = absurd (omega arith)
@@ -243,6 +254,7 @@ scan_begins window = grind (arith, drop-length, dropped_nil)
 
 -- Windows
 
+-- a percent-decoded text is not longer than the text
 decoded_shorter : (s : List ℕ) → length (percent_decoding s) ≤ length s
 unfolding percent_decoding
 decoded_shorter [] = omega arith
@@ -255,6 +267,7 @@ decoded_shorter (a ∷ b ∷ c ∷ s) =
     (λ v. length (cond v ((16 * digit_value b + digit_value c) ∷ percent_decoding s)
     (a ∷ percent_decoding (b ∷ c ∷ s))) ≤ length (a ∷ b ∷ c ∷ s)) [ true ↦ omega arith | false ↦ omega arith ]
 
+-- the text before the first '#' is not longer than the whole text
 before_shorter : (s : List ℕ) → length (before 35 s) ≤ length s
 unfolding before
 before_shorter [] = omega arith

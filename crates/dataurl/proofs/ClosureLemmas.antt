@@ -41,10 +41,12 @@ output_stopped P whole w k whole_end end p b e q =
 
 -- Bodies
 
+-- each body has an output, which is the bytes of its outcome, with an end
 body_output : (body : Outcome) → (end : End) × IsBodyOutput body (outcome_bytes body) end
 body_output (Good bytes) = (Ok tt, good_body)
 body_output (Bad bytes kind) = (Err (Base64 kind), bad_body)
 
+-- if a body was handed out, and then the buffer was settled, the output of the body was streamed
 body_handed : (body : Outcome) (bytes after w k : List ℕ) (r : Result (Unit {0}) (DecodeError WriteFailed)) (end : End)
     → HandsOut body AnyAnswer bytes r → bytes ≡ w ++ after → IsSettled r after k end
     → IsStreamed (IsBodyOutput body) (w ++ k) end
@@ -56,6 +58,7 @@ body_handed (Bad all kind) bytes after w k r end h e s =
     output_flushed (IsBodyOutput (Bad all kind)) all after w k (Err (Base64 kind)) end bad_body (sym h.bytes_are ∙ e)
     (subst P h.answer s)
 
+-- if a body was handed out, or a write failed, and then the buffer was settled, its output was streamed
 body_ended : (refused : Option WriteFailed) (body : Outcome) (bytes after w k : List ℕ)
     (r : Result (Unit {0}) (DecodeError WriteFailed)) (end : End)
     → MatchOption refused (HandsOut body AnyAnswer bytes r) (λ failed. IsRefused (outcome_bytes body) bytes failed r)

@@ -5,12 +5,14 @@ use Rattle.std.proofs.lemmas.Bool.{cond-false}
 use Rattle.data_url.proofs.api.{test_from_different}
 use Rattle.dataurl.specs.Command.{command_of_word, command_of_words}
 
+-- a list with exactly one word is its first word alone
 one_word : {A : Type 0} (words : List A) (w : A) → 1 ≤ length words → length words < 2 → w ≡ get_or words 0 w
     → words ≡ w ∷ []
 one_word [] w some few e = absurd (not-suc-le-zero some)
 one_word (v ∷ []) w some few e = ap (λ x. x ∷ []) (sym e)
 one_word (v ∷ u ∷ words) w some few e = absurd (not-suc-le-zero (le_of_suc-le-suc (le_of_suc-le-suc few)))
 
+-- a text that is none of the five words is no command
 no_word : (s : List ℕ) → (s ≡ codes "body" → ⊥) → (s ≡ codes "mime" → ⊥) → (s ≡ codes "fragment" → ⊥)
     → (s ≡ codes "type" → ⊥) → (s ≡ codes "base64" → ⊥) → command_of_word s ≡ None
 no_word s body mime fragment type base64 =

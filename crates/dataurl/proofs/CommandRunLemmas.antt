@@ -22,6 +22,7 @@ use Rattle.dataurl.proofs.StepLemmas.{writes_as, writes_map, writes_no_memory, w
 
 -- URLs
 
+-- if the result for a text is `Ok` of a URL, it is the URL of the text
 url_for : (x : List ℕ) (r : Result DataUrl Fault) (url : DataUrl) → r ≡ Ok url → IsUrlFor x r → IsUrlOf x url
 url_for x r url e (url_is {url = u} h) = let same : u ≡ url = cc in subst (IsUrlOf x) same h
 url_for x r url e (no_scheme_is h) = absurd (let k = e in cc)
@@ -50,6 +51,7 @@ mime_writes_of {x} {url} {held} {now} {r} mime h e w =
     let P : Mime → Type 0 = λ m. WritesOf (IsExactly (record_line (record_of m))) held now r in
     writes_as (mime_of u.staged_is (record_of_url {m = record_of (mime_type_of url)} u.record_is)) (subst P e w)
 
+-- if a text is refused as a URL, a command that takes a URL writes nothing, and ends with that fault
 refused_as : (x : List ℕ) (c : Command) (held : Option (List ℕ)) (r : Result DataUrl Fault) (fault : Fault) → TakesUrl c
     → r ≡ Err fault → IsUrlFor x r → WritesOf (IsTextOutput x c) held held (Err fault)
 refused_as x c held r fault t e (url_is h) = absurd (let k = e in cc)
@@ -72,6 +74,7 @@ record WasRead (left : Option (List ℕ)) (input : List ℕ) (text : String Glob
   pub utf8 : IsUtf8 input
   pub end : IsAtEnd left
 
+-- if reading a text returned `Ok`, it returned the whole input
 was_read : (left : Option (List ℕ)) (input : List ℕ) (r : Result (String Global) Fault) (text : String Global)
     → r ≡ Ok text → IsReadText left input r → WasRead left input text
 was_read left input r text e (whole_text {text = t} b u end) = let same : t ≡ text = cc in let P : String Global
@@ -80,6 +83,7 @@ was_read left input r text e (not_utf8 u end) = absurd (let k = e in cc)
 was_read left input r text e no_text_memory = absurd (let k = e in cc)
 was_read left input r text e text_read_failed = absurd (let k = e in cc)
 
+-- if the whole input is a text, what a command writes for that text is its result for the input
 text_run : {c : Command} {left : Option (List ℕ)} {input : List ℕ} → TakesText c → IsUtf8 input → IsAtEnd left
     → (written : List ℕ) (r : End) → IsWrittenOf (IsTextOutput input c) written r → IsResult input left c written r
 text_run t u end written r (whole_output h) = complete end (of_text u h)
@@ -101,6 +105,7 @@ text_runs {c} {unread} {left} {held} {now} {text} {r} x t h e w =
       is_run = text_run t k.utf8 k.end w.written r (subst P (e ∙ k.bytes_are) w.is_written);
     }
 
+-- if reading a text returned a fault, a command that takes a text writes nothing, and ends with that fault
 unread_run : (c : Command) (left : Option (List ℕ)) (input : List ℕ) (r : Result (String Global) Fault) (fault : Fault)
     → TakesText c → r ≡ Err fault → IsReadText left input r → IsResult input left c [] (Err fault)
 unread_run c left input r fault t e (whole_text b u end) = absurd (let k = e in cc)

@@ -18,6 +18,7 @@ use Rattle.dataurl.proofs.OutputLemmas.{written_some}
 
 -- One piece
 
+-- after the buffer was written, writing a piece writes all of both, or fails after a proper prefix of both
 by_one : (before piece w k after : List ℕ) (r : Result (Unit {0}) WriteFailed) → w ≡ before → after ≡ []
     → IsWritten piece k r → MatchResult r (λ x. before ++ piece ≡ (w ++ k) ++ after)
     (λ failed. IsProperPrefix (w ++ k) (before ++ piece))
@@ -49,6 +50,7 @@ gathers_none {before} {piece} {failed = failed} after w = record {
 
 -- The end
 
+-- if the bytes written are those in the buffer, the buffer is flushed
 flush_whole : (bytes w : List ℕ) (end : End) → w ≡ bytes → IsFlushed bytes end w end
 flush_whole bytes w end e = let P : List ℕ → Type 0 = λ s. IsFlushed bytes end s end in subst P (sym e) flushed
 
@@ -96,6 +98,7 @@ then_more (Some failed) before piece rest mid after w k e h =
     let P : List ℕ → Type 0 = λ s. IsProperPrefix (w ++ k) s in
     subst P same (beginning_after w k (mid ++ rest) h)
 
+-- a piece that is gathered, and then a run that gathers the rest, gather the piece and the rest
 gather_more : (r : Result (Unit {0}) WriteFailed) (piece rest before mid after : List ℕ) (later : Option WriteFailed)
     (a b d : Option (List ℕ)) → Gathers piece before mid a b r → (IsErr r → b ≡ d) → RunGathers b d mid after rest later
     → RunGathers a d before after (piece ++ rest) (option_or (result_err r) later)
@@ -116,6 +119,7 @@ gather_more (Err failed) piece rest before mid after later a b d g last k =
 module _ {F : Type 0} (step : F → List ℕ → Result (Unit {0}) WriteFailed → F → Type 0) (holds : F → Option (List ℕ))
     (waits : F → List ℕ) (gathers : (f : F) (piece : List ℕ) (r : Result (Unit {0}) WriteFailed) (g : F)
     → step f piece r g → Gathers piece (waits f) (waits g) (holds f) (holds g) r) where
+  -- a run of no calls does not change the closure
   run_stops : (cs : List (Call F WriteFailed)) (f g : F) → cs ≡ [] → IsRun step f cs g → f ≡ g
   run_stops [] f g e ran = ran
   run_stops (c ∷ cs) f g e ran = absurd (let k = e in cc)

@@ -67,6 +67,7 @@ reads_no_end old new bytes c = record { input = bytes; consumed = c; is_read = r
 
 -- Texts
 
+-- if reading the bytes of an input returned a fault, reading its text returns that fault
 failed_is : (left : Option (List ℕ)) (input : List ℕ) (r : Result (Vec ℕ Global) Fault) (fault : Fault) → r ≡ Err fault
     → IsRead left input r → IsReadText left input (Err fault)
 failed_is left input (Ok bytes) fault e h = absurd (let k = e in cc)
@@ -90,6 +91,7 @@ text_failed old new fault h = record {
   is_read = failed_is new h.input (Err fault) fault refl h.is_read;
 }
 
+-- if reading an input returned `Ok`, it returned all bytes of the input, up to its end
 read_items : (left : Option (List ℕ)) (input : List ℕ) (r : Result (Vec ℕ Global) Fault) (bytes : Vec ℕ Global)
     → r ≡ Ok bytes → IsRead left input r → (bytes.items ≡ input) × IsAtEnd left
 read_items left input (Ok b) bytes e (whole same end) =

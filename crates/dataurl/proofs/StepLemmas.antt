@@ -27,6 +27,7 @@ use Rattle.dataurl.specs.declared.fault.WriteFailed.{WriteFailed}
 use Rattle.dataurl.specs.declared.command.Command.TheVariants.{Canonical}
 use Rattle.dataurl.proofs.OutputLemmas.{appends_none}
 
+-- if each output of one kind is one of another kind, what was written of the first was written of the second
 written_map : {P Q : List ℕ → End → Type 0} → ((w : List ℕ) (e : End) → P w e → Q w e) → (w : List ℕ) (e : End)
     → IsWrittenOf P w e → IsWrittenOf Q w e
 written_map f w e (whole_output h) = whole_output (f w e h)
@@ -42,6 +43,7 @@ writes_map {r = r} f h = record {
   is_written = written_map f h.written r h.is_written;
 }
 
+-- what was streamed of an output was written of it
 streamed_written : {P : List ℕ → End → Type 0} (w : List ℕ) (e : End) → IsStreamed P w e → IsWrittenOf P w e
 streamed_written w e (all_streamed h) = whole_output h
 streamed_written w e (cut_short h b) = cut_output h b
@@ -55,6 +57,7 @@ writes_streamed {r = r} h = record {
   is_written = streamed_written h.written r h.is_streamed;
 }
 
+-- if P is true of some bytes and an end without an error, it is true of an output of exactly these bytes
 exactly_is : (P : List ℕ → End → Type 0) (bytes w : List ℕ) (e : End) → P bytes (Ok tt) → IsExactly bytes w e → P w e
 exactly_is P bytes w e p exactly = p
 
@@ -71,11 +74,13 @@ writes_nothing held p = record { written = []; appended = appends_none held; is_
 pub writes_no_memory : {P : List ℕ → End → Type 0} (held : Option (List ℕ)) → WritesOf P held held (Err Memory)
 writes_no_memory held = record { written = []; appended = appends_none held; is_written = no_output }
 
+-- if writing some bytes returned `Ok`, an output of exactly these bytes was written as a whole
 exact_whole : (bytes w : List ℕ) (r : Result (Unit {0}) WriteFailed) → r ≡ Ok tt → IsWritten bytes w r
     → IsWrittenOf (IsExactly bytes) w (Ok tt)
 exact_whole bytes w r e all = whole_output exactly
 exact_whole bytes w r e (beginning p) = absurd (let k = e in cc)
 
+-- if writing some bytes returned an error, an output of exactly these bytes was cut short by a failed write
 exact_cut : (bytes w : List ℕ) (r : Result (Unit {0}) WriteFailed) (failed : WriteFailed) → r ≡ Err failed
     → IsWritten bytes w r → IsWrittenOf (IsExactly bytes) w (Err Write)
 exact_cut bytes w r failed e all = absurd (let k = e in cc)
@@ -110,15 +115,18 @@ type_refused x r e p h k refused =
 
 -- Fragments
 
+-- the encoded fragment and a line feed, or nothing if there is no fragment
 abbrev encoded_line : Option (List ℕ) → List ℕ
 encoded_line None = []
 encoded_line (Some f) = percent_encoding in_fragment_set f ++ 10 ∷ []
 
+-- the output for a fragment after a good body is the line of the encoded fragment
 line_is : (bytes : List ℕ) (f : Option (List ℕ))
     → IsFragmentOutput (Good bytes) (option_map (percent_encoding in_fragment_set) f) (encoded_line f) (Ok tt)
 line_is bytes None = without_fragment
 line_is bytes (Some f) = some_fragment
 
+-- the output for the fragment of a tail is the line of the fragment that was found
 found_line : (tail bytes : List ℕ) (found : Option FragmentIdentifier) → IsFragmentOf tail found
     → IsFragmentOutput (Good bytes) (option_map (percent_encoding in_fragment_set)
     (fragment (without_tabs_and_newlines tail)))
@@ -133,6 +141,7 @@ found_line tail bytes found h =
 
 module _ {F E : Type 0} {step : F → List ℕ → Result (Unit {0}) E → F → Type 0} {f g : F} {most : ℕ}
     {r : Result (Option FragmentIdentifier) (DecodeError E)} where
+  -- if decoding a body returned `Ok`, the output for the URL's fragment is the line of the fragment that was found
   of_found : (url : DataUrl) {x : Option FragmentIdentifier}
       → Decodes step f most (url_body url) (IsFragmentOf (url_tail url)) r g → r ≡ Ok x
       → IsFragmentOutput (url_body url) (url_fragment url)

@@ -39,6 +39,7 @@ module _ {F : Type 0} (step : F → List ℕ → Result (Unit {0}) WriteFailed �
   pub reading_none : {f : F} {d : State F} (unread : Option (List ℕ)) → d ≡ start f → Reading f unread unread d
   reading_none unread e = record { input = []; consumed = consumes_none unread; fed = fed_nothing step e }
 
+  -- if feeding an input to a new decoder returned `Ok`, the input has no fault
   no_fault : {f : F} {d : State F} {input : List ℕ} → Feeds step (start f) input (Ok tt) d → first_fault input ≡ None
   no_fault fed = (feeds_took step fed).1.no_fault
 
@@ -124,6 +125,7 @@ whole_output : (x : List ℕ) (v : Bool) → is_valid x ≡ v → first_fault x 
 whole_output x true v n = (Ok tt, of_base64 v)
 whole_output x false v n = (Err (Base64 (kind_of x)), of_no_base64 n v)
 
+-- if an input was decoded to its end, valid or not, what was written is the result of `base64`
 finished_ends : (x : List ℕ) (left : Option (List ℕ)) (bytes after w k : List ℕ)
     (r : Result (Unit {0}) (DecodeError WriteFailed)) (end : End) (v : Bool) → is_valid x ≡ v
     → IsAtEnd left → first_fault x ≡ None
@@ -148,6 +150,7 @@ refused_write {all} {bytes} after w k r end failed h b s =
     let q = subst P h.answer s in
     (subst Q (sym (ap (λ s. w ++ s) q.0 ∙ append-nil w)) (beginning_of w bytes all b h.bytes_begin), q.1)
 
+-- if an input was decoded to its end, or a write failed, what was written is the result of `base64`
 finished_result : (refused : Option WriteFailed) (x : List ℕ) (left : Option (List ℕ)) (bytes after w k : List ℕ)
     (r : Result (Unit {0}) (DecodeError WriteFailed)) (end : End) → IsAtEnd left → first_fault x ≡ None
     → MatchOption refused
@@ -162,6 +165,7 @@ finished_result (Some failed) x left bytes after w k r end over n h b s =
     let P : End → Type 0 = λ e. IsResult x left base64 (w ++ k) e in
     subst P (sym q.1) (not_written over (whole_output x (is_valid x) refl n).1 q.0)
 
+-- if decoding stopped at a fault, what was written is the result of `base64`
 stopped_ends : (x : List ℕ) (left : Option (List ℕ)) (bytes after w k : List ℕ)
     (r : Result (Unit {0}) (DecodeError WriteFailed)) (error : DecodeError WriteFailed) (end : End) (P : Type 0)
     (o : Option ℕ) → first_fault x ≡ o → r ≡ Err error → IsSoundBeforeLastPiece x → bytes ≡ complete_bytes x
@@ -173,6 +177,7 @@ stopped_ends x left bytes after w k r error end P (Some place) f q sound b h e s
     flush_stops x left after w k (Err (Base64 (kind_of x))) end sound (stopped_at_fault sound (ap is_some f)) (cc)
     (subst Q h s)
 
+-- if decoding stopped at a fault or at a failed write, what was written is the result of `base64`
 stopped_result : {F : Type 0} (refused : Option WriteFailed) (x : List ℕ) (left : Option (List ℕ))
     (bytes after w k : List ℕ) (r : Result (Unit {0}) (DecodeError WriteFailed)) (error : DecodeError WriteFailed)
     (d : State F) (end : End) → r ≡ Err error → IsSoundBeforeLastPiece x
@@ -189,6 +194,7 @@ stopped_result (Some failed) x left bytes after w k r error d end q sound h b s 
 -- Closures that gather
 
 module _ {F : Type 0} {step : F → List ℕ → Result (Unit {0}) WriteFailed → F → Type 0} where
+  -- an input that was decoded was decoded to its end without a fault, or up to an error in its last piece
   decoded_or : {f : F} {x : List ℕ} {left : Option (List ℕ)} {ended : Ended} {g : F}
       (r : Result (Unit {0}) (DecodeError WriteFailed)) → ended ≡ Decoded r → IsDecoded step f x left ended g
       → (IsAtEnd left × (first_fault x ≡ None) × DecodesText step f x r g)
@@ -197,6 +203,7 @@ module _ {F : Type 0} {step : F → List ℕ → Result (Unit {0}) WriteFailed �
   decoded_or {f} {x} {left} {ended} {g} r e (stopped {error = error} sound d) = grind arith
   decoded_or {f} {x} {left} {ended} {g} r e (not_read d) = absurd (let k = e in cc)
 
+  -- if a read failed, the bytes read before it were fed to a new decoder without an error
   unread_fed : {f : F} {x : List ℕ} {left : Option (List ℕ)} {ended : Ended} {g : F} → ended ≡ ReadFailed
       → IsDecoded step f x left ended g → FeedsText step f x (Ok tt) g
   unread_fed e (finished over n d) = absurd (let k = e in cc)

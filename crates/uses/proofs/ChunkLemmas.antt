@@ -10,6 +10,7 @@ use Rattle.data_url.specs.declared.forgiving_base64.DecodeError.{DecodeError}
 use Rattle.data_url.proofs.api.{feeds_then}
 use Rattle.uses.specs.Chunks.{FeedsChunks, TakesChunks, joined}
 
+-- chunks with one more at the end, joined, are the chunks, joined, and then that one
 joined_more : (chunks : List (Bor (List ℕ))) (chunk : Bor (List ℕ))
     → joined (chunks ++ (chunk ∷ [])) ≡ joined chunks ++ chunk.now
 joined_more chunks chunk = cc (flat_map-append (λ x. x.now) chunks (chunk ∷ []), append-nil chunk.now)
@@ -19,6 +20,7 @@ module _ {F E : Type 0} (step : F → List ℕ → Result (Unit {0}) E → F →
   abbrev Fed : Bool → State F → List (Bor (List ℕ)) → Bool → State F → Type 0
   Fed failed d chunks took d' = MatchBool failed ((took ≡ false) × (d' ≡ d)) (TakesChunks step d chunks took d')
 
+  -- feeding no chunks does not change a decoder, and takes them all unless the decoder has failed
   none_by : (failed : Bool) (d : State F) → (failed ≡ false → Feeds step d [] (Ok tt) d)
       → Fed failed d [] (not failed) d
   none_by true d none = (refl, refl)
@@ -29,6 +31,7 @@ module _ {F E : Type 0} (step : F → List ℕ → Result (Unit {0}) E → F →
       → FeedsChunks step d [] (not d.failed) d
   chunks_none d none = none_by d.failed d none
 
+  -- if feeding xs does not take all chunks, feeding xs ++ ys does not either, and leaves the decoder alike
   others_by : (failed : Bool) (d d' : State F) (xs ys : List (Bor (List ℕ))) → Fed failed d xs false d'
       → Fed failed d (xs ++ ys) false d'
   others_by true d d' xs ys h = h
@@ -50,6 +53,7 @@ module _ {F E : Type 0} (step : F → List ℕ → Result (Unit {0}) E → F →
       let P : Bool → Type 0 = λ failed. FeedsChunks step d xs (not failed) d' in
       others_by d.failed d d' xs ys (subst P e h)
 
+  -- after chunks that were all taken, one more chunk is taken too, unless feeding it returns an error
   more_by : (failed : Bool) (d d1 d2 : State F) (xs : List (Bor (List ℕ))) (chunk : Bor (List ℕ))
       (r : Result (Unit {0}) (DecodeError E))
       → Fed failed d xs true d1 → Feeds step d1 chunk.now r d2 → Fed failed d (xs ++ (chunk ∷ [])) (not (is_err r)) d2

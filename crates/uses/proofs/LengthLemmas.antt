@@ -13,6 +13,7 @@ good_len : (o : Outcome) (len : ℕ) → IsLengthOf o (Ok len) → length (outco
 good_len (Good bytes) len h few = grind arith
 good_len (Bad bytes kind) len h few = absurd (let k = h in cc)
 
+-- if a text is accepted with an outcome that is good, it is accepted with a good body
 accepted_good : (t : List ℕ) {type_text bytes : List ℕ} {o : Outcome} {fragment : Option (List ℕ)}
     → staged t ≡ Accepted type_text o fragment → o ≡ Good bytes → staged t ≡ Accepted type_text (Good bytes) fragment
 accepted_good t {type_text = type_text} {fragment = fragment} e g = e ∙ ap (λ x. Accepted type_text x fragment) g

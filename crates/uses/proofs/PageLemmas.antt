@@ -20,6 +20,7 @@ pub record OpenedAt (page : List ℕ) (place : ℕ) : Type 0 where
   pub split : drop place page ≡ opening ++ rest
   pub first : (xs ys : List ℕ) → page ≡ xs ++ (opening ++ ys) → place ≤ length xs
 
+-- if a page is xs and then ys, it is ys from the length of xs on
 at_seam : (page xs ys : List ℕ) → page ≡ xs ++ ys → drop (length xs) page ≡ ys
 at_seam page xs ys e = ap (λ s. drop (length xs) s) e ∙ drop-append_seam xs ys
 
@@ -42,6 +43,7 @@ none_opened page m = λ xs ys zs e. m (length xs)
 
 -- Where it ends
 
+-- after an opening and ys, the quote is 7 + length ys bytes after the start of the opening
 quote_at : (xs ys zs : List ℕ) → get_or (xs ++ (opening ++ (ys ++ (34 ∷ zs)))) (length xs + (7 + length ys)) 0 ≡ 34
 quote_at xs ys zs =
     cc (
@@ -72,6 +74,7 @@ scheme_front (suc (suc (suc zero))) s e = absurd (omega (arith, e))
 scheme_front (suc (suc (suc (suc zero)))) s e = absurd (omega (arith, e))
 scheme_front (suc (suc (suc (suc (suc k))))) s e = (take k s, refl)
 
+-- if there is no quote before index k, there is none in the first k bytes
 no_quote_before : (rest : List ℕ) (k : ℕ) → k < length rest → ((m : ℕ) → m < k → get_or rest m 0 ≢ 34)
     → (xs ys : List ℕ) → take k rest ≢ xs ++ (34 ∷ ys)
 no_quote_before rest k within none xs ys e =
@@ -99,11 +102,13 @@ is_reference page rest place k o r within quote none =
 
 -- Parts
 
+-- the source of a part that is a text is that text
 text_source : (text : List ℕ) (p : Part) → IsText text p → source_of p ≡ text
 text_source text (Text s) h = h
 text_source text (Inlined s response) h = absurd h
 text_source text (Refused s reason) h = absurd h
 
+-- the source of a part for a reference, inlined or refused, is that reference
 inlined_source : (reference : List ℕ) (p : Part) → Inlines reference p → source_of p ≡ reference
 inlined_source reference (Text s) h = absurd h
 inlined_source reference (Inlined s response) h = h.0

@@ -16,7 +16,7 @@ pub record Leads (ranks : List ℕ) (i : ℕ) (best : Option ℕ) (highest : ℕ
   pub below : (j : ℕ) → j < i → slice_index ranks j ≤ highest
   pub leader : IsLeader ranks i highest best
 
--- the same up to the next place, if the rank at the place is known
+-- if no rank before a place is above the highest, nor is the rank at the place, no rank before the next place is
 below_next : (ranks : List ℕ) (i highest : ℕ) → ((m : ℕ) → m < i → slice_index ranks m ≤ highest)
     → slice_index ranks i ≤ highest → (j : ℕ) → j < i + 1 → slice_index ranks j ≤ highest
 below_next ranks i highest b e j k = below_more (λ m. slice_index ranks m ≤ highest) i b e j k
@@ -26,6 +26,7 @@ pub leads_higher : {ranks : List ℕ} {best : Option ℕ} {highest : ℕ} (i ran
     → slice_index ranks i ≡ rank → highest < rank → Leads ranks (i + 1) (Some i) rank
 leads_higher {ranks} {best} {highest} i rank l e h = grind (arith, below_next)
 
+-- the first occurrence of `highest` before index i, if this rank is not 0, is also the first before i + 1
 still_leads : (ranks : List ℕ) (highest : ℕ) (best : Option ℕ) (i : ℕ) → IsLeader ranks i highest best
     → IsLeader ranks (i + 1) highest best
 still_leads ranks highest None i h = h

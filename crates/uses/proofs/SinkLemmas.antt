@@ -29,6 +29,7 @@ appends_then (Some p) None c x y h k = absurd h
 appends_then (Some p) (Some q) None x y h k = absurd k
 appends_then (Some p) (Some q) (Some r) x y h k = k ∙ ap (λ s. s ++ y) h ∙ append_assoc p x y
 
+-- if bytes are appended to a sink, which does not change after that, these bytes were appended
 appends_kept : (a b c : Option (List ℕ)) (x : List ℕ) → Appends a b x → Keeps b c → Appends a c x
 appends_kept None b c x h k = tt
 appends_kept (Some p) None c x h k = absurd h
@@ -87,10 +88,12 @@ Streamed body limit old new (Err (WriteError SinkFailed)) = StreamsBody body lim
 abbrev Kept : {F : Type 0} → (F → ℕ) → (F → Option (List ℕ)) → ℕ → Option (List ℕ) → List ℕ → F → Type 0
 Kept room holds limit old bytes p = (room p + length bytes ≡ limit) × Appends old (holds p) bytes
 
+-- the sink took a prefix of the bytes within the limit; if the limit was the reason, the bytes exceed it
 abbrev Stopped : {F : Type 0} → (F → Option (List ℕ)) → ℕ → Option (List ℕ) → List ℕ → Refusal → F → Type 0
 Stopped holds limit old bytes OverLimit p = (limit < length bytes) × TakesWithin bytes limit old (holds p)
 Stopped holds limit old bytes SinkFailed p = TakesWithin bytes limit old (holds p)
 
+-- if a piece is refused after bytes that were kept, the output stopped within these bytes and the piece
 stops : {F : Type 0} (room : F → ℕ) (holds : F → Option (List ℕ)) (limit : ℕ) (old : Option (List ℕ))
     (bytes piece : List ℕ) (e : Refusal) (p q : F)
     → Kept room holds limit old bytes p → WritesWithin piece (room p) (room q) (holds p) (holds q) (Err e)
@@ -110,6 +113,7 @@ stops room holds limit old bytes piece SinkFailed p q k s = record {
   );
 }
 
+-- what a sink took of a text within a limit, it took of each text of which that text is a prefix
 within_whole : {text whole : List ℕ} {limit : ℕ} {old new : Option (List ℕ)} → IsPrefix text whole
     → TakesWithin text limit old new → TakesWithin whole limit old new
 within_whole {text} {whole} p t = record {
@@ -119,6 +123,7 @@ within_whole {text} {whole} p t = record {
   within = t.within;
 }
 
+-- a body that ended with its bytes kept, or was stopped, was streamed within the limit
 streamed_by : {F : Type 0} (room : F → ℕ) (holds : F → Option (List ℕ)) (limit : ℕ) (old : Option (List ℕ)) (g : F)
     (body : Outcome) (s : Result (Unit {0}) (DecodeError Refusal))
     → EndsWith (Kept room holds limit old) (Stopped holds limit old) body AnyAnswer g s

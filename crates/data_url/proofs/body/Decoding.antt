@@ -99,16 +99,19 @@ module _ {F E : Type 0} (step : F → List ℕ → Result (Unit {0}) E → F →
 
 -- A body is not longer than its tail
 
+-- a text without tabs and newlines is not longer than the text
 dropped_shorter : (s : List ℕ) → length (without_tabs_and_newlines s) ≤ length s
 unfolding without_tabs_and_newlines
 dropped_shorter [] = omega arith
 dropped_shorter (b ∷ s) = grind (arith, dropped_shorter s)
 
+-- the text before the first c is not longer than the whole text
 before_shorter : (c : ℕ) (s : List ℕ) → length (before c s) ≤ length s
 unfolding before
 before_shorter c [] = omega arith
 before_shorter c (b ∷ s) = grind (arith, before_shorter c s)
 
+-- a percent-decoded text is not longer than the text
 percent_shorter : (s : List ℕ) → length (percent_decoding s) ≤ length s
 unfolding percent_decoding
 percent_shorter [] = omega arith
@@ -133,12 +136,14 @@ abbrev at_place : {E : Type 0} → ℕ → Result (Unit {0}) (DecodeError E) →
 at_place place (Ok x) = Ok place
 at_place place (Err e) = Err e
 
+-- if q is `Ok place` where p is `Ok`, and otherwise has the error of p, then q is p with the place in it
 mapped : {E : Type 0} (place : ℕ) (p : Result (Unit {0}) (DecodeError E)) (q : Result ℕ (DecodeError E))
     → MatchResult p (λ x. q ≡ Ok place) (λ e. q ≡ Err e) → at_place place p ≡ q
 mapped place (Ok x) q m = sym m
 mapped place (Err e) q m = sym m
 
 module _ {F E : Type 0} (step : F → List ℕ → Result (Unit {0}) E → F → Type 0) where
+  -- a valid text that was decoded as a whole, or refused by the closure, gives a good body with all its bytes
   gives_valid : (u bytes : List ℕ) (place : ℕ) (good : ℕ → Type 0) (r : Result (Unit {0}) (DecodeError E))
       (o : Option E) → (r ≡ Ok tt → good place)
       → MatchOption o ((bytes ≡ decoded u) × (r ≡ Ok tt)) (λ e. IsRefused (decoded u) bytes e r)
@@ -147,6 +152,7 @@ module _ {F E : Type 0} (step : F → List ℕ → Result (Unit {0}) E → F →
   gives_valid u bytes place good r None g h = grind arith
   gives_valid u bytes place good r (Some e) g h = grind arith
 
+  -- a text that is not valid gives a bad body with the bytes of its complete groups and the kind of its fault
   gives_invalid : (u bytes : List ℕ) (place : ℕ) (good : ℕ → Type 0) (r : Result (Unit {0}) (DecodeError E))
       (o : Option E)
       → MatchOption o ((bytes ≡ complete_bytes u) × (r ≡ Err (InvalidBase64 (kind_of u))))
@@ -156,6 +162,7 @@ module _ {F E : Type 0} (step : F → List ℕ → Result (Unit {0}) E → F →
   gives_invalid u bytes place good r None h = grind arith
   gives_invalid u bytes place good r (Some e) h = grind arith
 
+  -- a text that was decoded as a whole, or refused by the closure, gives a good body if it is valid, or a bad one
   gives : (u bytes : List ℕ) (place : ℕ) (good : ℕ → Type 0) (r : Result (Unit {0}) (DecodeError E)) (o : Option E)
       (v : Bool) → (r ≡ Ok tt → good place)
       → MatchOption o (MatchBool v ((bytes ≡ decoded u) × (r ≡ Ok tt)) ((bytes ≡ complete_bytes u)
@@ -187,6 +194,7 @@ record WasGood {A : Type 0} (body : Outcome) (good : A → Type 0) (bytes : List
   pub body_is : body ≡ Good bytes
   pub answer : good x
 
+-- if the result of a body that was handed out is `Ok x`, the body is good, and `good` is true of x
 good_answer : {E A : Type 0} (body : Outcome) (good : A → Type 0) (bytes : List ℕ) (r : Result A (DecodeError E))
     (x : A) → r ≡ Ok x → HandsOut body good bytes r → WasGood body good bytes x
 good_answer (Good all) good bytes (Ok y) x q h = grind arith
@@ -201,6 +209,7 @@ ok_given : {E A : Type 0} (o : Option E) (body : Outcome) (good : A → Type 0) 
 ok_given None body good bytes r x q h = (refl, good_answer body good bytes r x q h)
 ok_given (Some e) body good bytes r x q h = absurd (let k = h.answer in cc)
 
+-- if the result of a body that was handed out is that base64 is not valid, the body is bad, with this kind of fault
 bad_answer : {E A : Type 0} (body : Outcome) (good : A → Type 0) (bytes : List ℕ) (r : Result A (DecodeError E))
     (kind : _) → r ≡ Err (InvalidBase64 kind) → HandsOut body good bytes r → (all : List ℕ) × (body ≡ Bad all kind)
 bad_answer (Good all) good bytes (Ok y) kind q h = absurd (let k = q in cc)
@@ -209,6 +218,7 @@ bad_answer (Bad all kind') good bytes r kind q h =
     let k = h.answer in let e : kind' ≡ kind = cc in
     (all, ap (λ x. Bad all x) e)
 
+-- if the result of a run is that base64 is not valid, the body is bad, with this kind of fault
 bad_given : {E A : Type 0} (o : Option E) (body : Outcome) (good : A → Type 0) (bytes : List ℕ)
     (r : Result A (DecodeError E)) (kind : _) → r ≡ Err (InvalidBase64 kind)
     → MatchOption o (HandsOut body good bytes r) (λ e. IsRefused (outcome_bytes body) bytes e r)
@@ -263,6 +273,7 @@ module _ {F E : Type 0} (step : F → List ℕ → Result (Unit {0}) E → F →
   one_more (Ok tt) bytes piece f after g cs k s last ran more = grind (arith, append_assoc)
   one_more (Err e) bytes piece f after g cs k s last ran more = grind (arith, append-nil)
 
+  -- a run from a state with `kept` ends with `kept` if no call returned an error, and otherwise with `stopped`
   run_ends_from : (cs : List (Call F E)) (bytes : List ℕ) (f g : F) → kept bytes f → IsRun step f cs g
       → MatchOption (refusal cs) (kept (bytes ++ joined_pieces cs) g) (λ e. stopped (bytes ++ joined_pieces cs) e g)
   run_ends_from [] bytes f g k ran = grind (arith, append-nil)
@@ -281,6 +292,7 @@ pub run_ends : {F E : Type 0} (step : F → List ℕ → Result (Unit {0}) E →
 run_ends step cs f g ran kept stopped accepts refuses start =
     run_ends_from step kept stopped accepts refuses cs [] f g start ran
 
+-- for a run without an error, a match on its error implies the case of `None`
 accepted_at : {F E : Type 0} (cs : List (Call F E)) (P : Type 0) (Q : E → Type 0) → refusal cs ≡ None
     → MatchOption (refusal cs) P Q → P
 accepted_at {E = E} cs P Q n h = let M : Option E → Type 0 = λ o. MatchOption o P Q in subst M n h
@@ -333,6 +345,7 @@ module _ {C F E : Type 0} {outer : C → List ℕ → Result (Unit {0}) (DecodeE
     (step : F → List ℕ → Result (Unit {0}) E → F → Type 0) (state : C → State F)
     (feeds : (p : C) (piece : List ℕ) (r : Result (Unit {0}) (DecodeError E)) (q : C) → outer p piece r q
     → Feeds step (state p) piece r (state q)) where
+  -- a run of calls, each of which feeds the decoder its piece, feeds the decoder all the pieces, joined
   fed : {f : F} (c c' : C) (run : List (Call C (DecodeError E))) → state c ≡ start f → IsRun outer c run c'
       → MatchOption (refusal run) (Feeds step (start f) (joined_pieces run) (Ok tt) (state c'))
       (λ e. Feeds step (start f) (joined_pieces run) (Err e) (state c'))
@@ -416,16 +429,19 @@ EndsWith kept stopped body good g (Err (WriteError e)) = (bytes : List ℕ) × I
 
 module _ {F E A : Type 0} (kept : List ℕ → F → Type 0) (stopped : List ℕ → E → F → Type 0) (good : A → Type 0)
     (g : F) where
+  -- what is true of a body that ended with a result is also true with an equal result
   ended_at : (body : Outcome) (r s : Result A (DecodeError E)) → r ≡ s → EndsWith kept stopped body good g s
       → EndsWith kept stopped body good g r
   ended_at body r s e h = grind arith
 
+  -- after a whole body was handed out, `kept` is true of its bytes, and the result tells whether it is good or bad
   ended_whole : (body : Outcome) (bytes : List ℕ) (r : Result A (DecodeError E)) → HandsOut body good bytes r
       → kept bytes g → EndsWith kept stopped body good g r
   ended_whole (Good all) bytes (Ok x) h k = (bytes, ap Good (sym h.bytes_are), h.answer, k)
   ended_whole (Good all) bytes (Err e) h k = absurd h.answer
   ended_whole (Bad all kind) bytes r h k = grind arith
 
+  -- decoding ends with `kept` if the whole body was handed out, and with `stopped` if the closure refused it
   ended_by : (o : Option E) (body : Outcome) (bytes : List ℕ) (r : Result A (DecodeError E))
       → MatchOption o (HandsOut body good bytes r) (λ e. IsRefused (outcome_bytes body) bytes e r)
       → MatchOption o (kept bytes g) (λ e. stopped bytes e g) → EndsWith kept stopped body good g r
@@ -468,14 +484,17 @@ body_extends {f = f} d e measure accepts refuses =
 
 -- How long a body is
 
+-- a text has at most as many symbols as bytes
 symbols_shorter : (s : List ℕ) → length (filter is_symbol s) ≤ length s
 symbols_shorter [] = omega arith
 symbols_shorter (b ∷ s) = grind (arith, symbols_shorter s)
 
+-- the symbols of a text have at most as many values as the text has bytes
 values_shorter : (s : List ℕ) → length (values s) ≤ length s
 unfolding values
 values_shorter s = omega (arith, length-map (filter is_symbol s) symbol_value, symbols_shorter s)
 
+-- complete groups and the rest after them have together at most as many bytes as there are values
 groups_then_rest : (x : List ℕ) → length (groups x ++ rest_bytes (after_groups x)) ≤ length x
 unfolding groups after_groups
 groups_then_rest [] = omega arith
@@ -484,18 +503,22 @@ groups_then_rest (p ∷ q ∷ []) = omega arith
 groups_then_rest (p ∷ q ∷ r ∷ []) = omega arith
 groups_then_rest (p ∷ q ∷ r ∷ s ∷ rest) = let h = groups_then_rest rest in omega arith
 
+-- a base64-decoded text is not longer than the text
 decoded_shorter : (s : List ℕ) → length (decoded s) ≤ length s
 unfolding decoded
 decoded_shorter s = omega (arith, groups_then_rest (values s), values_shorter s)
 
+-- the bytes before an index, or the whole text if there is no index, are not longer than the text
 before_place_shorter : (s : List ℕ) (o : Option ℕ) → length (before_place s o) ≤ length s
 before_place_shorter s None = omega arith
 before_place_shorter s (Some i) = omega (arith, length-take i s)
 
+-- the bytes of the groups that are complete before the first fault are not longer than the text
 done_shorter : (s : List ℕ) → length (complete_bytes s) ≤ length s
 unfolding complete_bytes
 done_shorter s = grind (arith, groups_length, values_shorter, before_place_shorter)
 
+-- with or without base64, the bytes of the outcome of a text are not longer than the text
 outcome_shorter : (flag : Bool) (s : List ℕ) → length (outcome_bytes (outcome flag s)) ≤ length s
 unfolding outcome
 outcome_shorter false s = omega arith
@@ -505,6 +528,7 @@ outcome_shorter true s = grind (arith, decoded_shorter, done_shorter)
 pub body_within_tail : (url : DataUrl) → length (outcome_bytes (url_body url)) ≤ length (url_tail url)
 body_within_tail url = grind (arith, outcome_shorter, body_shorter)
 
+-- the text after the first c is not longer than the whole text
 after_shorter : (c : ℕ) (s rest : List ℕ) → after c s ≡ Some rest → length rest ≤ length s
 unfolding after
 after_shorter c [] rest e = absurd (let k = e in cc)
@@ -514,10 +538,12 @@ after_shorter c (b ∷ s) rest e =
       | false ↦ λ (h : after c s ≡ Some rest). omega (arith, after_shorter c s rest h)
     ] e
 
+-- a text without C0 controls and spaces at both ends is not longer than the text
 trimmed_shorter : (t : List ℕ) → length (trimmed_text t) ≤ length t
 unfolding trimmed_text
 trimmed_shorter t = grind (arith, length-take, length-drop)
 
+-- the tail of a text is not longer than the text
 tail_shorter : (t tail : List ℕ) → tail_of t ≡ Some tail → length tail ≤ length t
 unfolding tail_of
 tail_shorter t tail e = omega (arith, after_shorter 44 (trimmed_text t) tail e, trimmed_shorter t)

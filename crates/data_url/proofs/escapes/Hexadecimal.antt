@@ -21,6 +21,7 @@ code_is b l = eqb-true (get_or DIGITS b 0) (digit_code b) (agree_below_at (λ b.
 
 -- what the entry of the table says about its byte
 
+-- the code of a byte is 16 exactly if the byte is a tab or newline
 tab_code : (b : ℕ) → b < 256 → eqb (digit_code b) 16 ≡ is_tab_or_newline b
 tab_code b l = agree_below_at (λ b. eqb (digit_code b) 16) is_tab_or_newline 256 b refl l
 
@@ -28,17 +29,21 @@ tab_code b l = agree_below_at (λ b. eqb (digit_code b) 16) is_tab_or_newline 25
 not_percent : (b : ℕ) → b < 256 → digit_code b < 32 → not (b == 37) ≡ true
 not_percent b l h = grind arith
 
+-- a byte whose code is 16 is a tab or newline
 is_tab : (b : ℕ) → b < 256 → digit_code b ≡ 16 → is_tab_or_newline b ≡ true
 is_tab b l h = sym (tab_code b l) ∙ ap (λ v. eqb v 16) h
 
+-- if `not p` is true, p is false
 not_true : (p : Bool) → not p ≡ true → p ≡ false
 not_true true h = absurd (let k : false ≡ true = h in cc)
 not_true false h = refl
 
+-- if `not p && q` is true, p is false
 both_left : (p q : Bool) → (not p && q) ≡ true → p ≡ false
 both_left true q h = absurd (let k : false ≡ true = h in cc)
 both_left false q h = refl
 
+-- if `not p && q` is true, q is true
 both_right : (p q : Bool) → (not p && q) ≡ true → q ≡ true
 both_right true q h = absurd (let k : false ≡ true = h in cc)
 both_right false q h = h
@@ -61,15 +66,18 @@ pub digit_here : (b : ℕ) (s : List ℕ) → is_tab_or_newline b ≡ false
 unfolding digit
 digit_here b s h = grind arith
 
+-- a text that begins with a byte whose code is below 16 begins with the digit of that value
 digit_found : (b : ℕ) (s : List ℕ) → b < 256 → digit_code b < 16 → digit (b ∷ s) ≡ Some (digit_code b, s)
 digit_found b s l h = grind (arith, digit_here)
 
+-- a byte whose code is above 16 is neither a tab or newline nor a hexadecimal digit
 other_test : (b : ℕ) → b < 256 → 16 < digit_code b
     → cond (ltb 16 (digit_code b)) (not (is_tab_or_newline b) && not (is_ascii_hexdigit b)) true ≡ true
 other_test b l h = agree_below_at
     (λ b. cond (ltb 16 (digit_code b)) (not (is_tab_or_newline b) && not (is_ascii_hexdigit b)) true)
     (λ b. true) 256 b refl l
 
+-- a text that begins with a byte whose code is above 16 does not begin with a digit
 digit_other : (b : ℕ) (s : List ℕ) → b < 256 → 16 < digit_code b → digit (b ∷ s) ≡ None
 digit_other b s l h =
     let k : (not (is_tab_or_newline b) && not (is_ascii_hexdigit b))
@@ -85,6 +93,7 @@ digit_other b s l h =
 
 -- digits from a place on
 
+-- a text from an index on is the byte there, and then the text from the next index on
 at_place : (text : List ℕ) (place : ℕ) → place < length text → drop place text ≡ get_or text place 0 ∷ drop
     (place + 1) text
 at_place text place l = drop_more text place 0 l
@@ -145,14 +154,17 @@ passed_no p n = grind arith
 
 -- two digits
 
+-- without a first digit there is no escape
 escape_none : (s : List ℕ) → digit s ≡ None → escape s ≡ None
 unfolding escape
 escape_none s h = ap with_high_digit h
 
+-- without a digit after the first one there is no escape
 escape_high : (s rest : List ℕ) (high : ℕ) → digit s ≡ Some (high, rest) → digit rest ≡ None → escape s ≡ None
 unfolding escape
 escape_high s rest high h k = ap with_high_digit h ∙ ap (with_low_digit high) k
 
+-- two digits, one after the other, are an escape, whose value is 16 times the first plus the second
 escape_both : (s rest last : List ℕ) (high low : ℕ) → digit s ≡ Some (high, rest) → digit rest ≡ Some (low, last)
     → escape s ≡ Some (16 * high + low, last)
 unfolding escape

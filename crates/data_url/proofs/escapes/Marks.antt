@@ -49,7 +49,7 @@ copied room text mid post block len width start l w h m b =
       take-take width 64 (drop start text) w,
     )
 
--- the same for a buffer of 256 bytes, as the code copies the block
+-- a block of 64 bytes of the text, copied into a buffer of 256 bytes, leaves its first `width` bytes there
 pub copied_wide : (room bytes text : List ℕ) (len width start : ℕ) → length room ≡ 256 → len + 64 ≤ 256 → width ≤ 64
     → start + 64 ≤ length text → bytes ≡ text
     → take (len + width) (put_mid len (len + 64 - len) room (put_chunk 0 (mid_of len (len + 64 - len) room)
@@ -132,6 +132,7 @@ drop_taken (suc k) (suc n) (x ∷ xs) = grind (arith, drop_taken k n xs)
 abbrev pub low_half : ℕ → ℕ
 low_half b = bit_and b 15
 
+-- the low half of a byte is below 16
 low_lt : (b : ℕ) → low_half b < 16
 low_lt b = let e = and_mask b 4 in omega (arith, e)
 
@@ -143,6 +144,7 @@ lows v = zip2 bit_and v (replicate 64 15)
 pub lows_are : (v : List ℕ) → length v ≡ 64 → lows v ≡ map low_half v
 lows_are v long = zip2_splat bit_and v 64 15 long
 
+-- each low half of a list of bytes is below 16
 each_low : (v : List ℕ) → Each1 (λ j. j < 16) (map low_half v)
 each_low [] = tt
 each_low (b ∷ v) = (low_lt b, each_low v)
@@ -164,6 +166,7 @@ repeats k l = eqb-true (get_or MARKED k 0) (get_or MARKED (k % 16) 0)
 abbrev pub entry : ℕ → ℕ
 entry b = get_or MARKED (low_half b) 0
 
+-- at each index, a swizzle of the table by the low halves of 64 bytes holds the entry of the byte there
 looked_at : (v : List ℕ) → length v ≡ 64 → (m : ℕ) → m < 64 → get_or (swz_l w8 16 MARKED 0 (map low_half v)) m 0
     ≡ get_or (map entry v) m 0
 looked_at v long m l =
@@ -194,6 +197,7 @@ looked_up v long =
 marked_here : (b : ℕ) → b < 256 → eqb (entry b) b ≡ is_marked b
 marked_here b l = agree_below_at (λ b. eqb (entry b) b) is_marked 256 b refl l
 
+-- the bytes of a list that are equal to their entries are the marked ones
 marked_each : (v : List ℕ) → Each1 (Fits w8) v → map (λ b. eqb (entry b) b) v ≡ map is_marked v
 marked_each [] h = refl
 marked_each (b ∷ v) h = grind (arith, marked_here, marked_each v h.1)
@@ -219,6 +223,7 @@ mask_cases : (p : ℕ → Bool) (x : ℕ) (xs : List ℕ) (b : Bool) → p x ≡
 mask_cases p x xs true e h k = absurd (omega arith)
 mask_cases p x xs false e h k = let m = k (omega arith) in omega arith
 
+-- if no item of a list passes a test, the mask of the items that pass is 0
 mask_none : (p : ℕ → Bool) (xs : List ℕ) → prefix_len (λ y. not (p y)) xs ≡ length xs → mask_l (map p xs) ≡ 0
 mask_none p [] h = refl
 mask_none p (x ∷ xs) h = mask_cases p x xs (p x) refl h (λ k. mask_none p xs k)
@@ -245,6 +250,7 @@ pub record IsFound (text : List ℕ) (place seen width : ℕ) : Type 0 where
   pub before : width < seen - place
   pub mark : IsNextMark text place (place + width)
 
+-- if the marks from an index on are not 0, their number of trailing zeros is that of the bytes before the next mark
 found_mark : {text : List ℕ} {place seen marks width : ℕ} → HasMarks text place seen marks → marks ≢ 0
     → width ≡ count_trailing_zeros 64 marks → IsFound text place seen width
 found_mark {text} {place} {seen} {marks} {width} h n e =
@@ -288,7 +294,7 @@ looking_clear {c} {place} {more} to k l w h =
     let m = k.looks_are_paid in
     record { block = k.block; base_le = omega arith; within = w; looks_are_paid = omega arith }
 
--- the same text
+-- the next mark of a text is that of an equal text
 pub mark_in : {text same : List ℕ} {from to : ℕ} → same ≡ text → IsNextMark same from to → IsNextMark text from to
 mark_in {text} {same} {from} {to} e m = let P : List ℕ → Type 0 = λ t. IsNextMark t from to in subst P e m
 

@@ -28,6 +28,7 @@ use Rattle.data_url.specs.Steps.Window.{is_marked}
 no_hash : (b : ℕ) → is_tab_or_newline b ≡ true → (b == 35) ≡ false
 no_hash b h = ne_eqb b 35 (λ (e : b ≡ 35). both_ways (is_tab_or_newline b) (ap is_tab_or_newline e) h)
 
+-- a hexadecimal digit is not '#'
 hex_no_hash : (b : ℕ) → is_ascii_hexdigit b ≡ true → (b == 35) ≡ false
 hex_no_hash b h = ne_eqb b 35 (λ (e : b ≡ 35). both_ways (is_ascii_hexdigit b) (ap is_ascii_hexdigit e) h)
 
@@ -39,10 +40,12 @@ record HasDigit (s : List ℕ) (value : ℕ) (rest : List ℕ) : Type 0 where
   pub dropped_is : without_tabs_and_newlines s ≡ at ∷ without_tabs_and_newlines rest
   pub after_is : after 35 s ≡ after 35 rest
 
+-- a hexadecimal digit at the front of a text is the digit that the text begins with
 digit_at : (b : ℕ) (s : List ℕ) (value : ℕ) (rest : List ℕ) → is_tab_or_newline b ≡ false → is_ascii_hexdigit b ≡ true
     → ◌≡◌ {A = Option (ℕ × List ℕ)} (Some (digit_value b, s)) (Some (value, rest)) → HasDigit (b ∷ s) value rest
 digit_at b s value rest t h e = grind (arith, dropped_keeps, after_other)
 
+-- if `digit` returns a value, the text begins with a digit of this value, after tabs and newlines
 has_digit : (s : List ℕ) (value : ℕ) (rest : List ℕ) → digit s ≡ Some (value, rest) → HasDigit s value rest
 has_digit [] value rest h = grind (arith, digit_nil)
 has_digit (b ∷ s) value rest h = elim (cases_Bool (is_tab_or_newline b)) [
@@ -60,10 +63,12 @@ has_digit (b ∷ s) value rest h = elim (cases_Bool (is_tab_or_newline b)) [
   ]
 ]
 
+-- the text begins with a hexadecimal digit
 abbrev begins_with_digit : List ℕ → Bool
 begins_with_digit [] = false
 begins_with_digit (b ∷ s) = is_ascii_hexdigit b
 
+-- if `digit` returns `None`, the text without tabs and newlines does not begin with a digit
 no_digit : (s : List ℕ) → digit s ≡ None → begins_with_digit (without_tabs_and_newlines s) ≡ false
 no_digit [] h = ap begins_with_digit dropped_nil
 no_digit (b ∷ s) h = elim (cases_Bool (is_tab_or_newline b)) [
@@ -81,6 +86,7 @@ pub record HasEscape (s : List ℕ) (value : ℕ) (rest : List ℕ) : Type 0 whe
   pub dropped_is : without_tabs_and_newlines s ≡ high ∷ low ∷ without_tabs_and_newlines rest
   pub after_is : after 35 s ≡ after 35 rest
 
+-- a text that begins with a digit, and goes on with another one, begins with two digits
 both_digits : (s middle rest : List ℕ) (high low value : ℕ) → HasDigit s high middle → HasDigit middle low rest
     → 16 * high + low ≡ value → HasEscape s value rest
 both_digits s middle rest high low value a b e = record {
@@ -93,6 +99,7 @@ both_digits s middle rest high low value a b e = record {
   after_is = a.after_is ∙ b.after_is;
 }
 
+-- if a first digit and what `digit` returns after it give an escape, the text begins with its two digits
 low_cases : (s middle : List ℕ) (high value : ℕ) (rest : List ℕ) (o : Option (ℕ × List ℕ)) → HasDigit s high middle
     → digit middle ≡ o → with_low_digit high o ≡ Some (value, rest) → HasEscape s value rest
 low_cases s middle high value rest None a e h = absurd (cc)
@@ -103,38 +110,46 @@ low_cases s middle high value rest (Some low) a e h =
     both_digits s middle rest high low.0 value a (has_digit middle low.0 rest (e ∙ ap (λ r. Some (low.0, r)) rest_is))
     value_is
 
+-- if what `digit` returns gives an escape, the text begins with its two digits
 high_cases : (s : List ℕ) (value : ℕ) (rest : List ℕ) (o : Option (ℕ × List ℕ)) → digit s ≡ o
     → with_high_digit o ≡ Some (value, rest) → HasEscape s value rest
 high_cases s value rest None e h = absurd (cc)
 high_cases s value rest (Some high) e h = low_cases s high.1 high.0 value rest (digit high.1)
     (has_digit s high.0 high.1 e) refl h
 
+-- if there is an escape, the text begins with its two digits, each after tabs and newlines
 pub has_escape : (s : List ℕ) (value : ℕ) (rest : List ℕ) → escape s ≡ Some (value, rest) → HasEscape s value rest
 unfolding escape
 has_escape s value rest h = high_cases s value rest (digit s) refl h
 
+-- the text begins with two hexadecimal digits
 abbrev begins_with_two_digits : List ℕ → Bool
 begins_with_two_digits [] = false
 begins_with_two_digits (b ∷ s) = is_ascii_hexdigit b && begins_with_digit s
 
+-- a text that does not begin with a digit does not begin with two digits
 first_no_digit : (s : List ℕ) → begins_with_digit s ≡ false → begins_with_two_digits s ≡ false
 first_no_digit [] h = refl
 first_no_digit (b ∷ s) h = and_left (is_ascii_hexdigit b) (begins_with_digit s) h
 
+-- if no digit follows the first one, the text without tabs and newlines does not begin with two digits
 no_low_cases : (s middle : List ℕ) (high : ℕ) (o : Option (ℕ × List ℕ)) → HasDigit s high middle → digit middle ≡ o
     → with_low_digit high o ≡ None → begins_with_two_digits (without_tabs_and_newlines s) ≡ false
 no_low_cases s middle high None a e h = grind (arith, no_digit)
 no_low_cases s middle high (Some low) a e h = absurd (cc)
 
+-- if what `digit` returns gives no escape, the text without tabs and newlines does not begin with two digits
 no_high_cases : (s : List ℕ) (o : Option (ℕ × List ℕ)) → digit s ≡ o → with_high_digit o ≡ None
     → begins_with_two_digits (without_tabs_and_newlines s) ≡ false
 no_high_cases s None e h = first_no_digit (without_tabs_and_newlines s) (no_digit s e)
 no_high_cases s (Some high) e h = no_low_cases s high.1 high.0 (digit high.1) (has_digit s high.0 high.1 e) refl h
 
+-- if there is no escape, the text without tabs and newlines does not begin with two digits
 no_escape : (s : List ℕ) → escape s ≡ None → begins_with_two_digits (without_tabs_and_newlines s) ≡ false
 unfolding escape
 no_escape s h = no_high_cases s (digit s) refl h
 
+-- if a text does not begin with two digits, neither do its bytes before the first '#'
 same_two_digits : (s : List ℕ) → begins_with_two_digits s ≡ false → two_digits (before 35 s) ≡ false
 same_two_digits [] h = ap two_digits (before_nil 35)
 same_two_digits (b ∷ []) h = grind (arith, before_same, before_other, before_nil)
@@ -145,10 +160,12 @@ same_two_digits (b ∷ c ∷ s) h = elim (cases_Bool (b == 35)) [
 
 -- The body
 
+-- a body is the percent-decoded text before the first '#' of its tail without tabs and newlines
 body_of : (tail s : List ℕ) → without_tabs_and_newlines tail ≡ s → plain_body tail ≡ percent_decoding (before 35 s)
 unfolding plain_body front
 body_of tail s e = ap (λ x. percent_decoding (before 35 x)) e
 
+-- the empty text is percent-decoded to the empty text
 pub percent_nil : percent_decoding [] ≡ []
 unfolding percent_decoding
 percent_nil = refl
@@ -217,10 +234,12 @@ pub reads_then : {text a b : List ℕ} {from middle to : ℕ} → Reads text fro
     → Reads text from to (a ++ b)
 reads_then {text} {a} {b} {from} {middle} {to} r s = grind (arith, length-append, append_assoc)
 
+-- a text from an index on is the byte there, and then the text from the next index on
 at_place : (text : List ℕ) (place : ℕ) → place < length text → drop place text ≡ get_or text place 0 ∷ drop
     (place + 1) text
 at_place text place l = drop_more text place 0 l
 
+-- if b is the byte at an index, the text from there on is b, and then the text from the next index on
 at_byte : (text : List ℕ) (place b : ℕ) → place < length text → get_or text place 0 ≡ b
     → drop place text ≡ b ∷ drop (place + 1) text
 at_byte text place b l e = at_place text place l ∙ ap (λ v. v ∷ drop (place + 1) text) e
@@ -239,11 +258,13 @@ pub reads_escape : {text : List ℕ} {place value end : ℕ} → EscapeAt text p
     → Reads text place end (value ∷ [])
 reads_escape {text} {place} {value} {end} p = grind (arith, at_byte, body_escape, after_escape)
 
+-- if `t || (h || p)` is false, p is false
 unmarked_percent : (t h p : Bool) → (t || (h || p)) ≡ false → p ≡ false
 unmarked_percent true h p e = absurd (let k : true ≡ false = e in cc)
 unmarked_percent false true p e = absurd (let k : true ≡ false = e in cc)
 unmarked_percent false false p e = e
 
+-- an unmarked byte is read as it is
 reads_byte : {text : List ℕ} {place : ℕ} → place < length text → is_marked (get_or text place 0) ≡ false
     → Reads text place (place + 1) (get_or text place 0 ∷ [])
 reads_byte {text} {place} l h =
@@ -299,6 +320,7 @@ pub paid_percent : (text : List ℕ) (seen place to : ℕ) → place < length te
     → paid_looks text seen place ≡ seen + 2 * place
 paid_percent text seen place to l h = grind (arith, prefix_len-drop_no)
 
+-- n bytes without marks do not make the bound smaller
 paid_for : (text : List ℕ) (seen from n : ℕ) → from + n ≤ length text → IsClear text from (from + n)
     → paid_looks text seen from ≤ paid_looks text seen (from + n)
 paid_for text seen from zero l h = grind arith
@@ -312,7 +334,7 @@ paid_for text seen from (suc n) l h =
     let e = ap (paid_looks text seen) k in
     omega arith
 
--- so do several bytes without marks
+-- several bytes without marks do not lower the number of looks that are paid
 pub paid_clear : (text : List ℕ) (seen from to : ℕ) → from ≤ to → to ≤ length text → IsClear text from to
     → paid_looks text seen from ≤ paid_looks text seen to
 paid_clear text seen from to l w h =

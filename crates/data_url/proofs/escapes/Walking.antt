@@ -42,9 +42,11 @@ pub slice_one : (text : List ℕ) (place : ℕ) → place < length text
     → slice_range text place (place + 1) ≡ get_or text place 0 ∷ []
 slice_one text place l = grind (arith, drop_more)
 
+-- two parts of the empty list, one after the other, are one part of it
 taken_none : (n m : ℕ) → ◌≡◌ {A = List ℕ} (take n [] ++ take m (drop n [])) (take (n + m) [])
 taken_none n m = grind arith
 
+-- the first n items, and then the next m items, are the first n + m items
 taken_twice : (n m : ℕ) (xs : List ℕ) → take n xs ++ take m (drop n xs) ≡ take (n + m) xs
 taken_twice zero m xs = let e : m ≡ zero + m = omega arith in ap (λ k. take k xs) e
 taken_twice (suc n) m [] = taken_none (suc n) m
@@ -58,6 +60,7 @@ slice_join text a b c l h =
     let n : b - a + (c - b) ≡ c - a = omega arith in
     cc (drop-drop (b - a) a text, taken_twice (b - a) (c - b) (drop a text))
 
+-- a range, and then the text after it, is the text from the start of the range on
 slice_rest : (text : List ℕ) (a b : ℕ) → a ≤ b → slice_range text a b ++ drop b text ≡ drop a text
 slice_rest text a b l =
     let e : a + (b - a) ≡ b = omega arith in
@@ -97,6 +100,7 @@ pub without_tabs_then : (text : List ℕ) (a b c : ℕ) → a ≤ b → b ≤ c 
     → IsWithoutTabs text a c
 without_tabs_then text a b c l m h k = cc (kept_then text a b c l m, slice_join text a b c l m)
 
+-- n bytes without marks have no tab or newline
 without_tabs_for : (text : List ℕ) (from n : ℕ) → from + n ≤ length text → IsClear text from (from + n)
     → IsWithoutTabs text from (from + n)
 without_tabs_for text from zero l h =
@@ -124,6 +128,7 @@ without_tabs_clear text from to l w h =
 
 -- The first '#'
 
+-- what follows the first '#' of a text that begins with '#' is the rest of the text
 after_first : (b : ℕ) (s : List ℕ) → (b == 35) ≡ true → after 35 (b ∷ s) ≡ Some s
 after_first b s h = let e : b ≡ 35 = eqb-true b 35 h in ap (λ c. after 35 (c ∷ s)) e ∙ after_same 35 s
 
@@ -161,6 +166,7 @@ pub keeps : {c c' : Cursor} → text_of c' ≡ text_of c → c.source.looks ≤ 
     → c'.seen ≡ c.seen → c'.marks ≡ c.marks → c'.place ≡ c.place → c'.ahead ≡ c.ahead → KeepsBlock c c'
 keeps t l b s m p a = grind arith
 
+-- a walk that keeps its block can go on at a later index, if the number of bytes read is within the bound there
 looking_kept : {c c' : Cursor} {place more : ℕ} (place' more' : ℕ) → Looking c place more → KeepsBlock c c'
     → place ≤ place' → place' ≤ length (text_of c) → c'.source.looks + more' ≤ paid_looks (text_of c) c.seen place'
     → Looking c' place' more'
@@ -204,6 +210,7 @@ stop_escape {c} {c'} {mark} {b} {value} {end} k h s d =
     let n = d.looks_are in
     (subst P (sym t) e, looking_kept end 3 k.looking s (omega arith) d.within (omega arith))
 
+-- if the first byte of a text is '#', the text begins with the fragment's '#'
 begins_hash : (s : List ℕ) (b : ℕ) (rest : List ℕ) → s ≡ b ∷ rest → b ≡ 35 → BeginsFragment s
 begins_hash s b rest e h = subst BeginsFragment (sym e) h
 
@@ -255,6 +262,7 @@ pub record Reached (c0 c : Cursor) (mark : ℕ) : Type 0 where
 pub on_then : {a b c : Cursor} → LooksOn a b → LooksOn b c → LooksOn a c
 on_then h k = grind arith
 
+-- two stretches, one after the other, that are read as they are, are one stretch that is read as it is
 stretch_on : {text : List ℕ} {place from to : ℕ} → Reads text place from (slice_range text place from)
     → Reads text from to (slice_range text from to) → Reads text place to (slice_range text place to)
 stretch_on {text} {place} {from} {to} a b =
@@ -301,6 +309,7 @@ search_passed {c0} {c} c' {mark} r p k e t n b s m a =
 
 -- Pieces
 
+-- b or true is true
 or_true : (b : Bool) → (b || true) ≡ true
 or_true true = refl
 or_true false = refl
@@ -326,6 +335,7 @@ moved_on : {c0 c : Cursor} (place : ℕ) (ahead : Ahead) → LooksOn c0 c
     → LooksOn c0 (record c { place = place; ahead = ahead })
 moved_on place ahead h = record { text_stays = h.text_stays; looks_grow = h.looks_grow }
 
+-- the bytes of p are those from the walk's index to the mark; where these are a stretch, p is a piece
 abbrev IsCut : Cursor → Cursor → ℕ → Piece → Type 0
 IsCut c0 c mark p = (bytes_of p ≡ slice_range (text_of c) c.place mark)
     × ((from to : ℕ) → IsStretch (text_of c) from to (bytes_of p) → IsPiece (text_of c) from to p)
@@ -336,6 +346,7 @@ pub slice_passed : {c0 c : Cursor} {mark : ℕ} (p : Piece) → Reached c0 c mar
 slice_passed {c0} {c} {mark} p r h n cut =
     search (arith, drop_more, reads_passed, slice_piece, dropped_passes, dropped_nil)
 
+-- without tabs and newlines, the text from an escape on is '%', its two digits, and the text after the escape
 escape_kept : {text : List ℕ} {place value end : ℕ} → EscapeAt text place value end
     → (d : HasEscape (drop (place + 1) text) value (drop end text)) → without_tabs_and_newlines (drop place text)
     ≡ 37 ∷ d.high ∷ d.low ∷ without_tabs_and_newlines (drop end text)
@@ -425,6 +436,7 @@ pub byte_after : {c c' : Cursor} {value : ℕ} → LooksOn c c' → EscapeAt (te
 byte_after {c} {c'} {value} on q =
     search (arith, reads_escape, escape_piece (omega arith) (skipped_none (text_of c) c.place) q)
 
+-- a walk that knows that its body ends at its index ends there
 ended_cases : {c : Cursor} (a : Ahead) → KnowsAhead c a → has_ended a ≡ true → Ended c c.place
 ended_cases Unknown k e = absurd (cc)
 ended_cases AfterEscape k e = absurd (cc)
@@ -435,6 +447,7 @@ ended_cases End k e = k
 pub ended_of : {c : Cursor} → Knows c → has_ended c.ahead ≡ true → Ended c c.place
 ended_of {c} k e = ended_cases c.ahead k.ahead_is e
 
+-- what follows the first '#' of a text that is empty or begins with '#' is its fragment
 begun_fragment : (s : List ℕ) → BeginsFragment s → after 35 s ≡ rest_fragment s
 begun_fragment [] h = after_nil 35
 begun_fragment (b ∷ s) h = ap (λ v. after 35 (v ∷ s)) h ∙ after_same 35 s
@@ -574,6 +587,7 @@ smaller c0 {c1} {c'} {room} {room'} {len} {len'} total u p t m g = grind arith
 
 -- The contract of a walk.
 
+-- where a walk has ended, nothing of the body is left
 rest_over : {c : Cursor} → Knows c → has_ended c.ahead ≡ true → plain_body (drop c.place (text_of c)) ≡ []
 rest_over {c} k e = ends_empty (ended_of k e).ends
 
@@ -583,6 +597,7 @@ pub over_rest : (next : Option Piece) {c c' : Cursor} → GoesOn c next c' → K
 over_rest None g k = rest_over k g.ended
 over_rest (Some p) g k = tt
 
+-- a piece has at least one byte
 some_bytes : (p : Piece) (text : List ℕ) (from to : ℕ) → to ≤ length text → IsPiece text from to p
     → 0 < length (bytes_of p)
 some_bytes (Slice slice) text from to w h = grind (arith, length-drop, length-take-le)
@@ -602,6 +617,7 @@ again (Some p) {c} {c'} k g e =
     let a = length-append (bytes_of p) (plain_body (drop c'.place (text_of c))) in
     absurd (omega arith)
 
+-- whatever a walk knows about its index, it has read at most three times as many bytes as its text has
 looks_cases : (c : Cursor) (a : Ahead) → KnowsAhead c a → c.source.looks ≤ 3 * length (text_of c)
 looks_cases c Unknown k = grind (arith, paid_le)
 looks_cases c AfterEscape k = grind (arith, paid_le)

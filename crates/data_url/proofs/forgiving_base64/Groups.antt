@@ -74,6 +74,7 @@ pub values_symbols : (s : List ℕ) → list_all is_symbol s ≡ true → values
 unfolding values
 values_symbols s h = ap (map symbol_value) (filter_all is_symbol s (every_list_all s h))
 
+-- if all bytes of a text are symbols, all are symbols or whitespace
 symbols_alone : (s : List ℕ) → list_all is_symbol s ≡ true → list_all is_symbol_or_space s ≡ true
 symbols_alone [] h = refl
 symbols_alone (b ∷ s) h =
@@ -166,17 +167,21 @@ unfolding values
 values-append a b = grind (arith, filter-append, map-append)
 
 module _ (a b w : List ℕ) (st : Stands a w) where
+  -- given `Stands a w`, the symbols of w ++ t are those left over of a and then those of t
   symbols_left : (t : List ℕ) → filter is_symbol (w ++ t) ≡ after_groups (filter is_symbol a) ++ filter is_symbol t
   symbols_left t = filter-append is_symbol w t ∙ ap (λ x. x ++ filter is_symbol t) st.symbols
 
+  -- given `Stands a w`, the values of w ++ t are those left over of a and then those of t
   values_left : (t : List ℕ) → values (w ++ t) ≡ after_groups (values a) ++ values t
   unfolding values
   values_left t = grind (arith, symbols_left, map-append, after_groups-map)
 
+  -- given `Stands a w`, the numbers of values of a ++ b and of w ++ b are equal modulo four
   length_values : length (values (a ++ b)) % 4 ≡ length (values (w ++ b)) % 4
   unfolding values
   length_values = grind (arith, length-map, filter-append, length_alike)
 
+  -- given `Stands a w`, a ++ b and w ++ b have equally many '=', counted up to three
   length_pads : min (length (filter is_pad (a ++ b))) 3 ≡ min (length (filter is_pad (w ++ b))) 3
   length_pads = grind (arith, filter-append, length-append)
 
@@ -184,17 +189,21 @@ module _ (a b w : List ℕ) (st : Stands a w) where
   groups_both : (t : List ℕ) → groups (values (a ++ t)) ≡ complete_bytes a ++ groups (values (w ++ t))
   groups_both t = grind (arith, values-append, groups-append, done_is, before_none, values_left)
 
+  -- given `Stands a w`, the values left over of a ++ b are those left over of w ++ b
   after_both : after_groups (values (a ++ b)) ≡ after_groups (values (w ++ b))
   after_both = grind (arith, values-append, after_groups-append, values_left)
 
+  -- given `Stands a w`, a ++ b decodes to the complete bytes of a and then what w ++ b decodes to
   decoded_both : decoded (a ++ b) ≡ complete_bytes a ++ decoded (w ++ b)
   unfolding decoded
   decoded_both = grind (arith, groups_both, append_assoc, after_both)
 
+  -- given `Stands a w`, the symbols left over of a ++ b are those left over of w ++ b
   left_both : left_symbols (a ++ b) ≡ left_symbols (w ++ b)
   unfolding left_symbols
   left_both = grind (arith, filter-append, after_groups-append)
 
+  -- given `Stands a w`, the padding left over of a ++ b is that of w ++ b
   padding_both : left_padding (a ++ b) ≡ left_padding (w ++ b)
   unfolding left_padding
   padding_both = length_pads

@@ -34,9 +34,11 @@ use Rattle.data_url.proofs.forgiving_base64.Padding.{length-after_groups}
 
 -- A text of symbols and white space has no fault and no padding
 
+-- a symbol or a byte of whitespace, alone, has no fault and is not '='
 one_allowed : (c : ℕ) → is_symbol_or_space c ≡ true → (fault_byte false (c ∷ []) ≡ None) × (is_pad c ≡ false)
 one_allowed c h = grind (arith, fault_symbol, fault_space)
 
+-- a text of symbols and whitespace has no fault
 allowed_fault : (t : List ℕ) → list_all is_symbol_or_space t ≡ true → fault_byte false t ≡ None
 unfolding fault_byte
 allowed_fault [] h = refl
@@ -45,19 +47,23 @@ allowed_fault (c ∷ t) h =
     let one = one_allowed c p.0 in
     fault-append (c ∷ []) t false one.0 ∙ ap (λ s. fault_byte s t) (nothing one.1) ∙ allowed_fault t p.1
   where
+    -- if s is false, the disjunction of s with false on both sides is false
     nothing : {s : Bool} → s ≡ false → (false || (s || false)) ≡ false
     nothing e = rw e refl
 
+-- a text of symbols and whitespace has no padding
 allowed_pads : (t : List ℕ) → list_all is_symbol_or_space t ≡ true → filter is_pad t ≡ []
 allowed_pads [] h = refl
 allowed_pads (c ∷ t) h =
     let p = and_parts (is_symbol_or_space c) (list_all is_symbol_or_space t) h in
     ap (λ s. cond s (c ∷ filter is_pad t) (filter is_pad t)) (one_allowed c p.0).1 ∙ allowed_pads t p.1
 
+-- a text has at most as many symbols as bytes
 filter_length : (t : List ℕ) → length (filter is_symbol t) ≤ length t
 filter_length [] = omega arith
 filter_length (c ∷ t) = grind (arith, filter_length t)
 
+-- a list of length zero is empty
 no_items : (l : List ℕ) → length l ≡ 0 → l ≡ []
 no_items [] e = refl
 no_items (b ∷ l) e = absurd (omega arith)
@@ -87,10 +93,12 @@ adds_groups {d = d} t more is_q is_p going g =
 
 -- Holding
 
+-- an option that is not `Some` is `None`
 none_from : {A : Type 0} (o : Option A) → is_some o ≡ false → o ≡ None
 none_from None e = refl
 none_from (Some x) e = absurd (true≢false e)
 
+-- if r is `Ok`, and is what one call's answer gives, the call returned no error
 told_ok : {E : Type 0} (told : Result (Unit {0}) E) (r : Result (Unit {0}) (DecodeError E)) → r ≡ Ok tt
     → MatchResult told (λ u. r ≡ Ok tt) (λ e. r ≡ Err (WriteError e)) → option_or (result_err told) None ≡ None
 told_ok (Ok x) r e h = refl
@@ -129,6 +137,7 @@ module _ {F E : Type 0} (step : F → List ℕ → Result (Unit {0}) E → F →
       → IsRun step d.closure (h.run ++ record { piece = piece; answer = w.told; after = d2.closure } ∷ []) d2.closure
   called_run {d} {d1} {d2} {piece = piece} h w = grind (arith, run-append)
 
+  -- the bytes of a run with one more call are those of the run and then the piece of that call
   called_bytes : {d d1 : State F} {t held : List ℕ} (piece : List ℕ) (h : Holds step d t held d1)
       (told : Result (Unit {0}) E) (g : F)
       → joined_pieces (h.run ++ record { piece = piece; answer = told; after = g } ∷ []) ≡ joined_pieces h.run ++ piece
@@ -191,6 +200,7 @@ module _ {F E : Type 0} (step : F → List ℕ → Result (Unit {0}) E → F →
         going = w.failed;
       }
 
+  -- if r is the error of a call, and the bytes are a prefix of `all`, the closure refused them with that error
   refused_call : (told : Result (Unit {0}) E) (r : Result (Unit {0}) (DecodeError E)) (x : DecodeError E) (P : Type 0)
       (all bytes : List ℕ) → r ≡ Err x → IsPrefix bytes all
       → MatchResult told (λ u. r ≡ Ok tt) (λ e. r ≡ Err (WriteError e))
@@ -224,6 +234,7 @@ module _ {F E : Type 0} (step : F → List ℕ → Result (Unit {0}) E → F →
             (complete_bytes u) (joined_pieces (h.run ++ call ∷ [])) refl (y, called_wait q y h w) w.answer);
       }
 
+  -- flushing the bytes that are held does not change what is left over
   flushed_left : (d d' : State F) (r : Result (Unit {0}) (DecodeError E)) (held : List ℕ) → Flushes step d held r d'
       → left_over d' ≡ left_over d
   flushed_left d d' r [] f = ap left_over f.1
@@ -344,6 +355,7 @@ module _ {F E : Type 0} (step : F → List ℕ → Result (Unit {0}) E → F →
 
 -- Symbols that are held
 
+-- the bytes of the groups of q ++ k are those of q, and then those of what is left over of q followed by k
 values_wait : (q k : List ℕ) → groups (map symbol_value (q ++ k)) ≡ groups (map symbol_value q) ++ groups
     (map symbol_value (after_groups q ++ k))
 values_wait q k = grind (arith, map-append, groups-append, after_groups-map)
@@ -370,6 +382,7 @@ row_adds d q row every all some is_p going =
     ))
     refl (after_groups-append q k) (is_p ∙ ap (λ p. min (p + 0) 3) (sym is_p)) going
 
+-- what is left over of at least 64 items is what is left over of those after the first 64
 rest_after : (q : List ℕ) → 64 ≤ length q → after_groups q ≡ after_groups (drop 64 q)
 rest_after q long = let none : after_groups (take 64 q) ≡ [] =
     no_items (after_groups (take 64 q))

@@ -10,7 +10,8 @@ use Rattle.std.proofs.lemmas.Bool.{not-true, not_from_false, and_from, and_right
 use Rattle.std.proofs.lemmas.Bool.{false_from_ne_true, agree_below_at, and_parts}
 use Rattle.data_url.specs.Base64.{before_place, first_fault, is_fault, is_symbol, is_valid, without_padding}
 use Rattle.data_url.specs.Base64.{without_last_padding, Kind}
-use Rattle.data_url.specs.declared.forgiving_base64.InvalidBase64Details.TheVariants.{AlphabetSymbolAfterPadding, LoneAlphabetSymbol, Padding}
+use Rattle.data_url.specs.declared.forgiving_base64.InvalidBase64Details.TheVariants.{AlphabetSymbolAfterPadding}
+use Rattle.data_url.specs.declared.forgiving_base64.InvalidBase64Details.TheVariants.{LoneAlphabetSymbol, Padding}
 use Rattle.data_url.specs.Base64.{after_groups, without_whitespace, complete_bytes}
 use Rattle.data_url.specs.declared.forgiving_base64.InvalidBase64Details.TheVariants.{UnexpectedSymbol}
 use Rattle.data_url.specs.Base64.{groups, kind_at, kind_of, values}
@@ -185,6 +186,7 @@ module _ (space pad symbol : ℕ → Bool) where
   module _ (classes : (c : ℕ) → Class (space c) (pad c) (symbol c)) where
     -- Texts without white space
 
+    -- whether a byte is not whitespace
     abbrev is_not_space : ℕ → Bool
     is_not_space c = not (space c)
 
@@ -275,10 +277,12 @@ abbrev IsLeast : (ℕ → Bool) → ℕ → ℕ → Option ℕ → Type 0
 IsLeast p a e None = (i : ℕ) → a ≤ i → i < e → p i ≡ false
 IsLeast p a e (Some i) = (a ≤ i) × (i < e) × (p i ≡ true) × ((k : ℕ) → a ≤ k → k < i → p k ≡ false)
 
+-- a search of the n indices from a on finds the smallest one that passes, or none if none passes
 find_least : (p : ℕ → Bool) (n a e : ℕ) → e ≡ a + n → IsLeast p a e (find p (range_with_len a n))
 find_least p zero a e q = λ i l m. absurd (omega arith)
 find_least p (suc n) a e q = grind (arith, find_least p n (a + 1) e (omega arith))
 
+-- the smallest index below the length of a text at which there is a fault, or none, is its first fault
 least_is : (b : List ℕ) (o : Option ℕ) → IsLeast (is_fault b) 0 (length b) o → IsFirstFault b o
 least_is b None h = λ i l. h i (omega arith) l
 least_is b (Some i) (l, m, t, f) = (m, t, λ k n. f k (omega arith) n)
@@ -306,6 +310,7 @@ without_pad_symbols [] h = refl
 without_pad_symbols (a ∷ []) h = grind (arith, false≢true)
 without_pad_symbols (a ∷ b ∷ t) h = ap (λ x. a ∷ x) (without_pad_symbols (b ∷ t) h.1)
 
+-- putting a byte before a text that ends with '=' does not change how this '=' is removed
 without_pad_more : (a : ℕ) (t : List ℕ) → without_last_padding (a ∷ t ++ 61 ∷ []) ≡ a ∷ without_last_padding
     (t ++ 61 ∷ [])
 unfolding without_last_padding
@@ -329,10 +334,12 @@ without_pad_pads q n = grind (arith, replicate_push, append_assoc, without_pad_p
 
 -- Symbols and padding
 
+-- if every byte is a symbol, `list_all is_symbol` is true
 list_all_every : (q : List ℕ) → Every is_symbol q → list_all is_symbol q ≡ true
 list_all_every [] h = refl
 list_all_every (a ∷ t) h = and_from (is_symbol a) (list_all is_symbol t) h.0 (list_all_every t h.1)
 
+-- a text with at least one '=' at its end does not have only symbols
 list_all_pads : (q : List ℕ) (n : ℕ) → list_all is_symbol (q ++ replicate (suc n) 61) ≡ false
 list_all_pads [] n = refl
 list_all_pads (a ∷ t) n = and_right (is_symbol a) (list_all is_symbol (t ++ replicate (suc n) 61)) (list_all_pads t n)
@@ -341,36 +348,46 @@ list_all_pads (a ∷ t) n = and_right (is_symbol a) (list_all is_symbol (t ++ re
 abbrev passes : List ℕ → Bool
 passes u = not (eqb (length u % 4) 1) && list_all is_symbol u
 
+-- a text of symbols passes exactly if its length modulo four is not one
 passes_symbols : (q : List ℕ) (r : Bool) → Every is_symbol q → not (eqb (length q % 4) 1) ≡ r → passes q ≡ r
 passes_symbols q r h e = grind (arith, list_all_every)
 
+-- a text with at least one '=' at its end does not pass
 passes_pads : (q : List ℕ) (n : ℕ) → passes (q ++ replicate (suc n) 61) ≡ false
 passes_pads q n = grind (arith, list_all_pads)
 
+-- if w does not pass, the choice between u and w passes exactly if it is u, and u passes
 passes_cond : (t r : Bool) (u w : List ℕ) → passes w ≡ false → (t ≡ true → passes u ≡ r) → (t ≡ false → r ≡ false)
     → passes (cond t u w) ≡ r
 passes_cond true r u w h good bad = good refl
 passes_cond false r u w h good bad = h ∙ sym (bad refl)
 
+-- a text of symbols stays as it is without its padding
 unpadded_symbols : (q : List ℕ) → Every is_symbol q → without_padding q ≡ q
 unfolding without_padding
 unpadded_symbols q h = grind (arith, without_pad_symbols)
 
+-- the length of q and then n times '=' is that of q, plus n
 length_pads : (q : List ℕ) (n : ℕ) → length (q ++ replicate n 61) ≡ length q + n
 length_pads q n = length-append q (replicate n 61) ∙ ap (λ x. length q + x) (length-replicate n 61)
 
+-- if k + 1 is a multiple of four, k modulo four is not one exactly if it is three
 one_true : (k m : ℕ) → m ≡ k + 1 → eqb (m % 4) 0 ≡ true → not (eqb (k % 4) 1) ≡ eqb (k % 4) 3
 one_true k m l e = grind arith
 
+-- if k + 1 is not a multiple of four, k modulo four is not three
 one_false : (k m : ℕ) → m ≡ k + 1 → eqb (m % 4) 0 ≡ false → eqb (k % 4) 3 ≡ false
 one_false k m l e = ne_eqb (k % 4) 3 (λ h. eqb-false (m % 4) 0 e (omega (arith, h)))
 
+-- if k + 2 is a multiple of four, k modulo four is not one exactly if it is two
 two_true : (k m : ℕ) → m ≡ k + 2 → eqb (m % 4) 0 ≡ true → not (eqb (k % 4) 1) ≡ eqb (k % 4) 2
 two_true k m l e = grind arith
 
+-- if k + 2 is not a multiple of four, k modulo four is not two
 two_false : (k m : ℕ) → m ≡ k + 2 → eqb (m % 4) 0 ≡ false → eqb (k % 4) 2 ≡ false
 two_false k m l e = ne_eqb (k % 4) 2 (λ h. eqb-false (m % 4) 0 e (omega (arith, h)))
 
+-- symbols and then one '=' pass, without their padding, exactly if one '=' fits their number
 one_passes : (q : List ℕ) → Every is_symbol q → passes (without_padding (q ++ replicate 1 61)) ≡ fits_with
     (length q % 4) 1
 unfolding without_padding
@@ -385,6 +402,7 @@ one_passes q h = passes_cond (eqb (length (q ++ replicate 1 61) % 4) 0) _
     ))
     (λ e. one_false (length q) _ (length_pads q 1) e)
 
+-- symbols and then two '=' pass, without their padding, exactly if two '=' fit their number
 two_passes : (q : List ℕ) → Every is_symbol q → passes (without_padding (q ++ replicate 2 61)) ≡ fits_with
     (length q % 4) 2
 unfolding without_padding
@@ -399,10 +417,12 @@ two_passes q h = passes_cond (eqb (length (q ++ replicate 2 61) % 4) 0) _
     ))
     (λ e. two_false (length q) _ (length_pads q 2) e)
 
+-- a text with three or more '=' at its end does not pass without its padding
 more_passes : (q : List ℕ) (n : ℕ) → passes (without_padding (q ++ replicate (suc (suc (suc n))) 61)) ≡ false
 unfolding without_padding
 more_passes q n = search (arith, passes_cond, passes_pads, without_pad_pads)
 
+-- symbols and then p times '=' pass, without their padding, exactly if p times '=' fit their number
 symbols_pads_pass : (q : List ℕ) (p : ℕ) → Every is_symbol q → passes (without_padding (q ++ replicate p 61))
     ≡ fits_with (length q % 4) p
 symbols_pads_pass q zero h = grind (arith, append-nil, unpadded_symbols, passes_symbols)
@@ -417,6 +437,7 @@ symbols_pads_valid b q p h = ap (λ x. passes (without_padding x)) h.compact_is 
 
 -- The numbers that fit
 
+-- if `fits_with` is true, p times '=' fit k symbols
 fits_from : (k p : ℕ) → fits_with (k % 4) p ≡ true → Fits k p
 fits_from k zero e = inl (refl, eqb-false (k % 4) 1 (not-true (eqb (k % 4) 1) e))
 fits_from k (suc zero) e = inr (inl (refl, eqb-true (k % 4) 3 e))
@@ -442,10 +463,11 @@ padding_fits b q p h = (
 abbrev pub is_pad : ℕ → Bool
 is_pad c = eqb c 61
 
+-- a byte of whitespace is below 33
 whitespace_low : (c : ℕ) → is_ascii_whitespace c ≡ true → c < 33
 whitespace_low c e = grind arith
 
--- each byte is in at most one class
+-- a whitespace byte is neither padding nor a symbol
 at_space : (c : ℕ) → is_ascii_whitespace c ≡ true → Class true (is_pad c) (is_symbol c)
 at_space c e =
     let low : c < 33 = whitespace_low c e in
@@ -455,6 +477,7 @@ at_space c e =
     c refl low) in
     subst (λ y. Class true y (is_symbol c)) (sym pad) (subst (λ z. Class true false z) (sym symbol) of_space)
 
+-- a byte that is neither whitespace nor '=' is in at most one class
 at_symbol : (z : Bool) → Class false false z
 at_symbol true = of_symbol
 at_symbol false = of_none
@@ -483,22 +506,27 @@ abbrev pub kind_by : ℕ → Option ℕ → Kind
 kind_by n None = cond (eqb (n % 4) 1) LoneAlphabetSymbol Padding
 kind_by n (Some c) = cond (is_symbol c) AlphabetSymbolAfterPadding (UnexpectedSymbol c)
 
+-- the first fault of a text is the place where a walk over the text stops
 first_fault_walk : (b : List ℕ) → first_fault b ≡ stop_place is_ascii_whitespace is_pad is_symbol 0 false b
 unfolding first_fault
 first_fault_walk b = find_walk is_ascii_whitespace is_pad is_symbol [] b
 
+-- the byte at the first fault of a text is `fault_byte`
 byte_is : (b : List ℕ) → byte_at is_ascii_whitespace is_pad is_symbol b (first_fault b) ≡ fault_byte false b
 unfolding fault_byte
 byte_is b = cc (first_fault_walk b, byte_walk is_ascii_whitespace is_pad is_symbol [] b 0 false refl)
 
+-- there is a byte at a place exactly if there is a place
 some_byte : (b : List ℕ) (o : Option ℕ) → is_some o ≡ is_some (byte_at is_ascii_whitespace is_pad is_symbol b o)
 some_byte b None = refl
 some_byte b (Some i) = refl
 
+-- if there is no byte at a place, there is no place
 none_byte : (b : List ℕ) (o : Option ℕ) → byte_at is_ascii_whitespace is_pad is_symbol b o ≡ None → o ≡ None
 none_byte b None e = refl
 none_byte b (Some i) e = absurd (cc)
 
+-- the kind at a place follows from the byte at the place and the number of symbols
 kind_byte : (b : List ℕ) (o : Option ℕ)
     → kind_at b o ≡ kind_by (length (values b)) (byte_at is_ascii_whitespace is_pad is_symbol b o)
 kind_byte b None = refl
@@ -598,6 +626,7 @@ symbols_of_pads n = filter_pads is_ascii_whitespace is_pad is_symbol classes n 6
 pub symbols_of_text : (q : List ℕ) (n : ℕ) → Every is_symbol q → filter is_symbol (q ++ replicate n 61) ≡ q
 symbols_of_text q n h = grind (arith, filter-append, symbols_of_pads, append-nil, filter_all)
 
+-- the padding of n times '=' is n times '='
 pads_of_pads : (n : ℕ) → filter is_pad (replicate n 61) ≡ replicate n 61
 pads_of_pads zero = refl
 pads_of_pads (suc n) = ap (λ (x : List ℕ). 61 ∷ x) (pads_of_pads n)
@@ -619,6 +648,7 @@ any_of_text q n h = list_any-append is_pad q (replicate n 61) ∙ ap (λ x. x ||
 
 -- Validity
 
+-- the padding of a text is '=', as many times as the text has it
 pads_are : (b : List ℕ) → filter is_pad b ≡ replicate (length (filter is_pad b)) 61
 pads_are [] = refl
 pads_are (c ∷ t) = grind (arith, pads_are t)
@@ -644,10 +674,12 @@ data Cut : List ℕ → List ℕ → Type 0 where
   same : {s : List ℕ} → Cut s s
   pad : {s : List ℕ} → Cut (s ++ 61 ∷ []) s
 
+-- `Cut s u` stays true if a byte is put before both texts
 Cut-more : (c : ℕ) (s u : List ℕ) → Cut s u → Cut (c ∷ s) (c ∷ u)
 Cut-more c s u same = same
 Cut-more c s u pad = pad
 
+-- `without_last_padding s` is s, or s without one '=' at its end
 cut_is : (s : List ℕ) → Cut s (without_last_padding s)
 unfolding without_last_padding
 cut_is [] = same
@@ -663,6 +695,7 @@ cut_none : {s u : List ℕ} → Cut s u → fault_byte false u ≡ None → faul
 cut_none {s} {u} same h = h
 cut_none {s} {u} pad h = fault-append u (61 ∷ []) false h ∙ fault_pads 1 (list_any is_pad u)
 
+-- if a text without its padding has no fault, neither has the text
 unpadded_none : (s : List ℕ) → fault_byte false (without_padding s) ≡ None → fault_byte false s ≡ None
 unfolding without_padding
 unpadded_none s =
@@ -672,9 +705,11 @@ unpadded_none s =
       | false ↦ λ h. h
     ]
 
+-- a text of symbols has no fault
 fault_every : (q : List ℕ) → Every is_symbol q → fault_byte false q ≡ None
 fault_every q h = ap (fault_byte false) (sym (append-nil q)) ∙ fault_text q 0 h
 
+-- removing the whitespace of a text does not change the byte at its first fault
 fault_compact : (b : List ℕ) → fault_byte false (without_whitespace b) ≡ fault_byte false b
 unfolding fault_byte without_whitespace
 fault_compact b = stop_compact is_ascii_whitespace is_pad is_symbol classes b false
@@ -696,6 +731,7 @@ fault_invalid b x h = false_from_ne_true (is_valid b) (λ v. absurd (some_not_no
 
 -- Groups of four
 
+-- a number plus four is equal to the number modulo four
 four_more : (n : ℕ) → n % 4 ≡ suc (suc (suc (suc n))) % 4
 four_more n = omega arith
 

@@ -30,22 +30,26 @@ use Rattle.data_url.proofs.escapes.Marks.{drop_taken}
 
 -- Clear bits
 
+-- the items of a mapped list whose bits are clear are those of the list, mapped
 clear_map : (f : ℕ → ℕ) (xs : List ℕ) (m : ℕ) → clear (map f xs) m ≡ map f (clear xs m)
 clear_map f [] m = refl
 clear_map f (x ∷ xs) m = grind (arith, clear_map f xs (m / 2))
 
+-- the bytes whose bits are clear in the mask of the bytes that are no symbols are the symbols
 clear_mask : (v : List ℕ) → clear v (others_mask v) ≡ filter is_symbol v
 clear_mask [] = refl
 clear_mask (x ∷ v) = grind (arith, clear_mask v)
 
 -- The table of places
 
+-- whether two lists are equal
 abbrev alike : List ℕ → List ℕ → Bool
 alike [] [] = true
 alike [] (y ∷ ys) = false
 alike (x ∷ xs) [] = false
 alike (x ∷ xs) (y ∷ ys) = eqb x y && alike xs ys
 
+-- if the test of equality is true, two lists are equal
 alike_same : (xs ys : List ℕ) → alike xs ys ≡ true → xs ≡ ys
 alike_same [] [] h = refl
 alike_same [] (y ∷ ys) h = absurd (true≢false (sym h))
@@ -54,13 +58,16 @@ alike_same (x ∷ xs) (y ∷ ys) h =
     let p = and_parts (eqb x y) (alike xs ys) h in
     ap₂ (λ a (b : List ℕ). a ∷ b) (eqb-true x y p.0) (alike_same xs ys p.1)
 
+-- the 16 entries of the table of places from the row of b on
 abbrev places : ℕ → List ℕ
 places b = take 16 (drop (8 * b) CLEAR_PLACES)
 
+-- whether the row of b has the places of its clear bits first, all below 8, and b has at most eight ones
 abbrev is_right : ℕ → Bool
 is_right b = alike (take (8 - count_ones b) (places b)) (clear (range_with_len 0 8) b) && (list_all (λ p. ltb p 8)
     (places b) && ltb (count_ones b) 9)
 
+-- the row of each byte has the places of its clear bits first, all below 8, and a byte has at most eight ones
 right : (b : ℕ) → b < 256 → is_right b ≡ true
 unfolding count_ones
 right b l = agree_below_at is_right (λ b. true) 256 b refl l
@@ -69,6 +76,7 @@ right b l = agree_below_at is_right (λ b. true) 256 b refl l
 pub places_clear : (b : ℕ) → b < 256 → take (8 - count_ones b) (places b) ≡ clear (range_with_len 0 8) b
 places_clear b l = grind (arith, alike_same, right)
 
+-- if the test that all items are below 8 is true, each item is below 8
 each_below : (v : List ℕ) → list_all (λ p. ltb p 8) v ≡ true → Each1 (λ p. p < 8) v
 each_below [] h = tt
 each_below (x ∷ v) h = let p = and_parts (ltb x 8) (list_all (λ p. ltb p 8) v) h in (ltb-true x 8 p.0, each_below v p.1)
@@ -86,6 +94,7 @@ ones_few b l = ltb-true (count_ones b) 9 (and_parts (list_all (λ p. ltb p 8) (p
 
 -- Half a row
 
+-- the sum of two bytes, modulo 256
 abbrev add8 : ℕ → ℕ → ℕ
 add8 a b = (a + b) % 256
 
@@ -96,15 +105,18 @@ places_below v from long l h {js} e =
     let P : List ℕ → Type 0 = λ l. Each1 (λ j. j < 16) l in
     subst P (sym e) (each v h)
   where
+    -- if all items are below 8, they are below 16 after `from` is added
     each : (v : List ℕ) → Each1 (λ p. p < 8) v → Each1 (λ j. j < 16) (map (λ p. add8 p from) v)
     each [] h = tt
     each (x ∷ v) h = (omega (arith, h.0, l), each v h.1)
 
+-- if all items are below 16, so is the item at any index, which is zero past the end
 below_at : (v : List ℕ) (i : ℕ) → Each1 (λ j. j < 16) v → get_or v i 0 < 16
 below_at [] i h = omega arith
 below_at (x ∷ v) zero h = h.0
 below_at (x ∷ v) (suc i) h = below_at v i h.1
 
+-- for 16 indices below 16, a swizzle looks up the item at each index
 looked_at : (t js : List ℕ) → length js ≡ 16 → Each1 (λ j. j < 16) js → swz_l w8 16 t 0 js ≡ map (λ j. get_or t j 0) js
 looked_at t js long small = ext_get_or 0 _ _ (length-swz_l w8 16 t 0 js
     ∙ sym (length-map js (λ j. get_or t j 0))) (λ i h.
@@ -113,11 +125,13 @@ looked_at t js long small = ext_get_or 0 _ _ (length-swz_l w8 16 t 0 js
     let place : 16 * ((0 + i) / 16) + get_or js i 0 ≡ get_or js i 0 = omega arith in
     cc (get_or-swz_l_below w8 16 t 0 js i (omega arith) below, get_or-map (λ j. get_or t j 0) js i 0 0 (omega arith)))
 
+-- two functions that agree on a range give equal lists for it
 map_range : (f g : ℕ → ℕ) (a n : ℕ) → ((k : ℕ) → a ≤ k → k < a + n → f k ≡ g k)
     → map f (range_with_len a n) ≡ map g (range_with_len a n)
 map_range f g a zero h = refl
 map_range f g a (suc n) h = grind (arith, map_range f g (a + 1) n (λ k p q. h k (omega arith) (omega arith)))
 
+-- the eight bytes of a row from an index on, looked up one by one, are the half row that begins there
 half_is : (row : List ℕ) (from : ℕ) → length row ≡ 16 → from ≤ 8
     → map (λ p. get_or row (add8 p from) 0) (range_with_len 0 8) ≡ take 8 (drop from row)
 half_is row from long l =
@@ -143,12 +157,14 @@ half_clear row v js from bits c long wide l small is e =
     ∙ sym (clear_map look (range_with_len 0 8) bits)
     ∙ ap (λ l. clear l bits) (half_is row from long l)
   where
+    -- mapping g and then f is mapping both at once
     map_both : (f g : ℕ → ℕ) (xs : List ℕ) → map f (map g xs) ≡ map (λ x. f (g x)) xs
     map_both f g [] = refl
     map_both f g (x ∷ xs) = ap (λ r. f (g x) ∷ r) (map_both f g xs)
 
 -- Two halves
 
+-- if a is below 256, a + 256 * b has the remainder a and the quotient b when it is divided by 256
 half_sum : (a b : ℕ) → a < 256 → ((a + 256 * b) % 256 ≡ a) × ((a + 256 * b) / 256 ≡ b)
 half_sum a b l = (omega arith, omega arith)
 
@@ -179,9 +195,11 @@ two_halves front row others long e p q = grind (arith, append_assoc, row_clear)
 
 -- White space alone between symbols
 
+-- the low four bits of a byte
 abbrev low : ℕ → ℕ
 low b = bit_and b 15
 
+-- the entry of `SPACES` at the low four bits of a byte
 abbrev space_entry : ℕ → ℕ
 space_entry b = get_or SPACES (low b) 0
 
@@ -199,6 +217,7 @@ spaces_are v js long fits e =
       mask_l-mod (map is_ascii_whitespace v) 64 (omega (arith, length-map v is_ascii_whitespace)),
     )
 
+-- if the masks of not s and then m, and of w and then n, are equal, s or w is true, and m is n
 first_bits : (s w : Bool) (m n : ℕ) → cond (not s) 1 0 + 2 * m ≡ cond w 1 0 + 2 * n → ((s || w) ≡ true) × (m ≡ n)
 first_bits true true m n e = (refl, omega (arith, e))
 first_bits true false m n e = (refl, omega (arith, e))
@@ -212,6 +231,7 @@ only_spaces [] e = refl
 only_spaces (b ∷ v) e = let p = first_bits (is_symbol b) (is_ascii_whitespace b) (others_mask v)
     (mask_l (map is_ascii_whitespace v)) e in ap₂ (λ s t. s && t) p.0 (only_spaces v p.1)
 
+-- if the mask of not s and then m is zero, s is true, and m is zero
 no_bit : (s : Bool) (m : ℕ) → cond (not s) 1 0 + 2 * m ≡ 0 → (s ≡ true) × (m ≡ 0)
 no_bit true m e = (refl, omega (arith, e))
 no_bit false m e = absurd (omega (arith, e))
@@ -269,6 +289,7 @@ moved old b1 b2 b3 b4 w x y z len few many p q r s d e f g =
 
 -- four rows
 
+-- if x and y have only symbols and whitespace, so has x ++ y
 both_spaced : (x y : List ℕ) → list_all is_symbol_or_space x ≡ true → list_all is_symbol_or_space y ≡ true
     → list_all is_symbol_or_space (x ++ y) ≡ true
 both_spaced x y m n = list_all-append is_symbol_or_space x y ∙ ap₂ (λ s t. s && t) m n
@@ -311,7 +332,7 @@ four_added text r1 r2 r3 q0 q1 q2 q3 q4 d e f p q r s =
       filter-append is_symbol (take 16 (drop 32 text)) (take 16 (drop 48 text)),
     )
 
--- the symbols in no whole group
+-- a list of length zero is empty
 no_items : (l : List ℕ) → length l ≡ 0 → l ≡ []
 no_items [] e = refl
 no_items (b ∷ l) e = absurd (omega arith)
@@ -351,11 +372,13 @@ three_last s len long few =
     ∙ ap (λ n. drop (n / 4 * 4) (take len s)) (sym whole)
     ∙ sym (after_is (take len s))
   where
+    -- two lists of three items are equal if their items are
     items : {a b c x y z : ℕ} → a ≡ x → b ≡ y → c ≡ z → ◌≡◌ {A = List ℕ} (a ∷ b ∷ c ∷ []) (x ∷ y ∷ z ∷ [])
     items p q r = cc
 
 -- The bytes of the first groups
 
+-- each byte of a text of symbols is at most 255
 fits_symbols : (s : List ℕ) → list_all is_symbol s ≡ true → (i : ℕ) → Fits w8 (get_or s i 0)
 fits_symbols [] h i = record { fits = omega arith }
 fits_symbols (b ∷ s) h zero = grind (arith, and_parts)

@@ -7,7 +7,9 @@ use Rattle.std.specs.List.{filter, list_any}
 use Rattle.std.proofs.lemmas.List.{append-nil, length-map, length-replicate, take-append-drop}
 use Rattle.std.proofs.lemmas.List.Elements.{filter-append}
 use Rattle.std.proofs.lemmas.Bool.{false≢true, true≢false}
-use Rattle.data_url.specs.declared.forgiving_base64.InvalidBase64Details.TheVariants.{AlphabetSymbolAfterPadding, LoneAlphabetSymbol, Padding, UnexpectedSymbol}
+use Rattle.data_url.specs.declared.forgiving_base64.InvalidBase64Details.TheVariants.{AlphabetSymbolAfterPadding}
+use Rattle.data_url.specs.declared.forgiving_base64.InvalidBase64Details.TheVariants.{LoneAlphabetSymbol, Padding}
+use Rattle.data_url.specs.declared.forgiving_base64.InvalidBase64Details.TheVariants.{UnexpectedSymbol}
 use Rattle.data_url.specs.Base64.{after_groups, decoded, complete_bytes, first_fault, group_bytes, group_number, groups}
 use Rattle.data_url.specs.Base64.{is_symbol, is_valid, kind_of, left_padding, left_symbols, left_text, rest_bytes}
 use Rattle.data_url.specs.Base64.{symbol_value, values}
@@ -116,11 +118,13 @@ module _ (q : List ℕ) (p : ℕ) (every : Every is_symbol q) where
 
 -- One byte, by its class
 
+-- whether one byte alone is a fault follows from its classes, and from whether there is padding before it
 fault_one : (c : ℕ) (s x y z : Bool) → is_ascii_whitespace c ≡ x → is_pad c ≡ y → is_symbol c ≡ z
     → fault_byte s (c ∷ []) ≡ cond (bad x y z s) (Some c) None
 unfolding fault_byte
 fault_one c s x y z e f g = grind arith
 
+-- a filter keeps the one item of a list exactly if the item passes
 filter_one : (p : ℕ → Bool) (c : ℕ) (v : Bool) → p c ≡ v → filter p (c ∷ []) ≡ cond v (c ∷ []) []
 filter_one p c v e = ap (λ w. cond w (c ∷ []) []) e
 
@@ -164,17 +168,21 @@ has_pad_some (suc p) h = refl
 
 -- Groups of four and what is left over, written out
 
+-- the bytes of four values are those of their group
 four_groups : (a b c e : ℕ) → groups (a ∷ b ∷ c ∷ e ∷ []) ≡ group_bytes (group_number a b c e)
 unfolding groups
 four_groups a b c e = refl
 
+-- nothing is left over of four values
 four_after : (a b c e : ℕ) → after_groups (a ∷ b ∷ c ∷ e ∷ []) ≡ []
 unfolding after_groups
 four_after a b c e = refl
 
+-- the minimum of a number of at most three, plus zero, and three is the number
 min_same : (p : ℕ) → p ≤ 3 → p ≡ min (p + 0) 3
 min_same p h = omega arith
 
+-- the empty text has no fault
 fault_nil : (s : Bool) → fault_byte s [] ≡ None
 unfolding fault_byte
 fault_nil s = refl
@@ -356,6 +364,7 @@ module _ {F E : Type 0} (step : F → List ℕ → Result (Unit {0}) E → F →
 
   -- The end
 
+  -- a text of length zero is empty
   no_items : (s : List ℕ) → length s ≡ 0 → s ≡ []
   no_items [] h = refl
   no_items (a ∷ s) h = absurd (omega arith)
@@ -367,6 +376,7 @@ module _ {F E : Type 0} (step : F → List ℕ → Result (Unit {0}) E → F →
   flushes_nothing d (suc zero) every count few valid = grind (arith, valid_left)
   flushes_nothing d (suc (suc k)) every count few valid = absurd (omega arith)
 
+  -- if what is left over is valid and decodes to the bytes, flushing them finishes d
   flushed_finishes : (d d' : State F) {r : Result (Unit {0}) (DecodeError E)} (bytes : List ℕ)
       → bytes ≡ decoded (left_over d) → is_valid (left_over d) ≡ true → Flushes step d bytes r d'
       → Finishes step d r d'.closure
@@ -397,6 +407,7 @@ pub record Took {F : Type 0} (u bytes : List ℕ) (d : State F) : Type 0 where
 
 -- An error in a, whatever follows
 
+-- with or without a fault in u, the complete bytes of u are a prefix of those of u ++ b
 done_cases : (u b : List ℕ) (o : Option ℕ) → fault_byte false u ≡ o
     → IsPrefix (complete_bytes u) (complete_bytes (u ++ b))
 done_cases u b None h =
@@ -408,6 +419,7 @@ done_cases u b (Some c) h = prefix_all (complete_bytes u) (complete_bytes (u ++ 
 pub done_begins : (u b : List ℕ) → IsPrefix (complete_bytes u) (complete_bytes (u ++ b))
 done_begins u b = done_cases u b (fault_byte false u) refl
 
+-- if the bytes and the error are those of a fault in u, they are those of the fault in u ++ b
 taken_cases : {F E : Type 0} (u b bytes : List ℕ) (x : DecodeError E) (d : State F) (o : Option ℕ)
     → fault_byte false u ≡ o → IsTaken u bytes (Err x) d → IsTaken (u ++ b) bytes (Err x) d
 taken_cases u b bytes x d None h t = grind (arith, none_fault)
@@ -424,6 +436,7 @@ taken_cases u b bytes x d (Some c) h t = record {
       t.answer;
 }
 
+-- if a decoder holds what is left over of u, its left-over text is the left-over symbols and padding of u
 left_over_is : {F : Type 0} {d : State F} (u : List ℕ) → IsLeft u d
     → left_over d ≡ left_text (left_symbols u) (left_padding u)
 left_over_is {d = d} u h = grind arith

@@ -63,6 +63,7 @@ space_is b l = agree_below_at std_whitespace is_ascii_whitespace 256 b refl l
 
 -- Lanes that are computed from v
 
+-- joining two lists that are computed from xs, item by item, is computing the joined items from xs
 zip2-map : (h : ℕ → ℕ → ℕ) (f g : ℕ → ℕ) (xs : List ℕ) → zip2 h (map f xs) (map g xs) ≡ map (λ x. h (f x) (g x)) xs
 zip2-map h f g [] = refl
 zip2-map h f g (x ∷ xs) = ap (λ r. h (f x) (g x) ∷ r) (zip2-map h f g xs)
@@ -82,6 +83,7 @@ pub itself : (v : List ℕ) → v ≡ map (λ x. x) v
 itself [] = refl
 itself (x ∷ xs) = ap (λ r. x ∷ r) (itself xs)
 
+-- choosing between two lists that are computed from xs is computing the chosen items from xs
 chosen-map : (t : ℕ → Bool) (f g : ℕ → ℕ) (xs : List ℕ) → sel_l (map t xs) (map f xs) (map g xs) ≡ map
     (λ x. cond (t x) (f x) (g x)) xs
 chosen-map t f g [] = refl
@@ -108,6 +110,7 @@ places_ok g v js long e small fits =
     SwzOk-from_below w8 16 1 16 0 js refl (omega (arith, ap length e, length-map v g))
     (subst P (sym e) (each_small v fits))
   where
+    -- the indices that are computed from bytes are below 16
     each_small : (l : List ℕ) → Each1 (Fits w8) l → Each1 (λ j. j < 16) (map g l)
     each_small [] h = tt
     each_small (x ∷ xs) h = (small x h.0.fits, each_small xs h.1)
@@ -138,6 +141,7 @@ value_is b l s =
     (λ b. true) 256 b refl l in
     eqb-true (value_of b) (symbol_value b) (sym (ap (λ t. cond t (eqb (value_of b) (symbol_value b)) true) s) ∙ same)
 
+-- `value_of` is below 64 for each number
 value_below : (b : ℕ) → value_of b < 64
 value_below b = omega (arith, and_le_r ((b + get_or OFFSETS (offset_row b) 0) % 256) 63)
 
@@ -148,6 +152,7 @@ values_below (b ∷ v) = (value_below b, values_below v)
 
 -- Numbers of groups
 
+-- if all items are below 64, so is the item at any index, which is zero past the end
 below_at : (v : List ℕ) (i : ℕ) → Each1 (λ x. x < 64) v → get_or v i 0 < 64
 below_at [] i h = omega arith
 below_at (x ∷ xs) zero h = h.0
@@ -157,12 +162,15 @@ below_at (x ∷ xs) (suc i) h = below_at xs i h.1
 abbrev pub row : (ℕ → ℕ) → List ℕ
 row f = map f (range_with_len 0 16)
 
+-- the items of a list of 16, written out by their indices, are the list
 row_is : (v : List ℕ) → length v ≡ 16 → row (λ k. get_or v k 0) ≡ v
 row_is v long = pick_l_whole 0 v 16 long
 
+-- the sum of two numbers, modulo 2 ^ 32
 abbrev add32 : ℕ → ℕ → ℕ
 add32 a b = (a + b) % 2 ^ 32
 
+-- a, shifted to the left by b bits, modulo 2 ^ 32
 abbrev shl32 : ℕ → ℕ → ℕ
 shl32 a b = a * 2 ^ b % 2 ^ 32
 
@@ -175,6 +183,7 @@ computed v =
     (12 ∷ 12 ∷ 12 ∷ 12 ∷ []))
     (pair_sums (pair_sums (products v (0 ∷ 0 ∷ 64 ∷ 1 ∷ 0 ∷ 0 ∷ 64 ∷ 1 ∷ 0 ∷ 0 ∷ 64 ∷ 1 ∷ 0 ∷ 0 ∷ 64 ∷ 1 ∷ []))))
 
+-- from a row of values below 64 that is written out, lanes compute the numbers of its groups
 numbers_row : (f : ℕ → ℕ) → ((k : ℕ) → f k < 64) → computed (row f) ≡ numbers (row f)
 numbers_row f h = grind arith
 
@@ -191,13 +200,16 @@ abbrev pub packed : List ℕ → List ℕ
 packed ns = take 12 (pick_l 0 (digits_l 256 16 (number_l 4294967296 ns))
     (2 ∷ 1 ∷ 0 ∷ 6 ∷ 5 ∷ 4 ∷ 10 ∷ 9 ∷ 8 ∷ 14 ∷ 13 ∷ 12 ∷ 15 ∷ 15 ∷ 15 ∷ 15 ∷ []))
 
+-- three bytes of a number below 2 ^ 24, the most significant one first, are those of a group of that number
 group_same : {x y z : ℕ} (n : ℕ) {r s : List ℕ} → n < 16777216 → x ≡ n / 256 ^ 2 % 256 → y ≡ n / 256 ^ 1 % 256
     → z ≡ n / 256 ^ 0 % 256 → r ≡ s → x ∷ y ∷ z ∷ r ≡ group_bytes n ++ s
 group_same {x} {y} {z} n {r} {s} l p q o e = grind arith
 
+-- the number of a group of four values below 64 is below 2 ^ 24
 number_lt : (a b c d : ℕ) → a < 64 → b < 64 → c < 64 → d < 64 → group_number a b c d < 16777216
 number_lt a b c d p q r s = omega arith
 
+-- the bytes packed from the numbers of a row of values below 64, written out, are those of its groups
 packed_row : (f : ℕ → ℕ) → ((k : ℕ) → f k < 64) → packed (numbers (row f)) ≡ groups (row f)
 unfolding groups
 packed_row f h =
@@ -272,6 +284,7 @@ split_block text = take-add 48 16 text ∙ ap (λ x. x ++ take 16 (drop 48 text)
 
 -- The mask of a row
 
+-- 2 ^ (n + 1) * m is twice 2 ^ n * m
 pow_more : (n m : ℕ) → 2 ^ suc n * m ≡ 2 * (2 ^ n * m)
 pow_more n m = rw (pow-succ' 2 n) (omega arith)
 
@@ -288,10 +301,12 @@ others_mask v = mask_l (map is_other v)
 pub mask_lt : (v : List ℕ) → length v ≡ 16 → others_mask v < 65536
 mask_lt v long = grind (arith, length-map, mask_l-lt)
 
+-- the negation of the negation of b is b
 not_not : (b : Bool) → not (not b) ≡ b
 not_not true = refl
 not_not false = refl
 
+-- negating a test twice does not change how long the longest prefix that passes is
 prefix_not_not : (p : ℕ → Bool) (xs : List ℕ) → prefix_len (λ x. not (not (p x))) xs ≡ prefix_len p xs
 prefix_not_not p [] = refl
 prefix_not_not p (x ∷ xs) = ap₂ (λ t n. cond t (1 + n) 0) (not_not (p x)) (prefix_not_not p xs)
@@ -307,13 +322,16 @@ first_ahead v long h = trailing_mask_l is_other 64 v long h ∙ prefix_not_not i
 
 -- No mark in four rows
 
+-- whether a mark is zero
 abbrev unmarked : ℕ → Bool
 unmarked m = eqb m 0
 
+-- the mask of the marks that are not zero is zero exactly if all marks are zero
 unmarked_mask : (xs : List ℕ) → eqb (mask_l (map (λ m. differs m 0) xs)) 0 ≡ list_all unmarked xs
 unmarked_mask [] = refl
 unmarked_mask (x ∷ xs) = grind (arith, unmarked_mask xs)
 
+-- the bitwise or of two bytes is zero exactly if both are zero
 or_unmarked : (x y : ℕ) → x < 256 → y < 256 → unmarked (bit_or x y) ≡ (unmarked x && unmarked y)
 or_unmarked x y a b = elim (cases_eq x 0) [
   | inl p ↦ grind (arith, cases_eq)
@@ -323,6 +341,7 @@ or_unmarked x y a b = elim (cases_eq x 0) [
   )
 ]
 
+-- the items of a bitwise or of two lists of bytes are all zero exactly if the items of both lists are
 unmarked_or : (xs ys : List ℕ) → length xs ≡ length ys → Each1 (λ x. x < 256) xs → Each1 (λ x. x < 256) ys
     → list_all unmarked (zip2 bit_or xs ys) ≡ (list_all unmarked xs && list_all unmarked ys)
 unmarked_or [] [] e f g = refl
@@ -337,24 +356,29 @@ pub groups_whole : (x y : List ℕ) → length x % 4 ≡ 0 → groups (x ++ y) �
 groups_whole x y h = groups-append x y
     ∙ ap (λ z. groups x ++ groups (z ++ y)) (nothing (after_groups x) (length-after_groups x ∙ h))
   where
+    -- a list of length zero is empty
     nothing : (l : List ℕ) → length l ≡ 0 → l ≡ []
     nothing [] e = refl
     nothing (b ∷ l) e = absurd (omega arith)
 
 -- A whole block
 
+-- the mark of a byte is below 256
 mark_lt : (b : ℕ) → b < 256 → mark_of b < 256
 mark_lt b l = ltb-true (mark_of b) 256 (agree_below_at (λ b. ltb (mark_of b) 256) (λ b. true) 256 b refl l)
 
+-- the marks of bytes are below 256
 marks_lt : (v : List ℕ) → Each1 (Fits w8) v → Each1 (λ x. x < 256) (map mark_of v)
 marks_lt [] h = tt
 marks_lt (b ∷ v) h = (mark_lt b h.0.fits, marks_lt v h.1)
 
+-- the marks of all bytes of a list are zero exactly if all bytes are symbols
 all_unmarked : (v : List ℕ) → Each1 (Fits w8) v → list_all unmarked (map mark_of v) ≡ list_all is_symbol v
 all_unmarked [] h = refl
 all_unmarked (b ∷ v) h = ap₂ (λ s t. s && t) (agree_below_at (λ b. unmarked (mark_of b)) is_symbol 256 b refl h.0.fits)
     (all_unmarked v h.1)
 
+-- the items of a bitwise or of two lists of bytes are below 256
 zip_lt : (xs ys : List ℕ) → length xs ≡ length ys → Each1 (λ x. x < 256) xs → Each1 (λ x. x < 256) ys
     → Each1 (λ x. x < 256) (zip2 bit_or xs ys)
 zip_lt [] [] e f g = tt
@@ -362,6 +386,7 @@ zip_lt [] (y ∷ ys) e f g = tt
 zip_lt (x ∷ xs) [] e f g = tt
 zip_lt (x ∷ xs) (y ∷ ys) e f g = (or_lt 8 x y f.0 g.0, zip_lt xs ys (omega arith) f.1 g.1)
 
+-- a row of 16 zeros
 abbrev zeros : List ℕ
 zeros = 0 ∷ 0 ∷ 0 ∷ 0 ∷ 0 ∷ 0 ∷ 0 ∷ 0 ∷ 0 ∷ 0 ∷ 0 ∷ 0 ∷ 0 ∷ 0 ∷ 0 ∷ 0 ∷ []
 
@@ -369,6 +394,7 @@ zeros = 0 ∷ 0 ∷ 0 ∷ 0 ∷ 0 ∷ 0 ∷ 0 ∷ 0 ∷ 0 ∷ 0 ∷ 0 ∷ 0 ∷ 
 abbrev pub all_marks : List ℕ → List ℕ → List ℕ → List ℕ → List ℕ
 all_marks a b c d = zip2 bit_or (zip2 bit_or a b) (zip2 bit_or c d)
 
+-- the marks of four rows, combined by a bitwise or, are all zero exactly if all bytes of the rows are symbols
 marks_whole : (r0 r1 r2 r3 : List ℕ) → length r0 ≡ 16 → length r1 ≡ 16 → length r2 ≡ 16 → length r3 ≡ 16
     → Each1 (Fits w8) r0 → Each1 (Fits w8) r1 → Each1 (Fits w8) r2 → Each1 (Fits w8) r3
     → list_all unmarked (all_marks (map mark_of r0) (map mark_of r1) (map mark_of r2) (map mark_of r3))
@@ -422,10 +448,12 @@ shuffled a b c d =
     ++ pick_l 0 (b ++ c) (4 ∷ 5 ∷ 6 ∷ 7 ∷ 8 ∷ 9 ∷ 10 ∷ 11 ∷ 16 ∷ 17 ∷ 18 ∷ 19 ∷ 20 ∷ 21 ∷ 22 ∷ 23 ∷ []))
     ++ pick_l 0 (c ++ d) (8 ∷ 9 ∷ 10 ∷ 11 ∷ 16 ∷ 17 ∷ 18 ∷ 19 ∷ 20 ∷ 21 ∷ 22 ∷ 23 ∷ 24 ∷ 25 ∷ 26 ∷ 27 ∷ [])
 
+-- three shuffles of four rows that are written out join the first 12 bytes of each row
 shuffled_rows : (f g h k : ℕ → ℕ) → shuffled (row f) (row g) (row h) (row k) ≡ take 12
     (row f) ++ (take 12 (row g) ++ (take 12 (row h) ++ take 12 (row k)))
 shuffled_rows f g h k = refl
 
+-- three shuffles of four rows of 16 bytes join the first 12 bytes of each row
 shuffled_is : (a b c d : List ℕ) → length a ≡ 16 → length b ≡ 16 → length c ≡ 16 → length d ≡ 16
     → shuffled a b c d ≡ take 12 a ++ (take 12 b ++ (take 12 c ++ take 12 d))
 shuffled_is a b c d p q r s =
@@ -444,10 +472,12 @@ shuffled_is a b c d p q r s =
     (subst B (pick_l_whole 0 b 16 q)
     (subst C (pick_l_whole 0 c 16 r) (subst D (pick_l_whole 0 d 16 s) (shuffled_rows f g h i))))
 
+-- the bytes of the groups of three rows of 16 values and a rest are those of each of the four, joined
 groups_of_rows : (w x y z : List ℕ) → length w ≡ 16 → length x ≡ 16 → length y ≡ 16
     → groups (w ++ (x ++ (y ++ z))) ≡ groups w ++ (groups x ++ (groups y ++ groups z))
 groups_of_rows w x y z p q r = grind (arith, groups_whole)
 
+-- the bytes of the groups of a block of 64 values are those of the groups of its four rows, joined
 values_of_rows : (text : List ℕ) → 64 ≤ length text → groups (map value_of (take 64 text))
     ≡ groups (map value_of (take 16 (drop 0 text))) ++ (groups (map value_of (take 16 (drop 16 text))) ++ (groups
     (map value_of (take 16 (drop 32 text))) ++ groups (map value_of (take 16 (drop 48 text)))))

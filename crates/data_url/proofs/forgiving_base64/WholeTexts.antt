@@ -22,6 +22,7 @@ use Rattle.data_url.proofs.runs.Runs.{prefix_all, prefix_after, prefix_trans, re
 use Rattle.data_url.proofs.forgiving_base64.Padding.{fault_byte, fault_invalid, none_fault, valid_no_fault}
 use Rattle.data_url.proofs.forgiving_base64.Padding.{some_not_none}
 
+-- `MatchBool b P Q` gives that b is true, with P, or that b is false, with Q
 split_bool : (b : Bool) (P Q : Type 0) → MatchBool b P Q → ((b ≡ true) × P) ⊎ ((b ≡ false) × Q)
 split_bool true P Q h = inl (refl, h)
 split_bool false P Q h = inr (refl, h)
@@ -135,10 +136,12 @@ module _ {F E : Type 0} (step : F → List ℕ → Result (Unit {0}) E → F →
 
 -- A closure that appends its bytes
 
+-- if neither a call nor those after it returned an error, the call returned `Ok`
 accepted_call : {E : Type 0} (r : Result (Unit {0}) E) (o : Option E) → option_or (result_err r) o ≡ None → r ≡ Ok tt
 accepted_call (Ok tt) o h = refl
 accepted_call (Err e) o h = absurd (some_not_none e h)
 
+-- if a call appends its piece, the bytes after it and a rest are those before it, the piece and the rest
 call_reads : {F E : Type 0} (step : F → List ℕ → Result (Unit {0}) E → F → Type 0) (J : F → List ℕ)
     → ((g : F) (piece : List ℕ) (g' : F) → step g piece (Ok tt) g' → J g' ≡ J g ++ piece)
     → (c : Call F E) (f : F) (last rest : List ℕ) → step f c.piece c.answer c.after → c.answer ≡ Ok tt

@@ -19,6 +19,7 @@ use Rattle.data_url.proofs.texts.Bytes.{dropped_keeps, dropped_nil}
 
 -- An encoded text has only such bytes
 
+-- an encoded fragment can have each upper-case hexadecimal digit
 digit_byte : (d : ℕ) → d < 16 → is_fragment_byte (hex_digit d) ≡ true
 digit_byte d l = agree_below_at (λ d. is_fragment_byte (hex_digit d)) (λ d. true) 16 d refl l
 
@@ -29,66 +30,82 @@ fragment_bytes (b ∷ s) h = grind (arith, encoded_cons, digit_byte, fragment_by
 
 -- Such bytes stay as they are
 
+-- an encoded fragment cannot have the byte, or the byte does not pass p
 abbrev excludes : (ℕ → Bool) → ℕ → Bool
 excludes p b = not (is_fragment_byte b && p b)
 
+-- if `excludes p b` is true, and an encoded fragment can have b, then b does not pass p
 excluded : (p : ℕ → Bool) (b : ℕ) → excludes p b ≡ true → is_fragment_byte b ≡ true → p b ≡ false
 excluded p b e h = false_from_ne_true (p b) (λ k. both_ways (excludes p b) (ap (λ v. not (v && p b)) h ∙ ap not k) e)
 
+-- a byte that an encoded fragment can have is not a tab or newline
 not_dropped : (b : ℕ) → is_fragment_byte b ≡ true → is_tab_or_newline b ≡ false
 not_dropped b h = grind arith
 
+-- a text of bytes that an encoded fragment can have is percent-encoded as itself
 encoded_itself : (x : List ℕ) → Every is_fragment_byte x → percent_encoding in_fragment_set x ≡ x
 encoded_itself [] h = encoded_nil in_fragment_set
 encoded_itself (b ∷ x) h = grind (arith, encoded_cons, encoded_itself x h.1)
 
+-- a text of bytes that an encoded fragment can have has no tab or newline to be dropped
 dropped_itself : (t : List ℕ) → Every is_fragment_byte t → without_tabs_and_newlines t ≡ t
 dropped_itself [] h = dropped_nil
 dropped_itself (b ∷ t) h = dropped_keeps b t (not_dropped b h.0) ∙ ap (λ s. b ∷ s) (dropped_itself t h.1)
 
+-- a text of bytes that an encoded fragment can have does not begin with a C0 control or space
 no_low_front : (t : List ℕ) → Every is_fragment_byte t → prefix_len is_c0_control_or_space t ≡ 0
 no_low_front [] h = refl
 no_low_front (b ∷ t) h = grind (arith, cond-false)
 
+-- if an encoded fragment can have each byte of a text, it can have each byte of the reversed text
 every_reverse : (t : List ℕ) → Every is_fragment_byte t → Every is_fragment_byte (reverse t)
 every_reverse [] h = tt
 every_reverse (b ∷ t) h = subst (Every is_fragment_byte) (sym (reverse-append (b ∷ []) t))
     (every_append is_fragment_byte (reverse t) (b ∷ []) (every_reverse t h.1) (h.0, tt))
 
+-- a text of bytes that an encoded fragment can have stays as it is when its ends are trimmed
 trimmed_itself : (t : List ℕ) → Every is_fragment_byte t → trimmed_text t ≡ t
 unfolding trimmed_text
 trimmed_itself t h = grind (arith, no_low_front, every_reverse, take_all)
 
+-- a text of bytes that an encoded fragment can have stays as it is when it is cleaned
 cleaned_itself : (t : List ℕ) → Every is_fragment_byte t → cleaned_text t ≡ t
 unfolding cleaned_text
 cleaned_itself t h = ap without_tabs_and_newlines (trimmed_itself t h) ∙ dropped_itself t h
 
 -- The stages of the text
 
+-- if the cleaned text is "data:,#" and x, the text after the scheme is ",#" and x
 after_data : (t x : List ℕ) → cleaned_text t ≡ codes "data:,#" ++ x → after_scheme t ≡ Some (44 ∷ 35 ∷ x)
 unfolding after_scheme
 after_data t x h = grind arith
 
+-- the serialised front of ",#" and x is a comma
 front_comma : (x : List ℕ) → serialised (front (44 ∷ 35 ∷ x)) ≡ 44 ∷ []
 unfolding front before after serialised encoded_path percent_encoding
 front_comma x = refl
 
+-- the fragment of ",#" and x is x
 fragment_after : (x : List ℕ) → fragment (44 ∷ 35 ∷ x) ≡ Some x
 unfolding fragment after
 fragment_after x = refl
 
+-- if the text after the scheme is ",#" and x, the staged front is a comma
 front_of_comma : (t x : List ℕ) → after_scheme t ≡ Some (44 ∷ 35 ∷ x) → staged_front t ≡ Some (44 ∷ [])
 unfolding staged_front
 front_of_comma t x h = ap (option_map (λ a. serialised (front a))) h ∙ ap (λ (s : List ℕ). Some s) (front_comma x)
 
+-- if the staged front is a comma, the header is empty
 header_empty : (t : List ℕ) → staged_front t ≡ Some (44 ∷ []) → header_of t ≡ Some []
 unfolding header_of before after
 header_empty t h = ap (option_and_then before_comma) h
 
+-- if the staged front is a comma, the encoded body is empty
 body_empty : (t : List ℕ) → staged_front t ≡ Some (44 ∷ []) → encoded_body t ≡ Some []
 unfolding encoded_body after
 body_empty t h = ap (option_and_then (after 44)) h
 
+-- if the text after the scheme is ",#" and x, the encoded fragment is x, percent-encoded
 staged_again : (t x : List ℕ) → after_scheme t ≡ Some (44 ∷ 35 ∷ x)
     → staged_fragment (staged t) ≡ Some (percent_encoding in_fragment_set x)
 unfolding staged

@@ -24,6 +24,7 @@ use Rattle.data_url.specs.Steps.Header.{header_text}
 
 -- Spelling the scheme, one byte after the other.
 
+-- the scheme, in lower case
 abbrev scheme : List ℕ
 scheme = codes "data:"
 
@@ -36,6 +37,7 @@ pub record Spells (s : List ℕ) (n : ℕ) : Type 0 where
 pub spells_passed : (s : List ℕ) (n b : ℕ) → Spells s n → is_tab_or_newline b ≡ true → Spells (s ++ b ∷ []) n
 spells_passed s n b h e = grind (arith, without_tabs_and_newlines-append, dropped_passes, dropped_nil, append-nil)
 
+-- a byte that is, in lower case, the next one of the scheme makes a text spell one byte more of the scheme
 one_more : (s : List ℕ) (n b : ℕ) → Spells s n → is_tab_or_newline b ≡ false → to_ascii_lowercase b ≡ get_or scheme n 0
     → map to_ascii_lowercase (without_tabs_and_newlines (s ++ b ∷ [])) ≡ take (n + 1) scheme
 one_more s n b h e same = grind (arith, without_tabs_and_newlines-append, dropped_keeps, dropped_nil, map-append)
@@ -53,6 +55,7 @@ pub spells_all : (s : List ℕ) (n b : ℕ) → Spells s n → is_tab_or_newline
     → map to_ascii_lowercase (without_tabs_and_newlines (s ++ b ∷ [])) ≡ scheme
 spells_all s n b h e same whole = one_more s n b h e same ∙ ap (λ k. take k scheme) whole
 
+-- a text that spells n bytes of the scheme has n bytes without its tabs and newlines
 spelled_length : (s : List ℕ) (n : ℕ) → Spells s n → length (without_tabs_and_newlines s) ≡ n
 spelled_length s n h = grind (arith, length-map, length-take)
 
@@ -96,6 +99,7 @@ differs text s n b rest h e ne is =
 
 -- The scheme as it is commonly spelled
 
+-- the scheme stays as it is in lower case and without tabs and newlines
 common_spelled : map to_ascii_lowercase (without_tabs_and_newlines scheme) ≡ scheme
 unfolding without_tabs_and_newlines
 common_spelled = refl
@@ -123,6 +127,7 @@ lacks_in_take : (c : ℕ) (s : List ℕ) (n : ℕ) → ((k : ℕ) → k < n → 
     → after c (take n s) ≡ None
 lacks_in_take c s n h = grind (arith, after_none, length-take, get_or-take)
 
+-- a text is its first n bytes, the byte at index n, and the bytes after it
 cut_at : (s : List ℕ) (n : ℕ) → n < length s → s ≡ take n s ++ get_or s n 0 ∷ drop (n + 1) s
 cut_at s n l = sym (take-append-drop n s) ∙ ap (λ t. take n s ++ t) (drop_more s n 0 l)
 
@@ -137,6 +142,7 @@ pub record IsFrontEnd (s : List ℕ) (n : ℕ) : Type 0 where
 abbrev pub NoEndBefore : List ℕ → ℕ → Type 0
 NoEndBefore s n = (k : ℕ) → k < n → ends_header (get_or s k 0) ≡ false
 
+-- if there is no ',' or '#' in the first m bytes, nor in the next k bytes, there is none in the first m + k
 further_on : (s : List ℕ) (m k : ℕ) → NoEndBefore s m → NoEndBefore (drop m s) k → NoEndBefore s (m + k)
 further_on s m k h g j l = ⊎_elim
     (λ (a : j < m). h j a)
@@ -208,13 +214,16 @@ pub plain_header : (s header : List ℕ) (n : ℕ) → ((k : ℕ) → k < n → 
     → header_text (without_tabs_and_newlines header) ≡ header
 plain_header s header n h e = grind (arith, plain_serialised, length-take, get_or-take)
 
+-- each item of the text is a byte
 abbrev FitsBytes : List ℕ → Type 0
 FitsBytes s = (i : ℕ) → get_or s i 0 < 256
 
+-- there is no ',' or '#' in the longest prefix of plain bytes
 no_end_ahead : (s items : List ℕ) (n : ℕ) → items ≡ s → n ≡ prefix_len is_plain_path items → FitsBytes s
     → NoEndBefore s n
 no_end_ahead s items n e f h = plain_no_end s n (plain_front s items n e f h)
 
+-- if a list is equal to the text, the position of its first ',' or '#' from index n on is that of the text
 ends_ahead : (s items : List ℕ) (n : ℕ) (r : Option ℕ) → items ≡ s
     → r ≡ position ends_header (take (length items - n) (drop n items)) → position ends_header (drop n s) ≡ r
 ends_ahead s items n r e p = grind (arith, take_all, length-drop)

@@ -32,10 +32,12 @@ use Rattle.data_url.proofs.mime.RoundTrips.{not_ends_last}
 
 -- The end of a path
 
+-- a path of one byte is encoded with the set for the last byte
 path_one : (b : ℕ) → encoded_path (b ∷ []) ≡ encoded_byte in_path_end_set b
 unfolding encoded_path
 path_one b = refl
 
+-- the first byte of a path is encoded with the set of a path if another byte follows it
 path_more : (b : ℕ) (s : List ℕ) (c : ℕ) → encoded_path (b ∷ (s ++ c ∷ [])) ≡ encoded_byte in_path_set b ++ encoded_path
     (s ++ c ∷ [])
 path_more b [] c = path_cons b (c ∷ [])
@@ -135,7 +137,8 @@ some_bytes (b ∷ s) v e f n = absurd (let k = n in cc)
 -- if the path has no last space, or there is no query, the encoded path and query are the serialised header
 pub parts_whole : (header path query : List ℕ) → IsPathAndQuery header path query → (query ≡ []) ⊎ HasNoLastSpace path
     → encoded_parts path [] query ≡ header_text (without_tabs_and_newlines header)
-parts_whole header path query h end = grind (arith, dropped_nil, encoded_nil, header_alone, append-nil, header_and_query)
+parts_whole header path query h end =
+    grind (arith, dropped_nil, encoded_nil, header_alone, append-nil, header_and_query)
 
 -- if the path has a last space, and there is a query, the encoded path without that space, "%20", and the encoded query
 -- are the serialised header
@@ -143,10 +146,12 @@ pub parts_spaced : (header path front query : List ℕ) → IsPathAndQuery heade
     → WithoutSpace path front → encoded_parts front (codes "%20") query ≡ header_text (without_tabs_and_newlines header)
 parts_spaced header path front query h there w = grind (arith, append_assoc, path_space, header_and_query)
 
+-- if `not b` is true, b is false
 is_false : (b : Bool) → not b ≡ true → b ≡ false
 is_false true h = absurd (let k = h in cc)
 is_false false h = refl
 
+-- if `not b` is false, b is true
 is_true : (b : Bool) → not b ≡ false → b ≡ true
 is_true true h = refl
 is_true false h = absurd (let k = h in cc)
@@ -194,9 +199,11 @@ ends_trimmed s =
       | inr l ↦ let e : n ≡ 0 = omega arith in nothing (ap (λ k. take k s) e)
     ]
 
+-- a byte that is not a C0 control or space is not a tab or newline
 not_tab : (b : ℕ) → is_c0_control_or_space b ≡ false → is_tab_or_newline b ≡ false
 not_tab b h = grind arith
 
+-- a byte that is not a C0 control or space is not a space
 not_space : (b : ℕ) → is_c0_control_or_space b ≡ false → is_space b ≡ false
 not_space b h = let l : 32 < b = leb-false b 32 h in ne_eqb b 32 (λ e. omega (arith, l, e))
 
@@ -208,7 +215,7 @@ ends_dropped s (last init b e h) =
     last (without_tabs_and_newlines init) b
     (cc (without_tabs_and_newlines-append init (b ∷ []))) h
 
--- so does removing bytes from the front, unless nothing is left
+-- a text that is empty or does not end with a C0 control or space stays so without bytes from its front
 ends_after : (n : ℕ) (s : List ℕ) → Ends s → Ends (drop n s)
 ends_after n s (nothing e) = grind (arith, drop_of_length-le)
 ends_after n s (last init b e h) = elim (cases_lt (length init) n) [
@@ -216,15 +223,18 @@ ends_after n s (last init b e h) = elim (cases_lt (length init) n) [
   | inr l ↦ last (drop n init) b (ap (drop n) e ∙ drop-append-le n init (b ∷ []) l) h
 ]
 
+-- a text that is empty, or whose last byte is not a C0 control or space, does not end with a space
 ends_with_no_space : (s : List ℕ) → Ends s → DoesNotEnd is_space s
 ends_with_no_space s (nothing e) = subst (DoesNotEnd is_space) (sym e) tt
 ends_with_no_space s (last init b e h) =
     subst (DoesNotEnd is_space) (sym e) (not_ends_last is_space b (not_space b h) init)
 
+-- the cleaned text is empty, or its last byte is not a C0 control or space
 ends_cleaned : (t : List ℕ) → Ends (cleaned_text t)
 unfolding cleaned_text trimmed_text
 ends_cleaned t = search (arith, ends_dropped, ends_trimmed)
 
+-- the text after the scheme is the cleaned text without its first five bytes
 after_is : (t a : List ℕ) → after_scheme t ≡ Some a → a ≡ drop 5 (cleaned_text t)
 unfolding after_scheme
 after_is t a h = grind arith
@@ -248,17 +258,21 @@ data HasLast (s : List ℕ) : Type 0 where
   without_last : s ≡ [] → HasLast s
   with_last : (init : List ℕ) (b : ℕ) → s ≡ init ++ b ∷ [] → HasLast s
 
+-- if s is empty or has a last byte, b ∷ s has a last byte
 last_after : (b : ℕ) (s : List ℕ) → HasLast s → HasLast (b ∷ s)
 last_after b s (without_last e) = with_last [] b (ap (λ t. b ∷ t) e)
 last_after b s (with_last init c e) = with_last (b ∷ init) c (ap (λ t. b ∷ t) e)
 
+-- each text is empty, or has a last byte
 has_last : (s : List ℕ) → HasLast s
 has_last [] = without_last refl
 has_last (b ∷ s) = last_after b s (has_last s)
 
+-- a space, encoded with the set of a path, is a space
 space_encoded : percent_encoding in_path_set (32 ∷ []) ≡ 32 ∷ []
 space_encoded = encoded_cons in_path_set 32 [] ∙ ap (λ t. 32 ∷ t) (encoded_nil in_path_set)
 
+-- a path with a last byte is the same by both rules, or ends with "%20" by one and with a space by the other
 differs_last : (path init : List ℕ) (b : ℕ) → path ≡ init ++ b ∷ [] → Differs path
 differs_last path init b e = elim (cases_Bool (b == 32)) [
   | inl h ↦
@@ -268,6 +282,7 @@ differs_last path init b e = elim (cases_Bool (b == 32)) [
   | inr h ↦ same_path (ap encoded_path e ∙ path_other init b h ∙ sym (ap (percent_encoding in_path_set) e))
 ]
 
+-- each path, empty or with a last byte, is the same by both rules, except for a space at its end
 differs_by : (path : List ℕ) → HasLast path → Differs path
 differs_by path (without_last e) = grind (arith, path_nil, encoded_nil)
 differs_by path (with_last init b e) = differs_last path init b e
@@ -286,6 +301,7 @@ comma_before x y rest h =
     ap (before 44) joined ∙ before_at 44 (before 44 x) (rest ++ y) cut.lacks in
     ap (option_map (λ r. before 44 (x ++ y))) found ∙ ap Some front
 
+-- if the text before a '?' has no comma, the flag does not depend on that text
 flag_after : (u v query : List ℕ) → after 44 u ≡ None → after 44 v ≡ None → (o : Option (List ℕ))
     → after 44 query ≡ o
     → base64_flag (u ++ 63 ∷ query) ≡ base64_flag (v ++ 63 ∷ query)
@@ -293,10 +309,12 @@ flag_after u v query h k None e = grind (arith, after-append, after_other)
 flag_after u v query h k (Some rest) e =
     grind (arith, same_flag, after-append, before-append, before_other)
 
+-- there is no comma in "%20"
 no_comma_in_escape : after 44 (codes "%20") ≡ None
 unfolding after
 no_comma_in_escape = refl
 
+-- there is no comma in a text of one space
 no_comma_in_space : after 44 (codes " ") ≡ None
 unfolding after
 no_comma_in_space = refl
@@ -313,6 +331,7 @@ flag_of_path : (x : List ℕ) (o : Option (List ℕ)) → after 44 x ≡ o
 flag_of_path x None e = grind (arith, after-append, no_comma_in_escape, no_comma_in_space)
 flag_of_path x (Some rest) e = grind (arith, comma_before)
 
+-- with any query, and without one, the flag does not depend on the rule by which the path is encoded
 flag_by : (path : List ℕ) (o : Option (List ℕ)) → Differs path
     → base64_flag (with_query (encoded_path path) o)
     ≡ base64_flag (with_query (percent_encoding in_path_set path) o)

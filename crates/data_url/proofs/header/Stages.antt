@@ -15,7 +15,8 @@ use Rattle.data_url.specs.Url.{cleaned_text, without_tabs_and_newlines, fragment
 use Rattle.data_url.specs.Url.{in_fragment_set}
 use Rattle.data_url.specs.Fetch.{is_space, stripped_header, encoded_body, header_of, staged_front}
 use Rattle.data_url.specs.Fetch.{tail_of, before_base64, before_semicolon, before_word, has_base64_suffix}
-use Rattle.data_url.specs.Fetch.{media_of, mime_text, with_plain, Accepted, NoComma, NoScheme, outcome, plain_body, staged}
+use Rattle.data_url.specs.Fetch.{media_of, mime_text, with_plain, Accepted, NoComma, NoScheme, outcome, plain_body}
+use Rattle.data_url.specs.Fetch.{staged}
 use Rattle.data_url.specs.Steps.Header.{IsPrintable, header_text, IsHeaderOf, IsRecordFor}
 use Rattle.data_url.proofs.percent.Encoding.{IsBytes, encoded_cons, encoded_nil, header_nil}
 use Rattle.data_url.proofs.percent.Encoding.{header_path, header_query, Recoded, RecodedTails}
@@ -45,21 +46,25 @@ use Rattle.data_url.specs.declared.DataUrl.{DataUrl}
 
 -- Serialised texts
 
+-- each byte of the text is a printable ASCII character
 abbrev printable : List ℕ → Type 0
 printable [] = Unit {0}
 printable (b ∷ s) = (32 ≤ b) × (b < 127) × printable s
 
+-- a text of bytes, encoded with a set that has all bytes that are not printable, is printable
 encoded_printable : (p : ℕ → Bool) → ((b : ℕ) → p b ≡ false → (32 ≤ b) × (b < 127)) → (s : List ℕ) → IsBytes s
     → printable (percent_encoding p s)
 encoded_printable p outside [] h = subst printable (sym (encoded_nil p)) tt
 encoded_printable p outside (b ∷ s) h =
     grind (arith, encoded_cons, encoded_printable p outside s h.1)
 
+-- each byte of the serialised text of a header is a printable ASCII character
 header_all : (s : List ℕ) → IsBytes s → printable (header_text s)
 header_all [] h = subst printable (sym header_nil) tt
 header_all (b ∷ s) h =
     search (arith, header_query, encoded_printable, header_path, header_all s h.1)
 
+-- if each byte of a text is printable, the byte at each index is
 printable_at : (s : List ℕ) → printable s → IsPrintable s
 printable_at [] h i l = absurd (omega arith)
 printable_at (b ∷ s) h zero l = (h.0, h.1)
@@ -77,9 +82,11 @@ printable_take n s h i l = grind (arith, length-take, get_or-take)
 
 -- Spaces are the only low bytes
 
+-- from 32 on, only the space is a C0 control or space
 low_is_space : (b : ℕ) → 32 ≤ b → is_c0_control_or_space b ≡ is_space b
 low_is_space b h = grind arith
 
+-- in a printable text, the longest prefix of C0 controls and spaces is as long as that of spaces
 low_front : (s : List ℕ) → IsPrintable s → prefix_len is_c0_control_or_space s ≡ prefix_len is_space s
 low_front [] h = refl
 low_front (b ∷ s) h = cc (low_is_space b (h 0 (omega arith)).0, low_front s (λ i l. h (suc i) (omega arith)))
@@ -120,6 +127,7 @@ bytes_before c (b ∷ s) h = grind (arith, bytes_before c s h.1)
 
 -- The scheme has no comma
 
+-- a byte that is not a comma in lower case is not a comma
 lowercase_comma : (b : ℕ) → (to_ascii_lowercase b == 44) ≡ false → (b == 44) ≡ false
 lowercase_comma b h = grind arith
 
@@ -130,6 +138,7 @@ lacks_comma (b ∷ d) h =
     let l = lacks 44 (to_ascii_lowercase b) (map to_ascii_lowercase d) h in
     after_other 44 b d (lowercase_comma b l.here) ∙ lacks_comma d l.after_it
 
+-- if c is not a tab or newline, and is not in a text without these, it is not in the text
 lacks_before_dropping : (c : ℕ) → is_tab_or_newline c ≡ false → (s : List ℕ)
     → after c (without_tabs_and_newlines s) ≡ None → after c s ≡ None
 lacks_before_dropping c k [] h = after_nil c
@@ -147,6 +156,7 @@ lacks_before_dropping c k (b ∷ s) h = elim (cases_Bool (is_tab_or_newline b)) 
       after_other c b s l.here ∙ lacks_before_dropping c k s l.after_it
 ]
 
+-- there is no comma in "data:"
 abbrev scheme_lacks : after 44 (codes "data:") ≡ None
 unfolding after
 scheme_lacks = refl
@@ -160,6 +170,7 @@ scheme_has_no_comma scheme e =
 
 -- After the scheme
 
+-- a text that spells the scheme has five bytes without its tabs and newlines
 scheme_length : (scheme : List ℕ) → map to_ascii_lowercase (without_tabs_and_newlines scheme) ≡ codes "data:"
     → length (without_tabs_and_newlines scheme) ≡ 5
 scheme_length scheme e = sym (length-map (without_tabs_and_newlines scheme) to_ascii_lowercase) ∙ ap length e
@@ -208,6 +219,7 @@ pub record HasTail (s t : List ℕ) : Type 0 where
   pub is : after 44 s ≡ Some rest
   pub recoded : Recoded t rest
 
+-- a text of a header, the first comma, and a tail t has, when it is serialised, a tail that is t, recoded
 has_tail : (s header t : List ℕ) → IsBytes s → s ≡ header ++ 44 ∷ t → after 44 header ≡ None → HasTail (serialised s) t
 has_tail s header t b e h = grind (arith, after_at, recoded_tails, serialised_recoded)
 
@@ -219,6 +231,7 @@ pub record IsAccepted (t header tail : List ℕ) : Type 0 where
   pub decoded_is : percent_decoding body ≡ percent_decoding (front (without_tabs_and_newlines tail))
   pub tail_is : tail_of t ≡ Some tail
 
+-- if the trimmed text is the scheme, a header, the first comma, and a tail, its tail is this one
 tail_is_of : (t rest header tail : List ℕ) → IsSchemeAndRest (trimmed_text t) rest → IsHeaderAndTail rest header tail
     → tail_of t ≡ Some tail
 unfolding tail_of
@@ -246,6 +259,7 @@ is_accepted t rest header tail b s h =
 
 -- No comma
 
+-- if a text has no comma, and the tail of another text is its tail, recoded, the other text has no comma either
 no_tail_of : (s x : List ℕ) → after 44 s ≡ None → RecodedTails (after 44 s) (after 44 x) → after 44 x ≡ None
 no_tail_of s x e h = grind arith
 
@@ -264,6 +278,7 @@ before-without_tabs_and_newlines c k (b ∷ s) =
       before_other,
     )
 
+-- if a text has no comma before its first '#', neither has the text without tabs and newlines
 front_lacks : (rest : List ℕ) → after 44 (front rest) ≡ None → after 44 (front (without_tabs_and_newlines rest))
     ≡ None
 unfolding front
@@ -351,9 +366,11 @@ no_suffix header m e h = grind arith
 word_begins : (s m : List ℕ) → before_word s ≡ Some m → IsPrintable s → IsPrintable m
 word_begins s m e h = grind (arith, printable_take)
 
+-- the text before the final ';' of a printable text is printable
 semicolon_begins : (s m : List ℕ) → before_semicolon s ≡ Some m → IsPrintable s → IsPrintable m
 semicolon_begins s m e h = grind (arith, printable_take)
 
+-- a printable text without the spaces at its end is printable
 printable_end : (s : List ℕ) → IsPrintable s → IsPrintable (without_end is_space s)
 printable_end s h = printable_take (length s - suffix_len is_space s) s h
 
@@ -370,24 +387,29 @@ printable_media s m h e = at (before_word s) refl e where
 
 -- "text" and "plain" are words
 
+-- the word "text" has only HTTP token code points
 token_text : IsTrue (is_token_text (codes "text"))
 unfolding on_literals
 token_text = refl
 
+-- the word "plain" has only HTTP token code points
 token_plain : IsTrue (is_token_text (codes "plain"))
 unfolding on_literals
 token_plain = refl
 
+-- the code points of "text" are its bytes
 chars_text : codes "text" ≡ chars (codes "text")
 unfolding chars
 chars_text = refl
 
+-- the code points of "plain" are its bytes
 chars_subtype : codes "plain" ≡ chars (codes "plain")
 unfolding chars
 chars_subtype = refl
 
 -- The head
 
+-- if t ++ back is empty or begins with ';', t is empty or begins with ';'
 front_begins : (t back : List ℕ) → BeginsParameters (t ++ back) → BeginsParameters t
 front_begins [] back h = tt
 front_begins (c ∷ t) back h = h
@@ -397,6 +419,7 @@ ends_after : (p : ℕ → _) (c : ℕ) (t : List ℕ) → p c ≡ false → Does
 ends_after p c [] n h = n
 ends_after p c (d ∷ t) n h = h
 
+-- the head of "text/plain" and s has type "text", subtype "plain", and the parameters s without whitespace at its end
 head_of : (s t : List ℕ) → BeginsParameters s → IsTrimmedEnd is_http_whitespace s t
     → IsHead (codes "text/plain" ++ s) (codes "text") (codes "plain") t
 head_of s t b e = record {
@@ -421,6 +444,7 @@ plain_head_is s t b e = grind (arith, chars_text, chars_subtype, head_of)
 
 -- A type that is missing
 
+-- a text with ';' at index 0 begins with ';'
 begins_at : (s : List ℕ) → get_or s 0 0 ≡ 59 → BeginsParameters s
 begins_at [] h = tt
 begins_at (c ∷ s) h = h
@@ -533,11 +557,13 @@ has_hash tail place h n =
       fragment_is = h.after_is ∙ ap rest_fragment here;
     }
 
+-- a text of bytes without its first n bytes is a text of bytes
 bytes_drop : (n : ℕ) (s : List ℕ) → IsBytes s → IsBytes (drop n s)
 bytes_drop zero s h = h
 bytes_drop (suc n) [] h = tt
 bytes_drop (suc n) (b ∷ s) h = bytes_drop n s h.1
 
+-- the first n bytes of a text of bytes are a text of bytes
 bytes_take : (n : ℕ) (s : List ℕ) → IsBytes s → IsBytes (take n s)
 bytes_take zero s h = tt
 bytes_take (suc n) [] h = tt

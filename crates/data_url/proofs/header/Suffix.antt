@@ -32,6 +32,7 @@ word = codes "base64"
 abbrev last_bytes : ℕ → List ℕ → List ℕ
 last_bytes n s = drop (length s - n) s
 
+-- the bytes before the last n bytes
 abbrev before_last : ℕ → List ℕ → List ℕ
 before_last n s = take (length s - n) s
 
@@ -53,6 +54,7 @@ unfolding before_base64
 after_word s n spaces p h =
     grind (arith, length-take-le, low_end, printable_take, take-take)
 
+-- the text of one ';'
 abbrev semicolon : List ℕ
 semicolon = codes ";"
 
@@ -65,6 +67,7 @@ nothing_left s n spaces p h e = after_word s n spaces p h ∙ ap (λ m. before_s
 last_one : (s : List ℕ) (n : ℕ) → n < length s → last_bytes 1 (take (n + 1) s) ≡ get_or s n 0 ∷ []
 last_one s n l = grind (arith, length-take-le, drop_all, drop_more, get_or-take)
 
+-- the bytes before the last of n + 1 bytes are the first n bytes
 before_one : (s : List ℕ) (n : ℕ) → n < length s → before_last 1 (take (n + 1) s) ≡ take n s
 before_one s n l = grind (arith, length-take-le, take-take)
 
@@ -117,6 +120,7 @@ suffix_stop p x q b f =
           ≡ length (reverse q) = eqb-true _ _ e in omega (arith, k, none)) (λ e. refl),
     )
 
+-- removing spaces at the end of a text with a '?' removes them only after that '?'
 end_after : (x q : List ℕ) → without_end is_space (x ++ 63 ∷ q) ≡ x ++ 63 ∷ without_end is_space q
 end_after x q =
     let few = suffix_len-le-length is_space q in
@@ -125,6 +129,7 @@ end_after x q =
     ≡ length x + suc (length q - spaces) = grind (arith, suffix_stop, length-append) in
     ap (λ n. take n (x ++ 63 ∷ q)) at ∙ take-append-add x (63 ∷ q) (suc (length q - spaces))
 
+-- a text with a '?', stripped of spaces, loses those at its front before the '?', and those at its end after it
 stripped_after : (x q : List ℕ) → stripped_header (x ++ 63 ∷ q) ≡ drop (prefix_len is_space (x ++ 63 ∷ q))
     x ++ 63 ∷ without_end is_space q
 unfolding stripped_header
@@ -132,14 +137,17 @@ stripped_after x q = grind (arith, drop-append-le, prefix_len-append, prefix_len
 
 -- The word
 
+-- if q has at least n bytes, the last n bytes of y ++ q are those of q
 last_after : (y q : List ℕ) (n : ℕ) → n ≤ length q → last_bytes n (y ++ q) ≡ last_bytes n q
 last_after y q n l = grind (arith, length-append, drop-append-add)
 
+-- if q has at least n bytes, the bytes before the last n of y ++ q are y and the bytes before the last n of q
 before_last_after : (y q : List ℕ) (n : ℕ) → n ≤ length q → before_last n (y ++ q) ≡ y ++ before_last n q
 before_last_after y q n l =
     let at : length (y ++ q) - n ≡ length y + (length q - n) = omega (arith, length-append y q) in
     ap (λ m. take m (y ++ q)) at ∙ take-append-add y q (length q - n)
 
+-- if q has at least six bytes, what is before a final "base64" of y ++ q is y and what is before that of q
 word_after : (y q : List ℕ) → 6 ≤ length q → before_word (y ++ q) ≡ option_map (λ m. y ++ m) (before_word q)
 word_after y q l = grind (arith, last_after, before_last_after)
 
@@ -147,10 +155,12 @@ word_after y q l = grind (arith, last_after, before_last_after)
 no_mark : (i : ℕ) → get_or word i 0 ≢ 63
 no_mark i e = grind arith
 
+-- the byte of x ++ '?' ∷ q at the length of x is '?'
 mark_at : (x q : List ℕ) → get_or (x ++ 63 ∷ q) (length x) 0 ≡ 63
 mark_at [] q = refl
 mark_at (b ∷ x) q = mark_at x q
 
+-- a text with fewer than six bytes after a '?' has no base64 suffix
 too_near : (x q : List ℕ) → length q < 6 → before_base64 (x ++ 63 ∷ q) ≡ None
 too_near x q l = no_word (x ++ 63 ∷ q) (λ e.
     let s = x ++ 63 ∷ q in
@@ -164,6 +174,7 @@ too_near x q l = no_word (x ++ 63 ∷ q) (λ e.
 
 -- The whole
 
+-- whether a text with a '?' ends with ';' depends only on the '?' and what follows it
 semicolon_after : (x r : List ℕ) → is_some (before_semicolon (x ++ 63 ∷ r)) ≡ bytes_eq (last_bytes 1 (63 ∷ r))
     (codes ";")
 semicolon_after x r = grind (arith, last_after)
@@ -173,12 +184,14 @@ abbrev after_mark : Option (List ℕ) → Bool
 after_mark None = false
 after_mark (Some m) = bytes_eq (last_bytes 1 (63 ∷ without_end is_space m)) (codes ";")
 
+-- if "base64" comes after a '?', whether there is a suffix does not depend on what is before the '?'
 by_word : (x : List ℕ) (o : Option (List ℕ))
     → is_some (option_and_then (λ m. before_semicolon (without_end is_space m))
     (option_map (λ m. (x ++ 63 ∷ []) ++ m) o)) ≡ after_mark o
 by_word x None = refl
 by_word x (Some m) = grind (arith, append_assoc, end_after, semicolon_after)
 
+-- if at least six bytes follow a '?', whether there is a base64 suffix depends only on these bytes
 suffix_after : (x q : List ℕ) → 6 ≤ length q → is_some (before_base64 (x ++ 63 ∷ q)) ≡ after_mark (before_word q)
 unfolding before_base64
 suffix_after x q l =

@@ -60,6 +60,7 @@ test_from_different a c n = false_from_ne_true (bytes_eq a c) (λ h. n (equal_fr
 
 -- Names in lower case
 
+-- an ASCII code point in lower case is a token code point exactly if the code point is
 low_token : (c : ℕ) → c < 128 → is_token (to_ascii_lowercase c) ≡ is_token c
 unfolding is_token
 low_token c l = agree_below_at (λ x. is_token (to_ascii_lowercase x)) is_token 128 c refl l
@@ -68,6 +69,7 @@ low_token c l = agree_below_at (λ x. is_token (to_ascii_lowercase x)) is_token 
 pub token_lower : (c : ℕ) → is_token (to_ascii_lowercase c) ≡ is_token c
 token_lower c = elim (cases_lt c 128) [ inl l ↦ low_token c l | inr l ↦ ap is_token ((lowercase_is c).2 (omega arith)) ]
 
+-- a text in lower case has only token code points exactly if the text has
 all_token_lower : (t : List ℕ) → list_all is_token (map to_ascii_lowercase t) ≡ list_all is_token t
 all_token_lower [] = refl
 all_token_lower (c ∷ t) = ap₂ (λ x y. x && y) (token_lower c) (all_token_lower t)
@@ -106,6 +108,7 @@ lower_is_itself t h = grind (arith, equal_from_test)
 pub lowercase_token : (t : List ℕ) → is_lowercase_name t ≡ true → is_token_text t ≡ true
 lowercase_token t h = (and_parts (is_token_text t) (bytes_eq (map to_ascii_lowercase t) t) h).0
 
+-- the bytes in lower case of a lower-case name k and of a token text n are their code points in lower case
 both_lower : (k n : List ℕ) → IsUtf8 k → IsUtf8 n → is_lowercase_name (chars k) ≡ true → is_token_text (chars n) ≡ true
     → (map to_ascii_lowercase k ≡ chars k) × (map to_ascii_lowercase n ≡ map to_ascii_lowercase (chars n))
 both_lower k n u w h t = grind (arith, lower_is_itself, bytes_of_ascii, token_text_ascii)
@@ -137,6 +140,7 @@ lowercase_at pairs i item h l e = grind (arith, list_all_at, list_all-map)
 
 -- What one more item adds
 
+-- if one of the pairs has the name of p, nothing is added, whether or not p is valid
 unless_none : (xs : List Pair) (p : Pair) (b : Bool) → has_name p.0 xs ≡ true
     → unless_named xs (cond b (p ∷ []) []) ≡ []
 unless_none xs p true h = cond-true (has_name p.0 xs) [] (p ∷ []) h
@@ -149,6 +153,7 @@ no_pair_named (name, Some v) xs h = unless_none xs (name, v) (is_token_text name
 
 -- The pairs that are kept with one more item
 
+-- `b || false` is b
 or_none : (b : Bool) → (b || false) ≡ b
 or_none true = refl
 or_none false = refl
@@ -163,6 +168,7 @@ pub has_pushed : (n : List ℕ) (xs : List Pair) (p : Pair)
     → has_name n (xs ++ (p ∷ [])) ≡ (has_name n xs || bytes_eq p.0 n)
 has_pushed n xs p = has_append n xs (p ∷ []) ∙ ap (λ b. has_name n xs || b) (or_none (bytes_eq p.0 n))
 
+-- the first pairs of each name, with q pushed, are those without it and then q, if its name is new
 first_snoc : (e ps : List Pair) (q : Pair) → first_of_each_name e (ps ++ (q ∷ [])) ≡ first_of_each_name e ps ++ cond
     (has_name q.0 (e ++ ps)) [] (q ∷ [])
 first_snoc e [] q = rw (append-nil e) refl
@@ -172,11 +178,13 @@ first_snoc e (p ∷ ps) q = grind (arith, first_snoc (e ++ (p ∷ [])) ps q, app
 named : (n : List ℕ) (e : List Pair) (p : Pair) → has_name p.0 e ≡ true → bytes_eq p.0 n ≡ true → has_name n e ≡ true
 named n e p h t = ap (λ x. has_name x e) (sym (equal_from_test p.0 n t)) ∙ h
 
+-- the earlier pairs or the first of each name have a name exactly if the earlier pairs or all others have it
 has_first : (n : List ℕ) (e ps : List Pair) → (has_name n e || has_name n (first_of_each_name e ps))
     ≡ (has_name n e || has_name n ps)
 has_first n e [] = refl
 has_first n e (p ∷ ps) = grind (arith, named, has_pushed, has_first n (e ++ (p ∷ [])) ps)
 
+-- if at most one pair is appended, the first pairs of each name get it exactly if none of them has its name
 kept_with_one : (ps qs : List Pair) → (qs ≡ []) ⊎ ((p : Pair) × (qs ≡ p ∷ []))
     → first_of_each_name [] (ps ++ qs) ≡ first_of_each_name [] ps ++ unless_named (first_of_each_name [] ps) qs
 kept_with_one ps qs (inl e) = rw (e, append-nil ps) (sym (append-nil (first_of_each_name [] ps)))
@@ -258,6 +266,7 @@ lower_first pairs k h =
     let e = sym (list_all-append test (take k all) (drop k all)) ∙ ap (list_all test) (take-append-drop k all) ∙ h in
     cc (take-map (λ p. pair_of p) k pairs, (and_parts (list_all test (take k all)) (list_all test (drop k all)) e).0)
 
+-- one of the pairs has a name exactly if one of the first pairs or one of the later pairs has it
 first_or_later : (n : List ℕ) (pairs : List Pair)
     → has_name n pairs ≡ (has_name n (first_of pairs) || has_name n (drop LOOKED_THROUGH pairs))
 first_or_later n pairs = ap (has_name n) (sym (take-append-drop LOOKED_THROUGH pairs))
@@ -304,6 +313,7 @@ pub set_knows : {A : Type 0} (later : BTreeSet (String A)) (pairs : List Pair) (
     → b ≡ not (contains string_cmp later name) → b ≡ not (has_name p.0 pairs)
 set_knows later pairs p name b h e f a = cc (h (string_bytes name), named_later p.0 pairs f)
 
+-- the choice of true if b is true, and x otherwise, is `x || b`
 or_cond : (b x : Bool) → cond b true x ≡ (x || b)
 or_cond true true = refl
 or_cond true false = refl
@@ -334,6 +344,7 @@ indexed_more kept kept' p i l e h = grind (arith, list_all-append)
 
 -- What is true of each valid pair is true of each pair that is kept
 
+-- what is true of each pair is true of the first pairs of each name
 first_all : (p : Pair → Bool) (e ps : List Pair) → list_all p ps ≡ true → list_all p (first_of_each_name e ps) ≡ true
 first_all p e [] h = refl
 first_all p e (q ∷ ps) h =
@@ -342,10 +353,12 @@ first_all p e (q ∷ ps) h =
     cond_both (has_name q.0 e) (first_of_each_name (e ++ (q ∷ [])) ps) (q ∷ first_of_each_name (e ++ (q ∷ [])) ps)
     (λ x. list_all p x ≡ true) (λ c. f) (λ c. and_from (p q) (list_all p (first_of_each_name (e ++ (q ∷ [])) ps)) k.0 f)
 
+-- the values of the valid pairs have only quoted-string code points
 all_quotable : (items : List Item) → list_all (λ (p : Pair). list_all is_quotable p.1) (valid_pairs items) ≡ true
 all_quotable [] = refl
 all_quotable (item ∷ items) = grind (arith, all_quotable items)
 
+-- the names of the valid pairs of a text are lower-case
 all_lower : (r : List ℕ) (items : List Item) → Items r items → HasLowercaseNames (valid_pairs items)
 all_lower r [] h = refl
 all_lower r (item ∷ items) h =
@@ -353,14 +366,17 @@ all_lower r (item ∷ items) h =
 
 -- No name is kept twice
 
+-- if one of the pairs has a name, one of them has it after a pair is pushed
 pushed_has : (n : List ℕ) (e : List Pair) (q : Pair) → has_name n e ≡ true → has_name n (e ++ (q ∷ [])) ≡ true
 pushed_has n e q h = has_append n e (q ∷ []) ∙ or_left (has_name n e) (has_name n (q ∷ [])) h
 
+-- if one of the earlier pairs has a name, none of the first pairs of each name that follow has it
 none_again : (n : List ℕ) (e ps : List Pair) → has_name n e ≡ true → has_name n (first_of_each_name e ps) ≡ false
 none_again n e [] h = refl
 none_again n e (q ∷ ps) h =
     search (arith, none_again n (e ++ (q ∷ [])) ps (pushed_has n e q h), equal_from_test)
 
+-- no two of the first pairs of each name have equal names
 first_distinct : (e ps : List Pair) → has_distinct_names (first_of_each_name e ps) ≡ true
 first_distinct e [] = refl
 first_distinct e (q ∷ ps) =

@@ -63,6 +63,7 @@ pub begins_no_value : (r : List ℕ) → BeginsParameters r → DoesNotBegin in_
 begins_no_value [] h = tt
 begins_no_value (c ∷ r) h = ap in_value h
 
+-- the plain reading of a text without ';', and of the rest, is the text without whitespace at its end, and the rest
 plain_is : (text rest : List ℕ) → Every in_value text → BeginsParameters rest → plain_reading (text ++ rest)
     ≡ record { value = unless_empty (without_end is_http_whitespace text); rest = rest }
 plain_is text rest e b =
@@ -71,29 +72,35 @@ plain_is text rest e b =
       after_is in_value text rest e (begins_no_value rest b),
     ) refl
 
+-- after '=', a text that does not begin with '"', and then the rest, is read as a plain value
 plain_after : (text rest : List ℕ) → DoesNotBegin is_quote text → BeginsParameters rest
     → reading_after (text ++ rest) ≡ plain_reading (text ++ rest)
 plain_after [] [] h b = refl
 plain_after [] (c ∷ r) h b = grind arith
 plain_after (c ∷ t) r h b = grind arith
 
+-- if the text after a name is empty or begins with ';', no value is read, and this text is the rest
 nothing_is : (rest : List ℕ) → BeginsParameters rest → reading rest ≡ record { value = None; rest = rest }
 nothing_is [] b = refl
 nothing_is (c ∷ r) b = grind arith
 
+-- a quoted text, its closing quote and w are read as its value and w from its first ';' on
 closed_reading : (q v w : List ℕ) → Quoted q v → quoted_reading (quoted_value false (q ++ (34 ∷ w)))
     (quoted_rest false (q ++ (34 ∷ w))) ≡ record { value = Some v; rest = after_front in_value w }
 closed_reading q v w h = rw (closed_value q v w h, closed_rest q v w h) refl
 
+-- a quoted string without a closing quote is read as its value, and nothing is left
 open_reading : (q v : List ℕ) → QuotedOpen q v → quoted_reading (quoted_value false q) (quoted_rest false q)
     ≡ record { value = Some v; rest = [] }
 open_reading q v h = rw (open_value q v h, open_rest q v h) refl
 
+-- '=', a quoted string in quotes, a text without ';' and the rest are read as the value and the rest
 quoted_is : (q v junk rest : List ℕ) → Quoted q v → Every in_value junk → BeginsParameters rest
     → reading ((61 ∷ 34 ∷ (q ++ (34 ∷ junk))) ++ rest) ≡ record { value = Some v; rest = rest }
 quoted_is q v junk rest h e b = rw (append_assoc q (34 ∷ junk) rest) (closed_reading q v (junk ++ rest) h
     ∙ ap (λ r. record { value = Some v; rest = r }) (after_is in_value junk rest e (begins_no_value rest b)))
 
+-- reading a text that gives a value, and then the rest, returns the value and the rest
 reading_is : (tail rest : List ℕ) (value : Option (List ℕ)) → GivesValue tail rest value → BeginsParameters rest
     → reading (tail ++ rest) ≡ record { value = value; rest = rest }
 reading_is _ _ _ (nothing {rest}) b = nothing_is rest b
@@ -120,13 +127,16 @@ pub begins_from : (s : List ℕ) → DoesNotBegin in_value s → BeginsParameter
 begins_from [] h = tt
 begins_from (c ∷ s) h = eqb-true c 59 (not-false (c == 59) h)
 
+-- the text after the longest prefix without ';' is empty or begins with ';'
 begins_after : (s : List ℕ) → BeginsParameters (after_front in_value s)
 begins_after s = begins_from (after_front in_value s) (after_begins in_value s)
 
+-- if a text does not begin with '"', its longest prefix without ';' does not either
 front_not_quote : (s : List ℕ) → DoesNotBegin is_quote s → DoesNotBegin is_quote (front_of in_value s)
 front_not_quote [] h = tt
 front_not_quote (c ∷ s) h = grind arith
 
+-- '=' and a text that does not begin with '"' give the value that is read as a plain one
 is_plain_reading : (s : List ℕ) → DoesNotBegin is_quote s → IsReading (61 ∷ s) (plain_reading s)
 is_plain_reading s h = record {
   tail = 61 ∷ front_of in_value s;
@@ -135,6 +145,7 @@ is_plain_reading s h = record {
   begins = begins_after s;
 }
 
+-- '=', '"' and a text from which a quoted string is read give the value of that string
 is_quoted_reading : (s v : List ℕ) (w : Option (List ℕ)) → IsRead s v w → IsReading (61 ∷ 34 ∷ s) (quoted_reading v w)
 is_quoted_reading s v None h = record {
   tail = 61 ∷ 34 ∷ s;
@@ -153,16 +164,19 @@ is_quoted_reading s v (Some w) h = record {
   begins = begins_after w;
 }
 
+-- if c is '"', then '=', c and any text give the value of the quoted string that is read from the text
 quote_reading : (c : ℕ) (t : List ℕ) → c ≡ 34
     → IsReading (61 ∷ c ∷ t) (quoted_reading (quoted_value false t) (quoted_rest false t))
 quote_reading c t e = rw e (is_quoted_reading t (quoted_value false t) (quoted_rest false t) (is_read false t))
 
+-- '=' and any text give the value that is read from the text
 is_reading_after : (s : List ℕ) → IsReading (61 ∷ s) (reading_after s)
 is_reading_after [] = is_plain_reading [] tt
 is_reading_after (c ∷ t) = cond_both (c == 34) (quoted_reading (quoted_value false t) (quoted_rest false t))
     (plain_reading (c ∷ t)) (λ r. IsReading (61 ∷ c ∷ t) r) (λ e. quote_reading c t (eqb-true c 34 e))
     (λ e. is_plain_reading (c ∷ t) e)
 
+-- a text that begins with ';' gives no value, and all of it is the rest
 no_reading : (c : ℕ) (t : List ℕ) → c ≡ 59 → IsReading (c ∷ t) (record { value = None; rest = c ∷ t })
 no_reading c t e = record { tail = []; joined = refl; gives = nothing; begins = e }
 
@@ -198,10 +212,12 @@ pub not_begins_front : (p q : ℕ → Bool) (s : List ℕ) → DoesNotBegin p s 
 not_begins_front p q [] h = tt
 not_begins_front p q (c ∷ s) h = cond_both (q c) (c ∷ front_of q s) [] (λ v. DoesNotBegin p v) (λ e. h) (λ e. tt)
 
+-- a text is HTTP whitespace, a name, the text of the value that is read after the name, and the rest
 parameter_joined : (s : List ℕ) (r : Reading) (i : IsReading (after_name s) r)
     → s ≡ (front_of is_http_whitespace s ++ (name_in s ++ i.tail)) ++ r.rest
 parameter_joined s r i = grind (arith, front_joined, append_assoc)
 
+-- ';' and a text begin with a parameter of the name in the text and the value that is read after the name
 parameter_from : (s : List ℕ) (r : Reading) → IsReading (after_name s) r
     → HasParameterBefore s (map to_ascii_lowercase (name_in s), r.value) r.rest
 parameter_from s r i = record {
@@ -236,6 +252,7 @@ pub ends_of_rest : (p : ℕ → Bool) → p 59 ≡ false → (rest : List ℕ) �
 ends_of_rest p e [] b = tt
 ends_of_rest p e (c ∷ r) b = ap p b ∙ e
 
+-- if ';' and '=' do not pass, the text of a value and the rest do not begin with a code point that passes
 ends_of_tail : (p : ℕ → Bool) → p 59 ≡ false → p 61 ≡ false → (tail rest : List ℕ) (value : Option (List ℕ))
     → GivesValue tail rest value → BeginsParameters rest → DoesNotBegin p (tail ++ rest)
 ends_of_tail p e f _ _ _ (nothing {rest}) b = ends_of_rest p e rest b
@@ -265,10 +282,12 @@ append_four gap name tail rest = append_assoc gap (name ++ tail) rest ∙ ap (λ
 pub tail_equal : (a b : ℕ) (s t : List ℕ) → a ∷ s ≡ b ∷ t → s ≡ t
 tail_equal a b s t e = cc
 
+-- the text after the ';' of a parameter is its HTTP whitespace, its name, its tail, and the rest
 parts_of : (s text rest : List ℕ) (item : Item) (h : IsParameter text rest item) → 59 ∷ s ≡ text ++ rest
     → s ≡ h.gap ++ (h.name ++ (h.tail ++ rest))
 parts_of s text rest item h e = grind (arith, append_four)
 
+-- two items with equal names and equal values are equal
 pair_equal : (a : List ℕ) (b : Option (List ℕ)) (c : List ℕ) (d : Option (List ℕ)) → a ≡ c → b ≡ d
     → ◌≡◌ {A = Item} (a, b) (c, d)
 pair_equal a b c d p q = rw (p, q) refl
@@ -316,6 +335,7 @@ begins r item items h =
       rest_is = rest_is s h.0 h.1 item h.3 e b;
     }
 
+-- two first items of one text are equal, and so are their rests
 begins_same : (r : List ℕ) (item item' : Item) (rest rest' : List ℕ) → Begins r item rest → Begins r item' rest'
     → (item ≡ item') × (rest ≡ rest')
 begins_same r item item' rest rest' h k = grind arith
@@ -334,6 +354,7 @@ only_items r (item ∷ a) (item' ∷ b) h k =
 pub items_more : (s : List ℕ) (items : List Item) → Items (rest_in s) items → Items (59 ∷ s) (item_in s ∷ items)
 items_more s items h = let p = has_parameter s in (p.text, rest_in s, p.joined, p.is_parameter, h)
 
+-- a text shorter than n that is empty or begins with ';' has a list of items
 items_below : (n : ℕ) (r : List ℕ) → length r < n → BeginsParameters r → (items : List Item) × Items r items
 items_below zero r l b = absurd (omega arith)
 items_below (suc n) [] l b = ([], refl)
@@ -428,6 +449,7 @@ pub record HasParts (t type_ subtype parameters : List ℕ) : Type 0 where
   pub subtype_is : subtype_in t ≡ subtype
   pub parameters_are : parameters_in t ≡ parameters
 
+-- if a text is type, '/', subtype, HTTP whitespace and parameters, these are the parts that are read from it
 parts_joined : (type_ subtype gap r : List ℕ) → Every is_token type_ → Every is_token subtype
     → Every is_http_whitespace gap → BeginsParameters r
     → HasParts (type_ ++ (47 ∷ (subtype ++ (gap ++ r)))) type_ subtype r
@@ -441,6 +463,7 @@ has_parts s type_ subtype r h = subst (λ x. HasParts x type_ subtype r) (sym h.
     (parts_joined type_ subtype h.gap r (every_token type_ h.is_type) (every_token subtype h.is_subtype) h.in_gap
     h.begins)
 
+-- two records with equal types, equal subtypes and equal parameters are equal
 record_equal : (m n : Record) → m.type_ ≡ n.type_ → m.subtype ≡ n.subtype → m.parameters ≡ n.parameters → m ≡ n
 record_equal m n t s p = λ i. record { type_ = t i; subtype = s i; parameters = p i }
 

@@ -22,7 +22,8 @@ use Rattle.std.specs.Str.{IsCharBoundary, IsUtf8, chars}
 use Rattle.data_url.specs.CodePoints.{ends_name, is_http_whitespace, is_semicolon, is_quotable}
 use Rattle.data_url.specs.Mime.{DoesNotBegin, DoesNotEnd, Every, Without, Quoted}
 use Rattle.data_url.specs.Mime.{QuotedOpen, after_backslash, nothing_quoted, as_itself}
-use Rattle.data_url.specs.Steps.Parsing.{IsTrimmedEnd, IsTrimmedFront, is_escaped, IsValue, is_quotable_byte, quotable_value}
+use Rattle.data_url.specs.Steps.Parsing.{IsTrimmedEnd, IsTrimmedFront, is_escaped, IsValue, is_quotable_byte}
+use Rattle.data_url.specs.Steps.Parsing.{quotable_value}
 use Rattle.data_url.specs.Steps.Parsing.{is_unquoted_byte}
 use Rattle.data_url.proofs.mime.Items.{all_from_every}
 use Rattle.std.specs.Char.{IsScalar}
@@ -43,12 +44,15 @@ pub record IsCut (t : ℕ → Bool) (s front after : List ℕ) : Type 0 where
   pub text : IsUtf8 front × IsUtf8 after
 
 module _ (t : ℕ → Bool) (ascii : (c : ℕ) → t c ≡ true → c < 128) where
+  -- a byte that does not pass the negation of t passes t
   fails : (b : ℕ) → not (t b) ≡ false → t b ≡ true
   fails b h = not-false (t b) h
 
+  -- if no byte of an encoded code point passes, the code point does not
   char_fails : (c : ℕ) → list_all (λ b. not (t b)) (encode_utf8 c) ≡ true → not (t c) ≡ true
   char_fails c h = grind (arith, encode_ascii)
 
+  -- if no byte of an encoded text passes, none of its code points does
   chars_fail : (cs : List ℕ) → list_all (λ b. not (t b)) (encode_utf8_all cs) ≡ true → Without t cs
   chars_fail [] h = tt
   chars_fail (c ∷ cs) h =
@@ -61,6 +65,7 @@ module _ (t : ℕ → Bool) (ascii : (c : ℕ) → t c ≡ true → c < 128) whe
       → n ≡ length s → Without t (chars s)
   whole_without s bytes n u b e h = grind (arith, chars_fail, encodes-chars, whole_front)
 
+  -- if a UTF-8 text does not begin with a byte that fails, its code points do not begin with one that fails
   begins_with : (bs : List ℕ) → IsUtf8 bs → DoesNotBegin (λ b. not (t b)) bs → DoesNotBegin (λ c. not (t c)) (chars bs)
   begins_with [] u h = subst (DoesNotBegin (λ c. not (t c))) (sym chars-nil) tt
   begins_with (b ∷ bs) u h =
@@ -130,6 +135,7 @@ whitespace_front s u =
       begins = h.begins;
     }
 
+-- if front ++ cs does not end with a code point that passes, cs does not either
 not_ends : (p : ℕ → Bool) (front cs : List ℕ) → ((init : List ℕ) (c : ℕ) → front ++ cs ≡ init ++ (c ∷ []) → p c ≡ false)
     → DoesNotEnd p cs
 not_ends p front [] h = tt
@@ -137,6 +143,7 @@ not_ends p front (c ∷ []) h = h front c refl
 not_ends p front (c ∷ d ∷ cs) h =
     not_ends p (front ++ (c ∷ [])) (d ∷ cs) (λ init e k. h init e (sym (append_assoc front (c ∷ []) (d ∷ cs)) ∙ k))
 
+-- the encoding of a text and one more code point is that of the text and then that of the code point
 encodes_last : (init : List ℕ) (c : ℕ) → encode_utf8_all (init ++ (c ∷ [])) ≡ encode_utf8_all init ++ encode_utf8 c
 encodes_last init c = encodes-append init (c ∷ []) ∙ ap (λ x. encode_utf8_all init ++ x) (append-nil (encode_utf8 c))
 
@@ -190,22 +197,27 @@ whitespace_end s n u e = grind (arith, trimmed_end)
 
 -- The bytes of quoted-string code points
 
+-- a quoted-string code point is below 256
 quotable_below : (c : ℕ) → is_quotable c ≡ true → c < 256
 unfolding is_quotable
 quotable_below c h = grind arith
 
+-- a byte of the UTF-8 of quoted-string code points is below 196
 quotable_byte_below : (b : ℕ) → is_quotable_byte b ≡ true → b < 196
 unfolding is_quotable_byte
 quotable_byte_below b h = grind arith
 
+-- for a code point below 2048, its bytes are all quotable exactly if it is a quoted-string code point
 low_quotable : (c : ℕ) → c < 2048 → list_all is_quotable_byte (encode c) ≡ is_quotable c
 unfolding encode is_quotable is_quotable_byte
 low_quotable c l = agree_below_at (λ x. list_all is_quotable_byte (encode x)) is_quotable 2048 c refl l
 
+-- the bytes of a code point that is at least 2048 are not all quotable
 high_quotable : (c : ℕ) → 2048 ≤ c → list_all is_quotable_byte (encode c) ≡ false
 unfolding encode
 high_quotable c l = grind (arith, quotable_byte_below)
 
+-- the bytes of an encoded text are all quotable exactly if its code points are all quotable
 quotable_bytes : (cs : List ℕ) → list_all is_quotable_byte (encode_utf8_all cs) ≡ list_all is_quotable cs
 quotable_bytes [] = refl
 quotable_bytes (c ∷ cs) = grind (arith, list_all-append, low_quotable, high_quotable, quotable_below, quotable_bytes cs)
@@ -267,10 +279,12 @@ unescape_ends_plain v r q value e l f h k = cc (append-nil (chars v), no_chars r
 
 -- A quoted string can be tested for quoted-string code points before its escapes are removed
 
+-- the backslash is a quoted-string code point
 backslash_quotable : is_quotable 92 ≡ true
 unfolding is_quotable
 backslash_quotable = refl
 
+-- a quoted text has only quoted-string code points exactly if its value has
 quoted_same : (q v : List ℕ) → Quoted q v → list_all is_quotable q ≡ list_all is_quotable v
 quoted_same q v nothing_quoted = refl
 quoted_same q v (as_itself {text} {value} c n m h) = ap (λ b. is_quotable c && b) (quoted_same text value h)
@@ -306,6 +320,7 @@ missing_text self value e i = let k = subst (λ s. IsValue s value) e i in sym k
 
 -- A quoted string without a '\'
 
+-- removing the escapes of a text without '"' and '\' does not change it
 stays_unescaped : (cs : List ℕ) → Without is_escaped cs → unescaped false cs ≡ cs
 stays_unescaped [] h = refl
 stays_unescaped (c ∷ cs) h = grind (arith, stays_unescaped cs h.1)
@@ -327,6 +342,7 @@ pub front_len : (bytes after : List ℕ) (quotable more : ℕ) → quotable ≡ 
     → quotable + more ≡ prefix_len (λ b. not (is_semicolon b)) bytes
 front_len = grind (arith, front_further, prefix_len-le-length, prefix_len_passes)
 
+-- if each byte of a text is an unquoted byte, all are quotable
 all_quotable : (bs : List ℕ) → Every is_unquoted_byte bs → list_all is_quotable_byte bs ≡ true
 all_quotable [] h = refl
 all_quotable (b ∷ bs) h = grind (arith, all_quotable bs h.1)

@@ -56,6 +56,7 @@ pub rest_forced : (s y su p a b c : List ℕ) → CutAgain y su p → (h : IsHea
     → (su ≡ b) × (p ≡ c)
 rest_forced s y su p a b c k h e = grind (arith, same_span, every_token, gap_no_token)
 
+-- a token text is not empty
 not_empty : (a : List ℕ) → IsTrue (is_token_text a) → a ≡ [] → ⊥
 not_empty a h e = false≢true (sym (ap is_token_text e) ∙ h)
 
@@ -81,6 +82,7 @@ no_parameters s ty y su p k g n a b c h =
     (tail_equal 47 47 y (b ++ (h.gap ++ c)) (head_forced s ty (47 ∷ y) a b c k h).1) in
     n (subst BeginsParameters (sym f.1) h.begins)
 
+-- a text of token code points that is not empty is a token text
 nonempty_tokens : (a : List ℕ) → Every is_token a → (a ≡ [] → ⊥) → IsTrue (is_token_text a)
 nonempty_tokens [] h n = absurd (n refl)
 nonempty_tokens (c ∷ a) h n = all_from_every is_token (c ∷ a) h
@@ -111,6 +113,7 @@ pub empty_begins : (x : List ℕ) (b : Bool) → b ≡ (length x == 0) → b ≡
     → MatchBool b (BeginsParameters (chars x)) (¬ (BeginsParameters (chars x)))
 empty_begins x b e h = rw h (subst BeginsParameters (sym (empty_chars x (sym e ∙ h))) tt)
 
+-- if a UTF-8 text is not empty, and its bytes do not begin with ';', its code points do not either
 begins_semicolon : (x cs : List ℕ) → IsUtf8 x → (cs ≡ [] → ⊥) → ((rest : List ℕ) → x ≡ encode_utf8 59 ++ rest → ⊥)
     → chars x ≡ cs → BeginsParameters cs → ⊥
 begins_semicolon x [] u n h e b = n refl
@@ -160,6 +163,7 @@ empty_by x b e h = empty_chars x (sym e ∙ h)
 pub nonempty_by : (x : List ℕ) (b : Bool) → IsUtf8 x → b ≡ (length x == 0) → b ≡ false → chars x ≡ [] → ⊥
 nonempty_by x b u e h k = nonempty_chars x u (sym e ∙ h) k
 
+-- if a UTF-8 text has no code points or begins with ';', and its bytes do not begin with ';', it has none
 no_semicolon_text : (x cs : List ℕ) → IsUtf8 x → BeginsParameters cs → ((rest : List ℕ) → x ≡ encode_utf8 59 ++ rest
     → ⊥) → chars x ≡ cs → cs ≡ []
 no_semicolon_text x [] u b h e = refl
@@ -189,6 +193,7 @@ plain_value s front after value d j w b t = record {
   begins = b;
 }
 
+-- `unless_empty` of a value that is not empty is `Some` of it
 some_unless_empty : (value : List ℕ) → (value ≡ [] → ⊥) → unless_empty value ≡ Some value
 some_unless_empty [] n = absurd (n refl)
 some_unless_empty (c ∷ value) n = refl
@@ -200,6 +205,7 @@ some_value s front after value n h = subst (λ v. HasValueBefore (61 ∷ s) v af
 
 -- A quoted string
 
+-- if the bytes of a UTF-8 text do not begin with '"', its code points do not either
 not_quote_text : (x cs : List ℕ) → IsUtf8 x → ((rest : List ℕ) → x ≡ encode_utf8 34 ++ rest → ⊥) → chars x ≡ cs
     → DoesNotBegin is_quote cs
 not_quote_text x [] u n e = tt
@@ -238,6 +244,7 @@ closed_value_before s q raw w junk rest value e j h k n b = record {
 
 -- A name, and the text after it
 
+-- a UTF-8 text that is empty or begins with ';' or '=', but not with '=', is empty or begins with ';'
 no_value_text : (x cs : List ℕ) → IsUtf8 x → DoesNotBegin (λ c. not (ends_name c)) cs
     → ((rest : List ℕ) → x ≡ encode_utf8 61 ++ rest → ⊥) → chars x ≡ cs → BeginsParameters cs
 no_value_text x [] u d n e = tt

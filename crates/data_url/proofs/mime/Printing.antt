@@ -42,6 +42,7 @@ escaped_end r done whole l h = grind (arith, append-nil, no_chars)
 
 -- A text with nothing to escape
 
+-- escaping a text without '"' and '\' does not change it
 plain_chars : (cs : List ℕ) → Without is_escaped cs → flat_map escaped_code_point cs ≡ cs
 plain_chars [] h = refl
 plain_chars (c ∷ cs) h = grind (arith, plain_chars cs h.1)
@@ -102,9 +103,7 @@ pub record_ends : {A B : Type 0} (pairs : List (String A × String B)) (i : ℕ)
     → done ++ pairs_text (drop i pairs) ≡ whole → done ≡ whole
 record_ends pairs i done whole l h = grind (arith, append-nil, drop_of_length-le)
 
--- the same for a reference
-
--- the same, for two texts that are the bytes of the type and of the subtype
+-- if a and b are the bytes of the type and of the subtype, the parts of a printed record join to its text
 pub record_starts_by : (m : Mime) (a b : List ℕ) → a ≡ string_bytes m.type_ → b ≡ string_bytes m.subtype
     → ((a ++ (47 ∷ [])) ++ b) ++ pairs_text m.parameters.items ≡ encode_utf8_all (printed (record_of m))
 record_starts_by m a b e f = cc (encode_ascii 47 (omega arith), record_starts m)
@@ -173,16 +172,20 @@ module _ {W : Type 0} {took : W → List ℕ → W → Type 0} where
 
 -- Records of the same texts.
 
+-- if the test of equality is true, two texts are equal
 bytes_same : (a b : List ℕ) → bytes_eq a b ≡ true → a ≡ b
 bytes_same a b h = same_text a b (sym h)
 
+-- if two texts are equal, the test of equality is true
 same_bytes : (a b : List ℕ) → a ≡ b → bytes_eq a b ≡ true
 same_bytes a b h = subst (λ x. bytes_eq a x ≡ true) h (nat_list_eq_equiv.refl a)
 
+-- if s and t are true, so is `s && t`
 both : (s t : Bool) → s ≡ true → t ≡ true → (s && t) ≡ true
 both true t h k = k
 both false t h k = h
 
+-- if the test of two pairs is true, their texts are equal
 pair_same : {A B : Type 0} (p q : String A × String B) → same_pair p q ≡ true → texts_of_pair p ≡ texts_of_pair q
 pair_same p q h =
     let first = bytes_same (string_bytes p.0) (string_bytes q.0)
@@ -191,9 +194,11 @@ pair_same p q h =
     (second_so (bytes_eq (string_bytes p.0) (string_bytes q.0)) _ h) in
     ap (λ x. (x, string_bytes p.1)) first ∙ ap (λ x. (string_bytes q.0, x)) second
 
+-- if the texts of two pairs are equal, the test of the pairs is true
 same_pair_of : {A B : Type 0} (p q : String A × String B) → texts_of_pair p ≡ texts_of_pair q → same_pair p q ≡ true
 same_pair_of p q h = grind (arith, same_bytes)
 
+-- if the test of two lists, pair by pair, is true, the lists have equal texts
 pairs_same : {A B : Type 0} (ps qs : List (String A × String B)) → pointwise same_pair ps qs ≡ true
     → map texts_of_pair ps ≡ map texts_of_pair qs
 pairs_same [] [] h = refl
@@ -202,6 +207,7 @@ pairs_same (p ∷ ps) [] h = absurd (cc)
 pairs_same (p ∷ ps) (q ∷ qs) h =
     grind (arith, pair_same, pairs_same ps qs (second_so (same_pair p q) (pointwise same_pair ps qs) h))
 
+-- if two lists of pairs have equal texts, the test of the lists, pair by pair, is true
 same_pairs : {A B : Type 0} (ps qs : List (String A × String B)) → map texts_of_pair ps ≡ map texts_of_pair qs
     → pointwise same_pair ps qs ≡ true
 same_pairs [] [] h = refl
@@ -227,10 +233,11 @@ copied_pairs [] (q ∷ qs) h = absurd h
 copied_pairs (p ∷ ps) [] h = absurd h
 copied_pairs (p ∷ ps) (q ∷ qs) h = grind (arith, copied_pairs ps qs h.1)
 
--- code points follow from bytes
+-- a pair of texts as code points
 abbrev pair_seen : List ℕ × List ℕ → Pair
 pair_seen p = (chars p.0, chars p.1)
 
+-- the code points of pairs are those of their bytes
 pairs_seen : {A B : Type 0} (ps : List (String A × String B)) → map pair_of ps ≡ map pair_seen (map texts_of_pair ps)
 pairs_seen [] = refl
 pairs_seen (p ∷ ps) = ap (λ xs. pair_of p ∷ xs) (pairs_seen ps)
@@ -241,9 +248,11 @@ same_seen m n h = grind (arith, pairs_seen)
 
 -- bytes follow from code points
 
+-- the UTF-8 of both texts of a pair
 abbrev pair_spelled : Pair → List ℕ × List ℕ
 pair_spelled p = (encode_utf8_all p.0, encode_utf8_all p.1)
 
+-- the bytes of pairs are the UTF-8 of their code points
 pairs_spelled : {A B : Type 0} (ps : List (String A × String B))
     → map texts_of_pair ps ≡ map pair_spelled (map pair_of ps)
 pairs_spelled [] = refl

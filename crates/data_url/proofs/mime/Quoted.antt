@@ -63,6 +63,7 @@ abbrev pub IsRead : List ℕ → List ℕ → Option (List ℕ) → Type 0
 IsRead s value None = QuotedOpen s value
 IsRead s value (Some w) = (q : List ℕ) × (s ≡ q ++ (34 ∷ w)) × Quoted q value
 
+-- if x before a quoted text puts c before its value, it does so before a text from which a value is read
 read_more : (x : List ℕ) (c : ℕ) (s v : List ℕ) (r : Option (List ℕ))
     → ((q w : List ℕ) → Quoted q w → Quoted (x ++ q) (c ∷ w)) → IsRead s v r → IsRead (x ++ s) (c ∷ v) r
 read_more x c s v None more (inl h) = inl (more s v h)
@@ -80,6 +81,7 @@ abbrev pub flagged : Bool → List ℕ → List ℕ
 flagged false s = s
 flagged true s = 92 ∷ s
 
+-- if t can be read with and without a backslash before it, so can c and then t, where c is not escaped
 read_plain : (c : ℕ) (t : List ℕ) → IsRead (flagged false t) (quoted_value false t) (quoted_rest false t)
     → IsRead (flagged true t) (quoted_value true t) (quoted_rest true t) → (b d : Bool) → (c == 34) ≡ b → (c == 92) ≡ d
     → IsRead (c ∷ t) (cond b [] (cond d (quoted_value true t) (c ∷ quoted_value false t)))
@@ -107,6 +109,7 @@ unescaped false [] = []
 unescaped true [] = 92 ∷ []
 unescaped escaped (c ∷ t) = cond ((c == 92) && not escaped) (unescaped true t) (c ∷ unescaped false t)
 
+-- a quoted text and then x, without escapes, are the value of the text and then x without escapes
 unescaped_before : (q v x : List ℕ) → Quoted q v → unescaped false (q ++ x) ≡ v ++ unescaped false x
 unescaped_before q v x nothing_quoted = refl
 unescaped_before q v x (as_itself {text} {value} c n m h) = grind (arith, unescaped_before text value x h)
@@ -119,6 +122,7 @@ unescaped_is q v (inr (q', v', t, e, h)) = ap (unescaped false) t ∙ (unescaped
 
 -- The closing quote is at the same place in the bytes of a text as in its code points.
 
+-- a byte that is not ASCII, put before a text, does not change the text after the closing quote
 skips : (b : ℕ) (t : List ℕ) → 128 ≤ b → quoted_rest false (b ∷ t) ≡ quoted_rest false t
 skips b t h = grind arith
 
@@ -141,6 +145,7 @@ rest_chars bs u = ap (quoted_rest false) (sym (encodes-chars bs u)) ∙ rest_enc
 
 -- No closing quote
 
+-- if no text after a closing quote is read, the text is a quoted string without a closing quote
 open_if : (s v : List ℕ) (o : Option (List ℕ)) → IsRead s v o → option_map encode_utf8_all o ≡ None → IsOpen s
 open_if s v None h e = (v, h)
 open_if s v (Some w) h e = absurd (let k = e in cc)
@@ -152,10 +157,12 @@ is_open bs text i e u b l h = grind (arith, drop_of_length-le, open_if, is_read,
 
 -- The closing quote
 
+-- if all code points of q ++ w are Unicode scalar values, so are those of w
 scalars_after : (q w : List ℕ) → all_scalars (q ++ w) ≡ true → all_scalars w ≡ true
 scalars_after [] w h = h
 scalars_after (c ∷ q) w h = scalars_after q w (and_parts (scalar c) (all_scalars (q ++ w)) h).1
 
+-- if a text is raw, '"' and after, and after is what is read as the rest, raw is a quoted string that ends there
 closed_if : (bs raw after v : List ℕ) (o : Option (List ℕ)) → IsRead (chars bs) v o
     → option_map encode_utf8_all o ≡ Some after → all_scalars (chars bs) ≡ true
     → chars bs ≡ chars raw ++ (34 ∷ chars after) → IsUtf8 after → IsClosed bs raw after
@@ -163,9 +170,11 @@ closed_if bs raw after v None h e s j u = absurd (let k = e in cc)
 closed_if bs raw after v (Some w) h e s j u =
     grind (arith, chars-encodes, scalars_after, append_cancel_right)
 
+-- if a text has a '"' at index i, the text from i on is '"' and then the text from i + 1 on
 quote_joined : (bs : List ℕ) (i : ℕ) → IsUtf8 bs → i < length bs → get_or bs i 0 ≡ 34 → drop i bs ≡ 34 ∷ drop (i + 1) bs
 quote_joined bs i u l e = drop-cons bs i 0 l ∙ ap₂ (λ x y. x ∷ y) e (ap (λ k. drop k bs) (sym (add-one i)))
 
+-- if a UTF-8 text has a '"' at index i, its code points are those before i, '"', and those after i
 chars_joined : (bs : List ℕ) (i : ℕ) → IsUtf8 bs → i < length bs → get_or bs i 0 ≡ 34
     → chars bs ≡ chars (take i bs) ++ (34 ∷ chars (drop (i + 1) bs))
 chars_joined bs i u l e =
@@ -177,6 +186,7 @@ chars_joined bs i u l e =
           ∙ ap (λ x. x ++ drop (i + 1) bs) (sym (encode_ascii 34 (omega arith)))),
     )
 
+-- the range of a text from 0 to i is its first i bytes
 range_take : (bs : List ℕ) (i : ℕ) → slice_range bs 0 i ≡ take i bs
 range_take bs i = ap (λ k. take k bs) (omega arith)
 

@@ -10,7 +10,8 @@ use Rattle.data_url.specs.Mime.{BeginsParameters, DoesNotBegin, DoesNotEnd, Ever
 use Rattle.data_url.specs.Mime.{IsParameter, IsWellformed, Item, Items, Pair, Parses}
 use Rattle.data_url.specs.Mime.{Quoted, Record, Without, escaped_code_point, first_of_each_name, has_distinct_names}
 use Rattle.data_url.specs.Mime.{has_name, is_lowercase_name, is_quote, is_token_text, kept_pairs, plain, printed}
-use Rattle.data_url.specs.Mime.{printed_pair, printed_value, quoted, unless_empty, valid_pairs, after_backslash, nothing_quoted, as_itself}
+use Rattle.data_url.specs.Mime.{printed_pair, printed_value, quoted, unless_empty, valid_pairs, after_backslash}
+use Rattle.data_url.specs.Mime.{nothing_quoted, as_itself}
 use Rattle.data_url.proofs.mime.Items.{not_begins_append, every_token, has_at_most_one_record}
 use Rattle.data_url.proofs.mime.FirstNames.{has_append, lower_is_itself, lowercase_token, test_from_different}
 use Rattle.data_url.proofs.mime.FirstNames.{test_from_equal}
@@ -20,25 +21,31 @@ use Rattle.data_url.specs.Url.{without_end, without_front}
 
 -- Token code points
 
+-- c is not a token code point that passes p
 abbrev excludes : (ℕ → Bool) → ℕ → Bool
 excludes p c = not (is_token c && p c)
 
+-- if no token code point below 128 passes p, no token code point does
 excluded : (p : ℕ → Bool) → agree_below (excludes p) (λ c. true) 128 ≡ true → (c : ℕ) → is_token c ≡ true → p c ≡ false
 excluded p a c h = false_from_ne_true (p c) (λ k. both_ways (excludes p c) (ap (λ v. not (v && p c)) h ∙ ap not k)
     (agree_below_at (excludes p) (λ d. true) 128 c a (token_below c h)))
 
+-- a token code point is not HTTP whitespace
 token_not_space : (c : ℕ) → is_token c ≡ true → is_http_whitespace c ≡ false
 unfolding is_token
 token_not_space c h = excluded is_http_whitespace refl c h
 
+-- a token code point does not end a name
 token_not_end : (c : ℕ) → is_token c ≡ true → ends_name c ≡ false
 unfolding is_token
 token_not_end c h = excluded ends_name refl c h
 
+-- a token code point is not ';'
 token_not_semicolon : (c : ℕ) → is_token c ≡ true → is_semicolon c ≡ false
 unfolding is_token
 token_not_semicolon c h = excluded is_semicolon refl c h
 
+-- a token code point is not '"'
 token_not_quote : (c : ℕ) → is_token c ≡ true → is_quote c ≡ false
 unfolding is_token
 token_not_quote c h = excluded is_quote refl c h
@@ -49,11 +56,13 @@ tokens_without : (p : ℕ → Bool) → ((c : ℕ) → is_token c ≡ true → p
 tokens_without p n [] h = tt
 tokens_without p n (c ∷ t) h = (ap not (n c h.0), tokens_without p n t h.1)
 
+-- if no token code point passes, a text of token code points does not begin with one that passes
 tokens_not_begin : (p : ℕ → Bool) → ((c : ℕ) → is_token c ≡ true → p c ≡ false) → (t : List ℕ) → Every is_token t
     → DoesNotBegin p t
 tokens_not_begin p n [] h = tt
 tokens_not_begin p n (c ∷ t) h = n c h.0
 
+-- if no token code point passes, a text of token code points does not end with one that passes
 tokens_not_end : (p : ℕ → Bool) → ((c : ℕ) → is_token c ≡ true → p c ≡ false) → (t : List ℕ) → Every is_token t
     → DoesNotEnd p t
 tokens_not_end p n [] h = tt
@@ -62,6 +71,7 @@ tokens_not_end p n (c ∷ d ∷ t) h = tokens_not_end p n (d ∷ t) h.1
 
 -- Ends of texts
 
+-- if neither a nor b ends with a code point that passes, a ++ b does not either
 not_ends_append : (p : ℕ → Bool) (a b : List ℕ) → DoesNotEnd p a → DoesNotEnd p b → DoesNotEnd p (a ++ b)
 not_ends_append p [] b h k = k
 not_ends_append p (c ∷ []) [] h k = h
@@ -76,6 +86,7 @@ not_ends_last p c h (d ∷ e ∷ a) = not_ends_last p c h (e ∷ a)
 
 -- A value
 
+-- a text, escaped, is the text of a quoted string whose value is the text
 quoted_escaped : (v : List ℕ) → Quoted (flat_map escaped_code_point v) v
 quoted_escaped [] = nothing_quoted
 quoted_escaped (c ∷ v) = cond_both ((c == 34) || (c == 92)) (92 ∷ c ∷ []) (c ∷ [])
@@ -84,10 +95,12 @@ quoted_escaped (c ∷ v) = cond_both ((c == 34) || (c == 92)) (92 ∷ c ∷ []) 
     (λ e. let p = or_parts (c == 34) (c == 92) e in as_itself c (eqb-false c 34 p.0) (eqb-false c 92 p.1)
     (quoted_escaped v))
 
+-- `unless_empty` of a token text is `Some` of it
 is_nonempty : (v : List ℕ) → is_token_text v ≡ true → unless_empty v ≡ Some v
 is_nonempty [] h = absurd (both_ways false refl h)
 is_nonempty (c ∷ v) h = refl
 
+-- '=' and a token text give the token text as value
 plain_value : (v rest : List ℕ) → is_token_text v ≡ true → GivesValue (61 ∷ v) rest (Some v)
 plain_value v rest h =
     let t = every_token v h in
@@ -95,11 +108,13 @@ plain_value v rest h =
     token_not_space v t)) ∙ is_nonempty v h)
     (plain v (tokens_without is_semicolon token_not_semicolon v t) (tokens_not_begin is_quote token_not_quote v t))
 
+-- '=' and a printed value give the value
 gives_value : (v rest : List ℕ) → GivesValue (61 ∷ printed_value v) rest (Some v)
 gives_value v rest = cond_both (is_token_text v) v (34 ∷ (flat_map escaped_code_point v ++ (34 ∷ [])))
     (λ t. GivesValue (61 ∷ t) rest (Some v)) (λ e. plain_value v rest e) (λ e. quoted (flat_map escaped_code_point v) []
     (quoted_escaped v) tt)
 
+-- a printed value does not end with HTTP whitespace
 value_not_end : (v : List ℕ) → DoesNotEnd is_http_whitespace (printed_value v)
 value_not_end v = cond_both (is_token_text v) v (34 ∷ (flat_map escaped_code_point v ++ (34 ∷ [])))
     (λ t. DoesNotEnd is_http_whitespace t)
@@ -108,12 +123,15 @@ value_not_end v = cond_both (is_token_text v) v (34 ∷ (flat_map escaped_code_p
 
 -- A parameter
 
+-- each code point of a lower-case name is a token code point
 name_tokens : (t : List ℕ) → is_lowercase_name t ≡ true → Every is_token t
 name_tokens t h = every_token t (lowercase_token t h)
 
+-- a lower-case name does not end with HTTP whitespace
 name_not_end : (t : List ℕ) → is_lowercase_name t ≡ true → DoesNotEnd is_http_whitespace t
 name_not_end t h = tokens_not_end is_http_whitespace token_not_space t (name_tokens t h)
 
+-- a printed pair with a lower-case name is a parameter with the name and the value of the pair
 is_parameter : (p : Pair) (rest : List ℕ) → is_lowercase_name p.0 ≡ true
     → IsParameter (printed_pair p) rest (p.0, Some p.1)
 is_parameter p rest h = record {
@@ -128,6 +146,7 @@ is_parameter p rest h = record {
   value_is = gives_value p.1 rest;
 }
 
+-- a printed pair with a lower-case name does not end with HTTP whitespace
 pair_not_end : (p : Pair) → is_lowercase_name p.0 ≡ true → DoesNotEnd is_http_whitespace (printed_pair p)
 pair_not_end p h = not_ends_append is_http_whitespace (59 ∷ []) (p.0 ++ (61 ∷ printed_value p.1)) refl
     (not_ends_append is_http_whitespace p.0 (61 ∷ printed_value p.1) (name_not_end p.0 h)
@@ -135,15 +154,19 @@ pair_not_end p h = not_ends_append is_http_whitespace (59 ∷ []) (p.0 ++ (61 �
 
 -- Parameters
 
+-- all names are lower-case
 abbrev have_names : List Pair → Bool
 have_names pairs = list_all (λ (p : Pair). is_lowercase_name p.0) pairs
 
+-- all values have only quoted-string code points
 abbrev have_values : List Pair → Bool
 have_values pairs = list_all (λ (p : Pair). list_all is_quotable p.1) pairs
 
+-- the item of a pair
 abbrev item_of : Pair → Item
 item_of p = (p.0, Some p.1)
 
+-- the text of printed pairs with lower-case names has the items of the pairs
 printed_items : (pairs : List Pair) → have_names pairs ≡ true → Items (flat_map printed_pair pairs) (map item_of pairs)
 printed_items [] h = refl
 printed_items (p ∷ pairs) h =
@@ -155,10 +178,12 @@ printed_items (p ∷ pairs) h =
       printed_items pairs k.1,
     )
 
+-- the text of printed pairs is empty or begins with ';'
 pairs_begin : (pairs : List Pair) → BeginsParameters (flat_map printed_pair pairs)
 pairs_begin [] = tt
 pairs_begin (p ∷ pairs) = refl
 
+-- the text of printed pairs with lower-case names does not end with HTTP whitespace
 pairs_not_end : (pairs : List Pair) → have_names pairs ≡ true
     → DoesNotEnd is_http_whitespace (flat_map printed_pair pairs)
 pairs_not_end [] h = tt
@@ -169,6 +194,7 @@ pairs_not_end (p ∷ pairs) h =
 
 -- All of them are kept
 
+-- pairs with lower-case names and values of quoted-string code points are all valid
 all_valid : (pairs : List Pair) → have_names pairs ≡ true → have_values pairs ≡ true
     → valid_pairs (map item_of pairs) ≡ pairs
 all_valid [] h k = refl
@@ -183,13 +209,16 @@ all_valid (p ∷ pairs) h k =
 abbrev Apart : List Pair → List Pair → Type 0
 Apart earlier pairs = AllByRecursion (λ (p : Pair). has_name p.0 earlier ≡ false) pairs
 
+-- no pair has a name of earlier ones if there are no earlier ones
 apart_none : (pairs : List Pair) → Apart [] pairs
 apart_none [] = tt
 apart_none (p ∷ pairs) = (refl, apart_none pairs)
 
+-- if the test that a equals b is false, so is the test that b equals a
 other_name : (a b : List ℕ) → bytes_eq a b ≡ false → bytes_eq b a ≡ false
 other_name a b h = test_from_different b a (λ e. both_ways (bytes_eq a b) h (test_from_equal a b (sym e)))
 
+-- if no pair has a name of the earlier ones or that of p, no pair has a name of the earlier ones with p pushed
 apart_more : (earlier : List Pair) (p : Pair) (pairs : List Pair) → Apart earlier pairs → has_name p.0 pairs ≡ false
     → Apart (earlier ++ (p ∷ [])) pairs
 apart_more earlier p [] h k = tt
@@ -198,6 +227,7 @@ apart_more earlier p (q ∷ pairs) h k = let f = or_parts (bytes_eq q.0 p.0) (ha
   apart_more earlier p pairs h.1 f.1,
 )
 
+-- pairs with distinct names, none of them that of an earlier pair, are all the first of their name
 first_itself : (earlier pairs : List Pair) → Apart earlier pairs → has_distinct_names pairs ≡ true
     → first_of_each_name earlier pairs ≡ pairs
 first_itself earlier [] h k = refl
@@ -206,22 +236,26 @@ first_itself earlier (p ∷ pairs) h k =
     cc (first_itself (earlier ++ (p ∷ [])) pairs (apart_more earlier p pairs h.1 (not-true (has_name p.0 pairs) d.0))
     d.1)
 
+-- all parameters of a well-formed record are kept
 all_kept : (m : Record) → IsWellformed m → m.parameters ≡ kept_pairs (map item_of m.parameters)
 all_kept m w = sym (ap (first_of_each_name []) (all_valid m.parameters w.names w.values)
     ∙ first_itself [] m.parameters (apart_none m.parameters) w.distinct)
 
 -- The whole
 
+-- a text that does not begin with a code point that passes has no prefix to remove
 front_stays : (p : ℕ → Bool) (s : List ℕ) → DoesNotBegin p s → without_front p s ≡ s
 front_stays p [] b = refl
 front_stays p (c ∷ s) b = grind arith
 
+-- a well-formed record, printed, does not begin with HTTP whitespace
 printed_begins : (m : Record) → IsWellformed m → DoesNotBegin is_http_whitespace (printed m)
 unfolding printed
 printed_begins m w = not_begins_append is_http_whitespace m.type_
     (47 ∷ (m.subtype ++ flat_map printed_pair m.parameters))
     (tokens_not_begin is_http_whitespace token_not_space m.type_ (name_tokens m.type_ w.type_)) refl
 
+-- a well-formed record, printed, does not end with HTTP whitespace
 printed_ends : (m : Record) → IsWellformed m → DoesNotEnd is_http_whitespace (printed m)
 unfolding printed
 printed_ends m w =
@@ -231,6 +265,7 @@ printed_ends m w =
     (not_ends_append is_http_whitespace m.subtype (flat_map printed_pair m.parameters)
     (name_not_end m.subtype w.subtype) (pairs_not_end m.parameters w.names)))
 
+-- a well-formed record, printed, has its type, its subtype and its printed parameters as head
 printed_head : (m : Record) → IsWellformed m → IsHead (printed m) m.type_ m.subtype (flat_map printed_pair m.parameters)
 unfolding printed
 printed_head m w = record {

@@ -15,9 +15,11 @@ use Rattle.data_url.specs.CodePoints.{is_token}
 use Rattle.data_url.specs.Mime.{DoesNotBegin, Every, is_token_text}
 use Rattle.data_url.proofs.texts.CodePoints.{after_begins, after_front, front_of, front_passes}
 
+-- a code point in a range that ends below 128 is below 128
 in_range_below : (low high c : ℕ) → is_in_range low high c ≡ true → high < 128 → c < 128
 in_range_below low high c r l = let e = leb-true c high (and_parts (nat_le low c) (nat_le c high) r).1 in omega arith
 
+-- a code point that is one of some marks below 128 is below 128
 any_below : (c : ℕ) (marks : List ℕ) → list_all (λ m. nat_lt m 128) marks ≡ true → list_any (λ m. m == c) marks ≡ true
     → c < 128
 any_below c [] h e = absurd (false≢true e)

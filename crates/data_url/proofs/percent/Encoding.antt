@@ -35,10 +35,12 @@ use Rattle.data_url.specs.declared.percent.EncodeSet.{EncodeSet}
 abbrev pub row_at : List ℕ → ℕ → List ℕ
 row_at rows b = take (4 * b + 4 - 4 * b) (drop (4 * b) rows)
 
+-- the row has four bytes: the encoding of its byte at the start, and the length of that encoding at the end
 abbrev is_row : (ℕ → Bool) → ℕ → List ℕ → Bool
 is_row p b row = (length row == 4) && ((slice_index row 3 == length (byte_encoding p b)) && bytes_eq
     (take (slice_index row 3) row) (byte_encoding p b))
 
+-- a list that passes `is_row` is the row of its byte
 row_of_test : (p : ℕ → Bool) (b : ℕ) (row : List ℕ) → is_row p b row ≡ true → IsRow p b row
 row_of_test p b row h = grind (arith, eqb-true)
 
@@ -78,6 +80,7 @@ pub data Recoded : List ℕ → List ℕ → Type 0 where
 
 -- Bytes
 
+-- the byte is not both in the query's set and a hexadecimal digit
 abbrev no_hex : ℕ → Bool
 no_hex b = not (in_query_set b && is_ascii_hexdigit b)
 
@@ -93,9 +96,11 @@ set_no_hex b l h = elim (cases_Bool (is_ascii_hexdigit b)) [
 set_other : (b c : ℕ) → in_query_set c ≡ false → in_query_set b ≡ true → (b == c) ≡ false
 set_other b c e h = ne_eqb b c (λ (k : b ≡ c). both_ways (in_query_set b) (ap in_query_set k ∙ e) h)
 
+-- the value of the hexadecimal digit of a number below 16 is that number
 hex_digit_value : (d : ℕ) → d < 16 → digit_value (hex_digit d) ≡ d
 hex_digit_value d l = grind arith
 
+-- the upper-case hexadecimal digit of a number below 16 is a hexadecimal digit
 hex_digit_hex : (d : ℕ) → d < 16 → is_ascii_hexdigit (hex_digit d) ≡ true
 hex_digit_hex d l = agree_below_at (λ d. is_ascii_hexdigit (hex_digit d)) (λ c. true) 16 d refl l
 
@@ -126,6 +131,7 @@ decoded_written : (b : ℕ) (x : List ℕ) → b < 256 → percent_decoding (37 
     ≡ b ∷ percent_decoding x
 decoded_written b x l = grind (arith, decoded_escape, hex_digit_hex, hex_digit_value)
 
+-- percent-encoding bytes of the query's set does not change whether a text begins with two hexadecimal digits
 same_digits : {s x : List ℕ} → Recoded s x → two_digits x ≡ two_digits s
 same_digits none = refl
 same_digits (kept b none) = refl
@@ -149,6 +155,7 @@ escapes b c d s x h e = grind (arith, decoded_escape)
 no_escape : (b : ℕ) (v : Bool) → v ≡ false → ((b == 37) && v) ≡ false
 no_escape b v h = and_right (b == 37) v h
 
+-- a text whose first byte is not a hexadecimal digit does not begin with two of them
 first_no_digit : (c : ℕ) (s : List ℕ) → is_ascii_hexdigit c ≡ false → two_digits (c ∷ s) ≡ false
 first_no_digit c [] h = refl
 first_no_digit c (d ∷ s) h = and_left (is_ascii_hexdigit c) (is_ascii_hexdigit d) h
@@ -233,6 +240,7 @@ pub serialised_query : (s : List ℕ) → serialised (63 ∷ s) ≡ 63 ∷ perce
 unfolding serialised
 serialised_query s = grind (arith, before_same, after_same, path_nil)
 
+-- the first byte of a path is encoded with the set for its place, before the rest of the path and the query
 with_query_cons : (b : ℕ) (path : List ℕ) (query : Option (List ℕ))
     → with_query (encoded_path (b ∷ path)) query
     ≡ encoded_byte (path_byte_set path) b ++ with_query (encoded_path path) query
@@ -264,6 +272,7 @@ RecodedTails None (Some y) = ⊥
 RecodedTails (Some t) None = ⊥
 RecodedTails (Some t) (Some y) = Recoded t y
 
+-- a percent-encoded byte at the front does not change what follows the first comma
 after_written : (b : ℕ) (x : List ℕ) → after 44 (37 ∷ hex_digit (b / 16) ∷ hex_digit (b % 16) ∷ x) ≡ after 44 x
 after_written b x = grind (arith, after_other)
 
@@ -276,9 +285,11 @@ recoded_tails (written {s} {x} b h l r) = grind (arith, after_other, set_other, 
 
 -- the bytes before the first comma of an encoded text are the encoding of the bytes before the first comma
 
+-- the encoding of a byte that is not a comma has no comma
 encoded_byte_lacks : (p : ℕ → Bool) (b : ℕ) → (b == 44) ≡ false → after 44 (encoded_byte p b) ≡ None
 encoded_byte_lacks p b h = grind (arith, after_nil, after_other)
 
+-- if a set does not have the comma, cutting at the first comma and encoding can be done in either order
 before_encoded : (p : ℕ → Bool) → p 44 ≡ false → (s : List ℕ) → before 44 (percent_encoding p s) ≡ percent_encoding p
     (before 44 s)
 before_encoded p h [] = grind (arith, encoded_nil, before_nil)
@@ -302,6 +313,7 @@ abbrev pub header_byte_set : List ℕ → Option (List ℕ) → ℕ → Bool
 header_byte_set path None = in_path_set
 header_byte_set path (Some query) = path_byte_set path
 
+-- the first byte of a header's path is encoded with the set for its place, before the encoded rest of the header
 header_cons : (b : ℕ) (path : List ℕ) (query : Option (List ℕ)) → header_parts (b ∷ path) query ≡ encoded_byte
     (header_byte_set path query) b ++ header_parts path query
 header_cons b path None = encoded_cons in_path_set b path
@@ -346,9 +358,11 @@ before-serialised (b ∷ h) rest e =
 abbrev pub encoded : (ℕ → Bool) → List ℕ → List ℕ
 encoded p s = percent_encoding p (without_tabs_and_newlines s)
 
+-- the encoding of the empty text is empty
 encoded_empty : (p : ℕ → Bool) → encoded p [] ≡ []
 encoded_empty p = ap (percent_encoding p) dropped_nil ∙ encoded_nil p
 
+-- the encoding of a text is that of its first byte, then that of the rest
 written_first : (p : ℕ → Bool) (b : ℕ) (s : List ℕ) → encoded p (b ∷ s) ≡ byte_encoding p b ++ encoded p s
 written_first p b s = grind (arith, dropped_passes, dropped_keeps, encoded_cons)
 
@@ -368,6 +382,7 @@ encoded_from p s i = encoded p (drop i s)
 abbrev pub WroteTo : (ℕ → Bool) → List ℕ → ℕ → List ℕ → Type 0
 WroteTo p s i text = text ++ encoded_from p s i ≡ encoded p s
 
+-- the encoding of the bytes before index i, then that of the byte there, is that of the bytes before i + 1
 wrote_more : (p : ℕ → Bool) (s : List ℕ) (i : ℕ) (text : List ℕ) → WroteTo p s i text → i < length s
     → WroteTo p s (i + 1) (text ++ byte_encoding p (get_or s i 0))
 wrote_more p s i text w l = grind (arith, append_assoc, drop_more, written_first)
@@ -457,11 +472,13 @@ ascii_all (c ∷ s) h =
     let e = and_parts (nat_lt c 128) (are_ascii s) h in
     IsAscii-cons c s (ltb-true c 128 e.0) (ascii_all s e.1)
 
+-- with each of the sets, the encoding of a byte is ASCII
 written_ascii : (set : EncodeSet) (b : ℕ) → b < 256 → IsAscii (byte_encoding (in_set set) b)
 written_ascii Path b l = grind arith
 written_ascii Query b l = grind arith
 written_ascii Fragment b l = grind arith
 
+-- with each of the sets, the encoding of a text of bytes is ASCII
 encoded_ascii : (set : EncodeSet) (s : List ℕ) → ((i : ℕ) → get_or s i 0 < 256) → IsAscii (encoded (in_set set) s)
 encoded_ascii set [] h = subst IsAscii (sym (encoded_empty (in_set set))) IsAscii-nil
 encoded_ascii set (b ∷ s) h = subst IsAscii (sym (written_first (in_set set) b s))

@@ -9,6 +9,7 @@ use Rattle.std.specs.Option.{option_or}
 use Rattle.std.specs.Result.{result_err}
 use Rattle.data_url.proofs.forgiving_base64.Padding.{some_not_none}
 
+-- if the error of a result, or else o, is `None`, the result is not an error
 ok_is_no_error : {E : Type 0} (r : Result (Unit {0}) E) (o : Option E) → option_or (result_err r) o ≡ None → IsErr r → ⊥
 ok_is_no_error (Ok x) o h e = false≢true e
 ok_is_no_error (Err x) o h e = some_not_none x h
@@ -18,6 +19,7 @@ pub later_none : {E : Type 0} (r : Result (Unit {0}) E) (o : Option E) → optio
 later_none (Ok x) o h = h
 later_none (Err x) o h = absurd (some_not_none x h)
 
+-- if the error of a result, or else o, is `None`, its error, or else p, is p
 or_same : {E : Type 0} (r : Result (Unit {0}) E) (o p : Option E) → option_or (result_err r) o ≡ None
     → option_or (result_err r) p ≡ p
 or_same (Ok x) o p h = refl

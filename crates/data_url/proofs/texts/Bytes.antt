@@ -140,6 +140,7 @@ pub dropped_around : (c : ℕ) → is_tab_or_newline c ≡ false → (a s : List
     → without_tabs_and_newlines (a ++ c ∷ s) ≡ without_tabs_and_newlines a ++ c ∷ without_tabs_and_newlines s
 dropped_around c k a s = grind (arith, without_tabs_and_newlines-append, dropped_keeps)
 
+-- if o is what follows the first '#', the fragment of the text without tabs and newlines is o without them
 fragment_cases : (tail : List ℕ) (o : Option (List ℕ)) → after 35 tail ≡ o
     → fragment (without_tabs_and_newlines tail) ≡ option_map without_tabs_and_newlines o
 unfolding fragment

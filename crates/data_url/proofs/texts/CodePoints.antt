@@ -75,11 +75,13 @@ pub trimmed_front_is : (p : ℕ → Bool) (s t : List ℕ) → IsTrimmedFront p 
 trimmed_front_is p s t h = sym (ap (after_front p) h.joined ∙ after_is p h.front t h.at_front h.begins)
     ∙ after_without p s
 
+-- if every code point of a text passes, so does the one at an index
 every_at : (p : ℕ → Bool) (s : List ℕ) → Every p s → (k : ℕ) → k < length s → p (get_or s k 0) ≡ true
 every_at p [] h k l = absurd (omega arith)
 every_at p (c ∷ s) h zero l = h.0
 every_at p (c ∷ s) h (suc k) l = every_at p s h.1 k (omega arith)
 
+-- if a text does not end with a code point that passes, its last code point does not pass
 last_stops : (p : ℕ → Bool) (t : List ℕ) → DoesNotEnd p t → 0 < length t → p (get_or t (length t - 1) 0) ≡ false
 last_stops p [] h l = absurd (omega arith)
 last_stops p (c ∷ []) h l = h
@@ -87,6 +89,7 @@ last_stops p (c ∷ d ∷ t) h l =
     let n : length (c ∷ d ∷ t) - 1 ≡ suc (length (d ∷ t) - 1) = omega arith in
     ap (λ k. p (get_or (c ∷ d ∷ t) k 0)) n ∙ last_stops p (d ∷ t) h (omega arith)
 
+-- the longest suffix of t ++ back that passes is back, if back passes and t does not end with a code point that passes
 back_len : (p : ℕ → Bool) (t back : List ℕ) → Every p back → DoesNotEnd p t
     → suffix_len p (t ++ back) ≡ length (t ++ back) - length t
 back_len p t back h e =
@@ -132,6 +135,7 @@ module _ (p : ℕ → Bool) (ascii : (b : ℕ) → p b ≡ true → b < 128) (bs
       subst (λ i. IsCharBoundary bs i) back (IsCharBoundary-after_ascii bs (prefix_len p bs - 1) text within
       (ascii (get_or bs (prefix_len p bs - 1) 0) passes))
 
+  -- if only ASCII bytes pass, a UTF-8 text can be cut before its longest suffix that passes, unless that is empty
   before_end : 0 < suffix_len p bs → IsCharBoundary bs (length bs - suffix_len p bs)
   before_end h =
       let last : suffix_len p bs - 1 < suffix_len p bs = omega arith in

@@ -30,8 +30,8 @@ returns-in_err-semicolon c =
     let s = c.as_bytes-bytes.result.now in
     let n = c.in_ok-word.word in
     let printable = subst IsPrintable (sym c.as_bytes-bytes.ensures.value) c.requires in
-    let word = has_word s n c.low_end_len.result c.eq_ignore_ascii_case.result c.in_ok-word.ensures c.eq_ignore_ascii_case.ensures.test.0
-    c.if-not-eq_ignore_ascii_case.false c.low_end_len.ensures in
+    let word = has_word s n c.low_end_len.result c.eq_ignore_ascii_case.result c.in_ok-word.ensures
+    c.eq_ignore_ascii_case.ensures.test.0 c.if-not-eq_ignore_ascii_case.false c.low_end_len.ensures in
     cc (nothing_left s n c.low_end_len.result printable word (omega (arith, c.in_err-semicolon.ensures)))
 
 pub returns-then-bytes-semicolon-ne59 : goal.returns-then-bytes-semicolon-ne59
@@ -39,8 +39,8 @@ returns-then-bytes-semicolon-ne59 c =
     let s = c.as_bytes-bytes.result.now in
     let n = c.in_ok-word.word in
     let printable = subst IsPrintable (sym c.as_bytes-bytes.ensures.value) c.requires in
-    let word = has_word s n c.low_end_len.result c.eq_ignore_ascii_case.result c.in_ok-word.ensures c.eq_ignore_ascii_case.ensures.test.0
-    c.if-not-eq_ignore_ascii_case.false c.low_end_len.ensures in
+    let word = has_word s n c.low_end_len.result c.eq_ignore_ascii_case.result c.in_ok-word.ensures
+    c.eq_ignore_ascii_case.ensures.test.0 c.if-not-eq_ignore_ascii_case.false c.low_end_len.ensures in
     sym (cc (no_semicolon s n c.low_end_len.result c.in_ok-semicolon.semicolon printable word (omega (
       arith,
       c.in_ok-semicolon.ensures,
@@ -52,8 +52,8 @@ returns c =
     let n = c.in_ok-word.word in
     let m = c.in_ok-semicolon.semicolon in
     let printable = subst IsPrintable (sym c.as_bytes-bytes.ensures.value) c.requires in
-    let word = has_word s n c.low_end_len.result c.eq_ignore_ascii_case.result c.in_ok-word.ensures c.eq_ignore_ascii_case.ensures.test.0
-    c.if-not-eq_ignore_ascii_case.false c.low_end_len.ensures in
+    let word = has_word s n c.low_end_len.result c.eq_ignore_ascii_case.result c.in_ok-word.ensures
+    c.eq_ignore_ascii_case.ensures.test.0 c.if-not-eq_ignore_ascii_case.false c.low_end_len.ensures in
     let width : m - 0 ≡ m = omega arith in
     cc (with_semicolon s n c.low_end_len.result m printable word (omega (
       arith,
