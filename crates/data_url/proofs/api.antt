@@ -15,7 +15,8 @@ pub use Rattle.data_url.proofs.forgiving_base64.Steps.{feeds_none, feeds_then, f
 pub use Rattle.data_url.proofs.forgiving_base64.Steps.{kind_left, left_more, padding_more, symbols_more}
 pub use Rattle.data_url.proofs.forgiving_base64.WholeTexts.{decodes_finished, decodes_keeps, decodes_reads}
 pub use Rattle.data_url.proofs.forgiving_base64.WholeTexts.{decodes_refused, fed_nothing, run_keeps, run_reads}
-pub use Rattle.data_url.proofs.header.Stages.{bytes_by_place, bytes_trimmed, is_accepted, lacks_comma, rest_bytes}
+pub use Rattle.data_url.proofs.header.Stages.{body_of_url, bytes_by_place, bytes_trimmed, fragment_of_url}
+pub use Rattle.data_url.proofs.header.Stages.{is_accepted, lacks_comma, rest_bytes}
 pub use Rattle.data_url.proofs.header.Stages.{scheme_has_no_comma, stages_accepted, stages_no_comma, stages_no_scheme}
 pub use Rattle.data_url.proofs.header.Suffix.{suffix_stop}
 pub use Rattle.data_url.proofs.mime.FirstNames.{test_from_different}

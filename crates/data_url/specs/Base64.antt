@@ -1,12 +1,11 @@
 -- Forgiving base64 (Infra Standard, forgiving-base64 decode), with the alphabet of RFC 4648,
 -- section 4.
 use Rattle.std.specs.Char.{is_ascii_whitespace}
-use Rattle.std.specs.Fmt.{decimal}
 use Rattle.std.specs.Int.{is_in_range}
 use Rattle.std.specs.List.{find, list_all, list_any, range_with_len}
 use Rattle.data_url.specs.declared.forgiving_base64.InvalidBase64Details.TheVariants.{AlphabetSymbolAfterPadding, LoneAlphabetSymbol, Padding, UnexpectedSymbol}
 use Rattle.data_url.specs.declared.forgiving_base64.InvalidBase64Details.{InvalidBase64Details}
-use Rattle.std.specs.Prelude.{[], if◌then◌else◌, ◌%◌, ◌&&◌, ◌*◌, ◌++◌, ◌+◌, ◌-◌, ◌/◌, ◌==◌, ◌||◌, ◌∷◌, Bool, List, None, Option, Some, codes, filter, length, map, min, not, replicate, slice_index, take, ℕ}
+use Rattle.std.specs.Prelude.{[], if◌then◌else◌, ◌%◌, ◌&&◌, ◌*◌, ◌++◌, ◌+◌, ◌-◌, ◌/◌, ◌==◌, ◌||◌, ◌∷◌, Bool, List, None, Option, Some, filter, length, map, min, not, replicate, slice_index, take, ℕ}
 
 -- a symbol of the alphabet: 'A' to 'Z', 'a' to 'z', '0' to '9', '+' and '/'
 abbrev pub is_symbol : ℕ → Bool
@@ -132,11 +131,3 @@ left_padding b = min (length (filter (λ c. c == 61) b)) 3
 -- what is left over, as a text: the symbols, then that many '='
 abbrev pub left_text : List ℕ → ℕ → List ℕ
 left_text symbols padding = symbols ++ replicate padding 61
-
--- the message of a kind
-abbrev pub kind_text : Kind → List ℕ
-kind_text (UnexpectedSymbol b) =
-    codes "symbol with codepoint " ++ (decimal b ++ codes " not expected")
-kind_text AlphabetSymbolAfterPadding = codes "alphabet symbol present after padding"
-kind_text LoneAlphabetSymbol = codes "lone alphabet symbol present"
-kind_text Padding = codes "incorrect padding"

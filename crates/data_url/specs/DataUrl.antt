@@ -3,12 +3,11 @@
 use Rattle.std.specs.Option.{option_map}
 use Rattle.std.specs.Prelude.{◌≡◌, ◌≤◌, Bool, Err, List, MatchOption, Ok, Option, Result, Some, length, ℕ}
 use Rattle.data_url.specs.Errors.{IsRefused}
-use Rattle.data_url.specs.Fetch.{Accepted, Bad, Good, NoComma, NoScheme, Outcome, Staged, encoded_body, has_base64_suffix, header_of, mime_text, outcome, outcome_bytes, plain_body, staged, tail_of}
+use Rattle.data_url.specs.Fetch.{Accepted, Bad, Good, NoComma, NoScheme, Outcome, Staged, has_base64_suffix, header_of, mime_text, outcome, outcome_bytes, plain_body, staged, tail_of}
 use Rattle.data_url.specs.Mime.{IsRecordOf, IsWellformed}
 use Rattle.data_url.specs.MimeType.{record_of}
-use Rattle.data_url.specs.Percent.{percent_decoding}
 use Rattle.data_url.specs.Run.{Call, IsRun, joined_pieces, refusal}
-use Rattle.data_url.specs.Url.{after, after_scheme, fragment, in_fragment_set, number_sign, percent_encoding, without_tabs_and_newlines}
+use Rattle.data_url.specs.Url.{after, fragment, in_fragment_set, number_sign, percent_encoding, without_tabs_and_newlines}
 use Rattle.data_url.specs.declared.DataUrl.{DataUrl}
 use Rattle.data_url.specs.declared.DataUrlError.TheVariants.{NoComma as no_comma, NotADataUrl as no_scheme, OutOfMemory as no_memory}
 use Rattle.data_url.specs.declared.DataUrlError.{DataUrlError}
@@ -50,11 +49,6 @@ pub record IsUrlOf (t : List ℕ) (u : DataUrl) : Type 0 where
   pub wellformed : IsWellformed (record_of (mime_of u))
   pub base64_is : is_base64 u ≡ has_base64_suffix header
   pub tail_is : tail_of t ≡ Some (url_tail u)
-  -- the percent-decoded body of the Standard is the body of the tail
-  pub body_is : option_map percent_decoding (encoded_body t) ≡ Some (plain_body (url_tail u))
-  -- the fragment of the Standard is the fragment of the tail; if one is missing, so is the other
-  pub fragment_is : option_map fragment (after_scheme t)
-      ≡ Some (fragment (without_tabs_and_newlines (url_tail u)))
   pub staged_is : staged t ≡ Accepted (mime_text header) (url_body u)
       (option_map (percent_encoding in_fragment_set)
       (fragment (without_tabs_and_newlines (url_tail u))))

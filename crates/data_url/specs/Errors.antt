@@ -1,7 +1,8 @@
 -- When each error is returned, and its message.
+use Rattle.std.specs.Fmt.{decimal}
 use Rattle.std.specs.Option.{option_map}
 use Rattle.std.specs.Prelude.{◌++◌, ◌≡◌, Err, List, Option, Result, Some, codes, false, ℕ, ⊤}
-use Rattle.data_url.specs.Base64.{is_valid, kind_of, kind_text}
+use Rattle.data_url.specs.Base64.{Kind, is_valid, kind_of}
 use Rattle.data_url.specs.Fetch.{Bad, Outcome}
 use Rattle.data_url.specs.Run.{IsPrefix}
 use Rattle.data_url.specs.declared.DataUrlError.TheVariants as url
@@ -10,11 +11,20 @@ use Rattle.data_url.specs.declared.forgiving_base64.DecodeError.TheVariants as d
 use Rattle.data_url.specs.declared.forgiving_base64.DecodeError.{DecodeError}
 use Rattle.data_url.specs.declared.forgiving_base64.DecodeToVecError.TheVariants as to_vec
 use Rattle.data_url.specs.declared.forgiving_base64.DecodeToVecError.{DecodeToVecError}
+use Rattle.data_url.specs.declared.forgiving_base64.InvalidBase64Details.TheVariants as kind
 use Rattle.data_url.specs.declared.mime.Mime.{Mime}
 use Rattle.data_url.specs.declared.mime.MimeFromStrError.TheVariants as from_str
 use Rattle.data_url.specs.declared.mime.MimeFromStrError.{MimeFromStrError}
 
 -- Errors of decoding
+
+-- the message of a kind of fault
+abbrev pub kind_text : Kind → List ℕ
+kind_text (kind.UnexpectedSymbol b) =
+    codes "symbol with codepoint " ++ (decimal b ++ codes " not expected")
+kind_text kind.AlphabetSymbolAfterPadding = codes "alphabet symbol present after padding"
+kind_text kind.LoneAlphabetSymbol = codes "lone alphabet symbol present"
+kind_text kind.Padding = codes "incorrect padding"
 
 -- the closure returned the error e; the bytes that it was called with are a prefix of `all`
 pub record IsRefused {E A : Type 0} (all bytes : List ℕ) (e : E) (r : Result A (DecodeError E))

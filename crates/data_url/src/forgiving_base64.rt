@@ -57,7 +57,7 @@ impl Model for InvalidBase64 {
 }
 
 impl fmt::Display for InvalidBase64 {
-    ghost use Rattle.data_url.specs.Base64.{kind_text};
+    ghost use Rattle.data_url.specs.Errors.{kind_text};
 
     ghost output = { λ kind. Some (kind_text kind) };
 

@@ -11,7 +11,7 @@ use Rattle.data_url.specs.Base64.{Kind}
 use Rattle.data_url.specs.declared.forgiving_base64.InvalidBase64Details.TheVariants.{AlphabetSymbolAfterPadding}
 use Rattle.data_url.specs.declared.forgiving_base64.InvalidBase64Details.TheVariants.{LoneAlphabetSymbol, Padding}
 use Rattle.data_url.specs.declared.forgiving_base64.InvalidBase64Details.TheVariants.{UnexpectedSymbol}
-use Rattle.data_url.specs.Base64.{kind_text}
+use Rattle.data_url.specs.Errors.{kind_text}
 
 -- a number with fewer than k digits is below 10 ^ k
 few_digits : (k n : ℕ) (acc : List ℕ) → length (digits_onto k 10 false n acc) < k + length acc → n < 10 ^ k

@@ -1,7 +1,8 @@
 //! Why base64 is not valid, read from the message of the library's error, the only place that has its kind.
 
 ghost use Rattle.std.specs.Prelude.{◌≡◌, ◌<◌, IfSome, length, ℕ};
-ghost use Rattle.data_url.specs.Base64.{Kind, kind_text};
+ghost use Rattle.data_url.specs.Base64.{Kind};
+ghost use Rattle.data_url.specs.Errors.{kind_text};
 ghost use Rattle.data_url.specs.declared.forgiving_base64.InvalidBase64Details.TheVariants.{UnexpectedSymbol};
 ghost use Rattle.data_url_c.specs.Answers.{status_of_kind};
 

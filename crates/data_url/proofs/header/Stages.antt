@@ -1,11 +1,12 @@
 -- The stages of the Standard, from the input to its record. For `DataUrl::process`.
 use Rattle.std.proofs.Common.{◌≡◌, ℕ, zero, suc, ◌+◌, ◌-◌, ◌<◌, ◌≤◌, Bool, false, List, [], ◌∷◌, ◌++◌}
 use Rattle.std.proofs.Common.{length, get_or, take, drop, Option, None, Some, refl, sym, ap, ◌∙◌, inl, inr}
-use Rattle.std.proofs.Common.{subst, arith, true, map, codes, ◌≢◌, IsTrue}
+use Rattle.std.proofs.Common.{◌⊎◌, eqb-true, subst, arith, true, map, codes, ◌≢◌, IsTrue}
 use Rattle.std.specs.Prelude.{◌==◌, option_and_then}
 use Rattle.std.specs.List.{prefix_len, suffix_len}
 use Rattle.std.specs.Str.{chars}
 use Rattle.std.proofs.lemmas.Bool.{cases_Bool}
+use Rattle.std.proofs.lemmas.Slice.Eq.{bytes_eq-Decides}
 use Rattle.std.proofs.lemmas.Bool.{cond-true, cond-false, both_ways, ne_eqb, eq-eqb}
 use Rattle.std.proofs.lemmas.List.{get_or-drop, get_or-reverse, get_or-take, get_or_past, length-drop, length-reverse}
 use Rattle.std.proofs.lemmas.List.{length-take, drop_at, length-map, take_at, drop_all, drop_more}
@@ -28,7 +29,7 @@ use Rattle.data_url.specs.Steps.Front.{HasNoScheme, IsHeaderAndTail, IsSchemeAnd
 use Rattle.data_url.proofs.texts.Bytes.{before-append, before_nil, before_other, before_same, after-append}
 use Rattle.data_url.proofs.texts.Bytes.{after-dropped_none, after_at, after_nil, after_other}
 use Rattle.data_url.proofs.texts.Bytes.{without_tabs_and_newlines-append, dropped_around, dropped_keeps, dropped_nil}
-use Rattle.data_url.proofs.texts.Bytes.{dropped_passes, lacks}
+use Rattle.data_url.proofs.texts.Bytes.{dropped_passes, is_cut, lacks}
 use Rattle.std.proofs.lemmas.Str.{chars-IsAscii}
 use Rattle.data_url.specs.Mime.{HasNoRecord, IsWellformed, Parses, Record, default_record, BeginsParameters, DoesNotEnd}
 use Rattle.data_url.specs.Mime.{IsHead, IsRecordOfParts, is_token_text}
@@ -528,8 +529,6 @@ is_url_of t rest header u b s h k =
       wellformed = k.record_is.wellformed;
       base64_is = k.base64_is;
       tail_is = a.tail_is;
-      body_is = body_of t header (url_tail u) a;
-      fragment_is = fragment_of t rest header (url_tail u) s h;
       staged_is = stages_accepted t rest header (url_tail u) b s h (is_base64 u) k.base64_is;
     }
 
@@ -573,3 +572,106 @@ bytes_take (suc n) (b ∷ s) h = (h.0, bytes_take n s h.1)
 pub bytes_trimmed : (t : List ℕ) → ((i : ℕ) → get_or t i 0 < 256) → IsBytes (trimmed_text t)
 unfolding trimmed_text
 bytes_trimmed t h = grind (arith, bytes_take, bytes_drop, bytes_by_place)
+
+-- The body and the fragment of a URL
+
+-- first is the beginning of s that has the first n bytes of s without tabs and newlines, and rest follows it
+record Begins (n : ℕ) (s : List ℕ) : Type 0 where
+  pub first : List ℕ
+  pub rest : List ℕ
+  pub joined : s ≡ first ++ rest
+  pub first_is : without_tabs_and_newlines first ≡ take n (without_tabs_and_newlines s)
+
+-- each text has such a beginning
+begins : (n : ℕ) (s : List ℕ) → Begins n s
+begins zero s = record { first = []; rest = s; joined = refl; first_is = dropped_nil }
+begins (suc n) [] = record { first = []; rest = []; joined = refl; first_is = cc (dropped_nil) }
+begins (suc n) (b ∷ s) = elim (cases_Bool (is_tab_or_newline b)) [
+  | inl e ↦
+      let k = begins (suc n) s in record {
+        first = b ∷ k.first;
+        rest = k.rest;
+        joined = ap (λ t. b ∷ t) k.joined;
+        first_is = cc (dropped_passes b k.first e, k.first_is, dropped_passes b s e);
+      }
+  | inr e ↦
+      let k = begins n s in record {
+        first = b ∷ k.first;
+        rest = k.rest;
+        joined = ap (λ t. b ∷ t) k.joined;
+        first_is = cc (dropped_keeps b k.first e, k.first_is, dropped_keeps b s e);
+      }
+]
+
+-- if there is text after the scheme, the trimmed text is the scheme and some rest
+scheme_of : (t a : List ℕ) → after_scheme t ≡ Some a → (rest : List ℕ) × IsSchemeAndRest (trimmed_text t) rest
+unfolding after_scheme cleaned_text
+scheme_of t a h =
+    let k = begins 5 (trimmed_text t) in
+    let spelled : map to_ascii_lowercase (take 5 (without_tabs_and_newlines (trimmed_text t))) ≡ codes "data:" =
+    grind (arith, bytes_eq-Decides) in
+    (k.rest, record { scheme = k.first; joined = k.joined; spelled = ap (map to_ascii_lowercase) k.first_is ∙ spelled })
+
+-- if there is a comma before the first '#', there is no '#' before the first comma
+comma_first : (s x : List ℕ) → after 44 (before 35 s) ≡ Some x → after 35 (before 44 s) ≡ None
+comma_first [] x h = grind (arith, before_nil, after_nil)
+comma_first (b ∷ s) x h = elim (cases_Bool (b == 35)) [
+  | inl e ↦ grind (arith, eqb-true, before_same, after_nil)
+  | inr e ↦ elim (cases_Bool (b == 44)) [
+    | inl f ↦ grind (arith, eqb-true, before_same, after_nil)
+    | inr f ↦ grind (arith, before_other, after_other, comma_first s x)
+  ]
+]
+
+-- the trimmed text is the scheme, a header without '#', the first comma, and the tail
+record HasParts (t tail : List ℕ) : Type 0 where
+  pub rest : List ℕ
+  pub header : List ℕ
+  pub scheme : IsSchemeAndRest (trimmed_text t) rest
+  pub parts : IsHeaderAndTail rest header tail
+
+-- an option is `None`, or `Some` of a value
+none_or_some : {A : Type 0} (o : Option A) → (o ≡ None) ⊎ ((x : A) × (o ≡ Some x))
+none_or_some None = inl refl
+none_or_some (Some x) = inr (x, refl)
+
+-- a text that has a scheme, a header and a tail has such parts
+cut_parts : (t header tail a : List ℕ) → IsBytes (trimmed_text t) → after_scheme t ≡ Some a → header_of t ≡ Some header
+    → tail_of t ≡ Some tail → HasParts t tail
+unfolding tail_of front
+cut_parts t header tail a b h e k =
+    let s = scheme_of t a h in
+    let cut : after 44 s.0 ≡ Some tail = grind (arith, after-append, scheme_has_no_comma) in
+    let c = is_cut 44 s.0 tail cut in
+    elim (none_or_some (after 44 (front s.0))) [
+      | inl n ↦ absurd (let m = no_header t s.0 (rest_bytes t s.0 b s.1) s.1 n in cc)
+      | inr (x, y) ↦ record {
+        rest = s.0;
+        header = before 44 s.0;
+        scheme = s.1;
+        parts = record { joined = c.joined; no_comma = c.lacks; no_fragment = comma_first s.0 x y };
+      }
+    ]
+
+-- the text of a URL has the tail of the URL
+url_parts : (t : List ℕ) (u : DataUrl) → ((i : ℕ) → get_or t i 0 < 256) → IsUrlOf t u → HasParts t (url_tail u)
+unfolding header_of staged_front
+url_parts t u b h = elim (none_or_some (after_scheme t)) [
+  | inl n ↦ absurd (let m = h.header_is in grind arith)
+  | inr (a, e) ↦ cut_parts t h.header (url_tail u) a (bytes_trimmed t b) e h.header_is h.tail_is
+]
+
+-- the percent-decoded body of the Standard is the body of the tail of the URL
+pub body_of_url : (t : List ℕ) (u : DataUrl) → ((i : ℕ) → get_or t i 0 < 256) → IsUrlOf t u
+    → option_map percent_decoding (encoded_body t) ≡ Some (plain_body (url_tail u))
+body_of_url t u b h =
+    let k = url_parts t u b h in
+    let bytes = rest_bytes t k.rest (bytes_trimmed t b) k.scheme in
+    body_of t k.header (url_tail u) (is_accepted t k.rest k.header (url_tail u) bytes k.scheme k.parts)
+
+-- the fragment of the Standard is the fragment of the tail of the URL; if one is missing, so is the other
+pub fragment_of_url : (t : List ℕ) (u : DataUrl) → ((i : ℕ) → get_or t i 0 < 256) → IsUrlOf t u
+    → option_map fragment (after_scheme t) ≡ Some (fragment (without_tabs_and_newlines (url_tail u)))
+fragment_of_url t u b h =
+    let k = url_parts t u b h in
+    fragment_of t k.rest k.header (url_tail u) k.scheme k.parts

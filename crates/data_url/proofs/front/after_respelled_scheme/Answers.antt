@@ -45,6 +45,7 @@ record Spelled (text : List ℕ) (place n : ℕ) : Type 0 where
   stays : is_tab_or_newline (get_or text place 0) ≡ false
   same : to_ascii_lowercase (get_or text place 0) ≡ get_or (codes "data:") n 0
 
+-- a byte that is the next one of "data:", in any ASCII case, continues the scheme
 spelled : (text items : List ℕ) (place n low : ℕ) (passed : Bool) → items ≡ text → place < length items
     → passed ≡ is_tab_or_newline (get_or items place 0) → passed ≡ false
     → low ≡ to_ascii_lowercase (get_or items place 0) → low ≡ get_or (codes "data:") n 0 → Spelled text place n

@@ -20,6 +20,7 @@ returns-then-starts_with c =
     IfOk-weaker c.record.result _ _ (λ mime h. plain_record c.args.media.now _ _ _ (record_of mime) c.requires first
     c.plain_head.ensures h) c.record.ensures
 
+-- the code points of a printable text that does not begin with ';' are the text that is parsed
 stays : (media : List ℕ) → IsPrintable media → get_or media 0 0 ≢ 59 → chars media ≡ with_plain media
 stays media h n = cc (chars_printable media h, plain_stays media n)
 

@@ -20,6 +20,7 @@ returns-then-not-eq_ignore_ascii_case c = grind (arith, no_word)
 pub overflow_sub-end : goal.overflow_sub-end
 overflow_sub-end c = grind (arith, suffix_len-le-length, length-take)
 
+-- a text whose last six bytes are "base64", in any ASCII case, has the word there
 has_word : (s : List ℕ) (n spaces : ℕ) (same : Bool) → (6 ≤ length s) × (n ≡ length s - 6)
     → (same ≡ true → map to_ascii_lowercase (take (length s - n) (drop n s)) ≡ codes "base64") → same ≡ true
     → spaces ≡ suffix_len is_c0_control_or_space (take n s) → HasWord s n spaces

@@ -12,6 +12,7 @@ feed_body-requires-clause-room c = omega (arith, body_shorter c.args.tail.now, c
 pub returns-then-step-ne-DONE : goal.returns-then-step-ne-DONE
 returns-then-step-ne-DONE c = ends_fault true refl c.feed_body.ensures.fed c.if-step-ne-DONE.true
 
+-- the state of a decoder that was fed nothing
 start : DataUrlBase64
 start = record { symbols = 0 ∷ 0 ∷ 0 ∷ []; pending = 0; padding = 0 }
 

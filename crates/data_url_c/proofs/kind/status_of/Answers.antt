@@ -1,5 +1,5 @@
 use Rattle.std.proofs.Common.{sym, ◌∙◌}
-use Rattle.data_url.specs.Base64.{kind_text}
+use Rattle.data_url.specs.Errors.{kind_text}
 use Rattle.data_url_c.proofs.PrintLemmas.{not_cut}
 use Rattle.data_url_c.proofs.kind.status_of.Goals as goal
 

@@ -1,5 +1,5 @@
 use Rattle.std.proofs.Common.{rules, ap, ◌∙◌}
-use Rattle.data_url.specs.Base64.{kind_text}
+use Rattle.data_url.specs.Errors.{kind_text}
 use Rattle.data_url_c.specs.Answers.{status_of_kind}
 use Rattle.data_url_c.proofs.KindLemmas.{is_unexpected}
 use Rattle.data_url_c.proofs.kind.status_of_text.Goals as goal

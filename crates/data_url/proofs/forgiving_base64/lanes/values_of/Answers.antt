@@ -9,9 +9,11 @@ use Rattle.data_url.specs.declared.forgiving_base64.lanes.TheConstants.{OFFSETS}
 use Rattle.data_url.proofs.forgiving_base64.Vectors.{chosen, itself, joined, looked_up, places_ok, splat_is}
 use Rattle.data_url.proofs.forgiving_base64.lanes.values_of.Goals as goal
 
+-- the row of each byte in the table of offsets is below 16
 row_small : (x : ℕ) → x < 256 → offset_row x < 16
 row_small x h = ltb-true (offset_row x) 16 (agree_below_at (λ b. ltb (offset_row b) 16) (λ b. true) 256 x refl h)
 
+-- the high halves, minus one for a slash, are the rows in the table of offsets
 rows : (v : List ℕ) {halves marks : List ℕ} → halves ≡ map (λ x. x / 16) v → marks ≡ map (λ x. cond (eqb x 47) 255 0) v
     → zip2 (λ a b. (a + b) % 256) halves marks ≡ map offset_row v
 rows v p q = joined (λ a b. (a + b) % 256) (λ x. x / 16) (λ x. cond (eqb x 47) 255 0) v p q

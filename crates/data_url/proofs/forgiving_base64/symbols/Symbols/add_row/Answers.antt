@@ -4,6 +4,7 @@ use Rattle.data_url.specs.Base64.{is_symbol}
 use Rattle.data_url.proofs.forgiving_base64.Rows.{all_clear, all_more, two_halves}
 use Rattle.data_url.proofs.forgiving_base64.symbols.Symbols.add_row.Goals as goal
 
+-- a row that has only symbols is the symbols of the first sixteen bytes
 alone : (row text : List ℕ) → row ≡ take 16 text → row ≡ filter is_symbol row → row ≡ filter is_symbol (take 16 text)
 alone row text e f = f ∙ ap (filter is_symbol) e
 
