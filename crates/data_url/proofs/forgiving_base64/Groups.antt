@@ -119,7 +119,7 @@ fill_none held text = grind (arith, append-nil)
 pub fill_one : (held text bytes : List ℕ) → 4 ≤ length text → list_all is_symbol (take 4 text) ≡ true
     → bytes ≡ group_bytes (group_number (symbol_value (get_or text 0 0)) (symbol_value (get_or text 1 0))
     (symbol_value (get_or text 2 0)) (symbol_value (get_or text 3 0)))
-    → Fills held text 4 (held ++ take 3 bytes)
+    → Fills held text 4 (held ++ bytes)
 unfolding groups
 fill_one held [] bytes h all e = absurd (omega arith)
 fill_one held (p ∷ []) bytes h all e = absurd (omega arith)

@@ -17,7 +17,7 @@ use Rattle.data_url.specs.Run.{Call, IsPrefix, IsRun, joined_pieces, refusal}
 use Rattle.std.specs.Option.{option_or}
 use Rattle.std.specs.Result.{result_err}
 use Rattle.data_url.specs.Steps.Calls.{CallsOnce}
-use Rattle.data_url.specs.Steps.Blocks.{AreGroups, DecodesFront, Fills, is_symbol_or_space}
+use Rattle.data_url.specs.Steps.Blocks.{GainsSymbols, AreGroups, DecodesFront, Fills, is_symbol_or_space}
 use Rattle.data_url.specs.Steps.Holding.{Adds, Flushes, Gains, Holds, IsBetweenGroups, Refuses, waiting}
 use Rattle.data_url.specs.declared.forgiving_base64.DecodeError.{DecodeError}
 use Rattle.data_url.specs.declared.forgiving_base64.DecodeError.TheVariants.{InvalidBase64, WriteError}
@@ -416,15 +416,14 @@ module _ {F E : Type 0} (step : F → List ℕ → Result (Unit {0}) E → F →
 
   -- a block of symbols and whitespace is read, and its symbols are held after those before
   pub block_waits : {d : State F} (s : State F) (text q q' : List ℕ) (at : ℕ) → list_all is_symbol q ≡ true
-      → at + 64 ≤ length text → list_all is_symbol_or_space (take 64 (take (length text - at) (drop at text))) ≡ true
-      → q' ≡ q ++ filter is_symbol (take 64 (take (length text - at) (drop at text))) → s.padding ≡ 0
+      → at + 64 ≤ length text → GainsSymbols q (take 64 (take (length text - at) (drop at text))) q' → s.padding ≡ 0
       → Holds step d (take at text) (groups (map symbol_value q)) (waiting s q)
       → Holds step d (take (at + 64) text) (groups (map symbol_value q')) (waiting s q')
-  block_waits {d} s text q q' at every within all is is_p h =
+  block_waits {d} s text q q' at every within g is_p h =
       let rest : take (length text - at) (drop at text) ≡ drop at text = take_rest text at in
       let row = take 64 (drop at text) in
-      let allowed : list_all is_symbol_or_space row ≡ true = cc in
-      let more : q' ≡ q ++ filter is_symbol row = is ∙ ap (λ t. q ++ filter is_symbol (take 64 t)) rest in
+      let allowed : list_all is_symbol_or_space row ≡ true = cc (g.spaced) in
+      let more : q' ≡ q ++ filter is_symbol row = g.added ∙ ap (λ t. q ++ filter is_symbol (take 64 t)) rest in
       let size : length row ≡ 64 = length-take-le 64 (drop at text) (omega (arith, length-drop at text)) in
       let P : List ℕ → Type 0 = λ t. Holds step d t (groups (map symbol_value q')) (waiting s q') in
       let Q : List ℕ → Type 0 = λ l. Holds step d (take at text ++ row) l (waiting s (q ++ filter is_symbol row)) in

@@ -8,7 +8,7 @@ use Rattle.std.specs.Int.RustNames.{count_ones}
 use Rattle.std.specs.List.{filter, list_all, range_with_len}
 use Rattle.std.proofs.lemmas.Bool.{agree_below_at, and_parts, eqb-true, true≢false}
 use Rattle.std.proofs.lemmas.List.{append-nil, drop-drop, ext_get_or, get_or-drop, get_or-map, get_or-take, length-map}
-use Rattle.std.proofs.lemmas.List.{map-append, map-id, take-append-drop, take-map, take-take, take_all}
+use Rattle.std.proofs.lemmas.List.{map-append, map-id, take-append-drop, take-map, take-take, take_all, take_at}
 use Rattle.std.proofs.lemmas.List.Elements.{filter-append}
 use Rattle.std.proofs.lemmas.List.Folds.{list_all-append}
 use Rattle.std.proofs.lemmas.Nat.{and_le_r}
@@ -17,7 +17,7 @@ use Rattle.std.proofs.lemmas.Simd.{tops_compared, zip2_of_maps}
 use lib.Lanes.{Each1, mask_l, top, zip2}
 use Rattle.data_url.specs.Base64.{after_groups, groups, is_symbol, symbol_value}
 use Rattle.data_url.specs.Mime.{Every}
-use Rattle.data_url.specs.Steps.Blocks.{DecodesFront, clear, is_symbol_or_space}
+use Rattle.data_url.specs.Steps.Blocks.{DecodesFront, GainsSymbols, clear, is_symbol_or_space}
 use Rattle.data_url.specs.Steps.Lanes.{value_of}
 use Rattle.data_url.specs.declared.forgiving_base64.places.TheConstants.{CLEAR_PLACES}
 use Rattle.data_url.specs.declared.forgiving_base64.symbols.TheConstants.{SPACES}
@@ -289,48 +289,38 @@ moved old b1 b2 b3 b4 w x y z len few many p q r s d e f g =
 
 -- four rows
 
--- if x and y have only symbols and whitespace, so has x ++ y
-both_spaced : (x y : List ℕ) → list_all is_symbol_or_space x ≡ true → list_all is_symbol_or_space y ≡ true
-    → list_all is_symbol_or_space (x ++ y) ≡ true
-both_spaced x y m n = list_all-append is_symbol_or_space x y ∙ ap₂ (λ s t. s && t) m n
+-- the symbols of x, and then those of y, are the symbols of x ++ y
+gains_both : {q r s x y : List ℕ} → GainsSymbols q x r → GainsSymbols r y s → GainsSymbols q (x ++ y) s
+gains_both {q} {r} {s} {x} {y} g h = record {
+  spaced = list_all-append is_symbol_or_space x y ∙ ap₂ (λ s t. s && t) g.spaced h.spaced;
+  added = cc (g.added, h.added, filter-append is_symbol x y, append_assoc q (filter is_symbol x) (filter is_symbol y));
+}
 
--- if four rows have only symbols and whitespace, so do their 64 bytes together
-pub four_spaced : (text r1 r2 r3 : List ℕ) → r1 ≡ drop 16 text → r2 ≡ drop 32 text → r3 ≡ drop 48 text
-    → list_all is_symbol_or_space (take 16 text) ≡ true → list_all is_symbol_or_space (take 16 r1) ≡ true
-    → list_all is_symbol_or_space (take 16 r2) ≡ true → list_all is_symbol_or_space (take 16 r3) ≡ true
-    → list_all is_symbol_or_space (take 64 text) ≡ true
-four_spaced text r1 r2 r3 d e f p q r s =
-    let all : List ℕ → Bool = λ l. list_all is_symbol_or_space (take 16 l) in
-    let b = take 16 (drop 16 text) in
-    let c = take 16 (drop 32 text) in
-    let h = take 16 (drop 48 text) in
-    cc (
-      split_block text,
-      both_spaced (take 16 text) (b ++ (c ++ h)) p (both_spaced b (c ++ h) (ap all (sym d)
-          ∙ q) (both_spaced c h (ap all (sym e) ∙ r) (ap all (sym f) ∙ s))),
-    )
+-- a list that is equal to the row has the same symbols
+pub gains_same : {q r x y : List ℕ} → x ≡ y → GainsSymbols q x r → GainsSymbols q y r
+gains_same {q} {r} e g =
+    let P : List ℕ → Type 0 = λ l. GainsSymbols q l r in
+    subst P e g
 
--- appending the symbols of four rows, one row at a time, appends the symbols of their 64 bytes
-pub four_added : (text r1 r2 r3 q0 q1 q2 q3 q4 : List ℕ) → r1 ≡ drop 16 text → r2 ≡ drop 32 text → r3 ≡ drop 48 text
-    → q1 ≡ q0 ++ filter is_symbol (take 16 text) → q2 ≡ q1 ++ filter is_symbol (take 16 r1)
-    → q3 ≡ q2 ++ filter is_symbol (take 16 r2) → q4 ≡ q3 ++ filter is_symbol (take 16 r3)
-    → q4 ≡ q0 ++ filter is_symbol (take 64 text)
-four_added text r1 r2 r3 q0 q1 q2 q3 q4 d e f p q r s =
-    let of : List ℕ → List ℕ = λ l. filter is_symbol (take 16 l) in
-    let a = of text in
-    let b = of (drop 16 text) in
-    let c = of (drop 32 text) in
-    let h = of (drop 48 text) in
-    cc (
-      append_assoc ((q0 ++ a) ++ b) c h,
-      append_assoc (q0 ++ a) b (c ++ h),
-      append_assoc q0 a (b ++ (c ++ h)),
-      split_block text,
-      filter-append is_symbol (take 16 text) (take 16 (drop 16 text) ++ (take 16 (drop 32 text)
-          ++ take 16 (drop 48 text))),
-      filter-append is_symbol (take 16 (drop 16 text)) (take 16 (drop 32 text) ++ take 16 (drop 48 text)),
-      filter-append is_symbol (take 16 (drop 32 text)) (take 16 (drop 48 text)),
-    )
+-- the symbols of four rows, one row at a time, are those of their 64 bytes
+pub four_rows : (text : List ℕ) {r1 r2 r3 q0 q1 q2 q3 q4 : List ℕ} → r1 ≡ drop 16 text → r2 ≡ drop 32 text
+    → r3 ≡ drop 48 text → GainsSymbols q0 (take 16 text) q1 → GainsSymbols q1 (take 16 r1) q2
+    → GainsSymbols q2 (take 16 r2) q3 → GainsSymbols q3 (take 16 r3) q4 → GainsSymbols q0 (take 64 text) q4
+four_rows text {r1} {r2} {r3} {q0} {q1} {q2} {q3} {q4} d e f g h i j =
+    let P : List ℕ → Type 0 = λ l. GainsSymbols q0 l q4 in
+    let both = gains_both g (gains_both h (gains_both i j)) in
+    subst P (cc (split_block text, ap (take 16) d, ap (take 16) e, ap (take 16) f)) both
+
+-- what was put after the first items leaves these as they are
+pub front_kept : (n k : ℕ) (old new more : List ℕ) → n ≤ length old → n ≤ k → take k new ≡ take n old ++ more
+    → take n new ≡ take n old
+front_kept n k old new more long few e =
+    sym (take-take n k new few) ∙ ap (take n) e ∙ take_at (take n old) more n (length-take-le n old long)
+
+-- the first n items stay as they are if the first k do, which are more
+pub still_kept : {q : List ℕ} (n k : ℕ) (old new : List ℕ) → n ≤ k → take n old ≡ q → take k new ≡ take k old
+    → take n new ≡ q
+still_kept n k old new few is same = cc (take-take n k new few, take-take n k old few)
 
 -- a list of length zero is empty
 no_items : (l : List ℕ) → length l ≡ 0 → l ≡ []

@@ -1,11 +1,16 @@
 -- The complete groups at the start of a text.
 use Rattle.std.specs.Char.{is_ascii_whitespace}
-use Rattle.std.specs.List.{list_all}
+use Rattle.std.specs.List.{filter, list_all}
 use Rattle.std.specs.Prelude.{[], if◌then◌else◌, ◌%◌, ◌*◌, ◌++◌, ◌/◌, ◌==◌, ◌||◌, ◌∷◌, ◌≡◌, ◌≤◌, Bool, IsTrue, List, length, map, take, ℕ}
 use Rattle.data_url.specs.Base64.{groups, is_symbol, symbol_value, values}
 
 abbrev pub is_symbol_or_space : ℕ → Bool
 is_symbol_or_space b = is_symbol b || is_ascii_whitespace b
+
+-- the row has only symbols and whitespace, and q' is q followed by its symbols
+pub record GainsSymbols (q row q' : List ℕ) : Type 0 where
+  pub spaced : IsTrue (list_all is_symbol_or_space row)
+  pub added : q' ≡ q ++ filter is_symbol row
 
 -- the text has only symbols and whitespace, its symbols are complete groups, and the bytes are those
 -- of these groups

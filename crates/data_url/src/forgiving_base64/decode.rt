@@ -7,7 +7,7 @@ ghost use Rattle.data_url.specs.Base64.{is_symbol};
 use super::alphabet::{group_of, is_symbol, rest_of_three, rest_of_two};
 use super::blocks::{decode, is_whole};
 use super::piece::{Piece, ROOM};
-use super::symbols::{Symbols, is_spaced};
+use super::symbols::Symbols;
 use super::{DecodeError, InvalidBase64, InvalidBase64Details};
 
 /// A decoder of base64
@@ -158,7 +158,7 @@ where
             × (bytes_of piece.new ≡ bytes_of piece.old)) }
     {
         if let Some(group) = self.take_byte(byte)? {
-            piece.append(&group, 1);
+            piece.push(group);
         }
         Ok(1)
     }
@@ -249,12 +249,11 @@ where
     /// Keeps symbols: the bytes of their groups in the piece, and the symbols that are left over.
     #[inline(always)]
     fn keep(&mut self, symbols: &Symbols, piece: &mut Piece)
-        requires room { symbols.now.len < 64 }
-        requires none { piece.old.groups ≡ 0 }
+        requires { symbols.now.len < 64 }
         ensures bytes { bytes_of piece.new ≡ groups (map symbol_value (symbols_of symbols.now)) }
         ensures state { state_of self.new ≡ waiting (state_of self.old) (symbols_of symbols.now) }
     {
-        piece.append(&symbols.decode(), symbols.len / 4);
+        *piece = Piece::new(symbols.decode(), symbols.len / 4);
         self.symbols = symbols.last();
         self.pending = symbols.len % 4;
     }
@@ -266,7 +265,6 @@ where
         requires callable { F.IsAlwaysCallable (state_of self.old).closure }
         requires going { (state_of self.old).failed ≡ false }
         requires between { IsBetweenGroups (state_of self.old) }
-        requires none { piece.old.groups ≡ 0 }
         ensures callable { F.IsAlwaysCallable (state_of self.new).closure }
         ensures fed { MatchResult result
             (λ taken. Reads (CalledAt F.FnMut) (state_of self.old) text.now taken
@@ -276,8 +274,7 @@ where
     {
         let mut symbols = Symbols::new();
         let mut at = 0;
-        while text.len() - at >= 64 && is_spaced(&text[at..]) {
-            symbols.add_block(&text[at..]);
+        while text.len() - at >= 64 && symbols.add_block(&text[at..]) {
             at += 64;
             if symbols.len >= 64 {
                 self.write(&symbols.decode())?;
@@ -317,7 +314,7 @@ where
         ensures fed { FeedsPart (CalledAt F.FnMut) (state_of self.old) text.now result (state_of self.new) }
         ensures some { IfOk result (λ taken. 1 ≤ length text.now → 1 ≤ taken) }
     {
-        let mut piece = Piece::new();
+        let mut piece = Piece::new([0; 48], 0);
         let mut at = self.feed_long(text, &mut piece)?;
         while at < text.len() && piece.groups < ROOM {
             match self.take_some(&text[at..], &mut piece) {

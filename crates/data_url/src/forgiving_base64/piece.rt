@@ -26,16 +26,14 @@ pub(crate) struct Piece {
 impl Piece {
     ghost use Rattle.data_url.specs.Steps.Waiting.{bytes_of};
 
-    /// Returns an empty piece.
+    /// Returns a piece of the first `groups` of these groups.
     #[inline(always)]
-    pub(crate) fn new() -> Piece
-        ensures none { result.groups ≡ 0 }
-        ensures bytes { bytes_of result ≡ [] }
+    pub(crate) fn new(bytes: [u8; 48], groups: usize) -> Piece
+        requires { groups ≤ 16 }
+        ensures groups { result.groups ≡ groups }
+        ensures bytes { bytes_of result ≡ take (3 * groups) bytes }
     {
-        Piece {
-            bytes: [0; 48],
-            groups: 0,
-        }
+        Piece { bytes, groups }
     }
 
     /// Returns the bytes.
@@ -46,18 +44,16 @@ impl Piece {
         &self.bytes[..3 * self.groups]
     }
 
-    /// Adds the bytes of `count` groups.
+    /// Adds the bytes of a group.
     #[inline(always)]
-    pub(crate) fn append(&mut self, bytes: &[u8], count: usize)
-        requires room { self.old.groups + count ≤ 16 }
-        requires bytes { 3 * count ≤ length bytes.now }
-        ensures bytes { bytes_of self.new ≡ bytes_of self.old ++ take (3 * count) bytes.now }
-        ensures groups { self.new.groups ≡ self.old.groups + count }
+    pub(crate) fn push(&mut self, group: [u8; 3])
+        requires room { self.old.groups < 16 }
+        ensures bytes { bytes_of self.new ≡ bytes_of self.old ++ group }
+        ensures groups { self.new.groups ≡ self.old.groups + 1 }
     {
         let at = 3 * self.groups;
-        let more = 3 * count;
-        self.bytes[at..at + more].copy_from_slice(&bytes[..more]);
-        self.groups += count;
+        self.bytes[at..at + 3].copy_from_slice(&group);
+        self.groups += 1;
     }
 
     /// Adds the groups of the symbols that a row of sixteen bytes begins with, and returns how many bytes they take.
@@ -84,7 +80,7 @@ impl Piece {
         if text.len() < 4 || !begins_with_group(text) {
             return 0;
         }
-        self.append(&group_of(text[0], text[1], text[2], text[3]), 1);
+        self.push(group_of(text[0], text[1], text[2], text[3]));
         4
     }
 

@@ -5,7 +5,7 @@ ghost use Rattle.std.specs.Char.{is_ascii_whitespace};
 ghost use Rattle.std.specs.List.{list_all};
 ghost use Rattle.std.specs.Simd.Lanes.{mask_l};
 ghost use Rattle.data_url.specs.Base64.{after_groups, is_symbol};
-ghost use Rattle.data_url.specs.Steps.Blocks.{DecodesFront, clear, is_symbol_or_space};
+ghost use Rattle.data_url.specs.Steps.Blocks.{DecodesFront, GainsSymbols, clear};
 
 use super::blocks::{decode, others, put, row};
 use super::places::places_of;
@@ -21,35 +21,6 @@ fn spaces(bytes: u8x16) -> u64
 {
     let found = u8x16::from_array(SPACES).swizzle_dyn(bytes & u8x16::splat(15));
     found.simd_eq(bytes).to_bitmask()
-}
-
-/// Whether the first sixteen bytes are symbols and white space.
-#[inline(always)]
-fn is_spaced_row(text: &[u8]) -> bool
-    requires { 16 ≤ length text.now }
-    ensures { result ≡ true → IsTrue (list_all is_symbol_or_space (take 16 text.now)) }
-{
-    let row = row(text, 0);
-    let others = others(row);
-    others == 0 || others == spaces(row)
-}
-
-/// Whether the first 64 bytes are symbols and white space.
-#[inline(always)]
-pub(crate) fn is_spaced(text: &[u8]) -> bool
-    requires { 64 ≤ length text.now }
-    ensures { result ≡ true → IsTrue (list_all is_symbol_or_space (take 64 text.now)) }
-{
-    if !is_spaced_row(text) {
-        return false;
-    }
-    if !is_spaced_row(&text[16..]) {
-        return false;
-    }
-    if !is_spaced_row(&text[32..]) {
-        return false;
-    }
-    is_spaced_row(&text[48..])
 }
 
 /// Puts the bytes of half a row whose bits are clear at a place, and returns the place after them. The half begins at
@@ -91,13 +62,14 @@ impl Symbols {
         }
     }
 
-    /// Adds the symbols of a row of sixteen bytes.
+    /// Adds the symbols of a row of sixteen bytes, if these are symbols and white space. Returns whether they are.
     #[inline(always)]
-    fn add_row(&mut self, text: &[u8])
+    fn add_row(&mut self, text: &[u8]) -> bool
         requires row { 16 ≤ length text.now }
         requires room { self.old.len < 112 }
-        ensures few { self.new.len ≤ self.old.len + 16 }
-        ensures added { symbols_of self.new ≡ symbols_of self.old ++ filter is_symbol (take 16 text.now) }
+        ensures few { (self.old.len ≤ self.new.len) × (self.new.len ≤ self.old.len + 16) }
+        ensures kept { take self.old.len self.new.bytes ≡ symbols_of self.old }
+        ensures added { result ≡ true → GainsSymbols (symbols_of self.old) (take 16 text.now) (symbols_of self.new) }
     {
         let row = row(text, 0);
         let others = others(row);
@@ -105,23 +77,52 @@ impl Symbols {
         if others == 0 {
             put(&mut self.bytes, len, row);
             self.len = len + 16;
-            return;
+            return true;
+        }
+        if others != spaces(row) {
+            return false;
         }
         let middle = put_half(&mut self.bytes, len, row, 0, (others % 256) as u8);
         self.len = put_half(&mut self.bytes, middle, row, 8, (others / 256) as u8);
+        true
     }
 
-    /// Adds the symbols of the first 64 bytes.
+    /// Adds the symbols of four rows, as long as the rows are symbols and white space. Returns whether all are.
     #[inline(always)]
-    pub(crate) fn add_block(&mut self, text: &[u8])
+    fn add_rows(&mut self, text: &[u8]) -> bool
         requires block { 64 ≤ length text.now }
         requires room { self.old.len < 64 }
-        ensures { symbols_of self.new ≡ symbols_of self.old ++ filter is_symbol (take 64 text.now) }
+        ensures few { self.old.len ≤ self.new.len }
+        ensures kept { take self.old.len self.new.bytes ≡ symbols_of self.old }
+        ensures added { result ≡ true → GainsSymbols (symbols_of self.old) (take 64 text.now) (symbols_of self.new) }
     {
-        self.add_row(text);
-        self.add_row(&text[16..]);
-        self.add_row(&text[32..]);
-        self.add_row(&text[48..]);
+        if !self.add_row(text) {
+            return false;
+        }
+        if !self.add_row(&text[16..]) {
+            return false;
+        }
+        if !self.add_row(&text[32..]) {
+            return false;
+        }
+        self.add_row(&text[48..])
+    }
+
+    /// Adds the symbols of the first 64 bytes, if these are symbols and white space. Returns whether they are.
+    #[inline(always)]
+    pub(crate) fn add_block(&mut self, text: &[u8]) -> bool
+        requires block { 64 ≤ length text.now }
+        requires room { self.old.len < 64 }
+        ensures none { result ≡ false
+            → (self.new.len ≡ self.old.len) × (symbols_of self.new ≡ symbols_of self.old) }
+        ensures added { result ≡ true → GainsSymbols (symbols_of self.old) (take 64 text.now) (symbols_of self.new) }
+    {
+        let len = self.len;
+        let is_spaced = self.add_rows(text);
+        if !is_spaced {
+            self.len = len;
+        }
+        is_spaced
     }
 
     /// Returns the bytes of the groups of the first 64 symbols, and if there are fewer, after them bytes without

@@ -16,11 +16,11 @@ returns-in_err-write-clause-fed g c =
     let i = c.loop-at.invariant in
     let old = c.loop-at.symbols in
     let s = c.add_block.new.self in
-    let all = c.is_spaced.ensures c.if-is_spaced.true in
+    let gains = c.add_block.ensures.added c.if-add_block.true in
     let long : 64 ≤ length (symbols_of s) =
     omega (arith, length-take-le s.len s.bytes (omega (arith, s.within, s.sized)), c.if-symbols-ge64.true) in
     let holds = block_waits (CalledAt g.F.FnMut) (state_of c.loop-at.self) c.args.text.now (symbols_of old)
-    (symbols_of s) c.loop-at.at old.symbols (omega arith) all c.add_block.ensures i.padding i.holds in
+    (symbols_of s) c.loop-at.at old.symbols (omega arith) gains i.padding i.holds in
     rw (p.1, p.2) (block_refused (CalledAt g.F.FnMut) c.args.text.now (c.loop-at.at + 64) (symbols_of s) c.decode.result
     long (omega arith) c.decode.ensures holds c.in_err-write.ensures.wrote)
 
@@ -30,11 +30,11 @@ loop-at-preserved-then-symbols-ge64 g c =
     let old = c.loop-at.symbols in
     let s = c.add_block.new.self in
     let w = c.in_ok-write.ensures.wrote in
-    let all = c.is_spaced.ensures c.if-is_spaced.true in
+    let gains = c.add_block.ensures.added c.if-add_block.true in
     let long : 64 ≤ length (symbols_of s) =
     omega (arith, length-take-le s.len s.bytes (omega (arith, s.within, s.sized)), c.if-symbols-ge64.true) in
     let holds = block_waits (CalledAt g.F.FnMut) (state_of c.loop-at.self) c.args.text.now (symbols_of old)
-    (symbols_of s) c.loop-at.at old.symbols (omega arith) all c.add_block.ensures i.padding i.holds in
+    (symbols_of s) c.loop-at.at old.symbols (omega arith) gains i.padding i.holds in
     record {
       callable = c.in_ok-write.ensures.callable;
       within = omega arith;
@@ -48,13 +48,13 @@ pub loop-at-preserved : goal.loop-at-preserved
 loop-at-preserved g c =
     let i = c.loop-at.invariant in
     let old = c.loop-at.symbols in
-    let all = c.is_spaced.ensures c.if-is_spaced.true in
+    let gains = c.add_block.ensures.added c.if-add_block.true in
     record {
       callable = i.callable;
       within = omega arith;
       few = omega (arith, c.if-symbols-ge64.false);
       padding = i.padding;
       holds = block_waits (CalledAt g.F.FnMut) (state_of c.loop-at.self) c.args.text.now (symbols_of old)
-          (symbols_of c.add_block.new.self) c.loop-at.at old.symbols (omega arith) all c.add_block.ensures i.padding
+          (symbols_of c.add_block.new.self) c.loop-at.at old.symbols (omega arith) gains i.padding
           i.holds;
     }

@@ -12,5 +12,5 @@ returns-clause-fills c =
     let text = c.args.text.now in
     let held = bytes_of c.args.self.now in
     let P : List ℕ → Type 0 = λ l. Fills held text 4 l in
-    subst P (sym c.append.ensures.bytes) (fill_one held text c.group_of.result (omega arith)
+    subst P (sym c.push.ensures.bytes) (fill_one held text c.group_of.result (omega arith)
     (sym c.begins_with_group.ensures ∙ c.if-not-begins_with_group.false) c.group_of.ensures)
