@@ -1,6 +1,6 @@
 -- Bodies, decoded into an output.
-use Rattle.std.proofs.Common.{◌≡◌, ℕ, ◌+◌, ◌*◌, ◌≤◌, Bool, true, false, cond, List, [], ◌++◌, length, take, drop}
-use Rattle.std.proofs.Common.{refl, sym, ap, ◌∙◌, subst, arith, append_assoc, drop-drop, length-append}
+use Rattle.std.proofs.Common.{◌≡◌, ℕ, ◌+◌, ◌*◌, ◌≤◌, Bool, true, false, cond, List, [], ◌++◌, length, take, drop, refl}
+use Rattle.std.proofs.Common.{sym, ap, ◌∙◌, subst, arith, append_assoc, drop-drop, length-append}
 use Rattle.std.specs.Prelude.{MatchBool}
 use Rattle.std.proofs.lemmas.List.{append-nil, length-map, length-take-le, take-append-drop}
 use Rattle.data_url.specs.Base64.{complete_bytes, decoded, first_fault, is_valid, kind_of}

@@ -1,12 +1,10 @@
 -- The end of base64 that is fed in parts.
-use Rattle.std.proofs.Common.{◌≡◌, ℕ, ◌*◌, ◌≤◌, true, List, length, take, Result, Ok}
-use Rattle.std.proofs.Common.{arith}
+use Rattle.std.proofs.Common.{◌≡◌, ℕ, ◌*◌, ◌≤◌, true, List, length, take, Result, Ok, arith}
 use Rattle.std.specs.declared.convert.Infallible.{Infallible}
 use Rattle.std.proofs.lemmas.List.{length-map}
 use Rattle.data_url.specs.Base64.{decoded, is_valid}
-use Rattle.data_url.proofs.api.{DecodesText}
+use Rattle.data_url.proofs.api.{DecodesText, after_few, decoded_left, every_list_all, groups_few}
 use Rattle.data_url.specs.declared.forgiving_base64.DecodeError.{DecodeError}
-use Rattle.data_url.proofs.api.{after_few, decoded_left, every_list_all, groups_few}
 use Rattle.data_url_c.specs.Parts.{is_good_state, waiting_text}
 use Rattle.data_url_c.specs.Steps.{GetsBytes}
 use Rattle.data_url_c.specs.declared.parts.DataUrlBase64.{DataUrlBase64}

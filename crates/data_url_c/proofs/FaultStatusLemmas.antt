@@ -1,7 +1,6 @@
 -- The status of a fault, found by reading the text again.
-use Rattle.std.proofs.Common.{◌≡◌, ℕ, ◌+◌, ◌<◌, ◌≤◌, Bool, true, false, cond, ◌||◌, List, [], ◌∷◌, ◌++◌, length}
-use Rattle.std.proofs.Common.{get_or, take, drop, drop_of_length-le, None, Some}
-use Rattle.std.proofs.Common.{refl, sym, ap, ◌∙◌, arith, eqb}
+use Rattle.std.proofs.Common.{◌≡◌, ℕ, ◌+◌, ◌<◌, ◌≤◌, Bool, true, false, cond, ◌||◌, List, [], ◌∷◌, ◌++◌, length, get_or}
+use Rattle.std.proofs.Common.{take, drop, drop_of_length-le, None, Some, refl, sym, ap, ◌∙◌, arith, eqb}
 use Rattle.std.specs.Prelude.{◌==◌, is_some}
 use Rattle.std.specs.List.{list_any}
 use Rattle.std.proofs.lemmas.List.{drop_more}
@@ -9,9 +8,8 @@ use Rattle.data_url.specs.declared.forgiving_base64.InvalidBase64Details.TheVari
 use Rattle.data_url.specs.declared.forgiving_base64.InvalidBase64Details.TheVariants.{UnexpectedSymbol}
 use Rattle.data_url.specs.Base64.{first_fault, is_symbol, kind_of}
 use Rattle.data_url.specs.Mime.{Every}
-use Rattle.data_url.proofs.api.{every_from_all, fault-append, fault-append_some, fault_after, fault_byte}
-use Rattle.data_url.proofs.api.{fault_more, fault_other, fault_some, fault_space, fault_symbol, has_pad, kind_fault}
-use Rattle.data_url.proofs.api.{kind_left}
+use Rattle.data_url.proofs.api.{every_from_all, fault-append, fault-append_some, fault_after, fault_byte, fault_more}
+use Rattle.data_url.proofs.api.{fault_other, fault_some, fault_space, fault_symbol, has_pad, kind_fault, kind_left}
 use Rattle.std.specs.Char.{is_ascii_whitespace}
 use Rattle.data_url_c.specs.Answers.{status_of_kind}
 use Rattle.data_url_c.specs.Parts.{is_good_state, waiting_text}

@@ -10,7 +10,7 @@ use Rattle.data_url.specs.Fetch.{Accepted, Outcome, mime_text, staged}
 use Rattle.data_url.specs.Mime.{HasNoRecord, Parses, Record}
 use Rattle.data_url.specs.MimeType.{record_of}
 use Rattle.data_url.specs.Run.{joined_pieces, refusal}
-use Rattle.data_url.proofs.api.{DecodesText}
+use Rattle.data_url.proofs.api.{DecodesText, fragment_dropped, run_reads}
 use Rattle.data_url.specs.Url.{after, without_tabs_and_newlines, encoded_fragment, fragment as fragment_in}
 use Rattle.data_url.specs.Url.{in_fragment_set, percent_encoding}
 use Rattle.data_url.specs.declared.DataUrl.{DataUrl}
@@ -20,7 +20,6 @@ use Rattle.data_url.specs.declared.mime.Mime.{Mime}
 use Rattle.data_url.specs.declared.mime.MimeFromStrError.{MimeFromStrError}
 use Rattle.data_url.specs.declared.mime.MimeFromStrError.TheVariants.{OutOfMemory as NoMemory, Parsing}
 use Rattle.data_url.specs.declared.mime.MimeParsingError.{MimeParsingError}
-use Rattle.data_url.proofs.api.{fragment_dropped, run_reads}
 use Rattle.data_url_c.specs.Answers.{Answers, Given}
 use Rattle.data_url_c.specs.Gives.{GivesBody, GivesFragment, GivesMime, GivesType, IsUrlWith, RefusesUrl}
 use Rattle.data_url_c.specs.Steps.{CrossesOrNot, HasBody, HasFragment, HasText}

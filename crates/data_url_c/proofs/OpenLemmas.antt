@@ -14,8 +14,7 @@ use Rattle.std.proofs.lemmas.Slice.Eq.{starts_is}
 use Rattle.data_url.specs.Base64.{after_groups, decoded, groups, is_valid, values, without_last_padding}
 use Rattle.data_url.specs.Base64.{without_padding, without_whitespace}
 use Rattle.data_url.specs.DataUrl.{IsAcceptable, is_base64, mime_of, url_body, url_tail}
-use Rattle.data_url.specs.Fetch.{has_base64_suffix, header_of, mime_text, outcome, plain_body, staged}
-use Rattle.data_url.specs.Fetch.{tail_of}
+use Rattle.data_url.specs.Fetch.{has_base64_suffix, header_of, mime_text, outcome, plain_body, staged, tail_of}
 use Rattle.data_url.specs.Mime.{HasNoRecord, IsRecordOf, default_record, printed}
 use Rattle.data_url.specs.MimeType.{record_of}
 use Rattle.data_url.specs.Percent.{percent_decoding}

@@ -3,17 +3,15 @@ use Rattle.std.proofs.Common.{◌≡◌, ℕ, ◌+◌, ◌≤◌, true, false, L
 use Rattle.std.proofs.Common.{Some, is_some, Result, Ok, Err, refl, sym, ap, ◌∙◌, subst, arith, append_assoc, drop-drop}
 use Rattle.std.proofs.Common.{length-append, length-drop, ◌-◌, take_all}
 use Rattle.std.specs.List.{list_all}
-use Rattle.std.specs.Prelude.{replicate}
+use Rattle.std.specs.Prelude.{replicate, MatchOption}
 use Rattle.std.proofs.lemmas.Bool.{le-leb}
 use borrow.Rule.Slice.PartMut.{post_of}
 use Rattle.std.proofs.lemmas.List.{append-nil, drop-replicate, length-take-le, nil_from_length, take-append-drop}
 use Rattle.std.proofs.lemmas.List.{take-replicate}
 use Rattle.std.proofs.lemmas.Slice.{drop-append-drop}
 use Rattle.std.proofs.Math.Seq.{drop-append-add, drop-append_seam, take-append-add, take-append_seam}
-use Rattle.std.specs.Prelude.{MatchOption}
 use Rattle.std.specs.declared.convert.Infallible.{Infallible}
-use Rattle.data_url.specs.Base64.{Kind}
-use Rattle.data_url.specs.Base64.{first_fault, is_symbol, kind_of, left_padding, left_symbols, left_text}
+use Rattle.data_url.specs.Base64.{Kind, first_fault, is_symbol, kind_of, left_padding, left_symbols, left_text}
 use Rattle.data_url.specs.Decoder.{Feeds, IsTaken, State, start}
 use Rattle.data_url.specs.Run.{Call, IsRun, joined_pieces}
 use Rattle.data_url.specs.declared.forgiving_base64.DecodeError.TheVariants.{InvalidBase64}

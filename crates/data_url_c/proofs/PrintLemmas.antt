@@ -1,6 +1,6 @@
 -- Texts that are printed to a buffer of fixed size.
-use Rattle.std.proofs.Common.{◌≡◌, ◌⊎◌, ℕ, suc, [], ◌∷◌, ◌-◌, ◌<◌, ◌^◌, Bool, false, nat_eq, List, ◌++◌, length}
-use Rattle.std.proofs.Common.{drop, codes, refl, sym, ap, ◌∙◌, inl, inr, arith}
+use Rattle.std.proofs.Common.{◌≡◌, ◌⊎◌, ℕ, suc, [], ◌∷◌, ◌-◌, ◌<◌, ◌^◌, Bool, false, nat_eq, List, ◌++◌, length, drop}
+use Rattle.std.proofs.Common.{codes, refl, sym, ap, ◌∙◌, inl, inr, arith}
 use Rattle.std.specs.Global.{Global}
 use Rattle.std.specs.List.{ends_with}
 use Rattle.std.specs.Prelude.{Vec, encode_utf8_all}

@@ -15,15 +15,14 @@ use Rattle.std.proofs.lemmas.Slice.Eq.{bytes_eq-Decides}
 use Rattle.data_url.specs.DataUrl.{IsAcceptable}
 use Rattle.data_url.specs.Fetch.{Accepted, NoComma, NoScheme, has_base64_suffix, header_of, mime_text, outcome}
 use Rattle.data_url.specs.Fetch.{plain_body, staged, tail_of}
-use Rattle.data_url.proofs.api.{HasNoScheme, IsHeaderAndTail, IsSchemeAndRest}
-use Rattle.data_url.proofs.api.{header_text}
+use Rattle.data_url.proofs.api.{HasNoScheme, IsHeaderAndTail, IsSchemeAndRest, header_text, IsBytes, before_all}
+use Rattle.data_url.proofs.api.{before_at, after-append, after-dropped_none, after_at, after_nil, after_other}
+use Rattle.data_url.proofs.api.{dropped_around, dropped_keeps, dropped_nil, dropped_passes, is_accepted, is_cut, lacks}
+use Rattle.data_url.proofs.api.{lacks_comma, rest_bytes, scheme_has_no_comma, stages_accepted, stages_no_comma}
+use Rattle.data_url.proofs.api.{stages_no_scheme, suffix_stop}
 use Rattle.data_url.specs.Url.{before, after, fragment, front, in_fragment_set, is_c0_control_or_space}
 use Rattle.data_url.specs.Url.{is_tab_or_newline, percent_encoding, trimmed_text, without_end, without_front}
 use Rattle.data_url.specs.Url.{without_tabs_and_newlines}
-use Rattle.data_url.proofs.api.{IsBytes, before_all, before_at, after-append, after-dropped_none, after_at}
-use Rattle.data_url.proofs.api.{after_nil, after_other, dropped_around, dropped_keeps, dropped_nil, dropped_passes}
-use Rattle.data_url.proofs.api.{is_accepted, is_cut, lacks, lacks_comma, rest_bytes, scheme_has_no_comma}
-use Rattle.data_url.proofs.api.{stages_accepted, stages_no_comma, stages_no_scheme, suffix_stop}
 
 -- Trimming
 

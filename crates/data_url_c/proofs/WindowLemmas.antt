@@ -2,19 +2,15 @@
 use Rattle.std.proofs.Common.{◌≡◌, ◌⊎◌, ℕ, ◌+◌, ◌*◌, ◌-◌, ◌<◌, ◌≤◌, true, false, cond, List, [], ◌∷◌, ◌++◌, length}
 use Rattle.std.proofs.Common.{take, drop, None, Some, refl, sym, ap, ◌∙◌, subst, inl, inr, arith, get_or, drop-cons}
 use Rattle.std.proofs.Common.{length-append, length-drop, length-take, drop-drop, rules, tests}
-use Rattle.std.specs.Char.{digit_value, is_ascii_hexdigit}
-use Rattle.std.specs.Prelude.{IsUtf8, ◌&&◌, ◌==◌, not}
+use Rattle.std.specs.Char.{digit_value, is_ascii_hexdigit, len_utf8}
+use Rattle.std.specs.Prelude.{IsUtf8, ◌&&◌, ◌==◌, not, encode_utf8_all}
 use Rattle.std.specs.Str.{IsCharBoundary}
-use Rattle.std.proofs.lemmas.Bool.{and_left, and_parts, and_right, both_ways}
-use Rattle.std.proofs.lemmas.Bool.{ne_eqb}
+use Rattle.std.proofs.lemmas.Bool.{and_left, and_parts, and_right, both_ways, ne_eqb}
 use Rattle.data_url.proofs.api.{before-append, before_all, after-dropped_none, body_shorter, decoded_keeps}
 use Rattle.data_url.proofs.api.{dropped_keeps, dropped_nil, dropped_passes, fragment_dropped, two_digits}
 use Rattle.data_url.proofs.api.{without_tabs_and_newlines-append}
 use Rattle.std.proofs.Math.Seq.{drop-length}
-use Rattle.std.specs.Char.{len_utf8}
-use Rattle.std.specs.Prelude.{encode_utf8_all}
-use Rattle.std.proofs.lemmas.Str.{IsCharBoundary-after_ascii, IsCharBoundary-past_char}
-use Rattle.std.proofs.lemmas.Str.{IsUtf8-drop, len_utf8_bounds}
+use Rattle.std.proofs.lemmas.Str.{IsCharBoundary-after_ascii, IsCharBoundary-past_char, IsUtf8-drop, len_utf8_bounds}
 use Rattle.std.proofs.lemmas.List.{append-nil, get_or-drop, get_or-take, nil_from_length, take-append-drop, take_more}
 use Rattle.data_url.specs.Fetch.{plain_body}
 use Rattle.data_url.specs.Percent.{percent_decoding}

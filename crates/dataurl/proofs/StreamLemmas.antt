@@ -8,10 +8,10 @@ use Rattle.data_url.specs.Base64.{decoded, complete_bytes, first_fault, is_valid
 use Rattle.data_url.specs.Decoder.{Feeds, Finishes, IsTaken, State, start}
 use Rattle.data_url.specs.Errors.{IsRefused}
 use Rattle.data_url.specs.Run.{Call, IsRun, joined_pieces, refusal}
-use Rattle.data_url.proofs.api.{DecodesText}
+use Rattle.data_url.proofs.api.{DecodesText, decodes_finished, fed_nothing, feeds_then, feeds_took, match_at_none}
+use Rattle.data_url.proofs.api.{run_keeps}
 use Rattle.data_url.specs.declared.forgiving_base64.DecodeError.{DecodeError}
 use Rattle.data_url.specs.declared.forgiving_base64.DecodeError.TheVariants.{InvalidBase64}
-use Rattle.data_url.proofs.api.{decodes_finished, fed_nothing, feeds_then, feeds_took, match_at_none, run_keeps}
 use Rattle.dataurl.specs.Output.{End, IsOutput, of_base64, of_no_base64}
 use Rattle.dataurl.specs.Runs.{IsProperPrefix, IsResult, IsSoundBeforeLastPiece, Runs, base64_not_read}
 use Rattle.dataurl.specs.Runs.{base64_not_written, complete, not_written, stopped as stopped_at_fault}

@@ -18,10 +18,9 @@ use Rattle.data_url.specs.DataUrl.{Decodes, HandsOut, IsUrlOf, url_body, url_tai
 use Rattle.data_url.specs.declared.forgiving_base64.DecodeError.TheVariants.{WriteError, InvalidBase64}
 use Rattle.data_url.proofs.runs.Runs.{joined_pieces-append, match_at, refusal-append, run-append, prefix_after}
 use Rattle.std.specs.Char.{digit_value}
-use Rattle.data_url.specs.Base64.{decoded, complete_bytes, kind_of, after_groups, before_place}
-use Rattle.data_url.specs.Base64.{groups, is_symbol, rest_bytes, symbol_value, values}
-use Rattle.data_url.specs.Url.{before, without_tabs_and_newlines, front, after}
-use Rattle.data_url.specs.Url.{trimmed_text}
+use Rattle.data_url.specs.Base64.{decoded, complete_bytes, kind_of, after_groups, before_place, groups, is_symbol}
+use Rattle.data_url.specs.Base64.{rest_bytes, symbol_value, values}
+use Rattle.data_url.specs.Url.{before, without_tabs_and_newlines, front, after, trimmed_text}
 use Rattle.data_url.specs.Percent.{begins_with_escape, percent_decoding}
 use Rattle.data_url.specs.Decoder.{Feeds, Finishes, State, start}
 use Rattle.data_url.specs.Steps.Whole.{DecodesText}

@@ -6,8 +6,8 @@ use Rattle.std.specs.Char.{digit_value, is_ascii_hexdigit}
 use Rattle.std.proofs.lemmas.Bool.{agree_below_at, cond-true, cond-false, lt-ltb}
 use Rattle.std.proofs.lemmas.List.{drop_more, drop_all}
 use Rattle.data_url.specs.Url.{is_tab_or_newline}
-use Rattle.data_url.specs.Steps.Digits.{digit, escape, with_high_digit, with_low_digit}
-use Rattle.data_url.specs.Steps.Digits.{DigitFound, DigitsFound, NoDigit, NoDigits, digit_code}
+use Rattle.data_url.specs.Steps.Digits.{digit, escape, with_high_digit, with_low_digit, DigitFound, DigitsFound}
+use Rattle.data_url.specs.Steps.Digits.{NoDigit, NoDigits, digit_code}
 use Rattle.data_url.specs.Steps.Looks.{before_percent}
 use Rattle.data_url.proofs.runs.Runs.{match_map}
 use Rattle.data_url.specs.declared.escapes.digits.TheConstants.{DIGITS}

@@ -7,13 +7,11 @@ use Rattle.std.proofs.lemmas.Bool.{cases_Bool}
 use Rattle.std.proofs.lemmas.List.{drop_more, drop-drop, length-drop, drop_all, append-nil, take_more_set}
 use Rattle.std.proofs.lemmas.List.{length-take-le, append_cancel_right, take-append-drop}
 use Rattle.data_url.specs.Pieces.{text_of, IsEscape, IsPiece, IsStretch, bytes_of, has_ended, is_slice_end, walk_of}
-use Rattle.data_url.specs.Steps.Walk.{IsClear, Reads, Ended, EscapeAt, IsPassed, KeepsBlock, LonePercent}
-use Rattle.data_url.specs.Steps.Walk.{Looking, GoesOn, IsNextMark, Knows, KnowsAhead, LooksOn, Stays, Gathers}
-use Rattle.data_url.specs.Steps.Walk.{MayGather, Moves}
+use Rattle.data_url.specs.Steps.Walk.{IsClear, Reads, Ended, EscapeAt, IsPassed, KeepsBlock, LonePercent, Looking}
+use Rattle.data_url.specs.Steps.Walk.{GoesOn, IsNextMark, Knows, KnowsAhead, LooksOn, Stays, Gathers, MayGather, Moves}
 use Rattle.data_url.specs.Url.{before, after, front, without_tabs_and_newlines}
-use Rattle.data_url.proofs.escapes.Reading.{paid_byte, paid_le, paid_percent, reads_clear, reads_escape}
-use Rattle.data_url.proofs.escapes.Reading.{reads_passed, reads_percent, reads_then, ends_empty, has_escape}
-use Rattle.data_url.proofs.escapes.Reading.{HasEscape, percent_nil}
+use Rattle.data_url.proofs.escapes.Reading.{paid_byte, paid_le, paid_percent, reads_clear, reads_escape, reads_passed}
+use Rattle.data_url.proofs.escapes.Reading.{reads_percent, reads_then, ends_empty, has_escape, HasEscape, percent_nil}
 use Rattle.data_url.proofs.percent.Encoding.{decoded_escape}
 use Rattle.data_url.proofs.escapes.Marks.{looking_clear}
 use Rattle.data_url.proofs.texts.Bytes.{before_all, after_nil, after_other, after_same, dropped_keeps, dropped_nil}

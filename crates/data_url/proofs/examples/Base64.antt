@@ -1,10 +1,10 @@
 -- Base64 texts and what the definitions say about them, by computation.
 use Rattle.std.proofs.Common.{◌≡◌, ℕ, true, false, List, [], ◌∷◌, ◌++◌, None, Some, codes, replicate, refl}
-use Rattle.data_url.specs.Base64.{decoded}
+use Rattle.data_url.specs.Base64.{decoded, complete_bytes, first_fault, is_valid, kind_of, left_padding, left_symbols}
+use Rattle.data_url.specs.Base64.{left_text}
 use Rattle.data_url.specs.declared.forgiving_base64.InvalidBase64Details.TheVariants.{AlphabetSymbolAfterPadding}
 use Rattle.data_url.specs.declared.forgiving_base64.InvalidBase64Details.TheVariants.{LoneAlphabetSymbol, Padding}
 use Rattle.data_url.specs.declared.forgiving_base64.InvalidBase64Details.TheVariants.{UnexpectedSymbol}
-use Rattle.data_url.specs.Base64.{complete_bytes, first_fault, is_valid, kind_of, left_padding, left_symbols, left_text}
 use Rattle.data_url.proofs.examples.Literals.{on_literals}
 
 bits_left_over : (is_valid (codes "YR") ≡ true) × (decoded (codes "YR") ≡ 97 ∷ [])

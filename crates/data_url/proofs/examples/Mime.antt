@@ -6,11 +6,10 @@ use Rattle.std.specs.Prelude.{◌==◌, IsTrue, ◌≢◌, not, ◌&&◌}
 use Rattle.std.specs.List.{list_all}
 use Rattle.std.specs.Char.{to_ascii_lowercase}
 use Rattle.data_url.specs.CodePoints.{ends_name, is_http_whitespace, is_semicolon}
-use Rattle.data_url.specs.Mime.{BeginsParameters, DoesNotBegin, GivesValue, HasNoRecord, IsHead}
-use Rattle.data_url.specs.Mime.{IsParameter, IsRecordOf, Item, Items, Pair, Parses}
-use Rattle.data_url.specs.Mime.{Quoted, Record, default_record, is_quote, is_token_text, kept_pairs}
-use Rattle.data_url.specs.Mime.{after_backslash, nothing_quoted, plain, as_itself, printed, quoted, unclosed}
-use Rattle.data_url.specs.Mime.{unless_empty}
+use Rattle.data_url.specs.Mime.{BeginsParameters, DoesNotBegin, GivesValue, HasNoRecord, IsHead, IsParameter}
+use Rattle.data_url.specs.Mime.{IsRecordOf, Item, Items, Pair, Parses, Quoted, Record, default_record, is_quote}
+use Rattle.data_url.specs.Mime.{is_token_text, kept_pairs, after_backslash, nothing_quoted, plain, as_itself, printed}
+use Rattle.data_url.specs.Mime.{quoted, unclosed, unless_empty}
 use Rattle.data_url.specs.Url.{without_end}
 use Rattle.data_url.proofs.examples.Literals.{on_literals}
 use Rattle.data_url.proofs.mime.Items.{every_from_all, has_parts, parameters_in, subtype_in, trimmed_of, type_in}

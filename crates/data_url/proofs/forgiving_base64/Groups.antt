@@ -1,8 +1,7 @@
 -- Groups of four symbols, and texts that are fed in two parts.
-use Rattle.std.proofs.Common.{◌≡◌, ℕ, suc, ◌+◌, ◌-◌, ◌*◌, ◌%◌, ◌≤◌, true, ◌&&◌, ◌||◌, List, [], ◌∷◌}
-use Rattle.std.proofs.Common.{◌++◌, map, length, get_or, take, drop, Fits, w8, refl, ap, ap₂, ◌∙◌, arith}
-use Rattle.std.proofs.Common.{length-take, length-take-le, take-add, false, min, None}
-use Rattle.std.proofs.Common.{append_assoc, length-append}
+use Rattle.std.proofs.Common.{◌≡◌, ℕ, suc, ◌+◌, ◌-◌, ◌*◌, ◌%◌, ◌≤◌, true, ◌&&◌, ◌||◌, List, [], ◌∷◌, ◌++◌, map, length}
+use Rattle.std.proofs.Common.{get_or, take, drop, Fits, w8, refl, ap, ap₂, ◌∙◌, arith, length-take, length-take-le}
+use Rattle.std.proofs.Common.{take-add, false, min, None, append_assoc, length-append}
 use Rattle.std.specs.List.{list_all, prefix_len, filter, list_any}
 use Rattle.std.proofs.lemmas.Bool.{and_parts}
 use Rattle.std.proofs.lemmas.List.{append-nil, get_or-take, get_or_past, length-map, take-append-drop, take-map}
@@ -18,11 +17,10 @@ use Rattle.data_url.specs.Steps.Blocks.{Fills, is_symbol_or_space}
 use Rattle.data_url.specs.Steps.Lanes.{value_of}
 use Rattle.data_url.proofs.forgiving_base64.Vectors.{groups_whole, value_is}
 use Rattle.data_url.proofs.forgiving_base64.Padding.{every_list_all, filter_all, after_groups-append, after_groups-map}
-use Rattle.data_url.proofs.forgiving_base64.Padding.{before-append, before_none, done_is}
-use Rattle.data_url.proofs.forgiving_base64.Padding.{every_after, fault-append, fault_byte, fault_invalid, fault_none}
-use Rattle.data_url.proofs.forgiving_base64.Padding.{fault_some, fault_text, groups-append, is_pad, kind_is}
-use Rattle.data_url.proofs.forgiving_base64.Padding.{length_alike, no_fault_valid, pads_of_text, symbols_of_text}
-use Rattle.data_url.proofs.forgiving_base64.Padding.{any_filter, filter_every}
+use Rattle.data_url.proofs.forgiving_base64.Padding.{before-append, before_none, done_is, every_after, fault-append}
+use Rattle.data_url.proofs.forgiving_base64.Padding.{fault_byte, fault_invalid, fault_none, fault_some, fault_text}
+use Rattle.data_url.proofs.forgiving_base64.Padding.{groups-append, is_pad, kind_is, length_alike, no_fault_valid}
+use Rattle.data_url.proofs.forgiving_base64.Padding.{pads_of_text, symbols_of_text, any_filter, filter_every}
 use Rattle.data_url.specs.Laws.{GoesOn, TwoFeeds}
 
 -- Groups at the start of a text.

@@ -1,8 +1,8 @@
 -- Feeding while decoded bytes are held. For `feed_blocks`, `feed_spaced` and `flush`.
 use Rattle.std.proofs.Common.{◌≡◌, ℕ, ◌+◌, ◌-◌, ◌%◌, ◌<◌, ◌≤◌, Fits, w8, length-take, length-take-le, Bool, true, false}
-use Rattle.std.proofs.Common.{cond, min, ◌||◌, List, [], ◌∷◌, ◌++◌, length, map, drop, get_or, take, take-add}
-use Rattle.std.proofs.Common.{Option, None, Some, is_some, Result, Ok, Err, refl, ap, ap₂, sym, ◌∙◌, subst, arith}
-use Rattle.std.proofs.Common.{append_assoc, length-append}
+use Rattle.std.proofs.Common.{cond, min, ◌||◌, List, [], ◌∷◌, ◌++◌, length, map, drop, get_or, take, take-add, Option}
+use Rattle.std.proofs.Common.{None, Some, is_some, Result, Ok, Err, refl, ap, ap₂, sym, ◌∙◌, subst, arith, append_assoc}
+use Rattle.std.proofs.Common.{length-append}
 use Rattle.std.specs.Prelude.{MatchOption, MatchResult}
 use Rattle.std.specs.List.{filter, list_all}
 use Rattle.std.proofs.lemmas.Bool.{and_parts, true≢false}
@@ -21,15 +21,14 @@ use Rattle.data_url.specs.Steps.Blocks.{GainsSymbols, AreGroups, DecodesFront, F
 use Rattle.data_url.specs.Steps.Holding.{Adds, Flushes, Gains, Holds, IsBetweenGroups, Refuses, waiting}
 use Rattle.data_url.specs.declared.forgiving_base64.DecodeError.{DecodeError}
 use Rattle.data_url.specs.declared.forgiving_base64.DecodeError.TheVariants.{InvalidBase64, WriteError}
-use Rattle.data_url.proofs.forgiving_base64.Steps.{adds_none, adds_text, fault_space, fault_symbol, has_pad}
-use Rattle.data_url.proofs.forgiving_base64.Steps.{told_call, feeds_stop, feeds_then, left_goes_on}
+use Rattle.data_url.proofs.forgiving_base64.Steps.{adds_none, adds_text, fault_space, fault_symbol, has_pad, told_call}
+use Rattle.data_url.proofs.forgiving_base64.Steps.{feeds_stop, feeds_then, left_goes_on}
 use Rattle.data_url.specs.Steps.Lanes.{value_of}
 use Rattle.data_url.proofs.forgiving_base64.Groups.{fill_symbols, fits_take, groups_length}
 use Rattle.data_url.proofs.forgiving_base64.Vectors.{groups_whole}
-use Rattle.data_url.proofs.runs.Runs.{joined_pieces-append, match_at, match_none, refusal-append}
-use Rattle.data_url.proofs.runs.Runs.{run-append}
-use Rattle.data_url.proofs.forgiving_base64.Padding.{after_groups-append, after_groups-map, every_after}
-use Rattle.data_url.proofs.forgiving_base64.Padding.{every_list_all, fault-append, fault_byte, groups-append, is_pad}
+use Rattle.data_url.proofs.runs.Runs.{joined_pieces-append, match_at, match_none, refusal-append, run-append}
+use Rattle.data_url.proofs.forgiving_base64.Padding.{after_groups-append, after_groups-map, every_after, every_list_all}
+use Rattle.data_url.proofs.forgiving_base64.Padding.{fault-append, fault_byte, groups-append, is_pad}
 use Rattle.data_url.proofs.forgiving_base64.Padding.{length-after_groups}
 
 -- A text of symbols and white space has no fault and no padding

@@ -5,16 +5,14 @@ use Rattle.std.proofs.Common.{append_assoc, ◌<◌, ◌≤◌, arith, ◌%◌, 
 use Rattle.std.specs.List.{filter, find, list_any, range_with_len, list_all}
 use Rattle.std.proofs.lemmas.List.{append-nil, get_or_at, take_at, length_push, length-replicate}
 use Rattle.std.proofs.lemmas.List.Folds.{list_any-append}
-use Rattle.std.proofs.lemmas.Bool.{false≢true, true≢false, eqb-true, eq-eqb, ne_eqb, eqb-false}
-use Rattle.std.proofs.lemmas.Bool.{not-true, not_from_false, and_from, and_right}
-use Rattle.std.proofs.lemmas.Bool.{false_from_ne_true, agree_below_at, and_parts}
+use Rattle.std.proofs.lemmas.Bool.{false≢true, true≢false, eqb-true, eq-eqb, ne_eqb, eqb-false, not-true}
+use Rattle.std.proofs.lemmas.Bool.{not_from_false, and_from, and_right, false_from_ne_true, agree_below_at, and_parts}
 use Rattle.data_url.specs.Base64.{before_place, first_fault, is_fault, is_symbol, is_valid, without_padding}
-use Rattle.data_url.specs.Base64.{without_last_padding, Kind}
+use Rattle.data_url.specs.Base64.{without_last_padding, Kind, after_groups, without_whitespace, complete_bytes, groups}
+use Rattle.data_url.specs.Base64.{kind_at, kind_of, values}
 use Rattle.data_url.specs.declared.forgiving_base64.InvalidBase64Details.TheVariants.{AlphabetSymbolAfterPadding}
 use Rattle.data_url.specs.declared.forgiving_base64.InvalidBase64Details.TheVariants.{LoneAlphabetSymbol, Padding}
-use Rattle.data_url.specs.Base64.{after_groups, without_whitespace, complete_bytes}
 use Rattle.data_url.specs.declared.forgiving_base64.InvalidBase64Details.TheVariants.{UnexpectedSymbol}
-use Rattle.data_url.specs.Base64.{groups, kind_at, kind_of, values}
 use Rattle.data_url.specs.Mime.{Every}
 use Rattle.std.proofs.Math.Bool.{or-false, or_assoc}
 use Rattle.data_url.specs.Facts.{IsFirstFault, Fits, IsSymbolsAndPadding, PaddingFits}

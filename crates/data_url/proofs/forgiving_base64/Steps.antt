@@ -1,7 +1,7 @@
 -- What a decoder does with more bytes, and at its end. For `Decoder`.
-use Rattle.std.proofs.Common.{◌≡◌, ℕ, suc, zero, ◌+◌, ◌*◌, ◌%◌, ◌≤◌, Bool, true, false, cond, eqb, get_or}
-use Rattle.std.proofs.Common.{take, List, [], ◌∷◌, ◌++◌, length, map, min, replicate, None, Some, Result, Ok}
-use Rattle.std.proofs.Common.{Err, refl, ap, sym, ◌∙◌, subst, arith, length-append, drop, Option, append_assoc}
+use Rattle.std.proofs.Common.{◌≡◌, ℕ, suc, zero, ◌+◌, ◌*◌, ◌%◌, ◌≤◌, Bool, true, false, cond, eqb, get_or, take, List}
+use Rattle.std.proofs.Common.{[], ◌∷◌, ◌++◌, length, map, min, replicate, None, Some, Result, Ok, Err, refl, ap, sym}
+use Rattle.std.proofs.Common.{◌∙◌, subst, arith, length-append, drop, Option, append_assoc}
 use Rattle.std.specs.Prelude.{MatchOption, MatchBool, MatchResult}
 use Rattle.std.specs.List.{filter, list_any}
 use Rattle.std.proofs.lemmas.List.{append-nil, length-map, length-replicate, take-append-drop}
@@ -23,14 +23,13 @@ use Rattle.std.specs.Result.{result_err}
 use Rattle.data_url.specs.Steps.Holding.{Adds, Flushes, Refuses}
 use Rattle.data_url.specs.declared.forgiving_base64.DecodeError.{DecodeError}
 use Rattle.data_url.specs.declared.forgiving_base64.DecodeError.TheVariants.{WriteError, InvalidBase64}
-use Rattle.data_url.proofs.runs.Runs.{prefix_all, joined_pieces-append, match_alike, match_map}
-use Rattle.data_url.proofs.runs.Runs.{prefix_trans, refusal-append, run-append}
+use Rattle.data_url.proofs.runs.Runs.{prefix_all, joined_pieces-append, match_alike, match_map, prefix_trans}
+use Rattle.data_url.proofs.runs.Runs.{refusal-append, run-append}
 use Rattle.data_url.proofs.forgiving_base64.Padding.{any_of_text, before-append, before_fault, before_none, classes}
 use Rattle.data_url.proofs.forgiving_base64.Padding.{done_is, fault-append, fault_byte, fault_pads, fault_some}
-use Rattle.data_url.proofs.forgiving_base64.Padding.{fault_text, is_pad, kind_is, no_fault_valid}
-use Rattle.data_url.proofs.forgiving_base64.Padding.{none_fault, pads_of_text, symbols_of_text, fits_with}
-use Rattle.data_url.proofs.forgiving_base64.Padding.{bad, space_alone, symbol_alone}
-use Rattle.data_url.proofs.forgiving_base64.Padding.{done_stays, fault-append_some, kind_stays}
+use Rattle.data_url.proofs.forgiving_base64.Padding.{fault_text, is_pad, kind_is, no_fault_valid, none_fault}
+use Rattle.data_url.proofs.forgiving_base64.Padding.{pads_of_text, symbols_of_text, fits_with, bad, space_alone}
+use Rattle.data_url.proofs.forgiving_base64.Padding.{symbol_alone, done_stays, fault-append_some, kind_stays}
 use Rattle.data_url.specs.Laws.{GoesOn}
 use Rattle.data_url.proofs.forgiving_base64.Groups.{two_feeds}
 

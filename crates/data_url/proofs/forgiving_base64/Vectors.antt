@@ -3,8 +3,7 @@ use Rattle.std.proofs.Common.{◌≡◌, ℕ, ◌<◌, ltb, true, false, cond, e
 use Rattle.std.proofs.Common.{◌*◌, ◌/◌, ◌%◌, ◌^◌, Bool, not, List, [], ◌∷◌, ◌++◌, map, length, take, replicate, Fits}
 use Rattle.std.proofs.Common.{w8, ap, ap₂, subst, ◌≤◌, ◌&&◌, drop, bit_or, inl, inr, append_assoc, length-take-le}
 use Rattle.std.proofs.Common.{length-drop, take-add}
-use Rattle.std.proofs.lemmas.Bool.{agree_below_at, le-ltb, cond-true, cond-false, eqb-true, ltb-true, cases_eq}
-use Rattle.std.proofs.lemmas.Bool.{ne_eqb}
+use Rattle.std.proofs.lemmas.Bool.{agree_below_at, le-ltb, cond-true, cond-false, eqb-true, ltb-true, cases_eq, ne_eqb}
 use Rattle.std.specs.Char.{is_ascii_whitespace as std_whitespace, is_ascii_whitespace}
 use Rattle.data_url.specs.Base64.{is_symbol, symbol_value, group_bytes, group_number, groups, after_groups}
 use Rattle.data_url.specs.declared.forgiving_base64.alphabet.TheConstants.{NO_SYMBOL, VALUES}

@@ -4,8 +4,7 @@ use Rattle.std.proofs.Common.{Err, refl, ap, sym, ◌∙◌, subst, inl, inr, ar
 use Rattle.std.specs.Prelude.{MatchBool, MatchOption}
 use Rattle.std.proofs.lemmas.List.{append-nil}
 use Rattle.std.proofs.lemmas.Bool.{cond-true}
-use Rattle.data_url.specs.Base64.{decoded, complete_bytes, is_valid, kind_of, left_padding, left_symbols}
-use Rattle.data_url.specs.Base64.{left_text}
+use Rattle.data_url.specs.Base64.{decoded, complete_bytes, is_valid, kind_of, left_padding, left_symbols, left_text}
 use Rattle.data_url.specs.Steps.Whole.{DecodesText}
 use Rattle.data_url.specs.Decoder.{Feeds, Finishes, IsTaken, State, left_over, start}
 use Rattle.data_url.specs.Errors.{IsRefused}
@@ -17,8 +16,8 @@ use Rattle.data_url.specs.declared.forgiving_base64.DecodeError.{DecodeError}
 use Rattle.data_url.specs.declared.forgiving_base64.DecodeError.TheVariants.{InvalidBase64}
 use Rattle.data_url.proofs.forgiving_base64.Steps.{bool_at_false, bool_at_true, feeds_none, feeds_goes_on, feeds_took}
 use Rattle.data_url.proofs.forgiving_base64.Groups.{two_feeds}
-use Rattle.data_url.proofs.runs.Runs.{joined_pieces-append, later_none, match_at, match_map, match_none}
-use Rattle.data_url.proofs.runs.Runs.{prefix_all, prefix_after, prefix_trans, refusal-append, run-append}
+use Rattle.data_url.proofs.runs.Runs.{joined_pieces-append, later_none, match_at, match_map, match_none, prefix_all}
+use Rattle.data_url.proofs.runs.Runs.{prefix_after, prefix_trans, refusal-append, run-append}
 use Rattle.data_url.proofs.forgiving_base64.Padding.{fault_byte, fault_invalid, none_fault, valid_no_fault}
 use Rattle.data_url.proofs.forgiving_base64.Padding.{some_not_none}
 

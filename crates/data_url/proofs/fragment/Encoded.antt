@@ -1,16 +1,15 @@
 -- An encoded fragment is read again as it is.
-use Rattle.std.proofs.Common.{◌≡◌, ℕ, ◌<◌, Bool, true, false, not, List, [], ◌∷◌, ◌++◌}
-use Rattle.std.proofs.Common.{reverse, Some, codes, refl, sym, ap, ◌∙◌, subst, arith}
+use Rattle.std.proofs.Common.{◌≡◌, ℕ, ◌<◌, Bool, true, false, not, List, [], ◌∷◌, ◌++◌, reverse, Some, codes, refl, sym}
+use Rattle.std.proofs.Common.{ap, ◌∙◌, subst, arith}
 use Rattle.std.specs.Prelude.{◌&&◌, option_and_then}
 use Rattle.std.specs.Option.{option_map}
 use Rattle.std.specs.List.{prefix_len}
 use Rattle.std.proofs.lemmas.Bool.{agree_below_at, both_ways, cond-false, false_from_ne_true}
 use Rattle.std.proofs.lemmas.List.{reverse-append, take_all}
-use Rattle.data_url.specs.Url.{after_scheme, before, after, cleaned_text, without_tabs_and_newlines}
-use Rattle.data_url.specs.Url.{encoded_path, fragment, front, hex_digit, in_fragment_set, is_c0_control_or_space}
-use Rattle.data_url.specs.Url.{is_tab_or_newline, percent_encoding, serialised, trimmed_text}
-use Rattle.data_url.specs.Fetch.{before_comma, encoded_body, header_of, staged, staged_fragment}
-use Rattle.data_url.specs.Fetch.{staged_front}
+use Rattle.data_url.specs.Url.{after_scheme, before, after, cleaned_text, without_tabs_and_newlines, encoded_path}
+use Rattle.data_url.specs.Url.{fragment, front, hex_digit, in_fragment_set, is_c0_control_or_space, is_tab_or_newline}
+use Rattle.data_url.specs.Url.{percent_encoding, serialised, trimmed_text}
+use Rattle.data_url.specs.Fetch.{before_comma, encoded_body, header_of, staged, staged_fragment, staged_front}
 use Rattle.data_url.specs.Laws.{IsReadAgain, is_fragment_byte}
 use Rattle.data_url.specs.Mime.{Every}
 use Rattle.data_url.proofs.percent.Encoding.{IsBytes, encoded_cons, encoded_nil}

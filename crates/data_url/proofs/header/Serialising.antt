@@ -1,8 +1,7 @@
 -- Headers: serialised path and query, and the last space of a path. For `serialise`.
-use Rattle.std.proofs.Common.{◌≡◌, ◌≢◌, ◌⊎◌, ℕ, suc, ◌+◌, ◌-◌, ◌<◌, ◌≤◌, Bool, true, false, not, List}
-use Rattle.std.proofs.Common.{[], ◌∷◌, ◌++◌, length, get_or, take, drop, reverse, codes, refl, sym, ap, ◌∙◌, inl, inr}
-use Rattle.std.proofs.Common.{⊎_elim, None, append_assoc, arith, eqb-true, subst, length-append, drop_of_length-le}
-use Rattle.std.proofs.Common.{Option, Some}
+use Rattle.std.proofs.Common.{◌≡◌, ◌≢◌, ◌⊎◌, ℕ, suc, ◌+◌, ◌-◌, ◌<◌, ◌≤◌, Bool, true, false, not, List, [], ◌∷◌, ◌++◌}
+use Rattle.std.proofs.Common.{length, get_or, take, drop, reverse, codes, refl, sym, ap, ◌∙◌, inl, inr, ⊎_elim, None}
+use Rattle.std.proofs.Common.{append_assoc, arith, eqb-true, subst, length-append, drop_of_length-le, Option, Some}
 use Rattle.std.specs.Prelude.{◌==◌}
 use Rattle.std.specs.List.{prefix_len, suffix_len}
 use Rattle.std.proofs.lemmas.Bool.{cases_lt, ne_eqb, cases_Bool, leb-false}
@@ -10,16 +9,14 @@ use Rattle.std.proofs.lemmas.List.{append-nil, drop_all, drop_more, get_or-drop,
 use Rattle.std.proofs.lemmas.List.{length-drop, length-reverse, length-take, take-append-drop, drop-append-le}
 use Rattle.std.proofs.lemmas.List.{take_more}
 use Rattle.std.proofs.lemmas.List.Sums.{prefix_len_passes, prefix_len_stops, suffix_len-le-length}
-use Rattle.data_url.specs.Url.{before, after, without_tabs_and_newlines, encoded_byte, encoded_path}
-use Rattle.data_url.specs.Url.{in_path_end_set, in_path_set, in_query_set, is_tab_or_newline, percent_encoding}
-use Rattle.data_url.specs.Url.{after_scheme, cleaned_text, is_c0_control_or_space, serialised, trimmed_text, with_query}
-use Rattle.data_url.specs.Url.{without_end}
-use Rattle.data_url.specs.Steps.Header.{HasNoLastSpace, IsPathAndQuery, WithoutSpace, encoded_parts}
-use Rattle.data_url.specs.Steps.Header.{header_text, is_no_question_mark}
+use Rattle.data_url.specs.Url.{before, after, without_tabs_and_newlines, encoded_byte, encoded_path, in_path_end_set}
+use Rattle.data_url.specs.Url.{in_path_set, in_query_set, is_tab_or_newline, percent_encoding, after_scheme}
+use Rattle.data_url.specs.Url.{cleaned_text, is_c0_control_or_space, serialised, trimmed_text, with_query, without_end}
+use Rattle.data_url.specs.Steps.Header.{HasNoLastSpace, IsPathAndQuery, WithoutSpace, encoded_parts, header_text}
+use Rattle.data_url.specs.Steps.Header.{is_no_question_mark}
 use Rattle.data_url.proofs.texts.Bytes.{before_all, before_at, after-dropped_none, after_at, after_none}
 use Rattle.data_url.proofs.texts.Bytes.{without_tabs_and_newlines-append, dropped_around, dropped_keeps, dropped_nil}
-use Rattle.data_url.proofs.texts.Bytes.{dropped_passes, before-append, after-append, before_other, after_other}
-use Rattle.data_url.proofs.texts.Bytes.{is_cut}
+use Rattle.data_url.proofs.texts.Bytes.{dropped_passes, before-append, after-append, before_other, after_other, is_cut}
 use Rattle.data_url.proofs.percent.Encoding.{encoded_cons, encoded_nil, path_cons, path_nil, percent_encoding-append}
 use Rattle.std.specs.Option.{option_map}
 use Rattle.data_url.specs.Facts.{base64_flag, serialised_with_spaces}

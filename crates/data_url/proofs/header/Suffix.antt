@@ -1,21 +1,19 @@
 -- The suffix `;base64` of a header. For `split_suffix`.
 use Rattle.std.proofs.Common.{◌≡◌, ◌≢◌, ℕ, ◌+◌, ◌-◌, ◌<◌, ◌≤◌, List, [], ◌∷◌, length, get_or, take, drop, map, codes}
-use Rattle.std.proofs.Common.{None, Some, sym, ap, ◌∙◌, arith, suc, Bool, false, ◌++◌, length-append}
-use Rattle.std.proofs.Common.{reverse, Option, is_some, refl, append_assoc, eqb}
+use Rattle.std.proofs.Common.{None, Some, sym, ap, ◌∙◌, arith, suc, Bool, false, ◌++◌, length-append, reverse, Option}
+use Rattle.std.proofs.Common.{is_some, refl, append_assoc, eqb}
 use Rattle.std.specs.Prelude.{option_and_then}
 use Rattle.std.specs.Char.{to_ascii_lowercase}
 use Rattle.std.specs.List.{suffix_len, prefix_len}
 use Rattle.std.specs.Str.{bytes_eq}
-use Rattle.std.proofs.lemmas.Bool.{cond-true, cond-false, false_from_ne_true}
-use Rattle.std.proofs.lemmas.Bool.{cond_both, eqb-true}
-use Rattle.std.proofs.lemmas.List.{drop_all, drop_more, get_or-take, length-drop}
-use Rattle.std.proofs.lemmas.List.{length-take-le, take-take, drop-append-le, get_or-drop, get_or-map}
-use Rattle.std.proofs.lemmas.List.{reverse-append}
+use Rattle.std.proofs.lemmas.Bool.{cond-true, cond-false, false_from_ne_true, cond_both, eqb-true}
+use Rattle.std.proofs.lemmas.List.{drop_all, drop_more, get_or-take, length-drop, length-take-le, take-take}
+use Rattle.std.proofs.lemmas.List.{drop-append-le, get_or-drop, get_or-map, reverse-append}
 use Rattle.std.proofs.lemmas.List.Sums.{suffix_len-le-length, prefix_len-drop_no, prefix_len-le-length}
 use Rattle.std.proofs.lemmas.Slice.Eq.{bytes_eq-Decides}
 use Rattle.data_url.specs.Url.{is_c0_control_or_space, without_end}
-use Rattle.data_url.specs.Fetch.{before_base64, before_semicolon, is_space, before_word}
-use Rattle.data_url.specs.Fetch.{has_base64_suffix, stripped_header}
+use Rattle.data_url.specs.Fetch.{before_base64, before_semicolon, is_space, before_word, has_base64_suffix}
+use Rattle.data_url.specs.Fetch.{stripped_header}
 use Rattle.data_url.specs.Steps.Header.{IsPrintable}
 use Rattle.data_url.proofs.header.Stages.{low_end, printable_take}
 use Rattle.std.specs.Option.{option_map}

@@ -5,9 +5,9 @@ use Rattle.std.proofs.Common.{length-append, eqb-true, true}
 use Rattle.std.proofs.lemmas.Bool.{cond_both, not-false, and_from, and_parts}
 use Rattle.std.specs.Char.{to_ascii_lowercase}
 use Rattle.data_url.specs.CodePoints.{ends_name, is_http_whitespace, is_semicolon, is_token}
-use Rattle.data_url.specs.Mime.{BeginsParameters, DoesNotBegin, Every, GivesValue, IsParameter, Item}
-use Rattle.data_url.specs.Mime.{Items, Quoted, QuotedOpen, is_quote, lone_equals, nothing, plain, quoted, unclosed}
-use Rattle.data_url.specs.Mime.{unless_empty, IsHead, Record, is_token_text}
+use Rattle.data_url.specs.Mime.{BeginsParameters, DoesNotBegin, Every, GivesValue, IsParameter, Item, Items, Quoted}
+use Rattle.data_url.specs.Mime.{QuotedOpen, is_quote, lone_equals, nothing, plain, quoted, unclosed, unless_empty}
+use Rattle.data_url.specs.Mime.{IsHead, Record, is_token_text}
 use Rattle.data_url.specs.Url.{without_end, without_front}
 use Rattle.data_url.specs.Facts.{HasOneItemList, HasAtMostOneRecord}
 use Rattle.data_url.specs.Steps.Parsing.{HasParameterBefore}

@@ -1,30 +1,27 @@
 -- Values of parameters, and texts without white space at an end. For `cuts.rt` and `read_plain`.
-use Rattle.data_url.proofs.texts.CodePoints.{front_further}
-use Rattle.std.proofs.Common.{◌≡◌, ℕ, suc, ◌+◌, ◌-◌, ◌<◌, ◌==◌, Bool, true, false, not, List, [], ◌∷◌, ◌++◌}
-use Rattle.std.proofs.Common.{length, get_or, take, drop, encode_utf8, encode_utf8_all, refl, sym, ap, ◌∙◌, subst}
-use Rattle.std.proofs.Common.{append_assoc, append-nil, arith, inl, inr, take-append-drop, length-append, length-drop}
-use Rattle.std.proofs.Common.{length-take-le, eqb-true, ◌≤◌, ◌&&◌, Option, None, Some, Bor}
+use Rattle.data_url.proofs.texts.CodePoints.{front_further, after_begins, front_of, front_passes, boundary_before_end}
+use Rattle.data_url.proofs.texts.CodePoints.{no_chars}
+use Rattle.std.proofs.Common.{◌≡◌, ℕ, suc, ◌+◌, ◌-◌, ◌<◌, ◌==◌, Bool, true, false, not, List, [], ◌∷◌, ◌++◌, length}
+use Rattle.std.proofs.Common.{get_or, take, drop, encode_utf8, encode_utf8_all, refl, sym, ap, ◌∙◌, subst, append_assoc}
+use Rattle.std.proofs.Common.{append-nil, arith, inl, inr, take-append-drop, length-append, length-drop, length-take-le}
+use Rattle.std.proofs.Common.{eqb-true, ◌≤◌, ◌&&◌, Option, None, Some, Bor}
 use Rattle.std.proofs.Math.Seq.{get_or-append_seam}
-use Rattle.std.proofs.lemmas.Bool.{and_parts, eq-eqb, false_from_ne_true, false≢true, not-false}
-use Rattle.std.proofs.lemmas.Bool.{agree_below_at, ne_eqb, cond-false}
-use Rattle.std.proofs.lemmas.Bool.{and_from}
+use Rattle.std.proofs.lemmas.Bool.{and_parts, eq-eqb, false_from_ne_true, false≢true, not-false, agree_below_at, ne_eqb}
+use Rattle.std.proofs.lemmas.Bool.{cond-false, and_from}
 use Rattle.std.proofs.lemmas.List.{get_or-drop, get_or-take, get_or_append_left}
 use Rattle.std.proofs.lemmas.List.Folds.{list_all-append, list_all_at}
 use Rattle.std.proofs.lemmas.List.Sums.{prefix_len-le-length, prefix_len_stops, suffix_len-le-length, prefix_len_passes}
 use Rattle.std.specs.List.{list_all, prefix_len, suffix_len}
-use Rattle.data_url.proofs.texts.CodePoints.{after_begins, front_of, front_passes, boundary_before_end, no_chars}
 use Rattle.data_url.proofs.mime.TokenTexts.{drop_front, every_ascii, is_split, take_front, whole_front}
 use Rattle.data_url.proofs.header.Serialising.{suffix_passes, suffix_stops}
-use Rattle.std.proofs.lemmas.Str.{IsUtf8-drop, IsUtf8-take, chars-IsAscii, chars-append}
-use Rattle.std.proofs.lemmas.Str.{chars-nil, chars_past_char, encode_ascii, encodes-append, encodes-chars}
-use Rattle.std.proofs.lemmas.Str.{IsUtf8-encode, cons_from_encodes}
+use Rattle.std.proofs.lemmas.Str.{IsUtf8-drop, IsUtf8-take, chars-IsAscii, chars-append, chars-nil, chars_past_char}
+use Rattle.std.proofs.lemmas.Str.{encode_ascii, encodes-append, encodes-chars, IsUtf8-encode, cons_from_encodes}
 use Rattle.std.specs.Str.{IsCharBoundary, IsUtf8, chars}
 use Rattle.data_url.specs.CodePoints.{ends_name, is_http_whitespace, is_semicolon, is_quotable}
-use Rattle.data_url.specs.Mime.{DoesNotBegin, DoesNotEnd, Every, Without, Quoted}
-use Rattle.data_url.specs.Mime.{QuotedOpen, after_backslash, nothing_quoted, as_itself}
+use Rattle.data_url.specs.Mime.{DoesNotBegin, DoesNotEnd, Every, Without, Quoted, QuotedOpen, after_backslash}
+use Rattle.data_url.specs.Mime.{nothing_quoted, as_itself}
 use Rattle.data_url.specs.Steps.Parsing.{IsTrimmedEnd, IsTrimmedFront, is_escaped, IsValue, is_quotable_byte}
-use Rattle.data_url.specs.Steps.Parsing.{quotable_value}
-use Rattle.data_url.specs.Steps.Parsing.{is_unquoted_byte}
+use Rattle.data_url.specs.Steps.Parsing.{quotable_value, is_unquoted_byte}
 use Rattle.data_url.proofs.mime.Items.{all_from_every}
 use Rattle.std.specs.Char.{IsScalar}
 use lib.Utf8.{encode}

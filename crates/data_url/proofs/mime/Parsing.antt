@@ -8,13 +8,12 @@ use Rattle.std.specs.Bool.{MatchBool}
 use Rattle.std.specs.Str.{IsUtf8, chars}
 use Rattle.std.specs.Str.Pattern.{FindsCharPrefix, HasCharAt, HasPrefixMatch}
 use Rattle.data_url.specs.CodePoints.{is_http_whitespace, is_token, ends_name, is_semicolon}
-use Rattle.data_url.specs.Mime.{BeginsParameters, DoesNotBegin, Every, GivesValue, IsHead, is_token_text}
-use Rattle.data_url.specs.Mime.{Quoted, QuotedOpen, Without, is_quote, nothing, plain, quoted, unclosed, unless_empty}
+use Rattle.data_url.specs.Mime.{BeginsParameters, DoesNotBegin, Every, GivesValue, IsHead, is_token_text, Quoted}
+use Rattle.data_url.specs.Mime.{QuotedOpen, Without, is_quote, nothing, plain, quoted, unclosed, unless_empty}
 use Rattle.data_url.specs.Steps.Parsing.{HasNoHead, IsTrimmedEnd, IsTrimmedFront, HasParameterBefore, HasValueBefore}
-use Rattle.data_url.proofs.texts.CodePoints.{after_is, front_is}
-use Rattle.data_url.proofs.mime.Items.{tail_equal, all_from_every, every_token, gap_no_token}
-use Rattle.data_url.proofs.mime.Items.{slash_no_token, trimmed_of, semicolon_from}
-use Rattle.data_url.proofs.texts.CodePoints.{trimmed_end_is, trimmed_front_is}
+use Rattle.data_url.proofs.texts.CodePoints.{after_is, front_is, trimmed_end_is, trimmed_front_is}
+use Rattle.data_url.proofs.mime.Items.{tail_equal, all_from_every, every_token, gap_no_token, slash_no_token}
+use Rattle.data_url.proofs.mime.Items.{trimmed_of, semicolon_from}
 use Rattle.data_url.specs.Url.{without_end}
 use Rattle.std.specs.Char.{to_ascii_lowercase}
 

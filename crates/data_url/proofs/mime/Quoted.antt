@@ -1,8 +1,8 @@
 -- Quoted strings. For `values.rt`.
 use Rattle.std.proofs.Common.{◌≡◌, ℕ, ◌==◌, ◌&&◌, not, Bool, true, false, cond, List, [], ◌∷◌, ◌++◌, Option, None, Some}
-use Rattle.std.proofs.Common.{refl, sym, ap, ◌∙◌, append_assoc, append-nil, eqb-true, inl, inr, ◌+◌, ◌<◌, ◌≤◌}
-use Rattle.std.proofs.Common.{length, get_or, take, drop, slice_range, encode_utf8_all, ap₂, arith}
-use Rattle.std.proofs.Common.{take-append-drop, drop-cons, drop_of_length-le, add-one}
+use Rattle.std.proofs.Common.{refl, sym, ap, ◌∙◌, append_assoc, append-nil, eqb-true, inl, inr, ◌+◌, ◌<◌, ◌≤◌, length}
+use Rattle.std.proofs.Common.{get_or, take, drop, slice_range, encode_utf8_all, ap₂, arith, take-append-drop, drop-cons}
+use Rattle.std.proofs.Common.{drop_of_length-le, add-one}
 use Rattle.std.proofs.lemmas.Bool.{eqb-false, and_parts}
 use Rattle.data_url.specs.Mime.{Quoted, QuotedOpen, after_backslash, nothing_quoted, as_itself}
 use Rattle.std.proofs.lemmas.List.{append_cancel_right}

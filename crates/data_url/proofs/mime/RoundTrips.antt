@@ -1,17 +1,16 @@
 -- Parsing a printed record returns the record.
 use Rattle.std.proofs.Common.{◌≡◌, ℕ, ◌==◌, ◌||◌, ◌&&◌, Bool, true, false, not, List, [], ◌∷◌, ◌++◌, Some, map, refl}
 use Rattle.std.proofs.Common.{arith, sym, ap, ◌∙◌, subst}
-use Rattle.std.proofs.lemmas.Bool.{agree_below, agree_below_at, and_from, and_parts, both_ways, cond-true}
-use Rattle.std.proofs.lemmas.Bool.{cond_both, eqb-false, false_from_ne_true, not-true, or_parts}
+use Rattle.std.proofs.lemmas.Bool.{agree_below, agree_below_at, and_from, and_parts, both_ways, cond-true, cond_both}
+use Rattle.std.proofs.lemmas.Bool.{eqb-false, false_from_ne_true, not-true, or_parts}
 use Rattle.std.specs.List.{AllByRecursion, flat_map, list_all}
 use Rattle.std.specs.Str.{bytes_eq}
 use Rattle.data_url.specs.CodePoints.{ends_name, is_http_whitespace, is_quotable, is_semicolon, is_token}
-use Rattle.data_url.specs.Mime.{BeginsParameters, DoesNotBegin, DoesNotEnd, Every, GivesValue, IsHead}
-use Rattle.data_url.specs.Mime.{IsParameter, IsWellformed, Item, Items, Pair, Parses}
-use Rattle.data_url.specs.Mime.{Quoted, Record, Without, escaped_code_point, first_of_each_name, has_distinct_names}
-use Rattle.data_url.specs.Mime.{has_name, is_lowercase_name, is_quote, is_token_text, kept_pairs, plain, printed}
-use Rattle.data_url.specs.Mime.{printed_pair, printed_value, quoted, unless_empty, valid_pairs, after_backslash}
-use Rattle.data_url.specs.Mime.{nothing_quoted, as_itself}
+use Rattle.data_url.specs.Mime.{BeginsParameters, DoesNotBegin, DoesNotEnd, Every, GivesValue, IsHead, IsParameter}
+use Rattle.data_url.specs.Mime.{IsWellformed, Item, Items, Pair, Parses, Quoted, Record, Without, escaped_code_point}
+use Rattle.data_url.specs.Mime.{first_of_each_name, has_distinct_names, has_name, is_lowercase_name, is_quote}
+use Rattle.data_url.specs.Mime.{is_token_text, kept_pairs, plain, printed, printed_pair, printed_value, quoted}
+use Rattle.data_url.specs.Mime.{unless_empty, valid_pairs, after_backslash, nothing_quoted, as_itself}
 use Rattle.data_url.proofs.mime.Items.{not_begins_append, every_token, has_at_most_one_record}
 use Rattle.data_url.proofs.mime.FirstNames.{has_append, lower_is_itself, lowercase_token, test_from_different}
 use Rattle.data_url.proofs.mime.FirstNames.{test_from_equal}

@@ -1,9 +1,8 @@
 -- Token code points. For `tokens.rt`.
-use Rattle.std.proofs.Common.{◌≡◌, ℕ, ◌+◌, ◌<◌, ◌==◌, ◌||◌, Bool, true, false, cond, List, [], ◌∷◌, ◌++◌, length}
-use Rattle.std.proofs.Common.{take, drop, encode_utf8_all, refl, sym, ap, ◌∙◌, subst, arith, one-add, take-append-drop}
+use Rattle.std.proofs.Common.{◌≡◌, ℕ, ◌+◌, ◌<◌, ◌==◌, ◌||◌, Bool, true, false, cond, List, [], ◌∷◌, ◌++◌, length, take}
+use Rattle.std.proofs.Common.{drop, encode_utf8_all, refl, sym, ap, ◌∙◌, subst, arith, one-add, take-append-drop}
 use Rattle.std.proofs.Common.{⊎_elim, nat_le, nat_lt, codes}
-use Rattle.std.proofs.lemmas.Bool.{and_parts, both_ways, eqb-true, false≢true, leb-true}
-use Rattle.std.proofs.lemmas.Bool.{ltb-true, ne_eqb, or_cases}
+use Rattle.std.proofs.lemmas.Bool.{and_parts, both_ways, eqb-true, false≢true, leb-true, ltb-true, ne_eqb, or_cases}
 use Rattle.std.proofs.lemmas.List.Sums.{prefix_len-le-length}
 use Rattle.std.proofs.lemmas.Str.{IsCharBoundary-from_take, IsUtf8-drop, IsUtf8-from_ascii, chars-IsAscii, chars-append}
 use Rattle.std.proofs.lemmas.Str.{encode_ascii, encodes-IsAscii, encodes-chars}

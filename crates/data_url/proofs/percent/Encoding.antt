@@ -5,8 +5,7 @@ use Rattle.std.proofs.Common.{append-nil, append_assoc, arith, suc, ◌≤◌, g
 use Rattle.std.specs.Prelude.{◌==◌, slice_index, nat_lt}
 use Rattle.std.specs.Str.{bytes_eq, IsAscii, IsUtf8}
 use Rattle.std.proofs.lemmas.Bool.{agree_below, agree_below_at, and_parts, eqb-true, and_left, and_right, cases_Bool}
-use Rattle.std.proofs.lemmas.Bool.{cond_both, both_ways, ne_eqb, or_left}
-use Rattle.std.proofs.lemmas.Bool.{ltb-true}
+use Rattle.std.proofs.lemmas.Bool.{cond_both, both_ways, ne_eqb, or_left, ltb-true}
 use Rattle.std.proofs.lemmas.Slice.Eq.{bytes_eq-Decides}
 use Rattle.data_url.specs.Url.{in_fragment_set, in_path_set, in_query_set, before, after, encoded_byte, encoded_path}
 use Rattle.data_url.specs.Url.{hex_digit, in_path_end_set, percent_encoding, serialised, with_query}

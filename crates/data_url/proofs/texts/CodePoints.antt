@@ -1,6 +1,7 @@
 -- Texts of code points, cut at the first code point that does not pass, and where a text can be cut.
-use Rattle.std.proofs.Common.{◌≡◌, ℕ, ◌≤◌, Bool, true, cond, List, [], ◌∷◌, ◌++◌, length, refl}
-use Rattle.std.proofs.Common.{sym, ap, ◌∙◌, arith, ◌+◌, ◌<◌, zero, suc, drop, get_or, ◌-◌, reverse, subst}
+use Rattle.std.proofs.Common.{◌≡◌, ℕ, ◌≤◌, Bool, true, cond, List, [], ◌∷◌, ◌++◌, length, refl, sym, ap, ◌∙◌, arith}
+use Rattle.std.proofs.Common.{◌+◌, ◌<◌, zero, suc, drop, get_or, ◌-◌, reverse, subst, append-nil, false, length-append}
+use Rattle.std.proofs.Common.{take}
 use Rattle.std.proofs.lemmas.Bool.{cond-true, cond-false, cond_both}
 use Rattle.std.proofs.lemmas.Str.{chars-nil, IsCharBoundary-after_ascii, IsCharBoundary-before_ascii}
 use Rattle.std.specs.Str.{chars, IsCharBoundary, IsUtf8}
@@ -9,7 +10,6 @@ use Rattle.std.proofs.lemmas.List.Sums.{prefix_len-drop_yes, prefix_len-le-lengt
 use Rattle.std.proofs.lemmas.List.Sums.{suffix_len-le-length, suffix_len_is}
 use Rattle.std.proofs.Math.Seq.{get_or-append_right, take-append_seam}
 use Rattle.std.proofs.Math.ListN.{get_or-append}
-use Rattle.std.proofs.Common.{append-nil, false, length-append, take}
 use Rattle.data_url.specs.Mime.{DoesNotBegin, DoesNotEnd, Every}
 use Rattle.data_url.specs.Steps.Parsing.{IsTrimmedEnd, IsTrimmedFront}
 use Rattle.data_url.specs.Url.{without_end, without_front}

@@ -261,6 +261,7 @@ where
     /// If the next symbol begins a group, feeds the blocks of 64 symbols and white space that a text begins with. Calls
     /// the closure with pieces of sixteen groups; the groups after these are then in the piece. Returns how many bytes
     /// of the text the blocks take.
+    #[inline(never)]
     fn feed_spaced(&mut self, text: &[u8], piece: &mut Piece) -> Result<usize, DecodeError<E>>
         requires callable { F.IsAlwaysCallable (state_of self.old).closure }
         requires going { (state_of self.old).failed ≡ false }

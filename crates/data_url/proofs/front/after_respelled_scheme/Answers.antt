@@ -1,12 +1,11 @@
 use Rattle.data_url.proofs.texts.Bytes.{dropped_nil}
-use Rattle.std.proofs.Common.{◌≡◌, ◌<◌, ◌+◌, ℕ, Bool, true, false, List, length, get_or, take, drop}
-use Rattle.std.proofs.Common.{codes, sym, ◌∙◌, subst, arith}
+use Rattle.std.proofs.Common.{◌≡◌, ◌<◌, ◌+◌, ℕ, Bool, true, false, List, length, get_or, take, drop, codes, sym, ◌∙◌}
+use Rattle.std.proofs.Common.{subst, arith}
 use Rattle.std.specs.Char.{to_ascii_lowercase}
 use Rattle.std.proofs.lemmas.List.{drop_more, take_all, take_more, take-append-drop}
 use Rattle.std.proofs.lemmas.Str.{IsCharBoundary-after_ascii}
 use Rattle.data_url.specs.Url.{is_tab_or_newline}
-use Rattle.data_url.proofs.front.Cuts.{Spells, differs, ends_early, spells_all, spells_more}
-use Rattle.data_url.proofs.front.Cuts.{spells_passed}
+use Rattle.data_url.proofs.front.Cuts.{Spells, differs, ends_early, spells_all, spells_more, spells_passed}
 use Rattle.data_url.proofs.front.after_respelled_scheme.Goals as goal
 
 pub loop-place-init : goal.loop-place-init

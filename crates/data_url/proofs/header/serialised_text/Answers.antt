@@ -1,6 +1,4 @@
-use Rattle.data_url.proofs.header.Stages.{bytes_by_place}
-use Rattle.data_url.proofs.header.Stages.{bytes_dropped}
-use Rattle.data_url.proofs.header.Stages.{header_text_printable}
+use Rattle.data_url.proofs.header.Stages.{bytes_by_place, bytes_dropped, header_text_printable}
 use Rattle.std.proofs.Common.{arith}
 use Rattle.data_url.proofs.header.serialised_text.Goals as goal
 

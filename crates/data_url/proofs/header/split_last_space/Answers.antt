@@ -1,7 +1,6 @@
-use Rattle.data_url.proofs.header.Serialising.{dropped_end}
+use Rattle.data_url.proofs.header.Serialising.{dropped_end, has_no_end, has_other_end, parts_spaced, parts_whole}
 use Rattle.std.proofs.Common.{arith}
 use Rattle.std.proofs.lemmas.List.Sums.{suffix_len-le-length}
-use Rattle.data_url.proofs.header.Serialising.{has_no_end, has_other_end, parts_spaced, parts_whole}
 use Rattle.data_url.proofs.header.split_last_space.Goals as goal
 
 pub overflow_sub-path : goal.overflow_sub-path

@@ -1,8 +1,8 @@
 use Rattle.std.proofs.Common.{sym, ap, ◌∙◌, subst}
 use Rattle.data_url.specs.Fetch.{before_base64, stripped_header, with_plain}
 use Rattle.data_url.specs.Steps.Header.{IsPrintable, IsRecordFor}
-use Rattle.data_url.proofs.header.Stages.{no_suffix, printable_media, with_suffix}
-use Rattle.data_url.proofs.header.Stages.{printable_stripped, trimmed_is_stripped}
+use Rattle.data_url.proofs.header.Stages.{no_suffix, printable_media, with_suffix, printable_stripped}
+use Rattle.data_url.proofs.header.Stages.{trimmed_is_stripped}
 use Rattle.data_url.proofs.header.split_suffix.Goals as goal
 
 pub without_suffix-requires : goal.without_suffix-requires

@@ -1,8 +1,6 @@
-use Rattle.data_url.proofs.percent.Encoding.{percent_encoding-append}
+use Rattle.data_url.proofs.percent.Encoding.{percent_encoding-append, none_left, wrote_parts}
 use Rattle.data_url.proofs.texts.Bytes.{without_tabs_and_newlines-append}
-use Rattle.std.proofs.Common.{append_assoc}
-use Rattle.std.proofs.Common.{arith}
-use Rattle.data_url.proofs.percent.Encoding.{none_left, wrote_parts}
+use Rattle.std.proofs.Common.{append_assoc, arith}
 use Rattle.data_url.proofs.percent.push_encoded.Goals as goal
 use Rattle.data_url.proofs.percent.push_encoded.Goals.{then-is_kept, else-is_kept}
 

@@ -1,6 +1,5 @@
-use Rattle.std.proofs.Common.{length-append}
+use Rattle.std.proofs.Common.{length-append, ◌-◌, arith, drop, length, length-drop, length-take, rules, subst, sym}
 use Rattle.data_url_c.proofs.LeftLemmas.{taken_room}
-use Rattle.std.proofs.Common.{◌-◌, arith, drop, length, length-drop, length-take, rules, subst, sym}
 use Rattle.data_url.specs.Pieces.{Walk, bytes_of}
 use Rattle.data_url_c.proofs.BodyLemmas.{Fed, fed_fault, fed_more, fed_none, fed_within}
 use Rattle.data_url_c.proofs.PartLemmas.{end_sliced, end_written}

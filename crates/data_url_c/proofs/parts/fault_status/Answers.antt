@@ -1,12 +1,10 @@
-use Rattle.data_url_c.proofs.FaultStatusLemmas.{after_space}
-use Rattle.data_url_c.proofs.FaultStatusLemmas.{after_pad}
+use Rattle.data_url_c.proofs.FaultStatusLemmas.{after_space, after_pad, after_symbol, fault_after_padding}
+use Rattle.data_url_c.proofs.FaultStatusLemmas.{fault_unexpected, goes_on, none_found}
 use Rattle.data_url.proofs.api.{fault_byte}
-use Rattle.data_url_c.proofs.FaultStatusLemmas.{after_symbol}
 use Rattle.std.proofs.Common.{rules, ◌≡◌, arith, get_or, false, refl}
 use Rattle.std.specs.Char.{is_ascii_whitespace}
 use Rattle.std.specs.Prelude.{◌==◌}
 use Rattle.data_url.specs.Base64.{is_symbol}
-use Rattle.data_url_c.proofs.FaultStatusLemmas.{fault_after_padding, fault_unexpected, goes_on, none_found}
 use Rattle.data_url_c.proofs.parts.fault_status.Goals.{then-is_symbol_byte+else-padded}
 use Rattle.data_url_c.proofs.parts.fault_status.Goals.{else-is_symbol_byte+then-byte-eq61}
 use Rattle.data_url_c.proofs.parts.fault_status.Goals.{else-is_symbol_byte+else-byte-eq61+else-not-is_ascii_whitespace}

@@ -1,8 +1,6 @@
-use Rattle.data_url.proofs.api.{dropped_keeps}
-use Rattle.data_url.proofs.api.{dropped_nil}
+use Rattle.data_url.proofs.api.{dropped_keeps, dropped_nil}
 use Rattle.std.proofs.Common.{◌+◌, arith, rules, subst, sym, ℕ}
-use Rattle.data_url_c.proofs.WindowLemmas.{EscapeSoFar, escape_all, escape_digit, escape_other}
-use Rattle.data_url_c.proofs.WindowLemmas.{escape_tab, escape_two}
+use Rattle.data_url_c.proofs.WindowLemmas.{EscapeSoFar, escape_all, escape_digit, escape_other, escape_tab, escape_two}
 use Rattle.data_url_c.proofs.window.escape_end.Goals as goal
 use Rattle.data_url_c.proofs.window.escape_end.Goals.{then-not-is_tab_or_newline+else-digits-eq2+else-not-is_ascii_hexdigit}
 use Rattle.data_url_c.proofs.window.escape_end.Goals.{else-not-is_tab_or_newline, then-digits-eq2-via-then-digits-eq2}

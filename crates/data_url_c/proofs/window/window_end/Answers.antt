@@ -1,8 +1,6 @@
-use Rattle.data_url.proofs.api.{body_shorter}
+use Rattle.data_url.proofs.api.{body_shorter, dropped_nil}
 use Rattle.std.proofs.Math.Seq.{drop-length}
-use Rattle.data_url.proofs.api.{dropped_nil}
-use Rattle.std.proofs.Common.{length-take}
-use Rattle.std.proofs.Common.{◌<◌, arith, drop, length, length-drop, rules}
+use Rattle.std.proofs.Common.{length-take, ◌<◌, arith, drop, length, length-drop, rules}
 use Rattle.data_url_c.proofs.PartLemmas.{end_sliced}
 use Rattle.data_url_c.proofs.WindowLemmas.{window_edge, window_escape, window_percent}
 use Rattle.data_url_c.proofs.window.window_end.Goals as goal

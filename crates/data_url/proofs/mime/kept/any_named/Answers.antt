@@ -1,10 +1,6 @@
-use Rattle.data_url.proofs.mime.TokenTexts.{bytes_of_ascii}
-use Rattle.data_url.proofs.mime.FirstNames.{lower_is_itself}
-use Rattle.data_url.proofs.mime.TokenTexts.{token_text_ascii}
-use Rattle.std.proofs.Common.{drop-cons}
-use Rattle.std.proofs.Common.{arith}
-use Rattle.data_url.proofs.mime.FirstNames.{lowercase_at, names_differ}
-use Rattle.data_url.proofs.mime.FirstNames.{names_equal, some_byte}
+use Rattle.data_url.proofs.mime.TokenTexts.{bytes_of_ascii, token_text_ascii}
+use Rattle.data_url.proofs.mime.FirstNames.{lower_is_itself, lowercase_at, names_differ, names_equal, some_byte}
+use Rattle.std.proofs.Common.{drop-cons, arith}
 use Rattle.data_url.proofs.mime.kept.any_named.Goals as goal
 
 pub overflow_sub-name : goal.overflow_sub-name

@@ -6,8 +6,7 @@ use Rattle.data_url.specs.Mime.{is_lowercase_name}
 use Rattle.data_url.specs.MimeType.{code_points}
 use Rattle.data_url.specs.Steps.Kept.{pairs_of}
 use Rattle.data_url.specs.Steps.Parsing.{unless_named}
-use Rattle.data_url.proofs.mime.FirstNames.{named_first}
-use Rattle.data_url.proofs.mime.FirstNames.{invalid_name, known_name, lowercase_name, new_pair, none_added}
+use Rattle.data_url.proofs.mime.FirstNames.{named_first, invalid_name, known_name, lowercase_name, new_pair, none_added}
 use Rattle.data_url.proofs.mime.parse.keep.Goals as goal
 use Rattle.data_url.proofs.mime.parse.keep.Goals.{then-not-is_token_text-via-then-not-is_token_text}
 use Rattle.data_url.proofs.mime.parse.keep.Goals.{then-not-is_token_text-via-else-not-is_token_text+then-is_among_first}

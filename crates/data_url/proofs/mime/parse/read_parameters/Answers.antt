@@ -1,9 +1,8 @@
 use Rattle.std.proofs.Common.{◌<◌, ◌≤◌, length, arith, ap, ◌∙◌}
 use Rattle.std.specs.Str.{chars}
-use Rattle.data_url.proofs.mime.Parsing.{empty_by, no_semicolon}
+use Rattle.data_url.proofs.mime.Parsing.{empty_by, no_semicolon, stripped_chars}
 use Rattle.data_url.proofs.mime.FirstNames.{keeps_end, keeps_more}
 use Rattle.data_url.proofs.mime.Items.{rest_shorter}
-use Rattle.data_url.proofs.mime.Parsing.{stripped_chars}
 use Rattle.data_url.proofs.mime.parse.read_parameters.Goals as goal
 
 pub returns-then-is_empty : goal.returns-then-is_empty

@@ -1,16 +1,14 @@
-use Rattle.std.proofs.Common.{◌+◌, ◌≤◌, Some, not, length, length-append, length-take, refl, sym}
-use Rattle.std.proofs.Common.{ap, ◌∙◌, arith, take-append-drop}
+use Rattle.std.proofs.Common.{◌+◌, ◌≤◌, Some, not, length, length-append, length-take, refl, sym, ap, ◌∙◌, arith}
+use Rattle.std.proofs.Common.{take-append-drop}
 use Rattle.std.proofs.lemmas.List.{take_rest}
 use Rattle.std.specs.List.{prefix_len}
 use Rattle.std.specs.Str.{chars}
 use Rattle.data_url.specs.CodePoints.{is_semicolon}
 use Rattle.data_url.specs.Steps.Parsing.{is_unquoted_byte}
-use Rattle.data_url.proofs.mime.ParameterValues.{boundary_by, cut_by, semicolon_below}
-use Rattle.data_url.proofs.mime.Parsing.{empty_by, nonempty_by}
+use Rattle.data_url.proofs.mime.ParameterValues.{boundary_by, cut_by, semicolon_below, front_len, long_other}
+use Rattle.data_url.proofs.mime.ParameterValues.{short_quotable, trimmed_bytes, quotable_none}
+use Rattle.data_url.proofs.mime.Parsing.{empty_by, nonempty_by, plain_value, some_value}
 use Rattle.data_url.proofs.mime.Items.{begins_from}
-use Rattle.data_url.proofs.mime.Parsing.{plain_value, some_value}
-use Rattle.data_url.proofs.mime.ParameterValues.{front_len, long_other, short_quotable, trimmed_bytes}
-use Rattle.data_url.proofs.mime.ParameterValues.{quotable_none}
 use Rattle.data_url.proofs.mime.parse.read_plain.Goals as goal
 use Rattle.data_url.proofs.mime.parse.read_plain.Goals.{then-is_empty-via-then-is_empty}
 use Rattle.data_url.proofs.mime.parse.read_plain.Goals.{then-is_empty-via-else-is_empty+then-value-quotable}

@@ -1,8 +1,7 @@
 use Rattle.std.proofs.lemmas.Result.{IfOk-weaker}
 use Rattle.std.specs.Prelude.{string_bytes}
 use Rattle.data_url.specs.Steps.Parsing.{is_escaped}
-use Rattle.data_url.proofs.mime.ParameterValues.{escaped_below, whole_without}
-use Rattle.data_url.proofs.mime.ParameterValues.{copied}
+use Rattle.data_url.proofs.mime.ParameterValues.{escaped_below, whole_without, copied}
 use Rattle.data_url.proofs.mime.values.unescaped.Goals as goal
 
 pub returns-then-long_span-quoted : goal.returns-then-long_span-quoted

@@ -1,7 +1,6 @@
 use Rattle.std.proofs.Common.{refl, arith}
 use Rattle.data_url.specs.declared.escapes.cursor.Ahead.TheVariants.{Escape}
-use Rattle.data_url.proofs.escapes.Walking.{gathers_byte}
-use Rattle.data_url.proofs.escapes.Walking.{ahead_at}
+use Rattle.data_url.proofs.escapes.Walking.{gathers_byte, ahead_at}
 use Rattle.data_url.proofs.escapes.Reading.{reads_escape}
 use Rattle.data_url.proofs.escapes.cursor.Cursor.gather_known.Goals as goal
 

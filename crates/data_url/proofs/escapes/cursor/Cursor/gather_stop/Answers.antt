@@ -1,9 +1,6 @@
-use Rattle.data_url.proofs.escapes.Walking.{gathers_nothing}
-use Rattle.data_url.proofs.escapes.Reading.{reads_passed}
-use Rattle.data_url.proofs.escapes.Walking.{gathers_byte}
-use Rattle.data_url.proofs.escapes.Reading.{reads_percent}
+use Rattle.data_url.proofs.escapes.Walking.{gathers_nothing, gathers_byte, gathers_then, gathers_value}
+use Rattle.data_url.proofs.escapes.Reading.{reads_passed, reads_percent}
 use Rattle.std.proofs.Common.{refl, arith}
-use Rattle.data_url.proofs.escapes.Walking.{gathers_then, gathers_value}
 use Rattle.data_url.proofs.escapes.cursor.Cursor.gather_stop.Goals as goal
 
 pub returns-in-Stays-clause-gathers : goal.returns-in-Stays-clause-gathers

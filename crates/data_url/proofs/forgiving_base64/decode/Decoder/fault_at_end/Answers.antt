@@ -1,5 +1,4 @@
-use Rattle.data_url.proofs.forgiving_base64.Steps.{kind_left}
-use Rattle.data_url.proofs.forgiving_base64.Steps.{valid_left}
+use Rattle.data_url.proofs.forgiving_base64.Steps.{kind_left, valid_left}
 use Rattle.std.proofs.Common.{arith, length-take}
 use Rattle.data_url.proofs.forgiving_base64.Padding.{every_list_all}
 use Rattle.data_url.proofs.forgiving_base64.decode.Decoder.fault_at_end.Goals as goal

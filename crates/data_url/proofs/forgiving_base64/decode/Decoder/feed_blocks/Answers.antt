@@ -1,8 +1,7 @@
 use Rattle.std.proofs.Common.{sym, ◌∙◌, ◌+◌, arith, length-take}
 use Rattle.std.proofs.lemmas.Result.{err_from_is_err_and}
 use Rattle.std.specs.Fn.{CalledAt}
-use Rattle.data_url.proofs.forgiving_base64.Steps.{feeds_none}
-use Rattle.data_url.proofs.forgiving_base64.Steps.{feeds_stop}
+use Rattle.data_url.proofs.forgiving_base64.Steps.{feeds_none, feeds_stop}
 use Rattle.data_url.proofs.forgiving_base64.Holding.{block_feeds}
 use Rattle.data_url.proofs.forgiving_base64.Padding.{every_list_all}
 use Rattle.data_url.proofs.forgiving_base64.decode.Decoder.feed_blocks.Goals as goal

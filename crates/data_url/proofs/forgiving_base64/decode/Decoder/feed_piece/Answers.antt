@@ -1,13 +1,11 @@
-use Rattle.data_url.proofs.forgiving_base64.Holding.{holds_adds}
-use Rattle.std.proofs.Common.{take-add}
+use Rattle.data_url.proofs.forgiving_base64.Holding.{holds_adds, byte_at, fault_feeds, flush_refused, flushed_feeds}
+use Rattle.data_url.proofs.forgiving_base64.Holding.{stays_holds}
+use Rattle.std.proofs.Common.{take-add, Err, ap, arith}
 use Rattle.std.proofs.lemmas.List.{take_rest}
-use Rattle.std.proofs.Common.{Err, ap, arith}
 use Rattle.std.proofs.lemmas.Result.{err_from_is_err_and}
 use Rattle.std.specs.Fn.{CalledAt}
 use Rattle.data_url.specs.Decoder.{state_of}
 use Rattle.data_url.specs.Steps.Waiting.{bytes_of}
-use Rattle.data_url.proofs.forgiving_base64.Holding.{byte_at, fault_feeds, flush_refused, flushed_feeds}
-use Rattle.data_url.proofs.forgiving_base64.Holding.{stays_holds}
 use Rattle.data_url.proofs.forgiving_base64.decode.Decoder.feed_piece.Goals as goal
 
 pub loop-at-preserved : goal.loop-at-preserved

@@ -1,8 +1,5 @@
-use Rattle.data_url.proofs.forgiving_base64.Steps.{after_few}
-use Rattle.data_url.proofs.forgiving_base64.Steps.{decoded_left}
-use Rattle.data_url.proofs.forgiving_base64.Steps.{groups_few}
+use Rattle.data_url.proofs.forgiving_base64.Steps.{after_few, decoded_left, groups_few, flushes_nothing}
 use Rattle.std.proofs.Common.{arith, length-take}
-use Rattle.data_url.proofs.forgiving_base64.Steps.{flushes_nothing}
 use Rattle.data_url.proofs.forgiving_base64.Padding.{every_list_all}
 use Rattle.data_url.proofs.forgiving_base64.decode.Decoder.write_rest.Goals as goal
 

@@ -1,6 +1,7 @@
 use Rattle.std.proofs.Common.{◌+◌, ◌++◌, length, take, sym, ap, ◌∙◌, arith, length-take-le}
 use Rattle.data_url.specs.Steps.Waiting.{symbols_of}
-use Rattle.data_url.proofs.forgiving_base64.Rows.{all_clear, all_more, front_kept, gains_same, only_spaces, only_symbols, two_halves}
+use Rattle.data_url.proofs.forgiving_base64.Rows.{all_clear, all_more, front_kept, gains_same, only_spaces}
+use Rattle.data_url.proofs.forgiving_base64.Rows.{only_symbols, two_halves}
 use Rattle.data_url.proofs.forgiving_base64.symbols.Symbols.add_row.Goals as goal
 
 pub invariant_of-self-clause-symbols : goal.invariant_of-self-clause-symbols

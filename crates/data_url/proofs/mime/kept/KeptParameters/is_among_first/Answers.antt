@@ -2,8 +2,7 @@ use Rattle.std.proofs.Common.{ap, map, min, sym, ◌∙◌}
 use Rattle.std.specs.Char.{to_ascii_lowercase}
 use Rattle.std.specs.Str.{chars}
 use Rattle.data_url.specs.declared.mime.kept.TheConstants.{LOOKED_THROUGH}
-use Rattle.data_url.proofs.mime.FirstNames.{among_first}
-use Rattle.data_url.proofs.mime.FirstNames.{lower_first}
+use Rattle.data_url.proofs.mime.FirstNames.{among_first, lower_first}
 use Rattle.data_url.proofs.mime.kept.KeptParameters.is_among_first.Goals as goal
 
 pub any_named-requires-clause-pairs : goal.any_named-requires-clause-pairs

@@ -8,8 +8,7 @@ use Rattle.data_url.specs.Steps.Kept.{HasLaterNames, pairs_of}
 use Rattle.data_url.specs.declared.mime.kept.KeptParameters.{KeptParameters}
 use Rattle.data_url.specs.declared.mime.kept.TheConstants.{LOOKED_THROUGH}
 use Rattle.data_url.proofs.mime.FirstNames.{few_names, first_names, indexed_more, later_names, lowercase_bytes}
-use Rattle.data_url.proofs.mime.FirstNames.{named_later, set_knows, unless_known, unless_new}
-use Rattle.data_url.proofs.mime.FirstNames.{none_added, one_added}
+use Rattle.data_url.proofs.mime.FirstNames.{named_later, set_knows, unless_known, unless_new, none_added, one_added}
 use Rattle.data_url.proofs.mime.kept.KeptParameters.push.Goals as goal
 use Rattle.data_url.proofs.mime.kept.KeptParameters.push.Goals.{else-len-ge-LOOKED_THROUGH-via-then-len-ge-LOOKED_THROUGH+in_ok-clone+in_ok-insert+else-not-branch}
 use Rattle.data_url.proofs.mime.kept.KeptParameters.push.Goals.{else-len-ge-LOOKED_THROUGH-via-else-len-ge-LOOKED_THROUGH}
