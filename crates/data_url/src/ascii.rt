@@ -3,7 +3,7 @@
 
 ghost use Rattle.std.specs.Prelude.{◌≡◌};
 ghost use Rattle.std.specs.List.{prefix_len, suffix_len};
-ghost use Rattle.data_url.specs.Url.{is_c0_control_or_space, is_tab_or_newline, trimmed_text, without_end, without_front};
+ghost use Rattle.data_url.specs.Url.{is_c0_control_or_space, is_tab_or_newline, trimmed_text};
 
 /// Whether the byte is an ASCII tab or newline, which the URL parser skips (Infra Standard, section 4.6).
 pub(crate) fn is_tab_or_newline(byte: u8) -> bool

@@ -1,9 +1,7 @@
 //! The header of a data: URL (Fetch Standard, section 6), from its text in the input.
 
-ghost use Rattle.std.specs.Prelude.{◌≡◌, Decides, IfOk, List, codes, map, string_bytes, true, ℕ};
-ghost use Rattle.std.specs.Char.{to_ascii_lowercase};
+ghost use Rattle.std.specs.Prelude.{◌≡◌, IfOk, List, string_bytes, true, ℕ};
 ghost use Rattle.std.specs.List.{prefix_len, suffix_len};
-ghost use Rattle.std.specs.Str.{chars};
 ghost use Rattle.data_url.specs.Url.{without_tabs_and_newlines, is_tab_or_newline};
 ghost use Rattle.data_url.specs.Fetch.{before_base64, with_plain};
 ghost use Rattle.data_url.specs.Mime.{Record, default_record};

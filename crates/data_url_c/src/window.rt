@@ -1,6 +1,6 @@
 //! Windows: parts of a tail that are decoded one after another, and where a tail can be cut.
 
-ghost use Rattle.std.specs.Prelude.{◌≡◌, ◌+◌, ◌-◌, ◌<◌, ◌≤◌, ℕ, MatchOption, drop, length, slice_index, take, true};
+ghost use Rattle.std.specs.Prelude.{◌≡◌, ◌+◌, ◌-◌, ◌<◌, ◌≤◌, ℕ, MatchOption, length, slice_index, true};
 ghost use Rattle.std.specs.Str.{IsCharBoundary};
 ghost use Rattle.data_url.specs.Url.{is_tab_or_newline, without_tabs_and_newlines};
 ghost use Rattle.data_url_c.specs.Steps.Windows.{HoldsEdge, IsEscapeEnd, IsWindow, is_closed};

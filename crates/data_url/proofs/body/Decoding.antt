@@ -30,6 +30,7 @@ use Rattle.data_url.proofs.forgiving_base64.WholeTexts.{decodes_finished, decode
 use Rattle.data_url.proofs.forgiving_base64.WholeTexts.{run_reads}
 use Rattle.data_url.specs.declared.DataUrl.{DataUrl}
 use Rattle.data_url.proofs.forgiving_base64.Groups.{groups_length}
+use Rattle.data_url.proofs.forgiving_base64.Holding.{filter_length}
 
 -- A closure that is called with a body, chunk by chunk.
 
@@ -483,15 +484,10 @@ body_extends {f = f} d e measure accepts refuses =
 
 -- How long a body is
 
--- a text has at most as many symbols as bytes
-symbols_shorter : (s : List ℕ) → length (filter is_symbol s) ≤ length s
-symbols_shorter [] = omega arith
-symbols_shorter (b ∷ s) = grind (arith, symbols_shorter s)
-
 -- the symbols of a text have at most as many values as the text has bytes
 values_shorter : (s : List ℕ) → length (values s) ≤ length s
 unfolding values
-values_shorter s = omega (arith, length-map (filter is_symbol s) symbol_value, symbols_shorter s)
+values_shorter s = omega (arith, length-map (filter is_symbol s) symbol_value, filter_length s)
 
 -- complete groups and the rest after them have together at most as many bytes as there are values
 groups_then_rest : (x : List ℕ) → length (groups x ++ rest_bytes (after_groups x)) ≤ length x

@@ -3,7 +3,7 @@ use Rattle.std.proofs.Common.{◌≡◌, ℕ, ◌+◌, ◌*◌, ◌-◌, ◌<◌
 use Rattle.std.proofs.Common.{◌∷◌, length, drop, get_or, Option, None, Some, refl, sym, ap, ◌∙◌, arith, eqb-true, subst}
 use Rattle.std.specs.Prelude.{◌==◌, MatchOption}
 use Rattle.std.specs.Char.{digit_value, is_ascii_hexdigit}
-use Rattle.std.proofs.lemmas.Bool.{agree_below_at, cond-true, cond-false, lt-ltb}
+use Rattle.std.proofs.lemmas.Bool.{agree_below_at, cond-true, cond-false, lt-ltb, not-true}
 use Rattle.std.proofs.lemmas.List.{drop_more, drop_all}
 use Rattle.data_url.specs.Url.{is_tab_or_newline}
 use Rattle.data_url.specs.Steps.Digits.{digit, escape, with_high_digit, with_low_digit, DigitFound, DigitsFound}
@@ -32,11 +32,6 @@ not_percent b l h = grind arith
 -- a byte whose code is 16 is a tab or newline
 is_tab : (b : ℕ) → b < 256 → digit_code b ≡ 16 → is_tab_or_newline b ≡ true
 is_tab b l h = sym (tab_code b l) ∙ ap (λ v. eqb v 16) h
-
--- if `not p` is true, p is false
-not_true : (p : Bool) → not p ≡ true → p ≡ false
-not_true true h = absurd (let k : false ≡ true = h in cc)
-not_true false h = refl
 
 -- if `not p && q` is true, p is false
 both_left : (p q : Bool) → (not p && q) ≡ true → p ≡ false
@@ -88,13 +83,13 @@ digit_other b s l h =
     ) in
     let tab = both_left (is_tab_or_newline b) (not (is_ascii_hexdigit b)) k in
     let hex : is_ascii_hexdigit b ≡ false =
-    not_true (is_ascii_hexdigit b) (both_right (is_tab_or_newline b) (not (is_ascii_hexdigit b)) k) in
+    not-true (is_ascii_hexdigit b) (both_right (is_tab_or_newline b) (not (is_ascii_hexdigit b)) k) in
     digit_here b s tab ∙ cond-false (is_ascii_hexdigit b) (Some (digit_value b, s)) None hex
 
 -- digits from a place on
 
 -- a text from an index on is the byte there, and then the text from the next index on
-at_place : (text : List ℕ) (place : ℕ) → place < length text → drop place text ≡ get_or text place 0 ∷ drop
+pub at_place : (text : List ℕ) (place : ℕ) → place < length text → drop place text ≡ get_or text place 0 ∷ drop
     (place + 1) text
 at_place text place l = drop_more text place 0 l
 

@@ -9,7 +9,7 @@ use Rattle.data_url.specs.Url.{before, after, without_tabs_and_newlines, front, 
 use Rattle.data_url.specs.Percent.{percent_decoding}
 use Rattle.data_url.specs.Fetch.{plain_body}
 use Rattle.data_url.specs.Steps.Digits.{digit, escape, with_high_digit, with_low_digit}
-use Rattle.data_url.proofs.escapes.Hexadecimal.{digit_here, digit_nil, digit_tab}
+use Rattle.data_url.proofs.escapes.Hexadecimal.{digit_here, digit_nil, digit_tab, at_place}
 use Rattle.data_url.proofs.texts.Bytes.{before_nil, before_other, before_same, after_other, dropped_keeps, dropped_nil}
 use Rattle.data_url.proofs.texts.Bytes.{dropped_passes}
 use Rattle.data_url.proofs.percent.Encoding.{decoded_escape, decoded_keeps, two_digits}
@@ -233,11 +233,6 @@ after_escape s value rest h = let e = has_escape s value rest h in after_percent
 pub reads_then : {text a b : List ℕ} {from middle to : ℕ} → Reads text from middle a → Reads text middle to b
     → Reads text from to (a ++ b)
 reads_then {text} {a} {b} {from} {middle} {to} r s = grind (arith, length-append, append_assoc)
-
--- a text from an index on is the byte there, and then the text from the next index on
-at_place : (text : List ℕ) (place : ℕ) → place < length text → drop place text ≡ get_or text place 0 ∷ drop
-    (place + 1) text
-at_place text place l = drop_more text place 0 l
 
 -- if b is the byte at an index, the text from there on is b, and then the text from the next index on
 at_byte : (text : List ℕ) (place b : ℕ) → place < length text → get_or text place 0 ≡ b

@@ -26,6 +26,7 @@ use Rattle.data_url.specs.declared.escapes.cursor.Ahead.{Ahead}
 use Rattle.data_url.specs.declared.escapes.cursor.Ahead.TheVariants.{AfterEscape, End, Escape, Unknown}
 use Rattle.data_url.specs.Fetch.{plain_body}
 use Rattle.data_url.specs.Steps.Chunks.{IsOver, Takes}
+use Rattle.std.proofs.Math.Bool.{or-true}
 
 -- Stretches of a text between two places: joined, skipped, without tabs and newlines, and before the first '#'.
 
@@ -306,11 +307,6 @@ search_passed {c0} {c} c' {mark} r p k e t n b s m a =
     search (arith, reads_passed, skipped_then, slice_one, dropped_passes)
 
 -- Pieces
-
--- b or true is true
-or_true : (b : Bool) → (b || true) ≡ true
-or_true true = refl
-or_true false = refl
 
 -- the stretch up to the mark, as a piece
 slice_piece : {c0 c : Cursor} {mark to : ℕ} {bytes : List ℕ} → Reached c0 c mark → mark ≢ c.place

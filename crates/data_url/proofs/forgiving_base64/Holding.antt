@@ -7,7 +7,7 @@ use Rattle.std.specs.Prelude.{MatchOption, MatchResult}
 use Rattle.std.specs.List.{filter, list_all}
 use Rattle.std.proofs.lemmas.Bool.{and_parts, true≢false}
 use Rattle.std.proofs.lemmas.List.{append-nil, get_or-drop, length-drop, length-map, map-append, take-append-drop}
-use Rattle.std.proofs.lemmas.List.{take_all, take_more, take_rest}
+use Rattle.std.proofs.lemmas.List.{take_all, take_more, take_rest, nil_from_length}
 use Rattle.data_url.specs.Base64.{Kind, after_groups, complete_bytes, first_fault, groups, is_symbol, kind_of}
 use Rattle.data_url.specs.Base64.{left_padding, left_symbols, left_text, symbol_value, values}
 use Rattle.data_url.specs.Decoder.{Feeds, IsTaken, State, left_over}
@@ -58,14 +58,9 @@ allowed_pads (c ∷ t) h =
     ap (λ s. cond s (c ∷ filter is_pad t) (filter is_pad t)) (one_allowed c p.0).1 ∙ allowed_pads t p.1
 
 -- a text has at most as many symbols as bytes
-filter_length : (t : List ℕ) → length (filter is_symbol t) ≤ length t
+pub filter_length : (t : List ℕ) → length (filter is_symbol t) ≤ length t
 filter_length [] = omega arith
 filter_length (c ∷ t) = grind (arith, filter_length t)
-
--- a list of length zero is empty
-no_items : (l : List ℕ) → length l ≡ 0 → l ≡ []
-no_items [] e = refl
-no_items (b ∷ l) e = absurd (omega arith)
 
 -- whole groups, if nothing came before them
 pub adds_groups : {F : Type 0} {d : State F} (t more : List ℕ) → d.symbols ≡ [] → d.padding ≡ 0 → d.failed ≡ false
@@ -87,7 +82,7 @@ adds_groups {d = d} t more is_q is_p going g =
       length-map k symbol_value,
       filter_length t,
     ))
-    refl (is_q ∙ sym (ap after_groups same ∙ no_items (after_groups k) (length-after_groups k ∙ size)))
+    refl (is_q ∙ sym (ap after_groups same ∙ nil_from_length (after_groups k) (length-after_groups k ∙ size)))
     (is_p ∙ ap (λ p. min (p + 0) 3) (sym is_p)) going
 
 -- Holding
@@ -384,7 +379,7 @@ row_adds d q row every all some is_p going =
 -- what is left over of at least 64 items is what is left over of those after the first 64
 rest_after : (q : List ℕ) → 64 ≤ length q → after_groups q ≡ after_groups (drop 64 q)
 rest_after q long = let none : after_groups (take 64 q) ≡ [] =
-    no_items (after_groups (take 64 q))
+    nil_from_length (after_groups (take 64 q))
     (omega (arith, length-after_groups (take 64 q), length-take-le 64 q long)) in
     cc (take-append-drop 64 q, after_groups-append (take 64 q) (drop 64 q))
 

@@ -14,7 +14,7 @@ use Rattle.data_url.specs.declared.forgiving_base64.InvalidBase64Details.TheVari
 use Rattle.data_url.specs.declared.forgiving_base64.InvalidBase64Details.TheVariants.{LoneAlphabetSymbol, Padding}
 use Rattle.data_url.specs.declared.forgiving_base64.InvalidBase64Details.TheVariants.{UnexpectedSymbol}
 use Rattle.data_url.specs.Mime.{Every}
-use Rattle.std.proofs.Math.Bool.{or-false, or_assoc}
+use Rattle.std.proofs.Math.Bool.{or-false, or_assoc, or-true}
 use Rattle.data_url.specs.Facts.{IsFirstFault, Fits, IsSymbolsAndPadding, PaddingFits}
 use Rattle.std.proofs.lemmas.List.Elements.{filter-append}
 use Rattle.std.specs.Char.{is_ascii_whitespace}
@@ -24,11 +24,6 @@ use Rattle.std.specs.Char.{is_ascii_whitespace}
 -- `Some` is not `None`
 pub some_not_none : {A : Type 0} (x : A) → Some x ≡ None → ⊥
 some_not_none x e = cc
-
--- `b || true` is true
-pub or_true : (b : Bool) → (b || true) ≡ true
-or_true true = refl
-or_true false = refl
 
 -- whether a byte is a fault, from its classes and whether there is padding before it
 abbrev pub bad : Bool → Bool → Bool → Bool → Bool
@@ -333,7 +328,7 @@ without_pad_pads q n = grind (arith, replicate_push, append_assoc, without_pad_p
 -- Symbols and padding
 
 -- if every byte is a symbol, `list_all is_symbol` is true
-list_all_every : (q : List ℕ) → Every is_symbol q → list_all is_symbol q ≡ true
+pub list_all_every : (q : List ℕ) → Every is_symbol q → list_all is_symbol q ≡ true
 list_all_every [] h = refl
 list_all_every (a ∷ t) h = and_from (is_symbol a) (list_all is_symbol t) h.0 (list_all_every t h.1)
 

@@ -9,6 +9,7 @@ use Rattle.std.specs.List.{filter, list_all, range_with_len}
 use Rattle.std.proofs.lemmas.Bool.{agree_below_at, and_parts, eqb-true, true≢false}
 use Rattle.std.proofs.lemmas.List.{append-nil, drop-drop, ext_get_or, get_or-drop, get_or-map, get_or-take, length-map}
 use Rattle.std.proofs.lemmas.List.{map-append, map-id, take-append-drop, take-map, take-take, take_all, take_at}
+use Rattle.std.proofs.lemmas.List.{nil_from_length}
 use Rattle.std.proofs.lemmas.List.Elements.{filter-append}
 use Rattle.std.proofs.lemmas.List.Folds.{list_all-append}
 use Rattle.std.proofs.lemmas.Nat.{and_le_r}
@@ -25,7 +26,8 @@ use Rattle.data_url.proofs.forgiving_base64.Vectors.{groups_whole, split_block, 
 use Rattle.data_url.proofs.forgiving_base64.Vectors.{others_mask, looked_up}
 use Rattle.data_url.proofs.forgiving_base64.Steps.{after_few, groups_few, three_items}
 use Rattle.data_url.proofs.forgiving_base64.Groups.{symbols_values, take_groups}
-use Rattle.data_url.proofs.forgiving_base64.Padding.{after_groups-append, length-after_groups}
+use Rattle.data_url.proofs.forgiving_base64.Padding.{after_groups-append, length-after_groups, filter_every}
+use Rattle.data_url.proofs.forgiving_base64.Padding.{list_all_every}
 use Rattle.data_url.proofs.escapes.Marks.{drop_taken}
 
 -- Clear bits
@@ -252,18 +254,12 @@ all_clear (b ∷ v) e = let p = no_bit (is_symbol b) (others_mask v) e in cc (al
 
 -- all bytes of a text that a filter of symbols keeps are symbols
 pub filter_symbols : (v : List ℕ) → list_all is_symbol (filter is_symbol v) ≡ true
-filter_symbols [] = refl
-filter_symbols (b ∷ v) = grind (arith, filter_symbols v)
+filter_symbols v = list_all_every (filter is_symbol v) (filter_every is_symbol v)
 
 -- symbols with the symbols of a text appended are all symbols
 pub all_more : (x y z : List ℕ) → list_all is_symbol x ≡ true → z ≡ x ++ filter is_symbol y
     → list_all is_symbol z ≡ true
 all_more x y z h e = grind (arith, list_all-append, filter_symbols)
-
--- if every byte is a symbol, `list_all is_symbol` is true
-pub list_all_every : (q : List ℕ) → Every is_symbol q → list_all is_symbol q ≡ true
-list_all_every [] h = refl
-list_all_every (c ∷ q) h = ap₂ (λ s t. s && t) h.0 (list_all_every q h.1)
 
 -- the symbols after the first n
 pub all_after : (n : ℕ) (q : List ℕ) → list_all is_symbol q ≡ true → list_all is_symbol (drop n q) ≡ true
@@ -322,18 +318,13 @@ pub still_kept : {q : List ℕ} (n k : ℕ) (old new : List ℕ) → n ≤ k →
     → take n new ≡ q
 still_kept n k old new few is same = cc (take-take n k new few, take-take n k old few)
 
--- a list of length zero is empty
-no_items : (l : List ℕ) → length l ≡ 0 → l ≡ []
-no_items [] e = refl
-no_items (b ∷ l) e = absurd (omega arith)
-
 -- the values left over are those from the largest multiple of four on
 pub after_is : (q : List ℕ) → after_groups q ≡ drop (length q / 4 * 4) q
 after_is q =
     let at = length q / 4 * 4 in
     let within : at ≤ length q = omega arith in
     let none : after_groups (take at q) ≡ [] =
-    no_items (after_groups (take at q))
+    nil_from_length (after_groups (take at q))
     (omega (arith, length-after_groups (take at q), length-take-le at q within)) in
     cc (
       take-append-drop at q,

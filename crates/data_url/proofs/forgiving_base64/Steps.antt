@@ -4,7 +4,7 @@ use Rattle.std.proofs.Common.{[], ◌∷◌, ◌++◌, length, map, min, replica
 use Rattle.std.proofs.Common.{◌∙◌, subst, arith, length-append, drop, Option, append_assoc}
 use Rattle.std.specs.Prelude.{MatchOption, MatchBool, MatchResult}
 use Rattle.std.specs.List.{filter, list_any}
-use Rattle.std.proofs.lemmas.List.{append-nil, length-map, length-replicate, take-append-drop}
+use Rattle.std.proofs.lemmas.List.{append-nil, length-map, length-replicate, take-append-drop, nil_from_length}
 use Rattle.std.proofs.lemmas.List.Elements.{filter-append}
 use Rattle.std.proofs.lemmas.Bool.{false≢true, true≢false}
 use Rattle.data_url.specs.declared.forgiving_base64.InvalidBase64Details.TheVariants.{AlphabetSymbolAfterPadding}
@@ -363,15 +363,10 @@ module _ {F E : Type 0} (step : F → List ℕ → Result (Unit {0}) E → F →
 
   -- The end
 
-  -- a text of length zero is empty
-  no_items : (s : List ℕ) → length s ≡ 0 → s ≡ []
-  no_items [] h = refl
-  no_items (a ∷ s) h = absurd (omega arith)
-
   -- if what is left over is valid and has at most one symbol, it decodes to no bytes: d makes no call
   pub flushes_nothing : (d : State F) (k : ℕ) → Every is_symbol d.symbols → length d.symbols ≡ k → k ≤ 1
       → is_valid (left_over d) ≡ true → Flushes step d (decoded (left_over d)) (Ok tt) d
-  flushes_nothing d zero every count few valid = grind (arith, decoded_left, groups_few, after_few, no_items)
+  flushes_nothing d zero every count few valid = grind (arith, decoded_left, groups_few, after_few, nil_from_length)
   flushes_nothing d (suc zero) every count few valid = grind (arith, valid_left)
   flushes_nothing d (suc (suc k)) every count few valid = absurd (omega arith)
 

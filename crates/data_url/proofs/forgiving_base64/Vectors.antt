@@ -8,7 +8,7 @@ use Rattle.std.specs.Char.{is_ascii_whitespace as std_whitespace, is_ascii_white
 use Rattle.data_url.specs.Base64.{is_symbol, symbol_value, group_bytes, group_number, groups, after_groups}
 use Rattle.data_url.specs.declared.forgiving_base64.alphabet.TheConstants.{NO_SYMBOL, VALUES}
 use Rattle.std.specs.List.{range_with_len, list_all, prefix_len}
-use Rattle.std.proofs.lemmas.List.{ext_get_or, get_or-map, length-map, map-append, take-take, take_all}
+use Rattle.std.proofs.lemmas.List.{ext_get_or, get_or-map, length-map, map-append, take-take, take_all, nil_from_length}
 use Rattle.std.proofs.lemmas.Nat.{and_le_r, and_le_l, or_lt}
 use Rattle.std.proofs.lemmas.Simd.{SwzOk, SwzOk-from_below, get_or_narrower, get_or-swz_l_below, length-swz_l}
 use Rattle.std.proofs.lemmas.Simd.{pick_l_whole, swz_l, bitmask_splat, chunk-fits, leading_from_mask_l, length-zip2}
@@ -353,12 +353,7 @@ unmarked_or (x ∷ xs) (y ∷ ys) e f g = grind (arith, or_unmarked, unmarked_or
 -- if x is complete groups, the bytes of x ++ y are those of x and then those of y
 pub groups_whole : (x y : List ℕ) → length x % 4 ≡ 0 → groups (x ++ y) ≡ groups x ++ groups y
 groups_whole x y h = groups-append x y
-    ∙ ap (λ z. groups x ++ groups (z ++ y)) (nothing (after_groups x) (length-after_groups x ∙ h))
-  where
-    -- a list of length zero is empty
-    nothing : (l : List ℕ) → length l ≡ 0 → l ≡ []
-    nothing [] e = refl
-    nothing (b ∷ l) e = absurd (omega arith)
+    ∙ ap (λ z. groups x ++ groups (z ++ y)) (nil_from_length (after_groups x) (length-after_groups x ∙ h))
 
 -- A whole block
 

@@ -4,7 +4,7 @@ use Rattle.std.proofs.Common.{length, get_or, take, drop, reverse, codes, refl, 
 use Rattle.std.proofs.Common.{append_assoc, arith, eqb-true, subst, length-append, drop_of_length-le, Option, Some}
 use Rattle.std.specs.Prelude.{◌==◌}
 use Rattle.std.specs.List.{prefix_len, suffix_len}
-use Rattle.std.proofs.lemmas.Bool.{cases_lt, ne_eqb, cases_Bool, leb-false}
+use Rattle.std.proofs.lemmas.Bool.{cases_lt, ne_eqb, cases_Bool, leb-false, not-true, not-false}
 use Rattle.std.proofs.lemmas.List.{append-nil, drop_all, drop_more, get_or-drop, get_or-reverse, get_or-take}
 use Rattle.std.proofs.lemmas.List.{length-drop, length-reverse, length-take, take-append-drop, drop-append-le}
 use Rattle.std.proofs.lemmas.List.{take_more}
@@ -143,28 +143,18 @@ pub parts_spaced : (header path front query : List ℕ) → IsPathAndQuery heade
     → WithoutSpace path front → encoded_parts front (codes "%20") query ≡ header_text (without_tabs_and_newlines header)
 parts_spaced header path front query h there w = grind (arith, append_assoc, path_space, header_and_query)
 
--- if `not b` is true, b is false
-is_false : (b : Bool) → not b ≡ true → b ≡ false
-is_false true h = absurd (let k = h in cc)
-is_false false h = refl
-
--- if `not b` is false, b is true
-is_true : (b : Bool) → not b ≡ false → b ≡ true
-is_true true h = refl
-is_true false h = absurd (let k = h in cc)
-
 -- the bytes before the first '?' of a text are its path, and the rest is its query
 pub cut_at_query : (text : List ℕ) (n : ℕ) → n ≡ prefix_len is_no_question_mark text
     → IsPathAndQuery text (take n text) (drop n text)
 cut_at_query text n e = record {
   joined = sym (take-append-drop n text);
-  path_ends = grind (arith, after_none, length-take, get_or-take, is_false, prefix_len_passes);
+  path_ends = grind (arith, after_none, length-take, get_or-take, not-true, prefix_len_passes);
   query_begins = ⊎_elim
       (λ (l : n < length text). inr (
         drop (n + 1) text,
         cc (
           drop_more text n 0 l,
-          eqb-true (get_or text n 0) 63 (is_true _ (subst (λ m. is_no_question_mark (get_or
+          eqb-true (get_or text n 0) 63 (not-false _ (subst (λ m. is_no_question_mark (get_or
               text m 0) ≡ false) (sym e) (prefix_len_stops is_no_question_mark text 0 (subst (λ m. m < length text) e
               l)))),
         ),

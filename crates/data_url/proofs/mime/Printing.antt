@@ -22,6 +22,8 @@ use Rattle.std.specs.Prelude.{◌&&◌, ◌↔◌, IsTrue}
 use Rattle.std.specs.Cmp.{first_so, second_so}
 use Rattle.std.specs.Cmp.Lexicographic.{pointwise, same_text}
 use Rattle.std.proofs.lemmas.Cmp.{nat_list_eq_equiv}
+use Rattle.data_url.proofs.mime.FirstNames.{equal_from_test, test_from_equal}
+use Rattle.std.proofs.lemmas.Bool.{and_from}
 
 -- What is written is the printed text.
 
@@ -172,31 +174,18 @@ module _ {W : Type 0} {took : W → List ℕ → W → Type 0} where
 
 -- Records of the same texts.
 
--- if the test of equality is true, two texts are equal
-bytes_same : (a b : List ℕ) → bytes_eq a b ≡ true → a ≡ b
-bytes_same a b h = same_text a b (sym h)
-
--- if two texts are equal, the test of equality is true
-same_bytes : (a b : List ℕ) → a ≡ b → bytes_eq a b ≡ true
-same_bytes a b h = subst (λ x. bytes_eq a x ≡ true) h (nat_list_eq_equiv.refl a)
-
--- if s and t are true, so is `s && t`
-both : (s t : Bool) → s ≡ true → t ≡ true → (s && t) ≡ true
-both true t h k = k
-both false t h k = h
-
 -- if the test of two pairs is true, their texts are equal
 pair_same : {A B : Type 0} (p q : String A × String B) → same_pair p q ≡ true → texts_of_pair p ≡ texts_of_pair q
 pair_same p q h =
-    let first = bytes_same (string_bytes p.0) (string_bytes q.0)
+    let first = equal_from_test (string_bytes p.0) (string_bytes q.0)
     (first_so _ (bytes_eq (string_bytes p.1) (string_bytes q.1)) h) in
-    let second = bytes_same (string_bytes p.1) (string_bytes q.1)
+    let second = equal_from_test (string_bytes p.1) (string_bytes q.1)
     (second_so (bytes_eq (string_bytes p.0) (string_bytes q.0)) _ h) in
     ap (λ x. (x, string_bytes p.1)) first ∙ ap (λ x. (string_bytes q.0, x)) second
 
 -- if the texts of two pairs are equal, the test of the pairs is true
 same_pair_of : {A B : Type 0} (p q : String A × String B) → texts_of_pair p ≡ texts_of_pair q → same_pair p q ≡ true
-same_pair_of p q h = grind (arith, same_bytes)
+same_pair_of p q h = grind (arith, test_from_equal)
 
 -- if the test of two lists, pair by pair, is true, the lists have equal texts
 pairs_same : {A B : Type 0} (ps qs : List (String A × String B)) → pointwise same_pair ps qs ≡ true
@@ -216,11 +205,11 @@ same_pairs (p ∷ ps) [] h = absurd (cc)
 same_pairs (p ∷ ps) (q ∷ qs) h =
     let here : texts_of_pair p ≡ texts_of_pair q = cc in
     let rest : map texts_of_pair ps ≡ map texts_of_pair qs = cc in
-    both (same_pair p q) (pointwise same_pair ps qs) (same_pair_of p q here) (same_pairs ps qs rest)
+    and_from (same_pair p q) (pointwise same_pair ps qs) (same_pair_of p q here) (same_pairs ps qs rest)
 
 -- the test is true exactly if the texts are the same
 pub same_decides : (m n : Mime) → IsTrue (same_texts m n) ↔ SameTexts m n
-same_decides m n = grind (arith, bytes_same, pairs_same, same_bytes, same_pairs)
+same_decides m n = grind (arith, equal_from_test, pairs_same, test_from_equal, same_pairs)
 
 -- copies
 

@@ -5,7 +5,7 @@ ghost use Rattle.std.specs.Option.{option_map};
 ghost use Rattle.data_url.specs.Pieces.{IsPiece, IsStretch, bytes_of, has_ended, text_of, walk_of};
 ghost use Rattle.data_url.specs.Steps.Chunks.{GivesBytes};
 ghost use Rattle.data_url.specs.Url.{after, number_sign};
-ghost use Rattle.data_url.specs.Steps.Walk.{Ended, EscapeAt, Gathers, GoesOn, HasRoom, IsGathered, IsNear, IsNextMark, IsPlain, IsStop, IsWide, KeepsBlock, Knows, KnowsAhead, Looking, LooksOn, MayGather, Moves, Stays};
+ghost use Rattle.data_url.specs.Steps.Walk.{EscapeAt, Gathers, GoesOn, HasRoom, IsGathered, IsNear, IsNextMark, IsPlain, IsStop, IsWide, KeepsBlock, Knows, KnowsAhead, Looking, LooksOn, MayGather, Moves, Stays};
 ghost use Rattle.data_url.specs.Steps.Window.{is_marked};
 
 use super::Piece;

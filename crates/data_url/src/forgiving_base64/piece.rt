@@ -1,6 +1,6 @@
 //! The bytes of whole groups of a text of base64 (RFC 4648, section 4), which the closure is called with together.
 
-ghost use Rattle.std.specs.Prelude.{◌≡◌, ◌+◌, ◌*◌, ◌≤◌, ◌<◌, ◌++◌, [], length, take};
+ghost use Rattle.std.specs.Prelude.{◌≡◌, ◌+◌, ◌*◌, ◌≤◌, ◌<◌, ◌++◌, length, take};
 ghost use Rattle.std.specs.List.{list_all};
 ghost use Rattle.data_url.specs.Base64.{is_symbol};
 ghost use Rattle.data_url.specs.Steps.Blocks.{Fills};

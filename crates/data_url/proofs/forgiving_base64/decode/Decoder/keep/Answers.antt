@@ -1,6 +1,6 @@
 use Rattle.std.proofs.Common.{arith, length-take-le}
-use Rattle.data_url.proofs.forgiving_base64.Padding.{every_after, every_list_all}
-use Rattle.data_url.proofs.forgiving_base64.Rows.{groups_front, list_all_every}
+use Rattle.data_url.proofs.forgiving_base64.Padding.{every_after, every_list_all, list_all_every}
+use Rattle.data_url.proofs.forgiving_base64.Rows.{groups_front}
 use Rattle.data_url.proofs.forgiving_base64.decode.Decoder.keep.Goals as goal
 
 pub invariant_of-self-clause-pending_symbols : goal.invariant_of-self-clause-pending_symbols
