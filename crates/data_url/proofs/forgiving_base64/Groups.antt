@@ -73,7 +73,7 @@ unfolding values
 values_symbols s h = ap (map symbol_value) (filter_all is_symbol s (every_list_all s h))
 
 -- if all bytes of a text are symbols, all are symbols or whitespace
-symbols_alone : (s : List ℕ) → list_all is_symbol s ≡ true → list_all is_symbol_or_space s ≡ true
+pub symbols_alone : (s : List ℕ) → list_all is_symbol s ≡ true → list_all is_symbol_or_space s ≡ true
 symbols_alone [] h = refl
 symbols_alone (b ∷ s) h =
     let p = and_parts (is_symbol b) (list_all is_symbol s) h in

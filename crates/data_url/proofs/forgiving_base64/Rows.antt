@@ -25,9 +25,9 @@ use Rattle.data_url.specs.declared.forgiving_base64.symbols.TheConstants.{SPACES
 use Rattle.data_url.proofs.forgiving_base64.Vectors.{groups_whole, split_block, is_other, map_agree, mask_l-append}
 use Rattle.data_url.proofs.forgiving_base64.Vectors.{others_mask, looked_up}
 use Rattle.data_url.proofs.forgiving_base64.Steps.{after_few, groups_few, three_items}
-use Rattle.data_url.proofs.forgiving_base64.Groups.{symbols_values, take_groups}
+use Rattle.data_url.proofs.forgiving_base64.Groups.{symbols_alone, symbols_values, take_groups}
 use Rattle.data_url.proofs.forgiving_base64.Padding.{after_groups-append, length-after_groups, filter_every}
-use Rattle.data_url.proofs.forgiving_base64.Padding.{list_all_every}
+use Rattle.data_url.proofs.forgiving_base64.Padding.{every_list_all, filter_all, list_all_every}
 use Rattle.data_url.proofs.escapes.Marks.{drop_taken}
 
 -- Clear bits
@@ -233,22 +233,12 @@ only_spaces [] e = refl
 only_spaces (b ∷ v) e = let p = first_bits (is_symbol b) (is_ascii_whitespace b) (others_mask v)
     (mask_l (map is_ascii_whitespace v)) e in ap₂ (λ s t. s && t) p.0 (only_spaces v p.1)
 
--- if the mask of not s and then m is zero, s is true, and m is zero
-no_bit : (s : Bool) (m : ℕ) → cond (not s) 1 0 + 2 * m ≡ 0 → (s ≡ true) × (m ≡ 0)
-no_bit true m e = (refl, omega (arith, e))
-no_bit false m e = absurd (omega (arith, e))
-
--- if the mask of the bytes that are no symbols is zero, all bytes are symbols or whitespace
-pub only_symbols : (v : List ℕ) → others_mask v ≡ 0 → list_all is_symbol_or_space v ≡ true
-only_symbols [] e = refl
-only_symbols (b ∷ v) e =
-    let p = no_bit (is_symbol b) (others_mask v) e in
-    ap₂ (λ s t. (s || is_ascii_whitespace b) && t) p.0 (only_symbols v p.1)
-
--- if the mask of the bytes that are no symbols is zero, all bytes are symbols
-pub all_clear : (v : List ℕ) → others_mask v ≡ 0 → v ≡ filter is_symbol v
-all_clear [] e = refl
-all_clear (b ∷ v) e = let p = no_bit (is_symbol b) (others_mask v) e in cc (all_clear v p.1)
+-- the symbols of a row of symbols are the row
+pub gains_all : {q row q' : List ℕ} → list_all is_symbol row ≡ true → q' ≡ q ++ row → GainsSymbols q row q'
+gains_all {q} {row} all e = record {
+  spaced = symbols_alone row all;
+  added = e ∙ ap (λ l. q ++ l) (sym (filter_all is_symbol row (every_list_all row all)));
+}
 
 -- Symbols that were appended
 
@@ -266,22 +256,26 @@ pub all_after : (n : ℕ) (q : List ℕ) → list_all is_symbol q ≡ true → l
 all_after n q h = (and_parts (list_all is_symbol (take n q)) (list_all is_symbol (drop n q))
     (sym (list_all-append is_symbol (take n q) (drop n q)) ∙ ap (list_all is_symbol) (take-append-drop n q) ∙ h)).1
 
--- the bytes after a block, moved to the front
-pub moved : (old b1 b2 b3 b4 w x y z : List ℕ) (len : ℕ) → 64 ≤ len → len < 128 → take 16 b1 ≡ w
+-- the bytes from an index on, moved to the front
+pub moved : (old b1 b2 b3 b4 w x y z : List ℕ) (count len : ℕ) → len < count + 64 → take 16 b1 ≡ w
     → take (16 + 16) b2 ≡ take 16 b1 ++ x → take (32 + 16) b3 ≡ take 32 b2 ++ y → take (48 + 16) b4 ≡ take 48 b3 ++ z
-    → w ≡ take 16 (drop 64 old) → x ≡ take 16 (drop 80 old) → y ≡ take 16 (drop 96 old) → z ≡ take 16 (drop 112 old)
-    → take (len - 64) b4 ≡ drop 64 (take len old)
-moved old b1 b2 b3 b4 w x y z len few many p q r s d e f g =
-    let far = drop 64 old in
+    → w ≡ take 16 (drop count old) → x ≡ take 16 (drop (count + 16) old) → y ≡ take 16 (drop (count + 32) old)
+    → z ≡ take 16 (drop (count + 48) old) → take (len - count) b4 ≡ drop count (take len old)
+moved old b1 b2 b3 b4 w x y z count len many p q r s d e f g =
+    let far = drop count old in
     let front : take 64 b4 ≡ take 64 far = cc (
       append_assoc (w ++ x) y z,
       append_assoc w x (y ++ z),
-      drop-drop 16 64 old,
-      drop-drop 32 64 old,
-      drop-drop 48 64 old,
+      drop-drop 16 count old,
+      drop-drop 32 count old,
+      drop-drop 48 count old,
       split_block far,
     ) in
-    cc (take-take (len - 64) 64 b4 (omega arith), take-take (len - 64) 64 far (omega arith), drop_taken 64 len old)
+    cc (
+      take-take (len - count) 64 b4 (omega arith),
+      take-take (len - count) 64 far (omega arith),
+      drop_taken count len old,
+    )
 
 -- four rows
 
@@ -333,7 +327,7 @@ after_is q =
     )
 
 -- the first `len % 4` of the three items after the complete groups are those that are left over
-pub three_last : (s : List ℕ) (len : ℕ) → length s ≡ 144 → len < 64
+pub three_last : (s : List ℕ) (len : ℕ) → length s ≡ 208 → len < 64
     → take (len % 4) (get_or s (len / 4 * 4) 0 ∷ get_or s (len / 4 * 4 + 1) 0 ∷ get_or s (len / 4 * 4 + 2) 0 ∷ [])
     ≡ after_groups (take len s)
 three_last s len long few =
@@ -365,11 +359,11 @@ fits_symbols [] h i = record { fits = omega arith }
 fits_symbols (b ∷ s) h zero = grind (arith, and_parts)
 fits_symbols (b ∷ s) h (suc i) = fits_symbols s (and_parts (is_symbol b) (list_all is_symbol s) h).1 i
 
--- the bytes of 64 values begin with those of up to 16 groups of the first len bytes, if these are symbols
-pub front_is : (s bytes : List ℕ) (len : ℕ) → length s ≡ 144 → len < 128 → list_all is_symbol (take len s) ≡ true
+-- the bytes of the groups of 64 bytes begin with those of as many of their groups as are symbols
+front_is : (s bytes : List ℕ) (len : ℕ) → 64 ≤ length s → len ≤ length s → list_all is_symbol (take len s) ≡ true
     → bytes ≡ groups (map value_of (take 64 s)) → DecodesFront (take len s) bytes
-front_is s bytes len long few all e m a b =
-    let size : length (take len s) ≡ len = length-take-le len s (omega arith) in
+front_is s bytes len long within all e m a b =
+    let size : length (take len s) ≡ len = length-take-le len s within in
     let n = 4 * m in
     let front : take n s ≡ take n (take len s) = sym (take-take n len s (omega arith)) in
     let every : list_all is_symbol (take n (take len s)) ≡ true =
@@ -379,12 +373,23 @@ front_is s bytes len long few all e m a b =
       take_groups m (map value_of (take 64 s)) (omega (
         arith,
         length-map (take 64 s) value_of,
-        length-take-le 64 s (omega arith),
+        length-take-le 64 s long,
       )),
       take-map value_of n (take 64 s),
       take-take n 64 s (omega arith),
       symbols_values (take n (take len s)) (fits_symbols (take n (take len s)) every) every,
     )
+
+-- the bytes of the groups of the 64 bytes from an index on begin with those of the groups of the symbols from there on
+pub front_from : (s bytes : List ℕ) (len from : ℕ) → length s ≡ 208 → len < 192 → from ≤ 64
+    → list_all is_symbol (take len s) ≡ true → bytes ≡ groups (map value_of (take 64 (drop from s)))
+    → DecodesFront (drop from (take len s)) bytes
+front_from s bytes len from long few early all e =
+    let P : List ℕ → Type 0 = λ l. DecodesFront l bytes in
+    let size = length-drop from s in
+    subst P (sym (drop_taken from len s))
+    (front_is (drop from s) bytes (len - from) (omega arith) (omega arith)
+    (ap (list_all is_symbol) (sym (drop_taken from len s)) ∙ all_after from (take len s) all) e)
 
 -- all groups of fewer than 64 symbols
 pub groups_front : (q bytes : List ℕ) → length q < 64 → DecodesFront q bytes

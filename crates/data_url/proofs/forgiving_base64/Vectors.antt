@@ -13,7 +13,8 @@ use Rattle.std.proofs.lemmas.Nat.{and_le_r, and_le_l, or_lt}
 use Rattle.std.proofs.lemmas.Simd.{SwzOk, SwzOk-from_below, get_or_narrower, get_or-swz_l_below, length-swz_l}
 use Rattle.std.proofs.lemmas.Simd.{pick_l_whole, swz_l, bitmask_splat, chunk-fits, leading_from_mask_l, length-zip2}
 use Rattle.std.proofs.lemmas.Simd.{map-map, mask_l-lt, trailing_mask_l}
-use lib.Lanes.{Each1, digits_l, number_l, pair_sums, pick_l, products, sel_l, zip2, mask_l, top}
+use lib.Lanes.{Each1, digits_l, fold_l, number_l, pair_sums, pick_l, products, sel_l, zip2, mask_l, top}
+use Rattle.std.proofs.Math.Bool.{and-true, and_assoc}
 use Rattle.data_url.specs.Steps.Lanes.{mark_of, numbers, offset_row, value_of}
 use Rattle.data_url.specs.declared.forgiving_base64.lanes.TheConstants.{OFFSETS}
 use Rattle.std.proofs.lemmas.List.Folds.{list_all-append}
@@ -325,11 +326,6 @@ first_ahead v long h = trailing_mask_l is_other 64 v long h ∙ prefix_not_not i
 abbrev unmarked : ℕ → Bool
 unmarked m = eqb m 0
 
--- the mask of the marks that are not zero is zero exactly if all marks are zero
-unmarked_mask : (xs : List ℕ) → eqb (mask_l (map (λ m. differs m 0) xs)) 0 ≡ list_all unmarked xs
-unmarked_mask [] = refl
-unmarked_mask (x ∷ xs) = grind (arith, unmarked_mask xs)
-
 -- the bitwise or of two bytes is zero exactly if both are zero
 or_unmarked : (x y : ℕ) → x < 256 → y < 256 → unmarked (bit_or x y) ≡ (unmarked x && unmarked y)
 or_unmarked x y a b = elim (cases_eq x 0) [
@@ -339,6 +335,18 @@ or_unmarked x y a b = elim (cases_eq x 0) [
     ne_eqb x 0 p,
   )
 ]
+
+-- the bitwise or of a byte and all bytes of a list is zero exactly if all of them are zero
+or_all : (a : ℕ) (xs : List ℕ) → a < 256 → Each1 (λ x. x < 256) xs
+    → eqb (fold_l bit_or a xs) 0 ≡ (unmarked a && list_all unmarked xs)
+or_all a [] l h = sym (and-true (unmarked a))
+or_all a (x ∷ xs) l h = or_all (bit_or a x) xs (or_lt 8 a x l h.0) h.1
+    ∙ ap (λ t. t && list_all unmarked xs) (or_unmarked a x l h.0)
+    ∙ and_assoc (unmarked a) (unmarked x) (list_all unmarked xs)
+
+-- the bitwise or of the bytes of a list is zero exactly if all of them are zero
+or_none : (xs : List ℕ) → Each1 (λ x. x < 256) xs → eqb (fold_l bit_or 0 xs) 0 ≡ list_all unmarked xs
+or_none xs h = or_all 0 xs (omega arith) h
 
 -- the items of a bitwise or of two lists of bytes are all zero exactly if the items of both lists are
 unmarked_or : (xs ys : List ℕ) → length xs ≡ length ys → Each1 (λ x. x < 256) xs → Each1 (λ x. x < 256) ys
@@ -372,6 +380,12 @@ all_unmarked [] h = refl
 all_unmarked (b ∷ v) h = ap₂ (λ s t. s && t) (agree_below_at (λ b. unmarked (mark_of b)) is_symbol 256 b refl h.0.fits)
     (all_unmarked v h.1)
 
+-- the bitwise or of the marks of bytes is zero exactly if all bytes are symbols
+pub are_symbols_is : (v marks : List ℕ) → Each1 (Fits w8) v → marks ≡ map mark_of v
+    → eqb (fold_l bit_or 0 marks) 0 ≡ list_all is_symbol v
+are_symbols_is v marks fits e =
+    ap (λ l. eqb (fold_l bit_or 0 l) 0) e ∙ or_none (map mark_of v) (marks_lt v fits) ∙ all_unmarked v fits
+
 -- the items of a bitwise or of two lists of bytes are below 256
 zip_lt : (xs ys : List ℕ) → length xs ≡ length ys → Each1 (λ x. x < 256) xs → Each1 (λ x. x < 256) ys
     → Each1 (λ x. x < 256) (zip2 bit_or xs ys)
@@ -380,10 +394,6 @@ zip_lt [] (y ∷ ys) e f g = tt
 zip_lt (x ∷ xs) [] e f g = tt
 zip_lt (x ∷ xs) (y ∷ ys) e f g = (or_lt 8 x y f.0 g.0, zip_lt xs ys (omega arith) f.1 g.1)
 
--- a row of 16 zeros
-abbrev zeros : List ℕ
-zeros = 0 ∷ 0 ∷ 0 ∷ 0 ∷ 0 ∷ 0 ∷ 0 ∷ 0 ∷ 0 ∷ 0 ∷ 0 ∷ 0 ∷ 0 ∷ 0 ∷ 0 ∷ 0 ∷ []
-
 -- the marks of four rows, combined by a bitwise or
 abbrev pub all_marks : List ℕ → List ℕ → List ℕ → List ℕ → List ℕ
 all_marks a b c d = zip2 bit_or (zip2 bit_or a b) (zip2 bit_or c d)
@@ -391,47 +401,29 @@ all_marks a b c d = zip2 bit_or (zip2 bit_or a b) (zip2 bit_or c d)
 -- the marks of four rows, combined by a bitwise or, are all zero exactly if all bytes of the rows are symbols
 marks_whole : (r0 r1 r2 r3 : List ℕ) → length r0 ≡ 16 → length r1 ≡ 16 → length r2 ≡ 16 → length r3 ≡ 16
     → Each1 (Fits w8) r0 → Each1 (Fits w8) r1 → Each1 (Fits w8) r2 → Each1 (Fits w8) r3
-    → list_all unmarked (all_marks (map mark_of r0) (map mark_of r1) (map mark_of r2) (map mark_of r3))
+    → eqb (fold_l bit_or 0 (all_marks (map mark_of r0) (map mark_of r1) (map mark_of r2) (map mark_of r3))) 0
     ≡ list_all is_symbol (r0 ++ (r1 ++ (r2 ++ r3)))
 marks_whole r0 r1 r2 r3 l0 l1 l2 l3 f0 f1 f2 f3 =
-    search (arith, length-map, length-zip2, unmarked_or, zip_lt, marks_lt, all_unmarked, list_all-append)
+    search (arith, or_none, length-map, length-zip2, unmarked_or, zip_lt, marks_lt, all_unmarked, list_all-append)
 
 -- the combined marks of four rows are all zero exactly if the 64 bytes are symbols
 pub whole_is : (text m0 m1 m2 m3 r0 r1 r2 r3 : List ℕ) → 64 ≤ length text → ((i : ℕ) → Fits w8 (get_or text i 0))
     → r0 ≡ take 16 (drop 0 text) → r1 ≡ take 16 (drop 16 text) → r2 ≡ take 16 (drop 32 text)
     → r3 ≡ take 16 (drop 48 text)
     → m0 ≡ map mark_of r0 → m1 ≡ map mark_of r1 → m2 ≡ map mark_of r2 → m3 ≡ map mark_of r3
-    → eqb (mask_l (map (top 7) (zip2 (λ a b. cond (differs a b) 255 0) (all_marks m0 m1 m2 m3) zeros)) % 2 ^ 64) 0
-    ≡ list_all is_symbol (take 64 text)
+    → eqb (fold_l bit_or 0 (all_marks m0 m1 m2 m3)) 0 ≡ list_all is_symbol (take 64 text)
 whole_is text m0 m1 m2 m3 r0 r1 r2 r3 long fits a b c d p q r s =
     let e0 : m0 ≡ map mark_of (take 16 (drop 0 text)) = p ∙ ap (map mark_of) a in
     let e1 : m1 ≡ map mark_of (take 16 (drop 16 text)) = q ∙ ap (map mark_of) b in
     let e2 : m2 ≡ map mark_of (take 16 (drop 32 text)) = r ∙ ap (map mark_of) c in
     let e3 : m3 ≡ map mark_of (take 16 (drop 48 text)) = s ∙ ap (map mark_of) d in
     let same = ap₂ (zip2 bit_or) (ap₂ (zip2 bit_or) e0 e1) (ap₂ (zip2 bit_or) e2 e3) in
-    let l0 = row_length text 0 (omega arith) in
-    let l1 = row_length text 16 (omega arith) in
-    let l2 = row_length text 32 (omega arith) in
-    let l3 = row_length text 48 (omega arith) in
-    let n0 = length-map (take 16 (drop 0 text)) mark_of ∙ l0 in
-    let n1 = length-map (take 16 (drop 16 text)) mark_of ∙ l1 in
-    let n2 = length-map (take 16 (drop 32 text)) mark_of ∙ l2 in
-    let n3 = length-map (take 16 (drop 48 text)) mark_of ∙ l3 in
-    let u = map mark_of (take 16 (drop 0 text)) in
-    let v = map mark_of (take 16 (drop 16 text)) in
-    let x = map mark_of (take 16 (drop 32 text)) in
-    let y = map mark_of (take 16 (drop 48 text)) in
-    let lu = length-zip2 bit_or u v (n0 ∙ sym n1) ∙ n0 in
-    let lx = length-zip2 bit_or x y (n2 ∙ sym n3) ∙ n2 in
-    let ln = length-zip2 bit_or (zip2 bit_or u v) (zip2 bit_or x y) (lu ∙ sym lx) ∙ lu in
-    cc (
-      bitmask_splat w8 differs (all_marks u v x y) 16 0 ln (omega arith),
-      unmarked_mask (all_marks u v x y),
-      marks_whole (take 16 (drop 0 text)) (take 16 (drop 16 text)) (take 16 (drop 32 text)) (take 16 (drop 48
-          text)) l0 l1 l2 l3 (chunk-fits w8 0 16 text fits) (chunk-fits w8 16 16 text fits) (chunk-fits w8 32 16 text
-          fits) (chunk-fits w8 48 16 text fits),
-      split_block text,
-    )
+    ap (λ l. eqb (fold_l bit_or 0 l) 0) same
+    ∙ marks_whole (take 16 (drop 0 text)) (take 16 (drop 16 text)) (take 16 (drop 32 text)) (take 16 (drop 48 text))
+    (row_length text 0 (omega arith)) (row_length text 16 (omega arith)) (row_length text 32 (omega arith))
+    (row_length text 48 (omega arith)) (chunk-fits w8 0 16 text fits) (chunk-fits w8 16 16 text fits)
+    (chunk-fits w8 32 16 text fits) (chunk-fits w8 48 16 text fits)
+    ∙ ap (list_all is_symbol) (sym (split_block text))
 
 -- Sixteen groups
 

@@ -26,7 +26,7 @@ pub(crate) fn is_whole(text: &[u8]) -> bool
 {
     let upper = marks_of(row(text, 0)) | marks_of(row(text, 16));
     let lower = marks_of(row(text, 32)) | marks_of(row(text, 48));
-    (upper | lower).simd_ne(u8x16::splat(0)).to_bitmask() == 0
+    (upper | lower).reduce_or() == 0
 }
 
 /// A bit for each byte of a row, which is set if the byte is not a symbol.

@@ -253,9 +253,39 @@ where
         ensures bytes { bytes_of piece.new ≡ groups (map symbol_value (symbols_of symbols.now)) }
         ensures state { state_of self.new ≡ waiting (state_of self.old) (symbols_of symbols.now) }
     {
-        *piece = Piece::new(symbols.decode(), symbols.len / 4);
+        *piece = Piece::new(symbols.decode(0), symbols.len / 4);
         self.symbols = symbols.last();
         self.pending = symbols.len % 4;
+    }
+
+    /// Feeds the blocks of 64 symbols and white space that a text begins with, and calls the closure with the groups of
+    /// 128 symbols at a time, as two pieces. The symbols after these are then in `symbols`. Returns how many bytes of
+    /// the text the blocks take.
+    #[inline(always)]
+    fn feed_pairs(&mut self, text: &[u8], symbols: &mut Symbols) -> Result<usize, DecodeError<E>>
+        requires callable { F.IsAlwaysCallable (state_of self.old).closure }
+        requires going { (state_of self.old).failed ≡ false }
+        requires between { IsBetweenGroups (state_of self.old) }
+        requires none { (symbols.old.len ≡ 0) × (symbols_of symbols.old ≡ []) }
+        ensures callable { F.IsAlwaysCallable (state_of self.new).closure }
+        ensures few { IfOk result (λ taken. symbols.new.len < 128) }
+        ensures fed { MatchResult result
+            (λ taken. Reads (CalledAt F.FnMut) (state_of self.old) text.now taken
+            (groups (map symbol_value (symbols_of symbols.new)))
+            (waiting (state_of self.new) (symbols_of symbols.new)))
+            (λ error. Feeds (CalledAt F.FnMut) (state_of self.old) text.now (Err error)
+            (state_of self.new)) }
+    {
+        let mut at = 0;
+        while text.len() - at >= 64 && symbols.add_block(&text[at..]) {
+            at += 64;
+            if symbols.len >= 128 {
+                self.write(&symbols.decode(0))?;
+                self.write(&symbols.decode(64))?;
+                symbols.drop_front(128);
+            }
+        }
+        Ok(at)
     }
 
     /// If the next symbol begins a group, feeds the blocks of 64 symbols and white space that a text begins with. Calls
@@ -274,16 +304,13 @@ where
             (state_of self.new)) }
     {
         let mut symbols = Symbols::new();
-        let mut at = 0;
-        while text.len() - at >= 64 && symbols.add_block(&text[at..]) {
-            at += 64;
-            if symbols.len >= 64 {
-                self.write(&symbols.decode())?;
-                symbols.drop_block();
-            }
+        let taken = self.feed_pairs(text, &mut symbols)?;
+        if symbols.len >= 64 {
+            self.write(&symbols.decode(0))?;
+            symbols.drop_front(64);
         }
         self.keep(&symbols, piece);
-        Ok(at)
+        Ok(taken)
     }
 
     /// Feeds such blocks if the text is not short and the next symbol begins a group, and otherwise nothing.

@@ -2,7 +2,8 @@
 
 ghost use Rattle.std.specs.Prelude.{◌≡◌, ◌<◌, length, map, take};
 ghost use Rattle.std.specs.Simd.Lanes.{Each1};
-ghost use Rattle.data_url.specs.Base64.{groups};
+ghost use Rattle.std.specs.List.{list_all};
+ghost use Rattle.data_url.specs.Base64.{groups, is_symbol};
 ghost use Rattle.data_url.specs.Steps.Lanes.{mark_of, numbers, value_of};
 
 use std::simd::prelude::*;
@@ -32,6 +33,14 @@ pub(crate) fn marks_of(bytes: u8x16) -> u8x16
     let low = u8x16::from_array(LOW_HALVES).swizzle_dyn(bytes & u8x16::splat(15));
     let high = u8x16::from_array(HIGH_HALVES).swizzle_dyn(bytes >> u8x16::splat(4));
     low & high
+}
+
+/// Whether all bytes of a row are symbols.
+#[inline(always)]
+pub(crate) fn are_symbols(bytes: u8x16) -> bool
+    ensures { result ≡ list_all is_symbol bytes }
+{
+    marks_of(bytes).reduce_or() == 0
 }
 
 /// The value of each symbol. A byte that is no symbol has some value too.

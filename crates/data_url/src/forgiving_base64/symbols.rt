@@ -8,6 +8,7 @@ ghost use Rattle.data_url.specs.Base64.{after_groups, is_symbol};
 ghost use Rattle.data_url.specs.Steps.Blocks.{DecodesFront, GainsSymbols, clear};
 
 use super::blocks::{decode, others, put, row};
+use super::lanes::are_symbols;
 use super::places::places_of;
 use std::simd::prelude::*;
 
@@ -37,13 +38,13 @@ fn put_half(room: &mut [u8], at: usize, row: u8x16, from: usize, bits: u8) -> us
     at + (8 - bits.count_ones() as usize)
 }
 
-/// Up to 127 symbols that follow one another in a text, without the white space between them.
+/// Up to 191 symbols that follow one another in a text, without the white space between them.
 #[derive(Drop)]
 pub(crate) struct Symbols {
-    bytes: [u8; 144],
+    bytes: [u8; 208],
     pub(crate) len: usize,
-    ghost within: { len < 128 },
-    ghost sized: { length bytes ≡ 144 },
+    ghost within: { len < 192 },
+    ghost sized: { length bytes ≡ 208 },
     ghost symbols: { IsTrue (list_all is_symbol (take len bytes)) },
 }
 
@@ -57,7 +58,7 @@ impl Symbols {
         ensures len { result.len ≡ 0 }
     {
         Symbols {
-            bytes: [0; 144],
+            bytes: [0; 208],
             len: 0,
         }
     }
@@ -66,19 +67,19 @@ impl Symbols {
     #[inline(always)]
     fn add_row(&mut self, text: &[u8]) -> bool
         requires row { 16 ≤ length text.now }
-        requires room { self.old.len < 112 }
+        requires room { self.old.len < 176 }
         ensures few { (self.old.len ≤ self.new.len) × (self.new.len ≤ self.old.len + 16) }
         ensures kept { take self.old.len self.new.bytes ≡ symbols_of self.old }
         ensures added { result ≡ true → GainsSymbols (symbols_of self.old) (take 16 text.now) (symbols_of self.new) }
     {
         let row = row(text, 0);
-        let others = others(row);
         let len = self.len;
-        if others == 0 {
+        if are_symbols(row) {
             put(&mut self.bytes, len, row);
             self.len = len + 16;
             return true;
         }
+        let others = others(row);
         if others != spaces(row) {
             return false;
         }
@@ -91,7 +92,7 @@ impl Symbols {
     #[inline(always)]
     fn add_rows(&mut self, text: &[u8]) -> bool
         requires block { 64 ≤ length text.now }
-        requires room { self.old.len < 64 }
+        requires room { self.old.len < 128 }
         ensures few { self.old.len ≤ self.new.len }
         ensures kept { take self.old.len self.new.bytes ≡ symbols_of self.old }
         ensures added { result ≡ true → GainsSymbols (symbols_of self.old) (take 64 text.now) (symbols_of self.new) }
@@ -112,7 +113,7 @@ impl Symbols {
     #[inline(always)]
     pub(crate) fn add_block(&mut self, text: &[u8]) -> bool
         requires block { 64 ≤ length text.now }
-        requires room { self.old.len < 64 }
+        requires room { self.old.len < 128 }
         ensures none { result ≡ false
             → (self.new.len ≡ self.old.len) × (symbols_of self.new ≡ symbols_of self.old) }
         ensures added { result ≡ true → GainsSymbols (symbols_of self.old) (take 64 text.now) (symbols_of self.new) }
@@ -125,31 +126,33 @@ impl Symbols {
         is_spaced
     }
 
-    /// Returns the bytes of the groups of the first 64 symbols, and if there are fewer, after them bytes without
-    /// meaning.
+    /// Returns the bytes of the groups of the 64 symbols from an index on, and if there are fewer, after them bytes
+    /// without meaning.
     #[inline(always)]
-    pub(crate) fn decode(&self) -> [u8; 48]
-        ensures { DecodesFront (symbols_of self.now) result }
+    pub(crate) fn decode(&self, from: usize) -> [u8; 48]
+        requires { from ≤ 64 }
+        ensures { DecodesFront (drop from (symbols_of self.now)) result }
     {
-        decode(&self.bytes)
+        decode(&self.bytes[from..])
     }
 
-    /// Takes the first 64 symbols away.
+    /// Takes the first symbols away, so that fewer than 64 are left.
     #[inline(always)]
-    pub(crate) fn drop_block(&mut self)
-        requires { 64 ≤ self.old.len }
-        ensures rest { symbols_of self.new ≡ drop 64 (symbols_of self.old) }
-        ensures len { self.new.len + 64 ≡ self.old.len }
+    pub(crate) fn drop_front(&mut self, count: usize)
+        requires within { (count ≤ self.old.len) × (count ≤ 128) }
+        requires few { self.old.len < count + 64 }
+        ensures rest { symbols_of self.new ≡ drop count (symbols_of self.old) }
+        ensures len { self.new.len + count ≡ self.old.len }
     {
-        let first = row(&self.bytes, 64);
-        let second = row(&self.bytes, 80);
-        let third = row(&self.bytes, 96);
-        let fourth = row(&self.bytes, 112);
+        let first = row(&self.bytes, count);
+        let second = row(&self.bytes, count + 16);
+        let third = row(&self.bytes, count + 32);
+        let fourth = row(&self.bytes, count + 48);
         put(&mut self.bytes, 0, first);
         put(&mut self.bytes, 16, second);
         put(&mut self.bytes, 32, third);
         put(&mut self.bytes, 48, fourth);
-        self.len -= 64;
+        self.len -= count;
     }
 
     /// Returns the last symbols, which are in no whole group, and after them bytes without meaning.

@@ -1,28 +1,26 @@
-use Rattle.std.proofs.Common.{◌+◌, ◌++◌, length, take, sym, ap, ◌∙◌, arith, length-take-le}
+use Rattle.std.proofs.Common.{◌≡◌, ◌+◌, true, length, take, sym, ap, ◌∙◌, arith, length-take-le}
 use Rattle.data_url.specs.Steps.Waiting.{symbols_of}
-use Rattle.data_url.proofs.forgiving_base64.Rows.{all_clear, all_more, front_kept, gains_same, only_spaces}
-use Rattle.data_url.proofs.forgiving_base64.Rows.{only_symbols, two_halves}
+use Rattle.std.proofs.lemmas.List.Folds.{list_all-append}
+use Rattle.std.specs.List.{list_all}
+use Rattle.data_url.specs.Base64.{is_symbol}
+use Rattle.data_url.proofs.forgiving_base64.Rows.{all_more, front_kept, gains_all, gains_same, only_spaces, two_halves}
 use Rattle.data_url.proofs.forgiving_base64.symbols.Symbols.add_row.Goals as goal
 
 pub invariant_of-self-clause-symbols : goal.invariant_of-self-clause-symbols
 invariant_of-self-clause-symbols c =
     let s = c.args.self.now in
-    let k = all_clear c.row-row.result (sym c.others-others.ensures.mask ∙ c.if-others-eq0.true) in
-    all_more (take s.len s.bytes) c.row-row.result _ s.symbols (c.put.ensures ∙ ap (λ l. take s.len s.bytes ++ l) k)
+    let row = c.row-row.result in
+    let all = sym c.are_symbols.ensures ∙ c.if-are_symbols.true in
+    all_more (take s.len s.bytes) row _ s.symbols (gains_all {q = take s.len s.bytes} {row = row} all c.put.ensures).added
 
-pub returns-then-others-eq0-clause-kept : goal.returns-then-others-eq0-clause-kept
-returns-then-others-eq0-clause-kept c =
+pub returns-then-are_symbols-clause-kept : goal.returns-then-are_symbols-clause-kept
+returns-then-are_symbols-clause-kept c =
     let s = c.args.self.now in
     front_kept s.len (s.len + 16) s.bytes _ _ (omega (arith, s.sized, s.within)) (omega arith) c.put.ensures
 
-pub returns-then-others-eq0-clause-added : goal.returns-then-others-eq0-clause-added
-returns-then-others-eq0-clause-added c same =
-    let q = symbols_of c.args.self.now in
-    let none = sym c.others-others.ensures.mask ∙ c.if-others-eq0.true in
-    gains_same c.row-row.ensures (record {
-      spaced = only_symbols c.row-row.result none;
-      added = c.put.ensures ∙ ap (λ l. q ++ l) (all_clear c.row-row.result none);
-    })
+pub returns-then-are_symbols-clause-added : goal.returns-then-are_symbols-clause-added
+returns-then-are_symbols-clause-added c same =
+    gains_same c.row-row.ensures (gains_all (sym c.are_symbols.ensures ∙ c.if-are_symbols.true) c.put.ensures)
 
 pub invariant_of-self-2-clause-symbols : goal.invariant_of-self-2-clause-symbols
 invariant_of-self-2-clause-symbols c =
