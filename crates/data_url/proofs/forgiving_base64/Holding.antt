@@ -408,21 +408,21 @@ module _ {F E : Type 0} (step : F → List ℕ → Result (Unit {0}) E → F →
   unfolding groups after_groups
   none_wait {d} {q} every none going is = grind (arith, adds_none)
 
-  -- a block of symbols and whitespace is read, and its symbols are held after those before
-  pub block_waits : {d : State F} (s : State F) (text q q' : List ℕ) (at : ℕ) → list_all is_symbol q ≡ true
-      → at + 64 ≤ length text → GainsSymbols q (take 64 (take (length text - at) (drop at text))) q' → s.padding ≡ 0
-      → Holds step d (take at text) (groups (map symbol_value q)) (waiting s q)
-      → Holds step d (take (at + 64) text) (groups (map symbol_value q')) (waiting s q')
-  block_waits {d} s text q q' at every within g is_p h =
+  -- n bytes, all symbols and whitespace, are read, and their symbols are held after those before
+  pub block_waits : {d : State F} (s : State F) (text q q' : List ℕ) (at n : ℕ) → list_all is_symbol q ≡ true
+      → 0 < n → at + n ≤ length text → GainsSymbols q (take n (take (length text - at) (drop at text))) q'
+      → s.padding ≡ 0 → Holds step d (take at text) (groups (map symbol_value q)) (waiting s q)
+      → Holds step d (take (at + n) text) (groups (map symbol_value q')) (waiting s q')
+  block_waits {d} s text q q' at n every some within g is_p h =
       let rest : take (length text - at) (drop at text) ≡ drop at text = take_rest text at in
-      let row = take 64 (drop at text) in
+      let row = take n (drop at text) in
       let allowed : list_all is_symbol_or_space row ≡ true = cc (g.spaced) in
-      let more : q' ≡ q ++ filter is_symbol row = g.added ∙ ap (λ t. q ++ filter is_symbol (take 64 t)) rest in
-      let size : length row ≡ 64 = length-take-le 64 (drop at text) (omega (arith, length-drop at text)) in
+      let more : q' ≡ q ++ filter is_symbol row = g.added ∙ ap (λ t. q ++ filter is_symbol (take n t)) rest in
+      let size : length row ≡ n = length-take-le n (drop at text) (omega (arith, length-drop at text)) in
       let P : List ℕ → Type 0 = λ t. Holds step d t (groups (map symbol_value q')) (waiting s q') in
       let Q : List ℕ → Type 0 = λ l. Holds step d (take at text ++ row) l (waiting s (q ++ filter is_symbol row)) in
       let R : List ℕ → Type 0 = λ l. Holds step d (take at text ++ row) (groups (map symbol_value l)) (waiting s l) in
-      subst P (sym (take-add at 64 text))
+      subst P (sym (take-add at n text))
       (subst R (sym more) (subst Q (sym (values_wait q (filter is_symbol row)))
       (holds_adds step h (row_adds s q row (every_list_all q every) allowed (omega (arith, size)) is_p h.going))))
 

@@ -258,9 +258,9 @@ where
         self.pending = symbols.len % 4;
     }
 
-    /// Feeds the blocks of 64 symbols and white space that a text begins with, and calls the closure with the groups of
-    /// 128 symbols at a time, as two pieces. The symbols after these are then in `symbols`. Returns how many bytes of
-    /// the text the blocks take.
+    /// Feeds the rows of symbols and white space that a text begins with, and calls the closure with the groups of 128
+    /// symbols at a time, as two pieces. The symbols after these are then in `symbols`. Returns how many bytes of the
+    /// text the rows take.
     #[inline(always)]
     fn feed_pairs(&mut self, text: &[u8], symbols: &mut Symbols) -> Result<usize, DecodeError<E>>
         requires callable { F.IsAlwaysCallable (state_of self.old).closure }
@@ -277,15 +277,18 @@ where
             (state_of self.new)) }
     {
         let mut at = 0;
-        while text.len() - at >= 64 && symbols.add_block(&text[at..]) {
-            at += 64;
+        loop {
+            let taken = symbols.add_some(&text[at..]);
+            if taken == 0 {
+                return Ok(at);
+            }
+            at += taken;
             if symbols.len >= 128 {
                 self.write(&symbols.decode(0))?;
                 self.write(&symbols.decode(64))?;
                 symbols.drop_front(128);
             }
         }
-        Ok(at)
     }
 
     /// If the next symbol begins a group, feeds the blocks of 64 symbols and white space that a text begins with. Calls

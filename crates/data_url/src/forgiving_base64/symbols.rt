@@ -69,6 +69,7 @@ impl Symbols {
         requires row { 16 ≤ length text.now }
         requires room { self.old.len < 176 }
         ensures few { (self.old.len ≤ self.new.len) × (self.new.len ≤ self.old.len + 16) }
+        ensures none { result ≡ false → self.new.len ≡ self.old.len }
         ensures kept { take self.old.len self.new.bytes ≡ symbols_of self.old }
         ensures added { result ≡ true → GainsSymbols (symbols_of self.old) (take 16 text.now) (symbols_of self.new) }
     {
@@ -111,7 +112,7 @@ impl Symbols {
 
     /// Adds the symbols of the first 64 bytes, if these are symbols and white space. Returns whether they are.
     #[inline(always)]
-    pub(crate) fn add_block(&mut self, text: &[u8]) -> bool
+    fn add_block(&mut self, text: &[u8]) -> bool
         requires block { 64 ≤ length text.now }
         requires room { self.old.len < 128 }
         ensures none { result ≡ false
@@ -124,6 +125,26 @@ impl Symbols {
             self.len = len;
         }
         is_spaced
+    }
+
+    /// Adds the symbols of the first 64 bytes or, if these are not symbols and white space, of the first 16. Returns how
+    /// many bytes they take: 64, 16 or 0.
+    #[inline(always)]
+    pub(crate) fn add_some(&mut self, text: &[u8]) -> usize
+        requires room { self.old.len < 128 }
+        ensures within { result ≤ length text.now }
+        ensures none { result ≡ 0
+            → (self.new.len ≡ self.old.len) × (symbols_of self.new ≡ symbols_of self.old) }
+        ensures added { 0 < result
+            → GainsSymbols (symbols_of self.old) (take result text.now) (symbols_of self.new) }
+    {
+        if text.len() >= 64 && self.add_block(text) {
+            64
+        } else if text.len() >= 16 && self.add_row(text) {
+            16
+        } else {
+            0
+        }
     }
 
     /// Returns the bytes of the groups of the 64 symbols from an index on, and if there are fewer, after them bytes
