@@ -1,11 +1,11 @@
 //! The body of a data: URL in pieces: slices of the input, and the values of escapes (URL Standard, section 1.3,
 //! percent-decode). Nothing is allocated.
 
-ghost use Rattle.std.specs.Prelude.{◌≡◌, ◌+◌, ◌*◌, ◌≤◌, ◌++◌, [], IfNone, IfSome, IsTrue, None, length};
+ghost use Rattle.std.specs.Prelude.{◌≡◌, ◌+◌, ◌*◌, ◌≤◌, ◌++◌, [], IfNone, IfSome, IsTrue, None, length, true};
 ghost use Rattle.std.specs.Option.{option_map};
 ghost use Rattle.data_url.specs.Pieces.{IsPiece, walk_at_front, bytes_of_next};
 ghost use Rattle.data_url.specs.Url.{after, number_sign};
-ghost use Rattle.data_url.specs.Steps.Chunks.{GivesBytes};
+ghost use Rattle.data_url.specs.Steps.Chunks.{GivesBytes, IsOneSlice};
 ghost use Rattle.data_url.specs.Steps.Tail.{IsBodyEnd};
 
 mod cursor;
@@ -16,6 +16,8 @@ mod source;
 
 use cursor::Cursor;
 pub(crate) use cursor::ROOM;
+use lanes::BLOCK;
+use source::last_marks;
 use std::marker::Model;
 use std::mem::replace;
 
@@ -118,4 +120,16 @@ impl<'a> Pieces<'a> {
     {
         self.cursor.place()
     }
+}
+
+/// Returns whether a text is known to be a body of one slice: it has 1 to 63 bytes, and none is a tab, a newline, `%` or
+/// `#`.
+pub(crate) fn is_one_slice(text: &str) -> bool
+    ensures { result ≡ true → IsOneSlice text.now }
+{
+    let len = text.len();
+    if len == 0 || len >= BLOCK {
+        return false;
+    }
+    last_marks(text.as_bytes()) == 0
 }

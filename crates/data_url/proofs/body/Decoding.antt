@@ -12,7 +12,7 @@ use Rattle.std.specs.Option.{option_or}
 use Rattle.std.specs.Result.{result_err}
 use Rattle.data_url.specs.Fetch.{Good, outcome_bytes, plain_body, Bad, outcome, Outcome, tail_of}
 use Rattle.data_url.specs.Pieces.{Walk}
-use Rattle.data_url.specs.Steps.Chunks.{GivesBytes, IsCallableUntilError, Takes, TakesBody}
+use Rattle.data_url.specs.Steps.Chunks.{IsOneSlice, GivesBytes, IsCallableUntilError, Takes, TakesBody}
 use Rattle.data_url.specs.Steps.Tail.{IsBodyEnd}
 use Rattle.data_url.specs.DataUrl.{Decodes, HandsOut, IsUrlOf, url_body, url_tail}
 use Rattle.data_url.specs.declared.forgiving_base64.DecodeError.TheVariants.{WriteError, InvalidBase64}
@@ -73,6 +73,26 @@ module _ {F E : Type 0} (step : F → List ℕ → Result (Unit {0}) E → F →
         calls = omega arith;
         body = cc (append_assoc (joined_pieces k.run) bytes w'.rest, append-nil bytes, joined_pieces-append k.run call);
       }
+
+  -- a closure that was called with a body of one slice took it
+  pub slice_taken : {f g : F} {text : List ℕ} (s : Result (Unit {0}) E) {r : Result ℕ E} → IsOneSlice text
+      → step f text s g → MatchResult s (λ u. r ≡ Ok (length text)) (λ e. r ≡ Err e) → TakesBody step f text r g
+  slice_taken {f} {g} {text} (Ok tt) {r} one s m =
+      let T : Result ℕ E → Type 0 = λ x. TakesBody step f text x g in
+      subst T (sym m) (record {
+        run = record { piece = text; answer = Ok tt; after = g } ∷ [];
+        ran = (s, λ e. refl, refl);
+        calls = one.some;
+        gave = (one.ends, refl, one.body_is ∙ sym (append-nil text));
+      })
+  slice_taken {f} {g} {text} (Err e) {r} one s m =
+      let T : Result ℕ E → Type 0 = λ x. TakesBody step f text x g in
+      subst T (sym m) (record {
+        run = record { piece = text; answer = Err e; after = g } ∷ [];
+        ran = (s, λ e. refl, refl);
+        calls = one.some;
+        gave = (refl, ([], one.body_is ∙ sym (ap (λ l. l ++ []) (append-nil text) ∙ append-nil text)));
+      })
 
   -- if the walk takes bytes, and the closure returns an error for them, the closure took the body, with that error
   pub going_refused : {f g h : F} {text bytes : List ℕ} {w w' : Walk} (e : E) → Going f text w g → Takes w bytes w'

@@ -1,19 +1,19 @@
 -- The steps of a walk, its pieces, and the bytes that it gathers. For `Cursor` and `Pieces`.
 use Rattle.std.proofs.Common.{◌≡◌, ℕ, zero, suc, ◌+◌, ◌-◌, ◌<◌, ◌≤◌, true, false, List, [], ◌∷◌, ◌++◌, length, take}
 use Rattle.std.proofs.Common.{drop, get_or, None, Some, refl, sym, ap, ◌∙◌, subst, inl, inr, arith, length-append}
-use Rattle.std.proofs.Common.{eqb-true, Bool, not, ◌||◌, ◌≢◌, Option, ◌*◌, cond, set, append_assoc}
+use Rattle.std.proofs.Common.{map, eqb-true, Bool, not, ◌||◌, ◌≢◌, Option, ◌*◌, cond, set, append_assoc}
 use Rattle.std.specs.Prelude.{◌==◌, slice_range, IfNone}
 use Rattle.std.proofs.lemmas.Bool.{cases_Bool}
-use Rattle.std.proofs.lemmas.List.{drop_more, drop-drop, length-drop, drop_all, append-nil, take_more_set}
+use Rattle.std.proofs.lemmas.List.{take_all, drop_more, drop-drop, length-drop, drop_all, append-nil, take_more_set}
 use Rattle.std.proofs.lemmas.List.{length-take-le, append_cancel_right, take-append-drop}
 use Rattle.data_url.specs.Pieces.{text_of, IsEscape, IsPiece, IsStretch, bytes_of, has_ended, is_slice_end, walk_of}
 use Rattle.data_url.specs.Steps.Walk.{IsClear, Reads, Ended, EscapeAt, IsPassed, KeepsBlock, LonePercent, Looking}
 use Rattle.data_url.specs.Steps.Walk.{GoesOn, IsNextMark, Knows, KnowsAhead, LooksOn, Stays, Gathers, MayGather, Moves}
 use Rattle.data_url.specs.Url.{before, after, front, without_tabs_and_newlines}
 use Rattle.data_url.proofs.escapes.Reading.{paid_byte, paid_le, paid_percent, reads_clear, reads_escape, reads_passed}
-use Rattle.data_url.proofs.escapes.Reading.{reads_percent, reads_then, ends_empty, has_escape, HasEscape, percent_nil}
+use Rattle.data_url.proofs.escapes.Reading.{body_nil, reads_percent, reads_then, ends_empty, has_escape, HasEscape, percent_nil}
 use Rattle.data_url.proofs.percent.Encoding.{decoded_escape}
-use Rattle.data_url.proofs.escapes.Marks.{looking_clear}
+use Rattle.data_url.proofs.escapes.Marks.{HasMarks, found_none, looking_clear}
 use Rattle.data_url.proofs.texts.Bytes.{before_all, after_nil, after_other, after_same, dropped_keeps, dropped_nil}
 use Rattle.data_url.proofs.texts.Bytes.{dropped_passes, is_cut, without_tabs_and_newlines-append}
 use Rattle.data_url.specs.Steps.Digits.{DigitsFound}
@@ -25,7 +25,9 @@ use Rattle.data_url.specs.declared.escapes.Piece.TheVariants.{Byte, Slice}
 use Rattle.data_url.specs.declared.escapes.cursor.Ahead.{Ahead}
 use Rattle.data_url.specs.declared.escapes.cursor.Ahead.TheVariants.{AfterEscape, End, Escape, Unknown}
 use Rattle.data_url.specs.Fetch.{plain_body}
-use Rattle.data_url.specs.Steps.Chunks.{IsOver, Takes}
+use Rattle.data_url.specs.Steps.Chunks.{IsOneSlice, IsOver, Takes}
+use Rattle.data_url.specs.Steps.Window.{is_marked}
+use lib.Lanes.{mask_l}
 use Rattle.std.proofs.Math.Bool.{or-true}
 
 -- Stretches of a text between two places: joined, skipped, without tabs and newlines, and before the first '#'.
@@ -449,6 +451,33 @@ begun_fragment (b ∷ s) h = ap (λ v. after 35 (v ∷ s)) h ∙ after_same 35 s
 -- where a walk ends, the body of its text ends
 pub body_end : {c : Cursor} → Knows c → Ended c c.place → IsBodyEnd (text_of c) c.place
 body_end {c} k h = grind (arith, begun_fragment)
+
+-- fewer than 64 bytes without a mark are a body of one slice
+pub one_slice : (text : List ℕ) → 0 < length text → length text < 64 → mask_l (map is_marked text) ≡ 0 → IsOneSlice text
+one_slice text some short none =
+    let n = length text in
+    let marks : HasMarks text 0 n (mask_l (map is_marked text)) = record {
+      within = omega arith;
+      forward = omega arith;
+      short = omega arith;
+      marks_are = ap (λ l. mask_l (map is_marked l)) (sym (take_all (n - 0) text (omega arith)));
+    } in
+    let reads = reads_clear {text = text} {from = 0} {to = n} (omega arith) (omega arith) (found_none marks none) in
+    let nothing : drop n text ≡ [] = drop_all n text (omega arith) in
+    let P : List ℕ → Type 0 = λ l. BeginsFragment l in
+    record {
+      some = some;
+      body_is = reads.body
+          ∙ ap (λ l. take (n - 0) text ++ plain_body l) nothing
+          ∙ ap (λ l. take (n - 0) text ++ l) body_nil
+          ∙ append-nil (take (n - 0) text)
+          ∙ take_all (n - 0) text (omega arith);
+      ends = record {
+        within = omega arith;
+        begins = subst P (sym nothing) tt;
+        after_is = reads.after_is ∙ ap (after 35) nothing ∙ after_nil 35 ∙ ap rest_fragment (sym nothing);
+      };
+    }
 
 -- a walk that is at the end of its text has no fragment
 pub no_fragment : {c : Cursor} → Knows c → c.place ≡ length (text_of c)

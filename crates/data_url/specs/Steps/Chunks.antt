@@ -26,6 +26,12 @@ pub record IsOver (w w' : Walk) : Type 0 where
 abbrev pub GivesBytes : Walk → Option (Bor (List ℕ)) → Walk → Type 0
 GivesBytes w given w' = MatchOption given (IsOver w w') (λ bytes. Takes w bytes.now w')
 
+-- the text has a byte, and is a body as it is, without a fragment
+pub record IsOneSlice (text : List ℕ) : Type 0 where
+  pub some : 0 < length text
+  pub body_is : plain_body text ≡ text
+  pub ends : IsBodyEnd text (length text)
+
 -- after calls that return no error, the closure f may be called with any bytes
 abbrev pub IsCallableUntilError : {F E : Type 0} → Mut F (Bor (List ℕ) × Unit {0}) (Result (Unit {0}) E)
     → F → Type 0

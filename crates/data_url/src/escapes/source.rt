@@ -130,7 +130,7 @@ impl<'a> Source<'a> {
 
 /// Returns the marks of fewer than 64 bytes.
 #[inline(never)]
-fn last_marks(rest: &[u8]) -> u64
+pub(super) fn last_marks(rest: &[u8]) -> u64
     requires { length rest.now < 64 }
     ensures { result ≡ mask_l (map is_marked rest.now) }
 {
