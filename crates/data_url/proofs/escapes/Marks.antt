@@ -313,6 +313,4 @@ stays_then h k = grind arith
 -- the walk can go on after its block, if no mark is left in it
 pub looked_to : {c : Cursor} {from : ℕ} (to : ℕ) → Looking c from 0 → from ≤ c.seen → to ≡ c.seen
     → IsClear (text_of c) from c.seen → Looking c to 0 × IsClear (text_of c) from to
-looked_to {c} {from} to k l e h =
-    let P : ℕ → Type 0 = λ p. Looking c p 0 × IsClear (text_of c) from p in
-    subst P (sym e) (looking_clear c.seen k l k.block.seen_le h, h)
+looked_to {c} {from} to k l e h = grind (arith, looking_clear c.seen k l k.block.seen_le h)

@@ -1,7 +1,7 @@
 -- The steps of a walk, its pieces, and the bytes that it gathers. For `Cursor` and `Pieces`.
-use Rattle.std.proofs.Common.{◌≡◌, ℕ, zero, suc, ◌+◌, ◌-◌, ◌<◌, ◌≤◌, true, false, List, [], ◌∷◌, ◌++◌, length, take}
+use Rattle.std.proofs.Common.{◌≡◌, ℕ, zero, suc, ◌+◌, ◌-◌, ◌<◌, ◌≤◌, true, List, [], ◌∷◌, ◌++◌, length, take}
 use Rattle.std.proofs.Common.{drop, get_or, None, Some, refl, sym, ap, ◌∙◌, subst, inl, inr, arith, length-append}
-use Rattle.std.proofs.Common.{map, eqb-true, Bool, not, ◌||◌, ◌≢◌, Option, ◌*◌, cond, set, append_assoc}
+use Rattle.std.proofs.Common.{map, eqb-true, Bool, not, ◌≢◌, Option, ◌*◌, cond, set, append_assoc}
 use Rattle.std.specs.Prelude.{◌==◌, slice_range, IfNone}
 use Rattle.std.proofs.lemmas.Bool.{cases_Bool}
 use Rattle.std.proofs.lemmas.List.{take_all, drop_more, drop-drop, length-drop, drop_all, append-nil, take_more_set}
@@ -28,7 +28,6 @@ use Rattle.data_url.specs.Fetch.{plain_body}
 use Rattle.data_url.specs.Steps.Chunks.{IsOneSlice, IsOver, Takes}
 use Rattle.data_url.specs.Steps.Window.{is_marked}
 use lib.Lanes.{mask_l}
-use Rattle.std.proofs.Math.Bool.{or-true}
 
 -- Stretches of a text between two places: joined, skipped, without tabs and newlines, and before the first '#'.
 
@@ -56,16 +55,11 @@ taken_twice (suc n) m (x ∷ xs) = let e : suc (n + m) ≡ suc n + m = omega ari
 -- two ranges, of which the second begins where the first ends, are one range
 pub slice_join : (text : List ℕ) (a b c : ℕ) → a ≤ b → b ≤ c → slice_range text a b ++ slice_range text b c
     ≡ slice_range text a c
-slice_join text a b c l h =
-    let e : a + (b - a) ≡ b = omega arith in
-    let n : b - a + (c - b) ≡ c - a = omega arith in
-    cc (drop-drop (b - a) a text, taken_twice (b - a) (c - b) (drop a text))
+slice_join text a b c l h = grind (arith, drop-drop (b - a) a text, taken_twice (b - a) (c - b) (drop a text))
 
 -- a range, and then the text after it, is the text from the start of the range on
 slice_rest : (text : List ℕ) (a b : ℕ) → a ≤ b → slice_range text a b ++ drop b text ≡ drop a text
-slice_rest text a b l =
-    let e : a + (b - a) ≡ b = omega arith in
-    cc (drop-drop (b - a) a text, take-append-drop (b - a) (drop a text))
+slice_rest text a b l = grind (arith, drop-drop (b - a) a text, take-append-drop (b - a) (drop a text))
 
 -- Tabs and newlines
 
@@ -104,10 +98,7 @@ without_tabs_then text a b c l m h k = cc (kept_then text a b c l m, slice_join 
 -- n bytes without marks have no tab or newline
 without_tabs_for : (text : List ℕ) (from n : ℕ) → from + n ≤ length text → IsClear text from (from + n)
     → IsWithoutTabs text from (from + n)
-without_tabs_for text from zero l h =
-    let P : ℕ → Type 0 = λ to. IsWithoutTabs text from to in
-    let e : from ≡ from + zero = omega arith in
-    subst P e (without_tabs_none text from)
+without_tabs_for text from zero l h = grind (arith, without_tabs_none text from)
 without_tabs_for text from (suc n) l h =
     search (
       arith,
@@ -135,11 +126,7 @@ after_first b s h = let e : b ≡ 35 = eqb-true b 35 h in ap (λ c. after 35 (c 
 
 -- what follows the first '#' is shorter than the text
 after_shorter : (s rest : List ℕ) → after 35 s ≡ Some rest → length rest < length s
-after_shorter s rest h =
-    let cut = is_cut 35 s rest h in
-    let e = ap length cut.joined in
-    let l = length-append (before 35 s) (35 ∷ rest) in
-    omega arith
+after_shorter s rest h = grind (arith, is_cut 35 s rest h, length-append (before 35 s) (35 ∷ rest))
 
 -- if the same text follows the first '#' of a text and of its end, there is no '#' before that end
 none_before : (n : ℕ) (s : List ℕ) → after 35 s ≡ after 35 (drop n s) → after 35 (take n s) ≡ None
@@ -267,10 +254,7 @@ on_then h k = grind arith
 stretch_on : {text : List ℕ} {place from to : ℕ} → Reads text place from (slice_range text place from)
     → Reads text from to (slice_range text from to) → Reads text place to (slice_range text place to)
 stretch_on {text} {place} {from} {to} a b =
-    let f = a.few in
-    let g = b.few in
-    let P : List ℕ → Type 0 = λ s. Reads text place to s in
-    subst P (slice_join text place from to (omega arith) (omega arith)) (reads_then a b)
+    grind (arith, slice_join text place from to (omega arith) (omega arith), reads_then a b)
 
 -- a search that finds the next mark reaches it
 pub reached : {c0 c c1 c2 : Cursor} {from mark : ℕ} → Searching c0 c from → IsNextMark (text_of c) from mark
@@ -315,9 +299,6 @@ slice_piece : {c0 c : Cursor} {mark to : ℕ} {bytes : List ℕ} → Reached c0 
     → Reads (text_of c0) mark to [] → IsSkipped (text_of c0) mark to → bytes ≡ slice_range (text_of c) c.place mark
     → is_slice_end (drop mark (text_of c0)) ≡ true → IsStretch (text_of c0) c0.place to bytes
 slice_piece {c0} {c} {mark} {to} {bytes} r n after skipped e h =
-    let a = r.passed.few in
-    let b = r.stretch.few in
-    let l = after.few in
     grind (
       arith,
       in_front r.stretch,
@@ -380,16 +361,12 @@ escape_piece {text} {from} {place} {value} {end} l skipped q =
 pub slice_escape : {c0 c : Cursor} {mark value end : ℕ} (p : Piece) → Reached c0 c mark
     → EscapeAt (text_of c) mark value end → mark ≢ c.place → IsCut c0 c mark p
     → GoesOn c0 (Some p) (record c { place = mark; ahead = Escape value end })
-slice_escape {c0} {c} {mark} {value} {end} p r h n cut =
-    let ends : is_slice_end (drop mark (text_of c0)) ≡ true =
-    sym (ap (λ t. is_slice_end (drop mark t)) r.on.text_stays) ∙ escape_ends h in
-    grind (arith, slice_piece, skipped_none)
+slice_escape {c0} {c} {mark} {value} {end} p r h n cut = grind (arith, escape_ends h, slice_piece, skipped_none)
 
 -- the stretch up to the end of the body is a piece, and the walk ends
 pub slice_end : {c0 c : Cursor} {mark : ℕ} (p : Piece) → Reached c0 c mark → Ended c mark → mark ≢ c.place
     → IsCut c0 c mark p → GoesOn c0 (Some p) (record c { place = mark; ahead = End })
-slice_end {c0} {c} {mark} p r h n cut =
-    grind (arith, slice_piece, skipped_none)
+slice_end {c0} {c} {mark} p r h n cut = grind (arith, slice_piece, skipped_none)
 
 -- an escape at the index of the walk is a piece, and the walk goes on after it
 pub byte_here : {c0 c : Cursor} {mark value end : ℕ} → Reached c0 c mark → EscapeAt (text_of c) mark value end
@@ -512,8 +489,7 @@ ahead_is c a e k = let P : Ahead → Type 0 = λ x. KnowsAhead c x in subst P (s
 -- what is gathered in two steps, one after the other, is gathered in both together
 pub gathers_then : {c c1 c2 : Cursor} {room room1 room2 : List ℕ} {len len1 len2 : ℕ} → Gathers c c1 room room1 len len1
     → Gathers c1 c2 room1 room2 len1 len2 → Gathers c c2 room room2 len len2
-gathers_then {c} {c1} {c2} {room} {room1} {room2} {len} {len1} {len2} g h =
-    grind (arith, length-append, append_assoc)
+gathers_then {c} {c1} {c2} {room} {room1} {room2} {len} {len1} {len2} g h = grind (arith, length-append, append_assoc)
 
 -- one byte is appended to the buffer
 pub gathers_byte : {c c' : Cursor} {room : List ℕ} {len b : ℕ} → LooksOn c c'
@@ -562,8 +538,7 @@ pub record Went (c c1 c' : Cursor) (place : ℕ) : Type 0 where
 -- a walk that goes on after an escape appends its value
 pub gathers_value : {c c1 c' : Cursor} {room : List ℕ} {len value end : ℕ} → Went c c1 c' end
     → EscapeAt (text_of c1) c.place value end → len < length room → Gathers c c' room (set room len value) len (len + 1)
-gathers_value {c} {c1} {c'} {room} {len} {value} {end} w p l =
-    grind (arith, gathers_byte, reads_escape)
+gathers_value {c} {c1} {c'} {room} {len} {value} {end} w p l = grind (arith, gathers_byte, reads_escape)
 
 -- the walk goes on in its block, if there is no mark before a place
 pub may_at : {c : Cursor} {len : ℕ} (width : ℕ) → MayGather c len → c.place < c.seen → c.place + width ≤ c.seen
@@ -634,11 +609,7 @@ piece_some {p} {c} {c'} g = some_bytes p (text_of c) c.place c'.place g.reads.wi
 pub again : (next : Option Piece) {c c' : Cursor} → Knows c → GoesOn c next c' → has_ended c.ahead ≡ true → next ≡ None
 again None k g e = refl
 again (Some p) {c} {c'} k g e =
-    let some = piece_some g in
-    let none : bytes_of p ++ plain_body (drop c'.place (text_of c)) ≡ [] = sym g.reads.body ∙ rest_over k e in
-    let l = ap length none in
-    let a = length-append (bytes_of p) (plain_body (drop c'.place (text_of c))) in
-    absurd (omega arith)
+    grind (arith, piece_some g, rest_over k e, length-append (bytes_of p) (plain_body (drop c'.place (text_of c))))
 
 -- whatever a walk knows about its index, it has read at most three times as many bytes as its text has
 looks_cases : (c : Cursor) (a : Ahead) → KnowsAhead c a → c.source.looks ≤ 3 * length (text_of c)

@@ -288,8 +288,7 @@ module _ {F E : Type 0} (step : F → List ℕ → Result (Unit {0}) E → F →
       → 1 ≤ length t → Adds d t group d1 → CallsOnce step d1 group r d2 → Feeds step d t r d2
   unfolding holds_from
   group_feeds group some a w =
-      let none : length (holds_from step a).run ≡ 0 = refl in
-      written_feeds step (holds_from step a) (omega arith) w
+      grind (arith, holds_from step a, written_feeds step (holds_from step a) (omega arith) w)
 
   -- the bytes that are held stay if the next byte is a fault
   pub stays_holds : {d d1 d2 : State F} {t held held' : List ℕ} {c : ℕ} {kind : Kind} → Holds step d t held d1

@@ -1,7 +1,7 @@
 -- The definitions of base64, read byte by byte: padding, faults and valid texts.
 use Rattle.std.proofs.Common.{◌≡◌, ℕ, suc, zero, ◌+◌, Bool, true, false, not, cond, ◌&&◌, ◌||◌, List, [], ◌∷◌, ◌++◌}
 use Rattle.std.proofs.Common.{length, take, get_or, replicate, Option, None, Some, refl, ap, sym, ◌∙◌, inl, inr}
-use Rattle.std.proofs.Common.{append_assoc, ◌<◌, ◌≤◌, arith, ◌%◌, eqb, length-append, map, is_some, subst}
+use Rattle.std.proofs.Common.{append_assoc, ◌<◌, ◌≤◌, arith, ◌%◌, eqb, length-append, map, is_some}
 use Rattle.std.specs.List.{filter, find, list_any, range_with_len, list_all}
 use Rattle.std.proofs.lemmas.List.{append-nil, get_or_at, take_at, length_push, length-replicate}
 use Rattle.std.proofs.lemmas.List.Folds.{list_any-append}
@@ -14,7 +14,7 @@ use Rattle.data_url.specs.declared.forgiving_base64.InvalidBase64Details.TheVari
 use Rattle.data_url.specs.declared.forgiving_base64.InvalidBase64Details.TheVariants.{LoneAlphabetSymbol, Padding}
 use Rattle.data_url.specs.declared.forgiving_base64.InvalidBase64Details.TheVariants.{UnexpectedSymbol}
 use Rattle.data_url.specs.Mime.{Every}
-use Rattle.std.proofs.Math.Bool.{or-false, or_assoc, or-true}
+use Rattle.std.proofs.Math.Bool.{or-false, or_assoc}
 use Rattle.data_url.specs.Facts.{IsFirstFault, Fits, IsSymbolsAndPadding, PaddingFits}
 use Rattle.std.proofs.lemmas.List.Elements.{filter-append}
 use Rattle.std.specs.Char.{is_ascii_whitespace}
@@ -445,10 +445,7 @@ from_fits k p (inr (inr (z, n))) = rw z (eq-eqb (k % 4) 2 n)
 
 -- a text of symbols and padding is valid exactly if their numbers fit
 pub padding_fits : (b : List ℕ) → PaddingFits b
-padding_fits b q p h = (
-  λ v. fits_from (length q) p (sym (symbols_pads_valid b q p h) ∙ v),
-  λ f. cc (symbols_pads_valid b q p h, from_fits (length q) p f),
-)
+padding_fits b q p h = grind (arith, symbols_pads_valid b q p h)
 
 -- The definitions of base64, as a walk that remembers whether it has seen padding.
 
@@ -462,13 +459,7 @@ whitespace_low c e = grind arith
 
 -- a whitespace byte is neither padding nor a symbol
 at_space : (c : ℕ) → is_ascii_whitespace c ≡ true → Class true (is_pad c) (is_symbol c)
-at_space c e =
-    let low : c < 33 = whitespace_low c e in
-    let pad : is_pad c ≡ false = cc (agree_below_at (λ c. is_ascii_whitespace c && is_pad c) (λ c. false) 33 c refl
-    low) in
-    let symbol : is_symbol c ≡ false = cc (agree_below_at (λ c. is_ascii_whitespace c && is_symbol c) (λ c. false) 33
-    c refl low) in
-    subst (λ y. Class true y (is_symbol c)) (sym pad) (subst (λ z. Class true false z) (sym symbol) of_space)
+at_space c e = grind (arith, whitespace_low, agree_below_at, of_space)
 
 -- a byte that is neither whitespace nor '=' is in at most one class
 at_symbol : (z : Bool) → Class false false z
@@ -477,14 +468,7 @@ at_symbol false = of_none
 
 -- each byte is in at most one of the classes whitespace, '=' and symbol
 pub classes : (c : ℕ) → Class (is_ascii_whitespace c) (is_pad c) (is_symbol c)
-classes c =
-    elim (is_ascii_whitespace c) as (λ x. is_ascii_whitespace c ≡ x → Class x (is_pad c) (is_symbol c)) [
-      | true ↦ λ e. at_space c e
-      | false ↦ λ e. elim (is_pad c) as (λ y. is_pad c ≡ y → Class false y (is_symbol c)) [
-        | true ↦ λ f. rw (eqb-true c 61 f) of_pad
-        | false ↦ λ f. at_symbol (is_symbol c)
-      ] refl
-    ] refl
+classes c = grind (arith, at_space, eqb-true, of_pad, at_symbol)
 
 -- the byte at the first fault; there may be padding before the text
 unfoldable pub fault_byte : Bool → List ℕ → Option ℕ
@@ -676,11 +660,7 @@ Cut-more c s u pad = pad
 cut_is : (s : List ℕ) → Cut s (without_last_padding s)
 unfolding without_last_padding
 cut_is [] = same
-cut_is (a ∷ []) = elim (is_pad a) as (λ v. is_pad a ≡ v → Cut (a ∷ []) (cond v [] (a ∷ []))) [
-  | true ↦
-      λ e. rw (eqb-true a 61 e) (pad {s = []})
-  | false ↦ λ e. same
-] refl
+cut_is (a ∷ []) = grind (arith, pad {s = []}, same)
 cut_is (a ∷ b ∷ t) = Cut-more a (b ∷ t) (without_last_padding (b ∷ t)) (cut_is (b ∷ t))
 
 -- symbols without their padding have no fault

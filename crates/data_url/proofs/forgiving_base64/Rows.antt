@@ -17,7 +17,6 @@ use Rattle.std.proofs.lemmas.Simd.{get_or-swz_l_below, length-swz_l, mask_l-lt, 
 use Rattle.std.proofs.lemmas.Simd.{tops_compared, zip2_of_maps}
 use lib.Lanes.{Each1, mask_l, top, zip2}
 use Rattle.data_url.specs.Base64.{after_groups, groups, is_symbol, symbol_value}
-use Rattle.data_url.specs.Mime.{Every}
 use Rattle.data_url.specs.Steps.Blocks.{DecodesFront, GainsSymbols, clear, is_symbol_or_space}
 use Rattle.data_url.specs.Steps.Lanes.{value_of}
 use Rattle.data_url.specs.declared.forgiving_base64.places.TheConstants.{CLEAR_PLACES}
@@ -235,10 +234,7 @@ only_spaces (b ∷ v) e = let p = first_bits (is_symbol b) (is_ascii_whitespace 
 
 -- the symbols of a row of symbols are the row
 pub gains_all : {q row q' : List ℕ} → list_all is_symbol row ≡ true → q' ≡ q ++ row → GainsSymbols q row q'
-gains_all {q} {row} all e = record {
-  spaced = symbols_alone row all;
-  added = e ∙ ap (λ l. q ++ l) (sym (filter_all is_symbol row (every_list_all row all)));
-}
+gains_all {q} {row} all e = grind (arith, symbols_alone, filter_all, every_list_all)
 
 -- Symbols that were appended
 
@@ -281,16 +277,11 @@ moved old b1 b2 b3 b4 w x y z count len many p q r s d e f g =
 
 -- the symbols of x, and then those of y, are the symbols of x ++ y
 gains_both : {q r s x y : List ℕ} → GainsSymbols q x r → GainsSymbols r y s → GainsSymbols q (x ++ y) s
-gains_both {q} {r} {s} {x} {y} g h = record {
-  spaced = list_all-append is_symbol_or_space x y ∙ ap₂ (λ s t. s && t) g.spaced h.spaced;
-  added = cc (g.added, h.added, filter-append is_symbol x y, append_assoc q (filter is_symbol x) (filter is_symbol y));
-}
+gains_both {q} {r} {s} {x} {y} g h = grind (arith, list_all-append, filter-append, append_assoc)
 
 -- a list that is equal to the row has the same symbols
 pub gains_same : {q r x y : List ℕ} → x ≡ y → GainsSymbols q x r → GainsSymbols q y r
-gains_same {q} {r} e g =
-    let P : List ℕ → Type 0 = λ l. GainsSymbols q l r in
-    subst P e g
+gains_same {q} {r} e g = grind (arith)
 
 -- the symbols of four rows, one row at a time, are those of their 64 bytes
 pub four_rows : (text : List ℕ) {r1 r2 r3 q0 q1 q2 q3 q4 : List ℕ} → r1 ≡ drop 16 text → r2 ≡ drop 32 text
@@ -384,12 +375,7 @@ front_is s bytes len long within all e m a b =
 pub front_from : (s bytes : List ℕ) (len from : ℕ) → length s ≡ 208 → len < 192 → from ≤ 64
     → list_all is_symbol (take len s) ≡ true → bytes ≡ groups (map value_of (take 64 (drop from s)))
     → DecodesFront (drop from (take len s)) bytes
-front_from s bytes len from long few early all e =
-    let P : List ℕ → Type 0 = λ l. DecodesFront l bytes in
-    let size = length-drop from s in
-    subst P (sym (drop_taken from len s))
-    (front_is (drop from s) bytes (len - from) (omega arith) (omega arith)
-    (ap (list_all is_symbol) (sym (drop_taken from len s)) ∙ all_after from (take len s) all) e)
+front_from s bytes len from long few early all e = grind (arith, length-drop, drop_taken, front_is, all_after)
 
 -- all groups of fewer than 64 symbols
 pub groups_front : (q bytes : List ℕ) → length q < 64 → DecodesFront q bytes

@@ -102,8 +102,7 @@ module _ (q : List ℕ) (p : ℕ) (every : Every is_symbol q) where
 
   -- q and p times '=' are valid exactly if p fits the number of symbols
   pub valid_left : is_valid (left_text q p) ≡ fits_with (length q % 4) p
-  valid_left =
-      grind (arith, no_fault_valid, fault_text, symbols_of_text, pads_of_text)
+  valid_left = grind (arith, no_fault_valid, fault_text, symbols_of_text, pads_of_text)
 
   -- q and p times '=' decode to the bytes of the groups of q and those of the values after them
   pub decoded_left : decoded (left_text q p) ≡ groups (map symbol_value q) ++ rest_bytes
@@ -284,9 +283,7 @@ module _ {F : Type 0} where
   -- d reads a '=': it counts it, up to three
   pub adds_pad : {d d' : State F} (c : ℕ) → c ≡ 61 → Every is_symbol d.symbols → length d.symbols ≤ 3 → d.failed ≡ false
       → d' ≡ record d { padding = min (d.padding + 1) 3 } → Adds d (c ∷ []) [] d'
-  adds_pad {d} {d'} c e every few going same =
-      let P : ℕ → Type 0 = λ x. Adds d (x ∷ []) [] d' in
-      subst P (sym e) (adds_equals every few going same)
+  adds_pad {d} {d'} c e every few going same = grind (arith, adds_equals every few going same)
 
   -- the fourth symbol completes a group
   pub adds_group : {d d' : State F} (x y z c : ℕ) (group : List ℕ) → Every is_symbol d.symbols
@@ -404,9 +401,7 @@ pub record Took {F : Type 0} (u bytes : List ℕ) (d : State F) : Type 0 where
 -- with or without a fault in u, the complete bytes of u are a prefix of those of u ++ b
 done_cases : (u b : List ℕ) (o : Option ℕ) → fault_byte false u ≡ o
     → IsPrefix (complete_bytes u) (complete_bytes (u ++ b))
-done_cases u b None h =
-    let g = two_feeds u b (none_fault u h) in
-    (complete_bytes (left_text (left_symbols u) (left_padding u) ++ b), g.done_is)
+done_cases u b None h = grind (arith, two_feeds u b (none_fault u h), none_fault u h)
 done_cases u b (Some c) h = prefix_all (complete_bytes u) (complete_bytes (u ++ b)) (sym (done_stays u b c h))
 
 -- the complete bytes of a text are a prefix of those of a longer text
@@ -438,9 +433,7 @@ left_over_is {d = d} u h = grind arith
 -- decoding b after a text without a fault is the same as decoding it after what is left over of the text
 pub left_goes_on : {F : Type 0} {d : State F} (u b : List ℕ) → first_fault u ≡ None → IsLeft u d
     → GoesOn u b (left_over d ++ b)
-left_goes_on u b none left =
-    let G : List ℕ → Type 0 = λ w. GoesOn u b (w ++ b) in
-    subst G (sym (left_over_is u left)) (two_feeds u b none)
+left_goes_on u b none left = search (arith, left_over_is, left, two_feeds)
 
 module _ {F E : Type 0} (step : F → List ℕ → Result (Unit {0}) E → F → Type 0) where
   -- if feeding a returns `Ok`, no call returned an error, and the closure got all complete bytes
@@ -490,6 +483,4 @@ module _ {F E : Type 0} (step : F → List ℕ → Result (Unit {0}) E → F →
   -- if feeding the first i bytes of s returns an error, feeding s returns it
   pub feeds_stop : {d d' : State F} {x : DecodeError E} (s : List ℕ) (i : ℕ) → Feeds step d (take i s) (Err x) d'
       → Feeds step d s (Err x) d'
-  feeds_stop {d} {d'} {x} s i f =
-      let P : List ℕ → Type 0 = λ t. Feeds step d t (Err x) d' in
-      subst P (take-append-drop i s) (feeds_err (drop i s) f)
+  feeds_stop {d} {d'} {x} s i f = grind (arith, take-append-drop i s, feeds_err (drop i s) f)

@@ -1,7 +1,7 @@
 -- Blocks of 64 symbols in vectors. For `blocks.rt` and `lanes.rt`.
 use Rattle.std.proofs.Common.{◌≡◌, ℕ, ◌<◌, ltb, true, false, cond, eqb, get_or, refl, sym, ◌∙◌, arith, suc, zero, ◌+◌}
 use Rattle.std.proofs.Common.{◌*◌, ◌/◌, ◌%◌, ◌^◌, Bool, not, List, [], ◌∷◌, ◌++◌, map, length, take, replicate, Fits}
-use Rattle.std.proofs.Common.{w8, ap, ap₂, subst, ◌≤◌, ◌&&◌, drop, bit_or, inl, inr, append_assoc, length-take-le}
+use Rattle.std.proofs.Common.{w8, ap, ap₂, subst, ◌≤◌, ◌&&◌, drop, bit_or, append_assoc, length-take-le}
 use Rattle.std.proofs.Common.{length-drop, take-add}
 use Rattle.std.proofs.lemmas.Bool.{agree_below_at, le-ltb, cond-true, cond-false, eqb-true, ltb-true, cases_eq, ne_eqb}
 use Rattle.std.specs.Char.{is_ascii_whitespace as std_whitespace, is_ascii_whitespace}
@@ -328,21 +328,13 @@ unmarked m = eqb m 0
 
 -- the bitwise or of two bytes is zero exactly if both are zero
 or_unmarked : (x y : ℕ) → x < 256 → y < 256 → unmarked (bit_or x y) ≡ (unmarked x && unmarked y)
-or_unmarked x y a b = elim (cases_eq x 0) [
-  | inl p ↦ grind (arith, cases_eq)
-  | inr p ↦ cc (
-    ne_eqb (bit_or x y) 0 (λ e. p (omega (arith, or_add_and x y, and_le_l x y, and_le_r x y))),
-    ne_eqb x 0 p,
-  )
-]
+or_unmarked x y a b = grind (arith, cases_eq, ne_eqb, or_add_and, and_le_l, and_le_r)
 
 -- the bitwise or of a byte and all bytes of a list is zero exactly if all of them are zero
 or_all : (a : ℕ) (xs : List ℕ) → a < 256 → Each1 (λ x. x < 256) xs
     → eqb (fold_l bit_or a xs) 0 ≡ (unmarked a && list_all unmarked xs)
 or_all a [] l h = sym (and-true (unmarked a))
-or_all a (x ∷ xs) l h = or_all (bit_or a x) xs (or_lt 8 a x l h.0) h.1
-    ∙ ap (λ t. t && list_all unmarked xs) (or_unmarked a x l h.0)
-    ∙ and_assoc (unmarked a) (unmarked x) (list_all unmarked xs)
+or_all a (x ∷ xs) l h = grind (arith, or_lt, or_unmarked, and_assoc, or_all (bit_or a x) xs (or_lt 8 a x l h.0) h.1)
 
 -- the bitwise or of the bytes of a list is zero exactly if all of them are zero
 or_none : (xs : List ℕ) → Each1 (λ x. x < 256) xs → eqb (fold_l bit_or 0 xs) 0 ≡ list_all unmarked xs
@@ -383,8 +375,7 @@ all_unmarked (b ∷ v) h = ap₂ (λ s t. s && t) (agree_below_at (λ b. unmarke
 -- the bitwise or of the marks of bytes is zero exactly if all bytes are symbols
 pub are_symbols_is : (v marks : List ℕ) → Each1 (Fits w8) v → marks ≡ map mark_of v
     → eqb (fold_l bit_or 0 marks) 0 ≡ list_all is_symbol v
-are_symbols_is v marks fits e =
-    ap (λ l. eqb (fold_l bit_or 0 l) 0) e ∙ or_none (map mark_of v) (marks_lt v fits) ∙ all_unmarked v fits
+are_symbols_is v marks fits e = grind (arith, fold_l, or_none, marks_lt, all_unmarked)
 
 -- the items of a bitwise or of two lists of bytes are below 256
 zip_lt : (xs ys : List ℕ) → length xs ≡ length ys → Each1 (λ x. x < 256) xs → Each1 (λ x. x < 256) ys
@@ -443,20 +434,7 @@ shuffled_rows f g h k = refl
 shuffled_is : (a b c d : List ℕ) → length a ≡ 16 → length b ≡ 16 → length c ≡ 16 → length d ≡ 16
     → shuffled a b c d ≡ take 12 a ++ (take 12 b ++ (take 12 c ++ take 12 d))
 shuffled_is a b c d p q r s =
-    let A : List ℕ → Type 0 = λ l. shuffled l b c d ≡ take 12 l ++ (take 12 b ++ (take 12 c ++ take 12 d)) in
-    let f = λ (k : ℕ). get_or a k 0 in
-    let g = λ (k : ℕ). get_or b k 0 in
-    let h = λ (k : ℕ). get_or c k 0 in
-    let i = λ (k : ℕ). get_or d k 0 in
-    let B : List ℕ → Type 0 =
-    λ l. shuffled (row f) l c d ≡ take 12 (row f) ++ (take 12 l ++ (take 12 c ++ take 12 d)) in
-    let C : List ℕ → Type 0 =
-    λ l. shuffled (row f) (row g) l d ≡ take 12 (row f) ++ (take 12 (row g) ++ (take 12 l ++ take 12 d)) in
-    let D : List ℕ → Type 0 = λ l. shuffled (row f) (row g) (row h) l ≡ take 12
-    (row f) ++ (take 12 (row g) ++ (take 12 (row h) ++ take 12 l)) in
-    subst A (pick_l_whole 0 a 16 p)
-    (subst B (pick_l_whole 0 b 16 q)
-    (subst C (pick_l_whole 0 c 16 r) (subst D (pick_l_whole 0 d 16 s) (shuffled_rows f g h i))))
+    grind (arith, pick_l_whole 0 a 16 p, pick_l_whole 0 b 16 q, pick_l_whole 0 c 16 r, pick_l_whole 0 d 16 s)
 
 -- the bytes of the groups of three rows of 16 values and a rest are those of each of the four, joined
 groups_of_rows : (w x y z : List ℕ) → length w ≡ 16 → length x ≡ 16 → length y ≡ 16
@@ -491,8 +469,7 @@ put_three b1 b2 b3 x y z p q r long = sym (take_all 48 b3 (omega arith)) ∙ r �
 pub row_put : (at n : ℕ) (old new row bytes : List ℕ) → at + 16 ≤ length old → n ≤ 16
     → take (at + 16) new ≡ take at old ++ row → take n row ≡ bytes → take (at + n) new ≡ take at old ++ bytes
 row_put at n old new row bytes room few e is =
-    let size : at + n ≡ length (take at old) + n = omega (arith, length-take-le at old (omega arith)) in cc
-    (take-take (at + n) (at + 16) new (omega arith), take-append-add (take at old) row n)
+    grind (arith, length-take-le, take-take (at + n) (at + 16) new (omega arith), take-append-add (take at old) row n)
 
 -- if the first 12 bytes of four rows are those of their groups, joined they are those of all 16 groups
 pub decoded_block : (text a b c d r0 r1 r2 r3 bytes : List ℕ) → 64 ≤ length text → length a ≡ 16 → length b ≡ 16

@@ -1,10 +1,10 @@
 -- The scheme, and the first comma of a text. For `after_scheme` and `split_at_comma`.
 use Rattle.std.proofs.Common.{◌≡◌, ◌≢◌, ℕ, ◌+◌, ◌<◌, ◌≤◌, Bool, true, false, List, [], ◌∷◌, ◌++◌, length, get_or, take}
-use Rattle.std.proofs.Common.{drop, map, nat_eq, subst, length-append, codes, min, refl, sym, ap, ◌∙◌, ⊎_elim, arith}
+use Rattle.std.proofs.Common.{drop, map, nat_eq, subst, length-append, codes, refl, sym, ap, ◌∙◌, ⊎_elim, arith}
 use Rattle.std.proofs.Common.{◌-◌, Option, None, Some, position, ap₂, ◌⊎◌, eqb-true}
 use Rattle.std.specs.Char.{to_ascii_lowercase}
-use Rattle.std.specs.Str.{bytes_eq, IsCharBoundary, IsUtf8}
-use Rattle.std.proofs.lemmas.Bool.{cases_lt, false_from_ne_true, cond-true, lt-ltb, or_cases, or_parts}
+use Rattle.std.specs.Str.{IsCharBoundary, IsUtf8}
+use Rattle.std.proofs.lemmas.Bool.{cases_lt, cond-true, lt-ltb, or_cases, or_parts}
 use Rattle.std.proofs.lemmas.List.{get_or_at, get_or-take, length-map, length-take, map-append, take-append-le}
 use Rattle.std.proofs.lemmas.List.{take-map, drop_more, get_or-drop, length-drop, take-append-drop, take_all}
 use Rattle.std.proofs.lemmas.Slice.Eq.{bytes_eq-Decides, starts_is}
@@ -60,41 +60,32 @@ spelled_length s n h = grind (arith, length-map, length-take)
 
 -- a text that spells only a part of the scheme does not begin with the scheme
 pub ends_early : (s : List ℕ) (n : ℕ) → Spells s n → HasNoScheme s
-ends_early s n h = false_from_ne_true (bytes_eq (map to_ascii_lowercase (take 5 (without_tabs_and_newlines s))) scheme)
-    (λ e.
-    let whole = (bytes_eq-Decides (map to_ascii_lowercase (take 5 (without_tabs_and_newlines s))) scheme).0 e in
-    let five : length (take 5 (without_tabs_and_newlines s)) ≡ 5 =
-    sym (length-map (take 5 (without_tabs_and_newlines s)) to_ascii_lowercase) ∙ ap length whole in
-    let short : length (take 5 (without_tabs_and_newlines s))
-    ≡ min 5 n = cc (length-take 5 (without_tabs_and_newlines s), spelled_length s n h) in
-    let below = h.open_at in
-    omega (arith, five, short, below))
+ends_early s n h =
+    grind (
+      arith,
+      bytes_eq-Decides (map to_ascii_lowercase (take 5 (without_tabs_and_newlines s))) scheme,
+      length-map (take 5 (without_tabs_and_newlines s)) to_ascii_lowercase,
+      length-take 5 (without_tabs_and_newlines s),
+      spelled_length s n h,
+    )
 
 -- if a text spells a part of the scheme, and then a byte follows that is neither a tab or newline nor the next byte of
 -- the scheme, the text does not begin with the scheme
 pub differs : (text s : List ℕ) (n b : ℕ) (rest : List ℕ) → Spells s n → is_tab_or_newline b ≡ false
     → to_ascii_lowercase b ≢ get_or scheme n 0 → text ≡ s ++ b ∷ rest → HasNoScheme text
 differs text s n b rest h e ne is =
-    false_from_ne_true (bytes_eq (map to_ascii_lowercase (take 5 (without_tabs_and_newlines text))) scheme) (λ e'.
-    let whole = (bytes_eq-Decides (map to_ascii_lowercase (take 5 (without_tabs_and_newlines text))) scheme).0 e' in
-    let parts : without_tabs_and_newlines text ≡ without_tabs_and_newlines s ++ b ∷ without_tabs_and_newlines rest =
-    cc (without_tabs_and_newlines-append s (b ∷ rest), dropped_keeps b rest e) in
-    let lowered : map to_ascii_lowercase (take 5 (without_tabs_and_newlines text)) ≡ take 5
-    (map to_ascii_lowercase (without_tabs_and_newlines s) ++ to_ascii_lowercase b ∷ map to_ascii_lowercase
-    (without_tabs_and_newlines rest)) =
-    cc (
+    grind (
+      arith,
+      bytes_eq-Decides (map to_ascii_lowercase (take 5 (without_tabs_and_newlines text))) scheme,
+      without_tabs_and_newlines-append s (b ∷ rest),
+      dropped_keeps b rest e,
       take-map to_ascii_lowercase 5 (without_tabs_and_newlines text),
       map-append to_ascii_lowercase (without_tabs_and_newlines s) (b ∷ without_tabs_and_newlines rest),
-    ) in
-    let at_n : get_or (map to_ascii_lowercase (take 5 (without_tabs_and_newlines text))) n 0
-    ≡ to_ascii_lowercase b = cc (
-      get_or-take 5 (map to_ascii_lowercase (without_tabs_and_newlines s) ++
-          to_ascii_lowercase b ∷ map to_ascii_lowercase (without_tabs_and_newlines rest)) n 0 h.open_at,
-      get_or_at (map to_ascii_lowercase (without_tabs_and_newlines s)) (to_ascii_lowercase b) (map
-          to_ascii_lowercase (without_tabs_and_newlines rest)) 0 n (length-map (without_tabs_and_newlines s)
-          to_ascii_lowercase ∙ spelled_length s n h),
-    ) in
-    ne (sym at_n ∙ ap (λ t. get_or t n 0) whole))
+      get_or-take 5 (map to_ascii_lowercase (without_tabs_and_newlines s) ++ to_ascii_lowercase b ∷ map to_ascii_lowercase (without_tabs_and_newlines rest)) n 0 h.open_at,
+      get_or_at (map to_ascii_lowercase (without_tabs_and_newlines s)) (to_ascii_lowercase b) (map to_ascii_lowercase (without_tabs_and_newlines rest)) 0 n (length-map (without_tabs_and_newlines s) to_ascii_lowercase ∙ spelled_length s n h),
+      length-map (without_tabs_and_newlines s) to_ascii_lowercase,
+      spelled_length s n h,
+    )
 
 -- The scheme as it is commonly spelled
 
@@ -143,12 +134,7 @@ NoEndBefore s n = (k : ℕ) → k < n → ends_header (get_or s k 0) ≡ false
 
 -- if there is no ',' or '#' in the first m bytes, nor in the next k bytes, there is none in the first m + k
 further_on : (s : List ℕ) (m k : ℕ) → NoEndBefore s m → NoEndBefore (drop m s) k → NoEndBefore s (m + k)
-further_on s m k h g j l = ⊎_elim
-    (λ (a : j < m). h j a)
-    (λ (a : m ≤ j).
-    let back : m + (j - m) ≡ j = omega arith in
-    ap ends_header (ap (λ i. get_or s i 0) (sym back) ∙ sym (get_or-drop m s (j - m) 0)) ∙ g (j - m) (omega arith))
-    (cases_lt j m)
+further_on s m k h g j l = grind (arith, get_or-drop m s (j - m) 0, cases_lt j m)
 
 -- if there is no ',' or '#' before index m, and the first one of the bytes from m on is at their index k, the first one
 -- of the text is at m + k
@@ -173,9 +159,7 @@ at_comma s n f ne = grind (arith, cut_at)
 -- if the first ',' or '#' of a text is a '#', there is no ',' before the first '#'
 pub at_hash : (s : List ℕ) (n : ℕ) → IsFrontEnd s n → get_or s n 0 ≡ 35 → after 44 (front s) ≡ None
 unfolding front
-at_hash s n f h =
-    let parts : s ≡ take n s ++ 35 ∷ drop (n + 1) s = cc (cut_at s n f.within) in
-    cc (before_at 35 (take n s) (drop (n + 1) s) f.no_hash, f.no_comma)
+at_hash s n f h = cc (cut_at s n f.within, before_at 35 (take n s) (drop (n + 1) s) f.no_hash)
 
 -- if a text has neither ',' nor '#', there is no ',' before its first '#'
 pub at_none : (s : List ℕ) (m : ℕ) → NoEndBefore s m → position ends_header (drop m s) ≡ None

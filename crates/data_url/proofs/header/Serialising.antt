@@ -1,5 +1,5 @@
 -- Headers: serialised path and query, and the last space of a path. For `serialise`.
-use Rattle.std.proofs.Common.{◌≡◌, ◌≢◌, ◌⊎◌, ℕ, suc, ◌+◌, ◌-◌, ◌<◌, ◌≤◌, Bool, true, false, not, List, [], ◌∷◌, ◌++◌}
+use Rattle.std.proofs.Common.{◌≡◌, ◌≢◌, ◌⊎◌, ℕ, suc, ◌+◌, ◌-◌, ◌<◌, ◌≤◌, Bool, true, false, List, [], ◌∷◌, ◌++◌}
 use Rattle.std.proofs.Common.{length, get_or, take, drop, reverse, codes, refl, sym, ap, ◌∙◌, inl, inr, ⊎_elim, None}
 use Rattle.std.proofs.Common.{append_assoc, arith, eqb-true, subst, length-append, drop_of_length-le, Option, Some}
 use Rattle.std.specs.Prelude.{◌==◌}
@@ -213,8 +213,7 @@ ends_after n s (last init b e h) = elim (cases_lt (length init) n) [
 -- a text that is empty, or whose last byte is not a C0 control or space, does not end with a space
 ends_with_no_space : (s : List ℕ) → Ends s → DoesNotEnd is_space s
 ends_with_no_space s (nothing e) = subst (DoesNotEnd is_space) (sym e) tt
-ends_with_no_space s (last init b e h) =
-    subst (DoesNotEnd is_space) (sym e) (not_ends_last is_space b (not_space b h) init)
+ends_with_no_space s (last init b e h) = grind (arith, not_ends_last is_space b (not_space b h) init, not_space b h)
 
 -- the cleaned text is empty, or its last byte is not a C0 control or space
 ends_cleaned : (t : List ℕ) → Ends (cleaned_text t)
@@ -293,8 +292,7 @@ flag_after : (u v query : List ℕ) → after 44 u ≡ None → after 44 v ≡ N
     → after 44 query ≡ o
     → base64_flag (u ++ 63 ∷ query) ≡ base64_flag (v ++ 63 ∷ query)
 flag_after u v query h k None e = grind (arith, after-append, after_other)
-flag_after u v query h k (Some rest) e =
-    grind (arith, same_flag, after-append, before-append, before_other)
+flag_after u v query h k (Some rest) e = grind (arith, same_flag, after-append, before-append, before_other)
 
 -- there is no comma in "%20"
 no_comma_in_escape : after 44 (codes "%20") ≡ None

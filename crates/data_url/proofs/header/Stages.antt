@@ -53,14 +53,12 @@ printable (b ∷ s) = (32 ≤ b) × (b < 127) × printable s
 encoded_printable : (p : ℕ → Bool) → ((b : ℕ) → p b ≡ false → (32 ≤ b) × (b < 127)) → (s : List ℕ) → IsBytes s
     → printable (percent_encoding p s)
 encoded_printable p outside [] h = subst printable (sym (encoded_nil p)) tt
-encoded_printable p outside (b ∷ s) h =
-    grind (arith, encoded_cons, encoded_printable p outside s h.1)
+encoded_printable p outside (b ∷ s) h = grind (arith, encoded_cons, encoded_printable p outside s h.1)
 
 -- each byte of the serialised text of a header is a printable ASCII character
 header_all : (s : List ℕ) → IsBytes s → printable (header_text s)
 header_all [] h = subst printable (sym header_nil) tt
-header_all (b ∷ s) h =
-    search (arith, header_query, encoded_printable, header_path, header_all s h.1)
+header_all (b ∷ s) h = grind (arith, header_query, encoded_printable, header_path, header_all s h.1)
 
 -- if each byte of a text is printable, the byte at each index is
 printable_at : (s : List ℕ) → printable s → IsPrintable s
@@ -612,13 +610,8 @@ scheme_of t a h =
 -- if there is a comma before the first '#', there is no '#' before the first comma
 comma_first : (s x : List ℕ) → after 44 (before 35 s) ≡ Some x → after 35 (before 44 s) ≡ None
 comma_first [] x h = grind (arith, before_nil, after_nil)
-comma_first (b ∷ s) x h = elim (cases_Bool (b == 35)) [
-  | inl e ↦ grind (arith, eqb-true, before_same, after_nil)
-  | inr e ↦ elim (cases_Bool (b == 44)) [
-    | inl f ↦ grind (arith, eqb-true, before_same, after_nil)
-    | inr f ↦ grind (arith, before_other, after_other, comma_first s x)
-  ]
-]
+comma_first (b ∷ s) x h =
+    grind (arith, cases_Bool, eqb-true, before_same, after_nil, before_other, after_other, comma_first s x)
 
 -- the trimmed text is the scheme, a header without '#', the first comma, and the tail
 record HasParts (t tail : List ℕ) : Type 0 where
@@ -653,10 +646,7 @@ cut_parts t header tail a b h e k =
 -- the text of a URL has the tail of the URL
 url_parts : (t : List ℕ) (u : DataUrl) → ((i : ℕ) → get_or t i 0 < 256) → IsUrlOf t u → HasParts t (url_tail u)
 unfolding header_of staged_front
-url_parts t u b h = elim (none_or_some (after_scheme t)) [
-  | inl n ↦ absurd (let m = h.header_is in grind arith)
-  | inr (a, e) ↦ cut_parts t h.header (url_tail u) a (bytes_trimmed t b) e h.header_is h.tail_is
-]
+url_parts t u b h = grind (arith, none_or_some, cut_parts, bytes_trimmed)
 
 -- the percent-decoded body of the Standard is the body of the tail of the URL
 pub body_of_url : (t : List ℕ) (u : DataUrl) → ((i : ℕ) → get_or t i 0 < 256) → IsUrlOf t u

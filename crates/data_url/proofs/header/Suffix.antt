@@ -1,12 +1,12 @@
 -- The suffix `;base64` of a header. For `split_suffix`.
 use Rattle.std.proofs.Common.{◌≡◌, ◌≢◌, ℕ, ◌+◌, ◌-◌, ◌<◌, ◌≤◌, List, [], ◌∷◌, length, get_or, take, drop, map, codes}
 use Rattle.std.proofs.Common.{None, Some, sym, ap, ◌∙◌, arith, suc, Bool, false, ◌++◌, length-append, reverse, Option}
-use Rattle.std.proofs.Common.{is_some, refl, append_assoc, eqb}
+use Rattle.std.proofs.Common.{is_some, refl, append_assoc}
 use Rattle.std.specs.Prelude.{option_and_then}
 use Rattle.std.specs.Char.{to_ascii_lowercase}
 use Rattle.std.specs.List.{suffix_len, prefix_len}
 use Rattle.std.specs.Str.{bytes_eq}
-use Rattle.std.proofs.lemmas.Bool.{cond-true, cond-false, false_from_ne_true, cond_both, eqb-true}
+use Rattle.std.proofs.lemmas.Bool.{cond-true, cond-false, false_from_ne_true}
 use Rattle.std.proofs.lemmas.List.{drop_all, drop_more, get_or-take, length-drop, length-take-le, take-take}
 use Rattle.std.proofs.lemmas.List.{drop-append-le, get_or-drop, get_or-map, reverse-append}
 use Rattle.std.proofs.lemmas.List.Sums.{suffix_len-le-length, prefix_len-drop_no, prefix_len-le-length}
@@ -49,8 +49,7 @@ pub record HasWord (s : List ℕ) (n spaces : ℕ) : Type 0 where
 after_word : (s : List ℕ) (n spaces : ℕ) → IsPrintable s → HasWord s n spaces
     → before_base64 s ≡ before_semicolon (take (n - spaces) s)
 unfolding before_base64
-after_word s n spaces p h =
-    grind (arith, length-take-le, low_end, printable_take, take-take)
+after_word s n spaces p h = grind (arith, length-take-le, low_end, printable_take, take-take)
 
 -- the text of one ';'
 abbrev semicolon : List ℕ
@@ -104,18 +103,13 @@ with_semicolon s n spaces m p h e is =
 -- if b does not pass, the longest suffix of x ++ b ∷ q that passes is as long as that of q
 pub suffix_stop : (p : ℕ → Bool) (x q : List ℕ) (b : ℕ) → p b ≡ false → suffix_len p (x ++ b ∷ q) ≡ suffix_len p q
 suffix_stop p x q b f =
-    let none : prefix_len p (b ∷ reverse x) ≡ 0 = prefix_len-drop_no p (b ∷ reverse x) 0 0 (omega arith) f in
-    let turned : reverse (x ++ b ∷ q) ≡ reverse q ++ b ∷ reverse x = cc (
+    grind (
+      arith,
+      prefix_len-drop_no p (b ∷ reverse x) 0 0 (omega arith) f,
       reverse-append x (b ∷ q),
       reverse-append (b ∷ []) q,
       append_assoc (reverse q) (b ∷ []) (reverse x),
-    ) in
-    cc (
       prefix_len-append p (reverse q) (b ∷ reverse x),
-      cond_both (eqb (prefix_len p (reverse q)) (length (reverse
-          q))) (length (reverse q) + prefix_len p (b ∷ reverse x)) (prefix_len p (reverse q)) (λ v. v
-          ≡ prefix_len p (reverse q)) (λ e. let k : prefix_len p (reverse q)
-          ≡ length (reverse q) = eqb-true _ _ e in omega (arith, k, none)) (λ e. refl),
     )
 
 -- removing spaces at the end of a text with a '?' removes them only after that '?'
@@ -141,9 +135,7 @@ last_after y q n l = grind (arith, length-append, drop-append-add)
 
 -- if q has at least n bytes, the bytes before the last n of y ++ q are y and the bytes before the last n of q
 before_last_after : (y q : List ℕ) (n : ℕ) → n ≤ length q → before_last n (y ++ q) ≡ y ++ before_last n q
-before_last_after y q n l =
-    let at : length (y ++ q) - n ≡ length y + (length q - n) = omega (arith, length-append y q) in
-    ap (λ m. take m (y ++ q)) at ∙ take-append-add y q (length q - n)
+before_last_after y q n l = grind (arith, length-append y q, take-append-add y q (length q - n))
 
 -- if q has at least six bytes, what is before a final "base64" of y ++ q is y and what is before that of q
 word_after : (y q : List ℕ) → 6 ≤ length q → before_word (y ++ q) ≡ option_map (λ m. y ++ m) (before_word q)
@@ -192,9 +184,7 @@ by_word x (Some m) = grind (arith, append_assoc, end_after, semicolon_after)
 -- if at least six bytes follow a '?', whether there is a base64 suffix depends only on these bytes
 suffix_after : (x q : List ℕ) → 6 ≤ length q → is_some (before_base64 (x ++ 63 ∷ q)) ≡ after_mark (before_word q)
 unfolding before_base64
-suffix_after x q l =
-    let f : List ℕ → Option (List ℕ) = λ m. before_semicolon (without_end is_space m) in
-    cc (append_assoc x (63 ∷ []) q, word_after (x ++ 63 ∷ []) q l, by_word x (before_word q))
+suffix_after x q l = cc (append_assoc x (63 ∷ []) q, word_after (x ++ 63 ∷ []) q l, by_word x (before_word q))
 
 -- the flag does not depend on the text before the '?'
 pub same_flag : (a b query : List ℕ) → has_base64_suffix (a ++ 63 ∷ query) ≡ has_base64_suffix (b ++ 63 ∷ query)

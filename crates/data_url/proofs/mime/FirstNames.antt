@@ -187,8 +187,7 @@ has_first n e (p ∷ ps) = grind (arith, named, has_pushed, has_first n (e ++ (p
 kept_with_one : (ps qs : List Pair) → (qs ≡ []) ⊎ ((p : Pair) × (qs ≡ p ∷ []))
     → first_of_each_name [] (ps ++ qs) ≡ first_of_each_name [] ps ++ unless_named (first_of_each_name [] ps) qs
 kept_with_one ps qs (inl e) = rw (e, append-nil ps) (sym (append-nil (first_of_each_name [] ps)))
-kept_with_one ps qs (inr (p, e)) =
-    rw e (first_snoc [] ps p ∙ ap (λ b. first_of_each_name [] ps ++ cond b [] (p ∷ [])) (sym (has_first p.0 [] ps)))
+kept_with_one ps qs (inr (p, e)) = grind (arith, first_snoc, has_first p.0)
 
 -- the pairs that are kept with one more item are those kept before, and then those that the item adds
 pub kept_more : (items : List Item) (item : Item) → kept_pairs (items ++ (item ∷ [])) ≡ kept_pairs items ++ added_pairs
@@ -360,8 +359,7 @@ all_quotable (item ∷ items) = grind (arith, all_quotable items)
 -- the names of the valid pairs of a text are lower-case
 all_lower : (r : List ℕ) (items : List Item) → Items r items → HasLowercaseNames (valid_pairs items)
 all_lower r [] h = refl
-all_lower r (item ∷ items) h =
-    grind (arith, lowercase_name, token_text_lower, all_lower h.1 items h.4)
+all_lower r (item ∷ items) h = grind (arith, lowercase_name, token_text_lower, items, all_lower h.1 items h.4)
 
 -- No name is kept twice
 
@@ -378,8 +376,7 @@ none_again n e (q ∷ ps) h =
 -- no two of the first pairs of each name have equal names
 first_distinct : (e ps : List Pair) → has_distinct_names (first_of_each_name e ps) ≡ true
 first_distinct e [] = refl
-first_distinct e (q ∷ ps) =
-    grind (arith, first_distinct (e ++ (q ∷ [])) ps, none_again, has_append, test_from_equal)
+first_distinct e (q ∷ ps) = grind (arith, none_again, has_append, test_from_equal, first_distinct (e ++ (q ∷ [])) ps)
 
 -- Each record of a text is well-formed
 

@@ -66,11 +66,7 @@ begins_no_value (c ∷ r) h = ap in_value h
 -- the plain reading of a text without ';', and of the rest, is the text without whitespace at its end, and the rest
 plain_is : (text rest : List ℕ) → Every in_value text → BeginsParameters rest → plain_reading (text ++ rest)
     ≡ record { value = unless_empty (without_end is_http_whitespace text); rest = rest }
-plain_is text rest e b =
-    rw (
-      front_is in_value text rest e (begins_no_value rest b),
-      after_is in_value text rest e (begins_no_value rest b),
-    ) refl
+plain_is text rest e b = grind (arith, front_is, rest, begins_no_value, after_is)
 
 -- after '=', a text that does not begin with '"', and then the rest, is read as a plain value
 plain_after : (text rest : List ℕ) → DoesNotBegin is_quote text → BeginsParameters rest
@@ -453,8 +449,7 @@ pub record HasParts (t type_ subtype parameters : List ℕ) : Type 0 where
 parts_joined : (type_ subtype gap r : List ℕ) → Every is_token type_ → Every is_token subtype
     → Every is_http_whitespace gap → BeginsParameters r
     → HasParts (type_ ++ (47 ∷ (subtype ++ (gap ++ r)))) type_ subtype r
-parts_joined type_ subtype gap r t s g b =
-    grind (arith, after_is, slash_no_token, gap_no_token, front_is)
+parts_joined type_ subtype gap r t s g b = grind (arith, after_is, slash_no_token, gap_no_token, front_is)
 
 -- if a text has a head, its parts are those read from the text without HTTP whitespace at both ends
 pub has_parts : (s type_ subtype r : List ℕ) → IsHead s type_ subtype r

@@ -46,9 +46,7 @@ pub record CutAgain (y su p : List ℕ) : Type 0 where
 -- if a text that is cut into ty and x has a head, ty is its type, and x is '/' and then the rest of the head
 pub head_forced : (s ty x a b c : List ℕ) → Cut s ty x → (h : IsHead s a b c)
     → (ty ≡ a) × (x ≡ 47 ∷ (b ++ (h.gap ++ c)))
-head_forced s ty x a b c k h =
-    same_span is_token ty x a (47 ∷ (b ++ (h.gap ++ c))) (sym k.joined ∙ h.joined) k.tokens k.begins
-    (every_token a h.is_type) slash_no_token
+head_forced s ty x a b c k h = grind (arith, same_span, every_token, slash_no_token)
 
 -- if y is the rest of a head after its '/', and is cut into su and p, these are its subtype and its parameters
 pub rest_forced : (s y su p a b c : List ℕ) → CutAgain y su p → (h : IsHead s a b c) → y ≡ b ++ (h.gap ++ c)

@@ -13,15 +13,13 @@ use Rattle.data_url.specs.declared.mime.line.Line.{Line}
 use Rattle.std.specs.List.{flat_map, AllZip}
 use Rattle.std.specs.Str.{IsUtf8, chars, bytes_eq}
 use Rattle.data_url.specs.Mime.{Without, escaped_code_point, is_token_text, printed, printed_pair, printed_value, Pair}
-use Rattle.data_url.specs.Mime.{Record}
 use Rattle.data_url.specs.Steps.Parsing.{is_escaped}
 use Rattle.data_url.specs.MimeType.{code_points, pair_of, record_of, SameTexts, same_pair, same_texts, texts_of_pair}
 use Rattle.data_url.specs.declared.mime.Mime.{Mime}
 use Rattle.data_url.proofs.texts.CodePoints.{no_chars}
-use Rattle.std.specs.Prelude.{◌&&◌, ◌↔◌, IsTrue}
+use Rattle.std.specs.Prelude.{◌↔◌, IsTrue}
 use Rattle.std.specs.Cmp.{first_so, second_so}
-use Rattle.std.specs.Cmp.Lexicographic.{pointwise, same_text}
-use Rattle.std.proofs.lemmas.Cmp.{nat_list_eq_equiv}
+use Rattle.std.specs.Cmp.Lexicographic.{pointwise}
 use Rattle.data_url.proofs.mime.FirstNames.{equal_from_test, test_from_equal}
 use Rattle.std.proofs.lemmas.Bool.{and_from}
 
@@ -65,16 +63,14 @@ token_value v b u e h = grind (arith, encodes-chars)
 pub quoted_value_text : (v : List ℕ) (b : Bool) → b ≡ is_token_text (chars v) → b ≡ false
     → ((34 ∷ []) ++ encode_utf8_all (flat_map escaped_code_point (chars v))) ++ (34 ∷ []) ≡ encode_utf8_all
     (printed_value (chars v))
-quoted_value_text v b e h =
-    grind (arith, encode_ascii, encodes-append)
+quoted_value_text v b e h = grind (arith, encode_ascii, encodes-append)
 
 -- A parameter
 
 -- ';', the name, '=', and the printed value are the UTF-8 of the printed pair
 pub parameter_text : (name value : List ℕ) → IsUtf8 name → (((59 ∷ []) ++ name) ++ (61 ∷ [])) ++ encode_utf8_all
     (printed_value (chars value)) ≡ encode_utf8_all (printed_pair (chars name, chars value))
-parameter_text name value u =
-    grind (arith, encode_ascii, append_assoc, encodes-chars, encodes-append)
+parameter_text name value u = grind (arith, encode_ascii, append_assoc, encodes-chars, encodes-append)
 
 -- A record
 
@@ -97,8 +93,7 @@ record_starts m = grind (arith, append_assoc, text_bytes, encodes-append)
 pub record_more : {A B : Type 0} (pairs : List (String A × String B)) (i : ℕ) (item : String A × String B)
     (done whole : List ℕ) → i < length pairs → item ≡ get_or pairs i item → done ++ pairs_text (drop i pairs) ≡ whole
     → (done ++ encode_utf8_all (printed_pair (pair_of item))) ++ pairs_text (drop (i + 1) pairs) ≡ whole
-record_more pairs i item done whole l e h =
-    grind (arith, append_assoc, drop-cons, encodes-append)
+record_more pairs i item done whole l e h = grind (arith, append_assoc, drop-cons, encodes-append)
 
 -- if no pairs are left, the bytes so far are the whole
 pub record_ends : {A B : Type 0} (pairs : List (String A × String B)) (i : ℕ) (done whole : List ℕ) → length pairs ≤ i
@@ -156,11 +151,8 @@ module _ {W : Type 0} {took : W → List ℕ → W → Type 0} where
   -- if the buffer is written, then a text, and the buffer is empty after that, the text is appended
   pub added_written : (f g h : Formatter W) (l m : Line) (a : List ℕ) → HasWrittenStyled took f (held l) g
       → HasWrittenStyled took g a h → m.len ≡ 0 → HasAdded took f l a h m
-  added_written f g h l m a x y e = record {
-    written = held l ++ a;
-    wrote = has_written_styled_append _ _ _ _ _ _ x y;
-    joined = sym (append-nil (held l ++ a)) ∙ ap (λ t. (held l ++ a) ++ t) (sym (held_none m e));
-  }
+  added_written f g h l m a x y e =
+      grind (arith, has_written_styled_append _ _ _ _ _ _ x y, append-nil (held l ++ a), held_none m e)
 
   -- if the buffer is written and emptied, and then a text is put into it, the text is appended
   pub added_after : (f g : Formatter W) (l m n : Line) (a : List ℕ) → HasWrittenStyled took f (held l) g → m.len ≡ 0
@@ -249,8 +241,5 @@ pairs_spelled (p ∷ ps) = grind (arith, text_bytes, pairs_spelled ps)
 
 -- if the records of code points of two MIME types are equal, the MIME types have the same texts
 pub seen_same : (m n : Mime) → record_of m ≡ record_of n → SameTexts m n
-seen_same m n h = record {
-  type_ = text_bytes m.type_ ∙ ap (λ (r : Record). encode_utf8_all r.type_) h ∙ sym (text_bytes n.type_);
-  subtype = text_bytes m.subtype ∙ ap (λ (r : Record). encode_utf8_all r.subtype) h ∙ sym (text_bytes n.subtype);
-  parameters = grind (arith, pairs_spelled);
-}
+seen_same m n h =
+    grind (arith, text_bytes m.type_, text_bytes n.type_, text_bytes m.subtype, text_bytes n.subtype, pairs_spelled)

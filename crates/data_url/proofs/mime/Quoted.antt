@@ -67,13 +67,7 @@ IsRead s value (Some w) = (q : List ℕ) × (s ≡ q ++ (34 ∷ w)) × Quoted q 
 read_more : (x : List ℕ) (c : ℕ) (s v : List ℕ) (r : Option (List ℕ))
     → ((q w : List ℕ) → Quoted q w → Quoted (x ++ q) (c ∷ w)) → IsRead s v r → IsRead (x ++ s) (c ∷ v) r
 read_more x c s v None more (inl h) = inl (more s v h)
-read_more x c s v None more (inr (q, w, t, e, h)) = inr (
-  x ++ q,
-  c ∷ w,
-  cc (append_assoc x q (92 ∷ [])),
-  ap (λ y. c ∷ y) e,
-  more q w h,
-)
+read_more x c s v None more (inr (q, w, t, e, h)) = grind (arith, append_assoc)
 read_more x c s v (Some w) more h = (x ++ h.0, cc (append_assoc x h.0 (34 ∷ w)), more h.0 v h.2)
 
 -- the text with a backslash before it if the flag is true
@@ -135,8 +129,7 @@ skips_encoded e c x h = grind arith
 pub rest_encodes : (e : Bool) (cs : List ℕ) → quoted_rest e (encode_utf8_all cs) ≡ option_map encode_utf8_all
     (quoted_rest e cs)
 rest_encodes e [] = refl
-rest_encodes e (c ∷ cs) =
-    search (arith, encode_ascii, rest_encodes true cs, rest_encodes false cs, skips_encoded)
+rest_encodes e (c ∷ cs) = grind (arith, encode_ascii, skips_encoded, rest_encodes true cs, rest_encodes false cs)
 
 -- the bytes after the closing quote of a UTF-8 text are the encoding of the code points after it
 pub rest_chars : (bs : List ℕ) → IsUtf8 bs → quoted_rest false bs ≡ option_map encode_utf8_all
@@ -167,8 +160,7 @@ closed_if : (bs raw after v : List ℕ) (o : Option (List ℕ)) → IsRead (char
     → option_map encode_utf8_all o ≡ Some after → all_scalars (chars bs) ≡ true
     → chars bs ≡ chars raw ++ (34 ∷ chars after) → IsUtf8 after → IsClosed bs raw after
 closed_if bs raw after v None h e s j u = absurd (let k = e in cc)
-closed_if bs raw after v (Some w) h e s j u =
-    grind (arith, chars-encodes, scalars_after, append_cancel_right)
+closed_if bs raw after v (Some w) h e s j u = grind (arith, chars-encodes, scalars_after, append_cancel_right)
 
 -- if a text has a '"' at index i, the text from i on is '"' and then the text from i + 1 on
 quote_joined : (bs : List ℕ) (i : ℕ) → IsUtf8 bs → i < length bs → get_or bs i 0 ≡ 34 → drop i bs ≡ 34 ∷ drop (i + 1) bs

@@ -16,7 +16,7 @@ use Rattle.data_url.proofs.mime.FirstNames.{has_append, lower_is_itself, lowerca
 use Rattle.data_url.proofs.mime.FirstNames.{test_from_equal}
 use Rattle.data_url.proofs.mime.TokenTexts.{token_below}
 use Rattle.data_url.proofs.texts.CodePoints.{end_stays}
-use Rattle.data_url.specs.Url.{without_end, without_front}
+use Rattle.data_url.specs.Url.{without_front}
 
 -- Token code points
 
@@ -237,8 +237,7 @@ first_itself earlier (p ∷ pairs) h k =
 
 -- all parameters of a well-formed record are kept
 all_kept : (m : Record) → IsWellformed m → m.parameters ≡ kept_pairs (map item_of m.parameters)
-all_kept m w = sym (ap (first_of_each_name []) (all_valid m.parameters w.names w.values)
-    ∙ first_itself [] m.parameters (apart_none m.parameters) w.distinct)
+all_kept m w = grind (arith, all_valid, first_itself, apart_none)
 
 -- The whole
 
@@ -250,9 +249,7 @@ front_stays p (c ∷ s) b = grind arith
 -- a well-formed record, printed, does not begin with HTTP whitespace
 printed_begins : (m : Record) → IsWellformed m → DoesNotBegin is_http_whitespace (printed m)
 unfolding printed
-printed_begins m w = not_begins_append is_http_whitespace m.type_
-    (47 ∷ (m.subtype ++ flat_map printed_pair m.parameters))
-    (tokens_not_begin is_http_whitespace token_not_space m.type_ (name_tokens m.type_ w.type_)) refl
+printed_begins m w = grind (arith, not_begins_append, tokens_not_begin, token_not_space, name_tokens)
 
 -- a well-formed record, printed, does not end with HTTP whitespace
 printed_ends : (m : Record) → IsWellformed m → DoesNotEnd is_http_whitespace (printed m)
@@ -267,31 +264,11 @@ printed_ends m w =
 -- a well-formed record, printed, has its type, its subtype and its printed parameters as head
 printed_head : (m : Record) → IsWellformed m → IsHead (printed m) m.type_ m.subtype (flat_map printed_pair m.parameters)
 unfolding printed
-printed_head m w = record {
-  gap = [];
-  joined = ap (without_end is_http_whitespace) (front_stays is_http_whitespace (printed m) (printed_begins m w))
-      ∙ end_stays is_http_whitespace (printed m) (printed_ends m w);
-  is_type = lowercase_token m.type_ w.type_;
-  is_subtype = lowercase_token m.subtype w.subtype;
-  in_gap = tt;
-  begins = pairs_begin m.parameters;
-}
+printed_head m w = grind (arith, front_stays, printed_begins, end_stays, printed_ends, lowercase_token, pairs_begin)
 
 -- a well-formed record, printed, parses to the record
 pub printed_parses : (m : Record) → IsWellformed m → Parses (printed m) m
-printed_parses m w = record {
-  type_ = m.type_;
-  subtype = m.subtype;
-  parameters = flat_map printed_pair m.parameters;
-  head = printed_head m w;
-  record_is = record {
-    items = map item_of m.parameters;
-    items_are = printed_items m.parameters w.names;
-    type_is = sym (lower_is_itself m.type_ w.type_);
-    subtype_is = sym (lower_is_itself m.subtype w.subtype);
-    parameters_are = all_kept m w;
-  };
-}
+printed_parses m w = search (arith, printed_head, printed_items, lower_is_itself, all_kept)
 
 -- a well-formed record, printed, parses to no other record
 pub printed_only : (m : Record) → IsWellformed m → (n : Record) → Parses (printed m) n → n ≡ m

@@ -167,17 +167,11 @@ recoded-decoded (written {s} {x} b h l r) = decoded_written b x l ∙ ap (λ t. 
 recoded-decoded (kept b none) = refl
 recoded-decoded (kept b (kept c none)) = refl
 recoded-decoded (kept b (written {s} c h l r)) =
-    keeps b (written c h l r) (no_escape b (two_digits (c ∷ s)) (first_no_digit c s (set_no_hex c l h)))
-    (recoded-decoded (written c h l r))
+    grind (arith, keeps, written, no_escape, first_no_digit, set_no_hex, recoded-decoded (written c h l r))
 recoded-decoded (kept b (kept c (written d h l r))) =
-    keeps b (kept c (written d h l r)) (no_escape b (is_ascii_hexdigit c && is_ascii_hexdigit d)
-    (and_right (is_ascii_hexdigit c) (is_ascii_hexdigit d) (set_no_hex d l h)))
-    (recoded-decoded (kept c (written d h l r)))
+    grind (arith, keeps, kept, written, no_escape, and_right, set_no_hex, recoded-decoded (kept c (written d h l r)))
 recoded-decoded (kept b (kept c (kept {s} {x} d r))) =
-    elim (cases_Bool ((b == 37) && (is_ascii_hexdigit c && is_ascii_hexdigit d))) [
-      | inl e ↦ escapes b c d s x e (recoded-decoded r)
-      | inr e ↦ keeps b (kept c (kept d r)) e (recoded-decoded (kept c (kept d r)))
-    ]
+    grind (arith, cases_Bool, escapes, keeps, kept, recoded-decoded r, recoded-decoded (kept c (kept d r)))
 
 -- Encodings
 
@@ -195,8 +189,7 @@ encoded_cons p b s = refl
 -- one byte before the rest, encoded or not
 recoded_byte : (p : ℕ → Bool) → ((b : ℕ) → p b ≡ true → in_query_set b ≡ true) → (b : ℕ) (s x : List ℕ) → b < 256
     → Recoded s x → Recoded (b ∷ s) (encoded_byte p b ++ x)
-recoded_byte p within b s x l r = cond_both (p b) (37 ∷ hex_digit (b / 16) ∷ hex_digit (b % 16) ∷ []) (b ∷ [])
-    (λ t. Recoded (b ∷ s) (t ++ x)) (λ e. written b (within b e) l r) (λ e. kept b r)
+recoded_byte p within b s x l r = grind (arith, cond_both, written, kept)
 
 -- if each byte of the set p is in the query's set, the percent-encoding of a text with p is the text with some bytes of
 -- the query's set percent-encoded
@@ -292,8 +285,7 @@ encoded_byte_lacks p b h = grind (arith, after_nil, after_other)
 before_encoded : (p : ℕ → Bool) → p 44 ≡ false → (s : List ℕ) → before 44 (percent_encoding p s) ≡ percent_encoding p
     (before 44 s)
 before_encoded p h [] = grind (arith, encoded_nil, before_nil)
-before_encoded p h (b ∷ s) =
-    search (arith, encoded_cons, before_same, encoded_nil, before_encoded p h s, before_other)
+before_encoded p h (b ∷ s) = grind (arith, encoded_cons, before_same, encoded_nil, before_other, before_encoded p h s)
 
 -- the header's text, byte by byte
 

@@ -1,7 +1,6 @@
 -- Texts of code points, cut at the first code point that does not pass, and where a text can be cut.
 use Rattle.std.proofs.Common.{◌≡◌, ℕ, ◌≤◌, Bool, true, cond, List, [], ◌∷◌, ◌++◌, length, refl, sym, ap, ◌∙◌, arith}
 use Rattle.std.proofs.Common.{◌+◌, ◌<◌, zero, suc, drop, get_or, ◌-◌, reverse, subst, append-nil, false, length-append}
-use Rattle.std.proofs.Common.{take}
 use Rattle.std.proofs.lemmas.Bool.{cond-true, cond-false, cond_both}
 use Rattle.std.proofs.lemmas.Str.{chars-nil, IsCharBoundary-after_ascii, IsCharBoundary-before_ascii}
 use Rattle.std.specs.Str.{chars, IsCharBoundary, IsUtf8}
@@ -72,8 +71,7 @@ after_without p (c ∷ t) =
 
 -- if t is s without its longest prefix that passes, t is `without_front p s`
 pub trimmed_front_is : (p : ℕ → Bool) (s t : List ℕ) → IsTrimmedFront p s t → t ≡ without_front p s
-trimmed_front_is p s t h = sym (ap (after_front p) h.joined ∙ after_is p h.front t h.at_front h.begins)
-    ∙ after_without p s
+trimmed_front_is p s t h = grind (arith, after_is, after_without)
 
 -- if every code point of a text passes, so does the one at an index
 every_at : (p : ℕ → Bool) (s : List ℕ) → Every p s → (k : ℕ) → k < length s → p (get_or s k 0) ≡ true
@@ -85,9 +83,7 @@ every_at p (c ∷ s) h (suc k) l = every_at p s h.1 k (omega arith)
 last_stops : (p : ℕ → Bool) (t : List ℕ) → DoesNotEnd p t → 0 < length t → p (get_or t (length t - 1) 0) ≡ false
 last_stops p [] h l = absurd (omega arith)
 last_stops p (c ∷ []) h l = h
-last_stops p (c ∷ d ∷ t) h l =
-    let n : length (c ∷ d ∷ t) - 1 ≡ suc (length (d ∷ t) - 1) = omega arith in
-    ap (λ k. p (get_or (c ∷ d ∷ t) k 0)) n ∙ last_stops p (d ∷ t) h (omega arith)
+last_stops p (c ∷ d ∷ t) h l = grind (arith, last_stops p (d ∷ t) h (omega arith))
 
 -- the longest suffix of t ++ back that passes is back, if back passes and t does not end with a code point that passes
 back_len : (p : ℕ → Bool) (t back : List ℕ) → Every p back → DoesNotEnd p t
@@ -101,10 +97,7 @@ back_len p t back h e =
 -- if t is s without its longest suffix that passes, t is `without_end p s`
 pub trimmed_end_is : (p : ℕ → Bool) (s t : List ℕ) → IsTrimmedEnd p s t → t ≡ without_end p s
 trimmed_end_is p s t h =
-    let few = length-append t h.back in
-    let n : length (t ++ h.back) - suffix_len p (t ++ h.back) ≡ length t =
-    omega (arith, back_len p t h.back h.at_back h.ends) in
-    sym (ap (without_end p) h.joined ∙ ap (λ k. take k (t ++ h.back)) n ∙ take-append_seam t h.back)
+    grind (arith, length-append t h.back, back_len p t h.back h.at_back h.ends, take-append_seam t h.back)
 
 -- a text that does not end with a code point that passes has no suffix that passes
 pub end_stays : (p : ℕ → Bool) (t : List ℕ) → DoesNotEnd p t → without_end p t ≡ t

@@ -26,10 +26,10 @@ returns-clause-fed g c =
     let holds : Holds (CalledAt g.F.FnMut) (state_of c.args.self.now) (take c.in_ok-taken.taken c.args.text.now)
     (groups (map symbol_value q)) (waiting (state_of c.if-symbols-ge64.self) q) = elim c.if-symbols-ge64.branch [
       | then-symbols-ge64+in_ok-write w ↦
-        let long : 64 ≤ length (symbols_of s) =
-        omega (arith, length-take-le s.len s.bytes (omega (arith, s.within, s.sized)), w.if-symbols-ge64.true) in
-        rw (w.self-is, w.symbols-is) (block_goes (CalledAt g.F.FnMut) (symbols_of s) (symbols_of w.drop_front.new.self)
-        w.decode.result long (omega arith) w.decode.ensures w.drop_front.ensures.rest reads.holds w.in_ok-write.ensures.wrote)
+          let long : 64 ≤ length (symbols_of s) =
+          omega (arith, length-take-le s.len s.bytes (omega (arith, s.within, s.sized)), w.if-symbols-ge64.true) in
+          rw (w.self-is, w.symbols-is) (block_goes (CalledAt g.F.FnMut) (symbols_of s) (symbols_of w.drop_front.new.self)
+          w.decode.result long (omega arith) w.decode.ensures w.drop_front.ensures.rest reads.holds w.in_ok-write.ensures.wrote)
       | else-symbols-ge64 w ↦ rw (w.self-is, w.symbols-is) reads.holds
     ] in
     record { within = reads.within; holds = rw (c.keep.ensures.bytes, c.keep.ensures.state) holds }

@@ -1,8 +1,5 @@
-use Rattle.std.proofs.Common.{◌≡◌, ◌+◌, true, length, take, sym, ap, ◌∙◌, arith, length-take-le}
+use Rattle.std.proofs.Common.{◌+◌, length, take, sym, ap, ◌∙◌, arith, length-take-le}
 use Rattle.data_url.specs.Steps.Waiting.{symbols_of}
-use Rattle.std.proofs.lemmas.List.Folds.{list_all-append}
-use Rattle.std.specs.List.{list_all}
-use Rattle.data_url.specs.Base64.{is_symbol}
 use Rattle.data_url.proofs.forgiving_base64.Rows.{all_more, front_kept, gains_all, gains_same, only_spaces, two_halves}
 use Rattle.data_url.proofs.forgiving_base64.symbols.Symbols.add_row.Goals as goal
 
