@@ -1,117 +1,46 @@
--- MIME types with their records and printed texts. Each record has a derivation in the grammar; each printed text is
--- computed.
-use Rattle.std.proofs.Common.{◌≡◌, ℕ, Bool, true, false, List, [], ◌∷◌, ◌++◌, Option, None, Some, inl, inr, codes}
-use Rattle.std.proofs.Common.{eq-eqb, eqb, refl, subst, sym, ◌∙◌, ap, map}
-use Rattle.std.specs.Prelude.{◌==◌, IsTrue, ◌≢◌, not, ◌&&◌}
+-- MIME types with their records and printed texts, by computation.
+use Rattle.std.proofs.Common.{◌≡◌, ℕ, true, List, [], ◌∷◌, ◌++◌, inr, codes}
+use Rattle.std.proofs.Common.{eq-eqb, eqb, length, refl, subst, sym, ◌∙◌, map}
+use Rattle.std.specs.Prelude.{IsTrue}
 use Rattle.std.specs.List.{list_all}
 use Rattle.std.specs.Char.{to_ascii_lowercase}
-use Rattle.data_url.specs.CodePoints.{ends_name, is_http_whitespace, is_semicolon}
-use Rattle.data_url.specs.Mime.{BeginsParameters, DoesNotBegin, GivesValue, HasNoRecord, IsHead, IsParameter}
-use Rattle.data_url.specs.Mime.{IsRecordOf, Item, Items, Pair, Parses, Quoted, Record, default_record, is_quote}
-use Rattle.data_url.specs.Mime.{is_token_text, kept_pairs, after_backslash, nothing_quoted, plain, as_itself, printed}
-use Rattle.data_url.specs.Mime.{quoted, unclosed, unless_empty}
-use Rattle.data_url.specs.Url.{without_end}
+use Rattle.data_url.specs.CodePoints.{is_http_whitespace}
+use Rattle.data_url.specs.Mime.{BeginsParameters, HasNoRecord}
+use Rattle.data_url.specs.Mime.{IsRecordOf, Pair, Parses, Record, default_record}
+use Rattle.data_url.specs.Mime.{is_token_text, kept_pairs, printed}
 use Rattle.data_url.proofs.examples.Literals.{on_literals}
-use Rattle.data_url.proofs.mime.Items.{every_from_all, has_parts, parameters_in, subtype_in, trimmed_of, type_in}
-use Rattle.std.proofs.lemmas.Bool.{and_parts}
+use Rattle.data_url.proofs.mime.Items.{every_from_all, has_items, has_parts, items_in, parameters_in, subtype_in}
+use Rattle.data_url.proofs.mime.Items.{trimmed_of, type_in}
 
--- Derivations on literals
+-- Texts with a record
 
--- the text of a type, a subtype and parameters
-abbrev head_text : List ℕ → List ℕ → List ℕ → List ℕ
-head_text type_ subtype r = type_ ++ (47 ∷ (subtype ++ r))
-
-head : (type_ subtype r : List ℕ) → IsTrue (is_token_text type_) → IsTrue (is_token_text subtype) → BeginsParameters r
-    → trimmed_of is_http_whitespace (head_text type_ subtype r) ≡ head_text type_ subtype r
-    → IsHead (head_text type_ subtype r) type_ subtype r
-head type_ subtype r t s b trimmed = record {
-  gap = [];
-  joined = trimmed;
-  is_type = t;
-  is_subtype = s;
-  in_gap = tt;
-  begins = b;
-}
-
--- ';', a name without whitespace before it, and the text that gives its value
-parameter : (name tail rest : List ℕ) (value : Option (List ℕ)) → DoesNotBegin is_http_whitespace name
-    → list_all (λ c. not (ends_name c)) name ≡ true → GivesValue tail rest value
-    → IsParameter (59 ∷ (name ++ tail)) rest (map to_ascii_lowercase name, value)
-parameter name tail rest value begins names gives = record {
-  gap = [];
-  name = name;
-  tail = tail;
-  joined = refl;
-  in_gap = tt;
-  begins = begins;
-  in_name = every_from_all (λ c. not (ends_name c)) name names;
-  name_is = refl;
-  value_is = gives;
-}
-
--- '=' and a text without quotes and whitespace at its end
-plain_value : (text rest : List ℕ) → list_all (λ c. not (is_semicolon c)) text ≡ true → DoesNotBegin is_quote text
-    → without_end is_http_whitespace text ≡ text → GivesValue (61 ∷ text) rest (unless_empty text)
-plain_value text rest semicolons quotes ends = subst (λ v. GivesValue (61 ∷ text) rest (unless_empty v)) ends
-    (plain text (every_from_all (λ c. not (is_semicolon c)) text semicolons) quotes)
-
-is_plain : ℕ → Bool
-is_plain c = not (c == 34) && not (c == 92)
-
-differs : (c d : ℕ) → not (c == d) ≡ true → c ≢ d
-differs c d h e = let k : false ≡ true = sym (ap not (eq-eqb c d e)) ∙ h in cc
-
--- a code point as it is
-one : {text value : List ℕ} (c : ℕ) → is_plain c ≡ true → Quoted text value → Quoted (c ∷ text) (c ∷ value)
-unfolding is_plain
-one c h q = let f = and_parts (not (c == 34)) (not (c == 92)) h in as_itself c (differs c 34 f.0) (differs c 92 f.1) q
-
--- the code points of a text, each as it is
-each : (t : List ℕ) → list_all is_plain t ≡ true → Quoted t t
-each [] h = nothing_quoted
-each (c ∷ t) h = let e = and_parts (is_plain c) (list_all is_plain t) h in one c e.0 (each t e.1)
-
--- Examples
-
--- a semicolon in quotes, a missing value, and an empty value in quotes
-quotes : Parses (codes "TEXT/HTML;a=" ++ (34 ∷ codes "b;c" ++ (34 ∷ codes ";d=;e=" ++ (34 ∷ 34 ∷ []))))
-    (record {
-      type_ = codes "text";
-      subtype = codes "html";
-      parameters = (codes "a", codes "b;c") ∷ (codes "e", []) ∷ [];
+-- a text of a type, a subtype, whitespace and parameters has the record with these
+reads : (s type_ subtype gap r : List ℕ) (pairs : List Pair) → IsTrue (is_token_text type_)
+    → IsTrue (is_token_text subtype) → list_all is_http_whitespace gap ≡ true → BeginsParameters r
+    → trimmed_of is_http_whitespace s ≡ type_ ++ (47 ∷ (subtype ++ (gap ++ r)))
+    → kept_pairs (items_in (length r) r) ≡ pairs → Parses s (record {
+      type_ = map to_ascii_lowercase type_;
+      subtype = map to_ascii_lowercase subtype;
+      parameters = pairs;
     })
-unfolding is_plain on_literals
-quotes = record {
-  type_ = codes "TEXT";
-  subtype = codes "HTML";
-  parameters = codes ";a=" ++ (34 ∷ codes "b;c" ++ (34 ∷ codes ";d=;e=" ++ (34 ∷ 34 ∷ [])));
-  head = head (codes "TEXT") (codes "HTML")
-      (codes ";a=" ++ (34 ∷ codes "b;c" ++ (34 ∷ codes ";d=;e=" ++ (34 ∷ 34 ∷ [])))) refl refl refl refl;
+reads s type_ subtype gap r pairs t u spaces begins joined are = record {
+  type_ = type_;
+  subtype = subtype;
+  parameters = r;
+  head = record {
+    gap = gap;
+    joined = joined;
+    is_type = t;
+    is_subtype = u;
+    in_gap = every_from_all is_http_whitespace gap spaces;
+    begins = begins;
+  };
   record_is = record {
-    items = (codes "a", Some (codes "b;c")) ∷ (codes "d", None) ∷ (codes "e", Some []) ∷ [];
-    items_are = (
-      codes ";a=" ++ (34 ∷ codes "b;c" ++ (34 ∷ [])),
-      codes ";d=;e=" ++ (34 ∷ 34 ∷ []),
-      refl,
-      parameter (codes "a") _ _ _ refl refl (quoted (codes "b;c") [] (each (codes "b;c") refl) tt),
-      (
-        codes ";d=",
-        codes ";e=" ++ (34 ∷ 34 ∷ []),
-        refl,
-        parameter (codes "d") _ _ _ refl refl (plain_value [] _ refl tt refl),
-        (
-          codes ";e=" ++ (34 ∷ 34 ∷ []),
-          [],
-          refl,
-          parameter (codes "e") _ _ _ refl refl
-              (quoted [] [] (nothing_quoted) tt),
-          refl,
-        ),
-      ),
-    );
+    items = items_in (length r) r;
+    items_are = has_items r begins;
     type_is = refl;
     subtype_is = refl;
-    parameters_are = refl;
+    parameters_are = sym are;
   };
 }
 
@@ -119,182 +48,22 @@ quotes = record {
 abbrev x_x : List Pair → Record
 x_x pairs = record { type_ = codes "x"; subtype = codes "x"; parameters = pairs }
 
--- a text of type and subtype x whose parameters have these items
-parses_x : (r : List ℕ) (items : List Item) → BeginsParameters r
-    → trimmed_of is_http_whitespace (codes "x/x" ++ r) ≡ codes "x/x" ++ r
-    → Items r items → Parses (codes "x/x" ++ r) (x_x (kept_pairs items))
+-- a text of type and subtype x has these parameters
+reads_x : (r : List ℕ) (pairs : List Pair) → BeginsParameters r
+    → trimmed_of is_http_whitespace (codes "x/x" ++ r) ≡ codes "x/x" ++ r → kept_pairs (items_in (length r) r) ≡ pairs
+    → Parses (codes "x/x" ++ r) (x_x pairs)
 unfolding on_literals
-parses_x r items begins ends are = record {
-  type_ = codes "x";
-  subtype = codes "x";
-  parameters = r;
-  head = head (codes "x") (codes "x") r refl refl begins ends;
-  record_is = record { items = items; items_are = are; type_is = refl; subtype_is = refl; parameters_are = refl };
-}
+reads_x r pairs begins ends are = reads (codes "x/x" ++ r) (codes "x") (codes "x") [] r pairs refl refl refl begins ends are
 
--- a name can have every mark that is a token code point
-token_marks : Parses (codes "x/x;!#$%&'*+-.^_`|~=v") (x_x ((codes "!#$%&'*+-.^_`|~", codes "v") ∷ []))
+-- a semicolon in quotes, a missing value, and an empty value in quotes
+quotes : Parses (codes "TEXT/HTML;a=" ++ (34 ∷ codes "b;c" ++ (34 ∷ codes ";d=;e=" ++ (34 ∷ 34 ∷ [])))) (record {
+  type_ = codes "text";
+  subtype = codes "html";
+  parameters = (codes "a", codes "b;c") ∷ (codes "e", []) ∷ [];
+})
 unfolding on_literals
-token_marks = parses_x (codes ";!#$%&'*+-.^_`|~=v") ((codes "!#$%&'*+-.^_`|~", Some (codes "v")) ∷ []) refl refl (
-  codes ";!#$%&'*+-.^_`|~=v",
-  [],
-  refl,
-  parameter (codes "!#$%&'*+-.^_`|~") _ _ _ refl refl (plain_value (codes "v") _ refl refl refl),
-  refl,
-)
-
--- a value cannot have U+007F or U+0100; it can have U+0080 and U+00FF
-edges_of_values : Parses
-    (codes "x/x;a=" ++ (127 ∷ codes ";b=" ++ (128 ∷ codes ";c=" ++ (255 ∷ codes ";d=" ++ (256 ∷ [])))))
-    (x_x ((codes "b", 128 ∷ []) ∷ (codes "c", 255 ∷ []) ∷ []))
-unfolding on_literals
-edges_of_values = parses_x
-    (codes ";a=" ++ (127 ∷ codes ";b=" ++ (128 ∷ codes ";c=" ++ (255 ∷ codes ";d=" ++ (256 ∷ [])))))
-    ((codes "a", Some (127 ∷ [])) ∷ (codes "b", Some (128 ∷ [])) ∷ (codes "c", Some (255 ∷ [])) ∷ (
-      codes "d",
-      Some (256 ∷ []),
-    ) ∷ []) refl refl (
-      codes ";a=" ++ (127 ∷ []),
-      codes ";b=" ++ (128 ∷ codes ";c=" ++ (255 ∷ codes ";d=" ++ (256 ∷ []))),
-      refl,
-      parameter (codes "a") _ _ _ refl refl (plain_value (127 ∷ []) _ refl refl refl),
-      (
-        codes ";b=" ++ (128 ∷ []),
-        codes ";c=" ++ (255 ∷ codes ";d=" ++ (256 ∷ [])),
-        refl,
-        parameter (codes "b") _ _ _ refl refl (plain_value (128 ∷ []) _ refl refl refl),
-        (
-          codes ";c=" ++ (255 ∷ []),
-          codes ";d=" ++ (256 ∷ []),
-          refl,
-          parameter (codes "c") _ _ _ refl refl (plain_value (255 ∷ []) _ refl refl refl),
-          (
-            codes ";d=" ++ (256 ∷ []),
-            [],
-            refl,
-            parameter (codes "d") _ _ _ refl refl
-                (plain_value (256 ∷ []) _ refl refl refl),
-            refl,
-          ),
-        ),
-      ),
-    )
-
--- names are lower-cased before they are compared, and the first pair of a name is kept
-repeated_name : Parses (codes "x/x;a=1;A=2") (x_x ((codes "a", codes "1") ∷ []))
-unfolding on_literals
-repeated_name = parses_x (codes ";a=1;A=2") ((codes "a", Some (codes "1")) ∷ (codes "a", Some (codes "2")) ∷ []) refl
-    refl (
-      codes ";a=1",
-      codes ";A=2",
-      refl,
-      parameter (codes "a") _ _ _ refl refl (plain_value (codes "1") _ refl refl refl),
-      (codes ";A=2", [], refl, parameter (codes "A") _ _ _ refl refl (plain_value (codes "2") _ refl refl refl), refl),
-    )
-
--- the code points after a closing quote are ignored
-junk_after_quote : Parses (codes "x/x;a=" ++ (34 ∷ 98 ∷ 34 ∷ 256 ∷ [])) (x_x ((codes "a", codes "b") ∷ []))
-unfolding is_plain on_literals
-junk_after_quote = parses_x (codes ";a=" ++ (34 ∷ 98 ∷ 34 ∷ 256 ∷ [])) ((codes "a", Some (codes "b")) ∷ []) refl refl (
-  codes ";a=" ++ (34 ∷ 98 ∷ 34 ∷ 256 ∷ []),
-  [],
-  refl,
-  parameter (codes "a") _ _ _ refl refl
-      (quoted (codes "b") (256 ∷ []) (each (codes "b") refl)
-      (every_from_all (λ c. not (is_semicolon c)) (256 ∷ []) refl)),
-  refl,
-)
-
--- a quoted value is tested as a whole: it can have a semicolon, and U+0100 makes its pair invalid
-code_point_above : Parses (codes "x/x;a=" ++ (34 ∷ 98 ∷ 59 ∷ 256 ∷ 34 ∷ [])) (x_x [])
-unfolding is_plain on_literals
-code_point_above = parses_x (codes ";a=" ++ (34 ∷ 98 ∷ 59 ∷ 256 ∷ 34 ∷ []))
-    ((codes "a", Some (98 ∷ 59 ∷ 256 ∷ [])) ∷ []) refl refl (
-      codes ";a=" ++ (34 ∷ 98 ∷ 59 ∷ 256 ∷ 34 ∷ []),
-      [],
-      refl,
-      parameter (codes "a") _ _ _ refl refl
-          (quoted (98 ∷ 59 ∷ 256 ∷ []) [] (each (98 ∷ 59 ∷ 256 ∷ []) refl) tt),
-      refl,
-    )
-
--- a backslash at the end of the input is part of the value
-last_backslash : Parses (codes "x/x;a=" ++ (34 ∷ 92 ∷ [])) (x_x ((codes "a", 92 ∷ []) ∷ []))
-unfolding is_plain on_literals
-last_backslash = parses_x (codes ";a=" ++ (34 ∷ 92 ∷ [])) ((codes "a", Some (92 ∷ [])) ∷ []) refl refl (
-  codes ";a=" ++ (34 ∷ 92 ∷ []),
-  [],
-  refl,
-  parameter (codes "a") _ _ _ refl refl
-      (unclosed (92 ∷ []) (inr ([], [], refl, refl, nothing_quoted))),
-  refl,
-)
-
--- escapes, a quote inside a value without quotes, and a quoted string that ends with the input
-abbrev escapes_text : List ℕ
-escapes_text = codes ";a=" ++ (34 ∷ 113 ∷ 92 ∷ 34 ∷ 114 ∷ 34 ∷ codes
-    ";b=" ++ (34 ∷ 92 ∷ 97 ∷ 34 ∷ codes ";c=d" ++ (34 ∷ codes "e;f=" ++ (34 ∷ 103 ∷ []))))
-
-escapes : Parses (codes "x/x" ++ escapes_text)
-    (x_x ((codes "a", 113 ∷ 34 ∷ 114 ∷ []) ∷ (codes "b", codes "a") ∷ (codes "c", 100 ∷ 34 ∷ 101 ∷ []) ∷ (
-      codes "f",
-      codes "g",
-    ) ∷ []))
-unfolding is_plain on_literals
-escapes = parses_x escapes_text ((codes "a", Some (113 ∷ 34 ∷ 114 ∷ [])) ∷ (codes "b", Some (codes "a")) ∷ (
-  codes "c",
-  Some (100 ∷ 34 ∷ 101 ∷ []),
-) ∷ (codes "f", Some (codes "g")) ∷ []) refl refl (
-  codes ";a=" ++ (34 ∷ 113 ∷ 92 ∷ 34 ∷ 114 ∷ 34 ∷ []),
-  codes ";b=" ++ (34 ∷ 92 ∷ 97 ∷ 34 ∷ codes ";c=d" ++ (34 ∷ codes "e;f=" ++ (34 ∷ 103 ∷ []))),
-  refl,
-  parameter (codes "a") _ _ _ refl refl
-      (quoted (113 ∷ 92 ∷ 34 ∷ 114 ∷ []) [] (one 113 refl (after_backslash 34 (one 114 refl nothing_quoted))) tt),
-  (
-    codes ";b=" ++ (34 ∷ 92 ∷ 97 ∷ 34 ∷ []),
-    codes ";c=d" ++ (34 ∷ codes "e;f=" ++ (34 ∷ 103 ∷ [])),
-    refl,
-    parameter (codes "b") _ _ _ refl refl (quoted (92 ∷ 97 ∷ []) [] (after_backslash 97 nothing_quoted) tt),
-    (
-      codes ";c=d" ++ (34 ∷ 101 ∷ []),
-      codes ";f=" ++ (34 ∷ 103 ∷ []),
-      refl,
-      parameter (codes "c") _ _ _ refl refl (plain_value (100 ∷ 34 ∷ 101 ∷ []) _ refl refl refl),
-      (
-        codes ";f=" ++ (34 ∷ 103 ∷ []),
-        [],
-        refl,
-        parameter (codes "f") _ _ _ refl refl (unclosed (103 ∷ []) (inl (each (codes "g") refl))),
-        refl,
-      ),
-    ),
-  ),
-)
-
--- a parameter whose name is empty or not a token is ignored together with its quoted string
-invalid_names : Parses (codes "x/x;=q;" ++ (233 ∷ codes "=" ++ (34 ∷ codes "a;b=c" ++ (34 ∷ codes ";d=e"))))
-    (x_x ((codes "d", codes "e") ∷ []))
-unfolding is_plain on_literals
-invalid_names = parses_x (codes ";=q;" ++ (233 ∷ codes "=" ++ (34 ∷ codes "a;b=c" ++ (34 ∷ codes ";d=e"))))
-    (([], Some (codes "q")) ∷ (233 ∷ [], Some (codes "a;b=c")) ∷ (codes "d", Some (codes "e")) ∷ []) refl refl (
-      codes ";=q",
-      59 ∷ 233 ∷ codes "=" ++ (34 ∷ codes "a;b=c" ++ (34 ∷ codes ";d=e")),
-      refl,
-      parameter [] _ _ _ tt refl (plain_value (codes "q") _ refl refl refl),
-      (
-        59 ∷ 233 ∷ codes "=" ++ (34 ∷ codes "a;b=c" ++ (34 ∷ [])),
-        codes ";d=e",
-        refl,
-        parameter (233 ∷ []) _ _ _ refl refl (quoted (codes "a;b=c") [] (each (codes "a;b=c") refl) tt),
-        (
-          codes ";d=e",
-          [],
-          refl,
-          parameter (codes "d") _ _ _ refl refl (plain_value (codes "e") _ refl refl refl),
-          refl,
-        ),
-      ),
-    )
+quotes = reads _ (codes "TEXT") (codes "HTML") []
+    (codes ";a=" ++ (34 ∷ codes "b;c" ++ (34 ∷ codes ";d=;e=" ++ (34 ∷ 34 ∷ [])))) _ refl refl refl refl refl refl
 
 -- whitespace is removed at both ends, after the subtype and before a name; at the end of a name it is kept
 whitespace : Parses (codes " a/b ; c=d ") (record {
@@ -303,42 +72,52 @@ whitespace : Parses (codes " a/b ; c=d ") (record {
   parameters = (codes "c", codes "d") ∷ [];
 })
 unfolding on_literals
-whitespace = record {
-  type_ = codes "a";
-  subtype = codes "b";
-  parameters = codes "; c=d";
-  head = record {
-    gap = codes " ";
-    joined = refl;
-    is_type = refl;
-    is_subtype = refl;
-    in_gap = every_from_all is_http_whitespace (codes " ") refl;
-    begins = refl;
-  };
-  record_is = record {
-    items = (codes "c", Some (codes "d")) ∷ [];
-    items_are = (
-      codes "; c=d",
-      [],
-      refl,
-      record {
-        gap = codes " ";
-        name = codes "c";
-        tail = codes "=d";
-        joined = refl;
-        in_gap = every_from_all is_http_whitespace (codes " ") refl;
-        begins = refl;
-        in_name = every_from_all (λ c. not (ends_name c)) (codes "c") refl;
-        name_is = refl;
-        value_is = plain_value (codes "d") _ refl refl refl;
-      },
-      refl,
-    );
-    type_is = refl;
-    subtype_is = refl;
-    parameters_are = refl;
-  };
-}
+whitespace = reads _ (codes "a") (codes "b") (codes " ") (codes "; c=d") _ refl refl refl refl refl refl
+
+-- a name can have every mark that is a token code point
+token_marks : Parses (codes "x/x" ++ codes ";!#$%&'*+-.^_`|~=v") (x_x ((codes "!#$%&'*+-.^_`|~", codes "v") ∷ []))
+unfolding on_literals
+token_marks = reads_x _ _ refl refl refl
+
+-- a value cannot have U+007F or U+0100; it can have U+0080 and U+00FF
+edges_of_values : Parses (codes "x/x" ++ (codes ";a=" ++ (127 ∷ codes ";b=" ++ (128 ∷ codes ";c=" ++ (255 ∷ codes ";d=" ++ (256 ∷ [])))))) (x_x ((codes "b", 128 ∷ []) ∷ (codes "c", 255 ∷ []) ∷ []))
+unfolding on_literals
+edges_of_values = reads_x _ _ refl refl refl
+
+-- names are lower-cased before they are compared, and the first pair of a name is kept
+repeated_name : Parses (codes "x/x" ++ codes ";a=1;A=2") (x_x ((codes "a", codes "1") ∷ []))
+unfolding on_literals
+repeated_name = reads_x _ _ refl refl refl
+
+-- the code points after a closing quote are ignored
+junk_after_quote : Parses (codes "x/x" ++ (codes ";a=" ++ (34 ∷ 98 ∷ 34 ∷ 256 ∷ []))) (x_x ((codes "a", codes "b") ∷ []))
+unfolding on_literals
+junk_after_quote = reads_x _ _ refl refl refl
+
+-- a quoted value is tested as a whole: it can have a semicolon, and U+0100 makes its pair invalid
+code_point_above : Parses (codes "x/x" ++ (codes ";a=" ++ (34 ∷ 98 ∷ 59 ∷ 256 ∷ 34 ∷ []))) (x_x [])
+unfolding on_literals
+code_point_above = reads_x _ _ refl refl refl
+
+-- a backslash at the end of the input is part of the value
+last_backslash : Parses (codes "x/x" ++ (codes ";a=" ++ (34 ∷ 92 ∷ []))) (x_x ((codes "a", 92 ∷ []) ∷ []))
+unfolding on_literals
+last_backslash = reads_x _ _ refl refl refl
+
+-- escapes, a quote inside a value without quotes, and a quoted string that ends with the input
+abbrev escapes_text : List ℕ
+escapes_text = codes ";a=" ++ (34 ∷ 113 ∷ 92 ∷ 34 ∷ 114 ∷ 34 ∷ codes
+    ";b=" ++ (34 ∷ 92 ∷ 97 ∷ 34 ∷ codes ";c=d" ++ (34 ∷ codes "e;f=" ++ (34 ∷ 103 ∷ []))))
+
+escapes : Parses (codes "x/x" ++ escapes_text) (x_x ((codes "a", 113 ∷ 34 ∷ 114 ∷ []) ∷ (codes "b", codes "a")
+    ∷ (codes "c", 100 ∷ 34 ∷ 101 ∷ []) ∷ (codes "f", codes "g") ∷ []))
+unfolding on_literals
+escapes = reads_x _ _ refl refl refl
+
+-- a parameter whose name is empty or not a token is ignored together with its quoted string
+invalid_names : Parses (codes "x/x" ++ (codes ";=q;" ++ (233 ∷ codes "=" ++ (34 ∷ codes "a;b=c" ++ (34 ∷ codes ";d=e"))))) (x_x ((codes "d", codes "e") ∷ []))
+unfolding on_literals
+invalid_names = reads_x _ _ refl refl refl
 
 -- Texts without a record
 

@@ -31,7 +31,7 @@ use Rattle.std.specs.BTreeSet.{BTreeSet, UpdatesBy, contains, contains_text}
 use Rattle.std.specs.Cmp.Lexicographic.{slice_cmp}
 use Rattle.std.specs.Ordering.{nat_cmp}
 use Rattle.std.specs.String.{string_cmp}
-use Rattle.data_url.proofs.mime.Items.{some_items}
+use Rattle.data_url.proofs.mime.Items.{has_items, items_in}
 
 -- Names that are searched among the first pairs that are kept.
 
@@ -393,14 +393,20 @@ parses_parts s a b c m h p = record { type_ = a; subtype = b; parameters = c; he
 -- a text that has a head has a record
 pub has_record : (s a b c : List ℕ) → IsHead s a b c → HasNoRecord s → ⊥
 has_record s a b c h n =
-    let i = some_items c h.begins in
-    n (record { type_ = map to_ascii_lowercase a; subtype = map to_ascii_lowercase b; parameters = kept_pairs i.0 })
+    let items = items_in (length c) c in
+    n (record { type_ = map to_ascii_lowercase a; subtype = map to_ascii_lowercase b; parameters = kept_pairs items })
     (record {
       type_ = a;
       subtype = b;
       parameters = c;
       head = h;
-      record_is = record { items = i.0; items_are = i.1; type_is = refl; subtype_is = refl; parameters_are = refl };
+      record_is = record {
+        items = items;
+        items_are = has_items c h.begins;
+        type_is = refl;
+        subtype_is = refl;
+        parameters_are = refl;
+      };
     })
 
 -- a text that has no head has no record

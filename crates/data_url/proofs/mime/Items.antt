@@ -1,5 +1,5 @@
 -- A text has one list of items, and at most one record.
-use Rattle.std.proofs.Common.{◌≡◌, ℕ, zero, suc, ◌<◌, ◌≤◌, ◌==◌, Bool, false, not, cond, List, [], ◌∷◌, ◌++◌, Option}
+use Rattle.std.proofs.Common.{◌≡◌, ℕ, zero, suc, ◌≤◌, ◌==◌, Bool, false, not, cond, List, [], ◌∷◌, ◌++◌, Option}
 use Rattle.std.proofs.Common.{None, Some, map, length, refl, sym, ap, ◌∙◌, subst, append_assoc, append-nil, arith}
 use Rattle.std.proofs.Common.{length-append, eqb-true, true}
 use Rattle.std.proofs.lemmas.Bool.{cond_both, not-false, and_from, and_parts}
@@ -350,24 +350,31 @@ only_items r (item ∷ a) (item' ∷ b) h k =
 pub items_more : (s : List ℕ) (items : List Item) → Items (rest_in s) items → Items (59 ∷ s) (item_in s ∷ items)
 items_more s items h = let p = has_parameter s in (p.text, rest_in s, p.joined, p.is_parameter, h)
 
--- a text shorter than n that is empty or begins with ';' has a list of items
-items_below : (n : ℕ) (r : List ℕ) → length r < n → BeginsParameters r → (items : List Item) × Items r items
-items_below zero r l b = absurd (omega arith)
-items_below (suc n) [] l b = ([], refl)
+-- the items of a text, of which each parameter has a code point; at most n items
+abbrev pub items_in : ℕ → List ℕ → List Item
+items_in zero r = []
+items_in (suc n) [] = []
+items_in (suc n) (c ∷ s) = item_in s ∷ items_in n (rest_in s)
+
+-- a text of at most n code points that is empty or begins with ';' has these items
+items_below : (n : ℕ) (r : List ℕ) → length r ≤ n → BeginsParameters r → Items r (items_in n r)
+items_below zero [] l b = refl
+items_below zero (c ∷ s) l b = absurd (omega arith)
+items_below (suc n) [] l b = refl
 items_below (suc n) (c ∷ s) l b =
     let p = has_parameter s in
     let shorter : length (rest_in s) ≤ length s = rest_shorter s (rest_in s) (item_in s) p in
-    let below : length (rest_in s) < n = omega (arith, shorter) in
-    let i = items_below n (rest_in s) below p.begins in
-    subst (λ x. (items : List Item) × Items (x ∷ s) items) (sym b) (item_in s ∷ i.0, items_more s i.0 i.1)
+    let below : length (rest_in s) ≤ n = omega (arith, shorter) in
+    subst (λ x. Items (x ∷ s) (item_in s ∷ items_in n (rest_in s))) (sym b)
+    (items_more s (items_in n (rest_in s)) (items_below n (rest_in s) below p.begins))
 
--- a text that is empty or begins with ';' has a list of items
-pub some_items : (r : List ℕ) → BeginsParameters r → (items : List Item) × Items r items
-some_items r b = items_below (suc (length r)) r (omega arith) b
+-- the items of a text that is empty or begins with ';'
+pub has_items : (r : List ℕ) → BeginsParameters r → Items r (items_in (length r) r)
+has_items r b = items_below (length r) r (omega arith) b
 
 -- a text that is empty or begins with ';' has exactly one list of items
 pub has_one_item_list : (r : List ℕ) → BeginsParameters r → HasOneItemList r
-has_one_item_list r b = record { some = some_items r b; only = only_items r }
+has_one_item_list r b = record { some = (items_in (length r) r, has_items r b); only = only_items r }
 
 -- A text has at most one record.
 
