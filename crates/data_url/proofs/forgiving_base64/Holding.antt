@@ -1,5 +1,5 @@
 -- Feeding while decoded bytes are held. For `feed_blocks`, `feed_spaced` and `flush`.
-use Rattle.std.proofs.Common.{◌≡◌, ℕ, ◌+◌, ◌-◌, ◌%◌, ◌<◌, ◌≤◌, Fits, w8, length-take, length-take-le, Bool, true, false}
+use Rattle.std.proofs.Common.{◌≡◌, ℕ, suc, zero, ◌+◌, ◌-◌, ◌*◌, ◌/◌, ◌%◌, ◌<◌, ◌≤◌, Fits, w8, length-take, length-take-le, Bool, true, false}
 use Rattle.std.proofs.Common.{cond, min, ◌||◌, List, [], ◌∷◌, ◌++◌, length, map, drop, get_or, take, take-add, Option}
 use Rattle.std.proofs.Common.{None, Some, is_some, Result, Ok, Err, refl, ap, ap₂, sym, ◌∙◌, subst, arith, append_assoc}
 use Rattle.std.proofs.Common.{length-append}
@@ -18,7 +18,10 @@ use Rattle.std.specs.Option.{option_or}
 use Rattle.std.specs.Result.{result_err}
 use Rattle.data_url.specs.Steps.Calls.{CallsOnce}
 use Rattle.data_url.specs.Steps.Blocks.{GainsSymbols, AreGroups, DecodesFront, Fills, is_symbol_or_space}
-use Rattle.data_url.specs.Steps.Holding.{Adds, Flushes, Gains, Holds, IsBetweenGroups, Refuses, waiting}
+use Rattle.data_url.specs.Steps.Holding.{Adds, Flushes, Gains, Holds, IsBetweenGroups, Reads, Refuses, waiting}
+use Rattle.data_url.proofs.forgiving_base64.Rows.{all_after, all_more, groups_front}
+use Rattle.data_url.specs.Steps.Waiting.{symbols_of}
+use Rattle.data_url.specs.declared.forgiving_base64.symbols.Symbols.{Symbols}
 use Rattle.data_url.specs.declared.forgiving_base64.DecodeError.{DecodeError}
 use Rattle.data_url.specs.declared.forgiving_base64.DecodeError.TheVariants.{InvalidBase64, WriteError}
 use Rattle.data_url.proofs.forgiving_base64.Steps.{adds_none, adds_text, fault_space, fault_symbol, has_pad, told_call}
@@ -260,6 +263,18 @@ pub gains_groups : {F : Type 0} {d : State F} {held text held' : List ℕ} (take
     → d.padding ≡ 0 → d.failed ≡ false → Fills held text taken held' → Gains d held text taken d held'
 gains_groups {text = text} taken some is_q is_p going f = search (arith, adds_groups)
 
+-- no bytes have no groups
+pub fills_none : {held text held' : List ℕ} (taken : ℕ) → taken ≡ 0 → Fills held text taken held' → held' ≡ held
+unfolding values groups
+fills_none zero e f = grind (arith, append-nil)
+fills_none (suc n) e f = absurd (omega arith)
+
+-- the first byte of a text, and then the bytes of the group that it completes, if any, after those that are held
+pub gains_one : {F : Type 0} {d d' : State F} {held held' : List ℕ} (text more : List ℕ) → 1 ≤ length text
+    → Adds d (get_or text 0 0 ∷ []) more d' → held' ≡ held ++ more → Gains d held text 1 d' held'
+gains_one [] more some a e = absurd (omega arith)
+gains_one (c ∷ t) more some a e = grind arith
+
 -- a block of symbols, if nothing is held
 whole_fills : {bytes : List ℕ} (block : List ℕ) → ((i : ℕ) → Fits w8 (get_or block i 0)) → 64 ≤ length block
     → true ≡ list_all is_symbol (take 64 block) → bytes ≡ groups (map value_of (take 64 block))
@@ -346,7 +361,11 @@ module _ {F E : Type 0} (step : F → List ℕ → Result (Unit {0}) E → F →
       let Q : List ℕ → Type 0 = λ t. Feeds step d1 t r d2 in
       subst P (take-append-drop at s) (feeds_then step f (subst Q (take_rest s at) g))
 
--- Symbols that are held
+-- Symbols that are held: the bytes of their groups were not passed to the closure
+
+-- the number of symbols in the buffer
+pub symbols_len : (s : Symbols) → length (symbols_of s) ≡ s.len
+symbols_len s = length-take-le s.len s.bytes (omega (arith, s.within, s.sized))
 
 -- the bytes of the groups of q ++ k are those of q, and then those of what is left over of q followed by k
 values_wait : (q k : List ℕ) → groups (map symbol_value (q ++ k)) ≡ groups (map symbol_value q) ++ groups
@@ -376,7 +395,7 @@ row_adds d q row every all some is_p going =
     refl (after_groups-append q k) (is_p ∙ ap (λ p. min (p + 0) 3) (sym is_p)) going
 
 -- what is left over of at least 64 items is what is left over of those after the first 64
-rest_after : (q : List ℕ) → 64 ≤ length q → after_groups q ≡ after_groups (drop 64 q)
+pub rest_after : (q : List ℕ) → 64 ≤ length q → after_groups q ≡ after_groups (drop 64 q)
 rest_after q long = let none : after_groups (take 64 q) ≡ [] =
     nil_from_length (after_groups (take 64 q))
     (omega (arith, length-after_groups (take 64 q), length-take-le 64 q long)) in
@@ -400,49 +419,77 @@ block_rest q bytes long size front =
       )),
     )
 
+-- d reads the first `at` bytes of the text and is s after that, except that the symbols q are held: the closure was not
+-- called with the bytes of their groups, and those that are left over are not in s
+pub record Waits {F E : Type 0} (step : F → List ℕ → Result (Unit {0}) E → F → Type 0) (d : State F) (text : List ℕ)
+    (at : ℕ) (q : List ℕ) (s : State F) : Type 0 where
+  pub reads : Reads step d text at (groups (map symbol_value q)) (waiting s q)
+  pub all : list_all is_symbol q ≡ true
+  pub padding : s.padding ≡ 0
+
 module _ {F E : Type 0} (step : F → List ℕ → Result (Unit {0}) E → F → Type 0) where
   -- nothing was read, and nothing is held
-  pub none_wait : {d : State F} {q : List ℕ} (every : Every is_symbol d.symbols) → IsBetweenGroups d → d.failed ≡ false
-      → q ≡ [] → Holds step d [] (groups (map symbol_value q)) (waiting d q)
+  pub none_wait : {d : State F} {q : List ℕ} (text : List ℕ) → Every is_symbol d.symbols → IsBetweenGroups d
+      → d.failed ≡ false → q ≡ [] → Waits step d text 0 q d
   unfolding groups after_groups
-  none_wait {d} {q} every none going is = grind (arith, adds_none)
+  none_wait {d} {q} text every none going is = grind (arith, adds_none)
 
-  -- n bytes, all symbols and whitespace, are read, and their symbols are held after those before
-  pub block_waits : {d : State F} (s : State F) (text q q' : List ℕ) (at n : ℕ) → list_all is_symbol q ≡ true
-      → 0 < n → at + n ≤ length text → GainsSymbols q (take n (take (length text - at) (drop at text))) q'
-      → s.padding ≡ 0 → Holds step d (take at text) (groups (map symbol_value q)) (waiting s q)
-      → Holds step d (take (at + n) text) (groups (map symbol_value q')) (waiting s q')
-  block_waits {d} s text q q' at n every some within g is_p h =
-      let rest : take (length text - at) (drop at text) ≡ drop at text = take_rest text at in
-      let row = take n (drop at text) in
-      let allowed : list_all is_symbol_or_space row ≡ true = cc (g.spaced) in
-      let more : q' ≡ q ++ filter is_symbol row = g.added ∙ ap (λ t. q ++ filter is_symbol (take n t)) rest in
-      let size : length row ≡ n = length-take-le n (drop at text) (omega (arith, length-drop at text)) in
+  -- n bytes more, all symbols and whitespace, are read, and their symbols are held after those before
+  pub rows_wait : {d s : State F} {q q' : List ℕ} (text : List ℕ) (at n : ℕ) → 0 < n
+      → n ≤ length (take (length text - at) (drop at text))
+      → GainsSymbols q (take n (take (length text - at) (drop at text))) q' → Waits step d text at q s
+      → Waits step d text (at + n) q' s
+  rows_wait {d} {s} {q} {q'} text at n some within g w =
+      let row = take n (take (length text - at) (drop at text)) in
+      let size : length row ≡ n = length-take-le n (take (length text - at) (drop at text)) within in
+      let all : list_all is_symbol q' ≡ true = all_more q row q' w.all g.added in
       let P : List ℕ → Type 0 = λ t. Holds step d t (groups (map symbol_value q')) (waiting s q') in
-      let Q : List ℕ → Type 0 = λ l. Holds step d (take at text ++ row) l (waiting s (q ++ filter is_symbol row)) in
       let R : List ℕ → Type 0 = λ l. Holds step d (take at text ++ row) (groups (map symbol_value l)) (waiting s l) in
-      subst P (sym (take-add at n text))
-      (subst R (sym more) (subst Q (sym (values_wait q (filter is_symbol row)))
-      (holds_adds step h (row_adds s q row (every_list_all q every) allowed (omega (arith, size)) is_p h.going))))
+      let Q : List ℕ → Type 0 = λ l. Holds step d (take at text ++ row) l (waiting s (q ++ filter is_symbol row)) in
+      let h = w.reads.holds in
+      record {
+        reads = record {
+          within = omega (arith, within, length-take (length text - at) (drop at text), length-drop at text);
+          holds =
+              subst P (cc (take-add at n text, take_rest text at))
+              (subst R (sym g.added) (subst Q (sym (values_wait q (filter is_symbol row)))
+              (holds_adds step h (row_adds s q row (every_list_all q w.all) g.spaced (omega (arith, size)) w.padding
+              h.going))));
+        };
+        all = all;
+        padding = w.padding;
+      }
 
   -- the closure is called with the bytes of 64 symbols
-  pub block_goes : {d s1 s2 : State F} {t : List ℕ} (q q' bytes : List ℕ) → 64 ≤ length q → length bytes ≡ 48
-      → DecodesFront q bytes → q' ≡ drop 64 q → Holds step d t (groups (map symbol_value q)) (waiting s1 q)
-      → CallsOnce step s1 bytes (Ok tt) s2 → Holds step d t (groups (map symbol_value q')) (waiting s2 q')
-  block_goes {d} {s1} {s2} {t} q q' bytes long size front is h w =
-      let P : List ℕ → Type 0 = λ l. Holds step d t l (waiting s1 q) in
-      let Q : List ℕ → Type 0 = λ l. Holds step d t (groups (map symbol_value l)) (waiting s2 l) in
-      let R : List ℕ → Type 0 = λ l. Holds step d t (groups (map symbol_value (drop 64 q)))
+  pub block_goes : {d s1 s2 : State F} {text q : List ℕ} {at : ℕ} (bytes : List ℕ) → 64 ≤ length q → length bytes ≡ 48
+      → DecodesFront q bytes → Waits step d text at q s1 → CallsOnce step s1 bytes (Ok tt) s2
+      → Waits step d text at (drop 64 q) s2
+  block_goes {d} {s1} {s2} {text} {q} {at} bytes long size front w c =
+      let P : List ℕ → Type 0 = λ l. Holds step d (take at text) l (waiting s1 q) in
+      let R : List ℕ → Type 0 = λ l. Holds step d (take at text) (groups (map symbol_value (drop 64 q)))
       (record s2 { symbols = l }) in
-      subst Q (sym is) (subst R (rest_after q long)
-      (part_holds step q size (subst P (block_rest q bytes long size front) h) w))
+      record {
+        reads = record {
+          within = w.reads.within;
+          holds = subst R (rest_after q long)
+              (part_holds step q size (subst P (block_rest q bytes long size front) w.reads.holds) c);
+        };
+        all = all_after 64 q w.all;
+        padding = c.padding_stays ∙ w.padding;
+      }
 
   -- if the closure returns an error for the bytes of 64 symbols, so does feeding the text
-  pub block_refused : {d s1 s2 : State F} {e : DecodeError E} (text : List ℕ) (at : ℕ) (q bytes : List ℕ)
-      → 64 ≤ length q → length bytes ≡ 48 → DecodesFront q bytes
-      → Holds step d (take at text) (groups (map symbol_value q)) (waiting s1 q) → CallsOnce step s1 bytes (Err e) s2
-      → Feeds step d text (Err e) s2
-  block_refused {d} {s1} text at q bytes long size front h w =
+  pub block_refused : {d s1 s2 : State F} {text q : List ℕ} {at : ℕ} {e : DecodeError E} (bytes : List ℕ)
+      → 64 ≤ length q → length bytes ≡ 48 → DecodesFront q bytes → Waits step d text at q s1
+      → CallsOnce step s1 bytes (Err e) s2 → Feeds step d text (Err e) s2
+  block_refused {d} {s1} {text = text} {q = q} {at = at} bytes long size front w c =
       let P : List ℕ → Type 0 = λ l. Holds step d (take at text) l (waiting s1 q) in
       feeds_stop step text at (part_refused step q (groups (map symbol_value (drop 64 q))) size
-      (subst P (block_rest q bytes long size front) h) w)
+      (subst P (block_rest q bytes long size front) w.reads.holds) c)
+
+  -- fewer than 64 symbols that are held: the bytes of their groups are held in a piece, and the others are left over
+  pub few_read : {d s : State F} {text q : List ℕ} {at : ℕ} (bytes left : List ℕ) → length q < 64
+      → DecodesFront q bytes → left ≡ after_groups q → Waits step d text at q s
+      → Reads step d text at (take (3 * (length q / 4)) bytes) (record s { symbols = left })
+  few_read {d} {s} {text} {q} {at} bytes left few front is w =
+      rw (groups_front q bytes few front, is) w.reads

@@ -1,7 +1,7 @@
 -- Rows without their white space. For `symbols.rt` and `places.rt`.
 use Rattle.std.proofs.Common.{◌≡◌, ℕ, suc, zero, ◌+◌, ◌-◌, ◌*◌, ◌/◌, ◌%◌, ◌^◌, ◌<◌, ◌≤◌, Bool, true, false, not, ◌&&◌}
 use Rattle.std.proofs.Common.{◌||◌, cond, eqb, ltb, List, [], ◌∷◌, ◌++◌, map, length, get_or, take, drop, Fits, bit_and}
-use Rattle.std.proofs.Common.{w8, refl, sym, ap, ap₂, ◌∙◌, subst, arith, append_assoc, length-take-le, length-drop}
+use Rattle.std.proofs.Common.{w8, refl, sym, ap, ap₂, take-add, ◌∙◌, subst, arith, append_assoc, length-take-le, length-drop}
 use Rattle.std.proofs.Common.{ltb-true}
 use Rattle.std.specs.Char.{is_ascii_whitespace}
 use Rattle.std.specs.Int.RustNames.{count_ones}
@@ -9,7 +9,7 @@ use Rattle.std.specs.List.{filter, list_all, range_with_len}
 use Rattle.std.proofs.lemmas.Bool.{agree_below_at, and_parts, eqb-true, true≢false}
 use Rattle.std.proofs.lemmas.List.{append-nil, drop-drop, ext_get_or, get_or-drop, get_or-map, get_or-take, length-map}
 use Rattle.std.proofs.lemmas.List.{map-append, map-id, take-append-drop, take-map, take-take, take_all, take_at}
-use Rattle.std.proofs.lemmas.List.{nil_from_length}
+use Rattle.std.proofs.lemmas.List.{nil_from_length, take_rest}
 use Rattle.std.proofs.lemmas.List.Elements.{filter-append}
 use Rattle.std.proofs.lemmas.List.Folds.{list_all-append}
 use Rattle.std.proofs.lemmas.Nat.{and_le_r}
@@ -59,9 +59,13 @@ alike_same (x ∷ xs) (y ∷ ys) h =
     let p = and_parts (eqb x y) (alike xs ys) h in
     ap₂ (λ a (b : List ℕ). a ∷ b) (eqb-true x y p.0) (alike_same xs ys p.1)
 
+-- the value of a digit
+abbrev pub digit : ℕ → ℕ → ℕ
+digit c zero_digit = (c + (256 - zero_digit)) % 256
+
 -- the 16 entries of the table of places from the row of b on
 abbrev places : ℕ → List ℕ
-places b = take 16 (drop (8 * b) CLEAR_PLACES)
+places b = map (λ c. digit c 48) (take 16 (drop (8 * b) CLEAR_PLACES))
 
 -- whether the row of b has the places of its clear bits first, all below 8, and b has at most eight ones
 abbrev is_right : ℕ → Bool
@@ -283,25 +287,10 @@ gains_both {q} {r} {s} {x} {y} g h = grind (arith, list_all-append, filter-appen
 pub gains_same : {q r x y : List ℕ} → x ≡ y → GainsSymbols q x r → GainsSymbols q y r
 gains_same {q} {r} e g = grind (arith)
 
--- the symbols of four rows, one row at a time, are those of their 64 bytes
-pub four_rows : (text : List ℕ) {r1 r2 r3 q0 q1 q2 q3 q4 : List ℕ} → r1 ≡ drop 16 text → r2 ≡ drop 32 text
-    → r3 ≡ drop 48 text → GainsSymbols q0 (take 16 text) q1 → GainsSymbols q1 (take 16 r1) q2
-    → GainsSymbols q2 (take 16 r2) q3 → GainsSymbols q3 (take 16 r3) q4 → GainsSymbols q0 (take 64 text) q4
-four_rows text {r1} {r2} {r3} {q0} {q1} {q2} {q3} {q4} d e f g h i j =
-    let P : List ℕ → Type 0 = λ l. GainsSymbols q0 l q4 in
-    let both = gains_both g (gains_both h (gains_both i j)) in
-    subst P (cc (split_block text, ap (take 16) d, ap (take 16) e, ap (take 16) f)) both
-
--- what was put after the first items leaves these as they are
-pub front_kept : (n k : ℕ) (old new more : List ℕ) → n ≤ length old → n ≤ k → take k new ≡ take n old ++ more
-    → take n new ≡ take n old
-front_kept n k old new more long few e =
-    sym (take-take n k new few) ∙ ap (take n) e ∙ take_at (take n old) more n (length-take-le n old long)
-
--- the first n items stay as they are if the first k do, which are more
-pub still_kept : {q : List ℕ} (n k : ℕ) (old new : List ℕ) → n ≤ k → take n old ≡ q → take k new ≡ take k old
-    → take n new ≡ q
-still_kept n k old new few is same = cc (take-take n k new few, take-take n k old few)
+-- the symbols of n bytes, and then those of the next 16
+pub gains_more : {q r s : List ℕ} (text : List ℕ) (n : ℕ) → GainsSymbols q (take n text) r
+    → GainsSymbols r (take 16 (take (length text - n) (drop n text))) s → GainsSymbols q (take (n + 16) text) s
+gains_more {q} {r} {s} text n g h = gains_same (cc (take-add n 16 text, take_rest text n)) (gains_both g h)
 
 -- the values left over are those from the largest multiple of four on
 pub after_is : (q : List ℕ) → after_groups q ≡ drop (length q / 4 * 4) q
@@ -318,7 +307,7 @@ after_is q =
     )
 
 -- the first `len % 4` of the three items after the complete groups are those that are left over
-pub three_last : (s : List ℕ) (len : ℕ) → length s ≡ 208 → len < 64
+pub three_last : (s : List ℕ) (len : ℕ) → length s ≡ 208 → len < 128
     → take (len % 4) (get_or s (len / 4 * 4) 0 ∷ get_or s (len / 4 * 4 + 1) 0 ∷ get_or s (len / 4 * 4 + 2) 0 ∷ [])
     ≡ after_groups (take len s)
 three_last s len long few =

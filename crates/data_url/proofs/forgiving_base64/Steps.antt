@@ -1,6 +1,6 @@
 -- What a decoder does with more bytes, and at its end. For `Decoder`.
 use Rattle.std.proofs.Common.{◌≡◌, ℕ, suc, zero, ◌+◌, ◌*◌, ◌%◌, ◌≤◌, Bool, true, false, cond, eqb, get_or, take, List}
-use Rattle.std.proofs.Common.{[], ◌∷◌, ◌++◌, length, map, min, replicate, None, Some, Result, Ok, Err, refl, ap, sym}
+use Rattle.std.proofs.Common.{[], ◌∷◌, ◌++◌, length, map, min, replicate, None, Some, Result, Ok, Err, refl, ap, ap₂, sym}
 use Rattle.std.proofs.Common.{◌∙◌, subst, arith, length-append, drop, Option, append_assoc}
 use Rattle.std.specs.Prelude.{MatchOption, MatchBool, MatchResult}
 use Rattle.std.specs.List.{filter, list_any}
@@ -194,7 +194,23 @@ three_items (a ∷ []) n l e = absurd (omega arith)
 three_items (a ∷ b ∷ []) n l e = absurd (omega arith)
 three_items (a ∷ b ∷ c ∷ f ∷ t) n l e = absurd (omega arith)
 
--- How many '=' fit after a number of symbols
+-- the byte of two symbols left over is the first byte of the group that they begin
+pub decoded_two : (s : List ℕ) (n p : ℕ) → n ≡ 2 → length s ≡ 3 → Every is_symbol (take n s)
+    → decoded (left_text (take n s) p) ≡ take 1 (group_bytes
+    (group_number (symbol_value (get_or s 0 0)) (symbol_value (get_or s 1 0)) 0 0))
+unfolding groups after_groups
+decoded_two (a ∷ b ∷ c ∷ []) (suc (suc zero)) p two long every =
+    decoded_left (a ∷ b ∷ []) p every ∙ ap (λ x. x ∷ []) (omega arith)
+decoded_two s n p two long every = absurd (omega arith)
+
+-- the bytes of three symbols left over are the first two bytes of the group that they begin
+pub decoded_three : (s : List ℕ) (n p : ℕ) → n ≡ 3 → length s ≡ 3 → Every is_symbol (take n s)
+    → decoded (left_text (take n s) p) ≡ take 2 (group_bytes (group_number (symbol_value (get_or s 0 0))
+    (symbol_value (get_or s 1 0)) (symbol_value (get_or s 2 0)) 0))
+unfolding groups after_groups
+decoded_three (a ∷ b ∷ c ∷ []) (suc (suc (suc zero))) p three long every =
+    decoded_left (a ∷ b ∷ c ∷ []) p every ∙ ap₂ (λ x y. x ∷ y ∷ []) (omega arith) (omega arith)
+decoded_three s n p three long every = absurd (omega arith)
 
 -- What one call returns
 

@@ -1,7 +1,7 @@
 //! The alphabet of base64 (RFC 4648, section 4).
 
-ghost use Rattle.std.specs.Prelude.{◌≡◌, ◌<◌, IsTrue, [], ◌∷◌};
-ghost use Rattle.data_url.specs.Base64.{group_bytes, group_number, is_symbol, rest_bytes, symbol_value};
+ghost use Rattle.std.specs.Prelude.{◌≡◌, ◌<◌, IsTrue};
+ghost use Rattle.data_url.specs.Base64.{group_bytes, group_number, is_symbol, symbol_value};
 
 /// The entry of the table for a byte that is not a symbol.
 const NO_SYMBOL: u8 = 64;
@@ -54,26 +54,4 @@ pub(crate) fn group_of(first: u8, second: u8, third: u8, fourth: u8) -> [u8; 3]
         (number / 256 % 256) as u8,
         (number % 256) as u8,
     ]
-}
-
-/// The byte of two symbols left over: their last four bits are discarded.
-pub(crate) fn rest_of_two(first: u8, second: u8) -> [u8; 1]
-    requires first { IsTrue (is_symbol first) }
-    requires second { IsTrue (is_symbol second) }
-    ensures { result ≡ rest_bytes (symbol_value first ∷ symbol_value second ∷ []) }
-{
-    let number = six_bits(first) * 64 + six_bits(second);
-    [(number / 16) as u8]
-}
-
-/// The two bytes of three symbols left over: their last two bits are discarded.
-pub(crate) fn rest_of_three(first: u8, second: u8, third: u8) -> [u8; 2]
-    requires first { IsTrue (is_symbol first) }
-    requires second { IsTrue (is_symbol second) }
-    requires third { IsTrue (is_symbol third) }
-    ensures { result ≡ rest_bytes
-        (symbol_value first ∷ symbol_value second ∷ symbol_value third ∷ []) }
-{
-    let number = ((six_bits(first) * 64 + six_bits(second)) * 64 + six_bits(third)) / 4;
-    [(number / 256) as u8, (number % 256) as u8]
 }

@@ -4,7 +4,7 @@ ghost use Rattle.std.specs.Prelude.{◌≡◌, ◌<◌, ◌≤◌, [], ◌∷◌
 ghost use Rattle.std.specs.List.{list_all};
 ghost use Rattle.data_url.specs.Base64.{is_symbol};
 
-use super::alphabet::{group_of, is_symbol, rest_of_three, rest_of_two};
+use super::alphabet::{group_of, is_symbol};
 use super::blocks::{decode, is_whole};
 use super::piece::{Piece, ROOM};
 use super::symbols::Symbols;
@@ -102,87 +102,40 @@ where
         DecodeError::InvalidBase64(InvalidBase64 { details })
     }
 
-    /// Takes a symbol, and returns the bytes of the group that it completes.
-    fn take_symbol(&mut self, symbol: u8) -> Result<Option<[u8; 3]>, InvalidBase64Details>
-        requires symbol { IsTrue (is_symbol symbol) }
-        requires going { (state_of self.old).failed ≡ false }
-        ensures { MatchResult result
-            (λ group. Adds (state_of self.old) (symbol ∷ []) (bytes_in group) (state_of self.new))
-            (λ details.
-            Refuses (state_of self.old) symbol details (state_of self.new)) }
-    {
-        if self.padding > 0 {
-            return Err(InvalidBase64Details::AlphabetSymbolAfterPadding);
-        }
-        if self.pending < 3 {
-            self.symbols[self.pending] = symbol;
-            self.pending += 1;
-            return Ok(None);
-        }
-        self.pending = 0;
-        let [first, second, third] = self.symbols;
-        Ok(Some(group_of(first, second, third, symbol)))
-    }
-
-    /// Takes one byte, and returns the bytes of the group that it completes.
-    fn take_byte(&mut self, byte: u8) -> Result<Option<[u8; 3]>, InvalidBase64Details>
-        requires { (state_of self.old).failed ≡ false }
-        ensures { MatchResult result
-            (λ group. Adds (state_of self.old) (byte ∷ []) (bytes_in group) (state_of self.new))
-            (λ details.
-            Refuses (state_of self.old) byte details (state_of self.new)) }
-    {
-        if is_symbol(byte) {
-            self.take_symbol(byte)
-        } else if byte == b'=' {
-            self.padding = (self.padding + 1).min(3);
-            Ok(None)
-        } else if byte.is_ascii_whitespace() {
-            Ok(None)
-        } else {
-            Err(InvalidBase64Details::UnexpectedSymbol(byte))
-        }
-    }
-
-    /// Takes one byte, and adds the bytes of the group that it completes to the piece. Returns how many bytes it
-    /// took.
+    /// Takes the first byte of a text, and adds the bytes of the group that it completes to the piece. Returns 1.
     #[inline(always)]
-    fn take_one(&mut self, byte: u8, piece: &mut Piece) -> Result<usize, InvalidBase64Details>
+    fn take_byte(&mut self, text: &[u8], piece: &mut Piece) -> Result<usize, InvalidBase64Details>
+        requires some { 1 ≤ length text.now }
         requires room { piece.old.groups < 16 }
         requires going { (state_of self.old).failed ≡ false }
         ensures { MatchResult result
-            (λ taken. Gains (state_of self.old) (bytes_of piece.old) (byte ∷ []) taken
+            (λ taken. Gains (state_of self.old) (bytes_of piece.old) text.now taken
             (state_of self.new) (bytes_of piece.new))
-            (λ details.
-            Refuses (state_of self.old) byte details (state_of self.new)
+            (λ details. Refuses (state_of self.old) (slice_index text.now 0) details (state_of self.new)
             × (bytes_of piece.new ≡ bytes_of piece.old)) }
     {
-        if let Some(group) = self.take_byte(byte)? {
-            piece.push(group);
+        let byte = text[0];
+        if byte == b'=' {
+            self.padding = (self.padding + 1).min(3);
+        } else if !is_symbol(byte) {
+            if !byte.is_ascii_whitespace() {
+                return Err(InvalidBase64Details::UnexpectedSymbol(byte));
+            }
+        } else if self.padding > 0 {
+            return Err(InvalidBase64Details::AlphabetSymbolAfterPadding);
+        } else if self.pending < 3 {
+            self.symbols[self.pending] = byte;
+            self.pending += 1;
+        } else {
+            self.pending = 0;
+            let [first, second, third] = self.symbols;
+            piece.push(group_of(first, second, third, byte));
         }
         Ok(1)
     }
 
-    /// Adds the bytes of whole groups that a text begins with to the piece, if the next symbol begins a group.
-    /// Returns how many bytes of the text they take.
-    #[inline(always)]
-    fn take_groups(&self, text: &[u8], piece: &mut Piece) -> usize
-        requires room { piece.old.groups < 16 }
-        requires going { (state_of self.now).failed ≡ false }
-        ensures none { result ≡ 0
-            → (bytes_of piece.new ≡ bytes_of piece.old) × (piece.new.groups ≡ piece.old.groups) }
-        ensures some { 0 < result
-            → Gains (state_of self.now) (bytes_of piece.old) text.now result
-            (state_of self.now) (bytes_of piece.new) }
-    {
-        if self.is_between_groups() {
-            piece.fill(text)
-        } else {
-            0
-        }
-    }
-
-    /// Takes the next bytes of a text: whole groups if it begins with some, or else one byte. Returns how many.
+    /// Takes the next bytes of a text, and adds the bytes of the groups that they complete to the piece: whole groups if
+    /// the text begins with some and the next symbol begins a group, or else one byte. Returns how many bytes it took.
     #[inline(always)]
     fn take_some(&mut self, text: &[u8], piece: &mut Piece) -> Result<usize, InvalidBase64Details>
         requires some { 1 ≤ length text.now }
@@ -191,16 +144,16 @@ where
         ensures { MatchResult result
             (λ taken. Gains (state_of self.old) (bytes_of piece.old) text.now taken
             (state_of self.new) (bytes_of piece.new))
-            (λ details.
-            Refuses (state_of self.old) (slice_index text.now 0) details
-            (state_of self.new)
+            (λ details. Refuses (state_of self.old) (slice_index text.now 0) details (state_of self.new)
             × (bytes_of piece.new ≡ bytes_of piece.old)) }
     {
-        let taken = self.take_groups(text, piece);
-        if taken > 0 {
-            return Ok(taken);
+        if self.is_between_groups() {
+            let taken = piece.fill(text);
+            if taken > 0 {
+                return Ok(taken);
+            }
         }
-        self.take_one(text[0], piece)
+        self.take_byte(text, piece)
     }
 
     /// Calls the closure with the piece, unless it is empty.
@@ -246,54 +199,9 @@ where
         Ok(at)
     }
 
-    /// Keeps symbols: the bytes of their groups in the piece, and the symbols that are left over.
-    #[inline(always)]
-    fn keep(&mut self, symbols: &Symbols, piece: &mut Piece)
-        requires { symbols.now.len < 64 }
-        ensures bytes { bytes_of piece.new ≡ groups (map symbol_value (symbols_of symbols.now)) }
-        ensures state { state_of self.new ≡ waiting (state_of self.old) (symbols_of symbols.now) }
-    {
-        *piece = Piece::new(symbols.decode(0), symbols.len / 4);
-        self.symbols = symbols.last();
-        self.pending = symbols.len % 4;
-    }
-
-    /// Feeds the rows of symbols and white space that a text begins with, and calls the closure with the groups of 128
-    /// symbols at a time, as two pieces. The symbols after these are then in `symbols`. Returns how many bytes of the
-    /// text the rows take.
-    #[inline(always)]
-    fn feed_pairs(&mut self, text: &[u8], symbols: &mut Symbols) -> Result<usize, DecodeError<E>>
-        requires callable { F.IsAlwaysCallable (state_of self.old).closure }
-        requires going { (state_of self.old).failed ≡ false }
-        requires between { IsBetweenGroups (state_of self.old) }
-        requires none { (symbols.old.len ≡ 0) × (symbols_of symbols.old ≡ []) }
-        ensures callable { F.IsAlwaysCallable (state_of self.new).closure }
-        ensures few { IfOk result (λ taken. symbols.new.len < 128) }
-        ensures fed { MatchResult result
-            (λ taken. Reads (CalledAt F.FnMut) (state_of self.old) text.now taken
-            (groups (map symbol_value (symbols_of symbols.new)))
-            (waiting (state_of self.new) (symbols_of symbols.new)))
-            (λ error. Feeds (CalledAt F.FnMut) (state_of self.old) text.now (Err error)
-            (state_of self.new)) }
-    {
-        let mut at = 0;
-        loop {
-            let taken = symbols.add_some(&text[at..]);
-            if taken == 0 {
-                return Ok(at);
-            }
-            at += taken;
-            if symbols.len >= 128 {
-                self.write(&symbols.decode(0))?;
-                self.write(&symbols.decode(64))?;
-                symbols.drop_front(128);
-            }
-        }
-    }
-
-    /// If the next symbol begins a group, feeds the blocks of 64 symbols and white space that a text begins with. Calls
-    /// the closure with pieces of sixteen groups; the groups after these are then in the piece. Returns how many bytes
-    /// of the text the blocks take.
+    /// Feeds the rows of symbols and white space that a text begins with, if the next symbol begins a group. Calls the
+    /// closure with the groups of 128 symbols at a time, as two pieces. At the end, fewer than sixteen groups are in the
+    /// piece. Returns how many bytes of the text the rows have.
     #[inline(never)]
     fn feed_spaced(&mut self, text: &[u8], piece: &mut Piece) -> Result<usize, DecodeError<E>>
         requires callable { F.IsAlwaysCallable (state_of self.old).closure }
@@ -307,32 +215,28 @@ where
             (state_of self.new)) }
     {
         let mut symbols = Symbols::new();
-        let taken = self.feed_pairs(text, &mut symbols)?;
+        let mut at = 0;
+        loop {
+            let taken = symbols.add_rows(&text[at..]);
+            if taken == 0 {
+                break;
+            }
+            at += taken;
+            if symbols.len >= 128 {
+                self.write(&symbols.decode(0))?;
+                self.write(&symbols.decode(64))?;
+                symbols.drop_front();
+            }
+        }
+        let mut from = 0;
         if symbols.len >= 64 {
             self.write(&symbols.decode(0))?;
-            symbols.drop_front(64);
+            from = 64;
         }
-        self.keep(&symbols, piece);
-        Ok(taken)
-    }
-
-    /// Feeds such blocks if the text is not short and the next symbol begins a group, and otherwise nothing.
-    #[inline(always)]
-    fn feed_long(&mut self, text: &[u8], piece: &mut Piece) -> Result<usize, DecodeError<E>>
-        requires callable { F.IsAlwaysCallable (state_of self.old).closure }
-        requires going { (state_of self.old).failed ≡ false }
-        requires none { piece.old.groups ≡ 0 }
-        ensures callable { F.IsAlwaysCallable (state_of self.new).closure }
-        ensures fed { MatchResult result
-            (λ taken. Reads (CalledAt F.FnMut) (state_of self.old) text.now taken
-            (bytes_of piece.new) (state_of self.new))
-            (λ error. Feeds (CalledAt F.FnMut) (state_of self.old) text.now (Err error)
-            (state_of self.new)) }
-    {
-        if text.len() < 64 || !self.is_between_groups() {
-            return Ok(0);
-        }
-        self.feed_spaced(text, piece)
+        *piece = Piece::new(symbols.decode(from), (symbols.len - from) / 4);
+        self.symbols = symbols.last();
+        self.pending = symbols.len % 4;
+        Ok(at)
     }
 
     /// Feeds the beginning of a text, and calls the closure with the bytes of the groups in it. The last groups, at
@@ -346,7 +250,10 @@ where
         ensures some { IfOk result (λ taken. 1 ≤ length text.now → 1 ≤ taken) }
     {
         let mut piece = Piece::new([0; 48], 0);
-        let mut at = self.feed_long(text, &mut piece)?;
+        let mut at = 0;
+        if text.len() >= 64 && self.is_between_groups() {
+            at = self.feed_spaced(text, &mut piece)?;
+        }
         while at < text.len() && piece.groups < ROOM {
             match self.take_some(&text[at..], &mut piece) {
                 Ok(taken) => at += taken,
@@ -385,21 +292,13 @@ where
         Ok(())
     }
 
-    /// Returns whether the padding fits the symbols left over: none after a lone symbol, two `=` after two symbols,
-    /// one after three.
-    fn has_fitting_padding(&self) -> bool
-        ensures fits { result ≡ true → Fits self.now.pending self.now.padding }
-        ensures unfit { result ≡ false → Fits self.now.pending self.now.padding → ⊥ }
-    {
-        let padding = usize::from(self.padding);
-        (padding == 0 && self.pending != 1) || (padding < 3 && self.pending + padding == 4)
-    }
-
-    /// Returns the fault of the symbols and the padding left over, if a valid text cannot end with them.
+    /// Returns the fault of the symbols and the padding left over, if a valid text cannot end with them. The padding
+    /// fits if there is no `=` and no lone symbol, or two `=` after two symbols, or one after three.
     fn fault_at_end(&self) -> Option<InvalidBase64Details>
         ensures { IsFaultAtEnd (state_of self.now) result }
     {
-        if self.has_fitting_padding() {
+        let padding = usize::from(self.padding);
+        if (padding == 0 && self.pending != 1) || (padding < 3 && self.pending + padding == 4) {
             None
         } else if self.pending == 1 {
             Some(InvalidBase64Details::LoneAlphabetSymbol)
@@ -408,7 +307,8 @@ where
         }
     }
 
-    /// Calls the closure with the bytes of the symbols left over, if there are any.
+    /// Calls the closure with the bytes of the symbols left over, if there are any: the first bytes of the group that
+    /// they begin.
     fn write_rest(&mut self) -> Result<(), DecodeError<E>>
         requires callable { F.IsAlwaysCallable (state_of self.old).closure }
         requires going { (state_of self.old).failed ≡ false }
@@ -419,23 +319,9 @@ where
     {
         let [first, second, third] = self.symbols;
         match self.pending {
-            2 => self.write(&rest_of_two(first, second)),
-            3 => self.write(&rest_of_three(first, second, third)),
+            2 => self.write(&group_of(first, second, b'A', b'A')[..1]),
+            3 => self.write(&group_of(first, second, third, b'A')[..2]),
             _ => Ok(()),
-        }
-    }
-
-    /// Ends the text: calls the closure with the bytes of the symbols left over.
-    fn end(&mut self) -> Result<(), DecodeError<E>>
-        requires callable { F.IsAlwaysCallable (state_of self.old).closure }
-        requires going { (state_of self.old).failed ≡ false }
-        ensures callable { F.IsAlwaysCallable (state_of self.new).closure }
-        ensures finished { Finishes (CalledAt F.FnMut) (state_of self.old) result
-            (state_of self.new).closure }
-    {
-        match self.fault_at_end() {
-            None => self.write_rest(),
-            Some(details) => Err(self.refuse(details)),
         }
     }
 
@@ -464,7 +350,10 @@ where
         ensures callable { F.IsAlwaysCallable result.1 }
         ensures finished { Finishes (CalledAt F.FnMut) (state_of self) result.0 result.1 }
     {
-        let answer = self.end();
+        let answer = match self.fault_at_end() {
+            None => self.write_rest(),
+            Some(details) => Err(self.refuse(details)),
+        };
         (answer, self.into_closure())
     }
 }

@@ -68,9 +68,8 @@ impl Symbols {
     fn add_row(&mut self, text: &[u8]) -> bool
         requires row { 16 ≤ length text.now }
         requires room { self.old.len < 176 }
-        ensures few { (self.old.len ≤ self.new.len) × (self.new.len ≤ self.old.len + 16) }
-        ensures none { result ≡ false → self.new.len ≡ self.old.len }
-        ensures kept { take self.old.len self.new.bytes ≡ symbols_of self.old }
+        ensures few { self.new.len ≤ self.old.len + 16 }
+        ensures none { result ≡ false → self.new ≡ self.old }
         ensures added { result ≡ true → GainsSymbols (symbols_of self.old) (take 16 text.now) (symbols_of self.new) }
     {
         let row = row(text, 0);
@@ -89,62 +88,35 @@ impl Symbols {
         true
     }
 
-    /// Adds the symbols of four rows, as long as the rows are symbols and white space. Returns whether all are.
+    /// Adds the symbols of up to four rows of sixteen bytes that a text begins with, as long as these are symbols and
+    /// white space. Returns how many bytes of the text the rows have.
     #[inline(always)]
-    fn add_rows(&mut self, text: &[u8]) -> bool
-        requires block { 64 ≤ length text.now }
-        requires room { self.old.len < 128 }
-        ensures few { self.old.len ≤ self.new.len }
-        ensures kept { take self.old.len self.new.bytes ≡ symbols_of self.old }
-        ensures added { result ≡ true → GainsSymbols (symbols_of self.old) (take 64 text.now) (symbols_of self.new) }
-    {
-        if !self.add_row(text) {
-            return false;
-        }
-        if !self.add_row(&text[16..]) {
-            return false;
-        }
-        if !self.add_row(&text[32..]) {
-            return false;
-        }
-        self.add_row(&text[48..])
-    }
-
-    /// Adds the symbols of the first 64 bytes, if these are symbols and white space. Returns whether they are.
-    #[inline(always)]
-    fn add_block(&mut self, text: &[u8]) -> bool
-        requires block { 64 ≤ length text.now }
-        requires room { self.old.len < 128 }
-        ensures none { result ≡ false
-            → (self.new.len ≡ self.old.len) × (symbols_of self.new ≡ symbols_of self.old) }
-        ensures added { result ≡ true → GainsSymbols (symbols_of self.old) (take 64 text.now) (symbols_of self.new) }
-    {
-        let len = self.len;
-        let is_spaced = self.add_rows(text);
-        if !is_spaced {
-            self.len = len;
-        }
-        is_spaced
-    }
-
-    /// Adds the symbols of the first 64 bytes or, if these are not symbols and white space, of the first 16. Returns how
-    /// many bytes they take: 64, 16 or 0.
-    #[inline(always)]
-    pub(crate) fn add_some(&mut self, text: &[u8]) -> usize
+    pub(crate) fn add_rows(&mut self, text: &[u8]) -> usize
         requires room { self.old.len < 128 }
         ensures within { result ≤ length text.now }
-        ensures none { result ≡ 0
-            → (self.new.len ≡ self.old.len) × (symbols_of self.new ≡ symbols_of self.old) }
-        ensures added { 0 < result
-            → GainsSymbols (symbols_of self.old) (take result text.now) (symbols_of self.new) }
+        ensures none { result ≡ 0 → self.new ≡ self.old }
+        ensures added { GainsSymbols (symbols_of self.old) (take result text.now) (symbols_of self.new) }
     {
-        if text.len() >= 64 && self.add_block(text) {
-            64
-        } else if text.len() >= 16 && self.add_row(text) {
-            16
-        } else {
-            0
+        if text.len() < 64 {
+            return if text.len() >= 16 && self.add_row(text) {
+                16
+            } else {
+                0
+            };
         }
+        if !self.add_row(text) {
+            return 0;
+        }
+        if !self.add_row(&text[16..]) {
+            return 16;
+        }
+        if !self.add_row(&text[32..]) {
+            return 32;
+        }
+        if !self.add_row(&text[48..]) {
+            return 48;
+        }
+        64
     }
 
     /// Returns the bytes of the groups of the 64 symbols from an index on, and if there are fewer, after them bytes
@@ -157,29 +129,28 @@ impl Symbols {
         decode(&self.bytes[from..])
     }
 
-    /// Takes the first symbols away, so that fewer than 64 are left.
+    /// Takes the first 128 symbols away.
     #[inline(always)]
-    pub(crate) fn drop_front(&mut self, count: usize)
-        requires within { (count ≤ self.old.len) × (count ≤ 128) }
-        requires few { self.old.len < count + 64 }
-        ensures rest { symbols_of self.new ≡ drop count (symbols_of self.old) }
-        ensures len { self.new.len + count ≡ self.old.len }
+    pub(crate) fn drop_front(&mut self)
+        requires { 128 ≤ self.old.len }
+        ensures rest { symbols_of self.new ≡ drop 128 (symbols_of self.old) }
+        ensures len { self.new.len + 128 ≡ self.old.len }
     {
-        let first = row(&self.bytes, count);
-        let second = row(&self.bytes, count + 16);
-        let third = row(&self.bytes, count + 32);
-        let fourth = row(&self.bytes, count + 48);
+        let first = row(&self.bytes, 128);
+        let second = row(&self.bytes, 144);
+        let third = row(&self.bytes, 160);
+        let fourth = row(&self.bytes, 176);
         put(&mut self.bytes, 0, first);
         put(&mut self.bytes, 16, second);
         put(&mut self.bytes, 32, third);
         put(&mut self.bytes, 48, fourth);
-        self.len -= count;
+        self.len -= 128;
     }
 
     /// Returns the last symbols, which are in no whole group, and after them bytes without meaning.
     #[inline(always)]
     pub(crate) fn last(&self) -> [u8; 3]
-        requires { self.now.len < 64 }
+        requires { self.now.len < 128 }
         ensures { take (self.now.len % 4) result ≡ after_groups (symbols_of self.now) }
     {
         let at = self.len / 4 * 4;

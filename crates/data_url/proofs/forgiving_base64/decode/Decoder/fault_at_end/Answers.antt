@@ -3,8 +3,8 @@ use Rattle.std.proofs.Common.{arith, length-take}
 use Rattle.data_url.proofs.forgiving_base64.Padding.{every_list_all}
 use Rattle.data_url.proofs.forgiving_base64.decode.Decoder.fault_at_end.Goals as goal
 
-pub returns-then-has_fitting_padding : goal.returns-then-has_fitting_padding
-returns-then-has_fitting_padding g c = grind (arith, every_list_all, length-take, valid_left)
+pub returns-then-self-padding-eq4 : goal.returns-then-self-padding-eq4
+returns-then-self-padding-eq4 g c = grind (arith, every_list_all, length-take, valid_left)
 
 pub returns-then-self-eq1 : goal.returns-then-self-eq1
 returns-then-self-eq1 g c = grind (arith, valid_left, kind_left)

@@ -1,12 +1,33 @@
 use Rattle.data_url.proofs.forgiving_base64.Holding.{holds_adds, byte_at, fault_feeds, flush_refused, flushed_feeds}
-use Rattle.data_url.proofs.forgiving_base64.Holding.{stays_holds}
-use Rattle.std.proofs.Common.{take-add, Err, ap, arith}
+use Rattle.data_url.proofs.forgiving_base64.Holding.{holds_from, stays_holds}
+use Rattle.data_url.proofs.forgiving_base64.Steps.{adds_none}
+use Rattle.data_url.proofs.forgiving_base64.Padding.{every_list_all}
+use Rattle.std.proofs.Common.{take, take-add, length-take, Err, ap, arith}
 use Rattle.std.proofs.lemmas.List.{take_rest}
 use Rattle.std.proofs.lemmas.Result.{err_from_is_err_and}
 use Rattle.std.specs.Fn.{CalledAt}
 use Rattle.data_url.specs.Decoder.{state_of}
 use Rattle.data_url.specs.Steps.Waiting.{bytes_of}
+use Rattle.data_url.proofs.forgiving_base64.decode.Decoder.feed_piece.Goals.{else-text-ge64}
+use Rattle.data_url.proofs.forgiving_base64.decode.Decoder.feed_piece.Goals.{then-text-ge64+then-is_between_groups+in_ok-at}
 use Rattle.data_url.proofs.forgiving_base64.decode.Decoder.feed_piece.Goals as goal
+
+pub loop-at-init : goal.loop-at-init
+loop-at-init g c =
+    let d = c.args.self.now in
+    elim c.if-text-ge64.branch [
+      | then-text-ge64+then-is_between_groups+in_ok-at w ↦ rw (w.self-is, w.piece-is, w.at-is) (record {
+          callable = w.in_ok-at.ensures.callable;
+          within = w.in_ok-at.ensures.fed.within;
+          holds = w.in_ok-at.ensures.fed.holds;
+        })
+      | else-text-ge64 w ↦ rw (w.self-is, w.piece-is, w.at-is, c.new-piece.ensures.bytes) (record {
+          callable = c.requires.callable;
+          within = omega arith;
+          holds = holds_from (CalledAt g.F.FnMut) (adds_none (every_list_all (take d.pending d.symbols) d.pending_symbols)
+              (omega (arith, length-take d.pending d.symbols, d.few_pending)) d.few_padding c.requires.going);
+        })
+    ]
 
 pub loop-at-preserved : goal.loop-at-preserved
 loop-at-preserved g c = grind (arith, take_rest, take-add, holds_adds)

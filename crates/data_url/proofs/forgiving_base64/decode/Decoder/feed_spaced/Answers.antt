@@ -1,35 +1,125 @@
-use Rattle.std.proofs.Common.{◌≤◌, arith, length, length-take-le, map, take}
+use Rattle.std.proofs.Common.{◌≡◌, ◌<◌, ◌≤◌, ◌-◌, ◌*◌, ◌/◌, ◌%◌, ap, arith, drop, length, length-drop, refl, take, sym, ◌∙◌}
+use Rattle.std.proofs.lemmas.List.{drop-drop}
 use Rattle.std.proofs.lemmas.Result.{err_from_is_err_and}
 use Rattle.std.specs.Fn.{CalledAt}
-use Rattle.data_url.specs.Base64.{groups, symbol_value}
 use Rattle.data_url.specs.Decoder.{state_of}
-use Rattle.data_url.specs.Steps.Holding.{Holds, waiting}
-use Rattle.data_url.specs.Steps.Waiting.{symbols_of}
-use Rattle.data_url.proofs.forgiving_base64.Holding.{block_goes, block_refused}
-use Rattle.data_url.proofs.forgiving_base64.decode.Decoder.feed_spaced.Goals.{then-symbols-ge64+in_ok-write, else-symbols-ge64}
+use Rattle.data_url.specs.Steps.Holding.{Reads}
+use Rattle.data_url.specs.Steps.Waiting.{bytes_of, symbols_of}
+use Rattle.data_url.proofs.forgiving_base64.Holding.{block_goes, block_refused, few_read, none_wait, rows_wait, symbols_len}
+use Rattle.data_url.proofs.forgiving_base64.Padding.{every_after, every_list_all, list_all_every}
+use Rattle.data_url.specs.Base64.{after_groups}
+use Rattle.data_url.proofs.forgiving_base64.Holding.{Waits, rest_after}
+use Rattle.data_url.proofs.forgiving_base64.decode.Decoder.feed_spaced.Goals.{then-symbols-ge64+in_ok-write-3, else-symbols-ge64}
 use Rattle.data_url.proofs.forgiving_base64.decode.Decoder.feed_spaced.Goals as goal
+
+pub loop-taken-init : goal.loop-taken-init
+loop-taken-init g c =
+    let d = c.args.self.now in
+    record {
+      callable = c.requires.callable;
+      within = omega arith;
+      few = omega (arith, c.new-symbols.ensures.len);
+      waits = none_wait (CalledAt g.F.FnMut) c.args.text.now
+          (every_list_all (take d.pending d.symbols) d.pending_symbols)
+          c.requires.between c.requires.going c.new-symbols.ensures.none;
+    }
 
 pub returns-in_err-write-clause-fed : goal.returns-in_err-write-clause-fed
 returns-in_err-write-clause-fed g c =
-    let p = err_from_is_err_and c.from_residual-in_err-write.result c.from_residual-in_err-write.ensures.1 in
-    let s = c.feed_pairs.new.symbols in
-    let long : 64 ≤ length (symbols_of s) =
-    omega (arith, length-take-le s.len s.bytes (omega (arith, s.within, s.sized)), c.if-symbols-ge64.true) in
-    rw (p.1, p.2) (block_refused (CalledAt g.F.FnMut) c.args.text.now c.in_ok-taken.taken (symbols_of s) c.decode.result
-    long (omega arith) c.decode.ensures c.in_ok-taken.ensures.fed.holds c.in_err-write.ensures.wrote)
+    let p = err_from_is_err_and c.from_residual.result c.from_residual.ensures.1 in
+    let step = CalledAt g.F.FnMut in
+    let n = c.add_rows-taken.result in
+    let some : 0 < n = omega arith in
+    let waits = rows_wait step c.args.text.now c.loop-taken.at n some c.add_rows-taken.ensures.within
+    c.add_rows-taken.ensures.added c.loop-taken.invariant.waits in
+    rw (p.1, p.2) (block_refused step c.decode.result (omega (arith, symbols_len c.add_rows-taken.new.self)) (omega arith)
+    c.decode.ensures waits c.in_err-write.ensures.wrote)
+
+pub returns-in_err-write-2-clause-fed : goal.returns-in_err-write-2-clause-fed
+returns-in_err-write-2-clause-fed g c =
+    let p = err_from_is_err_and c.from_residual-in_err-write-2.result c.from_residual-in_err-write-2.ensures.1 in
+    let step = CalledAt g.F.FnMut in
+    let n = c.add_rows-taken.result in
+    let some : 0 < n = omega arith in
+    let q = symbols_of c.add_rows-taken.new.self in
+    let long : 128 ≤ length q = omega (arith, symbols_len c.add_rows-taken.new.self) in
+    let waits = rows_wait step c.args.text.now c.loop-taken.at n some c.add_rows-taken.ensures.within
+    c.add_rows-taken.ensures.added c.loop-taken.invariant.waits in
+    let first = block_goes step c.decode.result (omega arith) (omega arith) c.decode.ensures waits
+    c.in_ok-write.ensures.wrote in
+    rw (p.1, p.2) (block_refused step c.decode-then-symbols-ge128.result (omega (arith, length-drop 64 q)) (omega arith)
+    c.decode-then-symbols-ge128.ensures first c.in_err-write-2.ensures.wrote)
+
+pub loop-taken-preserved-then-symbols-ge128 : goal.loop-taken-preserved-then-symbols-ge128
+loop-taken-preserved-then-symbols-ge128 g c =
+    let step = CalledAt g.F.FnMut in
+    let n = c.add_rows-taken.result in
+    let some : 0 < n = omega arith in
+    let s = c.add_rows-taken.new.self in
+    let q = symbols_of s in
+    let long : 128 ≤ length q = omega (arith, symbols_len s) in
+    let waits = rows_wait step c.args.text.now c.loop-taken.at n some c.add_rows-taken.ensures.within
+    c.add_rows-taken.ensures.added c.loop-taken.invariant.waits in
+    let first = block_goes step c.decode.result (omega arith) (omega arith) c.decode.ensures waits
+    c.in_ok-write.ensures.wrote in
+    record {
+      callable = c.in_ok-write-2.ensures.callable;
+      within = waits.reads.within;
+      few = omega (arith, c.drop_front.ensures.len, s.within);
+      waits = rw (c.drop_front.ensures.rest ∙ sym (drop-drop 64 64 q))
+          (block_goes step c.decode-then-symbols-ge128.result (omega (arith, length-drop 64 q)) (omega arith)
+          c.decode-then-symbols-ge128.ensures first c.in_ok-write-2.ensures.wrote);
+    }
+
+pub loop-taken-preserved : goal.loop-taken-preserved
+loop-taken-preserved g c =
+    let n = c.add_rows-taken.result in
+    let some : 0 < n = omega arith in
+    let waits = rows_wait (CalledAt g.F.FnMut) c.args.text.now c.loop-taken.at n some c.add_rows-taken.ensures.within
+    c.add_rows-taken.ensures.added c.loop-taken.invariant.waits in
+    record {
+      callable = c.loop-taken.invariant.callable;
+      within = waits.reads.within;
+      few = omega (arith, c.if-symbols-ge128.false);
+      waits = waits;
+    }
+
+pub returns-in_err-write-3-clause-fed : goal.returns-in_err-write-3-clause-fed
+returns-in_err-write-3-clause-fed g c =
+    let p = err_from_is_err_and c.from_residual-in_err-write-3.result c.from_residual-in_err-write-3.ensures.1 in
+    let same = c.add_rows-taken.ensures.none c.if-taken-eq0.true in
+    rw (p.1, p.2) (block_refused (CalledAt g.F.FnMut) {at = c.loop-taken.at} c.decode-then-symbols-ge64.result
+    (omega (arith, symbols_len c.add_rows-taken.new.self)) (omega arith) c.decode-then-symbols-ge64.ensures
+    (rw same c.loop-taken.invariant.waits) c.in_err-write-3.ensures.wrote)
+
+pub invariant_of-self-clause-pending_symbols : goal.invariant_of-self-clause-pending_symbols
+invariant_of-self-clause-pending_symbols g c =
+    let q = symbols_of c.add_rows-taken.new.self in
+    rw c.last-self.ensures (list_all_every (after_groups q) (every_after q
+    (every_list_all q c.add_rows-taken.new.self.symbols)))
 
 pub returns-clause-fed : goal.returns-clause-fed
 returns-clause-fed g c =
-    let reads = c.in_ok-taken.ensures.fed in
-    let s = c.feed_pairs.new.symbols in
-    let q = symbols_of c.if-symbols-ge64.symbols in
-    let holds : Holds (CalledAt g.F.FnMut) (state_of c.args.self.now) (take c.in_ok-taken.taken c.args.text.now)
-    (groups (map symbol_value q)) (waiting (state_of c.if-symbols-ge64.self) q) = elim c.if-symbols-ge64.branch [
-      | then-symbols-ge64+in_ok-write w ↦
-          let long : 64 ≤ length (symbols_of s) =
-          omega (arith, length-take-le s.len s.bytes (omega (arith, s.within, s.sized)), w.if-symbols-ge64.true) in
-          rw (w.self-is, w.symbols-is) (block_goes (CalledAt g.F.FnMut) (symbols_of s) (symbols_of w.drop_front.new.self)
-          w.decode.result long (omega arith) w.decode.ensures w.drop_front.ensures.rest reads.holds w.in_ok-write.ensures.wrote)
-      | else-symbols-ge64 w ↦ rw (w.self-is, w.symbols-is) reads.holds
+    let step = CalledAt g.F.FnMut in
+    let at = c.loop-taken.at in
+    let s = c.add_rows-taken.new.self in
+    let q = symbols_of s in
+    let from = c.if-symbols-ge64.from in
+    let same = c.add_rows-taken.ensures.none c.if-taken-eq0.true in
+    let few : s.len < 128 = rw same c.loop-taken.invariant.few in
+    let start : (length (drop from q) < 64) × (after_groups q ≡ after_groups (drop from q))
+        × Waits step (state_of c.args.self.now) c.args.text.now at (drop from q) (state_of c.if-symbols-ge64.self) =
+    elim c.if-symbols-ge64.branch [
+      | then-symbols-ge64+in_ok-write-3 w ↦
+          let long : 64 ≤ length q = omega (arith, symbols_len s, w.if-symbols-ge64.true) in
+          rw (w.from-is, w.self-is) (omega (arith, few, symbols_len s, length-drop 64 q), rest_after q long,
+          block_goes step {at = at} w.decode-then-symbols-ge64.result long (omega arith)
+          w.decode-then-symbols-ge64.ensures (rw same c.loop-taken.invariant.waits) w.in_ok-write-3.ensures.wrote)
+      | else-symbols-ge64 w ↦ rw (w.from-is, w.self-is) (omega (arith, symbols_len s, w.if-symbols-ge64.false), refl,
+          rw same c.loop-taken.invariant.waits)
     ] in
-    record { within = reads.within; holds = rw (c.keep.ensures.bytes, c.keep.ensures.state) holds }
+    let bytes = c.decode-2.result in
+    let size : s.len - from ≡ length (drop from q) = omega (arith, symbols_len s, length-drop from q) in
+    rw (c.new.ensures.bytes ∙ ap (λ n. take (3 * (n / 4)) bytes) size)
+    (few_read step {at = at} bytes (take (s.len % 4) c.last-self.result) start.0 c.decode-2.ensures
+    (c.last-self.ensures ∙ start.1) start.2)

@@ -1,0 +1,21 @@
+use Rattle.std.proofs.Common.{◌≡◌, ap, ◌∙◌, arith}
+use Rattle.data_url.specs.Steps.Waiting.{bytes_of}
+use Rattle.data_url.proofs.forgiving_base64.Holding.{fills_none, gains_groups}
+use Rattle.data_url.proofs.forgiving_base64.decode.Decoder.take_some.Goals.{then-is_between_groups+else-taken-gt0}
+use Rattle.data_url.proofs.forgiving_base64.decode.Decoder.take_some.Goals.{else-is_between_groups}
+use Rattle.data_url.proofs.forgiving_base64.decode.Decoder.take_some.Goals as goal
+
+pub returns-then-taken-gt0 : goal.returns-then-taken-gt0
+returns-then-taken-gt0 g c =
+    let none = c.is_between_groups.ensures c.if-is_between_groups.true in
+    gains_groups c.fill-taken.result (omega arith) none.0 none.1 c.requires.going c.fill-taken.ensures.fills
+
+pub returns : goal.returns
+returns g c =
+    let same : bytes_of c.if-is_between_groups.piece ≡ bytes_of c.args.piece.now =
+    elim c.if-is_between_groups.branch [
+      | then-is_between_groups+else-taken-gt0 w ↦
+          ap bytes_of w.piece-is ∙ fills_none w.fill-taken.result (omega arith) w.fill-taken.ensures.fills
+      | else-is_between_groups w ↦ ap bytes_of w.piece-is
+    ] in
+    grind (arith, same)

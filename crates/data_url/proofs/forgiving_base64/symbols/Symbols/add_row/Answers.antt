@@ -1,6 +1,6 @@
-use Rattle.std.proofs.Common.{◌+◌, length, take, sym, ap, ◌∙◌, arith, length-take-le}
+use Rattle.std.proofs.Common.{length, take, sym, ap, ◌∙◌, arith, length-take-le}
 use Rattle.data_url.specs.Steps.Waiting.{symbols_of}
-use Rattle.data_url.proofs.forgiving_base64.Rows.{all_more, front_kept, gains_all, gains_same, only_spaces, two_halves}
+use Rattle.data_url.proofs.forgiving_base64.Rows.{all_more, gains_all, gains_same, only_spaces, two_halves}
 use Rattle.data_url.proofs.forgiving_base64.symbols.Symbols.add_row.Goals as goal
 
 pub invariant_of-self-clause-symbols : goal.invariant_of-self-clause-symbols
@@ -9,11 +9,6 @@ invariant_of-self-clause-symbols c =
     let row = c.row-row.result in
     let all = sym c.are_symbols.ensures ∙ c.if-are_symbols.true in
     all_more (take s.len s.bytes) row _ s.symbols (gains_all {q = take s.len s.bytes} {row = row} all c.put.ensures).added
-
-pub returns-then-are_symbols-clause-kept : goal.returns-then-are_symbols-clause-kept
-returns-then-are_symbols-clause-kept c =
-    let s = c.args.self.now in
-    front_kept s.len (s.len + 16) s.bytes _ _ (omega (arith, s.sized, s.within)) (omega arith) c.put.ensures
 
 pub returns-then-are_symbols-clause-added : goal.returns-then-are_symbols-clause-added
 returns-then-are_symbols-clause-added c same =
@@ -26,14 +21,6 @@ invariant_of-self-2-clause-symbols c =
     (two_halves (take s.len s.bytes) c.row-row.result c.others-others.result (cc) c.others-others.ensures.mask
     c.put_half-middle.ensures.put
     c.put_half-self.ensures.put)
-
-pub returns-clause-kept : goal.returns-clause-kept
-returns-clause-kept c =
-    let s = c.args.self.now in
-    let e = two_halves (take s.len s.bytes) c.row-row.result c.others-others.result (cc) c.others-others.ensures.mask
-    c.put_half-middle.ensures.put c.put_half-self.ensures.put in
-    front_kept s.len c.put_half-self.result s.bytes _ _ (omega (arith, s.sized, s.within))
-    (omega (arith, c.put_half-middle.ensures.few, c.put_half-self.ensures.few)) e
 
 pub returns-clause-added : goal.returns-clause-added
 returns-clause-added c same =
