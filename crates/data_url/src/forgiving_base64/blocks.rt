@@ -61,17 +61,6 @@ pub(crate) fn put(bytes: &mut [u8], at: usize, row: u8x16)
     row.copy_to_slice(&mut bytes[at..]);
 }
 
-/// Writes the bytes of the four groups of the first 16 bytes, read as symbols, at a place, and four bytes more.
-#[inline(always)]
-pub(crate) fn put_row(bytes: &mut [u8], at: usize, text: &[u8])
-    requires room { at + 16 ≤ length bytes.old }
-    requires row { 16 ≤ length text.now }
-    ensures { take (at + 12) bytes.new
-        ≡ take at bytes.old ++ groups (map value_of (take 16 text.now)) }
-{
-    put(bytes, at, decode_row(row(text, 0)));
-}
-
 /// The bytes of the sixteen groups of the first 64 bytes, read as symbols.
 #[inline(always)]
 pub(crate) fn decode(text: &[u8]) -> [u8; 48]

@@ -44,7 +44,7 @@ where
     ghost use Rattle.data_url.specs.Steps.Ending.{IsFaultAtEnd};
     ghost use Rattle.data_url.specs.Facts.{Fits};
     ghost use Rattle.data_url.specs.Steps.Waiting.{bytes_of, symbols_of};
-    ghost use Rattle.data_url.specs.Steps.Holding.{Adds, FeedsPart, Flushes, Gains, IsBetweenGroups, Reads, Refuses, bytes_in, waiting};
+    ghost use Rattle.data_url.specs.Steps.Holding.{FeedsPart, Flushes, Gains, IsBetweenGroups, Reads, Refuses};
 
     /// Returns a decoder that has been fed nothing yet. The closure has to accept any bytes, whatever it was called
     /// with before.

@@ -6,7 +6,8 @@ ghost use Rattle.data_url.specs.Base64.{is_symbol};
 ghost use Rattle.data_url.specs.Steps.Blocks.{Fills};
 
 use super::alphabet::{group_of, is_symbol};
-use super::blocks::{put_row, symbols_in_row};
+use super::blocks::{put, row, symbols_in_row};
+use super::lanes::decode_row;
 
 /// The size of the buffer, in groups: as many as a block of 64 symbols has.
 pub(crate) const ROOM: usize = 16;
@@ -56,35 +57,8 @@ impl Piece {
         self.groups += 1;
     }
 
-    /// Adds the groups of the symbols that a row of sixteen bytes begins with, and returns how many bytes they take.
-    #[inline(always)]
-    fn fill_row(&mut self, text: &[u8]) -> usize
-        requires row { 16 ≤ length text.now }
-        requires room { self.old.groups ≤ 10 }
-        ensures none { result ≡ 0 → self.new.groups ≡ self.old.groups }
-        ensures fills { Fills (bytes_of self.old) text.now result (bytes_of self.new) }
-    {
-        let count = symbols_in_row(text) / 4;
-        put_row(&mut self.bytes, 3 * self.groups, text);
-        self.groups += count;
-        4 * count
-    }
-
-    /// Adds the group that a text begins with, if it begins with one, and returns how many bytes it takes.
-    #[inline(always)]
-    fn fill_group(&mut self, text: &[u8]) -> usize
-        requires room { self.old.groups < 16 }
-        ensures none { result ≡ 0 → self.new.groups ≡ self.old.groups }
-        ensures fills { Fills (bytes_of self.old) text.now result (bytes_of self.new) }
-    {
-        if text.len() < 4 || !begins_with_group(text) {
-            return 0;
-        }
-        self.push(group_of(text[0], text[1], text[2], text[3]));
-        4
-    }
-
-    /// Adds whole groups that a text begins with, as far as there is room, and returns how many bytes they take.
+    /// Adds whole groups that a text begins with, as far as there is room: those of a row of sixteen bytes, or one group.
+    /// Returns how many bytes they take.
     #[inline(always)]
     pub(crate) fn fill(&mut self, text: &[u8]) -> usize
         requires room { self.old.groups < 16 }
@@ -92,10 +66,16 @@ impl Piece {
         ensures fills { Fills (bytes_of self.old) text.now result (bytes_of self.new) }
     {
         if text.len() >= 16 && self.groups <= ROOM_FOR_ROW {
-            self.fill_row(text)
-        } else {
-            self.fill_group(text)
+            let count = symbols_in_row(text) / 4;
+            put(&mut self.bytes, 3 * self.groups, decode_row(row(text, 0)));
+            self.groups += count;
+            return 4 * count;
         }
+        if text.len() < 4 || !begins_with_group(text) {
+            return 0;
+        }
+        self.push(group_of(text[0], text[1], text[2], text[3]));
+        4
     }
 }
 

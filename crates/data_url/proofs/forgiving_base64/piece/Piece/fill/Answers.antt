@@ -1,0 +1,38 @@
+use Rattle.std.proofs.Common.{◌*◌, ◌/◌, ℕ, List, ap, map, sym, ◌∙◌, subst, arith}
+use Rattle.data_url.specs.Base64.{groups}
+use Rattle.data_url.specs.Steps.Blocks.{Fills}
+use Rattle.data_url.specs.Steps.Lanes.{value_of}
+use Rattle.data_url.specs.Steps.Waiting.{bytes_of}
+use Rattle.data_url.proofs.forgiving_base64.Groups.{all_before, fill_none, fill_one, fill_symbols, row_ahead, row_held}
+use Rattle.data_url.proofs.forgiving_base64.Vectors.{row_put}
+use Rattle.data_url.proofs.forgiving_base64.piece.Piece.fill.Goals as goal
+
+pub invariant_of-self-clause-within : goal.invariant_of-self-clause-within
+invariant_of-self-clause-within c =
+    omega (arith, (row_ahead c.args.text.now c.symbols_in_row-count.result c.symbols_in_row-count.ensures).0)
+
+pub returns-then-self-le-ROOM_FOR_ROW-clause-fills : goal.returns-then-self-le-ROOM_FOR_ROW-clause-fills
+returns-then-self-le-ROOM_FOR_ROW-clause-fills c =
+    let text = c.args.text.now in
+    let old = c.args.self.now in
+    let held = bytes_of old in
+    let symbols = c.symbols_in_row-count.result in
+    let count = symbols / 4 in
+    let ahead = row_ahead text symbols c.symbols_in_row-count.ensures in
+    let all = all_before text (4 * count) symbols (omega arith) ahead.1 in
+    let P : List ℕ → Type 0 = λ l. Fills held text (4 * count) l in
+    let put = row_put (3 * old.groups) 12 old.bytes c.put.new.bytes c.decode_row.result _ (omega arith) (omega arith)
+    c.put.ensures (c.decode_row.ensures.bytes ∙ ap (λ r. groups (map value_of r)) c.row.ensures) in
+    let e = row_held old.bytes c.put.new.bytes _ old.groups count put (omega arith) (omega (arith, ahead.0)) in
+    subst P (sym e) (fill_symbols held text 16 count (omega arith) (omega (arith, ahead.0)) c.type_inv.text all)
+
+pub returns-then-text-lt4-clause-fills : goal.returns-then-text-lt4-clause-fills
+returns-then-text-lt4-clause-fills c = fill_none (bytes_of c.args.self.now) c.args.text.now
+
+pub returns-clause-fills : goal.returns-clause-fills
+returns-clause-fills c =
+    let text = c.args.text.now in
+    let held = bytes_of c.args.self.now in
+    let P : List ℕ → Type 0 = λ l. Fills held text 4 l in
+    subst P (sym c.push.ensures.bytes) (fill_one held text c.group_of.result (omega arith)
+    (sym c.begins_with_group.ensures ∙ c.if-not-begins_with_group.false) c.group_of.ensures)
