@@ -2,7 +2,7 @@
 
 ghost use Rattle.std.specs.Prelude.{◌+◌, ◌≡◌, false, length};
 ghost use Rattle.std.specs.Fn.{CalledAt};
-ghost use Rattle.data_url.specs.Steps.Chunks.{IsCallableUntilError, IsOneSlice, TakesBody};
+ghost use Rattle.data_url.specs.Steps.Chunks.{IsCallableUntilError, TakesBody};
 ghost use Rattle.data_url.specs.Steps.Tail.{IsBodyEnd};
 ghost use Rattle.data_url.specs.Fetch.{outcome, plain_body};
 ghost use Rattle.data_url.specs.DataUrl.{Decodes};
@@ -10,20 +10,6 @@ ghost use Rattle.data_url.specs.Decoder.{state_of};
 
 use crate::escapes::{Pieces, ROOM, is_one_slice};
 use crate::forgiving_base64::{DecodeError, Decoder};
-
-/// Calls a closure with a body of one slice. Returns the closure's error, or the length of the body.
-fn decode_slice<F, E>(tail: &str, take: &mut F) -> Result<usize, E>
-where
-    F: FnMut(&[u8]) -> Result<(), E>,
-    requires callable { IsCallableUntilError F.FnMut take.old }
-    requires slice { IsOneSlice tail.now }
-    ensures { TakesBody (CalledAt F.FnMut) take.old tail.now result take.new }
-{
-    match take(tail.as_bytes()) {
-        Ok(()) => Ok(tail.len()),
-        Err(error) => Err(error),
-    }
-}
 
 /// Calls a closure with the pieces of the body of a tail, until it returns an error. Returns this error, or the place
 /// in the tail where the body ends.
@@ -34,7 +20,8 @@ where
     ensures { TakesBody (CalledAt F.FnMut) take.old tail.now result take.new }
 {
     if is_one_slice(tail) {
-        return decode_slice(tail, take);
+        take(tail.as_bytes())?;
+        return Ok(tail.len());
     }
     let mut pieces = Pieces::new(tail);
     let mut room = [0; ROOM];
@@ -42,10 +29,7 @@ where
         let Some(bytes) = pieces.next_bytes(&mut room) else {
             break 'chunks;
         };
-        match take(bytes) {
-            Ok(()) => {}
-            Err(error) => return Err(error),
-        }
+        take(bytes)?;
     }
     Ok(pieces.end())
 }

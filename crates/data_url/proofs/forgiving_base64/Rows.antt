@@ -8,8 +8,8 @@ use Rattle.std.specs.Int.RustNames.{count_ones}
 use Rattle.std.specs.List.{copy_within, filter, list_all, range_with_len}
 use Rattle.std.proofs.lemmas.List.Edits.{take-paste}
 use Rattle.std.proofs.lemmas.Bool.{agree_below_at, and_parts, eqb-true, true≢false}
-use Rattle.std.proofs.lemmas.List.{append-nil, drop-drop, ext_get_or, get_or-drop, get_or-map, get_or-take, length-map}
-use Rattle.std.proofs.lemmas.List.{map-append, map-id, take-append-drop, take-map, take-take, take_all, take_at}
+use Rattle.std.proofs.lemmas.List.{append-nil, ext_get_or, get_or-drop, get_or-map, get_or-take, length-map}
+use Rattle.std.proofs.lemmas.List.{map-append, map-id, take-append-drop, take-map, take-take, take_all}
 use Rattle.std.proofs.lemmas.List.{nil_from_length, take_rest}
 use Rattle.std.proofs.lemmas.List.Elements.{filter-append}
 use Rattle.std.proofs.lemmas.List.Folds.{list_all-append}
@@ -22,7 +22,7 @@ use Rattle.data_url.specs.Steps.Blocks.{DecodesFront, GainsSymbols, clear, is_sy
 use Rattle.data_url.specs.Steps.Lanes.{value_of}
 use Rattle.data_url.specs.declared.forgiving_base64.places.TheConstants.{CLEAR_PLACES}
 use Rattle.data_url.specs.declared.forgiving_base64.symbols.TheConstants.{SPACES}
-use Rattle.data_url.proofs.forgiving_base64.Vectors.{groups_whole, split_block, is_other, map_agree, mask_l-append}
+use Rattle.data_url.proofs.forgiving_base64.Vectors.{groups_whole, is_other, map_agree, mask_l-append}
 use Rattle.data_url.proofs.forgiving_base64.Vectors.{others_mask, looked_up}
 use Rattle.data_url.proofs.forgiving_base64.Steps.{after_few, groups_few, three_items}
 use Rattle.data_url.proofs.forgiving_base64.Groups.{symbols_alone, symbols_values, take_groups}

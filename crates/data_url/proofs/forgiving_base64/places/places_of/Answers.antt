@@ -6,9 +6,10 @@ use Rattle.data_url.proofs.forgiving_base64.places.places_of.Goals as goal
 
 pub returns-clause-few : goal.returns-clause-few
 returns-clause-few c =
-    let long : length c.row.result ≡ 16 = omega arith in
-    (ap length (zip2_splat digit c.row.result 16 48 long) ∙ length-map c.row.result (λ p. digit p 48) ∙ long,
-    omega (arith, ones_few c.args.bits c.ranges.bits.fits))
+    let long : length c.row.result ≡ 16 = omega arith in (
+      ap length (zip2_splat digit c.row.result 16 48 long) ∙ length-map c.row.result (λ p. digit p 48) ∙ long,
+      omega (arith, ones_few c.args.bits c.ranges.bits.fits),
+    )
 
 pub returns-clause-small : goal.returns-clause-small
 returns-clause-small c =

@@ -17,16 +17,16 @@ loop-at-init g c =
     let d = c.args.self.now in
     elim c.if-text-ge64.branch [
       | then-text-ge64+then-is_between_groups+in_ok-at w ↦ rw (w.self-is, w.piece-is, w.at-is) (record {
-          callable = w.in_ok-at.ensures.callable;
-          within = w.in_ok-at.ensures.fed.within;
-          holds = w.in_ok-at.ensures.fed.holds;
-        })
+        callable = w.in_ok-at.ensures.callable;
+        within = w.in_ok-at.ensures.fed.within;
+        holds = w.in_ok-at.ensures.fed.holds;
+      })
       | else-text-ge64 w ↦ rw (w.self-is, w.piece-is, w.at-is, c.new-piece.ensures.bytes) (record {
-          callable = c.requires.callable;
-          within = omega arith;
-          holds = holds_from (CalledAt g.F.FnMut) (adds_none (every_list_all (take d.pending d.symbols) d.pending_symbols)
-              (omega (arith, length-take d.pending d.symbols, d.few_pending)) d.few_padding c.requires.going);
-        })
+        callable = c.requires.callable;
+        within = omega arith;
+        holds = holds_from (CalledAt g.F.FnMut) (adds_none (every_list_all (take d.pending d.symbols) d.pending_symbols)
+            (omega (arith, length-take d.pending d.symbols, d.few_pending)) d.few_padding c.requires.going);
+      })
     ]
 
 pub loop-at-preserved : goal.loop-at-preserved

@@ -3,8 +3,7 @@ use Rattle.std.proofs.lemmas.List.{drop-drop}
 use Rattle.std.proofs.lemmas.Result.{err_from_is_err_and}
 use Rattle.std.specs.Fn.{CalledAt}
 use Rattle.data_url.specs.Decoder.{state_of}
-use Rattle.data_url.specs.Steps.Holding.{Reads}
-use Rattle.data_url.specs.Steps.Waiting.{bytes_of, symbols_of}
+use Rattle.data_url.specs.Steps.Waiting.{symbols_of}
 use Rattle.data_url.proofs.forgiving_base64.Holding.{block_goes, block_refused, few_read, none_wait, rows_wait, symbols_len}
 use Rattle.data_url.proofs.forgiving_base64.Padding.{every_after, every_list_all, list_all_every}
 use Rattle.data_url.specs.Base64.{after_groups}
@@ -108,15 +107,21 @@ returns-clause-fed g c =
     let same = c.add_rows-taken.ensures.none c.if-taken-eq0.true in
     let few : s.len < 128 = rw same c.loop-taken.invariant.few in
     let start : (length (drop from q) < 64) × (after_groups q ≡ after_groups (drop from q))
-        × Waits step (state_of c.args.self.now) c.args.text.now at (drop from q) (state_of c.if-symbols-ge64.self) =
+    × Waits step (state_of c.args.self.now) c.args.text.now at (drop from q) (state_of c.if-symbols-ge64.self) =
     elim c.if-symbols-ge64.branch [
       | then-symbols-ge64+in_ok-write-3 w ↦
           let long : 64 ≤ length q = omega (arith, symbols_len s, w.if-symbols-ge64.true) in
-          rw (w.from-is, w.self-is) (omega (arith, few, symbols_len s, length-drop 64 q), rest_after q long,
-          block_goes step {at = at} w.decode-then-symbols-ge64.result long (omega arith)
-          w.decode-then-symbols-ge64.ensures (rw same c.loop-taken.invariant.waits) w.in_ok-write-3.ensures.wrote)
-      | else-symbols-ge64 w ↦ rw (w.from-is, w.self-is) (omega (arith, symbols_len s, w.if-symbols-ge64.false), refl,
-          rw same c.loop-taken.invariant.waits)
+          rw (w.from-is, w.self-is) (
+            omega (arith, few, symbols_len s, length-drop 64 q),
+            rest_after q long,
+            block_goes step {at = at} w.decode-then-symbols-ge64.result long (omega arith)
+                w.decode-then-symbols-ge64.ensures (rw same c.loop-taken.invariant.waits) w.in_ok-write-3.ensures.wrote,
+          )
+      | else-symbols-ge64 w ↦ rw (w.from-is, w.self-is) (
+        omega (arith, symbols_len s, w.if-symbols-ge64.false),
+        refl,
+        rw same c.loop-taken.invariant.waits,
+      )
     ] in
     let bytes = c.decode-2.result in
     let size : s.len - from ≡ length (drop from q) = omega (arith, symbols_len s, length-drop from q) in

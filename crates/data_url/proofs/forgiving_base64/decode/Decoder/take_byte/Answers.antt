@@ -27,20 +27,24 @@ returns-else-not-is_ascii_whitespace g c =
 
 pub returns-then-not-is_ascii_whitespace : goal.returns-then-not-is_ascii_whitespace
 returns-then-not-is_ascii_whitespace g c =
-    let d = c.args.self.now in
-    (refuses_other (get_or c.args.text.now 0 0) (every_list_all (take d.pending d.symbols) d.pending_symbols)
-    (omega (arith, length-take d.pending d.symbols, d.few_pending))
-    (cc)
-    (ne_eqb (get_or c.args.text.now 0 0) 61 c.if-byte-eq61.false)
-    (sym c.is_symbol.ensures ∙ c.if-not-is_symbol.true)
-    refl, refl)
+    let d = c.args.self.now in (
+      refuses_other (get_or c.args.text.now 0 0) (every_list_all (take d.pending d.symbols) d.pending_symbols)
+          (omega (arith, length-take d.pending d.symbols, d.few_pending))
+          (cc)
+          (ne_eqb (get_or c.args.text.now 0 0) 61 c.if-byte-eq61.false)
+          (sym c.is_symbol.ensures ∙ c.if-not-is_symbol.true)
+          refl,
+      refl,
+    )
 
 pub returns-then-self-gt0 : goal.returns-then-self-gt0
 returns-then-self-gt0 g c =
-    let d = c.args.self.now in
-    (refuses_after (get_or c.args.text.now 0 0) (every_list_all (take d.pending d.symbols) d.pending_symbols)
-    (omega (arith, length-take d.pending d.symbols, d.few_pending)) (omega arith)
-    (sym c.is_symbol.ensures ∙ c.if-not-is_symbol.false) refl, refl)
+    let d = c.args.self.now in (
+      refuses_after (get_or c.args.text.now 0 0) (every_list_all (take d.pending d.symbols) d.pending_symbols)
+          (omega (arith, length-take d.pending d.symbols, d.few_pending)) (omega arith)
+          (sym c.is_symbol.ensures ∙ c.if-not-is_symbol.false) refl,
+      refl,
+    )
 
 pub returns-then-self-lt3 : goal.returns-then-self-lt3
 returns-then-self-lt3 g c =

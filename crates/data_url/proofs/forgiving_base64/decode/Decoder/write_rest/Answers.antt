@@ -1,4 +1,4 @@
-use Rattle.std.proofs.Common.{List, ℕ, take, ap, sym, ◌∙◌, subst, arith, length-take}
+use Rattle.std.proofs.Common.{List, ℕ, take, sym, subst, arith, length-take}
 use Rattle.std.specs.Fn.{CalledAt}
 use Rattle.data_url.specs.Decoder.{state_of}
 use Rattle.data_url.specs.Steps.Calls.{CallsOnce}

@@ -1,4 +1,4 @@
-use Rattle.std.proofs.Common.{length, take, sym, ap, ◌∙◌, arith, length-take-le}
+use Rattle.std.proofs.Common.{length, take, sym, ap, ◌∙◌, length-take-le}
 use Rattle.data_url.specs.Steps.Waiting.{symbols_of}
 use Rattle.data_url.proofs.forgiving_base64.Rows.{all_more, gains_all, gains_same, only_spaces, two_halves}
 use Rattle.data_url.proofs.forgiving_base64.symbols.Symbols.add_row.Goals as goal
