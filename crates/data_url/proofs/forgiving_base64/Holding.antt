@@ -25,7 +25,7 @@ use Rattle.data_url.specs.declared.forgiving_base64.symbols.Symbols.{Symbols}
 use Rattle.data_url.specs.declared.forgiving_base64.DecodeError.{DecodeError}
 use Rattle.data_url.specs.declared.forgiving_base64.DecodeError.TheVariants.{InvalidBase64, WriteError}
 use Rattle.data_url.proofs.forgiving_base64.Steps.{adds_none, adds_text, fault_space, fault_symbol, has_pad, told_call}
-use Rattle.data_url.proofs.forgiving_base64.Steps.{feeds_stop, feeds_then, left_goes_on}
+use Rattle.data_url.proofs.forgiving_base64.Steps.{IsSound, feeds_stop, feeds_then, left_goes_on}
 use Rattle.data_url.specs.Steps.Lanes.{value_of}
 use Rattle.data_url.proofs.forgiving_base64.Groups.{fill_symbols, fits_take, groups_length}
 use Rattle.data_url.proofs.forgiving_base64.Vectors.{groups_whole}
@@ -429,10 +429,10 @@ pub record Waits {F E : Type 0} (step : F → List ℕ → Result (Unit {0}) E �
 
 module _ {F E : Type 0} (step : F → List ℕ → Result (Unit {0}) E → F → Type 0) where
   -- nothing was read, and nothing is held
-  pub none_wait : {d : State F} {q : List ℕ} (text : List ℕ) → Every is_symbol d.symbols → IsBetweenGroups d
-      → d.failed ≡ false → q ≡ [] → Waits step d text 0 q d
+  pub none_wait : {d : State F} {q : List ℕ} (text : List ℕ) → IsSound d → IsBetweenGroups d → d.failed ≡ false
+      → q ≡ [] → Waits step d text 0 q d
   unfolding groups after_groups
-  none_wait {d} {q} text every none going is = grind (arith, adds_none)
+  none_wait {d} {q} text s none going is = grind (arith, adds_none s going)
 
   -- n bytes more, all symbols and whitespace, are read, and their symbols are held after those before
   pub rows_wait : {d s : State F} {q q' : List ℕ} (text : List ℕ) (at n : ℕ) → 0 < n

@@ -1,7 +1,7 @@
 -- What a decoder does with more bytes, and at its end. For `Decoder`.
 use Rattle.std.proofs.Common.{◌≡◌, ℕ, suc, zero, ◌+◌, ◌*◌, ◌%◌, ◌≤◌, Bool, true, false, cond, eqb, get_or, take, List}
 use Rattle.std.proofs.Common.{[], ◌∷◌, ◌++◌, length, map, min, replicate, None, Some, Result, Ok, Err, refl, ap, ap₂, sym}
-use Rattle.std.proofs.Common.{◌∙◌, subst, arith, length-append, drop, Option, append_assoc}
+use Rattle.std.proofs.Common.{◌∙◌, subst, arith, length-append, length-take, drop, Option, append_assoc}
 use Rattle.std.specs.Prelude.{MatchOption, MatchBool, MatchResult}
 use Rattle.std.specs.List.{filter, list_any}
 use Rattle.std.proofs.lemmas.List.{append-nil, length-map, length-replicate, take-append-drop, nil_from_length}
@@ -14,7 +14,8 @@ use Rattle.data_url.specs.Base64.{after_groups, decoded, complete_bytes, first_f
 use Rattle.data_url.specs.Base64.{is_symbol, is_valid, kind_of, left_padding, left_symbols, left_text, rest_bytes}
 use Rattle.data_url.specs.Base64.{symbol_value, values}
 use Rattle.std.specs.Char.{is_ascii_whitespace}
-use Rattle.data_url.specs.Decoder.{Feeds, Finishes, State, left_over, IsLeft, IsTaken}
+use Rattle.data_url.specs.Decoder.{Feeds, Finishes, State, left_over, IsLeft, IsTaken, state_of}
+use Rattle.data_url.specs.declared.forgiving_base64.decode.Decoder.{Decoder}
 use Rattle.data_url.specs.Errors.{IsRefused}
 use Rattle.data_url.specs.Mime.{Every}
 use Rattle.data_url.specs.Run.{IsRun, IsPrefix, joined_pieces, refusal}
@@ -26,6 +27,7 @@ use Rattle.data_url.specs.declared.forgiving_base64.DecodeError.TheVariants.{Wri
 use Rattle.data_url.proofs.runs.Runs.{prefix_all, joined_pieces-append, match_alike, match_map, prefix_trans}
 use Rattle.data_url.proofs.runs.Runs.{refusal-append, run-append}
 use Rattle.data_url.proofs.forgiving_base64.Padding.{any_of_text, before-append, before_fault, before_none, classes}
+use Rattle.data_url.proofs.forgiving_base64.Padding.{every_list_all}
 use Rattle.data_url.proofs.forgiving_base64.Padding.{done_is, fault-append, fault_byte, fault_pads, fault_some}
 use Rattle.data_url.proofs.forgiving_base64.Padding.{fault_text, is_pad, kind_is, no_fault_valid, none_fault}
 use Rattle.data_url.proofs.forgiving_base64.Padding.{pads_of_text, symbols_of_text, fits_with, bad, space_alone}
@@ -234,6 +236,20 @@ told_call (Err e) r P all bytes q f h = record { bytes_begin = prefix_all bytes 
 
 -- A decoder that is fed a short text
 
+-- what holds of the state of each decoder
+pub record IsSound {F : Type 0} (d : State F) : Type 0 where
+  pub every : Every is_symbol d.symbols
+  pub few : length d.symbols ≤ 3
+  pub few_padding : d.padding ≤ 3
+
+-- the state of a decoder, by its invariants
+pub sound : {F E : Type 0} (d : Decoder F E) → IsSound (state_of d)
+sound d = record {
+  every = every_list_all (take d.pending d.symbols) d.pending_symbols;
+  few = omega (arith, length-take d.pending d.symbols, d.few_pending);
+  few_padding = d.few_padding;
+}
+
 module _ {F : Type 0} where
   -- d reads a text t without a fault that has the symbols k and n times '=', if the fields of d' are what is left over
   pub adds_text : {d d' : State F} (t k bytes : List ℕ) (n : ℕ) → Every is_symbol d.symbols
@@ -256,11 +272,11 @@ module _ {F : Type 0} where
       same (symbols ∙ sym (after_few (d.symbols ++ k) few)) padding failed
 
   -- d reads a symbol after at most two symbols and no padding: it keeps the symbol, and no group is complete
-  pub adds_kept : {d d' : State F} (c : ℕ) → Every is_symbol d.symbols → length d.symbols + 1 ≤ 3 → d.padding ≡ 0
+  pub adds_kept : {d d' : State F} (c : ℕ) → IsSound d → length d.symbols + 1 ≤ 3 → d.padding ≡ 0
       → is_symbol c ≡ true → d'.closure ≡ d.closure → d'.symbols ≡ d.symbols ++ c ∷ [] → d'.padding ≡ d.padding
       → d'.failed ≡ false → Adds d (c ∷ []) [] d'
-  adds_kept {d} c every few none symbol same symbols padding failed =
-      adds_quiet (c ∷ []) (c ∷ []) 0 every
+  adds_kept {d} c s few none symbol same symbols padding failed =
+      adds_quiet (c ∷ []) (c ∷ []) 0 s.every
       (ap (λ p. fault_byte (has_pad p) (c ∷ [])) none ∙ fault_symbol c symbol)
       (symbols_symbol c symbol)
       (ap length (pads_symbol c symbol))
@@ -268,47 +284,47 @@ module _ {F : Type 0} where
       same symbols (padding ∙ none ∙ ap (λ p. min (p + 0) 3) (sym none)) failed
 
   -- d reads a byte of whitespace, and does not change
-  pub adds_space : {d : State F} (c : ℕ) → Every is_symbol d.symbols → length d.symbols ≤ 3 → d.padding ≤ 3
+  pub adds_space : {d : State F} (c : ℕ) → IsSound d
       → is_ascii_whitespace c ≡ true → d.failed ≡ false → Adds d (c ∷ []) [] d
-  adds_space {d} c every few pads space going =
+  adds_space {d} c s space going =
       search (arith, adds_quiet, fault_space, symbols_space, pads_space, append-nil, min_same)
 
   -- d reads the empty text, and does not change
-  pub adds_none : {d : State F} → Every is_symbol d.symbols → length d.symbols ≤ 3 → d.padding ≤ 3 → d.failed ≡ false
+  pub adds_none : {d : State F} → IsSound d → d.failed ≡ false
       → Adds d [] [] d
-  adds_none {d} every few pads going =
-      adds_quiet [] [] 0 every
+  adds_none {d} s going =
+      adds_quiet [] [] 0 s.every
       (fault_nil (has_pad d.padding))
       refl
       refl
-      (rw append-nil few)
-      refl (sym (append-nil d.symbols)) (min_same d.padding pads) going
+      (rw append-nil s.few)
+      refl (sym (append-nil d.symbols)) (min_same d.padding s.few_padding) going
 
   -- a '='
-  adds_equals : {d d' : State F} → Every is_symbol d.symbols → length d.symbols ≤ 3 → d.failed ≡ false
+  adds_equals : {d d' : State F} → IsSound d → d.failed ≡ false
       → d' ≡ record d { padding = min (d.padding + 1) 3 } → Adds d (61 ∷ []) [] d'
-  adds_equals {d} {d'} every few going same =
-      adds_quiet (61 ∷ []) [] 1 every
+  adds_equals {d} {d'} s going same =
+      adds_quiet (61 ∷ []) [] 1 s.every
       (fault_pads 1 (has_pad d.padding))
       refl
       refl
-      (rw append-nil few)
-      (ap (λ (s : State F). s.closure) same) (ap (λ (s : State F). s.symbols) same ∙ sym (append-nil d.symbols))
-      (ap (λ (s : State F). s.padding) same) (ap (λ (s : State F). s.failed) same ∙ going)
+      (rw append-nil s.few)
+      (ap (λ (x : State F). x.closure) same) (ap (λ (x : State F). x.symbols) same ∙ sym (append-nil d.symbols))
+      (ap (λ (x : State F). x.padding) same) (ap (λ (x : State F). x.failed) same ∙ going)
 
   -- d reads a '=': it counts it, up to three
-  pub adds_pad : {d d' : State F} (c : ℕ) → c ≡ 61 → Every is_symbol d.symbols → length d.symbols ≤ 3 → d.failed ≡ false
+  pub adds_pad : {d d' : State F} (c : ℕ) → c ≡ 61 → IsSound d → d.failed ≡ false
       → d' ≡ record d { padding = min (d.padding + 1) 3 } → Adds d (c ∷ []) [] d'
-  adds_pad {d} {d'} c e every few going same = grind (arith, adds_equals every few going same)
+  adds_pad {d} {d'} c e s going same = grind (arith, adds_equals s going same)
 
   -- the fourth symbol completes a group
-  pub adds_group : {d d' : State F} (x y z c : ℕ) (group : List ℕ) → Every is_symbol d.symbols
+  pub adds_group : {d d' : State F} (x y z c : ℕ) (group : List ℕ) → IsSound d
       → d.symbols ≡ x ∷ y ∷ z ∷ [] → d.padding ≡ 0 → is_symbol c ≡ true
       → group ≡ group_bytes (group_number (symbol_value x) (symbol_value y) (symbol_value z) (symbol_value c))
       → d'.closure ≡ d.closure → d'.symbols ≡ [] → d'.padding ≡ 0 → d'.failed ≡ false → Adds d (c ∷ []) group d'
-  adds_group {d} {d'} x y z c group every is_q is_p symbol is_group same symbols padding failed =
+  adds_group {d} {d'} x y z c group s is_q is_p symbol is_group same symbols padding failed =
       let all : d.symbols ++ c ∷ [] ≡ x ∷ y ∷ z ∷ c ∷ [] = ap (λ k. k ++ c ∷ []) is_q in
-      adds_text (c ∷ []) (c ∷ []) group 0 every
+      adds_text (c ∷ []) (c ∷ []) group 0 s.every
       (ap (λ p. fault_byte (has_pad p) (c ∷ [])) is_p ∙ fault_symbol c symbol)
       (symbols_symbol c symbol)
       (ap length (pads_symbol c symbol))
@@ -318,9 +334,9 @@ module _ {F : Type 0} where
       (padding ∙ ap (λ p. min (p + 0) 3) (sym is_p)) failed
 
   -- if d has padding, it refuses a symbol
-  pub refuses_after : {d d' : State F} (c : ℕ) → Every is_symbol d.symbols → length d.symbols ≤ 3 → 1 ≤ d.padding
+  pub refuses_after : {d d' : State F} (c : ℕ) → IsSound d → 1 ≤ d.padding
       → is_symbol c ≡ true → d' ≡ d → Refuses d c AlphabetSymbolAfterPadding d'
-  refuses_after {d} c every few pads symbol same =
+  refuses_after {d} c s pads symbol same =
       grind (
         arith,
         has_pad_some,
@@ -340,10 +356,10 @@ module _ {F : Type 0} where
       )
 
   -- d refuses a byte that is neither whitespace nor '=' nor a symbol
-  pub refuses_other : {d d' : State F} (c : ℕ) → Every is_symbol d.symbols → length d.symbols ≤ 3
+  pub refuses_other : {d d' : State F} (c : ℕ) → IsSound d
       → is_ascii_whitespace c ≡ false → is_pad c ≡ false → is_symbol c ≡ false → d' ≡ d
       → Refuses d c (UnexpectedSymbol c) d'
-  refuses_other {d} c every few space pad symbol same =
+  refuses_other {d} c s space pad symbol same =
       grind (
         arith,
         fault_other,
@@ -363,9 +379,9 @@ module _ {F : Type 0} where
 
 module _ {F E : Type 0} (step : F → List ℕ → Result (Unit {0}) E → F → Type 0) where
   -- feeding the empty text returns `Ok`, and d does not change
-  pub feeds_none : {d d' : State F} → Every is_symbol d.symbols → length d.symbols ≤ 3 → d.padding ≤ 3
+  pub feeds_none : {d d' : State F} → IsSound d
       → d.failed ≡ false → d' ≡ d → Feeds step d [] (Ok tt) d'
-  feeds_none {d} {d'} every few pads going same = grind (arith, adds_none)
+  feeds_none {d} {d'} s going same = grind (arith, adds_none s going)
 
   -- One call
 

@@ -119,7 +119,7 @@ module _ {F E : Type 0} (step : F → List ℕ → Result (Unit {0}) E → F →
 
   -- a new decoder is fed nothing
   pub fed_nothing : {d : State F} {f : F} → d ≡ start f → Feeds step (start f) [] (Ok tt) d
-  fed_nothing {d} {f} e = feeds_none step tt (omega arith) (omega arith) refl e
+  fed_nothing {d} {f} e = feeds_none step (record { every = tt; few = omega arith; few_padding = omega arith }) refl e
 
   -- if feeding a new decoder the text u returns an error, decoding u returns it
   pub decodes_refused : {d d' : State F} {f : F} {u : List ℕ} {x : DecodeError E} → d ≡ start f

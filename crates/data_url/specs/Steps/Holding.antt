@@ -1,5 +1,5 @@
 -- What a decoder does with input while decoded bytes are held, to be passed to the closure together.
-use Rattle.std.specs.Prelude.{[], ◌*◌, ◌++◌, ◌+◌, ◌∷◌, ◌≡◌, ◌≤◌, Err, List, MatchResult, None, Ok, Option, Result, Some, false, is_some, length, take, true, ℕ}
+use Rattle.std.specs.Prelude.{[], ◌*◌, ◌++◌, ◌+◌, ◌∷◌, ◌≡◌, ◌≤◌, Err, List, MatchResult, None, Ok, Result, false, is_some, length, take, true, ℕ}
 use Rattle.data_url.specs.Base64.{Kind, after_groups, complete_bytes, first_fault, kind_of}
 use Rattle.data_url.specs.Decoder.{Feeds, IsLeft, State, left_over}
 use Rattle.data_url.specs.Run.{Call, IsRun, joined_pieces, refusal}
@@ -23,11 +23,6 @@ pub record Refuses {F : Type 0} (d : State F) (byte : ℕ) (kind : Kind) (d' : S
   pub kind_is : kind_of (left_over d ++ byte ∷ []) ≡ kind
   pub none_done : complete_bytes (left_over d ++ byte ∷ []) ≡ []
   pub stays : d' ≡ d
-
--- the bytes of a group, if there is one
-abbrev pub bytes_in : Option (List ℕ) → List ℕ
-bytes_in None = []
-bytes_in (Some group) = group
 
 -- d reads the first `taken` bytes of the text, at least one; held' is held followed by the bytes of
 -- their groups

@@ -1,13 +1,12 @@
 use Rattle.std.proofs.Common.{arith, length-take, length-drop}
 use Rattle.std.proofs.lemmas.Result.{err_from_is_err_and}
 use Rattle.std.specs.Fn.{CalledAt}
-use Rattle.data_url.proofs.forgiving_base64.Steps.{feeds_none}
+use Rattle.data_url.proofs.forgiving_base64.Steps.{feeds_none, sound}
 use Rattle.data_url.proofs.forgiving_base64.Holding.{feeds_last, feeds_part}
-use Rattle.data_url.proofs.forgiving_base64.Padding.{every_list_all}
 use Rattle.data_url.proofs.forgiving_base64.decode.Decoder.feed.Goals as goal
 
 pub loop-at-init : goal.loop-at-init
-loop-at-init g c = grind (arith, feeds_none, every_list_all, length-take)
+loop-at-init g c = grind (arith, feeds_none, sound)
 
 pub returns-in_err-at-clause-fed : goal.returns-in_err-at-clause-fed
 returns-in_err-at-clause-fed g c = grind (arith, feeds_last)

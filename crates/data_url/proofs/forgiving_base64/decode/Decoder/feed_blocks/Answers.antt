@@ -1,16 +1,15 @@
 use Rattle.std.proofs.Common.{sym, ◌∙◌, ◌+◌, arith, length-take}
 use Rattle.std.proofs.lemmas.Result.{err_from_is_err_and}
 use Rattle.std.specs.Fn.{CalledAt}
-use Rattle.data_url.proofs.forgiving_base64.Steps.{feeds_none, feeds_stop}
+use Rattle.data_url.proofs.forgiving_base64.Steps.{feeds_none, feeds_stop, sound}
 use Rattle.data_url.proofs.forgiving_base64.Holding.{block_feeds}
-use Rattle.data_url.proofs.forgiving_base64.Padding.{every_list_all}
 use Rattle.data_url.proofs.forgiving_base64.decode.Decoder.feed_blocks.Goals as goal
 
 pub returns-then-not-is_between_groups-clause-fed : goal.returns-then-not-is_between_groups-clause-fed
-returns-then-not-is_between_groups-clause-fed g c = grind (arith, feeds_none, every_list_all, length-take)
+returns-then-not-is_between_groups-clause-fed g c = grind (arith, feeds_none, sound)
 
 pub loop-at-init : goal.loop-at-init
-loop-at-init g c = grind (arith, feeds_none)
+loop-at-init g c = grind (arith, feeds_none, sound)
 
 pub returns-in_err-write-clause-fed : goal.returns-in_err-write-clause-fed
 returns-in_err-write-clause-fed g c =

@@ -1,7 +1,6 @@
 use Rattle.data_url.proofs.forgiving_base64.Holding.{holds_adds, byte_at, fault_feeds, flush_refused, flushed_feeds}
 use Rattle.data_url.proofs.forgiving_base64.Holding.{holds_from, stays_holds}
-use Rattle.data_url.proofs.forgiving_base64.Steps.{adds_none}
-use Rattle.data_url.proofs.forgiving_base64.Padding.{every_list_all}
+use Rattle.data_url.proofs.forgiving_base64.Steps.{adds_none, sound}
 use Rattle.std.proofs.Common.{take, take-add, length-take, Err, ap, arith}
 use Rattle.std.proofs.lemmas.List.{take_rest}
 use Rattle.std.proofs.lemmas.Result.{err_from_is_err_and}
@@ -24,8 +23,7 @@ loop-at-init g c =
       | else-text-ge64 w ↦ rw (w.self-is, w.piece-is, w.at-is, c.new-piece.ensures.bytes) (record {
         callable = c.requires.callable;
         within = omega arith;
-        holds = holds_from (CalledAt g.F.FnMut) (adds_none (every_list_all (take d.pending d.symbols) d.pending_symbols)
-            (omega (arith, length-take d.pending d.symbols, d.few_pending)) d.few_padding c.requires.going);
+        holds = holds_from (CalledAt g.F.FnMut) (adds_none (sound d) c.requires.going);
       })
     ]
 

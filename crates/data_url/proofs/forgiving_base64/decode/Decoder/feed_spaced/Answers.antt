@@ -9,6 +9,7 @@ use Rattle.data_url.proofs.forgiving_base64.Padding.{every_after, every_list_all
 use Rattle.data_url.specs.Base64.{after_groups}
 use Rattle.data_url.proofs.forgiving_base64.Holding.{Waits, rest_after}
 use Rattle.data_url.proofs.forgiving_base64.decode.Decoder.feed_spaced.Goals.{then-symbols-ge64+in_ok-write-3, else-symbols-ge64}
+use Rattle.data_url.proofs.forgiving_base64.Steps.{sound}
 use Rattle.data_url.proofs.forgiving_base64.decode.Decoder.feed_spaced.Goals as goal
 
 pub loop-taken-init : goal.loop-taken-init
@@ -18,9 +19,7 @@ loop-taken-init g c =
       callable = c.requires.callable;
       within = omega arith;
       few = omega (arith, c.new-symbols.ensures.len);
-      waits = none_wait (CalledAt g.F.FnMut) c.args.text.now
-          (every_list_all (take d.pending d.symbols) d.pending_symbols)
-          c.requires.between c.requires.going c.new-symbols.ensures.none;
+      waits = none_wait (CalledAt g.F.FnMut) c.args.text.now (sound d) c.requires.between c.requires.going c.new-symbols.ensures.none;
     }
 
 pub returns-in_err-write-clause-fed : goal.returns-in_err-write-clause-fed

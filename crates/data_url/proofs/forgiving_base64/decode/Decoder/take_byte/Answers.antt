@@ -6,30 +6,26 @@ use Rattle.data_url.specs.Steps.Waiting.{bytes_of}
 use Rattle.data_url.proofs.forgiving_base64.Vectors.{space_is}
 use Rattle.data_url.proofs.forgiving_base64.Holding.{gains_one}
 use Rattle.data_url.proofs.forgiving_base64.Steps.{adds_group, adds_kept, adds_pad, adds_space, refuses_after}
-use Rattle.data_url.proofs.forgiving_base64.Steps.{refuses_other, three_items}
-use Rattle.data_url.proofs.forgiving_base64.Padding.{every_list_all}
+use Rattle.data_url.proofs.forgiving_base64.Steps.{refuses_other, sound, three_items}
 use Rattle.data_url.proofs.forgiving_base64.decode.Decoder.take_byte.Goals as goal
 
 pub returns-then-byte-eq61 : goal.returns-then-byte-eq61
 returns-then-byte-eq61 g c =
     let d = c.args.self.now in
-    gains_one c.args.text.now [] c.requires.some (adds_pad (get_or c.args.text.now 0 0) c.if-byte-eq61.true (every_list_all (take d.pending d.symbols) d.pending_symbols)
-    (omega (arith, length-take d.pending d.symbols, d.few_pending)) c.requires.going
+    gains_one c.args.text.now [] c.requires.some (adds_pad (get_or c.args.text.now 0 0) c.if-byte-eq61.true (sound d) c.requires.going
     (ap (λ p. record (state_of d) { padding = p }) c.min-self.ensures)) (sym (append-nil (bytes_of c.args.piece.now)))
 
 pub returns-else-not-is_ascii_whitespace : goal.returns-else-not-is_ascii_whitespace
 returns-else-not-is_ascii_whitespace g c =
     let d = c.args.self.now in
-    gains_one c.args.text.now [] c.requires.some (adds_space (get_or c.args.text.now 0 0) (every_list_all (take d.pending d.symbols) d.pending_symbols)
-    (omega (arith, length-take d.pending d.symbols, d.few_pending)) d.few_padding
+    gains_one c.args.text.now [] c.requires.some (adds_space (get_or c.args.text.now 0 0) (sound d)
     (sym (space_is (get_or c.args.text.now 0 0) (omega arith)) ∙ sym c.is_ascii_whitespace.ensures.value
     ∙ c.if-not-is_ascii_whitespace.false) c.requires.going) (sym (append-nil (bytes_of c.args.piece.now)))
 
 pub returns-then-not-is_ascii_whitespace : goal.returns-then-not-is_ascii_whitespace
 returns-then-not-is_ascii_whitespace g c =
     let d = c.args.self.now in (
-      refuses_other (get_or c.args.text.now 0 0) (every_list_all (take d.pending d.symbols) d.pending_symbols)
-          (omega (arith, length-take d.pending d.symbols, d.few_pending))
+      refuses_other (get_or c.args.text.now 0 0) (sound d)
           (cc)
           (ne_eqb (get_or c.args.text.now 0 0) 61 c.if-byte-eq61.false)
           (sym c.is_symbol.ensures ∙ c.if-not-is_symbol.true)
@@ -40,8 +36,7 @@ returns-then-not-is_ascii_whitespace g c =
 pub returns-then-self-gt0 : goal.returns-then-self-gt0
 returns-then-self-gt0 g c =
     let d = c.args.self.now in (
-      refuses_after (get_or c.args.text.now 0 0) (every_list_all (take d.pending d.symbols) d.pending_symbols)
-          (omega (arith, length-take d.pending d.symbols, d.few_pending)) (omega arith)
+      refuses_after (get_or c.args.text.now 0 0) (sound d) (omega arith)
           (sym c.is_symbol.ensures ∙ c.if-not-is_symbol.false) refl,
       refl,
     )
@@ -49,7 +44,7 @@ returns-then-self-gt0 g c =
 pub returns-then-self-lt3 : goal.returns-then-self-lt3
 returns-then-self-lt3 g c =
     let d = c.args.self.now in
-    gains_one c.args.text.now [] c.requires.some (adds_kept (get_or c.args.text.now 0 0) (every_list_all (take d.pending d.symbols) d.pending_symbols)
+    gains_one c.args.text.now [] c.requires.some (adds_kept (get_or c.args.text.now 0 0) (sound d)
     (omega (arith, length-take d.pending d.symbols)) (omega arith) (sym c.is_symbol.ensures ∙ c.if-not-is_symbol.false)
     refl (take_more_set d.symbols d.pending (get_or c.args.text.now 0 0) (omega arith)) refl c.requires.going)
     (sym (append-nil (bytes_of c.args.piece.now)))
@@ -58,7 +53,7 @@ pub returns-else-self-lt3 : goal.returns-else-self-lt3
 returns-else-self-lt3 g c =
     let d = c.args.self.now in
     gains_one c.args.text.now c.group_of.result c.requires.some (adds_group _ _ _ (get_or c.args.text.now 0 0) _
-    (every_list_all (take d.pending d.symbols) d.pending_symbols)
+    (sound d)
     (three_items d.symbols d.pending (omega arith) (omega (arith, d.few_pending)))
     (omega arith) (sym c.is_symbol.ensures ∙ c.if-not-is_symbol.false) c.group_of.ensures refl refl (omega arith)
     c.requires.going) c.push.ensures.bytes
