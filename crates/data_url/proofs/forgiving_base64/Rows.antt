@@ -5,11 +5,12 @@ use Rattle.std.proofs.Common.{w8, refl, sym, ap, ap₂, take-add, ◌∙◌, sub
 use Rattle.std.proofs.Common.{ltb-true}
 use Rattle.std.specs.Char.{is_ascii_whitespace}
 use Rattle.std.specs.Int.RustNames.{count_ones}
-use Rattle.std.specs.List.{filter, list_all, range_with_len}
+use Rattle.std.specs.List.{copy_within, filter, list_all, range_with_len}
 use Rattle.std.proofs.lemmas.Bool.{agree_below_at, and_parts, eqb-true, true≢false}
-use Rattle.std.proofs.lemmas.List.{append-nil, drop-drop, ext_get_or, get_or-drop, get_or-map, get_or-take, length-map}
+use Rattle.std.proofs.lemmas.List.{append-nil, ext_get_or, get_or-drop, get_or-map, get_or-take, length-map}
 use Rattle.std.proofs.lemmas.List.{map-append, map-id, take-append-drop, take-map, take-take, take_all}
 use Rattle.std.proofs.lemmas.List.{nil_from_length, take_rest}
+use Rattle.std.proofs.lemmas.List.Edits.{take-paste}
 use Rattle.std.proofs.lemmas.List.Elements.{filter-append}
 use Rattle.std.proofs.lemmas.List.Folds.{list_all-append}
 use Rattle.std.proofs.lemmas.Nat.{and_le_r}
@@ -21,7 +22,7 @@ use Rattle.data_url.specs.Steps.Blocks.{DecodesFront, GainsSymbols, clear, is_sy
 use Rattle.data_url.specs.Steps.Lanes.{value_of}
 use Rattle.data_url.specs.declared.forgiving_base64.places.TheConstants.{CLEAR_PLACES}
 use Rattle.data_url.specs.declared.forgiving_base64.symbols.TheConstants.{SPACES}
-use Rattle.data_url.proofs.forgiving_base64.Vectors.{groups_whole, split_block, is_other, map_agree, mask_l-append}
+use Rattle.data_url.proofs.forgiving_base64.Vectors.{groups_whole, is_other, map_agree, mask_l-append}
 use Rattle.data_url.proofs.forgiving_base64.Vectors.{others_mask, looked_up}
 use Rattle.data_url.proofs.forgiving_base64.Steps.{after_few, groups_few, three_items}
 use Rattle.data_url.proofs.forgiving_base64.Groups.{symbols_alone, symbols_values, take_groups}
@@ -256,25 +257,15 @@ pub all_after : (n : ℕ) (q : List ℕ) → list_all is_symbol q ≡ true → l
 all_after n q h = (and_parts (list_all is_symbol (take n q)) (list_all is_symbol (drop n q))
     (sym (list_all-append is_symbol (take n q) (drop n q)) ∙ ap (list_all is_symbol) (take-append-drop n q) ∙ h)).1
 
--- the bytes from an index on, moved to the front
-pub moved : (old b1 b2 b3 b4 w x y z : List ℕ) (count len : ℕ) → len < count + 64 → take 16 b1 ≡ w
-    → take (16 + 16) b2 ≡ take 16 b1 ++ x → take (32 + 16) b3 ≡ take 32 b2 ++ y → take (48 + 16) b4 ≡ take 48 b3 ++ z
-    → w ≡ take 16 (drop count old) → x ≡ take 16 (drop (count + 16) old) → y ≡ take 16 (drop (count + 32) old)
-    → z ≡ take 16 (drop (count + 48) old) → take (len - count) b4 ≡ drop count (take len old)
-moved old b1 b2 b3 b4 w x y z count len many p q r s d e f g =
-    let far = drop count old in
-    let front : take 64 b4 ≡ take 64 far = cc (
-      append_assoc (w ++ x) y z,
-      append_assoc w x (y ++ z),
-      drop-drop 16 count old,
-      drop-drop 32 count old,
-      drop-drop 48 count old,
-      split_block far,
-    ) in
+-- the 64 bytes from index 128 on, copied to the front
+pub moved : (old new : List ℕ) (len : ℕ) → length old ≡ 208 → len < 192 → new ≡ copy_within old 128 192 0
+    → take (len - 128) new ≡ drop 128 (take len old)
+moved old new len long few e =
     cc (
-      take-take (len - count) 64 b4 (omega arith),
-      take-take (len - count) 64 far (omega arith),
-      drop_taken count len old,
+      take-take (len - 128) 64 new (omega arith),
+      take-take (len - 128) 64 (drop 128 old) (omega arith),
+      take-paste old 0 (drop 128 old) 64 (omega arith) (omega (arith, length-drop 128 old)),
+      drop_taken 128 len old,
     )
 
 -- Rows that follow one another

@@ -136,14 +136,7 @@ impl Symbols {
         ensures rest { symbols_of self.new ≡ drop 128 (symbols_of self.old) }
         ensures len { self.new.len + 128 ≡ self.old.len }
     {
-        let first = row(&self.bytes, 128);
-        let second = row(&self.bytes, 144);
-        let third = row(&self.bytes, 160);
-        let fourth = row(&self.bytes, 176);
-        put(&mut self.bytes, 0, first);
-        put(&mut self.bytes, 16, second);
-        put(&mut self.bytes, 32, third);
-        put(&mut self.bytes, 48, fourth);
+        self.bytes.copy_within(128..192, 0);
         self.len -= 128;
     }
 
