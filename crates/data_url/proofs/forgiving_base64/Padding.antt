@@ -251,13 +251,16 @@ found f p [] h = (refl, refl)
 found f p (c ∷ t) h =
     let (ih, jh) = found f (p ++ c ∷ []) t (λ q u d e. h q u d (e ∙ append_assoc p (c ∷ []) t)) in
     let at = h p t c refl in
-    let assoc = append_assoc p (c ∷ []) t in
+    let assoc = append_assoc p (c ∷ []) in
     let any = list_any-append is_pad p (c ∷ []) ∙ ap (λ x. list_any is_pad p || x) (or-false (is_pad c)) in
     elim (cases_Bool (f (length p))) [
-      | inl e ↦ (cc (e, at, get_or_at p c t 0 (length p) refl), cc (e, at, take_at p (c ∷ t) (length p) refl, append-nil p))
+      | inl e ↦ (
+        cc (e, at, get_or_at p c t 0 (length p) refl),
+        cc (e, at, take_at p (c ∷ t) (length p) refl, append-nil p),
+      )
       | inr e ↦ (
-        cc (e, at, assoc, any, length_push p c, ih),
-        cc (e, at, assoc, any, length_push p c, jh, append_assoc p (c ∷ []) (before_fault (list_any is_pad (p ++ c ∷ [])) t)),
+        cc (e, at, assoc t, any, length_push p c, ih),
+        cc (e, at, assoc t, any, length_push p c, jh, assoc (before_fault (list_any is_pad (p ++ c ∷ [])) t)),
       )
     ]
 
@@ -359,7 +362,8 @@ list_all_text (a ∷ t) p h = grind (arith, list_all_text t p h.1)
 
 -- whether k symbols and p times '=', of which up to two are removed if k + p is a multiple of four, pass the last steps
 abbrev passes : ℕ → ℕ → Bool
-passes k p = cond (eqb ((k + p) % 4) 0) (not (eqb ((k + (one_less (one_less p))) % 4) 1) && eqb (one_less (one_less p)) 0)
+passes k p = cond (eqb ((k + p) % 4) 0)
+    (not (eqb ((k + (one_less (one_less p))) % 4) 1) && eqb (one_less (one_less p)) 0)
     (not (eqb ((k + p) % 4) 1) && eqb p 0)
 
 -- they pass exactly if p times '=' fit k symbols
