@@ -7,15 +7,15 @@ use Rattle.std.specs.Char.{is_ascii_whitespace}
 use Rattle.std.specs.Int.RustNames.{count_ones}
 use Rattle.std.specs.List.{copy_within, filter, list_all, range_with_len}
 use Rattle.std.proofs.lemmas.Bool.{agree_below_at, and_parts, eqb-true, true≢false}
-use Rattle.std.proofs.lemmas.List.{append-nil, ext_get_or, get_or-drop, get_or-map, get_or-take, length-map}
+use Rattle.std.proofs.lemmas.List.{append-nil, get_or-drop, get_or-take, length-map}
 use Rattle.std.proofs.lemmas.List.{map-append, map-id, take-append-drop, take-map, take-take, take_all}
 use Rattle.std.proofs.lemmas.List.{nil_from_length, take_rest}
 use Rattle.std.proofs.lemmas.List.Edits.{take-paste}
 use Rattle.std.proofs.lemmas.List.Elements.{filter-append}
 use Rattle.std.proofs.lemmas.List.Folds.{list_all-append}
 use Rattle.std.proofs.lemmas.Nat.{and_le_r}
-use Rattle.std.proofs.lemmas.Simd.{get_or-swz_l_below, length-swz_l, mask_l-lt, mask_l-mod, pick_l_whole, swz_l}
-use Rattle.std.proofs.lemmas.Simd.{tops_compared, zip2_of_maps}
+use Rattle.std.proofs.lemmas.Simd.{mask_l-lt, mask_l-mod, pick_l_whole, swz_l}
+use Rattle.std.proofs.lemmas.Simd.{map-map, tops_compared, zip2_of_maps}
 use lib.Lanes.{Each1, mask_l, top, zip2}
 use Rattle.data_url.specs.Base64.{after_groups, groups, is_symbol, symbol_value}
 use Rattle.data_url.specs.Steps.Blocks.{DecodesFront, GainsSymbols, clear, is_symbol_or_space}
@@ -23,9 +23,9 @@ use Rattle.data_url.specs.Steps.Lanes.{value_of}
 use Rattle.data_url.specs.declared.forgiving_base64.places.TheConstants.{CLEAR_PLACES}
 use Rattle.data_url.specs.declared.forgiving_base64.symbols.TheConstants.{SPACES}
 use Rattle.data_url.proofs.forgiving_base64.Vectors.{groups_whole, is_other, map_agree, mask_l-append}
-use Rattle.data_url.proofs.forgiving_base64.Vectors.{others_mask, looked_up}
+use Rattle.data_url.proofs.forgiving_base64.Vectors.{each_map, looked_at, looked_up, others_mask}
 use Rattle.data_url.proofs.forgiving_base64.Steps.{after_few, groups_few, three_items}
-use Rattle.data_url.proofs.forgiving_base64.Groups.{symbols_alone, symbols_values, take_groups}
+use Rattle.data_url.proofs.forgiving_base64.Groups.{all_before, symbols_alone, symbols_values, take_groups}
 use Rattle.data_url.proofs.forgiving_base64.Padding.{after_groups-append, length-after_groups, filter_every}
 use Rattle.data_url.proofs.forgiving_base64.Padding.{every_list_all, filter_all, list_all_every}
 use Rattle.data_url.proofs.escapes.Marks.{drop_taken}
@@ -68,19 +68,11 @@ digit c zero_digit = (c + (256 - zero_digit)) % 256
 abbrev places : ℕ → List ℕ
 places b = map (λ c. digit c 48) (take 16 (drop (8 * b) CLEAR_PLACES))
 
--- whether the row of b has the places of its clear bits first, all below 8, and b has at most eight ones
-abbrev is_right : ℕ → Bool
-is_right b = alike (take (8 - count_ones b) (places b)) (clear (range_with_len 0 8) b) && (list_all (λ p. ltb p 8)
-    (places b) && ltb (count_ones b) 9)
-
--- the row of each byte has the places of its clear bits first, all below 8, and a byte has at most eight ones
-right : (b : ℕ) → b < 256 → is_right b ≡ true
-unfolding count_ones
-right b l = agree_below_at is_right (λ b. true) 256 b refl l
-
 -- the first places in the row of b are those of its clear bits
 pub places_clear : (b : ℕ) → b < 256 → take (8 - count_ones b) (places b) ≡ clear (range_with_len 0 8) b
-places_clear b l = grind (arith, alike_same, right)
+unfolding count_ones
+places_clear b l = alike_same (take (8 - count_ones b) (places b)) (clear (range_with_len 0 8) b) (agree_below_at
+    (λ b. alike (take (8 - count_ones b) (places b)) (clear (range_with_len 0 8) b)) (λ b. true) 256 b refl l)
 
 -- if the test that all items are below 8 is true, each item is below 8
 each_below : (v : List ℕ) → list_all (λ p. ltb p 8) v ≡ true → Each1 (λ p. p < 8) v
@@ -90,13 +82,12 @@ each_below (x ∷ v) h = let p = and_parts (ltb x 8) (list_all (λ p. ltb p 8) v
 -- all places in the row of b are below 8
 pub places_small : (b : ℕ) → b < 256 → Each1 (λ p. p < 8) (places b)
 places_small b l =
-    each_below (places b) (and_parts (list_all (λ p. ltb p 8) (places b)) _
-    (and_parts (alike (take (8 - count_ones b) (places b)) (clear (range_with_len 0 8) b)) _ (right b l)).1).0
+    each_below (places b) (agree_below_at (λ b. list_all (λ p. ltb p 8) (places b)) (λ b. true) 256 b refl l)
 
 -- a byte has at most eight bits that are set
 pub ones_few : (b : ℕ) → b < 256 → count_ones b < 9
-ones_few b l = ltb-true (count_ones b) 9 (and_parts (list_all (λ p. ltb p 8) (places b)) _
-    (and_parts (alike (take (8 - count_ones b) (places b)) (clear (range_with_len 0 8) b)) _ (right b l)).1).1
+unfolding count_ones
+ones_few b l = ltb-true (count_ones b) 9 (agree_below_at (λ b. ltb (count_ones b) 9) (λ b. true) 256 b refl l)
 
 -- Half a row
 
@@ -109,27 +100,7 @@ pub places_below : (v : List ℕ) (from : ℕ) → length v ≡ 16 → from ≤ 
     → js ≡ map (λ p. add8 p from) v → Each1 (λ j. j < 16) js
 places_below v from long l h {js} e =
     let P : List ℕ → Type 0 = λ l. Each1 (λ j. j < 16) l in
-    subst P (sym e) (each v h)
-  where
-    -- if all items are below 8, they are below 16 after `from` is added
-    each : (v : List ℕ) → Each1 (λ p. p < 8) v → Each1 (λ j. j < 16) (map (λ p. add8 p from) v)
-    each [] h = tt
-    each (x ∷ v) h = (omega (arith, h.0, l), each v h.1)
-
--- if all items are below 16, so is the item at any index, which is zero past the end
-below_at : (v : List ℕ) (i : ℕ) → Each1 (λ j. j < 16) v → get_or v i 0 < 16
-below_at [] i h = omega arith
-below_at (x ∷ v) zero h = h.0
-below_at (x ∷ v) (suc i) h = below_at v i h.1
-
--- for 16 indices below 16, a swizzle looks up the item at each index
-looked_at : (t js : List ℕ) → length js ≡ 16 → Each1 (λ j. j < 16) js → swz_l w8 16 t 0 js ≡ map (λ j. get_or t j 0) js
-looked_at t js long small = ext_get_or 0 _ _ (length-swz_l w8 16 t 0 js
-    ∙ sym (length-map js (λ j. get_or t j 0))) (λ i h.
-    let lt : i < 16 = omega (arith, length-swz_l w8 16 t 0 js) in
-    let below = below_at js i small in
-    let place : 16 * ((0 + i) / 16) + get_or js i 0 ≡ get_or js i 0 = omega arith in
-    cc (get_or-swz_l_below w8 16 t 0 js i (omega arith) below, get_or-map (λ j. get_or t j 0) js i 0 0 (omega arith)))
+    subst P (sym e) (each_map (λ p. p < 8) (λ j. j < 16) (λ p. add8 p from) (λ p k. omega (arith, k, l)) v h)
 
 -- two functions that agree on a range give equal lists for it
 map_range : (f g : ℕ → ℕ) (a n : ℕ) → ((k : ℕ) → a ≤ k → k < a + n → f k ≡ g k)
@@ -157,16 +128,11 @@ half_clear row v js from bits c long wide l small is e =
     let look : ℕ → ℕ = λ p. get_or row (add8 p from) 0 in
     let size : length js ≡ 16 = ap length e ∙ length-map v (λ p. add8 p from) ∙ wide in
     ap (take c) (looked_at row js size (places_below v from wide l small e) ∙ ap (map (λ j. get_or row j 0)) e
-    ∙ map_both (λ j. get_or row j 0) (λ p. add8 p from) v)
+    ∙ map-map (λ j. get_or row j 0) (λ p. add8 p from) v)
     ∙ take-map look c v
     ∙ ap (map look) is
     ∙ sym (clear_map look (range_with_len 0 8) bits)
     ∙ ap (λ l. clear l bits) (half_is row from long l)
-  where
-    -- mapping g and then f is mapping both at once
-    map_both : (f g : ℕ → ℕ) (xs : List ℕ) → map f (map g xs) ≡ map (λ x. f (g x)) xs
-    map_both f g [] = refl
-    map_both f g (x ∷ xs) = ap (λ r. f (g x) ∷ r) (map_both f g xs)
 
 -- Two halves
 
@@ -308,19 +274,20 @@ three_last s len long few =
     let item : (k : ℕ) → k < 3 → get_or v k 0 ≡ get_or s (at + k) 0 = λ k l. grind (arith, get_or-take, get_or-drop) in
     let whole : length (take len s) ≡ len = length-take-le len s (omega arith) in
     let left : len - at ≡ len % 4 = omega arith in
-    let same : get_or v 0 0 ∷ get_or v 1 0 ∷ get_or v 2 0 ∷ [] ≡ get_or s at 0 ∷ get_or s (at + 1) 0 ∷ get_or s
-    (at + 2) 0 ∷ [] =
-    items (item 0 (omega arith) ∙ ap (λ n. get_or s n 0) (omega arith)) (item 1 (omega arith)) (item 2 (omega arith)) in
-    ap (take (len % 4)) (sym (sym (take_all 3 v (omega arith)) ∙ three_items v 3 size refl ∙ same))
-    ∙ take-take (len % 4) 3 (drop at s) (omega arith)
-    ∙ ap (λ n. take n (drop at s)) (sym left)
-    ∙ sym (drop_taken at len s)
-    ∙ ap (λ n. drop (n / 4 * 4) (take len s)) (sym whole)
-    ∙ sym (after_is (take len s))
-  where
-    -- two lists of three items are equal if their items are
-    items : {a b c x y z : ℕ} → a ≡ x → b ≡ y → c ≡ z → ◌≡◌ {A = List ℕ} (a ∷ b ∷ c ∷ []) (x ∷ y ∷ z ∷ [])
-    items p q r = cc
+    let start : at + 0 ≡ at = omega arith in
+    cc (
+      take_all 3 v (omega arith),
+      three_items v 3 size refl,
+      item 0 (omega arith),
+      start,
+      item 1 (omega arith),
+      item 2 (omega arith),
+      take-take (len % 4) 3 (drop at s) (omega arith),
+      left,
+      drop_taken at len s,
+      whole,
+      after_is (take len s),
+    )
 
 -- The bytes of the first groups
 
@@ -334,12 +301,9 @@ fits_symbols (b ∷ s) h (suc i) = fits_symbols s (and_parts (is_symbol b) (list
 front_is : (s bytes : List ℕ) (len : ℕ) → 64 ≤ length s → len ≤ length s → list_all is_symbol (take len s) ≡ true
     → bytes ≡ groups (map value_of (take 64 s)) → DecodesFront (take len s) bytes
 front_is s bytes len long within all e m a b =
-    let size : length (take len s) ≡ len = length-take-le len s within in
     let n = 4 * m in
-    let front : take n s ≡ take n (take len s) = sym (take-take n len s (omega arith)) in
-    let every : list_all is_symbol (take n (take len s)) ≡ true =
-    (and_parts (list_all is_symbol (take n (take len s))) (list_all is_symbol (drop n (take len s)))
-    (cc (list_all-append is_symbol (take n (take len s)) (drop n (take len s)), take-append-drop n (take len s)))).0 in
+    let size = length-take-le len s within in
+    let every = all_before s n len (omega arith) all in
     cc (
       take_groups m (map value_of (take 64 s)) (omega (
         arith,
@@ -348,7 +312,8 @@ front_is s bytes len long within all e m a b =
       )),
       take-map value_of n (take 64 s),
       take-take n 64 s (omega arith),
-      symbols_values (take n (take len s)) (fits_symbols (take n (take len s)) every) every,
+      take-take n len s (omega arith),
+      symbols_values (take n s) (fits_symbols (take n s) every) every,
     )
 
 -- the bytes of the groups of the 64 bytes from an index on begin with those of the groups of the symbols from there on

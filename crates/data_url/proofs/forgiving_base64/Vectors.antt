@@ -1,20 +1,21 @@
 -- Blocks of 64 symbols in vectors. For `blocks.rt` and `lanes.rt`.
-use Rattle.std.proofs.Common.{◌≡◌, ℕ, ◌<◌, ltb, true, false, cond, eqb, get_or, refl, sym, ◌∙◌, arith, suc, zero, ◌+◌}
+use Rattle.std.proofs.Common.{◌≡◌, ℕ, ◌<◌, ltb, true, cond, eqb, get_or, refl, sym, ◌∙◌, arith, suc, zero, ◌+◌}
 use Rattle.std.proofs.Common.{◌*◌, ◌/◌, ◌%◌, ◌^◌, Bool, not, List, [], ◌∷◌, ◌++◌, map, length, take, replicate, Fits}
 use Rattle.std.proofs.Common.{w8, ap, ap₂, subst, ◌≤◌, ◌&&◌, drop, bit_or, append_assoc, length-take-le}
 use Rattle.std.proofs.Common.{length-drop, take-add}
-use Rattle.std.proofs.lemmas.Bool.{agree_below_at, le-ltb, cond-true, cond-false, eqb-true, ltb-true, cases_eq, ne_eqb}
+use Rattle.std.proofs.lemmas.Bool.{agree_below_at, cond-true, eqb-true, ltb-true, cases_eq, ne_eqb}
 use Rattle.std.specs.Char.{is_ascii_whitespace as std_whitespace, is_ascii_whitespace}
 use Rattle.data_url.specs.Base64.{is_symbol, symbol_value, group_bytes, group_number, groups, after_groups}
 use Rattle.data_url.specs.declared.forgiving_base64.alphabet.TheConstants.{NO_SYMBOL, VALUES}
 use Rattle.std.specs.List.{range_with_len, list_all, prefix_len}
-use Rattle.std.proofs.lemmas.List.{ext_get_or, get_or-map, length-map, map-append, take-take, take_all, nil_from_length}
+use Rattle.std.proofs.lemmas.List.{ext_get_or, get_or-map, length-map, map-append, map-id, take-take, take_all}
+use Rattle.std.proofs.lemmas.List.{nil_from_length}
 use Rattle.std.proofs.lemmas.Nat.{and_le_r, and_le_l, or_lt}
 use Rattle.std.proofs.lemmas.Simd.{SwzOk, SwzOk-from_below, get_or_narrower, get_or-swz_l_below, length-swz_l}
 use Rattle.std.proofs.lemmas.Simd.{pick_l_whole, swz_l, bitmask_splat, chunk-fits, leading_from_mask_l, length-zip2}
-use Rattle.std.proofs.lemmas.Simd.{map-map, mask_l-lt, trailing_mask_l}
+use Rattle.std.proofs.lemmas.Simd.{map-map, mask_l-lt, trailing_mask_l, zip2_of_maps}
 use lib.Lanes.{Each1, digits_l, fold_l, number_l, pair_sums, pick_l, products, sel_l, zip2, mask_l, top}
-use Rattle.std.proofs.Math.Bool.{and-true, and_assoc}
+use Rattle.std.proofs.Math.Bool.{and-true, and_assoc, not-not}
 use Rattle.data_url.specs.Steps.Lanes.{mark_of, numbers, offset_row, value_of}
 use Rattle.data_url.specs.declared.forgiving_base64.lanes.TheConstants.{OFFSETS}
 use Rattle.std.proofs.lemmas.List.Folds.{list_all-append}
@@ -35,25 +36,17 @@ pub table_is : (b : ℕ) → b < 256 → get_or VALUES b 0 ≡ entry_of b
 table_is b l = eqb-true (get_or VALUES b 0) (entry_of b) (agree_below_at (λ b. eqb (get_or VALUES b 0) (entry_of b))
     (λ b. true) 256 b refl l)
 
--- the value of a symbol is below 64
-pub value_lt : (b : ℕ) → b < 256 → is_symbol b ≡ true → symbol_value b < 64
-value_lt b l h = grind arith
-
 -- the entry of a symbol is its value
 pub entry_symbol : (b : ℕ) → b < 256 → is_symbol b ≡ true → get_or VALUES b 0 ≡ symbol_value b
 entry_symbol b l h = table_is b l ∙ cond-true (is_symbol b) (symbol_value b) NO_SYMBOL h
 
--- the entry of any other byte is `NO_SYMBOL`
-pub entry_other : (b : ℕ) → b < 256 → is_symbol b ≡ false → get_or VALUES b 0 ≡ NO_SYMBOL
-entry_other b l h = table_is b l ∙ cond-false (is_symbol b) (symbol_value b) NO_SYMBOL h
+-- an entry is below the mark exactly at a symbol
+pub symbol_is : (b : ℕ) → b < 256 → ltb (get_or VALUES b 0) 64 ≡ is_symbol b
+symbol_is b l = agree_below_at (λ b. ltb (get_or VALUES b 0) 64) is_symbol 256 b refl l
 
 -- the entry of a symbol is below 64
 pub entry_lt : (b : ℕ) → b < 256 → is_symbol b ≡ true → get_or VALUES b 0 < 64
-entry_lt b l h = let e = entry_symbol b l h in let k = value_lt b l h in omega (arith, e, k)
-
--- an entry is below the mark exactly at a symbol
-pub symbol_is : (b : ℕ) → b < 256 → ltb (get_or VALUES b 0) 64 ≡ is_symbol b
-symbol_is b l = grind (arith, entry_lt, le-ltb, entry_other)
+entry_lt b l h = ltb-true (get_or VALUES b 0) 64 (symbol_is b l ∙ h)
 
 -- the standard library's class of white space is that of forgiving base64
 pub space_is : (b : ℕ) → b < 256 → std_whitespace b ≡ is_ascii_whitespace b
@@ -63,15 +56,10 @@ space_is b l = agree_below_at std_whitespace is_ascii_whitespace 256 b refl l
 
 -- Lanes that are computed from v
 
--- joining two lists that are computed from xs, item by item, is computing the joined items from xs
-zip2-map : (h : ℕ → ℕ → ℕ) (f g : ℕ → ℕ) (xs : List ℕ) → zip2 h (map f xs) (map g xs) ≡ map (λ x. h (f x) (g x)) xs
-zip2-map h f g [] = refl
-zip2-map h f g (x ∷ xs) = ap (λ r. h (f x) (g x) ∷ r) (zip2-map h f g xs)
-
 -- if a and b are computed from v item by item, so is `zip2 h a b`
 pub joined : (h : ℕ → ℕ → ℕ) (f g : ℕ → ℕ) (v : List ℕ) {a b : List ℕ} → a ≡ map f v → b ≡ map g v
     → zip2 h a b ≡ map (λ x. h (f x) (g x)) v
-joined h f g v p q = ap₂ (zip2 h) p q ∙ zip2-map h f g v
+joined h f g v p q = zip2_of_maps h f g v p q
 
 -- n times y is what a constant function computes from n items
 pub splat_is : (v : List ℕ) (n y : ℕ) → length v ≡ n → replicate n y ≡ map (λ _. y) v
@@ -80,8 +68,7 @@ splat_is (x ∷ xs) n y e = ap (λ k. replicate k y) (sym e) ∙ ap (λ r. y ∷
 
 -- v is what the identity computes from v
 pub itself : (v : List ℕ) → v ≡ map (λ x. x) v
-itself [] = refl
-itself (x ∷ xs) = ap (λ r. x ∷ r) (itself xs)
+itself v = sym (map-id v)
 
 -- choosing between two lists that are computed from xs is computing the chosen items from xs
 chosen-map : (t : ℕ → Bool) (f g : ℕ → ℕ) (xs : List ℕ) → sel_l (map t xs) (map f xs) (map g xs) ≡ map
@@ -94,39 +81,48 @@ pub chosen : (t : ℕ → Bool) (f g : ℕ → ℕ) (v : List ℕ) {m : List Boo
     → b ≡ map g v → sel_l m a b ≡ map (λ x. cond (t x) (f x) (g x)) v
 chosen t f g v {m} {a} {b} e p q = ap (λ k. sel_l k a b) e ∙ ap₂ (sel_l (map t v)) p q ∙ chosen-map t f g v
 
--- each item of a list of bytes is below 256
-pub lane_fits : (v : List ℕ) (i : ℕ) → Each1 (Fits w8) v → get_or v i 0 < 256
-lane_fits [] i h = omega arith
-lane_fits (x ∷ xs) zero h = h.0.fits
-lane_fits (x ∷ xs) (suc i) h = lane_fits xs i h.1
+-- if f gives items that satisfy Q for items that satisfy P, mapping f keeps this for all items of a list
+pub each_map : (P Q : ℕ → Type 0) (f : ℕ → ℕ) → ((x : ℕ) → P x → Q (f x)) → (v : List ℕ) → Each1 P v → Each1 Q (map f v)
+each_map P Q f g [] h = tt
+each_map P Q f g (x ∷ v) h = (g x h.0, each_map P Q f g v h.1)
+
+-- if all items are below n, so is the item at any index, which is zero past the end
+below_at : (n : ℕ) (v : List ℕ) (i : ℕ) → 0 < n → Each1 (λ x. x < n) v → get_or v i 0 < n
+below_at n [] i l h = l
+below_at n (x ∷ v) zero l h = h.0
+below_at n (x ∷ v) (suc i) l h = below_at n v i l h.1
 
 -- Looking up
+
+-- if indices below 16 are computed from bytes, all of them are below 16
+places_low : (g : ℕ → ℕ) (v js : List ℕ) → js ≡ map g v → ((x : ℕ) → x < 256 → g x < 16) → Each1 (Fits w8) v
+    → Each1 (λ j. j < 16) js
+places_low g v js e small fits =
+    let P : List ℕ → Type 0 = λ l. Each1 (λ j. j < 16) l in
+    subst P (sym e) (each_map (Fits w8) (λ j. j < 16) g (λ x h. small x h.fits) v fits)
 
 -- if indices below 16 are computed from bytes, the swizzle's precondition is satisfied
 pub places_ok : (g : ℕ → ℕ) (v js : List ℕ) → length v ≡ 16 → js ≡ map g v → ((x : ℕ) → x < 256 → g x < 16)
     → Each1 (Fits w8) v → SwzOk w8 16 16 0 js
-places_ok g v js long e small fits =
-    let P : List ℕ → Type 0 = λ l. Each1 (λ j. j < 16) l in
-    SwzOk-from_below w8 16 1 16 0 js refl (omega (arith, ap length e, length-map v g))
-    (subst P (sym e) (each_small v fits))
-  where
-    -- the indices that are computed from bytes are below 16
-    each_small : (l : List ℕ) → Each1 (Fits w8) l → Each1 (λ j. j < 16) (map g l)
-    each_small [] h = tt
-    each_small (x ∷ xs) h = (small x h.0.fits, each_small xs h.1)
+places_ok g v js long e small fits = SwzOk-from_below w8 16 1 16 0 js refl (omega (arith, ap length e, length-map v g))
+    (places_low g v js e small fits)
+
+-- for 16 indices below 16, a swizzle looks up the item at each index
+pub looked_at : (t js : List ℕ) → length js ≡ 16 → Each1 (λ j. j < 16) js
+    → swz_l w8 16 t 0 js ≡ map (λ j. get_or t j 0) js
+looked_at t js long small = ext_get_or 0 _ _ (length-swz_l w8 16 t 0 js
+    ∙ sym (length-map js (λ j. get_or t j 0))) (λ i h.
+    let lt : i < 16 = omega (arith, length-swz_l w8 16 t 0 js) in
+    let below = below_at 16 js i (omega arith) small in
+    let place : 16 * ((0 + i) / 16) + get_or js i 0 ≡ get_or js i 0 = omega arith in
+    cc (get_or-swz_l_below w8 16 t 0 js i (omega arith) below, get_or-map (λ j. get_or t j 0) js i 0 0 (omega arith)))
 
 -- if indices below 16 are computed from bytes, a swizzle looks up the entry of each byte at its index
 pub looked_up : (t : List ℕ) (g : ℕ → ℕ) (v js : List ℕ) → length v ≡ 16 → Each1 (Fits w8) v → js ≡ map g v
     → ((x : ℕ) → x < 256 → g x < 16) → swz_l w8 16 t 0 js ≡ map (λ x. get_or t (g x) 0) v
 looked_up t g v js whole fits e small =
-    let long : length js ≡ 16 = ap length e ∙ length-map v g ∙ whole in
-    ext_get_or 0 _ _ (length-swz_l w8 16 t 0 js ∙ long ∙ sym (length-map v (λ x. get_or t (g x) 0) ∙ whole)) (λ i h.
-    let lt : i < 16 = omega (arith, length-swz_l w8 16 t 0 js) in
-    let within : i < length v = omega (arith, whole) in
-    let is : get_or js i 0 ≡ g (get_or v i 0) = ap (λ l. get_or l i 0) e ∙ get_or-map g v i 0 0 within in
-    let below : get_or js i 0 < 16 = omega (arith, small (get_or v i 0) (lane_fits v i fits)) in
-    let place : 16 * ((0 + i) / 16) + get_or js i 0 ≡ get_or js i 0 = omega arith in
-    cc (get_or-swz_l_below w8 16 t 0 js i (omega arith) below, get_or-map (λ x. get_or t (g x) 0) v i 0 0 within))
+    looked_at t js (ap length e ∙ length-map v g ∙ whole) (places_low g v js e small fits)
+    ∙ ap (map (λ j. get_or t j 0)) e ∙ map-map (λ j. get_or t j 0) g v
 
 -- The tables are the alphabet
 
@@ -151,12 +147,6 @@ values_below [] = tt
 values_below (b ∷ v) = (value_below b, values_below v)
 
 -- Numbers of groups
-
--- if all items are below 64, so is the item at any index, which is zero past the end
-below_at : (v : List ℕ) (i : ℕ) → Each1 (λ x. x < 64) v → get_or v i 0 < 64
-below_at [] i h = omega arith
-below_at (x ∷ xs) zero h = h.0
-below_at (x ∷ xs) (suc i) h = below_at xs i h.1
 
 -- a row of sixteen, written out
 abbrev pub row : (ℕ → ℕ) → List ℕ
@@ -191,7 +181,7 @@ numbers_row f h = grind arith
 pub numbers_is : (v : List ℕ) → length v ≡ 16 → Each1 (λ x. x < 64) v → computed v ≡ numbers v
 numbers_is v long h =
     let P : List ℕ → Type 0 = λ l. computed l ≡ numbers l in
-    subst P (row_is v long) (numbers_row (λ k. get_or v k 0) (λ k. below_at v k h))
+    subst P (row_is v long) (numbers_row (λ k. get_or v k 0) (λ k. below_at 64 v k (omega arith) h))
 
 -- Bytes of numbers
 
@@ -235,7 +225,7 @@ packed_row f h =
 pub packed_is : (v ns : List ℕ) → length v ≡ 16 → Each1 (λ x. x < 64) v → ns ≡ numbers v → packed ns ≡ groups v
 packed_is v ns long h e =
     let P : List ℕ → Type 0 = λ l. packed (numbers l) ≡ groups l in
-    ap packed e ∙ subst P (row_is v long) (packed_row (λ k. get_or v k 0) (λ k. below_at v k h))
+    ap packed e ∙ subst P (row_is v long) (packed_row (λ k. get_or v k 0) (λ k. below_at 64 v k (omega arith) h))
 
 -- Blocks of four rows.
 
@@ -301,15 +291,10 @@ others_mask v = mask_l (map is_other v)
 pub mask_lt : (v : List ℕ) → length v ≡ 16 → others_mask v < 65536
 mask_lt v long = grind (arith, length-map, mask_l-lt)
 
--- the negation of the negation of b is b
-not_not : (b : Bool) → not (not b) ≡ b
-not_not true = refl
-not_not false = refl
-
 -- negating a test twice does not change how long the longest prefix that passes is
 prefix_not_not : (p : ℕ → Bool) (xs : List ℕ) → prefix_len (λ x. not (not (p x))) xs ≡ prefix_len p xs
 prefix_not_not p [] = refl
-prefix_not_not p (x ∷ xs) = ap₂ (λ t n. cond t (1 + n) 0) (not_not (p x)) (prefix_not_not p xs)
+prefix_not_not p (x ∷ xs) = ap₂ (λ t n. cond t (1 + n) 0) (not-not (p x)) (prefix_not_not p xs)
 
 -- if the mask is zero, the symbols at the start are all n bytes
 pub none_ahead : {n : ℕ} (v : List ℕ) → length v ≡ n → others_mask v ≡ 0 → n ≡ prefix_len is_symbol v
@@ -363,8 +348,7 @@ mark_lt b l = ltb-true (mark_of b) 256 (agree_below_at (λ b. ltb (mark_of b) 25
 
 -- the marks of bytes are below 256
 marks_lt : (v : List ℕ) → Each1 (Fits w8) v → Each1 (λ x. x < 256) (map mark_of v)
-marks_lt [] h = tt
-marks_lt (b ∷ v) h = (mark_lt b h.0.fits, marks_lt v h.1)
+marks_lt = each_map (Fits w8) (λ x. x < 256) mark_of (λ b h. mark_lt b h.fits)
 
 -- the marks of all bytes of a list are zero exactly if all bytes are symbols
 all_unmarked : (v : List ℕ) → Each1 (Fits w8) v → list_all unmarked (map mark_of v) ≡ list_all is_symbol v
@@ -380,8 +364,7 @@ are_symbols_is v marks fits e = grind (arith, fold_l, or_none, marks_lt, all_unm
 -- the items of a bitwise or of two lists of bytes are below 256
 zip_lt : (xs ys : List ℕ) → length xs ≡ length ys → Each1 (λ x. x < 256) xs → Each1 (λ x. x < 256) ys
     → Each1 (λ x. x < 256) (zip2 bit_or xs ys)
-zip_lt [] [] e f g = tt
-zip_lt [] (y ∷ ys) e f g = tt
+zip_lt [] ys e f g = tt
 zip_lt (x ∷ xs) [] e f g = tt
 zip_lt (x ∷ xs) (y ∷ ys) e f g = (or_lt 8 x y f.0 g.0, zip_lt xs ys (omega arith) f.1 g.1)
 
