@@ -1,7 +1,7 @@
 -- The steps of a walk, its pieces, and the bytes that it gathers. For `Cursor` and `Pieces`.
 use Rattle.std.proofs.Common.{◌≡◌, ℕ, zero, suc, ◌+◌, ◌-◌, ◌<◌, ◌≤◌, true, List, [], ◌∷◌, ◌++◌, length, take}
 use Rattle.std.proofs.Common.{drop, get_or, None, Some, refl, sym, ap, ◌∙◌, subst, inl, inr, arith, length-append}
-use Rattle.std.proofs.Common.{map, eqb-true, Bool, not, ◌≢◌, Option, ◌*◌, cond, set, append_assoc}
+use Rattle.std.proofs.Common.{map, eqb-true, Bool, not, ◌≢◌, Option, ◌*◌, cond, set, append_assoc, take-add}
 use Rattle.std.specs.Prelude.{◌==◌, slice_range, IfNone}
 use Rattle.std.proofs.lemmas.Bool.{cases_Bool}
 use Rattle.std.proofs.lemmas.List.{take_all, drop_more, drop-drop, length-drop, drop_all, append-nil, take_more_set}
@@ -42,20 +42,10 @@ pub slice_one : (text : List ℕ) (place : ℕ) → place < length text
     → slice_range text place (place + 1) ≡ get_or text place 0 ∷ []
 slice_one text place l = grind (arith, drop_more)
 
--- two parts of the empty list, one after the other, are one part of it
-taken_none : (n m : ℕ) → ◌≡◌ {A = List ℕ} (take n [] ++ take m (drop n [])) (take (n + m) [])
-taken_none n m = grind arith
-
--- the first n items, and then the next m items, are the first n + m items
-taken_twice : (n m : ℕ) (xs : List ℕ) → take n xs ++ take m (drop n xs) ≡ take (n + m) xs
-taken_twice zero m xs = let e : m ≡ zero + m = omega arith in ap (λ k. take k xs) e
-taken_twice (suc n) m [] = taken_none (suc n) m
-taken_twice (suc n) m (x ∷ xs) = let e : suc (n + m) ≡ suc n + m = omega arith in cc (taken_twice n m xs)
-
 -- two ranges, of which the second begins where the first ends, are one range
 pub slice_join : (text : List ℕ) (a b c : ℕ) → a ≤ b → b ≤ c → slice_range text a b ++ slice_range text b c
     ≡ slice_range text a c
-slice_join text a b c l h = grind (arith, drop-drop (b - a) a text, taken_twice (b - a) (c - b) (drop a text))
+slice_join text a b c l h = grind (arith, drop-drop (b - a) a text, take-add (b - a) (c - b) (drop a text))
 
 -- a range, and then the text after it, is the text from the start of the range on
 slice_rest : (text : List ℕ) (a b : ℕ) → a ≤ b → slice_range text a b ++ drop b text ≡ drop a text
