@@ -127,17 +127,13 @@ fill_one held (p ∷ q ∷ r ∷ s ∷ rest) bytes h all e = grind (arith, value
 
 -- The symbols at the start
 
--- the bytes that `prefix_len is_symbol` counts are symbols
-pub ahead_all : (s : List ℕ) → list_all is_symbol (take (prefix_len is_symbol s) s) ≡ true
-ahead_all s = grind (arith, list_all-from_AllPass, length-take, get_or-take, prefix_len_passes)
-
 -- if n is the number of symbols at the start of 16 bytes of a row, n is at most 16 and the first n bytes are symbols
 pub row_ahead : (row : List ℕ) (n : ℕ) → n ≡ prefix_len is_symbol (take 16 row)
     → (n ≤ 16) × (list_all is_symbol (take n row) ≡ true)
 row_ahead row n e =
     let l : n ≤ 16 = omega (arith, e, prefix_len-le-length is_symbol (take 16 row), length-take 16 row) in (
       l,
-      cc (take-take n 16 row l, ahead_all (take 16 row)),
+      grind (arith, take-take n 16 row l, list_all-from_AllPass, length-take, get_or-take, prefix_len_passes),
     )
 
 -- if the first n bytes are symbols, so are the first m, where m is at most n
@@ -201,13 +197,9 @@ module _ (a b w : List ℕ) (st : Stands a w) where
   unfolding left_symbols
   left_both = grind (arith, filter-append, after_groups-append)
 
-  -- given `Stands a w`, the padding left over of a ++ b is that of w ++ b
-  padding_both : left_padding (a ++ b) ≡ left_padding (w ++ b)
-  unfolding left_padding
-  padding_both = length_pads
-
   -- given `Stands a w`, decoding b after a is the same as decoding w ++ b
   pub goes_on : GoesOn a b (w ++ b)
+  unfolding left_padding
   goes_on =
       search (
         arith,
@@ -219,7 +211,6 @@ module _ (a b w : List ℕ) (st : Stands a w) where
         kind_is,
         length_values,
         left_both,
-        padding_both,
         no_fault_valid,
         fault_invalid,
         filter-append,

@@ -14,8 +14,7 @@ use Rattle.std.proofs.lemmas.List.Edits.{take-paste}
 use Rattle.std.proofs.lemmas.List.Elements.{filter-append}
 use Rattle.std.proofs.lemmas.List.Folds.{list_all-append}
 use Rattle.std.proofs.lemmas.Nat.{and_le_r}
-use Rattle.std.proofs.lemmas.Simd.{mask_l-lt, mask_l-mod, pick_l_whole, swz_l}
-use Rattle.std.proofs.lemmas.Simd.{map-map, tops_compared, zip2_of_maps}
+use Rattle.std.proofs.lemmas.Simd.{mask_l-lt, mask_l-mod, pick_l_whole, swz_l, map-map, tops_compared, zip2_of_maps}
 use lib.Lanes.{Each1, mask_l, top, zip2}
 use Rattle.data_url.specs.Base64.{after_groups, groups, is_symbol, symbol_value}
 use Rattle.data_url.specs.Steps.Blocks.{DecodesFront, GainsSymbols, clear, is_symbol_or_space}
@@ -136,10 +135,6 @@ half_clear row v js from bits c long wide l small is e =
 
 -- Two halves
 
--- if a is below 256, a + 256 * b has the remainder a and the quotient b when it is divided by 256
-half_sum : (a b : ℕ) → a < 256 → ((a + 256 * b) % 256 ≡ a) × ((a + 256 * b) / 256 ≡ b)
-half_sum a b l = (omega arith, omega arith)
-
 -- the bytes of both halves of a row whose bits in the mask are clear are the symbols of the row
 pub row_clear : (row : List ℕ) (others : ℕ) → length row ≡ 16 → others ≡ others_mask row
     → clear (take 8 (drop 0 row)) (others % 256) ++ clear (take 8 (drop 8 row)) (others / 256) ≡ filter is_symbol row
@@ -156,7 +151,8 @@ row_clear row others long e =
       mask_l-append (map is_other a) (map is_other b),
       length-map a is_other,
     ) in
-    let parts = half_sum (others_mask a) (others_mask b) small in
+    let low : others % 256 ≡ others_mask a = omega arith in
+    let high : others / 256 ≡ others_mask b = omega arith in
     cc (clear_mask a, take_all 8 b (omega arith), clear_mask b, filter-append is_symbol a b, take-append-drop 8 row)
 
 -- two half rows, one put after the other
@@ -209,14 +205,10 @@ gains_all {q} {row} all e = grind (arith, symbols_alone, filter_all, every_list_
 
 -- Symbols that were appended
 
--- all bytes of a text that a filter of symbols keeps are symbols
-pub filter_symbols : (v : List ℕ) → list_all is_symbol (filter is_symbol v) ≡ true
-filter_symbols v = list_all_every (filter is_symbol v) (filter_every is_symbol v)
-
 -- symbols with the symbols of a text appended are all symbols
 pub all_more : (x y z : List ℕ) → list_all is_symbol x ≡ true → z ≡ x ++ filter is_symbol y
     → list_all is_symbol z ≡ true
-all_more x y z h e = grind (arith, list_all-append, filter_symbols)
+all_more x y z h e = grind (arith, list_all-append, list_all_every, filter_every)
 
 -- the symbols after the first n
 pub all_after : (n : ℕ) (q : List ℕ) → list_all is_symbol q ≡ true → list_all is_symbol (drop n q) ≡ true

@@ -1,19 +1,17 @@
 -- Blocks of 64 symbols in vectors. For `blocks.rt` and `lanes.rt`.
-use Rattle.std.proofs.Common.{◌≡◌, ℕ, ◌<◌, ltb, true, cond, eqb, get_or, refl, sym, ◌∙◌, arith, suc, zero, ◌+◌}
-use Rattle.std.proofs.Common.{◌*◌, ◌/◌, ◌%◌, ◌^◌, Bool, not, List, [], ◌∷◌, ◌++◌, map, length, take, replicate, Fits}
-use Rattle.std.proofs.Common.{w8, ap, ap₂, subst, ◌≤◌, ◌&&◌, drop, bit_or, append_assoc, length-take-le}
-use Rattle.std.proofs.Common.{length-drop, take-add}
+use Rattle.std.proofs.Common.{◌≡◌, ℕ, ◌<◌, ltb, true, cond, eqb, get_or, refl, sym, ◌∙◌, arith, suc, zero, ◌+◌, ◌*◌}
+use Rattle.std.proofs.Common.{◌/◌, ◌%◌, ◌^◌, Bool, not, List, [], ◌∷◌, ◌++◌, map, length, take, Fits, w8, ap, ap₂}
+use Rattle.std.proofs.Common.{subst, ◌≤◌, ◌&&◌, drop, bit_or, append_assoc, length-take-le, length-drop, take-add}
 use Rattle.std.proofs.lemmas.Bool.{agree_below_at, cond-true, eqb-true, ltb-true, cases_eq, ne_eqb}
 use Rattle.std.specs.Char.{is_ascii_whitespace as std_whitespace, is_ascii_whitespace}
 use Rattle.data_url.specs.Base64.{is_symbol, symbol_value, group_bytes, group_number, groups, after_groups}
 use Rattle.data_url.specs.declared.forgiving_base64.alphabet.TheConstants.{NO_SYMBOL, VALUES}
 use Rattle.std.specs.List.{range_with_len, list_all, prefix_len}
-use Rattle.std.proofs.lemmas.List.{ext_get_or, get_or-map, length-map, map-append, map-id, take-take, take_all}
-use Rattle.std.proofs.lemmas.List.{nil_from_length}
+use Rattle.std.proofs.lemmas.List.{ext_get_or, get_or-map, length-map, map-append, take-take, take_all, nil_from_length}
 use Rattle.std.proofs.lemmas.Nat.{and_le_r, and_le_l, or_lt}
-use Rattle.std.proofs.lemmas.Simd.{SwzOk, SwzOk-from_below, get_or_narrower, get_or-swz_l_below, length-swz_l}
-use Rattle.std.proofs.lemmas.Simd.{pick_l_whole, swz_l, bitmask_splat, chunk-fits, leading_from_mask_l, length-zip2}
-use Rattle.std.proofs.lemmas.Simd.{map-map, mask_l-lt, trailing_mask_l, zip2_of_maps}
+use Rattle.std.proofs.lemmas.Simd.{Each1-get_or, SwzOk, SwzOk-from_below, get_or_narrower, get_or-swz_l_below}
+use Rattle.std.proofs.lemmas.Simd.{length-swz_l, pick_l_whole, swz_l, bitmask_splat, chunk-fits, leading_from_mask_l}
+use Rattle.std.proofs.lemmas.Simd.{length-zip2, map-map, mask_l-lt, trailing_mask_l, zip2_of_maps}
 use lib.Lanes.{Each1, digits_l, fold_l, number_l, pair_sums, pick_l, products, sel_l, zip2, mask_l, top}
 use Rattle.std.proofs.Math.Bool.{and-true, and_assoc, not-not}
 use Rattle.data_url.specs.Steps.Lanes.{mark_of, numbers, offset_row, value_of}
@@ -31,14 +29,11 @@ use Rattle.data_url.proofs.forgiving_base64.Padding.{groups-append, length-after
 abbrev pub entry_of : ℕ → ℕ
 entry_of b = cond (is_symbol b) (symbol_value b) NO_SYMBOL
 
--- each entry of the table is the one that it should have
-pub table_is : (b : ℕ) → b < 256 → get_or VALUES b 0 ≡ entry_of b
-table_is b l = eqb-true (get_or VALUES b 0) (entry_of b) (agree_below_at (λ b. eqb (get_or VALUES b 0) (entry_of b))
-    (λ b. true) 256 b refl l)
-
 -- the entry of a symbol is its value
 pub entry_symbol : (b : ℕ) → b < 256 → is_symbol b ≡ true → get_or VALUES b 0 ≡ symbol_value b
-entry_symbol b l h = table_is b l ∙ cond-true (is_symbol b) (symbol_value b) NO_SYMBOL h
+entry_symbol b l h = eqb-true (get_or VALUES b 0) (entry_of b) (agree_below_at
+    (λ b. eqb (get_or VALUES b 0) (entry_of b)) (λ b. true) 256 b refl l)
+    ∙ cond-true (is_symbol b) (symbol_value b) NO_SYMBOL h
 
 -- an entry is below the mark exactly at a symbol
 pub symbol_is : (b : ℕ) → b < 256 → ltb (get_or VALUES b 0) 64 ≡ is_symbol b
@@ -61,15 +56,6 @@ pub joined : (h : ℕ → ℕ → ℕ) (f g : ℕ → ℕ) (v : List ℕ) {a b :
     → zip2 h a b ≡ map (λ x. h (f x) (g x)) v
 joined h f g v p q = zip2_of_maps h f g v p q
 
--- n times y is what a constant function computes from n items
-pub splat_is : (v : List ℕ) (n y : ℕ) → length v ≡ n → replicate n y ≡ map (λ _. y) v
-splat_is [] n y e = ap (λ k. replicate k y) (sym e)
-splat_is (x ∷ xs) n y e = ap (λ k. replicate k y) (sym e) ∙ ap (λ r. y ∷ r) (splat_is xs (length xs) y refl)
-
--- v is what the identity computes from v
-pub itself : (v : List ℕ) → v ≡ map (λ x. x) v
-itself v = sym (map-id v)
-
 -- choosing between two lists that are computed from xs is computing the chosen items from xs
 chosen-map : (t : ℕ → Bool) (f g : ℕ → ℕ) (xs : List ℕ) → sel_l (map t xs) (map f xs) (map g xs) ≡ map
     (λ x. cond (t x) (f x) (g x)) xs
@@ -79,18 +65,18 @@ chosen-map t f g (x ∷ xs) = ap (λ r. cond (t x) (f x) (g x) ∷ r) (chosen-ma
 -- if a mask and two lists are computed from v item by item, so is the choice between their items
 pub chosen : (t : ℕ → Bool) (f g : ℕ → ℕ) (v : List ℕ) {m : List Bool} {a b : List ℕ} → m ≡ map t v → a ≡ map f v
     → b ≡ map g v → sel_l m a b ≡ map (λ x. cond (t x) (f x) (g x)) v
-chosen t f g v {m} {a} {b} e p q = ap (λ k. sel_l k a b) e ∙ ap₂ (sel_l (map t v)) p q ∙ chosen-map t f g v
+chosen t f g v {m} {a} {b} e p q = cc (e, p, q, chosen-map t f g v)
 
 -- if f gives items that satisfy Q for items that satisfy P, mapping f keeps this for all items of a list
 pub each_map : (P Q : ℕ → Type 0) (f : ℕ → ℕ) → ((x : ℕ) → P x → Q (f x)) → (v : List ℕ) → Each1 P v → Each1 Q (map f v)
 each_map P Q f g [] h = tt
 each_map P Q f g (x ∷ v) h = (g x h.0, each_map P Q f g v h.1)
 
--- if all items are below n, so is the item at any index, which is zero past the end
-below_at : (n : ℕ) (v : List ℕ) (i : ℕ) → 0 < n → Each1 (λ x. x < n) v → get_or v i 0 < n
-below_at n [] i l h = l
-below_at n (x ∷ v) zero l h = h.0
-below_at n (x ∷ v) (suc i) l h = below_at n v i l h.1
+-- if all items are below 64, so is the item at any index, which is zero past the end
+below_at : (v : List ℕ) (i : ℕ) → Each1 (λ x. x < 64) v → get_or v i 0 < 64
+below_at [] i h = omega arith
+below_at (x ∷ v) zero h = h.0
+below_at (x ∷ v) (suc i) h = below_at v i h.1
 
 -- Looking up
 
@@ -113,7 +99,7 @@ pub looked_at : (t js : List ℕ) → length js ≡ 16 → Each1 (λ j. j < 16) 
 looked_at t js long small = ext_get_or 0 _ _ (length-swz_l w8 16 t 0 js
     ∙ sym (length-map js (λ j. get_or t j 0))) (λ i h.
     let lt : i < 16 = omega (arith, length-swz_l w8 16 t 0 js) in
-    let below = below_at 16 js i (omega arith) small in
+    let below = Each1-get_or (λ j. j < 16) js i 0 (omega arith) small in
     let place : 16 * ((0 + i) / 16) + get_or js i 0 ≡ get_or js i 0 = omega arith in
     cc (get_or-swz_l_below w8 16 t 0 js i (omega arith) below, get_or-map (λ j. get_or t j 0) js i 0 0 (omega arith)))
 
@@ -126,10 +112,6 @@ looked_up t g v js whole fits e small =
 
 -- The tables are the alphabet
 
--- the mark of a byte is zero exactly if the byte is a symbol
-pub mark_is : (b : ℕ) → b < 256 → not (eqb (mark_of b) 0) ≡ not (is_symbol b)
-mark_is b l = agree_below_at (λ b. not (eqb (mark_of b) 0)) (λ b. not (is_symbol b)) 256 b refl l
-
 -- `value_of` is the value of a symbol
 pub value_is : (b : ℕ) → b < 256 → is_symbol b ≡ true → value_of b ≡ symbol_value b
 value_is b l s =
@@ -137,14 +119,10 @@ value_is b l s =
     (λ b. true) 256 b refl l in
     eqb-true (value_of b) (symbol_value b) (sym (ap (λ t. cond t (eqb (value_of b) (symbol_value b)) true) s) ∙ same)
 
--- `value_of` is below 64 for each number
-value_below : (b : ℕ) → value_of b < 64
-value_below b = omega (arith, and_le_r ((b + get_or OFFSETS (offset_row b) 0) % 256) 63)
-
 -- all values are below 64
 pub values_below : (v : List ℕ) → Each1 (λ x. x < 64) (map value_of v)
 values_below [] = tt
-values_below (b ∷ v) = (value_below b, values_below v)
+values_below (b ∷ v) = (omega (arith, and_le_r ((b + get_or OFFSETS (offset_row b) 0) % 256) 63), values_below v)
 
 -- Numbers of groups
 
@@ -181,7 +159,7 @@ numbers_row f h = grind arith
 pub numbers_is : (v : List ℕ) → length v ≡ 16 → Each1 (λ x. x < 64) v → computed v ≡ numbers v
 numbers_is v long h =
     let P : List ℕ → Type 0 = λ l. computed l ≡ numbers l in
-    subst P (row_is v long) (numbers_row (λ k. get_or v k 0) (λ k. below_at 64 v k (omega arith) h))
+    subst P (row_is v long) (numbers_row (λ k. get_or v k 0) (λ k. below_at v k h))
 
 -- Bytes of numbers
 
@@ -203,21 +181,18 @@ number_lt a b c d p q r s = omega arith
 packed_row : (f : ℕ → ℕ) → ((k : ℕ) → f k < 64) → packed (numbers (row f)) ≡ groups (row f)
 unfolding groups
 packed_row f h =
-    let l0 = number_lt (f 0) (f 1) (f 2) (f 3) (h 0) (h 1) (h 2) (h 3) in
-    let l1 = number_lt (f 4) (f 5) (f 6) (f 7) (h 4) (h 5) (h 6) (h 7) in
-    let l2 = number_lt (f 8) (f 9) (f 10) (f 11) (h 8) (h 9) (h 10) (h 11) in
-    let l3 = number_lt (f 12) (f 13) (f 14) (f 15) (h 12) (h 13) (h 14) (h 15) in
+    let l = λ (k : ℕ). number_lt (f k) (f (k + 1)) (f (k + 2)) (f (k + 3)) (h k) (h (k + 1)) (h (k + 2)) (h (k + 3)) in
     let fit : Each1 (λ x. x < 4294967296) (numbers (row f)) =
-    (omega (arith, l0), (omega (arith, l1), (omega (arith, l2), (omega (arith, l3), tt)))) in
+    (omega (arith, l 0), (omega (arith, l 4), (omega (arith, l 8), (omega (arith, l 12), tt)))) in
     let e = λ (j i : ℕ) (a : i < 4) (b : 4 * j + i < 16). get_or_narrower 4294967296 4 256 16 (numbers (row f)) j i refl
     fit a b in
-    group_same (group_number (f 0) (f 1) (f 2) (f 3)) l0 (e 0 2 (omega arith) (omega arith))
+    group_same (group_number (f 0) (f 1) (f 2) (f 3)) (l 0) (e 0 2 (omega arith) (omega arith))
     (e 0 1 (omega arith) (omega arith)) (e 0 0 (omega arith) (omega arith))
-    (group_same (group_number (f 4) (f 5) (f 6) (f 7)) l1 (e 1 2 (omega arith) (omega arith))
+    (group_same (group_number (f 4) (f 5) (f 6) (f 7)) (l 4) (e 1 2 (omega arith) (omega arith))
     (e 1 1 (omega arith) (omega arith)) (e 1 0 (omega arith) (omega arith))
-    (group_same (group_number (f 8) (f 9) (f 10) (f 11)) l2 (e 2 2 (omega arith) (omega arith))
+    (group_same (group_number (f 8) (f 9) (f 10) (f 11)) (l 8) (e 2 2 (omega arith) (omega arith))
     (e 2 1 (omega arith) (omega arith)) (e 2 0 (omega arith) (omega arith))
-    (group_same (group_number (f 12) (f 13) (f 14) (f 15)) l3 (e 3 2 (omega arith) (omega arith))
+    (group_same (group_number (f 12) (f 13) (f 14) (f 15)) (l 12) (e 3 2 (omega arith) (omega arith))
     (e 3 1 (omega arith) (omega arith)) (e 3 0 (omega arith) (omega arith))
     refl)))
 
@@ -225,7 +200,7 @@ packed_row f h =
 pub packed_is : (v ns : List ℕ) → length v ≡ 16 → Each1 (λ x. x < 64) v → ns ≡ numbers v → packed ns ≡ groups v
 packed_is v ns long h e =
     let P : List ℕ → Type 0 = λ l. packed (numbers l) ≡ groups l in
-    ap packed e ∙ subst P (row_is v long) (packed_row (λ k. get_or v k 0) (λ k. below_at 64 v k (omega arith) h))
+    ap packed e ∙ subst P (row_is v long) (packed_row (λ k. get_or v k 0) (λ k. below_at v k h))
 
 -- Blocks of four rows.
 
@@ -254,7 +229,8 @@ others_is v marks long fits e =
     cc (
       bitmask_splat w8 differs marks 16 0 (ap length e ∙ length-map v mark_of ∙ long) (omega arith),
       map-map (λ x. differs x 0) mark_of v,
-      map_agree (λ x. differs (mark_of x) 0) is_other mark_is v fits,
+      map_agree (λ x. differs (mark_of x) 0) is_other
+          (λ b l. agree_below_at (λ b. differs (mark_of b) 0) is_other 256 b refl l) v fits,
     )
 
 -- Rows of a text
@@ -342,13 +318,10 @@ groups_whole x y h = groups-append x y
 
 -- A whole block
 
--- the mark of a byte is below 256
-mark_lt : (b : ℕ) → b < 256 → mark_of b < 256
-mark_lt b l = ltb-true (mark_of b) 256 (agree_below_at (λ b. ltb (mark_of b) 256) (λ b. true) 256 b refl l)
-
 -- the marks of bytes are below 256
 marks_lt : (v : List ℕ) → Each1 (Fits w8) v → Each1 (λ x. x < 256) (map mark_of v)
-marks_lt = each_map (Fits w8) (λ x. x < 256) mark_of (λ b h. mark_lt b h.fits)
+marks_lt = each_map (Fits w8) (λ x. x < 256) mark_of
+    (λ b h. ltb-true (mark_of b) 256 (agree_below_at (λ b. ltb (mark_of b) 256) (λ b. true) 256 b refl h.fits))
 
 -- the marks of all bytes of a list are zero exactly if all bytes are symbols
 all_unmarked : (v : List ℕ) → Each1 (Fits w8) v → list_all unmarked (map mark_of v) ≡ list_all is_symbol v
@@ -387,17 +360,12 @@ pub whole_is : (text m0 m1 m2 m3 r0 r1 r2 r3 : List ℕ) → 64 ≤ length text 
     → m0 ≡ map mark_of r0 → m1 ≡ map mark_of r1 → m2 ≡ map mark_of r2 → m3 ≡ map mark_of r3
     → eqb (fold_l bit_or 0 (all_marks m0 m1 m2 m3)) 0 ≡ list_all is_symbol (take 64 text)
 whole_is text m0 m1 m2 m3 r0 r1 r2 r3 long fits a b c d p q r s =
-    let e0 : m0 ≡ map mark_of (take 16 (drop 0 text)) = p ∙ ap (map mark_of) a in
-    let e1 : m1 ≡ map mark_of (take 16 (drop 16 text)) = q ∙ ap (map mark_of) b in
-    let e2 : m2 ≡ map mark_of (take 16 (drop 32 text)) = r ∙ ap (map mark_of) c in
-    let e3 : m3 ≡ map mark_of (take 16 (drop 48 text)) = s ∙ ap (map mark_of) d in
-    let same = ap₂ (zip2 bit_or) (ap₂ (zip2 bit_or) e0 e1) (ap₂ (zip2 bit_or) e2 e3) in
-    ap (λ l. eqb (fold_l bit_or 0 l) 0) same
-    ∙ marks_whole (take 16 (drop 0 text)) (take 16 (drop 16 text)) (take 16 (drop 32 text)) (take 16 (drop 48 text))
-    (row_length text 0 (omega arith)) (row_length text 16 (omega arith)) (row_length text 32 (omega arith))
-    (row_length text 48 (omega arith)) (chunk-fits w8 0 16 text fits) (chunk-fits w8 16 16 text fits)
-    (chunk-fits w8 32 16 text fits) (chunk-fits w8 48 16 text fits)
-    ∙ ap (list_all is_symbol) (sym (split_block text))
+    let size = row_length text in
+    let fit = λ (at : ℕ). chunk-fits w8 at 16 text fits in
+    let whole = marks_whole (take 16 (drop 0 text)) (take 16 (drop 16 text)) (take 16 (drop 32 text))
+    (take 16 (drop 48 text)) (size 0 (omega arith)) (size 16 (omega arith)) (size 32 (omega arith))
+    (size 48 (omega arith)) (fit 0) (fit 16) (fit 32) (fit 48) in
+    cc (a, b, c, d, p, q, r, s, split_block text, whole)
 
 -- Sixteen groups
 

@@ -140,21 +140,18 @@ accepted_call : {E : Type 0} (r : Result (Unit {0}) E) (o : Option E) → option
 accepted_call (Ok tt) o h = refl
 accepted_call (Err e) o h = absurd (some_not_none e h)
 
--- if a call appends its piece, the bytes after it and a rest are those before it, the piece and the rest
-call_reads : {F E : Type 0} (step : F → List ℕ → Result (Unit {0}) E → F → Type 0) (J : F → List ℕ)
-    → ((g : F) (piece : List ℕ) (g' : F) → step g piece (Ok tt) g' → J g' ≡ J g ++ piece)
-    → (c : Call F E) (f : F) (last rest : List ℕ) → step f c.piece c.answer c.after → c.answer ≡ Ok tt
-    → last ≡ J c.after ++ rest → last ≡ J f ++ (c.piece ++ rest)
-call_reads {F} {E} step J keeps c f last rest s e h = grind (arith, append_assoc)
-
 -- after a run without an error, all bytes of the run are appended to it
 pub run_reads : {F E : Type 0} (step : F → List ℕ → Result (Unit {0}) E → F → Type 0) (J : F → List ℕ)
     → ((g : F) (piece : List ℕ) (g' : F) → step g piece (Ok tt) g' → J g' ≡ J g ++ piece)
     → (cs : List (Call F E)) (f f' : F) → IsRun step f cs f' → refusal cs ≡ None → J f' ≡ J f ++ joined_pieces cs
 run_reads step J keeps [] f f' ran n = ap J (sym ran) ∙ sym (append-nil (J f))
-run_reads step J keeps (c ∷ cs) f f' ran n = call_reads step J keeps c f (J f') (joined_pieces cs) ran.0
-    (accepted_call c.answer (refusal cs) n)
-    (run_reads step J keeps cs c.after f' ran.2 (later_none c.answer (refusal cs) n))
+run_reads step J keeps (c ∷ cs) f f' ran n =
+    let ok = subst (λ r. step f c.piece r c.after) (accepted_call c.answer (refusal cs) n) ran.0 in
+    cc (
+      run_reads step J keeps cs c.after f' ran.2 (later_none c.answer (refusal cs) n),
+      keeps f c.piece c.after ok,
+      append_assoc (J f) c.piece (joined_pieces cs),
+    )
 
 -- what a closure that appends its bytes holds after a text was decoded
 pub decodes_reads : {F E : Type 0} {step : F → List ℕ → Result (Unit {0}) E → F → Type 0} {f f' : F} {u : List ℕ}

@@ -1,12 +1,13 @@
 use Rattle.std.proofs.Common.{◌≡◌, ◌+◌, ◌/◌, ◌%◌, ◌^◌, ℕ, List, map, ◌<◌, bit_and, cond, eqb, get_or, true, ◌∙◌, w8}
-use Rattle.std.proofs.Common.{refl}
+use Rattle.std.proofs.Common.{refl, sym}
+use Rattle.std.proofs.lemmas.List.{map-id}
 use Rattle.std.proofs.lemmas.Bool.{agree_below_at, ltb-true}
-use Rattle.std.proofs.lemmas.Simd.{tops_compared, zip2_splat}
+use Rattle.std.proofs.lemmas.Simd.{splat_is_map, tops_compared, zip2_splat}
 use Rattle.std.proofs.Math.Dec.{ltb}
 use lib.Lanes.{zip2}
 use Rattle.data_url.specs.Steps.Lanes.{offset_row}
 use Rattle.data_url.specs.declared.forgiving_base64.lanes.TheConstants.{OFFSETS}
-use Rattle.data_url.proofs.forgiving_base64.Vectors.{chosen, itself, joined, looked_up, places_ok, splat_is}
+use Rattle.data_url.proofs.forgiving_base64.Vectors.{chosen, joined, looked_up, places_ok}
 use Rattle.data_url.proofs.forgiving_base64.lanes.values_of.Goals as goal
 
 -- the row of each byte in the table of offsets is below 16
@@ -25,7 +26,7 @@ swizzle c =
     places_ok offset_row v _ long
     (rows v (zip2_splat (λ a b. a / 2 ^ b) v 16 4 long)
     (chosen (λ x. eqb x 47) (λ x. 255) (λ x. 0) v (tops_compared w8 eqb v _ ∙ zip2_splat eqb v 16 47 long)
-    (splat_is v 16 255 long) (splat_is v 16 0 long)))
+    (splat_is_map v 16 255 long) (splat_is_map v 16 0 long)))
     row_small c.fits-bytes.1
 
 pub returns : goal.returns
@@ -33,10 +34,10 @@ returns c =
     let v = c.args.bytes in
     let long = c.fits-bytes.0 in
     joined bit_and (λ x. (x + get_or OFFSETS (offset_row x) 0) % 256) (λ x. 63) v
-    (joined (λ a b. (a + b) % 256) (λ x. x) (λ x. get_or OFFSETS (offset_row x) 0) v (itself v)
+    (joined (λ a b. (a + b) % 256) (λ x. x) (λ x. get_or OFFSETS (offset_row x) 0) v (sym (map-id v))
     (looked_up OFFSETS offset_row v _ long c.fits-bytes.1
     (rows v (zip2_splat (λ a b. a / 2 ^ b) v 16 4 long)
     (chosen (λ x. eqb x 47) (λ x. 255) (λ x. 0) v (tops_compared w8 eqb v _ ∙ zip2_splat eqb v 16 47 long)
-    (splat_is v 16 255 long) (splat_is v 16 0 long)))
+    (splat_is_map v 16 255 long) (splat_is_map v 16 0 long)))
     row_small))
-    (splat_is v 16 63 long)
+    (splat_is_map v 16 63 long)
