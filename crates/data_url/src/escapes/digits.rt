@@ -79,30 +79,18 @@ impl<'a> Source<'a> {
         if value < PASSED {
             return Some((value, place + 1));
         }
-        if value == PASSED {
-            self.digit_past(place + 1)
-        } else {
-            None
+        if value > PASSED {
+            return None;
         }
-    }
-
-    /// Returns the digit after a tab or newline, and the place after it. The text is read through a value of its own,
-    /// so that the walk's can stay in registers.
-    #[inline(always)]
-    fn digit_past(&mut self, place: usize) -> Option<(u8, usize)>
-        requires { place ≤ length self.old.text.now }
-        ensures text { self.new.text.now ≡ self.old.text.now }
-        ensures found { let text = self.old.text.now in
-            MatchOption result (NoDigit text place self.old.looks self.new.looks)
-            (λ found. DigitFound text place self.old.looks found.0 found.1 self.new.looks) }
-    {
+        // The text is read through a value of its own, so that the walk's can stay in registers.
         let mut source = self.take();
-        let found = source.digit_further(place);
+        let found = source.digit_further(place + 1);
         *self = source;
         found
     }
 
-    /// The value of the hexadecimal digit from a place on, with a loop over tabs and newlines.
+    /// Returns the value of the hexadecimal digit from a place on, with a loop over tabs and newlines, and the place after
+    /// it.
     #[inline(never)]
     fn digit_further(&mut self, place: usize) -> Option<(u8, usize)>
         requires { place ≤ length self.old.text.now }

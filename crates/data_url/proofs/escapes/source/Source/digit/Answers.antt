@@ -1,4 +1,4 @@
-use Rattle.std.proofs.Common.{refl, arith}
+use Rattle.std.proofs.Common.{refl, ◌∙◌, arith}
 use Rattle.data_url.proofs.escapes.Hexadecimal.{byte_of, digit_further, found_here, none_here, none_left}
 use Rattle.data_url.proofs.escapes.source.Source.digit.Goals as goal
 
@@ -10,13 +10,13 @@ returns-then-value-lt-PASSED-clause-found c =
     let at = byte_of refl (omega arith) c.look.ensures.byte (omega arith) in
     found_here at c.digit_code-value.ensures c.if-value-lt-PASSED.true c.look.ensures.looks
 
-pub returns-then-value-eq-PASSED-clause-found : goal.returns-then-value-eq-PASSED-clause-found
-returns-then-value-eq-PASSED-clause-found c =
-    let at = byte_of refl (omega arith) c.look.ensures.byte (omega arith) in
-    digit_further _ _ _ c.look.ensures.text at c.digit_code-value.ensures c.if-value-eq-PASSED.true c.look.ensures.looks
-    c.digit_past.ensures.found
-
-pub returns-else-value-eq-PASSED-clause-found : goal.returns-else-value-eq-PASSED-clause-found
-returns-else-value-eq-PASSED-clause-found c =
+pub returns-then-value-gt-PASSED-clause-found : goal.returns-then-value-gt-PASSED-clause-found
+returns-then-value-gt-PASSED-clause-found c =
     let at = byte_of refl (omega arith) c.look.ensures.byte (omega arith) in
     none_here at c.digit_code-value.ensures (omega arith) c.look.ensures.looks
+
+pub returns-clause-found : goal.returns-clause-found
+returns-clause-found c =
+    let at = byte_of refl (omega arith) c.look.ensures.byte (omega arith) in
+    digit_further _ _ _ (c.take-source.ensures.text ∙ c.look.ensures.text) at c.digit_code-value.ensures (omega arith)
+    (c.take-source.ensures.looks ∙ c.look.ensures.looks) c.digit_further-found.ensures.found

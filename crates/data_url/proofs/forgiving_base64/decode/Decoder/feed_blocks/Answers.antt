@@ -1,4 +1,4 @@
-use Rattle.std.proofs.Common.{sym, ◌∙◌, ◌+◌, arith, length-take}
+use Rattle.std.proofs.Common.{sym, ◌∙◌, ◌+◌, arith}
 use Rattle.std.proofs.lemmas.Result.{err_from_is_err_and}
 use Rattle.std.specs.Fn.{CalledAt}
 use Rattle.data_url.proofs.forgiving_base64.Steps.{feeds_none, feeds_stop, sound}

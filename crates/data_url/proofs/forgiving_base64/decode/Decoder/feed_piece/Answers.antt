@@ -1,7 +1,7 @@
 use Rattle.data_url.proofs.forgiving_base64.Holding.{holds_adds, byte_at, fault_feeds, flush_refused, flushed_feeds}
 use Rattle.data_url.proofs.forgiving_base64.Holding.{holds_from, stays_holds}
 use Rattle.data_url.proofs.forgiving_base64.Steps.{adds_none, sound}
-use Rattle.std.proofs.Common.{take, take-add, length-take, Err, ap, arith}
+use Rattle.std.proofs.Common.{take-add, Err, ap, arith}
 use Rattle.std.proofs.lemmas.List.{take_rest}
 use Rattle.std.proofs.lemmas.Result.{err_from_is_err_and}
 use Rattle.std.specs.Fn.{CalledAt}

@@ -1,4 +1,4 @@
-use Rattle.std.proofs.Common.{[], get_or, take, refl, ap, sym, ◌∙◌, arith, length-take}
+use Rattle.std.proofs.Common.{[], get_or, refl, ap, sym, ◌∙◌, arith, length-take}
 use Rattle.std.proofs.lemmas.Bool.{ne_eqb}
 use Rattle.std.proofs.lemmas.List.{append-nil, take_more_set}
 use Rattle.data_url.specs.Decoder.{state_of}
