@@ -453,10 +453,6 @@ fault_invalid b x h = false_from_ne_true (is_valid b) (λ v. absurd (some_not_no
 
 -- Groups of four
 
--- a number plus four is equal to the number modulo four
-four_more : (n : ℕ) → n % 4 ≡ suc (suc (suc (suc n))) % 4
-four_more n = omega arith
-
 -- the bytes of x ++ y are those of the groups of x, and then those of what is left over of x followed by y
 pub groups-append : (x y : List ℕ) → groups (x ++ y) ≡ groups x ++ groups (after_groups x ++ y)
 unfolding groups after_groups
@@ -491,7 +487,7 @@ length-after_groups [] = refl
 length-after_groups (p ∷ []) = refl
 length-after_groups (p ∷ q ∷ []) = refl
 length-after_groups (p ∷ q ∷ r ∷ []) = refl
-length-after_groups (p ∷ q ∷ r ∷ s ∷ rest) = length-after_groups rest ∙ four_more (length rest)
+length-after_groups (p ∷ q ∷ r ∷ s ∷ rest) = omega (arith, length-after_groups rest)
 
 -- if all bytes are symbols, so are those left over after the groups
 pub every_after : (x : List ℕ) → Every is_symbol x → Every is_symbol (after_groups x)

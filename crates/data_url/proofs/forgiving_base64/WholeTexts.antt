@@ -3,7 +3,7 @@ use Rattle.std.proofs.Common.{◌≡◌, ◌⊎◌, ℕ, Bool, true, false, cond
 use Rattle.std.proofs.Common.{Err, refl, ap, sym, ◌∙◌, subst, inl, inr, arith, append_assoc, length-append}
 use Rattle.std.specs.Prelude.{MatchBool, MatchOption}
 use Rattle.std.proofs.lemmas.List.{append-nil}
-use Rattle.std.proofs.lemmas.Bool.{cond-true}
+use Rattle.std.proofs.lemmas.Bool.{cases_Bool, cond-true}
 use Rattle.data_url.specs.Base64.{decoded, complete_bytes, is_valid, kind_of, left_padding, left_symbols, left_text}
 use Rattle.data_url.specs.Steps.Whole.{DecodesText}
 use Rattle.data_url.specs.Decoder.{Feeds, Finishes, IsTaken, State, left_over, start}
@@ -32,13 +32,12 @@ whole_bytes u = cond (is_valid u) (decoded u) (complete_bytes u)
 
 -- the complete bytes of a text are a prefix of all its bytes
 pub done_whole : (u : List ℕ) → IsPrefix (complete_bytes u) (whole_bytes u)
-done_whole u =
-    elim (is_valid u) as (λ v. is_valid u ≡ v → IsPrefix (complete_bytes u) (cond v (decoded u) (complete_bytes u))) [
-      | true ↦ λ e.
-          let g = two_feeds u [] (none_fault u (valid_no_fault u e)) in
-          (decoded (left_text (left_symbols u) (left_padding u) ++ []), ap decoded (sym (append-nil u)) ∙ g.decoded_is)
-      | false ↦ λ e. prefix_all (complete_bytes u) (complete_bytes u) refl
-    ] refl
+done_whole u = elim (cases_Bool (is_valid u)) [
+  | inl e ↦
+      let g = two_feeds u [] (none_fault u (valid_no_fault u e)) in
+      (decoded (left_text (left_symbols u) (left_padding u) ++ []), cc (e, append-nil u, g.decoded_is))
+  | inr e ↦ prefix_all (complete_bytes u) (whole_bytes u) (cc e)
+]
 
 -- a text that has a fault while it is fed is not valid
 taken_invalid : {F E : Type 0} (u bytes : List ℕ) (r : Result (Unit {0}) (DecodeError E)) (x : DecodeError E)
@@ -101,15 +100,16 @@ module _ {F E : Type 0} (step : F → List ℕ → Result (Unit {0}) E → F →
                   match_map (refusal g.run) _ _ _ _
                   (λ w. bool_at_true (is_valid u) _ _ good (bytes ∙ ap (λ x. complete_bytes u ++ x) w.0 ∙ sym all, w.1))
                   (λ e w. record {
-                    bytes_begin =
-                        prefix_trans (joined_pieces (f.run ++ g.run)) (complete_bytes u ++ joined_pieces g.run)
-                        (whole_bytes u) (prefix_all (joined_pieces (f.run ++ g.run))
-                        (complete_bytes u ++ joined_pieces g.run) bytes)
-                        (prefix_trans (complete_bytes u ++ joined_pieces g.run)
-                        (complete_bytes u ++ decoded (left_over d')) (whole_bytes u)
-                        (prefix_after (complete_bytes u) (joined_pieces g.run) (decoded (left_over d')) w.bytes_begin)
-                        (prefix_all (complete_bytes u ++ decoded (left_over d')) (whole_bytes u)
-                        (sym (cond-true (is_valid u) (decoded u) (complete_bytes u) good ∙ all))));
+                    bytes_begin = (
+                      w.bytes_begin.0,
+                      cc (
+                        good,
+                        all,
+                        bytes,
+                        w.bytes_begin.1,
+                        append_assoc (complete_bytes u) (joined_pieces g.run) w.bytes_begin.0,
+                      ),
+                    );
                     answer = w.answer;
                   })
                   h
