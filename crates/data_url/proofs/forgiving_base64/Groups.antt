@@ -188,14 +188,9 @@ module _ (a b w : List ℕ) (st : Stands a w) where
   unfolding decoded
   decoded_both = grind (arith, groups_both, append_assoc, after_both)
 
-  -- given `Stands a w`, the symbols left over of a ++ b are those left over of w ++ b
-  left_both : left_symbols (a ++ b) ≡ left_symbols (w ++ b)
-  unfolding left_symbols
-  left_both = grind (arith, filter-append, after_groups-append)
-
   -- given `Stands a w`, decoding b after a is the same as decoding w ++ b
   pub goes_on : GoesOn a b (w ++ b)
-  unfolding left_padding
+  unfolding left_padding left_symbols
   goes_on =
       search (
         arith,
@@ -206,7 +201,8 @@ module _ (a b w : List ℕ) (st : Stands a w) where
         fault-append,
         kind_is,
         length_values,
-        left_both,
+        after_groups-append,
+        symbols_left,
         no_fault_valid,
         fault_invalid,
         filter-append,

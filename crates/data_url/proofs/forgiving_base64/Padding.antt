@@ -2,6 +2,8 @@
 use Rattle.std.proofs.Common.{◌≡◌, ℕ, suc, zero, ◌+◌, Bool, true, false, not, cond, ◌&&◌, ◌||◌, List, [], ◌∷◌, ◌++◌}
 use Rattle.std.proofs.Common.{length, get_or, replicate, Option, None, Some, refl, ap, sym, ◌∙◌, inl, inr, append_assoc}
 use Rattle.std.proofs.Common.{◌<◌, ◌≤◌, arith, ◌%◌, eqb, length-append, map, is_some}
+use Rattle.std.proofs.Common.{◌/◌, ◌*◌, drop, length-drop}
+use Rattle.std.proofs.lemmas.List.{length-map, drop-map}
 use Rattle.std.specs.List.{filter, find, list_any, range_with_len, list_all}
 use Rattle.std.proofs.lemmas.List.{append-nil, get_or_at, take_at, length_push, length-replicate}
 use Rattle.std.proofs.lemmas.List.Folds.{list_any-append}
@@ -471,23 +473,24 @@ after_groups-append (p ∷ q ∷ []) y = refl
 after_groups-append (p ∷ q ∷ r ∷ []) y = refl
 after_groups-append (p ∷ q ∷ r ∷ s ∷ rest) y = after_groups-append rest y
 
+-- the values left over are those from the largest multiple of four on
+pub after_is : (x : List ℕ) → after_groups x ≡ drop (length x / 4 * 4) x
+unfolding after_groups
+after_is [] = refl
+after_is (p ∷ []) = refl
+after_is (p ∷ q ∷ []) = refl
+after_is (p ∷ q ∷ r ∷ []) = refl
+after_is (p ∷ q ∷ r ∷ s ∷ rest) =
+    let e : suc (suc (suc (suc (length rest)))) / 4 * 4 ≡ suc (suc (suc (suc (length rest / 4 * 4)))) = omega arith in
+    after_is rest ∙ sym (ap (λ n. drop n (p ∷ q ∷ r ∷ s ∷ rest)) e)
+
 -- what is left over of a mapped list is what is left over of the list, mapped
 pub after_groups-map : (f : ℕ → ℕ) (x : List ℕ) → after_groups (map f x) ≡ map f (after_groups x)
-unfolding after_groups
-after_groups-map f [] = refl
-after_groups-map f (p ∷ []) = refl
-after_groups-map f (p ∷ q ∷ []) = refl
-after_groups-map f (p ∷ q ∷ r ∷ []) = refl
-after_groups-map f (p ∷ q ∷ r ∷ s ∷ rest) = after_groups-map f rest
+after_groups-map f x = cc (after_is x, after_is (map f x), length-map x f, drop-map f (length x / 4 * 4) x)
 
 -- the number of values that are left over is the length modulo four
 pub length-after_groups : (x : List ℕ) → length (after_groups x) ≡ length x % 4
-unfolding after_groups
-length-after_groups [] = refl
-length-after_groups (p ∷ []) = refl
-length-after_groups (p ∷ q ∷ []) = refl
-length-after_groups (p ∷ q ∷ r ∷ []) = refl
-length-after_groups (p ∷ q ∷ r ∷ s ∷ rest) = omega (arith, length-after_groups rest)
+length-after_groups x = omega (arith, ap length (after_is x), length-drop (length x / 4 * 4) x)
 
 -- if all bytes are symbols, so are those left over after the groups
 pub every_after : (x : List ℕ) → Every is_symbol x → Every is_symbol (after_groups x)

@@ -8,7 +8,7 @@ use Rattle.std.specs.Int.RustNames.{count_ones}
 use Rattle.std.specs.List.{filter, list_all, range_with_len}
 use Rattle.std.proofs.lemmas.Bool.{agree_below_at, and_parts, eqb-true, true≢false}
 use Rattle.std.proofs.lemmas.List.{append-nil, drop-drop, get_or-drop, get_or-take, length-map, map-append, map-id}
-use Rattle.std.proofs.lemmas.List.{take-append-drop, take-map, take-take, take_all, take_at, nil_from_length}
+use Rattle.std.proofs.lemmas.List.{take-append-drop, take-map, take-take, take_all, take_at}
 use Rattle.std.proofs.lemmas.List.Elements.{filter-append}
 use Rattle.std.proofs.lemmas.List.Folds.{list_all-append}
 use Rattle.std.proofs.lemmas.Nat.{and_le_r}
@@ -21,9 +21,10 @@ use Rattle.data_url.specs.declared.forgiving_base64.places.TheConstants.{CLEAR_P
 use Rattle.data_url.specs.declared.forgiving_base64.symbols.TheConstants.{SPACES}
 use Rattle.data_url.proofs.forgiving_base64.Vectors.{groups_whole, split_block, is_other, map_agree, mask_l-append}
 use Rattle.data_url.proofs.forgiving_base64.Vectors.{each_map, looked_at, looked_up, others_mask}
-use Rattle.data_url.proofs.forgiving_base64.Steps.{after_few, groups_few, three_items}
+use Rattle.data_url.proofs.forgiving_base64.Steps.{groups_few, three_items}
 use Rattle.data_url.proofs.forgiving_base64.Groups.{all_before, symbols_alone, symbols_values, take_groups}
-use Rattle.data_url.proofs.forgiving_base64.Padding.{after_groups-append, length-after_groups, filter_every}
+use Rattle.data_url.proofs.forgiving_base64.Padding.{after_is}
+use Rattle.data_url.proofs.forgiving_base64.Padding.{filter_every}
 use Rattle.data_url.proofs.forgiving_base64.Padding.{every_list_all, filter_all, list_all_every}
 use Rattle.data_url.proofs.escapes.Marks.{drop_taken}
 
@@ -259,20 +260,6 @@ front_kept n k old new more long few e =
 pub still_kept : {q : List ℕ} (n k : ℕ) (old new : List ℕ) → n ≤ k → take n old ≡ q → take k new ≡ take k old
     → take n new ≡ q
 still_kept n k old new few is same = cc (take-take n k new few, take-take n k old few)
-
--- the values left over are those from the largest multiple of four on
-pub after_is : (q : List ℕ) → after_groups q ≡ drop (length q / 4 * 4) q
-after_is q =
-    let at = length q / 4 * 4 in
-    let within : at ≤ length q = omega arith in
-    let none : after_groups (take at q) ≡ [] =
-    nil_from_length (after_groups (take at q))
-    (omega (arith, length-after_groups (take at q), length-take-le at q within)) in
-    cc (
-      take-append-drop at q,
-      after_groups-append (take at q) (drop at q),
-      after_few (drop at q) (omega (arith, length-drop at q)),
-    )
 
 -- the first `len % 4` of the three items after the complete groups are those that are left over
 pub three_last : (s : List ℕ) (len : ℕ) → length s ≡ 208 → len < 64

@@ -3,7 +3,7 @@ use Rattle.std.proofs.Common.{◌≡◌, ◌⊎◌, ℕ, Bool, true, false, cond
 use Rattle.std.proofs.Common.{Err, refl, ap, sym, ◌∙◌, subst, inl, inr, arith, append_assoc, length-append}
 use Rattle.std.specs.Prelude.{MatchBool, MatchOption}
 use Rattle.std.proofs.lemmas.List.{append-nil}
-use Rattle.std.proofs.lemmas.Bool.{cases_Bool, cond-true}
+use Rattle.std.proofs.lemmas.Bool.{cases_Bool}
 use Rattle.data_url.specs.Base64.{decoded, complete_bytes, is_valid, kind_of, left_padding, left_symbols, left_text}
 use Rattle.data_url.specs.Steps.Whole.{DecodesText}
 use Rattle.data_url.specs.Decoder.{Feeds, Finishes, IsTaken, State, left_over, start}
@@ -17,7 +17,7 @@ use Rattle.data_url.specs.declared.forgiving_base64.DecodeError.TheVariants.{Inv
 use Rattle.data_url.proofs.forgiving_base64.Steps.{bool_at_false, bool_at_true, feeds_none, feeds_goes_on, feeds_took}
 use Rattle.data_url.proofs.forgiving_base64.Groups.{two_feeds}
 use Rattle.data_url.proofs.runs.Runs.{joined_pieces-append, later_none, match_at, match_map, match_none, prefix_all}
-use Rattle.data_url.proofs.runs.Runs.{prefix_after, prefix_trans, refusal-append, run-append}
+use Rattle.data_url.proofs.runs.Runs.{prefix_trans, refusal-append, run-append}
 use Rattle.data_url.proofs.forgiving_base64.Padding.{fault_byte, fault_invalid, none_fault, valid_no_fault}
 use Rattle.data_url.proofs.forgiving_base64.Padding.{some_not_none}
 
@@ -48,13 +48,6 @@ taken_invalid u bytes r x d None q h t = grind (arith, none_fault)
 taken_invalid u bytes r x d (Some c) q h t = grind (arith, fault_invalid)
 
 module _ {F E : Type 0} (step : F → List ℕ → Result (Unit {0}) E → F → Type 0) where
-  -- what the closure is called with for a whole text
-  abbrev Whole : List ℕ → Option E → List ℕ → Result (Unit {0}) (DecodeError E) → Type 0
-  Whole u o bytes r =
-      MatchOption o (MatchBool (is_valid u) ((bytes ≡ decoded u) × (r ≡ Ok tt)) ((bytes ≡ complete_bytes u)
-      × (r ≡ Err (InvalidBase64 (kind_of u)))))
-      (λ e. IsRefused (whole_bytes u) bytes e r)
-
   -- an error while the text is fed
   refused_fed : {d d' : State F} {u : List ℕ} {x : DecodeError E} → Feeds step d u (Err x) d' → left_over d ++ u ≡ u
       → DecodesText step d.closure u (Err x) d'.closure
