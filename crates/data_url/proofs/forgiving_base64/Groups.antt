@@ -1,8 +1,7 @@
 -- Groups of four symbols, and texts that are fed in two parts.
 use Rattle.std.proofs.Common.{◌≡◌, ℕ, suc, ◌+◌, ◌-◌, ◌*◌, ◌%◌, ◌≤◌, true, ◌&&◌, ◌||◌, List, [], ◌∷◌, ◌++◌, map, length}
 use Rattle.std.proofs.Common.{get_or, take, drop, Fits, w8, refl, ap, ap₂, ◌∙◌, arith, length-take, length-take-le}
-use Rattle.std.proofs.Common.{take-add, false, min, None, append_assoc, length-append}
-use Rattle.std.proofs.Common.{◌/◌}
+use Rattle.std.proofs.Common.{take-add, false, min, None, append_assoc, length-append, ◌/◌}
 use Rattle.std.specs.List.{list_all, prefix_len, filter, list_any}
 use Rattle.std.proofs.lemmas.Bool.{and_parts}
 use Rattle.std.proofs.lemmas.List.{append-nil, get_or-take, get_or_past, length-map, take-append-drop, take-map}

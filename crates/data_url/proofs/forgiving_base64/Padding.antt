@@ -1,11 +1,9 @@
 -- The definitions of base64, read byte by byte: padding, faults and valid texts.
 use Rattle.std.proofs.Common.{◌≡◌, ℕ, suc, zero, ◌+◌, Bool, true, false, not, cond, ◌&&◌, ◌||◌, List, [], ◌∷◌, ◌++◌}
 use Rattle.std.proofs.Common.{length, get_or, replicate, Option, None, Some, refl, ap, sym, ◌∙◌, inl, inr, append_assoc}
-use Rattle.std.proofs.Common.{◌<◌, ◌≤◌, arith, ◌%◌, eqb, length-append, map, is_some}
-use Rattle.std.proofs.Common.{◌/◌, ◌*◌, drop, length-drop}
-use Rattle.std.proofs.lemmas.List.{length-map, drop-map}
+use Rattle.std.proofs.Common.{◌<◌, ◌≤◌, arith, ◌%◌, eqb, length-append, map, is_some, ◌/◌, ◌*◌, drop, length-drop}
+use Rattle.std.proofs.lemmas.List.{length-map, drop-map, append-nil, get_or_at, take_at, length_push, length-replicate}
 use Rattle.std.specs.List.{filter, find, list_any, range_with_len, list_all}
-use Rattle.std.proofs.lemmas.List.{append-nil, get_or_at, take_at, length_push, length-replicate}
 use Rattle.std.proofs.lemmas.List.Folds.{list_any-append}
 use Rattle.std.proofs.lemmas.Bool.{cases_Bool, false≢true, eqb-true, eq-eqb, ne_eqb, eqb-false, not-true}
 use Rattle.std.proofs.lemmas.Bool.{not_from_false, and_from, false_from_ne_true, agree_below_at, and_parts}
@@ -39,17 +37,12 @@ pub record Class (space pad symbol : Bool) : Type 0 where
   pub of_space : space ≡ true → (pad ≡ false) × (symbol ≡ false)
   pub of_pad : pad ≡ true → symbol ≡ false
 
--- a byte of whitespace is below 33
-whitespace_low : (c : ℕ) → is_ascii_whitespace c ≡ true → c < 33
-whitespace_low c e = grind arith
-
 -- each byte is in at most one of the classes whitespace, '=' and symbol
 pub classes : (c : ℕ) → Class (is_ascii_whitespace c) (is_pad c) (is_symbol c)
 classes c = record {
-  of_space = λ e. (
-    agree_below_at is_pad (λ _. false) 33 c refl (whitespace_low c e),
-    agree_below_at is_symbol (λ _. false) 33 c refl (whitespace_low c e),
-  );
+  of_space = λ e.
+      let l : c < 33 = grind arith in
+      (agree_below_at is_pad (λ _. false) 33 c refl l, agree_below_at is_symbol (λ _. false) 33 c refl l);
   of_pad = λ e. ap is_symbol (eqb-true c 61 e);
 }
 
@@ -121,9 +114,8 @@ before-append_some (c ∷ t) b s x h = elim (cases_Bool (is_bad s c)) [
 
 -- if there is no fault, `before_fault` is the whole text
 pub before_none : (a : List ℕ) (s : Bool) → fault_byte s a ≡ None → before_fault s a ≡ a
-unfolding fault_byte before_fault
-before_none [] s h = refl
-before_none (c ∷ t) s h = let k = passed (is_bad s c) c _ h in cc (k.0, before_none t (s || is_pad c) k.1)
+unfolding before_fault
+before_none a s h = ap (before_fault s) (sym (append-nil a)) ∙ before-append a [] s h ∙ append-nil a
 
 -- White space, symbols and padding
 

@@ -23,9 +23,7 @@ use Rattle.data_url.proofs.forgiving_base64.Vectors.{groups_whole, split_block, 
 use Rattle.data_url.proofs.forgiving_base64.Vectors.{each_map, looked_at, looked_up, others_mask}
 use Rattle.data_url.proofs.forgiving_base64.Steps.{groups_few, three_items}
 use Rattle.data_url.proofs.forgiving_base64.Groups.{all_before, symbols_alone, symbols_values, take_groups}
-use Rattle.data_url.proofs.forgiving_base64.Padding.{after_is}
-use Rattle.data_url.proofs.forgiving_base64.Padding.{filter_every}
-use Rattle.data_url.proofs.forgiving_base64.Padding.{every_list_all, filter_all, list_all_every}
+use Rattle.data_url.proofs.forgiving_base64.Padding.{after_is, filter_every, every_list_all, filter_all, list_all_every}
 use Rattle.data_url.proofs.escapes.Marks.{drop_taken}
 
 -- Clear bits
@@ -182,10 +180,7 @@ spaces_are v js long fits e =
 
 -- if the masks of not s and then m, and of w and then n, are equal, s or w is true, and m is n
 first_bits : (s w : Bool) (m n : ℕ) → cond (not s) 1 0 + 2 * m ≡ cond w 1 0 + 2 * n → ((s || w) ≡ true) × (m ≡ n)
-first_bits true true m n e = (refl, omega (arith, e))
-first_bits true false m n e = (refl, omega (arith, e))
-first_bits false true m n e = (refl, omega (arith, e))
-first_bits false false m n e = absurd (omega (arith, e))
+first_bits s w m n e = grind arith
 
 -- if the mask of the bytes that are no symbols is that of the whitespace, all bytes are symbols or whitespace
 pub only_spaces : (v : List ℕ) → others_mask v ≡ mask_l (map is_ascii_whitespace v)

@@ -25,14 +25,10 @@ use Rattle.data_url.proofs.forgiving_base64.Padding.{groups-append, length-after
 
 -- The table of symbols is the alphabet.
 
--- the entry that the table should have
-abbrev pub entry_of : ℕ → ℕ
-entry_of b = cond (is_symbol b) (symbol_value b) NO_SYMBOL
-
 -- the entry of a symbol is its value
 pub entry_symbol : (b : ℕ) → b < 256 → is_symbol b ≡ true → get_or VALUES b 0 ≡ symbol_value b
-entry_symbol b l h = eqb-true (get_or VALUES b 0) (entry_of b) (agree_below_at
-    (λ b. eqb (get_or VALUES b 0) (entry_of b)) (λ b. true) 256 b refl l)
+entry_symbol b l h = eqb-true (get_or VALUES b 0) (cond (is_symbol b) (symbol_value b) NO_SYMBOL) (agree_below_at
+    (λ b. eqb (get_or VALUES b 0) (cond (is_symbol b) (symbol_value b) NO_SYMBOL)) (λ b. true) 256 b refl l)
     ∙ cond-true (is_symbol b) (symbol_value b) NO_SYMBOL h
 
 -- an entry is below the mark exactly at a symbol
