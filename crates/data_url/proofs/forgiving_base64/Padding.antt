@@ -357,7 +357,7 @@ list_all_text (a ∷ t) p h = grind (arith, list_all_text t p h.1)
 -- whether k symbols and p times '=', of which up to two are removed if k + p is a multiple of four, pass the last steps
 abbrev passes : ℕ → ℕ → Bool
 passes k p = cond (eqb ((k + p) % 4) 0)
-    (not (eqb ((k + (one_less (one_less p))) % 4) 1) && eqb (one_less (one_less p)) 0)
+    (not (eqb ((k + one_less (one_less p)) % 4) 1) && eqb (one_less (one_less p)) 0)
     (not (eqb ((k + p) % 4) 1) && eqb p 0)
 
 -- they pass exactly if p times '=' fit k symbols
