@@ -1,7 +1,7 @@
 -- Groups of four symbols, and texts that are fed in two parts.
 use Rattle.std.proofs.Common.{◌≡◌, ℕ, suc, ◌+◌, ◌-◌, ◌*◌, ◌%◌, ◌≤◌, true, ◌&&◌, ◌||◌, List, [], ◌∷◌, ◌++◌, map, length}
 use Rattle.std.proofs.Common.{get_or, take, drop, Fits, w8, refl, ap, ap₂, ◌∙◌, arith, length-take, length-take-le}
-use Rattle.std.proofs.Common.{take-add, false, min, None, append_assoc, length-append}
+use Rattle.std.proofs.Common.{take-add, false, min, None, append_assoc, length-append, ◌/◌}
 use Rattle.std.specs.List.{list_all, prefix_len, filter, list_any}
 use Rattle.std.proofs.lemmas.Bool.{and_parts}
 use Rattle.std.proofs.lemmas.List.{append-nil, get_or-take, get_or_past, length-map, take-append-drop, take-map}
@@ -27,30 +27,25 @@ use Rattle.data_url.specs.Laws.{GoesOn, TwoFeeds}
 
 -- How many bytes groups have
 
+-- there are three bytes for each four values, without those that are left over
+groups_size : (x : List ℕ) → length (groups x) ≡ 3 * (length x / 4)
+unfolding groups
+groups_size [] = refl
+groups_size (p ∷ []) = omega arith
+groups_size (p ∷ q ∷ []) = omega arith
+groups_size (p ∷ q ∷ r ∷ []) = omega arith
+groups_size (p ∷ q ∷ r ∷ s ∷ rest) = omega (arith, groups_size rest)
+
 -- the bytes of the groups are at most three for each four values
 pub groups_length : (x : List ℕ) → 4 * length (groups x) ≤ 3 * length x
-unfolding groups
-groups_length [] = omega arith
-groups_length (p ∷ []) = omega arith
-groups_length (p ∷ q ∷ []) = omega arith
-groups_length (p ∷ q ∷ r ∷ []) = omega arith
-groups_length (p ∷ q ∷ r ∷ s ∷ rest) = omega (arith, groups_length rest)
-
--- if the number of values is a multiple of four, the bytes are three for each four values
-pub whole_length : (x : List ℕ) → length x % 4 ≡ 0 → 4 * length (groups x) ≡ 3 * length x
-unfolding groups
-whole_length [] h = omega arith
-whole_length (p ∷ []) h = absurd (omega arith)
-whole_length (p ∷ q ∷ []) h = absurd (omega arith)
-whole_length (p ∷ q ∷ r ∷ []) h = absurd (omega arith)
-whole_length (p ∷ q ∷ r ∷ s ∷ rest) h = let e : length rest % 4 ≡ 0 = omega arith in omega (arith, whole_length rest e)
+groups_length x = omega (arith, groups_size x)
 
 -- if x has at least 4 * m values, the first 3 * m bytes of its groups are those of its first 4 * m values
 pub take_groups : (m : ℕ) (x : List ℕ) → 4 * m ≤ length x → take (3 * m) (groups x) ≡ groups (take (4 * m) x)
 take_groups m x h =
     let front = take (4 * m) x in
     let long : length front ≡ 4 * m = length-take-le (4 * m) x h in
-    let size : length (groups front) ≡ 3 * m = omega (arith, whole_length front (omega arith)) in
+    let size : length (groups front) ≡ 3 * m = omega (arith, groups_size front) in
     cc (
       take-append-drop (4 * m) x,
       groups_whole front (drop (4 * m) x) (omega arith),
@@ -192,14 +187,9 @@ module _ (a b w : List ℕ) (st : Stands a w) where
   unfolding decoded
   decoded_both = grind (arith, groups_both, append_assoc, after_both)
 
-  -- given `Stands a w`, the symbols left over of a ++ b are those left over of w ++ b
-  left_both : left_symbols (a ++ b) ≡ left_symbols (w ++ b)
-  unfolding left_symbols
-  left_both = grind (arith, filter-append, after_groups-append)
-
   -- given `Stands a w`, decoding b after a is the same as decoding w ++ b
   pub goes_on : GoesOn a b (w ++ b)
-  unfolding left_padding
+  unfolding left_padding left_symbols
   goes_on =
       search (
         arith,
@@ -210,7 +200,8 @@ module _ (a b w : List ℕ) (st : Stands a w) where
         fault-append,
         kind_is,
         length_values,
-        left_both,
+        after_groups-append,
+        symbols_left,
         no_fault_valid,
         fault_invalid,
         filter-append,

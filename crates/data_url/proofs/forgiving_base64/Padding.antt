@@ -1,9 +1,9 @@
 -- The definitions of base64, read byte by byte: padding, faults and valid texts.
 use Rattle.std.proofs.Common.{◌≡◌, ℕ, suc, zero, ◌+◌, Bool, true, false, not, cond, ◌&&◌, ◌||◌, List, [], ◌∷◌, ◌++◌}
 use Rattle.std.proofs.Common.{length, get_or, replicate, Option, None, Some, refl, ap, sym, ◌∙◌, inl, inr, append_assoc}
-use Rattle.std.proofs.Common.{◌<◌, ◌≤◌, arith, ◌%◌, eqb, length-append, map, is_some}
+use Rattle.std.proofs.Common.{◌<◌, ◌≤◌, arith, ◌%◌, eqb, length-append, map, is_some, ◌/◌, ◌*◌, drop, length-drop}
+use Rattle.std.proofs.lemmas.List.{length-map, drop-map, append-nil, get_or_at, take_at, length_push, length-replicate}
 use Rattle.std.specs.List.{filter, find, list_any, range_with_len, list_all}
-use Rattle.std.proofs.lemmas.List.{append-nil, get_or_at, take_at, length_push, length-replicate}
 use Rattle.std.proofs.lemmas.List.Folds.{list_any-append}
 use Rattle.std.proofs.lemmas.Bool.{cases_Bool, false≢true, eqb-true, eq-eqb, ne_eqb, eqb-false, not-true}
 use Rattle.std.proofs.lemmas.Bool.{not_from_false, and_from, false_from_ne_true, agree_below_at, and_parts}
@@ -37,17 +37,12 @@ pub record Class (space pad symbol : Bool) : Type 0 where
   pub of_space : space ≡ true → (pad ≡ false) × (symbol ≡ false)
   pub of_pad : pad ≡ true → symbol ≡ false
 
--- a byte of whitespace is below 33
-whitespace_low : (c : ℕ) → is_ascii_whitespace c ≡ true → c < 33
-whitespace_low c e = grind arith
-
 -- each byte is in at most one of the classes whitespace, '=' and symbol
 pub classes : (c : ℕ) → Class (is_ascii_whitespace c) (is_pad c) (is_symbol c)
 classes c = record {
-  of_space = λ e. (
-    agree_below_at is_pad (λ _. false) 33 c refl (whitespace_low c e),
-    agree_below_at is_symbol (λ _. false) 33 c refl (whitespace_low c e),
-  );
+  of_space = λ e.
+      let l : c < 33 = grind arith in
+      (agree_below_at is_pad (λ _. false) 33 c refl l, agree_below_at is_symbol (λ _. false) 33 c refl l);
   of_pad = λ e. ap is_symbol (eqb-true c 61 e);
 }
 
@@ -119,9 +114,8 @@ before-append_some (c ∷ t) b s x h = elim (cases_Bool (is_bad s c)) [
 
 -- if there is no fault, `before_fault` is the whole text
 pub before_none : (a : List ℕ) (s : Bool) → fault_byte s a ≡ None → before_fault s a ≡ a
-unfolding fault_byte before_fault
-before_none [] s h = refl
-before_none (c ∷ t) s h = let k = passed (is_bad s c) c _ h in cc (k.0, before_none t (s || is_pad c) k.1)
+unfolding before_fault
+before_none a s h = ap (before_fault s) (sym (append-nil a)) ∙ before-append a [] s h ∙ append-nil a
 
 -- White space, symbols and padding
 
@@ -363,7 +357,7 @@ list_all_text (a ∷ t) p h = grind (arith, list_all_text t p h.1)
 -- whether k symbols and p times '=', of which up to two are removed if k + p is a multiple of four, pass the last steps
 abbrev passes : ℕ → ℕ → Bool
 passes k p = cond (eqb ((k + p) % 4) 0)
-    (not (eqb ((k + (one_less (one_less p))) % 4) 1) && eqb (one_less (one_less p)) 0)
+    (not (eqb ((k + one_less (one_less p)) % 4) 1) && eqb (one_less (one_less p)) 0)
     (not (eqb ((k + p) % 4) 1) && eqb p 0)
 
 -- they pass exactly if p times '=' fit k symbols
@@ -453,10 +447,6 @@ fault_invalid b x h = false_from_ne_true (is_valid b) (λ v. absurd (some_not_no
 
 -- Groups of four
 
--- a number plus four is equal to the number modulo four
-four_more : (n : ℕ) → n % 4 ≡ suc (suc (suc (suc n))) % 4
-four_more n = omega arith
-
 -- the bytes of x ++ y are those of the groups of x, and then those of what is left over of x followed by y
 pub groups-append : (x y : List ℕ) → groups (x ++ y) ≡ groups x ++ groups (after_groups x ++ y)
 unfolding groups after_groups
@@ -475,23 +465,24 @@ after_groups-append (p ∷ q ∷ []) y = refl
 after_groups-append (p ∷ q ∷ r ∷ []) y = refl
 after_groups-append (p ∷ q ∷ r ∷ s ∷ rest) y = after_groups-append rest y
 
+-- the values left over are those from the largest multiple of four on
+pub after_is : (x : List ℕ) → after_groups x ≡ drop (length x / 4 * 4) x
+unfolding after_groups
+after_is [] = refl
+after_is (p ∷ []) = refl
+after_is (p ∷ q ∷ []) = refl
+after_is (p ∷ q ∷ r ∷ []) = refl
+after_is (p ∷ q ∷ r ∷ s ∷ rest) =
+    let e : suc (suc (suc (suc (length rest)))) / 4 * 4 ≡ suc (suc (suc (suc (length rest / 4 * 4)))) = omega arith in
+    after_is rest ∙ sym (ap (λ n. drop n (p ∷ q ∷ r ∷ s ∷ rest)) e)
+
 -- what is left over of a mapped list is what is left over of the list, mapped
 pub after_groups-map : (f : ℕ → ℕ) (x : List ℕ) → after_groups (map f x) ≡ map f (after_groups x)
-unfolding after_groups
-after_groups-map f [] = refl
-after_groups-map f (p ∷ []) = refl
-after_groups-map f (p ∷ q ∷ []) = refl
-after_groups-map f (p ∷ q ∷ r ∷ []) = refl
-after_groups-map f (p ∷ q ∷ r ∷ s ∷ rest) = after_groups-map f rest
+after_groups-map f x = cc (after_is x, after_is (map f x), length-map x f, drop-map f (length x / 4 * 4) x)
 
 -- the number of values that are left over is the length modulo four
 pub length-after_groups : (x : List ℕ) → length (after_groups x) ≡ length x % 4
-unfolding after_groups
-length-after_groups [] = refl
-length-after_groups (p ∷ []) = refl
-length-after_groups (p ∷ q ∷ []) = refl
-length-after_groups (p ∷ q ∷ r ∷ []) = refl
-length-after_groups (p ∷ q ∷ r ∷ s ∷ rest) = length-after_groups rest ∙ four_more (length rest)
+length-after_groups x = omega (arith, ap length (after_is x), length-drop (length x / 4 * 4) x)
 
 -- if all bytes are symbols, so are those left over after the groups
 pub every_after : (x : List ℕ) → Every is_symbol x → Every is_symbol (after_groups x)

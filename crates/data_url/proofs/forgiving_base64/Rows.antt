@@ -9,7 +9,7 @@ use Rattle.std.specs.List.{copy_within, filter, list_all, range_with_len}
 use Rattle.std.proofs.lemmas.Bool.{agree_below_at, and_parts, eqb-true, true≢false}
 use Rattle.std.proofs.lemmas.List.{append-nil, get_or-drop, get_or-take, length-map}
 use Rattle.std.proofs.lemmas.List.{map-append, map-id, take-append-drop, take-map, take-take, take_all}
-use Rattle.std.proofs.lemmas.List.{nil_from_length, take_rest}
+use Rattle.std.proofs.lemmas.List.{take_rest}
 use Rattle.std.proofs.lemmas.List.Edits.{take-paste}
 use Rattle.std.proofs.lemmas.List.Elements.{filter-append}
 use Rattle.std.proofs.lemmas.List.Folds.{list_all-append}
@@ -23,10 +23,9 @@ use Rattle.data_url.specs.declared.forgiving_base64.places.TheConstants.{CLEAR_P
 use Rattle.data_url.specs.declared.forgiving_base64.symbols.TheConstants.{SPACES}
 use Rattle.data_url.proofs.forgiving_base64.Vectors.{groups_whole, is_other, map_agree, mask_l-append}
 use Rattle.data_url.proofs.forgiving_base64.Vectors.{each_map, looked_at, looked_up, others_mask}
-use Rattle.data_url.proofs.forgiving_base64.Steps.{after_few, groups_few, three_items}
+use Rattle.data_url.proofs.forgiving_base64.Steps.{groups_few, three_items}
 use Rattle.data_url.proofs.forgiving_base64.Groups.{all_before, symbols_alone, symbols_values, take_groups}
-use Rattle.data_url.proofs.forgiving_base64.Padding.{after_groups-append, length-after_groups, filter_every}
-use Rattle.data_url.proofs.forgiving_base64.Padding.{every_list_all, filter_all, list_all_every}
+use Rattle.data_url.proofs.forgiving_base64.Padding.{after_is, filter_every, every_list_all, filter_all, list_all_every}
 use Rattle.data_url.proofs.escapes.Marks.{drop_taken}
 
 -- Clear bits
@@ -187,10 +186,7 @@ spaces_are v js long fits e =
 
 -- if the masks of not s and then m, and of w and then n, are equal, s or w is true, and m is n
 first_bits : (s w : Bool) (m n : ℕ) → cond (not s) 1 0 + 2 * m ≡ cond w 1 0 + 2 * n → ((s || w) ≡ true) × (m ≡ n)
-first_bits true true m n e = (refl, omega (arith, e))
-first_bits true false m n e = (refl, omega (arith, e))
-first_bits false true m n e = (refl, omega (arith, e))
-first_bits false false m n e = absurd (omega (arith, e))
+first_bits s w m n e = grind arith
 
 -- if the mask of the bytes that are no symbols is that of the whitespace, all bytes are symbols or whitespace
 pub only_spaces : (v : List ℕ) → others_mask v ≡ mask_l (map is_ascii_whitespace v)
@@ -240,20 +236,6 @@ gains_same {q} {r} e g = grind (arith)
 pub gains_more : {q r s : List ℕ} (text : List ℕ) (n : ℕ) → GainsSymbols q (take n text) r
     → GainsSymbols r (take 16 (take (length text - n) (drop n text))) s → GainsSymbols q (take (n + 16) text) s
 gains_more {q} {r} {s} text n g h = gains_same (cc (take-add n 16 text, take_rest text n)) (gains_both g h)
-
--- the values left over are those from the largest multiple of four on
-pub after_is : (q : List ℕ) → after_groups q ≡ drop (length q / 4 * 4) q
-after_is q =
-    let at = length q / 4 * 4 in
-    let within : at ≤ length q = omega arith in
-    let none : after_groups (take at q) ≡ [] =
-    nil_from_length (after_groups (take at q))
-    (omega (arith, length-after_groups (take at q), length-take-le at q within)) in
-    cc (
-      take-append-drop at q,
-      after_groups-append (take at q) (drop at q),
-      after_few (drop at q) (omega (arith, length-drop at q)),
-    )
 
 -- the first `len % 4` of the three items after the complete groups are those that are left over
 pub three_last : (s : List ℕ) (len : ℕ) → length s ≡ 208 → len < 128

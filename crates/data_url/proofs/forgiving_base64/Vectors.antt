@@ -25,14 +25,10 @@ use Rattle.data_url.proofs.forgiving_base64.Padding.{groups-append, length-after
 
 -- The table of symbols is the alphabet.
 
--- the entry that the table should have
-abbrev pub entry_of : ℕ → ℕ
-entry_of b = cond (is_symbol b) (symbol_value b) NO_SYMBOL
-
 -- the entry of a symbol is its value
 pub entry_symbol : (b : ℕ) → b < 256 → is_symbol b ≡ true → get_or VALUES b 0 ≡ symbol_value b
-entry_symbol b l h = eqb-true (get_or VALUES b 0) (entry_of b) (agree_below_at
-    (λ b. eqb (get_or VALUES b 0) (entry_of b)) (λ b. true) 256 b refl l)
+entry_symbol b l h = eqb-true (get_or VALUES b 0) (cond (is_symbol b) (symbol_value b) NO_SYMBOL) (agree_below_at
+    (λ b. eqb (get_or VALUES b 0) (cond (is_symbol b) (symbol_value b) NO_SYMBOL)) (λ b. true) 256 b refl l)
     ∙ cond-true (is_symbol b) (symbol_value b) NO_SYMBOL h
 
 -- an entry is below the mark exactly at a symbol
@@ -45,7 +41,7 @@ entry_lt b l h = ltb-true (get_or VALUES b 0) 64 (symbol_is b l ∙ h)
 
 -- the standard library's class of white space is that of forgiving base64
 pub space_is : (b : ℕ) → b < 256 → std_whitespace b ≡ is_ascii_whitespace b
-space_is b l = agree_below_at std_whitespace is_ascii_whitespace 256 b refl l
+space_is b l = refl
 
 -- What a row of lanes computes, byte by byte.
 
@@ -173,15 +169,12 @@ group_same : {x y z : ℕ} (n : ℕ) {r s : List ℕ} → n < 16777216 → x ≡
     → z ≡ n / 256 ^ 0 % 256 → r ≡ s → x ∷ y ∷ z ∷ r ≡ group_bytes n ++ s
 group_same {x} {y} {z} n {r} {s} l p q o e = grind arith
 
--- the number of a group of four values below 64 is below 2 ^ 24
-number_lt : (a b c d : ℕ) → a < 64 → b < 64 → c < 64 → d < 64 → group_number a b c d < 16777216
-number_lt a b c d p q r s = omega arith
-
 -- the bytes packed from the numbers of a row of values below 64, written out, are those of its groups
 packed_row : (f : ℕ → ℕ) → ((k : ℕ) → f k < 64) → packed (numbers (row f)) ≡ groups (row f)
 unfolding groups
 packed_row f h =
-    let l = λ (k : ℕ). number_lt (f k) (f (k + 1)) (f (k + 2)) (f (k + 3)) (h k) (h (k + 1)) (h (k + 2)) (h (k + 3)) in
+    let l : (k : ℕ) → group_number (f k) (f (k + 1)) (f (k + 2)) (f (k + 3)) < 16777216 = λ k.
+    omega (arith, h k, h (k + 1), h (k + 2), h (k + 3)) in
     let fit : Each1 (λ x. x < 4294967296) (numbers (row f)) =
     (omega (arith, l 0), (omega (arith, l 4), (omega (arith, l 8), (omega (arith, l 12), tt)))) in
     let e = λ (j i : ℕ) (a : i < 4) (b : 4 * j + i < 16). get_or_narrower 4294967296 4 256 16 (numbers (row f)) j i refl
@@ -375,11 +368,6 @@ shuffled a b c d =
     (pick_l 0 (a ++ b) (0 ∷ 1 ∷ 2 ∷ 3 ∷ 4 ∷ 5 ∷ 6 ∷ 7 ∷ 8 ∷ 9 ∷ 10 ∷ 11 ∷ 16 ∷ 17 ∷ 18 ∷ 19 ∷ [])
     ++ pick_l 0 (b ++ c) (4 ∷ 5 ∷ 6 ∷ 7 ∷ 8 ∷ 9 ∷ 10 ∷ 11 ∷ 16 ∷ 17 ∷ 18 ∷ 19 ∷ 20 ∷ 21 ∷ 22 ∷ 23 ∷ []))
     ++ pick_l 0 (c ++ d) (8 ∷ 9 ∷ 10 ∷ 11 ∷ 16 ∷ 17 ∷ 18 ∷ 19 ∷ 20 ∷ 21 ∷ 22 ∷ 23 ∷ 24 ∷ 25 ∷ 26 ∷ 27 ∷ [])
-
--- three shuffles of four rows that are written out join the first 12 bytes of each row
-shuffled_rows : (f g h k : ℕ → ℕ) → shuffled (row f) (row g) (row h) (row k) ≡ take 12
-    (row f) ++ (take 12 (row g) ++ (take 12 (row h) ++ take 12 (row k)))
-shuffled_rows f g h k = refl
 
 -- three shuffles of four rows of 16 bytes join the first 12 bytes of each row
 shuffled_is : (a b c d : List ℕ) → length a ≡ 16 → length b ≡ 16 → length c ≡ 16 → length d ≡ 16

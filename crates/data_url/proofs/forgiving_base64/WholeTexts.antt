@@ -3,7 +3,7 @@ use Rattle.std.proofs.Common.{◌≡◌, ◌⊎◌, ℕ, Bool, true, false, cond
 use Rattle.std.proofs.Common.{Err, refl, ap, sym, ◌∙◌, subst, inl, inr, arith, append_assoc, length-append}
 use Rattle.std.specs.Prelude.{MatchBool, MatchOption}
 use Rattle.std.proofs.lemmas.List.{append-nil}
-use Rattle.std.proofs.lemmas.Bool.{cond-true}
+use Rattle.std.proofs.lemmas.Bool.{cases_Bool}
 use Rattle.data_url.specs.Base64.{decoded, complete_bytes, is_valid, kind_of, left_padding, left_symbols, left_text}
 use Rattle.data_url.specs.Steps.Whole.{DecodesText}
 use Rattle.data_url.specs.Decoder.{Feeds, Finishes, IsTaken, State, left_over, start}
@@ -17,7 +17,7 @@ use Rattle.data_url.specs.declared.forgiving_base64.DecodeError.TheVariants.{Inv
 use Rattle.data_url.proofs.forgiving_base64.Steps.{bool_at_false, bool_at_true, feeds_none, feeds_goes_on, feeds_took}
 use Rattle.data_url.proofs.forgiving_base64.Groups.{two_feeds}
 use Rattle.data_url.proofs.runs.Runs.{joined_pieces-append, later_none, match_at, match_map, match_none, prefix_all}
-use Rattle.data_url.proofs.runs.Runs.{prefix_after, prefix_trans, refusal-append, run-append}
+use Rattle.data_url.proofs.runs.Runs.{prefix_trans, refusal-append, run-append}
 use Rattle.data_url.proofs.forgiving_base64.Padding.{fault_byte, fault_invalid, none_fault, valid_no_fault}
 use Rattle.data_url.proofs.forgiving_base64.Padding.{some_not_none}
 
@@ -32,13 +32,12 @@ whole_bytes u = cond (is_valid u) (decoded u) (complete_bytes u)
 
 -- the complete bytes of a text are a prefix of all its bytes
 pub done_whole : (u : List ℕ) → IsPrefix (complete_bytes u) (whole_bytes u)
-done_whole u =
-    elim (is_valid u) as (λ v. is_valid u ≡ v → IsPrefix (complete_bytes u) (cond v (decoded u) (complete_bytes u))) [
-      | true ↦ λ e.
-          let g = two_feeds u [] (none_fault u (valid_no_fault u e)) in
-          (decoded (left_text (left_symbols u) (left_padding u) ++ []), ap decoded (sym (append-nil u)) ∙ g.decoded_is)
-      | false ↦ λ e. prefix_all (complete_bytes u) (complete_bytes u) refl
-    ] refl
+done_whole u = elim (cases_Bool (is_valid u)) [
+  | inl e ↦
+      let g = two_feeds u [] (none_fault u (valid_no_fault u e)) in
+      (decoded (left_text (left_symbols u) (left_padding u) ++ []), cc (e, append-nil u, g.decoded_is))
+  | inr e ↦ prefix_all (complete_bytes u) (whole_bytes u) (cc e)
+]
 
 -- a text that has a fault while it is fed is not valid
 taken_invalid : {F E : Type 0} (u bytes : List ℕ) (r : Result (Unit {0}) (DecodeError E)) (x : DecodeError E)
@@ -49,13 +48,6 @@ taken_invalid u bytes r x d None q h t = grind (arith, none_fault)
 taken_invalid u bytes r x d (Some c) q h t = grind (arith, fault_invalid)
 
 module _ {F E : Type 0} (step : F → List ℕ → Result (Unit {0}) E → F → Type 0) where
-  -- what the closure is called with for a whole text
-  abbrev Whole : List ℕ → Option E → List ℕ → Result (Unit {0}) (DecodeError E) → Type 0
-  Whole u o bytes r =
-      MatchOption o (MatchBool (is_valid u) ((bytes ≡ decoded u) × (r ≡ Ok tt)) ((bytes ≡ complete_bytes u)
-      × (r ≡ Err (InvalidBase64 (kind_of u)))))
-      (λ e. IsRefused (whole_bytes u) bytes e r)
-
   -- an error while the text is fed
   refused_fed : {d d' : State F} {u : List ℕ} {x : DecodeError E} → Feeds step d u (Err x) d' → left_over d ++ u ≡ u
       → DecodesText step d.closure u (Err x) d'.closure
@@ -101,15 +93,16 @@ module _ {F E : Type 0} (step : F → List ℕ → Result (Unit {0}) E → F →
                   match_map (refusal g.run) _ _ _ _
                   (λ w. bool_at_true (is_valid u) _ _ good (bytes ∙ ap (λ x. complete_bytes u ++ x) w.0 ∙ sym all, w.1))
                   (λ e w. record {
-                    bytes_begin =
-                        prefix_trans (joined_pieces (f.run ++ g.run)) (complete_bytes u ++ joined_pieces g.run)
-                        (whole_bytes u) (prefix_all (joined_pieces (f.run ++ g.run))
-                        (complete_bytes u ++ joined_pieces g.run) bytes)
-                        (prefix_trans (complete_bytes u ++ joined_pieces g.run)
-                        (complete_bytes u ++ decoded (left_over d')) (whole_bytes u)
-                        (prefix_after (complete_bytes u) (joined_pieces g.run) (decoded (left_over d')) w.bytes_begin)
-                        (prefix_all (complete_bytes u ++ decoded (left_over d')) (whole_bytes u)
-                        (sym (cond-true (is_valid u) (decoded u) (complete_bytes u) good ∙ all))));
+                    bytes_begin = (
+                      w.bytes_begin.0,
+                      cc (
+                        good,
+                        all,
+                        bytes,
+                        w.bytes_begin.1,
+                        append_assoc (complete_bytes u) (joined_pieces g.run) w.bytes_begin.0,
+                      ),
+                    );
                     answer = w.answer;
                   })
                   h
