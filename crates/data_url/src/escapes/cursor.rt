@@ -122,18 +122,15 @@ impl<'a> Cursor<'a> {
         place
     }
 
-    /// What begins at a marked byte, or that the text ends.
+    /// What begins at a marked byte.
     #[inline(always)]
     fn stop_at(&mut self, mark: usize) -> Stop
-        requires marked { mark < length (text_of self.old)
-            → is_marked (slice_index (text_of self.old) mark) ≡ true }
+        requires within { mark < length (text_of self.old) }
+        requires marked { is_marked (slice_index (text_of self.old) mark) ≡ true }
         requires looking { Looking self.old mark 0 }
         ensures stop { IsStop self.new mark result }
         ensures keeps { KeepsBlock self.old self.new }
     {
-        if mark >= self.source.len() {
-            return Stop::End;
-        }
         let byte = self.source.look(mark);
         if byte == b'%' {
             return match self.source.escaped_byte(mark + 1) {
@@ -145,6 +142,22 @@ impl<'a> Cursor<'a> {
             Stop::End
         } else {
             Stop::Passed
+        }
+    }
+
+    /// What begins at a marked byte, or that the text ends.
+    #[inline(always)]
+    fn stop_from(&mut self, mark: usize) -> Stop
+        requires marked { mark < length (text_of self.old)
+            → is_marked (slice_index (text_of self.old) mark) ≡ true }
+        requires looking { Looking self.old mark 0 }
+        ensures stop { IsStop self.new mark result }
+        ensures keeps { KeepsBlock self.old self.new }
+    {
+        if mark < self.source.len() {
+            self.stop_at(mark)
+        } else {
+            Stop::End
         }
     }
 
@@ -208,7 +221,7 @@ impl<'a> Cursor<'a> {
         let mut from = self.place;
         loop {
             let mark = self.next_mark(from);
-            match self.stop_at(mark) {
+            match self.stop_from(mark) {
                 Stop::Stays => from = mark + 1,
                 Stop::Passed if mark == self.place => {
                     self.place = mark + 1;
