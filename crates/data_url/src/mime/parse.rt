@@ -62,7 +62,10 @@ pub(crate) fn read_head(text: &str) -> Option<Head<'_>>
     let (type_, rest) = split_tokens(without_trailing_whitespace(without_leading_whitespace(text)));
     let (subtype, rest) = split_tokens(rest.strip_prefix('/')?);
     let parameters = without_leading_whitespace(rest);
-    if type_.is_empty() || subtype.is_empty() || !begins_parameters(parameters) {
+    if type_.is_empty() || subtype.is_empty() {
+        return None;
+    }
+    if !parameters.is_empty() && !parameters.starts_with(';') {
         return None;
     }
     Some(Head {
@@ -83,14 +86,6 @@ pub(crate) fn plain_head(parameters: &str) -> Head<'_>
         subtype: "plain",
         parameters: without_trailing_whitespace(parameters),
     }
-}
-
-/// Whether a text is empty or begins with `;`.
-fn begins_parameters(text: &str) -> bool
-    ensures { MatchBool result (BeginsParameters (chars text.now))
-        (¬ (BeginsParameters (chars text.now))) }
-{
-    text.is_empty() || text.starts_with(';')
 }
 
 /// Returns the parameter that a text begins with, after its `;`.
