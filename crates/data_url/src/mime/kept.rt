@@ -4,8 +4,8 @@ ghost use Rattle.std.specs.Prelude.{false, Decides, ◌≡◌, ◌<◌, ◌-◌,
 ghost use Rattle.std.specs.Char.{to_ascii_lowercase};
 ghost use Rattle.std.specs.Str.{chars};
 ghost use Rattle.data_url.specs.Mime.{has_name, is_lowercase_name, is_token_text};
-ghost use Rattle.data_url.specs.MimeType.{code_points, pair_of};
-ghost use Rattle.data_url.specs.Steps.Parsing.{HasLowercaseNames, unless_named};
+ghost use Rattle.data_url.specs.MimeType.{code_points};
+ghost use Rattle.data_url.specs.Steps.Parsing.{unless_named};
 ghost use Rattle.data_url.specs.Steps.Kept.{IsIndexed, first_of, pairs_of};
 
 use std::alloc::AllocError;
@@ -31,7 +31,13 @@ impl KeptParameters {
             (first_of (pairs_of self.now)) }
     {
         let first = &self.pairs[..LOOKED_THROUGH.min(self.pairs.len())];
-        any_named(first, name)
+        let last = name.as_bytes()[name.len() - 1].to_ascii_lowercase();
+        for (key, _) in first {
+            if is_named(key.as_str(), name, last) {
+                return true;
+            }
+        }
+        false
     }
 
     /// Adds a pair whose name none of the first ones has, unless a later one has it.
@@ -65,20 +71,4 @@ fn is_named(key: &str, name: &str, last: u8) -> bool
         return false;
     }
     key.eq_ignore_ascii_case(name)
-}
-
-/// Whether one of the pairs has the name, in any ASCII case.
-fn any_named(pairs: &[(String, String)], name: &str) -> bool
-    requires pairs { HasLowercaseNames (map (λ p. pair_of p) pairs.now) }
-    requires token { IsTrue (is_token_text (chars name.now)) }
-    ensures { result ≡ has_name (map to_ascii_lowercase (chars name.now))
-        (map (λ p. pair_of p) pairs.now) }
-{
-    let last = name.as_bytes()[name.len() - 1].to_ascii_lowercase();
-    for (key, _) in pairs {
-        if is_named(key.as_str(), name, last) {
-            return true;
-        }
-    }
-    false
 }
