@@ -1,9 +1,8 @@
 //! Classes of bytes, which are looked up in one table.
 
-ghost use Rattle.std.specs.Prelude.{◌≡◌, ◌==◌, ◌<◌, ◌≤◌, bit_and, false, length, not, slice_index, true, ℕ};
+ghost use Rattle.std.specs.Prelude.{◌≡◌, ◌<◌, ◌≤◌, false, length, true, ℕ};
 ghost use Rattle.std.specs.List.{prefix_len};
 ghost use Rattle.data_url.specs.Steps.Classes.{in_class, is_marked};
-ghost use Rattle.data_url.specs.declared.classes.TheConstants.{CLASSES};
 
 pub(crate) mod lanes;
 
@@ -49,28 +48,20 @@ const CLASSES: [u8; 256] = [
     32, 32, 32, 32, 32, 32, 32, 32, 32, 32, 32, 32, 32, 32, 32, 32,
 ];
 
-/// The bit of a class in the table.
-#[inline(always)]
-fn bit(class: Class) -> u8
-    ensures { (b : ℕ) → b < 256
-        → not (bit_and (slice_index CLASSES b) result == 0) ≡ in_class class b }
-{
-    match class {
-        Class::Token => 1,
-        Class::Quotable => 2,
-        Class::Unquoted => 4,
-        Class::PlainPath => 8,
-        Class::Whitespace => 16,
-        Class::Unescaped => 32,
-    }
-}
-
 /// Whether a byte is in a class.
 #[inline(always)]
 pub(crate) fn has(class: Class, byte: u8) -> bool
     ensures { result ≡ in_class class byte }
 {
-    CLASSES[byte as usize] & bit(class) != 0
+    let bits = CLASSES[byte as usize];
+    match class {
+        Class::Token => bits & 1 != 0,
+        Class::Quotable => bits & 2 != 0,
+        Class::Unquoted => bits & 4 != 0,
+        Class::PlainPath => bits & 8 != 0,
+        Class::Whitespace => bits & 16 != 0,
+        Class::Unescaped => bits & 32 != 0,
+    }
 }
 
 /// Has, for each low half of a byte, the bits of the columns in which such a byte may be outside a class. A class whose

@@ -24,13 +24,6 @@ fn path_len(header: &[u8]) -> usize
     header.iter().take_while(|byte| **byte != b'?').count()
 }
 
-/// Splits a header into its path and its query. The query begins with `?`, or is empty.
-fn split_query(header: &[u8]) -> (&[u8], &[u8])
-    ensures { IsPathAndQuery header.now result.0.now result.1.now }
-{
-    header.split_at(path_len(header))
-}
-
 /// How many bytes at the end are tabs and newlines.
 fn dropped_end_len(path: &[u8]) -> usize
     ensures { result ≡ suffix_len is_tab_or_newline path.now }
@@ -68,7 +61,7 @@ fn serialised(alloc: Global, header: &[u8]) -> Result<String, AllocError>
         ≡ header_text (without_tabs_and_newlines header.now)) }
 {
     let mut text = String::with_capacity(alloc, header.len())?;
-    let (path, query) = split_query(header);
+    let (path, query) = header.split_at(path_len(header));
     let (path, space) = split_last_space(path, query);
     push_encoded(&mut text, EncodeSet::Path, path)?;
     text.push_str(space)?;

@@ -224,9 +224,9 @@ pub quotable_chars : (bs : List ℕ) → IsUtf8 bs → list_all is_quotable_byte
 quotable_chars bs u = ap (list_all is_quotable_byte) (sym (encodes-chars bs u)) ∙ quotable_bytes (chars bs)
 
 -- the longest prefix of quotable bytes is the whole of a UTF-8 text exactly if each of its code points is quotable
-pub quotable_by_front : (bs text : List ℕ) (n : ℕ) → IsUtf8 text → n ≡ prefix_len is_quotable_byte bs → bs ≡ text
+pub quotable_by_front : (bs text : List ℕ) (n : ℕ) → IsUtf8 bs → n ≡ prefix_len is_quotable_byte bs → bs ≡ text
     → (n == length text) ≡ list_all is_quotable (chars text)
-quotable_by_front bs text n u e b = cc (whole_front is_quotable_byte text, quotable_chars text u)
+quotable_by_front bs text n u e b = cc (whole_front is_quotable_byte bs, quotable_chars bs u)
 
 -- The value of a quoted string, written code point by code point
 

@@ -105,10 +105,9 @@ pub nonempty_chars : (x : List ℕ) → IsUtf8 x → (length x == 0) ≡ false �
 nonempty_chars x u h e =
     both_ways (length x == 0) h (ap (λ t. length t == 0) (sym (encodes-chars x u) ∙ ap encode_utf8_all e))
 
--- if the test for no bytes is true, the code points of the text are empty or begin with ';', as b says
-pub empty_begins : (x : List ℕ) (b : Bool) → b ≡ (length x == 0) → b ≡ true
-    → MatchBool b (BeginsParameters (chars x)) (¬ (BeginsParameters (chars x)))
-empty_begins x b e h = rw h (subst BeginsParameters (sym (empty_chars x (sym e ∙ h))) tt)
+-- a text of no bytes has no code points, so it is empty or begins with ';'
+pub empty_begins : (x : List ℕ) → (length x == 0) ≡ true → BeginsParameters (chars x)
+empty_begins x h = subst BeginsParameters (sym (empty_chars x h)) tt
 
 -- if a UTF-8 text is not empty, and its bytes do not begin with ';', its code points do not either
 begins_semicolon : (x cs : List ℕ) → IsUtf8 x → (cs ≡ [] → ⊥) → ((rest : List ℕ) → x ≡ encode_utf8 59 ++ rest → ⊥)

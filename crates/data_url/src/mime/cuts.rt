@@ -1,10 +1,9 @@
-//! Texts cut at a code point, and texts without HTTP whitespace at an end.
+//! Where texts are cut, and texts without HTTP whitespace at an end.
 
-ghost use Rattle.std.specs.Prelude.{◌≡◌, ◌≤◌, ◌++◌, length, not};
+ghost use Rattle.std.specs.Prelude.{◌≡◌, ◌≤◌, length, not};
 ghost use Rattle.std.specs.List.{prefix_len, suffix_len};
-ghost use Rattle.std.specs.Str.{IsUtf8, chars};
+ghost use Rattle.std.specs.Str.{chars};
 ghost use Rattle.data_url.specs.CodePoints.{ends_name, is_http_whitespace, is_semicolon};
-ghost use Rattle.data_url.specs.Mime.{BeginsParameters, DoesNotBegin, Without};
 ghost use Rattle.data_url.specs.Steps.Parsing.{IsTrimmedEnd, IsTrimmedFront};
 
 use crate::classes::{Class, has, span};
@@ -37,7 +36,7 @@ pub(super) fn without_trailing_whitespace(text: &str) -> &str
 }
 
 /// Returns how many bytes come before the first `;` or `=`.
-fn name_len(bytes: &[u8]) -> usize
+pub(super) fn name_len(bytes: &[u8]) -> usize
     ensures { result ≡ prefix_len (λ b. not (ends_name b)) bytes.now }
 {
     bytes
@@ -52,24 +51,4 @@ pub(super) fn parameter_len(bytes: &[u8]) -> usize
     ensures within { result ≤ length bytes.now }
 {
     bytes.iter().take_while(|byte| **byte != b';').count()
-}
-
-/// Splits a text before its first `;` or `=`.
-pub(super) fn split_name(text: &str) -> (&str, &str)
-    ensures joined { chars text.now ≡ chars result.0.now ++ chars result.1.now }
-    ensures front { Without ends_name (chars result.0.now) }
-    ensures after { DoesNotBegin (λ c. not (ends_name c)) (chars result.1.now) }
-    ensures text { IsUtf8 result.0.now × IsUtf8 result.1.now }
-{
-    text.split_at(name_len(text.as_bytes()))
-}
-
-/// Splits a text before its first `;`.
-pub(super) fn split_semicolon(text: &str) -> (&str, &str)
-    ensures joined { chars text.now ≡ chars result.0.now ++ chars result.1.now }
-    ensures front { Without is_semicolon (chars result.0.now) }
-    ensures after { BeginsParameters (chars result.1.now) }
-    ensures text { IsUtf8 result.0.now × IsUtf8 result.1.now }
-{
-    text.split_at(parameter_len(text.as_bytes()))
 }

@@ -1,14 +1,14 @@
 //! The parameters that are kept while a MIME type is read: of each name the first.
 
-ghost use Rattle.std.specs.Prelude.{false, Decides, ◌≡◌, ◌<◌, ◌-◌, ◌++◌, ◌∷◌, [], IfOk, IsTrue, OnOk, length, map, slice_index};
+ghost use Rattle.std.specs.Prelude.{false, Decides, ◌≡◌, ◌<◌, ◌-◌, ◌++◌, ◌∷◌, [], IsTrue, OnOk, length, map, slice_index};
 ghost use Rattle.std.specs.Char.{to_ascii_lowercase};
 ghost use Rattle.std.specs.Str.{chars};
 ghost use Rattle.data_url.specs.Mime.{has_name, is_lowercase_name, is_token_text};
-ghost use Rattle.data_url.specs.MimeType.{code_points, pair_of};
-ghost use Rattle.data_url.specs.Steps.Parsing.{HasLowercaseNames, unless_named};
+ghost use Rattle.data_url.specs.MimeType.{code_points};
+ghost use Rattle.data_url.specs.Steps.Parsing.{unless_named};
 ghost use Rattle.data_url.specs.Steps.Kept.{IsIndexed, first_of, pairs_of};
 
-use std::alloc::{AllocError, Global};
+use std::alloc::AllocError;
 use std::collections::BTreeSet;
 
 /// How many pairs are searched one by one. For this few, that is faster than a search in a set.
@@ -18,32 +18,11 @@ const LOOKED_THROUGH: usize = 128;
 /// among many.
 #[derive(Drop)]
 pub(super) struct KeptParameters {
-    pairs: Vec<(String, String)>,
-    later_names: BTreeSet<String>,
+    pub(super) pairs: Vec<(String, String)>,
+    pub(super) later_names: BTreeSet<String>,
 }
 
 impl KeptParameters {
-    /// Returns no pairs, with room for this many.
-    pub(super) fn with_capacity(
-        alloc: Global,
-        capacity: usize,
-    ) -> Result<KeptParameters, AllocError>
-        ensures none { IfOk result (λ kept. pairs_of kept ≡ []) }
-        ensures indexed { IfOk result (λ kept. IsIndexed kept) }
-    {
-        Ok(KeptParameters {
-            pairs: Vec::with_capacity(alloc, capacity)?,
-            later_names: BTreeSet::new(alloc),
-        })
-    }
-
-    /// The pairs alone.
-    pub(super) fn into_pairs(self) -> Vec<(String, String)>
-        ensures { map (λ p. pair_of p) result.items ≡ pairs_of self }
-    {
-        self.pairs
-    }
-
     /// Whether one of the first pairs has the name, in any ASCII case.
     pub(super) fn is_among_first(&self, name: &str) -> bool
         requires indexed { IsIndexed self.now }
@@ -52,7 +31,13 @@ impl KeptParameters {
             (first_of (pairs_of self.now)) }
     {
         let first = &self.pairs[..LOOKED_THROUGH.min(self.pairs.len())];
-        any_named(first, name)
+        let last = name.as_bytes()[name.len() - 1].to_ascii_lowercase();
+        for (key, _) in first {
+            if is_named(key.as_str(), name, last) {
+                return true;
+            }
+        }
+        false
     }
 
     /// Adds a pair whose name none of the first ones has, unless a later one has it.
@@ -86,20 +71,4 @@ fn is_named(key: &str, name: &str, last: u8) -> bool
         return false;
     }
     key.eq_ignore_ascii_case(name)
-}
-
-/// Whether one of the pairs has the name, in any ASCII case.
-fn any_named(pairs: &[(String, String)], name: &str) -> bool
-    requires pairs { HasLowercaseNames (map (λ p. pair_of p) pairs.now) }
-    requires token { IsTrue (is_token_text (chars name.now)) }
-    ensures { result ≡ has_name (map to_ascii_lowercase (chars name.now))
-        (map (λ p. pair_of p) pairs.now) }
-{
-    let last = name.as_bytes()[name.len() - 1].to_ascii_lowercase();
-    for (key, _) in pairs {
-        if is_named(key.as_str(), name, last) {
-            return true;
-        }
-    }
-    false
 }

@@ -10,14 +10,14 @@ ghost use Rattle.data_url.specs.MimeType.{pair_of, record_of};
 
 use super::Mime;
 use super::cuts::{
-    parameter_len, split_name, split_semicolon, without_leading_whitespace,
-    without_trailing_whitespace,
+    name_len, parameter_len, without_leading_whitespace, without_trailing_whitespace,
 };
 use super::kept::KeptParameters;
 use super::tokens::{is_token_text, split_tokens};
 use super::values::{Value, lowercased};
 use crate::classes::{Class, long_span};
 use std::alloc::{AllocError, Global};
+use std::collections::BTreeSet;
 
 /// The type, the subtype and the parameters of a text, as slices of it.
 #[derive(Clone, Copy)]
@@ -62,7 +62,10 @@ pub(crate) fn read_head(text: &str) -> Option<Head<'_>>
     let (type_, rest) = split_tokens(without_trailing_whitespace(without_leading_whitespace(text)));
     let (subtype, rest) = split_tokens(rest.strip_prefix('/')?);
     let parameters = without_leading_whitespace(rest);
-    if type_.is_empty() || subtype.is_empty() || !begins_parameters(parameters) {
+    if type_.is_empty() || subtype.is_empty() {
+        return None;
+    }
+    if !parameters.is_empty() && !parameters.starts_with(';') {
         return None;
     }
     Some(Head {
@@ -85,21 +88,14 @@ pub(crate) fn plain_head(parameters: &str) -> Head<'_>
     }
 }
 
-/// Whether a text is empty or begins with `;`.
-fn begins_parameters(text: &str) -> bool
-    ensures { MatchBool result (BeginsParameters (chars text.now))
-        (¬ (BeginsParameters (chars text.now))) }
-{
-    text.is_empty() || text.starts_with(';')
-}
-
 /// Returns the parameter that a text begins with, after its `;`.
 fn read_parameter(text: &str) -> Parameter<'_>
     ensures parameter { (item : Item) × IsItem result item
         × HasParameterBefore (chars text.now) item (chars result.rest.now) }
     ensures text { IsUtf8 result.rest.now }
 {
-    let (name, tail) = split_name(without_leading_whitespace(text));
+    let text = without_leading_whitespace(text);
+    let (name, tail) = text.split_at(name_len(text.as_bytes()));
     let Some(value) = tail.strip_prefix('=') else {
         return Parameter {
             name,
@@ -123,8 +119,8 @@ fn read_value(text: &str) -> (Value<'_>, &str)
     let Some((value, after)) = split_quote(quoted) else {
         return (Value::Quoted(quoted), "");
     };
-    let (_, rest) = split_semicolon(after);
-    (Value::Quoted(value), rest)
+    let len = parameter_len(after.as_bytes());
+    (Value::Quoted(value), &after[len..])
 }
 
 /// Returns the value after a `=` that does not begin with `"`, and the text after it.
@@ -178,14 +174,17 @@ pub(super) fn read_parameters(
         return Ok(Vec::new(alloc));
     }
     let capacity = ((text.len() / LEAST_LEN + 1) / 2).min(MOST);
-    let mut kept = KeptParameters::with_capacity(alloc, capacity)?;
+    let mut kept = KeptParameters {
+        pairs: Vec::with_capacity(alloc, capacity)?,
+        later_names: BTreeSet::new(alloc),
+    };
     let mut rest = text;
     while let Some(after) = rest.strip_prefix(';') {
         let parameter = read_parameter(after);
         rest = parameter.rest;
         keep(alloc, &mut kept, &parameter)?;
     }
-    Ok(kept.into_pairs())
+    Ok(kept.pairs)
 }
 
 /// Adds the pair of a parameter, if it is valid and its name is not there yet.

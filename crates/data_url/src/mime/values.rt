@@ -2,10 +2,8 @@
 
 ghost use Rattle.std.specs.Prelude.{◌≡◌, List, ℕ, IfOk, IsTrue, map};
 ghost use Rattle.std.specs.Char.{to_ascii_lowercase};
-ghost use Rattle.std.specs.List.{list_all};
 ghost use Rattle.std.specs.Option.{option_map};
 ghost use Rattle.std.specs.Str.{chars};
-ghost use Rattle.data_url.specs.CodePoints.{is_quotable};
 ghost use Rattle.data_url.specs.Mime.{QuotedOpen, is_token_text};
 ghost use Rattle.data_url.specs.Steps.Parsing.{IsValue, quotable_value};
 ghost use Rattle.data_url.specs.MimeType.{code_points};
@@ -28,25 +26,19 @@ impl<'a> Value<'a> {
     ghost use Rattle.std.specs.Prelude.{Option};
 
     /// The value as a text of its own, if it is there and has quoted-string code points alone. It takes memory for that
-    /// text.
+    /// text. `\` is a quoted-string code point, so a quoted string is tested before its escapes are removed.
     pub(super) fn text(&self, alloc: Global) -> Result<Option<String>, AllocError>
         ensures { IfOk result (λ text. (value : Option (List ℕ)) → IsValue self.now value
             → option_map (λ t. code_points t) text ≡ quotable_value value) }
     {
         match self {
             Value::Plain(text) => Ok(Some(String::from_str(alloc, text)?)),
-            Value::Quoted(text) if is_quotable(text) => Ok(Some(unescaped(alloc, text)?)),
+            Value::Quoted(text) if long_span(Class::Quotable, text.as_bytes()) == text.len() => {
+                Ok(Some(unescaped(alloc, text)?))
+            }
             _ => Ok(None),
         }
     }
-}
-
-/// Whether a text has only quoted-string code points. `\` is one too, so a quoted string can be tested before its
-/// escapes are removed.
-fn is_quotable(text: &str) -> bool
-    ensures { result ≡ list_all is_quotable (chars text.now) }
-{
-    long_span(Class::Quotable, text.as_bytes()) == text.len()
 }
 
 /// Returns the value of a quoted string: without the `\` before a code point.

@@ -36,4 +36,4 @@ returns c =
     let k = keeps_end (chars c.args.text.now) (chars c.loop-after.rest.now) _ c.loop-after.invariant.1
     (no_semicolon c.loop-after.rest.now c.loop-after.invariant.0 c.loop-after.invariant.1.begins
     c.in_default.ensures.cases) in
-    (k.0, k.1, c.into_pairs.ensures ∙ k.2)
+    (k.0, k.1, k.2)
