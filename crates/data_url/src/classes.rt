@@ -64,21 +64,6 @@ pub(crate) fn has(class: Class, byte: u8) -> bool
     }
 }
 
-/// Has, for each low half of a byte, the bits of the columns in which such a byte may be outside a class. A class whose
-/// runs are short in most texts has all bits.
-#[inline(always)]
-fn others(class: Class) -> [u8; 16]
-    ensures { (b : ℕ) → b < 256 → is_marked result b ≡ false → in_class class b ≡ true }
-{
-    match class {
-        Class::Quotable => [1, 1, 1, 1, 1, 1, 1, 1, 1, 1, 1, 1, 1, 1, 1, 65],
-        Class::Unquoted => [1, 1, 1, 1, 1, 1, 1, 1, 1, 1, 1, 5, 1, 1, 1, 65],
-        Class::PlainPath => [1, 1, 1, 3, 1, 1, 1, 1, 1, 1, 1, 1, 3, 1, 1, 69],
-        Class::Unescaped => [0, 0, 2, 0, 0, 0, 0, 0, 0, 0, 0, 0, 16, 0, 0, 0],
-        _ => [255; 16],
-    }
-}
-
 /// How many bytes at the front are in a class.
 #[inline(always)]
 pub(crate) fn span(class: Class, bytes: &[u8]) -> usize
@@ -95,6 +80,15 @@ pub(crate) fn long_span(class: Class, bytes: &[u8]) -> usize
     ensures front { result ≡ prefix_len (in_class class) bytes.now }
     ensures within { result ≤ length bytes.now }
 {
-    let rows = rows_len(others(class), bytes);
+    // For each low half of a byte, the bits of the columns in which such a byte may be outside the class. A class whose
+    // runs are short in most texts has all bits.
+    let others = match class {
+        Class::Quotable => [1, 1, 1, 1, 1, 1, 1, 1, 1, 1, 1, 1, 1, 1, 1, 65],
+        Class::Unquoted => [1, 1, 1, 1, 1, 1, 1, 1, 1, 1, 1, 5, 1, 1, 1, 65],
+        Class::PlainPath => [1, 1, 1, 3, 1, 1, 1, 1, 1, 1, 1, 1, 3, 1, 1, 69],
+        Class::Unescaped => [0, 0, 2, 0, 0, 0, 0, 0, 0, 0, 0, 0, 16, 0, 0, 0],
+        _ => [255; 16],
+    };
+    let rows = rows_len(others, bytes);
     rows + span(class, &bytes[rows..])
 }

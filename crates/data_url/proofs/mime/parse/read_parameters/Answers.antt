@@ -1,4 +1,4 @@
-use Rattle.std.proofs.Common.{◌<◌, ◌≤◌, length, arith, ap, ◌∙◌}
+use Rattle.std.proofs.Common.{◌<◌, ◌≤◌, length, arith, ap}
 use Rattle.std.specs.Str.{chars}
 use Rattle.data_url.proofs.mime.Parsing.{empty_by, no_semicolon, stripped_chars}
 use Rattle.data_url.proofs.mime.FirstNames.{keeps_end, keeps_more}
@@ -33,7 +33,6 @@ loop-after-preserved c =
 
 pub returns : goal.returns
 returns c =
-    let k = keeps_end (chars c.args.text.now) (chars c.loop-after.rest.now) _ c.loop-after.invariant.1
+    keeps_end (chars c.args.text.now) (chars c.loop-after.rest.now) _ c.loop-after.invariant.1
     (no_semicolon c.loop-after.rest.now c.loop-after.invariant.0 c.loop-after.invariant.1.begins
-    c.in_default.ensures.cases) in
-    (k.0, k.1, k.2)
+    c.in_default.ensures.cases)
