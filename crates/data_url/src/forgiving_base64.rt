@@ -12,7 +12,6 @@ mod blocks;
 mod decode;
 mod lanes;
 mod piece;
-mod places;
 mod symbols;
 mod whole;
 

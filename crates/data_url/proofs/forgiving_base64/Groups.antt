@@ -1,11 +1,11 @@
 -- Groups of four symbols, and texts that are fed in two parts.
-use Rattle.std.proofs.Common.{◌≡◌, ℕ, suc, ◌+◌, ◌-◌, ◌*◌, ◌%◌, ◌≤◌, true, ◌&&◌, ◌||◌, List, [], ◌∷◌, ◌++◌, map, length}
-use Rattle.std.proofs.Common.{get_or, take, drop, Fits, w8, refl, ap, ap₂, ◌∙◌, arith, length-take, length-take-le}
-use Rattle.std.proofs.Common.{take-add, false, min, None, append_assoc, length-append, ◌/◌}
+use Rattle.std.proofs.Common.{◌≡◌, ℕ, suc, ◌+◌, ◌*◌, ◌%◌, ◌≤◌, true, ◌&&◌, ◌||◌, List, [], ◌∷◌, ◌++◌, map, length}
+use Rattle.std.proofs.Common.{get_or, take, drop, Fits, w8, refl, ap, ap₂, sym, ◌∙◌, arith, length-take, length-take-le}
+use Rattle.std.proofs.Common.{false, min, None, append_assoc, length-append, ◌/◌}
 use Rattle.std.specs.List.{list_all, prefix_len, filter, list_any}
 use Rattle.std.proofs.lemmas.Bool.{and_parts}
 use Rattle.std.proofs.lemmas.List.{append-nil, get_or-take, get_or_past, length-map, take-append-drop, take-map}
-use Rattle.std.proofs.lemmas.List.{take-take, take_at, map-append, length-replicate}
+use Rattle.std.proofs.lemmas.List.{take-take, take_at, take_all, map-append, length-replicate}
 use Rattle.std.proofs.lemmas.List.Elements.{filter-append}
 use Rattle.std.proofs.lemmas.List.Folds.{list_all-append}
 use Rattle.std.proofs.lemmas.List.Sums.{list_all-from_AllPass, prefix_len-le-length, prefix_len_passes}
@@ -16,7 +16,7 @@ use Rattle.std.specs.Char.{is_ascii_whitespace}
 use Rattle.data_url.specs.Steps.Blocks.{Fills, is_symbol_or_space}
 use Rattle.data_url.specs.Steps.Lanes.{value_of}
 use Rattle.data_url.proofs.forgiving_base64.Vectors.{groups_whole, value_is}
-use Rattle.data_url.proofs.forgiving_base64.Padding.{every_list_all, filter_all, after_groups-append, after_groups-map}
+use Rattle.data_url.proofs.forgiving_base64.Padding.{after_groups-append, after_groups-map}
 use Rattle.data_url.proofs.forgiving_base64.Padding.{before-append, before_none, done_is, every_after, fault-append}
 use Rattle.data_url.proofs.forgiving_base64.Padding.{fault_byte, fault_invalid, fault_none, fault_some, fault_text}
 use Rattle.data_url.proofs.forgiving_base64.Padding.{groups-append, is_pad, kind_is, length_alike, no_fault_valid}
@@ -52,6 +52,11 @@ take_groups m x h =
       take_at (groups front) (groups (drop (4 * m) x)) (3 * m) size,
     )
 
+-- the groups of a list are those of its items without the ones that are left over
+pub groups_front : (x : List ℕ) → groups (take (4 * (length x / 4)) x) ≡ groups x
+groups_front x = sym (take_groups (length x / 4) x (omega arith))
+    ∙ take_all (3 * (length x / 4)) (groups x) (omega (arith, groups_size x))
+
 -- A text of symbols
 
 -- for bytes that are symbols, `value_of` is `symbol_value`
@@ -61,11 +66,6 @@ symbols_values [] fits h = refl
 symbols_values (b ∷ s) fits h =
     let p = and_parts (is_symbol b) (list_all is_symbol s) h in
     ap₂ (λ x (y : List ℕ). x ∷ y) (value_is b (fits 0).fits p.0) (symbols_values s (λ i. fits (suc i)) p.1)
-
--- the values of a text of symbols are the value of each of its bytes
-pub values_symbols : (s : List ℕ) → list_all is_symbol s ≡ true → values s ≡ map symbol_value s
-unfolding values
-values_symbols s h = ap (map symbol_value) (filter_all is_symbol s (every_list_all s h))
 
 -- if all bytes of a text are symbols, all are symbols or whitespace
 pub symbols_alone : (s : List ℕ) → list_all is_symbol s ≡ true → list_all is_symbol_or_space s ≡ true
@@ -82,19 +82,15 @@ fits_take n s fits i = grind (arith, get_or-take, get_or_past, length-take)
 pub fill_symbols : (held block : List ℕ) (n m : ℕ) → n ≤ length block → 4 * m ≤ n
     → ((i : ℕ) → Fits w8 (get_or block i 0)) → list_all is_symbol (take (4 * m) block) ≡ true
     → Fills held block (4 * m) (held ++ take (3 * m) (groups (map value_of (take n block))))
-fill_symbols held block n m long few fits all =
-    search (
-      arith,
-      length-take-le,
-      values_symbols,
-      symbols_alone,
-      length-map,
-      take_groups,
-      take-map,
-      take-take,
-      symbols_values,
-      fits_take,
-    )
+fill_symbols held block n m long few fits all = record {
+  within = omega arith;
+  whole = omega arith;
+  symbols = all;
+  held_are = ap (λ l. held ++ l)
+      (take_groups m (map value_of (take n block)) (omega (arith, length-map (take n block) value_of, length-take-le n block long))
+      ∙ ap groups (take-map value_of (4 * m) (take n block) ∙ ap (map value_of) (take-take (4 * m) n block few)
+      ∙ symbols_values (take (4 * m) block) (fits_take (4 * m) block fits) all));
+}
 
 -- the first c groups of a row that was written after g groups
 pub row_held : (old new bytes : List ℕ) (g c : ℕ) → take (3 * g + 12) new ≡ take (3 * g) old ++ bytes
@@ -105,7 +101,7 @@ row_held old new bytes g c e within few =
 
 -- no group
 pub fill_none : (held text : List ℕ) → Fills held text 0 held
-unfolding groups values
+unfolding groups
 fill_none held text = grind (arith, append-nil)
 
 -- one group
@@ -118,7 +114,7 @@ fill_one held [] bytes h all e = absurd (omega arith)
 fill_one held (p ∷ []) bytes h all e = absurd (omega arith)
 fill_one held (p ∷ q ∷ []) bytes h all e = absurd (omega arith)
 fill_one held (p ∷ q ∷ r ∷ []) bytes h all e = absurd (omega arith)
-fill_one held (p ∷ q ∷ r ∷ s ∷ rest) bytes h all e = grind (arith, values_symbols)
+fill_one held (p ∷ q ∷ r ∷ s ∷ rest) bytes h all e = grind arith
 
 -- The symbols at the start
 
@@ -131,14 +127,16 @@ row_ahead row n e =
       grind (arith, take-take n 16 row l, list_all-from_AllPass, length-take, get_or-take, prefix_len_passes),
     )
 
+-- if q are symbols, so are its first n, and those after them
+pub all_cut : (n : ℕ) (q : List ℕ) → list_all is_symbol q ≡ true
+    → (list_all is_symbol (take n q) ≡ true) × (list_all is_symbol (drop n q) ≡ true)
+all_cut n q h = and_parts (list_all is_symbol (take n q)) (list_all is_symbol (drop n q))
+    (sym (list_all-append is_symbol (take n q) (drop n q)) ∙ ap (list_all is_symbol) (take-append-drop n q) ∙ h)
+
 -- if the first n bytes are symbols, so are the first m, where m is at most n
 pub all_before : (block : List ℕ) (m n : ℕ) → m ≤ n → list_all is_symbol (take n block) ≡ true
     → list_all is_symbol (take m block) ≡ true
-all_before block m n h all =
-    let rest = take (n - m) (drop m block) in
-    let back : m + (n - m) ≡ n = omega arith in
-    (and_parts (list_all is_symbol (take m block)) (list_all is_symbol rest)
-    (cc (list_all-append is_symbol (take m block) rest, take-add m (n - m) block))).0
+all_before block m n h all = rw (sym (take-take m n block h)) (all_cut m (take n block) all).0
 
 -- A text that is fed in two parts.
 

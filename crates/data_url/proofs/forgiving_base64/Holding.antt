@@ -1,38 +1,32 @@
--- Feeding while decoded bytes are held. For `feed_blocks`, `feed_spaced` and `flush`.
-use Rattle.std.proofs.Common.{◌≡◌, ℕ, suc, zero, ◌+◌, ◌-◌, ◌*◌, ◌/◌, ◌%◌, ◌<◌, ◌≤◌, Fits, w8, length-take, length-take-le, Bool, true, false}
-use Rattle.std.proofs.Common.{cond, min, ◌||◌, List, [], ◌∷◌, ◌++◌, length, map, drop, get_or, take, take-add, Option}
-use Rattle.std.proofs.Common.{None, Some, is_some, Result, Ok, Err, refl, ap, ap₂, sym, ◌∙◌, subst, arith, append_assoc}
-use Rattle.std.proofs.Common.{length-append}
-use Rattle.std.specs.Prelude.{MatchOption, MatchResult}
+-- Feeding while decoded bytes are held. For the functions of `Decoder` that feed.
+use Rattle.std.proofs.Common.{◌≡◌, ℕ, suc, zero, ◌+◌, ◌-◌, ◌*◌, ◌/◌, ◌%◌, ◌<◌, ◌≤◌, Fits, w8, length-take-le, Bool}
+use Rattle.std.proofs.Common.{true, false, cond, min, ◌||◌, List, [], ◌∷◌, ◌++◌, length, map, drop, get_or, take, take-add}
+use Rattle.std.proofs.Common.{Option, None, Some, is_some, Result, Ok, Err, refl, ap, ap₂, sym, ◌∙◌, subst, arith}
+use Rattle.std.proofs.Common.{append_assoc, length-append, length-take, inl, inr, ◌&&◌}
 use Rattle.std.specs.List.{filter, list_all}
-use Rattle.std.proofs.lemmas.Bool.{and_parts, true≢false}
-use Rattle.std.proofs.lemmas.List.{append-nil, get_or-drop, length-drop, length-map, map-append, take-append-drop}
-use Rattle.std.proofs.lemmas.List.{take_all, take_more, take_rest, nil_from_length}
-use Rattle.data_url.specs.Base64.{Kind, after_groups, complete_bytes, first_fault, groups, is_symbol, kind_of}
-use Rattle.data_url.specs.Base64.{left_padding, left_symbols, left_text, symbol_value, values}
-use Rattle.data_url.specs.Decoder.{Feeds, IsTaken, State, left_over}
-use Rattle.data_url.specs.Errors.{IsRefused}
+use Rattle.std.proofs.lemmas.Bool.{and_parts, cases_Bool, true≢false}
+use Rattle.std.proofs.lemmas.List.{append-nil, get_or-drop, length-drop, nil_from_length, take-append-drop}
+use Rattle.std.proofs.lemmas.List.{take_all, take_more, take_rest}
+use Rattle.std.proofs.lemmas.List.Elements.{filter-append}
+use Rattle.std.proofs.lemmas.List.Folds.{list_all-append}
+use Rattle.data_url.specs.Base64.{Kind, after_groups, first_fault, groups, is_symbol}
+use Rattle.data_url.specs.Base64.{left_padding, left_symbols, left_text, symbol_value}
+use Rattle.data_url.specs.Decoder.{Feeds, State, left_over}
 use Rattle.data_url.specs.Mime.{Every}
-use Rattle.data_url.specs.Run.{Call, IsPrefix, IsRun, joined_pieces, refusal}
-use Rattle.std.specs.Option.{option_or}
-use Rattle.std.specs.Result.{result_err}
 use Rattle.data_url.specs.Steps.Calls.{CallsOnce}
-use Rattle.data_url.specs.Steps.Blocks.{GainsSymbols, AreGroups, DecodesFront, Fills, is_symbol_or_space}
-use Rattle.data_url.specs.Steps.Holding.{Adds, Flushes, Gains, Holds, IsBetweenGroups, Reads, Refuses, waiting}
-use Rattle.data_url.proofs.forgiving_base64.Rows.{all_after, all_more, groups_front}
+use Rattle.data_url.specs.Steps.Blocks.{Fills, GainsSymbols, is_symbol_or_space}
+use Rattle.data_url.specs.Steps.Holding.{Adds, Flushes, Gains, IsBetweenGroups, Reads, Refuses}
+use Rattle.data_url.specs.Steps.Lanes.{value_of}
 use Rattle.data_url.specs.Steps.Waiting.{symbols_of}
 use Rattle.data_url.specs.declared.forgiving_base64.symbols.Symbols.{Symbols}
 use Rattle.data_url.specs.declared.forgiving_base64.DecodeError.{DecodeError}
-use Rattle.data_url.specs.declared.forgiving_base64.DecodeError.TheVariants.{InvalidBase64, WriteError}
-use Rattle.data_url.proofs.forgiving_base64.Steps.{adds_none, adds_text, fault_space, fault_symbol, has_pad, told_call}
-use Rattle.data_url.proofs.forgiving_base64.Steps.{IsSound, feeds_stop, feeds_then, left_goes_on}
-use Rattle.data_url.specs.Steps.Lanes.{value_of}
-use Rattle.data_url.proofs.forgiving_base64.Groups.{fill_symbols, fits_take, groups_length}
-use Rattle.data_url.proofs.forgiving_base64.Vectors.{groups_whole}
-use Rattle.data_url.proofs.runs.Runs.{joined_pieces-append, match_at, match_none, refusal-append, run-append}
-use Rattle.data_url.proofs.forgiving_base64.Padding.{after_groups-append, after_groups-map, every_after, every_list_all}
-use Rattle.data_url.proofs.forgiving_base64.Padding.{fault-append, fault_byte, groups-append, is_pad}
-use Rattle.data_url.proofs.forgiving_base64.Padding.{length-after_groups}
+use Rattle.data_url.specs.declared.forgiving_base64.DecodeError.TheVariants.{InvalidBase64}
+use Rattle.data_url.proofs.forgiving_base64.Steps.{IsSound, adds_none, adds_text, fault_space, fault_symbol, feeds_err}
+use Rattle.data_url.proofs.forgiving_base64.Steps.{feeds_none, feeds_stop, feeds_then, has_pad, left_goes_on, one_call}
+use Rattle.data_url.proofs.forgiving_base64.Steps.{told_call}
+use Rattle.data_url.proofs.forgiving_base64.Groups.{fits_take, symbols_alone, symbols_values}
+use Rattle.data_url.proofs.forgiving_base64.Padding.{every_list_all, fault-append, fault_byte, filter_all, is_pad}
+use Rattle.data_url.proofs.forgiving_base64.Padding.{after_groups-append, length-after_groups}
 
 -- A text of symbols and white space has no fault and no padding
 
@@ -65,171 +59,113 @@ pub filter_length : (t : List ℕ) → length (filter is_symbol t) ≤ length t
 filter_length [] = omega arith
 filter_length (c ∷ t) = grind (arith, filter_length t)
 
--- whole groups, if nothing came before them
-pub adds_groups : {F : Type 0} {d : State F} (t more : List ℕ) → d.symbols ≡ [] → d.padding ≡ 0 → d.failed ≡ false
-    → AreGroups t more → Adds d t more d
-unfolding values
-adds_groups {d = d} t more is_q is_p going g =
-    let k = filter is_symbol t in
-    let same : d.symbols ++ k ≡ k = ap (λ q. q ++ k) is_q in
-    let size : length k % 4 ≡ 0 = omega (arith, g.whole, length-map k symbol_value) in
-    let Q : List ℕ → Type 0 = λ q. Every is_symbol q in
-    adds_text t k more 0 (subst Q (sym is_q) tt)
-    (ap (λ p. fault_byte (has_pad p) t) is_p ∙ allowed_fault t g.alone)
-    refl (ap length (allowed_pads t g.alone))
-    (g.bytes_are ∙ ap (λ q. groups (map symbol_value q)) (sym same))
-    (omega (
-      arith,
-      ap length g.bytes_are,
-      groups_length (map symbol_value k),
-      length-map k symbol_value,
-      filter_length t,
-    ))
-    refl (is_q ∙ sym (ap after_groups same ∙ nil_from_length (after_groups k) (length-after_groups k ∙ size)))
-    (is_p ∙ ap (λ p. min (p + 0) 3) (sym is_p)) going
-
--- Holding
+-- Text that is read without a call
 
 -- an option that is not `Some` is `None`
 none_from : {A : Type 0} (o : Option A) → is_some o ≡ false → o ≡ None
 none_from None e = refl
 none_from (Some x) e = absurd (true≢false e)
 
--- if r is `Ok`, and is what one call's answer gives, the call returned no error
-told_ok : {E : Type 0} (told : Result (Unit {0}) E) (r : Result (Unit {0}) (DecodeError E)) → r ≡ Ok tt
-    → MatchResult told (λ u. r ≡ Ok tt) (λ e. r ≡ Err (WriteError e)) → option_or (result_err told) None ≡ None
-told_ok (Ok x) r e h = refl
-told_ok (Err x) r e h = absurd (cc)
+module _ {F : Type 0} where
+  -- if d is between groups, a text of symbols and white space adds the groups of its symbols
+  pub adds_spaced : {d d' : State F} (t q : List ℕ) {bytes : List ℕ} → IsBetweenGroups d → d.failed ≡ false
+      → list_all is_symbol_or_space t ≡ true → q ≡ filter is_symbol t → bytes ≡ groups (map symbol_value q)
+      → d'.closure ≡ d.closure → d'.symbols ≡ after_groups q → d'.padding ≡ 0 → d'.failed ≡ false → Adds d t bytes d'
+  adds_spaced {d} {d'} t q {bytes} none going alone is_q is_bytes same symbols padding failed =
+      let P : List ℕ → Type 0 = λ k. bytes ≡ groups (map symbol_value k) in
+      let all : d.symbols ++ q ≡ q = ap (λ k. k ++ q) none.0 in
+      adds_text t q bytes 0 (record {
+        every = subst (Every is_symbol) (sym none.0) tt;
+        few = omega (arith, ap length none.0);
+        few_padding = omega (arith, none.1);
+      })
+      (ap (λ p. fault_byte (has_pad p) t) none.1 ∙ allowed_fault t alone)
+      (sym is_q) (ap length (allowed_pads t alone)) (subst P (sym all) is_bytes) same
+      (symbols ∙ sym (ap after_groups all)) (padding ∙ ap (λ p. min (p + 0) 3) (sym none.1)) failed
 
-module _ {F E : Type 0} (step : F → List ℕ → Result (Unit {0}) E → F → Type 0) where
-  -- if d reads t without a call, it holds the decoded bytes
-  pub holds_from : {d d' : State F} {t more : List ℕ} → Adds d t more d' → Holds step d t more d'
-  holds_from a = grind arith
+  -- if d is between groups, whole groups of symbols add their bytes
+  pub adds_symbols : {d : State F} (t : List ℕ) {bytes : List ℕ} → IsBetweenGroups d → d.failed ≡ false
+      → list_all is_symbol t ≡ true → length t % 4 ≡ 0 → bytes ≡ groups (map symbol_value t) → Adds d t bytes d
+  adds_symbols {d} t none going all whole is =
+      adds_spaced t t none going (symbols_alone t all) (sym (filter_all is_symbol t (every_list_all t all))) is refl
+      (none.0 ∙ sym (nil_from_length (after_groups t) (length-after_groups t ∙ whole))) none.1 going
 
-  -- if d holds bytes after a, and then reads b, it holds those of b after them
-  pub holds_adds : {d d1 d2 : State F} {a b held more : List ℕ} → Holds step d a held d1 → Adds d1 b more d2
-      → Holds step d (a ++ b) (held ++ more) d2
-  holds_adds {d} {d1} {d2} {a} {b} {held} {more} h k =
+  -- if d reads a and is d1 after that, and d1 reads b, then d reads a ++ b
+  pub adds_then : {d d1 d2 : State F} {a b x y : List ℕ} → Adds d a x d1 → Adds d1 b y d2 → Adds d (a ++ b) (x ++ y) d2
+  adds_then {d} {d1} {d2} {a} {b} {x} {y} h k =
       let u = left_over d ++ a in
       let on = left_goes_on u b h.no_fault h.left in
       let same : u ++ b ≡ left_over d ++ (a ++ b) = append_assoc (left_over d) a b in
-      let R : F → Type 0 = λ f. IsRun step d.closure h.run f in
       record {
-        run = h.run;
-        ran = subst R (sym k.closure_stays) h.ran;
-        accepted = h.accepted;
-        bytes_are = cc (append_assoc (joined_pieces h.run) held more);
         no_fault = ap first_fault (sym same) ∙ none_from (first_fault (u ++ b)) (on.fault_is ∙ ap is_some k.no_fault);
+        bytes_are = cc (h.bytes_are, k.bytes_are, on.done_is);
         left = record {
           symbols_are = k.left.symbols_are ∙ sym on.symbols_left ∙ ap left_symbols same;
           padding_is = k.left.padding_is ∙ sym on.padding_left ∙ ap left_padding same;
         };
-        calls = omega (arith, h.calls, k.few, length-append a b, length-append held more);
+        none = λ e. let (m, n) = none_both e in cc (h.none m, k.none n);
+        closure_stays = k.closure_stays ∙ h.closure_stays;
         going = k.going;
       }
+    where
+      -- both texts are empty if they are together
+      none_both : length (a ++ b) ≡ 0 → (length a ≡ 0) × (length b ≡ 0)
+      none_both e = omega (arith, e, length-append a b)
 
-  -- the run with one more call
-  called_run : {d d1 d2 : State F} {t held piece : List ℕ} {r : Result (Unit {0}) (DecodeError E)}
-      (h : Holds step d t held d1) (w : CallsOnce step d1 piece r d2)
-      → IsRun step d.closure (h.run ++ record { piece = piece; answer = w.told; after = d2.closure } ∷ []) d2.closure
-  called_run {d} {d1} {d2} {piece = piece} h w = grind (arith, run-append)
+  -- whole groups at the start of the text
+  pub gains_groups : {d : State F} {held text held' : List ℕ} (taken : ℕ) → 0 < taken → IsBetweenGroups d
+      → d.failed ≡ false → Fills held text taken held' → Gains d held text taken d held'
+  gains_groups {text = text} taken some none going f = record {
+    some = some;
+    within = f.within;
+    more = groups (map symbol_value (take taken text));
+    adds = adds_symbols (take taken text) none going f.symbols (ap (λ n. n % 4) (length-take-le taken text f.within)
+        ∙ f.whole) refl;
+    held_are = f.held_are;
+  }
 
-  -- the bytes of a run with one more call are those of the run and then the piece of that call
-  called_bytes : {d d1 : State F} {t held : List ℕ} (piece : List ℕ) (h : Holds step d t held d1)
-      (told : Result (Unit {0}) E) (g : F)
-      → joined_pieces (h.run ++ record { piece = piece; answer = told; after = g } ∷ []) ≡ joined_pieces h.run ++ piece
-  called_bytes piece h told g = grind (arith, joined_pieces-append, append-nil)
+  -- the first byte of a text, and then the bytes of the group that it completes, if any, after those that are held
+  pub gains_one : {d d' : State F} {held held' : List ℕ} (text more : List ℕ) → 1 ≤ length text
+      → Adds d (get_or text 0 0 ∷ []) more d' → held' ≡ held ++ more → Gains d held text 1 d' held'
+  gains_one [] more some a e = absurd (omega arith)
+  gains_one (c ∷ t) more some a e = grind arith
 
-  -- the end, or a fault: the closure is called once with all bytes that are held
-  pub written_feeds : {d d1 d2 : State F} {t held : List ℕ} {r : Result (Unit {0}) (DecodeError E)}
-      (h : Holds step d t held d1) → length h.run + 1 ≤ length t → CallsOnce step d1 held r d2 → Feeds step d t r d2
-  written_feeds {d} {d1} {d2} {t} {held} {r} h few w =
-      let u = left_over d ++ t in
-      let call : Call F E = record { piece = held; answer = w.told; after = d2.closure } in
-      let bytes = called_bytes held h w.told d2.closure ∙ h.bytes_are in
-      record {
-        run = h.run ++ call ∷ [];
-        ran = called_run h w;
-        calls = omega (arith, few, length-append h.run (call ∷ []));
-        failed = w.failed;
-        gave = grind (arith, match_at, refusal-append, told_call, match_none);
-      }
+-- no bytes have no groups
+pub fills_none : {held text held' : List ℕ} (taken : ℕ) → taken ≡ 0 → Fills held text taken held' → held' ≡ held
+unfolding groups
+fills_none zero e f = grind (arith, append-nil)
+fills_none (suc n) e f = absurd (omega arith)
+
+-- Calls of the closure
+
+-- the first byte of the text from an index on is the byte at that index
+pub byte_at : (s : List ℕ) (at : ℕ) → at < length s → get_or (take (length s - at) (drop at s)) 0 0 ≡ get_or s at 0
+byte_at s at h = ap (λ t. get_or t 0 0) (take_rest s at) ∙ get_or-drop at s 0 0 ∙ ap (λ n. get_or s n 0) (omega arith)
+
+-- a text has a byte if it completes a group
+some_text : (t : List ℕ) {b : ℕ} {bs : List ℕ} → (length t ≡ 0 → b ∷ bs ≡ []) → 1 ≤ length t
+some_text [] h = absurd (let e = h refl in cc)
+some_text (c ∷ t) h = omega arith
+
+module _ {F E : Type 0} (step : F → List ℕ → Result (Unit {0}) E → F → Type 0) where
+  -- a call with at least one byte
+  flushes_call : {d d' : State F} {r : Result (Unit {0}) (DecodeError E)} (bytes : List ℕ) → 0 < length bytes
+      → CallsOnce step d bytes r d' → Flushes step d bytes r d'
+  flushes_call [] some w = absurd (omega arith)
+  flushes_call (b ∷ bs) some w = w
 
   -- reading t, and then flushing the bytes that are held, feeds t
   pub flushed_feeds : {d d1 d2 : State F} {t : List ℕ} {r : Result (Unit {0}) (DecodeError E)} (held : List ℕ)
-      → Holds step d t held d1 → Flushes step d1 held r d2 → Feeds step d t r d2
-  flushed_feeds [] h f = grind (arith, append-nil)
-  flushed_feeds (b ∷ bs) h f = written_feeds h (omega (arith, h.calls)) f
-
-  -- symbols that are held; the closure is called with their first groups as one piece
-  called_wait : {d s1 s2 : State F} {t x : List ℕ} {r : Result (Unit {0}) (DecodeError E)} (q y : List ℕ)
-      (h : Holds step d t (x ++ y) (waiting s1 q)) (w : CallsOnce step s1 x r s2)
-      → complete_bytes (left_over d ++ t) ≡ joined_pieces (h.run ++ record {
-        piece = x;
-        answer = w.told;
-        after = s2.closure;
-      } ∷ []) ++ y
-  called_wait {s2 = s2} {x = x} q y h w =
-      cc (append_assoc (joined_pieces h.run) x y, called_bytes x h w.told s2.closure)
-
-  -- if the closure accepts the first 48 bytes that are held, the other bytes are still held
-  pub part_holds : {d s1 s2 : State F} {t x y : List ℕ} (q : List ℕ) → length x ≡ 48
-      → Holds step d t (x ++ y) (waiting s1 q) → CallsOnce step s1 x (Ok tt) s2 → Holds step d t y (waiting s2 q)
-  part_holds {d} {s1} {s2} {t} {x} {y} q full h w =
-      let call : Call F E = record { piece = x; answer = w.told; after = s2.closure } in
-      let v : CallsOnce step (waiting s1 q) x (Ok tt) (waiting s2 q) =
-      record {
-        told = w.told;
-        called = w.called;
-        answer = w.answer;
-        failed = w.failed;
-        symbols_stay = refl;
-        padding_stays = w.padding_stays;
-      } in
-      record {
-        run = h.run ++ call ∷ [];
-        ran = called_run h v;
-        accepted = refusal-append h.run (call ∷ []) h.accepted ∙ told_ok w.told (Ok tt) refl w.answer;
-        bytes_are = sym (called_wait q y h w);
-        no_fault = h.no_fault;
-        left = record { symbols_are = h.left.symbols_are; padding_is = w.padding_stays ∙ h.left.padding_is };
-        calls = omega (arith, h.calls, full, length-append h.run (call ∷ []), length-append x y);
-        going = w.failed;
-      }
-
-  -- if r is the error of a call, and the bytes are a prefix of `all`, the closure refused them with that error
-  refused_call : (told : Result (Unit {0}) E) (r : Result (Unit {0}) (DecodeError E)) (x : DecodeError E) (P : Type 0)
-      (all bytes : List ℕ) → r ≡ Err x → IsPrefix bytes all
-      → MatchResult told (λ u. r ≡ Ok tt) (λ e. r ≡ Err (WriteError e))
-      → MatchOption (option_or (result_err told) None) P (λ e. IsRefused all bytes e r)
-  refused_call (Ok u) r x P all bytes e begins h = absurd (cc)
-  refused_call (Err y) r x P all bytes e begins h = record { bytes_begin = begins; answer = h }
-
-  -- if the closure returns an error for the first 48 bytes that are held, so does feeding t
-  pub part_refused : {d s1 s2 : State F} {t x : List ℕ} {e : DecodeError E} (q y : List ℕ) → length x ≡ 48
-      → Holds step d t (x ++ y) (waiting s1 q) → CallsOnce step s1 x (Err e) s2 → Feeds step d t (Err e) s2
-  part_refused {d} {s1} {s2} {t} {x} {e} q y full h w =
-      let call : Call F E = record { piece = x; answer = w.told; after = s2.closure } in
-      let u = left_over d ++ t in
-      let v : CallsOnce step (waiting s1 q) x (Err e) (waiting s2 q) =
-      record {
-        told = w.told;
-        called = w.called;
-        answer = w.answer;
-        failed = w.failed;
-        symbols_stay = refl;
-        padding_stays = w.padding_stays;
-      } in
-      record {
-        run = h.run ++ call ∷ [];
-        ran = called_run h v;
-        calls = omega (arith, h.calls, full, length-append h.run (call ∷ []), length-append x y);
-        failed = w.failed;
-        gave = match_at (option_or (result_err w.told) None) (refusal (h.run ++ call ∷ [])) _ _
-            (refusal-append h.run (call ∷ []) h.accepted)
-            (refused_call w.told (Err e) e (IsTaken u (joined_pieces (h.run ++ call ∷ [])) (Err e) s2)
-            (complete_bytes u) (joined_pieces (h.run ++ call ∷ [])) refl (y, called_wait q y h w) w.answer);
-      }
+      → Adds d t held d1 → Flushes step d1 held r d2 → Feeds step d t r d2
+  flushed_feeds [] a f = grind (arith, append-nil)
+  flushed_feeds {d} {d1} {d2} {t} {r} (b ∷ bs) a w = record {
+    run = record { piece = b ∷ bs; answer = w.told; after = d2.closure } ∷ [];
+    ran = one_call step d.closure d2.closure (b ∷ bs) w.told
+        (subst (λ f. step f (b ∷ bs) w.told d2.closure) a.closure_stays w.called);
+    calls = some_text t a.none;
+    failed = w.failed;
+    gave = grind (arith, told_call, append-nil);
+  }
 
   -- flushing the bytes that are held does not change what is left over
   flushed_left : (d d' : State F) (r : Result (Unit {0}) (DecodeError E)) (held : List ℕ) → Flushes step d held r d'
@@ -237,120 +173,90 @@ module _ {F E : Type 0} (step : F → List ℕ → Result (Unit {0}) E → F →
   flushed_left d d' r [] f = ap left_over f.1
   flushed_left d d' r (b ∷ bs) w = ap₂ left_text w.symbols_stay w.padding_stays
 
-  -- A fault
-
   -- if c is a fault and completes no group, feeding c returns its error without a call, and d has failed
-  pub refuses_feeds : {d d' : State F} {r : Result (Unit {0}) (DecodeError E)} {kind : Kind} (left : List ℕ) (c : ℕ)
-      → left_over d ≡ left → is_some (first_fault (left ++ c ∷ [])) ≡ true → kind_of (left ++ c ∷ []) ≡ kind
-      → complete_bytes (left ++ c ∷ []) ≡ [] → d' ≡ record d { failed = true } → r ≡ Err (InvalidBase64 kind)
-      → Feeds step d (c ∷ []) r d'
-  refuses_feeds {d} {d'} {r} {kind} left c e fault is_kind nothing same told = grind arith
+  refuses_feeds : {d d1 d2 d' : State F} {c : ℕ} {kind : Kind} → left_over d ≡ left_over d1 → Refuses d1 c kind d2
+      → d' ≡ record d { failed = true } → Feeds step d (c ∷ []) (Err (InvalidBase64 kind)) d'
+  refuses_feeds {d} {d1} {d2} {d'} {c} e f same = grind arith
 
-  -- if c is a fault after t, and the bytes held after t are flushed, feeding t and then c returns the error of c
-  pub refused_feeds : {d d1 d2 d4 : State F} (d3 : State F) {r : Result (Unit {0}) (DecodeError E)} {kind : Kind}
-      (t held : List ℕ) (c : ℕ) → Holds step d t held d1 → Refuses d1 c kind d2 → Flushes step d2 held (Ok tt) d3
-      → d4 ≡ record d3 { failed = true } → r ≡ Err (InvalidBase64 kind) → Feeds step d (t ++ c ∷ []) r d4
-  refused_feeds {d} {d1} {d2} d3 t held c h f flushed same told =
-      let P : State F → Type 0 = λ s. Holds step d t held s in
-      let left : left_over d3 ≡ left_over d1 = flushed_left d2 d3 (Ok tt) held flushed ∙ ap left_over f.stays in
-      feeds_then step (flushed_feeds held (subst P (sym f.stays) h) flushed)
-      (refuses_feeds (left_over d1) c left f.fault f.kind_is f.none_done same told)
+  -- Text that is partly fed
 
--- Some more text
+  -- nothing was read
+  pub reads_none : {d : State F} (text : List ℕ) → IsSound d → d.failed ≡ false → Reads step d text 0 [] d
+  reads_none {d} text s going = record {
+    within = omega arith;
+    front = [];
+    rest = [];
+    parts = refl;
+    between = d;
+    fed = feeds_none step s going refl;
+    adds = adds_none s going;
+  }
 
--- whole groups at the start of the text
-pub gains_groups : {F : Type 0} {d : State F} {held text held' : List ℕ} (taken : ℕ) → 0 < taken → d.symbols ≡ []
-    → d.padding ≡ 0 → d.failed ≡ false → Fills held text taken held' → Gains d held text taken d held'
-gains_groups {text = text} taken some is_q is_p going f = search (arith, adds_groups)
+  -- some more text is read
+  pub reads_more : {d d1 d2 : State F} {held held' : List ℕ} (text : List ℕ) (at taken : ℕ)
+      → Reads step d text at held d1 → Gains d1 held (take (length text - at) (drop at text)) taken d2 held'
+      → Reads step d text (at + taken) held' d2
+  reads_more {d} {d1} {d2} text at taken r g =
+      let P : List ℕ → Type 0 = λ l. Adds r.between (r.rest ++ take taken (take (length text - at) (drop at text))) l d2 in
+      record {
+        within = omega (arith, r.within, g.within, length-take (length text - at) (drop at text), length-drop at text);
+        front = r.front;
+        rest = r.rest ++ take taken (take (length text - at) (drop at text));
+        parts = cc (
+          take-add at taken text,
+          take_rest text at,
+          r.parts,
+          append_assoc r.front r.rest (take taken (take (length text - at) (drop at text))),
+        );
+        between = r.between;
+        fed = r.fed;
+        adds = subst P (sym g.held_are) (adds_then r.adds g.adds);
+      }
 
--- no bytes have no groups
-pub fills_none : {held text held' : List ℕ} (taken : ℕ) → taken ≡ 0 → Fills held text taken held' → held' ≡ held
-unfolding values groups
-fills_none zero e f = grind (arith, append-nil)
-fills_none (suc n) e f = absurd (omega arith)
+  -- if bytes are held, some text was read
+  pub reads_some : {d d' : State F} {text held : List ℕ} (at : ℕ) → Reads step d text at held d' → 0 < length held
+      → 1 ≤ at
+  reads_some zero r some = absurd (omega (
+    arith,
+    some,
+    ap length (r.adds.none (omega (arith, ap length r.parts, length-append r.front r.rest))),
+  ))
+  reads_some (suc at) r some = omega arith
 
--- the first byte of a text, and then the bytes of the group that it completes, if any, after those that are held
-pub gains_one : {F : Type 0} {d d' : State F} {held held' : List ℕ} (text more : List ℕ) → 1 ≤ length text
-    → Adds d (get_or text 0 0 ∷ []) more d' → held' ≡ held ++ more → Gains d held text 1 d' held'
-gains_one [] more some a e = absurd (omega arith)
-gains_one (c ∷ t) more some a e = grind arith
+  -- the bytes that are held are flushed
+  pub reads_flushed : {d d1 d2 : State F} {held : List ℕ} {r : Result (Unit {0}) (DecodeError E)} (text : List ℕ) (at : ℕ)
+      → Reads step d text at held d1 → Flushes step d1 held r d2 → Feeds step d (take at text) r d2
+  reads_flushed {d} {d1} {d2} {held} {r} text at h f =
+      let P : List ℕ → Type 0 = λ t. Feeds step d t r d2 in
+      subst P (sym h.parts) (feeds_then step h.fed (flushed_feeds held h.adds f))
 
--- a block of symbols, if nothing is held
-whole_fills : {bytes : List ℕ} (block : List ℕ) → ((i : ℕ) → Fits w8 (get_or block i 0)) → 64 ≤ length block
-    → true ≡ list_all is_symbol (take 64 block) → bytes ≡ groups (map value_of (take 64 block))
-    → Fills [] block 64 bytes
-whole_fills {bytes} block fits long all is =
-    let made = groups (map value_of (take 64 block)) in
-    let short : length made ≤ 48 =
-    omega (
-      arith,
-      groups_length (map value_of (take 64 block)),
-      length-map (take 64 block) value_of,
-      length-take 64 block,
-    ) in
-    let P : List ℕ → Type 0 = λ l. Fills [] block 64 l in
-    subst P (take_all 48 made short ∙ sym is) (fill_symbols [] block 64 16 long (omega arith) fits (sym all))
-
--- The steps of a feed
-
--- the first byte of the text from an index on is the byte at that index
-pub byte_at : (s : List ℕ) (at : ℕ) → at < length s → get_or (take (length s - at) (drop at s)) 0 0 ≡ get_or s at 0
-byte_at s at h = ap (λ t. get_or t 0 0) (take_rest s at) ∙ get_or-drop at s 0 0 ∙ ap (λ n. get_or s n 0) (omega arith)
-
-module _ {F E : Type 0} (step : F → List ℕ → Result (Unit {0}) E → F → Type 0) where
-  -- a group that is passed to the closure at once
-  pub group_feeds : {d d1 d2 : State F} {t : List ℕ} {r : Result (Unit {0}) (DecodeError E)} (group : List ℕ)
-      → 1 ≤ length t → Adds d t group d1 → CallsOnce step d1 group r d2 → Feeds step d t r d2
-  unfolding holds_from
-  group_feeds group some a w =
-      grind (arith, holds_from step a, written_feeds step (holds_from step a) (omega arith) w)
+  -- if the closure returns an error for the bytes that are held, so does feeding the text
+  pub reads_refused : {d d1 d2 : State F} {held : List ℕ} {x : DecodeError E} (text : List ℕ) (at : ℕ)
+      → Reads step d text at held d1 → Flushes step d1 held (Err x) d2 → Feeds step d text (Err x) d2
+  reads_refused text at h f = feeds_stop step text at (reads_flushed text at h f)
 
   -- the bytes that are held stay if the next byte is a fault
-  pub stays_holds : {d d1 d2 : State F} {t held held' : List ℕ} {c : ℕ} {kind : Kind} → Holds step d t held d1
-      → Refuses d1 c kind d2 → held' ≡ held → Holds step d t held' d2
-  stays_holds {d} {d1} {d2} {t} {held} {held'} h f e = grind arith
-
-  -- if the closure returns an error for the bytes that are held, so does feeding s
-  pub flush_refused : {d d1 d2 : State F} {x : DecodeError E} (s : List ℕ) (at : ℕ) (held : List ℕ)
-      → Holds step d (take at s) held d1 → Flushes step d1 held (Err x) d2 → Feeds step d s (Err x) d2
-  flush_refused s at held h f = feeds_stop step s at (flushed_feeds step held h f)
+  pub reads_stays : {d d1 d2 : State F} {held held' : List ℕ} {c : ℕ} {kind : Kind} (text : List ℕ) (at : ℕ)
+      → Reads step d text at held d1 → Refuses d1 c kind d2 → held' ≡ held → Reads step d text at held' d2
+  reads_stays text at h f e = rw (f.stays, e) h
 
   -- if the byte at an index is a fault, feeding s returns its error after the bytes before it are flushed
-  pub fault_feeds : {d d1 d2 d4 : State F} (d3 : State F) {r : Result (Unit {0}) (DecodeError E)} {kind : Kind}
-      (s held held' : List ℕ) (at c : ℕ) → at < length s → c ≡ get_or s at 0
-      → Holds step d (take at s) held d1 → Refuses d1 c kind d2 → held' ≡ held → Flushes step d2 held' (Ok tt) d3
-      → d4 ≡ record d3 { failed = true } → r ≡ Err (InvalidBase64 kind) → Feeds step d s r d4
-  fault_feeds {d} {d1} {d2} {d4} d3 {r} {kind} s held held' at c inside is h f same flushed failed told =
-      let A : List ℕ → Type 0 = λ l. Holds step d (take at s) l d1 in
+  pub reads_fault : {d d1 d2 d4 : State F} {held held' : List ℕ} {kind : Kind} (d3 : State F) (s : List ℕ) (at c : ℕ)
+      → at < length s → c ≡ get_or s at 0 → Reads step d s at held d1 → Refuses d1 c kind d2 → held' ≡ held
+      → Flushes step d2 held' (Ok tt) d3 → d4 ≡ record d3 { failed = true }
+      → Feeds step d s (Err (InvalidBase64 kind)) d4
+  reads_fault {d} {d1} {d2} {d4} {held' = held'} {kind} d3 s at c inside is h f stay flushed same =
       let P : List ℕ → Type 0 = λ t. Feeds step d t (Err (InvalidBase64 kind)) d4 in
-      let Q : Result (Unit {0}) (DecodeError E) → Type 0 = λ x. Feeds step d s x d4 in
       let more : take at s ++ c ∷ [] ≡ take (at + 1) s = cc (take_more s at 0 inside) in
-      subst Q (sym told) (feeds_stop step s (at + 1)
-      (subst P more (refused_feeds step d3 (take at s) held' c (subst A (sym same) h) f flushed failed refl)))
-
-  -- Blocks
+      let left = flushed_left d2 d3 (Ok tt) held' flushed ∙ ap left_over f.stays in
+      let fed = reads_flushed s at (reads_stays s at h f stay) flushed in
+      feeds_stop step s (at + 1) (subst P more (feeds_then step fed (refuses_feeds left f same)))
 
   -- feeding `at` bytes of s, and then `taken` more, is the same as feeding them together
   pub feeds_part : {d d1 d2 : State F} {r : Result (Unit {0}) (DecodeError E)} (s : List ℕ) (at taken : ℕ)
       → Feeds step d (take at s) (Ok tt) d1 → Feeds step d1 (take taken (take (length s - at) (drop at s))) r d2
       → Feeds step d (take (at + taken) s) r d2
   feeds_part {d} {d1} {d2} {r} s at taken f g = grind (arith, take-add, feeds_then, take_rest)
-
-  -- a block of symbols is a full piece
-  pub block_feeds : {d d1 d2 : State F} {bytes : List ℕ} {r : Result (Unit {0}) (DecodeError E)} (s : List ℕ) (at : ℕ)
-      → ((i : ℕ) → Fits w8 (get_or s i 0)) → IsBetweenGroups d1 → at + 64 ≤ length s
-      → true ≡ list_all is_symbol (take 64 (take (length s - at) (drop at s)))
-      → bytes ≡ groups (map value_of (take 64 (take (length s - at) (drop at s))))
-      → Feeds step d (take at s) (Ok tt) d1 → CallsOnce step d1 bytes r d2 → Feeds step d (take (at + 64) s) r d2
-  block_feeds {d1 = d1} {bytes = bytes} s at fits none within all is fed w =
-      let block = take (length s - at) (drop at s) in
-      let long : 64 ≤ length block = omega (arith, length-take (length s - at) (drop at s), length-drop at s) in
-      let f = whole_fills block
-      (fits_take (length s - at) (drop at s) (λ i. subst (Fits w8) (sym (get_or-drop at s i 0)) (fits (at + i))))
-      long all is in
-      let A : List ℕ → Type 0 = λ l. Adds d1 (take 64 block) l d1 in
-      feeds_part s at 64 fed (group_feeds bytes (omega (arith, length-take-le 64 block long))
-      (subst A (sym f.held_are) (adds_groups (take 64 block) f.more none.0 none.1 fed.failed f.are)) w)
 
   -- feeding the first `at` bytes of s, and then the rest of s, is the same as feeding s
   pub feeds_last : {d d1 d2 : State F} {r : Result (Unit {0}) (DecodeError E)} (s : List ℕ) (at : ℕ)
@@ -361,38 +267,49 @@ module _ {F E : Type 0} (step : F → List ℕ → Result (Unit {0}) E → F →
       let Q : List ℕ → Type 0 = λ t. Feeds step d1 t r d2 in
       subst P (take-append-drop at s) (feeds_then step f (subst Q (take_rest s at) g))
 
--- Symbols that are held: the bytes of their groups were not passed to the closure
+  -- a block of symbols is a full piece
+  pub block_feeds : {d d1 d2 : State F} {bytes : List ℕ} {r : Result (Unit {0}) (DecodeError E)} (s : List ℕ) (at : ℕ)
+      → ((i : ℕ) → Fits w8 (get_or s i 0)) → IsBetweenGroups d1 → at + 64 ≤ length s → length bytes ≡ 48
+      → true ≡ list_all is_symbol (take 64 (take (length s - at) (drop at s)))
+      → bytes ≡ groups (map value_of (take 64 (take (length s - at) (drop at s))))
+      → Feeds step d (take at s) (Ok tt) d1 → CallsOnce step d1 bytes r d2 → Feeds step d (take (at + 64) s) r d2
+  block_feeds {bytes = bytes} s at fits none within size all is fed w =
+      let block = take (length s - at) (drop at s) in
+      let long : length (take 64 block) ≡ 64 =
+      length-take-le 64 block (omega (arith, length-take (length s - at) (drop at s), length-drop at s)) in
+      let values = symbols_values (take 64 block) (fits_take 64 block (fits_take (length s - at) (drop at s)
+      (λ i. subst (Fits w8) (sym (get_or-drop at s i 0)) (fits (at + i))))) (sym all) in
+      feeds_part s at 64 fed (flushed_feeds bytes (adds_symbols (take 64 block) none fed.failed (sym all)
+      (ap (λ n. n % 4) long) (is ∙ ap groups values)) (flushes_call bytes (omega (arith, size)) w))
+
+-- Symbols that wait in a buffer
 
 -- the number of symbols in the buffer
 pub symbols_len : (s : Symbols) → length (symbols_of s) ≡ s.len
 symbols_len s = length-take-le s.len s.bytes (omega (arith, s.within, s.sized))
 
--- the bytes of the groups of q ++ k are those of q, and then those of what is left over of q followed by k
-values_wait : (q k : List ℕ) → groups (map symbol_value (q ++ k)) ≡ groups (map symbol_value q) ++ groups
-    (map symbol_value (after_groups q ++ k))
-values_wait q k = grind (arith, map-append, groups-append, after_groups-map)
+-- if a ++ b has only symbols and white space, so have a and b
+all_parts : (a b : List ℕ) → list_all is_symbol_or_space (a ++ b) ≡ true
+    → (list_all is_symbol_or_space a ≡ true) × (list_all is_symbol_or_space b ≡ true)
+all_parts a b h = and_parts (list_all is_symbol_or_space a) (list_all is_symbol_or_space b)
+    (sym (list_all-append is_symbol_or_space a b) ∙ h)
 
--- a row of symbols and white space
-row_adds : {F : Type 0} (d : State F) (q row : List ℕ) → Every is_symbol q → list_all is_symbol_or_space row ≡ true
-    → 1 ≤ length row → d.padding ≡ 0 → d.failed ≡ false
-    → Adds (waiting d q) row (groups (map symbol_value (after_groups q ++ filter is_symbol row)))
-    (waiting d (q ++ filter is_symbol row))
-row_adds d q row every all some is_p going =
-    let k = filter is_symbol row in
-    let few = groups_length (map symbol_value (after_groups q ++ k)) in
-    adds_text row k (groups (map symbol_value (after_groups q ++ k))) 0 (every_after q every)
-    (ap (λ p. fault_byte (has_pad p) row) is_p ∙ allowed_fault row all)
-    refl (ap length (allowed_pads row all)) refl
-    (omega (
-      arith,
-      few,
-      length-map (after_groups q ++ k) symbol_value,
-      length-append (after_groups q) k,
-      length-after_groups q,
-      filter_length row,
-      some,
-    ))
-    refl (after_groups-append q k) (is_p ∙ ap (λ p. min (p + 0) 3) (sym is_p)) going
+-- a text is cut after its first n symbols
+record Cut (t : List ℕ) (n : ℕ) : Type 0 where
+  front : List ℕ
+  rest : List ℕ
+  parts : t ≡ front ++ rest
+  first : filter is_symbol front ≡ take n (filter is_symbol t)
+  others : filter is_symbol rest ≡ drop n (filter is_symbol t)
+
+-- each text can be cut after its first n symbols
+cut : (t : List ℕ) (n : ℕ) → Cut t n
+cut t zero = record { front = []; rest = t; parts = refl; first = refl; others = refl }
+cut [] (suc n) = record { front = []; rest = []; parts = refl; first = refl; others = refl }
+cut (c ∷ t) (suc n) = elim (cases_Bool (is_symbol c)) [
+  | inl e ↦ let k = cut t n in record { front = c ∷ k.front; rest = k.rest; parts = cc (k.parts); first = cc (e, k.first); others = cc (e, k.others) }
+  | inr e ↦ let k = cut t (suc n) in record { front = c ∷ k.front; rest = k.rest; parts = cc (k.parts); first = cc (e, k.first); others = cc (e, k.others) }
+]
 
 -- what is left over of at least 64 items is what is left over of those after the first 64
 pub rest_after : (q : List ℕ) → 64 ≤ length q → after_groups q ≡ after_groups (drop 64 q)
@@ -401,95 +318,115 @@ rest_after q long = let none : after_groups (take 64 q) ≡ [] =
     (omega (arith, length-after_groups (take 64 q), length-take-le 64 q long)) in
     cc (take-append-drop 64 q, after_groups-append (take 64 q) (drop 64 q))
 
--- the groups of 64 symbols and of the rest
-block_rest : (q bytes : List ℕ) → 64 ≤ length q → length bytes ≡ 48 → DecodesFront q bytes
-    → groups (map symbol_value q) ≡ bytes ++ groups (map symbol_value (drop 64 q))
-block_rest q bytes long size front =
-    let first : bytes ≡ groups (map symbol_value (take 64 q)) = cc (
-      take_all 48 bytes (omega arith),
-      front 16 (omega arith) (omega arith),
-    ) in
-    cc (
-      take-append-drop 64 q,
-      map-append symbol_value (take 64 q) (drop 64 q),
-      groups_whole (map symbol_value (take 64 q)) (map symbol_value (drop 64 q)) (omega (
-        arith,
-        length-map (take 64 q) symbol_value,
-        length-take-le 64 q long,
-      )),
-    )
-
--- d reads the first `at` bytes of the text and is s after that, except that the symbols q are held: the closure was not
--- called with the bytes of their groups, and those that are left over are not in s
+-- d is fed a front of the first `at` bytes of the text, and is s after that; the rest of them are the symbols q, which
+-- wait in a buffer, and white space
 pub record Waits {F E : Type 0} (step : F → List ℕ → Result (Unit {0}) E → F → Type 0) (d : State F) (text : List ℕ)
     (at : ℕ) (q : List ℕ) (s : State F) : Type 0 where
-  pub reads : Reads step d text at (groups (map symbol_value q)) (waiting s q)
-  pub all : list_all is_symbol q ≡ true
-  pub padding : s.padding ≡ 0
+  pub within : at ≤ length text
+  pub front : List ℕ
+  pub rest : List ℕ
+  pub parts : take at text ≡ front ++ rest
+  pub fed : Feeds step d front (Ok tt) s
+  pub none : IsBetweenGroups s
+  pub alone : list_all is_symbol_or_space rest ≡ true
+  pub symbols : q ≡ filter is_symbol rest
 
 module _ {F E : Type 0} (step : F → List ℕ → Result (Unit {0}) E → F → Type 0) where
-  -- nothing was read, and nothing is held
+  -- nothing was read, and nothing waits
   pub none_wait : {d : State F} {q : List ℕ} (text : List ℕ) → IsSound d → IsBetweenGroups d → d.failed ≡ false
       → q ≡ [] → Waits step d text 0 q d
-  unfolding groups after_groups
-  none_wait {d} {q} text s none going is = grind (arith, adds_none s going)
+  none_wait {d} {q} text s none going is = record {
+    within = omega arith;
+    front = [];
+    rest = [];
+    parts = refl;
+    fed = feeds_none step s going refl;
+    none = none;
+    alone = refl;
+    symbols = is;
+  }
 
-  -- n bytes more, all symbols and whitespace, are read, and their symbols are held after those before
-  pub rows_wait : {d s : State F} {q q' : List ℕ} (text : List ℕ) (at n : ℕ) → 0 < n
+  -- n bytes more, all symbols and whitespace, are read, and their symbols wait after those before
+  pub rows_wait : {d s : State F} {q q' : List ℕ} (text : List ℕ) (at n : ℕ)
       → n ≤ length (take (length text - at) (drop at text))
       → GainsSymbols q (take n (take (length text - at) (drop at text))) q' → Waits step d text at q s
       → Waits step d text (at + n) q' s
-  rows_wait {d} {s} {q} {q'} text at n some within g w =
+  rows_wait {d} {s} {q} {q'} text at n within g w =
       let row = take n (take (length text - at) (drop at text)) in
-      let size : length row ≡ n = length-take-le n (take (length text - at) (drop at text)) within in
-      let all : list_all is_symbol q' ≡ true = all_more q row q' w.all g.added in
-      let P : List ℕ → Type 0 = λ t. Holds step d t (groups (map symbol_value q')) (waiting s q') in
-      let R : List ℕ → Type 0 = λ l. Holds step d (take at text ++ row) (groups (map symbol_value l)) (waiting s l) in
-      let Q : List ℕ → Type 0 = λ l. Holds step d (take at text ++ row) l (waiting s (q ++ filter is_symbol row)) in
-      let h = w.reads.holds in
       record {
-        reads = record {
-          within = omega (arith, within, length-take (length text - at) (drop at text), length-drop at text);
-          holds =
-              subst P (cc (take-add at n text, take_rest text at))
-              (subst R (sym g.added) (subst Q (sym (values_wait q (filter is_symbol row)))
-              (holds_adds step h (row_adds s q row (every_list_all q w.all) g.spaced (omega (arith, size)) w.padding
-              h.going))));
-        };
-        all = all;
-        padding = w.padding;
+        within = omega (arith, within, w.within, length-take (length text - at) (drop at text), length-drop at text);
+        front = w.front;
+        rest = w.rest ++ row;
+        parts = cc (take-add at n text, take_rest text at, append_assoc w.front w.rest row);
+        fed = w.fed;
+        none = w.none;
+        alone = list_all-append is_symbol_or_space w.rest row ∙ ap₂ (λ a b. a && b) w.alone g.spaced;
+        symbols = cc (filter-append is_symbol w.rest row);
       }
 
-  -- the closure is called with the bytes of 64 symbols
-  pub block_goes : {d s1 s2 : State F} {text q : List ℕ} {at : ℕ} (bytes : List ℕ) → 64 ≤ length q → length bytes ≡ 48
-      → DecodesFront q bytes → Waits step d text at q s1 → CallsOnce step s1 bytes (Ok tt) s2
+  -- if the closure is called with the bytes of the first 64 symbols that wait, the front up to these is fed
+  front_goes : {d s1 s2 : State F} {text q : List ℕ} {at : ℕ} {r : Result (Unit {0}) (DecodeError E)} (bytes : List ℕ)
+      → 64 ≤ length q → length bytes ≡ 48
+      → take (3 * (length (take 64 q) / 4)) bytes ≡ groups (map symbol_value (take 64 q)) → (w : Waits step d text at q s1) → CallsOnce step s1 bytes r s2
+      → Feeds step d (w.front ++ (cut w.rest 64).front) r s2
+  front_goes {q = q} bytes long full is w c =
+      let k = cut w.rest 64 in
+      let size = length-take-le 64 q long in
+      let none = nil_from_length (after_groups (take 64 q)) (length-after_groups (take 64 q) ∙ ap (λ n. n % 4) size) in
+      feeds_then step w.fed (flushed_feeds step bytes (adds_spaced k.front (take 64 q) w.none w.fed.failed
+      (all_parts k.front k.rest (ap (list_all is_symbol_or_space) (sym k.parts) ∙ w.alone)).0
+      (ap (take 64) w.symbols ∙ sym k.first) (sym (take_all _ bytes (omega arith)) ∙ is) refl
+      (w.none.0 ∙ sym none) w.none.1 w.fed.failed) (flushes_call step bytes (omega arith) c))
+
+  -- the closure accepts the bytes of the first 64 symbols that wait
+  pub block_goes : {d s1 s2 : State F} {text q : List ℕ} {at : ℕ} (bytes : List ℕ) → 64 ≤ length q
+      → length bytes ≡ 48
+      → take (3 * (length (take 64 q) / 4)) bytes ≡ groups (map symbol_value (take 64 q)) → Waits step d text at q s1 → CallsOnce step s1 bytes (Ok tt) s2
       → Waits step d text at (drop 64 q) s2
-  block_goes {d} {s1} {s2} {text} {q} {at} bytes long size front w c =
-      let P : List ℕ → Type 0 = λ l. Holds step d (take at text) l (waiting s1 q) in
-      let R : List ℕ → Type 0 = λ l. Holds step d (take at text) (groups (map symbol_value (drop 64 q)))
-      (record s2 { symbols = l }) in
+  block_goes bytes long full is w c =
+      let k = cut w.rest 64 in
       record {
-        reads = record {
-          within = w.reads.within;
-          holds = subst R (rest_after q long)
-              (part_holds step q size (subst P (block_rest q bytes long size front) w.reads.holds) c);
-        };
-        all = all_after 64 q w.all;
-        padding = c.padding_stays ∙ w.padding;
+        within = w.within;
+        front = w.front ++ k.front;
+        rest = k.rest;
+        parts = cc (w.parts, k.parts, append_assoc w.front k.front k.rest);
+        fed = front_goes bytes long full is w c;
+        none = (c.symbols_stay ∙ w.none.0, c.padding_stays ∙ w.none.1);
+        alone = (all_parts k.front k.rest (ap (list_all is_symbol_or_space) (sym k.parts) ∙ w.alone)).1;
+        symbols = ap (drop 64) w.symbols ∙ sym k.others;
       }
 
-  -- if the closure returns an error for the bytes of 64 symbols, so does feeding the text
+  -- the closure returns an error for the bytes of the first 64 symbols that wait
   pub block_refused : {d s1 s2 : State F} {text q : List ℕ} {at : ℕ} {e : DecodeError E} (bytes : List ℕ)
-      → 64 ≤ length q → length bytes ≡ 48 → DecodesFront q bytes → Waits step d text at q s1
-      → CallsOnce step s1 bytes (Err e) s2 → Feeds step d text (Err e) s2
-  block_refused {d} {s1} {text = text} {q = q} {at = at} bytes long size front w c =
-      let P : List ℕ → Type 0 = λ l. Holds step d (take at text) l (waiting s1 q) in
-      feeds_stop step text at (part_refused step q (groups (map symbol_value (drop 64 q))) size
-      (subst P (block_rest q bytes long size front) w.reads.holds) c)
+      → 64 ≤ length q → length bytes ≡ 48
+      → take (3 * (length (take 64 q) / 4)) bytes ≡ groups (map symbol_value (take 64 q)) → Waits step d text at q s1 → CallsOnce step s1 bytes (Err e) s2
+      → Feeds step d text (Err e) s2
+  block_refused {d} {s1} {s2} {text} {q} {at} {e} bytes long full is w c =
+      let k = cut w.rest 64 in
+      let P : List ℕ → Type 0 = λ t. Feeds step d t (Err e) s2 in
+      subst P (cc (
+        w.parts,
+        k.parts,
+        append_assoc w.front k.front (k.rest ++ drop at text),
+        append_assoc k.front k.rest
+            (drop at text),
+        append_assoc w.front w.rest (drop at text),
+        take-append-drop at text,
+      ))
+      (feeds_err step (k.rest ++ drop at text) (front_goes bytes long full is w c))
 
-  -- fewer than 64 symbols that are held: the bytes of their groups are held in a piece, and the others are left over
-  pub few_read : {d s : State F} {text q : List ℕ} {at : ℕ} (bytes left : List ℕ) → length q < 64
-      → DecodesFront q bytes → left ≡ after_groups q → Waits step d text at q s
-      → Reads step d text at (take (3 * (length q / 4)) bytes) (record s { symbols = left })
-  few_read {d} {s} {text} {q} {at} bytes left few front is w =
-      rw (groups_front q bytes few front, is) w.reads
+  -- the bytes of the groups of fewer than 64 symbols that wait are held, and the others are left over
+  pub last_wait : {d s : State F} {text q : List ℕ} {at : ℕ} (bytes left : List ℕ) → length q < 64
+      → take (3 * (length (take 64 q) / 4)) bytes ≡ groups (map symbol_value (take 64 q)) → left ≡ after_groups q
+      → Waits step d text at q s → Reads step d text at (take (3 * (length q / 4)) bytes) (record s { symbols = left })
+  last_wait {s = s} {q = q} bytes left few is rest w =
+      let all = take_all 64 q (omega arith) in
+      record {
+        within = w.within;
+        front = w.front;
+        rest = w.rest;
+        parts = w.parts;
+        between = s;
+        fed = w.fed;
+        adds = adds_spaced w.rest q w.none w.fed.failed w.alone w.symbols (cc) refl rest w.none.1 w.fed.failed;
+      }

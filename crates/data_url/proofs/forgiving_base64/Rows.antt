@@ -1,30 +1,31 @@
 -- Rows without their white space. For `symbols.rt` and `places.rt`.
-use Rattle.std.proofs.Common.{◌≡◌, ℕ, suc, zero, ◌+◌, ◌-◌, ◌*◌, ◌/◌, ◌%◌, ◌^◌, ◌<◌, ◌≤◌, Bool, true, false, not, ◌&&◌}
+use Rattle.std.proofs.Common.{◌≡◌, ℕ, suc, zero, ◌+◌, ◌-◌, ◌*◌, ◌/◌, ◌%◌, ◌^◌, ◌<◌, ◌≤◌, Bool, true, not, ◌&&◌}
 use Rattle.std.proofs.Common.{◌||◌, cond, eqb, ltb, List, [], ◌∷◌, ◌++◌, map, length, get_or, take, drop, Fits, bit_and}
 use Rattle.std.proofs.Common.{w8, refl, sym, ap, ap₂, take-add, ◌∙◌, subst, arith, append_assoc, length-take-le, length-drop}
-use Rattle.std.proofs.Common.{ltb-true}
+use Rattle.std.proofs.Common.{ltb-true, ◌⊎◌, inl, inr, length-take}
 use Rattle.std.specs.Char.{is_ascii_whitespace}
 use Rattle.std.specs.Int.RustNames.{count_ones}
 use Rattle.std.specs.List.{copy_within, filter, list_all, range_with_len}
-use Rattle.std.proofs.lemmas.Bool.{agree_below_at, and_parts, eqb-true, true≢false}
-use Rattle.std.proofs.lemmas.List.{append-nil, get_or-drop, get_or-take, length-map}
+use Rattle.std.proofs.lemmas.Bool.{agree_below_at, and_parts, eqb-true}
+use Rattle.std.proofs.lemmas.List.{get_or-drop, get_or-take, length-map}
 use Rattle.std.proofs.lemmas.List.{map-append, map-id, take-append-drop, take-map, take-take, take_all}
 use Rattle.std.proofs.lemmas.List.{take_rest}
 use Rattle.std.proofs.lemmas.List.Edits.{take-paste}
 use Rattle.std.proofs.lemmas.List.Elements.{filter-append}
 use Rattle.std.proofs.lemmas.List.Folds.{list_all-append}
 use Rattle.std.proofs.lemmas.Nat.{and_le_r}
-use Rattle.std.proofs.lemmas.Simd.{mask_l-lt, mask_l-mod, pick_l_whole, swz_l, map-map, tops_compared, zip2_of_maps}
+use Rattle.std.proofs.lemmas.Slice.Eq.{bytes_eq-Decides}
+use Rattle.std.specs.Str.{bytes_eq}
+use Rattle.std.proofs.lemmas.Simd.{mask_l-lt, mask_l-mod, pick_l-range_with_len, swz_l, tops_compared, zip2_of_maps}
 use lib.Lanes.{Each1, mask_l, top, zip2}
 use Rattle.data_url.specs.Base64.{after_groups, groups, is_symbol, symbol_value}
-use Rattle.data_url.specs.Steps.Blocks.{DecodesFront, GainsSymbols, clear, is_symbol_or_space}
+use Rattle.data_url.specs.Steps.Blocks.{GainsSymbols, clear, is_symbol_or_space}
 use Rattle.data_url.specs.Steps.Lanes.{value_of}
-use Rattle.data_url.specs.declared.forgiving_base64.places.TheConstants.{CLEAR_PLACES}
-use Rattle.data_url.specs.declared.forgiving_base64.symbols.TheConstants.{SPACES}
-use Rattle.data_url.proofs.forgiving_base64.Vectors.{groups_whole, is_other, map_agree, mask_l-append}
-use Rattle.data_url.proofs.forgiving_base64.Vectors.{each_map, looked_at, looked_up, others_mask}
-use Rattle.data_url.proofs.forgiving_base64.Steps.{groups_few, three_items}
-use Rattle.data_url.proofs.forgiving_base64.Groups.{all_before, symbols_alone, symbols_values, take_groups}
+use Rattle.data_url.specs.declared.forgiving_base64.symbols.TheConstants.{CLEAR_PLACES, SPACES}
+use Rattle.data_url.proofs.forgiving_base64.Vectors.{is_other, map_agree, mask_l-append}
+use Rattle.data_url.proofs.forgiving_base64.Vectors.{looked_at, looked_up, others_mask}
+use Rattle.data_url.proofs.forgiving_base64.Steps.{three_items}
+use Rattle.data_url.proofs.forgiving_base64.Groups.{all_cut, groups_front, symbols_alone, symbols_values, take_groups}
 use Rattle.data_url.proofs.forgiving_base64.Padding.{after_is, filter_every, every_list_all, filter_all, list_all_every}
 use Rattle.data_url.proofs.escapes.Marks.{drop_taken}
 
@@ -42,95 +43,68 @@ clear_mask (x ∷ v) = grind (arith, clear_mask v)
 
 -- The table of places
 
--- whether two lists are equal
-abbrev alike : List ℕ → List ℕ → Bool
-alike [] [] = true
-alike [] (y ∷ ys) = false
-alike (x ∷ xs) [] = false
-alike (x ∷ xs) (y ∷ ys) = eqb x y && alike xs ys
-
--- if the test of equality is true, two lists are equal
-alike_same : (xs ys : List ℕ) → alike xs ys ≡ true → xs ≡ ys
-alike_same [] [] h = refl
-alike_same [] (y ∷ ys) h = absurd (true≢false (sym h))
-alike_same (x ∷ xs) [] h = absurd (true≢false (sym h))
-alike_same (x ∷ xs) (y ∷ ys) h =
-    let p = and_parts (eqb x y) (alike xs ys) h in
-    ap₂ (λ a (b : List ℕ). a ∷ b) (eqb-true x y p.0) (alike_same xs ys p.1)
-
--- the value of a digit
+-- the value of a digit, if the digit zero is another number
 abbrev pub digit : ℕ → ℕ → ℕ
 digit c zero_digit = (c + (256 - zero_digit)) % 256
 
--- the 16 entries of the table of places from the row of b on
-abbrev places : ℕ → List ℕ
-places b = map (λ c. digit c 48) (take 16 (drop (8 * b) CLEAR_PLACES))
+-- the 16 entries of the table of places from the row of b on, for the half row that begins at a byte
+abbrev pub places : ℕ → ℕ → List ℕ
+places from b = map (λ c. digit c (48 - from)) (take 16 (drop (8 * b) CLEAR_PLACES))
 
--- the first places in the row of b are those of its clear bits
-pub places_clear : (b : ℕ) → b < 256 → take (8 - count_ones b) (places b) ≡ clear (range_with_len 0 8) b
-unfolding count_ones
-places_clear b l = alike_same (take (8 - count_ones b) (places b)) (clear (range_with_len 0 8) b) (agree_below_at
-    (λ b. alike (take (8 - count_ones b) (places b)) (clear (range_with_len 0 8) b)) (λ b. true) 256 b refl l)
+-- whether the first places are those of the clear bits of b, and all are within a row of 16 bytes
+abbrev is_right : ℕ → ℕ → Bool
+is_right from b = bytes_eq (take (8 - count_ones b) (places from b)) (clear (range_with_len from 8) b)
+    && (list_all (λ p. ltb p 16) (places from b) && (eqb (length (places from b)) 16 && ltb (count_ones b) 9))
 
--- if the test that all items are below 8 is true, each item is below 8
-each_below : (v : List ℕ) → list_all (λ p. ltb p 8) v ≡ true → Each1 (λ p. p < 8) v
+-- the row of b in the table, for one of the two halves
+pub record IsRight (from b : ℕ) : Type 0 where
+  pub clear_first : take (8 - count_ones b) (places from b) ≡ clear (range_with_len from 8) b
+  pub small : Each1 (λ p. p < 16) (places from b)
+  pub long : length (places from b) ≡ 16
+  pub few : count_ones b ≤ 8
+
+-- if the test that all items are below 16 is true, each item is below 16
+each_below : (v : List ℕ) → list_all (λ p. ltb p 16) v ≡ true → Each1 (λ p. p < 16) v
 each_below [] h = tt
-each_below (x ∷ v) h = let p = and_parts (ltb x 8) (list_all (λ p. ltb p 8) v) h in (ltb-true x 8 p.0, each_below v p.1)
+each_below (x ∷ v) h = let p = and_parts (ltb x 16) (list_all (λ p. ltb p 16) v) h in (ltb-true x 16 p.0, each_below v p.1)
 
--- all places in the row of b are below 8
-pub places_small : (b : ℕ) → b < 256 → Each1 (λ p. p < 8) (places b)
-places_small b l =
-    each_below (places b) (agree_below_at (λ b. list_all (λ p. ltb p 8) (places b)) (λ b. true) 256 b refl l)
-
--- a byte has at most eight bits that are set
-pub ones_few : (b : ℕ) → b < 256 → count_ones b < 9
+-- each row of the table is right, for both halves
+all_right : (from b : ℕ) → (from ≡ 0) ⊎ (from ≡ 8) → b < 256 → is_right from b ≡ true
 unfolding count_ones
-ones_few b l = ltb-true (count_ones b) 9 (agree_below_at (λ b. ltb (count_ones b) 9) (λ b. true) 256 b refl l)
+all_right from b (inl e) l = rw e (agree_below_at (is_right 0) (λ b. true) 256 b refl l)
+all_right from b (inr e) l = rw e (agree_below_at (is_right 8) (λ b. true) 256 b refl l)
+
+-- what the test says
+pub row_right : (from b : ℕ) → (from ≡ 0) ⊎ (from ≡ 8) → b < 256 → IsRight from b
+row_right from b half l =
+    let s = take (8 - count_ones b) (places from b) in
+    let p = and_parts (bytes_eq s (clear (range_with_len from 8) b)) _ (all_right from b half l) in
+    let q = and_parts (list_all (λ p. ltb p 16) (places from b)) _ p.1 in
+    let r = and_parts (eqb (length (places from b)) 16) _ q.1 in
+    record {
+      clear_first = (bytes_eq-Decides s (clear (range_with_len from 8) b)).0 p.0;
+      small = each_below (places from b) q.0;
+      long = eqb-true (length (places from b)) 16 r.0;
+      few = omega (arith, ltb-true (count_ones b) 9 r.1);
+    }
 
 -- Half a row
 
--- the sum of two bytes, modulo 256
-abbrev add8 : ℕ → ℕ → ℕ
-add8 a b = (a + b) % 256
-
--- places below 8 are below 16 after at most 8 is added to each
-pub places_below : (v : List ℕ) (from : ℕ) → length v ≡ 16 → from ≤ 8 → Each1 (λ p. p < 8) v → {js : List ℕ}
-    → js ≡ map (λ p. add8 p from) v → Each1 (λ j. j < 16) js
-places_below v from long l h {js} e =
-    let P : List ℕ → Type 0 = λ l. Each1 (λ j. j < 16) l in
-    subst P (sym e) (each_map (λ p. p < 8) (λ j. j < 16) (λ p. add8 p from) (λ p k. omega (arith, k, l)) v h)
-
--- two functions that agree on a range give equal lists for it
-map_range : (f g : ℕ → ℕ) (a n : ℕ) → ((k : ℕ) → a ≤ k → k < a + n → f k ≡ g k)
-    → map f (range_with_len a n) ≡ map g (range_with_len a n)
-map_range f g a zero h = refl
-map_range f g a (suc n) h = grind (arith, map_range f g (a + 1) n (λ k p q. h k (omega arith) (omega arith)))
-
--- the eight bytes of a row from an index on, looked up one by one, are the half row that begins there
-half_is : (row : List ℕ) (from : ℕ) → length row ≡ 16 → from ≤ 8
-    → map (λ p. get_or row (add8 p from) 0) (range_with_len 0 8) ≡ take 8 (drop from row)
-half_is row from long l =
-    let v = take 8 (drop from row) in
-    cc (
-      map_range (λ p. get_or row (add8 p from) 0) (λ k. get_or v k 0) 0 8 (λ k a b. let there : add8 k from
-          ≡ from + k = omega arith in ap (λ n. get_or row n 0) there
-          ∙ sym (get_or-take 8 (drop from row) k 0 (omega arith) ∙ get_or-drop from row k 0)),
-      pick_l_whole 0 v 8 (length-take-le 8 (drop from row) (omega (arith, length-drop from row))),
-    )
-
 -- a lookup of the places of the clear bits finds the bytes of the half row whose bits are clear
-pub half_clear : (row v js : List ℕ) (from bits c : ℕ) → length row ≡ 16 → length v ≡ 16 → from ≤ 8
-    → Each1 (λ p. p < 8) v → take c v ≡ clear (range_with_len 0 8) bits → js ≡ map (λ p. add8 p from) v
-    → take c (swz_l w8 16 row 0 js) ≡ clear (take 8 (drop from row)) bits
-half_clear row v js from bits c long wide l small is e =
-    let look : ℕ → ℕ = λ p. get_or row (add8 p from) 0 in
-    let size : length js ≡ 16 = ap length e ∙ length-map v (λ p. add8 p from) ∙ wide in
-    ap (take c) (looked_at row js size (places_below v from wide l small e) ∙ ap (map (λ j. get_or row j 0)) e
-    ∙ map-map (λ j. get_or row j 0) (λ p. add8 p from) v)
-    ∙ take-map look c v
-    ∙ ap (map look) is
-    ∙ sym (clear_map look (range_with_len 0 8) bits)
-    ∙ ap (λ l. clear l bits) (half_is row from long l)
+pub half_clear : (row js : List ℕ) (from b : ℕ) → length row ≡ 16 → (from ≡ 0) ⊎ (from ≡ 8) → b < 256
+    → js ≡ places from b → take (8 - count_ones b) (swz_l w8 16 row 0 js) ≡ clear (take 8 (drop from row)) b
+half_clear row js from b long half l e =
+    let look : ℕ → ℕ = λ p. get_or row p 0 in
+    let r = row_right from b half l in
+    let whole : from + 8 ≤ length row = elim half [ inl z ↦ omega arith | inr z ↦ omega arith ] in
+    let P : List ℕ → Type 0 = λ l. Each1 (λ j. j < 16) l in
+    cc (
+      looked_at row js (ap length e ∙ r.long) (subst P (sym e) r.small),
+      take-map look (8 - count_ones b) js,
+      r.clear_first,
+      clear_map look (range_with_len from 8) b,
+      pick_l-range_with_len 0 row from 8 whole,
+    )
 
 -- Two halves
 
@@ -206,11 +180,6 @@ pub all_more : (x y z : List ℕ) → list_all is_symbol x ≡ true → z ≡ x 
     → list_all is_symbol z ≡ true
 all_more x y z h e = grind (arith, list_all-append, list_all_every, filter_every)
 
--- the symbols after the first n
-pub all_after : (n : ℕ) (q : List ℕ) → list_all is_symbol q ≡ true → list_all is_symbol (drop n q) ≡ true
-all_after n q h = (and_parts (list_all is_symbol (take n q)) (list_all is_symbol (drop n q))
-    (sym (list_all-append is_symbol (take n q) (drop n q)) ∙ ap (list_all is_symbol) (take-append-drop n q) ∙ h)).1
-
 -- the 64 bytes from index 128 on, copied to the front
 pub moved : (old new : List ℕ) (len : ℕ) → length old ≡ 208 → len < 192 → new ≡ copy_within old 128 192 0
     → take (len - 128) new ≡ drop 128 (take len old)
@@ -271,44 +240,39 @@ fits_symbols [] h i = record { fits = omega arith }
 fits_symbols (b ∷ s) h zero = grind (arith, and_parts)
 fits_symbols (b ∷ s) h (suc i) = fits_symbols s (and_parts (is_symbol b) (list_all is_symbol s) h).1 i
 
--- the bytes of the groups of 64 bytes begin with those of as many of their groups as are symbols
-front_is : (s bytes : List ℕ) (len : ℕ) → 64 ≤ length s → len ≤ length s → list_all is_symbol (take len s) ≡ true
-    → bytes ≡ groups (map value_of (take 64 s)) → DecodesFront (take len s) bytes
-front_is s bytes len long within all e m a b =
-    let n = 4 * m in
-    let size = length-take-le len s within in
-    let every = all_before s n len (omega arith) all in
-    cc (
-      take_groups m (map value_of (take 64 s)) (omega (
-        arith,
-        length-map (take 64 s) value_of,
-        length-take-le 64 s long,
-      )),
-      take-map value_of n (take 64 s),
-      take-take n 64 s (omega arith),
-      take-take n len s (omega arith),
-      symbols_values (take n s) (fits_symbols (take n s) every) every,
-    )
+-- the first n items of the first m are the first m of the first n
+take-comm : (n m : ℕ) (s : List ℕ) → take n (take m s) ≡ take m (take n s)
+take-comm zero zero s = refl
+take-comm zero (suc m) s = refl
+take-comm (suc n) zero s = refl
+take-comm (suc n) (suc m) [] = refl
+take-comm (suc n) (suc m) (x ∷ s) = ap (λ l. x ∷ l) (take-comm n m s)
 
--- the bytes of the groups of the 64 bytes from an index on begin with those of the groups of the symbols from there on
-pub front_from : (s bytes : List ℕ) (len from : ℕ) → length s ≡ 208 → len < 192 → from ≤ 64
-    → list_all is_symbol (take len s) ≡ true → bytes ≡ groups (map value_of (take 64 (drop from s)))
-    → DecodesFront (drop from (take len s)) bytes
-front_from s bytes len from long few early all e = grind (arith, length-drop, drop_taken, front_is, all_after)
-
--- all groups of fewer than 64 symbols
-pub groups_front : (q bytes : List ℕ) → length q < 64 → DecodesFront q bytes
-    → take (3 * (length q / 4)) bytes ≡ groups (map symbol_value q)
-groups_front q bytes few front =
+-- if q are symbols at the start of 64 bytes, the bytes of their groups are at the start of those of the 64 bytes
+front_is : (v q bytes : List ℕ) (n : ℕ) → length v ≡ 64 → q ≡ take n v → list_all is_symbol q ≡ true
+    → bytes ≡ groups (map value_of v) → take (3 * (length q / 4)) bytes ≡ groups (map symbol_value q)
+front_is v q bytes n long is all e =
     let m = length q / 4 in
-    let a = take (4 * m) q in
-    let b = drop (4 * m) q in
-    let long : length a ≡ 4 * m = length-take-le (4 * m) q (omega arith) in
+    let x = map value_of v in
+    let few : length q ≤ n = omega (arith, ap length is, length-take n v) in
+    let size : length q ≤ 64 = omega (arith, ap length is, length-take n v) in
+    let same : map symbol_value q ≡ take n x = sym (symbols_values q (fits_symbols q all) all) ∙ ap (map value_of) is
+    ∙ sym (take-map value_of n v) in
+    let whole : length (take n x) ≡ length q = ap length (sym same) ∙ length-map q symbol_value in
     cc (
-      front m (omega arith) (omega arith),
-      take-append-drop (4 * m) q,
-      map-append symbol_value a b,
-      groups_whole (map symbol_value a) (map symbol_value b) (omega (arith, length-map a symbol_value)),
-      groups_few (map symbol_value b) (omega (arith, length-map b symbol_value, length-drop (4 * m) q)),
-      append-nil (groups (map symbol_value a)),
+      take_groups m x (omega (arith, length-map v value_of)),
+      groups_front (take n x),
+      take-take (4 * m) n x (omega arith),
+      whole,
     )
+
+-- the bytes of the groups of 64 bytes from an index on begin with those of the groups of the symbols among them
+pub front_from : (s bytes : List ℕ) (len from : ℕ) → length s ≡ 208 → from ≤ 64
+    → list_all is_symbol (take len s) ≡ true → bytes ≡ groups (map value_of (take 64 (drop from s)))
+    → let q = take 64 (drop from (take len s)) in take (3 * (length q / 4)) bytes ≡ groups (map symbol_value q)
+front_from s bytes len from long early all e =
+    let v = take 64 (drop from s) in
+    let q = take 64 (drop from (take len s)) in
+    front_is v q bytes (len - from) (length-take-le 64 (drop from s) (omega (arith, length-drop from s)))
+    (cc (drop_taken from len s, take-comm 64 (len - from) (drop from s)))
+    (all_cut 64 (drop from (take len s)) (all_cut from (take len s) all).1).0 e

@@ -1,5 +1,5 @@
 -- What a decoder does with more bytes, and at its end. For `Decoder`.
-use Rattle.std.proofs.Common.{◌≡◌, ℕ, suc, zero, ◌+◌, ◌*◌, ◌%◌, ◌≤◌, Bool, true, false, cond, eqb, get_or, take, List}
+use Rattle.std.proofs.Common.{◌≡◌, ℕ, suc, zero, ◌+◌, ◌%◌, ◌≤◌, Bool, true, false, cond, eqb, get_or, take, List}
 use Rattle.std.proofs.Common.{[], ◌∷◌, ◌++◌, length, map, min, replicate, None, Some, Result, Ok, Err, refl, ap, ap₂, sym}
 use Rattle.std.proofs.Common.{◌∙◌, subst, arith, length-append, length-take, drop, Option, append_assoc}
 use Rattle.std.specs.Prelude.{MatchOption, MatchBool, MatchResult}
@@ -250,25 +250,33 @@ sound d = record {
   few_padding = d.few_padding;
 }
 
+-- if q has no group, and t is empty, the symbols of q and t have no group
+none_more : (q t : List ℕ) {bytes : List ℕ} → length q ≤ 3 → bytes ≡ groups (map symbol_value (q ++ filter is_symbol t))
+    → length t ≡ 0 → bytes ≡ []
+none_more q [] few e none = e ∙ groups_few (map symbol_value (q ++ [])) (rw (append-nil, length-map) few)
+none_more q (c ∷ t) few e none = absurd (omega arith)
+
 module _ {F : Type 0} where
   -- d reads a text t without a fault that has the symbols k and n times '=', if the fields of d' are what is left over
-  pub adds_text : {d d' : State F} (t k bytes : List ℕ) (n : ℕ) → Every is_symbol d.symbols
+  pub adds_text : {d d' : State F} (t k bytes : List ℕ) (n : ℕ) → IsSound d
       → fault_byte (has_pad d.padding) t ≡ None → filter is_symbol t ≡ k → length (filter is_pad t) ≡ n
-      → bytes ≡ groups (map symbol_value (d.symbols ++ k)) → length bytes ≤ 3 * length t → d'.closure ≡ d.closure
+      → bytes ≡ groups (map symbol_value (d.symbols ++ k)) → d'.closure ≡ d.closure
       → d'.symbols ≡ after_groups (d.symbols ++ k) → d'.padding ≡ min (d.padding + n) 3 → d'.failed ≡ false
       → Adds d t bytes d'
-  adds_text {d} {d'} t k bytes n every good is_k is_n is_bytes few same symbols padding failed =
+  adds_text {d} {d'} t k bytes n s good is_k is_n is_bytes same symbols padding failed =
+      let every = s.every in
+      let is : bytes ≡ groups (map symbol_value (d.symbols ++ filter is_symbol t)) = cc in
+      let none = none_more d.symbols t s.few is in
       grind (arith, none_fault, fault_more, done_more, left_more, padding_more)
 
   -- the text completes no group
-  adds_quiet : {d d' : State F} (t k : List ℕ) (n : ℕ) → Every is_symbol d.symbols
+  adds_quiet : {d d' : State F} (t k : List ℕ) (n : ℕ) → IsSound d
       → fault_byte (has_pad d.padding) t ≡ None → filter is_symbol t ≡ k → length (filter is_pad t) ≡ n
       → length (d.symbols ++ k) ≤ 3 → d'.closure ≡ d.closure → d'.symbols ≡ d.symbols ++ k
       → d'.padding ≡ min (d.padding + n) 3 → d'.failed ≡ false → Adds d t [] d'
-  adds_quiet {d} t k n every good is_k is_n few same symbols padding failed =
-      adds_text t k [] n every good is_k is_n
-      (sym (groups_few (map symbol_value (d.symbols ++ k))
-      (omega (arith, few, length-map (d.symbols ++ k) symbol_value)))) (omega arith)
+  adds_quiet {d} t k n s good is_k is_n few same symbols padding failed =
+      adds_text t k [] n s good is_k is_n
+      (sym (groups_few (map symbol_value (d.symbols ++ k)) (rw length-map few)))
       same (symbols ∙ sym (after_few (d.symbols ++ k) few)) padding failed
 
   -- d reads a symbol after at most two symbols and no padding: it keeps the symbol, and no group is complete
@@ -276,7 +284,7 @@ module _ {F : Type 0} where
       → is_symbol c ≡ true → d'.closure ≡ d.closure → d'.symbols ≡ d.symbols ++ c ∷ [] → d'.padding ≡ d.padding
       → d'.failed ≡ false → Adds d (c ∷ []) [] d'
   adds_kept {d} c s few none symbol same symbols padding failed =
-      adds_quiet (c ∷ []) (c ∷ []) 0 s.every
+      adds_quiet (c ∷ []) (c ∷ []) 0 s
       (ap (λ p. fault_byte (has_pad p) (c ∷ [])) none ∙ fault_symbol c symbol)
       (symbols_symbol c symbol)
       (ap length (pads_symbol c symbol))
@@ -293,7 +301,7 @@ module _ {F : Type 0} where
   pub adds_none : {d : State F} → IsSound d → d.failed ≡ false
       → Adds d [] [] d
   adds_none {d} s going =
-      adds_quiet [] [] 0 s.every
+      adds_quiet [] [] 0 s
       (fault_nil (has_pad d.padding))
       refl
       refl
@@ -304,7 +312,7 @@ module _ {F : Type 0} where
   adds_equals : {d d' : State F} → IsSound d → d.failed ≡ false
       → d' ≡ record d { padding = min (d.padding + 1) 3 } → Adds d (61 ∷ []) [] d'
   adds_equals {d} {d'} s going same =
-      adds_quiet (61 ∷ []) [] 1 s.every
+      adds_quiet (61 ∷ []) [] 1 s
       (fault_pads 1 (has_pad d.padding))
       refl
       refl
@@ -324,12 +332,11 @@ module _ {F : Type 0} where
       → d'.closure ≡ d.closure → d'.symbols ≡ [] → d'.padding ≡ 0 → d'.failed ≡ false → Adds d (c ∷ []) group d'
   adds_group {d} {d'} x y z c group s is_q is_p symbol is_group same symbols padding failed =
       let all : d.symbols ++ c ∷ [] ≡ x ∷ y ∷ z ∷ c ∷ [] = ap (λ k. k ++ c ∷ []) is_q in
-      adds_text (c ∷ []) (c ∷ []) group 0 s.every
+      adds_text (c ∷ []) (c ∷ []) group 0 s
       (ap (λ p. fault_byte (has_pad p) (c ∷ [])) is_p ∙ fault_symbol c symbol)
       (symbols_symbol c symbol)
       (ap length (pads_symbol c symbol))
       (cc (four_groups (symbol_value x) (symbol_value y) (symbol_value z) (symbol_value c)))
-      (omega (arith, ap length is_group))
       same (symbols ∙ sym (ap after_groups all ∙ four_after x y z c))
       (padding ∙ ap (λ p. min (p + 0) 3) (sym is_p)) failed
 

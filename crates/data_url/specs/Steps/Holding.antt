@@ -1,8 +1,7 @@
 -- What a decoder does with input while decoded bytes are held, to be passed to the closure together.
-use Rattle.std.specs.Prelude.{[], ◌*◌, ◌++◌, ◌+◌, ◌∷◌, ◌≡◌, ◌≤◌, Err, List, MatchResult, None, Ok, Result, false, is_some, length, take, true, ℕ}
-use Rattle.data_url.specs.Base64.{Kind, after_groups, complete_bytes, first_fault, kind_of}
+use Rattle.std.specs.Prelude.{[], ◌++◌, ◌∷◌, ◌≡◌, ◌≤◌, Err, List, MatchResult, None, Ok, Result, false, is_some, length, take, true, ℕ}
+use Rattle.data_url.specs.Base64.{Kind, complete_bytes, first_fault, kind_of}
 use Rattle.data_url.specs.Decoder.{Feeds, IsLeft, State, left_over}
-use Rattle.data_url.specs.Run.{Call, IsRun, joined_pieces, refusal}
 use Rattle.data_url.specs.Steps.Calls.{CallsOnce}
 use Rattle.data_url.specs.declared.forgiving_base64.DecodeError.{DecodeError}
 
@@ -12,7 +11,7 @@ pub record Adds {F : Type 0} (d : State F) (text bytes : List ℕ) (d' : State F
   pub no_fault : first_fault (left_over d ++ text) ≡ None
   pub bytes_are : bytes ≡ complete_bytes (left_over d ++ text)
   pub left : IsLeft (left_over d ++ text) d'
-  pub few : length bytes ≤ 3 * length text
+  pub none : length text ≡ 0 → bytes ≡ []
   pub closure_stays : d'.closure ≡ d.closure
   pub going : d'.failed ≡ false
 
@@ -40,24 +39,17 @@ abbrev pub Flushes : {F E : Type 0} → (F → List ℕ → Result (Unit {0}) E 
 Flushes step d [] r d' = (r ≡ Ok tt) × (d' ≡ d)
 Flushes step d (b ∷ bs) r d' = CallsOnce step d (b ∷ bs) r d'
 
--- d reads the text and is d' after that. All decoded bytes were passed to the closure, except those
--- that are held, and no call returned an error. The length of the text bounds the number of calls.
-pub record Holds {F E : Type 0} (step : F → List ℕ → Result (Unit {0}) E → F → Type 0) (d : State F)
-    (text held : List ℕ) (d' : State F) : Type 0 where
-  pub run : List (Call F E)
-  pub ran : IsRun step d.closure run d'.closure
-  pub accepted : refusal run ≡ None
-  pub bytes_are : joined_pieces run ++ held ≡ complete_bytes (left_over d ++ text)
-  pub no_fault : first_fault (left_over d ++ text) ≡ None
-  pub left : IsLeft (left_over d ++ text) d'
-  pub calls : 48 * length run + length held ≤ 3 * length text
-  pub going : d'.failed ≡ false
-
--- d reads the first `taken` bytes of the text, and holds the last of their decoded bytes
+-- d is fed a front of the first `taken` bytes of the text, and reads the rest of them without a call of
+-- the closure; the bytes of that rest are held
 pub record Reads {F E : Type 0} (step : F → List ℕ → Result (Unit {0}) E → F → Type 0)
     (d : State F) (text : List ℕ) (taken : ℕ) (held : List ℕ) (d' : State F) : Type 0 where
   pub within : taken ≤ length text
-  pub holds : Holds step d (take taken text) held d'
+  pub front : List ℕ
+  pub rest : List ℕ
+  pub parts : take taken text ≡ front ++ rest
+  pub between : State F
+  pub fed : Feeds step d front (Ok tt) between
+  pub adds : Adds between rest held d'
 
 -- d is fed the first n bytes of the text, where r is `Ok` of n; or r is the error of feeding d the
 -- whole text
@@ -70,7 +62,3 @@ FeedsPart step d text r d' = MatchResult r
 -- the next symbol begins a group
 abbrev pub IsBetweenGroups : {F : Type 0} → State F → Type 0
 IsBetweenGroups d = (d.symbols ≡ []) × (d.padding ≡ 0)
-
--- d, but what is left over in it are the symbols after their complete groups
-abbrev pub waiting : {F : Type 0} → State F → List ℕ → State F
-waiting d symbols = record d { symbols = after_groups symbols }

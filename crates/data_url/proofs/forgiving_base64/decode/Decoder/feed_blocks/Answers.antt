@@ -17,7 +17,7 @@ returns-in_err-write-clause-fed g c =
     let i = c.loop-at.invariant in
     rw (p.1, p.2)
     (feeds_stop (CalledAt g.F.FnMut) c.args.text.now (c.loop-at.at + 64)
-    (block_feeds (CalledAt g.F.FnMut) c.args.text.now c.loop-at.at c.type_inv.text i.between (omega arith)
+    (block_feeds (CalledAt g.F.FnMut) c.args.text.now c.loop-at.at c.type_inv.text i.between (omega arith) (omega arith)
     (sym c.if-is_whole.true ∙ c.is_whole.ensures) c.decode.ensures i.fed c.in_err-write.ensures.wrote))
 
 pub loop-at-preserved : goal.loop-at-preserved
@@ -28,6 +28,6 @@ loop-at-preserved g c =
       callable = c.in_ok-write.ensures.callable;
       within = omega arith;
       between = (w.symbols_stay ∙ i.between.0, w.padding_stays ∙ i.between.1);
-      fed = block_feeds (CalledAt g.F.FnMut) c.args.text.now c.loop-at.at c.type_inv.text i.between (omega arith)
+      fed = block_feeds (CalledAt g.F.FnMut) c.args.text.now c.loop-at.at c.type_inv.text i.between (omega arith) (omega arith)
           (sym c.if-is_whole.true ∙ c.is_whole.ensures) c.decode.ensures i.fed w;
     }

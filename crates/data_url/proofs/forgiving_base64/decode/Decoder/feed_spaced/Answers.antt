@@ -2,33 +2,29 @@ use Rattle.std.proofs.Common.{◌≡◌, ◌<◌, ◌≤◌, ◌-◌, ◌*◌, �
 use Rattle.std.proofs.lemmas.List.{drop-drop}
 use Rattle.std.proofs.lemmas.Result.{err_from_is_err_and}
 use Rattle.std.specs.Fn.{CalledAt}
+use Rattle.data_url.specs.Base64.{after_groups}
 use Rattle.data_url.specs.Decoder.{state_of}
 use Rattle.data_url.specs.Steps.Waiting.{symbols_of}
-use Rattle.data_url.proofs.forgiving_base64.Holding.{block_goes, block_refused, few_read, none_wait, rows_wait, symbols_len}
+use Rattle.data_url.proofs.forgiving_base64.Holding.{Waits, block_goes, block_refused, last_wait, none_wait, rest_after}
+use Rattle.data_url.proofs.forgiving_base64.Holding.{rows_wait, symbols_len}
 use Rattle.data_url.proofs.forgiving_base64.Padding.{every_after, every_list_all, list_all_every}
-use Rattle.data_url.specs.Base64.{after_groups}
-use Rattle.data_url.proofs.forgiving_base64.Holding.{Waits, rest_after}
-use Rattle.data_url.proofs.forgiving_base64.decode.Decoder.feed_spaced.Goals.{then-symbols-ge64+in_ok-write-3, else-symbols-ge64}
 use Rattle.data_url.proofs.forgiving_base64.Steps.{sound}
+use Rattle.data_url.proofs.forgiving_base64.decode.Decoder.feed_spaced.Goals.{then-symbols-ge64+in_ok-write-3, else-symbols-ge64}
 use Rattle.data_url.proofs.forgiving_base64.decode.Decoder.feed_spaced.Goals as goal
 
 pub loop-taken-init : goal.loop-taken-init
-loop-taken-init g c =
-    let d = c.args.self.now in
-    record {
-      callable = c.requires.callable;
-      within = omega arith;
-      few = omega (arith, c.new-symbols.ensures.len);
-      waits = none_wait (CalledAt g.F.FnMut) c.args.text.now (sound d) c.requires.between c.requires.going c.new-symbols.ensures.none;
-    }
+loop-taken-init g c = record {
+  callable = c.requires.callable;
+  few = omega (arith, c.new-symbols.ensures.len);
+  waits = none_wait (CalledAt g.F.FnMut) c.args.text.now (sound c.args.self.now) c.requires.between c.requires.going
+      c.new-symbols.ensures.none;
+}
 
 pub returns-in_err-write-clause-fed : goal.returns-in_err-write-clause-fed
 returns-in_err-write-clause-fed g c =
     let p = err_from_is_err_and c.from_residual.result c.from_residual.ensures.1 in
     let step = CalledAt g.F.FnMut in
-    let n = c.add_rows-taken.result in
-    let some : 0 < n = omega arith in
-    let waits = rows_wait step c.args.text.now c.loop-taken.at n some c.add_rows-taken.ensures.within
+    let waits = rows_wait step c.args.text.now c.loop-taken.at c.add_rows-taken.result c.add_rows-taken.ensures.within
     c.add_rows-taken.ensures.added c.loop-taken.invariant.waits in
     rw (p.1, p.2) (block_refused step c.decode.result (omega (arith, symbols_len c.add_rows-taken.new.self)) (omega arith)
     c.decode.ensures waits c.in_err-write.ensures.wrote)
@@ -37,11 +33,9 @@ pub returns-in_err-write-2-clause-fed : goal.returns-in_err-write-2-clause-fed
 returns-in_err-write-2-clause-fed g c =
     let p = err_from_is_err_and c.from_residual-in_err-write-2.result c.from_residual-in_err-write-2.ensures.1 in
     let step = CalledAt g.F.FnMut in
-    let n = c.add_rows-taken.result in
-    let some : 0 < n = omega arith in
     let q = symbols_of c.add_rows-taken.new.self in
     let long : 128 ≤ length q = omega (arith, symbols_len c.add_rows-taken.new.self) in
-    let waits = rows_wait step c.args.text.now c.loop-taken.at n some c.add_rows-taken.ensures.within
+    let waits = rows_wait step c.args.text.now c.loop-taken.at c.add_rows-taken.result c.add_rows-taken.ensures.within
     c.add_rows-taken.ensures.added c.loop-taken.invariant.waits in
     let first = block_goes step c.decode.result (omega arith) (omega arith) c.decode.ensures waits
     c.in_ok-write.ensures.wrote in
@@ -51,18 +45,15 @@ returns-in_err-write-2-clause-fed g c =
 pub loop-taken-preserved-then-symbols-ge128 : goal.loop-taken-preserved-then-symbols-ge128
 loop-taken-preserved-then-symbols-ge128 g c =
     let step = CalledAt g.F.FnMut in
-    let n = c.add_rows-taken.result in
-    let some : 0 < n = omega arith in
     let s = c.add_rows-taken.new.self in
     let q = symbols_of s in
     let long : 128 ≤ length q = omega (arith, symbols_len s) in
-    let waits = rows_wait step c.args.text.now c.loop-taken.at n some c.add_rows-taken.ensures.within
+    let waits = rows_wait step c.args.text.now c.loop-taken.at c.add_rows-taken.result c.add_rows-taken.ensures.within
     c.add_rows-taken.ensures.added c.loop-taken.invariant.waits in
     let first = block_goes step c.decode.result (omega arith) (omega arith) c.decode.ensures waits
     c.in_ok-write.ensures.wrote in
     record {
       callable = c.in_ok-write-2.ensures.callable;
-      within = waits.reads.within;
       few = omega (arith, c.drop_front.ensures.len, s.within);
       waits = rw (c.drop_front.ensures.rest ∙ sym (drop-drop 64 64 q))
           (block_goes step c.decode-then-symbols-ge128.result (omega (arith, length-drop 64 q)) (omega arith)
@@ -70,17 +61,12 @@ loop-taken-preserved-then-symbols-ge128 g c =
     }
 
 pub loop-taken-preserved : goal.loop-taken-preserved
-loop-taken-preserved g c =
-    let n = c.add_rows-taken.result in
-    let some : 0 < n = omega arith in
-    let waits = rows_wait (CalledAt g.F.FnMut) c.args.text.now c.loop-taken.at n some c.add_rows-taken.ensures.within
-    c.add_rows-taken.ensures.added c.loop-taken.invariant.waits in
-    record {
-      callable = c.loop-taken.invariant.callable;
-      within = waits.reads.within;
-      few = omega (arith, c.if-symbols-ge128.false);
-      waits = waits;
-    }
+loop-taken-preserved g c = record {
+  callable = c.loop-taken.invariant.callable;
+  few = omega (arith, c.if-symbols-ge128.false);
+  waits = rows_wait (CalledAt g.F.FnMut) c.args.text.now c.loop-taken.at c.add_rows-taken.result
+      c.add_rows-taken.ensures.within c.add_rows-taken.ensures.added c.loop-taken.invariant.waits;
+}
 
 pub returns-in_err-write-3-clause-fed : goal.returns-in_err-write-3-clause-fed
 returns-in_err-write-3-clause-fed g c =
@@ -125,5 +111,5 @@ returns-clause-fed g c =
     let bytes = c.decode-2.result in
     let size : s.len - from ≡ length (drop from q) = omega (arith, symbols_len s, length-drop from q) in
     rw (c.new.ensures.bytes ∙ ap (λ n. take (3 * (n / 4)) bytes) size)
-    (few_read step {at = at} bytes (take (s.len % 4) c.last-self.result) start.0 c.decode-2.ensures
+    (last_wait step {at = at} bytes (take (s.len % 4) c.last-self.result) start.0 c.decode-2.ensures
     (c.last-self.ensures ∙ start.1) start.2)

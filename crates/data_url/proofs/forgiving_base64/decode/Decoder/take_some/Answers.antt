@@ -7,8 +7,8 @@ use Rattle.data_url.proofs.forgiving_base64.decode.Decoder.take_some.Goals as go
 
 pub returns-then-taken-gt0 : goal.returns-then-taken-gt0
 returns-then-taken-gt0 g c =
-    let none = c.is_between_groups.ensures c.if-is_between_groups.true in
-    gains_groups c.fill-taken.result (omega arith) none.0 none.1 c.requires.going c.fill-taken.ensures.fills
+    gains_groups c.fill-taken.result (omega arith) (c.is_between_groups.ensures c.if-is_between_groups.true)
+    c.requires.going c.fill-taken.ensures.fills
 
 pub returns : goal.returns
 returns g c =

@@ -9,5 +9,5 @@ pub returns : goal.returns
 returns c =
     let s = c.args.self.now in
     let from = c.args.from in
-    front_from s.bytes c.decode.result s.len from s.sized s.within c.requires s.symbols
+    front_from s.bytes c.decode.result s.len from s.sized c.requires s.symbols
     (c.decode.ensures ∙ ap (λ l. groups (map value_of l)) (take-take 64 (208 - from) (drop from s.bytes) (omega arith)))
