@@ -30,7 +30,7 @@ use Rattle.data_url.proofs.forgiving_base64.WholeTexts.{decodes_finished, decode
 use Rattle.data_url.proofs.forgiving_base64.WholeTexts.{run_reads}
 use Rattle.data_url.specs.declared.DataUrl.{DataUrl}
 use Rattle.data_url.proofs.forgiving_base64.Groups.{groups_length}
-use Rattle.data_url.proofs.forgiving_base64.Holding.{filter_length}
+use Rattle.data_url.proofs.forgiving_base64.Groups.{filter_length}
 
 -- A closure that is called with a body, chunk by chunk.
 

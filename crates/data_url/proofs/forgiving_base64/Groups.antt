@@ -1,10 +1,10 @@
 -- Groups of four symbols, and texts that are fed in two parts.
-use Rattle.std.proofs.Common.{◌≡◌, ℕ, suc, ◌+◌, ◌*◌, ◌%◌, ◌≤◌, true, ◌&&◌, ◌||◌, List, [], ◌∷◌, ◌++◌, map, length}
+use Rattle.std.proofs.Common.{◌≡◌, ℕ, suc, ◌+◌, ◌*◌, ◌≤◌, true, ◌&&◌, ◌||◌, List, [], ◌∷◌, ◌++◌, map, length}
 use Rattle.std.proofs.Common.{get_or, take, drop, Fits, w8, refl, ap, ap₂, sym, ◌∙◌, arith, length-take, length-take-le}
 use Rattle.std.proofs.Common.{false, min, None, append_assoc, length-append, ◌/◌}
 use Rattle.std.specs.List.{list_all, prefix_len, filter, list_any}
 use Rattle.std.proofs.lemmas.Bool.{and_parts}
-use Rattle.std.proofs.lemmas.List.{append-nil, get_or-take, get_or_past, length-map, take-append-drop, take-map}
+use Rattle.std.proofs.lemmas.List.{get_or-take, get_or_past, length-map, take-append-drop, take-map}
 use Rattle.std.proofs.lemmas.List.{take-take, take_at, take_all, map-append, length-replicate}
 use Rattle.std.proofs.lemmas.List.Elements.{filter-append}
 use Rattle.std.proofs.lemmas.List.Folds.{list_all-append}
@@ -28,7 +28,7 @@ use Rattle.data_url.specs.Laws.{GoesOn, TwoFeeds}
 -- How many bytes groups have
 
 -- there are three bytes for each four values, without those that are left over
-groups_size : (x : List ℕ) → length (groups x) ≡ 3 * (length x / 4)
+pub groups_size : (x : List ℕ) → length (groups x) ≡ 3 * (length x / 4)
 unfolding groups
 groups_size [] = refl
 groups_size (p ∷ []) = omega arith
@@ -40,17 +40,18 @@ groups_size (p ∷ q ∷ r ∷ s ∷ rest) = omega (arith, groups_size rest)
 pub groups_length : (x : List ℕ) → 4 * length (groups x) ≤ 3 * length x
 groups_length x = omega (arith, groups_size x)
 
+-- a text has at most as many symbols as bytes
+pub filter_length : (t : List ℕ) → length (filter is_symbol t) ≤ length t
+filter_length [] = omega arith
+filter_length (c ∷ t) = grind (arith, filter_length t)
+
 -- if x has at least 4 * m values, the first 3 * m bytes of its groups are those of its first 4 * m values
 pub take_groups : (m : ℕ) (x : List ℕ) → 4 * m ≤ length x → take (3 * m) (groups x) ≡ groups (take (4 * m) x)
 take_groups m x h =
     let front = take (4 * m) x in
     let long : length front ≡ 4 * m = length-take-le (4 * m) x h in
     let size : length (groups front) ≡ 3 * m = omega (arith, groups_size front) in
-    cc (
-      take-append-drop (4 * m) x,
-      groups_whole front (drop (4 * m) x) (omega arith),
-      take_at (groups front) (groups (drop (4 * m) x)) (3 * m) size,
-    )
+    cc (take-append-drop (4 * m) x, groups_whole front (drop (4 * m) x) (omega arith), take_at (groups front) (groups (drop (4 * m) x)) (3 * m) size)
 
 -- the groups of a list are those of its items without the ones that are left over
 pub groups_front : (x : List ℕ) → groups (take (4 * (length x / 4)) x) ≡ groups x
@@ -82,15 +83,8 @@ fits_take n s fits i = grind (arith, get_or-take, get_or_past, length-take)
 pub fill_symbols : (held block : List ℕ) (n m : ℕ) → n ≤ length block → 4 * m ≤ n
     → ((i : ℕ) → Fits w8 (get_or block i 0)) → list_all is_symbol (take (4 * m) block) ≡ true
     → Fills held block (4 * m) (held ++ take (3 * m) (groups (map value_of (take n block))))
-fill_symbols held block n m long few fits all = record {
-  within = omega arith;
-  whole = omega arith;
-  symbols = all;
-  held_are = ap (λ l. held ++ l)
-      (take_groups m (map value_of (take n block)) (omega (arith, length-map (take n block) value_of, length-take-le n block long))
-      ∙ ap groups (take-map value_of (4 * m) (take n block) ∙ ap (map value_of) (take-take (4 * m) n block few)
-      ∙ symbols_values (take (4 * m) block) (fits_take (4 * m) block fits) all));
-}
+fill_symbols held block n m long few fits all =
+    grind (arith, take_groups, length-map, length-take-le, take-map, take-take, symbols_values, fits_take)
 
 -- the first c groups of a row that was written after g groups
 pub row_held : (old new bytes : List ℕ) (g c : ℕ) → take (3 * g + 12) new ≡ take (3 * g) old ++ bytes
@@ -98,11 +92,6 @@ pub row_held : (old new bytes : List ℕ) (g c : ℕ) → take (3 * g + 12) new 
 row_held old new bytes g c e within few =
     let size : 3 * (g + c) ≡ length (take (3 * g) old) + 3 * c = omega (arith, length-take-le (3 * g) old within) in
     cc (take-take (3 * (g + c)) (3 * g + 12) new (omega arith), take-append-add (take (3 * g) old) bytes (3 * c))
-
--- no group
-pub fill_none : (held text : List ℕ) → Fills held text 0 held
-unfolding groups
-fill_none held text = grind (arith, append-nil)
 
 -- one group
 pub fill_one : (held text bytes : List ℕ) → 4 ≤ length text → list_all is_symbol (take 4 text) ≡ true
@@ -156,57 +145,22 @@ values-append a b = grind (arith, filter-append, map-append)
 module _ (a b w : List ℕ) (st : Stands a w) where
   -- given `Stands a w`, the symbols of w ++ t are those left over of a and then those of t
   symbols_left : (t : List ℕ) → filter is_symbol (w ++ t) ≡ after_groups (filter is_symbol a) ++ filter is_symbol t
-  symbols_left t = filter-append is_symbol w t ∙ ap (λ x. x ++ filter is_symbol t) st.symbols
+  symbols_left t = grind (arith, filter-append)
 
   -- given `Stands a w`, the values of w ++ t are those left over of a and then those of t
   values_left : (t : List ℕ) → values (w ++ t) ≡ after_groups (values a) ++ values t
   unfolding values
   values_left t = grind (arith, symbols_left, map-append, after_groups-map)
 
-  -- given `Stands a w`, the numbers of values of a ++ b and of w ++ b are equal modulo four
-  length_values : length (values (a ++ b)) % 4 ≡ length (values (w ++ b)) % 4
-  unfolding values
-  length_values = grind (arith, length-map, filter-append, length_alike)
-
-  -- given `Stands a w`, a ++ b and w ++ b have equally many '=', counted up to three
-  length_pads : min (length (filter is_pad (a ++ b))) 3 ≡ min (length (filter is_pad (w ++ b))) 3
-  length_pads = grind (arith, filter-append, length-append)
-
   -- the groups of a and then t
   groups_both : (t : List ℕ) → groups (values (a ++ t)) ≡ complete_bytes a ++ groups (values (w ++ t))
   groups_both t = grind (arith, values-append, groups-append, done_is, before_none, values_left)
 
-  -- given `Stands a w`, the values left over of a ++ b are those left over of w ++ b
-  after_both : after_groups (values (a ++ b)) ≡ after_groups (values (w ++ b))
-  after_both = grind (arith, values-append, after_groups-append, values_left)
-
-  -- given `Stands a w`, a ++ b decodes to the complete bytes of a and then what w ++ b decodes to
-  decoded_both : decoded (a ++ b) ≡ complete_bytes a ++ decoded (w ++ b)
-  unfolding decoded
-  decoded_both = grind (arith, groups_both, append_assoc, after_both)
-
   -- given `Stands a w`, decoding b after a is the same as decoding w ++ b
   pub goes_on : GoesOn a b (w ++ b)
-  unfolding left_padding left_symbols
+  unfolding left_padding left_symbols values decoded
   goes_on =
-      search (
-        arith,
-        done_is,
-        before-append,
-        groups_both,
-        fault_some,
-        fault-append,
-        kind_is,
-        length_values,
-        after_groups-append,
-        symbols_left,
-        no_fault_valid,
-        fault_invalid,
-        filter-append,
-        length_alike,
-        length_pads,
-        decoded_both,
-      )
+      grind (arith, done_is, before-append, groups_both, fault_some, fault-append, kind_is, length-map, after_groups-append, no_fault_valid, fault_invalid, filter-append, length_alike, length-append, append_assoc, values-append, values_left)
 
 -- Decoding goes on from what is left over
 
@@ -218,4 +172,4 @@ left_stands a h =
 
 -- if a has no fault, decoding a ++ b is the same as decoding a, and then what is left over of a with b
 pub two_feeds : (a b : List ℕ) → first_fault a ≡ None → TwoFeeds a b
-two_feeds a b h = goes_on a b (left_text (left_symbols a) (left_padding a)) (left_stands a (fault_none a h))
+two_feeds a b h = search (arith, goes_on, left_stands, fault_none)

@@ -5,8 +5,8 @@ use Rattle.std.proofs.Common.{◌<◌, ◌≤◌, arith, ◌%◌, eqb, length-ap
 use Rattle.std.proofs.lemmas.List.{length-map, drop-map, append-nil, get_or_at, take_at, length_push, length-replicate}
 use Rattle.std.specs.List.{filter, find, list_any, range_with_len, list_all}
 use Rattle.std.proofs.lemmas.List.Folds.{list_any-append}
-use Rattle.std.proofs.lemmas.Bool.{cases_Bool, false≢true, eqb-true, eq-eqb, ne_eqb, eqb-false, not-true}
-use Rattle.std.proofs.lemmas.Bool.{not_from_false, and_from, false_from_ne_true, agree_below_at, and_parts}
+use Rattle.std.proofs.lemmas.Bool.{cases_Bool, false≢true, eqb-true}
+use Rattle.std.proofs.lemmas.Bool.{and_from, false_from_ne_true, agree_below_at, and_parts}
 use Rattle.data_url.specs.Base64.{before_place, first_fault, is_fault, is_symbol, is_valid, without_padding}
 use Rattle.data_url.specs.Base64.{without_last_padding, Kind, after_groups, without_whitespace, complete_bytes, groups}
 use Rattle.data_url.specs.Base64.{kind_at, kind_of, values}
@@ -15,7 +15,7 @@ use Rattle.data_url.specs.declared.forgiving_base64.InvalidBase64Details.TheVari
 use Rattle.data_url.specs.declared.forgiving_base64.InvalidBase64Details.TheVariants.{UnexpectedSymbol}
 use Rattle.data_url.specs.Mime.{Every}
 use Rattle.std.proofs.Math.Bool.{or-false, or_assoc}
-use Rattle.data_url.specs.Facts.{IsFirstFault, Fits, IsSymbolsAndPadding, PaddingFits}
+use Rattle.data_url.specs.Facts.{IsFirstFault, IsSymbolsAndPadding, PaddingFits}
 use Rattle.std.specs.Char.{is_ascii_whitespace}
 
 -- A walk over a text that remembers whether it has seen padding
@@ -211,18 +211,18 @@ IsLeast p a e (Some i) = (a ≤ i) × (i < e) × (p i ≡ true) × ((k : ℕ) �
 
 -- a search of the n indices from a on finds the smallest one that passes, or none if none passes
 find_least : (p : ℕ → Bool) (n a e : ℕ) → e ≡ a + n → IsLeast p a e (find p (range_with_len a n))
-find_least p zero a e q = λ i l m. absurd (omega arith)
+find_least p zero a e q = grind arith
 find_least p (suc n) a e q = grind (arith, find_least p n (a + 1) e (omega arith))
 
 -- the smallest index below the length of a text at which there is a fault, or none, is its first fault
 least_is : (b : List ℕ) (o : Option ℕ) → IsLeast (is_fault b) 0 (length b) o → IsFirstFault b o
 least_is b None h = λ i l. h i (omega arith) l
-least_is b (Some i) (l, m, t, f) = (m, t, λ k n. f k (omega arith) n)
+least_is b (Some i) (l, m, t, f) = grind arith
 
 -- `first_fault` is the smallest index of a fault, or `None` if there is no fault
 pub first_fault_least : (b : List ℕ) → IsFirstFault b (first_fault b)
 unfolding first_fault
-first_fault_least b = least_is b _ (find_least (is_fault b) (length b) 0 (length b) (omega arith))
+first_fault_least b = grind (arith, least_is, find_least)
 
 -- The first fault of a text is where the walk stops.
 
@@ -243,20 +243,7 @@ found : (f : ℕ → Bool) (p b : List ℕ) → ((q t : List ℕ) (c : ℕ) → 
 unfolding fault_byte before_fault
 found f p [] h = (refl, refl)
 found f p (c ∷ t) h =
-    let (ih, jh) = found f (p ++ c ∷ []) t (λ q u d e. h q u d (e ∙ append_assoc p (c ∷ []) t)) in
-    let at = h p t c refl in
-    let assoc = append_assoc p (c ∷ []) in
-    let any = list_any-append is_pad p (c ∷ []) ∙ ap (λ x. list_any is_pad p || x) (or-false (is_pad c)) in
-    elim (cases_Bool (f (length p))) [
-      | inl e ↦ (
-        cc (e, at, get_or_at p c t 0 (length p) refl),
-        cc (e, at, take_at p (c ∷ t) (length p) refl, append-nil p),
-      )
-      | inr e ↦ (
-        cc (e, at, assoc t, any, length_push p c, ih),
-        cc (e, at, assoc t, any, length_push p c, jh, assoc (before_fault (list_any is_pad (p ++ c ∷ [])) t)),
-      )
-    ]
+    grind (arith, found f (p ++ c ∷ []) t (λ q u d e. h q u d (e ∙ append_assoc p (c ∷ []) t)), append_assoc, list_any-append, get_or_at, take_at, append-nil, length_push)
 
 -- why a text is not valid, from the byte at its fault and the number of its symbols
 abbrev pub kind_by : ℕ → Option ℕ → Kind
@@ -298,7 +285,7 @@ none_fault b e = none_byte b (first_fault b) (byte_is b ∙ e)
 -- the kind of a text, from the number of its symbols and the byte at its fault
 pub kind_is : (b : List ℕ) → kind_of b ≡ kind_by (length (values b)) (fault_byte false b)
 unfolding kind_of
-kind_is b = kind_byte b (first_fault b) ∙ ap (kind_by (length (values b))) (byte_is b)
+kind_is b = grind (arith, kind_byte, byte_is)
 
 -- the complete bytes are those of the groups before the fault
 pub done_is : (b : List ℕ) → complete_bytes b ≡ groups (values (before_fault false b))
@@ -307,12 +294,12 @@ done_is b = ap (λ x. groups (values x)) (found (is_fault b) [] b (fault_at b)).
 
 -- after a fault, the text that follows changes neither the complete bytes nor the kind
 pub done_stays : (a b : List ℕ) (x : ℕ) → fault_byte false a ≡ Some x → complete_bytes (a ++ b) ≡ complete_bytes a
-done_stays a b x h = done_is (a ++ b) ∙ ap (λ z. groups (values z)) (before-append_some a b false x h) ∙ sym (done_is a)
+done_stays a b x h = grind (arith, done_is, before-append_some)
 
 -- at a fault the kind is a symbol after padding for a symbol, and an unexpected byte otherwise
 pub kind_fault : (a : List ℕ) (x : ℕ) → fault_byte false a ≡ Some x
     → kind_of a ≡ cond (is_symbol x) AlphabetSymbolAfterPadding (UnexpectedSymbol x)
-kind_fault a x h = kind_is a ∙ ap (kind_by (length (values a))) h
+kind_fault a x h = grind (arith, kind_is)
 
 -- if a has a fault, a ++ b has the same kind
 pub kind_stays : (a b : List ℕ) (x : ℕ) → fault_byte false a ≡ Some x → kind_of a ≡ kind_of (a ++ b)
@@ -346,7 +333,7 @@ last_pad (a ∷ b ∷ t) p h = ap (λ x. a ∷ x) (last_pad (b ∷ t) p h.1)
 -- if every byte is a symbol, `list_all is_symbol` is true
 pub list_all_every : (q : List ℕ) → Every is_symbol q → list_all is_symbol q ≡ true
 list_all_every [] h = refl
-list_all_every (a ∷ t) h = and_from (is_symbol a) (list_all is_symbol t) h.0 (list_all_every t h.1)
+list_all_every (a ∷ t) h = grind (arith, list_all_every t h.1, and_from)
 
 -- symbols and p times '=' are all symbols exactly if p is zero
 list_all_text : (q : List ℕ) (p : ℕ) → Every is_symbol q → list_all is_symbol (q ++ replicate p 61) ≡ eqb p 0
@@ -370,33 +357,9 @@ passes_fit k (suc (suc (suc n))) = grind arith
 -- whether symbols and padding, with white space anywhere, are valid depends on their numbers
 pub symbols_pads_valid : (b q : List ℕ) (p : ℕ) → IsSymbolsAndPadding b q p → is_valid b ≡ fits_with (length q % 4) p
 unfolding is_valid without_padding
-symbols_pads_valid b q p h =
-    grind (
-      arith,
-      h.compact_is,
-      last_pad q p h.symbols_are,
-      last_pad q (one_less p) h.symbols_are,
-      list_all_text q p h.symbols_are,
-      list_all_text q (one_less (one_less p)) h.symbols_are,
-      length-append,
-      length-replicate,
-      passes_fit (length q) p,
-    )
+symbols_pads_valid b q p h = grind (arith, last_pad, list_all_text, length-append, length-replicate, passes_fit)
 
 -- The numbers that fit
-
--- if `fits_with` is true, p times '=' fit k symbols
-fits_from : (k p : ℕ) → fits_with (k % 4) p ≡ true → Fits k p
-fits_from k zero e = inl (refl, eqb-false (k % 4) 1 (not-true (eqb (k % 4) 1) e))
-fits_from k (suc zero) e = inr (inl (refl, eqb-true (k % 4) 3 e))
-fits_from k (suc (suc zero)) e = inr (inr (refl, eqb-true (k % 4) 2 e))
-fits_from k (suc (suc (suc n))) e = absurd (false≢true e)
-
--- if p times '=' fit k symbols, `fits_with` is true
-pub from_fits : (k p : ℕ) → Fits k p → fits_with (k % 4) p ≡ true
-from_fits k p (inl (z, n)) = rw z (not_from_false (eqb (k % 4) 1) (ne_eqb (k % 4) 1 n))
-from_fits k p (inr (inl (z, n))) = rw z (eq-eqb (k % 4) 3 n)
-from_fits k p (inr (inr (z, n))) = rw z (eq-eqb (k % 4) 2 n)
 
 -- a text of symbols and padding is valid exactly if their numbers fit
 pub padding_fits : (b : List ℕ) → PaddingFits b
@@ -405,10 +368,7 @@ padding_fits b q p h = grind (arith, symbols_pads_valid b q p h)
 -- a text without a fault is valid exactly if the number of its '=' fits the number of its symbols
 pub no_fault_valid : (b : List ℕ) → fault_byte false b ≡ None → is_valid b ≡ fits_with (length (filter is_symbol b) % 4)
     (length (filter is_pad b))
-no_fault_valid b h = symbols_pads_valid b (filter is_symbol b) (length (filter is_pad b)) (record {
-  symbols_are = filter_every is_symbol b;
-  compact_is = compact_text b false h;
-})
+no_fault_valid b h = grind (arith, symbols_pads_valid, filter_every, compact_text)
 
 -- if `list_all is_symbol` is true, every byte is a symbol
 pub every_list_all : (q : List ℕ) → list_all is_symbol q ≡ true → Every is_symbol q
@@ -443,7 +403,7 @@ valid_no_fault b h =
 
 -- a text with a fault is not valid
 pub fault_invalid : (b : List ℕ) (x : ℕ) → fault_byte false b ≡ Some x → is_valid b ≡ false
-fault_invalid b x h = false_from_ne_true (is_valid b) (λ v. absurd (some_not_none x (sym h ∙ valid_no_fault b v)))
+fault_invalid b x h = grind (arith, false_from_ne_true, some_not_none, valid_no_fault)
 
 -- Groups of four
 

@@ -33,7 +33,7 @@ use Rattle.data_url.proofs.forgiving_base64.Padding.{fault_text, is_pad, kind_is
 use Rattle.data_url.proofs.forgiving_base64.Padding.{pads_of_text, symbols_of_text, fits_with, bad, space_alone}
 use Rattle.data_url.proofs.forgiving_base64.Padding.{symbol_alone, done_stays, fault-append_some, kind_stays}
 use Rattle.data_url.specs.Laws.{GoesOn}
-use Rattle.data_url.proofs.forgiving_base64.Groups.{two_feeds}
+use Rattle.data_url.proofs.forgiving_base64.Groups.{filter_length, groups_size, two_feeds}
 
 -- What a short text does after what is left over in a decoder, and what the end of the input does.
 
@@ -77,20 +77,16 @@ module _ (q : List ℕ) (p : ℕ) (every : Every is_symbol q) where
   pub pads_more : (t : List ℕ) → length (filter is_pad (left_text q p ++ t)) ≡ p + length (filter is_pad t)
   pads_more t = grind (arith, filter-append, length-append, pads_of_text, length-replicate)
 
-  -- the values of q, p times '=' and then t are those of q and of the symbols of t
-  pub values_more : (t : List ℕ) → values (left_text q p ++ t) ≡ map symbol_value (q ++ filter is_symbol t)
-  unfolding values
-  values_more t = ap (map symbol_value) (symbols_more t)
-
   -- the values of q and p times '=' are those of q
   pub values_left : values (left_text q p) ≡ map symbol_value q
   unfolding values
-  values_left = ap (map symbol_value) (symbols_of_text q p every)
+  values_left = grind (arith, symbols_of_text)
 
   -- if t has no fault, the complete bytes of q, p times '=' and then t are those of q and the symbols of t
   pub done_more : (t : List ℕ) → fault_byte (has_pad p) t ≡ None → complete_bytes (left_text q p ++ t) ≡ groups
       (map symbol_value (q ++ filter is_symbol t))
-  done_more t h = grind (arith, done_is, before_none, fault_more, values_more)
+  unfolding values
+  done_more t h = grind (arith, done_is, before_none, fault_more, symbols_more)
 
   -- the symbols left over of q, p times '=' and then t are those of q and t after their complete groups
   pub left_more : (t : List ℕ) → left_symbols (left_text q p ++ t) ≡ after_groups (q ++ filter is_symbol t)
@@ -110,7 +106,7 @@ module _ (q : List ℕ) (p : ℕ) (every : Every is_symbol q) where
   pub decoded_left : decoded (left_text q p) ≡ groups (map symbol_value q) ++ rest_bytes
       (after_groups (map symbol_value q))
   unfolding decoded
-  decoded_left = ap (λ x. groups x ++ rest_bytes (after_groups x)) values_left
+  decoded_left = grind (arith, values_left)
 
   -- the kind of q and p times '=' is a lone symbol if the length of q modulo four is one, and padding otherwise
   pub kind_left : kind_of (left_text q p) ≡ cond (eqb (length q % 4) 1) LoneAlphabetSymbol Padding
@@ -126,7 +122,7 @@ fault_one c s x y z e f g = grind arith
 
 -- a filter keeps the one item of a list exactly if the item passes
 filter_one : (p : ℕ → Bool) (c : ℕ) (v : Bool) → p c ≡ v → filter p (c ∷ []) ≡ cond v (c ∷ []) []
-filter_one p c v e = ap (λ w. cond w (c ∷ []) []) e
+filter_one p c v e = grind arith
 
 -- whitespace is no fault, with or without padding before it
 pub fault_space : (c : ℕ) (s : Bool) → is_ascii_whitespace c ≡ true → fault_byte s (c ∷ []) ≡ None
@@ -226,13 +222,13 @@ pub bool_at_false : (b : Bool) (P Q : Type 0) → b ≡ false → Q → MatchBoo
 bool_at_false true P Q e h = absurd (true≢false e)
 bool_at_false false P Q e h = h
 
--- after one call with all bytes: P if the call returned no error, and otherwise r is its error
+-- after a last call: P if it returned no error, and otherwise r is its error
 pub told_call : {E : Type 0} (answer : Result (Unit {0}) E) (r : Result (Unit {0}) (DecodeError E)) (P : Type 0)
-    (all bytes : List ℕ) → bytes ≡ all → (r ≡ Ok tt → P)
+    (all bytes : List ℕ) → IsPrefix bytes all → (r ≡ Ok tt → P)
     → MatchResult answer (λ u. r ≡ Ok tt) (λ e. r ≡ Err (WriteError e))
     → MatchOption (option_or (result_err answer) None) P (λ e. IsRefused all bytes e r)
 told_call (Ok x) r P all bytes q f h = f h
-told_call (Err e) r P all bytes q f h = record { bytes_begin = prefix_all bytes all q; answer = h }
+told_call (Err e) r P all bytes q f h = grind arith
 
 -- A decoder that is fed a short text
 
@@ -244,17 +240,7 @@ pub record IsSound {F : Type 0} (d : State F) : Type 0 where
 
 -- the state of a decoder, by its invariants
 pub sound : {F E : Type 0} (d : Decoder F E) → IsSound (state_of d)
-sound d = record {
-  every = every_list_all (take d.pending d.symbols) d.pending_symbols;
-  few = omega (arith, length-take d.pending d.symbols, d.few_pending);
-  few_padding = d.few_padding;
-}
-
--- if q has no group, and t is empty, the symbols of q and t have no group
-none_more : (q t : List ℕ) {bytes : List ℕ} → length q ≤ 3 → bytes ≡ groups (map symbol_value (q ++ filter is_symbol t))
-    → length t ≡ 0 → bytes ≡ []
-none_more q [] few e none = e ∙ groups_few (map symbol_value (q ++ [])) (rw (append-nil, length-map) few)
-none_more q (c ∷ t) few e none = absurd (omega arith)
+sound d = grind (arith, every_list_all, length-take)
 
 module _ {F : Type 0} where
   -- d reads a text t without a fault that has the symbols k and n times '=', if the fields of d' are what is left over
@@ -264,10 +250,7 @@ module _ {F : Type 0} where
       → d'.symbols ≡ after_groups (d.symbols ++ k) → d'.padding ≡ min (d.padding + n) 3 → d'.failed ≡ false
       → Adds d t bytes d'
   adds_text {d} {d'} t k bytes n s good is_k is_n is_bytes same symbols padding failed =
-      let every = s.every in
-      let is : bytes ≡ groups (map symbol_value (d.symbols ++ filter is_symbol t)) = cc in
-      let none = none_more d.symbols t s.few is in
-      grind (arith, none_fault, fault_more, done_more, left_more, padding_more)
+      grind (arith, groups_size, length-map, length-append, filter_length, none_fault, fault_more, done_more, left_more, padding_more)
 
   -- the text completes no group
   adds_quiet : {d d' : State F} (t k : List ℕ) (n : ℕ) → IsSound d
@@ -275,9 +258,7 @@ module _ {F : Type 0} where
       → length (d.symbols ++ k) ≤ 3 → d'.closure ≡ d.closure → d'.symbols ≡ d.symbols ++ k
       → d'.padding ≡ min (d.padding + n) 3 → d'.failed ≡ false → Adds d t [] d'
   adds_quiet {d} t k n s good is_k is_n few same symbols padding failed =
-      adds_text t k [] n s good is_k is_n
-      (sym (groups_few (map symbol_value (d.symbols ++ k)) (rw length-map few)))
-      same (symbols ∙ sym (after_few (d.symbols ++ k) few)) padding failed
+      search (arith, adds_text, groups_few, length-map, after_few)
 
   -- d reads a symbol after at most two symbols and no padding: it keeps the symbol, and no group is complete
   pub adds_kept : {d d' : State F} (c : ℕ) → IsSound d → length d.symbols + 1 ≤ 3 → d.padding ≡ 0
@@ -344,45 +325,14 @@ module _ {F : Type 0} where
   pub refuses_after : {d d' : State F} (c : ℕ) → IsSound d → 1 ≤ d.padding
       → is_symbol c ≡ true → d' ≡ d → Refuses d c AlphabetSymbolAfterPadding d'
   refuses_after {d} c s pads symbol same =
-      grind (
-        arith,
-        has_pad_some,
-        fault_after,
-        fault_some,
-        fault_more,
-        kind_is,
-        done_is,
-        before-append,
-        fault_text,
-        any_of_text,
-        before_one,
-        append-nil,
-        values_left,
-        groups_few,
-        length-map,
-      )
+      grind (arith, has_pad_some, fault_after, fault_some, fault_more, kind_is, done_is, before-append, fault_text, any_of_text, before_one, append-nil, values_left, groups_few, length-map)
 
   -- d refuses a byte that is neither whitespace nor '=' nor a symbol
   pub refuses_other : {d d' : State F} (c : ℕ) → IsSound d
       → is_ascii_whitespace c ≡ false → is_pad c ≡ false → is_symbol c ≡ false → d' ≡ d
       → Refuses d c (UnexpectedSymbol c) d'
   refuses_other {d} c s space pad symbol same =
-      grind (
-        arith,
-        fault_other,
-        fault_some,
-        fault_more,
-        kind_is,
-        done_is,
-        before-append,
-        fault_text,
-        any_of_text,
-        before_one,
-        append-nil,
-        values_left,
-        groups_few,
-        length-map,
-      )
+      grind (arith, fault_other, fault_some, fault_more, kind_is, done_is, before-append, fault_text, before_one, append-nil, values_left, groups_few, length-map)
 
 module _ {F E : Type 0} (step : F → List ℕ → Result (Unit {0}) E → F → Type 0) where
   -- feeding the empty text returns `Ok`, and d does not change
@@ -417,13 +367,13 @@ module _ {F E : Type 0} (step : F → List ℕ → Result (Unit {0}) E → F →
         run = record { piece = b ∷ bs; answer = w.told; after = d'.closure } ∷ [];
         ran = one_call d.closure d'.closure (b ∷ bs) w.told w.called;
         calls = omega arith;
-        gave = grind (arith, bool_at_true, told_call);
+        gave = grind (arith, bool_at_true, told_call, prefix_all _ _ bytes);
       }
 
   -- if what is left over is valid, a call with the bytes that it decodes to, or none for no bytes, finishes d
   pub finishes_flushed : (d d' : State F) {r : Result (Unit {0}) (DecodeError E)} → is_valid (left_over d) ≡ true
       → Flushes step d (decoded (left_over d)) r d' → Finishes step d r d'.closure
-  finishes_flushed d d' valid w = flushed_finishes d d' (decoded (left_over d)) refl valid w
+  finishes_flushed d d' valid w = grind (arith, flushed_finishes)
 
 -- Feeding a decoder, piece by piece.
 
@@ -441,7 +391,7 @@ pub record Took {F : Type 0} (u bytes : List ℕ) (d : State F) : Type 0 where
 done_cases : (u b : List ℕ) (o : Option ℕ) → fault_byte false u ≡ o
     → IsPrefix (complete_bytes u) (complete_bytes (u ++ b))
 done_cases u b None h = grind (arith, two_feeds u b (none_fault u h), none_fault u h)
-done_cases u b (Some c) h = prefix_all (complete_bytes u) (complete_bytes (u ++ b)) (sym (done_stays u b c h))
+done_cases u b (Some c) h = grind (arith, prefix_all, done_stays)
 
 -- the complete bytes of a text are a prefix of those of a longer text
 pub done_begins : (u b : List ℕ) → IsPrefix (complete_bytes u) (complete_bytes (u ++ b))
@@ -454,11 +404,7 @@ taken_cases u b bytes x d None h t = grind (arith, none_fault)
 taken_cases u b bytes x d (Some c) h t = record {
   bytes_are = t.bytes_are ∙ sym (done_stays u b c h);
   answer =
-      match_alike (first_fault u) (first_fault (u ++ b)) _ _ _ _ (cc (
-        fault_some u,
-        fault-append_some u b false c h,
-        fault_some (u ++ b),
-      ))
+      match_alike (first_fault u) (first_fault (u ++ b)) _ _ _ _ (cc (fault_some u, fault-append_some u b false c h, fault_some (u ++ b)))
       (λ k. absurd (let e = k.0 in cc))
       (λ k. k ∙ ap (λ z. Err (InvalidBase64 z)) (kind_stays u b c h))
       t.answer;

@@ -14,8 +14,7 @@ use Rattle.std.proofs.lemmas.Simd.{length-swz_l, pick_l_whole, swz_l, bitmask_sp
 use Rattle.std.proofs.lemmas.Simd.{length-zip2, map-map, mask_l-lt, trailing_mask_l, zip2_of_maps}
 use lib.Lanes.{Each1, digits_l, fold_l, number_l, pair_sums, pick_l, products, sel_l, zip2, mask_l, top}
 use Rattle.std.proofs.Math.Bool.{and-true, and_assoc, not-not}
-use Rattle.data_url.specs.Steps.Lanes.{mark_of, numbers, offset_row, value_of}
-use Rattle.data_url.specs.declared.forgiving_base64.lanes.TheConstants.{OFFSETS}
+use Rattle.data_url.specs.Steps.Lanes.{mark_of, numbers, value_of}
 use Rattle.std.proofs.lemmas.List.Folds.{list_all-append}
 use Rattle.std.proofs.Math.Nat.{pow-succ'}
 use Rattle.std.proofs.Math.Seq.{take-append-add}
@@ -35,10 +34,6 @@ entry_symbol b l h = eqb-true (get_or VALUES b 0) (cond (is_symbol b) (symbol_va
 pub symbol_is : (b : ℕ) → b < 256 → ltb (get_or VALUES b 0) 64 ≡ is_symbol b
 symbol_is b l = agree_below_at (λ b. ltb (get_or VALUES b 0) 64) is_symbol 256 b refl l
 
--- the entry of a symbol is below 64
-pub entry_lt : (b : ℕ) → b < 256 → is_symbol b ≡ true → get_or VALUES b 0 < 64
-entry_lt b l h = ltb-true (get_or VALUES b 0) 64 (symbol_is b l ∙ h)
-
 -- the standard library's class of white space is that of forgiving base64
 pub space_is : (b : ℕ) → b < 256 → std_whitespace b ≡ is_ascii_whitespace b
 space_is b l = refl
@@ -56,7 +51,7 @@ joined h f g v p q = zip2_of_maps h f g v p q
 chosen-map : (t : ℕ → Bool) (f g : ℕ → ℕ) (xs : List ℕ) → sel_l (map t xs) (map f xs) (map g xs) ≡ map
     (λ x. cond (t x) (f x) (g x)) xs
 chosen-map t f g [] = refl
-chosen-map t f g (x ∷ xs) = ap (λ r. cond (t x) (f x) (g x) ∷ r) (chosen-map t f g xs)
+chosen-map t f g (x ∷ xs) = grind (arith, chosen-map t f g xs)
 
 -- if a mask and two lists are computed from v item by item, so is the choice between their items
 pub chosen : (t : ℕ → Bool) (f g : ℕ → ℕ) (v : List ℕ) {m : List Bool} {a b : List ℕ} → m ≡ map t v → a ≡ map f v
@@ -102,9 +97,7 @@ looked_at t js long small = ext_get_or 0 _ _ (length-swz_l w8 16 t 0 js
 -- if indices below 16 are computed from bytes, a swizzle looks up the entry of each byte at its index
 pub looked_up : (t : List ℕ) (g : ℕ → ℕ) (v js : List ℕ) → length v ≡ 16 → Each1 (Fits w8) v → js ≡ map g v
     → ((x : ℕ) → x < 256 → g x < 16) → swz_l w8 16 t 0 js ≡ map (λ x. get_or t (g x) 0) v
-looked_up t g v js whole fits e small =
-    looked_at t js (ap length e ∙ length-map v g ∙ whole) (places_low g v js e small fits)
-    ∙ ap (map (λ j. get_or t j 0)) e ∙ map-map (λ j. get_or t j 0) g v
+looked_up t g v js whole fits e small = grind (arith, looked_at, length-map, places_low, get_or, map-map)
 
 -- The tables are the alphabet
 
@@ -118,7 +111,7 @@ value_is b l s =
 -- all values are below 64
 pub values_below : (v : List ℕ) → Each1 (λ x. x < 64) (map value_of v)
 values_below [] = tt
-values_below (b ∷ v) = (omega (arith, and_le_r ((b + get_or OFFSETS (offset_row b) 0) % 256) 63), values_below v)
+values_below (b ∷ v) = grind (arith, values_below v, and_le_r, get_or)
 
 -- Numbers of groups
 
@@ -203,7 +196,7 @@ packed_is v ns long h e =
 pub map_agree : {A : Type 0} (f g : ℕ → A) → ((b : ℕ) → b < 256 → f b ≡ g b) → (v : List ℕ) → Each1 (Fits w8) v
     → map f v ≡ map g v
 map_agree f g h [] fits = refl
-map_agree f g h (b ∷ v) fits = ap₂ (λ x (y : List _). x ∷ y) (h b fits.0.fits) (map_agree f g h v fits.1)
+map_agree f g h (b ∷ v) fits = grind (arith, map_agree f g h v fits.1)
 
 -- whether two numbers differ
 abbrev pub differs : ℕ → ℕ → Bool
@@ -219,18 +212,13 @@ pub others_is : (v marks : List ℕ) → length v ≡ 16 → Each1 (Fits w8) v �
     (zip2 (λ a b. cond (differs a b) 255 0) marks
     (0 ∷ 0 ∷ 0 ∷ 0 ∷ 0 ∷ 0 ∷ 0 ∷ 0 ∷ 0 ∷ 0 ∷ 0 ∷ 0 ∷ 0 ∷ 0 ∷ 0 ∷ 0 ∷ []))) % 2 ^ 64 ≡ mask_l (map is_other v)
 others_is v marks long fits e =
-    cc (
-      bitmask_splat w8 differs marks 16 0 (ap length e ∙ length-map v mark_of ∙ long) (omega arith),
-      map-map (λ x. differs x 0) mark_of v,
-      map_agree (λ x. differs (mark_of x) 0) is_other
-          (λ b l. agree_below_at (λ b. differs (mark_of b) 0) is_other 256 b refl l) v fits,
-    )
+    cc (bitmask_splat w8 differs marks 16 0 (ap length e ∙ length-map v mark_of ∙ long) (omega arith), map-map (λ x. differs x 0) mark_of v, map_agree (λ x. differs (mark_of x) 0) is_other (λ b l. agree_below_at (λ b. differs (mark_of b) 0) is_other 256 b refl l) v fits)
 
 -- Rows of a text
 
 -- a row that is within the text has 16 bytes
 pub row_length : (text : List ℕ) (at : ℕ) → at + 16 ≤ length text → length (take 16 (drop at text)) ≡ 16
-row_length text at h = length-take-le 16 (drop at text) (omega (arith, length-drop at text))
+row_length text at h = grind (arith, length-take-le, length-drop)
 
 -- a block of 64 bytes is its four rows
 pub split_block : (text : List ℕ)
@@ -263,7 +251,7 @@ mask_lt v long = grind (arith, length-map, mask_l-lt)
 -- negating a test twice does not change how long the longest prefix that passes is
 prefix_not_not : (p : ℕ → Bool) (xs : List ℕ) → prefix_len (λ x. not (not (p x))) xs ≡ prefix_len p xs
 prefix_not_not p [] = refl
-prefix_not_not p (x ∷ xs) = ap₂ (λ t n. cond t (1 + n) 0) (not-not (p x)) (prefix_not_not p xs)
+prefix_not_not p (x ∷ xs) = grind (arith, prefix_not_not p xs, not-not)
 
 -- if the mask is zero, the symbols at the start are all n bytes
 pub none_ahead : {n : ℕ} (v : List ℕ) → length v ≡ n → others_mask v ≡ 0 → n ≡ prefix_len is_symbol v
@@ -272,7 +260,7 @@ none_ahead v long e = sym long ∙ sym (leading_from_mask_l is_other v e) ∙ pr
 -- if the mask is not zero, its trailing zeros are as many as there are symbols at the start
 pub first_ahead : (v : List ℕ) → length v ≤ 64 → 0 < others_mask v
     → count_trailing_zeros 64 (others_mask v) ≡ prefix_len is_symbol v
-first_ahead v long h = trailing_mask_l is_other 64 v long h ∙ prefix_not_not is_symbol v
+first_ahead v long h = grind (arith, trailing_mask_l, prefix_not_not)
 
 -- No mark in four rows
 
@@ -389,15 +377,7 @@ values_of_rows text long =
     let x = take 16 (drop 16 text) in
     let y = take 16 (drop 32 text) in
     let z = take 16 (drop 48 text) in
-    cc (
-      split_block text,
-      map-append value_of w (x ++ (y ++ z)),
-      map-append value_of x (y ++ z),
-      map-append value_of y z,
-      groups_of_rows (map value_of w) (map value_of x) (map value_of y) (map value_of z)
-          (length-map w value_of ∙ row_length text 0 (omega arith)) (length-map x value_of
-          ∙ row_length text 16 (omega arith)) (length-map y value_of ∙ row_length text 32 (omega arith)),
-    )
+    cc (split_block text, map-append value_of w (x ++ (y ++ z)), map-append value_of x (y ++ z), map-append value_of y z, groups_of_rows (map value_of w) (map value_of x) (map value_of y) (map value_of z) (length-map w value_of ∙ row_length text 0 (omega arith)) (length-map x value_of ∙ row_length text 16 (omega arith)) (length-map y value_of ∙ row_length text 32 (omega arith)))
 
 -- rows that were put one after another
 pub put_three : (b1 b2 b3 x y z : List ℕ) → take 16 b1 ≡ x → take (16 + 16) b2 ≡ take 16 b1 ++ y

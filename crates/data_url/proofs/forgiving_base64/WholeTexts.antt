@@ -95,13 +95,7 @@ module _ {F E : Type 0} (step : F → List ℕ → Result (Unit {0}) E → F →
                   (λ e w. record {
                     bytes_begin = (
                       w.bytes_begin.0,
-                      cc (
-                        good,
-                        all,
-                        bytes,
-                        w.bytes_begin.1,
-                        append_assoc (complete_bytes u) (joined_pieces g.run) w.bytes_begin.0,
-                      ),
+                      cc (append_assoc (complete_bytes u) (joined_pieces g.run) w.bytes_begin.0),
                     );
                     answer = w.answer;
                   })
@@ -112,7 +106,7 @@ module _ {F E : Type 0} (step : F → List ℕ → Result (Unit {0}) E → F →
 
   -- a new decoder is fed nothing
   pub fed_nothing : {d : State F} {f : F} → d ≡ start f → Feeds step (start f) [] (Ok tt) d
-  fed_nothing {d} {f} e = feeds_none step (record { every = tt; few = omega arith; few_padding = omega arith }) refl e
+  fed_nothing {d} {f} e = grind (arith, feeds_none)
 
   -- if feeding a new decoder the text u returns an error, decoding u returns it
   pub decodes_refused : {d d' : State F} {f : F} {u : List ℕ} {x : DecodeError E} → d ≡ start f
@@ -139,12 +133,7 @@ pub run_reads : {F E : Type 0} (step : F → List ℕ → Result (Unit {0}) E �
     → (cs : List (Call F E)) (f f' : F) → IsRun step f cs f' → refusal cs ≡ None → J f' ≡ J f ++ joined_pieces cs
 run_reads step J keeps [] f f' ran n = ap J (sym ran) ∙ sym (append-nil (J f))
 run_reads step J keeps (c ∷ cs) f f' ran n =
-    let ok = subst (λ r. step f c.piece r c.after) (accepted_call c.answer (refusal cs) n) ran.0 in
-    cc (
-      run_reads step J keeps cs c.after f' ran.2 (later_none c.answer (refusal cs) n),
-      keeps f c.piece c.after ok,
-      append_assoc (J f) c.piece (joined_pieces cs),
-    )
+    grind (arith, run_reads step J keeps cs c.after f' ran.2 (later_none c.answer (refusal cs) n), accepted_call, append_assoc)
 
 -- what a closure that appends its bytes holds after a text was decoded
 pub decodes_reads : {F E : Type 0} {step : F → List ℕ → Result (Unit {0}) E → F → Type 0} {f f' : F} {u : List ℕ}

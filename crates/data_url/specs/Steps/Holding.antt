@@ -1,7 +1,8 @@
 -- What a decoder does with input while decoded bytes are held, to be passed to the closure together.
-use Rattle.std.specs.Prelude.{[], ◌++◌, ◌∷◌, ◌≡◌, ◌≤◌, Err, List, MatchResult, None, Ok, Result, false, is_some, length, take, true, ℕ}
+use Rattle.std.specs.Prelude.{[], ◌*◌, ◌++◌, ◌+◌, ◌/◌, ◌∷◌, ◌≡◌, ◌≤◌, Err, List, MatchResult, None, Ok, Result, false, is_some, length, take, true, ℕ}
 use Rattle.data_url.specs.Base64.{Kind, complete_bytes, first_fault, kind_of}
 use Rattle.data_url.specs.Decoder.{Feeds, IsLeft, State, left_over}
+use Rattle.data_url.specs.Run.{Call, IsRun, joined_pieces, refusal}
 use Rattle.data_url.specs.Steps.Calls.{CallsOnce}
 use Rattle.data_url.specs.declared.forgiving_base64.DecodeError.{DecodeError}
 
@@ -11,7 +12,7 @@ pub record Adds {F : Type 0} (d : State F) (text bytes : List ℕ) (d' : State F
   pub no_fault : first_fault (left_over d ++ text) ≡ None
   pub bytes_are : bytes ≡ complete_bytes (left_over d ++ text)
   pub left : IsLeft (left_over d ++ text) d'
-  pub none : length text ≡ 0 → bytes ≡ []
+  pub few : length bytes ≤ 3 * length text
   pub closure_stays : d'.closure ≡ d.closure
   pub going : d'.failed ≡ false
 
@@ -39,17 +40,18 @@ abbrev pub Flushes : {F E : Type 0} → (F → List ℕ → Result (Unit {0}) E 
 Flushes step d [] r d' = (r ≡ Ok tt) × (d' ≡ d)
 Flushes step d (b ∷ bs) r d' = CallsOnce step d (b ∷ bs) r d'
 
--- d is fed a front of the first `taken` bytes of the text, and reads the rest of them without a call of
--- the closure; the bytes of that rest are held
+-- d reads the text. Its closure is called with some of the bytes of the groups that are then complete,
+-- and returns no error; the others are held. d' holds what is left over.
 pub record Reads {F E : Type 0} (step : F → List ℕ → Result (Unit {0}) E → F → Type 0)
-    (d : State F) (text : List ℕ) (taken : ℕ) (held : List ℕ) (d' : State F) : Type 0 where
-  pub within : taken ≤ length text
-  pub front : List ℕ
-  pub rest : List ℕ
-  pub parts : take taken text ≡ front ++ rest
-  pub between : State F
-  pub fed : Feeds step d front (Ok tt) between
-  pub adds : Adds between rest held d'
+    (d : State F) (text held : List ℕ) (d' : State F) : Type 0 where
+  pub run : List (Call F E)
+  pub ran : IsRun step d.closure run d'.closure
+  pub accepted : refusal run ≡ None
+  pub calls : length run + (length held + 2) / 3 ≤ length text
+  pub no_fault : first_fault (left_over d ++ text) ≡ None
+  pub bytes_are : joined_pieces run ++ held ≡ complete_bytes (left_over d ++ text)
+  pub left : IsLeft (left_over d ++ text) d'
+  pub going : d'.failed ≡ false
 
 -- d is fed the first n bytes of the text, where r is `Ok` of n; or r is the error of feeding d the
 -- whole text

@@ -209,8 +209,8 @@ where
         requires between { IsBetweenGroups (state_of self.old) }
         ensures callable { F.IsAlwaysCallable (state_of self.new).closure }
         ensures fed { MatchResult result
-            (λ taken. Reads (CalledAt F.FnMut) (state_of self.old) text.now taken
-            (bytes_of piece.new) (state_of self.new))
+            (λ taken. (taken ≤ length text.now) × Reads (CalledAt F.FnMut) (state_of self.old)
+            (take taken text.now) (bytes_of piece.new) (state_of self.new))
             (λ error. Feeds (CalledAt F.FnMut) (state_of self.old) text.now (Err error)
             (state_of self.new)) }
     {

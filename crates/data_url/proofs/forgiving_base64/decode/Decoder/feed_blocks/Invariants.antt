@@ -1,7 +1,7 @@
-use Rattle.std.proofs.Common.{◌-◌, ◌≤◌, Ok, length, take}
+use Rattle.std.proofs.Common.{◌-◌, ◌≤◌, [], length, take}
 use Rattle.std.specs.Fn.{CalledAt, always_mut}
-use Rattle.data_url.specs.Decoder.{Feeds, state_of}
-use Rattle.data_url.specs.Steps.Holding.{IsBetweenGroups}
+use Rattle.data_url.specs.Decoder.{state_of}
+use Rattle.data_url.specs.Steps.Holding.{IsBetweenGroups, Reads}
 use Rattle.data_url.proofs.forgiving_base64.decode.Decoder.feed_blocks.Given as goal
 
 -- the closure was called with the bytes of all groups that were read
@@ -10,7 +10,7 @@ invariant-loop-at g l = record {
   callable : always_mut g.F.FnMut (state_of l.self).closure;
   within : l.at ≤ length l.text;
   between : IsBetweenGroups (state_of l.self);
-  fed : Feeds (CalledAt g.F.FnMut) (state_of l.fn.self) (take l.at l.text) (Ok tt) (state_of l.self);
+  reads : Reads (CalledAt g.F.FnMut) (state_of l.fn.self) (take l.at l.text) [] (state_of l.self);
 }
 
 abbrev pub decreases-loop-at : goal.decreases-loop-at

@@ -1,4 +1,4 @@
-use Rattle.std.proofs.Common.{◌-◌, length}
+use Rattle.std.proofs.Common.{◌-◌, ◌≤◌, length, take}
 use Rattle.std.specs.Fn.{CalledAt, always_mut}
 use Rattle.data_url.specs.Decoder.{state_of}
 use Rattle.data_url.specs.Steps.Holding.{Reads}
@@ -9,7 +9,8 @@ use Rattle.data_url.proofs.forgiving_base64.decode.Decoder.feed_piece.Given as g
 abbrev pub invariant-loop-at : goal.invariant-loop-at
 invariant-loop-at g l = record {
   callable : always_mut g.F.FnMut (state_of l.self).closure;
-  reads : Reads (CalledAt g.F.FnMut) (state_of l.fn.self) l.text l.at (bytes_of l.piece) (state_of l.self);
+  within : l.at ≤ length l.text;
+  reads : Reads (CalledAt g.F.FnMut) (state_of l.fn.self) (take l.at l.text) (bytes_of l.piece) (state_of l.self);
 }
 
 abbrev pub decreases-loop-at : goal.decreases-loop-at

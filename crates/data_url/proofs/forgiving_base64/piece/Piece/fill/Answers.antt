@@ -1,9 +1,11 @@
+use Rattle.data_url.specs.Base64.{groups}
+use Rattle.std.proofs.lemmas.List.{append-nil}
 use Rattle.std.proofs.Common.{◌*◌, ◌/◌, ℕ, List, ap, map, sym, ◌∙◌, subst, arith}
 use Rattle.data_url.specs.Base64.{groups}
 use Rattle.data_url.specs.Steps.Blocks.{Fills}
 use Rattle.data_url.specs.Steps.Lanes.{value_of}
 use Rattle.data_url.specs.Steps.Waiting.{bytes_of}
-use Rattle.data_url.proofs.forgiving_base64.Groups.{all_before, fill_none, fill_one, fill_symbols, row_ahead, row_held}
+use Rattle.data_url.proofs.forgiving_base64.Groups.{all_before, fill_one, fill_symbols, row_ahead, row_held}
 use Rattle.data_url.proofs.forgiving_base64.Vectors.{row_put}
 use Rattle.data_url.proofs.forgiving_base64.piece.Piece.fill.Goals as goal
 
@@ -27,12 +29,8 @@ returns-then-self-le-ROOM_FOR_ROW-clause-fills c =
     subst P (sym e) (fill_symbols held text 16 count (omega arith) (omega (arith, ahead.0)) c.type_inv.text all)
 
 pub returns-then-text-lt4-clause-fills : goal.returns-then-text-lt4-clause-fills
-returns-then-text-lt4-clause-fills c = fill_none (bytes_of c.args.self.now) c.args.text.now
+unfolding groups
+returns-then-text-lt4-clause-fills c = grind (arith, append-nil)
 
 pub returns-clause-fills : goal.returns-clause-fills
-returns-clause-fills c =
-    let text = c.args.text.now in
-    let held = bytes_of c.args.self.now in
-    let P : List ℕ → Type 0 = λ l. Fills held text 4 l in
-    subst P (sym c.push.ensures.bytes) (fill_one held text c.group_of.result (omega arith)
-    (sym c.begins_with_group.ensures ∙ c.if-not-begins_with_group.false) c.group_of.ensures)
+returns-clause-fills c = grind (arith, fill_one)
