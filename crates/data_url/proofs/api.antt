@@ -20,7 +20,7 @@ pub use Rattle.data_url.proofs.header.Stages.{is_accepted, lacks_comma, rest_byt
 pub use Rattle.data_url.proofs.header.Stages.{scheme_has_no_comma, stages_accepted, stages_no_comma, stages_no_scheme}
 pub use Rattle.data_url.proofs.header.Suffix.{suffix_stop}
 pub use Rattle.data_url.proofs.mime.FirstNames.{test_from_different}
-pub use Rattle.data_url.proofs.mime.Items.{every_from_all}
+pub use Rattle.data_url.proofs.mime.TokenTexts.{every_from_all}
 pub use Rattle.data_url.proofs.percent.Encoding.{IsBytes, ascii_all, decoded_keeps, two_digits}
 pub use Rattle.data_url.proofs.runs.Runs.{match_alike, match_at_none, match_map, match_none, match_some, prefix_after}
 pub use Rattle.data_url.proofs.runs.Runs.{prefix_none, prefix_trans}

@@ -9,7 +9,8 @@ use Rattle.data_url.specs.Mime.{BeginsParameters, HasNoRecord}
 use Rattle.data_url.specs.Mime.{IsRecordOf, Pair, Parses, Record, default_record}
 use Rattle.data_url.specs.Mime.{is_token_text, kept_pairs, printed}
 use Rattle.data_url.proofs.examples.Literals.{on_literals}
-use Rattle.data_url.proofs.mime.Items.{every_from_all, has_items, has_parts, items_in, parameters_in, subtype_in}
+use Rattle.data_url.proofs.mime.TokenTexts.{every_from_all}
+use Rattle.data_url.proofs.mime.Items.{has_items, has_parts, items_in, parameters_in, subtype_in}
 use Rattle.data_url.proofs.mime.Items.{trimmed_of, type_in}
 
 -- Texts with a record

@@ -1,11 +1,10 @@
 -- An encoded fragment is read again as it is.
-use Rattle.std.proofs.Common.{◌≡◌, ℕ, ◌<◌, Bool, true, false, not, List, [], ◌∷◌, ◌++◌, reverse, Some, codes, refl, sym}
+use Rattle.std.proofs.Common.{◌≡◌, ℕ, ◌<◌, Bool, true, false, not, List, [], ◌∷◌, ◌++◌, Some, codes, refl, sym}
 use Rattle.std.proofs.Common.{ap, ◌∙◌, subst, arith}
 use Rattle.std.specs.Prelude.{◌&&◌, option_and_then}
 use Rattle.std.specs.Option.{option_map}
 use Rattle.std.specs.List.{prefix_len}
 use Rattle.std.proofs.lemmas.Bool.{agree_below_at, both_ways, cond-false, false_from_ne_true}
-use Rattle.std.proofs.lemmas.List.{reverse-append, take_all}
 use Rattle.data_url.specs.Url.{after_scheme, before, after, cleaned_text, without_tabs_and_newlines, encoded_path}
 use Rattle.data_url.specs.Url.{fragment, front, hex_digit, in_fragment_set, is_c0_control_or_space, is_tab_or_newline}
 use Rattle.data_url.specs.Url.{percent_encoding, serialised, trimmed_text}
@@ -13,7 +12,7 @@ use Rattle.data_url.specs.Fetch.{before_comma, encoded_body, header_of, staged, 
 use Rattle.data_url.specs.Laws.{IsReadAgain, is_fragment_byte}
 use Rattle.data_url.specs.Mime.{Every}
 use Rattle.data_url.proofs.percent.Encoding.{IsBytes, encoded_cons, encoded_nil}
-use Rattle.data_url.proofs.mime.Items.{every_append}
+use Rattle.data_url.proofs.texts.CodePoints.{end_stays, not_ends_every}
 use Rattle.data_url.proofs.texts.Bytes.{dropped_keeps, dropped_nil}
 
 -- An encoded text has only such bytes
@@ -56,16 +55,15 @@ no_low_front : (t : List ℕ) → Every is_fragment_byte t → prefix_len is_c0_
 no_low_front [] h = refl
 no_low_front (b ∷ t) h = grind (arith, cond-false)
 
--- if an encoded fragment can have each byte of a text, it can have each byte of the reversed text
-every_reverse : (t : List ℕ) → Every is_fragment_byte t → Every is_fragment_byte (reverse t)
-every_reverse [] h = tt
-every_reverse (b ∷ t) h = subst (Every is_fragment_byte) (sym (reverse-append (b ∷ []) t))
-    (every_append is_fragment_byte (reverse t) (b ∷ []) (every_reverse t h.1) (h.0, tt))
+-- a byte that an encoded fragment can have is not a C0 control or space
+not_low : (b : ℕ) → is_fragment_byte b ≡ true → is_c0_control_or_space b ≡ false
+not_low b h = grind arith
 
 -- a text of bytes that an encoded fragment can have stays as it is when its ends are trimmed
 trimmed_itself : (t : List ℕ) → Every is_fragment_byte t → trimmed_text t ≡ t
 unfolding trimmed_text
-trimmed_itself t h = grind (arith, no_low_front, every_reverse, take_all)
+trimmed_itself t h = rw (no_low_front t h)
+    (end_stays is_c0_control_or_space t (not_ends_every is_c0_control_or_space is_fragment_byte not_low t h))
 
 -- a text of bytes that an encoded fragment can have stays as it is when it is cleaned
 cleaned_itself : (t : List ℕ) → Every is_fragment_byte t → cleaned_text t ≡ t

@@ -1,6 +1,6 @@
 -- Which parameters are kept: the first of each name. For `kept.rt`, and that a record is well formed.
 use Rattle.std.proofs.Common.{◌≡◌, ℕ, List, String, ap, length, map, min, sym, take, ◌∙◌, ◌<◌, ◌||◌, ◌&&◌, ◌⊎◌, Bool}
-use Rattle.std.proofs.Common.{true, false, cond, [], ◌∷◌, ◌++◌, get_or, drop, None, Some, refl, ap₂, subst}
+use Rattle.std.proofs.Common.{true, false, cond, [], ◌∷◌, ◌++◌, get_or, drop, Option, None, Some, refl, ap₂, subst}
 use Rattle.std.proofs.Common.{append_assoc, append-nil, arith, inl, inr, ◌≤◌, not, string_bytes}
 use Rattle.std.proofs.lemmas.List.{take-map, take_min, map-append, drop-append-le, length-append, take-append-drop}
 use Rattle.data_url.specs.Mime.{has_name, BeginsParameters, Item, Items, Pair, first_of_each_name, is_lowercase_name}
@@ -21,9 +21,9 @@ use Rattle.std.specs.Char.{to_ascii_lowercase}
 use Rattle.std.specs.List.{list_all}
 use Rattle.std.specs.Str.{IsUtf8, bytes_eq, chars}
 use Rattle.data_url.specs.CodePoints.{is_quotable, is_token}
-use Rattle.data_url.specs.Steps.Parsing.{HasLowercaseNames, HasParameterBefore, IsItem, added_pairs, quotable_value}
+use Rattle.data_url.specs.Steps.Parsing.{HasLowercaseNames, added_pairs, after_mark, item_in, pair_if, reading_in}
 use Rattle.data_url.specs.Steps.Parsing.{unless_named, HasNoHead}
-use Rattle.data_url.specs.declared.mime.parse.Parameter.{Parameter}
+use Rattle.data_url.proofs.mime.Parsing.{mark_is}
 use Rattle.data_url.proofs.mime.TokenTexts.{bytes_of_ascii, token_text_ascii, token_text_chars}
 use Rattle.std.proofs.lemmas.Map.Text.{btree_set_updates_text}
 use Rattle.std.proofs.Math.ListN.{drop_of_length-le}
@@ -31,7 +31,7 @@ use Rattle.std.specs.BTreeSet.{BTreeSet, UpdatesBy, contains, contains_text}
 use Rattle.std.specs.Cmp.Lexicographic.{slice_cmp}
 use Rattle.std.specs.Ordering.{nat_cmp}
 use Rattle.std.specs.String.{string_cmp}
-use Rattle.data_url.proofs.mime.Items.{has_items, items_in}
+use Rattle.data_url.proofs.mime.Items.{has_items, has_parameter, items_in, rest_shorter}
 
 -- Names that are searched among the first pairs that are kept.
 
@@ -207,23 +207,22 @@ pub one_added : {A B : Type 0} (pairs pairs' : List (String A × String B)) (nam
     → map (λ p. pair_of p) pairs' ≡ map (λ p. pair_of p) pairs ++ more
 one_added pairs pairs' name value more e h = grind (arith, map-append)
 
-module _ (parameter : Parameter) (item : Item) (is : IsItem parameter item) where
-  -- if the name of a parameter is not a token text, its item adds no pair
-  pub invalid_name : (xs : List Pair) (b : Bool) → b ≡ is_token_text (chars parameter.name.now) → b ≡ false
-      → added_pairs xs item ≡ []
-  invalid_name xs b e h = grind (arith, token_text_lower)
+-- a name that is not a token text has no pair
+pub invalid_name : (name : List ℕ) (value : Option (List ℕ)) → is_token_text name ≡ false → pair_if name value ≡ []
+invalid_name name None h = refl
+invalid_name name (Some v) h = grind arith
 
-  -- if one of the pairs has the name of a parameter in lower case, its item adds no pair
-  pub known_name : (xs : List Pair) → has_name (map to_ascii_lowercase (chars parameter.name.now)) xs ≡ true
-      → added_pairs xs item ≡ []
-  known_name xs h = no_pair_named item xs (ap (λ n. has_name n xs) is.name ∙ h)
+-- if one of the pairs has a name, no pair of that name is added
+pub known_name : (xs : List Pair) (name : List ℕ) (value : Option (List ℕ)) → has_name name xs ≡ true
+    → unless_named xs (pair_if name value) ≡ []
+known_name xs name None h = refl
+known_name xs name (Some v) h = grind arith
 
-  -- if the name of a parameter is a token text, and the value is quotable, its item has the pair of the name in lower
-  -- case and the value
-  pub new_pair : (name value : List ℕ) (b : Bool) → b ≡ is_token_text (chars parameter.name.now) → b ≡ true
-      → name ≡ map to_ascii_lowercase (chars parameter.name.now) → Some value ≡ quotable_value item.1
-      → valid_of item ≡ (name, value) ∷ []
-  new_pair name value b e h n v = grind (arith, token_text_lower)
+-- the pair of a token text in lower case and a value
+pub new_pair : (n name value : List ℕ) (o : Option (List ℕ)) (b : Bool) → b ≡ is_token_text n → b ≡ true
+    → name ≡ map to_ascii_lowercase n → ◌≡◌ {A = Option (List ℕ)} (Some value) o
+    → (name, value) ∷ [] ≡ pair_if (map to_ascii_lowercase n) o
+new_pair n name value o b e h f v = grind (arith, token_text_lower)
 
 -- The parser's loop over the parameters
 
@@ -234,22 +233,36 @@ pub record KeepsOn (whole rest : List ℕ) (pairs : List Pair) : Type 0 where
   pub kept_is : pairs ≡ kept_pairs items
   pub begins : BeginsParameters rest
 
--- if the text begins with a parameter, and the pairs get what its item adds, `KeepsOn` is true of the rest
-pub keeps_more : (whole rest s rest' : List ℕ) (pairs pairs' : List Pair) (item : Item) → KeepsOn whole rest pairs
-    → rest ≡ 59 ∷ s → HasParameterBefore s item rest' → pairs' ≡ pairs ++ added_pairs pairs item
-    → KeepsOn whole rest' pairs'
-keeps_more whole rest s rest' pairs pairs' item k e p a = record {
-  items = k.items ++ (item ∷ []);
-  goes_on = λ more h. subst (Items whole) (sym (append_assoc k.items (item ∷ []) more))
-      (k.goes_on (item ∷ more) (p.text, rest', e ∙ p.joined, p.is_parameter, h));
-  kept_is = a ∙ ap₂ (λ x y. x ++ added_pairs y item) k.kept_is k.kept_is ∙ sym (kept_more k.items item);
-  begins = p.begins;
-}
+-- if a text is empty or begins with ';', but does not begin with ';', it is empty
+no_mark_left : (rest : List ℕ) → BeginsParameters rest → after_mark 59 rest ≡ None → rest ≡ []
+no_mark_left [] b e = refl
+no_mark_left (c ∷ rest) b e = absurd (grind arith)
 
--- if the text is empty, the pairs are those that are kept of the items of the whole text
-pub keeps_end : (whole rest : List ℕ) (pairs : List Pair) → KeepsOn whole rest pairs → rest ≡ []
+-- the rest after a parameter is shorter than the text
+pub rest_smaller : (rest s rest' : List ℕ) → after_mark 59 rest ≡ Some s → rest' ≡ (reading_in s).rest
+    → length rest' < length rest
+rest_smaller rest s rest' e r = omega (arith, rest_shorter s, ap length r, ap length (mark_is 59 rest s e))
+
+-- if the text begins with a parameter, and the pairs get what its item adds, `KeepsOn` is true of the rest
+pub keeps_more : {whole rest s rest' : List ℕ} {pairs pairs' pair : List Pair} → KeepsOn whole rest pairs
+    → after_mark 59 rest ≡ Some s → pair ≡ valid_of (item_in s) → rest' ≡ (reading_in s).rest
+    → pairs' ≡ pairs ++ unless_named pairs pair → KeepsOn whole rest' pairs'
+keeps_more {whole} {rest} {s} {pairs = pairs} k e p r a =
+    let h = has_parameter s in
+    let item = item_in s in
+    rw r (record {
+      items = k.items ++ (item ∷ []);
+      goes_on = λ more i. subst (Items whole) (sym (append_assoc k.items (item ∷ []) more))
+          (k.goes_on (item ∷ more) (h.text, (reading_in s).rest, mark_is 59 rest s e ∙ h.joined, h.is_parameter, i));
+      kept_is = cc (kept_more k.items item, k.kept_is);
+      begins = h.begins;
+    })
+
+-- if the text does not begin with ';', the pairs are those that are kept of the items of the whole text
+pub keeps_end : {whole rest : List ℕ} {pairs : List Pair} → KeepsOn whole rest pairs → after_mark 59 rest ≡ None
     → (items : List Item) × Items whole items × (pairs ≡ kept_pairs items)
-keeps_end whole rest pairs k e = (k.items, subst (Items whole) (append-nil k.items) (k.goes_on [] e), k.kept_is)
+keeps_end {whole} {rest} k e =
+    (k.items, subst (Items whole) (append-nil k.items) (k.goes_on [] (no_mark_left rest k.begins e)), k.kept_is)
 
 -- Which names the first pairs and the set of later names have.
 

@@ -1,191 +1,151 @@
--- Quoted strings. For `values.rt`.
-use Rattle.std.proofs.Common.{◌≡◌, ℕ, ◌==◌, ◌&&◌, not, Bool, true, false, cond, List, [], ◌∷◌, ◌++◌, Option, None, Some}
-use Rattle.std.proofs.Common.{refl, sym, ap, ◌∙◌, append_assoc, append-nil, eqb-true, inl, inr, ◌+◌, ◌<◌, ◌≤◌, length}
-use Rattle.std.proofs.Common.{get_or, take, drop, slice_range, encode_utf8_all, ap₂, arith, take-append-drop, drop-cons}
-use Rattle.std.proofs.Common.{drop_of_length-le, add-one}
-use Rattle.std.proofs.lemmas.Bool.{eqb-false, and_parts}
-use Rattle.data_url.specs.Mime.{Quoted, QuotedOpen, after_backslash, nothing_quoted, as_itself}
-use Rattle.std.proofs.lemmas.List.{append_cancel_right}
-use Rattle.std.proofs.lemmas.Str.{IsCharBoundary-before_ascii, IsUtf8-drop, IsUtf8-take, chars-append, chars-encodes}
-use Rattle.std.proofs.lemmas.Str.{chars_past_char, encode_ascii, encodes-chars, scalars-chars}
-use Rattle.std.specs.Option.{option_map}
-use Rattle.std.specs.Str.{IsUtf8, all_scalars, chars}
-use lib.Utf8.{encode, scalar}
-use Rattle.data_url.specs.Steps.Parsing.{IsClosed, IsOpen}
+-- Quoted strings, in code points and in bytes. For `values.rt` and `split_quote`.
+use Rattle.std.proofs.Common.{◌≡◌, ℕ, ◌==◌, ◌&&◌, ◌+◌, ◌<◌, ◌≤◌, not, Bool, true, false, cond, List, [], ◌∷◌, ◌++◌}
+use Rattle.std.proofs.Common.{refl, sym, ap, ◌∙◌, append_assoc, append-nil, eqb-true, inl, inr, length, suc, get_or, take}
+use Rattle.std.proofs.Common.{drop, encode_utf8_all, arith, take-append-drop, drop-cons, add-one, drop_of_length-le, Some, nat_le}
+use Rattle.std.proofs.lemmas.Bool.{cases_lt, eqb-false}
+use Rattle.std.proofs.lemmas.List.{length-append, drop-drop}
+use Rattle.std.proofs.Math.Seq.{take-append_seam, take-length, drop-append-add}
+use Rattle.std.proofs.lemmas.Str.{chars-nil, encodes-chars, chars_past_char, encode_ascii, IsUtf8-drop, IsCharBoundary-before_ascii}
+use Rattle.std.specs.Str.{IsUtf8, chars}
+use lib.Utf8.{encode}
+use Rattle.data_url.specs.Mime.{Quoted, QuotedOpen, after_backslash, Every, nothing_quoted, as_itself}
+use Rattle.data_url.specs.Steps.Parsing.{in_value, quoted_len, quoted_reading, unescaped}
+use Rattle.data_url.specs.Url.{without_front}
+use Rattle.data_url.proofs.texts.CodePoints.{IsCutInto, cut_into}
 
--- A quoted string, read from after its opening quote, with a flag that says whether a backslash comes before.
+-- the length and the value of a quoted text and then x are those of the quoted text, and then those of x
+quoted_before : (q v x : List ℕ) → Quoted q v → (quoted_len false (q ++ x) ≡ length q + quoted_len false x)
+    × (unescaped false (q ++ x) ≡ v ++ unescaped false x)
+quoted_before q v x nothing_quoted = grind arith
+quoted_before q v x (as_itself {text} {value} c n m h) = grind (arith, quoted_before text value x h)
+quoted_before q v x (after_backslash {text} {value} c h) = grind (arith, quoted_before text value x h)
 
--- the value up to the closing quote, or to the end
-abbrev pub quoted_value : Bool → List ℕ → List ℕ
-quoted_value false [] = []
-quoted_value true [] = 92 ∷ []
-quoted_value false (c ∷ t) = cond (c == 34) [] (cond (c == 92) (quoted_value true t) (c ∷ quoted_value false t))
-quoted_value true (c ∷ t) = c ∷ quoted_value false t
+-- a quoted string without a closing quote is as long as its text, and has the value that is read
+quoted_open : (q v : List ℕ) → QuotedOpen q v → (quoted_len false q ≡ length q) × (unescaped false q ≡ v)
+quoted_open q v (inl h) = grind (arith, quoted_before q v [] h, append-nil)
+quoted_open q v (inr (q', v', t, e, h)) = grind (arith, quoted_before q' v' (92 ∷ []) h, length-append)
 
--- the text after the closing quote, if there is one
-abbrev pub quoted_rest : Bool → List ℕ → Option (List ℕ)
-quoted_rest escaped [] = None
-quoted_rest false (c ∷ t) = cond (c == 34) (Some t) (cond (c == 92) (quoted_rest true t) (quoted_rest false t))
-quoted_rest true (c ∷ t) = quoted_rest false t
+-- a quoted text, its closing quote and w are read as its value and w from its first ';' on
+pub closed_reading : (q v w : List ℕ) → Quoted q v
+    → quoted_reading (q ++ 34 ∷ w) ≡ record { value = Some v; rest = without_front in_value w }
+closed_reading q v w h =
+    let n : quoted_len false (q ++ 34 ∷ w) ≡ length q = grind (arith, quoted_before q v (34 ∷ w) h) in
+    let d : drop (suc (length q)) (q ++ 34 ∷ w) ≡ w = grind (arith, drop-append-add q (34 ∷ w) 1) in
+    let u = quoted_open q v (inl h) in
+    cc (n, d, u.1, take-append_seam q (34 ∷ w))
 
--- the value of a quoted text and then x is the value of that text, and then the value of x
-pub value_before : (q v x : List ℕ) → Quoted q v → quoted_value false (q ++ x) ≡ v ++ quoted_value false x
-value_before q v x nothing_quoted = refl
-value_before q v x (as_itself {text} {value} c n m h) = grind (arith, value_before text value x h)
-value_before q v x (after_backslash {text} {value} c h) = ap (λ v. c ∷ v) (value_before text value x h)
-
--- a quoted text before x does not change what the text after the closing quote is
-pub rest_before : (q v x : List ℕ) → Quoted q v → quoted_rest false (q ++ x) ≡ quoted_rest false x
-rest_before q v x nothing_quoted = refl
-rest_before q v x (as_itself {text} {value} c n m h) = grind (arith, rest_before text value x h)
-rest_before q v x (after_backslash {text} {value} c h) = rest_before text value x h
-
--- the value of a quoted text, a '"', and any more text is the value of the quoted text
-pub closed_value : (q v w : List ℕ) → Quoted q v → quoted_value false (q ++ (34 ∷ w)) ≡ v
-closed_value q v w h = value_before q v (34 ∷ w) h ∙ append-nil v
-
--- after a quoted text and its closing quote, the rest is the text after that quote
-pub closed_rest : (q v w : List ℕ) → Quoted q v → quoted_rest false (q ++ (34 ∷ w)) ≡ Some w
-closed_rest q v w h = rest_before q v (34 ∷ w) h
-
--- the value of a quoted string without a closing quote is what is read from it
-pub open_value : (q v : List ℕ) → QuotedOpen q v → quoted_value false q ≡ v
-open_value q v (inl h) = ap (quoted_value false) (sym (append-nil q)) ∙ (value_before q v [] h ∙ append-nil v)
-open_value q v (inr (q', v', t, e, h)) = ap (quoted_value false) t ∙ (value_before q' v' (92 ∷ []) h ∙ sym e)
-
--- a quoted string without a closing quote has no text after one
-pub open_rest : (q v : List ℕ) → QuotedOpen q v → quoted_rest false q ≡ None
-open_rest q v (inl h) = ap (quoted_rest false) (sym (append-nil q)) ∙ rest_before q v [] h
-open_rest q v (inr (q', v', t, e, h)) = ap (quoted_rest false) t ∙ rest_before q' v' (92 ∷ []) h
-
--- the text before the rest is the quoted text of the value
-abbrev pub IsRead : List ℕ → List ℕ → Option (List ℕ) → Type 0
-IsRead s value None = QuotedOpen s value
-IsRead s value (Some w) = (q : List ℕ) × (s ≡ q ++ (34 ∷ w)) × Quoted q value
-
--- if x before a quoted text puts c before its value, it does so before a text from which a value is read
-read_more : (x : List ℕ) (c : ℕ) (s v : List ℕ) (r : Option (List ℕ))
-    → ((q w : List ℕ) → Quoted q w → Quoted (x ++ q) (c ∷ w)) → IsRead s v r → IsRead (x ++ s) (c ∷ v) r
-read_more x c s v None more (inl h) = inl (more s v h)
-read_more x c s v None more (inr (q, w, t, e, h)) = grind (arith, append_assoc)
-read_more x c s v (Some w) more h = (x ++ h.0, cc (append_assoc x h.0 (34 ∷ w)), more h.0 v h.2)
+-- a quoted string without a closing quote is read as its value, and nothing is left
+pub open_reading : (q v : List ℕ) → QuotedOpen q v → quoted_reading q ≡ record { value = Some v; rest = [] }
+open_reading q v h =
+    let o = quoted_open q v h in
+    let d : drop (suc (length q)) q ≡ [] = drop_of_length-le q {i = suc (length q)} (omega arith) in
+    cc (o.0, o.1, d, take-length q)
 
 -- the text with a backslash before it if the flag is true
 abbrev pub flagged : Bool → List ℕ → List ℕ
 flagged false s = s
 flagged true s = 92 ∷ s
 
--- if t can be read with and without a backslash before it, so can c and then t, where c is not escaped
-read_plain : (c : ℕ) (t : List ℕ) → IsRead (flagged false t) (quoted_value false t) (quoted_rest false t)
-    → IsRead (flagged true t) (quoted_value true t) (quoted_rest true t) → (b d : Bool) → (c == 34) ≡ b → (c == 92) ≡ d
-    → IsRead (c ∷ t) (cond b [] (cond d (quoted_value true t) (c ∷ quoted_value false t)))
-    (cond b (Some t) (cond d (quoted_rest true t) (quoted_rest false t)))
-read_plain c t plain escaped true d e f = ([], ap (λ x. x ∷ t) (eqb-true c 34 e), nothing_quoted)
-read_plain c t plain escaped false true e f = rw (eqb-true c 92 f) escaped
-read_plain c t plain escaped false false e f = read_more (c ∷ []) c t (quoted_value false t) (quoted_rest false t)
-    (λ q w. as_itself c (eqb-false c 34 e) (eqb-false c 92 f)) plain
+-- the text is a quoted text, a closing quote and more, or a quoted string without a closing quote
+pub data IsRead : List ℕ → Type 0 where
+  is_closed : {s : List ℕ} (q v w : List ℕ) → s ≡ q ++ 34 ∷ w → Quoted q v → IsRead s
+  is_open : {s : List ℕ} (v : List ℕ) → QuotedOpen s v → IsRead s
 
--- reading any text returns its value and the rest
-pub is_read : (escaped : Bool) (s : List ℕ) → IsRead (flagged escaped s) (quoted_value escaped s)
-    (quoted_rest escaped s)
-is_read false [] = inl nothing_quoted
-is_read true [] = inr ([], [], refl, refl, nothing_quoted)
-is_read false (c ∷ t) = read_plain c t (is_read false t) (is_read true t) (c == 34) (c == 92) refl refl
-is_read true (c ∷ t) =
-    read_more (92 ∷ c ∷ []) c t (quoted_value false t) (quoted_rest false t) (λ q w. after_backslash c)
-    (is_read false t)
+-- if x before each quoted text puts c before its value, x and a text that is read are read
+read_more : (x : List ℕ) (c : ℕ) (s : List ℕ) → ((q v : List ℕ) → Quoted q v → Quoted (x ++ q) (c ∷ v)) → IsRead s
+    → IsRead (x ++ s)
+read_more x c s more (is_closed q v w e h) = is_closed (x ++ q) (c ∷ v) w (cc (append_assoc x q (34 ∷ w))) (more q v h)
+read_more x c s more (is_open v (inl h)) = is_open (c ∷ v) (inl (more s v h))
+read_more x c s more (is_open v (inr (q, w, t, e, h))) =
+    is_open (c ∷ v) (inr (x ++ q, c ∷ w, cc (append_assoc x q (92 ∷ [])), cc, more q w h))
 
--- The value as it is written, which does not look for quotes
+-- if a text can be read with and without a backslash before it, so can c and the text
+read_first : (c : ℕ) (s : List ℕ) → IsRead s → IsRead (92 ∷ s) → (a b : Bool) → (c == 34) ≡ a → (c == 92) ≡ b
+    → IsRead (c ∷ s)
+read_first c s plain escaped true b e f = is_closed [] [] s (ap (λ d. d ∷ s) (eqb-true c 34 e)) nothing_quoted
+read_first c s plain escaped false true e f = rw (eqb-true c 92 f) escaped
+read_first c s plain escaped false false e f =
+    read_more (c ∷ []) c s (λ q v. as_itself c (eqb-false c 34 e) (eqb-false c 92 f)) plain
 
--- the text without each '\' that escapes the next code point; the flag says whether a '\' comes before the text
-abbrev pub unescaped : Bool → List ℕ → List ℕ
-unescaped false [] = []
-unescaped true [] = 92 ∷ []
-unescaped escaped (c ∷ t) = cond ((c == 92) && not escaped) (unescaped true t) (c ∷ unescaped false t)
+-- each text is read, also after a backslash
+pub is_read : (escaped : Bool) (s : List ℕ) → IsRead (flagged escaped s)
+is_read false [] = is_open [] (inl nothing_quoted)
+is_read true [] = is_open (92 ∷ []) (inr ([], [], refl, refl, nothing_quoted))
+is_read true (c ∷ s) = read_more (92 ∷ c ∷ []) c s (λ q v. after_backslash c) (is_read false s)
+is_read false (c ∷ s) = read_first c s (is_read false s) (is_read true s) (c == 34) (c == 92) refl refl
 
--- a quoted text and then x, without escapes, are the value of the text and then x without escapes
-unescaped_before : (q v x : List ℕ) → Quoted q v → unescaped false (q ++ x) ≡ v ++ unescaped false x
-unescaped_before q v x nothing_quoted = refl
-unescaped_before q v x (as_itself {text} {value} c n m h) = grind (arith, unescaped_before text value x h)
-unescaped_before q v x (after_backslash {text} {value} c h) = grind (arith, unescaped_before text value x h)
+-- bytes that are not ASCII come before the quote
+others_len : (bs r : List ℕ) → Every (λ b. nat_le 128 b) bs → quoted_len false (bs ++ r) ≡ length bs + quoted_len false r
+others_len [] r h = grind arith
+others_len (b ∷ bs) r h = grind (arith, others_len bs r h.1)
 
--- the value of a quoted string without a closing quote is what `unescaped` returns for it
-pub unescaped_is : (q v : List ℕ) → QuotedOpen q v → unescaped false q ≡ v
-unescaped_is q v (inl h) = ap (unescaped false) (sym (append-nil q)) ∙ (unescaped_before q v [] h ∙ append-nil v)
-unescaped_is q v (inr (q', v', t, e, h)) = ap (unescaped false) t ∙ (unescaped_before q' v' (92 ∷ []) h ∙ sym e)
-
--- The closing quote is at the same place in the bytes of a text as in its code points.
-
--- a byte that is not ASCII, put before a text, does not change the text after the closing quote
-skips : (b : ℕ) (t : List ℕ) → 128 ≤ b → quoted_rest false (b ∷ t) ≡ quoted_rest false t
-skips b t h = grind arith
-
--- the bytes of a code point that is not ASCII
-skips_encoded : (e : Bool) (c : ℕ) (x : List ℕ) → 128 ≤ c → quoted_rest e (encode c ++ x) ≡ quoted_rest false x
+-- the bytes of a code point that is not ASCII are not ASCII
+encode_others : (c : ℕ) → 128 ≤ c → Every (λ b. nat_le 128 b) (encode c)
 unfolding encode
-skips_encoded e c x h = grind arith
+encode_others c l = grind arith
 
--- the text after the closing quote of an encoded text is the encoding of the one of its code points
-pub rest_encodes : (e : Bool) (cs : List ℕ) → quoted_rest e (encode_utf8_all cs) ≡ option_map encode_utf8_all
-    (quoted_rest e cs)
-rest_encodes e [] = refl
-rest_encodes e (c ∷ cs) = grind (arith, encode_ascii, skips_encoded, rest_encodes true cs, rest_encodes false cs)
+-- the quote of an encoded code point and more is that code point, or comes after it
+quoted_char : (e : Bool) (c : ℕ) (r : List ℕ) → quoted_len e (encode c ++ r)
+    ≡ cond ((c == 34) && not e) 0 (length (encode c) + quoted_len ((c == 92) && not e) r)
+unfolding encode
+quoted_char true c r = grind arith
+quoted_char false c r = elim (cases_lt c 128) [
+  | inl l ↦ grind (arith, encode_ascii)
+  | inr l ↦ let others = others_len (encode c) r (encode_others c l) in grind arith
+]
 
--- the bytes after the closing quote of a UTF-8 text are the encoding of the code points after it
-pub rest_chars : (bs : List ℕ) → IsUtf8 bs → quoted_rest false bs ≡ option_map encode_utf8_all
-    (quoted_rest false (chars bs))
-rest_chars bs u = ap (quoted_rest false) (sym (encodes-chars bs u)) ∙ rest_encodes false (chars bs)
+-- the length of an encoded quoted text is that of the text, encoded
+quoted_encodes : (e : Bool) (cs : List ℕ)
+    → quoted_len e (encode_utf8_all cs) ≡ length (encode_utf8_all (take (quoted_len e cs) cs))
+quoted_encodes e [] = refl
+quoted_encodes true (c ∷ cs) =
+    grind (arith, quoted_char true c (encode_utf8_all cs), quoted_encodes false cs, length-append)
+quoted_encodes false (c ∷ cs) = quoted_char false c (encode_utf8_all cs) ∙ elim (c == 34) as (λ v.
+    cond (v && true) 0 (length (encode c) + quoted_len ((c == 92) && true) (encode_utf8_all cs))
+    ≡ length (encode_utf8_all (take (cond v 0 (suc (quoted_len (c == 92) cs))) (c ∷ cs)))) [
+      | true ↦ refl
+      | false ↦ grind (arith, quoted_encodes (c == 92) cs, length-append)
+    ]
 
--- No closing quote
+-- a UTF-8 text is cut at its closing quote where its code points are
+pub cut_quote : (bs : List ℕ) → IsUtf8 bs → IsCutInto bs (quoted_len false bs)
+    (take (quoted_len false (chars bs)) (chars bs)) (drop (quoted_len false (chars bs)) (chars bs))
+cut_quote bs u =
+    let n = quoted_len false (chars bs) in
+    cut_into bs (take n (chars bs)) (drop n (chars bs)) (quoted_len false bs) u
+    (sym (take-append-drop n (chars bs)))
+    (ap (quoted_len false) (sym (encodes-chars bs u)) ∙ quoted_encodes false (chars bs))
 
--- if no text after a closing quote is read, the text is a quoted string without a closing quote
-open_if : (s v : List ℕ) (o : Option (List ℕ)) → IsRead s v o → option_map encode_utf8_all o ≡ None → IsOpen s
-open_if s v None h e = (v, h)
-open_if s v (Some w) h e = absurd (let k = e in cc)
+module _ {bs : List ℕ} {i : ℕ} (u : IsUtf8 bs) (l : i < length bs) (g : get_or bs i 0 ≡ 34)
+    (h : i + quoted_len false (drop i bs) ≡ quoted_len false bs) where
+  -- the quote that is found is the closing quote
+  quote_at : quoted_len false bs ≡ i
+  quote_at = let first = drop-cons bs i 0 l in grind arith
 
--- if the search for the closing quote of a UTF-8 text reaches its end, the text is a quoted string without one
-pub is_open : (bs text : List ℕ) (i : ℕ) (e : Bool) → IsUtf8 text → bs ≡ text → length bs ≤ i
-    → quoted_rest e (drop i text) ≡ quoted_rest false text → IsOpen (chars text)
-is_open bs text i e u b l h = grind (arith, drop_of_length-le, open_if, is_read, rest_chars)
+  -- the text before it
+  pub before_quote : chars (take i bs) ≡ take (quoted_len false (chars bs)) (chars bs)
+  before_quote = let cut = cut_quote bs u in cc (quote_at, cut.front)
 
--- The closing quote
+  -- the text after it
+  pub after_quote : chars (drop (i + 1) bs) ≡ drop (suc (quoted_len false (chars bs))) (chars bs)
+  after_quote =
+      let cut = cut_quote bs u in
+      let text = IsUtf8-drop bs i u (IsCharBoundary-before_ascii bs i l (omega arith)) in
+      let first = chars_past_char (drop i bs) (drop (suc i) bs) 34 text (cc (drop-cons bs i 0 l, encode_ascii 34 (omega arith))) in
+      let n = quoted_len false (chars bs) in
+      cc (first, quote_at, cut.after, drop-drop 1 n (chars bs), add-one i, add-one n)
 
--- if all code points of q ++ w are Unicode scalar values, so are those of w
-scalars_after : (q w : List ℕ) → all_scalars (q ++ w) ≡ true → all_scalars w ≡ true
-scalars_after [] w h = h
-scalars_after (c ∷ q) w h = scalars_after q w (and_parts (scalar c) (all_scalars (q ++ w)) h).1
-
--- if a text is raw, '"' and after, and after is what is read as the rest, raw is a quoted string that ends there
-closed_if : (bs raw after v : List ℕ) (o : Option (List ℕ)) → IsRead (chars bs) v o
-    → option_map encode_utf8_all o ≡ Some after → all_scalars (chars bs) ≡ true
-    → chars bs ≡ chars raw ++ (34 ∷ chars after) → IsUtf8 after → IsClosed bs raw after
-closed_if bs raw after v None h e s j u = absurd (let k = e in cc)
-closed_if bs raw after v (Some w) h e s j u = grind (arith, chars-encodes, scalars_after, append_cancel_right)
-
--- if a text has a '"' at index i, the text from i on is '"' and then the text from i + 1 on
-quote_joined : (bs : List ℕ) (i : ℕ) → IsUtf8 bs → i < length bs → get_or bs i 0 ≡ 34 → drop i bs ≡ 34 ∷ drop (i + 1) bs
-quote_joined bs i u l e = drop-cons bs i 0 l ∙ ap₂ (λ x y. x ∷ y) e (ap (λ k. drop k bs) (sym (add-one i)))
-
--- if a UTF-8 text has a '"' at index i, its code points are those before i, '"', and those after i
-chars_joined : (bs : List ℕ) (i : ℕ) → IsUtf8 bs → i < length bs → get_or bs i 0 ≡ 34
-    → chars bs ≡ chars (take i bs) ++ (34 ∷ chars (drop (i + 1) bs))
-chars_joined bs i u l e =
-    let b = IsCharBoundary-before_ascii bs i l (omega arith) in
-    cc (
-      take-append-drop i bs,
-      chars-append (take i bs) (drop i bs) (IsUtf8-take bs i u b),
-      chars_past_char (drop i bs) (drop (i + 1) bs) 34 (IsUtf8-drop bs i u b) (quote_joined bs i u l e
-          ∙ ap (λ x. x ++ drop (i + 1) bs) (sym (encode_ascii 34 (omega arith)))),
+-- if the search reaches the end of a text, there is no closing quote
+pub no_quote : {bs bytes : List ℕ} {i : ℕ} (e : Bool) → IsUtf8 bs → bytes ≡ bs → length bytes ≤ i
+    → i + quoted_len e (drop i bs) ≡ quoted_len false bs
+    → (chars bs ≡ take (quoted_len false (chars bs)) (chars bs))
+    × (chars [] ≡ drop (suc (quoted_len false (chars bs))) (chars bs))
+no_quote {bs} {bytes} {i} e u b l h =
+    let none : drop i bs ≡ [] = drop_of_length-le bs {i = i} (omega (arith, ap length b)) in
+    let at : quoted_len false bs ≡ i = grind arith in
+    let cut = cut_quote bs u in
+    let n = quoted_len false (chars bs) in
+    let after : drop n (chars bs) ≡ [] = cc (cut.after, at, none, chars-nil) in (
+      cc (take-append-drop n (chars bs), after, append-nil (take n (chars bs))),
+      cc (drop-drop 1 n (chars bs), after, add-one n, chars-nil),
     )
-
--- the range of a text from 0 to i is its first i bytes
-range_take : (bs : List ℕ) (i : ℕ) → slice_range bs 0 i ≡ take i bs
-range_take bs i = ap (λ k. take k bs) (omega arith)
-
--- if the search for the closing quote of a UTF-8 text stops at a '"' at index i, the text is a quoted string up to
--- there, the quote, and the bytes after it
-pub is_closed : (bs raw after : List ℕ) (i : ℕ) → IsUtf8 bs → i < length bs → get_or bs i 0 ≡ 34
-    → quoted_rest false (drop i bs) ≡ quoted_rest false bs → raw ≡ slice_range bs 0 i → after ≡ drop (i + 1) bs
-    → IsUtf8 after → IsClosed bs raw after
-is_closed bs raw after i u l e h r b w =
-    grind (arith, quote_joined, closed_if, is_read, rest_chars, scalars-chars, chars_joined, range_take)

@@ -11,11 +11,12 @@ use Rattle.data_url.specs.Mime.{IsWellformed, Item, Items, Pair, Parses, Quoted,
 use Rattle.data_url.specs.Mime.{first_of_each_name, has_distinct_names, has_name, is_lowercase_name, is_quote}
 use Rattle.data_url.specs.Mime.{is_token_text, kept_pairs, plain, printed, printed_pair, printed_value, quoted}
 use Rattle.data_url.specs.Mime.{unless_empty, valid_pairs, after_backslash, nothing_quoted, as_itself}
-use Rattle.data_url.proofs.mime.Items.{not_begins_append, every_token, has_at_most_one_record}
+use Rattle.data_url.proofs.mime.TokenTexts.{every_token}
+use Rattle.data_url.proofs.mime.Items.{not_begins_append, has_at_most_one_record}
 use Rattle.data_url.proofs.mime.FirstNames.{has_append, lower_is_itself, lowercase_token, test_from_different}
 use Rattle.data_url.proofs.mime.FirstNames.{test_from_equal}
 use Rattle.data_url.proofs.mime.TokenTexts.{token_below}
-use Rattle.data_url.proofs.texts.CodePoints.{end_stays}
+use Rattle.data_url.proofs.texts.CodePoints.{end_stays, not_ends_every}
 use Rattle.data_url.specs.Url.{without_front}
 
 -- Token code points
@@ -61,13 +62,6 @@ tokens_not_begin : (p : ℕ → Bool) → ((c : ℕ) → is_token c ≡ true →
 tokens_not_begin p n [] h = tt
 tokens_not_begin p n (c ∷ t) h = n c h.0
 
--- if no token code point passes, a text of token code points does not end with one that passes
-tokens_not_end : (p : ℕ → Bool) → ((c : ℕ) → is_token c ≡ true → p c ≡ false) → (t : List ℕ) → Every is_token t
-    → DoesNotEnd p t
-tokens_not_end p n [] h = tt
-tokens_not_end p n (c ∷ []) h = n c h.0
-tokens_not_end p n (c ∷ d ∷ t) h = tokens_not_end p n (d ∷ t) h.1
-
 -- Ends of texts
 
 -- if neither a nor b ends with a code point that passes, a ++ b does not either
@@ -103,7 +97,7 @@ is_nonempty (c ∷ v) h = refl
 plain_value : (v rest : List ℕ) → is_token_text v ≡ true → GivesValue (61 ∷ v) rest (Some v)
 plain_value v rest h =
     let t = every_token v h in
-    subst (GivesValue (61 ∷ v) rest) (ap unless_empty (end_stays is_http_whitespace v (tokens_not_end is_http_whitespace
+    subst (GivesValue (61 ∷ v) rest) (ap unless_empty (end_stays is_http_whitespace v (not_ends_every is_http_whitespace is_token
     token_not_space v t)) ∙ is_nonempty v h)
     (plain v (tokens_without is_semicolon token_not_semicolon v t) (tokens_not_begin is_quote token_not_quote v t))
 
@@ -117,7 +111,7 @@ gives_value v rest = cond_both (is_token_text v) v (34 ∷ (flat_map escaped_cod
 value_not_end : (v : List ℕ) → DoesNotEnd is_http_whitespace (printed_value v)
 value_not_end v = cond_both (is_token_text v) v (34 ∷ (flat_map escaped_code_point v ++ (34 ∷ [])))
     (λ t. DoesNotEnd is_http_whitespace t)
-    (λ e. tokens_not_end is_http_whitespace token_not_space v (every_token v e))
+    (λ e. not_ends_every is_http_whitespace is_token token_not_space v (every_token v e))
     (λ e. not_ends_last is_http_whitespace 34 refl (34 ∷ flat_map escaped_code_point v))
 
 -- A parameter
@@ -128,7 +122,7 @@ name_tokens t h = every_token t (lowercase_token t h)
 
 -- a lower-case name does not end with HTTP whitespace
 name_not_end : (t : List ℕ) → is_lowercase_name t ≡ true → DoesNotEnd is_http_whitespace t
-name_not_end t h = tokens_not_end is_http_whitespace token_not_space t (name_tokens t h)
+name_not_end t h = not_ends_every is_http_whitespace is_token token_not_space t (name_tokens t h)
 
 -- a printed pair with a lower-case name is a parameter with the name and the value of the pair
 is_parameter : (p : Pair) (rest : List ℕ) → is_lowercase_name p.0 ≡ true

@@ -1,145 +1,227 @@
--- Texts of code points, cut at the first code point that does not pass, and where a text can be cut.
-use Rattle.std.proofs.Common.{◌≡◌, ℕ, ◌≤◌, Bool, true, cond, List, [], ◌∷◌, ◌++◌, length, refl, sym, ap, ◌∙◌, arith}
-use Rattle.std.proofs.Common.{◌+◌, ◌<◌, zero, suc, drop, get_or, ◌-◌, reverse, subst, append-nil, false, length-append}
-use Rattle.std.proofs.lemmas.Bool.{cond-true, cond-false, cond_both}
-use Rattle.std.proofs.lemmas.Str.{chars-nil, IsCharBoundary-after_ascii, IsCharBoundary-before_ascii}
-use Rattle.std.specs.Str.{chars, IsCharBoundary, IsUtf8}
+-- Texts of code points, cut at the first code point that does not pass, and where their bytes can be cut.
+use Rattle.std.proofs.Common.{◌≡◌, ℕ, ◌≤◌, ◌<◌, ◌+◌, ◌-◌, Bool, true, false, cond, List, [], ◌∷◌, ◌++◌, length, take, drop}
+use Rattle.std.proofs.Common.{refl, one-add, subst, sym, ap, ◌∙◌, arith, zero, suc, get_or, encode_utf8_all}
+use Rattle.std.proofs.Common.{append-nil, ◌==◌}
 use Rattle.std.specs.List.{prefix_len, suffix_len}
-use Rattle.std.proofs.lemmas.List.Sums.{prefix_len-drop_yes, prefix_len-le-length, prefix_len_passes}
-use Rattle.std.proofs.lemmas.List.Sums.{suffix_len-le-length, suffix_len_is}
-use Rattle.std.proofs.Math.Seq.{get_or-append_right, take-append_seam}
-use Rattle.std.proofs.Math.ListN.{get_or-append}
+use Rattle.std.specs.Str.{chars, IsCharBoundary, IsUtf8, all_scalars, IsAscii}
+use lib.Utf8.{encode}
+use mathlib.Core.List.{reverse_aux}
+use Rattle.std.proofs.Math.Seq.{take-append_seam, drop-append_seam}
+use Rattle.std.proofs.lemmas.List.{take-append-drop, length-append}
+use Rattle.std.proofs.lemmas.Str.{chars-encodes, encodes-append, encodes-chars, IsCharBoundary-at_seam, scalars-chars}
+use Rattle.std.proofs.lemmas.Str.{encode_ascii, chars-nil, length-le-encodes, chars-IsAscii, IsUtf8-from_ascii, IsUtf8-take, chars-append}
+use Rattle.std.proofs.lemmas.Str.Ascii.{IsAscii-cons, IsAscii-nil}
 use Rattle.data_url.specs.Mime.{DoesNotBegin, DoesNotEnd, Every}
-use Rattle.data_url.specs.Steps.Parsing.{IsTrimmedEnd, IsTrimmedFront}
+use Rattle.data_url.specs.Steps.Parsing.{IsTrimmedEnd, front_of}
 use Rattle.data_url.specs.Url.{without_end, without_front}
-use Rattle.std.proofs.lemmas.List.{get_or-reverse}
 
--- Texts cut at the first code point that does not pass, and ends removed.
+-- Prefixes and suffixes that pass
 
--- a text of no bytes has no code points
-pub no_chars : (r : List ℕ) → length r ≡ 0 → chars r ≡ []
-no_chars [] e = chars-nil
-no_chars (b ∷ r) e = absurd (omega arith)
+-- if all of a passes, and b does not begin with a code point that passes, a is the longest prefix of a ++ b that passes
+pub front_len : (p : ℕ → Bool) (a b : List ℕ) → Every p a → DoesNotBegin p b → prefix_len p (a ++ b) ≡ length a
+front_len p [] [] h e = refl
+front_len p [] (c ∷ b) h e = grind arith
+front_len p (c ∷ a) b h e = grind (arith, front_len p a b h.1 e)
 
--- the longest prefix of code points that pass
-abbrev pub front_of : (ℕ → Bool) → List ℕ → List ℕ
-front_of p [] = []
-front_of p (c ∷ t) = cond (p c) (c ∷ front_of p t) []
-
--- the text after it
-abbrev pub after_front : (ℕ → Bool) → List ℕ → List ℕ
-after_front p [] = []
-after_front p (c ∷ t) = cond (p c) (after_front p t) (c ∷ t)
-
--- if all of a passes, and b does not begin with a code point that passes, the longest prefix of a ++ b that passes is a
-pub front_is : (p : ℕ → Bool) (a b : List ℕ) → Every p a → DoesNotBegin p b → front_of p (a ++ b) ≡ a
-front_is p [] [] h e = refl
-front_is p [] (c ∷ b) h e = cond-false (p c) (c ∷ front_of p b) [] e
-front_is p (c ∷ a) b h e = cond-true (p c) (c ∷ front_of p (a ++ b)) [] h.0 ∙ ap (λ t. c ∷ t) (front_is p a b h.1 e)
-
--- if all of a passes, and b does not begin with a code point that passes, b is the text after the longest prefix of a
--- ++ b that passes
-pub after_is : (p : ℕ → Bool) (a b : List ℕ) → Every p a → DoesNotBegin p b → after_front p (a ++ b) ≡ b
-after_is p [] [] h e = refl
-after_is p [] (c ∷ b) h e = cond-false (p c) (after_front p b) (c ∷ b) e
-after_is p (c ∷ a) b h e = cond-true (p c) (after_front p (a ++ b)) (c ∷ (a ++ b)) h.0 ∙ after_is p a b h.1 e
-
--- a text is its longest prefix that passes, then the text after that prefix
-pub front_joined : (p : ℕ → Bool) (s : List ℕ) → s ≡ front_of p s ++ after_front p s
-front_joined p [] = refl
-front_joined p (c ∷ t) = grind (arith, front_joined p t)
+-- a is then the longest prefix, and b the text after it
+pub front_is : (p : ℕ → Bool) (a b : List ℕ) → Every p a → DoesNotBegin p b → (front_of p (a ++ b) ≡ a) × (without_front p (a ++ b) ≡ b)
+front_is p a b h e = grind (arith, front_len, take-append_seam, drop-append_seam)
 
 -- each code point of the longest prefix that passes does pass
 pub front_passes : (p : ℕ → Bool) (s : List ℕ) → Every p (front_of p s)
 front_passes p [] = tt
-front_passes p (c ∷ t) = cond_both (p c) (c ∷ front_of p t) [] (λ v. Every p v) (λ e. (e, front_passes p t)) (λ e. tt)
+front_passes p (c ∷ s) = elim (p c) as (λ v. p c ≡ v → Every p (take (cond v (1 + prefix_len p s) 0) (c ∷ s))) [
+  | true ↦ λ e. rw one-add (e, front_passes p s)
+  | false ↦ λ e. tt
+] refl
 
 -- the text after the longest prefix that passes does not begin with a code point that passes
-pub after_begins : (p : ℕ → Bool) (s : List ℕ) → DoesNotBegin p (after_front p s)
+pub after_begins : (p : ℕ → Bool) (s : List ℕ) → DoesNotBegin p (without_front p s)
 after_begins p [] = tt
-after_begins p (c ∷ t) = grind (arith, after_begins p t)
-
--- the text after the longest prefix that passes is the text without it
-pub after_without : (p : ℕ → Bool) (s : List ℕ) → after_front p s ≡ without_front p s
-after_without p [] = refl
-after_without p (c ∷ t) =
-    let more : suc (prefix_len p t) ≡ 1 + prefix_len p t = omega arith in
-    elim (p c) as (λ v. cond v (after_front p t) (c ∷ t) ≡ drop (cond v (1 + prefix_len p t) 0) (c ∷ t)) [
-      | true ↦ after_without p t ∙ ap (λ n. drop n (c ∷ t)) more
-      | false ↦ refl
-    ]
-
--- if t is s without its longest prefix that passes, t is `without_front p s`
-pub trimmed_front_is : (p : ℕ → Bool) (s t : List ℕ) → IsTrimmedFront p s t → t ≡ without_front p s
-trimmed_front_is p s t h = grind (arith, after_is, after_without)
-
--- if every code point of a text passes, so does the one at an index
-every_at : (p : ℕ → Bool) (s : List ℕ) → Every p s → (k : ℕ) → k < length s → p (get_or s k 0) ≡ true
-every_at p [] h k l = absurd (omega arith)
-every_at p (c ∷ s) h zero l = h.0
-every_at p (c ∷ s) h (suc k) l = every_at p s h.1 k (omega arith)
-
--- if a text does not end with a code point that passes, its last code point does not pass
-last_stops : (p : ℕ → Bool) (t : List ℕ) → DoesNotEnd p t → 0 < length t → p (get_or t (length t - 1) 0) ≡ false
-last_stops p [] h l = absurd (omega arith)
-last_stops p (c ∷ []) h l = h
-last_stops p (c ∷ d ∷ t) h l = grind (arith, last_stops p (d ∷ t) h (omega arith))
-
--- the longest suffix of t ++ back that passes is back, if back passes and t does not end with a code point that passes
-back_len : (p : ℕ → Bool) (t back : List ℕ) → Every p back → DoesNotEnd p t
-    → suffix_len p (t ++ back) ≡ length (t ++ back) - length t
-back_len p t back h e =
-    suffix_len_is p (t ++ back) (length t) 0 (omega (arith, length-append t back))
-    (λ k l m. ap p (get_or-append_right t back k 0 l) ∙ every_at p back h (k - length t)
-    (omega (arith, length-append t back)))
-    (λ l. ap p (get_or-append t back 0 (length t - 1) (omega arith)) ∙ last_stops p t e l)
-
--- if t is s without its longest suffix that passes, t is `without_end p s`
-pub trimmed_end_is : (p : ℕ → Bool) (s t : List ℕ) → IsTrimmedEnd p s t → t ≡ without_end p s
-trimmed_end_is p s t h =
-    grind (arith, length-append t h.back, back_len p t h.back h.at_back h.ends, take-append_seam t h.back)
-
--- a text that does not end with a code point that passes has no suffix that passes
-pub end_stays : (p : ℕ → Bool) (t : List ℕ) → DoesNotEnd p t → without_end p t ≡ t
-end_stays p t e = sym (trimmed_end_is p t t (record { back = []; joined = sym (append-nil t); at_back = tt; ends = e }))
-
--- the prefix that passes, found in two parts
+after_begins p (c ∷ s) = elim (p c) as (λ v. p c ≡ v → DoesNotBegin p (drop (cond v (1 + prefix_len p s) 0) (c ∷ s))) [
+  | true ↦ λ e. rw one-add (after_begins p s)
+  | false ↦ λ e. e
+] refl
 
 -- if the first n bytes pass, the longest prefix that passes is n bytes longer than that of the text after these bytes
 pub front_further : (p : ℕ → Bool) (bytes : List ℕ) (n : ℕ) → n ≤ length bytes
     → ((k : ℕ) → k < n → p (get_or bytes k 0) ≡ true) → prefix_len p bytes ≡ n + prefix_len p (drop n bytes)
 front_further p bytes zero l h = omega arith
-front_further p bytes (suc n) l h =
-    let before = front_further p bytes n (omega arith) (λ k m. h k (omega arith)) in
-    let here = prefix_len-drop_yes p bytes n 0 (omega arith) (h n (omega arith)) in
-    let more : n + 1 ≡ suc n = omega arith in
-    omega (arith, before, here, ap (λ m. prefix_len p (drop m bytes)) more)
+front_further p [] (suc n) l h = absurd (omega arith)
+front_further p (b ∷ bytes) (suc n) l h =
+    grind (arith, h 0 (omega arith), front_further p bytes n (omega arith) (λ k m. h (suc k) (omega arith)))
 
--- Where a text can be cut: before and after bytes below 128.
+-- if each code point of `back` passes, the longest prefix that passes is longer by `back` after `back` is put before a
+-- text in reverse
+onto_len : (p : ℕ → Bool) (back acc : List ℕ) → Every p back
+    → prefix_len p (reverse_aux back acc) ≡ length back + prefix_len p acc
+onto_len p [] acc h = omega arith
+onto_len p (c ∷ back) acc h = grind (arith, onto_len p back (c ∷ acc) h.1)
 
-module _ (p : ℕ → Bool) (ascii : (b : ℕ) → p b ≡ true → b < 128) (bs : List ℕ) (text : IsUtf8 bs) where
-  -- if only ASCII bytes pass, a UTF-8 text can be cut after its longest prefix that passes, unless that prefix is empty
-  pub boundary_after_front : 0 < prefix_len p bs → IsCharBoundary bs (prefix_len p bs)
-  boundary_after_front h =
-      let last : prefix_len p bs - 1 < prefix_len p bs = omega arith in
-      let passes = prefix_len_passes p bs (prefix_len p bs - 1) 0 last in
-      let within : prefix_len p bs - 1 < length bs = omega (arith, prefix_len-le-length p bs) in
-      let back : (prefix_len p bs - 1) + 1 ≡ prefix_len p bs = omega arith in
-      subst (λ i. IsCharBoundary bs i) back (IsCharBoundary-after_ascii bs (prefix_len p bs - 1) text within
-      (ascii (get_or bs (prefix_len p bs - 1) 0) passes))
+-- the same, if a text that does not end with a code point that passes comes first
+end_onto : (p : ℕ → Bool) (c : ℕ) (t back acc : List ℕ) → Every p back → DoesNotEnd p (c ∷ t)
+    → prefix_len p (reverse_aux ((c ∷ t) ++ back) acc) ≡ length back
+end_onto p c [] back acc h e = grind (arith, onto_len p back (c ∷ acc) h)
+end_onto p c (d ∷ t) back acc h e = end_onto p d t back (c ∷ acc) h e
 
-  -- if only ASCII bytes pass, a UTF-8 text can be cut before its longest suffix that passes, unless that is empty
-  before_end : 0 < suffix_len p bs → IsCharBoundary bs (length bs - suffix_len p bs)
-  before_end h =
-      let last : suffix_len p bs - 1 < suffix_len p bs = omega arith in
-      let passes = prefix_len_passes p (reverse bs) (suffix_len p bs - 1) 0 last in
-      let within : suffix_len p bs - 1 < length bs = omega (arith, suffix_len-le-length p bs) in
-      let at : length bs - 1 - (suffix_len p bs - 1) ≡ length bs - suffix_len p bs = omega arith in
-      let byte : get_or (reverse bs) (suffix_len p bs - 1) 0 ≡ get_or bs (length bs - suffix_len p bs) 0 =
-      get_or-reverse bs (suffix_len p bs - 1) 0 within ∙ ap (λ i. get_or bs i 0) at in
-      IsCharBoundary-before_ascii bs (length bs - suffix_len p bs) (omega arith)
-      (ascii (get_or bs (length bs - suffix_len p bs) 0) (ap p (sym byte) ∙ passes))
+-- the longest suffix of t ++ back that passes is `back`, if `back` passes and t does not end with a code point that passes
+end_len : (p : ℕ → Bool) (t back : List ℕ) → Every p back → DoesNotEnd p t → suffix_len p (t ++ back) ≡ length back
+end_len p [] back h e = grind (arith, onto_len p back [] h)
+end_len p (c ∷ t) back h e = end_onto p c t back [] h e
 
-  -- if only ASCII bytes pass, a UTF-8 text can be cut before its longest suffix that passes
-  pub boundary_before_end : IsCharBoundary bs (length bs - suffix_len p bs)
-  boundary_before_end = grind (arith, before_end)
+-- if t is s without its longest suffix that passes, t is `without_end p s`
+pub trimmed_end_is : (p : ℕ → Bool) (s t : List ℕ) → IsTrimmedEnd p s t → t ≡ without_end p s
+trimmed_end_is p s t h = grind (arith, length-append t h.back, end_len p t h.back h.at_back h.ends, take-append_seam t h.back)
+
+-- a text that does not end with a code point that passes has no suffix that passes
+pub end_stays : (p : ℕ → Bool) (t : List ℕ) → DoesNotEnd p t → without_end p t ≡ t
+end_stays p t e = sym (trimmed_end_is p t t (record { back = []; joined = sym (append-nil t); at_back = tt; ends = e }))
+
+-- if no code point of a class passes, a text of this class does not end with one that passes
+pub not_ends_every : (p q : ℕ → Bool) → ((c : ℕ) → q c ≡ true → p c ≡ false) → (t : List ℕ) → Every q t → DoesNotEnd p t
+not_ends_every p q n [] h = tt
+not_ends_every p q n (c ∷ []) h = n c h.0
+not_ends_every p q n (c ∷ d ∷ t) h = not_ends_every p q n (d ∷ t) h.1
+
+-- if a text is such two texts, so is the text with one more code point at the front
+end_before : (p : ℕ → Bool) (c : ℕ) (s t : List ℕ) → IsTrimmedEnd p s t → (t : List ℕ) × IsTrimmedEnd p (c ∷ s) t
+end_before p c s [] h = elim (p c) as (λ v. p c ≡ v → (t : List ℕ) × IsTrimmedEnd p (c ∷ s) t) [
+  | true ↦ λ e. ([], record { back = c ∷ s; joined = refl; at_back = (e, rw (h.joined) h.at_back); ends = tt })
+  | false ↦ λ e. (c ∷ [], record { back = s; joined = refl; at_back = rw (h.joined) h.at_back; ends = e })
+] refl
+end_before p c s (d ∷ t) h = (
+  c ∷ d ∷ t,
+  record {
+    back = h.back;
+    joined = ap (λ x. c ∷ x) h.joined;
+    at_back = h.at_back;
+    ends = h.ends;
+  },
+)
+
+-- each text is a text that does not end with a code point that passes, and then a text that passes
+has_end : (p : ℕ → Bool) (s : List ℕ) → (t : List ℕ) × IsTrimmedEnd p s t
+has_end p [] = ([], record { back = []; joined = refl; at_back = tt; ends = tt })
+has_end p (c ∷ s) = let h = has_end p s in end_before p c s h.0 h.1
+
+-- Where the bytes of a text can be cut
+
+-- the class has all or none of the code points that are not ASCII
+abbrev pub IsSteady : (ℕ → Bool) → Type 0
+IsSteady p = (c : ℕ) → 128 ≤ c → p c ≡ p 128
+
+-- the bytes of a code point pass exactly if the code point does
+front_char : (p : ℕ → Bool) (c : ℕ) (r : List ℕ) → IsSteady p
+    → prefix_len p (encode c ++ r) ≡ cond (p c) (length (encode c) + prefix_len p r) 0
+unfolding encode
+front_char p c r s = grind (arith, s)
+
+-- the longest prefix of an encoded text is that of the text, encoded
+front_encodes : (p : ℕ → Bool) → IsSteady p → (cs : List ℕ)
+    → prefix_len p (encode_utf8_all cs) ≡ length (encode_utf8_all (front_of p cs))
+front_encodes p s [] = refl
+front_encodes p s (c ∷ cs) = front_char p c (encode_utf8_all cs) s ∙ elim (p c) as (λ v.
+    cond v (length (encode c) + prefix_len p (encode_utf8_all cs)) 0
+    ≡ length (encode_utf8_all (take (cond v (1 + prefix_len p cs) 0) (c ∷ cs)))) [
+      | true ↦ rw one-add (grind (arith, front_encodes p s cs, length-append))
+      | false ↦ refl
+    ]
+
+-- if all code points of xs ++ ys are Unicode scalar values, so are those of xs and of ys
+scalars_parts : (xs ys : List ℕ) → all_scalars (xs ++ ys) ≡ true → (all_scalars xs ≡ true) × (all_scalars ys ≡ true)
+scalars_parts [] ys h = (refl, h)
+scalars_parts (x ∷ xs) ys h = grind (arith, scalars_parts xs ys)
+
+-- a text is cut at byte n, where its code points are xs and then ys
+pub record IsCutInto (bs : List ℕ) (n : ℕ) (xs ys : List ℕ) : Type 0 where
+  pub boundary : IsCharBoundary bs n
+  pub front : chars (take n bs) ≡ xs
+  pub after : chars (drop n bs) ≡ ys
+
+-- a UTF-8 text can be cut after the bytes of each prefix of its code points
+pub cut_into : (bs xs ys : List ℕ) (n : ℕ) → IsUtf8 bs → chars bs ≡ xs ++ ys → n ≡ length (encode_utf8_all xs) → IsCutInto bs n xs ys
+cut_into bs xs ys n u e l =
+    let k = scalars_parts xs ys (ap all_scalars (sym e) ∙ scalars-chars bs u) in
+    let a = encode_utf8_all xs in
+    let b = encode_utf8_all ys in
+    let whole : bs ≡ a ++ b = sym (encodes-chars bs u) ∙ ap encode_utf8_all e ∙ encodes-append xs ys in
+    rw (l, whole) (record {
+      boundary = IsCharBoundary-at_seam (a ++ b) a b refl (ys, (k.1, refl));
+      front = ap chars (take-append_seam a b) ∙ chars-encodes xs k.0;
+      after = ap chars (drop-append_seam a b) ∙ chars-encodes ys k.1;
+    })
+
+-- a UTF-8 text can be cut after its longest prefix that passes
+pub cut_front : (p : ℕ → Bool) → IsSteady p → (bs : List ℕ) → IsUtf8 bs
+    → IsCutInto bs (prefix_len p bs) (front_of p (chars bs)) (without_front p (chars bs))
+cut_front p s bs u = cut_into bs (front_of p (chars bs)) (without_front p (chars bs)) (prefix_len p bs) u
+    (sym (take-append-drop (prefix_len p (chars bs)) (chars bs)))
+    (ap (prefix_len p) (sym (encodes-chars bs u)) ∙ front_encodes p s (chars bs))
+
+-- the parts of a UTF-8 text that is cut there, as code points
+pub cut_by : {p : ℕ → Bool} {bs bytes front after : List ℕ} {n : ℕ} → IsSteady p → IsUtf8 bs → n ≡ prefix_len p bytes
+    → bytes ≡ bs → front ≡ take n bs → after ≡ drop n bs
+    → (chars front ≡ front_of p (chars bs)) × (chars after ≡ without_front p (chars bs))
+cut_by {p = p} {bs = bs} s u e b f g = let cut = cut_front p s bs u in (cc (cut.front), cc (cut.after))
+
+-- a text of no bytes has no code points
+pub no_chars : (bs : List ℕ) → length bs ≡ 0 → chars bs ≡ []
+no_chars [] e = chars-nil
+no_chars (b ∷ bs) e = absurd (omega arith)
+
+-- an encoded text is empty exactly if the text is
+empty_encodes : (cs : List ℕ) → (length cs == 0) ≡ (length (encode_utf8_all cs) == 0)
+empty_encodes [] = refl
+empty_encodes (c ∷ cs) = grind (arith, length-le-encodes (c ∷ cs))
+
+-- a UTF-8 text has code points exactly if it has bytes
+pub same_empty : (bs : List ℕ) → IsUtf8 bs → (length (chars bs) == 0) ≡ (length bs == 0)
+same_empty bs u = empty_encodes (chars bs) ∙ ap (λ x. length x == 0) (encodes-chars bs u)
+
+-- if a ++ b does not end with a code point that passes, b does not either
+ends_right : (p : ℕ → Bool) (a b : List ℕ) → DoesNotEnd p (a ++ b) → DoesNotEnd p b
+ends_right p [] b h = h
+ends_right p (x ∷ []) [] h = tt
+ends_right p (x ∷ []) (y ∷ b) h = h
+ends_right p (x ∷ y ∷ a) b h = ends_right p (y ∷ a) b h
+
+module _ (p : ℕ → Bool) (steady : IsSteady p) (other : p 128 ≡ false) where
+  -- if the bytes of a text do not end with a byte that passes, its code points do not end with one that passes
+  chars_end : (cs : List ℕ) → DoesNotEnd p (encode_utf8_all cs) → DoesNotEnd p cs
+  chars_end [] h = tt
+  chars_end (c ∷ []) h = grind (arith, encode_ascii, steady c)
+  chars_end (c ∷ d ∷ cs) h = chars_end (d ∷ cs) (ends_right p (encode c) (encode_utf8_all (d ∷ cs)) h)
+
+  -- a text that passes is ASCII
+  pub every_ascii : (t : List ℕ) → Every p t → IsAscii t
+  every_ascii [] h = IsAscii-nil
+  every_ascii (c ∷ t) h =
+      let below : c < 128 = grind (arith, steady c) in
+      IsAscii-cons c t below (every_ascii t h.1)
+
+  -- the front of a text without its longest suffix that passes, as bytes and as code points
+  pub record IsEnd (bs : List ℕ) (n : ℕ) : Type 0 where
+    pub boundary : IsCharBoundary bs n
+    pub trimmed : IsTrimmedEnd p (chars bs) (chars (take n bs))
+
+  -- a UTF-8 text can be cut before its longest suffix that passes
+  pub cut_end : (bs : List ℕ) → IsUtf8 bs → IsEnd bs (length bs - suffix_len p bs)
+  cut_end bs u =
+      let h = has_end p bs in
+      let t = h.0 in
+      let back = h.1.back in
+      let ascii = every_ascii back h.1.at_back in
+      let n : length bs - suffix_len p bs ≡ length t =
+      grind (arith, end_len p t back h.1.at_back h.1.ends, length-append t back, h.1.joined) in
+      let whole : take (length t) bs ≡ t = ap (take (length t)) h.1.joined ∙ take-append_seam t back in
+      let boundary = IsCharBoundary-at_seam bs t back h.1.joined (IsUtf8-from_ascii back ascii) in
+      let text : IsUtf8 t = subst IsUtf8 whole (IsUtf8-take bs (length t) u boundary) in
+      rw n (record {
+        boundary = boundary;
+        trimmed = subst (λ x. IsTrimmedEnd p (chars bs) (chars x)) (sym whole) (record {
+          back = back;
+          joined = cc (h.1.joined, chars-append t back text, chars-IsAscii back ascii);
+          at_back = h.1.at_back;
+          ends = chars_end (chars t) (subst (DoesNotEnd p) (sym (encodes-chars t text)) h.1.ends);
+        });
+      })

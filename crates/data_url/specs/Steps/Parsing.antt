@@ -1,21 +1,25 @@
 -- What the private functions of the MIME parser return. Texts are lists of code points.
 use Rattle.std.specs.Char.{to_ascii_lowercase}
 use Rattle.std.specs.Int.{is_in_range}
-use Rattle.std.specs.List.{list_all}
-use Rattle.std.specs.Prelude.{[], if◌then◌else◌, ◌&&◌, ◌++◌, ◌==◌, ◌||◌, ◌∷◌, ◌≡◌, Bool, IsTrue, List, None, Option, Some, map, not, ℕ}
-use Rattle.std.specs.Str.{IsUtf8, chars}
-use Rattle.data_url.specs.CodePoints.{is_quotable, is_semicolon}
-use Rattle.data_url.specs.Mime.{BeginsParameters, DoesNotBegin, DoesNotEnd, Every, GivesValue, IsHead, IsParameter, Item, Pair, Quoted, QuotedOpen, has_name, is_lowercase_name, valid_of}
+use Rattle.std.specs.List.{list_all, prefix_len}
+use Rattle.std.specs.Prelude.{[], if◌then◌else◌, ◌&&◌, ◌++◌, ◌==◌, ◌||◌, ◌∷◌, ◌≡◌, Bool, IsTrue, List, None, Option, Some, drop, false, map, not, suc, take, true, zero, ℕ}
+use Rattle.std.specs.Str.{chars}
+use Rattle.data_url.specs.CodePoints.{ends_name, is_http_whitespace, is_quotable, is_semicolon, is_token}
+use Rattle.data_url.specs.Mime.{DoesNotEnd, Every, IsHead, Item, Pair, has_name, is_lowercase_name, is_token_text, unless_empty, valid_of}
+use Rattle.data_url.specs.Url.{without_end, without_front}
 use Rattle.data_url.specs.declared.mime.parse.Parameter.{Parameter}
 use Rattle.data_url.specs.declared.mime.values.Value.TheVariants as slices
 use Rattle.data_url.specs.declared.mime.values.Value.{Value}
 
--- t is s without the longest prefix of code points that pass
-pub record IsTrimmedFront (p : ℕ → Bool) (s t : List ℕ) : Type 0 where
-  pub front : List ℕ
-  pub joined : s ≡ front ++ t
-  pub at_front : Every p front
-  pub begins : DoesNotBegin p t
+-- the longest prefix of code points that pass
+abbrev pub front_of : (ℕ → Bool) → List ℕ → List ℕ
+front_of p s = take (prefix_len p s) s
+
+-- s is its longest prefix of token code points, which is not empty, and then rest
+pub record IsTokens (s tokens rest : List ℕ) : Type 0 where
+  pub front : front_of is_token s ≡ tokens
+  pub after : without_front is_token s ≡ rest
+  pub token : IsTrue (is_token_text tokens)
 
 -- t is s without the longest suffix of code points that pass
 pub record IsTrimmedEnd (p : ℕ → Bool) (s t : List ℕ) : Type 0 where
@@ -24,30 +28,75 @@ pub record IsTrimmedEnd (p : ℕ → Bool) (s t : List ℕ) : Type 0 where
   pub at_back : Every p back
   pub ends : DoesNotEnd p t
 
--- x, the text after a name, is the text that gives the value, and then rest
-pub record HasValueBefore (x : List ℕ) (value : Option (List ℕ)) (rest : List ℕ) : Type 0 where
-  pub tail : List ℕ
-  pub joined : x ≡ tail ++ rest
-  pub gives : GivesValue tail rest value
-  pub begins : BeginsParameters rest
+-- the text after c, if the text begins with c
+abbrev pub after_mark : ℕ → List ℕ → Option (List ℕ)
+after_mark c [] = None
+after_mark c (b ∷ s) = if b == c then Some s else None
 
--- ';' and s together are a parameter with this item, and then rest
-pub record HasParameterBefore (s : List ℕ) (item : Item) (rest : List ℕ) : Type 0 where
-  pub text : List ℕ
-  pub joined : 59 ∷ s ≡ text ++ rest
-  pub is_parameter : IsParameter text rest item
-  pub begins : BeginsParameters rest
+-- the code point does not end a value
+abbrev pub in_value : ℕ → Bool
+in_value c = not (is_semicolon c)
 
--- the text is a quoted string without a closing quote
-abbrev pub IsOpen : List ℕ → Type 0
-IsOpen text = (value : List ℕ) × QuotedOpen text value
+-- the code point does not end a name
+abbrev pub in_name : ℕ → Bool
+in_name c = not (ends_name c)
 
--- the text is a quoted string, its closing quote, and the bytes after that, which are UTF-8
-pub record IsClosed (text quoted after : List ℕ) : Type 0 where
-  pub value : List ℕ
-  pub is_quoted : Quoted (chars quoted) value
-  pub joined : chars text ≡ chars quoted ++ (34 ∷ chars after)
-  pub utf8 : IsUtf8 after
+-- how many code points come before the closing quote, or in all; the flag says whether a '\' escapes the first one
+abbrev pub quoted_len : Bool → List ℕ → ℕ
+quoted_len escaped [] = zero
+quoted_len true (c ∷ s) = suc (quoted_len false s)
+quoted_len false (c ∷ s) = if c == 34 then zero else suc (quoted_len (c == 92) s)
+
+-- the text without each '\' that escapes the next code point; the flag says whether a '\' comes before the text
+abbrev pub unescaped : Bool → List ℕ → List ℕ
+unescaped false [] = []
+unescaped true [] = 92 ∷ []
+unescaped escaped (c ∷ s) = if (c == 92) && not escaped then unescaped true s else c ∷ unescaped false s
+
+-- a value, if there is one, and the text after it
+pub record Reading : Type 0 where
+  pub value : Option (List ℕ)
+  pub rest : List ℕ
+
+-- the value without quotes at the front of a text
+abbrev pub plain_reading : List ℕ → Reading
+plain_reading s = record {
+  value = unless_empty (without_end is_http_whitespace (front_of in_value s));
+  rest = without_front in_value s;
+}
+
+-- the value in the text after a '"'
+abbrev pub quoted_reading : List ℕ → Reading
+quoted_reading s = record {
+  value = Some (unescaped false (take (quoted_len false s) s));
+  rest = without_front in_value (drop (suc (quoted_len false s)) s);
+}
+
+-- the value in a text, from the text after its '"' if it begins with one
+abbrev pub reading_from : List ℕ → Option (List ℕ) → Reading
+reading_from s None = plain_reading s
+reading_from s (Some quoted) = quoted_reading quoted
+
+-- the value in the text after a '='
+abbrev pub given_reading : List ℕ → Reading
+given_reading s = reading_from s (after_mark 34 s)
+
+-- the value in the text after a name, from the text after its '=' if it begins with one
+abbrev pub reading : List ℕ → Option (List ℕ) → Reading
+reading s None = record { value = None; rest = s }
+reading s (Some given) = given_reading given
+
+-- the text of a name and more, from the text after a ';'
+abbrev pub named : List ℕ → List ℕ
+named s = without_front is_http_whitespace s
+
+-- the value of a parameter and the text after it, from the text after its ';'
+abbrev pub reading_in : List ℕ → Reading
+reading_in s = reading (without_front in_name (named s)) (after_mark 61 (without_front in_name (named s)))
+
+-- the item of a parameter, from the text after its ';'
+abbrev pub item_in : List ℕ → Item
+item_in s = (map to_ascii_lowercase (front_of in_name (named s)), (reading_in s).value)
 
 -- a byte of the UTF-8 of quoted-string code points
 unfoldable pub is_quotable_byte : ℕ → Bool
@@ -62,16 +111,20 @@ abbrev pub quotable_value : Option (List ℕ) → Option (List ℕ)
 quotable_value None = None
 quotable_value (Some value) = if list_all is_quotable value then Some value else None
 
--- the slices are the text of the value; or there is no value, or it has other code points
-abbrev pub IsValue : Value → Option (List ℕ) → Type 0
-IsValue slices.Missing value = quotable_value value ≡ None
-IsValue (slices.Plain text) value = (value ≡ Some (chars text.now)) × IsTrue (list_all is_quotable (chars text.now))
-IsValue (slices.Quoted text) value = (w : List ℕ) × (value ≡ Some w) × QuotedOpen (chars text.now) w
+-- the value of the slices, if it is there and has only HTTP quoted-string token code points
+abbrev pub value_of : Value → Option (List ℕ)
+value_of slices.Missing = None
+value_of (slices.Plain text) = Some (chars text.now)
+value_of (slices.Quoted text) = quotable_value (Some (unescaped false (chars text.now)))
 
--- the slices are the text of the item
-pub record IsItem (parameter : Parameter) (item : Item) : Type 0 where
-  pub name : item.0 ≡ map to_ascii_lowercase (chars parameter.name.now)
-  pub value : IsValue parameter.value item.1
+-- the pair of a name and a value: none if the name is not a token text, or there is no value
+abbrev pub pair_if : List ℕ → Option (List ℕ) → List Pair
+pair_if name None = []
+pair_if name (Some value) = if is_token_text name then (name, value) ∷ [] else []
+
+-- the pair of the slices
+abbrev pub pair_in : Parameter → List Pair
+pair_in parameter = pair_if (map to_ascii_lowercase (chars parameter.name.now)) (value_of parameter.value)
 
 -- the pair that an item adds to the earlier ones: none if a pair has its name already
 abbrev pub unless_named : List Pair → List Pair → List Pair

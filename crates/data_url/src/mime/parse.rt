@@ -1,15 +1,17 @@
 //! Reads a MIME type (MIME Sniffing Standard, section 4.4).
 
-ghost use Rattle.std.specs.Prelude.{◌≡◌, ◌++◌, ◌∷◌, List, ℕ, Option, MatchOption, IfOk, IsTrue, OnOk, codes, map};
-ghost use Rattle.std.specs.Str.{IsUtf8, chars};
-ghost use Rattle.data_url.specs.Mime.{BeginsParameters, DoesNotBegin, IsHead, Item, Items, is_quote, is_token_text, kept_pairs, IsRecordOfParts};
-ghost use Rattle.data_url.specs.Steps.Parsing.{HasNoHead, HasParameterBefore, HasValueBefore, IsClosed, IsItem, IsOpen, IsValue, added_pairs};
+ghost use Rattle.std.specs.Prelude.{◌≡◌, ◌++◌, List, MatchOption, IfOk, IsTrue, OnOk, codes, drop, false, map, suc, take};
+ghost use Rattle.std.specs.Str.{chars};
+ghost use Rattle.data_url.specs.Mime.{BeginsParameters, IsHead, Item, Items, is_token_text, kept_pairs, valid_of, IsRecordOfParts};
+ghost use Rattle.data_url.specs.Url.{without_front};
+ghost use Rattle.data_url.specs.Steps.Parsing.{HasNoHead, given_reading, in_value, item_in, pair_in, plain_reading, quotable_value, quoted_len, reading_in, unless_named, value_of};
 ghost use Rattle.data_url.specs.Steps.Kept.{IsIndexed, pairs_of};
 ghost use Rattle.data_url.specs.MimeType.{pair_of, record_of};
 
 use super::Mime;
 use super::cuts::{
-    name_len, parameter_len, without_leading_whitespace, without_trailing_whitespace,
+    after_mark, from_semicolon, name_len, parameter_len, without_leading_whitespace,
+    without_trailing_whitespace,
 };
 use super::kept::KeptParameters;
 use super::tokens::{is_token_text, split_tokens};
@@ -58,14 +60,12 @@ pub(crate) fn read_head(text: &str) -> Option<Head<'_>>
         (λ h. IsHead (chars text.now) (chars h.type_.now) (chars h.subtype.now)
         (chars h.parameters.now)) }
 {
-    let (type_, rest) = split_tokens(without_trailing_whitespace(without_leading_whitespace(text)));
-    let (subtype, rest) = split_tokens(rest.strip_prefix('/')?);
+    let text = without_trailing_whitespace(without_leading_whitespace(text));
+    let (type_, rest) = split_tokens(text)?;
+    let (subtype, rest) = split_tokens(after_mark(rest, '/')?)?;
     let parameters = without_leading_whitespace(rest);
-    if type_.is_empty() || subtype.is_empty() {
-        return None;
-    }
-    if !parameters.is_empty() && !parameters.starts_with(';') {
-        return None;
+    if !parameters.is_empty() {
+        after_mark(parameters, ';')?;
     }
     Some(Head {
         type_,
@@ -89,45 +89,35 @@ pub(crate) fn plain_head(parameters: &str) -> Head<'_>
 
 /// Returns the parameter that a text begins with, after its `;`.
 fn read_parameter(text: &str) -> Parameter<'_>
-    ensures parameter { (item : Item) × IsItem result item
-        × HasParameterBefore (chars text.now) item (chars result.rest.now) }
-    ensures text { IsUtf8 result.rest.now }
+    ensures pair { pair_in result ≡ valid_of (item_in (chars text.now)) }
+    ensures rest { chars result.rest.now ≡ (reading_in (chars text.now)).rest }
 {
     let text = without_leading_whitespace(text);
-    let (name, tail) = text.split_at(name_len(text.as_bytes()));
-    let Some(value) = tail.strip_prefix('=') else {
-        return Parameter {
-            name,
-            value: Value::Missing,
-            rest: tail,
-        };
+    let (name, rest) = text.split_at(name_len(text.as_bytes()));
+    let Some(given) = after_mark(rest, '=') else {
+        let value = Value::Missing;
+        return Parameter { name, value, rest };
     };
-    let (value, rest) = read_value(value);
+    let (value, rest) = read_value(given);
     Parameter { name, value, rest }
 }
 
 /// Returns the value after a `=`, and the text after it.
 fn read_value(text: &str) -> (Value<'_>, &str)
-    ensures value { (value : Option (List ℕ)) × IsValue result.0 value
-        × HasValueBefore (61 ∷ chars text.now) value (chars result.1.now) }
-    ensures text { IsUtf8 result.1.now }
+    ensures value { value_of result.0 ≡ quotable_value (given_reading (chars text.now)).value }
+    ensures rest { chars result.1.now ≡ (given_reading (chars text.now)).rest }
 {
-    let Some(quoted) = text.strip_prefix('"') else {
+    let Some(quoted) = after_mark(text, '"') else {
         return read_plain(text);
     };
-    let Some((value, after)) = split_quote(quoted) else {
-        return (Value::Quoted(quoted), "");
-    };
-    let len = parameter_len(after.as_bytes());
-    (Value::Quoted(value), &after[len..])
+    let (value, after) = split_quote(quoted);
+    (Value::Quoted(value), from_semicolon(after))
 }
 
 /// Returns the value after a `=` that does not begin with `"`, and the text after it.
 fn read_plain(text: &str) -> (Value<'_>, &str)
-    requires { DoesNotBegin is_quote (chars text.now) }
-    ensures value { (value : Option (List ℕ)) × IsValue result.0 value
-        × HasValueBefore (61 ∷ chars text.now) value (chars result.1.now) }
-    ensures text { IsUtf8 result.1.now }
+    ensures value { value_of result.0 ≡ quotable_value (plain_reading (chars text.now)).value }
+    ensures rest { chars result.1.now ≡ without_front in_value (chars text.now) }
 {
     let bytes = text.as_bytes();
     let quotable = long_span(Class::Unquoted, bytes);
@@ -139,19 +129,21 @@ fn read_plain(text: &str) -> (Value<'_>, &str)
     (Value::Plain(value), rest)
 }
 
-/// Splits a text at the quote that closes a quoted string. Returns None if there is none.
-fn split_quote(text: &str) -> Option<(&str, &str)>
-    ensures { MatchOption result (IsOpen (chars text.now))
-        (λ parts. IsClosed text.now parts.0.now parts.1.now) }
+/// Splits a text at the quote that closes a quoted string. If there is none, the whole text is the quoted string.
+fn split_quote(text: &str) -> (&str, &str)
+    ensures quoted { chars result.0.now
+        ≡ take (quoted_len false (chars text.now)) (chars text.now) }
+    ensures after { chars result.1.now
+        ≡ drop (suc (quoted_len false (chars text.now))) (chars text.now) }
 {
     let mut escaped = false;
     for (place, byte) in text.as_bytes().iter().enumerate() {
         if *byte == b'"' && !escaped {
-            return Some((&text[..place], &text[place + 1..]));
+            return (&text[..place], &text[place + 1..]);
         }
         escaped = *byte == b'\\' && !escaped;
     }
-    None
+    (text, "")
 }
 
 /// The length of the shortest valid parameter, such as `;a=b`, in bytes; about half of what most take.
@@ -178,7 +170,7 @@ pub(super) fn read_parameters(
         later_names: BTreeSet::new(alloc),
     };
     let mut rest = text;
-    while let Some(after) = rest.strip_prefix(';') {
+    while let Some(after) = after_mark(rest, ';') {
         let parameter = read_parameter(after);
         rest = parameter.rest;
         keep(alloc, &mut kept, &parameter)?;
@@ -193,8 +185,8 @@ fn keep(
     parameter: &Parameter<'_>,
 ) -> Result<(), AllocError>
     requires { IsIndexed kept.old }
-    ensures pairs { OnOk result ((item : Item) → IsItem parameter.now item
-        → pairs_of kept.new ≡ pairs_of kept.old ++ added_pairs (pairs_of kept.old) item) }
+    ensures pairs { OnOk result (pairs_of kept.new
+        ≡ pairs_of kept.old ++ unless_named (pairs_of kept.old) (pair_in parameter.now)) }
     ensures indexed { OnOk result (IsIndexed kept.new) }
 {
     let name = parameter.name;

@@ -1,9 +1,10 @@
 //! HTTP token code points (MIME Sniffing Standard, section 3).
 
-ghost use Rattle.std.specs.Prelude.{◌≡◌, ◌++◌};
-ghost use Rattle.std.specs.Str.{IsUtf8, chars};
+ghost use Rattle.std.specs.Prelude.{◌≡◌, [], MatchOption};
+ghost use Rattle.std.specs.Str.{chars};
 ghost use Rattle.data_url.specs.CodePoints.{is_token};
-ghost use Rattle.data_url.specs.Mime.{DoesNotBegin, Every, is_token_text};
+ghost use Rattle.data_url.specs.Mime.{is_token_text};
+ghost use Rattle.data_url.specs.Steps.Parsing.{IsTokens, front_of};
 
 use crate::classes::{Class, span};
 
@@ -14,12 +15,14 @@ pub(super) fn is_token_text(text: &str) -> bool
     !text.is_empty() && span(Class::Token, text.as_bytes()) == text.len()
 }
 
-/// Splits a text after its longest prefix of token code points.
-pub(super) fn split_tokens(text: &str) -> (&str, &str)
-    ensures joined { chars text.now ≡ chars result.0.now ++ chars result.1.now }
-    ensures front { Every is_token (chars result.0.now) }
-    ensures after { DoesNotBegin is_token (chars result.1.now) }
-    ensures text { IsUtf8 result.0.now × IsUtf8 result.1.now }
+/// Splits a text after its longest prefix of token code points. Returns None if that is empty.
+pub(super) fn split_tokens(text: &str) -> Option<(&str, &str)>
+    ensures { MatchOption result (front_of is_token (chars text.now) ≡ [])
+        (λ parts. IsTokens (chars text.now) (chars parts.0.now) (chars parts.1.now)) }
 {
-    text.split_at(span(Class::Token, text.as_bytes()))
+    let len = span(Class::Token, text.as_bytes());
+    if len == 0 {
+        return None;
+    }
+    Some(text.split_at(len))
 }

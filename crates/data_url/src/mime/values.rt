@@ -1,11 +1,11 @@
 //! Values of parameters, as slices of a text and as texts of their own.
 
-ghost use Rattle.std.specs.Prelude.{◌≡◌, List, ℕ, IfOk, IsTrue, map};
+ghost use Rattle.std.specs.Prelude.{◌≡◌, IfOk, IsTrue, false, map};
 ghost use Rattle.std.specs.Char.{to_ascii_lowercase};
 ghost use Rattle.std.specs.Option.{option_map};
 ghost use Rattle.std.specs.Str.{chars};
-ghost use Rattle.data_url.specs.Mime.{QuotedOpen, is_token_text};
-ghost use Rattle.data_url.specs.Steps.Parsing.{IsValue, quotable_value};
+ghost use Rattle.data_url.specs.Mime.{is_token_text};
+ghost use Rattle.data_url.specs.Steps.Parsing.{unescaped, value_of};
 ghost use Rattle.data_url.specs.MimeType.{code_points};
 
 use crate::classes::{Class, long_span};
@@ -23,13 +23,10 @@ pub(super) enum Value<'a> {
 }
 
 impl<'a> Value<'a> {
-    ghost use Rattle.std.specs.Prelude.{Option};
-
     /// The value as a text of its own, if it is there and has quoted-string code points alone. It takes memory for that
     /// text. `\` is a quoted-string code point, so a quoted string is tested before its escapes are removed.
     pub(super) fn text(&self, alloc: Global) -> Result<Option<String>, AllocError>
-        ensures { IfOk result (λ text. (value : Option (List ℕ)) → IsValue self.now value
-            → option_map (λ t. code_points t) text ≡ quotable_value value) }
+        ensures { IfOk result (λ text. option_map (λ t. code_points t) text ≡ value_of self.now) }
     {
         match self {
             Value::Plain(text) => Ok(Some(String::from_str(alloc, text)?)),
@@ -43,8 +40,7 @@ impl<'a> Value<'a> {
 
 /// Returns the value of a quoted string: without the `\` before a code point.
 fn unescaped(alloc: Global, quoted: &str) -> Result<String, AllocError>
-    ensures { IfOk result (λ text. (value : List ℕ) → QuotedOpen (chars quoted.now) value
-        → code_points text ≡ value) }
+    ensures { IfOk result (λ text. code_points text ≡ unescaped false (chars quoted.now)) }
 {
     if long_span(Class::Unescaped, quoted.as_bytes()) == quoted.len() {
         String::from_str(alloc, quoted)
@@ -55,14 +51,15 @@ fn unescaped(alloc: Global, quoted: &str) -> Result<String, AllocError>
 
 /// Returns the value of a quoted string, code point by code point.
 fn without_backslashes(alloc: Global, quoted: &str) -> Result<String, AllocError>
-    ensures { IfOk result (λ text. (value : List ℕ) → QuotedOpen (chars quoted.now) value
-        → code_points text ≡ value) }
+    ensures { IfOk result (λ text. code_points text ≡ unescaped false (chars quoted.now)) }
 {
     let mut value = String::with_capacity(alloc, quoted.len())?;
     let mut escaped = false;
     for c in quoted.chars() {
-        escaped = c == '\\' && !escaped;
-        if !escaped {
+        if c == '\\' && !escaped {
+            escaped = true;
+        } else {
+            escaped = false;
             value.push(c)?;
         }
     }

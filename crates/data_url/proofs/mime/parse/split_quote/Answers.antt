@@ -1,18 +1,17 @@
-use Rattle.std.proofs.Common.{◌≡◌, ◌<◌, length, get_or, arith, sym, ap, ◌∙◌, subst}
+use Rattle.std.proofs.Common.{◌≡◌, ◌<◌, length, get_or, arith}
 use Rattle.std.proofs.lemmas.Str.{IsCharBoundary-after_ascii}
-use Rattle.data_url.proofs.mime.Quoted.{is_closed, is_open}
+use Rattle.data_url.proofs.mime.Quoted.{after_quote, before_quote, no_quote}
 use Rattle.data_url.proofs.mime.parse.split_quote.Goals as goal
 
 pub range_from-requires : goal.range_from-requires
 range_from-requires c =
-    let l : c.loop-place.place < length c.args.text.now =
-    subst (λ s. c.loop-place.place < length s) c.as_bytes-byte-items.ensures.value c.loop-place-test.true in
-    let e : get_or c.args.text.now c.loop-place.place 0 ≡ 34 =
-    ap (λ s. get_or s c.loop-place.place 0) (sym c.as_bytes-byte-items.ensures.value) ∙ c.if-byte-eq34.true in
-    λ k. IsCharBoundary-after_ascii c.args.text.now c.loop-place.place c.utf8.text l (omega arith)
+    let l : c.loop-place.place < length c.args.text.now = grind arith in
+    let e : get_or c.args.text.now c.loop-place.place 0 ≡ 34 = cc in
+    λ _. IsCharBoundary-after_ascii c.args.text.now c.loop-place.place c.utf8.text l (omega arith)
 
 pub returns-then-not-escaped : goal.returns-then-not-escaped
-returns-then-not-escaped c = grind (arith, is_closed)
+returns-then-not-escaped c = grind (arith, after_quote, before_quote)
 
 pub returns : goal.returns
-returns c = grind (arith, is_open)
+returns c = let n = no_quote c.loop-place.escaped c.utf8.text c.as_bytes-byte-items.ensures.value c.loop-place-test.false c.loop-place.invariant in
+    record { quoted = n.0; after = n.1 }

@@ -1,16 +1,15 @@
-use Rattle.std.proofs.Common.{◌∙◌, ap}
-use Rattle.std.specs.List.{prefix_len}
+use Rattle.std.proofs.Common.{arith}
 use Rattle.data_url.specs.CodePoints.{is_token}
-use Rattle.data_url.proofs.mime.TokenTexts.{split_at_other, tokens_boundary_at}
+use Rattle.data_url.proofs.mime.TokenTexts.{no_tokens, some_tokens, tokens_steady}
+use Rattle.data_url.proofs.texts.CodePoints.{cut_front}
 use Rattle.data_url.proofs.mime.tokens.split_tokens.Goals as goal
 
 pub split_at-requires : goal.split_at-requires
-split_at-requires c = tokens_boundary_at c.args.text.now c.span.result c.utf8.text (c.span.ensures.front
-    ∙ ap (prefix_len is_token) c.as_bytes.ensures.value)
+split_at-requires c = grind (arith, cut_front is_token tokens_steady)
+
+pub returns-then-len-eq0 : goal.returns-then-len-eq0
+returns-then-len-eq0 c = no_tokens c.args.text.now c.span-len.result c.utf8.text (cc) c.if-len-eq0.true
 
 pub returns : goal.returns
-returns c =
-    let s = split_at_other c.args.text.now c.split_at.result.0.now c.split_at.result.1.now c.span.result c.utf8.text
-    (c.span.ensures.front ∙ ap (prefix_len is_token) c.as_bytes.ensures.value) c.split_at.ensures.front
-    c.split_at.ensures.back in
-    record { joined = s.joined; front = s.in_front; after = s.begins; text = s.text }
+returns c = some_tokens c.args.text.now c.span-len.result c.utf8.text (cc) c.if-len-eq0.false _ _ c.split_at.ensures.front
+    c.split_at.ensures.back

@@ -3,7 +3,7 @@ use Rattle.std.proofs.Common.{◌≡◌, ◌++◌, false}
 use Rattle.std.specs.Str.{IsUtf8, chars}
 use Rattle.std.specs.Str.Iter.{chars_rest}
 use Rattle.data_url.specs.MimeType.{code_points}
-use Rattle.data_url.proofs.mime.Quoted.{unescaped}
+use Rattle.data_url.specs.Steps.Parsing.{unescaped}
 use Rattle.data_url.proofs.mime.values.without_backslashes.Given as goal
 
 abbrev pub invariant-loop-c : goal.invariant-loop-c
