@@ -15,7 +15,8 @@ use Rattle.data_url.specs.Base64.{decoded, complete_bytes, first_fault, left_pad
 use Rattle.std.specs.Char.{is_ascii_whitespace}
 use Rattle.data_url.specs.Steps.Blocks.{Fills, is_symbol_or_space}
 use Rattle.data_url.specs.Steps.Lanes.{value_of}
-use Rattle.data_url.proofs.forgiving_base64.Vectors.{groups_whole, value_is}
+use lib.Count.{count_trailing_zeros}
+use Rattle.data_url.proofs.forgiving_base64.Vectors.{ahead_is, others_mask, groups_whole, value_is}
 use Rattle.data_url.proofs.forgiving_base64.Padding.{after_groups-append, after_groups-map}
 use Rattle.data_url.proofs.forgiving_base64.Padding.{before-append, before_none, done_is, every_after, fault-append}
 use Rattle.data_url.proofs.forgiving_base64.Padding.{fault_byte, fault_invalid, fault_none, fault_some, fault_text}
@@ -94,27 +95,29 @@ row_held old new bytes g c e within few =
     cc (take-take (3 * (g + c)) (3 * g + 12) new (omega arith), take-append-add (take (3 * g) old) bytes (3 * c))
 
 -- one group
-pub fill_one : (held text bytes : List ℕ) → 4 ≤ length text → list_all is_symbol (take 4 text) ≡ true
+pub fill_one : (held text bytes : List ℕ) → 4 ≤ length text → is_symbol (get_or text 0 0) ≡ true
+    → is_symbol (get_or text 1 0) ≡ true → is_symbol (get_or text 2 0) ≡ true → is_symbol (get_or text 3 0) ≡ true
     → bytes ≡ group_bytes (group_number (symbol_value (get_or text 0 0)) (symbol_value (get_or text 1 0))
     (symbol_value (get_or text 2 0)) (symbol_value (get_or text 3 0)))
     → Fills held text 4 (held ++ bytes)
 unfolding groups
-fill_one held [] bytes h all e = absurd (omega arith)
-fill_one held (p ∷ []) bytes h all e = absurd (omega arith)
-fill_one held (p ∷ q ∷ []) bytes h all e = absurd (omega arith)
-fill_one held (p ∷ q ∷ r ∷ []) bytes h all e = absurd (omega arith)
-fill_one held (p ∷ q ∷ r ∷ s ∷ rest) bytes h all e = grind arith
+fill_one held [] bytes h i j k l e = absurd (omega arith)
+fill_one held (p ∷ []) bytes h i j k l e = absurd (omega arith)
+fill_one held (p ∷ q ∷ []) bytes h i j k l e = absurd (omega arith)
+fill_one held (p ∷ q ∷ r ∷ []) bytes h i j k l e = absurd (omega arith)
+fill_one held (p ∷ q ∷ r ∷ s ∷ rest) bytes h i j k l e = grind arith
 
 -- The symbols at the start
 
--- if n is the number of symbols at the start of 16 bytes of a row, n is at most 16 and the first n bytes are symbols
-pub row_ahead : (row : List ℕ) (n : ℕ) → n ≡ prefix_len is_symbol (take 16 row)
-    → (n ≤ 16) × (list_all is_symbol (take n row) ≡ true)
-row_ahead row n e =
-    let l : n ≤ 16 = omega (arith, e, prefix_len-le-length is_symbol (take 16 row), length-take 16 row) in (
-      l,
-      grind (arith, take-take n 16 row l, list_all-from_AllPass, length-take, get_or-take, prefix_len_passes),
-    )
+-- the trailing zeros of the mask of the first 16 bytes, among 16 bits, are how many symbols the text begins with
+pub row_ahead : (text row : List ℕ) (mask : ℕ) → 16 ≤ length text → row ≡ take 16 text → mask ≡ others_mask row
+    → (count_trailing_zeros 16 mask ≤ 16) × (list_all is_symbol (take (count_trailing_zeros 16 mask) text) ≡ true)
+row_ahead text row mask long is e =
+    let n = count_trailing_zeros 16 mask in
+    let ahead : n ≡ prefix_len is_symbol (take 16 text) =
+    ahead_is row mask (omega (arith, ap length is, length-take 16 text)) e ∙ ap (prefix_len is_symbol) is in
+    let few : n ≤ 16 = omega (arith, ahead, prefix_len-le-length is_symbol (take 16 text), length-take 16 text) in
+    (few, grind (arith, take-take n 16 text few, list_all-from_AllPass, length-take, get_or-take, prefix_len_passes))
 
 -- if q are symbols, so are its first n, and those after them
 pub all_cut : (n : ℕ) (q : List ℕ) → list_all is_symbol q ≡ true

@@ -253,14 +253,16 @@ prefix_not_not : (p : ℕ → Bool) (xs : List ℕ) → prefix_len (λ x. not (n
 prefix_not_not p [] = refl
 prefix_not_not p (x ∷ xs) = grind (arith, prefix_not_not p xs, not-not)
 
--- if the mask is zero, the symbols at the start are all n bytes
-pub none_ahead : {n : ℕ} (v : List ℕ) → length v ≡ n → others_mask v ≡ 0 → n ≡ prefix_len is_symbol v
-none_ahead v long e = sym long ∙ sym (leading_from_mask_l is_other v e) ∙ prefix_not_not is_symbol v
+-- zero has 16 trailing zeros among 16 bits
+no_bit : count_trailing_zeros 16 0 ≡ 16
+unfolding count_trailing_zeros
+no_bit = refl
 
--- if the mask is not zero, its trailing zeros are as many as there are symbols at the start
-pub first_ahead : (v : List ℕ) → length v ≤ 64 → 0 < others_mask v
-    → count_trailing_zeros 64 (others_mask v) ≡ prefix_len is_symbol v
-first_ahead v long h = grind (arith, trailing_mask_l, prefix_not_not)
+-- the trailing zeros of the mask of 16 bytes, among 16 bits, are as many as there are symbols at the start
+pub ahead_is : (v : List ℕ) (mask : ℕ) → length v ≡ 16 → mask ≡ others_mask v
+    → count_trailing_zeros 16 mask ≡ prefix_len is_symbol v
+ahead_is v zero long e = no_bit ∙ sym long ∙ sym (leading_from_mask_l is_other v (sym e)) ∙ prefix_not_not is_symbol v
+ahead_is v (suc mask) long e = grind (arith, trailing_mask_l, prefix_not_not)
 
 -- No mark in four rows
 

@@ -28,15 +28,6 @@ pub(crate) fn is_symbol(byte: u8) -> bool
     VALUES[byte as usize] < NO_SYMBOL
 }
 
-/// The six bits of a symbol.
-pub(crate) fn six_bits(symbol: u8) -> u32
-    requires { IsTrue (is_symbol symbol) }
-    ensures value { result ≡ symbol_value symbol }
-    ensures six { result < 64 }
-{
-    VALUES[symbol as usize] as u32
-}
-
 /// The three bytes of a group of four symbols.
 pub(crate) fn group_of(first: u8, second: u8, third: u8, fourth: u8) -> [u8; 3]
     requires first { IsTrue (is_symbol first) }
@@ -47,8 +38,8 @@ pub(crate) fn group_of(first: u8, second: u8, third: u8, fourth: u8) -> [u8; 3]
         (symbol_value third) (symbol_value fourth) in
         result ≡ group_bytes number }
 {
-    let half = six_bits(first) * 64 + six_bits(second);
-    let number = (half * 64 + six_bits(third)) * 64 + six_bits(fourth);
+    let upper = VALUES[first as usize] as u32 * 64 + VALUES[second as usize] as u32;
+    let number = (upper * 64 + VALUES[third as usize] as u32) * 64 + VALUES[fourth as usize] as u32;
     [
         (number / 65536) as u8,
         (number / 256 % 256) as u8,

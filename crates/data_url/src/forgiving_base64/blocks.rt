@@ -38,20 +38,6 @@ pub(crate) fn others(bytes: u8x16) -> u64
     marks_of(bytes).simd_ne(u8x16::splat(0)).to_bitmask()
 }
 
-/// Returns how many of the first 16 bytes come before the first that is not a symbol.
-#[inline(always)]
-pub(crate) fn symbols_in_row(text: &[u8]) -> usize
-    requires { 16 ≤ length text.now }
-    ensures { result ≡ prefix_len is_symbol (take 16 text.now) }
-{
-    let all = others(row(text, 0));
-    if all == 0 {
-        16
-    } else {
-        all.trailing_zeros() as usize
-    }
-}
-
 /// Writes a row at a place.
 #[inline(always)]
 pub(crate) fn put(bytes: &mut [u8], at: usize, row: u8x16)

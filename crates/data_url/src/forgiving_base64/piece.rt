@@ -6,7 +6,7 @@ ghost use Rattle.data_url.specs.Base64.{is_symbol};
 ghost use Rattle.data_url.specs.Steps.Blocks.{Fills};
 
 use super::alphabet::{group_of, is_symbol};
-use super::blocks::{put, row, symbols_in_row};
+use super::blocks::{others, put, row};
 use super::lanes::decode_row;
 
 /// The size of the buffer, in groups: as many as a block of 64 symbols has.
@@ -66,24 +66,21 @@ impl Piece {
         ensures fills { Fills (bytes_of self.old) text.now result (bytes_of self.new) }
     {
         if text.len() >= 16 && self.groups <= ROOM_FOR_ROW {
-            let count = symbols_in_row(text) / 4;
-            put(&mut self.bytes, 3 * self.groups, decode_row(row(text, 0)));
+            let row = row(text, 0);
+            let count = (others(row) as u16).trailing_zeros() as usize / 4;
+            put(&mut self.bytes, 3 * self.groups, decode_row(row));
             self.groups += count;
             return 4 * count;
         }
-        if text.len() < 4 || !begins_with_group(text) {
+        if text.len() < 4
+            || !is_symbol(text[0])
+            || !is_symbol(text[1])
+            || !is_symbol(text[2])
+            || !is_symbol(text[3])
+        {
             return 0;
         }
         self.push(group_of(text[0], text[1], text[2], text[3]));
         4
     }
-}
-
-/// Whether the first four bytes are symbols.
-#[inline(always)]
-fn begins_with_group(text: &[u8]) -> bool
-    requires { 4 ≤ length text.now }
-    ensures { result ≡ list_all is_symbol (take 4 text.now) }
-{
-    is_symbol(text[0]) && is_symbol(text[1]) && is_symbol(text[2]) && is_symbol(text[3])
 }
