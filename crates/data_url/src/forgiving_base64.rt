@@ -10,7 +10,6 @@ use std::marker::Model;
 mod alphabet;
 mod blocks;
 mod decode;
-mod lanes;
 mod piece;
 mod symbols;
 mod whole;

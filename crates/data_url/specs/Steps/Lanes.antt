@@ -1,7 +1,7 @@
 -- What the vector code computes from one byte, and from a row of values.
 use Rattle.std.specs.Prelude.{[], if◌then◌else◌, ◌%◌, ◌+◌, ◌/◌, ◌==◌, ◌∷◌, List, bit_and, slice_index, ℕ}
 use Rattle.data_url.specs.Base64.{group_number}
-use Rattle.data_url.specs.declared.forgiving_base64.lanes.TheConstants.{HIGH_HALVES, LOW_HALVES, OFFSETS}
+use Rattle.data_url.specs.declared.forgiving_base64.alphabet.TheConstants.{HIGH_HALVES, LOW_HALVES, OFFSETS}
 
 -- the lookup of a byte in the two tables, one for each half of the byte; 0 exactly for a symbol
 abbrev pub mark_of : ℕ → ℕ

@@ -1,7 +1,13 @@
-//! The alphabet of base64 (RFC 4648, section 4).
+//! The alphabet of base64 (RFC 4648, section 4): which bytes are symbols, and the bytes of their groups, byte by byte and
+//! in rows of sixteen bytes.
 
-ghost use Rattle.std.specs.Prelude.{◌≡◌, ◌<◌, IsTrue};
-ghost use Rattle.data_url.specs.Base64.{group_bytes, group_number, is_symbol, symbol_value};
+ghost use Rattle.std.specs.Prelude.{◌≡◌, ◌<◌, IsTrue, length, map, take};
+ghost use Rattle.std.specs.Simd.Lanes.{Each1};
+ghost use Rattle.std.specs.List.{list_all};
+ghost use Rattle.data_url.specs.Base64.{group_bytes, group_number, groups, is_symbol, symbol_value};
+ghost use Rattle.data_url.specs.Steps.Lanes.{mark_of, numbers, value_of};
+
+use std::simd::prelude::*;
 
 /// The entry of the table for a byte that is not a symbol.
 const NO_SYMBOL: u8 = 64;
@@ -20,6 +26,23 @@ const VALUES: [u8; 256] = [
     64, 64, 64, 64, 64, 64, 64, 64, 64, 64, 64, 64, 64, 64, 64, 64, 64, 64, 64, 64, 64, 64, 64, 64,
     64, 64, 64, 64, 64, 64, 64, 64, 64, 64, 64, 64, 64, 64,
 ];
+
+/// Has, for each low half of a byte, the rows of the alphabet in which it is not a symbol, as a bit for each row.
+const LOW_HALVES: [u8; 16] = [
+    21, 17, 17, 17, 17, 17, 17, 17, 17, 17, 19, 26, 27, 27, 27, 26,
+];
+
+/// Has, for each high half of a byte, the bit of its row.
+const HIGH_HALVES: [u8; 16] = [16, 16, 1, 2, 4, 8, 4, 8, 16, 16, 16, 16, 16, 16, 16, 16];
+
+/// Has, for each high half of a symbol (1 for '/'), a number: the symbol plus it is the value, up to a multiple of 64.
+const OFFSETS: [u8; 16] = [0, 16, 19, 4, 191, 191, 185, 185, 0, 0, 0, 0, 0, 0, 0, 0];
+
+/// The weights of the first two values of a group, in half a number.
+const UPPER_WEIGHTS: [u8; 16] = [64, 1, 0, 0, 64, 1, 0, 0, 64, 1, 0, 0, 64, 1, 0, 0];
+
+/// The weights of the last two.
+const LOWER_WEIGHTS: [u8; 16] = [0, 0, 64, 1, 0, 0, 64, 1, 0, 0, 64, 1, 0, 0, 64, 1];
 
 /// Whether a byte is a symbol.
 pub(crate) fn is_symbol(byte: u8) -> bool
@@ -45,4 +68,54 @@ pub(crate) fn group_of(first: u8, second: u8, third: u8, fourth: u8) -> [u8; 3]
         (number / 256 % 256) as u8,
         (number % 256) as u8,
     ]
+}
+
+/// Marks each byte that is not a symbol with a number that is not 0.
+#[inline(always)]
+pub(crate) fn marks_of(bytes: u8x16) -> u8x16
+    ensures { result ≡ map mark_of bytes }
+{
+    let low = u8x16::from_array(LOW_HALVES).swizzle_dyn(bytes & u8x16::splat(15));
+    let high = u8x16::from_array(HIGH_HALVES).swizzle_dyn(bytes >> u8x16::splat(4));
+    low & high
+}
+
+/// Whether all bytes of a row are symbols.
+#[inline(always)]
+pub(crate) fn are_symbols(bytes: u8x16) -> bool
+    ensures { result ≡ list_all is_symbol bytes }
+{
+    marks_of(bytes).reduce_or() == 0
+}
+
+/// The value of each symbol. A byte that is no symbol has some value too.
+#[inline(always)]
+fn values_of(bytes: u8x16) -> u8x16
+    ensures { result ≡ map value_of bytes }
+{
+    let is_slash = bytes.simd_eq(u8x16::splat(b'/'));
+    let rows = (bytes >> u8x16::splat(4)) + is_slash.select(u8x16::splat(255), u8x16::splat(0));
+    (bytes + u8x16::from_array(OFFSETS).swizzle_dyn(rows)) & u8x16::splat(63)
+}
+
+/// The number of each group of four values.
+#[inline(always)]
+fn numbers_of(values: u8x16) -> u32x4
+    requires { Each1 (λ v. v < 64) values }
+    ensures { result ≡ numbers values }
+{
+    let upper = values.dot4(u8x16::from_array(UPPER_WEIGHTS));
+    let lower = values.dot4(u8x16::from_array(LOWER_WEIGHTS));
+    (upper << u32x4::splat(12)) + lower
+}
+
+/// The bytes of a row's four groups, and four more bytes without meaning.
+#[inline(always)]
+pub(crate) fn decode_row(bytes: u8x16) -> u8x16
+    ensures len { length result ≡ 16 }
+    ensures bytes { take 12 result ≡ groups (map value_of bytes) }
+{
+    numbers_of(values_of(bytes))
+        .to_le_bytes()
+        .swizzle([2, 1, 0, 6, 5, 4, 10, 9, 8, 14, 13, 12, 15, 15, 15, 15])
 }

@@ -6,7 +6,7 @@ ghost use Rattle.std.specs.Simd.Lanes.{mask_l};
 ghost use Rattle.data_url.specs.Base64.{groups, is_symbol};
 ghost use Rattle.data_url.specs.Steps.Lanes.{value_of};
 
-use super::lanes::{decode_row, marks_of};
+use super::alphabet::{decode_row, marks_of};
 use std::simd::prelude::*;
 
 /// The row of a text that begins at a place.

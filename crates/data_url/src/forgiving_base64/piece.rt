@@ -5,9 +5,8 @@ ghost use Rattle.std.specs.List.{list_all};
 ghost use Rattle.data_url.specs.Base64.{is_symbol};
 ghost use Rattle.data_url.specs.Steps.Blocks.{Fills};
 
-use super::alphabet::{group_of, is_symbol};
+use super::alphabet::{decode_row, group_of, is_symbol};
 use super::blocks::{others, put, row};
-use super::lanes::decode_row;
 
 /// The size of the buffer, in groups: as many as a block of 64 symbols has.
 pub(crate) const ROOM: usize = 16;

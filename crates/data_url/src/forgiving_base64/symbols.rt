@@ -7,8 +7,8 @@ ghost use Rattle.std.specs.Simd.Lanes.{mask_l};
 ghost use Rattle.data_url.specs.Base64.{after_groups, groups, is_symbol, symbol_value};
 ghost use Rattle.data_url.specs.Steps.Blocks.{GainsSymbols, clear};
 
+use super::alphabet::are_symbols;
 use super::blocks::{decode, others, put, row as row_at};
-use super::lanes::are_symbols;
 use std::simd::prelude::*;
 
 /// Has, for each low half of a byte, the white space with that half.

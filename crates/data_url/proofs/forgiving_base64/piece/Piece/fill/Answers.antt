@@ -1,17 +1,20 @@
 use Rattle.std.proofs.lemmas.List.{append-nil}
 use lib.Count.{count_trailing_zeros}
-use Rattle.std.proofs.Common.{length, length-take, take, true, ◌≡◌, ◌≤◌, ◌*◌, ◌/◌, ℕ, List, ap, map, sym, ◌∙◌, subst, arith}
+use Rattle.std.proofs.Common.{◌*◌, ◌/◌, ℕ, List, ap, map, sym, ◌∙◌, subst, arith}
 use Rattle.data_url.specs.Base64.{groups}
 use Rattle.data_url.specs.Steps.Blocks.{Fills}
 use Rattle.data_url.specs.Steps.Lanes.{value_of}
 use Rattle.data_url.specs.Steps.Waiting.{bytes_of}
 use Rattle.data_url.proofs.forgiving_base64.Groups.{all_before, fill_one, fill_symbols, row_ahead, row_held}
-use Rattle.data_url.proofs.forgiving_base64.Vectors.{ahead_is, row_put}
+use Rattle.data_url.proofs.forgiving_base64.Vectors.{row_put}
 use Rattle.data_url.proofs.forgiving_base64.piece.Piece.fill.Goals as goal
 
 pub invariant_of-self-clause-within : goal.invariant_of-self-clause-within
-invariant_of-self-clause-within c = omega (arith, (row_ahead c.args.text.now c.row-row.result c.others.result
-    c.if-text-ge16.true c.row-row.ensures c.others.ensures.mask).0)
+invariant_of-self-clause-within c = omega (
+  arith,
+  (row_ahead c.args.text.now c.row-row.result c.others.result
+      c.if-text-ge16.true c.row-row.ensures c.others.ensures.mask).0,
+)
 
 pub returns-then-self-le-ROOM_FOR_ROW-clause-fills : goal.returns-then-self-le-ROOM_FOR_ROW-clause-fills
 returns-then-self-le-ROOM_FOR_ROW-clause-fills c =

@@ -6,9 +6,9 @@ use Rattle.std.proofs.lemmas.Simd.{splat_is_map, tops_compared, zip2_splat}
 use Rattle.std.proofs.Math.Dec.{ltb}
 use lib.Lanes.{zip2}
 use Rattle.data_url.specs.Steps.Lanes.{offset_row}
-use Rattle.data_url.specs.declared.forgiving_base64.lanes.TheConstants.{OFFSETS}
+use Rattle.data_url.specs.declared.forgiving_base64.alphabet.TheConstants.{OFFSETS}
 use Rattle.data_url.proofs.forgiving_base64.Vectors.{chosen, joined, looked_up, places_ok}
-use Rattle.data_url.proofs.forgiving_base64.lanes.values_of.Goals as goal
+use Rattle.data_url.proofs.forgiving_base64.alphabet.values_of.Goals as goal
 
 -- the row of each byte in the table of offsets is below 16
 row_small : (x : ℕ) → x < 256 → offset_row x < 16

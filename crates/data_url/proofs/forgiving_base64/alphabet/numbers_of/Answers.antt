@@ -1,7 +1,7 @@
 use Rattle.std.proofs.lemmas.Simd.{dot4_Fits}
-use Rattle.data_url.specs.declared.forgiving_base64.lanes.TheConstants.{LOWER_WEIGHTS, UPPER_WEIGHTS}
+use Rattle.data_url.specs.declared.forgiving_base64.alphabet.TheConstants.{LOWER_WEIGHTS, UPPER_WEIGHTS}
 use Rattle.data_url.proofs.forgiving_base64.Vectors.{numbers_is}
-use Rattle.data_url.proofs.forgiving_base64.lanes.numbers_of.Goals as goal
+use Rattle.data_url.proofs.forgiving_base64.alphabet.numbers_of.Goals as goal
 
 pub dot4-upper : goal.dot4-upper
 dot4-upper c = (dot4_Fits c.args.values UPPER_WEIGHTS c.fits-values.1 tt, tt)

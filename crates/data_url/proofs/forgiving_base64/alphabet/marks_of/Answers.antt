@@ -1,9 +1,9 @@
 use Rattle.std.proofs.Common.{◌/◌, ◌^◌, bit_and, get_or, arith}
 use Rattle.std.proofs.lemmas.Nat.{and_le_r}
 use Rattle.std.proofs.lemmas.Simd.{zip2_splat}
-use Rattle.data_url.specs.declared.forgiving_base64.lanes.TheConstants.{HIGH_HALVES, LOW_HALVES}
+use Rattle.data_url.specs.declared.forgiving_base64.alphabet.TheConstants.{HIGH_HALVES, LOW_HALVES}
 use Rattle.data_url.proofs.forgiving_base64.Vectors.{joined, looked_up, places_ok}
-use Rattle.data_url.proofs.forgiving_base64.lanes.marks_of.Goals as goal
+use Rattle.data_url.proofs.forgiving_base64.alphabet.marks_of.Goals as goal
 
 pub swizzle-low : goal.swizzle-low
 swizzle-low c = places_ok (λ x. bit_and x 15) c.args.bytes _ c.fits-bytes.0
