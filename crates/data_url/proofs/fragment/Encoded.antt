@@ -1,10 +1,10 @@
 -- An encoded fragment is read again as it is.
-use Rattle.std.proofs.Common.{◌≡◌, ℕ, ◌<◌, Bool, true, false, not, List, [], ◌∷◌, ◌++◌, Some, codes, refl, sym}
+use Rattle.std.proofs.Common.{◌≡◌, ℕ, ◌<◌, true, false, List, [], ◌∷◌, ◌++◌, Some, codes, refl, sym}
 use Rattle.std.proofs.Common.{ap, ◌∙◌, subst, arith}
-use Rattle.std.specs.Prelude.{◌&&◌, option_and_then}
+use Rattle.std.specs.Prelude.{option_and_then}
 use Rattle.std.specs.Option.{option_map}
 use Rattle.std.specs.List.{prefix_len}
-use Rattle.std.proofs.lemmas.Bool.{agree_below_at, both_ways, cond-false, false_from_ne_true}
+use Rattle.std.proofs.lemmas.Bool.{agree_below_at, cond-false}
 use Rattle.data_url.specs.Url.{after_scheme, before, after, cleaned_text, without_tabs_and_newlines, encoded_path}
 use Rattle.data_url.specs.Url.{fragment, front, hex_digit, in_fragment_set, is_c0_control_or_space, is_tab_or_newline}
 use Rattle.data_url.specs.Url.{percent_encoding, serialised, trimmed_text}
@@ -27,14 +27,6 @@ fragment_bytes [] h = subst (Every is_fragment_byte) (sym (encoded_nil in_fragme
 fragment_bytes (b ∷ s) h = grind (arith, encoded_cons, digit_byte, fragment_bytes s h.1)
 
 -- Such bytes stay as they are
-
--- an encoded fragment cannot have the byte, or the byte does not pass p
-abbrev excludes : (ℕ → Bool) → ℕ → Bool
-excludes p b = not (is_fragment_byte b && p b)
-
--- if `excludes p b` is true, and an encoded fragment can have b, then b does not pass p
-excluded : (p : ℕ → Bool) (b : ℕ) → excludes p b ≡ true → is_fragment_byte b ≡ true → p b ≡ false
-excluded p b e h = false_from_ne_true (p b) (λ k. both_ways (excludes p b) (ap (λ v. not (v && p b)) h ∙ ap not k) e)
 
 -- a byte that an encoded fragment can have is not a tab or newline
 not_dropped : (b : ℕ) → is_fragment_byte b ≡ true → is_tab_or_newline b ≡ false
@@ -62,8 +54,7 @@ not_low b h = grind arith
 -- a text of bytes that an encoded fragment can have stays as it is when its ends are trimmed
 trimmed_itself : (t : List ℕ) → Every is_fragment_byte t → trimmed_text t ≡ t
 unfolding trimmed_text
-trimmed_itself t h = rw (no_low_front t h)
-    (end_stays is_c0_control_or_space t (not_ends_every is_c0_control_or_space is_fragment_byte not_low t h))
+trimmed_itself t h = grind (arith, no_low_front, end_stays, not_ends_every, not_low)
 
 -- a text of bytes that an encoded fragment can have stays as it is when it is cleaned
 cleaned_itself : (t : List ℕ) → Every is_fragment_byte t → cleaned_text t ≡ t

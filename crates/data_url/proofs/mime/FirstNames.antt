@@ -137,19 +137,6 @@ pub lowercase_at : {A B : Type 0} (pairs : List (String A × String B)) (i : ℕ
     → is_lowercase_name (code_points item.0) ≡ true
 lowercase_at pairs i item h l e = grind (arith, list_all_at, list_all-map)
 
--- What one more item adds
-
--- if one of the pairs has the name of p, nothing is added, whether or not p is valid
-unless_none : (xs : List Pair) (p : Pair) (b : Bool) → has_name p.0 xs ≡ true
-    → unless_named xs (cond b (p ∷ []) []) ≡ []
-unless_none xs p true h = cond-true (has_name p.0 xs) [] (p ∷ []) h
-unless_none xs p false h = refl
-
--- if one of the pairs has the name of an item, the item adds no pair
-pub no_pair_named : (item : Item) (xs : List Pair) → has_name item.0 xs ≡ true → added_pairs xs item ≡ []
-no_pair_named (name, None) xs h = refl
-no_pair_named (name, Some v) xs h = unless_none xs (name, v) (is_token_text name && list_all is_quotable v) h
-
 -- The pairs that are kept with one more item
 
 -- `b || false` is b
@@ -358,11 +345,7 @@ indexed_more kept kept' p i l e h = grind (arith, list_all-append)
 -- what is true of each pair is true of the first pairs of each name
 first_all : (p : Pair → Bool) (e ps : List Pair) → list_all p ps ≡ true → list_all p (first_of_each_name e ps) ≡ true
 first_all p e [] h = refl
-first_all p e (q ∷ ps) h =
-    let k = and_parts (p q) (list_all p ps) h in
-    let f = first_all p (e ++ (q ∷ [])) ps k.1 in
-    cond_both (has_name q.0 e) (first_of_each_name (e ++ (q ∷ [])) ps) (q ∷ first_of_each_name (e ++ (q ∷ [])) ps)
-    (λ x. list_all p x ≡ true) (λ c. f) (λ c. and_from (p q) (list_all p (first_of_each_name (e ++ (q ∷ [])) ps)) k.0 f)
+first_all p e (q ∷ ps) h = grind (arith, and_parts, cond_both, and_from, first_all p (e ++ (q ∷ [])) ps)
 
 -- the values of the valid pairs have only quoted-string code points
 all_quotable : (items : List Item) → list_all (λ (p : Pair). list_all is_quotable p.1) (valid_pairs items) ≡ true

@@ -49,10 +49,7 @@ no_quote (c ∷ s) d = ap (λ v. cond v (Some s) None) d
 -- a text without ';' that does not begin with '"', and then the rest, is read without quotes
 plain_is : (text rest : List ℕ) → Every in_value text → DoesNotBegin is_quote text → BeginsParameters rest
     → given_reading (text ++ rest) ≡ record { value = unless_empty (without_end is_http_whitespace text); rest = rest }
-plain_is text rest e d b =
-    let no_mark : after_mark 34 (text ++ rest) ≡ None = no_quote (text ++ rest)
-    (not_begins_append is_quote text rest d (ends_of_rest is_quote refl rest b)) in
-    grind (arith, front_is in_value text rest e (ends_of_rest in_value refl rest b))
+plain_is text rest e d b = grind (arith, no_quote, not_begins_append, ends_of_rest, front_is)
 
 -- reading a text that gives a value, and then the rest, returns the value and the rest
 reading_is : (tail rest : List ℕ) (value : Option (List ℕ)) → GivesValue tail rest value → BeginsParameters rest
@@ -118,18 +115,21 @@ is_plain_reading s h = record {
 -- '=' and any text give the value that is read from the text
 is_given_reading : (s : List ℕ) → IsReading (61 ∷ s) (given_reading s)
 is_given_reading [] = is_plain_reading [] tt
-is_given_reading (c ∷ s) = elim (c == 34) as (λ v. (c == 34) ≡ v → IsReading (61 ∷ c ∷ s) (reading_from (c ∷ s) (cond v (Some s) None))) [
-  | true ↦ λ e. subst (λ d. IsReading (61 ∷ d ∷ s) (quoted_reading s)) (sym (eqb-true c 34 e)) (is_quoted_reading s (is_read false s))
-  | false ↦ λ e. is_plain_reading (c ∷ s) e
-] refl
+is_given_reading (c ∷ s) = elim (c == 34) as (λ v. (c == 34) ≡ v → IsReading (61 ∷ c ∷ s) (reading_from (c ∷ s)
+    (cond v (Some s) None))) [
+      | true ↦ λ e. subst (λ d. IsReading (61 ∷ d ∷ s) (quoted_reading s)) (sym (eqb-true c 34 e)) (is_quoted_reading s
+          (is_read false s))
+      | false ↦ λ e. is_plain_reading (c ∷ s) e
+    ] refl
 
 -- reading a text that is empty or begins with ';' or '=' returns a value that it gives, and the rest
 pub is_reading : (x : List ℕ) → DoesNotBegin in_name x → IsReading x (reading_of x)
 is_reading [] h = record { tail = []; joined = refl; gives = nothing; begins = tt }
-is_reading (c ∷ s) h = elim (c == 61) as (λ v. (c == 61) ≡ v → IsReading (c ∷ s) (reading (c ∷ s) (cond v (Some s) None))) [
-  | true ↦ λ e. subst (λ d. IsReading (d ∷ s) (given_reading s)) (sym (eqb-true c 61 e)) (is_given_reading s)
-  | false ↦ λ e. record { tail = []; joined = refl; gives = nothing; begins = grind arith }
-] refl
+is_reading (c ∷ s) h = elim (c == 61) as (λ v. (c == 61) ≡ v → IsReading (c ∷ s) (reading (c ∷ s) (cond v
+    (Some s) None))) [
+      | true ↦ λ e. subst (λ d. IsReading (d ∷ s) (given_reading s)) (sym (eqb-true c 61 e)) (is_given_reading s)
+      | false ↦ λ e. record { tail = []; joined = refl; gives = nothing; begins = grind arith }
+    ] refl
 
 -- One parameter, from after its ';'
 
@@ -241,10 +241,7 @@ has_items r b = items_below (length r) r (omega arith) b
 
 -- a text that is empty or begins with ';' has exactly one list of items
 pub has_one_item_list : (r : List ℕ) → BeginsParameters r → HasOneItemList r
-has_one_item_list r b = record {
-  some = (items_in (length r) r, has_items r b);
-  only = λ x y h k. sym (items_are (length r) r x (omega arith) h) ∙ items_are (length r) r y (omega arith) k;
-}
+has_one_item_list r b = grind (arith, has_items, items_are)
 
 -- A text has at most one record.
 
@@ -287,7 +284,8 @@ unfolding is_token
 has_parts s a b c h =
     let y = b ++ (h.gap ++ c) in
     let first = front_is is_token a (47 ∷ y) (every_token a h.is_type) refl in
-    let second = front_is is_token b (h.gap ++ c) (every_token b h.is_subtype) (gap_no_token h.gap c h.in_gap h.begins) in
+    let second = front_is is_token b (h.gap ++ c) (every_token b h.is_subtype)
+    (gap_no_token h.gap c h.in_gap h.begins) in
     let third = front_is is_http_whitespace h.gap c h.in_gap (ends_of_rest is_http_whitespace refl c h.begins) in
     rw (h.joined) (grind arith)
 

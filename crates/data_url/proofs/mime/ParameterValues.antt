@@ -1,6 +1,6 @@
 -- Values of parameters, as texts of their own. For `values.rt` and `read_plain`.
 use Rattle.std.proofs.Common.{◌≡◌, ℕ, zero, suc, ◌+◌, ◌-◌, ◌<◌, ◌==◌, Bool, true, false, not, List, [], ◌∷◌, ◌++◌, length}
-use Rattle.std.proofs.Common.{take, drop, encode_utf8_all, refl, sym, ap, ◌∙◌, subst, append_assoc, append-nil, arith}
+use Rattle.std.proofs.Common.{take, drop, encode_utf8_all, refl, sym, ap, ◌∙◌, append_assoc, append-nil, arith}
 use Rattle.std.proofs.Common.{◌≤◌, ◌||◌, ◌⊎◌, Bor, None, Some, cond, nat_le}
 use Rattle.std.proofs.lemmas.List.{take-take, take_rest, length-take}
 use Rattle.std.proofs.lemmas.List.Folds.{list_all-append}
@@ -69,7 +69,8 @@ value_if [] = refl
 value_if (c ∷ v) = grind arith
 
 module _ {text bytes : List ℕ} {q more : ℕ} (u : IsUtf8 text) (e : bytes ≡ text)
-    (f : q ≡ prefix_len is_unquoted_byte bytes) (g : more ≡ prefix_len in_value (take (length bytes - q) (drop q bytes))) where
+    (f : q ≡ prefix_len is_unquoted_byte bytes) (g : more ≡ prefix_len in_value (take (length bytes - q)
+    (drop q bytes))) where
   -- the longest prefix without ';' is the longest one of unquoted bytes, and then the longest one without ';' of the rest
   front_len : q + more ≡ prefix_len in_value text
   front_len = grind (arith, take_rest, front_further, prefix_len-le-length, prefix_len_passes)
@@ -78,13 +79,21 @@ module _ {text bytes : List ℕ} {q more : ℕ} (u : IsUtf8 text) (e : bytes ≡
   pub cut_plain : IsCutInto text (q + more) (front_of in_value (chars text)) (without_front in_value (chars text))
   cut_plain = rw front_len (cut_front in_value values_steady text u)
 
-  module _ {front t : List ℕ} {b : Bool} (w : IsUtf8 t) (h : front ≡ take (q + more) text) (k : t ≡ take (length t) front)
+  module _ {front t : List ℕ} {b : Bool} (w : IsUtf8 t) (h : front ≡ take (q + more) text) (k : t ≡ take
+      (length t) front)
       (l : chars t ≡ without_end is_http_whitespace (chars front)) (z : b ≡ (length t == 0)) where
     -- the value at the front has only quoted-string code points if it has no more than the unquoted bytes
     quotable_if : list_all is_quotable (chars t) ≡ nat_le (length t) q
     quotable_if =
         let n = front_len in
-        let few : length t ≤ q + more = omega (arith, ap length k, ap length h, length-take (length t) front, length-take (q + more) text) in
+        let few : length t ≤ q + more = omega (
+          arith,
+          ap length k,
+          ap length h,
+          length-take
+              (length t) front,
+          length-take (q + more) text,
+        ) in
         let t_is : t ≡ take (length t) text = cc (take-take (length t) (q + more) text few) in
         cc (quotable_chars t w, quotable_front text (length t) (omega arith))
 
@@ -136,10 +145,7 @@ module _ {self : Value} (text : Bor (List ℕ)) {bs : List ℕ} {n : ℕ} (i : s
 -- if a class is steady, and each byte of a UTF-8 text passes, so does each of its code points
 pub whole_passes : (p : ℕ → Bool) → IsSteady p → (bs bytes : List ℕ) (n : ℕ) → IsUtf8 bs → bytes ≡ bs
     → n ≡ prefix_len p bytes → n ≡ length bs → Every p (chars bs)
-whole_passes p s bs bytes n u e f g =
-    let cut = cut_front p s bs u in
-    let whole : front_of p (chars bs) ≡ chars bs = cc (cut.front, take-length bs) in
-    subst (Every p) whole (front_passes p (chars bs))
+whole_passes p s bs bytes n u e f g = grind (arith, cut_front, take-length, front_passes)
 
 -- removing the escapes of a text without '"' and '\' does not change it
 stays_unescaped : (cs : List ℕ) → Every (λ c. not (is_escaped c)) cs → unescaped false cs ≡ cs
@@ -153,9 +159,7 @@ unescaped_steady c l = grind arith
 -- a copy of a text without '"' and '\' is its value
 pub copied : (v q bytes : List ℕ) (n : ℕ) → IsUtf8 q → bytes ≡ q → n ≡ prefix_len (λ c. not (is_escaped c)) bytes
     → n ≡ length q → v ≡ q → chars v ≡ unescaped false (chars q)
-copied v q bytes n u e f g h =
-    let plain = whole_passes (λ c. not (is_escaped c)) unescaped_steady q bytes n u e f g in
-    ap chars h ∙ sym (stays_unescaped (chars q) plain)
+copied v q bytes n u e f g h = grind (arith, whole_passes, unescaped_steady, stays_unescaped)
 
 -- the encoding of a Unicode scalar value, after a UTF-8 text, adds its code point to those of the text
 chars_push : (v : List ℕ) (c : ℕ) → IsUtf8 v → IsScalar c → chars (v ++ encode c) ≡ chars v ++ (c ∷ [])
@@ -177,17 +181,10 @@ module _ (r r' v : List ℕ) {c : ℕ} {e : Bool} {whole : List ℕ} (u : IsUtf8
   -- moving another first code point to what is written preserves the whole
   pub unescape_pushes : (v' : List ℕ) → IsUtf8 v → v' ≡ v ++ encode c → ((c ≡ 92) × (e ≡ true)) ⊎ (c ≡ 92 → ⊥)
       → chars v' ++ unescaped false (chars r') ≡ whole
-  unescape_pushes v' w g k =
-      let first = chars_past_char r r' c u s in
-      let code = cons_from_encodes u.0 r' c (u.1.1 ∙ s) in
-      let push = chars_push v c w (grind arith) in
-      grind (arith, append_assoc)
+  unescape_pushes v' w g k = grind (arith, chars_past_char, cons_from_encodes, chars_push, append_assoc)
 
 -- if nothing is left, a '\' that would escape the next code point is a part of the value
 pub unescape_ends : (r v : List ℕ) {e : Bool} {whole : List ℕ} → length r ≡ 0
     → chars v ++ unescaped e (chars r) ≡ whole → (e ≡ false → chars v ≡ whole)
     × ((v' : List ℕ) → IsUtf8 v → e ≡ true → v' ≡ v ++ encode 92 → chars v' ≡ whole)
-unescape_ends r v l h = (
-  λ e. grind (arith, append-nil, no_chars r),
-  λ v' u e g. cc (chars_push v 92 u refl, no_chars r l),
-)
+unescape_ends r v l h = grind (arith, append-nil, no_chars, chars_push)

@@ -22,7 +22,8 @@ pub has_mark : (bs rest : List ℕ) (c n : ℕ) → IsUtf8 bs → HasCharAt c bs
 has_mark bs rest c n u h e = grind (arith, chars_past_char bs (drop n bs) c u h.split)
 
 -- if the bytes of a text do not begin with those of c, its code points do not begin with c
-pub no_mark : (cs : List ℕ) (c : ℕ) → ((rest : List ℕ) → encode_utf8_all cs ≡ encode_utf8 c ++ rest → ⊥) → after_mark c cs ≡ None
+pub no_mark : (cs : List ℕ) (c : ℕ) → ((rest : List ℕ) → encode_utf8_all cs ≡ encode_utf8 c ++ rest → ⊥)
+    → after_mark c cs ≡ None
 no_mark [] c n = refl
 no_mark (b ∷ cs) c n = elim (b == c) as (λ v. (b == c) ≡ v → cond v (Some cs) None ≡ None) [
   | true ↦ λ e. absurd (n (encode_utf8_all cs) (ap (λ x. encode_utf8 x ++ encode_utf8_all cs) (eqb-true b c e)))
@@ -76,7 +77,8 @@ module _ {s t a x : List ℕ} (first : IsTokens t a x) (e : t ≡ trimmed_of is_
         let p = has_parts s a' b c h in
         absurd (token_not_nil b h.is_subtype (cc (p.subtype_is, slash_is first y slash)))
 
-    module _ {b z : List ℕ} (bs : List ℕ) (second : IsTokens y b z) (r : chars bs ≡ without_front is_http_whitespace z) where
+    module _ {b z : List ℕ} (bs : List ℕ) (second : IsTokens y b z) (r : chars bs
+        ≡ without_front is_http_whitespace z) where
       -- if the text after the subtype and HTTP whitespace is not empty and does not begin with ';', there is no head
       pub no_parameters : (length (chars bs) == 0) ≡ false → after_mark 59 (chars bs) ≡ None → HasNoHead s
       no_parameters n m a' b' c h =
@@ -107,7 +109,8 @@ module _ {s t a x : List ℕ} (first : IsTokens t a x) (e : t ≡ trimmed_of is_
 -- One parameter
 
 -- the pair of a value that is tested is the valid pair of the value
-pair_of_quotable : (name : List ℕ) (value : Option (List ℕ)) → pair_if name (quotable_value value) ≡ valid_of (name, value)
+pair_of_quotable : (name : List ℕ) (value : Option (List ℕ)) → pair_if name (quotable_value value) ≡ valid_of
+    (name, value)
 pair_of_quotable name None = refl
 pair_of_quotable name (Some value) = grind arith
 
@@ -124,7 +127,4 @@ module _ (s : List ℕ) {t x : List ℕ} {o : Option (List ℕ)} (e : t ≡ name
   -- the pair that is read
   pub pair_by : (name : List ℕ) (value : Option (List ℕ)) → name ≡ front_of in_name t
       → value ≡ quotable_value (reading x o).value → pair_if (map to_ascii_lowercase name) value ≡ valid_of (item_in s)
-  pair_by name value n v =
-      ap (λ m. pair_if (map to_ascii_lowercase m) value) (n ∙ ap (front_of in_name) e)
-      ∙ ap (pair_if (item_in s).0) (v ∙ ap (λ (r : Reading). quotable_value r.value) reading_by)
-      ∙ pair_of_quotable (item_in s).0 (reading_in s).value
+  pair_by name value n v = grind (arith, reading_by, pair_of_quotable)

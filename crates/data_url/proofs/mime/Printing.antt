@@ -185,8 +185,7 @@ pairs_same : {A B : Type 0} (ps qs : List (String A × String B)) → pointwise 
 pairs_same [] [] h = refl
 pairs_same [] (q ∷ qs) h = absurd (cc)
 pairs_same (p ∷ ps) [] h = absurd (cc)
-pairs_same (p ∷ ps) (q ∷ qs) h =
-    grind (arith, pair_same, pairs_same ps qs (second_so (same_pair p q) (pointwise same_pair ps qs) h))
+pairs_same (p ∷ ps) (q ∷ qs) h = grind (arith, pair_same, pairs_same ps qs)
 
 -- if two lists of pairs have equal texts, the test of the lists, pair by pair, is true
 same_pairs : {A B : Type 0} (ps qs : List (String A × String B)) → map texts_of_pair ps ≡ map texts_of_pair qs
@@ -194,10 +193,7 @@ same_pairs : {A B : Type 0} (ps qs : List (String A × String B)) → map texts_
 same_pairs [] [] h = refl
 same_pairs [] (q ∷ qs) h = absurd (cc)
 same_pairs (p ∷ ps) [] h = absurd (cc)
-same_pairs (p ∷ ps) (q ∷ qs) h =
-    let here : texts_of_pair p ≡ texts_of_pair q = cc in
-    let rest : map texts_of_pair ps ≡ map texts_of_pair qs = cc in
-    and_from (same_pair p q) (pointwise same_pair ps qs) (same_pair_of p q here) (same_pairs ps qs rest)
+same_pairs (p ∷ ps) (q ∷ qs) h = grind (arith, and_from, same_pair_of, same_pairs ps qs)
 
 -- the test is true exactly if the texts are the same
 pub same_decides : (m n : Mime) → IsTrue (same_texts m n) ↔ SameTexts m n

@@ -75,7 +75,8 @@ is_read true (c ∷ s) = read_more (92 ∷ c ∷ []) c s (λ q v. after_backslas
 is_read false (c ∷ s) = read_first c s (is_read false s) (is_read true s) (c == 34) (c == 92) refl refl
 
 -- bytes that are not ASCII come before the quote
-others_len : (bs r : List ℕ) → Every (λ b. nat_le 128 b) bs → quoted_len false (bs ++ r) ≡ length bs + quoted_len false r
+others_len : (bs r : List ℕ) → Every (λ b. nat_le 128 b) bs → quoted_len false (bs ++ r)
+    ≡ length bs + quoted_len false r
 others_len [] r h = grind arith
 others_len (b ∷ bs) r h = grind (arith, others_len bs r h.1)
 
@@ -89,23 +90,15 @@ quoted_char : (e : Bool) (c : ℕ) (r : List ℕ) → quoted_len e (encode c ++ 
     ≡ cond ((c == 34) && not e) 0 (length (encode c) + quoted_len ((c == 92) && not e) r)
 unfolding encode
 quoted_char true c r = grind arith
-quoted_char false c r = elim (cases_lt c 128) [
-  | inl l ↦ grind (arith, encode_ascii)
-  | inr l ↦ let others = others_len (encode c) r (encode_others c l) in grind arith
-]
+quoted_char false c r = grind (arith, cases_lt, encode_ascii, others_len, encode, encode_others)
 
 -- the length of an encoded quoted text is that of the text, encoded
 quoted_encodes : (e : Bool) (cs : List ℕ)
     → quoted_len e (encode_utf8_all cs) ≡ length (encode_utf8_all (take (quoted_len e cs) cs))
 quoted_encodes e [] = refl
-quoted_encodes true (c ∷ cs) =
-    grind (arith, quoted_char true c (encode_utf8_all cs), quoted_encodes false cs, length-append)
-quoted_encodes false (c ∷ cs) = quoted_char false c (encode_utf8_all cs) ∙ elim (c == 34) as (λ v.
-    cond (v && true) 0 (length (encode c) + quoted_len ((c == 92) && true) (encode_utf8_all cs))
-    ≡ length (encode_utf8_all (take (cond v 0 (suc (quoted_len (c == 92) cs))) (c ∷ cs)))) [
-      | true ↦ refl
-      | false ↦ grind (arith, quoted_encodes (c == 92) cs, length-append)
-    ]
+quoted_encodes true (c ∷ cs) = grind (arith, quoted_char, encode_utf8_all, length-append, quoted_encodes false cs)
+quoted_encodes false (c ∷ cs) =
+    grind (arith, quoted_char, encode_utf8_all, encode, length-append, quoted_encodes (c == 92) cs)
 
 -- a UTF-8 text is cut at its closing quote where its code points are
 pub cut_quote : (bs : List ℕ) → IsUtf8 bs → IsCutInto bs (quoted_len false bs)
@@ -131,7 +124,11 @@ module _ {bs : List ℕ} {i : ℕ} (u : IsUtf8 bs) (l : i < length bs) (g : get_
   after_quote =
       let cut = cut_quote bs u in
       let text = IsUtf8-drop bs i u (IsCharBoundary-before_ascii bs i l (omega arith)) in
-      let first = chars_past_char (drop i bs) (drop (suc i) bs) 34 text (cc (drop-cons bs i 0 l, encode_ascii 34 (omega arith))) in
+      let first = chars_past_char (drop i bs) (drop (suc i) bs) 34 text (cc (
+        drop-cons bs i 0 l,
+        encode_ascii 34
+            (omega arith),
+      )) in
       let n = quoted_len false (chars bs) in
       cc (first, quote_at, cut.after, drop-drop 1 n (chars bs), add-one i, add-one n)
 

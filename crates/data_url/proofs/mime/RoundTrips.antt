@@ -97,7 +97,8 @@ is_nonempty (c ∷ v) h = refl
 plain_value : (v rest : List ℕ) → is_token_text v ≡ true → GivesValue (61 ∷ v) rest (Some v)
 plain_value v rest h =
     let t = every_token v h in
-    subst (GivesValue (61 ∷ v) rest) (ap unless_empty (end_stays is_http_whitespace v (not_ends_every is_http_whitespace is_token
+    subst (GivesValue (61 ∷ v) rest) (ap unless_empty (end_stays is_http_whitespace v
+    (not_ends_every is_http_whitespace is_token
     token_not_space v t)) ∙ is_nonempty v h)
     (plain v (tokens_without is_semicolon token_not_semicolon v t) (tokens_not_begin is_quote token_not_quote v t))
 
@@ -191,12 +192,7 @@ pairs_not_end (p ∷ pairs) h =
 all_valid : (pairs : List Pair) → have_names pairs ≡ true → have_values pairs ≡ true
     → valid_pairs (map item_of pairs) ≡ pairs
 all_valid [] h k = refl
-all_valid (p ∷ pairs) h k =
-    let n = and_parts (is_lowercase_name p.0) (have_names pairs) h in
-    let v = and_parts (list_all is_quotable p.1) (have_values pairs) k in
-    ap (λ x. x ++ valid_pairs (map item_of pairs)) (cond-true (is_token_text p.0 && list_all is_quotable p.1)
-    ((p.0, p.1) ∷ []) [] (and_from (is_token_text p.0) (list_all is_quotable p.1) (lowercase_token p.0 n.0) v.0))
-    ∙ ap (λ x. p ∷ x) (all_valid pairs n.1 v.1)
+all_valid (p ∷ pairs) h k = grind (arith, and_parts, cond-true, and_from, lowercase_token, all_valid pairs)
 
 -- no pair has a name of the earlier ones
 abbrev Apart : List Pair → List Pair → Type 0
@@ -215,19 +211,14 @@ other_name a b h = test_from_different b a (λ e. both_ways (bytes_eq a b) h (te
 apart_more : (earlier : List Pair) (p : Pair) (pairs : List Pair) → Apart earlier pairs → has_name p.0 pairs ≡ false
     → Apart (earlier ++ (p ∷ [])) pairs
 apart_more earlier p [] h k = tt
-apart_more earlier p (q ∷ pairs) h k = let f = or_parts (bytes_eq q.0 p.0) (has_name p.0 pairs) k in (
-  cc (has_append q.0 earlier (p ∷ []), other_name q.0 p.0 f.0),
-  apart_more earlier p pairs h.1 f.1,
-)
+apart_more earlier p (q ∷ pairs) h k = grind (arith, or_parts, has_append, other_name, apart_more earlier p pairs h.1)
 
 -- pairs with distinct names, none of them that of an earlier pair, are all the first of their name
 first_itself : (earlier pairs : List Pair) → Apart earlier pairs → has_distinct_names pairs ≡ true
     → first_of_each_name earlier pairs ≡ pairs
 first_itself earlier [] h k = refl
 first_itself earlier (p ∷ pairs) h k =
-    let d = and_parts (not (has_name p.0 pairs)) (has_distinct_names pairs) k in
-    cc (first_itself (earlier ++ (p ∷ [])) pairs (apart_more earlier p pairs h.1 (not-true (has_name p.0 pairs) d.0))
-    d.1)
+    grind (arith, and_parts, apart_more, not-true, first_itself (earlier ++ (p ∷ [])) pairs)
 
 -- all parameters of a well-formed record are kept
 all_kept : (m : Record) → IsWellformed m → m.parameters ≡ kept_pairs (map item_of m.parameters)

@@ -1,17 +1,16 @@
 -- Percent-encoding with the rows of a table, and decoding of encoded texts. For `push_encoded`.
 use Rattle.std.proofs.Common.{◌≡◌, ℕ, ◌*◌, ◌+◌, ◌-◌, ◌<◌, ◌&&◌, ◌||◌, Bool, false, true, List, [], ◌∷◌, length, take}
 use Rattle.std.proofs.Common.{drop, refl, ◌/◌, ◌%◌, not, ◌++◌, Option, None, Some, sym, ap, ◌∙◌, inl, inr, subst}
-use Rattle.std.proofs.Common.{append-nil, append_assoc, arith, suc, ◌≤◌, get_or}
+use Rattle.std.proofs.Common.{append-nil, arith, suc, ◌≤◌, get_or}
 use Rattle.std.specs.Prelude.{◌==◌, slice_index, nat_lt}
 use Rattle.std.specs.Str.{bytes_eq, IsAscii, IsUtf8}
-use Rattle.std.proofs.lemmas.Bool.{agree_below, agree_below_at, and_parts, eqb-true, and_left, and_right, cases_Bool}
-use Rattle.std.proofs.lemmas.Bool.{cond_both, both_ways, ne_eqb, or_left, ltb-true}
+use Rattle.std.proofs.lemmas.Bool.{agree_below, agree_below_at, and_parts, eqb-true, and_left, cases_Bool}
+use Rattle.std.proofs.lemmas.Bool.{cond_both, both_ways, ne_eqb, or_left, ltb-true, not-true}
 use Rattle.std.proofs.lemmas.Slice.Eq.{bytes_eq-Decides}
-use Rattle.data_url.specs.Url.{in_fragment_set, in_path_set, in_query_set, before, after, encoded_byte, encoded_path}
+use Rattle.data_url.specs.Url.{in_path_set, in_query_set, before, after, encoded_byte, encoded_path}
 use Rattle.data_url.specs.Url.{hex_digit, in_path_end_set, percent_encoding, serialised, with_query}
 use Rattle.data_url.specs.Url.{without_tabs_and_newlines}
 use Rattle.data_url.specs.Steps.Sets.{IsRow, byte_encoding, in_set}
-use Rattle.data_url.specs.declared.percent.rows.TheConstants.{FRAGMENT, PATH, QUERY}
 use Rattle.data_url.proofs.classes.Rows.{unmarked_passes}
 use Rattle.std.specs.Char.{digit_value, is_ascii_hexdigit}
 use Rattle.std.specs.List.{AllByRecursion, list_all}
@@ -19,12 +18,12 @@ use Rattle.data_url.specs.Steps.Header.{header_parts, header_text}
 use Rattle.data_url.specs.Percent.{percent_decoding}
 use Rattle.data_url.proofs.texts.Bytes.{before-append, before_at, before_nil, before_other, before_same, after_nil}
 use Rattle.data_url.proofs.texts.Bytes.{after_other, after_same, lacks, before_all, after-dropped_none, after_none}
-use Rattle.data_url.proofs.texts.Bytes.{dropped_keeps, dropped_nil, dropped_passes}
+use Rattle.data_url.proofs.texts.Bytes.{dropped_keeps, dropped_nil, dropped_passes, without_tabs_and_newlines-append}
 use Rattle.std.proofs.Math.Seq.{take-append-add}
 use Rattle.std.proofs.lemmas.Grind.{flat_map-append}
-use Rattle.std.proofs.lemmas.List.{drop_all, drop_more, length-take-le, nil_from_length, take-take}
+use Rattle.std.proofs.lemmas.List.{take_more, length-take-le, take-take}
 use Rattle.std.proofs.lemmas.Str.{IsAscii-append, IsUtf8-from_ascii}
-use Rattle.std.proofs.lemmas.Str.Ascii.{IsAscii-cons, IsAscii-nil}
+use Rattle.std.proofs.lemmas.Str.Ascii.{IsAscii-nil}
 use Rattle.data_url.specs.declared.percent.EncodeSet.TheVariants.{Fragment, Path, Query}
 use Rattle.data_url.specs.declared.percent.EncodeSet.{EncodeSet}
 
@@ -43,20 +42,11 @@ is_row p b row = (length row == 4) && ((slice_index row 3 == length (byte_encodi
 row_of_test : (p : ℕ → Bool) (b : ℕ) (row : List ℕ) → is_row p b row ≡ true → IsRow p b row
 row_of_test p b row h = grind (arith, eqb-true)
 
--- for each byte, PATH has the row that is the byte's encoding with the set of a path
-pub path_row : (b : ℕ) → b < 256 → IsRow in_path_set b (row_at PATH b)
-path_row b l = row_of_test in_path_set b (row_at PATH b) (agree_below_at (λ b. is_row in_path_set b (row_at PATH b))
-    (λ b. true) 256 b refl l)
-
--- for each byte, QUERY has the row that is the byte's encoding with the set of a query
-pub query_row : (b : ℕ) → b < 256 → IsRow in_query_set b (row_at QUERY b)
-query_row b l = row_of_test in_query_set b (row_at QUERY b)
-    (agree_below_at (λ b. is_row in_query_set b (row_at QUERY b)) (λ b. true) 256 b refl l)
-
--- for each byte, FRAGMENT has the row that is the byte's encoding with the set of a fragment
-pub fragment_row : (b : ℕ) → b < 256 → IsRow in_fragment_set b (row_at FRAGMENT b)
-fragment_row b l = row_of_test in_fragment_set b (row_at FRAGMENT b)
-    (agree_below_at (λ b. is_row in_fragment_set b (row_at FRAGMENT b)) (λ b. true) 256 b refl l)
+-- if each row of a table passes this test, each is the row of its byte
+pub row_by : (p : ℕ → Bool) (rows : List ℕ) → agree_below (λ b. is_row p b (row_at rows b)) (λ _. true) 256 ≡ true
+    → (b : ℕ) → b < 256 → IsRow p b (row_at rows b)
+row_by p rows h b l = row_of_test p b (row_at rows b) (agree_below_at (λ b. is_row p b (row_at rows b))
+    (λ _. true) 256 b h l)
 
 -- if each byte is marked or written as it is, a byte without a mark is written as it is
 pub kept_where : (m p : ℕ → Bool) → agree_below (λ b. m b || bytes_eq (byte_encoding p b) (b ∷ [])) (λ _. true) 256
@@ -79,17 +69,10 @@ pub data Recoded : List ℕ → List ℕ → Type 0 where
 
 -- Bytes
 
--- the byte is not both in the query's set and a hexadecimal digit
-abbrev no_hex : ℕ → Bool
-no_hex b = not (in_query_set b && is_ascii_hexdigit b)
-
 -- a byte of the set is not a hexadecimal digit
 set_no_hex : (b : ℕ) → b < 256 → in_query_set b ≡ true → is_ascii_hexdigit b ≡ false
-set_no_hex b l h = elim (cases_Bool (is_ascii_hexdigit b)) [
-  | inl e ↦ absurd (both_ways (no_hex b) (ap (λ v. not (v && is_ascii_hexdigit b)) h ∙ ap (λ v. not v) e)
-      (agree_below_at no_hex (λ c. true) 256 b refl l))
-  | inr e ↦ e
-]
+set_no_hex b l h = not-true (is_ascii_hexdigit b)
+    (unmarked_passes (λ b. not (in_query_set b)) (λ b. not (is_ascii_hexdigit b)) refl b l (ap not h))
 
 -- and is neither '%' nor ','
 set_other : (b c : ℕ) → in_query_set c ≡ false → in_query_set b ≡ true → (b == c) ≡ false
@@ -150,14 +133,10 @@ escapes : (b c d : ℕ) (s x : List ℕ) → ((b == 37) && (is_ascii_hexdigit c 
     → percent_decoding x ≡ percent_decoding s → percent_decoding (b ∷ c ∷ d ∷ x) ≡ percent_decoding (b ∷ c ∷ d ∷ s)
 escapes b c d s x h e = grind (arith, decoded_escape)
 
--- there are no two digits if the first or the second byte is not a digit
-no_escape : (b : ℕ) (v : Bool) → v ≡ false → ((b == 37) && v) ≡ false
-no_escape b v h = and_right (b == 37) v h
-
 -- a text whose first byte is not a hexadecimal digit does not begin with two of them
 first_no_digit : (c : ℕ) (s : List ℕ) → is_ascii_hexdigit c ≡ false → two_digits (c ∷ s) ≡ false
 first_no_digit c [] h = refl
-first_no_digit c (d ∷ s) h = and_left (is_ascii_hexdigit c) (is_ascii_hexdigit d) h
+first_no_digit c (d ∷ s) h = grind arith
 
 -- if x is s with some bytes of the query's set percent-encoded, both are decoded to the same bytes
 pub recoded-decoded : {s x : List ℕ} → Recoded s x → percent_decoding x ≡ percent_decoding s
@@ -167,9 +146,9 @@ recoded-decoded (written {s} {x} b h l r) = decoded_written b x l ∙ ap (λ t. 
 recoded-decoded (kept b none) = refl
 recoded-decoded (kept b (kept c none)) = refl
 recoded-decoded (kept b (written {s} c h l r)) =
-    grind (arith, keeps, written, no_escape, first_no_digit, set_no_hex, recoded-decoded (written c h l r))
+    grind (arith, keeps, written, first_no_digit, set_no_hex, recoded-decoded (written c h l r))
 recoded-decoded (kept b (kept c (written d h l r))) =
-    grind (arith, keeps, kept, written, no_escape, and_right, set_no_hex, recoded-decoded (kept c (written d h l r)))
+    grind (arith, keeps, kept, written, set_no_hex, recoded-decoded (kept c (written d h l r)))
 recoded-decoded (kept b (kept c (kept {s} {x} d r))) =
     grind (arith, cases_Bool, escapes, keeps, kept, recoded-decoded r, recoded-decoded (kept c (kept d r)))
 
@@ -329,19 +308,23 @@ same_set (c ∷ h) rest (Some query) e = grind (arith, before_same, before_other
 pub before-serialised : (h rest : List ℕ) → after 44 h ≡ None → before 44 (serialised (h ++ 44 ∷ rest)) ≡ header_text h
 before-serialised [] rest e = grind (arith, serialised_path, before_same, header_nil)
 before-serialised (b ∷ h) rest e =
-    let k = lacks 44 b h e in
-    elim (cases_Bool (b == 63)) [
-      | inl f ↦ grind (arith, eqb-true, serialised_query, before_other, before_encoded, before_at, header_query)
-      | inr f ↦
-          let set = path_byte_set (before 63 (h ++ 44 ∷ rest)) in
-          cc (
-            serialised_path b (h ++ 44 ∷ rest) f,
-            before-append 44 (encoded_byte set b) (serialised (h ++ 44 ∷ rest)) (encoded_byte_lacks set b k.here),
-            before-serialised h rest k.after_it,
-            same_set h rest (after 63 h) refl,
-            header_path b h f,
-          )
-    ]
+    grind (
+      arith,
+      lacks,
+      cases_Bool,
+      eqb-true,
+      serialised_query,
+      before_other,
+      before_encoded,
+      before_at,
+      header_query,
+      serialised_path,
+      before-append,
+      encoded_byte_lacks,
+      same_set,
+      header_path,
+      before-serialised h rest,
+    )
 
 -- Percent-encoding a text without its tabs and newlines: byte by byte, and part by part.
 
@@ -350,7 +333,7 @@ abbrev pub encoded : (ℕ → Bool) → List ℕ → List ℕ
 encoded p s = percent_encoding p (without_tabs_and_newlines s)
 
 -- the encoding of the empty text is empty
-encoded_empty : (p : ℕ → Bool) → encoded p [] ≡ []
+pub encoded_empty : (p : ℕ → Bool) → encoded p [] ≡ []
 encoded_empty p = ap (percent_encoding p) dropped_nil ∙ encoded_nil p
 
 -- the encoding of a text is that of its first byte, then that of the rest
@@ -363,31 +346,9 @@ pub percent_encoding-append : (p : ℕ → Bool) (s t : List ℕ)
 unfolding percent_encoding
 percent_encoding-append p s t = flat_map-append (encoded_byte p) s t
 
--- Byte by byte
-
--- what the text from byte i on is written as
-abbrev pub encoded_from : (ℕ → Bool) → List ℕ → ℕ → List ℕ
-encoded_from p s i = encoded p (drop i s)
-
--- the text is the encoding of the bytes before byte i
-abbrev pub WroteTo : (ℕ → Bool) → List ℕ → ℕ → List ℕ → Type 0
-WroteTo p s i text = text ++ encoded_from p s i ≡ encoded p s
-
--- the encoding of the bytes before index i, then that of the byte there, is that of the bytes before i + 1
-wrote_more : (p : ℕ → Bool) (s : List ℕ) (i : ℕ) (text : List ℕ) → WroteTo p s i text → i < length s
-    → WroteTo p s (i + 1) (text ++ byte_encoding p (get_or s i 0))
-wrote_more p s i text w l = grind (arith, append_assoc, drop_more, written_first)
-
--- if the text is written up to byte i and has no more bytes, the whole text is written
-pub wrote_all : (p : ℕ → Bool) (s : List ℕ) (i : ℕ) (text : List ℕ) → WroteTo p s i text → length s ≤ i
-    → text ≡ encoded p s
-wrote_all p s i text w l = grind (arith, append-nil, drop_all, encoded_empty)
-
--- Rows
-
--- the encoding in a row has at most three bytes
-pub row_short : (p : ℕ → Bool) (b : ℕ) (row : List ℕ) → IsRow p b row → slice_index row 3 ≤ 3
-row_short p b row r = grind arith
+-- the encoding of s ++ t is that of s, then that of t
+pub encoded-append : (p : ℕ → Bool) (s t : List ℕ) → encoded p (s ++ t) ≡ encoded p s ++ encoded p t
+encoded-append p s t = grind (arith, without_tabs_and_newlines-append, percent_encoding-append)
 
 -- if each byte is written as it is, the whole text is
 pub kept_whole : (p : ℕ → Bool) (s : List ℕ)
@@ -411,44 +372,35 @@ pub plain_serialised : (s : List ℕ) → ((k : ℕ) → k < length s → Plain 
 unfolding header_text
 plain_serialised s h = grind (arith, after-dropped_none, after_none, before_all, kept_whole)
 
--- the bytes up to byte i are written at the front of the buffer
+-- the bytes before byte i are written at the front of the buffer
 pub record PutTo (p : ℕ → Bool) (s : List ℕ) (i : ℕ) (room : List ℕ) (at : ℕ) : Type 0 where
   pub few : at ≤ 3 * i
   pub long : length room ≡ 256
-  pub wrote : WroteTo p s i (take at room)
+  pub wrote : take at room ≡ encoded p (take i s)
 
--- if the bytes up to byte i are in the buffer, and the row of byte i is put after them, then the bytes up to byte i + 1
--- are in the buffer
+-- if the row of byte i is put after them, so are the bytes before byte i + 1
 pub put_more : (p : ℕ → Bool) (s : List ℕ) (i : ℕ) (room : List ℕ) (at : ℕ) (row room' : List ℕ) → PutTo p s i room at
     → i < length s → at ≤ 256 → IsRow p (get_or s i 0) row → length room' ≡ 256
     → take (at + 4) room' ≡ take at room ++ row → PutTo p s (i + 1) room' (at + slice_index row 3)
 put_more p s i room at row room' m l within r n h =
-    let long_room = m.long in
     let width = slice_index row 3 in
-    let short = row_short p (get_or s i 0) row r in
-    let f = m.few in
-    let long : length (take at room) ≡ at = length-take-le at room (omega arith) in
-    let front : take (at + width) room' ≡ take at room ++ byte_encoding p (get_or s i 0) = cc (
-      take-take (at + width)
-          (at + 4) room' (omega arith),
-      take-append-add (take at room) row width,
-    ) in
+    let short : width ≤ 3 = grind arith in
+    let one : encoded p (get_or s i 0 ∷ []) ≡ byte_encoding p (get_or s i 0) =
+    cc (written_first p (get_or s i 0) [], encoded_empty p, append-nil (byte_encoding p (get_or s i 0))) in
     record {
-      few = omega arith;
+      few = omega (arith, m.few);
       long = n;
-      wrote = subst (WroteTo p s (i + 1)) (sym front) (wrote_more p s i (take at room) m.wrote l);
+      wrote = cc (
+        take-take (at + width) (at + 4) room' (omega arith),
+        take-append-add (take at room) row width,
+        length-take-le at room (omega (arith, m.long)),
+        take_more s i 0 l,
+        encoded-append p (take i s) (get_or s i 0 ∷ []),
+        m.wrote,
+        r.begins,
+        one,
+      );
     }
-
--- Part by part
-
--- the text and then the encoding of rest are the old text and then the encoding of s
-abbrev pub WroteBefore : (ℕ → Bool) → List ℕ → List ℕ → List ℕ → List ℕ → Type 0
-WroteBefore p s rest old text = text ++ encoded p rest ≡ old ++ encoded p s
-
--- if there is no rest, what was written is the old text and then the encoding of the whole text
-pub wrote_parts : (p : ℕ → Bool) (s rest old text : List ℕ) → WroteBefore p s rest old text → rest ≡ []
-    → text ≡ old ++ encoded p s
-wrote_parts p s rest old text w h = grind (arith, append-nil, encoded_empty)
 
 -- What is written is ASCII
 
@@ -459,9 +411,7 @@ are_ascii s = list_all (λ c. nat_lt c 128) s
 -- a text that passes the test `are_ascii` is ASCII
 pub ascii_all : (s : List ℕ) → are_ascii s ≡ true → IsAscii s
 ascii_all [] h = IsAscii-nil
-ascii_all (c ∷ s) h =
-    let e = and_parts (nat_lt c 128) (are_ascii s) h in
-    IsAscii-cons c s (ltb-true c 128 e.0) (ascii_all s e.1)
+ascii_all (c ∷ s) h = grind (arith, and_parts, ltb-true, ascii_all s)
 
 -- with each of the sets, the encoding of a byte is ASCII
 written_ascii : (set : EncodeSet) (b : ℕ) → b < 256 → IsAscii (byte_encoding (in_set set) b)
@@ -480,7 +430,3 @@ encoded_ascii set (b ∷ s) h = subst IsAscii (sym (written_first (in_set set) b
 pub encoded_text : (set : EncodeSet) (s text : List ℕ) → ((i : ℕ) → get_or s i 0 < 256) → text ≡ encoded (in_set set) s
     → IsUtf8 text
 encoded_text set s text h e = subst IsUtf8 (sym e) (IsUtf8-from_ascii (encoded (in_set set) s) (encoded_ascii set s h))
-
--- if the test whether the length is zero is true, the text is empty
-pub none_left : (s : List ℕ) (r : Bool) → r ≡ (length s == 0) → r ≡ true → s ≡ []
-none_left s r e h = nil_from_length s (eqb-true (length s) 0 (sym e ∙ h))

@@ -1,6 +1,6 @@
 -- Texts of bytes: cut at a byte, and without tabs and newlines.
 use Rattle.std.proofs.Common.{◌≡◌, ℕ, suc, ◌<◌, true, false, not, cond, List, [], ◌∷◌, ◌++◌, length, get_or, Option}
-use Rattle.std.proofs.Common.{None, Some, refl, sym, ap, ◌∙◌, inl, inr, arith, eqb, eqb-true, eq-eqb}
+use Rattle.std.proofs.Common.{None, Some, refl, sym, ap, ◌∙◌, arith, eqb, eqb-true, eq-eqb}
 use Rattle.std.specs.Prelude.{◌==◌}
 use Rattle.std.proofs.lemmas.Bool.{cases_Bool, cond-true, cond-false}
 use Rattle.std.specs.Option.{option_map}
@@ -51,14 +51,12 @@ lacks c b s h = grind arith
 -- if a has no c, the bytes before the first c of a ++ s are a and then the bytes before the first c of s
 pub before-append : (c : ℕ) (a s : List ℕ) → after c a ≡ None → before c (a ++ s) ≡ a ++ before c s
 before-append c [] s h = refl
-before-append c (b ∷ a) s h = let k = lacks c b a h in before_other c b (a ++ s) k.here
-    ∙ ap (λ t. b ∷ t) (before-append c a s k.after_it)
+before-append c (b ∷ a) s h = grind (arith, lacks, before_other, before-append c a s)
 
 -- if a has no c, the bytes after the first c of a ++ s are those after the first c of s
 pub after-append : (c : ℕ) (a s : List ℕ) → after c a ≡ None → after c (a ++ s) ≡ after c s
 after-append c [] s h = refl
-after-append c (b ∷ a) s h = let k = lacks c b a h in after_other c b (a ++ s) k.here
-    ∙ after-append c a s k.after_it
+after-append c (b ∷ a) s h = grind (arith, lacks, after_other, after-append c a s)
 
 -- if a has no c, the bytes before c are the whole of a
 pub before_all : (c : ℕ) (a : List ℕ) → after c a ≡ None → before c a ≡ a
@@ -86,10 +84,19 @@ pub record IsCut (c : ℕ) (s rest : List ℕ) : Type 0 where
 -- if rest is the text after the first c of s, then s is the bytes before that c, then c, then rest
 pub is_cut : (c : ℕ) (s rest : List ℕ) → after c s ≡ Some rest → IsCut c s rest
 is_cut c [] rest h = absurd (let k : None ≡ Some rest = sym (after_nil c) ∙ h in cc)
-is_cut c (b ∷ s) rest h = elim (cases_Bool (b == c)) [
-  | inl e ↦ grind (arith, eqb-true, before_same, after_same, lacks, after_nil)
-  | inr e ↦ grind (arith, is_cut c s rest (sym (after_other c b s e) ∙ h), after_other, before_other, lacks)
-]
+is_cut c (b ∷ s) rest h =
+    grind (
+      arith,
+      cases_Bool,
+      eqb-true,
+      before_same,
+      after_same,
+      lacks,
+      after_nil,
+      after_other,
+      before_other,
+      is_cut c s rest,
+    )
 
 -- if c is at no index of the text, the text has no c
 pub after_none : (c : ℕ) (s : List ℕ) → ((k : ℕ) → k < length s → (get_or s k 0 == c) ≡ false) → after c s ≡ None
@@ -126,14 +133,8 @@ without_tabs_and_newlines-append (b ∷ a) s = grind (arith, without_tabs_and_ne
 pub after-dropped_none : (c : ℕ) → is_tab_or_newline c ≡ false → (s : List ℕ) → after c s ≡ None
     → after c (without_tabs_and_newlines s) ≡ None
 after-dropped_none c k [] h = ap (after c) dropped_nil ∙ after_nil c
-after-dropped_none c k (b ∷ s) h = let l = lacks c b s h in elim (cases_Bool (is_tab_or_newline b)) [
-  | inl e ↦ ap (after c) (dropped_passes b s e) ∙ after-dropped_none c k s l.after_it
-  | inr e ↦ cc (
-    dropped_keeps b s e,
-    after_other c b (without_tabs_and_newlines s) l.here,
-    after-dropped_none c k s l.after_it,
-  )
-]
+after-dropped_none c k (b ∷ s) h =
+    grind (arith, lacks, cases_Bool, dropped_passes, dropped_keeps, after_other, after-dropped_none c k s)
 
 -- if c is not a tab or newline, dropping these from a ++ c ∷ s drops them from a and from s, and keeps c
 pub dropped_around : (c : ℕ) → is_tab_or_newline c ≡ false → (a s : List ℕ)

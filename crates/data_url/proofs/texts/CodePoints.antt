@@ -10,7 +10,7 @@ use Rattle.std.proofs.Math.Seq.{take-append_seam, drop-append_seam}
 use Rattle.std.proofs.lemmas.List.{take-append-drop, length-append}
 use Rattle.std.proofs.lemmas.Str.{chars-encodes, encodes-append, encodes-chars, IsCharBoundary-at_seam, scalars-chars}
 use Rattle.std.proofs.lemmas.Str.{encode_ascii, chars-nil, length-le-encodes, chars-IsAscii, IsUtf8-from_ascii, IsUtf8-take, chars-append}
-use Rattle.std.proofs.lemmas.Str.Ascii.{IsAscii-cons, IsAscii-nil}
+use Rattle.std.proofs.lemmas.Str.Ascii.{IsAscii-nil}
 use Rattle.data_url.specs.Mime.{DoesNotBegin, DoesNotEnd, Every}
 use Rattle.data_url.specs.Steps.Parsing.{IsTrimmedEnd, front_of}
 use Rattle.data_url.specs.Url.{without_end, without_front}
@@ -24,7 +24,8 @@ front_len p [] (c ∷ b) h e = grind arith
 front_len p (c ∷ a) b h e = grind (arith, front_len p a b h.1 e)
 
 -- a is then the longest prefix, and b the text after it
-pub front_is : (p : ℕ → Bool) (a b : List ℕ) → Every p a → DoesNotBegin p b → (front_of p (a ++ b) ≡ a) × (without_front p (a ++ b) ≡ b)
+pub front_is : (p : ℕ → Bool) (a b : List ℕ) → Every p a → DoesNotBegin p b → (front_of p (a ++ b) ≡ a) ×
+    (without_front p (a ++ b) ≡ b)
 front_is p a b h e = grind (arith, front_len, take-append_seam, drop-append_seam)
 
 -- each code point of the longest prefix that passes does pass
@@ -71,7 +72,13 @@ end_len p (c ∷ t) back h e = end_onto p c t back [] h e
 
 -- if t is s without its longest suffix that passes, t is `without_end p s`
 pub trimmed_end_is : (p : ℕ → Bool) (s t : List ℕ) → IsTrimmedEnd p s t → t ≡ without_end p s
-trimmed_end_is p s t h = grind (arith, length-append t h.back, end_len p t h.back h.at_back h.ends, take-append_seam t h.back)
+trimmed_end_is p s t h = grind (
+  arith,
+  length-append t h.back,
+  end_len p t h.back h.at_back h.ends,
+  take-append_seam t
+      h.back,
+)
 
 -- a text that does not end with a code point that passes has no suffix that passes
 pub end_stays : (p : ℕ → Bool) (t : List ℕ) → DoesNotEnd p t → without_end p t ≡ t
@@ -139,7 +146,8 @@ pub record IsCutInto (bs : List ℕ) (n : ℕ) (xs ys : List ℕ) : Type 0 where
   pub after : chars (drop n bs) ≡ ys
 
 -- a UTF-8 text can be cut after the bytes of each prefix of its code points
-pub cut_into : (bs xs ys : List ℕ) (n : ℕ) → IsUtf8 bs → chars bs ≡ xs ++ ys → n ≡ length (encode_utf8_all xs) → IsCutInto bs n xs ys
+pub cut_into : (bs xs ys : List ℕ) (n : ℕ) → IsUtf8 bs → chars bs ≡ xs ++ ys → n ≡ length (encode_utf8_all xs)
+    → IsCutInto bs n xs ys
 cut_into bs xs ys n u e l =
     let k = scalars_parts xs ys (ap all_scalars (sym e) ∙ scalars-chars bs u) in
     let a = encode_utf8_all xs in
@@ -195,9 +203,7 @@ module _ (p : ℕ → Bool) (steady : IsSteady p) (other : p 128 ≡ false) wher
   -- a text that passes is ASCII
   pub every_ascii : (t : List ℕ) → Every p t → IsAscii t
   every_ascii [] h = IsAscii-nil
-  every_ascii (c ∷ t) h =
-      let below : c < 128 = grind (arith, steady c) in
-      IsAscii-cons c t below (every_ascii t h.1)
+  every_ascii (c ∷ t) h = grind (arith, every_ascii t h.1)
 
   -- the front of a text without its longest suffix that passes, as bytes and as code points
   pub record IsEnd (bs : List ℕ) (n : ℕ) : Type 0 where

@@ -6,7 +6,8 @@ use Rattle.data_url.proofs.mime.parse.read_head.Goals as goal
 use Rattle.data_url.proofs.mime.parse.read_head.Goals.{then-not-is_empty+in_ok-after_mark-2, else-not-is_empty}
 
 pub returns-in_err-type_ : goal.returns-in_err-type_
-returns-in_err-type_ c = rw c.from_residual.ensures (no_type _ (chars c.without_trailing_whitespace-text.result.now) (cc) c.in_err-type_.ensures)
+returns-in_err-type_ c = rw c.from_residual.ensures (no_type _ (chars c.without_trailing_whitespace-text.result.now)
+    (cc) c.in_err-type_.ensures)
 
 pub returns-in_err-after_mark : goal.returns-in_err-after_mark
 returns-in_err-after_mark c =
@@ -22,7 +23,8 @@ returns-in_err-after_mark-2 c =
     let p = c.without_leading_whitespace-parameters in
     let n : (length (chars p.result.now) == 0) ≡ false =
     same_empty p.result.now p.utf8 ∙ sym c.is_empty.ensures ∙ c.if-not-is_empty.true in
-    rw c.from_residual-in_err-after_mark-2.ensures (no_parameters c.in_ok-type_.ensures (cc) _ c.in_ok-after_mark.ensures _
+    rw c.from_residual-in_err-after_mark-2.ensures (no_parameters c.in_ok-type_.ensures
+    (cc) _ c.in_ok-after_mark.ensures _
     c.in_ok-subtype.ensures p.ensures n c.in_err-after_mark-2.ensures)
 
 pub returns : goal.returns

@@ -9,7 +9,12 @@ use Rattle.data_url.proofs.mime.parse.read_parameters.Given as goal
 
 abbrev pub invariant-loop-after : goal.invariant-loop-after
 invariant-loop-after l =
-    record { text : shadow (Utf8 l.rest); keeps : KeepsOn (chars l.text) (chars l.rest) (pairs_of l.kept); indexed : IsIndexed l.kept }
+    record {
+      text : shadow (Utf8 l.rest);
+      keeps : KeepsOn (chars l.text) (chars l.rest)
+          (pairs_of l.kept);
+      indexed : IsIndexed l.kept;
+    }
 
 abbrev pub decreases-loop-after : goal.decreases-loop-after
 decreases-loop-after l = length (chars l.rest)

@@ -11,5 +11,6 @@ pub returns-then-len-eq0 : goal.returns-then-len-eq0
 returns-then-len-eq0 c = no_tokens c.args.text.now c.span-len.result c.utf8.text (cc) c.if-len-eq0.true
 
 pub returns : goal.returns
-returns c = some_tokens c.args.text.now c.span-len.result c.utf8.text (cc) c.if-len-eq0.false _ _ c.split_at.ensures.front
+returns c = some_tokens c.args.text.now c.span-len.result c.utf8.text
+    (cc) c.if-len-eq0.false _ _ c.split_at.ensures.front
     c.split_at.ensures.back

@@ -22,7 +22,8 @@ pub loop-c-preserved : goal.loop-c-preserved
 loop-c-preserved c = (
   IsUtf8-past_char _ _ _ c.loop-c.invariant.0 c.in-Some.ensures.steps.0,
   unescape_pushes _ _ (string_bytes c.loop-c.value) c.loop-c.invariant.0 c.in-Some.ensures.steps.0 c.loop-c.invariant.1
-      (string_bytes c.push.new.self) (IsUtf8-string_bytes c.loop-c.value) c.in_ok-push.ensures.bytes c.else-c-eq92.either,
+      (string_bytes c.push.new.self) (IsUtf8-string_bytes c.loop-c.value) c.in_ok-push.ensures.bytes
+      c.else-c-eq92.either,
 )
 
 pub returns : goal.returns

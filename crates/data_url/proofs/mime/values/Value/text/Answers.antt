@@ -7,7 +7,8 @@ use Rattle.data_url.proofs.mime.values.Value.text.Goals.{in_default-via-in_defau
 
 pub returns-in_ok-unescaped-in-Quoted : goal.returns-in_ok-unescaped-in-Quoted
 returns-in_ok-unescaped-in-Quoted c =
-    quoted_text c.in-Quoted.text c.in-Quoted.is c.as_bytes.ensures.utf8 c.as_bytes.ensures.value c.long_span.ensures.front
+    quoted_text c.in-Quoted.text c.in-Quoted.is c.as_bytes.ensures.utf8 c.as_bytes.ensures.value
+    c.long_span.ensures.front
     _ c.in_ok-unescaped-in-Quoted.ensures c.if-long_span-text.true
 
 pub returns-in_default : goal.returns-in_default
