@@ -13,10 +13,12 @@ mod digits;
 mod lanes;
 mod looks;
 mod source;
+mod stops;
 
 use cursor::Cursor;
 pub(crate) use cursor::ROOM;
 use lanes::BLOCK;
+pub(crate) use source::fragment_at;
 use source::last_marks;
 use std::marker::Model;
 use std::mem::replace;

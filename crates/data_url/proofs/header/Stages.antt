@@ -1,5 +1,5 @@
 -- The stages of the Standard, from the input to its record. For `DataUrl::process`.
-use Rattle.std.proofs.Common.{◌≡◌, ℕ, zero, suc, ◌+◌, ◌-◌, ◌<◌, ◌≤◌, Bool, false, List, [], ◌∷◌, ◌++◌, length, get_or}
+use Rattle.std.proofs.Common.{◌≡◌, ℕ, zero, suc, ◌-◌, ◌<◌, ◌≤◌, Bool, false, List, [], ◌∷◌, ◌++◌, length, get_or}
 use Rattle.std.proofs.Common.{take, drop, Option, None, Some, refl, sym, ap, ◌∙◌, inl, inr, ◌⊎◌, eqb-true, subst, arith}
 use Rattle.std.proofs.Common.{true, map, codes, ◌≢◌, IsTrue}
 use Rattle.std.specs.Prelude.{◌==◌, option_and_then}
@@ -8,7 +8,7 @@ use Rattle.std.specs.Str.{chars}
 use Rattle.std.proofs.lemmas.Bool.{cases_Bool, cond-true, cond-false, both_ways, ne_eqb, eq-eqb}
 use Rattle.std.proofs.lemmas.Slice.Eq.{bytes_eq-Decides}
 use Rattle.std.proofs.lemmas.List.{get_or-drop, get_or-reverse, get_or-take, get_or_past, length-drop, length-reverse}
-use Rattle.std.proofs.lemmas.List.{length-take, drop_at, length-map, take_at, drop_all, drop_more}
+use Rattle.std.proofs.lemmas.List.{length-take, drop_at, length-map, take_at}
 use Rattle.data_url.specs.Url.{before, after, is_c0_control_or_space, percent_encoding, trimmed_text, without_end}
 use Rattle.data_url.specs.Url.{after_scheme, cleaned_text, without_tabs_and_newlines, fragment, front}
 use Rattle.data_url.specs.Url.{is_tab_or_newline, serialised, in_fragment_set}
@@ -35,7 +35,6 @@ use Rattle.data_url.proofs.texts.CodePoints.{trimmed_end_is}
 use Rattle.data_url.proofs.examples.Literals.{on_literals}
 use Rattle.data_url.specs.CodePoints.{is_http_whitespace}
 use Rattle.data_url.proofs.mime.FirstNames.{parses_parts, parses_wellformed}
-use Rattle.data_url.specs.Steps.Tail.{BeginsFragment, IsBodyEnd, rest_fragment}
 use Rattle.data_url.specs.DataUrl.{IsAcceptable, IsUrlOf, is_base64, mime_of, url_tail}
 use Rattle.data_url.specs.MimeType.{record_of}
 use Rattle.data_url.specs.declared.DataUrl.{DataUrl}
@@ -525,30 +524,6 @@ is_url_of t rest header u b s h k =
       base64_is = k.base64_is;
       tail_is = a.tail_is;
       staged_is = stages_accepted t rest header (url_tail u) b s h (is_base64 u) k.base64_is;
-    }
-
--- The fragment
-
--- if the body of a tail ends where the tail ends, the tail has no '#'
-pub no_fragment : (tail : List ℕ) (place : ℕ) → IsBodyEnd tail place → place ≡ length tail → None ≡ after 35 tail
-no_fragment tail place h e = sym (h.after_is ∙ ap rest_fragment (drop_all place tail (omega arith)))
-
--- at the place is the first '#' of the tail
-pub record HasHash (tail : List ℕ) (place : ℕ) : Type 0 where
-  pub within : place < length tail
-  pub is : get_or tail place 0 ≡ 35
-  pub fragment_is : after 35 tail ≡ Some (drop (place + 1) tail)
-
--- if the body of a tail does not end where the tail ends, it ends at the first '#' of the tail
-pub has_hash : (tail : List ℕ) (place : ℕ) → IsBodyEnd tail place → (place ≡ length tail → ⊥) → HasHash tail place
-has_hash tail place h n =
-    let inside = h.within in
-    let within : place < length tail = omega arith in
-    let here : drop place tail ≡ get_or tail place 0 ∷ drop (place + 1) tail = drop_more tail place 0 within in
-    record {
-      within = within;
-      is = subst BeginsFragment here h.begins;
-      fragment_is = h.after_is ∙ ap rest_fragment here;
     }
 
 -- a text of bytes without its first n bytes is a text of bytes

@@ -1,8 +1,11 @@
 //! The text of a body. Each byte of it that is examined is counted.
 
-ghost use Rattle.std.specs.Prelude.{◌≡◌, IsTrue, [], ◌+◌, ◌-◌, ◌^◌, ◌++◌, ◌<◌, ◌≤◌, drop, length, map, min, slice_index, slice_range, take};
+ghost use Rattle.std.specs.Prelude.{◌≡◌, IsTrue, [], ◌+◌, ◌-◌, ◌^◌, ◌++◌, ◌<◌, ◌≤◌, length, map, min, slice_index, slice_range, take};
 ghost use Rattle.std.specs.Simd.Lanes.{mask_l};
+ghost use Rattle.std.specs.Option.{option_map};
+ghost use Rattle.data_url.specs.Steps.Tail.{IsBodyEnd};
 ghost use Rattle.data_url.specs.Steps.Window.{is_marked};
+ghost use Rattle.data_url.specs.Url.{after, number_sign};
 
 use super::cursor::ROOM;
 use super::lanes::{BLOCK, marks_of};
@@ -90,42 +93,53 @@ impl<'a> Source<'a> {
         &self.text.as_bytes()[start..end]
     }
 
-    /// Copies a stretch of fewer than 64 bytes into a buffer. None of its bytes is examined. The bytes after it in the
-    /// buffer may be overwritten.
+    /// Copies a stretch of at most 64 bytes into a buffer. None of its bytes is examined. The bytes after it in the buffer
+    /// may be overwritten.
     #[inline(always)]
     pub(super) fn copy(
         &self,
         start: usize,
-        width: usize,
+        end: usize,
         room: &mut [u8; ROOM],
         len: usize,
         wide: bool,
     )
-        requires short { width ≤ 64 }
-        requires within { start + width ≤ length self.now.text.now }
+        requires forward { start ≤ end }
+        requires short { end ≤ start + 64 }
+        requires within { end ≤ length self.now.text.now }
         requires wide { IsTrue wide → start + 64 ≤ length self.now.text.now }
         requires room { len + 64 ≤ 256 }
-        ensures { take (len + width) room.new
-            ≡ take len room.old ++ slice_range self.now.text.now start (start + width) }
+        ensures { take (len + (end - start)) room.new
+            ≡ take len room.old ++ slice_range self.now.text.now start end }
     {
         let bytes = self.text.as_bytes();
         if wide {
             let block = u8x64::from_slice(&bytes[start..start + BLOCK]);
             block.copy_to_slice(&mut room[len..len + BLOCK]);
         } else {
-            room[len..len + width].copy_from_slice(&bytes[start..start + width]);
+            room[len..len + (end - start)].copy_from_slice(&bytes[start..end]);
         }
     }
 
-    /// Returns the text after a place that has an ASCII byte.
-    pub(super) fn after(&self, place: usize) -> &'a str
-        requires within { place < length self.now.text.now }
-        requires ascii { slice_index self.now.text.now place < 128 }
-        ensures { result.now ≡ drop (place + 1) self.now.text.now }
+    /// Returns the fragment of a text whose body ends at a place.
+    pub(super) fn fragment(&self, place: usize) -> Option<&'a str>
+        requires { IsBodyEnd self.now.text.now place }
+        ensures { option_map (λ s. s.now) result ≡ after number_sign self.now.text.now }
     {
-        let _bytes = self.text.as_bytes();
-        &self.text[place + 1..]
+        fragment_at(self.text, place)
     }
+}
+
+/// Returns the fragment of a text whose body ends at a place: what follows the `#` there, or None at the end of the text.
+pub(crate) fn fragment_at(text: &str, place: usize) -> Option<&str>
+    requires { IsBodyEnd text.now place }
+    ensures { option_map (λ s. s.now) result ≡ after number_sign text.now }
+{
+    let bytes = text.as_bytes();
+    if place == bytes.len() {
+        return None;
+    }
+    Some(&text[place + 1..])
 }
 
 /// Returns the marks of fewer than 64 bytes.
