@@ -1,7 +1,7 @@
 -- Blocks of a body and their marks. For `look_block` and `next_mark`.
 use Rattle.std.proofs.Common.{◌≡◌, ℕ, zero, suc, ◌+◌, ◌*◌, ◌-◌, ◌/◌, ◌^◌, ◌<◌, ◌≤◌, Bool, true, false, cond, List, []}
 use Rattle.std.proofs.Common.{◌∷◌, ◌++◌, length, take, drop, map, min, replicate, refl, sym, ap, ◌∙◌, arith, ◌%◌, eqb}
-use Rattle.std.proofs.Common.{get_or, subst, bit_and, w8, Fits, ◌≢◌, not, inl, inr}
+use Rattle.std.proofs.Common.{get_or, subst, bit_and, w8, Fits, ◌≢◌, not}
 use Rattle.std.specs.Prelude.{slice_range}
 use Rattle.std.specs.Simd.Lanes.{chunk, mask_l, put_chunk, Each1, top, zip2}
 use Rattle.std.proofs.lemmas.List.{length-drop, drop-replicate, length-take-le, take_rest, take-append-le, take-take}
@@ -12,7 +12,7 @@ use Rattle.std.proofs.lemmas.Simd.{mask_l-mod, swz_l, tops_compared, zip2_of_map
 use Rattle.std.proofs.lemmas.Simd.{run_in_chunk_fails, run_in_chunk_le, run_in_chunk_stops, trailing_mask_l}
 use borrow.Rule.Slice.PartMut.{mid_of, post_of, put_mid}
 use Rattle.data_url.specs.Steps.Window.{is_marked}
-use Rattle.std.proofs.lemmas.Bool.{agree_below_at, eqb-true, cases_lt}
+use Rattle.std.proofs.lemmas.Bool.{agree_below_at, eqb-true}
 use Rattle.std.proofs.lemmas.Nat.{and_mask}
 use Rattle.data_url.specs.declared.escapes.lanes.TheConstants.{MARKED}
 use Rattle.std.specs.List.{prefix_len}

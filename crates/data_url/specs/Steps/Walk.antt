@@ -120,6 +120,11 @@ pub record IsPart (text : List ℕ) (from to : ℕ) (piece : Piece) : Type 0 whe
   pub reads : Reads text from to (bytes_of piece)
   pub piece_is : IsPiece text from to piece
 
+-- while bytes are gathered, no more is known about the index
+pub record Gathering (c : Cursor) : Type 0 where
+  pub plain : IsPlain c.ahead
+  pub knows : KnowsAhead c c.ahead
+
 -- a walk returns its next piece, or ends
 pub record GoesOn (c : Cursor) (next : Option Piece) (c' : Cursor) : Type 0 where
   pub on : LooksOn c.source c'.source

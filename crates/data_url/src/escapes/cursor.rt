@@ -1,13 +1,10 @@
 //! The walk over the text of a body.
 
 ghost use Rattle.std.specs.Prelude.{ℕ, [], ◌≡◌, ◌+◌, ◌<◌, ◌≤◌, IsTrue, drop, length, slice_index, true};
-ghost use Rattle.std.specs.Option.{option_map};
-ghost use Rattle.data_url.specs.Pieces.{has_ended, is_slice_end, text_of, walk_of};
+ghost use Rattle.data_url.specs.Pieces.{is_slice_end, text_of, walk_of};
 ghost use Rattle.data_url.specs.Steps.Chunks.{GivesBytes};
-ghost use Rattle.data_url.specs.Steps.Tail.{IsBodyEnd};
-ghost use Rattle.data_url.specs.Steps.Walk.{Gathers, GoesOn, HasRoom, IsGathered, IsNear, IsPart, IsPlain, IsWide, Knows, KnowsAhead, Looking, LooksOn, MayGather, Moves, Searching, Spells};
+ghost use Rattle.data_url.specs.Steps.Walk.{Gathering, Gathers, GoesOn, HasRoom, IsGathered, IsNear, IsPart, IsWide, Knows, KnowsAhead, Looking, LooksOn, MayGather, Moves, Searching, Spells};
 ghost use Rattle.data_url.specs.Steps.Window.{is_marked};
-ghost use Rattle.data_url.specs.Url.{after, number_sign};
 
 use super::Piece;
 use super::lanes::BLOCK;
@@ -39,10 +36,10 @@ pub(super) enum Ahead {
 /// A walk: its text, the block that was read last with its marks, its place, and what is known there.
 #[derive(Drop)]
 pub(super) struct Cursor<'a> {
-    source: Source<'a>,
+    pub(super) source: Source<'a>,
     block: Block,
-    place: usize,
-    ahead: Ahead,
+    pub(super) place: usize,
+    pub(super) ahead: Ahead,
 }
 
 impl<'a> Cursor<'a> {
@@ -56,7 +53,11 @@ impl<'a> Cursor<'a> {
     {
         Cursor {
             source: Source::new(text),
-            block: Block::new(),
+            block: Block {
+                base: 0,
+                seen: 0,
+                marks: 0,
+            },
             place: 0,
             ahead: Ahead::Unknown,
         }
@@ -188,8 +189,7 @@ impl<'a> Cursor<'a> {
         requires { KnowsAhead self.old self.old.ahead }
         ensures gathers { Gathers self.old self.new room.old room.new 0 result }
         ensures few { result ≤ 1 }
-        ensures plain { IsPlain self.new.ahead }
-        ensures knows { KnowsAhead self.new self.new.ahead }
+        ensures gathering { Gathering self.new }
     {
         match self.ahead {
             Ahead::Escape(value, end) => {
@@ -209,10 +209,8 @@ impl<'a> Cursor<'a> {
     /// Reads the block at the place, and returns whether to gather it: it has a mark, or bytes were gathered before it.
     #[inline(always)]
     fn is_mark_near(&mut self, len: usize) -> bool
-        requires plain { IsPlain self.old.ahead }
-        requires knows { KnowsAhead self.old self.old.ahead }
-        ensures plain { IsPlain self.new.ahead }
-        ensures knows { KnowsAhead self.new self.new.ahead }
+        requires gathering { Gathering self.old }
+        ensures gathering { Gathering self.new }
         ensures on { LooksOn self.old.source self.new.source }
         ensures place { self.new.place ≡ self.old.place }
         ensures near { IsTrue result → IsNear self.new × (self.old.ahead ≡ Ahead.Unknown) }
@@ -240,40 +238,26 @@ impl<'a> Cursor<'a> {
         requires wide { IsWide self.old dense }
         ensures gathers { Gathers self.old self.new room.old room.new len result }
         ensures few { result ≤ 256 }
-        ensures plain { IsPlain self.new.ahead }
-        ensures knows { KnowsAhead self.new self.new.ahead }
+        ensures gathering { Gathering self.new }
         ensures moves { Moves self.old self.new }
     {
         let mut len = len;
         while self.place < self.block.seen {
-            let (more, ended) = self.gather_stretch(room, len, dense);
+            let place = self.place;
+            let Some(mark) = self.block.mark_from(&self.source, place) else {
+                self.source.copy(place, self.block.seen, room, len, !dense);
+                self.place = self.block.seen;
+                return len + (self.place - place);
+            };
+            self.source.copy(place, mark, room, len, !dense);
+            self.place = mark;
+            let (more, ended) = self.gather_stop(room, len + (mark - place), dense);
             len = more;
             if ended {
                 return len;
             }
         }
         len
-    }
-
-    /// Gathers the bytes of the block up to its next mark, and what begins there. Returns how many were gathered, and
-    /// whether the body ends.
-    #[inline(always)]
-    fn gather_stretch(&mut self, room: &mut [u8; ROOM], len: usize, dense: bool) -> (usize, bool)
-        requires may { MayGather self.old len }
-        requires here { self.old.place < self.old.block.seen }
-        requires wide { IsWide self.old dense }
-        ensures gathers { Gathers self.old self.new room.old room.new len result.0 }
-        ensures goes { IsGathered self.old self.new result.0 result.1 }
-    {
-        let place = self.place;
-        let Some(mark) = self.block.mark_from(&self.source, place) else {
-            self.source.copy(place, self.block.seen, room, len, !dense);
-            self.place = self.block.seen;
-            return (len + (self.place - place), false);
-        };
-        self.source.copy(place, mark, room, len, !dense);
-        self.place = mark;
-        self.gather_stop(room, len + (mark - place), dense)
     }
 
     /// Gathers what begins at the mark at the place.
@@ -334,27 +318,5 @@ impl<'a> Cursor<'a> {
             len += 1;
         }
         len
-    }
-
-    /// Whether the body is known to end at the place.
-    pub(super) fn has_ended(&self) -> bool
-        ensures { result ≡ has_ended self.now.ahead }
-    {
-        matches!(self.ahead, Ahead::End)
-    }
-
-    /// The place.
-    pub(super) fn place(&self) -> usize
-        ensures { result ≡ self.now.place }
-    {
-        self.place
-    }
-
-    /// Returns the fragment after the place, at which the body ends.
-    pub(super) fn fragment(&self) -> Option<&'a str>
-        requires { IsBodyEnd (text_of self.now) self.now.place }
-        ensures { option_map (λ s. s.now) result ≡ after number_sign (text_of self.now) }
-    {
-        self.source.fragment(self.place)
     }
 }

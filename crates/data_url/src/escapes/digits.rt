@@ -5,6 +5,7 @@ ghost use Rattle.data_url.specs.Url.{percent_sign};
 ghost use Rattle.data_url.specs.Steps.Digits.{DigitFound, EscapeAt, IsCode, NoDigit, NoEscape};
 
 use super::source::Source;
+use std::mem::replace;
 
 /// What the table has for a tab or a newline.
 const PASSED: u8 = 16;
@@ -89,7 +90,7 @@ impl<'a> Source<'a> {
             return None;
         }
         // The text is read through a value of its own, so that the walk's can stay in registers.
-        let mut source = self.take();
+        let mut source = replace(self, Source::new(""));
         let found = source.digit_further(place + 1);
         *self = source;
         found

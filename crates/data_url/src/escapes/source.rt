@@ -10,7 +10,6 @@ ghost use Rattle.data_url.specs.Url.{after, number_sign};
 use super::cursor::ROOM;
 use super::lanes::{BLOCK, marks_of};
 use super::looks::Looks;
-use std::mem::replace;
 use std::simd::prelude::*;
 
 /// A text with a count of the bytes examined.
@@ -31,16 +30,6 @@ impl<'a> Source<'a> {
             text,
             looks: Looks::new(),
         }
-    }
-
-    /// Takes the text and its count out, and leaves an empty text. So a text is always in one `Source`.
-    #[inline(always)]
-    pub(super) fn take(&mut self) -> Source<'a>
-        ensures text { result.text.now ≡ self.old.text.now }
-        ensures looks { result.looks ≡ self.old.looks }
-        ensures left { self.new.text.now ≡ [] }
-    {
-        replace(self, Source::new(""))
     }
 
     /// The number of its bytes.

@@ -10,7 +10,7 @@ use super::source::Source;
 /// The block of a text that was read last, from `base` up to `seen`, with a bit for each marked byte.
 #[derive(Drop)]
 pub(super) struct Block {
-    base: usize,
+    pub(super) base: usize,
     pub(super) seen: usize,
     pub(super) marks: u64,
 }
@@ -28,20 +28,6 @@ pub(super) enum Stop {
 }
 
 impl Block {
-    /// The block before the first one.
-    #[inline(always)]
-    pub(super) fn new() -> Self
-        ensures base { result.base ≡ 0 }
-        ensures seen { result.seen ≡ 0 }
-        ensures marks { result.marks ≡ 0 }
-    {
-        Block {
-            base: 0,
-            seen: 0,
-            marks: 0,
-        }
-    }
-
     /// Reads the block at a place.
     #[inline(always)]
     pub(super) fn look_on(&mut self, source: &mut Source<'_>, place: usize)
