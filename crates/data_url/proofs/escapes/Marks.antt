@@ -1,10 +1,10 @@
 -- Blocks of a body and their marks. For `look_block` and `next_mark`.
 use Rattle.std.proofs.Common.{◌≡◌, ℕ, zero, suc, ◌+◌, ◌*◌, ◌-◌, ◌/◌, ◌^◌, ◌<◌, ◌≤◌, Bool, true, false, cond, List, []}
 use Rattle.std.proofs.Common.{◌∷◌, ◌++◌, length, take, drop, map, min, replicate, refl, sym, ap, ◌∙◌, arith, ◌%◌, eqb}
-use Rattle.std.proofs.Common.{get_or, subst, bit_and, w8, Fits, ◌≢◌, not}
+use Rattle.std.proofs.Common.{get_or, subst, bit_and, w8, Fits, ◌≢◌, not, inl, inr}
 use Rattle.std.specs.Prelude.{slice_range}
 use Rattle.std.specs.Simd.Lanes.{chunk, mask_l, put_chunk, Each1, top, zip2}
-use Rattle.std.proofs.lemmas.List.{length-drop, drop-replicate, length-take-le, take_rest, take-append-le, take-take}
+use Rattle.std.proofs.lemmas.List.{take_all, length-drop, drop-replicate, length-take-le, take_rest, take-append-le, take-take}
 use Rattle.std.proofs.lemmas.List.{drop-map, drop-drop, ext_get_or, get_or-map, length-map, map-id}
 use Rattle.std.proofs.Math.Nat.{div-div-eq-div-mul, mul_comm, pow-suc}
 use Rattle.std.proofs.lemmas.Simd.{put_chunk_whole, SwzOk, SwzOk-from_below, get_or-swz_l_below, length-swz_l}
@@ -12,7 +12,7 @@ use Rattle.std.proofs.lemmas.Simd.{mask_l-mod, swz_l, tops_compared, zip2_of_map
 use Rattle.std.proofs.lemmas.Simd.{run_in_chunk_fails, run_in_chunk_le, run_in_chunk_stops, trailing_mask_l}
 use borrow.Rule.Slice.PartMut.{mid_of, post_of, put_mid}
 use Rattle.data_url.specs.Steps.Window.{is_marked}
-use Rattle.std.proofs.lemmas.Bool.{agree_below_at, eqb-true}
+use Rattle.std.proofs.lemmas.Bool.{agree_below_at, cases_lt, eqb-true}
 use Rattle.std.proofs.lemmas.Nat.{and_mask}
 use Rattle.data_url.specs.declared.escapes.lanes.TheConstants.{MARKED}
 use Rattle.std.specs.List.{prefix_len}
@@ -72,23 +72,19 @@ marks_of_rest rest new zeros r k e z l h =
     let tail : drop k zeros ≡ replicate (64 - k) 0 = ap (drop k) z ∙ drop-replicate k 64 0 in
     cc (marks_padded rest (64 - k))
 
--- the block of a text at a place: a whole one, or the rest of the text
-pub block_whole : (text bytes : List ℕ) (place : ℕ) → bytes ≡ text
-    → 64 ≤ length (take (length bytes - place) (drop place bytes))
-    → chunk 0 64 (take (64 - 0) (drop 0 (take (length bytes - place) (drop place bytes)))) ≡ slice_range text place
-    (min (place + 64) (length text))
-block_whole text bytes place e long =
+-- the marks of the first 64 bytes from an index on, or of fewer, are those of the block there
+pub block_at : (text bytes : List ℕ) (place seen marks : ℕ) → bytes ≡ text → place ≤ length text
+    → seen ≡ min (place + 64) (length text)
+    → marks ≡ mask_l (map is_marked (take 64 (take (length bytes - place) (drop place bytes))))
+    → IsBlock text place seen marks
+block_at text bytes place seen marks e l s m =
+    let n = length-drop place text in
     let all : take (length bytes - place) (drop place bytes) ≡ drop place text = cc (take_rest bytes place) in
-    let n = ap length all in
-    let d = length-drop place text in
-    let k : 64 ≡ min (place + 64) (length text) - place = omega arith in
-    cc (take-take 64 64 (drop place text) (omega arith))
-
--- if fewer than 64 bytes are left, the block is these bytes
-pub block_part : (text bytes : List ℕ) (place : ℕ) → bytes ≡ text
-    → length (take (length bytes - place) (drop place bytes)) < 64 → place ≤ length text
-    → take (length bytes - place) (drop place bytes) ≡ slice_range text place (min (place + 64) (length text))
-block_part text bytes place e short within = grind (arith, take_rest, length-drop)
+    let same : take 64 (drop place text) ≡ slice_range text place seen = elim (cases_lt 64 (length text - place)) [
+      | inl h ↦ let k : 64 ≡ seen - place = omega arith in ap (λ i. take i (drop place text)) k
+      | inr h ↦ take_all 64 (drop place text) (omega arith) ∙ sym (take_all (seen - place) (drop place text) (omega arith))
+    ] in
+    record { base_le = omega arith; seen_le = omega arith; short = omega arith; marks_are = cc }
 
 -- a shifted mask is the mask of the rest of the list
 mask_half : (b : Bool) (bs : List Bool) → mask_l (b ∷ bs) / 2 ≡ mask_l bs
@@ -221,6 +217,12 @@ mask_none p (x ∷ xs) h = mask_cases p x xs (p x) refl h (λ k. mask_none p xs 
 pub block_from : {s : Source} {b : Block} {place marks : ℕ} → Looking s b place 0 → place ≤ b.seen
     → marks ≡ b.marks / 2 ^ (place - b.base) → IsBlock s.text.now place b.seen marks
 block_from {s} {b} {place} {marks} k l e = grind (arith, mask_later, drop-map, drop_taken, drop-drop)
+
+-- when the block at an index is read, the walk can go on there
+pub looking_block : {s s' : Source} {b b' : Block} {place : ℕ} → Looking s b place 0 → b.seen ≤ place
+    → s'.text.now ≡ s.text.now → b'.base ≡ place → IsBlock s.text.now place b'.seen b'.marks
+    → s'.looks + place ≡ s.looks + b'.seen → Looking s' b' place 0
+looking_block {s} {s'} {b} {b'} {place} k l t e i n = grind arith
 
 -- if the marks of a block are not 0, their number of trailing zeros is that of the bytes before the next mark
 pub found : {text : List ℕ} {place seen marks : ℕ} (width : ℕ) → IsBlock text place seen marks → marks ≢ 0

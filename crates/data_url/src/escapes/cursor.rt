@@ -1,7 +1,7 @@
 //! The walk over the text of a body.
 
 ghost use Rattle.std.specs.Prelude.{ℕ, [], ◌≡◌, ◌+◌, ◌<◌, ◌≤◌, IsTrue, drop, length, slice_index, true};
-ghost use Rattle.data_url.specs.Pieces.{is_slice_end, text_of, walk_of};
+ghost use Rattle.data_url.specs.Pieces.{is_slice_end, text_of, walk_at_front, walk_of};
 ghost use Rattle.data_url.specs.Steps.Chunks.{GivesBytes};
 ghost use Rattle.data_url.specs.Steps.Walk.{Gathering, Gathers, GoesOn, HasRoom, IsGathered, IsNear, IsPart, IsWide, Knows, KnowsAhead, Looking, LooksOn, MayGather, Moves, Searching, Spells};
 ghost use Rattle.data_url.specs.Steps.Window.{is_marked};
@@ -45,10 +45,7 @@ pub(super) struct Cursor<'a> {
 impl<'a> Cursor<'a> {
     /// A walk that begins at the front of a text.
     pub(super) fn new(text: &'a str) -> Self
-        ensures text { text_of result ≡ text.entry.now }
-        ensures place { result.place ≡ 0 }
-        ensures looks { result.source.looks ≡ 0 }
-        ensures unknown { result.ahead ≡ Ahead.Unknown }
+        ensures walk { walk_of result ≡ walk_at_front text.entry.now }
         ensures knows { Knows result }
     {
         Cursor {
@@ -224,7 +221,7 @@ impl<'a> Cursor<'a> {
             return false;
         }
         if place >= self.block.seen {
-            self.block.look_on(&mut self.source, place);
+            self.block = self.source.look_block(place);
         }
         len > 0 || self.block.marks != 0
     }

@@ -4,12 +4,14 @@ ghost use Rattle.std.specs.Prelude.{◌≡◌, IsTrue, [], ◌+◌, ◌-◌, ◌
 ghost use Rattle.std.specs.Simd.Lanes.{mask_l};
 ghost use Rattle.std.specs.Option.{option_map};
 ghost use Rattle.data_url.specs.Steps.Tail.{IsBodyEnd};
+ghost use Rattle.data_url.specs.Steps.Walk.{IsBlock};
 ghost use Rattle.data_url.specs.Steps.Window.{is_marked};
 ghost use Rattle.data_url.specs.Url.{after, number_sign};
 
 use super::cursor::ROOM;
 use super::lanes::{BLOCK, marks_of};
 use super::looks::Looks;
+use super::stops::Block;
 use std::simd::prelude::*;
 
 /// A text with a count of the bytes examined.
@@ -53,22 +55,23 @@ impl<'a> Source<'a> {
         self.text.as_bytes()[place]
     }
 
-    /// Returns the marks of the block of at most 64 bytes that begins at a place. Each of its bytes counts as a look.
+    /// Reads the block of at most 64 bytes at a place. Each of its bytes counts as a look.
     #[inline(always)]
-    pub(super) fn look_block(&mut self, place: usize) -> u64
+    pub(super) fn look_block(&mut self, place: usize) -> Block
         requires { place ≤ length self.old.text.now }
-        ensures marks { let end = min (place + 64) (length self.old.text.now) in
-            result ≡ mask_l (map is_marked (slice_range self.old.text.now place end)) }
+        ensures base { result.base ≡ place }
+        ensures seen { result.seen ≡ min (place + 64) (length self.old.text.now) }
+        ensures block { IsBlock self.old.text.now place result.seen result.marks }
         ensures text { self.new.text.now ≡ self.old.text.now }
-        ensures looks { let end = min (place + 64) (length self.old.text.now) in
-            self.new.looks ≡ self.old.looks + (end - place) }
+        ensures looks { self.new.looks + place ≡ self.old.looks + result.seen }
     {
         let rest = &self.text.as_bytes()[place..];
-        self.looks.count(rest.len().min(BLOCK));
-        if rest.len() < BLOCK {
-            last_marks(rest)
-        } else {
-            marks_of(u8x64::from_slice(&rest[..BLOCK]))
+        let len = rest.len().min(BLOCK);
+        self.looks.count(len);
+        Block {
+            base: place,
+            seen: place + len,
+            marks: first_marks(rest),
         }
     }
 
@@ -129,6 +132,18 @@ pub(crate) fn fragment_at(text: &str, place: usize) -> Option<&str>
         return None;
     }
     Some(&text[place + 1..])
+}
+
+/// Returns the marks of the first 64 bytes, or of fewer.
+#[inline(always)]
+fn first_marks(rest: &[u8]) -> u64
+    ensures { result ≡ mask_l (map is_marked (take 64 rest.now)) }
+{
+    if rest.len() < BLOCK {
+        last_marks(rest)
+    } else {
+        marks_of(u8x64::from_slice(&rest[..BLOCK]))
+    }
 }
 
 /// Returns the marks of fewer than 64 bytes.

@@ -4,7 +4,6 @@ ghost use Rattle.std.specs.Prelude.{◌≡◌, ◌+◌, ◌^◌, ◌<◌, ◌≤
 ghost use Rattle.data_url.specs.Steps.Walk.{IsClear, IsNextMark, IsStop, Looking, LooksOn};
 ghost use Rattle.data_url.specs.Steps.Window.{is_marked};
 
-use super::lanes::BLOCK;
 use super::source::Source;
 
 /// The block of a text that was read last, from `base` up to `seen`, with a bit for each marked byte.
@@ -28,21 +27,6 @@ pub(super) enum Stop {
 }
 
 impl Block {
-    /// Reads the block at a place.
-    #[inline(always)]
-    pub(super) fn look_on(&mut self, source: &mut Source<'_>, place: usize)
-        requires within { place < length source.old.text.now }
-        requires unseen { self.old.seen ≤ place }
-        requires looking { Looking source.old self.old place 0 }
-        ensures looking { Looking source.new self.new place 0 }
-        ensures on { LooksOn source.old source.new }
-        ensures seen { place < self.new.seen }
-    {
-        self.marks = source.look_block(place);
-        self.base = place;
-        self.seen = place + (source.len() - place).min(BLOCK);
-    }
-
     /// The place of the first marked byte of the block from a place on.
     #[inline(always)]
     pub(super) fn mark_from(&self, source: &Source<'_>, place: usize) -> Option<usize>
@@ -75,7 +59,7 @@ impl Block {
             place = self.seen;
         }
         while place < source.len() {
-            self.look_on(source, place);
+            *self = source.look_block(place);
             if let Some(mark) = self.mark_from(source, place) {
                 return mark;
             }
