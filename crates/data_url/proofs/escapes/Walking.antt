@@ -27,6 +27,7 @@ use Rattle.data_url.specs.declared.escapes.cursor.Ahead.TheVariants.{AfterEscape
 use Rattle.data_url.specs.declared.escapes.cursor.Cursor.{Cursor}
 use Rattle.data_url.specs.declared.escapes.source.Source.{Source}
 use Rattle.data_url.specs.declared.escapes.stops.Block.{Block}
+use Rattle.data_url.proofs.runs.Runs.{none_or_some}
 use lib.Lanes.{mask_l}
 
 -- Ranges of a text
@@ -44,11 +45,6 @@ slice_join text a b c l h = grind (arith, drop-drop (b - a) a text, take-add (b 
 slice_one : (text : List ℕ) (place : ℕ) → place < length text
     → slice_range text place (place + 1) ≡ get_or text place 0 ∷ []
 slice_one text place l = grind (arith, drop_more)
-
--- an option is `None`, or `Some` of a value
-none_or_some : {A : Type 0} (o : Option A) → (o ≡ None) ⊎ ((x : A) × (o ≡ Some x))
-none_or_some None = inl refl
-none_or_some (Some x) = inr (x, refl)
 
 -- if the same text follows the first '#' of x ++ y and of y, there is no '#' in x
 none_before : (x y : List ℕ) → after 35 (x ++ y) ≡ after 35 y → after 35 x ≡ None
