@@ -328,50 +328,7 @@ pub no_suffix : (header : List ℕ) (m : Record) → before_base64 (stripped_hea
 unfolding mime_text media_of has_base64_suffix
 no_suffix header m e h = grind arith
 
--- the text before the suffix is a prefix of the header, so it is printable too
-word_begins : (s m : List ℕ) → before_word s ≡ Some m → IsPrintable s → IsPrintable m
-word_begins s m e h = grind (arith, printable_take)
-
--- the text before the final ';' of a printable text is printable
-semicolon_begins : (s m : List ℕ) → before_semicolon s ≡ Some m → IsPrintable s → IsPrintable m
-semicolon_begins s m e h = grind (arith, printable_take)
-
--- a printable text without the spaces at its end is printable
-printable_end : (s : List ℕ) → IsPrintable s → IsPrintable (without_end is_space s)
-printable_end s h = printable_take (length s - suffix_len is_space s) s h
-
--- the text before the base64 suffix of a printable text is printable
-pub printable_media : (s m : List ℕ) → IsPrintable s → before_base64 s ≡ Some m → IsPrintable m
-unfolding before_base64
-printable_media s m h e = at (before_word s) refl e where
-  at : (o : Option (List ℕ)) → before_word s ≡ o → option_and_then (λ x. before_semicolon (without_end is_space x)) o
-      ≡ Some m → IsPrintable m
-  at None f k = absurd (cc)
-  at (Some x) f k = semicolon_begins (without_end is_space x) m k (printable_end x (word_begins s x f h))
-
 -- The head of a MIME type whose type is missing: that of "text/plain" with the parameters after it.
-
--- "text" and "plain" are words
-
--- the word "text" has only HTTP token code points
-token_text : IsTrue (is_token_text (codes "text"))
-unfolding on_literals
-token_text = refl
-
--- the word "plain" has only HTTP token code points
-token_plain : IsTrue (is_token_text (codes "plain"))
-unfolding on_literals
-token_plain = refl
-
--- the code points of "text" are its bytes
-chars_text : codes "text" ≡ chars (codes "text")
-unfolding chars
-chars_text = refl
-
--- the code points of "plain" are its bytes
-chars_subtype : codes "plain" ≡ chars (codes "plain")
-unfolding chars
-chars_subtype = refl
 
 -- The head
 
@@ -385,10 +342,12 @@ ends_after : (p : ℕ → _) (c : ℕ) (t : List ℕ) → p c ≡ false → Does
 ends_after p c [] n h = n
 ends_after p c (d ∷ t) n h = h
 
--- the head of "text/plain" and s has type "text", subtype "plain", and the parameters s without whitespace at its end
-head_of : (s t : List ℕ) → BeginsParameters s → IsTrimmedEnd is_http_whitespace s t
-    → IsHead (codes "text/plain" ++ s) (codes "text") (codes "plain") t
-head_of s t b e = record {
+-- if s is empty or begins with ';', "text/plain" ++ s has the type "text", the subtype "plain" and, as the text of its
+-- parameters, s without HTTP whitespace at its end
+pub plain_head_is : (s t : List ℕ) → BeginsParameters s → IsTrimmedEnd is_http_whitespace s t
+    → IsHead (codes "text/plain" ++ s) (chars (codes "text")) (chars (codes "plain")) t
+unfolding on_literals chars
+plain_head_is s t b e = record {
   gap = [];
   joined = sym (trimmed_end_is is_http_whitespace (codes "text/plain" ++ s) (codes "text/plain" ++ t) (record {
     back = e.back;
@@ -396,17 +355,11 @@ head_of s t b e = record {
     at_back = e.at_back;
     ends = ends_after is_http_whitespace 110 t refl e.ends;
   }));
-  is_type = token_text;
-  is_subtype = token_plain;
+  is_type = refl;
+  is_subtype = refl;
   in_gap = tt;
   begins = front_begins t e.back (subst BeginsParameters e.joined b);
 }
-
--- if s is empty or begins with ';', "text/plain" ++ s has the type "text", the subtype "plain" and, as the text of its
--- parameters, s without HTTP whitespace at its end
-pub plain_head_is : (s t : List ℕ) → BeginsParameters s → IsTrimmedEnd is_http_whitespace s t
-    → IsHead (codes "text/plain" ++ s) (chars (codes "text")) (chars (codes "plain")) t
-plain_head_is s t b e = grind (arith, chars_text, chars_subtype, head_of)
 
 -- A type that is missing
 
