@@ -13,10 +13,12 @@ mod digits;
 mod lanes;
 mod looks;
 mod source;
+mod stops;
 
-use cursor::Cursor;
 pub(crate) use cursor::ROOM;
+use cursor::{Ahead, Cursor};
 use lanes::BLOCK;
+pub(crate) use source::fragment_at;
 use source::last_marks;
 use std::marker::Model;
 use std::mem::replace;
@@ -89,7 +91,7 @@ impl<'a> Pieces<'a> {
         requires { IsTrue self.now.ended }
         ensures { option_map (λ fragment. fragment.now) result ≡ after number_sign self.now.text }
     {
-        self.cursor.fragment()
+        self.cursor.source.fragment(self.cursor.place)
     }
 
     /// Returns the next bytes, or None if the body has ended: a long stretch of the text as it is, or shorter ones and
@@ -110,7 +112,7 @@ impl<'a> Pieces<'a> {
         ensures ended { result ≡ self.now.ended }
         ensures over { IsTrue result → self.now.rest ≡ [] }
     {
-        self.cursor.has_ended()
+        matches!(self.cursor.ahead, Ahead::End)
     }
 
     /// Returns the place in the text where the body ends, of a walk that has ended.
@@ -118,7 +120,7 @@ impl<'a> Pieces<'a> {
         requires { IsTrue self.now.ended }
         ensures { IsBodyEnd self.now.text result }
     {
-        self.cursor.place()
+        self.cursor.place
     }
 }
 

@@ -1,6 +1,6 @@
 //! The header of a data: URL (Fetch Standard, section 6), from its text in the input.
 
-ghost use Rattle.std.specs.Prelude.{◌≡◌, IfOk, List, string_bytes, true, ℕ};
+ghost use Rattle.std.specs.Prelude.{◌≡◌, IfOk, IfSome, List, string_bytes, true, ℕ};
 ghost use Rattle.std.specs.List.{prefix_len, suffix_len};
 ghost use Rattle.data_url.specs.Url.{without_tabs_and_newlines, is_tab_or_newline};
 ghost use Rattle.data_url.specs.Fetch.{before_base64, with_plain};
@@ -73,7 +73,8 @@ fn serialised(alloc: Global, header: &[u8]) -> Result<String, AllocError>
 /// otherwise.
 fn without_suffix(header: &str) -> Option<&str>
     requires { IsPrintable header.now }
-    ensures { as_option result ≡ before_base64 header.now }
+    ensures text { as_option result ≡ before_base64 header.now }
+    ensures printable { IfSome result (λ text. IsPrintable text.now) }
 {
     let bytes = header.as_bytes();
     let word = bytes.len().checked_sub(SUFFIX.len())?;

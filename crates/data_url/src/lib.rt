@@ -23,6 +23,7 @@ mod percent;
 
 use ascii::trim;
 use body::decode_body;
+use escapes::fragment_at;
 use forgiving_base64::{DecodeError, DecodeToVecError, room_for};
 pub use fragment::FragmentIdentifier;
 use front::{after_scheme, split_at_comma};
@@ -114,11 +115,7 @@ impl<'a> DataUrl<'a> {
         requires { IsBodyEnd (url_tail self.now) place }
         ensures { IsFragmentOf (url_tail self.now) result }
     {
-        let bytes = self.tail.as_bytes();
-        if place == bytes.len() {
-            return None;
-        }
-        Some(FragmentIdentifier::new(&self.tail[place + 1..]))
+        Some(FragmentIdentifier::new(fragment_at(self.tail, place)?))
     }
 
     /// Calls a closure with the body's bytes, piece by piece. Returns the fragment

@@ -16,7 +16,7 @@ use Rattle.data_url.specs.Steps.Chunks.{IsOneSlice, GivesBytes, IsCallableUntilE
 use Rattle.data_url.specs.Steps.Tail.{IsBodyEnd}
 use Rattle.data_url.specs.DataUrl.{Decodes, HandsOut, IsUrlOf, url_body, url_tail}
 use Rattle.data_url.specs.declared.forgiving_base64.DecodeError.TheVariants.{WriteError, InvalidBase64}
-use Rattle.data_url.proofs.runs.Runs.{joined_pieces-append, match_at, refusal-append, run-append, prefix_after}
+use Rattle.data_url.proofs.runs.Runs.{joined_pieces-append, match_at, match_at_none, refusal-append, run-append, prefix_after}
 use Rattle.std.specs.Char.{digit_value}
 use Rattle.data_url.specs.Base64.{decoded, complete_bytes, kind_of, after_groups, before_place, groups, is_symbol}
 use Rattle.data_url.specs.Base64.{rest_bytes, symbol_value, values}
@@ -41,81 +41,72 @@ takes_next {w} {w'} h e = let P : Option (Bor (List ℕ)) → Type 0 = λ o. Giv
 
 -- The runs
 
+-- an option, or else `None`, is the option
+or_none : {A : Type 0} (o : Option A) → option_or o None ≡ o
+or_none None = refl
+or_none (Some x) = refl
+
 module _ {F E : Type 0} (step : F → List ℕ → Result (Unit {0}) E → F → Type 0) where
-  -- the closure was called with the body up to the place of the walk
-  pub record Going (f : F) (text : List ℕ) (w : Walk) (g : F) : Type 0 where
+  -- the closure was called with the body up to the place of the walk, and its last call returned this
+  pub record Going (f : F) (text : List ℕ) (w : Walk) (answer : Result (Unit {0}) E) (g : F) : Type 0 where
     pub run : List (Call F E)
     pub ran : IsRun step f run g
-    pub accepted : refusal run ≡ None
+    pub answered : refusal run ≡ result_err answer
     pub text_is : w.text ≡ text
     pub place : w.place ≤ length text
     pub calls : length run ≤ w.place
     pub body : plain_body text ≡ joined_pieces run ++ w.rest
 
-  -- if the walk takes bytes, and the closure accepts them, the run with that call is `Going` for the walk after it
-  pub going_more : {f g h : F} {text bytes : List ℕ} {w w' : Walk} → Going f text w g → Takes w bytes w'
-      → step g bytes (Ok tt) h → Going f text w' h
-  going_more {f} {g} {h} {text} {bytes} {w} {w'} k t s =
-      let call : List (Call F E) = record { piece = bytes; answer = Ok tt; after = h } ∷ [] in
-      let longer : length (k.run ++ call) ≡ length k.run + 1 = length-append k.run call ∙ omega arith in
-      let calls = k.calls in
-      let some = t.some in
-      let place = t.place in
+  -- if the walk takes bytes, and the closure is called with them, the run with that call is that of the walk after it
+  pub going_more : {f g h : F} {text bytes : List ℕ} {w w' : Walk} (answer : Result (Unit {0}) E)
+      → Going f text w (Ok tt) g → Takes w bytes w' → step g bytes answer h → Going f text w' answer h
+  going_more {f} {g} {h} {text} {bytes} {w} {w'} answer k t s =
+      let call : List (Call F E) = record { piece = bytes; answer = answer; after = h } ∷ [] in
+      let longer = length-append k.run call in
       let same : w'.text ≡ text = t.text_stays ∙ k.text_is in
       let size = ap length same in
-      let within = t.within in
       record {
         run = k.run ++ call;
-        ran = run-append step k.run call f g h k.ran k.accepted (s, λ e. refl, refl);
-        accepted = refusal-append k.run call k.accepted;
+        ran = run-append step k.run call f g h k.ran k.answered (s, λ e. refl, refl);
+        answered = refusal-append k.run call k.answered ∙ or_none (result_err answer);
         text_is = same;
-        place = omega arith;
-        calls = omega arith;
+        place = grind arith;
+        calls = grind arith;
         body = cc (append_assoc (joined_pieces k.run) bytes w'.rest, append-nil bytes, joined_pieces-append k.run call);
       }
 
-  -- a closure that was called with a body of one slice took it
-  pub slice_taken : {f g : F} {text : List ℕ} (s : Result (Unit {0}) E) {r : Result ℕ E} → IsOneSlice text
-      → step f text s g → MatchResult s (λ u. r ≡ Ok (length text)) (λ e. r ≡ Err e) → TakesBody step f text r g
-  slice_taken {f} {g} {text} (Ok tt) {r} one s m =
-      let T : Result ℕ E → Type 0 = λ x. TakesBody step f text x g in
-      subst T (sym m) (record {
-        run = record { piece = text; answer = Ok tt; after = g } ∷ [];
-        ran = (s, λ e. refl, refl);
-        calls = one.some;
-        gave = (one.ends, refl, one.body_is ∙ sym (append-nil text));
-      })
-  slice_taken {f} {g} {text} (Err e) {r} one s m =
-      let T : Result ℕ E → Type 0 = λ x. TakesBody step f text x g in
-      subst T (sym m) (record {
-        run = record { piece = text; answer = Err e; after = g } ∷ [];
-        ran = (s, λ e. refl, refl);
-        calls = one.some;
-        gave = (refl, ([], one.body_is ∙ sym (ap (λ l. l ++ []) (append-nil text) ∙ append-nil text)));
-      })
-
-  -- if the walk takes bytes, and the closure returns an error for them, the closure took the body, with that error
-  pub going_refused : {f g h : F} {text bytes : List ℕ} {w w' : Walk} (e : E) → Going f text w g → Takes w bytes w'
-      → step g bytes (Err e) h → TakesBody step f text (Err e) h
-  going_refused {f} {g} {h} {text} {bytes} {w} {w'} e k t s =
-      let call : List (Call F E) = record { piece = bytes; answer = Err e; after = h } ∷ [] in
-      let longer : length (k.run ++ call) ≡ length k.run + 1 = length-append k.run call ∙ omega arith in
-      let calls = k.calls in
-      let some = t.some in
-      let place = t.place in
-      let size = ap length (t.text_stays ∙ k.text_is) in
-      let within = t.within in
-      let last : refusal (k.run ++ call) ≡ Some e = refusal-append k.run call k.accepted in
-      let all : joined_pieces (k.run ++ call) ≡ joined_pieces k.run ++ bytes = cc (
-        joined_pieces-append k.run call,
-        append-nil bytes,
-      ) in
+  -- a closure that was called with a body of one slice was called with the whole body
+  pub slice_going : {f g : F} {text items : List ℕ} (answer : Result (Unit {0}) E) → IsOneSlice text → items ≡ text
+      → step f items answer g → Going f text (record { text = text; place = length text; rest = []; ended = true; looks = 0 }) answer g
+  slice_going {f} {g} {text} {items} answer one same s =
+      let start : Going f text (record { text = text; place = 0; rest = text; ended = true; looks = 0 }) (Ok tt) f =
       record {
-        run = k.run ++ call;
-        ran = run-append step k.run call f g h k.ran k.accepted (s, λ e. refl, refl);
+        run = [];
+        ran = refl;
+        answered = refl;
+        text_is = refl;
+        place = omega arith;
         calls = omega arith;
-        gave = (last, (w'.rest, cc (append_assoc (joined_pieces k.run) bytes w'.rest)));
-      }
+        body = one.body_is;
+      } in
+      going_more answer start (record {
+        text_stays = refl;
+        rest_is = sym (append-nil text);
+        place = omega arith;
+        within = omega arith;
+        some = one.some;
+      }) (subst (λ l. step f l answer g) same s)
+
+  -- if the closure returned an error, it took the body up to that error
+  pub took_refused : {f g : F} {text : List ℕ} {w : Walk} {e : E} → Going f text w (Err e) g
+      → TakesBody step f text (Err e) g
+  took_refused {f} {g} {text} {w} {e} k =
+      record { run = k.run; ran = k.ran; calls = grind arith; gave = (k.answered, (w.rest, k.body)) }
+
+  -- if the walk is at the end of the body, the closure took the whole body
+  pub took_whole : {f g : F} {text : List ℕ} {w : Walk} {place : ℕ} → Going f text w (Ok tt) g → IsBodyEnd text place
+      → w.rest ≡ [] → TakesBody step f text (Ok place) g
+  took_whole {f} {g} {text} {w} {place} k ends nothing = grind (arith, append-nil)
 
 -- A body is not longer than its tail
 
@@ -163,25 +154,6 @@ mapped place (Ok x) q m = sym m
 mapped place (Err e) q m = sym m
 
 module _ {F E : Type 0} (step : F → List ℕ → Result (Unit {0}) E → F → Type 0) where
-  -- a valid text that was decoded as a whole, or refused by the closure, gives a good body with all its bytes
-  gives_valid : (u bytes : List ℕ) (place : ℕ) (good : ℕ → Type 0) (r : Result (Unit {0}) (DecodeError E))
-      (o : Option E) → (r ≡ Ok tt → good place)
-      → MatchOption o ((bytes ≡ decoded u) × (r ≡ Ok tt)) (λ e. IsRefused (decoded u) bytes e r)
-      → MatchOption o (HandsOut (Good (decoded u)) good bytes (at_place place r))
-      (λ e. IsRefused (outcome_bytes (Good (decoded u))) bytes e (at_place place r))
-  gives_valid u bytes place good r None g h = grind arith
-  gives_valid u bytes place good r (Some e) g h = grind arith
-
-  -- a text that is not valid gives a bad body with the bytes of its complete groups and the kind of its fault
-  gives_invalid : (u bytes : List ℕ) (place : ℕ) (good : ℕ → Type 0) (r : Result (Unit {0}) (DecodeError E))
-      (o : Option E)
-      → MatchOption o ((bytes ≡ complete_bytes u) × (r ≡ Err (InvalidBase64 (kind_of u))))
-      (λ e. IsRefused (complete_bytes u) bytes e r)
-      → MatchOption o (HandsOut (Bad (complete_bytes u) (kind_of u)) good bytes (at_place place r))
-      (λ e. IsRefused (outcome_bytes (Bad (complete_bytes u) (kind_of u))) bytes e (at_place place r))
-  gives_invalid u bytes place good r None h = grind arith
-  gives_invalid u bytes place good r (Some e) h = grind arith
-
   -- a text that was decoded as a whole, or refused by the closure, gives a good body if it is valid, or a bad one
   gives : (u bytes : List ℕ) (place : ℕ) (good : ℕ → Type 0) (r : Result (Unit {0}) (DecodeError E)) (o : Option E)
       (v : Bool) → (r ≡ Ok tt → good place)
@@ -190,8 +162,10 @@ module _ {F E : Type 0} (step : F → List ℕ → Result (Unit {0}) E → F →
       → MatchOption o (HandsOut (cond v (Good (decoded u)) (Bad (complete_bytes u) (kind_of u))) good bytes
       (at_place place r)) (λ e. IsRefused
       (outcome_bytes (cond v (Good (decoded u)) (Bad (complete_bytes u) (kind_of u)))) bytes e (at_place place r))
-  gives u bytes place good r o true g h = gives_valid u bytes place good r o g h
-  gives u bytes place good r o false g h = gives_invalid u bytes place good r o h
+  gives u bytes place good r None true g h = grind arith
+  gives u bytes place good r None false g h = grind arith
+  gives u bytes place good r (Some e) true g h = grind arith
+  gives u bytes place good r (Some e) false g h = grind arith
 
   -- decoding the whole text u decodes a body whose outcome is that of u as base64; the result is the same, with the
   -- place in it if it is `Ok`
@@ -206,72 +180,6 @@ module _ {F E : Type 0} (step : F → List ℕ → Result (Unit {0}) E → F →
       → DecodesText step f u r g → (r ≡ Ok tt → IsBodyEnd text place)
       → Decodes step f (length text + 1) (outcome true (plain_body text)) (IsBodyEnd text) (at_place place r) g
   outcome_of {f} {g} {text} {u} place r e d b = grind (arith, body_shorter, decodes_outcome)
-
--- A body that was decoded with a closure that appends its bytes.
-
--- the body is good, and these are its bytes
-record WasGood {A : Type 0} (body : Outcome) (good : A → Type 0) (bytes : List ℕ) (x : A) : Type 0 where
-  pub body_is : body ≡ Good bytes
-  pub answer : good x
-
--- if the result of a body that was handed out is `Ok x`, the body is good, and `good` is true of x
-good_answer : {E A : Type 0} (body : Outcome) (good : A → Type 0) (bytes : List ℕ) (r : Result A (DecodeError E))
-    (x : A) → r ≡ Ok x → HandsOut body good bytes r → WasGood body good bytes x
-good_answer (Good all) good bytes (Ok y) x q h = grind arith
-good_answer (Good all) good bytes (Err e) x q h = absurd h.answer
-good_answer (Bad all kind) good bytes r x q h = absurd (let k = h.answer in cc)
-
--- if the result is Ok, no call of the run returned an error
-ok_given : {E A : Type 0} (o : Option E) (body : Outcome) (good : A → Type 0) (bytes : List ℕ)
-    (r : Result A (DecodeError E)) (x : A) → r ≡ Ok x
-    → MatchOption o (HandsOut body good bytes r) (λ e. IsRefused (outcome_bytes body) bytes e r)
-    → (o ≡ None) × WasGood body good bytes x
-ok_given None body good bytes r x q h = (refl, good_answer body good bytes r x q h)
-ok_given (Some e) body good bytes r x q h = absurd (let k = h.answer in cc)
-
--- if the result of a body that was handed out is that base64 is not valid, the body is bad, with this kind of fault
-bad_answer : {E A : Type 0} (body : Outcome) (good : A → Type 0) (bytes : List ℕ) (r : Result A (DecodeError E))
-    (kind : _) → r ≡ Err (InvalidBase64 kind) → HandsOut body good bytes r → (all : List ℕ) × (body ≡ Bad all kind)
-bad_answer (Good all) good bytes (Ok y) kind q h = absurd (let k = q in cc)
-bad_answer (Good all) good bytes (Err e) kind q h = absurd h.answer
-bad_answer (Bad all kind') good bytes r kind q h =
-    let k = h.answer in let e : kind' ≡ kind = cc in
-    (all, ap (λ x. Bad all x) e)
-
--- if the result of a run is that base64 is not valid, the body is bad, with this kind of fault
-bad_given : {E A : Type 0} (o : Option E) (body : Outcome) (good : A → Type 0) (bytes : List ℕ)
-    (r : Result A (DecodeError E)) (kind : _) → r ≡ Err (InvalidBase64 kind)
-    → MatchOption o (HandsOut body good bytes r) (λ e. IsRefused (outcome_bytes body) bytes e r)
-    → (all : List ℕ) × (body ≡ Bad all kind)
-bad_given None body good bytes r kind q h = bad_answer body good bytes r kind q h
-bad_given (Some e) body good bytes r kind q h = absurd (let k = h.answer in cc)
-
-module _ {F E A : Type 0} {step : F → List ℕ → Result (Unit {0}) E → F → Type 0} {f f' : F} {most : ℕ} {body : Outcome}
-    {good : A → Type 0} {r : Result A (DecodeError E)} where
-  -- if decoding returns `Ok`, and J is a measure that each call without an error extends by its piece, the body is
-  -- good, and J is extended by its bytes
-  pub body_reads : {x : A} → Decodes step f most body good r f' → r ≡ Ok x → (J : F → List ℕ)
-      → ((g : F) (piece : List ℕ) (g' : F) → step g piece (Ok tt) g' → J g' ≡ J g ++ piece)
-      → (all : List ℕ) × (body ≡ Good all) × (J f' ≡ J f ++ all)
-  body_reads {x} h q J keeps = grind (arith, run_reads)
-
-  -- if decoding returns `Ok x`, `good` is true of x
-  pub body_answer : {x : A} → Decodes step f most body good r f' → r ≡ Ok x → good x
-  body_answer {x} h q = (ok_given (refusal h.run) body good (joined_pieces h.run) r x q h.gave).1.answer
-
-  -- if decoding returns that base64 is not valid, the body is bad, with this kind of fault
-  pub body_fault : {kind : _} → Decodes step f most body good r f' → r ≡ Err (InvalidBase64 kind)
-      → (all : List ℕ) × (body ≡ Bad all kind)
-  body_fault {kind} h q = bad_given (refusal h.run) body good (joined_pieces h.run) r kind q h.gave
-
-  -- what no call of the closure changes in its state is the same after decoding
-  pub body_keeps : {B : Type 0} → Decodes step f most body good r f' → (K : F → B)
-      → ((g : F) (piece : List ℕ) (s : Result (Unit {0}) E) (g' : F) → step g piece s g' → K g ≡ K g') → K f ≡ K f'
-  body_keeps h K keeps = run_keeps step K keeps h.run f f' h.ran
-
-  -- if the result is Ok, the body is good
-  pub body_good : {x : A} → Decodes step f most body good r f' → r ≡ Ok x → (all : List ℕ) × (body ≡ Good all)
-  body_good {x} h q = grind arith
 
 -- What is true of a closure's state after a run, from what each of its calls does to that state.
 
@@ -312,19 +220,21 @@ pub run_ends : {F E : Type 0} (step : F → List ℕ → Result (Unit {0}) E →
 run_ends step cs f g ran kept stopped accepts refuses start =
     run_ends_from step kept stopped accepts refuses cs [] f g start ran
 
--- for a run without an error, a match on its error implies the case of `None`
-accepted_at : {F E : Type 0} (cs : List (Call F E)) (P : Type 0) (Q : E → Type 0) → refusal cs ≡ None
-    → MatchOption (refusal cs) P Q → P
-accepted_at {E = E} cs P Q n h = let M : Option E → Type 0 = λ o. MatchOption o P Q in subst M n h
+-- what each call that succeeds preserves, a property of the bytes so far and the state, is true after a run without an
+-- error
+run_kept : {F E : Type 0} (step : F → List ℕ → Result (Unit {0}) E → F → Type 0) (cs : List (Call F E)) (f g : F)
+    → IsRun step f cs g → refusal cs ≡ None → (kept : List ℕ → F → Type 0)
+    → ((bytes : List ℕ) (p : F) (piece : List ℕ) (q : F) → kept bytes p → step p piece (Ok tt) q
+    → kept (bytes ++ piece) q) → kept [] f → kept (joined_pieces cs) g
+run_kept step cs f g ran n kept accepts start =
+    match_at_none (refusal cs) _ _ n (run_ends step cs f g ran kept (λ bytes e p. Unit {0}) accepts
+    (λ bytes p piece e q k s. tt) start)
 
 -- what each call that succeeds preserves is true after a run without an error
 pub run_preserves : {F E : Type 0} (step : F → List ℕ → Result (Unit {0}) E → F → Type 0) (K : F → Type 0)
     → ((p : F) (piece : List ℕ) (q : F) → K p → step p piece (Ok tt) q → K q)
     → (cs : List (Call F E)) (f g : F) → IsRun step f cs g → refusal cs ≡ None → K f → K g
-run_preserves step K keeps cs f g ran n k =
-    accepted_at cs (K g) (λ e. Unit {0}) n
-    (run_ends step cs f g ran (λ bytes p. K p) (λ bytes e p. Unit {0}) (λ bytes p piece q. keeps p piece q)
-    (λ bytes p piece e q k s. tt) k)
+run_preserves step K keeps cs f g ran n k = run_kept step cs f g ran n (λ bytes. K) (λ bytes. keeps) k
 
 -- The closure that is called with a body
 
@@ -407,11 +317,7 @@ pub run_extends : {F E : Type 0} (step : F → List ℕ → Result (Unit {0}) E 
     → IsRun step f cs g → refusal cs ≡ None → (measure : F → List ℕ)
     → ((p : F) (piece : List ℕ) (q : F) → step p piece (Ok tt) q → measure q ≡ measure p ++ piece)
     → measure g ≡ measure f ++ joined_pieces cs
-run_extends step cs f g ran n measure extends =
-    accepted_at cs (measure g ≡ measure f ++ joined_pieces cs) (λ e. Unit {0}) n
-    (run_ends step cs f g ran (λ bytes p. measure p ≡ measure f ++ bytes) (λ bytes e p. Unit {0})
-    (λ bytes p piece q k s. extends p piece q s ∙ ap (λ x. x ++ piece) k ∙ append_assoc (measure f) bytes piece)
-    (λ bytes p piece e q k s. tt) (sym (append-nil (measure f))))
+run_extends step cs f g ran n measure extends = run_reads step measure extends cs f g ran n
 
 -- if each call that succeeds adds the length of its piece to a count, a run without an error adds the length of all its
 -- bytes
@@ -420,10 +326,8 @@ pub run_counts : {F E : Type 0} (step : F → List ℕ → Result (Unit {0}) E �
     → ((p : F) (piece : List ℕ) (q : F) → step p piece (Ok tt) q → count q ≡ count p + length piece)
     → count g ≡ count f + length (joined_pieces cs)
 run_counts step cs f g ran n count adds =
-    accepted_at cs (count g ≡ count f + length (joined_pieces cs)) (λ e. Unit {0}) n
-    (run_ends step cs f g ran (λ bytes p. count p ≡ count f + length bytes) (λ bytes e p. Unit {0})
-    (λ bytes p piece q k s. let h = adds p piece q s in omega (arith, h, k, length-append bytes piece))
-    (λ bytes p piece e q k s. tt) (omega arith))
+    run_kept step cs f g ran n (λ bytes p. count p ≡ count f + length bytes)
+    (λ bytes p piece q k s. omega (arith, adds p piece q s, k, length-append bytes piece)) (omega arith)
 
 -- if each call that succeeds adds the length of its piece to a count that stops at `most`, a run without an error adds
 -- the length of all its bytes, up to `most`
@@ -432,10 +336,8 @@ pub run_counts_up_to : {F E : Type 0} (step : F → List ℕ → Result (Unit {0
     → ((p : F) (piece : List ℕ) (q : F) → step p piece (Ok tt) q → count q ≡ min (count p + length piece) most)
     → count g ≡ min (count f + length (joined_pieces cs)) most
 run_counts_up_to step cs f g most ran n count few adds =
-    accepted_at cs (count g ≡ min (count f + length (joined_pieces cs)) most) (λ e. Unit {0}) n
-    (run_ends step cs f g ran (λ bytes p. count p ≡ min (count f + length bytes) most) (λ bytes e p. Unit {0})
-    (λ bytes p piece q k s. let h = adds p piece q s in omega (arith, h, k, length-append bytes piece))
-    (λ bytes p piece e q k s. tt) (omega arith))
+    run_kept step cs f g ran n (λ bytes p. count p ≡ min (count f + length bytes) most)
+    (λ bytes p piece q k s. omega (arith, adds p piece q s, k, length-append bytes piece)) (omega arith)
 
 -- Bodies
 
@@ -482,6 +384,43 @@ body_ends {step = step} {f = f} {g = g} {body = body} {good = good} {r = r} {s =
     start =
     ended_at kept stopped good g body s r (sym e) (ended_by kept stopped good g (refusal d.run) body
     (joined_pieces d.run) r d.gave (run_ends step d.run f g d.ran kept stopped accepts refuses start))
+
+module _ {F E A : Type 0} {step : F → List ℕ → Result (Unit {0}) E → F → Type 0} {f f' : F} {most : ℕ} {body : Outcome}
+    {good : A → Type 0} {r : Result A (DecodeError E)} where
+  -- if decoding returns `Ok`, and J is a measure that each call without an error extends by its piece, the body is
+  -- good, and J is extended by its bytes
+  pub body_reads : {x : A} → Decodes step f most body good r f' → r ≡ Ok x → (J : F → List ℕ)
+      → ((g : F) (piece : List ℕ) (g' : F) → step g piece (Ok tt) g' → J g' ≡ J g ++ piece)
+      → (all : List ℕ) × (body ≡ Good all) × (J f' ≡ J f ++ all)
+  body_reads h q J keeps =
+      let e = body_ends h q (λ bytes p. J p ≡ J f ++ bytes) (λ bytes e p. Unit {0})
+      (λ bytes p piece q k s. keeps p piece q s ∙ ap (λ x. x ++ piece) k ∙ append_assoc (J f) bytes piece)
+      (λ bytes p piece e q k s. tt) (sym (append-nil (J f))) in
+      (e.0, e.1, e.3)
+
+  -- the result says whether the body is good
+  body_told : {s : Result A (DecodeError E)} → Decodes step f most body good r f' → r ≡ s
+      → EndsWith (λ bytes p. Unit {0}) (λ bytes e p. Unit {0}) body good f' s
+  body_told h q = body_ends h q (λ bytes p. Unit {0}) (λ bytes e p. Unit {0}) (λ bytes p piece q k s. tt)
+      (λ bytes p piece e q k s. tt) tt
+
+  -- if decoding returns `Ok x`, `good` is true of x
+  pub body_answer : {x : A} → Decodes step f most body good r f' → r ≡ Ok x → good x
+  body_answer h q = (body_told h q).2
+
+  -- if decoding returns that base64 is not valid, the body is bad, with this kind of fault
+  pub body_fault : {kind : _} → Decodes step f most body good r f' → r ≡ Err (InvalidBase64 kind)
+      → (all : List ℕ) × (body ≡ Bad all kind)
+  body_fault h q = let e = body_told h q in (e.0, e.1)
+
+  -- what no call of the closure changes in its state is the same after decoding
+  pub body_keeps : {B : Type 0} → Decodes step f most body good r f' → (K : F → B)
+      → ((g : F) (piece : List ℕ) (s : Result (Unit {0}) E) (g' : F) → step g piece s g' → K g ≡ K g') → K f ≡ K f'
+  body_keeps h K keeps = run_keeps step K keeps h.run f f' h.ran
+
+  -- if the result is Ok, the body is good
+  pub body_good : {x : A} → Decodes step f most body good r f' → r ≡ Ok x → (all : List ℕ) × (body ≡ Good all)
+  body_good h q = let e = body_told h q in (e.0, e.1)
 
 -- if each call that succeeds extends a measure by its piece, and a call that fails extends it by a prefix of its piece,
 -- then decoding extends it by all the bytes, or by a prefix of them if a call fails

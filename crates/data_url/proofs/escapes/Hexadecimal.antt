@@ -1,220 +1,244 @@
--- Hexadecimal digits in a text, after tabs and newlines. For `escaped_byte`.
-use Rattle.std.proofs.Common.{◌≡◌, ℕ, ◌+◌, ◌*◌, ◌-◌, ◌<◌, ◌≤◌, Bool, true, false, not, cond, ◌&&◌, eqb, ltb, List, []}
-use Rattle.std.proofs.Common.{◌∷◌, length, drop, get_or, Option, None, Some, refl, sym, ap, ◌∙◌, arith, eqb-true, subst}
+-- Hexadecimal digits in a text, after tabs and newlines. For `escape` and `escape_here`.
+use Rattle.std.proofs.Common.{◌≡◌, ℕ, zero, suc, ◌+◌, ◌*◌, ◌-◌, ◌<◌, ◌≤◌, Bool, true, false, not, cond, ◌&&◌, eqb, ltb, List, []}
+use Rattle.std.proofs.Common.{◌∷◌, length, drop, get_or, Option, None, Some, refl, sym, ap, ◌∙◌, arith, eqb-true, subst, inl, inr}
 use Rattle.std.specs.Prelude.{◌==◌, MatchOption}
 use Rattle.std.specs.Char.{digit_value, is_ascii_hexdigit}
-use Rattle.std.proofs.lemmas.Bool.{agree_below_at, cond-true, cond-false, lt-ltb, not-true}
-use Rattle.std.proofs.lemmas.List.{drop_more, drop_all}
-use Rattle.data_url.specs.Url.{is_tab_or_newline}
-use Rattle.data_url.specs.Steps.Digits.{digit, escape, with_high_digit, with_low_digit, DigitFound, DigitsFound}
-use Rattle.data_url.specs.Steps.Digits.{NoDigit, NoDigits, digit_code}
+use Rattle.std.proofs.lemmas.Bool.{agree_below_at, and_left, and_right, cases_Bool}
+use Rattle.std.proofs.lemmas.List.{drop_more, get_or-drop, length-drop}
+use Rattle.std.proofs.lemmas.List.Sums.{prefix_len-drop_yes}
+use Rattle.data_url.specs.Percent.{begins_with_escape}
+use Rattle.data_url.specs.Url.{after, front, is_tab_or_newline}
+use Rattle.data_url.specs.Steps.Digits.{DigitFound, EscapeAt, NoDigit, NoEscape, Skipped, IsCode, cleaned}
 use Rattle.data_url.specs.Steps.Looks.{before_percent}
-use Rattle.data_url.proofs.runs.Runs.{match_map}
 use Rattle.data_url.specs.declared.escapes.digits.TheConstants.{DIGITS}
+use Rattle.data_url.proofs.texts.Bytes.{before_nil, before_other, before_same, after_other, dropped_keeps, dropped_nil}
+use Rattle.data_url.proofs.texts.Bytes.{dropped_passes}
 
--- the table
+-- Codes
+
+-- a test by whether a byte is a tab or newline, or a digit of some value, tells what its code says
+by_test : (tab hex : Bool) (value code : ℕ)
+    → cond tab (eqb code 16) (cond hex (eqb value code && ltb code 16) (ltb 16 code)) ≡ true
+    → (code ≡ 16 → tab ≡ true) × (code < 16 → (hex ≡ true) × (value ≡ code))
+    × (16 < code → (tab ≡ false) × (hex ≡ false))
+by_test true hex value code h = grind arith
+by_test false true value code h = grind arith
+by_test false false value code h = grind arith
 
 -- each entry of the table is the code of its byte
-pub code_is : (b : ℕ) → b < 256 → get_or DIGITS b 0 ≡ digit_code b
-code_is b l = eqb-true (get_or DIGITS b 0) (digit_code b) (agree_below_at (λ b. eqb (get_or DIGITS b 0) (digit_code b))
-    (λ b. true) 256 b refl l)
+pub is_code : (b : ℕ) → b < 256 → IsCode b (get_or DIGITS b 0)
+is_code b l =
+    let t = by_test (is_tab_or_newline b) (is_ascii_hexdigit b) (digit_value b) (get_or DIGITS b 0) (agree_below_at
+    (λ b. cond (is_tab_or_newline b) (eqb (get_or DIGITS b 0) 16) (cond (is_ascii_hexdigit b)
+    (eqb (digit_value b) (get_or DIGITS b 0) && ltb (get_or DIGITS b 0) 16) (ltb 16 (get_or DIGITS b 0))))
+    (λ b. true) 256 b refl l) in
+    record { tab = t.0; digit = t.1; other = t.2 }
 
--- what the entry of the table says about its byte
+-- a tab or newline is neither '#' nor '%'
+tab_other : (b : ℕ) → is_tab_or_newline b ≡ true → ((b == 35) ≡ false) × (not (b == 37) ≡ true)
+tab_other b h = grind arith
 
--- the code of a byte is 16 exactly if the byte is a tab or newline
-tab_code : (b : ℕ) → b < 256 → eqb (digit_code b) 16 ≡ is_tab_or_newline b
-tab_code b l = agree_below_at (λ b. eqb (digit_code b) 16) is_tab_or_newline 256 b refl l
+-- a hexadecimal digit is neither a tab or newline, nor '#' or '%'
+hex_other : (b : ℕ) → is_ascii_hexdigit b ≡ true → (is_tab_or_newline b ≡ false) × ((b == 35) ≡ false)
+    × (not (b == 37) ≡ true)
+hex_other b h = grind arith
 
--- a '%' is neither a tab or newline nor a digit
-not_percent : (b : ℕ) → b < 256 → digit_code b < 32 → not (b == 37) ≡ true
-not_percent b l h = grind arith
+-- Cleaned texts, by their first byte
 
--- a byte whose code is 16 is a tab or newline
-is_tab : (b : ℕ) → b < 256 → digit_code b ≡ 16 → is_tab_or_newline b ≡ true
-is_tab b l h = sym (tab_code b l) ∙ ap (λ v. eqb v 16) h
+-- the empty text
+pub cleaned_nil : cleaned [] ≡ []
+unfolding front
+cleaned_nil = ap (front) dropped_nil ∙ before_nil 35
 
--- if `not p && q` is true, p is false
-both_left : (p q : Bool) → (not p && q) ≡ true → p ≡ false
-both_left true q h = absurd (let k : false ≡ true = h in cc)
-both_left false q h = refl
+-- a tab or newline is dropped
+pub cleaned_passes : (b : ℕ) (s : List ℕ) → is_tab_or_newline b ≡ true → cleaned (b ∷ s) ≡ cleaned s
+cleaned_passes b s h = ap front (dropped_passes b s h)
 
--- if `not p && q` is true, q is true
-both_right : (p q : Bool) → (not p && q) ≡ true → q ≡ true
-both_right true q h = absurd (let k : false ≡ true = h in cc)
-both_right false q h = h
+-- a '#' ends the text
+pub cleaned_hash : (s : List ℕ) → cleaned (35 ∷ s) ≡ []
+unfolding front
+cleaned_hash s = grind (arith, dropped_keeps, before_same)
 
--- digits by one byte
+-- any other byte is kept
+pub cleaned_keeps : (b : ℕ) (s : List ℕ) → is_tab_or_newline b ≡ false → (b == 35) ≡ false
+    → cleaned (b ∷ s) ≡ b ∷ cleaned s
+unfolding front
+cleaned_keeps b s t h = grind (arith, dropped_keeps, before_other)
 
--- there is no digit in the empty text
-pub digit_nil : digit [] ≡ None
-unfolding digit
-digit_nil = refl
+-- What is skipped
 
--- a tab or newline before a digit is skipped
-pub digit_tab : (b : ℕ) (s : List ℕ) → is_tab_or_newline b ≡ true → digit (b ∷ s) ≡ digit s
-unfolding digit
-digit_tab b s h = grind arith
+-- from one index on there is the same as from another one on, but for tabs and newlines
+record Same (text : List ℕ) (from to : ℕ) : Type 0 where
+  pub raw_is : cleaned (drop from text) ≡ cleaned (drop to text)
+  pub after_is : after 35 (drop from text) ≡ after 35 (drop to text)
+  pub no_percent : before_percent (drop from text) ≡ (to - from) + before_percent (drop to text)
 
--- a byte that is not a tab or newline is the digit, if it is hexadecimal; otherwise there is no digit
-pub digit_here : (b : ℕ) (s : List ℕ) → is_tab_or_newline b ≡ false
-    → digit (b ∷ s) ≡ cond (is_ascii_hexdigit b) (Some (digit_value b, s)) None
-unfolding digit
-digit_here b s h = grind arith
+-- n bytes that are skipped
+same_for : (text : List ℕ) (from n : ℕ) → Skipped text from (from + n) → Same text from (from + n)
+same_for text from zero h = grind arith
+same_for text from (suc n) h =
+    let tab = h.passed from (omega arith) (omega arith) in
+    let other = tab_other (get_or text from 0) tab in
+    let within = h.within in
+    let more = same_for text (from + 1) n (record {
+      forward = omega arith;
+      within = omega arith;
+      passed = λ k a b. h.passed k (omega arith) (omega arith);
+    }) in
+    grind (arith, drop_more text from 0, cleaned_passes, after_other, prefix_len-drop_yes)
 
--- a text that begins with a byte whose code is below 16 begins with the digit of that value
-digit_found : (b : ℕ) (s : List ℕ) → b < 256 → digit_code b < 16 → digit (b ∷ s) ≡ Some (digit_code b, s)
-digit_found b s l h = grind (arith, digit_here)
+-- tabs and newlines that are skipped
+same : {text : List ℕ} {from to : ℕ} → Skipped text from to → Same text from to
+same {text} {from} {to} h =
+    let forward = h.forward in
+    let e : from + (to - from) ≡ to = omega arith in
+    subst (Same text from) e (same_for text from (to - from) (subst (Skipped text from) (sym e) h))
 
--- a byte whose code is above 16 is neither a tab or newline nor a hexadecimal digit
-other_test : (b : ℕ) → b < 256 → 16 < digit_code b
-    → cond (ltb 16 (digit_code b)) (not (is_tab_or_newline b) && not (is_ascii_hexdigit b)) true ≡ true
-other_test b l h = agree_below_at
-    (λ b. cond (ltb 16 (digit_code b)) (not (is_tab_or_newline b) && not (is_ascii_hexdigit b)) true)
-    (λ b. true) 256 b refl l
+-- a text that begins with a digit of this value, after tabs and newlines
+record HasDigit (text : List ℕ) (from to value : ℕ) : Type 0 where
+  pub digit : ℕ
+  pub hex : is_ascii_hexdigit digit ≡ true
+  pub value_is : digit_value digit ≡ value
+  pub digit_is : digit ≡ get_or text (to - 1) 0
+  pub raw_is : cleaned (drop from text) ≡ digit ∷ cleaned (drop to text)
+  pub after_is : after 35 (drop from text) ≡ after 35 (drop to text)
+  pub no_percent : before_percent (drop from text) ≡ (to - from) + before_percent (drop to text)
 
--- a text that begins with a byte whose code is above 16 does not begin with a digit
-digit_other : (b : ℕ) (s : List ℕ) → b < 256 → 16 < digit_code b → digit (b ∷ s) ≡ None
-digit_other b s l h =
-    let k : (not (is_tab_or_newline b) && not (is_ascii_hexdigit b))
-    ≡ true = cc (
-      cond-true (ltb 16 (digit_code b)) (not (is_tab_or_newline b) && not (is_ascii_hexdigit b)) true
-          (lt-ltb 16 (digit_code b) h),
-      other_test b l h,
-    ) in
-    let tab = both_left (is_tab_or_newline b) (not (is_ascii_hexdigit b)) k in
-    let hex : is_ascii_hexdigit b ≡ false =
-    not-true (is_ascii_hexdigit b) (both_right (is_tab_or_newline b) (not (is_ascii_hexdigit b)) k) in
-    digit_here b s tab ∙ cond-false (is_ascii_hexdigit b) (Some (digit_value b, s)) None hex
+-- a digit that is found is one that the text begins with
+has_digit : {text : List ℕ} {place looks value end looks' : ℕ} → DigitFound text place looks value end looks'
+    → HasDigit text place end value
+has_digit {text} {place} {looks} {value} {end} {looks'} d =
+    let at = end - 1 in
+    let some = d.some in
+    let within = d.within in
+    let other = hex_other (get_or text at 0) d.hex in
+    let s = same d.skipped in
+    let next : at + 1 ≡ end = omega arith in
+    let e : drop at text ≡ get_or text at 0 ∷ drop end text =
+    drop_more text at 0 (omega arith) ∙ ap (λ n. get_or text at 0 ∷ drop n text) next in
+    record {
+      digit = get_or text at 0;
+      hex = d.hex;
+      value_is = d.value_is;
+      digit_is = refl;
+      raw_is = s.raw_is ∙ ap cleaned e ∙ cleaned_keeps (get_or text at 0) (drop end text) other.0 other.1;
+      after_is = s.after_is ∙ ap (after 35) e ∙ after_other 35 (get_or text at 0) (drop end text) other.1;
+      no_percent = grind (arith, prefix_len-drop_yes);
+    }
 
--- digits from a place on
+-- the text begins with a hexadecimal digit
+abbrev begins_with_digit : List ℕ → Bool
+begins_with_digit [] = false
+begins_with_digit (b ∷ s) = is_ascii_hexdigit b
 
--- a text from an index on is the byte there, and then the text from the next index on
-pub at_place : (text : List ℕ) (place : ℕ) → place < length text → drop place text ≡ get_or text place 0 ∷ drop
-    (place + 1) text
-at_place text place l = drop_more text place 0 l
+-- a text that does not begin with a digit, nor with a tab or newline, does not begin with a digit when it is cleaned
+other_first : (s : List ℕ) → (0 < length s → (is_tab_or_newline (get_or s 0 0) ≡ false)
+    × (is_ascii_hexdigit (get_or s 0 0) ≡ false)) → begins_with_digit (cleaned s) ≡ false
+other_first [] h = ap begins_with_digit cleaned_nil
+other_first (b ∷ s) h = let o = h (omega arith) in elim (cases_Bool (b == 35)) [
+  | inl e ↦ ap (λ c. begins_with_digit (cleaned (c ∷ s))) (eqb-true b 35 e) ∙ ap begins_with_digit (cleaned_hash s)
+  | inr e ↦ ap begins_with_digit (cleaned_keeps b s o.0 e) ∙ o.1
+]
 
--- a byte of a text that was read
-pub record IsByte (text : List ℕ) (place b : ℕ) : Type 0 where
-  pub within : place < length text
-  pub byte_is : b ≡ get_or text place 0
-  pub small : b < 256
+-- if no digit is found, the cleaned text does not begin with one
+no_digit : {text : List ℕ} {place looks looks' : ℕ} → NoDigit text place looks looks'
+    → begins_with_digit (cleaned (drop place text)) ≡ false
+no_digit {text} {place} {looks} {looks'} n =
+    let s = same n.skipped in
+    ap begins_with_digit s.raw_is ∙ other_first (drop n.end text) (λ l. grind (arith, get_or-drop, length-drop))
 
--- in an equal text
-pub byte_of : {text same : List ℕ} {place b : ℕ} → same ≡ text → place < length text → b ≡ get_or same place 0 → b < 256
-    → IsByte text place b
-byte_of {text} {same} {place} {b} e w h l = record { within = w; byte_is = h ∙ ap (λ s. get_or s place 0) e; small = l }
+-- without a digit after the '%' there is no escape
+no_high : (s : List ℕ) → begins_with_digit s ≡ false → begins_with_escape (37 ∷ s) ≡ false
+no_high [] h = refl
+no_high (b ∷ []) h = refl
+no_high (b ∷ c ∷ s) h = and_left (is_ascii_hexdigit b) (is_ascii_hexdigit c) h
 
--- a byte whose code is below 16 is a digit, with its code as the value
-pub found_here : {text : List ℕ} {place b value looks looks' : ℕ} → IsByte text place b → value ≡ digit_code b
-    → value < 16 → looks' ≡ looks + 1 → DigitFound text place looks value (place + 1) looks'
-found_here {text} {place} {b} {value} {looks} {looks'} at code small n =
-    grind (arith, not_percent, at_place, digit_found)
+-- without a second digit there is no escape
+no_low : (b : ℕ) (s : List ℕ) → begins_with_digit s ≡ false → begins_with_escape (37 ∷ b ∷ s) ≡ false
+no_low b [] h = refl
+no_low b (c ∷ s) h = and_right (is_ascii_hexdigit b) (is_ascii_hexdigit c) h
 
--- if the code of a byte is above 16, there is no digit from its index on
-pub none_here : {text : List ℕ} {place b value looks looks' : ℕ} → IsByte text place b → value ≡ digit_code b
-    → 16 < value → looks' ≡ looks + 1 → NoDigit text place looks looks'
-none_here {text} {place} {b} {value} {looks} {looks'} at code great n = grind (arith, at_place, digit_other)
+-- a '%', and then the text after it
+percent_first : (text : List ℕ) (place : ℕ) → place < length text → get_or text place 0 ≡ 37
+    → (cleaned (drop place text) ≡ 37 ∷ cleaned (drop (place + 1) text))
+    × (after 35 (drop place text) ≡ after 35 (drop (place + 1) text))
+percent_first text place l h = grind (arith, drop_more text place 0, cleaned_keeps, after_other)
 
--- at the end of the text there is no digit
-pub none_left : {text : List ℕ} {place looks : ℕ} → length text ≤ place → NoDigit text place looks looks
-none_left {text} {place} {looks} l = grind (arith, drop_all, digit_nil)
+-- if there is no first digit, there is no escape
+pub escape_no_high : {text : List ℕ} {place looks looks' : ℕ} → place < length text → get_or text place 0 ≡ 37
+    → NoDigit text (place + 1) looks looks' → NoEscape text place looks looks'
+escape_no_high {text} {place} {looks} {looks'} l h n = record {
+  none_is = ap begins_with_escape (percent_first text place l h).0 ∙ no_high (cleaned (drop (place + 1) text)) (no_digit n);
+  looks_grow = n.looks_grow;
+  looks_are = let s = same n.skipped in grind arith;
+}
 
--- from one place to another there are tabs and newlines, which were skipped
-pub record Passed (text : List ℕ) (place at looks looks' : ℕ) : Type 0 where
-  pub forward : place ≤ at
-  pub digit_stays : digit (drop place text) ≡ digit (drop at text)
-  pub no_percent : before_percent (drop place text) ≡ (at - place) + before_percent (drop at text)
-  pub looks_are : looks' ≡ looks + (at - place)
+-- if there is no digit after the first one, there is no escape
+pub escape_no_low : {text text' : List ℕ} {place value after looks looks' looks'' : ℕ} → text' ≡ text
+    → place < length text → get_or text place 0 ≡ 37 → DigitFound text (place + 1) looks value after looks'
+    → NoDigit text' after looks' looks'' → NoEscape text place looks looks''
+escape_no_low {text} {text'} {place} {value} {after} {looks} {looks'} {looks''} e l h d m =
+    let high = has_digit d in
+    let n = subst (λ t. NoDigit t after looks' looks'') e m in
+    record {
+      none_is = ap begins_with_escape ((percent_first text place l h).0 ∙ ap (λ s. 37 ∷ s) high.raw_is)
+          ∙ no_low high.digit (cleaned (drop after text)) (no_digit n);
+      looks_grow = grind arith;
+      looks_are = let s = same n.skipped in grind arith;
+    }
 
--- from an index to itself nothing is skipped
-pub passed_none : {text : List ℕ} {place looks : ℕ} → Passed text place place looks looks
-passed_none = record { forward = omega arith; digit_stays = refl; no_percent = omega arith; looks_are = omega arith }
+-- a digit and a digit after it are an escape
+pub escape_both : {text text' : List ℕ} {place high low middle end looks looks' last last' : ℕ} → text' ≡ text
+    → place < length text → get_or text place 0 ≡ 37 → DigitFound text (place + 1) looks high middle looks'
+    → DigitFound text' middle last low end last' → EscapeAt text place (high * 16 + low) end
+escape_both {text} {text'} {place} {high} {low} {middle} {end} {looks} {looks'} {last} {last'} same_is l h d g =
+    let p = has_digit d in
+    let f = subst (λ t. DigitFound t middle last low end last') same_is g in
+    let q = has_digit f in
+    let percent = percent_first text place l h in
+    record {
+      high = p.digit;
+      low = q.digit;
+      high_hex = p.hex;
+      low_hex = q.hex;
+      value_is = let e = p.value_is in let g = q.value_is in omega arith;
+      three = let a = d.some in let b = f.some in omega arith;
+      within = f.within;
+      raw_is = percent.0 ∙ ap (λ s. 37 ∷ s) (p.raw_is ∙ ap (λ s. p.digit ∷ s) q.raw_is);
+      after_is = percent.1 ∙ p.after_is ∙ q.after_is;
+      ends = ap is_ascii_hexdigit (sym q.digit_is) ∙ q.hex;
+    }
 
--- if the code of the next byte is 16, it is also skipped
-pub passed_more : {text : List ℕ} {place at b value looks looks' looks'' : ℕ} → Passed text place at looks looks'
-    → IsByte text at b → value ≡ digit_code b → value ≡ 16 → looks'' ≡ looks' + 1
-    → Passed text place (at + 1) looks looks''
-passed_more {text} {place} {at} {b} {value} {looks} {looks'} {looks''} p here code tab n =
-    grind (arith, not_percent, at_place, digit_tab, is_tab)
+-- a byte whose code is below 16 is a digit
+digit_at : (text : List ℕ) (place value end : ℕ) → end ≡ place + 1 → end ≤ length text
+    → IsCode (get_or text place 0) value → value < 16 → DigitFound text place 0 value end 1
+digit_at text place value end n w h l =
+    let d = h.digit l in
+    let at : end - 1 ≡ place = omega arith in
+    record {
+      some = omega arith;
+      within = omega arith;
+      skipped = record { forward = omega arith; within = omega arith; passed = λ k a b. absurd (omega arith) };
+      hex = cc (d.0);
+      value_is = cc (d.1);
+      small = l;
+      looks_are = omega arith;
+    }
 
--- a digit that is found after skipped bytes is found from their start on
-pub passed_found : {text : List ℕ} {place at value end looks looks' looks'' : ℕ} → Passed text place at looks looks'
-    → DigitFound text at looks' value end looks'' → DigitFound text place looks value end looks''
-passed_found {text} {place} {at} {value} {end} {looks} {looks'} {looks''} p d = grind arith
+-- two bytes after a '%' whose codes are below 16 are an escape
+pub escape_at : (text : List ℕ) (place a b high low : ℕ) → place + 3 ≤ length text → get_or text place 0 ≡ 37
+    → a ≡ get_or text (place + 1) 0 → b ≡ get_or text (place + 2) 0 → IsCode a high → IsCode b low → high < 16
+    → low < 16 → EscapeAt text place (high * 16 + low) (place + 3)
+escape_at text place a b high low w h e f p q l m =
+    let first = digit_at text (place + 1) high (place + 2) (omega arith) (omega arith) (subst (λ x. IsCode x high) e p) l in
+    let second = digit_at text (place + 2) low (place + 3) (omega arith) (omega arith) (subst (λ x. IsCode x low) f q) m in
+    escape_both {text = text} refl (omega arith) h first second
 
--- if there is no digit after skipped bytes, there is none from their start on
-pub passed_no : {text : List ℕ} {place at looks looks' looks'' : ℕ} → Passed text place at looks looks'
-    → NoDigit text at looks' looks'' → NoDigit text place looks looks''
-passed_no p n = grind arith
-
--- two digits
-
--- without a first digit there is no escape
-escape_none : (s : List ℕ) → digit s ≡ None → escape s ≡ None
-unfolding escape
-escape_none s h = ap with_high_digit h
-
--- without a digit after the first one there is no escape
-escape_high : (s rest : List ℕ) (high : ℕ) → digit s ≡ Some (high, rest) → digit rest ≡ None → escape s ≡ None
-unfolding escape
-escape_high s rest high h k = ap with_high_digit h ∙ ap (with_low_digit high) k
-
--- two digits, one after the other, are an escape, whose value is 16 times the first plus the second
-escape_both : (s rest last : List ℕ) (high low : ℕ) → digit s ≡ Some (high, rest) → digit rest ≡ Some (low, last)
-    → escape s ≡ Some (16 * high + low, last)
-unfolding escape
-escape_both s rest last high low h k = ap with_high_digit h ∙ ap (with_low_digit high) k
-
--- if there is no first digit, there are not two digits
-pub no_high : {text : List ℕ} {place looks looks' : ℕ} → NoDigit text place looks looks'
-    → NoDigits text place looks looks'
-no_high {text} {place} n = grind (arith, escape_none)
-
--- if there is no digit after the first one, there are not two digits
-pub no_low : {text : List ℕ} {place high after looks looks' looks'' : ℕ}
-    → DigitFound text place looks high after looks' → NoDigit text after looks' looks''
-    → NoDigits text place looks looks''
-no_low {text} {place} {high} {after} d n = grind (arith, escape_high)
-
--- a digit and a digit after it are two digits
-pub both_digits : {text : List ℕ} {place high low after end looks looks' looks'' value : ℕ}
-    → DigitFound text place looks high after looks' → DigitFound text after looks' low end looks''
-    → value ≡ high * 16 + low → DigitsFound text place looks value end looks''
-both_digits {text} {place} {high} {low} {after} {end} {value = value} d f e = grind (arith, escape_both)
-
--- a tab or newline, and then what was found after it
-pub digit_further : {text same : List ℕ} {place b value looks' : ℕ} (looks looks'' : ℕ) (found : Option (ℕ × ℕ))
-    → same ≡ text → IsByte text place b → value ≡ digit_code b → value ≡ 16 → looks' ≡ looks + 1
+-- after a tab or newline, what is found from the next index on is found from its index on
+pub digit_further : {text same : List ℕ} {place looks' : ℕ} (looks looks'' : ℕ) (found : Option (ℕ × ℕ)) → same ≡ text
+    → place < length text → is_tab_or_newline (get_or text place 0) ≡ true → looks' ≡ looks + 1
     → MatchOption found (NoDigit same (place + 1) looks' looks'')
     (λ d. DigitFound same (place + 1) looks' d.0 d.1 looks'')
     → MatchOption found (NoDigit text place looks looks'') (λ d. DigitFound text place looks d.0 d.1 looks'')
-digit_further {text} {same} {place} {b} {value} {looks'} looks looks'' found e at code tab n h =
-    let p : Passed text place (place + 1) looks looks' = passed_more passed_none at code tab n in
-    let P : List ℕ → Type 0 = λ t. MatchOption found (NoDigit t (place + 1) looks' looks'')
-    (λ d. DigitFound t (place + 1) looks' d.0 d.1 looks'') in
-    match_map found _ _ _ _ (λ k. passed_no p k) (λ d k. passed_found p k) (subst P e h)
-
--- after a digit without another one there is no escape, even if the second digit is looked for in an equal text
-pub digits_no_low : {text same : List ℕ} {place high after looks looks' looks'' : ℕ} → same ≡ text
-    → DigitFound text place looks high after looks' → NoDigit same after looks' looks''
-    → NoDigits text place looks looks''
-digits_no_low {text} {same} {place} {high} {after} {looks} {looks'} {looks''} e d n = let P : List ℕ → Type 0 =
-    λ t. NoDigit t after looks' looks'' in no_low d (subst P e n)
-
--- two digits are an escape, even if the second one is looked for in an equal text
-pub digits_both : {text same : List ℕ} {place high low after end looks looks' looks'' : ℕ} → same ≡ text
-    → DigitFound text place looks high after looks' → DigitFound same after looks' low end looks''
-    → DigitsFound text place looks (high * 16 + low) end looks''
-digits_both {text} {same} {place} {high} {low} {after} {end} {looks} {looks'} {looks''} e d f = let P : List ℕ
-    → Type 0 = λ t. DigitFound t after looks' low end looks'' in both_digits d (subst P e f) refl
-
--- two bytes, one after the other, whose codes are below 16 are two digits
-pub two_found : {text same : List ℕ} {place high low a b looks looks' looks'' : ℕ} → same ≡ text → IsByte text place a
-    → IsByte text (place + 1) b → high ≡ digit_code a → high < 16 → low ≡ digit_code b → low < 16 → looks' ≡ looks + 1
-    → looks'' ≡ looks' + 1 → DigitsFound text place looks (high * 16 + low) (place + 2) looks''
-two_found {text} {same} {place} {high} {low} {a} {b} {looks} {looks'} {looks''} e p q h k l m n o =
-    let first = found_here p h k n in
-    let second : DigitFound text (place + 1) looks' low (place + 1 + 1) looks'' = found_here q l m o in
-    let two : place + 1 + 1 ≡ place + 2 = omega arith in
-    let P : ℕ → Type 0 = λ end. DigitsFound text place looks (high * 16 + low) end looks'' in
-    subst P two (both_digits first second refl)
+digit_further {text} {same} {place} {looks'} looks looks'' None e l code n h = grind arith
+digit_further {text} {same} {place} {looks'} looks looks'' (Some d) e l code n h = grind arith

@@ -4,7 +4,7 @@ use Rattle.std.proofs.Common.{◌∷◌, ◌++◌, length, take, drop, map, min,
 use Rattle.std.proofs.Common.{get_or, subst, bit_and, w8, Fits, ◌≢◌, not, inl, inr}
 use Rattle.std.specs.Prelude.{slice_range}
 use Rattle.std.specs.Simd.Lanes.{chunk, mask_l, put_chunk, Each1, top, zip2}
-use Rattle.std.proofs.lemmas.List.{length-drop, drop-replicate, length-take-le, take_rest, take-append-le, take-take}
+use Rattle.std.proofs.lemmas.List.{take_all, length-drop, drop-replicate, length-take-le, take_rest, take-append-le, take-take}
 use Rattle.std.proofs.lemmas.List.{drop-map, drop-drop, ext_get_or, get_or-map, length-map, map-id}
 use Rattle.std.proofs.Math.Nat.{div-div-eq-div-mul, mul_comm, pow-suc}
 use Rattle.std.proofs.lemmas.Simd.{put_chunk_whole, SwzOk, SwzOk-from_below, get_or-swz_l_below, length-swz_l}
@@ -12,15 +12,15 @@ use Rattle.std.proofs.lemmas.Simd.{mask_l-mod, swz_l, tops_compared, zip2_of_map
 use Rattle.std.proofs.lemmas.Simd.{run_in_chunk_fails, run_in_chunk_le, run_in_chunk_stops, trailing_mask_l}
 use borrow.Rule.Slice.PartMut.{mid_of, post_of, put_mid}
 use Rattle.data_url.specs.Steps.Window.{is_marked}
-use Rattle.std.proofs.lemmas.Bool.{agree_below_at, eqb-true, cases_lt}
+use Rattle.std.proofs.lemmas.Bool.{agree_below_at, cases_lt, eqb-true}
 use Rattle.std.proofs.lemmas.Nat.{and_mask}
 use Rattle.data_url.specs.declared.escapes.lanes.TheConstants.{MARKED}
 use Rattle.std.specs.List.{prefix_len}
 use Rattle.std.specs.Int.Count.{count_trailing_zeros}
-use Rattle.data_url.specs.Steps.Walk.{IsClear, IsNextMark, Looking, Stays}
-use Rattle.data_url.specs.Pieces.{text_of}
-use Rattle.data_url.specs.declared.escapes.cursor.Cursor.{Cursor}
-use Rattle.data_url.proofs.escapes.Reading.{paid_clear}
+use Rattle.data_url.specs.Steps.Walk.{IsBlock, IsClear, IsNextMark, Looking}
+use Rattle.data_url.specs.declared.escapes.source.Source.{Source}
+use Rattle.data_url.specs.declared.escapes.stops.Block.{Block}
+use Rattle.data_url.proofs.escapes.Reading.{paid_on}
 
 -- Blocks of a text: their marks, and stretches that are copied into a buffer.
 
@@ -32,39 +32,28 @@ take_past (x ∷ p) q n m e =
     let z : n + m ≡ suc (length p + m) = omega arith in
     ap (λ k. take k (x ∷ (p ++ q))) z ∙ ap (λ t. x ∷ t) (take_past p q (length p) m refl)
 
--- a stretch, for which a whole block was copied
-pub copied : (room text mid post block : List ℕ) (len width start : ℕ) → len ≤ length room → width ≤ 64
-    → start + 64 ≤ length text → length mid ≡ 64 → block ≡ take 64 (drop start text)
-    → take (len + width) (take len room ++ (put_chunk 0 mid block ++ post)) ≡ take len room ++ slice_range text start
-    (start + width)
-copied room text mid post block len width start l w h m b =
-    let d = length-drop start text in
-    let long : length (take 64 (drop start text)) ≡ 64 = length-take-le 64 (drop start text) (omega arith) in
-    let size : length block ≡ 64 = ap length b ∙ long in
-    let whole : put_chunk 0 mid block ≡ block = put_chunk_whole mid block (m ∙ sym size) in
-    let n : start + width - start ≡ width = omega arith in
-    cc (
-      take_past (take len room) (put_chunk 0 mid block ++ post) len width (length-take-le len room l),
-      take-append-le width (put_chunk 0 mid block) post (let e = ap length whole in omega arith),
-      take-take width 64 (drop start text) w,
-    )
-
 -- a block of 64 bytes of the text, copied into a buffer of 256 bytes, leaves its first `width` bytes there
 pub copied_wide : (room bytes text : List ℕ) (len width start : ℕ) → length room ≡ 256 → len + 64 ≤ 256 → width ≤ 64
     → start + 64 ≤ length text → bytes ≡ text
     → take (len + width) (put_mid len (len + 64 - len) room (put_chunk 0 (mid_of len (len + 64 - len) room)
-    (chunk 0 64 (take (start + 64 - start) (drop start bytes))))) ≡ take len room ++ slice_range text start
-    (start + width)
+    (chunk 0 64 (take (start + 64 - start) (drop start bytes))))) ≡ take len room ++ take width (drop start text)
 copied_wide room bytes text len width start long l w h e =
     let n : len + 64 - len ≡ 64 = omega arith in
     let k : start + 64 - start ≡ 64 = omega arith in
-    let d = length-drop len room in
-    let mid : length (mid_of len (len + 64 - len) room) ≡ 64 = cc (length-take-le (len + 64 - len) (drop len room)
-    (omega arith)) in
+    let mid = mid_of len (len + 64 - len) room in
+    let size : length mid ≡ 64 =
+    length-take-le (len + 64 - len) (drop len room) (omega (arith, length-drop len room)) ∙ n in
     let block : chunk 0 64 (take (start + 64 - start) (drop start bytes))
     ≡ take 64 (drop start text) = cc (take-take 64 64 (drop start bytes) (omega arith)) in
-    copied room text (mid_of len (len + 64 - len) room) (post_of len (len + 64 - len) room)
-    (chunk 0 64 (take (start + 64 - start) (drop start bytes))) len width start (omega arith) w h mid block
+    let whole : put_chunk 0 mid (take 64 (drop start text)) ≡ take 64 (drop start text) = put_chunk_whole mid _
+    (size ∙ sym (length-take-le 64 (drop start text) (omega (arith, length-drop start text)))) in
+    cc (
+      take_past (take len room) (take 64 (drop start text) ++ post_of len (len + 64 - len) room) len width
+          (length-take-le len room (omega arith)),
+      take-append-le width (take 64 (drop start text)) (post_of len (len + 64 - len) room)
+          (omega (arith, length-take-le 64 (drop start text), length-drop start text)),
+      take-take width 64 (drop start text) w,
+    )
 
 -- zeros after the end of a text have no marks
 no_marks : (k : ℕ) → mask_l (map is_marked (replicate k 0)) ≡ 0
@@ -83,23 +72,19 @@ marks_of_rest rest new zeros r k e z l h =
     let tail : drop k zeros ≡ replicate (64 - k) 0 = ap (drop k) z ∙ drop-replicate k 64 0 in
     cc (marks_padded rest (64 - k))
 
--- the block of a text at a place: a whole one, or the rest of the text
-pub block_whole : (text bytes : List ℕ) (place : ℕ) → bytes ≡ text
-    → 64 ≤ length (take (length bytes - place) (drop place bytes))
-    → chunk 0 64 (take (64 - 0) (drop 0 (take (length bytes - place) (drop place bytes)))) ≡ slice_range text place
-    (min (place + 64) (length text))
-block_whole text bytes place e long =
+-- the marks of the first 64 bytes from an index on, or of fewer, are those of the block there
+pub block_at : (text bytes : List ℕ) (place seen marks : ℕ) → bytes ≡ text → place ≤ length text
+    → seen ≡ min (place + 64) (length text)
+    → marks ≡ mask_l (map is_marked (take 64 (take (length bytes - place) (drop place bytes))))
+    → IsBlock text place seen marks
+block_at text bytes place seen marks e l s m =
+    let n = length-drop place text in
     let all : take (length bytes - place) (drop place bytes) ≡ drop place text = cc (take_rest bytes place) in
-    let n = ap length all in
-    let d = length-drop place text in
-    let k : 64 ≡ min (place + 64) (length text) - place = omega arith in
-    cc (take-take 64 64 (drop place text) (omega arith))
-
--- if fewer than 64 bytes are left, the block is these bytes
-pub block_part : (text bytes : List ℕ) (place : ℕ) → bytes ≡ text
-    → length (take (length bytes - place) (drop place bytes)) < 64 → place ≤ length text
-    → take (length bytes - place) (drop place bytes) ≡ slice_range text place (min (place + 64) (length text))
-block_part text bytes place e short within = grind (arith, take_rest, length-drop)
+    let same : take 64 (drop place text) ≡ slice_range text place seen = elim (cases_lt 64 (length text - place)) [
+      | inl h ↦ let k : 64 ≡ seen - place = omega arith in ap (λ i. take i (drop place text)) k
+      | inr h ↦ take_all 64 (drop place text) (omega arith) ∙ sym (take_all (seen - place) (drop place text) (omega arith))
+    ] in
+    record { base_le = omega arith; seen_le = omega arith; short = omega arith; marks_are = cc }
 
 -- a shifted mask is the mask of the rest of the list
 mask_half : (b : Bool) (bs : List Bool) → mask_l (b ∷ bs) / 2 ≡ mask_l bs
@@ -228,32 +213,21 @@ mask_none : (p : ℕ → Bool) (xs : List ℕ) → prefix_len (λ y. not (p y)) 
 mask_none p [] h = refl
 mask_none p (x ∷ xs) h = mask_cases p x xs (p x) refl h (λ k. mask_none p xs k)
 
--- the marks from a place on, in a block
-pub record HasMarks (text : List ℕ) (place seen marks : ℕ) : Type 0 where
-  pub within : seen ≤ length text
-  pub forward : place ≤ seen
-  pub short : seen ≤ place + 64
-  pub marks_are : marks ≡ mask_l (map is_marked (chunk place (seen - place) text))
+-- the marks of a block, shifted by the distance from its start to an index, are those of the block from the index on
+pub block_from : {s : Source} {b : Block} {place marks : ℕ} → Looking s b place 0 → place ≤ b.seen
+    → marks ≡ b.marks / 2 ^ (place - b.base) → IsBlock s.text.now place b.seen marks
+block_from {s} {b} {place} {marks} k l e = grind (arith, mask_later, drop-map, drop_taken, drop-drop)
 
--- the marks of a block, shifted by the distance from its start to an index, are those from the index on
-pub has_marks : {c : Cursor} {place marks : ℕ} → Looking c place 0 → place ≤ c.seen
-    → marks ≡ c.marks / 2 ^ (place - c.base) → HasMarks (text_of c) place c.seen marks
-has_marks {c} {place} {marks} k l e = grind (arith, mask_later, drop-map, drop_taken, drop-drop)
+-- when the block at an index is read, the walk can go on there
+pub looking_block : {s s' : Source} {b b' : Block} {place : ℕ} → Looking s b place 0 → b.seen ≤ place
+    → s'.text.now ≡ s.text.now → b'.base ≡ place → IsBlock s.text.now place b'.seen b'.marks
+    → s'.looks + place ≡ s.looks + b'.seen → Looking s' b' place 0
+looking_block {s} {s'} {b} {b'} {place} k l t e i n = grind arith
 
--- the marks of a block from its front on
-pub block_marks : {c : Cursor} {place : ℕ} → Looking c place 0 → c.base ≡ place → place ≤ c.seen
-    → HasMarks (text_of c) place c.seen c.marks
-block_marks {c} {place} k e l = grind arith
-
--- the next mark is `width` bytes after the place
-pub record IsFound (text : List ℕ) (place seen width : ℕ) : Type 0 where
-  pub before : width < seen - place
-  pub mark : IsNextMark text place (place + width)
-
--- if the marks from an index on are not 0, their number of trailing zeros is that of the bytes before the next mark
-found_mark : {text : List ℕ} {place seen marks width : ℕ} → HasMarks text place seen marks → marks ≢ 0
-    → width ≡ count_trailing_zeros 64 marks → IsFound text place seen width
-found_mark {text} {place} {seen} {marks} {width} h n e =
+-- if the marks of a block are not 0, their number of trailing zeros is that of the bytes before the next mark
+pub found : {text : List ℕ} {place seen marks : ℕ} (width : ℕ) → IsBlock text place seen marks → marks ≢ 0
+    → width ≡ count_trailing_zeros 64 marks → (place + width < seen) × IsNextMark text place (place + width)
+found {text} {place} {seen} {marks} width h n e =
     search (
       arith,
       length-drop,
@@ -265,52 +239,12 @@ found_mark {text} {place} {seen} {marks} {width} h n e =
       run_in_chunk_stops,
     )
 
--- if the marks are not zero, the next mark is as many bytes after the index as the marks have trailing zeros
-pub found : {text : List ℕ} {place seen marks width : ℕ} → HasMarks text place seen marks → (marks ≡ 0 → ⊥)
-    → width ≡ count_trailing_zeros 64 marks → IsFound text place seen width
-found h n e = found_mark h n e
-
--- the block has no mark from the place on
-pub found_none : {text : List ℕ} {place seen marks : ℕ} → HasMarks text place seen marks → marks ≡ 0
+-- if the marks of a block are 0, none of its bytes is marked
+pub found_none : {text : List ℕ} {place seen marks : ℕ} → IsBlock text place seen marks → marks ≡ 0
     → IsClear text place seen
 found_none {text} {place} {seen} {marks} h e = grind (arith, none_from_empty_mask)
 
--- if two ranges, one after the other, have no marks, neither does the range of both
-pub clear_then : (text : List ℕ) (from middle to : ℕ) → IsClear text from middle → IsClear text middle to
-    → IsClear text from to
-clear_then text from middle to a b k l h = elim (cases_lt k middle) [ inl e ↦ a k l e | inr e ↦ b k e h ]
-
--- the next mark after a range without marks is also the next mark from the start of that range
-pub mark_then : {text : List ℕ} {from middle to : ℕ} → from ≤ middle → IsClear text from middle
-    → IsNextMark text middle to → IsNextMark text from to
-mark_then {text} {from} {middle} {to} l c m = grind arith
-
--- the walk can go on from a later place, if there is no mark between the places
-pub looking_clear : {c : Cursor} {place more : ℕ} (to : ℕ) → Looking c place more → place ≤ to → to ≤ length (text_of c)
-    → IsClear (text_of c) place to → Looking c to more
-looking_clear {c} {place} {more} to k l w h =
-    let p = paid_clear (text_of c) c.seen place to l w h in
-    let b = k.base_le in
-    let m = k.looks_are_paid in
-    record { block = k.block; base_le = omega arith; within = w; looks_are_paid = omega arith }
-
--- the next mark of a text is that of an equal text
-pub mark_in : {text same : List ℕ} {from to : ℕ} → same ≡ text → IsNextMark same from to → IsNextMark text from to
-mark_in {text} {same} {from} {to} e m = let P : List ℕ → Type 0 = λ t. IsNextMark t from to in subst P e m
-
--- a range without marks in an equal text has none in the text
-pub clear_in : {text same : List ℕ} (from to : ℕ) → same ≡ text → IsClear same from to → IsClear text from to
-clear_in {text} {same} from to e m = let P : List ℕ → Type 0 = λ t. IsClear t from to in subst P e m
-
--- a walk that does not change stays at its index
-pub stays_here : (c : Cursor) → Stays c c
-stays_here c = grind arith
-
--- if two steps, one after the other, stay at the index, so do both together
-pub stays_then : {a b c : Cursor} → Stays a b → Stays b c → Stays a c
-stays_then h k = grind arith
-
--- the walk can go on after its block, if no mark is left in it
-pub looked_to : {c : Cursor} {from : ℕ} (to : ℕ) → Looking c from 0 → from ≤ c.seen → to ≡ c.seen
-    → IsClear (text_of c) from c.seen → Looking c to 0 × IsClear (text_of c) from to
-looked_to {c} {from} to k l e h = grind (arith, looking_clear c.seen k l k.block.seen_le h)
+-- the walk can go on from a later place
+pub looking_on : {s : Source} {b : Block} {place more : ℕ} (to : ℕ) → Looking s b place more → place ≤ to
+    → to ≤ length s.text.now → Looking s b to more
+looking_on {s} {b} {place} {more} to k l w = let p = paid_on s.text.now place to l in grind arith

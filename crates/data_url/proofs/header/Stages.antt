@@ -1,5 +1,5 @@
 -- The stages of the Standard, from the input to its record. For `DataUrl::process`.
-use Rattle.std.proofs.Common.{◌≡◌, ℕ, zero, suc, ◌+◌, ◌-◌, ◌<◌, ◌≤◌, Bool, false, List, [], ◌∷◌, ◌++◌, length, get_or}
+use Rattle.std.proofs.Common.{◌≡◌, ℕ, zero, suc, ◌-◌, ◌<◌, ◌≤◌, Bool, false, List, [], ◌∷◌, ◌++◌, length, get_or}
 use Rattle.std.proofs.Common.{take, drop, Option, None, Some, refl, sym, ap, ◌∙◌, inl, inr, ◌⊎◌, eqb-true, subst, arith}
 use Rattle.std.proofs.Common.{true, map, codes, ◌≢◌, IsTrue}
 use Rattle.std.specs.Prelude.{◌==◌, option_and_then}
@@ -8,7 +8,7 @@ use Rattle.std.specs.Str.{chars}
 use Rattle.std.proofs.lemmas.Bool.{cases_Bool, cond-true, cond-false, both_ways, ne_eqb, eq-eqb}
 use Rattle.std.proofs.lemmas.Slice.Eq.{bytes_eq-Decides}
 use Rattle.std.proofs.lemmas.List.{get_or-drop, get_or-reverse, get_or-take, get_or_past, length-drop, length-reverse}
-use Rattle.std.proofs.lemmas.List.{length-take, drop_at, length-map, take_at, drop_all, drop_more}
+use Rattle.std.proofs.lemmas.List.{take-append-drop, length-take, drop_at, length-map, take_at}
 use Rattle.data_url.specs.Url.{before, after, is_c0_control_or_space, percent_encoding, trimmed_text, without_end}
 use Rattle.data_url.specs.Url.{after_scheme, cleaned_text, without_tabs_and_newlines, fragment, front}
 use Rattle.data_url.specs.Url.{is_tab_or_newline, serialised, in_fragment_set}
@@ -26,7 +26,8 @@ use Rattle.data_url.specs.Steps.Front.{HasNoScheme, IsHeaderAndTail, IsSchemeAnd
 use Rattle.data_url.proofs.texts.Bytes.{before-append, before_nil, before_other, before_same, after-append}
 use Rattle.data_url.proofs.texts.Bytes.{after-dropped_none, after_at, after_nil, after_other}
 use Rattle.data_url.proofs.texts.Bytes.{without_tabs_and_newlines-append, dropped_around, dropped_keeps, dropped_nil}
-use Rattle.data_url.proofs.texts.Bytes.{dropped_passes, is_cut, lacks}
+use Rattle.data_url.proofs.texts.Bytes.{before_all, before_at, dropped_passes, is_cut, lacks}
+use Rattle.data_url.proofs.runs.Runs.{none_or_some}
 use Rattle.std.proofs.lemmas.Str.{chars-IsAscii}
 use Rattle.data_url.specs.Mime.{HasNoRecord, IsWellformed, Parses, Record, default_record, BeginsParameters, DoesNotEnd}
 use Rattle.data_url.specs.Mime.{IsHead, IsRecordOfParts, is_token_text}
@@ -35,7 +36,6 @@ use Rattle.data_url.proofs.texts.CodePoints.{trimmed_end_is}
 use Rattle.data_url.proofs.examples.Literals.{on_literals}
 use Rattle.data_url.specs.CodePoints.{is_http_whitespace}
 use Rattle.data_url.proofs.mime.FirstNames.{parses_parts, parses_wellformed}
-use Rattle.data_url.specs.Steps.Tail.{BeginsFragment, IsBodyEnd, rest_fragment}
 use Rattle.data_url.specs.DataUrl.{IsAcceptable, IsUrlOf, is_base64, mime_of, url_tail}
 use Rattle.data_url.specs.MimeType.{record_of}
 use Rattle.data_url.specs.declared.DataUrl.{DataUrl}
@@ -123,34 +123,17 @@ bytes_before c (b ∷ s) h = grind (arith, bytes_before c s h.1)
 
 -- The scheme has no comma
 
--- a byte that is not a comma in lower case is not a comma
-lowercase_comma : (b : ℕ) → (to_ascii_lowercase b == 44) ≡ false → (b == 44) ≡ false
-lowercase_comma b h = grind arith
-
 -- if a text in lower case has no comma, the text has none
 pub lacks_comma : (d : List ℕ) → after 44 (map to_ascii_lowercase d) ≡ None → after 44 d ≡ None
 lacks_comma [] h = h
 lacks_comma (b ∷ d) h =
     let l = lacks 44 (to_ascii_lowercase b) (map to_ascii_lowercase d) h in
-    after_other 44 b d (lowercase_comma b l.here) ∙ lacks_comma d l.after_it
+    after_other 44 b d (grind arith) ∙ lacks_comma d l.after_it
 
--- if c is not a tab or newline, and is not in a text without these, it is not in the text
-lacks_before_dropping : (c : ℕ) → is_tab_or_newline c ≡ false → (s : List ℕ)
-    → after c (without_tabs_and_newlines s) ≡ None → after c s ≡ None
-lacks_before_dropping c k [] h = after_nil c
-lacks_before_dropping c k (b ∷ s) h = elim (cases_Bool (is_tab_or_newline b)) [
-  | inl e ↦ grind (
-    arith,
-    ne_eqb,
-    both_ways,
-    after_other,
-    lacks_before_dropping c k s (sym (ap (after c) (dropped_passes b s e)) ∙ h),
-    dropped_passes,
-  )
-  | inr e ↦
-      let l = lacks c b (without_tabs_and_newlines s) (sym (ap (after c) (dropped_keeps b s e)) ∙ h) in
-      after_other c b s l.here ∙ lacks_before_dropping c k s l.after_it
-]
+-- if c is not a tab or newline, what follows the first c does so after tabs and newlines are dropped
+after_dropped : (c : ℕ) → is_tab_or_newline c ≡ false → (s rest : List ℕ) → after c s ≡ Some rest
+    → after c (without_tabs_and_newlines s) ≡ Some (without_tabs_and_newlines rest)
+after_dropped c k s rest h = grind (arith, is_cut c s rest h, dropped_around, after_at, after-dropped_none)
 
 -- there is no comma in "data:"
 abbrev scheme_lacks : after 44 (codes "data:") ≡ None
@@ -160,57 +143,60 @@ scheme_lacks = refl
 -- a text that without tabs and newlines, in any ASCII case, is "data:" has no comma
 pub scheme_has_no_comma : (scheme : List ℕ) → map to_ascii_lowercase (without_tabs_and_newlines scheme) ≡ codes "data:"
     → after 44 scheme ≡ None
-scheme_has_no_comma scheme e =
-    lacks_before_dropping 44 refl scheme (lacks_comma (without_tabs_and_newlines scheme) (ap (after 44) e
-    ∙ scheme_lacks))
+scheme_has_no_comma scheme e = elim (none_or_some (after 44 scheme)) [
+  | inl n ↦ n
+  | inr (rest, s) ↦ absurd (
+    let d = after_dropped 44 refl scheme rest s in
+    let n = lacks_comma (without_tabs_and_newlines scheme) (ap (after 44) e ∙ scheme_lacks) in
+    cc
+  )
+]
 
 -- After the scheme
 
--- a text that spells the scheme has five bytes without its tabs and newlines
-scheme_length : (scheme : List ℕ) → map to_ascii_lowercase (without_tabs_and_newlines scheme) ≡ codes "data:"
-    → length (without_tabs_and_newlines scheme) ≡ 5
-scheme_length scheme e = sym (length-map (without_tabs_and_newlines scheme) to_ascii_lowercase) ∙ ap length e
-
 -- if the trimmed text is the scheme and then rest, the text after the scheme is rest without tabs and newlines
-pub after_is : (t rest : List ℕ) (h : IsSchemeAndRest (trimmed_text t) rest)
+after_is : (t rest : List ℕ) (h : IsSchemeAndRest (trimmed_text t) rest)
     → after_scheme t ≡ Some (without_tabs_and_newlines rest)
 unfolding after_scheme cleaned_text
-after_is t rest h = let parts : without_tabs_and_newlines (trimmed_text t) ≡ without_tabs_and_newlines
-    h.scheme ++ without_tabs_and_newlines rest = cc (without_tabs_and_newlines-append h.scheme rest) in
-    let five = scheme_length h.scheme h.spelled in
-    let first : map to_ascii_lowercase (take 5 (without_tabs_and_newlines (trimmed_text t)))
-    ≡ codes "data:" = cc (take_at (without_tabs_and_newlines h.scheme) (without_tabs_and_newlines rest) 5 five) in
-    let others : drop 5 (without_tabs_and_newlines (trimmed_text t)) ≡ without_tabs_and_newlines rest =
-    ap (drop 5) parts ∙ drop_at (without_tabs_and_newlines h.scheme) (without_tabs_and_newlines rest) 5 five in cc
+after_is t rest h =
+    let s = without_tabs_and_newlines h.scheme in
+    let five : length s ≡ 5 = sym (length-map s to_ascii_lowercase) ∙ ap length h.spelled in
+    cc (
+      h.joined,
+      without_tabs_and_newlines-append h.scheme rest,
+      take_at s (without_tabs_and_newlines rest) 5 five,
+      drop_at s (without_tabs_and_newlines rest) 5 five,
+    )
 
 -- if the trimmed text does not begin with the scheme, there is no text after the scheme
-pub after_none : (t : List ℕ) → HasNoScheme (trimmed_text t) → after_scheme t ≡ None
+after_none : (t : List ℕ) → HasNoScheme (trimmed_text t) → after_scheme t ≡ None
 unfolding after_scheme cleaned_text
 after_none t h = grind arith
 
 -- Header, body and fragment
 
--- the text after a scheme, cut at its first comma
-pub record IsStaged (rest header tail : List ℕ) : Type 0 where
-  pub front_is : front (without_tabs_and_newlines rest) ≡ without_tabs_and_newlines header ++ 44 ∷ front
-      (without_tabs_and_newlines tail)
-  pub lacks_comma : after 44 (without_tabs_and_newlines header) ≡ None
-  pub fragment_is : fragment (without_tabs_and_newlines rest) ≡ fragment (without_tabs_and_newlines tail)
+-- a text that is cut at its first comma is so without tabs and newlines
+dropped_parts : {rest header tail : List ℕ} → IsHeaderAndTail rest header tail
+    → IsHeaderAndTail (without_tabs_and_newlines rest) (without_tabs_and_newlines header) (without_tabs_and_newlines tail)
+dropped_parts {rest} {header} {tail} h = search (arith, dropped_around, after-dropped_none)
 
--- if rest is a header, the first comma, and a tail, its front is cut at the same comma after tabs and newlines are
--- dropped, and its fragment is that of the tail
-pub is_staged : (rest header tail : List ℕ) → IsHeaderAndTail rest header tail → IsStaged rest header tail
-unfolding front fragment
-is_staged rest header tail h =
-    search (arith, dropped_around, after-dropped_none, before-append, before_other, after-append, after_other)
+-- the fragment of a text that is cut at its first comma is that of its tail
+fragment_cut : {a header tail : List ℕ} → IsHeaderAndTail a header tail → fragment a ≡ fragment tail
+unfolding fragment
+fragment_cut {a} {header} {tail} h = grind (arith, after-append, after_other)
+
+-- the front of a text that is cut at its first comma
+front_cut : {a header tail : List ℕ} → IsHeaderAndTail a header tail → front a ≡ header ++ 44 ∷ front tail
+unfolding front
+front_cut {a} {header} {tail} h = grind (arith, before-append, before_other)
 
 -- if a is the text after the scheme, the staged front is the front of a, serialised
-pub front_of : (t a : List ℕ) → after_scheme t ≡ Some a → staged_front t ≡ Some (serialised (front a))
+front_of : (t a : List ℕ) → after_scheme t ≡ Some a → staged_front t ≡ Some (serialised (front a))
 unfolding staged_front
 front_of t a h = ap (option_map (λ a. serialised (front a))) h
 
 -- s has a comma; t is the text after it with some bytes percent-encoded
-pub record HasTail (s t : List ℕ) : Type 0 where
+record HasTail (s t : List ℕ) : Type 0 where
   pub rest : List ℕ
   pub is : after 44 s ≡ Some rest
   pub recoded : Recoded t rest
@@ -219,79 +205,63 @@ pub record HasTail (s t : List ℕ) : Type 0 where
 has_tail : (s header t : List ℕ) → IsBytes s → s ≡ header ++ 44 ∷ t → after 44 header ≡ None → HasTail (serialised s) t
 has_tail s header t b e h = grind (arith, after_at, recoded_tails, serialised_recoded)
 
+-- the stages of a text, by its header and its tail without tabs and newlines
+pub record HasStages (t header tail : List ℕ) : Type 0 where
+  pub body : List ℕ
+  pub header_is : header_of t ≡ Some (header_text header)
+  pub body_is : encoded_body t ≡ Some body
+  pub decoded_is : percent_decoding body ≡ percent_decoding (front tail)
+
+-- the stages of a text of which what follows the scheme is cut at its first comma
+has_stages : {t a header tail : List ℕ} → after_scheme t ≡ Some a → IsBytes a → IsHeaderAndTail a header tail
+    → HasStages t header tail
+unfolding header_of encoded_body front
+has_stages {t} {a} {header} {tail} e b h =
+    let f = front_of t a e in
+    let k = has_tail (front a) header (front tail) (bytes_before 35 a b) (front_cut h) h.no_comma in
+    record {
+      body = k.rest;
+      header_is = cc (f, front_cut h, before-serialised header (front tail) h.no_comma, k.is);
+      body_is = ap (option_and_then (after 44)) f ∙ k.is;
+      decoded_is = recoded-decoded k.recoded;
+    }
+
 -- the stages of a text that is accepted, by its raw header and tail
 pub record IsAccepted (t header tail : List ℕ) : Type 0 where
-  pub body : List ℕ
   pub header_is : header_of t ≡ Some (header_text (without_tabs_and_newlines header))
-  pub body_is : encoded_body t ≡ Some body
-  pub decoded_is : percent_decoding body ≡ percent_decoding (front (without_tabs_and_newlines tail))
+  pub stages : HasStages t (without_tabs_and_newlines header) (without_tabs_and_newlines tail)
   pub tail_is : tail_of t ≡ Some tail
-
--- if the trimmed text is the scheme, a header, the first comma, and a tail, its tail is this one
-tail_is_of : (t rest header tail : List ℕ) → IsSchemeAndRest (trimmed_text t) rest → IsHeaderAndTail rest header tail
-    → tail_of t ≡ Some tail
-unfolding tail_of
-tail_is_of t rest header tail s h = grind (arith, after-append, scheme_has_no_comma, after_at)
 
 -- a text with the scheme, and then a header, the first comma, and a tail has the stages of that header and tail
 pub is_accepted : (t rest header tail : List ℕ) → IsBytes rest → IsSchemeAndRest (trimmed_text t) rest
     → IsHeaderAndTail rest header tail → IsAccepted t header tail
-unfolding header_of encoded_body front
+unfolding tail_of
 is_accepted t rest header tail b s h =
-    let staged = is_staged rest header tail h in
-    let f = front_of t (without_tabs_and_newlines rest) (after_is t rest s) in
-    let bytes = bytes_before 35 (without_tabs_and_newlines rest) (bytes_dropped rest b) in
-    let k = has_tail (front (without_tabs_and_newlines rest)) (without_tabs_and_newlines header)
-    (front (without_tabs_and_newlines tail)) bytes staged.front_is staged.lacks_comma in
+    let k = has_stages (after_is t rest s) (bytes_dropped rest b) (dropped_parts h) in
     record {
-      body = k.rest;
-      header_is =
-          cc (before-serialised (without_tabs_and_newlines header) (front (without_tabs_and_newlines tail))
-          staged.lacks_comma);
-      body_is = ap (option_and_then (after 44)) f ∙ k.is;
-      decoded_is = recoded-decoded k.recoded;
-      tail_is = tail_is_of t rest header tail s h;
+      header_is = k.header_is;
+      stages = k;
+      tail_is = grind (arith, after-append, scheme_has_no_comma, after_at);
     }
 
 -- No comma
 
--- if a text has no comma, and the tail of another text is its tail, recoded, the other text has no comma either
-no_tail_of : (s x : List ℕ) → after 44 s ≡ None → RecodedTails (after 44 s) (after 44 x) → after 44 x ≡ None
-no_tail_of s x e h = grind arith
-
--- cutting at a byte that is kept, and dropping tabs and newlines, can be done in either order
-before-without_tabs_and_newlines : (c : ℕ) → is_tab_or_newline c ≡ false → (s : List ℕ)
-    → before c (without_tabs_and_newlines s) ≡ without_tabs_and_newlines (before c s)
-before-without_tabs_and_newlines c k [] = grind (arith, dropped_nil, before_nil)
-before-without_tabs_and_newlines c k (b ∷ s) =
-    search (
-      arith,
-      dropped_keeps,
-      before_same,
-      dropped_nil,
-      dropped_passes,
-      before-without_tabs_and_newlines c k s,
-      before_other,
-    )
+-- a text of which what follows the scheme has no comma before its first '#' has no header
+no_header : (t a : List ℕ) → after_scheme t ≡ Some a → IsBytes a → after 44 (front a) ≡ None → header_of t ≡ None
+unfolding header_of front
+no_header t a e b h =
+    let r = recoded_tails (serialised_recoded (front a) (bytes_before 35 a b)) in
+    let n : after 44 (serialised (front a)) ≡ None = grind arith in
+    cc (front_of t a e)
 
 -- if a text has no comma before its first '#', neither has the text without tabs and newlines
 front_lacks : (rest : List ℕ) → after 44 (front rest) ≡ None → after 44 (front (without_tabs_and_newlines rest))
     ≡ None
 unfolding front
-front_lacks rest h = grind (arith, before-without_tabs_and_newlines, after-dropped_none)
-
--- a text with the scheme whose front has no comma has no header
-pub no_header : (t rest : List ℕ) → IsBytes rest → IsSchemeAndRest (trimmed_text t) rest → after 44 (front rest) ≡ None
-    → header_of t ≡ None
-unfolding header_of front
-no_header t rest b s h =
-    let raw : after 44 (front (without_tabs_and_newlines rest)) ≡ None = front_lacks rest h in
-    let bytes = bytes_before 35 (without_tabs_and_newlines rest) (bytes_dropped rest b) in
-    cc (
-      front_of t (without_tabs_and_newlines rest) (after_is t rest s),
-      no_tail_of (front (without_tabs_and_newlines rest)) (serialised (front (without_tabs_and_newlines rest))) raw
-          (recoded_tails (serialised_recoded (front (without_tabs_and_newlines rest)) bytes)),
-    )
+front_lacks rest h = elim (none_or_some (after 35 rest)) [
+  | inl e ↦ grind (arith, before_all, after-dropped_none)
+  | inr (x, e) ↦ grind (arith, is_cut 35 rest x e, dropped_around, before_at, after-dropped_none)
+]
 
 -- The record of a header.
 
@@ -358,50 +328,7 @@ pub no_suffix : (header : List ℕ) (m : Record) → before_base64 (stripped_hea
 unfolding mime_text media_of has_base64_suffix
 no_suffix header m e h = grind arith
 
--- the text before the suffix is a prefix of the header, so it is printable too
-word_begins : (s m : List ℕ) → before_word s ≡ Some m → IsPrintable s → IsPrintable m
-word_begins s m e h = grind (arith, printable_take)
-
--- the text before the final ';' of a printable text is printable
-semicolon_begins : (s m : List ℕ) → before_semicolon s ≡ Some m → IsPrintable s → IsPrintable m
-semicolon_begins s m e h = grind (arith, printable_take)
-
--- a printable text without the spaces at its end is printable
-printable_end : (s : List ℕ) → IsPrintable s → IsPrintable (without_end is_space s)
-printable_end s h = printable_take (length s - suffix_len is_space s) s h
-
--- the text before the base64 suffix of a printable text is printable
-pub printable_media : (s m : List ℕ) → IsPrintable s → before_base64 s ≡ Some m → IsPrintable m
-unfolding before_base64
-printable_media s m h e = at (before_word s) refl e where
-  at : (o : Option (List ℕ)) → before_word s ≡ o → option_and_then (λ x. before_semicolon (without_end is_space x)) o
-      ≡ Some m → IsPrintable m
-  at None f k = absurd (cc)
-  at (Some x) f k = semicolon_begins (without_end is_space x) m k (printable_end x (word_begins s x f h))
-
 -- The head of a MIME type whose type is missing: that of "text/plain" with the parameters after it.
-
--- "text" and "plain" are words
-
--- the word "text" has only HTTP token code points
-token_text : IsTrue (is_token_text (codes "text"))
-unfolding on_literals
-token_text = refl
-
--- the word "plain" has only HTTP token code points
-token_plain : IsTrue (is_token_text (codes "plain"))
-unfolding on_literals
-token_plain = refl
-
--- the code points of "text" are its bytes
-chars_text : codes "text" ≡ chars (codes "text")
-unfolding chars
-chars_text = refl
-
--- the code points of "plain" are its bytes
-chars_subtype : codes "plain" ≡ chars (codes "plain")
-unfolding chars
-chars_subtype = refl
 
 -- The head
 
@@ -415,10 +342,12 @@ ends_after : (p : ℕ → _) (c : ℕ) (t : List ℕ) → p c ≡ false → Does
 ends_after p c [] n h = n
 ends_after p c (d ∷ t) n h = h
 
--- the head of "text/plain" and s has type "text", subtype "plain", and the parameters s without whitespace at its end
-head_of : (s t : List ℕ) → BeginsParameters s → IsTrimmedEnd is_http_whitespace s t
-    → IsHead (codes "text/plain" ++ s) (codes "text") (codes "plain") t
-head_of s t b e = record {
+-- if s is empty or begins with ';', "text/plain" ++ s has the type "text", the subtype "plain" and, as the text of its
+-- parameters, s without HTTP whitespace at its end
+pub plain_head_is : (s t : List ℕ) → BeginsParameters s → IsTrimmedEnd is_http_whitespace s t
+    → IsHead (codes "text/plain" ++ s) (chars (codes "text")) (chars (codes "plain")) t
+unfolding on_literals chars
+plain_head_is s t b e = record {
   gap = [];
   joined = sym (trimmed_end_is is_http_whitespace (codes "text/plain" ++ s) (codes "text/plain" ++ t) (record {
     back = e.back;
@@ -426,17 +355,11 @@ head_of s t b e = record {
     at_back = e.at_back;
     ends = ends_after is_http_whitespace 110 t refl e.ends;
   }));
-  is_type = token_text;
-  is_subtype = token_plain;
+  is_type = refl;
+  is_subtype = refl;
   in_gap = tt;
   begins = front_begins t e.back (subst BeginsParameters e.joined b);
 }
-
--- if s is empty or begins with ';', "text/plain" ++ s has the type "text", the subtype "plain" and, as the text of its
--- parameters, s without HTTP whitespace at its end
-pub plain_head_is : (s t : List ℕ) → BeginsParameters s → IsTrimmedEnd is_http_whitespace s t
-    → IsHead (codes "text/plain" ++ s) (chars (codes "text")) (chars (codes "plain")) t
-plain_head_is s t b e = grind (arith, chars_text, chars_subtype, head_of)
 
 -- A type that is missing
 
@@ -476,7 +399,9 @@ rest_bytes t rest b s = (bytes_append s.scheme rest (subst IsBytes s.joined b)).
 pub stages_no_comma : (t rest : List ℕ) → IsBytes (trimmed_text t) → IsSchemeAndRest (trimmed_text t) rest
     → after 44 (front rest) ≡ None → staged t ≡ NoComma
 unfolding staged
-stages_no_comma t rest b s h = cc (after_is t rest s, no_header t rest (rest_bytes t rest b s) s h)
+stages_no_comma t rest b s h =
+    let a = after_is t rest s in
+    cc (a, no_header t _ a (bytes_dropped rest (rest_bytes t rest b s)) (front_lacks rest h))
 
 -- if the trimmed text is the scheme, a header, the first comma, and a tail, the Standard accepts it; the MIME type is
 -- that of the header, and the body and the fragment are those of the tail
@@ -488,8 +413,7 @@ pub stages_accepted : (t rest header tail : List ℕ) → IsBytes (trimmed_text 
 unfolding staged plain_body
 stages_accepted t rest header tail b s h flag f =
     let a = is_accepted t rest header tail (rest_bytes t rest b s) s h in
-    let text = header_text (without_tabs_and_newlines header) in
-    cc (after_is t rest s, (is_staged rest header tail h).fragment_is)
+    cc (after_is t rest s, fragment_cut (dropped_parts h))
 
 -- if the trimmed text is the scheme, a header, the first comma, and a tail, the Standard accepts it
 pub is_acceptable : (t rest header tail : List ℕ) → IsBytes (trimmed_text t) → IsSchemeAndRest (trimmed_text t) rest
@@ -498,17 +422,6 @@ is_acceptable t rest header tail b s h =
     subst IsAcceptable (sym
     (stages_accepted t rest header tail b s h (has_base64_suffix (header_text (without_tabs_and_newlines header)))
     refl)) tt
-
--- the percent-decoded body of the Standard is the body of the tail
-body_of : (t header tail : List ℕ) → IsAccepted t header tail → option_map percent_decoding (encoded_body t) ≡ Some
-    (plain_body tail)
-unfolding plain_body
-body_of t header tail a = ap (option_map percent_decoding) a.body_is ∙ ap (λ (x : List ℕ). Some x) a.decoded_is
-
--- the fragment of the Standard is the fragment of the tail; if one is missing, so is the other
-fragment_of : (t rest header tail : List ℕ) → IsSchemeAndRest (trimmed_text t) rest → IsHeaderAndTail rest header tail
-    → option_map fragment (after_scheme t) ≡ Some (fragment (without_tabs_and_newlines tail))
-fragment_of t rest header tail s h = cc (after_is t rest s, (is_staged rest header tail h).fragment_is)
 
 -- if the trimmed text is the scheme, a header, the first comma, and the tail of u, and the record and the flag of u are
 -- those of the header, then u is the URL of the text
@@ -525,30 +438,6 @@ is_url_of t rest header u b s h k =
       base64_is = k.base64_is;
       tail_is = a.tail_is;
       staged_is = stages_accepted t rest header (url_tail u) b s h (is_base64 u) k.base64_is;
-    }
-
--- The fragment
-
--- if the body of a tail ends where the tail ends, the tail has no '#'
-pub no_fragment : (tail : List ℕ) (place : ℕ) → IsBodyEnd tail place → place ≡ length tail → None ≡ after 35 tail
-no_fragment tail place h e = sym (h.after_is ∙ ap rest_fragment (drop_all place tail (omega arith)))
-
--- at the place is the first '#' of the tail
-pub record HasHash (tail : List ℕ) (place : ℕ) : Type 0 where
-  pub within : place < length tail
-  pub is : get_or tail place 0 ≡ 35
-  pub fragment_is : after 35 tail ≡ Some (drop (place + 1) tail)
-
--- if the body of a tail does not end where the tail ends, it ends at the first '#' of the tail
-pub has_hash : (tail : List ℕ) (place : ℕ) → IsBodyEnd tail place → (place ≡ length tail → ⊥) → HasHash tail place
-has_hash tail place h n =
-    let inside = h.within in
-    let within : place < length tail = omega arith in
-    let here : drop place tail ≡ get_or tail place 0 ∷ drop (place + 1) tail = drop_more tail place 0 within in
-    record {
-      within = within;
-      is = subst BeginsFragment here h.begins;
-      fragment_is = h.after_is ∙ ap rest_fragment here;
     }
 
 -- a text of bytes without its first n bytes is a text of bytes
@@ -570,95 +459,68 @@ bytes_trimmed t h = grind (arith, bytes_take, bytes_drop, bytes_by_place)
 
 -- The body and the fragment of a URL
 
--- first is the beginning of s that has the first n bytes of s without tabs and newlines, and rest follows it
-record Begins (n : ℕ) (s : List ℕ) : Type 0 where
-  pub first : List ℕ
-  pub rest : List ℕ
-  pub joined : s ≡ first ++ rest
-  pub first_is : without_tabs_and_newlines first ≡ take n (without_tabs_and_newlines s)
-
--- each text has such a beginning
-begins : (n : ℕ) (s : List ℕ) → Begins n s
-begins zero s = record { first = []; rest = s; joined = refl; first_is = dropped_nil }
-begins (suc n) [] = record { first = []; rest = []; joined = refl; first_is = cc (dropped_nil) }
-begins (suc n) (b ∷ s) = elim (cases_Bool (is_tab_or_newline b)) [
-  | inl e ↦
-      let k = begins (suc n) s in record {
-        first = b ∷ k.first;
-        rest = k.rest;
-        joined = ap (λ t. b ∷ t) k.joined;
-        first_is = cc (dropped_passes b k.first e, k.first_is, dropped_passes b s e);
-      }
-  | inr e ↦
-      let k = begins n s in record {
-        first = b ∷ k.first;
-        rest = k.rest;
-        joined = ap (λ t. b ∷ t) k.joined;
-        first_is = cc (dropped_keeps b k.first e, k.first_is, dropped_keeps b s e);
-      }
-]
-
--- if there is text after the scheme, the trimmed text is the scheme and some rest
-scheme_of : (t a : List ℕ) → after_scheme t ≡ Some a → (rest : List ℕ) × IsSchemeAndRest (trimmed_text t) rest
-unfolding after_scheme cleaned_text
-scheme_of t a h =
-    let k = begins 5 (trimmed_text t) in
-    let spelled : map to_ascii_lowercase (take 5 (without_tabs_and_newlines (trimmed_text t))) ≡ codes "data:" =
-    grind (arith, bytes_eq-Decides) in
-    (k.rest, record { scheme = k.first; joined = k.joined; spelled = ap (map to_ascii_lowercase) k.first_is ∙ spelled })
-
 -- if there is a comma before the first '#', there is no '#' before the first comma
 comma_first : (s x : List ℕ) → after 44 (before 35 s) ≡ Some x → after 35 (before 44 s) ≡ None
 comma_first [] x h = grind (arith, before_nil, after_nil)
 comma_first (b ∷ s) x h =
     grind (arith, cases_Bool, eqb-true, before_same, after_nil, before_other, after_other, comma_first s x)
 
--- the trimmed text is the scheme, a header without '#', the first comma, and the tail
+-- what follows the scheme is cut at its first comma, before the tail without tabs and newlines
 record HasParts (t tail : List ℕ) : Type 0 where
   pub rest : List ℕ
   pub header : List ℕ
-  pub scheme : IsSchemeAndRest (trimmed_text t) rest
-  pub parts : IsHeaderAndTail rest header tail
+  pub rest_is : after_scheme t ≡ Some rest
+  pub bytes : IsBytes rest
+  pub parts : IsHeaderAndTail rest header (without_tabs_and_newlines tail)
 
--- an option is `None`, or `Some` of a value
-none_or_some : {A : Type 0} (o : Option A) → (o ≡ None) ⊎ ((x : A) × (o ≡ Some x))
-none_or_some None = inl refl
-none_or_some (Some x) = inr (x, refl)
-
--- a text that has a scheme, a header and a tail has such parts
-cut_parts : (t header tail a : List ℕ) → IsBytes (trimmed_text t) → after_scheme t ≡ Some a → header_of t ≡ Some header
-    → tail_of t ≡ Some tail → HasParts t tail
-unfolding tail_of front
-cut_parts t header tail a b h e k =
-    let s = scheme_of t a h in
-    let cut : after 44 s.0 ≡ Some tail = grind (arith, after-append, scheme_has_no_comma) in
-    let c = is_cut 44 s.0 tail cut in
-    elim (none_or_some (after 44 (front s.0))) [
-      | inl n ↦ absurd (let m = no_header t s.0 (rest_bytes t s.0 b s.1) s.1 n in cc)
-      | inr (x, y) ↦ record {
-        rest = s.0;
-        header = before 44 s.0;
-        scheme = s.1;
-        parts = record { joined = c.joined; no_comma = c.lacks; no_fragment = comma_first s.0 x y };
-      }
-    ]
+-- if there is text after the scheme and a tail, the tail without tabs and newlines follows the first comma of the text
+tail_after : (t a tail : List ℕ) → after_scheme t ≡ Some a → tail_of t ≡ Some tail
+    → (a ≡ drop 5 (cleaned_text t)) × (after 44 a ≡ Some (without_tabs_and_newlines tail))
+unfolding after_scheme cleaned_text tail_of
+tail_after t a tail h e =
+    let x = without_tabs_and_newlines (trimmed_text t) in
+    let spelled : map to_ascii_lowercase (take 5 x) ≡ codes "data:" = grind (arith, bytes_eq-Decides) in
+    let rest : a ≡ drop 5 x = grind arith in
+    let no = lacks_comma (take 5 x) (ap (after 44) spelled ∙ scheme_lacks) in (
+      rest,
+      cc (
+        after-append 44 (take 5 x) (drop 5 x) no,
+        take-append-drop 5 x,
+        after_dropped 44 refl (trimmed_text t) tail e,
+      ),
+    )
 
 -- the text of a URL has the tail of the URL
 url_parts : (t : List ℕ) (u : DataUrl) → ((i : ℕ) → get_or t i 0 < 256) → IsUrlOf t u → HasParts t (url_tail u)
-unfolding header_of staged_front
-url_parts t u b h = grind (arith, none_or_some, cut_parts, bytes_trimmed)
+unfolding header_of staged_front front cleaned_text
+url_parts t u b h = elim (none_or_some (after_scheme t)) [
+  | inl e ↦ absurd (let k = h.header_is in cc)
+  | inr (a, e) ↦
+      let k = tail_after t a (url_tail u) e h.tail_is in
+      let bytes = subst IsBytes (sym k.0) (bytes_drop 5 _ (bytes_dropped (trimmed_text t) (bytes_trimmed t b))) in
+      let cut = is_cut 44 a (without_tabs_and_newlines (url_tail u)) k.1 in
+      elim (none_or_some (after 44 (front a))) [
+        | inl n ↦ absurd (let m = no_header t a e bytes n in let k = h.header_is in cc)
+        | inr (x, y) ↦ record {
+          rest = a;
+          header = before 44 a;
+          rest_is = e;
+          bytes = bytes;
+          parts = record { joined = cut.joined; no_comma = cut.lacks; no_fragment = comma_first a x y };
+        }
+      ]
+]
 
 -- the percent-decoded body of the Standard is the body of the tail of the URL
 pub body_of_url : (t : List ℕ) (u : DataUrl) → ((i : ℕ) → get_or t i 0 < 256) → IsUrlOf t u
     → option_map percent_decoding (encoded_body t) ≡ Some (plain_body (url_tail u))
+unfolding plain_body
 body_of_url t u b h =
     let k = url_parts t u b h in
-    let bytes = rest_bytes t k.rest (bytes_trimmed t b) k.scheme in
-    body_of t k.header (url_tail u) (is_accepted t k.rest k.header (url_tail u) bytes k.scheme k.parts)
+    let s = has_stages k.rest_is k.bytes k.parts in
+    cc (s.body_is, s.decoded_is)
 
 -- the fragment of the Standard is the fragment of the tail of the URL; if one is missing, so is the other
 pub fragment_of_url : (t : List ℕ) (u : DataUrl) → ((i : ℕ) → get_or t i 0 < 256) → IsUrlOf t u
     → option_map fragment (after_scheme t) ≡ Some (fragment (without_tabs_and_newlines (url_tail u)))
-fragment_of_url t u b h =
-    let k = url_parts t u b h in
-    fragment_of t k.rest k.header (url_tail u) k.scheme k.parts
+fragment_of_url t u b h = let k = url_parts t u b h in cc (k.rest_is, fragment_cut k.parts)

@@ -1,6 +1,6 @@
 -- Runs of a closure, one after another.
 use Rattle.std.proofs.Common.{◌≡◌, ℕ, List, [], ◌∷◌, ◌++◌, Option, None, Some, is_some, Result, Ok, Err, refl, ap, sym}
-use Rattle.std.proofs.Common.{◌∙◌, append_assoc, subst, true}
+use Rattle.std.proofs.Common.{◌∙◌, append_assoc, subst, true, inl, inr, ◌⊎◌}
 use Rattle.std.proofs.lemmas.List.{append-nil}
 use Rattle.std.specs.Prelude.{IsErr, MatchOption}
 use Rattle.std.proofs.lemmas.Bool.{false≢true, true≢false}
@@ -51,6 +51,11 @@ joined_pieces-append (c ∷ cs) ys = ap (λ x. c.piece ++ x) (joined_pieces-appe
     ∙ sym (append_assoc c.piece (joined_pieces cs) (joined_pieces ys))
 
 -- Cases of an option
+
+-- an option is `None`, or `Some` of a value
+pub none_or_some : {A : Type 0} (o : Option A) → (o ≡ None) ⊎ ((x : A) × (o ≡ Some x))
+none_or_some None = inl refl
+none_or_some (Some x) = inr (x, refl)
 
 -- if o is `None`, P implies `MatchOption o P Q`
 pub match_none : {A : Type 0} (o : Option A) (P : Type 0) (Q : A → Type 0) → o ≡ None → P → MatchOption o P Q

@@ -7,6 +7,6 @@ use Rattle.data_url.specs.Url.{percent_sign}
 abbrev pub before_percent : List ℕ → ℕ
 before_percent s = prefix_len (λ b. not (b == percent_sign)) s
 
--- how many bytes may have been read, if the blocks read so far end at `seen` and the walk is at `place`
-abbrev pub paid_looks : List ℕ → ℕ → ℕ → ℕ
-paid_looks text seen place = seen + 2 * place + before_percent (drop place text)
+-- how many bytes may have been read if the walk is at an index, besides those of the blocks
+abbrev pub paid : List ℕ → ℕ → ℕ
+paid text place = 2 * place + before_percent (drop place text)

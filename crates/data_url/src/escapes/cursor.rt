@@ -1,16 +1,15 @@
 //! The walk over the text of a body.
 
-ghost use Rattle.std.specs.Prelude.{ℕ, ◌≡◌, ◌+◌, ◌-◌, ◌^◌, ◌<◌, ◌≤◌, IsTrue, MatchOption, length, slice_index, slice_range, true};
-ghost use Rattle.std.specs.Option.{option_map};
-ghost use Rattle.data_url.specs.Pieces.{IsPiece, IsStretch, bytes_of, has_ended, text_of, walk_of};
+ghost use Rattle.std.specs.Prelude.{ℕ, [], ◌≡◌, ◌+◌, ◌<◌, ◌≤◌, IsTrue, drop, length, slice_index, true};
+ghost use Rattle.data_url.specs.Pieces.{is_slice_end, text_of, walk_at_front, walk_of};
 ghost use Rattle.data_url.specs.Steps.Chunks.{GivesBytes};
-ghost use Rattle.data_url.specs.Url.{after, number_sign};
-ghost use Rattle.data_url.specs.Steps.Walk.{EscapeAt, Gathers, GoesOn, HasRoom, IsGathered, IsNear, IsNextMark, IsPlain, IsStop, IsWide, KeepsBlock, Knows, KnowsAhead, Looking, LooksOn, MayGather, Moves, Stays};
+ghost use Rattle.data_url.specs.Steps.Walk.{Gathering, Gathers, GoesOn, HasRoom, IsGathered, IsNear, IsPart, IsWide, Knows, KnowsAhead, Looking, LooksOn, MayGather, Moves, Searching, Spells};
 ghost use Rattle.data_url.specs.Steps.Window.{is_marked};
 
 use super::Piece;
 use super::lanes::BLOCK;
 use super::source::Source;
+use super::stops::{Block, Stop};
 
 /// The greatest number of bytes that are gathered.
 pub(crate) const ROOM: usize = 256;
@@ -34,157 +33,31 @@ pub(super) enum Ahead {
     End,
 }
 
-/// What begins at a marked byte.
-pub(super) enum Stop {
-    /// A `%` that begins no escape.
-    Stays,
-    /// A tab or a newline.
-    Passed,
-    /// An escape: its value, and the place after it.
-    Escape(u8, usize),
-    /// The `#` before the fragment, or the end of the text.
-    End,
-}
-
 /// A walk: its text, the block that was read last with its marks, its place, and what is known there.
 #[derive(Drop)]
 pub(super) struct Cursor<'a> {
-    source: Source<'a>,
-    // The block from `base` up to `seen`, and its marks.
-    base: usize,
-    seen: usize,
-    marks: u64,
-    place: usize,
-    ahead: Ahead,
+    pub(super) source: Source<'a>,
+    block: Block,
+    pub(super) place: usize,
+    pub(super) ahead: Ahead,
 }
 
 impl<'a> Cursor<'a> {
     /// A walk that begins at the front of a text.
     pub(super) fn new(text: &'a str) -> Self
-        ensures text { text_of result ≡ text.entry.now }
-        ensures place { result.place ≡ 0 }
-        ensures looks { result.source.looks ≡ 0 }
-        ensures unseen { result.seen ≡ 0 }
-        ensures unknown { result.ahead ≡ Ahead.Unknown }
+        ensures walk { walk_of result ≡ walk_at_front text.entry.now }
         ensures knows { Knows result }
     {
         Cursor {
             source: Source::new(text),
-            base: 0,
-            seen: 0,
-            marks: 0,
+            block: Block {
+                base: 0,
+                seen: 0,
+                marks: 0,
+            },
             place: 0,
             ahead: Ahead::Unknown,
         }
-    }
-
-    /// Looks at the block at a place.
-    #[inline(always)]
-    fn look_on(&mut self, place: usize)
-        requires within { place < length (text_of self.old) }
-        requires unseen { self.old.seen ≤ place }
-        requires looking { Looking self.old place 0 }
-        ensures looking { Looking self.new place 0 }
-        ensures stays { Stays self.old self.new }
-        ensures begins { self.new.base ≡ place }
-        ensures seen { place < self.new.seen }
-    {
-        self.marks = self.source.look_block(place);
-        self.base = place;
-        self.seen = place + (self.source.len() - place).min(BLOCK);
-    }
-
-    /// The place of the first marked byte from a place on, or the end of the text.
-    #[inline(always)]
-    fn next_mark(&mut self, from: usize) -> usize
-        requires { Looking self.old from 0 }
-        ensures looking { Looking self.new result 0 }
-        ensures stays { Stays self.old self.new }
-        ensures mark { IsNextMark (text_of self.old) from result }
-        ensures bound { length (text_of self.old) < 2 ^ 64 }
-    {
-        let len = self.source.len();
-        let mut place = from;
-        if place < self.seen {
-            let marks = self.marks >> (place - self.base);
-            if marks != 0 {
-                return place + marks.trailing_zeros() as usize;
-            }
-            place = self.seen;
-        }
-        while place < len {
-            self.look_on(place);
-            if self.marks != 0 {
-                return place + self.marks.trailing_zeros() as usize;
-            }
-            place = self.seen;
-        }
-        place
-    }
-
-    /// What begins at a marked byte.
-    #[inline(always)]
-    fn stop_at(&mut self, mark: usize) -> Stop
-        requires within { mark < length (text_of self.old) }
-        requires marked { is_marked (slice_index (text_of self.old) mark) ≡ true }
-        requires looking { Looking self.old mark 0 }
-        ensures stop { IsStop self.new mark result }
-        ensures keeps { KeepsBlock self.old self.new }
-    {
-        let byte = self.source.look(mark);
-        if byte == b'%' {
-            return match self.source.escaped_byte(mark + 1) {
-                Some((value, end)) => Stop::Escape(value, end),
-                None => Stop::Stays,
-            };
-        }
-        if byte == b'#' {
-            Stop::End
-        } else {
-            Stop::Passed
-        }
-    }
-
-    /// What begins at a marked byte, or that the text ends.
-    #[inline(always)]
-    fn stop_from(&mut self, mark: usize) -> Stop
-        requires marked { mark < length (text_of self.old)
-            → is_marked (slice_index (text_of self.old) mark) ≡ true }
-        requires looking { Looking self.old mark 0 }
-        ensures stop { IsStop self.new mark result }
-        ensures keeps { KeepsBlock self.old self.new }
-    {
-        if mark < self.source.len() {
-            self.stop_at(mark)
-        } else {
-            Stop::End
-        }
-    }
-
-    /// The value of an escape without tabs and newlines at the place, which is right after another one. The walk goes
-    /// past it.
-    #[inline(always)]
-    fn escape_here(&mut self) -> Option<u8>
-        requires within { self.old.place + 3 ≤ length (text_of self.old) }
-        requires looking { Looking self.old self.old.place 3 }
-        ensures near { self.new.place ≤ self.old.place + 3 }
-        ensures block { (self.new.base ≡ self.old.base) × (self.new.seen ≡ self.old.seen)
-            × (self.new.marks ≡ self.old.marks) }
-        ensures ahead { self.new.ahead ≡ self.old.ahead }
-        ensures on { LooksOn self.old self.new }
-        ensures found { MatchOption result
-            ((self.new.place ≡ self.old.place) × Looking self.new self.new.place 0)
-            (λ value. EscapeAt (text_of self.old) self.old.place value self.new.place
-            × Looking self.new self.new.place 3) }
-    {
-        let _len = self.source.len();
-        let place = self.place;
-        if self.source.look(place) != b'%' {
-            return None;
-        }
-        let value = self.source.two_digits(place + 1)?;
-        self.place = place + 3;
-        Some(value)
     }
 
     /// The next piece.
@@ -202,7 +75,8 @@ impl<'a> Cursor<'a> {
                 return Some(Piece::Byte(value));
             }
             Ahead::AfterEscape if self.source.len() - self.place >= ESCAPE => {
-                if let Some(value) = self.escape_here() {
+                if let Some(value) = self.source.escape_here(self.place) {
+                    self.place += ESCAPE;
                     return Some(Piece::Byte(value));
                 }
             }
@@ -214,14 +88,14 @@ impl<'a> Cursor<'a> {
     /// The next piece, of which nothing is known.
     #[inline(always)]
     fn next_stretch(&mut self) -> Option<Piece<'a>>
-        requires { Looking self.old self.old.place 0 }
+        requires { Looking self.old.source self.old.block self.old.place 0 }
         ensures goes { GoesOn self.old result self.new }
         ensures knows { KnowsAhead self.new self.new.ahead }
     {
         let mut from = self.place;
         loop {
-            let mark = self.next_mark(from);
-            match self.stop_from(mark) {
+            let mark = self.block.next_mark(&mut self.source, from);
+            match self.source.stop_from(mark) {
                 Stop::Stays => from = mark + 1,
                 Stop::Passed if mark == self.place => {
                     self.place = mark + 1;
@@ -248,12 +122,12 @@ impl<'a> Cursor<'a> {
     /// The stretch from the place up to a mark. The walk goes on at another place, of which something is known.
     #[inline(always)]
     fn slice_to(&mut self, mark: usize, next: usize, ahead: Ahead) -> Piece<'a>
-        requires forward { self.old.place ≤ mark }
-        requires within { mark ≤ length (text_of self.old) }
+        requires some { self.old.place < mark }
+        requires ends { is_slice_end (drop mark (text_of self.old)) ≡ true }
+        requires after { Spells (text_of self.old) mark next [] [] }
         ensures walk { self.new ≡ record self.old { place = next; ahead = ahead } }
-        ensures piece { bytes_of result ≡ slice_range (text_of self.old) self.old.place mark }
-        ensures slice { (from to : ℕ) → IsStretch (text_of self.old) from to (bytes_of result)
-            → IsPiece (text_of self.old) from to result }
+        ensures part { (from : ℕ) → Searching (text_of self.old) from self.old.place mark
+            → IsPart (text_of self.old) from next result }
     {
         let slice = self.source.cut(self.place, mark);
         self.place = next;
@@ -296,11 +170,11 @@ impl<'a> Cursor<'a> {
     {
         let mut len = self.gather_known(room);
         while len <= ROOM - 2 * BLOCK && self.is_mark_near(len) {
-            let last = self.source.len() - self.seen < BLOCK;
-            len = if last || self.marks.count_ones() >= MANY {
-                self.gather_block(room, len, false, true)
+            let last = self.source.len() - self.block.seen < BLOCK;
+            len = if last || self.block.marks.count_ones() >= MANY {
+                self.gather_block(room, len, true)
             } else {
-                self.gather_block(room, len, true, false)
+                self.gather_block(room, len, false)
             };
         }
         len
@@ -312,8 +186,7 @@ impl<'a> Cursor<'a> {
         requires { KnowsAhead self.old self.old.ahead }
         ensures gathers { Gathers self.old self.new room.old room.new 0 result }
         ensures few { result ≤ 1 }
-        ensures plain { IsPlain self.new.ahead }
-        ensures knows { KnowsAhead self.new self.new.ahead }
+        ensures gathering { Gathering self.new }
     {
         match self.ahead {
             Ahead::Escape(value, end) => {
@@ -333,11 +206,9 @@ impl<'a> Cursor<'a> {
     /// Reads the block at the place, and returns whether to gather it: it has a mark, or bytes were gathered before it.
     #[inline(always)]
     fn is_mark_near(&mut self, len: usize) -> bool
-        requires plain { IsPlain self.old.ahead }
-        requires knows { KnowsAhead self.old self.old.ahead }
-        ensures plain { IsPlain self.new.ahead }
-        ensures knows { KnowsAhead self.new self.new.ahead }
-        ensures on { LooksOn self.old self.new }
+        requires gathering { Gathering self.old }
+        ensures gathering { Gathering self.new }
+        ensures on { LooksOn self.old.source self.new.source }
         ensures place { self.new.place ≡ self.old.place }
         ensures near { IsTrue result → IsNear self.new × (self.old.ahead ≡ Ahead.Unknown) }
     {
@@ -349,28 +220,35 @@ impl<'a> Cursor<'a> {
             self.ahead = Ahead::End;
             return false;
         }
-        if place >= self.seen {
-            self.look_on(place);
+        if place >= self.block.seen {
+            self.block = self.source.look_block(place);
         }
-        len > 0 || self.marks != 0
+        len > 0 || self.block.marks != 0
     }
 
-    /// Gathers the rest of the block that was read, after the bytes that were gathered before. A wide block has another
-    /// one after it, and in a dense block escapes follow one another.
+    /// Gathers the rest of the block that was read, after the bytes that were gathered before. In a dense block escapes
+    /// follow one another. Any other block is copied by whole blocks.
     #[inline(always)]
-    fn gather_block(&mut self, room: &mut [u8; ROOM], len: usize, wide: bool, dense: bool) -> usize
+    fn gather_block(&mut self, room: &mut [u8; ROOM], len: usize, dense: bool) -> usize
         requires may { MayGather self.old len }
-        requires here { self.old.place < self.old.seen }
-        requires wide { IsWide self.old wide }
+        requires here { self.old.place < self.old.block.seen }
+        requires wide { IsWide self.old dense }
         ensures gathers { Gathers self.old self.new room.old room.new len result }
         ensures few { result ≤ 256 }
-        ensures plain { IsPlain self.new.ahead }
-        ensures knows { KnowsAhead self.new self.new.ahead }
+        ensures gathering { Gathering self.new }
         ensures moves { Moves self.old self.new }
     {
         let mut len = len;
-        while self.place < self.seen {
-            let (more, ended) = self.gather_stretch(room, len, wide, dense);
+        while self.place < self.block.seen {
+            let place = self.place;
+            let Some(mark) = self.block.mark_from(&self.source, place) else {
+                self.source.copy(place, self.block.seen, room, len, !dense);
+                self.place = self.block.seen;
+                return len + (self.place - place);
+            };
+            self.source.copy(place, mark, room, len, !dense);
+            self.place = mark;
+            let (more, ended) = self.gather_stop(room, len + (mark - place), dense);
             len = more;
             if ended {
                 return len;
@@ -379,47 +257,17 @@ impl<'a> Cursor<'a> {
         len
     }
 
-    /// Gathers the bytes of the block up to its next mark, and what begins there. Returns how many were gathered, and
-    /// whether the body ends.
-    #[inline(always)]
-    fn gather_stretch(
-        &mut self,
-        room: &mut [u8; ROOM],
-        len: usize,
-        wide: bool,
-        dense: bool,
-    ) -> (usize, bool)
-        requires may { MayGather self.old len }
-        requires here { self.old.place < self.old.seen }
-        requires wide { IsWide self.old wide }
-        ensures gathers { Gathers self.old self.new room.old room.new len result.0 }
-        ensures goes { IsGathered self.old self.new result.0 result.1 }
-    {
-        let place = self.place;
-        let marks = self.marks >> (place - self.base);
-        if marks == 0 {
-            let width = self.seen - place;
-            self.source.copy(place, width, room, len, wide);
-            self.place = self.seen;
-            return (len + width, false);
-        }
-        let width = marks.trailing_zeros() as usize;
-        self.source.copy(place, width, room, len, wide);
-        self.place = place + width;
-        self.gather_stop(room, len + width, dense)
-    }
-
     /// Gathers what begins at the mark at the place.
     #[inline(always)]
     fn gather_stop(&mut self, room: &mut [u8; ROOM], len: usize, dense: bool) -> (usize, bool)
         requires may { MayGather self.old len }
-        requires here { self.old.place < self.old.seen }
+        requires here { self.old.place < self.old.block.seen }
         requires marked { is_marked (slice_index (text_of self.old) self.old.place) ≡ true }
         ensures gathers { Gathers self.old self.new room.old room.new len result.0 }
         ensures goes { IsGathered self.old self.new result.0 result.1 }
     {
         let mark = self.place;
-        match self.stop_at(mark) {
+        match self.source.stop_at(mark) {
             Stop::Stays => {
                 room[len] = b'%';
                 self.place = mark + 1;
@@ -450,47 +298,22 @@ impl<'a> Cursor<'a> {
     #[inline(always)]
     fn gather_escapes(&mut self, room: &mut [u8; ROOM], len: usize) -> usize
         requires unknown { self.old.ahead ≡ Ahead.Unknown }
-        requires looking { Looking self.old self.old.place 3 }
+        requires looking { Looking self.old.source self.old.block self.old.place 3 }
         requires room { HasRoom self.old len }
         ensures gathers { Gathers self.old self.new room.old room.new len result }
         ensures may { MayGather self.new result }
-        ensures block { self.new.seen ≡ self.old.seen }
+        ensures block { self.new.block.seen ≡ self.old.block.seen }
     {
         let mut len = len;
         let end = ROOM.min(len + (self.source.len() - self.place) / ESCAPE);
         while len < end {
-            let Some(value) = self.escape_here() else {
+            let Some(value) = self.source.escape_here(self.place) else {
                 return len;
             };
+            self.place += ESCAPE;
             room[len] = value;
             len += 1;
         }
         len
-    }
-
-    /// Whether the body is known to end at the place.
-    pub(super) fn has_ended(&self) -> bool
-        ensures { result ≡ has_ended self.now.ahead }
-    {
-        matches!(self.ahead, Ahead::End)
-    }
-
-    /// The place.
-    pub(super) fn place(&self) -> usize
-        ensures { result ≡ self.now.place }
-    {
-        self.place
-    }
-
-    /// Returns the fragment after the place, at which the body ends.
-    pub(super) fn fragment(&self) -> Option<&'a str>
-        requires knows { Knows self.now }
-        requires ended { has_ended self.now.ahead ≡ true }
-        ensures { option_map (λ s. s.now) result ≡ after number_sign (text_of self.now) }
-    {
-        if self.place == self.source.len() {
-            return None;
-        }
-        Some(self.source.after(self.place))
     }
 }

@@ -1,9 +1,11 @@
 //! Hexadecimal digits after a `%`, past tabs and newlines.
 
-ghost use Rattle.std.specs.Prelude.{◌≡◌, ◌+◌, ◌≤◌, IfSome, MatchOption, length};
-ghost use Rattle.data_url.specs.Steps.Digits.{DigitFound, DigitsFound, NoDigit, NoDigits, digit_code};
+ghost use Rattle.std.specs.Prelude.{◌≡◌, ◌+◌, ◌<◌, ◌≤◌, IfSome, MatchOption, length, slice_index};
+ghost use Rattle.data_url.specs.Url.{percent_sign};
+ghost use Rattle.data_url.specs.Steps.Digits.{DigitFound, EscapeAt, IsCode, NoDigit, NoEscape};
 
 use super::source::Source;
+use std::mem::replace;
 
 /// What the table has for a tab or a newline.
 const PASSED: u8 = 16;
@@ -26,37 +28,42 @@ const DIGITS: [u8; 256] = [
 /// What the table has for a byte.
 #[inline(always)]
 fn digit_code(byte: u8) -> u8
-    ensures { result ≡ digit_code byte }
+    ensures { IsCode byte result }
 {
     DIGITS[byte as usize]
 }
 
 impl<'a> Source<'a> {
-    /// Returns the byte of two hexadecimal digits from a place on, past tabs and newlines, and the place after them.
+    /// Returns the byte of the escape whose `%` is at a place, past tabs and newlines, and the place after it.
     #[inline(always)]
-    pub(super) fn escaped_byte(&mut self, place: usize) -> Option<(u8, usize)>
-        requires { place ≤ length self.old.text.now }
+    pub(super) fn escape(&mut self, place: usize) -> Option<(u8, usize)>
+        requires within { place < length self.old.text.now }
+        requires percent { slice_index self.old.text.now place ≡ percent_sign }
         ensures text { self.new.text.now ≡ self.old.text.now }
+        ensures looks { self.old.looks ≤ self.new.looks }
         ensures found { let text = self.old.text.now in
-            MatchOption result (NoDigits text place self.old.looks self.new.looks)
-            (λ found. DigitsFound text place self.old.looks found.0 found.1 self.new.looks) }
+            MatchOption result (NoEscape text place self.old.looks self.new.looks)
+            (λ found. EscapeAt text place found.0 found.1 × (self.new.looks + place + 1 ≡ self.old.looks + found.1)) }
     {
-        let (high, after) = self.digit(place)?;
+        let (high, after) = self.digit(place + 1)?;
         let (low, end) = self.digit(after)?;
         Some((high * 16 + low, end))
     }
 
-    /// Returns the byte of two hexadecimal digits at a place, if there are two.
+    /// Returns the byte of an escape without tabs and newlines at a place, if there is one.
     #[inline(always)]
-    pub(super) fn two_digits(&mut self, place: usize) -> Option<u8>
-        requires { place + 2 ≤ length self.old.text.now }
+    pub(super) fn escape_here(&mut self, place: usize) -> Option<u8>
+        requires { place + 3 ≤ length self.old.text.now }
         ensures text { self.new.text.now ≡ self.old.text.now }
-        ensures looks { self.new.looks ≡ self.old.looks + 2 }
-        ensures found { IfSome result (λ value.
-            DigitsFound self.old.text.now place self.old.looks value (place + 2) self.new.looks) }
+        ensures looks { self.old.looks ≤ self.new.looks }
+        ensures few { self.new.looks ≤ self.old.looks + 3 }
+        ensures found { IfSome result (λ value. EscapeAt self.old.text.now place value (place + 3)) }
     {
-        let high = digit_code(self.look(place));
-        let low = digit_code(self.look(place + 1));
+        if self.look(place) != b'%' {
+            return None;
+        }
+        let high = digit_code(self.look(place + 1));
+        let low = digit_code(self.look(place + 2));
         if (high | low) >= PASSED {
             return None;
         }
@@ -83,7 +90,7 @@ impl<'a> Source<'a> {
             return None;
         }
         // The text is read through a value of its own, so that the walk's can stay in registers.
-        let mut source = self.take();
+        let mut source = replace(self, Source::new(""));
         let found = source.digit_further(place + 1);
         *self = source;
         found

@@ -50,11 +50,7 @@ impl Looks {
     pub(super) fn count(&mut self, bytes: usize)
         ensures { self.new ≡ self.old + bytes }
     {
-        let first = Mark {
-            bytes: 0,
-            before: None,
-        };
-        let before = replace(&mut self.last, Snapshot::of(&first));
+        let before = replace(&mut self.last, Looks::new().last);
         let mark = Mark {
             bytes,
             before: Some(before),

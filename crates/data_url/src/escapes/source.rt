@@ -1,13 +1,17 @@
 //! The text of a body. Each byte of it that is examined is counted.
 
-ghost use Rattle.std.specs.Prelude.{◌≡◌, IsTrue, [], ◌+◌, ◌-◌, ◌^◌, ◌++◌, ◌<◌, ◌≤◌, drop, length, map, min, slice_index, slice_range, take};
+ghost use Rattle.std.specs.Prelude.{◌≡◌, IsTrue, [], ◌+◌, ◌-◌, ◌^◌, ◌++◌, ◌<◌, ◌≤◌, length, map, min, slice_index, slice_range, take};
 ghost use Rattle.std.specs.Simd.Lanes.{mask_l};
+ghost use Rattle.std.specs.Option.{option_map};
+ghost use Rattle.data_url.specs.Steps.Tail.{IsBodyEnd};
+ghost use Rattle.data_url.specs.Steps.Walk.{IsBlock};
 ghost use Rattle.data_url.specs.Steps.Window.{is_marked};
+ghost use Rattle.data_url.specs.Url.{after, number_sign};
 
 use super::cursor::ROOM;
 use super::lanes::{BLOCK, marks_of};
 use super::looks::Looks;
-use std::mem::replace;
+use super::stops::Block;
 use std::simd::prelude::*;
 
 /// A text with a count of the bytes examined.
@@ -28,16 +32,6 @@ impl<'a> Source<'a> {
             text,
             looks: Looks::new(),
         }
-    }
-
-    /// Takes the text and its count out, and leaves an empty text. So a text is always in one `Source`.
-    #[inline(always)]
-    pub(super) fn take(&mut self) -> Source<'a>
-        ensures text { result.text.now ≡ self.old.text.now }
-        ensures looks { result.looks ≡ self.old.looks }
-        ensures left { self.new.text.now ≡ [] }
-    {
-        replace(self, Source::new(""))
     }
 
     /// The number of its bytes.
@@ -61,22 +55,23 @@ impl<'a> Source<'a> {
         self.text.as_bytes()[place]
     }
 
-    /// Returns the marks of the block of at most 64 bytes that begins at a place. Each of its bytes counts as a look.
+    /// Reads the block of at most 64 bytes at a place. Each of its bytes counts as a look.
     #[inline(always)]
-    pub(super) fn look_block(&mut self, place: usize) -> u64
+    pub(super) fn look_block(&mut self, place: usize) -> Block
         requires { place ≤ length self.old.text.now }
-        ensures marks { let end = min (place + 64) (length self.old.text.now) in
-            result ≡ mask_l (map is_marked (slice_range self.old.text.now place end)) }
+        ensures base { result.base ≡ place }
+        ensures seen { result.seen ≡ min (place + 64) (length self.old.text.now) }
+        ensures block { IsBlock self.old.text.now place result.seen result.marks }
         ensures text { self.new.text.now ≡ self.old.text.now }
-        ensures looks { let end = min (place + 64) (length self.old.text.now) in
-            self.new.looks ≡ self.old.looks + (end - place) }
+        ensures looks { self.new.looks + place ≡ self.old.looks + result.seen }
     {
         let rest = &self.text.as_bytes()[place..];
-        self.looks.count(rest.len().min(BLOCK));
-        if rest.len() < BLOCK {
-            last_marks(rest)
-        } else {
-            marks_of(u8x64::from_slice(&rest[..BLOCK]))
+        let len = rest.len().min(BLOCK);
+        self.looks.count(len);
+        Block {
+            base: place,
+            seen: place + len,
+            marks: first_marks(rest),
         }
     }
 
@@ -90,41 +85,64 @@ impl<'a> Source<'a> {
         &self.text.as_bytes()[start..end]
     }
 
-    /// Copies a stretch of fewer than 64 bytes into a buffer. None of its bytes is examined. The bytes after it in the
-    /// buffer may be overwritten.
+    /// Copies a stretch of at most 64 bytes into a buffer. None of its bytes is examined. The bytes after it in the buffer
+    /// may be overwritten.
     #[inline(always)]
     pub(super) fn copy(
         &self,
         start: usize,
-        width: usize,
+        end: usize,
         room: &mut [u8; ROOM],
         len: usize,
         wide: bool,
     )
-        requires short { width ≤ 64 }
-        requires within { start + width ≤ length self.now.text.now }
+        requires forward { start ≤ end }
+        requires short { end ≤ start + 64 }
+        requires within { end ≤ length self.now.text.now }
         requires wide { IsTrue wide → start + 64 ≤ length self.now.text.now }
         requires room { len + 64 ≤ 256 }
-        ensures { take (len + width) room.new
-            ≡ take len room.old ++ slice_range self.now.text.now start (start + width) }
+        ensures { take (len + (end - start)) room.new
+            ≡ take len room.old ++ slice_range self.now.text.now start end }
     {
         let bytes = self.text.as_bytes();
         if wide {
             let block = u8x64::from_slice(&bytes[start..start + BLOCK]);
             block.copy_to_slice(&mut room[len..len + BLOCK]);
         } else {
-            room[len..len + width].copy_from_slice(&bytes[start..start + width]);
+            room[len..len + (end - start)].copy_from_slice(&bytes[start..end]);
         }
     }
 
-    /// Returns the text after a place that has an ASCII byte.
-    pub(super) fn after(&self, place: usize) -> &'a str
-        requires within { place < length self.now.text.now }
-        requires ascii { slice_index self.now.text.now place < 128 }
-        ensures { result.now ≡ drop (place + 1) self.now.text.now }
+    /// Returns the fragment of a text whose body ends at a place.
+    pub(super) fn fragment(&self, place: usize) -> Option<&'a str>
+        requires { IsBodyEnd self.now.text.now place }
+        ensures { option_map (λ s. s.now) result ≡ after number_sign self.now.text.now }
     {
-        let _bytes = self.text.as_bytes();
-        &self.text[place + 1..]
+        fragment_at(self.text, place)
+    }
+}
+
+/// Returns the fragment of a text whose body ends at a place: what follows the `#` there, or None at the end of the text.
+pub(crate) fn fragment_at(text: &str, place: usize) -> Option<&str>
+    requires { IsBodyEnd text.now place }
+    ensures { option_map (λ s. s.now) result ≡ after number_sign text.now }
+{
+    let bytes = text.as_bytes();
+    if place == bytes.len() {
+        return None;
+    }
+    Some(&text[place + 1..])
+}
+
+/// Returns the marks of the first 64 bytes, or of fewer.
+#[inline(always)]
+fn first_marks(rest: &[u8]) -> u64
+    ensures { result ≡ mask_l (map is_marked (take 64 rest.now)) }
+{
+    if rest.len() < BLOCK {
+        last_marks(rest)
+    } else {
+        marks_of(u8x64::from_slice(&rest[..BLOCK]))
     }
 }
 

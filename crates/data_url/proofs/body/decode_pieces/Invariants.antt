@@ -1,11 +1,11 @@
 -- The closure was called with the body up to the place of the walk.
-use Rattle.std.proofs.Common.{◌-◌, length}
+use Rattle.std.proofs.Common.{◌-◌, Ok, length}
 use Rattle.std.specs.Fn.{CalledAt}
 use Rattle.data_url.proofs.body.Decoding.{Going}
 use Rattle.data_url.proofs.body.decode_pieces.Given as goal
 
 abbrev pub invariant-chunks : goal.invariant-chunks
-invariant-chunks g l = Going (CalledAt g.F.FnMut) l.fn.take l.fn.tail l.pieces l.take
+invariant-chunks g l = Going (CalledAt g.F.FnMut) l.fn.take l.fn.tail l.pieces (Ok tt) l.take
 
 abbrev pub decreases-chunks : goal.decreases-chunks
 decreases-chunks g l = length l.fn.tail - l.pieces.place

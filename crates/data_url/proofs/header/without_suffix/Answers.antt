@@ -1,4 +1,5 @@
 use Rattle.std.proofs.lemmas.List.{length-map, length-take, take_rest}
+use Rattle.data_url.proofs.header.Stages.{printable_take}
 use Rattle.data_url.proofs.header.Suffix.{no_word, HasWord, no_semicolon, nothing_left, with_semicolon}
 use Rattle.std.proofs.Common.{◌≡◌, ℕ, ◌-◌, ◌≤◌, Bool, true, List, length, take, drop, map, codes, sym, subst, arith}
 use Rattle.std.specs.Char.{to_ascii_lowercase}
@@ -8,11 +9,11 @@ use Rattle.data_url.specs.Steps.Header.{IsPrintable}
 use Rattle.data_url.specs.Url.{is_c0_control_or_space}
 use Rattle.data_url.proofs.header.without_suffix.Goals as goal
 
-pub returns-in_err-word : goal.returns-in_err-word
-returns-in_err-word c = grind (arith, no_word, length-map)
+pub returns-in_err-word-clause-text : goal.returns-in_err-word-clause-text
+returns-in_err-word-clause-text c = grind (arith, no_word, length-map)
 
-pub returns-then-not-eq_ignore_ascii_case : goal.returns-then-not-eq_ignore_ascii_case
-returns-then-not-eq_ignore_ascii_case c = grind (arith, no_word)
+pub returns-then-not-eq_ignore_ascii_case-clause-text : goal.returns-then-not-eq_ignore_ascii_case-clause-text
+returns-then-not-eq_ignore_ascii_case-clause-text c = grind (arith, no_word)
 
 pub overflow_sub-end : goal.overflow_sub-end
 overflow_sub-end c = grind (arith, suffix_len-le-length, length-take)
@@ -23,8 +24,8 @@ has_word : (s : List ℕ) (n spaces : ℕ) (same : Bool) → (6 ≤ length s) ×
     → spaces ≡ suffix_len is_c0_control_or_space (take n s) → HasWord s n spaces
 has_word s n spaces same at word h e = grind (arith, take_rest)
 
-pub returns-in_err-semicolon : goal.returns-in_err-semicolon
-returns-in_err-semicolon c =
+pub returns-in_err-semicolon-clause-text : goal.returns-in_err-semicolon-clause-text
+returns-in_err-semicolon-clause-text c =
     let s = c.as_bytes-bytes.result.now in
     let n = c.in_ok-word.word in
     let printable = subst IsPrintable (sym c.as_bytes-bytes.ensures.value) c.requires in
@@ -32,8 +33,8 @@ returns-in_err-semicolon c =
     c.eq_ignore_ascii_case.ensures.test.0 c.if-not-eq_ignore_ascii_case.false c.low_end_len.ensures in
     cc (nothing_left s n c.low_end_len.result printable word (omega (arith, c.in_err-semicolon.ensures)))
 
-pub returns-then-bytes-semicolon-ne59 : goal.returns-then-bytes-semicolon-ne59
-returns-then-bytes-semicolon-ne59 c =
+pub returns-then-bytes-semicolon-ne59-clause-text : goal.returns-then-bytes-semicolon-ne59-clause-text
+returns-then-bytes-semicolon-ne59-clause-text c =
     let s = c.as_bytes-bytes.result.now in
     let n = c.in_ok-word.word in
     let printable = subst IsPrintable (sym c.as_bytes-bytes.ensures.value) c.requires in
@@ -44,8 +45,8 @@ returns-then-bytes-semicolon-ne59 c =
       c.in_ok-semicolon.ensures,
     )) c.if-bytes-semicolon-ne59.true))
 
-pub returns : goal.returns
-returns c =
+pub returns-clause-text : goal.returns-clause-text
+returns-clause-text c =
     let s = c.as_bytes-bytes.result.now in
     let n = c.in_ok-word.word in
     let m = c.in_ok-semicolon.semicolon in
@@ -57,3 +58,6 @@ returns c =
       arith,
       c.in_ok-semicolon.ensures,
     )) c.if-bytes-semicolon-ne59.false)
+
+pub returns-clause-printable : goal.returns-clause-printable
+returns-clause-printable c = grind (arith, printable_take)

@@ -1,6 +1,6 @@
 -- Some bytes are gathered; either the body ends at the place of the walk, or nothing is known about it.
 use Rattle.std.proofs.Common.{◌≤◌, length}
-use Rattle.data_url.specs.Steps.Walk.{Gathers, IsPlain, KnowsAhead}
+use Rattle.data_url.specs.Steps.Walk.{Gathering, Gathers}
 use Rattle.data_url.specs.Pieces.{has_ended, text_of}
 use Rattle.data_url.proofs.escapes.Walking.{measure}
 use Rattle.data_url.proofs.escapes.cursor.Cursor.gather.Given as goal
@@ -8,8 +8,7 @@ use Rattle.data_url.proofs.escapes.cursor.Cursor.gather.Given as goal
 abbrev pub invariant-loop-len : goal.invariant-loop-len
 invariant-loop-len l =
     Gathers l.fn.self l.self l.fn.room l.room 0 l.len
-    × KnowsAhead l.self l.self.ahead
-    × IsPlain l.self.ahead
+    × Gathering l.self
     × (l.len ≤ 256)
 
 abbrev pub decreases-loop-len : goal.decreases-loop-len

@@ -7,7 +7,7 @@ abbrev pub invariant-loop-self : goal.invariant-loop-self
 invariant-loop-self l =
     Gathers l.fn.self l.self l.fn.room l.room l.initial.len l.len
     × MayGather l.self l.len
-    × (l.self.seen ≡ l.fn.self.seen)
+    × (l.self.block.seen ≡ l.fn.self.block.seen)
 
 abbrev pub decreases-loop-self : goal.decreases-loop-self
-decreases-loop-self l = l.self.seen - l.self.place
+decreases-loop-self l = l.self.block.seen - l.self.place

@@ -1,23 +1,25 @@
-use Rattle.data_url.proofs.escapes.Walking.{gathers_nothing, gathers_byte, gathers_then, gathers_value}
-use Rattle.data_url.proofs.escapes.Reading.{reads_passed, reads_percent}
-use Rattle.std.proofs.Common.{refl, arith}
+use Rattle.data_url.proofs.escapes.Reading.{spells_escape}
+use Rattle.data_url.proofs.escapes.Walking.{ended_at, gathers_byte, gathers_nothing, gathers_then}
+use Rattle.std.proofs.Common.{arith, refl}
 use Rattle.data_url.proofs.escapes.cursor.Cursor.gather_stop.Goals as goal
 
 pub returns-in-Stays-clause-gathers : goal.returns-in-Stays-clause-gathers
-returns-in-Stays-clause-gathers c = grind (arith, gathers_byte, reads_percent)
+returns-in-Stays-clause-gathers c = gathers_byte (grind arith) c.in-Stays.ensures.stop.1.reads (grind arith)
 
 pub returns-in-Passed-clause-gathers : goal.returns-in-Passed-clause-gathers
-returns-in-Passed-clause-gathers c = grind (arith, gathers_nothing, reads_passed)
+returns-in-Passed-clause-gathers c = gathers_nothing (grind arith) c.in-Passed.ensures.stop.1.reads
 
 pub returns-then-dense-clause-gathers : goal.returns-then-dense-clause-gathers
 returns-then-dense-clause-gathers c =
-    let room = c.requires.may.room.for_block c.requires.here in
-    gathers_then (gathers_value (record {
-      on = c.stop_at.ensures.keeps.stays.on;
-      text_is = refl;
-      looks_are = refl;
-      place_is = refl;
-    }) c.in-Escape.ensures.stop.0 (omega arith)) c.gather_escapes-len.ensures.gathers
+    gathers_then (gathers_byte (grind arith) (spells_escape c.in-Escape.ensures.stop.1).reads (grind arith))
+    c.gather_escapes-len.ensures.gathers
 
 pub returns-else-dense-clause-gathers : goal.returns-else-dense-clause-gathers
-returns-else-dense-clause-gathers c = grind (arith, gathers_value)
+returns-else-dense-clause-gathers c =
+    gathers_byte (grind arith) (spells_escape c.in-Escape.ensures.stop.1).reads (grind arith)
+
+pub returns-in-End-clause-goes : goal.returns-in-End-clause-goes
+returns-in-End-clause-goes c =
+    let stop = c.in-End.ensures.stop in
+    let e = c.requires.may.room.some in
+    (e, refl, ended_at c.requires.may.looking c.stop_at.ensures.text stop.1 stop.2 refl)

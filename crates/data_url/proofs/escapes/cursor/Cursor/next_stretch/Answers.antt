@@ -1,60 +1,74 @@
-use Rattle.std.proofs.Common.{refl, arith}
-use Rattle.data_url.proofs.escapes.Walking.{byte_here, goes_as, reached, search_passed, search_percent, searching_none}
-use Rattle.data_url.proofs.escapes.Walking.{slice_end, slice_escape, slice_passed}
+use Rattle.std.proofs.Common.{◌∙◌, arith, refl, sym}
+use Rattle.data_url.proofs.escapes.Walking.{ahead_is, byte_part, ended_at, goes_part, looking_paid, searched, searching_none}
+use Rattle.data_url.proofs.escapes.Walking.{searching_passed, searching_percent}
+use Rattle.data_url.specs.declared.escapes.cursor.Ahead.TheVariants.{End}
 use Rattle.data_url.proofs.escapes.cursor.Cursor.next_stretch.Goals as goal
 
 pub loop-from-init : goal.loop-from-init
-loop-from-init c = searching_none c.requires
-
-pub overflow_add-from : goal.overflow_add-from
-overflow_add-from c = grind arith
+loop-from-init c =
+    let s = searching_none _ _ c.requires.within in
+    grind arith
 
 pub loop-from-preserved-in-Stays : goal.loop-from-preserved-in-Stays
 loop-from-preserved-in-Stays c =
-    let r = reached c.loop-from.invariant c.next_mark-mark.ensures.mark c.next_mark-mark.ensures.stays
-    c.stop_from.ensures.keeps in
-    search_percent r c.in-Stays.ensures.stop.0 c.in-Stays.ensures.stop.1
-
-pub overflow_add-self : goal.overflow_add-self
-overflow_add-self c = grind arith
-
-pub overflow_add-from-in-Passed : goal.overflow_add-from-in-Passed
-overflow_add-from-in-Passed c = grind arith
+    let i = c.loop-from.invariant in
+    let m = c.next_mark-mark.ensures in
+    let stop = c.in-Stays.ensures.stop in
+    let looking = looking_paid {s' = c.stop_from.new.self} m.looking c.stop_from.ensures.text stop.2 in
+    let s = searching_percent (searched i.on m.on i.search m.mark) stop.0 stop.1 in
+    let t = rw (m.on.text_stays ∙ i.on.text_stays) at s in
+    grind arith
 
 pub loop-from-preserved : goal.loop-from-preserved
 loop-from-preserved c =
-    let r = reached c.loop-from.invariant c.next_mark-mark.ensures.mark c.next_mark-mark.ensures.stays
-    c.stop_from.ensures.keeps in
-    search_passed _ r c.in-Passed.ensures.stop.0 c.in-Passed.ensures.stop.1 c.if-mark-self.true refl refl refl refl refl
-    refl
-
-pub overflow_add-mark : goal.overflow_add-mark
-overflow_add-mark c = grind arith
+    let i = c.loop-from.invariant in
+    let m = c.next_mark-mark.ensures in
+    let stop = c.in-Passed.ensures.stop in
+    let looking = looking_paid {s' = c.stop_from.new.self} m.looking c.stop_from.ensures.text stop.2 in
+    let s = searching_passed (searched i.on m.on i.search m.mark) c.if-mark-self.true stop.1 in
+    let t = rw (m.on.text_stays ∙ i.on.text_stays) at s in
+    grind arith
 
 pub returns-in-Passed-2-clause-goes : goal.returns-in-Passed-2-clause-goes
 returns-in-Passed-2-clause-goes c =
-    let r = reached c.loop-from.invariant c.next_mark-mark.ensures.mark c.next_mark-mark.ensures.stays
-    c.stop_from.ensures.keeps in
-    goes_as c.slice_to.ensures.walk (slice_passed c.slice_to.result r c.in-Passed-2.ensures.stop.0 c.if-mark-self.false
-    (c.slice_to.ensures.piece, c.slice_to.ensures.slice))
+    let i = c.loop-from.invariant in
+    let m = c.next_mark-mark.ensures in
+    let t = c.stop_from.ensures.text in
+    let s = rw (sym t) at (searched i.on m.on i.search m.mark) in
+    goes_part (t ∙ m.on.text_stays ∙ i.on.text_stays) (c.slice_to.ensures.part _ s) (grind arith) (grind arith)
 
 pub returns-in-Escape-clause-goes : goal.returns-in-Escape-clause-goes
 returns-in-Escape-clause-goes c =
-    let r = reached c.loop-from.invariant c.next_mark-mark.ensures.mark c.next_mark-mark.ensures.stays
-    c.stop_from.ensures.keeps in
-    byte_here r c.in-Escape.ensures.stop.0 c.if-mark-self-2.true
+    let i = c.loop-from.invariant in
+    let m = c.next_mark-mark.ensures in
+    let s = searched i.on m.on i.search m.mark in
+    goes_part (m.on.text_stays ∙ i.on.text_stays) (byte_part (rw (sym c.if-mark-self-2.true) at s.passed)
+    c.in-Escape.ensures.stop.1) (grind arith) refl
 
 pub returns-in-Escape-2-clause-goes : goal.returns-in-Escape-2-clause-goes
 returns-in-Escape-2-clause-goes c =
-    let r = reached c.loop-from.invariant c.next_mark-mark.ensures.mark c.next_mark-mark.ensures.stays
-    c.stop_from.ensures.keeps in
-    goes_as c.slice_to-in-Escape-2.ensures.walk (slice_escape c.slice_to-in-Escape-2.result r c.in-Escape.ensures.stop.0
-    c.if-mark-self-2.false (c.slice_to-in-Escape-2.ensures.piece, c.slice_to-in-Escape-2.ensures.slice))
+    let i = c.loop-from.invariant in
+    let m = c.next_mark-mark.ensures in
+    let t = c.stop_from.ensures.text in
+    let s = rw (sym t) at (searched i.on m.on i.search m.mark) in
+    goes_part (t ∙ m.on.text_stays ∙ i.on.text_stays) (c.slice_to-in-Escape-2.ensures.part _ s) (grind arith)
+    (grind arith)
+
+pub returns-in-End-clause-knows : goal.returns-in-End-clause-knows
+returns-in-End-clause-knows c =
+    let stop = c.in-End.ensures.stop in
+    ended_at c.next_mark-mark.ensures.looking c.stop_from.ensures.text stop.1 stop.2 (sym c.if-mark-self-3.true)
 
 pub returns-in-End-2-clause-goes : goal.returns-in-End-2-clause-goes
 returns-in-End-2-clause-goes c =
-    let r = reached c.loop-from.invariant c.next_mark-mark.ensures.mark c.next_mark-mark.ensures.stays
-    c.stop_from.ensures.keeps in
-    goes_as c.slice_to-in-End-2.ensures.walk
-    (slice_end c.slice_to-in-End-2.result r c.in-End-2.ensures.stop c.if-mark-self-3.false
-    (c.slice_to-in-End-2.ensures.piece, c.slice_to-in-End-2.ensures.slice))
+    let i = c.loop-from.invariant in
+    let m = c.next_mark-mark.ensures in
+    let t = c.stop_from.ensures.text in
+    let s = rw (sym t) at (searched i.on m.on i.search m.mark) in
+    goes_part (t ∙ m.on.text_stays ∙ i.on.text_stays) (c.slice_to-in-End-2.ensures.part _ s) (grind arith) (grind arith)
+
+pub returns-in-End-2-clause-knows : goal.returns-in-End-2-clause-knows
+returns-in-End-2-clause-knows c =
+    let stop = c.in-End.ensures.stop in
+    ahead_is _ End (grind arith)
+    (ended_at c.next_mark-mark.ensures.looking (grind arith) stop.1 (grind arith) (grind arith))

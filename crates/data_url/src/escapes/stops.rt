@@ -1,0 +1,114 @@
+//! The marked bytes of a text: where they are, and what begins there.
+
+ghost use Rattle.std.specs.Prelude.{◌≡◌, ◌+◌, ◌^◌, ◌<◌, ◌≤◌, MatchOption, length, slice_index, true};
+ghost use Rattle.data_url.specs.Steps.Walk.{IsClear, IsNextMark, IsStop, Looking, LooksOn};
+ghost use Rattle.data_url.specs.Steps.Window.{is_marked};
+
+use super::source::Source;
+
+/// The block of a text that was read last, from `base` up to `seen`, with a bit for each marked byte.
+#[derive(Drop)]
+pub(super) struct Block {
+    pub(super) base: usize,
+    pub(super) seen: usize,
+    pub(super) marks: u64,
+}
+
+/// What begins at a marked byte.
+pub(super) enum Stop {
+    /// A `%` that begins no escape.
+    Stays,
+    /// A tab or a newline.
+    Passed,
+    /// An escape: its value, and the place after it.
+    Escape(u8, usize),
+    /// The `#` before the fragment, or the end of the text.
+    End,
+}
+
+impl Block {
+    /// The place of the first marked byte of the block from a place on.
+    #[inline(always)]
+    pub(super) fn mark_from(&self, source: &Source<'_>, place: usize) -> Option<usize>
+        requires looking { Looking source.now self.now place 0 }
+        requires here { place < self.now.seen }
+        ensures { MatchOption result (IsClear source.now.text.now place self.now.seen)
+            (λ mark. (mark < self.now.seen) × IsNextMark source.now.text.now place mark) }
+    {
+        let _len = source.len();
+        let marks = self.marks >> (place - self.base);
+        if marks == 0 {
+            return None;
+        }
+        Some(place + marks.trailing_zeros() as usize)
+    }
+
+    /// The place of the first marked byte from a place on, or the end of the text.
+    #[inline(always)]
+    pub(super) fn next_mark(&mut self, source: &mut Source<'_>, from: usize) -> usize
+        requires { Looking source.old self.old from 0 }
+        ensures looking { Looking source.new self.new result 0 }
+        ensures on { LooksOn source.old source.new }
+        ensures mark { IsNextMark source.old.text.now from result }
+    {
+        let mut place = from;
+        if place < self.seen {
+            if let Some(mark) = self.mark_from(source, place) {
+                return mark;
+            }
+            place = self.seen;
+        }
+        while place < source.len() {
+            *self = source.look_block(place);
+            if let Some(mark) = self.mark_from(source, place) {
+                return mark;
+            }
+            place = self.seen;
+        }
+        place
+    }
+}
+
+impl<'a> Source<'a> {
+    /// What begins at a marked byte.
+    #[inline(always)]
+    pub(super) fn stop_at(&mut self, mark: usize) -> Stop
+        requires within { mark < length self.old.text.now }
+        requires marked { is_marked (slice_index self.old.text.now mark) ≡ true }
+        ensures text { self.new.text.now ≡ self.old.text.now }
+        ensures bound { mark + 1 < 2 ^ 64 }
+        ensures looks { self.old.looks ≤ self.new.looks }
+        ensures stop { IsStop self.old.text.now mark self.old.looks self.new.looks result }
+    {
+        let byte = self.look(mark);
+        if byte == b'%' {
+            return match self.escape(mark) {
+                Some((value, end)) => Stop::Escape(value, end),
+                None => Stop::Stays,
+            };
+        }
+        if byte == b'#' {
+            Stop::End
+        } else {
+            Stop::Passed
+        }
+    }
+
+    /// What begins at a marked byte, or that the text ends.
+    #[inline(always)]
+    pub(super) fn stop_from(&mut self, mark: usize) -> Stop
+        requires within { mark ≤ length self.old.text.now }
+        requires marked { mark < length self.old.text.now
+            → is_marked (slice_index self.old.text.now mark) ≡ true }
+        ensures text { self.new.text.now ≡ self.old.text.now }
+        ensures bound { length self.old.text.now < 2 ^ 64 }
+        ensures looks { self.old.looks ≤ self.new.looks }
+        ensures stop { IsStop self.old.text.now mark self.old.looks self.new.looks result }
+    {
+        if mark < self.len() {
+            self.stop_at(mark)
+        } else {
+            Stop::End
+        }
+    }
+}
