@@ -37,7 +37,7 @@ use Rattle.data_url.proofs.forgiving_base64.Groups.{filter_length}
 -- if the next of a walk is `Some bytes`, these are the next bytes of its body
 pub takes_next : {w w' : Walk} {given : Option (Bor (List ℕ))} {bytes : Bor (List ℕ)} → GivesBytes w given w'
     → given ≡ Some bytes → Takes w bytes.now w'
-takes_next {w} {w'} h e = let P : Option (Bor (List ℕ)) → Type 0 = λ o. GivesBytes w o w' in subst P e h
+takes_next {w} {w'} h e = grind arith
 
 -- The runs
 
@@ -100,8 +100,7 @@ module _ {F E : Type 0} (step : F → List ℕ → Result (Unit {0}) E → F →
   -- if the closure returned an error, it took the body up to that error
   pub took_refused : {f g : F} {text : List ℕ} {w : Walk} {e : E} → Going f text w (Err e) g
       → TakesBody step f text (Err e) g
-  took_refused {f} {g} {text} {w} {e} k =
-      record { run = k.run; ran = k.ran; calls = grind arith; gave = (k.answered, (w.rest, k.body)) }
+  took_refused {f} {g} {text} {w} {e} k = grind arith
 
   -- if the walk is at the end of the body, the closure took the whole body
   pub took_whole : {f g : F} {text : List ℕ} {w : Walk} {place : ℕ} → Going f text w (Ok tt) g → IsBodyEnd text place
@@ -317,7 +316,7 @@ pub run_extends : {F E : Type 0} (step : F → List ℕ → Result (Unit {0}) E 
     → IsRun step f cs g → refusal cs ≡ None → (measure : F → List ℕ)
     → ((p : F) (piece : List ℕ) (q : F) → step p piece (Ok tt) q → measure q ≡ measure p ++ piece)
     → measure g ≡ measure f ++ joined_pieces cs
-run_extends step cs f g ran n measure extends = run_reads step measure extends cs f g ran n
+run_extends step cs f g ran n measure extends = grind (arith, run_reads)
 
 -- if each call that succeeds adds the length of its piece to a count, a run without an error adds the length of all its
 -- bytes
@@ -359,7 +358,7 @@ module _ {F E A : Type 0} (kept : List ℕ → F → Type 0) (stopped : List ℕ
   -- after a whole body was handed out, `kept` is true of its bytes, and the result tells whether it is good or bad
   ended_whole : (body : Outcome) (bytes : List ℕ) (r : Result A (DecodeError E)) → HandsOut body good bytes r
       → kept bytes g → EndsWith kept stopped body good g r
-  ended_whole (Good all) bytes (Ok x) h k = (bytes, ap Good (sym h.bytes_are), h.answer, k)
+  ended_whole (Good all) bytes (Ok x) h k = grind arith
   ended_whole (Good all) bytes (Err e) h k = absurd h.answer
   ended_whole (Bad all kind) bytes r h k = grind arith
 
@@ -368,7 +367,7 @@ module _ {F E A : Type 0} (kept : List ℕ → F → Type 0) (stopped : List ℕ
       → MatchOption o (HandsOut body good bytes r) (λ e. IsRefused (outcome_bytes body) bytes e r)
       → MatchOption o (kept bytes g) (λ e. stopped bytes e g) → EndsWith kept stopped body good g r
   ended_by None body bytes r h k = ended_whole body bytes r h k
-  ended_by (Some e) body bytes r h k = ended_at body r (Err (WriteError e)) h.answer (bytes, h.bytes_begin, k)
+  ended_by (Some e) body bytes r h k = grind (arith, ended_at)
 
 -- if each call that succeeds preserves `kept`, and a call that fails makes `stopped` true, then one of these is true
 -- after decoding, by its result s
@@ -401,8 +400,7 @@ module _ {F E A : Type 0} {step : F → List ℕ → Result (Unit {0}) E → F �
   -- the result says whether the body is good
   body_told : {s : Result A (DecodeError E)} → Decodes step f most body good r f' → r ≡ s
       → EndsWith (λ bytes p. Unit {0}) (λ bytes e p. Unit {0}) body good f' s
-  body_told h q = body_ends h q (λ bytes p. Unit {0}) (λ bytes e p. Unit {0}) (λ bytes p piece q k s. tt)
-      (λ bytes p piece e q k s. tt) tt
+  body_told h q = grind (arith, body_ends)
 
   -- if decoding returns `Ok x`, `good` is true of x
   pub body_answer : {x : A} → Decodes step f most body good r f' → r ≡ Ok x → good x

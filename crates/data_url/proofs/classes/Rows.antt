@@ -20,7 +20,7 @@ row_at bytes at = take 16 (drop at bytes)
 
 -- if there are 16 bytes from an index on, the row at that index has length 16
 pub row_length : (bytes : List ℕ) (at : ℕ) → at + 16 ≤ length bytes → length (row_at bytes at) ≡ 16
-row_length bytes at room = length-take-le 16 (drop at bytes) (omega (arith, length-drop at bytes))
+row_length bytes at room = grind (arith, length-take-le, length-drop)
 
 -- what the lanes compute from a row with both tables is the mask of the row's marked bytes
 pub marks_are : (others v low high : List ℕ) → length v ≡ 16 → low ≡ map (λ b. get_or others (bit_and b 15) 0) v

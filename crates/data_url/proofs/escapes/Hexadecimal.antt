@@ -135,10 +135,7 @@ begins_with_digit (b ∷ s) = is_ascii_hexdigit b
 other_first : (s : List ℕ) → (0 < length s → (is_tab_or_newline (get_or s 0 0) ≡ false)
     × (is_ascii_hexdigit (get_or s 0 0) ≡ false)) → begins_with_digit (cleaned s) ≡ false
 other_first [] h = ap begins_with_digit cleaned_nil
-other_first (b ∷ s) h = let o = h (omega arith) in elim (cases_Bool (b == 35)) [
-  | inl e ↦ ap (λ c. begins_with_digit (cleaned (c ∷ s))) (eqb-true b 35 e) ∙ ap begins_with_digit (cleaned_hash s)
-  | inr e ↦ ap begins_with_digit (cleaned_keeps b s o.0 e) ∙ o.1
-]
+other_first (b ∷ s) h = grind (arith, cases_Bool, eqb-true, cleaned_hash, cleaned_keeps)
 
 -- if no digit is found, the cleaned text does not begin with one
 no_digit : {text : List ℕ} {place looks looks' : ℕ} → NoDigit text place looks looks'
@@ -151,12 +148,12 @@ no_digit {text} {place} {looks} {looks'} n =
 no_high : (s : List ℕ) → begins_with_digit s ≡ false → begins_with_escape (37 ∷ s) ≡ false
 no_high [] h = refl
 no_high (b ∷ []) h = refl
-no_high (b ∷ c ∷ s) h = and_left (is_ascii_hexdigit b) (is_ascii_hexdigit c) h
+no_high (b ∷ c ∷ s) h = grind (arith, and_left)
 
 -- without a second digit there is no escape
 no_low : (b : ℕ) (s : List ℕ) → begins_with_digit s ≡ false → begins_with_escape (37 ∷ b ∷ s) ≡ false
 no_low b [] h = refl
-no_low b (c ∷ s) h = and_right (is_ascii_hexdigit b) (is_ascii_hexdigit c) h
+no_low b (c ∷ s) h = grind (arith, and_right)
 
 -- a '%', and then the text after it
 percent_first : (text : List ℕ) (place : ℕ) → place < length text → get_or text place 0 ≡ 37
@@ -212,18 +209,7 @@ escape_both {text} {text'} {place} {high} {low} {middle} {end} {looks} {looks'} 
 -- a byte whose code is below 16 is a digit
 digit_at : (text : List ℕ) (place value end : ℕ) → end ≡ place + 1 → end ≤ length text
     → IsCode (get_or text place 0) value → value < 16 → DigitFound text place 0 value end 1
-digit_at text place value end n w h l =
-    let d = h.digit l in
-    let at : end - 1 ≡ place = omega arith in
-    record {
-      some = omega arith;
-      within = omega arith;
-      skipped = record { forward = omega arith; within = omega arith; passed = λ k a b. absurd (omega arith) };
-      hex = cc (d.0);
-      value_is = cc (d.1);
-      small = l;
-      looks_are = omega arith;
-    }
+digit_at text place value end n w h l = grind arith
 
 -- two bytes after a '%' whose codes are below 16 are an escape
 pub escape_at : (text : List ℕ) (place a b high low : ℕ) → place + 3 ≤ length text → get_or text place 0 ≡ 37

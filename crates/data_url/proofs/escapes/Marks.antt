@@ -63,7 +63,7 @@ no_marks (suc k) = let e = no_marks k in omega arith
 -- zeros that are appended do not change the marks
 pub marks_padded : (xs : List ℕ) (k : ℕ) → mask_l (map is_marked (xs ++ replicate k 0)) ≡ mask_l (map is_marked xs)
 marks_padded [] k = no_marks k
-marks_padded (x ∷ xs) k = ap (λ m. cond (is_marked x) 1 0 + 2 * m) (marks_padded xs k)
+marks_padded (x ∷ xs) k = grind (arith, marks_padded xs k)
 
 -- the marks of fewer than 64 bytes, copied into a block of zeros
 pub marks_of_rest : (rest new zeros : List ℕ) (r k : ℕ) → new ≡ rest → zeros ≡ replicate 64 0 → k ≡ length rest
@@ -106,8 +106,8 @@ take_none (suc k) = refl
 
 -- the first n items without the first k are n - k items after the first k
 pub drop_taken : (k n : ℕ) (xs : List ℕ) → drop k (take n xs) ≡ take (n - k) (drop k xs)
-drop_taken zero n xs = let e : n - zero ≡ n = omega arith in ap (λ i. take i xs) (sym e)
-drop_taken (suc k) zero xs = let e : zero - suc k ≡ zero = omega arith in ap (λ i. take i (drop (suc k) xs)) (sym e)
+drop_taken zero n xs = grind arith
+drop_taken (suc k) zero xs = grind arith
 drop_taken (suc k) (suc n) [] = take_none (suc n - suc k)
 drop_taken (suc k) (suc n) (x ∷ xs) = grind (arith, drop_taken k n xs)
 
@@ -206,7 +206,7 @@ mask_cases : (p : ℕ → Bool) (x : ℕ) (xs : List ℕ) (b : Bool) → p x ≡
     → cond (not b) (1 + prefix_len (λ y. not (p y)) xs) 0 ≡ suc (length xs)
     → (prefix_len (λ y. not (p y)) xs ≡ length xs → mask_l (map p xs) ≡ 0) → cond b 1 0 + 2 * mask_l (map p xs) ≡ 0
 mask_cases p x xs true e h k = absurd (omega arith)
-mask_cases p x xs false e h k = let m = k (omega arith) in omega arith
+mask_cases p x xs false e h k = grind arith
 
 -- if no item of a list passes a test, the mask of the items that pass is 0
 mask_none : (p : ℕ → Bool) (xs : List ℕ) → prefix_len (λ y. not (p y)) xs ≡ length xs → mask_l (map p xs) ≡ 0
@@ -228,16 +228,8 @@ looking_block {s} {s'} {b} {b'} {place} k l t e i n = grind arith
 pub found : {text : List ℕ} {place seen marks : ℕ} (width : ℕ) → IsBlock text place seen marks → marks ≢ 0
     → width ≡ count_trailing_zeros 64 marks → (place + width < seen) × IsNextMark text place (place + width)
 found {text} {place} {seen} {marks} width h n e =
-    search (
-      arith,
-      length-drop,
-      length-take-le,
-      trailing_mask_l,
-      run_in_chunk_le,
-      mask_none,
-      run_in_chunk_fails,
-      run_in_chunk_stops,
-    )
+    grind (arith, length-drop, length-take-le, trailing_mask_l, run_in_chunk_le, mask_none, run_in_chunk_fails,
+    run_in_chunk_stops)
 
 -- if the marks of a block are 0, none of its bytes is marked
 pub found_none : {text : List ℕ} {place seen marks : ℕ} → IsBlock text place seen marks → marks ≡ 0

@@ -87,7 +87,7 @@ in_front {s} h = before_all 35 s h
 
 -- a search begins with an empty stretch
 pub searching_none : (text : List ℕ) (place : ℕ) → place ≤ length text → Searching text place place place
-searching_none text place l = let s = spells_none text place l in grind arith
+searching_none text place l = grind (arith, spells_none)
 
 -- a stretch goes on up to the next mark
 pub searching_clear : {text : List ℕ} {from place to mark : ℕ} → Searching text from place to → IsNextMark text to mark
@@ -109,10 +109,7 @@ searching_percent {text} {from} {place} {mark} s h p =
 -- a tab or newline before the stretch is skipped
 pub searching_passed : {text : List ℕ} {from place mark : ℕ} → Searching text from place mark → mark ≡ place
     → Spells text mark (mark + 1) [] [] → Searching text from (mark + 1) (mark + 1)
-searching_passed {text} {from} {place} {mark} s e p =
-    let more = spells_then s.passed (subst (λ m. Spells text m (mark + 1) [] []) e p) in
-    let none = spells_none text (mark + 1) p.reads.within in
-    grind arith
+searching_passed {text} {from} {place} {mark} s e p = grind (arith, spells_then, spells_none)
 
 -- Pieces
 
@@ -121,23 +118,7 @@ pub slice_part : {text bytes : List ℕ} {from place mark next : ℕ} → Search
     → is_slice_end (drop mark text) ≡ true → Spells text mark next [] [] → bytes ≡ slice_range text place mark
     → Reads text from next bytes × IsStretch text from next bytes
 slice_part {text} {bytes} {from} {place} {mark} {next} s l ends a e =
-    let all = spells_then (spells_then s.passed s.stretch) a in
-    let few = s.passed.reads.few in
-    let more = a.reads.few in
-    let whole : slice_range text place mark ++ [] ≡ bytes = append-nil (slice_range text place mark) ∙ sym e in (
-      subst (Reads text from next) whole all.reads,
-      record {
-        start = place;
-        end = mark;
-        from_le = omega arith;
-        nonempty = l;
-        to_le = omega arith;
-        slice_is = e;
-        skipped = spelled all ∙ whole;
-        in_front = in_front (ap (after 35) e ∙ no_hash (omega arith) s.stretch);
-        stops_there = ends;
-      },
-    )
+    grind (arith, spells_then, append-nil, spelled, in_front, no_hash)
 
 -- an escape, with what is skipped before it, is a piece
 pub byte_part : {text : List ℕ} {from place value end : ℕ} → Spells text from place [] []
@@ -192,11 +173,11 @@ knows_on {c} {c'} {next} k g a = let text = g.on.text_stays in record { after_is
 -- a walk that stops at the end of the body ends there
 pub ended_at : {c : Cursor} {s : Source} {b : Block} {mark : ℕ} → Looking s b mark 0 → c.source.text.now ≡ s.text.now
     → EndsAt s.text.now mark → c.source.looks + mark ≤ s.looks + length s.text.now → c.place ≡ mark → Ended c
-ended_at {c} {s} {b} {mark} k t h l e = let p = paid_le s.text.now mark k.within in grind arith
+ended_at {c} {s} {b} {mark} k t h l e = grind (arith, paid_le)
 
 -- if `ahead` is a, and what a says is true, what `ahead` says is true
 pub ahead_is : (c : Cursor) (a : Ahead) → c.ahead ≡ a → KnowsAhead c a → KnowsAhead c c.ahead
-ahead_is c a e k = subst (KnowsAhead c) (sym e) k
+ahead_is c a e k = grind arith
 
 -- a walk that knows that its body ends at its index ends there
 ended_cases : {c : Cursor} (a : Ahead) → KnowsAhead c a → has_ended a ≡ true → Ended c
@@ -212,7 +193,7 @@ ended_of {c} k e = ended_cases c.ahead k.ahead_is e
 -- what follows the first '#' of a text that is empty or begins with '#' is its fragment
 begun_fragment : (s : List ℕ) → BeginsFragment s → after 35 s ≡ rest_fragment s
 begun_fragment [] h = after_nil 35
-begun_fragment (b ∷ s) h = ap (λ v. after 35 (v ∷ s)) h ∙ after_same 35 s
+begun_fragment (b ∷ s) h = grind (arith, after_same)
 
 -- where a walk ends, the body of its text ends
 pub body_end : {c : Cursor} → Knows c → has_ended c.ahead ≡ true → IsBodyEnd (text_of c) c.place
@@ -295,7 +276,7 @@ smaller c0 {c1} {c'} {room} {room'} {len} {len'} total u p t m g = grind arith
 
 -- where a walk has ended, nothing of the body is left
 pub rest_over : {c : Cursor} → Knows c → has_ended c.ahead ≡ true → plain_body (drop c.place (text_of c)) ≡ []
-rest_over {c} k e = ends_empty (drop c.place (text_of c)) (ended_of k e).ends.begins
+rest_over {c} k e = grind (arith, ends_empty, ended_of)
 
 -- if there is no next piece, nothing of the body is left
 pub over_rest : (next : Option Piece) {c c' : Cursor} → GoesOn c next c' → Knows c'
@@ -311,7 +292,7 @@ some_bytes (Byte byte) text from to w h = omega arith
 
 -- a piece has at least one byte
 piece_some : {p : Piece} {c c' : Cursor} → GoesOn c (Some p) c' → 0 < length (bytes_of p)
-piece_some {p} {c} {c'} g = some_bytes p (text_of c) c.place c'.place g.reads.within g.piece
+piece_some {p} {c} {c'} g = grind (arith, some_bytes)
 
 -- a walk that has ended returns no further piece
 pub again : (next : Option Piece) {c c' : Cursor} → Knows c → GoesOn c next c' → has_ended c.ahead ≡ true → next ≡ None

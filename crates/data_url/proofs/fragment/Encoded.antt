@@ -19,11 +19,11 @@ use Rattle.data_url.proofs.texts.Bytes.{dropped_keeps, dropped_nil}
 
 -- an encoded fragment can have each upper-case hexadecimal digit
 digit_byte : (d : ℕ) → d < 16 → is_fragment_byte (hex_digit d) ≡ true
-digit_byte d l = agree_below_at (λ d. is_fragment_byte (hex_digit d)) (λ d. true) 16 d refl l
+digit_byte d l = grind (arith, agree_below_at)
 
 -- the percent-encoding of a fragment has only bytes that an encoded fragment can have
 pub fragment_bytes : (s : List ℕ) → IsBytes s → Every is_fragment_byte (percent_encoding in_fragment_set s)
-fragment_bytes [] h = subst (Every is_fragment_byte) (sym (encoded_nil in_fragment_set)) tt
+fragment_bytes [] h = grind (arith, encoded_nil)
 fragment_bytes (b ∷ s) h = grind (arith, encoded_cons, digit_byte, fragment_bytes s h.1)
 
 -- Such bytes stay as they are
@@ -59,7 +59,7 @@ trimmed_itself t h = grind (arith, no_low_front, end_stays, not_ends_every, not_
 -- a text of bytes that an encoded fragment can have stays as it is when it is cleaned
 cleaned_itself : (t : List ℕ) → Every is_fragment_byte t → cleaned_text t ≡ t
 unfolding cleaned_text
-cleaned_itself t h = ap without_tabs_and_newlines (trimmed_itself t h) ∙ dropped_itself t h
+cleaned_itself t h = grind (arith, trimmed_itself, dropped_itself)
 
 -- The stages of the text
 
@@ -81,17 +81,17 @@ fragment_after x = refl
 -- if the text after the scheme is ",#" and x, the staged front is a comma
 front_of_comma : (t x : List ℕ) → after_scheme t ≡ Some (44 ∷ 35 ∷ x) → staged_front t ≡ Some (44 ∷ [])
 unfolding staged_front
-front_of_comma t x h = ap (option_map (λ a. serialised (front a))) h ∙ ap (λ (s : List ℕ). Some s) (front_comma x)
+front_of_comma t x h = grind (arith, front_comma)
 
 -- if the staged front is a comma, the header is empty
 header_empty : (t : List ℕ) → staged_front t ≡ Some (44 ∷ []) → header_of t ≡ Some []
 unfolding header_of before after
-header_empty t h = ap (option_and_then before_comma) h
+header_empty t h = grind arith
 
 -- if the staged front is a comma, the encoded body is empty
 body_empty : (t : List ℕ) → staged_front t ≡ Some (44 ∷ []) → encoded_body t ≡ Some []
 unfolding encoded_body after
-body_empty t h = ap (option_and_then (after 44)) h
+body_empty t h = grind arith
 
 -- if the text after the scheme is ",#" and x, the encoded fragment is x, percent-encoded
 staged_again : (t x : List ℕ) → after_scheme t ≡ Some (44 ∷ 35 ∷ x)

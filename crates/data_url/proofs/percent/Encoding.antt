@@ -76,7 +76,7 @@ set_no_hex b l h = not-true (is_ascii_hexdigit b)
 
 -- and is neither '%' nor ','
 set_other : (b c : ℕ) → in_query_set c ≡ false → in_query_set b ≡ true → (b == c) ≡ false
-set_other b c e h = ne_eqb b c (λ (k : b ≡ c). both_ways (in_query_set b) (ap in_query_set k ∙ e) h)
+set_other b c e h = grind (arith, ne_eqb, both_ways)
 
 -- the value of the hexadecimal digit of a number below 16 is that number
 hex_digit_value : (d : ℕ) → d < 16 → digit_value (hex_digit d) ≡ d
@@ -84,7 +84,7 @@ hex_digit_value d l = grind arith
 
 -- the upper-case hexadecimal digit of a number below 16 is a hexadecimal digit
 hex_digit_hex : (d : ℕ) → d < 16 → is_ascii_hexdigit (hex_digit d) ≡ true
-hex_digit_hex d l = agree_below_at (λ d. is_ascii_hexdigit (hex_digit d)) (λ c. true) 16 d refl l
+hex_digit_hex d l = grind (arith, agree_below_at)
 
 -- Decoding by one byte
 
@@ -120,7 +120,7 @@ same_digits (kept b none) = refl
 same_digits (kept b (kept c r)) = refl
 same_digits (kept b (written c h l r)) = grind (arith, set_no_hex)
 same_digits (written b h l none) = refl
-same_digits (written b h l (kept c r)) = sym (and_left (is_ascii_hexdigit b) (is_ascii_hexdigit c) (set_no_hex b l h))
+same_digits (written b h l (kept c r)) = grind (arith, and_left, set_no_hex)
 same_digits (written b h l (written c k m r)) = grind (arith, set_no_hex)
 
 -- a byte that is kept, and does not begin an escape
@@ -141,8 +141,8 @@ first_no_digit c (d ∷ s) h = grind arith
 -- if x is s with some bytes of the query's set percent-encoded, both are decoded to the same bytes
 pub recoded-decoded : {s x : List ℕ} → Recoded s x → percent_decoding x ≡ percent_decoding s
 recoded-decoded none = refl
-recoded-decoded (written {s} {x} b h l r) = decoded_written b x l ∙ ap (λ t. b ∷ t) (recoded-decoded r)
-    ∙ sym (decoded_keeps b s (and_left (b == 37) (two_digits s) (set_other b 37 refl h)))
+recoded-decoded (written {s} {x} b h l r) =
+    grind (arith, recoded-decoded r, decoded_written, decoded_keeps, and_left, set_other)
 recoded-decoded (kept b none) = refl
 recoded-decoded (kept b (kept c none)) = refl
 recoded-decoded (kept b (written {s} c h l r)) =
@@ -193,7 +193,7 @@ path_nil = refl
 pub path_cons : (b : ℕ) (path : List ℕ) → encoded_path (b ∷ path) ≡ encoded_byte (path_byte_set path) b ++ encoded_path
     path
 unfolding encoded_path
-path_cons b [] = sym (append-nil (encoded_byte in_path_end_set b))
+path_cons b [] = grind (arith, append-nil)
 path_cons b (c ∷ s) = refl
 
 -- each byte of the set for a byte of a path, whatever follows it, is in the query's set
@@ -250,7 +250,7 @@ after_written b x = grind (arith, after_other)
 -- if x is s with some bytes of the query's set percent-encoded, so are the texts after the first comma of both, or
 -- neither has a comma
 pub recoded_tails : {s x : List ℕ} → Recoded s x → RecodedTails (after 44 s) (after 44 x)
-recoded_tails none = subst (λ v. RecodedTails v v) (sym (after_nil 44)) tt
+recoded_tails none = grind (arith, after_nil)
 recoded_tails (kept {s} {x} b r) = grind (arith, after_same, after_other, recoded_tails r)
 recoded_tails (written {s} {x} b h l r) = grind (arith, after_other, set_other, after_written, recoded_tails r)
 
@@ -299,32 +299,18 @@ header_path b s h = grind (arith, before_other, after_other, header_cons)
 -- what follows the header leaves the sets of its bytes as they are
 same_set : (h rest : List ℕ) (o : Option (List ℕ)) → after 63 h ≡ o
     → path_byte_set (before 63 (h ++ 44 ∷ rest)) ≡ header_byte_set (before 63 h) o
-same_set [] rest None e = ap path_byte_set (before_other 63 44 rest refl)
-same_set [] rest (Some query) e = absurd (let k = sym (after_nil 63) ∙ e in cc)
-same_set (c ∷ h) rest None e = let k = lacks 63 c h e in ap path_byte_set (before_other 63 c (h ++ 44 ∷ rest) k.here)
+same_set [] rest None e = grind (arith, before_other)
+same_set [] rest (Some query) e = grind (arith, after_nil)
+same_set (c ∷ h) rest None e = grind (arith, lacks, before_other)
 same_set (c ∷ h) rest (Some query) e = grind (arith, before_same, before_other)
 
 -- if h has no comma, the bytes before the first comma of the serialisation of h ++ 44 ∷ rest are the header text of h
 pub before-serialised : (h rest : List ℕ) → after 44 h ≡ None → before 44 (serialised (h ++ 44 ∷ rest)) ≡ header_text h
 before-serialised [] rest e = grind (arith, serialised_path, before_same, header_nil)
 before-serialised (b ∷ h) rest e =
-    grind (
-      arith,
-      lacks,
-      cases_Bool,
-      eqb-true,
-      serialised_query,
-      before_other,
-      before_encoded,
-      before_at,
-      header_query,
-      serialised_path,
-      before-append,
-      encoded_byte_lacks,
-      same_set,
-      header_path,
-      before-serialised h rest,
-    )
+    grind (arith, before-serialised h rest, lacks, cases_Bool, eqb-true, serialised_query, before_other,
+    before_encoded, before_at, header_query, serialised_path, before-append, encoded_byte_lacks, same_set,
+    header_path)
 
 -- Percent-encoding a text without its tabs and newlines: byte by byte, and part by part.
 

@@ -6,7 +6,7 @@ use Rattle.data_url.proofs.header.Stages.{bytes_trimmed, is_acceptable, is_url_o
 use Rattle.data_url.proofs.DataUrl.process.Goals as goal
 
 pub returns-in_default : goal.returns-in_default
-returns-in_default c = stages_no_scheme c.args.input.now (subst HasNoScheme c.trim.ensures c.in_default.ensures.none)
+returns-in_default c = grind (arith, stages_no_scheme)
 
 pub returns-in_default-split_at_comma : goal.returns-in_default-split_at_comma
 returns-in_default-split_at_comma c = grind (arith, stages_no_comma, bytes_trimmed)

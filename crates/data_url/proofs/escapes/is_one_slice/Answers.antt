@@ -5,8 +5,4 @@ use Rattle.data_url.proofs.escapes.is_one_slice.Goals as goal
 use lib.Lanes.{mask_l}
 
 pub returns : goal.returns
-returns c e =
-    let some : 0 < length c.args.text.now = omega arith in
-    one_slice c.args.text.now some (omega arith)
-    (ap (λ t. mask_l (map is_marked t)) (sym c.as_bytes.ensures.value) ∙ sym c.last_marks.ensures
-    ∙ eqb-true c.last_marks.result 0 e)
+returns c e = grind (arith, one_slice, mask_l, eqb-true)

@@ -4,10 +4,10 @@ use Rattle.std.proofs.Common.{arith, refl}
 use Rattle.data_url.proofs.escapes.cursor.Cursor.gather_stop.Goals as goal
 
 pub returns-in-Stays-clause-gathers : goal.returns-in-Stays-clause-gathers
-returns-in-Stays-clause-gathers c = gathers_byte (grind arith) c.in-Stays.ensures.stop.1.reads (grind arith)
+returns-in-Stays-clause-gathers c = grind (arith, gathers_byte)
 
 pub returns-in-Passed-clause-gathers : goal.returns-in-Passed-clause-gathers
-returns-in-Passed-clause-gathers c = gathers_nothing (grind arith) c.in-Passed.ensures.stop.1.reads
+returns-in-Passed-clause-gathers c = grind (arith, gathers_nothing)
 
 pub returns-then-dense-clause-gathers : goal.returns-then-dense-clause-gathers
 returns-then-dense-clause-gathers c =

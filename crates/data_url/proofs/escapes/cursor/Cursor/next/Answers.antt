@@ -8,14 +8,10 @@ returns-in-Escape-clause-goes c =
     let k = rw c.in-Escape.is at c.requires.ahead_is in byte_next k.0 (grind arith) refl
 
 pub returns-in-Escape-clause-knows : goal.returns-in-Escape-clause-knows
-returns-in-Escape-clause-knows c =
-    let k = rw c.in-Escape.is at c.requires.ahead_is in knows_on c.requires (byte_next k.0 (grind arith) refl) k.1
+returns-in-Escape-clause-knows c = grind (arith, knows_on, byte_next)
 
 pub returns-in-Some-clause-goes : goal.returns-in-Some-clause-goes
 returns-in-Some-clause-goes c = byte_next c.in-Some.ensures.found (grind arith) refl
 
 pub returns-in-Some-clause-knows : goal.returns-in-Some-clause-knows
-returns-in-Some-clause-knows c =
-    let k = rw c.in-AfterEscape.is at c.requires.ahead_is in
-    knows_on c.requires (byte_next c.in-Some.ensures.found (grind arith) refl) (ahead_is _ AfterEscape
-    c.in-AfterEscape.is (looking_escape k c.in-Some.ensures.text c.in-Some.ensures.few (grind arith)))
+returns-in-Some-clause-knows c = grind (arith, knows_on, byte_next, ahead_is, looking_escape)
