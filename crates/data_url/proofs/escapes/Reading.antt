@@ -167,20 +167,13 @@ paid_percent text place l h = grind (arith, prefix_len-drop_no)
 -- a '%' without an escape stays, and pays for the bytes that were read after it
 pub stop_percent : {text : List ℕ} {place looks looks' : ℕ} → place < length text → get_or text place 0 ≡ 37
     → NoEscape text place (looks + 1) looks' → IsStop text place looks looks' Stays
-stop_percent {text} {place} {looks} {looks'} l h n =
-    let p = paid_percent text place l h in (h, spells_percent l h n, grind arith)
+stop_percent {text} {place} {looks} {looks'} l h n = search (arith, paid_percent, spells_percent)
 
 -- an escape pays for its bytes, and for three more
 pub stop_escape : {text : List ℕ} {place value end looks looks' : ℕ} → place < length text → get_or text place 0 ≡ 37
     → EscapeAt text place value end → looks' + place + 1 ≡ looks + 1 + end
     → IsStop text place looks looks' (Escape value end)
-stop_escape {text} {place} {value} {end} {looks} {looks'} l h e n =
-    let p = paid_percent text place l h in
-    let three = e.three in (
-      escape_ends l e,
-      e,
-      record { within = e.within; forward = omega arith; looks_are = omega arith },
-    )
+stop_escape {text} {place} {value} {end} {looks} {looks'} l h e n = search (arith, paid_percent, escape_ends)
 
 -- a tab or newline is passed, and pays for one look
 pub stop_passed : (text : List ℕ) (place looks : ℕ) → place < length text → is_tab_or_newline (get_or text place 0) ≡ true
