@@ -41,11 +41,6 @@ slice_join : (text : List ℕ) (a b c : ℕ) → a ≤ b → b ≤ c → slice_r
     ≡ slice_range text a c
 slice_join text a b c l h = grind (arith, drop-drop (b - a) a text, take-add (b - a) (c - b) (drop a text))
 
--- the range from an index to the next one is the byte there
-slice_one : (text : List ℕ) (place : ℕ) → place < length text
-    → slice_range text place (place + 1) ≡ get_or text place 0 ∷ []
-slice_one text place l = grind (arith, drop_more)
-
 -- if the same text follows the first '#' of x ++ y and of y, there is no '#' in x
 none_before : (x y : List ℕ) → after 35 (x ++ y) ≡ after 35 y → after 35 x ≡ None
 none_before x y h = elim (none_or_some (after 35 x)) [
@@ -85,10 +80,6 @@ in_front {s} h = before_all 35 s h
 
 -- Searching
 
--- a search begins with an empty stretch
-pub searching_none : (text : List ℕ) (place : ℕ) → place ≤ length text → Searching text place place place
-searching_none text place l = grind (arith, spells_none)
-
 -- a stretch goes on up to the next mark
 pub searching_clear : {text : List ℕ} {from place to mark : ℕ} → Searching text from place to → IsNextMark text to mark
     → Searching text from place mark
@@ -104,12 +95,7 @@ searching_percent {text} {from} {place} {mark} s h p =
     let few = s.stretch.reads.few in
     let within = p.reads.within in
     let more = spells_then s.stretch p in
-    grind (arith, slice_join text place mark (mark + 1) (omega arith) (omega arith), slice_one)
-
--- a tab or newline before the stretch is skipped
-pub searching_passed : {text : List ℕ} {from place mark : ℕ} → Searching text from place mark → mark ≡ place
-    → Spells text mark (mark + 1) [] [] → Searching text from (mark + 1) (mark + 1)
-searching_passed {text} {from} {place} {mark} s e p = grind (arith, spells_then, spells_none)
+    grind (arith, slice_join text place mark (mark + 1) (omega arith) (omega arith), drop_more)
 
 -- Pieces
 
@@ -225,11 +211,6 @@ gathers_then {c} {c1} {c2} {room} {room1} {room2} {len} {len1} {len2} g h = grin
 pub gathers_byte : {c c' : Cursor} {room : List ℕ} {len b : ℕ} → LooksOn c.source c'.source
     → Reads (text_of c) c.place c'.place (b ∷ []) → len < length room → Gathers c c' room (set room len b) len (len + 1)
 gathers_byte {c} {c'} {room} {len} {b} on r l = grind (arith, take_more_set)
-
--- only the walk goes on, and nothing is written
-pub gathers_nothing : {c c' : Cursor} {room : List ℕ} {len : ℕ} → LooksOn c.source c'.source
-    → Reads (text_of c) c.place c'.place [] → Gathers c c' room room len len
-gathers_nothing {c} {c'} {room} {len} on r = grind (arith, append-nil)
 
 -- a stretch without marks is copied from the block, and the walk goes on after it
 pub gathers_clear : {c : Cursor} {room room' : List ℕ} {len : ℕ} (to : ℕ) → MayGather c len → c.place < c.block.seen
