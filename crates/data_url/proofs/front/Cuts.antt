@@ -1,4 +1,7 @@
 -- The scheme, and the first comma of a text. For `after_scheme` and `split_at_comma`.
+use Rattle.data_url.specs.Steps.Header.{header_text}
+use Rattle.data_url.proofs.texts.Bytes.{after-dropped_none}
+use Rattle.data_url.proofs.percent.Encoding.{kept_whole}
 use Rattle.std.proofs.Common.{◌≡◌, ◌≢◌, ℕ, ◌+◌, ◌<◌, ◌≤◌, Bool, true, false, List, [], ◌∷◌, ◌++◌, length, get_or, take}
 use Rattle.std.proofs.Common.{drop, map, nat_eq, subst, length-append, codes, refl, sym, ap, ◌∙◌, ⊎_elim, arith}
 use Rattle.std.proofs.Common.{◌-◌, Option, None, Some, position, ap₂, ◌⊎◌, eqb-true}
@@ -13,7 +16,7 @@ use Rattle.std.proofs.lemmas.Bool.Decides.{Decides-eqb}
 use Rattle.std.proofs.lemmas.Str.{IsCharBoundary-from_take, IsUtf8-from_ascii}
 use Rattle.data_url.specs.Url.{without_tabs_and_newlines, is_tab_or_newline, after, front}
 use Rattle.data_url.specs.Steps.Front.{HasNoScheme, IsSchemeAndRest, IsHeaderAndTail, ends_header, is_plain_path}
-use Rattle.data_url.proofs.percent.Encoding.{ascii_all, Plain, plain_serialised}
+use Rattle.data_url.proofs.percent.Encoding.{ascii_all, Plain}
 use Rattle.data_url.proofs.texts.Bytes.{append-nil, without_tabs_and_newlines-append, dropped_keeps, dropped_nil}
 use Rattle.data_url.proofs.texts.Bytes.{dropped_passes, before_all, before_at, after_none}
 use Rattle.std.specs.Prelude.{◌==◌, ◌||◌}
@@ -195,7 +198,8 @@ plain_no_end s n h k l = let p = h k l in ap₂ (λ x y. x || y) p.no_comma p.no
 -- if the first n bytes are plain, they are a header that is serialised as it is
 pub plain_header : (s header : List ℕ) (n : ℕ) → ((k : ℕ) → k < n → Plain (get_or s k 0)) → header ≡ take n s
     → header_text (without_tabs_and_newlines header) ≡ header
-plain_header s header n h e = grind (arith, plain_serialised, length-take, get_or-take)
+unfolding header_text
+plain_header s header n h e = grind (arith, after-dropped_none, after_none, before_all, kept_whole, length-take, get_or-take)
 
 -- each item of the text is a byte
 abbrev FitsBytes : List ℕ → Type 0

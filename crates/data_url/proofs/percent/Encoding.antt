@@ -256,10 +256,6 @@ recoded_tails (written {s} {x} b h l r) = grind (arith, after_other, set_other, 
 
 -- the bytes before the first comma of an encoded text are the encoding of the bytes before the first comma
 
--- the encoding of a byte that is not a comma has no comma
-encoded_byte_lacks : (p : ℕ → Bool) (b : ℕ) → (b == 44) ≡ false → after 44 (encoded_byte p b) ≡ None
-encoded_byte_lacks p b h = grind (arith, after_nil, after_other)
-
 -- if a set does not have the comma, cutting at the first comma and encoding can be done in either order
 before_encoded : (p : ℕ → Bool) → p 44 ≡ false → (s : List ℕ) → before 44 (percent_encoding p s) ≡ percent_encoding p
     (before 44 s)
@@ -309,7 +305,7 @@ pub before-serialised : (h rest : List ℕ) → after 44 h ≡ None → before 4
 before-serialised [] rest e = grind (arith, serialised_path, before_same, header_nil)
 before-serialised (b ∷ h) rest e =
     grind (arith, before-serialised h rest, lacks, cases_Bool, eqb-true, serialised_query, before_other,
-    before_encoded, before_at, header_query, serialised_path, before-append, encoded_byte_lacks, same_set,
+    before_encoded, before_at, header_query, serialised_path, before-append, after_nil, after_other, same_set,
     header_path)
 
 -- Percent-encoding a text without its tabs and newlines: byte by byte, and part by part.
@@ -351,12 +347,6 @@ pub record Plain (b : ℕ) : Type 0 where
   pub no_hash : (b == 35) ≡ false
   pub no_comma : (b == 44) ≡ false
   pub no_query : (b == 63) ≡ false
-
--- a text of plain bytes is serialised as it is, as a header
-pub plain_serialised : (s : List ℕ) → ((k : ℕ) → k < length s → Plain (get_or s k 0))
-    → header_text (without_tabs_and_newlines s) ≡ s
-unfolding header_text
-plain_serialised s h = grind (arith, after-dropped_none, after_none, before_all, kept_whole)
 
 -- the bytes before byte i are written at the front of the buffer
 pub record PutTo (p : ℕ → Bool) (s : List ℕ) (i : ℕ) (room : List ℕ) (at : ℕ) : Type 0 where
