@@ -166,19 +166,12 @@ module _ {F E : Type 0} (step : F → List ℕ → Result (Unit {0}) E → F →
   gives u bytes place good r (Some e) true g h = grind arith
   gives u bytes place good r (Some e) false g h = grind arith
 
-  -- decoding the whole text u decodes a body whose outcome is that of u as base64; the result is the same, with the
-  -- place in it if it is `Ok`
-  pub decodes_outcome : {f g : F} (u : List ℕ) (most place : ℕ) (good : ℕ → Type 0)
-      (r : Result (Unit {0}) (DecodeError E)) → DecodesText step f u r g → length u + 1 ≤ most
-      → (r ≡ Ok tt → good place) → Decodes step f most (outcome true u) good (at_place place r) g
-  unfolding outcome
-  decodes_outcome u most place good r d l k = grind arith
-
   -- the outcome of the whole body
   outcome_of : {f g : F} {text u : List ℕ} (place : ℕ) (r : Result (Unit {0}) (DecodeError E)) → u ≡ plain_body text
       → DecodesText step f u r g → (r ≡ Ok tt → IsBodyEnd text place)
       → Decodes step f (length text + 1) (outcome true (plain_body text)) (IsBodyEnd text) (at_place place r) g
-  outcome_of {f} {g} {text} {u} place r e d b = grind (arith, body_shorter, decodes_outcome)
+  unfolding outcome
+  outcome_of {f} {g} {text} {u} place r e d b = grind (arith, body_shorter)
 
 -- What is true of a closure's state after a run, from what each of its calls does to that state.
 
@@ -465,16 +458,11 @@ before_place_shorter : (s : List ℕ) (o : Option ℕ) → length (before_place 
 before_place_shorter s None = omega arith
 before_place_shorter s (Some i) = omega (arith, length-take i s)
 
--- the bytes of the groups that are complete before the first fault are not longer than the text
-done_shorter : (s : List ℕ) → length (complete_bytes s) ≤ length s
-unfolding complete_bytes
-done_shorter s = grind (arith, groups_length, values_shorter, before_place_shorter)
-
 -- with or without base64, the bytes of the outcome of a text are not longer than the text
 outcome_shorter : (flag : Bool) (s : List ℕ) → length (outcome_bytes (outcome flag s)) ≤ length s
-unfolding outcome
+unfolding outcome complete_bytes
 outcome_shorter false s = omega arith
-outcome_shorter true s = grind (arith, decoded_shorter, done_shorter)
+outcome_shorter true s = grind (arith, decoded_shorter, groups_length, values_shorter, before_place_shorter)
 
 -- a body, or the bytes before its fault, is not longer than its tail
 pub body_within_tail : (url : DataUrl) → length (outcome_bytes (url_body url)) ≤ length (url_tail url)
