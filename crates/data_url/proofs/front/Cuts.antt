@@ -5,7 +5,7 @@ use Rattle.std.proofs.Common.{◌-◌, Option, None, Some, position, ap₂, ◌�
 use Rattle.std.specs.Char.{to_ascii_lowercase}
 use Rattle.std.specs.Str.{IsCharBoundary, IsUtf8}
 use Rattle.std.proofs.lemmas.Bool.{cases_lt, cond-true, lt-ltb, or_cases, or_parts}
-use Rattle.std.proofs.lemmas.List.{get_or_at, get_or-take, length-map, length-take, map-append, take-append-le}
+use Rattle.std.proofs.lemmas.List.{get_or_at, get_or-map, take_more, get_or-take, length-map, length-take, map-append, take-append-le}
 use Rattle.std.proofs.lemmas.List.{take-map, drop_more, get_or-drop, length-drop, take-append-drop, take_all}
 use Rattle.std.proofs.lemmas.Slice.Eq.{bytes_eq-Decides, starts_is}
 use Rattle.std.specs.List.{starts_with, prefix_len}
@@ -14,7 +14,7 @@ use Rattle.std.proofs.lemmas.Str.{IsCharBoundary-from_take, IsUtf8-from_ascii}
 use Rattle.data_url.specs.Url.{without_tabs_and_newlines, is_tab_or_newline, after, front}
 use Rattle.data_url.specs.Steps.Front.{HasNoScheme, IsSchemeAndRest, IsHeaderAndTail, ends_header, is_plain_path}
 use Rattle.data_url.proofs.percent.Encoding.{ascii_all, Plain, plain_serialised}
-use Rattle.data_url.proofs.texts.Bytes.{append-nil, without_tabs_and_newlines-append, dropped_keeps, dropped_nil}
+use Rattle.data_url.proofs.texts.Bytes.{append-nil, without_tabs_and_newlines-append, dropped_around, dropped_keeps, dropped_nil}
 use Rattle.data_url.proofs.texts.Bytes.{dropped_passes, before_all, before_at, after_none}
 use Rattle.std.specs.Prelude.{◌==◌, ◌||◌}
 use Rattle.std.proofs.lemmas.List.Quantifiers.{position-Some}
@@ -27,32 +27,64 @@ use Rattle.data_url.specs.Steps.Header.{header_text}
 abbrev scheme : List ℕ
 scheme = codes "data:"
 
+-- a text is its first n bytes, the byte at index n, and the bytes after it
+cut_at : (s : List ℕ) (n : ℕ) → n < length s → s ≡ take n s ++ get_or s n 0 ∷ drop (n + 1) s
+cut_at s n l = sym (take-append-drop n s) ∙ ap (λ t. take n s ++ t) (drop_more s n 0 l)
+
 -- the text spells the first n bytes of the scheme, and not all of it
 pub record Spells (s : List ℕ) (n : ℕ) : Type 0 where
   pub open_at : n < 5
   pub spelled : map to_ascii_lowercase (without_tabs_and_newlines s) ≡ take n scheme
 
--- a tab or newline after a text does not change how many bytes of the scheme it spells
-pub spells_passed : (s : List ℕ) (n b : ℕ) → Spells s n → is_tab_or_newline b ≡ true → Spells (s ++ b ∷ []) n
-spells_passed s n b h e = grind (arith, without_tabs_and_newlines-append, dropped_passes, dropped_nil, append-nil)
+-- a tab or newline does not change how many bytes of the scheme are spelled
+pub spells_passed : (text : List ℕ) (place n : ℕ) → place < length text → Spells (take place text) n
+    → is_tab_or_newline (get_or text place 0) ≡ true → Spells (take (place + 1) text) n
+spells_passed text place n l h e =
+    grind (
+      arith,
+      take_more text place 0,
+      without_tabs_and_newlines-append,
+      dropped_passes,
+      dropped_nil,
+      append-nil,
+    )
 
--- a byte that is, in lower case, the next one of the scheme makes a text spell one byte more of the scheme
-one_more : (s : List ℕ) (n b : ℕ) → Spells s n → is_tab_or_newline b ≡ false → to_ascii_lowercase b ≡ get_or scheme n 0
-    → map to_ascii_lowercase (without_tabs_and_newlines (s ++ b ∷ [])) ≡ take (n + 1) scheme
-one_more s n b h e same = grind (arith, without_tabs_and_newlines-append, dropped_keeps, dropped_nil, map-append)
+-- a byte that is, in lower case, the next one of the scheme is spelled
+one_more : (text : List ℕ) (place n : ℕ) → place < length text → Spells (take place text) n
+    → is_tab_or_newline (get_or text place 0) ≡ false
+    → to_ascii_lowercase (get_or text place 0) ≡ get_or scheme n 0
+    → map to_ascii_lowercase (without_tabs_and_newlines (take (place + 1) text)) ≡ take (n + 1) scheme
+one_more text place n l h e same =
+    grind (
+      arith,
+      take_more text place 0,
+      without_tabs_and_newlines-append,
+      dropped_keeps,
+      dropped_nil,
+      map-append,
+      take_more scheme n 0,
+    )
 
--- if the byte after a text is, in lower case, the next byte of the scheme, but not the last one, the text with that
--- byte spells one byte more
-pub spells_more : (s : List ℕ) (n b : ℕ) → Spells s n → is_tab_or_newline b ≡ false
-    → to_ascii_lowercase b ≡ get_or scheme n 0 → n + 1 ≢ 5 → Spells (s ++ b ∷ []) (n + 1)
-spells_more s n b h e same ne = record { open_at = omega (arith, h.open_at); spelled = one_more s n b h e same }
+-- with that byte, one byte more of the scheme is spelled
+pub spells_more : (text : List ℕ) (place n : ℕ) → place < length text → Spells (take place text) n
+    → is_tab_or_newline (get_or text place 0) ≡ false
+    → to_ascii_lowercase (get_or text place 0) ≡ get_or scheme n 0 → n + 1 ≢ 5
+    → Spells (take (place + 1) text) (n + 1)
+spells_more text place n l h e same ne = record {
+  open_at = omega (arith, h.open_at);
+  spelled = one_more text place n l h e same;
+}
 
--- if the byte after a text is, in lower case, the last byte of the scheme, the text with that byte spells the whole
--- scheme
-pub spells_all : (s : List ℕ) (n b : ℕ) → Spells s n → is_tab_or_newline b ≡ false
-    → to_ascii_lowercase b ≡ get_or scheme n 0 → n + 1 ≡ 5
-    → map to_ascii_lowercase (without_tabs_and_newlines (s ++ b ∷ [])) ≡ scheme
-spells_all s n b h e same whole = one_more s n b h e same ∙ ap (λ k. take k scheme) whole
+-- if that byte is the last one of the scheme, the text has the scheme
+pub spells_all : (text : List ℕ) (place n : ℕ) → place < length text → Spells (take place text) n
+    → is_tab_or_newline (get_or text place 0) ≡ false
+    → to_ascii_lowercase (get_or text place 0) ≡ get_or scheme n 0 → n + 1 ≡ 5
+    → IsSchemeAndRest text (drop (place + 1) text)
+spells_all text place n l h e same whole = record {
+  scheme = take (place + 1) text;
+  joined = sym (take-append-drop (place + 1) text);
+  spelled = one_more text place n l h e same ∙ ap (λ k. take k scheme) whole;
+}
 
 -- a text that spells n bytes of the scheme has n bytes without its tabs and newlines
 spelled_length : (s : List ℕ) (n : ℕ) → Spells s n → length (without_tabs_and_newlines s) ≡ n
@@ -69,22 +101,26 @@ ends_early s n h =
       spelled_length s n h,
     )
 
--- if a text spells a part of the scheme, and then a byte follows that is neither a tab or newline nor the next byte of
--- the scheme, the text does not begin with the scheme
-pub differs : (text s : List ℕ) (n b : ℕ) (rest : List ℕ) → Spells s n → is_tab_or_newline b ≡ false
-    → to_ascii_lowercase b ≢ get_or scheme n 0 → text ≡ s ++ b ∷ rest → HasNoScheme text
-differs text s n b rest h e ne is =
+-- if a byte follows that is neither a tab or newline nor the next byte of the scheme, the text does not begin with the
+-- scheme
+pub differs : (text : List ℕ) (place n : ℕ) → place < length text → Spells (take place text) n
+    → is_tab_or_newline (get_or text place 0) ≡ false
+    → to_ascii_lowercase (get_or text place 0) ≢ get_or scheme n 0 → HasNoScheme text
+differs text place n l h e ne =
+    let s = without_tabs_and_newlines (take place text) in
+    let b = get_or text place 0 in
+    let rest = without_tabs_and_newlines (drop (place + 1) text) in
+    let size = spelled_length (take place text) n h in
+    let low = map to_ascii_lowercase s in
+    let all : without_tabs_and_newlines text ≡ s ++ b ∷ rest =
+    ap without_tabs_and_newlines (cut_at text place l) ∙ dropped_around b e (take place text) (drop (place + 1) text) in
     grind (
       arith,
       bytes_eq-Decides (map to_ascii_lowercase (take 5 (without_tabs_and_newlines text))) scheme,
-      without_tabs_and_newlines-append s (b ∷ rest),
-      dropped_keeps b rest e,
       take-map to_ascii_lowercase 5 (without_tabs_and_newlines text),
-      map-append to_ascii_lowercase (without_tabs_and_newlines s) (b ∷ without_tabs_and_newlines rest),
-      get_or-take 5 (map to_ascii_lowercase (without_tabs_and_newlines s) ++ to_ascii_lowercase b ∷ map to_ascii_lowercase (without_tabs_and_newlines rest)) n 0 h.open_at,
-      get_or_at (map to_ascii_lowercase (without_tabs_and_newlines s)) (to_ascii_lowercase b) (map to_ascii_lowercase (without_tabs_and_newlines rest)) 0 n (length-map (without_tabs_and_newlines s) to_ascii_lowercase ∙ spelled_length s n h),
-      length-map (without_tabs_and_newlines s) to_ascii_lowercase,
-      spelled_length s n h,
+      map-append to_ascii_lowercase s (b ∷ rest),
+      get_or-take 5 (low ++ to_ascii_lowercase b ∷ map to_ascii_lowercase rest) n 0 h.open_at,
+      get_or_at low (to_ascii_lowercase b) (map to_ascii_lowercase rest) 0 n (length-map s to_ascii_lowercase ∙ size),
     )
 
 -- The scheme as it is commonly spelled
@@ -102,9 +138,7 @@ common_front text items r e f h = subst (λ s. s ≡ scheme ++ drop 5 s) e ((sta
 -- a UTF-8 text that begins with "data:" can be cut after it
 pub common_boundary : (text : List ℕ) → IsUtf8 text → text ≡ scheme ++ drop 5 text → IsCharBoundary text 5
 common_boundary text u h =
-    let front : take 5 text ≡ scheme = ap (take 5) h ∙ take-append-le 5 scheme (drop 5 text) (omega arith) in
-    let long : 5 ≤ length text = omega (arith, ap length h, length-append scheme (drop 5 text)) in
-    IsCharBoundary-from_take text 5 u long (subst IsUtf8 (sym front) (IsUtf8-from_ascii scheme (ascii_all scheme refl)))
+    grind (arith, take-append-le, length-append, IsCharBoundary-from_take, IsUtf8-from_ascii, ascii_all)
 
 -- a text that begins with "data:" has the scheme, and its rest is the text from the sixth byte on
 pub common_scheme : (text rest : List ℕ) → text ≡ scheme ++ drop 5 text → rest ≡ drop 5 text → IsSchemeAndRest text rest
@@ -116,10 +150,6 @@ common_scheme text rest h e = grind (arith, common_spelled)
 lacks_in_take : (c : ℕ) (s : List ℕ) (n : ℕ) → ((k : ℕ) → k < n → (get_or s k 0 == c) ≡ false)
     → after c (take n s) ≡ None
 lacks_in_take c s n h = grind (arith, after_none, length-take, get_or-take)
-
--- a text is its first n bytes, the byte at index n, and the bytes after it
-cut_at : (s : List ℕ) (n : ℕ) → n < length s → s ≡ take n s ++ get_or s n 0 ∷ drop (n + 1) s
-cut_at s n l = sym (take-append-drop n s) ∙ ap (λ t. take n s ++ t) (drop_more s n 0 l)
 
 -- at index n is the first ',' or '#' of the text
 pub record IsFrontEnd (s : List ℕ) (n : ℕ) : Type 0 where

@@ -174,18 +174,11 @@ Ends s = 0 < length s → is_c0_control_or_space (get_or s (length s - 1) 0) ≡
 
 -- a text that is not empty is its bytes but the last, and then the last
 last_of : (s : List ℕ) → 0 < length s → s ≡ take (length s - 1) s ++ get_or s (length s - 1) 0 ∷ []
-last_of s l =
-    let n : length s - 1 + 1 ≡ length s = omega arith in
-    sym (take_all (length s) s (omega arith)) ∙ ap (λ k. take k s) (sym n) ∙ take_more s (length s - 1) 0 (omega arith)
+last_of s l = grind (arith, take_all, take_more)
 
 -- a text without its end of C0 controls and spaces
 ends_trimmed : (s : List ℕ) → Ends (without_end is_c0_control_or_space s)
-ends_trimmed s l =
-    let m = suffix_len is_c0_control_or_space s in
-    let few = suffix_len-le-length is_c0_control_or_space s in
-    let size = length-take (length s - m) s in
-    let stop = suffix_stops is_c0_control_or_space s m (length s - m - 1) refl (omega arith) in
-    grind (arith, get_or-take)
+ends_trimmed s l = grind (arith, suffix_len-le-length, length-take, suffix_stops, get_or-take)
 
 -- dropping tabs and newlines keeps the last byte
 ends_dropped : (s : List ℕ) → Ends s → Ends (without_tabs_and_newlines s)
