@@ -146,11 +146,6 @@ common_scheme text rest h e = grind (arith, common_spelled)
 
 -- The first comma or '#' of a text.
 
--- a text that does not have the byte at an index below n does not have it before n
-lacks_in_take : (c : ℕ) (s : List ℕ) (n : ℕ) → ((k : ℕ) → k < n → (get_or s k 0 == c) ≡ false)
-    → after c (take n s) ≡ None
-lacks_in_take c s n h = grind (arith, after_none, length-take, get_or-take)
-
 -- at index n is the first ',' or '#' of the text
 pub record IsFrontEnd (s : List ℕ) (n : ℕ) : Type 0 where
   pub within : n < length s
@@ -166,21 +161,13 @@ NoEndBefore s n = (k : ℕ) → k < n → ends_header (get_or s k 0) ≡ false
 further_on : (s : List ℕ) (m k : ℕ) → NoEndBefore s m → NoEndBefore (drop m s) k → NoEndBefore s (m + k)
 further_on s m k h g j l = grind (arith, get_or-drop m s (j - m) 0, cases_lt j m)
 
--- if there is no ',' or '#' before index m, and the first one of the bytes from m on is at their index k, the first one
--- of the text is at m + k
-pub front_end_from : (s : List ℕ) (m k : ℕ) → NoEndBefore s m → position ends_header (drop m s) ≡ Some k
-    → IsFrontEnd s (m + k)
-front_end_from s m k h e =
-    let n = m + k in
-    let p = position-Some ends_header (drop m s) k 0 e in
-    let before = further_on s m k h p.2 in
-    let end : ends_header (get_or s n 0) ≡ true = ap ends_header (sym (get_or-drop m s k 0)) ∙ p.1 in
-    record {
-      within = omega (arith, p.0, length-drop m s);
-      is = grind (arith, ⊎_elim, eqb-true, or_cases);
-      no_comma = lacks_in_take 44 s n (λ k l. (or_parts (get_or s k 0 == 44) (get_or s k 0 == 35) (before k l)).0);
-      no_hash = lacks_in_take 35 s n (λ k l. (or_parts (get_or s k 0 == 44) (get_or s k 0 == 35) (before k l)).1);
-    }
+-- if there is no ',' or '#' before index n, the first n bytes have neither
+no_end : (s : List ℕ) (n : ℕ) → NoEndBefore s n → (after 44 (take n s) ≡ None) × (after 35 (take n s) ≡ None)
+no_end s n h =
+    let lacks = λ (k : ℕ) (l : k < n). or_parts (get_or s k 0 == 44) (get_or s k 0 == 35) (h k l) in (
+      grind (arith, after_none, length-take, get_or-take),
+      grind (arith, after_none, length-take, get_or-take),
+    )
 
 -- if the first ',' or '#' of a text is a ',', the bytes before it are the header, and those after it are the tail
 pub at_comma : (s : List ℕ) (n : ℕ) → IsFrontEnd s n → get_or s n 0 ≢ 35 → IsHeaderAndTail s (take n s) (drop (n + 1) s)
@@ -191,50 +178,18 @@ pub at_hash : (s : List ℕ) (n : ℕ) → IsFrontEnd s n → get_or s n 0 ≡ 3
 unfolding front
 at_hash s n f h = cc (cut_at s n f.within, before_at 35 (take n s) (drop (n + 1) s) f.no_hash)
 
--- if a text has neither ',' nor '#', there is no ',' before its first '#'
-pub at_none : (s : List ℕ) (m : ℕ) → NoEndBefore s m → position ends_header (drop m s) ≡ None
-    → after 44 (front s) ≡ None
-unfolding front
-at_none s m h e =
-    let rest = drop m s in
-    let none : NoEndBefore rest (length rest) = λ k l. grind (
-      arith,
-      fails_before_first,
-      ⊎_elim,
-      cond-true,
-      lt-ltb,
-      cases_lt,
-    ) in
-    let all = further_on s m (length rest) h none in
-    let fails : NoEndBefore s (length s) = λ k l. all k (omega (arith, length-drop m s)) in
-    let no_comma = after_none 44 s (λ k l. (or_parts (get_or s k 0 == 44) (get_or s k 0 == 35) (fails k l)).0) in
-    let no_hash = after_none 35 s (λ k l. (or_parts (get_or s k 0 == 44) (get_or s k 0 == 35) (fails k l)).1) in
-    ap (after 44) (before_all 35 s no_hash) ∙ no_comma
-
 -- The bytes of a path that are serialised as they are
 
 -- if n is the length of the longest prefix of plain path bytes, each of the first n bytes is `Plain`
-pub plain_front : (s items : List ℕ) (n : ℕ) → items ≡ s → n ≡ prefix_len is_plain_path items
+plain_front : (s items : List ℕ) (n : ℕ) → items ≡ s → n ≡ prefix_len is_plain_path items
     → ((i : ℕ) → get_or s i 0 < 256) → (k : ℕ) → k < n → Plain (get_or s k 0)
 plain_front s items n e f h k l = grind (arith, prefix_len_passes)
 
--- if the first n bytes are plain, there is no ',' or '#' before index n
-pub plain_no_end : (s : List ℕ) (n : ℕ) → ((k : ℕ) → k < n → Plain (get_or s k 0)) → NoEndBefore s n
-plain_no_end s n h k l = let p = h k l in ap₂ (λ x y. x || y) p.no_comma p.no_hash
-
--- if the first n bytes are plain, they are a header that is serialised as it is
-pub plain_header : (s header : List ℕ) (n : ℕ) → ((k : ℕ) → k < n → Plain (get_or s k 0)) → header ≡ take n s
-    → header_text (without_tabs_and_newlines header) ≡ header
-plain_header s header n h e = grind (arith, plain_serialised, length-take, get_or-take)
-
--- each item of the text is a byte
-abbrev FitsBytes : List ℕ → Type 0
-FitsBytes s = (i : ℕ) → get_or s i 0 < 256
-
 -- there is no ',' or '#' in the longest prefix of plain bytes
-no_end_ahead : (s items : List ℕ) (n : ℕ) → items ≡ s → n ≡ prefix_len is_plain_path items → FitsBytes s
-    → NoEndBefore s n
-no_end_ahead s items n e f h = plain_no_end s n (plain_front s items n e f h)
+no_end_ahead : (s items : List ℕ) (n : ℕ) → items ≡ s → n ≡ prefix_len is_plain_path items
+    → ((i : ℕ) → get_or s i 0 < 256) → NoEndBefore s n
+no_end_ahead s items n e f h k l =
+    let p = plain_front s items n e f h k l in ap₂ (λ x y. x || y) p.no_comma p.no_hash
 
 -- if a list is equal to the text, the position of its first ',' or '#' from index n on is that of the text
 ends_ahead : (s items : List ℕ) (n : ℕ) (r : Option ℕ) → items ≡ s
@@ -244,18 +199,43 @@ ends_ahead s items n r e p = grind (arith, take_all, length-drop)
 -- if the first ',' or '#' after the n plain bytes at the front is at index k of the bytes after them, the first one of
 -- the text is at n + k
 pub front_end_at : (s items : List ℕ) (n k : ℕ) (r : Option ℕ) → items ≡ s → n ≡ prefix_len is_plain_path items
-    → FitsBytes s → r ≡ position ends_header (take (length items - n) (drop n items)) → r ≡ Some k
+    → ((i : ℕ) → get_or s i 0 < 256) → r ≡ position ends_header (take (length items - n) (drop n items)) → r ≡ Some k
     → IsFrontEnd s (n + k)
-front_end_at s items n k r e f h p g = front_end_from s n k (no_end_ahead s items n e f h) (ends_ahead s items n r e p
-    ∙ g)
+front_end_at s items n k r e f h q g =
+    let p = position-Some ends_header (drop n s) k 0 (ends_ahead s items n r e q ∙ g) in
+    let lacks = no_end s (n + k) (further_on s n k (no_end_ahead s items n e f h) p.2) in
+    let end : ends_header (get_or s (n + k) 0) ≡ true = ap ends_header (sym (get_or-drop n s k 0)) ∙ p.1 in
+    record {
+      within = omega (arith, p.0, length-drop n s);
+      is = grind (arith, ⊎_elim, eqb-true, or_cases);
+      no_comma = lacks.0;
+      no_hash = lacks.1;
+    }
 
 -- if there is no ',' or '#' after the plain bytes at the front, there is no ',' before the first '#' of the text
 pub no_front_end : (s items : List ℕ) (n : ℕ) (r : Option ℕ) → items ≡ s → n ≡ prefix_len is_plain_path items
-    → FitsBytes s → r ≡ position ends_header (take (length items - n) (drop n items)) → r ≡ None
+    → ((i : ℕ) → get_or s i 0 < 256) → r ≡ position ends_header (take (length items - n) (drop n items)) → r ≡ None
     → after 44 (front s) ≡ None
-no_front_end s items n r e f h p g = at_none s n (no_end_ahead s items n e f h) (ends_ahead s items n r e p ∙ g)
+unfolding front
+no_front_end s items n r e f h p g =
+    let rest = drop n s in
+    let nothing = ends_ahead s items n r e p ∙ g in
+    let none : NoEndBefore rest (length rest) = λ k l. grind (
+      arith,
+      fails_before_first,
+      ⊎_elim,
+      cond-true,
+      lt-ltb,
+      cases_lt,
+    ) in
+    let all = further_on s n (length rest) (no_end_ahead s items n e f h) none in
+    let lacks = no_end s (length s) (λ k l. all k (omega (arith, length-drop n s))) in
+    let whole = take_all (length s) s (omega arith) in
+    cc (before_all 35 s (ap (after 35) (sym whole) ∙ lacks.1))
 
 -- if the ',' follows directly after the plain bytes at the front, the header is serialised as it is
-pub plain_before : (s items header : List ℕ) (n k : ℕ) → items ≡ s → n ≡ prefix_len is_plain_path items → FitsBytes s
-    → header ≡ take (n + k) s → n + k ≡ n → header_text (without_tabs_and_newlines header) ≡ header
-plain_before s items header n k e f h is same = plain_header s header n (plain_front s items n e f h) (cc)
+pub plain_before : (s items header : List ℕ) (n k : ℕ) → items ≡ s → n ≡ prefix_len is_plain_path items
+    → ((i : ℕ) → get_or s i 0 < 256) → header ≡ take (n + k) s → n + k ≡ n
+    → header_text (without_tabs_and_newlines header) ≡ header
+plain_before s items header n k e f h is same =
+    let plain = plain_front s items n e f h in grind (arith, plain_serialised, length-take, get_or-take)
