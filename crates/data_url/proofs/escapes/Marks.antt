@@ -151,32 +151,19 @@ repeats k l = eqb-true (get_or MARKED k 0) (get_or MARKED (k % 16) 0)
 abbrev pub entry : ℕ → ℕ
 entry b = get_or MARKED (low_half b) 0
 
--- at each index, a swizzle of the table by the low halves of 64 bytes holds the entry of the byte there
-looked_at : (v : List ℕ) → length v ≡ 64 → (m : ℕ) → m < 64 → get_or (swz_l w8 16 MARKED 0 (map low_half v)) m 0
-    ≡ get_or (map entry v) m 0
-looked_at v long m l =
-    let ll : length (map low_half v) ≡ 64 = length-map v low_half ∙ long in
-    let e : get_or (map low_half v) m 0 ≡ low_half (get_or v m 0) = get_or-map low_half v m 0 0 (omega arith) in
-    let h = low_lt (get_or v m 0) in
-    let j : get_or (map low_half v) m 0 < 16 = omega arith in
-    let at = 16 * ((0 + m) / 16) + get_or (map low_half v) m 0 in
-    let in_range : at < 64 = omega arith in
-    let same : at % 16 ≡ low_half (get_or v m 0) = omega arith in
-    cc (
-      get_or-swz_l_below w8 16 MARKED 0 (map low_half v) m (omega arith) j,
-      repeats at in_range,
-      get_or-map entry v m 0 0 (omega arith),
-    )
+-- from an index on, a swizzle of the table by the low halves of bytes looks up the entry of each byte
+looked_from : (v : List ℕ) (i : ℕ) → i + length v ≤ 64 → swz_l w8 16 MARKED i (map low_half v) ≡ map entry v
+looked_from [] i l = refl
+looked_from (b ∷ v) i l =
+    let h = low_lt b in
+    let first = get_or-swz_l_below w8 16 MARKED i (low_half b ∷ map low_half v) 0 (omega arith) h in
+    let same = repeats (16 * ((i + 0) / 16) + low_half b) (omega arith) in
+    let low : (16 * ((i + 0) / 16) + low_half b) % 16 ≡ low_half b = omega arith in
+    cc (looked_from v (suc i) (omega arith))
 
 -- a swizzle by the low halves looks up the entry of each byte
 pub looked_up : (v : List ℕ) → length v ≡ 64 → swz_l w8 16 MARKED 0 (lows v) ≡ map entry v
-looked_up v long =
-    cc (
-      lows_are v long,
-      ext_get_or 0 (swz_l w8 16 MARKED 0 (map low_half v)) (map entry v) (length-swz_l w8 16
-          MARKED 0 (map low_half v) ∙ length-map v low_half ∙ sym (length-map v entry)) (λ m l. looked_at v long m (let
-          k = length-swz_l w8 16 MARKED 0 (map low_half v) in let n = length-map v low_half in omega arith)),
-    )
+looked_up v long = ap (swz_l w8 16 MARKED 0) (lows_are v long) ∙ looked_from v 0 (omega arith)
 
 -- an entry is equal to the byte exactly if the byte is marked
 marked_here : (b : ℕ) → b < 256 → eqb (entry b) b ≡ is_marked b

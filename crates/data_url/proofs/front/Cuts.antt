@@ -1,14 +1,11 @@
 -- The scheme, and the first comma of a text. For `after_scheme` and `split_at_comma`.
-use Rattle.data_url.specs.Steps.Header.{header_text}
-use Rattle.data_url.proofs.texts.Bytes.{after-dropped_none}
-use Rattle.data_url.proofs.percent.Encoding.{kept_whole}
 use Rattle.std.proofs.Common.{◌≡◌, ◌≢◌, ℕ, ◌+◌, ◌<◌, ◌≤◌, Bool, true, false, List, [], ◌∷◌, ◌++◌, length, get_or, take}
 use Rattle.std.proofs.Common.{drop, map, nat_eq, subst, length-append, codes, refl, sym, ap, ◌∙◌, ⊎_elim, arith}
 use Rattle.std.proofs.Common.{◌-◌, Option, None, Some, position, ap₂, ◌⊎◌, eqb-true}
 use Rattle.std.specs.Char.{to_ascii_lowercase}
 use Rattle.std.specs.Str.{IsCharBoundary, IsUtf8}
 use Rattle.std.proofs.lemmas.Bool.{cases_lt, cond-true, lt-ltb, or_cases, or_parts}
-use Rattle.std.proofs.lemmas.List.{get_or_at, get_or-take, length-map, length-take, map-append, take-append-le}
+use Rattle.std.proofs.lemmas.List.{get_or_at, get_or-map, take_more, get_or-take, length-map, length-take, map-append, take-append-le}
 use Rattle.std.proofs.lemmas.List.{take-map, drop_more, get_or-drop, length-drop, take-append-drop, take_all}
 use Rattle.std.proofs.lemmas.Slice.Eq.{bytes_eq-Decides, starts_is}
 use Rattle.std.specs.List.{starts_with, prefix_len}
@@ -16,8 +13,8 @@ use Rattle.std.proofs.lemmas.Bool.Decides.{Decides-eqb}
 use Rattle.std.proofs.lemmas.Str.{IsCharBoundary-from_take, IsUtf8-from_ascii}
 use Rattle.data_url.specs.Url.{without_tabs_and_newlines, is_tab_or_newline, after, front}
 use Rattle.data_url.specs.Steps.Front.{HasNoScheme, IsSchemeAndRest, IsHeaderAndTail, ends_header, is_plain_path}
-use Rattle.data_url.proofs.percent.Encoding.{ascii_all, Plain}
-use Rattle.data_url.proofs.texts.Bytes.{append-nil, without_tabs_and_newlines-append, dropped_keeps, dropped_nil}
+use Rattle.data_url.proofs.percent.Encoding.{ascii_all, Plain, plain_serialised}
+use Rattle.data_url.proofs.texts.Bytes.{append-nil, without_tabs_and_newlines-append, dropped_around, dropped_keeps, dropped_nil}
 use Rattle.data_url.proofs.texts.Bytes.{dropped_passes, before_all, before_at, after_none}
 use Rattle.std.specs.Prelude.{◌==◌, ◌||◌}
 use Rattle.std.proofs.lemmas.List.Quantifiers.{position-Some}
@@ -30,32 +27,64 @@ use Rattle.data_url.specs.Steps.Header.{header_text}
 abbrev scheme : List ℕ
 scheme = codes "data:"
 
+-- a text is its first n bytes, the byte at index n, and the bytes after it
+cut_at : (s : List ℕ) (n : ℕ) → n < length s → s ≡ take n s ++ get_or s n 0 ∷ drop (n + 1) s
+cut_at s n l = sym (take-append-drop n s) ∙ ap (λ t. take n s ++ t) (drop_more s n 0 l)
+
 -- the text spells the first n bytes of the scheme, and not all of it
 pub record Spells (s : List ℕ) (n : ℕ) : Type 0 where
   pub open_at : n < 5
   pub spelled : map to_ascii_lowercase (without_tabs_and_newlines s) ≡ take n scheme
 
--- a tab or newline after a text does not change how many bytes of the scheme it spells
-pub spells_passed : (s : List ℕ) (n b : ℕ) → Spells s n → is_tab_or_newline b ≡ true → Spells (s ++ b ∷ []) n
-spells_passed s n b h e = grind (arith, without_tabs_and_newlines-append, dropped_passes, dropped_nil, append-nil)
+-- a tab or newline does not change how many bytes of the scheme are spelled
+pub spells_passed : (text : List ℕ) (place n : ℕ) → place < length text → Spells (take place text) n
+    → is_tab_or_newline (get_or text place 0) ≡ true → Spells (take (place + 1) text) n
+spells_passed text place n l h e =
+    grind (
+      arith,
+      take_more text place 0,
+      without_tabs_and_newlines-append,
+      dropped_passes,
+      dropped_nil,
+      append-nil,
+    )
 
--- a byte that is, in lower case, the next one of the scheme makes a text spell one byte more of the scheme
-one_more : (s : List ℕ) (n b : ℕ) → Spells s n → is_tab_or_newline b ≡ false → to_ascii_lowercase b ≡ get_or scheme n 0
-    → map to_ascii_lowercase (without_tabs_and_newlines (s ++ b ∷ [])) ≡ take (n + 1) scheme
-one_more s n b h e same = grind (arith, without_tabs_and_newlines-append, dropped_keeps, dropped_nil, map-append)
+-- a byte that is, in lower case, the next one of the scheme is spelled
+one_more : (text : List ℕ) (place n : ℕ) → place < length text → Spells (take place text) n
+    → is_tab_or_newline (get_or text place 0) ≡ false
+    → to_ascii_lowercase (get_or text place 0) ≡ get_or scheme n 0
+    → map to_ascii_lowercase (without_tabs_and_newlines (take (place + 1) text)) ≡ take (n + 1) scheme
+one_more text place n l h e same =
+    grind (
+      arith,
+      take_more text place 0,
+      without_tabs_and_newlines-append,
+      dropped_keeps,
+      dropped_nil,
+      map-append,
+      take_more scheme n 0,
+    )
 
--- if the byte after a text is, in lower case, the next byte of the scheme, but not the last one, the text with that
--- byte spells one byte more
-pub spells_more : (s : List ℕ) (n b : ℕ) → Spells s n → is_tab_or_newline b ≡ false
-    → to_ascii_lowercase b ≡ get_or scheme n 0 → n + 1 ≢ 5 → Spells (s ++ b ∷ []) (n + 1)
-spells_more s n b h e same ne = record { open_at = omega (arith, h.open_at); spelled = one_more s n b h e same }
+-- with that byte, one byte more of the scheme is spelled
+pub spells_more : (text : List ℕ) (place n : ℕ) → place < length text → Spells (take place text) n
+    → is_tab_or_newline (get_or text place 0) ≡ false
+    → to_ascii_lowercase (get_or text place 0) ≡ get_or scheme n 0 → n + 1 ≢ 5
+    → Spells (take (place + 1) text) (n + 1)
+spells_more text place n l h e same ne = record {
+  open_at = omega (arith, h.open_at);
+  spelled = one_more text place n l h e same;
+}
 
--- if the byte after a text is, in lower case, the last byte of the scheme, the text with that byte spells the whole
--- scheme
-pub spells_all : (s : List ℕ) (n b : ℕ) → Spells s n → is_tab_or_newline b ≡ false
-    → to_ascii_lowercase b ≡ get_or scheme n 0 → n + 1 ≡ 5
-    → map to_ascii_lowercase (without_tabs_and_newlines (s ++ b ∷ [])) ≡ scheme
-spells_all s n b h e same whole = one_more s n b h e same ∙ ap (λ k. take k scheme) whole
+-- if that byte is the last one of the scheme, the text has the scheme
+pub spells_all : (text : List ℕ) (place n : ℕ) → place < length text → Spells (take place text) n
+    → is_tab_or_newline (get_or text place 0) ≡ false
+    → to_ascii_lowercase (get_or text place 0) ≡ get_or scheme n 0 → n + 1 ≡ 5
+    → IsSchemeAndRest text (drop (place + 1) text)
+spells_all text place n l h e same whole = record {
+  scheme = take (place + 1) text;
+  joined = sym (take-append-drop (place + 1) text);
+  spelled = one_more text place n l h e same ∙ ap (λ k. take k scheme) whole;
+}
 
 -- a text that spells n bytes of the scheme has n bytes without its tabs and newlines
 spelled_length : (s : List ℕ) (n : ℕ) → Spells s n → length (without_tabs_and_newlines s) ≡ n
@@ -72,22 +101,26 @@ ends_early s n h =
       spelled_length s n h,
     )
 
--- if a text spells a part of the scheme, and then a byte follows that is neither a tab or newline nor the next byte of
--- the scheme, the text does not begin with the scheme
-pub differs : (text s : List ℕ) (n b : ℕ) (rest : List ℕ) → Spells s n → is_tab_or_newline b ≡ false
-    → to_ascii_lowercase b ≢ get_or scheme n 0 → text ≡ s ++ b ∷ rest → HasNoScheme text
-differs text s n b rest h e ne is =
+-- if a byte follows that is neither a tab or newline nor the next byte of the scheme, the text does not begin with the
+-- scheme
+pub differs : (text : List ℕ) (place n : ℕ) → place < length text → Spells (take place text) n
+    → is_tab_or_newline (get_or text place 0) ≡ false
+    → to_ascii_lowercase (get_or text place 0) ≢ get_or scheme n 0 → HasNoScheme text
+differs text place n l h e ne =
+    let s = without_tabs_and_newlines (take place text) in
+    let b = get_or text place 0 in
+    let rest = without_tabs_and_newlines (drop (place + 1) text) in
+    let size = spelled_length (take place text) n h in
+    let low = map to_ascii_lowercase s in
+    let all : without_tabs_and_newlines text ≡ s ++ b ∷ rest =
+    ap without_tabs_and_newlines (cut_at text place l) ∙ dropped_around b e (take place text) (drop (place + 1) text) in
     grind (
       arith,
       bytes_eq-Decides (map to_ascii_lowercase (take 5 (without_tabs_and_newlines text))) scheme,
-      without_tabs_and_newlines-append s (b ∷ rest),
-      dropped_keeps b rest e,
       take-map to_ascii_lowercase 5 (without_tabs_and_newlines text),
-      map-append to_ascii_lowercase (without_tabs_and_newlines s) (b ∷ without_tabs_and_newlines rest),
-      get_or-take 5 (map to_ascii_lowercase (without_tabs_and_newlines s) ++ to_ascii_lowercase b ∷ map to_ascii_lowercase (without_tabs_and_newlines rest)) n 0 h.open_at,
-      get_or_at (map to_ascii_lowercase (without_tabs_and_newlines s)) (to_ascii_lowercase b) (map to_ascii_lowercase (without_tabs_and_newlines rest)) 0 n (length-map (without_tabs_and_newlines s) to_ascii_lowercase ∙ spelled_length s n h),
-      length-map (without_tabs_and_newlines s) to_ascii_lowercase,
-      spelled_length s n h,
+      map-append to_ascii_lowercase s (b ∷ rest),
+      get_or-take 5 (low ++ to_ascii_lowercase b ∷ map to_ascii_lowercase rest) n 0 h.open_at,
+      get_or_at low (to_ascii_lowercase b) (map to_ascii_lowercase rest) 0 n (length-map s to_ascii_lowercase ∙ size),
     )
 
 -- The scheme as it is commonly spelled
@@ -105,24 +138,13 @@ common_front text items r e f h = subst (λ s. s ≡ scheme ++ drop 5 s) e ((sta
 -- a UTF-8 text that begins with "data:" can be cut after it
 pub common_boundary : (text : List ℕ) → IsUtf8 text → text ≡ scheme ++ drop 5 text → IsCharBoundary text 5
 common_boundary text u h =
-    let front : take 5 text ≡ scheme = ap (take 5) h ∙ take-append-le 5 scheme (drop 5 text) (omega arith) in
-    let long : 5 ≤ length text = omega (arith, ap length h, length-append scheme (drop 5 text)) in
-    IsCharBoundary-from_take text 5 u long (subst IsUtf8 (sym front) (IsUtf8-from_ascii scheme (ascii_all scheme refl)))
+    grind (arith, take-append-le, length-append, IsCharBoundary-from_take, IsUtf8-from_ascii, ascii_all)
 
 -- a text that begins with "data:" has the scheme, and its rest is the text from the sixth byte on
 pub common_scheme : (text rest : List ℕ) → text ≡ scheme ++ drop 5 text → rest ≡ drop 5 text → IsSchemeAndRest text rest
 common_scheme text rest h e = grind (arith, common_spelled)
 
 -- The first comma or '#' of a text.
-
--- a text that does not have the byte at an index below n does not have it before n
-lacks_in_take : (c : ℕ) (s : List ℕ) (n : ℕ) → ((k : ℕ) → k < n → (get_or s k 0 == c) ≡ false)
-    → after c (take n s) ≡ None
-lacks_in_take c s n h = grind (arith, after_none, length-take, get_or-take)
-
--- a text is its first n bytes, the byte at index n, and the bytes after it
-cut_at : (s : List ℕ) (n : ℕ) → n < length s → s ≡ take n s ++ get_or s n 0 ∷ drop (n + 1) s
-cut_at s n l = sym (take-append-drop n s) ∙ ap (λ t. take n s ++ t) (drop_more s n 0 l)
 
 -- at index n is the first ',' or '#' of the text
 pub record IsFrontEnd (s : List ℕ) (n : ℕ) : Type 0 where
@@ -139,21 +161,13 @@ NoEndBefore s n = (k : ℕ) → k < n → ends_header (get_or s k 0) ≡ false
 further_on : (s : List ℕ) (m k : ℕ) → NoEndBefore s m → NoEndBefore (drop m s) k → NoEndBefore s (m + k)
 further_on s m k h g j l = grind (arith, get_or-drop m s (j - m) 0, cases_lt j m)
 
--- if there is no ',' or '#' before index m, and the first one of the bytes from m on is at their index k, the first one
--- of the text is at m + k
-pub front_end_from : (s : List ℕ) (m k : ℕ) → NoEndBefore s m → position ends_header (drop m s) ≡ Some k
-    → IsFrontEnd s (m + k)
-front_end_from s m k h e =
-    let n = m + k in
-    let p = position-Some ends_header (drop m s) k 0 e in
-    let before = further_on s m k h p.2 in
-    let end : ends_header (get_or s n 0) ≡ true = ap ends_header (sym (get_or-drop m s k 0)) ∙ p.1 in
-    record {
-      within = omega (arith, p.0, length-drop m s);
-      is = grind (arith, ⊎_elim, eqb-true, or_cases);
-      no_comma = lacks_in_take 44 s n (λ k l. (or_parts (get_or s k 0 == 44) (get_or s k 0 == 35) (before k l)).0);
-      no_hash = lacks_in_take 35 s n (λ k l. (or_parts (get_or s k 0 == 44) (get_or s k 0 == 35) (before k l)).1);
-    }
+-- if there is no ',' or '#' before index n, the first n bytes have neither
+no_end : (s : List ℕ) (n : ℕ) → NoEndBefore s n → (after 44 (take n s) ≡ None) × (after 35 (take n s) ≡ None)
+no_end s n h =
+    let lacks = λ (k : ℕ) (l : k < n). or_parts (get_or s k 0 == 44) (get_or s k 0 == 35) (h k l) in (
+      grind (arith, after_none, length-take, get_or-take),
+      grind (arith, after_none, length-take, get_or-take),
+    )
 
 -- if the first ',' or '#' of a text is a ',', the bytes before it are the header, and those after it are the tail
 pub at_comma : (s : List ℕ) (n : ℕ) → IsFrontEnd s n → get_or s n 0 ≢ 35 → IsHeaderAndTail s (take n s) (drop (n + 1) s)
@@ -164,51 +178,18 @@ pub at_hash : (s : List ℕ) (n : ℕ) → IsFrontEnd s n → get_or s n 0 ≡ 3
 unfolding front
 at_hash s n f h = cc (cut_at s n f.within, before_at 35 (take n s) (drop (n + 1) s) f.no_hash)
 
--- if a text has neither ',' nor '#', there is no ',' before its first '#'
-pub at_none : (s : List ℕ) (m : ℕ) → NoEndBefore s m → position ends_header (drop m s) ≡ None
-    → after 44 (front s) ≡ None
-unfolding front
-at_none s m h e =
-    let rest = drop m s in
-    let none : NoEndBefore rest (length rest) = λ k l. grind (
-      arith,
-      fails_before_first,
-      ⊎_elim,
-      cond-true,
-      lt-ltb,
-      cases_lt,
-    ) in
-    let all = further_on s m (length rest) h none in
-    let fails : NoEndBefore s (length s) = λ k l. all k (omega (arith, length-drop m s)) in
-    let no_comma = after_none 44 s (λ k l. (or_parts (get_or s k 0 == 44) (get_or s k 0 == 35) (fails k l)).0) in
-    let no_hash = after_none 35 s (λ k l. (or_parts (get_or s k 0 == 44) (get_or s k 0 == 35) (fails k l)).1) in
-    ap (after 44) (before_all 35 s no_hash) ∙ no_comma
-
 -- The bytes of a path that are serialised as they are
 
 -- if n is the length of the longest prefix of plain path bytes, each of the first n bytes is `Plain`
-pub plain_front : (s items : List ℕ) (n : ℕ) → items ≡ s → n ≡ prefix_len is_plain_path items
+plain_front : (s items : List ℕ) (n : ℕ) → items ≡ s → n ≡ prefix_len is_plain_path items
     → ((i : ℕ) → get_or s i 0 < 256) → (k : ℕ) → k < n → Plain (get_or s k 0)
 plain_front s items n e f h k l = grind (arith, prefix_len_passes)
 
--- if the first n bytes are plain, there is no ',' or '#' before index n
-pub plain_no_end : (s : List ℕ) (n : ℕ) → ((k : ℕ) → k < n → Plain (get_or s k 0)) → NoEndBefore s n
-plain_no_end s n h k l = let p = h k l in ap₂ (λ x y. x || y) p.no_comma p.no_hash
-
--- if the first n bytes are plain, they are a header that is serialised as it is
-pub plain_header : (s header : List ℕ) (n : ℕ) → ((k : ℕ) → k < n → Plain (get_or s k 0)) → header ≡ take n s
-    → header_text (without_tabs_and_newlines header) ≡ header
-unfolding header_text
-plain_header s header n h e = grind (arith, after-dropped_none, after_none, before_all, kept_whole, length-take, get_or-take)
-
--- each item of the text is a byte
-abbrev FitsBytes : List ℕ → Type 0
-FitsBytes s = (i : ℕ) → get_or s i 0 < 256
-
 -- there is no ',' or '#' in the longest prefix of plain bytes
-no_end_ahead : (s items : List ℕ) (n : ℕ) → items ≡ s → n ≡ prefix_len is_plain_path items → FitsBytes s
-    → NoEndBefore s n
-no_end_ahead s items n e f h = plain_no_end s n (plain_front s items n e f h)
+no_end_ahead : (s items : List ℕ) (n : ℕ) → items ≡ s → n ≡ prefix_len is_plain_path items
+    → ((i : ℕ) → get_or s i 0 < 256) → NoEndBefore s n
+no_end_ahead s items n e f h k l =
+    let p = plain_front s items n e f h k l in ap₂ (λ x y. x || y) p.no_comma p.no_hash
 
 -- if a list is equal to the text, the position of its first ',' or '#' from index n on is that of the text
 ends_ahead : (s items : List ℕ) (n : ℕ) (r : Option ℕ) → items ≡ s
@@ -218,18 +199,43 @@ ends_ahead s items n r e p = grind (arith, take_all, length-drop)
 -- if the first ',' or '#' after the n plain bytes at the front is at index k of the bytes after them, the first one of
 -- the text is at n + k
 pub front_end_at : (s items : List ℕ) (n k : ℕ) (r : Option ℕ) → items ≡ s → n ≡ prefix_len is_plain_path items
-    → FitsBytes s → r ≡ position ends_header (take (length items - n) (drop n items)) → r ≡ Some k
+    → ((i : ℕ) → get_or s i 0 < 256) → r ≡ position ends_header (take (length items - n) (drop n items)) → r ≡ Some k
     → IsFrontEnd s (n + k)
-front_end_at s items n k r e f h p g = front_end_from s n k (no_end_ahead s items n e f h) (ends_ahead s items n r e p
-    ∙ g)
+front_end_at s items n k r e f h q g =
+    let p = position-Some ends_header (drop n s) k 0 (ends_ahead s items n r e q ∙ g) in
+    let lacks = no_end s (n + k) (further_on s n k (no_end_ahead s items n e f h) p.2) in
+    let end : ends_header (get_or s (n + k) 0) ≡ true = ap ends_header (sym (get_or-drop n s k 0)) ∙ p.1 in
+    record {
+      within = omega (arith, p.0, length-drop n s);
+      is = grind (arith, ⊎_elim, eqb-true, or_cases);
+      no_comma = lacks.0;
+      no_hash = lacks.1;
+    }
 
 -- if there is no ',' or '#' after the plain bytes at the front, there is no ',' before the first '#' of the text
 pub no_front_end : (s items : List ℕ) (n : ℕ) (r : Option ℕ) → items ≡ s → n ≡ prefix_len is_plain_path items
-    → FitsBytes s → r ≡ position ends_header (take (length items - n) (drop n items)) → r ≡ None
+    → ((i : ℕ) → get_or s i 0 < 256) → r ≡ position ends_header (take (length items - n) (drop n items)) → r ≡ None
     → after 44 (front s) ≡ None
-no_front_end s items n r e f h p g = at_none s n (no_end_ahead s items n e f h) (ends_ahead s items n r e p ∙ g)
+unfolding front
+no_front_end s items n r e f h p g =
+    let rest = drop n s in
+    let nothing = ends_ahead s items n r e p ∙ g in
+    let none : NoEndBefore rest (length rest) = λ k l. grind (
+      arith,
+      fails_before_first,
+      ⊎_elim,
+      cond-true,
+      lt-ltb,
+      cases_lt,
+    ) in
+    let all = further_on s n (length rest) (no_end_ahead s items n e f h) none in
+    let lacks = no_end s (length s) (λ k l. all k (omega (arith, length-drop n s))) in
+    let whole = take_all (length s) s (omega arith) in
+    cc (before_all 35 s (ap (after 35) (sym whole) ∙ lacks.1))
 
 -- if the ',' follows directly after the plain bytes at the front, the header is serialised as it is
-pub plain_before : (s items header : List ℕ) (n k : ℕ) → items ≡ s → n ≡ prefix_len is_plain_path items → FitsBytes s
-    → header ≡ take (n + k) s → n + k ≡ n → header_text (without_tabs_and_newlines header) ≡ header
-plain_before s items header n k e f h is same = plain_header s header n (plain_front s items n e f h) (cc)
+pub plain_before : (s items header : List ℕ) (n k : ℕ) → items ≡ s → n ≡ prefix_len is_plain_path items
+    → ((i : ℕ) → get_or s i 0 < 256) → header ≡ take (n + k) s → n + k ≡ n
+    → header_text (without_tabs_and_newlines header) ≡ header
+plain_before s items header n k e f h is same =
+    let plain = plain_front s items n e f h in grind (arith, plain_serialised, length-take, get_or-take)

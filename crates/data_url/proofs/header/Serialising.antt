@@ -1,17 +1,18 @@
 -- Headers: serialised path and query, and the last space of a path. For `serialise`.
 use Rattle.std.proofs.Common.{◌≡◌, ◌≢◌, ◌⊎◌, ℕ, suc, ◌+◌, ◌-◌, ◌<◌, ◌≤◌, Bool, true, false, List, [], ◌∷◌, ◌++◌}
 use Rattle.std.proofs.Common.{length, get_or, take, drop, reverse, codes, refl, sym, ap, ◌∙◌, inl, inr, ⊎_elim, None}
-use Rattle.std.proofs.Common.{append_assoc, arith, eqb-true, subst, length-append, drop_of_length-le, Option, Some}
+use Rattle.std.proofs.Common.{append_assoc, arith, eqb-true, subst, length-append, Option, Some}
 use Rattle.std.specs.Prelude.{◌==◌}
 use Rattle.std.specs.List.{prefix_len, suffix_len}
-use Rattle.std.proofs.lemmas.Bool.{cases_lt, ne_eqb, cases_Bool, leb-false, not-true, not-false}
+use Rattle.std.proofs.lemmas.Bool.{cases_lt, ne_eqb, cases_Bool, not-true, not-false}
 use Rattle.std.proofs.lemmas.List.{append-nil, drop_all, drop_more, get_or-drop, get_or-reverse, get_or-take}
-use Rattle.std.proofs.lemmas.List.{length-drop, length-reverse, length-take, take-append-drop, drop-append-le}
-use Rattle.std.proofs.lemmas.List.{take_more}
+use Rattle.std.proofs.lemmas.List.{length-drop, length-reverse, length-take, take-append-drop}
+use Rattle.std.proofs.lemmas.List.{get_or_at, take_all, take_more}
 use Rattle.std.proofs.lemmas.List.Sums.{prefix_len_passes, prefix_len_stops, suffix_len-le-length}
 use Rattle.data_url.specs.Url.{before, after, without_tabs_and_newlines, encoded_byte, encoded_path, in_path_end_set}
 use Rattle.data_url.specs.Url.{in_path_set, in_query_set, is_tab_or_newline, percent_encoding, after_scheme}
 use Rattle.data_url.specs.Url.{cleaned_text, is_c0_control_or_space, serialised, trimmed_text, with_query, without_end}
+use Rattle.data_url.specs.Url.{without_front}
 use Rattle.data_url.specs.Steps.Header.{HasNoLastSpace, IsPathAndQuery, WithoutSpace, encoded_parts, header_text}
 use Rattle.data_url.specs.Steps.Header.{is_no_question_mark}
 use Rattle.data_url.proofs.texts.Bytes.{before_all, before_at, after-dropped_none, after_at, after_none}
@@ -168,68 +169,51 @@ cut_at_query text n e = record {
 -- The end of a cleaned text
 
 -- the text is empty, or its last byte is neither a C0 control nor a space
-data Ends (s : List ℕ) : Type 0 where
-  nothing : s ≡ [] → Ends s
-  last : (init : List ℕ) (b : ℕ) → s ≡ init ++ b ∷ [] → is_c0_control_or_space b ≡ false → Ends s
+abbrev Ends : List ℕ → Type 0
+Ends s = 0 < length s → is_c0_control_or_space (get_or s (length s - 1) 0) ≡ false
+
+-- a text that is not empty is its bytes but the last, and then the last
+last_of : (s : List ℕ) → 0 < length s → s ≡ take (length s - 1) s ++ get_or s (length s - 1) 0 ∷ []
+last_of s l = grind (arith, take_all, take_more)
 
 -- a text without its end of C0 controls and spaces
 ends_trimmed : (s : List ℕ) → Ends (without_end is_c0_control_or_space s)
-ends_trimmed s =
-    let m = suffix_len is_c0_control_or_space s in
-    let few = suffix_len-le-length is_c0_control_or_space s in
-    let n = length s - m in
-    elim (cases_lt 0 n) [
-      | inl l ↦
-          let e : n ≡ n - 1 + 1 = omega arith in
-          let stop = suffix_stops is_c0_control_or_space s m (n - 1) refl (omega arith) in
-          last (take (n - 1) s) (get_or s (n - 1) 0) (ap (λ k. take k s) e ∙ take_more s (n - 1) 0 (omega arith)) stop
-      | inr l ↦ let e : n ≡ 0 = omega arith in nothing (ap (λ k. take k s) e)
-    ]
-
--- a byte that is not a C0 control or space is not a tab or newline
-not_tab : (b : ℕ) → is_c0_control_or_space b ≡ false → is_tab_or_newline b ≡ false
-not_tab b h = grind arith
-
--- a byte that is not a C0 control or space is not a space
-not_space : (b : ℕ) → is_c0_control_or_space b ≡ false → is_space b ≡ false
-not_space b h = let l : 32 < b = leb-false b 32 h in ne_eqb b 32 (λ e. omega (arith, l, e))
+ends_trimmed s l = grind (arith, suffix_len-le-length, length-take, suffix_stops, get_or-take)
 
 -- dropping tabs and newlines keeps the last byte
 ends_dropped : (s : List ℕ) → Ends s → Ends (without_tabs_and_newlines s)
-ends_dropped s (nothing e) = nothing (ap without_tabs_and_newlines e ∙ dropped_nil)
-ends_dropped s (last init b e h) =
-    let one : without_tabs_and_newlines (b ∷ []) ≡ b ∷ [] = cc (dropped_keeps b [] (not_tab b h), dropped_nil) in
-    last (without_tabs_and_newlines init) b
-    (cc (without_tabs_and_newlines-append init (b ∷ []))) h
+ends_dropped [] e l = absurd (let n = ap length dropped_nil in omega arith)
+ends_dropped (c ∷ s) e l =
+    let n = length (c ∷ s) - 1 in
+    let b = get_or (c ∷ s) n 0 in
+    let h : is_c0_control_or_space b ≡ false = e (omega arith) in
+    let no : is_tab_or_newline b ≡ false = grind arith in
+    let is : without_tabs_and_newlines (c ∷ s) ≡ without_tabs_and_newlines (take n (c ∷ s)) ++ b ∷ [] =
+    cc (last_of (c ∷ s) (omega arith), dropped_around b no (take n (c ∷ s)) [], dropped_nil) in
+    grind (arith, get_or_at, length-append)
 
 -- a text that is empty or does not end with a C0 control or space stays so without bytes from its front
 ends_after : (n : ℕ) (s : List ℕ) → Ends s → Ends (drop n s)
-ends_after n s (nothing e) = grind (arith, drop_of_length-le)
-ends_after n s (last init b e h) = elim (cases_lt (length init) n) [
-  | inl l ↦ grind (arith, length-append, drop_of_length-le)
-  | inr l ↦ last (drop n init) b (ap (drop n) e ∙ drop-append-le n init (b ∷ []) l) h
-]
+ends_after n s e l = grind (arith, get_or-drop, length-drop)
 
 -- a text that is empty, or whose last byte is not a C0 control or space, does not end with a space
 ends_with_no_space : (s : List ℕ) → Ends s → DoesNotEnd is_space s
-ends_with_no_space s (nothing e) = subst (DoesNotEnd is_space) (sym e) tt
-ends_with_no_space s (last init b e h) = grind (arith, not_ends_last is_space b (not_space b h) init, not_space b h)
-
--- the cleaned text is empty, or its last byte is not a C0 control or space
-ends_cleaned : (t : List ℕ) → Ends (cleaned_text t)
-unfolding cleaned_text trimmed_text
-ends_cleaned t = search (arith, ends_dropped, ends_trimmed)
-
--- the text after the scheme is the cleaned text without its first five bytes
-after_is : (t a : List ℕ) → after_scheme t ≡ Some a → a ≡ drop 5 (cleaned_text t)
-unfolding after_scheme
-after_is t a h = grind arith
+ends_with_no_space [] e = tt
+ends_with_no_space (c ∷ s) e =
+    let b = get_or (c ∷ s) (length (c ∷ s) - 1) 0 in
+    let h : is_c0_control_or_space b ≡ false = e (omega arith) in
+    let no : is_space b ≡ false = grind arith in
+    subst (DoesNotEnd is_space) (sym (last_of (c ∷ s) (omega arith)))
+    (not_ends_last is_space b no (take (length (c ∷ s) - 1) (c ∷ s)))
 
 -- what follows the scheme does not end with a space
 pub no_last_space : (t a : List ℕ) → after_scheme t ≡ Some a → DoesNotEnd is_space a
+unfolding after_scheme cleaned_text trimmed_text
 no_last_space t a h =
-    subst (DoesNotEnd is_space) (sym (after_is t a h))
-    (ends_with_no_space (drop 5 (cleaned_text t)) (ends_after 5 (cleaned_text t) (ends_cleaned t)))
+    let front = without_front is_c0_control_or_space t in
+    let rest : a ≡ drop 5 (without_tabs_and_newlines (without_end is_c0_control_or_space front)) = grind arith in
+    subst (DoesNotEnd is_space) (sym rest)
+    (ends_with_no_space _ (ends_after 5 _ (ends_dropped _ (ends_trimmed front))))
 
 -- The two rules on the last space of a path
 
@@ -238,21 +222,6 @@ data Differs (path : List ℕ) : Type 0 where
   same_path : encoded_path path ≡ percent_encoding in_path_set path → Differs path
   last_space : (x : List ℕ) → encoded_path path ≡ x ++ codes "%20" → percent_encoding in_path_set path ≡ x ++ codes " "
       → Differs path
-
--- a text is empty, or has a last byte
-data HasLast (s : List ℕ) : Type 0 where
-  without_last : s ≡ [] → HasLast s
-  with_last : (init : List ℕ) (b : ℕ) → s ≡ init ++ b ∷ [] → HasLast s
-
--- if s is empty or has a last byte, b ∷ s has a last byte
-last_after : (b : ℕ) (s : List ℕ) → HasLast s → HasLast (b ∷ s)
-last_after b s (without_last e) = with_last [] b (ap (λ t. b ∷ t) e)
-last_after b s (with_last init c e) = with_last (b ∷ init) c (ap (λ t. b ∷ t) e)
-
--- each text is empty, or has a last byte
-has_last : (s : List ℕ) → HasLast s
-has_last [] = without_last refl
-has_last (b ∷ s) = last_after b s (has_last s)
 
 -- a space, encoded with the set of a path, is a space
 space_encoded : percent_encoding in_path_set (32 ∷ []) ≡ 32 ∷ []
@@ -269,9 +238,9 @@ differs_last path init b e = elim (cases_Bool (b == 32)) [
 ]
 
 -- each path, empty or with a last byte, is the same by both rules, except for a space at its end
-differs_by : (path : List ℕ) → HasLast path → Differs path
-differs_by path (without_last e) = grind (arith, path_nil, encoded_nil)
-differs_by path (with_last init b e) = differs_last path init b e
+differs_by : (path : List ℕ) → Differs path
+differs_by [] = grind (arith, path_nil, encoded_nil)
+differs_by (c ∷ s) = differs_last (c ∷ s) _ _ (last_of (c ∷ s) (omega arith))
 
 -- The flag of a text whose first comma is known
 
@@ -328,4 +297,4 @@ flag_by path (Some query) (last_space x e f) = grind (arith, flag_of_query)
 -- the flag is the same by both rules
 pub flag_of_spaces : (s : List ℕ) → base64_flag (serialised s) ≡ base64_flag (serialised_with_spaces s)
 unfolding serialised
-flag_of_spaces s = flag_by (before 63 s) (after 63 s) (differs_by (before 63 s) (has_last (before 63 s)))
+flag_of_spaces s = flag_by (before 63 s) (after 63 s) (differs_by (before 63 s))

@@ -1,23 +1,23 @@
 -- The stages of the Standard, from the input to its record. For `DataUrl::process`.
-use Rattle.std.proofs.Common.{◌≡◌, ℕ, zero, suc, ◌-◌, ◌<◌, ◌≤◌, Bool, false, List, [], ◌∷◌, ◌++◌, length, get_or}
-use Rattle.std.proofs.Common.{take, drop, Option, None, Some, refl, sym, ap, ◌∙◌, inl, inr, ◌⊎◌, eqb-true, subst, arith}
-use Rattle.std.proofs.Common.{true, map, codes, ◌≢◌, IsTrue}
+use Rattle.std.proofs.Common.{◌≡◌, ℕ, zero, suc, ◌<◌, ◌≤◌, Bool, false, List, [], ◌∷◌, ◌++◌, length, get_or}
+use Rattle.std.proofs.Common.{take, drop, None, Some, refl, sym, ap, ◌∙◌, inl, inr, eqb-true, subst, arith}
+use Rattle.std.proofs.Common.{true, map, codes, ◌≢◌}
 use Rattle.std.specs.Prelude.{◌==◌, option_and_then}
 use Rattle.std.specs.List.{prefix_len, suffix_len}
 use Rattle.std.specs.Str.{chars}
-use Rattle.std.proofs.lemmas.Bool.{cases_Bool, cond-true, cond-false, both_ways, ne_eqb, eq-eqb}
+use Rattle.std.proofs.lemmas.Bool.{cases_Bool, cond-true, cond-false, ne_eqb, eq-eqb}
 use Rattle.std.proofs.lemmas.Slice.Eq.{bytes_eq-Decides}
 use Rattle.std.proofs.lemmas.List.{get_or-drop, get_or-reverse, get_or-take, get_or_past, length-drop, length-reverse}
 use Rattle.std.proofs.lemmas.List.{take-append-drop, length-take, drop_at, length-map, take_at}
-use Rattle.data_url.specs.Url.{before, after, is_c0_control_or_space, percent_encoding, trimmed_text, without_end}
+use Rattle.data_url.specs.Url.{before, after, is_c0_control_or_space, percent_encoding, trimmed_text}
 use Rattle.data_url.specs.Url.{after_scheme, cleaned_text, without_tabs_and_newlines, fragment, front}
 use Rattle.data_url.specs.Url.{is_tab_or_newline, serialised, in_fragment_set}
 use Rattle.data_url.specs.Fetch.{is_space, stripped_header, encoded_body, header_of, staged_front, tail_of}
-use Rattle.data_url.specs.Fetch.{before_base64, before_semicolon, before_word, has_base64_suffix, media_of, mime_text}
+use Rattle.data_url.specs.Fetch.{before_base64, has_base64_suffix, media_of, mime_text}
 use Rattle.data_url.specs.Fetch.{with_plain, Accepted, NoComma, NoScheme, outcome, plain_body, staged}
 use Rattle.data_url.specs.Steps.Header.{IsPrintable, header_text, IsHeaderOf, IsRecordFor}
 use Rattle.data_url.proofs.percent.Encoding.{IsBytes, encoded_cons, encoded_nil, header_nil, header_path, header_query}
-use Rattle.data_url.proofs.percent.Encoding.{Recoded, RecodedTails, before-serialised, recoded-decoded, recoded_tails}
+use Rattle.data_url.proofs.percent.Encoding.{Recoded, before-serialised, recoded-decoded, recoded_tails}
 use Rattle.data_url.proofs.percent.Encoding.{serialised_recoded}
 use Rattle.std.specs.Option.{option_map}
 use Rattle.std.specs.Char.{to_ascii_lowercase}
@@ -30,7 +30,7 @@ use Rattle.data_url.proofs.texts.Bytes.{before_all, before_at, dropped_passes, i
 use Rattle.data_url.proofs.runs.Runs.{none_or_some}
 use Rattle.std.proofs.lemmas.Str.{chars-IsAscii}
 use Rattle.data_url.specs.Mime.{HasNoRecord, IsWellformed, Parses, Record, default_record, BeginsParameters, DoesNotEnd}
-use Rattle.data_url.specs.Mime.{IsHead, IsRecordOfParts, is_token_text}
+use Rattle.data_url.specs.Mime.{IsHead, IsRecordOfParts}
 use Rattle.data_url.specs.Steps.Parsing.{IsTrimmedEnd}
 use Rattle.data_url.proofs.texts.CodePoints.{trimmed_end_is}
 use Rattle.data_url.proofs.examples.Literals.{on_literals}
@@ -146,10 +146,10 @@ pub scheme_has_no_comma : (scheme : List ℕ) → map to_ascii_lowercase (withou
 scheme_has_no_comma scheme e = elim (none_or_some (after 44 scheme)) [
   | inl n ↦ n
   | inr (rest, s) ↦ absurd (
-    let d = after_dropped 44 refl scheme rest s in
-    let n = lacks_comma (without_tabs_and_newlines scheme) (ap (after 44) e ∙ scheme_lacks) in
-    cc
-  )
+      let d = after_dropped 44 refl scheme rest s in
+      let n = lacks_comma (without_tabs_and_newlines scheme) (ap (after 44) e ∙ scheme_lacks) in
+      cc
+      )
 ]
 
 -- After the scheme

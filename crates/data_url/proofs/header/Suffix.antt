@@ -72,29 +72,16 @@ before_one s n l = grind (arith, length-take-le, take-take)
 pub no_semicolon : (s : List ℕ) (n spaces m : ℕ) → IsPrintable s → HasWord s n spaces → n - spaces ≡ m + 1
     → get_or s m 0 ≢ 59 → before_base64 s ≡ None
 no_semicolon s n spaces m p h e ne =
-    let six = h.six in
-    let within : m < length s = omega arith in
-    cc (
-      after_word s n spaces p h,
-      cond-false (bytes_eq (last_bytes 1 (take (m + 1) s)) semicolon) (Some (before_last
-          1 (take (m + 1) s))) None (false_from_ne_true (bytes_eq (last_bytes 1 (take (m + 1) s)) semicolon) (λ k. let
-          same : get_or s m 0 ∷ [] ≡ semicolon = sym (last_one s m within)
-          ∙ (bytes_eq-Decides (last_bytes 1 (take (m + 1) s)) semicolon).0 k in ne (ap (λ t. get_or t 0 0) same))),
-    )
+    let one = last_one s m (omega (arith, h.six)) in
+    after_word s n spaces p h ∙ ap (λ k. before_semicolon (take k s)) e ∙ grind (arith, bytes_eq-Decides)
 
 -- if the byte before the spaces and the word is a ';' at index m, the text before the suffix is the first m bytes
 pub with_semicolon : (s : List ℕ) (n spaces m : ℕ) → IsPrintable s → HasWord s n spaces → n - spaces ≡ m + 1
     → get_or s m 0 ≡ 59 → before_base64 s ≡ Some (take m s)
 with_semicolon s n spaces m p h e is =
-    let six = h.six in
-    let within : m < length s = omega arith in
-    cc (
-      after_word s n spaces p h,
-      cond-true (bytes_eq (last_bytes 1 (take (m + 1) s)) semicolon) (Some (before_last
-          1 (take (m + 1) s))) None ((bytes_eq-Decides (last_bytes 1 (take (m + 1) s)) semicolon).1 (last_one s m
-          within ∙ ap (λ b. b ∷ []) is)),
-      before_one s m within,
-    )
+    let one = last_one s m (omega (arith, h.six)) in
+    let front = before_one s m (omega (arith, h.six)) in
+    after_word s n spaces p h ∙ ap (λ k. before_semicolon (take k s)) e ∙ grind (arith, bytes_eq-Decides)
 
 -- The base64 suffix of a header with a query comes after its '?'.
 

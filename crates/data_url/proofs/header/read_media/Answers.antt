@@ -11,8 +11,7 @@ use Rattle.data_url.proofs.header.Stages.{plain_stays}
 use Rattle.data_url.proofs.header.read_media.Goals as goal
 
 pub plain_head-requires : goal.plain_head-requires
-plain_head-requires c = let first : get_or c.args.media.now 0 0 ≡ 59 = grind arith in
-    media_begins c.args.media.now c.requires first
+plain_head-requires c = grind (arith, media_begins)
 
 pub returns-then-starts_with : goal.returns-then-starts_with
 returns-then-starts_with c =

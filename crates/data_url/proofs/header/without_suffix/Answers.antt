@@ -19,45 +19,28 @@ pub overflow_sub-end : goal.overflow_sub-end
 overflow_sub-end c = grind (arith, suffix_len-le-length, length-take)
 
 -- a text whose last six bytes are "base64", in any ASCII case, has the word there
-has_word : (s : List ℕ) (n spaces : ℕ) (same : Bool) → (6 ≤ length s) × (n ≡ length s - 6)
-    → (same ≡ true → map to_ascii_lowercase (take (length s - n) (drop n s)) ≡ codes "base64") → same ≡ true
-    → spaces ≡ suffix_len is_c0_control_or_space (take n s) → HasWord s n spaces
-has_word s n spaces same at word h e = grind (arith, take_rest)
+has_word : (s items : List ℕ) (n spaces : ℕ) {same : Bool} → items ≡ s → (6 ≤ length items) × (n ≡ length items - 6)
+    → (same ≡ true → map to_ascii_lowercase (take (length items - n) (drop n items)) ≡ codes "base64") → same ≡ true
+    → spaces ≡ suffix_len is_c0_control_or_space (take n items) → HasWord s n spaces
+has_word s items n spaces {same} f at word h e = grind (arith, take_rest)
 
 pub returns-in_err-semicolon-clause-text : goal.returns-in_err-semicolon-clause-text
 returns-in_err-semicolon-clause-text c =
-    let s = c.as_bytes-bytes.result.now in
-    let n = c.in_ok-word.word in
-    let printable = subst IsPrintable (sym c.as_bytes-bytes.ensures.value) c.requires in
-    let word = has_word s n c.low_end_len.result c.eq_ignore_ascii_case.result c.in_ok-word.ensures
+    let word = has_word c.args.header.now _ _ _ c.as_bytes-bytes.ensures.value c.in_ok-word.ensures
     c.eq_ignore_ascii_case.ensures.test.0 c.if-not-eq_ignore_ascii_case.false c.low_end_len.ensures in
-    cc (nothing_left s n c.low_end_len.result printable word (omega (arith, c.in_err-semicolon.ensures)))
+    grind (arith, nothing_left)
 
 pub returns-then-bytes-semicolon-ne59-clause-text : goal.returns-then-bytes-semicolon-ne59-clause-text
 returns-then-bytes-semicolon-ne59-clause-text c =
-    let s = c.as_bytes-bytes.result.now in
-    let n = c.in_ok-word.word in
-    let printable = subst IsPrintable (sym c.as_bytes-bytes.ensures.value) c.requires in
-    let word = has_word s n c.low_end_len.result c.eq_ignore_ascii_case.result c.in_ok-word.ensures
+    let word = has_word c.args.header.now _ _ _ c.as_bytes-bytes.ensures.value c.in_ok-word.ensures
     c.eq_ignore_ascii_case.ensures.test.0 c.if-not-eq_ignore_ascii_case.false c.low_end_len.ensures in
-    sym (cc (no_semicolon s n c.low_end_len.result c.in_ok-semicolon.semicolon printable word (omega (
-      arith,
-      c.in_ok-semicolon.ensures,
-    )) c.if-bytes-semicolon-ne59.true))
+    grind (arith, no_semicolon)
 
 pub returns-clause-text : goal.returns-clause-text
 returns-clause-text c =
-    let s = c.as_bytes-bytes.result.now in
-    let n = c.in_ok-word.word in
-    let m = c.in_ok-semicolon.semicolon in
-    let printable = subst IsPrintable (sym c.as_bytes-bytes.ensures.value) c.requires in
-    let word = has_word s n c.low_end_len.result c.eq_ignore_ascii_case.result c.in_ok-word.ensures
+    let word = has_word c.args.header.now _ _ _ c.as_bytes-bytes.ensures.value c.in_ok-word.ensures
     c.eq_ignore_ascii_case.ensures.test.0 c.if-not-eq_ignore_ascii_case.false c.low_end_len.ensures in
-    let width : m - 0 ≡ m = omega arith in
-    cc (with_semicolon s n c.low_end_len.result m printable word (omega (
-      arith,
-      c.in_ok-semicolon.ensures,
-    )) c.if-bytes-semicolon-ne59.false)
+    grind (arith, with_semicolon)
 
 pub returns-clause-printable : goal.returns-clause-printable
 returns-clause-printable c = grind (arith, printable_take)
