@@ -1,8 +1,8 @@
 -- Which parameters are kept: the first of each name. For `kept.rt`, and that a record is well formed.
-use Rattle.std.proofs.Common.{◌≡◌, ℕ, List, String, ap, length, map, min, sym, take, ◌∙◌, ◌<◌, ◌||◌, ◌&&◌, ◌⊎◌, Bool}
+use Rattle.std.proofs.Common.{◌≡◌, ℕ, List, String, ap, length, map, min, sym, take, ◌∙◌, ◌<◌, ◌||◌, ◌&&◌, Bool}
 use Rattle.std.proofs.Common.{true, false, cond, [], ◌∷◌, ◌++◌, get_or, drop, Option, None, Some, refl, ap₂, subst}
-use Rattle.std.proofs.Common.{append_assoc, append-nil, arith, inl, inr, ◌≤◌, not, string_bytes}
-use Rattle.std.proofs.lemmas.List.{take-map, take_min, map-append, drop-append-le, length-append, take-append-drop}
+use Rattle.std.proofs.Common.{Global, drop-cons, add-one, ◌+◌, append_assoc, append-nil, arith, inl, inr, ◌≤◌, not, string_bytes}
+use Rattle.std.proofs.lemmas.List.{take-map, take_min, get_or-take, length-take, map-append, drop-append-le, length-append, take-append-drop}
 use Rattle.data_url.specs.Mime.{has_name, BeginsParameters, Item, Items, Pair, first_of_each_name, is_lowercase_name}
 use Rattle.data_url.specs.Mime.{is_token_text, kept_pairs, valid_of, valid_pairs, HasNoRecord, IsHead, IsWellformed}
 use Rattle.data_url.specs.Mime.{Parses, Record, has_distinct_names, IsRecordOfParts}
@@ -10,13 +10,14 @@ use Rattle.data_url.specs.MimeType.{pair_of, code_points}
 use Rattle.data_url.specs.Steps.Kept.{first_of, pairs_of, HasLaterNames, IsIndexed}
 use Rattle.data_url.specs.declared.mime.kept.KeptParameters.{KeptParameters}
 use Rattle.data_url.specs.declared.mime.kept.TheConstants.{LOOKED_THROUGH}
-use Rattle.std.proofs.lemmas.Bool.{agree_below_at, and_from, and_parts, cases_lt, cond-false, cond-true, cond_both}
-use Rattle.std.proofs.lemmas.Bool.{false_from_ne_true, false≢true, or_left}
-use Rattle.std.proofs.lemmas.List.Folds.{list_all-append, list_all-map, list_all_at}
-use Rattle.std.proofs.lemmas.Grind.{flat_map-append}
+use Rattle.std.proofs.lemmas.Bool.{agree_below_at, and_from, and_parts, cases_lt, cond_both}
+use Rattle.std.proofs.lemmas.Bool.{false_from_ne_true, false≢true}
+use Rattle.std.proofs.lemmas.List.Folds.{list_all-append, list_all-map, list_all_at, list_any-append}
 use Rattle.std.proofs.lemmas.Slice.Eq.{bytes_eq-Decides}
 use Rattle.std.proofs.lemmas.Str.{chars-IsAscii, chars-nil, IsUtf8-string_bytes}
 use Rattle.std.proofs.lemmas.Str.Ascii.{IsAscii-map, lowercase-lowercase, lowercase_ascii, lowercase_is}
+use Rattle.std.proofs.lemmas.Bool.Decides.{same_from_decides}
+use Rattle.std.specs.Prelude.{Decides}
 use Rattle.std.specs.Char.{to_ascii_lowercase}
 use Rattle.std.specs.List.{list_all}
 use Rattle.std.specs.Str.{IsUtf8, bytes_eq, chars}
@@ -31,7 +32,7 @@ use Rattle.std.specs.BTreeSet.{BTreeSet, UpdatesBy, contains, contains_text}
 use Rattle.std.specs.Cmp.Lexicographic.{slice_cmp}
 use Rattle.std.specs.Ordering.{nat_cmp}
 use Rattle.std.specs.String.{string_cmp}
-use Rattle.data_url.proofs.mime.Items.{has_items, has_parameter, items_in, rest_shorter}
+use Rattle.data_url.proofs.mime.Items.{has_items, has_parameter, items_are, items_in, rest_shorter}
 
 -- Names that are searched among the first pairs that are kept.
 
@@ -59,14 +60,13 @@ test_from_different a c n = false_from_ne_true (bytes_eq a c) (λ h. n (equal_fr
 
 -- Names in lower case
 
--- an ASCII code point in lower case is a token code point exactly if the code point is
-low_token : (c : ℕ) → c < 128 → is_token (to_ascii_lowercase c) ≡ is_token c
-unfolding is_token
-low_token c l = agree_below_at (λ x. is_token (to_ascii_lowercase x)) is_token 128 c refl l
-
 -- a code point in lower case is a token code point exactly if the code point is
-pub token_lower : (c : ℕ) → is_token (to_ascii_lowercase c) ≡ is_token c
-token_lower c = elim (cases_lt c 128) [ inl l ↦ low_token c l | inr l ↦ ap is_token ((lowercase_is c).2 (omega arith)) ]
+token_lower : (c : ℕ) → is_token (to_ascii_lowercase c) ≡ is_token c
+unfolding is_token
+token_lower c = elim (cases_lt c 128) [
+  | inl l ↦ agree_below_at (λ x. is_token (to_ascii_lowercase x)) is_token 128 c refl l
+  | inr l ↦ ap is_token ((lowercase_is c).2 (omega arith))
+]
 
 -- a text in lower case has only token code points exactly if the text has
 all_token_lower : (t : List ℕ) → list_all is_token (map to_ascii_lowercase t) ≡ list_all is_token t
@@ -107,79 +107,76 @@ lower_is_itself t h = grind (arith, equal_from_test)
 pub lowercase_token : (t : List ℕ) → is_lowercase_name t ≡ true → is_token_text t ≡ true
 lowercase_token t h = (and_parts (is_token_text t) (bytes_eq (map to_ascii_lowercase t) t) h).0
 
--- the bytes in lower case of a lower-case name k and of a token text n are their code points in lower case
-both_lower : (k n : List ℕ) → IsUtf8 k → IsUtf8 n → is_lowercase_name (chars k) ≡ true → is_token_text (chars n) ≡ true
-    → (map to_ascii_lowercase k ≡ chars k) × (map to_ascii_lowercase n ≡ map to_ascii_lowercase (chars n))
-both_lower k n u w h t = grind (arith, lower_is_itself, bytes_of_ascii, token_text_ascii)
-
 -- a token text has at least one byte
 pub some_byte : (n : List ℕ) → is_token_text (chars n) ≡ true → 0 < length n
 some_byte [] h = absurd (false≢true (sym (ap is_token_text chars-nil) ∙ h))
 some_byte (b ∷ n) h = omega arith
 
--- for a lower-case name k and a token text n that are equal in lower case, the test of k and of n in lower case is true
-pub names_equal : (k n : List ℕ) → IsUtf8 k → IsUtf8 n → is_lowercase_name (chars k) ≡ true
-    → is_token_text (chars n) ≡ true → map to_ascii_lowercase k ≡ map to_ascii_lowercase n
-    → bytes_eq (chars k) (map to_ascii_lowercase (chars n)) ≡ true
-names_equal k n u w h t e = grind (arith, both_lower)
-
--- for a lower-case name k and a token text n that differ in lower case, the test of k and of n in lower case is false
-pub names_differ : (k n : List ℕ) → IsUtf8 k → IsUtf8 n → is_lowercase_name (chars k) ≡ true
-    → is_token_text (chars n) ≡ true → (map to_ascii_lowercase k ≡ map to_ascii_lowercase n → ⊥)
-    → bytes_eq (chars k) (map to_ascii_lowercase (chars n)) ≡ false
-names_differ k n u w h t e = grind (arith, both_lower, test_from_different)
-
 -- One step of the look-up
 
--- if all names are lower-case, so is that of the pair at index i
-pub lowercase_at : {A B : Type 0} (pairs : List (String A × String B)) (i : ℕ) (item : String A × String B)
-    → HasLowercaseNames (map (λ p. pair_of p) pairs) → i < length pairs → item ≡ get_or pairs i item
-    → is_lowercase_name (code_points item.0) ≡ true
-lowercase_at pairs i item h l e = grind (arith, list_all_at, list_all-map)
+module _ {kept : KeptParameters} {all : List (String Global × String Global)} (k i : ℕ)
+    {item : String Global × String Global} {key : List ℕ} (x : IsIndexed kept) (e : all ≡ kept.pairs.items)
+    (l : i < length (take k all)) (g : item ≡ get_or (take k all) i item) (f : key ≡ string_bytes item.0) where
+  -- the name at index i of the first k pairs is its bytes, which are in lower case
+  key_is : (map to_ascii_lowercase key ≡ key) × (key ≡ code_points item.0)
+  key_is =
+      let h : is_lowercase_name (code_points item.0) ≡ true = grind (
+        arith,
+        list_all_at,
+        list_all-map,
+        get_or-take,
+        length-take,
+      ) in
+      grind (arith, lower_is_itself, bytes_of_ascii, token_text_ascii, IsUtf8-string_bytes)
+
+  -- it is in lower case
+  pub key_lower : map to_ascii_lowercase key ≡ key
+  key_lower = key_is.0
+
+  -- one of the pairs from there on has a token text in lower case if the key is this text, or a later one has it
+  pub key_next : (n : List ℕ) (r : Bool) → IsUtf8 n → is_token_text (chars n) ≡ true
+      → Decides r (map to_ascii_lowercase key ≡ map to_ascii_lowercase n)
+      → has_name (map to_ascii_lowercase (chars n)) (map (λ p. pair_of p) (drop i (take k all)))
+      ≡ (r || has_name (map to_ascii_lowercase (chars n)) (map (λ p. pair_of p) (drop (i + 1) (take k all))))
+  key_next n r u t d =
+      let same = bytes_of_ascii n u (token_text_ascii (chars n) t) in
+      let first = drop-cons (take k all) i item l in
+      cc (same, first, key_is.0, key_is.1, add-one i, same_from_decides r _ d (bytes_eq-Decides _ _))
 
 -- The pairs that are kept with one more item
 
--- `b || false` is b
-or_none : (b : Bool) → (b || false) ≡ b
-or_none true = refl
-or_none false = refl
-
--- one of the pairs of xs ++ ys has a name exactly if one of xs or one of ys has it
-pub has_append : (n : List ℕ) (xs ys : List Pair) → has_name n (xs ++ ys) ≡ (has_name n xs || has_name n ys)
-has_append n [] ys = refl
-has_append n (p ∷ xs) ys = grind (arith, has_append n xs ys)
-
 -- one of the pairs has a name after p is pushed exactly if one had it before, or p has it
-pub has_pushed : (n : List ℕ) (xs : List Pair) (p : Pair)
+has_pushed : (n : List ℕ) (xs : List Pair) (p : Pair)
     → has_name n (xs ++ (p ∷ [])) ≡ (has_name n xs || bytes_eq p.0 n)
-has_pushed n xs p = has_append n xs (p ∷ []) ∙ ap (λ b. has_name n xs || b) (or_none (bytes_eq p.0 n))
+has_pushed n xs p = grind (arith, list_any-append {X = Pair})
 
--- the first pairs of each name, with q pushed, are those without it and then q, if its name is new
-first_snoc : (e ps : List Pair) (q : Pair) → first_of_each_name e (ps ++ (q ∷ [])) ≡ first_of_each_name e ps ++ cond
-    (has_name q.0 (e ++ ps)) [] (q ∷ [])
-first_snoc e [] q = rw (append-nil e) refl
-first_snoc e (p ∷ ps) q = grind (arith, first_snoc (e ++ (p ∷ [])) ps q, append_assoc)
+-- the first pairs of each name depend on the names of the earlier pairs alone
+first_same : (e e' ps : List Pair) → ((n : List ℕ) → has_name n e ≡ has_name n e')
+    → first_of_each_name e ps ≡ first_of_each_name e' ps
+first_same e e' [] h = refl
+first_same e e' (q ∷ ps) h =
+    let same = first_same (e ++ (q ∷ [])) (e' ++ (q ∷ [])) ps (λ n. grind (arith, has_pushed, h n)) in
+    let here = h q.0 in
+    grind arith
 
--- if the earlier pairs have the name of p, they have each name that is equal to it
-named : (n : List ℕ) (e : List Pair) (p : Pair) → has_name p.0 e ≡ true → bytes_eq p.0 n ≡ true → has_name n e ≡ true
-named n e p h t = ap (λ x. has_name x e) (sym (equal_from_test p.0 n t)) ∙ h
+-- if the pairs have the name of q, they have each name that is equal to it
+named : (n : List ℕ) (e : List Pair) (q : Pair) → has_name q.0 e ≡ true → bytes_eq q.0 n ≡ true → has_name n e ≡ true
+named n e q h t = ap (λ x. has_name x e) (sym (equal_from_test q.0 n t)) ∙ h
 
--- the earlier pairs or the first of each name have a name exactly if the earlier pairs or all others have it
-has_first : (n : List ℕ) (e ps : List Pair) → (has_name n e || has_name n (first_of_each_name e ps))
-    ≡ (has_name n e || has_name n ps)
-has_first n e [] = refl
-has_first n e (p ∷ ps) = grind (arith, named, has_pushed, has_first n (e ++ (p ∷ [])) ps)
+-- and they have the same names with q pushed
+known_pushed : (n : List ℕ) (e : List Pair) (q : Pair) → has_name q.0 e ≡ true
+    → has_name n (e ++ (q ∷ [])) ≡ has_name n e
+known_pushed n e q h = grind (arith, has_pushed, named n e q)
 
--- if at most one pair is appended, the first pairs of each name get it exactly if none of them has its name
-kept_with_one : (ps qs : List Pair) → (qs ≡ []) ⊎ ((p : Pair) × (qs ≡ p ∷ []))
-    → first_of_each_name [] (ps ++ qs) ≡ first_of_each_name [] ps ++ unless_named (first_of_each_name [] ps) qs
-kept_with_one ps qs (inl e) = rw (e, append-nil ps) (sym (append-nil (first_of_each_name [] ps)))
-kept_with_one ps qs (inr (p, e)) = grind (arith, first_snoc, has_first p.0)
-
--- the pairs that are kept with one more item are those kept before, and then those that the item adds
-pub kept_more : (items : List Item) (item : Item) → kept_pairs (items ++ (item ∷ [])) ≡ kept_pairs items ++ added_pairs
-    (kept_pairs items) item
-kept_more items item = grind (arith, flat_map-append, kept_with_one)
+-- after the pairs that an item adds come the first pairs of each name that are left
+first_step : (pairs : List Pair) (item : Item) (ps : List Pair) → first_of_each_name pairs (valid_of item ++ ps)
+    ≡ added_pairs pairs item ++ first_of_each_name (pairs ++ added_pairs pairs item) ps
+first_step pairs (name, None) ps = rw (append-nil pairs) refl
+first_step pairs (name, Some v) ps =
+    let q : Pair = (name, v) in
+    let known = λ (h : has_name q.0 pairs ≡ true).
+    first_same (pairs ++ (q ∷ [])) pairs ps (λ n. known_pushed n pairs q h) in
+    grind (arith, append-nil)
 
 -- What the parser keeps for one parameter
 
@@ -213,62 +210,58 @@ new_pair n name value o b e h f v = grind (arith, token_text_lower)
 
 -- The parser's loop over the parameters
 
--- the pairs are those kept of some items, and these items with those of the rest are the items of the whole text
+-- the pairs and the first pairs of each name in the rest are those kept of the items of the whole text
 pub record KeepsOn (whole rest : List ℕ) (pairs : List Pair) : Type 0 where
-  pub items : List Item
-  pub goes_on : (more : List Item) → Items rest more → Items whole (items ++ more)
-  pub kept_is : pairs ≡ kept_pairs items
   pub begins : BeginsParameters rest
+  pub kept : pairs ++ first_of_each_name pairs (valid_pairs (items_in (length rest) rest))
+      ≡ kept_pairs (items_in (length whole) whole)
 
--- if a text is empty or begins with ';', but does not begin with ';', it is empty
-no_mark_left : (rest : List ℕ) → BeginsParameters rest → after_mark 59 rest ≡ None → rest ≡ []
-no_mark_left [] b e = refl
-no_mark_left (c ∷ rest) b e = absurd (grind arith)
+-- if the rest begins with a parameter, and the pairs get what its item adds, `KeepsOn` is true of what follows
+pub keeps_more : {whole rest s rest' : List ℕ} {pairs pairs' pair : List Pair} → KeepsOn whole rest pairs
+    → after_mark 59 rest ≡ Some s → pair ≡ valid_of (item_in s) → rest' ≡ (reading_in s).rest
+    → pairs' ≡ pairs ++ unless_named pairs pair → KeepsOn whole rest' pairs'
+keeps_more {whole} {rest} {s} {pairs = pairs} k e p r a =
+    let next = (reading_in s).rest in
+    let begins = (has_parameter s).begins in
+    let more = items_are (length s) next (items_in (length next) next) (rest_shorter s) (has_items next begins) in
+    let left = valid_pairs (items_in (length s) next) in
+    let added = added_pairs pairs (item_in s) in
+    let before = (subst (λ x. KeepsOn whole x pairs) (mark_is 59 rest s e) k).kept in
+    rw r (record {
+      begins = begins;
+      kept = cc (
+        before,
+        more,
+        first_step pairs (item_in s) left,
+        append_assoc pairs added (first_of_each_name (pairs ++ added) left),
+      );
+    })
+
+-- if the rest does not begin with ';', the pairs are those that are kept of the items of the whole text
+pub keeps_end : {whole rest : List ℕ} {pairs : List Pair} → KeepsOn whole rest pairs → BeginsParameters whole
+    → after_mark 59 rest ≡ None → (items : List Item) × Items whole items × (pairs ≡ kept_pairs items)
+keeps_end {whole} {rest = []} {pairs = pairs} k w e = (
+  items_in (length whole) whole,
+  has_items whole w,
+  sym
+      (append-nil pairs) ∙ k.kept,
+)
+keeps_end {rest = c ∷ rest} k w e = let begins = k.begins in absurd (grind arith)
 
 -- the rest after a parameter is shorter than the text
 pub rest_smaller : (rest s rest' : List ℕ) → after_mark 59 rest ≡ Some s → rest' ≡ (reading_in s).rest
     → length rest' < length rest
 rest_smaller rest s rest' e r = omega (arith, rest_shorter s, ap length r, ap length (mark_is 59 rest s e))
 
--- if the text begins with a parameter, and the pairs get what its item adds, `KeepsOn` is true of the rest
-pub keeps_more : {whole rest s rest' : List ℕ} {pairs pairs' pair : List Pair} → KeepsOn whole rest pairs
-    → after_mark 59 rest ≡ Some s → pair ≡ valid_of (item_in s) → rest' ≡ (reading_in s).rest
-    → pairs' ≡ pairs ++ unless_named pairs pair → KeepsOn whole rest' pairs'
-keeps_more {whole} {rest} {s} {pairs = pairs} k e p r a =
-    let h = has_parameter s in
-    let item = item_in s in
-    rw r (record {
-      items = k.items ++ (item ∷ []);
-      goes_on = λ more i. subst (Items whole) (sym (append_assoc k.items (item ∷ []) more))
-          (k.goes_on (item ∷ more) (h.text, (reading_in s).rest, mark_is 59 rest s e ∙ h.joined, h.is_parameter, i));
-      kept_is = cc (kept_more k.items item, k.kept_is);
-      begins = h.begins;
-    })
-
--- if the text does not begin with ';', the pairs are those that are kept of the items of the whole text
-pub keeps_end : {whole rest : List ℕ} {pairs : List Pair} → KeepsOn whole rest pairs → after_mark 59 rest ≡ None
-    → (items : List Item) × Items whole items × (pairs ≡ kept_pairs items)
-keeps_end {whole} {rest} k e =
-    (k.items, subst (Items whole) (append-nil k.items) (k.goes_on [] (no_mark_left rest k.begins e)), k.kept_is)
-
 -- Which names the first pairs and the set of later names have.
 
 -- The first pairs and the others
-
--- if all names are lower-case, so are those of the first k pairs
-pub lower_first : {A B : Type 0} (pairs : List (String A × String B)) (k : ℕ)
-    → HasLowercaseNames (map (λ p. pair_of p) pairs) → HasLowercaseNames (map (λ p. pair_of p) (take k pairs))
-lower_first pairs k h =
-    let test : Pair → Bool = λ p. is_lowercase_name p.0 in
-    let all = map (λ p. pair_of p) pairs in
-    let e = sym (list_all-append test (take k all) (drop k all)) ∙ ap (list_all test) (take-append-drop k all) ∙ h in
-    cc (take-map (λ p. pair_of p) k pairs, (and_parts (list_all test (take k all)) (list_all test (drop k all)) e).0)
 
 -- one of the pairs has a name exactly if one of the first pairs or one of the later pairs has it
 first_or_later : (n : List ℕ) (pairs : List Pair)
     → has_name n pairs ≡ (has_name n (first_of pairs) || has_name n (drop LOOKED_THROUGH pairs))
 first_or_later n pairs = ap (has_name n) (sym (take-append-drop LOOKED_THROUGH pairs))
-    ∙ has_append n (first_of pairs) (drop LOOKED_THROUGH pairs)
+    ∙ list_any-append (λ (p : Pair). bytes_eq p.0 n) (first_of pairs) (drop LOOKED_THROUGH pairs)
 
 -- if one of the first pairs has a name, one of all pairs has it
 pub named_first : (n : List ℕ) (pairs : List Pair) → has_name n (first_of pairs) ≡ true → has_name n pairs ≡ true
@@ -278,14 +271,6 @@ named_first n pairs h = grind (arith, first_or_later)
 pub named_later : (n : List ℕ) (pairs : List Pair) → has_name n (first_of pairs) ≡ false
     → has_name n pairs ≡ has_name n (drop LOOKED_THROUGH pairs)
 named_later n pairs h = first_or_later n pairs ∙ ap (λ b. b || has_name n (drop LOOKED_THROUGH pairs)) h
-
--- if one of the pairs has the name of p, p is not added
-pub unless_known : (pairs : List Pair) (p : Pair) → has_name p.0 pairs ≡ true → unless_named pairs (p ∷ []) ≡ []
-unless_known pairs p h = cond-true (has_name p.0 pairs) [] (p ∷ []) h
-
--- if none of the pairs has the name of p, p is added
-pub unless_new : (pairs : List Pair) (p : Pair) → has_name p.0 pairs ≡ false → unless_named pairs (p ∷ []) ≡ p ∷ []
-unless_new pairs p h = cond-false (has_name p.0 pairs) [] (p ∷ []) h
 
 -- The set of later names
 
@@ -313,10 +298,7 @@ set_knows later pairs p name b h e f a = cc (h (string_bytes name), named_later 
 
 -- the choice of true if b is true, and x otherwise, is `x || b`
 or_cond : (b x : Bool) → cond b true x ≡ (x || b)
-or_cond true true = refl
-or_cond true false = refl
-or_cond false true = refl
-or_cond false false = refl
+or_cond b x = grind arith
 
 -- if a new pair comes after the first pairs, and its name is put into the set, the set has the names of the later pairs
 pub later_names : {A : Type 0} (later later' : BTreeSet (String A)) (pairs : List Pair) (p : Pair) (name : String A)
@@ -361,7 +343,7 @@ all_lower r (item ∷ items) h = grind (arith, lowercase_name, token_text_lower,
 
 -- if one of the pairs has a name, one of them has it after a pair is pushed
 pushed_has : (n : List ℕ) (e : List Pair) (q : Pair) → has_name n e ≡ true → has_name n (e ++ (q ∷ [])) ≡ true
-pushed_has n e q h = has_append n e (q ∷ []) ∙ or_left (has_name n e) (has_name n (q ∷ [])) h
+pushed_has n e q h = grind (arith, has_pushed)
 
 -- if one of the earlier pairs has a name, none of the first pairs of each name that follow has it
 none_again : (n : List ℕ) (e ps : List Pair) → has_name n e ≡ true → has_name n (first_of_each_name e ps) ≡ false
@@ -372,7 +354,7 @@ none_again n e (q ∷ ps) h =
 -- no two of the first pairs of each name have equal names
 first_distinct : (e ps : List Pair) → has_distinct_names (first_of_each_name e ps) ≡ true
 first_distinct e [] = refl
-first_distinct e (q ∷ ps) = grind (arith, none_again, has_append, test_from_equal, first_distinct (e ++ (q ∷ [])) ps)
+first_distinct e (q ∷ ps) = grind (arith, none_again, has_pushed, test_from_equal, first_distinct (e ++ (q ∷ [])) ps)
 
 -- Each record of a text is well-formed
 

@@ -223,7 +223,7 @@ begins_of_items r [] h = rw h tt
 begins_of_items r (item ∷ items) h = rw (h.2, h.3.joined) refl
 
 -- a list of items of a text of at most n code points is this one
-items_are : (n : ℕ) (r : List ℕ) (items : List Item) → length r ≤ n → Items r items → items_in n r ≡ items
+pub items_are : (n : ℕ) (r : List ℕ) (items : List Item) → length r ≤ n → Items r items → items_in n r ≡ items
 items_are zero r [] l h = refl
 items_are (suc n) [] [] l h = refl
 items_are (suc n) (c ∷ s) [] l h = absurd (cc)

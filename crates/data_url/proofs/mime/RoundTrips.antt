@@ -1,9 +1,12 @@
 -- Parsing a printed record returns the record.
 use Rattle.std.proofs.Common.{◌≡◌, ℕ, ◌==◌, ◌||◌, ◌&&◌, Bool, true, false, not, List, [], ◌∷◌, ◌++◌, Some, map, refl}
-use Rattle.std.proofs.Common.{arith, sym, ap, ◌∙◌, subst}
+use Rattle.std.proofs.Common.{arith, sym, ap, subst}
 use Rattle.std.proofs.lemmas.Bool.{agree_below, agree_below_at, and_from, and_parts, both_ways, cond-true, cond_both}
-use Rattle.std.proofs.lemmas.Bool.{eqb-false, false_from_ne_true, not-true, or_parts}
-use Rattle.std.specs.List.{AllByRecursion, flat_map, list_all}
+use Rattle.std.proofs.lemmas.Bool.{eqb-false, or_parts}
+use Rattle.std.proofs.Common.{append_assoc}
+use Rattle.std.proofs.lemmas.Bool.{false≢true}
+use Rattle.std.proofs.lemmas.List.Folds.{list_any-append}
+use Rattle.std.specs.List.{flat_map, list_all}
 use Rattle.std.specs.Str.{bytes_eq}
 use Rattle.data_url.specs.CodePoints.{ends_name, is_http_whitespace, is_quotable, is_semicolon, is_token}
 use Rattle.data_url.specs.Mime.{BeginsParameters, DoesNotBegin, DoesNotEnd, Every, GivesValue, IsHead, IsParameter}
@@ -13,7 +16,7 @@ use Rattle.data_url.specs.Mime.{is_token_text, kept_pairs, plain, printed, print
 use Rattle.data_url.specs.Mime.{unless_empty, valid_pairs, after_backslash, nothing_quoted, as_itself}
 use Rattle.data_url.proofs.mime.TokenTexts.{every_token}
 use Rattle.data_url.proofs.mime.Items.{not_begins_append, has_at_most_one_record}
-use Rattle.data_url.proofs.mime.FirstNames.{has_append, lower_is_itself, lowercase_token, test_from_different}
+use Rattle.data_url.proofs.mime.FirstNames.{lower_is_itself, lowercase_token, test_from_different}
 use Rattle.data_url.proofs.mime.FirstNames.{test_from_equal}
 use Rattle.data_url.proofs.mime.TokenTexts.{token_below}
 use Rattle.data_url.proofs.texts.CodePoints.{end_stays, not_ends_every}
@@ -21,46 +24,26 @@ use Rattle.data_url.specs.Url.{without_front}
 
 -- Token code points
 
--- c is not a token code point that passes p
-abbrev excludes : (ℕ → Bool) → ℕ → Bool
-excludes p c = not (is_token c && p c)
+module _ (p : ℕ → Bool) (n : agree_below (λ c. not (is_token c && p c)) (λ c. true) 128 ≡ true) where
+  -- if no token code point below 128 passes p, no token code point does
+  not_in : (c : ℕ) → is_token c ≡ true → p c ≡ false
+  not_in c h =
+      let apart = agree_below_at (λ c. not (is_token c && p c)) (λ c. true) 128 c n (token_below c h) in
+      grind arith
 
--- if no token code point below 128 passes p, no token code point does
-excluded : (p : ℕ → Bool) → agree_below (excludes p) (λ c. true) 128 ≡ true → (c : ℕ) → is_token c ≡ true → p c ≡ false
-excluded p a c h = false_from_ne_true (p c) (λ k. both_ways (excludes p c) (ap (λ v. not (v && p c)) h ∙ ap not k)
-    (agree_below_at (excludes p) (λ d. true) 128 c a (token_below c h)))
+  -- nor does any code point of a text of token code points
+  tokens_without : (t : List ℕ) → Every is_token t → Without p t
+  tokens_without [] h = tt
+  tokens_without (c ∷ t) h = (ap not (not_in c h.0), tokens_without t h.1)
 
--- a token code point is not HTTP whitespace
-token_not_space : (c : ℕ) → is_token c ≡ true → is_http_whitespace c ≡ false
-unfolding is_token
-token_not_space c h = excluded is_http_whitespace refl c h
+  -- such a text does not begin with a code point that passes
+  tokens_begin : (t : List ℕ) → Every is_token t → DoesNotBegin p t
+  tokens_begin [] h = tt
+  tokens_begin (c ∷ t) h = not_in c h.0
 
--- a token code point does not end a name
-token_not_end : (c : ℕ) → is_token c ≡ true → ends_name c ≡ false
-unfolding is_token
-token_not_end c h = excluded ends_name refl c h
-
--- a token code point is not ';'
-token_not_semicolon : (c : ℕ) → is_token c ≡ true → is_semicolon c ≡ false
-unfolding is_token
-token_not_semicolon c h = excluded is_semicolon refl c h
-
--- a token code point is not '"'
-token_not_quote : (c : ℕ) → is_token c ≡ true → is_quote c ≡ false
-unfolding is_token
-token_not_quote c h = excluded is_quote refl c h
-
--- a text of token code points, and a class that has none of them
-tokens_without : (p : ℕ → Bool) → ((c : ℕ) → is_token c ≡ true → p c ≡ false) → (t : List ℕ) → Every is_token t
-    → Without p t
-tokens_without p n [] h = tt
-tokens_without p n (c ∷ t) h = (ap not (n c h.0), tokens_without p n t h.1)
-
--- if no token code point passes, a text of token code points does not begin with one that passes
-tokens_not_begin : (p : ℕ → Bool) → ((c : ℕ) → is_token c ≡ true → p c ≡ false) → (t : List ℕ) → Every is_token t
-    → DoesNotBegin p t
-tokens_not_begin p n [] h = tt
-tokens_not_begin p n (c ∷ t) h = n c h.0
+  -- and does not end with one
+  tokens_end : (t : List ℕ) → Every is_token t → DoesNotEnd p t
+  tokens_end = not_ends_every p is_token not_in
 
 -- Ends of texts
 
@@ -88,19 +71,15 @@ quoted_escaped (c ∷ v) = cond_both ((c == 34) || (c == 92)) (92 ∷ c ∷ []) 
     (λ e. let p = or_parts (c == 34) (c == 92) e in as_itself c (eqb-false c 34 p.0) (eqb-false c 92 p.1)
     (quoted_escaped v))
 
--- `unless_empty` of a token text is `Some` of it
-is_nonempty : (v : List ℕ) → is_token_text v ≡ true → unless_empty v ≡ Some v
-is_nonempty [] h = absurd (both_ways false refl h)
-is_nonempty (c ∷ v) h = refl
-
 -- '=' and a token text give the token text as value
 plain_value : (v rest : List ℕ) → is_token_text v ≡ true → GivesValue (61 ∷ v) rest (Some v)
-plain_value v rest h =
-    let t = every_token v h in
-    subst (GivesValue (61 ∷ v) rest) (ap unless_empty (end_stays is_http_whitespace v
-    (not_ends_every is_http_whitespace is_token
-    token_not_space v t)) ∙ is_nonempty v h)
-    (plain v (tokens_without is_semicolon token_not_semicolon v t) (tokens_not_begin is_quote token_not_quote v t))
+unfolding is_token
+plain_value [] rest h = absurd (false≢true h)
+plain_value (c ∷ v) rest h =
+    let t = every_token (c ∷ v) h in
+    subst (λ s. GivesValue (61 ∷ c ∷ v) rest (unless_empty s))
+    (end_stays is_http_whitespace (c ∷ v) (tokens_end is_http_whitespace refl (c ∷ v) t))
+    (plain (c ∷ v) (tokens_without is_semicolon refl (c ∷ v) t) (tokens_begin is_quote refl (c ∷ v) t))
 
 -- '=' and a printed value give the value
 gives_value : (v rest : List ℕ) → GivesValue (61 ∷ printed_value v) rest (Some v)
@@ -110,9 +89,10 @@ gives_value v rest = cond_both (is_token_text v) v (34 ∷ (flat_map escaped_cod
 
 -- a printed value does not end with HTTP whitespace
 value_not_end : (v : List ℕ) → DoesNotEnd is_http_whitespace (printed_value v)
+unfolding is_token
 value_not_end v = cond_both (is_token_text v) v (34 ∷ (flat_map escaped_code_point v ++ (34 ∷ [])))
     (λ t. DoesNotEnd is_http_whitespace t)
-    (λ e. not_ends_every is_http_whitespace is_token token_not_space v (every_token v e))
+    (λ e. tokens_end is_http_whitespace refl v (every_token v e))
     (λ e. not_ends_last is_http_whitespace 34 refl (34 ∷ flat_map escaped_code_point v))
 
 -- A parameter
@@ -123,19 +103,21 @@ name_tokens t h = every_token t (lowercase_token t h)
 
 -- a lower-case name does not end with HTTP whitespace
 name_not_end : (t : List ℕ) → is_lowercase_name t ≡ true → DoesNotEnd is_http_whitespace t
-name_not_end t h = not_ends_every is_http_whitespace is_token token_not_space t (name_tokens t h)
+unfolding is_token
+name_not_end t h = tokens_end is_http_whitespace refl t (name_tokens t h)
 
 -- a printed pair with a lower-case name is a parameter with the name and the value of the pair
 is_parameter : (p : Pair) (rest : List ℕ) → is_lowercase_name p.0 ≡ true
     → IsParameter (printed_pair p) rest (p.0, Some p.1)
+unfolding is_token
 is_parameter p rest h = record {
   gap = [];
   name = p.0;
   tail = 61 ∷ printed_value p.1;
   joined = refl;
   in_gap = tt;
-  begins = tokens_not_begin is_http_whitespace token_not_space p.0 (name_tokens p.0 h);
-  in_name = tokens_without ends_name token_not_end p.0 (name_tokens p.0 h);
+  begins = tokens_begin is_http_whitespace refl p.0 (name_tokens p.0 h);
+  in_name = tokens_without ends_name refl p.0 (name_tokens p.0 h);
   name_is = sym (lower_is_itself p.0 h);
   value_is = gives_value p.1 rest;
 }
@@ -194,35 +176,24 @@ all_valid : (pairs : List Pair) → have_names pairs ≡ true → have_values pa
 all_valid [] h k = refl
 all_valid (p ∷ pairs) h k = grind (arith, and_parts, cond-true, and_from, lowercase_token, all_valid pairs)
 
--- no pair has a name of the earlier ones
-abbrev Apart : List Pair → List Pair → Type 0
-Apart earlier pairs = AllByRecursion (λ (p : Pair). has_name p.0 earlier ≡ false) pairs
-
--- no pair has a name of earlier ones if there are no earlier ones
-apart_none : (pairs : List Pair) → Apart [] pairs
-apart_none [] = tt
-apart_none (p ∷ pairs) = (refl, apart_none pairs)
-
 -- if the test that a equals b is false, so is the test that b equals a
 other_name : (a b : List ℕ) → bytes_eq a b ≡ false → bytes_eq b a ≡ false
 other_name a b h = test_from_different b a (λ e. both_ways (bytes_eq a b) h (test_from_equal a b (sym e)))
 
--- if no pair has a name of the earlier ones or that of p, no pair has a name of the earlier ones with p pushed
-apart_more : (earlier : List Pair) (p : Pair) (pairs : List Pair) → Apart earlier pairs → has_name p.0 pairs ≡ false
-    → Apart (earlier ++ (p ∷ [])) pairs
-apart_more earlier p [] h k = tt
-apart_more earlier p (q ∷ pairs) h k = grind (arith, or_parts, has_append, other_name, apart_more earlier p pairs h.1)
+-- if no two names are equal, none of the earlier pairs has the name of a later one
+distinct_new : (e : List Pair) (p : Pair) (ps : List Pair) → has_distinct_names (e ++ (p ∷ ps)) ≡ true
+    → has_name p.0 e ≡ false
+distinct_new [] p ps h = refl
+distinct_new (q ∷ e) p ps h = grind (arith, list_any-append {X = Pair}, other_name, distinct_new e p ps)
 
--- pairs with distinct names, none of them that of an earlier pair, are all the first of their name
-first_itself : (earlier pairs : List Pair) → Apart earlier pairs → has_distinct_names pairs ≡ true
-    → first_of_each_name earlier pairs ≡ pairs
-first_itself earlier [] h k = refl
-first_itself earlier (p ∷ pairs) h k =
-    grind (arith, and_parts, apart_more, not-true, first_itself (earlier ++ (p ∷ [])) pairs)
+-- pairs with distinct names are all the first of their name
+first_itself : (e ps : List Pair) → has_distinct_names (e ++ ps) ≡ true → first_of_each_name e ps ≡ ps
+first_itself e [] h = refl
+first_itself e (p ∷ ps) h = grind (arith, distinct_new e p ps, append_assoc, first_itself (e ++ (p ∷ [])) ps)
 
 -- all parameters of a well-formed record are kept
 all_kept : (m : Record) → IsWellformed m → m.parameters ≡ kept_pairs (map item_of m.parameters)
-all_kept m w = grind (arith, all_valid, first_itself, apart_none)
+all_kept m w = grind (arith, all_valid, first_itself)
 
 -- The whole
 
@@ -233,8 +204,9 @@ front_stays p (c ∷ s) b = grind arith
 
 -- a well-formed record, printed, does not begin with HTTP whitespace
 printed_begins : (m : Record) → IsWellformed m → DoesNotBegin is_http_whitespace (printed m)
-unfolding printed
-printed_begins m w = grind (arith, not_begins_append, tokens_not_begin, token_not_space, name_tokens)
+unfolding printed is_token
+printed_begins m w = not_begins_append is_http_whitespace m.type_ _
+    (tokens_begin is_http_whitespace refl m.type_ (name_tokens m.type_ w.type_)) refl
 
 -- a well-formed record, printed, does not end with HTTP whitespace
 printed_ends : (m : Record) → IsWellformed m → DoesNotEnd is_http_whitespace (printed m)

@@ -19,4 +19,4 @@ loop-after-preserved c =
     }
 
 pub returns : goal.returns
-returns c = keeps_end c.loop-after.invariant.keeps c.in_default.ensures
+returns c = keeps_end c.loop-after.invariant.keeps c.requires c.in_default.ensures

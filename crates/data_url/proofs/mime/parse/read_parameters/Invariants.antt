@@ -1,4 +1,4 @@
--- The items so far, and the pairs that are kept of them; the rest of the text gets shorter.
+-- The pairs so far, with those that are kept of the rest; the rest of the text gets shorter.
 use Rattle.std.proofs.Common.{length}
 use denote.Text.{Utf8}
 use denote.Shadow.{shadow}
@@ -8,13 +8,11 @@ use Rattle.data_url.proofs.mime.FirstNames.{KeepsOn}
 use Rattle.data_url.proofs.mime.parse.read_parameters.Given as goal
 
 abbrev pub invariant-loop-after : goal.invariant-loop-after
-invariant-loop-after l =
-    record {
-      text : shadow (Utf8 l.rest);
-      keeps : KeepsOn (chars l.text) (chars l.rest)
-          (pairs_of l.kept);
-      indexed : IsIndexed l.kept;
-    }
+invariant-loop-after l = record {
+  text : shadow (Utf8 l.rest);
+  keeps : KeepsOn (chars l.text) (chars l.rest) (pairs_of l.kept);
+  indexed : IsIndexed l.kept;
+}
 
 abbrev pub decreases-loop-after : goal.decreases-loop-after
 decreases-loop-after l = length (chars l.rest)

@@ -5,10 +5,9 @@ use Rattle.std.specs.Str.{chars}
 use Rattle.data_url.specs.Mime.{has_name}
 use Rattle.data_url.specs.MimeType.{pair_of}
 use Rattle.data_url.specs.Steps.Kept.{first_of, pairs_of}
-use Rattle.data_url.specs.Steps.Parsing.{HasLowercaseNames}
 use Rattle.data_url.proofs.mime.kept.KeptParameters.is_among_first.Given as goal
 
 abbrev pub invariant-loop-key : goal.invariant-loop-key
-invariant-loop-key l = HasLowercaseNames (map (λ p. pair_of p) l.first)
-    × (has_name (map to_ascii_lowercase (chars l.name)) (map (λ p. pair_of p) (drop l.key-index l.first))
-    ≡ has_name (map to_ascii_lowercase (chars l.name)) (first_of (pairs_of l.self)))
+invariant-loop-key l = has_name (map to_ascii_lowercase (chars l.name)) (map (λ p. pair_of p)
+    (drop l.key-index l.first))
+    ≡ has_name (map to_ascii_lowercase (chars l.name)) (first_of (pairs_of l.self))

@@ -1,5 +1,5 @@
 use Rattle.std.proofs.Common.{◌<◌, ◌≡◌, ◌≤◌, ◌∷◌, ◌++◌, [], ap, arith, false, length, refl, sym, ◌∙◌}
-use Rattle.std.proofs.lemmas.Bool.{not-false, not-true}
+use Rattle.std.proofs.lemmas.Bool.{cond-false, cond-true, not-false, not-true}
 use Rattle.std.proofs.lemmas.List.{length-map}
 use Rattle.std.specs.BTreeSet.{contains_text}
 use Rattle.data_url.specs.Mime.{Pair, has_name}
@@ -8,7 +8,7 @@ use Rattle.data_url.specs.Steps.Kept.{HasLaterNames, pairs_of}
 use Rattle.data_url.specs.declared.mime.kept.KeptParameters.{KeptParameters}
 use Rattle.data_url.specs.declared.mime.kept.TheConstants.{LOOKED_THROUGH}
 use Rattle.data_url.proofs.mime.FirstNames.{few_names, first_names, indexed_more, later_names, lowercase_bytes}
-use Rattle.data_url.proofs.mime.FirstNames.{named_later, set_knows, unless_known, unless_new, none_added, one_added}
+use Rattle.data_url.proofs.mime.FirstNames.{named_later, set_knows, none_added, one_added}
 use Rattle.data_url.proofs.mime.kept.KeptParameters.push.Goals as goal
 use Rattle.data_url.proofs.mime.kept.KeptParameters.push.Goals.{else-len-ge-LOOKED_THROUGH-via-then-len-ge-LOOKED_THROUGH+in_ok-clone+in_ok-insert+else-not-branch}
 use Rattle.data_url.proofs.mime.kept.KeptParameters.push.Goals.{else-len-ge-LOOKED_THROUGH-via-else-len-ge-LOOKED_THROUGH}
@@ -58,11 +58,11 @@ returns-then-not-branch-clause-pairs c =
     let e = c.in_ok-clone.ensures.cases ∙ lowercase_bytes c.args.name c.requires.lower in
     let k = set_knows old.later_names (pairs_of old) p c.in_ok-clone.field-0 c.in_ok-insert.field-0
     c.requires.indexed.later e c.requires.new c.in_ok-insert.ensures.added in
-    none_added old.pairs.items _ (unless_known (pairs_of old) p (not-false _ (sym k ∙ c.if-not-branch.true)))
+    none_added old.pairs.items _ (cond-true _ _ _ (not-false _ (sym k ∙ c.if-not-branch.true)))
 
 pub returns-clause-pairs : goal.returns-clause-pairs
 returns-clause-pairs c = one_added c.args.self.now.pairs.items c.push.new.self.items c.args.name c.args.value _
-    (pushed_pairs c) (unless_new (pairs_of c.args.self.now) (pair_of (c.args.name, c.args.value)) (pushed c).is_new)
+    (pushed_pairs c) (cond-false _ _ _ (pushed c).is_new)
 
 pub returns-clause-indexed : goal.returns-clause-indexed
 returns-clause-indexed c = indexed_more c.args.self.now _ (pair_of (c.args.name, c.args.value)) c.requires.indexed
