@@ -2,28 +2,27 @@
 
 ghost use Rattle.std.specs.Prelude.{◌+◌, ◌≡◌, false, length};
 ghost use Rattle.std.specs.Fn.{CalledAt};
-ghost use Rattle.data_url.specs.Steps.Chunks.{IsCallableUntilError, TakesBody};
+ghost use Rattle.data_url.specs.Steps.Chunks.{IsCallableUntilError, IsFront, TakesBody};
 ghost use Rattle.data_url.specs.Steps.Tail.{IsBodyEnd};
 ghost use Rattle.data_url.specs.Fetch.{outcome, plain_body};
 ghost use Rattle.data_url.specs.DataUrl.{Decodes};
 ghost use Rattle.data_url.specs.Decoder.{state_of};
 
-use crate::escapes::{Pieces, ROOM, is_one_slice};
+use crate::escapes::{Pieces, ROOM};
 use crate::forgiving_base64::{DecodeError, Decoder};
 
-/// Calls a closure with the pieces of the body of a tail, until it returns an error. Returns this error, or the place
-/// in the tail where the body ends.
-fn decode_pieces<F, E>(tail: &str, take: &mut F) -> Result<usize, E>
+/// Calls a closure with the front of a body and the pieces after it, until it returns an error. Returns this error, or the
+/// place in the text where the body ends.
+fn decode_pieces<F, E>(front: &[u8], mut pieces: Pieces<'_>, take: &mut F) -> Result<usize, E>
 where
     F: FnMut(&[u8]) -> Result<(), E>,
-    requires { IsCallableUntilError F.FnMut take.old }
-    ensures { TakesBody (CalledAt F.FnMut) take.old tail.now result take.new }
+    requires callable { IsCallableUntilError F.FnMut take.old }
+    requires front { IsFront pieces.text front.now pieces }
+    ensures { TakesBody (CalledAt F.FnMut) take.old pieces.entry.text result take.new }
 {
-    if is_one_slice(tail) {
-        take(tail.as_bytes())?;
-        return Ok(tail.len());
+    if !front.is_empty() {
+        take(front)?;
     }
-    let mut pieces = Pieces::new(tail);
     let mut room = [0; ROOM];
     'chunks: while !pieces.has_ended() {
         let Some(bytes) = pieces.next_bytes(&mut room) else {
@@ -34,20 +33,23 @@ where
     Ok(pieces.end())
 }
 
-/// Calls a closure with the body of a tail, decoded if it is base64. Returns the place in the tail where the body ends.
+/// Calls a closure with a body, decoded if it is base64, from its front and the pieces after it. Returns the place in the
+/// text where the body ends.
 pub(crate) fn decode_body<F, E>(
-    tail: &str,
+    front: &[u8],
+    pieces: Pieces<'_>,
     base64: bool,
     mut write: F,
 ) -> (Result<usize, DecodeError<E>>, F)
 where
     F: FnMut(&[u8]) -> Result<(), E>,
-    requires { F.IsAlwaysCallable write }
-    ensures { Decodes (CalledAt F.FnMut) write (length tail.now + 1)
-        (outcome base64 (plain_body tail.now)) (IsBodyEnd tail.now) result.0 result.1 }
+    requires callable { F.IsAlwaysCallable write }
+    requires front { IsFront pieces.text front.now pieces }
+    ensures { Decodes (CalledAt F.FnMut) write (length pieces.entry.text + 1)
+        (outcome base64 (plain_body pieces.entry.text)) (IsBodyEnd pieces.entry.text) result.0 result.1 }
 {
     if !base64 {
-        let place = decode_pieces(tail, &mut write);
+        let place = decode_pieces(front, pieces, &mut write);
         return (place.map_err(DecodeError::WriteError), write);
     }
     let mut decoder = Decoder::new(write);
@@ -55,7 +57,7 @@ where
         requires callable { F.IsAlwaysCallable (state_of decoder).closure }
         requires going { (state_of decoder).failed ≡ false }
     { decoder.feed(bytes) };
-    match decode_pieces(tail, &mut feed) {
+    match decode_pieces(front, pieces, &mut feed) {
         Ok(place) => {
             let (ended, write) = decoder.finish_with();
             (ended.map(|()| place), write)

@@ -5,7 +5,7 @@ ghost use Rattle.std.specs.Prelude.{◌≡◌, ◌+◌, ◌*◌, ◌≤◌, ◌+
 ghost use Rattle.std.specs.Option.{option_map};
 ghost use Rattle.data_url.specs.Pieces.{IsPiece, walk_at_front, bytes_of_next};
 ghost use Rattle.data_url.specs.Url.{after, number_sign};
-ghost use Rattle.data_url.specs.Steps.Chunks.{GivesBytes, IsOneSlice};
+ghost use Rattle.data_url.specs.Steps.Chunks.{GivesBytes, IsFront};
 ghost use Rattle.data_url.specs.Steps.Tail.{IsBodyEnd};
 
 mod cursor;
@@ -17,9 +17,7 @@ mod stops;
 
 pub(crate) use cursor::ROOM;
 use cursor::{Ahead, Cursor};
-use lanes::BLOCK;
 pub(crate) use source::fragment_at;
-use source::last_marks;
 use std::marker::Model;
 use std::mem::replace;
 
@@ -62,6 +60,16 @@ impl<'a> Pieces<'a> {
         Pieces {
             cursor: Cursor::new(text),
         }
+    }
+
+    /// Returns the bytes of a text before its first tab, newline, `%` or `#`, which are bytes of the body, and the pieces
+    /// after them.
+    pub(crate) fn after_front(text: &'a str) -> (&'a [u8], Self)
+        ensures { IsFront text.entry.now result.0.now result.1 }
+    {
+        let mut cursor = Cursor::new(text);
+        let front = cursor.next_front();
+        (front, Pieces { cursor })
     }
 
     /// Returns the next piece of the body. Returns None if the body has ended, and from then on.
@@ -122,16 +130,4 @@ impl<'a> Pieces<'a> {
     {
         self.cursor.place
     }
-}
-
-/// Returns whether a text is known to be a body of one slice: it has 1 to 63 bytes, and none is a tab, a newline, `%` or
-/// `#`.
-pub(crate) fn is_one_slice(text: &str) -> bool
-    ensures { result ≡ true → IsOneSlice text.now }
-{
-    let len = text.len();
-    if len == 0 || len >= BLOCK {
-        return false;
-    }
-    last_marks(text.as_bytes()) == 0
 }

@@ -1,7 +1,7 @@
 //! Data: URLs by the Fetch Standard, from a text rather than a parsed URL, to avoid copies.
 #![tactic(auto)]
 
-ghost use Rattle.std.specs.Prelude.{◌≡◌, ◌+◌, IfErr, IfOk, Some, length};
+ghost use Rattle.std.specs.Prelude.{◌≡◌, ◌≤◌, ◌+◌, IfErr, IfOk, Some, length};
 ghost use Rattle.std.specs.Fn.{CalledAt};
 ghost use Rattle.data_url.specs.DataUrl.{Decodes, IsFragmentOf, IsProcessed, mime_of, url_body, url_tail};
 ghost use Rattle.data_url.specs.Steps.Tail.{IsBodyEnd};
@@ -23,7 +23,8 @@ mod percent;
 
 use ascii::trim;
 use body::decode_body;
-use escapes::fragment_at;
+use classes::lanes::rows_len;
+use escapes::{Pieces, fragment_at};
 use forgiving_base64::{DecodeError, DecodeToVecError, room_for};
 pub use fragment::FragmentIdentifier;
 use front::{after_scheme, split_at_comma};
@@ -32,6 +33,9 @@ use mime::Mime;
 use std::alloc::{AllocError, Global};
 use std::error::Error;
 use std::fmt;
+
+/// Has, for the low half of `#`, the column of its high half.
+const NUMBER_SIGN: [u8; 16] = [0, 0, 0, 2, 0, 0, 0, 0, 0, 0, 0, 0, 0, 0, 0, 0];
 
 /// A data: URL ([Fetch Standard, section 6](https://fetch.spec.whatwg.org/#data-url-processor)): its MIME type, and
 /// its body and fragment as slices of the text that it was read from.
@@ -118,6 +122,19 @@ impl<'a> DataUrl<'a> {
         Some(FragmentIdentifier::new(fragment_at(self.tail, place)?))
     }
 
+    /// Returns room for the body's bytes, from the length of the front that is written as it is: at most 15 bytes more than
+    /// the text of the body has.
+    fn room(&self, front: usize) -> usize
+        requires { front ≤ length (url_tail self.now) }
+    {
+        let rest = &self.tail.as_bytes()[front..];
+        let mut len = front;
+        if !rest.is_empty() && rest[0] != b'#' {
+            len += (rows_len(NUMBER_SIGN, rest) + 15).min(rest.len());
+        }
+        if self.base64 { room_for(len) } else { len }
+    }
+
     /// Calls a closure with the body's bytes, piece by piece. Returns the fragment
     /// ([Fetch Standard, section 6](https://fetch.spec.whatwg.org/#data-url-processor)), and the closure as its last
     /// call left it. Nothing is allocated.
@@ -142,7 +159,8 @@ impl<'a> DataUrl<'a> {
         ensures { Decodes (CalledAt F.FnMut) write_body_bytes (length (url_tail self.now) + 1)
             (url_body self.now) (IsFragmentOf (url_tail self.now)) result.0 result.1 }
     {
-        let (answer, write) = decode_body(self.tail, self.base64, write_body_bytes);
+        let (front, pieces) = Pieces::after_front(self.tail);
+        let (answer, write) = decode_body(front, pieces, self.base64, write_body_bytes);
         match answer {
             Ok(place) => (Ok(self.fragment_at(place)), write),
             Err(error) => (Err(error), write),
@@ -176,8 +194,8 @@ impl<'a> DataUrl<'a> {
     }
 
     /// Returns the body's bytes and the fragment
-    /// ([Fetch Standard, section 6](https://fetch.spec.whatwg.org/#data-url-processor)). Room for as many bytes as
-    /// there are after the comma is allocated once.
+    /// ([Fetch Standard, section 6](https://fetch.spec.whatwg.org/#data-url-processor)). Room for the body,
+    /// without the fragment, is allocated once.
     ///
     /// Returns `InvalidBase64` with the first fault if the body is base64 that is not valid, and `OutOfMemory` if
     /// allocation fails.
@@ -189,13 +207,13 @@ impl<'a> DataUrl<'a> {
         ensures fragment { IfOk result (λ found. IsFragmentOf (url_tail self.now) found.1) }
         ensures error { IfErr result (IsBodyErrorOf (url_body self.now)) }
     {
-        let len = self.tail.len();
-        let room = if self.base64 { room_for(len) } else { len };
-        let Ok(mut bytes) = Vec::with_capacity(alloc, room) else {
+        let (front, pieces) = Pieces::after_front(self.tail);
+        let Ok(mut bytes) = Vec::with_capacity(alloc, self.room(front.len())) else {
             return Err(DecodeToVecError::OutOfMemory);
         };
         let ended = decode_body(
-            self.tail,
+            front,
+            pieces,
             self.base64,
             |piece: &[u8]| -> Result<(), AllocError> { bytes.extend_from_slice(piece) },
         );

@@ -1,5 +1,6 @@
 -- A closure or a decoder that gets a body piece by piece. For `decode_pieces`, `decode_body` and its callers.
-use Rattle.std.proofs.Common.{◌≡◌, ℕ, ◌+◌, ◌≤◌, List, [], ◌∷◌, ◌++◌, Bor, length, Option, None, Some, Result, Ok, Err}
+use Rattle.std.proofs.lemmas.List.{nil_from_length}
+use Rattle.std.proofs.Common.{◌<◌, ◌≡◌, ℕ, ◌+◌, ◌≤◌, List, [], ◌∷◌, ◌++◌, Bor, length, Option, None, Some, Result, Ok, Err}
 use Rattle.std.proofs.Common.{refl, sym, ap, ◌∙◌, subst, append_assoc, arith, length-append, suc, Bool, true, false}
 use Rattle.std.proofs.Common.{cond, ◌*◌, min, filter, length-drop, length-take}
 use Rattle.std.specs.Prelude.{MatchOption, MatchResult, ◌==◌, MatchBool, IsErr}
@@ -12,7 +13,7 @@ use Rattle.std.specs.Option.{option_or}
 use Rattle.std.specs.Result.{result_err}
 use Rattle.data_url.specs.Fetch.{Good, outcome_bytes, plain_body, Bad, outcome, Outcome, tail_of}
 use Rattle.data_url.specs.Pieces.{Walk}
-use Rattle.data_url.specs.Steps.Chunks.{IsOneSlice, GivesBytes, IsCallableUntilError, Takes, TakesBody}
+use Rattle.data_url.specs.Steps.Chunks.{IsFront, GivesBytes, IsCallableUntilError, Takes, TakesBody}
 use Rattle.data_url.specs.Steps.Tail.{IsBodyEnd}
 use Rattle.data_url.specs.DataUrl.{Decodes, HandsOut, IsUrlOf, url_body, url_tail}
 use Rattle.data_url.specs.declared.forgiving_base64.DecodeError.TheVariants.{WriteError, InvalidBase64}
@@ -75,27 +76,31 @@ module _ {F E : Type 0} (step : F → List ℕ → Result (Unit {0}) E → F →
         body = cc (append_assoc (joined_pieces k.run) bytes w'.rest, append-nil bytes, joined_pieces-append k.run call);
       }
 
-  -- a closure that was called with a body of one slice was called with the whole body
-  pub slice_going : {f g : F} {text items : List ℕ} (answer : Result (Unit {0}) E) → IsOneSlice text → items ≡ text
-      → step f items answer g → Going f text (record { text = text; place = length text; rest = []; ended = true; looks = 0 }) answer g
-  slice_going {f} {g} {text} {items} answer one same s =
-      let start : Going f text (record { text = text; place = 0; rest = text; ended = true; looks = 0 }) (Ok tt) f =
-      record {
-        run = [];
-        ran = refl;
-        answered = refl;
-        text_is = refl;
-        place = omega arith;
-        calls = omega arith;
-        body = one.body_is;
-      } in
-      going_more answer start (record {
-        text_stays = refl;
-        rest_is = sym (append-nil text);
-        place = omega arith;
-        within = omega arith;
-        some = one.some;
-      }) (subst (λ l. step f l answer g) same s)
+  -- the closure was called with the front of the body
+  pub going_front : {f g : F} {text bytes : List ℕ} {w : Walk} (answer : Result (Unit {0}) E) → IsFront text bytes w
+      → 0 < length bytes → step f bytes answer g → Going f text w answer g
+  going_front {g = g} {bytes = bytes} answer i some s = record {
+    run = record { piece = bytes; answer = answer; after = g } ∷ [];
+    ran = (s, λ e. refl, refl);
+    answered = or_none (result_err answer);
+    text_is = i.text_is;
+    place = i.within;
+    calls = omega (arith, i.few, some);
+    body = cc (i.body_is, append-nil bytes);
+  }
+
+  -- the front of the body is empty, and the closure was not called
+  pub going_none : {f : F} {text : List ℕ} (bytes : List ℕ) {w : Walk} → IsFront text bytes w → length bytes ≡ 0
+      → Going f text w (Ok tt) f
+  going_none {f} bytes i none = record {
+    run = [];
+    ran = refl;
+    answered = refl;
+    text_is = i.text_is;
+    place = i.within;
+    calls = omega arith;
+    body = grind (arith, nil_from_length bytes none);
+  }
 
   -- if the closure returned an error, it took the body up to that error
   pub took_refused : {f g : F} {text : List ℕ} {w : Walk} {e : E} → Going f text w (Err e) g

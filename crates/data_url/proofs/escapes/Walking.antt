@@ -7,9 +7,10 @@ use Rattle.std.proofs.lemmas.List.{take_all, drop_more, drop-drop, length-drop, 
 use Rattle.std.proofs.lemmas.List.{length-take-le, append_cancel_right, take-append-drop}
 use Rattle.data_url.specs.Fetch.{plain_body}
 use Rattle.data_url.specs.Pieces.{text_of, IsPiece, IsStretch, bytes_of, has_ended, is_slice_end, walk_of}
-use Rattle.data_url.specs.Steps.Chunks.{IsOneSlice, IsOver, Takes}
+use Rattle.data_url.specs.Steps.Chunks.{IsFront, IsOver, Takes}
 use Rattle.data_url.specs.Steps.Digits.{EscapeAt, cleaned}
 use Rattle.data_url.specs.Steps.Tail.{BeginsFragment, IsBodyEnd, rest_fragment}
+use Rattle.data_url.specs.Pieces.{Walk}
 use Rattle.data_url.specs.Steps.Walk.{Ended, EndsAt, Gathers, GoesOn, IsBlock, IsClear, IsNextMark, IsPart, Knows}
 use Rattle.data_url.specs.Steps.Walk.{KnowsAhead, Looking, LooksOn, MayGather, Moves, Pays, Reads, Searching, Spells}
 use Rattle.data_url.specs.Steps.Window.{is_marked}
@@ -190,15 +191,24 @@ pub hash_at : {text : List ℕ} {place : ℕ} → IsBodyEnd text place → place
     × (get_or text place 0 ≡ 35) × (after 35 text ≡ Some (drop (place + 1) text))
 hash_at {text} {place} h n = grind (arith, drop_more text place 0)
 
--- fewer than 64 bytes without a mark are a body of one slice
-pub one_slice : (text : List ℕ) → 0 < length text → length text < 64 → mask_l (map is_marked text) ≡ 0 → IsOneSlice text
-one_slice text some short none =
-    let n = length text in
-    let whole : slice_range text 0 n ≡ text = take_all (n - 0) text (omega arith) in
-    let marks : IsBlock text 0 n (mask_l (map is_marked text)) = grind arith in
-    let reads = (spells_clear text 0 n (omega arith) (omega arith) (found_none marks none)).reads in
-    let nothing : drop n text ≡ [] = drop_all n text (omega arith) in
-    grind (arith, ends_empty, append-nil, begun_fragment)
+-- the bytes before the first marked byte are the front of the body
+pub front_is : {text bytes : List ℕ} {w : Walk} → w.text ≡ text → w.rest ≡ plain_body (drop w.place text)
+    → IsNextMark text 0 w.place → bytes ≡ slice_range text 0 w.place → IsFront text bytes w
+front_is {text} {bytes} {w} same rest m is =
+    let reads = (spells_clear text 0 w.place m.forward m.within m.clear).reads in
+    record { text_is = same; body_is = cc (reads.body); few = omega (arith, reads.few, ap length is); within = m.within }
+
+-- after the first part of a text that is read, what follows the first '#' is what followed it
+pub front_knows : {c : Cursor} → IsNextMark (text_of c) 0 c.place → KnowsAhead c c.ahead → Knows c
+front_knows {c} m k =
+    record { after_is = (spells_clear (text_of c) 0 c.place m.forward m.within m.clear).reads.after_is; ahead_is = k }
+
+-- at the end of its text, a walk ends
+pub end_knows : {c : Cursor} → Looking c.source c.block c.place 0 → c.place ≡ length (text_of c) → Ended c
+end_knows {c} k e = record {
+  ends = record { within = omega (arith, e); begins = subst BeginsFragment (sym (drop_all c.place (text_of c) (omega (arith, e)))) tt };
+  few_looks = grind (arith, paid_le);
+}
 
 -- Bytes that are gathered in a buffer
 

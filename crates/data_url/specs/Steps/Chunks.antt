@@ -26,11 +26,12 @@ pub record IsOver (w w' : Walk) : Type 0 where
 abbrev pub GivesBytes : Walk → Option (Bor (List ℕ)) → Walk → Type 0
 GivesBytes w given w' = MatchOption given (IsOver w w') (λ bytes. Takes w bytes.now w')
 
--- the text has a byte, and is a body as it is, without a fragment
-pub record IsOneSlice (text : List ℕ) : Type 0 where
-  pub some : 0 < length text
-  pub body_is : plain_body text ≡ text
-  pub ends : IsBodyEnd text (length text)
+-- the body of the text begins with these bytes, and goes on with the walk
+pub record IsFront (text bytes : List ℕ) (w : Walk) : Type 0 where
+  pub text_is : w.text ≡ text
+  pub body_is : plain_body text ≡ bytes ++ w.rest
+  pub few : length bytes ≤ w.place
+  pub within : w.place ≤ length text
 
 -- after calls that return no error, the closure f may be called with any bytes
 abbrev pub IsCallableUntilError : {F E : Type 0} → Mut F (Bor (List ℕ) × Unit {0}) (Result (Unit {0}) E)

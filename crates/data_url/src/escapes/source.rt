@@ -148,7 +148,7 @@ fn first_marks(rest: &[u8]) -> u64
 
 /// Returns the marks of fewer than 64 bytes.
 #[inline(never)]
-pub(super) fn last_marks(rest: &[u8]) -> u64
+fn last_marks(rest: &[u8]) -> u64
     requires { length rest.now < 64 }
     ensures { result ≡ mask_l (map is_marked rest.now) }
 {

@@ -7,8 +7,8 @@ use Rattle.data_url.proofs.body.Decoding.{fed_ended, fed_refused, plain_taken, r
 use Rattle.data_url.proofs.body.Decoding.{took_preserves, until_error}
 use Rattle.data_url.proofs.body.decode_body.Goals as goal
 
-pub decode_pieces-place-requires : goal.decode_pieces-place-requires
-decode_pieces-place-requires g c = until_error g.F.FnMut c.args.write c.requires
+pub decode_pieces-place-requires-clause-callable : goal.decode_pieces-place-requires-clause-callable
+decode_pieces-place-requires-clause-callable g c = until_error g.F.FnMut c.args.write c.requires.callable
 
 pub returns-then-not-base64 : goal.returns-then-not-base64
 returns-then-not-base64 g c =
@@ -16,8 +16,8 @@ returns-then-not-base64 g c =
     (λ e. c.map_err.result ≡ Err (WriteError e)) = search rules in
     plain_taken (CalledAt g.F.FnMut) c.if-not-base64.true c.decode_pieces-place.ensures mapped
 
-pub decode_pieces-requires : goal.decode_pieces-requires
-decode_pieces-requires g c = λ run h ran n bytes.
+pub decode_pieces-requires-clause-callable : goal.decode_pieces-requires-clause-callable
+decode_pieces-requires-clause-callable g c = λ run h ran n bytes.
     run_preserves _ (λ p. always_mut g.F.FnMut p.0.now.write_bytes × (p.0.now.failed ≡ false))
     (λ p piece q i k. search (rules, i)) run _ h ran n (search rules)
 

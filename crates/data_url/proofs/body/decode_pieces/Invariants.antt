@@ -5,7 +5,7 @@ use Rattle.data_url.proofs.body.Decoding.{Going}
 use Rattle.data_url.proofs.body.decode_pieces.Given as goal
 
 abbrev pub invariant-chunks : goal.invariant-chunks
-invariant-chunks g l = Going (CalledAt g.F.FnMut) l.fn.take l.fn.tail l.pieces (Ok tt) l.take
+invariant-chunks g l = Going (CalledAt g.F.FnMut) l.fn.take l.fn.pieces.text l.pieces (Ok tt) l.take
 
 abbrev pub decreases-chunks : goal.decreases-chunks
-decreases-chunks g l = length l.fn.tail - l.pieces.place
+decreases-chunks g l = length l.fn.pieces.text - l.pieces.place

@@ -1,0 +1,22 @@
+use Rattle.std.proofs.Common.{ap, arith, drop, sym, ◌∙◌}
+use Rattle.std.specs.List.{slice_range}
+use Rattle.data_url.specs.Fetch.{plain_body}
+use Rattle.data_url.specs.Steps.Walk.{KnowsAhead}
+use Rattle.data_url.proofs.escapes.Walking.{end_knows, front_is, front_knows}
+use Rattle.data_url.proofs.escapes.cursor.Cursor.next_front.Goals.{else-mark-len, then-mark-len}
+use Rattle.data_url.proofs.escapes.cursor.Cursor.next_front.Goals as goal
+
+pub returns-clause-front : goal.returns-clause-front
+returns-clause-front c =
+    let m = c.next_mark-mark.ensures in
+    let mark = c.next_mark-mark.result in
+    front_is m.on.text_stays (ap (λ t. plain_body (drop mark t)) m.on.text_stays) m.mark
+    (c.cut.ensures ∙ ap (λ t. slice_range t 0 mark) m.on.text_stays)
+
+pub returns-clause-knows : goal.returns-clause-knows
+returns-clause-knows c =
+    let m = c.next_mark-mark.ensures in
+    front_knows (rw m.on.text_stays m.mark) (elim c.if-mark-len.branch [
+      | then-mark-len w ↦ rw w.self-is (end_knows m.looking (w.if-mark-len.true ∙ c.len.ensures))
+      | else-mark-len w ↦ rw w.self-is m.looking
+    ])
