@@ -64,6 +64,7 @@ impl<'a> Pieces<'a> {
 
     /// Returns the bytes of a text before its first tab, newline, `%` or `#`, which are bytes of the body, and the pieces
     /// after them.
+    #[inline(always)]
     pub(crate) fn after_front(text: &'a str) -> (&'a [u8], Self)
         ensures { IsFront text.entry.now result.0.now result.1 }
     {

@@ -23,7 +23,6 @@ mod percent;
 
 use ascii::trim;
 use body::decode_body;
-use classes::lanes::rows_len;
 use escapes::{Pieces, fragment_at};
 use forgiving_base64::{DecodeError, DecodeToVecError, room_for};
 pub use fragment::FragmentIdentifier;
@@ -34,8 +33,8 @@ use std::alloc::{AllocError, Global};
 use std::error::Error;
 use std::fmt;
 
-/// Has, for the low half of `#`, the column of its high half.
-const NUMBER_SIGN: [u8; 16] = [0, 0, 0, 2, 0, 0, 0, 0, 0, 0, 0, 0, 0, 0, 0, 0];
+/// The most room that is allocated for a body before its length is known.
+const FIRST_ROOM: usize = 64 * 1024;
 
 /// A data: URL ([Fetch Standard, section 6](https://fetch.spec.whatwg.org/#data-url-processor)): its MIME type, and
 /// its body and fragment as slices of the text that it was read from.
@@ -122,16 +121,18 @@ impl<'a> DataUrl<'a> {
         Some(FragmentIdentifier::new(fragment_at(self.tail, place)?))
     }
 
-    /// Returns room for the body's bytes, from the length of the front that is written as it is: at most 15 bytes more than
-    /// the text of the body has.
+    /// Returns how much room to allocate first for a body that begins with `front` bytes as they are in the text: room for
+    /// the whole body if it ends there.
     fn room(&self, front: usize) -> usize
         requires { front ≤ length (url_tail self.now) }
     {
-        let rest = &self.tail.as_bytes()[front..];
-        let mut len = front;
-        if !rest.is_empty() && rest[0] != b'#' {
-            len += (rows_len(NUMBER_SIGN, rest) + 15).min(rest.len());
-        }
+        let tail = self.tail.as_bytes();
+        let is_whole = front == tail.len() || tail[front] == b'#';
+        let len = if is_whole {
+            front
+        } else {
+            front.max(tail.len().min(FIRST_ROOM))
+        };
         if self.base64 { room_for(len) } else { len }
     }
 
@@ -194,8 +195,8 @@ impl<'a> DataUrl<'a> {
     }
 
     /// Returns the body's bytes and the fragment
-    /// ([Fetch Standard, section 6](https://fetch.spec.whatwg.org/#data-url-processor)). Room for the body,
-    /// without the fragment, is allocated once.
+    /// ([Fetch Standard, section 6](https://fetch.spec.whatwg.org/#data-url-processor)). Room for a
+    /// body without tabs, newlines and `%` is allocated once; for others, it grows from at most 64 KiB.
     ///
     /// Returns `InvalidBase64` with the first fault if the body is base64 that is not valid, and `OutOfMemory` if
     /// allocation fails.
