@@ -114,13 +114,19 @@ fn assert_capacity(
     Ok(())
 }
 
-/// The capacity of a vector is the one that it is created with, by the length of the text after the comma.
+/// A body of one stretch takes room for itself, and not for the fragment. For others, at most 64 KiB are taken first.
 #[test]
-fn capacity_is_reserved_once(rt: HostRuntime) -> Result<(), Fail> {
+fn capacity_is_that_of_the_body(rt: HostRuntime) -> Result<(), Fail> {
     let alloc = rt.alloc();
+    assert_capacity(&rt, alloc, ["data:,", "abcd", "#c d"], 3600)?;
+    let parts = ["data:;base64,", "QUJD", "QUJD#c d"];
+    assert_capacity(&rt, alloc, parts, 2703)?;
     assert_capacity(&rt, alloc, ["data:,", "%41b", "#c d"], 3604)?;
     let parts = ["data:;base64,", "QUJD\n", "QUJD#c d"];
     assert_capacity(&rt, alloc, parts, 3381)?;
+    let hundred =
+        "0123456789012345678901234567890123456789012345678901234567890123456789012345678901234567890123456789";
+    assert_capacity(&rt, alloc, ["data:,%41#", hundred, ""], 65536)?;
     let symbols = "QUJD".repeat(alloc, 900)?;
     let bytes = decode_to_vec(alloc, symbols.as_bytes())?;
     assert!(rt; bytes.capacity() == 2700);
