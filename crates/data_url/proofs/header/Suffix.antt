@@ -1,12 +1,11 @@
 -- The suffix `;base64` of a header. For `split_suffix`.
 use Rattle.std.proofs.Common.{◌≡◌, ◌≢◌, ℕ, ◌+◌, ◌-◌, ◌<◌, ◌≤◌, List, [], ◌∷◌, length, get_or, take, drop, map, codes}
-use Rattle.std.proofs.Common.{None, Some, sym, ap, ◌∙◌, arith, suc, Bool, false, ◌++◌, length-append, reverse, Option}
+use Rattle.std.proofs.Common.{None, Some, ap, ◌∙◌, arith, suc, Bool, false, ◌++◌, length-append, reverse, Option}
 use Rattle.std.proofs.Common.{is_some, refl, append_assoc}
 use Rattle.std.specs.Prelude.{option_and_then}
 use Rattle.std.specs.Char.{to_ascii_lowercase}
 use Rattle.std.specs.List.{suffix_len, prefix_len}
 use Rattle.std.specs.Str.{bytes_eq}
-use Rattle.std.proofs.lemmas.Bool.{cond-true, cond-false, false_from_ne_true}
 use Rattle.std.proofs.lemmas.List.{drop_all, drop_more, get_or-take, length-drop, length-take-le, take-take}
 use Rattle.std.proofs.lemmas.List.{drop-append-le, get_or-drop, get_or-map, reverse-append}
 use Rattle.std.proofs.lemmas.List.Sums.{suffix_len-le-length, prefix_len-drop_no, prefix_len-le-length}
