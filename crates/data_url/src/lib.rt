@@ -4,7 +4,6 @@
 ghost use Rattle.std.specs.Prelude.{◌≡◌, ◌+◌, IfErr, IfOk, Some, length};
 ghost use Rattle.std.specs.Fn.{CalledAt};
 ghost use Rattle.data_url.specs.DataUrl.{Decodes, IsFragmentOf, IsProcessed, mime_of, url_body, url_tail};
-ghost use Rattle.data_url.specs.Steps.Tail.{IsBodyEnd};
 ghost use Rattle.data_url.specs.Fetch.{Good};
 ghost use Rattle.data_url.specs.Errors.{IsBodyErrorOf};
 
@@ -110,14 +109,6 @@ impl<'a> DataUrl<'a> {
         &self.mime_type
     }
 
-    /// Returns the fragment of a URL whose body ends at the place.
-    fn fragment_at(&self, place: usize) -> Option<FragmentIdentifier<'a>>
-        requires { IsBodyEnd (url_tail self.now) place }
-        ensures { IsFragmentOf (url_tail self.now) result }
-    {
-        Some(FragmentIdentifier::new(fragment_at(self.tail, place)?))
-    }
-
     /// Calls a closure with the body's bytes, piece by piece. Returns the fragment
     /// ([Fetch Standard, section 6](https://fetch.spec.whatwg.org/#data-url-processor)), and the closure as its last
     /// call left it. Nothing is allocated.
@@ -144,7 +135,10 @@ impl<'a> DataUrl<'a> {
     {
         let (answer, write) = decode_body(self.tail, self.base64, write_body_bytes);
         match answer {
-            Ok(place) => (Ok(self.fragment_at(place)), write),
+            Ok(place) => (
+                Ok(fragment_at(self.tail, place).map(FragmentIdentifier::new)),
+                write,
+            ),
             Err(error) => (Err(error), write),
         }
     }
@@ -200,7 +194,10 @@ impl<'a> DataUrl<'a> {
             |piece: &[u8]| -> Result<(), AllocError> { bytes.extend_from_slice(piece) },
         );
         match ended.0 {
-            Ok(place) => Ok((bytes, self.fragment_at(place))),
+            Ok(place) => Ok((
+                bytes,
+                fragment_at(self.tail, place).map(FragmentIdentifier::new),
+            )),
             Err(error) => Err(DecodeToVecError::of(error)),
         }
     }

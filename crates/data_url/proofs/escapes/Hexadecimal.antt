@@ -1,14 +1,14 @@
 -- Hexadecimal digits in a text, after tabs and newlines. For `escape` and `escape_here`.
 use Rattle.std.proofs.Common.{◌≡◌, ℕ, zero, suc, ◌+◌, ◌*◌, ◌-◌, ◌<◌, ◌≤◌, Bool, true, false, not, cond, ◌&&◌, eqb, ltb, List, []}
 use Rattle.std.proofs.Common.{◌∷◌, length, drop, get_or, Option, None, Some, refl, sym, ap, ◌∙◌, arith, eqb-true, subst, inl, inr}
-use Rattle.std.specs.Prelude.{◌==◌, MatchOption}
+use Rattle.std.specs.Prelude.{◌==◌}
 use Rattle.std.specs.Char.{digit_value, is_ascii_hexdigit}
 use Rattle.std.proofs.lemmas.Bool.{agree_below_at, and_left, and_right, cases_Bool}
 use Rattle.std.proofs.lemmas.List.{drop_more, get_or-drop, length-drop}
 use Rattle.std.proofs.lemmas.List.Sums.{prefix_len-drop_yes}
 use Rattle.data_url.specs.Percent.{begins_with_escape}
 use Rattle.data_url.specs.Url.{after, front, is_tab_or_newline}
-use Rattle.data_url.specs.Steps.Digits.{DigitFound, EscapeAt, NoDigit, NoEscape, Skipped, IsCode, cleaned}
+use Rattle.data_url.specs.Steps.Digits.{DigitFound, EscapeAt, NoDigit, NoEscape, Skipped, IsCode, IsDigitFrom, cleaned}
 use Rattle.data_url.specs.Steps.Looks.{before_percent}
 use Rattle.data_url.specs.declared.escapes.digits.TheConstants.{DIGITS}
 use Rattle.data_url.proofs.texts.Bytes.{before_nil, before_other, before_same, after_other, dropped_keeps, dropped_nil}
@@ -237,8 +237,6 @@ escape_at text place a b high low w h e f p q l m =
 -- after a tab or newline, what is found from the next index on is found from its index on
 pub digit_further : {text same : List ℕ} {place looks' : ℕ} (looks looks'' : ℕ) (found : Option (ℕ × ℕ)) → same ≡ text
     → place < length text → is_tab_or_newline (get_or text place 0) ≡ true → looks' ≡ looks + 1
-    → MatchOption found (NoDigit same (place + 1) looks' looks'')
-    (λ d. DigitFound same (place + 1) looks' d.0 d.1 looks'')
-    → MatchOption found (NoDigit text place looks looks'') (λ d. DigitFound text place looks d.0 d.1 looks'')
+    → IsDigitFrom same (place + 1) looks' looks'' found → IsDigitFrom text place looks looks'' found
 digit_further {text} {same} {place} {looks'} looks looks'' None e l code n h = grind arith
 digit_further {text} {same} {place} {looks'} looks looks'' (Some d) e l code n h = grind arith

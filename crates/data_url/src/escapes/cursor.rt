@@ -95,7 +95,7 @@ impl<'a> Cursor<'a> {
         let mut from = self.place;
         loop {
             let mark = self.block.next_mark(&mut self.source, from);
-            match self.source.stop_from(mark) {
+            match self.source.stop_at(mark) {
                 Stop::Stays => from = mark + 1,
                 Stop::Passed if mark == self.place => {
                     self.place = mark + 1;
@@ -213,10 +213,7 @@ impl<'a> Cursor<'a> {
         ensures near { IsTrue result → IsNear self.new × (self.old.ahead ≡ Ahead.Unknown) }
     {
         let place = self.place;
-        if matches!(self.ahead, Ahead::End) {
-            return false;
-        }
-        if place >= self.source.len() {
+        if matches!(self.ahead, Ahead::End) || place >= self.source.len() {
             self.ahead = Ahead::End;
             return false;
         }

@@ -2,7 +2,7 @@
 
 ghost use Rattle.std.specs.Prelude.{◌≡◌, ◌+◌, ◌<◌, ◌≤◌, IfSome, MatchOption, length, slice_index};
 ghost use Rattle.data_url.specs.Url.{percent_sign};
-ghost use Rattle.data_url.specs.Steps.Digits.{DigitFound, EscapeAt, IsCode, NoDigit, NoEscape};
+ghost use Rattle.data_url.specs.Steps.Digits.{EscapeAt, IsCode, IsDigitFrom, NoEscape};
 
 use super::source::Source;
 use std::mem::replace;
@@ -75,9 +75,7 @@ impl<'a> Source<'a> {
     fn digit(&mut self, place: usize) -> Option<(u8, usize)>
         requires { place ≤ length self.old.text.now }
         ensures text { self.new.text.now ≡ self.old.text.now }
-        ensures found { let text = self.old.text.now in
-            MatchOption result (NoDigit text place self.old.looks self.new.looks)
-            (λ found. DigitFound text place self.old.looks found.0 found.1 self.new.looks) }
+        ensures found { IsDigitFrom self.old.text.now place self.old.looks self.new.looks result }
     {
         if place >= self.len() {
             return None;
@@ -102,9 +100,7 @@ impl<'a> Source<'a> {
     fn digit_further(&mut self, place: usize) -> Option<(u8, usize)>
         requires { place ≤ length self.old.text.now }
         ensures text { self.new.text.now ≡ self.old.text.now }
-        ensures found { let text = self.old.text.now in
-            MatchOption result (NoDigit text place self.old.looks self.new.looks)
-            (λ found. DigitFound text place self.old.looks found.0 found.1 self.new.looks) }
+        ensures found { IsDigitFrom self.old.text.now place self.old.looks self.new.looks result }
     {
         for at in place..self.len() {
             let value = digit_code(self.look(at));

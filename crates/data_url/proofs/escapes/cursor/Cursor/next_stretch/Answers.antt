@@ -14,7 +14,7 @@ loop-from-preserved-in-Stays c =
     let i = c.loop-from.invariant in
     let m = c.next_mark-mark.ensures in
     let stop = c.in-Stays.ensures.stop in
-    let looking = looking_paid {s' = c.stop_from.new.self} m.looking c.stop_from.ensures.text stop.2 in
+    let looking = looking_paid {s' = c.stop_at.new.self} m.looking c.stop_at.ensures.text stop.2 in
     let s = searching_percent (searched i.on m.on i.search m.mark) stop.0 stop.1 in
     let t = rw (m.on.text_stays ∙ i.on.text_stays) at s in
     grind arith
@@ -24,7 +24,7 @@ loop-from-preserved c =
     let i = c.loop-from.invariant in
     let m = c.next_mark-mark.ensures in
     let stop = c.in-Passed.ensures.stop in
-    let looking = looking_paid {s' = c.stop_from.new.self} m.looking c.stop_from.ensures.text stop.2 in
+    let looking = looking_paid {s' = c.stop_at.new.self} m.looking c.stop_at.ensures.text stop.2 in
     let s = searching_passed (searched i.on m.on i.search m.mark) c.if-mark-self.true stop.1 in
     let t = rw (m.on.text_stays ∙ i.on.text_stays) at s in
     grind arith
@@ -33,7 +33,7 @@ pub returns-in-Passed-2-clause-goes : goal.returns-in-Passed-2-clause-goes
 returns-in-Passed-2-clause-goes c =
     let i = c.loop-from.invariant in
     let m = c.next_mark-mark.ensures in
-    let t = c.stop_from.ensures.text in
+    let t = c.stop_at.ensures.text in
     let s = rw (sym t) at (searched i.on m.on i.search m.mark) in
     goes_part (t ∙ m.on.text_stays ∙ i.on.text_stays) (c.slice_to.ensures.part _ s) (grind arith) (grind arith)
 
@@ -49,7 +49,7 @@ pub returns-in-Escape-2-clause-goes : goal.returns-in-Escape-2-clause-goes
 returns-in-Escape-2-clause-goes c =
     let i = c.loop-from.invariant in
     let m = c.next_mark-mark.ensures in
-    let t = c.stop_from.ensures.text in
+    let t = c.stop_at.ensures.text in
     let s = rw (sym t) at (searched i.on m.on i.search m.mark) in
     goes_part (t ∙ m.on.text_stays ∙ i.on.text_stays) (c.slice_to-in-Escape-2.ensures.part _ s) (grind arith)
     (grind arith)
@@ -57,13 +57,13 @@ returns-in-Escape-2-clause-goes c =
 pub returns-in-End-clause-knows : goal.returns-in-End-clause-knows
 returns-in-End-clause-knows c =
     let stop = c.in-End.ensures.stop in
-    ended_at c.next_mark-mark.ensures.looking c.stop_from.ensures.text stop.1 stop.2 (sym c.if-mark-self-3.true)
+    ended_at c.next_mark-mark.ensures.looking c.stop_at.ensures.text stop.1 stop.2 (sym c.if-mark-self-3.true)
 
 pub returns-in-End-2-clause-goes : goal.returns-in-End-2-clause-goes
 returns-in-End-2-clause-goes c =
     let i = c.loop-from.invariant in
     let m = c.next_mark-mark.ensures in
-    let t = c.stop_from.ensures.text in
+    let t = c.stop_at.ensures.text in
     let s = rw (sym t) at (searched i.on m.on i.search m.mark) in
     goes_part (t ∙ m.on.text_stays ∙ i.on.text_stays) (c.slice_to-in-End-2.ensures.part _ s) (grind arith) (grind arith)
 
