@@ -304,20 +304,15 @@ over_rest None g k = rest_over k g.ended
 over_rest (Some p) g k = tt
 
 -- a piece has at least one byte
-some_bytes : (p : Piece) (text : List ℕ) (from to : ℕ) → to ≤ length text → IsPiece text from to p
-    → 0 < length (bytes_of p)
-some_bytes (Slice slice) text from to w h = grind (arith, length-drop, length-take-le)
-some_bytes (Byte byte) text from to w h = omega arith
-
--- a piece has at least one byte
-piece_some : {p : Piece} {c c' : Cursor} → GoesOn c (Some p) c' → 0 < length (bytes_of p)
-piece_some {p} {c} {c'} g = some_bytes p (text_of c) c.place c'.place g.reads.within g.piece
+piece_some : (p : Piece) {c c' : Cursor} → GoesOn c (Some p) c' → 0 < length (bytes_of p)
+piece_some (Slice slice) {c} {c'} g = grind (arith, length-drop, length-take-le)
+piece_some (Byte byte) g = omega arith
 
 -- a walk that has ended returns no further piece
 pub again : (next : Option Piece) {c c' : Cursor} → Knows c → GoesOn c next c' → has_ended c.ahead ≡ true → next ≡ None
 again None k g e = refl
 again (Some p) {c} {c'} k g e =
-    grind (arith, piece_some g, rest_over k e, length-append (bytes_of p) (plain_body (drop c'.place (text_of c))))
+    grind (arith, piece_some p g, rest_over k e, length-append (bytes_of p) (plain_body (drop c'.place (text_of c))))
 
 -- whatever a walk knows about its index, it has read at most three times as many bytes as its text has
 looks_cases : (c : Cursor) (a : Ahead) → KnowsAhead c a → c.source.looks ≤ 3 * length (text_of c)

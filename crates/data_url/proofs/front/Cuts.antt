@@ -28,7 +28,7 @@ abbrev scheme : List ℕ
 scheme = codes "data:"
 
 -- a text is its first n bytes, the byte at index n, and the bytes after it
-cut_at : (s : List ℕ) (n : ℕ) → n < length s → s ≡ take n s ++ get_or s n 0 ∷ drop (n + 1) s
+pub cut_at : (s : List ℕ) (n : ℕ) → n < length s → s ≡ take n s ++ get_or s n 0 ∷ drop (n + 1) s
 cut_at s n l = sym (take-append-drop n s) ∙ ap (λ t. take n s ++ t) (drop_more s n 0 l)
 
 -- the text spells the first n bytes of the scheme, and not all of it
