@@ -78,6 +78,7 @@ impl<'a> DataUrl<'a> {
     /// does and there is no comma before its fragment. Neither depends on allocation. Returns `OutOfMemory` only for
     /// other texts, if allocation fails. A URL whose base64 body is not valid is accepted: decoding its body returns
     /// the error.
+    #[tactic(auto, using(crate::proofs::header::Stages::stages))]
     pub fn process(alloc: Global, input: &'a str) -> Result<DataUrl<'a>, DataUrlError>
         ensures { IsProcessed input.entry.now result }
     {

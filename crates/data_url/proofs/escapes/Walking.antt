@@ -41,11 +41,6 @@ slice_join : (text : List ℕ) (a b c : ℕ) → a ≤ b → b ≤ c → slice_r
     ≡ slice_range text a c
 slice_join text a b c l h = grind (arith, drop-drop (b - a) a text, take-add (b - a) (c - b) (drop a text))
 
--- the range from an index to the next one is the byte there
-slice_one : (text : List ℕ) (place : ℕ) → place < length text
-    → slice_range text place (place + 1) ≡ get_or text place 0 ∷ []
-slice_one text place l = grind (arith, drop_more)
-
 -- if the same text follows the first '#' of x ++ y and of y, there is no '#' in x
 none_before : (x y : List ℕ) → after 35 (x ++ y) ≡ after 35 y → after 35 x ≡ None
 none_before x y h = elim (none_or_some (after 35 x)) [
@@ -104,7 +99,7 @@ searching_percent {text} {from} {place} {mark} s h p =
     let few = s.stretch.reads.few in
     let within = p.reads.within in
     let more = spells_then s.stretch p in
-    grind (arith, slice_join text place mark (mark + 1) (omega arith) (omega arith), slice_one)
+    grind (arith, slice_join text place mark (mark + 1) (omega arith) (omega arith), drop_more)
 
 -- a tab or newline before the stretch is skipped
 pub searching_passed : {text : List ℕ} {from place mark : ℕ} → Searching text from place mark → mark ≡ place

@@ -10,7 +10,7 @@ use Rattle.std.proofs.lemmas.List.{take-map, drop_more, get_or-drop, length-drop
 use Rattle.std.proofs.lemmas.Slice.Eq.{bytes_eq-Decides, starts_is}
 use Rattle.std.specs.List.{starts_with, prefix_len}
 use Rattle.std.proofs.lemmas.Bool.Decides.{Decides-eqb}
-use Rattle.std.proofs.lemmas.Str.{IsCharBoundary-from_take, IsUtf8-from_ascii}
+use Rattle.std.proofs.lemmas.Str.{IsCharBoundary-after_ascii, IsCharBoundary-from_take, IsUtf8-from_ascii}
 use Rattle.data_url.specs.Url.{without_tabs_and_newlines, is_tab_or_newline, after, front}
 use Rattle.data_url.specs.Steps.Front.{HasNoScheme, IsSchemeAndRest, IsHeaderAndTail, ends_header, is_plain_path}
 use Rattle.data_url.proofs.percent.Encoding.{ascii_all, Plain, plain_serialised}
@@ -239,3 +239,18 @@ pub plain_before : (s items header : List ℕ) (n k : ℕ) → items ≡ s → n
     → header_text (without_tabs_and_newlines header) ≡ header
 plain_before s items header n k e f h is same =
     let plain = plain_front s items n e f h in grind (arith, plain_serialised, length-take, get_or-take)
+
+-- the lemmas for `after_respelled_scheme`
+pub ruleset spelling = (
+  dropped_nil,
+  spells_passed,
+  differs,
+  spells_all,
+  spells_more,
+  ends_early,
+  take_all,
+  IsCharBoundary-after_ascii,
+)
+
+-- the lemmas for `split_at_comma`
+pub ruleset commas = (no_front_end, at_hash, front_end_at, at_comma, IsCharBoundary-after_ascii)

@@ -272,3 +272,6 @@ flag_by path (Some query) (last_space x e f) = grind (arith, flag_of_query)
 pub flag_of_spaces : (s : List ℕ) → base64_flag (serialised s) ≡ base64_flag (serialised_with_spaces s)
 unfolding serialised
 flag_of_spaces s = flag_by (before 63 s) (after 63 s) (differs_by (before 63 s))
+
+-- the lemmas for `split_last_space`
+pub ruleset last_spaces = (parts_whole, parts_spaced, has_no_end, has_other_end, dropped_end, suffix_len-le-length)

@@ -519,3 +519,13 @@ body_of_url t u b h =
 pub fragment_of_url : (t : List ℕ) (u : DataUrl) → ((i : ℕ) → get_or t i 0 < 256) → IsUrlOf t u
     → option_map fragment (after_scheme t) ≡ Some (fragment (without_tabs_and_newlines (url_tail u)))
 fragment_of_url t u b h = let k = url_parts t u b h in cc (k.rest_is, fragment_cut k.parts)
+
+-- the lemmas for `serialised_text` and `process`
+pub ruleset stages = (
+  header_text_printable,
+  bytes_dropped,
+  bytes_by_place,
+  bytes_trimmed,
+  stages_no_comma,
+  is_acceptable,
+)

@@ -142,11 +142,6 @@ too_near x q l = no_word (x ++ 63 ∷ q) (λ e.
 
 -- The whole
 
--- whether a text with a '?' ends with ';' depends only on the '?' and what follows it
-semicolon_after : (x r : List ℕ) → is_some (before_semicolon (x ++ 63 ∷ r)) ≡ bytes_eq (last_bytes 1 (63 ∷ r))
-    (codes ";")
-semicolon_after x r = grind (arith, last_after)
-
 -- what the suffix depends on
 abbrev after_mark : Option (List ℕ) → Bool
 after_mark None = false
@@ -157,7 +152,7 @@ by_word : (x : List ℕ) (o : Option (List ℕ))
     → is_some (option_and_then (λ m. before_semicolon (without_end is_space m))
     (option_map (λ m. (x ++ 63 ∷ []) ++ m) o)) ≡ after_mark o
 by_word x None = refl
-by_word x (Some m) = grind (arith, append_assoc, end_after, semicolon_after)
+by_word x (Some m) = grind (arith, append_assoc, end_after, last_after)
 
 -- if at least six bytes follow a '?', whether there is a base64 suffix depends only on these bytes
 suffix_after : (x q : List ℕ) → 6 ≤ length q → is_some (before_base64 (x ++ 63 ∷ q)) ≡ after_mark (before_word q)
