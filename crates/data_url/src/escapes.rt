@@ -116,6 +116,7 @@ impl<'a> Pieces<'a> {
     }
 
     /// Returns the place in the text where the body ends, of a walk that has ended.
+    #[tactic(auto, using(crate::proofs::escapes::Walking::body_end))]
     pub(crate) fn end(&self) -> usize
         requires { IsTrue self.now.ended }
         ensures { IsBodyEnd self.now.text result }

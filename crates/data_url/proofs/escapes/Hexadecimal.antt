@@ -6,6 +6,7 @@ use Rattle.std.specs.Char.{digit_value, is_ascii_hexdigit}
 use Rattle.std.proofs.lemmas.Bool.{agree_below_at, and_left, and_right, cases_Bool}
 use Rattle.std.proofs.lemmas.List.{drop_more, get_or-drop, length-drop}
 use Rattle.std.proofs.lemmas.List.Sums.{prefix_len-drop_yes}
+use Rattle.std.proofs.lemmas.Nat.{le_or_l, le_or_r}
 use Rattle.data_url.specs.Percent.{begins_with_escape}
 use Rattle.data_url.specs.Url.{after, front, is_tab_or_newline}
 use Rattle.data_url.specs.Steps.Digits.{DigitFound, EscapeAt, NoDigit, NoEscape, Skipped, IsCode, IsDigitFrom, cleaned}
@@ -240,3 +241,6 @@ pub digit_further : {text same : List ℕ} {place looks' : ℕ} (looks looks'' :
     → IsDigitFrom same (place + 1) looks' looks'' found → IsDigitFrom text place looks looks'' found
 digit_further {text} {same} {place} {looks'} looks looks'' None e l code n h = grind arith
 digit_further {text} {same} {place} {looks'} looks looks'' (Some d) e l code n h = grind arith
+
+-- the lemmas for `digit`, `escape` and `escape_here`
+pub ruleset digits = (digit_further, escape_no_high, le_or_l, le_or_r)

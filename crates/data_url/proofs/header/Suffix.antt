@@ -6,6 +6,7 @@ use Rattle.std.specs.Prelude.{option_and_then}
 use Rattle.std.specs.Char.{to_ascii_lowercase}
 use Rattle.std.specs.List.{suffix_len, prefix_len}
 use Rattle.std.specs.Str.{bytes_eq}
+use Rattle.std.proofs.lemmas.List.{length-map, length-take}
 use Rattle.std.proofs.lemmas.List.{drop_all, drop_more, get_or-take, length-drop, length-take-le, take-take}
 use Rattle.std.proofs.lemmas.List.{drop-append-le, get_or_at, get_or-drop, get_or-map, reverse-append}
 use Rattle.std.proofs.lemmas.List.Sums.{suffix_len-le-length, prefix_len-drop_no, prefix_len-le-length}
@@ -163,3 +164,6 @@ suffix_after x q l = cc (append_assoc x (63 ∷ []) q, word_after (x ++ 63 ∷ [
 pub same_flag : (a b query : List ℕ) → has_base64_suffix (a ++ 63 ∷ query) ≡ has_base64_suffix (b ++ 63 ∷ query)
 unfolding has_base64_suffix
 same_flag a b query = grind (arith, stripped_after, too_near, suffix_after)
+
+-- the lemmas for `without_suffix`
+pub ruleset suffixes = (no_word, length-map, length-take, suffix_len-le-length, printable_take)

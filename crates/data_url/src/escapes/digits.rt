@@ -36,6 +36,7 @@ fn digit_code(byte: u8) -> u8
 impl<'a> Source<'a> {
     /// Returns the byte of the escape whose `%` is at a place, past tabs and newlines, and the place after it.
     #[inline(always)]
+    #[tactic(auto, using(crate::proofs::escapes::Hexadecimal::digits))]
     pub(super) fn escape(&mut self, place: usize) -> Option<(u8, usize)>
         requires within { place < length self.old.text.now }
         requires percent { slice_index self.old.text.now place ≡ percent_sign }
@@ -52,6 +53,7 @@ impl<'a> Source<'a> {
 
     /// Returns the byte of an escape without tabs and newlines at a place, if there is one.
     #[inline(always)]
+    #[tactic(auto, using(crate::proofs::escapes::Hexadecimal::digits))]
     pub(super) fn escape_here(&mut self, place: usize) -> Option<u8>
         requires { place + 3 ≤ length self.old.text.now }
         ensures text { self.new.text.now ≡ self.old.text.now }
@@ -72,6 +74,7 @@ impl<'a> Source<'a> {
 
     /// Returns the value of the hexadecimal digit from a place on, past tabs and newlines, and the place after it.
     #[inline(always)]
+    #[tactic(auto, using(crate::proofs::escapes::Hexadecimal::digits))]
     fn digit(&mut self, place: usize) -> Option<(u8, usize)>
         requires { place ≤ length self.old.text.now }
         ensures text { self.new.text.now ≡ self.old.text.now }
