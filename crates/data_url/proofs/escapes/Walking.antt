@@ -270,6 +270,10 @@ gathers_clear {c} {room} {room'} {len} to m h l w clear e =
       },
     )
 
+-- an escape is read as the byte of its value
+pub reads_escape : {text : List ℕ} {place value end : ℕ} → EscapeAt text place value end → Reads text place end (value ∷ [])
+reads_escape e = (spells_escape e).reads
+
 -- the value of an escape directly after another one
 pub gathers_escape : {c0 c c' : Cursor} {room0 room : List ℕ} {len0 len value : ℕ} → Gathers c0 c room0 room len0 len
     → LooksOn c.source c'.source → EscapeAt (text_of c) c.place value c'.place → len < length room
@@ -329,3 +333,18 @@ takes_next {c} {c1} {c2} {room0} {room} {len} p g e h = grind (arith, piece_some
 pub over_next : {c c1 c2 : Cursor} {room0 room : List ℕ} {len : ℕ} → Gathers c c1 room0 room 0 len → len ≡ 0
     → GoesOn c1 None c2 → Knows c2 → IsOver (walk_of c) (walk_of c2)
 over_next {c} {c1} {c2} g e h k = grind (arith, rest_over)
+
+-- the lemmas for the functions that gather bytes
+pub ruleset gathering = (
+  gathers_byte,
+  gathers_nothing,
+  gathers_then,
+  gathers_escape,
+  reads_escape,
+  looking_escape,
+  ended_at,
+  smaller,
+)
+
+-- the lemmas for `Pieces`
+pub ruleset walking = (body_end, rest_over, over_rest, again, few_looks, one_slice)

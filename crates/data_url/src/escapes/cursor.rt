@@ -162,6 +162,7 @@ impl<'a> Cursor<'a> {
     /// Gathers the bytes of the next pieces in a buffer while they come in short stretches, and returns how many. None
     /// are gathered if the body ends or a long stretch begins.
     #[inline(always)]
+    #[tactic(auto, using(crate::proofs::escapes::Walking::gathering))]
     fn gather(&mut self, room: &mut [u8; ROOM]) -> usize
         requires { Knows self.old }
         ensures gathers { Gathers self.old self.new room.old room.new 0 result }
@@ -256,6 +257,7 @@ impl<'a> Cursor<'a> {
 
     /// Gathers what begins at the mark at the place.
     #[inline(always)]
+    #[tactic(auto, using(crate::proofs::escapes::Walking::gathering))]
     fn gather_stop(&mut self, room: &mut [u8; ROOM], len: usize, dense: bool) -> (usize, bool)
         requires may { MayGather self.old len }
         requires here { self.old.place < self.old.block.seen }
@@ -293,6 +295,7 @@ impl<'a> Cursor<'a> {
 
     /// Gathers the values of escapes that follow one another after an escape.
     #[inline(always)]
+    #[tactic(auto, using(crate::proofs::escapes::Walking::gathering))]
     fn gather_escapes(&mut self, room: &mut [u8; ROOM], len: usize) -> usize
         requires unknown { self.old.ahead ≡ Ahead.Unknown }
         requires looking { Looking self.old.source self.old.block self.old.place 3 }
