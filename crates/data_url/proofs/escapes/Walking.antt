@@ -6,7 +6,7 @@ use Rattle.std.specs.Prelude.{slice_range, IfNone}
 use Rattle.std.proofs.lemmas.List.{take_all, drop_more, drop-drop, length-drop, drop_all, append-nil, take_more_set}
 use Rattle.std.proofs.lemmas.List.{length-take-le, append_cancel_right, take-append-drop}
 use Rattle.data_url.specs.Fetch.{plain_body}
-use Rattle.data_url.specs.Pieces.{text_of, IsPiece, IsStretch, bytes_of, has_ended, is_slice_end, walk_of}
+use Rattle.data_url.specs.Pieces.{text_of, IsStretch, bytes_of, has_ended, is_slice_end, walk_of}
 use Rattle.data_url.specs.Steps.Chunks.{IsOneSlice, IsOver, Takes}
 use Rattle.data_url.specs.Steps.Digits.{EscapeAt, cleaned}
 use Rattle.data_url.specs.Steps.Tail.{BeginsFragment, IsBodyEnd, rest_fragment}
@@ -348,3 +348,6 @@ pub ruleset gathering = (
 
 -- the lemmas for `Pieces`
 pub ruleset walking = (body_end, rest_over, over_rest, again, few_looks, one_slice)
+
+-- the lemmas for `next`
+pub ruleset nexts = (byte_next, knows_on, looking_escape, ahead_is)

@@ -1,12 +1,11 @@
 -- MIME types with their records and printed texts, by computation.
-use Rattle.std.proofs.Common.{◌≡◌, ℕ, true, List, [], ◌∷◌, ◌++◌, inr, codes}
-use Rattle.std.proofs.Common.{eq-eqb, eqb, length, refl, subst, sym, ◌∙◌, map}
+use Rattle.std.proofs.Common.{◌≡◌, ℕ, true, List, [], ◌∷◌, ◌++◌, inr, codes, eq-eqb, eqb, length, refl, subst, sym, ◌∙◌}
+use Rattle.std.proofs.Common.{map}
 use Rattle.std.specs.Prelude.{IsTrue}
 use Rattle.std.specs.List.{list_all}
 use Rattle.std.specs.Char.{to_ascii_lowercase}
 use Rattle.data_url.specs.CodePoints.{is_http_whitespace}
-use Rattle.data_url.specs.Mime.{BeginsParameters, HasNoRecord}
-use Rattle.data_url.specs.Mime.{IsRecordOf, Pair, Parses, Record, default_record}
+use Rattle.data_url.specs.Mime.{BeginsParameters, HasNoRecord, IsRecordOf, Pair, Parses, Record, default_record}
 use Rattle.data_url.specs.Mime.{is_token_text, kept_pairs, printed}
 use Rattle.data_url.proofs.examples.Literals.{on_literals}
 use Rattle.data_url.proofs.mime.Items.{every_from_all, has_items, has_parts, items_in, parameters_in, subtype_in}
@@ -57,7 +56,7 @@ unfolding on_literals
 reads_x r pairs begins ends are = reads (codes "x/x" ++ r) (codes "x") (codes "x") [] r pairs refl refl refl begins ends are
 
 -- a semicolon in quotes, a missing value, and an empty value in quotes
-quotes : Parses (codes "TEXT/HTML;a=" ++ (34 ∷ codes "b;c" ++ (34 ∷ codes ";d=;e=" ++ (34 ∷ 34 ∷ [])))) 
+quotes : Parses (codes "TEXT/HTML;a=" ++ (34 ∷ codes "b;c" ++ (34 ∷ codes ";d=;e=" ++ (34 ∷ 34 ∷ []))))
     (of (codes "text") (codes "html") ((codes "a", codes "b;c") ∷ (codes "e", []) ∷ []))
 unfolding on_literals
 quotes = reads _ (codes "TEXT") (codes "HTML") []

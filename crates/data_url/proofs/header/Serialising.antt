@@ -19,7 +19,6 @@ use Rattle.data_url.proofs.texts.Bytes.{before_all, before_at, after-dropped_non
 use Rattle.data_url.proofs.texts.Bytes.{without_tabs_and_newlines-append, dropped_around, dropped_keeps, dropped_nil}
 use Rattle.data_url.proofs.texts.Bytes.{dropped_passes, before-append, after-append, before_other, after_other, is_cut}
 use Rattle.data_url.proofs.percent.Encoding.{encoded_cons, encoded_nil, path_cons, path_nil, percent_encoding-append}
-use Rattle.std.specs.Option.{option_map}
 use Rattle.data_url.specs.Facts.{base64_flag, serialised_with_spaces}
 use Rattle.data_url.specs.Fetch.{before_comma, is_space}
 use Rattle.data_url.specs.Mime.{DoesNotEnd}

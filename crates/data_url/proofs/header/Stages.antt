@@ -1,7 +1,6 @@
 -- The stages of the Standard, from the input to its record. For `DataUrl::process`.
-use Rattle.std.proofs.Common.{◌≡◌, ℕ, zero, suc, ◌<◌, ◌≤◌, Bool, false, List, [], ◌∷◌, ◌++◌, length, get_or}
-use Rattle.std.proofs.Common.{take, drop, None, Some, refl, sym, ap, ◌∙◌, inl, inr, eqb-true, subst, arith}
-use Rattle.std.proofs.Common.{true, map, codes, ◌≢◌}
+use Rattle.std.proofs.Common.{◌≡◌, ℕ, zero, suc, ◌<◌, ◌≤◌, Bool, false, List, [], ◌∷◌, ◌++◌, length, get_or, take, drop}
+use Rattle.std.proofs.Common.{None, Some, refl, sym, ap, ◌∙◌, inl, inr, eqb-true, subst, arith, true, map, codes, ◌≢◌}
 use Rattle.std.specs.Prelude.{option_and_then}
 use Rattle.std.specs.List.{prefix_len, suffix_len}
 use Rattle.std.specs.Str.{chars}
@@ -9,12 +8,12 @@ use Rattle.std.proofs.lemmas.Bool.{cases_Bool}
 use Rattle.std.proofs.lemmas.Slice.Eq.{bytes_eq-Decides}
 use Rattle.std.proofs.lemmas.List.{get_or-drop, get_or-reverse, get_or-take, get_or_past, length-drop, length-reverse}
 use Rattle.std.proofs.lemmas.List.{take-append-drop, length-take, drop_at, length-map, take_at}
-use Rattle.data_url.specs.Url.{before, after, is_c0_control_or_space, percent_encoding, trimmed_text}
-use Rattle.data_url.specs.Url.{after_scheme, cleaned_text, without_tabs_and_newlines, fragment, front}
-use Rattle.data_url.specs.Url.{is_tab_or_newline, serialised, in_fragment_set}
+use Rattle.data_url.specs.Url.{before, after, is_c0_control_or_space, percent_encoding, trimmed_text, after_scheme}
+use Rattle.data_url.specs.Url.{cleaned_text, without_tabs_and_newlines, fragment, front, is_tab_or_newline, serialised}
+use Rattle.data_url.specs.Url.{in_fragment_set}
 use Rattle.data_url.specs.Fetch.{is_space, stripped_header, encoded_body, header_of, staged_front, tail_of}
-use Rattle.data_url.specs.Fetch.{before_base64, has_base64_suffix, media_of, mime_text}
-use Rattle.data_url.specs.Fetch.{with_plain, Accepted, NoComma, NoScheme, outcome, plain_body, staged}
+use Rattle.data_url.specs.Fetch.{before_base64, has_base64_suffix, media_of, mime_text, with_plain, Accepted, NoComma}
+use Rattle.data_url.specs.Fetch.{NoScheme, outcome, plain_body, staged}
 use Rattle.data_url.specs.Steps.Header.{IsPrintable, header_text, IsHeaderOf, IsRecordFor}
 use Rattle.data_url.proofs.percent.Encoding.{IsBytes, encoded_cons, encoded_nil, header_nil, header_path, header_query}
 use Rattle.data_url.proofs.percent.Encoding.{Recoded, before-serialised, recoded-decoded, recoded_tails}

@@ -62,6 +62,7 @@ impl<'a> Cursor<'a> {
 
     /// The next piece.
     #[inline(always)]
+    #[tactic(auto, using(crate::proofs::escapes::Walking::nexts))]
     pub(super) fn next(&mut self) -> Option<Piece<'a>>
         requires { Knows self.old }
         ensures goes { GoesOn self.old result self.new }

@@ -1,14 +1,12 @@
-use Rattle.std.proofs.Common.{◌++◌, ◌≤◌, ap, length, subst, sym, ◌∙◌, append_assoc}
+use Rattle.std.proofs.Common.{arith, ◌++◌, ap, ◌∙◌, append_assoc}
 use Rattle.std.proofs.lemmas.List.Sums.{prefix_len-le-length}
-use Rattle.data_url.specs.Steps.Header.{is_no_question_mark}
 use Rattle.data_url.specs.Url.{in_path_set, in_query_set}
 use Rattle.data_url.proofs.percent.Encoding.{encoded}
 use Rattle.data_url.proofs.header.Serialising.{cut_at_query}
 use Rattle.data_url.proofs.header.serialised.Goals as goal
 
 pub split_at-requires : goal.split_at-requires
-split_at-requires c = subst (λ n. n ≤ length c.args.header.now) (sym c.path_len.ensures)
-    (prefix_len-le-length is_no_question_mark c.args.header.now)
+split_at-requires c = grind (arith, prefix_len-le-length)
 
 pub returns : goal.returns
 returns c =

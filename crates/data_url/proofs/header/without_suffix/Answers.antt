@@ -1,10 +1,8 @@
-use Rattle.std.proofs.lemmas.List.{length-map, length-take, take_rest}
-use Rattle.data_url.proofs.header.Stages.{printable_take}
-use Rattle.data_url.proofs.header.Suffix.{no_word, HasWord, no_semicolon, nothing_left, with_semicolon}
+use Rattle.std.proofs.lemmas.List.{take_rest}
+use Rattle.data_url.proofs.header.Suffix.{HasWord, no_semicolon, nothing_left, with_semicolon}
 use Rattle.std.proofs.Common.{◌≡◌, ℕ, ◌-◌, ◌≤◌, Bool, true, List, length, take, drop, map, codes, arith}
 use Rattle.std.specs.Char.{to_ascii_lowercase}
 use Rattle.std.specs.List.{suffix_len}
-use Rattle.std.proofs.lemmas.List.Sums.{suffix_len-le-length}
 use Rattle.data_url.specs.Url.{is_c0_control_or_space}
 use Rattle.data_url.proofs.header.without_suffix.Goals as goal
 
