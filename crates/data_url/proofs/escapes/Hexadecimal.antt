@@ -136,10 +136,7 @@ begins_with_digit (b ∷ s) = is_ascii_hexdigit b
 other_first : (s : List ℕ) → (0 < length s → (is_tab_or_newline (get_or s 0 0) ≡ false)
     × (is_ascii_hexdigit (get_or s 0 0) ≡ false)) → begins_with_digit (cleaned s) ≡ false
 other_first [] h = ap begins_with_digit cleaned_nil
-other_first (b ∷ s) h = let o = h (omega arith) in elim (cases_Bool (b == 35)) [
-  | inl e ↦ ap (λ c. begins_with_digit (cleaned (c ∷ s))) (eqb-true b 35 e) ∙ ap begins_with_digit (cleaned_hash s)
-  | inr e ↦ ap begins_with_digit (cleaned_keeps b s o.0 e) ∙ o.1
-]
+other_first (b ∷ s) h = grind (arith, cases_Bool, eqb-true, cleaned_hash, cleaned_keeps)
 
 -- if no digit is found, the cleaned text does not begin with one
 no_digit : {text : List ℕ} {place looks looks' : ℕ} → NoDigit text place looks looks'

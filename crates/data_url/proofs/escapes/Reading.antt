@@ -92,10 +92,7 @@ reads_then {text} {a} {b} {from} {middle} {to} p q = grind (arith, length-append
 -- so is what is spelled in them
 pub spells_then : {text r s a b : List ℕ} {from middle to : ℕ} → Spells text from middle r a → Spells text middle to s b
     → Spells text from to (r ++ s) (a ++ b)
-spells_then {text} {r} {s} {a} {b} {from} {middle} {to} p q = record {
-  reads = reads_then p.reads q.reads;
-  raw_is = p.raw_is ∙ ap (λ t. r ++ t) q.raw_is ∙ sym (append_assoc r s (cleaned (drop to text)));
-}
+spells_then {text} {r} {s} {a} {b} {from} {middle} {to} p q = grind (arith, reads_then, append_assoc)
 
 -- a tab or newline is read as no byte
 pub spells_passed : (text : List ℕ) (place : ℕ) → place < length text → is_tab_or_newline (get_or text place 0) ≡ true

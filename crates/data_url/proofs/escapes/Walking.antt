@@ -104,10 +104,7 @@ searching_percent {text} {from} {place} {mark} s h p =
 -- a tab or newline before the stretch is skipped
 pub searching_passed : {text : List ℕ} {from place mark : ℕ} → Searching text from place mark → mark ≡ place
     → Spells text mark (mark + 1) [] [] → Searching text from (mark + 1) (mark + 1)
-searching_passed {text} {from} {place} {mark} s e p =
-    let more = spells_then s.passed (subst (λ m. Spells text m (mark + 1) [] []) e p) in
-    let none = spells_none text (mark + 1) p.reads.within in
-    grind arith
+searching_passed {text} {from} {place} {mark} s e p = grind (arith, spells_then, spells_none)
 
 -- Pieces
 
@@ -116,23 +113,7 @@ pub slice_part : {text bytes : List ℕ} {from place mark next : ℕ} → Search
     → is_slice_end (drop mark text) ≡ true → Spells text mark next [] [] → bytes ≡ slice_range text place mark
     → Reads text from next bytes × IsStretch text from next bytes
 slice_part {text} {bytes} {from} {place} {mark} {next} s l ends a e =
-    let all = spells_then (spells_then s.passed s.stretch) a in
-    let few = s.passed.reads.few in
-    let more = a.reads.few in
-    let whole : slice_range text place mark ++ [] ≡ bytes = append-nil (slice_range text place mark) ∙ sym e in (
-      subst (Reads text from next) whole all.reads,
-      record {
-        start = place;
-        end = mark;
-        from_le = omega arith;
-        nonempty = l;
-        to_le = omega arith;
-        slice_is = e;
-        skipped = spelled all ∙ whole;
-        in_front = in_front (ap (after 35) e ∙ no_hash (omega arith) s.stretch);
-        stops_there = ends;
-      },
-    )
+    grind (arith, spells_then, append-nil, spelled, in_front, no_hash)
 
 -- an escape, with what is skipped before it, is a piece
 pub byte_part : {text : List ℕ} {from place value end : ℕ} → Spells text from place [] []

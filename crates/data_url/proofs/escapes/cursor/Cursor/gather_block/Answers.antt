@@ -3,10 +3,7 @@ use Rattle.data_url.proofs.escapes.Walking.{gathers_clear, gathers_then}
 use Rattle.data_url.proofs.escapes.cursor.Cursor.gather_block.Goals as goal
 
 pub returns-in_default-clause-gathers : goal.returns-in_default-clause-gathers
-returns-in_default-clause-gathers c =
-    let i = c.loop-self.invariant in
-    gathers_then i.0 (gathers_clear _ i.1 c.loop-self-test.true (omega arith) (omega arith) c.in_default.ensures
-    c.copy.ensures).0
+returns-in_default-clause-gathers c = grind (arith, gathers_then, gathers_clear)
 
 pub returns-in_default-clause-gathering : goal.returns-in_default-clause-gathering
 returns-in_default-clause-gathering c =

@@ -5,9 +5,7 @@ use Rattle.data_url.specs.declared.escapes.cursor.Ahead.TheVariants.{End}
 use Rattle.data_url.proofs.escapes.cursor.Cursor.next_stretch.Goals as goal
 
 pub loop-from-init : goal.loop-from-init
-loop-from-init c =
-    let s = searching_none _ _ c.requires.within in
-    grind arith
+loop-from-init c = grind (arith, searching_none)
 
 pub loop-from-preserved-in-Stays : goal.loop-from-preserved-in-Stays
 loop-from-preserved-in-Stays c =
@@ -20,14 +18,7 @@ loop-from-preserved-in-Stays c =
     grind arith
 
 pub loop-from-preserved : goal.loop-from-preserved
-loop-from-preserved c =
-    let i = c.loop-from.invariant in
-    let m = c.next_mark-mark.ensures in
-    let stop = c.in-Passed.ensures.stop in
-    let looking = looking_paid {s' = c.stop_at.new.self} m.looking c.stop_at.ensures.text stop.2 in
-    let s = searching_passed (searched i.on m.on i.search m.mark) c.if-mark-self.true stop.1 in
-    let t = rw (m.on.text_stays ∙ i.on.text_stays) at s in
-    grind arith
+loop-from-preserved c = grind (arith, looking_paid, searching_passed, searched)
 
 pub returns-in-Passed-2-clause-goes : goal.returns-in-Passed-2-clause-goes
 returns-in-Passed-2-clause-goes c =
@@ -46,13 +37,7 @@ returns-in-Escape-clause-goes c =
     c.in-Escape.ensures.stop.1) (grind arith) refl
 
 pub returns-in-Escape-2-clause-goes : goal.returns-in-Escape-2-clause-goes
-returns-in-Escape-2-clause-goes c =
-    let i = c.loop-from.invariant in
-    let m = c.next_mark-mark.ensures in
-    let t = c.stop_at.ensures.text in
-    let s = rw (sym t) at (searched i.on m.on i.search m.mark) in
-    goes_part (t ∙ m.on.text_stays ∙ i.on.text_stays) (c.slice_to-in-Escape-2.ensures.part _ s) (grind arith)
-    (grind arith)
+returns-in-Escape-2-clause-goes c = grind (arith, searched, goes_part)
 
 pub returns-in-End-clause-knows : goal.returns-in-End-clause-knows
 returns-in-End-clause-knows c =
@@ -60,15 +45,7 @@ returns-in-End-clause-knows c =
     ended_at c.next_mark-mark.ensures.looking c.stop_at.ensures.text stop.1 stop.2 (sym c.if-mark-self-3.true)
 
 pub returns-in-End-2-clause-goes : goal.returns-in-End-2-clause-goes
-returns-in-End-2-clause-goes c =
-    let i = c.loop-from.invariant in
-    let m = c.next_mark-mark.ensures in
-    let t = c.stop_at.ensures.text in
-    let s = rw (sym t) at (searched i.on m.on i.search m.mark) in
-    goes_part (t ∙ m.on.text_stays ∙ i.on.text_stays) (c.slice_to-in-End-2.ensures.part _ s) (grind arith) (grind arith)
+returns-in-End-2-clause-goes c = grind (arith, searched, goes_part)
 
 pub returns-in-End-2-clause-knows : goal.returns-in-End-2-clause-knows
-returns-in-End-2-clause-knows c =
-    let stop = c.in-End.ensures.stop in
-    ahead_is _ End (grind arith)
-    (ended_at c.next_mark-mark.ensures.looking (grind arith) stop.1 (grind arith) (grind arith))
+returns-in-End-2-clause-knows c = grind (arith, ahead_is, ended_at)
