@@ -401,8 +401,7 @@ module _ {F E A : Type 0} {step : F → List ℕ → Result (Unit {0}) E → F �
   -- the result says whether the body is good
   body_told : {s : Result A (DecodeError E)} → Decodes step f most body good r f' → r ≡ s
       → EndsWith (λ bytes p. Unit {0}) (λ bytes e p. Unit {0}) body good f' s
-  body_told h q = body_ends h q (λ bytes p. Unit {0}) (λ bytes e p. Unit {0}) (λ bytes p piece q k s. tt)
-      (λ bytes p piece e q k s. tt) tt
+  body_told h q = grind (arith, body_ends)
 
   -- if decoding returns `Ok x`, `good` is true of x
   pub body_answer : {x : A} → Decodes step f most body good r f' → r ≡ Ok x → good x

@@ -163,11 +163,7 @@ further_on s m k h g j l = grind (arith, get_or-drop m s (j - m) 0, cases_lt j m
 
 -- if there is no ',' or '#' before index n, the first n bytes have neither
 no_end : (s : List ℕ) (n : ℕ) → NoEndBefore s n → (after 44 (take n s) ≡ None) × (after 35 (take n s) ≡ None)
-no_end s n h =
-    let lacks = λ (k : ℕ) (l : k < n). or_parts (get_or s k 0 == 44) (get_or s k 0 == 35) (h k l) in (
-      grind (arith, after_none, length-take, get_or-take),
-      grind (arith, after_none, length-take, get_or-take),
-    )
+no_end s n h = grind (arith, or_parts, after_none, length-take, get_or-take)
 
 -- if the first ',' or '#' of a text is a ',', the bytes before it are the header, and those after it are the tail
 pub at_comma : (s : List ℕ) (n : ℕ) → IsFrontEnd s n → get_or s n 0 ≢ 35 → IsHeaderAndTail s (take n s) (drop (n + 1) s)

@@ -270,10 +270,7 @@ bytes_by_place (b ∷ s) h = (h 0, bytes_by_place s (λ i. h (suc i)))
 -- if a text has no record, the default record is the record for it
 pub default_for : (s : List ℕ) (m : Record) → HasNoRecord s → m ≡ default_record → IsRecordFor s m
 unfolding on_literals
-default_for s m n e = record {
-  is_record = inr (n, e);
-  wellformed = subst IsWellformed (sym e) (record { type_ = refl; subtype = refl; names = refl; distinct = refl; values = refl });
-}
+default_for s m n e = grind arith
 
 -- a well-formed record that a text parses to is the record for it
 pub parsed_for : (s : List ℕ) (m : Record) → Parses s m → IsWellformed m → IsRecordFor s m
