@@ -1,6 +1,5 @@
-use Rattle.std.proofs.Common.{arith, ◌++◌, ap, ◌∙◌, append_assoc}
+use Rattle.std.proofs.Common.{arith, append_assoc}
 use Rattle.std.proofs.lemmas.List.Sums.{prefix_len-le-length}
-use Rattle.data_url.specs.Url.{in_path_set, in_query_set}
 use Rattle.data_url.proofs.percent.Encoding.{encoded}
 use Rattle.data_url.proofs.header.Serialising.{cut_at_query}
 use Rattle.data_url.proofs.header.serialised.Goals as goal

@@ -1,4 +1,4 @@
-use Rattle.std.proofs.Common.{◌∙◌, arith, sym}
+use Rattle.std.proofs.Common.{arith}
 use Rattle.std.proofs.lemmas.Nat.{le_or_l, le_or_r}
 use Rattle.data_url.proofs.escapes.Hexadecimal.{escape_at}
 use Rattle.data_url.proofs.escapes.source.Source.escape_here.Goals as goal
