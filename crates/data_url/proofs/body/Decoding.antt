@@ -77,7 +77,8 @@ module _ {F E : Type 0} (step : F → List ℕ → Result (Unit {0}) E → F →
 
   -- a closure that was called with a body of one slice was called with the whole body
   pub slice_going : {f g : F} {text items : List ℕ} (answer : Result (Unit {0}) E) → IsOneSlice text → items ≡ text
-      → step f items answer g → Going f text (record { text = text; place = length text; rest = []; ended = true; looks = 0 }) answer g
+      → step f items answer g
+      → Going f text (record { text = text; place = length text; rest = []; ended = true; looks = 0 }) answer g
   slice_going {f} {g} {text} {items} answer one same s =
       let start : Going f text (record { text = text; place = 0; rest = text; ended = true; looks = 0 }) (Ok tt) f =
       record {

@@ -166,7 +166,8 @@ percent_first text place l h = grind (arith, drop_more text place 0, cleaned_kee
 pub escape_no_high : {text : List ℕ} {place looks looks' : ℕ} → place < length text → get_or text place 0 ≡ 37
     → NoDigit text (place + 1) looks looks' → NoEscape text place looks looks'
 escape_no_high {text} {place} {looks} {looks'} l h n = record {
-  none_is = ap begins_with_escape (percent_first text place l h).0 ∙ no_high (cleaned (drop (place + 1) text)) (no_digit n);
+  none_is = ap begins_with_escape (percent_first text place l h).0
+      ∙ no_high (cleaned (drop (place + 1) text)) (no_digit n);
   looks_grow = n.looks_grow;
   looks_are = let s = same n.skipped in grind arith;
 }
@@ -228,8 +229,10 @@ pub escape_at : (text : List ℕ) (place a b high low : ℕ) → place + 3 ≤ l
     → a ≡ get_or text (place + 1) 0 → b ≡ get_or text (place + 2) 0 → IsCode a high → IsCode b low → high < 16
     → low < 16 → EscapeAt text place (high * 16 + low) (place + 3)
 escape_at text place a b high low w h e f p q l m =
-    let first = digit_at text (place + 1) high (place + 2) (omega arith) (omega arith) (subst (λ x. IsCode x high) e p) l in
-    let second = digit_at text (place + 2) low (place + 3) (omega arith) (omega arith) (subst (λ x. IsCode x low) f q) m in
+    let a_code = subst (λ x. IsCode x high) e p in
+    let first = digit_at text (place + 1) high (place + 2) (omega arith) (omega arith) a_code l in
+    let b_code = subst (λ x. IsCode x low) f q in
+    let second = digit_at text (place + 2) low (place + 3) (omega arith) (omega arith) b_code m in
     escape_both {text = text} refl (omega arith) h first second
 
 -- after a tab or newline, what is found from the next index on is found from its index on

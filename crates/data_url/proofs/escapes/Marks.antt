@@ -75,7 +75,8 @@ block_at text bytes place seen marks e l s m =
     let all : take (length bytes - place) (drop place bytes) ≡ drop place text = cc (take_rest bytes place) in
     let same : take 64 (drop place text) ≡ slice_range text place seen = elim (cases_lt 64 (length text - place)) [
       | inl h ↦ let k : 64 ≡ seen - place = omega arith in ap (λ i. take i (drop place text)) k
-      | inr h ↦ take_all 64 (drop place text) (omega arith) ∙ sym (take_all (seen - place) (drop place text) (omega arith))
+      | inr h ↦ take_all 64 (drop place text) (omega arith)
+          ∙ sym (take_all (seen - place) (drop place text) (omega arith))
     ] in
     record { base_le = omega arith; seen_le = omega arith; short = omega arith; marks_are = cc }
 

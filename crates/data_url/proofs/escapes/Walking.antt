@@ -49,7 +49,8 @@ none_before x y h = elim (none_or_some (after 35 x)) [
       let cut = is_cut 35 x rest e in
       let all : after 35 (x ++ y) ≡ Some (rest ++ y) = grind (arith, append_assoc, after_at) in
       let long = is_cut 35 y (rest ++ y) (sym h ∙ all) in
-      absurd (omega (arith, ap length long.joined, length-append (before 35 y) (35 ∷ (rest ++ y)), length-append rest y))
+      let size = ap length long.joined in
+      absurd (omega (arith, length-append (before 35 y) (35 ∷ (rest ++ y)), length-append rest y))
 ]
 
 -- the text between two indices has no '#'
@@ -252,7 +253,8 @@ gathers_clear {c} {room} {room'} {len} to m h l w clear e =
     )
 
 -- an escape is read as the byte of its value
-pub reads_escape : {text : List ℕ} {place value end : ℕ} → EscapeAt text place value end → Reads text place end (value ∷ [])
+pub reads_escape : {text : List ℕ} {place value end : ℕ} → EscapeAt text place value end
+    → Reads text place end (value ∷ [])
 reads_escape e = (spells_escape e).reads
 
 -- the value of an escape directly after another one

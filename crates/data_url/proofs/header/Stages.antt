@@ -172,7 +172,8 @@ after_none t h = grind arith
 
 -- a text that is cut at its first comma is so without tabs and newlines
 dropped_parts : {rest header tail : List ℕ} → IsHeaderAndTail rest header tail
-    → IsHeaderAndTail (without_tabs_and_newlines rest) (without_tabs_and_newlines header) (without_tabs_and_newlines tail)
+    → IsHeaderAndTail (without_tabs_and_newlines rest) (without_tabs_and_newlines header)
+    (without_tabs_and_newlines tail)
 dropped_parts {rest} {header} {tail} h = search (arith, dropped_around, after-dropped_none)
 
 -- the fragment of a text that is cut at its first comma is that of its tail
