@@ -78,6 +78,7 @@ impl<'a> Pieces<'a> {
     /// The pieces before None join to the text before its first `#`, without tabs and newlines, percent-decoded
     /// ([URL Standard, section 1.3](https://url.spec.whatwg.org/#percent-encoded-bytes)). There are at most as many
     /// as the text has bytes. A slice goes as far as it can.
+    #[tactic(auto, using(crate::proofs::escapes::Walking::walking))]
     pub fn next(&mut self) -> Option<Piece<'a>>
         ensures text { self.new.text ≡ self.old.text }
         ensures bytes { self.old.rest ≡ bytes_of_next result ++ self.new.rest }
@@ -96,6 +97,7 @@ impl<'a> Pieces<'a> {
     /// Returns the text after the first `#`, as it was given
     /// ([URL Standard, section 4.4, fragment state](https://url.spec.whatwg.org/#fragment-state)), or None if there
     /// is no `#`. It may be called once `next` has returned None.
+    #[tactic(auto, using(crate::proofs::escapes::Walking::walking))]
     pub fn fragment(&self) -> Option<&'a str>
         requires { IsTrue self.now.ended }
         ensures { option_map (λ fragment. fragment.now) result ≡ after number_sign self.now.text }
@@ -117,6 +119,7 @@ impl<'a> Pieces<'a> {
     }
 
     /// Returns whether the walk is known to be at the end of the body.
+    #[tactic(auto, using(crate::proofs::escapes::Walking::walking))]
     pub(crate) fn has_ended(&self) -> bool
         ensures ended { result ≡ self.now.ended }
         ensures over { IsTrue result → self.now.rest ≡ [] }
@@ -125,6 +128,7 @@ impl<'a> Pieces<'a> {
     }
 
     /// Returns the place in the text where the body ends, of a walk that has ended.
+    #[tactic(auto, using(crate::proofs::escapes::Walking::walking))]
     pub(crate) fn end(&self) -> usize
         requires { IsTrue self.now.ended }
         ensures { IsBodyEnd self.now.text result }

@@ -25,6 +25,7 @@ pub(crate) fn after_scheme(text: &str) -> Option<&str>
 
 /// Returns what follows the scheme, byte by byte, if it is not spelled as it commonly is.
 #[inline(never)]
+#[tactic(auto, using(crate::proofs::front::Cuts::spelling))]
 fn after_respelled_scheme(text: &str) -> Option<&str>
     ensures found { IfSome result (λ rest. IsSchemeAndRest text.now rest.now) }
     ensures none { IfNone result (HasNoScheme text.now) }
@@ -57,6 +58,7 @@ pub(crate) struct Front<'a> {
 }
 
 /// The text cut at its first comma, unless a `#` comes before it.
+#[tactic(auto, using(crate::proofs::front::Cuts::commas))]
 pub(crate) fn split_at_comma(text: &str) -> Option<Front<'_>>
     ensures found { IfSome result (λ f. IsHeaderAndTail text.now f.header.now f.tail.now) }
     ensures plain { IfSome result (λ f. f.is_plain ≡ true

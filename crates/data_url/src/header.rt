@@ -36,6 +36,7 @@ fn dropped_end_len(path: &[u8]) -> usize
 
 /// Splits off the space at the end of a path that a query follows; tabs and newlines after the space are skipped.
 /// Returns the path without it, and the space as it is written.
+#[tactic(auto, using(crate::proofs::header::Serialising::last_spaces))]
 fn split_last_space<'a>(path: &'a [u8], query: &[u8]) -> (&'a [u8], &'static str)
     ensures { (header : List ℕ) → IsPathAndQuery header path.now query.now
         → encoded_parts result.0.now result.1.now query.now
@@ -71,6 +72,7 @@ fn serialised(alloc: Global, header: &[u8]) -> Result<String, AllocError>
 
 /// Returns the text before `;`, spaces and `base64` (in any ASCII case) at the end of a header, or None if it ends
 /// otherwise.
+#[tactic(auto, using(crate::proofs::header::Suffix::suffixes))]
 fn without_suffix(header: &str) -> Option<&str>
     requires { IsPrintable header.now }
     ensures text { as_option result ≡ before_base64 header.now }
@@ -105,6 +107,7 @@ pub(crate) fn serialise(
 }
 
 /// The serialised text of a header.
+#[tactic(auto, using(crate::proofs::header::Stages::stages))]
 pub(crate) fn serialised_text<'a>(text: &'a Option<String>, header: &'a str) -> &'a str
     requires { IsSerialised header.now text.now }
     ensures text { result.now ≡ header_text (without_tabs_and_newlines header.now) }

@@ -4,7 +4,6 @@
 ghost use Rattle.std.specs.Prelude.{◌≡◌, ◌≤◌, ◌+◌, IfErr, IfOk, Some, length};
 ghost use Rattle.std.specs.Fn.{CalledAt};
 ghost use Rattle.data_url.specs.DataUrl.{Decodes, IsFragmentOf, IsProcessed, mime_of, url_body, url_tail};
-ghost use Rattle.data_url.specs.Steps.Tail.{IsBodyEnd};
 ghost use Rattle.data_url.specs.Fetch.{Good};
 ghost use Rattle.data_url.specs.Errors.{IsBodyErrorOf};
 
@@ -82,6 +81,7 @@ impl<'a> DataUrl<'a> {
     /// does and there is no comma before its fragment. Neither depends on allocation. Returns `OutOfMemory` only for
     /// other texts, if allocation fails. A URL whose base64 body is not valid is accepted: decoding its body returns
     /// the error.
+    #[tactic(auto, using(crate::proofs::header::Stages::stages))]
     pub fn process(alloc: Global, input: &'a str) -> Result<DataUrl<'a>, DataUrlError>
         ensures { IsProcessed input.entry.now result }
     {
@@ -111,14 +111,6 @@ impl<'a> DataUrl<'a> {
         ensures { result.now ≡ mime_of self.now }
     {
         &self.mime_type
-    }
-
-    /// Returns the fragment of a URL whose body ends at the place.
-    fn fragment_at(&self, place: usize) -> Option<FragmentIdentifier<'a>>
-        requires { IsBodyEnd (url_tail self.now) place }
-        ensures { IsFragmentOf (url_tail self.now) result }
-    {
-        Some(FragmentIdentifier::new(fragment_at(self.tail, place)?))
     }
 
     /// Returns how much room to allocate first for a body that begins with `front` bytes as they are in the text: room for
@@ -163,7 +155,10 @@ impl<'a> DataUrl<'a> {
         let (front, pieces) = Pieces::after_front(self.tail);
         let (answer, write) = decode_body(front, pieces, self.base64, write_body_bytes);
         match answer {
-            Ok(place) => (Ok(self.fragment_at(place)), write),
+            Ok(place) => (
+                Ok(fragment_at(self.tail, place).map(FragmentIdentifier::new)),
+                write,
+            ),
             Err(error) => (Err(error), write),
         }
     }
@@ -219,7 +214,10 @@ impl<'a> DataUrl<'a> {
             |piece: &[u8]| -> Result<(), AllocError> { bytes.extend_from_slice(piece) },
         );
         match ended.0 {
-            Ok(place) => Ok((bytes, self.fragment_at(place))),
+            Ok(place) => Ok((
+                bytes,
+                fragment_at(self.tail, place).map(FragmentIdentifier::new),
+            )),
             Err(error) => Err(DecodeToVecError::of(error)),
         }
     }

@@ -1,14 +1,15 @@
 -- Hexadecimal digits in a text, after tabs and newlines. For `escape` and `escape_here`.
 use Rattle.std.proofs.Common.{◌≡◌, ℕ, zero, suc, ◌+◌, ◌*◌, ◌-◌, ◌<◌, ◌≤◌, Bool, true, false, not, cond, ◌&&◌, eqb, ltb, List, []}
-use Rattle.std.proofs.Common.{◌∷◌, length, drop, get_or, Option, None, Some, refl, sym, ap, ◌∙◌, arith, eqb-true, subst, inl, inr}
-use Rattle.std.specs.Prelude.{◌==◌, MatchOption}
+use Rattle.std.proofs.Common.{◌∷◌, length, drop, get_or, Option, None, Some, refl, sym, ap, ◌∙◌, arith, eqb-true, subst}
+use Rattle.std.specs.Prelude.{◌==◌}
 use Rattle.std.specs.Char.{digit_value, is_ascii_hexdigit}
 use Rattle.std.proofs.lemmas.Bool.{agree_below_at, and_left, and_right, cases_Bool}
 use Rattle.std.proofs.lemmas.List.{drop_more, get_or-drop, length-drop}
 use Rattle.std.proofs.lemmas.List.Sums.{prefix_len-drop_yes}
+use Rattle.std.proofs.lemmas.Nat.{le_or_l, le_or_r}
 use Rattle.data_url.specs.Percent.{begins_with_escape}
 use Rattle.data_url.specs.Url.{after, front, is_tab_or_newline}
-use Rattle.data_url.specs.Steps.Digits.{DigitFound, EscapeAt, NoDigit, NoEscape, Skipped, IsCode, cleaned}
+use Rattle.data_url.specs.Steps.Digits.{DigitFound, EscapeAt, NoDigit, NoEscape, Skipped, IsCode, IsDigitFrom, cleaned}
 use Rattle.data_url.specs.Steps.Looks.{before_percent}
 use Rattle.data_url.specs.declared.escapes.digits.TheConstants.{DIGITS}
 use Rattle.data_url.proofs.texts.Bytes.{before_nil, before_other, before_same, after_other, dropped_keeps, dropped_nil}
@@ -165,7 +166,8 @@ percent_first text place l h = grind (arith, drop_more text place 0, cleaned_kee
 pub escape_no_high : {text : List ℕ} {place looks looks' : ℕ} → place < length text → get_or text place 0 ≡ 37
     → NoDigit text (place + 1) looks looks' → NoEscape text place looks looks'
 escape_no_high {text} {place} {looks} {looks'} l h n = record {
-  none_is = ap begins_with_escape (percent_first text place l h).0 ∙ no_high (cleaned (drop (place + 1) text)) (no_digit n);
+  none_is = ap begins_with_escape (percent_first text place l h).0
+      ∙ no_high (cleaned (drop (place + 1) text)) (no_digit n);
   looks_grow = n.looks_grow;
   looks_are = let s = same n.skipped in grind arith;
 }
@@ -216,15 +218,18 @@ pub escape_at : (text : List ℕ) (place a b high low : ℕ) → place + 3 ≤ l
     → a ≡ get_or text (place + 1) 0 → b ≡ get_or text (place + 2) 0 → IsCode a high → IsCode b low → high < 16
     → low < 16 → EscapeAt text place (high * 16 + low) (place + 3)
 escape_at text place a b high low w h e f p q l m =
-    let first = digit_at text (place + 1) high (place + 2) (omega arith) (omega arith) (subst (λ x. IsCode x high) e p) l in
-    let second = digit_at text (place + 2) low (place + 3) (omega arith) (omega arith) (subst (λ x. IsCode x low) f q) m in
+    let a_code = subst (λ x. IsCode x high) e p in
+    let first = digit_at text (place + 1) high (place + 2) (omega arith) (omega arith) a_code l in
+    let b_code = subst (λ x. IsCode x low) f q in
+    let second = digit_at text (place + 2) low (place + 3) (omega arith) (omega arith) b_code m in
     escape_both {text = text} refl (omega arith) h first second
 
 -- after a tab or newline, what is found from the next index on is found from its index on
 pub digit_further : {text same : List ℕ} {place looks' : ℕ} (looks looks'' : ℕ) (found : Option (ℕ × ℕ)) → same ≡ text
     → place < length text → is_tab_or_newline (get_or text place 0) ≡ true → looks' ≡ looks + 1
-    → MatchOption found (NoDigit same (place + 1) looks' looks'')
-    (λ d. DigitFound same (place + 1) looks' d.0 d.1 looks'')
-    → MatchOption found (NoDigit text place looks looks'') (λ d. DigitFound text place looks d.0 d.1 looks'')
+    → IsDigitFrom same (place + 1) looks' looks'' found → IsDigitFrom text place looks looks'' found
 digit_further {text} {same} {place} {looks'} looks looks'' None e l code n h = grind arith
 digit_further {text} {same} {place} {looks'} looks looks'' (Some d) e l code n h = grind arith
+
+-- the lemmas for `digit`, `escape` and `escape_here`
+pub ruleset digits = (digit_further, escape_no_high, le_or_l, le_or_r)

@@ -4,10 +4,11 @@ use Rattle.std.proofs.Common.{◌∷◌, ◌++◌, length, take, drop, map, min,
 use Rattle.std.proofs.Common.{get_or, subst, bit_and, w8, Fits, ◌≢◌, not, inl, inr}
 use Rattle.std.specs.Prelude.{slice_range}
 use Rattle.std.specs.Simd.Lanes.{chunk, mask_l, put_chunk, Each1, top, zip2}
-use Rattle.std.proofs.lemmas.List.{take_all, length-drop, drop-replicate, length-take-le, take_rest, take-append-le, take-take}
-use Rattle.std.proofs.lemmas.List.{drop-map, drop-drop, ext_get_or, get_or-map, length-map, map-id}
+use Rattle.std.proofs.lemmas.List.{drop_all, drop-take, length-take, take_all, length-drop, drop-replicate, length-take-le, take_rest, take-append-le, take-take}
+use Rattle.std.proofs.lemmas.List.{drop-map, drop-drop, length-map, map-id}
+use Rattle.std.proofs.Math.Seq.{take-append-add}
 use Rattle.std.proofs.Math.Nat.{div-div-eq-div-mul, mul_comm, pow-suc}
-use Rattle.std.proofs.lemmas.Simd.{put_chunk_whole, SwzOk, SwzOk-from_below, get_or-swz_l_below, length-swz_l}
+use Rattle.std.proofs.lemmas.Simd.{put_chunk_whole, SwzOk, SwzOk-from_below, get_or-swz_l_below}
 use Rattle.std.proofs.lemmas.Simd.{mask_l-mod, swz_l, tops_compared, zip2_of_maps, zip2_splat, none_from_empty_mask}
 use Rattle.std.proofs.lemmas.Simd.{run_in_chunk_fails, run_in_chunk_le, run_in_chunk_stops, trailing_mask_l}
 use borrow.Rule.Slice.PartMut.{mid_of, post_of, put_mid}
@@ -23,14 +24,6 @@ use Rattle.data_url.specs.declared.escapes.stops.Block.{Block}
 use Rattle.data_url.proofs.escapes.Reading.{paid_on}
 
 -- Blocks of a text: their marks, and stretches that are copied into a buffer.
-
--- a list taken past its first part
-pub take_past : (p q : List ℕ) (n m : ℕ) → length p ≡ n → take (n + m) (p ++ q) ≡ p ++ take m q
-take_past [] q n m e = let z : n + m ≡ m = let l : 0 ≡ n = e in omega arith in ap (λ k. take k q) z
-take_past (x ∷ p) q n m e =
-    let l : n ≡ suc (length p) = sym e in
-    let z : n + m ≡ suc (length p + m) = omega arith in
-    ap (λ k. take k (x ∷ (p ++ q))) z ∙ ap (λ t. x ∷ t) (take_past p q (length p) m refl)
 
 -- a block of 64 bytes of the text, copied into a buffer of 256 bytes, leaves its first `width` bytes there
 pub copied_wide : (room bytes text : List ℕ) (len width start : ℕ) → length room ≡ 256 → len + 64 ≤ 256 → width ≤ 64
@@ -48,8 +41,8 @@ copied_wide room bytes text len width start long l w h e =
     let whole : put_chunk 0 mid (take 64 (drop start text)) ≡ take 64 (drop start text) = put_chunk_whole mid _
     (size ∙ sym (length-take-le 64 (drop start text) (omega (arith, length-drop start text)))) in
     cc (
-      take_past (take len room) (take 64 (drop start text) ++ post_of len (len + 64 - len) room) len width
-          (length-take-le len room (omega arith)),
+      length-take-le len room (omega arith),
+      take-append-add (take len room) (take 64 (drop start text) ++ post_of len (len + 64 - len) room) width,
       take-append-le width (take 64 (drop start text)) (post_of len (len + 64 - len) room)
           (omega (arith, length-take-le 64 (drop start text), length-drop start text)),
       take-take width 64 (drop start text) w,
@@ -63,7 +56,7 @@ no_marks (suc k) = let e = no_marks k in omega arith
 -- zeros that are appended do not change the marks
 pub marks_padded : (xs : List ℕ) (k : ℕ) → mask_l (map is_marked (xs ++ replicate k 0)) ≡ mask_l (map is_marked xs)
 marks_padded [] k = no_marks k
-marks_padded (x ∷ xs) k = grind (arith, marks_padded xs k)
+marks_padded (x ∷ xs) k = ap (λ m. cond (is_marked x) 1 0 + 2 * m) (marks_padded xs k)
 
 -- the marks of fewer than 64 bytes, copied into a block of zeros
 pub marks_of_rest : (rest new zeros : List ℕ) (r k : ℕ) → new ≡ rest → zeros ≡ replicate 64 0 → k ≡ length rest
@@ -82,7 +75,8 @@ block_at text bytes place seen marks e l s m =
     let all : take (length bytes - place) (drop place bytes) ≡ drop place text = cc (take_rest bytes place) in
     let same : take 64 (drop place text) ≡ slice_range text place seen = elim (cases_lt 64 (length text - place)) [
       | inl h ↦ let k : 64 ≡ seen - place = omega arith in ap (λ i. take i (drop place text)) k
-      | inr h ↦ take_all 64 (drop place text) (omega arith) ∙ sym (take_all (seen - place) (drop place text) (omega arith))
+      | inr h ↦ take_all 64 (drop place text) (omega arith)
+          ∙ sym (take_all (seen - place) (drop place text) (omega arith))
     ] in
     record { base_le = omega arith; seen_le = omega arith; short = omega arith; marks_are = cc }
 
@@ -99,17 +93,14 @@ mask_later (b ∷ bs) (suc k) =
     let p : 2 ^ suc k ≡ 2 * 2 ^ k = pow-suc 2 k ∙ mul_comm (2 ^ k) 2 in
     cc (div-div-eq-div-mul (mask_l (b ∷ bs)) 2 (2 ^ k), mask_half b bs, mask_later bs k)
 
--- nothing can be taken from the empty list
-pub take_none : (k : ℕ) → ◌≡◌ {A = List ℕ} [] (take k [])
-take_none zero = refl
-take_none (suc k) = refl
-
 -- the first n items without the first k are n - k items after the first k
 pub drop_taken : (k n : ℕ) (xs : List ℕ) → drop k (take n xs) ≡ take (n - k) (drop k xs)
-drop_taken zero n xs = grind arith
-drop_taken (suc k) zero xs = grind arith
-drop_taken (suc k) (suc n) [] = take_none (suc n - suc k)
-drop_taken (suc k) (suc n) (x ∷ xs) = grind (arith, drop_taken k n xs)
+drop_taken k n xs = elim (cases_lt n k) [
+  | inl l ↦
+      let none : n - k ≡ 0 = omega arith in
+      drop_all k (take n xs) (omega (arith, length-take n xs)) ∙ ap (λ i. take i (drop k xs)) (sym none)
+  | inr l ↦ let e : k + (n - k) ≡ n = omega arith in ap (λ i. drop k (take i xs)) (sym e) ∙ drop-take k (n - k) xs
+]
 
 -- The marks of a block: lanes that are looked up in a table and compared.
 
@@ -188,17 +179,10 @@ marks_are v long fits =
 
 -- The next marked byte of a text, by the marks of a block.
 
--- if no lane passes, the mask is 0
-mask_cases : (p : ℕ → Bool) (x : ℕ) (xs : List ℕ) (b : Bool) → p x ≡ b
-    → cond (not b) (1 + prefix_len (λ y. not (p y)) xs) 0 ≡ suc (length xs)
-    → (prefix_len (λ y. not (p y)) xs ≡ length xs → mask_l (map p xs) ≡ 0) → cond b 1 0 + 2 * mask_l (map p xs) ≡ 0
-mask_cases p x xs true e h k = absurd (omega arith)
-mask_cases p x xs false e h k = grind arith
-
 -- if no item of a list passes a test, the mask of the items that pass is 0
 mask_none : (p : ℕ → Bool) (xs : List ℕ) → prefix_len (λ y. not (p y)) xs ≡ length xs → mask_l (map p xs) ≡ 0
 mask_none p [] h = refl
-mask_none p (x ∷ xs) h = mask_cases p x xs (p x) refl h (λ k. mask_none p xs k)
+mask_none p (x ∷ xs) h = grind (arith, mask_none p xs)
 
 -- the marks of a block, shifted by the distance from its start to an index, are those of the block from the index on
 pub block_from : {s : Source} {b : Block} {place marks : ℕ} → Looking s b place 0 → place ≤ b.seen
@@ -215,7 +199,7 @@ looking_block {s} {s'} {b} {b'} {place} k l t e i n = grind arith
 pub found : {text : List ℕ} {place seen marks : ℕ} (width : ℕ) → IsBlock text place seen marks → marks ≢ 0
     → width ≡ count_trailing_zeros 64 marks → (place + width < seen) × IsNextMark text place (place + width)
 found {text} {place} {seen} {marks} width h n e =
-    grind (
+    search (
       arith,
       length-drop,
       length-take-le,

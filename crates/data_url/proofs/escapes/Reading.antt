@@ -154,7 +154,8 @@ pub paid_on : (text : List ℕ) (from to : ℕ) → from ≤ to → paid text fr
 paid_on text from to l = grind (arith, percent_drop (to - from) (drop from text), drop-drop)
 
 -- the bound is at most twice the length of the text
-pub paid_le : (text : List ℕ) (place : ℕ) → place ≤ length text → paid text place + (length text - place) ≤ 2 * length text
+pub paid_le : (text : List ℕ) (place : ℕ) → place ≤ length text
+    → paid text place + (length text - place) ≤ 2 * length text
 paid_le text place p = grind (arith, prefix_len-le-length, length-drop)
 
 -- at a '%' the bound is twice its index
@@ -176,8 +177,8 @@ pub stop_escape : {text : List ℕ} {place value end looks looks' : ℕ} → pla
 stop_escape {text} {place} {value} {end} {looks} {looks'} l h e n = search (arith, paid_percent, escape_ends)
 
 -- a tab or newline is passed, and pays for one look
-pub stop_passed : (text : List ℕ) (place looks : ℕ) → place < length text → is_tab_or_newline (get_or text place 0) ≡ true
-    → IsStop text place looks (looks + 1) Passed
+pub stop_passed : (text : List ℕ) (place looks : ℕ) → place < length text
+    → is_tab_or_newline (get_or text place 0) ≡ true → IsStop text place looks (looks + 1) Passed
 stop_passed text place looks l h =
     let p = paid_on text place (place + 1) (omega arith) in
     (grind (arith, drop_more), spells_passed text place l h, grind arith)

@@ -6,11 +6,10 @@ use Rattle.std.specs.Prelude.{slice_range, IfNone}
 use Rattle.std.proofs.lemmas.List.{take_all, drop_more, drop-drop, length-drop, drop_all, append-nil, take_more_set}
 use Rattle.std.proofs.lemmas.List.{length-take-le, append_cancel_right, take-append-drop}
 use Rattle.data_url.specs.Fetch.{plain_body}
-use Rattle.data_url.specs.Pieces.{text_of, IsPiece, IsStretch, bytes_of, has_ended, is_slice_end, walk_of}
+use Rattle.data_url.specs.Pieces.{Walk, text_of, IsStretch, bytes_of, has_ended, is_slice_end, walk_of}
 use Rattle.data_url.specs.Steps.Chunks.{IsFront, IsOver, Takes}
 use Rattle.data_url.specs.Steps.Digits.{EscapeAt, cleaned}
 use Rattle.data_url.specs.Steps.Tail.{BeginsFragment, IsBodyEnd, rest_fragment}
-use Rattle.data_url.specs.Pieces.{Walk}
 use Rattle.data_url.specs.Steps.Walk.{Ended, EndsAt, Gathers, GoesOn, IsBlock, IsClear, IsNextMark, IsPart, Knows}
 use Rattle.data_url.specs.Steps.Walk.{KnowsAhead, Looking, LooksOn, MayGather, Moves, Pays, Reads, Searching, Spells}
 use Rattle.data_url.specs.Steps.Window.{is_marked}
@@ -50,7 +49,8 @@ none_before x y h = elim (none_or_some (after 35 x)) [
       let cut = is_cut 35 x rest e in
       let all : after 35 (x ++ y) ≡ Some (rest ++ y) = grind (arith, append_assoc, after_at) in
       let long = is_cut 35 y (rest ++ y) (sym h ∙ all) in
-      absurd (omega (arith, ap length long.joined, length-append (before 35 y) (35 ∷ (rest ++ y)), length-append rest y))
+      let size = ap length long.joined in
+      absurd (omega (arith, length-append (before 35 y) (35 ∷ (rest ++ y)), length-append rest y))
 ]
 
 -- the text between two indices has no '#'
@@ -81,6 +81,10 @@ in_front {s} h = before_all 35 s h
 
 -- Searching
 
+-- a search begins with an empty stretch
+pub searching_none : (text : List ℕ) (place : ℕ) → place ≤ length text → Searching text place place place
+searching_none text place l = let s = spells_none text place l in grind arith
+
 -- a stretch goes on up to the next mark
 pub searching_clear : {text : List ℕ} {from place to mark : ℕ} → Searching text from place to → IsNextMark text to mark
     → Searching text from place mark
@@ -97,6 +101,11 @@ searching_percent {text} {from} {place} {mark} s h p =
     let within = p.reads.within in
     let more = spells_then s.stretch p in
     grind (arith, slice_join text place mark (mark + 1) (omega arith) (omega arith), drop_more)
+
+-- a tab or newline before the stretch is skipped
+pub searching_passed : {text : List ℕ} {from place mark : ℕ} → Searching text from place mark → mark ≡ place
+    → Spells text mark (mark + 1) [] [] → Searching text from (mark + 1) (mark + 1)
+searching_passed {text} {from} {place} {mark} s e p = grind (arith, spells_then, spells_none)
 
 -- Pieces
 
@@ -160,11 +169,11 @@ knows_on {c} {c'} {next} k g a = let text = g.on.text_stays in record { after_is
 -- a walk that stops at the end of the body ends there
 pub ended_at : {c : Cursor} {s : Source} {b : Block} {mark : ℕ} → Looking s b mark 0 → c.source.text.now ≡ s.text.now
     → EndsAt s.text.now mark → c.source.looks + mark ≤ s.looks + length s.text.now → c.place ≡ mark → Ended c
-ended_at {c} {s} {b} {mark} k t h l e = grind (arith, paid_le)
+ended_at {c} {s} {b} {mark} k t h l e = let p = paid_le s.text.now mark k.within in grind arith
 
 -- if `ahead` is a, and what a says is true, what `ahead` says is true
 pub ahead_is : (c : Cursor) (a : Ahead) → c.ahead ≡ a → KnowsAhead c a → KnowsAhead c c.ahead
-ahead_is c a e k = grind arith
+ahead_is c a e k = subst (KnowsAhead c) (sym e) k
 
 -- a walk that knows that its body ends at its index ends there
 ended_cases : {c : Cursor} (a : Ahead) → KnowsAhead c a → has_ended a ≡ true → Ended c
@@ -180,7 +189,7 @@ ended_of {c} k e = ended_cases c.ahead k.ahead_is e
 -- what follows the first '#' of a text that is empty or begins with '#' is its fragment
 begun_fragment : (s : List ℕ) → BeginsFragment s → after 35 s ≡ rest_fragment s
 begun_fragment [] h = after_nil 35
-begun_fragment (b ∷ s) h = grind (arith, after_same)
+begun_fragment (b ∷ s) h = ap (λ v. after 35 (v ∷ s)) h ∙ after_same 35 s
 
 -- where a walk ends, the body of its text ends
 pub body_end : {c : Cursor} → Knows c → has_ended c.ahead ≡ true → IsBodyEnd (text_of c) c.place
@@ -222,6 +231,11 @@ pub gathers_byte : {c c' : Cursor} {room : List ℕ} {len b : ℕ} → LooksOn c
     → Reads (text_of c) c.place c'.place (b ∷ []) → len < length room → Gathers c c' room (set room len b) len (len + 1)
 gathers_byte {c} {c'} {room} {len} {b} on r l = grind (arith, take_more_set)
 
+-- only the walk goes on, and nothing is written
+pub gathers_nothing : {c c' : Cursor} {room : List ℕ} {len : ℕ} → LooksOn c.source c'.source
+    → Reads (text_of c) c.place c'.place [] → Gathers c c' room room len len
+gathers_nothing {c} {c'} {room} {len} on r = grind (arith, append-nil)
+
 -- a stretch without marks is copied from the block, and the walk goes on after it
 pub gathers_clear : {c : Cursor} {room room' : List ℕ} {len : ℕ} (to : ℕ) → MayGather c len → c.place < c.block.seen
     → c.place ≤ to → to ≤ c.block.seen → IsClear (text_of c) c.place to
@@ -247,6 +261,11 @@ gathers_clear {c} {room} {room'} {len} to m h l w clear e =
       },
     )
 
+-- an escape is read as the byte of its value
+pub reads_escape : {text : List ℕ} {place value end : ℕ} → EscapeAt text place value end
+    → Reads text place end (value ∷ [])
+reads_escape e = (spells_escape e).reads
+
 -- the value of an escape directly after another one
 pub gathers_escape : {c0 c c' : Cursor} {room0 room : List ℕ} {len0 len value : ℕ} → Gathers c0 c room0 room len0 len
     → LooksOn c.source c'.source → EscapeAt (text_of c) c.place value c'.place → len < length room
@@ -267,7 +286,7 @@ smaller c0 {c1} {c'} {room} {room'} {len} {len'} total u p t m g = grind arith
 
 -- where a walk has ended, nothing of the body is left
 pub rest_over : {c : Cursor} → Knows c → has_ended c.ahead ≡ true → plain_body (drop c.place (text_of c)) ≡ []
-rest_over {c} k e = grind (arith, ends_empty, ended_of)
+rest_over {c} k e = ends_empty (drop c.place (text_of c)) (ended_of k e).ends.begins
 
 -- if there is no next piece, nothing of the body is left
 pub over_rest : (next : Option Piece) {c c' : Cursor} → GoesOn c next c' → Knows c'
@@ -276,20 +295,15 @@ over_rest None g k = rest_over k g.ended
 over_rest (Some p) g k = tt
 
 -- a piece has at least one byte
-some_bytes : (p : Piece) (text : List ℕ) (from to : ℕ) → to ≤ length text → IsPiece text from to p
-    → 0 < length (bytes_of p)
-some_bytes (Slice slice) text from to w h = grind (arith, length-drop, length-take-le)
-some_bytes (Byte byte) text from to w h = omega arith
-
--- a piece has at least one byte
-piece_some : {p : Piece} {c c' : Cursor} → GoesOn c (Some p) c' → 0 < length (bytes_of p)
-piece_some {p} {c} {c'} g = grind (arith, some_bytes)
+piece_some : (p : Piece) {c c' : Cursor} → GoesOn c (Some p) c' → 0 < length (bytes_of p)
+piece_some (Slice slice) {c} {c'} g = grind (arith, length-drop, length-take-le)
+piece_some (Byte byte) g = omega arith
 
 -- a walk that has ended returns no further piece
 pub again : (next : Option Piece) {c c' : Cursor} → Knows c → GoesOn c next c' → has_ended c.ahead ≡ true → next ≡ None
 again None k g e = refl
 again (Some p) {c} {c'} k g e =
-    grind (arith, piece_some g, rest_over k e, length-append (bytes_of p) (plain_body (drop c'.place (text_of c))))
+    grind (arith, piece_some p g, rest_over k e, length-append (bytes_of p) (plain_body (drop c'.place (text_of c))))
 
 -- whatever a walk knows about its index, it has read at most three times as many bytes as its text has
 looks_cases : (c : Cursor) (a : Ahead) → KnowsAhead c a → c.source.looks ≤ 3 * length (text_of c)
@@ -311,3 +325,21 @@ takes_next {c} {c1} {c2} {room0} {room} {len} p g e h = grind (arith, piece_some
 pub over_next : {c c1 c2 : Cursor} {room0 room : List ℕ} {len : ℕ} → Gathers c c1 room0 room 0 len → len ≡ 0
     → GoesOn c1 None c2 → Knows c2 → IsOver (walk_of c) (walk_of c2)
 over_next {c} {c1} {c2} g e h k = grind (arith, rest_over)
+
+-- the lemmas for the functions that gather bytes
+pub ruleset gathering = (
+  gathers_byte,
+  gathers_nothing,
+  gathers_then,
+  gathers_escape,
+  reads_escape,
+  looking_escape,
+  ended_at,
+  smaller,
+)
+
+-- the lemmas for `Pieces`
+pub ruleset walking = (body_end, rest_over, over_rest, again, few_looks)
+
+-- the lemmas for `next`
+pub ruleset nexts = (byte_next, knows_on, looking_escape, ahead_is)

@@ -1,12 +1,11 @@
 -- MIME types with their records and printed texts, by computation.
-use Rattle.std.proofs.Common.{◌≡◌, ℕ, true, List, [], ◌∷◌, ◌++◌, inr, codes}
-use Rattle.std.proofs.Common.{eq-eqb, eqb, length, refl, subst, sym, ◌∙◌, map}
+use Rattle.std.proofs.Common.{◌≡◌, ℕ, true, List, [], ◌∷◌, ◌++◌, inr, codes, eq-eqb, eqb, length, refl, subst, sym, ◌∙◌}
+use Rattle.std.proofs.Common.{map}
 use Rattle.std.specs.Prelude.{IsTrue}
 use Rattle.std.specs.List.{list_all}
 use Rattle.std.specs.Char.{to_ascii_lowercase}
 use Rattle.data_url.specs.CodePoints.{is_http_whitespace}
-use Rattle.data_url.specs.Mime.{BeginsParameters, HasNoRecord}
-use Rattle.data_url.specs.Mime.{IsRecordOf, Pair, Parses, Record, default_record}
+use Rattle.data_url.specs.Mime.{BeginsParameters, HasNoRecord, IsRecordOf, Pair, Parses, Record, default_record}
 use Rattle.data_url.specs.Mime.{is_token_text, kept_pairs, printed}
 use Rattle.data_url.proofs.examples.Literals.{on_literals}
 use Rattle.data_url.proofs.mime.TokenTexts.{every_from_all}
@@ -15,15 +14,16 @@ use Rattle.data_url.proofs.mime.Items.{trimmed_of, type_in}
 
 -- Texts with a record
 
+-- the record of a type, a subtype and parameters
+abbrev of : List ℕ → List ℕ → List Pair → Record
+of type_ subtype pairs = record { type_ = type_; subtype = subtype; parameters = pairs }
+
 -- a text of a type, a subtype, whitespace and parameters has the record with these
 reads : (s type_ subtype gap r : List ℕ) (pairs : List Pair) → IsTrue (is_token_text type_)
     → IsTrue (is_token_text subtype) → list_all is_http_whitespace gap ≡ true → BeginsParameters r
     → trimmed_of is_http_whitespace s ≡ type_ ++ (47 ∷ (subtype ++ (gap ++ r)))
-    → kept_pairs (items_in (length r) r) ≡ pairs → Parses s (record {
-      type_ = map to_ascii_lowercase type_;
-      subtype = map to_ascii_lowercase subtype;
-      parameters = pairs;
-    })
+    → kept_pairs (items_in (length r) r) ≡ pairs
+    → Parses s (of (map to_ascii_lowercase type_) (map to_ascii_lowercase subtype) pairs)
 reads s type_ subtype gap r pairs t u spaces begins joined are = record {
   type_ = type_;
   subtype = subtype;
@@ -47,7 +47,7 @@ reads s type_ subtype gap r pairs t u spaces begins joined are = record {
 
 -- the record x/x with these parameters
 abbrev x_x : List Pair → Record
-x_x pairs = record { type_ = codes "x"; subtype = codes "x"; parameters = pairs }
+x_x pairs = of (codes "x") (codes "x") pairs
 
 -- a text of type and subtype x has these parameters
 reads_x : (r : List ℕ) (pairs : List Pair) → BeginsParameters r
@@ -57,21 +57,14 @@ unfolding on_literals
 reads_x r pairs begins ends are = reads (codes "x/x" ++ r) (codes "x") (codes "x") [] r pairs refl refl refl begins ends are
 
 -- a semicolon in quotes, a missing value, and an empty value in quotes
-quotes : Parses (codes "TEXT/HTML;a=" ++ (34 ∷ codes "b;c" ++ (34 ∷ codes ";d=;e=" ++ (34 ∷ 34 ∷ [])))) (record {
-  type_ = codes "text";
-  subtype = codes "html";
-  parameters = (codes "a", codes "b;c") ∷ (codes "e", []) ∷ [];
-})
+quotes : Parses (codes "TEXT/HTML;a=" ++ (34 ∷ codes "b;c" ++ (34 ∷ codes ";d=;e=" ++ (34 ∷ 34 ∷ []))))
+    (of (codes "text") (codes "html") ((codes "a", codes "b;c") ∷ (codes "e", []) ∷ []))
 unfolding on_literals
 quotes = reads _ (codes "TEXT") (codes "HTML") []
     (codes ";a=" ++ (34 ∷ codes "b;c" ++ (34 ∷ codes ";d=;e=" ++ (34 ∷ 34 ∷ [])))) _ refl refl refl refl refl refl
 
 -- whitespace is removed at both ends, after the subtype and before a name; at the end of a name it is kept
-whitespace : Parses (codes " a/b ; c=d ") (record {
-  type_ = codes "a";
-  subtype = codes "b";
-  parameters = (codes "c", codes "d") ∷ [];
-})
+whitespace : Parses (codes " a/b ; c=d ") (of (codes "a") (codes "b") ((codes "c", codes "d") ∷ []))
 unfolding on_literals
 whitespace = reads _ (codes "a") (codes "b") (codes " ") (codes "; c=d") _ refl refl refl refl refl refl
 
@@ -185,11 +178,7 @@ unfolding on_literals
 printed_default = refl
 
 -- a value that needs quotes, and an empty one
-printed_quotes : printed (record {
-  type_ = codes "text";
-  subtype = codes "html";
-  parameters = (codes "a", codes "b;c") ∷ (codes "e", []) ∷ [];
-})
+printed_quotes : printed (of (codes "text") (codes "html") ((codes "a", codes "b;c") ∷ (codes "e", []) ∷ []))
     ≡ codes "text/html;a=" ++ (34 ∷ codes "b;c" ++ (34 ∷ codes ";e=" ++ (34 ∷ 34 ∷ [])))
 unfolding on_literals
 printed_quotes = refl
@@ -201,7 +190,7 @@ unfolding on_literals
 printed_escapes = refl
 
 -- a record that parsing cannot return is printed too
-printed_by_hand : printed (record { type_ = codes "a b"; subtype = []; parameters = ([], 233 ∷ []) ∷ [] })
+printed_by_hand : printed (of (codes "a b") [] (([], 233 ∷ []) ∷ []))
     ≡ codes "a b/;=" ++ (34 ∷ 233 ∷ 34 ∷ [])
 unfolding on_literals
 printed_by_hand = refl

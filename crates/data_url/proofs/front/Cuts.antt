@@ -1,22 +1,22 @@
 -- The scheme, and the first comma of a text. For `after_scheme` and `split_at_comma`.
-use Rattle.std.proofs.Common.{◌≡◌, ◌≢◌, ℕ, ◌+◌, ◌<◌, ◌≤◌, Bool, true, false, List, [], ◌∷◌, ◌++◌, length, get_or, take}
+use Rattle.std.proofs.Common.{◌≡◌, ◌≢◌, ℕ, ◌+◌, ◌<◌, Bool, true, false, List, ◌∷◌, ◌++◌, length, get_or, take}
 use Rattle.std.proofs.Common.{drop, map, nat_eq, subst, length-append, codes, refl, sym, ap, ◌∙◌, ⊎_elim, arith}
 use Rattle.std.proofs.Common.{◌-◌, Option, None, Some, position, ap₂, ◌⊎◌, eqb-true}
 use Rattle.std.specs.Char.{to_ascii_lowercase}
 use Rattle.std.specs.Str.{IsCharBoundary, IsUtf8}
 use Rattle.std.proofs.lemmas.Bool.{cases_lt, cond-true, lt-ltb, or_cases, or_parts}
-use Rattle.std.proofs.lemmas.List.{get_or_at, get_or-map, take_more, get_or-take, length-map, length-take, map-append, take-append-le}
+use Rattle.std.proofs.lemmas.List.{get_or_at, take_more, get_or-take, length-map, length-take, map-append, take-append-le}
 use Rattle.std.proofs.lemmas.List.{take-map, drop_more, get_or-drop, length-drop, take-append-drop, take_all}
 use Rattle.std.proofs.lemmas.Slice.Eq.{bytes_eq-Decides, starts_is}
 use Rattle.std.specs.List.{starts_with, prefix_len}
 use Rattle.std.proofs.lemmas.Bool.Decides.{Decides-eqb}
-use Rattle.std.proofs.lemmas.Str.{IsCharBoundary-from_take, IsUtf8-from_ascii}
+use Rattle.std.proofs.lemmas.Str.{IsCharBoundary-after_ascii, IsCharBoundary-from_take, IsUtf8-from_ascii}
 use Rattle.data_url.specs.Url.{without_tabs_and_newlines, is_tab_or_newline, after, front}
 use Rattle.data_url.specs.Steps.Front.{HasNoScheme, IsSchemeAndRest, IsHeaderAndTail, ends_header, is_plain_path}
 use Rattle.data_url.proofs.percent.Encoding.{ascii_all, Plain, plain_serialised}
 use Rattle.data_url.proofs.texts.Bytes.{append-nil, without_tabs_and_newlines-append, dropped_around, dropped_keeps, dropped_nil}
 use Rattle.data_url.proofs.texts.Bytes.{dropped_passes, before_all, before_at, after_none}
-use Rattle.std.specs.Prelude.{◌==◌, ◌||◌}
+use Rattle.std.specs.Prelude.{◌||◌}
 use Rattle.std.proofs.lemmas.List.Quantifiers.{position-Some}
 use Rattle.std.proofs.lemmas.List.Sums.{fails_before_first, prefix_len_passes}
 use Rattle.data_url.specs.Steps.Header.{header_text}
@@ -28,7 +28,7 @@ abbrev scheme : List ℕ
 scheme = codes "data:"
 
 -- a text is its first n bytes, the byte at index n, and the bytes after it
-cut_at : (s : List ℕ) (n : ℕ) → n < length s → s ≡ take n s ++ get_or s n 0 ∷ drop (n + 1) s
+pub cut_at : (s : List ℕ) (n : ℕ) → n < length s → s ≡ take n s ++ get_or s n 0 ∷ drop (n + 1) s
 cut_at s n l = sym (take-append-drop n s) ∙ ap (λ t. take n s ++ t) (drop_more s n 0 l)
 
 -- the text spells the first n bytes of the scheme, and not all of it
@@ -163,11 +163,7 @@ further_on s m k h g j l = grind (arith, get_or-drop m s (j - m) 0, cases_lt j m
 
 -- if there is no ',' or '#' before index n, the first n bytes have neither
 no_end : (s : List ℕ) (n : ℕ) → NoEndBefore s n → (after 44 (take n s) ≡ None) × (after 35 (take n s) ≡ None)
-no_end s n h =
-    let lacks = λ (k : ℕ) (l : k < n). or_parts (get_or s k 0 == 44) (get_or s k 0 == 35) (h k l) in (
-      grind (arith, after_none, length-take, get_or-take),
-      grind (arith, after_none, length-take, get_or-take),
-    )
+no_end s n h = grind (arith, or_parts, after_none, length-take, get_or-take)
 
 -- if the first ',' or '#' of a text is a ',', the bytes before it are the header, and those after it are the tail
 pub at_comma : (s : List ℕ) (n : ℕ) → IsFrontEnd s n → get_or s n 0 ≢ 35 → IsHeaderAndTail s (take n s) (drop (n + 1) s)
@@ -239,3 +235,18 @@ pub plain_before : (s items header : List ℕ) (n k : ℕ) → items ≡ s → n
     → header_text (without_tabs_and_newlines header) ≡ header
 plain_before s items header n k e f h is same =
     let plain = plain_front s items n e f h in grind (arith, plain_serialised, length-take, get_or-take)
+
+-- the lemmas for `after_respelled_scheme`
+pub ruleset spelling = (
+  dropped_nil,
+  spells_passed,
+  differs,
+  spells_all,
+  spells_more,
+  ends_early,
+  take_all,
+  IsCharBoundary-after_ascii,
+)
+
+-- the lemmas for `split_at_comma`
+pub ruleset commas = (no_front_end, at_hash, front_end_at, at_comma, IsCharBoundary-after_ascii)

@@ -19,11 +19,11 @@ use Rattle.data_url.proofs.texts.Bytes.{before_all, before_at, after-dropped_non
 use Rattle.data_url.proofs.texts.Bytes.{without_tabs_and_newlines-append, dropped_around, dropped_keeps, dropped_nil}
 use Rattle.data_url.proofs.texts.Bytes.{dropped_passes, before-append, after-append, before_other, after_other, is_cut}
 use Rattle.data_url.proofs.percent.Encoding.{encoded_cons, encoded_nil, path_cons, path_nil, percent_encoding-append}
-use Rattle.std.specs.Option.{option_map}
 use Rattle.data_url.specs.Facts.{base64_flag, serialised_with_spaces}
 use Rattle.data_url.specs.Fetch.{before_comma, is_space}
 use Rattle.data_url.specs.Mime.{DoesNotEnd}
 use Rattle.data_url.proofs.header.Suffix.{same_flag}
+use Rattle.data_url.proofs.front.Cuts.{cut_at}
 use Rattle.data_url.proofs.mime.RoundTrips.{not_ends_last}
 
 -- Serialising a header: its path, and its query.
@@ -63,41 +63,31 @@ pub suffix_passes : (p : ℕ → Bool) (s : List ℕ) (m k : ℕ) → m ≡ suff
     → p (get_or s k 0) ≡ true
 suffix_passes p s m k e far l =
     let j = length s - 1 - k in
-    let within : j < prefix_len p (reverse s) = subst (λ v. j < v) e (omega arith) in
-    let back : length s - 1 - j ≡ k = omega arith in
-    subst (λ v. p (get_or s v 0) ≡ true) back (subst (λ v. p v ≡ true) (get_or-reverse s j 0 (omega arith))
-    (prefix_len_passes p (reverse s) j 0 within))
+    grind (arith, get_or-reverse s j 0, prefix_len_passes p (reverse s) j 0, length-reverse s)
 
 -- the byte before the longest suffix that passes does not pass
 pub suffix_stops : (p : ℕ → Bool) (s : List ℕ) (m n : ℕ) → m ≡ suffix_len p s → length s ≡ (n + 1) + m
     → p (get_or s n 0) ≡ false
 suffix_stops p s m n e at =
-    let within : prefix_len p (reverse s) < length (reverse s) =
-    subst (λ v. v < length (reverse s)) e (omega (arith, length-reverse s)) in
-    let back : length s - 1 - m ≡ n = omega arith in
-    subst (λ v. p (get_or s v 0) ≡ false) back (subst (λ v. p v ≡ false) (get_or-reverse s m 0 (omega arith))
-    (subst (λ v. p (get_or (reverse s) v 0) ≡ false) (sym e) (prefix_len_stops p (reverse s) 0 within)))
+    grind (arith, get_or-reverse s m 0, prefix_len_stops p (reverse s) 0, length-reverse s)
 
 -- if byte n is the last byte of a text that is not a tab or newline, the text without these is the first n bytes
 -- without these, and then byte n
 pub dropped_end : (s : List ℕ) (m n : ℕ) → m ≡ suffix_len is_tab_or_newline s → length s ≡ (n + 1) + m
     → without_tabs_and_newlines s ≡ without_tabs_and_newlines (take n s) ++ get_or s n 0 ∷ []
 dropped_end s m n e at =
-    let l : n < length s = omega arith in
-    let kept = suffix_stops is_tab_or_newline s m n e at in
-    let parts : s ≡ take n s ++ get_or s n 0 ∷ drop (n + 1) s = cc (take-append-drop n s, drop_more s n 0 l) in
     let none : without_tabs_and_newlines (drop (n + 1) s) ≡ [] = all_dropped (drop (n + 1) s) (λ k w.
-    let within : (n + 1) + k < length s = omega (arith, length-drop (n + 1) s) in
-    subst (λ v. is_tab_or_newline v ≡ true) (sym (get_or-drop (n + 1) s k 0))
-    (suffix_passes is_tab_or_newline s m ((n + 1) + k) e (omega arith) within)) in
-    cc (dropped_around (get_or s n 0) kept (take n s) (drop (n + 1) s))
+    grind (arith, get_or-drop (n + 1) s k 0, suffix_passes is_tab_or_newline s m (n + 1 + k), length-drop (n + 1) s)) in
+    cc (
+      cut_at s n (omega arith),
+      dropped_around (get_or s n 0) (suffix_stops is_tab_or_newline s m n e at) (take n s) (drop (n + 1) s),
+    )
 
 -- if the last byte of a path that is not a tab or newline is not a space, the path has no last space
 pub has_other_end : (s : List ℕ) (m n : ℕ) → m ≡ suffix_len is_tab_or_newline s → length s ≡ (n + 1) + m
     → get_or s n 0 ≢ 32 → HasNoLastSpace s
 has_other_end s m n e at other =
-    subst (λ t. encoded_path t ≡ percent_encoding in_path_set t) (sym (dropped_end s m n e at))
-    (path_other (without_tabs_and_newlines (take n s)) (get_or s n 0) (ne_eqb (get_or s n 0) 32 other))
+    rw (dropped_end s m n e at) (path_other _ (get_or s n 0) (ne_eqb (get_or s n 0) 32 other))
 
 -- a path of only tabs and newlines has no last space
 pub has_no_end : (s : List ℕ) (m : ℕ) → m ≡ suffix_len is_tab_or_newline s → length s ≤ m → HasNoLastSpace s
@@ -223,17 +213,13 @@ data Differs (path : List ℕ) : Type 0 where
   last_space : (x : List ℕ) → encoded_path path ≡ x ++ codes "%20" → percent_encoding in_path_set path ≡ x ++ codes " "
       → Differs path
 
--- a space, encoded with the set of a path, is a space
-space_encoded : percent_encoding in_path_set (32 ∷ []) ≡ 32 ∷ []
-space_encoded = encoded_cons in_path_set 32 [] ∙ ap (λ t. 32 ∷ t) (encoded_nil in_path_set)
-
 -- a path with a last byte is the same by both rules, or ends with "%20" by one and with a space by the other
 differs_last : (path init : List ℕ) (b : ℕ) → path ≡ init ++ b ∷ [] → Differs path
 differs_last path init b e = elim (cases_Bool (b == 32)) [
   | inl h ↦
       let is : path ≡ init ++ 32 ∷ [] = e ∙ ap (λ c. init ++ c ∷ []) (eqb-true b 32 h) in
       last_space (percent_encoding in_path_set init) (ap encoded_path is ∙ path_space init)
-      (cc (percent_encoding-append in_path_set init (32 ∷ []), space_encoded))
+      (grind (arith, percent_encoding-append in_path_set init (32 ∷ []), encoded_cons, encoded_nil))
   | inr h ↦ same_path (ap encoded_path e ∙ path_other init b h ∙ sym (ap (percent_encoding in_path_set) e))
 ]
 
@@ -246,15 +232,7 @@ differs_by (c ∷ s) = differs_last (c ∷ s) _ _ (last_of (c ∷ s) (omega arit
 
 -- nothing after the first comma changes the header
 comma_before : (x y rest : List ℕ) → after 44 x ≡ Some rest → before_comma (x ++ y) ≡ Some (before 44 x)
-comma_before x y rest h =
-    let cut = is_cut 44 x rest h in
-    let joined : x ++ y ≡ before 44 x ++ 44 ∷ (rest ++ y) =
-    ap (λ t. t ++ y) cut.joined ∙ append_assoc (before 44 x) (44 ∷ rest) y in
-    let found : after 44 (x ++ y) ≡ Some (rest ++ y) =
-    ap (after 44) joined ∙ after_at 44 (before 44 x) (rest ++ y) cut.lacks in
-    let front : before 44 (x ++ y) ≡ before 44 x =
-    ap (before 44) joined ∙ before_at 44 (before 44 x) (rest ++ y) cut.lacks in
-    ap (option_map (λ r. before 44 (x ++ y))) found ∙ ap Some front
+comma_before x y rest h = grind (arith, is_cut 44 x rest h, append_assoc, after_at, before_at)
 
 -- if the text before a '?' has no comma, the flag does not depend on that text
 flag_after : (u v query : List ℕ) → after 44 u ≡ None → after 44 v ≡ None → (o : Option (List ℕ))
@@ -263,26 +241,21 @@ flag_after : (u v query : List ℕ) → after 44 u ≡ None → after 44 v ≡ N
 flag_after u v query h k None e = grind (arith, after-append, after_other)
 flag_after u v query h k (Some rest) e = grind (arith, same_flag, after-append, before-append, before_other)
 
--- there is no comma in "%20"
-no_comma_in_escape : after 44 (codes "%20") ≡ None
+-- there is no comma in "%20", nor in a text of one space
+no_comma : (after 44 (codes "%20") ≡ None) × (after 44 (codes " ") ≡ None)
 unfolding after
-no_comma_in_escape = refl
-
--- there is no comma in a text of one space
-no_comma_in_space : after 44 (codes " ") ≡ None
-unfolding after
-no_comma_in_space = refl
+no_comma = (refl, refl)
 
 -- the flag of a path that ends with "%20" or with a space, before its query
 flag_of_query : (x query : List ℕ) (o : Option (List ℕ)) → after 44 x ≡ o
     → base64_flag ((x ++ codes "%20") ++ 63 ∷ query) ≡ base64_flag ((x ++ codes " ") ++ 63 ∷ query)
-flag_of_query x query None e = grind (arith, flag_after, after-append, no_comma_in_escape, no_comma_in_space)
+flag_of_query x query None e = grind (arith, flag_after, after-append, no_comma)
 flag_of_query x query (Some rest) e = grind (arith, append_assoc, comma_before)
 
 -- the flag of such a path without a query
 flag_of_path : (x : List ℕ) (o : Option (List ℕ)) → after 44 x ≡ o
     → base64_flag (x ++ codes "%20") ≡ base64_flag (x ++ codes " ")
-flag_of_path x None e = grind (arith, after-append, no_comma_in_escape, no_comma_in_space)
+flag_of_path x None e = grind (arith, after-append, no_comma)
 flag_of_path x (Some rest) e = grind (arith, comma_before)
 
 -- with any query, and without one, the flag does not depend on the rule by which the path is encoded
@@ -298,3 +271,6 @@ flag_by path (Some query) (last_space x e f) = grind (arith, flag_of_query)
 pub flag_of_spaces : (s : List ℕ) → base64_flag (serialised s) ≡ base64_flag (serialised_with_spaces s)
 unfolding serialised
 flag_of_spaces s = flag_by (before 63 s) (after 63 s) (differs_by (before 63 s))
+
+-- the lemmas for `split_last_space`
+pub ruleset last_spaces = (parts_whole, parts_spaced, has_no_end, has_other_end, dropped_end, suffix_len-le-length)

@@ -1,20 +1,19 @@
 -- The stages of the Standard, from the input to its record. For `DataUrl::process`.
-use Rattle.std.proofs.Common.{◌≡◌, ℕ, zero, suc, ◌<◌, ◌≤◌, Bool, false, List, [], ◌∷◌, ◌++◌, length, get_or}
-use Rattle.std.proofs.Common.{take, drop, None, Some, refl, sym, ap, ◌∙◌, inl, inr, eqb-true, subst, arith}
-use Rattle.std.proofs.Common.{true, map, codes, ◌≢◌}
-use Rattle.std.specs.Prelude.{◌==◌, option_and_then}
+use Rattle.std.proofs.Common.{◌≡◌, ℕ, zero, suc, ◌<◌, ◌≤◌, Bool, false, List, [], ◌∷◌, ◌++◌, length, get_or, take, drop}
+use Rattle.std.proofs.Common.{None, Some, refl, sym, ap, ◌∙◌, inl, inr, eqb-true, subst, arith, true, map, codes, ◌≢◌}
+use Rattle.std.specs.Prelude.{option_and_then}
 use Rattle.std.specs.List.{prefix_len, suffix_len}
 use Rattle.std.specs.Str.{chars}
-use Rattle.std.proofs.lemmas.Bool.{cases_Bool, cond-true, cond-false, ne_eqb, eq-eqb}
+use Rattle.std.proofs.lemmas.Bool.{cases_Bool}
 use Rattle.std.proofs.lemmas.Slice.Eq.{bytes_eq-Decides}
 use Rattle.std.proofs.lemmas.List.{get_or-drop, get_or-reverse, get_or-take, get_or_past, length-drop, length-reverse}
 use Rattle.std.proofs.lemmas.List.{take-append-drop, length-take, drop_at, length-map, take_at}
-use Rattle.data_url.specs.Url.{before, after, is_c0_control_or_space, percent_encoding, trimmed_text}
-use Rattle.data_url.specs.Url.{after_scheme, cleaned_text, without_tabs_and_newlines, fragment, front}
-use Rattle.data_url.specs.Url.{is_tab_or_newline, serialised, in_fragment_set}
+use Rattle.data_url.specs.Url.{before, after, is_c0_control_or_space, percent_encoding, trimmed_text, after_scheme}
+use Rattle.data_url.specs.Url.{cleaned_text, without_tabs_and_newlines, fragment, front, is_tab_or_newline, serialised}
+use Rattle.data_url.specs.Url.{in_fragment_set}
 use Rattle.data_url.specs.Fetch.{is_space, stripped_header, encoded_body, header_of, staged_front, tail_of}
-use Rattle.data_url.specs.Fetch.{before_base64, has_base64_suffix, media_of, mime_text}
-use Rattle.data_url.specs.Fetch.{with_plain, Accepted, NoComma, NoScheme, outcome, plain_body, staged}
+use Rattle.data_url.specs.Fetch.{before_base64, has_base64_suffix, media_of, mime_text, with_plain, Accepted, NoComma}
+use Rattle.data_url.specs.Fetch.{NoScheme, outcome, plain_body, staged}
 use Rattle.data_url.specs.Steps.Header.{IsPrintable, header_text, IsHeaderOf, IsRecordFor}
 use Rattle.data_url.proofs.percent.Encoding.{IsBytes, encoded_cons, encoded_nil, header_nil, header_path, header_query}
 use Rattle.data_url.proofs.percent.Encoding.{Recoded, before-serialised, recoded-decoded, recoded_tails}
@@ -78,14 +77,10 @@ printable_take n s h i l = grind (arith, length-take, get_or-take)
 
 -- Spaces are the only low bytes
 
--- from 32 on, only the space is a C0 control or space
-low_is_space : (b : ℕ) → 32 ≤ b → is_c0_control_or_space b ≡ is_space b
-low_is_space b h = grind arith
-
 -- in a printable text, the longest prefix of C0 controls and spaces is as long as that of spaces
 low_front : (s : List ℕ) → IsPrintable s → prefix_len is_c0_control_or_space s ≡ prefix_len is_space s
 low_front [] h = refl
-low_front (b ∷ s) h = cc (low_is_space b (h 0 (omega arith)).0, low_front s (λ i l. h (suc i) (omega arith)))
+low_front (b ∷ s) h = let p = h 0 (omega arith) in grind (arith, low_front s (λ i l. h (suc i) (omega arith)))
 
 -- in a printable text, the longest suffix of C0 controls and spaces is as long as that of spaces
 pub low_end : (s : List ℕ) → IsPrintable s → suffix_len is_c0_control_or_space s ≡ suffix_len is_space s
@@ -177,7 +172,8 @@ after_none t h = grind arith
 
 -- a text that is cut at its first comma is so without tabs and newlines
 dropped_parts : {rest header tail : List ℕ} → IsHeaderAndTail rest header tail
-    → IsHeaderAndTail (without_tabs_and_newlines rest) (without_tabs_and_newlines header) (without_tabs_and_newlines tail)
+    → IsHeaderAndTail (without_tabs_and_newlines rest) (without_tabs_and_newlines header)
+    (without_tabs_and_newlines tail)
 dropped_parts {rest} {header} {tail} h = search (arith, dropped_around, after-dropped_none)
 
 -- the fragment of a text that is cut at its first comma is that of its tail
@@ -272,14 +268,10 @@ bytes_by_place (b ∷ s) h = (h 0, bytes_by_place s (λ i. h (suc i)))
 
 -- The default record
 
--- the default record is well-formed
-pub default_wellformed : IsWellformed default_record
-unfolding on_literals
-default_wellformed = record { type_ = refl; subtype = refl; names = refl; distinct = refl; values = refl }
-
 -- if a text has no record, the default record is the record for it
 pub default_for : (s : List ℕ) (m : Record) → HasNoRecord s → m ≡ default_record → IsRecordFor s m
-default_for s m n e = record { is_record = inr (n, e); wellformed = subst IsWellformed (sym e) default_wellformed }
+unfolding on_literals
+default_for s m n e = grind arith
 
 -- a well-formed record that a text parses to is the record for it
 pub parsed_for : (s : List ℕ) (m : Record) → Parses s m → IsWellformed m → IsRecordFor s m
@@ -301,12 +293,12 @@ default_is type_ subtype charset value a b c d = grind arith
 -- a text that does not begin with ';' stays as it is
 pub plain_stays : (media : List ℕ) → get_or media 0 0 ≢ 59 → with_plain media ≡ media
 plain_stays [] n = refl
-plain_stays (c ∷ s) n = cond-false (c == 59) (codes "text/plain" ++ c ∷ s) (c ∷ s) (ne_eqb c 59 n)
+plain_stays (c ∷ s) n = grind arith
 
 -- a text that begins with ';' has "text/plain" put before it
 pub plain_added : (media : List ℕ) → get_or media 0 0 ≡ 59 → with_plain media ≡ codes "text/plain" ++ media
 plain_added [] h = absurd (omega (arith, h))
-plain_added (c ∷ s) h = cond-true (c == 59) (codes "text/plain" ++ c ∷ s) (c ∷ s) (eq-eqb c 59 h)
+plain_added (c ∷ s) h = grind arith
 
 -- the code points of printable bytes are the bytes
 pub chars_printable : (s : List ℕ) → IsPrintable s → chars s ≡ s
@@ -524,3 +516,13 @@ body_of_url t u b h =
 pub fragment_of_url : (t : List ℕ) (u : DataUrl) → ((i : ℕ) → get_or t i 0 < 256) → IsUrlOf t u
     → option_map fragment (after_scheme t) ≡ Some (fragment (without_tabs_and_newlines (url_tail u)))
 fragment_of_url t u b h = let k = url_parts t u b h in cc (k.rest_is, fragment_cut k.parts)
+
+-- the lemmas for `serialised_text` and `process`
+pub ruleset stages = (
+  header_text_printable,
+  bytes_dropped,
+  bytes_by_place,
+  bytes_trimmed,
+  stages_no_comma,
+  is_acceptable,
+)

@@ -1,14 +1,14 @@
 -- The suffix `;base64` of a header. For `split_suffix`.
 use Rattle.std.proofs.Common.{◌≡◌, ◌≢◌, ℕ, ◌+◌, ◌-◌, ◌<◌, ◌≤◌, List, [], ◌∷◌, length, get_or, take, drop, map, codes}
-use Rattle.std.proofs.Common.{None, Some, sym, ap, ◌∙◌, arith, suc, Bool, false, ◌++◌, length-append, reverse, Option}
+use Rattle.std.proofs.Common.{None, Some, ap, ◌∙◌, arith, suc, Bool, false, ◌++◌, length-append, reverse, Option}
 use Rattle.std.proofs.Common.{is_some, refl, append_assoc}
 use Rattle.std.specs.Prelude.{option_and_then}
 use Rattle.std.specs.Char.{to_ascii_lowercase}
 use Rattle.std.specs.List.{suffix_len, prefix_len}
 use Rattle.std.specs.Str.{bytes_eq}
-use Rattle.std.proofs.lemmas.Bool.{cond-true, cond-false, false_from_ne_true}
+use Rattle.std.proofs.lemmas.List.{length-map, length-take}
 use Rattle.std.proofs.lemmas.List.{drop_all, drop_more, get_or-take, length-drop, length-take-le, take-take}
-use Rattle.std.proofs.lemmas.List.{drop-append-le, get_or-drop, get_or-map, reverse-append}
+use Rattle.std.proofs.lemmas.List.{drop-append-le, get_or_at, get_or-drop, get_or-map, reverse-append}
 use Rattle.std.proofs.lemmas.List.Sums.{suffix_len-le-length, prefix_len-drop_no, prefix_len-le-length}
 use Rattle.std.proofs.lemmas.Slice.Eq.{bytes_eq-Decides}
 use Rattle.data_url.specs.Url.{is_c0_control_or_space, without_end}
@@ -102,11 +102,8 @@ suffix_stop p x q b f =
 -- removing spaces at the end of a text with a '?' removes them only after that '?'
 end_after : (x q : List ℕ) → without_end is_space (x ++ 63 ∷ q) ≡ x ++ 63 ∷ without_end is_space q
 end_after x q =
-    let few = suffix_len-le-length is_space q in
-    let spaces = suffix_len is_space q in
-    let at : length (x ++ 63 ∷ q) - suffix_len is_space (x ++ 63 ∷ q)
-    ≡ length x + suc (length q - spaces) = grind (arith, suffix_stop, length-append) in
-    ap (λ n. take n (x ++ 63 ∷ q)) at ∙ take-append-add x (63 ∷ q) (suc (length q - spaces))
+    let n = suc (length q - suffix_len is_space q) in
+    grind (arith, suffix_stop, suffix_len-le-length is_space q, length-append, take-append-add x (63 ∷ q) n)
 
 -- a text with a '?', stripped of spaces, loses those at its front before the '?', and those at its end after it
 stripped_after : (x q : List ℕ) → stripped_header (x ++ 63 ∷ q) ≡ drop (prefix_len is_space (x ++ 63 ∷ q))
@@ -132,29 +129,19 @@ word_after y q l = grind (arith, last_after, before_last_after)
 no_mark : (i : ℕ) → get_or word i 0 ≢ 63
 no_mark i e = grind arith
 
--- the byte of x ++ '?' ∷ q at the length of x is '?'
-mark_at : (x q : List ℕ) → get_or (x ++ 63 ∷ q) (length x) 0 ≡ 63
-mark_at [] q = refl
-mark_at (b ∷ x) q = mark_at x q
-
 -- a text with fewer than six bytes after a '?' has no base64 suffix
 too_near : (x q : List ℕ) → length q < 6 → before_base64 (x ++ 63 ∷ q) ≡ None
 too_near x q l = no_word (x ++ 63 ∷ q) (λ e.
     let s = x ++ 63 ∷ q in
-    let skipped = length s - 6 in
-    let size : length s ≡ length x + suc (length q) = length-append x (63 ∷ q) in
-    let place = length x - skipped in
-    let whole : skipped + place ≡ length x = omega (arith, size) in
-    let here : get_or (drop skipped s) place 0 ≡ 63 = cc (get_or-drop skipped s place 0, mark_at x q) in
-    let within : place < length (drop skipped s) = omega (arith, size, length-drop skipped s) in
-    no_mark place (cc (get_or-map to_ascii_lowercase (drop skipped s) place 0 0 within)))
+    let n = length s - 6 in
+    let place = length x - n in
+    let size = length-append x (63 ∷ q) in
+    let here : get_or (drop n s) place 0 ≡ 63 =
+    grind (arith, get_or-drop n s place 0, get_or_at x 63 q 0 (length x) refl) in
+    let within : place < length (drop n s) = omega (arith, length-drop n s) in
+    no_mark place (cc (get_or-map to_ascii_lowercase (drop n s) place 0 0 within)))
 
 -- The whole
-
--- whether a text with a '?' ends with ';' depends only on the '?' and what follows it
-semicolon_after : (x r : List ℕ) → is_some (before_semicolon (x ++ 63 ∷ r)) ≡ bytes_eq (last_bytes 1 (63 ∷ r))
-    (codes ";")
-semicolon_after x r = grind (arith, last_after)
 
 -- what the suffix depends on
 abbrev after_mark : Option (List ℕ) → Bool
@@ -166,7 +153,7 @@ by_word : (x : List ℕ) (o : Option (List ℕ))
     → is_some (option_and_then (λ m. before_semicolon (without_end is_space m))
     (option_map (λ m. (x ++ 63 ∷ []) ++ m) o)) ≡ after_mark o
 by_word x None = refl
-by_word x (Some m) = grind (arith, append_assoc, end_after, semicolon_after)
+by_word x (Some m) = grind (arith, append_assoc, end_after, last_after)
 
 -- if at least six bytes follow a '?', whether there is a base64 suffix depends only on these bytes
 suffix_after : (x q : List ℕ) → 6 ≤ length q → is_some (before_base64 (x ++ 63 ∷ q)) ≡ after_mark (before_word q)
@@ -177,3 +164,6 @@ suffix_after x q l = cc (append_assoc x (63 ∷ []) q, word_after (x ++ 63 ∷ [
 pub same_flag : (a b query : List ℕ) → has_base64_suffix (a ++ 63 ∷ query) ≡ has_base64_suffix (b ++ 63 ∷ query)
 unfolding has_base64_suffix
 same_flag a b query = grind (arith, stripped_after, too_near, suffix_after)
+
+-- the lemmas for `without_suffix`
+pub ruleset suffixes = (no_word, length-map, length-take, suffix_len-le-length, printable_take)

@@ -1,6 +1,6 @@
 -- Hexadecimal digits and escapes in a text, and how many bytes are read to find them.
 use Rattle.std.specs.Char.{digit_value, is_ascii_hexdigit}
-use Rattle.std.specs.Prelude.{◌*◌, ◌+◌, ◌-◌, ◌<◌, ◌∷◌, ◌≡◌, ◌≤◌, List, drop, false, length, slice_index, true, ℕ}
+use Rattle.std.specs.Prelude.{◌*◌, ◌+◌, ◌-◌, ◌<◌, ◌∷◌, ◌≡◌, ◌≤◌, List, None, Option, Some, drop, false, length, slice_index, true, ℕ}
 use Rattle.data_url.specs.Percent.{begins_with_escape}
 use Rattle.data_url.specs.Steps.Looks.{before_percent}
 use Rattle.data_url.specs.Url.{after, front, is_tab_or_newline, number_sign, percent_sign, without_tabs_and_newlines}
@@ -40,6 +40,11 @@ pub record NoDigit (text : List ℕ) (place looks looks' : ℕ) : Type 0 where
       × (is_ascii_hexdigit (slice_index text end) ≡ false)
   pub looks_grow : looks ≤ looks'
   pub looks_are : looks' ≤ looks + 1 + (end - place)
+
+-- the value and the end of the digit from an index on, or none
+abbrev pub IsDigitFrom : List ℕ → ℕ → ℕ → ℕ → Option (ℕ × ℕ) → Type 0
+IsDigitFrom text place looks looks' None = NoDigit text place looks looks'
+IsDigitFrom text place looks looks' (Some found) = DigitFound text place looks found.0 found.1 looks'
 
 -- at an index there is an escape with this value and this end
 pub record EscapeAt (text : List ℕ) (place value end : ℕ) : Type 0 where

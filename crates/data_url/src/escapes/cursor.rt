@@ -81,6 +81,7 @@ impl<'a> Cursor<'a> {
 
     /// The next piece.
     #[inline(always)]
+    #[tactic(auto, using(crate::proofs::escapes::Walking::nexts))]
     pub(super) fn next(&mut self) -> Option<Piece<'a>>
         requires { Knows self.old }
         ensures goes { GoesOn self.old result self.new }
@@ -114,7 +115,7 @@ impl<'a> Cursor<'a> {
         let mut from = self.place;
         loop {
             let mark = self.block.next_mark(&mut self.source, from);
-            match self.source.stop_from(mark) {
+            match self.source.stop_at(mark) {
                 Stop::Stays => from = mark + 1,
                 Stop::Passed if mark == self.place => {
                     self.place = mark + 1;
@@ -181,6 +182,7 @@ impl<'a> Cursor<'a> {
     /// Gathers the bytes of the next pieces in a buffer while they come in short stretches, and returns how many. None
     /// are gathered if the body ends or a long stretch begins.
     #[inline(always)]
+    #[tactic(auto, using(crate::proofs::escapes::Walking::gathering))]
     fn gather(&mut self, room: &mut [u8; ROOM]) -> usize
         requires { Knows self.old }
         ensures gathers { Gathers self.old self.new room.old room.new 0 result }
@@ -232,10 +234,7 @@ impl<'a> Cursor<'a> {
         ensures near { IsTrue result → IsNear self.new × (self.old.ahead ≡ Ahead.Unknown) }
     {
         let place = self.place;
-        if matches!(self.ahead, Ahead::End) {
-            return false;
-        }
-        if place >= self.source.len() {
+        if matches!(self.ahead, Ahead::End) || place >= self.source.len() {
             self.ahead = Ahead::End;
             return false;
         }
@@ -278,6 +277,7 @@ impl<'a> Cursor<'a> {
 
     /// Gathers what begins at the mark at the place.
     #[inline(always)]
+    #[tactic(auto, using(crate::proofs::escapes::Walking::gathering))]
     fn gather_stop(&mut self, room: &mut [u8; ROOM], len: usize, dense: bool) -> (usize, bool)
         requires may { MayGather self.old len }
         requires here { self.old.place < self.old.block.seen }
@@ -315,6 +315,7 @@ impl<'a> Cursor<'a> {
 
     /// Gathers the values of escapes that follow one another after an escape.
     #[inline(always)]
+    #[tactic(auto, using(crate::proofs::escapes::Walking::gathering))]
     fn gather_escapes(&mut self, room: &mut [u8; ROOM], len: usize) -> usize
         requires unknown { self.old.ahead ≡ Ahead.Unknown }
         requires looking { Looking self.old.source self.old.block self.old.place 3 }

@@ -2,7 +2,7 @@
 
 ghost use Rattle.std.specs.Prelude.{◌≡◌, ◌+◌, ◌<◌, ◌≤◌, IfSome, MatchOption, length, slice_index};
 ghost use Rattle.data_url.specs.Url.{percent_sign};
-ghost use Rattle.data_url.specs.Steps.Digits.{DigitFound, EscapeAt, IsCode, NoDigit, NoEscape};
+ghost use Rattle.data_url.specs.Steps.Digits.{EscapeAt, IsCode, IsDigitFrom, NoEscape};
 
 use super::source::Source;
 use std::mem::replace;
@@ -36,6 +36,7 @@ fn digit_code(byte: u8) -> u8
 impl<'a> Source<'a> {
     /// Returns the byte of the escape whose `%` is at a place, past tabs and newlines, and the place after it.
     #[inline(always)]
+    #[tactic(auto, using(crate::proofs::escapes::Hexadecimal::digits))]
     pub(super) fn escape(&mut self, place: usize) -> Option<(u8, usize)>
         requires within { place < length self.old.text.now }
         requires percent { slice_index self.old.text.now place ≡ percent_sign }
@@ -52,6 +53,7 @@ impl<'a> Source<'a> {
 
     /// Returns the byte of an escape without tabs and newlines at a place, if there is one.
     #[inline(always)]
+    #[tactic(auto, using(crate::proofs::escapes::Hexadecimal::digits))]
     pub(super) fn escape_here(&mut self, place: usize) -> Option<u8>
         requires { place + 3 ≤ length self.old.text.now }
         ensures text { self.new.text.now ≡ self.old.text.now }
@@ -72,12 +74,11 @@ impl<'a> Source<'a> {
 
     /// Returns the value of the hexadecimal digit from a place on, past tabs and newlines, and the place after it.
     #[inline(always)]
+    #[tactic(auto, using(crate::proofs::escapes::Hexadecimal::digits))]
     fn digit(&mut self, place: usize) -> Option<(u8, usize)>
         requires { place ≤ length self.old.text.now }
         ensures text { self.new.text.now ≡ self.old.text.now }
-        ensures found { let text = self.old.text.now in
-            MatchOption result (NoDigit text place self.old.looks self.new.looks)
-            (λ found. DigitFound text place self.old.looks found.0 found.1 self.new.looks) }
+        ensures found { IsDigitFrom self.old.text.now place self.old.looks self.new.looks result }
     {
         if place >= self.len() {
             return None;
@@ -102,9 +103,7 @@ impl<'a> Source<'a> {
     fn digit_further(&mut self, place: usize) -> Option<(u8, usize)>
         requires { place ≤ length self.old.text.now }
         ensures text { self.new.text.now ≡ self.old.text.now }
-        ensures found { let text = self.old.text.now in
-            MatchOption result (NoDigit text place self.old.looks self.new.looks)
-            (λ found. DigitFound text place self.old.looks found.0 found.1 self.new.looks) }
+        ensures found { IsDigitFrom self.old.text.now place self.old.looks self.new.looks result }
     {
         for at in place..self.len() {
             let value = digit_code(self.look(at));

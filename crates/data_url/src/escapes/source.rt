@@ -85,8 +85,8 @@ impl<'a> Source<'a> {
         &self.text.as_bytes()[start..end]
     }
 
-    /// Copies a stretch of at most 64 bytes into a buffer. None of its bytes is examined. The bytes after it in the buffer
-    /// may be overwritten.
+    /// Copies a stretch of at most 64 bytes into a buffer. None of its bytes is examined. The bytes after it in the
+    /// buffer may be overwritten.
     #[inline(always)]
     pub(super) fn copy(
         &self,
@@ -122,7 +122,7 @@ impl<'a> Source<'a> {
     }
 }
 
-/// Returns the fragment of a text whose body ends at a place: what follows the `#` there, or None at the end of the text.
+/// Returns the fragment of a text whose body ends at a place: what follows the `#` there, or None at the text's end.
 pub(crate) fn fragment_at(text: &str, place: usize) -> Option<&str>
     requires { IsBodyEnd text.now place }
     ensures { option_map (λ s. s.now) result ≡ after number_sign text.now }

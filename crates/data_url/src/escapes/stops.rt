@@ -1,6 +1,6 @@
 //! The marked bytes of a text: where they are, and what begins there.
 
-ghost use Rattle.std.specs.Prelude.{◌≡◌, ◌+◌, ◌^◌, ◌<◌, ◌≤◌, MatchOption, length, slice_index, true};
+ghost use Rattle.std.specs.Prelude.{◌≡◌, ◌^◌, ◌<◌, ◌≤◌, MatchOption, length, slice_index, true};
 ghost use Rattle.data_url.specs.Steps.Walk.{IsClear, IsNextMark, IsStop, Looking, LooksOn};
 ghost use Rattle.data_url.specs.Steps.Window.{is_marked};
 
@@ -70,16 +70,20 @@ impl Block {
 }
 
 impl<'a> Source<'a> {
-    /// What begins at a marked byte.
+    /// What begins at a marked byte, or that the text ends.
     #[inline(always)]
     pub(super) fn stop_at(&mut self, mark: usize) -> Stop
-        requires within { mark < length self.old.text.now }
-        requires marked { is_marked (slice_index self.old.text.now mark) ≡ true }
+        requires within { mark ≤ length self.old.text.now }
+        requires marked { mark < length self.old.text.now
+            → is_marked (slice_index self.old.text.now mark) ≡ true }
         ensures text { self.new.text.now ≡ self.old.text.now }
-        ensures bound { mark + 1 < 2 ^ 64 }
+        ensures bound { length self.old.text.now < 2 ^ 64 }
         ensures looks { self.old.looks ≤ self.new.looks }
         ensures stop { IsStop self.old.text.now mark self.old.looks self.new.looks result }
     {
+        if mark >= self.len() {
+            return Stop::End;
+        }
         let byte = self.look(mark);
         if byte == b'%' {
             return match self.escape(mark) {
@@ -91,24 +95,6 @@ impl<'a> Source<'a> {
             Stop::End
         } else {
             Stop::Passed
-        }
-    }
-
-    /// What begins at a marked byte, or that the text ends.
-    #[inline(always)]
-    pub(super) fn stop_from(&mut self, mark: usize) -> Stop
-        requires within { mark ≤ length self.old.text.now }
-        requires marked { mark < length self.old.text.now
-            → is_marked (slice_index self.old.text.now mark) ≡ true }
-        ensures text { self.new.text.now ≡ self.old.text.now }
-        ensures bound { length self.old.text.now < 2 ^ 64 }
-        ensures looks { self.old.looks ≤ self.new.looks }
-        ensures stop { IsStop self.old.text.now mark self.old.looks self.new.looks result }
-    {
-        if mark < self.len() {
-            self.stop_at(mark)
-        } else {
-            Stop::End
         }
     }
 }

@@ -2,20 +2,11 @@ use Rattle.std.proofs.Common.{subst, arith}
 use Rattle.data_url.specs.Steps.Front.{HasNoScheme, IsSchemeAndRest}
 use Rattle.data_url.specs.MimeType.{record_of}
 use Rattle.data_url.specs.Steps.Header.{IsHeaderOf}
-use Rattle.data_url.proofs.header.Stages.{bytes_trimmed, is_acceptable, is_url_of, stages_no_comma, stages_no_scheme}
+use Rattle.data_url.proofs.header.Stages.{bytes_trimmed, is_url_of, stages_no_scheme}
 use Rattle.data_url.proofs.DataUrl.process.Goals as goal
 
 pub returns-in_default : goal.returns-in_default
 returns-in_default c = grind (arith, stages_no_scheme)
-
-pub returns-in_default-split_at_comma : goal.returns-in_default-split_at_comma
-returns-in_default-split_at_comma c = grind (arith, stages_no_comma, bytes_trimmed)
-
-pub returns-in_default-serialise : goal.returns-in_default-serialise
-returns-in_default-serialise c = grind (arith, is_acceptable, bytes_trimmed)
-
-pub returns-in_default-read_media : goal.returns-in_default-read_media
-returns-in_default-read_media c = grind (arith, is_acceptable, bytes_trimmed)
 
 pub returns : goal.returns
 returns c =

@@ -21,19 +21,13 @@ decode_pieces-requires-clause-callable g c = λ run h ran n bytes.
     run_preserves _ (λ p. always_mut g.F.FnMut p.0.now.write_bytes × (p.0.now.failed ≡ false))
     (λ p piece q i k. search (rules, i)) run _ h ran n (search rules)
 
-pub finish_with-ended-requires-clause-callable : goal.finish_with-ended-requires-clause-callable
-finish_with-ended-requires-clause-callable g c =
+pub finish_with-ended-requires : goal.finish_with-ended-requires
+finish_with-ended-requires g c =
     let name = took_keeps c.decode_pieces.ensures (λ p. p.0.ghost_name) (λ p piece r q k. search rules) in
-    let can = took_preserves c.decode_pieces.ensures c.in-Ok.is (λ p. always_mut g.F.FnMut p.0.now.write_bytes)
-    (λ p piece q i k. search (rules, i)) (search rules) in
-    search (rules, can)
-
-pub finish_with-ended-requires-clause-going : goal.finish_with-ended-requires-clause-going
-finish_with-ended-requires-clause-going g c =
-    let name = took_keeps c.decode_pieces.ensures (λ p. p.0.ghost_name) (λ p piece r q k. search rules) in
-    let going = took_preserves c.decode_pieces.ensures c.in-Ok.is (λ p. p.0.now.failed ≡ false)
-    (λ p piece q i k. search (rules, i)) (search rules) in
-    search (rules, going)
+    let can = took_preserves c.decode_pieces.ensures c.in-Ok.is
+    (λ p. always_mut g.F.FnMut p.0.now.write_bytes × (p.0.now.failed ≡ false)) (λ p piece q i k. search (rules, i))
+    (search rules) in
+    record { callable = search (rules, can); going = search (rules, can) }
 
 pub returns-in-Ok : goal.returns-in-Ok
 returns-in-Ok g c =

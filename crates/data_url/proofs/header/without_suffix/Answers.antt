@@ -1,22 +1,10 @@
-use Rattle.std.proofs.lemmas.List.{length-map, length-take, take_rest}
-use Rattle.data_url.proofs.header.Stages.{printable_take}
-use Rattle.data_url.proofs.header.Suffix.{no_word, HasWord, no_semicolon, nothing_left, with_semicolon}
-use Rattle.std.proofs.Common.{◌≡◌, ℕ, ◌-◌, ◌≤◌, Bool, true, List, length, take, drop, map, codes, sym, subst, arith}
+use Rattle.std.proofs.lemmas.List.{take_rest}
+use Rattle.data_url.proofs.header.Suffix.{HasWord, no_semicolon, nothing_left, with_semicolon}
+use Rattle.std.proofs.Common.{◌≡◌, ℕ, ◌-◌, ◌≤◌, Bool, true, List, length, take, drop, map, codes, arith}
 use Rattle.std.specs.Char.{to_ascii_lowercase}
 use Rattle.std.specs.List.{suffix_len}
-use Rattle.std.proofs.lemmas.List.Sums.{suffix_len-le-length}
-use Rattle.data_url.specs.Steps.Header.{IsPrintable}
 use Rattle.data_url.specs.Url.{is_c0_control_or_space}
 use Rattle.data_url.proofs.header.without_suffix.Goals as goal
-
-pub returns-in_err-word-clause-text : goal.returns-in_err-word-clause-text
-returns-in_err-word-clause-text c = grind (arith, no_word, length-map)
-
-pub returns-then-not-eq_ignore_ascii_case-clause-text : goal.returns-then-not-eq_ignore_ascii_case-clause-text
-returns-then-not-eq_ignore_ascii_case-clause-text c = grind (arith, no_word)
-
-pub overflow_sub-end : goal.overflow_sub-end
-overflow_sub-end c = grind (arith, suffix_len-le-length, length-take)
 
 -- a text whose last six bytes are "base64", in any ASCII case, has the word there
 has_word : (s items : List ℕ) (n spaces : ℕ) {same : Bool} → items ≡ s → (6 ≤ length items) × (n ≡ length items - 6)
@@ -41,6 +29,3 @@ returns-clause-text c =
     let word = has_word c.args.header.now _ _ _ c.as_bytes-bytes.ensures.value c.in_ok-word.ensures
     c.eq_ignore_ascii_case.ensures.test.0 c.if-not-eq_ignore_ascii_case.false c.low_end_len.ensures in
     grind (arith, with_semicolon)
-
-pub returns-clause-printable : goal.returns-clause-printable
-returns-clause-printable c = grind (arith, printable_take)

@@ -1,14 +1,7 @@
-use Rattle.std.proofs.lemmas.List.{append-nil}
 use Rattle.data_url.proofs.escapes.Reading.{spells_escape}
 use Rattle.data_url.proofs.escapes.Walking.{ended_at, gathers_byte, gathers_then}
 use Rattle.std.proofs.Common.{arith, refl}
 use Rattle.data_url.proofs.escapes.cursor.Cursor.gather_stop.Goals as goal
-
-pub returns-in-Stays-clause-gathers : goal.returns-in-Stays-clause-gathers
-returns-in-Stays-clause-gathers c = grind (arith, gathers_byte)
-
-pub returns-in-Passed-clause-gathers : goal.returns-in-Passed-clause-gathers
-returns-in-Passed-clause-gathers c = grind (arith, append-nil)
 
 pub returns-then-dense-clause-gathers : goal.returns-then-dense-clause-gathers
 returns-then-dense-clause-gathers c =

@@ -1,9 +1,6 @@
 use Rattle.std.proofs.Common.{arith}
-use Rattle.data_url.proofs.escapes.Hexadecimal.{escape_both, escape_no_high, escape_no_low}
+use Rattle.data_url.proofs.escapes.Hexadecimal.{escape_both, escape_no_low}
 use Rattle.data_url.proofs.escapes.source.Source.escape.Goals as goal
-
-pub returns-in_err-high-clause-found : goal.returns-in_err-high-clause-found
-returns-in_err-high-clause-found c = grind (arith, escape_no_high)
 
 pub returns-in_err-low-clause-found : goal.returns-in_err-low-clause-found
 returns-in_err-low-clause-found c =

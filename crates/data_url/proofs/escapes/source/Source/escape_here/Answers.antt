@@ -1,13 +1,7 @@
-use Rattle.std.proofs.Common.{◌∙◌, arith, sym}
+use Rattle.std.proofs.Common.{arith}
 use Rattle.std.proofs.lemmas.Nat.{le_or_l, le_or_r}
 use Rattle.data_url.proofs.escapes.Hexadecimal.{escape_at}
 use Rattle.data_url.proofs.escapes.source.Source.escape_here.Goals as goal
-
-pub overflow_mul-result : goal.overflow_mul-result
-overflow_mul-result c = grind (arith, le_or_l)
-
-pub overflow_add-result : goal.overflow_add-result
-overflow_add-result c = grind (arith, le_or_l, le_or_r)
 
 pub returns-clause-found : goal.returns-clause-found
 returns-clause-found c = grind (arith, escape_at, le_or_l, le_or_r)

@@ -4,16 +4,16 @@ use Rattle.data_url.proofs.escapes.source.Source.stop_at.Goals as goal
 
 pub returns-in-Some-clause-stop : goal.returns-in-Some-clause-stop
 returns-in-Some-clause-stop c =
-    stop_escape c.requires.within (sym c.look-byte.ensures.byte ∙ c.if-byte-eq37.true)
+    stop_escape (omega arith) (sym c.look-byte.ensures.byte ∙ c.if-byte-eq37.true)
     (rw c.look-byte.ensures.text at c.in-Some.ensures.found.0) (grind arith)
 
 pub returns-in-None-clause-stop : goal.returns-in-None-clause-stop
 returns-in-None-clause-stop c =
-    stop_percent c.requires.within (sym c.look-byte.ensures.byte ∙ c.if-byte-eq37.true)
+    stop_percent (omega arith) (sym c.look-byte.ensures.byte ∙ c.if-byte-eq37.true)
     (rw (c.look-byte.ensures.text, c.look-byte.ensures.looks) at c.in-None.ensures.found)
 
 pub returns-then-byte-eq35-clause-stop : goal.returns-then-byte-eq35-clause-stop
-returns-then-byte-eq35-clause-stop c = rw c.look-byte.ensures.looks (stop_hash _ _ _ c.requires.within (grind arith))
+returns-then-byte-eq35-clause-stop c = rw c.look-byte.ensures.looks (stop_hash _ _ _ (omega arith) (grind arith))
 
 pub returns-else-byte-eq35-clause-stop : goal.returns-else-byte-eq35-clause-stop
-returns-else-byte-eq35-clause-stop c = rw c.look-byte.ensures.looks (stop_passed _ _ _ c.requires.within (grind arith))
+returns-else-byte-eq35-clause-stop c = rw c.look-byte.ensures.looks (stop_passed _ _ _ (omega arith) (grind arith))
