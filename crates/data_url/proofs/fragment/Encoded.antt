@@ -68,36 +68,11 @@ after_data : (t x : List ℕ) → cleaned_text t ≡ codes "data:,#" ++ x → af
 unfolding after_scheme
 after_data t x h = grind arith
 
--- the serialised front of ",#" and x is a comma
-front_comma : (x : List ℕ) → serialised (front (44 ∷ 35 ∷ x)) ≡ 44 ∷ []
-unfolding front before after serialised encoded_path percent_encoding
-front_comma x = refl
-
--- the fragment of ",#" and x is x
-fragment_after : (x : List ℕ) → fragment (44 ∷ 35 ∷ x) ≡ Some x
-unfolding fragment after
-fragment_after x = refl
-
--- if the text after the scheme is ",#" and x, the staged front is a comma
-front_of_comma : (t x : List ℕ) → after_scheme t ≡ Some (44 ∷ 35 ∷ x) → staged_front t ≡ Some (44 ∷ [])
-unfolding staged_front
-front_of_comma t x h = ap (option_map (λ a. serialised (front a))) h ∙ ap (λ (s : List ℕ). Some s) (front_comma x)
-
--- if the staged front is a comma, the header is empty
-header_empty : (t : List ℕ) → staged_front t ≡ Some (44 ∷ []) → header_of t ≡ Some []
-unfolding header_of before after
-header_empty t h = ap (option_and_then before_comma) h
-
--- if the staged front is a comma, the encoded body is empty
-body_empty : (t : List ℕ) → staged_front t ≡ Some (44 ∷ []) → encoded_body t ≡ Some []
-unfolding encoded_body after
-body_empty t h = ap (option_and_then (after 44)) h
-
 -- if the text after the scheme is ",#" and x, the encoded fragment is x, percent-encoded
 staged_again : (t x : List ℕ) → after_scheme t ≡ Some (44 ∷ 35 ∷ x)
     → staged_fragment (staged t) ≡ Some (percent_encoding in_fragment_set x)
-unfolding staged
-staged_again t x h = grind (arith, front_of_comma, fragment_after, header_empty, body_empty)
+unfolding staged staged_front header_of encoded_body front before after fragment serialised encoded_path percent_encoding
+staged_again t x h = rw h refl
 
 -- a text of such bytes, read as a fragment, is percent-encoded as itself
 pub read_again : (x : List ℕ) → Every is_fragment_byte x → IsReadAgain x

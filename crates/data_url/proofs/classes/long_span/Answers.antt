@@ -21,6 +21,4 @@ unmarked c = elim c.match-class.branch [
 ]
 
 pub returns-clause-front : goal.returns-clause-front
-returns-clause-front c =
-    let passes = unmarked c in
-    grind (arith, take_rest, front_further)
+returns-clause-front c = grind (arith, unmarked, take_rest, front_further)

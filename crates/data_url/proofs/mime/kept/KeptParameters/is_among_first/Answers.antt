@@ -18,8 +18,7 @@ pub is_named-requires-clause-some : goal.is_named-requires-clause-some
 is_named-requires-clause-some c = some_byte c.args.name.now c.requires.token
 
 pub is_named-requires-clause-key : goal.is_named-requires-clause-key
-is_named-requires-clause-key c = key_lower _ _ c.requires.indexed c.deref.ensures.value c.loop-key-test.true
-    c.loop-key-item.is c.as_str.ensures.value
+is_named-requires-clause-key c = grind (arith, key_lower)
 
 pub returns-then-is_named : goal.returns-then-is_named
 returns-then-is_named c =
