@@ -1,14 +1,12 @@
 -- An encoded fragment is read again as it is.
 use Rattle.std.proofs.Common.{◌≡◌, ℕ, ◌<◌, true, false, List, [], ◌∷◌, ◌++◌, Some, codes, refl, sym}
 use Rattle.std.proofs.Common.{ap, ◌∙◌, subst, arith}
-use Rattle.std.specs.Prelude.{option_and_then}
-use Rattle.std.specs.Option.{option_map}
 use Rattle.std.specs.List.{prefix_len}
 use Rattle.std.proofs.lemmas.Bool.{agree_below_at, cond-false}
 use Rattle.data_url.specs.Url.{after_scheme, before, after, cleaned_text, without_tabs_and_newlines, encoded_path}
 use Rattle.data_url.specs.Url.{fragment, front, hex_digit, in_fragment_set, is_c0_control_or_space, is_tab_or_newline}
 use Rattle.data_url.specs.Url.{percent_encoding, serialised, trimmed_text}
-use Rattle.data_url.specs.Fetch.{before_comma, encoded_body, header_of, staged, staged_fragment, staged_front}
+use Rattle.data_url.specs.Fetch.{encoded_body, header_of, staged, staged_fragment, staged_front}
 use Rattle.data_url.specs.Laws.{IsReadAgain, is_fragment_byte}
 use Rattle.data_url.specs.Mime.{Every}
 use Rattle.data_url.proofs.percent.Encoding.{IsBytes, encoded_cons, encoded_nil}
@@ -71,7 +69,8 @@ after_data t x h = grind arith
 -- if the text after the scheme is ",#" and x, the encoded fragment is x, percent-encoded
 staged_again : (t x : List ℕ) → after_scheme t ≡ Some (44 ∷ 35 ∷ x)
     → staged_fragment (staged t) ≡ Some (percent_encoding in_fragment_set x)
-unfolding staged staged_front header_of encoded_body front before after fragment serialised encoded_path percent_encoding
+unfolding staged staged_front header_of encoded_body front before after fragment serialised encoded_path
+    percent_encoding
 staged_again t x h = rw h refl
 
 -- a text of such bytes, read as a fragment, is percent-encoded as itself

@@ -49,7 +49,11 @@ impl KeptParameters {
             ++ unless_named (pairs_of self.old) ((code_points name, code_points value) ∷ [])) }
         ensures indexed { OnOk result (IsIndexed self.new) }
     {
-        if self.pairs.len() >= LOOKED_THROUGH && !self.later_names.insert(name.clone()?)? {
+        if self.pairs.len() < LOOKED_THROUGH {
+            self.pairs.push((name, value))?;
+            return Ok(());
+        }
+        if !self.later_names.insert(name.clone()?)? {
             return Ok(());
         }
         self.pairs.push((name, value))?;
