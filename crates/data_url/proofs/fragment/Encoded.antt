@@ -40,19 +40,10 @@ dropped_itself : (t : List ℕ) → Every is_fragment_byte t → without_tabs_an
 dropped_itself [] h = dropped_nil
 dropped_itself (b ∷ t) h = dropped_keeps b t (not_dropped b h.0) ∙ ap (λ s. b ∷ s) (dropped_itself t h.1)
 
--- a text of bytes that an encoded fragment can have does not begin with a C0 control or space
-no_low_front : (t : List ℕ) → Every is_fragment_byte t → prefix_len is_c0_control_or_space t ≡ 0
-no_low_front [] h = refl
-no_low_front (b ∷ t) h = grind (arith, cond-false)
-
--- a byte that an encoded fragment can have is not a C0 control or space
-not_low : (b : ℕ) → is_fragment_byte b ≡ true → is_c0_control_or_space b ≡ false
-not_low b h = grind arith
-
 -- a text of bytes that an encoded fragment can have stays as it is when its ends are trimmed
 trimmed_itself : (t : List ℕ) → Every is_fragment_byte t → trimmed_text t ≡ t
 unfolding trimmed_text
-trimmed_itself t h = grind (arith, no_low_front, end_stays, not_ends_every, not_low)
+trimmed_itself t h = grind (arith, end_stays, not_ends_every)
 
 -- a text of bytes that an encoded fragment can have stays as it is when it is cleaned
 cleaned_itself : (t : List ℕ) → Every is_fragment_byte t → cleaned_text t ≡ t

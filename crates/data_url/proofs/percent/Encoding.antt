@@ -196,11 +196,6 @@ unfolding encoded_path
 path_cons b [] = sym (append-nil (encoded_byte in_path_end_set b))
 path_cons b (c ∷ s) = refl
 
--- each byte of the set for a byte of a path, whatever follows it, is in the query's set
-pub path_byte_within : (path : List ℕ) (b : ℕ) → path_byte_set path b ≡ true → in_query_set b ≡ true
-path_byte_within [] b h = grind arith
-path_byte_within (c ∷ s) b h = grind (arith, or_left)
-
 -- the empty text is serialised as the empty text
 pub serialised_nil : serialised [] ≡ []
 unfolding serialised before after encoded_path
@@ -231,7 +226,7 @@ serialised_recoded [] h = subst (λ x. Recoded [] x) (sym serialised_nil) none
 serialised_recoded (b ∷ s) h = elim (cases_Bool (b == 63)) [
   | inl e ↦ let f : b ≡ 63 = eqb-true b 63 e in subst (λ v. Recoded (v ∷ s) (serialised (v ∷ s))) (sym f)
       (subst (λ x. Recoded (63 ∷ s) x) (sym (serialised_query s)) (kept 63 (is_recoded in_query_set (λ b e. e) s h.1)))
-  | inr e ↦ grind (arith, serialised_path, recoded_byte, path_byte_within, serialised_recoded s h.1)
+  | inr e ↦ grind (arith, serialised_path, recoded_byte, serialised_recoded s h.1)
 ]
 
 -- The first comma

@@ -43,16 +43,8 @@ fn unescaped(alloc: Global, quoted: &str) -> Result<String, AllocError>
     ensures { IfOk result (λ text. code_points text ≡ unescaped false (chars quoted.now)) }
 {
     if long_span(Class::Unescaped, quoted.as_bytes()) == quoted.len() {
-        String::from_str(alloc, quoted)
-    } else {
-        without_backslashes(alloc, quoted)
+        return String::from_str(alloc, quoted);
     }
-}
-
-/// Returns the value of a quoted string, code point by code point.
-fn without_backslashes(alloc: Global, quoted: &str) -> Result<String, AllocError>
-    ensures { IfOk result (λ text. code_points text ≡ unescaped false (chars quoted.now)) }
-{
     let mut value = String::with_capacity(alloc, quoted.len())?;
     let mut escaped = false;
     for c in quoted.chars() {
