@@ -1,10 +1,9 @@
 -- An encoded fragment is read again as it is.
 use Rattle.std.proofs.Common.{◌≡◌, ℕ, ◌<◌, true, false, List, [], ◌∷◌, ◌++◌, Some, codes, refl, sym}
 use Rattle.std.proofs.Common.{ap, ◌∙◌, subst, arith}
-use Rattle.std.specs.List.{prefix_len}
-use Rattle.std.proofs.lemmas.Bool.{agree_below_at, cond-false}
+use Rattle.std.proofs.lemmas.Bool.{agree_below_at}
 use Rattle.data_url.specs.Url.{after_scheme, before, after, cleaned_text, without_tabs_and_newlines, encoded_path}
-use Rattle.data_url.specs.Url.{fragment, front, hex_digit, in_fragment_set, is_c0_control_or_space, is_tab_or_newline}
+use Rattle.data_url.specs.Url.{fragment, front, hex_digit, in_fragment_set, is_tab_or_newline}
 use Rattle.data_url.specs.Url.{percent_encoding, serialised, trimmed_text}
 use Rattle.data_url.specs.Fetch.{encoded_body, header_of, staged, staged_fragment, staged_front}
 use Rattle.data_url.specs.Laws.{IsReadAgain, is_fragment_byte}

@@ -139,9 +139,7 @@ module _ {kept : KeptParameters} {all : List (String Global × String Global)} (
       → has_name (map to_ascii_lowercase (chars n)) (map (λ p. pair_of p) (drop i (take k all)))
       ≡ (r || has_name (map to_ascii_lowercase (chars n)) (map (λ p. pair_of p) (drop (i + 1) (take k all))))
   key_next n r u t d =
-      let same = bytes_of_ascii n u (token_text_ascii (chars n) t) in
-      let first = drop-cons (take k all) i item l in
-      cc (same, first, key_is.0, key_is.1, add-one i, same_from_decides r _ d (bytes_eq-Decides _ _))
+      grind (arith, bytes_of_ascii, token_text_ascii, drop-cons, key_is, add-one, same_from_decides, bytes_eq-Decides)
 
 -- The pairs that are kept with one more item
 
@@ -154,10 +152,7 @@ has_pushed n xs p = grind (arith, list_any-append {X = Pair})
 first_same : (e e' ps : List Pair) → ((n : List ℕ) → has_name n e ≡ has_name n e')
     → first_of_each_name e ps ≡ first_of_each_name e' ps
 first_same e e' [] h = refl
-first_same e e' (q ∷ ps) h =
-    let same = first_same (e ++ (q ∷ [])) (e' ++ (q ∷ [])) ps (λ n. grind (arith, has_pushed, h n)) in
-    let here = h q.0 in
-    grind arith
+first_same e e' (q ∷ ps) h = grind (arith, has_pushed, first_same (e ++ (q ∷ [])) (e' ++ (q ∷ [])) ps)
 
 -- if the pairs have the name of q, they have each name that is equal to it
 named : (n : List ℕ) (e : List Pair) (q : Pair) → has_name q.0 e ≡ true → bytes_eq q.0 n ≡ true → has_name n e ≡ true
@@ -172,11 +167,7 @@ known_pushed n e q h = grind (arith, has_pushed, named n e q)
 first_step : (pairs : List Pair) (item : Item) (ps : List Pair) → first_of_each_name pairs (valid_of item ++ ps)
     ≡ added_pairs pairs item ++ first_of_each_name (pairs ++ added_pairs pairs item) ps
 first_step pairs (name, None) ps = rw (append-nil pairs) refl
-first_step pairs (name, Some v) ps =
-    let q : Pair = (name, v) in
-    let known = λ (h : has_name q.0 pairs ≡ true).
-    first_same (pairs ++ (q ∷ [])) pairs ps (λ n. known_pushed n pairs q h) in
-    grind (arith, append-nil)
+first_step pairs (name, Some v) ps = grind (arith, first_same, known_pushed, append-nil)
 
 -- one of the pairs has a name exactly if one of the first pairs or one of the later pairs has it
 first_or_later : (n : List ℕ) (pairs : List Pair)
@@ -240,12 +231,7 @@ keeps_more {whole} {rest} {s} {pairs = pairs} k e p r a =
 -- if the rest does not begin with ';', the pairs are those that are kept of the items of the whole text
 pub keeps_end : {whole rest : List ℕ} {pairs : List Pair} → KeepsOn whole rest pairs → BeginsParameters whole
     → after_mark 59 rest ≡ None → (items : List Item) × Items whole items × (pairs ≡ kept_pairs items)
-keeps_end {whole} {rest = []} {pairs = pairs} k w e = (
-  items_in (length whole) whole,
-  has_items whole w,
-  sym
-      (append-nil pairs) ∙ k.kept,
-)
+keeps_end {whole} {rest = []} {pairs = pairs} k w e = grind (arith, items_in, has_items, append-nil)
 keeps_end {rest = c ∷ rest} k w e = let begins = k.begins in absurd (grind arith)
 
 -- the rest after a parameter is shorter than the text
@@ -301,9 +287,7 @@ module _ {old : KeptParameters} (name value : String Global) (x : IsIndexed old)
         → kept.pairs.items ≡ old.pairs.items ++ ((name, value) ∷ [])
         → HasLaterNames kept.later_names (pairs_of old ++ (pair_of (name, value) ∷ []))
         → (pairs_of kept ≡ pairs_of old ++ unless_named (pairs_of old) (pair_of (name, value) ∷ [])) × IsIndexed kept
-    pushes kept n e h =
-        let pairs : pairs_of kept ≡ pairs_of old ++ (pair_of (name, value) ∷ []) = grind (arith, map-append) in
-        (grind arith, grind (arith, list_all-append))
+    pushes kept n e h = grind (arith, map-append, list_all-append)
 
     -- so it is if it is one of the first pairs
     pub pushed_first : (kept : KeptParameters) → length old.pairs.items < LOOKED_THROUGH
@@ -321,10 +305,12 @@ module _ {old : KeptParameters} (name value : String Global) (x : IsIndexed old)
       -- the set has the name exactly if one of the pairs has it
       set_knows : b ≡ not (has_name (code_points name) (pairs_of old))
       set_knows =
-          cc (x.later (string_bytes copy), named_later (code_points name) (pairs_of old) new, lowercase_bytes name lower)
+          cc (x.later (string_bytes copy), named_later (code_points name)
+              (pairs_of old) new, lowercase_bytes name lower)
 
       -- if the set has the name, the pair is not added
-      pub not_pushed : b ≡ false → pairs_of old ≡ pairs_of old ++ unless_named (pairs_of old) (pair_of (name, value) ∷ [])
+      pub not_pushed : b ≡ false → pairs_of old ≡ pairs_of old ++ unless_named (pairs_of old) (pair_of
+          (name, value) ∷ [])
       not_pushed f = none_added old.pairs.items _ (cond-true _ _ _ (not-false _ (sym set_knows ∙ f)))
 
       -- if its name is put into the set, the pair is added

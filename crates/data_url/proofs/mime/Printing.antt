@@ -11,7 +11,7 @@ use Rattle.std.specs.Fmt.{HasWritten, HasWrittenStyled, IsPlainFormatter}
 use Rattle.data_url.specs.Steps.Printing.{Adds, IsHeld, held}
 use Rattle.data_url.specs.declared.mime.line.Line.{Line}
 use Rattle.std.specs.List.{flat_map, AllZip}
-use Rattle.std.specs.Str.{IsUtf8, chars, bytes_eq}
+use Rattle.std.specs.Str.{IsUtf8, chars}
 use Rattle.data_url.specs.Mime.{Without, escaped_code_point, is_token_text, printed, printed_pair, printed_value, Pair}
 use Rattle.data_url.specs.Steps.Parsing.{is_escaped}
 use Rattle.data_url.specs.MimeType.{code_points, pair_of, record_of, SameTexts, same_pair, same_texts, texts_of_pair}
@@ -122,14 +122,12 @@ module _ {W : Type 0} {took : W → List ℕ → W → Type 0} {start : Formatte
   -- a text that is put into the buffer is appended
   pub added_held : {f : Formatter W} {l m : Line} (a : List ℕ) → Adds took start before f l → held m ≡ held l ++ a
       → Adds took start (before ++ a) f m
-  added_held {l = l} a x e =
-      record { written = x.written; wrote = x.wrote; joined = cc (x.joined, append_assoc x.written (held l) a) }
+  added_held {l = l} a x e = grind (arith, append_assoc)
 
   -- once the buffer is written, all is
   pub added_flushed : {f g : Formatter W} {l : Line} → Adds took start before f l → HasWrittenStyled took f (held l) g
       → HasWrittenStyled took start before g
-  added_flushed x y =
-      has_written_styled_of_eq _ _ _ _ _ (sym x.joined) (has_written_styled_append _ _ _ _ _ _ x.wrote y)
+  added_flushed x y = grind (arith, has_written_styled_of_eq, has_written_styled_append)
 
   -- if all is written, and then a text, and the buffer is empty, the text is appended
   pub added_written : {f g : Formatter W} {a : List ℕ} (m : Line) → HasWrittenStyled took start before f
@@ -154,15 +152,7 @@ module _ {W : Type 0} {took : W → List ℕ → W → Type 0} {start : Formatte
 
 -- the test of two pairs is true exactly if their texts are equal
 pair_decides : {A B : Type 0} (p q : String A × String B) → Decides (same_pair p q) (texts_of_pair p ≡ texts_of_pair q)
-pair_decides (a, b) (c, d) = (
-  λ h.
-      let both = and_parts (bytes_eq (string_bytes a) (string_bytes c)) (bytes_eq (string_bytes b)
-      (string_bytes d)) h in
-      let first = equal_from_test (string_bytes a) (string_bytes c) both.0 in
-      let second = equal_from_test (string_bytes b) (string_bytes d) both.1 in
-      cc,
-  λ h. grind (arith, test_from_equal),
-)
+pair_decides (a, b) (c, d) = grind (arith, and_parts, string_bytes, equal_from_test, test_from_equal)
 
 -- the test of two lists, pair by pair, is true exactly if the lists have equal texts
 pairs_decide : {A B : Type 0} (ps qs : List (String A × String B))
@@ -170,18 +160,11 @@ pairs_decide : {A B : Type 0} (ps qs : List (String A × String B))
 pairs_decide [] [] = (λ h. refl, λ h. refl)
 pairs_decide [] (q ∷ qs) = (λ h. absurd (cc), λ h. absurd (cc))
 pairs_decide (p ∷ ps) [] = (λ h. absurd (cc), λ h. absurd (cc))
-pairs_decide (p ∷ ps) (q ∷ qs) =
-    let first = pair_decides p q in
-    let rest = pairs_decide ps qs in (
-      λ h. let parts = and_parts _ _ h in cc (first.0 parts.0, rest.0 parts.1),
-      λ h. and_from _ _ (first.1 (cc)) (rest.1 (cc)),
-    )
+pairs_decide (p ∷ ps) (q ∷ qs) = grind (arith, pair_decides, and_parts, and_from, pairs_decide ps qs)
 
 -- the test is true exactly if the texts are the same
 pub same_decides : (m n : Mime) → IsTrue (same_texts m n) ↔ SameTexts m n
-same_decides m n =
-    let pairs = pairs_decide m.parameters.items n.parameters.items in
-    grind (arith, equal_from_test, test_from_equal)
+same_decides m n = grind (arith, pairs_decide, equal_from_test, test_from_equal)
 
 -- copies
 

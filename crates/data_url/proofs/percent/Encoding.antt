@@ -5,7 +5,7 @@ use Rattle.std.proofs.Common.{append-nil, arith, suc, ◌≤◌, get_or}
 use Rattle.std.specs.Prelude.{◌==◌, slice_index, nat_lt}
 use Rattle.std.specs.Str.{bytes_eq, IsAscii, IsUtf8}
 use Rattle.std.proofs.lemmas.Bool.{agree_below, agree_below_at, and_parts, eqb-true, and_left, cases_Bool}
-use Rattle.std.proofs.lemmas.Bool.{cond_both, both_ways, ne_eqb, or_left, ltb-true, not-true}
+use Rattle.std.proofs.lemmas.Bool.{cond_both, both_ways, ne_eqb, ltb-true, not-true}
 use Rattle.std.proofs.lemmas.Slice.Eq.{bytes_eq-Decides}
 use Rattle.data_url.specs.Url.{in_path_set, in_query_set, before, after, encoded_byte, encoded_path}
 use Rattle.data_url.specs.Url.{hex_digit, in_path_end_set, percent_encoding, serialised, with_query}
