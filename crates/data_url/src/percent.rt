@@ -69,6 +69,7 @@ fn encode_part(set: EncodeSet, part: &[u8], room: &mut [u8; ROOM]) -> usize
 }
 
 /// Writes bytes at the end of a text, without their tabs and newlines and percent-encoded.
+#[tactic(auto, using(crate::proofs::percent::Encoding::parts))]
 #[inline(always)]
 pub(crate) fn push_encoded(
     text: &mut String,

@@ -305,8 +305,12 @@ module _ {old : KeptParameters} (name value : String Global) (x : IsIndexed old)
       -- the set has the name exactly if one of the pairs has it
       set_knows : b ≡ not (has_name (code_points name) (pairs_of old))
       set_knows =
-          cc (x.later (string_bytes copy), named_later (code_points name)
-              (pairs_of old) new, lowercase_bytes name lower)
+          cc (
+            x.later (string_bytes copy),
+            named_later (code_points name)
+                (pairs_of old) new,
+            lowercase_bytes name lower,
+          )
 
       -- if the set has the name, the pair is not added
       pub not_pushed : b ≡ false → pairs_of old ≡ pairs_of old ++ unless_named (pairs_of old) (pair_of

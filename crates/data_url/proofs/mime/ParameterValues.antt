@@ -20,7 +20,7 @@ use Rattle.data_url.specs.declared.mime.values.Value.TheVariants as slices
 use Rattle.data_url.specs.declared.mime.values.Value.{Value}
 use Rattle.data_url.specs.Url.{without_end, without_front}
 use Rattle.data_url.proofs.texts.CodePoints.{IsCutInto, IsSteady, cut_front, front_further, front_passes, no_chars, same_empty}
-use Rattle.data_url.proofs.mime.TokenTexts.{values_steady, whole_front}
+use Rattle.data_url.proofs.mime.TokenTexts.{values_cut, whole_front}
 
 -- The bytes of quoted-string code points
 
@@ -77,7 +77,7 @@ module _ {text bytes : List ℕ} {q more : ℕ} (u : IsUtf8 text) (e : bytes ≡
 
   -- a UTF-8 text can be cut there
   pub cut_plain : IsCutInto text (q + more) (front_of in_value (chars text)) (without_front in_value (chars text))
-  cut_plain = rw front_len (cut_front in_value values_steady text u)
+  cut_plain = rw front_len (values_cut text u)
 
   module _ {front t : List ℕ} {b : Bool} (w : IsUtf8 t) (h : front ≡ take (q + more) text) (k : t ≡ take
       (length t) front)

@@ -7,8 +7,9 @@ use Rattle.std.specs.List.{list_all, list_any, prefix_len}
 use Rattle.std.specs.Str.{IsAscii, IsUtf8, chars}
 use Rattle.data_url.specs.CodePoints.{is_http_whitespace, is_token}
 use Rattle.data_url.specs.Mime.{Every, is_token_text}
+use Rattle.data_url.specs.Url.{without_front}
 use Rattle.data_url.specs.Steps.Parsing.{IsTokens, front_of, in_name, in_value}
-use Rattle.data_url.proofs.texts.CodePoints.{IsSteady, cut_front, every_ascii, front_passes}
+use Rattle.data_url.proofs.texts.CodePoints.{IsCutInto, IsSteady, cut_front, every_ascii, front_passes}
 
 -- a code point that is not ASCII is none of some ASCII marks
 any_other : (c : ℕ) (marks : List ℕ) → list_all (λ m. nat_lt m 128) marks ≡ true → 128 ≤ c
@@ -30,8 +31,18 @@ pub names_steady : IsSteady in_name
 names_steady c l = grind arith
 
 -- all code points beyond ASCII can be in a value
-pub values_steady : IsSteady in_value
+values_steady : IsSteady in_value
 values_steady c l = grind arith
+
+-- a UTF-8 text can be cut after its longest prefix of HTTP whitespace
+pub spaces_cut : (bs : List ℕ) → IsUtf8 bs → IsCutInto bs (prefix_len is_http_whitespace bs)
+    (front_of is_http_whitespace (chars bs)) (without_front is_http_whitespace (chars bs))
+spaces_cut = cut_front is_http_whitespace spaces_steady
+
+-- a UTF-8 text can be cut before its first ';'
+pub values_cut : (bs : List ℕ) → IsUtf8 bs
+    → IsCutInto bs (prefix_len in_value bs) (front_of in_value (chars bs)) (without_front in_value (chars bs))
+values_cut = cut_front in_value values_steady
 
 -- a token code point is ASCII
 pub token_below : (c : ℕ) → is_token c ≡ true → c < 128

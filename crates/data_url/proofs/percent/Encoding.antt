@@ -1,5 +1,5 @@
 -- Percent-encoding with the rows of a table, and decoding of encoded texts. For `push_encoded`.
-use Rattle.std.proofs.Common.{◌≡◌, ℕ, ◌*◌, ◌+◌, ◌-◌, ◌<◌, ◌&&◌, ◌||◌, Bool, false, true, List, [], ◌∷◌, length, take}
+use Rattle.std.proofs.Common.{append_assoc, ◌≡◌, ℕ, ◌*◌, ◌+◌, ◌-◌, ◌<◌, ◌&&◌, ◌||◌, Bool, false, true, List, [], ◌∷◌, length, take}
 use Rattle.std.proofs.Common.{drop, refl, ◌/◌, ◌%◌, not, ◌++◌, Option, None, Some, sym, ap, ◌∙◌, inl, inr, subst}
 use Rattle.std.proofs.Common.{append-nil, arith, suc, ◌≤◌, get_or}
 use Rattle.std.specs.Prelude.{◌==◌, slice_index, nat_lt}
@@ -21,7 +21,7 @@ use Rattle.data_url.proofs.texts.Bytes.{after_other, after_same, lacks, before_a
 use Rattle.data_url.proofs.texts.Bytes.{dropped_keeps, dropped_nil, dropped_passes, without_tabs_and_newlines-append}
 use Rattle.std.proofs.Math.Seq.{take-append-add}
 use Rattle.std.proofs.lemmas.Grind.{flat_map-append}
-use Rattle.std.proofs.lemmas.List.{take_more, length-take-le, take-take}
+use Rattle.std.proofs.lemmas.List.{nil_from_length, take_more, length-take-le, take-take}
 use Rattle.std.proofs.lemmas.Str.{IsAscii-append, IsUtf8-from_ascii}
 use Rattle.std.proofs.lemmas.Str.Ascii.{IsAscii-nil}
 use Rattle.data_url.specs.declared.percent.EncodeSet.TheVariants.{Fragment, Path, Query}
@@ -344,6 +344,9 @@ percent_encoding-append p s t = flat_map-append (encoded_byte p) s t
 -- the encoding of s ++ t is that of s, then that of t
 pub encoded-append : (p : ℕ → Bool) (s t : List ℕ) → encoded p (s ++ t) ≡ encoded p s ++ encoded p t
 encoded-append p s t = grind (arith, without_tabs_and_newlines-append, percent_encoding-append)
+
+-- the lemmas that join the encodings of parts
+pub ruleset parts = (append_assoc, append-nil, encoded-append, encoded_empty, nil_from_length)
 
 -- if each byte is written as it is, the whole text is
 pub kept_whole : (p : ℕ → Bool) (s : List ℕ)
