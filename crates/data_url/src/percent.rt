@@ -51,6 +51,7 @@ fn put(room: &mut [u8; ROOM], at: usize, row: &[u8])
 
 /// Writes a part to the front of the buffer, without its tabs and newlines and percent-encoded, and
 /// returns how many bytes that takes.
+#[tactic(auto, using(crate::proofs::percent::Encoding::parts))]
 #[inline(always)]
 fn encode_part(set: EncodeSet, part: &[u8], room: &mut [u8; ROOM]) -> usize
     requires { length part.now ≤ 64 }

@@ -3,9 +3,6 @@ use Rattle.std.proofs.lemmas.List.{take_all}
 use Rattle.data_url.proofs.percent.Encoding.{encoded_empty, encoded_text, put_more}
 use Rattle.data_url.proofs.percent.encode_part.Goals as goal
 
-pub loop-byte-init : goal.loop-byte-init
-loop-byte-init c = grind (arith, encoded_empty)
-
 pub loop-byte-preserved : goal.loop-byte-preserved
 loop-byte-preserved c = rw c.from-at.ensures (put_more _ _ _ _ _ _ _ c.loop-byte.invariant c.loop-byte-test.true
     (omega arith) c.row-row.ensures c.put.array_long c.put.ensures)
