@@ -30,6 +30,7 @@ pub(super) fn without_leading_whitespace(text: &str) -> &str
 }
 
 /// The text without HTTP whitespace at its end.
+#[tactic(auto, using(crate::proofs::mime::TokenTexts::spaces_at_end))]
 pub(super) fn without_trailing_whitespace(text: &str) -> &str
     ensures trimmed { IsTrimmedEnd is_http_whitespace (chars text.now) (chars result.now) }
     ensures without { chars result.now ≡ without_end is_http_whitespace (chars text.now) }

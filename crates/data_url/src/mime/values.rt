@@ -62,6 +62,7 @@ fn unescaped(alloc: Global, quoted: &str) -> Result<String, AllocError>
 }
 
 /// A text of token code points, in ASCII lower case.
+#[tactic(auto, using(crate::proofs::mime::FirstNames::lower_chars))]
 pub(super) fn lowercased(alloc: Global, text: &str) -> Result<String, AllocError>
     requires { IsTrue (is_token_text (chars text.now)) }
     ensures { IfOk result (λ lower. code_points lower ≡ map to_ascii_lowercase (chars text.now)) }
