@@ -1,6 +1,6 @@
 use Rattle.std.proofs.Common.{ap, arith, min, sym, ◌∙◌}
 use Rattle.data_url.specs.declared.mime.kept.TheConstants.{LOOKED_THROUGH}
-use Rattle.data_url.proofs.mime.FirstNames.{among_first, key_lower, key_next, some_byte}
+use Rattle.data_url.proofs.mime.FirstNames.{among_first, key_lower, key_next}
 use Rattle.data_url.proofs.mime.kept.KeptParameters.is_among_first.Goals as goal
 
 pub loop-key-init : goal.loop-key-init
