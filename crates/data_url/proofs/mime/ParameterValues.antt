@@ -71,7 +71,8 @@ value_if (c ∷ v) = grind arith
 module _ {text bytes : List ℕ} {q more : ℕ} (u : IsUtf8 text) (e : bytes ≡ text)
     (f : q ≡ prefix_len is_unquoted_byte bytes) (g : more ≡ prefix_len in_value (take (length bytes - q)
     (drop q bytes))) where
-  -- the longest prefix without ';' is the longest one of unquoted bytes, and then the longest one without ';' of the rest
+  -- the longest prefix without ';' is the longest one of unquoted bytes, and then the longest one without ';' of the
+  -- rest
   front_len : q + more ≡ prefix_len in_value text
   front_len = grind (arith, take_rest, front_further, prefix_len-le-length, prefix_len_passes)
 

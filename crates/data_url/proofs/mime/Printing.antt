@@ -85,8 +85,8 @@ pairs_text pairs = encode_utf8_all (flat_map printed_pair (map (λ p. pair_of p)
 
 module _ {A B : Type 0} {pairs items : List (String A × String B)} (i : ℕ) (done : List ℕ) {whole : List ℕ}
     (e : items ≡ pairs) (h : done ++ pairs_text (drop i pairs) ≡ whole) where
-  -- if the bytes so far and the printed pairs from index i on are the whole, they still are after pair i, of which a and b
-  -- are the bytes, is printed and moved to them
+  -- if the bytes so far and the printed pairs from index i on are the whole, they still are after pair i, of which a
+  -- and b are the bytes, is printed and moved to them
   pub record_more : {item : String A × String B} (a b : List ℕ) → i < length items → item ≡ get_or items i item
       → a ≡ string_bytes item.0 → b ≡ string_bytes item.1
       → (done ++ encode_utf8_all (printed_pair (chars a, chars b))) ++ pairs_text (drop (i + 1) pairs) ≡ whole

@@ -66,7 +66,8 @@ end_onto : (p : ℕ → Bool) (c : ℕ) (t back acc : List ℕ) → Every p back
 end_onto p c [] back acc h e = grind (arith, onto_len p back (c ∷ acc) h)
 end_onto p c (d ∷ t) back acc h e = end_onto p d t back (c ∷ acc) h e
 
--- the longest suffix of t ++ back that passes is `back`, if `back` passes and t does not end with a code point that passes
+-- the longest suffix of t ++ back that passes is `back`, if `back` passes and t does not end with a code point that
+-- passes
 end_len : (p : ℕ → Bool) (t back : List ℕ) → Every p back → DoesNotEnd p t → suffix_len p (t ++ back) ≡ length back
 end_len p [] back h e = grind (arith, onto_len p back [] h)
 end_len p (c ∷ t) back h e = end_onto p c t back [] h e

@@ -72,8 +72,8 @@ const FRAGMENT: [u8; 1024] = *b"\
     %F0\x03%F1\x03%F2\x03%F3\x03%F4\x03%F5\x03%F6\x03%F7\x03%F8\x03%F9\x03%FA\x03%FB\x03%FC\x03%FD\x03%FE\x03%FF\x03\
     ";
 
-/// The class of the bytes that are written as they are: for each low half of a byte, the bits of the columns in which it
-/// is not.
+/// The class of the bytes that are written as they are: for each low half of a byte, the bits of the columns in which
+/// it is not.
 #[inline(always)]
 pub(super) fn others(set: EncodeSet) -> [u8; 16]
     ensures { (b : ℕ) → b < 256 → is_marked result b ≡ false
