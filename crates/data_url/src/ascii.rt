@@ -13,7 +13,7 @@ pub(crate) fn is_tab_or_newline(byte: u8) -> bool
 }
 
 /// The text without C0 controls and spaces at both ends.
-#[tactic(auto, unfolding(crate::specs::Url::trimmed_text))]
+#[tactic(auto, using(crate::proofs::texts::CodePoints::controls), unfolding(crate::specs::Url::trimmed_text))]
 pub(crate) fn trim(text: &str) -> &str
     ensures { result.now ≡ trimmed_text text.now }
 {

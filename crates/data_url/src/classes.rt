@@ -53,15 +53,15 @@ const CLASSES: [u8; 256] = [
 pub(crate) fn has(class: Class, byte: u8) -> bool
     ensures { result ≡ in_class class byte }
 {
-    let bits = CLASSES[byte as usize];
-    match class {
-        Class::Token => bits & 1 != 0,
-        Class::Quotable => bits & 2 != 0,
-        Class::Unquoted => bits & 4 != 0,
-        Class::PlainPath => bits & 8 != 0,
-        Class::Whitespace => bits & 16 != 0,
-        Class::Unescaped => bits & 32 != 0,
-    }
+    let bit = match class {
+        Class::Token => 1,
+        Class::Quotable => 2,
+        Class::Unquoted => 4,
+        Class::PlainPath => 8,
+        Class::Whitespace => 16,
+        Class::Unescaped => 32,
+    };
+    CLASSES[byte as usize] & bit != 0
 }
 
 /// How many bytes at the front are in a class.

@@ -51,6 +51,7 @@ fn put(room: &mut [u8; ROOM], at: usize, row: &[u8])
 
 /// Writes a part to the front of the buffer, without its tabs and newlines and percent-encoded, and
 /// returns how many bytes that takes.
+#[tactic(auto, using(crate::proofs::percent::Encoding::parts))]
 #[inline(always)]
 fn encode_part(set: EncodeSet, part: &[u8], room: &mut [u8; ROOM]) -> usize
     requires { length part.now ≤ 64 }
@@ -69,6 +70,7 @@ fn encode_part(set: EncodeSet, part: &[u8], room: &mut [u8; ROOM]) -> usize
 }
 
 /// Writes bytes at the end of a text, without their tabs and newlines and percent-encoded.
+#[tactic(auto, using(crate::proofs::percent::Encoding::parts))]
 #[inline(always)]
 pub(crate) fn push_encoded(
     text: &mut String,

@@ -1,14 +1,11 @@
 -- An encoded fragment is read again as it is.
 use Rattle.std.proofs.Common.{◌≡◌, ℕ, ◌<◌, true, false, List, [], ◌∷◌, ◌++◌, Some, codes, refl, sym}
 use Rattle.std.proofs.Common.{ap, ◌∙◌, subst, arith}
-use Rattle.std.specs.Prelude.{option_and_then}
-use Rattle.std.specs.Option.{option_map}
-use Rattle.std.specs.List.{prefix_len}
-use Rattle.std.proofs.lemmas.Bool.{agree_below_at, cond-false}
+use Rattle.std.proofs.lemmas.Bool.{agree_below_at}
 use Rattle.data_url.specs.Url.{after_scheme, before, after, cleaned_text, without_tabs_and_newlines, encoded_path}
-use Rattle.data_url.specs.Url.{fragment, front, hex_digit, in_fragment_set, is_c0_control_or_space, is_tab_or_newline}
+use Rattle.data_url.specs.Url.{fragment, front, hex_digit, in_fragment_set, is_tab_or_newline}
 use Rattle.data_url.specs.Url.{percent_encoding, serialised, trimmed_text}
-use Rattle.data_url.specs.Fetch.{before_comma, encoded_body, header_of, staged, staged_fragment, staged_front}
+use Rattle.data_url.specs.Fetch.{encoded_body, header_of, staged, staged_fragment, staged_front}
 use Rattle.data_url.specs.Laws.{IsReadAgain, is_fragment_byte}
 use Rattle.data_url.specs.Mime.{Every}
 use Rattle.data_url.proofs.percent.Encoding.{IsBytes, encoded_cons, encoded_nil}
@@ -19,11 +16,11 @@ use Rattle.data_url.proofs.texts.Bytes.{dropped_keeps, dropped_nil}
 
 -- an encoded fragment can have each upper-case hexadecimal digit
 digit_byte : (d : ℕ) → d < 16 → is_fragment_byte (hex_digit d) ≡ true
-digit_byte d l = grind (arith, agree_below_at)
+digit_byte d l = agree_below_at (λ d. is_fragment_byte (hex_digit d)) (λ d. true) 16 d refl l
 
 -- the percent-encoding of a fragment has only bytes that an encoded fragment can have
 pub fragment_bytes : (s : List ℕ) → IsBytes s → Every is_fragment_byte (percent_encoding in_fragment_set s)
-fragment_bytes [] h = grind (arith, encoded_nil)
+fragment_bytes [] h = subst (Every is_fragment_byte) (sym (encoded_nil in_fragment_set)) tt
 fragment_bytes (b ∷ s) h = grind (arith, encoded_cons, digit_byte, fragment_bytes s h.1)
 
 -- Such bytes stay as they are
@@ -42,24 +39,15 @@ dropped_itself : (t : List ℕ) → Every is_fragment_byte t → without_tabs_an
 dropped_itself [] h = dropped_nil
 dropped_itself (b ∷ t) h = dropped_keeps b t (not_dropped b h.0) ∙ ap (λ s. b ∷ s) (dropped_itself t h.1)
 
--- a text of bytes that an encoded fragment can have does not begin with a C0 control or space
-no_low_front : (t : List ℕ) → Every is_fragment_byte t → prefix_len is_c0_control_or_space t ≡ 0
-no_low_front [] h = refl
-no_low_front (b ∷ t) h = grind (arith, cond-false)
-
--- a byte that an encoded fragment can have is not a C0 control or space
-not_low : (b : ℕ) → is_fragment_byte b ≡ true → is_c0_control_or_space b ≡ false
-not_low b h = grind arith
-
 -- a text of bytes that an encoded fragment can have stays as it is when its ends are trimmed
 trimmed_itself : (t : List ℕ) → Every is_fragment_byte t → trimmed_text t ≡ t
 unfolding trimmed_text
-trimmed_itself t h = grind (arith, no_low_front, end_stays, not_ends_every, not_low)
+trimmed_itself t h = grind (arith, end_stays, not_ends_every)
 
 -- a text of bytes that an encoded fragment can have stays as it is when it is cleaned
 cleaned_itself : (t : List ℕ) → Every is_fragment_byte t → cleaned_text t ≡ t
 unfolding cleaned_text
-cleaned_itself t h = grind (arith, trimmed_itself, dropped_itself)
+cleaned_itself t h = ap without_tabs_and_newlines (trimmed_itself t h) ∙ dropped_itself t h
 
 -- The stages of the text
 
@@ -68,36 +56,12 @@ after_data : (t x : List ℕ) → cleaned_text t ≡ codes "data:,#" ++ x → af
 unfolding after_scheme
 after_data t x h = grind arith
 
--- the serialised front of ",#" and x is a comma
-front_comma : (x : List ℕ) → serialised (front (44 ∷ 35 ∷ x)) ≡ 44 ∷ []
-unfolding front before after serialised encoded_path percent_encoding
-front_comma x = refl
-
--- the fragment of ",#" and x is x
-fragment_after : (x : List ℕ) → fragment (44 ∷ 35 ∷ x) ≡ Some x
-unfolding fragment after
-fragment_after x = refl
-
--- if the text after the scheme is ",#" and x, the staged front is a comma
-front_of_comma : (t x : List ℕ) → after_scheme t ≡ Some (44 ∷ 35 ∷ x) → staged_front t ≡ Some (44 ∷ [])
-unfolding staged_front
-front_of_comma t x h = grind (arith, front_comma)
-
--- if the staged front is a comma, the header is empty
-header_empty : (t : List ℕ) → staged_front t ≡ Some (44 ∷ []) → header_of t ≡ Some []
-unfolding header_of before after
-header_empty t h = grind arith
-
--- if the staged front is a comma, the encoded body is empty
-body_empty : (t : List ℕ) → staged_front t ≡ Some (44 ∷ []) → encoded_body t ≡ Some []
-unfolding encoded_body after
-body_empty t h = grind arith
-
 -- if the text after the scheme is ",#" and x, the encoded fragment is x, percent-encoded
 staged_again : (t x : List ℕ) → after_scheme t ≡ Some (44 ∷ 35 ∷ x)
     → staged_fragment (staged t) ≡ Some (percent_encoding in_fragment_set x)
-unfolding staged
-staged_again t x h = grind (arith, front_of_comma, fragment_after, header_empty, body_empty)
+unfolding staged staged_front header_of encoded_body front before after fragment serialised encoded_path
+    percent_encoding
+staged_again t x h = rw h refl
 
 -- a text of such bytes, read as a fragment, is percent-encoded as itself
 pub read_again : (x : List ℕ) → Every is_fragment_byte x → IsReadAgain x

@@ -14,7 +14,8 @@ use Rattle.std.proofs.lemmas.Str.{IsCharBoundary-after_ascii, IsCharBoundary-fro
 use Rattle.data_url.specs.Url.{without_tabs_and_newlines, is_tab_or_newline, after, front}
 use Rattle.data_url.specs.Steps.Front.{HasNoScheme, IsSchemeAndRest, IsHeaderAndTail, ends_header, is_plain_path}
 use Rattle.data_url.proofs.percent.Encoding.{ascii_all, Plain, plain_serialised}
-use Rattle.data_url.proofs.texts.Bytes.{append-nil, without_tabs_and_newlines-append, dropped_around, dropped_keeps, dropped_nil}
+use Rattle.std.proofs.Common.{append-nil}
+use Rattle.data_url.proofs.texts.Bytes.{without_tabs_and_newlines-append, dropped_around, dropped_keeps, dropped_nil}
 use Rattle.data_url.proofs.texts.Bytes.{dropped_passes, before_all, before_at, after_none}
 use Rattle.std.specs.Prelude.{◌||◌}
 use Rattle.std.proofs.lemmas.List.Quantifiers.{position-Some}

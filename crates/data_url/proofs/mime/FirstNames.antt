@@ -2,7 +2,7 @@
 use Rattle.std.proofs.Common.{◌≡◌, ℕ, List, String, ap, length, map, min, sym, take, ◌∙◌, ◌<◌, ◌||◌, ◌&&◌, Bool}
 use Rattle.std.proofs.Common.{true, false, cond, [], ◌∷◌, ◌++◌, get_or, drop, Option, None, Some, refl, ap₂, subst}
 use Rattle.std.proofs.Common.{Global, drop-cons, add-one, ◌+◌, append_assoc, append-nil, arith, inl, inr, ◌≤◌, not, string_bytes}
-use Rattle.std.proofs.lemmas.List.{take-map, take_min, get_or-take, length-take, map-append, drop-append-le, length-append, take-append-drop}
+use Rattle.std.proofs.lemmas.List.{length-map, take-map, take_min, get_or-take, length-take, map-append, drop-append-le, length-append, take-append-drop}
 use Rattle.data_url.specs.Mime.{has_name, BeginsParameters, Item, Items, Pair, first_of_each_name, is_lowercase_name}
 use Rattle.data_url.specs.Mime.{is_token_text, kept_pairs, valid_of, valid_pairs, HasNoRecord, IsHead, IsWellformed}
 use Rattle.data_url.specs.Mime.{Parses, Record, has_distinct_names, IsRecordOfParts}
@@ -10,7 +10,7 @@ use Rattle.data_url.specs.MimeType.{pair_of, code_points}
 use Rattle.data_url.specs.Steps.Kept.{first_of, pairs_of, HasLaterNames, IsIndexed}
 use Rattle.data_url.specs.declared.mime.kept.KeptParameters.{KeptParameters}
 use Rattle.data_url.specs.declared.mime.kept.TheConstants.{LOOKED_THROUGH}
-use Rattle.std.proofs.lemmas.Bool.{agree_below_at, and_from, and_parts, cases_lt, cond_both}
+use Rattle.std.proofs.lemmas.Bool.{cond-true, not-false, not-true, agree_below_at, and_from, and_parts, cases_lt, cond_both}
 use Rattle.std.proofs.lemmas.Bool.{false_from_ne_true, false≢true}
 use Rattle.std.proofs.lemmas.List.Folds.{list_all-append, list_all-map, list_all_at, list_any-append}
 use Rattle.std.proofs.lemmas.Slice.Eq.{bytes_eq-Decides}
@@ -139,9 +139,7 @@ module _ {kept : KeptParameters} {all : List (String Global × String Global)} (
       → has_name (map to_ascii_lowercase (chars n)) (map (λ p. pair_of p) (drop i (take k all)))
       ≡ (r || has_name (map to_ascii_lowercase (chars n)) (map (λ p. pair_of p) (drop (i + 1) (take k all))))
   key_next n r u t d =
-      let same = bytes_of_ascii n u (token_text_ascii (chars n) t) in
-      let first = drop-cons (take k all) i item l in
-      cc (same, first, key_is.0, key_is.1, add-one i, same_from_decides r _ d (bytes_eq-Decides _ _))
+      grind (arith, bytes_of_ascii, token_text_ascii, drop-cons, key_is, add-one, same_from_decides, bytes_eq-Decides)
 
 -- The pairs that are kept with one more item
 
@@ -154,10 +152,7 @@ has_pushed n xs p = grind (arith, list_any-append {X = Pair})
 first_same : (e e' ps : List Pair) → ((n : List ℕ) → has_name n e ≡ has_name n e')
     → first_of_each_name e ps ≡ first_of_each_name e' ps
 first_same e e' [] h = refl
-first_same e e' (q ∷ ps) h =
-    let same = first_same (e ++ (q ∷ [])) (e' ++ (q ∷ [])) ps (λ n. grind (arith, has_pushed, h n)) in
-    let here = h q.0 in
-    grind arith
+first_same e e' (q ∷ ps) h = grind (arith, has_pushed, first_same (e ++ (q ∷ [])) (e' ++ (q ∷ [])) ps)
 
 -- if the pairs have the name of q, they have each name that is equal to it
 named : (n : List ℕ) (e : List Pair) (q : Pair) → has_name q.0 e ≡ true → bytes_eq q.0 n ≡ true → has_name n e ≡ true
@@ -172,11 +167,13 @@ known_pushed n e q h = grind (arith, has_pushed, named n e q)
 first_step : (pairs : List Pair) (item : Item) (ps : List Pair) → first_of_each_name pairs (valid_of item ++ ps)
     ≡ added_pairs pairs item ++ first_of_each_name (pairs ++ added_pairs pairs item) ps
 first_step pairs (name, None) ps = rw (append-nil pairs) refl
-first_step pairs (name, Some v) ps =
-    let q : Pair = (name, v) in
-    let known = λ (h : has_name q.0 pairs ≡ true).
-    first_same (pairs ++ (q ∷ [])) pairs ps (λ n. known_pushed n pairs q h) in
-    grind (arith, append-nil)
+first_step pairs (name, Some v) ps = grind (arith, first_same, known_pushed, append-nil)
+
+-- one of the pairs has a name exactly if one of the first pairs or one of the later pairs has it
+first_or_later : (n : List ℕ) (pairs : List Pair)
+    → has_name n pairs ≡ (has_name n (first_of pairs) || has_name n (drop LOOKED_THROUGH pairs))
+first_or_later n pairs = ap (has_name n) (sym (take-append-drop LOOKED_THROUGH pairs))
+    ∙ list_any-append (λ (p : Pair). bytes_eq p.0 n) (first_of pairs) (drop LOOKED_THROUGH pairs)
 
 -- What the parser keeps for one parameter
 
@@ -185,22 +182,16 @@ pub none_added : {A B : Type 0} (pairs : List (String A × String B)) (more : Li
     → map (λ p. pair_of p) pairs ≡ map (λ p. pair_of p) pairs ++ more
 none_added pairs more e = sym (ap (λ x. map (λ p. pair_of p) pairs ++ x) e ∙ append-nil (map (λ p. pair_of p) pairs))
 
--- if a pair is pushed, and its code points are those to be added, these are added to the pairs of code points
-pub one_added : {A B : Type 0} (pairs pairs' : List (String A × String B)) (name : String A) (value : String B)
-    (more : List Pair) → pairs' ≡ pairs ++ ((name, value) ∷ []) → more ≡ (code_points name, code_points value) ∷ []
-    → map (λ p. pair_of p) pairs' ≡ map (λ p. pair_of p) pairs ++ more
-one_added pairs pairs' name value more e h = grind (arith, map-append)
-
 -- a name that is not a token text has no pair
 pub invalid_name : (name : List ℕ) (value : Option (List ℕ)) → is_token_text name ≡ false → pair_if name value ≡ []
 invalid_name name None h = refl
 invalid_name name (Some v) h = grind arith
 
--- if one of the pairs has a name, no pair of that name is added
-pub known_name : (xs : List Pair) (name : List ℕ) (value : Option (List ℕ)) → has_name name xs ≡ true
+-- if one of the first pairs has a name, no pair of that name is added
+pub known_name : (xs : List Pair) (name : List ℕ) (value : Option (List ℕ)) → has_name name (first_of xs) ≡ true
     → unless_named xs (pair_if name value) ≡ []
 known_name xs name None h = refl
-known_name xs name (Some v) h = grind arith
+known_name xs name (Some v) h = let all = first_or_later name xs in grind arith
 
 -- the pair of a token text in lower case and a value
 pub new_pair : (n name value : List ℕ) (o : Option (List ℕ)) (b : Bool) → b ≡ is_token_text n → b ≡ true
@@ -240,12 +231,7 @@ keeps_more {whole} {rest} {s} {pairs = pairs} k e p r a =
 -- if the rest does not begin with ';', the pairs are those that are kept of the items of the whole text
 pub keeps_end : {whole rest : List ℕ} {pairs : List Pair} → KeepsOn whole rest pairs → BeginsParameters whole
     → after_mark 59 rest ≡ None → (items : List Item) × Items whole items × (pairs ≡ kept_pairs items)
-keeps_end {whole} {rest = []} {pairs = pairs} k w e = (
-  items_in (length whole) whole,
-  has_items whole w,
-  sym
-      (append-nil pairs) ∙ k.kept,
-)
+keeps_end {whole} {rest = []} {pairs = pairs} k w e = grind (arith, items_in, has_items, append-nil)
 keeps_end {rest = c ∷ rest} k w e = let begins = k.begins in absurd (grind arith)
 
 -- the rest after a parameter is shorter than the text
@@ -256,16 +242,6 @@ rest_smaller rest s rest' e r = omega (arith, rest_shorter s, ap length r, ap le
 -- Which names the first pairs and the set of later names have.
 
 -- The first pairs and the others
-
--- one of the pairs has a name exactly if one of the first pairs or one of the later pairs has it
-first_or_later : (n : List ℕ) (pairs : List Pair)
-    → has_name n pairs ≡ (has_name n (first_of pairs) || has_name n (drop LOOKED_THROUGH pairs))
-first_or_later n pairs = ap (has_name n) (sym (take-append-drop LOOKED_THROUGH pairs))
-    ∙ list_any-append (λ (p : Pair). bytes_eq p.0 n) (first_of pairs) (drop LOOKED_THROUGH pairs)
-
--- if one of the first pairs has a name, one of all pairs has it
-pub named_first : (n : List ℕ) (pairs : List Pair) → has_name n (first_of pairs) ≡ true → has_name n pairs ≡ true
-named_first n pairs h = grind (arith, first_or_later)
 
 -- if none of the first pairs has a name, one of all pairs has it exactly if one of the later pairs has it
 pub named_later : (n : List ℕ) (pairs : List Pair) → has_name n (first_of pairs) ≡ false
@@ -283,18 +259,6 @@ lowercase_bytes name h = grind (arith, IsUtf8-string_bytes, bytes_of_ascii, toke
 pub few_names : (n : List ℕ) (pairs : List Pair) → length pairs ≤ LOOKED_THROUGH
     → has_name n (drop LOOKED_THROUGH pairs) ≡ false
 few_names n pairs l = ap (has_name n) (drop_of_length-le pairs l)
-
--- if a new pair is one of the first pairs, the set still has the names of the later pairs
-pub first_names : {A : Type 0} (later : BTreeSet (String A)) (pairs : List Pair) (p : Pair)
-    → length pairs < LOOKED_THROUGH → HasLaterNames later pairs → HasLaterNames later (pairs ++ (p ∷ []))
-first_names later pairs p l h n = h n ∙ few_names n pairs (omega arith)
-    ∙ sym (few_names n (pairs ++ (p ∷ [])) (simp length-append (omega arith)))
-
--- if none of the first pairs has the name of p, the set has it exactly if one of all pairs has it
-pub set_knows : {A : Type 0} (later : BTreeSet (String A)) (pairs : List Pair) (p : Pair) (name : String A) (b : Bool)
-    → HasLaterNames later pairs → string_bytes name ≡ p.0 → has_name p.0 (first_of pairs) ≡ false
-    → b ≡ not (contains string_cmp later name) → b ≡ not (has_name p.0 pairs)
-set_knows later pairs p name b h e f a = cc (h (string_bytes name), named_later p.0 pairs f)
 
 -- the choice of true if b is true, and x otherwise, is `x || b`
 or_cond : (b x : Bool) → cond b true x ≡ (x || b)
@@ -314,11 +278,55 @@ later_names later later' pairs p name l h e u n =
       drop-append-le LOOKED_THROUGH pairs (p ∷ []) l,
     )
 
--- if a pair with a lower-case name is pushed, and the set has the names of the later pairs, the pairs stay indexed
-pub indexed_more : (kept kept' : KeptParameters) (p : Pair) → IsIndexed kept → is_lowercase_name p.0 ≡ true
-    → pairs_of kept' ≡ pairs_of kept ++ (p ∷ []) → HasLaterNames kept'.later_names (pairs_of kept ++ (p ∷ []))
-    → IsIndexed kept'
-indexed_more kept kept' p i l e h = grind (arith, list_all-append)
+module _ {old : KeptParameters} (name value : String Global) (x : IsIndexed old)
+    (lower : is_lowercase_name (code_points name) ≡ true) (new : has_name (code_points name) (first_of
+    (pairs_of old)) ≡ false)
+  where
+    -- a pair that is pushed is added, if its name is new and the set has the names of the later pairs
+    pushes : (kept : KeptParameters) → has_name (code_points name) (pairs_of old) ≡ false
+        → kept.pairs.items ≡ old.pairs.items ++ ((name, value) ∷ [])
+        → HasLaterNames kept.later_names (pairs_of old ++ (pair_of (name, value) ∷ []))
+        → (pairs_of kept ≡ pairs_of old ++ unless_named (pairs_of old) (pair_of (name, value) ∷ [])) × IsIndexed kept
+    pushes kept n e h = grind (arith, map-append, list_all-append)
+
+    -- so it is if it is one of the first pairs
+    pub pushed_first : (kept : KeptParameters) → length old.pairs.items < LOOKED_THROUGH
+        → kept.pairs.items ≡ old.pairs.items ++ ((name, value) ∷ []) → kept.later_names ≡ old.later_names
+        → (pairs_of kept ≡ pairs_of old ++ unless_named (pairs_of old) (pair_of (name, value) ∷ [])) × IsIndexed kept
+    pushed_first kept l e f =
+        let len = length-map old.pairs.items (λ q. pair_of q) in
+        pushes kept (named_later (code_points name) (pairs_of old) new ∙ few_names (code_points name) (pairs_of old)
+        (omega arith))
+        e (λ n. ap (λ s. contains_text s n) f ∙ x.later n ∙ few_names n (pairs_of old) (omega arith)
+        ∙ sym (few_names n (pairs_of old ++ (pair_of (name, value) ∷ [])) (simp length-append (omega arith))))
+
+    module _ (copy : String Global) {b : Bool} (same : string_bytes copy ≡ string_bytes name)
+        (added : b ≡ not (contains string_cmp old.later_names copy)) where
+      -- the set has the name exactly if one of the pairs has it
+      set_knows : b ≡ not (has_name (code_points name) (pairs_of old))
+      set_knows =
+          cc (
+            x.later (string_bytes copy),
+            named_later (code_points name)
+                (pairs_of old) new,
+            lowercase_bytes name lower,
+          )
+
+      -- if the set has the name, the pair is not added
+      pub not_pushed : b ≡ false → pairs_of old ≡ pairs_of old ++ unless_named (pairs_of old) (pair_of
+          (name, value) ∷ [])
+      not_pushed f = none_added old.pairs.items _ (cond-true _ _ _ (not-false _ (sym set_knows ∙ f)))
+
+      -- if its name is put into the set, the pair is added
+      pub pushed_later : (kept : KeptParameters) → b ≡ true → LOOKED_THROUGH ≤ length old.pairs.items
+          → kept.pairs.items ≡ old.pairs.items ++ ((name, value) ∷ [])
+          → UpdatesBy string_cmp (λ k. slice_cmp nat_cmp (string_bytes copy)
+          (string_bytes k)) old.later_names kept.later_names true
+          → (pairs_of kept ≡ pairs_of old ++ unless_named (pairs_of old) (pair_of (name, value) ∷ [])) × IsIndexed kept
+      pushed_later kept t l e u =
+          let len = length-map old.pairs.items (λ q. pair_of q) in
+          pushes kept (not-true _ (sym set_knows ∙ t)) e (later_names old.later_names kept.later_names (pairs_of old)
+          (pair_of (name, value)) copy (omega arith) x.later (same ∙ lowercase_bytes name lower) u)
 
 -- The record of a text is well-formed, and a text with a head has a record.
 

@@ -20,7 +20,7 @@ use Rattle.data_url.specs.declared.mime.values.Value.TheVariants as slices
 use Rattle.data_url.specs.declared.mime.values.Value.{Value}
 use Rattle.data_url.specs.Url.{without_end, without_front}
 use Rattle.data_url.proofs.texts.CodePoints.{IsCutInto, IsSteady, cut_front, front_further, front_passes, no_chars, same_empty}
-use Rattle.data_url.proofs.mime.TokenTexts.{values_steady, whole_front}
+use Rattle.data_url.proofs.mime.TokenTexts.{values_cut, whole_front}
 
 -- The bytes of quoted-string code points
 
@@ -71,13 +71,14 @@ value_if (c ∷ v) = grind arith
 module _ {text bytes : List ℕ} {q more : ℕ} (u : IsUtf8 text) (e : bytes ≡ text)
     (f : q ≡ prefix_len is_unquoted_byte bytes) (g : more ≡ prefix_len in_value (take (length bytes - q)
     (drop q bytes))) where
-  -- the longest prefix without ';' is the longest one of unquoted bytes, and then the longest one without ';' of the rest
+  -- the longest prefix without ';' is the longest one of unquoted bytes, and then the longest one without ';' of the
+  -- rest
   front_len : q + more ≡ prefix_len in_value text
   front_len = grind (arith, take_rest, front_further, prefix_len-le-length, prefix_len_passes)
 
   -- a UTF-8 text can be cut there
   pub cut_plain : IsCutInto text (q + more) (front_of in_value (chars text)) (without_front in_value (chars text))
-  cut_plain = rw front_len (cut_front in_value values_steady text u)
+  cut_plain = rw front_len (values_cut text u)
 
   module _ {front t : List ℕ} {b : Bool} (w : IsUtf8 t) (h : front ≡ take (q + more) text) (k : t ≡ take
       (length t) front)

@@ -108,12 +108,6 @@ module _ {s t a x : List ℕ} (first : IsTokens t a x) (e : t ≡ trimmed_of is_
 
 -- One parameter
 
--- the pair of a value that is tested is the valid pair of the value
-pair_of_quotable : (name : List ℕ) (value : Option (List ℕ)) → pair_if name (quotable_value value) ≡ valid_of
-    (name, value)
-pair_of_quotable name None = refl
-pair_of_quotable name (Some value) = grind arith
-
 module _ (s : List ℕ) {t x : List ℕ} {o : Option (List ℕ)} (e : t ≡ named s) (f : x ≡ without_front in_name t)
     (h : after_mark 61 x ≡ o) where
   -- what is read after a name
@@ -127,4 +121,4 @@ module _ (s : List ℕ) {t x : List ℕ} {o : Option (List ℕ)} (e : t ≡ name
   -- the pair that is read
   pub pair_by : (name : List ℕ) (value : Option (List ℕ)) → name ≡ front_of in_name t
       → value ≡ quotable_value (reading x o).value → pair_if (map to_ascii_lowercase name) value ≡ valid_of (item_in s)
-  pair_by name value n v = grind (arith, reading_by, pair_of_quotable)
+  pair_by name value n v = grind (arith, reading_by)

@@ -1,11 +1,11 @@
 -- Percent-encoding with the rows of a table, and decoding of encoded texts. For `push_encoded`.
-use Rattle.std.proofs.Common.{◌≡◌, ℕ, ◌*◌, ◌+◌, ◌-◌, ◌<◌, ◌&&◌, ◌||◌, Bool, false, true, List, [], ◌∷◌, length, take}
+use Rattle.std.proofs.Common.{append_assoc, ◌≡◌, ℕ, ◌*◌, ◌+◌, ◌-◌, ◌<◌, ◌&&◌, ◌||◌, Bool, false, true, List, [], ◌∷◌, length, take}
 use Rattle.std.proofs.Common.{drop, refl, ◌/◌, ◌%◌, not, ◌++◌, Option, None, Some, sym, ap, ◌∙◌, inl, inr, subst}
 use Rattle.std.proofs.Common.{append-nil, arith, suc, ◌≤◌, get_or}
 use Rattle.std.specs.Prelude.{◌==◌, slice_index, nat_lt}
 use Rattle.std.specs.Str.{bytes_eq, IsAscii, IsUtf8}
 use Rattle.std.proofs.lemmas.Bool.{agree_below, agree_below_at, and_parts, eqb-true, and_left, cases_Bool}
-use Rattle.std.proofs.lemmas.Bool.{cond_both, both_ways, ne_eqb, or_left, ltb-true, not-true}
+use Rattle.std.proofs.lemmas.Bool.{cond_both, both_ways, ne_eqb, ltb-true, not-true}
 use Rattle.std.proofs.lemmas.Slice.Eq.{bytes_eq-Decides}
 use Rattle.data_url.specs.Url.{in_path_set, in_query_set, before, after, encoded_byte, encoded_path}
 use Rattle.data_url.specs.Url.{hex_digit, in_path_end_set, percent_encoding, serialised, with_query}
@@ -21,7 +21,7 @@ use Rattle.data_url.proofs.texts.Bytes.{after_other, after_same, lacks, before_a
 use Rattle.data_url.proofs.texts.Bytes.{dropped_keeps, dropped_nil, dropped_passes, without_tabs_and_newlines-append}
 use Rattle.std.proofs.Math.Seq.{take-append-add}
 use Rattle.std.proofs.lemmas.Grind.{flat_map-append}
-use Rattle.std.proofs.lemmas.List.{take_more, length-take-le, take-take}
+use Rattle.std.proofs.lemmas.List.{nil_from_length, take_more, length-take-le, take-take}
 use Rattle.std.proofs.lemmas.Str.{IsAscii-append, IsUtf8-from_ascii}
 use Rattle.std.proofs.lemmas.Str.Ascii.{IsAscii-nil}
 use Rattle.data_url.specs.declared.percent.EncodeSet.TheVariants.{Fragment, Path, Query}
@@ -196,11 +196,6 @@ unfolding encoded_path
 path_cons b [] = grind (arith, append-nil)
 path_cons b (c ∷ s) = refl
 
--- each byte of the set for a byte of a path, whatever follows it, is in the query's set
-pub path_byte_within : (path : List ℕ) (b : ℕ) → path_byte_set path b ≡ true → in_query_set b ≡ true
-path_byte_within [] b h = grind arith
-path_byte_within (c ∷ s) b h = grind (arith, or_left)
-
 -- the empty text is serialised as the empty text
 pub serialised_nil : serialised [] ≡ []
 unfolding serialised before after encoded_path
@@ -231,7 +226,7 @@ serialised_recoded [] h = subst (λ x. Recoded [] x) (sym serialised_nil) none
 serialised_recoded (b ∷ s) h = elim (cases_Bool (b == 63)) [
   | inl e ↦ let f : b ≡ 63 = eqb-true b 63 e in subst (λ v. Recoded (v ∷ s) (serialised (v ∷ s))) (sym f)
       (subst (λ x. Recoded (63 ∷ s) x) (sym (serialised_query s)) (kept 63 (is_recoded in_query_set (λ b e. e) s h.1)))
-  | inr e ↦ grind (arith, serialised_path, recoded_byte, path_byte_within, serialised_recoded s h.1)
+  | inr e ↦ grind (arith, serialised_path, recoded_byte, serialised_recoded s h.1)
 ]
 
 -- The first comma
@@ -346,6 +341,9 @@ percent_encoding-append p s t = flat_map-append (encoded_byte p) s t
 -- the encoding of s ++ t is that of s, then that of t
 pub encoded-append : (p : ℕ → Bool) (s t : List ℕ) → encoded p (s ++ t) ≡ encoded p s ++ encoded p t
 encoded-append p s t = grind (arith, without_tabs_and_newlines-append, percent_encoding-append)
+
+-- the lemmas that join the encodings of parts
+pub ruleset parts = (append_assoc, append-nil, encoded-append, encoded_empty, nil_from_length)
 
 -- if each byte is written as it is, the whole text is
 pub kept_whole : (p : ℕ → Bool) (s : List ℕ)

@@ -1,6 +1,6 @@
 -- Texts of bytes: cut at a byte, and without tabs and newlines.
 use Rattle.std.proofs.Common.{◌≡◌, ℕ, suc, ◌<◌, true, false, not, cond, List, [], ◌∷◌, ◌++◌, length, get_or, Option}
-use Rattle.std.proofs.Common.{None, Some, refl, sym, ap, ◌∙◌, arith, eqb, eqb-true, eq-eqb}
+use Rattle.std.proofs.Common.{append-nil, None, Some, refl, sym, ap, ◌∙◌, arith, eqb, eqb-true, eq-eqb}
 use Rattle.std.specs.Prelude.{◌==◌}
 use Rattle.std.proofs.lemmas.Bool.{cases_Bool, cond-true, cond-false}
 use Rattle.std.specs.Option.{option_map}
@@ -62,11 +62,6 @@ after-append c (b ∷ a) s h = grind (arith, lacks, after_other, after-append c 
 pub before_all : (c : ℕ) (a : List ℕ) → after c a ≡ None → before c a ≡ a
 before_all c [] h = before_nil c
 before_all c (b ∷ a) h = let k = lacks c b a h in cc (before_other c b a k.here, before_all c a k.after_it)
-
--- a text with the empty text appended is the text itself
-pub append-nil : (a : List ℕ) → a ++ [] ≡ a
-append-nil [] = refl
-append-nil (b ∷ a) = ap (λ t. b ∷ t) (append-nil a)
 
 -- if a has no c, the bytes before the first c of a ++ c ∷ s are a
 pub before_at : (c : ℕ) (a s : List ℕ) → after c a ≡ None → before c (a ++ c ∷ s) ≡ a

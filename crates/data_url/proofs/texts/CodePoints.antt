@@ -13,7 +13,8 @@ use Rattle.std.proofs.lemmas.Str.{encode_ascii, chars-nil, length-le-encodes, ch
 use Rattle.std.proofs.lemmas.Str.Ascii.{IsAscii-nil}
 use Rattle.data_url.specs.Mime.{DoesNotBegin, DoesNotEnd, Every}
 use Rattle.data_url.specs.Steps.Parsing.{IsTrimmedEnd, front_of}
-use Rattle.data_url.specs.Url.{without_end, without_front}
+use Rattle.std.proofs.lemmas.List.Sums.{suffix_len-le-length}
+use Rattle.data_url.specs.Url.{is_c0_control_or_space, without_end, without_front}
 
 -- Prefixes and suffixes that pass
 
@@ -65,7 +66,8 @@ end_onto : (p : ℕ → Bool) (c : ℕ) (t back acc : List ℕ) → Every p back
 end_onto p c [] back acc h e = grind (arith, onto_len p back (c ∷ acc) h)
 end_onto p c (d ∷ t) back acc h e = end_onto p d t back (c ∷ acc) h e
 
--- the longest suffix of t ++ back that passes is `back`, if `back` passes and t does not end with a code point that passes
+-- the longest suffix of t ++ back that passes is `back`, if `back` passes and t does not end with a code point that
+-- passes
 end_len : (p : ℕ → Bool) (t back : List ℕ) → Every p back → DoesNotEnd p t → suffix_len p (t ++ back) ≡ length back
 end_len p [] back h e = grind (arith, onto_len p back [] h)
 end_len p (c ∷ t) back h e = end_onto p c t back [] h e
@@ -209,6 +211,7 @@ module _ (p : ℕ → Bool) (steady : IsSteady p) (other : p 128 ≡ false) wher
   pub record IsEnd (bs : List ℕ) (n : ℕ) : Type 0 where
     pub boundary : IsCharBoundary bs n
     pub trimmed : IsTrimmedEnd p (chars bs) (chars (take n bs))
+    pub without : chars (take n bs) ≡ without_end p (chars bs)
 
   -- a UTF-8 text can be cut before its longest suffix that passes
   pub cut_end : (bs : List ℕ) → IsUtf8 bs → IsEnd bs (length bs - suffix_len p bs)
@@ -222,12 +225,25 @@ module _ (p : ℕ → Bool) (steady : IsSteady p) (other : p 128 ≡ false) wher
       let whole : take (length t) bs ≡ t = ap (take (length t)) h.1.joined ∙ take-append_seam t back in
       let boundary = IsCharBoundary-at_seam bs t back h.1.joined (IsUtf8-from_ascii back ascii) in
       let text : IsUtf8 t = subst IsUtf8 whole (IsUtf8-take bs (length t) u boundary) in
-      rw n (record {
-        boundary = boundary;
-        trimmed = subst (λ x. IsTrimmedEnd p (chars bs) (chars x)) (sym whole) (record {
-          back = back;
-          joined = cc (h.1.joined, chars-append t back text, chars-IsAscii back ascii);
-          at_back = h.1.at_back;
-          ends = chars_end (chars t) (subst (DoesNotEnd p) (sym (encodes-chars t text)) h.1.ends);
-        });
-      })
+      let trimmed = subst (λ x. IsTrimmedEnd p (chars bs) (chars x)) (sym whole) (record {
+        back = back;
+        joined = cc (h.1.joined, chars-append t back text, chars-IsAscii back ascii);
+        at_back = h.1.at_back;
+        ends = chars_end (chars t) (subst (DoesNotEnd p) (sym (encodes-chars t text)) h.1.ends);
+      }) in
+      rw n (record { boundary = boundary; trimmed = trimmed; without = trimmed_end_is p _ _ trimmed })
+
+-- no C0 control or space is beyond ASCII
+controls_steady : IsSteady is_c0_control_or_space
+controls_steady c l = grind arith
+
+-- a UTF-8 text can be cut after the C0 controls and spaces at its front
+pub controls_front : (bs : List ℕ) → IsUtf8 bs → IsCharBoundary bs (prefix_len is_c0_control_or_space bs)
+controls_front bs u = (cut_front is_c0_control_or_space controls_steady bs u).boundary
+
+-- a UTF-8 text can be cut before those at its end
+pub controls_end : (bs : List ℕ) → IsUtf8 bs → IsCharBoundary bs (length bs - suffix_len is_c0_control_or_space bs)
+controls_end bs u = (cut_end is_c0_control_or_space controls_steady refl bs u).boundary
+
+-- what `trim` needs of its cuts
+pub ruleset controls = (controls_front, controls_end, suffix_len-le-length)

@@ -24,6 +24,7 @@ pub(super) struct KeptParameters {
 
 impl KeptParameters {
     /// Whether one of the first pairs has the name, in any ASCII case.
+    #[tactic(auto, using(crate::proofs::mime::FirstNames::some_byte))]
     pub(super) fn is_among_first(&self, name: &str) -> bool
         requires indexed { IsIndexed self.now }
         requires token { IsTrue (is_token_text (chars name.now)) }
@@ -49,7 +50,11 @@ impl KeptParameters {
             ++ unless_named (pairs_of self.old) ((code_points name, code_points value) ∷ [])) }
         ensures indexed { OnOk result (IsIndexed self.new) }
     {
-        if self.pairs.len() >= LOOKED_THROUGH && !self.later_names.insert(name.clone()?)? {
+        if self.pairs.len() < LOOKED_THROUGH {
+            self.pairs.push((name, value))?;
+            return Ok(());
+        }
+        if !self.later_names.insert(name.clone()?)? {
             return Ok(());
         }
         self.pairs.push((name, value))?;

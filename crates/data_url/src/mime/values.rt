@@ -43,16 +43,8 @@ fn unescaped(alloc: Global, quoted: &str) -> Result<String, AllocError>
     ensures { IfOk result (λ text. code_points text ≡ unescaped false (chars quoted.now)) }
 {
     if long_span(Class::Unescaped, quoted.as_bytes()) == quoted.len() {
-        String::from_str(alloc, quoted)
-    } else {
-        without_backslashes(alloc, quoted)
+        return String::from_str(alloc, quoted);
     }
-}
-
-/// Returns the value of a quoted string, code point by code point.
-fn without_backslashes(alloc: Global, quoted: &str) -> Result<String, AllocError>
-    ensures { IfOk result (λ text. code_points text ≡ unescaped false (chars quoted.now)) }
-{
     let mut value = String::with_capacity(alloc, quoted.len())?;
     let mut escaped = false;
     for c in quoted.chars() {
@@ -70,6 +62,7 @@ fn without_backslashes(alloc: Global, quoted: &str) -> Result<String, AllocError
 }
 
 /// A text of token code points, in ASCII lower case.
+#[tactic(auto, using(crate::proofs::mime::FirstNames::lower_chars))]
 pub(super) fn lowercased(alloc: Global, text: &str) -> Result<String, AllocError>
     requires { IsTrue (is_token_text (chars text.now)) }
     ensures { IfOk result (λ lower. code_points lower ≡ map to_ascii_lowercase (chars text.now)) }

@@ -72,26 +72,17 @@ const FRAGMENT: [u8; 1024] = *b"\
     %F0\x03%F1\x03%F2\x03%F3\x03%F4\x03%F5\x03%F6\x03%F7\x03%F8\x03%F9\x03%FA\x03%FB\x03%FC\x03%FD\x03%FE\x03%FF\x03\
     ";
 
-/// Has, for each low half of a byte, the bits of the columns in which it is not written as it is, for the C0 control
-/// percent-encode set.
-const PATH_OTHERS: [u8; 16] = [1, 1, 1, 1, 1, 1, 1, 1, 1, 1, 1, 1, 1, 1, 1, 65];
-
-/// The bits of the query percent-encode set.
-const QUERY_OTHERS: [u8; 16] = [3, 1, 3, 3, 1, 1, 1, 1, 1, 1, 1, 1, 5, 1, 5, 65];
-
-/// The bits of the fragment percent-encode set.
-const FRAGMENT_OTHERS: [u8; 16] = [35, 1, 3, 1, 1, 1, 1, 1, 1, 1, 1, 1, 5, 1, 5, 65];
-
-/// The class of the bytes that are written as they are.
+/// The class of the bytes that are written as they are: for each low half of a byte, the bits of the columns in which
+/// it is not.
 #[inline(always)]
 pub(super) fn others(set: EncodeSet) -> [u8; 16]
     ensures { (b : ℕ) → b < 256 → is_marked result b ≡ false
         → byte_encoding (in_set set) b ≡ b ∷ [] }
 {
     match set {
-        EncodeSet::Path => PATH_OTHERS,
-        EncodeSet::Query => QUERY_OTHERS,
-        EncodeSet::Fragment => FRAGMENT_OTHERS,
+        EncodeSet::Path => [1, 1, 1, 1, 1, 1, 1, 1, 1, 1, 1, 1, 1, 1, 1, 65],
+        EncodeSet::Query => [3, 1, 3, 3, 1, 1, 1, 1, 1, 1, 1, 1, 5, 1, 5, 65],
+        EncodeSet::Fragment => [35, 1, 3, 1, 1, 1, 1, 1, 1, 1, 1, 1, 5, 1, 5, 65],
     }
 }
 

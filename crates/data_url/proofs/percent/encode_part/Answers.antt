@@ -1,20 +1,11 @@
 use Rattle.std.proofs.Common.{arith}
 use Rattle.std.proofs.lemmas.List.{take_all}
-use Rattle.data_url.proofs.percent.Encoding.{encoded_empty, encoded_text, put_more}
+use Rattle.data_url.proofs.percent.Encoding.{encoded_text, put_more}
 use Rattle.data_url.proofs.percent.encode_part.Goals as goal
-
-pub put-requires-clause-room : goal.put-requires-clause-room
-put-requires-clause-room c = grind arith
-
-pub loop-byte-init : goal.loop-byte-init
-loop-byte-init c = grind (arith, encoded_empty)
 
 pub loop-byte-preserved : goal.loop-byte-preserved
 loop-byte-preserved c = rw c.from-at.ensures (put_more _ _ _ _ _ _ _ c.loop-byte.invariant c.loop-byte-test.true
     (omega arith) c.row-row.ensures c.put.array_long c.put.ensures)
-
-pub returns-clause-few : goal.returns-clause-few
-returns-clause-few c = grind arith
 
 pub returns-clause-written : goal.returns-clause-written
 returns-clause-written c = grind (arith, take_all)

@@ -6,7 +6,7 @@ use Rattle.data_url.specs.Mime.{is_lowercase_name}
 use Rattle.data_url.specs.MimeType.{code_points}
 use Rattle.data_url.specs.Steps.Kept.{pairs_of}
 use Rattle.data_url.specs.Steps.Parsing.{unless_named}
-use Rattle.data_url.proofs.mime.FirstNames.{named_first, invalid_name, known_name, lowercase_name, new_pair, none_added}
+use Rattle.data_url.proofs.mime.FirstNames.{invalid_name, known_name, lowercase_name, new_pair, none_added}
 use Rattle.data_url.proofs.mime.FirstNames.{token_text_lower}
 use Rattle.data_url.proofs.mime.parse.keep.Goals as goal
 use Rattle.data_url.proofs.mime.parse.keep.Goals.{then-not-is_token_text-via-then-not-is_token_text}
@@ -20,8 +20,8 @@ returns-then-not-is_token_text-clause-pairs c =
           none_added c.args.kept.now.pairs.items _ (ap (unless_named pairs)
           (invalid_name _ _ (token_text_lower _ ∙ sym c.is_token_text.ensures ∙ w.if-not-is_token_text.true)))
       | then-not-is_token_text-via-else-not-is_token_text+then-is_among_first w ↦
-          none_added c.args.kept.now.pairs.items _ (known_name pairs _ _
-          (named_first _ pairs (sym w.is_among_first.ensures ∙ w.if-is_among_first.true)))
+          none_added c.args.kept.now.pairs.items _
+          (known_name pairs _ _ (sym w.is_among_first.ensures ∙ w.if-is_among_first.true))
     ]
 
 pub push-requires-clause-lower : goal.push-requires-clause-lower

@@ -13,6 +13,4 @@ pub returns-then-not-escaped : goal.returns-then-not-escaped
 returns-then-not-escaped c = grind (arith, after_quote, before_quote)
 
 pub returns : goal.returns
-returns c = let n = no_quote c.loop-place.escaped c.utf8.text c.as_bytes-byte-items.ensures.value
-    c.loop-place-test.false c.loop-place.invariant in
-    record { quoted = n.0; after = n.1 }
+returns c = grind (arith, no_quote)

@@ -1,16 +1,17 @@
 use Rattle.std.proofs.Common.{not, refl}
 use Rattle.data_url.specs.Steps.Parsing.{is_escaped}
 use Rattle.data_url.proofs.mime.ParameterValues.{unescaped_steady, whole_passes}
-use Rattle.data_url.proofs.mime.Printing.{added_of_eq, added_written, plain_text}
+use Rattle.data_url.proofs.mime.Printing.{added_flushed, added_written, plain_text}
 use Rattle.data_url.proofs.mime.print.push_escaped.Goals as goal
 
 pub returns-then-long_span-text-clause-added : goal.returns-then-long_span-text-clause-added
-returns-then-long_span-text-clause-added g c plain ok =
-    added_of_eq _ _ _ _ _ _ (plain_text c.args.text.now c.utf8.text
-    (whole_passes (λ b. not (is_escaped b)) unescaped_steady c.args.text.now _ _ c.utf8.text c.as_bytes.ensures.value
-    c.long_span.ensures.front c.if-long_span-text.true)) (c.push.ensures.added plain ok)
+returns-then-long_span-text-clause-added g c start before x ok =
+    rw (← plain_text c.args.text.now c.utf8.text (whole_passes (λ b. not
+    (is_escaped b)) unescaped_steady c.args.text.now _
+    _ c.utf8.text c.as_bytes.ensures.value c.long_span.ensures.front c.if-long_span-text.true))
+    (c.push.ensures.added start before x ok)
 
 pub returns-clause-added : goal.returns-clause-added
-returns-clause-added g c plain ok =
-    let one = c.in_ok-flush.ensures.written plain refl in
-    added_written _ _ _ _ _ _ one (c.write_each_escaped.ensures one.flush ok) c.in_ok-flush.ensures.none
+returns-clause-added g c start before x ok =
+    let all = added_flushed x (c.in_ok-flush.ensures.written x.wrote.flush refl) in
+    added_written _ all (c.write_each_escaped.ensures all.flush ok) c.in_ok-flush.ensures.none

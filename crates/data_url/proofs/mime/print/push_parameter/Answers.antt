@@ -1,12 +1,10 @@
 use Rattle.std.proofs.Common.{refl}
-use Rattle.data_url.proofs.mime.Printing.{added_append, added_of_eq, parameter_text}
+use Rattle.data_url.proofs.mime.Printing.{added_of_eq, parameter_text}
 use Rattle.data_url.proofs.mime.print.push_parameter.Goals as goal
 
 pub returns-clause-added : goal.returns-clause-added
-returns-clause-added g c plain ok =
-    let one = c.in_ok-push.ensures.added plain refl in
-    let two = c.in_ok-push-2.ensures.added one.wrote.flush refl in
-    let three = c.in_ok-push-3.ensures.added two.wrote.flush refl in
-    let four = c.push_value.ensures.added three.wrote.flush ok in
-    added_of_eq _ _ _ _ _ _ (parameter_text c.args.name.now c.args.value.now c.utf8.name)
-    (added_append _ _ _ _ _ _ _ _ (added_append _ _ _ _ _ _ _ _ (added_append _ _ _ _ _ _ _ _ one two) three) four)
+returns-clause-added g c start before x ok =
+    let one = c.in_ok-push.ensures.added start before x refl in
+    let three = c.in_ok-push-3.ensures.added start _ (c.in_ok-push-2.ensures.added start _ one refl) refl in
+    added_of_eq (parameter_text before c.args.name.now c.args.value.now c.utf8.name)
+    (c.push_value.ensures.added start _ three ok)

@@ -4,7 +4,7 @@ use Rattle.std.specs.Str.{IsUtf8, chars}
 use Rattle.std.specs.Str.Iter.{chars_rest}
 use Rattle.data_url.specs.MimeType.{code_points}
 use Rattle.data_url.specs.Steps.Parsing.{unescaped}
-use Rattle.data_url.proofs.mime.values.without_backslashes.Given as goal
+use Rattle.data_url.proofs.mime.values.unescaped.Given as goal
 
 abbrev pub invariant-loop-c : goal.invariant-loop-c
 invariant-loop-c l = IsUtf8 (chars_rest l.c-iterator)
