@@ -92,15 +92,7 @@ module _ {F E : Type 0} (step : F → List ℕ → Result (Unit {0}) E → F →
   -- the front of the body is empty, and the closure was not called
   pub going_none : {f : F} {text : List ℕ} (bytes : List ℕ) {w : Walk} → IsFront text bytes w → length bytes ≡ 0
       → Going f text w (Ok tt) f
-  going_none {f} bytes i none = record {
-    run = [];
-    ran = refl;
-    answered = refl;
-    text_is = i.text_is;
-    place = i.within;
-    calls = omega arith;
-    body = grind (arith, nil_from_length bytes none);
-  }
+  going_none {f} bytes i none = grind (arith, nil_from_length)
 
   -- if the closure returned an error, it took the body up to that error
   pub took_refused : {f g : F} {text : List ℕ} {w : Walk} {e : E} → Going f text w (Err e) g

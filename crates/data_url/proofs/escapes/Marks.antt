@@ -56,7 +56,7 @@ no_marks (suc k) = let e = no_marks k in omega arith
 -- zeros that are appended do not change the marks
 pub marks_padded : (xs : List ℕ) (k : ℕ) → mask_l (map is_marked (xs ++ replicate k 0)) ≡ mask_l (map is_marked xs)
 marks_padded [] k = no_marks k
-marks_padded (x ∷ xs) k = ap (λ m. cond (is_marked x) 1 0 + 2 * m) (marks_padded xs k)
+marks_padded (x ∷ xs) k = grind (arith, marks_padded xs k)
 
 -- the marks of fewer than 64 bytes, copied into a block of zeros
 pub marks_of_rest : (rest new zeros : List ℕ) (r k : ℕ) → new ≡ rest → zeros ≡ replicate 64 0 → k ≡ length rest
@@ -145,16 +145,11 @@ entry b = get_or MARKED (low_half b) 0
 -- from an index on, a swizzle of the table by the low halves of bytes looks up the entry of each byte
 looked_from : (v : List ℕ) (i : ℕ) → i + length v ≤ 64 → swz_l w8 16 MARKED i (map low_half v) ≡ map entry v
 looked_from [] i l = refl
-looked_from (b ∷ v) i l =
-    let h = low_lt b in
-    let first = get_or-swz_l_below w8 16 MARKED i (low_half b ∷ map low_half v) 0 (omega arith) h in
-    let same = repeats (16 * ((i + 0) / 16) + low_half b) (omega arith) in
-    let low : (16 * ((i + 0) / 16) + low_half b) % 16 ≡ low_half b = omega arith in
-    cc (looked_from v (suc i) (omega arith))
+looked_from (b ∷ v) i l = grind (arith, looked_from v (suc i) (omega arith), low_lt, get_or-swz_l_below, repeats)
 
 -- a swizzle by the low halves looks up the entry of each byte
 pub looked_up : (v : List ℕ) → length v ≡ 64 → swz_l w8 16 MARKED 0 (lows v) ≡ map entry v
-looked_up v long = ap (swz_l w8 16 MARKED 0) (lows_are v long) ∙ looked_from v 0 (omega arith)
+looked_up v long = grind (arith, swz_l, lows_are, looked_from)
 
 -- an entry is equal to the byte exactly if the byte is marked
 marked_here : (b : ℕ) → b < 256 → eqb (entry b) b ≡ is_marked b
@@ -199,16 +194,8 @@ looking_block {s} {s'} {b} {b'} {place} k l t e i n = grind arith
 pub found : {text : List ℕ} {place seen marks : ℕ} (width : ℕ) → IsBlock text place seen marks → marks ≢ 0
     → width ≡ count_trailing_zeros 64 marks → (place + width < seen) × IsNextMark text place (place + width)
 found {text} {place} {seen} {marks} width h n e =
-    search (
-      arith,
-      length-drop,
-      length-take-le,
-      trailing_mask_l,
-      run_in_chunk_le,
-      mask_none,
-      run_in_chunk_fails,
-      run_in_chunk_stops,
-    )
+    grind (arith, length-drop, length-take-le, trailing_mask_l, run_in_chunk_le, mask_none, run_in_chunk_fails,
+    run_in_chunk_stops)
 
 -- if the marks of a block are 0, none of its bytes is marked
 pub found_none : {text : List ℕ} {place seen marks : ℕ} → IsBlock text place seen marks → marks ≡ 0

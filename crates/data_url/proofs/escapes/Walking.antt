@@ -83,7 +83,7 @@ in_front {s} h = before_all 35 s h
 
 -- a search begins with an empty stretch
 pub searching_none : (text : List ℕ) (place : ℕ) → place ≤ length text → Searching text place place place
-searching_none text place l = let s = spells_none text place l in grind arith
+searching_none text place l = grind (arith, spells_none)
 
 -- a stretch goes on up to the next mark
 pub searching_clear : {text : List ℕ} {from place to mark : ℕ} → Searching text from place to → IsNextMark text to mark
@@ -169,11 +169,11 @@ knows_on {c} {c'} {next} k g a = let text = g.on.text_stays in record { after_is
 -- a walk that stops at the end of the body ends there
 pub ended_at : {c : Cursor} {s : Source} {b : Block} {mark : ℕ} → Looking s b mark 0 → c.source.text.now ≡ s.text.now
     → EndsAt s.text.now mark → c.source.looks + mark ≤ s.looks + length s.text.now → c.place ≡ mark → Ended c
-ended_at {c} {s} {b} {mark} k t h l e = let p = paid_le s.text.now mark k.within in grind arith
+ended_at {c} {s} {b} {mark} k t h l e = grind (arith, paid_le)
 
 -- if `ahead` is a, and what a says is true, what `ahead` says is true
 pub ahead_is : (c : Cursor) (a : Ahead) → c.ahead ≡ a → KnowsAhead c a → KnowsAhead c c.ahead
-ahead_is c a e k = subst (KnowsAhead c) (sym e) k
+ahead_is c a e k = grind arith
 
 -- a walk that knows that its body ends at its index ends there
 ended_cases : {c : Cursor} (a : Ahead) → KnowsAhead c a → has_ended a ≡ true → Ended c
@@ -189,7 +189,7 @@ ended_of {c} k e = ended_cases c.ahead k.ahead_is e
 -- what follows the first '#' of a text that is empty or begins with '#' is its fragment
 begun_fragment : (s : List ℕ) → BeginsFragment s → after 35 s ≡ rest_fragment s
 begun_fragment [] h = after_nil 35
-begun_fragment (b ∷ s) h = ap (λ v. after 35 (v ∷ s)) h ∙ after_same 35 s
+begun_fragment (b ∷ s) h = grind (arith, after_same)
 
 -- where a walk ends, the body of its text ends
 pub body_end : {c : Cursor} → Knows c → has_ended c.ahead ≡ true → IsBodyEnd (text_of c) c.place
@@ -286,7 +286,7 @@ smaller c0 {c1} {c'} {room} {room'} {len} {len'} total u p t m g = grind arith
 
 -- where a walk has ended, nothing of the body is left
 pub rest_over : {c : Cursor} → Knows c → has_ended c.ahead ≡ true → plain_body (drop c.place (text_of c)) ≡ []
-rest_over {c} k e = ends_empty (drop c.place (text_of c)) (ended_of k e).ends.begins
+rest_over {c} k e = grind (arith, ends_empty, ended_of)
 
 -- if there is no next piece, nothing of the body is left
 pub over_rest : (next : Option Piece) {c c' : Cursor} → GoesOn c next c' → Knows c'

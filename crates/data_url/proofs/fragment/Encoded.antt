@@ -16,11 +16,11 @@ use Rattle.data_url.proofs.texts.Bytes.{dropped_keeps, dropped_nil}
 
 -- an encoded fragment can have each upper-case hexadecimal digit
 digit_byte : (d : ℕ) → d < 16 → is_fragment_byte (hex_digit d) ≡ true
-digit_byte d l = agree_below_at (λ d. is_fragment_byte (hex_digit d)) (λ d. true) 16 d refl l
+digit_byte d l = grind (arith, agree_below_at)
 
 -- the percent-encoding of a fragment has only bytes that an encoded fragment can have
 pub fragment_bytes : (s : List ℕ) → IsBytes s → Every is_fragment_byte (percent_encoding in_fragment_set s)
-fragment_bytes [] h = subst (Every is_fragment_byte) (sym (encoded_nil in_fragment_set)) tt
+fragment_bytes [] h = grind (arith, encoded_nil)
 fragment_bytes (b ∷ s) h = grind (arith, encoded_cons, digit_byte, fragment_bytes s h.1)
 
 -- Such bytes stay as they are
@@ -47,7 +47,7 @@ trimmed_itself t h = grind (arith, end_stays, not_ends_every)
 -- a text of bytes that an encoded fragment can have stays as it is when it is cleaned
 cleaned_itself : (t : List ℕ) → Every is_fragment_byte t → cleaned_text t ≡ t
 unfolding cleaned_text
-cleaned_itself t h = ap without_tabs_and_newlines (trimmed_itself t h) ∙ dropped_itself t h
+cleaned_itself t h = grind (arith, trimmed_itself, dropped_itself)
 
 -- The stages of the text
 

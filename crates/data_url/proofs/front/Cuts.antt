@@ -30,7 +30,7 @@ scheme = codes "data:"
 
 -- a text is its first n bytes, the byte at index n, and the bytes after it
 pub cut_at : (s : List ℕ) (n : ℕ) → n < length s → s ≡ take n s ++ get_or s n 0 ∷ drop (n + 1) s
-cut_at s n l = sym (take-append-drop n s) ∙ ap (λ t. take n s ++ t) (drop_more s n 0 l)
+cut_at s n l = grind (arith, take-append-drop, drop_more)
 
 -- the text spells the first n bytes of the scheme, and not all of it
 pub record Spells (s : List ℕ) (n : ℕ) : Type 0 where
@@ -71,10 +71,7 @@ pub spells_more : (text : List ℕ) (place n : ℕ) → place < length text → 
     → is_tab_or_newline (get_or text place 0) ≡ false
     → to_ascii_lowercase (get_or text place 0) ≡ get_or scheme n 0 → n + 1 ≢ 5
     → Spells (take (place + 1) text) (n + 1)
-spells_more text place n l h e same ne = record {
-  open_at = omega (arith, h.open_at);
-  spelled = one_more text place n l h e same;
-}
+spells_more text place n l h e same ne = grind (arith, one_more)
 
 -- if that byte is the last one of the scheme, the text has the scheme
 pub spells_all : (text : List ℕ) (place n : ℕ) → place < length text → Spells (take place text) n
@@ -134,7 +131,7 @@ common_spelled = refl
 -- if the test for "data:" at the front succeeds, the text is "data:" and then the text from its sixth byte on
 pub common_front : (text items : List ℕ) (r : Bool) → items ≡ text → r ≡ starts_with nat_eq items scheme → r ≡ true
     → text ≡ scheme ++ drop 5 text
-common_front text items r e f h = subst (λ s. s ≡ scheme ++ drop 5 s) e ((starts_is Decides-eqb items scheme r f).0 h)
+common_front text items r e f h = grind (arith, starts_is)
 
 -- a UTF-8 text that begins with "data:" can be cut after it
 pub common_boundary : (text : List ℕ) → IsUtf8 text → text ≡ scheme ++ drop 5 text → IsCharBoundary text 5

@@ -43,7 +43,7 @@ path_more b (d ∷ s) c = path_cons b (d ∷ (s ++ c ∷ []))
 
 -- if a path ends with a space, this space is encoded as "%20", and the bytes before it with the path's set
 pub path_space : (s : List ℕ) → encoded_path (s ++ 32 ∷ []) ≡ percent_encoding in_path_set s ++ codes "%20"
-path_space [] = path_one 32 ∙ ap (λ t. t ++ codes "%20") (sym (encoded_nil in_path_set))
+path_space [] = grind (arith, path_one, encoded_nil)
 path_space (b ∷ s) = grind (arith, path_more, path_space s, encoded_cons)
 
 -- a path that ends with another byte is encoded with the path's set
@@ -107,19 +107,12 @@ header_and_query : (path rest : List ℕ) → after 63 path ≡ None
     (without_tabs_and_newlines path) ++ percent_encoding in_query_set (without_tabs_and_newlines (63 ∷ rest))
 unfolding header_text
 header_and_query path rest h =
-    search (
-      arith,
-      after-dropped_none,
-      dropped_keeps,
-      encoded_cons,
-      without_tabs_and_newlines-append,
-      before_at,
-      after_at,
-    )
+    grind (arith, after-dropped_none, dropped_keeps, encoded_cons, without_tabs_and_newlines-append, before_at,
+    after_at)
 
 -- a text whose length is not zero is not empty
 pub some_bytes : (s : List ℕ) (v : Bool) → v ≡ (length s == 0) → v ≡ false → s ≢ []
-some_bytes [] v e f n = absurd (let k : true ≡ false = sym e ∙ f in cc)
+some_bytes [] v e f n = grind arith
 some_bytes (b ∷ s) v e f n = absurd (let k = n in cc)
 
 -- if the path has no last space, or there is no query, the encoded path and query are the serialised header
@@ -263,8 +256,8 @@ flag_by : (path : List ℕ) (o : Option (List ℕ)) → Differs path
     → base64_flag (with_query (encoded_path path) o)
     ≡ base64_flag (with_query (percent_encoding in_path_set path) o)
 flag_by path None (same_path e) = ap base64_flag e
-flag_by path (Some query) (same_path e) = ap (λ t. base64_flag (t ++ 63 ∷ percent_encoding in_query_set query)) e
-flag_by path None (last_space x e f) = ap base64_flag e ∙ flag_of_path x (after 44 x) refl ∙ sym (ap base64_flag f)
+flag_by path (Some query) (same_path e) = grind arith
+flag_by path None (last_space x e f) = grind (arith, flag_of_path)
 flag_by path (Some query) (last_space x e f) = grind (arith, flag_of_query)
 
 -- the flag is the same by both rules

@@ -189,7 +189,7 @@ front_cut {a} {header} {tail} h = grind (arith, before-append, before_other)
 -- if a is the text after the scheme, the staged front is the front of a, serialised
 front_of : (t a : List ℕ) → after_scheme t ≡ Some a → staged_front t ≡ Some (serialised (front a))
 unfolding staged_front
-front_of t a h = ap (option_map (λ a. serialised (front a))) h
+front_of t a h = grind arith
 
 -- s has a comma; t is the text after it with some bytes percent-encoded
 record HasTail (s t : List ℕ) : Type 0 where
@@ -275,7 +275,7 @@ default_for s m n e = grind arith
 
 -- a well-formed record that a text parses to is the record for it
 pub parsed_for : (s : List ℕ) (m : Record) → Parses s m → IsWellformed m → IsRecordFor s m
-parsed_for s m p w = record { is_record = inl p; wellformed = w }
+parsed_for s m p w = grind arith
 
 -- the record of "text", "plain", and the parameter "charset" with the value "US-ASCII" is the default record
 pub default_is : (type_ subtype charset value : List ℕ) → type_ ≡ codes "text" → subtype ≡ codes "plain"
@@ -362,7 +362,7 @@ begins_at (c ∷ s) h = h
 
 -- if a printable text begins with ';', the list of its code points begins with ';', too
 pub media_begins : (media : List ℕ) → IsPrintable media → get_or media 0 0 ≡ 59 → BeginsParameters (chars media)
-media_begins media h e = subst BeginsParameters (sym (chars_printable media h)) (begins_at media e)
+media_begins media h e = grind (arith, chars_printable, begins_at)
 
 -- if a printable text begins with ';', the record of the parts of "text/plain" and the text is the record for
 -- `with_plain` of the text
@@ -384,7 +384,7 @@ stages_no_scheme t h = cc (after_none t h)
 
 -- if the trimmed text is a text of bytes, so is the rest after its scheme
 pub rest_bytes : (t rest : List ℕ) → IsBytes (trimmed_text t) → IsSchemeAndRest (trimmed_text t) rest → IsBytes rest
-rest_bytes t rest b s = (bytes_append s.scheme rest (subst IsBytes s.joined b)).1
+rest_bytes t rest b s = grind (arith, bytes_append)
 
 -- if the trimmed text has the scheme, and there is no comma in the rest before its first '#', the Standard finds no
 -- comma

@@ -56,7 +56,7 @@ test_from_equal a c e = (bytes_eq-Decides a c).1 e
 
 -- for texts that are not equal, the test of equality is false
 pub test_from_different : (a c : List ℕ) → (a ≡ c → ⊥) → bytes_eq a c ≡ false
-test_from_different a c n = false_from_ne_true (bytes_eq a c) (λ h. n (equal_from_test a c h))
+test_from_different a c n = grind (arith, false_from_ne_true, equal_from_test)
 
 -- Names in lower case
 
@@ -105,11 +105,11 @@ lower_is_itself t h = grind (arith, equal_from_test)
 
 -- a lower-case name is a token text
 pub lowercase_token : (t : List ℕ) → is_lowercase_name t ≡ true → is_token_text t ≡ true
-lowercase_token t h = (and_parts (is_token_text t) (bytes_eq (map to_ascii_lowercase t) t) h).0
+lowercase_token t h = grind (arith, and_parts)
 
 -- a token text has at least one byte
 pub some_byte : (n : List ℕ) → is_token_text (chars n) ≡ true → 0 < length n
-some_byte [] h = absurd (false≢true (sym (ap is_token_text chars-nil) ∙ h))
+some_byte [] h = grind (arith, chars-nil)
 some_byte (b ∷ n) h = omega arith
 
 -- One step of the look-up
@@ -180,7 +180,7 @@ first_or_later n pairs = ap (has_name n) (sym (take-append-drop LOOKED_THROUGH p
 -- if no pair is added, the pairs stay the same
 pub none_added : {A B : Type 0} (pairs : List (String A × String B)) (more : List Pair) → more ≡ []
     → map (λ p. pair_of p) pairs ≡ map (λ p. pair_of p) pairs ++ more
-none_added pairs more e = sym (ap (λ x. map (λ p. pair_of p) pairs ++ x) e ∙ append-nil (map (λ p. pair_of p) pairs))
+none_added pairs more e = grind (arith, append-nil)
 
 -- a name that is not a token text has no pair
 pub invalid_name : (name : List ℕ) (value : Option (List ℕ)) → is_token_text name ≡ false → pair_if name value ≡ []
@@ -232,7 +232,7 @@ keeps_more {whole} {rest} {s} {pairs = pairs} k e p r a =
 pub keeps_end : {whole rest : List ℕ} {pairs : List Pair} → KeepsOn whole rest pairs → BeginsParameters whole
     → after_mark 59 rest ≡ None → (items : List Item) × Items whole items × (pairs ≡ kept_pairs items)
 keeps_end {whole} {rest = []} {pairs = pairs} k w e = grind (arith, items_in, has_items, append-nil)
-keeps_end {rest = c ∷ rest} k w e = let begins = k.begins in absurd (grind arith)
+keeps_end {rest = c ∷ rest} k w e = grind arith
 
 -- the rest after a parameter is shorter than the text
 pub rest_smaller : (rest s rest' : List ℕ) → after_mark 59 rest ≡ Some s → rest' ≡ (reading_in s).rest
@@ -246,7 +246,7 @@ rest_smaller rest s rest' e r = omega (arith, rest_shorter s, ap length r, ap le
 -- if none of the first pairs has a name, one of all pairs has it exactly if one of the later pairs has it
 pub named_later : (n : List ℕ) (pairs : List Pair) → has_name n (first_of pairs) ≡ false
     → has_name n pairs ≡ has_name n (drop LOOKED_THROUGH pairs)
-named_later n pairs h = first_or_later n pairs ∙ ap (λ b. b || has_name n (drop LOOKED_THROUGH pairs)) h
+named_later n pairs h = grind (arith, first_or_later)
 
 -- The set of later names
 
@@ -374,7 +374,7 @@ parses_wellformed s m h = grind (arith, lowercase_name, first_all, all_lower, fi
 
 -- a text that has a head parses to the record of the parts of that head
 pub parses_parts : (s a b c : List ℕ) (m : Record) → IsHead s a b c → IsRecordOfParts a b c m → Parses s m
-parses_parts s a b c m h p = record { type_ = a; subtype = b; parameters = c; head = h; record_is = p }
+parses_parts s a b c m h p = grind arith
 
 -- a text that has a head has a record
 pub has_record : (s a b c : List ℕ) → IsHead s a b c → HasNoRecord s → ⊥

@@ -35,7 +35,7 @@ not_begins_append p (c ∷ a) b h e = h
 
 -- a text after its longest prefix without ';' is empty or begins with ';'
 begins_after : (s : List ℕ) → BeginsParameters (without_front in_value s)
-begins_after s = begins_from (without_front in_value s) (after_begins in_value s)
+begins_after s = grind (arith, begins_from, after_begins)
 
 -- the reading of a text after a name
 abbrev pub reading_of : List ℕ → Reading
@@ -44,7 +44,7 @@ reading_of x = reading x (after_mark 61 x)
 -- a text that does not begin with '"' has no text after it
 no_quote : (s : List ℕ) → DoesNotBegin is_quote s → after_mark 34 s ≡ None
 no_quote [] d = refl
-no_quote (c ∷ s) d = ap (λ v. cond v (Some s) None) d
+no_quote (c ∷ s) d = grind arith
 
 -- a text without ';' that does not begin with '"', and then the rest, is read without quotes
 plain_is : (text rest : List ℕ) → Every in_value text → DoesNotBegin is_quote text → BeginsParameters rest
@@ -269,7 +269,7 @@ parameters_in t = without_front is_http_whitespace (without_front is_token (afte
 gap_no_token : (gap r : List ℕ) → Every is_http_whitespace gap → BeginsParameters r → DoesNotBegin is_token (gap ++ r)
 unfolding is_token
 gap_no_token [] r g b = ends_of_rest is_token refl r b
-gap_no_token (c ∷ gap) r g b = let space = g.0 in grind (arith, eqb-true)
+gap_no_token (c ∷ gap) r g b = grind (arith, eqb-true)
 
 -- the parts that are read from t
 pub record HasParts (t type_ subtype parameters : List ℕ) : Type 0 where
@@ -291,7 +291,7 @@ has_parts s a b c h =
 
 -- two records with equal types, equal subtypes and equal parameters are equal
 record_equal : (m n : Record) → m.type_ ≡ n.type_ → m.subtype ≡ n.subtype → m.parameters ≡ n.parameters → m ≡ n
-record_equal m n t s p = λ i. record { type_ = t i; subtype = s i; parameters = p i }
+record_equal m n t s p = grind arith
 
 -- two records of the same text are equal
 pub has_at_most_one_record : (s : List ℕ) → HasAtMostOneRecord s

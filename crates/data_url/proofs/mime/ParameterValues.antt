@@ -101,7 +101,7 @@ module _ {text bytes : List ℕ} {q more : ℕ} (u : IsUtf8 text) (e : bytes ≡
     -- the value is this text if it is not empty and has no more
     value_is : quotable_value (unless_empty (without_end is_http_whitespace (front_of in_value (chars text))))
         ≡ cond (b || not (nat_le (length t) q)) None (Some (chars t))
-    value_is = let cut = cut_plain in cc (cut.front, value_if (chars t), same_empty t w, quotable_if)
+    value_is = grind (arith, cut_plain, value_if, same_empty, quotable_if)
 
     -- otherwise, there is no value
     pub no_value : (b ≡ true) ⊎ ((b ≡ false) × (q < length t)) → None
@@ -177,7 +177,7 @@ module _ (r r' v : List ℕ) {c : ℕ} {e : Bool} {whole : List ℕ} (u : IsUtf8
     (h : chars v ++ unescaped e (chars r) ≡ whole) where
   -- if the first code point is a '\' that escapes, leaving it out preserves the whole
   pub unescape_skips : c ≡ 92 → e ≡ false → chars v ++ unescaped true (chars r') ≡ whole
-  unescape_skips k f = let first = chars_past_char r r' c u s in grind arith
+  unescape_skips k f = grind (arith, chars_past_char)
 
   -- moving another first code point to what is written preserves the whole
   pub unescape_pushes : (v' : List ℕ) → IsUtf8 v → v' ≡ v ++ encode c → ((c ≡ 92) × (e ≡ true)) ⊎ (c ≡ 92 → ⊥)

@@ -59,11 +59,11 @@ token_not_nil (c ∷ a) h e = absurd (cc)
 
 -- if the type is empty, there is no head
 pub no_type : (s t : List ℕ) → t ≡ trimmed_of is_http_whitespace s → front_of is_token t ≡ [] → HasNoHead s
-no_type s t e z a b c h = let p = has_parts s a b c h in absurd (token_not_nil a h.is_type (cc (p.type_is)))
+no_type s t e z a b c h = grind (arith, has_parts, token_not_nil)
 
 -- the text after the slash is the one that is read
 slash_is : {t a x : List ℕ} → IsTokens t a x → (y : List ℕ) → after_mark 47 x ≡ Some y → after_slash t ≡ y
-slash_is {x = x} first y slash = ap (drop 1) (first.after ∙ mark_is 47 x y slash)
+slash_is {x = x} first y slash = grind (arith, mark_is)
 
 module _ {s t a x : List ℕ} (first : IsTokens t a x) (e : t ≡ trimmed_of is_http_whitespace s) where
   -- if the text after the type does not begin with '/', there is no head

@@ -50,7 +50,7 @@ plain_chars (c ∷ cs) h = grind (arith, plain_chars cs h.1)
 -- a text without '"' and '\' is the UTF-8 of its escaped code points
 pub plain_text : (v : List ℕ) → IsUtf8 v → Without is_escaped (chars v)
     → v ≡ encode_utf8_all (flat_map escaped_code_point (chars v))
-plain_text v u h = sym (encodes-chars v u) ∙ ap encode_utf8_all (sym (plain_chars (chars v) h))
+plain_text v u h = grind (arith, encodes-chars, encode_utf8_all, plain_chars)
 
 -- A value
 
@@ -141,12 +141,12 @@ module _ {W : Type 0} {took : W → List ℕ → W → Type 0} {start : Formatte
   -- if all is written, and the buffer is empty, all is added
   pub added_none : {f : Formatter W} (m : Line) → HasWrittenStyled took start before f → held m ≡ []
       → Adds took start before f m
-  added_none m x e = record { written = before; wrote = x; joined = cc (append-nil before) }
+  added_none m x e = grind (arith, append-nil)
 
   -- if a text is added, a text that is equal to it is
   pub added_of_eq : {f : Formatter W} {l : Line} {after : List ℕ} → before ≡ after → Adds took start before f l
       → Adds took start after f l
-  added_of_eq {f} {l} e = subst (λ t. Adds took start t f l) e
+  added_of_eq {f} {l} e = grind arith
 
 -- Records of the same texts.
 
@@ -158,8 +158,8 @@ pair_decides (a, b) (c, d) = grind (arith, and_parts, string_bytes, equal_from_t
 pairs_decide : {A B : Type 0} (ps qs : List (String A × String B))
     → Decides (pointwise same_pair ps qs) (map texts_of_pair ps ≡ map texts_of_pair qs)
 pairs_decide [] [] = (λ h. refl, λ h. refl)
-pairs_decide [] (q ∷ qs) = (λ h. absurd (cc), λ h. absurd (cc))
-pairs_decide (p ∷ ps) [] = (λ h. absurd (cc), λ h. absurd (cc))
+pairs_decide [] (q ∷ qs) = grind arith
+pairs_decide (p ∷ ps) [] = grind arith
 pairs_decide (p ∷ ps) (q ∷ qs) = grind (arith, pair_decides, and_parts, and_from, pairs_decide ps qs)
 
 -- the test is true exactly if the texts are the same

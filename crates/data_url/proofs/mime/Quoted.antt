@@ -113,11 +113,11 @@ module _ {bs : List ℕ} {i : ℕ} (u : IsUtf8 bs) (l : i < length bs) (g : get_
     (h : i + quoted_len false (drop i bs) ≡ quoted_len false bs) where
   -- the quote that is found is the closing quote
   quote_at : quoted_len false bs ≡ i
-  quote_at = let first = drop-cons bs i 0 l in grind arith
+  quote_at = grind (arith, drop-cons)
 
   -- the text before it
   pub before_quote : chars (take i bs) ≡ take (quoted_len false (chars bs)) (chars bs)
-  before_quote = let cut = cut_quote bs u in cc (quote_at, cut.front)
+  before_quote = grind (arith, cut_quote, quote_at)
 
   -- the text after it
   pub after_quote : chars (drop (i + 1) bs) ≡ drop (suc (quoted_len false (chars bs))) (chars bs)

@@ -104,7 +104,7 @@ name_tokens t h = every_token t (lowercase_token t h)
 -- a lower-case name does not end with HTTP whitespace
 name_not_end : (t : List ℕ) → is_lowercase_name t ≡ true → DoesNotEnd is_http_whitespace t
 unfolding is_token
-name_not_end t h = tokens_end is_http_whitespace refl t (name_tokens t h)
+name_not_end t h = grind (arith, tokens_end, name_tokens)
 
 -- a printed pair with a lower-case name is a parameter with the name and the value of the pair
 is_parameter : (p : Pair) (rest : List ℕ) → is_lowercase_name p.0 ≡ true
@@ -178,7 +178,7 @@ all_valid (p ∷ pairs) h k = grind (arith, and_parts, cond-true, and_from, lowe
 
 -- if the test that a equals b is false, so is the test that b equals a
 other_name : (a b : List ℕ) → bytes_eq a b ≡ false → bytes_eq b a ≡ false
-other_name a b h = test_from_different b a (λ e. both_ways (bytes_eq a b) h (test_from_equal a b (sym e)))
+other_name a b h = grind (arith, test_from_different, both_ways, test_from_equal)
 
 -- if no two names are equal, none of the earlier pairs has the name of a later one
 distinct_new : (e : List Pair) (p : Pair) (ps : List Pair) → has_distinct_names (e ++ (p ∷ ps)) ≡ true

@@ -11,22 +11,22 @@ use Rattle.data_url.specs.Url.{before, after, without_tabs_and_newlines, fragmen
 -- a text that begins with c has no bytes before its first c
 pub before_same : (c : ℕ) (s : List ℕ) → before c (c ∷ s) ≡ []
 unfolding before
-before_same c s = cond-true (eqb c c) [] (c ∷ before c s) (eq-eqb c c refl)
+before_same c s = grind (arith, cond-true, eq-eqb)
 
 -- the bytes after the first c of a text that begins with c are the rest of that text
 pub after_same : (c : ℕ) (s : List ℕ) → after c (c ∷ s) ≡ Some s
 unfolding after
-after_same c s = cond-true (eqb c c) (Some s) (after c s) (eq-eqb c c refl)
+after_same c s = grind (arith, cond-true, eq-eqb)
 
 -- if b is not c, the bytes before the first c of b ∷ s are b and then the bytes before the first c of s
 pub before_other : (c b : ℕ) (s : List ℕ) → (b == c) ≡ false → before c (b ∷ s) ≡ b ∷ before c s
 unfolding before
-before_other c b s h = cond-false (eqb b c) [] (b ∷ before c s) h
+before_other c b s h = grind (arith, cond-false)
 
 -- if b is not c, the bytes after the first c of b ∷ s are those after the first c of s
 pub after_other : (c b : ℕ) (s : List ℕ) → (b == c) ≡ false → after c (b ∷ s) ≡ after c s
 unfolding after
-after_other c b s h = cond-false (eqb b c) (Some s) (after c s) h
+after_other c b s h = grind (arith, cond-false)
 
 -- the empty text has no c
 pub after_nil : (c : ℕ) → after c [] ≡ None
@@ -65,7 +65,7 @@ before_all c (b ∷ a) h = let k = lacks c b a h in cc (before_other c b a k.her
 
 -- if a has no c, the bytes before the first c of a ++ c ∷ s are a
 pub before_at : (c : ℕ) (a s : List ℕ) → after c a ≡ None → before c (a ++ c ∷ s) ≡ a
-before_at c a s h = before-append c a (c ∷ s) h ∙ ap (λ t. a ++ t) (before_same c s) ∙ append-nil a
+before_at c a s h = grind (arith, before-append, before_same, append-nil)
 
 -- if a has no c, the bytes after the first c of a ++ c ∷ s are s
 pub after_at : (c : ℕ) (a s : List ℕ) → after c a ≡ None → after c (a ++ c ∷ s) ≡ Some s
@@ -78,20 +78,10 @@ pub record IsCut (c : ℕ) (s rest : List ℕ) : Type 0 where
 
 -- if rest is the text after the first c of s, then s is the bytes before that c, then c, then rest
 pub is_cut : (c : ℕ) (s rest : List ℕ) → after c s ≡ Some rest → IsCut c s rest
-is_cut c [] rest h = absurd (let k : None ≡ Some rest = sym (after_nil c) ∙ h in cc)
+is_cut c [] rest h = grind (arith, after_nil)
 is_cut c (b ∷ s) rest h =
-    grind (
-      arith,
-      cases_Bool,
-      eqb-true,
-      before_same,
-      after_same,
-      lacks,
-      after_nil,
-      after_other,
-      before_other,
-      is_cut c s rest,
-    )
+    grind (arith, is_cut c s rest, cases_Bool, eqb-true, before_same, after_same, lacks, after_nil, after_other,
+    before_other)
 
 -- if c is at no index of the text, the text has no c
 pub after_none : (c : ℕ) (s : List ℕ) → ((k : ℕ) → k < length s → (get_or s k 0 == c) ≡ false) → after c s ≡ None
@@ -109,13 +99,13 @@ dropped_nil = refl
 pub dropped_passes : (b : ℕ) (s : List ℕ) → is_tab_or_newline b ≡ true
     → without_tabs_and_newlines (b ∷ s) ≡ without_tabs_and_newlines s
 unfolding without_tabs_and_newlines
-dropped_passes b s h = ap (λ v. cond (not v) (b ∷ without_tabs_and_newlines s) (without_tabs_and_newlines s)) h
+dropped_passes b s h = grind arith
 
 -- a byte at the front of a text that is neither a tab nor a newline is kept
 pub dropped_keeps : (b : ℕ) (s : List ℕ) → is_tab_or_newline b ≡ false
     → without_tabs_and_newlines (b ∷ s) ≡ b ∷ without_tabs_and_newlines s
 unfolding without_tabs_and_newlines
-dropped_keeps b s h = ap (λ v. cond (not v) (b ∷ without_tabs_and_newlines s) (without_tabs_and_newlines s)) h
+dropped_keeps b s h = grind arith
 
 -- dropping tabs and newlines from a ++ s drops them from a and from s
 pub without_tabs_and_newlines-append : (a s : List ℕ)

@@ -110,7 +110,7 @@ end_before p c s (d ∷ t) h = (
 
 -- each text is a text that does not end with a code point that passes, and then a text that passes
 has_end : (p : ℕ → Bool) (s : List ℕ) → (t : List ℕ) × IsTrimmedEnd p s t
-has_end p [] = ([], record { back = []; joined = refl; at_back = tt; ends = tt })
+has_end p [] = grind arith
 has_end p (c ∷ s) = let h = has_end p s in end_before p c s h.0 h.1
 
 -- Where the bytes of a text can be cut
@@ -172,7 +172,7 @@ cut_front p s bs u = cut_into bs (front_of p (chars bs)) (without_front p (chars
 pub cut_by : {p : ℕ → Bool} {bs bytes front after : List ℕ} {n : ℕ} → IsSteady p → IsUtf8 bs → n ≡ prefix_len p bytes
     → bytes ≡ bs → front ≡ take n bs → after ≡ drop n bs
     → (chars front ≡ front_of p (chars bs)) × (chars after ≡ without_front p (chars bs))
-cut_by {p = p} {bs = bs} s u e b f g = let cut = cut_front p s bs u in (cc (cut.front), cc (cut.after))
+cut_by {p = p} {bs = bs} s u e b f g = grind (arith, cut_front)
 
 -- a text of no bytes has no code points
 pub no_chars : (bs : List ℕ) → length bs ≡ 0 → chars bs ≡ []
@@ -186,7 +186,7 @@ empty_encodes (c ∷ cs) = grind (arith, length-le-encodes (c ∷ cs))
 
 -- a UTF-8 text has code points exactly if it has bytes
 pub same_empty : (bs : List ℕ) → IsUtf8 bs → (length (chars bs) == 0) ≡ (length bs == 0)
-same_empty bs u = empty_encodes (chars bs) ∙ ap (λ x. length x == 0) (encodes-chars bs u)
+same_empty bs u = grind (arith, empty_encodes, encodes-chars)
 
 -- if a ++ b does not end with a code point that passes, b does not either
 ends_right : (p : ℕ → Bool) (a b : List ℕ) → DoesNotEnd p (a ++ b) → DoesNotEnd p b
@@ -239,7 +239,7 @@ controls_steady c l = grind arith
 
 -- a UTF-8 text can be cut after the C0 controls and spaces at its front
 pub controls_front : (bs : List ℕ) → IsUtf8 bs → IsCharBoundary bs (prefix_len is_c0_control_or_space bs)
-controls_front bs u = (cut_front is_c0_control_or_space controls_steady bs u).boundary
+controls_front bs u = grind (arith, cut_front, controls_steady)
 
 -- a UTF-8 text can be cut before those at its end
 pub controls_end : (bs : List ℕ) → IsUtf8 bs → IsCharBoundary bs (length bs - suffix_len is_c0_control_or_space bs)

@@ -4,10 +4,10 @@ use Rattle.data_url.proofs.mime.FirstNames.{keeps_end, keeps_more, rest_smaller}
 use Rattle.data_url.proofs.mime.parse.read_parameters.Goals as goal
 
 pub returns-then-is_empty : goal.returns-then-is_empty
-returns-then-is_empty c = ([], no_chars c.args.text.now (grind arith), cc)
+returns-then-is_empty c = grind (arith, no_chars)
 
 pub loop-after-smaller : goal.loop-after-smaller
-loop-after-smaller c = rest_smaller _ _ _ c.in-Some.ensures c.read_parameter-parameter.ensures.rest
+loop-after-smaller c = grind (arith, rest_smaller)
 
 pub loop-after-preserved : goal.loop-after-preserved
 loop-after-preserved c =
@@ -19,4 +19,4 @@ loop-after-preserved c =
     }
 
 pub returns : goal.returns
-returns c = keeps_end c.loop-after.invariant.keeps c.requires c.in_default.ensures
+returns c = grind (arith, keeps_end)

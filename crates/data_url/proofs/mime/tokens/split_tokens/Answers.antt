@@ -8,7 +8,7 @@ pub split_at-requires : goal.split_at-requires
 split_at-requires c = grind (arith, cut_front is_token tokens_steady)
 
 pub returns-then-len-eq0 : goal.returns-then-len-eq0
-returns-then-len-eq0 c = no_tokens c.args.text.now c.span-len.result c.utf8.text (cc) c.if-len-eq0.true
+returns-then-len-eq0 c = grind (arith, no_tokens)
 
 pub returns : goal.returns
 returns c = some_tokens c.args.text.now c.span-len.result c.utf8.text

@@ -11,9 +11,7 @@ returns-then-len-lt-LOOKED_THROUGH c =
     record { pairs = r.0; indexed = r.1 }
 
 pub returns-then-not-branch-clause-pairs : goal.returns-then-not-branch-clause-pairs
-returns-then-not-branch-clause-pairs c =
-    not_pushed c.args.name c.args.value c.requires.indexed c.requires.lower c.requires.new c.in_ok-clone.field-0
-    c.in_ok-clone.ensures.cases c.in_ok-insert.ensures.added c.if-not-branch.true
+returns-then-not-branch-clause-pairs c = grind (arith, not_pushed)
 
 pub returns : goal.returns
 returns c =
