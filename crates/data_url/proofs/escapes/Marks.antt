@@ -194,8 +194,16 @@ looking_block {s} {s'} {b} {b'} {place} k l t e i n = grind arith
 pub found : {text : List ℕ} {place seen marks : ℕ} (width : ℕ) → IsBlock text place seen marks → marks ≢ 0
     → width ≡ count_trailing_zeros 64 marks → (place + width < seen) × IsNextMark text place (place + width)
 found {text} {place} {seen} {marks} width h n e =
-    grind (arith, length-drop, length-take-le, trailing_mask_l, run_in_chunk_le, mask_none, run_in_chunk_fails,
-    run_in_chunk_stops)
+    grind (
+      arith,
+      length-drop,
+      length-take-le,
+      trailing_mask_l,
+      run_in_chunk_le,
+      mask_none,
+      run_in_chunk_fails,
+      run_in_chunk_stops,
+    )
 
 -- if the marks of a block are 0, none of its bytes is marked
 pub found_none : {text : List ℕ} {place seen marks : ℕ} → IsBlock text place seen marks → marks ≡ 0

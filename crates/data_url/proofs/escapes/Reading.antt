@@ -1,8 +1,7 @@
 -- What a walk reads between two places of its text, and the bound on how many bytes it reads. For `stop_at`.
 use Rattle.std.proofs.Common.{◌≡◌, ℕ, ◌+◌, ◌*◌, true, false, List, [], ◌∷◌, refl, sym, ap, suc, zero, ◌-◌, ◌<◌}
 use Rattle.std.proofs.Common.{◌∙◌, ◌≤◌, cond, ◌++◌, length, take, drop, get_or, append_assoc, arith, length-append}
-use Rattle.std.specs.Prelude.{◌==◌, ◌&&◌, slice_range}
-use Rattle.std.specs.Char.{is_ascii_hexdigit}
+use Rattle.std.specs.Prelude.{◌==◌, slice_range}
 use Rattle.std.proofs.lemmas.Bool.{and_left}
 use Rattle.std.proofs.lemmas.List.{drop_more, drop-drop, length-drop}
 use Rattle.std.proofs.lemmas.List.Sums.{prefix_len-drop_no, prefix_len-le-length}

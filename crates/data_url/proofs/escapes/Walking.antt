@@ -1,20 +1,19 @@
 -- The pieces of a walk, and the bytes that it gathers. For `Cursor` and `Pieces`.
 use Rattle.std.proofs.Common.{◌≡◌, ℕ, ◌+◌, ◌-◌, ◌<◌, ◌≤◌, true, List, [], ◌∷◌, ◌++◌, length, take}
 use Rattle.std.proofs.Common.{drop, get_or, None, Some, refl, sym, ap, ◌∙◌, subst, inl, inr, arith, length-append}
-use Rattle.std.proofs.Common.{map, Bool, ◌≢◌, Option, ◌*◌, cond, set, append_assoc, take-add}
+use Rattle.std.proofs.Common.{Bool, ◌≢◌, Option, ◌*◌, cond, set, append_assoc, take-add}
 use Rattle.std.specs.Prelude.{slice_range, IfNone}
-use Rattle.std.proofs.lemmas.List.{take_all, drop_more, drop-drop, length-drop, drop_all, append-nil, take_more_set}
+use Rattle.std.proofs.lemmas.List.{drop_more, drop-drop, length-drop, drop_all, append-nil, take_more_set}
 use Rattle.std.proofs.lemmas.List.{length-take-le, append_cancel_right, take-append-drop}
 use Rattle.data_url.specs.Fetch.{plain_body}
 use Rattle.data_url.specs.Pieces.{Walk, text_of, IsStretch, bytes_of, has_ended, is_slice_end, walk_of}
 use Rattle.data_url.specs.Steps.Chunks.{IsFront, IsOver, Takes}
 use Rattle.data_url.specs.Steps.Digits.{EscapeAt, cleaned}
 use Rattle.data_url.specs.Steps.Tail.{BeginsFragment, IsBodyEnd, rest_fragment}
-use Rattle.data_url.specs.Steps.Walk.{Ended, EndsAt, Gathers, GoesOn, IsBlock, IsClear, IsNextMark, IsPart, Knows}
+use Rattle.data_url.specs.Steps.Walk.{Ended, EndsAt, Gathers, GoesOn, IsClear, IsNextMark, IsPart, Knows}
 use Rattle.data_url.specs.Steps.Walk.{KnowsAhead, Looking, LooksOn, MayGather, Moves, Pays, Reads, Searching, Spells}
-use Rattle.data_url.specs.Steps.Window.{is_marked}
 use Rattle.data_url.specs.Url.{before, after, front, without_tabs_and_newlines}
-use Rattle.data_url.proofs.escapes.Marks.{found_none, looking_on}
+use Rattle.data_url.proofs.escapes.Marks.{looking_on}
 use Rattle.data_url.proofs.escapes.Reading.{ends_empty, paid_le, paid_on, percent_nil, spells_clear, spells_escape}
 use Rattle.data_url.proofs.escapes.Reading.{spells_none, spells_then}
 use Rattle.data_url.proofs.percent.Encoding.{decoded_escape}
@@ -28,7 +27,6 @@ use Rattle.data_url.specs.declared.escapes.cursor.Cursor.{Cursor}
 use Rattle.data_url.specs.declared.escapes.source.Source.{Source}
 use Rattle.data_url.specs.declared.escapes.stops.Block.{Block}
 use Rattle.data_url.proofs.runs.Runs.{none_or_some}
-use lib.Lanes.{mask_l}
 
 -- Ranges of a text
 

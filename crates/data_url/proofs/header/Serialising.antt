@@ -107,8 +107,15 @@ header_and_query : (path rest : List ℕ) → after 63 path ≡ None
     (without_tabs_and_newlines path) ++ percent_encoding in_query_set (without_tabs_and_newlines (63 ∷ rest))
 unfolding header_text
 header_and_query path rest h =
-    grind (arith, after-dropped_none, dropped_keeps, encoded_cons, without_tabs_and_newlines-append, before_at,
-    after_at)
+    grind (
+      arith,
+      after-dropped_none,
+      dropped_keeps,
+      encoded_cons,
+      without_tabs_and_newlines-append,
+      before_at,
+      after_at,
+    )
 
 -- a text whose length is not zero is not empty
 pub some_bytes : (s : List ℕ) (v : Bool) → v ≡ (length s == 0) → v ≡ false → s ≢ []

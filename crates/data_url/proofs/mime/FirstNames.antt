@@ -11,7 +11,7 @@ use Rattle.data_url.specs.Steps.Kept.{first_of, pairs_of, HasLaterNames, IsIndex
 use Rattle.data_url.specs.declared.mime.kept.KeptParameters.{KeptParameters}
 use Rattle.data_url.specs.declared.mime.kept.TheConstants.{LOOKED_THROUGH}
 use Rattle.std.proofs.lemmas.Bool.{cond-true, not-false, not-true, agree_below_at, and_from, and_parts, cases_lt, cond_both}
-use Rattle.std.proofs.lemmas.Bool.{false_from_ne_true, false≢true}
+use Rattle.std.proofs.lemmas.Bool.{false_from_ne_true}
 use Rattle.std.proofs.lemmas.List.Folds.{list_all-append, list_all-map, list_all_at, list_any-append}
 use Rattle.std.proofs.lemmas.Slice.Eq.{bytes_eq-Decides}
 use Rattle.std.proofs.lemmas.Str.{chars-IsAscii, chars-nil, IsUtf8-string_bytes}

@@ -1,6 +1,6 @@
 -- Type, subtype and parameters, as the parser cuts them. For `parse.rt` and `cuts.rt`.
 use Rattle.std.proofs.Common.{◌≡◌, ℕ, ◌==◌, true, false, List, [], ◌∷◌, ◌++◌, length, drop, None, encode_utf8, Some}
-use Rattle.std.proofs.Common.{encode_utf8_all, refl, ap, ◌∙◌, arith, map, Option, cond, eqb-true}
+use Rattle.std.proofs.Common.{encode_utf8_all, refl, ap, arith, map, Option, cond, eqb-true}
 use Rattle.std.proofs.Common.{take-append-drop}
 use Rattle.std.proofs.lemmas.Bool.{false≢true}
 use Rattle.std.specs.List.{prefix_len}

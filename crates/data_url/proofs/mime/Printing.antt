@@ -1,6 +1,6 @@
 -- Printed records, and records of the same texts. For `Display` and `PartialEq` of `Mime`.
 use Rattle.std.proofs.Common.{◌≡◌, ℕ, ◌+◌, ◌<◌, ◌≤◌, Bool, true, false, List, [], ◌∷◌, ◌++◌, length, get_or, take, drop}
-use Rattle.std.proofs.Common.{String, string_bytes, map, encode_utf8, encode_utf8_all, refl, sym, ap, ◌∙◌, subst}
+use Rattle.std.proofs.Common.{String, string_bytes, map, encode_utf8, encode_utf8_all, refl, sym, ap, subst}
 use Rattle.std.proofs.Common.{append_assoc, append-nil, drop-cons, drop_of_length-le, arith}
 use lib.Utf8.{encode}
 use Rattle.std.proofs.lemmas.Str.{IsUtf8-append, IsUtf8-string_bytes, chars_past_char, encode_ascii, encodes-append}

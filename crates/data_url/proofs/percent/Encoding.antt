@@ -299,9 +299,24 @@ same_set (c ∷ h) rest (Some query) e = grind (arith, before_same, before_other
 pub before-serialised : (h rest : List ℕ) → after 44 h ≡ None → before 44 (serialised (h ++ 44 ∷ rest)) ≡ header_text h
 before-serialised [] rest e = grind (arith, serialised_path, before_same, header_nil)
 before-serialised (b ∷ h) rest e =
-    grind (arith, before-serialised h rest, lacks, cases_Bool, eqb-true, serialised_query, before_other,
-    before_encoded, before_at, header_query, serialised_path, before-append, after_nil, after_other, same_set,
-    header_path)
+    grind (
+      arith,
+      before-serialised h rest,
+      lacks,
+      cases_Bool,
+      eqb-true,
+      serialised_query,
+      before_other,
+      before_encoded,
+      before_at,
+      header_query,
+      serialised_path,
+      before-append,
+      after_nil,
+      after_other,
+      same_set,
+      header_path,
+    )
 
 -- Percent-encoding a text without its tabs and newlines: byte by byte, and part by part.
 

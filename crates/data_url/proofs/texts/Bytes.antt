@@ -1,6 +1,6 @@
 -- Texts of bytes: cut at a byte, and without tabs and newlines.
-use Rattle.std.proofs.Common.{◌≡◌, ℕ, suc, ◌<◌, true, false, not, cond, List, [], ◌∷◌, ◌++◌, length, get_or, Option}
-use Rattle.std.proofs.Common.{append-nil, None, Some, refl, sym, ap, ◌∙◌, arith, eqb, eqb-true, eq-eqb}
+use Rattle.std.proofs.Common.{◌≡◌, ℕ, suc, ◌<◌, true, false, List, [], ◌∷◌, ◌++◌, length, get_or, Option}
+use Rattle.std.proofs.Common.{append-nil, None, Some, refl, ap, ◌∙◌, arith, eqb-true, eq-eqb}
 use Rattle.std.specs.Prelude.{◌==◌}
 use Rattle.std.proofs.lemmas.Bool.{cases_Bool, cond-true, cond-false}
 use Rattle.std.specs.Option.{option_map}
@@ -80,8 +80,18 @@ pub record IsCut (c : ℕ) (s rest : List ℕ) : Type 0 where
 pub is_cut : (c : ℕ) (s rest : List ℕ) → after c s ≡ Some rest → IsCut c s rest
 is_cut c [] rest h = grind (arith, after_nil)
 is_cut c (b ∷ s) rest h =
-    grind (arith, is_cut c s rest, cases_Bool, eqb-true, before_same, after_same, lacks, after_nil, after_other,
-    before_other)
+    grind (
+      arith,
+      is_cut c s rest,
+      cases_Bool,
+      eqb-true,
+      before_same,
+      after_same,
+      lacks,
+      after_nil,
+      after_other,
+      before_other,
+    )
 
 -- if c is at no index of the text, the text has no c
 pub after_none : (c : ℕ) (s : List ℕ) → ((k : ℕ) → k < length s → (get_or s k 0 == c) ≡ false) → after c s ≡ None

@@ -1,7 +1,7 @@
 use Rattle.std.proofs.Common.{arith, Err, Ok, [], refl}
 use Rattle.std.proofs.lemmas.Result.{err_from_is_err_and}
 use Rattle.std.specs.Fn.{CalledAt}
-use Rattle.data_url.proofs.body.Decoding.{going_front, going_more, going_none, took_refused, took_whole, takes_next}
+use Rattle.data_url.proofs.body.Decoding.{going_front, going_more, going_none, took_refused, takes_next}
 use Rattle.data_url.proofs.body.decode_pieces.Goals.{else-not-is_empty, then-not-is_empty+in_ok-take}
 use Rattle.data_url.proofs.body.decode_pieces.Goals as goal
 

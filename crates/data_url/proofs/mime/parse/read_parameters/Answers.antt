@@ -1,4 +1,4 @@
-use Rattle.std.proofs.Common.{[], arith, rules}
+use Rattle.std.proofs.Common.{arith, rules}
 use Rattle.data_url.proofs.texts.CodePoints.{no_chars}
 use Rattle.data_url.proofs.mime.FirstNames.{keeps_end, keeps_more, rest_smaller}
 use Rattle.data_url.proofs.mime.parse.read_parameters.Goals as goal

@@ -1,7 +1,6 @@
-use Rattle.std.proofs.Common.{ap, arith, drop, sym, ◌∙◌}
+use Rattle.std.proofs.Common.{ap, drop, ◌∙◌}
 use Rattle.std.specs.List.{slice_range}
 use Rattle.data_url.specs.Fetch.{plain_body}
-use Rattle.data_url.specs.Steps.Walk.{KnowsAhead}
 use Rattle.data_url.proofs.escapes.Walking.{end_knows, front_is, front_knows}
 use Rattle.data_url.proofs.escapes.cursor.Cursor.next_front.Goals.{else-mark-len, then-mark-len}
 use Rattle.data_url.proofs.escapes.cursor.Cursor.next_front.Goals as goal
