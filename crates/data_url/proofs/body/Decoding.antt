@@ -1,6 +1,7 @@
 -- A closure or a decoder that gets a body piece by piece. For `decode_pieces`, `decode_body` and its callers.
 use Rattle.std.proofs.lemmas.List.{nil_from_length}
-use Rattle.std.proofs.Common.{◌<◌, ◌≡◌, ℕ, ◌+◌, ◌≤◌, List, [], ◌∷◌, ◌++◌, Bor, length, Option, None, Some, Result, Ok, Err}
+use Rattle.std.proofs.Common.{◌<◌, ◌≡◌, ℕ, ◌+◌, ◌≤◌, List, [], ◌∷◌, ◌++◌, Bor, length, Option, None, Some, Result, Ok}
+use Rattle.std.proofs.Common.{Err}
 use Rattle.std.proofs.Common.{refl, sym, ap, ◌∙◌, subst, append_assoc, arith, length-append, suc, Bool, true, false}
 use Rattle.std.proofs.Common.{cond, ◌*◌, min, filter, length-drop, length-take}
 use Rattle.std.specs.Prelude.{MatchOption, MatchResult, ◌==◌, MatchBool, IsErr}
@@ -17,7 +18,8 @@ use Rattle.data_url.specs.Steps.Chunks.{IsFront, GivesBytes, IsCallableUntilErro
 use Rattle.data_url.specs.Steps.Tail.{IsBodyEnd}
 use Rattle.data_url.specs.DataUrl.{Decodes, HandsOut, IsUrlOf, url_body, url_tail}
 use Rattle.data_url.specs.declared.forgiving_base64.DecodeError.TheVariants.{WriteError, InvalidBase64}
-use Rattle.data_url.proofs.runs.Runs.{joined_pieces-append, match_at, match_at_none, refusal-append, run-append, prefix_after}
+use Rattle.data_url.proofs.runs.Runs.{joined_pieces-append, match_at, match_at_none, refusal-append, run-append}
+use Rattle.data_url.proofs.runs.Runs.{prefix_after}
 use Rattle.std.specs.Char.{digit_value}
 use Rattle.data_url.specs.Base64.{decoded, complete_bytes, kind_of, after_groups, before_place, groups, is_symbol}
 use Rattle.data_url.specs.Base64.{rest_bytes, symbol_value, values}

@@ -4,7 +4,8 @@ use Rattle.std.proofs.Common.{◌∷◌, ◌++◌, length, take, drop, map, min,
 use Rattle.std.proofs.Common.{get_or, subst, bit_and, w8, Fits, ◌≢◌, not, inl, inr}
 use Rattle.std.specs.Prelude.{slice_range}
 use Rattle.std.specs.Simd.Lanes.{chunk, mask_l, put_chunk, Each1, top, zip2}
-use Rattle.std.proofs.lemmas.List.{drop_all, drop-take, length-take, take_all, length-drop, drop-replicate, length-take-le, take_rest, take-append-le, take-take}
+use Rattle.std.proofs.lemmas.List.{drop_all, drop-take, length-take, take_all, length-drop, drop-replicate}
+use Rattle.std.proofs.lemmas.List.{length-take-le, take_rest, take-append-le, take-take}
 use Rattle.std.proofs.lemmas.List.{drop-map, drop-drop, length-map, map-id}
 use Rattle.std.proofs.Math.Seq.{take-append-add}
 use Rattle.std.proofs.Math.Nat.{div-div-eq-div-mul, mul_comm, pow-suc}

@@ -203,7 +203,13 @@ pub front_is : {text bytes : List ℕ} {w : Walk} → w.text ≡ text → w.rest
     → IsNextMark text 0 w.place → bytes ≡ slice_range text 0 w.place → IsFront text bytes w
 front_is {text} {bytes} {w} same rest m is =
     let reads = (spells_clear text 0 w.place m.forward m.within m.clear).reads in
-    record { text_is = same; body_is = cc (reads.body); few = omega (arith, reads.few, ap length is); within = m.within }
+    record {
+      text_is = same;
+      body_is = cc (reads.body);
+      few = omega (arith, reads.few, ap length is);
+      within
+          = m.within;
+    }
 
 -- after the first part of a text that is read, what follows the first '#' is what followed it
 pub front_knows : {c : Cursor} → IsNextMark (text_of c) 0 c.place → KnowsAhead c c.ahead → Knows c
@@ -213,7 +219,11 @@ front_knows {c} m k =
 -- at the end of its text, a walk ends
 pub end_knows : {c : Cursor} → Looking c.source c.block c.place 0 → c.place ≡ length (text_of c) → Ended c
 end_knows {c} k e = record {
-  ends = record { within = omega (arith, e); begins = subst BeginsFragment (sym (drop_all c.place (text_of c) (omega (arith, e)))) tt };
+  ends = record {
+    within = omega (arith, e);
+    begins = subst BeginsFragment
+        (sym (drop_all c.place (text_of c) (omega (arith, e)))) tt;
+  };
   few_looks = grind (arith, paid_le);
 }
 

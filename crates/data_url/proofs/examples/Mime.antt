@@ -54,7 +54,8 @@ reads_x : (r : List ℕ) (pairs : List Pair) → BeginsParameters r
     → trimmed_of is_http_whitespace (codes "x/x" ++ r) ≡ codes "x/x" ++ r → kept_pairs (items_in (length r) r) ≡ pairs
     → Parses (codes "x/x" ++ r) (x_x pairs)
 unfolding on_literals
-reads_x r pairs begins ends are = reads (codes "x/x" ++ r) (codes "x") (codes "x") [] r pairs refl refl refl begins ends are
+reads_x r pairs begins ends are = reads (codes "x/x" ++ r) (codes "x") (codes "x") [] r pairs refl refl refl begins
+    ends are
 
 -- a semicolon in quotes, a missing value, and an empty value in quotes
 quotes : Parses (codes "TEXT/HTML;a=" ++ (34 ∷ codes "b;c" ++ (34 ∷ codes ";d=;e=" ++ (34 ∷ 34 ∷ []))))
@@ -74,7 +75,9 @@ unfolding on_literals
 token_marks = reads_x _ _ refl refl refl
 
 -- a value cannot have U+007F or U+0100; it can have U+0080 and U+00FF
-edges_of_values : Parses (codes "x/x" ++ (codes ";a=" ++ (127 ∷ codes ";b=" ++ (128 ∷ codes ";c=" ++ (255 ∷ codes ";d=" ++ (256 ∷ [])))))) (x_x ((codes "b", 128 ∷ []) ∷ (codes "c", 255 ∷ []) ∷ []))
+edges_of_values : Parses
+    (codes "x/x" ++ (codes ";a=" ++ (127 ∷ codes ";b=" ++ (128 ∷ codes ";c=" ++ (255 ∷ codes ";d=" ++ (256 ∷ []))))))
+    (x_x ((codes "b", 128 ∷ []) ∷ (codes "c", 255 ∷ []) ∷ []))
 unfolding on_literals
 edges_of_values = reads_x _ _ refl refl refl
 
@@ -84,7 +87,8 @@ unfolding on_literals
 repeated_name = reads_x _ _ refl refl refl
 
 -- the code points after a closing quote are ignored
-junk_after_quote : Parses (codes "x/x" ++ (codes ";a=" ++ (34 ∷ 98 ∷ 34 ∷ 256 ∷ []))) (x_x ((codes "a", codes "b") ∷ []))
+junk_after_quote : Parses (codes "x/x" ++ (codes ";a=" ++ (34 ∷ 98 ∷ 34 ∷ 256 ∷ [])))
+    (x_x ((codes "a", codes "b") ∷ []))
 unfolding on_literals
 junk_after_quote = reads_x _ _ refl refl refl
 
@@ -109,7 +113,9 @@ unfolding on_literals
 escapes = reads_x _ _ refl refl refl
 
 -- a parameter whose name is empty or not a token is ignored together with its quoted string
-invalid_names : Parses (codes "x/x" ++ (codes ";=q;" ++ (233 ∷ codes "=" ++ (34 ∷ codes "a;b=c" ++ (34 ∷ codes ";d=e"))))) (x_x ((codes "d", codes "e") ∷ []))
+invalid_names : Parses
+    (codes "x/x" ++ (codes ";=q;" ++ (233 ∷ codes "=" ++ (34 ∷ codes "a;b=c" ++ (34 ∷ codes ";d=e")))))
+    (x_x ((codes "d", codes "e") ∷ []))
 unfolding on_literals
 invalid_names = reads_x _ _ refl refl refl
 

@@ -52,7 +52,12 @@ take_groups m x h =
     let front = take (4 * m) x in
     let long : length front ≡ 4 * m = length-take-le (4 * m) x h in
     let size : length (groups front) ≡ 3 * m = omega (arith, groups_size front) in
-    cc (take-append-drop (4 * m) x, groups_whole front (drop (4 * m) x) (omega arith), take_at (groups front) (groups (drop (4 * m) x)) (3 * m) size)
+    cc (
+      take-append-drop (4 * m) x,
+      groups_whole front (drop (4 * m) x) (omega arith),
+      take_at (groups front)
+          (groups (drop (4 * m) x)) (3 * m) size,
+    )
 
 -- the groups of a list are those of its items without the ones that are left over
 pub groups_front : (x : List ℕ) → groups (take (4 * (length x / 4)) x) ≡ groups x
@@ -163,7 +168,25 @@ module _ (a b w : List ℕ) (st : Stands a w) where
   pub goes_on : GoesOn a b (w ++ b)
   unfolding left_padding left_symbols values decoded
   goes_on =
-      grind (arith, done_is, before-append, groups_both, fault_some, fault-append, kind_is, length-map, after_groups-append, no_fault_valid, fault_invalid, filter-append, length_alike, length-append, append_assoc, values-append, values_left)
+      grind (
+        arith,
+        done_is,
+        before-append,
+        groups_both,
+        fault_some,
+        fault-append,
+        kind_is,
+        length-map,
+        after_groups-append,
+        no_fault_valid,
+        fault_invalid,
+        filter-append,
+        length_alike,
+        length-append,
+        append_assoc,
+        values-append,
+        values_left,
+      )
 
 -- Decoding goes on from what is left over
 

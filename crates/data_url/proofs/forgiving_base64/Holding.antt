@@ -1,6 +1,7 @@
 -- Feeding while decoded bytes are held. For the functions of `Decoder` that feed.
 use Rattle.std.proofs.Common.{◌≡◌, ℕ, suc, zero, ◌+◌, ◌-◌, ◌*◌, ◌/◌, ◌%◌, ◌<◌, ◌≤◌, Fits, w8, length-take-le, Bool}
-use Rattle.std.proofs.Common.{true, false, cond, min, ◌||◌, List, [], ◌∷◌, ◌++◌, length, map, drop, get_or, take, take-add}
+use Rattle.std.proofs.Common.{true, false, cond, min, ◌||◌, List, [], ◌∷◌, ◌++◌, length, map, drop, get_or, take}
+use Rattle.std.proofs.Common.{take-add}
 use Rattle.std.proofs.Common.{Option, None, Some, is_some, Result, Ok, Err, refl, ap, sym, ◌∙◌, subst, arith}
 use Rattle.std.proofs.Common.{append_assoc, length-append, length-take}
 use Rattle.std.specs.List.{filter, list_all}
@@ -90,7 +91,8 @@ module _ {F : Type 0} where
         few = omega (arith, ap length none.0);
         few_padding = omega (arith, none.1);
       })
-      none.1 (symbols_alone t all) (sym (filter_all is_symbol t (every_list_all t all))) parts.0 refl parts.1 none.1 going
+      none.1 (symbols_alone t all) (sym (filter_all is_symbol t (every_list_all t all))) parts.0 refl parts.1 none.1
+      going
 
   -- whole groups at the start of the text
   pub gains_groups : {d : State F} {held text held' : List ℕ} (taken : ℕ) → 0 < taken → IsBetweenGroups d
@@ -144,7 +146,8 @@ module _ {F E : Type 0} (step : F → List ℕ → Result (Unit {0}) E → F →
   refuses_feeds {d} {d1} {d2} {d'} {c} e f same = grind arith
 
   -- what is left over stays if the symbols and the padding do
-  left_stays : {d d' : State F} {u : List ℕ} → IsLeft u d → d'.symbols ≡ d.symbols → d'.padding ≡ d.padding → IsLeft u d'
+  left_stays : {d d' : State F} {u : List ℕ} → IsLeft u d → d'.symbols ≡ d.symbols → d'.padding ≡ d.padding
+      → IsLeft u d'
   left_stays l e f = grind arith
 
   -- Text that is read
@@ -189,17 +192,24 @@ module _ {F E : Type 0} (step : F → List ℕ → Result (Unit {0}) E → F →
   reads_more s at n r a = rw (sym (taken_more s at n)) (reads_then r a)
 
   -- the closure accepts a front of the bytes that are held
-  pub reads_called : {d d1 d2 : State F} {t : List ℕ} (a b : List ℕ) → (length b + 2) / 3 < (length a + length b + 2) / 3
+  pub reads_called : {d d1 d2 : State F} {t : List ℕ} (a b : List ℕ) → (length b + 2) / 3 < (length a + length b + 2)
+      / 3
       → Reads step d t (a ++ b) d1 → CallsOnce step d1 a (Ok tt) d2 → Reads step d t b d2
   reads_called {d} {d1} {d2} a b some r c =
       let call = record { piece = a; answer = c.told; after = d2.closure } ∷ [] in
       record {
         run = r.run ++ call;
-        ran = run-append step r.run call d.closure d1.closure d2.closure r.ran r.accepted (one_call step _ _ a _ c.called);
+        ran = run-append step r.run call d.closure d1.closure d2.closure r.ran r.accepted
+            (one_call step _ _ a _ c.called);
         accepted = refusal-append r.run call r.accepted ∙ accepted_call c.told refl c.answer;
         calls = omega (arith, r.calls, some, length-append a b, length-append r.run call);
         no_fault = r.no_fault;
-        bytes_are = cc (joined_pieces-append r.run call, append_assoc (joined_pieces r.run) a b, append-nil a, r.bytes_are);
+        bytes_are = cc (
+          joined_pieces-append r.run call,
+          append_assoc (joined_pieces r.run) a b,
+          append-nil a,
+          r.bytes_are,
+        );
         left = left_stays r.left c.symbols_stay c.padding_stays;
         going = c.failed;
       }
@@ -259,7 +269,8 @@ module _ {F E : Type 0} (step : F → List ℕ → Result (Unit {0}) E → F →
       length-take-le 64 block (omega (arith, length-take (length s - at) (drop at s), length-drop at s)) in
       let values = symbols_values (take 64 block) (fits_take 64 block (fits_take (length s - at) (drop at s)
       (λ i. subst (Fits w8) (sym (get_or-drop at s i 0)) (fits (at + i))))) (sym all) in
-      reads_more s at 64 r (adds_symbols (take 64 block) none r.going (sym all) (ap (λ n. n % 4) long) (is ∙ ap groups values))
+      reads_more s at 64 r (adds_symbols (take 64 block) none r.going (sym all) (ap (λ n. n % 4) long)
+      (is ∙ ap groups values))
 
   -- Text that is fed in parts
 
@@ -298,10 +309,17 @@ block_is : (q bytes : List ℕ) → 64 ≤ length q → length bytes ≡ 48
 block_is q bytes long full is =
     let front = map symbol_value (take 64 q) in
     let size : length (take 64 q) ≡ 64 = length-take-le 64 q long in
-    cc (take_all (3 * (length (take 64 q) / 4)) bytes (omega arith), groups_whole front (map symbol_value (drop 64 q)) (omega (arith, length-map (take 64 q) symbol_value)), map-append symbol_value (take 64 q) (drop 64 q), take-append-drop 64 q)
+    cc (
+      take_all (3 * (length (take 64 q) / 4)) bytes (omega arith),
+      groups_whole front (map symbol_value (drop 64 q)) (omega (arith, length-map (take 64 q) symbol_value)),
+      map-append symbol_value (take 64 q) (drop 64 q),
+      take-append-drop 64 q,
+    )
 
--- d reads the text, and the symbols q wait in a buffer: the bytes of their groups are held, and the others are left over
-abbrev pub Waits : {F E : Type 0} → (F → List ℕ → Result (Unit {0}) E → F → Type 0) → State F → List ℕ → List ℕ → State F
+-- d reads the text, and the symbols q wait in a buffer: the bytes of their groups are held, and the others are left
+-- over
+abbrev pub Waits : {F E : Type 0} → (F → List ℕ → Result (Unit {0}) E → F → Type 0) → State F → List ℕ → List ℕ
+    → State F
     → Type 0
 Waits step d t q s = Reads step d t (groups (map symbol_value q)) (record s { symbols = after_groups q })
 
@@ -316,7 +334,8 @@ module _ {F E : Type 0} (step : F → List ℕ → Result (Unit {0}) E → F →
   pub none_wait : {d : State F} {q : List ℕ} → IsSound d → IsBetweenGroups d → d.failed ≡ false → q ≡ []
       → Waits step d [] q d
   unfolding groups after_groups
-  none_wait {d} {q} s none going is = rw is (subst (λ l. Reads step d [] [] (record d { symbols = l })) none.0 (reads_none step s going))
+  none_wait {d} {q} s none going is = rw is (subst (λ l. Reads step d [] [] (record d { symbols = l })) none.0
+      (reads_none step s going))
 
   -- a text of symbols and white space is read, and its symbols wait after those before
   pub rows_wait : {d : State F} {q' : List ℕ} (s : State F) (q text : List ℕ) (at n : ℕ) → list_all is_symbol q ≡ true
@@ -335,7 +354,8 @@ module _ {F E : Type 0} (step : F → List ℕ → Result (Unit {0}) E → F →
         few_padding = omega (arith, none.1);
       } in
       rw (g.added, sym both)
-      (reads_more step text at n w (adds_spaced row k sound none.1 g.spaced refl refl refl (after_groups-append q k) none.1 w.going))
+      (reads_more step text at n w (adds_spaced row k sound none.1 g.spaced refl refl refl (after_groups-append q k)
+      none.1 w.going))
 
   -- the closure accepts the bytes of the first 64 symbols that wait
   pub block_goes : {d s1 s2 : State F} {t : List ℕ} (q bytes : List ℕ) → 64 ≤ length q → length bytes ≡ 48
@@ -343,7 +363,8 @@ module _ {F E : Type 0} (step : F → List ℕ → Result (Unit {0}) E → F →
       → CallsOnce step s1 bytes (Ok tt) s2 → Waits step d t (drop 64 q) s2
   block_goes q bytes long full is w c =
       let e = block_is q bytes long full is in
-      rw (sym (rest_after _ long)) (reads_called step bytes (groups (map symbol_value (drop 64 q))) (omega (arith, full)) (rw e w)
+      rw (sym (rest_after _ long)) (reads_called step bytes (groups (map symbol_value (drop 64 q)))
+      (omega (arith, full)) (rw e w)
       (with_symbols (after_groups q) c))
 
   -- the closure returns an error for the bytes of the first 64 symbols that wait
@@ -353,12 +374,14 @@ module _ {F E : Type 0} (step : F → List ℕ → Result (Unit {0}) E → F →
       → Waits step d (take at text) q s1 → CallsOnce step s1 bytes (Err e) s2 → Feeds step d text (Err e) s2
   block_refused {s1 = s1} q bytes text at long full is w c =
       let e = block_is q bytes long full is in
-      feeds_stop step text at (reads_feeds step {d1 = record s1 { symbols = after_groups q }} bytes (groups (map symbol_value (drop 64 q))) (omega (arith, full)) (rw e w) c refl (λ e. absurd cc))
+      feeds_stop step text at (reads_feeds step {d1 = record s1 { symbols = after_groups q }} bytes
+      (groups (map symbol_value (drop 64 q))) (omega (arith, full)) (rw e w) c refl (λ e. absurd cc))
 
   -- the bytes of the groups of fewer than 64 symbols that wait are held, and the others are left over
   pub last_wait : {d : State F} {t : List ℕ} (s : State F) (q bytes left : List ℕ) → length q < 64
       → take (3 * (length (take 64 q) / 4)) bytes ≡ groups (map symbol_value (take 64 q)) → left ≡ after_groups q
       → Waits step d t q s → Reads step d t (take (3 * (length q / 4)) bytes) (record s { symbols = left })
   last_wait s q bytes left few is rest w =
-      let held = subst (λ l. take (3 * (length l / 4)) bytes ≡ groups (map symbol_value l)) (take_all 64 q (omega arith)) is in
+      let held = subst (λ l. take (3 * (length l / 4)) bytes ≡ groups (map symbol_value l))
+      (take_all 64 q (omega arith)) is in
       rw (held, rest) w

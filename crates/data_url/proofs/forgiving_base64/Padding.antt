@@ -243,7 +243,16 @@ found : (f : ℕ → Bool) (p b : List ℕ) → ((q t : List ℕ) (c : ℕ) → 
 unfolding fault_byte before_fault
 found f p [] h = (refl, refl)
 found f p (c ∷ t) h =
-    grind (arith, found f (p ++ c ∷ []) t (λ q u d e. h q u d (e ∙ append_assoc p (c ∷ []) t)), append_assoc, list_any-append, get_or_at, take_at, append-nil, length_push)
+    grind (
+      arith,
+      found f (p ++ c ∷ []) t (λ q u d e. h q u d (e ∙ append_assoc p (c ∷ []) t)),
+      append_assoc,
+      list_any-append,
+      get_or_at,
+      take_at,
+      append-nil,
+      length_push,
+    )
 
 -- why a text is not valid, from the byte at its fault and the number of its symbols
 abbrev pub kind_by : ℕ → Option ℕ → Kind

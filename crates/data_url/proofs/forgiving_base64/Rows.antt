@@ -1,7 +1,8 @@
 -- Rows without their white space. For `symbols.rt` and `places.rt`.
 use Rattle.std.proofs.Common.{◌≡◌, ℕ, suc, zero, ◌+◌, ◌-◌, ◌*◌, ◌/◌, ◌%◌, ◌^◌, ◌<◌, ◌≤◌, Bool, true, not, ◌&&◌}
 use Rattle.std.proofs.Common.{◌||◌, cond, eqb, ltb, List, [], ◌∷◌, ◌++◌, map, length, get_or, take, drop, Fits, bit_and}
-use Rattle.std.proofs.Common.{w8, refl, sym, ap, ap₂, take-add, ◌∙◌, subst, arith, append_assoc, length-take-le, length-drop}
+use Rattle.std.proofs.Common.{w8, refl, sym, ap, ap₂, take-add, ◌∙◌, subst, arith, append_assoc, length-take-le}
+use Rattle.std.proofs.Common.{length-drop}
 use Rattle.std.proofs.Common.{ltb-true, ◌⊎◌, inl, inr, length-take}
 use Rattle.std.specs.Char.{is_ascii_whitespace}
 use Rattle.std.specs.Int.RustNames.{count_ones}
@@ -66,7 +67,11 @@ pub record IsRight (from b : ℕ) : Type 0 where
 -- if the test that all items are below 16 is true, each item is below 16
 each_below : (v : List ℕ) → list_all (λ p. ltb p 16) v ≡ true → Each1 (λ p. p < 16) v
 each_below [] h = tt
-each_below (x ∷ v) h = let p = and_parts (ltb x 16) (list_all (λ p. ltb p 16) v) h in (ltb-true x 16 p.0, each_below v p.1)
+each_below (x ∷ v) h = let p = and_parts (ltb x 16) (list_all (λ p. ltb p 16) v) h in (
+  ltb-true x 16 p.0,
+  each_below v
+      p.1,
+)
 
 -- each row of the table is right, for both halves
 all_right : (from b : ℕ) → (from ≡ 0) ⊎ (from ≡ 8) → b < 256 → is_right from b ≡ true
@@ -98,7 +103,12 @@ half_clear row js from b long half l e =
     let r = row_right from b half l in
     let whole : from + 8 ≤ length row = elim half [ inl z ↦ omega arith | inr z ↦ omega arith ] in
     let P : List ℕ → Type 0 = λ l. Each1 (λ j. j < 16) l in
-    cc (looked_at row js (ap length e ∙ r.long) (subst P (sym e) r.small), take-map look (8 - count_ones b) js, clear_map look (range_with_len from 8) b, pick_l-range_with_len 0 row from 8 whole)
+    cc (
+      looked_at row js (ap length e ∙ r.long) (subst P (sym e) r.small),
+      take-map look (8 - count_ones b) js,
+      clear_map look (range_with_len from 8) b,
+      pick_l-range_with_len 0 row from 8 whole,
+    )
 
 -- Two halves
 
@@ -112,7 +122,12 @@ row_clear row others long e =
     let rest : length b ≡ 8 = omega (arith, length-drop 8 row) in
     let Q : ℕ → Type 0 = λ n. others_mask a < 2 ^ n in
     let small : others_mask a < 256 = subst Q (length-map a is_other ∙ wide) (mask_l-lt (map is_other a)) in
-    let sum : others ≡ others_mask a + 256 * others_mask b = cc (take-append-drop 8 row, map-append is_other a b, mask_l-append (map is_other a) (map is_other b), length-map a is_other) in
+    let sum : others ≡ others_mask a + 256 * others_mask b = cc (
+      take-append-drop 8 row,
+      map-append is_other a b,
+      mask_l-append (map is_other a) (map is_other b),
+      length-map a is_other,
+    ) in
     let low : others % 256 ≡ others_mask a = omega arith in
     let high : others / 256 ≡ others_mask b = omega arith in
     cc (clear_mask a, take_all 8 b (omega arith), clear_mask b, filter-append is_symbol a b, take-append-drop 8 row)
@@ -138,7 +153,12 @@ pub spaces_are : (v : List ℕ) (js : List ℕ) → length v ≡ 16 → Each1 (F
     → mask_l (map (top 7) (zip2 (λ a b. cond (eqb a b) 255 0) (swz_l w8 16 SPACES 0 js) v)) % 2 ^ 64 ≡ mask_l
     (map is_ascii_whitespace v)
 spaces_are v js long fits e =
-    cc (tops_compared w8 eqb (swz_l w8 16 SPACES 0 js) v, zip2_of_maps eqb space_entry (λ b. b) v (looked_up SPACES low v js long fits e (λ x h. omega (arith, and_le_r x 15))) (sym (map-id v)), map_agree (λ b. eqb (space_entry b) b) is_ascii_whitespace (λ b l. agree_below_at (λ b. eqb (space_entry b) b) is_ascii_whitespace 256 b refl l) v fits, mask_l-mod (map is_ascii_whitespace v) 64 (omega (arith, length-map v is_ascii_whitespace)))
+    cc (
+      tops_compared w8 eqb (swz_l w8 16 SPACES 0 js) v,
+      zip2_of_maps eqb space_entry (λ b. b) v (looked_up SPACES low v js long fits e (λ x h. omega (arith, and_le_r x 15))) (sym (map-id v)),
+      map_agree (λ b. eqb (space_entry b) b) is_ascii_whitespace (λ b l. agree_below_at (λ b. eqb (space_entry b) b) is_ascii_whitespace 256 b refl l) v fits,
+      mask_l-mod (map is_ascii_whitespace v) 64 (omega (arith, length-map v is_ascii_whitespace)),
+    )
 
 -- if the masks of not s and then m, and of w and then n, are equal, s or w is true, and m is n
 first_bits : (s w : Bool) (m n : ℕ) → cond (not s) 1 0 + 2 * m ≡ cond w 1 0 + 2 * n → ((s || w) ≡ true) × (m ≡ n)
@@ -166,7 +186,12 @@ all_more x y z h e = grind (arith, list_all-append, list_all_every, filter_every
 pub moved : (old new : List ℕ) (len : ℕ) → length old ≡ 208 → len < 192 → new ≡ copy_within old 128 192 0
     → take (len - 128) new ≡ drop 128 (take len old)
 moved old new len long few e =
-    cc (take-take (len - 128) 64 new (omega arith), take-take (len - 128) 64 (drop 128 old) (omega arith), take-paste old 0 (drop 128 old) 64 (omega arith) (omega (arith, length-drop 128 old)), drop_taken 128 len old)
+    cc (
+      take-take (len - 128) 64 new (omega arith),
+      take-take (len - 128) 64 (drop 128 old) (omega arith),
+      take-paste old 0 (drop 128 old) 64 (omega arith) (omega (arith, length-drop 128 old)),
+      drop_taken 128 len old,
+    )
 
 -- Rows that follow one another
 
@@ -195,7 +220,16 @@ three_last s len long few =
     let whole : length (take len s) ≡ len = length-take-le len s (omega arith) in
     let left : len - at ≡ len % 4 = omega arith in
     let start : at + 0 ≡ at = omega arith in
-    cc (take_all 3 v (omega arith), three_items v 3 size refl, item 0 (omega arith), item 1 (omega arith), item 2 (omega arith), take-take (len % 4) 3 (drop at s) (omega arith), drop_taken at len s, after_is (take len s))
+    cc (
+      take_all 3 v (omega arith),
+      three_items v 3 size refl,
+      item 0 (omega arith),
+      item 1 (omega arith),
+      item 2 (omega arith),
+      take-take (len % 4) 3 (drop at s) (omega arith),
+      drop_taken at len s,
+      after_is (take len s),
+    )
 
 -- The bytes of the first groups
 
@@ -224,7 +258,12 @@ front_is v q bytes n long is all e =
     let same : map symbol_value q ≡ take n x = sym (symbols_values q (fits_symbols q all) all) ∙ ap (map value_of) is
     ∙ sym (take-map value_of n v) in
     let whole : length (take n x) ≡ length q = ap length (sym same) ∙ length-map q symbol_value in
-    cc (take_groups m x (omega (arith, length-map v value_of)), groups_front (take n x), take-take (4 * m) n x (omega arith))
+    cc (
+      take_groups m x (omega (arith, length-map v value_of)),
+      groups_front (take n x),
+      take-take (4 * m) n x
+          (omega arith),
+    )
 
 -- the bytes of the groups of 64 bytes from an index on begin with those of the groups of the symbols among them
 pub front_from : (s bytes : List ℕ) (len from : ℕ) → length s ≡ 208 → from ≤ 64

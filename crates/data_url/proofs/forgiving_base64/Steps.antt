@@ -1,6 +1,7 @@
 -- What a decoder does with more bytes, and at its end. For `Decoder`.
 use Rattle.std.proofs.Common.{◌≡◌, ℕ, suc, zero, ◌+◌, ◌%◌, ◌≤◌, Bool, true, false, cond, eqb, get_or, take, List}
-use Rattle.std.proofs.Common.{[], ◌∷◌, ◌++◌, length, map, min, replicate, None, Some, Result, Ok, Err, refl, ap, ap₂, sym}
+use Rattle.std.proofs.Common.{[], ◌∷◌, ◌++◌, length, map, min, replicate, None, Some, Result, Ok, Err, refl, ap, ap₂}
+use Rattle.std.proofs.Common.{sym}
 use Rattle.std.proofs.Common.{◌∙◌, subst, arith, length-append, length-take, drop, Option, append_assoc}
 use Rattle.std.specs.Prelude.{MatchOption, MatchBool, MatchResult}
 use Rattle.std.specs.List.{filter, list_any}
@@ -250,7 +251,18 @@ module _ {F : Type 0} where
       → d'.symbols ≡ after_groups (d.symbols ++ k) → d'.padding ≡ min (d.padding + n) 3 → d'.failed ≡ false
       → Adds d t bytes d'
   adds_text {d} {d'} t k bytes n s good is_k is_n is_bytes same symbols padding failed =
-      grind (arith, groups_size, length-map, length-append, filter_length, none_fault, fault_more, done_more, left_more, padding_more)
+      grind (
+        arith,
+        groups_size,
+        length-map,
+        length-append,
+        filter_length,
+        none_fault,
+        fault_more,
+        done_more,
+        left_more,
+        padding_more,
+      )
 
   -- the text completes no group
   adds_quiet : {d d' : State F} (t k : List ℕ) (n : ℕ) → IsSound d
@@ -325,14 +337,44 @@ module _ {F : Type 0} where
   pub refuses_after : {d d' : State F} (c : ℕ) → IsSound d → 1 ≤ d.padding
       → is_symbol c ≡ true → d' ≡ d → Refuses d c AlphabetSymbolAfterPadding d'
   refuses_after {d} c s pads symbol same =
-      grind (arith, has_pad_some, fault_after, fault_some, fault_more, kind_is, done_is, before-append, fault_text, any_of_text, before_one, append-nil, values_left, groups_few, length-map)
+      grind (
+        arith,
+        has_pad_some,
+        fault_after,
+        fault_some,
+        fault_more,
+        kind_is,
+        done_is,
+        before-append,
+        fault_text,
+        any_of_text,
+        before_one,
+        append-nil,
+        values_left,
+        groups_few,
+        length-map,
+      )
 
   -- d refuses a byte that is neither whitespace nor '=' nor a symbol
   pub refuses_other : {d d' : State F} (c : ℕ) → IsSound d
       → is_ascii_whitespace c ≡ false → is_pad c ≡ false → is_symbol c ≡ false → d' ≡ d
       → Refuses d c (UnexpectedSymbol c) d'
   refuses_other {d} c s space pad symbol same =
-      grind (arith, fault_other, fault_some, fault_more, kind_is, done_is, before-append, fault_text, before_one, append-nil, values_left, groups_few, length-map)
+      grind (
+        arith,
+        fault_other,
+        fault_some,
+        fault_more,
+        kind_is,
+        done_is,
+        before-append,
+        fault_text,
+        before_one,
+        append-nil,
+        values_left,
+        groups_few,
+        length-map,
+      )
 
 module _ {F E : Type 0} (step : F → List ℕ → Result (Unit {0}) E → F → Type 0) where
   -- feeding the empty text returns `Ok`, and d does not change
@@ -404,7 +446,11 @@ taken_cases u b bytes x d None h t = grind (arith, none_fault)
 taken_cases u b bytes x d (Some c) h t = record {
   bytes_are = t.bytes_are ∙ sym (done_stays u b c h);
   answer =
-      match_alike (first_fault u) (first_fault (u ++ b)) _ _ _ _ (cc (fault_some u, fault-append_some u b false c h, fault_some (u ++ b)))
+      match_alike (first_fault u) (first_fault (u ++ b)) _ _ _ _ (cc (
+        fault_some u,
+        fault-append_some u b false c h,
+        fault_some (u ++ b),
+      ))
       (λ k. absurd (let e = k.0 in cc))
       (λ k. k ∙ ap (λ z. Err (InvalidBase64 z)) (kind_stays u b c h))
       t.answer;

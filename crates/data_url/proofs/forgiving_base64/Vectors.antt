@@ -212,7 +212,13 @@ pub others_is : (v marks : List ℕ) → length v ≡ 16 → Each1 (Fits w8) v �
     (zip2 (λ a b. cond (differs a b) 255 0) marks
     (0 ∷ 0 ∷ 0 ∷ 0 ∷ 0 ∷ 0 ∷ 0 ∷ 0 ∷ 0 ∷ 0 ∷ 0 ∷ 0 ∷ 0 ∷ 0 ∷ 0 ∷ 0 ∷ []))) % 2 ^ 64 ≡ mask_l (map is_other v)
 others_is v marks long fits e =
-    cc (bitmask_splat w8 differs marks 16 0 (ap length e ∙ length-map v mark_of ∙ long) (omega arith), map-map (λ x. differs x 0) mark_of v, map_agree (λ x. differs (mark_of x) 0) is_other (λ b l. agree_below_at (λ b. differs (mark_of b) 0) is_other 256 b refl l) v fits)
+    cc (
+      bitmask_splat w8 differs marks 16 0 (ap length e ∙ length-map v mark_of ∙ long) (omega arith),
+      map-map
+          (λ x. differs x 0) mark_of v,
+      map_agree (λ x. differs (mark_of x) 0) is_other
+          (λ b l. agree_below_at (λ b. differs (mark_of b) 0) is_other 256 b refl l) v fits,
+    )
 
 -- Rows of a text
 
@@ -379,7 +385,13 @@ values_of_rows text long =
     let x = take 16 (drop 16 text) in
     let y = take 16 (drop 32 text) in
     let z = take 16 (drop 48 text) in
-    cc (split_block text, map-append value_of w (x ++ (y ++ z)), map-append value_of x (y ++ z), map-append value_of y z, groups_of_rows (map value_of w) (map value_of x) (map value_of y) (map value_of z) (length-map w value_of ∙ row_length text 0 (omega arith)) (length-map x value_of ∙ row_length text 16 (omega arith)) (length-map y value_of ∙ row_length text 32 (omega arith)))
+    cc (
+      split_block text,
+      map-append value_of w (x ++ (y ++ z)),
+      map-append value_of x (y ++ z),
+      map-append value_of y z,
+      groups_of_rows (map value_of w) (map value_of x) (map value_of y) (map value_of z) (length-map w value_of ∙ row_length text 0 (omega arith)) (length-map x value_of ∙ row_length text 16 (omega arith)) (length-map y value_of ∙ row_length text 32 (omega arith)),
+    )
 
 -- rows that were put one after another
 pub put_three : (b1 b2 b3 x y z : List ℕ) → take 16 b1 ≡ x → take (16 + 16) b2 ≡ take 16 b1 ++ y

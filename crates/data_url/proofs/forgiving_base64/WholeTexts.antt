@@ -133,7 +133,12 @@ pub run_reads : {F E : Type 0} (step : F → List ℕ → Result (Unit {0}) E �
     → (cs : List (Call F E)) (f f' : F) → IsRun step f cs f' → refusal cs ≡ None → J f' ≡ J f ++ joined_pieces cs
 run_reads step J keeps [] f f' ran n = ap J (sym ran) ∙ sym (append-nil (J f))
 run_reads step J keeps (c ∷ cs) f f' ran n =
-    grind (arith, run_reads step J keeps cs c.after f' ran.2 (later_none c.answer (refusal cs) n), accepted_call, append_assoc)
+    grind (
+      arith,
+      run_reads step J keeps cs c.after f' ran.2 (later_none c.answer (refusal cs) n),
+      accepted_call,
+      append_assoc,
+    )
 
 -- what a closure that appends its bytes holds after a text was decoded
 pub decodes_reads : {F E : Type 0} {step : F → List ℕ → Result (Unit {0}) E → F → Type 0} {f f' : F} {u : List ℕ}

@@ -1,6 +1,7 @@
 -- A text has one list of items, and at most one record.
 use Rattle.std.proofs.Common.{◌≡◌, ℕ, zero, suc, ◌≤◌, ◌==◌, Bool, false, cond, List, [], ◌∷◌, ◌++◌, Option, true}
-use Rattle.std.proofs.Common.{None, Some, length, refl, sym, ap, ◌∙◌, subst, append_assoc, append-nil, arith, drop, take, one-add, ◌+◌}
+use Rattle.std.proofs.Common.{None, Some, length, refl, sym, ap, ◌∙◌, subst, append_assoc, append-nil, arith, drop}
+use Rattle.std.proofs.Common.{take, one-add, ◌+◌}
 use Rattle.std.proofs.Common.{length-append, eqb-true, take-append-drop}
 use Rattle.std.proofs.lemmas.Bool.{not-false}
 use Rattle.std.specs.List.{prefix_len}
@@ -10,7 +11,8 @@ use Rattle.data_url.specs.Mime.{is_quote, lone_equals, nothing, plain, quoted, u
 use Rattle.data_url.specs.Mime.{IsHead, Record}
 use Rattle.data_url.specs.Url.{without_end, without_front}
 use Rattle.data_url.specs.Facts.{HasOneItemList, HasAtMostOneRecord}
-use Rattle.data_url.specs.Steps.Parsing.{Reading, after_mark, front_of, given_reading, in_name, in_value, item_in, named}
+use Rattle.data_url.specs.Steps.Parsing.{Reading, after_mark, front_of, given_reading, in_name, in_value, item_in}
+use Rattle.data_url.specs.Steps.Parsing.{named}
 use Rattle.data_url.specs.Steps.Parsing.{plain_reading, quoted_reading, reading, reading_from, reading_in}
 use Rattle.data_url.proofs.texts.CodePoints.{after_begins, front_is, front_passes}
 use Rattle.data_url.proofs.mime.Quoted.{IsRead, closed_reading, is_closed, is_open, is_read, open_reading}

@@ -1,11 +1,13 @@
 -- Values of parameters, as texts of their own. For `values.rt` and `read_plain`.
-use Rattle.std.proofs.Common.{◌≡◌, ℕ, zero, suc, ◌+◌, ◌-◌, ◌<◌, ◌==◌, Bool, true, false, not, List, [], ◌∷◌, ◌++◌, length}
+use Rattle.std.proofs.Common.{◌≡◌, ℕ, zero, suc, ◌+◌, ◌-◌, ◌<◌, ◌==◌, Bool, true, false, not, List, [], ◌∷◌, ◌++◌}
+use Rattle.std.proofs.Common.{length}
 use Rattle.std.proofs.Common.{take, drop, encode_utf8_all, refl, sym, ap, ◌∙◌, append_assoc, append-nil, arith}
 use Rattle.std.proofs.Common.{◌≤◌, ◌||◌, ◌⊎◌, Bor, None, Some, cond, nat_le}
 use Rattle.std.proofs.lemmas.List.{take-take, take_rest, length-take}
 use Rattle.std.proofs.lemmas.List.Folds.{list_all-append}
 use Rattle.std.proofs.lemmas.List.Sums.{prefix_len-le-length, prefix_len_passes}
-use Rattle.std.proofs.lemmas.Str.{chars-append, chars-nil, chars_past_char, encodes-chars, IsUtf8-encode, cons_from_encodes}
+use Rattle.std.proofs.lemmas.Str.{chars-append, chars-nil, chars_past_char, encodes-chars, IsUtf8-encode}
+use Rattle.std.proofs.lemmas.Str.{cons_from_encodes}
 use Rattle.std.proofs.Math.Seq.{take-length}
 use Rattle.std.proofs.lemmas.Bool.{agree_below_at}
 use Rattle.std.specs.Char.{IsScalar}
@@ -19,7 +21,8 @@ use Rattle.data_url.specs.Steps.Parsing.{quotable_value, unescaped, value_of}
 use Rattle.data_url.specs.declared.mime.values.Value.TheVariants as slices
 use Rattle.data_url.specs.declared.mime.values.Value.{Value}
 use Rattle.data_url.specs.Url.{without_end, without_front}
-use Rattle.data_url.proofs.texts.CodePoints.{IsCutInto, IsSteady, cut_front, front_further, front_passes, no_chars, same_empty}
+use Rattle.data_url.proofs.texts.CodePoints.{IsCutInto, IsSteady, cut_front, front_further, front_passes, no_chars}
+use Rattle.data_url.proofs.texts.CodePoints.{same_empty}
 use Rattle.data_url.proofs.mime.TokenTexts.{values_cut, whole_front}
 
 -- The bytes of quoted-string code points

@@ -1,11 +1,14 @@
 -- Quoted strings, in code points and in bytes. For `values.rt` and `split_quote`.
 use Rattle.std.proofs.Common.{◌≡◌, ℕ, ◌==◌, ◌&&◌, ◌+◌, ◌<◌, ◌≤◌, not, Bool, true, false, cond, List, [], ◌∷◌, ◌++◌}
-use Rattle.std.proofs.Common.{refl, sym, ap, ◌∙◌, append_assoc, append-nil, eqb-true, inl, inr, length, suc, get_or, take}
-use Rattle.std.proofs.Common.{drop, encode_utf8_all, arith, take-append-drop, drop-cons, add-one, drop_of_length-le, Some, nat_le}
+use Rattle.std.proofs.Common.{refl, sym, ap, ◌∙◌, append_assoc, append-nil, eqb-true, inl, inr, length, suc, get_or}
+use Rattle.std.proofs.Common.{take}
+use Rattle.std.proofs.Common.{drop, encode_utf8_all, arith, take-append-drop, drop-cons, add-one, drop_of_length-le}
+use Rattle.std.proofs.Common.{Some, nat_le}
 use Rattle.std.proofs.lemmas.Bool.{cases_lt, eqb-false}
 use Rattle.std.proofs.lemmas.List.{length-append, drop-drop}
 use Rattle.std.proofs.Math.Seq.{take-append_seam, take-length, drop-append-add}
-use Rattle.std.proofs.lemmas.Str.{chars-nil, encodes-chars, chars_past_char, encode_ascii, IsUtf8-drop, IsCharBoundary-before_ascii}
+use Rattle.std.proofs.lemmas.Str.{chars-nil, encodes-chars, chars_past_char, encode_ascii, IsUtf8-drop}
+use Rattle.std.proofs.lemmas.Str.{IsCharBoundary-before_ascii}
 use Rattle.std.specs.Str.{IsUtf8, chars}
 use lib.Utf8.{encode}
 use Rattle.data_url.specs.Mime.{Quoted, QuotedOpen, after_backslash, Every, nothing_quoted, as_itself}

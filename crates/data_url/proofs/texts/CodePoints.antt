@@ -1,5 +1,6 @@
 -- Texts of code points, cut at the first code point that does not pass, and where their bytes can be cut.
-use Rattle.std.proofs.Common.{◌≡◌, ℕ, ◌≤◌, ◌<◌, ◌+◌, ◌-◌, Bool, true, false, cond, List, [], ◌∷◌, ◌++◌, length, take, drop}
+use Rattle.std.proofs.Common.{◌≡◌, ℕ, ◌≤◌, ◌<◌, ◌+◌, ◌-◌, Bool, true, false, cond, List, [], ◌∷◌, ◌++◌, length, take}
+use Rattle.std.proofs.Common.{drop}
 use Rattle.std.proofs.Common.{refl, one-add, subst, sym, ap, ◌∙◌, arith, zero, suc, get_or, encode_utf8_all}
 use Rattle.std.proofs.Common.{append-nil, ◌==◌}
 use Rattle.std.specs.List.{prefix_len, suffix_len}
@@ -9,7 +10,8 @@ use mathlib.Core.List.{reverse_aux}
 use Rattle.std.proofs.Math.Seq.{take-append_seam, drop-append_seam}
 use Rattle.std.proofs.lemmas.List.{take-append-drop, length-append}
 use Rattle.std.proofs.lemmas.Str.{chars-encodes, encodes-append, encodes-chars, IsCharBoundary-at_seam, scalars-chars}
-use Rattle.std.proofs.lemmas.Str.{encode_ascii, chars-nil, length-le-encodes, chars-IsAscii, IsUtf8-from_ascii, IsUtf8-take, chars-append}
+use Rattle.std.proofs.lemmas.Str.{encode_ascii, chars-nil, length-le-encodes, chars-IsAscii, IsUtf8-from_ascii}
+use Rattle.std.proofs.lemmas.Str.{IsUtf8-take, chars-append}
 use Rattle.std.proofs.lemmas.Str.Ascii.{IsAscii-nil}
 use Rattle.data_url.specs.Mime.{DoesNotBegin, DoesNotEnd, Every}
 use Rattle.data_url.specs.Steps.Parsing.{IsTrimmedEnd, front_of}

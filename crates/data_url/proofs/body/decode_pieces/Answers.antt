@@ -17,7 +17,8 @@ returns-in_err-take g c =
 
 pub chunks-init : goal.chunks-init
 chunks-init g c = elim c.if-not-is_empty.branch [
-  | then-not-is_empty+in_ok-take w ↦ rw w.take-is (going_front (CalledAt g.F.FnMut) (Ok tt) c.requires.front (grind arith)
+  | then-not-is_empty+in_ok-take w ↦ rw w.take-is (going_front (CalledAt g.F.FnMut) (Ok tt) c.requires.front
+      (grind arith)
       (record { shown = _; shows = refl; called = w.in_ok-take.ensures }))
   | else-not-is_empty w ↦ rw w.take-is (going_none (CalledAt g.F.FnMut) c.args.front.now c.requires.front (grind arith))
 ]

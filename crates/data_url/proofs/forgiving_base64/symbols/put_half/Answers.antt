@@ -7,7 +7,8 @@ use Rattle.data_url.proofs.forgiving_base64.symbols.put_half.Goals as goal
 pub swizzle : goal.swizzle
 swizzle c =
     let r = row_right c.args.from c.args.bits c.requires.half c.ranges.bits.fits in
-    rw (zip2_splat digit c.row.result 16 (48 - c.args.from) (omega arith), c.row.ensures) (SwzOk-from_below w8 16 1 16 0 _
+    rw (zip2_splat digit c.row.result 16 (48 - c.args.from) (omega arith), c.row.ensures) (SwzOk-from_below w8 16 1 16
+    0 _
     refl (omega (arith, r.long)) r.small)
 
 pub returns-clause-few : goal.returns-clause-few

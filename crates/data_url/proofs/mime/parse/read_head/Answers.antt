@@ -1,7 +1,8 @@
 use Rattle.std.proofs.Common.{◌≡◌, ◌==◌, false, length, sym, ◌∙◌}
 use Rattle.data_url.proofs.texts.CodePoints.{same_empty}
 use Rattle.std.specs.Str.{chars}
-use Rattle.data_url.proofs.mime.Parsing.{begins_empty, begins_mark, is_head, no_parameters, no_slash, no_subtype, no_type}
+use Rattle.data_url.proofs.mime.Parsing.{begins_empty, begins_mark, is_head, no_parameters, no_slash, no_subtype}
+use Rattle.data_url.proofs.mime.Parsing.{no_type}
 use Rattle.data_url.proofs.mime.parse.read_head.Goals as goal
 use Rattle.data_url.proofs.mime.parse.read_head.Goals.{then-not-is_empty+in_ok-after_mark-2, else-not-is_empty}
 

@@ -1,5 +1,6 @@
 use Rattle.std.proofs.Common.{◌∙◌, arith, refl, sym}
-use Rattle.data_url.proofs.escapes.Walking.{ahead_is, byte_part, ended_at, goes_part, looking_paid, searched, searching_none}
+use Rattle.data_url.proofs.escapes.Walking.{ahead_is, byte_part, ended_at, goes_part, looking_paid, searched}
+use Rattle.data_url.proofs.escapes.Walking.{searching_none}
 use Rattle.data_url.proofs.escapes.Walking.{searching_passed, searching_percent}
 use Rattle.data_url.proofs.escapes.cursor.Cursor.next_stretch.Goals as goal
 

@@ -36,4 +36,8 @@ loop-at-preserved g c =
     }
 
 pub returns-clause-fed : goal.returns-clause-fed
-returns-clause-fed g c = (c.loop-at.invariant.within, reads_flushed (CalledAt g.F.FnMut) [] c.loop-at.invariant.reads (refl, refl))
+returns-clause-fed g c = (
+  c.loop-at.invariant.within,
+  reads_flushed (CalledAt g.F.FnMut) [] c.loop-at.invariant.reads
+      (refl, refl),
+)

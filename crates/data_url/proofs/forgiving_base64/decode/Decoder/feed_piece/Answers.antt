@@ -25,7 +25,8 @@ returns-in_err-flush-in-Err-clause-fed g c =
     let p = err_from_is_err_and c.from_residual-in_err-flush-in-Err.result
     c.from_residual-in_err-flush-in-Err.ensures.1 in
     rw (p.1, p.2) (feeds_stop (CalledAt g.F.FnMut) c.args.text.now c.loop-at.at (reads_flushed (CalledAt g.F.FnMut)
-    {d1 = state_of c.take_some.new.self} (bytes_of c.loop-at.piece) (rw c.in-Err.ensures.0.stays c.loop-at.invariant.reads)
+    {d1 = state_of c.take_some.new.self} (bytes_of c.loop-at.piece) (rw c.in-Err.ensures.0.stays
+    c.loop-at.invariant.reads)
     (rw (← c.in-Err.ensures.1) c.in_err-flush-in-Err.ensures.flushed)))
 
 pub returns-in-Err-clause-fed : goal.returns-in-Err-clause-fed

@@ -1,4 +1,5 @@
-use Rattle.std.proofs.Common.{◌≡◌, ◌<◌, ◌≤◌, ◌+◌, ◌-◌, ◌*◌, ◌/◌, ap, arith, drop, length, length-drop, refl, take, sym, ◌∙◌}
+use Rattle.std.proofs.Common.{◌≡◌, ◌<◌, ◌≤◌, ◌+◌, ◌-◌, ◌*◌, ◌/◌, ap, arith, drop, length, length-drop, refl, take, sym}
+use Rattle.std.proofs.Common.{◌∙◌}
 use Rattle.std.proofs.lemmas.List.{drop-drop}
 use Rattle.std.proofs.lemmas.Result.{err_from_is_err_and}
 use Rattle.std.specs.Fn.{CalledAt}
@@ -9,7 +10,8 @@ use Rattle.data_url.proofs.forgiving_base64.Holding.{Waits, block_goes, block_re
 use Rattle.data_url.proofs.forgiving_base64.Holding.{rows_wait, symbols_len}
 use Rattle.data_url.proofs.forgiving_base64.Padding.{every_after, every_list_all, list_all_every}
 use Rattle.data_url.proofs.forgiving_base64.Steps.{sound}
-use Rattle.data_url.proofs.forgiving_base64.decode.Decoder.feed_spaced.Goals.{then-symbols-ge64+in_ok-write-3, else-symbols-ge64}
+use Rattle.data_url.proofs.forgiving_base64.decode.Decoder.feed_spaced.Goals.{then-symbols-ge64+in_ok-write-3}
+use Rattle.data_url.proofs.forgiving_base64.decode.Decoder.feed_spaced.Goals.{else-symbols-ge64}
 use Rattle.data_url.proofs.forgiving_base64.decode.Decoder.feed_spaced.Goals as goal
 
 pub loop-taken-init : goal.loop-taken-init
@@ -28,7 +30,8 @@ returns-in_err-write-clause-fed g c =
     let step = CalledAt g.F.FnMut in
     let s = c.add_rows-taken.new.self in
     let i = c.loop-taken.invariant in
-    let waits = rows_wait step (state_of c.loop-taken.self) (symbols_of c.loop-taken.symbols) c.args.text.now c.loop-taken.at
+    let waits = rows_wait step (state_of c.loop-taken.self) (symbols_of c.loop-taken.symbols) c.args.text.now
+    c.loop-taken.at
     c.add_rows-taken.result c.loop-taken.symbols.symbols i.between c.add_rows-taken.ensures.added i.waits in
     rw (p.1, p.2) (block_refused step (symbols_of s) c.decode.result c.args.text.now (c.loop-taken.at
     + c.add_rows-taken.result) (omega (arith, symbols_len s)) (omega arith) c.decode.ensures waits
@@ -39,7 +42,8 @@ returns-in_err-write-2-clause-fed g c =
     let step = CalledAt g.F.FnMut in
     let i = c.loop-taken.invariant in
     let s = c.add_rows-taken.new.self in
-    let waits = rows_wait step (state_of c.loop-taken.self) (symbols_of c.loop-taken.symbols) c.args.text.now c.loop-taken.at
+    let waits = rows_wait step (state_of c.loop-taken.self) (symbols_of c.loop-taken.symbols) c.args.text.now
+    c.loop-taken.at
     c.add_rows-taken.result c.loop-taken.symbols.symbols i.between c.add_rows-taken.ensures.added i.waits in
     let q = symbols_of s in
     let long : 128 ≤ length q = omega (arith, symbols_len s) in
@@ -48,14 +52,16 @@ returns-in_err-write-2-clause-fed g c =
     let rest : 64 ≤ length (drop 64 q) = omega (arith, length-drop 64 q) in
     let p = err_from_is_err_and c.from_residual-in_err-write-2.result c.from_residual-in_err-write-2.ensures.1 in
     rw (p.1, p.2) (block_refused step (drop 64 q) c.decode-then-symbols-ge128.result c.args.text.now (c.loop-taken.at
-    + c.add_rows-taken.result) rest (omega arith) c.decode-then-symbols-ge128.ensures first c.in_err-write-2.ensures.wrote)
+    + c.add_rows-taken.result) rest (omega arith) c.decode-then-symbols-ge128.ensures first
+    c.in_err-write-2.ensures.wrote)
 
 pub loop-taken-preserved-then-symbols-ge128 : goal.loop-taken-preserved-then-symbols-ge128
 loop-taken-preserved-then-symbols-ge128 g c =
     let step = CalledAt g.F.FnMut in
     let i = c.loop-taken.invariant in
     let s = c.add_rows-taken.new.self in
-    let waits = rows_wait step (state_of c.loop-taken.self) (symbols_of c.loop-taken.symbols) c.args.text.now c.loop-taken.at
+    let waits = rows_wait step (state_of c.loop-taken.self) (symbols_of c.loop-taken.symbols) c.args.text.now
+    c.loop-taken.at
     c.add_rows-taken.result c.loop-taken.symbols.symbols i.between c.add_rows-taken.ensures.added i.waits in
     let q = symbols_of s in
     let long : 128 ≤ length q = omega (arith, symbols_len s) in
@@ -78,7 +84,8 @@ loop-taken-preserved g c =
     let step = CalledAt g.F.FnMut in
     let i = c.loop-taken.invariant in
     let s = c.add_rows-taken.new.self in
-    let waits = rows_wait step (state_of c.loop-taken.self) (symbols_of c.loop-taken.symbols) c.args.text.now c.loop-taken.at
+    let waits = rows_wait step (state_of c.loop-taken.self) (symbols_of c.loop-taken.symbols) c.args.text.now
+    c.loop-taken.at
     c.add_rows-taken.result c.loop-taken.symbols.symbols i.between c.add_rows-taken.ensures.added i.waits in
     record {
       callable = i.callable;
@@ -133,5 +140,6 @@ returns-clause-fed g c =
     let size : s.len - from ≡ length (drop from q) = omega (arith, symbols_len s, length-drop from q) in (
       c.loop-taken.invariant.within,
       rw (c.new.ensures.bytes ∙ ap (λ n. take (3 * (n / 4)) bytes) size)
-          (last_wait step (state_of c.if-symbols-ge64.self) (drop from q) bytes _ waits.0 c.decode-2.ensures (c.last-self.ensures ∙ waits.1) waits.2),
+          (last_wait step (state_of c.if-symbols-ge64.self) (drop from q) bytes _ waits.0 c.decode-2.ensures
+          (c.last-self.ensures ∙ waits.1) waits.2),
     )

@@ -12,7 +12,8 @@ use Rattle.data_url.proofs.forgiving_base64.decode.Decoder.take_byte.Goals as go
 pub returns-then-byte-eq61 : goal.returns-then-byte-eq61
 returns-then-byte-eq61 g c =
     let d = c.args.self.now in
-    gains_one c.args.text.now [] c.requires.some (adds_pad (get_or c.args.text.now 0 0) c.if-byte-eq61.true (sound d) c.requires.going
+    gains_one c.args.text.now [] c.requires.some (adds_pad (get_or c.args.text.now 0 0) c.if-byte-eq61.true (sound d)
+    c.requires.going
     (ap (λ p. record (state_of d) { padding = p }) c.min-self.ensures)) (sym (append-nil (bytes_of c.args.piece.now)))
 
 pub returns-else-not-is_ascii_whitespace : goal.returns-else-not-is_ascii_whitespace

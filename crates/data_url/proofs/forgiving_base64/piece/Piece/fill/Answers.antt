@@ -22,13 +22,15 @@ returns-then-self-le-ROOM_FOR_ROW-clause-fills c =
     let old = c.args.self.now in
     let symbols = count_trailing_zeros 16 c.others.result in
     let count = symbols / 4 in
-    let ahead = row_ahead text c.row-row.result c.others.result c.if-text-ge16.true c.row-row.ensures c.others.ensures.mask in
+    let ahead = row_ahead text c.row-row.result c.others.result c.if-text-ge16.true c.row-row.ensures
+    c.others.ensures.mask in
     let all = all_before text (4 * count) symbols (omega arith) ahead.1 in
     let P : List ℕ → Type 0 = λ l. Fills (bytes_of old) text (4 * count) l in
     let put = row_put (3 * old.groups) 12 old.bytes c.put.new.bytes c.decode_row.result _ (omega arith) (omega arith)
     c.put.ensures (c.decode_row.ensures.bytes ∙ ap (λ r. groups (map value_of r)) c.row-row.ensures) in
     let e = row_held old.bytes c.put.new.bytes _ old.groups count put (omega arith) (omega (arith, ahead.0)) in
-    subst P (sym e) (fill_symbols (bytes_of old) text 16 count (omega arith) (omega (arith, ahead.0)) c.type_inv.text all)
+    subst P (sym e) (fill_symbols (bytes_of old) text 16 count (omega arith) (omega (arith, ahead.0)) c.type_inv.text
+    all)
 
 pub returns-then-text-lt4-clause-fills : goal.returns-then-text-lt4-clause-fills
 unfolding groups

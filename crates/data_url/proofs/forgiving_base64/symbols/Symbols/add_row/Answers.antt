@@ -8,7 +8,8 @@ invariant_of-self-clause-symbols c =
     let s = c.args.self.now in
     let row = c.row-row.result in
     let all = sym c.are_symbols.ensures ∙ c.if-are_symbols.true in
-    all_more (take s.len s.bytes) row _ s.symbols (gains_all {q = take s.len s.bytes} {row = row} all c.put.ensures).added
+    all_more (take s.len s.bytes) row _ s.symbols (gains_all {q = take s.len s.bytes} {row = row} all
+    c.put.ensures).added
 
 pub returns-then-are_symbols-clause-added : goal.returns-then-are_symbols-clause-added
 returns-then-are_symbols-clause-added c same =
