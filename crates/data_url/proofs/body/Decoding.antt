@@ -101,11 +101,6 @@ module _ {F E : Type 0} (step : F → List ℕ → Result (Unit {0}) E → F →
       → TakesBody step f text (Err e) g
   took_refused {f} {g} {text} {w} {e} k = grind arith
 
-  -- if the walk is at the end of the body, the closure took the whole body
-  pub took_whole : {f g : F} {text : List ℕ} {w : Walk} {place : ℕ} → Going f text w (Ok tt) g → IsBodyEnd text place
-      → w.rest ≡ [] → TakesBody step f text (Ok place) g
-  took_whole {f} {g} {text} {w} {place} k ends nothing = grind (arith, append-nil)
-
 -- A body is not longer than its tail
 
 -- a text without tabs and newlines is not longer than the text

@@ -79,10 +79,6 @@ in_front {s} h = before_all 35 s h
 
 -- Searching
 
--- a search begins with an empty stretch
-pub searching_none : (text : List ℕ) (place : ℕ) → place ≤ length text → Searching text place place place
-searching_none text place l = grind (arith, spells_none)
-
 -- a stretch goes on up to the next mark
 pub searching_clear : {text : List ℕ} {from place to mark : ℕ} → Searching text from place to → IsNextMark text to mark
     → Searching text from place mark
@@ -99,11 +95,6 @@ searching_percent {text} {from} {place} {mark} s h p =
     let within = p.reads.within in
     let more = spells_then s.stretch p in
     grind (arith, slice_join text place mark (mark + 1) (omega arith) (omega arith), drop_more)
-
--- a tab or newline before the stretch is skipped
-pub searching_passed : {text : List ℕ} {from place mark : ℕ} → Searching text from place mark → mark ≡ place
-    → Spells text mark (mark + 1) [] [] → Searching text from (mark + 1) (mark + 1)
-searching_passed {text} {from} {place} {mark} s e p = grind (arith, spells_then, spells_none)
 
 -- Pieces
 

@@ -145,11 +145,6 @@ pub record Stands (a w : List ℕ) : Type 0 where
   pub no_fault : fault_byte false a ≡ None
   pub none_left : fault_byte false w ≡ None
 
--- the values of a ++ b are those of a and then those of b
-pub values-append : (a b : List ℕ) → values (a ++ b) ≡ values a ++ values b
-unfolding values
-values-append a b = grind (arith, filter-append, map-append)
-
 module _ (a b w : List ℕ) (st : Stands a w) where
   -- given `Stands a w`, the symbols of w ++ t are those left over of a and then those of t
   symbols_left : (t : List ℕ) → filter is_symbol (w ++ t) ≡ after_groups (filter is_symbol a) ++ filter is_symbol t
@@ -160,10 +155,6 @@ module _ (a b w : List ℕ) (st : Stands a w) where
   unfolding values
   values_left t = grind (arith, symbols_left, map-append, after_groups-map)
 
-  -- the groups of a and then t
-  groups_both : (t : List ℕ) → groups (values (a ++ t)) ≡ complete_bytes a ++ groups (values (w ++ t))
-  groups_both t = grind (arith, values-append, groups-append, done_is, before_none, values_left)
-
   -- given `Stands a w`, decoding b after a is the same as decoding w ++ b
   pub goes_on : GoesOn a b (w ++ b)
   unfolding left_padding left_symbols values decoded
@@ -172,7 +163,7 @@ module _ (a b w : List ℕ) (st : Stands a w) where
         arith,
         done_is,
         before-append,
-        groups_both,
+        groups-append, before_none,
         fault_some,
         fault-append,
         kind_is,
@@ -184,7 +175,7 @@ module _ (a b w : List ℕ) (st : Stands a w) where
         length_alike,
         length-append,
         append_assoc,
-        values-append,
+        map-append,
         values_left,
       )
 

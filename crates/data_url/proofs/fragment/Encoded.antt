@@ -39,22 +39,12 @@ dropped_itself : (t : List ℕ) → Every is_fragment_byte t → without_tabs_an
 dropped_itself [] h = dropped_nil
 dropped_itself (b ∷ t) h = dropped_keeps b t (not_dropped b h.0) ∙ ap (λ s. b ∷ s) (dropped_itself t h.1)
 
--- a text of bytes that an encoded fragment can have stays as it is when its ends are trimmed
-trimmed_itself : (t : List ℕ) → Every is_fragment_byte t → trimmed_text t ≡ t
-unfolding trimmed_text
-trimmed_itself t h = grind (arith, end_stays, not_ends_every)
-
 -- a text of bytes that an encoded fragment can have stays as it is when it is cleaned
 cleaned_itself : (t : List ℕ) → Every is_fragment_byte t → cleaned_text t ≡ t
-unfolding cleaned_text
-cleaned_itself t h = grind (arith, trimmed_itself, dropped_itself)
+unfolding cleaned_text trimmed_text
+cleaned_itself t h = grind (arith, end_stays, not_ends_every, dropped_itself)
 
 -- The stages of the text
-
--- if the cleaned text is "data:,#" and x, the text after the scheme is ",#" and x
-after_data : (t x : List ℕ) → cleaned_text t ≡ codes "data:,#" ++ x → after_scheme t ≡ Some (44 ∷ 35 ∷ x)
-unfolding after_scheme
-after_data t x h = grind arith
 
 -- if the text after the scheme is ",#" and x, the encoded fragment is x, percent-encoded
 staged_again : (t x : List ℕ) → after_scheme t ≡ Some (44 ∷ 35 ∷ x)
@@ -65,4 +55,5 @@ staged_again t x h = rw h refl
 
 -- a text of such bytes, read as a fragment, is percent-encoded as itself
 pub read_again : (x : List ℕ) → Every is_fragment_byte x → IsReadAgain x
-read_again x h = grind (arith, staged_again, after_data, cleaned_itself, encoded_itself)
+unfolding after_scheme
+read_again x h = grind (arith, staged_again, cleaned_itself, encoded_itself)

@@ -1,4 +1,7 @@
 -- The scheme, and the first comma of a text. For `after_scheme` and `split_at_comma`.
+use Rattle.data_url.specs.Steps.Header.{header_text}
+use Rattle.data_url.proofs.texts.Bytes.{after-dropped_none}
+use Rattle.data_url.proofs.percent.Encoding.{kept_whole}
 use Rattle.std.proofs.Common.{◌≡◌, ◌≢◌, ℕ, ◌+◌, ◌<◌, Bool, true, false, List, ◌∷◌, ◌++◌, length, get_or, take}
 use Rattle.std.proofs.Common.{drop, map, nat_eq, subst, length-append, codes, refl, sym, ap, ◌∙◌, ⊎_elim, arith}
 use Rattle.std.proofs.Common.{◌-◌, Option, None, Some, position, ap₂, ◌⊎◌, eqb-true}
@@ -13,7 +16,7 @@ use Rattle.std.specs.List.{starts_with, prefix_len}
 use Rattle.std.proofs.lemmas.Str.{IsCharBoundary-after_ascii, IsCharBoundary-from_take, IsUtf8-from_ascii}
 use Rattle.data_url.specs.Url.{without_tabs_and_newlines, is_tab_or_newline, after, front}
 use Rattle.data_url.specs.Steps.Front.{HasNoScheme, IsSchemeAndRest, IsHeaderAndTail, ends_header, is_plain_path}
-use Rattle.data_url.proofs.percent.Encoding.{ascii_all, Plain, plain_serialised}
+use Rattle.data_url.proofs.percent.Encoding.{ascii_all, Plain}
 use Rattle.std.proofs.Common.{append-nil}
 use Rattle.data_url.proofs.texts.Bytes.{without_tabs_and_newlines-append, dropped_around, dropped_keeps, dropped_nil}
 use Rattle.data_url.proofs.texts.Bytes.{dropped_passes, before_all, before_at, after_none}
@@ -231,8 +234,9 @@ no_front_end s items n r e f h p g =
 pub plain_before : (s items header : List ℕ) (n k : ℕ) → items ≡ s → n ≡ prefix_len is_plain_path items
     → ((i : ℕ) → get_or s i 0 < 256) → header ≡ take (n + k) s → n + k ≡ n
     → header_text (without_tabs_and_newlines header) ≡ header
+unfolding header_text
 plain_before s items header n k e f h is same =
-    let plain = plain_front s items n e f h in grind (arith, plain_serialised, length-take, get_or-take)
+    let plain = plain_front s items n e f h in grind (arith, after-dropped_none, after_none, before_all, kept_whole, length-take, get_or-take)
 
 -- the lemmas for `after_respelled_scheme`
 pub ruleset spelling = (

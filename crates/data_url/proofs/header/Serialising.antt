@@ -95,12 +95,6 @@ has_no_end s m e all = grind (arith, all_dropped, suffix_passes, path_nil, encod
 
 -- The parts of a header
 
--- without a query
-header_alone : (path : List ℕ) → after 63 path ≡ None → header_text (without_tabs_and_newlines path)
-    ≡ percent_encoding in_path_set (without_tabs_and_newlines path)
-unfolding header_text
-header_alone path h = grind (arith, after-dropped_none, before_all)
-
 -- with one
 header_and_query : (path rest : List ℕ) → after 63 path ≡ None
     → header_text (without_tabs_and_newlines (path ++ 63 ∷ rest)) ≡ encoded_path
@@ -117,16 +111,12 @@ header_and_query path rest h =
       after_at,
     )
 
--- a text whose length is not zero is not empty
-pub some_bytes : (s : List ℕ) (v : Bool) → v ≡ (length s == 0) → v ≡ false → s ≢ []
-some_bytes [] v e f n = grind arith
-some_bytes (b ∷ s) v e f n = absurd (let k = n in cc)
-
 -- if the path has no last space, or there is no query, the encoded path and query are the serialised header
 pub parts_whole : (header path query : List ℕ) → IsPathAndQuery header path query → (query ≡ []) ⊎ HasNoLastSpace path
     → encoded_parts path [] query ≡ header_text (without_tabs_and_newlines header)
+unfolding header_text
 parts_whole header path query h end =
-    grind (arith, dropped_nil, encoded_nil, header_alone, append-nil, header_and_query)
+    grind (arith, dropped_nil, encoded_nil, after-dropped_none, before_all, append-nil, header_and_query)
 
 -- if the path has a last space, and there is a query, the encoded path without that space, "%20", and the encoded query
 -- are the serialised header

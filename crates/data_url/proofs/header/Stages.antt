@@ -356,13 +356,9 @@ plain_head_is s t b e = record {
 -- A type that is missing
 
 -- a text with ';' at index 0 begins with ';'
-begins_at : (s : List ℕ) → get_or s 0 0 ≡ 59 → BeginsParameters s
+pub begins_at : (s : List ℕ) → get_or s 0 0 ≡ 59 → BeginsParameters s
 begins_at [] h = tt
 begins_at (c ∷ s) h = h
-
--- if a printable text begins with ';', the list of its code points begins with ';', too
-pub media_begins : (media : List ℕ) → IsPrintable media → get_or media 0 0 ≡ 59 → BeginsParameters (chars media)
-media_begins media h e = grind (arith, chars_printable, begins_at)
 
 -- if a printable text begins with ';', the record of the parts of "text/plain" and the text is the record for
 -- `with_plain` of the text

@@ -105,12 +105,6 @@ end_after x q =
     let n = suc (length q - suffix_len is_space q) in
     grind (arith, suffix_stop, suffix_len-le-length is_space q, length-append, take-append-add x (63 ∷ q) n)
 
--- a text with a '?', stripped of spaces, loses those at its front before the '?', and those at its end after it
-stripped_after : (x q : List ℕ) → stripped_header (x ++ 63 ∷ q) ≡ drop (prefix_len is_space (x ++ 63 ∷ q))
-    x ++ 63 ∷ without_end is_space q
-unfolding stripped_header
-stripped_after x q = grind (arith, drop-append-le, prefix_len-append, prefix_len-le-length, end_after)
-
 -- The word
 
 -- if q has at least n bytes, the last n bytes of y ++ q are those of q
@@ -162,8 +156,8 @@ suffix_after x q l = cc (append_assoc x (63 ∷ []) q, word_after (x ++ 63 ∷ [
 
 -- the flag does not depend on the text before the '?'
 pub same_flag : (a b query : List ℕ) → has_base64_suffix (a ++ 63 ∷ query) ≡ has_base64_suffix (b ++ 63 ∷ query)
-unfolding has_base64_suffix
-same_flag a b query = grind (arith, stripped_after, too_near, suffix_after)
+unfolding has_base64_suffix stripped_header
+same_flag a b query = grind (arith, drop-append-le, prefix_len-append, prefix_len-le-length, end_after, too_near, suffix_after)
 
 -- the lemmas for `without_suffix`
 pub ruleset suffixes = (no_word, length-map, length-take, suffix_len-le-length, printable_take)

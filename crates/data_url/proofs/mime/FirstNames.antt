@@ -237,11 +237,6 @@ pub keeps_end : {whole rest : List ℕ} {pairs : List Pair} → KeepsOn whole re
 keeps_end {whole} {rest = []} {pairs = pairs} k w e = grind (arith, items_in, has_items, append-nil)
 keeps_end {rest = c ∷ rest} k w e = grind arith
 
--- the rest after a parameter is shorter than the text
-pub rest_smaller : (rest s rest' : List ℕ) → after_mark 59 rest ≡ Some s → rest' ≡ (reading_in s).rest
-    → length rest' < length rest
-rest_smaller rest s rest' e r = omega (arith, rest_shorter s, ap length r, ap length (mark_is 59 rest s e))
-
 -- Which names the first pairs and the set of later names have.
 
 -- The first pairs and the others

@@ -27,11 +27,6 @@ use Rattle.data_url.proofs.mime.TokenTexts.{values_cut, whole_front}
 
 -- The bytes of quoted-string code points
 
--- a quoted-string code point is below 256
-quotable_below : (c : ℕ) → is_quotable c ≡ true → c < 256
-unfolding is_quotable
-quotable_below c h = grind arith
-
 -- a byte of the UTF-8 of quoted-string code points is below 196
 quotable_byte_below : (b : ℕ) → is_quotable_byte b ≡ true → b < 196
 unfolding is_quotable_byte
@@ -49,8 +44,9 @@ high_quotable c l = grind (arith, quotable_byte_below)
 
 -- the bytes of an encoded text are all quotable exactly if its code points are all quotable
 quotable_bytes : (cs : List ℕ) → list_all is_quotable_byte (encode_utf8_all cs) ≡ list_all is_quotable cs
+unfolding is_quotable
 quotable_bytes [] = refl
-quotable_bytes (c ∷ cs) = grind (arith, list_all-append, low_quotable, high_quotable, quotable_below, quotable_bytes cs)
+quotable_bytes (c ∷ cs) = grind (arith, list_all-append, low_quotable, high_quotable, quotable_bytes cs)
 
 -- each byte of a UTF-8 text passes `is_quotable_byte` exactly if each of its code points passes `is_quotable`
 quotable_chars : (bs : List ℕ) → IsUtf8 bs → list_all is_quotable_byte bs ≡ list_all is_quotable (chars bs)

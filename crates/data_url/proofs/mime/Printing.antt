@@ -150,17 +150,13 @@ module _ {W : Type 0} {took : W → List ℕ → W → Type 0} {start : Formatte
 
 -- Records of the same texts.
 
--- the test of two pairs is true exactly if their texts are equal
-pair_decides : {A B : Type 0} (p q : String A × String B) → Decides (same_pair p q) (texts_of_pair p ≡ texts_of_pair q)
-pair_decides (a, b) (c, d) = grind (arith, and_parts, string_bytes, equal_from_test, test_from_equal)
-
 -- the test of two lists, pair by pair, is true exactly if the lists have equal texts
 pairs_decide : {A B : Type 0} (ps qs : List (String A × String B))
     → Decides (pointwise same_pair ps qs) (map texts_of_pair ps ≡ map texts_of_pair qs)
 pairs_decide [] [] = (λ h. refl, λ h. refl)
 pairs_decide [] (q ∷ qs) = grind arith
 pairs_decide (p ∷ ps) [] = grind arith
-pairs_decide (p ∷ ps) (q ∷ qs) = grind (arith, pair_decides, and_parts, and_from, pairs_decide ps qs)
+pairs_decide (p ∷ ps) (q ∷ qs) = grind (arith, string_bytes, equal_from_test, test_from_equal, and_parts, and_from, pairs_decide ps qs)
 
 -- the test is true exactly if the texts are the same
 pub same_decides : (m n : Mime) → IsTrue (same_texts m n) ↔ SameTexts m n

@@ -115,12 +115,8 @@ cut_quote bs u =
 module _ {bs : List ℕ} {i : ℕ} (u : IsUtf8 bs) (l : i < length bs) (g : get_or bs i 0 ≡ 34)
     (h : i + quoted_len false (drop i bs) ≡ quoted_len false bs) where
   -- the quote that is found is the closing quote
-  quote_at : quoted_len false bs ≡ i
+  pub quote_at : quoted_len false bs ≡ i
   quote_at = grind (arith, drop-cons)
-
-  -- the text before it
-  pub before_quote : chars (take i bs) ≡ take (quoted_len false (chars bs)) (chars bs)
-  before_quote = grind (arith, cut_quote, quote_at)
 
   -- the text after it
   pub after_quote : chars (drop (i + 1) bs) ≡ drop (suc (quoted_len false (chars bs))) (chars bs)

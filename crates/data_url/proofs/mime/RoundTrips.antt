@@ -176,15 +176,11 @@ all_valid : (pairs : List Pair) → have_names pairs ≡ true → have_values pa
 all_valid [] h k = refl
 all_valid (p ∷ pairs) h k = grind (arith, and_parts, cond-true, and_from, lowercase_token, all_valid pairs)
 
--- if the test that a equals b is false, so is the test that b equals a
-other_name : (a b : List ℕ) → bytes_eq a b ≡ false → bytes_eq b a ≡ false
-other_name a b h = grind (arith, test_from_different, both_ways, test_from_equal)
-
 -- if no two names are equal, none of the earlier pairs has the name of a later one
 distinct_new : (e : List Pair) (p : Pair) (ps : List Pair) → has_distinct_names (e ++ (p ∷ ps)) ≡ true
     → has_name p.0 e ≡ false
 distinct_new [] p ps h = refl
-distinct_new (q ∷ e) p ps h = grind (arith, list_any-append {X = Pair}, other_name, distinct_new e p ps)
+distinct_new (q ∷ e) p ps h = grind (arith, list_any-append {X = Pair}, test_from_different, both_ways, test_from_equal, distinct_new e p ps)
 
 -- pairs with distinct names are all the first of their name
 first_itself : (e ps : List Pair) → has_distinct_names (e ++ ps) ≡ true → first_of_each_name e ps ≡ ps

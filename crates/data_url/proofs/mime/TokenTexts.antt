@@ -107,10 +107,6 @@ nonempty_tokens [] h n = absurd (n refl)
 nonempty_tokens (c ∷ t) h n = all_from_every is_token (c ∷ t) h
 
 module _ (bs : List ℕ) (n : ℕ) (u : IsUtf8 bs) (e : n ≡ prefix_len is_token bs) where
-  -- if a UTF-8 text does not begin with a token byte, its code points do not begin with a token code point
-  pub no_tokens : n ≡ 0 → front_of is_token (chars bs) ≡ []
-  no_tokens z = grind (arith, cut_front, tokens_steady, chars-nil)
-
   -- a UTF-8 text is split after its longest prefix of token code points, if that is not empty
   pub some_tokens : (n ≡ 0 → ⊥) → (front after : List ℕ) → front ≡ take n bs → after ≡ drop n bs
       → IsTokens (chars bs) (chars front) (chars after)

@@ -362,12 +362,6 @@ pub record Plain (b : ℕ) : Type 0 where
   pub no_comma : (b == 44) ≡ false
   pub no_query : (b == 63) ≡ false
 
--- a text of plain bytes is serialised as it is, as a header
-pub plain_serialised : (s : List ℕ) → ((k : ℕ) → k < length s → Plain (get_or s k 0))
-    → header_text (without_tabs_and_newlines s) ≡ s
-unfolding header_text
-plain_serialised s h = grind (arith, after-dropped_none, after_none, before_all, kept_whole)
-
 -- the bytes before byte i are written at the front of the buffer
 pub record PutTo (p : ℕ → Bool) (s : List ℕ) (i : ℕ) (room : List ℕ) (at : ℕ) : Type 0 where
   pub few : at ≤ 3 * i

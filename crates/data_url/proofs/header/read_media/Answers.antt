@@ -1,3 +1,4 @@
+use Rattle.data_url.proofs.header.Stages.{begins_at}
 use Rattle.std.proofs.Common.{◌≡◌, ◌≢◌, ℕ, List, get_or, arith, subst}
 use Rattle.std.specs.Str.{chars}
 use Rattle.std.proofs.lemmas.Result.{IfOk-weaker}
@@ -6,12 +7,12 @@ use Rattle.data_url.specs.Mime.{HasNoRecord}
 use Rattle.data_url.specs.Steps.Header.{IsPrintable, IsRecordFor}
 use Rattle.data_url.specs.MimeType.{record_of}
 use Rattle.data_url.proofs.mime.FirstNames.{no_record, parses_parts, parses_wellformed}
-use Rattle.data_url.proofs.header.Stages.{chars_printable, default_for, media_begins, parsed_for, plain_record}
+use Rattle.data_url.proofs.header.Stages.{chars_printable, default_for, parsed_for, plain_record}
 use Rattle.data_url.proofs.header.Stages.{plain_stays}
 use Rattle.data_url.proofs.header.read_media.Goals as goal
 
 pub plain_head-requires : goal.plain_head-requires
-plain_head-requires c = grind (arith, media_begins)
+plain_head-requires c = grind (arith, chars_printable, begins_at)
 
 pub returns-then-starts_with : goal.returns-then-starts_with
 returns-then-starts_with c =

@@ -1,13 +1,15 @@
+use Rattle.data_url.proofs.mime.Items.{rest_shorter}
+use Rattle.data_url.proofs.mime.Parsing.{mark_is}
 use Rattle.std.proofs.Common.{arith, rules}
 use Rattle.data_url.proofs.texts.CodePoints.{no_chars}
-use Rattle.data_url.proofs.mime.FirstNames.{keeps_end, keeps_more, rest_smaller}
+use Rattle.data_url.proofs.mime.FirstNames.{keeps_end, keeps_more}
 use Rattle.data_url.proofs.mime.parse.read_parameters.Goals as goal
 
 pub returns-then-is_empty : goal.returns-then-is_empty
 returns-then-is_empty c = grind (arith, no_chars)
 
 pub loop-after-smaller : goal.loop-after-smaller
-loop-after-smaller c = grind (arith, rest_smaller)
+loop-after-smaller c = grind (arith, rest_shorter, mark_is)
 
 pub loop-after-preserved : goal.loop-after-preserved
 loop-after-preserved c =

@@ -1,6 +1,7 @@
+use Rattle.data_url.proofs.mime.Quoted.{cut_quote, quote_at}
 use Rattle.std.proofs.Common.{◌≡◌, ◌<◌, length, get_or, arith}
 use Rattle.std.proofs.lemmas.Str.{IsCharBoundary-after_ascii}
-use Rattle.data_url.proofs.mime.Quoted.{after_quote, before_quote, no_quote}
+use Rattle.data_url.proofs.mime.Quoted.{after_quote, no_quote}
 use Rattle.data_url.proofs.mime.parse.split_quote.Goals as goal
 
 pub range_from-requires : goal.range_from-requires
@@ -10,7 +11,7 @@ range_from-requires c =
     λ _. IsCharBoundary-after_ascii c.args.text.now c.loop-place.place c.utf8.text l (omega arith)
 
 pub returns-then-not-escaped : goal.returns-then-not-escaped
-returns-then-not-escaped c = grind (arith, after_quote, before_quote)
+returns-then-not-escaped c = grind (arith, after_quote, cut_quote, quote_at)
 
 pub returns : goal.returns
 returns c = grind (arith, no_quote)

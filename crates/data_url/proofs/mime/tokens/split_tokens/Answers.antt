@@ -1,6 +1,7 @@
+use Rattle.std.proofs.lemmas.Str.{chars-nil}
 use Rattle.std.proofs.Common.{arith}
 use Rattle.data_url.specs.CodePoints.{is_token}
-use Rattle.data_url.proofs.mime.TokenTexts.{no_tokens, some_tokens, tokens_steady}
+use Rattle.data_url.proofs.mime.TokenTexts.{some_tokens, tokens_steady}
 use Rattle.data_url.proofs.texts.CodePoints.{cut_front}
 use Rattle.data_url.proofs.mime.tokens.split_tokens.Goals as goal
 
@@ -8,7 +9,7 @@ pub split_at-requires : goal.split_at-requires
 split_at-requires c = grind (arith, cut_front is_token tokens_steady)
 
 pub returns-then-len-eq0 : goal.returns-then-len-eq0
-returns-then-len-eq0 c = grind (arith, no_tokens)
+returns-then-len-eq0 c = grind (arith, cut_front, tokens_steady, chars-nil)
 
 pub returns : goal.returns
 returns c = some_tokens c.args.text.now c.span-len.result c.utf8.text

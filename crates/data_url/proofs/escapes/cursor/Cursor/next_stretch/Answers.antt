@@ -1,11 +1,12 @@
+use Rattle.data_url.proofs.escapes.Reading.{spells_none, spells_then}
 use Rattle.std.proofs.Common.{◌∙◌, arith, refl, sym}
 use Rattle.data_url.proofs.escapes.Walking.{ahead_is, byte_part, ended_at, goes_part, looking_paid, searched}
-use Rattle.data_url.proofs.escapes.Walking.{searching_none}
-use Rattle.data_url.proofs.escapes.Walking.{searching_passed, searching_percent}
+
+use Rattle.data_url.proofs.escapes.Walking.{searching_percent}
 use Rattle.data_url.proofs.escapes.cursor.Cursor.next_stretch.Goals as goal
 
 pub loop-from-init : goal.loop-from-init
-loop-from-init c = grind (arith, searching_none)
+loop-from-init c = grind (arith, spells_none)
 
 pub loop-from-preserved-in-Stays : goal.loop-from-preserved-in-Stays
 loop-from-preserved-in-Stays c =
@@ -18,7 +19,7 @@ loop-from-preserved-in-Stays c =
     grind arith
 
 pub loop-from-preserved : goal.loop-from-preserved
-loop-from-preserved c = grind (arith, looking_paid, searching_passed, searched)
+loop-from-preserved c = grind (arith, looking_paid, spells_then, spells_none, searched)
 
 pub returns-in-Passed-2-clause-goes : goal.returns-in-Passed-2-clause-goes
 returns-in-Passed-2-clause-goes c =
