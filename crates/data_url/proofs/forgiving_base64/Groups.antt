@@ -11,7 +11,7 @@ use Rattle.std.proofs.lemmas.List.Folds.{list_all-append}
 use Rattle.std.proofs.lemmas.List.Sums.{list_all-from_AllPass, prefix_len-le-length, prefix_len_passes}
 use Rattle.std.proofs.Math.Seq.{take-append-add}
 use Rattle.data_url.specs.Base64.{group_bytes, group_number, groups, is_symbol, symbol_value, values, after_groups}
-use Rattle.data_url.specs.Base64.{decoded, complete_bytes, first_fault, left_padding, left_symbols, left_text}
+use Rattle.data_url.specs.Base64.{decoded, first_fault, left_padding, left_symbols, left_text}
 use Rattle.std.specs.Char.{is_ascii_whitespace}
 use Rattle.data_url.specs.Steps.Blocks.{Fills, is_symbol_or_space}
 use Rattle.data_url.specs.Steps.Lanes.{value_of}
@@ -163,7 +163,8 @@ module _ (a b w : List ℕ) (st : Stands a w) where
         arith,
         done_is,
         before-append,
-        groups-append, before_none,
+        groups-append,
+        before_none,
         fault_some,
         fault-append,
         kind_is,

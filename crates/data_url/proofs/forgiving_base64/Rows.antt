@@ -155,8 +155,10 @@ pub spaces_are : (v : List ℕ) (js : List ℕ) → length v ≡ 16 → Each1 (F
 spaces_are v js long fits e =
     cc (
       tops_compared w8 eqb (swz_l w8 16 SPACES 0 js) v,
-      zip2_of_maps eqb space_entry (λ b. b) v (looked_up SPACES low v js long fits e (λ x h. omega (arith, and_le_r x 15))) (sym (map-id v)),
-      map_agree (λ b. eqb (space_entry b) b) is_ascii_whitespace (λ b l. agree_below_at (λ b. eqb (space_entry b) b) is_ascii_whitespace 256 b refl l) v fits,
+      zip2_of_maps eqb space_entry (λ b. b) v (looked_up SPACES low v js long fits e
+          (λ x h. omega (arith, and_le_r x 15))) (sym (map-id v)),
+      map_agree (λ b. eqb (space_entry b) b) is_ascii_whitespace (λ b l. agree_below_at (λ b. eqb (space_entry b) b)
+          is_ascii_whitespace 256 b refl l) v fits,
       mask_l-mod (map is_ascii_whitespace v) 64 (omega (arith, length-map v is_ascii_whitespace)),
     )
 

@@ -390,7 +390,9 @@ values_of_rows text long =
       map-append value_of w (x ++ (y ++ z)),
       map-append value_of x (y ++ z),
       map-append value_of y z,
-      groups_of_rows (map value_of w) (map value_of x) (map value_of y) (map value_of z) (length-map w value_of ∙ row_length text 0 (omega arith)) (length-map x value_of ∙ row_length text 16 (omega arith)) (length-map y value_of ∙ row_length text 32 (omega arith)),
+      groups_of_rows (map value_of w) (map value_of x) (map value_of y) (map value_of z) (length-map w value_of
+          ∙ row_length text 0 (omega arith)) (length-map x value_of ∙ row_length text 16 (omega arith))
+          (length-map y value_of ∙ row_length text 32 (omega arith)),
     )
 
 -- rows that were put one after another

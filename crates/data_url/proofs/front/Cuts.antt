@@ -236,7 +236,15 @@ pub plain_before : (s items header : List ℕ) (n k : ℕ) → items ≡ s → n
     → header_text (without_tabs_and_newlines header) ≡ header
 unfolding header_text
 plain_before s items header n k e f h is same =
-    let plain = plain_front s items n e f h in grind (arith, after-dropped_none, after_none, before_all, kept_whole, length-take, get_or-take)
+    let plain = plain_front s items n e f h in grind (
+      arith,
+      after-dropped_none,
+      after_none,
+      before_all,
+      kept_whole,
+      length-take,
+      get_or-take,
+    )
 
 -- the lemmas for `after_respelled_scheme`
 pub ruleset spelling = (

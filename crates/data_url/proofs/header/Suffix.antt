@@ -4,7 +4,7 @@ use Rattle.std.proofs.Common.{None, Some, ap, ◌∙◌, arith, suc, Bool, false
 use Rattle.std.proofs.Common.{is_some, refl, append_assoc}
 use Rattle.std.specs.Prelude.{option_and_then}
 use Rattle.std.specs.Char.{to_ascii_lowercase}
-use Rattle.std.specs.List.{suffix_len, prefix_len}
+use Rattle.std.specs.List.{suffix_len}
 use Rattle.std.specs.Str.{bytes_eq}
 use Rattle.std.proofs.lemmas.List.{length-map, length-take}
 use Rattle.std.proofs.lemmas.List.{drop_all, drop_more, get_or-take, length-drop, length-take-le, take-take}
@@ -157,7 +157,15 @@ suffix_after x q l = cc (append_assoc x (63 ∷ []) q, word_after (x ++ 63 ∷ [
 -- the flag does not depend on the text before the '?'
 pub same_flag : (a b query : List ℕ) → has_base64_suffix (a ++ 63 ∷ query) ≡ has_base64_suffix (b ++ 63 ∷ query)
 unfolding has_base64_suffix stripped_header
-same_flag a b query = grind (arith, drop-append-le, prefix_len-append, prefix_len-le-length, end_after, too_near, suffix_after)
+same_flag a b query = grind (
+  arith,
+  drop-append-le,
+  prefix_len-append,
+  prefix_len-le-length,
+  end_after,
+  too_near,
+  suffix_after,
+)
 
 -- the lemmas for `without_suffix`
 pub ruleset suffixes = (no_word, length-map, length-take, suffix_len-le-length, printable_take)

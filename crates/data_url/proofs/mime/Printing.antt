@@ -156,7 +156,15 @@ pairs_decide : {A B : Type 0} (ps qs : List (String A × String B))
 pairs_decide [] [] = (λ h. refl, λ h. refl)
 pairs_decide [] (q ∷ qs) = grind arith
 pairs_decide (p ∷ ps) [] = grind arith
-pairs_decide (p ∷ ps) (q ∷ qs) = grind (arith, string_bytes, equal_from_test, test_from_equal, and_parts, and_from, pairs_decide ps qs)
+pairs_decide (p ∷ ps) (q ∷ qs) = grind (
+  arith,
+  string_bytes,
+  equal_from_test,
+  test_from_equal,
+  and_parts,
+  and_from,
+  pairs_decide ps qs,
+)
 
 -- the test is true exactly if the texts are the same
 pub same_decides : (m n : Mime) → IsTrue (same_texts m n) ↔ SameTexts m n

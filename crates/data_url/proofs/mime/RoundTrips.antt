@@ -7,7 +7,6 @@ use Rattle.std.proofs.Common.{append_assoc}
 use Rattle.std.proofs.lemmas.Bool.{false≢true}
 use Rattle.std.proofs.lemmas.List.Folds.{list_any-append}
 use Rattle.std.specs.List.{flat_map, list_all}
-use Rattle.std.specs.Str.{bytes_eq}
 use Rattle.data_url.specs.CodePoints.{ends_name, is_http_whitespace, is_quotable, is_semicolon, is_token}
 use Rattle.data_url.specs.Mime.{BeginsParameters, DoesNotBegin, DoesNotEnd, Every, GivesValue, IsHead, IsParameter}
 use Rattle.data_url.specs.Mime.{IsWellformed, Item, Items, Pair, Parses, Quoted, Record, Without, escaped_code_point}
@@ -180,7 +179,14 @@ all_valid (p ∷ pairs) h k = grind (arith, and_parts, cond-true, and_from, lowe
 distinct_new : (e : List Pair) (p : Pair) (ps : List Pair) → has_distinct_names (e ++ (p ∷ ps)) ≡ true
     → has_name p.0 e ≡ false
 distinct_new [] p ps h = refl
-distinct_new (q ∷ e) p ps h = grind (arith, list_any-append {X = Pair}, test_from_different, both_ways, test_from_equal, distinct_new e p ps)
+distinct_new (q ∷ e) p ps h = grind (
+  arith,
+  list_any-append {X = Pair},
+  test_from_different,
+  both_ways,
+  test_from_equal,
+  distinct_new e p ps,
+)
 
 -- pairs with distinct names are all the first of their name
 first_itself : (e ps : List Pair) → has_distinct_names (e ++ ps) ≡ true → first_of_each_name e ps ≡ ps

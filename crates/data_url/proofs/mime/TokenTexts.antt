@@ -1,7 +1,7 @@
 -- Classes of code points, and texts of token code points. For `tokens.rt`.
 use Rattle.std.proofs.Common.{◌-◌, ◌≡◌, ℕ, ◌<◌, ◌≤◌, ◌==◌, ◌&&◌, nat_lt, codes, true, false, not, List, [], ◌∷◌, length}
 use Rattle.std.proofs.Common.{refl, sym, ap, subst, Bool, ◌∙◌, arith, take, drop, length-take-le}
-use Rattle.std.proofs.lemmas.Str.{chars-IsAscii, chars-nil, encodes-IsAscii, encodes-chars}
+use Rattle.std.proofs.lemmas.Str.{chars-IsAscii, encodes-IsAscii, encodes-chars}
 use Rattle.std.proofs.lemmas.Bool.{and_parts, and_from}
 use Rattle.std.proofs.lemmas.List.Sums.{prefix_len-le-length, suffix_len-le-length}
 use Rattle.std.specs.List.{list_all, list_any, prefix_len, suffix_len}

@@ -18,7 +18,7 @@ use Rattle.std.specs.List.{AllByRecursion, list_all}
 use Rattle.data_url.specs.Steps.Header.{header_parts, header_text}
 use Rattle.data_url.specs.Percent.{percent_decoding}
 use Rattle.data_url.proofs.texts.Bytes.{before-append, before_at, before_nil, before_other, before_same, after_nil}
-use Rattle.data_url.proofs.texts.Bytes.{after_other, after_same, lacks, before_all, after-dropped_none, after_none}
+use Rattle.data_url.proofs.texts.Bytes.{after_other, after_same, lacks}
 use Rattle.data_url.proofs.texts.Bytes.{dropped_keeps, dropped_nil, dropped_passes, without_tabs_and_newlines-append}
 use Rattle.std.proofs.Math.Seq.{take-append-add}
 use Rattle.std.proofs.lemmas.Grind.{flat_map-append}

@@ -1,7 +1,6 @@
 use Rattle.data_url.proofs.escapes.Reading.{spells_none, spells_then}
 use Rattle.std.proofs.Common.{◌∙◌, arith, refl, sym}
 use Rattle.data_url.proofs.escapes.Walking.{ahead_is, byte_part, ended_at, goes_part, looking_paid, searched}
-
 use Rattle.data_url.proofs.escapes.Walking.{searching_percent}
 use Rattle.data_url.proofs.escapes.cursor.Cursor.next_stretch.Goals as goal
 
