@@ -54,7 +54,9 @@ fn written(rt: &impl Abort, alloc: Global, text: &str) -> Result<Vec<u8>, AllocE
             None => break,
         }
     }
-    assert!(rt; pieces.next().is_none(), "{text}");
+    let None = pieces.next() else {
+        panic!(rt; "{text}");
+    };
     if let Some(fragment) = pieces.fragment() {
         all.push(b'#')?;
         all.extend_from_slice(fragment.as_bytes())?;
