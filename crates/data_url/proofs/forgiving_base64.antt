@@ -1,7 +1,6 @@
 pub mod Padding
 pub mod Groups
 pub mod Vectors
-pub mod Rows
 pub mod Steps
 pub mod Holding
 pub mod WholeTexts

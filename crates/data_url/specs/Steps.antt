@@ -1,11 +1,9 @@
 -- What private functions do: definitions that no contract of a public function uses.
-pub mod Blocks
-pub mod Calls
 pub mod Chunks
 pub mod Classes
 pub mod Digits
-pub mod Ending
 pub mod Front
+pub mod Groups
 pub mod Header
 pub mod Holding
 pub mod Kept
@@ -15,7 +13,6 @@ pub mod Parsing
 pub mod Printing
 pub mod Sets
 pub mod Tail
-pub mod Waiting
 pub mod Walk
 pub mod Whole
 pub mod Window

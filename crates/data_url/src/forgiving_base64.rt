@@ -11,7 +11,6 @@ mod alphabet;
 mod blocks;
 mod decode;
 mod piece;
-mod symbols;
 mod whole;
 
 pub use decode::Decoder;

@@ -1,11 +1,11 @@
 -- Groups of four symbols, and texts that are fed in two parts.
 use Rattle.std.proofs.Common.{◌≡◌, ℕ, suc, ◌+◌, ◌*◌, ◌≤◌, true, ◌&&◌, ◌||◌, List, [], ◌∷◌, ◌++◌, map, length}
 use Rattle.std.proofs.Common.{get_or, take, drop, Fits, w8, refl, ap, ap₂, sym, ◌∙◌, arith, length-take, length-take-le}
-use Rattle.std.proofs.Common.{false, min, None, append_assoc, length-append, ◌/◌}
+use Rattle.std.proofs.Common.{false, min, None, take-add, append_assoc, length-append, ◌/◌}
 use Rattle.std.specs.List.{list_all, prefix_len, filter, list_any}
 use Rattle.std.proofs.lemmas.Bool.{and_parts}
 use Rattle.std.proofs.lemmas.List.{get_or-take, get_or_past, length-map, take-append-drop, take-map}
-use Rattle.std.proofs.lemmas.List.{take-take, take_at, take_all, map-append, length-replicate}
+use Rattle.std.proofs.lemmas.List.{append-nil, take-take, take_at, take_all, map-append, length-replicate}
 use Rattle.std.proofs.lemmas.List.Elements.{filter-append}
 use Rattle.std.proofs.lemmas.List.Folds.{list_all-append}
 use Rattle.std.proofs.lemmas.List.Sums.{list_all-from_AllPass, prefix_len-le-length, prefix_len_passes}
@@ -13,7 +13,7 @@ use Rattle.std.proofs.Math.Seq.{take-append-add}
 use Rattle.data_url.specs.Base64.{group_bytes, group_number, groups, is_symbol, symbol_value, values, after_groups}
 use Rattle.data_url.specs.Base64.{decoded, first_fault, left_padding, left_symbols, left_text}
 use Rattle.std.specs.Char.{is_ascii_whitespace}
-use Rattle.data_url.specs.Steps.Blocks.{Fills, is_symbol_or_space}
+use Rattle.data_url.specs.Steps.Groups.{Fills, is_symbol_or_space}
 use Rattle.data_url.specs.Steps.Lanes.{value_of}
 use lib.Count.{count_trailing_zeros}
 use Rattle.data_url.proofs.forgiving_base64.Vectors.{ahead_is, others_mask, groups_whole, value_is}
@@ -22,6 +22,7 @@ use Rattle.data_url.proofs.forgiving_base64.Padding.{before-append, before_none,
 use Rattle.data_url.proofs.forgiving_base64.Padding.{fault_byte, fault_invalid, fault_none, fault_some, fault_text}
 use Rattle.data_url.proofs.forgiving_base64.Padding.{groups-append, is_pad, kind_is, length_alike, no_fault_valid}
 use Rattle.data_url.proofs.forgiving_base64.Padding.{pads_of_text, symbols_of_text, any_filter, filter_every}
+use Rattle.data_url.proofs.forgiving_base64.Padding.{classes, every_list_all, filter_all, space_alone}
 use Rattle.data_url.specs.Laws.{GoesOn, TwoFeeds}
 
 -- Groups at the start of a text.
@@ -85,19 +86,66 @@ symbols_alone (b ∷ s) h =
 pub fits_take : (n : ℕ) (s : List ℕ) → ((i : ℕ) → Fits w8 (get_or s i 0)) → (i : ℕ) → Fits w8 (get_or (take n s) i 0)
 fits_take n s fits i = grind (arith, get_or-take, get_or_past, length-take)
 
--- the groups of the first symbols of n bytes
-pub fill_symbols : (held block : List ℕ) (n m : ℕ) → n ≤ length block → 4 * m ≤ n
-    → ((i : ℕ) → Fits w8 (get_or block i 0)) → list_all is_symbol (take (4 * m) block) ≡ true
-    → Fills held block (4 * m) (held ++ take (3 * m) (groups (map value_of (take n block))))
-fill_symbols held block n m long few fits all =
-    grind (arith, take_groups, length-map, length-take-le, take-map, take-take, symbols_values, fits_take)
+-- the longest prefix of white space is white space
+pub spaces_front : (t : List ℕ) → list_all is_ascii_whitespace (take (prefix_len is_ascii_whitespace t) t) ≡ true
+spaces_front t = grind (arith, list_all-from_AllPass, length-take, get_or-take, prefix_len_passes, prefix_len-le-length)
 
--- the first c groups of a row that was written after g groups
-pub row_held : (old new bytes : List ℕ) (g c : ℕ) → take (3 * g + 12) new ≡ take (3 * g) old ++ bytes
-    → 3 * g ≤ length old → c ≤ 4 → take (3 * (g + c)) new ≡ take (3 * g) old ++ take (3 * c) bytes
-row_held old new bytes g c e within few =
-    let size : 3 * (g + c) ≡ length (take (3 * g) old) + 3 * c = omega (arith, length-take-le (3 * g) old within) in
-    cc (take-take (3 * (g + c)) (3 * g + 12) new (omega arith), take-append-add (take (3 * g) old) bytes (3 * c))
+-- a text of white space has no symbols, and only symbols and white space
+spaces_only : (t : List ℕ) → list_all is_ascii_whitespace t ≡ true
+    → (filter is_symbol t ≡ []) × (list_all is_symbol_or_space t ≡ true)
+spaces_only [] h = (refl, refl)
+spaces_only (c ∷ t) h =
+    let p = and_parts (is_ascii_whitespace c) (list_all is_ascii_whitespace t) h in
+    let k = space_alone (classes c) p.0 in
+    let r = spaces_only t p.1 in
+    grind (arith)
+
+-- the groups that n bytes begin with, and white space after them
+pub fill_row : (held block : List ℕ) (n m k : ℕ) → n ≤ length block → 4 * m ≤ n → 4 * m + k ≤ length block
+    → ((i : ℕ) → Fits w8 (get_or block i 0)) → list_all is_symbol (take (4 * m) block) ≡ true
+    → list_all is_ascii_whitespace (take k (drop (4 * m) block)) ≡ true
+    → Fills held block (4 * m + k) (held ++ take (3 * m) (groups (map value_of (take n block))))
+fill_row held block n m k long few within fits all spaces =
+    let q = take (4 * m) block in
+    let only = spaces_only (take k (drop (4 * m) block)) spaces in
+    let size : length q ≡ 4 * m = length-take-le (4 * m) block (omega arith) in
+    let alone : filter is_symbol q ≡ q = filter_all is_symbol q (every_list_all q all) in
+    let symbols : filter is_symbol (take (4 * m + k) block) ≡ q =
+    cc (take-add (4 * m) k block, filter-append is_symbol q (take k (drop (4 * m) block)), append-nil q) in
+    let values : map value_of q ≡ map symbol_value q = symbols_values q (fits_take (4 * m) block fits) all in
+    record {
+      within = within;
+      whole = record {
+        spaced = cc (
+          take-add (4 * m) k block,
+          list_all-append is_symbol_or_space q (take k (drop (4 * m) block)),
+          symbols_alone q all,
+        );
+        whole = omega (arith, ap length symbols);
+      };
+      held_are = cc (
+        take_groups m (map value_of (take n block)) (omega (arith, length-map (take n block) value_of, length-take-le n block long)),
+        take-map value_of (4 * m) (take n block),
+        take-take (4 * m) n block few,
+      );
+    }
+
+-- the groups that a text begins with, and white space after them, if its first row was decoded and put after g groups
+pub row_fills : (old new decoded row text : List ℕ) (g m k : ℕ) → 3 * g + 16 ≤ length old
+    → take (3 * g + 16) new ≡ take (3 * g) old ++ decoded → take 12 decoded ≡ groups (map value_of row)
+    → row ≡ take 16 text → m ≤ 4 → 16 ≤ length text → 4 * m + k ≤ length text
+    → ((i : ℕ) → Fits w8 (get_or text i 0)) → list_all is_symbol (take (4 * m) text) ≡ true
+    → list_all is_ascii_whitespace (take k (drop (4 * m) text)) ≡ true
+    → Fills (take (3 * g) old) text (4 * m + k) (take (3 * (g + m)) new)
+row_fills old new decoded row text g m k room put is first few long within fits all spaces =
+    let held = take (3 * g) old in
+    let size : 3 * (g + m) ≡ length held + 3 * m = omega (arith, length-take-le (3 * g) old (omega arith)) in
+    let e : take (3 * (g + m)) new ≡ held ++ take (3 * m) (groups (map value_of (take 16 text))) = cc (
+      take-take (3 * (g + m)) (3 * g + 16) new (omega arith),
+      take-append-add held decoded (3 * m),
+      take-take (3 * m) 12 decoded (omega arith),
+    ) in
+    rw e (fill_row held text 16 m k long (omega arith) within fits all spaces)
 
 -- one group
 pub fill_one : (held text bytes : List ℕ) → 4 ≤ length text → is_symbol (get_or text 0 0) ≡ true

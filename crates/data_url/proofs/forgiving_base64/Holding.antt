@@ -1,23 +1,21 @@
 -- Feeding while decoded bytes are held. For the functions of `Decoder` that feed.
-use Rattle.std.proofs.Common.{◌≡◌, ℕ, suc, zero, ◌+◌, ◌-◌, ◌*◌, ◌/◌, ◌%◌, ◌<◌, ◌≤◌, Fits, w8, length-take-le, Bool}
+use Rattle.std.proofs.Common.{◌*◌, ◌≡◌, ℕ, suc, zero, ◌+◌, ◌-◌, ◌/◌, ◌<◌, ◌≤◌, Fits, w8, length-take-le, Bool}
 use Rattle.std.proofs.Common.{true, false, cond, min, ◌||◌, List, [], ◌∷◌, ◌++◌, length, map, drop, get_or, take}
 use Rattle.std.proofs.Common.{take-add}
 use Rattle.std.proofs.Common.{Option, None, Some, is_some, Result, Ok, Err, refl, ap, sym, ◌∙◌, subst, arith}
 use Rattle.std.proofs.Common.{append_assoc, length-append, length-take}
 use Rattle.std.specs.List.{filter, list_all}
 use Rattle.std.proofs.lemmas.Bool.{and_parts, true≢false}
-use Rattle.std.proofs.lemmas.List.{append-nil, get_or-drop, length-drop, nil_from_length, take-append-drop}
-use Rattle.std.proofs.lemmas.List.{take_all, take_more, take_rest}
+use Rattle.std.proofs.lemmas.List.{append-nil, get_or-drop, length-drop, nil_from_length}
+use Rattle.std.proofs.lemmas.List.{take_more, take_rest}
 use Rattle.data_url.specs.Base64.{Kind, after_groups, first_fault, groups, is_symbol}
 use Rattle.data_url.specs.Base64.{left_padding, left_symbols, symbol_value}
 use Rattle.data_url.specs.Decoder.{Feeds, IsLeft, State, left_over}
 use Rattle.data_url.specs.Mime.{Every}
-use Rattle.data_url.specs.Steps.Calls.{CallsOnce}
-use Rattle.data_url.specs.Steps.Blocks.{Fills, GainsSymbols, is_symbol_or_space}
-use Rattle.data_url.specs.Steps.Holding.{Adds, Flushes, Gains, IsBetweenGroups, Reads, Refuses}
+use Rattle.data_url.specs.Steps.Groups.{Fills, IsWhole, bytes_of, is_symbol_or_space}
+use Rattle.data_url.specs.declared.forgiving_base64.piece.Piece.{Piece}
+use Rattle.data_url.specs.Steps.Holding.{Adds, CallsOnce, Flushes, Gains, IsBetweenGroups, Reads, Refuses}
 use Rattle.data_url.specs.Steps.Lanes.{value_of}
-use Rattle.data_url.specs.Steps.Waiting.{symbols_of}
-use Rattle.data_url.specs.declared.forgiving_base64.symbols.Symbols.{Symbols}
 use Rattle.data_url.specs.declared.forgiving_base64.DecodeError.{DecodeError}
 use Rattle.data_url.specs.declared.forgiving_base64.DecodeError.TheVariants.{InvalidBase64, WriteError}
 use Rattle.data_url.proofs.forgiving_base64.Steps.{IsSound, adds_none, adds_text, fault_space, fault_symbol}
@@ -26,14 +24,11 @@ use Rattle.data_url.proofs.forgiving_base64.Steps.{told_call}
 use Rattle.data_url.proofs.forgiving_base64.Groups.{fits_take, symbols_alone, symbols_values}
 use Rattle.data_url.specs.Run.{IsRun, joined_pieces}
 use Rattle.std.specs.Prelude.{MatchResult}
-use Rattle.data_url.proofs.forgiving_base64.Vectors.{groups_whole}
 use Rattle.std.specs.Option.{option_or}
 use Rattle.std.specs.Result.{result_err}
 use Rattle.data_url.proofs.runs.Runs.{joined_pieces-append, match_at, match_none, refusal-append, run-append}
-use Rattle.std.proofs.lemmas.List.{length-map, map-append}
-use Rattle.data_url.proofs.forgiving_base64.Padding.{after_groups-map, every_after, groups-append}
 use Rattle.data_url.proofs.forgiving_base64.Padding.{every_list_all, fault-append, fault_byte, filter_all, is_pad}
-use Rattle.data_url.proofs.forgiving_base64.Padding.{after_groups-append, length-after_groups}
+use Rattle.data_url.proofs.forgiving_base64.Padding.{length-after_groups}
 
 -- A text of symbols and white space has no fault and no padding
 
@@ -80,24 +75,30 @@ module _ {F : Type 0} where
       (sym is_k) (ap length (allowed_pads t alone)) is same symbols
       (padding ∙ ap (λ p. min (p + 0) 3) (sym none)) failed
 
-  -- if d is between groups, whole groups of symbols add their bytes
-  pub adds_symbols : {d : State F} (t : List ℕ) {bytes : List ℕ} → IsBetweenGroups d → d.failed ≡ false
-      → list_all is_symbol t ≡ true → length t % 4 ≡ 0 → bytes ≡ groups (map symbol_value t) → Adds d t bytes d
-  adds_symbols {d} t {bytes} none going all whole is =
-      let P : List ℕ → Type 0 = λ q. (bytes ≡ groups (map symbol_value (q ++ t))) × (q ≡ after_groups (q ++ t)) in
-      let parts = subst P (sym none.0) (is, sym (nil_from_length (after_groups t) (length-after_groups t ∙ whole))) in
-      adds_spaced t t (record {
+  -- if d is between groups, whole groups add their bytes
+  pub adds_whole : {d : State F} (t : List ℕ) {bytes : List ℕ} → IsBetweenGroups d → d.failed ≡ false → IsWhole t
+      → bytes ≡ groups (map symbol_value (filter is_symbol t)) → Adds d t bytes d
+  adds_whole {d} t {bytes} none going w is =
+      let k = filter is_symbol t in
+      let P : List ℕ → Type 0 = λ q. (bytes ≡ groups (map symbol_value (q ++ k))) × (q ≡ after_groups (q ++ k)) in
+      let parts = subst P (sym none.0) (is, sym (nil_from_length (after_groups k) (length-after_groups k ∙ w.whole))) in
+      adds_spaced t k (record {
         every = subst (Every is_symbol) (sym none.0) tt;
         few = omega (arith, ap length none.0);
         few_padding = omega (arith, none.1);
       })
-      none.1 (symbols_alone t all) (sym (filter_all is_symbol t (every_list_all t all))) parts.0 refl parts.1 none.1
-      going
+      none.1 w.spaced refl parts.0 refl parts.1 none.1 going
 
   -- whole groups at the start of the text
   pub gains_groups : {d : State F} {held text held' : List ℕ} (taken : ℕ) → 0 < taken → IsBetweenGroups d
       → d.failed ≡ false → Fills held text taken held' → Gains d held text taken d held'
-  gains_groups {text = text} taken some none going f = search (arith, adds_symbols, length-take-le)
+  gains_groups taken some none going f = record {
+    some = some;
+    within = f.within;
+    more = _;
+    adds = adds_whole _ none going f.whole refl;
+    held_are = f.held_are;
+  }
 
   -- the first byte of a text, and then the bytes of the group that it completes, if any, after those that are held
   pub gains_one : {d d' : State F} {held held' : List ℕ} (text more : List ℕ) → 1 ≤ length text
@@ -110,6 +111,10 @@ pub fills_none : {held text held' : List ℕ} (taken : ℕ) → taken ≡ 0 → 
 unfolding groups
 fills_none zero e f = grind (arith, append-nil)
 fills_none (suc n) e f = absurd (omega arith)
+
+-- a piece has three bytes for each of its groups
+pub bytes_len : (p : Piece) → length (bytes_of p) ≡ 3 * p.groups
+bytes_len p = grind (arith, length-take-le)
 
 -- Calls of the closure
 
@@ -133,6 +138,12 @@ module _ {F E : Type 0} (step : F → List ℕ → Result (Unit {0}) E → F →
       → CallsOnce step d bytes r d' → Flushes step d bytes r d'
   flushes_call [] some w = absurd (omega arith)
   flushes_call (b ∷ bs) some w = w
+
+  -- flushing bytes between two groups leaves the decoder between two groups
+  pub flushed_between : (d d' : State F) (r : Result (Unit {0}) (DecodeError E)) (bytes : List ℕ) → IsBetweenGroups d
+      → Flushes step d bytes r d' → IsBetweenGroups d'
+  flushed_between d d' r [] i f = rw f.1 i
+  flushed_between d d' r (b ∷ bs) i w = (w.symbols_stay ∙ i.0, w.padding_stays ∙ i.1)
 
   -- flushing the bytes that are held does not change what is left over
   flushed_left : (d d' : State F) (r : Result (Unit {0}) (DecodeError E)) (held : List ℕ) → Flushes step d held r d'
@@ -191,11 +202,19 @@ module _ {F E : Type 0} (step : F → List ℕ → Result (Unit {0}) E → F →
       → Reads step d (take (at + n) s) (held ++ more) d2
   reads_more s at n r a = rw (sym (taken_more s at n)) (reads_then r a)
 
+  -- the bytes of one more group of steps
+  pub reads_gained : {d d1 d2 : State F} {held held' : List ℕ} (s : List ℕ) (at n : ℕ)
+      → Reads step d (take at s) held d1 → Gains d1 held (take (length s - at) (drop at s)) n d2 held'
+      → Reads step d (take (at + n) s) held' d2
+  reads_gained s at n r g = rw g.held_are (reads_more s at n r g.adds)
+
   -- the closure accepts a front of the bytes that are held
   pub reads_called : {d d1 d2 : State F} {t : List ℕ} (a b : List ℕ) → (length b + 2) / 3 < (length a + length b + 2)
       / 3
-      → Reads step d t (a ++ b) d1 → CallsOnce step d1 a (Ok tt) d2 → Reads step d t b d2
-  reads_called {d} {d1} {d2} a b some r c =
+      → Reads step d t (a ++ b) d1 → Flushes step d1 a (Ok tt) d2 → Reads step d t b d2
+  reads_called [] b some r c = absurd (omega arith)
+  reads_called {d} {d1} {d2} (x ∷ xs) b some r c =
+      let a = x ∷ xs in
       let call = record { piece = a; answer = c.told; after = d2.closure } ∷ [] in
       record {
         run = r.run ++ call;
@@ -215,24 +234,25 @@ module _ {F E : Type 0} (step : F → List ℕ → Result (Unit {0}) E → F →
       }
 
   -- a call with a front of the bytes that are held ends the feeding, with all of them or with an error
-  pub reads_feeds : {d d1 s1 d2 : State F} {t : List ℕ} {r : Result (Unit {0}) (DecodeError E)} (a b : List ℕ)
-      → (length b + 2) / 3 < (length a + length b + 2) / 3 → Reads step d t (a ++ b) d1 → CallsOnce step s1 a r d2
-      → d1.closure ≡ s1.closure → (r ≡ Ok tt → (b ≡ []) × IsLeft (left_over d ++ t) d2) → Feeds step d t r d2
-  reads_feeds {d} {d1} {s1} {d2} {t} {r} a b some h c same all =
+  pub reads_feeds : {d d1 d2 : State F} {t : List ℕ} {r : Result (Unit {0}) (DecodeError E)} (a b : List ℕ)
+      → Reads step d t (a ++ b) d1 → Flushes step d1 a r d2 → (r ≡ Ok tt → b ≡ []) → Feeds step d t r d2
+  reads_feeds [] b h f all = let e = all f.0 in grind (arith, match_none, append-nil, e)
+  reads_feeds {d} {d1} {d2} {t} {r} (x ∷ xs) b h c all =
+      let a = x ∷ xs in
       let call = record { piece = a; answer = c.told; after = d2.closure } ∷ [] in
       let joined : joined_pieces (h.run ++ call) ≡ joined_pieces h.run ++ a =
       joined_pieces-append h.run call ∙ ap (λ x. joined_pieces h.run ++ x) (append-nil a) in
       record {
         run = h.run ++ call;
-        ran = run-append step h.run call d.closure s1.closure d2.closure (subst (IsRun step d.closure h.run) same h.ran)
-            h.accepted (one_call step _ _ a _ c.called);
-        calls = omega (arith, h.calls, some, length-append a b, length-append h.run call);
+        ran = run-append step h.run call d.closure d1.closure d2.closure h.ran h.accepted
+            (one_call step _ _ a _ c.called);
+        calls = omega (arith, h.calls, length-append a b, length-append h.run call);
         failed = c.failed;
         gave = match_at _ _ _ _ (refusal-append h.run call h.accepted) (told_call c.told r _ _ _
             (b, cc (joined, append_assoc (joined_pieces h.run) a b, h.bytes_are))
             (λ e. record {
-              bytes_are = cc (joined, (all e).0, append-nil a, h.bytes_are);
-              answer = match_none _ _ _ h.no_fault (e, (all e).1);
+              bytes_are = cc (joined, all e, append-nil a, h.bytes_are);
+              answer = match_none _ _ _ h.no_fault (e, left_stays h.left c.symbols_stay c.padding_stays);
             })
             c.answer);
       }
@@ -240,10 +260,7 @@ module _ {F E : Type 0} (step : F → List ℕ → Result (Unit {0}) E → F →
   -- the bytes that are held are flushed
   pub reads_flushed : {d d1 d2 : State F} {t : List ℕ} {r : Result (Unit {0}) (DecodeError E)} (held : List ℕ)
       → Reads step d t held d1 → Flushes step d1 held r d2 → Feeds step d t r d2
-  reads_flushed [] h f = grind (arith, match_none, append-nil)
-  reads_flushed {d1 = d1} (b ∷ bs) h f =
-      reads_feeds {d1 = d1} (b ∷ bs) [] (omega arith) (rw (append-nil (b ∷ bs)) h) f refl
-      (λ e. (refl, left_stays h.left f.symbols_stay f.padding_stays))
+  reads_flushed held h f = reads_feeds held [] (rw (append-nil held) h) f (λ e. refl)
 
   -- if the byte at an index is a fault, feeding s returns its error after the bytes before it are flushed
   pub reads_fault : {d d1 d2 d4 : State F} {held : List ℕ} {kind : Kind} (d3 : State F) (s : List ℕ) (at c : ℕ)
@@ -267,121 +284,10 @@ module _ {F E : Type 0} (step : F → List ℕ → Result (Unit {0}) E → F →
       let block = take (length s - at) (drop at s) in
       let long : length (take 64 block) ≡ 64 =
       length-take-le 64 block (omega (arith, length-take (length s - at) (drop at s), length-drop at s)) in
+      let alone = filter_all is_symbol (take 64 block) (every_list_all (take 64 block) (sym all)) in
       let values = symbols_values (take 64 block) (fits_take 64 block (fits_take (length s - at) (drop at s)
       (λ i. subst (Fits w8) (sym (get_or-drop at s i 0)) (fits (at + i))))) (sym all) in
-      reads_more s at 64 r (adds_symbols (take 64 block) none r.going (sym all) (ap (λ n. n % 4) long)
-      (is ∙ ap groups values))
-
-  -- Text that is fed in parts
-
-  -- feeding `at` bytes of s, and then `taken` more, is the same as feeding them together
-  pub feeds_part : {d d1 d2 : State F} {r : Result (Unit {0}) (DecodeError E)} (s : List ℕ) (at taken : ℕ)
-      → Feeds step d (take at s) (Ok tt) d1 → Feeds step d1 (take taken (take (length s - at) (drop at s))) r d2
-      → Feeds step d (take (at + taken) s) r d2
-  feeds_part s at taken f g = rw (sym (taken_more s at taken)) (feeds_then step f g)
-
-  -- feeding the first `at` bytes of s, and then the rest of s, is the same as feeding s
-  pub feeds_last : {d d1 d2 : State F} {r : Result (Unit {0}) (DecodeError E)} (s : List ℕ) (at : ℕ)
-      → Feeds step d (take at s) (Ok tt) d1 → Feeds step d1 (take (length s - at) (drop at s)) r d2
-      → Feeds step d s r d2
-  feeds_last {d} {d1} {d2} {r} s at f g =
-      let P : List ℕ → Type 0 = λ t. Feeds step d t r d2 in
-      let Q : List ℕ → Type 0 = λ t. Feeds step d1 t r d2 in
-      subst P (take-append-drop at s) (feeds_then step f (subst Q (take_rest s at) g))
-
--- Symbols that wait in a buffer
-
--- the number of symbols in the buffer
-pub symbols_len : (s : Symbols) → length (symbols_of s) ≡ s.len
-symbols_len s = grind (arith, length-take-le)
-
--- what is left over of at least 64 items is what is left over of those after the first 64
-pub rest_after : (q : List ℕ) → 64 ≤ length q → after_groups q ≡ after_groups (drop 64 q)
-rest_after q long = let none : after_groups (take 64 q) ≡ [] =
-    nil_from_length (after_groups (take 64 q))
-    (omega (arith, length-after_groups (take 64 q), length-take-le 64 q long)) in
-    cc (take-append-drop 64 q, after_groups-append (take 64 q) (drop 64 q))
-
--- if the bytes of a full piece are those of the first 64 symbols, the bytes of all are these and those of the rest
-block_is : (q bytes : List ℕ) → 64 ≤ length q → length bytes ≡ 48
-    → take (3 * (length (take 64 q) / 4)) bytes ≡ groups (map symbol_value (take 64 q))
-    → bytes ++ groups (map symbol_value (drop 64 q)) ≡ groups (map symbol_value q)
-block_is q bytes long full is =
-    let front = map symbol_value (take 64 q) in
-    let size : length (take 64 q) ≡ 64 = length-take-le 64 q long in
-    cc (
-      take_all (3 * (length (take 64 q) / 4)) bytes (omega arith),
-      groups_whole front (map symbol_value (drop 64 q)) (omega (arith, length-map (take 64 q) symbol_value)),
-      map-append symbol_value (take 64 q) (drop 64 q),
-      take-append-drop 64 q,
-    )
-
--- d reads the text, and the symbols q wait in a buffer: the bytes of their groups are held, and the others are left
--- over
-abbrev pub Waits : {F E : Type 0} → (F → List ℕ → Result (Unit {0}) E → F → Type 0) → State F → List ℕ → List ℕ
-    → State F
-    → Type 0
-Waits step d t q s = Reads step d t (groups (map symbol_value q)) (record s { symbols = after_groups q })
-
-module _ {F E : Type 0} (step : F → List ℕ → Result (Unit {0}) E → F → Type 0) where
-  -- a call does not depend on the symbols that are left over
-  with_symbols : {s1 s2 : State F} {bytes : List ℕ} {r : Result (Unit {0}) (DecodeError E)} (q : List ℕ)
-      → CallsOnce step s1 bytes r s2
-      → CallsOnce step (record s1 { symbols = q }) bytes r (record s2 { symbols = q })
-  with_symbols q c = search arith
-
-  -- nothing was read, and nothing waits
-  pub none_wait : {d : State F} {q : List ℕ} → IsSound d → IsBetweenGroups d → d.failed ≡ false → q ≡ []
-      → Waits step d [] q d
-  unfolding groups after_groups
-  none_wait {d} {q} s none going is = rw is (subst (λ l. Reads step d [] [] (record d { symbols = l })) none.0
-      (reads_none step s going))
-
-  -- a text of symbols and white space is read, and its symbols wait after those before
-  pub rows_wait : {d : State F} {q' : List ℕ} (s : State F) (q text : List ℕ) (at n : ℕ) → list_all is_symbol q ≡ true
-      → IsBetweenGroups s → GainsSymbols q (take n (take (length text - at) (drop at text))) q'
-      → Waits step d (take at text) q s → Waits step d (take (at + n) text) q' s
-  rows_wait s q text at n all none g w =
-      let row = take n (take (length text - at) (drop at text)) in
-      let k = filter is_symbol row in
-      let more = groups (map symbol_value (after_groups q ++ k)) in
-      let both : groups (map symbol_value q) ++ more ≡ groups (map symbol_value (q ++ k)) =
-      grind (arith, groups-append, map-append, after_groups-map) in
-      let state : State F = record s { symbols = after_groups q } in
-      let sound : IsSound state = record {
-        every = every_after q (every_list_all q all);
-        few = omega (arith, length-after_groups q);
-        few_padding = omega (arith, none.1);
-      } in
-      rw (g.added, sym both)
-      (reads_more step text at n w (adds_spaced row k sound none.1 g.spaced refl refl refl (after_groups-append q k)
-      none.1 w.going))
-
-  -- the closure accepts the bytes of the first 64 symbols that wait
-  pub block_goes : {d s1 s2 : State F} {t : List ℕ} (q bytes : List ℕ) → 64 ≤ length q → length bytes ≡ 48
-      → take (3 * (length (take 64 q) / 4)) bytes ≡ groups (map symbol_value (take 64 q)) → Waits step d t q s1
-      → CallsOnce step s1 bytes (Ok tt) s2 → Waits step d t (drop 64 q) s2
-  block_goes q bytes long full is w c =
-      let e = block_is q bytes long full is in
-      rw (sym (rest_after _ long)) (reads_called step bytes (groups (map symbol_value (drop 64 q)))
-      (omega (arith, full)) (rw e w)
-      (with_symbols (after_groups q) c))
-
-  -- the closure returns an error for the bytes of the first 64 symbols that wait
-  pub block_refused : {d s1 s2 : State F} {e : DecodeError E} (q bytes text : List ℕ) (at : ℕ)
-      → 64 ≤ length q → length bytes ≡ 48
-      → take (3 * (length (take 64 q) / 4)) bytes ≡ groups (map symbol_value (take 64 q))
-      → Waits step d (take at text) q s1 → CallsOnce step s1 bytes (Err e) s2 → Feeds step d text (Err e) s2
-  block_refused {s1 = s1} q bytes text at long full is w c =
-      let e = block_is q bytes long full is in
-      feeds_stop step text at (reads_feeds step {d1 = record s1 { symbols = after_groups q }} bytes
-      (groups (map symbol_value (drop 64 q))) (omega (arith, full)) (rw e w) c refl (λ e. absurd cc))
-
-  -- the bytes of the groups of fewer than 64 symbols that wait are held, and the others are left over
-  pub last_wait : {d : State F} {t : List ℕ} (s : State F) (q bytes left : List ℕ) → length q < 64
-      → take (3 * (length (take 64 q) / 4)) bytes ≡ groups (map symbol_value (take 64 q)) → left ≡ after_groups q
-      → Waits step d t q s → Reads step d t (take (3 * (length q / 4)) bytes) (record s { symbols = left })
-  last_wait s q bytes left few is rest w =
-      let held = subst (λ l. take (3 * (length l / 4)) bytes ≡ groups (map symbol_value l))
-      (take_all 64 q (omega arith)) is in
-      rw (held, rest) w
+      reads_more s at 64 r (adds_whole (take 64 block) none r.going (record {
+        spaced = symbols_alone (take 64 block) (sym all);
+        whole = omega (arith, long, ap length alone);
+      }) (cc (is, values, alone)))

@@ -1,7 +1,7 @@
 -- What a decoder does with more bytes, and at its end. For `Decoder`.
 use Rattle.std.proofs.Common.{◌≡◌, ℕ, suc, zero, ◌+◌, ◌%◌, ◌≤◌, Bool, true, false, cond, eqb, get_or, take, List}
 use Rattle.std.proofs.Common.{[], ◌∷◌, ◌++◌, length, map, min, replicate, None, Some, Result, Ok, Err, refl, ap, ap₂}
-use Rattle.std.proofs.Common.{sym}
+use Rattle.std.proofs.Common.{sym, ◌≢◌, ◌⊎◌, inl, inr}
 use Rattle.std.proofs.Common.{◌∙◌, subst, arith, length-append, length-take, drop, Option, append_assoc}
 use Rattle.std.specs.Prelude.{MatchOption, MatchBool, MatchResult}
 use Rattle.std.specs.List.{filter, list_any}
@@ -102,6 +102,12 @@ module _ (q : List ℕ) (p : ℕ) (every : Every is_symbol q) where
   -- q and p times '=' are valid exactly if p fits the number of symbols
   pub valid_left : is_valid (left_text q p) ≡ fits_with (length q % 4) p
   valid_left = grind (arith, no_fault_valid, fault_text, symbols_of_text, pads_of_text)
+
+  -- if there is no lone symbol, q and p times '=' are valid without '=', or if these complete a group
+  pub valid_ends : length q ≤ 3 → p ≤ 3 → length q ≢ 1 → (p ≡ 0) ⊎ (length q + p ≡ 4)
+      → is_valid (left_text q p) ≡ true
+  valid_ends few pads some (inl e) = valid_left ∙ rw e (grind arith)
+  valid_ends few pads some (inr e) = valid_left ∙ grind arith
 
   -- q and p times '=' decode to the bytes of the groups of q and those of the values after them
   pub decoded_left : decoded (left_text q p) ≡ groups (map symbol_value q) ++ rest_bytes
@@ -411,6 +417,12 @@ module _ {F E : Type 0} (step : F → List ℕ → Result (Unit {0}) E → F →
         calls = omega arith;
         gave = grind (arith, bool_at_true, told_call, prefix_all _ _ bytes);
       }
+
+  -- if what is left over is not valid, finishing d returns its error without a call
+  pub finishes_refused : (d : State F) {r : Result (Unit {0}) (DecodeError E)} {f : F} → is_valid (left_over d) ≡ false
+      → f ≡ d.closure → r ≡ Err (InvalidBase64 (kind_of (left_over d))) → Finishes step d r f
+  finishes_refused d v same e =
+      record { run = []; ran = sym same; calls = omega arith; gave = bool_at_false _ _ _ v (refl, e) }
 
   -- if what is left over is valid, a call with the bytes that it decodes to, or none for no bytes, finishes d
   pub finishes_flushed : (d d' : State F) {r : Result (Unit {0}) (DecodeError E)} → is_valid (left_over d) ≡ true

@@ -7,7 +7,7 @@ use Rattle.std.specs.Char.{is_ascii_whitespace as std_whitespace, is_ascii_white
 use Rattle.data_url.specs.Base64.{is_symbol, symbol_value, group_bytes, group_number, groups, after_groups}
 use Rattle.data_url.specs.declared.forgiving_base64.alphabet.TheConstants.{NO_SYMBOL, VALUES}
 use Rattle.std.specs.List.{range_with_len, list_all, prefix_len}
-use Rattle.std.proofs.lemmas.List.{ext_get_or, get_or-map, length-map, map-append, take-take, take_all, nil_from_length}
+use Rattle.std.proofs.lemmas.List.{ext_get_or, get_or-map, length-map, map-append, take_all, nil_from_length}
 use Rattle.std.proofs.lemmas.Nat.{and_le_r, and_le_l, or_lt}
 use Rattle.std.proofs.lemmas.Simd.{Each1-get_or, SwzOk, SwzOk-from_below, get_or_narrower, get_or-swz_l_below}
 use Rattle.std.proofs.lemmas.Simd.{length-swz_l, pick_l_whole, swz_l, bitmask_splat, chunk-fits, leading_from_mask_l}
@@ -17,7 +17,6 @@ use Rattle.std.proofs.Math.Bool.{and-true, and_assoc, not-not}
 use Rattle.data_url.specs.Steps.Lanes.{mark_of, numbers, value_of}
 use Rattle.std.proofs.lemmas.List.Folds.{list_all-append}
 use Rattle.std.proofs.Math.Nat.{pow-succ'}
-use Rattle.std.proofs.Math.Seq.{take-append-add}
 use lib.Bits.{or_add_and}
 use lib.Count.{count_trailing_zeros}
 use Rattle.data_url.proofs.forgiving_base64.Padding.{groups-append, length-after_groups}
@@ -399,12 +398,6 @@ values_of_rows text long =
 pub put_three : (b1 b2 b3 x y z : List ℕ) → take 16 b1 ≡ x → take (16 + 16) b2 ≡ take 16 b1 ++ y
     → take (32 + 16) b3 ≡ take 32 b2 ++ z → length b3 ≡ 48 → b3 ≡ (x ++ y) ++ z
 put_three b1 b2 b3 x y z p q r long = sym (take_all 48 b3 (omega arith)) ∙ r ∙ ap (λ l. l ++ z) (q ∙ ap (λ l. l ++ y) p)
-
--- a row of which only the first n bytes matter
-pub row_put : (at n : ℕ) (old new row bytes : List ℕ) → at + 16 ≤ length old → n ≤ 16
-    → take (at + 16) new ≡ take at old ++ row → take n row ≡ bytes → take (at + n) new ≡ take at old ++ bytes
-row_put at n old new row bytes room few e is =
-    grind (arith, length-take-le, take-take (at + n) (at + 16) new (omega arith), take-append-add (take at old) row n)
 
 -- if the first 12 bytes of four rows are those of their groups, joined they are those of all 16 groups
 pub decoded_block : (text a b c d r0 r1 r2 r3 bytes : List ℕ) → 64 ≤ length text → length a ≡ 16 → length b ≡ 16

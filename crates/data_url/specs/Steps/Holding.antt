@@ -1,9 +1,9 @@
 -- What a decoder does with input while decoded bytes are held, to be passed to the closure together.
-use Rattle.std.specs.Prelude.{[], ◌*◌, ◌++◌, ◌+◌, ◌/◌, ◌∷◌, ◌≡◌, ◌≤◌, Err, List, MatchResult, None, Ok, Result, false, is_some, length, take, true, ℕ}
+use Rattle.std.specs.Prelude.{[], ◌*◌, ◌++◌, ◌+◌, ◌/◌, ◌∷◌, ◌≡◌, ◌≤◌, Err, List, MatchResult, None, Ok, Result, false, is_err, is_some, length, take, true, ℕ}
 use Rattle.data_url.specs.Base64.{Kind, complete_bytes, first_fault, kind_of}
-use Rattle.data_url.specs.Decoder.{Feeds, IsLeft, State, left_over}
+use Rattle.data_url.specs.Decoder.{IsLeft, State, left_over}
 use Rattle.data_url.specs.Run.{Call, IsRun, joined_pieces, refusal}
-use Rattle.data_url.specs.Steps.Calls.{CallsOnce}
+use Rattle.data_url.specs.declared.forgiving_base64.DecodeError.TheVariants.{WriteError}
 use Rattle.data_url.specs.declared.forgiving_base64.DecodeError.{DecodeError}
 
 -- d reads the text without a call of the closure; the bytes are those of the groups that are then
@@ -34,6 +34,18 @@ pub record Gains {F : Type 0} (d : State F) (held text : List ℕ) (taken : ℕ)
   pub adds : Adds d (take taken text) more d'
   pub held_are : held' ≡ held ++ more
 
+-- d calls its closure once, with the piece. If the closure returns an error, d has failed. Nothing
+-- else in d changes.
+pub record CallsOnce {F E : Type 0} (step : F → List ℕ → Result (Unit {0}) E → F → Type 0)
+    (d : State F) (piece : List ℕ) (r : Result (Unit {0}) (DecodeError E)) (d' : State F)
+    : Type 0 where
+  pub told : Result (Unit {0}) E
+  pub called : step d.closure piece told d'.closure
+  pub answer : MatchResult told (λ u. r ≡ Ok tt) (λ e. r ≡ Err (WriteError e))
+  pub failed : d'.failed ≡ is_err r
+  pub symbols_stay : d'.symbols ≡ d.symbols
+  pub padding_stays : d'.padding ≡ d.padding
+
 -- d calls its closure once with the bytes that are held; if none are held, it does not call it
 abbrev pub Flushes : {F E : Type 0} → (F → List ℕ → Result (Unit {0}) E → F → Type 0) → State F
     → List ℕ → Result (Unit {0}) (DecodeError E) → State F → Type 0
@@ -52,14 +64,6 @@ pub record Reads {F E : Type 0} (step : F → List ℕ → Result (Unit {0}) E �
   pub bytes_are : joined_pieces run ++ held ≡ complete_bytes (left_over d ++ text)
   pub left : IsLeft (left_over d ++ text) d'
   pub going : d'.failed ≡ false
-
--- d is fed the first n bytes of the text, where r is `Ok` of n; or r is the error of feeding d the
--- whole text
-abbrev pub FeedsPart : {F E : Type 0} → (F → List ℕ → Result (Unit {0}) E → F → Type 0) → State F
-    → List ℕ → Result ℕ (DecodeError E) → State F → Type 0
-FeedsPart step d text r d' = MatchResult r
-    (λ taken. (taken ≤ length text) × Feeds step d (take taken text) (Ok tt) d')
-    (λ error. Feeds step d text (Err error) d')
 
 -- the next symbol begins a group
 abbrev pub IsBetweenGroups : {F : Type 0} → State F → Type 0

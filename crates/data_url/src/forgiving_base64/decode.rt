@@ -7,7 +7,6 @@ ghost use Rattle.data_url.specs.Base64.{is_symbol};
 use super::alphabet::{group_of, is_symbol};
 use super::blocks::{decode, is_whole};
 use super::piece::{Piece, ROOM};
-use super::symbols::Symbols;
 use super::{DecodeError, InvalidBase64, InvalidBase64Details};
 
 /// A decoder of base64
@@ -40,11 +39,9 @@ where
     ghost use Rattle.std.specs.Fn.{CalledAt};
     ghost use Rattle.data_url.specs.Decoder.{Feeds, Finishes, left_over, start, state_of};
     ghost use Rattle.data_url.specs.Base64.{decoded, groups, symbol_value};
-    ghost use Rattle.data_url.specs.Steps.Calls.{CallsOnce};
-    ghost use Rattle.data_url.specs.Steps.Ending.{IsFaultAtEnd};
     ghost use Rattle.data_url.specs.Facts.{Fits};
-    ghost use Rattle.data_url.specs.Steps.Waiting.{bytes_of, symbols_of};
-    ghost use Rattle.data_url.specs.Steps.Holding.{FeedsPart, Flushes, Gains, IsBetweenGroups, Reads, Refuses};
+    ghost use Rattle.data_url.specs.Steps.Groups.{bytes_of};
+    ghost use Rattle.data_url.specs.Steps.Holding.{Flushes, Gains, IsBetweenGroups, Reads, Refuses};
 
     /// Returns a decoder that has been fed nothing yet. The closure has to accept any bytes, whatever it was called
     /// with before.
@@ -76,14 +73,16 @@ where
         self.write_bytes
     }
 
-    /// Calls the closure with a piece.
+    /// Calls the closure with a piece, unless it is empty.
     fn write(&mut self, piece: &[u8]) -> Result<(), DecodeError<E>>
         requires callable { F.IsAlwaysCallable (state_of self.old).closure }
         requires going { (state_of self.old).failed ≡ false }
         ensures callable { F.IsAlwaysCallable (state_of self.new).closure }
-        ensures wrote { CallsOnce (CalledAt F.FnMut) (state_of self.old) piece.now result
-            (state_of self.new) }
+        ensures wrote { Flushes (CalledAt F.FnMut) (state_of self.old) piece.now result (state_of self.new) }
     {
+        if piece.is_empty() {
+            return Ok(());
+        }
         match (self.write_bytes)(piece) {
             Ok(()) => Ok(()),
             Err(error) => {
@@ -156,21 +155,6 @@ where
         self.take_byte(text, piece)
     }
 
-    /// Calls the closure with the piece, unless it is empty.
-    #[inline(always)]
-    fn flush(&mut self, piece: &Piece) -> Result<(), DecodeError<E>>
-        requires callable { F.IsAlwaysCallable (state_of self.old).closure }
-        requires going { (state_of self.old).failed ≡ false }
-        ensures callable { F.IsAlwaysCallable (state_of self.new).closure }
-        ensures flushed { Flushes (CalledAt F.FnMut) (state_of self.old) (bytes_of piece.now)
-            result (state_of self.new) }
-    {
-        if piece.groups == 0 {
-            return Ok(());
-        }
-        self.write(piece.as_slice())
-    }
-
     /// Whether the next symbol begins a group.
     #[inline(always)]
     fn is_between_groups(&self) -> bool
@@ -186,7 +170,11 @@ where
         requires callable { F.IsAlwaysCallable (state_of self.old).closure }
         requires going { (state_of self.old).failed ≡ false }
         ensures callable { F.IsAlwaysCallable (state_of self.new).closure }
-        ensures fed { FeedsPart (CalledAt F.FnMut) (state_of self.old) text.now result (state_of self.new) }
+        ensures fed { MatchResult result
+            (λ taken. (taken ≤ length text.now) × Reads (CalledAt F.FnMut) (state_of self.old)
+            (take taken text.now) [] (state_of self.new))
+            (λ error. Feeds (CalledAt F.FnMut) (state_of self.old) text.now (Err error)
+            (state_of self.new)) }
     {
         let mut at = 0;
         if !self.is_between_groups() {
@@ -196,74 +184,6 @@ where
             self.write(&decode(&text[at..]))?;
             at += 64;
         }
-        Ok(at)
-    }
-
-    /// Feeds the rows of symbols and white space that a text begins with, if the next symbol begins a group. Calls the
-    /// closure with the groups of 128 symbols at a time, as two pieces. At the end, fewer than sixteen groups are in the
-    /// piece. Returns how many bytes of the text the rows have.
-    #[inline(never)]
-    fn feed_spaced(&mut self, text: &[u8], piece: &mut Piece) -> Result<usize, DecodeError<E>>
-        requires callable { F.IsAlwaysCallable (state_of self.old).closure }
-        requires going { (state_of self.old).failed ≡ false }
-        requires between { IsBetweenGroups (state_of self.old) }
-        ensures callable { F.IsAlwaysCallable (state_of self.new).closure }
-        ensures fed { MatchResult result
-            (λ taken. (taken ≤ length text.now) × Reads (CalledAt F.FnMut) (state_of self.old)
-            (take taken text.now) (bytes_of piece.new) (state_of self.new))
-            (λ error. Feeds (CalledAt F.FnMut) (state_of self.old) text.now (Err error)
-            (state_of self.new)) }
-    {
-        let mut symbols = Symbols::new();
-        let mut at = 0;
-        loop {
-            let taken = symbols.add_rows(&text[at..]);
-            if taken == 0 {
-                break;
-            }
-            at += taken;
-            if symbols.len >= 128 {
-                self.write(&symbols.decode(0))?;
-                self.write(&symbols.decode(64))?;
-                symbols.drop_front();
-            }
-        }
-        let mut from = 0;
-        if symbols.len >= 64 {
-            self.write(&symbols.decode(0))?;
-            from = 64;
-        }
-        *piece = Piece::new(symbols.decode(from), (symbols.len - from) / 4);
-        self.symbols = symbols.last();
-        self.pending = symbols.len % 4;
-        Ok(at)
-    }
-
-    /// Feeds the beginning of a text, and calls the closure with the bytes of the groups in it. The last groups, at
-    /// most sixteen, are one piece. Returns how many bytes of the text it took, at least one if there is one.
-    #[inline(always)]
-    fn feed_piece(&mut self, text: &[u8]) -> Result<usize, DecodeError<E>>
-        requires callable { F.IsAlwaysCallable (state_of self.old).closure }
-        requires going { (state_of self.old).failed ≡ false }
-        ensures callable { F.IsAlwaysCallable (state_of self.new).closure }
-        ensures fed { FeedsPart (CalledAt F.FnMut) (state_of self.old) text.now result (state_of self.new) }
-        ensures some { IfOk result (λ taken. 1 ≤ length text.now → 1 ≤ taken) }
-    {
-        let mut piece = Piece::new([0; 48], 0);
-        let mut at = 0;
-        if text.len() >= 64 && self.is_between_groups() {
-            at = self.feed_spaced(text, &mut piece)?;
-        }
-        while at < text.len() && piece.groups < ROOM {
-            match self.take_some(&text[at..], &mut piece) {
-                Ok(taken) => at += taken,
-                Err(details) => {
-                    self.flush(&piece)?;
-                    return Err(self.refuse(details));
-                }
-            }
-        }
-        self.flush(&piece)?;
         Ok(at)
     }
 
@@ -284,45 +204,22 @@ where
         ensures fed { Feeds (CalledAt F.FnMut) (state_of self.old) input.now result
             (state_of self.new) }
     {
-        let mut at = 0;
+        let mut piece = Piece::new();
+        let mut at = self.feed_blocks(input)?;
         while at < input.len() {
-            at += self.feed_blocks(&input[at..])?;
-            at += self.feed_piece(&input[at..])?;
+            match self.take_some(&input[at..], &mut piece) {
+                Ok(taken) => at += taken,
+                Err(details) => {
+                    self.write(piece.as_slice())?;
+                    return Err(self.refuse(details));
+                }
+            }
+            if piece.groups >= ROOM {
+                self.write(&piece.as_slice()[..3 * ROOM])?;
+                piece.drop_front();
+            }
         }
-        Ok(())
-    }
-
-    /// Returns the fault of the symbols and the padding left over, if a valid text cannot end with them. The padding
-    /// fits if there is no `=` and no lone symbol, or two `=` after two symbols, or one after three.
-    fn fault_at_end(&self) -> Option<InvalidBase64Details>
-        ensures { IsFaultAtEnd (state_of self.now) result }
-    {
-        let padding = usize::from(self.padding);
-        if (padding == 0 && self.pending != 1) || (padding < 3 && self.pending + padding == 4) {
-            None
-        } else if self.pending == 1 {
-            Some(InvalidBase64Details::LoneAlphabetSymbol)
-        } else {
-            Some(InvalidBase64Details::Padding)
-        }
-    }
-
-    /// Calls the closure with the bytes of the symbols left over, if there are any: the first bytes of the group that
-    /// they begin.
-    fn write_rest(&mut self) -> Result<(), DecodeError<E>>
-        requires callable { F.IsAlwaysCallable (state_of self.old).closure }
-        requires going { (state_of self.old).failed ≡ false }
-        requires valid { IsFaultAtEnd (state_of self.old) None }
-        ensures callable { F.IsAlwaysCallable (state_of self.new).closure }
-        ensures flushed { Flushes (CalledAt F.FnMut) (state_of self.old)
-            (decoded (left_over (state_of self.old))) result (state_of self.new) }
-    {
-        let [first, second, third] = self.symbols;
-        match self.pending {
-            2 => self.write(&group_of(first, second, b'A', b'A')[..1]),
-            3 => self.write(&group_of(first, second, third, b'A')[..2]),
-            _ => Ok(()),
-        }
+        self.write(piece.as_slice())
     }
 
     /// Ends the text. If two or three symbols are left over, the closure is called once, with the one or two bytes
@@ -350,9 +247,16 @@ where
         ensures callable { F.IsAlwaysCallable result.1 }
         ensures finished { Finishes (CalledAt F.FnMut) (state_of self) result.0 result.1 }
     {
-        let answer = match self.fault_at_end() {
-            None => self.write_rest(),
-            Some(details) => Err(self.refuse(details)),
+        let [first, second, third] = self.symbols;
+        let padding = usize::from(self.padding);
+        let answer = match self.pending {
+            1 => Err(self.refuse(InvalidBase64Details::LoneAlphabetSymbol)),
+            pending if padding > 0 && pending + padding != 4 => {
+                Err(self.refuse(InvalidBase64Details::Padding))
+            }
+            2 => self.write(&group_of(first, second, b'A', b'A')[..1]),
+            3 => self.write(&group_of(first, second, third, b'A')[..2]),
+            _ => Ok(()),
         };
         (answer, self.into_closure())
     }

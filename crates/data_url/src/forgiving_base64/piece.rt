@@ -1,39 +1,49 @@
 //! The bytes of whole groups of a text of base64 (RFC 4648, section 4), which the closure is called with together.
 
-ghost use Rattle.std.specs.Prelude.{◌≡◌, ◌+◌, ◌*◌, ◌≤◌, ◌<◌, ◌++◌, length, take};
-ghost use Rattle.std.specs.List.{list_all};
+ghost use Rattle.std.specs.Prelude.{◌≡◌, ◌+◌, ◌≤◌, ◌<◌, ◌++◌, [], drop, length};
+ghost use Rattle.std.specs.Char.{is_ascii_whitespace};
+ghost use Rattle.std.specs.List.{list_all, prefix_len};
 ghost use Rattle.data_url.specs.Base64.{is_symbol};
-ghost use Rattle.data_url.specs.Steps.Blocks.{Fills};
 
-use super::alphabet::{decode_row, group_of, is_symbol};
+use super::alphabet::{are_symbols, decode_row, group_of, is_symbol};
 use super::blocks::{others, put, row};
 
-/// The size of the buffer, in groups: as many as a block of 64 symbols has.
+/// How many groups the closure is called with together: as many as a block of 64 symbols has.
 pub(crate) const ROOM: usize = 16;
 
-/// With at most this many groups there is still room for the sixteen bytes that a row is written as.
-const ROOM_FOR_ROW: usize = 10;
-
-/// The bytes of up to sixteen groups.
+/// The bytes of up to sixteen groups, and of up to three groups of the row that was added last.
 #[derive(Drop)]
 pub(crate) struct Piece {
-    bytes: [u8; 48],
+    bytes: [u8; 64],
     pub(crate) groups: usize,
-    ghost within: { groups ≤ 16 },
-    ghost sized: { length bytes ≡ 48 },
+    ghost within: { groups < 20 },
+    ghost sized: { length bytes ≡ 64 },
+}
+
+/// Returns how many bytes at the front are white space.
+fn spaces_len(bytes: &[u8]) -> usize
+    ensures front { result ≡ prefix_len is_ascii_whitespace bytes.now }
+    ensures within { result ≤ length bytes.now }
+{
+    bytes
+        .iter()
+        .take_while(|byte| byte.is_ascii_whitespace())
+        .count()
 }
 
 impl Piece {
-    ghost use Rattle.data_url.specs.Steps.Waiting.{bytes_of};
+    ghost use Rattle.data_url.specs.Steps.Groups.{Fills, bytes_of};
 
-    /// Returns a piece of the first `groups` of these groups.
+    /// Returns a piece without bytes.
     #[inline(always)]
-    pub(crate) fn new(bytes: [u8; 48], groups: usize) -> Piece
-        requires { groups ≤ 16 }
-        ensures groups { result.groups ≡ groups }
-        ensures bytes { bytes_of result ≡ take (3 * groups) bytes }
+    pub(crate) fn new() -> Piece
+        ensures bytes { bytes_of result ≡ [] }
+        ensures groups { result.groups ≡ 0 }
     {
-        Piece { bytes, groups }
+        Piece {
+            bytes: [0; 64],
+            groups: 0,
+        }
     }
 
     /// Returns the bytes.
@@ -42,6 +52,17 @@ impl Piece {
         ensures { result.now ≡ bytes_of self.now }
     {
         &self.bytes[..3 * self.groups]
+    }
+
+    /// Removes the bytes of the first sixteen groups.
+    #[inline(always)]
+    pub(crate) fn drop_front(&mut self)
+        requires { 16 ≤ self.old.groups }
+        ensures bytes { bytes_of self.new ≡ drop 48 (bytes_of self.old) }
+        ensures groups { self.new.groups + 16 ≡ self.old.groups }
+    {
+        self.bytes.copy_within(48..64, 0);
+        self.groups -= ROOM;
     }
 
     /// Adds the bytes of a group.
@@ -56,20 +77,24 @@ impl Piece {
         self.groups += 1;
     }
 
-    /// Adds whole groups that a text begins with, as far as there is room: those of a row of sixteen bytes, or one group.
-    /// Returns how many bytes they take.
+    /// Adds whole groups that a text begins with: those of a row of sixteen bytes, or one group. White space after the
+    /// groups of a row is skipped. Returns how many bytes of the text these take.
     #[inline(always)]
     pub(crate) fn fill(&mut self, text: &[u8]) -> usize
         requires room { self.old.groups < 16 }
         ensures none { result ≡ 0 → self.new.groups ≡ self.old.groups }
         ensures fills { Fills (bytes_of self.old) text.now result (bytes_of self.new) }
     {
-        if text.len() >= 16 && self.groups <= ROOM_FOR_ROW {
+        if text.len() >= 16 {
             let row = row(text, 0);
-            let count = (others(row) as u16).trailing_zeros() as usize / 4;
             put(&mut self.bytes, 3 * self.groups, decode_row(row));
-            self.groups += count;
-            return 4 * count;
+            if are_symbols(row) {
+                self.groups += 4;
+                return 16;
+            }
+            let groups = (others(row) as u16).trailing_zeros() as usize / 4;
+            self.groups += groups;
+            return 4 * groups + spaces_len(&text[4 * groups..]);
         }
         if text.len() < 4
             || !is_symbol(text[0])

@@ -1,12 +1,15 @@
-use Rattle.std.proofs.Common.{[], append-nil, refl, sym, ◌∙◌, ◌+◌, arith}
+use Rattle.std.proofs.Common.{[], append-nil, sym, ◌∙◌, ◌+◌, arith}
 use Rattle.std.proofs.lemmas.Result.{err_from_is_err_and}
 use Rattle.std.specs.Fn.{CalledAt}
-use Rattle.data_url.proofs.forgiving_base64.Steps.{feeds_none, feeds_stop, sound}
-use Rattle.data_url.proofs.forgiving_base64.Holding.{block_reads, flushes_call, reads_called, reads_flushed, reads_none}
+use Rattle.data_url.proofs.forgiving_base64.Steps.{feeds_stop, sound}
+use Rattle.data_url.proofs.forgiving_base64.Holding.{block_reads, flushed_between, reads_called, reads_flushed, reads_none}
 use Rattle.data_url.proofs.forgiving_base64.decode.Decoder.feed_blocks.Goals as goal
 
 pub returns-then-not-is_between_groups-clause-fed : goal.returns-then-not-is_between_groups-clause-fed
-returns-then-not-is_between_groups-clause-fed g c = grind (arith, feeds_none, sound)
+returns-then-not-is_between_groups-clause-fed g c = (
+  omega arith,
+  reads_none (CalledAt g.F.FnMut) (sound c.args.self.now) c.requires.going,
+)
 
 pub loop-at-init : goal.loop-at-init
 loop-at-init g c = grind (arith, reads_none, sound)
@@ -19,7 +22,7 @@ returns-in_err-write-clause-fed g c =
     rw (p.1, p.2) (feeds_stop step c.args.text.now (c.loop-at.at + 64)
     (reads_flushed step c.decode.result (block_reads step c.args.text.now c.loop-at.at c.type_inv.text i.between
     (omega arith) (sym c.if-is_whole.true ∙ c.is_whole.ensures) c.decode.ensures i.reads)
-    (flushes_call step c.decode.result (omega arith) c.in_err-write.ensures.wrote)))
+    c.in_err-write.ensures.wrote))
 
 pub loop-at-preserved : goal.loop-at-preserved
 loop-at-preserved g c =
@@ -29,15 +32,11 @@ loop-at-preserved g c =
     record {
       callable = c.in_ok-write.ensures.callable;
       within = omega arith;
-      between = (w.symbols_stay ∙ i.between.0, w.padding_stays ∙ i.between.1);
+      between = flushed_between step _ _ _ c.decode.result i.between w;
       reads = reads_called step c.decode.result [] (omega arith) (rw (append-nil c.decode.result) (block_reads step
           c.args.text.now c.loop-at.at c.type_inv.text i.between (omega arith)
           (sym c.if-is_whole.true ∙ c.is_whole.ensures) c.decode.ensures i.reads)) w;
     }
 
 pub returns-clause-fed : goal.returns-clause-fed
-returns-clause-fed g c = (
-  c.loop-at.invariant.within,
-  reads_flushed (CalledAt g.F.FnMut) [] c.loop-at.invariant.reads
-      (refl, refl),
-)
+returns-clause-fed g c = (c.loop-at.invariant.within, c.loop-at.invariant.reads)

@@ -1,10 +1,48 @@
-use Rattle.std.proofs.Common.{arith}
-use Rattle.data_url.proofs.forgiving_base64.Steps.{finishes_flushed}
-use Rattle.data_url.proofs.forgiving_base64.decode.Decoder.finish_with.Goals.{in-None, in-Some}
+use Rattle.std.proofs.Common.{arith, inl, inr, length-take}
+use Rattle.std.specs.Fn.{CalledAt}
+use Rattle.data_url.specs.Base64.{decoded}
+use Rattle.data_url.specs.Decoder.{left_over, state_of}
+use Rattle.data_url.specs.Steps.Holding.{Flushes}
+use Rattle.data_url.proofs.forgiving_base64.Padding.{every_list_all}
+use Rattle.data_url.proofs.forgiving_base64.Steps.{decoded_three, decoded_two, finishes_flushed, flushes_nothing}
+use Rattle.data_url.proofs.forgiving_base64.Steps.{finishes_refused, kind_left, valid_ends, valid_left}
+use Rattle.data_url.proofs.forgiving_base64.decode.Decoder.finish_with.Goals.{in-1, in-2, in-3, in_default, in_default-2}
+use Rattle.data_url.proofs.forgiving_base64.decode.Decoder.finish_with.Goals.{then-padding-gt0+else-pending-padding-ne4}
+use Rattle.data_url.proofs.forgiving_base64.decode.Decoder.finish_with.Goals.{else-padding-gt0}
 use Rattle.data_url.proofs.forgiving_base64.decode.Decoder.finish_with.Goals as goal
 
-pub returns-clause-callable : goal.returns-clause-callable
-returns-clause-callable g c = grind (arith, in-None, in-Some)
-
 pub returns-clause-finished : goal.returns-clause-finished
-returns-clause-finished g c = grind (arith, in-None, finishes_flushed, in-Some)
+returns-clause-finished g c =
+    let step = CalledAt g.F.FnMut in
+    let d = state_of c.args.self in
+    let every = every_list_all _ c.args.self.pending_symbols in
+    let size = length-take c.args.self.pending c.args.self.symbols in
+    let valid = valid_ends d.symbols d.padding every (omega (arith, size, c.args.self.few_pending))
+    c.args.self.few_padding in
+    elim c.match-self.branch [
+      | in_default w ↦ grind (arith, every_list_all, length-take, valid_left, kind_left, finishes_refused)
+      | in-2 w ↦
+          let f : Flushes step d (decoded (left_over d)) w.write-answer.result (state_of w.write-answer.new.self) =
+          grind (arith, decoded_two, every_list_all) in
+          rw (w.answer-is, c.into_closure.ensures, w.self-is) (finishes_flushed step d _
+          (valid (omega arith) (elim w.if-padding-gt0.branch [
+            | then-padding-gt0+else-pending-padding-ne4 v ↦ inr (omega arith)
+            | else-padding-gt0 v ↦ inl (omega arith)
+          ])) f)
+      | in-3 w ↦
+          let f : Flushes step d (decoded (left_over d)) w.write-answer-in-3.result
+          (state_of w.write-answer-in-3.new.self) = grind (arith, decoded_three, every_list_all) in
+          rw (w.answer-is, c.into_closure.ensures, w.self-is) (finishes_flushed step d _
+          (valid (omega arith) (elim w.if-padding-gt0.branch [
+            | then-padding-gt0+else-pending-padding-ne4 v ↦ inr (omega arith)
+            | else-padding-gt0 v ↦ inl (omega arith)
+          ])) f)
+      | in_default-2 w ↦
+          let fits = valid (omega arith) (elim w.if-padding-gt0.branch [
+            | then-padding-gt0+else-pending-padding-ne4 v ↦ inr (omega arith)
+            | else-padding-gt0 v ↦ inl (omega arith)
+          ]) in
+          let f = flushes_nothing step d c.args.self.pending every (omega arith) (omega arith) fits in
+          rw (w.answer-is, c.into_closure.ensures, w.self-is) (finishes_flushed step d d fits f)
+      | in-1 w ↦ grind (arith, every_list_all, length-take, valid_left, kind_left, finishes_refused)
+    ]

@@ -2,7 +2,7 @@ use Rattle.std.proofs.Common.{[], get_or, refl, ap, sym, ◌∙◌, arith, lengt
 use Rattle.std.proofs.lemmas.Bool.{ne_eqb}
 use Rattle.std.proofs.lemmas.List.{append-nil, take_more_set}
 use Rattle.data_url.specs.Decoder.{state_of}
-use Rattle.data_url.specs.Steps.Waiting.{bytes_of}
+use Rattle.data_url.specs.Steps.Groups.{bytes_of}
 use Rattle.data_url.proofs.forgiving_base64.Vectors.{space_is}
 use Rattle.data_url.proofs.forgiving_base64.Holding.{gains_one}
 use Rattle.data_url.proofs.forgiving_base64.Steps.{adds_group, adds_kept, adds_pad, adds_space, refuses_after}

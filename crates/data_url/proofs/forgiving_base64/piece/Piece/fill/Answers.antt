@@ -1,36 +1,35 @@
-use Rattle.std.proofs.lemmas.List.{append-nil}
-use lib.Count.{count_trailing_zeros}
-use Rattle.std.proofs.Common.{◌*◌, ◌/◌, ℕ, List, ap, map, sym, ◌∙◌, subst, arith}
+use Rattle.std.proofs.Common.{◌*◌, ◌/◌, arith, drop, length-drop, refl}
+use Rattle.std.proofs.lemmas.List.{append-nil, take_rest}
 use Rattle.data_url.specs.Base64.{groups}
-use Rattle.data_url.specs.Steps.Blocks.{Fills}
-use Rattle.data_url.specs.Steps.Lanes.{value_of}
-use Rattle.data_url.specs.Steps.Waiting.{bytes_of}
-use Rattle.data_url.proofs.forgiving_base64.Groups.{all_before, fill_one, fill_symbols, row_ahead, row_held}
-use Rattle.data_url.proofs.forgiving_base64.Vectors.{row_put}
+use lib.Count.{count_trailing_zeros}
+use Rattle.data_url.proofs.forgiving_base64.Groups.{all_before, fill_one, row_ahead, row_fills, spaces_front}
 use Rattle.data_url.proofs.forgiving_base64.piece.Piece.fill.Goals as goal
 
-pub invariant_of-self-clause-within : goal.invariant_of-self-clause-within
-invariant_of-self-clause-within c = omega (
-  arith,
-  (row_ahead c.args.text.now c.row-row.result c.others.result
-      c.if-text-ge16.true c.row-row.ensures c.others.ensures.mask).0,
-)
-
-pub returns-then-self-le-ROOM_FOR_ROW-clause-fills : goal.returns-then-self-le-ROOM_FOR_ROW-clause-fills
-returns-then-self-le-ROOM_FOR_ROW-clause-fills c =
-    let text = c.args.text.now in
+pub returns-then-are_symbols-clause-fills : goal.returns-then-are_symbols-clause-fills
+returns-then-are_symbols-clause-fills c =
     let old = c.args.self.now in
+    row_fills old.bytes _ _ _ c.args.text.now old.groups 4 0 (omega (arith, old.sized)) c.put.ensures c.decode_row.ensures.bytes c.row-row.ensures
+    (omega arith) c.if-text-ge16.true (omega arith) c.type_inv.text
+    (cc (c.row-row.ensures, c.are_symbols.ensures, c.if-are_symbols.true)) refl
+
+pub overflow_add-result : goal.overflow_add-result
+overflow_add-result c =
+    let m = count_trailing_zeros 16 c.others.result / 4 in
+    omega (arith, c.spaces_len.ensures.within, length-drop (4 * m) c.args.text.now)
+
+pub returns-then-text-ge16-clause-fills : goal.returns-then-text-ge16-clause-fills
+returns-then-text-ge16-clause-fills c =
+    let old = c.args.self.now in
+    let text = c.args.text.now in
     let symbols = count_trailing_zeros 16 c.others.result in
-    let count = symbols / 4 in
+    let m = symbols / 4 in
     let ahead = row_ahead text c.row-row.result c.others.result c.if-text-ge16.true c.row-row.ensures
     c.others.ensures.mask in
-    let all = all_before text (4 * count) symbols (omega arith) ahead.1 in
-    let P : List ℕ → Type 0 = λ l. Fills (bytes_of old) text (4 * count) l in
-    let put = row_put (3 * old.groups) 12 old.bytes c.put.new.bytes c.decode_row.result _ (omega arith) (omega arith)
-    c.put.ensures (c.decode_row.ensures.bytes ∙ ap (λ r. groups (map value_of r)) c.row-row.ensures) in
-    let e = row_held old.bytes c.put.new.bytes _ old.groups count put (omega arith) (omega (arith, ahead.0)) in
-    subst P (sym e) (fill_symbols (bytes_of old) text 16 count (omega arith) (omega (arith, ahead.0)) c.type_inv.text
-    all)
+    row_fills old.bytes _ _ _ c.args.text.now old.groups m c.spaces_len.result (omega (arith, old.sized)) c.put.ensures c.decode_row.ensures.bytes
+    c.row-row.ensures (omega (arith, ahead.0)) c.if-text-ge16.true
+    (omega (arith, ahead.0, c.spaces_len.ensures.within, length-drop (4 * m) text)) c.type_inv.text
+    (all_before text (4 * m) symbols (omega arith) ahead.1)
+    (rw (c.spaces_len.ensures.front, take_rest text (4 * m)) (spaces_front (drop (4 * m) text)))
 
 pub returns-then-text-lt4-clause-fills : goal.returns-then-text-lt4-clause-fills
 unfolding groups

@@ -1,0 +1,25 @@
+-- The complete groups at the start of a text, and their bytes in a piece.
+use Rattle.std.specs.Char.{is_ascii_whitespace}
+use Rattle.std.specs.List.{filter, list_all}
+use Rattle.std.specs.Prelude.{◌%◌, ◌*◌, ◌++◌, ◌||◌, ◌≡◌, ◌≤◌, Bool, IsTrue, List, length, map, take, ℕ}
+use Rattle.data_url.specs.Base64.{groups, is_symbol, symbol_value}
+use Rattle.data_url.specs.declared.forgiving_base64.piece.Piece.{Piece}
+
+abbrev pub is_symbol_or_space : ℕ → Bool
+is_symbol_or_space b = is_symbol b || is_ascii_whitespace b
+
+-- the text has only the symbols of complete groups, and white space
+pub record IsWhole (text : List ℕ) : Type 0 where
+  pub spaced : IsTrue (list_all is_symbol_or_space text)
+  pub whole : length (filter is_symbol text) % 4 ≡ 0
+
+-- the first `taken` bytes of the text are complete groups and white space, and held' is held followed
+-- by the bytes of these groups
+pub record Fills (held text : List ℕ) (taken : ℕ) (held' : List ℕ) : Type 0 where
+  pub within : taken ≤ length text
+  pub whole : IsWhole (take taken text)
+  pub held_are : held' ≡ held ++ groups (map symbol_value (filter is_symbol (take taken text)))
+
+-- the bytes of a piece
+abbrev pub bytes_of : Piece → List ℕ
+bytes_of p = take (3 * p.groups) p.bytes
