@@ -1,11 +1,11 @@
 -- Groups of four symbols, and texts that are fed in two parts.
 use Rattle.std.proofs.Common.{◌≡◌, ℕ, suc, ◌+◌, ◌*◌, ◌≤◌, true, ◌&&◌, ◌||◌, List, [], ◌∷◌, ◌++◌, map, length}
-use Rattle.std.proofs.Common.{get_or, take, drop, Fits, w8, refl, ap, ap₂, sym, ◌∙◌, arith, length-take, length-take-le}
+use Rattle.std.proofs.Common.{get_or, take, drop, Fits, w8, refl, ap, ap₂, arith, length-take, length-take-le}
 use Rattle.std.proofs.Common.{false, min, None, take-add, append_assoc, length-append, ◌/◌}
 use Rattle.std.specs.List.{list_all, prefix_len, filter, list_any}
 use Rattle.std.proofs.lemmas.Bool.{and_parts}
 use Rattle.std.proofs.lemmas.List.{get_or-take, get_or_past, length-map, take-append-drop, take-map}
-use Rattle.std.proofs.lemmas.List.{append-nil, take-take, take_at, take_all, map-append, length-replicate}
+use Rattle.std.proofs.lemmas.List.{append-nil, take-take, take_at, map-append, length-replicate}
 use Rattle.std.proofs.lemmas.List.Elements.{filter-append}
 use Rattle.std.proofs.lemmas.List.Folds.{list_all-append}
 use Rattle.std.proofs.lemmas.List.Sums.{list_all-from_AllPass, prefix_len-le-length, prefix_len_passes}
@@ -15,8 +15,7 @@ use Rattle.data_url.specs.Base64.{decoded, first_fault, left_padding, left_symbo
 use Rattle.std.specs.Char.{is_ascii_whitespace}
 use Rattle.data_url.specs.Steps.Groups.{Fills, is_symbol_or_space}
 use Rattle.data_url.specs.Steps.Lanes.{value_of}
-use lib.Count.{count_trailing_zeros}
-use Rattle.data_url.proofs.forgiving_base64.Vectors.{ahead_is, others_mask, groups_whole, value_is}
+use Rattle.data_url.proofs.forgiving_base64.Vectors.{groups_whole, value_is}
 use Rattle.data_url.proofs.forgiving_base64.Padding.{after_groups-append, after_groups-map}
 use Rattle.data_url.proofs.forgiving_base64.Padding.{before-append, before_none, done_is, every_after, fault-append}
 use Rattle.data_url.proofs.forgiving_base64.Padding.{fault_byte, fault_invalid, fault_none, fault_some, fault_text}
@@ -59,11 +58,6 @@ take_groups m x h =
       take_at (groups front)
           (groups (drop (4 * m) x)) (3 * m) size,
     )
-
--- the groups of a list are those of its items without the ones that are left over
-pub groups_front : (x : List ℕ) → groups (take (4 * (length x / 4)) x) ≡ groups x
-groups_front x = sym (take_groups (length x / 4) x (omega arith))
-    ∙ take_all (3 * (length x / 4)) (groups x) (omega (arith, groups_size x))
 
 -- A text of symbols
 
@@ -159,29 +153,6 @@ fill_one held (p ∷ []) bytes h i j k l e = absurd (omega arith)
 fill_one held (p ∷ q ∷ []) bytes h i j k l e = absurd (omega arith)
 fill_one held (p ∷ q ∷ r ∷ []) bytes h i j k l e = absurd (omega arith)
 fill_one held (p ∷ q ∷ r ∷ s ∷ rest) bytes h i j k l e = grind arith
-
--- The symbols at the start
-
--- the trailing zeros of the mask of the first 16 bytes, among 16 bits, are how many symbols the text begins with
-pub row_ahead : (text row : List ℕ) (mask : ℕ) → 16 ≤ length text → row ≡ take 16 text → mask ≡ others_mask row
-    → (count_trailing_zeros 16 mask ≤ 16) × (list_all is_symbol (take (count_trailing_zeros 16 mask) text) ≡ true)
-row_ahead text row mask long is e =
-    let n = count_trailing_zeros 16 mask in
-    let ahead : n ≡ prefix_len is_symbol (take 16 text) =
-    ahead_is row mask (omega (arith, ap length is, length-take 16 text)) e ∙ ap (prefix_len is_symbol) is in
-    let few : n ≤ 16 = omega (arith, ahead, prefix_len-le-length is_symbol (take 16 text), length-take 16 text) in
-    (few, grind (arith, take-take n 16 text few, list_all-from_AllPass, length-take, get_or-take, prefix_len_passes))
-
--- if q are symbols, so are its first n, and those after them
-pub all_cut : (n : ℕ) (q : List ℕ) → list_all is_symbol q ≡ true
-    → (list_all is_symbol (take n q) ≡ true) × (list_all is_symbol (drop n q) ≡ true)
-all_cut n q h = and_parts (list_all is_symbol (take n q)) (list_all is_symbol (drop n q))
-    (sym (list_all-append is_symbol (take n q) (drop n q)) ∙ ap (list_all is_symbol) (take-append-drop n q) ∙ h)
-
--- if the first n bytes are symbols, so are the first m, where m is at most n
-pub all_before : (block : List ℕ) (m n : ℕ) → m ≤ n → list_all is_symbol (take n block) ≡ true
-    → list_all is_symbol (take m block) ≡ true
-all_before block m n h all = rw (sym (take-take m n block h)) (all_cut m (take n block) all).0
 
 -- A text that is fed in two parts.
 

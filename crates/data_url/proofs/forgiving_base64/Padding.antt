@@ -6,7 +6,7 @@ use Rattle.std.proofs.lemmas.List.{length-map, drop-map, append-nil, get_or_at, 
 use Rattle.std.specs.List.{filter, find, list_any, range_with_len, list_all}
 use Rattle.std.proofs.lemmas.List.Folds.{list_any-append}
 use Rattle.std.proofs.lemmas.Bool.{cases_Bool, false≢true, eqb-true}
-use Rattle.std.proofs.lemmas.Bool.{and_from, false_from_ne_true, agree_below_at, and_parts}
+use Rattle.std.proofs.lemmas.Bool.{false_from_ne_true, agree_below_at, and_parts}
 use Rattle.data_url.specs.Base64.{before_place, first_fault, is_fault, is_symbol, is_valid, without_padding}
 use Rattle.data_url.specs.Base64.{without_last_padding, Kind, after_groups, without_whitespace, complete_bytes, groups}
 use Rattle.data_url.specs.Base64.{kind_at, kind_of, values}
@@ -338,11 +338,6 @@ last_pad [] (suc (suc n)) h = ap (λ (x : List ℕ). 61 ∷ x) (last_pad [] (suc
 last_pad (a ∷ []) zero h = grind (arith, false≢true)
 last_pad (a ∷ []) (suc n) h = ap (λ x. a ∷ x) (last_pad [] (suc n) tt)
 last_pad (a ∷ b ∷ t) p h = ap (λ x. a ∷ x) (last_pad (b ∷ t) p h.1)
-
--- if every byte is a symbol, `list_all is_symbol` is true
-pub list_all_every : (q : List ℕ) → Every is_symbol q → list_all is_symbol q ≡ true
-list_all_every [] h = refl
-list_all_every (a ∷ t) h = grind (arith, list_all_every t h.1, and_from)
 
 -- symbols and p times '=' are all symbols exactly if p is zero
 list_all_text : (q : List ℕ) (p : ℕ) → Every is_symbol q → list_all is_symbol (q ++ replicate p 61) ≡ eqb p 0

@@ -1,24 +1,22 @@
 -- Blocks of 64 symbols in vectors. For `blocks.rt` and `lanes.rt`.
-use Rattle.std.proofs.Common.{◌≡◌, ℕ, ◌<◌, ltb, true, cond, eqb, get_or, refl, sym, ◌∙◌, arith, suc, zero, ◌+◌, ◌*◌}
+use Rattle.std.proofs.Common.{drop-drop, ◌≡◌, ℕ, ◌<◌, ltb, true, cond, eqb, get_or, refl, sym, ◌∙◌, arith, suc, zero, ◌+◌, ◌*◌}
 use Rattle.std.proofs.Common.{◌/◌, ◌%◌, ◌^◌, Bool, not, List, [], ◌∷◌, ◌++◌, map, length, take, Fits, w8, ap, ap₂}
 use Rattle.std.proofs.Common.{subst, ◌≤◌, ◌&&◌, drop, bit_or, append_assoc, length-take-le, length-drop, take-add}
 use Rattle.std.proofs.lemmas.Bool.{agree_below_at, cond-true, eqb-true, ltb-true, cases_eq, ne_eqb}
 use Rattle.std.specs.Char.{is_ascii_whitespace as std_whitespace, is_ascii_whitespace}
 use Rattle.data_url.specs.Base64.{is_symbol, symbol_value, group_bytes, group_number, groups, after_groups}
 use Rattle.data_url.specs.declared.forgiving_base64.alphabet.TheConstants.{NO_SYMBOL, VALUES}
-use Rattle.std.specs.List.{range_with_len, list_all, prefix_len}
+use Rattle.std.specs.List.{range_with_len, list_all}
 use Rattle.std.proofs.lemmas.List.{ext_get_or, get_or-map, length-map, map-append, take_all, nil_from_length}
 use Rattle.std.proofs.lemmas.Nat.{and_le_r, and_le_l, or_lt}
 use Rattle.std.proofs.lemmas.Simd.{Each1-get_or, SwzOk, SwzOk-from_below, get_or_narrower, get_or-swz_l_below}
-use Rattle.std.proofs.lemmas.Simd.{length-swz_l, pick_l_whole, swz_l, bitmask_splat, chunk-fits, leading_from_mask_l}
-use Rattle.std.proofs.lemmas.Simd.{length-zip2, map-map, mask_l-lt, trailing_mask_l, zip2_of_maps}
+use Rattle.std.proofs.lemmas.Simd.{length-swz_l, pick_l_whole, swz_l, bitmask_splat, chunk-fits}
+use Rattle.std.proofs.lemmas.Simd.{length-zip2, map-map, mask_l-lt, zip2_of_maps}
 use lib.Lanes.{Each1, digits_l, fold_l, number_l, pair_sums, pick_l, products, sel_l, zip2, mask_l, top}
-use Rattle.std.proofs.Math.Bool.{and-true, and_assoc, not-not}
+use Rattle.std.proofs.Math.Bool.{and-true, and_assoc}
 use Rattle.data_url.specs.Steps.Lanes.{mark_of, numbers, value_of}
 use Rattle.std.proofs.lemmas.List.Folds.{list_all-append}
-use Rattle.std.proofs.Math.Nat.{pow-succ'}
 use lib.Bits.{or_add_and}
-use lib.Count.{count_trailing_zeros}
 use Rattle.data_url.proofs.forgiving_base64.Padding.{groups-append, length-after_groups}
 
 -- The table of symbols is the alphabet.
@@ -236,15 +234,6 @@ split_block text = take-add 48 16 text ∙ ap (λ x. x ++ take 16 (drop 48 text)
 
 -- The mask of a row
 
--- 2 ^ (n + 1) * m is twice 2 ^ n * m
-pow_more : (n m : ℕ) → 2 ^ suc n * m ≡ 2 * (2 ^ n * m)
-pow_more n m = rw (pow-succ' 2 n) (omega arith)
-
--- the mask of a ++ b is that of a and, above its bits, that of b
-pub mask_l-append : (a b : List Bool) → mask_l (a ++ b) ≡ mask_l a + 2 ^ length a * mask_l b
-mask_l-append [] b = omega arith
-mask_l-append (x ∷ a) b = omega (arith, mask_l-append a b, pow_more (length a) (mask_l b))
-
 -- the mask of the bytes that are no symbols
 abbrev pub others_mask : List ℕ → ℕ
 others_mask v = mask_l (map is_other v)
@@ -253,21 +242,27 @@ others_mask v = mask_l (map is_other v)
 pub mask_lt : (v : List ℕ) → length v ≡ 16 → others_mask v < 65536
 mask_lt v long = grind (arith, length-map, mask_l-lt)
 
--- negating a test twice does not change how long the longest prefix that passes is
-prefix_not_not : (p : ℕ → Bool) (xs : List ℕ) → prefix_len (λ x. not (not (p x))) xs ≡ prefix_len p xs
-prefix_not_not p [] = refl
-prefix_not_not p (x ∷ xs) = grind (arith, prefix_not_not p xs, not-not)
+-- if the mask is a multiple of 16, its first four bytes are symbols, and the rest of it is the mask of the bytes after them
+group_mask : (v : List ℕ) → 4 ≤ length v → others_mask v % 16 ≡ 0
+    → (list_all is_symbol (take 4 v) ≡ true) × (others_mask v / 16 ≡ others_mask (drop 4 v))
+group_mask [] h e = absurd (omega arith)
+group_mask (a ∷ []) h e = absurd (omega arith)
+group_mask (a ∷ b ∷ []) h e = absurd (omega arith)
+group_mask (a ∷ b ∷ c ∷ []) h e = absurd (omega arith)
+group_mask (a ∷ b ∷ c ∷ d ∷ v) h e = grind arith
 
--- zero has 16 trailing zeros among 16 bits
-no_bit : count_trailing_zeros 16 0 ≡ 16
-unfolding count_trailing_zeros
-no_bit = refl
-
--- the trailing zeros of the mask of 16 bytes, among 16 bits, are as many as there are symbols at the start
-pub ahead_is : (v : List ℕ) (mask : ℕ) → length v ≡ 16 → mask ≡ others_mask v
-    → count_trailing_zeros 16 mask ≡ prefix_len is_symbol v
-ahead_is v zero long e = no_bit ∙ sym long ∙ sym (leading_from_mask_l is_other v (sym e)) ∙ prefix_not_not is_symbol v
-ahead_is v (suc mask) long e = grind (arith, trailing_mask_l, prefix_not_not)
+-- one more group of symbols, and the mask of the bytes after it
+pub next_group : (v : List ℕ) (g : ℕ) → length v ≡ 16 → g < 4 → others_mask (drop (4 * g) v) % 16 ≡ 0
+    → list_all is_symbol (take (4 * g) v) ≡ true
+    → (list_all is_symbol (take (4 * (g + 1)) v) ≡ true)
+    × (others_mask (drop (4 * g) v) / 16 ≡ others_mask (drop (4 * (g + 1)) v))
+next_group v g long few zeros all =
+    let p = group_mask (drop (4 * g) v) (omega (arith, length-drop (4 * g) v)) zeros in
+    let next : 4 * (g + 1) ≡ 4 * g + 4 = omega arith in
+    rw next (
+      cc (take-add (4 * g) 4 v, list_all-append is_symbol (take (4 * g) v) (take 4 (drop (4 * g) v)), all, p.0),
+      cc (p.1, drop-drop 4 (4 * g) v),
+    )
 
 -- No mark in four rows
 

@@ -1,6 +1,6 @@
 //! Blocks of 64 bytes of a text of base64 (RFC 4648, section 4), as four rows of sixteen.
 
-ghost use Rattle.std.specs.Prelude.{◌≡◌, ◌+◌, ◌<◌, ◌≤◌, ◌++◌, drop, length, map, not, take};
+ghost use Rattle.std.specs.Prelude.{◌≡◌, ◌*◌, ◌+◌, IsTrue, ◌<◌, ◌≤◌, ◌++◌, drop, length, map, not, take};
 ghost use Rattle.std.specs.List.{list_all, prefix_len};
 ghost use Rattle.std.specs.Simd.Lanes.{mask_l};
 ghost use Rattle.data_url.specs.Base64.{groups, is_symbol};
@@ -31,11 +31,27 @@ pub(crate) fn is_whole(text: &[u8]) -> bool
 
 /// A bit for each byte of a row, which is set if the byte is not a symbol.
 #[inline(always)]
-pub(crate) fn others(bytes: u8x16) -> u64
+fn others(bytes: u8x16) -> u64
     ensures few { result < 65536 }
     ensures mask { result ≡ mask_l (map (λ b. not (is_symbol b)) bytes) }
 {
     marks_of(bytes).simd_ne(u8x16::splat(0)).to_bitmask()
+}
+
+/// Returns how many whole groups of symbols a row begins with. They are counted one by one: a processor then goes on with
+/// the text after them before the count is known.
+#[inline(always)]
+pub(crate) fn groups_ahead(bytes: u8x16) -> usize
+    ensures few { result ≤ 4 }
+    ensures symbols { IsTrue (list_all is_symbol (take (4 * result) bytes)) }
+{
+    let mut rest = others(bytes);
+    let mut groups = 0;
+    while groups < 4 && rest % 16 == 0 {
+        rest /= 16;
+        groups += 1;
+    }
+    groups
 }
 
 /// Writes a row at a place.

@@ -6,7 +6,7 @@ ghost use Rattle.std.specs.List.{list_all, prefix_len};
 ghost use Rattle.data_url.specs.Base64.{is_symbol};
 
 use super::alphabet::{are_symbols, decode_row, group_of, is_symbol};
-use super::blocks::{others, put, row};
+use super::blocks::{groups_ahead, put, row};
 
 /// How many groups the closure is called with together: as many as a block of 64 symbols has.
 pub(crate) const ROOM: usize = 16;
@@ -92,7 +92,7 @@ impl Piece {
                 self.groups += 4;
                 return 16;
             }
-            let groups = (others(row) as u16).trailing_zeros() as usize / 4;
+            let groups = groups_ahead(row);
             self.groups += groups;
             return 4 * groups + spaces_len(&text[4 * groups..]);
         }
