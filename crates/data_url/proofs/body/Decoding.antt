@@ -1,13 +1,11 @@
 -- A closure or a decoder that gets a body piece by piece. For `decode_pieces`, `decode_body` and its callers.
-use Rattle.std.proofs.lemmas.List.{nil_from_length}
+use Rattle.std.proofs.lemmas.List.{nil_from_length, append-nil, length-map}
 use Rattle.std.proofs.Common.{◌<◌, ◌≡◌, ℕ, ◌+◌, ◌≤◌, List, [], ◌∷◌, ◌++◌, Bor, length, Option, None, Some, Result, Ok}
-use Rattle.std.proofs.Common.{Err}
-use Rattle.std.proofs.Common.{refl, sym, ap, ◌∙◌, subst, append_assoc, arith, length-append, suc, Bool, true, false}
-use Rattle.std.proofs.Common.{cond, ◌*◌, min, filter, length-drop, length-take}
+use Rattle.std.proofs.Common.{Err, refl, sym, ap, ◌∙◌, subst, append_assoc, arith, length-append, suc, Bool, true}
+use Rattle.std.proofs.Common.{false, cond, ◌*◌, min, filter, length-drop, length-take}
 use Rattle.std.specs.Prelude.{MatchOption, MatchResult, ◌==◌, MatchBool, IsErr}
 use Rattle.std.specs.Fn.{CalledAt, Mut, always_mut}
 use denote.Param.Always.{mut_next}
-use Rattle.std.proofs.lemmas.List.{append-nil, length-map}
 use Rattle.data_url.specs.Errors.{IsRefused}
 use Rattle.data_url.specs.Run.{Call, IsRun, joined_pieces, refusal, IsPrefix}
 use Rattle.std.specs.Option.{option_or}
@@ -32,17 +30,12 @@ use Rattle.data_url.proofs.forgiving_base64.Steps.{feeds_err, feeds_then}
 use Rattle.data_url.proofs.forgiving_base64.WholeTexts.{decodes_finished, decodes_refused, fed_nothing, run_keeps}
 use Rattle.data_url.proofs.forgiving_base64.WholeTexts.{run_reads}
 use Rattle.data_url.specs.declared.DataUrl.{DataUrl}
-use Rattle.data_url.proofs.forgiving_base64.Groups.{groups_length}
-use Rattle.data_url.proofs.forgiving_base64.Groups.{filter_length}
-
--- A closure that is called with a body, chunk by chunk.
+use Rattle.data_url.proofs.forgiving_base64.Groups.{groups_length, filter_length}
 
 -- if the next of a walk is `Some bytes`, these are the next bytes of its body
 pub takes_next : {w w' : Walk} {given : Option (Bor (List ℕ))} {bytes : Bor (List ℕ)} → GivesBytes w given w'
     → given ≡ Some bytes → Takes w bytes.now w'
 takes_next {w} {w'} h e = grind arith
-
--- The runs
 
 -- an option, or else `None`, is the option
 or_none : {A : Type 0} (o : Option A) → option_or o None ≡ o
@@ -101,8 +94,6 @@ module _ {F E : Type 0} (step : F → List ℕ → Result (Unit {0}) E → F →
       → TakesBody step f text (Err e) g
   took_refused {f} {g} {text} {w} {e} k = grind arith
 
--- A body is not longer than its tail
-
 -- a text without tabs and newlines is not longer than the text
 dropped_shorter : (s : List ℕ) → length (without_tabs_and_newlines s) ≤ length s
 unfolding without_tabs_and_newlines
@@ -132,8 +123,6 @@ percent_shorter (a ∷ b ∷ c ∷ s) =
 pub body_shorter : (tail : List ℕ) → length (plain_body tail) ≤ length tail
 unfolding plain_body front
 body_shorter tail = grind (arith, percent_shorter, before_shorter, dropped_shorter)
-
--- The result of decoding a whole text is the outcome
 
 -- the result, with the place as its value if it is `Ok`
 abbrev at_place : {E : Type 0} → ℕ → Result (Unit {0}) (DecodeError E) → Result ℕ (DecodeError E)
@@ -166,10 +155,6 @@ module _ {F E : Type 0} (step : F → List ℕ → Result (Unit {0}) E → F →
       → Decodes step f (length text + 1) (outcome true (plain_body text)) (IsBodyEnd text) (at_place place r) g
   unfolding outcome
   outcome_of {f} {g} {text} {u} place r e d b = grind (arith, body_shorter)
-
--- What is true of a closure's state after a run, from what each of its calls does to that state.
-
--- Runs
 
 module _ {F E : Type 0} (step : F → List ℕ → Result (Unit {0}) E → F → Type 0)
     (kept : List ℕ → F → Type 0) (stopped : List ℕ → E → F → Type 0)
@@ -221,8 +206,6 @@ pub run_preserves : {F E : Type 0} (step : F → List ℕ → Result (Unit {0}) 
     → ((p : F) (piece : List ℕ) (q : F) → K p → step p piece (Ok tt) q → K q)
     → (cs : List (Call F E)) (f g : F) → IsRun step f cs g → refusal cs ≡ None → K f → K g
 run_preserves step K keeps cs f g ran n k = run_kept step cs f g ran n (λ bytes. K) (λ bytes. keeps) k
-
--- The closure that is called with a body
 
 -- a closure that can always be called can be called until it returns an error
 pub until_error : {F E : Type 0} (closure : Mut F (Bor (List ℕ) × Unit {0}) (Result (Unit {0}) E)) (f : F)
@@ -296,8 +279,6 @@ module _ {C F E : Type 0} {outer : C → List ℕ → Result (Unit {0}) (DecodeE
       subst D (mapped place p q m)
       (outcome_of step place p (sym t.gave.2) (decodes_finished step refl k ended) (λ _. t.gave.0))
 
--- Measures
-
 -- if each call that succeeds extends a measure by its piece, a run without an error extends it by all its bytes
 pub run_extends : {F E : Type 0} (step : F → List ℕ → Result (Unit {0}) E → F → Type 0) (cs : List (Call F E)) (f g : F)
     → IsRun step f cs g → refusal cs ≡ None → (measure : F → List ℕ)
@@ -324,8 +305,6 @@ pub run_counts_up_to : {F E : Type 0} (step : F → List ℕ → Result (Unit {0
 run_counts_up_to step cs f g most ran n count few adds =
     run_kept step cs f g ran n (λ bytes p. count p ≡ min (count f + length bytes) most)
     (λ bytes p piece q k s. omega (arith, adds p piece q s, k, length-append bytes piece)) (omega arith)
-
--- Bodies
 
 -- how decoding a body ended, with what is then true of the closure and the bytes that it was called with
 abbrev pub EndsWith : {F E A : Type 0} → (List ℕ → F → Type 0) → (List ℕ → E → F → Type 0) → Outcome → (A → Type 0) → F
@@ -425,8 +404,6 @@ body_extends {f = f} d e measure accepts refuses =
     let h = refuses p piece e q s in
     (bytes ++ h.0, prefix_after bytes h.0 piece h.1, h.2 ∙ ap (λ x. x ++ h.0) k ∙ append_assoc (measure f) bytes h.0))
     (sym (append-nil (measure f)))
-
--- How long a body is
 
 -- the symbols of a text have at most as many values as the text has bytes
 values_shorter : (s : List ℕ) → length (values s) ≤ length s

@@ -16,8 +16,6 @@ use Rattle.data_url.specs.declared.escapes.digits.TheConstants.{DIGITS}
 use Rattle.data_url.proofs.texts.Bytes.{before_nil, before_other, before_same, after_other, dropped_keeps, dropped_nil}
 use Rattle.data_url.proofs.texts.Bytes.{dropped_passes}
 
--- Codes
-
 -- a test by whether a byte is a tab or newline, or a digit of some value, tells what its code says
 by_test : (tab hex : Bool) (value code : ℕ)
     → cond tab (eqb code 16) (cond hex (eqb value code && ltb code 16) (ltb 16 code)) ≡ true
@@ -45,8 +43,6 @@ hex_other : (b : ℕ) → is_ascii_hexdigit b ≡ true → (is_tab_or_newline b 
     × (not (b == 37) ≡ true)
 hex_other b h = grind arith
 
--- Cleaned texts, by their first byte
-
 -- the empty text
 pub cleaned_nil : cleaned [] ≡ []
 unfolding front
@@ -66,8 +62,6 @@ pub cleaned_keeps : (b : ℕ) (s : List ℕ) → is_tab_or_newline b ≡ false �
     → cleaned (b ∷ s) ≡ b ∷ cleaned s
 unfolding front
 cleaned_keeps b s t h = grind (arith, dropped_keeps, before_other)
-
--- What is skipped
 
 -- from one index on there is the same as from another one on, but for tabs and newlines
 record Same (text : List ℕ) (from to : ℕ) : Type 0 where

@@ -24,8 +24,6 @@ use Rattle.data_url.specs.declared.escapes.source.Source.{Source}
 use Rattle.data_url.specs.declared.escapes.stops.Block.{Block}
 use Rattle.data_url.proofs.escapes.Reading.{paid_on}
 
--- Blocks of a text: their marks, and stretches that are copied into a buffer.
-
 -- a block of 64 bytes of the text, copied into a buffer of 256 bytes, leaves its first `width` bytes there
 pub copied_wide : (room bytes text : List ℕ) (len width start : ℕ) → length room ≡ 256 → len + 64 ≤ 256 → width ≤ 64
     → start + 64 ≤ length text → bytes ≡ text

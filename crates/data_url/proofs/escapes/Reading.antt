@@ -19,8 +19,6 @@ use Rattle.data_url.proofs.escapes.Hexadecimal.{cleaned_hash, cleaned_keeps, cle
 use Rattle.data_url.proofs.percent.Encoding.{decoded_escape}
 use Rattle.data_url.proofs.texts.Bytes.{after_other}
 
--- The body
-
 -- a body is the percent-decoded cleaned tail
 plain_is : (s : List ℕ) → plain_body s ≡ percent_decoding (cleaned s)
 unfolding plain_body
@@ -76,8 +74,6 @@ escape_ends {text} {place} {value} {end} l e =
     let m : s ≡ get_or text place 0 ∷ drop (place + 1) text = drop_more text place 0 l in
     rw m (slice_ends _ _ (ap (λ t. begins_with_escape (without_tabs_and_newlines t)) (sym m)
     ∙ ap begins_with_escape is ∙ cc (e.high_hex, e.low_hex)))
-
--- Reads
 
 -- from an index to itself nothing is read
 pub spells_none : (text : List ℕ) (place : ℕ) → place ≤ length text → Spells text place place [] []
@@ -140,8 +136,6 @@ pub spells_clear : (text : List ℕ) (from to : ℕ) → from ≤ to → to ≤ 
     → Spells text from to (slice_range text from to) (slice_range text from to)
 spells_clear text from to l w h = grind (arith, clear_for text from (to - from))
 
--- The bound on the bytes read
-
 -- k bytes have at most one more byte before the next '%' for each of them
 percent_drop : (k : ℕ) (s : List ℕ) → before_percent s ≤ k + before_percent (drop k s)
 percent_drop zero s = omega arith
@@ -161,8 +155,6 @@ paid_le text place p = grind (arith, prefix_len-le-length, length-drop)
 paid_percent : (text : List ℕ) (place : ℕ) → place < length text → get_or text place 0 ≡ 37
     → paid text place ≡ 2 * place
 paid_percent text place l h = grind (arith, prefix_len-drop_no)
-
--- Stops
 
 -- a '%' without an escape stays, and pays for the bytes that were read after it
 pub stop_percent : {text : List ℕ} {place looks looks' : ℕ} → place < length text → get_or text place 0 ≡ 37

@@ -28,8 +28,6 @@ use Rattle.data_url.specs.declared.escapes.source.Source.{Source}
 use Rattle.data_url.specs.declared.escapes.stops.Block.{Block}
 use Rattle.data_url.proofs.runs.Runs.{none_or_some}
 
--- Ranges of a text
-
 -- a range, and then the text after it, is the text from the start of the range on
 slice_rest : (text : List ℕ) (a b : ℕ) → a ≤ b → slice_range text a b ++ drop b text ≡ drop a text
 slice_rest text a b l = grind (arith, drop-drop (b - a) a text, take-append-drop (b - a) (drop a text))
@@ -77,8 +75,6 @@ in_front : {s : List ℕ} → after 35 s ≡ None → front s ≡ s
 unfolding front
 in_front {s} h = before_all 35 s h
 
--- Searching
-
 -- a stretch goes on up to the next mark
 pub searching_clear : {text : List ℕ} {from place to mark : ℕ} → Searching text from place to → IsNextMark text to mark
     → Searching text from place mark
@@ -95,8 +91,6 @@ searching_percent {text} {from} {place} {mark} s h p =
     let within = p.reads.within in
     let more = spells_then s.stretch p in
     grind (arith, slice_join text place mark (mark + 1) (omega arith) (omega arith), drop_more)
-
--- Pieces
 
 -- the stretch, with what is skipped before and after it, is a piece
 pub slice_part : {text bytes : List ℕ} {from place mark next : ℕ} → Searching text from place mark → place < mark
@@ -119,8 +113,6 @@ byte_part {text} {from} {place} {value} {end} s q =
         ends = q.ends;
       };
     }
-
--- Walks
 
 -- the walk can go on after what it read
 pub looking_paid : {s s' : Source} {b : Block} {mark to more : ℕ} → Looking s b mark 0 → s'.text.now ≡ s.text.now
@@ -280,8 +272,6 @@ pub smaller : (c0 : Cursor) {c1 c' : Cursor} {room room' : List ℕ} {len len' :
     → c1.place ≡ c0.place → length (text_of c1) ≡ total → Moves c1 c' → Gathers c1 c' room room' len len'
     → measure total c'.place (has_ended c'.ahead) < measure total c0.place (has_ended c0.ahead)
 smaller c0 {c1} {c'} {room} {room'} {len} {len'} total u p t m g = grind arith
-
--- The contract of a walk
 
 -- where a walk has ended, nothing of the body is left
 pub rest_over : {c : Cursor} → Knows c → has_ended c.ahead ≡ true → plain_body (drop c.place (text_of c)) ≡ []

@@ -50,8 +50,6 @@ joined_pieces-append [] ys = refl
 joined_pieces-append (c ∷ cs) ys = ap (λ x. c.piece ++ x) (joined_pieces-append cs ys)
     ∙ sym (append_assoc c.piece (joined_pieces cs) (joined_pieces ys))
 
--- Cases of an option
-
 -- an option is `None`, or `Some` of a value
 pub none_or_some : {A : Type 0} (o : Option A) → (o ≡ None) ⊎ ((x : A) × (o ≡ Some x))
 none_or_some None = inl refl
@@ -91,8 +89,6 @@ match_map (Some x) P P' Q Q' f g h = g x h
 pub match_at : {A : Type 0} (o o' : Option A) (P : Type 0) (Q : A → Type 0) → o' ≡ o → MatchOption o P Q
     → MatchOption o' P Q
 match_at {A = A} o o' P Q e h = let M : Option A → Type 0 = λ z. MatchOption z P Q in subst M (sym e) h
-
--- Prefixes
 
 -- the empty text is a prefix of each text
 pub prefix_none : (xs : List ℕ) → IsPrefix [] xs

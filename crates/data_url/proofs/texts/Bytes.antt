@@ -6,8 +6,6 @@ use Rattle.std.proofs.lemmas.Bool.{cases_Bool, cond-true, cond-false}
 use Rattle.std.specs.Option.{option_map}
 use Rattle.data_url.specs.Url.{before, after, without_tabs_and_newlines, fragment, is_tab_or_newline}
 
--- one byte on
-
 -- a text that begins with c has no bytes before its first c
 pub before_same : (c : ℕ) (s : List ℕ) → before c (c ∷ s) ≡ []
 unfolding before
@@ -97,8 +95,6 @@ is_cut c (b ∷ s) rest h =
 pub after_none : (c : ℕ) (s : List ℕ) → ((k : ℕ) → k < length s → (get_or s k 0 == c) ≡ false) → after c s ≡ None
 after_none c [] h = after_nil c
 after_none c (b ∷ s) h = after_other c b s (h 0 (omega arith)) ∙ after_none c s (λ k l. h (suc k) (omega arith))
-
--- Dropping
 
 -- the empty text without tabs and newlines is empty
 pub dropped_nil : without_tabs_and_newlines [] ≡ []
