@@ -227,4 +227,4 @@ digit_further {text} {same} {place} {looks'} looks looks'' None e l code n h = g
 digit_further {text} {same} {place} {looks'} looks looks'' (Some d) e l code n h = grind arith
 
 -- the lemmas for `digit`, `escape` and `escape_here`
-pub ruleset digits = (digit_further, escape_no_high, le_or_l, le_or_r)
+pub ruleset digits = (is_code, digit_further, escape_no_high, escape_no_low, escape_both, escape_at, le_or_l, le_or_r)

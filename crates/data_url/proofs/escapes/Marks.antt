@@ -22,7 +22,7 @@ use Rattle.std.specs.Int.Count.{count_trailing_zeros}
 use Rattle.data_url.specs.Steps.Walk.{IsBlock, IsClear, IsNextMark, Looking}
 use Rattle.data_url.specs.declared.escapes.source.Source.{Source}
 use Rattle.data_url.specs.declared.escapes.stops.Block.{Block}
-use Rattle.data_url.proofs.escapes.Reading.{paid_on}
+use Rattle.data_url.proofs.escapes.Reading.{paid_on, stop_escape, stop_hash, stop_passed, stop_percent}
 
 -- a block of 64 bytes of the text, copied into a buffer of 256 bytes, leaves its first `width` bytes there
 pub copied_wide : (room bytes text : List ℕ) (len width start : ℕ) → length room ≡ 256 → len + 64 ≤ 256 → width ≤ 64
@@ -213,3 +213,19 @@ found_none {text} {place} {seen} {marks} h e = grind (arith, none_from_empty_mas
 pub looking_on : {s : Source} {b : Block} {place more : ℕ} (to : ℕ) → Looking s b place more → place ≤ to
     → to ≤ length s.text.now → Looking s b to more
 looking_on {s} {b} {place} {more} to k l w = let p = paid_on s.text.now place to l in grind arith
+
+-- the lemmas for `mark_from`, `next_mark` and `stop_at`
+pub ruleset stops = (
+  block_from,
+  found,
+  found_none,
+  looking_block,
+  looking_on,
+  stop_escape,
+  stop_hash,
+  stop_passed,
+  stop_percent,
+)
+
+-- the lemmas for `marks_of`
+pub ruleset lanes = (lows_ok, marks_are)

@@ -20,7 +20,7 @@ use Rattle.data_url.proofs.texts.Bytes.{after_other, after_same, lacks, dropped_
 use Rattle.data_url.proofs.texts.Bytes.{without_tabs_and_newlines-append}
 use Rattle.std.proofs.Math.Seq.{take-append-add}
 use Rattle.std.proofs.lemmas.Grind.{flat_map-append}
-use Rattle.std.proofs.lemmas.List.{nil_from_length, take_more, length-take-le, take-take}
+use Rattle.std.proofs.lemmas.List.{nil_from_length, take_all, take_more, length-take-le, take-take}
 use Rattle.std.proofs.lemmas.Str.{IsAscii-append, IsUtf8-from_ascii}
 use Rattle.std.proofs.lemmas.Str.Ascii.{IsAscii-nil}
 use Rattle.data_url.specs.declared.percent.EncodeSet.TheVariants.{Fragment, Path, Query}
@@ -325,9 +325,6 @@ percent_encoding-append p s t = flat_map-append (encoded_byte p) s t
 pub encoded-append : (p : ℕ → Bool) (s t : List ℕ) → encoded p (s ++ t) ≡ encoded p s ++ encoded p t
 encoded-append p s t = grind (arith, without_tabs_and_newlines-append, percent_encoding-append)
 
--- the lemmas that join the encodings of parts
-pub ruleset parts = (append_assoc, append-nil, encoded-append, encoded_empty, nil_from_length)
-
 -- if each byte is written as it is, the whole text is
 pub kept_whole : (p : ℕ → Bool) (s : List ℕ)
     → ((k : ℕ) → k < length s → byte_encoding p (get_or s k 0) ≡ get_or s k 0 ∷ []) → s ≡ encoded p s
@@ -398,3 +395,9 @@ encoded_ascii set (b ∷ s) h = subst IsAscii (sym (written_first (in_set set) b
 pub encoded_text : (set : EncodeSet) (s text : List ℕ) → ((i : ℕ) → get_or s i 0 < 256) → text ≡ encoded (in_set set) s
     → IsUtf8 text
 encoded_text set s text h e = subst IsUtf8 (sym e) (IsUtf8-from_ascii (encoded (in_set set) s) (encoded_ascii set s h))
+
+-- the lemmas for `push_encoded` and what it calls
+pub ruleset parts = (append_assoc, append-nil, encoded-append, encoded_empty, nil_from_length, take_all, kept_whole, put_more, encoded_text)
+
+-- the lemmas for the tables
+pub ruleset rows = (row_by, kept_where)
