@@ -63,6 +63,3 @@ unmarked_passes m p h b l e = sym (ap (λ t. t || p b) e) ∙ agree_below_at (λ
 -- if each byte is marked, a byte without a mark passes any test
 pub all_marked : (m p : ℕ → Bool) → agree_below m (λ _. true) 256 ≡ true → (b : ℕ) → b < 256 → m b ≡ false → p b ≡ true
 all_marked m p h b l e = absurd (false≢true (sym e ∙ agree_below_at m (λ _. true) 256 b h l))
-
--- the lemmas for the lanes
-pub ruleset row_lemmas = (marks_are, row_length, one_row_more)

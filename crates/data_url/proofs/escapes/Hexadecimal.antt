@@ -1,7 +1,7 @@
 -- Hexadecimal digits in a text, after tabs and newlines. For `escape` and `escape_here`.
 use Rattle.std.proofs.Common.{◌≡◌, ℕ, zero, suc, ◌+◌, ◌*◌, ◌-◌, ◌<◌, ◌≤◌, Bool, true, false, not, cond, ◌&&◌, eqb, ltb}
 use Rattle.std.proofs.Common.{List, []}
-use Rattle.std.proofs.Common.{◌∷◌, length, drop, get_or, Option, None, Some, refl, sym, ap, ◌∙◌, arith, eqb-true, subst}
+use Rattle.std.proofs.Common.{◌∷◌, ◌++◌, length, drop, get_or, Option, None, Some, refl, sym, ap, ◌∙◌, arith, eqb-true, subst}
 use Rattle.std.specs.Prelude.{◌==◌}
 use Rattle.std.specs.Char.{digit_value, is_ascii_hexdigit}
 use Rattle.std.proofs.lemmas.Bool.{agree_below_at, and_left, and_right, cases_Bool}
@@ -63,14 +63,14 @@ pub cleaned_keeps : (b : ℕ) (s : List ℕ) → is_tab_or_newline b ≡ false �
 unfolding front
 cleaned_keeps b s t h = grind (arith, dropped_keeps, before_other)
 
--- from one index on there is the same as from another one on, but for tabs and newlines
-record Same (text : List ℕ) (from to : ℕ) : Type 0 where
-  pub raw_is : cleaned (drop from text) ≡ cleaned (drop to text)
+-- from one index on there is `raw`, and then the same as from another one on, but for tabs and newlines
+record Same (text : List ℕ) (from to : ℕ) (raw : List ℕ) : Type 0 where
+  pub raw_is : cleaned (drop from text) ≡ raw ++ cleaned (drop to text)
   pub after_is : after 35 (drop from text) ≡ after 35 (drop to text)
   pub no_percent : before_percent (drop from text) ≡ (to - from) + before_percent (drop to text)
 
 -- n bytes that are skipped
-same_for : (text : List ℕ) (from n : ℕ) → Skipped text from (from + n) → Same text from (from + n)
+same_for : (text : List ℕ) (from n : ℕ) → Skipped text from (from + n) → Same text from (from + n) []
 same_for text from zero h = grind arith
 same_for text from (suc n) h =
     let tab = h.passed from (omega arith) (omega arith) in
@@ -84,43 +84,21 @@ same_for text from (suc n) h =
     grind (arith, drop_more text from 0, cleaned_passes, after_other, prefix_len-drop_yes)
 
 -- tabs and newlines that are skipped
-same : {text : List ℕ} {from to : ℕ} → Skipped text from to → Same text from to
+same : {text : List ℕ} {from to : ℕ} → Skipped text from to → Same text from to []
 same {text} {from} {to} h =
     let forward = h.forward in
     let e : from + (to - from) ≡ to = omega arith in
-    subst (Same text from) e (same_for text from (to - from) (subst (Skipped text from) (sym e) h))
+    subst (λ to. Same text from to []) e (same_for text from (to - from) (subst (Skipped text from) (sym e) h))
 
--- a text that begins with a digit of this value, after tabs and newlines
-record HasDigit (text : List ℕ) (from to value : ℕ) : Type 0 where
-  pub digit : ℕ
-  pub hex : is_ascii_hexdigit digit ≡ true
-  pub value_is : digit_value digit ≡ value
-  pub digit_is : digit ≡ get_or text (to - 1) 0
-  pub raw_is : cleaned (drop from text) ≡ digit ∷ cleaned (drop to text)
-  pub after_is : after 35 (drop from text) ≡ after 35 (drop to text)
-  pub no_percent : before_percent (drop from text) ≡ (to - from) + before_percent (drop to text)
-
--- a digit that is found is one that the text begins with
+-- a digit that is found is what the text begins with, after tabs and newlines
 has_digit : {text : List ℕ} {place looks value end looks' : ℕ} → DigitFound text place looks value end looks'
-    → HasDigit text place end value
+    → Same text place end (get_or text (end - 1) 0 ∷ [])
 has_digit {text} {place} {looks} {value} {end} {looks'} d =
-    let at = end - 1 in
     let some = d.some in
-    let within = d.within in
-    let other = hex_other (get_or text at 0) d.hex in
+    let next : end - 1 + 1 ≡ end = omega arith in
+    let e = drop_more text (end - 1) 0 (omega (arith, d.within)) ∙ ap (λ n. get_or text (end - 1) 0 ∷ drop n text) next in
     let s = same d.skipped in
-    let next : at + 1 ≡ end = omega arith in
-    let e : drop at text ≡ get_or text at 0 ∷ drop end text =
-    drop_more text at 0 (omega arith) ∙ ap (λ n. get_or text at 0 ∷ drop n text) next in
-    record {
-      digit = get_or text at 0;
-      hex = d.hex;
-      value_is = d.value_is;
-      digit_is = refl;
-      raw_is = s.raw_is ∙ ap cleaned e ∙ cleaned_keeps (get_or text at 0) (drop end text) other.0 other.1;
-      after_is = s.after_is ∙ ap (after 35) e ∙ after_other 35 (get_or text at 0) (drop end text) other.1;
-      no_percent = grind (arith, prefix_len-drop_yes);
-    }
+    grind (arith, hex_other, cleaned_keeps, after_other, prefix_len-drop_yes)
 
 -- the text begins with a hexadecimal digit
 abbrev begins_with_digit : List ℕ → Bool
@@ -140,16 +118,14 @@ no_digit {text} {place} {looks} {looks'} n =
     let s = same n.skipped in
     ap begins_with_digit s.raw_is ∙ other_first (drop n.end text) (λ l. grind (arith, get_or-drop, length-drop))
 
--- without a digit after the '%' there is no escape
-no_high : (s : List ℕ) → begins_with_digit s ≡ false → begins_with_escape (37 ∷ s) ≡ false
-no_high [] h = refl
-no_high (b ∷ []) h = refl
-no_high (b ∷ c ∷ s) h = grind (arith, and_left)
-
--- without a second digit there is no escape
-no_low : (b : ℕ) (s : List ℕ) → begins_with_digit s ≡ false → begins_with_escape (37 ∷ b ∷ s) ≡ false
-no_low b [] h = refl
-no_low b (c ∷ s) h = grind (arith, and_right)
+-- a '%' and at most one byte before no digit are no escape
+no_escape : (raw s : List ℕ) → length raw < 2 → begins_with_digit s ≡ false → begins_with_escape (37 ∷ (raw ++ s)) ≡ false
+no_escape [] [] l h = refl
+no_escape [] (b ∷ []) l h = refl
+no_escape [] (b ∷ c ∷ s) l h = grind (arith, and_left)
+no_escape (b ∷ []) [] l h = refl
+no_escape (b ∷ []) (c ∷ s) l h = grind (arith, and_right)
+no_escape (b ∷ c ∷ raw) s l h = absurd (omega arith)
 
 -- a '%', and then the text after it
 percent_first : (text : List ℕ) (place : ℕ) → place < length text → get_or text place 0 ≡ 37
@@ -160,47 +136,42 @@ percent_first text place l h = grind (arith, drop_more text place 0, cleaned_kee
 -- if there is no first digit, there is no escape
 pub escape_no_high : {text : List ℕ} {place looks looks' : ℕ} → place < length text → get_or text place 0 ≡ 37
     → NoDigit text (place + 1) looks looks' → NoEscape text place looks looks'
-escape_no_high {text} {place} {looks} {looks'} l h n = record {
-  none_is = ap begins_with_escape (percent_first text place l h).0
-      ∙ no_high (cleaned (drop (place + 1) text)) (no_digit n);
-  looks_grow = n.looks_grow;
-  looks_are = let s = same n.skipped in grind arith;
-}
+escape_no_high {text} {place} {looks} {looks'} l h n =
+    let s = same n.skipped in
+    let none = no_escape [] (cleaned (drop (place + 1) text)) (omega arith) (no_digit n) in
+    grind (arith, percent_first)
 
 -- if there is no digit after the first one, there is no escape
 pub escape_no_low : {text text' : List ℕ} {place value after looks looks' looks'' : ℕ} → text' ≡ text
     → place < length text → get_or text place 0 ≡ 37 → DigitFound text (place + 1) looks value after looks'
     → NoDigit text' after looks' looks'' → NoEscape text place looks looks''
 escape_no_low {text} {text'} {place} {value} {after} {looks} {looks'} {looks''} e l h d m =
-    let high = has_digit d in
     let n = subst (λ t. NoDigit t after looks' looks'') e m in
-    record {
-      none_is = ap begins_with_escape ((percent_first text place l h).0 ∙ ap (λ s. 37 ∷ s) high.raw_is)
-          ∙ no_low high.digit (cleaned (drop after text)) (no_digit n);
-      looks_grow = grind arith;
-      looks_are = let s = same n.skipped in grind arith;
-    }
+    let high = has_digit d in
+    let s = same n.skipped in
+    let none = no_escape (get_or text (after - 1) 0 ∷ []) (cleaned (drop after text)) (omega arith) (no_digit n) in
+    grind (arith, percent_first)
 
 -- a digit and a digit after it are an escape
 pub escape_both : {text text' : List ℕ} {place high low middle end looks looks' last last' : ℕ} → text' ≡ text
     → place < length text → get_or text place 0 ≡ 37 → DigitFound text (place + 1) looks high middle looks'
     → DigitFound text' middle last low end last' → EscapeAt text place (high * 16 + low) end
 escape_both {text} {text'} {place} {high} {low} {middle} {end} {looks} {looks'} {last} {last'} same_is l h d g =
-    let p = has_digit d in
     let f = subst (λ t. DigitFound t middle last low end last') same_is g in
+    let p = has_digit d in
     let q = has_digit f in
     let percent = percent_first text place l h in
     record {
-      high = p.digit;
-      low = q.digit;
-      high_hex = p.hex;
-      low_hex = q.hex;
-      value_is = let e = p.value_is in let g = q.value_is in omega arith;
-      three = let a = d.some in let b = f.some in omega arith;
+      high = get_or text (middle - 1) 0;
+      low = get_or text (end - 1) 0;
+      high_hex = d.hex;
+      low_hex = f.hex;
+      value_is = omega (arith, d.value_is, f.value_is);
+      three = omega (arith, d.some, f.some);
       within = f.within;
-      raw_is = percent.0 ∙ ap (λ s. 37 ∷ s) (p.raw_is ∙ ap (λ s. p.digit ∷ s) q.raw_is);
+      raw_is = cc (percent.0, p.raw_is, q.raw_is);
       after_is = percent.1 ∙ p.after_is ∙ q.after_is;
-      ends = ap is_ascii_hexdigit (sym q.digit_is) ∙ q.hex;
+      ends = f.hex;
     }
 
 -- a byte whose code is below 16 is a digit
@@ -227,4 +198,4 @@ digit_further {text} {same} {place} {looks'} looks looks'' None e l code n h = g
 digit_further {text} {same} {place} {looks'} looks looks'' (Some d) e l code n h = grind arith
 
 -- the lemmas for `digit`, `escape` and `escape_here`
-pub ruleset digits = (is_code, digit_further, escape_no_high, escape_no_low, escape_both, escape_at, le_or_l, le_or_r)
+pub ruleset digits = (digit_further, escape_no_high, escape_at, le_or_l, le_or_r)

@@ -22,7 +22,7 @@ use Rattle.std.specs.Int.Count.{count_trailing_zeros}
 use Rattle.data_url.specs.Steps.Walk.{IsBlock, IsClear, IsNextMark, Looking}
 use Rattle.data_url.specs.declared.escapes.source.Source.{Source}
 use Rattle.data_url.specs.declared.escapes.stops.Block.{Block}
-use Rattle.data_url.proofs.escapes.Reading.{paid_on, stop_escape, stop_hash, stop_passed, stop_percent}
+use Rattle.data_url.proofs.escapes.Reading.{paid_on}
 
 -- a block of 64 bytes of the text, copied into a buffer of 256 bytes, leaves its first `width` bytes there
 pub copied_wide : (room bytes text : List ℕ) (len width start : ℕ) → length room ≡ 256 → len + 64 ≤ 256 → width ≤ 64
@@ -189,20 +189,14 @@ pub looking_block : {s s' : Source} {b b' : Block} {place : ℕ} → Looking s b
     → s'.looks + place ≡ s.looks + b'.seen → Looking s' b' place 0
 looking_block {s} {s'} {b} {b'} {place} k l t e i n = grind arith
 
+-- how far the items that do not pass go in a chunk
+ruleset runs_in_chunk = (run_in_chunk_le, run_in_chunk_fails, run_in_chunk_stops)
+
 -- if the marks of a block are not 0, their number of trailing zeros is that of the bytes before the next mark
 pub found : {text : List ℕ} {place seen marks : ℕ} (width : ℕ) → IsBlock text place seen marks → marks ≢ 0
     → width ≡ count_trailing_zeros 64 marks → (place + width < seen) × IsNextMark text place (place + width)
 found {text} {place} {seen} {marks} width h n e =
-    grind (
-      arith,
-      length-drop,
-      length-take-le,
-      trailing_mask_l,
-      run_in_chunk_le,
-      mask_none,
-      run_in_chunk_fails,
-      run_in_chunk_stops,
-    )
+    grind (arith, length-drop, length-take-le, trailing_mask_l, mask_none, runs_in_chunk)
 
 -- if the marks of a block are 0, none of its bytes is marked
 pub found_none : {text : List ℕ} {place seen marks : ℕ} → IsBlock text place seen marks → marks ≡ 0
@@ -213,19 +207,3 @@ found_none {text} {place} {seen} {marks} h e = grind (arith, none_from_empty_mas
 pub looking_on : {s : Source} {b : Block} {place more : ℕ} (to : ℕ) → Looking s b place more → place ≤ to
     → to ≤ length s.text.now → Looking s b to more
 looking_on {s} {b} {place} {more} to k l w = let p = paid_on s.text.now place to l in grind arith
-
--- the lemmas for `mark_from`, `next_mark` and `stop_at`
-pub ruleset stops = (
-  block_from,
-  found,
-  found_none,
-  looking_block,
-  looking_on,
-  stop_escape,
-  stop_hash,
-  stop_passed,
-  stop_percent,
-)
-
--- the lemmas for `marks_of`
-pub ruleset lanes = (lows_ok, marks_are)

@@ -4,7 +4,7 @@ use Rattle.std.proofs.Common.{drop, get_or, None, Some, refl, sym, ap, ◌∙◌
 use Rattle.std.proofs.Common.{Bool, ◌≢◌, Option, ◌*◌, cond, set, append_assoc, take-add}
 use Rattle.std.specs.Prelude.{slice_range, IfNone}
 use Rattle.std.proofs.lemmas.List.{drop_more, drop-drop, length-drop, drop_all, append-nil, take_more_set}
-use Rattle.std.proofs.lemmas.List.{length-take-le, append_cancel_right, take-append-drop, take-take, take_all}
+use Rattle.std.proofs.lemmas.List.{length-take-le, append_cancel_right, take-append-drop}
 use Rattle.std.proofs.lemmas.Str.{IsCharBoundary-after_ascii}
 use Rattle.data_url.specs.Fetch.{plain_body}
 use Rattle.data_url.specs.Pieces.{Walk, text_of, IsStretch, bytes_of, has_ended, is_slice_end, walk_of}
@@ -14,7 +14,7 @@ use Rattle.data_url.specs.Steps.Tail.{BeginsFragment, IsBodyEnd, rest_fragment}
 use Rattle.data_url.specs.Steps.Walk.{Ended, EndsAt, Gathers, GoesOn, IsClear, IsNextMark, IsPart, Knows}
 use Rattle.data_url.specs.Steps.Walk.{KnowsAhead, Looking, LooksOn, MayGather, Moves, Pays, Reads, Searching, Spells}
 use Rattle.data_url.specs.Url.{before, after, front, without_tabs_and_newlines}
-use Rattle.data_url.proofs.escapes.Marks.{block_at, copied_wide, looking_on, marks_of_rest}
+use Rattle.data_url.proofs.escapes.Marks.{copied_wide, looking_on, marks_of_rest}
 use Rattle.data_url.proofs.escapes.Reading.{ends_empty, paid_le, paid_on, percent_nil, spells_clear, spells_escape}
 use Rattle.data_url.proofs.escapes.Reading.{spells_none, spells_then}
 use Rattle.data_url.proofs.percent.Encoding.{decoded_escape}
@@ -316,37 +316,17 @@ pub over_next : {c c1 c2 : Cursor} {room0 room : List ℕ} {len : ℕ} → Gathe
     → GoesOn c1 None c2 → Knows c2 → IsOver (walk_of c) (walk_of c2)
 over_next {c} {c1} {c2} g e h k = grind (arith, rest_over)
 
+-- the lemmas for pieces
+pub ruleset stretches = (looking_escape, looking_paid, byte_part, byte_next, goes_part, slice_part, searched, spells_none)
+
+-- the lemmas for the functions that gather bytes
+pub ruleset gathering = (gathers_byte, gathers_nothing, gathers_then, gathers_escape, reads_escape, ended_at, smaller)
+
 -- the lemmas for `Cursor`
-pub ruleset gathering = (
-  gathers_byte,
-  gathers_nothing,
-  gathers_then,
-  gathers_escape,
-  gathers_clear,
-  reads_escape,
-  ended_at,
-  smaller,
-  looking_escape,
-  byte_next,
-  knows_on,
-  ahead_is,
-  takes_next,
-  over_next,
-  slice_part,
-  front_is,
-  front_knows,
-  end_knows,
-  goes_part,
-  byte_part,
-  looking_paid,
-  searched,
-  searching_percent,
-  spells_none,
-  spells_then,
-)
+pub ruleset walks = (stretches, gathering, knows_on, ahead_is, spells_then)
 
 -- the lemmas for `Source`
-pub ruleset sources = (block_at, copied_wide, marks_of_rest, hash_at, drop_all, take_all, take-take, IsCharBoundary-after_ascii)
+pub ruleset sources = (copied_wide, marks_of_rest, hash_at, drop_all, IsCharBoundary-after_ascii)
 
 -- the lemmas for `Pieces`
 pub ruleset walking = (body_end, rest_over, over_rest, again, few_looks)

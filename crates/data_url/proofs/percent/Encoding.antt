@@ -15,7 +15,7 @@ use Rattle.std.specs.Char.{digit_value, is_ascii_hexdigit}
 use Rattle.std.specs.List.{AllByRecursion, list_all}
 use Rattle.data_url.specs.Steps.Header.{header_parts, header_text}
 use Rattle.data_url.specs.Percent.{percent_decoding}
-use Rattle.data_url.proofs.texts.Bytes.{before-append, before_at, before_nil, before_other, before_same, after_nil}
+use Rattle.data_url.proofs.texts.Bytes.{first_byte, before-append, before_at, before_nil, before_other, before_same, after_nil}
 use Rattle.data_url.proofs.texts.Bytes.{after_other, after_same, lacks, dropped_keeps, dropped_nil, dropped_passes}
 use Rattle.data_url.proofs.texts.Bytes.{without_tabs_and_newlines-append}
 use Rattle.std.proofs.Math.Seq.{take-append-add}
@@ -285,18 +285,15 @@ before-serialised (b ∷ h) rest e =
     grind (
       arith,
       before-serialised h rest,
-      lacks,
       cases_Bool,
       eqb-true,
-      serialised_query,
-      before_other,
-      before_encoded,
+      first_byte,
+      before-append,
       before_at,
+      before_encoded,
+      serialised_query,
       header_query,
       serialised_path,
-      before-append,
-      after_nil,
-      after_other,
       same_set,
       header_path,
     )
@@ -397,7 +394,4 @@ pub encoded_text : (set : EncodeSet) (s text : List ℕ) → ((i : ℕ) → get_
 encoded_text set s text h e = subst IsUtf8 (sym e) (IsUtf8-from_ascii (encoded (in_set set) s) (encoded_ascii set s h))
 
 -- the lemmas for `push_encoded` and what it calls
-pub ruleset parts = (append_assoc, append-nil, encoded-append, encoded_empty, nil_from_length, take_all, kept_whole, put_more, encoded_text)
-
--- the lemmas for the tables
-pub ruleset rows = (row_by, kept_where)
+pub ruleset parts = (append_assoc, append-nil, encoded-append, encoded_empty, nil_from_length, take_all)

@@ -1,7 +1,5 @@
 //! Classes of bytes, sixteen bytes at a time.
 
-#![tactic(auto, using(crate::proofs::classes::Rows::row_lemmas))]
-
 ghost use Rattle.std.specs.Prelude.{◌≡◌, ◌+◌, ◌≤◌, drop, length, map, take};
 ghost use Rattle.std.specs.Simd.Lanes.{mask_l};
 ghost use Rattle.data_url.specs.Steps.Classes.{AreOf, is_marked};

@@ -1,6 +1,6 @@
 //! The walk over the text of a body.
 
-#![tactic(auto, using(crate::proofs::escapes::Walking::gathering))]
+#![tactic(auto, using(crate::proofs::escapes::Walking::walks))]
 
 ghost use Rattle.std.specs.Prelude.{ℕ, [], ◌≡◌, ◌+◌, ◌<◌, ◌≤◌, IsTrue, drop, length, slice_index, true};
 ghost use Rattle.data_url.specs.Pieces.{is_slice_end, text_of, walk_at_front, walk_of};

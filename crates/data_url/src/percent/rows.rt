@@ -3,8 +3,6 @@
 //! A row of four bytes begins with what its byte is written as: the byte itself, `%` and its two
 //! digits or, for a tab or newline, nothing. The last byte of the row says how long that is.
 
-#![tactic(auto, using(crate::proofs::percent::Encoding::rows))]
-
 ghost use Rattle.std.specs.Prelude.{◌≡◌, ◌∷◌, ◌<◌, [], false, ℕ};
 ghost use Rattle.data_url.specs.Steps.Classes.{is_marked};
 ghost use Rattle.data_url.specs.Steps.Sets.{IsRow, byte_encoding, in_set};
