@@ -1,7 +1,7 @@
 -- Hexadecimal digits in a text, after tabs and newlines. For `escape` and `escape_here`.
 use Rattle.std.proofs.Common.{◌≡◌, ℕ, zero, suc, ◌+◌, ◌*◌, ◌-◌, ◌<◌, ◌≤◌, Bool, true, false, not, cond, ◌&&◌, eqb, ltb}
-use Rattle.std.proofs.Common.{List, []}
-use Rattle.std.proofs.Common.{◌∷◌, ◌++◌, length, drop, get_or, Option, None, Some, refl, sym, ap, ◌∙◌, arith, eqb-true, subst}
+use Rattle.std.proofs.Common.{List, [], ◌∷◌, ◌++◌, length, drop, get_or, Option, None, Some, refl, sym, ap, ◌∙◌, arith}
+use Rattle.std.proofs.Common.{eqb-true, subst}
 use Rattle.std.specs.Prelude.{◌==◌}
 use Rattle.std.specs.Char.{digit_value, is_ascii_hexdigit}
 use Rattle.std.proofs.lemmas.Bool.{agree_below_at, and_left, and_right, cases_Bool}
@@ -96,7 +96,8 @@ has_digit : {text : List ℕ} {place looks value end looks' : ℕ} → DigitFoun
 has_digit {text} {place} {looks} {value} {end} {looks'} d =
     let some = d.some in
     let next : end - 1 + 1 ≡ end = omega arith in
-    let e = drop_more text (end - 1) 0 (omega (arith, d.within)) ∙ ap (λ n. get_or text (end - 1) 0 ∷ drop n text) next in
+    let e = ap (λ n. get_or text (end - 1) 0 ∷ drop n text) next in
+    let first = drop_more text (end - 1) 0 (omega (arith, d.within)) in
     let s = same d.skipped in
     grind (arith, hex_other, cleaned_keeps, after_other, prefix_len-drop_yes)
 
@@ -119,7 +120,8 @@ no_digit {text} {place} {looks} {looks'} n =
     ap begins_with_digit s.raw_is ∙ other_first (drop n.end text) (λ l. grind (arith, get_or-drop, length-drop))
 
 -- a '%' and at most one byte before no digit are no escape
-no_escape : (raw s : List ℕ) → length raw < 2 → begins_with_digit s ≡ false → begins_with_escape (37 ∷ (raw ++ s)) ≡ false
+no_escape : (raw s : List ℕ) → length raw < 2 → begins_with_digit s ≡ false
+    → begins_with_escape (37 ∷ (raw ++ s)) ≡ false
 no_escape [] [] l h = refl
 no_escape [] (b ∷ []) l h = refl
 no_escape [] (b ∷ c ∷ s) l h = grind (arith, and_left)

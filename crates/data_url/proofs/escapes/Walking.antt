@@ -317,13 +317,13 @@ pub over_next : {c c1 c2 : Cursor} {room0 room : List ℕ} {len : ℕ} → Gathe
 over_next {c} {c1} {c2} g e h k = grind (arith, rest_over)
 
 -- the lemmas for pieces
-pub ruleset stretches = (looking_escape, looking_paid, byte_part, byte_next, goes_part, slice_part, searched, spells_none)
+pub ruleset stretches = (looking_escape, looking_paid, byte_part, byte_next, goes_part, slice_part, searched)
 
 -- the lemmas for the functions that gather bytes
 pub ruleset gathering = (gathers_byte, gathers_nothing, gathers_then, gathers_escape, reads_escape, ended_at, smaller)
 
 -- the lemmas for `Cursor`
-pub ruleset walks = (stretches, gathering, knows_on, ahead_is, spells_then)
+pub ruleset walks = (stretches, gathering, knows_on, ahead_is, spells_none, spells_then)
 
 -- the lemmas for `Source`
 pub ruleset sources = (copied_wide, marks_of_rest, hash_at, drop_all, IsCharBoundary-after_ascii)

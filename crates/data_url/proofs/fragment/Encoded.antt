@@ -58,10 +58,10 @@ unfolding after_scheme
 read_again x h = grind (arith, staged_again, cleaned_itself, encoded_itself)
 
 -- the lemmas on the printed texts of records
-pub ruleset printing = (printed_only, printed_parses, printed_same, same_seen, seen_same)
+pub ruleset prints = (printed_only, printed_parses, printed_same, same_seen, seen_same)
 
 -- the lemmas for the functions of `laws`
-pub ruleset laws = (is_recoded, recoded-decoded, bytes_by_place, bytes_dropped, fragment_bytes, read_again, printing)
+pub ruleset laws = (is_recoded, recoded-decoded, bytes_by_place, bytes_dropped, fragment_bytes, read_again, prints)
 
 -- the lemmas for those of `facts`
 pub ruleset facts = (first_fault_least, padding_fits, flag_of_spaces, no_last_space, has_one_item_list, fragment_dropped)

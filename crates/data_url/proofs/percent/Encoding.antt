@@ -15,9 +15,9 @@ use Rattle.std.specs.Char.{digit_value, is_ascii_hexdigit}
 use Rattle.std.specs.List.{AllByRecursion, list_all}
 use Rattle.data_url.specs.Steps.Header.{header_parts, header_text}
 use Rattle.data_url.specs.Percent.{percent_decoding}
-use Rattle.data_url.proofs.texts.Bytes.{first_byte, before-append, before_at, before_nil, before_other, before_same, after_nil}
-use Rattle.data_url.proofs.texts.Bytes.{after_other, after_same, lacks, dropped_keeps, dropped_nil, dropped_passes}
-use Rattle.data_url.proofs.texts.Bytes.{without_tabs_and_newlines-append}
+use Rattle.data_url.proofs.texts.Bytes.{first_byte, before-append, before_at, before_nil, before_other, before_same}
+use Rattle.data_url.proofs.texts.Bytes.{after_nil, after_other, after_same, lacks, dropped_keeps, dropped_nil}
+use Rattle.data_url.proofs.texts.Bytes.{dropped_passes, without_tabs_and_newlines-append}
 use Rattle.std.proofs.Math.Seq.{take-append-add}
 use Rattle.std.proofs.lemmas.Grind.{flat_map-append}
 use Rattle.std.proofs.lemmas.List.{nil_from_length, take_all, take_more, length-take-le, take-take}
