@@ -1,7 +1,7 @@
 -- The pieces of a walk, and the bytes that it gathers. For `Cursor` and `Pieces`.
-use Rattle.std.proofs.Common.{◌≡◌, ℕ, ◌+◌, ◌-◌, ◌<◌, ◌≤◌, true, List, [], ◌∷◌, ◌++◌, length, take}
-use Rattle.std.proofs.Common.{drop, get_or, None, Some, refl, sym, ap, ◌∙◌, subst, inl, inr, arith, length-append}
-use Rattle.std.proofs.Common.{Bool, ◌≢◌, Option, ◌*◌, cond, set, append_assoc, take-add}
+use Rattle.std.proofs.Common.{◌≡◌, ℕ, ◌+◌, ◌-◌, ◌<◌, ◌≤◌, true, List, [], ◌∷◌, ◌++◌, length, take, drop, get_or, None}
+use Rattle.std.proofs.Common.{Some, refl, sym, ap, ◌∙◌, subst, inl, inr, arith, length-append, Bool, ◌≢◌, Option, ◌*◌}
+use Rattle.std.proofs.Common.{cond, set, append_assoc, take-add}
 use Rattle.std.specs.Prelude.{slice_range, IfNone}
 use Rattle.std.proofs.lemmas.List.{drop_more, drop-drop, length-drop, drop_all, append-nil, take_more_set}
 use Rattle.std.proofs.lemmas.List.{length-take-le, append_cancel_right, take-append-drop}
@@ -11,12 +11,11 @@ use Rattle.data_url.specs.Pieces.{Walk, text_of, IsStretch, bytes_of, has_ended,
 use Rattle.data_url.specs.Steps.Chunks.{IsFront, IsOver, Takes}
 use Rattle.data_url.specs.Steps.Digits.{EscapeAt, cleaned}
 use Rattle.data_url.specs.Steps.Tail.{BeginsFragment, IsBodyEnd, rest_fragment}
-use Rattle.data_url.specs.Steps.Walk.{Ended, EndsAt, Gathers, GoesOn, IsClear, IsNextMark, IsPart, Knows}
-use Rattle.data_url.specs.Steps.Walk.{KnowsAhead, Looking, LooksOn, MayGather, Moves, Pays, Reads, Searching, Spells}
+use Rattle.data_url.specs.Steps.Walk.{Ended, EndsAt, Gathers, GoesOn, IsClear, IsNextMark, IsPart, Knows, KnowsAhead}
+use Rattle.data_url.specs.Steps.Walk.{Looking, LooksOn, MayGather, Moves, Pays, Reads, Searching, Spells}
 use Rattle.data_url.specs.Url.{before, after, front, without_tabs_and_newlines}
-use Rattle.data_url.proofs.escapes.Marks.{copied_wide, looking_on, marks_of_rest}
-use Rattle.data_url.proofs.escapes.Reading.{ends_empty, paid_le, paid_on, percent_nil, spells_clear, spells_escape}
-use Rattle.data_url.proofs.escapes.Reading.{spells_none, spells_then}
+use Rattle.data_url.proofs.escapes.Reading.{copied_wide, looking_on, marks_of_rest, ends_empty, paid_le, paid_on}
+use Rattle.data_url.proofs.escapes.Reading.{percent_nil, spells_clear, spells_escape, spells_none, spells_then}
 use Rattle.data_url.proofs.percent.Encoding.{decoded_escape}
 use Rattle.data_url.proofs.texts.Bytes.{before_all, after_at, after_nil, after_same, after-dropped_none, before-append}
 use Rattle.data_url.proofs.texts.Bytes.{is_cut, without_tabs_and_newlines-append}

@@ -28,7 +28,7 @@ use Rattle.data_url.proofs.forgiving_base64.Vectors.{looked_at, looked_up, other
 use Rattle.data_url.proofs.forgiving_base64.Steps.{three_items}
 use Rattle.data_url.proofs.forgiving_base64.Groups.{all_cut, groups_front, symbols_alone, symbols_values, take_groups}
 use Rattle.data_url.proofs.forgiving_base64.Padding.{after_is, filter_every, every_list_all, filter_all, list_all_every}
-use Rattle.data_url.proofs.escapes.Marks.{drop_taken}
+use Rattle.data_url.proofs.escapes.Reading.{drop_taken}
 
 -- Clear bits
 

@@ -13,7 +13,6 @@ use Rattle.data_url.proofs.texts.Bytes.{dropped_keeps, dropped_nil, fragment_dro
 use Rattle.data_url.proofs.forgiving_base64.Padding.{first_fault_least, padding_fits}
 use Rattle.data_url.proofs.header.Serialising.{flag_of_spaces, no_last_space}
 use Rattle.data_url.proofs.header.Stages.{bytes_by_place, bytes_dropped}
-use Rattle.data_url.proofs.mime.Items.{has_one_item_list}
 use Rattle.data_url.proofs.mime.Printing.{same_seen, seen_same}
 use Rattle.data_url.proofs.mime.RoundTrips.{printed_only, printed_parses, printed_same}
 
@@ -64,4 +63,4 @@ pub ruleset prints = (printed_only, printed_parses, printed_same, same_seen, see
 pub ruleset laws = (is_recoded, recoded-decoded, bytes_by_place, bytes_dropped, fragment_bytes, read_again, prints)
 
 -- the lemmas for those of `facts`
-pub ruleset facts = (first_fault_least, padding_fits, flag_of_spaces, no_last_space, has_one_item_list, fragment_dropped)
+pub ruleset facts = (first_fault_least, padding_fits, flag_of_spaces, no_last_space, fragment_dropped)

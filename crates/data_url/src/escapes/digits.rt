@@ -1,6 +1,6 @@
 //! Hexadecimal digits after a `%`, past tabs and newlines.
 
-#![tactic(auto, using(crate::proofs::escapes::Hexadecimal::digits))]
+#![tactic(auto, using(crate::proofs::escapes::Reading::digits))]
 
 ghost use Rattle.std.specs.Prelude.{◌≡◌, ◌+◌, ◌<◌, ◌≤◌, IfSome, MatchOption, length, slice_index};
 ghost use Rattle.data_url.specs.Url.{percent_sign};

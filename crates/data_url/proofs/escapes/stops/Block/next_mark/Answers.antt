@@ -1,5 +1,5 @@
 use Rattle.std.proofs.Common.{arith}
-use Rattle.data_url.proofs.escapes.Marks.{looking_block, looking_on}
+use Rattle.data_url.proofs.escapes.Reading.{looking_block, looking_on}
 use Rattle.data_url.proofs.escapes.stops.Block.next_mark.Goals as goal
 use Rattle.data_url.proofs.escapes.stops.Block.next_mark.Goals.{then-place-self+in_default, else-place-self}
 
