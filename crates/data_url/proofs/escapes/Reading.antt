@@ -6,7 +6,7 @@ use Rattle.std.proofs.Common.{bit_and, w8, Fits, ◌≢◌, inl, inr}
 use Rattle.std.specs.Prelude.{◌==◌, slice_range}
 use Rattle.std.specs.Char.{digit_value, is_ascii_hexdigit}
 use Rattle.std.proofs.lemmas.Bool.{agree_below_at, and_left, and_right, cases_Bool, cases_lt, eqb-true}
-use Rattle.std.proofs.lemmas.List.{drop_more, get_or-drop, length-drop, drop-drop, drop_all, drop-take, length-take}
+pub use Rattle.std.proofs.lemmas.List.{drop_more, get_or-drop, length-drop, drop-drop, drop_all, drop-take, length-take}
 use Rattle.std.proofs.lemmas.List.{take_all, drop-replicate, length-take-le, take_rest, take-append-le, take-take}
 use Rattle.std.proofs.lemmas.List.{drop-map, length-map, map-id}
 use Rattle.std.proofs.lemmas.List.Sums.{prefix_len-drop_yes, prefix_len-drop_no, prefix_len-le-length}
@@ -272,7 +272,7 @@ slice_ends : (b : ℕ) (s : List ℕ) → begins_with_escape (without_tabs_and_n
 slice_ends b s h = grind arith
 
 -- before an escape a slice may end
-escape_ends : {text : List ℕ} {place value end : ℕ} → place < length text → EscapeAt text place value end
+pub escape_ends : {text : List ℕ} {place value end : ℕ} → place < length text → EscapeAt text place value end
     → is_slice_end (drop place text) ≡ true
 unfolding front
 escape_ends {text} {place} {value} {end} l e =
@@ -299,7 +299,7 @@ pub spells_then : {text r s a b : List ℕ} {from middle to : ℕ} → Spells te
 spells_then {text} {r} {s} {a} {b} {from} {middle} {to} p q = grind (arith, reads_then, append_assoc)
 
 -- a tab or newline is read as no byte
-pub spells_passed : (text : List ℕ) (place : ℕ) → place < length text → is_tab_or_newline (get_or text place 0) ≡ true
+spells_passed : (text : List ℕ) (place : ℕ) → place < length text → is_tab_or_newline (get_or text place 0) ≡ true
     → Spells text place (place + 1) [] []
 spells_passed text place l h = grind (arith, drop_more text place 0, plain_is, cleaned_passes, after_other)
 
@@ -311,7 +311,7 @@ spells_byte text place l t h e =
     grind (arith, drop_more text place 0, plain_is, cleaned_keeps, after_other, decoded_byte)
 
 -- a '%' that does not begin an escape is read as it is
-pub spells_percent : {text : List ℕ} {place looks looks' : ℕ} → place < length text → get_or text place 0 ≡ 37
+spells_percent : {text : List ℕ} {place looks looks' : ℕ} → place < length text → get_or text place 0 ≡ 37
     → NoEscape text place looks looks' → Spells text place (place + 1) (37 ∷ []) (37 ∷ [])
 spells_percent {text} {place} {looks} {looks'} l h n =
     rw h at (spells_byte text place l (grind arith) (grind arith) n.none_is)
@@ -361,7 +361,7 @@ pub paid_le : (text : List ℕ) (place : ℕ) → place ≤ length text
 paid_le text place p = grind (arith, prefix_len-le-length, length-drop)
 
 -- at a '%' the bound is twice its index
-paid_percent : (text : List ℕ) (place : ℕ) → place < length text → get_or text place 0 ≡ 37
+pub paid_percent : (text : List ℕ) (place : ℕ) → place < length text → get_or text place 0 ≡ 37
     → paid text place ≡ 2 * place
 paid_percent text place l h = grind (arith, prefix_len-drop_no)
 
@@ -370,23 +370,12 @@ pub stop_percent : {text : List ℕ} {place looks looks' : ℕ} → place < leng
     → NoEscape text place (looks + 1) looks' → IsStop text place looks looks' Stays
 stop_percent {text} {place} {looks} {looks'} l h n = search (arith, paid_percent, spells_percent)
 
--- an escape pays for its bytes, and for three more
-pub stop_escape : {text : List ℕ} {place value end looks looks' : ℕ} → place < length text → get_or text place 0 ≡ 37
-    → EscapeAt text place value end → looks' + place + 1 ≡ looks + 1 + end
-    → IsStop text place looks looks' (Escape value end)
-stop_escape {text} {place} {value} {end} {looks} {looks'} l h e n = search (arith, paid_percent, escape_ends)
-
 -- a tab or newline is passed, and pays for one look
 pub stop_passed : (text : List ℕ) (place looks : ℕ) → place < length text
     → is_tab_or_newline (get_or text place 0) ≡ true → IsStop text place looks (looks + 1) Passed
 stop_passed text place looks l h =
     let p = paid_on text place (place + 1) (omega arith) in
     (grind (arith, drop_more), spells_passed text place l h, grind arith)
-
--- the body ends at a '#'
-pub stop_hash : (text : List ℕ) (place looks : ℕ) → place < length text → get_or text place 0 ≡ 35
-    → IsStop text place looks (looks + 1) End
-stop_hash text place looks l h = grind (arith, drop_more)
 
 -- Blocks of a body and their marks. For `look_block` and `next_mark`.
 
@@ -573,3 +562,15 @@ found_none {text} {place} {seen} {marks} h e = grind (arith, none_from_empty_mas
 pub looking_on : {s : Source} {b : Block} {place more : ℕ} (to : ℕ) → Looking s b place more → place ≤ to
     → to ≤ length s.text.now → Looking s b to more
 looking_on {s} {b} {place} {more} to k l w = let p = paid_on s.text.now place to l in grind arith
+
+-- the walk can go on from the next mark
+pub looking_mark : {s : Source} {b : Block} {place to : ℕ} → Looking s b place 0 → IsNextMark s.text.now place to
+    → Looking s b to 0
+looking_mark {s} {b} {place} {to} k m = looking_on to k m.forward m.within
+
+-- the walk can go on at the end of its block
+pub looking_seen : {s : Source} {b : Block} {place : ℕ} → Looking s b place 0 → place ≤ b.seen → Looking s b b.seen 0
+looking_seen {s} {b} {place} k l = looking_on b.seen k l k.block.seen_le
+
+-- the lemmas for `next_mark` and `stop_at`
+pub ruleset stops = (paid_percent, escape_ends, drop_more, looking_mark, looking_seen, looking_block)

@@ -227,30 +227,24 @@ pub gathers_nothing : {c c' : Cursor} {room : List ℕ} {len : ℕ} → LooksOn 
     → Reads (text_of c) c.place c'.place [] → Gathers c c' room room len len
 gathers_nothing {c} {c'} {room} {len} on r = grind (arith, append-nil)
 
--- a stretch without marks is copied from the block, and the walk goes on after it
-pub gathers_clear : {c : Cursor} {room room' : List ℕ} {len : ℕ} (to : ℕ) → MayGather c len → c.place < c.block.seen
-    → c.place ≤ to → to ≤ c.block.seen → IsClear (text_of c) c.place to
+-- a stretch without marks is copied from the block
+pub gathers_clear : {c : Cursor} {room room' : List ℕ} {len : ℕ} (to : ℕ) → MayGather c len → c.place ≤ to
+    → to ≤ c.block.seen → IsClear (text_of c) c.place to
     → take (len + (to - c.place)) room' ≡ take len room ++ slice_range (text_of c) c.place to
     → Gathers c (record c { place = to }) room room' len (len + (to - c.place))
-    × MayGather (record c { place = to }) (len + (to - c.place))
-gathers_clear {c} {room} {room'} {len} to m h l w clear e =
-    let room = m.room.for_block h in
+gathers_clear {c} {room} {room'} {len} to m l w clear e =
     let seen = m.looking.block.seen_le in
-    let long : length (slice_range (text_of c) c.place to) ≡ to - c.place =
-    length-take-le (to - c.place) (drop c.place (text_of c)) (omega (arith, length-drop c.place (text_of c))) in (
-      record {
-        bytes = slice_range (text_of c) c.place to;
-        on = grind arith;
-        reads = (spells_clear (text_of c) c.place to l (omega arith) clear).reads;
-        room_is = e;
-        len_is = omega arith;
-      },
-      record {
-        looking = looking_on to m.looking l (omega arith);
-        unknown = m.unknown;
-        room = record { some = omega arith; for_block = λ k. omega arith };
-      },
-    )
+    let reads = (spells_clear (text_of c) c.place to l (omega arith) clear).reads in
+    let long = length-take-le (to - c.place) (drop c.place (text_of c)) (omega (arith, length-drop {A = ℕ})) in
+    grind arith
+
+-- after that the walk can gather more
+pub may_clear : {c : Cursor} {len : ℕ} (to : ℕ) → MayGather c len → c.place < c.block.seen → c.place ≤ to
+    → to ≤ c.block.seen → MayGather (record c { place = to }) (len + (to - c.place))
+may_clear {c} {len} to m h l w =
+    let looking = looking_on to m.looking l (omega (arith, m.looking.block.seen_le)) in
+    let room = m.room.for_block h in
+    grind arith
 
 -- an escape is read as the byte of its value
 pub reads_escape : {text : List ℕ} {place value end : ℕ} → EscapeAt text place value end
