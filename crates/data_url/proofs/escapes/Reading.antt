@@ -58,10 +58,6 @@ is_code b l =
     (λ b. true) 256 b refl l) in
     record { tab = t.0; digit = t.1; other = t.2 }
 
--- a tab or newline is neither '#' nor '%'
-tab_other : (b : ℕ) → is_tab_or_newline b ≡ true → ((b == 35) ≡ false) × (not (b == 37) ≡ true)
-tab_other b h = grind arith
-
 -- a hexadecimal digit is neither a tab or newline, nor '#' or '%'
 hex_other : (b : ℕ) → is_ascii_hexdigit b ≡ true → (is_tab_or_newline b ≡ false) × ((b == 35) ≡ false)
     × (not (b == 37) ≡ true)
@@ -98,7 +94,6 @@ same_for : (text : List ℕ) (from n : ℕ) → Skipped text from (from + n) →
 same_for text from zero h = grind arith
 same_for text from (suc n) h =
     let tab = h.passed from (omega arith) (omega arith) in
-    let other = tab_other (get_or text from 0) tab in
     let within = h.within in
     let more = same_for text (from + 1) n (record {
       forward = omega arith;
@@ -266,11 +261,6 @@ before_first (b ∷ s) = elim (b == 35) as (λ v. (rest : List ℕ) × (b ∷ s 
   | false ↦ let k = before_first s in (k.0, ap (λ t. b ∷ t) k.1)
 ]
 
--- a text of at least one byte that begins with an escape, without tabs and newlines, begins where a slice may end
-slice_ends : (b : ℕ) (s : List ℕ) → begins_with_escape (without_tabs_and_newlines (b ∷ s)) ≡ true
-    → is_slice_end (b ∷ s) ≡ true
-slice_ends b s h = grind arith
-
 -- before an escape a slice may end
 pub escape_ends : {text : List ℕ} {place value end : ℕ} → place < length text → EscapeAt text place value end
     → is_slice_end (drop place text) ≡ true
@@ -281,8 +271,8 @@ escape_ends {text} {place} {value} {end} l e =
     let is : without_tabs_and_newlines s ≡ 37 ∷ e.high ∷ e.low ∷ (cleaned (drop end text) ++ f.0) =
     f.1 ∙ ap (λ t. t ++ f.0) e.raw_is in
     let m : s ≡ get_or text place 0 ∷ drop (place + 1) text = drop_more text place 0 l in
-    rw m (slice_ends _ _ (ap (λ t. begins_with_escape (without_tabs_and_newlines t)) (sym m)
-    ∙ ap begins_with_escape is ∙ cc (e.high_hex, e.low_hex)))
+    let k = rw m at (ap begins_with_escape is) in
+    rw m (grind (arith, e.high_hex, e.low_hex))
 
 -- from an index to itself nothing is read
 pub spells_none : (text : List ℕ) (place : ℕ) → place ≤ length text → Spells text place place [] []

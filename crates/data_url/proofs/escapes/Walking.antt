@@ -156,16 +156,18 @@ ended_at {c} {s} {b} {mark} k t h l e = grind (arith, paid_le)
 pub ahead_is : (c : Cursor) (a : Ahead) → c.ahead ≡ a → KnowsAhead c a → KnowsAhead c c.ahead
 ahead_is c a e k = grind arith
 
--- a walk that knows that its body ends at its index ends there
-ended_cases : {c : Cursor} (a : Ahead) → KnowsAhead c a → has_ended a ≡ true → Ended c
-ended_cases Unknown k e = absurd (cc)
-ended_cases AfterEscape k e = absurd (cc)
-ended_cases (Escape value end) k e = absurd (cc)
-ended_cases End k e = k
+-- whatever a walk knows about its index, it ends there if that is the end, and it has read at most three times as many
+-- bytes as its text has
+known_cases : (c : Cursor) (a : Ahead) → KnowsAhead c a → (has_ended a ≡ true → Ended c)
+    × (c.source.looks ≤ 3 * length (text_of c))
+known_cases c Unknown k = (λ e. absurd (cc), grind (arith, paid_le))
+known_cases c AfterEscape k = (λ e. absurd (cc), grind (arith, paid_le))
+known_cases c (Escape value end) k = (λ e. absurd (cc), grind (arith, paid_le))
+known_cases c End k = (λ e. k, k.few_looks)
 
 -- a walk that has ended is at the end of its body
 pub ended_of : {c : Cursor} → Knows c → has_ended c.ahead ≡ true → Ended c
-ended_of {c} k e = ended_cases c.ahead k.ahead_is e
+ended_of {c} k e = (known_cases c c.ahead k.ahead_is).0 e
 
 -- what follows the first '#' of a text that is empty or begins with '#' is its fragment
 begun_fragment : (s : List ℕ) → BeginsFragment s → after 35 s ≡ rest_fragment s
@@ -288,16 +290,9 @@ again None k g e = refl
 again (Some p) {c} {c'} k g e =
     grind (arith, piece_some p g, rest_over k e, length-append (bytes_of p) (plain_body (drop c'.place (text_of c))))
 
--- whatever a walk knows about its index, it has read at most three times as many bytes as its text has
-looks_cases : (c : Cursor) (a : Ahead) → KnowsAhead c a → c.source.looks ≤ 3 * length (text_of c)
-looks_cases c Unknown k = grind (arith, paid_le)
-looks_cases c AfterEscape k = grind (arith, paid_le)
-looks_cases c (Escape value end) k = grind (arith, paid_le)
-looks_cases c End k = k.few_looks
-
 -- a walk has read at most three times as many bytes as its text has
 pub few_looks : {c : Cursor} → Knows c → c.source.looks ≤ 3 * length (text_of c)
-few_looks {c} k = looks_cases c c.ahead k.ahead_is
+few_looks {c} k = (known_cases c c.ahead k.ahead_is).1
 
 -- if nothing was gathered, and then came a piece, the walk returns the bytes of the piece
 pub takes_next : {c c1 c2 : Cursor} {room0 room : List ℕ} {len : ℕ} (p : Piece) → Gathers c c1 room0 room 0 len
