@@ -5,7 +5,7 @@ use Rattle.std.proofs.Common.{Err, refl, sym, ap, ◌∙◌, subst, append_assoc
 use Rattle.std.proofs.Common.{false, cond, ◌*◌, min, filter, length-drop, length-take}
 use Rattle.std.proofs.lemmas.List.Sums.{count_by-le-length, length-filter}
 use Rattle.data_url.proofs.texts.Bytes.{is_cut}
-use Rattle.std.specs.Prelude.{MatchOption, MatchResult, ◌==◌, MatchBool, IsErr}
+use Rattle.std.specs.Prelude.{MatchOption, MatchResult, MatchBool, IsErr}
 use Rattle.std.specs.Fn.{CalledAt, Mut, always_mut}
 use denote.Param.Always.{mut_next}
 use Rattle.data_url.specs.Errors.{IsRefused}
@@ -21,7 +21,7 @@ use Rattle.data_url.specs.declared.forgiving_base64.DecodeError.TheVariants.{Wri
 use Rattle.data_url.proofs.runs.Runs.{joined_pieces-append, match_at, match_at_none, refusal-append, run-append}
 use Rattle.data_url.proofs.runs.Runs.{prefix_after}
 use Rattle.std.specs.Char.{digit_value}
-use Rattle.data_url.specs.Base64.{decoded, complete_bytes, kind_of, after_groups, before_place, groups, is_symbol}
+use Rattle.data_url.specs.Base64.{decoded, complete_bytes, kind_of, after_groups, groups, is_symbol}
 use Rattle.data_url.specs.Base64.{rest_bytes, symbol_value, values}
 use Rattle.data_url.specs.Url.{before, without_tabs_and_newlines, front, after, trimmed_text}
 use Rattle.data_url.specs.Percent.{begins_with_escape, percent_decoding}
@@ -233,8 +233,6 @@ pub plain_taken : {F E : Type 0} (step : F → List ℕ → Result (Unit {0}) E 
 unfolding outcome
 plain_taken step {f} {g} {text} {flag} {r = Ok place} {r'} b t m = grind arith
 plain_taken step {f} {g} {text} {flag} {r = Err e} {r'} b t m = grind arith
-
--- A base64 body, fed to a decoder piece by piece.
 
 module _ {C F E : Type 0} {outer : C → List ℕ → Result (Unit {0}) (DecodeError E) → C → Type 0}
     (step : F → List ℕ → Result (Unit {0}) E → F → Type 0) (state : C → State F)

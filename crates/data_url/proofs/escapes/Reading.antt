@@ -22,7 +22,7 @@ use Rattle.data_url.specs.Fetch.{plain_body}
 use Rattle.data_url.specs.Pieces.{is_slice_end}
 use Rattle.data_url.specs.Steps.Tail.{BeginsFragment}
 use Rattle.data_url.specs.Steps.Walk.{IsClear, IsStop, Reads, Spells, IsBlock, IsNextMark, Looking}
-use Rattle.data_url.specs.declared.escapes.stops.Stop.TheVariants.{End, Escape, Passed, Stays}
+use Rattle.data_url.specs.declared.escapes.stops.Stop.TheVariants.{Passed, Stays}
 use Rattle.data_url.specs.Steps.Window.{is_marked}
 use Rattle.data_url.proofs.percent.Encoding.{decoded_escape}
 use Rattle.std.specs.Simd.Lanes.{chunk, mask_l, put_chunk, Each1, top, zip2}
@@ -515,8 +515,6 @@ marks_are v long fits =
       marked_each v fits,
       mask_l-mod (map is_marked v) 64 (let l = length-map v is_marked in omega arith),
     )
-
--- The next marked byte of a text, by the marks of a block.
 
 -- if no item of a list passes a test, the mask of the items that pass is 0
 mask_none : (p : ℕ → Bool) (xs : List ℕ) → prefix_len (λ y. not (p y)) xs ≡ length xs → mask_l (map p xs) ≡ 0

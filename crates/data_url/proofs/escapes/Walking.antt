@@ -212,8 +212,6 @@ end_knows {c} k e = record {
   few_looks = grind (arith, paid_le);
 }
 
--- Bytes that are gathered in a buffer
-
 -- what is gathered in two steps, one after the other, is gathered in both together
 pub gathers_then : {c c1 c2 : Cursor} {room room1 room2 : List ℕ} {len len1 len2 : ℕ} → Gathers c c1 room room1 len len1
     → Gathers c1 c2 room1 room2 len1 len2 → Gathers c c2 room room2 len len2
