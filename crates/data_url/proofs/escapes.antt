@@ -1,4 +1,2 @@
-pub mod Hexadecimal
 pub mod Reading
-pub mod Marks
 pub mod Walking

@@ -1,5 +1,7 @@
 //! Facts about the definitions, each the contract of a function that does nothing.
 
+#![tactic(auto, using(crate::proofs::fragment::Encoded::facts, crate::proofs::mime::Items::has_one_item_list))]
+
 ghost use Rattle.std.specs.Prelude.{◌≡◌, ℕ, List, Some};
 ghost use Rattle.std.specs.Option.{option_map};
 ghost use Rattle.data_url.specs.Base64.{first_fault};

@@ -1,5 +1,7 @@
 //! Laws of the definitions that the contracts of this crate cite. Each is the contract of a function that does nothing.
 
+#![tactic(auto, using(crate::proofs::fragment::Encoded::laws))]
+
 ghost use Rattle.std.specs.Prelude.{◌≡◌, ◌↔◌, None};
 ghost use Rattle.data_url.specs.Base64.{first_fault};
 ghost use Rattle.data_url.specs.Laws.{IsReadAgain, TwoFeeds, is_fragment_byte};

@@ -1,5 +1,7 @@
 //! Percent-encoding (URL Standard, section 1.3).
 
+#![tactic(auto, using(crate::proofs::percent::Encoding::parts))]
+
 ghost use Rattle.std.specs.Prelude.{◌≡◌, ◌≤◌, ◌+◌, ◌++◌, OnOk, length, string_bytes, take, true};
 ghost use Rattle.std.specs.Str.{IsUtf8};
 ghost use Rattle.data_url.specs.Url.{without_tabs_and_newlines, percent_encoding};
@@ -51,7 +53,6 @@ fn put(room: &mut [u8; ROOM], at: usize, row: &[u8])
 
 /// Writes a part to the front of the buffer, without its tabs and newlines and percent-encoded, and
 /// returns how many bytes that takes.
-#[tactic(auto, using(crate::proofs::percent::Encoding::parts))]
 #[inline(always)]
 fn encode_part(set: EncodeSet, part: &[u8], room: &mut [u8; ROOM]) -> usize
     requires { length part.now ≤ 64 }
@@ -70,7 +71,6 @@ fn encode_part(set: EncodeSet, part: &[u8], room: &mut [u8; ROOM]) -> usize
 }
 
 /// Writes bytes at the end of a text, without their tabs and newlines and percent-encoded.
-#[tactic(auto, using(crate::proofs::percent::Encoding::parts))]
 #[inline(always)]
 pub(crate) fn push_encoded(
     text: &mut String,

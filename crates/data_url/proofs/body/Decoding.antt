@@ -1,13 +1,13 @@
 -- A closure or a decoder that gets a body piece by piece. For `decode_pieces`, `decode_body` and its callers.
-use Rattle.std.proofs.lemmas.List.{nil_from_length}
+use Rattle.std.proofs.lemmas.List.{nil_from_length, append-nil, length-map}
 use Rattle.std.proofs.Common.{◌<◌, ◌≡◌, ℕ, ◌+◌, ◌≤◌, List, [], ◌∷◌, ◌++◌, Bor, length, Option, None, Some, Result, Ok}
-use Rattle.std.proofs.Common.{Err}
-use Rattle.std.proofs.Common.{refl, sym, ap, ◌∙◌, subst, append_assoc, arith, length-append, suc, Bool, true, false}
-use Rattle.std.proofs.Common.{cond, ◌*◌, min, filter, length-drop, length-take}
-use Rattle.std.specs.Prelude.{MatchOption, MatchResult, ◌==◌, MatchBool, IsErr}
+use Rattle.std.proofs.Common.{Err, refl, sym, ap, ◌∙◌, subst, append_assoc, arith, length-append, suc, Bool, true}
+use Rattle.std.proofs.Common.{false, cond, ◌*◌, min, filter, length-drop, length-take}
+use Rattle.std.proofs.lemmas.List.Sums.{count_by-le-length, length-filter}
+use Rattle.data_url.proofs.texts.Bytes.{is_cut}
+use Rattle.std.specs.Prelude.{MatchOption, MatchResult, MatchBool, IsErr}
 use Rattle.std.specs.Fn.{CalledAt, Mut, always_mut}
 use denote.Param.Always.{mut_next}
-use Rattle.std.proofs.lemmas.List.{append-nil, length-map}
 use Rattle.data_url.specs.Errors.{IsRefused}
 use Rattle.data_url.specs.Run.{Call, IsRun, joined_pieces, refusal, IsPrefix}
 use Rattle.std.specs.Option.{option_or}
@@ -21,7 +21,7 @@ use Rattle.data_url.specs.declared.forgiving_base64.DecodeError.TheVariants.{Wri
 use Rattle.data_url.proofs.runs.Runs.{joined_pieces-append, match_at, match_at_none, refusal-append, run-append}
 use Rattle.data_url.proofs.runs.Runs.{prefix_after}
 use Rattle.std.specs.Char.{digit_value}
-use Rattle.data_url.specs.Base64.{decoded, complete_bytes, kind_of, after_groups, before_place, groups, is_symbol}
+use Rattle.data_url.specs.Base64.{decoded, complete_bytes, kind_of, after_groups, groups, is_symbol}
 use Rattle.data_url.specs.Base64.{rest_bytes, symbol_value, values}
 use Rattle.data_url.specs.Url.{before, without_tabs_and_newlines, front, after, trimmed_text}
 use Rattle.data_url.specs.Percent.{begins_with_escape, percent_decoding}
@@ -32,17 +32,12 @@ use Rattle.data_url.proofs.forgiving_base64.Steps.{feeds_err, feeds_then}
 use Rattle.data_url.proofs.forgiving_base64.WholeTexts.{decodes_finished, decodes_refused, fed_nothing, run_keeps}
 use Rattle.data_url.proofs.forgiving_base64.WholeTexts.{run_reads}
 use Rattle.data_url.specs.declared.DataUrl.{DataUrl}
-use Rattle.data_url.proofs.forgiving_base64.Groups.{groups_length}
-use Rattle.data_url.proofs.forgiving_base64.Groups.{filter_length}
-
--- A closure that is called with a body, chunk by chunk.
+use Rattle.data_url.proofs.forgiving_base64.Groups.{groups_length, filter_length}
 
 -- if the next of a walk is `Some bytes`, these are the next bytes of its body
 pub takes_next : {w w' : Walk} {given : Option (Bor (List ℕ))} {bytes : Bor (List ℕ)} → GivesBytes w given w'
     → given ≡ Some bytes → Takes w bytes.now w'
 takes_next {w} {w'} h e = grind arith
-
--- The runs
 
 -- an option, or else `None`, is the option
 or_none : {A : Type 0} (o : Option A) → option_or o None ≡ o
@@ -101,14 +96,6 @@ module _ {F E : Type 0} (step : F → List ℕ → Result (Unit {0}) E → F →
       → TakesBody step f text (Err e) g
   took_refused {f} {g} {text} {w} {e} k = grind arith
 
--- A body is not longer than its tail
-
--- a text without tabs and newlines is not longer than the text
-dropped_shorter : (s : List ℕ) → length (without_tabs_and_newlines s) ≤ length s
-unfolding without_tabs_and_newlines
-dropped_shorter [] = omega arith
-dropped_shorter (b ∷ s) = grind (arith, dropped_shorter s)
-
 -- the text before the first c is not longer than the whole text
 before_shorter : (c : ℕ) (s : List ℕ) → length (before c s) ≤ length s
 unfolding before
@@ -130,10 +117,8 @@ percent_shorter (a ∷ b ∷ c ∷ s) =
 
 -- the body of a tail is not longer than the tail
 pub body_shorter : (tail : List ℕ) → length (plain_body tail) ≤ length tail
-unfolding plain_body front
-body_shorter tail = grind (arith, percent_shorter, before_shorter, dropped_shorter)
-
--- The result of decoding a whole text is the outcome
+unfolding plain_body front without_tabs_and_newlines
+body_shorter tail = grind (arith, percent_shorter, before_shorter, length-filter, count_by-le-length)
 
 -- the result, with the place as its value if it is `Ok`
 abbrev at_place : {E : Type 0} → ℕ → Result (Unit {0}) (DecodeError E) → Result ℕ (DecodeError E)
@@ -166,10 +151,6 @@ module _ {F E : Type 0} (step : F → List ℕ → Result (Unit {0}) E → F →
       → Decodes step f (length text + 1) (outcome true (plain_body text)) (IsBodyEnd text) (at_place place r) g
   unfolding outcome
   outcome_of {f} {g} {text} {u} place r e d b = grind (arith, body_shorter)
-
--- What is true of a closure's state after a run, from what each of its calls does to that state.
-
--- Runs
 
 module _ {F E : Type 0} (step : F → List ℕ → Result (Unit {0}) E → F → Type 0)
     (kept : List ℕ → F → Type 0) (stopped : List ℕ → E → F → Type 0)
@@ -222,8 +203,6 @@ pub run_preserves : {F E : Type 0} (step : F → List ℕ → Result (Unit {0}) 
     → (cs : List (Call F E)) (f g : F) → IsRun step f cs g → refusal cs ≡ None → K f → K g
 run_preserves step K keeps cs f g ran n k = run_kept step cs f g ran n (λ bytes. K) (λ bytes. keeps) k
 
--- The closure that is called with a body
-
 -- a closure that can always be called can be called until it returns an error
 pub until_error : {F E : Type 0} (closure : Mut F (Bor (List ℕ) × Unit {0}) (Result (Unit {0}) E)) (f : F)
     → always_mut closure f → IsCallableUntilError closure f
@@ -254,8 +233,6 @@ pub plain_taken : {F E : Type 0} (step : F → List ℕ → Result (Unit {0}) E 
 unfolding outcome
 plain_taken step {f} {g} {text} {flag} {r = Ok place} {r'} b t m = grind arith
 plain_taken step {f} {g} {text} {flag} {r = Err e} {r'} b t m = grind arith
-
--- A base64 body, fed to a decoder piece by piece.
 
 module _ {C F E : Type 0} {outer : C → List ℕ → Result (Unit {0}) (DecodeError E) → C → Type 0}
     (step : F → List ℕ → Result (Unit {0}) E → F → Type 0) (state : C → State F)
@@ -296,8 +273,6 @@ module _ {C F E : Type 0} {outer : C → List ℕ → Result (Unit {0}) (DecodeE
       subst D (mapped place p q m)
       (outcome_of step place p (sym t.gave.2) (decodes_finished step refl k ended) (λ _. t.gave.0))
 
--- Measures
-
 -- if each call that succeeds extends a measure by its piece, a run without an error extends it by all its bytes
 pub run_extends : {F E : Type 0} (step : F → List ℕ → Result (Unit {0}) E → F → Type 0) (cs : List (Call F E)) (f g : F)
     → IsRun step f cs g → refusal cs ≡ None → (measure : F → List ℕ)
@@ -325,8 +300,6 @@ run_counts_up_to step cs f g most ran n count few adds =
     run_kept step cs f g ran n (λ bytes p. count p ≡ min (count f + length bytes) most)
     (λ bytes p piece q k s. omega (arith, adds p piece q s, k, length-append bytes piece)) (omega arith)
 
--- Bodies
-
 -- how decoding a body ended, with what is then true of the closure and the bytes that it was called with
 abbrev pub EndsWith : {F E A : Type 0} → (List ℕ → F → Type 0) → (List ℕ → E → F → Type 0) → Outcome → (A → Type 0) → F
     → Result A (DecodeError E) → Type 0
@@ -342,37 +315,30 @@ module _ {F E A : Type 0} (kept : List ℕ → F → Type 0) (stopped : List ℕ
       → EndsWith kept stopped body good g r
   ended_at body r s e h = grind arith
 
-  -- after a whole body was handed out, `kept` is true of its bytes, and the result tells whether it is good or bad
-  ended_whole : (body : Outcome) (bytes : List ℕ) (r : Result A (DecodeError E)) → HandsOut body good bytes r
-      → kept bytes g → EndsWith kept stopped body good g r
-  ended_whole (Good all) bytes (Ok x) h k = grind arith
-  ended_whole (Good all) bytes (Err e) h k = absurd h.answer
-  ended_whole (Bad all kind) bytes r h k = grind arith
-
   -- decoding ends with `kept` if the whole body was handed out, and with `stopped` if the closure refused it
   ended_by : (o : Option E) (body : Outcome) (bytes : List ℕ) (r : Result A (DecodeError E))
       → MatchOption o (HandsOut body good bytes r) (λ e. IsRefused (outcome_bytes body) bytes e r)
       → MatchOption o (kept bytes g) (λ e. stopped bytes e g) → EndsWith kept stopped body good g r
-  ended_by None body bytes r h k = ended_whole body bytes r h k
+  ended_by None (Good all) bytes (Ok x) h k = grind arith
+  ended_by None (Good all) bytes (Err e) h k = absurd h.answer
+  ended_by None (Bad all kind) bytes r h k = grind arith
   ended_by (Some e) body bytes r h k = grind (arith, ended_at)
-
--- if each call that succeeds preserves `kept`, and a call that fails makes `stopped` true, then one of these is true
--- after decoding, by its result s
-pub body_ends : {F E A : Type 0} {step : F → List ℕ → Result (Unit {0}) E → F → Type 0} {f g : F} {most : ℕ}
-    {body : Outcome} {good : A → Type 0} {r s : Result A (DecodeError E)} → Decodes step f most body good r g → r ≡ s
-    → (kept : List ℕ → F → Type 0) (stopped : List ℕ → E → F → Type 0)
-    → ((bytes : List ℕ) (p : F) (piece : List ℕ) (q : F) → kept bytes p → step p piece (Ok tt) q
-    → kept (bytes ++ piece) q)
-    → ((bytes : List ℕ) (p : F) (piece : List ℕ) (e : E) (q : F) → kept bytes p → step p piece (Err e) q
-    → stopped (bytes ++ piece) e q)
-    → kept [] f → EndsWith kept stopped body good g s
-body_ends {step = step} {f = f} {g = g} {body = body} {good = good} {r = r} {s = s} d e kept stopped accepts refuses
-    start =
-    ended_at kept stopped good g body s r (sym e) (ended_by kept stopped good g (refusal d.run) body
-    (joined_pieces d.run) r d.gave (run_ends step d.run f g d.ran kept stopped accepts refuses start))
 
 module _ {F E A : Type 0} {step : F → List ℕ → Result (Unit {0}) E → F → Type 0} {f f' : F} {most : ℕ} {body : Outcome}
     {good : A → Type 0} {r : Result A (DecodeError E)} where
+  -- if each call that succeeds preserves `kept`, and a call that fails makes `stopped` true, then one of these is true
+  -- after decoding, by its result s
+  pub body_ends : {s : Result A (DecodeError E)} → Decodes step f most body good r f' → r ≡ s
+      → (kept : List ℕ → F → Type 0) (stopped : List ℕ → E → F → Type 0)
+      → ((bytes : List ℕ) (p : F) (piece : List ℕ) (q : F) → kept bytes p → step p piece (Ok tt) q
+      → kept (bytes ++ piece) q)
+      → ((bytes : List ℕ) (p : F) (piece : List ℕ) (e : E) (q : F) → kept bytes p → step p piece (Err e) q
+      → stopped (bytes ++ piece) e q)
+      → kept [] f → EndsWith kept stopped body good f' s
+  body_ends {s} d e kept stopped accepts refuses start = ended_at kept stopped good f' body s r (sym e)
+      (ended_by kept stopped good f' (refusal d.run) body (joined_pieces d.run) r d.gave
+      (run_ends step d.run f f' d.ran kept stopped accepts refuses start))
+
   -- if decoding returns `Ok`, and J is a measure that each call without an error extends by its piece, the body is
   -- good, and J is extended by its bytes
   pub body_reads : {x : A} → Decodes step f most body good r f' → r ≡ Ok x → (J : F → List ℕ)
@@ -380,7 +346,7 @@ module _ {F E A : Type 0} {step : F → List ℕ → Result (Unit {0}) E → F �
       → (all : List ℕ) × (body ≡ Good all) × (J f' ≡ J f ++ all)
   body_reads h q J keeps =
       let e = body_ends h q (λ bytes p. J p ≡ J f ++ bytes) (λ bytes e p. Unit {0})
-      (λ bytes p piece q k s. keeps p piece q s ∙ ap (λ x. x ++ piece) k ∙ append_assoc (J f) bytes piece)
+      (λ bytes p piece q k s. cc (keeps p piece q s, append_assoc (J f) bytes piece))
       (λ bytes p piece e q k s. tt) (sym (append-nil (J f))) in
       (e.0, e.1, e.3)
 
@@ -407,26 +373,22 @@ module _ {F E A : Type 0} {step : F → List ℕ → Result (Unit {0}) E → F �
   pub body_good : {x : A} → Decodes step f most body good r f' → r ≡ Ok x → (all : List ℕ) × (body ≡ Good all)
   body_good h q = let e = body_told h q in (e.0, e.1)
 
--- if each call that succeeds extends a measure by its piece, and a call that fails extends it by a prefix of its piece,
--- then decoding extends it by all the bytes, or by a prefix of them if a call fails
-pub body_extends : {F E A : Type 0} {step : F → List ℕ → Result (Unit {0}) E → F → Type 0} {f g : F} {most : ℕ}
-    {body : Outcome} {good : A → Type 0} {r s : Result A (DecodeError E)} → Decodes step f most body good r g → r ≡ s
-    → (measure : F → List ℕ)
-    → ((p : F) (piece : List ℕ) (q : F) → step p piece (Ok tt) q → measure q ≡ measure p ++ piece)
-    → ((p : F) (piece : List ℕ) (e : E) (q : F) → step p piece (Err e) q → (part : List ℕ) × IsPrefix part piece
-    × (measure q ≡ measure p ++ part))
-    → EndsWith (λ bytes q. measure q ≡ measure f ++ bytes) (λ bytes e q. (part : List ℕ) × IsPrefix part bytes
-    × (measure q ≡ measure f ++ part)) body good g s
-body_extends {f = f} d e measure accepts refuses =
-    body_ends d e (λ bytes q. measure q ≡ measure f ++ bytes) (λ bytes e q. (part : List ℕ) × IsPrefix part bytes
-    × (measure q ≡ measure f ++ part))
-    (λ bytes p piece q k s. accepts p piece q s ∙ ap (λ x. x ++ piece) k ∙ append_assoc (measure f) bytes piece)
-    (λ bytes p piece e q k s.
-    let h = refuses p piece e q s in
-    (bytes ++ h.0, prefix_after bytes h.0 piece h.1, h.2 ∙ ap (λ x. x ++ h.0) k ∙ append_assoc (measure f) bytes h.0))
-    (sym (append-nil (measure f)))
-
--- How long a body is
+  -- if each call that succeeds extends a measure by its piece, and a call that fails extends it by a prefix of its
+  -- piece, then decoding extends it by all the bytes, or by a prefix of them if a call fails
+  pub body_extends : {s : Result A (DecodeError E)} → Decodes step f most body good r f' → r ≡ s
+      → (measure : F → List ℕ)
+      → ((p : F) (piece : List ℕ) (q : F) → step p piece (Ok tt) q → measure q ≡ measure p ++ piece)
+      → ((p : F) (piece : List ℕ) (e : E) (q : F) → step p piece (Err e) q → (part : List ℕ) × IsPrefix part piece
+      × (measure q ≡ measure p ++ part))
+      → EndsWith (λ bytes q. measure q ≡ measure f ++ bytes) (λ bytes e q. (part : List ℕ) × IsPrefix part bytes
+      × (measure q ≡ measure f ++ part)) body good f' s
+  body_extends d e measure accepts refuses = body_ends d e (λ bytes q. measure q ≡ measure f ++ bytes)
+      (λ bytes e q. (part : List ℕ) × IsPrefix part bytes × (measure q ≡ measure f ++ part))
+      (λ bytes p piece q k s. cc (accepts p piece q s, append_assoc (measure f) bytes piece))
+      (λ bytes p piece e q k s.
+      let h = refuses p piece e q s in
+      (bytes ++ h.0, prefix_after bytes h.0 piece h.1, cc (h.2, append_assoc (measure f) bytes h.0)))
+      (sym (append-nil (measure f)))
 
 -- the symbols of a text have at most as many values as the text has bytes
 values_shorter : (s : List ℕ) → length (values s) ≤ length s
@@ -447,41 +409,19 @@ decoded_shorter : (s : List ℕ) → length (decoded s) ≤ length s
 unfolding decoded
 decoded_shorter s = omega (arith, groups_then_rest (values s), values_shorter s)
 
--- the bytes before an index, or the whole text if there is no index, are not longer than the text
-before_place_shorter : (s : List ℕ) (o : Option ℕ) → length (before_place s o) ≤ length s
-before_place_shorter s None = omega arith
-before_place_shorter s (Some i) = omega (arith, length-take i s)
-
 -- with or without base64, the bytes of the outcome of a text are not longer than the text
 outcome_shorter : (flag : Bool) (s : List ℕ) → length (outcome_bytes (outcome flag s)) ≤ length s
 unfolding outcome complete_bytes
 outcome_shorter false s = omega arith
-outcome_shorter true s = grind (arith, decoded_shorter, groups_length, values_shorter, before_place_shorter)
+outcome_shorter true s = grind (arith, decoded_shorter, groups_length, values_shorter, length-take)
 
 -- a body, or the bytes before its fault, is not longer than its tail
 pub body_within_tail : (url : DataUrl) → length (outcome_bytes (url_body url)) ≤ length (url_tail url)
 body_within_tail url = grind (arith, outcome_shorter, body_shorter)
 
--- the text after the first c is not longer than the whole text
-after_shorter : (c : ℕ) (s rest : List ℕ) → after c s ≡ Some rest → length rest ≤ length s
-unfolding after
-after_shorter c [] rest e = absurd (let k = e in cc)
-after_shorter c (b ∷ s) rest e =
-    elim (b == c) as (λ v. cond v (Some s) (after c s) ≡ Some rest → length rest ≤ suc (length s)) [
-      | true ↦ λ (h : Some s ≡ Some rest). let same : s ≡ rest = cc in omega (arith, ap length same)
-      | false ↦ λ (h : after c s ≡ Some rest). omega (arith, after_shorter c s rest h)
-    ] e
-
--- a text without C0 controls and spaces at both ends is not longer than the text
-trimmed_shorter : (t : List ℕ) → length (trimmed_text t) ≤ length t
-unfolding trimmed_text
-trimmed_shorter t = grind (arith, length-take, length-drop)
-
--- the tail of a text is not longer than the text
-tail_shorter : (t tail : List ℕ) → tail_of t ≡ Some tail → length tail ≤ length t
-unfolding tail_of
-tail_shorter t tail e = omega (arith, after_shorter 44 (trimmed_text t) tail e, trimmed_shorter t)
-
 -- a body, or the bytes before its fault, is not longer than the text of its URL
 pub body_within_text : {t : List ℕ} {url : DataUrl} → IsUrlOf t url → length (outcome_bytes (url_body url)) ≤ length t
-body_within_text {t} {url} h = omega (arith, body_within_tail url, tail_shorter t (url_tail url) h.tail_is)
+unfolding tail_of trimmed_text
+body_within_text {t} {url} h =
+    let cut = ap length (is_cut 44 (trimmed_text t) (url_tail url) h.tail_is).joined in
+    grind (arith, body_within_tail url, length-append, length-take, length-drop)

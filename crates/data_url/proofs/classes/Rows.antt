@@ -12,8 +12,6 @@ use Rattle.data_url.specs.declared.classes.TheConstants.{CLASSES}
 use Rattle.data_url.specs.declared.classes.lanes.TheConstants.{COLUMNS}
 use Rattle.data_url.proofs.forgiving_base64.Vectors.{differs, joined}
 
--- A row
-
 -- the 16 bytes from index `at` on
 abbrev pub row_at : List ℕ → ℕ → List ℕ
 row_at bytes at = take 16 (drop at bytes)
@@ -51,8 +49,6 @@ one_row_more others bytes at marks h room e none = record {
   front = λ k l. ⊎_elim (λ (m : k < at). h.front k m)
       (λ (m : at ≤ k). none_from_empty_mask (is_marked others) bytes at 16 0 room (sym e ∙ none) k m l) (cases_lt k at);
 }
-
--- From rows to bytes
 
 -- if the bit of each byte's entry in CLASSES agrees with the test p, it is set for a byte exactly if the byte passes
 pub entry_is : (p : ℕ → Bool) (bit : ℕ) → agree_below (λ b. not (bit_and (slice_index CLASSES b) bit == 0)) p 256 ≡ true

@@ -1,25 +1,227 @@
--- What a walk reads between two places of its text, and the bound on how many bytes it reads. For `stop_at`.
-use Rattle.std.proofs.Common.{◌≡◌, ℕ, ◌+◌, ◌*◌, true, false, List, [], ◌∷◌, refl, sym, ap, suc, zero, ◌-◌, ◌<◌}
-use Rattle.std.proofs.Common.{◌∙◌, ◌≤◌, cond, ◌++◌, length, take, drop, get_or, append_assoc, arith, length-append}
+-- What a walk reads: digits after tabs and newlines, the bytes between two places, and blocks with their marks.
+use Rattle.std.proofs.Common.{◌≡◌, ℕ, zero, suc, ◌+◌, ◌*◌, ◌-◌, ◌<◌, ◌≤◌, Bool, true, false, not, cond, ◌&&◌, eqb, ltb}
+use Rattle.std.proofs.Common.{List, [], ◌∷◌, ◌++◌, length, drop, get_or, Option, None, Some, refl, sym, ap, ◌∙◌, arith}
+use Rattle.std.proofs.Common.{eqb-true, subst, take, append_assoc, length-append, ◌/◌, ◌^◌, map, min, replicate, ◌%◌}
+use Rattle.std.proofs.Common.{bit_and, w8, Fits, ◌≢◌, inl, inr}
 use Rattle.std.specs.Prelude.{◌==◌, slice_range}
-use Rattle.std.proofs.lemmas.Bool.{and_left}
-use Rattle.std.proofs.lemmas.List.{drop_more, drop-drop, length-drop}
-use Rattle.std.proofs.lemmas.List.Sums.{prefix_len-drop_no, prefix_len-le-length}
-use Rattle.data_url.specs.Fetch.{plain_body}
+use Rattle.std.specs.Char.{digit_value, is_ascii_hexdigit}
+use Rattle.std.proofs.lemmas.Bool.{agree_below_at, and_left, and_right, cases_Bool, cases_lt, eqb-true}
+pub use Rattle.std.proofs.lemmas.List.{drop_more, get_or-drop, length-drop, drop-drop, drop_all, drop-take, length-take}
+use Rattle.std.proofs.lemmas.List.{take_all, drop-replicate, length-take-le, take_rest, take-append-le, take-take}
+use Rattle.std.proofs.lemmas.List.{drop-map, length-map, map-id}
+use Rattle.std.proofs.lemmas.List.Sums.{prefix_len-drop_yes, prefix_len-drop_no, prefix_len-le-length}
+use Rattle.std.proofs.lemmas.Nat.{le_or_l, le_or_r, and_mask}
 use Rattle.data_url.specs.Percent.{begins_with_escape, percent_decoding}
-use Rattle.data_url.specs.Pieces.{is_slice_end}
-use Rattle.data_url.specs.Steps.Digits.{EscapeAt, NoEscape, cleaned}
+use Rattle.data_url.specs.Url.{after, front, is_tab_or_newline, before, without_tabs_and_newlines}
+use Rattle.data_url.specs.Steps.Digits.{DigitFound, EscapeAt, NoDigit, NoEscape, Skipped, IsCode, IsDigitFrom, cleaned}
 use Rattle.data_url.specs.Steps.Looks.{before_percent, paid}
+use Rattle.data_url.specs.declared.escapes.digits.TheConstants.{DIGITS}
+use Rattle.data_url.proofs.texts.Bytes.{before_nil, before_other, before_same, after_other, dropped_keeps, dropped_nil}
+use Rattle.data_url.proofs.texts.Bytes.{dropped_passes}
+use Rattle.data_url.specs.Fetch.{plain_body}
+use Rattle.data_url.specs.Pieces.{is_slice_end}
 use Rattle.data_url.specs.Steps.Tail.{BeginsFragment}
-use Rattle.data_url.specs.Steps.Walk.{IsClear, IsStop, Reads, Spells}
-use Rattle.data_url.specs.declared.escapes.stops.Stop.TheVariants.{End, Escape, Passed, Stays}
+use Rattle.data_url.specs.Steps.Walk.{IsClear, IsStop, Reads, Spells, IsBlock, IsNextMark, Looking}
+use Rattle.data_url.specs.declared.escapes.stops.Stop.TheVariants.{Passed, Stays}
 use Rattle.data_url.specs.Steps.Window.{is_marked}
-use Rattle.data_url.specs.Url.{before, front, is_tab_or_newline, without_tabs_and_newlines}
-use Rattle.data_url.proofs.escapes.Hexadecimal.{cleaned_hash, cleaned_keeps, cleaned_nil, cleaned_passes}
 use Rattle.data_url.proofs.percent.Encoding.{decoded_escape}
-use Rattle.data_url.proofs.texts.Bytes.{after_other}
+use Rattle.std.specs.Simd.Lanes.{chunk, mask_l, put_chunk, Each1, top, zip2}
+use Rattle.std.proofs.Math.Seq.{take-append-add}
+use Rattle.std.proofs.Math.Nat.{div-div-eq-div-mul, mul_comm, pow-suc}
+use Rattle.std.proofs.lemmas.Simd.{put_chunk_whole, SwzOk, SwzOk-from_below, get_or-swz_l_below, mask_l-mod, swz_l}
+use Rattle.std.proofs.lemmas.Simd.{tops_compared, zip2_of_maps, zip2_splat, none_from_empty_mask, run_in_chunk_fails}
+use Rattle.std.proofs.lemmas.Simd.{run_in_chunk_le, run_in_chunk_stops, trailing_mask_l}
+use borrow.Rule.Slice.PartMut.{mid_of, post_of, put_mid}
+use Rattle.data_url.specs.declared.escapes.lanes.TheConstants.{MARKED}
+use Rattle.std.specs.List.{prefix_len}
+use Rattle.std.specs.Int.Count.{count_trailing_zeros}
+use Rattle.data_url.specs.declared.escapes.source.Source.{Source}
+use Rattle.data_url.specs.declared.escapes.stops.Block.{Block}
 
--- The body
+-- Hexadecimal digits in a text, after tabs and newlines. For `escape` and `escape_here`.
+
+-- a test by whether a byte is a tab or newline, or a digit of some value, tells what its code says
+by_test : (tab hex : Bool) (value code : ℕ)
+    → cond tab (eqb code 16) (cond hex (eqb value code && ltb code 16) (ltb 16 code)) ≡ true
+    → (code ≡ 16 → tab ≡ true) × (code < 16 → (hex ≡ true) × (value ≡ code))
+    × (16 < code → (tab ≡ false) × (hex ≡ false))
+by_test true hex value code h = grind arith
+by_test false true value code h = grind arith
+by_test false false value code h = grind arith
+
+-- each entry of the table is the code of its byte
+pub is_code : (b : ℕ) → b < 256 → IsCode b (get_or DIGITS b 0)
+is_code b l =
+    let t = by_test (is_tab_or_newline b) (is_ascii_hexdigit b) (digit_value b) (get_or DIGITS b 0) (agree_below_at
+    (λ b. cond (is_tab_or_newline b) (eqb (get_or DIGITS b 0) 16) (cond (is_ascii_hexdigit b)
+    (eqb (digit_value b) (get_or DIGITS b 0) && ltb (get_or DIGITS b 0) 16) (ltb 16 (get_or DIGITS b 0))))
+    (λ b. true) 256 b refl l) in
+    record { tab = t.0; digit = t.1; other = t.2 }
+
+-- a hexadecimal digit is neither a tab or newline, nor '#' or '%'
+hex_other : (b : ℕ) → is_ascii_hexdigit b ≡ true → (is_tab_or_newline b ≡ false) × ((b == 35) ≡ false)
+    × (not (b == 37) ≡ true)
+hex_other b h = grind arith
+
+-- the empty text
+pub cleaned_nil : cleaned [] ≡ []
+unfolding front
+cleaned_nil = ap (front) dropped_nil ∙ before_nil 35
+
+-- a tab or newline is dropped
+pub cleaned_passes : (b : ℕ) (s : List ℕ) → is_tab_or_newline b ≡ true → cleaned (b ∷ s) ≡ cleaned s
+cleaned_passes b s h = ap front (dropped_passes b s h)
+
+-- a '#' ends the text
+pub cleaned_hash : (s : List ℕ) → cleaned (35 ∷ s) ≡ []
+unfolding front
+cleaned_hash s = grind (arith, dropped_keeps, before_same)
+
+-- any other byte is kept
+pub cleaned_keeps : (b : ℕ) (s : List ℕ) → is_tab_or_newline b ≡ false → (b == 35) ≡ false
+    → cleaned (b ∷ s) ≡ b ∷ cleaned s
+unfolding front
+cleaned_keeps b s t h = grind (arith, dropped_keeps, before_other)
+
+-- from one index on there is `raw`, and then the same as from another one on, but for tabs and newlines
+record Same (text : List ℕ) (from to : ℕ) (raw : List ℕ) : Type 0 where
+  pub raw_is : cleaned (drop from text) ≡ raw ++ cleaned (drop to text)
+  pub after_is : after 35 (drop from text) ≡ after 35 (drop to text)
+  pub no_percent : before_percent (drop from text) ≡ (to - from) + before_percent (drop to text)
+
+-- n bytes that are skipped
+same_for : (text : List ℕ) (from n : ℕ) → Skipped text from (from + n) → Same text from (from + n) []
+same_for text from zero h = grind arith
+same_for text from (suc n) h =
+    let tab = h.passed from (omega arith) (omega arith) in
+    let within = h.within in
+    let more = same_for text (from + 1) n (record {
+      forward = omega arith;
+      within = omega arith;
+      passed = λ k a b. h.passed k (omega arith) (omega arith);
+    }) in
+    grind (arith, drop_more text from 0, cleaned_passes, after_other, prefix_len-drop_yes)
+
+-- tabs and newlines that are skipped
+same : {text : List ℕ} {from to : ℕ} → Skipped text from to → Same text from to []
+same {text} {from} {to} h =
+    let forward = h.forward in
+    let e : from + (to - from) ≡ to = omega arith in
+    subst (λ to. Same text from to []) e (same_for text from (to - from) (subst (Skipped text from) (sym e) h))
+
+-- a digit that is found is what the text begins with, after tabs and newlines
+has_digit : {text : List ℕ} {place looks value end looks' : ℕ} → DigitFound text place looks value end looks'
+    → Same text place end (get_or text (end - 1) 0 ∷ [])
+has_digit {text} {place} {looks} {value} {end} {looks'} d =
+    let some = d.some in
+    let next : end - 1 + 1 ≡ end = omega arith in
+    let e = ap (λ n. get_or text (end - 1) 0 ∷ drop n text) next in
+    let first = drop_more text (end - 1) 0 (omega (arith, d.within)) in
+    let s = same d.skipped in
+    grind (arith, hex_other, cleaned_keeps, after_other, prefix_len-drop_yes)
+
+-- the text begins with a hexadecimal digit
+abbrev begins_with_digit : List ℕ → Bool
+begins_with_digit [] = false
+begins_with_digit (b ∷ s) = is_ascii_hexdigit b
+
+-- a text that does not begin with a digit, nor with a tab or newline, does not begin with a digit when it is cleaned
+other_first : (s : List ℕ) → (0 < length s → (is_tab_or_newline (get_or s 0 0) ≡ false)
+    × (is_ascii_hexdigit (get_or s 0 0) ≡ false)) → begins_with_digit (cleaned s) ≡ false
+other_first [] h = ap begins_with_digit cleaned_nil
+other_first (b ∷ s) h = grind (arith, cases_Bool, eqb-true, cleaned_hash, cleaned_keeps)
+
+-- if no digit is found, the cleaned text does not begin with one
+no_digit : {text : List ℕ} {place looks looks' : ℕ} → NoDigit text place looks looks'
+    → begins_with_digit (cleaned (drop place text)) ≡ false
+no_digit {text} {place} {looks} {looks'} n =
+    let s = same n.skipped in
+    ap begins_with_digit s.raw_is ∙ other_first (drop n.end text) (λ l. grind (arith, get_or-drop, length-drop))
+
+-- a '%' and at most one byte before no digit are no escape
+no_escape : (raw s : List ℕ) → length raw < 2 → begins_with_digit s ≡ false
+    → begins_with_escape (37 ∷ (raw ++ s)) ≡ false
+no_escape [] [] l h = refl
+no_escape [] (b ∷ []) l h = refl
+no_escape [] (b ∷ c ∷ s) l h = grind (arith, and_left)
+no_escape (b ∷ []) [] l h = refl
+no_escape (b ∷ []) (c ∷ s) l h = grind (arith, and_right)
+no_escape (b ∷ c ∷ raw) s l h = absurd (omega arith)
+
+-- a '%', and then the text after it
+percent_first : (text : List ℕ) (place : ℕ) → place < length text → get_or text place 0 ≡ 37
+    → (cleaned (drop place text) ≡ 37 ∷ cleaned (drop (place + 1) text))
+    × (after 35 (drop place text) ≡ after 35 (drop (place + 1) text))
+percent_first text place l h = grind (arith, drop_more text place 0, cleaned_keeps, after_other)
+
+-- if there is no first digit, there is no escape
+pub escape_no_high : {text : List ℕ} {place looks looks' : ℕ} → place < length text → get_or text place 0 ≡ 37
+    → NoDigit text (place + 1) looks looks' → NoEscape text place looks looks'
+escape_no_high {text} {place} {looks} {looks'} l h n =
+    let s = same n.skipped in
+    let none = no_escape [] (cleaned (drop (place + 1) text)) (omega arith) (no_digit n) in
+    grind (arith, percent_first)
+
+-- if there is no digit after the first one, there is no escape
+pub escape_no_low : {text text' : List ℕ} {place value after looks looks' looks'' : ℕ} → text' ≡ text
+    → place < length text → get_or text place 0 ≡ 37 → DigitFound text (place + 1) looks value after looks'
+    → NoDigit text' after looks' looks'' → NoEscape text place looks looks''
+escape_no_low {text} {text'} {place} {value} {after} {looks} {looks'} {looks''} e l h d m =
+    let n = subst (λ t. NoDigit t after looks' looks'') e m in
+    let high = has_digit d in
+    let s = same n.skipped in
+    let none = no_escape (get_or text (after - 1) 0 ∷ []) (cleaned (drop after text)) (omega arith) (no_digit n) in
+    grind (arith, percent_first)
+
+-- a digit and a digit after it are an escape
+pub escape_both : {text text' : List ℕ} {place high low middle end looks looks' last last' : ℕ} → text' ≡ text
+    → place < length text → get_or text place 0 ≡ 37 → DigitFound text (place + 1) looks high middle looks'
+    → DigitFound text' middle last low end last' → EscapeAt text place (high * 16 + low) end
+escape_both {text} {text'} {place} {high} {low} {middle} {end} {looks} {looks'} {last} {last'} same_is l h d g =
+    let f = subst (λ t. DigitFound t middle last low end last') same_is g in
+    let p = has_digit d in
+    let q = has_digit f in
+    let percent = percent_first text place l h in
+    record {
+      high = get_or text (middle - 1) 0;
+      low = get_or text (end - 1) 0;
+      high_hex = d.hex;
+      low_hex = f.hex;
+      value_is = omega (arith, d.value_is, f.value_is);
+      three = omega (arith, d.some, f.some);
+      within = f.within;
+      raw_is = cc (percent.0, p.raw_is, q.raw_is);
+      after_is = percent.1 ∙ p.after_is ∙ q.after_is;
+      ends = f.hex;
+    }
+
+-- a byte whose code is below 16 is a digit
+digit_at : (text : List ℕ) (place value end : ℕ) → end ≡ place + 1 → end ≤ length text
+    → IsCode (get_or text place 0) value → value < 16 → DigitFound text place 0 value end 1
+digit_at text place value end n w h l = grind arith
+
+-- two bytes after a '%' whose codes are below 16 are an escape
+pub escape_at : (text : List ℕ) (place a b high low : ℕ) → place + 3 ≤ length text → get_or text place 0 ≡ 37
+    → a ≡ get_or text (place + 1) 0 → b ≡ get_or text (place + 2) 0 → IsCode a high → IsCode b low → high < 16
+    → low < 16 → EscapeAt text place (high * 16 + low) (place + 3)
+escape_at text place a b high low w h e f p q l m =
+    let a_code = subst (λ x. IsCode x high) e p in
+    let first = digit_at text (place + 1) high (place + 2) (omega arith) (omega arith) a_code l in
+    let b_code = subst (λ x. IsCode x low) f q in
+    let second = digit_at text (place + 2) low (place + 3) (omega arith) (omega arith) b_code m in
+    escape_both {text = text} refl (omega arith) h first second
+
+-- after a tab or newline, what is found from the next index on is found from its index on
+pub digit_further : {text same : List ℕ} {place looks' : ℕ} (looks looks'' : ℕ) (found : Option (ℕ × ℕ)) → same ≡ text
+    → place < length text → is_tab_or_newline (get_or text place 0) ≡ true → looks' ≡ looks + 1
+    → IsDigitFrom same (place + 1) looks' looks'' found → IsDigitFrom text place looks looks'' found
+digit_further {text} {same} {place} {looks'} looks looks'' None e l code n h = grind arith
+digit_further {text} {same} {place} {looks'} looks looks'' (Some d) e l code n h = grind arith
+
+-- the lemmas for `digit`, `escape` and `escape_here`
+pub ruleset digits = (digit_further, escape_no_high, escape_at, le_or_l, le_or_r)
+
+-- What a walk reads between two places of its text, and the bound on how many bytes it reads. For `stop_at`.
 
 -- a body is the percent-decoded cleaned tail
 plain_is : (s : List ℕ) → plain_body s ≡ percent_decoding (cleaned s)
@@ -59,13 +261,8 @@ before_first (b ∷ s) = elim (b == 35) as (λ v. (rest : List ℕ) × (b ∷ s 
   | false ↦ let k = before_first s in (k.0, ap (λ t. b ∷ t) k.1)
 ]
 
--- a text of at least one byte that begins with an escape, without tabs and newlines, begins where a slice may end
-slice_ends : (b : ℕ) (s : List ℕ) → begins_with_escape (without_tabs_and_newlines (b ∷ s)) ≡ true
-    → is_slice_end (b ∷ s) ≡ true
-slice_ends b s h = grind arith
-
 -- before an escape a slice may end
-escape_ends : {text : List ℕ} {place value end : ℕ} → place < length text → EscapeAt text place value end
+pub escape_ends : {text : List ℕ} {place value end : ℕ} → place < length text → EscapeAt text place value end
     → is_slice_end (drop place text) ≡ true
 unfolding front
 escape_ends {text} {place} {value} {end} l e =
@@ -74,10 +271,8 @@ escape_ends {text} {place} {value} {end} l e =
     let is : without_tabs_and_newlines s ≡ 37 ∷ e.high ∷ e.low ∷ (cleaned (drop end text) ++ f.0) =
     f.1 ∙ ap (λ t. t ++ f.0) e.raw_is in
     let m : s ≡ get_or text place 0 ∷ drop (place + 1) text = drop_more text place 0 l in
-    rw m (slice_ends _ _ (ap (λ t. begins_with_escape (without_tabs_and_newlines t)) (sym m)
-    ∙ ap begins_with_escape is ∙ cc (e.high_hex, e.low_hex)))
-
--- Reads
+    let k = rw m at (ap begins_with_escape is) in
+    rw m (grind (arith, e.high_hex, e.low_hex))
 
 -- from an index to itself nothing is read
 pub spells_none : (text : List ℕ) (place : ℕ) → place ≤ length text → Spells text place place [] []
@@ -94,7 +289,7 @@ pub spells_then : {text r s a b : List ℕ} {from middle to : ℕ} → Spells te
 spells_then {text} {r} {s} {a} {b} {from} {middle} {to} p q = grind (arith, reads_then, append_assoc)
 
 -- a tab or newline is read as no byte
-pub spells_passed : (text : List ℕ) (place : ℕ) → place < length text → is_tab_or_newline (get_or text place 0) ≡ true
+spells_passed : (text : List ℕ) (place : ℕ) → place < length text → is_tab_or_newline (get_or text place 0) ≡ true
     → Spells text place (place + 1) [] []
 spells_passed text place l h = grind (arith, drop_more text place 0, plain_is, cleaned_passes, after_other)
 
@@ -106,7 +301,7 @@ spells_byte text place l t h e =
     grind (arith, drop_more text place 0, plain_is, cleaned_keeps, after_other, decoded_byte)
 
 -- a '%' that does not begin an escape is read as it is
-pub spells_percent : {text : List ℕ} {place looks looks' : ℕ} → place < length text → get_or text place 0 ≡ 37
+spells_percent : {text : List ℕ} {place looks looks' : ℕ} → place < length text → get_or text place 0 ≡ 37
     → NoEscape text place looks looks' → Spells text place (place + 1) (37 ∷ []) (37 ∷ [])
 spells_percent {text} {place} {looks} {looks'} l h n =
     rw h at (spells_byte text place l (grind arith) (grind arith) n.none_is)
@@ -140,8 +335,6 @@ pub spells_clear : (text : List ℕ) (from to : ℕ) → from ≤ to → to ≤ 
     → Spells text from to (slice_range text from to) (slice_range text from to)
 spells_clear text from to l w h = grind (arith, clear_for text from (to - from))
 
--- The bound on the bytes read
-
 -- k bytes have at most one more byte before the next '%' for each of them
 percent_drop : (k : ℕ) (s : List ℕ) → before_percent s ≤ k + before_percent (drop k s)
 percent_drop zero s = omega arith
@@ -158,22 +351,14 @@ pub paid_le : (text : List ℕ) (place : ℕ) → place ≤ length text
 paid_le text place p = grind (arith, prefix_len-le-length, length-drop)
 
 -- at a '%' the bound is twice its index
-paid_percent : (text : List ℕ) (place : ℕ) → place < length text → get_or text place 0 ≡ 37
+pub paid_percent : (text : List ℕ) (place : ℕ) → place < length text → get_or text place 0 ≡ 37
     → paid text place ≡ 2 * place
 paid_percent text place l h = grind (arith, prefix_len-drop_no)
-
--- Stops
 
 -- a '%' without an escape stays, and pays for the bytes that were read after it
 pub stop_percent : {text : List ℕ} {place looks looks' : ℕ} → place < length text → get_or text place 0 ≡ 37
     → NoEscape text place (looks + 1) looks' → IsStop text place looks looks' Stays
 stop_percent {text} {place} {looks} {looks'} l h n = search (arith, paid_percent, spells_percent)
-
--- an escape pays for its bytes, and for three more
-pub stop_escape : {text : List ℕ} {place value end looks looks' : ℕ} → place < length text → get_or text place 0 ≡ 37
-    → EscapeAt text place value end → looks' + place + 1 ≡ looks + 1 + end
-    → IsStop text place looks looks' (Escape value end)
-stop_escape {text} {place} {value} {end} {looks} {looks'} l h e n = search (arith, paid_percent, escape_ends)
 
 -- a tab or newline is passed, and pays for one look
 pub stop_passed : (text : List ℕ) (place looks : ℕ) → place < length text
@@ -182,7 +367,198 @@ stop_passed text place looks l h =
     let p = paid_on text place (place + 1) (omega arith) in
     (grind (arith, drop_more), spells_passed text place l h, grind arith)
 
--- the body ends at a '#'
-pub stop_hash : (text : List ℕ) (place looks : ℕ) → place < length text → get_or text place 0 ≡ 35
-    → IsStop text place looks (looks + 1) End
-stop_hash text place looks l h = grind (arith, drop_more)
+-- Blocks of a body and their marks. For `look_block` and `next_mark`.
+
+-- a block of 64 bytes of the text, copied into a buffer of 256 bytes, leaves its first `width` bytes there
+pub copied_wide : (room bytes text : List ℕ) (len width start : ℕ) → length room ≡ 256 → len + 64 ≤ 256 → width ≤ 64
+    → start + 64 ≤ length text → bytes ≡ text
+    → take (len + width) (put_mid len (len + 64 - len) room (put_chunk 0 (mid_of len (len + 64 - len) room)
+    (chunk 0 64 (take (start + 64 - start) (drop start bytes))))) ≡ take len room ++ take width (drop start text)
+copied_wide room bytes text len width start long l w h e =
+    let n : len + 64 - len ≡ 64 = omega arith in
+    let k : start + 64 - start ≡ 64 = omega arith in
+    let mid = mid_of len (len + 64 - len) room in
+    let size : length mid ≡ 64 =
+    length-take-le (len + 64 - len) (drop len room) (omega (arith, length-drop len room)) ∙ n in
+    let block : chunk 0 64 (take (start + 64 - start) (drop start bytes))
+    ≡ take 64 (drop start text) = cc (take-take 64 64 (drop start bytes) (omega arith)) in
+    let whole : put_chunk 0 mid (take 64 (drop start text)) ≡ take 64 (drop start text) = put_chunk_whole mid _
+    (size ∙ sym (length-take-le 64 (drop start text) (omega (arith, length-drop start text)))) in
+    cc (
+      length-take-le len room (omega arith),
+      take-append-add (take len room) (take 64 (drop start text) ++ post_of len (len + 64 - len) room) width,
+      take-append-le width (take 64 (drop start text)) (post_of len (len + 64 - len) room)
+          (omega (arith, length-take-le 64 (drop start text), length-drop start text)),
+      take-take width 64 (drop start text) w,
+    )
+
+-- zeros after the end of a text have no marks
+no_marks : (k : ℕ) → mask_l (map is_marked (replicate k 0)) ≡ 0
+no_marks zero = refl
+no_marks (suc k) = let e = no_marks k in omega arith
+
+-- zeros that are appended do not change the marks
+pub marks_padded : (xs : List ℕ) (k : ℕ) → mask_l (map is_marked (xs ++ replicate k 0)) ≡ mask_l (map is_marked xs)
+marks_padded [] k = no_marks k
+marks_padded (x ∷ xs) k = grind (arith, marks_padded xs k)
+
+-- the marks of fewer than 64 bytes, copied into a block of zeros
+pub marks_of_rest : (rest new zeros : List ℕ) (r k : ℕ) → new ≡ rest → zeros ≡ replicate 64 0 → k ≡ length rest
+    → r ≡ mask_l (map is_marked (put_mid 0 k zeros new)) → r ≡ mask_l (map is_marked rest)
+marks_of_rest rest new zeros r k e z l h =
+    let tail : drop k zeros ≡ replicate (64 - k) 0 = ap (drop k) z ∙ drop-replicate k 64 0 in
+    cc (marks_padded rest (64 - k))
+
+-- the marks of the first 64 bytes from an index on, or of fewer, are those of the block there
+pub block_at : (text bytes : List ℕ) (place seen marks : ℕ) → bytes ≡ text → place ≤ length text
+    → seen ≡ min (place + 64) (length text)
+    → marks ≡ mask_l (map is_marked (take 64 (take (length bytes - place) (drop place bytes))))
+    → IsBlock text place seen marks
+block_at text bytes place seen marks e l s m =
+    let n = length-drop place text in
+    let all : take (length bytes - place) (drop place bytes) ≡ drop place text = cc (take_rest bytes place) in
+    let same : take 64 (drop place text) ≡ slice_range text place seen = elim (cases_lt 64 (length text - place)) [
+      | inl h ↦ let k : 64 ≡ seen - place = omega arith in ap (λ i. take i (drop place text)) k
+      | inr h ↦ take_all 64 (drop place text) (omega arith)
+          ∙ sym (take_all (seen - place) (drop place text) (omega arith))
+    ] in
+    record { base_le = omega arith; seen_le = omega arith; short = omega arith; marks_are = cc }
+
+-- a shifted mask is the mask of the rest of the list
+mask_half : (b : Bool) (bs : List Bool) → mask_l (b ∷ bs) / 2 ≡ mask_l bs
+mask_half true bs = omega arith
+mask_half false bs = omega arith
+
+-- a mask that is shifted by k bits is the mask of the list without its first k items
+pub mask_later : (bs : List Bool) (k : ℕ) → mask_l bs / 2 ^ k ≡ mask_l (drop k bs)
+mask_later bs zero = omega arith
+mask_later [] (suc k) = omega arith
+mask_later (b ∷ bs) (suc k) =
+    let p : 2 ^ suc k ≡ 2 * 2 ^ k = pow-suc 2 k ∙ mul_comm (2 ^ k) 2 in
+    cc (div-div-eq-div-mul (mask_l (b ∷ bs)) 2 (2 ^ k), mask_half b bs, mask_later bs k)
+
+-- the first n items without the first k are n - k items after the first k
+pub drop_taken : (k n : ℕ) (xs : List ℕ) → drop k (take n xs) ≡ take (n - k) (drop k xs)
+drop_taken k n xs = elim (cases_lt n k) [
+  | inl l ↦
+      let none : n - k ≡ 0 = omega arith in
+      drop_all k (take n xs) (omega (arith, length-take n xs)) ∙ ap (λ i. take i (drop k xs)) (sym none)
+  | inr l ↦ let e : k + (n - k) ≡ n = omega arith in ap (λ i. drop k (take i xs)) (sym e) ∙ drop-take k (n - k) xs
+]
+
+-- The marks of a block: lanes that are looked up in a table and compared.
+
+-- the low half of a byte
+abbrev pub low_half : ℕ → ℕ
+low_half b = bit_and b 15
+
+-- the low half of a byte is below 16
+low_lt : (b : ℕ) → low_half b < 16
+low_lt b = let e = and_mask b 4 in omega (arith, e)
+
+-- the low halves of 64 bytes, as lanes compute them
+abbrev pub lows : List ℕ → List ℕ
+lows v = zip2 bit_and v (replicate 64 15)
+
+-- what lanes compute is the low half of each byte
+pub lows_are : (v : List ℕ) → length v ≡ 64 → lows v ≡ map low_half v
+lows_are v long = zip2_splat bit_and v 64 15 long
+
+-- each low half of a list of bytes is below 16
+each_low : (v : List ℕ) → Each1 (λ j. j < 16) (map low_half v)
+each_low [] = tt
+each_low (b ∷ v) = (low_lt b, each_low v)
+
+-- the low halves satisfy the swizzle's precondition
+pub lows_ok : (v : List ℕ) → length v ≡ 64 → SwzOk w8 16 64 0 (lows v)
+lows_ok v long =
+    let e = lows_are v long in
+    let l : length (map low_half v) ≡ 64 = length-map v low_half ∙ long in
+    let P : List ℕ → Type 0 = λ js. SwzOk w8 16 64 0 js in
+    subst P (sym e) (SwzOk-from_below w8 16 4 64 0 (map low_half v) refl (omega (arith, l)) (each_low v))
+
+-- the table repeats itself
+repeats : (k : ℕ) → k < 64 → get_or MARKED k 0 ≡ get_or MARKED (k % 16) 0
+repeats k l = eqb-true (get_or MARKED k 0) (get_or MARKED (k % 16) 0)
+    (agree_below_at (λ k. eqb (get_or MARKED k 0) (get_or MARKED (k % 16) 0)) (λ k. true) 64 k refl l)
+
+-- the entry of a byte
+abbrev pub entry : ℕ → ℕ
+entry b = get_or MARKED (low_half b) 0
+
+-- from an index on, a swizzle of the table by the low halves of bytes looks up the entry of each byte
+looked_from : (v : List ℕ) (i : ℕ) → i + length v ≤ 64 → swz_l w8 16 MARKED i (map low_half v) ≡ map entry v
+looked_from [] i l = refl
+looked_from (b ∷ v) i l = grind (arith, looked_from v (suc i) (omega arith), low_lt, get_or-swz_l_below, repeats)
+
+-- a swizzle by the low halves looks up the entry of each byte
+pub looked_up : (v : List ℕ) → length v ≡ 64 → swz_l w8 16 MARKED 0 (lows v) ≡ map entry v
+looked_up v long = grind (arith, swz_l, lows_are, looked_from)
+
+-- an entry is equal to the byte exactly if the byte is marked
+marked_here : (b : ℕ) → b < 256 → eqb (entry b) b ≡ is_marked b
+marked_here b l = agree_below_at (λ b. eqb (entry b) b) is_marked 256 b refl l
+
+-- the bytes of a list that are equal to their entries are the marked ones
+marked_each : (v : List ℕ) → Each1 (Fits w8) v → map (λ b. eqb (entry b) b) v ≡ map is_marked v
+marked_each [] h = refl
+marked_each (b ∷ v) h = grind (arith, marked_here, marked_each v h.1)
+
+-- the mask that lanes compute is that of the marked bytes
+pub marks_are : (v : List ℕ) → length v ≡ 64 → Each1 (Fits w8) v
+    → mask_l (map (top 7) (zip2 (λ a b. cond (eqb a b) 255 0) (swz_l w8 16 MARKED 0 (lows v)) v)) % 2 ^ 64 ≡ mask_l
+    (map is_marked v)
+marks_are v long fits =
+    cc (
+      tops_compared w8 eqb (swz_l w8 16 MARKED 0 (lows v)) v,
+      zip2_of_maps eqb entry (λ b. b) v (looked_up v long) (sym (map-id v)),
+      marked_each v fits,
+      mask_l-mod (map is_marked v) 64 (let l = length-map v is_marked in omega arith),
+    )
+
+-- if no item of a list passes a test, the mask of the items that pass is 0
+mask_none : (p : ℕ → Bool) (xs : List ℕ) → prefix_len (λ y. not (p y)) xs ≡ length xs → mask_l (map p xs) ≡ 0
+mask_none p [] h = refl
+mask_none p (x ∷ xs) h = grind (arith, mask_none p xs)
+
+-- the marks of a block, shifted by the distance from its start to an index, are those of the block from the index on
+pub block_from : {s : Source} {b : Block} {place marks : ℕ} → Looking s b place 0 → place ≤ b.seen
+    → marks ≡ b.marks / 2 ^ (place - b.base) → IsBlock s.text.now place b.seen marks
+block_from {s} {b} {place} {marks} k l e = grind (arith, mask_later, drop-map, drop_taken, drop-drop)
+
+-- when the block at an index is read, the walk can go on there
+pub looking_block : {s s' : Source} {b b' : Block} {place : ℕ} → Looking s b place 0 → b.seen ≤ place
+    → s'.text.now ≡ s.text.now → b'.base ≡ place → IsBlock s.text.now place b'.seen b'.marks
+    → s'.looks + place ≡ s.looks + b'.seen → Looking s' b' place 0
+looking_block {s} {s'} {b} {b'} {place} k l t e i n = grind arith
+
+-- how far the items that do not pass go in a chunk
+ruleset runs_in_chunk = (run_in_chunk_le, run_in_chunk_fails, run_in_chunk_stops)
+
+-- if the marks of a block are not 0, their number of trailing zeros is that of the bytes before the next mark
+pub found : {text : List ℕ} {place seen marks : ℕ} (width : ℕ) → IsBlock text place seen marks → marks ≢ 0
+    → width ≡ count_trailing_zeros 64 marks → (place + width < seen) × IsNextMark text place (place + width)
+found {text} {place} {seen} {marks} width h n e =
+    grind (arith, length-drop, length-take-le, trailing_mask_l, mask_none, runs_in_chunk)
+
+-- if the marks of a block are 0, none of its bytes is marked
+pub found_none : {text : List ℕ} {place seen marks : ℕ} → IsBlock text place seen marks → marks ≡ 0
+    → IsClear text place seen
+found_none {text} {place} {seen} {marks} h e = grind (arith, none_from_empty_mask)
+
+-- the walk can go on from a later place
+pub looking_on : {s : Source} {b : Block} {place more : ℕ} (to : ℕ) → Looking s b place more → place ≤ to
+    → to ≤ length s.text.now → Looking s b to more
+looking_on {s} {b} {place} {more} to k l w = let p = paid_on s.text.now place to l in grind arith
+
+-- the walk can go on from the next mark
+pub looking_mark : {s : Source} {b : Block} {place to : ℕ} → Looking s b place 0 → IsNextMark s.text.now place to
+    → Looking s b to 0
+looking_mark {s} {b} {place} {to} k m = looking_on to k m.forward m.within
+
+-- the walk can go on at the end of its block
+pub looking_seen : {s : Source} {b : Block} {place : ℕ} → Looking s b place 0 → place ≤ b.seen → Looking s b b.seen 0
+looking_seen {s} {b} {place} k l = looking_on b.seen k l k.block.seen_le
+
+-- the lemmas for `next_mark` and `stop_at`
+pub ruleset stops = (paid_percent, escape_ends, drop_more, looking_mark, looking_seen, looking_block)

@@ -1,21 +1,21 @@
 -- The pieces of a walk, and the bytes that it gathers. For `Cursor` and `Pieces`.
-use Rattle.std.proofs.Common.{◌≡◌, ℕ, ◌+◌, ◌-◌, ◌<◌, ◌≤◌, true, List, [], ◌∷◌, ◌++◌, length, take}
-use Rattle.std.proofs.Common.{drop, get_or, None, Some, refl, sym, ap, ◌∙◌, subst, inl, inr, arith, length-append}
-use Rattle.std.proofs.Common.{Bool, ◌≢◌, Option, ◌*◌, cond, set, append_assoc, take-add}
+use Rattle.std.proofs.Common.{◌≡◌, ℕ, ◌+◌, ◌-◌, ◌<◌, ◌≤◌, true, List, [], ◌∷◌, ◌++◌, length, take, drop, get_or, None}
+use Rattle.std.proofs.Common.{Some, refl, sym, ap, ◌∙◌, subst, inl, inr, arith, length-append, Bool, ◌≢◌, Option, ◌*◌}
+use Rattle.std.proofs.Common.{cond, set, append_assoc, take-add}
 use Rattle.std.specs.Prelude.{slice_range, IfNone}
 use Rattle.std.proofs.lemmas.List.{drop_more, drop-drop, length-drop, drop_all, append-nil, take_more_set}
 use Rattle.std.proofs.lemmas.List.{length-take-le, append_cancel_right, take-append-drop}
+use Rattle.std.proofs.lemmas.Str.{IsCharBoundary-after_ascii}
 use Rattle.data_url.specs.Fetch.{plain_body}
 use Rattle.data_url.specs.Pieces.{Walk, text_of, IsStretch, bytes_of, has_ended, is_slice_end, walk_of}
 use Rattle.data_url.specs.Steps.Chunks.{IsFront, IsOver, Takes}
 use Rattle.data_url.specs.Steps.Digits.{EscapeAt, cleaned}
 use Rattle.data_url.specs.Steps.Tail.{BeginsFragment, IsBodyEnd, rest_fragment}
-use Rattle.data_url.specs.Steps.Walk.{Ended, EndsAt, Gathers, GoesOn, IsClear, IsNextMark, IsPart, Knows}
-use Rattle.data_url.specs.Steps.Walk.{KnowsAhead, Looking, LooksOn, MayGather, Moves, Pays, Reads, Searching, Spells}
+use Rattle.data_url.specs.Steps.Walk.{Ended, EndsAt, Gathers, GoesOn, IsClear, IsNextMark, IsPart, Knows, KnowsAhead}
+use Rattle.data_url.specs.Steps.Walk.{Looking, LooksOn, MayGather, Moves, Pays, Reads, Searching, Spells}
 use Rattle.data_url.specs.Url.{before, after, front, without_tabs_and_newlines}
-use Rattle.data_url.proofs.escapes.Marks.{looking_on}
-use Rattle.data_url.proofs.escapes.Reading.{ends_empty, paid_le, paid_on, percent_nil, spells_clear, spells_escape}
-use Rattle.data_url.proofs.escapes.Reading.{spells_none, spells_then}
+use Rattle.data_url.proofs.escapes.Reading.{copied_wide, looking_on, marks_of_rest, ends_empty, paid_le, paid_on}
+use Rattle.data_url.proofs.escapes.Reading.{percent_nil, spells_clear, spells_escape, spells_none, spells_then}
 use Rattle.data_url.proofs.percent.Encoding.{decoded_escape}
 use Rattle.data_url.proofs.texts.Bytes.{before_all, after_at, after_nil, after_same, after-dropped_none, before-append}
 use Rattle.data_url.proofs.texts.Bytes.{is_cut, without_tabs_and_newlines-append}
@@ -27,8 +27,6 @@ use Rattle.data_url.specs.declared.escapes.cursor.Cursor.{Cursor}
 use Rattle.data_url.specs.declared.escapes.source.Source.{Source}
 use Rattle.data_url.specs.declared.escapes.stops.Block.{Block}
 use Rattle.data_url.proofs.runs.Runs.{none_or_some}
-
--- Ranges of a text
 
 -- a range, and then the text after it, is the text from the start of the range on
 slice_rest : (text : List ℕ) (a b : ℕ) → a ≤ b → slice_range text a b ++ drop b text ≡ drop a text
@@ -77,8 +75,6 @@ in_front : {s : List ℕ} → after 35 s ≡ None → front s ≡ s
 unfolding front
 in_front {s} h = before_all 35 s h
 
--- Searching
-
 -- a stretch goes on up to the next mark
 pub searching_clear : {text : List ℕ} {from place to mark : ℕ} → Searching text from place to → IsNextMark text to mark
     → Searching text from place mark
@@ -95,8 +91,6 @@ searching_percent {text} {from} {place} {mark} s h p =
     let within = p.reads.within in
     let more = spells_then s.stretch p in
     grind (arith, slice_join text place mark (mark + 1) (omega arith) (omega arith), drop_more)
-
--- Pieces
 
 -- the stretch, with what is skipped before and after it, is a piece
 pub slice_part : {text bytes : List ℕ} {from place mark next : ℕ} → Searching text from place mark → place < mark
@@ -119,8 +113,6 @@ byte_part {text} {from} {place} {value} {end} s q =
         ends = q.ends;
       };
     }
-
--- Walks
 
 -- the walk can go on after what it read
 pub looking_paid : {s s' : Source} {b : Block} {mark to more : ℕ} → Looking s b mark 0 → s'.text.now ≡ s.text.now
@@ -164,16 +156,18 @@ ended_at {c} {s} {b} {mark} k t h l e = grind (arith, paid_le)
 pub ahead_is : (c : Cursor) (a : Ahead) → c.ahead ≡ a → KnowsAhead c a → KnowsAhead c c.ahead
 ahead_is c a e k = grind arith
 
--- a walk that knows that its body ends at its index ends there
-ended_cases : {c : Cursor} (a : Ahead) → KnowsAhead c a → has_ended a ≡ true → Ended c
-ended_cases Unknown k e = absurd (cc)
-ended_cases AfterEscape k e = absurd (cc)
-ended_cases (Escape value end) k e = absurd (cc)
-ended_cases End k e = k
+-- whatever a walk knows about its index, it ends there if that is the end, and it has read at most three times as many
+-- bytes as its text has
+known_cases : (c : Cursor) (a : Ahead) → KnowsAhead c a → (has_ended a ≡ true → Ended c)
+    × (c.source.looks ≤ 3 * length (text_of c))
+known_cases c Unknown k = (λ e. absurd (cc), grind (arith, paid_le))
+known_cases c AfterEscape k = (λ e. absurd (cc), grind (arith, paid_le))
+known_cases c (Escape value end) k = (λ e. absurd (cc), grind (arith, paid_le))
+known_cases c End k = (λ e. k, k.few_looks)
 
 -- a walk that has ended is at the end of its body
 pub ended_of : {c : Cursor} → Knows c → has_ended c.ahead ≡ true → Ended c
-ended_of {c} k e = ended_cases c.ahead k.ahead_is e
+ended_of {c} k e = (known_cases c c.ahead k.ahead_is).0 e
 
 -- what follows the first '#' of a text that is empty or begins with '#' is its fragment
 begun_fragment : (s : List ℕ) → BeginsFragment s → after 35 s ≡ rest_fragment s
@@ -218,8 +212,6 @@ end_knows {c} k e = record {
   few_looks = grind (arith, paid_le);
 }
 
--- Bytes that are gathered in a buffer
-
 -- what is gathered in two steps, one after the other, is gathered in both together
 pub gathers_then : {c c1 c2 : Cursor} {room room1 room2 : List ℕ} {len len1 len2 : ℕ} → Gathers c c1 room room1 len len1
     → Gathers c1 c2 room1 room2 len1 len2 → Gathers c c2 room room2 len len2
@@ -235,30 +227,24 @@ pub gathers_nothing : {c c' : Cursor} {room : List ℕ} {len : ℕ} → LooksOn 
     → Reads (text_of c) c.place c'.place [] → Gathers c c' room room len len
 gathers_nothing {c} {c'} {room} {len} on r = grind (arith, append-nil)
 
--- a stretch without marks is copied from the block, and the walk goes on after it
-pub gathers_clear : {c : Cursor} {room room' : List ℕ} {len : ℕ} (to : ℕ) → MayGather c len → c.place < c.block.seen
-    → c.place ≤ to → to ≤ c.block.seen → IsClear (text_of c) c.place to
+-- a stretch without marks is copied from the block
+pub gathers_clear : {c : Cursor} {room room' : List ℕ} {len : ℕ} (to : ℕ) → MayGather c len → c.place ≤ to
+    → to ≤ c.block.seen → IsClear (text_of c) c.place to
     → take (len + (to - c.place)) room' ≡ take len room ++ slice_range (text_of c) c.place to
     → Gathers c (record c { place = to }) room room' len (len + (to - c.place))
-    × MayGather (record c { place = to }) (len + (to - c.place))
-gathers_clear {c} {room} {room'} {len} to m h l w clear e =
-    let room = m.room.for_block h in
+gathers_clear {c} {room} {room'} {len} to m l w clear e =
     let seen = m.looking.block.seen_le in
-    let long : length (slice_range (text_of c) c.place to) ≡ to - c.place =
-    length-take-le (to - c.place) (drop c.place (text_of c)) (omega (arith, length-drop c.place (text_of c))) in (
-      record {
-        bytes = slice_range (text_of c) c.place to;
-        on = grind arith;
-        reads = (spells_clear (text_of c) c.place to l (omega arith) clear).reads;
-        room_is = e;
-        len_is = omega arith;
-      },
-      record {
-        looking = looking_on to m.looking l (omega arith);
-        unknown = m.unknown;
-        room = record { some = omega arith; for_block = λ k. omega arith };
-      },
-    )
+    let reads = (spells_clear (text_of c) c.place to l (omega arith) clear).reads in
+    let long = length-take-le (to - c.place) (drop c.place (text_of c)) (omega (arith, length-drop {A = ℕ})) in
+    grind arith
+
+-- after that the walk can gather more
+pub may_clear : {c : Cursor} {len : ℕ} (to : ℕ) → MayGather c len → c.place < c.block.seen → c.place ≤ to
+    → to ≤ c.block.seen → MayGather (record c { place = to }) (len + (to - c.place))
+may_clear {c} {len} to m h l w =
+    let looking = looking_on to m.looking l (omega (arith, m.looking.block.seen_le)) in
+    let room = m.room.for_block h in
+    grind arith
 
 -- an escape is read as the byte of its value
 pub reads_escape : {text : List ℕ} {place value end : ℕ} → EscapeAt text place value end
@@ -281,8 +267,6 @@ pub smaller : (c0 : Cursor) {c1 c' : Cursor} {room room' : List ℕ} {len len' :
     → measure total c'.place (has_ended c'.ahead) < measure total c0.place (has_ended c0.ahead)
 smaller c0 {c1} {c'} {room} {room'} {len} {len'} total u p t m g = grind arith
 
--- The contract of a walk
-
 -- where a walk has ended, nothing of the body is left
 pub rest_over : {c : Cursor} → Knows c → has_ended c.ahead ≡ true → plain_body (drop c.place (text_of c)) ≡ []
 rest_over {c} k e = grind (arith, ends_empty, ended_of)
@@ -304,16 +288,9 @@ again None k g e = refl
 again (Some p) {c} {c'} k g e =
     grind (arith, piece_some p g, rest_over k e, length-append (bytes_of p) (plain_body (drop c'.place (text_of c))))
 
--- whatever a walk knows about its index, it has read at most three times as many bytes as its text has
-looks_cases : (c : Cursor) (a : Ahead) → KnowsAhead c a → c.source.looks ≤ 3 * length (text_of c)
-looks_cases c Unknown k = grind (arith, paid_le)
-looks_cases c AfterEscape k = grind (arith, paid_le)
-looks_cases c (Escape value end) k = grind (arith, paid_le)
-looks_cases c End k = k.few_looks
-
 -- a walk has read at most three times as many bytes as its text has
 pub few_looks : {c : Cursor} → Knows c → c.source.looks ≤ 3 * length (text_of c)
-few_looks {c} k = looks_cases c c.ahead k.ahead_is
+few_looks {c} k = (known_cases c c.ahead k.ahead_is).1
 
 -- if nothing was gathered, and then came a piece, the walk returns the bytes of the piece
 pub takes_next : {c c1 c2 : Cursor} {room0 room : List ℕ} {len : ℕ} (p : Piece) → Gathers c c1 room0 room 0 len
@@ -325,20 +302,17 @@ pub over_next : {c c1 c2 : Cursor} {room0 room : List ℕ} {len : ℕ} → Gathe
     → GoesOn c1 None c2 → Knows c2 → IsOver (walk_of c) (walk_of c2)
 over_next {c} {c1} {c2} g e h k = grind (arith, rest_over)
 
+-- the lemmas for pieces
+pub ruleset stretches = (looking_escape, looking_paid, byte_part, byte_next, goes_part, slice_part, searched)
+
 -- the lemmas for the functions that gather bytes
-pub ruleset gathering = (
-  gathers_byte,
-  gathers_nothing,
-  gathers_then,
-  gathers_escape,
-  reads_escape,
-  looking_escape,
-  ended_at,
-  smaller,
-)
+pub ruleset gathering = (gathers_byte, gathers_nothing, gathers_then, gathers_escape, reads_escape, ended_at, smaller)
+
+-- the lemmas for `Cursor`
+pub ruleset walks = (stretches, gathering, knows_on, ahead_is, spells_none, spells_then)
+
+-- the lemmas for `Source`
+pub ruleset sources = (copied_wide, marks_of_rest, hash_at, drop_all, IsCharBoundary-after_ascii)
 
 -- the lemmas for `Pieces`
 pub ruleset walking = (body_end, rest_over, over_rest, again, few_looks)
-
--- the lemmas for `next`
-pub ruleset nexts = (byte_next, knows_on, looking_escape, ahead_is)

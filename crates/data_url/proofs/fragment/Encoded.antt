@@ -1,18 +1,20 @@
 -- An encoded fragment is read again as it is.
-use Rattle.std.proofs.Common.{◌≡◌, ℕ, ◌<◌, true, false, List, [], ◌∷◌, Some, refl}
-use Rattle.std.proofs.Common.{ap, ◌∙◌, arith}
+use Rattle.std.proofs.Common.{◌≡◌, ℕ, ◌<◌, true, false, List, [], ◌∷◌, Some, refl, ap, ◌∙◌, arith}
 use Rattle.std.proofs.lemmas.Bool.{agree_below_at}
 use Rattle.data_url.specs.Url.{after_scheme, before, after, cleaned_text, without_tabs_and_newlines, encoded_path}
-use Rattle.data_url.specs.Url.{fragment, front, hex_digit, in_fragment_set, is_tab_or_newline}
-use Rattle.data_url.specs.Url.{percent_encoding, serialised, trimmed_text}
+use Rattle.data_url.specs.Url.{fragment, front, hex_digit, in_fragment_set, is_tab_or_newline, percent_encoding}
+use Rattle.data_url.specs.Url.{serialised, trimmed_text}
 use Rattle.data_url.specs.Fetch.{encoded_body, header_of, staged, staged_fragment, staged_front}
 use Rattle.data_url.specs.Laws.{IsReadAgain, is_fragment_byte}
 use Rattle.data_url.specs.Mime.{Every}
-use Rattle.data_url.proofs.percent.Encoding.{IsBytes, encoded_cons, encoded_nil}
+use Rattle.data_url.proofs.percent.Encoding.{IsBytes, encoded_cons, encoded_nil, is_recoded, recoded-decoded}
 use Rattle.data_url.proofs.texts.CodePoints.{end_stays, not_ends_every}
-use Rattle.data_url.proofs.texts.Bytes.{dropped_keeps, dropped_nil}
-
--- An encoded text has only such bytes
+use Rattle.data_url.proofs.texts.Bytes.{dropped_keeps, dropped_nil, fragment_dropped}
+use Rattle.data_url.proofs.forgiving_base64.Padding.{first_fault_least, padding_fits}
+use Rattle.data_url.proofs.header.Serialising.{flag_of_spaces, no_last_space}
+use Rattle.data_url.proofs.header.Stages.{bytes_by_place, bytes_dropped}
+use Rattle.data_url.proofs.mime.Printing.{same_seen, seen_same}
+use Rattle.data_url.proofs.mime.RoundTrips.{printed_only, printed_parses, printed_same}
 
 -- an encoded fragment can have each upper-case hexadecimal digit
 digit_byte : (d : ℕ) → d < 16 → is_fragment_byte (hex_digit d) ≡ true
@@ -22,8 +24,6 @@ digit_byte d l = grind (arith, agree_below_at)
 pub fragment_bytes : (s : List ℕ) → IsBytes s → Every is_fragment_byte (percent_encoding in_fragment_set s)
 fragment_bytes [] h = grind (arith, encoded_nil)
 fragment_bytes (b ∷ s) h = grind (arith, encoded_cons, digit_byte, fragment_bytes s h.1)
-
--- Such bytes stay as they are
 
 -- a byte that an encoded fragment can have is not a tab or newline
 not_dropped : (b : ℕ) → is_fragment_byte b ≡ true → is_tab_or_newline b ≡ false
@@ -44,8 +44,6 @@ cleaned_itself : (t : List ℕ) → Every is_fragment_byte t → cleaned_text t 
 unfolding cleaned_text trimmed_text
 cleaned_itself t h = grind (arith, end_stays, not_ends_every, dropped_itself)
 
--- The stages of the text
-
 -- if the text after the scheme is ",#" and x, the encoded fragment is x, percent-encoded
 staged_again : (t x : List ℕ) → after_scheme t ≡ Some (44 ∷ 35 ∷ x)
     → staged_fragment (staged t) ≡ Some (percent_encoding in_fragment_set x)
@@ -57,3 +55,12 @@ staged_again t x h = rw h refl
 pub read_again : (x : List ℕ) → Every is_fragment_byte x → IsReadAgain x
 unfolding after_scheme
 read_again x h = grind (arith, staged_again, cleaned_itself, encoded_itself)
+
+-- the lemmas on the printed texts of records
+pub ruleset prints = (printed_only, printed_parses, printed_same, same_seen, seen_same)
+
+-- the lemmas for the functions of `laws`
+pub ruleset laws = (is_recoded, recoded-decoded, bytes_by_place, bytes_dropped, fragment_bytes, read_again, prints)
+
+-- the lemmas for those of `facts`
+pub ruleset facts = (first_fault_least, padding_fits, flag_of_spaces, no_last_space, fragment_dropped)

@@ -1,34 +1,30 @@
 -- Percent-encoding with the rows of a table, and decoding of encoded texts. For `push_encoded`.
 use Rattle.std.proofs.Common.{append_assoc, ◌≡◌, ℕ, ◌*◌, ◌+◌, ◌-◌, ◌<◌, ◌&&◌, ◌||◌, Bool, false, true, List, [], ◌∷◌}
-use Rattle.std.proofs.Common.{length, take}
-use Rattle.std.proofs.Common.{drop, refl, ◌/◌, ◌%◌, not, ◌++◌, Option, None, Some, sym, ap, ◌∙◌, inl, inr, subst}
-use Rattle.std.proofs.Common.{append-nil, arith, suc, ◌≤◌, get_or}
+use Rattle.std.proofs.Common.{length, take, drop, refl, ◌/◌, ◌%◌, not, ◌++◌, Option, None, Some, sym, ap, ◌∙◌, inl, inr}
+use Rattle.std.proofs.Common.{subst, append-nil, arith, suc, ◌≤◌, get_or}
 use Rattle.std.specs.Prelude.{◌==◌, slice_index, nat_lt}
 use Rattle.std.specs.Str.{bytes_eq, IsAscii, IsUtf8}
-use Rattle.std.proofs.lemmas.Bool.{agree_below, agree_below_at, and_parts, eqb-true, and_left, cases_Bool}
-use Rattle.std.proofs.lemmas.Bool.{cond_both, both_ways, ne_eqb, ltb-true, not-true}
+use Rattle.std.proofs.lemmas.Bool.{agree_below, agree_below_at, and_parts, eqb-true, and_left, cases_Bool, cond_both}
+use Rattle.std.proofs.lemmas.Bool.{both_ways, ne_eqb, ltb-true, not-true}
 use Rattle.std.proofs.lemmas.Slice.Eq.{bytes_eq-Decides}
-use Rattle.data_url.specs.Url.{in_path_set, in_query_set, before, after, encoded_byte, encoded_path}
-use Rattle.data_url.specs.Url.{hex_digit, in_path_end_set, percent_encoding, serialised, with_query}
-use Rattle.data_url.specs.Url.{without_tabs_and_newlines}
+use Rattle.data_url.specs.Url.{in_path_set, in_query_set, before, after, encoded_byte, encoded_path, hex_digit}
+use Rattle.data_url.specs.Url.{in_path_end_set, percent_encoding, serialised, with_query, without_tabs_and_newlines}
 use Rattle.data_url.specs.Steps.Sets.{IsRow, byte_encoding, in_set}
 use Rattle.data_url.proofs.classes.Rows.{unmarked_passes}
 use Rattle.std.specs.Char.{digit_value, is_ascii_hexdigit}
 use Rattle.std.specs.List.{AllByRecursion, list_all}
 use Rattle.data_url.specs.Steps.Header.{header_parts, header_text}
 use Rattle.data_url.specs.Percent.{percent_decoding}
-use Rattle.data_url.proofs.texts.Bytes.{before-append, before_at, before_nil, before_other, before_same, after_nil}
-use Rattle.data_url.proofs.texts.Bytes.{after_other, after_same, lacks}
-use Rattle.data_url.proofs.texts.Bytes.{dropped_keeps, dropped_nil, dropped_passes, without_tabs_and_newlines-append}
+use Rattle.data_url.proofs.texts.Bytes.{first_byte, before-append, before_at, before_nil, before_other, before_same}
+use Rattle.data_url.proofs.texts.Bytes.{after_nil, after_other, after_same, lacks, dropped_keeps, dropped_nil}
+use Rattle.data_url.proofs.texts.Bytes.{dropped_passes, without_tabs_and_newlines-append}
 use Rattle.std.proofs.Math.Seq.{take-append-add}
 use Rattle.std.proofs.lemmas.Grind.{flat_map-append}
-use Rattle.std.proofs.lemmas.List.{nil_from_length, take_more, length-take-le, take-take}
+use Rattle.std.proofs.lemmas.List.{nil_from_length, take_all, take_more, length-take-le, take-take}
 use Rattle.std.proofs.lemmas.Str.{IsAscii-append, IsUtf8-from_ascii}
 use Rattle.std.proofs.lemmas.Str.Ascii.{IsAscii-nil}
 use Rattle.data_url.specs.declared.percent.EncodeSet.TheVariants.{Fragment, Path, Query}
 use Rattle.data_url.specs.declared.percent.EncodeSet.{EncodeSet}
-
--- The rows of the tables that say what each byte of a URL is written as.
 
 -- the row of a byte in a table
 abbrev pub row_at : List ℕ → ℕ → List ℕ
@@ -68,8 +64,6 @@ pub data Recoded : List ℕ → List ℕ → Type 0 where
   written : {s x : List ℕ} (b : ℕ) → in_query_set b ≡ true → b < 256 → Recoded s x
       → Recoded (b ∷ s) (37 ∷ hex_digit (b / 16) ∷ hex_digit (b % 16) ∷ x)
 
--- Bytes
-
 -- a byte of the set is not a hexadecimal digit
 set_no_hex : (b : ℕ) → b < 256 → in_query_set b ≡ true → is_ascii_hexdigit b ≡ false
 set_no_hex b l h = not-true (is_ascii_hexdigit b)
@@ -86,8 +80,6 @@ hex_digit_value d l = grind arith
 -- the upper-case hexadecimal digit of a number below 16 is a hexadecimal digit
 hex_digit_hex : (d : ℕ) → d < 16 → is_ascii_hexdigit (hex_digit d) ≡ true
 hex_digit_hex d l = grind (arith, agree_below_at)
-
--- Decoding by one byte
 
 -- the text begins with two hexadecimal digits
 abbrev pub two_digits : List ℕ → Bool
@@ -153,8 +145,6 @@ recoded-decoded (kept b (kept c (written d h l r))) =
 recoded-decoded (kept b (kept c (kept {s} {x} d r))) =
     grind (arith, cases_Bool, escapes, keeps, kept, recoded-decoded r, recoded-decoded (kept c (kept d r)))
 
--- Encodings
-
 -- the empty text is percent-encoded as the empty text
 pub encoded_nil : (p : ℕ → Bool) → percent_encoding p [] ≡ []
 unfolding percent_encoding
@@ -177,8 +167,6 @@ pub is_recoded : (p : ℕ → Bool) → ((b : ℕ) → p b ≡ true → in_query
     → Recoded s (percent_encoding p s)
 is_recoded p within [] h = subst (λ x. Recoded [] x) (sym (encoded_nil p)) none
 is_recoded p within (b ∷ s) h = grind (arith, encoded_cons, recoded_byte, is_recoded p within s h.1)
-
--- The serialised front, byte by byte
 
 -- the set of a byte before the rest of its path
 abbrev pub path_byte_set : List ℕ → ℕ → Bool
@@ -230,8 +218,6 @@ serialised_recoded (b ∷ s) h = elim (cases_Bool (b == 63)) [
   | inr e ↦ grind (arith, serialised_path, recoded_byte, serialised_recoded s h.1)
 ]
 
--- The first comma
-
 -- the texts after the first comma of both: none, or one is the other with some bytes percent-encoded
 abbrev pub RecodedTails : Option (List ℕ) → Option (List ℕ) → Type 0
 RecodedTails None None = Unit {0}
@@ -250,15 +236,11 @@ recoded_tails none = grind (arith, after_nil)
 recoded_tails (kept {s} {x} b r) = grind (arith, after_same, after_other, recoded_tails r)
 recoded_tails (written {s} {x} b h l r) = grind (arith, after_other, set_other, after_written, recoded_tails r)
 
--- the bytes before the first comma of an encoded text are the encoding of the bytes before the first comma
-
 -- if a set does not have the comma, cutting at the first comma and encoding can be done in either order
 before_encoded : (p : ℕ → Bool) → p 44 ≡ false → (s : List ℕ) → before 44 (percent_encoding p s) ≡ percent_encoding p
     (before 44 s)
 before_encoded p h [] = grind (arith, encoded_nil, before_nil)
 before_encoded p h (b ∷ s) = grind (arith, encoded_cons, before_same, encoded_nil, before_other, before_encoded p h s)
-
--- the header's text, byte by byte
 
 -- the header text of the empty text is empty
 pub header_nil : header_text [] ≡ []
@@ -303,18 +285,15 @@ before-serialised (b ∷ h) rest e =
     grind (
       arith,
       before-serialised h rest,
-      lacks,
       cases_Bool,
       eqb-true,
-      serialised_query,
-      before_other,
-      before_encoded,
+      first_byte,
+      before-append,
       before_at,
+      before_encoded,
+      serialised_query,
       header_query,
       serialised_path,
-      before-append,
-      after_nil,
-      after_other,
       same_set,
       header_path,
     )
@@ -343,17 +322,12 @@ percent_encoding-append p s t = flat_map-append (encoded_byte p) s t
 pub encoded-append : (p : ℕ → Bool) (s t : List ℕ) → encoded p (s ++ t) ≡ encoded p s ++ encoded p t
 encoded-append p s t = grind (arith, without_tabs_and_newlines-append, percent_encoding-append)
 
--- the lemmas that join the encodings of parts
-pub ruleset parts = (append_assoc, append-nil, encoded-append, encoded_empty, nil_from_length)
-
 -- if each byte is written as it is, the whole text is
 pub kept_whole : (p : ℕ → Bool) (s : List ℕ)
     → ((k : ℕ) → k < length s → byte_encoding p (get_or s k 0) ≡ get_or s k 0 ∷ []) → s ≡ encoded p s
 kept_whole p [] h = sym (encoded_empty p)
 kept_whole p (b ∷ s) h =
     sym (cc (written_first p b s, h 0 (omega arith), kept_whole p s (λ k l. h (suc k) (omega arith))))
-
--- a text of plain bytes is serialised as it is
 
 -- the byte is written as it is in a path, and is none of '#', ',' and '?'
 pub record Plain (b : ℕ) : Type 0 where
@@ -392,8 +366,6 @@ put_more p s i room at row room' m l within r n h =
       );
     }
 
--- What is written is ASCII
-
 -- all bytes of the text are ASCII
 abbrev pub are_ascii : List ℕ → Bool
 are_ascii s = list_all (λ c. nat_lt c 128) s
@@ -420,3 +392,6 @@ encoded_ascii set (b ∷ s) h = subst IsAscii (sym (written_first (in_set set) b
 pub encoded_text : (set : EncodeSet) (s text : List ℕ) → ((i : ℕ) → get_or s i 0 < 256) → text ≡ encoded (in_set set) s
     → IsUtf8 text
 encoded_text set s text h e = subst IsUtf8 (sym e) (IsUtf8-from_ascii (encoded (in_set set) s) (encoded_ascii set s h))
+
+-- the lemmas for `push_encoded` and what it calls
+pub ruleset parts = (append_assoc, append-nil, encoded-append, encoded_empty, nil_from_length, take_all)

@@ -1,6 +1,6 @@
 -- Runs of a closure, one after another.
 use Rattle.std.proofs.Common.{◌≡◌, ℕ, List, [], ◌∷◌, ◌++◌, Option, None, Some, is_some, Result, Ok, Err, refl, ap, sym}
-use Rattle.std.proofs.Common.{◌∙◌, append_assoc, subst, true, inl, inr, ◌⊎◌}
+use Rattle.std.proofs.Common.{◌∙◌, append_assoc, subst, true, inl, inr, ◌⊎◌, arith}
 use Rattle.std.proofs.lemmas.List.{append-nil}
 use Rattle.std.specs.Prelude.{IsErr, MatchOption}
 use Rattle.std.proofs.lemmas.Bool.{false≢true, true≢false}
@@ -19,12 +19,6 @@ pub later_none : {E : Type 0} (r : Result (Unit {0}) E) (o : Option E) → optio
 later_none (Ok x) o h = h
 later_none (Err x) o h = absurd (some_not_none x h)
 
--- if the error of a result, or else o, is `None`, its error, or else p, is p
-or_same : {E : Type 0} (r : Result (Unit {0}) E) (o p : Option E) → option_or (result_err r) o ≡ None
-    → option_or (result_err r) p ≡ p
-or_same (Ok x) o p h = refl
-or_same (Err x) o p h = absurd (some_not_none x h)
-
 module _ {F E : Type 0} (step : F → List ℕ → Result (Unit {0}) E → F → Type 0) where
   -- a run from f to g without an error, and then a run from g to h, are together a run from f to h
   pub run-append : (xs ys : List (Call F E)) (f g h : F) → IsRun step f xs g → refusal xs ≡ None → IsRun step g ys h
@@ -40,17 +34,13 @@ module _ {F E : Type 0} (step : F → List ℕ → Result (Unit {0}) E → F →
 -- if xs ends without an error, the error that ends xs ++ ys is the one that ends ys
 pub refusal-append : {F E : Type 0} (xs ys : List (Call F E)) → refusal xs ≡ None → refusal (xs ++ ys) ≡ refusal ys
 refusal-append [] ys n = refl
-refusal-append (c ∷ cs) ys n = or_same c.answer (refusal cs) (refusal (cs ++ ys)) n
-    ∙ refusal-append cs ys (later_none c.answer (refusal cs) n)
+refusal-append (c ∷ cs) ys n = grind (arith, later_none, refusal-append cs ys)
 
 -- the pieces of xs ++ ys, joined, are those of xs, then those of ys
 pub joined_pieces-append : {F E : Type 0} (xs ys : List (Call F E))
     → joined_pieces (xs ++ ys) ≡ joined_pieces xs ++ joined_pieces ys
 joined_pieces-append [] ys = refl
-joined_pieces-append (c ∷ cs) ys = ap (λ x. c.piece ++ x) (joined_pieces-append cs ys)
-    ∙ sym (append_assoc c.piece (joined_pieces cs) (joined_pieces ys))
-
--- Cases of an option
+joined_pieces-append (c ∷ cs) ys = grind (arith, append_assoc, joined_pieces-append cs ys)
 
 -- an option is `None`, or `Some` of a value
 pub none_or_some : {A : Type 0} (o : Option A) → (o ≡ None) ⊎ ((x : A) × (o ≡ Some x))
@@ -91,8 +81,6 @@ match_map (Some x) P P' Q Q' f g h = g x h
 pub match_at : {A : Type 0} (o o' : Option A) (P : Type 0) (Q : A → Type 0) → o' ≡ o → MatchOption o P Q
     → MatchOption o' P Q
 match_at {A = A} o o' P Q e h = let M : Option A → Type 0 = λ z. MatchOption z P Q in subst M (sym e) h
-
--- Prefixes
 
 -- the empty text is a prefix of each text
 pub prefix_none : (xs : List ℕ) → IsPrefix [] xs

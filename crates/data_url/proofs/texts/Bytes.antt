@@ -6,8 +6,6 @@ use Rattle.std.proofs.lemmas.Bool.{cases_Bool, cond-true, cond-false}
 use Rattle.std.specs.Option.{option_map}
 use Rattle.data_url.specs.Url.{before, after, without_tabs_and_newlines, fragment, is_tab_or_newline}
 
--- one byte on
-
 -- a text that begins with c has no bytes before its first c
 pub before_same : (c : ℕ) (s : List ℕ) → before c (c ∷ s) ≡ []
 unfolding before
@@ -71,6 +69,9 @@ before_at c a s h = grind (arith, before-append, before_same, append-nil)
 pub after_at : (c : ℕ) (a s : List ℕ) → after c a ≡ None → after c (a ++ c ∷ s) ≡ Some s
 after_at c a s h = after-append c a (c ∷ s) h ∙ after_same c s
 
+-- how a text is cut by its first byte
+pub ruleset first_byte = (before_nil, after_nil, before_same, after_same, before_other, after_other, lacks)
+
 -- s is the bytes before its first c, then c, then rest; there is no c among the bytes before
 pub record IsCut (c : ℕ) (s rest : List ℕ) : Type 0 where
   pub joined : s ≡ before c s ++ c ∷ rest
@@ -80,25 +81,12 @@ pub record IsCut (c : ℕ) (s rest : List ℕ) : Type 0 where
 pub is_cut : (c : ℕ) (s rest : List ℕ) → after c s ≡ Some rest → IsCut c s rest
 is_cut c [] rest h = grind (arith, after_nil)
 is_cut c (b ∷ s) rest h =
-    grind (
-      arith,
-      is_cut c s rest,
-      cases_Bool,
-      eqb-true,
-      before_same,
-      after_same,
-      lacks,
-      after_nil,
-      after_other,
-      before_other,
-    )
+    grind (arith, is_cut c s rest, cases_Bool, eqb-true, first_byte)
 
 -- if c is at no index of the text, the text has no c
 pub after_none : (c : ℕ) (s : List ℕ) → ((k : ℕ) → k < length s → (get_or s k 0 == c) ≡ false) → after c s ≡ None
 after_none c [] h = after_nil c
 after_none c (b ∷ s) h = after_other c b s (h 0 (omega arith)) ∙ after_none c s (λ k l. h (suc k) (omega arith))
-
--- Dropping
 
 -- the empty text without tabs and newlines is empty
 pub dropped_nil : without_tabs_and_newlines [] ≡ []

@@ -1,7 +1,6 @@
 -- Texts of code points, cut at the first code point that does not pass, and where their bytes can be cut.
 use Rattle.std.proofs.Common.{◌≡◌, ℕ, ◌≤◌, ◌<◌, ◌+◌, ◌-◌, Bool, true, false, cond, List, [], ◌∷◌, ◌++◌, length, take}
-use Rattle.std.proofs.Common.{drop}
-use Rattle.std.proofs.Common.{refl, one-add, subst, sym, ap, ◌∙◌, arith, zero, suc, get_or, encode_utf8_all}
+use Rattle.std.proofs.Common.{drop, refl, one-add, subst, sym, ap, ◌∙◌, arith, zero, suc, get_or, encode_utf8_all}
 use Rattle.std.proofs.Common.{append-nil, ◌==◌}
 use Rattle.std.specs.List.{prefix_len, suffix_len}
 use Rattle.std.specs.Str.{chars, IsCharBoundary, IsUtf8, all_scalars, IsAscii}
@@ -17,8 +16,6 @@ use Rattle.data_url.specs.Mime.{DoesNotBegin, DoesNotEnd, Every}
 use Rattle.data_url.specs.Steps.Parsing.{IsTrimmedEnd, front_of}
 use Rattle.std.proofs.lemmas.List.Sums.{suffix_len-le-length}
 use Rattle.data_url.specs.Url.{is_c0_control_or_space, without_end, without_front}
-
--- Prefixes and suffixes that pass
 
 -- if all of a passes, and b does not begin with a code point that passes, a is the longest prefix of a ++ b that passes
 pub front_len : (p : ℕ → Bool) (a b : List ℕ) → Every p a → DoesNotBegin p b → prefix_len p (a ++ b) ≡ length a
@@ -114,8 +111,6 @@ end_before p c s (d ∷ t) h = (
 has_end : (p : ℕ → Bool) (s : List ℕ) → (t : List ℕ) × IsTrimmedEnd p s t
 has_end p [] = grind arith
 has_end p (c ∷ s) = let h = has_end p s in end_before p c s h.0 h.1
-
--- Where the bytes of a text can be cut
 
 -- the class has all or none of the code points that are not ASCII
 abbrev pub IsSteady : (ℕ → Bool) → Type 0

@@ -1,5 +1,7 @@
 //! The walk over the text of a body.
 
+#![tactic(auto, using(crate::proofs::escapes::Walking::walks))]
+
 ghost use Rattle.std.specs.Prelude.{ℕ, [], ◌≡◌, ◌+◌, ◌<◌, ◌≤◌, IsTrue, drop, length, slice_index, true};
 ghost use Rattle.data_url.specs.Pieces.{is_slice_end, text_of, walk_at_front, walk_of};
 ghost use Rattle.data_url.specs.Steps.Chunks.{GivesBytes, IsFront};
@@ -81,7 +83,6 @@ impl<'a> Cursor<'a> {
 
     /// The next piece.
     #[inline(always)]
-    #[tactic(auto, using(crate::proofs::escapes::Walking::nexts))]
     pub(super) fn next(&mut self) -> Option<Piece<'a>>
         requires { Knows self.old }
         ensures goes { GoesOn self.old result self.new }
@@ -182,7 +183,6 @@ impl<'a> Cursor<'a> {
     /// Gathers the bytes of the next pieces in a buffer while they come in short stretches, and returns how many. None
     /// are gathered if the body ends or a long stretch begins.
     #[inline(always)]
-    #[tactic(auto, using(crate::proofs::escapes::Walking::gathering))]
     fn gather(&mut self, room: &mut [u8; ROOM]) -> usize
         requires { Knows self.old }
         ensures gathers { Gathers self.old self.new room.old room.new 0 result }
@@ -277,7 +277,6 @@ impl<'a> Cursor<'a> {
 
     /// Gathers what begins at the mark at the place.
     #[inline(always)]
-    #[tactic(auto, using(crate::proofs::escapes::Walking::gathering))]
     fn gather_stop(&mut self, room: &mut [u8; ROOM], len: usize, dense: bool) -> (usize, bool)
         requires may { MayGather self.old len }
         requires here { self.old.place < self.old.block.seen }
@@ -315,7 +314,6 @@ impl<'a> Cursor<'a> {
 
     /// Gathers the values of escapes that follow one another after an escape.
     #[inline(always)]
-    #[tactic(auto, using(crate::proofs::escapes::Walking::gathering))]
     fn gather_escapes(&mut self, room: &mut [u8; ROOM], len: usize) -> usize
         requires unknown { self.old.ahead ≡ Ahead.Unknown }
         requires looking { Looking self.old.source self.old.block self.old.place 3 }

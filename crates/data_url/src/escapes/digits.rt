@@ -1,5 +1,7 @@
 //! Hexadecimal digits after a `%`, past tabs and newlines.
 
+#![tactic(auto, using(crate::proofs::escapes::Reading::digits))]
+
 ghost use Rattle.std.specs.Prelude.{◌≡◌, ◌+◌, ◌<◌, ◌≤◌, IfSome, MatchOption, length, slice_index};
 ghost use Rattle.data_url.specs.Url.{percent_sign};
 ghost use Rattle.data_url.specs.Steps.Digits.{EscapeAt, IsCode, IsDigitFrom, NoEscape};
@@ -36,7 +38,6 @@ fn digit_code(byte: u8) -> u8
 impl<'a> Source<'a> {
     /// Returns the byte of the escape whose `%` is at a place, past tabs and newlines, and the place after it.
     #[inline(always)]
-    #[tactic(auto, using(crate::proofs::escapes::Hexadecimal::digits))]
     pub(super) fn escape(&mut self, place: usize) -> Option<(u8, usize)>
         requires within { place < length self.old.text.now }
         requires percent { slice_index self.old.text.now place ≡ percent_sign }
@@ -53,7 +54,6 @@ impl<'a> Source<'a> {
 
     /// Returns the byte of an escape without tabs and newlines at a place, if there is one.
     #[inline(always)]
-    #[tactic(auto, using(crate::proofs::escapes::Hexadecimal::digits))]
     pub(super) fn escape_here(&mut self, place: usize) -> Option<u8>
         requires { place + 3 ≤ length self.old.text.now }
         ensures text { self.new.text.now ≡ self.old.text.now }
@@ -74,7 +74,6 @@ impl<'a> Source<'a> {
 
     /// Returns the value of the hexadecimal digit from a place on, past tabs and newlines, and the place after it.
     #[inline(always)]
-    #[tactic(auto, using(crate::proofs::escapes::Hexadecimal::digits))]
     fn digit(&mut self, place: usize) -> Option<(u8, usize)>
         requires { place ≤ length self.old.text.now }
         ensures text { self.new.text.now ≡ self.old.text.now }

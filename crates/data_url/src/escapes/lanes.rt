@@ -1,5 +1,7 @@
 //! Finds the bytes of a text that its body does not hold as they are, 64 bytes at a time.
 
+#![tactic(auto, using(crate::proofs::escapes::Reading::lows_ok, crate::proofs::escapes::Reading::marks_are))]
+
 ghost use Rattle.std.specs.Prelude.{◌≡◌, map};
 ghost use Rattle.std.specs.Simd.Lanes.{mask_l};
 ghost use Rattle.data_url.specs.Steps.Window.{is_marked};

@@ -1,5 +1,7 @@
 //! The text of a body. Each byte of it that is examined is counted.
 
+#![tactic(auto, using(crate::proofs::escapes::Walking::sources))]
+
 ghost use Rattle.std.specs.Prelude.{◌≡◌, IsTrue, [], ◌+◌, ◌-◌, ◌^◌, ◌++◌, ◌<◌, ◌≤◌, length, map, min, slice_index, slice_range, take};
 ghost use Rattle.std.specs.Simd.Lanes.{mask_l};
 ghost use Rattle.std.specs.Option.{option_map};

@@ -1,5 +1,7 @@
 //! The marked bytes of a text: where they are, and what begins there.
 
+#![tactic(auto, using(crate::proofs::escapes::Reading::stops))]
+
 ghost use Rattle.std.specs.Prelude.{◌≡◌, ◌^◌, ◌<◌, ◌≤◌, MatchOption, length, slice_index, true};
 ghost use Rattle.data_url.specs.Steps.Walk.{IsClear, IsNextMark, IsStop, Looking, LooksOn};
 ghost use Rattle.data_url.specs.Steps.Window.{is_marked};

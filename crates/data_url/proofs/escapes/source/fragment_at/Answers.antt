@@ -1,14 +1,6 @@
-use Rattle.std.proofs.Common.{Some, ap, arith, length, sym, ◌∙◌}
-use Rattle.std.proofs.lemmas.Str.{IsCharBoundary-after_ascii}
-use Rattle.std.proofs.lemmas.List.{drop_all}
+use Rattle.std.proofs.Common.{Some, ap, length, sym, ◌∙◌}
 use Rattle.data_url.proofs.escapes.Walking.{hash_at}
 use Rattle.data_url.proofs.escapes.source.fragment_at.Goals as goal
-
-pub returns-then-place-bytes : goal.returns-then-place-bytes
-returns-then-place-bytes c = grind (arith, drop_all)
-
-pub range_from-requires : goal.range_from-requires
-range_from-requires c = grind (arith, hash_at, IsCharBoundary-after_ascii)
 
 pub returns : goal.returns
 returns c =

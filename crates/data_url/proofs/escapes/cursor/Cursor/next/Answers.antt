@@ -5,6 +5,3 @@ use Rattle.data_url.proofs.escapes.cursor.Cursor.next.Goals as goal
 pub returns-in-Escape-clause-goes : goal.returns-in-Escape-clause-goes
 returns-in-Escape-clause-goes c =
     let k = rw c.in-Escape.is at c.requires.ahead_is in byte_next k.0 (grind arith) refl
-
-pub returns-in-Some-clause-goes : goal.returns-in-Some-clause-goes
-returns-in-Some-clause-goes c = byte_next c.in-Some.ensures.found (grind arith) refl

@@ -1,19 +1,11 @@
 use Rattle.std.proofs.Common.{arith, ◌∙◌, sym}
-use Rattle.data_url.proofs.escapes.Reading.{stop_escape, stop_hash, stop_passed, stop_percent}
+use Rattle.data_url.proofs.escapes.Reading.{stop_passed, stop_percent}
 use Rattle.data_url.proofs.escapes.source.Source.stop_at.Goals as goal
-
-pub returns-in-Some-clause-stop : goal.returns-in-Some-clause-stop
-returns-in-Some-clause-stop c =
-    stop_escape (omega arith) (sym c.look-byte.ensures.byte ∙ c.if-byte-eq37.true)
-    (rw c.look-byte.ensures.text at c.in-Some.ensures.found.0) (grind arith)
 
 pub returns-in-None-clause-stop : goal.returns-in-None-clause-stop
 returns-in-None-clause-stop c =
     stop_percent (omega arith) (sym c.look-byte.ensures.byte ∙ c.if-byte-eq37.true)
     (rw (c.look-byte.ensures.text, c.look-byte.ensures.looks) at c.in-None.ensures.found)
-
-pub returns-then-byte-eq35-clause-stop : goal.returns-then-byte-eq35-clause-stop
-returns-then-byte-eq35-clause-stop c = rw c.look-byte.ensures.looks (stop_hash _ _ _ (omega arith) (grind arith))
 
 pub returns-else-byte-eq35-clause-stop : goal.returns-else-byte-eq35-clause-stop
 returns-else-byte-eq35-clause-stop c = rw c.look-byte.ensures.looks (stop_passed _ _ _ (omega arith) (grind arith))

@@ -1,7 +1,7 @@
 use Rattle.std.proofs.Common.{◌≡◌, ◌-◌, ◌*◌, ◌≤◌, arith, drop, length-drop}
 use Rattle.std.proofs.lemmas.List.{take-take}
 use Rattle.std.proofs.lemmas.List.Edits.{take-paste}
-use Rattle.data_url.proofs.escapes.Marks.{drop_taken}
+use Rattle.data_url.proofs.escapes.Reading.{drop_taken}
 use Rattle.data_url.proofs.forgiving_base64.piece.Piece.drop_front.Goals as goal
 
 pub returns-clause-bytes : goal.returns-clause-bytes
