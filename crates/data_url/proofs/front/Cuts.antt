@@ -1,31 +1,25 @@
 -- The scheme, and the first comma of a text. For `after_scheme` and `split_at_comma`.
 use Rattle.data_url.specs.Steps.Header.{header_text}
-use Rattle.data_url.proofs.texts.Bytes.{after-dropped_none}
-use Rattle.data_url.proofs.percent.Encoding.{kept_whole}
-use Rattle.std.proofs.Common.{◌≡◌, ◌≢◌, ℕ, ◌+◌, ◌<◌, Bool, true, false, List, ◌∷◌, ◌++◌, length, get_or, take}
-use Rattle.std.proofs.Common.{drop, map, nat_eq, subst, length-append, codes, refl, sym, ap, ◌∙◌, ⊎_elim, arith}
-use Rattle.std.proofs.Common.{◌-◌, Option, None, Some, position, ap₂, ◌⊎◌, eqb-true}
+use Rattle.data_url.proofs.texts.Bytes.{after-dropped_none, without_tabs_and_newlines-append, dropped_around}
+use Rattle.data_url.proofs.texts.Bytes.{dropped_keeps, dropped_nil, dropped_passes, before_all, before_at, after_none}
+use Rattle.data_url.proofs.percent.Encoding.{kept_whole, ascii_all, Plain}
+use Rattle.std.proofs.Common.{◌≡◌, ◌≢◌, ℕ, ◌+◌, ◌<◌, Bool, true, false, List, ◌∷◌, ◌++◌, length, get_or, take, drop}
+use Rattle.std.proofs.Common.{map, nat_eq, subst, length-append, codes, refl, sym, ap, ◌∙◌, ⊎_elim, arith, ◌-◌, Option}
+use Rattle.std.proofs.Common.{None, Some, position, ap₂, ◌⊎◌, eqb-true, append-nil}
 use Rattle.std.specs.Char.{to_ascii_lowercase}
 use Rattle.std.specs.Str.{IsCharBoundary, IsUtf8}
 use Rattle.std.proofs.lemmas.Bool.{cases_lt, cond-true, lt-ltb, or_cases, or_parts}
 use Rattle.std.proofs.lemmas.List.{get_or_at, take_more, get_or-take, length-map, length-take, map-append}
-use Rattle.std.proofs.lemmas.List.{take-append-le}
-use Rattle.std.proofs.lemmas.List.{take-map, drop_more, get_or-drop, length-drop, take-append-drop, take_all}
+use Rattle.std.proofs.lemmas.List.{take-append-le, take-map, drop_more, get_or-drop, length-drop, take-append-drop}
+use Rattle.std.proofs.lemmas.List.{take_all}
 use Rattle.std.proofs.lemmas.Slice.Eq.{bytes_eq-Decides, starts_is}
 use Rattle.std.specs.List.{starts_with, prefix_len}
 use Rattle.std.proofs.lemmas.Str.{IsCharBoundary-after_ascii, IsCharBoundary-from_take, IsUtf8-from_ascii}
 use Rattle.data_url.specs.Url.{without_tabs_and_newlines, is_tab_or_newline, after, front}
 use Rattle.data_url.specs.Steps.Front.{HasNoScheme, IsSchemeAndRest, IsHeaderAndTail, ends_header, is_plain_path}
-use Rattle.data_url.proofs.percent.Encoding.{ascii_all, Plain}
-use Rattle.std.proofs.Common.{append-nil}
-use Rattle.data_url.proofs.texts.Bytes.{without_tabs_and_newlines-append, dropped_around, dropped_keeps, dropped_nil}
-use Rattle.data_url.proofs.texts.Bytes.{dropped_passes, before_all, before_at, after_none}
 use Rattle.std.specs.Prelude.{◌||◌}
 use Rattle.std.proofs.lemmas.List.Quantifiers.{position-Some}
 use Rattle.std.proofs.lemmas.List.Sums.{fails_before_first, prefix_len_passes}
-use Rattle.data_url.specs.Steps.Header.{header_text}
-
--- Spelling the scheme, one byte after the other.
 
 -- the scheme, in lower case
 abbrev scheme : List ℕ
@@ -124,8 +118,6 @@ differs text place n l h e ne =
       get_or_at low (to_ascii_lowercase b) (map to_ascii_lowercase rest) 0 n (length-map s to_ascii_lowercase ∙ size),
     )
 
--- The scheme as it is commonly spelled
-
 -- the scheme stays as it is in lower case and without tabs and newlines
 common_spelled : map to_ascii_lowercase (without_tabs_and_newlines scheme) ≡ scheme
 unfolding without_tabs_and_newlines
@@ -144,8 +136,6 @@ common_boundary text u h =
 -- a text that begins with "data:" has the scheme, and its rest is the text from the sixth byte on
 pub common_scheme : (text rest : List ℕ) → text ≡ scheme ++ drop 5 text → rest ≡ drop 5 text → IsSchemeAndRest text rest
 common_scheme text rest h e = grind (arith, common_spelled)
-
--- The first comma or '#' of a text.
 
 -- at index n is the first ',' or '#' of the text
 pub record IsFrontEnd (s : List ℕ) (n : ℕ) : Type 0 where
@@ -174,8 +164,6 @@ at_comma s n f ne = grind (arith, cut_at)
 pub at_hash : (s : List ℕ) (n : ℕ) → IsFrontEnd s n → get_or s n 0 ≡ 35 → after 44 (front s) ≡ None
 unfolding front
 at_hash s n f h = cc (cut_at s n f.within, before_at 35 (take n s) (drop (n + 1) s) f.no_hash)
-
--- The bytes of a path that are serialised as they are
 
 -- if n is the length of the longest prefix of plain path bytes, each of the first n bytes is `Plain`
 plain_front : (s items : List ℕ) (n : ℕ) → items ≡ s → n ≡ prefix_len is_plain_path items

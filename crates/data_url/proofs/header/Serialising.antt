@@ -1,13 +1,13 @@
 -- Headers: serialised path and query, and the last space of a path. For `serialise`.
-use Rattle.std.proofs.Common.{◌≡◌, ◌≢◌, ◌⊎◌, ℕ, suc, ◌+◌, ◌-◌, ◌<◌, ◌≤◌, Bool, true, false, List, [], ◌∷◌, ◌++◌}
-use Rattle.std.proofs.Common.{length, get_or, take, drop, reverse, codes, refl, sym, ap, ◌∙◌, inl, inr, ⊎_elim, None}
+use Rattle.std.proofs.Common.{◌≡◌, ◌≢◌, ◌⊎◌, ℕ, suc, ◌+◌, ◌-◌, ◌<◌, ◌≤◌, Bool, true, false, List, [], ◌∷◌, ◌++◌, length}
+use Rattle.std.proofs.Common.{get_or, take, drop, reverse, codes, refl, sym, ap, ◌∙◌, inl, inr, ⊎_elim, None}
 use Rattle.std.proofs.Common.{append_assoc, arith, eqb-true, subst, length-append, Option, Some}
 use Rattle.std.specs.Prelude.{◌==◌}
 use Rattle.std.specs.List.{prefix_len, suffix_len}
 use Rattle.std.proofs.lemmas.Bool.{cases_lt, ne_eqb, cases_Bool, not-true, not-false}
 use Rattle.std.proofs.lemmas.List.{append-nil, drop_all, drop_more, get_or-drop, get_or-reverse, get_or-take}
-use Rattle.std.proofs.lemmas.List.{length-drop, length-reverse, length-take, take-append-drop}
-use Rattle.std.proofs.lemmas.List.{get_or_at, take_all, take_more}
+use Rattle.std.proofs.lemmas.List.{length-drop, length-reverse, length-take, take-append-drop, get_or_at, take_all}
+use Rattle.std.proofs.lemmas.List.{take_more}
 use Rattle.std.proofs.lemmas.List.Sums.{prefix_len_passes, prefix_len_stops, suffix_len-le-length}
 use Rattle.data_url.specs.Url.{before, after, without_tabs_and_newlines, encoded_byte, encoded_path, in_path_end_set}
 use Rattle.data_url.specs.Url.{in_path_set, in_query_set, is_tab_or_newline, percent_encoding, after_scheme}
@@ -25,10 +25,6 @@ use Rattle.data_url.specs.Mime.{DoesNotEnd}
 use Rattle.data_url.proofs.header.Suffix.{same_flag}
 use Rattle.data_url.proofs.front.Cuts.{cut_at}
 use Rattle.data_url.proofs.mime.RoundTrips.{not_ends_last}
-
--- Serialising a header: its path, and its query.
-
--- The end of a path
 
 -- a path of one byte is encoded with the set for the last byte
 path_one : (b : ℕ) → encoded_path (b ∷ []) ≡ encoded_byte in_path_end_set b
@@ -93,8 +89,6 @@ has_other_end s m n e at other =
 pub has_no_end : (s : List ℕ) (m : ℕ) → m ≡ suffix_len is_tab_or_newline s → length s ≤ m → HasNoLastSpace s
 has_no_end s m e all = grind (arith, all_dropped, suffix_passes, path_nil, encoded_nil)
 
--- The parts of a header
-
 -- with one
 header_and_query : (path rest : List ℕ) → after 63 path ≡ None
     → header_text (without_tabs_and_newlines (path ++ 63 ∷ rest)) ≡ encoded_path
@@ -144,10 +138,6 @@ cut_at_query text n e = record {
       (cases_lt n (length text));
 }
 
--- The last space of a path: where it is encoded, and that the base64 flag does not depend on it.
-
--- The end of a cleaned text
-
 -- the text is empty, or its last byte is neither a C0 control nor a space
 abbrev Ends : List ℕ → Type 0
 Ends s = 0 < length s → is_c0_control_or_space (get_or s (length s - 1) 0) ≡ false
@@ -195,8 +185,6 @@ no_last_space t a h =
     subst (DoesNotEnd is_space) (sym rest)
     (ends_with_no_space _ (ends_after 5 _ (ends_dropped _ (ends_trimmed front))))
 
--- The two rules on the last space of a path
-
 -- an encoded path is the same by both rules, or ends with "%20" by one and with a space by the other
 data Differs (path : List ℕ) : Type 0 where
   same_path : encoded_path path ≡ percent_encoding in_path_set path → Differs path
@@ -217,8 +205,6 @@ differs_last path init b e = elim (cases_Bool (b == 32)) [
 differs_by : (path : List ℕ) → Differs path
 differs_by [] = grind (arith, path_nil, encoded_nil)
 differs_by (c ∷ s) = differs_last (c ∷ s) _ _ (last_of (c ∷ s) (omega arith))
-
--- The flag of a text whose first comma is known
 
 -- nothing after the first comma changes the header
 comma_before : (x y rest : List ℕ) → after 44 x ≡ Some rest → before_comma (x ++ y) ≡ Some (before 44 x)

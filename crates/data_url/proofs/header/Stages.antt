@@ -39,10 +39,6 @@ use Rattle.data_url.specs.DataUrl.{IsAcceptable, IsUrlOf, is_base64, mime_of, ur
 use Rattle.data_url.specs.MimeType.{record_of}
 use Rattle.data_url.specs.declared.DataUrl.{DataUrl}
 
--- Serialised headers have only printable bytes, so that trimming them is the same as stripping their spaces.
-
--- Serialised texts
-
 -- each byte of the text is a printable ASCII character
 abbrev printable : List ℕ → Type 0
 printable [] = Unit {0}
@@ -69,13 +65,9 @@ printable_at (b ∷ s) h (suc i) l = printable_at s h.2 i (omega arith)
 pub header_text_printable : (s : List ℕ) → IsBytes s → IsPrintable (header_text s)
 header_text_printable s h = printable_at (header_text s) (header_all s h)
 
--- Parts of printable texts
-
 -- the first n bytes of a printable text are printable
 pub printable_take : (n : ℕ) (s : List ℕ) → IsPrintable s → IsPrintable (take n s)
 printable_take n s h i l = grind (arith, length-take, get_or-take)
-
--- Spaces are the only low bytes
 
 -- in a printable text, the longest prefix of C0 controls and spaces is as long as that of spaces
 low_front : (s : List ℕ) → IsPrintable s → prefix_len is_c0_control_or_space s ≡ prefix_len is_space s
@@ -96,10 +88,6 @@ pub printable_stripped : (s : List ℕ) → IsPrintable s → IsPrintable (strip
 unfolding stripped_header
 printable_stripped s h = grind (arith, printable_take, get_or-drop, length-drop)
 
--- From the input, cut after its scheme and at its first comma, to the stages of the Standard.
-
--- Bytes
-
 -- if a ++ b is a text of bytes, so are a and b
 pub bytes_append : (a b : List ℕ) → IsBytes (a ++ b) → IsBytes a × IsBytes b
 bytes_append [] b h = (tt, h)
@@ -115,8 +103,6 @@ pub bytes_before : (c : ℕ) (s : List ℕ) → IsBytes s → IsBytes (before c 
 unfolding before
 bytes_before c [] h = tt
 bytes_before c (b ∷ s) h = grind (arith, bytes_before c s h.1)
-
--- The scheme has no comma
 
 -- if a text in lower case has no comma, the text has none
 pub lacks_comma : (d : List ℕ) → after 44 (map to_ascii_lowercase d) ≡ None → after 44 d ≡ None
@@ -147,8 +133,6 @@ scheme_has_no_comma scheme e = elim (none_or_some (after 44 scheme)) [
       )
 ]
 
--- After the scheme
-
 -- if the trimmed text is the scheme and then rest, the text after the scheme is rest without tabs and newlines
 after_is : (t rest : List ℕ) (h : IsSchemeAndRest (trimmed_text t) rest)
     → after_scheme t ≡ Some (without_tabs_and_newlines rest)
@@ -167,8 +151,6 @@ after_is t rest h =
 after_none : (t : List ℕ) → HasNoScheme (trimmed_text t) → after_scheme t ≡ None
 unfolding after_scheme cleaned_text
 after_none t h = grind arith
-
--- Header, body and fragment
 
 -- a text that is cut at its first comma is so without tabs and newlines
 dropped_parts : {rest header tail : List ℕ} → IsHeaderAndTail rest header tail
@@ -240,8 +222,6 @@ is_accepted t rest header tail b s h =
       tail_is = grind (arith, after-append, scheme_has_no_comma, after_at);
     }
 
--- No comma
-
 -- a text of which what follows the scheme has no comma before its first '#' has no header
 no_header : (t a : List ℕ) → after_scheme t ≡ Some a → IsBytes a → after 44 (front a) ≡ None → header_of t ≡ None
 unfolding header_of front
@@ -259,14 +239,10 @@ front_lacks rest h = elim (none_or_some (after 35 rest)) [
   | inr (x, e) ↦ grind (arith, is_cut 35 rest x e, dropped_around, before_at, after-dropped_none)
 ]
 
--- The record of a header.
-
 -- a list is a text of bytes if the number at each place is below 256
 pub bytes_by_place : (s : List ℕ) → ((i : ℕ) → get_or s i 0 < 256) → IsBytes s
 bytes_by_place [] h = tt
 bytes_by_place (b ∷ s) h = (h 0, bytes_by_place s (λ i. h (suc i)))
-
--- The default record
 
 -- if a text has no record, the default record is the record for it
 pub default_for : (s : List ℕ) (m : Record) → HasNoRecord s → m ≡ default_record → IsRecordFor s m
@@ -288,8 +264,6 @@ pub default_is : (type_ subtype charset value : List ℕ) → type_ ≡ codes "t
 unfolding chars
 default_is type_ subtype charset value a b c d = grind arith
 
--- A type that is missing
-
 -- a text that does not begin with ';' stays as it is
 pub plain_stays : (media : List ℕ) → get_or media 0 0 ≢ 59 → with_plain media ≡ media
 plain_stays [] n = refl
@@ -304,8 +278,6 @@ plain_added (c ∷ s) h = grind arith
 pub chars_printable : (s : List ℕ) → IsPrintable s → chars s ≡ s
 chars_printable s h = grind (arith, chars-IsAscii, get_or_past)
 
--- The suffix
-
 -- if media is the text before the base64 suffix of a header, the record for `with_plain media` is the record of the
 -- header, and its flag is true
 pub with_suffix : (header media : List ℕ) (m : Record) → before_base64 (stripped_header header) ≡ Some media
@@ -319,10 +291,6 @@ pub no_suffix : (header : List ℕ) (m : Record) → before_base64 (stripped_hea
     → IsRecordFor (with_plain (stripped_header header)) m → IsHeaderOf header m false
 unfolding mime_text media_of has_base64_suffix
 no_suffix header m e h = grind arith
-
--- The head of a MIME type whose type is missing: that of "text/plain" with the parameters after it.
-
--- The head
 
 -- if t ++ back is empty or begins with ';', t is empty or begins with ';'
 front_begins : (t back : List ℕ) → BeginsParameters (t ++ back) → BeginsParameters t
@@ -353,8 +321,6 @@ plain_head_is s t b e = record {
   begins = front_begins t e.back (subst BeginsParameters e.joined b);
 }
 
--- A type that is missing
-
 -- a text with ';' at index 0 begins with ';'
 pub begins_at : (s : List ℕ) → get_or s 0 0 ≡ 59 → BeginsParameters s
 begins_at [] h = tt
@@ -370,8 +336,6 @@ plain_record media a b c m h e head record_is =
     let parsed : Parses (with_plain media) m =
     subst (λ s. Parses s m) same (parses_parts (codes "text/plain" ++ chars media) a b c m head record_is) in
     parsed_for (with_plain media) m parsed (parses_wellformed (with_plain media) m parsed)
-
--- A text is accepted exactly if the Standard's data: URL processor accepts it.
 
 -- if the trimmed text does not begin with the scheme, the Standard finds no scheme
 pub stages_no_scheme : (t : List ℕ) → HasNoScheme (trimmed_text t) → staged t ≡ NoScheme
@@ -444,8 +408,6 @@ bytes_take (suc n) (b ∷ s) h = (h.0, bytes_take n s h.1)
 pub bytes_trimmed : (t : List ℕ) → ((i : ℕ) → get_or t i 0 < 256) → IsBytes (trimmed_text t)
 unfolding trimmed_text
 bytes_trimmed t h = grind (arith, bytes_take, bytes_drop, bytes_by_place)
-
--- The body and the fragment of a URL
 
 -- if there is a comma before the first '#', there is no '#' before the first comma
 comma_first : (s x : List ℕ) → after 44 (before 35 s) ≡ Some x → after 35 (before 44 s) ≡ None

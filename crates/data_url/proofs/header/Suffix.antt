@@ -6,9 +6,9 @@ use Rattle.std.specs.Prelude.{option_and_then}
 use Rattle.std.specs.Char.{to_ascii_lowercase}
 use Rattle.std.specs.List.{suffix_len}
 use Rattle.std.specs.Str.{bytes_eq}
-use Rattle.std.proofs.lemmas.List.{length-map, length-take}
-use Rattle.std.proofs.lemmas.List.{drop_all, drop_more, get_or-take, length-drop, length-take-le, take-take}
-use Rattle.std.proofs.lemmas.List.{drop-append-le, get_or_at, get_or-drop, get_or-map, reverse-append}
+use Rattle.std.proofs.lemmas.List.{length-map, length-take, drop_all, drop_more, get_or-take, length-drop}
+use Rattle.std.proofs.lemmas.List.{length-take-le, take-take, drop-append-le, get_or_at, get_or-drop, get_or-map}
+use Rattle.std.proofs.lemmas.List.{reverse-append}
 use Rattle.std.proofs.lemmas.List.Sums.{suffix_len-le-length, prefix_len-drop_no, prefix_len-le-length}
 use Rattle.std.proofs.lemmas.Slice.Eq.{bytes_eq-Decides}
 use Rattle.data_url.specs.Url.{is_c0_control_or_space, without_end}
@@ -19,8 +19,6 @@ use Rattle.data_url.proofs.header.Stages.{low_end, printable_take}
 use Rattle.std.specs.Option.{option_map}
 use Rattle.std.proofs.Math.Seq.{drop-append-add, take-append-add}
 use Rattle.std.proofs.lemmas.List.Folds.{prefix_len-append}
-
--- The base64 suffix, read from the end.
 
 -- the word of the suffix
 abbrev pub word : List ℕ
@@ -83,10 +81,6 @@ with_semicolon s n spaces m p h e is =
     let front = before_one s m (omega (arith, h.six)) in
     after_word s n spaces p h ∙ ap (λ k. before_semicolon (take k s)) e ∙ grind (arith, bytes_eq-Decides)
 
--- The base64 suffix of a header with a query comes after its '?'.
-
--- Spaces at the ends
-
 -- if b does not pass, the longest suffix of x ++ b ∷ q that passes is as long as that of q
 pub suffix_stop : (p : ℕ → Bool) (x q : List ℕ) (b : ℕ) → p b ≡ false → suffix_len p (x ++ b ∷ q) ≡ suffix_len p q
 suffix_stop p x q b f =
@@ -104,8 +98,6 @@ end_after : (x q : List ℕ) → without_end is_space (x ++ 63 ∷ q) ≡ x ++ 6
 end_after x q =
     let n = suc (length q - suffix_len is_space q) in
     grind (arith, suffix_stop, suffix_len-le-length is_space q, length-append, take-append-add x (63 ∷ q) n)
-
--- The word
 
 -- if q has at least n bytes, the last n bytes of y ++ q are those of q
 last_after : (y q : List ℕ) (n : ℕ) → n ≤ length q → last_bytes n (y ++ q) ≡ last_bytes n q
@@ -134,8 +126,6 @@ too_near x q l = no_word (x ++ 63 ∷ q) (λ e.
     grind (arith, get_or-drop n s place 0, get_or_at x 63 q 0 (length x) refl) in
     let within : place < length (drop n s) = omega (arith, length-drop n s) in
     no_mark place (cc (get_or-map to_ascii_lowercase (drop n s) place 0 0 within)))
-
--- The whole
 
 -- what the suffix depends on
 abbrev after_mark : Option (List ℕ) → Bool

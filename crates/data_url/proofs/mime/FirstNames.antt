@@ -1,7 +1,7 @@
 -- Which parameters are kept: the first of each name. For `kept.rt`, and that a record is well formed.
-use Rattle.std.proofs.Common.{◌≡◌, ℕ, List, String, ap, length, map, min, sym, take, ◌∙◌, ◌<◌, ◌||◌, ◌&&◌, Bool}
-use Rattle.std.proofs.Common.{true, false, cond, [], ◌∷◌, ◌++◌, get_or, drop, Option, None, Some, refl, ap₂, subst}
-use Rattle.std.proofs.Common.{Global, drop-cons, add-one, ◌+◌, append_assoc, append-nil, arith, inl, inr, ◌≤◌, not}
+use Rattle.std.proofs.Common.{◌≡◌, ℕ, List, String, ap, length, map, min, sym, take, ◌∙◌, ◌<◌, ◌||◌, ◌&&◌, Bool, true}
+use Rattle.std.proofs.Common.{false, cond, [], ◌∷◌, ◌++◌, get_or, drop, Option, None, Some, refl, ap₂, subst, Global}
+use Rattle.std.proofs.Common.{drop-cons, add-one, ◌+◌, append_assoc, append-nil, arith, inl, inr, ◌≤◌, not}
 use Rattle.std.proofs.Common.{string_bytes}
 use Rattle.std.proofs.lemmas.List.{length-map, take-map, take_min, get_or-take, length-take, map-append, drop-append-le}
 use Rattle.std.proofs.lemmas.List.{length-append, take-append-drop}
@@ -13,8 +13,7 @@ use Rattle.data_url.specs.Steps.Kept.{first_of, pairs_of, HasLaterNames, IsIndex
 use Rattle.data_url.specs.declared.mime.kept.KeptParameters.{KeptParameters}
 use Rattle.data_url.specs.declared.mime.kept.TheConstants.{LOOKED_THROUGH}
 use Rattle.std.proofs.lemmas.Bool.{cond-true, not-false, not-true, agree_below_at, and_from, and_parts, cases_lt}
-use Rattle.std.proofs.lemmas.Bool.{cond_both}
-use Rattle.std.proofs.lemmas.Bool.{false_from_ne_true}
+use Rattle.std.proofs.lemmas.Bool.{cond_both, false_from_ne_true}
 use Rattle.std.proofs.lemmas.List.Folds.{list_all-append, list_all-map, list_all_at, list_any-append}
 use Rattle.std.proofs.lemmas.Slice.Eq.{bytes_eq-Decides}
 use Rattle.std.proofs.lemmas.Str.{chars-IsAscii, chars-nil, IsUtf8-string_bytes}
@@ -37,17 +36,11 @@ use Rattle.std.specs.Ordering.{nat_cmp}
 use Rattle.std.specs.String.{string_cmp}
 use Rattle.data_url.proofs.mime.Items.{has_items, has_parameter, items_are, items_in, rest_shorter}
 
--- Names that are searched among the first pairs that are kept.
-
 -- the pairs that are searched one by one are the first ones
 pub among_first : (n : List ℕ) (items : List (String _ × String _)) (kept : KeptParameters) (k : ℕ)
     → k ≡ min LOOKED_THROUGH (length items) → items ≡ kept.pairs.items
     → has_name n (map (λ p. pair_of p) (take k items)) ≡ has_name n (first_of (pairs_of kept))
 among_first n items kept k e f = cc (take_min LOOKED_THROUGH items, take-map (λ p. pair_of p) LOOKED_THROUGH items)
-
--- Which pairs are kept.
-
--- Equality of texts as a test
 
 -- if the test of equality is true, two texts are equal
 pub equal_from_test : (a c : List ℕ) → bytes_eq a c ≡ true → a ≡ c
@@ -60,8 +53,6 @@ test_from_equal a c e = (bytes_eq-Decides a c).1 e
 -- for texts that are not equal, the test of equality is false
 pub test_from_different : (a c : List ℕ) → (a ≡ c → ⊥) → bytes_eq a c ≡ false
 test_from_different a c n = grind (arith, false_from_ne_true, equal_from_test)
-
--- Names in lower case
 
 -- a code point in lower case is a token code point exactly if the code point is
 token_lower : (c : ℕ) → is_token (to_ascii_lowercase c) ≡ is_token c
@@ -100,8 +91,6 @@ lower_chars bs u h =
       chars-IsAscii bs a,
     )
 
--- Names compared in any case
-
 -- a lower-case name in lower case is the name itself
 pub lower_is_itself : (t : List ℕ) → is_lowercase_name t ≡ true → map to_ascii_lowercase t ≡ t
 lower_is_itself t h = grind (arith, equal_from_test)
@@ -114,8 +103,6 @@ lowercase_token t h = grind (arith, and_parts)
 pub some_byte : (n : List ℕ) → is_token_text (chars n) ≡ true → 0 < length n
 some_byte [] h = grind (arith, chars-nil)
 some_byte (b ∷ n) h = omega arith
-
--- One step of the look-up
 
 module _ {kept : KeptParameters} {all : List (String Global × String Global)} (k i : ℕ)
     {item : String Global × String Global} {key : List ℕ} (x : IsIndexed kept) (e : all ≡ kept.pairs.items)
@@ -143,8 +130,6 @@ module _ {kept : KeptParameters} {all : List (String Global × String Global)} (
       ≡ (r || has_name (map to_ascii_lowercase (chars n)) (map (λ p. pair_of p) (drop (i + 1) (take k all))))
   key_next n r u t d =
       grind (arith, bytes_of_ascii, token_text_ascii, drop-cons, key_is, add-one, same_from_decides, bytes_eq-Decides)
-
--- The pairs that are kept with one more item
 
 -- one of the pairs has a name after p is pushed exactly if one had it before, or p has it
 has_pushed : (n : List ℕ) (xs : List Pair) (p : Pair)
@@ -178,8 +163,6 @@ first_or_later : (n : List ℕ) (pairs : List Pair)
 first_or_later n pairs = ap (has_name n) (sym (take-append-drop LOOKED_THROUGH pairs))
     ∙ list_any-append (λ (p : Pair). bytes_eq p.0 n) (first_of pairs) (drop LOOKED_THROUGH pairs)
 
--- What the parser keeps for one parameter
-
 -- if no pair is added, the pairs stay the same
 pub none_added : {A B : Type 0} (pairs : List (String A × String B)) (more : List Pair) → more ≡ []
     → map (λ p. pair_of p) pairs ≡ map (λ p. pair_of p) pairs ++ more
@@ -201,8 +184,6 @@ pub new_pair : (n name value : List ℕ) (o : Option (List ℕ)) (b : Bool) → 
     → name ≡ map to_ascii_lowercase n → ◌≡◌ {A = Option (List ℕ)} (Some value) o
     → (name, value) ∷ [] ≡ pair_if (map to_ascii_lowercase n) o
 new_pair n name value o b e h f v = grind (arith, token_text_lower)
-
--- The parser's loop over the parameters
 
 -- the pairs and the first pairs of each name in the rest are those kept of the items of the whole text
 pub record KeepsOn (whole rest : List ℕ) (pairs : List Pair) : Type 0 where
@@ -237,16 +218,10 @@ pub keeps_end : {whole rest : List ℕ} {pairs : List Pair} → KeepsOn whole re
 keeps_end {whole} {rest = []} {pairs = pairs} k w e = grind (arith, items_in, has_items, append-nil)
 keeps_end {rest = c ∷ rest} k w e = grind arith
 
--- Which names the first pairs and the set of later names have.
-
--- The first pairs and the others
-
 -- if none of the first pairs has a name, one of all pairs has it exactly if one of the later pairs has it
 pub named_later : (n : List ℕ) (pairs : List Pair) → has_name n (first_of pairs) ≡ false
     → has_name n pairs ≡ has_name n (drop LOOKED_THROUGH pairs)
 named_later n pairs h = grind (arith, first_or_later)
-
--- The set of later names
 
 -- a name in lower case is its bytes
 pub lowercase_bytes : {A : Type 0} (name : String A) → is_lowercase_name (code_points name) ≡ true
@@ -326,10 +301,6 @@ module _ {old : KeptParameters} (name value : String Global) (x : IsIndexed old)
           pushes kept (not-true _ (sym set_knows ∙ t)) e (later_names old.later_names kept.later_names (pairs_of old)
           (pair_of (name, value)) copy (omega arith) x.later (same ∙ lowercase_bytes name lower) u)
 
--- The record of a text is well-formed, and a text with a head has a record.
-
--- What is true of each valid pair is true of each pair that is kept
-
 -- what is true of each pair is true of the first pairs of each name
 first_all : (p : Pair → Bool) (e ps : List Pair) → list_all p ps ≡ true → list_all p (first_of_each_name e ps) ≡ true
 first_all p e [] h = refl
@@ -344,8 +315,6 @@ all_quotable (item ∷ items) = grind (arith, all_quotable items)
 all_lower : (r : List ℕ) (items : List Item) → Items r items → HasLowercaseNames (valid_pairs items)
 all_lower r [] h = refl
 all_lower r (item ∷ items) h = grind (arith, lowercase_name, token_text_lower, items, all_lower h.1 items h.4)
-
--- No name is kept twice
 
 -- if one of the pairs has a name, one of them has it after a pair is pushed
 pushed_has : (n : List ℕ) (e : List Pair) (q : Pair) → has_name n e ≡ true → has_name n (e ++ (q ∷ [])) ≡ true
@@ -362,13 +331,9 @@ first_distinct : (e ps : List Pair) → has_distinct_names (first_of_each_name e
 first_distinct e [] = refl
 first_distinct e (q ∷ ps) = grind (arith, none_again, has_pushed, test_from_equal, first_distinct (e ++ (q ∷ [])) ps)
 
--- Each record of a text is well-formed
-
 -- each record that a text parses to is well-formed
 pub parses_wellformed : (s : List ℕ) (m : Record) → Parses s m → IsWellformed m
 parses_wellformed s m h = grind (arith, lowercase_name, first_all, all_lower, first_distinct, all_quotable)
-
--- A text with a head has a record
 
 -- a text that has a head parses to the record of the parts of that head
 pub parses_parts : (s a b c : List ℕ) (m : Record) → IsHead s a b c → IsRecordOfParts a b c m → Parses s m

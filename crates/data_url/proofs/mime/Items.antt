@@ -1,24 +1,19 @@
 -- A text has one list of items, and at most one record.
-use Rattle.std.proofs.Common.{◌≡◌, ℕ, zero, suc, ◌≤◌, ◌==◌, Bool, false, cond, List, [], ◌∷◌, ◌++◌, Option, true}
-use Rattle.std.proofs.Common.{None, Some, length, refl, sym, ap, ◌∙◌, subst, append_assoc, append-nil, arith, drop}
-use Rattle.std.proofs.Common.{take, one-add, ◌+◌}
-use Rattle.std.proofs.Common.{length-append, eqb-true, take-append-drop}
+use Rattle.std.proofs.Common.{◌≡◌, ℕ, zero, suc, ◌≤◌, ◌==◌, Bool, false, cond, List, [], ◌∷◌, ◌++◌, Option, true, None}
+use Rattle.std.proofs.Common.{Some, length, refl, sym, ap, ◌∙◌, subst, append_assoc, append-nil, arith, drop, take}
+use Rattle.std.proofs.Common.{one-add, ◌+◌, length-append, eqb-true, take-append-drop}
 use Rattle.std.proofs.lemmas.Bool.{not-false}
 use Rattle.std.specs.List.{prefix_len}
 use Rattle.data_url.specs.CodePoints.{is_http_whitespace, is_token}
-use Rattle.data_url.specs.Mime.{BeginsParameters, DoesNotBegin, Every, GivesValue, IsParameter, Item, Items}
-use Rattle.data_url.specs.Mime.{is_quote, lone_equals, nothing, plain, quoted, unclosed, unless_empty}
-use Rattle.data_url.specs.Mime.{IsHead, Record}
+use Rattle.data_url.specs.Mime.{BeginsParameters, DoesNotBegin, Every, GivesValue, IsParameter, Item, Items, is_quote}
+use Rattle.data_url.specs.Mime.{lone_equals, nothing, plain, quoted, unclosed, unless_empty, IsHead, Record}
 use Rattle.data_url.specs.Url.{without_end, without_front}
 use Rattle.data_url.specs.Facts.{HasOneItemList, HasAtMostOneRecord}
 use Rattle.data_url.specs.Steps.Parsing.{Reading, after_mark, front_of, given_reading, in_name, in_value, item_in}
-use Rattle.data_url.specs.Steps.Parsing.{named}
-use Rattle.data_url.specs.Steps.Parsing.{plain_reading, quoted_reading, reading, reading_from, reading_in}
+use Rattle.data_url.specs.Steps.Parsing.{named, plain_reading, quoted_reading, reading, reading_from, reading_in}
 use Rattle.data_url.proofs.texts.CodePoints.{after_begins, front_is, front_passes}
 use Rattle.data_url.proofs.mime.Quoted.{IsRead, closed_reading, is_closed, is_open, is_read, open_reading}
 use Rattle.data_url.proofs.mime.TokenTexts.{every_token}
-
--- Reading a text that gives a value returns that value
 
 -- if ';' does not pass, a text that is empty or begins with ';' does not begin with a code point that passes
 pub ends_of_rest : (p : ℕ → Bool) → p 59 ≡ false → (rest : List ℕ) → BeginsParameters rest → DoesNotBegin p rest
@@ -68,8 +63,6 @@ reading_is _ _ _ (quoted {value} {rest} text junk h e) b =
       front_is in_value junk rest e (ends_of_rest in_value refl rest b),
     )
 reading_is _ _ _ (unclosed {value} text h) b = rw (append-nil text) (open_reading text value h)
-
--- Each text after a name gives a value
 
 -- the value that is read is given by a text, which the rest follows
 pub record IsReading (x : List ℕ) (r : Reading) : Type 0 where
@@ -133,8 +126,6 @@ is_reading (c ∷ s) h = elim (c == 61) as (λ v. (c == 61) ≡ v → IsReading 
       | false ↦ λ e. record { tail = []; joined = refl; gives = nothing; begins = grind arith }
     ] refl
 
--- One parameter, from after its ';'
-
 -- ';' and s are a parameter with this item, and then the rest
 pub record HasParameterBefore (s : List ℕ) (item : Item) (rest : List ℕ) : Type 0 where
   pub text : List ℕ
@@ -195,8 +186,6 @@ parameter_is s text rest item h e b =
     let r = reading_is h.tail rest item.1 h.value_is b in
     grind (arith, h.name_is)
 
--- One list, and no other
-
 -- the items of a text, of which each parameter has a code point; at most n items
 abbrev pub items_in : ℕ → List ℕ → List Item
 items_in zero r = []
@@ -244,8 +233,6 @@ has_items r b = items_below (length r) r (omega arith) b
 -- a text that is empty or begins with ';' has exactly one list of items
 pub has_one_item_list : (r : List ℕ) → BeginsParameters r → HasOneItemList r
 has_one_item_list r b = grind (arith, has_items, items_are)
-
--- A text has at most one record.
 
 -- the text without the longest prefix and the longest suffix of code points that pass
 abbrev pub trimmed_of : (ℕ → Bool) → List ℕ → List ℕ

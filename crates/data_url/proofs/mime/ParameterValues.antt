@@ -1,7 +1,6 @@
 -- Values of parameters, as texts of their own. For `values.rt` and `read_plain`.
 use Rattle.std.proofs.Common.{◌≡◌, ℕ, zero, suc, ◌+◌, ◌-◌, ◌<◌, ◌==◌, Bool, true, false, not, List, [], ◌∷◌, ◌++◌}
-use Rattle.std.proofs.Common.{length}
-use Rattle.std.proofs.Common.{take, drop, encode_utf8_all, refl, sym, ap, ◌∙◌, append_assoc, append-nil, arith}
+use Rattle.std.proofs.Common.{length, take, drop, encode_utf8_all, refl, sym, ap, ◌∙◌, append_assoc, append-nil, arith}
 use Rattle.std.proofs.Common.{◌≤◌, ◌||◌, ◌⊎◌, Bor, None, Some, cond, nat_le}
 use Rattle.std.proofs.lemmas.List.{take-take, take_rest, length-take}
 use Rattle.std.proofs.lemmas.List.Folds.{list_all-append}
@@ -18,14 +17,12 @@ use Rattle.data_url.specs.CodePoints.{is_http_whitespace, is_quotable}
 use Rattle.data_url.specs.Mime.{Every, unless_empty}
 use Rattle.data_url.specs.Steps.Parsing.{front_of, in_value, is_escaped, is_quotable_byte, is_unquoted_byte}
 use Rattle.data_url.specs.Steps.Parsing.{quotable_value, unescaped, value_of}
-use Rattle.data_url.specs.declared.mime.values.Value.TheVariants as slices
 use Rattle.data_url.specs.declared.mime.values.Value.{Value}
 use Rattle.data_url.specs.Url.{without_end, without_front}
 use Rattle.data_url.proofs.texts.CodePoints.{IsCutInto, IsSteady, cut_front, front_further, front_passes, no_chars}
 use Rattle.data_url.proofs.texts.CodePoints.{same_empty}
 use Rattle.data_url.proofs.mime.TokenTexts.{values_cut, whole_front}
-
--- The bytes of quoted-string code points
+use Rattle.data_url.specs.declared.mime.values.Value.TheVariants as slices
 
 -- a byte of the UTF-8 of quoted-string code points is below 196
 quotable_byte_below : (b : ℕ) → is_quotable_byte b ≡ true → b < 196
@@ -51,8 +48,6 @@ quotable_bytes (c ∷ cs) = grind (arith, list_all-append, low_quotable, high_qu
 -- each byte of a UTF-8 text passes `is_quotable_byte` exactly if each of its code points passes `is_quotable`
 quotable_chars : (bs : List ℕ) → IsUtf8 bs → list_all is_quotable_byte bs ≡ list_all is_quotable (chars bs)
 quotable_chars bs u = ap (list_all is_quotable_byte) (sym (encodes-chars bs u)) ∙ quotable_bytes (chars bs)
-
--- A value without quotes
 
 -- the first bytes of a value are all quotable exactly if there are no more of them than unquoted bytes at its front
 quotable_front : (s : List ℕ) (k : ℕ) → k ≤ prefix_len in_value s
@@ -112,8 +107,6 @@ module _ {text bytes : List ℕ} {q more : ℕ} (u : IsUtf8 text) (e : bytes ≡
         ≡ quotable_value (unless_empty (without_end is_http_whitespace (front_of in_value (chars text))))
     some_value x m = let v = value_is in grind arith
 
--- A value in quotes
-
 -- the text of a quoted string has only quoted-string code points exactly if its value has
 unescaped_quotable : (e : Bool) (s : List ℕ) → list_all is_quotable (unescaped e s) ≡ list_all is_quotable s
 unfolding is_quotable
@@ -139,8 +132,6 @@ module _ {self : Value} (text : Bor (List ℕ)) {bs : List ℕ} {n : ℕ} (i : s
   -- slices with quotes have no value, if it is not
   pub no_quoted_text : (n ≡ length text.now → ⊥) → None ≡ value_of self
   no_quoted_text h = let q = quotable_by in rw i (grind arith)
-
--- The value of a quoted string, written code point by code point
 
 -- if a class is steady, and each byte of a UTF-8 text passes, so does each of its code points
 pub whole_passes : (p : ℕ → Bool) → IsSteady p → (bs bytes : List ℕ) (n : ℕ) → IsUtf8 bs → bytes ≡ bs

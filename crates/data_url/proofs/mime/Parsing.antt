@@ -1,7 +1,6 @@
 -- Type, subtype and parameters, as the parser cuts them. For `parse.rt` and `cuts.rt`.
 use Rattle.std.proofs.Common.{◌≡◌, ℕ, ◌==◌, true, false, List, [], ◌∷◌, ◌++◌, length, drop, None, encode_utf8, Some}
-use Rattle.std.proofs.Common.{encode_utf8_all, refl, ap, arith, map, Option, cond, eqb-true}
-use Rattle.std.proofs.Common.{take-append-drop}
+use Rattle.std.proofs.Common.{encode_utf8_all, refl, ap, arith, map, Option, cond, eqb-true, take-append-drop}
 use Rattle.std.proofs.lemmas.Bool.{false≢true}
 use Rattle.std.specs.List.{prefix_len}
 use Rattle.std.proofs.lemmas.Str.{chars_past_char}
@@ -44,8 +43,6 @@ begins_mark (c ∷ s) rest e = grind arith
 pub begins_empty : (s : List ℕ) → (length s == 0) ≡ true → BeginsParameters s
 begins_empty [] h = tt
 begins_empty (c ∷ s) h = absurd (grind arith)
-
--- The head of a MIME type: what the parser cuts is the head, and there is no other.
 
 -- a text that begins with c is c and the rest
 pub mark_is : (c : ℕ) (s rest : List ℕ) → after_mark c s ≡ Some rest → s ≡ c ∷ rest
@@ -105,8 +102,6 @@ module _ {s t a x : List ℕ} (first : IsTokens t a x) (e : t ≡ trimmed_of is_
         in_gap = front_passes is_http_whitespace z;
         begins = begins;
       }
-
--- One parameter
 
 module _ (s : List ℕ) {t x : List ℕ} {o : Option (List ℕ)} (e : t ≡ named s) (f : x ≡ without_front in_name t)
     (h : after_mark 61 x ≡ o) where

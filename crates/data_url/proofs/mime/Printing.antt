@@ -23,10 +23,6 @@ use Rattle.std.specs.Cmp.Lexicographic.{pointwise}
 use Rattle.data_url.proofs.mime.FirstNames.{equal_from_test, test_from_equal}
 use Rattle.std.proofs.lemmas.Bool.{and_from, and_parts}
 
--- What is written is the printed text.
-
--- Escaped text
-
 -- if the bytes so far and the escaped code points of r are the whole, they still are after the first code point of r is
 -- escaped and moved to them
 pub escaped_more : (r r' done whole : List ℕ) (c : ℕ) → IsUtf8 r → r ≡ encode_utf8 c ++ r'
@@ -40,8 +36,6 @@ pub escaped_end : (r done whole : List ℕ) → length r ≡ 0
     → done ++ encode_utf8_all (flat_map escaped_code_point (chars r)) ≡ whole → done ≡ whole
 escaped_end r done whole l h = grind (arith, append-nil, no_chars)
 
--- A text with nothing to escape
-
 -- escaping a text without '"' and '\' does not change it
 plain_chars : (cs : List ℕ) → Without is_escaped cs → flat_map escaped_code_point cs ≡ cs
 plain_chars [] h = refl
@@ -51,8 +45,6 @@ plain_chars (c ∷ cs) h = grind (arith, plain_chars cs h.1)
 pub plain_text : (v : List ℕ) → IsUtf8 v → Without is_escaped (chars v)
     → v ≡ encode_utf8_all (flat_map escaped_code_point (chars v))
 plain_text v u h = grind (arith, encodes-chars, encode_utf8_all, plain_chars)
-
--- A value
 
 -- a value that is a token text is printed as it is, after any bytes
 pub token_value : (before v : List ℕ) (b : Bool) → IsUtf8 v → b ≡ is_token_text (chars v) → b ≡ true
@@ -65,15 +57,11 @@ pub quoted_value_text : (before v : List ℕ) (b : Bool) → b ≡ is_token_text
     ≡ before ++ encode_utf8_all (printed_value (chars v))
 quoted_value_text before v b e h = grind (arith, encode_ascii, append_assoc, encodes-append)
 
--- A parameter
-
 -- ';', the name, '=', and the printed value are the UTF-8 of the printed pair
 pub parameter_text : (before name value : List ℕ) → IsUtf8 name
     → (((before ++ (59 ∷ [])) ++ name) ++ (61 ∷ [])) ++ encode_utf8_all (printed_value (chars value))
     ≡ before ++ encode_utf8_all (printed_pair (chars name, chars value))
 parameter_text before name value u = grind (arith, encode_ascii, append_assoc, encodes-chars, encodes-append)
-
--- A record
 
 -- the bytes of a `String` are the UTF-8 of its code points
 pub text_bytes : {A : Type 0} (s : String A) → string_bytes s ≡ encode_utf8_all (code_points s)
@@ -106,8 +94,6 @@ record_starts m a b e f = grind (arith, append_assoc, encode_ascii, text_bytes, 
 pub written_plain : {W : Type 0} {took : W → List ℕ → W → Type 0} {f g : Formatter W} {bs : List ℕ} → IsPlainFormatter f
     → HasWrittenStyled took f bs g → HasWritten took f bs g
 written_plain {f = f} plain h = grind arith
-
--- A line that is buffered
 
 -- a line of length zero holds no bytes
 pub held_none : (l : Line) → l.len ≡ 0 → held l ≡ []
@@ -148,8 +134,6 @@ module _ {W : Type 0} {took : W → List ℕ → W → Type 0} {start : Formatte
       → Adds took start after f l
   added_of_eq {f} {l} e = grind arith
 
--- Records of the same texts.
-
 -- the test of two lists, pair by pair, is true exactly if the lists have equal texts
 pairs_decide : {A B : Type 0} (ps qs : List (String A × String B))
     → Decides (pointwise same_pair ps qs) (map texts_of_pair ps ≡ map texts_of_pair qs)
@@ -169,8 +153,6 @@ pairs_decide (p ∷ ps) (q ∷ qs) = grind (
 -- the test is true exactly if the texts are the same
 pub same_decides : (m n : Mime) → IsTrue (same_texts m n) ↔ SameTexts m n
 same_decides m n = grind (arith, pairs_decide, equal_from_test, test_from_equal)
-
--- copies
 
 -- if the texts of all pairs are equal one by one, the lists of texts of pairs are equal
 pub copied_pairs : {A B : Type 0} (ps qs : List (String A × String B))
@@ -195,8 +177,6 @@ same_seen m n h =
       h.subtype,
       h.parameters,
     )
-
--- bytes follow from code points
 
 -- the UTF-8 of both texts of a pair
 abbrev pair_spelled : Pair → List ℕ × List ℕ

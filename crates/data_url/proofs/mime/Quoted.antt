@@ -1,9 +1,8 @@
 -- Quoted strings, in code points and in bytes. For `values.rt` and `split_quote`.
 use Rattle.std.proofs.Common.{◌≡◌, ℕ, ◌==◌, ◌&&◌, ◌+◌, ◌<◌, ◌≤◌, not, Bool, true, false, cond, List, [], ◌∷◌, ◌++◌}
 use Rattle.std.proofs.Common.{refl, sym, ap, ◌∙◌, append_assoc, append-nil, eqb-true, inl, inr, length, suc, get_or}
-use Rattle.std.proofs.Common.{take}
-use Rattle.std.proofs.Common.{drop, encode_utf8_all, arith, take-append-drop, drop-cons, add-one, drop_of_length-le}
-use Rattle.std.proofs.Common.{Some, nat_le}
+use Rattle.std.proofs.Common.{take, drop, encode_utf8_all, arith, take-append-drop, drop-cons, add-one}
+use Rattle.std.proofs.Common.{drop_of_length-le, Some, nat_le}
 use Rattle.std.proofs.lemmas.Bool.{cases_lt, eqb-false}
 use Rattle.std.proofs.lemmas.List.{length-append, drop-drop}
 use Rattle.std.proofs.Math.Seq.{take-append_seam, take-length, drop-append-add}

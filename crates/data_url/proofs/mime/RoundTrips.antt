@@ -1,10 +1,8 @@
 -- Parsing a printed record returns the record.
 use Rattle.std.proofs.Common.{◌≡◌, ℕ, ◌==◌, ◌||◌, ◌&&◌, Bool, true, false, not, List, [], ◌∷◌, ◌++◌, Some, map, refl}
-use Rattle.std.proofs.Common.{arith, sym, ap, subst}
+use Rattle.std.proofs.Common.{arith, sym, ap, subst, append_assoc}
 use Rattle.std.proofs.lemmas.Bool.{agree_below, agree_below_at, and_from, and_parts, both_ways, cond-true, cond_both}
-use Rattle.std.proofs.lemmas.Bool.{eqb-false, or_parts}
-use Rattle.std.proofs.Common.{append_assoc}
-use Rattle.std.proofs.lemmas.Bool.{false≢true}
+use Rattle.std.proofs.lemmas.Bool.{eqb-false, or_parts, false≢true}
 use Rattle.std.proofs.lemmas.List.Folds.{list_any-append}
 use Rattle.std.specs.List.{flat_map, list_all}
 use Rattle.data_url.specs.CodePoints.{ends_name, is_http_whitespace, is_quotable, is_semicolon, is_token}
@@ -13,15 +11,11 @@ use Rattle.data_url.specs.Mime.{IsWellformed, Item, Items, Pair, Parses, Quoted,
 use Rattle.data_url.specs.Mime.{first_of_each_name, has_distinct_names, has_name, is_lowercase_name, is_quote}
 use Rattle.data_url.specs.Mime.{is_token_text, kept_pairs, plain, printed, printed_pair, printed_value, quoted}
 use Rattle.data_url.specs.Mime.{unless_empty, valid_pairs, after_backslash, nothing_quoted, as_itself}
-use Rattle.data_url.proofs.mime.TokenTexts.{every_token}
+use Rattle.data_url.proofs.mime.TokenTexts.{every_token, token_below}
 use Rattle.data_url.proofs.mime.Items.{not_begins_append, has_at_most_one_record}
-use Rattle.data_url.proofs.mime.FirstNames.{lower_is_itself, lowercase_token, test_from_different}
-use Rattle.data_url.proofs.mime.FirstNames.{test_from_equal}
-use Rattle.data_url.proofs.mime.TokenTexts.{token_below}
+use Rattle.data_url.proofs.mime.FirstNames.{lower_is_itself, lowercase_token, test_from_different, test_from_equal}
 use Rattle.data_url.proofs.texts.CodePoints.{end_stays, not_ends_every}
 use Rattle.data_url.specs.Url.{without_front}
-
--- Token code points
 
 module _ (p : ℕ → Bool) (n : agree_below (λ c. not (is_token c && p c)) (λ c. true) 128 ≡ true) where
   -- if no token code point below 128 passes p, no token code point does
@@ -44,8 +38,6 @@ module _ (p : ℕ → Bool) (n : agree_below (λ c. not (is_token c && p c)) (λ
   tokens_end : (t : List ℕ) → Every is_token t → DoesNotEnd p t
   tokens_end = not_ends_every p is_token not_in
 
--- Ends of texts
-
 -- if neither a nor b ends with a code point that passes, a ++ b does not either
 not_ends_append : (p : ℕ → Bool) (a b : List ℕ) → DoesNotEnd p a → DoesNotEnd p b → DoesNotEnd p (a ++ b)
 not_ends_append p [] b h k = k
@@ -58,8 +50,6 @@ pub not_ends_last : (p : ℕ → Bool) (c : ℕ) → p c ≡ false → (a : List
 not_ends_last p c h [] = h
 not_ends_last p c h (d ∷ []) = h
 not_ends_last p c h (d ∷ e ∷ a) = not_ends_last p c h (e ∷ a)
-
--- A value
 
 -- a text, escaped, is the text of a quoted string whose value is the text
 quoted_escaped : (v : List ℕ) → Quoted (flat_map escaped_code_point v) v
@@ -94,8 +84,6 @@ value_not_end v = cond_both (is_token_text v) v (34 ∷ (flat_map escaped_code_p
     (λ e. tokens_end is_http_whitespace refl v (every_token v e))
     (λ e. not_ends_last is_http_whitespace 34 refl (34 ∷ flat_map escaped_code_point v))
 
--- A parameter
-
 -- each code point of a lower-case name is a token code point
 name_tokens : (t : List ℕ) → is_lowercase_name t ≡ true → Every is_token t
 name_tokens t h = every_token t (lowercase_token t h)
@@ -126,8 +114,6 @@ pair_not_end : (p : Pair) → is_lowercase_name p.0 ≡ true → DoesNotEnd is_h
 pair_not_end p h = not_ends_append is_http_whitespace (59 ∷ []) (p.0 ++ (61 ∷ printed_value p.1)) refl
     (not_ends_append is_http_whitespace p.0 (61 ∷ printed_value p.1) (name_not_end p.0 h)
     (not_ends_append is_http_whitespace (61 ∷ []) (printed_value p.1) refl (value_not_end p.1)))
-
--- Parameters
 
 -- all names are lower-case
 abbrev have_names : List Pair → Bool
@@ -167,8 +153,6 @@ pairs_not_end (p ∷ pairs) h =
     not_ends_append is_http_whitespace (printed_pair p) (flat_map printed_pair pairs) (pair_not_end p k.0)
     (pairs_not_end pairs k.1)
 
--- All of them are kept
-
 -- pairs with lower-case names and values of quoted-string code points are all valid
 all_valid : (pairs : List Pair) → have_names pairs ≡ true → have_values pairs ≡ true
     → valid_pairs (map item_of pairs) ≡ pairs
@@ -196,8 +180,6 @@ first_itself e (p ∷ ps) h = grind (arith, distinct_new e p ps, append_assoc, f
 -- all parameters of a well-formed record are kept
 all_kept : (m : Record) → IsWellformed m → m.parameters ≡ kept_pairs (map item_of m.parameters)
 all_kept m w = grind (arith, all_valid, first_itself)
-
--- The whole
 
 -- a text that does not begin with a code point that passes has no prefix to remove
 front_stays : (p : ℕ → Bool) (s : List ℕ) → DoesNotBegin p s → without_front p s ≡ s

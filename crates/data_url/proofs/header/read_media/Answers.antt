@@ -1,4 +1,5 @@
-use Rattle.data_url.proofs.header.Stages.{begins_at}
+use Rattle.data_url.proofs.header.Stages.{begins_at, chars_printable, default_for, parsed_for, plain_record}
+use Rattle.data_url.proofs.header.Stages.{plain_stays}
 use Rattle.std.proofs.Common.{◌≡◌, ◌≢◌, ℕ, List, get_or, arith, subst}
 use Rattle.std.specs.Str.{chars}
 use Rattle.std.proofs.lemmas.Result.{IfOk-weaker}
@@ -7,8 +8,6 @@ use Rattle.data_url.specs.Mime.{HasNoRecord}
 use Rattle.data_url.specs.Steps.Header.{IsPrintable, IsRecordFor}
 use Rattle.data_url.specs.MimeType.{record_of}
 use Rattle.data_url.proofs.mime.FirstNames.{no_record, parses_parts, parses_wellformed}
-use Rattle.data_url.proofs.header.Stages.{chars_printable, default_for, parsed_for, plain_record}
-use Rattle.data_url.proofs.header.Stages.{plain_stays}
 use Rattle.data_url.proofs.header.read_media.Goals as goal
 
 pub plain_head-requires : goal.plain_head-requires

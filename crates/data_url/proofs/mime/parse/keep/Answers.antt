@@ -8,9 +8,9 @@ use Rattle.data_url.specs.Steps.Kept.{pairs_of}
 use Rattle.data_url.specs.Steps.Parsing.{unless_named}
 use Rattle.data_url.proofs.mime.FirstNames.{invalid_name, known_name, lowercase_name, new_pair, none_added}
 use Rattle.data_url.proofs.mime.FirstNames.{token_text_lower}
-use Rattle.data_url.proofs.mime.parse.keep.Goals as goal
 use Rattle.data_url.proofs.mime.parse.keep.Goals.{then-not-is_token_text-via-then-not-is_token_text}
 use Rattle.data_url.proofs.mime.parse.keep.Goals.{then-not-is_token_text-via-else-not-is_token_text+then-is_among_first}
+use Rattle.data_url.proofs.mime.parse.keep.Goals as goal
 
 pub returns-then-not-is_token_text-clause-pairs : goal.returns-then-not-is_token_text-clause-pairs
 returns-then-not-is_token_text-clause-pairs c =

@@ -3,8 +3,8 @@ use Rattle.data_url.proofs.texts.CodePoints.{same_empty}
 use Rattle.std.specs.Str.{chars}
 use Rattle.data_url.proofs.mime.Parsing.{begins_empty, begins_mark, is_head, no_parameters, no_slash, no_subtype}
 use Rattle.data_url.proofs.mime.Parsing.{no_type}
-use Rattle.data_url.proofs.mime.parse.read_head.Goals as goal
 use Rattle.data_url.proofs.mime.parse.read_head.Goals.{then-not-is_empty+in_ok-after_mark-2, else-not-is_empty}
+use Rattle.data_url.proofs.mime.parse.read_head.Goals as goal
 
 pub returns-in_err-type_ : goal.returns-in_err-type_
 returns-in_err-type_ c = rw c.from_residual.ensures (no_type _ (chars c.without_trailing_whitespace-text.result.now)

@@ -1,7 +1,6 @@
-use Rattle.data_url.proofs.mime.Quoted.{cut_quote, quote_at}
+use Rattle.data_url.proofs.mime.Quoted.{cut_quote, quote_at, after_quote, no_quote}
 use Rattle.std.proofs.Common.{◌≡◌, ◌<◌, length, get_or, arith}
 use Rattle.std.proofs.lemmas.Str.{IsCharBoundary-after_ascii}
-use Rattle.data_url.proofs.mime.Quoted.{after_quote, no_quote}
 use Rattle.data_url.proofs.mime.parse.split_quote.Goals as goal
 
 pub range_from-requires : goal.range_from-requires

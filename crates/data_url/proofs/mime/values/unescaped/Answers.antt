@@ -5,8 +5,8 @@ use Rattle.std.specs.Str.Iter.{chars_rest}
 use Rattle.data_url.specs.MimeType.{code_points}
 use Rattle.data_url.proofs.mime.ParameterValues.{copied, unescape_ends, unescape_pushes, unescape_skips}
 use Rattle.data_url.proofs.mime.ParameterValues.{unescape_starts}
-use Rattle.data_url.proofs.mime.values.unescaped.Goals as goal
 use Rattle.data_url.proofs.mime.values.unescaped.Goals.{then-escaped+in_ok-push-2, else-escaped}
+use Rattle.data_url.proofs.mime.values.unescaped.Goals as goal
 
 pub returns-then-long_span-quoted : goal.returns-then-long_span-quoted
 returns-then-long_span-quoted c =

@@ -1,9 +1,9 @@
 use Rattle.std.proofs.Common.{ap, sym}
 use Rattle.data_url.specs.Steps.Parsing.{value_of}
 use Rattle.data_url.proofs.mime.ParameterValues.{no_quoted_text, quoted_text}
-use Rattle.data_url.proofs.mime.values.Value.text.Goals as goal
 use Rattle.data_url.proofs.mime.values.Value.text.Goals.{in_default-via-in-Quoted+else-long_span-text}
 use Rattle.data_url.proofs.mime.values.Value.text.Goals.{in_default-via-in_default}
+use Rattle.data_url.proofs.mime.values.Value.text.Goals as goal
 
 pub returns-in_ok-unescaped-in-Quoted : goal.returns-in_ok-unescaped-in-Quoted
 returns-in_ok-unescaped-in-Quoted c =
