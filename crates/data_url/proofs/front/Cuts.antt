@@ -247,4 +247,4 @@ pub ruleset spelling = (
 )
 
 -- the lemmas for `split_at_comma`
-pub ruleset commas = (no_front_end, at_hash, front_end_at, at_comma, IsCharBoundary-after_ascii)
+pub ruleset commas = (no_front_end, at_hash, front_end_at, at_comma, IsCharBoundary-after_ascii, eqb-true, plain_before)

@@ -8,7 +8,7 @@ use Rattle.std.proofs.lemmas.Bool.{cases_lt, ne_eqb, cases_Bool, not-true, not-f
 use Rattle.std.proofs.lemmas.List.{append-nil, drop_all, drop_more, get_or-drop, get_or-reverse, get_or-take}
 use Rattle.std.proofs.lemmas.List.{length-drop, length-reverse, length-take, take-append-drop, get_or_at, take_all}
 use Rattle.std.proofs.lemmas.List.{take_more}
-use Rattle.std.proofs.lemmas.List.Sums.{prefix_len_passes, prefix_len_stops, suffix_len-le-length}
+use Rattle.std.proofs.lemmas.List.Sums.{prefix_len_passes, prefix_len_stops, suffix_len-le-length, prefix_len-le-length}
 use Rattle.data_url.specs.Url.{before, after, without_tabs_and_newlines, encoded_byte, encoded_path, in_path_end_set}
 use Rattle.data_url.specs.Url.{in_path_set, in_query_set, is_tab_or_newline, percent_encoding, after_scheme}
 use Rattle.data_url.specs.Url.{cleaned_text, is_c0_control_or_space, serialised, trimmed_text, with_query, without_end}
@@ -19,6 +19,7 @@ use Rattle.data_url.proofs.texts.Bytes.{before_all, before_at, after-dropped_non
 use Rattle.data_url.proofs.texts.Bytes.{without_tabs_and_newlines-append, dropped_around, dropped_keeps, dropped_nil}
 use Rattle.data_url.proofs.texts.Bytes.{dropped_passes, before-append, after-append, before_other, after_other, is_cut}
 use Rattle.data_url.proofs.percent.Encoding.{encoded_cons, encoded_nil, path_cons, path_nil, percent_encoding-append}
+use Rattle.data_url.proofs.percent.Encoding.{encoded}
 use Rattle.data_url.specs.Facts.{base64_flag, serialised_with_spaces}
 use Rattle.data_url.specs.Fetch.{before_comma, is_space}
 use Rattle.data_url.specs.Mime.{DoesNotEnd}
@@ -250,3 +251,6 @@ flag_of_spaces s = flag_by (before 63 s) (after 63 s) (differs_by (before 63 s))
 
 -- the lemmas for `split_last_space`
 pub ruleset last_spaces = (parts_whole, parts_spaced, has_no_end, has_other_end, dropped_end, suffix_len-le-length)
+
+-- the lemmas for `serialised`
+pub ruleset serialising = (encoded, append_assoc, cut_at_query, prefix_len-le-length)

@@ -28,12 +28,9 @@ use Rattle.data_url.proofs.texts.Bytes.{without_tabs_and_newlines-append, droppe
 use Rattle.data_url.proofs.texts.Bytes.{before_all, before_at, dropped_passes, is_cut, lacks}
 use Rattle.data_url.proofs.runs.Runs.{none_or_some}
 use Rattle.std.proofs.lemmas.Str.{chars-IsAscii}
-use Rattle.data_url.specs.Mime.{HasNoRecord, IsWellformed, Parses, Record, default_record, BeginsParameters, DoesNotEnd}
-use Rattle.data_url.specs.Mime.{IsHead, IsRecordOfParts}
-use Rattle.data_url.specs.Steps.Parsing.{IsTrimmedEnd}
-use Rattle.data_url.proofs.texts.CodePoints.{trimmed_end_is}
+use Rattle.data_url.specs.Mime.{HasNoRecord, IsWellformed, Parses, Record, default_record, BeginsParameters, IsHead}
+use Rattle.data_url.specs.Mime.{IsRecordOfParts}
 use Rattle.data_url.proofs.examples.Literals.{on_literals}
-use Rattle.data_url.specs.CodePoints.{is_http_whitespace}
 use Rattle.data_url.proofs.mime.FirstNames.{parses_parts, parses_wellformed}
 use Rattle.data_url.specs.DataUrl.{IsAcceptable, IsUrlOf, is_base64, mime_of, url_tail}
 use Rattle.data_url.specs.MimeType.{record_of}
@@ -291,35 +288,6 @@ pub no_suffix : (header : List ℕ) (m : Record) → before_base64 (stripped_hea
     → IsRecordFor (with_plain (stripped_header header)) m → IsHeaderOf header m false
 unfolding mime_text media_of has_base64_suffix
 no_suffix header m e h = grind arith
-
--- if t ++ back is empty or begins with ';', t is empty or begins with ';'
-front_begins : (t back : List ℕ) → BeginsParameters (t ++ back) → BeginsParameters t
-front_begins [] back h = tt
-front_begins (c ∷ t) back h = h
-
--- after a code point that does not pass
-ends_after : (p : ℕ → _) (c : ℕ) (t : List ℕ) → p c ≡ false → DoesNotEnd p t → DoesNotEnd p (c ∷ t)
-ends_after p c [] n h = n
-ends_after p c (d ∷ t) n h = h
-
--- if s is empty or begins with ';', "text/plain" ++ s has the type "text", the subtype "plain" and, as the text of its
--- parameters, s without HTTP whitespace at its end
-pub plain_head_is : (s t : List ℕ) → BeginsParameters s → IsTrimmedEnd is_http_whitespace s t
-    → IsHead (codes "text/plain" ++ s) (chars (codes "text")) (chars (codes "plain")) t
-unfolding on_literals chars
-plain_head_is s t b e = record {
-  gap = [];
-  joined = sym (trimmed_end_is is_http_whitespace (codes "text/plain" ++ s) (codes "text/plain" ++ t) (record {
-    back = e.back;
-    joined = ap (λ x. codes "text/plain" ++ x) e.joined;
-    at_back = e.at_back;
-    ends = ends_after is_http_whitespace 110 t refl e.ends;
-  }));
-  is_type = refl;
-  is_subtype = refl;
-  in_gap = tt;
-  begins = front_begins t e.back (subst BeginsParameters e.joined b);
-}
 
 -- a text with ';' at index 0 begins with ';'
 pub begins_at : (s : List ℕ) → get_or s 0 0 ≡ 59 → BeginsParameters s

@@ -8,7 +8,7 @@ use Rattle.std.specs.List.{suffix_len}
 use Rattle.std.specs.Str.{bytes_eq}
 use Rattle.std.proofs.lemmas.List.{length-map, length-take, drop_all, drop_more, get_or-take, length-drop}
 use Rattle.std.proofs.lemmas.List.{length-take-le, take-take, drop-append-le, get_or_at, get_or-drop, get_or-map}
-use Rattle.std.proofs.lemmas.List.{reverse-append}
+use Rattle.std.proofs.lemmas.List.{reverse-append, take_rest}
 use Rattle.std.proofs.lemmas.List.Sums.{suffix_len-le-length, prefix_len-drop_no, prefix_len-le-length}
 use Rattle.std.proofs.lemmas.Slice.Eq.{bytes_eq-Decides}
 use Rattle.data_url.specs.Url.{is_c0_control_or_space, without_end}
@@ -158,4 +158,14 @@ same_flag a b query = grind (
 )
 
 -- the lemmas for `without_suffix`
-pub ruleset suffixes = (no_word, length-map, length-take, suffix_len-le-length, printable_take)
+pub ruleset suffixes = (
+  no_word,
+  length-map,
+  length-take,
+  suffix_len-le-length,
+  printable_take,
+  take_rest,
+  nothing_left,
+  no_semicolon,
+  with_semicolon,
+)

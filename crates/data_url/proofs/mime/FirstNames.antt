@@ -35,6 +35,7 @@ use Rattle.std.specs.Cmp.Lexicographic.{slice_cmp}
 use Rattle.std.specs.Ordering.{nat_cmp}
 use Rattle.std.specs.String.{string_cmp}
 use Rattle.data_url.proofs.mime.Items.{has_items, has_parameter, items_are, items_in, rest_shorter}
+use Rattle.data_url.proofs.texts.CodePoints.{no_chars}
 
 -- the pairs that are searched one by one are the first ones
 pub among_first : (n : List ℕ) (items : List (String _ × String _)) (kept : KeptParameters) (k : ℕ)
@@ -361,3 +362,6 @@ has_record s a b c h n =
 -- a text that has no head has no record
 pub no_record : (s : List ℕ) → HasNoHead s → HasNoRecord s
 no_record s n m h = n h.type_ h.subtype h.parameters h.head
+
+-- the lemmas for `read_parameters`
+pub ruleset parameters = (rest_shorter, mark_is, no_chars, keeps_end)

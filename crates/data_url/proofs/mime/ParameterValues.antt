@@ -21,7 +21,7 @@ use Rattle.data_url.specs.declared.mime.values.Value.{Value}
 use Rattle.data_url.specs.Url.{without_end, without_front}
 use Rattle.data_url.proofs.texts.CodePoints.{IsCutInto, IsSteady, cut_front, front_further, front_passes, no_chars}
 use Rattle.data_url.proofs.texts.CodePoints.{same_empty}
-use Rattle.data_url.proofs.mime.TokenTexts.{values_cut, whole_front}
+use Rattle.data_url.proofs.mime.TokenTexts.{values_steady, whole_front}
 use Rattle.data_url.specs.declared.mime.values.Value.TheVariants as slices
 
 -- a byte of the UTF-8 of quoted-string code points is below 196
@@ -72,7 +72,7 @@ module _ {text bytes : List ℕ} {q more : ℕ} (u : IsUtf8 text) (e : bytes ≡
 
   -- a UTF-8 text can be cut there
   pub cut_plain : IsCutInto text (q + more) (front_of in_value (chars text)) (without_front in_value (chars text))
-  cut_plain = rw front_len (values_cut text u)
+  cut_plain = rw front_len (cut_front in_value values_steady text u)
 
   module _ {front t : List ℕ} {b : Bool} (w : IsUtf8 t) (h : front ≡ take (q + more) text) (k : t ≡ take
       (length t) front)
@@ -179,3 +179,6 @@ pub unescape_ends : (r v : List ℕ) {e : Bool} {whole : List ℕ} → length r 
     → chars v ++ unescaped e (chars r) ≡ whole → (e ≡ false → chars v ≡ whole)
     × ((v' : List ℕ) → IsUtf8 v → e ≡ true → v' ≡ v ++ encode 92 → chars v' ≡ whole)
 unescape_ends r v l h = grind (arith, append-nil, no_chars, chars_push)
+
+-- the lemmas for `read_plain`
+pub ruleset plain_values = (cut_plain, no_value, some_value)

@@ -1,19 +1,24 @@
 -- Type, subtype and parameters, as the parser cuts them. For `parse.rt` and `cuts.rt`.
 use Rattle.std.proofs.Common.{◌≡◌, ℕ, ◌==◌, true, false, List, [], ◌∷◌, ◌++◌, length, drop, None, encode_utf8, Some}
 use Rattle.std.proofs.Common.{encode_utf8_all, refl, ap, arith, map, Option, cond, eqb-true, take-append-drop}
+use Rattle.std.proofs.Common.{length-take-le, codes, subst, sym}
 use Rattle.std.proofs.lemmas.Bool.{false≢true}
 use Rattle.std.specs.List.{prefix_len}
-use Rattle.std.proofs.lemmas.Str.{chars_past_char}
+use Rattle.std.proofs.lemmas.Str.{chars_past_char, encodes-chars}
 use Rattle.std.specs.Str.{IsUtf8, chars}
 use Rattle.std.specs.Str.Pattern.{HasCharAt}
 use Rattle.data_url.specs.CodePoints.{is_http_whitespace, is_token}
-use Rattle.data_url.specs.Mime.{BeginsParameters, IsHead, is_token_text, valid_of}
+use Rattle.data_url.specs.Mime.{BeginsParameters, IsHead, is_token_text, valid_of, DoesNotEnd}
 use Rattle.data_url.specs.Steps.Parsing.{HasNoHead, IsTokens, Reading, after_mark, front_of, in_name, item_in, named}
-use Rattle.data_url.specs.Steps.Parsing.{pair_if, quotable_value, reading, reading_in}
+use Rattle.data_url.specs.Steps.Parsing.{pair_if, quotable_value, reading, reading_in, IsTrimmedEnd}
 use Rattle.std.specs.Char.{to_ascii_lowercase}
 use Rattle.data_url.specs.Url.{without_front}
-use Rattle.data_url.proofs.texts.CodePoints.{front_passes}
+use Rattle.data_url.proofs.texts.CodePoints.{front_passes, cut_front, trimmed_end_is, same_empty}
 use Rattle.data_url.proofs.mime.Items.{after_slash, has_parts, trimmed_of}
+use Rattle.data_url.proofs.mime.TokenTexts.{spaces_end, spaces_steady, values_steady}
+use Rattle.std.proofs.lemmas.List.Sums.{suffix_len-le-length}
+use Rattle.data_url.proofs.runs.Runs.{match_map}
+use Rattle.data_url.proofs.examples.Literals.{on_literals}
 
 -- if the bytes of a text begin with those of c, its code points begin with c
 pub has_mark : (bs rest : List ℕ) (c n : ℕ) → IsUtf8 bs → HasCharAt c bs 0 n → rest ≡ drop n bs
@@ -117,3 +122,49 @@ module _ (s : List ℕ) {t x : List ℕ} {o : Option (List ℕ)} (e : t ≡ name
   pub pair_by : (name : List ℕ) (value : Option (List ℕ)) → name ≡ front_of in_name t
       → value ≡ quotable_value (reading x o).value → pair_if (map to_ascii_lowercase name) value ≡ valid_of (item_in s)
   pair_by name value n v = grind (arith, reading_by)
+
+-- if t ++ back is empty or begins with ';', t is empty or begins with ';'
+front_begins : (t back : List ℕ) → BeginsParameters (t ++ back) → BeginsParameters t
+front_begins [] back h = tt
+front_begins (c ∷ t) back h = h
+
+-- after a code point that does not pass
+ends_after : (p : ℕ → _) (c : ℕ) (t : List ℕ) → p c ≡ false → DoesNotEnd p t → DoesNotEnd p (c ∷ t)
+ends_after p c [] n h = n
+ends_after p c (d ∷ t) n h = h
+
+-- if s is empty or begins with ';', "text/plain" ++ s has the type "text", the subtype "plain" and, as the text of its
+-- parameters, s without HTTP whitespace at its end
+pub plain_head_is : (s t : List ℕ) → BeginsParameters s → IsTrimmedEnd is_http_whitespace s t
+    → IsHead (codes "text/plain" ++ s) (chars (codes "text")) (chars (codes "plain")) t
+unfolding on_literals chars
+plain_head_is s t b e = record {
+  gap = [];
+  joined = sym (trimmed_end_is is_http_whitespace (codes "text/plain" ++ s) (codes "text/plain" ++ t) (record {
+    back = e.back;
+    joined = ap (λ x. codes "text/plain" ++ x) e.joined;
+    at_back = e.at_back;
+    ends = ends_after is_http_whitespace 110 t refl e.ends;
+  }));
+  is_type = refl;
+  is_subtype = refl;
+  in_gap = tt;
+  begins = front_begins t e.back (subst BeginsParameters e.joined b);
+}
+
+-- the lemmas for `cuts.rt`
+pub ruleset cuts = (
+  cut_front,
+  spaces_end,
+  spaces_steady,
+  values_steady,
+  suffix_len-le-length,
+  length-take-le,
+  encodes-chars,
+  match_map,
+  has_mark,
+  no_mark,
+)
+
+-- the lemmas for `read_head`
+pub ruleset heads = (same_empty, begins_empty, begins_mark, is_head, no_parameters, no_slash, no_subtype, no_type)

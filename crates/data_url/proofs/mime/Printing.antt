@@ -134,6 +134,9 @@ module _ {W : Type 0} {took : W → List ℕ → W → Type 0} {start : Formatte
       → Adds took start after f l
   added_of_eq {f} {l} e = grind arith
 
+-- the lemmas for `line.rt`
+pub ruleset lines = (added_held, added_flushed, added_none, added_written, held_more, held_none)
+
 -- the test of two lists, pair by pair, is true exactly if the lists have equal texts
 pairs_decide : {A B : Type 0} (ps qs : List (String A × String B))
     → Decides (pointwise same_pair ps qs) (map texts_of_pair ps ≡ map texts_of_pair qs)

@@ -7,7 +7,7 @@ use Rattle.std.proofs.lemmas.Bool.{cases_lt, eqb-false}
 use Rattle.std.proofs.lemmas.List.{length-append, drop-drop}
 use Rattle.std.proofs.Math.Seq.{take-append_seam, take-length, drop-append-add}
 use Rattle.std.proofs.lemmas.Str.{chars-nil, encodes-chars, chars_past_char, encode_ascii, IsUtf8-drop}
-use Rattle.std.proofs.lemmas.Str.{IsCharBoundary-before_ascii}
+use Rattle.std.proofs.lemmas.Str.{IsCharBoundary-before_ascii, IsCharBoundary-after_ascii}
 use Rattle.std.specs.Str.{IsUtf8, chars}
 use lib.Utf8.{encode}
 use Rattle.data_url.specs.Mime.{Quoted, QuotedOpen, after_backslash, Every, nothing_quoted, as_itself}
@@ -144,3 +144,6 @@ no_quote {bs} {bytes} {i} e u b l h =
       cc (take-append-drop n (chars bs), after, append-nil (take n (chars bs))),
       cc (drop-drop 1 n (chars bs), after, add-one n, chars-nil),
     )
+
+-- the lemmas for `split_quote`
+pub ruleset quotes = (cut_quote, quote_at, after_quote, no_quote, IsCharBoundary-after_ascii)

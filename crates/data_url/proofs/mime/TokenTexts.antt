@@ -1,15 +1,14 @@
 -- Classes of code points, and texts of token code points. For `tokens.rt`.
 use Rattle.std.proofs.Common.{◌-◌, ◌≡◌, ℕ, ◌<◌, ◌≤◌, ◌==◌, ◌&&◌, nat_lt, codes, true, false, not, List, [], ◌∷◌, length}
 use Rattle.std.proofs.Common.{refl, sym, ap, subst, Bool, ◌∙◌, arith, take, drop, length-take-le}
-use Rattle.std.proofs.lemmas.Str.{chars-IsAscii, encodes-IsAscii, encodes-chars}
+use Rattle.std.proofs.lemmas.Str.{chars-IsAscii, encodes-IsAscii, encodes-chars, chars-nil}
 use Rattle.std.proofs.lemmas.Bool.{and_parts, and_from}
-use Rattle.std.proofs.lemmas.List.Sums.{prefix_len-le-length, suffix_len-le-length}
+use Rattle.std.proofs.lemmas.List.Sums.{prefix_len-le-length}
 use Rattle.std.specs.List.{list_all, list_any, prefix_len, suffix_len}
 use Rattle.std.specs.Str.{IsAscii, IsUtf8, chars}
 use Rattle.data_url.specs.CodePoints.{is_http_whitespace, is_token}
 use Rattle.data_url.specs.Mime.{Every, is_token_text}
-use Rattle.data_url.specs.Url.{without_front}
-use Rattle.data_url.specs.Steps.Parsing.{IsTokens, front_of, in_name, in_value}
+use Rattle.data_url.specs.Steps.Parsing.{IsTokens, in_name, in_value}
 use Rattle.data_url.proofs.texts.CodePoints.{IsCutInto, IsEnd, IsSteady, cut_end, cut_front, every_ascii, front_passes}
 
 -- a code point that is not ASCII is none of some ASCII marks
@@ -32,26 +31,13 @@ pub names_steady : IsSteady in_name
 names_steady c l = grind arith
 
 -- all code points beyond ASCII can be in a value
-values_steady : IsSteady in_value
+pub values_steady : IsSteady in_value
 values_steady c l = grind arith
-
--- a UTF-8 text can be cut after its longest prefix of HTTP whitespace
-pub spaces_cut : (bs : List ℕ) → IsUtf8 bs → IsCutInto bs (prefix_len is_http_whitespace bs)
-    (front_of is_http_whitespace (chars bs)) (without_front is_http_whitespace (chars bs))
-spaces_cut = cut_front is_http_whitespace spaces_steady
 
 -- a UTF-8 text can be cut before its longest suffix of HTTP whitespace
 pub spaces_end : (bs : List ℕ) → IsUtf8 bs
     → IsEnd is_http_whitespace spaces_steady refl bs (length bs - suffix_len is_http_whitespace bs)
 spaces_end = cut_end is_http_whitespace spaces_steady refl
-
--- what the text without this suffix is
-pub ruleset spaces_at_end = (spaces_end, suffix_len-le-length, length-take-le)
-
--- a UTF-8 text can be cut before its first ';'
-pub values_cut : (bs : List ℕ) → IsUtf8 bs
-    → IsCutInto bs (prefix_len in_value bs) (front_of in_value (chars bs)) (without_front in_value (chars bs))
-values_cut = cut_front in_value values_steady
 
 -- a token code point is ASCII
 pub token_below : (c : ℕ) → is_token c ≡ true → c < 128
@@ -120,3 +106,6 @@ module _ (bs : List ℕ) (n : ℕ) (u : IsUtf8 bs) (e : n ≡ prefix_len is_toke
         after = cc (cut.after);
         token = cc (chars-IsAscii (take n bs) (token_text_ascii (take n bs) token));
       }
+
+-- the lemmas for `tokens.rt`
+pub ruleset tokens = (tokens_steady, cut_front, chars-nil, token_text_by, some_tokens)

@@ -1,5 +1,5 @@
 use Rattle.std.proofs.Common.{refl}
-use Rattle.data_url.proofs.mime.Printing.{added_flushed, added_held, added_none, added_written, held_more, held_none}
+use Rattle.data_url.proofs.mime.Printing.{added_flushed, added_held, added_none, added_written, held_none}
 use Rattle.data_url.proofs.mime.line.Line.push_past_room.Goals as goal
 
 pub returns-then-text-gt-ROOM-clause-added : goal.returns-then-text-gt-ROOM-clause-added
@@ -11,7 +11,3 @@ pub returns-clause-added : goal.returns-clause-added
 returns-clause-added g c start before x ok =
     let all = added_flushed x (c.in_ok-flush.ensures.written x.wrote.flush refl) in
     added_held _ (added_none _ all (held_none _ c.in_ok-flush.ensures.none)) c.hold.ensures.text
-
-pub returns-clause-held : goal.returns-clause-held
-returns-clause-held g c = held_more _ _ _ c.in_ok-flush.ensures.held.text c.utf8.text c.hold.ensures.text
-    c.hold.ensures.fits
