@@ -2,24 +2,25 @@
 use Rattle.data_url.specs.Steps.Header.{header_text}
 use Rattle.data_url.proofs.texts.Bytes.{after-dropped_none, without_tabs_and_newlines-append, dropped_around}
 use Rattle.data_url.proofs.texts.Bytes.{dropped_keeps, dropped_nil, dropped_passes, before_all, before_at, after_none}
+use Rattle.data_url.proofs.texts.Bytes.{after_nil, after_other}
 use Rattle.data_url.proofs.percent.Encoding.{kept_whole, ascii_all, Plain}
 use Rattle.std.proofs.Common.{◌≡◌, ◌≢◌, ℕ, ◌+◌, ◌<◌, Bool, true, false, List, ◌∷◌, ◌++◌, length, get_or, take, drop}
 use Rattle.std.proofs.Common.{map, nat_eq, subst, length-append, codes, refl, sym, ap, ◌∙◌, ⊎_elim, arith, ◌-◌, Option}
-use Rattle.std.proofs.Common.{None, Some, position, ap₂, ◌⊎◌, eqb-true, append-nil}
+use Rattle.std.proofs.Common.{None, Some, position, ap₂, ◌⊎◌, eqb-true, append-nil, not, []}
 use Rattle.std.specs.Char.{to_ascii_lowercase}
 use Rattle.std.specs.Str.{IsCharBoundary, IsUtf8}
 use Rattle.std.proofs.lemmas.Bool.{cases_lt, cond-true, lt-ltb, or_cases, or_parts}
 use Rattle.std.proofs.lemmas.List.{get_or_at, take_more, get_or-take, length-map, length-take, map-append}
 use Rattle.std.proofs.lemmas.List.{take-append-le, take-map, drop_more, get_or-drop, length-drop, take-append-drop}
-use Rattle.std.proofs.lemmas.List.{take_all}
+use Rattle.std.proofs.lemmas.List.{take_all, take_rest}
 use Rattle.std.proofs.lemmas.Slice.Eq.{bytes_eq-Decides, starts_is}
 use Rattle.std.specs.List.{starts_with, prefix_len}
 use Rattle.std.proofs.lemmas.Str.{IsCharBoundary-after_ascii, IsCharBoundary-from_take, IsUtf8-from_ascii}
 use Rattle.data_url.specs.Url.{without_tabs_and_newlines, is_tab_or_newline, after, front}
 use Rattle.data_url.specs.Steps.Front.{HasNoScheme, IsSchemeAndRest, IsHeaderAndTail, ends_header, is_plain_path}
-use Rattle.std.specs.Prelude.{◌||◌}
-use Rattle.std.proofs.lemmas.List.Quantifiers.{position-Some}
-use Rattle.std.proofs.lemmas.List.Sums.{fails_before_first, prefix_len_passes}
+use Rattle.std.proofs.lemmas.List.Sums.{prefix_len_passes, prefix_len-le-length, prefix_len_stops}
+use Rattle.data_url.proofs.texts.CodePoints.{front_further, front_passes}
+use Rattle.data_url.specs.Mime.{Every}
 
 -- the scheme, in lower case
 abbrev scheme : List ℕ
@@ -144,17 +145,19 @@ pub record IsFrontEnd (s : List ℕ) (n : ℕ) : Type 0 where
   pub no_comma : after 44 (take n s) ≡ None
   pub no_hash : after 35 (take n s) ≡ None
 
--- there is no ',' or '#' before index n
-abbrev pub NoEndBefore : List ℕ → ℕ → Type 0
-NoEndBefore s n = (k : ℕ) → k < n → ends_header (get_or s k 0) ≡ false
+-- neither ',' nor '#'
+abbrev in_header : ℕ → Bool
+in_header b = not (ends_header b)
 
--- if there is no ',' or '#' in the first m bytes, nor in the next k bytes, there is none in the first m + k
-further_on : (s : List ℕ) (m k : ℕ) → NoEndBefore s m → NoEndBefore (drop m s) k → NoEndBefore s (m + k)
-further_on s m k h g j l = grind (arith, get_or-drop m s (j - m) 0, cases_lt j m)
+-- the first ',' or '#' of a text comes after the plain bytes at its front
+further_on : (s items : List ℕ) (n : ℕ) → items ≡ s → n ≡ prefix_len is_plain_path items
+    → prefix_len in_header s ≡ n + prefix_len in_header (drop n s)
+further_on s items n e f = grind (arith, front_further, prefix_len_passes, prefix_len-le-length)
 
--- if there is no ',' or '#' before index n, the first n bytes have neither
-no_end : (s : List ℕ) (n : ℕ) → NoEndBefore s n → (after 44 (take n s) ≡ None) × (after 35 (take n s) ≡ None)
-no_end s n h = grind (arith, or_parts, after_none, length-take, get_or-take)
+-- a text of bytes that are neither ',' nor '#' has neither
+no_end : (s : List ℕ) → Every in_header s → (after 44 s ≡ None) × (after 35 s ≡ None)
+no_end [] h = (after_nil 44, after_nil 35)
+no_end (b ∷ s) h = grind (arith, or_parts, after_other, no_end s h.1)
 
 -- if the first ',' or '#' of a text is a ',', the bytes before it are the header, and those after it are the tail
 pub at_comma : (s : List ℕ) (n : ℕ) → IsFrontEnd s n → get_or s n 0 ≢ 35 → IsHeaderAndTail s (take n s) (drop (n + 1) s)
@@ -170,53 +173,23 @@ plain_front : (s items : List ℕ) (n : ℕ) → items ≡ s → n ≡ prefix_le
     → ((i : ℕ) → get_or s i 0 < 256) → (k : ℕ) → k < n → Plain (get_or s k 0)
 plain_front s items n e f h k l = grind (arith, prefix_len_passes)
 
--- there is no ',' or '#' in the longest prefix of plain bytes
-no_end_ahead : (s items : List ℕ) (n : ℕ) → items ≡ s → n ≡ prefix_len is_plain_path items
-    → ((i : ℕ) → get_or s i 0 < 256) → NoEndBefore s n
-no_end_ahead s items n e f h k l =
-    let p = plain_front s items n e f h k l in ap₂ (λ x y. x || y) p.no_comma p.no_hash
-
--- if a list is equal to the text, the position of its first ',' or '#' from index n on is that of the text
-ends_ahead : (s items : List ℕ) (n : ℕ) (r : Option ℕ) → items ≡ s
-    → r ≡ position ends_header (take (length items - n) (drop n items)) → position ends_header (drop n s) ≡ r
-ends_ahead s items n r e p = grind (arith, take_all, length-drop)
-
 -- if the first ',' or '#' after the n plain bytes at the front is at index k of the bytes after them, the first one of
 -- the text is at n + k
 pub front_end_at : (s items : List ℕ) (n k : ℕ) (r : Option ℕ) → items ≡ s → n ≡ prefix_len is_plain_path items
-    → ((i : ℕ) → get_or s i 0 < 256) → r ≡ position ends_header (take (length items - n) (drop n items)) → r ≡ Some k
-    → IsFrontEnd s (n + k)
-front_end_at s items n k r e f h q g =
-    let p = position-Some ends_header (drop n s) k 0 (ends_ahead s items n r e q ∙ g) in
-    let lacks = no_end s (n + k) (further_on s n k (no_end_ahead s items n e f h) p.2) in
-    let end : ends_header (get_or s (n + k) 0) ≡ true = ap ends_header (sym (get_or-drop n s k 0)) ∙ p.1 in
-    record {
-      within = omega (arith, p.0, length-drop n s);
-      is = grind (arith, ⊎_elim, eqb-true, or_cases);
-      no_comma = lacks.0;
-      no_hash = lacks.1;
-    }
+    → r ≡ position ends_header (take (length items - n) (drop n items)) → r ≡ Some k → IsFrontEnd s (n + k)
+front_end_at s items n k r e f q g =
+    let more = further_on s items n e f in
+    let lacks = no_end (take (prefix_len in_header s) s) (front_passes in_header s) in
+    grind (arith, take_rest, length-drop, prefix_len_stops in_header s 0, eqb-true)
 
 -- if there is no ',' or '#' after the plain bytes at the front, there is no ',' before the first '#' of the text
 pub no_front_end : (s items : List ℕ) (n : ℕ) (r : Option ℕ) → items ≡ s → n ≡ prefix_len is_plain_path items
-    → ((i : ℕ) → get_or s i 0 < 256) → r ≡ position ends_header (take (length items - n) (drop n items)) → r ≡ None
-    → after 44 (front s) ≡ None
+    → r ≡ position ends_header (take (length items - n) (drop n items)) → r ≡ None → after 44 (front s) ≡ None
 unfolding front
-no_front_end s items n r e f h p g =
-    let rest = drop n s in
-    let nothing = ends_ahead s items n r e p ∙ g in
-    let none : NoEndBefore rest (length rest) = λ k l. grind (
-      arith,
-      fails_before_first,
-      ⊎_elim,
-      cond-true,
-      lt-ltb,
-      cases_lt,
-    ) in
-    let all = further_on s n (length rest) (no_end_ahead s items n e f h) none in
-    let lacks = no_end s (length s) (λ k l. all k (omega (arith, length-drop n s))) in
-    let whole = take_all (length s) s (omega arith) in
-    cc (before_all 35 s (ap (after 35) (sym whole) ∙ lacks.1))
+no_front_end s items n r e f q g =
+    let more = further_on s items n e f in
+    let lacks = no_end (take (prefix_len in_header s) s) (front_passes in_header s) in
+    grind (arith, take_rest, length-drop, take_all, before_all)
 
 -- if the ',' follows directly after the plain bytes at the front, the header is serialised as it is
 pub plain_before : (s items header : List ℕ) (n k : ℕ) → items ≡ s → n ≡ prefix_len is_plain_path items

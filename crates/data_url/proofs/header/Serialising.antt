@@ -1,7 +1,7 @@
 -- Headers: serialised path and query, and the last space of a path. For `serialise`.
 use Rattle.std.proofs.Common.{◌≡◌, ◌≢◌, ◌⊎◌, ℕ, suc, ◌+◌, ◌-◌, ◌<◌, ◌≤◌, Bool, true, false, List, [], ◌∷◌, ◌++◌, length}
 use Rattle.std.proofs.Common.{get_or, take, drop, reverse, codes, refl, sym, ap, ◌∙◌, inl, inr, ⊎_elim, None}
-use Rattle.std.proofs.Common.{append_assoc, arith, eqb-true, subst, length-append, Option, Some}
+use Rattle.std.proofs.Common.{append_assoc, arith, eqb-true, subst, length-append, Option, Some, zero}
 use Rattle.std.specs.Prelude.{◌==◌}
 use Rattle.std.specs.List.{prefix_len, suffix_len}
 use Rattle.std.proofs.lemmas.Bool.{cases_lt, ne_eqb, cases_Bool, not-true, not-false}
@@ -25,7 +25,6 @@ use Rattle.data_url.specs.Fetch.{before_comma, is_space}
 use Rattle.data_url.specs.Mime.{DoesNotEnd}
 use Rattle.data_url.proofs.header.Suffix.{same_flag}
 use Rattle.data_url.proofs.front.Cuts.{cut_at}
-use Rattle.data_url.proofs.mime.RoundTrips.{not_ends_last}
 
 -- a path of one byte is encoded with the set for the last byte
 path_one : (b : ℕ) → encoded_path (b ∷ []) ≡ encoded_byte in_path_end_set b
@@ -139,52 +138,45 @@ cut_at_query text n e = record {
       (cases_lt n (length text));
 }
 
--- the text is empty, or its last byte is neither a C0 control nor a space
-abbrev Ends : List ℕ → Type 0
-Ends s = 0 < length s → is_c0_control_or_space (get_or s (length s - 1) 0) ≡ false
+-- a text does not end with a code point that passes if its last code point does not pass
+ends_from : (p : ℕ → Bool) (s : List ℕ) → (0 < length s → p (get_or s (length s - 1) 0) ≡ false) → DoesNotEnd p s
+ends_from p [] h = tt
+ends_from p (c ∷ []) h = h (omega arith)
+ends_from p (c ∷ d ∷ s) h =
+    let e : length (c ∷ d ∷ s) - 1 ≡ suc (length (d ∷ s) - 1) = omega arith in
+    ends_from p (d ∷ s) (λ l. rw e at (h (omega arith)))
 
--- a text that is not empty is its bytes but the last, and then the last
-last_of : (s : List ℕ) → 0 < length s → s ≡ take (length s - 1) s ++ get_or s (length s - 1) 0 ∷ []
-last_of s l = grind (arith, take_all, take_more)
+-- a text without its end of C0 controls and spaces does not end with one
+ends_trimmed : (s : List ℕ) → DoesNotEnd is_c0_control_or_space (without_end is_c0_control_or_space s)
+ends_trimmed s = ends_from is_c0_control_or_space (without_end is_c0_control_or_space s)
+    (λ l. grind (arith, suffix_len-le-length, length-take, suffix_stops, get_or-take))
 
--- a text without its end of C0 controls and spaces
-ends_trimmed : (s : List ℕ) → Ends (without_end is_c0_control_or_space s)
-ends_trimmed s l = grind (arith, suffix_len-le-length, length-take, suffix_stops, get_or-take)
+-- a text that does not end with one, and is not empty, does not end with a space without tabs and newlines, and is not
+-- empty then either
+ends_dropped : (c : ℕ) (s : List ℕ) → DoesNotEnd is_c0_control_or_space (c ∷ s)
+    → DoesNotEnd is_space (without_tabs_and_newlines (c ∷ s)) × (without_tabs_and_newlines (c ∷ s) ≢ [])
+ends_dropped c [] h = grind (arith, dropped_keeps, dropped_nil)
+ends_dropped c (d ∷ s) h = grind (arith, cases_Bool, dropped_passes, dropped_keeps, ends_dropped d s h)
 
--- dropping tabs and newlines keeps the last byte
-ends_dropped : (s : List ℕ) → Ends s → Ends (without_tabs_and_newlines s)
-ends_dropped [] e l = absurd (let n = ap length dropped_nil in omega arith)
-ends_dropped (c ∷ s) e l =
-    let n = length (c ∷ s) - 1 in
-    let b = get_or (c ∷ s) n 0 in
-    let h : is_c0_control_or_space b ≡ false = e (omega arith) in
-    let no : is_tab_or_newline b ≡ false = grind arith in
-    let is : without_tabs_and_newlines (c ∷ s) ≡ without_tabs_and_newlines (take n (c ∷ s)) ++ b ∷ [] =
-    cc (last_of (c ∷ s) (omega arith), dropped_around b no (take n (c ∷ s)) [], dropped_nil) in
-    grind (arith, get_or_at, length-append)
+-- a text that does not end with a space does not without its first n bytes
+ends_after : (n : ℕ) (s : List ℕ) → DoesNotEnd is_space s → DoesNotEnd is_space (drop n s)
+ends_after zero s e = e
+ends_after (suc n) [] e = tt
+ends_after (suc n) (c ∷ []) e = ends_after n [] tt
+ends_after (suc n) (c ∷ d ∷ s) e = ends_after n (d ∷ s) e
 
--- a text that is empty or does not end with a C0 control or space stays so without bytes from its front
-ends_after : (n : ℕ) (s : List ℕ) → Ends s → Ends (drop n s)
-ends_after n s e l = grind (arith, get_or-drop, length-drop)
-
--- a text that is empty, or whose last byte is not a C0 control or space, does not end with a space
-ends_with_no_space : (s : List ℕ) → Ends s → DoesNotEnd is_space s
-ends_with_no_space [] e = tt
-ends_with_no_space (c ∷ s) e =
-    let b = get_or (c ∷ s) (length (c ∷ s) - 1) 0 in
-    let h : is_c0_control_or_space b ≡ false = e (omega arith) in
-    let no : is_space b ≡ false = grind arith in
-    subst (DoesNotEnd is_space) (sym (last_of (c ∷ s) (omega arith)))
-    (not_ends_last is_space b no (take (length (c ∷ s) - 1) (c ∷ s)))
+-- so is the empty text
+ends_whole : (s : List ℕ) → DoesNotEnd is_c0_control_or_space s → DoesNotEnd is_space (without_tabs_and_newlines s)
+ends_whole [] h = rw dropped_nil tt
+ends_whole (c ∷ s) h = (ends_dropped c s h).0
 
 -- what follows the scheme does not end with a space
 pub no_last_space : (t a : List ℕ) → after_scheme t ≡ Some a → DoesNotEnd is_space a
 unfolding after_scheme cleaned_text trimmed_text
 no_last_space t a h =
-    let front = without_front is_c0_control_or_space t in
-    let rest : a ≡ drop 5 (without_tabs_and_newlines (without_end is_c0_control_or_space front)) = grind arith in
-    subst (DoesNotEnd is_space) (sym rest)
-    (ends_with_no_space _ (ends_after 5 _ (ends_dropped _ (ends_trimmed front))))
+    let s = without_end is_c0_control_or_space (without_front is_c0_control_or_space t) in
+    let rest : a ≡ drop 5 (without_tabs_and_newlines s) = grind arith in
+    rw rest (ends_after 5 (without_tabs_and_newlines s) (ends_whole s (ends_trimmed (without_front is_c0_control_or_space t))))
 
 -- an encoded path is the same by both rules, or ends with "%20" by one and with a space by the other
 data Differs (path : List ℕ) : Type 0 where
@@ -192,20 +184,19 @@ data Differs (path : List ℕ) : Type 0 where
   last_space : (x : List ℕ) → encoded_path path ≡ x ++ codes "%20" → percent_encoding in_path_set path ≡ x ++ codes " "
       → Differs path
 
--- a path with a last byte is the same by both rules, or ends with "%20" by one and with a space by the other
-differs_last : (path init : List ℕ) (b : ℕ) → path ≡ init ++ b ∷ [] → Differs path
-differs_last path init b e = elim (cases_Bool (b == 32)) [
-  | inl h ↦
-      let is : path ≡ init ++ 32 ∷ [] = e ∙ ap (λ c. init ++ c ∷ []) (eqb-true b 32 h) in
-      last_space (percent_encoding in_path_set init) (ap encoded_path is ∙ path_space init)
-      (grind (arith, percent_encoding-append in_path_set init (32 ∷ []), encoded_cons, encoded_nil))
-  | inr h ↦ same_path (ap encoded_path e ∙ path_other init b h ∙ sym (ap (percent_encoding in_path_set) e))
-]
-
--- each path, empty or with a last byte, is the same by both rules, except for a space at its end
+-- each path is the same by both rules, except for a space at its end
 differs_by : (path : List ℕ) → Differs path
 differs_by [] = grind (arith, path_nil, encoded_nil)
-differs_by (c ∷ s) = differs_last (c ∷ s) _ _ (last_of (c ∷ s) (omega arith))
+differs_by (b ∷ []) = elim (cases_Bool (b == 32)) [
+  | inl e ↦ rw (eqb-true b 32 e)
+      (last_space [] (path_space [] ∙ grind (arith, encoded_nil)) (grind (arith, encoded_cons, encoded_nil)))
+  | inr e ↦ same_path (path_other [] b e)
+]
+differs_by (b ∷ c ∷ s) = elim (differs_by (c ∷ s)) [
+  | same_path e ↦ same_path (grind (arith, path_cons b (c ∷ s), encoded_cons, e))
+  | last_space x e f ↦ last_space (encoded_byte in_path_set b ++ x)
+      (grind (arith, path_cons b (c ∷ s), e, append_assoc)) (grind (arith, encoded_cons, f, append_assoc))
+]
 
 -- nothing after the first comma changes the header
 comma_before : (x y rest : List ℕ) → after 44 x ≡ Some rest → before_comma (x ++ y) ≡ Some (before 44 x)

@@ -1,8 +1,8 @@
 -- The stages of the Standard, from the input to its record. For `DataUrl::process`.
-use Rattle.std.proofs.Common.{◌≡◌, ℕ, zero, suc, ◌<◌, ◌≤◌, Bool, false, List, [], ◌∷◌, ◌++◌, length, get_or, take, drop}
-use Rattle.std.proofs.Common.{None, Some, refl, sym, ap, ◌∙◌, inl, inr, eqb-true, subst, arith, true, map, codes, ◌≢◌}
+use Rattle.std.proofs.Common.{◌≡◌, ℕ, suc, ◌<◌, ◌≤◌, Bool, false, List, [], ◌∷◌, ◌++◌, length, get_or, take, drop, None}
+use Rattle.std.proofs.Common.{Some, refl, sym, ap, ◌∙◌, inl, inr, eqb-true, subst, arith, true, map, codes, ◌≢◌}
 use Rattle.std.specs.Prelude.{option_and_then}
-use Rattle.std.specs.List.{prefix_len, suffix_len}
+use Rattle.std.specs.List.{prefix_len, suffix_len, AllByRecursion}
 use Rattle.std.specs.Str.{chars}
 use Rattle.std.proofs.lemmas.Bool.{cases_Bool}
 use Rattle.std.proofs.lemmas.Slice.Eq.{bytes_eq-Decides}
@@ -35,32 +35,24 @@ use Rattle.data_url.proofs.mime.FirstNames.{parses_parts, parses_wellformed}
 use Rattle.data_url.specs.DataUrl.{IsAcceptable, IsUrlOf, is_base64, mime_of, url_tail}
 use Rattle.data_url.specs.MimeType.{record_of}
 use Rattle.data_url.specs.declared.DataUrl.{DataUrl}
-
--- each byte of the text is a printable ASCII character
-abbrev printable : List ℕ → Type 0
-printable [] = Unit {0}
-printable (b ∷ s) = (32 ≤ b) × (b < 127) × printable s
+use Rattle.std.proofs.lemmas.List.Elements.{All-drop, All-from_get_or, All-from_recursion, All-take, recursion_from_All}
+use Rattle.std.proofs.Math.Seq.{drop-append_seam}
 
 -- a text of bytes, encoded with a set that has all bytes that are not printable, is printable
 encoded_printable : (p : ℕ → Bool) → ((b : ℕ) → p b ≡ false → (32 ≤ b) × (b < 127)) → (s : List ℕ) → IsBytes s
-    → printable (percent_encoding p s)
-encoded_printable p outside [] h = subst printable (sym (encoded_nil p)) tt
+    → AllByRecursion (λ b. (32 ≤ b) × (b < 127)) (percent_encoding p s)
+encoded_printable p outside [] h = rw (encoded_nil p) tt
 encoded_printable p outside (b ∷ s) h = grind (arith, encoded_cons, encoded_printable p outside s h.1)
 
 -- each byte of the serialised text of a header is a printable ASCII character
-header_all : (s : List ℕ) → IsBytes s → printable (header_text s)
-header_all [] h = subst printable (sym header_nil) tt
+header_all : (s : List ℕ) → IsBytes s → AllByRecursion (λ b. (32 ≤ b) × (b < 127)) (header_text s)
+header_all [] h = rw header_nil tt
 header_all (b ∷ s) h = grind (arith, header_query, encoded_printable, header_path, header_all s h.1)
-
--- if each byte of a text is printable, the byte at each index is
-printable_at : (s : List ℕ) → printable s → IsPrintable s
-printable_at [] h i l = absurd (omega arith)
-printable_at (b ∷ s) h zero l = (h.0, h.1)
-printable_at (b ∷ s) h (suc i) l = printable_at s h.2 i (omega arith)
 
 -- the serialised text of a header of bytes is printable
 pub header_text_printable : (s : List ℕ) → IsBytes s → IsPrintable (header_text s)
-header_text_printable s h = printable_at (header_text s) (header_all s h)
+header_text_printable s h i l =
+    All-from_recursion (λ b. (32 ≤ b) × (b < 127)) (header_text s) (header_all s h) i 0 l
 
 -- the first n bytes of a printable text are printable
 pub printable_take : (n : ℕ) (s : List ℕ) → IsPrintable s → IsPrintable (take n s)
@@ -85,10 +77,14 @@ pub printable_stripped : (s : List ℕ) → IsPrintable s → IsPrintable (strip
 unfolding stripped_header
 printable_stripped s h = grind (arith, printable_take, get_or-drop, length-drop)
 
--- if a ++ b is a text of bytes, so are a and b
-pub bytes_append : (a b : List ℕ) → IsBytes (a ++ b) → IsBytes a × IsBytes b
-bytes_append [] b h = (tt, h)
-bytes_append (x ∷ a) b h = let k = bytes_append a b h.1 in ((h.0, k.0), k.1)
+-- a number below 256
+abbrev is_byte : ℕ → Type 0
+is_byte b = b < 256
+
+-- a text of bytes without its first n bytes is a text of bytes
+bytes_drop : (n : ℕ) (s : List ℕ) → IsBytes s → IsBytes (drop n s)
+bytes_drop n s h =
+    recursion_from_All is_byte (drop n s) (All-drop is_byte n s (All-from_recursion is_byte s h))
 
 -- a text of bytes without tabs and newlines is a text of bytes
 pub bytes_dropped : (s : List ℕ) → IsBytes s → IsBytes (without_tabs_and_newlines s)
@@ -312,7 +308,7 @@ stages_no_scheme t h = cc (after_none t h)
 
 -- if the trimmed text is a text of bytes, so is the rest after its scheme
 pub rest_bytes : (t rest : List ℕ) → IsBytes (trimmed_text t) → IsSchemeAndRest (trimmed_text t) rest → IsBytes rest
-rest_bytes t rest b s = grind (arith, bytes_append)
+rest_bytes t rest b s = subst IsBytes (drop-append_seam s.scheme rest) (bytes_drop _ _ (subst IsBytes s.joined b))
 
 -- if the trimmed text has the scheme, and there is no comma in the rest before its first '#', the Standard finds no
 -- comma
@@ -360,22 +356,11 @@ is_url_of t rest header u b s h k =
       staged_is = stages_accepted t rest header (url_tail u) b s h (is_base64 u) k.base64_is;
     }
 
--- a text of bytes without its first n bytes is a text of bytes
-bytes_drop : (n : ℕ) (s : List ℕ) → IsBytes s → IsBytes (drop n s)
-bytes_drop zero s h = h
-bytes_drop (suc n) [] h = tt
-bytes_drop (suc n) (b ∷ s) h = bytes_drop n s h.1
-
--- the first n bytes of a text of bytes are a text of bytes
-bytes_take : (n : ℕ) (s : List ℕ) → IsBytes s → IsBytes (take n s)
-bytes_take zero s h = tt
-bytes_take (suc n) [] h = tt
-bytes_take (suc n) (b ∷ s) h = (h.0, bytes_take n s h.1)
-
 -- if each number of a text is below 256, the trimmed text is a text of bytes
 pub bytes_trimmed : (t : List ℕ) → ((i : ℕ) → get_or t i 0 < 256) → IsBytes (trimmed_text t)
 unfolding trimmed_text
-bytes_trimmed t h = grind (arith, bytes_take, bytes_drop, bytes_by_place)
+bytes_trimmed t h = recursion_from_All is_byte (trimmed_text t)
+    (All-take is_byte _ _ (All-drop is_byte _ t (All-from_get_or is_byte t 0 (λ i l. h i))))
 
 -- if there is a comma before the first '#', there is no '#' before the first comma
 comma_first : (s x : List ℕ) → after 44 (before 35 s) ≡ Some x → after 35 (before 44 s) ≡ None

@@ -1,7 +1,7 @@
 -- Values of parameters, as texts of their own. For `values.rt` and `read_plain`.
 use Rattle.std.proofs.Common.{◌≡◌, ℕ, zero, suc, ◌+◌, ◌-◌, ◌<◌, ◌==◌, Bool, true, false, not, List, [], ◌∷◌, ◌++◌}
 use Rattle.std.proofs.Common.{length, take, drop, encode_utf8_all, refl, sym, ap, ◌∙◌, append_assoc, append-nil, arith}
-use Rattle.std.proofs.Common.{◌≤◌, ◌||◌, ◌⊎◌, Bor, None, Some, cond, nat_le}
+use Rattle.std.proofs.Common.{◌≤◌, ◌||◌, ◌⊎◌, None, Some, cond, nat_le}
 use Rattle.std.proofs.lemmas.List.{take-take, take_rest, length-take}
 use Rattle.std.proofs.lemmas.List.Folds.{list_all-append}
 use Rattle.std.proofs.lemmas.List.Sums.{prefix_len-le-length, prefix_len_passes}
@@ -16,13 +16,11 @@ use lib.Utf8.{encode}
 use Rattle.data_url.specs.CodePoints.{is_http_whitespace, is_quotable}
 use Rattle.data_url.specs.Mime.{Every, unless_empty}
 use Rattle.data_url.specs.Steps.Parsing.{front_of, in_value, is_escaped, is_quotable_byte, is_unquoted_byte}
-use Rattle.data_url.specs.Steps.Parsing.{quotable_value, unescaped, value_of}
-use Rattle.data_url.specs.declared.mime.values.Value.{Value}
+use Rattle.data_url.specs.Steps.Parsing.{quotable_value, unescaped}
 use Rattle.data_url.specs.Url.{without_end, without_front}
 use Rattle.data_url.proofs.texts.CodePoints.{IsCutInto, IsSteady, cut_front, front_further, front_passes, no_chars}
 use Rattle.data_url.proofs.texts.CodePoints.{same_empty}
 use Rattle.data_url.proofs.mime.TokenTexts.{values_steady, whole_front}
-use Rattle.data_url.specs.declared.mime.values.Value.TheVariants as slices
 
 -- a byte of the UTF-8 of quoted-string code points is below 196
 quotable_byte_below : (b : ℕ) → is_quotable_byte b ≡ true → b < 196
@@ -115,23 +113,11 @@ unescaped_quotable false [] = refl
 unescaped_quotable true (c ∷ s) = grind (arith, unescaped_quotable false s)
 unescaped_quotable false (c ∷ s) = grind (arith, unescaped_quotable false s, unescaped_quotable true s)
 
-module _ {self : Value} (text : Bor (List ℕ)) {bs : List ℕ} {n : ℕ} (i : self ≡ slices.Quoted text) (u : IsUtf8 bs)
-    (e : bs ≡ text.now) (f : n ≡ prefix_len is_quotable_byte bs) where
-  -- the value of the text is quotable exactly if the longest prefix of quotable bytes is the whole text
-  quotable_by : list_all is_quotable (unescaped false (chars text.now)) ≡ (n == length text.now)
-  quotable_by = cc (
-    unescaped_quotable false (chars text.now),
-    quotable_chars bs u,
-    whole_front is_quotable_byte bs,
-  )
-
-  -- the value of slices with quotes, if this prefix is the whole text
-  pub quoted_text : (v : List ℕ) → v ≡ unescaped false (chars text.now) → n ≡ length text.now → Some v ≡ value_of self
-  quoted_text v g h = let q = quotable_by in rw i (grind arith)
-
-  -- slices with quotes have no value, if it is not
-  pub no_quoted_text : (n ≡ length text.now → ⊥) → None ≡ value_of self
-  no_quoted_text h = let q = quotable_by in rw i (grind arith)
+-- the value of a quoted string is quotable exactly if the longest prefix of quotable bytes is the whole text
+pub quotable_by : (bs : List ℕ) → IsUtf8 bs
+    → list_all is_quotable (unescaped false (chars bs)) ≡ (prefix_len is_quotable_byte bs == length bs)
+quotable_by bs u =
+    cc (unescaped_quotable false (chars bs), quotable_chars bs u, whole_front is_quotable_byte bs)
 
 -- if a class is steady, and each byte of a UTF-8 text passes, so does each of its code points
 pub whole_passes : (p : ℕ → Bool) → IsSteady p → (bs bytes : List ℕ) (n : ℕ) → IsUtf8 bs → bytes ≡ bs

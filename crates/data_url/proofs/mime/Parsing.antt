@@ -129,7 +129,7 @@ front_begins [] back h = tt
 front_begins (c ∷ t) back h = h
 
 -- after a code point that does not pass
-ends_after : (p : ℕ → _) (c : ℕ) (t : List ℕ) → p c ≡ false → DoesNotEnd p t → DoesNotEnd p (c ∷ t)
+pub ends_after : (p : ℕ → _) (c : ℕ) (t : List ℕ) → p c ≡ false → DoesNotEnd p t → DoesNotEnd p (c ∷ t)
 ends_after p c [] n h = n
 ends_after p c (d ∷ t) n h = h
 

@@ -1,6 +1,6 @@
 -- Parsing a printed record returns the record.
 use Rattle.std.proofs.Common.{◌≡◌, ℕ, ◌==◌, ◌||◌, ◌&&◌, Bool, true, false, not, List, [], ◌∷◌, ◌++◌, Some, map, refl}
-use Rattle.std.proofs.Common.{arith, sym, ap, subst, append_assoc}
+use Rattle.std.proofs.Common.{arith, sym, ap, subst, append_assoc, append-nil}
 use Rattle.std.proofs.lemmas.Bool.{agree_below, agree_below_at, and_from, and_parts, both_ways, cond-true, cond_both}
 use Rattle.std.proofs.lemmas.Bool.{eqb-false, or_parts, false≢true}
 use Rattle.std.proofs.lemmas.List.Folds.{list_any-append}
@@ -16,6 +16,7 @@ use Rattle.data_url.proofs.mime.Items.{not_begins_append, has_at_most_one_record
 use Rattle.data_url.proofs.mime.FirstNames.{lower_is_itself, lowercase_token, test_from_different, test_from_equal}
 use Rattle.data_url.proofs.texts.CodePoints.{end_stays, not_ends_every}
 use Rattle.data_url.specs.Url.{without_front}
+use Rattle.data_url.proofs.mime.Parsing.{ends_after}
 
 module _ (p : ℕ → Bool) (n : agree_below (λ c. not (is_token c && p c)) (λ c. true) 128 ≡ true) where
   -- if no token code point below 128 passes p, no token code point does
@@ -38,18 +39,11 @@ module _ (p : ℕ → Bool) (n : agree_below (λ c. not (is_token c && p c)) (λ
   tokens_end : (t : List ℕ) → Every is_token t → DoesNotEnd p t
   tokens_end = not_ends_every p is_token not_in
 
--- if neither a nor b ends with a code point that passes, a ++ b does not either
-not_ends_append : (p : ℕ → Bool) (a b : List ℕ) → DoesNotEnd p a → DoesNotEnd p b → DoesNotEnd p (a ++ b)
-not_ends_append p [] b h k = k
-not_ends_append p (c ∷ []) [] h k = h
-not_ends_append p (c ∷ []) (d ∷ b) h k = k
-not_ends_append p (c ∷ d ∷ a) b h k = not_ends_append p (d ∷ a) b h k
-
--- a text that ends with a code point that does not pass does not end with one that passes
-pub not_ends_last : (p : ℕ → Bool) (c : ℕ) → p c ≡ false → (a : List ℕ) → DoesNotEnd p (a ++ (c ∷ []))
-not_ends_last p c h [] = h
-not_ends_last p c h (d ∷ []) = h
-not_ends_last p c h (d ∷ e ∷ a) = not_ends_last p c h (e ∷ a)
+-- a text of a, c and b does not end with a code point that passes if c and b do not
+ends_with : (p : ℕ → Bool) (a : List ℕ) (c : ℕ) (b : List ℕ) → DoesNotEnd p (c ∷ b) → DoesNotEnd p (a ++ c ∷ b)
+ends_with p [] c b h = h
+ends_with p (d ∷ []) c b h = h
+ends_with p (d ∷ e ∷ a) c b h = ends_with p (e ∷ a) c b h
 
 -- a text, escaped, is the text of a quoted string whose value is the text
 quoted_escaped : (v : List ℕ) → Quoted (flat_map escaped_code_point v) v
@@ -76,22 +70,17 @@ gives_value v rest = cond_both (is_token_text v) v (34 ∷ (flat_map escaped_cod
     (λ t. GivesValue (61 ∷ t) rest (Some v)) (λ e. plain_value v rest e) (λ e. quoted (flat_map escaped_code_point v) []
     (quoted_escaped v) tt)
 
--- a printed value does not end with HTTP whitespace
-value_not_end : (v : List ℕ) → DoesNotEnd is_http_whitespace (printed_value v)
+-- '=' and a printed value do not end with HTTP whitespace
+value_not_end : (v : List ℕ) → DoesNotEnd is_http_whitespace (61 ∷ printed_value v)
 unfolding is_token
 value_not_end v = cond_both (is_token_text v) v (34 ∷ (flat_map escaped_code_point v ++ (34 ∷ [])))
-    (λ t. DoesNotEnd is_http_whitespace t)
-    (λ e. tokens_end is_http_whitespace refl v (every_token v e))
-    (λ e. not_ends_last is_http_whitespace 34 refl (34 ∷ flat_map escaped_code_point v))
+    (λ t. DoesNotEnd is_http_whitespace (61 ∷ t))
+    (λ e. ends_after is_http_whitespace 61 v refl (tokens_end is_http_whitespace refl v (every_token v e)))
+    (λ e. ends_with is_http_whitespace (61 ∷ 34 ∷ flat_map escaped_code_point v) 34 [] refl)
 
 -- each code point of a lower-case name is a token code point
 name_tokens : (t : List ℕ) → is_lowercase_name t ≡ true → Every is_token t
 name_tokens t h = every_token t (lowercase_token t h)
-
--- a lower-case name does not end with HTTP whitespace
-name_not_end : (t : List ℕ) → is_lowercase_name t ≡ true → DoesNotEnd is_http_whitespace t
-unfolding is_token
-name_not_end t h = grind (arith, tokens_end, name_tokens)
 
 -- a printed pair with a lower-case name is a parameter with the name and the value of the pair
 is_parameter : (p : Pair) (rest : List ℕ) → is_lowercase_name p.0 ≡ true
@@ -108,12 +97,6 @@ is_parameter p rest h = record {
   name_is = sym (lower_is_itself p.0 h);
   value_is = gives_value p.1 rest;
 }
-
--- a printed pair with a lower-case name does not end with HTTP whitespace
-pair_not_end : (p : Pair) → is_lowercase_name p.0 ≡ true → DoesNotEnd is_http_whitespace (printed_pair p)
-pair_not_end p h = not_ends_append is_http_whitespace (59 ∷ []) (p.0 ++ (61 ∷ printed_value p.1)) refl
-    (not_ends_append is_http_whitespace p.0 (61 ∷ printed_value p.1) (name_not_end p.0 h)
-    (not_ends_append is_http_whitespace (61 ∷ []) (printed_value p.1) refl (value_not_end p.1)))
 
 -- all names are lower-case
 abbrev have_names : List Pair → Bool
@@ -144,14 +127,13 @@ pairs_begin : (pairs : List Pair) → BeginsParameters (flat_map printed_pair pa
 pairs_begin [] = tt
 pairs_begin (p ∷ pairs) = refl
 
--- the text of printed pairs with lower-case names does not end with HTTP whitespace
-pairs_not_end : (pairs : List Pair) → have_names pairs ≡ true
-    → DoesNotEnd is_http_whitespace (flat_map printed_pair pairs)
-pairs_not_end [] h = tt
-pairs_not_end (p ∷ pairs) h =
-    let k = and_parts (is_lowercase_name p.0) (have_names pairs) h in
-    not_ends_append is_http_whitespace (printed_pair p) (flat_map printed_pair pairs) (pair_not_end p k.0)
-    (pairs_not_end pairs k.1)
+-- printed pairs after a text that does not end with HTTP whitespace do not end with it either
+pairs_not_end : (pairs : List Pair) (t : List ℕ) → DoesNotEnd is_http_whitespace t
+    → DoesNotEnd is_http_whitespace (t ++ flat_map printed_pair pairs)
+pairs_not_end [] t h = rw (append-nil t) h
+pairs_not_end (p ∷ pairs) t h = rw (← append_assoc t (printed_pair p) (flat_map printed_pair pairs))
+    (pairs_not_end pairs (t ++ printed_pair p) (ends_with is_http_whitespace t 59 (p.0 ++ (61 ∷ printed_value p.1))
+    (ends_with is_http_whitespace (59 ∷ p.0) 61 (printed_value p.1) (value_not_end p.1))))
 
 -- pairs with lower-case names and values of quoted-string code points are all valid
 all_valid : (pairs : List Pair) → have_names pairs ≡ true → have_values pairs ≡ true
@@ -194,13 +176,11 @@ printed_begins m w = not_begins_append is_http_whitespace m.type_ _
 
 -- a well-formed record, printed, does not end with HTTP whitespace
 printed_ends : (m : Record) → IsWellformed m → DoesNotEnd is_http_whitespace (printed m)
-unfolding printed
-printed_ends m w =
-    not_ends_append is_http_whitespace m.type_ (47 ∷ (m.subtype ++ flat_map printed_pair m.parameters))
-    (name_not_end m.type_ w.type_)
-    (not_ends_append is_http_whitespace (47 ∷ []) (m.subtype ++ flat_map printed_pair m.parameters) refl
-    (not_ends_append is_http_whitespace m.subtype (flat_map printed_pair m.parameters)
-    (name_not_end m.subtype w.subtype) (pairs_not_end m.parameters w.names)))
+unfolding printed is_token
+printed_ends m w = rw (← append_assoc m.type_ (47 ∷ m.subtype) (flat_map printed_pair m.parameters))
+    (pairs_not_end m.parameters (m.type_ ++ (47 ∷ m.subtype)) (ends_with is_http_whitespace m.type_ 47 m.subtype
+    (ends_after is_http_whitespace 47 m.subtype refl
+    (tokens_end is_http_whitespace refl m.subtype (name_tokens m.subtype w.subtype)))))
 
 -- a well-formed record, printed, has its type, its subtype and its printed parameters as head
 printed_head : (m : Record) → IsWellformed m → IsHead (printed m) m.type_ m.subtype (flat_map printed_pair m.parameters)
