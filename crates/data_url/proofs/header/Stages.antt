@@ -1,6 +1,6 @@
 -- The stages of the Standard, from the input to its record. For `DataUrl::process`.
 use Rattle.std.proofs.Common.{◌≡◌, ℕ, suc, ◌<◌, ◌≤◌, Bool, false, List, [], ◌∷◌, ◌++◌, length, get_or, take, drop, None}
-use Rattle.std.proofs.Common.{Some, refl, sym, ap, ◌∙◌, inl, inr, eqb-true, subst, arith, true, map, codes, ◌≢◌}
+use Rattle.std.proofs.Common.{Some, refl, sym, ap, ◌∙◌, inl, inr, eqb-true, subst, arith, map, codes, ◌≢◌}
 use Rattle.std.specs.Prelude.{option_and_then}
 use Rattle.std.specs.List.{prefix_len, suffix_len, AllByRecursion}
 use Rattle.std.specs.Str.{chars}
@@ -28,7 +28,7 @@ use Rattle.data_url.proofs.texts.Bytes.{without_tabs_and_newlines-append, droppe
 use Rattle.data_url.proofs.texts.Bytes.{before_all, before_at, dropped_passes, is_cut, lacks}
 use Rattle.data_url.proofs.runs.Runs.{none_or_some}
 use Rattle.std.proofs.lemmas.Str.{chars-IsAscii}
-use Rattle.data_url.specs.Mime.{HasNoRecord, IsWellformed, Parses, Record, default_record, BeginsParameters, IsHead}
+use Rattle.data_url.specs.Mime.{HasNoRecord, Parses, Record, default_record, BeginsParameters, IsHead}
 use Rattle.data_url.specs.Mime.{IsRecordOfParts}
 use Rattle.data_url.proofs.examples.Literals.{on_literals}
 use Rattle.data_url.proofs.mime.FirstNames.{parses_parts, parses_wellformed}
@@ -37,6 +37,7 @@ use Rattle.data_url.specs.MimeType.{record_of}
 use Rattle.data_url.specs.declared.DataUrl.{DataUrl}
 use Rattle.std.proofs.lemmas.List.Elements.{All-drop, All-from_get_or, All-from_recursion, All-take, recursion_from_All}
 use Rattle.std.proofs.Math.Seq.{drop-append_seam}
+use Rattle.std.proofs.Common.{is_some, Option, unwrap_or}
 
 -- a text of bytes, encoded with a set that has all bytes that are not printable, is printable
 encoded_printable : (p : ℕ → Bool) → ((b : ℕ) → p b ≡ false → (32 ≤ b) × (b < 127)) → (s : List ℕ) → IsBytes s
@@ -72,10 +73,10 @@ pub trimmed_is_stripped : (s : List ℕ) → IsPrintable s → trimmed_text s �
 unfolding trimmed_text stripped_header
 trimmed_is_stripped s h = grind (arith, low_front, low_end, get_or-drop, length-drop)
 
--- a printable text without spaces at both ends is printable
-pub printable_stripped : (s : List ℕ) → IsPrintable s → IsPrintable (stripped_header s)
-unfolding stripped_header
-printable_stripped s h = grind (arith, printable_take, get_or-drop, length-drop)
+-- a printable text without C0 controls and spaces at both ends is printable
+pub printable_trimmed : (s : List ℕ) → IsPrintable s → IsPrintable (trimmed_text s)
+unfolding trimmed_text
+printable_trimmed s h = grind (arith, printable_take, get_or-drop, length-drop)
 
 -- a number below 256
 abbrev is_byte : ℕ → Type 0
@@ -242,10 +243,6 @@ pub default_for : (s : List ℕ) (m : Record) → HasNoRecord s → m ≡ defaul
 unfolding on_literals
 default_for s m n e = grind arith
 
--- a well-formed record that a text parses to is the record for it
-pub parsed_for : (s : List ℕ) (m : Record) → Parses s m → IsWellformed m → IsRecordFor s m
-parsed_for s m p w = grind arith
-
 -- the record of "text", "plain", and the parameter "charset" with the value "US-ASCII" is the default record
 pub default_is : (type_ subtype charset value : List ℕ) → type_ ≡ codes "text" → subtype ≡ codes "plain"
     → charset ≡ codes "charset" → value ≡ codes "US-ASCII"
@@ -257,49 +254,38 @@ pub default_is : (type_ subtype charset value : List ℕ) → type_ ≡ codes "t
 unfolding chars
 default_is type_ subtype charset value a b c d = grind arith
 
--- a text that does not begin with ';' stays as it is
-pub plain_stays : (media : List ℕ) → get_or media 0 0 ≢ 59 → with_plain media ≡ media
-plain_stays [] n = refl
-plain_stays (c ∷ s) n = grind arith
-
--- a text that begins with ';' has "text/plain" put before it
-pub plain_added : (media : List ℕ) → get_or media 0 0 ≡ 59 → with_plain media ≡ codes "text/plain" ++ media
-plain_added [] h = absurd (omega (arith, h))
-plain_added (c ∷ s) h = grind arith
-
 -- the code points of printable bytes are the bytes
 pub chars_printable : (s : List ℕ) → IsPrintable s → chars s ≡ s
 chars_printable s h = grind (arith, chars-IsAscii, get_or_past)
 
--- if media is the text before the base64 suffix of a header, the record for `with_plain media` is the record of the
--- header, and its flag is true
-pub with_suffix : (header media : List ℕ) (m : Record) → before_base64 (stripped_header header) ≡ Some media
-    → IsRecordFor (with_plain media) m → IsHeaderOf header m true
-unfolding mime_text media_of has_base64_suffix
-with_suffix header media m e h = grind arith
+-- a printable text that does not begin with ';' stays as it is
+pub plain_stays : (media : List ℕ) → IsPrintable media → get_or media 0 0 ≢ 59 → chars media ≡ with_plain media
+plain_stays [] p n = chars_printable [] p
+plain_stays (c ∷ s) p n = grind (arith, chars_printable (c ∷ s) p)
 
--- if a header has no base64 suffix, the record for `with_plain` of the stripped header is the record of the header, and
--- its flag is false
-pub no_suffix : (header : List ℕ) (m : Record) → before_base64 (stripped_header header) ≡ None
-    → IsRecordFor (with_plain (stripped_header header)) m → IsHeaderOf header m false
+-- a printable text that begins with ';' has "text/plain" put before it
+pub plain_added : (media : List ℕ) → IsPrintable media → get_or media 0 0 ≡ 59
+    → codes "text/plain" ++ chars media ≡ with_plain media
+plain_added [] p h = absurd (omega (arith, h))
+plain_added (c ∷ s) p h = grind (arith, chars_printable (c ∷ s) p)
+
+-- if s is a printable header without C0 controls and spaces at both ends, and o is the text before its base64 suffix,
+-- the record for `with_plain` of o, or of s if there is none, is the record of the header; the flag is that of o
+pub suffix_is : (header s : List ℕ) (o : Option (List ℕ)) (m : Record) → IsPrintable header → s ≡ trimmed_text header
+    → o ≡ before_base64 s → IsRecordFor (with_plain (unwrap_or o s)) m → IsHeaderOf header m (is_some o)
 unfolding mime_text media_of has_base64_suffix
-no_suffix header m e h = grind arith
+suffix_is header s o m p e f h = let t = trimmed_is_stripped header p in record { record_is = rw (← t, ← e, ← f) h; base64_is = cc }
+
+-- the record of the parts of a text is the record for it
+pub parts_for : {s x a b c : List ℕ} (m : Record) → s ≡ x → IsHead s a b c → IsRecordOfParts a b c m → IsRecordFor x m
+parts_for {s} {x} {a} {b} {c} m e h p =
+    let q = subst (λ t. Parses t m) e (parses_parts s a b c m h p) in
+    record { is_record = inl q; wellformed = parses_wellformed x m q }
 
 -- a text with ';' at index 0 begins with ';'
 pub begins_at : (s : List ℕ) → get_or s 0 0 ≡ 59 → BeginsParameters s
 begins_at [] h = tt
 begins_at (c ∷ s) h = h
-
--- if a printable text begins with ';', the record of the parts of "text/plain" and the text is the record for
--- `with_plain` of the text
-pub plain_record : (media a b c : List ℕ) (m : Record) → IsPrintable media → get_or media 0 0 ≡ 59
-    → IsHead (codes "text/plain" ++ chars media) a b c → IsRecordOfParts a b c m → IsRecordFor (with_plain media) m
-plain_record media a b c m h e head record_is =
-    let same : codes "text/plain" ++ chars media ≡ with_plain media =
-    ap (λ s. codes "text/plain" ++ s) (chars_printable media h) ∙ sym (plain_added media e) in
-    let parsed : Parses (with_plain media) m =
-    subst (λ s. Parses s m) same (parses_parts (codes "text/plain" ++ chars media) a b c m head record_is) in
-    parsed_for (with_plain media) m parsed (parses_wellformed (with_plain media) m parsed)
 
 -- if the trimmed text does not begin with the scheme, the Standard finds no scheme
 pub stages_no_scheme : (t : List ℕ) → HasNoScheme (trimmed_text t) → staged t ≡ NoScheme

@@ -1,6 +1,6 @@
 -- Printed records, and records of the same texts. For `Display` and `PartialEq` of `Mime`.
-use Rattle.std.proofs.Common.{◌≡◌, ℕ, ◌+◌, ◌<◌, ◌≤◌, Bool, true, false, List, [], ◌∷◌, ◌++◌, length, get_or, take, drop}
-use Rattle.std.proofs.Common.{String, string_bytes, map, encode_utf8, encode_utf8_all, refl, sym, ap, subst}
+use Rattle.std.proofs.Common.{◌≡◌, ℕ, ◌+◌, ◌<◌, ◌≤◌, Bool, true, false, List, [], ◌∷◌, ◌++◌, length, get_or, drop}
+use Rattle.std.proofs.Common.{String, string_bytes, map, encode_utf8, encode_utf8_all, refl, sym, subst}
 use Rattle.std.proofs.Common.{append_assoc, append-nil, drop-cons, drop_of_length-le, arith}
 use lib.Utf8.{encode}
 use Rattle.std.proofs.lemmas.Str.{IsUtf8-append, IsUtf8-string_bytes, chars_past_char, encode_ascii, encodes-append}
@@ -95,10 +95,6 @@ pub written_plain : {W : Type 0} {took : W → List ℕ → W → Type 0} {f g :
     → HasWrittenStyled took f bs g → HasWritten took f bs g
 written_plain {f = f} plain h = grind arith
 
--- a line of length zero holds no bytes
-pub held_none : (l : Line) → l.len ≡ 0 → held l ≡ []
-held_none l e = ap (λ n. take n l.room) e
-
 -- if the bytes that a line holds and the text a are UTF-8, m holds both, and m.len is at most 128, then the bytes of m
 -- fit and are UTF-8
 pub held_more : (l m : Line) (a : List ℕ) → IsUtf8 (held l) → IsUtf8 a → held m ≡ held l ++ a → m.len ≤ 128 → IsHeld m
@@ -115,17 +111,8 @@ module _ {W : Type 0} {took : W → List ℕ → W → Type 0} {start : Formatte
       → HasWrittenStyled took start before g
   added_flushed x y = grind (arith, has_written_styled_of_eq, has_written_styled_append)
 
-  -- if all is written, and then a text, and the buffer is empty, the text is appended
-  pub added_written : {f g : Formatter W} {a : List ℕ} (m : Line) → HasWrittenStyled took start before f
-      → HasWrittenStyled took f a g → m.len ≡ 0 → Adds took start (before ++ a) g m
-  added_written {a = a} m x y e = record {
-    written = before ++ a;
-    wrote = has_written_styled_append _ _ _ _ _ _ x y;
-    joined = cc (append-nil (before ++ a), held_none m e);
-  }
-
   -- if all is written, and the buffer is empty, all is added
-  pub added_none : {f : Formatter W} (m : Line) → HasWrittenStyled took start before f → held m ≡ []
+  pub added_none : {f : Formatter W} (m : Line) → HasWrittenStyled took start before f → m.len ≡ 0
       → Adds took start before f m
   added_none m x e = grind (arith, append-nil)
 
@@ -135,7 +122,7 @@ module _ {W : Type 0} {took : W → List ℕ → W → Type 0} {start : Formatte
   added_of_eq {f} {l} e = grind arith
 
 -- the lemmas for `line.rt`
-pub ruleset lines = (added_held, added_flushed, added_none, added_written, held_more, held_none)
+pub ruleset lines = (added_held, added_flushed, added_none, held_more)
 
 -- the test of two lists, pair by pair, is true exactly if the lists have equal texts
 pairs_decide : {A B : Type 0} (ps qs : List (String A × String B))

@@ -21,7 +21,7 @@ impl Line {
     /// A line with an empty buffer.
     #[inline(always)]
     pub(super) fn new() -> Line
-        ensures none { held result ≡ [] }
+        ensures none { result.len ≡ 0 }
         ensures held { IsHeld result }
     {
         Line {
