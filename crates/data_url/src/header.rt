@@ -73,7 +73,7 @@ fn serialised(alloc: Global, header: &[u8]) -> Result<String, AllocError>
 
 /// Returns the text before `;`, spaces and `base64` (in any ASCII case) at the end of a header, or None if it ends
 /// otherwise.
-#[tactic(auto, using(crate::proofs::header::Suffix::suffixes))]
+#[tactic(auto, using(crate::proofs::header::Serialising::suffixes))]
 fn without_suffix(header: &str) -> Option<&str>
     requires { IsPrintable header.now }
     ensures text { as_option result ≡ before_base64 header.now }

@@ -12,7 +12,7 @@ use Rattle.data_url.specs.Facts.{HasOneItemList, HasAtMostOneRecord}
 use Rattle.data_url.specs.Steps.Parsing.{Reading, after_mark, front_of, given_reading, in_name, in_value, item_in}
 use Rattle.data_url.specs.Steps.Parsing.{named, plain_reading, quoted_reading, reading, reading_from, reading_in}
 use Rattle.data_url.proofs.texts.CodePoints.{after_begins, front_is, front_passes}
-use Rattle.data_url.proofs.mime.Quoted.{IsRead, closed_reading, is_closed, is_open, is_read, open_reading}
+use Rattle.data_url.proofs.mime.TokenTexts.{IsRead, closed_reading, is_closed, is_open, is_read, open_reading}
 use Rattle.data_url.proofs.mime.TokenTexts.{every_token}
 
 -- if ';' does not pass, a text that is empty or begins with ';' does not begin with a code point that passes

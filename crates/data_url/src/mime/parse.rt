@@ -117,7 +117,7 @@ fn read_value(text: &str) -> (Value<'_>, &str)
 }
 
 /// Returns the value after a `=` that does not begin with `"`, and the text after it.
-#[tactic(auto, using(crate::proofs::mime::ParameterValues::plain_values))]
+#[tactic(auto, using(crate::proofs::mime::Parsing::plain_values))]
 fn read_plain(text: &str) -> (Value<'_>, &str)
     ensures value { value_of result.0 ≡ quotable_value (plain_reading (chars text.now)).value }
     ensures rest { chars result.1.now ≡ without_front in_value (chars text.now) }
@@ -133,7 +133,7 @@ fn read_plain(text: &str) -> (Value<'_>, &str)
 }
 
 /// Splits a text at the quote that closes a quoted string. If there is none, the whole text is the quoted string.
-#[tactic(auto, using(crate::proofs::mime::Quoted::quotes))]
+#[tactic(auto, using(crate::proofs::mime::TokenTexts::quotes))]
 fn split_quote(text: &str) -> (&str, &str)
     ensures quoted { chars result.0.now
         ≡ take (quoted_len false (chars text.now)) (chars text.now) }

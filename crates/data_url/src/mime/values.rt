@@ -1,5 +1,5 @@
 //! Values of parameters, as slices of a text and as texts of their own.
-#![tactic(auto, using(crate::proofs::mime::FirstNames::lower_chars, crate::proofs::mime::ParameterValues::quotable_by))]
+#![tactic(auto, using(crate::proofs::mime::FirstNames::lower_chars, crate::proofs::mime::Parsing::quotable_by))]
 
 ghost use Rattle.std.specs.Prelude.{◌≡◌, IfOk, IsTrue, false, map};
 ghost use Rattle.std.specs.Char.{to_ascii_lowercase};

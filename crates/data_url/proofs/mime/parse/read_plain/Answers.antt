@@ -1,4 +1,4 @@
-use Rattle.data_url.proofs.mime.ParameterValues.{no_value}
+use Rattle.data_url.proofs.mime.Parsing.{no_value}
 use Rattle.data_url.proofs.mime.parse.read_plain.Goals as goal
 
 pub returns-then-is_empty-clause-value : goal.returns-then-is_empty-clause-value
