@@ -124,19 +124,16 @@ common_spelled : map to_ascii_lowercase (without_tabs_and_newlines scheme) ≡ s
 unfolding without_tabs_and_newlines
 common_spelled = refl
 
--- if the test for "data:" at the front succeeds, the text is "data:" and then the text from its sixth byte on
-pub common_front : (text items : List ℕ) (r : Bool) → items ≡ text → r ≡ starts_with nat_eq items scheme → r ≡ true
-    → text ≡ scheme ++ drop 5 text
-common_front text items r e f h = grind (arith, starts_is)
-
 -- a UTF-8 text that begins with "data:" can be cut after it
-pub common_boundary : (text : List ℕ) → IsUtf8 text → text ≡ scheme ++ drop 5 text → IsCharBoundary text 5
+pub common_boundary : (text : List ℕ) → IsUtf8 text → starts_with nat_eq text scheme ≡ true → IsCharBoundary text 5
 common_boundary text u h =
+    let e : text ≡ scheme ++ drop 5 text = grind (arith, starts_is) in
     grind (arith, take-append-le, length-append, IsCharBoundary-from_take, IsUtf8-from_ascii, ascii_all)
 
 -- a text that begins with "data:" has the scheme, and its rest is the text from the sixth byte on
-pub common_scheme : (text rest : List ℕ) → text ≡ scheme ++ drop 5 text → rest ≡ drop 5 text → IsSchemeAndRest text rest
-common_scheme text rest h e = grind (arith, common_spelled)
+pub common_scheme : (text rest : List ℕ) → starts_with nat_eq text scheme ≡ true → rest ≡ drop 5 text
+    → IsSchemeAndRest text rest
+common_scheme text rest h e = grind (arith, common_spelled, starts_is)
 
 -- at index n is the first ',' or '#' of the text
 pub record IsFrontEnd (s : List ℕ) (n : ℕ) : Type 0 where

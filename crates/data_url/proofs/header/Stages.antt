@@ -1,6 +1,7 @@
 -- The stages of the Standard, from the input to its record. For `DataUrl::process`.
 use Rattle.std.proofs.Common.{◌≡◌, ℕ, suc, ◌<◌, ◌≤◌, Bool, false, List, [], ◌∷◌, ◌++◌, length, get_or, take, drop, None}
-use Rattle.std.proofs.Common.{Some, refl, sym, ap, ◌∙◌, inl, inr, eqb-true, subst, arith, map, codes, ◌≢◌}
+use Rattle.std.proofs.Common.{Some, refl, sym, ap, ◌∙◌, inl, inr, eqb-true, subst, arith, map, codes, ◌≢◌, is_some}
+use Rattle.std.proofs.Common.{Option, unwrap_or}
 use Rattle.std.specs.Prelude.{option_and_then}
 use Rattle.std.specs.List.{prefix_len, suffix_len, AllByRecursion}
 use Rattle.std.specs.Str.{chars}
@@ -28,8 +29,7 @@ use Rattle.data_url.proofs.texts.Bytes.{without_tabs_and_newlines-append, droppe
 use Rattle.data_url.proofs.texts.Bytes.{before_all, before_at, dropped_passes, is_cut, lacks}
 use Rattle.data_url.proofs.runs.Runs.{none_or_some}
 use Rattle.std.proofs.lemmas.Str.{chars-IsAscii}
-use Rattle.data_url.specs.Mime.{HasNoRecord, Parses, Record, default_record, BeginsParameters, IsHead}
-use Rattle.data_url.specs.Mime.{IsRecordOfParts}
+use Rattle.data_url.specs.Mime.{HasNoRecord, Parses, Record, default_record, BeginsParameters, IsHead, IsRecordOfParts}
 use Rattle.data_url.proofs.examples.Literals.{on_literals}
 use Rattle.data_url.proofs.mime.FirstNames.{parses_parts, parses_wellformed}
 use Rattle.data_url.specs.DataUrl.{IsAcceptable, IsUrlOf, is_base64, mime_of, url_tail}
@@ -37,7 +37,6 @@ use Rattle.data_url.specs.MimeType.{record_of}
 use Rattle.data_url.specs.declared.DataUrl.{DataUrl}
 use Rattle.std.proofs.lemmas.List.Elements.{All-drop, All-from_get_or, All-from_recursion, All-take, recursion_from_All}
 use Rattle.std.proofs.Math.Seq.{drop-append_seam}
-use Rattle.std.proofs.Common.{is_some, Option, unwrap_or}
 
 -- a text of bytes, encoded with a set that has all bytes that are not printable, is printable
 encoded_printable : (p : ℕ → Bool) → ((b : ℕ) → p b ≡ false → (32 ≤ b) × (b < 127)) → (s : List ℕ) → IsBytes s
@@ -140,11 +139,6 @@ after_is t rest h =
       take_at s (without_tabs_and_newlines rest) 5 five,
       drop_at s (without_tabs_and_newlines rest) 5 five,
     )
-
--- if the trimmed text does not begin with the scheme, there is no text after the scheme
-after_none : (t : List ℕ) → HasNoScheme (trimmed_text t) → after_scheme t ≡ None
-unfolding after_scheme cleaned_text
-after_none t h = grind arith
 
 -- a text that is cut at its first comma is so without tabs and newlines
 dropped_parts : {rest header tail : List ℕ} → IsHeaderAndTail rest header tail
@@ -289,8 +283,8 @@ begins_at (c ∷ s) h = h
 
 -- if the trimmed text does not begin with the scheme, the Standard finds no scheme
 pub stages_no_scheme : (t : List ℕ) → HasNoScheme (trimmed_text t) → staged t ≡ NoScheme
-unfolding staged
-stages_no_scheme t h = cc (after_none t h)
+unfolding staged after_scheme cleaned_text
+stages_no_scheme t h = rw h refl
 
 -- if the trimmed text is a text of bytes, so is the rest after its scheme
 pub rest_bytes : (t rest : List ℕ) → IsBytes (trimmed_text t) → IsSchemeAndRest (trimmed_text t) rest → IsBytes rest

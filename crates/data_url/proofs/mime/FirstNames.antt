@@ -2,7 +2,7 @@
 use Rattle.std.proofs.Common.{◌≡◌, ℕ, List, String, ap, length, map, min, sym, take, ◌∙◌, ◌<◌, ◌||◌, ◌&&◌, Bool, true}
 use Rattle.std.proofs.Common.{false, cond, [], ◌∷◌, ◌++◌, get_or, drop, Option, None, Some, refl, ap₂, subst, Global}
 use Rattle.std.proofs.Common.{drop-cons, add-one, ◌+◌, append_assoc, append-nil, arith, inl, inr, ◌≤◌, not}
-use Rattle.std.proofs.Common.{string_bytes}
+use Rattle.std.proofs.Common.{string_bytes, ◌⊎◌}
 use Rattle.std.proofs.lemmas.List.{length-map, take-map, take_min, get_or-take, length-take, map-append, drop-append-le}
 use Rattle.std.proofs.lemmas.List.{length-append, take-append-drop}
 use Rattle.data_url.specs.Mime.{has_name, BeginsParameters, Item, Items, Pair, first_of_each_name, is_lowercase_name}
@@ -43,17 +43,9 @@ pub among_first : (n : List ℕ) (items : List (String _ × String _)) (kept : K
     → has_name n (map (λ p. pair_of p) (take k items)) ≡ has_name n (first_of (pairs_of kept))
 among_first n items kept k e f = cc (take_min LOOKED_THROUGH items, take-map (λ p. pair_of p) LOOKED_THROUGH items)
 
--- if the test of equality is true, two texts are equal
-pub equal_from_test : (a c : List ℕ) → bytes_eq a c ≡ true → a ≡ c
-equal_from_test a c h = (bytes_eq-Decides a c).0 h
-
--- if two texts are equal, the test of equality is true
-pub test_from_equal : (a c : List ℕ) → a ≡ c → bytes_eq a c ≡ true
-test_from_equal a c e = (bytes_eq-Decides a c).1 e
-
 -- for texts that are not equal, the test of equality is false
 pub test_from_different : (a c : List ℕ) → (a ≡ c → ⊥) → bytes_eq a c ≡ false
-test_from_different a c n = grind (arith, false_from_ne_true, equal_from_test)
+test_from_different a c n = grind (arith, false_from_ne_true, bytes_eq-Decides)
 
 -- a code point in lower case is a token code point exactly if the code point is
 token_lower : (c : ℕ) → is_token (to_ascii_lowercase c) ≡ is_token c
@@ -80,7 +72,7 @@ lower_twice (c ∷ t) = ap₂ (λ x y. x ∷ y) (lowercase-lowercase c) (lower_t
 
 -- a token text in lower case is a lower-case name
 pub lowercase_name : (t : List ℕ) → is_token_text t ≡ true → is_lowercase_name (map to_ascii_lowercase t) ≡ true
-lowercase_name t h = grind (arith, token_text_lower, test_from_equal, lower_twice)
+lowercase_name t h = grind (arith, token_text_lower, bytes_eq-Decides, lower_twice)
 
 -- the code points of a token text whose bytes are put into lower case are its code points in lower case
 pub lower_chars : (bs : List ℕ) → IsUtf8 bs → is_token_text (chars bs) ≡ true
@@ -94,11 +86,7 @@ lower_chars bs u h =
 
 -- a lower-case name in lower case is the name itself
 pub lower_is_itself : (t : List ℕ) → is_lowercase_name t ≡ true → map to_ascii_lowercase t ≡ t
-lower_is_itself t h = grind (arith, equal_from_test)
-
--- a lower-case name is a token text
-pub lowercase_token : (t : List ℕ) → is_lowercase_name t ≡ true → is_token_text t ≡ true
-lowercase_token t h = grind (arith, and_parts)
+lower_is_itself t h = grind (arith, bytes_eq-Decides)
 
 -- a token text has at least one byte
 pub some_byte : (n : List ℕ) → is_token_text (chars n) ≡ true → 0 < length n
@@ -109,7 +97,7 @@ module _ {kept : KeptParameters} {all : List (String Global × String Global)} (
     {item : String Global × String Global} {key : List ℕ} (x : IsIndexed kept) (e : all ≡ kept.pairs.items)
     (l : i < length (take k all)) (g : item ≡ get_or (take k all) i item) (f : key ≡ string_bytes item.0) where
   -- the name at index i of the first k pairs is its bytes, which are in lower case
-  key_is : (map to_ascii_lowercase key ≡ key) × (key ≡ code_points item.0)
+  pub key_is : (map to_ascii_lowercase key ≡ key) × (key ≡ code_points item.0)
   key_is =
       let h : is_lowercase_name (code_points item.0) ≡ true = grind (
         arith,
@@ -119,10 +107,6 @@ module _ {kept : KeptParameters} {all : List (String Global × String Global)} (
         length-take,
       ) in
       grind (arith, lower_is_itself, bytes_of_ascii, token_text_ascii, IsUtf8-string_bytes)
-
-  -- it is in lower case
-  pub key_lower : map to_ascii_lowercase key ≡ key
-  key_lower = key_is.0
 
   -- one of the pairs from there on has a token text in lower case if the key is this text, or a later one has it
   pub key_next : (n : List ℕ) (r : Bool) → IsUtf8 n → is_token_text (chars n) ≡ true
@@ -143,14 +127,10 @@ first_same : (e e' ps : List Pair) → ((n : List ℕ) → has_name n e ≡ has_
 first_same e e' [] h = refl
 first_same e e' (q ∷ ps) h = grind (arith, has_pushed, first_same (e ++ (q ∷ [])) (e' ++ (q ∷ [])) ps)
 
--- if the pairs have the name of q, they have each name that is equal to it
-named : (n : List ℕ) (e : List Pair) (q : Pair) → has_name q.0 e ≡ true → bytes_eq q.0 n ≡ true → has_name n e ≡ true
-named n e q h t = ap (λ x. has_name x e) (sym (equal_from_test q.0 n t)) ∙ h
-
 -- and they have the same names with q pushed
 known_pushed : (n : List ℕ) (e : List Pair) (q : Pair) → has_name q.0 e ≡ true
     → has_name n (e ++ (q ∷ [])) ≡ has_name n e
-known_pushed n e q h = grind (arith, has_pushed, named n e q)
+known_pushed n e q h = grind (arith, has_pushed, bytes_eq-Decides)
 
 -- after the pairs that an item adds come the first pairs of each name that are left
 first_step : (pairs : List Pair) (item : Item) (ps : List Pair) → first_of_each_name pairs (valid_of item ++ ps)
@@ -169,16 +149,11 @@ pub none_added : {A B : Type 0} (pairs : List (String A × String B)) (more : Li
     → map (λ p. pair_of p) pairs ≡ map (λ p. pair_of p) pairs ++ more
 none_added pairs more e = grind (arith, append-nil)
 
--- a name that is not a token text has no pair
-pub invalid_name : (name : List ℕ) (value : Option (List ℕ)) → is_token_text name ≡ false → pair_if name value ≡ []
-invalid_name name None h = refl
-invalid_name name (Some v) h = grind arith
-
--- if one of the first pairs has a name, no pair of that name is added
-pub known_name : (xs : List Pair) (name : List ℕ) (value : Option (List ℕ)) → has_name name (first_of xs) ≡ true
-    → unless_named xs (pair_if name value) ≡ []
-known_name xs name None h = refl
-known_name xs name (Some v) h = let all = first_or_later name xs in grind arith
+-- no pair of a name is added if it is not a token text, or one of the first pairs has it
+pub not_kept : (xs : List Pair) (name : List ℕ) (value : Option (List ℕ))
+    → (is_token_text name ≡ false) ⊎ (has_name name (first_of xs) ≡ true) → unless_named xs (pair_if name value) ≡ []
+not_kept xs name None h = refl
+not_kept xs name (Some v) h = let all = first_or_later name xs in grind arith
 
 -- the pair of a token text in lower case and a value
 pub new_pair : (n name value : List ℕ) (o : Option (List ℕ)) (b : Bool) → b ≡ is_token_text n → b ≡ true
@@ -317,20 +292,16 @@ all_lower : (r : List ℕ) (items : List Item) → Items r items → HasLowercas
 all_lower r [] h = refl
 all_lower r (item ∷ items) h = grind (arith, lowercase_name, token_text_lower, items, all_lower h.1 items h.4)
 
--- if one of the pairs has a name, one of them has it after a pair is pushed
-pushed_has : (n : List ℕ) (e : List Pair) (q : Pair) → has_name n e ≡ true → has_name n (e ++ (q ∷ [])) ≡ true
-pushed_has n e q h = grind (arith, has_pushed)
-
 -- if one of the earlier pairs has a name, none of the first pairs of each name that follow has it
 none_again : (n : List ℕ) (e ps : List Pair) → has_name n e ≡ true → has_name n (first_of_each_name e ps) ≡ false
 none_again n e [] h = refl
 none_again n e (q ∷ ps) h =
-    search (arith, none_again n (e ++ (q ∷ [])) ps (pushed_has n e q h), equal_from_test)
+    search (arith, none_again n (e ++ (q ∷ [])) ps (grind (arith, has_pushed)), bytes_eq-Decides)
 
 -- no two of the first pairs of each name have equal names
 first_distinct : (e ps : List Pair) → has_distinct_names (first_of_each_name e ps) ≡ true
 first_distinct e [] = refl
-first_distinct e (q ∷ ps) = grind (arith, none_again, has_pushed, test_from_equal, first_distinct (e ++ (q ∷ [])) ps)
+first_distinct e (q ∷ ps) = grind (arith, none_again, has_pushed, bytes_eq-Decides, first_distinct (e ++ (q ∷ [])) ps)
 
 -- each record that a text parses to is well-formed
 pub parses_wellformed : (s : List ℕ) (m : Record) → Parses s m → IsWellformed m
@@ -345,19 +316,7 @@ pub has_record : (s a b c : List ℕ) → IsHead s a b c → HasNoRecord s → �
 has_record s a b c h n =
     let items = items_in (length c) c in
     n (record { type_ = map to_ascii_lowercase a; subtype = map to_ascii_lowercase b; parameters = kept_pairs items })
-    (record {
-      type_ = a;
-      subtype = b;
-      parameters = c;
-      head = h;
-      record_is = record {
-        items = items;
-        items_are = has_items c h.begins;
-        type_is = refl;
-        subtype_is = refl;
-        parameters_are = refl;
-      };
-    })
+    (parses_parts s a b c _ h (search (arith, has_items c h.begins)))
 
 -- a text that has no head has no record
 pub no_record : (s : List ℕ) → HasNoHead s → HasNoRecord s

@@ -1,7 +1,7 @@
 -- Printed records, and records of the same texts. For `Display` and `PartialEq` of `Mime`.
 use Rattle.std.proofs.Common.{◌≡◌, ℕ, ◌+◌, ◌<◌, ◌≤◌, Bool, true, false, List, [], ◌∷◌, ◌++◌, length, get_or, drop}
-use Rattle.std.proofs.Common.{String, string_bytes, map, encode_utf8, encode_utf8_all, refl, sym, subst}
-use Rattle.std.proofs.Common.{append_assoc, append-nil, drop-cons, drop_of_length-le, arith}
+use Rattle.std.proofs.Common.{String, string_bytes, map, encode_utf8, encode_utf8_all, refl, sym, subst, append_assoc}
+use Rattle.std.proofs.Common.{append-nil, drop-cons, drop_of_length-le, arith}
 use lib.Utf8.{encode}
 use Rattle.std.proofs.lemmas.Str.{IsUtf8-append, IsUtf8-string_bytes, chars_past_char, encode_ascii, encodes-append}
 use Rattle.std.proofs.lemmas.Str.{encodes-chars}
@@ -20,8 +20,8 @@ use Rattle.data_url.proofs.texts.CodePoints.{no_chars}
 use Rattle.std.specs.Prelude.{◌↔◌, Decides, IsTrue}
 use Rattle.std.proofs.lemmas.Simd.{map-map}
 use Rattle.std.specs.Cmp.Lexicographic.{pointwise}
-use Rattle.data_url.proofs.mime.FirstNames.{equal_from_test, test_from_equal}
 use Rattle.std.proofs.lemmas.Bool.{and_from, and_parts}
+use Rattle.std.proofs.lemmas.Slice.Eq.{bytes_eq-Decides}
 
 -- if the bytes so far and the escaped code points of r are the whole, they still are after the first code point of r is
 -- escaped and moved to them
@@ -133,8 +133,7 @@ pairs_decide (p ∷ ps) [] = grind arith
 pairs_decide (p ∷ ps) (q ∷ qs) = grind (
   arith,
   string_bytes,
-  equal_from_test,
-  test_from_equal,
+  bytes_eq-Decides,
   and_parts,
   and_from,
   pairs_decide ps qs,
@@ -142,7 +141,7 @@ pairs_decide (p ∷ ps) (q ∷ qs) = grind (
 
 -- the test is true exactly if the texts are the same
 pub same_decides : (m n : Mime) → IsTrue (same_texts m n) ↔ SameTexts m n
-same_decides m n = grind (arith, pairs_decide, equal_from_test, test_from_equal)
+same_decides m n = grind (arith, pairs_decide, bytes_eq-Decides)
 
 -- if the texts of all pairs are equal one by one, the lists of texts of pairs are equal
 pub copied_pairs : {A B : Type 0} (ps qs : List (String A × String B))

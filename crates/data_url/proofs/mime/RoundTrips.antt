@@ -13,10 +13,11 @@ use Rattle.data_url.specs.Mime.{is_token_text, kept_pairs, plain, printed, print
 use Rattle.data_url.specs.Mime.{unless_empty, valid_pairs, after_backslash, nothing_quoted, as_itself}
 use Rattle.data_url.proofs.mime.TokenTexts.{every_token, token_below}
 use Rattle.data_url.proofs.mime.Items.{not_begins_append, has_at_most_one_record}
-use Rattle.data_url.proofs.mime.FirstNames.{lower_is_itself, lowercase_token, test_from_different, test_from_equal}
+use Rattle.data_url.proofs.mime.FirstNames.{lower_is_itself, test_from_different}
 use Rattle.data_url.proofs.texts.CodePoints.{end_stays, not_ends_every}
 use Rattle.data_url.specs.Url.{without_front}
 use Rattle.data_url.proofs.mime.Parsing.{ends_after}
+use Rattle.std.proofs.lemmas.Slice.Eq.{bytes_eq-Decides}
 
 module _ (p : ℕ → Bool) (n : agree_below (λ c. not (is_token c && p c)) (λ c. true) 128 ≡ true) where
   -- if no token code point below 128 passes p, no token code point does
@@ -80,7 +81,7 @@ value_not_end v = cond_both (is_token_text v) v (34 ∷ (flat_map escaped_code_p
 
 -- each code point of a lower-case name is a token code point
 name_tokens : (t : List ℕ) → is_lowercase_name t ≡ true → Every is_token t
-name_tokens t h = every_token t (lowercase_token t h)
+name_tokens t h = every_token t (and_parts (is_token_text t) _ h).0
 
 -- a printed pair with a lower-case name is a parameter with the name and the value of the pair
 is_parameter : (p : Pair) (rest : List ℕ) → is_lowercase_name p.0 ≡ true
@@ -139,7 +140,7 @@ pairs_not_end (p ∷ pairs) t h = rw (← append_assoc t (printed_pair p) (flat_
 all_valid : (pairs : List Pair) → have_names pairs ≡ true → have_values pairs ≡ true
     → valid_pairs (map item_of pairs) ≡ pairs
 all_valid [] h k = refl
-all_valid (p ∷ pairs) h k = grind (arith, and_parts, cond-true, and_from, lowercase_token, all_valid pairs)
+all_valid (p ∷ pairs) h k = grind (arith, and_parts, cond-true, and_from, all_valid pairs)
 
 -- if no two names are equal, none of the earlier pairs has the name of a later one
 distinct_new : (e : List Pair) (p : Pair) (ps : List Pair) → has_distinct_names (e ++ (p ∷ ps)) ≡ true
@@ -150,7 +151,7 @@ distinct_new (q ∷ e) p ps h = grind (
   list_any-append {X = Pair},
   test_from_different,
   both_ways,
-  test_from_equal,
+  bytes_eq-Decides,
   distinct_new e p ps,
 )
 
@@ -185,7 +186,7 @@ printed_ends m w = rw (← append_assoc m.type_ (47 ∷ m.subtype) (flat_map pri
 -- a well-formed record, printed, has its type, its subtype and its printed parameters as head
 printed_head : (m : Record) → IsWellformed m → IsHead (printed m) m.type_ m.subtype (flat_map printed_pair m.parameters)
 unfolding printed
-printed_head m w = grind (arith, front_stays, printed_begins, end_stays, printed_ends, lowercase_token, pairs_begin)
+printed_head m w = grind (arith, front_stays, printed_begins, end_stays, printed_ends, and_parts, pairs_begin)
 
 -- a well-formed record, printed, parses to the record
 pub printed_parses : (m : Record) → IsWellformed m → Parses (printed m) m
