@@ -64,10 +64,6 @@ after_word : (s : List ℕ) (n spaces : ℕ) → IsPrintable s → HasWord s n s
 unfolding before_base64
 after_word s n spaces p h = grind (arith, length-take-le, low_end, printable_take, take-take)
 
--- the text of one ';'
-abbrev semicolon : List ℕ
-semicolon = codes ";"
-
 -- if there is nothing before the spaces and the word, there is no base64 suffix
 pub nothing_left : (s : List ℕ) (n spaces : ℕ) → IsPrintable s → HasWord s n spaces → n - spaces ≡ 0
     → before_base64 s ≡ None

@@ -194,11 +194,6 @@ pub keeps_end : {whole rest : List ℕ} {pairs : List Pair} → KeepsOn whole re
 keeps_end {whole} {rest = []} {pairs = pairs} k w e = grind (arith, items_in, has_items, append-nil)
 keeps_end {rest = c ∷ rest} k w e = grind arith
 
--- if none of the first pairs has a name, one of all pairs has it exactly if one of the later pairs has it
-pub named_later : (n : List ℕ) (pairs : List Pair) → has_name n (first_of pairs) ≡ false
-    → has_name n pairs ≡ has_name n (drop LOOKED_THROUGH pairs)
-named_later n pairs h = grind (arith, first_or_later)
-
 -- a name in lower case is its bytes
 pub lowercase_bytes : {A : Type 0} (name : String A) → is_lowercase_name (code_points name) ≡ true
     → string_bytes name ≡ code_points name
@@ -244,8 +239,8 @@ module _ {old : KeptParameters} (name value : String Global) (x : IsIndexed old)
         → (pairs_of kept ≡ pairs_of old ++ unless_named (pairs_of old) (pair_of (name, value) ∷ [])) × IsIndexed kept
     pushed_first kept l e f =
         let len = length-map old.pairs.items (λ q. pair_of q) in
-        pushes kept (named_later (code_points name) (pairs_of old) new ∙ few_names (code_points name) (pairs_of old)
-        (omega arith))
+        pushes kept (first_or_later (code_points name) (pairs_of old) ∙ ap₂ (λ a b. a || b) new
+        (few_names (code_points name) (pairs_of old) (omega arith)))
         e (λ n. ap (λ s. contains_text s n) f ∙ x.later n ∙ few_names n (pairs_of old) (omega arith)
         ∙ sym (few_names n (pairs_of old ++ (pair_of (name, value) ∷ [])) (simp length-append (omega arith))))
 
@@ -254,12 +249,9 @@ module _ {old : KeptParameters} (name value : String Global) (x : IsIndexed old)
       -- the set has the name exactly if one of the pairs has it
       set_knows : b ≡ not (has_name (code_points name) (pairs_of old))
       set_knows =
-          cc (
-            x.later (string_bytes copy),
-            named_later (code_points name)
-                (pairs_of old) new,
-            lowercase_bytes name lower,
-          )
+          let known = first_or_later (code_points name) (pairs_of old) in
+          let later = x.later (string_bytes copy) in
+          grind (arith, lowercase_bytes name lower)
 
       -- if the set has the name, the pair is not added
       pub not_pushed : b ≡ false → pairs_of old ≡ pairs_of old ++ unless_named (pairs_of old) (pair_of

@@ -30,10 +30,6 @@ pub not_begins_append : (p : ℕ → Bool) (a b : List ℕ) → DoesNotBegin p a
 not_begins_append p [] b h e = e
 not_begins_append p (c ∷ a) b h e = h
 
--- a text after its longest prefix without ';' is empty or begins with ';'
-begins_after : (s : List ℕ) → BeginsParameters (without_front in_value s)
-begins_after s = grind (arith, begins_from, after_begins)
-
 -- the reading of a text after a name
 abbrev pub reading_of : List ℕ → Reading
 reading_of x = reading x (after_mark 61 x)
@@ -87,7 +83,7 @@ is_quoted_reading s (is_closed q v w e h) =
       tail = 61 ∷ 34 ∷ (q ++ 34 ∷ junk);
       joined = cc (take-append-drop (prefix_len in_value w) w, append_assoc q (34 ∷ junk) after);
       gives = quoted q junk h (front_passes in_value w);
-      begins = begins_after w;
+      begins = begins_from after (after_begins in_value w);
     })
 
 -- if a text does not begin with a code point that passes p, its longest prefix that passes q does not either
@@ -104,7 +100,7 @@ is_plain_reading s h = record {
   tail = 61 ∷ front_of in_value s;
   joined = ap (λ x. 61 ∷ x) (sym (take-append-drop (prefix_len in_value s) s));
   gives = plain (front_of in_value s) (front_passes in_value s) (not_begins_front is_quote in_value s h);
-  begins = begins_after s;
+  begins = begins_from (without_front in_value s) (after_begins in_value s);
 }
 
 -- '=' and any text give the value that is read from the text

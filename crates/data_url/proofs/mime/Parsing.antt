@@ -21,8 +21,8 @@ use Rattle.data_url.specs.Steps.Parsing.{quotable_value, unescaped, HasNoHead, I
 use Rattle.data_url.specs.Steps.Parsing.{item_in, named, pair_if, reading, reading_in, IsTrimmedEnd}
 use Rattle.data_url.specs.Url.{without_end, without_front}
 use Rattle.data_url.proofs.texts.CodePoints.{IsCutInto, IsSteady, cut_front, front_further, front_passes, no_chars}
-use Rattle.data_url.proofs.texts.CodePoints.{same_empty, trimmed_end_is}
-use Rattle.data_url.proofs.mime.TokenTexts.{values_steady, whole_front, spaces_end, spaces_steady}
+use Rattle.data_url.proofs.texts.CodePoints.{same_empty, trimmed_end_is, cut_by}
+use Rattle.data_url.proofs.mime.TokenTexts.{values_steady, whole_front, spaces_end, spaces_steady, names_steady}
 use Rattle.std.specs.Str.Pattern.{HasCharAt}
 use Rattle.data_url.proofs.mime.Items.{after_slash, has_parts, trimmed_of}
 use Rattle.data_url.proofs.runs.Runs.{match_map}
@@ -263,20 +263,21 @@ module _ {s t a x : List ℕ} (first : IsTokens t a x) (e : t ≡ trimmed_of is_
         begins = begins;
       }
 
-module _ (s : List ℕ) {t x : List ℕ} {o : Option (List ℕ)} (e : t ≡ named s) (f : x ≡ without_front in_name t)
-    (h : after_mark 61 x ≡ o) where
-  -- what is read after a name
-  reading_by : reading x o ≡ reading_in s
-  reading_by = cc
+-- the pair that is read
+pair_by : (s name : List ℕ) {r : Reading} (value : Option (List ℕ)) → r ≡ reading_in s → name ≡ front_of in_name (named s)
+    → value ≡ quotable_value r.value → pair_if (map to_ascii_lowercase name) value ≡ valid_of (item_in s)
+pair_by s name value e n v = grind arith
 
-  -- the rest that is read
-  pub rest_by : (reading x o).rest ≡ (reading_in s).rest
-  rest_by = ap (λ (r : Reading). r.rest) reading_by
-
-  -- the pair that is read
-  pub pair_by : (name : List ℕ) (value : Option (List ℕ)) → name ≡ front_of in_name t
-      → value ≡ quotable_value (reading x o).value → pair_if (map to_ascii_lowercase name) value ≡ valid_of (item_in s)
-  pair_by name value n v = grind (arith, reading_by)
+-- the pair and the rest that are read from a text that is cut after a name
+pub parameter_by : (s : List ℕ) {t bytes front after : List ℕ} {n : ℕ} {o : Option (List ℕ)} → IsUtf8 t
+    → n ≡ prefix_len in_name bytes → bytes ≡ t → front ≡ take n t → after ≡ drop n t → chars t ≡ named s
+    → after_mark 61 (chars after) ≡ o → (value : Option (List ℕ)) → value ≡ quotable_value (reading (chars after) o).value
+    → (pair_if (map to_ascii_lowercase (chars front)) value ≡ valid_of (item_in s))
+    × ((reading (chars after) o).rest ≡ (reading_in s).rest)
+parameter_by s {front = front} {after = after} {o = o} u e f g h k m value v =
+    let cut = cut_by names_steady u e f g h in
+    let by : reading (chars after) o ≡ reading_in s = cc in
+    (pair_by s (chars front) value by (cc) v, ap (λ (r : Reading). r.rest) by)
 
 -- if t ++ back is empty or begins with ';', t is empty or begins with ';'
 front_begins : (t back : List ℕ) → BeginsParameters (t ++ back) → BeginsParameters t

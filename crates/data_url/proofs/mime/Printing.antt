@@ -90,11 +90,6 @@ pub record_starts : (m : Mime) (a b : List ℕ) → a ≡ string_bytes m.type_ �
 unfolding printed
 record_starts m a b e f = grind (arith, append_assoc, encode_ascii, text_bytes, encodes-append)
 
--- what is written with any options is what is written without options
-pub written_plain : {W : Type 0} {took : W → List ℕ → W → Type 0} {f g : Formatter W} {bs : List ℕ} → IsPlainFormatter f
-    → HasWrittenStyled took f bs g → HasWritten took f bs g
-written_plain {f = f} plain h = grind arith
-
 -- if the bytes that a line holds and the text a are UTF-8, m holds both, and m.len is at most 128, then the bytes of m
 -- fit and are UTF-8
 pub held_more : (l m : Line) (a : List ℕ) → IsUtf8 (held l) → IsUtf8 a → held m ≡ held l ++ a → m.len ≤ 128 → IsHeld m
@@ -152,28 +147,15 @@ copied_pairs [] (q ∷ qs) h = absurd h
 copied_pairs (p ∷ ps) [] h = absurd h
 copied_pairs (p ∷ ps) (q ∷ qs) h = grind (arith, copied_pairs ps qs h.1)
 
--- a pair of texts as code points
-abbrev pair_seen : List ℕ × List ℕ → Pair
-pair_seen p = (chars p.0, chars p.1)
-
 -- if two MIME types have the same texts, their records of code points are equal
 pub same_seen : (m n : Mime) → SameTexts m n → record_of m ≡ record_of n
 same_seen m n h =
-    cc (
-      map-map pair_seen texts_of_pair m.parameters.items,
-      map-map pair_seen texts_of_pair n.parameters.items,
-      h.type_,
-      h.subtype,
-      h.parameters,
-    )
-
--- the UTF-8 of both texts of a pair
-abbrev pair_spelled : Pair → List ℕ × List ℕ
-pair_spelled p = (encode_utf8_all p.0, encode_utf8_all p.1)
+    let seen = λ (x : Mime). map-map {C = Pair} (λ p. (chars p.0, chars p.1)) texts_of_pair x.parameters.items in
+    cc (seen m, seen n, h.type_, h.subtype, h.parameters)
 
 -- the bytes of pairs are the UTF-8 of their code points
-pairs_spelled : {A B : Type 0} (ps : List (String A × String B))
-    → map texts_of_pair ps ≡ map pair_spelled (map pair_of ps)
+pairs_spelled : {A B : Type 0} (ps : List (String A × String B)) → map texts_of_pair ps
+    ≡ map (λ (p : Pair). (encode_utf8_all p.0, encode_utf8_all p.1)) (map pair_of ps)
 pairs_spelled [] = refl
 pairs_spelled (p ∷ ps) = grind (arith, text_bytes, pairs_spelled ps)
 

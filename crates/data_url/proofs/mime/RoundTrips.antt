@@ -14,7 +14,7 @@ use Rattle.data_url.specs.Mime.{unless_empty, valid_pairs, after_backslash, noth
 use Rattle.data_url.proofs.mime.TokenTexts.{every_token, token_below}
 use Rattle.data_url.proofs.mime.Items.{not_begins_append, has_at_most_one_record}
 use Rattle.data_url.proofs.mime.FirstNames.{lower_is_itself, test_from_different}
-use Rattle.data_url.proofs.texts.CodePoints.{end_stays, not_ends_every}
+use Rattle.data_url.proofs.texts.CodePoints.{end_stays, not_ends_every, front_is}
 use Rattle.data_url.specs.Url.{without_front}
 use Rattle.data_url.proofs.mime.Parsing.{ends_after}
 use Rattle.std.proofs.lemmas.Slice.Eq.{bytes_eq-Decides}
@@ -103,10 +103,6 @@ is_parameter p rest h = record {
 abbrev have_names : List Pair → Bool
 have_names pairs = list_all (λ (p : Pair). is_lowercase_name p.0) pairs
 
--- all values have only quoted-string code points
-abbrev have_values : List Pair → Bool
-have_values pairs = list_all (λ (p : Pair). list_all is_quotable p.1) pairs
-
 -- the item of a pair
 abbrev item_of : Pair → Item
 item_of p = (p.0, Some p.1)
@@ -137,7 +133,7 @@ pairs_not_end (p ∷ pairs) t h = rw (← append_assoc t (printed_pair p) (flat_
     (ends_with is_http_whitespace (59 ∷ p.0) 61 (printed_value p.1) (value_not_end p.1))))
 
 -- pairs with lower-case names and values of quoted-string code points are all valid
-all_valid : (pairs : List Pair) → have_names pairs ≡ true → have_values pairs ≡ true
+all_valid : (pairs : List Pair) → have_names pairs ≡ true → list_all (λ (p : Pair). list_all is_quotable p.1) pairs ≡ true
     → valid_pairs (map item_of pairs) ≡ pairs
 all_valid [] h k = refl
 all_valid (p ∷ pairs) h k = grind (arith, and_parts, cond-true, and_from, all_valid pairs)
@@ -164,11 +160,6 @@ first_itself e (p ∷ ps) h = grind (arith, distinct_new e p ps, append_assoc, f
 all_kept : (m : Record) → IsWellformed m → m.parameters ≡ kept_pairs (map item_of m.parameters)
 all_kept m w = grind (arith, all_valid, first_itself)
 
--- a text that does not begin with a code point that passes has no prefix to remove
-front_stays : (p : ℕ → Bool) (s : List ℕ) → DoesNotBegin p s → without_front p s ≡ s
-front_stays p [] b = refl
-front_stays p (c ∷ s) b = grind arith
-
 -- a well-formed record, printed, does not begin with HTTP whitespace
 printed_begins : (m : Record) → IsWellformed m → DoesNotBegin is_http_whitespace (printed m)
 unfolding printed is_token
@@ -186,7 +177,8 @@ printed_ends m w = rw (← append_assoc m.type_ (47 ∷ m.subtype) (flat_map pri
 -- a well-formed record, printed, has its type, its subtype and its printed parameters as head
 printed_head : (m : Record) → IsWellformed m → IsHead (printed m) m.type_ m.subtype (flat_map printed_pair m.parameters)
 unfolding printed
-printed_head m w = grind (arith, front_stays, printed_begins, end_stays, printed_ends, and_parts, pairs_begin)
+printed_head m w = 
+    grind (arith, front_is is_http_whitespace [] (printed m) tt (printed_begins m w), end_stays, printed_ends, and_parts, pairs_begin)
 
 -- a well-formed record, printed, parses to the record
 pub printed_parses : (m : Record) → IsWellformed m → Parses (printed m) m
