@@ -69,17 +69,13 @@ pub record IsReading (x : List ℕ) (r : Reading) : Type 0 where
 
 -- '=', '"' and a text give the value of the quoted string that is read from the text
 is_quoted_reading : (s : List ℕ) → IsRead s → IsReading (61 ∷ 34 ∷ s) (quoted_reading s)
-is_quoted_reading s (is_open v h) = subst (IsReading (61 ∷ 34 ∷ s)) (sym (open_reading s v h)) (record {
-  tail = 61 ∷ 34 ∷ s;
-  joined = sym (append-nil (61 ∷ 34 ∷ s));
-  gives = unclosed s h;
-  begins = tt;
-})
+is_quoted_reading s (is_open v h) = rw (open_reading s v h)
+    (record { tail = 61 ∷ 34 ∷ s; joined = sym (append-nil (61 ∷ 34 ∷ s)); gives = unclosed s h; begins = tt })
 is_quoted_reading s (is_closed q v w e h) =
     let junk = front_of in_value w in
     let after = without_front in_value w in
     let is : quoted_reading s ≡ record { value = Some v; rest = after } = cc (closed_reading q v w h) in
-    subst (IsReading (61 ∷ 34 ∷ s)) (sym is) (record {
+    rw is (record {
       tail = 61 ∷ 34 ∷ (q ++ 34 ∷ junk);
       joined = cc (take-append-drop (prefix_len in_value w) w, append_assoc q (34 ∷ junk) after);
       gives = quoted q junk h (front_passes in_value w);

@@ -1,5 +1,5 @@
 //! A buffer, so that a line is written in few calls.
-#![tactic(auto, using(crate::proofs::mime::Printing::lines))]
+#![tactic(auto, using(crate::proofs::mime::RoundTrips::lines))]
 
 ghost use Rattle.std.specs.Fmt.{WritesStyledOnOk};
 ghost use Rattle.std.specs.Prelude.{◌≡◌, ◌+◌, ◌++◌, ◌≤◌, [], length};

@@ -1,8 +1,7 @@
 use Rattle.std.proofs.Common.{ap}
 use Rattle.data_url.specs.Mime.{printed}
 use Rattle.data_url.specs.MimeType.{record_of}
-use Rattle.data_url.proofs.mime.RoundTrips.{printed_same}
-use Rattle.data_url.proofs.mime.Printing.{same_seen, seen_same}
+use Rattle.data_url.proofs.mime.RoundTrips.{printed_same, same_seen, seen_same}
 use Rattle.data_url.proofs.laws.same_text.Goals as goal
 
 pub returns : goal.returns

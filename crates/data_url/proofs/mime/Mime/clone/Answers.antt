@@ -1,6 +1,6 @@
 use Rattle.data_url.specs.MimeType.{SameTexts}
 use Rattle.data_url.specs.declared.mime.Mime.{Mime}
-use Rattle.data_url.proofs.mime.Printing.{copied_pairs, same_seen}
+use Rattle.data_url.proofs.mime.RoundTrips.{copied_pairs, same_seen}
 use Rattle.data_url.proofs.mime.Mime.clone.Goals as goal
 
 pub returns-clause-texts : goal.returns-clause-texts

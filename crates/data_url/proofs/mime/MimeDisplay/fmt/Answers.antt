@@ -1,6 +1,6 @@
 use Rattle.std.proofs.Common.{arith, refl}
 use Rattle.std.proofs.Output.{has_written_styled_nil, has_written_styled_of_eq}
-use Rattle.data_url.proofs.mime.Printing.{added_flushed, added_none, record_ends, record_more, record_starts}
+use Rattle.data_url.proofs.mime.RoundTrips.{added_flushed, added_none, record_ends, record_more, record_starts}
 use Rattle.data_url.proofs.mime.MimeDisplay.fmt.Goals as goal
 
 pub loop-name-init : goal.loop-name-init

@@ -1,7 +1,7 @@
 use Rattle.std.proofs.Common.{◌≡◌, Bool, rules, subst, sym}
 use Rattle.std.specs.Prelude.{◌↔◌, IsTrue}
 use Rattle.data_url.specs.MimeType.{SameTexts, same_texts}
-use Rattle.data_url.proofs.mime.Printing.{same_decides}
+use Rattle.data_url.proofs.mime.RoundTrips.{same_decides}
 use Rattle.data_url.proofs.mime.MimePartialEq.eq.Goals as goal
 
 pub returns-then-eq-2-clause-same : goal.returns-then-eq-2-clause-same

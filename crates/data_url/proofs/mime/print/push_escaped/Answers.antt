@@ -2,7 +2,7 @@ use Rattle.std.proofs.Common.{not, refl}
 use Rattle.std.proofs.Output.{has_written_styled_append}
 use Rattle.data_url.specs.Steps.Parsing.{is_escaped}
 use Rattle.data_url.proofs.mime.Parsing.{unescaped_steady, whole_passes}
-use Rattle.data_url.proofs.mime.Printing.{added_flushed, added_none, plain_text}
+use Rattle.data_url.proofs.mime.RoundTrips.{added_flushed, added_none, plain_text}
 use Rattle.data_url.proofs.mime.print.push_escaped.Goals as goal
 
 pub returns-then-long_span-text-clause-added : goal.returns-then-long_span-text-clause-added

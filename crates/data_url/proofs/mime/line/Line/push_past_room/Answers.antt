@@ -1,6 +1,6 @@
 use Rattle.std.proofs.Common.{refl}
 use Rattle.std.proofs.Output.{has_written_styled_append}
-use Rattle.data_url.proofs.mime.Printing.{added_flushed, added_held, added_none}
+use Rattle.data_url.proofs.mime.RoundTrips.{added_flushed, added_held, added_none}
 use Rattle.data_url.proofs.mime.line.Line.push_past_room.Goals as goal
 
 pub returns-then-text-gt-ROOM-clause-added : goal.returns-then-text-gt-ROOM-clause-added
