@@ -122,10 +122,6 @@ before_last_after y q n l = grind (arith, length-append y q, take-append-add y q
 word_after : (y q : List ℕ) → 6 ≤ length q → before_word (y ++ q) ≡ option_map (λ m. y ++ m) (before_word q)
 word_after y q l = grind (arith, last_after, before_last_after)
 
--- the word has no '?'
-no_mark : (i : ℕ) → get_or word i 0 ≢ 63
-no_mark i e = grind arith
-
 -- a text with fewer than six bytes after a '?' has no base64 suffix
 too_near : (x q : List ℕ) → length q < 6 → before_base64 (x ++ 63 ∷ q) ≡ None
 too_near x q l = no_word (x ++ 63 ∷ q) (λ e.
@@ -136,7 +132,8 @@ too_near x q l = no_word (x ++ 63 ∷ q) (λ e.
     let here : get_or (drop n s) place 0 ≡ 63 =
     grind (arith, get_or-drop n s place 0, get_or_at x 63 q 0 (length x) refl) in
     let within : place < length (drop n s) = omega (arith, length-drop n s) in
-    no_mark place (cc (get_or-map to_ascii_lowercase (drop n s) place 0 0 within)))
+    let mark : get_or word place 0 ≡ 63 = cc (get_or-map to_ascii_lowercase (drop n s) place 0 0 within) in
+    grind arith)
 
 -- what the suffix depends on
 abbrev after_mark : Option (List ℕ) → Bool
@@ -181,11 +178,6 @@ pub ruleset suffixes = (
   with_semicolon,
 )
 
--- a path of one byte is encoded with the set for the last byte
-path_one : (b : ℕ) → encoded_path (b ∷ []) ≡ encoded_byte in_path_end_set b
-unfolding encoded_path
-path_one b = refl
-
 -- the first byte of a path is encoded with the set of a path if another byte follows it
 path_more : (b : ℕ) (s : List ℕ) (c : ℕ) → encoded_path (b ∷ (s ++ c ∷ [])) ≡ encoded_byte in_path_set b ++ encoded_path
     (s ++ c ∷ [])
@@ -194,13 +186,13 @@ path_more b (d ∷ s) c = path_cons b (d ∷ (s ++ c ∷ []))
 
 -- if a path ends with a space, this space is encoded as "%20", and the bytes before it with the path's set
 pub path_space : (s : List ℕ) → encoded_path (s ++ 32 ∷ []) ≡ percent_encoding in_path_set s ++ codes "%20"
-path_space [] = grind (arith, path_one, encoded_nil)
+path_space [] = grind (arith, path_cons, path_nil, append-nil, encoded_nil)
 path_space (b ∷ s) = grind (arith, path_more, path_space s, encoded_cons)
 
 -- a path that ends with another byte is encoded with the path's set
 pub path_other : (s : List ℕ) (c : ℕ) → (c == 32) ≡ false → encoded_path (s ++ c ∷ []) ≡ percent_encoding in_path_set
     (s ++ c ∷ [])
-path_other [] c e = grind (arith, path_one, encoded_nil, encoded_cons)
+path_other [] c e = grind (arith, path_cons, path_nil, append-nil, encoded_nil, encoded_cons)
 path_other (b ∷ s) c e = grind (arith, path_more, path_other s c e, encoded_cons)
 
 -- only tabs and newlines

@@ -1,4 +1,4 @@
-use Rattle.std.proofs.Common.{◌≡◌, ◌==◌, false, length, sym, ◌∙◌}
+use Rattle.std.proofs.Common.{◌≡◌, ◌==◌, arith, false, length}
 use Rattle.data_url.proofs.texts.CodePoints.{same_empty}
 use Rattle.std.specs.Str.{chars}
 use Rattle.data_url.proofs.mime.Parsing.{no_parameters, no_slash, no_subtype}
@@ -16,8 +16,7 @@ returns-in_err-subtype c =
 pub returns-in_err-after_mark-2 : goal.returns-in_err-after_mark-2
 returns-in_err-after_mark-2 c =
     let p = c.without_leading_whitespace-parameters in
-    let n : (length (chars p.result.now) == 0) ≡ false =
-    same_empty p.result.now p.utf8 ∙ sym c.is_empty.ensures ∙ c.if-not-is_empty.true in
+    let n : (length (chars p.result.now) == 0) ≡ false = grind (arith, same_empty) in
     rw c.from_residual-in_err-after_mark-2.ensures (no_parameters c.in_ok-type_.ensures
     (cc) _ c.in_ok-after_mark.ensures _
     c.in_ok-subtype.ensures p.ensures n c.in_err-after_mark-2.ensures)
