@@ -39,14 +39,7 @@ pub record Spells (s : List ℕ) (n : ℕ) : Type 0 where
 pub spells_passed : (text : List ℕ) (place n : ℕ) → place < length text → Spells (take place text) n
     → is_tab_or_newline (get_or text place 0) ≡ true → Spells (take (place + 1) text) n
 spells_passed text place n l h e =
-    grind (
-      arith,
-      take_more text place 0,
-      without_tabs_and_newlines-append,
-      dropped_passes,
-      dropped_nil,
-      append-nil,
-    )
+    grind (arith, take_more text place 0, without_tabs_and_newlines-append, dropped_passes, dropped_nil, append-nil)
 
 -- a byte that is, in lower case, the next one of the scheme is spelled
 one_more : (text : List ℕ) (place n : ℕ) → place < length text → Spells (take place text) n
@@ -204,17 +197,11 @@ plain_before s items header n k e f h is same =
       get_or-take,
     )
 
+-- one byte more of the scheme
+pub ruleset steps = (spells_passed, spells_all, spells_more)
+
 -- the lemmas for `after_respelled_scheme`
-pub ruleset spelling = (
-  dropped_nil,
-  spells_passed,
-  differs,
-  spells_all,
-  spells_more,
-  ends_early,
-  take_all,
-  IsCharBoundary-after_ascii,
-)
+pub ruleset spelling = (steps, differs, ends_early, dropped_nil, take_all, IsCharBoundary-after_ascii)
 
 -- the lemmas for `split_at_comma`
 pub ruleset commas = (no_front_end, at_hash, front_end_at, at_comma, IsCharBoundary-after_ascii, eqb-true, plain_before)

@@ -155,28 +155,14 @@ suffix_after x q l = cc (append_assoc x (63 ∷ []) q, word_after (x ++ 63 ∷ [
 -- the flag does not depend on the text before the '?'
 pub same_flag : (a b query : List ℕ) → has_base64_suffix (a ++ 63 ∷ query) ≡ has_base64_suffix (b ++ 63 ∷ query)
 unfolding has_base64_suffix stripped_header
-same_flag a b query = grind (
-  arith,
-  drop-append-le,
-  prefix_len-append,
-  prefix_len-le-length,
-  end_after,
-  too_near,
-  suffix_after,
-)
+same_flag a b query =
+    grind (arith, drop-append-le, prefix_len-append, prefix_len-le-length, end_after, too_near, suffix_after)
+
+-- the text before a word at the end
+pub ruleset words = (no_word, take_rest, nothing_left, no_semicolon, with_semicolon)
 
 -- the lemmas for `without_suffix`
-pub ruleset suffixes = (
-  no_word,
-  length-map,
-  length-take,
-  suffix_len-le-length,
-  printable_take,
-  take_rest,
-  nothing_left,
-  no_semicolon,
-  with_semicolon,
-)
+pub ruleset suffixes = (words, length-map, length-take, suffix_len-le-length, printable_take)
 
 -- the first byte of a path is encoded with the set of a path if another byte follows it
 path_more : (b : ℕ) (s : List ℕ) (c : ℕ) → encoded_path (b ∷ (s ++ c ∷ [])) ≡ encoded_byte in_path_set b ++ encoded_path

@@ -99,13 +99,8 @@ module _ {kept : KeptParameters} {all : List (String Global × String Global)} (
   -- the name at index i of the first k pairs is its bytes, which are in lower case
   pub key_is : (map to_ascii_lowercase key ≡ key) × (key ≡ code_points item.0)
   key_is =
-      let h : is_lowercase_name (code_points item.0) ≡ true = grind (
-        arith,
-        list_all_at,
-        list_all-map,
-        get_or-take,
-        length-take,
-      ) in
+      let h : is_lowercase_name (code_points item.0) ≡ true =
+      grind (arith, list_all_at, list_all-map, get_or-take, length-take) in
       grind (arith, lower_is_itself, bytes_of_ascii, token_text_ascii, IsUtf8-string_bytes)
 
   -- one of the pairs from there on has a token text in lower case if the key is this text, or a later one has it
@@ -211,7 +206,7 @@ pub later_names : {A : Type 0} (later later' : BTreeSet (String A)) (pairs : Lis
     → HasLaterNames later' (pairs ++ (p ∷ []))
 later_names later later' pairs p name l h e u n =
     let choice : cond (bytes_eq (string_bytes name) n) true (contains_text later n)
-        ≡ (contains_text later n || bytes_eq (string_bytes name) n) = grind arith in
+    ≡ (contains_text later n || bytes_eq (string_bytes name) n) = grind arith in
     cc (
       btree_set_updates_text (string_bytes name) later later' true u n,
       h n,

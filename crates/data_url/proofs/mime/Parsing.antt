@@ -308,19 +308,11 @@ plain_head_is s t b e = record {
   begins = front_begins t e.back (subst BeginsParameters e.joined b);
 }
 
+-- where a text begins with a code point
+pub ruleset marks = (encodes-chars, match_map, has_mark, no_mark)
+
 -- the lemmas for `cuts.rt`
-pub ruleset cuts = (
-  cut_front,
-  spaces_end,
-  spaces_steady,
-  values_steady,
-  suffix_len-le-length,
-  length-take-le,
-  encodes-chars,
-  match_map,
-  has_mark,
-  no_mark,
-)
+pub ruleset cuts = (marks, cut_front, spaces_end, spaces_steady, values_steady, suffix_len-le-length, length-take-le)
 
 -- the lemmas for `read_head`
 pub ruleset heads = (same_empty, begins_empty, begins_mark, is_head, no_parameters, no_slash, no_subtype, no_type)

@@ -137,14 +137,7 @@ pairs_decide : {A B : Type 0} (ps qs : List (String A × String B))
 pairs_decide [] [] = (λ h. refl, λ h. refl)
 pairs_decide [] (q ∷ qs) = grind arith
 pairs_decide (p ∷ ps) [] = grind arith
-pairs_decide (p ∷ ps) (q ∷ qs) = grind (
-  arith,
-  string_bytes,
-  bytes_eq-Decides,
-  and_parts,
-  and_from,
-  pairs_decide ps qs,
-)
+pairs_decide (p ∷ ps) (q ∷ qs) = grind (arith, string_bytes, bytes_eq-Decides, and_parts, and_from, pairs_decide ps qs)
 
 -- the test is true exactly if the texts are the same
 pub same_decides : (m n : Mime) → IsTrue (same_texts m n) ↔ SameTexts m n
@@ -299,14 +292,8 @@ all_valid (p ∷ pairs) h k = grind (arith, and_parts, cond-true, and_from, all_
 distinct_new : (e : List Pair) (p : Pair) (ps : List Pair) → has_distinct_names (e ++ (p ∷ ps)) ≡ true
     → has_name p.0 e ≡ false
 distinct_new [] p ps h = refl
-distinct_new (q ∷ e) p ps h = grind (
-  arith,
-  list_any-append {X = Pair},
-  test_from_different,
-  both_ways,
-  bytes_eq-Decides,
-  distinct_new e p ps,
-)
+distinct_new (q ∷ e) p ps h =
+    grind (arith, list_any-append {X = Pair}, test_from_different, both_ways, bytes_eq-Decides, distinct_new e p ps)
 
 -- pairs with distinct names are all the first of their name
 first_itself : (e ps : List Pair) → has_distinct_names (e ++ ps) ≡ true → first_of_each_name e ps ≡ ps
