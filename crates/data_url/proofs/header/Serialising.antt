@@ -309,7 +309,8 @@ unfolding after_scheme cleaned_text trimmed_text
 no_last_space t a h =
     let s = without_end is_c0_control_or_space (without_front is_c0_control_or_space t) in
     let rest : a ≡ drop 5 (without_tabs_and_newlines s) = grind arith in
-    rw rest (ends_after 5 (without_tabs_and_newlines s) (ends_whole s (ends_trimmed (without_front is_c0_control_or_space t))))
+    rw rest (ends_after 5 (without_tabs_and_newlines s)
+    (ends_whole s (ends_trimmed (without_front is_c0_control_or_space t))))
 
 -- an encoded path is the same by both rules, or ends with "%20" by one and with a space by the other
 data Differs (path : List ℕ) : Type 0 where

@@ -268,7 +268,9 @@ plain_added (c ∷ s) p h = grind (arith, chars_printable (c ∷ s) p)
 pub suffix_is : (header s : List ℕ) (o : Option (List ℕ)) (m : Record) → IsPrintable header → s ≡ trimmed_text header
     → o ≡ before_base64 s → IsRecordFor (with_plain (unwrap_or o s)) m → IsHeaderOf header m (is_some o)
 unfolding mime_text media_of has_base64_suffix
-suffix_is header s o m p e f h = let t = trimmed_is_stripped header p in record { record_is = rw (← t, ← e, ← f) h; base64_is = cc }
+suffix_is header s o m p e f h =
+    let t = trimmed_is_stripped header p in
+    record { record_is = rw (← t, ← e, ← f) h; base64_is = cc }
 
 -- the record of the parts of a text is the record for it
 pub parts_for : {s x a b c : List ℕ} (m : Record) → s ≡ x → IsHead s a b c → IsRecordOfParts a b c m → IsRecordFor x m

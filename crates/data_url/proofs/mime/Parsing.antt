@@ -264,14 +264,16 @@ module _ {s t a x : List ℕ} (first : IsTokens t a x) (e : t ≡ trimmed_of is_
       }
 
 -- the pair that is read
-pair_by : (s name : List ℕ) {r : Reading} (value : Option (List ℕ)) → r ≡ reading_in s → name ≡ front_of in_name (named s)
-    → value ≡ quotable_value r.value → pair_if (map to_ascii_lowercase name) value ≡ valid_of (item_in s)
+pair_by : (s name : List ℕ) {r : Reading} (value : Option (List ℕ)) → r ≡ reading_in s
+    → name ≡ front_of in_name (named s) → value ≡ quotable_value r.value
+    → pair_if (map to_ascii_lowercase name) value ≡ valid_of (item_in s)
 pair_by s name value e n v = grind arith
 
 -- the pair and the rest that are read from a text that is cut after a name
 pub parameter_by : (s : List ℕ) {t bytes front after : List ℕ} {n : ℕ} {o : Option (List ℕ)} → IsUtf8 t
     → n ≡ prefix_len in_name bytes → bytes ≡ t → front ≡ take n t → after ≡ drop n t → chars t ≡ named s
-    → after_mark 61 (chars after) ≡ o → (value : Option (List ℕ)) → value ≡ quotable_value (reading (chars after) o).value
+    → after_mark 61 (chars after) ≡ o → (value : Option (List ℕ))
+    → value ≡ quotable_value (reading (chars after) o).value
     → (pair_if (map to_ascii_lowercase (chars front)) value ≡ valid_of (item_in s))
     × ((reading (chars after) o).rest ≡ (reading_in s).rest)
 parameter_by s {front = front} {after = after} {o = o} u e f g h k m value v =

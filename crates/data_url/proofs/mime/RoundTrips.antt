@@ -283,7 +283,8 @@ pairs_not_end (p ∷ pairs) t h = rw (← append_assoc t (printed_pair p) (flat_
     (ends_with is_http_whitespace (59 ∷ p.0) 61 (printed_value p.1) (value_not_end p.1))))
 
 -- pairs with lower-case names and values of quoted-string code points are all valid
-all_valid : (pairs : List Pair) → have_names pairs ≡ true → list_all (λ (p : Pair). list_all is_quotable p.1) pairs ≡ true
+all_valid : (pairs : List Pair) → have_names pairs ≡ true
+    → list_all (λ (p : Pair). list_all is_quotable p.1) pairs ≡ true
     → valid_pairs (map item_of pairs) ≡ pairs
 all_valid [] h k = refl
 all_valid (p ∷ pairs) h k = grind (arith, and_parts, cond-true, and_from, all_valid pairs)
@@ -322,7 +323,14 @@ printed_ends m w = rw (← append_assoc m.type_ (47 ∷ m.subtype) (flat_map pri
 printed_head : (m : Record) → IsWellformed m → IsHead (printed m) m.type_ m.subtype (flat_map printed_pair m.parameters)
 unfolding printed
 printed_head m w =
-    grind (arith, front_is is_http_whitespace [] (printed m) tt (printed_begins m w), end_stays, printed_ends, and_parts, pairs_begin)
+    grind (
+      arith,
+      front_is is_http_whitespace [] (printed m) tt (printed_begins m w),
+      end_stays,
+      printed_ends,
+      and_parts,
+      pairs_begin,
+    )
 
 -- a well-formed record, printed, parses to the record
 pub printed_parses : (m : Record) → IsWellformed m → Parses (printed m) m
