@@ -18,7 +18,7 @@ pub use Rattle.data_url.proofs.forgiving_base64.WholeTexts.{decodes_refused, fed
 pub use Rattle.data_url.proofs.header.Stages.{body_of_url, bytes_by_place, bytes_trimmed, fragment_of_url}
 pub use Rattle.data_url.proofs.header.Stages.{is_accepted, lacks_comma, rest_bytes}
 pub use Rattle.data_url.proofs.header.Stages.{scheme_has_no_comma, stages_accepted, stages_no_comma, stages_no_scheme}
-pub use Rattle.data_url.proofs.header.Suffix.{suffix_stop}
+pub use Rattle.data_url.proofs.header.Serialising.{suffix_stop}
 pub use Rattle.data_url.proofs.mime.FirstNames.{test_from_different}
 pub use Rattle.data_url.proofs.mime.TokenTexts.{every_from_all}
 pub use Rattle.data_url.proofs.percent.Encoding.{IsBytes, ascii_all, decoded_keeps, two_digits}

@@ -1,3 +1,2 @@
 pub mod Serialising
-pub mod Suffix
 pub mod Stages

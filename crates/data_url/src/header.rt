@@ -57,6 +57,7 @@ fn split_last_space<'a>(path: &'a [u8], query: &[u8]) -> (&'a [u8], &'static str
 /// Returns the text of a header, serialised. Room for a text as long as the header is allocated first, and grows if
 /// more is written.
 #[inline(never)]
+#[tactic(auto, using(crate::proofs::header::Serialising::serialising))]
 fn serialised(alloc: Global, header: &[u8]) -> Result<String, AllocError>
     ensures { IfOk result (λ text. string_bytes text
         ≡ header_text (without_tabs_and_newlines header.now)) }
@@ -72,7 +73,7 @@ fn serialised(alloc: Global, header: &[u8]) -> Result<String, AllocError>
 
 /// Returns the text before `;`, spaces and `base64` (in any ASCII case) at the end of a header, or None if it ends
 /// otherwise.
-#[tactic(auto, using(crate::proofs::header::Suffix::suffixes))]
+#[tactic(auto, using(crate::proofs::header::Serialising::suffixes))]
 fn without_suffix(header: &str) -> Option<&str>
     requires { IsPrintable header.now }
     ensures text { as_option result ≡ before_base64 header.now }
@@ -149,6 +150,7 @@ pub(crate) fn read_media(alloc: Global, media: &str) -> Result<Mime, AllocError>
 }
 
 /// `text/plain;charset=US-ASCII`.
+#[tactic(auto, using(crate::proofs::header::Stages::default_is))]
 fn default_mime(alloc: Global) -> Result<Mime, AllocError>
     ensures { IfOk result (λ mime. record_of mime ≡ default_record) }
 {

@@ -1,31 +1,26 @@
 -- The scheme, and the first comma of a text. For `after_scheme` and `split_at_comma`.
 use Rattle.data_url.specs.Steps.Header.{header_text}
-use Rattle.data_url.proofs.texts.Bytes.{after-dropped_none}
-use Rattle.data_url.proofs.percent.Encoding.{kept_whole}
-use Rattle.std.proofs.Common.{◌≡◌, ◌≢◌, ℕ, ◌+◌, ◌<◌, Bool, true, false, List, ◌∷◌, ◌++◌, length, get_or, take}
-use Rattle.std.proofs.Common.{drop, map, nat_eq, subst, length-append, codes, refl, sym, ap, ◌∙◌, ⊎_elim, arith}
-use Rattle.std.proofs.Common.{◌-◌, Option, None, Some, position, ap₂, ◌⊎◌, eqb-true}
+use Rattle.data_url.proofs.texts.Bytes.{after-dropped_none, without_tabs_and_newlines-append, dropped_around}
+use Rattle.data_url.proofs.texts.Bytes.{dropped_keeps, dropped_nil, dropped_passes, before_all, before_at, after_none}
+use Rattle.data_url.proofs.texts.Bytes.{after_nil, after_other}
+use Rattle.data_url.proofs.percent.Encoding.{kept_whole, ascii_all, Plain}
+use Rattle.std.proofs.Common.{◌≡◌, ◌≢◌, ℕ, ◌+◌, ◌<◌, Bool, true, false, List, ◌∷◌, ◌++◌, length, get_or, take, drop}
+use Rattle.std.proofs.Common.{map, nat_eq, subst, length-append, codes, refl, sym, ap, ◌∙◌, ⊎_elim, arith, ◌-◌, Option}
+use Rattle.std.proofs.Common.{None, Some, position, ap₂, ◌⊎◌, eqb-true, append-nil, not, []}
 use Rattle.std.specs.Char.{to_ascii_lowercase}
 use Rattle.std.specs.Str.{IsCharBoundary, IsUtf8}
 use Rattle.std.proofs.lemmas.Bool.{cases_lt, cond-true, lt-ltb, or_cases, or_parts}
 use Rattle.std.proofs.lemmas.List.{get_or_at, take_more, get_or-take, length-map, length-take, map-append}
-use Rattle.std.proofs.lemmas.List.{take-append-le}
-use Rattle.std.proofs.lemmas.List.{take-map, drop_more, get_or-drop, length-drop, take-append-drop, take_all}
+use Rattle.std.proofs.lemmas.List.{take-append-le, take-map, drop_more, get_or-drop, length-drop, take-append-drop}
+use Rattle.std.proofs.lemmas.List.{take_all, take_rest}
 use Rattle.std.proofs.lemmas.Slice.Eq.{bytes_eq-Decides, starts_is}
 use Rattle.std.specs.List.{starts_with, prefix_len}
 use Rattle.std.proofs.lemmas.Str.{IsCharBoundary-after_ascii, IsCharBoundary-from_take, IsUtf8-from_ascii}
 use Rattle.data_url.specs.Url.{without_tabs_and_newlines, is_tab_or_newline, after, front}
 use Rattle.data_url.specs.Steps.Front.{HasNoScheme, IsSchemeAndRest, IsHeaderAndTail, ends_header, is_plain_path}
-use Rattle.data_url.proofs.percent.Encoding.{ascii_all, Plain}
-use Rattle.std.proofs.Common.{append-nil}
-use Rattle.data_url.proofs.texts.Bytes.{without_tabs_and_newlines-append, dropped_around, dropped_keeps, dropped_nil}
-use Rattle.data_url.proofs.texts.Bytes.{dropped_passes, before_all, before_at, after_none}
-use Rattle.std.specs.Prelude.{◌||◌}
-use Rattle.std.proofs.lemmas.List.Quantifiers.{position-Some}
-use Rattle.std.proofs.lemmas.List.Sums.{fails_before_first, prefix_len_passes}
-use Rattle.data_url.specs.Steps.Header.{header_text}
-
--- Spelling the scheme, one byte after the other.
+use Rattle.std.proofs.lemmas.List.Sums.{prefix_len_passes, prefix_len-le-length, prefix_len_stops}
+use Rattle.data_url.proofs.texts.CodePoints.{front_further, front_passes}
+use Rattle.data_url.specs.Mime.{Every}
 
 -- the scheme, in lower case
 abbrev scheme : List ℕ
@@ -44,14 +39,7 @@ pub record Spells (s : List ℕ) (n : ℕ) : Type 0 where
 pub spells_passed : (text : List ℕ) (place n : ℕ) → place < length text → Spells (take place text) n
     → is_tab_or_newline (get_or text place 0) ≡ true → Spells (take (place + 1) text) n
 spells_passed text place n l h e =
-    grind (
-      arith,
-      take_more text place 0,
-      without_tabs_and_newlines-append,
-      dropped_passes,
-      dropped_nil,
-      append-nil,
-    )
+    grind (arith, take_more text place 0, without_tabs_and_newlines-append, dropped_passes, dropped_nil, append-nil)
 
 -- a byte that is, in lower case, the next one of the scheme is spelled
 one_more : (text : List ℕ) (place n : ℕ) → place < length text → Spells (take place text) n
@@ -124,28 +112,21 @@ differs text place n l h e ne =
       get_or_at low (to_ascii_lowercase b) (map to_ascii_lowercase rest) 0 n (length-map s to_ascii_lowercase ∙ size),
     )
 
--- The scheme as it is commonly spelled
-
 -- the scheme stays as it is in lower case and without tabs and newlines
 common_spelled : map to_ascii_lowercase (without_tabs_and_newlines scheme) ≡ scheme
 unfolding without_tabs_and_newlines
 common_spelled = refl
 
--- if the test for "data:" at the front succeeds, the text is "data:" and then the text from its sixth byte on
-pub common_front : (text items : List ℕ) (r : Bool) → items ≡ text → r ≡ starts_with nat_eq items scheme → r ≡ true
-    → text ≡ scheme ++ drop 5 text
-common_front text items r e f h = grind (arith, starts_is)
-
 -- a UTF-8 text that begins with "data:" can be cut after it
-pub common_boundary : (text : List ℕ) → IsUtf8 text → text ≡ scheme ++ drop 5 text → IsCharBoundary text 5
+pub common_boundary : (text : List ℕ) → IsUtf8 text → starts_with nat_eq text scheme ≡ true → IsCharBoundary text 5
 common_boundary text u h =
+    let e : text ≡ scheme ++ drop 5 text = grind (arith, starts_is) in
     grind (arith, take-append-le, length-append, IsCharBoundary-from_take, IsUtf8-from_ascii, ascii_all)
 
 -- a text that begins with "data:" has the scheme, and its rest is the text from the sixth byte on
-pub common_scheme : (text rest : List ℕ) → text ≡ scheme ++ drop 5 text → rest ≡ drop 5 text → IsSchemeAndRest text rest
-common_scheme text rest h e = grind (arith, common_spelled)
-
--- The first comma or '#' of a text.
+pub common_scheme : (text rest : List ℕ) → starts_with nat_eq text scheme ≡ true → rest ≡ drop 5 text
+    → IsSchemeAndRest text rest
+common_scheme text rest h e = grind (arith, common_spelled, starts_is)
 
 -- at index n is the first ',' or '#' of the text
 pub record IsFrontEnd (s : List ℕ) (n : ℕ) : Type 0 where
@@ -154,17 +135,19 @@ pub record IsFrontEnd (s : List ℕ) (n : ℕ) : Type 0 where
   pub no_comma : after 44 (take n s) ≡ None
   pub no_hash : after 35 (take n s) ≡ None
 
--- there is no ',' or '#' before index n
-abbrev pub NoEndBefore : List ℕ → ℕ → Type 0
-NoEndBefore s n = (k : ℕ) → k < n → ends_header (get_or s k 0) ≡ false
+-- neither ',' nor '#'
+abbrev in_header : ℕ → Bool
+in_header b = not (ends_header b)
 
--- if there is no ',' or '#' in the first m bytes, nor in the next k bytes, there is none in the first m + k
-further_on : (s : List ℕ) (m k : ℕ) → NoEndBefore s m → NoEndBefore (drop m s) k → NoEndBefore s (m + k)
-further_on s m k h g j l = grind (arith, get_or-drop m s (j - m) 0, cases_lt j m)
+-- the first ',' or '#' of a text comes after the plain bytes at its front
+further_on : (s items : List ℕ) (n : ℕ) → items ≡ s → n ≡ prefix_len is_plain_path items
+    → prefix_len in_header s ≡ n + prefix_len in_header (drop n s)
+further_on s items n e f = grind (arith, front_further, prefix_len_passes, prefix_len-le-length)
 
--- if there is no ',' or '#' before index n, the first n bytes have neither
-no_end : (s : List ℕ) (n : ℕ) → NoEndBefore s n → (after 44 (take n s) ≡ None) × (after 35 (take n s) ≡ None)
-no_end s n h = grind (arith, or_parts, after_none, length-take, get_or-take)
+-- a text of bytes that are neither ',' nor '#' has neither
+no_end : (s : List ℕ) → Every in_header s → (after 44 s ≡ None) × (after 35 s ≡ None)
+no_end [] h = (after_nil 44, after_nil 35)
+no_end (b ∷ s) h = grind (arith, or_parts, after_other, no_end s h.1)
 
 -- if the first ',' or '#' of a text is a ',', the bytes before it are the header, and those after it are the tail
 pub at_comma : (s : List ℕ) (n : ℕ) → IsFrontEnd s n → get_or s n 0 ≢ 35 → IsHeaderAndTail s (take n s) (drop (n + 1) s)
@@ -175,60 +158,28 @@ pub at_hash : (s : List ℕ) (n : ℕ) → IsFrontEnd s n → get_or s n 0 ≡ 3
 unfolding front
 at_hash s n f h = cc (cut_at s n f.within, before_at 35 (take n s) (drop (n + 1) s) f.no_hash)
 
--- The bytes of a path that are serialised as they are
-
 -- if n is the length of the longest prefix of plain path bytes, each of the first n bytes is `Plain`
 plain_front : (s items : List ℕ) (n : ℕ) → items ≡ s → n ≡ prefix_len is_plain_path items
     → ((i : ℕ) → get_or s i 0 < 256) → (k : ℕ) → k < n → Plain (get_or s k 0)
 plain_front s items n e f h k l = grind (arith, prefix_len_passes)
 
--- there is no ',' or '#' in the longest prefix of plain bytes
-no_end_ahead : (s items : List ℕ) (n : ℕ) → items ≡ s → n ≡ prefix_len is_plain_path items
-    → ((i : ℕ) → get_or s i 0 < 256) → NoEndBefore s n
-no_end_ahead s items n e f h k l =
-    let p = plain_front s items n e f h k l in ap₂ (λ x y. x || y) p.no_comma p.no_hash
-
--- if a list is equal to the text, the position of its first ',' or '#' from index n on is that of the text
-ends_ahead : (s items : List ℕ) (n : ℕ) (r : Option ℕ) → items ≡ s
-    → r ≡ position ends_header (take (length items - n) (drop n items)) → position ends_header (drop n s) ≡ r
-ends_ahead s items n r e p = grind (arith, take_all, length-drop)
-
 -- if the first ',' or '#' after the n plain bytes at the front is at index k of the bytes after them, the first one of
 -- the text is at n + k
 pub front_end_at : (s items : List ℕ) (n k : ℕ) (r : Option ℕ) → items ≡ s → n ≡ prefix_len is_plain_path items
-    → ((i : ℕ) → get_or s i 0 < 256) → r ≡ position ends_header (take (length items - n) (drop n items)) → r ≡ Some k
-    → IsFrontEnd s (n + k)
-front_end_at s items n k r e f h q g =
-    let p = position-Some ends_header (drop n s) k 0 (ends_ahead s items n r e q ∙ g) in
-    let lacks = no_end s (n + k) (further_on s n k (no_end_ahead s items n e f h) p.2) in
-    let end : ends_header (get_or s (n + k) 0) ≡ true = ap ends_header (sym (get_or-drop n s k 0)) ∙ p.1 in
-    record {
-      within = omega (arith, p.0, length-drop n s);
-      is = grind (arith, ⊎_elim, eqb-true, or_cases);
-      no_comma = lacks.0;
-      no_hash = lacks.1;
-    }
+    → r ≡ position ends_header (take (length items - n) (drop n items)) → r ≡ Some k → IsFrontEnd s (n + k)
+front_end_at s items n k r e f q g =
+    let more = further_on s items n e f in
+    let lacks = no_end (take (prefix_len in_header s) s) (front_passes in_header s) in
+    grind (arith, take_rest, length-drop, prefix_len_stops in_header s 0, eqb-true)
 
 -- if there is no ',' or '#' after the plain bytes at the front, there is no ',' before the first '#' of the text
 pub no_front_end : (s items : List ℕ) (n : ℕ) (r : Option ℕ) → items ≡ s → n ≡ prefix_len is_plain_path items
-    → ((i : ℕ) → get_or s i 0 < 256) → r ≡ position ends_header (take (length items - n) (drop n items)) → r ≡ None
-    → after 44 (front s) ≡ None
+    → r ≡ position ends_header (take (length items - n) (drop n items)) → r ≡ None → after 44 (front s) ≡ None
 unfolding front
-no_front_end s items n r e f h p g =
-    let rest = drop n s in
-    let nothing = ends_ahead s items n r e p ∙ g in
-    let none : NoEndBefore rest (length rest) = λ k l. grind (
-      arith,
-      fails_before_first,
-      ⊎_elim,
-      cond-true,
-      lt-ltb,
-      cases_lt,
-    ) in
-    let all = further_on s n (length rest) (no_end_ahead s items n e f h) none in
-    let lacks = no_end s (length s) (λ k l. all k (omega (arith, length-drop n s))) in
-    let whole = take_all (length s) s (omega arith) in
-    cc (before_all 35 s (ap (after 35) (sym whole) ∙ lacks.1))
+no_front_end s items n r e f q g =
+    let more = further_on s items n e f in
+    let lacks = no_end (take (prefix_len in_header s) s) (front_passes in_header s) in
+    grind (arith, take_rest, length-drop, take_all, before_all)
 
 -- if the ',' follows directly after the plain bytes at the front, the header is serialised as it is
 pub plain_before : (s items header : List ℕ) (n k : ℕ) → items ≡ s → n ≡ prefix_len is_plain_path items
@@ -246,17 +197,11 @@ plain_before s items header n k e f h is same =
       get_or-take,
     )
 
+-- one byte more of the scheme
+pub ruleset steps = (spells_passed, spells_all, spells_more)
+
 -- the lemmas for `after_respelled_scheme`
-pub ruleset spelling = (
-  dropped_nil,
-  spells_passed,
-  differs,
-  spells_all,
-  spells_more,
-  ends_early,
-  take_all,
-  IsCharBoundary-after_ascii,
-)
+pub ruleset spelling = (steps, differs, ends_early, dropped_nil, take_all, IsCharBoundary-after_ascii)
 
 -- the lemmas for `split_at_comma`
-pub ruleset commas = (no_front_end, at_hash, front_end_at, at_comma, IsCharBoundary-after_ascii)
+pub ruleset commas = (no_front_end, at_hash, front_end_at, at_comma, IsCharBoundary-after_ascii, eqb-true, plain_before)

@@ -1,39 +1,168 @@
--- Headers: serialised path and query, and the last space of a path. For `serialise`.
-use Rattle.std.proofs.Common.{◌≡◌, ◌≢◌, ◌⊎◌, ℕ, suc, ◌+◌, ◌-◌, ◌<◌, ◌≤◌, Bool, true, false, List, [], ◌∷◌, ◌++◌}
-use Rattle.std.proofs.Common.{length, get_or, take, drop, reverse, codes, refl, sym, ap, ◌∙◌, inl, inr, ⊎_elim, None}
-use Rattle.std.proofs.Common.{append_assoc, arith, eqb-true, subst, length-append, Option, Some}
-use Rattle.std.specs.Prelude.{◌==◌}
-use Rattle.std.specs.List.{prefix_len, suffix_len}
+-- The suffix `;base64` of a header, and its serialised path and query. For `header.rt`.
+use Rattle.std.proofs.Common.{◌≡◌, ◌≢◌, ℕ, ◌+◌, ◌-◌, ◌<◌, ◌≤◌, List, [], ◌∷◌, length, get_or, take, drop, map, codes}
+use Rattle.std.proofs.Common.{None, Some, ap, ◌∙◌, arith, suc, Bool, false, ◌++◌, length-append, reverse, Option}
+use Rattle.std.proofs.Common.{is_some, refl, append_assoc, ◌⊎◌, true, sym, inl, inr, ⊎_elim, eqb-true, subst, zero}
+use Rattle.std.specs.Prelude.{option_and_then, ◌==◌}
+use Rattle.std.specs.Char.{to_ascii_lowercase}
+use Rattle.std.specs.List.{suffix_len, prefix_len}
+use Rattle.std.specs.Str.{bytes_eq}
+use Rattle.std.proofs.lemmas.List.{length-map, length-take, drop_all, drop_more, get_or-take, length-drop}
+use Rattle.std.proofs.lemmas.List.{length-take-le, take-take, drop-append-le, get_or_at, get_or-drop, get_or-map}
+use Rattle.std.proofs.lemmas.List.{reverse-append, take_rest, append-nil, get_or-reverse, length-reverse}
+use Rattle.std.proofs.lemmas.List.{take-append-drop, take_all, take_more}
+use Rattle.std.proofs.lemmas.List.Sums.{suffix_len-le-length, prefix_len-drop_no, prefix_len-le-length}
+use Rattle.std.proofs.lemmas.List.Sums.{prefix_len_passes, prefix_len_stops}
+use Rattle.std.proofs.lemmas.Slice.Eq.{bytes_eq-Decides}
+use Rattle.data_url.specs.Url.{is_c0_control_or_space, without_end, before, after, without_tabs_and_newlines}
+use Rattle.data_url.specs.Url.{encoded_byte, encoded_path, in_path_end_set, in_path_set, in_query_set}
+use Rattle.data_url.specs.Url.{is_tab_or_newline, percent_encoding, after_scheme, cleaned_text, serialised}
+use Rattle.data_url.specs.Url.{trimmed_text, with_query, without_front}
+use Rattle.data_url.specs.Fetch.{before_base64, before_semicolon, is_space, before_word, has_base64_suffix}
+use Rattle.data_url.specs.Fetch.{stripped_header, before_comma}
+use Rattle.data_url.specs.Steps.Header.{IsPrintable, HasNoLastSpace, IsPathAndQuery, WithoutSpace, encoded_parts}
+use Rattle.data_url.specs.Steps.Header.{header_text, is_no_question_mark}
+use Rattle.data_url.proofs.header.Stages.{low_end, printable_take}
+use Rattle.std.specs.Option.{option_map}
+use Rattle.std.proofs.Math.Seq.{drop-append-add, take-append-add}
+use Rattle.std.proofs.lemmas.List.Folds.{prefix_len-append}
 use Rattle.std.proofs.lemmas.Bool.{cases_lt, ne_eqb, cases_Bool, not-true, not-false}
-use Rattle.std.proofs.lemmas.List.{append-nil, drop_all, drop_more, get_or-drop, get_or-reverse, get_or-take}
-use Rattle.std.proofs.lemmas.List.{length-drop, length-reverse, length-take, take-append-drop}
-use Rattle.std.proofs.lemmas.List.{get_or_at, take_all, take_more}
-use Rattle.std.proofs.lemmas.List.Sums.{prefix_len_passes, prefix_len_stops, suffix_len-le-length}
-use Rattle.data_url.specs.Url.{before, after, without_tabs_and_newlines, encoded_byte, encoded_path, in_path_end_set}
-use Rattle.data_url.specs.Url.{in_path_set, in_query_set, is_tab_or_newline, percent_encoding, after_scheme}
-use Rattle.data_url.specs.Url.{cleaned_text, is_c0_control_or_space, serialised, trimmed_text, with_query, without_end}
-use Rattle.data_url.specs.Url.{without_front}
-use Rattle.data_url.specs.Steps.Header.{HasNoLastSpace, IsPathAndQuery, WithoutSpace, encoded_parts, header_text}
-use Rattle.data_url.specs.Steps.Header.{is_no_question_mark}
 use Rattle.data_url.proofs.texts.Bytes.{before_all, before_at, after-dropped_none, after_at, after_none}
 use Rattle.data_url.proofs.texts.Bytes.{without_tabs_and_newlines-append, dropped_around, dropped_keeps, dropped_nil}
 use Rattle.data_url.proofs.texts.Bytes.{dropped_passes, before-append, after-append, before_other, after_other, is_cut}
 use Rattle.data_url.proofs.percent.Encoding.{encoded_cons, encoded_nil, path_cons, path_nil, percent_encoding-append}
+use Rattle.data_url.proofs.percent.Encoding.{encoded}
 use Rattle.data_url.specs.Facts.{base64_flag, serialised_with_spaces}
-use Rattle.data_url.specs.Fetch.{before_comma, is_space}
 use Rattle.data_url.specs.Mime.{DoesNotEnd}
-use Rattle.data_url.proofs.header.Suffix.{same_flag}
 use Rattle.data_url.proofs.front.Cuts.{cut_at}
-use Rattle.data_url.proofs.mime.RoundTrips.{not_ends_last}
 
--- Serialising a header: its path, and its query.
+-- the word of the suffix
+abbrev pub word : List ℕ
+word = codes "base64"
 
--- The end of a path
+-- the last n bytes, and the bytes before them
+abbrev last_bytes : ℕ → List ℕ → List ℕ
+last_bytes n s = drop (length s - n) s
 
--- a path of one byte is encoded with the set for the last byte
-path_one : (b : ℕ) → encoded_path (b ∷ []) ≡ encoded_byte in_path_end_set b
-unfolding encoded_path
-path_one b = refl
+-- the bytes before the last n bytes
+abbrev before_last : ℕ → List ℕ → List ℕ
+before_last n s = take (length s - n) s
+
+-- a text whose last six bytes are not "base64", in any ASCII case, has no base64 suffix
+pub no_word : (s : List ℕ) → (map to_ascii_lowercase (last_bytes 6 s) ≡ word → ⊥) → before_base64 s ≡ None
+unfolding before_base64
+no_word s h = grind (arith, bytes_eq-Decides)
+
+-- the word is at the end, and there are that many spaces before it
+pub record HasWord (s : List ℕ) (n spaces : ℕ) : Type 0 where
+  pub six : n + 6 ≡ length s
+  pub is : map to_ascii_lowercase (drop n s) ≡ word
+  pub spaces_are : spaces ≡ suffix_len is_c0_control_or_space (take n s)
+
+-- the text before the spaces
+after_word : (s : List ℕ) (n spaces : ℕ) → IsPrintable s → HasWord s n spaces
+    → before_base64 s ≡ before_semicolon (take (n - spaces) s)
+unfolding before_base64
+after_word s n spaces p h = grind (arith, length-take-le, low_end, printable_take, take-take)
+
+-- if there is nothing before the spaces and the word, there is no base64 suffix
+pub nothing_left : (s : List ℕ) (n spaces : ℕ) → IsPrintable s → HasWord s n spaces → n - spaces ≡ 0
+    → before_base64 s ≡ None
+nothing_left s n spaces p h e = after_word s n spaces p h ∙ ap (λ m. before_semicolon (take m s)) e
+
+-- the last of n + 1 bytes
+last_one : (s : List ℕ) (n : ℕ) → n < length s → last_bytes 1 (take (n + 1) s) ≡ get_or s n 0 ∷ []
+last_one s n l = grind (arith, length-take-le, drop_all, drop_more, get_or-take)
+
+-- the bytes before the last of n + 1 bytes are the first n bytes
+before_one : (s : List ℕ) (n : ℕ) → n < length s → before_last 1 (take (n + 1) s) ≡ take n s
+before_one s n l = grind (arith, length-take-le, take-take)
+
+-- if the byte before the spaces and the word is not ';', there is no base64 suffix
+pub no_semicolon : (s : List ℕ) (n spaces m : ℕ) → IsPrintable s → HasWord s n spaces → n - spaces ≡ m + 1
+    → get_or s m 0 ≢ 59 → before_base64 s ≡ None
+no_semicolon s n spaces m p h e ne =
+    let one = last_one s m (omega (arith, h.six)) in
+    after_word s n spaces p h ∙ ap (λ k. before_semicolon (take k s)) e ∙ grind (arith, bytes_eq-Decides)
+
+-- if the byte before the spaces and the word is a ';' at index m, the text before the suffix is the first m bytes
+pub with_semicolon : (s : List ℕ) (n spaces m : ℕ) → IsPrintable s → HasWord s n spaces → n - spaces ≡ m + 1
+    → get_or s m 0 ≡ 59 → before_base64 s ≡ Some (take m s)
+with_semicolon s n spaces m p h e is =
+    let one = last_one s m (omega (arith, h.six)) in
+    let front = before_one s m (omega (arith, h.six)) in
+    after_word s n spaces p h ∙ ap (λ k. before_semicolon (take k s)) e ∙ grind (arith, bytes_eq-Decides)
+
+-- if b does not pass, the longest suffix of x ++ b ∷ q that passes is as long as that of q
+pub suffix_stop : (p : ℕ → Bool) (x q : List ℕ) (b : ℕ) → p b ≡ false → suffix_len p (x ++ b ∷ q) ≡ suffix_len p q
+suffix_stop p x q b f =
+    grind (
+      arith,
+      prefix_len-drop_no p (b ∷ reverse x) 0 0 (omega arith) f,
+      reverse-append x (b ∷ q),
+      reverse-append (b ∷ []) q,
+      append_assoc (reverse q) (b ∷ []) (reverse x),
+      prefix_len-append p (reverse q) (b ∷ reverse x),
+    )
+
+-- removing spaces at the end of a text with a '?' removes them only after that '?'
+end_after : (x q : List ℕ) → without_end is_space (x ++ 63 ∷ q) ≡ x ++ 63 ∷ without_end is_space q
+end_after x q =
+    let n = suc (length q - suffix_len is_space q) in
+    grind (arith, suffix_stop, suffix_len-le-length is_space q, length-append, take-append-add x (63 ∷ q) n)
+
+-- if q has at least n bytes, the last n bytes of y ++ q are those of q
+last_after : (y q : List ℕ) (n : ℕ) → n ≤ length q → last_bytes n (y ++ q) ≡ last_bytes n q
+last_after y q n l = grind (arith, length-append, drop-append-add)
+
+-- if q has at least n bytes, the bytes before the last n of y ++ q are y and the bytes before the last n of q
+before_last_after : (y q : List ℕ) (n : ℕ) → n ≤ length q → before_last n (y ++ q) ≡ y ++ before_last n q
+before_last_after y q n l = grind (arith, length-append y q, take-append-add y q (length q - n))
+
+-- if q has at least six bytes, what is before a final "base64" of y ++ q is y and what is before that of q
+word_after : (y q : List ℕ) → 6 ≤ length q → before_word (y ++ q) ≡ option_map (λ m. y ++ m) (before_word q)
+word_after y q l = grind (arith, last_after, before_last_after)
+
+-- a text with fewer than six bytes after a '?' has no base64 suffix
+too_near : (x q : List ℕ) → length q < 6 → before_base64 (x ++ 63 ∷ q) ≡ None
+too_near x q l = no_word (x ++ 63 ∷ q) (λ e.
+    let s = x ++ 63 ∷ q in
+    let n = length s - 6 in
+    let place = length x - n in
+    let size = length-append x (63 ∷ q) in
+    let here : get_or (drop n s) place 0 ≡ 63 =
+    grind (arith, get_or-drop n s place 0, get_or_at x 63 q 0 (length x) refl) in
+    let within : place < length (drop n s) = omega (arith, length-drop n s) in
+    let mark : get_or word place 0 ≡ 63 = cc (get_or-map to_ascii_lowercase (drop n s) place 0 0 within) in
+    grind arith)
+
+-- what the suffix depends on
+abbrev after_mark : Option (List ℕ) → Bool
+after_mark None = false
+after_mark (Some m) = bytes_eq (last_bytes 1 (63 ∷ without_end is_space m)) (codes ";")
+
+-- if "base64" comes after a '?', whether there is a suffix does not depend on what is before the '?'
+by_word : (x : List ℕ) (o : Option (List ℕ))
+    → is_some (option_and_then (λ m. before_semicolon (without_end is_space m))
+    (option_map (λ m. (x ++ 63 ∷ []) ++ m) o)) ≡ after_mark o
+by_word x None = refl
+by_word x (Some m) = grind (arith, append_assoc, end_after, last_after)
+
+-- if at least six bytes follow a '?', whether there is a base64 suffix depends only on these bytes
+suffix_after : (x q : List ℕ) → 6 ≤ length q → is_some (before_base64 (x ++ 63 ∷ q)) ≡ after_mark (before_word q)
+unfolding before_base64
+suffix_after x q l = cc (append_assoc x (63 ∷ []) q, word_after (x ++ 63 ∷ []) q l, by_word x (before_word q))
+
+-- the flag does not depend on the text before the '?'
+pub same_flag : (a b query : List ℕ) → has_base64_suffix (a ++ 63 ∷ query) ≡ has_base64_suffix (b ++ 63 ∷ query)
+unfolding has_base64_suffix stripped_header
+same_flag a b query =
+    grind (arith, drop-append-le, prefix_len-append, prefix_len-le-length, end_after, too_near, suffix_after)
+
+-- the text before a word at the end
+pub ruleset words = (no_word, take_rest, nothing_left, no_semicolon, with_semicolon)
+
+-- the lemmas for `without_suffix`
+pub ruleset suffixes = (words, length-map, length-take, suffix_len-le-length, printable_take)
 
 -- the first byte of a path is encoded with the set of a path if another byte follows it
 path_more : (b : ℕ) (s : List ℕ) (c : ℕ) → encoded_path (b ∷ (s ++ c ∷ [])) ≡ encoded_byte in_path_set b ++ encoded_path
@@ -43,13 +172,13 @@ path_more b (d ∷ s) c = path_cons b (d ∷ (s ++ c ∷ []))
 
 -- if a path ends with a space, this space is encoded as "%20", and the bytes before it with the path's set
 pub path_space : (s : List ℕ) → encoded_path (s ++ 32 ∷ []) ≡ percent_encoding in_path_set s ++ codes "%20"
-path_space [] = grind (arith, path_one, encoded_nil)
+path_space [] = grind (arith, path_cons, path_nil, append-nil, encoded_nil)
 path_space (b ∷ s) = grind (arith, path_more, path_space s, encoded_cons)
 
 -- a path that ends with another byte is encoded with the path's set
 pub path_other : (s : List ℕ) (c : ℕ) → (c == 32) ≡ false → encoded_path (s ++ c ∷ []) ≡ percent_encoding in_path_set
     (s ++ c ∷ [])
-path_other [] c e = grind (arith, path_one, encoded_nil, encoded_cons)
+path_other [] c e = grind (arith, path_cons, path_nil, append-nil, encoded_nil, encoded_cons)
 path_other (b ∷ s) c e = grind (arith, path_more, path_other s c e, encoded_cons)
 
 -- only tabs and newlines
@@ -92,8 +221,6 @@ has_other_end s m n e at other =
 -- a path of only tabs and newlines has no last space
 pub has_no_end : (s : List ℕ) (m : ℕ) → m ≡ suffix_len is_tab_or_newline s → length s ≤ m → HasNoLastSpace s
 has_no_end s m e all = grind (arith, all_dropped, suffix_passes, path_nil, encoded_nil)
-
--- The parts of a header
 
 -- with one
 header_and_query : (path rest : List ℕ) → after 63 path ≡ None
@@ -144,58 +271,46 @@ cut_at_query text n e = record {
       (cases_lt n (length text));
 }
 
--- The last space of a path: where it is encoded, and that the base64 flag does not depend on it.
+-- a text does not end with a code point that passes if its last code point does not pass
+ends_from : (p : ℕ → Bool) (s : List ℕ) → (0 < length s → p (get_or s (length s - 1) 0) ≡ false) → DoesNotEnd p s
+ends_from p [] h = tt
+ends_from p (c ∷ []) h = h (omega arith)
+ends_from p (c ∷ d ∷ s) h =
+    let e : length (c ∷ d ∷ s) - 1 ≡ suc (length (d ∷ s) - 1) = omega arith in
+    ends_from p (d ∷ s) (λ l. rw e at (h (omega arith)))
 
--- The end of a cleaned text
+-- a text without its end of C0 controls and spaces does not end with one
+ends_trimmed : (s : List ℕ) → DoesNotEnd is_c0_control_or_space (without_end is_c0_control_or_space s)
+ends_trimmed s = ends_from is_c0_control_or_space (without_end is_c0_control_or_space s)
+    (λ l. grind (arith, suffix_len-le-length, length-take, suffix_stops, get_or-take))
 
--- the text is empty, or its last byte is neither a C0 control nor a space
-abbrev Ends : List ℕ → Type 0
-Ends s = 0 < length s → is_c0_control_or_space (get_or s (length s - 1) 0) ≡ false
+-- a text that does not end with one, and is not empty, does not end with a space without tabs and newlines, and is not
+-- empty then either
+ends_dropped : (c : ℕ) (s : List ℕ) → DoesNotEnd is_c0_control_or_space (c ∷ s)
+    → DoesNotEnd is_space (without_tabs_and_newlines (c ∷ s)) × (without_tabs_and_newlines (c ∷ s) ≢ [])
+ends_dropped c [] h = grind (arith, dropped_keeps, dropped_nil)
+ends_dropped c (d ∷ s) h = grind (arith, cases_Bool, dropped_passes, dropped_keeps, ends_dropped d s h)
 
--- a text that is not empty is its bytes but the last, and then the last
-last_of : (s : List ℕ) → 0 < length s → s ≡ take (length s - 1) s ++ get_or s (length s - 1) 0 ∷ []
-last_of s l = grind (arith, take_all, take_more)
+-- a text that does not end with a space does not without its first n bytes
+ends_after : (n : ℕ) (s : List ℕ) → DoesNotEnd is_space s → DoesNotEnd is_space (drop n s)
+ends_after zero s e = e
+ends_after (suc n) [] e = tt
+ends_after (suc n) (c ∷ []) e = ends_after n [] tt
+ends_after (suc n) (c ∷ d ∷ s) e = ends_after n (d ∷ s) e
 
--- a text without its end of C0 controls and spaces
-ends_trimmed : (s : List ℕ) → Ends (without_end is_c0_control_or_space s)
-ends_trimmed s l = grind (arith, suffix_len-le-length, length-take, suffix_stops, get_or-take)
-
--- dropping tabs and newlines keeps the last byte
-ends_dropped : (s : List ℕ) → Ends s → Ends (without_tabs_and_newlines s)
-ends_dropped [] e l = absurd (let n = ap length dropped_nil in omega arith)
-ends_dropped (c ∷ s) e l =
-    let n = length (c ∷ s) - 1 in
-    let b = get_or (c ∷ s) n 0 in
-    let h : is_c0_control_or_space b ≡ false = e (omega arith) in
-    let no : is_tab_or_newline b ≡ false = grind arith in
-    let is : without_tabs_and_newlines (c ∷ s) ≡ without_tabs_and_newlines (take n (c ∷ s)) ++ b ∷ [] =
-    cc (last_of (c ∷ s) (omega arith), dropped_around b no (take n (c ∷ s)) [], dropped_nil) in
-    grind (arith, get_or_at, length-append)
-
--- a text that is empty or does not end with a C0 control or space stays so without bytes from its front
-ends_after : (n : ℕ) (s : List ℕ) → Ends s → Ends (drop n s)
-ends_after n s e l = grind (arith, get_or-drop, length-drop)
-
--- a text that is empty, or whose last byte is not a C0 control or space, does not end with a space
-ends_with_no_space : (s : List ℕ) → Ends s → DoesNotEnd is_space s
-ends_with_no_space [] e = tt
-ends_with_no_space (c ∷ s) e =
-    let b = get_or (c ∷ s) (length (c ∷ s) - 1) 0 in
-    let h : is_c0_control_or_space b ≡ false = e (omega arith) in
-    let no : is_space b ≡ false = grind arith in
-    subst (DoesNotEnd is_space) (sym (last_of (c ∷ s) (omega arith)))
-    (not_ends_last is_space b no (take (length (c ∷ s) - 1) (c ∷ s)))
+-- so is the empty text
+ends_whole : (s : List ℕ) → DoesNotEnd is_c0_control_or_space s → DoesNotEnd is_space (without_tabs_and_newlines s)
+ends_whole [] h = rw dropped_nil tt
+ends_whole (c ∷ s) h = (ends_dropped c s h).0
 
 -- what follows the scheme does not end with a space
 pub no_last_space : (t a : List ℕ) → after_scheme t ≡ Some a → DoesNotEnd is_space a
 unfolding after_scheme cleaned_text trimmed_text
 no_last_space t a h =
-    let front = without_front is_c0_control_or_space t in
-    let rest : a ≡ drop 5 (without_tabs_and_newlines (without_end is_c0_control_or_space front)) = grind arith in
-    subst (DoesNotEnd is_space) (sym rest)
-    (ends_with_no_space _ (ends_after 5 _ (ends_dropped _ (ends_trimmed front))))
-
--- The two rules on the last space of a path
+    let s = without_end is_c0_control_or_space (without_front is_c0_control_or_space t) in
+    let rest : a ≡ drop 5 (without_tabs_and_newlines s) = grind arith in
+    rw rest (ends_after 5 (without_tabs_and_newlines s)
+    (ends_whole s (ends_trimmed (without_front is_c0_control_or_space t))))
 
 -- an encoded path is the same by both rules, or ends with "%20" by one and with a space by the other
 data Differs (path : List ℕ) : Type 0 where
@@ -203,22 +318,19 @@ data Differs (path : List ℕ) : Type 0 where
   last_space : (x : List ℕ) → encoded_path path ≡ x ++ codes "%20" → percent_encoding in_path_set path ≡ x ++ codes " "
       → Differs path
 
--- a path with a last byte is the same by both rules, or ends with "%20" by one and with a space by the other
-differs_last : (path init : List ℕ) (b : ℕ) → path ≡ init ++ b ∷ [] → Differs path
-differs_last path init b e = elim (cases_Bool (b == 32)) [
-  | inl h ↦
-      let is : path ≡ init ++ 32 ∷ [] = e ∙ ap (λ c. init ++ c ∷ []) (eqb-true b 32 h) in
-      last_space (percent_encoding in_path_set init) (ap encoded_path is ∙ path_space init)
-      (grind (arith, percent_encoding-append in_path_set init (32 ∷ []), encoded_cons, encoded_nil))
-  | inr h ↦ same_path (ap encoded_path e ∙ path_other init b h ∙ sym (ap (percent_encoding in_path_set) e))
-]
-
--- each path, empty or with a last byte, is the same by both rules, except for a space at its end
+-- each path is the same by both rules, except for a space at its end
 differs_by : (path : List ℕ) → Differs path
 differs_by [] = grind (arith, path_nil, encoded_nil)
-differs_by (c ∷ s) = differs_last (c ∷ s) _ _ (last_of (c ∷ s) (omega arith))
-
--- The flag of a text whose first comma is known
+differs_by (b ∷ []) = elim (cases_Bool (b == 32)) [
+  | inl e ↦ rw (eqb-true b 32 e)
+      (last_space [] (path_space [] ∙ grind (arith, encoded_nil)) (grind (arith, encoded_cons, encoded_nil)))
+  | inr e ↦ same_path (path_other [] b e)
+]
+differs_by (b ∷ c ∷ s) = elim (differs_by (c ∷ s)) [
+  | same_path e ↦ same_path (grind (arith, path_cons b (c ∷ s), encoded_cons, e))
+  | last_space x e f ↦ last_space (encoded_byte in_path_set b ++ x)
+      (grind (arith, path_cons b (c ∷ s), e, append_assoc)) (grind (arith, encoded_cons, f, append_assoc))
+]
 
 -- nothing after the first comma changes the header
 comma_before : (x y rest : List ℕ) → after 44 x ≡ Some rest → before_comma (x ++ y) ≡ Some (before 44 x)
@@ -264,3 +376,6 @@ flag_of_spaces s = flag_by (before 63 s) (after 63 s) (differs_by (before 63 s))
 
 -- the lemmas for `split_last_space`
 pub ruleset last_spaces = (parts_whole, parts_spaced, has_no_end, has_other_end, dropped_end, suffix_len-le-length)
+
+-- the lemmas for `serialised`
+pub ruleset serialising = (encoded, append_assoc, cut_at_query, prefix_len-le-length)

@@ -1,8 +1,9 @@
 -- The stages of the Standard, from the input to its record. For `DataUrl::process`.
-use Rattle.std.proofs.Common.{◌≡◌, ℕ, zero, suc, ◌<◌, ◌≤◌, Bool, false, List, [], ◌∷◌, ◌++◌, length, get_or, take, drop}
-use Rattle.std.proofs.Common.{None, Some, refl, sym, ap, ◌∙◌, inl, inr, eqb-true, subst, arith, true, map, codes, ◌≢◌}
+use Rattle.std.proofs.Common.{◌≡◌, ℕ, suc, ◌<◌, ◌≤◌, Bool, false, List, [], ◌∷◌, ◌++◌, length, get_or, take, drop, None}
+use Rattle.std.proofs.Common.{Some, refl, sym, ap, ◌∙◌, inl, inr, eqb-true, subst, arith, map, codes, ◌≢◌, is_some}
+use Rattle.std.proofs.Common.{Option, unwrap_or}
 use Rattle.std.specs.Prelude.{option_and_then}
-use Rattle.std.specs.List.{prefix_len, suffix_len}
+use Rattle.std.specs.List.{prefix_len, suffix_len, AllByRecursion}
 use Rattle.std.specs.Str.{chars}
 use Rattle.std.proofs.lemmas.Bool.{cases_Bool}
 use Rattle.std.proofs.lemmas.Slice.Eq.{bytes_eq-Decides}
@@ -28,54 +29,34 @@ use Rattle.data_url.proofs.texts.Bytes.{without_tabs_and_newlines-append, droppe
 use Rattle.data_url.proofs.texts.Bytes.{before_all, before_at, dropped_passes, is_cut, lacks}
 use Rattle.data_url.proofs.runs.Runs.{none_or_some}
 use Rattle.std.proofs.lemmas.Str.{chars-IsAscii}
-use Rattle.data_url.specs.Mime.{HasNoRecord, IsWellformed, Parses, Record, default_record, BeginsParameters, DoesNotEnd}
-use Rattle.data_url.specs.Mime.{IsHead, IsRecordOfParts}
-use Rattle.data_url.specs.Steps.Parsing.{IsTrimmedEnd}
-use Rattle.data_url.proofs.texts.CodePoints.{trimmed_end_is}
+use Rattle.data_url.specs.Mime.{HasNoRecord, Parses, Record, default_record, BeginsParameters, IsHead, IsRecordOfParts}
 use Rattle.data_url.proofs.examples.Literals.{on_literals}
-use Rattle.data_url.specs.CodePoints.{is_http_whitespace}
 use Rattle.data_url.proofs.mime.FirstNames.{parses_parts, parses_wellformed}
 use Rattle.data_url.specs.DataUrl.{IsAcceptable, IsUrlOf, is_base64, mime_of, url_tail}
 use Rattle.data_url.specs.MimeType.{record_of}
 use Rattle.data_url.specs.declared.DataUrl.{DataUrl}
-
--- Serialised headers have only printable bytes, so that trimming them is the same as stripping their spaces.
-
--- Serialised texts
-
--- each byte of the text is a printable ASCII character
-abbrev printable : List ℕ → Type 0
-printable [] = Unit {0}
-printable (b ∷ s) = (32 ≤ b) × (b < 127) × printable s
+use Rattle.std.proofs.lemmas.List.Elements.{All-drop, All-from_get_or, All-from_recursion, All-take, recursion_from_All}
+use Rattle.std.proofs.Math.Seq.{drop-append_seam}
 
 -- a text of bytes, encoded with a set that has all bytes that are not printable, is printable
 encoded_printable : (p : ℕ → Bool) → ((b : ℕ) → p b ≡ false → (32 ≤ b) × (b < 127)) → (s : List ℕ) → IsBytes s
-    → printable (percent_encoding p s)
-encoded_printable p outside [] h = subst printable (sym (encoded_nil p)) tt
+    → AllByRecursion (λ b. (32 ≤ b) × (b < 127)) (percent_encoding p s)
+encoded_printable p outside [] h = rw (encoded_nil p) tt
 encoded_printable p outside (b ∷ s) h = grind (arith, encoded_cons, encoded_printable p outside s h.1)
 
 -- each byte of the serialised text of a header is a printable ASCII character
-header_all : (s : List ℕ) → IsBytes s → printable (header_text s)
-header_all [] h = subst printable (sym header_nil) tt
+header_all : (s : List ℕ) → IsBytes s → AllByRecursion (λ b. (32 ≤ b) × (b < 127)) (header_text s)
+header_all [] h = rw header_nil tt
 header_all (b ∷ s) h = grind (arith, header_query, encoded_printable, header_path, header_all s h.1)
-
--- if each byte of a text is printable, the byte at each index is
-printable_at : (s : List ℕ) → printable s → IsPrintable s
-printable_at [] h i l = absurd (omega arith)
-printable_at (b ∷ s) h zero l = (h.0, h.1)
-printable_at (b ∷ s) h (suc i) l = printable_at s h.2 i (omega arith)
 
 -- the serialised text of a header of bytes is printable
 pub header_text_printable : (s : List ℕ) → IsBytes s → IsPrintable (header_text s)
-header_text_printable s h = printable_at (header_text s) (header_all s h)
-
--- Parts of printable texts
+header_text_printable s h i l =
+    All-from_recursion (λ b. (32 ≤ b) × (b < 127)) (header_text s) (header_all s h) i 0 l
 
 -- the first n bytes of a printable text are printable
 pub printable_take : (n : ℕ) (s : List ℕ) → IsPrintable s → IsPrintable (take n s)
 printable_take n s h i l = grind (arith, length-take, get_or-take)
-
--- Spaces are the only low bytes
 
 -- in a printable text, the longest prefix of C0 controls and spaces is as long as that of spaces
 low_front : (s : List ℕ) → IsPrintable s → prefix_len is_c0_control_or_space s ≡ prefix_len is_space s
@@ -91,19 +72,19 @@ pub trimmed_is_stripped : (s : List ℕ) → IsPrintable s → trimmed_text s �
 unfolding trimmed_text stripped_header
 trimmed_is_stripped s h = grind (arith, low_front, low_end, get_or-drop, length-drop)
 
--- a printable text without spaces at both ends is printable
-pub printable_stripped : (s : List ℕ) → IsPrintable s → IsPrintable (stripped_header s)
-unfolding stripped_header
-printable_stripped s h = grind (arith, printable_take, get_or-drop, length-drop)
+-- a printable text without C0 controls and spaces at both ends is printable
+pub printable_trimmed : (s : List ℕ) → IsPrintable s → IsPrintable (trimmed_text s)
+unfolding trimmed_text
+printable_trimmed s h = grind (arith, printable_take, get_or-drop, length-drop)
 
--- From the input, cut after its scheme and at its first comma, to the stages of the Standard.
+-- a number below 256
+abbrev is_byte : ℕ → Type 0
+is_byte b = b < 256
 
--- Bytes
-
--- if a ++ b is a text of bytes, so are a and b
-pub bytes_append : (a b : List ℕ) → IsBytes (a ++ b) → IsBytes a × IsBytes b
-bytes_append [] b h = (tt, h)
-bytes_append (x ∷ a) b h = let k = bytes_append a b h.1 in ((h.0, k.0), k.1)
+-- a text of bytes without its first n bytes is a text of bytes
+bytes_drop : (n : ℕ) (s : List ℕ) → IsBytes s → IsBytes (drop n s)
+bytes_drop n s h =
+    recursion_from_All is_byte (drop n s) (All-drop is_byte n s (All-from_recursion is_byte s h))
 
 -- a text of bytes without tabs and newlines is a text of bytes
 pub bytes_dropped : (s : List ℕ) → IsBytes s → IsBytes (without_tabs_and_newlines s)
@@ -115,8 +96,6 @@ pub bytes_before : (c : ℕ) (s : List ℕ) → IsBytes s → IsBytes (before c 
 unfolding before
 bytes_before c [] h = tt
 bytes_before c (b ∷ s) h = grind (arith, bytes_before c s h.1)
-
--- The scheme has no comma
 
 -- if a text in lower case has no comma, the text has none
 pub lacks_comma : (d : List ℕ) → after 44 (map to_ascii_lowercase d) ≡ None → after 44 d ≡ None
@@ -147,8 +126,6 @@ scheme_has_no_comma scheme e = elim (none_or_some (after 44 scheme)) [
       )
 ]
 
--- After the scheme
-
 -- if the trimmed text is the scheme and then rest, the text after the scheme is rest without tabs and newlines
 after_is : (t rest : List ℕ) (h : IsSchemeAndRest (trimmed_text t) rest)
     → after_scheme t ≡ Some (without_tabs_and_newlines rest)
@@ -162,13 +139,6 @@ after_is t rest h =
       take_at s (without_tabs_and_newlines rest) 5 five,
       drop_at s (without_tabs_and_newlines rest) 5 five,
     )
-
--- if the trimmed text does not begin with the scheme, there is no text after the scheme
-after_none : (t : List ℕ) → HasNoScheme (trimmed_text t) → after_scheme t ≡ None
-unfolding after_scheme cleaned_text
-after_none t h = grind arith
-
--- Header, body and fragment
 
 -- a text that is cut at its first comma is so without tabs and newlines
 dropped_parts : {rest header tail : List ℕ} → IsHeaderAndTail rest header tail
@@ -240,8 +210,6 @@ is_accepted t rest header tail b s h =
       tail_is = grind (arith, after-append, scheme_has_no_comma, after_at);
     }
 
--- No comma
-
 -- a text of which what follows the scheme has no comma before its first '#' has no header
 no_header : (t a : List ℕ) → after_scheme t ≡ Some a → IsBytes a → after 44 (front a) ≡ None → header_of t ≡ None
 unfolding header_of front
@@ -259,23 +227,15 @@ front_lacks rest h = elim (none_or_some (after 35 rest)) [
   | inr (x, e) ↦ grind (arith, is_cut 35 rest x e, dropped_around, before_at, after-dropped_none)
 ]
 
--- The record of a header.
-
 -- a list is a text of bytes if the number at each place is below 256
 pub bytes_by_place : (s : List ℕ) → ((i : ℕ) → get_or s i 0 < 256) → IsBytes s
 bytes_by_place [] h = tt
 bytes_by_place (b ∷ s) h = (h 0, bytes_by_place s (λ i. h (suc i)))
 
--- The default record
-
 -- if a text has no record, the default record is the record for it
 pub default_for : (s : List ℕ) (m : Record) → HasNoRecord s → m ≡ default_record → IsRecordFor s m
 unfolding on_literals
 default_for s m n e = grind arith
-
--- a well-formed record that a text parses to is the record for it
-pub parsed_for : (s : List ℕ) (m : Record) → Parses s m → IsWellformed m → IsRecordFor s m
-parsed_for s m p w = grind arith
 
 -- the record of "text", "plain", and the parameter "charset" with the value "US-ASCII" is the default record
 pub default_is : (type_ subtype charset value : List ℕ) → type_ ≡ codes "text" → subtype ≡ codes "plain"
@@ -288,99 +248,49 @@ pub default_is : (type_ subtype charset value : List ℕ) → type_ ≡ codes "t
 unfolding chars
 default_is type_ subtype charset value a b c d = grind arith
 
--- A type that is missing
-
--- a text that does not begin with ';' stays as it is
-pub plain_stays : (media : List ℕ) → get_or media 0 0 ≢ 59 → with_plain media ≡ media
-plain_stays [] n = refl
-plain_stays (c ∷ s) n = grind arith
-
--- a text that begins with ';' has "text/plain" put before it
-pub plain_added : (media : List ℕ) → get_or media 0 0 ≡ 59 → with_plain media ≡ codes "text/plain" ++ media
-plain_added [] h = absurd (omega (arith, h))
-plain_added (c ∷ s) h = grind arith
-
 -- the code points of printable bytes are the bytes
 pub chars_printable : (s : List ℕ) → IsPrintable s → chars s ≡ s
 chars_printable s h = grind (arith, chars-IsAscii, get_or_past)
 
--- The suffix
+-- a printable text that does not begin with ';' stays as it is
+pub plain_stays : (media : List ℕ) → IsPrintable media → get_or media 0 0 ≢ 59 → chars media ≡ with_plain media
+plain_stays [] p n = chars_printable [] p
+plain_stays (c ∷ s) p n = grind (arith, chars_printable (c ∷ s) p)
 
--- if media is the text before the base64 suffix of a header, the record for `with_plain media` is the record of the
--- header, and its flag is true
-pub with_suffix : (header media : List ℕ) (m : Record) → before_base64 (stripped_header header) ≡ Some media
-    → IsRecordFor (with_plain media) m → IsHeaderOf header m true
+-- a printable text that begins with ';' has "text/plain" put before it
+pub plain_added : (media : List ℕ) → IsPrintable media → get_or media 0 0 ≡ 59
+    → codes "text/plain" ++ chars media ≡ with_plain media
+plain_added [] p h = absurd (omega (arith, h))
+plain_added (c ∷ s) p h = grind (arith, chars_printable (c ∷ s) p)
+
+-- if s is a printable header without C0 controls and spaces at both ends, and o is the text before its base64 suffix,
+-- the record for `with_plain` of o, or of s if there is none, is the record of the header; the flag is that of o
+pub suffix_is : (header s : List ℕ) (o : Option (List ℕ)) (m : Record) → IsPrintable header → s ≡ trimmed_text header
+    → o ≡ before_base64 s → IsRecordFor (with_plain (unwrap_or o s)) m → IsHeaderOf header m (is_some o)
 unfolding mime_text media_of has_base64_suffix
-with_suffix header media m e h = grind arith
+suffix_is header s o m p e f h =
+    let t = trimmed_is_stripped header p in
+    record { record_is = rw (← t, ← e, ← f) h; base64_is = cc }
 
--- if a header has no base64 suffix, the record for `with_plain` of the stripped header is the record of the header, and
--- its flag is false
-pub no_suffix : (header : List ℕ) (m : Record) → before_base64 (stripped_header header) ≡ None
-    → IsRecordFor (with_plain (stripped_header header)) m → IsHeaderOf header m false
-unfolding mime_text media_of has_base64_suffix
-no_suffix header m e h = grind arith
-
--- The head of a MIME type whose type is missing: that of "text/plain" with the parameters after it.
-
--- The head
-
--- if t ++ back is empty or begins with ';', t is empty or begins with ';'
-front_begins : (t back : List ℕ) → BeginsParameters (t ++ back) → BeginsParameters t
-front_begins [] back h = tt
-front_begins (c ∷ t) back h = h
-
--- after a code point that does not pass
-ends_after : (p : ℕ → _) (c : ℕ) (t : List ℕ) → p c ≡ false → DoesNotEnd p t → DoesNotEnd p (c ∷ t)
-ends_after p c [] n h = n
-ends_after p c (d ∷ t) n h = h
-
--- if s is empty or begins with ';', "text/plain" ++ s has the type "text", the subtype "plain" and, as the text of its
--- parameters, s without HTTP whitespace at its end
-pub plain_head_is : (s t : List ℕ) → BeginsParameters s → IsTrimmedEnd is_http_whitespace s t
-    → IsHead (codes "text/plain" ++ s) (chars (codes "text")) (chars (codes "plain")) t
-unfolding on_literals chars
-plain_head_is s t b e = record {
-  gap = [];
-  joined = sym (trimmed_end_is is_http_whitespace (codes "text/plain" ++ s) (codes "text/plain" ++ t) (record {
-    back = e.back;
-    joined = ap (λ x. codes "text/plain" ++ x) e.joined;
-    at_back = e.at_back;
-    ends = ends_after is_http_whitespace 110 t refl e.ends;
-  }));
-  is_type = refl;
-  is_subtype = refl;
-  in_gap = tt;
-  begins = front_begins t e.back (subst BeginsParameters e.joined b);
-}
-
--- A type that is missing
+-- the record of the parts of a text is the record for it
+pub parts_for : {s x a b c : List ℕ} (m : Record) → s ≡ x → IsHead s a b c → IsRecordOfParts a b c m → IsRecordFor x m
+parts_for {s} {x} {a} {b} {c} m e h p =
+    let q = subst (λ t. Parses t m) e (parses_parts s a b c m h p) in
+    record { is_record = inl q; wellformed = parses_wellformed x m q }
 
 -- a text with ';' at index 0 begins with ';'
 pub begins_at : (s : List ℕ) → get_or s 0 0 ≡ 59 → BeginsParameters s
 begins_at [] h = tt
 begins_at (c ∷ s) h = h
 
--- if a printable text begins with ';', the record of the parts of "text/plain" and the text is the record for
--- `with_plain` of the text
-pub plain_record : (media a b c : List ℕ) (m : Record) → IsPrintable media → get_or media 0 0 ≡ 59
-    → IsHead (codes "text/plain" ++ chars media) a b c → IsRecordOfParts a b c m → IsRecordFor (with_plain media) m
-plain_record media a b c m h e head record_is =
-    let same : codes "text/plain" ++ chars media ≡ with_plain media =
-    ap (λ s. codes "text/plain" ++ s) (chars_printable media h) ∙ sym (plain_added media e) in
-    let parsed : Parses (with_plain media) m =
-    subst (λ s. Parses s m) same (parses_parts (codes "text/plain" ++ chars media) a b c m head record_is) in
-    parsed_for (with_plain media) m parsed (parses_wellformed (with_plain media) m parsed)
-
--- A text is accepted exactly if the Standard's data: URL processor accepts it.
-
 -- if the trimmed text does not begin with the scheme, the Standard finds no scheme
 pub stages_no_scheme : (t : List ℕ) → HasNoScheme (trimmed_text t) → staged t ≡ NoScheme
-unfolding staged
-stages_no_scheme t h = cc (after_none t h)
+unfolding staged after_scheme cleaned_text
+stages_no_scheme t h = rw h refl
 
 -- if the trimmed text is a text of bytes, so is the rest after its scheme
 pub rest_bytes : (t rest : List ℕ) → IsBytes (trimmed_text t) → IsSchemeAndRest (trimmed_text t) rest → IsBytes rest
-rest_bytes t rest b s = grind (arith, bytes_append)
+rest_bytes t rest b s = subst IsBytes (drop-append_seam s.scheme rest) (bytes_drop _ _ (subst IsBytes s.joined b))
 
 -- if the trimmed text has the scheme, and there is no comma in the rest before its first '#', the Standard finds no
 -- comma
@@ -428,24 +338,11 @@ is_url_of t rest header u b s h k =
       staged_is = stages_accepted t rest header (url_tail u) b s h (is_base64 u) k.base64_is;
     }
 
--- a text of bytes without its first n bytes is a text of bytes
-bytes_drop : (n : ℕ) (s : List ℕ) → IsBytes s → IsBytes (drop n s)
-bytes_drop zero s h = h
-bytes_drop (suc n) [] h = tt
-bytes_drop (suc n) (b ∷ s) h = bytes_drop n s h.1
-
--- the first n bytes of a text of bytes are a text of bytes
-bytes_take : (n : ℕ) (s : List ℕ) → IsBytes s → IsBytes (take n s)
-bytes_take zero s h = tt
-bytes_take (suc n) [] h = tt
-bytes_take (suc n) (b ∷ s) h = (h.0, bytes_take n s h.1)
-
 -- if each number of a text is below 256, the trimmed text is a text of bytes
 pub bytes_trimmed : (t : List ℕ) → ((i : ℕ) → get_or t i 0 < 256) → IsBytes (trimmed_text t)
 unfolding trimmed_text
-bytes_trimmed t h = grind (arith, bytes_take, bytes_drop, bytes_by_place)
-
--- The body and the fragment of a URL
+bytes_trimmed t h = recursion_from_All is_byte (trimmed_text t)
+    (All-take is_byte _ _ (All-drop is_byte _ t (All-from_get_or is_byte t 0 (λ i l. h i))))
 
 -- if there is a comma before the first '#', there is no '#' before the first comma
 comma_first : (s x : List ℕ) → after 44 (before 35 s) ≡ Some x → after 35 (before 44 s) ≡ None

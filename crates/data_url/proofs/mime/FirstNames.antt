@@ -1,8 +1,8 @@
 -- Which parameters are kept: the first of each name. For `kept.rt`, and that a record is well formed.
-use Rattle.std.proofs.Common.{◌≡◌, ℕ, List, String, ap, length, map, min, sym, take, ◌∙◌, ◌<◌, ◌||◌, ◌&&◌, Bool}
-use Rattle.std.proofs.Common.{true, false, cond, [], ◌∷◌, ◌++◌, get_or, drop, Option, None, Some, refl, ap₂, subst}
-use Rattle.std.proofs.Common.{Global, drop-cons, add-one, ◌+◌, append_assoc, append-nil, arith, inl, inr, ◌≤◌, not}
-use Rattle.std.proofs.Common.{string_bytes}
+use Rattle.std.proofs.Common.{◌≡◌, ℕ, List, String, ap, length, map, min, sym, take, ◌∙◌, ◌<◌, ◌||◌, ◌&&◌, Bool, true}
+use Rattle.std.proofs.Common.{false, cond, [], ◌∷◌, ◌++◌, get_or, drop, Option, None, Some, refl, ap₂, subst, Global}
+use Rattle.std.proofs.Common.{drop-cons, add-one, ◌+◌, append_assoc, append-nil, arith, inl, inr, ◌≤◌, not}
+use Rattle.std.proofs.Common.{string_bytes, ◌⊎◌}
 use Rattle.std.proofs.lemmas.List.{length-map, take-map, take_min, get_or-take, length-take, map-append, drop-append-le}
 use Rattle.std.proofs.lemmas.List.{length-append, take-append-drop}
 use Rattle.data_url.specs.Mime.{has_name, BeginsParameters, Item, Items, Pair, first_of_each_name, is_lowercase_name}
@@ -13,8 +13,7 @@ use Rattle.data_url.specs.Steps.Kept.{first_of, pairs_of, HasLaterNames, IsIndex
 use Rattle.data_url.specs.declared.mime.kept.KeptParameters.{KeptParameters}
 use Rattle.data_url.specs.declared.mime.kept.TheConstants.{LOOKED_THROUGH}
 use Rattle.std.proofs.lemmas.Bool.{cond-true, not-false, not-true, agree_below_at, and_from, and_parts, cases_lt}
-use Rattle.std.proofs.lemmas.Bool.{cond_both}
-use Rattle.std.proofs.lemmas.Bool.{false_from_ne_true}
+use Rattle.std.proofs.lemmas.Bool.{cond_both, false_from_ne_true}
 use Rattle.std.proofs.lemmas.List.Folds.{list_all-append, list_all-map, list_all_at, list_any-append}
 use Rattle.std.proofs.lemmas.Slice.Eq.{bytes_eq-Decides}
 use Rattle.std.proofs.lemmas.Str.{chars-IsAscii, chars-nil, IsUtf8-string_bytes}
@@ -36,8 +35,7 @@ use Rattle.std.specs.Cmp.Lexicographic.{slice_cmp}
 use Rattle.std.specs.Ordering.{nat_cmp}
 use Rattle.std.specs.String.{string_cmp}
 use Rattle.data_url.proofs.mime.Items.{has_items, has_parameter, items_are, items_in, rest_shorter}
-
--- Names that are searched among the first pairs that are kept.
+use Rattle.data_url.proofs.texts.CodePoints.{no_chars}
 
 -- the pairs that are searched one by one are the first ones
 pub among_first : (n : List ℕ) (items : List (String _ × String _)) (kept : KeptParameters) (k : ℕ)
@@ -45,23 +43,9 @@ pub among_first : (n : List ℕ) (items : List (String _ × String _)) (kept : K
     → has_name n (map (λ p. pair_of p) (take k items)) ≡ has_name n (first_of (pairs_of kept))
 among_first n items kept k e f = cc (take_min LOOKED_THROUGH items, take-map (λ p. pair_of p) LOOKED_THROUGH items)
 
--- Which pairs are kept.
-
--- Equality of texts as a test
-
--- if the test of equality is true, two texts are equal
-pub equal_from_test : (a c : List ℕ) → bytes_eq a c ≡ true → a ≡ c
-equal_from_test a c h = (bytes_eq-Decides a c).0 h
-
--- if two texts are equal, the test of equality is true
-pub test_from_equal : (a c : List ℕ) → a ≡ c → bytes_eq a c ≡ true
-test_from_equal a c e = (bytes_eq-Decides a c).1 e
-
 -- for texts that are not equal, the test of equality is false
 pub test_from_different : (a c : List ℕ) → (a ≡ c → ⊥) → bytes_eq a c ≡ false
-test_from_different a c n = grind (arith, false_from_ne_true, equal_from_test)
-
--- Names in lower case
+test_from_different a c n = grind (arith, false_from_ne_true, bytes_eq-Decides)
 
 -- a code point in lower case is a token code point exactly if the code point is
 token_lower : (c : ℕ) → is_token (to_ascii_lowercase c) ≡ is_token c
@@ -88,7 +72,7 @@ lower_twice (c ∷ t) = ap₂ (λ x y. x ∷ y) (lowercase-lowercase c) (lower_t
 
 -- a token text in lower case is a lower-case name
 pub lowercase_name : (t : List ℕ) → is_token_text t ≡ true → is_lowercase_name (map to_ascii_lowercase t) ≡ true
-lowercase_name t h = grind (arith, token_text_lower, test_from_equal, lower_twice)
+lowercase_name t h = grind (arith, token_text_lower, bytes_eq-Decides, lower_twice)
 
 -- the code points of a token text whose bytes are put into lower case are its code points in lower case
 pub lower_chars : (bs : List ℕ) → IsUtf8 bs → is_token_text (chars bs) ≡ true
@@ -100,41 +84,24 @@ lower_chars bs u h =
       chars-IsAscii bs a,
     )
 
--- Names compared in any case
-
 -- a lower-case name in lower case is the name itself
 pub lower_is_itself : (t : List ℕ) → is_lowercase_name t ≡ true → map to_ascii_lowercase t ≡ t
-lower_is_itself t h = grind (arith, equal_from_test)
-
--- a lower-case name is a token text
-pub lowercase_token : (t : List ℕ) → is_lowercase_name t ≡ true → is_token_text t ≡ true
-lowercase_token t h = grind (arith, and_parts)
+lower_is_itself t h = grind (arith, bytes_eq-Decides)
 
 -- a token text has at least one byte
 pub some_byte : (n : List ℕ) → is_token_text (chars n) ≡ true → 0 < length n
 some_byte [] h = grind (arith, chars-nil)
 some_byte (b ∷ n) h = omega arith
 
--- One step of the look-up
-
 module _ {kept : KeptParameters} {all : List (String Global × String Global)} (k i : ℕ)
     {item : String Global × String Global} {key : List ℕ} (x : IsIndexed kept) (e : all ≡ kept.pairs.items)
     (l : i < length (take k all)) (g : item ≡ get_or (take k all) i item) (f : key ≡ string_bytes item.0) where
   -- the name at index i of the first k pairs is its bytes, which are in lower case
-  key_is : (map to_ascii_lowercase key ≡ key) × (key ≡ code_points item.0)
+  pub key_is : (map to_ascii_lowercase key ≡ key) × (key ≡ code_points item.0)
   key_is =
-      let h : is_lowercase_name (code_points item.0) ≡ true = grind (
-        arith,
-        list_all_at,
-        list_all-map,
-        get_or-take,
-        length-take,
-      ) in
+      let h : is_lowercase_name (code_points item.0) ≡ true =
+      grind (arith, list_all_at, list_all-map, get_or-take, length-take) in
       grind (arith, lower_is_itself, bytes_of_ascii, token_text_ascii, IsUtf8-string_bytes)
-
-  -- it is in lower case
-  pub key_lower : map to_ascii_lowercase key ≡ key
-  key_lower = key_is.0
 
   -- one of the pairs from there on has a token text in lower case if the key is this text, or a later one has it
   pub key_next : (n : List ℕ) (r : Bool) → IsUtf8 n → is_token_text (chars n) ≡ true
@@ -143,8 +110,6 @@ module _ {kept : KeptParameters} {all : List (String Global × String Global)} (
       ≡ (r || has_name (map to_ascii_lowercase (chars n)) (map (λ p. pair_of p) (drop (i + 1) (take k all))))
   key_next n r u t d =
       grind (arith, bytes_of_ascii, token_text_ascii, drop-cons, key_is, add-one, same_from_decides, bytes_eq-Decides)
-
--- The pairs that are kept with one more item
 
 -- one of the pairs has a name after p is pushed exactly if one had it before, or p has it
 has_pushed : (n : List ℕ) (xs : List Pair) (p : Pair)
@@ -157,14 +122,10 @@ first_same : (e e' ps : List Pair) → ((n : List ℕ) → has_name n e ≡ has_
 first_same e e' [] h = refl
 first_same e e' (q ∷ ps) h = grind (arith, has_pushed, first_same (e ++ (q ∷ [])) (e' ++ (q ∷ [])) ps)
 
--- if the pairs have the name of q, they have each name that is equal to it
-named : (n : List ℕ) (e : List Pair) (q : Pair) → has_name q.0 e ≡ true → bytes_eq q.0 n ≡ true → has_name n e ≡ true
-named n e q h t = ap (λ x. has_name x e) (sym (equal_from_test q.0 n t)) ∙ h
-
 -- and they have the same names with q pushed
 known_pushed : (n : List ℕ) (e : List Pair) (q : Pair) → has_name q.0 e ≡ true
     → has_name n (e ++ (q ∷ [])) ≡ has_name n e
-known_pushed n e q h = grind (arith, has_pushed, named n e q)
+known_pushed n e q h = grind (arith, has_pushed, bytes_eq-Decides)
 
 -- after the pairs that an item adds come the first pairs of each name that are left
 first_step : (pairs : List Pair) (item : Item) (ps : List Pair) → first_of_each_name pairs (valid_of item ++ ps)
@@ -178,31 +139,22 @@ first_or_later : (n : List ℕ) (pairs : List Pair)
 first_or_later n pairs = ap (has_name n) (sym (take-append-drop LOOKED_THROUGH pairs))
     ∙ list_any-append (λ (p : Pair). bytes_eq p.0 n) (first_of pairs) (drop LOOKED_THROUGH pairs)
 
--- What the parser keeps for one parameter
-
 -- if no pair is added, the pairs stay the same
 pub none_added : {A B : Type 0} (pairs : List (String A × String B)) (more : List Pair) → more ≡ []
     → map (λ p. pair_of p) pairs ≡ map (λ p. pair_of p) pairs ++ more
 none_added pairs more e = grind (arith, append-nil)
 
--- a name that is not a token text has no pair
-pub invalid_name : (name : List ℕ) (value : Option (List ℕ)) → is_token_text name ≡ false → pair_if name value ≡ []
-invalid_name name None h = refl
-invalid_name name (Some v) h = grind arith
-
--- if one of the first pairs has a name, no pair of that name is added
-pub known_name : (xs : List Pair) (name : List ℕ) (value : Option (List ℕ)) → has_name name (first_of xs) ≡ true
-    → unless_named xs (pair_if name value) ≡ []
-known_name xs name None h = refl
-known_name xs name (Some v) h = let all = first_or_later name xs in grind arith
+-- no pair of a name is added if it is not a token text, or one of the first pairs has it
+pub not_kept : (xs : List Pair) (name : List ℕ) (value : Option (List ℕ))
+    → (is_token_text name ≡ false) ⊎ (has_name name (first_of xs) ≡ true) → unless_named xs (pair_if name value) ≡ []
+not_kept xs name None h = refl
+not_kept xs name (Some v) h = let all = first_or_later name xs in grind arith
 
 -- the pair of a token text in lower case and a value
 pub new_pair : (n name value : List ℕ) (o : Option (List ℕ)) (b : Bool) → b ≡ is_token_text n → b ≡ true
     → name ≡ map to_ascii_lowercase n → ◌≡◌ {A = Option (List ℕ)} (Some value) o
     → (name, value) ∷ [] ≡ pair_if (map to_ascii_lowercase n) o
 new_pair n name value o b e h f v = grind (arith, token_text_lower)
-
--- The parser's loop over the parameters
 
 -- the pairs and the first pairs of each name in the rest are those kept of the items of the whole text
 pub record KeepsOn (whole rest : List ℕ) (pairs : List Pair) : Type 0 where
@@ -237,17 +189,6 @@ pub keeps_end : {whole rest : List ℕ} {pairs : List Pair} → KeepsOn whole re
 keeps_end {whole} {rest = []} {pairs = pairs} k w e = grind (arith, items_in, has_items, append-nil)
 keeps_end {rest = c ∷ rest} k w e = grind arith
 
--- Which names the first pairs and the set of later names have.
-
--- The first pairs and the others
-
--- if none of the first pairs has a name, one of all pairs has it exactly if one of the later pairs has it
-pub named_later : (n : List ℕ) (pairs : List Pair) → has_name n (first_of pairs) ≡ false
-    → has_name n pairs ≡ has_name n (drop LOOKED_THROUGH pairs)
-named_later n pairs h = grind (arith, first_or_later)
-
--- The set of later names
-
 -- a name in lower case is its bytes
 pub lowercase_bytes : {A : Type 0} (name : String A) → is_lowercase_name (code_points name) ≡ true
     → string_bytes name ≡ code_points name
@@ -258,19 +199,16 @@ pub few_names : (n : List ℕ) (pairs : List Pair) → length pairs ≤ LOOKED_T
     → has_name n (drop LOOKED_THROUGH pairs) ≡ false
 few_names n pairs l = ap (has_name n) (drop_of_length-le pairs l)
 
--- the choice of true if b is true, and x otherwise, is `x || b`
-or_cond : (b x : Bool) → cond b true x ≡ (x || b)
-or_cond b x = grind arith
-
 -- if a new pair comes after the first pairs, and its name is put into the set, the set has the names of the later pairs
 pub later_names : {A : Type 0} (later later' : BTreeSet (String A)) (pairs : List Pair) (p : Pair) (name : String A)
     → LOOKED_THROUGH ≤ length pairs → HasLaterNames later pairs → string_bytes name ≡ p.0
     → UpdatesBy string_cmp (λ k. slice_cmp nat_cmp (string_bytes name) (string_bytes k)) later later' true
     → HasLaterNames later' (pairs ++ (p ∷ []))
 later_names later later' pairs p name l h e u n =
+    let choice : cond (bytes_eq (string_bytes name) n) true (contains_text later n)
+    ≡ (contains_text later n || bytes_eq (string_bytes name) n) = grind arith in
     cc (
       btree_set_updates_text (string_bytes name) later later' true u n,
-      or_cond (bytes_eq (string_bytes name) n) (contains_text later n),
       h n,
       has_pushed n (drop LOOKED_THROUGH pairs) p,
       drop-append-le LOOKED_THROUGH pairs (p ∷ []) l,
@@ -293,8 +231,8 @@ module _ {old : KeptParameters} (name value : String Global) (x : IsIndexed old)
         → (pairs_of kept ≡ pairs_of old ++ unless_named (pairs_of old) (pair_of (name, value) ∷ [])) × IsIndexed kept
     pushed_first kept l e f =
         let len = length-map old.pairs.items (λ q. pair_of q) in
-        pushes kept (named_later (code_points name) (pairs_of old) new ∙ few_names (code_points name) (pairs_of old)
-        (omega arith))
+        pushes kept (first_or_later (code_points name) (pairs_of old) ∙ ap₂ (λ a b. a || b) new
+        (few_names (code_points name) (pairs_of old) (omega arith)))
         e (λ n. ap (λ s. contains_text s n) f ∙ x.later n ∙ few_names n (pairs_of old) (omega arith)
         ∙ sym (few_names n (pairs_of old ++ (pair_of (name, value) ∷ [])) (simp length-append (omega arith))))
 
@@ -303,12 +241,9 @@ module _ {old : KeptParameters} (name value : String Global) (x : IsIndexed old)
       -- the set has the name exactly if one of the pairs has it
       set_knows : b ≡ not (has_name (code_points name) (pairs_of old))
       set_knows =
-          cc (
-            x.later (string_bytes copy),
-            named_later (code_points name)
-                (pairs_of old) new,
-            lowercase_bytes name lower,
-          )
+          let known = first_or_later (code_points name) (pairs_of old) in
+          let later = x.later (string_bytes copy) in
+          grind (arith, lowercase_bytes name lower)
 
       -- if the set has the name, the pair is not added
       pub not_pushed : b ≡ false → pairs_of old ≡ pairs_of old ++ unless_named (pairs_of old) (pair_of
@@ -326,10 +261,6 @@ module _ {old : KeptParameters} (name value : String Global) (x : IsIndexed old)
           pushes kept (not-true _ (sym set_knows ∙ t)) e (later_names old.later_names kept.later_names (pairs_of old)
           (pair_of (name, value)) copy (omega arith) x.later (same ∙ lowercase_bytes name lower) u)
 
--- The record of a text is well-formed, and a text with a head has a record.
-
--- What is true of each valid pair is true of each pair that is kept
-
 -- what is true of each pair is true of the first pairs of each name
 first_all : (p : Pair → Bool) (e ps : List Pair) → list_all p ps ≡ true → list_all p (first_of_each_name e ps) ≡ true
 first_all p e [] h = refl
@@ -345,30 +276,20 @@ all_lower : (r : List ℕ) (items : List Item) → Items r items → HasLowercas
 all_lower r [] h = refl
 all_lower r (item ∷ items) h = grind (arith, lowercase_name, token_text_lower, items, all_lower h.1 items h.4)
 
--- No name is kept twice
-
--- if one of the pairs has a name, one of them has it after a pair is pushed
-pushed_has : (n : List ℕ) (e : List Pair) (q : Pair) → has_name n e ≡ true → has_name n (e ++ (q ∷ [])) ≡ true
-pushed_has n e q h = grind (arith, has_pushed)
-
 -- if one of the earlier pairs has a name, none of the first pairs of each name that follow has it
 none_again : (n : List ℕ) (e ps : List Pair) → has_name n e ≡ true → has_name n (first_of_each_name e ps) ≡ false
 none_again n e [] h = refl
 none_again n e (q ∷ ps) h =
-    search (arith, none_again n (e ++ (q ∷ [])) ps (pushed_has n e q h), equal_from_test)
+    search (arith, none_again n (e ++ (q ∷ [])) ps (grind (arith, has_pushed)), bytes_eq-Decides)
 
 -- no two of the first pairs of each name have equal names
 first_distinct : (e ps : List Pair) → has_distinct_names (first_of_each_name e ps) ≡ true
 first_distinct e [] = refl
-first_distinct e (q ∷ ps) = grind (arith, none_again, has_pushed, test_from_equal, first_distinct (e ++ (q ∷ [])) ps)
-
--- Each record of a text is well-formed
+first_distinct e (q ∷ ps) = grind (arith, none_again, has_pushed, bytes_eq-Decides, first_distinct (e ++ (q ∷ [])) ps)
 
 -- each record that a text parses to is well-formed
 pub parses_wellformed : (s : List ℕ) (m : Record) → Parses s m → IsWellformed m
 parses_wellformed s m h = grind (arith, lowercase_name, first_all, all_lower, first_distinct, all_quotable)
-
--- A text with a head has a record
 
 -- a text that has a head parses to the record of the parts of that head
 pub parses_parts : (s a b c : List ℕ) (m : Record) → IsHead s a b c → IsRecordOfParts a b c m → Parses s m
@@ -379,20 +300,11 @@ pub has_record : (s a b c : List ℕ) → IsHead s a b c → HasNoRecord s → �
 has_record s a b c h n =
     let items = items_in (length c) c in
     n (record { type_ = map to_ascii_lowercase a; subtype = map to_ascii_lowercase b; parameters = kept_pairs items })
-    (record {
-      type_ = a;
-      subtype = b;
-      parameters = c;
-      head = h;
-      record_is = record {
-        items = items;
-        items_are = has_items c h.begins;
-        type_is = refl;
-        subtype_is = refl;
-        parameters_are = refl;
-      };
-    })
+    (parses_parts s a b c _ h (search (arith, has_items c h.begins)))
 
 -- a text that has no head has no record
 pub no_record : (s : List ℕ) → HasNoHead s → HasNoRecord s
 no_record s n m h = n h.type_ h.subtype h.parameters h.head
+
+-- the lemmas for `read_parameters`
+pub ruleset parameters = (rest_shorter, mark_is, no_chars, keeps_end)

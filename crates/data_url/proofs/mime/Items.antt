@@ -1,24 +1,19 @@
 -- A text has one list of items, and at most one record.
-use Rattle.std.proofs.Common.{◌≡◌, ℕ, zero, suc, ◌≤◌, ◌==◌, Bool, false, cond, List, [], ◌∷◌, ◌++◌, Option, true}
-use Rattle.std.proofs.Common.{None, Some, length, refl, sym, ap, ◌∙◌, subst, append_assoc, append-nil, arith, drop}
-use Rattle.std.proofs.Common.{take, one-add, ◌+◌}
-use Rattle.std.proofs.Common.{length-append, eqb-true, take-append-drop}
+use Rattle.std.proofs.Common.{◌≡◌, ℕ, zero, suc, ◌≤◌, ◌==◌, Bool, false, cond, List, [], ◌∷◌, ◌++◌, Option, true, None}
+use Rattle.std.proofs.Common.{Some, length, refl, sym, ap, ◌∙◌, subst, append_assoc, append-nil, arith, drop, take}
+use Rattle.std.proofs.Common.{one-add, ◌+◌, length-append, eqb-true, take-append-drop}
 use Rattle.std.proofs.lemmas.Bool.{not-false}
 use Rattle.std.specs.List.{prefix_len}
 use Rattle.data_url.specs.CodePoints.{is_http_whitespace, is_token}
-use Rattle.data_url.specs.Mime.{BeginsParameters, DoesNotBegin, Every, GivesValue, IsParameter, Item, Items}
-use Rattle.data_url.specs.Mime.{is_quote, lone_equals, nothing, plain, quoted, unclosed, unless_empty}
-use Rattle.data_url.specs.Mime.{IsHead, Record}
+use Rattle.data_url.specs.Mime.{BeginsParameters, DoesNotBegin, Every, GivesValue, IsParameter, Item, Items, is_quote}
+use Rattle.data_url.specs.Mime.{lone_equals, nothing, plain, quoted, unclosed, unless_empty, IsHead, Record}
 use Rattle.data_url.specs.Url.{without_end, without_front}
 use Rattle.data_url.specs.Facts.{HasOneItemList, HasAtMostOneRecord}
 use Rattle.data_url.specs.Steps.Parsing.{Reading, after_mark, front_of, given_reading, in_name, in_value, item_in}
-use Rattle.data_url.specs.Steps.Parsing.{named}
-use Rattle.data_url.specs.Steps.Parsing.{plain_reading, quoted_reading, reading, reading_from, reading_in}
+use Rattle.data_url.specs.Steps.Parsing.{named, plain_reading, quoted_reading, reading, reading_from, reading_in}
 use Rattle.data_url.proofs.texts.CodePoints.{after_begins, front_is, front_passes}
-use Rattle.data_url.proofs.mime.Quoted.{IsRead, closed_reading, is_closed, is_open, is_read, open_reading}
+use Rattle.data_url.proofs.mime.TokenTexts.{IsRead, closed_reading, is_closed, is_open, is_read, open_reading}
 use Rattle.data_url.proofs.mime.TokenTexts.{every_token}
-
--- Reading a text that gives a value returns that value
 
 -- if ';' does not pass, a text that is empty or begins with ';' does not begin with a code point that passes
 pub ends_of_rest : (p : ℕ → Bool) → p 59 ≡ false → (rest : List ℕ) → BeginsParameters rest → DoesNotBegin p rest
@@ -34,10 +29,6 @@ begins_from (c ∷ s) h = eqb-true c 59 (not-false (c == 59) h)
 pub not_begins_append : (p : ℕ → Bool) (a b : List ℕ) → DoesNotBegin p a → DoesNotBegin p b → DoesNotBegin p (a ++ b)
 not_begins_append p [] b h e = e
 not_begins_append p (c ∷ a) b h e = h
-
--- a text after its longest prefix without ';' is empty or begins with ';'
-begins_after : (s : List ℕ) → BeginsParameters (without_front in_value s)
-begins_after s = grind (arith, begins_from, after_begins)
 
 -- the reading of a text after a name
 abbrev pub reading_of : List ℕ → Reading
@@ -69,8 +60,6 @@ reading_is _ _ _ (quoted {value} {rest} text junk h e) b =
     )
 reading_is _ _ _ (unclosed {value} text h) b = rw (append-nil text) (open_reading text value h)
 
--- Each text after a name gives a value
-
 -- the value that is read is given by a text, which the rest follows
 pub record IsReading (x : List ℕ) (r : Reading) : Type 0 where
   pub tail : List ℕ
@@ -80,21 +69,17 @@ pub record IsReading (x : List ℕ) (r : Reading) : Type 0 where
 
 -- '=', '"' and a text give the value of the quoted string that is read from the text
 is_quoted_reading : (s : List ℕ) → IsRead s → IsReading (61 ∷ 34 ∷ s) (quoted_reading s)
-is_quoted_reading s (is_open v h) = subst (IsReading (61 ∷ 34 ∷ s)) (sym (open_reading s v h)) (record {
-  tail = 61 ∷ 34 ∷ s;
-  joined = sym (append-nil (61 ∷ 34 ∷ s));
-  gives = unclosed s h;
-  begins = tt;
-})
+is_quoted_reading s (is_open v h) = rw (open_reading s v h)
+    (record { tail = 61 ∷ 34 ∷ s; joined = sym (append-nil (61 ∷ 34 ∷ s)); gives = unclosed s h; begins = tt })
 is_quoted_reading s (is_closed q v w e h) =
     let junk = front_of in_value w in
     let after = without_front in_value w in
     let is : quoted_reading s ≡ record { value = Some v; rest = after } = cc (closed_reading q v w h) in
-    subst (IsReading (61 ∷ 34 ∷ s)) (sym is) (record {
+    rw is (record {
       tail = 61 ∷ 34 ∷ (q ++ 34 ∷ junk);
       joined = cc (take-append-drop (prefix_len in_value w) w, append_assoc q (34 ∷ junk) after);
       gives = quoted q junk h (front_passes in_value w);
-      begins = begins_after w;
+      begins = begins_from after (after_begins in_value w);
     })
 
 -- if a text does not begin with a code point that passes p, its longest prefix that passes q does not either
@@ -111,7 +96,7 @@ is_plain_reading s h = record {
   tail = 61 ∷ front_of in_value s;
   joined = ap (λ x. 61 ∷ x) (sym (take-append-drop (prefix_len in_value s) s));
   gives = plain (front_of in_value s) (front_passes in_value s) (not_begins_front is_quote in_value s h);
-  begins = begins_after s;
+  begins = begins_from (without_front in_value s) (after_begins in_value s);
 }
 
 -- '=' and any text give the value that is read from the text
@@ -132,8 +117,6 @@ is_reading (c ∷ s) h = elim (c == 61) as (λ v. (c == 61) ≡ v → IsReading 
       | true ↦ λ e. subst (λ d. IsReading (d ∷ s) (given_reading s)) (sym (eqb-true c 61 e)) (is_given_reading s)
       | false ↦ λ e. record { tail = []; joined = refl; gives = nothing; begins = grind arith }
     ] refl
-
--- One parameter, from after its ';'
 
 -- ';' and s are a parameter with this item, and then the rest
 pub record HasParameterBefore (s : List ℕ) (item : Item) (rest : List ℕ) : Type 0 where
@@ -195,8 +178,6 @@ parameter_is s text rest item h e b =
     let r = reading_is h.tail rest item.1 h.value_is b in
     grind (arith, h.name_is)
 
--- One list, and no other
-
 -- the items of a text, of which each parameter has a code point; at most n items
 abbrev pub items_in : ℕ → List ℕ → List Item
 items_in zero r = []
@@ -244,8 +225,6 @@ has_items r b = items_below (length r) r (omega arith) b
 -- a text that is empty or begins with ';' has exactly one list of items
 pub has_one_item_list : (r : List ℕ) → BeginsParameters r → HasOneItemList r
 has_one_item_list r b = grind (arith, has_items, items_are)
-
--- A text has at most one record.
 
 -- the text without the longest prefix and the longest suffix of code points that pass
 abbrev pub trimmed_of : (ℕ → Bool) → List ℕ → List ℕ

@@ -1,20 +1,179 @@
--- Type, subtype and parameters, as the parser cuts them. For `parse.rt` and `cuts.rt`.
-use Rattle.std.proofs.Common.{◌≡◌, ℕ, ◌==◌, true, false, List, [], ◌∷◌, ◌++◌, length, drop, None, encode_utf8, Some}
-use Rattle.std.proofs.Common.{encode_utf8_all, refl, ap, arith, map, Option, cond, eqb-true}
-use Rattle.std.proofs.Common.{take-append-drop}
-use Rattle.std.proofs.lemmas.Bool.{false≢true}
-use Rattle.std.specs.List.{prefix_len}
-use Rattle.std.proofs.lemmas.Str.{chars_past_char}
+-- What the parser cuts: values of parameters, type, subtype and parameters. For `parse.rt`, `values.rt`, `cuts.rt`.
+use Rattle.std.proofs.Common.{◌≡◌, ℕ, zero, suc, ◌+◌, ◌-◌, ◌<◌, ◌==◌, Bool, true, false, not, List, [], ◌∷◌, ◌++◌}
+use Rattle.std.proofs.Common.{length, take, drop, encode_utf8_all, refl, sym, ap, ◌∙◌, append_assoc, append-nil, arith}
+use Rattle.std.proofs.Common.{◌≤◌, ◌||◌, ◌⊎◌, None, Some, cond, nat_le, encode_utf8, map, Option, eqb-true}
+use Rattle.std.proofs.Common.{take-append-drop, length-take-le, codes, subst}
+use Rattle.std.proofs.lemmas.List.{take-take, take_rest, length-take}
+use Rattle.std.proofs.lemmas.List.Folds.{list_all-append}
+use Rattle.std.proofs.lemmas.List.Sums.{prefix_len-le-length, prefix_len_passes, suffix_len-le-length}
+use Rattle.std.proofs.lemmas.Str.{chars-append, chars-nil, chars_past_char, encodes-chars, IsUtf8-encode}
+use Rattle.std.proofs.lemmas.Str.{cons_from_encodes}
+use Rattle.std.proofs.Math.Seq.{take-length}
+use Rattle.std.proofs.lemmas.Bool.{agree_below_at, false≢true}
+use Rattle.std.specs.Char.{IsScalar, to_ascii_lowercase}
+use Rattle.std.specs.List.{list_all, prefix_len}
 use Rattle.std.specs.Str.{IsUtf8, chars}
+use lib.Utf8.{encode}
+use Rattle.data_url.specs.CodePoints.{is_http_whitespace, is_quotable, is_token}
+use Rattle.data_url.specs.Mime.{Every, unless_empty, BeginsParameters, IsHead, is_token_text, valid_of, DoesNotEnd}
+use Rattle.data_url.specs.Steps.Parsing.{front_of, in_value, is_escaped, is_quotable_byte, is_unquoted_byte}
+use Rattle.data_url.specs.Steps.Parsing.{quotable_value, unescaped, HasNoHead, IsTokens, Reading, after_mark, in_name}
+use Rattle.data_url.specs.Steps.Parsing.{item_in, named, pair_if, reading, reading_in, IsTrimmedEnd}
+use Rattle.data_url.specs.Url.{without_end, without_front}
+use Rattle.data_url.proofs.texts.CodePoints.{IsCutInto, IsSteady, cut_front, front_further, front_passes, no_chars}
+use Rattle.data_url.proofs.texts.CodePoints.{same_empty, trimmed_end_is, cut_by}
+use Rattle.data_url.proofs.mime.TokenTexts.{values_steady, whole_front, spaces_end, spaces_steady, names_steady}
 use Rattle.std.specs.Str.Pattern.{HasCharAt}
-use Rattle.data_url.specs.CodePoints.{is_http_whitespace, is_token}
-use Rattle.data_url.specs.Mime.{BeginsParameters, IsHead, is_token_text, valid_of}
-use Rattle.data_url.specs.Steps.Parsing.{HasNoHead, IsTokens, Reading, after_mark, front_of, in_name, item_in, named}
-use Rattle.data_url.specs.Steps.Parsing.{pair_if, quotable_value, reading, reading_in}
-use Rattle.std.specs.Char.{to_ascii_lowercase}
-use Rattle.data_url.specs.Url.{without_front}
-use Rattle.data_url.proofs.texts.CodePoints.{front_passes}
 use Rattle.data_url.proofs.mime.Items.{after_slash, has_parts, trimmed_of}
+use Rattle.data_url.proofs.runs.Runs.{match_map}
+use Rattle.data_url.proofs.examples.Literals.{on_literals}
+
+-- a byte of the UTF-8 of quoted-string code points is below 196
+quotable_byte_below : (b : ℕ) → is_quotable_byte b ≡ true → b < 196
+unfolding is_quotable_byte
+quotable_byte_below b h = grind arith
+
+-- for a code point below 2048, its bytes are all quotable exactly if it is a quoted-string code point
+low_quotable : (c : ℕ) → c < 2048 → list_all is_quotable_byte (encode c) ≡ is_quotable c
+unfolding encode is_quotable is_quotable_byte
+low_quotable c l = agree_below_at (λ x. list_all is_quotable_byte (encode x)) is_quotable 2048 c refl l
+
+-- the bytes of a code point that is at least 2048 are not all quotable
+high_quotable : (c : ℕ) → 2048 ≤ c → list_all is_quotable_byte (encode c) ≡ false
+unfolding encode
+high_quotable c l = grind (arith, quotable_byte_below)
+
+-- the bytes of an encoded text are all quotable exactly if its code points are all quotable
+quotable_bytes : (cs : List ℕ) → list_all is_quotable_byte (encode_utf8_all cs) ≡ list_all is_quotable cs
+unfolding is_quotable
+quotable_bytes [] = refl
+quotable_bytes (c ∷ cs) = grind (arith, list_all-append, low_quotable, high_quotable, quotable_bytes cs)
+
+-- each byte of a UTF-8 text passes `is_quotable_byte` exactly if each of its code points passes `is_quotable`
+quotable_chars : (bs : List ℕ) → IsUtf8 bs → list_all is_quotable_byte bs ≡ list_all is_quotable (chars bs)
+quotable_chars bs u = ap (list_all is_quotable_byte) (sym (encodes-chars bs u)) ∙ quotable_bytes (chars bs)
+
+-- the first bytes of a value are all quotable exactly if there are no more of them than unquoted bytes at its front
+quotable_front : (s : List ℕ) (k : ℕ) → k ≤ prefix_len in_value s
+    → list_all is_quotable_byte (take k s) ≡ nat_le k (prefix_len is_unquoted_byte s)
+quotable_front s zero l = grind arith
+quotable_front [] (suc k) l = absurd (omega arith)
+quotable_front (c ∷ s) (suc k) l = grind (arith, quotable_front s k)
+
+-- a value is quotable if it is not empty and has only quoted-string code points
+value_if : (v : List ℕ) → quotable_value (unless_empty v)
+    ≡ cond ((length v == 0) || not (list_all is_quotable v)) None (Some v)
+value_if [] = refl
+value_if (c ∷ v) = grind arith
+
+module _ {text bytes : List ℕ} {q more : ℕ} (u : IsUtf8 text) (e : bytes ≡ text)
+    (f : q ≡ prefix_len is_unquoted_byte bytes) (g : more ≡ prefix_len in_value (take (length bytes - q)
+    (drop q bytes))) where
+  -- the longest prefix without ';' is the longest one of unquoted bytes, and then the longest one without ';' of the
+  -- rest
+  front_len : q + more ≡ prefix_len in_value text
+  front_len = grind (arith, take_rest, front_further, prefix_len-le-length, prefix_len_passes)
+
+  -- a UTF-8 text can be cut there
+  pub cut_plain : IsCutInto text (q + more) (front_of in_value (chars text)) (without_front in_value (chars text))
+  cut_plain = rw front_len (cut_front in_value values_steady text u)
+
+  module _ {front t : List ℕ} {b : Bool} (w : IsUtf8 t) (h : front ≡ take (q + more) text) (k : t ≡ take
+      (length t) front)
+      (l : chars t ≡ without_end is_http_whitespace (chars front)) (z : b ≡ (length t == 0)) where
+    -- the value at the front has only quoted-string code points if it has no more than the unquoted bytes
+    quotable_if : list_all is_quotable (chars t) ≡ nat_le (length t) q
+    quotable_if =
+        let n = front_len in
+        let few : length t ≤ q + more = omega (
+          arith,
+          ap length k,
+          ap length h,
+          length-take
+              (length t) front,
+          length-take (q + more) text,
+        ) in
+        let t_is : t ≡ take (length t) text = cc (take-take (length t) (q + more) text few) in
+        cc (quotable_chars t w, quotable_front text (length t) (omega arith))
+
+    -- the value is this text if it is not empty and has no more
+    value_is : quotable_value (unless_empty (without_end is_http_whitespace (front_of in_value (chars text))))
+        ≡ cond (b || not (nat_le (length t) q)) None (Some (chars t))
+    value_is = grind (arith, cut_plain, value_if, same_empty, quotable_if)
+
+    -- otherwise, there is no value
+    pub no_value : (b ≡ true) ⊎ ((b ≡ false) × (q < length t)) → None
+        ≡ quotable_value (unless_empty (without_end is_http_whitespace (front_of in_value (chars text))))
+    no_value x = let v = value_is in grind arith
+
+    -- the value
+    pub some_value : b ≡ false → length t ≤ q → Some (chars t)
+        ≡ quotable_value (unless_empty (without_end is_http_whitespace (front_of in_value (chars text))))
+    some_value x m = let v = value_is in grind arith
+
+-- the text of a quoted string has only quoted-string code points exactly if its value has
+unescaped_quotable : (e : Bool) (s : List ℕ) → list_all is_quotable (unescaped e s) ≡ list_all is_quotable s
+unfolding is_quotable
+unescaped_quotable true [] = refl
+unescaped_quotable false [] = refl
+unescaped_quotable true (c ∷ s) = grind (arith, unescaped_quotable false s)
+unescaped_quotable false (c ∷ s) = grind (arith, unescaped_quotable false s, unescaped_quotable true s)
+
+-- the value of a quoted string is quotable exactly if the longest prefix of quotable bytes is the whole text
+pub quotable_by : (bs : List ℕ) → IsUtf8 bs
+    → list_all is_quotable (unescaped false (chars bs)) ≡ (prefix_len is_quotable_byte bs == length bs)
+quotable_by bs u =
+    cc (unescaped_quotable false (chars bs), quotable_chars bs u, whole_front is_quotable_byte bs)
+
+-- if a class is steady, and each byte of a UTF-8 text passes, so does each of its code points
+pub whole_passes : (p : ℕ → Bool) → IsSteady p → (bs bytes : List ℕ) (n : ℕ) → IsUtf8 bs → bytes ≡ bs
+    → n ≡ prefix_len p bytes → n ≡ length bs → Every p (chars bs)
+whole_passes p s bs bytes n u e f g = grind (arith, cut_front, take-length, front_passes)
+
+-- removing the escapes of a text without '"' and '\' does not change it
+stays_unescaped : (cs : List ℕ) → Every (λ c. not (is_escaped c)) cs → unescaped false cs ≡ cs
+stays_unescaped [] h = refl
+stays_unescaped (c ∷ cs) h = grind (arith, stays_unescaped cs h.1)
+
+-- all code points beyond ASCII stand for themselves in a quoted string
+pub unescaped_steady : IsSteady (λ c. not (is_escaped c))
+unescaped_steady c l = grind arith
+
+-- a copy of a text without '"' and '\' is its value
+pub copied : (v q bytes : List ℕ) (n : ℕ) → IsUtf8 q → bytes ≡ q → n ≡ prefix_len (λ c. not (is_escaped c)) bytes
+    → n ≡ length q → v ≡ q → chars v ≡ unescaped false (chars q)
+copied v q bytes n u e f g h = grind (arith, whole_passes, unescaped_steady, stays_unescaped)
+
+-- the encoding of a Unicode scalar value, after a UTF-8 text, adds its code point to those of the text
+chars_push : (v : List ℕ) (c : ℕ) → IsUtf8 v → IsScalar c → chars (v ++ encode c) ≡ chars v ++ (c ∷ [])
+chars_push v c u s =
+    let one = chars_past_char (encode c) [] c (IsUtf8-encode c s) (sym (append-nil (encode c))) in
+    cc (chars-append v (encode c) u, one, chars-nil)
+
+-- if nothing is written, the value of the whole text is left
+pub unescape_starts : (v r q : List ℕ) → v ≡ [] → r ≡ q
+    → chars v ++ unescaped false (chars r) ≡ unescaped false (chars q)
+unescape_starts v r q e f = rw (e, f, chars-nil) refl
+
+module _ (r r' v : List ℕ) {c : ℕ} {e : Bool} {whole : List ℕ} (u : IsUtf8 r) (s : r ≡ encode c ++ r')
+    (h : chars v ++ unescaped e (chars r) ≡ whole) where
+  -- if the first code point is a '\' that escapes, leaving it out preserves the whole
+  pub unescape_skips : c ≡ 92 → e ≡ false → chars v ++ unescaped true (chars r') ≡ whole
+  unescape_skips k f = grind (arith, chars_past_char)
+
+  -- moving another first code point to what is written preserves the whole
+  pub unescape_pushes : (v' : List ℕ) → IsUtf8 v → v' ≡ v ++ encode c → ((c ≡ 92) × (e ≡ true)) ⊎ (c ≡ 92 → ⊥)
+      → chars v' ++ unescaped false (chars r') ≡ whole
+  unescape_pushes v' w g k = grind (arith, chars_past_char, cons_from_encodes, chars_push, append_assoc)
+
+-- if nothing is left, a '\' that would escape the next code point is a part of the value
+pub unescape_ends : (r v : List ℕ) {e : Bool} {whole : List ℕ} → length r ≡ 0
+    → chars v ++ unescaped e (chars r) ≡ whole → (e ≡ false → chars v ≡ whole)
+    × ((v' : List ℕ) → IsUtf8 v → e ≡ true → v' ≡ v ++ encode 92 → chars v' ≡ whole)
+unescape_ends r v l h = grind (arith, append-nil, no_chars, chars_push)
+
+-- the lemmas for `read_plain`
+pub ruleset plain_values = (cut_plain, no_value, some_value)
 
 -- if the bytes of a text begin with those of c, its code points begin with c
 pub has_mark : (bs rest : List ℕ) (c n : ℕ) → IsUtf8 bs → HasCharAt c bs 0 n → rest ≡ drop n bs
@@ -44,8 +203,6 @@ begins_mark (c ∷ s) rest e = grind arith
 pub begins_empty : (s : List ℕ) → (length s == 0) ≡ true → BeginsParameters s
 begins_empty [] h = tt
 begins_empty (c ∷ s) h = absurd (grind arith)
-
--- The head of a MIME type: what the parser cuts is the head, and there is no other.
 
 -- a text that begins with c is c and the rest
 pub mark_is : (c : ℕ) (s rest : List ℕ) → after_mark c s ≡ Some rest → s ≡ c ∷ rest
@@ -106,19 +263,58 @@ module _ {s t a x : List ℕ} (first : IsTokens t a x) (e : t ≡ trimmed_of is_
         begins = begins;
       }
 
--- One parameter
+-- the pair that is read
+pair_by : (s name : List ℕ) {r : Reading} (value : Option (List ℕ)) → r ≡ reading_in s
+    → name ≡ front_of in_name (named s) → value ≡ quotable_value r.value
+    → pair_if (map to_ascii_lowercase name) value ≡ valid_of (item_in s)
+pair_by s name value e n v = grind arith
 
-module _ (s : List ℕ) {t x : List ℕ} {o : Option (List ℕ)} (e : t ≡ named s) (f : x ≡ without_front in_name t)
-    (h : after_mark 61 x ≡ o) where
-  -- what is read after a name
-  reading_by : reading x o ≡ reading_in s
-  reading_by = cc
+-- the pair and the rest that are read from a text that is cut after a name
+pub parameter_by : (s : List ℕ) {t bytes front after : List ℕ} {n : ℕ} {o : Option (List ℕ)} → IsUtf8 t
+    → n ≡ prefix_len in_name bytes → bytes ≡ t → front ≡ take n t → after ≡ drop n t → chars t ≡ named s
+    → after_mark 61 (chars after) ≡ o → (value : Option (List ℕ))
+    → value ≡ quotable_value (reading (chars after) o).value
+    → (pair_if (map to_ascii_lowercase (chars front)) value ≡ valid_of (item_in s))
+    × ((reading (chars after) o).rest ≡ (reading_in s).rest)
+parameter_by s {front = front} {after = after} {o = o} u e f g h k m value v =
+    let cut = cut_by names_steady u e f g h in
+    let by : reading (chars after) o ≡ reading_in s = cc in
+    (pair_by s (chars front) value by (cc) v, ap (λ (r : Reading). r.rest) by)
 
-  -- the rest that is read
-  pub rest_by : (reading x o).rest ≡ (reading_in s).rest
-  rest_by = ap (λ (r : Reading). r.rest) reading_by
+-- if t ++ back is empty or begins with ';', t is empty or begins with ';'
+front_begins : (t back : List ℕ) → BeginsParameters (t ++ back) → BeginsParameters t
+front_begins [] back h = tt
+front_begins (c ∷ t) back h = h
 
-  -- the pair that is read
-  pub pair_by : (name : List ℕ) (value : Option (List ℕ)) → name ≡ front_of in_name t
-      → value ≡ quotable_value (reading x o).value → pair_if (map to_ascii_lowercase name) value ≡ valid_of (item_in s)
-  pair_by name value n v = grind (arith, reading_by)
+-- after a code point that does not pass
+pub ends_after : (p : ℕ → _) (c : ℕ) (t : List ℕ) → p c ≡ false → DoesNotEnd p t → DoesNotEnd p (c ∷ t)
+ends_after p c [] n h = n
+ends_after p c (d ∷ t) n h = h
+
+-- if s is empty or begins with ';', "text/plain" ++ s has the type "text", the subtype "plain" and, as the text of its
+-- parameters, s without HTTP whitespace at its end
+pub plain_head_is : (s t : List ℕ) → BeginsParameters s → IsTrimmedEnd is_http_whitespace s t
+    → IsHead (codes "text/plain" ++ s) (chars (codes "text")) (chars (codes "plain")) t
+unfolding on_literals chars
+plain_head_is s t b e = record {
+  gap = [];
+  joined = sym (trimmed_end_is is_http_whitespace (codes "text/plain" ++ s) (codes "text/plain" ++ t) (record {
+    back = e.back;
+    joined = ap (λ x. codes "text/plain" ++ x) e.joined;
+    at_back = e.at_back;
+    ends = ends_after is_http_whitespace 110 t refl e.ends;
+  }));
+  is_type = refl;
+  is_subtype = refl;
+  in_gap = tt;
+  begins = front_begins t e.back (subst BeginsParameters e.joined b);
+}
+
+-- where a text begins with a code point
+pub ruleset marks = (encodes-chars, match_map, has_mark, no_mark)
+
+-- the lemmas for `cuts.rt`
+pub ruleset cuts = (marks, cut_front, spaces_end, spaces_steady, values_steady, suffix_len-le-length, length-take-le)
+
+-- the lemmas for `read_head`
+pub ruleset heads = (same_empty, begins_empty, begins_mark, is_head, no_parameters, no_slash, no_subtype, no_type)

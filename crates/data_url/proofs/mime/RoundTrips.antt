@@ -1,27 +1,173 @@
--- Parsing a printed record returns the record.
-use Rattle.std.proofs.Common.{◌≡◌, ℕ, ◌==◌, ◌||◌, ◌&&◌, Bool, true, false, not, List, [], ◌∷◌, ◌++◌, Some, map, refl}
-use Rattle.std.proofs.Common.{arith, sym, ap, subst}
-use Rattle.std.proofs.lemmas.Bool.{agree_below, agree_below_at, and_from, and_parts, both_ways, cond-true, cond_both}
-use Rattle.std.proofs.lemmas.Bool.{eqb-false, or_parts}
-use Rattle.std.proofs.Common.{append_assoc}
-use Rattle.std.proofs.lemmas.Bool.{false≢true}
-use Rattle.std.proofs.lemmas.List.Folds.{list_any-append}
-use Rattle.std.specs.List.{flat_map, list_all}
-use Rattle.data_url.specs.CodePoints.{ends_name, is_http_whitespace, is_quotable, is_semicolon, is_token}
+-- Printed records: `Display` and `PartialEq` of `Mime`, and that parsing a printed record returns the record.
+use Rattle.std.proofs.Common.{◌≡◌, ℕ, ◌+◌, ◌<◌, ◌≤◌, Bool, true, false, List, [], ◌∷◌, ◌++◌, length, get_or, drop}
+use Rattle.std.proofs.Common.{String, string_bytes, map, encode_utf8, encode_utf8_all, refl, sym, subst, append_assoc}
+use Rattle.std.proofs.Common.{append-nil, drop-cons, drop_of_length-le, arith, ◌==◌, ◌||◌, ◌&&◌, not, Some, ap}
+use lib.Utf8.{encode}
+use Rattle.std.proofs.lemmas.Str.{IsUtf8-append, IsUtf8-string_bytes, chars_past_char, encode_ascii, encodes-append}
+use Rattle.std.proofs.lemmas.Str.{encodes-chars}
+use Rattle.std.specs.declared.fmt.Formatter.{Formatter}
+use Rattle.std.proofs.Output.{has_written_styled_append, has_written_styled_of_eq}
+use Rattle.std.specs.Fmt.{HasWritten, HasWrittenStyled, IsPlainFormatter}
+use Rattle.data_url.specs.Steps.Printing.{Adds, IsHeld, held}
+use Rattle.data_url.specs.declared.mime.line.Line.{Line}
+use Rattle.std.specs.List.{flat_map, AllZip, list_all}
+use Rattle.std.specs.Str.{IsUtf8, chars}
+use Rattle.data_url.specs.Mime.{Without, escaped_code_point, is_token_text, printed, printed_pair, printed_value, Pair}
 use Rattle.data_url.specs.Mime.{BeginsParameters, DoesNotBegin, DoesNotEnd, Every, GivesValue, IsHead, IsParameter}
-use Rattle.data_url.specs.Mime.{IsWellformed, Item, Items, Pair, Parses, Quoted, Record, Without, escaped_code_point}
-use Rattle.data_url.specs.Mime.{first_of_each_name, has_distinct_names, has_name, is_lowercase_name, is_quote}
-use Rattle.data_url.specs.Mime.{is_token_text, kept_pairs, plain, printed, printed_pair, printed_value, quoted}
+use Rattle.data_url.specs.Mime.{IsWellformed, Item, Items, Parses, Quoted, Record, first_of_each_name}
+use Rattle.data_url.specs.Mime.{has_distinct_names, has_name, is_lowercase_name, is_quote, kept_pairs, plain, quoted}
 use Rattle.data_url.specs.Mime.{unless_empty, valid_pairs, after_backslash, nothing_quoted, as_itself}
-use Rattle.data_url.proofs.mime.TokenTexts.{every_token}
+use Rattle.data_url.specs.Steps.Parsing.{is_escaped}
+use Rattle.data_url.specs.MimeType.{code_points, pair_of, record_of, SameTexts, same_pair, same_texts, texts_of_pair}
+use Rattle.data_url.specs.declared.mime.Mime.{Mime}
+use Rattle.data_url.proofs.texts.CodePoints.{no_chars, end_stays, not_ends_every, front_is}
+use Rattle.std.specs.Prelude.{◌↔◌, Decides, IsTrue}
+use Rattle.std.proofs.lemmas.Simd.{map-map}
+use Rattle.std.specs.Cmp.Lexicographic.{pointwise}
+use Rattle.std.proofs.lemmas.Bool.{and_from, and_parts, agree_below, agree_below_at, both_ways, cond-true, cond_both}
+use Rattle.std.proofs.lemmas.Bool.{eqb-false, or_parts, false≢true}
+use Rattle.std.proofs.lemmas.Slice.Eq.{bytes_eq-Decides}
+use Rattle.std.proofs.lemmas.List.Folds.{list_any-append}
+use Rattle.data_url.specs.CodePoints.{ends_name, is_http_whitespace, is_quotable, is_semicolon, is_token}
+use Rattle.data_url.proofs.mime.TokenTexts.{every_token, token_below}
 use Rattle.data_url.proofs.mime.Items.{not_begins_append, has_at_most_one_record}
-use Rattle.data_url.proofs.mime.FirstNames.{lower_is_itself, lowercase_token, test_from_different}
-use Rattle.data_url.proofs.mime.FirstNames.{test_from_equal}
-use Rattle.data_url.proofs.mime.TokenTexts.{token_below}
-use Rattle.data_url.proofs.texts.CodePoints.{end_stays, not_ends_every}
+use Rattle.data_url.proofs.mime.FirstNames.{lower_is_itself, test_from_different}
 use Rattle.data_url.specs.Url.{without_front}
+use Rattle.data_url.proofs.mime.Parsing.{ends_after}
 
--- Token code points
+-- if the bytes so far and the escaped code points of r are the whole, they still are after the first code point of r is
+-- escaped and moved to them
+pub escaped_more : (r r' done whole : List ℕ) (c : ℕ) → IsUtf8 r → r ≡ encode_utf8 c ++ r'
+    → done ++ encode_utf8_all (flat_map escaped_code_point (chars r)) ≡ whole
+    → (done ++ encode_utf8_all (escaped_code_point c)) ++ encode_utf8_all (flat_map escaped_code_point (chars r'))
+    ≡ whole
+escaped_more r r' done whole c u e h = grind (arith, append_assoc, chars_past_char)
+
+-- if nothing is left to be escaped, the bytes so far are the whole
+pub escaped_end : (r done whole : List ℕ) → length r ≡ 0
+    → done ++ encode_utf8_all (flat_map escaped_code_point (chars r)) ≡ whole → done ≡ whole
+escaped_end r done whole l h = grind (arith, append-nil, no_chars)
+
+-- escaping a text without '"' and '\' does not change it
+plain_chars : (cs : List ℕ) → Without is_escaped cs → flat_map escaped_code_point cs ≡ cs
+plain_chars [] h = refl
+plain_chars (c ∷ cs) h = grind (arith, plain_chars cs h.1)
+
+-- a text without '"' and '\' is the UTF-8 of its escaped code points
+pub plain_text : (v : List ℕ) → IsUtf8 v → Without is_escaped (chars v)
+    → v ≡ encode_utf8_all (flat_map escaped_code_point (chars v))
+plain_text v u h = grind (arith, encodes-chars, encode_utf8_all, plain_chars)
+
+-- a value that is a token text is printed as it is, after any bytes
+pub token_value : (before v : List ℕ) (b : Bool) → IsUtf8 v → b ≡ is_token_text (chars v) → b ≡ true
+    → before ++ v ≡ before ++ encode_utf8_all (printed_value (chars v))
+token_value before v b u e h = grind (arith, encodes-chars)
+
+-- a value that is not a token text is printed as its escaped code points in quotes
+pub quoted_value_text : (before v : List ℕ) (b : Bool) → b ≡ is_token_text (chars v) → b ≡ false
+    → ((before ++ (34 ∷ [])) ++ encode_utf8_all (flat_map escaped_code_point (chars v))) ++ (34 ∷ [])
+    ≡ before ++ encode_utf8_all (printed_value (chars v))
+quoted_value_text before v b e h = grind (arith, encode_ascii, append_assoc, encodes-append)
+
+-- ';', the name, '=', and the printed value are the UTF-8 of the printed pair
+pub parameter_text : (before name value : List ℕ) → IsUtf8 name
+    → (((before ++ (59 ∷ [])) ++ name) ++ (61 ∷ [])) ++ encode_utf8_all (printed_value (chars value))
+    ≡ before ++ encode_utf8_all (printed_pair (chars name, chars value))
+parameter_text before name value u = grind (arith, encode_ascii, append_assoc, encodes-chars, encodes-append)
+
+-- the bytes of a `String` are the UTF-8 of its code points
+pub text_bytes : {A : Type 0} (s : String A) → string_bytes s ≡ encode_utf8_all (code_points s)
+text_bytes s = sym (encodes-chars (string_bytes s) (IsUtf8-string_bytes s))
+
+-- the UTF-8 of the printed pairs
+abbrev pub pairs_text : {A B : Type 0} → List (String A × String B) → List ℕ
+pairs_text pairs = encode_utf8_all (flat_map printed_pair (map (λ p. pair_of p) pairs))
+
+module _ {A B : Type 0} {pairs items : List (String A × String B)} (i : ℕ) (done : List ℕ) {whole : List ℕ}
+    (e : items ≡ pairs) (h : done ++ pairs_text (drop i pairs) ≡ whole) where
+  -- if the bytes so far and the printed pairs from index i on are the whole, they still are after pair i, of which a
+  -- and b are the bytes, is printed and moved to them
+  pub record_more : {item : String A × String B} (a b : List ℕ) → i < length items → item ≡ get_or items i item
+      → a ≡ string_bytes item.0 → b ≡ string_bytes item.1
+      → (done ++ encode_utf8_all (printed_pair (chars a, chars b))) ++ pairs_text (drop (i + 1) pairs) ≡ whole
+  record_more a b l g f k = grind (arith, append_assoc, drop-cons, encodes-append)
+
+  -- if no pairs are left, the bytes so far are the whole
+  pub record_ends : length items ≤ i → done ≡ whole
+  record_ends l = grind (arith, append-nil, drop_of_length-le)
+
+-- if a and b are the bytes of the type and of the subtype, the parts of a printed record join to its text
+pub record_starts : (m : Mime) (a b : List ℕ) → a ≡ string_bytes m.type_ → b ≡ string_bytes m.subtype
+    → ((a ++ (47 ∷ [])) ++ b) ++ pairs_text m.parameters.items ≡ encode_utf8_all (printed (record_of m))
+unfolding printed
+record_starts m a b e f = grind (arith, append_assoc, encode_ascii, text_bytes, encodes-append)
+
+-- if the bytes that a line holds and the text a are UTF-8, m holds both, and m.len is at most 128, then the bytes of m
+-- fit and are UTF-8
+pub held_more : (l m : Line) (a : List ℕ) → IsUtf8 (held l) → IsUtf8 a → held m ≡ held l ++ a → m.len ≤ 128 → IsHeld m
+held_more l m a u w e h = record { fits = h; text = subst IsUtf8 (sym e) (IsUtf8-append (held l) a u w) }
+
+module _ {W : Type 0} {took : W → List ℕ → W → Type 0} {start : Formatter W} {before : List ℕ} where
+  -- a text that is put into the buffer is appended
+  pub added_held : {f : Formatter W} {l m : Line} (a : List ℕ) → Adds took start before f l → held m ≡ held l ++ a
+      → Adds took start (before ++ a) f m
+  added_held {l = l} a x e = grind (arith, append_assoc)
+
+  -- once the buffer is written, all is
+  pub added_flushed : {f g : Formatter W} {l : Line} → Adds took start before f l → HasWrittenStyled took f (held l) g
+      → HasWrittenStyled took start before g
+  added_flushed x y = grind (arith, has_written_styled_of_eq, has_written_styled_append)
+
+  -- if all is written, and the buffer is empty, all is added
+  pub added_none : {f : Formatter W} (m : Line) → HasWrittenStyled took start before f → m.len ≡ 0
+      → Adds took start before f m
+  added_none m x e = grind (arith, append-nil)
+
+  -- if a text is added, a text that is equal to it is
+  pub added_of_eq : {f : Formatter W} {l : Line} {after : List ℕ} → before ≡ after → Adds took start before f l
+      → Adds took start after f l
+  added_of_eq {f} {l} e = grind arith
+
+-- the lemmas for `line.rt`
+pub ruleset lines = (added_held, added_flushed, added_none, held_more)
+
+-- the test of two lists, pair by pair, is true exactly if the lists have equal texts
+pairs_decide : {A B : Type 0} (ps qs : List (String A × String B))
+    → Decides (pointwise same_pair ps qs) (map texts_of_pair ps ≡ map texts_of_pair qs)
+pairs_decide [] [] = (λ h. refl, λ h. refl)
+pairs_decide [] (q ∷ qs) = grind arith
+pairs_decide (p ∷ ps) [] = grind arith
+pairs_decide (p ∷ ps) (q ∷ qs) = grind (arith, string_bytes, bytes_eq-Decides, and_parts, and_from, pairs_decide ps qs)
+
+-- the test is true exactly if the texts are the same
+pub same_decides : (m n : Mime) → IsTrue (same_texts m n) ↔ SameTexts m n
+same_decides m n = grind (arith, pairs_decide, bytes_eq-Decides)
+
+-- if the texts of all pairs are equal one by one, the lists of texts of pairs are equal
+pub copied_pairs : {A B : Type 0} (ps qs : List (String A × String B))
+    → AllZip (λ p q. (string_bytes q.0 ≡ string_bytes p.0) × (string_bytes q.1 ≡ string_bytes p.1)) ps qs
+    → map texts_of_pair qs ≡ map texts_of_pair ps
+copied_pairs [] [] h = refl
+copied_pairs [] (q ∷ qs) h = absurd h
+copied_pairs (p ∷ ps) [] h = absurd h
+copied_pairs (p ∷ ps) (q ∷ qs) h = grind (arith, copied_pairs ps qs h.1)
+
+-- if two MIME types have the same texts, their records of code points are equal
+pub same_seen : (m n : Mime) → SameTexts m n → record_of m ≡ record_of n
+same_seen m n h =
+    let seen = λ (x : Mime). map-map {C = Pair} (λ p. (chars p.0, chars p.1)) texts_of_pair x.parameters.items in
+    cc (seen m, seen n, h.type_, h.subtype, h.parameters)
+
+-- the bytes of pairs are the UTF-8 of their code points
+pairs_spelled : {A B : Type 0} (ps : List (String A × String B)) → map texts_of_pair ps
+    ≡ map (λ (p : Pair). (encode_utf8_all p.0, encode_utf8_all p.1)) (map pair_of ps)
+pairs_spelled [] = refl
+pairs_spelled (p ∷ ps) = grind (arith, text_bytes, pairs_spelled ps)
+
+-- if the records of code points of two MIME types are equal, the MIME types have the same texts
+pub seen_same : (m n : Mime) → record_of m ≡ record_of n → SameTexts m n
+seen_same m n h =
+    grind (arith, text_bytes m.type_, text_bytes n.type_, text_bytes m.subtype, text_bytes n.subtype, pairs_spelled)
 
 module _ (p : ℕ → Bool) (n : agree_below (λ c. not (is_token c && p c)) (λ c. true) 128 ≡ true) where
   -- if no token code point below 128 passes p, no token code point does
@@ -44,22 +190,11 @@ module _ (p : ℕ → Bool) (n : agree_below (λ c. not (is_token c && p c)) (λ
   tokens_end : (t : List ℕ) → Every is_token t → DoesNotEnd p t
   tokens_end = not_ends_every p is_token not_in
 
--- Ends of texts
-
--- if neither a nor b ends with a code point that passes, a ++ b does not either
-not_ends_append : (p : ℕ → Bool) (a b : List ℕ) → DoesNotEnd p a → DoesNotEnd p b → DoesNotEnd p (a ++ b)
-not_ends_append p [] b h k = k
-not_ends_append p (c ∷ []) [] h k = h
-not_ends_append p (c ∷ []) (d ∷ b) h k = k
-not_ends_append p (c ∷ d ∷ a) b h k = not_ends_append p (d ∷ a) b h k
-
--- a text that ends with a code point that does not pass does not end with one that passes
-pub not_ends_last : (p : ℕ → Bool) (c : ℕ) → p c ≡ false → (a : List ℕ) → DoesNotEnd p (a ++ (c ∷ []))
-not_ends_last p c h [] = h
-not_ends_last p c h (d ∷ []) = h
-not_ends_last p c h (d ∷ e ∷ a) = not_ends_last p c h (e ∷ a)
-
--- A value
+-- a text of a, c and b does not end with a code point that passes if c and b do not
+ends_with : (p : ℕ → Bool) (a : List ℕ) (c : ℕ) (b : List ℕ) → DoesNotEnd p (c ∷ b) → DoesNotEnd p (a ++ c ∷ b)
+ends_with p [] c b h = h
+ends_with p (d ∷ []) c b h = h
+ends_with p (d ∷ e ∷ a) c b h = ends_with p (e ∷ a) c b h
 
 -- a text, escaped, is the text of a quoted string whose value is the text
 quoted_escaped : (v : List ℕ) → Quoted (flat_map escaped_code_point v) v
@@ -86,24 +221,17 @@ gives_value v rest = cond_both (is_token_text v) v (34 ∷ (flat_map escaped_cod
     (λ t. GivesValue (61 ∷ t) rest (Some v)) (λ e. plain_value v rest e) (λ e. quoted (flat_map escaped_code_point v) []
     (quoted_escaped v) tt)
 
--- a printed value does not end with HTTP whitespace
-value_not_end : (v : List ℕ) → DoesNotEnd is_http_whitespace (printed_value v)
+-- '=' and a printed value do not end with HTTP whitespace
+value_not_end : (v : List ℕ) → DoesNotEnd is_http_whitespace (61 ∷ printed_value v)
 unfolding is_token
 value_not_end v = cond_both (is_token_text v) v (34 ∷ (flat_map escaped_code_point v ++ (34 ∷ [])))
-    (λ t. DoesNotEnd is_http_whitespace t)
-    (λ e. tokens_end is_http_whitespace refl v (every_token v e))
-    (λ e. not_ends_last is_http_whitespace 34 refl (34 ∷ flat_map escaped_code_point v))
-
--- A parameter
+    (λ t. DoesNotEnd is_http_whitespace (61 ∷ t))
+    (λ e. ends_after is_http_whitespace 61 v refl (tokens_end is_http_whitespace refl v (every_token v e)))
+    (λ e. ends_with is_http_whitespace (61 ∷ 34 ∷ flat_map escaped_code_point v) 34 [] refl)
 
 -- each code point of a lower-case name is a token code point
 name_tokens : (t : List ℕ) → is_lowercase_name t ≡ true → Every is_token t
-name_tokens t h = every_token t (lowercase_token t h)
-
--- a lower-case name does not end with HTTP whitespace
-name_not_end : (t : List ℕ) → is_lowercase_name t ≡ true → DoesNotEnd is_http_whitespace t
-unfolding is_token
-name_not_end t h = grind (arith, tokens_end, name_tokens)
+name_tokens t h = every_token t (and_parts (is_token_text t) _ h).0
 
 -- a printed pair with a lower-case name is a parameter with the name and the value of the pair
 is_parameter : (p : Pair) (rest : List ℕ) → is_lowercase_name p.0 ≡ true
@@ -121,21 +249,9 @@ is_parameter p rest h = record {
   value_is = gives_value p.1 rest;
 }
 
--- a printed pair with a lower-case name does not end with HTTP whitespace
-pair_not_end : (p : Pair) → is_lowercase_name p.0 ≡ true → DoesNotEnd is_http_whitespace (printed_pair p)
-pair_not_end p h = not_ends_append is_http_whitespace (59 ∷ []) (p.0 ++ (61 ∷ printed_value p.1)) refl
-    (not_ends_append is_http_whitespace p.0 (61 ∷ printed_value p.1) (name_not_end p.0 h)
-    (not_ends_append is_http_whitespace (61 ∷ []) (printed_value p.1) refl (value_not_end p.1)))
-
--- Parameters
-
 -- all names are lower-case
 abbrev have_names : List Pair → Bool
 have_names pairs = list_all (λ (p : Pair). is_lowercase_name p.0) pairs
-
--- all values have only quoted-string code points
-abbrev have_values : List Pair → Bool
-have_values pairs = list_all (λ (p : Pair). list_all is_quotable p.1) pairs
 
 -- the item of a pair
 abbrev item_of : Pair → Item
@@ -158,35 +274,27 @@ pairs_begin : (pairs : List Pair) → BeginsParameters (flat_map printed_pair pa
 pairs_begin [] = tt
 pairs_begin (p ∷ pairs) = refl
 
--- the text of printed pairs with lower-case names does not end with HTTP whitespace
-pairs_not_end : (pairs : List Pair) → have_names pairs ≡ true
-    → DoesNotEnd is_http_whitespace (flat_map printed_pair pairs)
-pairs_not_end [] h = tt
-pairs_not_end (p ∷ pairs) h =
-    let k = and_parts (is_lowercase_name p.0) (have_names pairs) h in
-    not_ends_append is_http_whitespace (printed_pair p) (flat_map printed_pair pairs) (pair_not_end p k.0)
-    (pairs_not_end pairs k.1)
-
--- All of them are kept
+-- printed pairs after a text that does not end with HTTP whitespace do not end with it either
+pairs_not_end : (pairs : List Pair) (t : List ℕ) → DoesNotEnd is_http_whitespace t
+    → DoesNotEnd is_http_whitespace (t ++ flat_map printed_pair pairs)
+pairs_not_end [] t h = rw (append-nil t) h
+pairs_not_end (p ∷ pairs) t h = rw (← append_assoc t (printed_pair p) (flat_map printed_pair pairs))
+    (pairs_not_end pairs (t ++ printed_pair p) (ends_with is_http_whitespace t 59 (p.0 ++ (61 ∷ printed_value p.1))
+    (ends_with is_http_whitespace (59 ∷ p.0) 61 (printed_value p.1) (value_not_end p.1))))
 
 -- pairs with lower-case names and values of quoted-string code points are all valid
-all_valid : (pairs : List Pair) → have_names pairs ≡ true → have_values pairs ≡ true
+all_valid : (pairs : List Pair) → have_names pairs ≡ true
+    → list_all (λ (p : Pair). list_all is_quotable p.1) pairs ≡ true
     → valid_pairs (map item_of pairs) ≡ pairs
 all_valid [] h k = refl
-all_valid (p ∷ pairs) h k = grind (arith, and_parts, cond-true, and_from, lowercase_token, all_valid pairs)
+all_valid (p ∷ pairs) h k = grind (arith, and_parts, cond-true, and_from, all_valid pairs)
 
 -- if no two names are equal, none of the earlier pairs has the name of a later one
 distinct_new : (e : List Pair) (p : Pair) (ps : List Pair) → has_distinct_names (e ++ (p ∷ ps)) ≡ true
     → has_name p.0 e ≡ false
 distinct_new [] p ps h = refl
-distinct_new (q ∷ e) p ps h = grind (
-  arith,
-  list_any-append {X = Pair},
-  test_from_different,
-  both_ways,
-  test_from_equal,
-  distinct_new e p ps,
-)
+distinct_new (q ∷ e) p ps h =
+    grind (arith, list_any-append {X = Pair}, test_from_different, both_ways, bytes_eq-Decides, distinct_new e p ps)
 
 -- pairs with distinct names are all the first of their name
 first_itself : (e ps : List Pair) → has_distinct_names (e ++ ps) ≡ true → first_of_each_name e ps ≡ ps
@@ -197,13 +305,6 @@ first_itself e (p ∷ ps) h = grind (arith, distinct_new e p ps, append_assoc, f
 all_kept : (m : Record) → IsWellformed m → m.parameters ≡ kept_pairs (map item_of m.parameters)
 all_kept m w = grind (arith, all_valid, first_itself)
 
--- The whole
-
--- a text that does not begin with a code point that passes has no prefix to remove
-front_stays : (p : ℕ → Bool) (s : List ℕ) → DoesNotBegin p s → without_front p s ≡ s
-front_stays p [] b = refl
-front_stays p (c ∷ s) b = grind arith
-
 -- a well-formed record, printed, does not begin with HTTP whitespace
 printed_begins : (m : Record) → IsWellformed m → DoesNotBegin is_http_whitespace (printed m)
 unfolding printed is_token
@@ -212,18 +313,24 @@ printed_begins m w = not_begins_append is_http_whitespace m.type_ _
 
 -- a well-formed record, printed, does not end with HTTP whitespace
 printed_ends : (m : Record) → IsWellformed m → DoesNotEnd is_http_whitespace (printed m)
-unfolding printed
-printed_ends m w =
-    not_ends_append is_http_whitespace m.type_ (47 ∷ (m.subtype ++ flat_map printed_pair m.parameters))
-    (name_not_end m.type_ w.type_)
-    (not_ends_append is_http_whitespace (47 ∷ []) (m.subtype ++ flat_map printed_pair m.parameters) refl
-    (not_ends_append is_http_whitespace m.subtype (flat_map printed_pair m.parameters)
-    (name_not_end m.subtype w.subtype) (pairs_not_end m.parameters w.names)))
+unfolding printed is_token
+printed_ends m w = rw (← append_assoc m.type_ (47 ∷ m.subtype) (flat_map printed_pair m.parameters))
+    (pairs_not_end m.parameters (m.type_ ++ (47 ∷ m.subtype)) (ends_with is_http_whitespace m.type_ 47 m.subtype
+    (ends_after is_http_whitespace 47 m.subtype refl
+    (tokens_end is_http_whitespace refl m.subtype (name_tokens m.subtype w.subtype)))))
 
 -- a well-formed record, printed, has its type, its subtype and its printed parameters as head
 printed_head : (m : Record) → IsWellformed m → IsHead (printed m) m.type_ m.subtype (flat_map printed_pair m.parameters)
 unfolding printed
-printed_head m w = grind (arith, front_stays, printed_begins, end_stays, printed_ends, lowercase_token, pairs_begin)
+printed_head m w =
+    grind (
+      arith,
+      front_is is_http_whitespace [] (printed m) tt (printed_begins m w),
+      end_stays,
+      printed_ends,
+      and_parts,
+      pairs_begin,
+    )
 
 -- a well-formed record, printed, parses to the record
 pub printed_parses : (m : Record) → IsWellformed m → Parses (printed m) m

@@ -1,4 +1,5 @@
 //! Where texts are cut, and texts without HTTP whitespace at an end.
+#![tactic(auto, using(crate::proofs::mime::Parsing::cuts))]
 
 ghost use Rattle.std.specs.Prelude.{◌≡◌, ◌≤◌, None, Some, MatchOption, length, take};
 ghost use Rattle.std.specs.List.{prefix_len, suffix_len};
@@ -21,7 +22,6 @@ fn trailing_len(bytes: &[u8]) -> usize
 }
 
 /// The text without HTTP whitespace at its start.
-#[tactic(auto, using(crate::proofs::mime::TokenTexts::spaces_cut))]
 pub(super) fn without_leading_whitespace(text: &str) -> &str
     ensures { chars result.now ≡ without_front is_http_whitespace (chars text.now) }
 {
@@ -30,7 +30,6 @@ pub(super) fn without_leading_whitespace(text: &str) -> &str
 }
 
 /// The text without HTTP whitespace at its end.
-#[tactic(auto, using(crate::proofs::mime::TokenTexts::spaces_at_end))]
 pub(super) fn without_trailing_whitespace(text: &str) -> &str
     ensures trimmed { IsTrimmedEnd is_http_whitespace (chars text.now) (chars result.now) }
     ensures without { chars result.now ≡ without_end is_http_whitespace (chars text.now) }
@@ -68,7 +67,6 @@ pub(super) fn parameter_len(bytes: &[u8]) -> usize
 }
 
 /// The text from its first `;` on.
-#[tactic(auto, using(crate::proofs::mime::TokenTexts::values_cut))]
 pub(super) fn from_semicolon(text: &str) -> &str
     ensures { chars result.now ≡ without_front in_value (chars text.now) }
 {

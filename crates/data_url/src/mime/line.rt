@@ -1,4 +1,5 @@
 //! A buffer, so that a line is written in few calls.
+#![tactic(auto, using(crate::proofs::mime::RoundTrips::lines))]
 
 ghost use Rattle.std.specs.Fmt.{WritesStyledOnOk};
 ghost use Rattle.std.specs.Prelude.{◌≡◌, ◌+◌, ◌++◌, ◌≤◌, [], length};
@@ -20,7 +21,7 @@ impl Line {
     /// A line with an empty buffer.
     #[inline(always)]
     pub(super) fn new() -> Line
-        ensures none { held result ≡ [] }
+        ensures none { result.len ≡ 0 }
         ensures held { IsHeld result }
     {
         Line {

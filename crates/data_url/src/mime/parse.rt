@@ -55,6 +55,7 @@ impl<'a> Head<'a> {
 }
 
 /// The parts of a MIME type, if the text is one.
+#[tactic(auto, using(crate::proofs::mime::Parsing::heads))]
 pub(crate) fn read_head(text: &str) -> Option<Head<'_>>
     ensures { MatchOption result (HasNoHead (chars text.now))
         (λ h. IsHead (chars text.now) (chars h.type_.now) (chars h.subtype.now)
@@ -75,6 +76,7 @@ pub(crate) fn read_head(text: &str) -> Option<Head<'_>>
 }
 
 /// Returns the parts of the MIME type `text/plain` with the text after the subtype.
+#[tactic(auto, using(crate::proofs::mime::Parsing::plain_head_is))]
 pub(crate) fn plain_head(parameters: &str) -> Head<'_>
     requires { BeginsParameters (chars parameters.now) }
     ensures { IsHead (codes "text/plain" ++ chars parameters.now)
@@ -115,6 +117,7 @@ fn read_value(text: &str) -> (Value<'_>, &str)
 }
 
 /// Returns the value after a `=` that does not begin with `"`, and the text after it.
+#[tactic(auto, using(crate::proofs::mime::Parsing::plain_values))]
 fn read_plain(text: &str) -> (Value<'_>, &str)
     ensures value { value_of result.0 ≡ quotable_value (plain_reading (chars text.now)).value }
     ensures rest { chars result.1.now ≡ without_front in_value (chars text.now) }
@@ -130,6 +133,7 @@ fn read_plain(text: &str) -> (Value<'_>, &str)
 }
 
 /// Splits a text at the quote that closes a quoted string. If there is none, the whole text is the quoted string.
+#[tactic(auto, using(crate::proofs::mime::TokenTexts::quotes))]
 fn split_quote(text: &str) -> (&str, &str)
     ensures quoted { chars result.0.now
         ≡ take (quoted_len false (chars text.now)) (chars text.now) }
@@ -153,6 +157,7 @@ const LEAST_LEN: usize = 4;
 const MOST: usize = 32;
 
 /// The parameters that are kept of a text that is empty or begins with `;`.
+#[tactic(auto, using(crate::proofs::mime::FirstNames::parameters))]
 pub(super) fn read_parameters(
     alloc: Global,
     text: &str,

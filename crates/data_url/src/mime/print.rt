@@ -12,6 +12,7 @@ use crate::classes::{Class, long_span};
 use std::fmt;
 
 /// Adds `;`, a name, `=` and a value.
+#[tactic(auto, using(crate::proofs::mime::RoundTrips::added_of_eq, crate::proofs::mime::RoundTrips::parameter_text))]
 pub(super) fn push_parameter<W: fmt::Write>(
     line: &mut Line,
     f: &mut fmt::Formatter<W>,

@@ -1,4 +1,5 @@
 //! HTTP token code points (MIME Sniffing Standard, section 3).
+#![tactic(auto, using(crate::proofs::mime::TokenTexts::tokens))]
 
 ghost use Rattle.std.specs.Prelude.{◌≡◌, [], MatchOption};
 ghost use Rattle.std.specs.Str.{chars};

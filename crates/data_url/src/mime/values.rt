@@ -1,4 +1,5 @@
 //! Values of parameters, as slices of a text and as texts of their own.
+#![tactic(auto, using(crate::proofs::mime::FirstNames::lower_chars, crate::proofs::mime::Parsing::quotable_by))]
 
 ghost use Rattle.std.specs.Prelude.{◌≡◌, IfOk, IsTrue, false, map};
 ghost use Rattle.std.specs.Char.{to_ascii_lowercase};
@@ -62,7 +63,6 @@ fn unescaped(alloc: Global, quoted: &str) -> Result<String, AllocError>
 }
 
 /// A text of token code points, in ASCII lower case.
-#[tactic(auto, using(crate::proofs::mime::FirstNames::lower_chars))]
 pub(super) fn lowercased(alloc: Global, text: &str) -> Result<String, AllocError>
     requires { IsTrue (is_token_text (chars text.now)) }
     ensures { IfOk result (λ lower. code_points lower ≡ map to_ascii_lowercase (chars text.now)) }

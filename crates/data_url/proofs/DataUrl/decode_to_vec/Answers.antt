@@ -1,7 +1,7 @@
 use Rattle.std.proofs.Common.{◌++◌, ◌∙◌, ap, rules, sym}
 use Rattle.data_url.specs.Fetch.{Good}
-use Rattle.data_url.specs.contracts.fn.DataUrl.decode_to_vec.decode_body as closure
 use Rattle.data_url.proofs.body.Decoding.{body_keeps, body_reads}
+use Rattle.data_url.specs.contracts.fn.DataUrl.decode_to_vec.decode_body as closure
 use Rattle.data_url.proofs.DataUrl.decode_to_vec.Goals as goal
 
 pub returns-in-Ok-0₀-clause-body : goal.returns-in-Ok-0₀-clause-body

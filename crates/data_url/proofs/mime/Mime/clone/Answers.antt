@@ -1,6 +1,6 @@
 use Rattle.data_url.specs.MimeType.{SameTexts}
 use Rattle.data_url.specs.declared.mime.Mime.{Mime}
-use Rattle.data_url.proofs.mime.Printing.{copied_pairs, same_seen}
+use Rattle.data_url.proofs.mime.RoundTrips.{copied_pairs, same_seen}
 use Rattle.data_url.proofs.mime.Mime.clone.Goals as goal
 
 pub returns-clause-texts : goal.returns-clause-texts
@@ -12,11 +12,4 @@ returns-clause-texts c = record {
 }
 
 pub returns-clause-seen : goal.returns-clause-seen
-returns-clause-seen c =
-    let copy : Mime = record {
-      type_ = c.in_ok-clone.field-0;
-      subtype = c.in_ok-clone-2.field-0;
-      parameters = c.in_ok-clone-3.field-0;
-    } in
-    let same : SameTexts copy c.args.self.now = returns-clause-texts c in
-    same_seen copy c.args.self.now same
+returns-clause-seen c = same_seen _ c.args.self.now (returns-clause-texts c)

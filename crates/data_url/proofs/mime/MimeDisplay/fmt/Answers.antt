@@ -1,7 +1,6 @@
-use Rattle.std.proofs.Common.{refl}
+use Rattle.std.proofs.Common.{arith, refl}
 use Rattle.std.proofs.Output.{has_written_styled_nil, has_written_styled_of_eq}
-use Rattle.data_url.proofs.mime.Printing.{added_flushed, added_none, record_ends, record_more, record_starts}
-use Rattle.data_url.proofs.mime.Printing.{written_plain}
+use Rattle.data_url.proofs.mime.RoundTrips.{added_flushed, added_none, record_ends, record_more, record_starts}
 use Rattle.data_url.proofs.mime.MimeDisplay.fmt.Goals as goal
 
 pub loop-name-init : goal.loop-name-init
@@ -36,4 +35,4 @@ returns-clause-styled g c plain ok =
     (added_flushed now.1 (c.flush.ensures.written now.1.wrote.flush ok))
 
 pub returns-clause-writes : goal.returns-clause-writes
-returns-clause-writes g c plain ok = written_plain plain (returns-clause-styled g c plain.flush ok)
+returns-clause-writes g c plain ok = let styled = returns-clause-styled g c plain.flush ok in grind arith

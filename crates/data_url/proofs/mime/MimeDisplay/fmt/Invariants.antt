@@ -4,7 +4,7 @@ use Rattle.std.specs.Fmt.{IsFlush}
 use Rattle.data_url.specs.Mime.{printed}
 use Rattle.data_url.specs.MimeType.{record_of}
 use Rattle.data_url.specs.Steps.Printing.{Adds, IsHeld}
-use Rattle.data_url.proofs.mime.Printing.{pairs_text}
+use Rattle.data_url.proofs.mime.RoundTrips.{pairs_text}
 use Rattle.data_url.proofs.mime.MimeDisplay.fmt.Given as goal
 
 abbrev pub invariant-loop-name : goal.invariant-loop-name

@@ -1,11 +1,10 @@
 use Rattle.std.proofs.Common.{◌≡◌, Bool, rules, subst, sym}
 use Rattle.std.specs.Prelude.{◌↔◌, IsTrue}
 use Rattle.data_url.specs.MimeType.{SameTexts, same_texts}
-use Rattle.data_url.proofs.mime.Printing.{same_decides}
+use Rattle.data_url.proofs.mime.RoundTrips.{same_decides}
 use Rattle.data_url.proofs.mime.MimePartialEq.eq.Goals as goal
 
 pub returns-then-eq-2-clause-same : goal.returns-then-eq-2-clause-same
 returns-then-eq-2-clause-same c =
     let value : c.eq-then-eq-2.result ≡ same_texts c.args.self.now c.args.other.now = search rules in
-    let told : Bool → Type 0 = λ v. IsTrue v ↔ SameTexts c.args.self.now c.args.other.now in
-    subst told (sym value) (same_decides c.args.self.now c.args.other.now)
+    rw value (same_decides c.args.self.now c.args.other.now)

@@ -1,28 +1,27 @@
-use Rattle.std.proofs.Common.{◌++◌, ap, sym, ◌∙◌}
+use Rattle.std.proofs.Common.{◌++◌, ap, inl, inr, map, sym, ◌∙◌}
+use Rattle.std.specs.Char.{to_ascii_lowercase}
 use Rattle.std.proofs.lemmas.Result.{on_ok_weaker}
 use Rattle.std.specs.Option.{option_map}
 use Rattle.std.specs.Str.{chars}
 use Rattle.data_url.specs.Mime.{is_lowercase_name}
 use Rattle.data_url.specs.MimeType.{code_points}
 use Rattle.data_url.specs.Steps.Kept.{pairs_of}
-use Rattle.data_url.specs.Steps.Parsing.{unless_named}
-use Rattle.data_url.proofs.mime.FirstNames.{invalid_name, known_name, lowercase_name, new_pair, none_added}
-use Rattle.data_url.proofs.mime.FirstNames.{token_text_lower}
-use Rattle.data_url.proofs.mime.parse.keep.Goals as goal
+use Rattle.data_url.specs.Steps.Parsing.{unless_named, value_of}
+use Rattle.data_url.proofs.mime.FirstNames.{not_kept, lowercase_name, new_pair, none_added, token_text_lower}
 use Rattle.data_url.proofs.mime.parse.keep.Goals.{then-not-is_token_text-via-then-not-is_token_text}
 use Rattle.data_url.proofs.mime.parse.keep.Goals.{then-not-is_token_text-via-else-not-is_token_text+then-is_among_first}
+use Rattle.data_url.proofs.mime.parse.keep.Goals as goal
 
 pub returns-then-not-is_token_text-clause-pairs : goal.returns-then-not-is_token_text-clause-pairs
 returns-then-not-is_token_text-clause-pairs c =
-    let pairs = pairs_of c.args.kept.now in
-    elim c.then-not-is_token_text.branch [
+    none_added c.args.kept.now.pairs.items _ (not_kept (pairs_of c.args.kept.now)
+    (map to_ascii_lowercase (chars c.args.parameter.now.name.now)) (value_of c.args.parameter.now.value)
+    (elim c.then-not-is_token_text.branch [
       | then-not-is_token_text-via-then-not-is_token_text w ↦
-          none_added c.args.kept.now.pairs.items _ (ap (unless_named pairs)
-          (invalid_name _ _ (token_text_lower _ ∙ sym c.is_token_text.ensures ∙ w.if-not-is_token_text.true)))
+          inl (token_text_lower _ ∙ sym c.is_token_text.ensures ∙ w.if-not-is_token_text.true)
       | then-not-is_token_text-via-else-not-is_token_text+then-is_among_first w ↦
-          none_added c.args.kept.now.pairs.items _
-          (known_name pairs _ _ (sym w.is_among_first.ensures ∙ w.if-is_among_first.true))
-    ]
+          inr (sym w.is_among_first.ensures ∙ w.if-is_among_first.true)
+    ]))
 
 pub push-requires-clause-lower : goal.push-requires-clause-lower
 push-requires-clause-lower c = ap is_lowercase_name c.in_ok-lowercased.ensures

@@ -1,14 +1,8 @@
-use Rattle.std.proofs.Common.{◌≡◌, ◌==◌, false, length, sym, ◌∙◌}
+use Rattle.std.proofs.Common.{◌≡◌, ◌==◌, arith, false, length}
 use Rattle.data_url.proofs.texts.CodePoints.{same_empty}
 use Rattle.std.specs.Str.{chars}
-use Rattle.data_url.proofs.mime.Parsing.{begins_empty, begins_mark, is_head, no_parameters, no_slash, no_subtype}
-use Rattle.data_url.proofs.mime.Parsing.{no_type}
+use Rattle.data_url.proofs.mime.Parsing.{no_parameters, no_slash, no_subtype}
 use Rattle.data_url.proofs.mime.parse.read_head.Goals as goal
-use Rattle.data_url.proofs.mime.parse.read_head.Goals.{then-not-is_empty+in_ok-after_mark-2, else-not-is_empty}
-
-pub returns-in_err-type_ : goal.returns-in_err-type_
-returns-in_err-type_ c = rw c.from_residual.ensures (no_type _ (chars c.without_trailing_whitespace-text.result.now)
-    (cc) c.in_err-type_.ensures)
 
 pub returns-in_err-after_mark : goal.returns-in_err-after_mark
 returns-in_err-after_mark c =
@@ -22,18 +16,7 @@ returns-in_err-subtype c =
 pub returns-in_err-after_mark-2 : goal.returns-in_err-after_mark-2
 returns-in_err-after_mark-2 c =
     let p = c.without_leading_whitespace-parameters in
-    let n : (length (chars p.result.now) == 0) ≡ false =
-    same_empty p.result.now p.utf8 ∙ sym c.is_empty.ensures ∙ c.if-not-is_empty.true in
+    let n : (length (chars p.result.now) == 0) ≡ false = grind (arith, same_empty) in
     rw c.from_residual-in_err-after_mark-2.ensures (no_parameters c.in_ok-type_.ensures
     (cc) _ c.in_ok-after_mark.ensures _
     c.in_ok-subtype.ensures p.ensures n c.in_err-after_mark-2.ensures)
-
-pub returns : goal.returns
-returns c =
-    let p = c.without_leading_whitespace-parameters in
-    is_head c.in_ok-type_.ensures (cc) _ c.in_ok-after_mark.ensures _ c.in_ok-subtype.ensures p.ensures
-    (elim c.if-not-is_empty.branch [
-      | then-not-is_empty+in_ok-after_mark-2 w ↦ begins_mark _ _ w.in_ok-after_mark-2.ensures
-      | else-not-is_empty w ↦ begins_empty _ (same_empty p.result.now p.utf8 ∙ sym c.is_empty.ensures
-          ∙ w.if-not-is_empty.false)
-    ])

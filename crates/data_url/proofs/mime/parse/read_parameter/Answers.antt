@@ -1,9 +1,9 @@
 use Rattle.std.proofs.Common.{arith, refl, ◌∙◌}
 use Rattle.std.specs.Str.{chars}
 use Rattle.data_url.specs.Steps.Parsing.{in_name}
-use Rattle.data_url.proofs.mime.Parsing.{pair_by, rest_by}
+use Rattle.data_url.proofs.mime.Parsing.{parameter_by}
 use Rattle.data_url.proofs.mime.TokenTexts.{names_steady}
-use Rattle.data_url.proofs.texts.CodePoints.{cut_by, cut_front}
+use Rattle.data_url.proofs.texts.CodePoints.{cut_front}
 use Rattle.data_url.proofs.mime.parse.read_parameter.Goals as goal
 
 pub split_at-requires : goal.split_at-requires
@@ -12,19 +12,13 @@ split_at-requires c = grind (arith, cut_front in_name names_steady)
 pub returns-in_default : goal.returns-in_default
 returns-in_default c =
     let t = c.without_leading_whitespace-text in
-    let cut = cut_by names_steady t.utf8 c.name_len.ensures c.as_bytes.ensures.value c.split_at.ensures.front
-    c.split_at.ensures.back in
-    record {
-      pair = pair_by (chars c.args.text.now) t.ensures cut.1 c.in_default.ensures _ _ cut.0 refl;
-      rest = rest_by (chars c.args.text.now) t.ensures cut.1 c.in_default.ensures;
-    }
+    let h = parameter_by (chars c.args.text.now) t.utf8 c.name_len.ensures c.as_bytes.ensures.value
+    c.split_at.ensures.front c.split_at.ensures.back t.ensures c.in_default.ensures _ refl in
+    record { pair = h.0; rest = h.1 }
 
 pub returns : goal.returns
 returns c =
     let t = c.without_leading_whitespace-text in
-    let cut = cut_by names_steady t.utf8 c.name_len.ensures c.as_bytes.ensures.value c.split_at.ensures.front
-    c.split_at.ensures.back in
-    record {
-      pair = pair_by (chars c.args.text.now) t.ensures cut.1 c.in-Some.ensures _ _ cut.0 c.read_value.ensures.value;
-      rest = c.read_value.ensures.rest ∙ rest_by (chars c.args.text.now) t.ensures cut.1 c.in-Some.ensures;
-    }
+    let h = parameter_by (chars c.args.text.now) t.utf8 c.name_len.ensures c.as_bytes.ensures.value
+    c.split_at.ensures.front c.split_at.ensures.back t.ensures c.in-Some.ensures _ c.read_value.ensures.value in
+    record { pair = h.0; rest = c.read_value.ensures.rest ∙ h.1 }

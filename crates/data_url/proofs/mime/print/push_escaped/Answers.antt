@@ -1,7 +1,8 @@
 use Rattle.std.proofs.Common.{not, refl}
+use Rattle.std.proofs.Output.{has_written_styled_append}
 use Rattle.data_url.specs.Steps.Parsing.{is_escaped}
-use Rattle.data_url.proofs.mime.ParameterValues.{unescaped_steady, whole_passes}
-use Rattle.data_url.proofs.mime.Printing.{added_flushed, added_written, plain_text}
+use Rattle.data_url.proofs.mime.Parsing.{unescaped_steady, whole_passes}
+use Rattle.data_url.proofs.mime.RoundTrips.{added_flushed, added_none, plain_text}
 use Rattle.data_url.proofs.mime.print.push_escaped.Goals as goal
 
 pub returns-then-long_span-text-clause-added : goal.returns-then-long_span-text-clause-added
@@ -14,4 +15,5 @@ returns-then-long_span-text-clause-added g c start before x ok =
 pub returns-clause-added : goal.returns-clause-added
 returns-clause-added g c start before x ok =
     let all = added_flushed x (c.in_ok-flush.ensures.written x.wrote.flush refl) in
-    added_written _ all (c.write_each_escaped.ensures all.flush ok) c.in_ok-flush.ensures.none
+    let more = has_written_styled_append _ _ _ _ _ _ all (c.write_each_escaped.ensures all.flush ok) in
+    added_none _ more c.in_ok-flush.ensures.none

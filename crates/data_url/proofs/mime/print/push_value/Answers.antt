@@ -1,5 +1,5 @@
 use Rattle.std.proofs.Common.{refl}
-use Rattle.data_url.proofs.mime.Printing.{added_of_eq, quoted_value_text, token_value}
+use Rattle.data_url.proofs.mime.RoundTrips.{added_of_eq, quoted_value_text, token_value}
 use Rattle.data_url.proofs.mime.print.push_value.Goals as goal
 
 pub returns-then-is_token_text-clause-added : goal.returns-then-is_token_text-clause-added

@@ -1,17 +1,15 @@
 use Rattle.std.proofs.Common.{refl}
-use Rattle.data_url.proofs.mime.Printing.{added_flushed, added_held, added_none, added_written, held_more, held_none}
+use Rattle.std.proofs.Output.{has_written_styled_append}
+use Rattle.data_url.proofs.mime.RoundTrips.{added_flushed, added_held, added_none}
 use Rattle.data_url.proofs.mime.line.Line.push_past_room.Goals as goal
 
 pub returns-then-text-gt-ROOM-clause-added : goal.returns-then-text-gt-ROOM-clause-added
 returns-then-text-gt-ROOM-clause-added g c start before x ok =
     let all = added_flushed x (c.in_ok-flush.ensures.written x.wrote.flush refl) in
-    added_written _ all (c.write_str.ensures.styled all.flush ok) c.in_ok-flush.ensures.none
+    let more = has_written_styled_append _ _ _ _ _ _ all (c.write_str.ensures.styled all.flush ok) in
+    added_none _ more c.in_ok-flush.ensures.none
 
 pub returns-clause-added : goal.returns-clause-added
 returns-clause-added g c start before x ok =
     let all = added_flushed x (c.in_ok-flush.ensures.written x.wrote.flush refl) in
-    added_held _ (added_none _ all (held_none _ c.in_ok-flush.ensures.none)) c.hold.ensures.text
-
-pub returns-clause-held : goal.returns-clause-held
-returns-clause-held g c = held_more _ _ _ c.in_ok-flush.ensures.held.text c.utf8.text c.hold.ensures.text
-    c.hold.ensures.fits
+    added_held _ (added_none _ all c.in_ok-flush.ensures.none) c.hold.ensures.text
