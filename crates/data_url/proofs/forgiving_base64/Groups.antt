@@ -1,7 +1,7 @@
 -- Groups of four symbols, and texts that are fed in two parts.
 use Rattle.std.proofs.Common.{◌≡◌, ℕ, suc, ◌+◌, ◌*◌, ◌≤◌, true, ◌&&◌, ◌||◌, List, [], ◌∷◌, ◌++◌, map, length}
 use Rattle.std.proofs.Common.{get_or, take, drop, Fits, w8, refl, ap, ap₂, arith, length-take, length-take-le}
-use Rattle.std.proofs.Common.{false, min, None, take-add, append_assoc, length-append, ◌/◌}
+use Rattle.std.proofs.Common.{◌∙◌, false, length-drop, min, None, take-add, append_assoc, length-append, ◌/◌}
 use Rattle.std.specs.List.{list_all, prefix_len, filter, list_any}
 use Rattle.std.proofs.lemmas.Bool.{and_parts}
 use Rattle.std.proofs.lemmas.List.{get_or-take, get_or_past, length-map, take-append-drop, take-map}
@@ -140,6 +140,40 @@ row_fills old new decoded row text g m k room put is first few long within fits 
       take-take (3 * m) 12 decoded (omega arith),
     ) in
     rw e (fill_row held text 16 m k long (omega arith) within fits all spaces)
+
+-- no bytes are read
+pub fills_nothing : (held text : List ℕ) → Fills held text 0 held
+unfolding groups
+fills_nothing held text = grind (arith, append-nil)
+
+-- some bytes fill held to h1, and then more of them fill h1 to h2
+pub fills_then : {held h1 h2 text : List ℕ} (at n : ℕ) → Fills held text at h1 → Fills h1 (drop at text) n h2
+    → Fills held text (at + n) h2
+fills_then {held} {h1} {h2} {text} at n f g =
+    let x = filter is_symbol (take at text) in
+    let y = filter is_symbol (take n (drop at text)) in
+    let both : filter is_symbol (take (at + n) text) ≡ x ++ y =
+    ap (filter is_symbol) (take-add at n text) ∙ filter-append is_symbol (take at text) (take n (drop at text)) in
+    record {
+      within = omega (arith, f.within, g.within, length-drop at text);
+      whole = record {
+        spaced = cc (
+          take-add at n text,
+          list_all-append is_symbol_or_space (take at text) (take n (drop at text)),
+          f.whole.spaced,
+          g.whole.spaced,
+        );
+        whole = omega (arith, ap length both, length-append x y, f.whole.whole, g.whole.whole);
+      };
+      held_are = cc (
+        both,
+        g.held_are,
+        f.held_are,
+        map-append symbol_value x y,
+        groups_whole (map symbol_value x) (map symbol_value y) (omega (arith, length-map x symbol_value, f.whole.whole)),
+        append_assoc held (groups (map symbol_value x)) (groups (map symbol_value y)),
+      );
+    }
 
 -- one group
 pub fill_one : (held text bytes : List ℕ) → 4 ≤ length text → is_symbol (get_or text 0 0) ≡ true

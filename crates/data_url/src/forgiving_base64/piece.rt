@@ -77,7 +77,7 @@ impl Piece {
         self.groups += 1;
     }
 
-    /// Adds whole groups that a text begins with: those of a row of sixteen bytes, or one group. White space after the
+    /// Adds whole groups that a text begins with: those of rows of sixteen bytes, or one group. White space after the
     /// groups of a row is skipped. Returns how many bytes of the text these take.
     #[inline(always)]
     pub(crate) fn fill(&mut self, text: &[u8]) -> usize
@@ -86,15 +86,7 @@ impl Piece {
         ensures fills { Fills (bytes_of self.old) text.now result (bytes_of self.new) }
     {
         if text.len() >= 16 {
-            let row = row(text, 0);
-            put(&mut self.bytes, 3 * self.groups, decode_row(row));
-            if are_symbols(row) {
-                self.groups += 4;
-                return 16;
-            }
-            let groups = groups_ahead(row);
-            self.groups += groups;
-            return 4 * groups + spaces_len(&text[4 * groups..]);
+            return self.fill_rows(text);
         }
         if text.len() < 4
             || !is_symbol(text[0])
@@ -106,5 +98,29 @@ impl Piece {
         }
         self.push(group_of(text[0], text[1], text[2], text[3]));
         4
+    }
+
+    /// Adds the groups of the rows of sixteen symbols that a text begins with, and those that the next row begins with.
+    /// Returns how many bytes of the text these and the white space after them take.
+    #[inline(always)]
+    fn fill_rows(&mut self, text: &[u8]) -> usize
+        requires room { self.old.groups < 16 }
+        ensures none { result ≡ 0 → self.new.groups ≡ self.old.groups }
+        ensures fills { Fills (bytes_of self.old) text.now result (bytes_of self.new) }
+    {
+        let mut at = 0;
+        while text.len() - at >= 16 && self.groups < ROOM {
+            let row = row(text, at);
+            put(&mut self.bytes, 3 * self.groups, decode_row(row));
+            if !are_symbols(row) {
+                let groups = groups_ahead(row);
+                self.groups += groups;
+                at += 4 * groups;
+                return at + spaces_len(&text[at..]);
+            }
+            self.groups += 4;
+            at += 16;
+        }
+        at
     }
 }
