@@ -118,7 +118,12 @@ fill_row held block n m k long few within fits all spaces =
         whole = omega (arith, ap length symbols);
       };
       held_are = cc (
-        take_groups m (map value_of (take n block)) (omega (arith, length-map (take n block) value_of, length-take-le n block long)),
+        take_groups m (map value_of (take n block)) (omega (
+          arith,
+          length-map (take n block) value_of,
+          length-take-le
+              n block long,
+        )),
         take-map value_of (4 * m) (take n block),
         take-take (4 * m) n block few,
       );
@@ -170,7 +175,11 @@ fills_then {held} {h1} {h2} {text} at n f g =
         g.held_are,
         f.held_are,
         map-append symbol_value x y,
-        groups_whole (map symbol_value x) (map symbol_value y) (omega (arith, length-map x symbol_value, f.whole.whole)),
+        groups_whole (map symbol_value x) (map symbol_value y) (omega (
+          arith,
+          length-map x symbol_value,
+          f.whole.whole,
+        )),
         append_assoc held (groups (map symbol_value x)) (groups (map symbol_value y)),
       );
     }

@@ -1,5 +1,6 @@
 -- Blocks of 64 symbols in vectors. For `blocks.rt` and `lanes.rt`.
-use Rattle.std.proofs.Common.{drop-drop, ◌≡◌, ℕ, ◌<◌, ltb, true, cond, eqb, get_or, refl, sym, ◌∙◌, arith, suc, zero, ◌+◌, ◌*◌}
+use Rattle.std.proofs.Common.{drop-drop, ◌≡◌, ℕ, ◌<◌, ltb, true, cond, eqb, get_or, refl, sym, ◌∙◌, arith, suc, zero}
+use Rattle.std.proofs.Common.{◌+◌, ◌*◌}
 use Rattle.std.proofs.Common.{◌/◌, ◌%◌, ◌^◌, Bool, not, List, [], ◌∷◌, ◌++◌, map, length, take, Fits, w8, ap, ap₂}
 use Rattle.std.proofs.Common.{subst, ◌≤◌, ◌&&◌, drop, bit_or, append_assoc, length-take-le, length-drop, take-add}
 use Rattle.std.proofs.lemmas.Bool.{agree_below_at, cond-true, eqb-true, ltb-true, cases_eq, ne_eqb}
@@ -242,7 +243,8 @@ others_mask v = mask_l (map is_other v)
 pub mask_lt : (v : List ℕ) → length v ≡ 16 → others_mask v < 65536
 mask_lt v long = grind (arith, length-map, mask_l-lt)
 
--- if the mask is a multiple of 16, its first four bytes are symbols, and the rest of it is the mask of the bytes after them
+-- if the mask is a multiple of 16, its first four bytes are symbols, and the rest of it is the mask of the bytes after
+-- them
 group_mask : (v : List ℕ) → 4 ≤ length v → others_mask v % 16 ≡ 0
     → (list_all is_symbol (take 4 v) ≡ true) × (others_mask v / 16 ≡ others_mask (drop 4 v))
 group_mask [] h e = absurd (omega arith)

@@ -14,7 +14,7 @@ use Rattle.std.proofs.lemmas.List.Sums.{suffix_len-le-length, prefix_len-drop_no
 use Rattle.std.proofs.lemmas.List.Sums.{prefix_len_passes, prefix_len_stops}
 use Rattle.std.proofs.lemmas.Slice.Eq.{bytes_eq-Decides}
 use Rattle.data_url.specs.Url.{is_c0_control_or_space, without_end, before, after, without_tabs_and_newlines}
-use Rattle.data_url.specs.Url.{encoded_byte, encoded_path, in_path_end_set, in_path_set, in_query_set}
+use Rattle.data_url.specs.Url.{encoded_byte, encoded_path, in_path_set, in_query_set}
 use Rattle.data_url.specs.Url.{is_tab_or_newline, percent_encoding, after_scheme, cleaned_text, serialised}
 use Rattle.data_url.specs.Url.{trimmed_text, with_query, without_front}
 use Rattle.data_url.specs.Fetch.{before_base64, before_semicolon, is_space, before_word, has_base64_suffix}

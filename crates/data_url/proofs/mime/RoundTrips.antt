@@ -7,7 +7,7 @@ use Rattle.std.proofs.lemmas.Str.{IsUtf8-append, IsUtf8-string_bytes, chars_past
 use Rattle.std.proofs.lemmas.Str.{encodes-chars}
 use Rattle.std.specs.declared.fmt.Formatter.{Formatter}
 use Rattle.std.proofs.Output.{has_written_styled_append, has_written_styled_of_eq}
-use Rattle.std.specs.Fmt.{HasWritten, HasWrittenStyled, IsPlainFormatter}
+use Rattle.std.specs.Fmt.{HasWrittenStyled}
 use Rattle.data_url.specs.Steps.Printing.{Adds, IsHeld, held}
 use Rattle.data_url.specs.declared.mime.line.Line.{Line}
 use Rattle.std.specs.List.{flat_map, AllZip, list_all}
@@ -32,7 +32,6 @@ use Rattle.data_url.specs.CodePoints.{ends_name, is_http_whitespace, is_quotable
 use Rattle.data_url.proofs.mime.TokenTexts.{every_token, token_below}
 use Rattle.data_url.proofs.mime.Items.{not_begins_append, has_at_most_one_record}
 use Rattle.data_url.proofs.mime.FirstNames.{lower_is_itself, test_from_different}
-use Rattle.data_url.specs.Url.{without_front}
 use Rattle.data_url.proofs.mime.Parsing.{ends_after}
 
 -- if the bytes so far and the escaped code points of r are the whole, they still are after the first code point of r is

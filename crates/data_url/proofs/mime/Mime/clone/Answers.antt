@@ -1,5 +1,3 @@
-use Rattle.data_url.specs.MimeType.{SameTexts}
-use Rattle.data_url.specs.declared.mime.Mime.{Mime}
 use Rattle.data_url.proofs.mime.RoundTrips.{copied_pairs, same_seen}
 use Rattle.data_url.proofs.mime.Mime.clone.Goals as goal
 

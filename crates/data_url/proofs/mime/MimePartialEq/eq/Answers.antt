@@ -1,6 +1,5 @@
-use Rattle.std.proofs.Common.{◌≡◌, Bool, rules, subst, sym}
-use Rattle.std.specs.Prelude.{◌↔◌, IsTrue}
-use Rattle.data_url.specs.MimeType.{SameTexts, same_texts}
+use Rattle.std.proofs.Common.{◌≡◌, rules}
+use Rattle.data_url.specs.MimeType.{same_texts}
 use Rattle.data_url.proofs.mime.RoundTrips.{same_decides}
 use Rattle.data_url.proofs.mime.MimePartialEq.eq.Goals as goal
 

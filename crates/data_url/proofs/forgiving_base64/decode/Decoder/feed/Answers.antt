@@ -11,7 +11,8 @@ use Rattle.data_url.proofs.forgiving_base64.decode.Decoder.feed.Goals as goal
 
 pub returns-in_err-write-in-Err-clause-fed : goal.returns-in_err-write-in-Err-clause-fed
 returns-in_err-write-in-Err-clause-fed g c =
-    let p = err_from_is_err_and c.from_residual-in_err-write-in-Err.result c.from_residual-in_err-write-in-Err.ensures.1 in
+    let p = err_from_is_err_and c.from_residual-in_err-write-in-Err.result
+    c.from_residual-in_err-write-in-Err.ensures.1 in
     let wrote = rw (c.as_slice.ensures, c.in-Err.ensures.1) at c.in_err-write-in-Err.ensures.wrote in
     rw (p.1, p.2) (feeds_stop (CalledAt g.F.FnMut) c.args.input.now c.loop-at.at (reads_flushed (CalledAt g.F.FnMut)
     {d1 = state_of c.take_some.new.self} (bytes_of c.loop-at.piece) (rw c.in-Err.ensures.0.stays
@@ -34,7 +35,8 @@ pub returns-in_err-write-clause-fed : goal.returns-in_err-write-clause-fed
 returns-in_err-write-clause-fed g c =
     let step = CalledAt g.F.FnMut in
     let bytes = bytes_of c.take_some.new.piece in
-    let reads = reads_gained step c.args.input.now c.loop-at.at c.in-Ok.taken c.loop-at.invariant.reads c.in-Ok.ensures in
+    let reads = reads_gained step c.args.input.now c.loop-at.at c.in-Ok.taken c.loop-at.invariant.reads
+    c.in-Ok.ensures in
     let wrote = rw c.as_slice-then-piece-ge-ROOM.ensures at c.in_err-write.ensures.wrote in
     let p = err_from_is_err_and c.from_residual-in_err-write.result c.from_residual-in_err-write.ensures.1 in
     rw (p.1, p.2) (feeds_stop step c.args.input.now (c.loop-at.at + c.in-Ok.taken) (reads_feeds step (take 48 bytes)
@@ -45,7 +47,8 @@ loop-at-preserved-then-piece-ge-ROOM g c =
     let step = CalledAt g.F.FnMut in
     let piece = c.take_some.new.piece in
     let bytes = bytes_of piece in
-    let reads = reads_gained step c.args.input.now c.loop-at.at c.in-Ok.taken c.loop-at.invariant.reads c.in-Ok.ensures in
+    let reads = reads_gained step c.args.input.now c.loop-at.at c.in-Ok.taken c.loop-at.invariant.reads
+    c.in-Ok.ensures in
     let wrote = rw c.as_slice-then-piece-ge-ROOM.ensures at c.in_ok-write.ensures.wrote in
     let long = length-take-le 48 bytes (omega (arith, bytes_len piece)) in
     record {

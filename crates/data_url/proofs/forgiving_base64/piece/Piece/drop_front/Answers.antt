@@ -14,7 +14,12 @@ returns-clause-bytes c =
     cc (
       take-take n 16 new (omega arith),
       take-take n 16 (drop 48 old.bytes) (omega arith),
-      take-paste old.bytes 0 (drop 48 old.bytes) 16 (omega (arith, old.sized)) (omega (arith, old.sized, length-drop 48 old.bytes)),
+      take-paste old.bytes 0 (drop 48 old.bytes) 16 (omega (arith, old.sized)) (omega (
+        arith,
+        old.sized,
+        length-drop
+            48 old.bytes,
+      )),
       drop_taken 48 (3 * old.groups) old.bytes,
       left,
       c.copy_within.ensures.after,

@@ -1,4 +1,5 @@
-use Rattle.std.proofs.Common.{ℕ, ◌*◌, ◌+◌, ◌≡◌, Fits, ap, arith, drop, drop-drop, get_or-drop, length-drop, refl, subst, sym}
+use Rattle.std.proofs.Common.{ℕ, ◌*◌, ◌+◌, ◌≡◌, Fits, ap, arith, drop, drop-drop, get_or-drop, length-drop, refl, subst}
+use Rattle.std.proofs.Common.{sym}
 use Rattle.std.proofs.Common.{take, w8, ◌∙◌}
 use Rattle.std.specs.List.{list_all}
 use Rattle.std.proofs.lemmas.List.{take-take, take_rest}
@@ -20,7 +21,8 @@ loop-at-preserved c =
       fills = fills_then c.loop-at.at 16 c.loop-at.invariant.fills (row_fills piece.bytes _ _ _ rest piece.groups 4 0
           (omega (arith, piece.sized)) c.put.ensures c.decode_row.ensures.bytes c.row-row.ensures
           (omega arith) (omega (arith, size)) (omega (arith, size))
-          (λ i. subst (Fits w8) (sym (get_or-drop c.loop-at.at c.args.text.now i 0)) (c.type_inv.text (c.loop-at.at + i)))
+          (λ i. subst (Fits w8) (sym (get_or-drop c.loop-at.at c.args.text.now i 0)) (c.type_inv.text (c.loop-at.at +
+          i)))
           (cc (c.row-row.ensures, c.are_symbols.ensures, c.if-not-are_symbols.false)) refl);
     }
 
