@@ -1,11 +1,12 @@
 -- Groups of four symbols, and texts that are fed in two parts.
 use Rattle.std.proofs.Common.{◌≡◌, ℕ, suc, ◌+◌, ◌*◌, ◌≤◌, true, ◌&&◌, ◌||◌, List, [], ◌∷◌, ◌++◌, map, length}
-use Rattle.std.proofs.Common.{get_or, take, drop, Fits, w8, refl, ap, ap₂, arith, length-take, length-take-le}
+use Rattle.std.proofs.Common.{◌-◌, drop-drop, get_or, get_or-drop, subst, sym, take, drop, Fits, w8, refl, ap, ap₂, arith}
+use Rattle.std.proofs.Common.{length-take, length-take-le}
 use Rattle.std.proofs.Common.{◌∙◌, false, length-drop, min, None, take-add, append_assoc, length-append, ◌/◌}
 use Rattle.std.specs.List.{list_all, prefix_len, filter, list_any}
 use Rattle.std.proofs.lemmas.Bool.{and_parts}
 use Rattle.std.proofs.lemmas.List.{get_or-take, get_or_past, length-map, take-append-drop, take-map}
-use Rattle.std.proofs.lemmas.List.{append-nil, take-take, take_at, map-append, length-replicate}
+use Rattle.std.proofs.lemmas.List.{append-nil, take-take, take_at, take_rest, map-append, length-replicate}
 use Rattle.std.proofs.lemmas.List.Elements.{filter-append}
 use Rattle.std.proofs.lemmas.List.Folds.{list_all-append}
 use Rattle.std.proofs.lemmas.List.Sums.{list_all-from_AllPass, prefix_len-le-length, prefix_len_passes}
@@ -183,6 +184,42 @@ fills_then {held} {h1} {h2} {text} at n f g =
         append_assoc held (groups (map symbol_value x)) (groups (map symbol_value y)),
       );
     }
+
+-- what was put after the first n bytes keeps these
+pub put_keeps : (old new row : List ℕ) (n : ℕ) → n ≤ length old → take (n + 16) new ≡ take n old ++ row
+    → take n new ≡ take n old
+put_keeps old new row n h e =
+    cc (take-take n (n + 16) new (omega arith), e, take_at (take n old) row n (length-take-le n old h))
+
+-- rest is the text after whole groups and white space, and held' is held followed by the bytes of these groups
+pub record Leaves (held text rest held' : List ℕ) : Type 0 where
+  pub short : length rest ≤ length text
+  pub rest_is : rest ≡ drop (length text - length rest) text
+  pub fills : Fills held text (length text - length rest) held'
+
+-- before any group is read
+pub leaves_all : (held text : List ℕ) → Leaves held text text held
+leaves_all held text = grind (arith, fills_nothing)
+
+-- some more groups are read
+pub leaves_then : {held h1 h2 text rest : List ℕ} (n : ℕ) → Leaves held text rest h1 → Fills h1 rest n h2
+    → Leaves held text (take (length rest - n) (drop n rest)) h2
+leaves_then {held} {h1} {h2} {text} {rest} n l f =
+    let at = length text - length rest in
+    let size : length (drop n rest) ≡ length rest - n = length-drop n rest in
+    let place : length text - length (drop n rest) ≡ at + n = omega (arith, size, f.within, l.short) in
+    rw (take_rest rest n) (record {
+      short = omega (arith, size, l.short);
+      rest_is = cc (place, l.rest_is, drop-drop n at text);
+      fills = rw place (fills_then at n l.fills (rw (sym l.rest_is) f));
+    })
+
+-- if each byte of the text is at most 255, so is each of the rest
+pub leaves_fits : {held text rest held' : List ℕ} → Leaves held text rest held'
+    → ((i : ℕ) → Fits w8 (get_or text i 0)) → (i : ℕ) → Fits w8 (get_or rest i 0)
+leaves_fits {text = text} {rest = rest} l fits i =
+    subst (λ t. Fits w8 (get_or t i 0)) (sym l.rest_is)
+    (subst (Fits w8) (sym (get_or-drop (length text - length rest) text i 0)) (fits (length text - length rest + i)))
 
 -- one group
 pub fill_one : (held text bytes : List ℕ) → 4 ≤ length text → is_symbol (get_or text 0 0) ≡ true

@@ -3,7 +3,7 @@ use Rattle.std.proofs.Common.{◌*◌, ◌≡◌, ℕ, suc, zero, ◌+◌, ◌-�
 use Rattle.std.proofs.Common.{true, false, cond, min, ◌||◌, List, [], ◌∷◌, ◌++◌, length, map, drop, get_or, take}
 use Rattle.std.proofs.Common.{take-add}
 use Rattle.std.proofs.Common.{Option, None, Some, is_some, Result, Ok, Err, refl, ap, sym, ◌∙◌, subst, arith}
-use Rattle.std.proofs.Common.{append_assoc, length-append, length-take}
+use Rattle.std.proofs.Common.{append_assoc, drop-drop, length-append, length-take, take-append-drop}
 use Rattle.std.specs.List.{filter, list_all}
 use Rattle.std.proofs.lemmas.Bool.{and_parts, true≢false}
 use Rattle.std.proofs.lemmas.List.{append-nil, get_or-drop, length-drop, nil_from_length}
@@ -132,24 +132,23 @@ byte_at s at h = grind (arith, get_or, take_rest, get_or-drop)
 pub taken_more : (s : List ℕ) (at n : ℕ) → take at s ++ take n (take (length s - at) (drop at s)) ≡ take (at + n) s
 taken_more s at n = cc (take-add at n s, take_rest s at)
 
+-- the bytes of s from `at` on, and b, are those up to `end`, and then the others and b
+pub held_cut : (s b : List ℕ) (at end : ℕ) → at ≤ end
+    → take (end - at) (drop at s) ++ (drop end s ++ b) ≡ drop at s ++ b
+held_cut s b at end h =
+    let e : at + (end - at) ≡ end = omega arith in
+    cc (
+      take-append-drop (end - at) (drop at s),
+      append_assoc (take (end - at) (drop at s)) (drop end s) b,
+      drop-drop (end - at) at s,
+      e,
+    )
+
 module _ {F E : Type 0} (step : F → List ℕ → Result (Unit {0}) E → F → Type 0) where
-  -- a call with at least one byte
-  pub flushes_call : {d d' : State F} {r : Result (Unit {0}) (DecodeError E)} (bytes : List ℕ) → 0 < length bytes
-      → CallsOnce step d bytes r d' → Flushes step d bytes r d'
-  flushes_call [] some w = absurd (omega arith)
-  flushes_call (b ∷ bs) some w = w
-
-  -- flushing bytes between two groups leaves the decoder between two groups
-  pub flushed_between : (d d' : State F) (r : Result (Unit {0}) (DecodeError E)) (bytes : List ℕ) → IsBetweenGroups d
-      → Flushes step d bytes r d' → IsBetweenGroups d'
-  flushed_between d d' r [] i f = rw f.1 i
-  flushed_between d d' r (b ∷ bs) i w = (w.symbols_stay ∙ i.0, w.padding_stays ∙ i.1)
-
-  -- flushing the bytes that are held does not change what is left over
-  flushed_left : (d d' : State F) (r : Result (Unit {0}) (DecodeError E)) (held : List ℕ) → Flushes step d held r d'
-      → left_over d' ≡ left_over d
-  flushed_left d d' r [] f = ap left_over f.1
-  flushed_left d d' r (b ∷ bs) w = grind arith
+  -- a call between two groups leaves the decoder between two groups
+  pub called_between : (d d' : State F) (r : Result (Unit {0}) (DecodeError E)) (bytes : List ℕ) → IsBetweenGroups d
+      → CallsOnce step d bytes r d' → IsBetweenGroups d'
+  called_between d d' r bytes i w = (w.symbols_stay ∙ i.0, w.padding_stays ∙ i.1)
 
   -- if c is a fault and completes no group, feeding c returns its error without a call, and d has failed
   refuses_feeds : {d d1 d2 d' : State F} {c : ℕ} {kind : Kind} → left_over d ≡ left_over d1 → Refuses d1 c kind d2
@@ -211,10 +210,8 @@ module _ {F E : Type 0} (step : F → List ℕ → Result (Unit {0}) E → F →
   -- the closure accepts a front of the bytes that are held
   pub reads_called : {d d1 d2 : State F} {t : List ℕ} (a b : List ℕ) → (length b + 2) / 3 < (length a + length b + 2)
       / 3
-      → Reads step d t (a ++ b) d1 → Flushes step d1 a (Ok tt) d2 → Reads step d t b d2
-  reads_called [] b some r c = absurd (omega arith)
-  reads_called {d} {d1} {d2} (x ∷ xs) b some r c =
-      let a = x ∷ xs in
+      → Reads step d t (a ++ b) d1 → CallsOnce step d1 a (Ok tt) d2 → Reads step d t b d2
+  reads_called {d} {d1} {d2} a b some r c =
       let call = record { piece = a; answer = c.told; after = d2.closure } ∷ [] in
       record {
         run = r.run ++ call;
@@ -233,12 +230,11 @@ module _ {F E : Type 0} (step : F → List ℕ → Result (Unit {0}) E → F →
         going = c.failed;
       }
 
-  -- a call with a front of the bytes that are held ends the feeding, with all of them or with an error
-  pub reads_feeds : {d d1 d2 : State F} {t : List ℕ} {r : Result (Unit {0}) (DecodeError E)} (a b : List ℕ)
-      → Reads step d t (a ++ b) d1 → Flushes step d1 a r d2 → (r ≡ Ok tt → b ≡ []) → Feeds step d t r d2
-  reads_feeds [] b h f all = let e = all f.0 in grind (arith, match_none, append-nil, e)
-  reads_feeds {d} {d1} {d2} {t} {r} (x ∷ xs) b h c all =
-      let a = x ∷ xs in
+  -- if the closure refuses a front of the bytes that are held, its error ends the feeding
+  pub reads_refused : {d d1 d2 : State F} {t : List ℕ} {x : DecodeError E} (a b : List ℕ)
+      → (length b + 2) / 3 < (length a + length b + 2) / 3
+      → Reads step d t (a ++ b) d1 → CallsOnce step d1 a (Err x) d2 → Feeds step d t (Err x) d2
+  reads_refused {d} {d1} {d2} {t} {x} a b some h c =
       let call = record { piece = a; answer = c.told; after = d2.closure } ∷ [] in
       let joined : joined_pieces (h.run ++ call) ≡ joined_pieces h.run ++ a =
       joined_pieces-append h.run call ∙ ap (λ x. joined_pieces h.run ++ x) (append-nil a) in
@@ -246,33 +242,45 @@ module _ {F E : Type 0} (step : F → List ℕ → Result (Unit {0}) E → F →
         run = h.run ++ call;
         ran = run-append step h.run call d.closure d1.closure d2.closure h.ran h.accepted
             (one_call step _ _ a _ c.called);
-        calls = omega (arith, h.calls, length-append a b, length-append h.run call);
+        calls = omega (arith, h.calls, some, length-append a b, length-append h.run call);
         failed = c.failed;
-        gave = match_at _ _ _ _ (refusal-append h.run call h.accepted) (told_call c.told r _ _ _
-            (b, cc (joined, append_assoc (joined_pieces h.run) a b, h.bytes_are))
-            (λ e. record {
-              bytes_are = cc (joined, all e, append-nil a, h.bytes_are);
-              answer = match_none _ _ _ h.no_fault (e, left_stays h.left c.symbols_stay c.padding_stays);
-            })
-            c.answer);
+        gave = match_at _ _ _ _ (refusal-append h.run call h.accepted) (told_call c.told (Err x) _ _ _
+            (b, cc (joined, append_assoc (joined_pieces h.run) a b, h.bytes_are)) (λ e. absurd cc) c.answer);
       }
 
-  -- the bytes that are held are flushed
-  pub reads_flushed : {d d1 d2 : State F} {t : List ℕ} {r : Result (Unit {0}) (DecodeError E)} (held : List ℕ)
-      → Reads step d t held d1 → Flushes step d1 held r d2 → Feeds step d t r d2
-  reads_flushed held h f = reads_feeds held [] (rw (append-nil held) h) f (λ e. refl)
+  -- a text was fed if it was read and no bytes are held
+  pub reads_feeds : {d d1 : State F} {t : List ℕ} → Reads step d t [] d1 → Feeds step d t (Ok tt) d1
+  reads_feeds {d} {d1} {t} h = record {
+    run = h.run;
+    ran = h.ran;
+    calls = omega (arith, h.calls);
+    failed = h.going;
+    gave = match_none _ _ _ h.accepted (record {
+      bytes_are = sym (append-nil (joined_pieces h.run)) ∙ h.bytes_are;
+      answer = match_none _ _ _ h.no_fault (refl, h.left);
+    });
+  }
 
-  -- if the byte at an index is a fault, feeding s returns its error after the bytes before it are flushed
-  pub reads_fault : {d d1 d2 d4 : State F} {held : List ℕ} {kind : Kind} (d3 : State F) (s : List ℕ) (at c : ℕ)
-      → at < length s → c ≡ get_or s at 0 → Reads step d (take at s) held d1 → Refuses d1 c kind d2
-      → Flushes step d2 held (Ok tt) d3 → d4 ≡ record d3 { failed = true }
-      → Feeds step d s (Err (InvalidBase64 kind)) d4
-  reads_fault {d} {d1} {d2} {d4} {held} {kind} d3 s at c inside is h f flushed same =
+  -- passing all bytes that are held to the closure ends the feeding
+  pub reads_flushed : {d d1 d2 : State F} {t : List ℕ} (held : List ℕ) (r : Result (Unit {0}) (DecodeError E))
+      → Reads step d t held d1 → Flushes step d1 held r d2 → Feeds step d t r d2
+  reads_flushed {d} {t = t} held (Ok u) h f = reads_feeds (f d t [] (rw (append-nil held) h))
+  reads_flushed {d} {t = t} held (Err e) h f = f d t [] (rw (append-nil held) h)
+
+  -- if the byte at an index is a fault, feeding s returns its error after the bytes before it
+  pub reads_fault : {d d1 d2 d3 d4 : State F} {held : List ℕ} {kind : Kind} (s : List ℕ) (at c : ℕ) → at < length s
+      → c ≡ get_or s at 0 → Reads step d (take at s) held d1 → Refuses d1 c kind d2 → Reads step d (take at s) [] d3
+      → d4 ≡ record d3 { failed = true } → Feeds step d s (Err (InvalidBase64 kind)) d4
+  reads_fault {d} {d1} {d2} {d3} {d4} {held} {kind} s at c inside is before f after same =
       let P : List ℕ → Type 0 = λ t. Feeds step d t (Err (InvalidBase64 kind)) d4 in
       let more : take at s ++ c ∷ [] ≡ take (at + 1) s = cc (take_more s at 0 inside) in
-      let left = flushed_left d2 d3 (Ok tt) held flushed ∙ ap left_over f.stays in
-      let fed = reads_flushed held (rw f.stays h) flushed in
-      feeds_stop step s (at + 1) (subst P more (feeds_then step fed (refuses_feeds left f same)))
+      let left : left_over d3 ≡ left_over d1 = cc (
+        before.left.symbols_are,
+        before.left.padding_is,
+        after.left.symbols_are,
+        after.left.padding_is,
+      ) in
+      feeds_stop step s (at + 1) (subst P more (feeds_then step (reads_feeds after) (refuses_feeds left f same)))
 
   -- a block of symbols is read
   pub block_reads : {d d1 : State F} {bytes : List ℕ} (s : List ℕ) (at : ℕ) → ((i : ℕ) → Fits w8 (get_or s i 0))

@@ -22,7 +22,7 @@ use Rattle.data_url.specs.Mime.{Every}
 use Rattle.data_url.specs.Run.{IsRun, IsPrefix, joined_pieces, refusal}
 use Rattle.std.specs.Option.{option_or}
 use Rattle.std.specs.Result.{result_err}
-use Rattle.data_url.specs.Steps.Holding.{Adds, Flushes, Refuses}
+use Rattle.data_url.specs.Steps.Holding.{Adds, CallsOnce, Refuses}
 use Rattle.data_url.specs.declared.forgiving_base64.DecodeError.{DecodeError}
 use Rattle.data_url.specs.declared.forgiving_base64.DecodeError.TheVariants.{WriteError, InvalidBase64}
 use Rattle.data_url.proofs.runs.Runs.{prefix_all, joined_pieces-append, match_alike, match_map, prefix_trans}
@@ -397,25 +397,25 @@ module _ {F E : Type 0} (step : F → List ℕ → Result (Unit {0}) E → F →
 
   -- The end
 
-  -- if what is left over is valid and has at most one symbol, it decodes to no bytes: d makes no call
-  pub flushes_nothing : (d : State F) (k : ℕ) → Every is_symbol d.symbols → length d.symbols ≡ k → k ≤ 1
-      → is_valid (left_over d) ≡ true → Flushes step d (decoded (left_over d)) (Ok tt) d
-  flushes_nothing d zero every count few valid = grind (arith, decoded_left, groups_few, after_few, nil_from_length)
-  flushes_nothing d (suc zero) every count few valid = grind (arith, valid_left)
-  flushes_nothing d (suc (suc k)) every count few valid = absurd (omega arith)
+  -- if what is left over is valid and has at most one symbol, it decodes to no bytes: d finishes without a call
+  pub finishes_nothing : (d : State F) (k : ℕ) → Every is_symbol d.symbols → length d.symbols ≡ k → k ≤ 1
+      → is_valid (left_over d) ≡ true → Finishes step d (Ok tt) d.closure
+  finishes_nothing d zero every count few valid =
+      grind (arith, decoded_left, groups_few, after_few, nil_from_length, bool_at_true)
+  finishes_nothing d (suc zero) every count few valid = grind (arith, valid_left)
+  finishes_nothing d (suc (suc k)) every count few valid = absurd (omega arith)
 
-  -- if what is left over is valid and decodes to the bytes, flushing them finishes d
-  flushed_finishes : (d d' : State F) {r : Result (Unit {0}) (DecodeError E)} (bytes : List ℕ)
-      → bytes ≡ decoded (left_over d) → is_valid (left_over d) ≡ true → Flushes step d bytes r d'
+  -- if what is left over is valid, a call with the bytes that it decodes to finishes d
+  pub finishes_called : (d d' : State F) {r : Result (Unit {0}) (DecodeError E)} (bytes : List ℕ)
+      → decoded (left_over d) ≡ bytes → is_valid (left_over d) ≡ true → CallsOnce step d bytes r d'
       → Finishes step d r d'.closure
-  flushed_finishes d d' {r} [] e valid (told, same) = grind arith
-  flushed_finishes d d' {r} (b ∷ bs) e valid w =
-      let bytes : (b ∷ bs) ++ [] ≡ decoded (left_over d) = append-nil (b ∷ bs) ∙ e in
+  finishes_called d d' {r} bytes e valid w =
+      let whole : bytes ++ [] ≡ decoded (left_over d) = append-nil bytes ∙ sym e in
       record {
-        run = record { piece = b ∷ bs; answer = w.told; after = d'.closure } ∷ [];
-        ran = one_call d.closure d'.closure (b ∷ bs) w.told w.called;
+        run = record { piece = bytes; answer = w.told; after = d'.closure } ∷ [];
+        ran = one_call d.closure d'.closure bytes w.told w.called;
         calls = omega arith;
-        gave = grind (arith, bool_at_true, told_call, prefix_all _ _ bytes);
+        gave = grind (arith, bool_at_true, told_call, prefix_all _ _ whole);
       }
 
   -- if what is left over is not valid, finishing d returns its error without a call
@@ -423,11 +423,6 @@ module _ {F E : Type 0} (step : F → List ℕ → Result (Unit {0}) E → F →
       → f ≡ d.closure → r ≡ Err (InvalidBase64 (kind_of (left_over d))) → Finishes step d r f
   finishes_refused d v same e =
       record { run = []; ran = sym same; calls = omega arith; gave = bool_at_false _ _ _ v (refl, e) }
-
-  -- if what is left over is valid, a call with the bytes that it decodes to, or none for no bytes, finishes d
-  pub finishes_flushed : (d d' : State F) {r : Result (Unit {0}) (DecodeError E)} → is_valid (left_over d) ≡ true
-      → Flushes step d (decoded (left_over d)) r d' → Finishes step d r d'.closure
-  finishes_flushed d d' valid w = grind (arith, flushed_finishes)
 
 -- Feeding a decoder, piece by piece.
 

@@ -1,7 +1,7 @@
 -- What a decoder does with input while decoded bytes are held, to be passed to the closure together.
 use Rattle.std.specs.Prelude.{[], ◌*◌, ◌++◌, ◌+◌, ◌/◌, ◌∷◌, ◌≡◌, ◌≤◌, Err, List, MatchResult, None, Ok, Result, false, is_err, is_some, length, take, true, ℕ}
 use Rattle.data_url.specs.Base64.{Kind, complete_bytes, first_fault, kind_of}
-use Rattle.data_url.specs.Decoder.{IsLeft, State, left_over}
+use Rattle.data_url.specs.Decoder.{Feeds, IsLeft, State, left_over}
 use Rattle.data_url.specs.Run.{Call, IsRun, joined_pieces, refusal}
 use Rattle.data_url.specs.declared.forgiving_base64.DecodeError.TheVariants.{WriteError}
 use Rattle.data_url.specs.declared.forgiving_base64.DecodeError.{DecodeError}
@@ -46,12 +46,6 @@ pub record CallsOnce {F E : Type 0} (step : F → List ℕ → Result (Unit {0})
   pub symbols_stay : d'.symbols ≡ d.symbols
   pub padding_stays : d'.padding ≡ d.padding
 
--- d calls its closure once with the bytes that are held; if none are held, it does not call it
-abbrev pub Flushes : {F E : Type 0} → (F → List ℕ → Result (Unit {0}) E → F → Type 0) → State F
-    → List ℕ → Result (Unit {0}) (DecodeError E) → State F → Type 0
-Flushes step d [] r d' = (r ≡ Ok tt) × (d' ≡ d)
-Flushes step d (b ∷ bs) r d' = CallsOnce step d (b ∷ bs) r d'
-
 -- d reads the text. Its closure is called with some of the bytes of the groups that are then complete,
 -- and returns no error; the others are held. d' holds what is left over.
 pub record Reads {F E : Type 0} (step : F → List ℕ → Result (Unit {0}) E → F → Type 0)
@@ -64,6 +58,13 @@ pub record Reads {F E : Type 0} (step : F → List ℕ → Result (Unit {0}) E �
   pub bytes_are : joined_pieces run ++ held ≡ complete_bytes (left_over d ++ text)
   pub left : IsLeft (left_over d ++ text) d'
   pub going : d'.failed ≡ false
+
+-- d passes these bytes, which are held, to its closure, whatever text was read before. After `Ok` the
+-- bytes that are held after them, b, are still held; an error ends the feeding.
+abbrev pub Flushes : {F E : Type 0} → (F → List ℕ → Result (Unit {0}) E → F → Type 0) → State F
+    → List ℕ → Result (Unit {0}) (DecodeError E) → State F → Type 0
+Flushes step d bytes r d' = (d0 : _) (text b : List ℕ) → Reads step d0 text (bytes ++ b) d
+    → MatchResult r (λ u. Reads step d0 text b d') (λ e. Feeds step d0 text (Err e) d')
 
 -- the next symbol begins a group
 abbrev pub IsBetweenGroups : {F : Type 0} → State F → Type 0

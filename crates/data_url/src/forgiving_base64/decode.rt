@@ -1,6 +1,6 @@
 //! Decoding piece by piece (Infra Standard, forgiving-base64 decode).
 
-ghost use Rattle.std.specs.Prelude.{◌≡◌, ◌<◌, ◌≤◌, [], ◌∷◌, Err, IfOk, IsTrue, MatchResult, None, length, map, slice_index, take, true, false};
+ghost use Rattle.std.specs.Prelude.{◌≡◌, ◌%◌, ◌<◌, ◌≤◌, [], ◌∷◌, Err, IfOk, IsTrue, MatchResult, None, length, map, slice_index, take, true, false};
 ghost use Rattle.std.specs.List.{list_all};
 ghost use Rattle.data_url.specs.Base64.{is_symbol};
 
@@ -8,6 +8,9 @@ use super::alphabet::{group_of, is_symbol};
 use super::blocks::{decode, is_whole};
 use super::piece::{Piece, ROOM};
 use super::{DecodeError, InvalidBase64, InvalidBase64Details};
+
+/// How many bytes the closure is called with at most: those of a block of 64 symbols.
+const PIECE: usize = 48;
 
 /// A decoder of base64
 /// ([Infra Standard, forgiving-base64 decode](https://infra.spec.whatwg.org/#forgiving-base64-decode)) that is fed
@@ -41,7 +44,7 @@ where
     ghost use Rattle.data_url.specs.Base64.{decoded, groups, symbol_value};
     ghost use Rattle.data_url.specs.Facts.{Fits};
     ghost use Rattle.data_url.specs.Steps.Groups.{bytes_of};
-    ghost use Rattle.data_url.specs.Steps.Holding.{Flushes, Gains, IsBetweenGroups, Reads, Refuses};
+    ghost use Rattle.data_url.specs.Steps.Holding.{CallsOnce, Flushes, Gains, IsBetweenGroups, Reads, Refuses};
 
     /// Returns a decoder that has been fed nothing yet. The closure has to accept any bytes, whatever it was called
     /// with before.
@@ -73,16 +76,13 @@ where
         self.write_bytes
     }
 
-    /// Calls the closure with a piece, unless it is empty.
+    /// Calls the closure with a piece.
     fn write(&mut self, piece: &[u8]) -> Result<(), DecodeError<E>>
         requires callable { F.IsAlwaysCallable (state_of self.old).closure }
         requires going { (state_of self.old).failed ≡ false }
         ensures callable { F.IsAlwaysCallable (state_of self.new).closure }
-        ensures wrote { Flushes (CalledAt F.FnMut) (state_of self.old) piece.now result (state_of self.new) }
+        ensures called { CallsOnce (CalledAt F.FnMut) (state_of self.old) piece.now result (state_of self.new) }
     {
-        if piece.is_empty() {
-            return Ok(());
-        }
         match (self.write_bytes)(piece) {
             Ok(()) => Ok(()),
             Err(error) => {
@@ -90,6 +90,24 @@ where
                 Err(DecodeError::WriteError(error))
             }
         }
+    }
+
+    /// Calls the closure with the bytes of groups, in pieces of up to 48 bytes.
+    #[inline(always)]
+    fn flush(&mut self, bytes: &[u8]) -> Result<(), DecodeError<E>>
+        requires whole { length bytes.now % 3 ≡ 0 }
+        requires callable { F.IsAlwaysCallable (state_of self.old).closure }
+        requires going { (state_of self.old).failed ≡ false }
+        ensures callable { F.IsAlwaysCallable (state_of self.new).closure }
+        ensures flushed { Flushes (CalledAt F.FnMut) (state_of self.old) bytes.now result (state_of self.new) }
+    {
+        let mut at = 0;
+        while at < bytes.len() {
+            let end = (at + PIECE).min(bytes.len());
+            self.write(&bytes[at..end])?;
+            at = end;
+        }
+        Ok(())
     }
 
     /// Makes the decoder fail, and returns the error.
@@ -105,7 +123,7 @@ where
     #[inline(always)]
     fn take_byte(&mut self, text: &[u8], piece: &mut Piece) -> Result<usize, InvalidBase64Details>
         requires some { 1 ≤ length text.now }
-        requires room { piece.old.groups < 16 }
+        requires room { piece.old.groups < 64 }
         requires going { (state_of self.old).failed ≡ false }
         ensures { MatchResult result
             (λ taken. Gains (state_of self.old) (bytes_of piece.old) text.now taken
@@ -138,7 +156,7 @@ where
     #[inline(always)]
     fn take_some(&mut self, text: &[u8], piece: &mut Piece) -> Result<usize, InvalidBase64Details>
         requires some { 1 ≤ length text.now }
-        requires room { piece.old.groups < 16 }
+        requires room { piece.old.groups < 64 }
         requires going { (state_of self.old).failed ≡ false }
         ensures { MatchResult result
             (λ taken. Gains (state_of self.old) (bytes_of piece.old) text.now taken
@@ -210,16 +228,16 @@ where
             match self.take_some(&input[at..], &mut piece) {
                 Ok(taken) => at += taken,
                 Err(details) => {
-                    self.write(piece.as_slice())?;
+                    self.flush(piece.as_slice())?;
                     return Err(self.refuse(details));
                 }
             }
             if piece.groups >= ROOM {
-                self.write(&piece.as_slice()[..3 * ROOM])?;
+                self.flush(&piece.as_slice()[..3 * ROOM])?;
                 piece.drop_front();
             }
         }
-        self.write(piece.as_slice())
+        self.flush(piece.as_slice())
     }
 
     /// Ends the text. If two or three symbols are left over, the closure is called once, with the one or two bytes

@@ -1,4 +1,4 @@
-//! The bytes of whole groups of a text of base64 (RFC 4648, section 4), which the closure is called with together.
+//! The bytes of whole groups of a text of base64 (RFC 4648, section 4) that the closure was not yet called with.
 
 ghost use Rattle.std.specs.Prelude.{◌≡◌, ◌+◌, ◌≤◌, ◌<◌, ◌++◌, [], drop, length};
 ghost use Rattle.std.specs.Char.{is_ascii_whitespace};
@@ -8,16 +8,17 @@ ghost use Rattle.data_url.specs.Base64.{is_symbol};
 use super::alphabet::{are_symbols, decode_row, group_of, is_symbol};
 use super::blocks::{groups_ahead, put, row};
 
-/// How many groups the closure is called with together: as many as a block of 64 symbols has.
-pub(crate) const ROOM: usize = 16;
+/// How many groups are held before the closure is called with their bytes. Bytes that were just written are slow to read,
+/// so this is more than a piece has.
+pub(crate) const ROOM: usize = 64;
 
-/// The bytes of up to sixteen groups, and of up to three groups of the row that was added last.
+/// The bytes of up to 64 groups, and of up to three groups of the row that was added last.
 #[derive(Drop)]
 pub(crate) struct Piece {
-    bytes: [u8; 64],
+    bytes: [u8; 208],
     pub(crate) groups: usize,
-    ghost within: { groups < 20 },
-    ghost sized: { length bytes ≡ 64 },
+    ghost within: { groups < 68 },
+    ghost sized: { length bytes ≡ 208 },
 }
 
 /// Returns how many bytes at the front are white space.
@@ -41,7 +42,7 @@ impl Piece {
         ensures groups { result.groups ≡ 0 }
     {
         Piece {
-            bytes: [0; 64],
+            bytes: [0; 208],
             groups: 0,
         }
     }
@@ -54,21 +55,21 @@ impl Piece {
         &self.bytes[..3 * self.groups]
     }
 
-    /// Removes the bytes of the first sixteen groups.
+    /// Removes the bytes of the first 64 groups.
     #[inline(always)]
     pub(crate) fn drop_front(&mut self)
-        requires { 16 ≤ self.old.groups }
-        ensures bytes { bytes_of self.new ≡ drop 48 (bytes_of self.old) }
-        ensures groups { self.new.groups + 16 ≡ self.old.groups }
+        requires { 64 ≤ self.old.groups }
+        ensures bytes { bytes_of self.new ≡ drop 192 (bytes_of self.old) }
+        ensures groups { self.new.groups + 64 ≡ self.old.groups }
     {
-        self.bytes.copy_within(48..64, 0);
+        self.bytes.copy_within(192..208, 0);
         self.groups -= ROOM;
     }
 
     /// Adds the bytes of a group.
     #[inline(always)]
     pub(crate) fn push(&mut self, group: [u8; 3])
-        requires room { self.old.groups < 16 }
+        requires room { self.old.groups < 64 }
         ensures bytes { bytes_of self.new ≡ bytes_of self.old ++ group }
         ensures groups { self.new.groups ≡ self.old.groups + 1 }
     {
@@ -81,7 +82,7 @@ impl Piece {
     /// groups of a row is skipped. Returns how many bytes of the text these take.
     #[inline(always)]
     pub(crate) fn fill(&mut self, text: &[u8]) -> usize
-        requires room { self.old.groups < 16 }
+        requires room { self.old.groups < 64 }
         ensures none { result ≡ 0 → self.new.groups ≡ self.old.groups }
         ensures fills { Fills (bytes_of self.old) text.now result (bytes_of self.new) }
     {
@@ -100,27 +101,33 @@ impl Piece {
         4
     }
 
-    /// Adds the groups of the rows of sixteen symbols that a text begins with, and those that the next row begins with.
-    /// Returns how many bytes of the text these and the white space after them take.
+    /// Adds whole groups that a text begins with, as long as there is a row of sixteen bytes. White space after the groups
+    /// of a row is skipped. Returns how many bytes of the text these take.
     #[inline(always)]
     fn fill_rows(&mut self, text: &[u8]) -> usize
-        requires room { self.old.groups < 16 }
+        requires room { self.old.groups < 64 }
         ensures none { result ≡ 0 → self.new.groups ≡ self.old.groups }
         ensures fills { Fills (bytes_of self.old) text.now result (bytes_of self.new) }
     {
-        let mut at = 0;
-        while text.len() - at >= 16 && self.groups < ROOM {
-            let row = row(text, at);
-            put(&mut self.bytes, 3 * self.groups, decode_row(row));
-            if !are_symbols(row) {
-                let groups = groups_ahead(row);
-                self.groups += groups;
-                at += 4 * groups;
-                return at + spaces_len(&text[at..]);
+        let mut rest = text;
+        let mut groups = self.groups;
+        while rest.len() >= 16 && groups < ROOM {
+            let row = row(rest, 0);
+            put(&mut self.bytes, 3 * groups, decode_row(row));
+            if are_symbols(row) {
+                groups += 4;
+                rest = &rest[16..];
+            } else {
+                let ahead = groups_ahead(row);
+                let taken = 4 * ahead + spaces_len(&rest[4 * ahead..]);
+                if taken == 0 {
+                    break;
+                }
+                groups += ahead;
+                rest = &rest[taken..];
             }
-            self.groups += 4;
-            at += 16;
         }
-        at
+        self.groups = groups;
+        text.len() - rest.len()
     }
 }

@@ -153,6 +153,18 @@ fn pieces_of_texts(rt: HostRuntime) -> Result<(), Fail> {
 }
 
 #[test]
+fn pieces_after_a_line_break(rt: HostRuntime) -> Result<(), Fail> {
+    for (end, message) in [("", ""), ("!", EXCLAMATION)] {
+        let text = with_run(rt.alloc(), ["\n", "QUJD", end], 70)?;
+        let bytes = with_run(rt.alloc(), ["", "ABC", ""], 70)?;
+        let source = Source::Base64(&[text.as_bytes()]);
+        let record = source.assert_is(&rt, rt.alloc(), end, bytes.as_bytes(), message)?;
+        assert!(rt; record.lengths.as_slice() == [48, 48, 48, 48, 18], "{end}");
+    }
+    Ok(())
+}
+
+#[test]
 fn a_thousand_groups_with_spaces(rt: HostRuntime) -> Result<(), Fail> {
     let text = "Q U J D".repeat(rt.alloc(), 1000)?;
     let bytes = "ABC".repeat(rt.alloc(), 1000)?;

@@ -10,7 +10,7 @@ abbrev pub invariant-loop-at : goal.invariant-loop-at
 invariant-loop-at g l = record {
   callable : always_mut g.F.FnMut (state_of l.self).closure;
   within : l.at ≤ length l.input;
-  few : l.piece.groups < 16;
+  few : l.piece.groups < 64;
   reads : Reads (CalledAt g.F.FnMut) (state_of l.fn.self) (take l.at l.input) (bytes_of l.piece) (state_of l.self);
 }
 

@@ -2,8 +2,8 @@ use Rattle.std.proofs.Common.{[], append-nil, sym, ◌∙◌, ◌+◌, arith}
 use Rattle.std.proofs.lemmas.Result.{err_from_is_err_and}
 use Rattle.std.specs.Fn.{CalledAt}
 use Rattle.data_url.proofs.forgiving_base64.Steps.{feeds_stop, sound}
-use Rattle.data_url.proofs.forgiving_base64.Holding.{block_reads, flushed_between, reads_called, reads_flushed}
-use Rattle.data_url.proofs.forgiving_base64.Holding.{reads_none}
+use Rattle.data_url.proofs.forgiving_base64.Holding.{block_reads, called_between, reads_called, reads_none}
+use Rattle.data_url.proofs.forgiving_base64.Holding.{reads_refused}
 use Rattle.data_url.proofs.forgiving_base64.decode.Decoder.feed_blocks.Goals as goal
 
 pub returns-then-not-is_between_groups-clause-fed : goal.returns-then-not-is_between_groups-clause-fed
@@ -21,19 +21,19 @@ returns-in_err-write-clause-fed g c =
     let p = err_from_is_err_and c.from_residual.result c.from_residual.ensures.1 in
     let i = c.loop-at.invariant in
     rw (p.1, p.2) (feeds_stop step c.args.text.now (c.loop-at.at + 64)
-    (reads_flushed step c.decode.result (block_reads step c.args.text.now c.loop-at.at c.type_inv.text i.between
-    (omega arith) (sym c.if-is_whole.true ∙ c.is_whole.ensures) c.decode.ensures i.reads)
-    c.in_err-write.ensures.wrote))
+    (reads_refused step c.decode.result [] (omega arith) (rw (append-nil c.decode.result) (block_reads step
+    c.args.text.now c.loop-at.at c.type_inv.text i.between (omega arith)
+    (sym c.if-is_whole.true ∙ c.is_whole.ensures) c.decode.ensures i.reads)) c.in_err-write.ensures.called))
 
 pub loop-at-preserved : goal.loop-at-preserved
 loop-at-preserved g c =
     let step = CalledAt g.F.FnMut in
     let i = c.loop-at.invariant in
-    let w = c.in_ok-write.ensures.wrote in
+    let w = c.in_ok-write.ensures.called in
     record {
       callable = c.in_ok-write.ensures.callable;
       within = omega arith;
-      between = flushed_between step _ _ _ c.decode.result i.between w;
+      between = called_between step _ _ _ c.decode.result i.between w;
       reads = reads_called step c.decode.result [] (omega arith) (rw (append-nil c.decode.result) (block_reads step
           c.args.text.now c.loop-at.at c.type_inv.text i.between (omega arith)
           (sym c.if-is_whole.true ∙ c.is_whole.ensures) c.decode.ensures i.reads)) w;

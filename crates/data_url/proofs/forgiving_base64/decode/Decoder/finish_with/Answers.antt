@@ -1,10 +1,8 @@
-use Rattle.std.proofs.Common.{arith, inl, inr, length-take}
+use Rattle.std.proofs.Common.{ap, arith, inl, inr, length-take, sym, take, ◌∙◌}
 use Rattle.std.specs.Fn.{CalledAt}
-use Rattle.data_url.specs.Base64.{decoded}
-use Rattle.data_url.specs.Decoder.{left_over, state_of}
-use Rattle.data_url.specs.Steps.Holding.{Flushes}
+use Rattle.data_url.specs.Decoder.{state_of}
 use Rattle.data_url.proofs.forgiving_base64.Padding.{every_list_all}
-use Rattle.data_url.proofs.forgiving_base64.Steps.{decoded_three, decoded_two, finishes_flushed, flushes_nothing}
+use Rattle.data_url.proofs.forgiving_base64.Steps.{decoded_three, decoded_two, finishes_called, finishes_nothing}
 use Rattle.data_url.proofs.forgiving_base64.Steps.{finishes_refused, kind_left, valid_ends, valid_left}
 use Rattle.data_url.proofs.forgiving_base64.decode.Decoder.finish_with.Goals.{in-1, in-2, in-3, in_default}
 use Rattle.data_url.proofs.forgiving_base64.decode.Decoder.finish_with.Goals.{in_default-2}
@@ -23,27 +21,28 @@ returns-clause-finished g c =
     elim c.match-self.branch [
       | in_default w ↦ grind (arith, every_list_all, length-take, valid_left, kind_left, finishes_refused)
       | in-2 w ↦
-          let f : Flushes step d (decoded (left_over d)) w.write-answer.result (state_of w.write-answer.new.self) =
-          grind (arith, decoded_two, every_list_all) in
-          rw (w.answer-is, c.into_closure.ensures, w.self-is) (finishes_flushed step d _
-          (valid (omega arith) (elim w.if-padding-gt0.branch [
+          let fits = valid (omega arith) (elim w.if-padding-gt0.branch [
             | then-padding-gt0+else-pending-padding-ne4 v ↦ inr (omega arith)
             | else-padding-gt0 v ↦ inl (omega arith)
-          ])) f)
+          ]) in
+          rw (w.answer-is, c.into_closure.ensures, w.self-is) (finishes_called step d _ _
+          (decoded_two c.args.self.symbols c.args.self.pending d.padding (omega arith) (omega arith) every
+          ∙ sym (ap (take 1) w.group_of.ensures)) fits
+          w.write-answer.ensures.called)
       | in-3 w ↦
-          let f : Flushes step d (decoded (left_over d)) w.write-answer-in-3.result
-          (state_of w.write-answer-in-3.new.self) = grind (arith, decoded_three, every_list_all) in
-          rw (w.answer-is, c.into_closure.ensures, w.self-is) (finishes_flushed step d _
-          (valid (omega arith) (elim w.if-padding-gt0.branch [
+          let fits = valid (omega arith) (elim w.if-padding-gt0.branch [
             | then-padding-gt0+else-pending-padding-ne4 v ↦ inr (omega arith)
             | else-padding-gt0 v ↦ inl (omega arith)
-          ])) f)
+          ]) in
+          rw (w.answer-is, c.into_closure.ensures, w.self-is) (finishes_called step d _ _
+          (decoded_three c.args.self.symbols c.args.self.pending d.padding (omega arith) (omega arith) every
+          ∙ sym (ap (take 2) w.group_of-in-3.ensures)) fits w.write-answer-in-3.ensures.called)
       | in_default-2 w ↦
           let fits = valid (omega arith) (elim w.if-padding-gt0.branch [
             | then-padding-gt0+else-pending-padding-ne4 v ↦ inr (omega arith)
             | else-padding-gt0 v ↦ inl (omega arith)
           ]) in
-          let f = flushes_nothing step d c.args.self.pending every (omega arith) (omega arith) fits in
-          rw (w.answer-is, c.into_closure.ensures, w.self-is) (finishes_flushed step d d fits f)
+          rw (w.answer-is, c.into_closure.ensures, w.self-is)
+          (finishes_nothing step d c.args.self.pending every (omega arith) (omega arith) fits)
       | in-1 w ↦ grind (arith, every_list_all, length-take, valid_left, kind_left, finishes_refused)
     ]

@@ -8,19 +8,15 @@ pub returns-clause-bytes : goal.returns-clause-bytes
 returns-clause-bytes c =
     let old = c.args.self.now in
     let new = c.copy_within.new.self in
-    let n = 3 * (old.groups - 16) in
+    let n = 3 * (old.groups - 64) in
     let few : n ≤ 12 = omega (arith, old.within) in
-    let left : 3 * old.groups - 48 ≡ n = omega arith in
+    let left : 3 * old.groups - 192 ≡ n = omega arith in
     cc (
       take-take n 16 new (omega arith),
-      take-take n 16 (drop 48 old.bytes) (omega arith),
-      take-paste old.bytes 0 (drop 48 old.bytes) 16 (omega (arith, old.sized)) (omega (
-        arith,
-        old.sized,
-        length-drop
-            48 old.bytes,
-      )),
-      drop_taken 48 (3 * old.groups) old.bytes,
+      take-take n 16 (drop 192 old.bytes) (omega arith),
+      take-paste old.bytes 0 (drop 192 old.bytes) 16 (omega (arith, old.sized))
+          (omega (arith, old.sized, length-drop 192 old.bytes)),
+      drop_taken 192 (3 * old.groups) old.bytes,
       left,
       c.copy_within.ensures.after,
     )
