@@ -10,7 +10,7 @@ use std::marker::Model;
 mod alphabet;
 mod blocks;
 mod decode;
-mod piece;
+mod held;
 mod whole;
 
 pub use decode::Decoder;

@@ -12,8 +12,8 @@ use Rattle.data_url.specs.Base64.{Kind, after_groups, first_fault, groups, is_sy
 use Rattle.data_url.specs.Base64.{left_padding, left_symbols, symbol_value}
 use Rattle.data_url.specs.Decoder.{Feeds, IsLeft, State, left_over}
 use Rattle.data_url.specs.Mime.{Every}
-use Rattle.data_url.specs.Steps.Groups.{Fills, IsWhole, bytes_of, is_symbol_or_space}
-use Rattle.data_url.specs.declared.forgiving_base64.piece.Piece.{Piece}
+use Rattle.data_url.specs.Steps.Groups.{Fills, IsWhole, held_bytes, is_symbol_or_space}
+use Rattle.data_url.specs.declared.forgiving_base64.held.HeldGroups.{HeldGroups}
 use Rattle.data_url.specs.Steps.Holding.{Adds, CallsOnce, Flushes, Gains, IsBetweenGroups, Reads, Refuses}
 use Rattle.data_url.specs.Steps.Lanes.{value_of}
 use Rattle.data_url.specs.declared.forgiving_base64.DecodeError.{DecodeError}
@@ -112,9 +112,9 @@ unfolding groups
 fills_none zero e f = grind (arith, append-nil)
 fills_none (suc n) e f = absurd (omega arith)
 
--- a piece has three bytes for each of its groups
-pub bytes_len : (p : Piece) → length (bytes_of p) ≡ 3 * p.groups
-bytes_len p = grind (arith, length-take-le)
+-- there are three bytes for each group that is held
+pub held_len : (p : HeldGroups) → length (held_bytes p) ≡ 3 * p.len
+held_len p = grind (arith, length-take-le)
 
 -- Calls of the closure
 

@@ -1,9 +1,9 @@
--- The complete groups at the start of a text, and their bytes in a piece.
+-- The complete groups at the start of a text, and the bytes of groups that are held.
 use Rattle.std.specs.Char.{is_ascii_whitespace}
 use Rattle.std.specs.List.{filter, list_all}
 use Rattle.std.specs.Prelude.{◌%◌, ◌*◌, ◌++◌, ◌||◌, ◌≡◌, ◌≤◌, Bool, IsTrue, List, length, map, take, ℕ}
 use Rattle.data_url.specs.Base64.{groups, is_symbol, symbol_value}
-use Rattle.data_url.specs.declared.forgiving_base64.piece.Piece.{Piece}
+use Rattle.data_url.specs.declared.forgiving_base64.held.HeldGroups.{HeldGroups}
 
 abbrev pub is_symbol_or_space : ℕ → Bool
 is_symbol_or_space b = is_symbol b || is_ascii_whitespace b
@@ -20,6 +20,6 @@ pub record Fills (held text : List ℕ) (taken : ℕ) (held' : List ℕ) : Type 
   pub whole : IsWhole (take taken text)
   pub held_are : held' ≡ held ++ groups (map symbol_value (filter is_symbol (take taken text)))
 
--- the bytes of a piece
-abbrev pub bytes_of : Piece → List ℕ
-bytes_of p = take (3 * p.groups) p.bytes
+-- the bytes of the groups that are held
+abbrev pub held_bytes : HeldGroups → List ℕ
+held_bytes p = take (3 * p.len) p.bytes

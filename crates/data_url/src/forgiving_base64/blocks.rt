@@ -38,8 +38,7 @@ fn others(bytes: u8x16) -> u64
     marks_of(bytes).simd_ne(u8x16::splat(0)).to_bitmask()
 }
 
-/// Returns how many whole groups of symbols a row begins with. They are counted one by one: a processor then goes on with
-/// the text after them before the count is known.
+/// Returns how many whole groups of symbols a row begins with.
 #[inline(always)]
 pub(crate) fn groups_ahead(bytes: u8x16) -> usize
     ensures few { result ≤ 4 }

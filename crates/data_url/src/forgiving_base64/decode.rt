@@ -6,7 +6,7 @@ ghost use Rattle.data_url.specs.Base64.{is_symbol};
 
 use super::alphabet::{group_of, is_symbol};
 use super::blocks::{decode, is_whole};
-use super::piece::{Piece, ROOM};
+use super::held::{HeldGroups, ROOM};
 use super::{DecodeError, InvalidBase64, InvalidBase64Details};
 
 /// How many bytes the closure is called with at most: those of a block of 64 symbols.
@@ -43,7 +43,7 @@ where
     ghost use Rattle.data_url.specs.Decoder.{Feeds, Finishes, left_over, start, state_of};
     ghost use Rattle.data_url.specs.Base64.{decoded, groups, symbol_value};
     ghost use Rattle.data_url.specs.Facts.{Fits};
-    ghost use Rattle.data_url.specs.Steps.Groups.{bytes_of};
+    ghost use Rattle.data_url.specs.Steps.Groups.{held_bytes};
     ghost use Rattle.data_url.specs.Steps.Holding.{CallsOnce, Flushes, Gains, IsBetweenGroups, Reads, Refuses};
 
     /// Returns a decoder that has been fed nothing yet. The closure has to accept any bytes, whatever it was called
@@ -119,17 +119,17 @@ where
         DecodeError::InvalidBase64(InvalidBase64 { details })
     }
 
-    /// Takes the first byte of a text, and adds the bytes of the group that it completes to the piece. Returns 1.
+    /// Takes the first byte of a text, and adds the group that it completes. Returns 1.
     #[inline(always)]
-    fn take_byte(&mut self, text: &[u8], piece: &mut Piece) -> Result<usize, InvalidBase64Details>
+    fn take_byte(&mut self, text: &[u8], groups: &mut HeldGroups) -> Result<usize, InvalidBase64Details>
         requires some { 1 ≤ length text.now }
-        requires room { piece.old.groups < 64 }
+        requires room { groups.old.len < 64 }
         requires going { (state_of self.old).failed ≡ false }
         ensures { MatchResult result
-            (λ taken. Gains (state_of self.old) (bytes_of piece.old) text.now taken
-            (state_of self.new) (bytes_of piece.new))
+            (λ taken. Gains (state_of self.old) (held_bytes groups.old) text.now taken
+            (state_of self.new) (held_bytes groups.new))
             (λ details. Refuses (state_of self.old) (slice_index text.now 0) details (state_of self.new)
-            × (bytes_of piece.new ≡ bytes_of piece.old)) }
+            × (held_bytes groups.new ≡ held_bytes groups.old)) }
     {
         let byte = text[0];
         if byte == b'=' {
@@ -146,31 +146,31 @@ where
         } else {
             self.pending = 0;
             let [first, second, third] = self.symbols;
-            piece.push(group_of(first, second, third, byte));
+            groups.push(group_of(first, second, third, byte));
         }
         Ok(1)
     }
 
-    /// Takes the next bytes of a text, and adds the bytes of the groups that they complete to the piece: whole groups if
+    /// Takes the next bytes of a text, and adds the groups that they complete: whole groups if
     /// the text begins with some and the next symbol begins a group, or else one byte. Returns how many bytes it took.
     #[inline(always)]
-    fn take_some(&mut self, text: &[u8], piece: &mut Piece) -> Result<usize, InvalidBase64Details>
+    fn take_some(&mut self, text: &[u8], groups: &mut HeldGroups) -> Result<usize, InvalidBase64Details>
         requires some { 1 ≤ length text.now }
-        requires room { piece.old.groups < 64 }
+        requires room { groups.old.len < 64 }
         requires going { (state_of self.old).failed ≡ false }
         ensures { MatchResult result
-            (λ taken. Gains (state_of self.old) (bytes_of piece.old) text.now taken
-            (state_of self.new) (bytes_of piece.new))
+            (λ taken. Gains (state_of self.old) (held_bytes groups.old) text.now taken
+            (state_of self.new) (held_bytes groups.new))
             (λ details. Refuses (state_of self.old) (slice_index text.now 0) details (state_of self.new)
-            × (bytes_of piece.new ≡ bytes_of piece.old)) }
+            × (held_bytes groups.new ≡ held_bytes groups.old)) }
     {
         if self.is_between_groups() {
-            let taken = piece.fill(text);
+            let taken = groups.fill(text);
             if taken > 0 {
                 return Ok(taken);
             }
         }
-        self.take_byte(text, piece)
+        self.take_byte(text, groups)
     }
 
     /// Whether the next symbol begins a group.
@@ -222,22 +222,22 @@ where
         ensures fed { Feeds (CalledAt F.FnMut) (state_of self.old) input.now result
             (state_of self.new) }
     {
-        let mut piece = Piece::new();
+        let mut groups = HeldGroups::new();
         let mut at = self.feed_blocks(input)?;
         while at < input.len() {
-            match self.take_some(&input[at..], &mut piece) {
+            match self.take_some(&input[at..], &mut groups) {
                 Ok(taken) => at += taken,
                 Err(details) => {
-                    self.flush(piece.as_slice())?;
+                    self.flush(groups.as_slice())?;
                     return Err(self.refuse(details));
                 }
             }
-            if piece.groups >= ROOM {
-                self.flush(&piece.as_slice()[..3 * ROOM])?;
-                piece.drop_front();
+            if groups.len >= ROOM {
+                self.flush(&groups.as_slice()[..3 * ROOM])?;
+                groups.drop_front();
             }
         }
-        self.flush(piece.as_slice())
+        self.flush(groups.as_slice())
     }
 
     /// Ends the text. If two or three symbols are left over, the closure is called once, with the one or two bytes

@@ -3,9 +3,9 @@ use Rattle.std.proofs.lemmas.List.{take-append-drop, take_all}
 use Rattle.std.proofs.lemmas.Result.{err_from_is_err_and}
 use Rattle.std.specs.Fn.{CalledAt}
 use Rattle.data_url.specs.Decoder.{state_of}
-use Rattle.data_url.specs.Steps.Groups.{bytes_of}
+use Rattle.data_url.specs.Steps.Groups.{held_bytes}
 use Rattle.data_url.proofs.forgiving_base64.Steps.{feeds_stop}
-use Rattle.data_url.proofs.forgiving_base64.Holding.{byte_at, bytes_len, reads_fault, reads_flushed, reads_gained}
+use Rattle.data_url.proofs.forgiving_base64.Holding.{byte_at, held_len, reads_fault, reads_flushed, reads_gained}
 use Rattle.data_url.proofs.forgiving_base64.decode.Decoder.feed.Goals as goal
 
 pub returns-in_err-flush-in-Err-clause-fed : goal.returns-in_err-flush-in-Err-clause-fed
@@ -15,7 +15,7 @@ returns-in_err-flush-in-Err-clause-fed g c =
     let flushed = rw (c.as_slice.ensures, c.in-Err.ensures.0.stays, c.in-Err.ensures.1) at
     c.in_err-flush-in-Err.ensures.flushed in
     rw (p.1, p.2) (feeds_stop (CalledAt g.F.FnMut) c.args.input.now c.loop-at.at (reads_flushed (CalledAt g.F.FnMut)
-    (bytes_of c.loop-at.piece) _ c.loop-at.invariant.reads flushed))
+    (held_bytes c.loop-at.groups) _ c.loop-at.invariant.reads flushed))
 
 pub returns-in-Err-clause-fed : goal.returns-in-Err-clause-fed
 returns-in-Err-clause-fed g c =
@@ -24,39 +24,39 @@ returns-in-Err-clause-fed g c =
     rw c.refuse.ensures.kind (reads_fault (CalledAt g.F.FnMut) c.args.input.now c.loop-at.at _ c.loop-at-test.true
     (byte_at c.args.input.now c.loop-at.at c.loop-at-test.true) c.loop-at.invariant.reads c.in-Err.ensures.0
     (flushed (state_of c.args.self.now) (take c.loop-at.at c.args.input.now) []
-    (rw (append-nil (bytes_of c.loop-at.piece)) c.loop-at.invariant.reads)) c.refuse.ensures.state)
+    (rw (append-nil (held_bytes c.loop-at.groups)) c.loop-at.invariant.reads)) c.refuse.ensures.state)
 
 pub slice_bounds-flush-end : goal.slice_bounds-flush-end
 slice_bounds-flush-end g c =
-    let size = ap length c.as_slice-then-piece-ge-ROOM.ensures ∙ bytes_len c.take_some.new.piece in
+    let size = ap length c.as_slice-then-groups-ge-ROOM.ensures ∙ held_len c.take_some.new.groups in
     sym (length-take-le 192 _ (omega (arith, size)))
 
-pub flush-requires-then-piece-ge-ROOM-clause-whole : goal.flush-requires-then-piece-ge-ROOM-clause-whole
-flush-requires-then-piece-ge-ROOM-clause-whole g c = omega (arith, slice_bounds-flush-end g c)
+pub flush-requires-then-groups-ge-ROOM-clause-whole : goal.flush-requires-then-groups-ge-ROOM-clause-whole
+flush-requires-then-groups-ge-ROOM-clause-whole g c = omega (arith, slice_bounds-flush-end g c)
 
 pub returns-in_err-flush-clause-fed : goal.returns-in_err-flush-clause-fed
 returns-in_err-flush-clause-fed g c =
     let step = CalledAt g.F.FnMut in
-    let bytes = bytes_of c.take_some.new.piece in
+    let bytes = held_bytes c.take_some.new.groups in
     let reads = reads_gained step c.args.input.now c.loop-at.at c.in-Ok.taken c.loop-at.invariant.reads
     c.in-Ok.ensures in
-    let flushed = rw c.as_slice-then-piece-ge-ROOM.ensures at c.in_err-flush.ensures.flushed in
+    let flushed = rw c.as_slice-then-groups-ge-ROOM.ensures at c.in_err-flush.ensures.flushed in
     let p = err_from_is_err_and c.from_residual-in_err-flush.result c.from_residual-in_err-flush.ensures.1 in
     rw (p.1, p.2) (feeds_stop step c.args.input.now (c.loop-at.at + c.in-Ok.taken) (flushed (state_of c.args.self.now)
     (take (c.loop-at.at + c.in-Ok.taken) c.args.input.now) (drop 192 bytes) (rw (take-append-drop 192 bytes) reads)))
 
-pub loop-at-preserved-then-piece-ge-ROOM : goal.loop-at-preserved-then-piece-ge-ROOM
-loop-at-preserved-then-piece-ge-ROOM g c =
+pub loop-at-preserved-then-groups-ge-ROOM : goal.loop-at-preserved-then-groups-ge-ROOM
+loop-at-preserved-then-groups-ge-ROOM g c =
     let step = CalledAt g.F.FnMut in
-    let piece = c.take_some.new.piece in
-    let bytes = bytes_of piece in
+    let held = c.take_some.new.groups in
+    let bytes = held_bytes held in
     let reads = reads_gained step c.args.input.now c.loop-at.at c.in-Ok.taken c.loop-at.invariant.reads
     c.in-Ok.ensures in
-    let flushed = rw c.as_slice-then-piece-ge-ROOM.ensures at c.in_ok-flush.ensures.flushed in
+    let flushed = rw c.as_slice-then-groups-ge-ROOM.ensures at c.in_ok-flush.ensures.flushed in
     record {
       callable = c.in_ok-flush.ensures.callable;
       within = omega (arith, c.in-Ok.ensures.within, length-drop c.loop-at.at c.args.input.now);
-      few = omega (arith, c.drop_front.ensures.groups, piece.within);
+      few = omega (arith, c.drop_front.ensures.len, held.within);
       reads = rw c.drop_front.ensures.bytes (flushed (state_of c.args.self.now)
           (take (c.loop-at.at + c.in-Ok.taken) c.args.input.now) (drop 192 bytes)
           (rw (take-append-drop 192 bytes) reads));
@@ -75,4 +75,4 @@ pub returns-clause-fed : goal.returns-clause-fed
 returns-clause-fed g c =
     let flushed = rw c.as_slice-2.ensures at c.flush-2.ensures.flushed in
     let reads = rw (take_all c.loop-at.at c.args.input.now (omega arith)) at c.loop-at.invariant.reads in
-    reads_flushed (CalledAt g.F.FnMut) (bytes_of c.loop-at.piece) c.flush-2.result reads flushed
+    reads_flushed (CalledAt g.F.FnMut) (held_bytes c.loop-at.groups) c.flush-2.result reads flushed

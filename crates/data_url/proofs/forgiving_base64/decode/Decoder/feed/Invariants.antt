@@ -1,17 +1,17 @@
 use Rattle.std.proofs.Common.{◌-◌, ◌<◌, ◌≤◌, length, take}
 use Rattle.std.specs.Fn.{CalledAt, always_mut}
 use Rattle.data_url.specs.Decoder.{state_of}
-use Rattle.data_url.specs.Steps.Groups.{bytes_of}
+use Rattle.data_url.specs.Steps.Groups.{held_bytes}
 use Rattle.data_url.specs.Steps.Holding.{Reads}
 use Rattle.data_url.proofs.forgiving_base64.decode.Decoder.feed.Given as goal
 
--- the text read so far was decoded; the bytes that the closure was not called with are in the piece
+-- the text read so far was decoded; the bytes that the closure was not called with are held
 abbrev pub invariant-loop-at : goal.invariant-loop-at
 invariant-loop-at g l = record {
   callable : always_mut g.F.FnMut (state_of l.self).closure;
   within : l.at ≤ length l.input;
-  few : l.piece.groups < 64;
-  reads : Reads (CalledAt g.F.FnMut) (state_of l.fn.self) (take l.at l.input) (bytes_of l.piece) (state_of l.self);
+  few : l.groups.len < 64;
+  reads : Reads (CalledAt g.F.FnMut) (state_of l.fn.self) (take l.at l.input) (held_bytes l.groups) (state_of l.self);
 }
 
 abbrev pub decreases-loop-at : goal.decreases-loop-at

@@ -1,5 +1,5 @@
 use Rattle.std.proofs.Common.{◌≡◌, ap, ◌∙◌, arith}
-use Rattle.data_url.specs.Steps.Groups.{bytes_of}
+use Rattle.data_url.specs.Steps.Groups.{held_bytes}
 use Rattle.data_url.proofs.forgiving_base64.Holding.{fills_none, gains_groups}
 use Rattle.data_url.proofs.forgiving_base64.decode.Decoder.take_some.Goals.{then-is_between_groups+else-taken-gt0}
 use Rattle.data_url.proofs.forgiving_base64.decode.Decoder.take_some.Goals.{else-is_between_groups}
@@ -12,10 +12,10 @@ returns-then-taken-gt0 g c =
 
 pub returns : goal.returns
 returns g c =
-    let same : bytes_of c.if-is_between_groups.piece ≡ bytes_of c.args.piece.now =
+    let same : held_bytes c.if-is_between_groups.groups ≡ held_bytes c.args.groups.now =
     elim c.if-is_between_groups.branch [
       | then-is_between_groups+else-taken-gt0 w ↦
-          ap bytes_of w.piece-is ∙ fills_none w.fill-taken.result (omega arith) w.fill-taken.ensures.fills
-      | else-is_between_groups w ↦ ap bytes_of w.piece-is
+          ap held_bytes w.groups-is ∙ fills_none w.fill-taken.result (omega arith) w.fill-taken.ensures.fills
+      | else-is_between_groups w ↦ ap held_bytes w.groups-is
     ] in
     grind (arith, same)

@@ -3,8 +3,8 @@ use Rattle.std.specs.List.{list_all}
 use Rattle.std.proofs.lemmas.List.{take-take, take_rest}
 use Rattle.data_url.specs.Base64.{is_symbol}
 use Rattle.data_url.proofs.forgiving_base64.Groups.{leaves_all, leaves_fits, leaves_then, put_keeps, row_fills, spaces_front}
-use Rattle.data_url.proofs.forgiving_base64.piece.Piece.fill_rows.Goals.{then-loop-rest-test+else-groups-lt-ROOM, else-loop-rest-test, then-loop-rest-test+then-groups-lt-ROOM+else-are_symbols+then-taken-eq0}
-use Rattle.data_url.proofs.forgiving_base64.piece.Piece.fill_rows.Goals as goal
+use Rattle.data_url.proofs.forgiving_base64.held.HeldGroups.fill_rows.Goals.{then-loop-rest-test+else-len-lt-ROOM, else-loop-rest-test, then-loop-rest-test+then-len-lt-ROOM+else-are_symbols+then-taken-eq0}
+use Rattle.data_url.proofs.forgiving_base64.held.HeldGroups.fill_rows.Goals as goal
 
 pub loop-rest-init : goal.loop-rest-init
 loop-rest-init c = grind (arith, leaves_all)
@@ -16,7 +16,7 @@ loop-rest-preserved-then-are_symbols c =
     record {
       few = omega arith;
       none = λ e. absurd (omega (arith, ap length (take_rest rest 16), length-drop 16 rest, i.leaves.short));
-      leaves = leaves_then 16 i.leaves (row_fills c.loop-rest.self.bytes _ _ _ rest c.loop-rest.groups 4 0
+      leaves = leaves_then 16 i.leaves (row_fills c.loop-rest.self.bytes _ _ _ rest c.loop-rest.len 4 0
           (omega (arith, c.loop-rest.self.sized)) c.put.ensures c.decode_row.ensures.bytes c.row-row.ensures
           (omega arith) (omega arith) (omega arith) (leaves_fits i.leaves c.type_inv.text)
           (cc (c.row-row.ensures, c.are_symbols.ensures, c.if-are_symbols.true)) refl);
@@ -47,7 +47,7 @@ loop-rest-preserved c =
         i.leaves.short,
         c.if-taken-eq0.false,
       ));
-      leaves = leaves_then (4 * m + k) i.leaves (row_fills c.loop-rest.self.bytes _ _ _ rest c.loop-rest.groups m k
+      leaves = leaves_then (4 * m + k) i.leaves (row_fills c.loop-rest.self.bytes _ _ _ rest c.loop-rest.len m k
           (omega (arith, c.loop-rest.self.sized)) c.put.ensures c.decode_row.ensures.bytes c.row-row.ensures ahead.few
           (omega arith) few (leaves_fits i.leaves c.type_inv.text) (sym (ap (list_all is_symbol) front) ∙ ahead.symbols)
           (rw (c.spaces_len.ensures.front, take_rest rest (4 * m)) (spaces_front (drop (4 * m) rest))));
@@ -56,11 +56,11 @@ loop-rest-preserved c =
 pub returns-clause-fills : goal.returns-clause-fills
 returns-clause-fills c =
     let old = c.loop-rest.self.bytes in
-    let n = 3 * c.loop-rest.groups in
+    let n = 3 * c.loop-rest.len in
     let same : take n c.loop-rest-test.self.1.0 ≡ take n old = elim c.loop-rest-test.branch [
-      | then-loop-rest-test+else-groups-lt-ROOM w ↦ grind arith
+      | then-loop-rest-test+else-len-lt-ROOM w ↦ grind arith
       | else-loop-rest-test w ↦ grind arith
-      | then-loop-rest-test+then-groups-lt-ROOM+else-are_symbols+then-taken-eq0 w ↦
+      | then-loop-rest-test+then-len-lt-ROOM+else-are_symbols+then-taken-eq0 w ↦
           rw w.self-is (put_keeps old w.put.new.bytes w.decode_row.result n
           (omega (arith, c.loop-rest.self.sized)) w.put.ensures)
     ] in

@@ -8,16 +8,16 @@ ghost use Rattle.data_url.specs.Base64.{is_symbol};
 use super::alphabet::{are_symbols, decode_row, group_of, is_symbol};
 use super::blocks::{groups_ahead, put, row};
 
-/// How many groups are held before the closure is called with their bytes. Bytes that were just written are slow to read,
-/// so this is more than a piece has.
+/// How many groups are held before the closure is called with their bytes. It is more than a piece has, since bytes that
+/// were just written are slow to read.
 pub(crate) const ROOM: usize = 64;
 
 /// The bytes of up to 64 groups, and of up to three groups of the row that was added last.
 #[derive(Drop)]
-pub(crate) struct Piece {
+pub(crate) struct HeldGroups {
     bytes: [u8; 208],
-    pub(crate) groups: usize,
-    ghost within: { groups < 68 },
+    pub(crate) len: usize,
+    ghost within: { len < 68 },
     ghost sized: { length bytes ≡ 208 },
 }
 
@@ -32,59 +32,59 @@ fn spaces_len(bytes: &[u8]) -> usize
         .count()
 }
 
-impl Piece {
-    ghost use Rattle.data_url.specs.Steps.Groups.{Fills, bytes_of};
+impl HeldGroups {
+    ghost use Rattle.data_url.specs.Steps.Groups.{Fills, held_bytes};
 
-    /// Returns a piece without bytes.
+    /// Returns no groups.
     #[inline(always)]
-    pub(crate) fn new() -> Piece
-        ensures bytes { bytes_of result ≡ [] }
-        ensures groups { result.groups ≡ 0 }
+    pub(crate) fn new() -> HeldGroups
+        ensures bytes { held_bytes result ≡ [] }
+        ensures len { result.len ≡ 0 }
     {
-        Piece {
+        HeldGroups {
             bytes: [0; 208],
-            groups: 0,
+            len: 0,
         }
     }
 
     /// Returns the bytes.
     #[inline(always)]
     pub(crate) fn as_slice(&self) -> &[u8]
-        ensures { result.now ≡ bytes_of self.now }
+        ensures { result.now ≡ held_bytes self.now }
     {
-        &self.bytes[..3 * self.groups]
+        &self.bytes[..3 * self.len]
     }
 
     /// Removes the bytes of the first 64 groups.
     #[inline(always)]
     pub(crate) fn drop_front(&mut self)
-        requires { 64 ≤ self.old.groups }
-        ensures bytes { bytes_of self.new ≡ drop 192 (bytes_of self.old) }
-        ensures groups { self.new.groups + 64 ≡ self.old.groups }
+        requires { 64 ≤ self.old.len }
+        ensures bytes { held_bytes self.new ≡ drop 192 (held_bytes self.old) }
+        ensures len { self.new.len + 64 ≡ self.old.len }
     {
         self.bytes.copy_within(192..208, 0);
-        self.groups -= ROOM;
+        self.len -= ROOM;
     }
 
     /// Adds the bytes of a group.
     #[inline(always)]
     pub(crate) fn push(&mut self, group: [u8; 3])
-        requires room { self.old.groups < 64 }
-        ensures bytes { bytes_of self.new ≡ bytes_of self.old ++ group }
-        ensures groups { self.new.groups ≡ self.old.groups + 1 }
+        requires room { self.old.len < 64 }
+        ensures bytes { held_bytes self.new ≡ held_bytes self.old ++ group }
+        ensures len { self.new.len ≡ self.old.len + 1 }
     {
-        let at = 3 * self.groups;
+        let at = 3 * self.len;
         self.bytes[at..at + 3].copy_from_slice(&group);
-        self.groups += 1;
+        self.len += 1;
     }
 
     /// Adds whole groups that a text begins with: those of rows of sixteen bytes, or one group. White space after the
     /// groups of a row is skipped. Returns how many bytes of the text these take.
     #[inline(always)]
     pub(crate) fn fill(&mut self, text: &[u8]) -> usize
-        requires room { self.old.groups < 64 }
-        ensures none { result ≡ 0 → self.new.groups ≡ self.old.groups }
-        ensures fills { Fills (bytes_of self.old) text.now result (bytes_of self.new) }
+        requires room { self.old.len < 64 }
+        ensures none { result ≡ 0 → self.new.len ≡ self.old.len }
+        ensures fills { Fills (held_bytes self.old) text.now result (held_bytes self.new) }
     {
         if text.len() >= 16 {
             return self.fill_rows(text);
@@ -105,17 +105,17 @@ impl Piece {
     /// of a row is skipped. Returns how many bytes of the text these take.
     #[inline(always)]
     fn fill_rows(&mut self, text: &[u8]) -> usize
-        requires room { self.old.groups < 64 }
-        ensures none { result ≡ 0 → self.new.groups ≡ self.old.groups }
-        ensures fills { Fills (bytes_of self.old) text.now result (bytes_of self.new) }
+        requires room { self.old.len < 64 }
+        ensures none { result ≡ 0 → self.new.len ≡ self.old.len }
+        ensures fills { Fills (held_bytes self.old) text.now result (held_bytes self.new) }
     {
         let mut rest = text;
-        let mut groups = self.groups;
-        while rest.len() >= 16 && groups < ROOM {
+        let mut len = self.len;
+        while rest.len() >= 16 && len < ROOM {
             let row = row(rest, 0);
-            put(&mut self.bytes, 3 * groups, decode_row(row));
+            put(&mut self.bytes, 3 * len, decode_row(row));
             if are_symbols(row) {
-                groups += 4;
+                len += 4;
                 rest = &rest[16..];
             } else {
                 let ahead = groups_ahead(row);
@@ -123,11 +123,11 @@ impl Piece {
                 if taken == 0 {
                     break;
                 }
-                groups += ahead;
+                len += ahead;
                 rest = &rest[taken..];
             }
         }
-        self.groups = groups;
+        self.len = len;
         text.len() - rest.len()
     }
 }
