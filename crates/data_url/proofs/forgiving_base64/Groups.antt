@@ -1,8 +1,8 @@
 -- Groups of four symbols, and texts that are fed in two parts.
 use Rattle.std.proofs.Common.{◌≡◌, ℕ, suc, ◌+◌, ◌*◌, ◌≤◌, true, ◌&&◌, ◌||◌, List, [], ◌∷◌, ◌++◌, map, length}
-use Rattle.std.proofs.Common.{◌-◌, drop-drop, get_or, get_or-drop, subst, sym, take, drop, Fits, w8, refl, ap, ap₂, arith}
+use Rattle.std.proofs.Common.{◌-◌, get_or, get_or-append-add, subst, take, drop, Fits, w8, refl, ap, ap₂, arith}
 use Rattle.std.proofs.Common.{length-take, length-take-le}
-use Rattle.std.proofs.Common.{◌∙◌, false, length-drop, min, None, take-add, append_assoc, length-append, ◌/◌}
+use Rattle.std.proofs.Common.{◌∙◌, false, min, None, take-add, append_assoc, length-append, ◌/◌}
 use Rattle.std.specs.List.{list_all, prefix_len, filter, list_any}
 use Rattle.std.proofs.lemmas.Bool.{and_parts}
 use Rattle.std.proofs.lemmas.List.{get_or-take, get_or_past, length-map, take-append-drop, take-map}
@@ -99,7 +99,7 @@ spaces_only (c ∷ t) h =
 pub fill_row : (held block : List ℕ) (n m k : ℕ) → n ≤ length block → 4 * m ≤ n → 4 * m + k ≤ length block
     → ((i : ℕ) → Fits w8 (get_or block i 0)) → list_all is_symbol (take (4 * m) block) ≡ true
     → list_all is_ascii_whitespace (take k (drop (4 * m) block)) ≡ true
-    → Fills held block (4 * m + k) (held ++ take (3 * m) (groups (map value_of (take n block))))
+    → Fills held (take (4 * m + k) block) (held ++ take (3 * m) (groups (map value_of (take n block))))
 fill_row held block n m k long few within fits all spaces =
     let q = take (4 * m) block in
     let only = spaces_only (take k (drop (4 * m) block)) spaces in
@@ -109,7 +109,6 @@ fill_row held block n m k long few within fits all spaces =
     cc (take-add (4 * m) k block, filter-append is_symbol q (take k (drop (4 * m) block)), append-nil q) in
     let values : map value_of q ≡ map symbol_value q = symbols_values q (fits_take (4 * m) block fits) all in
     record {
-      within = within;
       whole = record {
         spaced = cc (
           take-add (4 * m) k block,
@@ -119,12 +118,8 @@ fill_row held block n m k long few within fits all spaces =
         whole = omega (arith, ap length symbols);
       };
       held_are = cc (
-        take_groups m (map value_of (take n block)) (omega (
-          arith,
-          length-map (take n block) value_of,
-          length-take-le
-              n block long,
-        )),
+        take_groups m (map value_of (take n block))
+            (omega (arith, length-map (take n block) value_of, length-take-le n block long)),
         take-map value_of (4 * m) (take n block),
         take-take (4 * m) n block few,
       );
@@ -136,7 +131,7 @@ pub row_fills : (old new decoded row text : List ℕ) (g m k : ℕ) → 3 * g + 
     → row ≡ take 16 text → m ≤ 4 → 16 ≤ length text → 4 * m + k ≤ length text
     → ((i : ℕ) → Fits w8 (get_or text i 0)) → list_all is_symbol (take (4 * m) text) ≡ true
     → list_all is_ascii_whitespace (take k (drop (4 * m) text)) ≡ true
-    → Fills (take (3 * g) old) text (4 * m + k) (take (3 * (g + m)) new)
+    → Fills (take (3 * g) old) (take (4 * m + k) text) (take (3 * (g + m)) new)
 row_fills old new decoded row text g m k room put is first few long within fits all spaces =
     let held = take (3 * g) old in
     let size : 3 * (g + m) ≡ length held + 3 * m = omega (arith, length-take-le (3 * g) old (omega arith)) in
@@ -148,27 +143,19 @@ row_fills old new decoded row text g m k room put is first few long within fits 
     rw e (fill_row held text 16 m k long (omega arith) within fits all spaces)
 
 -- no bytes are read
-pub fills_nothing : (held text : List ℕ) → Fills held text 0 held
+pub fills_nothing : (held : List ℕ) → Fills held [] held
 unfolding groups
-fills_nothing held text = grind (arith, append-nil)
+fills_nothing held = grind (arith, append-nil)
 
--- some bytes fill held to h1, and then more of them fill h1 to h2
-pub fills_then : {held h1 h2 text : List ℕ} (at n : ℕ) → Fills held text at h1 → Fills h1 (drop at text) n h2
-    → Fills held text (at + n) h2
-fills_then {held} {h1} {h2} {text} at n f g =
-    let x = filter is_symbol (take at text) in
-    let y = filter is_symbol (take n (drop at text)) in
-    let both : filter is_symbol (take (at + n) text) ≡ x ++ y =
-    ap (filter is_symbol) (take-add at n text) ∙ filter-append is_symbol (take at text) (take n (drop at text)) in
+-- a text fills held to h1, and then another fills h1 to h2
+fills_then : {held h1 h2 : List ℕ} (a b : List ℕ) → Fills held a h1 → Fills h1 b h2 → Fills held (a ++ b) h2
+fills_then {held} {h1} {h2} a b f g =
+    let x = filter is_symbol a in
+    let y = filter is_symbol b in
+    let both = filter-append is_symbol a b in
     record {
-      within = omega (arith, f.within, g.within, length-drop at text);
       whole = record {
-        spaced = cc (
-          take-add at n text,
-          list_all-append is_symbol_or_space (take at text) (take n (drop at text)),
-          f.whole.spaced,
-          g.whole.spaced,
-        );
+        spaced = cc (list_all-append is_symbol_or_space a b, f.whole.spaced, g.whole.spaced);
         whole = omega (arith, ap length both, length-append x y, f.whole.whole, g.whole.whole);
       };
       held_are = cc (
@@ -176,11 +163,7 @@ fills_then {held} {h1} {h2} {text} at n f g =
         g.held_are,
         f.held_are,
         map-append symbol_value x y,
-        groups_whole (map symbol_value x) (map symbol_value y) (omega (
-          arith,
-          length-map x symbol_value,
-          f.whole.whole,
-        )),
+        groups_whole (map symbol_value x) (map symbol_value y) (omega (arith, length-map x symbol_value, f.whole.whole)),
         append_assoc held (groups (map symbol_value x)) (groups (map symbol_value y)),
       );
     }
@@ -193,40 +176,44 @@ put_keeps old new row n h e =
 
 -- rest is the text after whole groups and white space, and held' is held followed by the bytes of these groups
 pub record Leaves (held text rest held' : List ℕ) : Type 0 where
-  pub short : length rest ≤ length text
-  pub rest_is : rest ≡ drop (length text - length rest) text
-  pub fills : Fills held text (length text - length rest) held'
+  pub front : List ℕ
+  pub text_is : text ≡ front ++ rest
+  pub fills : Fills held front held'
 
 -- before any group is read
 pub leaves_all : (held text : List ℕ) → Leaves held text text held
-leaves_all held text = grind (arith, fills_nothing)
+leaves_all held text = record { front = []; text_is = refl; fills = fills_nothing held }
 
 -- some more groups are read
-pub leaves_then : {held h1 h2 text rest : List ℕ} (n : ℕ) → Leaves held text rest h1 → Fills h1 rest n h2
+pub leaves_then : {held h1 h2 text rest : List ℕ} (n : ℕ) → Leaves held text rest h1 → Fills h1 (take n rest) h2
     → Leaves held text (take (length rest - n) (drop n rest)) h2
-leaves_then {held} {h1} {h2} {text} {rest} n l f =
-    let at = length text - length rest in
-    let size : length (drop n rest) ≡ length rest - n = length-drop n rest in
-    let place : length text - length (drop n rest) ≡ at + n = omega (arith, size, f.within, l.short) in
-    rw (take_rest rest n) (record {
-      short = omega (arith, size, l.short);
-      rest_is = cc (place, l.rest_is, drop-drop n at text);
-      fills = rw place (fills_then at n l.fills (rw (sym l.rest_is) f));
-    })
+leaves_then {rest = rest} n l f = rw (take_rest rest n) (record {
+  front = l.front ++ take n rest;
+  text_is = cc (l.text_is, append_assoc l.front (take n rest) (drop n rest), take-append-drop n rest);
+  fills = fills_then l.front (take n rest) l.fills f;
+})
+
+-- all that was read
+pub leaves_read : {held text rest held' : List ℕ} → Leaves held text rest held'
+    → (length rest ≤ length text) × Fills held (take (length text - length rest) text) held'
+leaves_read {text = text} {rest = rest} l =
+    let size = ap length l.text_is ∙ length-append l.front rest in
+    let n : length text - length rest ≡ length l.front = omega (arith, size) in
+    (omega (arith, size), rw (n, l.text_is, take_at l.front rest (length l.front) refl) l.fills)
 
 -- if each byte of the text is at most 255, so is each of the rest
 pub leaves_fits : {held text rest held' : List ℕ} → Leaves held text rest held'
     → ((i : ℕ) → Fits w8 (get_or text i 0)) → (i : ℕ) → Fits w8 (get_or rest i 0)
-leaves_fits {text = text} {rest = rest} l fits i =
-    subst (λ t. Fits w8 (get_or t i 0)) (sym l.rest_is)
-    (subst (Fits w8) (sym (get_or-drop (length text - length rest) text i 0)) (fits (length text - length rest + i)))
+leaves_fits {rest = rest} l fits i =
+    subst (Fits w8) (ap (λ t. get_or t (length l.front + i) 0) l.text_is ∙ get_or-append-add l.front rest i 0)
+    (fits (length l.front + i))
 
 -- one group
 pub fill_one : (held text bytes : List ℕ) → 4 ≤ length text → is_symbol (get_or text 0 0) ≡ true
     → is_symbol (get_or text 1 0) ≡ true → is_symbol (get_or text 2 0) ≡ true → is_symbol (get_or text 3 0) ≡ true
     → bytes ≡ group_bytes (group_number (symbol_value (get_or text 0 0)) (symbol_value (get_or text 1 0))
     (symbol_value (get_or text 2 0)) (symbol_value (get_or text 3 0)))
-    → Fills held text 4 (held ++ bytes)
+    → Fills held (take 4 text) (held ++ bytes)
 unfolding groups
 fill_one held [] bytes h i j k l e = absurd (omega arith)
 fill_one held (p ∷ []) bytes h i j k l e = absurd (omega arith)
@@ -254,30 +241,16 @@ module _ (a b w : List ℕ) (st : Stands a w) where
   unfolding values
   values_left t = grind (arith, symbols_left, map-append, after_groups-map)
 
+  -- what a text decodes to, and whether it has a fault
+  ruleset decoding = (done_is, groups-append, before_none, kind_is, no_fault_valid, after_groups-append, values_left)
+
+  -- texts, one after the other
+  ruleset joining = (before-append, fault-append, filter-append, length-append, append_assoc, map-append)
+
   -- given `Stands a w`, decoding b after a is the same as decoding w ++ b
   pub goes_on : GoesOn a b (w ++ b)
   unfolding left_padding left_symbols values decoded
-  goes_on =
-      grind (
-        arith,
-        done_is,
-        before-append,
-        groups-append,
-        before_none,
-        fault_some,
-        fault-append,
-        kind_is,
-        length-map,
-        after_groups-append,
-        no_fault_valid,
-        fault_invalid,
-        filter-append,
-        length_alike,
-        length-append,
-        append_assoc,
-        map-append,
-        values_left,
-      )
+  goes_on = grind (arith, decoding, joining, fault_some, length-map, fault_invalid, length_alike)
 
 -- Decoding goes on from what is left over
 

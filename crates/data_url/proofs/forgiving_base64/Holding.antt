@@ -90,11 +90,11 @@ module _ {F : Type 0} where
       none.1 w.spaced refl parts.0 refl parts.1 none.1 going
 
   -- whole groups at the start of the text
-  pub gains_groups : {d : State F} {held text held' : List ℕ} (taken : ℕ) → 0 < taken → IsBetweenGroups d
-      → d.failed ≡ false → Fills held text taken held' → Gains d held text taken d held'
-  gains_groups taken some none going f = record {
+  pub gains_groups : {d : State F} {held text held' : List ℕ} (taken : ℕ) → 0 < taken → taken ≤ length text
+      → IsBetweenGroups d → d.failed ≡ false → Fills held (take taken text) held' → Gains d held text taken d held'
+  gains_groups taken some within none going f = record {
     some = some;
-    within = f.within;
+    within = within;
     more = _;
     adds = adds_whole _ none going f.whole refl;
     held_are = f.held_are;
@@ -107,10 +107,10 @@ module _ {F : Type 0} where
   gains_one (c ∷ t) more some a e = grind arith
 
 -- no bytes have no groups
-pub fills_none : {held text held' : List ℕ} (taken : ℕ) → taken ≡ 0 → Fills held text taken held' → held' ≡ held
+pub fills_none : {held held' : List ℕ} (text : List ℕ) (n : ℕ) → n ≡ 0 → Fills held (take n text) held' → held' ≡ held
 unfolding groups
-fills_none zero e f = grind (arith, append-nil)
-fills_none (suc n) e f = absurd (omega arith)
+fills_none text zero e f = grind (arith, append-nil)
+fills_none text (suc n) e f = absurd (omega arith)
 
 -- there are three bytes for each group that is held
 pub held_len : (p : HeldGroups) → length (held_bytes p) ≡ 3 * p.len

@@ -171,25 +171,6 @@ has_pad_some (suc p) h = refl
 
 -- Groups of four and what is left over, written out
 
--- the bytes of four values are those of their group
-four_groups : (a b c e : ℕ) → groups (a ∷ b ∷ c ∷ e ∷ []) ≡ group_bytes (group_number a b c e)
-unfolding groups
-four_groups a b c e = refl
-
--- nothing is left over of four values
-four_after : (a b c e : ℕ) → after_groups (a ∷ b ∷ c ∷ e ∷ []) ≡ []
-unfolding after_groups
-four_after a b c e = refl
-
--- the minimum of a number of at most three, plus zero, and three is the number
-min_same : (p : ℕ) → p ≤ 3 → p ≡ min (p + 0) 3
-min_same p h = omega arith
-
--- the empty text has no fault
-fault_nil : (s : Bool) → fault_byte s [] ≡ None
-unfolding fault_byte
-fault_nil s = refl
-
 -- the first three items of a list of three items, written out
 pub three_items : (s : List ℕ) (n : ℕ) → length s ≡ 3 → n ≡ 3
     → take n s ≡ get_or s 0 0 ∷ get_or s 1 0 ∷ get_or s 2 0 ∷ []
@@ -250,6 +231,9 @@ pub sound : {F E : Type 0} (d : Decoder F E) → IsSound (state_of d)
 sound d = grind (arith, every_list_all, length-take)
 
 module _ {F : Type 0} where
+  -- how long groups, values and symbols are
+  ruleset sizes = (groups_size, length-map, length-append, filter_length)
+
   -- d reads a text t without a fault that has the symbols k and n times '=', if the fields of d' are what is left over
   pub adds_text : {d d' : State F} (t k bytes : List ℕ) (n : ℕ) → IsSound d
       → fault_byte (has_pad d.padding) t ≡ None → filter is_symbol t ≡ k → length (filter is_pad t) ≡ n
@@ -257,18 +241,7 @@ module _ {F : Type 0} where
       → d'.symbols ≡ after_groups (d.symbols ++ k) → d'.padding ≡ min (d.padding + n) 3 → d'.failed ≡ false
       → Adds d t bytes d'
   adds_text {d} {d'} t k bytes n s good is_k is_n is_bytes same symbols padding failed =
-      grind (
-        arith,
-        groups_size,
-        length-map,
-        length-append,
-        filter_length,
-        none_fault,
-        fault_more,
-        done_more,
-        left_more,
-        padding_more,
-      )
+      grind (arith, sizes, none_fault, fault_more, done_more, left_more, padding_more)
 
   -- the text completes no group
   adds_quiet : {d d' : State F} (t k : List ℕ) (n : ℕ) → IsSound d
@@ -294,93 +267,54 @@ module _ {F : Type 0} where
   pub adds_space : {d : State F} (c : ℕ) → IsSound d
       → is_ascii_whitespace c ≡ true → d.failed ≡ false → Adds d (c ∷ []) [] d
   adds_space {d} c s space going =
-      search (arith, adds_quiet, fault_space, symbols_space, pads_space, append-nil, min_same)
+      let same : d.padding ≡ min (d.padding + 0) 3 = omega (arith, s.few_padding) in
+      search (arith, adds_quiet, fault_space, symbols_space, pads_space, append-nil, same)
 
   -- d reads the empty text, and does not change
-  pub adds_none : {d : State F} → IsSound d → d.failed ≡ false
-      → Adds d [] [] d
+  pub adds_none : {d : State F} → IsSound d → d.failed ≡ false → Adds d [] [] d
+  unfolding fault_byte
   adds_none {d} s going =
-      adds_quiet [] [] 0 s
-      (fault_nil (has_pad d.padding))
-      refl
-      refl
-      (rw append-nil s.few)
-      refl (sym (append-nil d.symbols)) (min_same d.padding s.few_padding) going
-
-  -- a '='
-  adds_equals : {d d' : State F} → IsSound d → d.failed ≡ false
-      → d' ≡ record d { padding = min (d.padding + 1) 3 } → Adds d (61 ∷ []) [] d'
-  adds_equals {d} {d'} s going same =
-      adds_quiet (61 ∷ []) [] 1 s
-      (fault_pads 1 (has_pad d.padding))
-      refl
-      refl
-      (rw append-nil s.few)
-      (ap (λ (x : State F). x.closure) same) (ap (λ (x : State F). x.symbols) same ∙ sym (append-nil d.symbols))
-      (ap (λ (x : State F). x.padding) same) (ap (λ (x : State F). x.failed) same ∙ going)
+      adds_quiet [] [] 0 s refl refl refl (rw append-nil s.few) refl (sym (append-nil d.symbols))
+      (omega (arith, s.few_padding)) going
 
   -- d reads a '=': it counts it, up to three
   pub adds_pad : {d d' : State F} (c : ℕ) → c ≡ 61 → IsSound d → d.failed ≡ false
       → d' ≡ record d { padding = min (d.padding + 1) 3 } → Adds d (c ∷ []) [] d'
-  adds_pad {d} {d'} c e s going same = grind (arith, adds_equals s going same)
+  adds_pad {d} {d'} c e s going same =
+      rw (e, same) (adds_quiet (61 ∷ []) [] 1 s (fault_pads 1 (has_pad d.padding)) refl refl (rw append-nil s.few) refl
+      (sym (append-nil d.symbols)) refl going)
 
   -- the fourth symbol completes a group
   pub adds_group : {d d' : State F} (x y z c : ℕ) (group : List ℕ) → IsSound d
       → d.symbols ≡ x ∷ y ∷ z ∷ [] → d.padding ≡ 0 → is_symbol c ≡ true
       → group ≡ group_bytes (group_number (symbol_value x) (symbol_value y) (symbol_value z) (symbol_value c))
       → d'.closure ≡ d.closure → d'.symbols ≡ [] → d'.padding ≡ 0 → d'.failed ≡ false → Adds d (c ∷ []) group d'
+  unfolding groups after_groups
   adds_group {d} {d'} x y z c group s is_q is_p symbol is_group same symbols padding failed =
       let all : d.symbols ++ c ∷ [] ≡ x ∷ y ∷ z ∷ c ∷ [] = ap (λ k. k ++ c ∷ []) is_q in
       adds_text (c ∷ []) (c ∷ []) group 0 s
       (ap (λ p. fault_byte (has_pad p) (c ∷ [])) is_p ∙ fault_symbol c symbol)
       (symbols_symbol c symbol)
       (ap length (pads_symbol c symbol))
-      (cc (four_groups (symbol_value x) (symbol_value y) (symbol_value z) (symbol_value c)))
-      same (symbols ∙ sym (ap after_groups all ∙ four_after x y z c))
+      (is_group ∙ sym (ap (λ k. groups (map symbol_value k)) all)) same (symbols ∙ sym (ap after_groups all))
       (padding ∙ ap (λ p. min (p + 0) 3) (sym is_p)) failed
+
+  -- what a byte that is a fault leaves of what was left over
+  ruleset refusing = (fault_some, fault_more, kind_is, done_is, before-append, fault_text, before_one)
+
+  -- that what was left over has no complete group
+  ruleset incomplete = (append-nil, values_left, groups_few, length-map)
 
   -- if d has padding, it refuses a symbol
   pub refuses_after : {d d' : State F} (c : ℕ) → IsSound d → 1 ≤ d.padding
       → is_symbol c ≡ true → d' ≡ d → Refuses d c AlphabetSymbolAfterPadding d'
-  refuses_after {d} c s pads symbol same =
-      grind (
-        arith,
-        has_pad_some,
-        fault_after,
-        fault_some,
-        fault_more,
-        kind_is,
-        done_is,
-        before-append,
-        fault_text,
-        any_of_text,
-        before_one,
-        append-nil,
-        values_left,
-        groups_few,
-        length-map,
-      )
+  refuses_after {d} c s pads symbol same = grind (arith, refusing, incomplete, has_pad_some, fault_after, any_of_text)
 
   -- d refuses a byte that is neither whitespace nor '=' nor a symbol
   pub refuses_other : {d d' : State F} (c : ℕ) → IsSound d
       → is_ascii_whitespace c ≡ false → is_pad c ≡ false → is_symbol c ≡ false → d' ≡ d
       → Refuses d c (UnexpectedSymbol c) d'
-  refuses_other {d} c s space pad symbol same =
-      grind (
-        arith,
-        fault_other,
-        fault_some,
-        fault_more,
-        kind_is,
-        done_is,
-        before-append,
-        fault_text,
-        before_one,
-        append-nil,
-        values_left,
-        groups_few,
-        length-map,
-      )
+  refuses_other {d} c s space pad symbol same = grind (arith, refusing, incomplete, fault_other)
 
 module _ {F E : Type 0} (step : F → List ℕ → Result (Unit {0}) E → F → Type 0) where
   -- feeding the empty text returns `Ok`, and d does not change
@@ -453,11 +387,8 @@ taken_cases u b bytes x d None h t = grind (arith, none_fault)
 taken_cases u b bytes x d (Some c) h t = record {
   bytes_are = t.bytes_are ∙ sym (done_stays u b c h);
   answer =
-      match_alike (first_fault u) (first_fault (u ++ b)) _ _ _ _ (cc (
-        fault_some u,
-        fault-append_some u b false c h,
-        fault_some (u ++ b),
-      ))
+      match_alike (first_fault u) (first_fault (u ++ b)) _ _ _ _
+      (cc (fault_some u, fault-append_some u b false c h, fault_some (u ++ b)))
       (λ k. absurd (let e = k.0 in cc))
       (λ k. k ∙ ap (λ z. Err (InvalidBase64 z)) (kind_stays u b c h))
       t.answer;

@@ -1,7 +1,7 @@
 -- The complete groups at the start of a text, and the bytes of groups that are held.
 use Rattle.std.specs.Char.{is_ascii_whitespace}
 use Rattle.std.specs.List.{filter, list_all}
-use Rattle.std.specs.Prelude.{◌%◌, ◌*◌, ◌++◌, ◌||◌, ◌≡◌, ◌≤◌, Bool, IsTrue, List, length, map, take, ℕ}
+use Rattle.std.specs.Prelude.{◌%◌, ◌*◌, ◌++◌, ◌||◌, ◌≡◌, Bool, IsTrue, List, length, map, take, ℕ}
 use Rattle.data_url.specs.Base64.{groups, is_symbol, symbol_value}
 use Rattle.data_url.specs.declared.forgiving_base64.held.HeldGroups.{HeldGroups}
 
@@ -13,12 +13,11 @@ pub record IsWhole (text : List ℕ) : Type 0 where
   pub spaced : IsTrue (list_all is_symbol_or_space text)
   pub whole : length (filter is_symbol text) % 4 ≡ 0
 
--- the first `taken` bytes of the text are complete groups and white space, and held' is held followed
--- by the bytes of these groups
-pub record Fills (held text : List ℕ) (taken : ℕ) (held' : List ℕ) : Type 0 where
-  pub within : taken ≤ length text
-  pub whole : IsWhole (take taken text)
-  pub held_are : held' ≡ held ++ groups (map symbol_value (filter is_symbol (take taken text)))
+-- the text has only complete groups and white space, and held' is held followed by the bytes of these
+-- groups
+pub record Fills (held text held' : List ℕ) : Type 0 where
+  pub whole : IsWhole text
+  pub held_are : held' ≡ held ++ groups (map symbol_value (filter is_symbol text))
 
 -- the bytes of the groups that are held
 abbrev pub held_bytes : HeldGroups → List ℕ

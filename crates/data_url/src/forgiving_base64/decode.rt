@@ -121,7 +121,11 @@ where
 
     /// Takes the first byte of a text, and adds the group that it completes. Returns 1.
     #[inline(always)]
-    fn take_byte(&mut self, text: &[u8], groups: &mut HeldGroups) -> Result<usize, InvalidBase64Details>
+    fn take_byte(
+        &mut self,
+        text: &[u8],
+        groups: &mut HeldGroups,
+    ) -> Result<usize, InvalidBase64Details>
         requires some { 1 ≤ length text.now }
         requires room { groups.old.len < 64 }
         requires going { (state_of self.old).failed ≡ false }
@@ -154,7 +158,11 @@ where
     /// Takes the next bytes of a text, and adds the groups that they complete: whole groups if
     /// the text begins with some and the next symbol begins a group, or else one byte. Returns how many bytes it took.
     #[inline(always)]
-    fn take_some(&mut self, text: &[u8], groups: &mut HeldGroups) -> Result<usize, InvalidBase64Details>
+    fn take_some(
+        &mut self,
+        text: &[u8],
+        groups: &mut HeldGroups,
+    ) -> Result<usize, InvalidBase64Details>
         requires some { 1 ≤ length text.now }
         requires room { groups.old.len < 64 }
         requires going { (state_of self.old).failed ≡ false }

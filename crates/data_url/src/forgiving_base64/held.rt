@@ -1,6 +1,6 @@
 //! The bytes of whole groups of a text of base64 (RFC 4648, section 4) that the closure was not yet called with.
 
-ghost use Rattle.std.specs.Prelude.{◌≡◌, ◌+◌, ◌≤◌, ◌<◌, ◌++◌, [], drop, length};
+ghost use Rattle.std.specs.Prelude.{◌≡◌, ◌+◌, ◌≤◌, ◌<◌, ◌++◌, [], drop, length, take};
 ghost use Rattle.std.specs.Char.{is_ascii_whitespace};
 ghost use Rattle.std.specs.List.{list_all, prefix_len};
 ghost use Rattle.data_url.specs.Base64.{is_symbol};
@@ -84,7 +84,8 @@ impl HeldGroups {
     pub(crate) fn fill(&mut self, text: &[u8]) -> usize
         requires room { self.old.len < 64 }
         ensures none { result ≡ 0 → self.new.len ≡ self.old.len }
-        ensures fills { Fills (held_bytes self.old) text.now result (held_bytes self.new) }
+        ensures within { result ≤ length text.now }
+        ensures fills { Fills (held_bytes self.old) (take result text.now) (held_bytes self.new) }
     {
         if text.len() >= 16 {
             return self.fill_rows(text);
@@ -107,7 +108,8 @@ impl HeldGroups {
     fn fill_rows(&mut self, text: &[u8]) -> usize
         requires room { self.old.len < 64 }
         ensures none { result ≡ 0 → self.new.len ≡ self.old.len }
-        ensures fills { Fills (held_bytes self.old) text.now result (held_bytes self.new) }
+        ensures within { result ≤ length text.now }
+        ensures fills { Fills (held_bytes self.old) (take result text.now) (held_bytes self.new) }
     {
         let mut rest = text;
         let mut len = self.len;

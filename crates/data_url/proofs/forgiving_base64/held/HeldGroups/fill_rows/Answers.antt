@@ -2,8 +2,11 @@ use Rattle.std.proofs.Common.{◌*◌, ◌≤◌, ◌+◌, ◌≡◌, ap, arith,
 use Rattle.std.specs.List.{list_all}
 use Rattle.std.proofs.lemmas.List.{take-take, take_rest}
 use Rattle.data_url.specs.Base64.{is_symbol}
-use Rattle.data_url.proofs.forgiving_base64.Groups.{leaves_all, leaves_fits, leaves_then, put_keeps, row_fills, spaces_front}
-use Rattle.data_url.proofs.forgiving_base64.held.HeldGroups.fill_rows.Goals.{then-loop-rest-test+else-len-lt-ROOM, else-loop-rest-test, then-loop-rest-test+then-len-lt-ROOM+else-are_symbols+then-taken-eq0}
+use Rattle.data_url.proofs.forgiving_base64.Groups.{leaves_all, leaves_fits, leaves_read, leaves_then, put_keeps}
+use Rattle.data_url.proofs.forgiving_base64.Groups.{row_fills, spaces_front}
+use Rattle.data_url.proofs.forgiving_base64.held.HeldGroups.fill_rows.Goals.{then-loop-rest-test+else-len-lt-ROOM}
+use Rattle.data_url.proofs.forgiving_base64.held.HeldGroups.fill_rows.Goals.{else-loop-rest-test}
+use Rattle.data_url.proofs.forgiving_base64.held.HeldGroups.fill_rows.Goals.{then-loop-rest-test+then-len-lt-ROOM+else-are_symbols+then-taken-eq0}
 use Rattle.data_url.proofs.forgiving_base64.held.HeldGroups.fill_rows.Goals as goal
 
 pub loop-rest-init : goal.loop-rest-init
@@ -15,7 +18,7 @@ loop-rest-preserved-then-are_symbols c =
     let rest = c.loop-rest.rest.now in
     record {
       few = omega arith;
-      none = λ e. absurd (omega (arith, ap length (take_rest rest 16), length-drop 16 rest, i.leaves.short));
+      none = λ e. absurd (omega (arith, ap length (take_rest rest 16), length-drop 16 rest, (leaves_read i.leaves).0));
       leaves = leaves_then 16 i.leaves (row_fills c.loop-rest.self.bytes _ _ _ rest c.loop-rest.len 4 0
           (omega (arith, c.loop-rest.self.sized)) c.put.ensures c.decode_row.ensures.bytes c.row-row.ensures
           (omega arith) (omega arith) (omega arith) (leaves_fits i.leaves c.type_inv.text)
@@ -44,7 +47,7 @@ loop-rest-preserved c =
         arith,
         ap length (take_rest rest (4 * m + k)),
         length-drop (4 * m + k) rest,
-        i.leaves.short,
+        (leaves_read i.leaves).0,
         c.if-taken-eq0.false,
       ));
       leaves = leaves_then (4 * m + k) i.leaves (row_fills c.loop-rest.self.bytes _ _ _ rest c.loop-rest.len m k
@@ -52,6 +55,12 @@ loop-rest-preserved c =
           (omega arith) few (leaves_fits i.leaves c.type_inv.text) (sym (ap (list_all is_symbol) front) ∙ ahead.symbols)
           (rw (c.spaces_len.ensures.front, take_rest rest (4 * m)) (spaces_front (drop (4 * m) rest))));
     }
+
+pub returns-clause-none : goal.returns-clause-none
+returns-clause-none c e = c.loop-rest.invariant.none (omega (arith, (leaves_read c.loop-rest.invariant.leaves).0))
+
+pub returns-clause-within : goal.returns-clause-within
+returns-clause-within c = omega (arith, (leaves_read c.loop-rest.invariant.leaves).0)
 
 pub returns-clause-fills : goal.returns-clause-fills
 returns-clause-fills c =
@@ -64,4 +73,4 @@ returns-clause-fills c =
           rw w.self-is (put_keeps old w.put.new.bytes w.decode_row.result n
           (omega (arith, c.loop-rest.self.sized)) w.put.ensures)
     ] in
-    rw same c.loop-rest.invariant.leaves.fills
+    rw same (leaves_read c.loop-rest.invariant.leaves).1
