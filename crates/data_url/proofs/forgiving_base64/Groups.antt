@@ -163,7 +163,8 @@ fills_then {held} {h1} {h2} a b f g =
         g.held_are,
         f.held_are,
         map-append symbol_value x y,
-        groups_whole (map symbol_value x) (map symbol_value y) (omega (arith, length-map x symbol_value, f.whole.whole)),
+        groups_whole (map symbol_value x) (map symbol_value y)
+            (omega (arith, length-map x symbol_value, f.whole.whole)),
         append_assoc held (groups (map symbol_value x)) (groups (map symbol_value y)),
       );
     }

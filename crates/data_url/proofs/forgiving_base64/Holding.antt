@@ -106,6 +106,11 @@ module _ {F : Type 0} where
   gains_one [] more some a e = absurd (omega arith)
   gains_one (c ∷ t) more some a e = grind arith
 
+  -- the first byte of a text, which completes no group
+  pub gains_none : {d d' : State F} {held : List ℕ} (text : List ℕ) → 1 ≤ length text
+      → Adds d (get_or text 0 0 ∷ []) [] d' → Gains d held text 1 d' held
+  gains_none {held = held} text some a = gains_one text [] some a (sym (append-nil held))
+
 -- no bytes have no groups
 pub fills_none : {held held' : List ℕ} (text : List ℕ) (n : ℕ) → n ≡ 0 → Fills held (take n text) held' → held' ≡ held
 unfolding groups

@@ -1,10 +1,9 @@
-use Rattle.std.proofs.Common.{[], get_or, refl, ap, sym, ◌∙◌, arith, length-take}
+use Rattle.std.proofs.Common.{get_or, refl, ap, sym, ◌∙◌, arith, length-take}
 use Rattle.std.proofs.lemmas.Bool.{ne_eqb}
-use Rattle.std.proofs.lemmas.List.{append-nil, take_more_set}
+use Rattle.std.proofs.lemmas.List.{take_more_set}
 use Rattle.data_url.specs.Decoder.{state_of}
-use Rattle.data_url.specs.Steps.Groups.{held_bytes}
 use Rattle.data_url.proofs.forgiving_base64.Vectors.{space_is}
-use Rattle.data_url.proofs.forgiving_base64.Holding.{gains_one}
+use Rattle.data_url.proofs.forgiving_base64.Holding.{gains_none, gains_one}
 use Rattle.data_url.proofs.forgiving_base64.Steps.{adds_group, adds_kept, adds_pad, adds_space, refuses_after}
 use Rattle.data_url.proofs.forgiving_base64.Steps.{refuses_other, sound, three_items}
 use Rattle.data_url.proofs.forgiving_base64.decode.Decoder.take_byte.Goals as goal
@@ -12,16 +11,15 @@ use Rattle.data_url.proofs.forgiving_base64.decode.Decoder.take_byte.Goals as go
 pub returns-then-byte-eq61 : goal.returns-then-byte-eq61
 returns-then-byte-eq61 g c =
     let d = c.args.self.now in
-    gains_one c.args.text.now [] c.requires.some (adds_pad (get_or c.args.text.now 0 0) c.if-byte-eq61.true (sound d)
-    c.requires.going
-    (ap (λ p. record (state_of d) { padding = p }) c.min-self.ensures)) (sym (append-nil (held_bytes c.args.groups.now)))
+    gains_none c.args.text.now c.requires.some (adds_pad (get_or c.args.text.now 0 0) c.if-byte-eq61.true (sound d)
+    c.requires.going (ap (λ p. record (state_of d) { padding = p }) c.min-self.ensures))
 
 pub returns-else-not-is_ascii_whitespace : goal.returns-else-not-is_ascii_whitespace
 returns-else-not-is_ascii_whitespace g c =
-    let d = c.args.self.now in
-    gains_one c.args.text.now [] c.requires.some (adds_space (get_or c.args.text.now 0 0) (sound d)
-    (sym (space_is (get_or c.args.text.now 0 0) (omega arith)) ∙ sym c.is_ascii_whitespace.ensures.value
-    ∙ c.if-not-is_ascii_whitespace.false) c.requires.going) (sym (append-nil (held_bytes c.args.groups.now)))
+    let byte = get_or c.args.text.now 0 0 in
+    gains_none c.args.text.now c.requires.some (adds_space byte (sound c.args.self.now)
+    (sym (space_is byte (omega arith)) ∙ sym c.is_ascii_whitespace.ensures.value ∙ c.if-not-is_ascii_whitespace.false)
+    c.requires.going)
 
 pub returns-then-not-is_ascii_whitespace : goal.returns-then-not-is_ascii_whitespace
 returns-then-not-is_ascii_whitespace g c =
@@ -45,10 +43,9 @@ returns-then-self-gt0 g c =
 pub returns-then-self-lt3 : goal.returns-then-self-lt3
 returns-then-self-lt3 g c =
     let d = c.args.self.now in
-    gains_one c.args.text.now [] c.requires.some (adds_kept (get_or c.args.text.now 0 0) (sound d)
+    gains_none c.args.text.now c.requires.some (adds_kept (get_or c.args.text.now 0 0) (sound d)
     (omega (arith, length-take d.pending d.symbols)) (omega arith) (sym c.is_symbol.ensures ∙ c.if-not-is_symbol.false)
     refl (take_more_set d.symbols d.pending (get_or c.args.text.now 0 0) (omega arith)) refl c.requires.going)
-    (sym (append-nil (held_bytes c.args.groups.now)))
 
 pub returns-else-self-lt3 : goal.returns-else-self-lt3
 returns-else-self-lt3 g c =

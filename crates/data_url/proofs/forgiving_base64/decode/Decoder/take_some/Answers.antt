@@ -15,7 +15,8 @@ returns g c =
     let same : held_bytes c.if-is_between_groups.groups ≡ held_bytes c.args.groups.now =
     elim c.if-is_between_groups.branch [
       | then-is_between_groups+else-taken-gt0 w ↦
-          ap held_bytes w.groups-is ∙ fills_none c.args.text.now w.fill-taken.result (omega arith) w.fill-taken.ensures.fills
+          ap held_bytes w.groups-is
+          ∙ fills_none c.args.text.now w.fill-taken.result (omega arith) w.fill-taken.ensures.fills
       | else-is_between_groups w ↦ ap held_bytes w.groups-is
     ] in
     grind (arith, same)
