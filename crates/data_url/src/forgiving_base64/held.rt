@@ -104,7 +104,7 @@ impl HeldGroups {
 
     /// Adds whole groups that a text begins with, as long as there is a row of sixteen bytes. White space after the groups
     /// of a row is skipped. Returns how many bytes of the text these take.
-    #[inline(always)]
+    #[inline(never)]
     fn fill_rows(&mut self, text: &[u8]) -> usize
         requires room { self.old.len < 64 }
         ensures none { result ≡ 0 → self.new.len ≡ self.old.len }
