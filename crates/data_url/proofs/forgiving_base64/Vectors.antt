@@ -1,7 +1,7 @@
 -- Blocks of 64 symbols in vectors. For `blocks.rt` and `lanes.rt`.
 use Rattle.std.proofs.Common.{drop-drop, ◌≡◌, ℕ, ◌<◌, ltb, true, cond, eqb, get_or, refl, sym, ◌∙◌, arith, suc, zero}
 use Rattle.std.proofs.Common.{◌+◌, ◌*◌}
-use Rattle.std.proofs.Common.{◌/◌, ◌%◌, ◌^◌, Bool, not, List, [], ◌∷◌, ◌++◌, map, length, take, Fits, w8, ap, ap₂}
+use Rattle.std.proofs.Common.{◌/◌, ◌%◌, ◌^◌, Bool, not, List, [], ◌∷◌, ◌++◌, map, length, take, Fits, w8, ap}
 use Rattle.std.proofs.Common.{subst, ◌≤◌, ◌&&◌, drop, bit_or, append_assoc, length-take-le, length-drop, take-add}
 use Rattle.std.proofs.lemmas.Bool.{agree_below_at, cond-true, eqb-true, ltb-true, cases_eq, ne_eqb}
 use Rattle.std.specs.Char.{is_ascii_whitespace as std_whitespace, is_ascii_whitespace}
@@ -72,9 +72,7 @@ below_at (x ∷ v) (suc i) h = below_at v i h.1
 -- if indices below 16 are computed from bytes, all of them are below 16
 places_low : (g : ℕ → ℕ) (v js : List ℕ) → js ≡ map g v → ((x : ℕ) → x < 256 → g x < 16) → Each1 (Fits w8) v
     → Each1 (λ j. j < 16) js
-places_low g v js e small fits =
-    let P : List ℕ → Type 0 = λ l. Each1 (λ j. j < 16) l in
-    subst P (sym e) (each_map (Fits w8) (λ j. j < 16) g (λ x h. small x h.fits) v fits)
+places_low g v js e small fits = rw e (each_map (Fits w8) (λ j. j < 16) g (λ x h. small x h.fits) v fits)
 
 -- if indices below 16 are computed from bytes, the swizzle's precondition is satisfied
 pub places_ok : (g : ℕ → ℕ) (v js : List ℕ) → length v ≡ 16 → js ≡ map g v → ((x : ℕ) → x < 256 → g x < 16)
@@ -102,9 +100,8 @@ looked_up t g v js whole fits e small = grind (arith, looked_at, length-map, pla
 -- `value_of` is the value of a symbol
 pub value_is : (b : ℕ) → b < 256 → is_symbol b ≡ true → value_of b ≡ symbol_value b
 value_is b l s =
-    let same = agree_below_at (λ b. cond (is_symbol b) (eqb (value_of b) (symbol_value b)) true)
-    (λ b. true) 256 b refl l in
-    eqb-true (value_of b) (symbol_value b) (sym (ap (λ t. cond t (eqb (value_of b) (symbol_value b)) true) s) ∙ same)
+    let same = agree_below_at (λ b. cond (is_symbol b) (eqb (value_of b) (symbol_value b)) true) (λ b. true) 256 b refl l in
+    grind (arith, eqb-true (value_of b) (symbol_value b))
 
 -- all values are below 64
 pub values_below : (v : List ℕ) → Each1 (λ x. x < 64) (map value_of v)
@@ -210,12 +207,11 @@ pub others_is : (v marks : List ℕ) → length v ≡ 16 → Each1 (Fits w8) v �
     (zip2 (λ a b. cond (differs a b) 255 0) marks
     (0 ∷ 0 ∷ 0 ∷ 0 ∷ 0 ∷ 0 ∷ 0 ∷ 0 ∷ 0 ∷ 0 ∷ 0 ∷ 0 ∷ 0 ∷ 0 ∷ 0 ∷ 0 ∷ []))) % 2 ^ 64 ≡ mask_l (map is_other v)
 others_is v marks long fits e =
+    let agree = λ (b : ℕ) (l : b < 256). agree_below_at (λ b. differs (mark_of b) 0) is_other 256 b refl l in
     cc (
       bitmask_splat w8 differs marks 16 0 (ap length e ∙ length-map v mark_of ∙ long) (omega arith),
-      map-map
-          (λ x. differs x 0) mark_of v,
-      map_agree (λ x. differs (mark_of x) 0) is_other
-          (λ b l. agree_below_at (λ b. differs (mark_of b) 0) is_other 256 b refl l) v fits,
+      map-map (λ x. differs x 0) mark_of v,
+      map_agree (λ x. differs (mark_of x) 0) is_other agree v fits,
     )
 
 -- Rows of a text
@@ -228,10 +224,7 @@ row_length text at h = grind (arith, length-take-le, length-drop)
 pub split_block : (text : List ℕ)
     → take 64 text ≡ take 16
     (drop 0 text) ++ (take 16 (drop 16 text) ++ (take 16 (drop 32 text) ++ take 16 (drop 48 text)))
-split_block text = take-add 48 16 text ∙ ap (λ x. x ++ take 16 (drop 48 text)) (take-add 32 16 text)
-    ∙ ap (λ x. (x ++ take 16 (drop 32 text)) ++ take 16 (drop 48 text)) (take-add 16 16 text)
-    ∙ append_assoc (take 16 text ++ take 16 (drop 16 text)) (take 16 (drop 32 text)) (take 16 (drop 48 text))
-    ∙ append_assoc (take 16 text) (take 16 (drop 16 text)) (take 16 (drop 32 text) ++ take 16 (drop 48 text))
+split_block text = grind (arith, take-add 48 16 text, take-add 32 16 text, take-add 16 16 text, append_assoc)
 
 -- The mask of a row
 
@@ -259,12 +252,8 @@ pub next_group : (v : List ℕ) (g : ℕ) → length v ≡ 16 → g < 4 → othe
     → (list_all is_symbol (take (4 * (g + 1)) v) ≡ true)
     × (others_mask (drop (4 * g) v) / 16 ≡ others_mask (drop (4 * (g + 1)) v))
 next_group v g long few zeros all =
-    let p = group_mask (drop (4 * g) v) (omega (arith, length-drop (4 * g) v)) zeros in
-    let next : 4 * (g + 1) ≡ 4 * g + 4 = omega arith in
-    rw next (
-      cc (take-add (4 * g) 4 v, list_all-append is_symbol (take (4 * g) v) (take 4 (drop (4 * g) v)), all, p.0),
-      cc (p.1, drop-drop 4 (4 * g) v),
-    )
+    let e = take-add (4 * g) 4 v in
+    grind (arith, group_mask (drop (4 * g) v), length-drop (4 * g) v, list_all-append, drop-drop 4 (4 * g) v)
 
 -- No mark in four rows
 
@@ -311,8 +300,8 @@ marks_lt = each_map (Fits w8) (λ x. x < 256) mark_of
 -- the marks of all bytes of a list are zero exactly if all bytes are symbols
 all_unmarked : (v : List ℕ) → Each1 (Fits w8) v → list_all unmarked (map mark_of v) ≡ list_all is_symbol v
 all_unmarked [] h = refl
-all_unmarked (b ∷ v) h = ap₂ (λ s t. s && t) (agree_below_at (λ b. unmarked (mark_of b)) is_symbol 256 b refl h.0.fits)
-    (all_unmarked v h.1)
+all_unmarked (b ∷ v) h =
+    grind (arith, agree_below_at (λ b. unmarked (mark_of b)) is_symbol 256 b refl h.0.fits, all_unmarked v h.1)
 
 -- the bitwise or of the marks of bytes is zero exactly if all bytes are symbols
 pub are_symbols_is : (v marks : List ℕ) → Each1 (Fits w8) v → marks ≡ map mark_of v
@@ -377,19 +366,11 @@ values_of_rows : (text : List ℕ) → 64 ≤ length text → groups (map value_
     ≡ groups (map value_of (take 16 (drop 0 text))) ++ (groups (map value_of (take 16 (drop 16 text))) ++ (groups
     (map value_of (take 16 (drop 32 text))) ++ groups (map value_of (take 16 (drop 48 text)))))
 values_of_rows text long =
-    let w = take 16 (drop 0 text) in
-    let x = take 16 (drop 16 text) in
-    let y = take 16 (drop 32 text) in
-    let z = take 16 (drop 48 text) in
-    cc (
-      split_block text,
-      map-append value_of w (x ++ (y ++ z)),
-      map-append value_of x (y ++ z),
-      map-append value_of y z,
-      groups_of_rows (map value_of w) (map value_of x) (map value_of y) (map value_of z) (length-map w value_of
-          ∙ row_length text 0 (omega arith)) (length-map x value_of ∙ row_length text 16 (omega arith))
-          (length-map y value_of ∙ row_length text 32 (omega arith)),
-    )
+    let row = λ (at : ℕ). take 16 (drop at text) in
+    let size = λ (at : ℕ) (l : at + 16 ≤ length text). length-map (row at) value_of ∙ row_length text at l in
+    let all = groups_of_rows (map value_of (row 0)) (map value_of (row 16)) (map value_of (row 32))
+    (map value_of (row 48)) (size 0 (omega arith)) (size 16 (omega arith)) (size 32 (omega arith)) in
+    rw (split_block text, map-append, map-append, map-append) all
 
 -- rows that were put one after another
 pub put_three : (b1 b2 b3 x y z : List ℕ) → take 16 b1 ≡ x → take (16 + 16) b2 ≡ take 16 b1 ++ y
