@@ -1,38 +1,25 @@
 -- A closure or a decoder that gets a body piece by piece. For `decode_pieces`, `decode_body` and its callers.
-use Rattle.std.proofs.lemmas.List.{nil_from_length, append-nil, length-map}
-use Rattle.std.proofs.Common.{◌<◌, ◌≡◌, ℕ, ◌+◌, ◌≤◌, List, [], ◌∷◌, ◌++◌, Bor, length, Option, None, Some, Result, Ok}
-use Rattle.std.proofs.Common.{Err, refl, sym, ap, ◌∙◌, append_assoc, arith, length-append, suc, Bool, true}
-use Rattle.std.proofs.Common.{false, cond, ◌*◌, min, length-drop, length-take}
+use Rattle.std.{proofs.Common.{IsErr}, proofs.lemmas.List.{nil_from_length, length-map}, specs.Char.{digit_value}}
+use Rattle.std.proofs.Common.{Result, Ok, Err, refl, sym, ap, ◌∙◌, append_assoc, arith, length-append, suc, Bool, true}
+use Rattle.std.proofs.Common.{append-nil, ◌<◌, ◌≡◌, ℕ, ◌+◌, ◌≤◌, List, [], ◌∷◌, ◌++◌, Bor, length, Option, None, Some}
+use Rattle.std.proofs.Common.{false, cond, ◌*◌, min, length-drop, length-take, MatchOption, MatchResult, MatchBool}
 use Rattle.std.proofs.lemmas.List.Sums.{count_by-le-length, length-filter}
-use Rattle.data_url.proofs.texts.Bytes.{is_cut}
-use Rattle.std.specs.Prelude.{MatchOption, MatchResult, MatchBool, IsErr}
-use Rattle.std.specs.Fn.{CalledAt, Mut, always_mut}
-use denote.Param.Always.{mut_next}
-use Rattle.data_url.specs.Errors.{IsRefused}
-use Rattle.data_url.specs.Run.{Call, IsRun, joined_pieces, refusal, IsPrefix}
-use Rattle.std.specs.Option.{option_or}
-use Rattle.std.specs.Result.{result_err}
-use Rattle.data_url.specs.Fetch.{Good, outcome_bytes, plain_body, Bad, outcome, Outcome, tail_of}
-use Rattle.data_url.specs.Pieces.{Walk}
+use Rattle.std.{specs.Fn.{CalledAt, Mut, always_mut}, specs.Option.{option_or}, specs.Result.{result_err}}
+use Rattle.data_url.specs.Base64.{decoded, complete_bytes, kind_of, after_groups, groups, rest_bytes, values}
+use Rattle.data_url.specs.{DataUrl.{Decodes, HandsOut, IsUrlOf, url_body, url_tail}, Steps.Tail.{IsBodyEnd}}
+use Rattle.data_url.specs.{Decoder.{Feeds, Finishes, State, start}, Run.{Call, IsRun, joined_pieces, refusal, IsPrefix}}
+use Rattle.data_url.specs.{Errors.{IsRefused}, Fetch.{Good, outcome_bytes, plain_body, Bad, outcome, Outcome, tail_of}}
+use Rattle.data_url.specs.{Percent.{begins_with_escape, percent_decoding}, Pieces.{Walk}, declared.DataUrl.{DataUrl}}
 use Rattle.data_url.specs.Steps.Chunks.{IsFront, GivesBytes, IsCallableUntilError, Takes, TakesBody}
-use Rattle.data_url.specs.Steps.Tail.{IsBodyEnd}
-use Rattle.data_url.specs.DataUrl.{Decodes, HandsOut, IsUrlOf, url_body, url_tail}
-use Rattle.data_url.specs.declared.forgiving_base64.DecodeError.TheVariants.{WriteError, InvalidBase64}
-use Rattle.data_url.proofs.runs.Runs.{joined_pieces-append, match_at, match_at_none, refusal-append, run-append}
-use Rattle.data_url.proofs.runs.Runs.{prefix_after}
-use Rattle.std.specs.Char.{digit_value}
-use Rattle.data_url.specs.Base64.{decoded, complete_bytes, kind_of, after_groups, groups}
-use Rattle.data_url.specs.Base64.{rest_bytes, values}
+use Rattle.data_url.specs.{Steps.Whole.{DecodesText}, declared.forgiving_base64.DecodeError.{DecodeError}}
 use Rattle.data_url.specs.Url.{before, without_tabs_and_newlines, front, after, trimmed_text}
-use Rattle.data_url.specs.Percent.{begins_with_escape, percent_decoding}
-use Rattle.data_url.specs.Decoder.{Feeds, Finishes, State, start}
-use Rattle.data_url.specs.Steps.Whole.{DecodesText}
-use Rattle.data_url.specs.declared.forgiving_base64.DecodeError.{DecodeError}
+use Rattle.data_url.specs.declared.forgiving_base64.DecodeError.TheVariants.{WriteError, InvalidBase64}
+use Rattle.data_url.proofs.forgiving_base64.Groups.{groups_length, filter_length}
 use Rattle.data_url.proofs.forgiving_base64.Steps.{feeds_err, feeds_then}
 use Rattle.data_url.proofs.forgiving_base64.WholeTexts.{decodes_finished, decodes_refused, fed_nothing, run_keeps}
-use Rattle.data_url.proofs.forgiving_base64.WholeTexts.{run_reads}
-use Rattle.data_url.specs.declared.DataUrl.{DataUrl}
-use Rattle.data_url.proofs.forgiving_base64.Groups.{groups_length, filter_length}
+use Rattle.data_url.proofs.{forgiving_base64.WholeTexts.{run_reads}, runs.Runs.{prefix_after}, texts.Bytes.{is_cut}}
+use Rattle.data_url.proofs.runs.Runs.{joined_pieces-append, match_at, match_at_none, refusal-append, run-append}
+use denote.Param.Always.{mut_next}
 
 -- if the next of a walk is `Some bytes`, these are the next bytes of its body
 pub takes_next : {w w' : Walk} {given : Option (Bor (List ℕ))} {bytes : Bor (List ℕ)} → GivesBytes w given w'
@@ -210,19 +197,12 @@ until_error closure f h run g ran n bytes =
     (λ p piece q i s. mut_next closure p (s.shown, tt) (Ok tt) q q s.called refl i) run f g ran n h in
     (k.at ((bytes, tt) ∷ [])).0
 
--- what no call of a closure changes in its state is the same after it took a body
-pub took_keeps : {F E B : Type 0} {step : F → List ℕ → Result (Unit {0}) E → F → Type 0} {f g : F} {text : List ℕ}
-    {r : Result ℕ E} → TakesBody step f text r g → (K : F → B)
-    → ((p : F) (piece : List ℕ) (s : Result (Unit {0}) E) (q : F) → step p piece s q → K p ≡ K q) → K f ≡ K g
-took_keeps {step = step} {f = f} {g = g} t K keeps = run_keeps step K keeps t.run f g t.ran
-
 -- what each call that succeeds preserves is true after a closure took a whole body
 pub took_preserves : {F E : Type 0} {step : F → List ℕ → Result (Unit {0}) E → F → Type 0} {f g : F} {text : List ℕ}
     {r : Result ℕ E} {place : ℕ} → TakesBody step f text r g → r ≡ Ok place → (K : F → Type 0)
     → ((p : F) (piece : List ℕ) (q : F) → K p → step p piece (Ok tt) q → K q) → K f → K g
-took_preserves {step = step} {f = f} {g = g} {text = text} {r = Ok x} t e K keeps k =
-    run_preserves step K keeps t.run f g t.ran t.gave.1 k
-took_preserves {r = Err x} t e K keeps k = absurd (cc)
+took_preserves {step = step} {f = f} {g = g} took e K keeps k =
+    let t = rw e at took in run_preserves step K keeps t.run f g t.ran t.gave.1 k
 
 -- a closure that took a body decodes it, if it is not base64
 pub plain_taken : {F E : Type 0} (step : F → List ℕ → Result (Unit {0}) E → F → Type 0) {f g : F} {text : List ℕ}

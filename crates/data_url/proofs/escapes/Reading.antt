@@ -1,42 +1,29 @@
 -- What a walk reads: digits after tabs and newlines, the bytes between two places, and blocks with their marks.
-use Rattle.std.proofs.Common.{◌≡◌, ℕ, zero, suc, ◌+◌, ◌*◌, ◌-◌, ◌<◌, ◌≤◌, Bool, true, false, not, cond, ◌&&◌, eqb, ltb}
 use Rattle.std.proofs.Common.{List, [], ◌∷◌, ◌++◌, length, drop, get_or, Option, None, Some, refl, sym, ap, ◌∙◌, arith}
+use Rattle.std.proofs.Common.{bit_and, w8, Fits, ◌≢◌, inl, inr, ◌==◌, slice_range, take_all, length-take-le, take-take}
 use Rattle.std.proofs.Common.{eqb-true, subst, take, append_assoc, length-append, ◌/◌, ◌^◌, map, min, replicate, ◌%◌}
-use Rattle.std.proofs.Common.{bit_and, w8, Fits, ◌≢◌, inl, inr}
-use Rattle.std.specs.Prelude.{◌==◌, slice_range}
-use Rattle.std.specs.Char.{digit_value, is_ascii_hexdigit}
+use Rattle.std.{proofs.Common.{map-id}, proofs.Math.Seq.{take-append-add}, specs.Char.{digit_value, is_ascii_hexdigit}}
+use Rattle.std.proofs.Common.{◌≡◌, ℕ, zero, suc, ◌+◌, ◌*◌, ◌-◌, ◌<◌, ◌≤◌, Bool, true, false, not, cond, ◌&&◌, eqb, ltb}
+use Rattle.std.{proofs.Math.Nat.{div-div-eq-div-mul, pow-suc}, proofs.lemmas.Nat.{le_or_l, le_or_r, and_mask}}
 use Rattle.std.proofs.lemmas.Bool.{agree_below_at, and_left, and_right, cases_Bool, cases_lt, eqb-true}
-pub use Rattle.std.proofs.lemmas.List.{drop_more, get_or-drop, length-drop, drop-drop, drop_all, drop-take, length-take}
-use Rattle.std.proofs.lemmas.List.{take_all, drop-replicate, length-take-le, take_rest, take-append-le, take-take}
-use Rattle.std.proofs.lemmas.List.{drop-map, length-map, map-id}
 use Rattle.std.proofs.lemmas.List.Sums.{prefix_len-drop_yes, prefix_len-drop_no, prefix_len-le-length}
-use Rattle.std.proofs.lemmas.Nat.{le_or_l, le_or_r, and_mask}
-use Rattle.data_url.specs.Percent.{begins_with_escape, percent_decoding}
-use Rattle.data_url.specs.Url.{after, front, is_tab_or_newline, before, without_tabs_and_newlines}
-use Rattle.data_url.specs.Steps.Digits.{DigitFound, EscapeAt, NoDigit, NoEscape, Skipped, IsCode, IsDigitFrom, cleaned}
-use Rattle.data_url.specs.Steps.Looks.{before_percent, paid}
-use Rattle.data_url.specs.declared.escapes.digits.TheConstants.{DIGITS}
-use Rattle.data_url.proofs.texts.Bytes.{before_nil, before_other, before_same, after_other, dropped_keeps, dropped_nil}
-use Rattle.data_url.proofs.texts.Bytes.{dropped_passes}
-use Rattle.data_url.specs.Fetch.{plain_body}
-use Rattle.data_url.specs.Pieces.{is_slice_end}
-use Rattle.data_url.specs.Steps.Tail.{BeginsFragment}
-use Rattle.data_url.specs.Steps.Walk.{IsClear, IsStop, Reads, Spells, IsBlock, IsNextMark, Looking}
-use Rattle.data_url.specs.declared.escapes.stops.Stop.TheVariants.{Passed, Stays}
-use Rattle.data_url.specs.Steps.Window.{is_marked}
-use Rattle.data_url.proofs.percent.Encoding.{decoded_escape}
-use Rattle.std.specs.Simd.Lanes.{chunk, mask_l, put_chunk, Each1, top, zip2}
-use Rattle.std.proofs.Math.Seq.{take-append-add}
-use Rattle.std.proofs.Math.Nat.{div-div-eq-div-mul, pow-suc}
+use Rattle.std.proofs.lemmas.List.{drop-replicate, take_rest, take-append-le, drop-map, length-map}
 use Rattle.std.proofs.lemmas.Simd.{put_chunk_whole, SwzOk, SwzOk-from_below, get_or-swz_l_below, mask_l-mod, swz_l}
+use Rattle.std.{proofs.lemmas.Simd.{run_in_chunk_le, run_in_chunk_stops, trailing_mask_l}, specs.List.{prefix_len}}
 use Rattle.std.proofs.lemmas.Simd.{tops_compared, zip2_of_maps, zip2_splat, none_from_empty_mask, run_in_chunk_fails}
-use Rattle.std.proofs.lemmas.Simd.{run_in_chunk_le, run_in_chunk_stops, trailing_mask_l}
+use Rattle.std.{specs.Int.Count.{count_trailing_zeros}, specs.Simd.Lanes.{chunk, mask_l, put_chunk, Each1, top, zip2}}
+use Rattle.data_url.specs.{Fetch.{plain_body}, Percent.{begins_with_escape, percent_decoding}, Pieces.{is_slice_end}}
+use Rattle.data_url.specs.Steps.Digits.{DigitFound, EscapeAt, NoDigit, NoEscape, Skipped, IsCode, IsDigitFrom, cleaned}
+use Rattle.data_url.specs.{Steps.Looks.{before_percent, paid}, Steps.Tail.{BeginsFragment}, Steps.Window.{is_marked}}
+use Rattle.data_url.specs.Steps.Walk.{IsClear, IsStop, Reads, Spells, IsBlock, IsNextMark, Looking}
+use Rattle.data_url.specs.Url.{after, front, is_tab_or_newline, before, without_tabs_and_newlines}
+use Rattle.data_url.specs.{declared.escapes.digits.TheConstants.{DIGITS}, declared.escapes.lanes.TheConstants.{MARKED}}
+use Rattle.data_url.specs.{declared.escapes.source.Source.{Source}, declared.escapes.stops.Block.{Block}}
+use Rattle.data_url.specs.declared.escapes.stops.Stop.TheVariants.{Passed, Stays}
+use Rattle.data_url.proofs.{percent.Encoding.{decoded_escape}, texts.Bytes.{dropped_passes}}
+use Rattle.data_url.proofs.texts.Bytes.{before_nil, before_other, before_same, after_other, dropped_keeps, dropped_nil}
 use borrow.Rule.Slice.PartMut.{mid_of, post_of, put_mid}
-use Rattle.data_url.specs.declared.escapes.lanes.TheConstants.{MARKED}
-use Rattle.std.specs.List.{prefix_len}
-use Rattle.std.specs.Int.Count.{count_trailing_zeros}
-use Rattle.data_url.specs.declared.escapes.source.Source.{Source}
-use Rattle.data_url.specs.declared.escapes.stops.Block.{Block}
+pub use Rattle.std.proofs.lemmas.List.{drop_more, get_or-drop, length-drop, drop-drop, drop_all, drop-take, length-take}
 
 -- Hexadecimal digits in a text, after tabs and newlines. For `escape` and `escape_here`.
 
@@ -128,7 +115,8 @@ other_first (b ∷ s) h = grind (arith, cases_Bool, eqb-true, cleaned_hash, clea
 -- if no digit is found, the cleaned text does not begin with one
 no_digit : {text : List ℕ} {place looks looks' : ℕ} → NoDigit text place looks looks'
     → begins_with_digit (cleaned (drop place text)) ≡ false
-no_digit {text} {place} {looks} {looks'} n = grind (arith, same n.skipped, other_first (drop n.end text), get_or-drop, length-drop)
+no_digit {text} {place} {looks} {looks'} n =
+    grind (arith, same n.skipped, other_first (drop n.end text), get_or-drop, length-drop)
 
 -- a '%' and at most one byte before no digit are no escape
 no_escape : (raw s : List ℕ) → length raw < 2 → begins_with_digit s ≡ false
@@ -287,7 +275,7 @@ spells_byte text place l t h e =
 -- a '%' that does not begin an escape is read as it is
 spells_percent : {text : List ℕ} {place looks looks' : ℕ} → place < length text → get_or text place 0 ≡ 37
     → NoEscape text place looks looks' → Spells text place (place + 1) (37 ∷ []) (37 ∷ [])
-spells_percent {text} {place} {looks} {looks'} l h n = rw h at (spells_byte text place l (grind arith) (grind arith) n.none_is)
+spells_percent {text} {place} l h n = rw h at (spells_byte text place l (grind arith) (grind arith) n.none_is)
 
 -- an escape is read as the byte of its value
 pub spells_escape : {text : List ℕ} {place value end : ℕ} (e : EscapeAt text place value end)
@@ -356,20 +344,16 @@ pub copied_wide : (room bytes text : List ℕ) (len width start : ℕ) → lengt
 copied_wide room bytes text len width start long l w h e =
     let n : len + 64 - len ≡ 64 = omega arith in
     let k : start + 64 - start ≡ 64 = omega arith in
+    let s = take 64 (drop start text) in
+    let post = post_of len (len + 64 - len) room in
     let mid = mid_of len (len + 64 - len) room in
-    let size : length mid ≡ 64 =
-    length-take-le (len + 64 - len) (drop len room) (omega (arith, length-drop len room)) ∙ n in
-    let block : chunk 0 64 (take (start + 64 - start) (drop start bytes))
-    ≡ take 64 (drop start text) = cc (take-take 64 64 (drop start bytes) (omega arith)) in
-    let whole : put_chunk 0 mid (take 64 (drop start text)) ≡ take 64 (drop start text) = put_chunk_whole mid _
-    (size ∙ sym (length-take-le 64 (drop start text) (omega (arith, length-drop start text)))) in
-    cc (
-      length-take-le len room (omega arith),
-      take-append-add (take len room) (take 64 (drop start text) ++ post_of len (len + 64 - len) room) width,
-      take-append-le width (take 64 (drop start text)) (post_of len (len + 64 - len) room)
-          (omega (arith, length-take-le 64 (drop start text), length-drop start text)),
-      take-take width 64 (drop start text) w,
-    )
+    let front = length-take-le len room (omega arith) in
+    let few = length-take-le 64 (drop start text) (omega (arith, length-drop start text)) in
+    let size = length-take-le (len + 64 - len) (drop len room) (omega (arith, length-drop len room)) ∙ n in
+    let whole = put_chunk_whole mid s (size ∙ sym few) in
+    let joined = take-append-add (take len room) (s ++ post) width in
+    let part = take-append-le width s post (omega (arith, few)) in
+    cc (take-take 64 64 (drop start bytes) (omega arith), take-take width 64 (drop start text) w)
 
 -- zeros after the end of a text have no marks
 no_marks : (k : ℕ) → mask_l (map is_marked (replicate k 0)) ≡ 0
@@ -444,7 +428,8 @@ lows_ok v long =
 
 -- the table repeats itself
 repeats : (k : ℕ) → k < 64 → get_or MARKED k 0 ≡ get_or MARKED (k % 16) 0
-repeats k l = eqb-true _ _ (agree_below_at (λ k. eqb (get_or MARKED k 0) (get_or MARKED (k % 16) 0)) (λ k. true) 64 k refl l)
+repeats k l =
+    eqb-true _ _ (agree_below_at (λ k. eqb (get_or MARKED k 0) (get_or MARKED (k % 16) 0)) (λ k. true) 64 k refl l)
 
 -- the entry of a byte
 abbrev pub entry : ℕ → ℕ

@@ -1,32 +1,23 @@
 -- The pieces of a walk, and the bytes that it gathers. For `Cursor` and `Pieces`.
+use Rattle.std.proofs.Common.{Some, refl, sym, ap, ◌∙◌, inl, inr, arith, length-append, Bool, ◌≢◌, Option, ◌*◌, cond}
+use Rattle.std.{proofs.Common.{length-take-le, take-append-drop}, proofs.lemmas.Str.{IsCharBoundary-after_ascii}}
+use Rattle.std.proofs.Common.{set, append_assoc, take-add, slice_range, IfNone, drop-drop, length-drop, append-nil}
 use Rattle.std.proofs.Common.{◌≡◌, ℕ, ◌+◌, ◌-◌, ◌<◌, ◌≤◌, true, List, [], ◌∷◌, ◌++◌, length, take, drop, get_or, None}
-use Rattle.std.proofs.Common.{Some, refl, sym, ap, ◌∙◌, inl, inr, arith, length-append, Bool, ◌≢◌, Option, ◌*◌}
-use Rattle.std.proofs.Common.{cond, set, append_assoc, take-add}
-use Rattle.std.specs.Prelude.{slice_range, IfNone}
-use Rattle.std.proofs.lemmas.List.{drop_more, drop-drop, length-drop, drop_all, append-nil, take_more_set}
-use Rattle.std.proofs.lemmas.List.{length-take-le, append_cancel_right, take-append-drop}
-use Rattle.std.proofs.lemmas.Str.{IsCharBoundary-after_ascii}
-use Rattle.data_url.specs.Fetch.{plain_body}
+use Rattle.std.proofs.lemmas.List.{drop_more, drop_all, take_more_set, append_cancel_right}
+use Rattle.data_url.specs.{Fetch.{plain_body}, Steps.Digits.{EscapeAt, cleaned}, declared.escapes.Piece.{Piece}}
 use Rattle.data_url.specs.Pieces.{Walk, text_of, IsStretch, bytes_of, has_ended, is_slice_end, walk_of}
-use Rattle.data_url.specs.Steps.Chunks.{IsFront, IsOver, Takes}
-use Rattle.data_url.specs.Steps.Digits.{EscapeAt, cleaned}
-use Rattle.data_url.specs.Steps.Tail.{BeginsFragment, IsBodyEnd, rest_fragment}
+use Rattle.data_url.specs.{Steps.Chunks.{IsFront, IsOver, Takes}, Steps.Tail.{BeginsFragment, IsBodyEnd, rest_fragment}}
 use Rattle.data_url.specs.Steps.Walk.{Ended, EndsAt, Gathers, GoesOn, IsClear, IsNextMark, IsPart, Knows, KnowsAhead}
 use Rattle.data_url.specs.Steps.Walk.{Looking, LooksOn, MayGather, Moves, Pays, Reads, Searching, Spells}
-use Rattle.data_url.specs.Url.{before, after, front, without_tabs_and_newlines}
+use Rattle.data_url.specs.{Url.{before, after, front, without_tabs_and_newlines}, declared.escapes.cursor.Ahead.{Ahead}}
+use Rattle.data_url.specs.{declared.escapes.Piece.TheVariants.{Byte, Slice}, declared.escapes.cursor.Cursor.{Cursor}}
+use Rattle.data_url.specs.declared.escapes.cursor.Ahead.TheVariants.{AfterEscape, End, Escape, Unknown}
+use Rattle.data_url.specs.{declared.escapes.source.Source.{Source}, declared.escapes.stops.Block.{Block}}
 use Rattle.data_url.proofs.escapes.Reading.{copied_wide, looking_on, marks_of_rest, ends_empty, paid_le, paid_on}
 use Rattle.data_url.proofs.escapes.Reading.{percent_nil, spells_clear, spells_escape, spells_none, spells_then}
-use Rattle.data_url.proofs.percent.Encoding.{decoded_escape}
-use Rattle.data_url.proofs.texts.Bytes.{before_all, after_at, after_nil, after_same, after-dropped_none, before-append}
-use Rattle.data_url.proofs.texts.Bytes.{is_cut, without_tabs_and_newlines-append}
-use Rattle.data_url.specs.declared.escapes.Piece.{Piece}
-use Rattle.data_url.specs.declared.escapes.Piece.TheVariants.{Byte, Slice}
-use Rattle.data_url.specs.declared.escapes.cursor.Ahead.{Ahead}
-use Rattle.data_url.specs.declared.escapes.cursor.Ahead.TheVariants.{AfterEscape, End, Escape, Unknown}
-use Rattle.data_url.specs.declared.escapes.cursor.Cursor.{Cursor}
-use Rattle.data_url.specs.declared.escapes.source.Source.{Source}
-use Rattle.data_url.specs.declared.escapes.stops.Block.{Block}
+use Rattle.data_url.proofs.{percent.Encoding.{decoded_escape}, texts.Bytes.{is_cut, without_tabs_and_newlines-append}}
 use Rattle.data_url.proofs.runs.Runs.{none_or_some}
+use Rattle.data_url.proofs.texts.Bytes.{before_all, after_at, after_nil, after_same, after-dropped_none, before-append}
 
 -- a range, and then the text after it, is the text from the start of the range on
 slice_rest : (text : List ℕ) (a b : ℕ) → a ≤ b → slice_range text a b ++ drop b text ≡ drop a text

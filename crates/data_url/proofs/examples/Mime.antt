@@ -1,16 +1,10 @@
 -- MIME types with their records and printed texts, by computation.
+use Rattle.std.{proofs.Common.{arith, map, IsTrue}, specs.Char.{to_ascii_lowercase}, specs.List.{list_all}}
 use Rattle.std.proofs.Common.{◌≡◌, ℕ, true, List, [], ◌∷◌, ◌++◌, inr, codes, eq-eqb, length, refl, subst, sym, ◌∙◌}
-use Rattle.std.proofs.Common.{arith, map}
-use Rattle.std.specs.Prelude.{IsTrue}
-use Rattle.std.specs.List.{list_all}
-use Rattle.std.specs.Char.{to_ascii_lowercase}
-use Rattle.data_url.specs.CodePoints.{is_http_whitespace}
+use Rattle.data_url.specs.{CodePoints.{is_http_whitespace}, Mime.{is_token_text, kept_pairs, printed}}
 use Rattle.data_url.specs.Mime.{BeginsParameters, HasNoRecord, IsRecordOf, Pair, Parses, Record, default_record}
-use Rattle.data_url.specs.Mime.{is_token_text, kept_pairs, printed}
-use Rattle.data_url.proofs.examples.Literals.{on_literals}
-use Rattle.data_url.proofs.mime.TokenTexts.{every_from_all}
-use Rattle.data_url.proofs.mime.Items.{has_items, has_parts, items_in, parameters_in, subtype_in}
-use Rattle.data_url.proofs.mime.Items.{trimmed_of, type_in}
+use Rattle.data_url.proofs.{examples.Literals.{on_literals}, mime.TokenTexts.{every_from_all}}
+use Rattle.data_url.proofs.mime.Items.{has_items, has_parts, items_in, parameters_in, subtype_in, trimmed_of, type_in}
 
 -- Texts with a record
 
@@ -144,7 +138,8 @@ unfolding on_literals
 empty_text = no_type [] refl
 
 -- no slash, no subtype, no type, and a space in the subtype
-other_texts : HasNoRecord (codes "a") × HasNoRecord (codes "a/") × HasNoRecord (codes "/b") × HasNoRecord (codes "a/b c")
+other_texts : HasNoRecord (codes "a") × HasNoRecord (codes "a/") × HasNoRecord (codes "/b")
+    × HasNoRecord (codes "a/b c")
 unfolding on_literals
 other_texts = (
   no_subtype (codes "a") refl,
@@ -179,7 +174,8 @@ records =
     )
     -- '"' and '\' are escaped
     ∷ (
-      of (codes "x") (codes "x") ((codes "a", 113 ∷ 34 ∷ 114 ∷ []) ∷ (codes "b", 92 ∷ []) ∷ (codes "f", codes "g") ∷ []),
+      of (codes "x") (codes "x") ((codes "a", codes "q" ++ (34 ∷ codes "r")) ∷ (codes "b", 92 ∷ [])
+          ∷ (codes "f", codes "g") ∷ []),
       codes "x/x;a=" ++ (34 ∷ 113 ∷ 92 ∷ 34 ∷ 114 ∷ 34 ∷ codes ";b=" ++ (34 ∷ 92 ∷ 92 ∷ 34 ∷ codes ";f=g")),
     )
     -- a record that parsing cannot return is printed too

@@ -1,7 +1,6 @@
 -- Pieces, and texts that are no pieces, by computation.
 use Rattle.std.proofs.Common.{◌≡◌, [], ◌∷◌, ◌++◌, codes, false, refl, true}
-use Rattle.data_url.specs.Percent.{begins_with_escape}
-use Rattle.data_url.specs.Pieces.{IsEscape, IsStretch}
+use Rattle.data_url.specs.{Percent.{begins_with_escape}, Pieces.{IsEscape, IsStretch}}
 use Rattle.data_url.proofs.examples.Literals.{on_literals}
 
 -- no pieces: a raw tab before an escape that is decoded to a tab, the bytes after '#', and a tab after an escape

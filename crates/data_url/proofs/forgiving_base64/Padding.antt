@@ -1,22 +1,18 @@
 -- The definitions of base64, read byte by byte: padding, faults and valid texts.
-use Rattle.std.proofs.Common.{◌≡◌, ℕ, suc, zero, ◌+◌, Bool, true, false, not, cond, ◌&&◌, ◌||◌, List, [], ◌∷◌, ◌++◌}
+use Rattle.std.{proofs.Common.{append-nil, take_at}, proofs.lemmas.List.Folds.{list_any-append}}
 use Rattle.std.proofs.Common.{length, get_or, replicate, Option, None, Some, refl, ap, sym, ◌∙◌, inl, inr, append_assoc}
 use Rattle.std.proofs.Common.{pred, ◌<◌, ◌≤◌, arith, ◌%◌, eqb, length-append, map, is_some, ◌/◌, ◌*◌, drop, length-drop}
-use Rattle.std.proofs.lemmas.List.{length-map, drop-map, append-nil, get_or_at, take_at, length_push, length-replicate}
-use Rattle.std.specs.List.{filter, find, list_any, range_with_len, list_all}
-use Rattle.std.proofs.lemmas.List.Folds.{list_any-append}
-use Rattle.std.proofs.lemmas.Bool.{cases_Bool, false≢true, eqb-true}
-use Rattle.std.proofs.lemmas.Bool.{false_from_ne_true, agree_below_at, and_parts}
+use Rattle.std.proofs.Common.{◌≡◌, ℕ, suc, zero, ◌+◌, Bool, true, false, not, cond, ◌&&◌, ◌||◌, List, [], ◌∷◌, ◌++◌}
+use Rattle.std.{proofs.Math.Bool.{or-false, or_assoc}, specs.List.{filter, find, list_any, range_with_len, list_all}}
+use Rattle.std.proofs.lemmas.Bool.{cases_Bool, false≢true, eqb-true, false_from_ne_true, agree_below_at, and_parts}
+use Rattle.std.proofs.lemmas.List.{length-map, drop-map, get_or_at, length_push, length-replicate}
+use Rattle.std.specs.Char.{is_ascii_whitespace}
 use Rattle.data_url.specs.Base64.{before_place, first_fault, is_fault, is_symbol, is_valid, without_padding}
+use Rattle.data_url.specs.{Base64.{kind_of, values}, Facts.{IsFirstFault, IsSymbolsAndPadding, PaddingFits}}
 use Rattle.data_url.specs.Base64.{without_last_padding, Kind, after_groups, without_whitespace, complete_bytes, groups}
-use Rattle.data_url.specs.Base64.{kind_of, values}
+use Rattle.data_url.specs.{Mime.{Every}, declared.forgiving_base64.InvalidBase64Details.TheVariants.{UnexpectedSymbol}}
 use Rattle.data_url.specs.declared.forgiving_base64.InvalidBase64Details.TheVariants.{AlphabetSymbolAfterPadding}
 use Rattle.data_url.specs.declared.forgiving_base64.InvalidBase64Details.TheVariants.{LoneAlphabetSymbol, Padding}
-use Rattle.data_url.specs.declared.forgiving_base64.InvalidBase64Details.TheVariants.{UnexpectedSymbol}
-use Rattle.data_url.specs.Mime.{Every}
-use Rattle.std.proofs.Math.Bool.{or-false, or_assoc}
-use Rattle.data_url.specs.Facts.{IsFirstFault, IsSymbolsAndPadding, PaddingFits}
-use Rattle.std.specs.Char.{is_ascii_whitespace}
 
 -- A walk over a text that remembers whether it has seen padding
 

@@ -1,24 +1,21 @@
 -- Blocks of 64 symbols in vectors. For `blocks.rt` and `lanes.rt`.
 use Rattle.std.proofs.Common.{drop-drop, ◌≡◌, ℕ, ◌<◌, ltb, true, cond, eqb, get_or, refl, sym, ◌∙◌, arith, suc, zero}
-use Rattle.std.proofs.Common.{◌+◌, ◌*◌}
-use Rattle.std.proofs.Common.{◌/◌, ◌%◌, ◌^◌, Bool, not, List, [], ◌∷◌, ◌++◌, map, length, take, Fits, w8, ap}
+use Rattle.std.{proofs.Common.{ext_get_or, take_all}, specs.List.{range_with_len, list_all}}
 use Rattle.std.proofs.Common.{subst, ◌≤◌, ◌&&◌, drop, bit_or, append_assoc, length-take-le, length-drop, take-add}
+use Rattle.std.proofs.Common.{◌+◌, ◌*◌, ◌/◌, ◌%◌, ◌^◌, Bool, not, List, [], ◌∷◌, ◌++◌, map, length, take, Fits, w8, ap}
+use Rattle.std.{proofs.Math.Bool.{and-true, and_assoc}, proofs.lemmas.List.Folds.{list_all-append}}
 use Rattle.std.proofs.lemmas.Bool.{agree_below_at, cond-true, eqb-true, ltb-true, cases_eq, ne_eqb}
+use Rattle.std.proofs.lemmas.List.{get_or-map, length-map, map-append, nil_from_length}
+use Rattle.std.{proofs.lemmas.Nat.{and_le_r, and_le_l, or_lt}, proofs.lemmas.Simd.{mask_l-lt, zip2_of_maps}}
+use Rattle.std.proofs.lemmas.Simd.{Each1-get_or, SwzOk, SwzOk-from_below, get_or_narrower, get_or-swz_l_below}
+use Rattle.std.proofs.lemmas.Simd.{length-swz_l, pick_l_whole, swz_l, bitmask_splat, chunk-fits, length-zip2, map-map}
 use Rattle.std.specs.Char.{is_ascii_whitespace as std_whitespace, is_ascii_whitespace}
 use Rattle.data_url.specs.Base64.{is_symbol, symbol_value, group_bytes, group_number, groups, after_groups}
-use Rattle.data_url.specs.declared.forgiving_base64.alphabet.TheConstants.{NO_SYMBOL, VALUES}
-use Rattle.std.specs.List.{range_with_len, list_all}
-use Rattle.std.proofs.lemmas.List.{ext_get_or, get_or-map, length-map, map-append, take_all, nil_from_length}
-use Rattle.std.proofs.lemmas.Nat.{and_le_r, and_le_l, or_lt}
-use Rattle.std.proofs.lemmas.Simd.{Each1-get_or, SwzOk, SwzOk-from_below, get_or_narrower, get_or-swz_l_below}
-use Rattle.std.proofs.lemmas.Simd.{length-swz_l, pick_l_whole, swz_l, bitmask_splat, chunk-fits}
-use Rattle.std.proofs.lemmas.Simd.{length-zip2, map-map, mask_l-lt, zip2_of_maps}
-use lib.Lanes.{Each1, digits_l, fold_l, number_l, pair_sums, pick_l, products, sel_l, zip2, mask_l, top}
-use Rattle.std.proofs.Math.Bool.{and-true, and_assoc}
 use Rattle.data_url.specs.Steps.Lanes.{mark_of, numbers, value_of}
-use Rattle.std.proofs.lemmas.List.Folds.{list_all-append}
-use lib.Bits.{or_add_and}
+use Rattle.data_url.specs.declared.forgiving_base64.alphabet.TheConstants.{NO_SYMBOL, VALUES}
 use Rattle.data_url.proofs.forgiving_base64.Padding.{groups-append, length-after_groups}
+use lib.Bits.{or_add_and}
+use lib.Lanes.{Each1, digits_l, fold_l, number_l, pair_sums, pick_l, products, sel_l, zip2, mask_l, top}
 
 -- The table of symbols is the alphabet.
 
@@ -100,7 +97,8 @@ looked_up t g v js whole fits e small = grind (arith, looked_at, length-map, pla
 -- `value_of` is the value of a symbol
 pub value_is : (b : ℕ) → b < 256 → is_symbol b ≡ true → value_of b ≡ symbol_value b
 value_is b l s =
-    let same = agree_below_at (λ b. cond (is_symbol b) (eqb (value_of b) (symbol_value b)) true) (λ b. true) 256 b refl l in
+    let agrees = λ (b : ℕ). cond (is_symbol b) (eqb (value_of b) (symbol_value b)) true in
+    let same = agree_below_at agrees (λ b. true) 256 b refl l in
     grind (arith, eqb-true (value_of b) (symbol_value b))
 
 -- all values are below 64
@@ -208,11 +206,9 @@ pub others_is : (v marks : List ℕ) → length v ≡ 16 → Each1 (Fits w8) v �
     (0 ∷ 0 ∷ 0 ∷ 0 ∷ 0 ∷ 0 ∷ 0 ∷ 0 ∷ 0 ∷ 0 ∷ 0 ∷ 0 ∷ 0 ∷ 0 ∷ 0 ∷ 0 ∷ []))) % 2 ^ 64 ≡ mask_l (map is_other v)
 others_is v marks long fits e =
     let agree = λ (b : ℕ) (l : b < 256). agree_below_at (λ b. differs (mark_of b) 0) is_other 256 b refl l in
-    cc (
-      bitmask_splat w8 differs marks 16 0 (ap length e ∙ length-map v mark_of ∙ long) (omega arith),
-      map-map (λ x. differs x 0) mark_of v,
-      map_agree (λ x. differs (mark_of x) 0) is_other agree v fits,
-    )
+    let same = map_agree (λ x. differs (mark_of x) 0) is_other agree v fits in
+    let size = ap length e ∙ length-map v mark_of ∙ long in
+    cc (bitmask_splat w8 differs marks 16 0 size (omega arith), map-map (λ x. differs x 0) mark_of v)
 
 -- Rows of a text
 

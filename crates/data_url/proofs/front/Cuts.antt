@@ -1,26 +1,21 @@
 -- The scheme, and the first comma of a text. For `after_scheme` and `split_at_comma`.
-use Rattle.data_url.specs.Steps.Header.{header_text}
+use Rattle.std.proofs.Common.{None, Some, position, ap₂, ◌⊎◌, eqb-true, append-nil, not, [], get_or-take, length-take}
+use Rattle.std.proofs.Common.{get_or-drop, length-drop, take-append-drop, take_all}
+use Rattle.std.proofs.Common.{map, nat_eq, subst, length-append, codes, refl, sym, ap, ◌∙◌, ⊎_elim, arith, ◌-◌, Option}
+use Rattle.std.proofs.Common.{◌≡◌, ◌≢◌, ℕ, ◌+◌, ◌<◌, Bool, true, false, List, ◌∷◌, ◌++◌, length, get_or, take, drop}
+use Rattle.std.proofs.lemmas.Bool.{cases_lt, cond-true, lt-ltb, or_cases, or_parts}
+use Rattle.std.proofs.lemmas.List.Sums.{prefix_len_passes, prefix_len-le-length, prefix_len_stops}
+use Rattle.std.proofs.lemmas.List.{get_or_at, take_more, length-map, map-append, take-append-le, take-map, drop_more}
+use Rattle.std.{proofs.lemmas.List.{take_rest}, specs.Char.{to_ascii_lowercase}, specs.Str.{IsCharBoundary, IsUtf8}}
+use Rattle.std.{proofs.lemmas.Slice.Eq.{bytes_eq-Decides, starts_is}, specs.List.{starts_with, prefix_len}}
+use Rattle.std.proofs.lemmas.Str.{IsCharBoundary-after_ascii, IsCharBoundary-from_take, IsUtf8-from_ascii}
+use Rattle.data_url.specs.Mime.{Every}
+use Rattle.data_url.specs.Steps.Front.{HasNoScheme, IsSchemeAndRest, IsHeaderAndTail, ends_header, is_plain_path}
+use Rattle.data_url.specs.{Steps.Header.{header_text}, Url.{without_tabs_and_newlines, is_tab_or_newline, after, front}}
+use Rattle.data_url.proofs.{percent.Encoding.{kept_whole, ascii_all, Plain}, texts.Bytes.{after_nil, after_other}}
 use Rattle.data_url.proofs.texts.Bytes.{after-dropped_none, without_tabs_and_newlines-append, dropped_around}
 use Rattle.data_url.proofs.texts.Bytes.{dropped_keeps, dropped_nil, dropped_passes, before_all, before_at, after_none}
-use Rattle.data_url.proofs.texts.Bytes.{after_nil, after_other}
-use Rattle.data_url.proofs.percent.Encoding.{kept_whole, ascii_all, Plain}
-use Rattle.std.proofs.Common.{◌≡◌, ◌≢◌, ℕ, ◌+◌, ◌<◌, Bool, true, false, List, ◌∷◌, ◌++◌, length, get_or, take, drop}
-use Rattle.std.proofs.Common.{map, nat_eq, subst, length-append, codes, refl, sym, ap, ◌∙◌, ⊎_elim, arith, ◌-◌, Option}
-use Rattle.std.proofs.Common.{None, Some, position, ap₂, ◌⊎◌, eqb-true, append-nil, not, []}
-use Rattle.std.specs.Char.{to_ascii_lowercase}
-use Rattle.std.specs.Str.{IsCharBoundary, IsUtf8}
-use Rattle.std.proofs.lemmas.Bool.{cases_lt, cond-true, lt-ltb, or_cases, or_parts}
-use Rattle.std.proofs.lemmas.List.{get_or_at, take_more, get_or-take, length-map, length-take, map-append}
-use Rattle.std.proofs.lemmas.List.{take-append-le, take-map, drop_more, get_or-drop, length-drop, take-append-drop}
-use Rattle.std.proofs.lemmas.List.{take_all, take_rest}
-use Rattle.std.proofs.lemmas.Slice.Eq.{bytes_eq-Decides, starts_is}
-use Rattle.std.specs.List.{starts_with, prefix_len}
-use Rattle.std.proofs.lemmas.Str.{IsCharBoundary-after_ascii, IsCharBoundary-from_take, IsUtf8-from_ascii}
-use Rattle.data_url.specs.Url.{without_tabs_and_newlines, is_tab_or_newline, after, front}
-use Rattle.data_url.specs.Steps.Front.{HasNoScheme, IsSchemeAndRest, IsHeaderAndTail, ends_header, is_plain_path}
-use Rattle.std.proofs.lemmas.List.Sums.{prefix_len_passes, prefix_len-le-length, prefix_len_stops}
 use Rattle.data_url.proofs.texts.CodePoints.{front_further, front_passes}
-use Rattle.data_url.specs.Mime.{Every}
 
 -- the scheme, in lower case
 abbrev scheme : List ℕ
@@ -94,7 +89,8 @@ differs text place n l h e ne =
     let at = get_or_at low (to_ascii_lowercase b) (map to_ascii_lowercase rest) 0 n size in
     let there = get_or-take 5 (low ++ to_ascii_lowercase b ∷ map to_ascii_lowercase rest) n 0 h.open_at in
     let test = bytes_eq-Decides (map to_ascii_lowercase (take 5 (without_tabs_and_newlines text))) scheme in
-    grind (arith, take-map to_ascii_lowercase 5 (without_tabs_and_newlines text), map-append to_ascii_lowercase s (b ∷ rest))
+    let lower = take-map to_ascii_lowercase 5 (without_tabs_and_newlines text) in
+    grind (arith, map-append to_ascii_lowercase s (b ∷ rest))
 
 -- the scheme stays as it is in lower case and without tabs and newlines
 common_spelled : map to_ascii_lowercase (without_tabs_and_newlines scheme) ≡ scheme

@@ -1,7 +1,5 @@
 use Rattle.std.proofs.Common.{subst, arith}
-use Rattle.data_url.specs.Steps.Front.{IsSchemeAndRest}
-use Rattle.data_url.specs.MimeType.{record_of}
-use Rattle.data_url.specs.Steps.Header.{IsHeaderOf}
+use Rattle.data_url.specs.{MimeType.{record_of}, Steps.Front.{IsSchemeAndRest}, Steps.Header.{IsHeaderOf}}
 use Rattle.data_url.proofs.header.Stages.{bytes_trimmed, is_url_of, stages_no_scheme}
 use Rattle.data_url.proofs.DataUrl.process.Goals as goal
 

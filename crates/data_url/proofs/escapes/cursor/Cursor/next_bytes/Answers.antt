@@ -1,9 +1,5 @@
-use Rattle.std.proofs.Common.{List, Some, ℕ, subst, sym, arith}
-use Rattle.std.proofs.lemmas.List.{take_more_set}
-use Rattle.data_url.specs.Pieces.{walk_of}
-use Rattle.data_url.specs.Steps.Chunks.{Takes}
-use Rattle.data_url.specs.Steps.Walk.{GoesOn}
-use Rattle.data_url.specs.declared.escapes.Piece.{Piece}
+use Rattle.std.{proofs.Common.{List, Some, ℕ, subst, sym, arith}, proofs.lemmas.List.{take_more_set}}
+use Rattle.data_url.specs.{Pieces.{walk_of}, Steps.Chunks.{Takes}, Steps.Walk.{GoesOn}, declared.escapes.Piece.{Piece}}
 use Rattle.data_url.specs.declared.escapes.Piece.TheVariants.{Byte}
 use Rattle.data_url.proofs.escapes.Walking.{over_next, takes_next}
 use Rattle.data_url.proofs.escapes.cursor.Cursor.next_bytes.Goals as goal

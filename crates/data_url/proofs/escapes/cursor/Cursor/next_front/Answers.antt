@@ -1,5 +1,4 @@
-use Rattle.std.proofs.Common.{ap, drop, ◌∙◌}
-use Rattle.std.specs.List.{slice_range}
+use Rattle.std.{proofs.Common.{ap, drop, ◌∙◌}, specs.List.{slice_range}}
 use Rattle.data_url.specs.Fetch.{plain_body}
 use Rattle.data_url.proofs.escapes.Walking.{end_knows, front_is, front_knows}
 use Rattle.data_url.proofs.escapes.cursor.Cursor.next_front.Goals.{else-mark-len, then-mark-len}
