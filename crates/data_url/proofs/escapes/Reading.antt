@@ -1,16 +1,16 @@
 -- What a walk reads: digits after tabs and newlines, the bytes between two places, and blocks with their marks.
 use Rattle.std.proofs.Common.{List, [], ◌∷◌, ◌++◌, length, drop, get_or, Option, None, Some, refl, sym, ap, ◌∙◌, arith}
 use Rattle.std.proofs.Common.{bit_and, w8, Fits, ◌≢◌, inl, inr, ◌==◌, slice_range, take_all, length-take-le, take-take}
+use Rattle.std.{proofs.Common.{eqb, ltb}, proofs.lemmas.Simd.{zip2_splat, none_from_empty_mask, run_in_chunk_fails}}
 use Rattle.std.proofs.Common.{eqb-true, subst, take, append_assoc, length-append, ◌/◌, ◌^◌, map, min, replicate, ◌%◌}
-use Rattle.std.{proofs.Common.{map-id}, proofs.Math.Seq.{take-append-add}, specs.Char.{digit_value, is_ascii_hexdigit}}
-use Rattle.std.proofs.Common.{◌≡◌, ℕ, zero, suc, ◌+◌, ◌*◌, ◌-◌, ◌<◌, ◌≤◌, Bool, true, false, not, cond, ◌&&◌, eqb, ltb}
-use Rattle.std.{proofs.Math.Nat.{div-div-eq-div-mul, pow-suc}, proofs.lemmas.Nat.{le_or_l, le_or_r, and_mask}}
+use Rattle.std.proofs.Common.{map-id, ◌≡◌, ℕ, zero, suc, ◌+◌, ◌*◌, ◌-◌, ◌<◌, ◌≤◌, Bool, true, false, not, cond, ◌&&◌}
+use Rattle.std.{proofs.Math.Nat.{div-div-eq-div-mul, pow-suc}, proofs.lemmas.Nat.{le_or_l, le_or_r, and_le_r}}
+use Rattle.std.{proofs.Math.Seq.{take-append-add}, specs.Char.{digit_value, is_ascii_hexdigit}, specs.List.{prefix_len}}
 use Rattle.std.proofs.lemmas.Bool.{agree_below_at, and_left, and_right, cases_Bool, cases_lt, eqb-true}
 use Rattle.std.proofs.lemmas.List.Sums.{prefix_len-drop_yes, prefix_len-drop_no, prefix_len-le-length}
 use Rattle.std.proofs.lemmas.List.{drop-replicate, take_rest, take-append-le, drop-map, length-map}
 use Rattle.std.proofs.lemmas.Simd.{put_chunk_whole, SwzOk, SwzOk-from_below, get_or-swz_l_below, mask_l-mod, swz_l}
-use Rattle.std.{proofs.lemmas.Simd.{run_in_chunk_le, run_in_chunk_stops, trailing_mask_l}, specs.List.{prefix_len}}
-use Rattle.std.proofs.lemmas.Simd.{tops_compared, zip2_of_maps, zip2_splat, none_from_empty_mask, run_in_chunk_fails}
+use Rattle.std.proofs.lemmas.Simd.{run_in_chunk_le, run_in_chunk_stops, trailing_mask_l, tops_compared, zip2_of_maps}
 use Rattle.std.{specs.Int.Count.{count_trailing_zeros}, specs.Simd.Lanes.{chunk, mask_l, put_chunk, Each1, top, zip2}}
 use Rattle.data_url.specs.{Fetch.{plain_body}, Percent.{begins_with_escape, percent_decoding}, Pieces.{is_slice_end}}
 use Rattle.data_url.specs.Steps.Digits.{DigitFound, EscapeAt, NoDigit, NoEscape, Skipped, IsCode, IsDigitFrom, cleaned}
@@ -20,8 +20,8 @@ use Rattle.data_url.specs.Url.{after, front, is_tab_or_newline, before, without_
 use Rattle.data_url.specs.{declared.escapes.digits.TheConstants.{DIGITS}, declared.escapes.lanes.TheConstants.{MARKED}}
 use Rattle.data_url.specs.{declared.escapes.source.Source.{Source}, declared.escapes.stops.Block.{Block}}
 use Rattle.data_url.specs.declared.escapes.stops.Stop.TheVariants.{Passed, Stays}
-use Rattle.data_url.proofs.{percent.Encoding.{decoded_escape}, texts.Bytes.{dropped_passes}}
-use Rattle.data_url.proofs.texts.Bytes.{before_nil, before_other, before_same, after_other, dropped_keeps, dropped_nil}
+use Rattle.data_url.proofs.{percent.Encoding.{decoded_escape}, texts.Bytes.{dropped_keeps, dropped_nil}}
+use Rattle.data_url.proofs.texts.Bytes.{dropped_passes, before_nil, before_other, before_same, after_other}
 use borrow.Rule.Slice.PartMut.{mid_of, post_of, put_mid}
 pub use Rattle.std.proofs.lemmas.List.{drop_more, get_or-drop, length-drop, drop-drop, drop_all, drop-take, length-take}
 
@@ -145,11 +145,9 @@ pub escape_no_low : {text text' : List ℕ} {place value after looks looks' look
     → place < length text → get_or text place 0 ≡ 37 → DigitFound text (place + 1) looks value after looks'
     → NoDigit text' after looks' looks'' → NoEscape text place looks looks''
 escape_no_low {text} {text'} {place} {value} {after} {looks} {looks'} {looks''} e l h d m =
-    let n = subst (λ t. NoDigit t after looks' looks'') e m in
-    let high = has_digit d in
-    let s = same n.skipped in
+    let n = rw e at m in
     let none = no_escape (get_or text (after - 1) 0 ∷ []) (cleaned (drop after text)) (omega arith) (no_digit n) in
-    grind (arith, percent_first)
+    grind (arith, percent_first, has_digit d, same n.skipped)
 
 -- a digit and a digit after it are an escape
 pub escape_both : {text text' : List ℕ} {place high low middle end looks looks' last last' : ℕ} → text' ≡ text
@@ -403,10 +401,6 @@ drop_taken k n xs = grind (arith, cases_lt n k, drop-take k (n - k) xs, drop_all
 abbrev pub low_half : ℕ → ℕ
 low_half b = bit_and b 15
 
--- the low half of a byte is below 16
-low_lt : (b : ℕ) → low_half b < 16
-low_lt b = let e = and_mask b 4 in omega (arith, e)
-
 -- the low halves of 64 bytes, as lanes compute them
 abbrev pub lows : List ℕ → List ℕ
 lows v = zip2 bit_and v (replicate 64 15)
@@ -418,7 +412,7 @@ lows_are v long = zip2_splat bit_and v 64 15 long
 -- each low half of a list of bytes is below 16
 each_low : (v : List ℕ) → Each1 (λ j. j < 16) (map low_half v)
 each_low [] = tt
-each_low (b ∷ v) = (low_lt b, each_low v)
+each_low (b ∷ v) = (grind (arith, and_le_r), each_low v)
 
 -- the low halves satisfy the swizzle's precondition
 pub lows_ok : (v : List ℕ) → length v ≡ 64 → SwzOk w8 16 64 0 (lows v)
@@ -438,7 +432,7 @@ entry b = get_or MARKED (low_half b) 0
 -- from an index on, a swizzle of the table by the low halves of bytes looks up the entry of each byte
 looked_from : (v : List ℕ) (i : ℕ) → i + length v ≤ 64 → swz_l w8 16 MARKED i (map low_half v) ≡ map entry v
 looked_from [] i l = refl
-looked_from (b ∷ v) i l = grind (arith, looked_from v (suc i) (omega arith), low_lt, get_or-swz_l_below, repeats)
+looked_from (b ∷ v) i l = grind (arith, looked_from v (suc i) (omega arith), and_le_r, get_or-swz_l_below, repeats)
 
 -- a swizzle by the low halves looks up the entry of each byte
 pub looked_up : (v : List ℕ) → length v ≡ 64 → swz_l w8 16 MARKED 0 (lows v) ≡ map entry v
@@ -455,12 +449,9 @@ pub marks_are : (v : List ℕ) → length v ≡ 64 → Each1 (Fits w8) v
     (map is_marked v)
 marks_are v long fits =
     let l = length-map v is_marked in
-    cc (
-      tops_compared w8 eqb (swz_l w8 16 MARKED 0 (lows v)) v,
-      marked_each v fits,
-      zip2_of_maps eqb entry (λ b. b) v (looked_up v long) (sym (map-id v)),
-      mask_l-mod (map is_marked v) 64 (omega arith),
-    )
+    let e = zip2_of_maps eqb entry (λ b. b) v (looked_up v long) (sym (map-id v)) in
+    let t = tops_compared w8 eqb (swz_l w8 16 MARKED 0 (lows v)) v in
+    cc (marked_each v fits, mask_l-mod (map is_marked v) 64 (omega arith))
 
 -- if no item of a list passes a test, the mask of the items that pass is 0
 mask_none : (p : ℕ → Bool) (xs : List ℕ) → prefix_len (λ y. not (p y)) xs ≡ length xs → mask_l (map p xs) ≡ 0

@@ -1,8 +1,8 @@
 -- The pieces of a walk, and the bytes that it gathers. For `Cursor` and `Pieces`.
 use Rattle.std.proofs.Common.{Some, refl, sym, ap, ◌∙◌, inl, inr, arith, length-append, Bool, ◌≢◌, Option, ◌*◌, cond}
-use Rattle.std.{proofs.Common.{length-take-le, take-append-drop}, proofs.lemmas.Str.{IsCharBoundary-after_ascii}}
-use Rattle.std.proofs.Common.{set, append_assoc, take-add, slice_range, IfNone, drop-drop, length-drop, append-nil}
-use Rattle.std.proofs.Common.{◌≡◌, ℕ, ◌+◌, ◌-◌, ◌<◌, ◌≤◌, true, List, [], ◌∷◌, ◌++◌, length, take, drop, get_or, None}
+use Rattle.std.proofs.Common.{drop-drop, length-drop, append-nil, ◌≡◌, ℕ, ◌+◌, ◌-◌, ◌<◌, ◌≤◌, true, List, [], ◌∷◌, ◌++◌}
+use Rattle.std.{proofs.Common.{length, take, drop, get_or, None}, proofs.lemmas.Str.{IsCharBoundary-after_ascii}}
+use Rattle.std.proofs.Common.{length-take-le, take-append-drop, set, append_assoc, take-add, slice_range, IfNone}
 use Rattle.std.proofs.lemmas.List.{drop_more, drop_all, take_more_set, append_cancel_right}
 use Rattle.data_url.specs.{Fetch.{plain_body}, Steps.Digits.{EscapeAt, cleaned}, declared.escapes.Piece.{Piece}}
 use Rattle.data_url.specs.Pieces.{Walk, text_of, IsStretch, bytes_of, has_ended, is_slice_end, walk_of}
@@ -15,9 +15,9 @@ use Rattle.data_url.specs.declared.escapes.cursor.Ahead.TheVariants.{AfterEscape
 use Rattle.data_url.specs.{declared.escapes.source.Source.{Source}, declared.escapes.stops.Block.{Block}}
 use Rattle.data_url.proofs.escapes.Reading.{copied_wide, looking_on, marks_of_rest, ends_empty, paid_le, paid_on}
 use Rattle.data_url.proofs.escapes.Reading.{percent_nil, spells_clear, spells_escape, spells_none, spells_then}
-use Rattle.data_url.proofs.{percent.Encoding.{decoded_escape}, texts.Bytes.{is_cut, without_tabs_and_newlines-append}}
-use Rattle.data_url.proofs.runs.Runs.{none_or_some}
-use Rattle.data_url.proofs.texts.Bytes.{before_all, after_at, after_nil, after_same, after-dropped_none, before-append}
+use Rattle.data_url.proofs.percent.Encoding.{decoded_escape}
+use Rattle.data_url.proofs.{runs.Runs.{none_or_some}, texts.Bytes.{after_same, after-dropped_none, before-append}}
+use Rattle.data_url.proofs.texts.Bytes.{is_cut, without_tabs_and_newlines-append, before_all, after_at, after_nil}
 
 -- a range, and then the text after it, is the text from the start of the range on
 slice_rest : (text : List ℕ) (a b : ℕ) → a ≤ b → slice_range text a b ++ drop b text ≡ drop a text
@@ -34,10 +34,8 @@ none_before x y h = elim (none_or_some (after 35 x)) [
   | inl e ↦ e
   | inr (rest, e) ↦
       let cut = is_cut 35 x rest e in
-      let all : after 35 (x ++ y) ≡ Some (rest ++ y) = grind (arith, append_assoc, after_at) in
-      let long = is_cut 35 y (rest ++ y) (sym h ∙ all) in
-      let size = ap length long.joined in
-      absurd (omega (arith, length-append (before 35 y) (35 ∷ (rest ++ y)), length-append rest y))
+      let long = is_cut 35 y (rest ++ y) (grind (arith, append_assoc, after_at)) in
+      absurd (omega (arith, ap length long.joined, length-append (before 35 y), length-append rest y))
 ]
 
 -- the text between two indices has no '#'
@@ -53,13 +51,12 @@ unfolding front
 spelled {text} {raw} {bytes} {from} {to} s =
     let few = s.reads.few in
     let no = no_hash (omega arith) s in
-    append_cancel_right _ _ (cleaned (drop to text)) (cc (
-      slice_rest text from to (omega arith),
-      without_tabs_and_newlines-append (slice_range text from to) (drop to text),
-      before-append 35 (without_tabs_and_newlines (slice_range text from to)) (without_tabs_and_newlines (drop to text))
-          (after-dropped_none 35 refl (slice_range text from to) no),
-      s.raw_is,
-    ))
+    let whole = slice_rest text from to (omega arith) in
+    let x = slice_range text from to in
+    let y = drop to text in
+    let front = before-append 35 (without_tabs_and_newlines x) (without_tabs_and_newlines y) in
+    append_cancel_right _ _ (cleaned y)
+    (cc (without_tabs_and_newlines-append x y, front (after-dropped_none 35 refl x no), s.raw_is))
 
 -- a stretch goes on up to the next mark
 pub searching_clear : {text : List ℕ} {from place to mark : ℕ} → Searching text from place to → IsNextMark text to mark

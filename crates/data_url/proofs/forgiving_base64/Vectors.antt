@@ -1,14 +1,14 @@
 -- Blocks of 64 symbols in vectors. For `blocks.rt` and `lanes.rt`.
-use Rattle.std.proofs.Common.{drop-drop, ◌≡◌, ℕ, ◌<◌, ltb, true, cond, eqb, get_or, refl, sym, ◌∙◌, arith, suc, zero}
-use Rattle.std.{proofs.Common.{ext_get_or, take_all}, specs.List.{range_with_len, list_all}}
-use Rattle.std.proofs.Common.{subst, ◌≤◌, ◌&&◌, drop, bit_or, append_assoc, length-take-le, length-drop, take-add}
-use Rattle.std.proofs.Common.{◌+◌, ◌*◌, ◌/◌, ◌%◌, ◌^◌, Bool, not, List, [], ◌∷◌, ◌++◌, map, length, take, Fits, w8, ap}
-use Rattle.std.{proofs.Math.Bool.{and-true, and_assoc}, proofs.lemmas.List.Folds.{list_all-append}}
+use Rattle.std.{proofs.Common.{length, take, Fits, w8, ap}, proofs.lemmas.Nat.{and_le_r, and_le_l, or_lt}}
+use Rattle.std.proofs.Common.{length-drop, take-add, ◌+◌, ◌*◌, ◌/◌, ◌%◌, ◌^◌, Bool, not, List, [], ◌∷◌, ◌++◌, map}
+use Rattle.std.proofs.Common.{lit<, drop-drop, ◌≡◌, ℕ, ◌<◌, ltb, true, cond, eqb, get_or, refl, sym, ◌∙◌, arith, suc}
+use Rattle.std.proofs.Common.{zero, ext_get_or, take_all, subst, ◌≤◌, ◌&&◌, drop, bit_or, append_assoc, length-take-le}
+use Rattle.std.{proofs.Math.Bool.{and-true, and_assoc}, specs.List.{range_with_len, list_all}}
 use Rattle.std.proofs.lemmas.Bool.{agree_below_at, cond-true, eqb-true, ltb-true, cases_eq, ne_eqb}
+use Rattle.std.{proofs.lemmas.List.Folds.{list_all-append}, proofs.lemmas.Simd.{length-zip2, map-map}}
 use Rattle.std.proofs.lemmas.List.{get_or-map, length-map, map-append, nil_from_length}
-use Rattle.std.{proofs.lemmas.Nat.{and_le_r, and_le_l, or_lt}, proofs.lemmas.Simd.{mask_l-lt, zip2_of_maps}}
-use Rattle.std.proofs.lemmas.Simd.{Each1-get_or, SwzOk, SwzOk-from_below, get_or_narrower, get_or-swz_l_below}
-use Rattle.std.proofs.lemmas.Simd.{length-swz_l, pick_l_whole, swz_l, bitmask_splat, chunk-fits, length-zip2, map-map}
+use Rattle.std.proofs.lemmas.Simd.{get_or-swz_l_below, length-swz_l, pick_l_whole, swz_l, bitmask_splat, chunk-fits}
+use Rattle.std.proofs.lemmas.Simd.{mask_l-lt, zip2_of_maps, Each1-get_or, SwzOk, SwzOk-from_below, get_or_narrower}
 use Rattle.std.specs.Char.{is_ascii_whitespace as std_whitespace, is_ascii_whitespace}
 use Rattle.data_url.specs.Base64.{is_symbol, symbol_value, group_bytes, group_number, groups, after_groups}
 use Rattle.data_url.specs.Steps.Lanes.{mark_of, numbers, value_of}
@@ -165,15 +165,10 @@ packed_row f h =
     (omega (arith, l 0), (omega (arith, l 4), (omega (arith, l 8), (omega (arith, l 12), tt)))) in
     let e = λ (j i : ℕ) (a : i < 4) (b : 4 * j + i < 16). get_or_narrower 4294967296 4 256 16 (numbers (row f)) j i refl
     fit a b in
-    group_same (group_number (f 0) (f 1) (f 2) (f 3)) (l 0) (e 0 2 (omega arith) (omega arith))
-    (e 0 1 (omega arith) (omega arith)) (e 0 0 (omega arith) (omega arith))
-    (group_same (group_number (f 4) (f 5) (f 6) (f 7)) (l 4) (e 1 2 (omega arith) (omega arith))
-    (e 1 1 (omega arith) (omega arith)) (e 1 0 (omega arith) (omega arith))
-    (group_same (group_number (f 8) (f 9) (f 10) (f 11)) (l 8) (e 2 2 (omega arith) (omega arith))
-    (e 2 1 (omega arith) (omega arith)) (e 2 0 (omega arith) (omega arith))
-    (group_same (group_number (f 12) (f 13) (f 14) (f 15)) (l 12) (e 3 2 (omega arith) (omega arith))
-    (e 3 1 (omega arith) (omega arith)) (e 3 0 (omega arith) (omega arith))
-    refl)))
+    group_same _ (l 0) (e 0 2 (lit< tt) (lit< tt)) (e 0 1 (lit< tt) (lit< tt)) (e 0 0 (lit< tt) (lit< tt))
+    (group_same _ (l 4) (e 1 2 (lit< tt) (lit< tt)) (e 1 1 (lit< tt) (lit< tt)) (e 1 0 (lit< tt) (lit< tt))
+    (group_same _ (l 8) (e 2 2 (lit< tt) (lit< tt)) (e 2 1 (lit< tt) (lit< tt)) (e 2 0 (lit< tt) (lit< tt))
+    (group_same _ (l 12) (e 3 2 (lit< tt) (lit< tt)) (e 3 1 (lit< tt) (lit< tt)) (e 3 0 (lit< tt) (lit< tt)) refl)))
 
 -- the bytes that are packed from the numbers of 16 values are those of their groups
 pub packed_is : (v ns : List ℕ) → length v ≡ 16 → Each1 (λ x. x < 64) v → ns ≡ numbers v → packed ns ≡ groups v
@@ -332,9 +327,9 @@ pub whole_is : (text m0 m1 m2 m3 r0 r1 r2 r3 : List ℕ) → 64 ≤ length text 
 whole_is text m0 m1 m2 m3 r0 r1 r2 r3 long fits a b c d p q r s =
     let size = row_length text in
     let fit = λ (at : ℕ). chunk-fits w8 at 16 text fits in
-    let whole = marks_whole (take 16 (drop 0 text)) (take 16 (drop 16 text)) (take 16 (drop 32 text))
-    (take 16 (drop 48 text)) (size 0 (omega arith)) (size 16 (omega arith)) (size 32 (omega arith))
-    (size 48 (omega arith)) (fit 0) (fit 16) (fit 32) (fit 48) in
+    let row = λ (at : ℕ). take 16 (drop at text) in
+    let whole = marks_whole (row 0) (row 16) (row 32) (row 48) (size 0 (omega arith)) (size 16 (omega arith))
+    (size 32 (omega arith)) (size 48 (omega arith)) (fit 0) (fit 16) (fit 32) (fit 48) in
     cc (a, b, c, d, p, q, r, s, split_block text, whole)
 
 -- Sixteen groups
