@@ -82,11 +82,8 @@ same_for text from zero h = grind arith
 same_for text from (suc n) h =
     let tab = h.passed from (omega arith) (omega arith) in
     let within = h.within in
-    let more = same_for text (from + 1) n (record {
-      forward = omega arith;
-      within = omega arith;
-      passed = λ k a b. h.passed k (omega arith) (omega arith);
-    }) in
+    let on = λ (k : ℕ) (a : from + 1 ≤ k) (b : k < from + 1 + n). h.passed k (omega arith) (omega arith) in
+    let more = same_for text (from + 1) n (record { forward = omega arith; within = omega arith; passed = on }) in
     grind (arith, drop_more text from 0, cleaned_passes, after_other, prefix_len-drop_yes)
 
 -- tabs and newlines that are skipped

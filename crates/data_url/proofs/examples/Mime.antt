@@ -80,7 +80,7 @@ x_texts =
     ∷ (codes ";=q;" ++ (233 ∷ codes "=" ++ (34 ∷ codes "a;b=c" ++ (34 ∷ codes ";d=e"))), (codes "d", codes "e") ∷ [])
     ∷ []
 
--- each of the texts has the record x/x with its parameters
+-- each text has the record x/x with its parameters
 abbrev AllRead : List (List ℕ × List Pair) → Type 0
 AllRead [] = Unit {0}
 AllRead ((r, pairs) ∷ rows) = Parses (codes "x/x" ++ r) (of (codes "x") (codes "x") pairs) × AllRead rows
@@ -93,6 +93,7 @@ unfolding on_literals
 reads_x r pairs begins ends are =
     reads (codes "x/x" ++ r) (codes "x") (codes "x") [] r pairs refl refl refl begins ends are
 
+-- each of the texts of type and subtype x has its parameters
 x_records : AllRead x_texts
 unfolding on_literals
 x_records =

@@ -80,12 +80,11 @@ places_ok g v js long e small fits = SwzOk-from_below w8 16 1 16 0 js refl (omeg
 -- for 16 indices below 16, a swizzle looks up the item at each index
 pub looked_at : (t js : List ℕ) → length js ≡ 16 → Each1 (λ j. j < 16) js
     → swz_l w8 16 t 0 js ≡ map (λ j. get_or t j 0) js
-looked_at t js long small = ext_get_or 0 _ _ (length-swz_l w8 16 t 0 js
-    ∙ sym (length-map js (λ j. get_or t j 0))) (λ i h.
-    let lt : i < 16 = omega (arith, length-swz_l w8 16 t 0 js) in
-    let below = Each1-get_or (λ j. j < 16) js i 0 (omega arith) small in
-    let place : 16 * ((0 + i) / 16) + get_or js i 0 ≡ get_or js i 0 = omega arith in
-    cc (get_or-swz_l_below w8 16 t 0 js i (omega arith) below, get_or-map (λ j. get_or t j 0) js i 0 0 (omega arith)))
+looked_at t js long small =
+    let size = length-swz_l w8 16 t 0 js in
+    ext_get_or 0 _ _ (size ∙ sym (length-map js (λ j. get_or t j 0))) (λ i h.
+    let below = Each1-get_or (λ j. j < 16) js i 0 in
+    grind (arith, get_or-swz_l_below w8 16 t 0 js i, get_or-map (λ j. get_or t j 0) js i 0 0))
 
 -- if indices below 16 are computed from bytes, a swizzle looks up the entry of each byte at its index
 pub looked_up : (t : List ℕ) (g : ℕ → ℕ) (v js : List ℕ) → length v ≡ 16 → Each1 (Fits w8) v → js ≡ map g v
