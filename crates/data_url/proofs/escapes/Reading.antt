@@ -2,7 +2,7 @@
 use Rattle.std.proofs.Common.{List, [], ◌∷◌, ◌++◌, length, drop, get_or, Option, None, Some, refl, sym, ap, ◌∙◌, arith}
 use Rattle.std.proofs.Common.{bit_and, w8, Fits, ◌≢◌, inl, inr, ◌==◌, slice_range, take_all, length-take-le, take-take}
 use Rattle.std.{proofs.Common.{eqb, ltb}, proofs.lemmas.Simd.{zip2_splat, none_from_empty_mask, run_in_chunk_fails}}
-use Rattle.std.proofs.Common.{eqb-true, subst, take, append_assoc, length-append, ◌/◌, ◌^◌, map, min, replicate, ◌%◌}
+use Rattle.std.proofs.Common.{eqb-true, take, append_assoc, length-append, ◌/◌, ◌^◌, map, min, replicate, ◌%◌}
 use Rattle.std.proofs.Common.{map-id, ◌≡◌, ℕ, zero, suc, ◌+◌, ◌*◌, ◌-◌, ◌<◌, ◌≤◌, Bool, true, false, not, cond, ◌&&◌}
 use Rattle.std.{proofs.Math.Nat.{div-div-eq-div-mul, pow-suc}, proofs.lemmas.Nat.{le_or_l, le_or_r, and_le_r}}
 use Rattle.std.{proofs.Math.Seq.{take-append-add}, specs.Char.{digit_value, is_ascii_hexdigit}, specs.List.{prefix_len}}
@@ -151,7 +151,7 @@ pub escape_both : {text text' : List ℕ} {place high low middle end looks looks
     → place < length text → get_or text place 0 ≡ 37 → DigitFound text (place + 1) looks high middle looks'
     → DigitFound text' middle last low end last' → EscapeAt text place (high * 16 + low) end
 escape_both {text} {text'} {place} {high} {low} {middle} {end} {looks} {looks'} {last} {last'} same_is l h d g =
-    let f = subst (λ t. DigitFound t middle last low end last') same_is g in
+    let f = rw same_is at g in
     let p = has_digit d in
     let q = has_digit f in
     let percent = percent_first text place l h in

@@ -84,15 +84,7 @@ pub byte_part : {text : List ℕ} {from place value end : ℕ} → Spells text f
     → EscapeAt text place value end → IsPart text from end (Byte value)
 byte_part {text} {from} {place} {value} {end} s q =
     let all = spells_then s (spells_escape q) in
-    let is = spelled all in
-    record {
-      reads = all.reads;
-      piece_is = record {
-        is_escape = cc (is, q.high_hex, q.low_hex);
-        value_is = cc (is, decoded_escape q.high q.low [] q.high_hex q.low_hex, q.value_is, percent_nil);
-        ends = q.ends;
-      };
-    }
+    grind (arith, spelled all, decoded_escape q.high q.low [] q.high_hex q.low_hex, percent_nil)
 
 -- the walk can go on after what it read
 pub looking_paid : {s s' : Source} {b : Block} {mark to more : ℕ} → Looking s b mark 0 → s'.text.now ≡ s.text.now
