@@ -1,8 +1,8 @@
 -- A closure or a decoder that gets a body piece by piece. For `decode_pieces`, `decode_body` and its callers.
-use Rattle.std.{proofs.Common.{IsErr}, proofs.lemmas.List.{nil_from_length, length-map}, specs.Char.{digit_value}}
-use Rattle.std.proofs.Common.{Result, Ok, Err, refl, sym, ap, ◌∙◌, append_assoc, arith, length-append, suc, Bool, true}
-use Rattle.std.proofs.Common.{append-nil, ◌<◌, ◌≡◌, ℕ, ◌+◌, ◌≤◌, List, [], ◌∷◌, ◌++◌, Bor, length, Option, None, Some}
-use Rattle.std.proofs.Common.{false, cond, ◌*◌, min, length-drop, length-take, MatchOption, MatchResult, MatchBool}
+use Rattle.std.proofs.Common.{IsErr, Result, Ok, Err, refl, sym, ap, ◌∙◌, append_assoc, arith, length-append, suc, Bool}
+use Rattle.std.{proofs.Common.{MatchBool}, proofs.lemmas.List.{nil_from_length, length-map}, specs.Char.{digit_value}}
+use Rattle.std.proofs.Common.{Some, false, cond, ◌*◌, min, length-drop, length-take, MatchOption, MatchResult}
+use Rattle.std.proofs.Common.{true, append-nil, ◌<◌, ◌≡◌, ℕ, ◌+◌, ◌≤◌, List, [], ◌∷◌, ◌++◌, Bor, length, Option, None}
 use Rattle.std.proofs.lemmas.List.Sums.{count_by-le-length, length-filter}
 use Rattle.std.{specs.Fn.{CalledAt, Mut, always_mut}, specs.Option.{option_or}, specs.Result.{result_err}}
 use Rattle.data_url.specs.Base64.{decoded, complete_bytes, kind_of, after_groups, groups, rest_bytes, values}
@@ -17,8 +17,8 @@ use Rattle.data_url.specs.declared.forgiving_base64.DecodeError.TheVariants.{Wri
 use Rattle.data_url.proofs.forgiving_base64.Groups.{groups_length, filter_length}
 use Rattle.data_url.proofs.forgiving_base64.Steps.{feeds_err, feeds_then}
 use Rattle.data_url.proofs.forgiving_base64.WholeTexts.{decodes_finished, decodes_refused, fed_nothing, run_keeps}
-use Rattle.data_url.proofs.{forgiving_base64.WholeTexts.{run_reads}, runs.Runs.{prefix_after}, texts.Bytes.{is_cut}}
-use Rattle.data_url.proofs.runs.Runs.{joined_pieces-append, match_at, match_at_none, refusal-append, run-append}
+use Rattle.data_url.proofs.{forgiving_base64.WholeTexts.{run_reads}, runs.Runs.{run-append}, texts.Bytes.{is_cut}}
+use Rattle.data_url.proofs.runs.Runs.{prefix_after, joined_pieces-append, match_at, match_at_none, refusal-append}
 use denote.Param.Always.{mut_next}
 
 -- if the next of a walk is `Some bytes`, these are the next bytes of its body

@@ -1,9 +1,8 @@
 -- Classes of bytes, sixteen bytes at a time. For `rows_len` and `span`.
-use Rattle.std.proofs.Common.{bit_and, get_or, true, false, sym, ap, ◌∙◌, ⊎_elim, arith, w8}
-use Rattle.std.proofs.Common.{◌==◌, ◌||◌, not, slice_index}
-use Rattle.std.proofs.Common.{◌≡◌, ℕ, ◌+◌, ◌/◌, ◌%◌, ◌^◌, ◌<◌, ◌≤◌, Bool, List, [], ◌∷◌, cond, map, take, drop, length}
+use Rattle.std.proofs.Common.{bit_and, get_or, true, false, sym, ap, ◌∙◌, ⊎_elim, arith, w8, ◌==◌, ◌||◌, not}
+use Rattle.std.{proofs.Common.{drop, length}, proofs.lemmas.Simd.{bitmask_splat, map-map, none_from_empty_mask}}
+use Rattle.std.proofs.Common.{slice_index, ◌≡◌, ℕ, ◌+◌, ◌/◌, ◌%◌, ◌^◌, ◌<◌, ◌≤◌, Bool, List, [], ◌∷◌, cond, map, take}
 use Rattle.std.{proofs.lemmas.Bool.{agree_below, agree_below_at, cases_lt, false≢true}, proofs.lemmas.List.{length-map}}
-use Rattle.std.proofs.lemmas.Simd.{bitmask_splat, map-map, none_from_empty_mask}
 use Rattle.data_url.specs.Steps.Classes.{AreOf, is_marked}
 use Rattle.data_url.specs.{declared.classes.TheConstants.{CLASSES}, declared.classes.lanes.TheConstants.{COLUMNS}}
 use Rattle.data_url.proofs.forgiving_base64.Vectors.{differs, joined}

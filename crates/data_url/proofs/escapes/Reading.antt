@@ -1,16 +1,16 @@
 -- What a walk reads: digits after tabs and newlines, the bytes between two places, and blocks with their marks.
 use Rattle.std.proofs.Common.{List, [], ◌∷◌, ◌++◌, length, drop, get_or, Option, None, Some, refl, sym, ap, ◌∙◌, arith}
 use Rattle.std.proofs.Common.{bit_and, w8, Fits, ◌≢◌, inl, inr, ◌==◌, slice_range, take_all, length-take-le, take-take}
-use Rattle.std.{proofs.Common.{eqb, ltb}, proofs.lemmas.Simd.{zip2_splat, none_from_empty_mask, run_in_chunk_fails}}
-use Rattle.std.proofs.Common.{eqb-true, take, append_assoc, length-append, ◌/◌, ◌^◌, map, min, replicate, ◌%◌}
+use Rattle.std.proofs.Common.{eqb, ltb, eqb-true, take, append_assoc, length-append, ◌/◌, ◌^◌, map, min, replicate, ◌%◌}
 use Rattle.std.proofs.Common.{map-id, ◌≡◌, ℕ, zero, suc, ◌+◌, ◌*◌, ◌-◌, ◌<◌, ◌≤◌, Bool, true, false, not, cond, ◌&&◌}
 use Rattle.std.{proofs.Math.Nat.{div-div-eq-div-mul, pow-suc}, proofs.lemmas.Nat.{le_or_l, le_or_r, and_le_r}}
 use Rattle.std.{proofs.Math.Seq.{take-append-add}, specs.Char.{digit_value, is_ascii_hexdigit}, specs.List.{prefix_len}}
 use Rattle.std.proofs.lemmas.Bool.{agree_below_at, and_left, and_right, cases_Bool, cases_lt, eqb-true}
 use Rattle.std.proofs.lemmas.List.Sums.{prefix_len-drop_yes, prefix_len-drop_no, prefix_len-le-length}
 use Rattle.std.proofs.lemmas.List.{drop-replicate, take_rest, take-append-le, drop-map, length-map}
-use Rattle.std.proofs.lemmas.Simd.{put_chunk_whole, SwzOk, SwzOk-from_below, get_or-swz_l_below, mask_l-mod, swz_l}
-use Rattle.std.proofs.lemmas.Simd.{run_in_chunk_le, run_in_chunk_stops, trailing_mask_l, tops_compared, zip2_of_maps}
+use Rattle.std.proofs.lemmas.Simd.{SwzOk-from_below, get_or-swz_l_below, mask_l-mod, swz_l, run_in_chunk_le}
+use Rattle.std.proofs.lemmas.Simd.{run_in_chunk_stops, trailing_mask_l, tops_compared, zip2_of_maps}
+use Rattle.std.proofs.lemmas.Simd.{zip2_splat, none_from_empty_mask, run_in_chunk_fails, put_chunk_whole, SwzOk}
 use Rattle.std.{specs.Int.Count.{count_trailing_zeros}, specs.Simd.Lanes.{chunk, mask_l, put_chunk, Each1, top, zip2}}
 use Rattle.data_url.specs.{Fetch.{plain_body}, Percent.{begins_with_escape, percent_decoding}, Pieces.{is_slice_end}}
 use Rattle.data_url.specs.Steps.Digits.{DigitFound, EscapeAt, NoDigit, NoEscape, Skipped, IsCode, IsDigitFrom, cleaned}
@@ -20,8 +20,8 @@ use Rattle.data_url.specs.Url.{after, front, is_tab_or_newline, before, without_
 use Rattle.data_url.specs.{declared.escapes.digits.TheConstants.{DIGITS}, declared.escapes.lanes.TheConstants.{MARKED}}
 use Rattle.data_url.specs.{declared.escapes.source.Source.{Source}, declared.escapes.stops.Block.{Block}}
 use Rattle.data_url.specs.declared.escapes.stops.Stop.TheVariants.{Passed, Stays}
-use Rattle.data_url.proofs.{percent.Encoding.{decoded_escape}, texts.Bytes.{dropped_keeps, dropped_nil}}
-use Rattle.data_url.proofs.texts.Bytes.{dropped_passes, before_nil, before_other, before_same, after_other}
+use Rattle.data_url.proofs.{percent.Encoding.{decoded_escape}, texts.Bytes.{before_same, after_other}}
+use Rattle.data_url.proofs.texts.Bytes.{dropped_keeps, dropped_nil, dropped_passes, before_nil, before_other}
 use borrow.Rule.Slice.PartMut.{mid_of, post_of, put_mid}
 pub use Rattle.std.proofs.lemmas.List.{drop_more, get_or-drop, length-drop, drop-drop, drop_all, drop-take, length-take}
 

@@ -1,8 +1,8 @@
 -- The pieces of a walk, and the bytes that it gathers. For `Cursor` and `Pieces`.
 use Rattle.std.proofs.Common.{Some, refl, sym, ap, ◌∙◌, inl, inr, arith, length-append, Bool, ◌≢◌, Option, ◌*◌, cond}
 use Rattle.std.proofs.Common.{drop-drop, length-drop, append-nil, ◌≡◌, ℕ, ◌+◌, ◌-◌, ◌<◌, ◌≤◌, true, List, [], ◌∷◌, ◌++◌}
-use Rattle.std.{proofs.Common.{length, take, drop, get_or, None}, proofs.lemmas.Str.{IsCharBoundary-after_ascii}}
-use Rattle.std.proofs.Common.{length-take-le, take-append-drop, set, append_assoc, take-add, slice_range, IfNone}
+use Rattle.std.proofs.Common.{length, take, drop, get_or, None, length-take-le, take-append-drop, set, append_assoc}
+use Rattle.std.{proofs.Common.{take-add, slice_range, IfNone}, proofs.lemmas.Str.{IsCharBoundary-after_ascii}}
 use Rattle.std.proofs.lemmas.List.{drop_more, drop_all, take_more_set, append_cancel_right}
 use Rattle.data_url.specs.{Fetch.{plain_body}, Steps.Digits.{EscapeAt, cleaned}, declared.escapes.Piece.{Piece}}
 use Rattle.data_url.specs.Pieces.{Walk, text_of, IsStretch, bytes_of, has_ended, is_slice_end, walk_of}
@@ -15,9 +15,9 @@ use Rattle.data_url.specs.declared.escapes.cursor.Ahead.TheVariants.{AfterEscape
 use Rattle.data_url.specs.{declared.escapes.source.Source.{Source}, declared.escapes.stops.Block.{Block}}
 use Rattle.data_url.proofs.escapes.Reading.{copied_wide, looking_on, marks_of_rest, ends_empty, paid_le, paid_on}
 use Rattle.data_url.proofs.escapes.Reading.{percent_nil, spells_clear, spells_escape, spells_none, spells_then}
-use Rattle.data_url.proofs.percent.Encoding.{decoded_escape}
-use Rattle.data_url.proofs.{runs.Runs.{none_or_some}, texts.Bytes.{after_same, after-dropped_none, before-append}}
-use Rattle.data_url.proofs.texts.Bytes.{is_cut, without_tabs_and_newlines-append, before_all, after_at, after_nil}
+use Rattle.data_url.proofs.{percent.Encoding.{decoded_escape}, runs.Runs.{none_or_some}}
+use Rattle.data_url.proofs.texts.Bytes.{after_same, after-dropped_none, before-append, is_cut}
+use Rattle.data_url.proofs.texts.Bytes.{without_tabs_and_newlines-append, before_all, after_at, after_nil}
 
 -- a range, and then the text after it, is the text from the start of the range on
 slice_rest : (text : List ℕ) (a b : ℕ) → a ≤ b → slice_range text a b ++ drop b text ≡ drop a text
@@ -187,10 +187,9 @@ pub gathers_clear : {c : Cursor} {room room' : List ℕ} {len : ℕ} (to : ℕ) 
     → take (len + (to - c.place)) room' ≡ take len room ++ slice_range (text_of c) c.place to
     → Gathers c (record c { place = to }) room room' len (len + (to - c.place))
 gathers_clear {c} {room} {room'} {len} to m l w clear e =
-    let seen = m.looking.block.seen_le in
-    let reads = (spells_clear (text_of c) c.place to l (omega arith) clear).reads in
-    let long = length-take-le (to - c.place) (drop c.place (text_of c)) (omega (arith, length-drop {A = ℕ})) in
-    grind arith
+    let reads = (spells_clear (text_of c) c.place to l (omega (arith, m.looking.block.seen_le)) clear).reads in
+    let long = length-take-le (to - c.place) (drop c.place (text_of c)) in
+    grind (arith, length-drop)
 
 -- after that the walk can gather more
 pub may_clear : {c : Cursor} {len : ℕ} (to : ℕ) → MayGather c len → c.place < c.block.seen → c.place ≤ to

@@ -1,6 +1,6 @@
 -- Runs of a closure, one after another.
-use Rattle.std.proofs.Common.{◌∙◌, append_assoc, true, inl, inr, ◌⊎◌, arith, append-nil, IsErr, MatchOption}
-use Rattle.std.proofs.Common.{◌≡◌, ℕ, List, [], ◌∷◌, ◌++◌, Option, None, Some, is_some, Result, Ok, Err, refl, ap, sym}
+use Rattle.std.proofs.Common.{List, [], ◌∷◌, ◌++◌, Option, None, Some, is_some, Result, Ok, Err, refl, ap, sym}
+use Rattle.std.proofs.Common.{◌∙◌, append_assoc, true, inl, inr, ◌⊎◌, arith, append-nil, IsErr, MatchOption, ◌≡◌, ℕ}
 use Rattle.std.{proofs.lemmas.Bool.{false≢true, true≢false}, specs.Option.{option_or}, specs.Result.{result_err}}
 use Rattle.data_url.specs.Run.{Call, IsPrefix, IsRun, joined_pieces, refusal}
 use Rattle.data_url.proofs.forgiving_base64.Padding.{some_not_none}
