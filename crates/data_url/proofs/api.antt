@@ -1,10 +1,9 @@
 -- The only proofs of the library that callers may use. docs/CALLING.md says what they are for.
-pub use Rattle.data_url.proofs.body.Decoding.{EndsWith, body_answer, body_ends, body_extends, body_fault}
-pub use Rattle.data_url.proofs.body.Decoding.{body_good, body_keeps, body_shorter, body_within_tail}
-pub use Rattle.data_url.proofs.body.Decoding.{body_within_text, run_counts, run_counts_up_to, run_ends, run_extends}
-unfoldable pub use Rattle.data_url.proofs.examples.Literals.{on_literals}
+pub use Rattle.data_url.proofs.body.Decoding.{EndsWith, body_answer, body_ends, body_extends, body_fault, body_good}
+pub use Rattle.data_url.proofs.body.Decoding.{body_keeps, body_shorter, body_within_tail, body_within_text, run_counts}
+pub use Rattle.data_url.proofs.body.Decoding.{run_counts_up_to, run_ends, run_extends}
+unfoldable pub use Rattle.data_url.proofs.{examples.Literals.{on_literals}, forgiving_base64.Padding.{fault_byte}}
 pub use Rattle.data_url.proofs.forgiving_base64.Groups.{groups_length, two_feeds}
-unfoldable pub use Rattle.data_url.proofs.forgiving_base64.Padding.{fault_byte}
 pub use Rattle.data_url.proofs.forgiving_base64.Padding.{after_groups-append, done_stays, every_after}
 pub use Rattle.data_url.proofs.forgiving_base64.Padding.{every_list_all, fault-append, fault-append_some}
 pub use Rattle.data_url.proofs.forgiving_base64.Padding.{fault_invalid, fault_some, filter_every, kind_fault}
@@ -15,12 +14,10 @@ pub use Rattle.data_url.proofs.forgiving_base64.Steps.{feeds_none, feeds_then, f
 pub use Rattle.data_url.proofs.forgiving_base64.Steps.{kind_left, left_more, padding_more, symbols_more}
 pub use Rattle.data_url.proofs.forgiving_base64.WholeTexts.{decodes_finished, decodes_keeps, decodes_reads}
 pub use Rattle.data_url.proofs.forgiving_base64.WholeTexts.{decodes_refused, fed_nothing, run_keeps, run_reads}
-pub use Rattle.data_url.proofs.header.Stages.{body_of_url, bytes_by_place, bytes_trimmed, fragment_of_url}
-pub use Rattle.data_url.proofs.header.Stages.{is_accepted, lacks_comma, rest_bytes}
-pub use Rattle.data_url.proofs.header.Stages.{scheme_has_no_comma, stages_accepted, stages_no_comma, stages_no_scheme}
-pub use Rattle.data_url.proofs.header.Serialising.{suffix_stop}
-pub use Rattle.data_url.proofs.mime.FirstNames.{test_from_different}
-pub use Rattle.data_url.proofs.mime.TokenTexts.{every_from_all}
+pub use Rattle.data_url.proofs.header.Stages.{body_of_url, bytes_by_place, bytes_trimmed, fragment_of_url, is_accepted}
+pub use Rattle.data_url.proofs.header.Stages.{lacks_comma, rest_bytes, scheme_has_no_comma, stages_accepted}
+pub use Rattle.data_url.proofs.header.{Serialising.{suffix_stop}, Stages.{stages_no_comma, stages_no_scheme}}
+pub use Rattle.data_url.proofs.mime.{FirstNames.{test_from_different}, TokenTexts.{every_from_all}}
 pub use Rattle.data_url.proofs.percent.Encoding.{IsBytes, ascii_all, decoded_keeps, two_digits}
 pub use Rattle.data_url.proofs.runs.Runs.{match_alike, match_at_none, match_map, match_none, match_some, prefix_after}
 pub use Rattle.data_url.proofs.runs.Runs.{prefix_none, prefix_trans}

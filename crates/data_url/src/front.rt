@@ -13,6 +13,7 @@ const SCHEME: [u8; 5] = *b"data:";
 
 /// What follows the scheme `data:` of a trimmed text, spelled in any ASCII case, with tabs and
 /// newlines anywhere.
+#[tactic(auto, using(crate::proofs::front::Cuts::common_boundary, crate::proofs::front::Cuts::common_scheme))]
 pub(crate) fn after_scheme(text: &str) -> Option<&str>
     ensures found { IfSome result (λ rest. IsSchemeAndRest text.now rest.now) }
     ensures none { IfNone result (HasNoScheme text.now) }

@@ -1,38 +1,25 @@
 -- A closure or a decoder that gets a body piece by piece. For `decode_pieces`, `decode_body` and its callers.
-use Rattle.std.proofs.lemmas.List.{nil_from_length, append-nil, length-map}
-use Rattle.std.proofs.Common.{◌<◌, ◌≡◌, ℕ, ◌+◌, ◌≤◌, List, [], ◌∷◌, ◌++◌, Bor, length, Option, None, Some, Result, Ok}
-use Rattle.std.proofs.Common.{Err, refl, sym, ap, ◌∙◌, subst, append_assoc, arith, length-append, suc, Bool, true}
-use Rattle.std.proofs.Common.{false, cond, ◌*◌, min, filter, length-drop, length-take}
+use Rattle.std.proofs.Common.{IsErr, Result, Ok, Err, refl, sym, ap, ◌∙◌, append_assoc, arith, length-append, suc, Bool}
+use Rattle.std.{proofs.Common.{MatchBool}, proofs.lemmas.List.{nil_from_length, length-map}, specs.Char.{digit_value}}
+use Rattle.std.proofs.Common.{Some, false, cond, ◌*◌, min, length-drop, length-take, MatchOption, MatchResult}
+use Rattle.std.proofs.Common.{true, append-nil, ◌<◌, ◌≡◌, ℕ, ◌+◌, ◌≤◌, List, [], ◌∷◌, ◌++◌, Bor, length, Option, None}
 use Rattle.std.proofs.lemmas.List.Sums.{count_by-le-length, length-filter}
-use Rattle.data_url.proofs.texts.Bytes.{is_cut}
-use Rattle.std.specs.Prelude.{MatchOption, MatchResult, MatchBool, IsErr}
-use Rattle.std.specs.Fn.{CalledAt, Mut, always_mut}
-use denote.Param.Always.{mut_next}
-use Rattle.data_url.specs.Errors.{IsRefused}
-use Rattle.data_url.specs.Run.{Call, IsRun, joined_pieces, refusal, IsPrefix}
-use Rattle.std.specs.Option.{option_or}
-use Rattle.std.specs.Result.{result_err}
-use Rattle.data_url.specs.Fetch.{Good, outcome_bytes, plain_body, Bad, outcome, Outcome, tail_of}
-use Rattle.data_url.specs.Pieces.{Walk}
+use Rattle.std.{specs.Fn.{CalledAt, Mut, always_mut}, specs.Option.{option_or}, specs.Result.{result_err}}
+use Rattle.data_url.specs.Base64.{decoded, complete_bytes, kind_of, after_groups, groups, rest_bytes, values}
+use Rattle.data_url.specs.{DataUrl.{Decodes, HandsOut, IsUrlOf, url_body, url_tail}, Steps.Tail.{IsBodyEnd}}
+use Rattle.data_url.specs.{Decoder.{Feeds, Finishes, State, start}, Run.{Call, IsRun, joined_pieces, refusal, IsPrefix}}
+use Rattle.data_url.specs.{Errors.{IsRefused}, Fetch.{Good, outcome_bytes, plain_body, Bad, outcome, Outcome, tail_of}}
+use Rattle.data_url.specs.{Percent.{begins_with_escape, percent_decoding}, Pieces.{Walk}, declared.DataUrl.{DataUrl}}
 use Rattle.data_url.specs.Steps.Chunks.{IsFront, GivesBytes, IsCallableUntilError, Takes, TakesBody}
-use Rattle.data_url.specs.Steps.Tail.{IsBodyEnd}
-use Rattle.data_url.specs.DataUrl.{Decodes, HandsOut, IsUrlOf, url_body, url_tail}
-use Rattle.data_url.specs.declared.forgiving_base64.DecodeError.TheVariants.{WriteError, InvalidBase64}
-use Rattle.data_url.proofs.runs.Runs.{joined_pieces-append, match_at, match_at_none, refusal-append, run-append}
-use Rattle.data_url.proofs.runs.Runs.{prefix_after}
-use Rattle.std.specs.Char.{digit_value}
-use Rattle.data_url.specs.Base64.{decoded, complete_bytes, kind_of, after_groups, groups, is_symbol}
-use Rattle.data_url.specs.Base64.{rest_bytes, symbol_value, values}
+use Rattle.data_url.specs.{Steps.Whole.{DecodesText}, declared.forgiving_base64.DecodeError.{DecodeError}}
 use Rattle.data_url.specs.Url.{before, without_tabs_and_newlines, front, after, trimmed_text}
-use Rattle.data_url.specs.Percent.{begins_with_escape, percent_decoding}
-use Rattle.data_url.specs.Decoder.{Feeds, Finishes, State, start}
-use Rattle.data_url.specs.Steps.Whole.{DecodesText}
-use Rattle.data_url.specs.declared.forgiving_base64.DecodeError.{DecodeError}
+use Rattle.data_url.specs.declared.forgiving_base64.DecodeError.TheVariants.{WriteError, InvalidBase64}
+use Rattle.data_url.proofs.forgiving_base64.Groups.{groups_length, filter_length}
 use Rattle.data_url.proofs.forgiving_base64.Steps.{feeds_err, feeds_then}
 use Rattle.data_url.proofs.forgiving_base64.WholeTexts.{decodes_finished, decodes_refused, fed_nothing, run_keeps}
-use Rattle.data_url.proofs.forgiving_base64.WholeTexts.{run_reads}
-use Rattle.data_url.specs.declared.DataUrl.{DataUrl}
-use Rattle.data_url.proofs.forgiving_base64.Groups.{groups_length, filter_length}
+use Rattle.data_url.proofs.{forgiving_base64.WholeTexts.{run_reads}, runs.Runs.{run-append}, texts.Bytes.{is_cut}}
+use Rattle.data_url.proofs.runs.Runs.{prefix_after, joined_pieces-append, match_at, match_at_none, refusal-append}
+use denote.Param.Always.{mut_next}
 
 -- if the next of a walk is `Some bytes`, these are the next bytes of its body
 pub takes_next : {w w' : Walk} {given : Option (Bor (List ℕ))} {bytes : Bor (List ℕ)} → GivesBytes w given w'
@@ -61,14 +48,13 @@ module _ {F E : Type 0} (step : F → List ℕ → Result (Unit {0}) E → F →
   going_more {f} {g} {h} {text} {bytes} {w} {w'} answer k t s =
       let call : List (Call F E) = record { piece = bytes; answer = answer; after = h } ∷ [] in
       let longer = length-append k.run call in
-      let same : w'.text ≡ text = t.text_stays ∙ k.text_is in
-      let size = ap length same in
+      let same = t.text_stays ∙ k.text_is in
       record {
         run = k.run ++ call;
         ran = run-append step k.run call f g h k.ran k.answered (s, λ e. refl, refl);
         answered = refusal-append k.run call k.answered ∙ or_none (result_err answer);
         text_is = same;
-        place = grind arith;
+        place = omega (arith, t.within, ap length same);
         calls = grind arith;
         body = cc (append_assoc (joined_pieces k.run) bytes w'.rest, append-nil bytes, joined_pieces-append k.run call);
       }
@@ -110,7 +96,7 @@ percent_shorter (a ∷ []) = omega arith
 percent_shorter (a ∷ b ∷ []) = omega arith
 percent_shorter (a ∷ b ∷ c ∷ s) =
     let h = percent_shorter s in
-    let k : length (percent_decoding (b ∷ c ∷ s)) ≤ suc (suc (length s)) = percent_shorter (b ∷ c ∷ s) in
+    let k = percent_shorter (b ∷ c ∷ s) in
     elim (begins_with_escape (a ∷ b ∷ c ∷ s)) as
     (λ v. length (cond v ((16 * digit_value b + digit_value c) ∷ percent_decoding s)
     (a ∷ percent_decoding (b ∷ c ∷ s))) ≤ suc (suc (suc (length s)))) [ true ↦ omega arith | false ↦ omega arith ]
@@ -211,19 +197,12 @@ until_error closure f h run g ran n bytes =
     (λ p piece q i s. mut_next closure p (s.shown, tt) (Ok tt) q q s.called refl i) run f g ran n h in
     (k.at ((bytes, tt) ∷ [])).0
 
--- what no call of a closure changes in its state is the same after it took a body
-pub took_keeps : {F E B : Type 0} {step : F → List ℕ → Result (Unit {0}) E → F → Type 0} {f g : F} {text : List ℕ}
-    {r : Result ℕ E} → TakesBody step f text r g → (K : F → B)
-    → ((p : F) (piece : List ℕ) (s : Result (Unit {0}) E) (q : F) → step p piece s q → K p ≡ K q) → K f ≡ K g
-took_keeps {step = step} {f = f} {g = g} t K keeps = run_keeps step K keeps t.run f g t.ran
-
 -- what each call that succeeds preserves is true after a closure took a whole body
 pub took_preserves : {F E : Type 0} {step : F → List ℕ → Result (Unit {0}) E → F → Type 0} {f g : F} {text : List ℕ}
     {r : Result ℕ E} {place : ℕ} → TakesBody step f text r g → r ≡ Ok place → (K : F → Type 0)
     → ((p : F) (piece : List ℕ) (q : F) → K p → step p piece (Ok tt) q → K q) → K f → K g
-took_preserves {step = step} {f = f} {g = g} {text = text} {r = Ok x} t e K keeps k =
-    run_preserves step K keeps t.run f g t.ran t.gave.1 k
-took_preserves {r = Err x} t e K keeps k = absurd (cc)
+took_preserves {step = step} {f = f} {g = g} took e K keeps k =
+    let t = rw e at took in run_preserves step K keeps t.run f g t.ran t.gave.1 k
 
 -- a closure that took a body decodes it, if it is not base64
 pub plain_taken : {F E : Type 0} (step : F → List ℕ → Result (Unit {0}) E → F → Type 0) {f g : F} {text : List ℕ}
@@ -253,10 +232,10 @@ module _ {C F E : Type 0} {outer : C → List ℕ → Result (Unit {0}) (DecodeE
       → state c ≡ start f → TakesBody outer c text r c' → r ≡ Err x
       → Decodes step f (length text + 1) (outcome true (plain_body text)) (IsBodyEnd text) (Err x) (state c').closure
   fed_refused {f} {c} {c'} {text} {r} {x} s took e =
-      let t = subst (λ q. TakesBody outer c text q c') e took in
+      let t = rw e at took in
       let k = match_at (refusal t.run) (Some x) _ _ (sym t.gave.0) (fed c c' t.run s t.ran) in
-      outcome_of step 0 (Err x) (sym t.gave.1.1) (decodes_refused step refl (feeds_err step t.gave.1.0 k))
-      (λ e. absurd (cc))
+      let d = decodes_refused step refl (feeds_err step t.gave.1.0 k) in
+      outcome_of step 0 (Err x) (sym t.gave.1.1) d (λ e. absurd (cc))
 
   -- if a closure that feeds a new decoder takes a whole body, and then the decoder is finished, this is the result of
   -- decoding the body as base64
@@ -266,12 +245,10 @@ module _ {C F E : Type 0} {outer : C → List ℕ → Result (Unit {0}) (DecodeE
       → MatchResult p (λ x. q ≡ Ok place) (λ e. q ≡ Err e)
       → Decodes step f (length text + 1) (outcome true (plain_body text)) (IsBodyEnd text) q g
   fed_ended {f} {g} {c} {c'} {text} {r} {place} {p} {q} s took e ended m =
-      let t = subst (λ q. TakesBody outer c text q c') e took in
+      let t = rw e at took in
       let k = match_at (refusal t.run) None _ _ (sym t.gave.1) (fed c c' t.run s t.ran) in
-      let D : Result ℕ (DecodeError E) → Type 0 = λ q. Decodes step f (length text + 1)
-      (outcome true (plain_body text)) (IsBodyEnd text) q g in
-      subst D (mapped place p q m)
-      (outcome_of step place p (sym t.gave.2) (decodes_finished step refl k ended) (λ _. t.gave.0))
+      let d = decodes_finished step refl k ended in
+      rw (sym (mapped place p q m)) (outcome_of step place p (sym t.gave.2) d (λ _. t.gave.0))
 
 -- if each call that succeeds extends a measure by its piece, a run without an error extends it by all its bytes
 pub run_extends : {F E : Type 0} (step : F → List ℕ → Result (Unit {0}) E → F → Type 0) (cs : List (Call F E)) (f g : F)
@@ -286,9 +263,9 @@ pub run_counts : {F E : Type 0} (step : F → List ℕ → Result (Unit {0}) E �
     → IsRun step f cs g → refusal cs ≡ None → (count : F → ℕ)
     → ((p : F) (piece : List ℕ) (q : F) → step p piece (Ok tt) q → count q ≡ count p + length piece)
     → count g ≡ count f + length (joined_pieces cs)
-run_counts step cs f g ran n count adds =
-    run_kept step cs f g ran n (λ bytes p. count p ≡ count f + length bytes)
-    (λ bytes p piece q k s. omega (arith, adds p piece q s, k, length-append bytes piece)) (omega arith)
+run_counts {F = F} step cs f g ran n count adds =
+    let P : List ℕ → F → Type 0 = λ bytes p. count p ≡ count f + length bytes in
+    run_kept step cs f g ran n P (λ bytes p piece q k s. grind (arith, adds p piece q, length-append)) (omega arith)
 
 -- if each call that succeeds adds the length of its piece to a count that stops at `most`, a run without an error adds
 -- the length of all its bytes, up to `most`
@@ -296,9 +273,9 @@ pub run_counts_up_to : {F E : Type 0} (step : F → List ℕ → Result (Unit {0
     (f g : F) (most : ℕ) → IsRun step f cs g → refusal cs ≡ None → (count : F → ℕ) → count f ≤ most
     → ((p : F) (piece : List ℕ) (q : F) → step p piece (Ok tt) q → count q ≡ min (count p + length piece) most)
     → count g ≡ min (count f + length (joined_pieces cs)) most
-run_counts_up_to step cs f g most ran n count few adds =
-    run_kept step cs f g ran n (λ bytes p. count p ≡ min (count f + length bytes) most)
-    (λ bytes p piece q k s. omega (arith, adds p piece q s, k, length-append bytes piece)) (omega arith)
+run_counts_up_to {F = F} step cs f g most ran n count few adds =
+    let P : List ℕ → F → Type 0 = λ bytes p. count p ≡ min (count f + length bytes) most in
+    run_kept step cs f g ran n P (λ bytes p piece q k s. grind (arith, adds p piece q, length-append)) (omega arith)
 
 -- how decoding a body ended, with what is then true of the closure and the bytes that it was called with
 abbrev pub EndsWith : {F E A : Type 0} → (List ℕ → F → Type 0) → (List ℕ → E → F → Type 0) → Outcome → (A → Type 0) → F
@@ -390,11 +367,6 @@ module _ {F E A : Type 0} {step : F → List ℕ → Result (Unit {0}) E → F �
       (bytes ++ h.0, prefix_after bytes h.0 piece h.1, cc (h.2, append_assoc (measure f) bytes h.0)))
       (sym (append-nil (measure f)))
 
--- the symbols of a text have at most as many values as the text has bytes
-values_shorter : (s : List ℕ) → length (values s) ≤ length s
-unfolding values
-values_shorter s = omega (arith, length-map (filter is_symbol s) symbol_value, filter_length s)
-
 -- complete groups and the rest after them have together at most as many bytes as there are values
 groups_then_rest : (x : List ℕ) → length (groups x ++ rest_bytes (after_groups x)) ≤ length x
 unfolding groups after_groups
@@ -404,16 +376,11 @@ groups_then_rest (p ∷ q ∷ []) = omega arith
 groups_then_rest (p ∷ q ∷ r ∷ []) = omega arith
 groups_then_rest (p ∷ q ∷ r ∷ s ∷ rest) = let h = groups_then_rest rest in omega arith
 
--- a base64-decoded text is not longer than the text
-decoded_shorter : (s : List ℕ) → length (decoded s) ≤ length s
-unfolding decoded
-decoded_shorter s = omega (arith, groups_then_rest (values s), values_shorter s)
-
 -- with or without base64, the bytes of the outcome of a text are not longer than the text
 outcome_shorter : (flag : Bool) (s : List ℕ) → length (outcome_bytes (outcome flag s)) ≤ length s
-unfolding outcome complete_bytes
+unfolding outcome complete_bytes decoded values
 outcome_shorter false s = omega arith
-outcome_shorter true s = grind (arith, decoded_shorter, groups_length, values_shorter, length-take)
+outcome_shorter true s = grind (arith, groups_then_rest, groups_length, length-map, filter_length, length-take)
 
 -- a body, or the bytes before its fault, is not longer than its tail
 pub body_within_tail : (url : DataUrl) → length (outcome_bytes (url_body url)) ≤ length (url_tail url)

@@ -1,24 +1,12 @@
 -- Classes of bytes, sixteen bytes at a time. For `rows_len` and `span`.
-use Rattle.std.proofs.Common.{◌≡◌, ℕ, ◌+◌, ◌/◌, ◌%◌, ◌^◌, ◌<◌, ◌≤◌, Bool, List, [], ◌∷◌, cond, map, take, drop, length}
-use Rattle.std.proofs.Common.{bit_and, get_or, true, false, sym, ap, ◌∙◌, ⊎_elim, arith, w8, length-drop}
-use Rattle.std.proofs.Common.{length-take-le}
-use Rattle.std.specs.Prelude.{◌==◌, ◌||◌, not, slice_index}
-use Rattle.std.proofs.lemmas.Bool.{agree_below, agree_below_at, cases_lt, false≢true}
-use Rattle.std.proofs.lemmas.List.{length-map}
-use Rattle.std.proofs.lemmas.Simd.{bitmask_splat, map-map, none_from_empty_mask}
-use lib.Lanes.{mask_l, top, zip2}
+use Rattle.std.proofs.Common.{bit_and, get_or, true, false, sym, ap, ◌∙◌, ⊎_elim, arith, w8, ◌==◌, ◌||◌, not}
+use Rattle.std.{proofs.Common.{drop, length}, proofs.lemmas.Simd.{bitmask_splat, map-map, none_from_empty_mask}}
+use Rattle.std.proofs.Common.{slice_index, ◌≡◌, ℕ, ◌+◌, ◌/◌, ◌%◌, ◌^◌, ◌<◌, ◌≤◌, Bool, List, [], ◌∷◌, cond, map, take}
+use Rattle.std.{proofs.lemmas.Bool.{agree_below, agree_below_at, cases_lt, false≢true}, proofs.lemmas.List.{length-map}}
 use Rattle.data_url.specs.Steps.Classes.{AreOf, is_marked}
-use Rattle.data_url.specs.declared.classes.TheConstants.{CLASSES}
-use Rattle.data_url.specs.declared.classes.lanes.TheConstants.{COLUMNS}
+use Rattle.data_url.specs.{declared.classes.TheConstants.{CLASSES}, declared.classes.lanes.TheConstants.{COLUMNS}}
 use Rattle.data_url.proofs.forgiving_base64.Vectors.{differs, joined}
-
--- the 16 bytes from index `at` on
-abbrev pub row_at : List ℕ → ℕ → List ℕ
-row_at bytes at = take 16 (drop at bytes)
-
--- if there are 16 bytes from an index on, the row at that index has length 16
-pub row_length : (bytes : List ℕ) (at : ℕ) → at + 16 ≤ length bytes → length (row_at bytes at) ≡ 16
-row_length bytes at room = grind (arith, length-take-le, length-drop)
+use lib.Lanes.{mask_l, top, zip2}
 
 -- what the lanes compute from a row with both tables is the mask of the row's marked bytes
 pub marks_are : (others v low high : List ℕ) → length v ≡ 16 → low ≡ map (λ b. get_or others (bit_and b 15) 0) v
@@ -28,13 +16,9 @@ pub marks_are : (others v low high : List ℕ) → length v ≡ 16 → low ≡ m
     (map (is_marked others) v)
 marks_are others v low high long p q =
     let column : ℕ → ℕ = λ b. bit_and (get_or others (bit_and b 15) 0) (get_or COLUMNS (b / 16) 0) in
-    let marks : zip2 bit_and low high ≡ map column v = joined bit_and (λ b. get_or others (bit_and b 15) 0)
-    (λ b. get_or COLUMNS (b / 16) 0) v p q in
-    cc (
-      bitmask_splat w8 differs (zip2 bit_and low high) 16 0 (ap length marks ∙ length-map v column
-          ∙ long) (omega arith),
-      map-map (λ x. differs x 0) column v,
-    )
+    let marks : zip2 bit_and low high ≡ map column v = joined bit_and _ (λ b. get_or COLUMNS (b / 16) 0) v p q in
+    let size = ap length marks ∙ length-map v column ∙ long in
+    cc (bitmask_splat w8 differs (zip2 bit_and low high) 16 0 size (omega arith), map-map (λ x. differs x 0) column v)
 
 -- the bytes before a place are of a class
 pub record Looked (others bytes : List ℕ) (at : ℕ) : Type 0 where
@@ -43,12 +27,11 @@ pub record Looked (others bytes : List ℕ) (at : ℕ) : Type 0 where
 
 -- if a row has no marked byte, the bytes before the end of the row are of the class, too
 pub one_row_more : (others bytes : List ℕ) (at marks : ℕ) → Looked others bytes at → at + 16 ≤ length bytes
-    → marks ≡ mask_l (map (is_marked others) (row_at bytes at)) → marks ≡ 0 → Looked others bytes (at + 16)
-one_row_more others bytes at marks h room e none = record {
-  within = room;
-  front = λ k l. ⊎_elim (λ (m : k < at). h.front k m)
-      (λ (m : at ≤ k). none_from_empty_mask (is_marked others) bytes at 16 0 room (sym e ∙ none) k m l) (cases_lt k at);
-}
+    → marks ≡ mask_l (map (is_marked others) (take 16 (drop at bytes))) → marks ≡ 0 → Looked others bytes (at + 16)
+one_row_more others bytes at marks h room e none =
+    let row = none_from_empty_mask (is_marked others) bytes at 16 0 room (sym e ∙ none) in
+    let all : AreOf others bytes (at + 16) = λ k l. ⊎_elim (h.front k) (λ (m : at ≤ k). row k m l) (cases_lt k at) in
+    record { within = room; front = all }
 
 -- if the bit of each byte's entry in CLASSES agrees with the test p, it is set for a byte exactly if the byte passes
 pub entry_is : (p : ℕ → Bool) (bit : ℕ) → agree_below (λ b. not (bit_and (slice_index CLASSES b) bit == 0)) p 256 ≡ true

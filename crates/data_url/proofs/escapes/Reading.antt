@@ -1,42 +1,29 @@
 -- What a walk reads: digits after tabs and newlines, the bytes between two places, and blocks with their marks.
-use Rattle.std.proofs.Common.{◌≡◌, ℕ, zero, suc, ◌+◌, ◌*◌, ◌-◌, ◌<◌, ◌≤◌, Bool, true, false, not, cond, ◌&&◌, eqb, ltb}
 use Rattle.std.proofs.Common.{List, [], ◌∷◌, ◌++◌, length, drop, get_or, Option, None, Some, refl, sym, ap, ◌∙◌, arith}
-use Rattle.std.proofs.Common.{eqb-true, subst, take, append_assoc, length-append, ◌/◌, ◌^◌, map, min, replicate, ◌%◌}
-use Rattle.std.proofs.Common.{bit_and, w8, Fits, ◌≢◌, inl, inr}
-use Rattle.std.specs.Prelude.{◌==◌, slice_range}
-use Rattle.std.specs.Char.{digit_value, is_ascii_hexdigit}
+use Rattle.std.proofs.Common.{bit_and, w8, Fits, ◌≢◌, inl, inr, ◌==◌, slice_range, take_all, length-take-le, take-take}
+use Rattle.std.proofs.Common.{eqb, ltb, eqb-true, take, append_assoc, length-append, ◌/◌, ◌^◌, map, min, replicate, ◌%◌}
+use Rattle.std.proofs.Common.{map-id, ◌≡◌, ℕ, zero, suc, ◌+◌, ◌*◌, ◌-◌, ◌<◌, ◌≤◌, Bool, true, false, not, cond, ◌&&◌}
+use Rattle.std.{proofs.Math.Nat.{div-div-eq-div-mul, pow-suc}, proofs.lemmas.Nat.{le_or_l, le_or_r, and_le_r}}
+use Rattle.std.{proofs.Math.Seq.{take-append-add}, specs.Char.{digit_value, is_ascii_hexdigit}, specs.List.{prefix_len}}
 use Rattle.std.proofs.lemmas.Bool.{agree_below_at, and_left, and_right, cases_Bool, cases_lt, eqb-true}
-pub use Rattle.std.proofs.lemmas.List.{drop_more, get_or-drop, length-drop, drop-drop, drop_all, drop-take, length-take}
-use Rattle.std.proofs.lemmas.List.{take_all, drop-replicate, length-take-le, take_rest, take-append-le, take-take}
-use Rattle.std.proofs.lemmas.List.{drop-map, length-map, map-id}
 use Rattle.std.proofs.lemmas.List.Sums.{prefix_len-drop_yes, prefix_len-drop_no, prefix_len-le-length}
-use Rattle.std.proofs.lemmas.Nat.{le_or_l, le_or_r, and_mask}
-use Rattle.data_url.specs.Percent.{begins_with_escape, percent_decoding}
-use Rattle.data_url.specs.Url.{after, front, is_tab_or_newline, before, without_tabs_and_newlines}
+use Rattle.std.proofs.lemmas.List.{drop-replicate, take_rest, take-append-le, drop-map, length-map}
+use Rattle.std.proofs.lemmas.Simd.{SwzOk-from_below, get_or-swz_l_below, mask_l-mod, swz_l, run_in_chunk_le}
+use Rattle.std.proofs.lemmas.Simd.{run_in_chunk_stops, trailing_mask_l, tops_compared, zip2_of_maps}
+use Rattle.std.proofs.lemmas.Simd.{zip2_splat, none_from_empty_mask, run_in_chunk_fails, put_chunk_whole, SwzOk}
+use Rattle.std.{specs.Int.Count.{count_trailing_zeros}, specs.Simd.Lanes.{chunk, mask_l, put_chunk, Each1, top, zip2}}
+use Rattle.data_url.specs.{Fetch.{plain_body}, Percent.{begins_with_escape, percent_decoding}, Pieces.{is_slice_end}}
 use Rattle.data_url.specs.Steps.Digits.{DigitFound, EscapeAt, NoDigit, NoEscape, Skipped, IsCode, IsDigitFrom, cleaned}
-use Rattle.data_url.specs.Steps.Looks.{before_percent, paid}
-use Rattle.data_url.specs.declared.escapes.digits.TheConstants.{DIGITS}
-use Rattle.data_url.proofs.texts.Bytes.{before_nil, before_other, before_same, after_other, dropped_keeps, dropped_nil}
-use Rattle.data_url.proofs.texts.Bytes.{dropped_passes}
-use Rattle.data_url.specs.Fetch.{plain_body}
-use Rattle.data_url.specs.Pieces.{is_slice_end}
-use Rattle.data_url.specs.Steps.Tail.{BeginsFragment}
+use Rattle.data_url.specs.{Steps.Looks.{before_percent, paid}, Steps.Tail.{BeginsFragment}, Steps.Window.{is_marked}}
 use Rattle.data_url.specs.Steps.Walk.{IsClear, IsStop, Reads, Spells, IsBlock, IsNextMark, Looking}
+use Rattle.data_url.specs.Url.{after, front, is_tab_or_newline, before, without_tabs_and_newlines}
+use Rattle.data_url.specs.{declared.escapes.digits.TheConstants.{DIGITS}, declared.escapes.lanes.TheConstants.{MARKED}}
+use Rattle.data_url.specs.{declared.escapes.source.Source.{Source}, declared.escapes.stops.Block.{Block}}
 use Rattle.data_url.specs.declared.escapes.stops.Stop.TheVariants.{Passed, Stays}
-use Rattle.data_url.specs.Steps.Window.{is_marked}
-use Rattle.data_url.proofs.percent.Encoding.{decoded_escape}
-use Rattle.std.specs.Simd.Lanes.{chunk, mask_l, put_chunk, Each1, top, zip2}
-use Rattle.std.proofs.Math.Seq.{take-append-add}
-use Rattle.std.proofs.Math.Nat.{div-div-eq-div-mul, mul_comm, pow-suc}
-use Rattle.std.proofs.lemmas.Simd.{put_chunk_whole, SwzOk, SwzOk-from_below, get_or-swz_l_below, mask_l-mod, swz_l}
-use Rattle.std.proofs.lemmas.Simd.{tops_compared, zip2_of_maps, zip2_splat, none_from_empty_mask, run_in_chunk_fails}
-use Rattle.std.proofs.lemmas.Simd.{run_in_chunk_le, run_in_chunk_stops, trailing_mask_l}
+use Rattle.data_url.proofs.{percent.Encoding.{decoded_escape}, texts.Bytes.{before_same, after_other}}
+use Rattle.data_url.proofs.texts.Bytes.{dropped_keeps, dropped_nil, dropped_passes, before_nil, before_other}
 use borrow.Rule.Slice.PartMut.{mid_of, post_of, put_mid}
-use Rattle.data_url.specs.declared.escapes.lanes.TheConstants.{MARKED}
-use Rattle.std.specs.List.{prefix_len}
-use Rattle.std.specs.Int.Count.{count_trailing_zeros}
-use Rattle.data_url.specs.declared.escapes.source.Source.{Source}
-use Rattle.data_url.specs.declared.escapes.stops.Block.{Block}
+pub use Rattle.std.proofs.lemmas.List.{drop_more, get_or-drop, length-drop, drop-drop, drop_all, drop-take, length-take}
 
 -- Hexadecimal digits in a text, after tabs and newlines. For `escape` and `escape_here`.
 
@@ -95,30 +82,21 @@ same_for text from zero h = grind arith
 same_for text from (suc n) h =
     let tab = h.passed from (omega arith) (omega arith) in
     let within = h.within in
-    let more = same_for text (from + 1) n (record {
-      forward = omega arith;
-      within = omega arith;
-      passed = λ k a b. h.passed k (omega arith) (omega arith);
-    }) in
+    let on = λ (k : ℕ) (a : from + 1 ≤ k) (b : k < from + 1 + n). h.passed k (omega arith) (omega arith) in
+    let more = same_for text (from + 1) n (record { forward = omega arith; within = omega arith; passed = on }) in
     grind (arith, drop_more text from 0, cleaned_passes, after_other, prefix_len-drop_yes)
 
 -- tabs and newlines that are skipped
 same : {text : List ℕ} {from to : ℕ} → Skipped text from to → Same text from to []
 same {text} {from} {to} h =
-    let forward = h.forward in
-    let e : from + (to - from) ≡ to = omega arith in
-    subst (λ to. Same text from to []) e (same_for text from (to - from) (subst (Skipped text from) (sym e) h))
+    let e : from + (to - from) ≡ to = omega arith in rw e at (same_for text from (to - from) (rw e h))
 
 -- a digit that is found is what the text begins with, after tabs and newlines
 has_digit : {text : List ℕ} {place looks value end looks' : ℕ} → DigitFound text place looks value end looks'
     → Same text place end (get_or text (end - 1) 0 ∷ [])
 has_digit {text} {place} {looks} {value} {end} {looks'} d =
-    let some = d.some in
-    let next : end - 1 + 1 ≡ end = omega arith in
-    let e = ap (λ n. get_or text (end - 1) 0 ∷ drop n text) next in
-    let first = drop_more text (end - 1) 0 (omega (arith, d.within)) in
     let s = same d.skipped in
-    grind (arith, hex_other, cleaned_keeps, after_other, prefix_len-drop_yes)
+    grind (arith, drop_more text (end - 1) 0, hex_other, cleaned_keeps, after_other, prefix_len-drop_yes)
 
 -- the text begins with a hexadecimal digit
 abbrev begins_with_digit : List ℕ → Bool
@@ -135,8 +113,7 @@ other_first (b ∷ s) h = grind (arith, cases_Bool, eqb-true, cleaned_hash, clea
 no_digit : {text : List ℕ} {place looks looks' : ℕ} → NoDigit text place looks looks'
     → begins_with_digit (cleaned (drop place text)) ≡ false
 no_digit {text} {place} {looks} {looks'} n =
-    let s = same n.skipped in
-    ap begins_with_digit s.raw_is ∙ other_first (drop n.end text) (λ l. grind (arith, get_or-drop, length-drop))
+    grind (arith, same n.skipped, other_first (drop n.end text), get_or-drop, length-drop)
 
 -- a '%' and at most one byte before no digit are no escape
 no_escape : (raw s : List ℕ) → length raw < 2 → begins_with_digit s ≡ false
@@ -158,27 +135,23 @@ percent_first text place l h = grind (arith, drop_more text place 0, cleaned_kee
 pub escape_no_high : {text : List ℕ} {place looks looks' : ℕ} → place < length text → get_or text place 0 ≡ 37
     → NoDigit text (place + 1) looks looks' → NoEscape text place looks looks'
 escape_no_high {text} {place} {looks} {looks'} l h n =
-    let s = same n.skipped in
-    let none = no_escape [] (cleaned (drop (place + 1) text)) (omega arith) (no_digit n) in
-    grind (arith, percent_first)
+    grind (arith, percent_first, same n.skipped, no_escape [] (cleaned (drop (place + 1) text)), no_digit n)
 
 -- if there is no digit after the first one, there is no escape
 pub escape_no_low : {text text' : List ℕ} {place value after looks looks' looks'' : ℕ} → text' ≡ text
     → place < length text → get_or text place 0 ≡ 37 → DigitFound text (place + 1) looks value after looks'
     → NoDigit text' after looks' looks'' → NoEscape text place looks looks''
 escape_no_low {text} {text'} {place} {value} {after} {looks} {looks'} {looks''} e l h d m =
-    let n = subst (λ t. NoDigit t after looks' looks'') e m in
-    let high = has_digit d in
-    let s = same n.skipped in
+    let n = rw e at m in
     let none = no_escape (get_or text (after - 1) 0 ∷ []) (cleaned (drop after text)) (omega arith) (no_digit n) in
-    grind (arith, percent_first)
+    grind (arith, percent_first, has_digit d, same n.skipped)
 
 -- a digit and a digit after it are an escape
 pub escape_both : {text text' : List ℕ} {place high low middle end looks looks' last last' : ℕ} → text' ≡ text
     → place < length text → get_or text place 0 ≡ 37 → DigitFound text (place + 1) looks high middle looks'
     → DigitFound text' middle last low end last' → EscapeAt text place (high * 16 + low) end
 escape_both {text} {text'} {place} {high} {low} {middle} {end} {looks} {looks'} {last} {last'} same_is l h d g =
-    let f = subst (λ t. DigitFound t middle last low end last') same_is g in
+    let f = rw same_is at g in
     let p = has_digit d in
     let q = has_digit f in
     let percent = percent_first text place l h in
@@ -205,10 +178,8 @@ pub escape_at : (text : List ℕ) (place a b high low : ℕ) → place + 3 ≤ l
     → a ≡ get_or text (place + 1) 0 → b ≡ get_or text (place + 2) 0 → IsCode a high → IsCode b low → high < 16
     → low < 16 → EscapeAt text place (high * 16 + low) (place + 3)
 escape_at text place a b high low w h e f p q l m =
-    let a_code = subst (λ x. IsCode x high) e p in
-    let first = digit_at text (place + 1) high (place + 2) (omega arith) (omega arith) a_code l in
-    let b_code = subst (λ x. IsCode x low) f q in
-    let second = digit_at text (place + 2) low (place + 3) (omega arith) (omega arith) b_code m in
+    let first = digit_at text (place + 1) high (place + 2) (omega arith) (omega arith) (rw e at p) l in
+    let second = digit_at text (place + 2) low (place + 3) (omega arith) (omega arith) (rw f at q) m in
     escape_both {text = text} refl (omega arith) h first second
 
 -- after a tab or newline, what is found from the next index on is found from its index on
@@ -235,7 +206,7 @@ percent_nil = refl
 
 -- where a body ends, nothing of it is left
 pub ends_empty : (s : List ℕ) → BeginsFragment s → plain_body s ≡ []
-ends_empty [] h = plain_is [] ∙ ap percent_decoding cleaned_nil ∙ percent_nil
+ends_empty [] h = grind (arith, plain_is, cleaned_nil, percent_nil)
 ends_empty (b ∷ s) h = grind (arith, plain_is, cleaned_hash, percent_nil)
 
 -- a byte that does not begin an escape is decoded to itself
@@ -266,13 +237,9 @@ pub escape_ends : {text : List ℕ} {place value end : ℕ} → place < length t
     → is_slice_end (drop place text) ≡ true
 unfolding front
 escape_ends {text} {place} {value} {end} l e =
-    let s = drop place text in
-    let f = before_first (without_tabs_and_newlines s) in
-    let is : without_tabs_and_newlines s ≡ 37 ∷ e.high ∷ e.low ∷ (cleaned (drop end text) ++ f.0) =
-    f.1 ∙ ap (λ t. t ++ f.0) e.raw_is in
-    let m : s ≡ get_or text place 0 ∷ drop (place + 1) text = drop_more text place 0 l in
-    let k = rw m at (ap begins_with_escape is) in
-    rw m (grind (arith, e.high_hex, e.low_hex))
+    let f = before_first (without_tabs_and_newlines (drop place text)) in
+    let k = ap begins_with_escape (f.1 ∙ ap (λ t. t ++ f.0) e.raw_is) in
+    rw (drop_more text place 0 l) (grind (arith, e.high_hex, e.low_hex, drop_more text place 0 l))
 
 -- from an index to itself nothing is read
 pub spells_none : (text : List ℕ) (place : ℕ) → place ≤ length text → Spells text place place [] []
@@ -303,8 +270,7 @@ spells_byte text place l t h e =
 -- a '%' that does not begin an escape is read as it is
 spells_percent : {text : List ℕ} {place looks looks' : ℕ} → place < length text → get_or text place 0 ≡ 37
     → NoEscape text place looks looks' → Spells text place (place + 1) (37 ∷ []) (37 ∷ [])
-spells_percent {text} {place} {looks} {looks'} l h n =
-    rw h at (spells_byte text place l (grind arith) (grind arith) n.none_is)
+spells_percent {text} {place} l h n = rw h at (spells_byte text place l (grind arith) (grind arith) n.none_is)
 
 -- an escape is read as the byte of its value
 pub spells_escape : {text : List ℕ} {place value end : ℕ} (e : EscapeAt text place value end)
@@ -320,13 +286,9 @@ clear_for : (text : List ℕ) (from n : ℕ) → from + n ≤ length text → Is
     → Spells text from (from + n) (take n (drop from text)) (take n (drop from text))
 clear_for text from zero l h = grind arith
 clear_for text from (suc n) l h =
-    let w : from < length text = omega arith in
-    let b = get_or text from 0 in
-    let no = unmarked b (h from (omega arith) (omega arith)) in
-    let s = drop (from + 1) text in
-    let e : drop from text ≡ b ∷ s = drop_more text from 0 w in
-    let first = spells_byte text from w no.0 no.1 (ap (λ t. begins_with_escape (cleaned t)) e
-    ∙ ap begins_with_escape (cleaned_keeps b s no.0 no.1) ∙ begins_other b (cleaned s) no.2) in
+    let no = unmarked (get_or text from 0) (h from (omega arith) (omega arith)) in
+    let e = drop_more text from 0 (omega arith) in
+    let first = spells_byte text from (omega arith) no.0 no.1 (grind (arith, cleaned_keeps, begins_other)) in
     let more = clear_for text (from + 1) n (omega arith) (λ i a b. h i (omega arith) (omega arith)) in
     grind (arith, spells_then first more)
 
@@ -377,20 +339,16 @@ pub copied_wide : (room bytes text : List ℕ) (len width start : ℕ) → lengt
 copied_wide room bytes text len width start long l w h e =
     let n : len + 64 - len ≡ 64 = omega arith in
     let k : start + 64 - start ≡ 64 = omega arith in
+    let s = take 64 (drop start text) in
+    let post = post_of len (len + 64 - len) room in
     let mid = mid_of len (len + 64 - len) room in
-    let size : length mid ≡ 64 =
-    length-take-le (len + 64 - len) (drop len room) (omega (arith, length-drop len room)) ∙ n in
-    let block : chunk 0 64 (take (start + 64 - start) (drop start bytes))
-    ≡ take 64 (drop start text) = cc (take-take 64 64 (drop start bytes) (omega arith)) in
-    let whole : put_chunk 0 mid (take 64 (drop start text)) ≡ take 64 (drop start text) = put_chunk_whole mid _
-    (size ∙ sym (length-take-le 64 (drop start text) (omega (arith, length-drop start text)))) in
-    cc (
-      length-take-le len room (omega arith),
-      take-append-add (take len room) (take 64 (drop start text) ++ post_of len (len + 64 - len) room) width,
-      take-append-le width (take 64 (drop start text)) (post_of len (len + 64 - len) room)
-          (omega (arith, length-take-le 64 (drop start text), length-drop start text)),
-      take-take width 64 (drop start text) w,
-    )
+    let front = length-take-le len room (omega arith) in
+    let few = length-take-le 64 (drop start text) (omega (arith, length-drop start text)) in
+    let size = length-take-le (len + 64 - len) (drop len room) (omega (arith, length-drop len room)) ∙ n in
+    let whole = put_chunk_whole mid s (size ∙ sym few) in
+    let joined = take-append-add (take len room) (s ++ post) width in
+    let part = take-append-le width s post (omega (arith, few)) in
+    cc (take-take 64 64 (drop start bytes) (omega arith), take-take width 64 (drop start text) w)
 
 -- zeros after the end of a text have no marks
 no_marks : (k : ℕ) → mask_l (map is_marked (replicate k 0)) ≡ 0
@@ -406,8 +364,7 @@ marks_padded (x ∷ xs) k = grind (arith, marks_padded xs k)
 pub marks_of_rest : (rest new zeros : List ℕ) (r k : ℕ) → new ≡ rest → zeros ≡ replicate 64 0 → k ≡ length rest
     → r ≡ mask_l (map is_marked (put_mid 0 k zeros new)) → r ≡ mask_l (map is_marked rest)
 marks_of_rest rest new zeros r k e z l h =
-    let tail : drop k zeros ≡ replicate (64 - k) 0 = ap (drop k) z ∙ drop-replicate k 64 0 in
-    cc (marks_padded rest (64 - k))
+    cc (ap (drop k) z, drop-replicate {X = ℕ} k 64 0, marks_padded rest (64 - k))
 
 -- the marks of the first 64 bytes from an index on, or of fewer, are those of the block there
 pub block_at : (text bytes : List ℕ) (place seen marks : ℕ) → bytes ≡ text → place ≤ length text
@@ -424,37 +381,22 @@ block_at text bytes place seen marks e l s m =
     ] in
     record { base_le = omega arith; seen_le = omega arith; short = omega arith; marks_are = cc }
 
--- a shifted mask is the mask of the rest of the list
-mask_half : (b : Bool) (bs : List Bool) → mask_l (b ∷ bs) / 2 ≡ mask_l bs
-mask_half true bs = omega arith
-mask_half false bs = omega arith
-
 -- a mask that is shifted by k bits is the mask of the list without its first k items
 pub mask_later : (bs : List Bool) (k : ℕ) → mask_l bs / 2 ^ k ≡ mask_l (drop k bs)
 mask_later bs zero = omega arith
 mask_later [] (suc k) = omega arith
 mask_later (b ∷ bs) (suc k) =
-    let p : 2 ^ suc k ≡ 2 * 2 ^ k = pow-suc 2 k ∙ mul_comm (2 ^ k) 2 in
-    cc (div-div-eq-div-mul (mask_l (b ∷ bs)) 2 (2 ^ k), mask_half b bs, mask_later bs k)
+    grind (arith, pow-suc 2 k, div-div-eq-div-mul (mask_l (b ∷ bs)) 2 (2 ^ k), cases_Bool b, mask_later bs k)
 
 -- the first n items without the first k are n - k items after the first k
 pub drop_taken : (k n : ℕ) (xs : List ℕ) → drop k (take n xs) ≡ take (n - k) (drop k xs)
-drop_taken k n xs = elim (cases_lt n k) [
-  | inl l ↦
-      let none : n - k ≡ 0 = omega arith in
-      drop_all k (take n xs) (omega (arith, length-take n xs)) ∙ ap (λ i. take i (drop k xs)) (sym none)
-  | inr l ↦ let e : k + (n - k) ≡ n = omega arith in ap (λ i. drop k (take i xs)) (sym e) ∙ drop-take k (n - k) xs
-]
+drop_taken k n xs = grind (arith, cases_lt n k, drop-take k (n - k) xs, drop_all k (take n xs), length-take)
 
 -- The marks of a block: lanes that are looked up in a table and compared.
 
 -- the low half of a byte
 abbrev pub low_half : ℕ → ℕ
 low_half b = bit_and b 15
-
--- the low half of a byte is below 16
-low_lt : (b : ℕ) → low_half b < 16
-low_lt b = let e = and_mask b 4 in omega (arith, e)
 
 -- the low halves of 64 bytes, as lanes compute them
 abbrev pub lows : List ℕ → List ℕ
@@ -467,20 +409,18 @@ lows_are v long = zip2_splat bit_and v 64 15 long
 -- each low half of a list of bytes is below 16
 each_low : (v : List ℕ) → Each1 (λ j. j < 16) (map low_half v)
 each_low [] = tt
-each_low (b ∷ v) = (low_lt b, each_low v)
+each_low (b ∷ v) = (grind (arith, and_le_r), each_low v)
 
 -- the low halves satisfy the swizzle's precondition
 pub lows_ok : (v : List ℕ) → length v ≡ 64 → SwzOk w8 16 64 0 (lows v)
 lows_ok v long =
-    let e = lows_are v long in
     let l : length (map low_half v) ≡ 64 = length-map v low_half ∙ long in
-    let P : List ℕ → Type 0 = λ js. SwzOk w8 16 64 0 js in
-    subst P (sym e) (SwzOk-from_below w8 16 4 64 0 (map low_half v) refl (omega (arith, l)) (each_low v))
+    rw (lows_are v long) (SwzOk-from_below w8 16 4 64 0 (map low_half v) refl (omega (arith, l)) (each_low v))
 
 -- the table repeats itself
 repeats : (k : ℕ) → k < 64 → get_or MARKED k 0 ≡ get_or MARKED (k % 16) 0
-repeats k l = eqb-true (get_or MARKED k 0) (get_or MARKED (k % 16) 0)
-    (agree_below_at (λ k. eqb (get_or MARKED k 0) (get_or MARKED (k % 16) 0)) (λ k. true) 64 k refl l)
+repeats k l =
+    eqb-true _ _ (agree_below_at (λ k. eqb (get_or MARKED k 0) (get_or MARKED (k % 16) 0)) (λ k. true) 64 k refl l)
 
 -- the entry of a byte
 abbrev pub entry : ℕ → ℕ
@@ -489,32 +429,26 @@ entry b = get_or MARKED (low_half b) 0
 -- from an index on, a swizzle of the table by the low halves of bytes looks up the entry of each byte
 looked_from : (v : List ℕ) (i : ℕ) → i + length v ≤ 64 → swz_l w8 16 MARKED i (map low_half v) ≡ map entry v
 looked_from [] i l = refl
-looked_from (b ∷ v) i l = grind (arith, looked_from v (suc i) (omega arith), low_lt, get_or-swz_l_below, repeats)
+looked_from (b ∷ v) i l = grind (arith, looked_from v (suc i) (omega arith), and_le_r, get_or-swz_l_below, repeats)
 
 -- a swizzle by the low halves looks up the entry of each byte
 pub looked_up : (v : List ℕ) → length v ≡ 64 → swz_l w8 16 MARKED 0 (lows v) ≡ map entry v
 looked_up v long = grind (arith, swz_l, lows_are, looked_from)
 
--- an entry is equal to the byte exactly if the byte is marked
-marked_here : (b : ℕ) → b < 256 → eqb (entry b) b ≡ is_marked b
-marked_here b l = agree_below_at (λ b. eqb (entry b) b) is_marked 256 b refl l
-
 -- the bytes of a list that are equal to their entries are the marked ones
 marked_each : (v : List ℕ) → Each1 (Fits w8) v → map (λ b. eqb (entry b) b) v ≡ map is_marked v
 marked_each [] h = refl
-marked_each (b ∷ v) h = grind (arith, marked_here, marked_each v h.1)
+marked_each (b ∷ v) h = grind (arith, agree_below_at (λ b. eqb (entry b) b) is_marked 256 b refl, marked_each v h.1)
 
 -- the mask that lanes compute is that of the marked bytes
 pub marks_are : (v : List ℕ) → length v ≡ 64 → Each1 (Fits w8) v
     → mask_l (map (top 7) (zip2 (λ a b. cond (eqb a b) 255 0) (swz_l w8 16 MARKED 0 (lows v)) v)) % 2 ^ 64 ≡ mask_l
     (map is_marked v)
 marks_are v long fits =
-    cc (
-      tops_compared w8 eqb (swz_l w8 16 MARKED 0 (lows v)) v,
-      zip2_of_maps eqb entry (λ b. b) v (looked_up v long) (sym (map-id v)),
-      marked_each v fits,
-      mask_l-mod (map is_marked v) 64 (let l = length-map v is_marked in omega arith),
-    )
+    let l = length-map v is_marked in
+    let e = zip2_of_maps eqb entry (λ b. b) v (looked_up v long) (sym (map-id v)) in
+    let t = tops_compared w8 eqb (swz_l w8 16 MARKED 0 (lows v)) v in
+    cc (marked_each v fits, mask_l-mod (map is_marked v) 64 (omega arith))
 
 -- if no item of a list passes a test, the mask of the items that pass is 0
 mask_none : (p : ℕ → Bool) (xs : List ℕ) → prefix_len (λ y. not (p y)) xs ≡ length xs → mask_l (map p xs) ≡ 0
@@ -532,14 +466,12 @@ pub looking_block : {s s' : Source} {b b' : Block} {place : ℕ} → Looking s b
     → s'.looks + place ≡ s.looks + b'.seen → Looking s' b' place 0
 looking_block {s} {s'} {b} {b'} {place} k l t e i n = grind arith
 
--- how far the items that do not pass go in a chunk
-ruleset runs_in_chunk = (run_in_chunk_le, run_in_chunk_fails, run_in_chunk_stops)
-
 -- if the marks of a block are not 0, their number of trailing zeros is that of the bytes before the next mark
 pub found : {text : List ℕ} {place seen marks : ℕ} (width : ℕ) → IsBlock text place seen marks → marks ≢ 0
     → width ≡ count_trailing_zeros 64 marks → (place + width < seen) × IsNextMark text place (place + width)
 found {text} {place} {seen} {marks} width h n e =
-    grind (arith, length-drop, length-take-le, trailing_mask_l, mask_none, runs_in_chunk)
+    let long = length-take-le (seen - place) (drop place text) (omega (arith, length-drop {A = ℕ})) in
+    grind (arith, trailing_mask_l, mask_none, run_in_chunk_le, run_in_chunk_fails, run_in_chunk_stops)
 
 -- if the marks of a block are 0, none of its bytes is marked
 pub found_none : {text : List ℕ} {place seen marks : ℕ} → IsBlock text place seen marks → marks ≡ 0

@@ -1,32 +1,23 @@
 -- The pieces of a walk, and the bytes that it gathers. For `Cursor` and `Pieces`.
-use Rattle.std.proofs.Common.{◌≡◌, ℕ, ◌+◌, ◌-◌, ◌<◌, ◌≤◌, true, List, [], ◌∷◌, ◌++◌, length, take, drop, get_or, None}
-use Rattle.std.proofs.Common.{Some, refl, sym, ap, ◌∙◌, subst, inl, inr, arith, length-append, Bool, ◌≢◌, Option, ◌*◌}
-use Rattle.std.proofs.Common.{cond, set, append_assoc, take-add}
-use Rattle.std.specs.Prelude.{slice_range, IfNone}
-use Rattle.std.proofs.lemmas.List.{drop_more, drop-drop, length-drop, drop_all, append-nil, take_more_set}
-use Rattle.std.proofs.lemmas.List.{length-take-le, append_cancel_right, take-append-drop}
-use Rattle.std.proofs.lemmas.Str.{IsCharBoundary-after_ascii}
-use Rattle.data_url.specs.Fetch.{plain_body}
+use Rattle.std.proofs.Common.{Some, refl, sym, ap, ◌∙◌, inl, inr, arith, length-append, Bool, ◌≢◌, Option, ◌*◌, cond}
+use Rattle.std.proofs.Common.{drop-drop, length-drop, append-nil, ◌≡◌, ℕ, ◌+◌, ◌-◌, ◌<◌, ◌≤◌, true, List, [], ◌∷◌, ◌++◌}
+use Rattle.std.proofs.Common.{length, take, drop, get_or, None, length-take-le, take-append-drop, set, append_assoc}
+use Rattle.std.{proofs.Common.{take-add, slice_range, IfNone}, proofs.lemmas.Str.{IsCharBoundary-after_ascii}}
+use Rattle.std.proofs.lemmas.List.{drop_more, drop_all, take_more_set, append_cancel_right}
+use Rattle.data_url.specs.{Fetch.{plain_body}, Steps.Digits.{EscapeAt, cleaned}, declared.escapes.Piece.{Piece}}
 use Rattle.data_url.specs.Pieces.{Walk, text_of, IsStretch, bytes_of, has_ended, is_slice_end, walk_of}
-use Rattle.data_url.specs.Steps.Chunks.{IsFront, IsOver, Takes}
-use Rattle.data_url.specs.Steps.Digits.{EscapeAt, cleaned}
-use Rattle.data_url.specs.Steps.Tail.{BeginsFragment, IsBodyEnd, rest_fragment}
+use Rattle.data_url.specs.{Steps.Chunks.{IsFront, IsOver, Takes}, Steps.Tail.{BeginsFragment, IsBodyEnd, rest_fragment}}
 use Rattle.data_url.specs.Steps.Walk.{Ended, EndsAt, Gathers, GoesOn, IsClear, IsNextMark, IsPart, Knows, KnowsAhead}
 use Rattle.data_url.specs.Steps.Walk.{Looking, LooksOn, MayGather, Moves, Pays, Reads, Searching, Spells}
-use Rattle.data_url.specs.Url.{before, after, front, without_tabs_and_newlines}
+use Rattle.data_url.specs.{Url.{before, after, front, without_tabs_and_newlines}, declared.escapes.cursor.Ahead.{Ahead}}
+use Rattle.data_url.specs.{declared.escapes.Piece.TheVariants.{Byte, Slice}, declared.escapes.cursor.Cursor.{Cursor}}
+use Rattle.data_url.specs.declared.escapes.cursor.Ahead.TheVariants.{AfterEscape, End, Escape, Unknown}
+use Rattle.data_url.specs.{declared.escapes.source.Source.{Source}, declared.escapes.stops.Block.{Block}}
 use Rattle.data_url.proofs.escapes.Reading.{copied_wide, looking_on, marks_of_rest, ends_empty, paid_le, paid_on}
 use Rattle.data_url.proofs.escapes.Reading.{percent_nil, spells_clear, spells_escape, spells_none, spells_then}
-use Rattle.data_url.proofs.percent.Encoding.{decoded_escape}
-use Rattle.data_url.proofs.texts.Bytes.{before_all, after_at, after_nil, after_same, after-dropped_none, before-append}
-use Rattle.data_url.proofs.texts.Bytes.{is_cut, without_tabs_and_newlines-append}
-use Rattle.data_url.specs.declared.escapes.Piece.{Piece}
-use Rattle.data_url.specs.declared.escapes.Piece.TheVariants.{Byte, Slice}
-use Rattle.data_url.specs.declared.escapes.cursor.Ahead.{Ahead}
-use Rattle.data_url.specs.declared.escapes.cursor.Ahead.TheVariants.{AfterEscape, End, Escape, Unknown}
-use Rattle.data_url.specs.declared.escapes.cursor.Cursor.{Cursor}
-use Rattle.data_url.specs.declared.escapes.source.Source.{Source}
-use Rattle.data_url.specs.declared.escapes.stops.Block.{Block}
-use Rattle.data_url.proofs.runs.Runs.{none_or_some}
+use Rattle.data_url.proofs.{percent.Encoding.{decoded_escape}, runs.Runs.{none_or_some}}
+use Rattle.data_url.proofs.texts.Bytes.{after_same, after-dropped_none, before-append, is_cut}
+use Rattle.data_url.proofs.texts.Bytes.{without_tabs_and_newlines-append, before_all, after_at, after_nil}
 
 -- a range, and then the text after it, is the text from the start of the range on
 slice_rest : (text : List ℕ) (a b : ℕ) → a ≤ b → slice_range text a b ++ drop b text ≡ drop a text
@@ -43,10 +34,8 @@ none_before x y h = elim (none_or_some (after 35 x)) [
   | inl e ↦ e
   | inr (rest, e) ↦
       let cut = is_cut 35 x rest e in
-      let all : after 35 (x ++ y) ≡ Some (rest ++ y) = grind (arith, append_assoc, after_at) in
-      let long = is_cut 35 y (rest ++ y) (sym h ∙ all) in
-      let size = ap length long.joined in
-      absurd (omega (arith, length-append (before 35 y) (35 ∷ (rest ++ y)), length-append rest y))
+      let long = is_cut 35 y (rest ++ y) (grind (arith, append_assoc, after_at)) in
+      absurd (omega (arith, ap length long.joined, length-append (before 35 y), length-append rest y))
 ]
 
 -- the text between two indices has no '#'
@@ -62,57 +51,40 @@ unfolding front
 spelled {text} {raw} {bytes} {from} {to} s =
     let few = s.reads.few in
     let no = no_hash (omega arith) s in
-    append_cancel_right _ _ (cleaned (drop to text)) (cc (
-      slice_rest text from to (omega arith),
-      without_tabs_and_newlines-append (slice_range text from to) (drop to text),
-      before-append 35 (without_tabs_and_newlines (slice_range text from to)) (without_tabs_and_newlines (drop to text))
-          (after-dropped_none 35 refl (slice_range text from to) no),
-      s.raw_is,
-    ))
-
--- a text without '#' is the text before its first '#'
-in_front : {s : List ℕ} → after 35 s ≡ None → front s ≡ s
-unfolding front
-in_front {s} h = before_all 35 s h
+    let whole = slice_rest text from to (omega arith) in
+    let x = slice_range text from to in
+    let y = drop to text in
+    let front = before-append 35 (without_tabs_and_newlines x) (without_tabs_and_newlines y) in
+    append_cancel_right _ _ (cleaned y)
+    (cc (without_tabs_and_newlines-append x y, front (after-dropped_none 35 refl x no), s.raw_is))
 
 -- a stretch goes on up to the next mark
 pub searching_clear : {text : List ℕ} {from place to mark : ℕ} → Searching text from place to → IsNextMark text to mark
     → Searching text from place mark
 searching_clear {text} {from} {place} {to} {mark} s m =
-    let few = s.stretch.reads.few in
     let more = spells_then s.stretch (spells_clear text to mark m.forward m.within m.clear) in
-    grind (arith, slice_join text place to mark (omega arith) m.forward)
+    grind (arith, slice_join text place to mark)
 
 -- a '%' that does not begin an escape is part of the stretch
 pub searching_percent : {text : List ℕ} {from place mark : ℕ} → Searching text from place mark
     → get_or text mark 0 ≡ 37 → Spells text mark (mark + 1) (37 ∷ []) (37 ∷ []) → Searching text from place (mark + 1)
 searching_percent {text} {from} {place} {mark} s h p =
-    let few = s.stretch.reads.few in
-    let within = p.reads.within in
-    let more = spells_then s.stretch p in
-    grind (arith, slice_join text place mark (mark + 1) (omega arith) (omega arith), drop_more)
+    let more = spells_then s.stretch p in grind (arith, slice_join text place mark (mark + 1), drop_more)
 
 -- the stretch, with what is skipped before and after it, is a piece
 pub slice_part : {text bytes : List ℕ} {from place mark next : ℕ} → Searching text from place mark → place < mark
     → is_slice_end (drop mark text) ≡ true → Spells text mark next [] [] → bytes ≡ slice_range text place mark
     → Reads text from next bytes × IsStretch text from next bytes
+unfolding front
 slice_part {text} {bytes} {from} {place} {mark} {next} s l ends a e =
-    grind (arith, spells_then, append-nil, spelled, in_front, no_hash)
+    grind (arith, spells_then, append-nil, spelled, before_all, no_hash)
 
 -- an escape, with what is skipped before it, is a piece
 pub byte_part : {text : List ℕ} {from place value end : ℕ} → Spells text from place [] []
     → EscapeAt text place value end → IsPart text from end (Byte value)
 byte_part {text} {from} {place} {value} {end} s q =
     let all = spells_then s (spells_escape q) in
-    let is = spelled all in
-    record {
-      reads = all.reads;
-      piece_is = record {
-        is_escape = cc (is, q.high_hex, q.low_hex);
-        value_is = cc (is, decoded_escape q.high q.low [] q.high_hex q.low_hex, q.value_is, percent_nil);
-        ends = q.ends;
-      };
-    }
+    grind (arith, spelled all, decoded_escape q.high q.low [] q.high_hex q.low_hex, percent_nil)
 
 -- the walk can go on after what it read
 pub looking_paid : {s s' : Source} {b : Block} {mark to more : ℕ} → Looking s b mark 0 → s'.text.now ≡ s.text.now
@@ -133,10 +105,7 @@ goes_part {c} {c'} {text} {next} {p} t h on e = grind arith
 -- a walk that goes from its index to the end of an escape returns its value
 pub byte_next : {c c' : Cursor} {value end : ℕ} → EscapeAt (text_of c) c.place value end → LooksOn c.source c'.source
     → c'.place ≡ end → GoesOn c (Some (Byte value)) c'
-byte_next {c} {c'} {value} {end} q on e =
-    let three = q.three in
-    let within = q.within in
-    goes_part refl (byte_part (spells_none (text_of c) c.place (omega arith)) q) on e
+byte_next {c} {c'} {value} {end} q on e = goes_part refl (byte_part (grind (arith, spells_none)) q) on e
 
 -- after an escape that was read at once, the walk can go on in the same way
 pub looking_escape : {s s' : Source} {b : Block} {place : ℕ} → Looking s b place 3 → s'.text.now ≡ s.text.now
@@ -187,30 +156,15 @@ hash_at {text} {place} h n = grind (arith, drop_more text place 0)
 pub front_is : {text bytes : List ℕ} {w : Walk} → w.text ≡ text → w.rest ≡ plain_body (drop w.place text)
     → IsNextMark text 0 w.place → bytes ≡ slice_range text 0 w.place → IsFront text bytes w
 front_is {text} {bytes} {w} same rest m is =
-    let reads = (spells_clear text 0 w.place m.forward m.within m.clear).reads in
-    record {
-      text_is = same;
-      body_is = cc (reads.body);
-      few = omega (arith, reads.few, ap length is);
-      within
-          = m.within;
-    }
+    let reads = (spells_clear text 0 w.place m.forward m.within m.clear).reads in grind arith
 
 -- after the first part of a text that is read, what follows the first '#' is what followed it
 pub front_knows : {c : Cursor} → IsNextMark (text_of c) 0 c.place → KnowsAhead c c.ahead → Knows c
-front_knows {c} m k =
-    record { after_is = (spells_clear (text_of c) 0 c.place m.forward m.within m.clear).reads.after_is; ahead_is = k }
+front_knows {c} m k = grind (arith, spells_clear (text_of c) 0 c.place m.forward m.within m.clear)
 
 -- at the end of its text, a walk ends
 pub end_knows : {c : Cursor} → Looking c.source c.block c.place 0 → c.place ≡ length (text_of c) → Ended c
-end_knows {c} k e = record {
-  ends = record {
-    within = omega (arith, e);
-    begins = subst BeginsFragment
-        (sym (drop_all c.place (text_of c) (omega (arith, e)))) tt;
-  };
-  few_looks = grind (arith, paid_le);
-}
+end_knows {c} k e = grind (arith, paid_le, drop_all)
 
 -- what is gathered in two steps, one after the other, is gathered in both together
 pub gathers_then : {c c1 c2 : Cursor} {room room1 room2 : List ℕ} {len len1 len2 : ℕ} → Gathers c c1 room room1 len len1
@@ -233,18 +187,14 @@ pub gathers_clear : {c : Cursor} {room room' : List ℕ} {len : ℕ} (to : ℕ) 
     → take (len + (to - c.place)) room' ≡ take len room ++ slice_range (text_of c) c.place to
     → Gathers c (record c { place = to }) room room' len (len + (to - c.place))
 gathers_clear {c} {room} {room'} {len} to m l w clear e =
-    let seen = m.looking.block.seen_le in
-    let reads = (spells_clear (text_of c) c.place to l (omega arith) clear).reads in
-    let long = length-take-le (to - c.place) (drop c.place (text_of c)) (omega (arith, length-drop {A = ℕ})) in
-    grind arith
+    let reads = (spells_clear (text_of c) c.place to l (omega (arith, m.looking.block.seen_le)) clear).reads in
+    let long = length-take-le (to - c.place) (drop c.place (text_of c)) in
+    grind (arith, length-drop)
 
 -- after that the walk can gather more
 pub may_clear : {c : Cursor} {len : ℕ} (to : ℕ) → MayGather c len → c.place < c.block.seen → c.place ≤ to
     → to ≤ c.block.seen → MayGather (record c { place = to }) (len + (to - c.place))
-may_clear {c} {len} to m h l w =
-    let looking = looking_on to m.looking l (omega (arith, m.looking.block.seen_le)) in
-    let room = m.room.for_block h in
-    grind arith
+may_clear {c} {len} to m h l w = grind (arith, looking_on to m.looking l, m.room.for_block h)
 
 -- an escape is read as the byte of its value
 pub reads_escape : {text : List ℕ} {place value end : ℕ} → EscapeAt text place value end

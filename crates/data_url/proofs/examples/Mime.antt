@@ -1,16 +1,10 @@
 -- MIME types with their records and printed texts, by computation.
-use Rattle.std.proofs.Common.{◌≡◌, ℕ, true, List, [], ◌∷◌, ◌++◌, inr, codes, eq-eqb, eqb, length, refl, subst, sym, ◌∙◌}
-use Rattle.std.proofs.Common.{map}
-use Rattle.std.specs.Prelude.{IsTrue}
-use Rattle.std.specs.List.{list_all}
-use Rattle.std.specs.Char.{to_ascii_lowercase}
-use Rattle.data_url.specs.CodePoints.{is_http_whitespace}
-use Rattle.data_url.specs.Mime.{BeginsParameters, HasNoRecord, IsRecordOf, Pair, Parses, Record, default_record}
-use Rattle.data_url.specs.Mime.{is_token_text, kept_pairs, printed}
-use Rattle.data_url.proofs.examples.Literals.{on_literals}
-use Rattle.data_url.proofs.mime.TokenTexts.{every_from_all}
-use Rattle.data_url.proofs.mime.Items.{has_items, has_parts, items_in, parameters_in, subtype_in}
-use Rattle.data_url.proofs.mime.Items.{trimmed_of, type_in}
+use Rattle.std.proofs.Common.{arith, map, IsTrue, ◌≡◌, ℕ, true, List, [], ◌∷◌, ◌++◌, inr, codes, eq-eqb, length, refl}
+use Rattle.std.{proofs.Common.{subst, sym, ◌∙◌}, specs.Char.{to_ascii_lowercase}, specs.List.{list_all}}
+use Rattle.data_url.specs.{CodePoints.{is_http_whitespace}, Mime.{Parses, Record, default_record}}
+use Rattle.data_url.specs.Mime.{is_token_text, kept_pairs, printed, BeginsParameters, HasNoRecord, IsRecordOf, Pair}
+use Rattle.data_url.proofs.{examples.Literals.{on_literals}, mime.TokenTexts.{every_from_all}}
+use Rattle.data_url.proofs.mime.Items.{has_items, has_parts, items_in, parameters_in, subtype_in, trimmed_of, type_in}
 
 -- Texts with a record
 
@@ -45,18 +39,6 @@ reads s type_ subtype gap r pairs t u spaces begins joined are = record {
   };
 }
 
--- the record x/x with these parameters
-abbrev x_x : List Pair → Record
-x_x pairs = of (codes "x") (codes "x") pairs
-
--- a text of type and subtype x has these parameters
-reads_x : (r : List ℕ) (pairs : List Pair) → BeginsParameters r
-    → trimmed_of is_http_whitespace (codes "x/x" ++ r) ≡ codes "x/x" ++ r → kept_pairs (items_in (length r) r) ≡ pairs
-    → Parses (codes "x/x" ++ r) (x_x pairs)
-unfolding on_literals
-reads_x r pairs begins ends are = reads (codes "x/x" ++ r) (codes "x") (codes "x") [] r pairs refl refl refl begins
-    ends are
-
 -- a semicolon in quotes, a missing value, and an empty value in quotes
 quotes : Parses (codes "TEXT/HTML;a=" ++ (34 ∷ codes "b;c" ++ (34 ∷ codes ";d=;e=" ++ (34 ∷ 34 ∷ []))))
     (of (codes "text") (codes "html") ((codes "a", codes "b;c") ∷ (codes "e", []) ∷ []))
@@ -69,69 +51,79 @@ whitespace : Parses (codes " a/b ; c=d ") (of (codes "a") (codes "b") ((codes "c
 unfolding on_literals
 whitespace = reads _ (codes "a") (codes "b") (codes " ") (codes "; c=d") _ refl refl refl refl refl refl
 
--- a name can have every mark that is a token code point
-token_marks : Parses (codes "x/x" ++ codes ";!#$%&'*+-.^_`|~=v") (x_x ((codes "!#$%&'*+-.^_`|~", codes "v") ∷ []))
-unfolding on_literals
-token_marks = reads_x _ _ refl refl refl
+-- texts of type and subtype x, from the first ';' on, each with its parameters
+abbrev x_texts : List (List ℕ × List Pair)
+x_texts =
+    -- a name can have every mark that is a token code point
+    (codes ";!#$%&'*+-.^_`|~=v", (codes "!#$%&'*+-.^_`|~", codes "v") ∷ [])
+    -- a value cannot have U+007F or U+0100; it can have U+0080 and U+00FF
+    ∷ (
+      codes ";a=" ++ (127 ∷ codes ";b=" ++ (128 ∷ codes ";c=" ++ (255 ∷ codes ";d=" ++ (256 ∷ [])))),
+      (codes "b", 128 ∷ []) ∷ (codes "c", 255 ∷ []) ∷ [],
+    )
+    -- names are lower-cased before they are compared, and the first pair of a name is kept
+    ∷ (codes ";a=1;A=2", (codes "a", codes "1") ∷ [])
+    -- the code points after a closing quote are ignored
+    ∷ (codes ";a=" ++ (34 ∷ 98 ∷ 34 ∷ 256 ∷ []), (codes "a", codes "b") ∷ [])
+    -- a quoted value is tested as a whole: it can have a semicolon, and U+0100 makes its pair invalid
+    ∷ (codes ";a=" ++ (34 ∷ 98 ∷ 59 ∷ 256 ∷ 34 ∷ []), [])
+    -- a backslash at the end of the input is part of the value
+    ∷ (codes ";a=" ++ (34 ∷ 92 ∷ []), (codes "a", 92 ∷ []) ∷ [])
+    -- escapes, a quote inside a value without quotes, and a quoted string that ends with the input
+    ∷ (
+      codes ";a=" ++ (34 ∷ 113 ∷ 92 ∷ 34 ∷ 114 ∷ 34 ∷ codes
+          ";b=" ++ (34 ∷ 92 ∷ 97 ∷ 34 ∷ codes ";c=d" ++ (34 ∷ codes "e;f=" ++ (34 ∷ 103 ∷ [])))),
+      (codes "a", 113 ∷ 34 ∷ 114 ∷ []) ∷ (codes "b", codes "a") ∷ (codes "c", 100 ∷ 34 ∷ 101 ∷ [])
+          ∷ (codes "f", codes "g") ∷ [],
+    )
+    -- a parameter whose name is empty or not a token is ignored together with its quoted string
+    ∷ (codes ";=q;" ++ (233 ∷ codes "=" ++ (34 ∷ codes "a;b=c" ++ (34 ∷ codes ";d=e"))), (codes "d", codes "e") ∷ [])
+    ∷ []
 
--- a value cannot have U+007F or U+0100; it can have U+0080 and U+00FF
-edges_of_values : Parses
-    (codes "x/x" ++ (codes ";a=" ++ (127 ∷ codes ";b=" ++ (128 ∷ codes ";c=" ++ (255 ∷ codes ";d=" ++ (256 ∷ []))))))
-    (x_x ((codes "b", 128 ∷ []) ∷ (codes "c", 255 ∷ []) ∷ []))
-unfolding on_literals
-edges_of_values = reads_x _ _ refl refl refl
+-- each text has the record x/x with its parameters
+abbrev AllRead : List (List ℕ × List Pair) → Type 0
+AllRead [] = Unit {0}
+AllRead ((r, pairs) ∷ rows) = Parses (codes "x/x" ++ r) (of (codes "x") (codes "x") pairs) × AllRead rows
 
--- names are lower-cased before they are compared, and the first pair of a name is kept
-repeated_name : Parses (codes "x/x" ++ codes ";a=1;A=2") (x_x ((codes "a", codes "1") ∷ []))
+-- a text of type and subtype x has these parameters
+reads_x : (r : List ℕ) (pairs : List Pair) → BeginsParameters r
+    → trimmed_of is_http_whitespace (codes "x/x" ++ r) ≡ codes "x/x" ++ r → kept_pairs (items_in (length r) r) ≡ pairs
+    → Parses (codes "x/x" ++ r) (of (codes "x") (codes "x") pairs)
 unfolding on_literals
-repeated_name = reads_x _ _ refl refl refl
+reads_x r pairs begins ends are =
+    reads (codes "x/x" ++ r) (codes "x") (codes "x") [] r pairs refl refl refl begins ends are
 
--- the code points after a closing quote are ignored
-junk_after_quote : Parses (codes "x/x" ++ (codes ";a=" ++ (34 ∷ 98 ∷ 34 ∷ 256 ∷ [])))
-    (x_x ((codes "a", codes "b") ∷ []))
+-- each of the texts of type and subtype x has its parameters
+x_records : AllRead x_texts
 unfolding on_literals
-junk_after_quote = reads_x _ _ refl refl refl
-
--- a quoted value is tested as a whole: it can have a semicolon, and U+0100 makes its pair invalid
-code_point_above : Parses (codes "x/x" ++ (codes ";a=" ++ (34 ∷ 98 ∷ 59 ∷ 256 ∷ 34 ∷ []))) (x_x [])
-unfolding on_literals
-code_point_above = reads_x _ _ refl refl refl
-
--- a backslash at the end of the input is part of the value
-last_backslash : Parses (codes "x/x" ++ (codes ";a=" ++ (34 ∷ 92 ∷ []))) (x_x ((codes "a", 92 ∷ []) ∷ []))
-unfolding on_literals
-last_backslash = reads_x _ _ refl refl refl
-
--- escapes, a quote inside a value without quotes, and a quoted string that ends with the input
-abbrev escapes_text : List ℕ
-escapes_text = codes ";a=" ++ (34 ∷ 113 ∷ 92 ∷ 34 ∷ 114 ∷ 34 ∷ codes
-    ";b=" ++ (34 ∷ 92 ∷ 97 ∷ 34 ∷ codes ";c=d" ++ (34 ∷ codes "e;f=" ++ (34 ∷ 103 ∷ []))))
-
-escapes : Parses (codes "x/x" ++ escapes_text) (x_x ((codes "a", 113 ∷ 34 ∷ 114 ∷ []) ∷ (codes "b", codes "a")
-    ∷ (codes "c", 100 ∷ 34 ∷ 101 ∷ []) ∷ (codes "f", codes "g") ∷ []))
-unfolding on_literals
-escapes = reads_x _ _ refl refl refl
-
--- a parameter whose name is empty or not a token is ignored together with its quoted string
-invalid_names : Parses
-    (codes "x/x" ++ (codes ";=q;" ++ (233 ∷ codes "=" ++ (34 ∷ codes "a;b=c" ++ (34 ∷ codes ";d=e")))))
-    (x_x ((codes "d", codes "e") ∷ []))
-unfolding on_literals
-invalid_names = reads_x _ _ refl refl refl
+x_records =
+    let x = λ (r : List ℕ) (pairs : List Pair). reads_x r pairs in (
+      x _ _ refl refl refl,
+      (
+        x _ _ refl refl refl,
+        (
+          x _ _ refl refl refl,
+          (
+            x _ _ refl refl refl,
+            (
+              x _ _ refl refl refl,
+              (x _ _ refl refl refl, (x _ _ refl refl refl, (x _ _ refl refl refl, tt))),
+            ),
+          ),
+        ),
+      ),
+    )
 
 -- Texts without a record
 
+-- the type is empty, or the subtype
 no_type : (s : List ℕ) → type_in (trimmed_of is_http_whitespace s) ≡ [] → HasNoRecord s
 unfolding on_literals
-no_type s e m h = let k =
-    subst (λ t. IsTrue (is_token_text t)) (sym (has_parts s h.type_ h.subtype h.parameters h.head).type_is
-    ∙ e) h.head.is_type in cc
+no_type s e m h = grind (arith, h.head.is_type, has_parts s h.type_ h.subtype h.parameters h.head)
 
 no_subtype : (s : List ℕ) → subtype_in (trimmed_of is_http_whitespace s) ≡ [] → HasNoRecord s
 unfolding on_literals
-no_subtype s e m h = let k =
-    subst (λ t. IsTrue (is_token_text t)) (sym (has_parts s h.type_ h.subtype h.parameters h.head).subtype_is
-    ∙ e) h.head.is_subtype in cc
+no_subtype s e m h = grind (arith, h.head.is_subtype, has_parts s h.type_ h.subtype h.parameters h.head)
 
 -- the text after the subtype does not begin a parameter
 no_parameters : (s : List ℕ) (r : List ℕ) → parameters_in (trimmed_of is_http_whitespace s) ≡ r
@@ -146,29 +138,22 @@ pub empty_text : HasNoRecord []
 unfolding on_literals
 empty_text = no_type [] refl
 
-no_slash : HasNoRecord (codes "a")
+-- no slash, no subtype, no type, and a space in the subtype
+other_texts : HasNoRecord (codes "a") × HasNoRecord (codes "a/") × HasNoRecord (codes "/b")
+    × HasNoRecord (codes "a/b c")
 unfolding on_literals
-no_slash = no_subtype (codes "a") refl
-
-empty_subtype : HasNoRecord (codes "a/")
-unfolding on_literals
-empty_subtype = no_subtype (codes "a/") refl
-
-empty_type : HasNoRecord (codes "/b")
-unfolding on_literals
-empty_type = no_type (codes "/b") refl
-
-space_in_subtype : HasNoRecord (codes "a/b c")
-unfolding on_literals
-space_in_subtype = no_parameters (codes "a/b c") (codes "c") refl (λ (e : ◌≡◌ {A = ℕ} 99 59). let k : eqb 99 59 ≡ true =
-    eq-eqb 99 59 e in cc)
+other_texts = (
+  no_subtype (codes "a") refl,
+  no_subtype (codes "a/") refl,
+  no_type (codes "/b") refl,
+  no_parameters (codes "a/b c") (codes "c") refl (λ (e : ◌≡◌ {A = ℕ} 99 59). let k = eq-eqb 99 59 e in cc),
+)
 
 -- '?' is not a token code point, so a header with a query after its subtype has the default record
 question_mark : IsRecordOf (codes "a/b?c") default_record
 unfolding on_literals
 question_mark = inr (
-  no_parameters (codes "a/b?c") (codes "?c") refl
-      (λ (e : ◌≡◌ {A = ℕ} 63 59). let k : eqb 63 59 ≡ true = eq-eqb 63 59 e in cc),
+  no_parameters (codes "a/b?c") (codes "?c") refl (λ (e : ◌≡◌ {A = ℕ} 63 59). let k = eq-eqb 63 59 e in cc),
   refl,
 )
 
@@ -179,24 +164,26 @@ empty_header = inr (empty_text, refl)
 
 -- Printed texts
 
-printed_default : printed default_record ≡ codes "text/plain;charset=US-ASCII"
-unfolding on_literals
-printed_default = refl
+-- records, each with its text
+abbrev records : List (Record × List ℕ)
+records =
+    (default_record, codes "text/plain;charset=US-ASCII")
+    -- a value that needs quotes, and an empty one
+    ∷ (
+      of (codes "text") (codes "html") ((codes "a", codes "b;c") ∷ (codes "e", []) ∷ []),
+      codes "text/html;a=" ++ (34 ∷ codes "b;c" ++ (34 ∷ codes ";e=" ++ (34 ∷ 34 ∷ []))),
+    )
+    -- '"' and '\' are escaped
+    ∷ (
+      of (codes "x") (codes "x") ((codes "a", codes "q" ++ (34 ∷ codes "r")) ∷ (codes "b", 92 ∷ [])
+          ∷ (codes "f", codes "g") ∷ []),
+      codes "x/x;a=" ++ (34 ∷ 113 ∷ 92 ∷ 34 ∷ 114 ∷ 34 ∷ codes ";b=" ++ (34 ∷ 92 ∷ 92 ∷ 34 ∷ codes ";f=g")),
+    )
+    -- a record that parsing cannot return is printed too
+    ∷ (of (codes "a b") [] (([], 233 ∷ []) ∷ []), codes "a b/;=" ++ (34 ∷ 233 ∷ 34 ∷ []))
+    ∷ []
 
--- a value that needs quotes, and an empty one
-printed_quotes : printed (of (codes "text") (codes "html") ((codes "a", codes "b;c") ∷ (codes "e", []) ∷ []))
-    ≡ codes "text/html;a=" ++ (34 ∷ codes "b;c" ++ (34 ∷ codes ";e=" ++ (34 ∷ 34 ∷ [])))
+-- each record is printed as its text
+texts : map (λ row. printed row.0) records ≡ map (λ row. row.1) records
 unfolding on_literals
-printed_quotes = refl
-
--- '"' and '\' are escaped
-printed_escapes : printed (x_x ((codes "a", 113 ∷ 34 ∷ 114 ∷ []) ∷ (codes "b", 92 ∷ []) ∷ (codes "f", codes "g") ∷ []))
-    ≡ codes "x/x;a=" ++ (34 ∷ 113 ∷ 92 ∷ 34 ∷ 114 ∷ 34 ∷ codes ";b=" ++ (34 ∷ 92 ∷ 92 ∷ 34 ∷ codes ";f=g"))
-unfolding on_literals
-printed_escapes = refl
-
--- a record that parsing cannot return is printed too
-printed_by_hand : printed (of (codes "a b") [] (([], 233 ∷ []) ∷ []))
-    ≡ codes "a b/;=" ++ (34 ∷ 233 ∷ 34 ∷ [])
-unfolding on_literals
-printed_by_hand = refl
+texts = refl

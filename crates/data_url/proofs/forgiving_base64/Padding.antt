@@ -1,22 +1,18 @@
 -- The definitions of base64, read byte by byte: padding, faults and valid texts.
-use Rattle.std.proofs.Common.{◌≡◌, ℕ, suc, zero, ◌+◌, Bool, true, false, not, cond, ◌&&◌, ◌||◌, List, [], ◌∷◌, ◌++◌}
-use Rattle.std.proofs.Common.{length, get_or, replicate, Option, None, Some, refl, ap, sym, ◌∙◌, inl, inr, append_assoc}
-use Rattle.std.proofs.Common.{◌<◌, ◌≤◌, arith, ◌%◌, eqb, length-append, map, is_some, ◌/◌, ◌*◌, drop, length-drop}
-use Rattle.std.proofs.lemmas.List.{length-map, drop-map, append-nil, get_or_at, take_at, length_push, length-replicate}
-use Rattle.std.specs.List.{filter, find, list_any, range_with_len, list_all}
-use Rattle.std.proofs.lemmas.List.Folds.{list_any-append}
-use Rattle.std.proofs.lemmas.Bool.{cases_Bool, false≢true, eqb-true}
-use Rattle.std.proofs.lemmas.Bool.{false_from_ne_true, agree_below_at, and_parts}
-use Rattle.data_url.specs.Base64.{before_place, first_fault, is_fault, is_symbol, is_valid, without_padding}
-use Rattle.data_url.specs.Base64.{without_last_padding, Kind, after_groups, without_whitespace, complete_bytes, groups}
-use Rattle.data_url.specs.Base64.{kind_at, kind_of, values}
+use Rattle.std.{proofs.Common.{List, [], ◌∷◌, ◌++◌}, proofs.lemmas.List.Folds.{list_any-append}}
+use Rattle.std.proofs.Common.{append-nil, take_at, length, get_or, replicate, Option, None, Some, refl, ap, sym, ◌∙◌}
+use Rattle.std.proofs.Common.{inl, inr, append_assoc, pred, ◌<◌, ◌≤◌, arith, ◌%◌, eqb, length-append, map, is_some, ◌/◌}
+use Rattle.std.proofs.Common.{◌*◌, drop, length-drop, ◌≡◌, ℕ, suc, zero, ◌+◌, Bool, true, false, not, cond, ◌&&◌, ◌||◌}
+use Rattle.std.{proofs.Math.Bool.{or-false, or_assoc}, specs.List.{filter, find, list_any, range_with_len, list_all}}
+use Rattle.std.proofs.lemmas.Bool.{cases_Bool, false≢true, eqb-true, false_from_ne_true, agree_below_at, and_parts}
+use Rattle.std.proofs.lemmas.List.{length-map, drop-map, get_or_at, length_push, length-replicate}
+use Rattle.std.specs.Char.{is_ascii_whitespace}
+use Rattle.data_url.specs.Base64.{before_place, first_fault, is_fault, is_symbol, is_valid, without_padding, kind_of}
+use Rattle.data_url.specs.{Base64.{groups}, Facts.{IsFirstFault, IsSymbolsAndPadding, PaddingFits}, Mime.{Every}}
+use Rattle.data_url.specs.Base64.{values, without_last_padding, Kind, after_groups, without_whitespace, complete_bytes}
 use Rattle.data_url.specs.declared.forgiving_base64.InvalidBase64Details.TheVariants.{AlphabetSymbolAfterPadding}
 use Rattle.data_url.specs.declared.forgiving_base64.InvalidBase64Details.TheVariants.{LoneAlphabetSymbol, Padding}
 use Rattle.data_url.specs.declared.forgiving_base64.InvalidBase64Details.TheVariants.{UnexpectedSymbol}
-use Rattle.data_url.specs.Mime.{Every}
-use Rattle.std.proofs.Math.Bool.{or-false, or_assoc}
-use Rattle.data_url.specs.Facts.{IsFirstFault, IsSymbolsAndPadding, PaddingFits}
-use Rattle.std.specs.Char.{is_ascii_whitespace}
 
 -- A walk over a text that remembers whether it has seen padding
 
@@ -243,16 +239,8 @@ found : (f : ℕ → Bool) (p b : List ℕ) → ((q t : List ℕ) (c : ℕ) → 
 unfolding fault_byte before_fault
 found f p [] h = (refl, refl)
 found f p (c ∷ t) h =
-    grind (
-      arith,
-      found f (p ++ c ∷ []) t (λ q u d e. h q u d (e ∙ append_assoc p (c ∷ []) t)),
-      append_assoc,
-      list_any-append,
-      get_or_at,
-      take_at,
-      append-nil,
-      length_push,
-    )
+    let more = found f (p ++ c ∷ []) t (λ q u d e. h q u d (e ∙ append_assoc p (c ∷ []) t)) in
+    grind (arith, more, append_assoc, list_any-append, get_or_at, take_at, append-nil, length_push)
 
 -- why a text is not valid, from the byte at its fault and the number of its symbols
 abbrev pub kind_by : ℕ → Option ℕ → Kind
@@ -264,24 +252,9 @@ byte_is : (b : List ℕ) → byte_at b (first_fault b) ≡ fault_byte false b
 unfolding first_fault
 byte_is b = (found (is_fault b) [] b (fault_at b)).0
 
--- there is a byte at a place exactly if there is a place
-some_byte : (b : List ℕ) (o : Option ℕ) → is_some o ≡ is_some (byte_at b o)
-some_byte b None = refl
-some_byte b (Some i) = refl
-
--- if there is no byte at a place, there is no place
-none_byte : (b : List ℕ) (o : Option ℕ) → byte_at b o ≡ None → o ≡ None
-none_byte b None e = refl
-none_byte b (Some i) e = absurd (some_not_none _ e)
-
--- the kind at a place follows from the byte at the place and the number of symbols
-kind_byte : (b : List ℕ) (o : Option ℕ) → kind_at b o ≡ kind_by (length (values b)) (byte_at b o)
-kind_byte b None = refl
-kind_byte b (Some i) = refl
-
 -- `first_fault` finds a fault exactly if `fault_byte` does
 pub fault_some : (b : List ℕ) → is_some (first_fault b) ≡ is_some (fault_byte false b)
-fault_some b = some_byte b (first_fault b) ∙ ap is_some (byte_is b)
+fault_some b = grind (arith, byte_is b)
 
 -- if `first_fault` finds no fault, `fault_byte` finds none
 pub fault_none : (b : List ℕ) → first_fault b ≡ None → fault_byte false b ≡ None
@@ -289,12 +262,12 @@ fault_none b e = sym (byte_is b) ∙ ap (byte_at b) e
 
 -- if `fault_byte` finds no fault, `first_fault` finds none
 pub none_fault : (b : List ℕ) → fault_byte false b ≡ None → first_fault b ≡ None
-none_fault b e = none_byte b (first_fault b) (byte_is b ∙ e)
+none_fault b e = grind (arith, byte_is b)
 
 -- the kind of a text, from the number of its symbols and the byte at its fault
 pub kind_is : (b : List ℕ) → kind_of b ≡ kind_by (length (values b)) (fault_byte false b)
 unfolding kind_of
-kind_is b = grind (arith, kind_byte, byte_is)
+kind_is b = grind (arith, byte_is b)
 
 -- the complete bytes are those of the groups before the fault
 pub done_is : (b : List ℕ) → complete_bytes b ≡ groups (values (before_fault false b))
@@ -323,14 +296,9 @@ fits_with r (suc zero) = eqb r 3
 fits_with r (suc (suc zero)) = eqb r 2
 fits_with r (suc (suc (suc p))) = false
 
--- one less than a number, and zero for zero
-abbrev one_less : ℕ → ℕ
-one_less zero = zero
-one_less (suc n) = n
-
 -- one '=' less stands at the end of symbols and padding, if one stood there
 last_pad : (q : List ℕ) (p : ℕ) → Every is_symbol q → without_last_padding (q ++ replicate p 61) ≡ q ++ replicate
-    (one_less p) 61
+    (pred p) 61
 unfolding without_last_padding
 last_pad [] zero h = refl
 last_pad [] (suc zero) h = refl
@@ -345,14 +313,11 @@ list_all_text [] zero h = refl
 list_all_text [] (suc n) h = grind arith
 list_all_text (a ∷ t) p h = grind (arith, list_all_text t p h.1)
 
--- whether k symbols and p times '=', of which up to two are removed if k + p is a multiple of four, pass the last steps
-abbrev passes : ℕ → ℕ → Bool
-passes k p = cond (eqb ((k + p) % 4) 0)
-    (not (eqb ((k + one_less (one_less p)) % 4) 1) && eqb (one_less (one_less p)) 0)
-    (not (eqb ((k + p) % 4) 1) && eqb p 0)
-
--- they pass exactly if p times '=' fit k symbols
-passes_fit : (k p : ℕ) → passes k p ≡ fits_with (k % 4) p
+-- k symbols and p times '=', of which up to two are removed if k + p is a multiple of four, pass the last steps exactly
+-- if p times '=' fit k symbols
+passes_fit : (k p : ℕ) → cond (eqb ((k + p) % 4) 0)
+    (not (eqb ((k + pred (pred p)) % 4) 1) && eqb (pred (pred p)) 0) (not (eqb ((k + p) % 4) 1) && eqb p 0)
+    ≡ fits_with (k % 4) p
 passes_fit k zero = grind arith
 passes_fit k (suc zero) = grind arith
 passes_fit k (suc (suc zero)) = grind arith
@@ -383,13 +348,8 @@ every_list_all (c ∷ t) h = let k = and_parts (is_symbol c) (list_all is_symbol
 last_none : (b : List ℕ) (s : Bool) → fault_byte s (without_last_padding b) ≡ None → fault_byte s b ≡ None
 unfolding fault_byte without_last_padding
 last_none [] s h = refl
-last_none (a ∷ []) s h = elim (cases_Bool (is_pad a)) [
-  | inl e ↦ rw (eqb-true a 61 e) (fault_pads 1 s)
-  | inr e ↦ cc (e, h)
-]
-last_none (a ∷ b ∷ t) s h =
-    let k = passed (is_bad s a) a _ h in
-    cc (k.0, last_none (b ∷ t) (s || is_pad a) k.1)
+last_none (a ∷ []) s h = grind (arith, eqb-true, fault_pads 1 s)
+last_none (a ∷ b ∷ t) s h = let k = passed (is_bad s a) a _ h in cc (k.0, last_none (b ∷ t) (s || is_pad a) k.1)
 
 -- if a text without its padding has no fault, neither has the text
 unpadded_none : (s : List ℕ) → fault_byte false (without_padding s) ≡ None → fault_byte false s ≡ None

@@ -1,24 +1,21 @@
 -- Blocks of 64 symbols in vectors. For `blocks.rt` and `lanes.rt`.
-use Rattle.std.proofs.Common.{drop-drop, ◌≡◌, ℕ, ◌<◌, ltb, true, cond, eqb, get_or, refl, sym, ◌∙◌, arith, suc, zero}
-use Rattle.std.proofs.Common.{◌+◌, ◌*◌}
-use Rattle.std.proofs.Common.{◌/◌, ◌%◌, ◌^◌, Bool, not, List, [], ◌∷◌, ◌++◌, map, length, take, Fits, w8, ap, ap₂}
-use Rattle.std.proofs.Common.{subst, ◌≤◌, ◌&&◌, drop, bit_or, append_assoc, length-take-le, length-drop, take-add}
+use Rattle.std.proofs.Common.{List, [], ◌∷◌, ◌++◌, map, lit<, drop-drop, ◌≡◌, ℕ, ◌<◌, ltb, true, cond, eqb, get_or}
+use Rattle.std.{proofs.Common.{append_assoc, length-take-le}, proofs.lemmas.List.Folds.{list_all-append}}
+use Rattle.std.proofs.Common.{length, take, Fits, w8, ap, length-drop, take-add, ◌+◌, ◌*◌, ◌/◌, ◌%◌, ◌^◌, Bool, not}
+use Rattle.std.proofs.Common.{refl, sym, ◌∙◌, arith, suc, zero, ext_get_or, take_all, subst, ◌≤◌, ◌&&◌, drop, bit_or}
+use Rattle.std.{proofs.Math.Bool.{and-true, and_assoc}, specs.List.{range_with_len, list_all}}
 use Rattle.std.proofs.lemmas.Bool.{agree_below_at, cond-true, eqb-true, ltb-true, cases_eq, ne_eqb}
+use Rattle.std.proofs.lemmas.List.{get_or-map, length-map, map-append, nil_from_length}
+use Rattle.std.{proofs.lemmas.Nat.{and_le_r, and_le_l, or_lt}, proofs.lemmas.Simd.{SwzOk-from_below, get_or_narrower}}
+use Rattle.std.proofs.lemmas.Simd.{bitmask_splat, chunk-fits, mask_l-lt, zip2_of_maps, Each1-get_or, SwzOk}
+use Rattle.std.proofs.lemmas.Simd.{length-zip2, map-map, get_or-swz_l_below, length-swz_l, pick_l_whole, swz_l}
 use Rattle.std.specs.Char.{is_ascii_whitespace as std_whitespace, is_ascii_whitespace}
 use Rattle.data_url.specs.Base64.{is_symbol, symbol_value, group_bytes, group_number, groups, after_groups}
-use Rattle.data_url.specs.declared.forgiving_base64.alphabet.TheConstants.{NO_SYMBOL, VALUES}
-use Rattle.std.specs.List.{range_with_len, list_all}
-use Rattle.std.proofs.lemmas.List.{ext_get_or, get_or-map, length-map, map-append, take_all, nil_from_length}
-use Rattle.std.proofs.lemmas.Nat.{and_le_r, and_le_l, or_lt}
-use Rattle.std.proofs.lemmas.Simd.{Each1-get_or, SwzOk, SwzOk-from_below, get_or_narrower, get_or-swz_l_below}
-use Rattle.std.proofs.lemmas.Simd.{length-swz_l, pick_l_whole, swz_l, bitmask_splat, chunk-fits}
-use Rattle.std.proofs.lemmas.Simd.{length-zip2, map-map, mask_l-lt, zip2_of_maps}
-use lib.Lanes.{Each1, digits_l, fold_l, number_l, pair_sums, pick_l, products, sel_l, zip2, mask_l, top}
-use Rattle.std.proofs.Math.Bool.{and-true, and_assoc}
 use Rattle.data_url.specs.Steps.Lanes.{mark_of, numbers, value_of}
-use Rattle.std.proofs.lemmas.List.Folds.{list_all-append}
-use lib.Bits.{or_add_and}
+use Rattle.data_url.specs.declared.forgiving_base64.alphabet.TheConstants.{NO_SYMBOL, VALUES}
 use Rattle.data_url.proofs.forgiving_base64.Padding.{groups-append, length-after_groups}
+use lib.Bits.{or_add_and}
+use lib.Lanes.{Each1, digits_l, fold_l, number_l, pair_sums, pick_l, products, sel_l, zip2, mask_l, top}
 
 -- The table of symbols is the alphabet.
 
@@ -72,9 +69,7 @@ below_at (x ∷ v) (suc i) h = below_at v i h.1
 -- if indices below 16 are computed from bytes, all of them are below 16
 places_low : (g : ℕ → ℕ) (v js : List ℕ) → js ≡ map g v → ((x : ℕ) → x < 256 → g x < 16) → Each1 (Fits w8) v
     → Each1 (λ j. j < 16) js
-places_low g v js e small fits =
-    let P : List ℕ → Type 0 = λ l. Each1 (λ j. j < 16) l in
-    subst P (sym e) (each_map (Fits w8) (λ j. j < 16) g (λ x h. small x h.fits) v fits)
+places_low g v js e small fits = rw e (each_map (Fits w8) (λ j. j < 16) g (λ x h. small x h.fits) v fits)
 
 -- if indices below 16 are computed from bytes, the swizzle's precondition is satisfied
 pub places_ok : (g : ℕ → ℕ) (v js : List ℕ) → length v ≡ 16 → js ≡ map g v → ((x : ℕ) → x < 256 → g x < 16)
@@ -85,12 +80,11 @@ places_ok g v js long e small fits = SwzOk-from_below w8 16 1 16 0 js refl (omeg
 -- for 16 indices below 16, a swizzle looks up the item at each index
 pub looked_at : (t js : List ℕ) → length js ≡ 16 → Each1 (λ j. j < 16) js
     → swz_l w8 16 t 0 js ≡ map (λ j. get_or t j 0) js
-looked_at t js long small = ext_get_or 0 _ _ (length-swz_l w8 16 t 0 js
-    ∙ sym (length-map js (λ j. get_or t j 0))) (λ i h.
-    let lt : i < 16 = omega (arith, length-swz_l w8 16 t 0 js) in
-    let below = Each1-get_or (λ j. j < 16) js i 0 (omega arith) small in
-    let place : 16 * ((0 + i) / 16) + get_or js i 0 ≡ get_or js i 0 = omega arith in
-    cc (get_or-swz_l_below w8 16 t 0 js i (omega arith) below, get_or-map (λ j. get_or t j 0) js i 0 0 (omega arith)))
+looked_at t js long small =
+    let size = length-swz_l w8 16 t 0 js in
+    ext_get_or 0 _ _ (size ∙ sym (length-map js (λ j. get_or t j 0))) (λ i h.
+    let below = Each1-get_or (λ j. j < 16) js i 0 in
+    grind (arith, get_or-swz_l_below w8 16 t 0 js i, get_or-map (λ j. get_or t j 0) js i 0 0))
 
 -- if indices below 16 are computed from bytes, a swizzle looks up the entry of each byte at its index
 pub looked_up : (t : List ℕ) (g : ℕ → ℕ) (v js : List ℕ) → length v ≡ 16 → Each1 (Fits w8) v → js ≡ map g v
@@ -102,9 +96,9 @@ looked_up t g v js whole fits e small = grind (arith, looked_at, length-map, pla
 -- `value_of` is the value of a symbol
 pub value_is : (b : ℕ) → b < 256 → is_symbol b ≡ true → value_of b ≡ symbol_value b
 value_is b l s =
-    let same = agree_below_at (λ b. cond (is_symbol b) (eqb (value_of b) (symbol_value b)) true)
-    (λ b. true) 256 b refl l in
-    eqb-true (value_of b) (symbol_value b) (sym (ap (λ t. cond t (eqb (value_of b) (symbol_value b)) true) s) ∙ same)
+    let agrees = λ (b : ℕ). cond (is_symbol b) (eqb (value_of b) (symbol_value b)) true in
+    let same = agree_below_at agrees (λ b. true) 256 b refl l in
+    grind (arith, eqb-true (value_of b) (symbol_value b))
 
 -- all values are below 64
 pub values_below : (v : List ℕ) → Each1 (λ x. x < 64) (map value_of v)
@@ -170,15 +164,10 @@ packed_row f h =
     (omega (arith, l 0), (omega (arith, l 4), (omega (arith, l 8), (omega (arith, l 12), tt)))) in
     let e = λ (j i : ℕ) (a : i < 4) (b : 4 * j + i < 16). get_or_narrower 4294967296 4 256 16 (numbers (row f)) j i refl
     fit a b in
-    group_same (group_number (f 0) (f 1) (f 2) (f 3)) (l 0) (e 0 2 (omega arith) (omega arith))
-    (e 0 1 (omega arith) (omega arith)) (e 0 0 (omega arith) (omega arith))
-    (group_same (group_number (f 4) (f 5) (f 6) (f 7)) (l 4) (e 1 2 (omega arith) (omega arith))
-    (e 1 1 (omega arith) (omega arith)) (e 1 0 (omega arith) (omega arith))
-    (group_same (group_number (f 8) (f 9) (f 10) (f 11)) (l 8) (e 2 2 (omega arith) (omega arith))
-    (e 2 1 (omega arith) (omega arith)) (e 2 0 (omega arith) (omega arith))
-    (group_same (group_number (f 12) (f 13) (f 14) (f 15)) (l 12) (e 3 2 (omega arith) (omega arith))
-    (e 3 1 (omega arith) (omega arith)) (e 3 0 (omega arith) (omega arith))
-    refl)))
+    group_same _ (l 0) (e 0 2 (lit< tt) (lit< tt)) (e 0 1 (lit< tt) (lit< tt)) (e 0 0 (lit< tt) (lit< tt))
+    (group_same _ (l 4) (e 1 2 (lit< tt) (lit< tt)) (e 1 1 (lit< tt) (lit< tt)) (e 1 0 (lit< tt) (lit< tt))
+    (group_same _ (l 8) (e 2 2 (lit< tt) (lit< tt)) (e 2 1 (lit< tt) (lit< tt)) (e 2 0 (lit< tt) (lit< tt))
+    (group_same _ (l 12) (e 3 2 (lit< tt) (lit< tt)) (e 3 1 (lit< tt) (lit< tt)) (e 3 0 (lit< tt) (lit< tt)) refl)))
 
 -- the bytes that are packed from the numbers of 16 values are those of their groups
 pub packed_is : (v ns : List ℕ) → length v ≡ 16 → Each1 (λ x. x < 64) v → ns ≡ numbers v → packed ns ≡ groups v
@@ -210,13 +199,10 @@ pub others_is : (v marks : List ℕ) → length v ≡ 16 → Each1 (Fits w8) v �
     (zip2 (λ a b. cond (differs a b) 255 0) marks
     (0 ∷ 0 ∷ 0 ∷ 0 ∷ 0 ∷ 0 ∷ 0 ∷ 0 ∷ 0 ∷ 0 ∷ 0 ∷ 0 ∷ 0 ∷ 0 ∷ 0 ∷ 0 ∷ []))) % 2 ^ 64 ≡ mask_l (map is_other v)
 others_is v marks long fits e =
-    cc (
-      bitmask_splat w8 differs marks 16 0 (ap length e ∙ length-map v mark_of ∙ long) (omega arith),
-      map-map
-          (λ x. differs x 0) mark_of v,
-      map_agree (λ x. differs (mark_of x) 0) is_other
-          (λ b l. agree_below_at (λ b. differs (mark_of b) 0) is_other 256 b refl l) v fits,
-    )
+    let agree = λ (b : ℕ) (l : b < 256). agree_below_at (λ b. differs (mark_of b) 0) is_other 256 b refl l in
+    let same = map_agree (λ x. differs (mark_of x) 0) is_other agree v fits in
+    let size = ap length e ∙ length-map v mark_of ∙ long in
+    cc (bitmask_splat w8 differs marks 16 0 size (omega arith), map-map (λ x. differs x 0) mark_of v)
 
 -- Rows of a text
 
@@ -228,10 +214,7 @@ row_length text at h = grind (arith, length-take-le, length-drop)
 pub split_block : (text : List ℕ)
     → take 64 text ≡ take 16
     (drop 0 text) ++ (take 16 (drop 16 text) ++ (take 16 (drop 32 text) ++ take 16 (drop 48 text)))
-split_block text = take-add 48 16 text ∙ ap (λ x. x ++ take 16 (drop 48 text)) (take-add 32 16 text)
-    ∙ ap (λ x. (x ++ take 16 (drop 32 text)) ++ take 16 (drop 48 text)) (take-add 16 16 text)
-    ∙ append_assoc (take 16 text ++ take 16 (drop 16 text)) (take 16 (drop 32 text)) (take 16 (drop 48 text))
-    ∙ append_assoc (take 16 text) (take 16 (drop 16 text)) (take 16 (drop 32 text) ++ take 16 (drop 48 text))
+split_block text = grind (arith, take-add 48 16 text, take-add 32 16 text, take-add 16 16 text, append_assoc)
 
 -- The mask of a row
 
@@ -259,12 +242,8 @@ pub next_group : (v : List ℕ) (g : ℕ) → length v ≡ 16 → g < 4 → othe
     → (list_all is_symbol (take (4 * (g + 1)) v) ≡ true)
     × (others_mask (drop (4 * g) v) / 16 ≡ others_mask (drop (4 * (g + 1)) v))
 next_group v g long few zeros all =
-    let p = group_mask (drop (4 * g) v) (omega (arith, length-drop (4 * g) v)) zeros in
-    let next : 4 * (g + 1) ≡ 4 * g + 4 = omega arith in
-    rw next (
-      cc (take-add (4 * g) 4 v, list_all-append is_symbol (take (4 * g) v) (take 4 (drop (4 * g) v)), all, p.0),
-      cc (p.1, drop-drop 4 (4 * g) v),
-    )
+    let e = take-add (4 * g) 4 v in
+    grind (arith, group_mask (drop (4 * g) v), length-drop (4 * g) v, list_all-append, drop-drop 4 (4 * g) v)
 
 -- No mark in four rows
 
@@ -311,8 +290,8 @@ marks_lt = each_map (Fits w8) (λ x. x < 256) mark_of
 -- the marks of all bytes of a list are zero exactly if all bytes are symbols
 all_unmarked : (v : List ℕ) → Each1 (Fits w8) v → list_all unmarked (map mark_of v) ≡ list_all is_symbol v
 all_unmarked [] h = refl
-all_unmarked (b ∷ v) h = ap₂ (λ s t. s && t) (agree_below_at (λ b. unmarked (mark_of b)) is_symbol 256 b refl h.0.fits)
-    (all_unmarked v h.1)
+all_unmarked (b ∷ v) h =
+    grind (arith, agree_below_at (λ b. unmarked (mark_of b)) is_symbol 256 b refl h.0.fits, all_unmarked v h.1)
 
 -- the bitwise or of the marks of bytes is zero exactly if all bytes are symbols
 pub are_symbols_is : (v marks : List ℕ) → Each1 (Fits w8) v → marks ≡ map mark_of v
@@ -347,9 +326,9 @@ pub whole_is : (text m0 m1 m2 m3 r0 r1 r2 r3 : List ℕ) → 64 ≤ length text 
 whole_is text m0 m1 m2 m3 r0 r1 r2 r3 long fits a b c d p q r s =
     let size = row_length text in
     let fit = λ (at : ℕ). chunk-fits w8 at 16 text fits in
-    let whole = marks_whole (take 16 (drop 0 text)) (take 16 (drop 16 text)) (take 16 (drop 32 text))
-    (take 16 (drop 48 text)) (size 0 (omega arith)) (size 16 (omega arith)) (size 32 (omega arith))
-    (size 48 (omega arith)) (fit 0) (fit 16) (fit 32) (fit 48) in
+    let row = λ (at : ℕ). take 16 (drop at text) in
+    let whole = marks_whole (row 0) (row 16) (row 32) (row 48) (size 0 (omega arith)) (size 16 (omega arith))
+    (size 32 (omega arith)) (size 48 (omega arith)) (fit 0) (fit 16) (fit 32) (fit 48) in
     cc (a, b, c, d, p, q, r, s, split_block text, whole)
 
 -- Sixteen groups
@@ -377,19 +356,11 @@ values_of_rows : (text : List ℕ) → 64 ≤ length text → groups (map value_
     ≡ groups (map value_of (take 16 (drop 0 text))) ++ (groups (map value_of (take 16 (drop 16 text))) ++ (groups
     (map value_of (take 16 (drop 32 text))) ++ groups (map value_of (take 16 (drop 48 text)))))
 values_of_rows text long =
-    let w = take 16 (drop 0 text) in
-    let x = take 16 (drop 16 text) in
-    let y = take 16 (drop 32 text) in
-    let z = take 16 (drop 48 text) in
-    cc (
-      split_block text,
-      map-append value_of w (x ++ (y ++ z)),
-      map-append value_of x (y ++ z),
-      map-append value_of y z,
-      groups_of_rows (map value_of w) (map value_of x) (map value_of y) (map value_of z) (length-map w value_of
-          ∙ row_length text 0 (omega arith)) (length-map x value_of ∙ row_length text 16 (omega arith))
-          (length-map y value_of ∙ row_length text 32 (omega arith)),
-    )
+    let row = λ (at : ℕ). take 16 (drop at text) in
+    let size = λ (at : ℕ) (l : at + 16 ≤ length text). length-map (row at) value_of ∙ row_length text at l in
+    let all = groups_of_rows (map value_of (row 0)) (map value_of (row 16)) (map value_of (row 32))
+    (map value_of (row 48)) (size 0 (omega arith)) (size 16 (omega arith)) (size 32 (omega arith)) in
+    rw (split_block text, map-append, map-append, map-append) all
 
 -- rows that were put one after another
 pub put_three : (b1 b2 b3 x y z : List ℕ) → take 16 b1 ≡ x → take (16 + 16) b2 ≡ take 16 b1 ++ y

@@ -1,26 +1,21 @@
 -- The scheme, and the first comma of a text. For `after_scheme` and `split_at_comma`.
-use Rattle.data_url.specs.Steps.Header.{header_text}
-use Rattle.data_url.proofs.texts.Bytes.{after-dropped_none, without_tabs_and_newlines-append, dropped_around}
-use Rattle.data_url.proofs.texts.Bytes.{dropped_keeps, dropped_nil, dropped_passes, before_all, before_at, after_none}
-use Rattle.data_url.proofs.texts.Bytes.{after_nil, after_other}
-use Rattle.data_url.proofs.percent.Encoding.{kept_whole, ascii_all, Plain}
-use Rattle.std.proofs.Common.{◌≡◌, ◌≢◌, ℕ, ◌+◌, ◌<◌, Bool, true, false, List, ◌∷◌, ◌++◌, length, get_or, take, drop}
-use Rattle.std.proofs.Common.{map, nat_eq, subst, length-append, codes, refl, sym, ap, ◌∙◌, ⊎_elim, arith, ◌-◌, Option}
-use Rattle.std.proofs.Common.{None, Some, position, ap₂, ◌⊎◌, eqb-true, append-nil, not, []}
-use Rattle.std.specs.Char.{to_ascii_lowercase}
-use Rattle.std.specs.Str.{IsCharBoundary, IsUtf8}
+use Rattle.std.proofs.Common.{None, Some, position, ap₂, ◌⊎◌, eqb-true, append-nil, not, [], get_or-take, length-take}
+use Rattle.std.proofs.Common.{codes, refl, sym, ap, ◌∙◌, ⊎_elim, arith, ◌-◌, Option, ◌≡◌, ◌≢◌, ℕ, ◌+◌, ◌<◌, Bool, true}
+use Rattle.std.proofs.Common.{false, List, ◌∷◌, ◌++◌, length, get_or, take, drop}
+use Rattle.std.proofs.Common.{get_or-drop, length-drop, take-append-drop, take_all, map, nat_eq, subst, length-append}
 use Rattle.std.proofs.lemmas.Bool.{cases_lt, cond-true, lt-ltb, or_cases, or_parts}
-use Rattle.std.proofs.lemmas.List.{get_or_at, take_more, get_or-take, length-map, length-take, map-append}
-use Rattle.std.proofs.lemmas.List.{take-append-le, take-map, drop_more, get_or-drop, length-drop, take-append-drop}
-use Rattle.std.proofs.lemmas.List.{take_all, take_rest}
-use Rattle.std.proofs.lemmas.Slice.Eq.{bytes_eq-Decides, starts_is}
-use Rattle.std.specs.List.{starts_with, prefix_len}
-use Rattle.std.proofs.lemmas.Str.{IsCharBoundary-after_ascii, IsCharBoundary-from_take, IsUtf8-from_ascii}
-use Rattle.data_url.specs.Url.{without_tabs_and_newlines, is_tab_or_newline, after, front}
-use Rattle.data_url.specs.Steps.Front.{HasNoScheme, IsSchemeAndRest, IsHeaderAndTail, ends_header, is_plain_path}
 use Rattle.std.proofs.lemmas.List.Sums.{prefix_len_passes, prefix_len-le-length, prefix_len_stops}
-use Rattle.data_url.proofs.texts.CodePoints.{front_further, front_passes}
+use Rattle.std.proofs.lemmas.List.{get_or_at, take_more, length-map, map-append, take-append-le, take-map, drop_more}
+use Rattle.std.{proofs.lemmas.List.{take_rest}, specs.Char.{to_ascii_lowercase}, specs.Str.{IsCharBoundary, IsUtf8}}
+use Rattle.std.{proofs.lemmas.Slice.Eq.{bytes_eq-Decides, starts_is}, specs.List.{starts_with, prefix_len}}
+use Rattle.std.proofs.lemmas.Str.{IsCharBoundary-after_ascii, IsCharBoundary-from_take, IsUtf8-from_ascii}
 use Rattle.data_url.specs.Mime.{Every}
+use Rattle.data_url.specs.Steps.Front.{HasNoScheme, IsSchemeAndRest, IsHeaderAndTail, ends_header, is_plain_path}
+use Rattle.data_url.specs.{Steps.Header.{header_text}, Url.{without_tabs_and_newlines, is_tab_or_newline, after, front}}
+use Rattle.data_url.proofs.{percent.Encoding.{kept_whole, ascii_all, Plain}, texts.Bytes.{before_at, after_none}}
+use Rattle.data_url.proofs.texts.Bytes.{after_nil, after_other, after-dropped_none, without_tabs_and_newlines-append}
+use Rattle.data_url.proofs.texts.Bytes.{dropped_around, dropped_keeps, dropped_nil, dropped_passes, before_all}
+use Rattle.data_url.proofs.texts.CodePoints.{front_further, front_passes}
 
 -- the scheme, in lower case
 abbrev scheme : List ℕ
@@ -47,15 +42,8 @@ one_more : (text : List ℕ) (place n : ℕ) → place < length text → Spells 
     → to_ascii_lowercase (get_or text place 0) ≡ get_or scheme n 0
     → map to_ascii_lowercase (without_tabs_and_newlines (take (place + 1) text)) ≡ take (n + 1) scheme
 one_more text place n l h e same =
-    grind (
-      arith,
-      take_more text place 0,
-      without_tabs_and_newlines-append,
-      dropped_keeps,
-      dropped_nil,
-      map-append,
-      take_more scheme n 0,
-    )
+    let more = take_more text place 0 l in
+    grind (arith, without_tabs_and_newlines-append, dropped_keeps, dropped_nil, map-append, take_more scheme n 0)
 
 -- with that byte, one byte more of the scheme is spelled
 pub spells_more : (text : List ℕ) (place n : ℕ) → place < length text → Spells (take place text) n
@@ -82,13 +70,8 @@ spelled_length s n h = grind (arith, length-map, length-take)
 -- a text that spells only a part of the scheme does not begin with the scheme
 pub ends_early : (s : List ℕ) (n : ℕ) → Spells s n → HasNoScheme s
 ends_early s n h =
-    grind (
-      arith,
-      bytes_eq-Decides (map to_ascii_lowercase (take 5 (without_tabs_and_newlines s))) scheme,
-      length-map (take 5 (without_tabs_and_newlines s)) to_ascii_lowercase,
-      length-take 5 (without_tabs_and_newlines s),
-      spelled_length s n h,
-    )
+    let low = map to_ascii_lowercase (take 5 (without_tabs_and_newlines s)) in
+    grind (arith, bytes_eq-Decides low scheme, length-map, length-take, spelled_length s n h)
 
 -- if a byte follows that is neither a tab or newline nor the next byte of the scheme, the text does not begin with the
 -- scheme
@@ -99,18 +82,15 @@ differs text place n l h e ne =
     let s = without_tabs_and_newlines (take place text) in
     let b = get_or text place 0 in
     let rest = without_tabs_and_newlines (drop (place + 1) text) in
-    let size = spelled_length (take place text) n h in
     let low = map to_ascii_lowercase s in
     let all : without_tabs_and_newlines text ≡ s ++ b ∷ rest =
     ap without_tabs_and_newlines (cut_at text place l) ∙ dropped_around b e (take place text) (drop (place + 1) text) in
-    grind (
-      arith,
-      bytes_eq-Decides (map to_ascii_lowercase (take 5 (without_tabs_and_newlines text))) scheme,
-      take-map to_ascii_lowercase 5 (without_tabs_and_newlines text),
-      map-append to_ascii_lowercase s (b ∷ rest),
-      get_or-take 5 (low ++ to_ascii_lowercase b ∷ map to_ascii_lowercase rest) n 0 h.open_at,
-      get_or_at low (to_ascii_lowercase b) (map to_ascii_lowercase rest) 0 n (length-map s to_ascii_lowercase ∙ size),
-    )
+    let size = length-map s to_ascii_lowercase ∙ spelled_length (take place text) n h in
+    let at = get_or_at low (to_ascii_lowercase b) (map to_ascii_lowercase rest) 0 n size in
+    let there = get_or-take 5 (low ++ to_ascii_lowercase b ∷ map to_ascii_lowercase rest) n 0 h.open_at in
+    let test = bytes_eq-Decides (map to_ascii_lowercase (take 5 (without_tabs_and_newlines text))) scheme in
+    let lower = take-map to_ascii_lowercase 5 (without_tabs_and_newlines text) in
+    grind (arith, map-append to_ascii_lowercase s (b ∷ rest))
 
 -- the scheme stays as it is in lower case and without tabs and newlines
 common_spelled : map to_ascii_lowercase (without_tabs_and_newlines scheme) ≡ scheme
@@ -120,8 +100,7 @@ common_spelled = refl
 -- a UTF-8 text that begins with "data:" can be cut after it
 pub common_boundary : (text : List ℕ) → IsUtf8 text → starts_with nat_eq text scheme ≡ true → IsCharBoundary text 5
 common_boundary text u h =
-    let e : text ≡ scheme ++ drop 5 text = grind (arith, starts_is) in
-    grind (arith, take-append-le, length-append, IsCharBoundary-from_take, IsUtf8-from_ascii, ascii_all)
+    grind (arith, starts_is, take-append-le, length-append, IsCharBoundary-from_take, IsUtf8-from_ascii, ascii_all)
 
 -- a text that begins with "data:" has the scheme, and its rest is the text from the sixth byte on
 pub common_scheme : (text rest : List ℕ) → starts_with nat_eq text scheme ≡ true → rest ≡ drop 5 text
@@ -158,11 +137,6 @@ pub at_hash : (s : List ℕ) (n : ℕ) → IsFrontEnd s n → get_or s n 0 ≡ 3
 unfolding front
 at_hash s n f h = cc (cut_at s n f.within, before_at 35 (take n s) (drop (n + 1) s) f.no_hash)
 
--- if n is the length of the longest prefix of plain path bytes, each of the first n bytes is `Plain`
-plain_front : (s items : List ℕ) (n : ℕ) → items ≡ s → n ≡ prefix_len is_plain_path items
-    → ((i : ℕ) → get_or s i 0 < 256) → (k : ℕ) → k < n → Plain (get_or s k 0)
-plain_front s items n e f h k l = grind (arith, prefix_len_passes)
-
 -- if the first ',' or '#' after the n plain bytes at the front is at index k of the bytes after them, the first one of
 -- the text is at n + k
 pub front_end_at : (s items : List ℕ) (n k : ℕ) (r : Option ℕ) → items ≡ s → n ≡ prefix_len is_plain_path items
@@ -187,15 +161,8 @@ pub plain_before : (s items header : List ℕ) (n k : ℕ) → items ≡ s → n
     → header_text (without_tabs_and_newlines header) ≡ header
 unfolding header_text
 plain_before s items header n k e f h is same =
-    let plain = plain_front s items n e f h in grind (
-      arith,
-      after-dropped_none,
-      after_none,
-      before_all,
-      kept_whole,
-      length-take,
-      get_or-take,
-    )
+    let plain : (k : ℕ) → k < n → Plain (get_or s k 0) = λ k l. grind (arith, prefix_len_passes) in
+    grind (arith, after-dropped_none, after_none, before_all, kept_whole, length-take, get_or-take)
 
 -- one byte more of the scheme
 pub ruleset steps = (spells_passed, spells_all, spells_more)

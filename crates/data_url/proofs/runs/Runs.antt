@@ -1,12 +1,8 @@
 -- Runs of a closure, one after another.
-use Rattle.std.proofs.Common.{◌≡◌, ℕ, List, [], ◌∷◌, ◌++◌, Option, None, Some, is_some, Result, Ok, Err, refl, ap, sym}
-use Rattle.std.proofs.Common.{◌∙◌, append_assoc, subst, true, inl, inr, ◌⊎◌, arith}
-use Rattle.std.proofs.lemmas.List.{append-nil}
-use Rattle.std.specs.Prelude.{IsErr, MatchOption}
-use Rattle.std.proofs.lemmas.Bool.{false≢true, true≢false}
+use Rattle.std.proofs.Common.{List, [], ◌∷◌, ◌++◌, Option, None, Some, is_some, Result, Ok, Err, refl, ap, sym}
+use Rattle.std.proofs.Common.{◌∙◌, append_assoc, true, inl, inr, ◌⊎◌, arith, append-nil, IsErr, MatchOption, ◌≡◌, ℕ}
+use Rattle.std.{proofs.lemmas.Bool.{false≢true, true≢false}, specs.Option.{option_or}, specs.Result.{result_err}}
 use Rattle.data_url.specs.Run.{Call, IsPrefix, IsRun, joined_pieces, refusal}
-use Rattle.std.specs.Option.{option_or}
-use Rattle.std.specs.Result.{result_err}
 use Rattle.data_url.proofs.forgiving_base64.Padding.{some_not_none}
 
 -- if the error of a result, or else o, is `None`, the result is not an error
@@ -23,13 +19,10 @@ module _ {F E : Type 0} (step : F → List ℕ → Result (Unit {0}) E → F →
   -- a run from f to g without an error, and then a run from g to h, are together a run from f to h
   pub run-append : (xs ys : List (Call F E)) (f g h : F) → IsRun step f xs g → refusal xs ≡ None → IsRun step g ys h
       → IsRun step f (xs ++ ys) h
-  run-append [] ys f g h x n y = let P : F → Type 0 = λ s. IsRun step s ys h in subst P (sym x) y
-  run-append (c ∷ cs) ys f g h x n y = (
-    x.0,
-    λ e. absurd (ok_is_no_error c.answer (refusal cs) n e),
-    run-append cs ys c.after g h x.2
-        (later_none c.answer (refusal cs) n) y,
-  )
+  run-append [] ys f g h x n y = rw x y
+  run-append (c ∷ cs) ys f g h x n y =
+      let more = run-append cs ys c.after g h x.2 (later_none c.answer (refusal cs) n) y in
+      (x.0, λ e. absurd (ok_is_no_error c.answer (refusal cs) n e), more)
 
 -- if xs ends without an error, the error that ends xs ++ ys is the one that ends ys
 pub refusal-append : {F E : Type 0} (xs ys : List (Call F E)) → refusal xs ≡ None → refusal (xs ++ ys) ≡ refusal ys
@@ -80,7 +73,7 @@ match_map (Some x) P P' Q Q' f g h = g x h
 -- a match on an option implies the same match on an equal option
 pub match_at : {A : Type 0} (o o' : Option A) (P : Type 0) (Q : A → Type 0) → o' ≡ o → MatchOption o P Q
     → MatchOption o' P Q
-match_at {A = A} o o' P Q e h = let M : Option A → Type 0 = λ z. MatchOption z P Q in subst M (sym e) h
+match_at o o' P Q e h = rw e h
 
 -- the empty text is a prefix of each text
 pub prefix_none : (xs : List ℕ) → IsPrefix [] xs

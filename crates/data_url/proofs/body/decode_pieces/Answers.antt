@@ -1,5 +1,4 @@
-use Rattle.std.proofs.Common.{arith, Err, Ok, [], refl}
-use Rattle.std.proofs.lemmas.Result.{err_from_is_err_and}
+use Rattle.std.{proofs.Common.{arith, Err, Ok, [], refl}, proofs.lemmas.Result.{err_from_is_err_and}}
 use Rattle.std.specs.Fn.{CalledAt}
 use Rattle.data_url.proofs.body.Decoding.{going_front, going_more, going_none, took_refused, takes_next}
 use Rattle.data_url.proofs.body.decode_pieces.Goals.{else-not-is_empty, then-not-is_empty+in_ok-take}

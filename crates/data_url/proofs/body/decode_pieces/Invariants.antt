@@ -1,6 +1,5 @@
 -- The closure was called with the body up to the place of the walk.
-use Rattle.std.proofs.Common.{◌-◌, Ok, length}
-use Rattle.std.specs.Fn.{CalledAt}
+use Rattle.std.{proofs.Common.{◌-◌, Ok, length}, specs.Fn.{CalledAt}}
 use Rattle.data_url.proofs.body.Decoding.{Going}
 use Rattle.data_url.proofs.body.decode_pieces.Given as goal
 

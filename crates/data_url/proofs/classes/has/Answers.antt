@@ -1,11 +1,9 @@
 use Rattle.std.proofs.Common.{arith, not, refl}
 use Rattle.data_url.specs.CodePoints.{is_http_whitespace, is_token}
-use Rattle.data_url.specs.Steps.Front.{is_plain_path}
-use Rattle.data_url.specs.Steps.Parsing.{is_escaped, is_quotable_byte, is_unquoted_byte}
-use Rattle.data_url.proofs.classes.Rows.{entry_is}
-use Rattle.data_url.proofs.classes.has.Goals as goal
+use Rattle.data_url.specs.{Steps.Front.{is_plain_path}, Steps.Parsing.{is_escaped, is_quotable_byte, is_unquoted_byte}}
+use Rattle.data_url.proofs.{classes.Rows.{entry_is}, classes.has.Goals.{in-Unescaped}}
 use Rattle.data_url.proofs.classes.has.Goals.{in-Token, in-Quotable, in-Unquoted, in-PlainPath, in-Whitespace}
-use Rattle.data_url.proofs.classes.has.Goals.{in-Unescaped}
+use Rattle.data_url.proofs.classes.has.Goals as goal
 
 pub returns : goal.returns
 unfolding is_token is_quotable_byte

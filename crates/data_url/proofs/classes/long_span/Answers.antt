@@ -1,12 +1,9 @@
-use Rattle.std.proofs.Common.{◌≡◌, ◌<◌, ℕ, arith, false, not, refl, true}
-use Rattle.std.proofs.lemmas.List.{take_rest}
+use Rattle.std.{proofs.Common.{◌≡◌, ◌<◌, ℕ, arith, false, not, refl, true}, proofs.lemmas.List.{take_rest}}
 use Rattle.data_url.specs.Steps.Classes.{in_class, is_marked}
-use Rattle.data_url.specs.Steps.Front.{is_plain_path}
-use Rattle.data_url.specs.Steps.Parsing.{is_escaped, is_quotable_byte, is_unquoted_byte}
-use Rattle.data_url.proofs.classes.Rows.{all_marked, unmarked_passes}
-use Rattle.data_url.proofs.texts.CodePoints.{front_further}
-use Rattle.data_url.proofs.classes.long_span.Goals as goal
+use Rattle.data_url.specs.{Steps.Front.{is_plain_path}, Steps.Parsing.{is_escaped, is_quotable_byte, is_unquoted_byte}}
+use Rattle.data_url.proofs.{classes.Rows.{all_marked, unmarked_passes}, texts.CodePoints.{front_further}}
 use Rattle.data_url.proofs.classes.long_span.Goals.{in-Quotable, in-Unquoted, in-PlainPath, in-Unescaped, in_default}
+use Rattle.data_url.proofs.classes.long_span.Goals as goal
 
 -- a byte that the bits of the class do not mark is in the class
 unmarked : (c : goal.After-span) (b : ℕ) → b < 256 → is_marked c.match-class.others b ≡ false

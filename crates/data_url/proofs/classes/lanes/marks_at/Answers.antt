@@ -1,9 +1,7 @@
-use Rattle.std.proofs.Common.{◌/◌, ◌^◌, bit_and, arith, w8}
+use Rattle.std.{proofs.Common.{◌/◌, ◌^◌, bit_and, arith, w8}, proofs.lemmas.Simd.{chunk-fits, zip2_splat}}
 use Rattle.std.proofs.lemmas.Nat.{and_le_r}
-use Rattle.std.proofs.lemmas.Simd.{chunk-fits, zip2_splat}
 use Rattle.data_url.specs.declared.classes.lanes.TheConstants.{COLUMNS}
-use Rattle.data_url.proofs.classes.Rows.{marks_are, row_length}
-use Rattle.data_url.proofs.forgiving_base64.Vectors.{looked_up, places_ok}
+use Rattle.data_url.proofs.{classes.Rows.{marks_are}, forgiving_base64.Vectors.{looked_up, places_ok, row_length}}
 use Rattle.data_url.proofs.classes.lanes.marks_at.Goals as goal
 
 pub swizzle-low : goal.swizzle-low

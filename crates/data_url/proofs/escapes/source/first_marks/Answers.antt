@@ -1,8 +1,7 @@
-use Rattle.std.proofs.Common.{◌∙◌, ap, arith, map, sym}
-use Rattle.std.proofs.lemmas.List.{take_all, take-take}
+use Rattle.std.proofs.Common.{◌∙◌, ap, arith, map, sym, take_all, take-take}
 use Rattle.data_url.specs.Steps.Window.{is_marked}
-use Rattle.data_url.proofs.escapes.source.first_marks.Goals as goal
 use lib.Lanes.{mask_l}
+use Rattle.data_url.proofs.escapes.source.first_marks.Goals as goal
 
 pub returns-then-rest-lt-BLOCK : goal.returns-then-rest-lt-BLOCK
 returns-then-rest-lt-BLOCK c = c.last_marks.ensures

@@ -1,7 +1,6 @@
 -- Some bytes are gathered; either the body ends at the place of the walk, or nothing is known about it.
 use Rattle.std.proofs.Common.{◌≤◌, length}
-use Rattle.data_url.specs.Steps.Walk.{Gathering, Gathers}
-use Rattle.data_url.specs.Pieces.{has_ended, text_of}
+use Rattle.data_url.specs.{Pieces.{has_ended, text_of}, Steps.Walk.{Gathering, Gathers}}
 use Rattle.data_url.proofs.escapes.Walking.{measure}
 use Rattle.data_url.proofs.escapes.cursor.Cursor.gather.Given as goal
 

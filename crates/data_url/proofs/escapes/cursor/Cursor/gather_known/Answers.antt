@@ -1,6 +1,5 @@
 use Rattle.std.proofs.Common.{arith}
-use Rattle.data_url.proofs.escapes.Walking.{gathers_byte}
-use Rattle.data_url.proofs.escapes.Reading.{spells_escape}
+use Rattle.data_url.proofs.{escapes.Reading.{spells_escape}, escapes.Walking.{gathers_byte}}
 use Rattle.data_url.proofs.escapes.cursor.Cursor.gather_known.Goals as goal
 
 pub returns-in-Escape-clause-gathers : goal.returns-in-Escape-clause-gathers

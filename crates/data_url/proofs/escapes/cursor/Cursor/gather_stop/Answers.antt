@@ -1,6 +1,5 @@
-use Rattle.data_url.proofs.escapes.Reading.{spells_escape}
-use Rattle.data_url.proofs.escapes.Walking.{ended_at, gathers_byte, gathers_then}
 use Rattle.std.proofs.Common.{arith, refl}
+use Rattle.data_url.proofs.{escapes.Reading.{spells_escape}, escapes.Walking.{ended_at, gathers_byte, gathers_then}}
 use Rattle.data_url.proofs.escapes.cursor.Cursor.gather_stop.Goals as goal
 
 pub returns-then-dense-clause-gathers : goal.returns-then-dense-clause-gathers

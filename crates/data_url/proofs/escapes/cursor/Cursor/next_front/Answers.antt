@@ -1,16 +1,11 @@
-use Rattle.std.proofs.Common.{ap, drop, ◌∙◌}
-use Rattle.std.specs.List.{slice_range}
-use Rattle.data_url.specs.Fetch.{plain_body}
+use Rattle.std.proofs.Common.{arith, ◌∙◌}
 use Rattle.data_url.proofs.escapes.Walking.{end_knows, front_is, front_knows}
 use Rattle.data_url.proofs.escapes.cursor.Cursor.next_front.Goals.{else-mark-len, then-mark-len}
 use Rattle.data_url.proofs.escapes.cursor.Cursor.next_front.Goals as goal
 
 pub returns-clause-front : goal.returns-clause-front
 returns-clause-front c =
-    let m = c.next_mark-mark.ensures in
-    let mark = c.next_mark-mark.result in
-    front_is m.on.text_stays (ap (λ t. plain_body (drop mark t)) m.on.text_stays) m.mark
-    (c.cut.ensures ∙ ap (λ t. slice_range t 0 mark) m.on.text_stays)
+    let m = c.next_mark-mark.ensures in front_is m.on.text_stays (grind arith) m.mark (grind arith)
 
 pub returns-clause-knows : goal.returns-clause-knows
 returns-clause-knows c =

@@ -9,8 +9,7 @@ loop-from-preserved-in-Stays c =
     let stop = c.in-Stays.ensures.stop in
     let looking = looking_paid {s' = c.stop_at.new.self} m.looking c.stop_at.ensures.text stop.2 in
     let s = searching_percent (searched i.on m.on i.search m.mark) stop.0 stop.1 in
-    let t = rw (m.on.text_stays ∙ i.on.text_stays) at s in
-    grind arith
+    let t = rw (m.on.text_stays ∙ i.on.text_stays) at s in grind arith
 
 pub returns-in-Passed-2-clause-goes : goal.returns-in-Passed-2-clause-goes
 returns-in-Passed-2-clause-goes c =
