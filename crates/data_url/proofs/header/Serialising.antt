@@ -281,8 +281,7 @@ ends_from p (c ∷ d ∷ s) h =
 
 -- a text without its end of C0 controls and spaces does not end with one
 ends_trimmed : (s : List ℕ) → DoesNotEnd is_c0_control_or_space (without_end is_c0_control_or_space s)
-ends_trimmed s = ends_from is_c0_control_or_space (without_end is_c0_control_or_space s)
-    (λ l. grind (arith, suffix_len-le-length, length-take, suffix_stops, get_or-take))
+ends_trimmed s = grind (arith, ends_from, suffix_len-le-length, length-take, suffix_stops, get_or-take)
 
 -- a text that does not end with one, and is not empty, does not end with a space without tabs and newlines, and is not
 -- empty then either
@@ -306,11 +305,7 @@ ends_whole (c ∷ s) h = (ends_dropped c s h).0
 -- what follows the scheme does not end with a space
 pub no_last_space : (t a : List ℕ) → after_scheme t ≡ Some a → DoesNotEnd is_space a
 unfolding after_scheme cleaned_text trimmed_text
-no_last_space t a h =
-    let s = without_end is_c0_control_or_space (without_front is_c0_control_or_space t) in
-    let rest : a ≡ drop 5 (without_tabs_and_newlines s) = grind arith in
-    rw rest (ends_after 5 (without_tabs_and_newlines s)
-    (ends_whole s (ends_trimmed (without_front is_c0_control_or_space t))))
+no_last_space t a h = grind (arith, ends_after, ends_whole, ends_trimmed)
 
 -- an encoded path is the same by both rules, or ends with "%20" by one and with a space by the other
 data Differs (path : List ℕ) : Type 0 where

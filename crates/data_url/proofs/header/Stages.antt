@@ -51,8 +51,7 @@ header_all (b ∷ s) h = grind (arith, header_query, encoded_printable, header_p
 
 -- the serialised text of a header of bytes is printable
 pub header_text_printable : (s : List ℕ) → IsBytes s → IsPrintable (header_text s)
-header_text_printable s h i l =
-    All-from_recursion (λ b. (32 ≤ b) × (b < 127)) (header_text s) (header_all s h) i 0 l
+header_text_printable s h i l = grind (arith, All-from_recursion, header_all)
 
 -- the first n bytes of a printable text are printable
 pub printable_take : (n : ℕ) (s : List ℕ) → IsPrintable s → IsPrintable (take n s)

@@ -122,16 +122,11 @@ first_same : (e e' ps : List Pair) → ((n : List ℕ) → has_name n e ≡ has_
 first_same e e' [] h = refl
 first_same e e' (q ∷ ps) h = grind (arith, has_pushed, first_same (e ++ (q ∷ [])) (e' ++ (q ∷ [])) ps)
 
--- and they have the same names with q pushed
-known_pushed : (n : List ℕ) (e : List Pair) (q : Pair) → has_name q.0 e ≡ true
-    → has_name n (e ++ (q ∷ [])) ≡ has_name n e
-known_pushed n e q h = grind (arith, has_pushed, bytes_eq-Decides)
-
 -- after the pairs that an item adds come the first pairs of each name that are left
 first_step : (pairs : List Pair) (item : Item) (ps : List Pair) → first_of_each_name pairs (valid_of item ++ ps)
     ≡ added_pairs pairs item ++ first_of_each_name (pairs ++ added_pairs pairs item) ps
 first_step pairs (name, None) ps = rw (append-nil pairs) refl
-first_step pairs (name, Some v) ps = grind (arith, first_same, known_pushed, append-nil)
+first_step pairs (name, Some v) ps = grind (arith, first_same, has_pushed, bytes_eq-Decides, append-nil)
 
 -- one of the pairs has a name exactly if one of the first pairs or one of the later pairs has it
 first_or_later : (n : List ℕ) (pairs : List Pair)

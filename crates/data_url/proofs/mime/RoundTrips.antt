@@ -321,15 +321,7 @@ printed_ends m w = rw (← append_assoc m.type_ (47 ∷ m.subtype) (flat_map pri
 -- a well-formed record, printed, has its type, its subtype and its printed parameters as head
 printed_head : (m : Record) → IsWellformed m → IsHead (printed m) m.type_ m.subtype (flat_map printed_pair m.parameters)
 unfolding printed
-printed_head m w =
-    grind (
-      arith,
-      front_is is_http_whitespace [] (printed m) tt (printed_begins m w),
-      end_stays,
-      printed_ends,
-      and_parts,
-      pairs_begin,
-    )
+printed_head m w = grind (arith, front_is, printed_begins, end_stays, printed_ends, and_parts, pairs_begin)
 
 -- a well-formed record, printed, parses to the record
 pub printed_parses : (m : Record) → IsWellformed m → Parses (printed m) m

@@ -202,8 +202,7 @@ quoted_encodes : (e : Bool) (cs : List ℕ)
     → quoted_len e (encode_utf8_all cs) ≡ length (encode_utf8_all (take (quoted_len e cs) cs))
 quoted_encodes e [] = refl
 quoted_encodes true (c ∷ cs) = grind (arith, quoted_char, encode_utf8_all, length-append, quoted_encodes false cs)
-quoted_encodes false (c ∷ cs) =
-    grind (arith, quoted_char, encode_utf8_all, encode, length-append, quoted_encodes (c == 92) cs)
+quoted_encodes false (c ∷ cs) = grind (arith, quoted_char, length-append, quoted_encodes (c == 92) cs)
 
 -- a UTF-8 text is cut at its closing quote where its code points are
 pub cut_quote : (bs : List ℕ) → IsUtf8 bs → IsCutInto bs (quoted_len false bs)

@@ -231,16 +231,12 @@ module _ (p : ℕ → Bool) (steady : IsSteady p) (other : p 128 ≡ false) wher
       rw n (record { boundary = boundary; trimmed = trimmed; without = trimmed_end_is p _ _ trimmed })
 
 -- no C0 control or space is beyond ASCII
-controls_steady : IsSteady is_c0_control_or_space
+pub controls_steady : IsSteady is_c0_control_or_space
 controls_steady c l = grind arith
-
--- a UTF-8 text can be cut after the C0 controls and spaces at its front
-pub controls_front : (bs : List ℕ) → IsUtf8 bs → IsCharBoundary bs (prefix_len is_c0_control_or_space bs)
-controls_front bs u = grind (arith, cut_front, controls_steady)
 
 -- a UTF-8 text can be cut before those at its end
 pub controls_end : (bs : List ℕ) → IsUtf8 bs → IsCharBoundary bs (length bs - suffix_len is_c0_control_or_space bs)
 controls_end bs u = (cut_end is_c0_control_or_space controls_steady refl bs u).boundary
 
 -- what `trim` needs of its cuts
-pub ruleset controls = (controls_front, controls_end, suffix_len-le-length)
+pub ruleset controls = (cut_front, controls_steady, controls_end, suffix_len-le-length)
