@@ -121,6 +121,7 @@ pub(crate) fn serialised_text<'a>(text: &'a Option<String>, header: &'a str) -> 
 }
 
 /// A serialised header without its suffix, and whether it has one, so that the body is base64.
+#[tactic(auto, using(crate::proofs::header::Stages::printable_trimmed))]
 pub(crate) fn split_suffix(header: &str) -> (&str, bool)
     requires { IsPrintable header.now }
     ensures header { (m : Record) → IsRecordFor (with_plain result.0.now) m

@@ -31,7 +31,7 @@ use Rattle.data_url.proofs.runs.Runs.{none_or_some}
 use Rattle.std.proofs.lemmas.Str.{chars-IsAscii}
 use Rattle.data_url.specs.Mime.{HasNoRecord, Parses, Record, default_record, BeginsParameters, IsHead, IsRecordOfParts}
 use Rattle.data_url.proofs.examples.Literals.{on_literals}
-use Rattle.data_url.proofs.mime.FirstNames.{parses_parts, parses_wellformed}
+use Rattle.data_url.proofs.mime.FirstNames.{head_wellformed, parses_parts}
 use Rattle.data_url.specs.DataUrl.{IsAcceptable, IsUrlOf, is_base64, mime_of, url_tail}
 use Rattle.data_url.specs.MimeType.{record_of}
 use Rattle.data_url.specs.declared.DataUrl.{DataUrl}
@@ -274,8 +274,7 @@ suffix_is header s o m p e f h =
 -- the record of the parts of a text is the record for it
 pub parts_for : {s x a b c : List ℕ} (m : Record) → s ≡ x → IsHead s a b c → IsRecordOfParts a b c m → IsRecordFor x m
 parts_for {s} {x} {a} {b} {c} m e h p =
-    let q = subst (λ t. Parses t m) e (parses_parts s a b c m h p) in
-    record { is_record = inl q; wellformed = parses_wellformed x m q }
+    record { is_record = inl (subst (λ t. Parses t m) e (parses_parts s a b c m h p)); wellformed = head_wellformed h p }
 
 -- a text with ';' at index 0 begins with ';'
 pub begins_at : (s : List ℕ) → get_or s 0 0 ≡ 59 → BeginsParameters s

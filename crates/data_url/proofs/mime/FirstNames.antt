@@ -282,9 +282,9 @@ first_distinct : (e ps : List Pair) → has_distinct_names (first_of_each_name e
 first_distinct e [] = refl
 first_distinct e (q ∷ ps) = grind (arith, none_again, has_pushed, bytes_eq-Decides, first_distinct (e ++ (q ∷ [])) ps)
 
--- each record that a text parses to is well-formed
-pub parses_wellformed : (s : List ℕ) (m : Record) → Parses s m → IsWellformed m
-parses_wellformed s m h = grind (arith, lowercase_name, first_all, all_lower, first_distinct, all_quotable)
+-- a record of the parts of a head is well-formed
+pub head_wellformed : {s a b c : List ℕ} {m : Record} → IsHead s a b c → IsRecordOfParts a b c m → IsWellformed m
+head_wellformed h p = grind (arith, lowercase_name, first_all, all_lower, first_distinct, all_quotable)
 
 -- a text that has a head parses to the record of the parts of that head
 pub parses_parts : (s a b c : List ℕ) (m : Record) → IsHead s a b c → IsRecordOfParts a b c m → Parses s m
@@ -300,6 +300,9 @@ has_record s a b c h n =
 -- a text that has no head has no record
 pub no_record : (s : List ℕ) → HasNoHead s → HasNoRecord s
 no_record s n m h = n h.type_ h.subtype h.parameters h.head
+
+-- the lemmas for `Mime::from_str`
+pub ruleset records = (has_record, parses_parts)
 
 -- the lemmas for `read_parameters`
 pub ruleset parameters = (rest_shorter, mark_is, no_chars, keeps_end)
