@@ -16,7 +16,7 @@ use Rattle.std.proofs.lemmas.Slice.Eq.{bytes_eq-Decides}
 use Rattle.data_url.specs.Url.{is_c0_control_or_space, without_end, before, after, without_tabs_and_newlines}
 use Rattle.data_url.specs.Url.{encoded_byte, encoded_path, in_path_set, in_query_set}
 use Rattle.data_url.specs.Url.{is_tab_or_newline, percent_encoding, after_scheme, cleaned_text, serialised}
-use Rattle.data_url.specs.Url.{trimmed_text, with_query, without_front}
+use Rattle.data_url.specs.Url.{trimmed_text, with_query}
 use Rattle.data_url.specs.Fetch.{before_base64, before_semicolon, is_space, before_word, has_base64_suffix}
 use Rattle.data_url.specs.Fetch.{stripped_header, before_comma}
 use Rattle.data_url.specs.Steps.Header.{IsPrintable, HasNoLastSpace, IsPathAndQuery, WithoutSpace, encoded_parts}
@@ -141,8 +141,7 @@ after_mark None = false
 after_mark (Some m) = bytes_eq (last_bytes 1 (63 ∷ without_end is_space m)) (codes ";")
 
 -- if "base64" comes after a '?', whether there is a suffix does not depend on what is before the '?'
-by_word : (x : List ℕ) (o : Option (List ℕ))
-    → is_some (option_and_then (λ m. before_semicolon (without_end is_space m))
+by_word : (x : List ℕ) (o : Option (List ℕ)) → is_some (option_and_then (λ m. before_semicolon (without_end is_space m))
     (option_map (λ m. (x ++ 63 ∷ []) ++ m) o)) ≡ after_mark o
 by_word x None = refl
 by_word x (Some m) = grind (arith, append_assoc, end_after, last_after)
@@ -197,11 +196,9 @@ suffix_passes p s m k e far l =
 -- the byte before the longest suffix that passes does not pass
 pub suffix_stops : (p : ℕ → Bool) (s : List ℕ) (m n : ℕ) → m ≡ suffix_len p s → length s ≡ (n + 1) + m
     → p (get_or s n 0) ≡ false
-suffix_stops p s m n e at =
-    grind (arith, get_or-reverse s m 0, prefix_len_stops p (reverse s) 0, length-reverse s)
+suffix_stops p s m n e at = grind (arith, get_or-reverse s m 0, prefix_len_stops p (reverse s) 0, length-reverse s)
 
--- if byte n is the last byte of a text that is not a tab or newline, the text without these is the first n bytes
--- without these, and then byte n
+-- if only tabs and newlines follow byte n, the text without these is the first n bytes without these, and byte n
 pub dropped_end : (s : List ℕ) (m n : ℕ) → m ≡ suffix_len is_tab_or_newline s → length s ≡ (n + 1) + m
     → without_tabs_and_newlines s ≡ without_tabs_and_newlines (take n s) ++ get_or s n 0 ∷ []
 dropped_end s m n e at =
@@ -245,8 +242,7 @@ unfolding header_text
 parts_whole header path query h end =
     grind (arith, dropped_nil, encoded_nil, after-dropped_none, before_all, append-nil, header_and_query)
 
--- if the path has a last space, and there is a query, the encoded path without that space, "%20", and the encoded query
--- are the serialised header
+-- if a query follows a last space, the path without it, encoded, "%20", and the encoded query are the header
 pub parts_spaced : (header path front query : List ℕ) → IsPathAndQuery header path query → query ≢ []
     → WithoutSpace path front → encoded_parts front (codes "%20") query ≡ header_text (without_tabs_and_newlines header)
 parts_spaced header path front query h there w = grind (arith, append_assoc, path_space, header_and_query)
@@ -283,8 +279,7 @@ ends_from p (c ∷ d ∷ s) h =
 ends_trimmed : (s : List ℕ) → DoesNotEnd is_c0_control_or_space (without_end is_c0_control_or_space s)
 ends_trimmed s = grind (arith, ends_from, suffix_len-le-length, length-take, suffix_stops, get_or-take)
 
--- a text that does not end with one, and is not empty, does not end with a space without tabs and newlines, and is not
--- empty then either
+-- a text that is not empty, and does not end with one, is neither empty nor ends with a space without tabs and newlines
 ends_dropped : (c : ℕ) (s : List ℕ) → DoesNotEnd is_c0_control_or_space (c ∷ s)
     → DoesNotEnd is_space (without_tabs_and_newlines (c ∷ s)) × (without_tabs_and_newlines (c ∷ s) ≢ [])
 ends_dropped c [] h = grind (arith, dropped_keeps, dropped_nil)
@@ -332,8 +327,7 @@ comma_before : (x y rest : List ℕ) → after 44 x ≡ Some rest → before_com
 comma_before x y rest h = grind (arith, is_cut 44 x rest h, append_assoc, after_at, before_at)
 
 -- if the text before a '?' has no comma, the flag does not depend on that text
-flag_after : (u v query : List ℕ) → after 44 u ≡ None → after 44 v ≡ None → (o : Option (List ℕ))
-    → after 44 query ≡ o
+flag_after : (u v query : List ℕ) → after 44 u ≡ None → after 44 v ≡ None → (o : Option (List ℕ)) → after 44 query ≡ o
     → base64_flag (u ++ 63 ∷ query) ≡ base64_flag (v ++ 63 ∷ query)
 flag_after u v query h k None e = grind (arith, after-append, after_other)
 flag_after u v query h k (Some rest) e = grind (arith, same_flag, after-append, before-append, before_other)
@@ -357,8 +351,7 @@ flag_of_path x (Some rest) e = grind (arith, comma_before)
 
 -- with any query, and without one, the flag does not depend on the rule by which the path is encoded
 flag_by : (path : List ℕ) (o : Option (List ℕ)) → Differs path
-    → base64_flag (with_query (encoded_path path) o)
-    ≡ base64_flag (with_query (percent_encoding in_path_set path) o)
+    → base64_flag (with_query (encoded_path path) o) ≡ base64_flag (with_query (percent_encoding in_path_set path) o)
 flag_by path None (same_path e) = ap base64_flag e
 flag_by path (Some query) (same_path e) = grind arith
 flag_by path None (last_space x e f) = grind (arith, flag_of_path)

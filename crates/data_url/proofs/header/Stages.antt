@@ -29,7 +29,7 @@ use Rattle.data_url.proofs.texts.Bytes.{without_tabs_and_newlines-append, droppe
 use Rattle.data_url.proofs.texts.Bytes.{before_all, before_at, dropped_passes, is_cut, lacks}
 use Rattle.data_url.proofs.runs.Runs.{none_or_some}
 use Rattle.std.proofs.lemmas.Str.{chars-IsAscii}
-use Rattle.data_url.specs.Mime.{HasNoRecord, Parses, Record, default_record, BeginsParameters, IsHead, IsRecordOfParts}
+use Rattle.data_url.specs.Mime.{HasNoRecord, Record, default_record, BeginsParameters, IsHead, IsRecordOfParts}
 use Rattle.data_url.proofs.examples.Literals.{on_literals}
 use Rattle.data_url.proofs.mime.FirstNames.{head_wellformed, parses_parts}
 use Rattle.data_url.specs.DataUrl.{IsAcceptable, IsUrlOf, is_base64, mime_of, url_tail}
@@ -82,8 +82,7 @@ is_byte b = b < 256
 
 -- a text of bytes without its first n bytes is a text of bytes
 bytes_drop : (n : ℕ) (s : List ℕ) → IsBytes s → IsBytes (drop n s)
-bytes_drop n s h =
-    recursion_from_All is_byte (drop n s) (All-drop is_byte n s (All-from_recursion is_byte s h))
+bytes_drop n s h = recursion_from_All is_byte (drop n s) (All-drop is_byte n s (All-from_recursion is_byte s h))
 
 -- a text of bytes without tabs and newlines is a text of bytes
 pub bytes_dropped : (s : List ℕ) → IsBytes s → IsBytes (without_tabs_and_newlines s)
@@ -140,9 +139,8 @@ after_is t rest h =
     )
 
 -- a text that is cut at its first comma is so without tabs and newlines
-dropped_parts : {rest header tail : List ℕ} → IsHeaderAndTail rest header tail
-    → IsHeaderAndTail (without_tabs_and_newlines rest) (without_tabs_and_newlines header)
-    (without_tabs_and_newlines tail)
+dropped_parts : {rest header tail : List ℕ} → IsHeaderAndTail rest header tail → IsHeaderAndTail
+    (without_tabs_and_newlines rest) (without_tabs_and_newlines header) (without_tabs_and_newlines tail)
 dropped_parts {rest} {header} {tail} h = search (arith, dropped_around, after-dropped_none)
 
 -- the fragment of a text that is cut at its first comma is that of its tail
@@ -218,8 +216,7 @@ no_header t a e b h =
     cc (front_of t a e)
 
 -- if a text has no comma before its first '#', neither has the text without tabs and newlines
-front_lacks : (rest : List ℕ) → after 44 (front rest) ≡ None → after 44 (front (without_tabs_and_newlines rest))
-    ≡ None
+front_lacks : (rest : List ℕ) → after 44 (front rest) ≡ None → after 44 (front (without_tabs_and_newlines rest)) ≡ None
 unfolding front
 front_lacks rest h = elim (none_or_some (after 35 rest)) [
   | inl e ↦ grind (arith, before_all, after-dropped_none)
@@ -237,13 +234,9 @@ unfolding on_literals
 default_for s m n e = grind arith
 
 -- the record of "text", "plain", and the parameter "charset" with the value "US-ASCII" is the default record
-pub default_is : (type_ subtype charset value : List ℕ) → type_ ≡ codes "text" → subtype ≡ codes "plain"
-    → charset ≡ codes "charset" → value ≡ codes "US-ASCII"
-    → ◌≡◌ {A = Record} (record {
-      type_ = chars type_;
-      subtype = chars subtype;
-      parameters = (chars charset, chars value) ∷ [];
-    }) default_record
+pub default_is : (type_ subtype charset value : List ℕ) → type_ ≡ codes "text" → subtype ≡ codes "plain" → charset
+    ≡ codes "charset" → value ≡ codes "US-ASCII" → ◌≡◌ {A = Record} (record
+    { type_ = chars type_; subtype = chars subtype; parameters = (chars charset, chars value) ∷ [] }) default_record
 unfolding chars
 default_is type_ subtype charset value a b c d = grind arith
 
@@ -262,8 +255,7 @@ pub plain_added : (media : List ℕ) → IsPrintable media → get_or media 0 0 
 plain_added [] p h = absurd (omega (arith, h))
 plain_added (c ∷ s) p h = grind (arith, chars_printable (c ∷ s) p)
 
--- if s is a printable header without C0 controls and spaces at both ends, and o is the text before its base64 suffix,
--- the record for `with_plain` of o, or of s if there is none, is the record of the header; the flag is that of o
+-- if s is a printable header, trimmed, and o is the text before its suffix, the record of o, or of s, is the header's
 pub suffix_is : (header s : List ℕ) (o : Option (List ℕ)) (m : Record) → IsPrintable header → s ≡ trimmed_text header
     → o ≡ before_base64 s → IsRecordFor (with_plain (unwrap_or o s)) m → IsHeaderOf header m (is_some o)
 unfolding mime_text media_of has_base64_suffix
@@ -274,7 +266,7 @@ suffix_is header s o m p e f h =
 -- the record of the parts of a text is the record for it
 pub parts_for : {s x a b c : List ℕ} (m : Record) → s ≡ x → IsHead s a b c → IsRecordOfParts a b c m → IsRecordFor x m
 parts_for {s} {x} {a} {b} {c} m e h p =
-    record { is_record = inl (subst (λ t. Parses t m) e (parses_parts s a b c m h p)); wellformed = head_wellformed h p }
+    record { is_record = inl (rw (← e) (parses_parts s a b c m h p)); wellformed = head_wellformed h p }
 
 -- a text with ';' at index 0 begins with ';'
 pub begins_at : (s : List ℕ) → get_or s 0 0 ≡ 59 → BeginsParameters s
@@ -290,8 +282,7 @@ stages_no_scheme t h = rw h refl
 pub rest_bytes : (t rest : List ℕ) → IsBytes (trimmed_text t) → IsSchemeAndRest (trimmed_text t) rest → IsBytes rest
 rest_bytes t rest b s = subst IsBytes (drop-append_seam s.scheme rest) (bytes_drop _ _ (subst IsBytes s.joined b))
 
--- if the trimmed text has the scheme, and there is no comma in the rest before its first '#', the Standard finds no
--- comma
+-- if the trimmed text has the scheme, and its rest no comma before its first '#', the Standard finds no comma
 pub stages_no_comma : (t rest : List ℕ) → IsBytes (trimmed_text t) → IsSchemeAndRest (trimmed_text t) rest
     → after 44 (front rest) ≡ None → staged t ≡ NoComma
 unfolding staged
@@ -299,13 +290,11 @@ stages_no_comma t rest b s h =
     let a = after_is t rest s in
     cc (a, no_header t _ a (bytes_dropped rest (rest_bytes t rest b s)) (front_lacks rest h))
 
--- if the trimmed text is the scheme, a header, the first comma, and a tail, the Standard accepts it; the MIME type is
--- that of the header, and the body and the fragment are those of the tail
-pub stages_accepted : (t rest header tail : List ℕ) → IsBytes (trimmed_text t) → IsSchemeAndRest (trimmed_text t) rest
-    → IsHeaderAndTail rest header tail → (flag : Bool)
-    → flag ≡ has_base64_suffix (header_text (without_tabs_and_newlines header))
-    → staged t ≡ Accepted (mime_text (header_text (without_tabs_and_newlines header))) (outcome flag (plain_body tail))
-    (option_map (percent_encoding in_fragment_set) (fragment (without_tabs_and_newlines tail)))
+-- the Standard accepts the scheme, a header, the first comma, and a tail, with their MIME type, body and fragment
+pub stages_accepted : (t rest header tail : List ℕ) → IsBytes (trimmed_text t) → IsSchemeAndRest (trimmed_text t) rest →
+    IsHeaderAndTail rest header tail → (flag : Bool) → flag ≡ has_base64_suffix (header_text (without_tabs_and_newlines
+    header)) → staged t ≡ Accepted (mime_text (header_text (without_tabs_and_newlines header))) (outcome flag
+    (plain_body tail)) (option_map (percent_encoding in_fragment_set) (fragment (without_tabs_and_newlines tail)))
 unfolding staged plain_body
 stages_accepted t rest header tail b s h flag f =
     let a = is_accepted t rest header tail (rest_bytes t rest b s) s h in
@@ -314,13 +303,10 @@ stages_accepted t rest header tail b s h flag f =
 -- if the trimmed text is the scheme, a header, the first comma, and a tail, the Standard accepts it
 pub is_acceptable : (t rest header tail : List ℕ) → IsBytes (trimmed_text t) → IsSchemeAndRest (trimmed_text t) rest
     → IsHeaderAndTail rest header tail → IsAcceptable (staged t)
-is_acceptable t rest header tail b s h =
-    subst IsAcceptable (sym
-    (stages_accepted t rest header tail b s h (has_base64_suffix (header_text (without_tabs_and_newlines header)))
-    refl)) tt
+is_acceptable t rest header tail b s h = subst IsAcceptable (sym (stages_accepted t rest header tail b s h
+    (has_base64_suffix (header_text (without_tabs_and_newlines header))) refl)) tt
 
--- if the trimmed text is the scheme, a header, the first comma, and the tail of u, and the record and the flag of u are
--- those of the header, then u is the URL of the text
+-- u is the URL of the scheme, a header, the first comma, and its tail, if its record and flag are those of the header
 pub is_url_of : (t rest header : List ℕ) (u : DataUrl) → IsBytes (trimmed_text t)
     → IsSchemeAndRest (trimmed_text t) rest → IsHeaderAndTail rest header (url_tail u)
     → IsHeaderOf (header_text (without_tabs_and_newlines header)) (record_of (mime_of u)) (is_base64 u) → IsUrlOf t u

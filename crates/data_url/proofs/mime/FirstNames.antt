@@ -104,16 +104,14 @@ module _ {kept : KeptParameters} {all : List (String Global × String Global)} (
       grind (arith, lower_is_itself, bytes_of_ascii, token_text_ascii, IsUtf8-string_bytes)
 
   -- one of the pairs from there on has a token text in lower case if the key is this text, or a later one has it
-  pub key_next : (n : List ℕ) (r : Bool) → IsUtf8 n → is_token_text (chars n) ≡ true
-      → Decides r (map to_ascii_lowercase key ≡ map to_ascii_lowercase n)
-      → has_name (map to_ascii_lowercase (chars n)) (map (λ p. pair_of p) (drop i (take k all)))
-      ≡ (r || has_name (map to_ascii_lowercase (chars n)) (map (λ p. pair_of p) (drop (i + 1) (take k all))))
+  pub key_next : (n : List ℕ) (r : Bool) → IsUtf8 n → is_token_text (chars n) ≡ true → Decides r (map to_ascii_lowercase
+      key ≡ map to_ascii_lowercase n) → has_name (map to_ascii_lowercase (chars n)) (map (λ p. pair_of p) (drop i (take
+      k all))) ≡ (r || has_name (map to_ascii_lowercase (chars n)) (map (λ p. pair_of p) (drop (i + 1) (take k all))))
   key_next n r u t d =
       grind (arith, bytes_of_ascii, token_text_ascii, drop-cons, key_is, add-one, same_from_decides, bytes_eq-Decides)
 
 -- one of the pairs has a name after p is pushed exactly if one had it before, or p has it
-has_pushed : (n : List ℕ) (xs : List Pair) (p : Pair)
-    → has_name n (xs ++ (p ∷ [])) ≡ (has_name n xs || bytes_eq p.0 n)
+has_pushed : (n : List ℕ) (xs : List Pair) (p : Pair) → has_name n (xs ++ (p ∷ [])) ≡ (has_name n xs || bytes_eq p.0 n)
 has_pushed n xs p = grind (arith, list_any-append {X = Pair})
 
 -- the first pairs of each name depend on the names of the earlier pairs alone
@@ -195,10 +193,9 @@ pub few_names : (n : List ℕ) (pairs : List Pair) → length pairs ≤ LOOKED_T
 few_names n pairs l = ap (has_name n) (drop_of_length-le pairs l)
 
 -- if a new pair comes after the first pairs, and its name is put into the set, the set has the names of the later pairs
-pub later_names : {A : Type 0} (later later' : BTreeSet (String A)) (pairs : List Pair) (p : Pair) (name : String A)
-    → LOOKED_THROUGH ≤ length pairs → HasLaterNames later pairs → string_bytes name ≡ p.0
-    → UpdatesBy string_cmp (λ k. slice_cmp nat_cmp (string_bytes name) (string_bytes k)) later later' true
-    → HasLaterNames later' (pairs ++ (p ∷ []))
+pub later_names : {A : Type 0} (later later' : BTreeSet (String A)) (pairs : List Pair) (p : Pair) (name : String A) →
+    LOOKED_THROUGH ≤ length pairs → HasLaterNames later pairs → string_bytes name ≡ p.0 → UpdatesBy string_cmp (λ k.
+    slice_cmp nat_cmp (string_bytes name) (string_bytes k)) later later' true → HasLaterNames later' (pairs ++ (p ∷ []))
 later_names later later' pairs p name l h e u n =
     let choice : cond (bytes_eq (string_bytes name) n) true (contains_text later n)
     ≡ (contains_text later n || bytes_eq (string_bytes name) n) = grind arith in
@@ -246,11 +243,10 @@ module _ {old : KeptParameters} (name value : String Global) (x : IsIndexed old)
       not_pushed f = none_added old.pairs.items _ (cond-true _ _ _ (not-false _ (sym set_knows ∙ f)))
 
       -- if its name is put into the set, the pair is added
-      pub pushed_later : (kept : KeptParameters) → b ≡ true → LOOKED_THROUGH ≤ length old.pairs.items
-          → kept.pairs.items ≡ old.pairs.items ++ ((name, value) ∷ [])
-          → UpdatesBy string_cmp (λ k. slice_cmp nat_cmp (string_bytes copy)
-          (string_bytes k)) old.later_names kept.later_names true
-          → (pairs_of kept ≡ pairs_of old ++ unless_named (pairs_of old) (pair_of (name, value) ∷ [])) × IsIndexed kept
+      pub pushed_later : (kept : KeptParameters) → b ≡ true → LOOKED_THROUGH ≤ length old.pairs.items → kept.pairs.items
+          ≡ old.pairs.items ++ ((name, value) ∷ []) → UpdatesBy string_cmp (λ k. slice_cmp nat_cmp (string_bytes copy)
+          (string_bytes k)) old.later_names kept.later_names true → (pairs_of kept ≡ pairs_of old ++ unless_named
+          (pairs_of old) (pair_of (name, value) ∷ [])) × IsIndexed kept
       pushed_later kept t l e u =
           let len = length-map old.pairs.items (λ q. pair_of q) in
           pushes kept (not-true _ (sym set_knows ∙ t)) e (later_names old.later_names kept.later_names (pairs_of old)

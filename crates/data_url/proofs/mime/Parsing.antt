@@ -69,8 +69,7 @@ value_if (c ∷ v) = grind arith
 module _ {text bytes : List ℕ} {q more : ℕ} (u : IsUtf8 text) (e : bytes ≡ text)
     (f : q ≡ prefix_len is_unquoted_byte bytes) (g : more ≡ prefix_len in_value (take (length bytes - q)
     (drop q bytes))) where
-  -- the longest prefix without ';' is the longest one of unquoted bytes, and then the longest one without ';' of the
-  -- rest
+  -- the longest prefix without ';' is the longest one of unquoted bytes, and then that without ';' of the rest
   front_len : q + more ≡ prefix_len in_value text
   front_len = grind (arith, take_rest, front_further, prefix_len-le-length, prefix_len_passes)
 
@@ -122,8 +121,7 @@ unescaped_quotable false (c ∷ s) = grind (arith, unescaped_quotable false s, u
 -- the value of a quoted string is quotable exactly if the longest prefix of quotable bytes is the whole text
 pub quotable_by : (bs : List ℕ) → IsUtf8 bs
     → list_all is_quotable (unescaped false (chars bs)) ≡ (prefix_len is_quotable_byte bs == length bs)
-quotable_by bs u =
-    cc (unescaped_quotable false (chars bs), quotable_chars bs u, whole_front is_quotable_byte bs)
+quotable_by bs u = cc (unescaped_quotable false (chars bs), quotable_chars bs u, whole_front is_quotable_byte bs)
 
 -- if a class is steady, and each byte of a UTF-8 text passes, so does each of its code points
 pub whole_passes : (p : ℕ → Bool) → IsSteady p → (bs bytes : List ℕ) (n : ℕ) → IsUtf8 bs → bytes ≡ bs
@@ -167,9 +165,8 @@ module _ (r r' v : List ℕ) {c : ℕ} {e : Bool} {whole : List ℕ} (u : IsUtf8
   unescape_pushes v' w g k = grind (arith, chars_past_char, cons_from_encodes, chars_push, append_assoc)
 
 -- if nothing is left, a '\' that would escape the next code point is a part of the value
-pub unescape_ends : (r v : List ℕ) {e : Bool} {whole : List ℕ} → length r ≡ 0
-    → chars v ++ unescaped e (chars r) ≡ whole → (e ≡ false → chars v ≡ whole)
-    × ((v' : List ℕ) → IsUtf8 v → e ≡ true → v' ≡ v ++ encode 92 → chars v' ≡ whole)
+pub unescape_ends : (r v : List ℕ) {e : Bool} {whole : List ℕ} → length r ≡ 0 → chars v ++ unescaped e (chars r) ≡ whole
+    → (e ≡ false → chars v ≡ whole) × ((v' : List ℕ) → IsUtf8 v → e ≡ true → v' ≡ v ++ encode 92 → chars v' ≡ whole)
 unescape_ends r v l h = grind (arith, append-nil, no_chars, chars_push)
 
 -- the lemmas for `read_plain`
@@ -264,18 +261,16 @@ module _ {s t a x : List ℕ} (first : IsTokens t a x) (e : t ≡ trimmed_of is_
       }
 
 -- the pair that is read
-pair_by : (s name : List ℕ) {r : Reading} (value : Option (List ℕ)) → r ≡ reading_in s
-    → name ≡ front_of in_name (named s) → value ≡ quotable_value r.value
-    → pair_if (map to_ascii_lowercase name) value ≡ valid_of (item_in s)
+pair_by : (s name : List ℕ) {r : Reading} (value : Option (List ℕ)) → r ≡ reading_in s → name ≡ front_of in_name
+    (named s) → value ≡ quotable_value r.value → pair_if (map to_ascii_lowercase name) value ≡ valid_of (item_in s)
 pair_by s name value e n v = grind arith
 
 -- the pair and the rest that are read from a text that is cut after a name
-pub parameter_by : (s : List ℕ) {t bytes front after : List ℕ} {n : ℕ} {o : Option (List ℕ)} → IsUtf8 t
-    → n ≡ prefix_len in_name bytes → bytes ≡ t → front ≡ take n t → after ≡ drop n t → chars t ≡ named s
-    → after_mark 61 (chars after) ≡ o → (value : Option (List ℕ))
-    → value ≡ quotable_value (reading (chars after) o).value
-    → (pair_if (map to_ascii_lowercase (chars front)) value ≡ valid_of (item_in s))
-    × ((reading (chars after) o).rest ≡ (reading_in s).rest)
+pub parameter_by : (s : List ℕ) {t bytes front after : List ℕ} {n : ℕ} {o : Option (List ℕ)} → IsUtf8 t → n
+    ≡ prefix_len in_name bytes → bytes ≡ t → front ≡ take n t → after ≡ drop n t → chars t ≡ named s
+    → after_mark 61 (chars after) ≡ o → (value : Option (List ℕ)) → value
+    ≡ quotable_value (reading (chars after) o).value → (pair_if (map to_ascii_lowercase (chars front)) value
+    ≡ valid_of (item_in s)) × ((reading (chars after) o).rest ≡ (reading_in s).rest)
 parameter_by s {front = front} {after = after} {o = o} u e f g h k m value v =
     let cut = cut_by names_steady u e f g h in
     let by : reading (chars after) o ≡ reading_in s = cc in
@@ -291,8 +286,7 @@ pub ends_after : (p : ℕ → _) (c : ℕ) (t : List ℕ) → p c ≡ false → 
 ends_after p c [] n h = n
 ends_after p c (d ∷ t) n h = h
 
--- if s is empty or begins with ';', "text/plain" ++ s has the type "text", the subtype "plain" and, as the text of its
--- parameters, s without HTTP whitespace at its end
+-- if s is empty or begins with ';', the parts of "text/plain" ++ s are "text", "plain" and s without its whitespace end
 pub plain_head_is : (s t : List ℕ) → BeginsParameters s → IsTrimmedEnd is_http_whitespace s t
     → IsHead (codes "text/plain" ++ s) (chars (codes "text")) (chars (codes "plain")) t
 unfolding on_literals chars

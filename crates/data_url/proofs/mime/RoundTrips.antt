@@ -34,12 +34,10 @@ use Rattle.data_url.proofs.mime.Items.{not_begins_append, has_at_most_one_record
 use Rattle.data_url.proofs.mime.FirstNames.{lower_is_itself, test_from_different}
 use Rattle.data_url.proofs.mime.Parsing.{ends_after, unescaped_steady, whole_passes}
 
--- if the bytes so far and the escaped code points of r are the whole, they still are after the first code point of r is
--- escaped and moved to them
-pub escaped_more : (r r' done whole : List ℕ) (c : ℕ) → IsUtf8 r → r ≡ encode_utf8 c ++ r'
-    → done ++ encode_utf8_all (flat_map escaped_code_point (chars r)) ≡ whole
-    → (done ++ encode_utf8_all (escaped_code_point c)) ++ encode_utf8_all (flat_map escaped_code_point (chars r'))
-    ≡ whole
+-- moving the first code point of r, escaped, to the bytes so far preserves that these and the escaped r are the whole
+pub escaped_more : (r r' done whole : List ℕ) (c : ℕ) → IsUtf8 r → r ≡ encode_utf8 c ++ r' → done
+    ++ encode_utf8_all (flat_map escaped_code_point (chars r)) ≡ whole → (done
+    ++ encode_utf8_all (escaped_code_point c)) ++ encode_utf8_all (flat_map escaped_code_point (chars r')) ≡ whole
 escaped_more r r' done whole c u e h = grind (arith, append_assoc, chars_past_char)
 
 -- if nothing is left to be escaped, the bytes so far are the whole
@@ -58,15 +56,13 @@ pub plain_text : (v : List ℕ) → IsUtf8 v → Without is_escaped (chars v)
 plain_text v u h = grind (arith, encodes-chars, encode_utf8_all, plain_chars)
 
 -- a value that is not a token text is printed as its escaped code points in quotes
-pub quoted_value_text : (v : List ℕ) (b : Bool) → b ≡ is_token_text (chars v) → b ≡ false
-    → ((34 ∷ []) ++ encode_utf8_all (flat_map escaped_code_point (chars v))) ++ (34 ∷ [])
-    ≡ encode_utf8_all (printed_value (chars v))
+pub quoted_value_text : (v : List ℕ) (b : Bool) → b ≡ is_token_text (chars v) → b ≡ false → ((34 ∷ [])
+    ++ encode_utf8_all (flat_map escaped_code_point (chars v))) ++ (34 ∷ []) ≡ encode_utf8_all (printed_value (chars v))
 quoted_value_text v b e h = grind (arith, encode_ascii, encodes-append)
 
 -- ';', the name, '=', and the printed value are the UTF-8 of the printed pair
-pub parameter_text : (name value : List ℕ) → IsUtf8 name
-    → (((59 ∷ []) ++ name) ++ (61 ∷ [])) ++ encode_utf8_all (printed_value (chars value))
-    ≡ encode_utf8_all (printed_pair (chars name, chars value))
+pub parameter_text : (name value : List ℕ) → IsUtf8 name → (((59 ∷ []) ++ name) ++ (61 ∷ []))
+    ++ encode_utf8_all (printed_value (chars value)) ≡ encode_utf8_all (printed_pair (chars name, chars value))
 parameter_text name value u = grind (arith, encode_ascii, append_assoc, encodes-chars, encodes-append)
 
 -- the bytes of a `String` are the UTF-8 of its code points
@@ -77,8 +73,7 @@ text_bytes s = sym (encodes-chars (string_bytes s) (IsUtf8-string_bytes s))
 abbrev pub pairs_text : {A B : Type 0} → List (String A × String B) → List ℕ
 pairs_text pairs = encode_utf8_all (flat_map printed_pair (map (λ p. pair_of p) pairs))
 
--- if the bytes that a line holds and the text a are UTF-8, m holds both, and m.len is at most 128, then the bytes of m
--- fit and are UTF-8
+-- if what a line holds and the text a are UTF-8, and m holds both in at most 128 bytes, they fit and are UTF-8
 pub held_more : (l m : Line) (a : List ℕ) → IsUtf8 (held l) → IsUtf8 a → held m ≡ held l ++ a → m.len ≤ 128 → IsHeld m
 held_more l m a u w e h = record { fits = h; text = subst IsUtf8 (sym e) (IsUtf8-append (held l) a u w) }
 
@@ -101,8 +96,8 @@ module _ {W : Type 0} {took : W → List ℕ → W → Type 0} {f : Formatter W}
   adds_held e = record { written = []; wrote = has_written_styled_nil _ _; joined = grind arith }
 
   -- so it is if the buffer is written first
-  pub adds_after : {g : Formatter W} (m : Line) {n : Line} {a : List ℕ} → (IsFlush f → HasWrittenStyled took f (held l) g)
-      → m.len ≡ 0 → held n ≡ held m ++ a → Adds took f l a g n
+  pub adds_after : {g : Formatter W} (m : Line) {n : Line} {a : List ℕ}
+      → (IsFlush f → HasWrittenStyled took f (held l) g) → m.len ≡ 0 → held n ≡ held m ++ a → Adds took f l a g n
   adds_after m x z e = record { written = held l; wrote = x; joined = grind arith }
 
   -- a text that is written after the buffer is added
@@ -123,8 +118,8 @@ pub record Prints {W : Type 0} (took : W → List ℕ → W → Type 0) (start :
 
 module _ {W : Type 0} {took : W → List ℕ → W → Type 0} {f g : Formatter W} {l : Line} where
   -- after the type, '/', and the subtype, the printed pairs are left
-  pub prints_starts : (r : Mime) (a b : List ℕ) {m : Line} → l.len ≡ 0 → a ≡ string_bytes r.type_ → b ≡ string_bytes r.subtype
-      → Adds took f l ((a ++ (47 ∷ [])) ++ b) g m
+  pub prints_starts : (r : Mime) (a b : List ℕ) {m : Line} → l.len ≡ 0 → a ≡ string_bytes r.type_
+      → b ≡ string_bytes r.subtype → Adds took f l ((a ++ (47 ∷ [])) ++ b) g m
       → Prints took f (pairs_text r.parameters.items) (encode_utf8_all (printed (record_of r))) g m
   unfolding printed
   prints_starts r a b z d e x = record {
@@ -136,10 +131,9 @@ module _ {W : Type 0} {took : W → List ℕ → W → Type 0} {f g : Formatter 
   module _ {A B : Type 0} {pairs items : List (String A × String B)} {start : Formatter W} (i : ℕ) {whole : List ℕ}
       (x : Prints took start (pairs_text (drop i pairs)) whole f l) (e : items ≡ pairs) where
     -- after pair i is added, of which a and b are the bytes, the pairs from i + 1 on are left
-    pub prints_more : {item : String A × String B} {m : Line} {a b : List ℕ}
-        → Adds took f l (encode_utf8_all (printed_pair (chars a, chars b))) g m → i < length items
-        → item ≡ get_or items i item → a ≡ string_bytes item.0 → b ≡ string_bytes item.1
-        → Prints took start (pairs_text (drop (i + 1) pairs)) whole g m
+    pub prints_more : {item : String A × String B} {m : Line} {a b : List ℕ} → Adds took f l (encode_utf8_all
+        (printed_pair (chars a, chars b))) g m → i < length items → item ≡ get_or items i item → a ≡ string_bytes item.0
+        → b ≡ string_bytes item.1 → Prints took start (pairs_text (drop (i + 1) pairs)) whole g m
     prints_more y l k a b = record {
       written = x.written ++ y.written;
       wrote = λ p. has_written_styled_append _ _ _ _ _ _ (x.wrote p) (y.wrote (x.wrote p).flush);
@@ -174,9 +168,8 @@ pub same_decides : (m n : Mime) → IsTrue (same_texts m n) ↔ SameTexts m n
 same_decides m n = grind (arith, pairs_decide, bytes_eq-Decides)
 
 -- if the texts of all pairs are equal one by one, the lists of texts of pairs are equal
-pub copied_pairs : {A B : Type 0} (ps qs : List (String A × String B))
-    → AllZip (λ p q. (string_bytes q.0 ≡ string_bytes p.0) × (string_bytes q.1 ≡ string_bytes p.1)) ps qs
-    → map texts_of_pair qs ≡ map texts_of_pair ps
+pub copied_pairs : {A B : Type 0} (ps qs : List (String A × String B)) → AllZip (λ p q. (string_bytes q.0
+    ≡ string_bytes p.0) × (string_bytes q.1 ≡ string_bytes p.1)) ps qs → map texts_of_pair qs ≡ map texts_of_pair ps
 copied_pairs [] [] h = refl
 copied_pairs [] (q ∷ qs) h = absurd h
 copied_pairs (p ∷ ps) [] h = absurd h
@@ -229,11 +222,9 @@ ends_with p (d ∷ e ∷ a) c b h = ends_with p (e ∷ a) c b h
 -- a text, escaped, is the text of a quoted string whose value is the text
 quoted_escaped : (v : List ℕ) → Quoted (flat_map escaped_code_point v) v
 quoted_escaped [] = nothing_quoted
-quoted_escaped (c ∷ v) = cond_both ((c == 34) || (c == 92)) (92 ∷ c ∷ []) (c ∷ [])
-    (λ t. Quoted (t ++ flat_map escaped_code_point v) (c ∷ v))
-    (λ e. after_backslash c (quoted_escaped v))
-    (λ e. let p = or_parts (c == 34) (c == 92) e in as_itself c (eqb-false c 34 p.0) (eqb-false c 92 p.1)
-    (quoted_escaped v))
+quoted_escaped (c ∷ v) = cond_both ((c == 34) || (c == 92)) (92 ∷ c ∷ []) (c ∷ []) (λ t. Quoted (t
+    ++ flat_map escaped_code_point v) (c ∷ v)) (λ e. after_backslash c (quoted_escaped v)) (λ e. let p = or_parts
+    (c == 34) (c == 92) e in as_itself c (eqb-false c 34 p.0) (eqb-false c 92 p.1) (quoted_escaped v))
 
 -- '=' and a token text give the token text as value
 plain_value : (v rest : List ℕ) → is_token_text v ≡ true → GivesValue (61 ∷ v) rest (Some v)
@@ -254,10 +245,9 @@ gives_value v rest = cond_both (is_token_text v) v (34 ∷ (flat_map escaped_cod
 -- '=' and a printed value do not end with HTTP whitespace
 value_not_end : (v : List ℕ) → DoesNotEnd is_http_whitespace (61 ∷ printed_value v)
 unfolding is_token
-value_not_end v = cond_both (is_token_text v) v (34 ∷ (flat_map escaped_code_point v ++ (34 ∷ [])))
-    (λ t. DoesNotEnd is_http_whitespace (61 ∷ t))
-    (λ e. ends_after is_http_whitespace 61 v refl (tokens_end is_http_whitespace refl v (every_token v e)))
-    (λ e. ends_with is_http_whitespace (61 ∷ 34 ∷ flat_map escaped_code_point v) 34 [] refl)
+value_not_end v = cond_both (is_token_text v) v (34 ∷ (flat_map escaped_code_point v ++ (34 ∷ []))) (λ t. DoesNotEnd
+    is_http_whitespace (61 ∷ t)) (λ e. ends_after is_http_whitespace 61 v refl (tokens_end is_http_whitespace refl v
+    (every_token v e))) (λ e. ends_with is_http_whitespace (61 ∷ 34 ∷ flat_map escaped_code_point v) 34 [] refl)
 
 -- each code point of a lower-case name is a token code point
 name_tokens : (t : List ℕ) → is_lowercase_name t ≡ true → Every is_token t
@@ -314,8 +304,7 @@ pairs_not_end (p ∷ pairs) t h = rw (← append_assoc t (printed_pair p) (flat_
 
 -- pairs with lower-case names and values of quoted-string code points are all valid
 all_valid : (pairs : List Pair) → have_names pairs ≡ true
-    → list_all (λ (p : Pair). list_all is_quotable p.1) pairs ≡ true
-    → valid_pairs (map item_of pairs) ≡ pairs
+    → list_all (λ (p : Pair). list_all is_quotable p.1) pairs ≡ true → valid_pairs (map item_of pairs) ≡ pairs
 all_valid [] h k = refl
 all_valid (p ∷ pairs) h k = grind (arith, and_parts, cond-true, and_from, all_valid pairs)
 

@@ -80,8 +80,7 @@ pub record IsCut (c : ℕ) (s rest : List ℕ) : Type 0 where
 -- if rest is the text after the first c of s, then s is the bytes before that c, then c, then rest
 pub is_cut : (c : ℕ) (s rest : List ℕ) → after c s ≡ Some rest → IsCut c s rest
 is_cut c [] rest h = grind (arith, after_nil)
-is_cut c (b ∷ s) rest h =
-    grind (arith, is_cut c s rest, cases_Bool, eqb-true, first_byte)
+is_cut c (b ∷ s) rest h = grind (arith, is_cut c s rest, cases_Bool, eqb-true, first_byte)
 
 -- if c is at no index of the text, the text has no c
 pub after_none : (c : ℕ) (s : List ℕ) → ((k : ℕ) → k < length s → (get_or s k 0 == c) ≡ false) → after c s ≡ None

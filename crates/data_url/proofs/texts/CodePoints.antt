@@ -52,8 +52,7 @@ front_further p [] (suc n) l h = absurd (omega arith)
 front_further p (b ∷ bytes) (suc n) l h =
     grind (arith, h 0 (omega arith), front_further p bytes n (omega arith) (λ k m. h (suc k) (omega arith)))
 
--- if each code point of `back` passes, the longest prefix that passes is longer by `back` after `back` is put before a
--- text in reverse
+-- if each code point of `back` passes, putting it before a text in reverse makes the prefix that passes longer by it
 onto_len : (p : ℕ → Bool) (back acc : List ℕ) → Every p back
     → prefix_len p (reverse_aux back acc) ≡ length back + prefix_len p acc
 onto_len p [] acc h = omega arith
@@ -65,8 +64,7 @@ end_onto : (p : ℕ → Bool) (c : ℕ) (t back acc : List ℕ) → Every p back
 end_onto p c [] back acc h e = grind (arith, onto_len p back (c ∷ acc) h)
 end_onto p c (d ∷ t) back acc h e = end_onto p d t back (c ∷ acc) h e
 
--- the longest suffix of t ++ back that passes is `back`, if `back` passes and t does not end with a code point that
--- passes
+-- the longest suffix of t ++ back that passes is `back`, if `back` passes and t does not end with one that passes
 end_len : (p : ℕ → Bool) (t back : List ℕ) → Every p back → DoesNotEnd p t → suffix_len p (t ++ back) ≡ length back
 end_len p [] back h e = grind (arith, onto_len p back [] h)
 end_len p (c ∷ t) back h e = end_onto p c t back [] h e

@@ -7,5 +7,4 @@ returns-in-Some-clause-header c m =
     suffix_is _ _ (Some c.in-Some.text.now) m c.requires c.trim-stripped.ensures c.in-Some.ensures.text
 
 pub returns-in-None-clause-header : goal.returns-in-None-clause-header
-returns-in-None-clause-header c m =
-    suffix_is _ _ None m c.requires c.trim-stripped.ensures c.in-None.ensures.text
+returns-in-None-clause-header c m = suffix_is _ _ None m c.requires c.trim-stripped.ensures c.in-None.ensures.text

@@ -4,9 +4,8 @@ use Rattle.data_url.proofs.mime.FirstNames.{among_first, key_is, key_next}
 use Rattle.data_url.proofs.mime.kept.KeptParameters.is_among_first.Goals as goal
 
 pub loop-key-init : goal.loop-key-init
-loop-key-init c =
-    among_first _ c.deref.result.now c.args.self.now c.min.result
-    (c.min.ensures ∙ ap (min LOOKED_THROUGH) (c.len.ensures ∙ sym c.deref.ensures.len)) c.deref.ensures.value
+loop-key-init c = among_first _ c.deref.result.now c.args.self.now c.min.result (c.min.ensures ∙ ap (min LOOKED_THROUGH)
+    (c.len.ensures ∙ sym c.deref.ensures.len)) c.deref.ensures.value
 
 pub is_named-requires-clause-key : goal.is_named-requires-clause-key
 is_named-requires-clause-key c = (key_is _ _ c.requires.indexed c.deref.ensures.value c.loop-key-test.true
