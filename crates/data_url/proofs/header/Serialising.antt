@@ -14,9 +14,8 @@ use Rattle.std.proofs.lemmas.List.Sums.{suffix_len-le-length, prefix_len-drop_no
 use Rattle.std.proofs.lemmas.List.Sums.{prefix_len_passes, prefix_len_stops}
 use Rattle.std.proofs.lemmas.Slice.Eq.{bytes_eq-Decides}
 use Rattle.data_url.specs.Url.{is_c0_control_or_space, without_end, before, after, without_tabs_and_newlines}
-use Rattle.data_url.specs.Url.{encoded_byte, encoded_path, in_path_set, in_query_set}
-use Rattle.data_url.specs.Url.{is_tab_or_newline, percent_encoding, after_scheme, cleaned_text, serialised}
-use Rattle.data_url.specs.Url.{trimmed_text, with_query}
+use Rattle.data_url.specs.Url.{encoded_byte, encoded_path, in_path_set, in_query_set, is_tab_or_newline}
+use Rattle.data_url.specs.Url.{percent_encoding, after_scheme, cleaned_text, serialised, trimmed_text, with_query}
 use Rattle.data_url.specs.Fetch.{before_base64, before_semicolon, is_space, before_word, has_base64_suffix}
 use Rattle.data_url.specs.Fetch.{stripped_header, before_comma}
 use Rattle.data_url.specs.Steps.Header.{IsPrintable, HasNoLastSpace, IsPathAndQuery, WithoutSpace, encoded_parts}
@@ -26,9 +25,9 @@ use Rattle.std.specs.Option.{option_map}
 use Rattle.std.proofs.Math.Seq.{drop-append-add, take-append-add}
 use Rattle.std.proofs.lemmas.List.Folds.{prefix_len-append}
 use Rattle.std.proofs.lemmas.Bool.{cases_lt, ne_eqb, cases_Bool, not-true, not-false}
-use Rattle.data_url.proofs.texts.Bytes.{before_all, before_at, after-dropped_none, after_at, after_none}
-use Rattle.data_url.proofs.texts.Bytes.{without_tabs_and_newlines-append, dropped_around, dropped_keeps, dropped_nil}
-use Rattle.data_url.proofs.texts.Bytes.{dropped_passes, before-append, after-append, before_other, after_other, is_cut}
+use Rattle.data_url.proofs.texts.Bytes.{before_all, before_at, after-dropped_none, after_at, after_none, dropped_around}
+use Rattle.data_url.proofs.texts.Bytes.{dropped_keeps, dropped_nil, dropped_passes, before-append, after-append}
+use Rattle.data_url.proofs.texts.Bytes.{before_other, after_other, is_cut}
 use Rattle.data_url.proofs.percent.Encoding.{encoded_cons, encoded_nil, path_cons, path_nil, percent_encoding-append}
 use Rattle.data_url.proofs.percent.Encoding.{encoded}
 use Rattle.data_url.specs.Facts.{base64_flag, serialised_with_spaces}
@@ -202,11 +201,12 @@ suffix_stops p s m n e at = grind (arith, get_or-reverse s m 0, prefix_len_stops
 pub dropped_end : (s : List ℕ) (m n : ℕ) → m ≡ suffix_len is_tab_or_newline s → length s ≡ (n + 1) + m
     → without_tabs_and_newlines s ≡ without_tabs_and_newlines (take n s) ++ get_or s n 0 ∷ []
 dropped_end s m n e at =
-    let none : without_tabs_and_newlines (drop (n + 1) s) ≡ [] = all_dropped (drop (n + 1) s) (λ k w.
-    grind (arith, get_or-drop (n + 1) s k 0, suffix_passes is_tab_or_newline s m (n + 1 + k), length-drop (n + 1) s)) in
+    let none : without_tabs_and_newlines (drop (n + 1) s) ≡ [] =
+    grind (arith, all_dropped, get_or-drop, suffix_passes, length-drop) in
     cc (
       cut_at s n (omega arith),
-      dropped_around (get_or s n 0) (suffix_stops is_tab_or_newline s m n e at) (take n s) (drop (n + 1) s),
+      dropped_around (get_or s n 0) (suffix_stops is_tab_or_newline s m n e at) (take n s)
+          (drop (n + 1) s),
     )
 
 -- if the last byte of a path that is not a tab or newline is not a space, the path has no last space
@@ -225,15 +225,7 @@ header_and_query : (path rest : List ℕ) → after 63 path ≡ None
     (without_tabs_and_newlines path) ++ percent_encoding in_query_set (without_tabs_and_newlines (63 ∷ rest))
 unfolding header_text
 header_and_query path rest h =
-    grind (
-      arith,
-      after-dropped_none,
-      dropped_keeps,
-      encoded_cons,
-      without_tabs_and_newlines-append,
-      before_at,
-      after_at,
-    )
+    grind (arith, after-dropped_none, dropped_keeps, dropped_around, encoded_cons, before_at, after_at)
 
 -- if the path has no last space, or there is no query, the encoded path and query are the serialised header
 pub parts_whole : (header path query : List ℕ) → IsPathAndQuery header path query → (query ≡ []) ⊎ HasNoLastSpace path
@@ -253,18 +245,17 @@ pub cut_at_query : (text : List ℕ) (n : ℕ) → n ≡ prefix_len is_no_questi
 cut_at_query text n e = record {
   joined = sym (take-append-drop n text);
   path_ends = grind (arith, after_none, length-take, get_or-take, not-true, prefix_len_passes);
-  query_begins = ⊎_elim
-      (λ (l : n < length text). inr (
-        drop (n + 1) text,
-        cc (
-          drop_more text n 0 l,
-          eqb-true (get_or text n 0) 63 (not-false _ (subst (λ m. is_no_question_mark (get_or
-              text m 0) ≡ false) (sym e) (prefix_len_stops is_no_question_mark text 0 (subst (λ m. m < length text) e
-              l)))),
-        ),
-      ))
-      (λ (l : length text ≤ n). inl (drop_all n text l))
-      (cases_lt n (length text));
+  query_begins = elim (cases_lt n (length text)) [
+    | inl l ↦ inr (
+      drop (n + 1) text,
+      cc (
+        drop_more text n 0 l,
+        eqb-true (get_or text n 0) 63 (not-false _
+            (rw e (prefix_len_stops is_no_question_mark text 0 (omega arith)))),
+      ),
+    )
+    | inr l ↦ inl (drop_all n text l)
+  ];
 }
 
 -- a text does not end with a code point that passes if its last code point does not pass

@@ -2,7 +2,6 @@
 use Rattle.std.proofs.Common.{◌≡◌, ℕ, suc, ◌<◌, ◌≤◌, Bool, false, List, [], ◌∷◌, ◌++◌, length, get_or, take, drop, None}
 use Rattle.std.proofs.Common.{Some, refl, sym, ap, ◌∙◌, inl, inr, eqb-true, subst, arith, map, codes, ◌≢◌, is_some}
 use Rattle.std.proofs.Common.{Option, unwrap_or}
-use Rattle.std.specs.Prelude.{option_and_then}
 use Rattle.std.specs.List.{prefix_len, suffix_len, AllByRecursion}
 use Rattle.std.specs.Str.{chars}
 use Rattle.std.proofs.lemmas.Bool.{cases_Bool}
@@ -10,8 +9,7 @@ use Rattle.std.proofs.lemmas.Slice.Eq.{bytes_eq-Decides}
 use Rattle.std.proofs.lemmas.List.{get_or-drop, get_or-reverse, get_or-take, get_or_past, length-drop, length-reverse}
 use Rattle.std.proofs.lemmas.List.{take-append-drop, length-take, drop_at, length-map, take_at}
 use Rattle.data_url.specs.Url.{before, after, is_c0_control_or_space, percent_encoding, trimmed_text, after_scheme}
-use Rattle.data_url.specs.Url.{cleaned_text, without_tabs_and_newlines, fragment, front, is_tab_or_newline, serialised}
-use Rattle.data_url.specs.Url.{in_fragment_set}
+use Rattle.data_url.specs.Url.{cleaned_text, without_tabs_and_newlines, fragment, front, serialised, in_fragment_set}
 use Rattle.data_url.specs.Fetch.{is_space, stripped_header, encoded_body, header_of, staged_front, tail_of}
 use Rattle.data_url.specs.Fetch.{before_base64, has_base64_suffix, media_of, mime_text, with_plain, Accepted, NoComma}
 use Rattle.data_url.specs.Fetch.{NoScheme, outcome, plain_body, staged}
@@ -24,7 +22,7 @@ use Rattle.std.specs.Char.{to_ascii_lowercase}
 use Rattle.data_url.specs.Percent.{percent_decoding}
 use Rattle.data_url.specs.Steps.Front.{HasNoScheme, IsHeaderAndTail, IsSchemeAndRest}
 use Rattle.data_url.proofs.texts.Bytes.{before-append, before_nil, before_other, before_same, after-append}
-use Rattle.data_url.proofs.texts.Bytes.{after-dropped_none, after_at, after_nil, after_other}
+use Rattle.data_url.proofs.texts.Bytes.{after-dropped_none, after_at, after_dropped, after_nil, after_other}
 use Rattle.data_url.proofs.texts.Bytes.{without_tabs_and_newlines-append, dropped_around, dropped_keeps, dropped_nil}
 use Rattle.data_url.proofs.texts.Bytes.{before_all, before_at, dropped_passes, is_cut, lacks}
 use Rattle.data_url.proofs.runs.Runs.{none_or_some}
@@ -102,11 +100,6 @@ lacks_comma (b ∷ d) h =
     let l = lacks 44 (to_ascii_lowercase b) (map to_ascii_lowercase d) h in
     after_other 44 b d (grind arith) ∙ lacks_comma d l.after_it
 
--- if c is not a tab or newline, what follows the first c does so after tabs and newlines are dropped
-after_dropped : (c : ℕ) → is_tab_or_newline c ≡ false → (s rest : List ℕ) → after c s ≡ Some rest
-    → after c (without_tabs_and_newlines s) ≡ Some (without_tabs_and_newlines rest)
-after_dropped c k s rest h = grind (arith, is_cut c s rest h, dropped_around, after_at, after-dropped_none)
-
 -- there is no comma in "data:"
 abbrev scheme_lacks : after 44 (codes "data:") ≡ None
 unfolding after
@@ -131,12 +124,8 @@ unfolding after_scheme cleaned_text
 after_is t rest h =
     let s = without_tabs_and_newlines h.scheme in
     let five : length s ≡ 5 = sym (length-map s to_ascii_lowercase) ∙ ap length h.spelled in
-    cc (
-      h.joined,
-      without_tabs_and_newlines-append h.scheme rest,
-      take_at s (without_tabs_and_newlines rest) 5 five,
-      drop_at s (without_tabs_and_newlines rest) 5 five,
-    )
+    let r = without_tabs_and_newlines rest in
+    cc (without_tabs_and_newlines-append h.scheme rest, take_at s r 5 five, drop_at s r 5 five)
 
 -- a text that is cut at its first comma is so without tabs and newlines
 dropped_parts : {rest header tail : List ℕ} → IsHeaderAndTail rest header tail → IsHeaderAndTail
@@ -182,12 +171,8 @@ unfolding header_of encoded_body front
 has_stages {t} {a} {header} {tail} e b h =
     let f = front_of t a e in
     let k = has_tail (front a) header (front tail) (bytes_before 35 a b) (front_cut h) h.no_comma in
-    record {
-      body = k.rest;
-      header_is = cc (f, front_cut h, before-serialised header (front tail) h.no_comma, k.is);
-      body_is = ap (option_and_then (after 44)) f ∙ k.is;
-      decoded_is = recoded-decoded k.recoded;
-    }
+    let whole = before-serialised header (front tail) h.no_comma in
+    record { body = k.rest; header_is = cc (front_cut h); body_is = cc; decoded_is = recoded-decoded k.recoded }
 
 -- the stages of a text that is accepted, by its raw header and tail
 pub record IsAccepted (t header tail : List ℕ) : Type 0 where
@@ -201,11 +186,7 @@ pub is_accepted : (t rest header tail : List ℕ) → IsBytes rest → IsSchemeA
 unfolding tail_of
 is_accepted t rest header tail b s h =
     let k = has_stages (after_is t rest s) (bytes_dropped rest b) (dropped_parts h) in
-    record {
-      header_is = k.header_is;
-      stages = k;
-      tail_is = grind (arith, after-append, scheme_has_no_comma, after_at);
-    }
+    record { header_is = k.header_is; stages = k; tail_is = grind (arith, after-append, scheme_has_no_comma, after_at) }
 
 -- a text of which what follows the scheme has no comma before its first '#' has no header
 no_header : (t a : List ℕ) → after_scheme t ≡ Some a → IsBytes a → after 44 (front a) ≡ None → header_of t ≡ None
@@ -352,31 +333,23 @@ tail_after t a tail h e =
     let rest : a ≡ drop 5 x = grind arith in
     let no = lacks_comma (take 5 x) (ap (after 44) spelled ∙ scheme_lacks) in (
       rest,
-      cc (
-        after-append 44 (take 5 x) (drop 5 x) no,
-        take-append-drop 5 x,
-        after_dropped 44 refl (trimmed_text t) tail e,
-      ),
+      cc (after-append 44 (take 5 x) (drop 5 x) no, take-append-drop 5 x, after_dropped 44 refl _ tail e),
     )
 
 -- the text of a URL has the tail of the URL
 url_parts : (t : List ℕ) (u : DataUrl) → ((i : ℕ) → get_or t i 0 < 256) → IsUrlOf t u → HasParts t (url_tail u)
 unfolding header_of staged_front front cleaned_text
 url_parts t u b h = elim (none_or_some (after_scheme t)) [
-  | inl e ↦ absurd (let k = h.header_is in cc)
+  | inl e ↦ absurd (cc (h.header_is))
   | inr (a, e) ↦
       let k = tail_after t a (url_tail u) e h.tail_is in
       let bytes = subst IsBytes (sym k.0) (bytes_drop 5 _ (bytes_dropped (trimmed_text t) (bytes_trimmed t b))) in
       let cut = is_cut 44 a (without_tabs_and_newlines (url_tail u)) k.1 in
       elim (none_or_some (after 44 (front a))) [
-        | inl n ↦ absurd (let m = no_header t a e bytes n in let k = h.header_is in cc)
-        | inr (x, y) ↦ record {
-          rest = a;
-          header = before 44 a;
-          rest_is = e;
-          bytes = bytes;
-          parts = record { joined = cut.joined; no_comma = cut.lacks; no_fragment = comma_first a x y };
-        }
+        | inl n ↦ absurd (cc (no_header t a e bytes n, h.header_is))
+        | inr (x, y) ↦
+            let first = comma_first a x y in
+            record { rest = a; header = before 44 a; rest_is = e; bytes = bytes; parts = search (arith, cut, first) }
       ]
 ]
 
@@ -384,10 +357,7 @@ url_parts t u b h = elim (none_or_some (after_scheme t)) [
 pub body_of_url : (t : List ℕ) (u : DataUrl) → ((i : ℕ) → get_or t i 0 < 256) → IsUrlOf t u
     → option_map percent_decoding (encoded_body t) ≡ Some (plain_body (url_tail u))
 unfolding plain_body
-body_of_url t u b h =
-    let k = url_parts t u b h in
-    let s = has_stages k.rest_is k.bytes k.parts in
-    cc (s.body_is, s.decoded_is)
+body_of_url t u b h = let k = url_parts t u b h in let s = has_stages k.rest_is k.bytes k.parts in cc
 
 -- the fragment of the Standard is the fragment of the tail of the URL; if one is missing, so is the other
 pub fragment_of_url : (t : List ℕ) (u : DataUrl) → ((i : ℕ) → get_or t i 0 < 256) → IsUrlOf t u

@@ -79,10 +79,7 @@ pub lower_chars : (bs : List ℕ) → IsUtf8 bs → is_token_text (chars bs) ≡
     → chars (map to_ascii_lowercase bs) ≡ map to_ascii_lowercase (chars bs)
 lower_chars bs u h =
     let a = token_text_ascii bs (token_text_chars bs u ∙ h) in
-    cc (
-      chars-IsAscii (map to_ascii_lowercase bs) (IsAscii-map to_ascii_lowercase bs lowercase_ascii a),
-      chars-IsAscii bs a,
-    )
+    grind (arith, chars-IsAscii, IsAscii-map to_ascii_lowercase bs lowercase_ascii a)
 
 -- a lower-case name in lower case is the name itself
 pub lower_is_itself : (t : List ℕ) → is_lowercase_name t ≡ true → map to_ascii_lowercase t ≡ t
@@ -165,15 +162,11 @@ keeps_more {whole} {rest} {s} {pairs = pairs} k e p r a =
     let more = items_are (length s) next (items_in (length next) next) (rest_shorter s) (has_items next begins) in
     let left = valid_pairs (items_in (length s) next) in
     let added = added_pairs pairs (item_in s) in
+    let all = first_of_each_name (pairs ++ added) left in
     let before = (subst (λ x. KeepsOn whole x pairs) (mark_is 59 rest s e) k).kept in
     rw r (record {
       begins = begins;
-      kept = cc (
-        before,
-        more,
-        first_step pairs (item_in s) left,
-        append_assoc pairs added (first_of_each_name (pairs ++ added) left),
-      );
+      kept = cc (first_step pairs (item_in s) left, append_assoc pairs added all);
     })
 
 -- if the rest does not begin with ';', the pairs are those that are kept of the items of the whole text
@@ -197,14 +190,10 @@ pub later_names : {A : Type 0} (later later' : BTreeSet (String A)) (pairs : Lis
     LOOKED_THROUGH ≤ length pairs → HasLaterNames later pairs → string_bytes name ≡ p.0 → UpdatesBy string_cmp (λ k.
     slice_cmp nat_cmp (string_bytes name) (string_bytes k)) later later' true → HasLaterNames later' (pairs ++ (p ∷ []))
 later_names later later' pairs p name l h e u n =
+    let updated = btree_set_updates_text (string_bytes name) later later' true u n in
     let choice : cond (bytes_eq (string_bytes name) n) true (contains_text later n)
     ≡ (contains_text later n || bytes_eq (string_bytes name) n) = grind arith in
-    cc (
-      btree_set_updates_text (string_bytes name) later later' true u n,
-      h n,
-      has_pushed n (drop LOOKED_THROUGH pairs) p,
-      drop-append-le LOOKED_THROUGH pairs (p ∷ []) l,
-    )
+    cc (h n, has_pushed n (drop LOOKED_THROUGH pairs) p, drop-append-le LOOKED_THROUGH pairs (p ∷ []) l)
 
 module _ {old : KeptParameters} (name value : String Global) (x : IsIndexed old)
     (lower : is_lowercase_name (code_points name) ≡ true) (new : has_name (code_points name) (first_of

@@ -84,14 +84,7 @@ module _ {text bytes : List ℕ} {q more : ℕ} (u : IsUtf8 text) (e : bytes ≡
     quotable_if : list_all is_quotable (chars t) ≡ nat_le (length t) q
     quotable_if =
         let n = front_len in
-        let few : length t ≤ q + more = omega (
-          arith,
-          ap length k,
-          ap length h,
-          length-take
-              (length t) front,
-          length-take (q + more) text,
-        ) in
+        let few : length t ≤ q + more = grind (arith, length-take) in
         let t_is : t ≡ take (length t) text = cc (take-take (length t) (q + more) text few) in
         cc (quotable_chars t w, quotable_front text (length t) (omega arith))
 
@@ -244,16 +237,7 @@ module _ {s t a x : List ℕ} (first : IsTokens t a x) (e : t ≡ trimmed_of is_
       pub is_head : BeginsParameters (chars bs) → IsHead s a b (chars bs)
       is_head begins = record {
         gap = front_of is_http_whitespace z;
-        joined = cc (
-          take-append-drop (prefix_len is_token t) t,
-          take-append-drop (prefix_len is_token y) y,
-          take-append-drop (prefix_len is_http_whitespace z) z,
-          mark_is 47 x y slash,
-          first.front,
-          first.after,
-          second.front,
-          second.after,
-        );
+        joined = grind (arith, take-append-drop, mark_is);
         is_type = first.token;
         is_subtype = second.token;
         in_gap = front_passes is_http_whitespace z;
@@ -292,12 +276,8 @@ pub plain_head_is : (s t : List ℕ) → BeginsParameters s → IsTrimmedEnd is_
 unfolding on_literals chars
 plain_head_is s t b e = record {
   gap = [];
-  joined = sym (trimmed_end_is is_http_whitespace (codes "text/plain" ++ s) (codes "text/plain" ++ t) (record {
-    back = e.back;
-    joined = ap (λ x. codes "text/plain" ++ x) e.joined;
-    at_back = e.at_back;
-    ends = ends_after is_http_whitespace 110 t refl e.ends;
-  }));
+  joined = sym (trimmed_end_is is_http_whitespace (codes "text/plain" ++ s) (codes "text/plain" ++ t)
+      (search (arith, e, ends_after)));
   is_type = refl;
   is_subtype = refl;
   in_gap = tt;

@@ -224,11 +224,8 @@ module _ {bs : List ℕ} {i : ℕ} (u : IsUtf8 bs) (l : i < length bs) (g : get_
   after_quote =
       let cut = cut_quote bs u in
       let text = IsUtf8-drop bs i u (IsCharBoundary-before_ascii bs i l (omega arith)) in
-      let first = chars_past_char (drop i bs) (drop (suc i) bs) 34 text (cc (
-        drop-cons bs i 0 l,
-        encode_ascii 34
-            (omega arith),
-      )) in
+      let first = chars_past_char (drop i bs) (drop (suc i) bs) 34 text
+      (grind (arith, drop-cons, encode_ascii)) in
       let n = quoted_len false (chars bs) in
       cc (first, quote_at, cut.after, drop-drop 1 n (chars bs), add-one i, add-one n)
 

@@ -344,9 +344,6 @@ put_more p s i room at row room' m l within r n h =
         length-take-le at room (omega (arith, m.long)),
         take_more s i 0 l,
         encoded-append p (take i s) (get_or s i 0 ∷ []),
-        m.wrote,
-        r.begins,
-        one,
       );
     }
 

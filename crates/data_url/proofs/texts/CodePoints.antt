@@ -71,13 +71,8 @@ end_len p (c ∷ t) back h e = end_onto p c t back [] h e
 
 -- if t is s without its longest suffix that passes, t is `without_end p s`
 pub trimmed_end_is : (p : ℕ → Bool) (s t : List ℕ) → IsTrimmedEnd p s t → t ≡ without_end p s
-trimmed_end_is p s t h = grind (
-  arith,
-  length-append t h.back,
-  end_len p t h.back h.at_back h.ends,
-  take-append_seam t
-      h.back,
-)
+trimmed_end_is p s t h =
+    grind (arith, length-append t h.back, end_len p t h.back h.at_back h.ends, take-append_seam t h.back)
 
 -- a text that does not end with a code point that passes has no suffix that passes
 pub end_stays : (p : ℕ → Bool) (t : List ℕ) → DoesNotEnd p t → without_end p t ≡ t
@@ -97,12 +92,7 @@ end_before p c s [] h = elim (p c) as (λ v. p c ≡ v → (t : List ℕ) × IsT
 ] refl
 end_before p c s (d ∷ t) h = (
   c ∷ d ∷ t,
-  record {
-    back = h.back;
-    joined = ap (λ x. c ∷ x) h.joined;
-    at_back = h.at_back;
-    ends = h.ends;
-  },
+  record { back = h.back; joined = ap (λ x. c ∷ x) h.joined; at_back = h.at_back; ends = h.ends },
 )
 
 -- each text is a text that does not end with a code point that passes, and then a text that passes
