@@ -80,16 +80,14 @@ before_one s n l = grind (arith, length-take-le, take-take)
 pub no_semicolon : (s : List ℕ) (n spaces m : ℕ) → IsPrintable s → HasWord s n spaces → n - spaces ≡ m + 1
     → get_or s m 0 ≢ 59 → before_base64 s ≡ None
 no_semicolon s n spaces m p h e ne =
-    let one = last_one s m (omega (arith, h.six)) in
-    after_word s n spaces p h ∙ ap (λ k. before_semicolon (take k s)) e ∙ grind (arith, bytes_eq-Decides)
+    let one = last_one s m (omega (arith, h.six)) in grind (arith, after_word s n spaces p h, bytes_eq-Decides)
 
 -- if the byte before the spaces and the word is a ';' at index m, the text before the suffix is the first m bytes
 pub with_semicolon : (s : List ℕ) (n spaces m : ℕ) → IsPrintable s → HasWord s n spaces → n - spaces ≡ m + 1
     → get_or s m 0 ≡ 59 → before_base64 s ≡ Some (take m s)
 with_semicolon s n spaces m p h e is =
     let one = last_one s m (omega (arith, h.six)) in
-    let front = before_one s m (omega (arith, h.six)) in
-    after_word s n spaces p h ∙ ap (λ k. before_semicolon (take k s)) e ∙ grind (arith, bytes_eq-Decides)
+    let front = before_one s m (omega (arith, h.six)) in grind (arith, after_word s n spaces p h, bytes_eq-Decides)
 
 -- if b does not pass, the longest suffix of x ++ b ∷ q that passes is as long as that of q
 pub suffix_stop : (p : ℕ → Bool) (x q : List ℕ) (b : ℕ) → p b ≡ false → suffix_len p (x ++ b ∷ q) ≡ suffix_len p q
@@ -304,7 +302,7 @@ differs_by : (path : List ℕ) → Differs path
 differs_by [] = grind (arith, path_nil, encoded_nil)
 differs_by (b ∷ []) = elim (cases_Bool (b == 32)) [
   | inl e ↦ rw (eqb-true b 32 e)
-      (last_space [] (path_space [] ∙ grind (arith, encoded_nil)) (grind (arith, encoded_cons, encoded_nil)))
+      (last_space [] (grind (arith, path_space [], encoded_nil)) (grind (arith, encoded_cons, encoded_nil)))
   | inr e ↦ same_path (path_other [] b e)
 ]
 differs_by (b ∷ c ∷ s) = elim (differs_by (c ∷ s)) [

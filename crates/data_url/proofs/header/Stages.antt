@@ -176,7 +176,6 @@ has_stages {t} {a} {header} {tail} e b h =
 
 -- the stages of a text that is accepted, by its raw header and tail
 pub record IsAccepted (t header tail : List ℕ) : Type 0 where
-  pub header_is : header_of t ≡ Some (header_text (without_tabs_and_newlines header))
   pub stages : HasStages t (without_tabs_and_newlines header) (without_tabs_and_newlines tail)
   pub tail_is : tail_of t ≡ Some tail
 
@@ -186,7 +185,7 @@ pub is_accepted : (t rest header tail : List ℕ) → IsBytes rest → IsSchemeA
 unfolding tail_of
 is_accepted t rest header tail b s h =
     let k = has_stages (after_is t rest s) (bytes_dropped rest b) (dropped_parts h) in
-    record { header_is = k.header_is; stages = k; tail_is = grind (arith, after-append, scheme_has_no_comma, after_at) }
+    record { stages = k; tail_is = grind (arith, after-append, scheme_has_no_comma, after_at) }
 
 -- a text of which what follows the scheme has no comma before its first '#' has no header
 no_header : (t a : List ℕ) → after_scheme t ≡ Some a → IsBytes a → after 44 (front a) ≡ None → header_of t ≡ None
@@ -295,7 +294,7 @@ is_url_of t rest header u b s h k =
     let a = is_accepted t rest header (url_tail u) (rest_bytes t rest b s) s h in
     record {
       header = header_text (without_tabs_and_newlines header);
-      header_is = a.header_is;
+      header_is = a.stages.header_is;
       record_is = k.record_is.is_record;
       wellformed = k.record_is.wellformed;
       base64_is = k.base64_is;

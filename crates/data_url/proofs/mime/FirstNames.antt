@@ -1,7 +1,7 @@
 -- Which parameters are kept: the first of each name. For `kept.rt`, and that a record is well formed.
 use Rattle.std.proofs.Common.{◌≡◌, ℕ, List, String, ap, length, map, min, sym, take, ◌∙◌, ◌<◌, ◌||◌, ◌&&◌, Bool, true}
 use Rattle.std.proofs.Common.{false, cond, [], ◌∷◌, ◌++◌, get_or, drop, Option, None, Some, refl, ap₂, subst, Global}
-use Rattle.std.proofs.Common.{drop-cons, add-one, ◌+◌, append_assoc, append-nil, arith, inl, inr, ◌≤◌, not}
+use Rattle.std.proofs.Common.{drop-cons, add-one, ◌+◌, append_assoc, append-nil, arith, ◌≤◌, not}
 use Rattle.std.proofs.Common.{string_bytes, ◌⊎◌}
 use Rattle.std.proofs.lemmas.List.{length-map, take-map, take_min, get_or-take, length-take, map-append, drop-append-le}
 use Rattle.std.proofs.lemmas.List.{length-append, take-append-drop}
@@ -50,10 +50,9 @@ test_from_different a c n = grind (arith, false_from_ne_true, bytes_eq-Decides)
 -- a code point in lower case is a token code point exactly if the code point is
 token_lower : (c : ℕ) → is_token (to_ascii_lowercase c) ≡ is_token c
 unfolding is_token
-token_lower c = elim (cases_lt c 128) [
-  | inl l ↦ agree_below_at (λ x. is_token (to_ascii_lowercase x)) is_token 128 c refl l
-  | inr l ↦ ap is_token ((lowercase_is c).2 (omega arith))
-]
+token_lower c =
+    let below = agree_below_at (λ x. is_token (to_ascii_lowercase x)) is_token 128 c refl in
+    grind (arith, cases_lt c 128, lowercase_is)
 
 -- a text in lower case has only token code points exactly if the text has
 all_token_lower : (t : List ℕ) → list_all is_token (map to_ascii_lowercase t) ≡ list_all is_token t
@@ -85,6 +84,11 @@ lower_chars bs u h =
 pub lower_is_itself : (t : List ℕ) → is_lowercase_name t ≡ true → map to_ascii_lowercase t ≡ t
 lower_is_itself t h = grind (arith, bytes_eq-Decides)
 
+-- a name in lower case is its bytes
+pub lowercase_bytes : {A : Type 0} (name : String A) → is_lowercase_name (code_points name) ≡ true
+    → string_bytes name ≡ code_points name
+lowercase_bytes name h = grind (arith, IsUtf8-string_bytes, bytes_of_ascii, token_text_ascii)
+
 -- a token text has at least one byte
 pub some_byte : (n : List ℕ) → is_token_text (chars n) ≡ true → 0 < length n
 some_byte [] h = grind (arith, chars-nil)
@@ -98,7 +102,7 @@ module _ {kept : KeptParameters} {all : List (String Global × String Global)} (
   key_is =
       let h : is_lowercase_name (code_points item.0) ≡ true =
       grind (arith, list_all_at, list_all-map, get_or-take, length-take) in
-      grind (arith, lower_is_itself, bytes_of_ascii, token_text_ascii, IsUtf8-string_bytes)
+      grind (arith, lower_is_itself, lowercase_bytes)
 
   -- one of the pairs from there on has a token text in lower case if the key is this text, or a later one has it
   pub key_next : (n : List ℕ) (r : Bool) → IsUtf8 n → is_token_text (chars n) ≡ true → Decides r (map to_ascii_lowercase
@@ -175,11 +179,6 @@ pub keeps_end : {whole rest : List ℕ} {pairs : List Pair} → KeepsOn whole re
 keeps_end {whole} {rest = []} {pairs = pairs} k w e = grind (arith, items_in, has_items, append-nil)
 keeps_end {rest = c ∷ rest} k w e = grind arith
 
--- a name in lower case is its bytes
-pub lowercase_bytes : {A : Type 0} (name : String A) → is_lowercase_name (code_points name) ≡ true
-    → string_bytes name ≡ code_points name
-lowercase_bytes name h = grind (arith, IsUtf8-string_bytes, bytes_of_ascii, token_text_ascii)
-
 -- if there are no more than `LOOKED_THROUGH` pairs, none of the later pairs has a name
 pub few_names : (n : List ℕ) (pairs : List Pair) → length pairs ≤ LOOKED_THROUGH
     → has_name n (drop LOOKED_THROUGH pairs) ≡ false
@@ -221,10 +220,7 @@ module _ {old : KeptParameters} (name value : String Global) (x : IsIndexed old)
         (added : b ≡ not (contains string_cmp old.later_names copy)) where
       -- the set has the name exactly if one of the pairs has it
       set_knows : b ≡ not (has_name (code_points name) (pairs_of old))
-      set_knows =
-          let known = first_or_later (code_points name) (pairs_of old) in
-          let later = x.later (string_bytes copy) in
-          grind (arith, lowercase_bytes name lower)
+      set_knows = grind (arith, lowercase_bytes name lower, first_or_later, x.later (string_bytes copy))
 
       -- if the set has the name, the pair is not added
       pub not_pushed : b ≡ false → pairs_of old ≡ pairs_of old ++ unless_named (pairs_of old) (pair_of

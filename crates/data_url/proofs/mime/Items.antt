@@ -156,8 +156,7 @@ parameter_is : (s text rest : List ℕ) (item : Item) → IsParameter text rest 
     → BeginsParameters rest → (item_in s ≡ item) × ((reading_in s).rest ≡ rest)
 parameter_is s text rest item h e b =
     let more = h.tail ++ rest in
-    let is : s ≡ h.gap ++ (h.name ++ more) =
-    cc (h.joined, append_assoc h.gap (h.name ++ h.tail) rest, append_assoc h.name h.tail rest) in
+    let is : s ≡ h.gap ++ (h.name ++ more) = grind (arith, append_assoc, h.joined) in
     let ends = ends_of_tail is_http_whitespace refl refl h.tail rest item.1 h.value_is b in
     let x = front_is is_http_whitespace h.gap (h.name ++ more) h.in_gap
     (not_begins_append is_http_whitespace h.name more h.begins ends) in

@@ -210,8 +210,7 @@ serialised_path b s h = grind (arith, before_other, after_other, with_query_cons
 pub serialised_recoded : (s : List ℕ) → IsBytes s → Recoded s (serialised s)
 serialised_recoded [] h = subst (λ x. Recoded [] x) (sym serialised_nil) none
 serialised_recoded (b ∷ s) h = elim (cases_Bool (b == 63)) [
-  | inl e ↦ let f : b ≡ 63 = eqb-true b 63 e in subst (λ v. Recoded (v ∷ s) (serialised (v ∷ s))) (sym f)
-      (subst (λ x. Recoded (63 ∷ s) x) (sym (serialised_query s)) (kept 63 (is_recoded in_query_set (λ b e. e) s h.1)))
+  | inl e ↦ rw (eqb-true b 63 e, serialised_query s) (kept 63 (is_recoded in_query_set (λ b e. e) s h.1))
   | inr e ↦ grind (arith, serialised_path, recoded_byte, serialised_recoded s h.1)
 ]
 
@@ -365,8 +364,8 @@ written_ascii Fragment b l = grind arith
 -- with each of the sets, the encoding of a text of bytes is ASCII
 encoded_ascii : (set : EncodeSet) (s : List ℕ) → ((i : ℕ) → get_or s i 0 < 256) → IsAscii (encoded (in_set set) s)
 encoded_ascii set [] h = subst IsAscii (sym (encoded_empty (in_set set))) IsAscii-nil
-encoded_ascii set (b ∷ s) h = subst IsAscii (sym (written_first (in_set set) b s)) (IsAscii-append (byte_encoding
-    (in_set set) b) (encoded (in_set set) s) (written_ascii set b (h 0)) (encoded_ascii set s (λ i. h (suc i))))
+encoded_ascii set (b ∷ s) h = rw (written_first (in_set set) b s)
+    (IsAscii-append _ _ (written_ascii set b (h 0)) (encoded_ascii set s (λ i. h (suc i))))
 
 -- what a text of bytes is written as is UTF-8
 pub encoded_text : (set : EncodeSet) (s text : List ℕ) → ((i : ℕ) → get_or s i 0 < 256) → text ≡ encoded (in_set set) s

@@ -139,7 +139,7 @@ cut_into bs xs ys n u e l =
     let k = scalars_parts xs ys (ap all_scalars (sym e) ∙ scalars-chars bs u) in
     let a = encode_utf8_all xs in
     let b = encode_utf8_all ys in
-    let whole : bs ≡ a ++ b = sym (encodes-chars bs u) ∙ ap encode_utf8_all e ∙ encodes-append xs ys in
+    let whole : bs ≡ a ++ b = cc (encodes-chars bs u, encodes-append xs ys) in
     rw (l, whole) (record {
       boundary = IsCharBoundary-at_seam (a ++ b) a b refl (ys, (k.1, refl));
       front = ap chars (take-append_seam a b) ∙ chars-encodes xs k.0;

@@ -42,6 +42,7 @@ impl KeptParameters {
     }
 
     /// Adds a pair whose name none of the first ones has, unless a later one has it.
+    #[tactic(auto, using(crate::proofs::mime::FirstNames::not_pushed))]
     pub(super) fn push(&mut self, name: String, value: String) -> Result<(), AllocError>
         requires indexed { IsIndexed self.old }
         requires lower { IsTrue (is_lowercase_name (code_points name)) }
