@@ -147,14 +147,9 @@ front_of : (t a : List ℕ) → after_scheme t ≡ Some a → staged_front t ≡
 unfolding staged_front
 front_of t a h = grind arith
 
--- s has a comma; t is the text after it with some bytes percent-encoded
-record HasTail (s t : List ℕ) : Type 0 where
-  pub rest : List ℕ
-  pub is : after 44 s ≡ Some rest
-  pub recoded : Recoded t rest
-
 -- a text of a header, the first comma, and a tail t has, when it is serialised, a tail that is t, recoded
-has_tail : (s header t : List ℕ) → IsBytes s → s ≡ header ++ 44 ∷ t → after 44 header ≡ None → HasTail (serialised s) t
+has_tail : (s header t : List ℕ) → IsBytes s → s ≡ header ++ 44 ∷ t → after 44 header ≡ None
+    → (rest : List ℕ) × (after 44 (serialised s) ≡ Some rest) × Recoded t rest
 has_tail s header t b e h = grind (arith, after_at, recoded_tails, serialised_recoded)
 
 -- the stages of a text, by its header and its tail without tabs and newlines
@@ -172,7 +167,7 @@ has_stages {t} {a} {header} {tail} e b h =
     let f = front_of t a e in
     let k = has_tail (front a) header (front tail) (bytes_before 35 a b) (front_cut h) h.no_comma in
     let whole = before-serialised header (front tail) h.no_comma in
-    record { body = k.rest; header_is = cc (front_cut h); body_is = cc; decoded_is = recoded-decoded k.recoded }
+    record { body = k.0; header_is = cc (front_cut h); body_is = cc; decoded_is = recoded-decoded k.2 }
 
 -- the stages of a text that is accepted, by its raw header and tail
 pub record IsAccepted (t header tail : List ℕ) : Type 0 where

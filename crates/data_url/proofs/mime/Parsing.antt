@@ -138,8 +138,7 @@ copied v q bytes n u e f g h = grind (arith, whole_passes, unescaped_steady, sta
 -- the encoding of a Unicode scalar value, after a UTF-8 text, adds its code point to those of the text
 chars_push : (v : List ℕ) (c : ℕ) → IsUtf8 v → IsScalar c → chars (v ++ encode c) ≡ chars v ++ (c ∷ [])
 chars_push v c u s =
-    let one = chars_past_char (encode c) [] c (IsUtf8-encode c s) (sym (append-nil (encode c))) in
-    cc (chars-append v (encode c) u, one, chars-nil)
+    grind (arith, chars_past_char (encode c) [] c (IsUtf8-encode c s), append-nil, chars-append, chars-nil)
 
 -- if nothing is written, the value of the whole text is left
 pub unescape_starts : (v r q : List ℕ) → v ≡ [] → r ≡ q
@@ -174,10 +173,7 @@ has_mark bs rest c n u h e = grind (arith, chars_past_char bs (drop n bs) c u h.
 pub no_mark : (cs : List ℕ) (c : ℕ) → ((rest : List ℕ) → encode_utf8_all cs ≡ encode_utf8 c ++ rest → ⊥)
     → after_mark c cs ≡ None
 no_mark [] c n = refl
-no_mark (b ∷ cs) c n = elim (b == c) as (λ v. (b == c) ≡ v → cond v (Some cs) None ≡ None) [
-  | true ↦ λ e. absurd (n (encode_utf8_all cs) (ap (λ x. encode_utf8 x ++ encode_utf8_all cs) (eqb-true b c e)))
-  | false ↦ λ e. refl
-] refl
+no_mark (b ∷ cs) c n = grind (arith, eqb-true, n (encode_utf8_all cs))
 
 -- if a text is not empty and does not begin with ';', it does not begin parameters
 not_begins : (s : List ℕ) → after_mark 59 s ≡ None → (length s == 0) ≡ false → BeginsParameters s → ⊥

@@ -17,7 +17,7 @@ use Rattle.data_url.specs.Mime.{BeginsParameters, DoesNotBegin, DoesNotEnd, Ever
 use Rattle.data_url.specs.Mime.{IsWellformed, Item, Items, Parses, Quoted, Record, first_of_each_name}
 use Rattle.data_url.specs.Mime.{has_distinct_names, has_name, is_lowercase_name, is_quote, kept_pairs, plain, quoted}
 use Rattle.data_url.specs.Mime.{unless_empty, valid_pairs, after_backslash, nothing_quoted, as_itself}
-use Rattle.data_url.specs.Steps.Parsing.{is_escaped}
+use Rattle.data_url.specs.Steps.Parsing.{HasLowercaseNames, is_escaped}
 use Rattle.data_url.specs.MimeType.{code_points, pair_of, record_of, SameTexts, same_pair, same_texts, texts_of_pair}
 use Rattle.data_url.specs.declared.mime.Mime.{Mime}
 use Rattle.data_url.proofs.texts.CodePoints.{no_chars, end_stays, not_ends_every, front_is}
@@ -269,25 +269,17 @@ is_parameter p rest h = record {
   value_is = gives_value p.1 rest;
 }
 
--- all names are lower-case
-abbrev have_names : List Pair → Bool
-have_names pairs = list_all (λ (p : Pair). is_lowercase_name p.0) pairs
-
 -- the item of a pair
 abbrev item_of : Pair → Item
 item_of p = (p.0, Some p.1)
 
 -- the text of printed pairs with lower-case names has the items of the pairs
-printed_items : (pairs : List Pair) → have_names pairs ≡ true → Items (flat_map printed_pair pairs) (map item_of pairs)
+printed_items : (pairs : List Pair) → HasLowercaseNames pairs → Items (flat_map printed_pair pairs) (map item_of pairs)
 printed_items [] h = refl
 printed_items (p ∷ pairs) h =
-    let k = and_parts (is_lowercase_name p.0) (have_names pairs) h in (
-      printed_pair p,
-      flat_map printed_pair pairs,
-      refl,
-      is_parameter p (flat_map printed_pair pairs) k.0,
-      printed_items pairs k.1,
-    )
+    let k = and_parts (is_lowercase_name p.0) _ h in
+    let rest = flat_map printed_pair pairs in
+    (printed_pair p, rest, refl, is_parameter p rest k.0, printed_items pairs k.1)
 
 -- the text of printed pairs is empty or begins with ';'
 pairs_begin : (pairs : List Pair) → BeginsParameters (flat_map printed_pair pairs)
@@ -303,7 +295,7 @@ pairs_not_end (p ∷ pairs) t h = rw (← append_assoc t (printed_pair p) (flat_
     (ends_with is_http_whitespace (59 ∷ p.0) 61 (printed_value p.1) (value_not_end p.1))))
 
 -- pairs with lower-case names and values of quoted-string code points are all valid
-all_valid : (pairs : List Pair) → have_names pairs ≡ true
+all_valid : (pairs : List Pair) → HasLowercaseNames pairs
     → list_all (λ (p : Pair). list_all is_quotable p.1) pairs ≡ true → valid_pairs (map item_of pairs) ≡ pairs
 all_valid [] h k = refl
 all_valid (p ∷ pairs) h k = grind (arith, and_parts, cond-true, and_from, all_valid pairs)

@@ -143,8 +143,7 @@ closed_reading q v w h =
 pub open_reading : (q v : List ℕ) → QuotedOpen q v → quoted_reading q ≡ record { value = Some v; rest = [] }
 open_reading q v h =
     let o = quoted_open q v h in
-    let d : drop (suc (length q)) q ≡ [] = drop_of_length-le q {i = suc (length q)} (omega arith) in
-    cc (o.0, o.1, d, take-length q)
+    cc (o.0, o.1, drop_of_length-le q {i = suc (length q)} (omega arith), take-length q)
 
 -- the text with a backslash before it if the flag is true
 abbrev pub flagged : Bool → List ℕ → List ℕ
@@ -209,8 +208,7 @@ pub cut_quote : (bs : List ℕ) → IsUtf8 bs → IsCutInto bs (quoted_len false
     (take (quoted_len false (chars bs)) (chars bs)) (drop (quoted_len false (chars bs)) (chars bs))
 cut_quote bs u =
     let n = quoted_len false (chars bs) in
-    cut_into bs (take n (chars bs)) (drop n (chars bs)) (quoted_len false bs) u
-    (sym (take-append-drop n (chars bs)))
+    cut_into bs (take n (chars bs)) (drop n (chars bs)) (quoted_len false bs) u (sym (take-append-drop n (chars bs)))
     (ap (quoted_len false) (sym (encodes-chars bs u)) ∙ quoted_encodes false (chars bs))
 
 module _ {bs : List ℕ} {i : ℕ} (u : IsUtf8 bs) (l : i < length bs) (g : get_or bs i 0 ≡ 34)

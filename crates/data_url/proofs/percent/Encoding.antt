@@ -346,12 +346,8 @@ put_more p s i room at row room' m l within r n h =
       );
     }
 
--- all bytes of the text are ASCII
-abbrev pub are_ascii : List ℕ → Bool
-are_ascii s = list_all (λ c. nat_lt c 128) s
-
--- a text that passes the test `are_ascii` is ASCII
-pub ascii_all : (s : List ℕ) → are_ascii s ≡ true → IsAscii s
+-- a text whose bytes are all below 128 is ASCII
+pub ascii_all : (s : List ℕ) → list_all (λ c. nat_lt c 128) s ≡ true → IsAscii s
 ascii_all [] h = IsAscii-nil
 ascii_all (c ∷ s) h = grind (arith, and_parts, ltb-true, ascii_all s)
 

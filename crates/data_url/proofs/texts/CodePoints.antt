@@ -149,8 +149,7 @@ cut_into bs xs ys n u e l =
 -- a UTF-8 text can be cut after its longest prefix that passes
 pub cut_front : (p : ℕ → Bool) → IsSteady p → (bs : List ℕ) → IsUtf8 bs
     → IsCutInto bs (prefix_len p bs) (front_of p (chars bs)) (without_front p (chars bs))
-cut_front p s bs u = cut_into bs (front_of p (chars bs)) (without_front p (chars bs)) (prefix_len p bs) u
-    (sym (take-append-drop (prefix_len p (chars bs)) (chars bs)))
+cut_front p s bs u = cut_into bs _ _ (prefix_len p bs) u (sym (take-append-drop (prefix_len p (chars bs)) (chars bs)))
     (ap (prefix_len p) (sym (encodes-chars bs u)) ∙ front_encodes p s (chars bs))
 
 -- the parts of a UTF-8 text that is cut there, as code points
