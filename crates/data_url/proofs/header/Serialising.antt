@@ -201,11 +201,8 @@ pub dropped_end : (s : List ℕ) (m n : ℕ) → m ≡ suffix_len is_tab_or_newl
 dropped_end s m n e at =
     let none : without_tabs_and_newlines (drop (n + 1) s) ≡ [] =
     grind (arith, all_dropped, get_or-drop, suffix_passes, length-drop) in
-    cc (
-      cut_at s n (omega arith),
-      dropped_around (get_or s n 0) (suffix_stops is_tab_or_newline s m n e at) (take n s)
-          (drop (n + 1) s),
-    )
+    let stops = suffix_stops is_tab_or_newline s m n e at in
+    cc (cut_at s n (omega arith), dropped_around (get_or s n 0) stops (take n s) (drop (n + 1) s))
 
 -- if the last byte of a path that is not a tab or newline is not a space, the path has no last space
 pub has_other_end : (s : List ℕ) (m n : ℕ) → m ≡ suffix_len is_tab_or_newline s → length s ≡ (n + 1) + m
@@ -244,14 +241,10 @@ cut_at_query text n e = record {
   joined = sym (take-append-drop n text);
   path_ends = grind (arith, after_none, length-take, get_or-take, not-true, prefix_len_passes);
   query_begins = elim (cases_lt n (length text)) [
-    | inl l ↦ inr (
-      drop (n + 1) text,
-      cc (
-        drop_more text n 0 l,
-        eqb-true (get_or text n 0) 63 (not-false _
-            (rw e (prefix_len_stops is_no_question_mark text 0 (omega arith)))),
-      ),
-    )
+    | inl l ↦
+        let stops = prefix_len_stops is_no_question_mark text 0 (omega arith) in
+        let is : get_or text n 0 ≡ 63 = eqb-true (get_or text n 0) 63 (not-false _ (rw e stops)) in
+        inr (drop (n + 1) text, cc (drop_more text n 0 l))
     | inr l ↦ inl (drop_all n text l)
   ];
 }

@@ -266,10 +266,11 @@ stages_no_comma t rest b s h =
     cc (a, no_header t _ a (bytes_dropped rest (rest_bytes t rest b s)) (front_lacks rest h))
 
 -- the Standard accepts the scheme, a header, the first comma, and a tail, with their MIME type, body and fragment
-pub stages_accepted : (t rest header tail : List ℕ) → IsBytes (trimmed_text t) → IsSchemeAndRest (trimmed_text t) rest →
-    IsHeaderAndTail rest header tail → (flag : Bool) → flag ≡ has_base64_suffix (header_text (without_tabs_and_newlines
-    header)) → staged t ≡ Accepted (mime_text (header_text (without_tabs_and_newlines header))) (outcome flag
-    (plain_body tail)) (option_map (percent_encoding in_fragment_set) (fragment (without_tabs_and_newlines tail)))
+pub stages_accepted : (t rest header tail : List ℕ) → IsBytes (trimmed_text t) → IsSchemeAndRest (trimmed_text t) rest
+    → IsHeaderAndTail rest header tail → (flag : Bool)
+    → flag ≡ has_base64_suffix (header_text (without_tabs_and_newlines header))
+    → staged t ≡ Accepted (mime_text (header_text (without_tabs_and_newlines header))) (outcome flag (plain_body tail))
+    (option_map (percent_encoding in_fragment_set) (fragment (without_tabs_and_newlines tail)))
 unfolding staged plain_body
 stages_accepted t rest header tail b s h flag f =
     let a = is_accepted t rest header tail (rest_bytes t rest b s) s h in

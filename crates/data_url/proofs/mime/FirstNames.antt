@@ -185,9 +185,10 @@ pub few_names : (n : List ℕ) (pairs : List Pair) → length pairs ≤ LOOKED_T
 few_names n pairs l = ap (has_name n) (drop_of_length-le pairs l)
 
 -- if a new pair comes after the first pairs, and its name is put into the set, the set has the names of the later pairs
-pub later_names : {A : Type 0} (later later' : BTreeSet (String A)) (pairs : List Pair) (p : Pair) (name : String A) →
-    LOOKED_THROUGH ≤ length pairs → HasLaterNames later pairs → string_bytes name ≡ p.0 → UpdatesBy string_cmp (λ k.
-    slice_cmp nat_cmp (string_bytes name) (string_bytes k)) later later' true → HasLaterNames later' (pairs ++ (p ∷ []))
+pub later_names : {A : Type 0} (later later' : BTreeSet (String A)) (pairs : List Pair) (p : Pair) (name : String A)
+    → LOOKED_THROUGH ≤ length pairs → HasLaterNames later pairs → string_bytes name ≡ p.0
+    → UpdatesBy string_cmp (λ k. slice_cmp nat_cmp (string_bytes name) (string_bytes k)) later later' true
+    → HasLaterNames later' (pairs ++ (p ∷ []))
 later_names later later' pairs p name l h e u n =
     let updated = btree_set_updates_text (string_bytes name) later later' true u n in
     let choice : cond (bytes_eq (string_bytes name) n) true (contains_text later n)

@@ -333,18 +333,13 @@ put_more p s i room at row room' m l within r n h =
     let width = slice_index row 3 in
     let short : width ≤ 3 = grind arith in
     let one : encoded p (get_or s i 0 ∷ []) ≡ byte_encoding p (get_or s i 0) =
-    cc (written_first p (get_or s i 0) [], encoded_empty p, append-nil (byte_encoding p (get_or s i 0))) in
-    record {
-      few = omega (arith, m.few);
-      long = n;
-      wrote = cc (
-        take-take (at + width) (at + 4) room' (omega arith),
-        take-append-add (take at room) row width,
-        length-take-le at room (omega (arith, m.long)),
-        take_more s i 0 l,
-        encoded-append p (take i s) (get_or s i 0 ∷ []),
-      );
-    }
+    grind (arith, written_first, encoded_empty, append-nil) in
+    let len = length-take-le at room (omega (arith, m.long)) in
+    let more = take_more s i 0 l in
+    let all = encoded-append p (take i s) (get_or s i 0 ∷ []) in
+    let front = take-take (at + width) (at + 4) room' (omega arith) in
+    let seam = take-append-add (take at room) row width in
+    record { few = omega (arith, m.few); long = n; wrote = cc }
 
 -- a text whose bytes are all below 128 is ASCII
 pub ascii_all : (s : List ℕ) → list_all (λ c. nat_lt c 128) s ≡ true → IsAscii s
