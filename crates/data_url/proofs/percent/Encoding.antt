@@ -73,13 +73,9 @@ set_no_hex b l h = not-true (is_ascii_hexdigit b)
 set_other : (b c : ℕ) → in_query_set c ≡ false → in_query_set b ≡ true → (b == c) ≡ false
 set_other b c e h = grind (arith, ne_eqb, both_ways)
 
--- the value of the hexadecimal digit of a number below 16 is that number
-hex_digit_value : (d : ℕ) → d < 16 → digit_value (hex_digit d) ≡ d
-hex_digit_value d l = grind arith
-
--- the upper-case hexadecimal digit of a number below 16 is a hexadecimal digit
-hex_digit_hex : (d : ℕ) → d < 16 → is_ascii_hexdigit (hex_digit d) ≡ true
-hex_digit_hex d l = grind (arith, agree_below_at)
+-- the upper-case hexadecimal digit of a number below 16 is a hexadecimal digit with that value
+hex_digit_is : (d : ℕ) → d < 16 → (digit_value (hex_digit d) ≡ d) × (is_ascii_hexdigit (hex_digit d) ≡ true)
+hex_digit_is d l = grind (arith, agree_below_at)
 
 -- the text begins with two hexadecimal digits
 abbrev pub two_digits : List ℕ → Bool
@@ -104,7 +100,7 @@ decoded_escape b c s h k = grind arith
 -- the two digits of a byte are decoded to the byte
 decoded_written : (b : ℕ) (x : List ℕ) → b < 256 → percent_decoding (37 ∷ hex_digit (b / 16) ∷ hex_digit (b % 16) ∷ x)
     ≡ b ∷ percent_decoding x
-decoded_written b x l = grind (arith, decoded_escape, hex_digit_hex, hex_digit_value)
+decoded_written b x l = grind (arith, decoded_escape, hex_digit_is)
 
 -- percent-encoding bytes of the query's set does not change whether a text begins with two hexadecimal digits
 same_digits : {s x : List ℕ} → Recoded s x → two_digits x ≡ two_digits s

@@ -4,6 +4,7 @@ use Rattle.std.proofs.Common.{None, Some, refl, ap, ◌∙◌, arith, eqb-true, 
 use Rattle.std.specs.Prelude.{◌==◌}
 use Rattle.std.proofs.lemmas.Bool.{cases_Bool, cond-true, cond-false}
 use Rattle.std.specs.Option.{option_map}
+use Rattle.data_url.proofs.runs.Runs.{none_or_some}
 use Rattle.data_url.specs.Url.{before, after, without_tabs_and_newlines, fragment, is_tab_or_newline}
 
 -- a text that begins with c has no bytes before its first c
@@ -128,14 +129,8 @@ pub after_dropped : (c : ℕ) → is_tab_or_newline c ≡ false → (s rest : Li
     → after c (without_tabs_and_newlines s) ≡ Some (without_tabs_and_newlines rest)
 after_dropped c k s rest h = grind (arith, is_cut c s rest h, dropped_around, after_at, after-dropped_none)
 
--- if o is what follows the first '#', the fragment of the text without tabs and newlines is o without them
-fragment_cases : (tail : List ℕ) (o : Option (List ℕ)) → after 35 tail ≡ o
-    → fragment (without_tabs_and_newlines tail) ≡ option_map without_tabs_and_newlines o
-unfolding fragment
-fragment_cases tail None h = after-dropped_none 35 refl tail h
-fragment_cases tail (Some rest) h = after_dropped 35 refl tail rest h
-
 -- tabs and newlines can be dropped before the fragment is cut off, or after
 pub fragment_dropped : (tail : List ℕ)
     → fragment (without_tabs_and_newlines tail) ≡ option_map without_tabs_and_newlines (after 35 tail)
-fragment_dropped tail = fragment_cases tail (after 35 tail) refl
+unfolding fragment
+fragment_dropped tail = grind (arith, none_or_some (after 35 tail), after_dropped 35 refl tail, after-dropped_none)
