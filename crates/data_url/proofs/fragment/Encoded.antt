@@ -13,8 +13,7 @@ use Rattle.data_url.proofs.texts.Bytes.{dropped_keeps, dropped_nil, fragment_dro
 use Rattle.data_url.proofs.forgiving_base64.Padding.{first_fault_least, padding_fits}
 use Rattle.data_url.proofs.header.Serialising.{flag_of_spaces, no_last_space}
 use Rattle.data_url.proofs.header.Stages.{bytes_by_place, bytes_dropped}
-use Rattle.data_url.proofs.mime.RoundTrips.{same_seen, seen_same}
-use Rattle.data_url.proofs.mime.RoundTrips.{printed_only, printed_parses, printed_same}
+use Rattle.data_url.proofs.mime.RoundTrips.{same_seen, seen_same, printed_only, printed_parses, printed_same}
 
 -- an encoded fragment can have each upper-case hexadecimal digit
 digit_byte : (d : ℕ) → d < 16 → is_fragment_byte (hex_digit d) ≡ true

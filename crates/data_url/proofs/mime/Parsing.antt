@@ -69,8 +69,7 @@ value_if (c ∷ v) = grind arith
 module _ {text bytes : List ℕ} {q more : ℕ} (u : IsUtf8 text) (e : bytes ≡ text)
     (f : q ≡ prefix_len is_unquoted_byte bytes) (g : more ≡ prefix_len in_value (take (length bytes - q)
     (drop q bytes))) where
-  -- the longest prefix without ';' is the longest one of unquoted bytes, and then the longest one without ';' of the
-  -- rest
+  -- the longest prefix without ';' is the longest one of unquoted bytes, and then that without ';' of the rest
   front_len : q + more ≡ prefix_len in_value text
   front_len = grind (arith, take_rest, front_further, prefix_len-le-length, prefix_len_passes)
 
@@ -85,14 +84,7 @@ module _ {text bytes : List ℕ} {q more : ℕ} (u : IsUtf8 text) (e : bytes ≡
     quotable_if : list_all is_quotable (chars t) ≡ nat_le (length t) q
     quotable_if =
         let n = front_len in
-        let few : length t ≤ q + more = omega (
-          arith,
-          ap length k,
-          ap length h,
-          length-take
-              (length t) front,
-          length-take (q + more) text,
-        ) in
+        let few : length t ≤ q + more = grind (arith, length-take) in
         let t_is : t ≡ take (length t) text = cc (take-take (length t) (q + more) text few) in
         cc (quotable_chars t w, quotable_front text (length t) (omega arith))
 
@@ -122,8 +114,7 @@ unescaped_quotable false (c ∷ s) = grind (arith, unescaped_quotable false s, u
 -- the value of a quoted string is quotable exactly if the longest prefix of quotable bytes is the whole text
 pub quotable_by : (bs : List ℕ) → IsUtf8 bs
     → list_all is_quotable (unescaped false (chars bs)) ≡ (prefix_len is_quotable_byte bs == length bs)
-quotable_by bs u =
-    cc (unescaped_quotable false (chars bs), quotable_chars bs u, whole_front is_quotable_byte bs)
+quotable_by bs u = cc (unescaped_quotable false (chars bs), quotable_chars bs u, whole_front is_quotable_byte bs)
 
 -- if a class is steady, and each byte of a UTF-8 text passes, so does each of its code points
 pub whole_passes : (p : ℕ → Bool) → IsSteady p → (bs bytes : List ℕ) (n : ℕ) → IsUtf8 bs → bytes ≡ bs
@@ -147,8 +138,7 @@ copied v q bytes n u e f g h = grind (arith, whole_passes, unescaped_steady, sta
 -- the encoding of a Unicode scalar value, after a UTF-8 text, adds its code point to those of the text
 chars_push : (v : List ℕ) (c : ℕ) → IsUtf8 v → IsScalar c → chars (v ++ encode c) ≡ chars v ++ (c ∷ [])
 chars_push v c u s =
-    let one = chars_past_char (encode c) [] c (IsUtf8-encode c s) (sym (append-nil (encode c))) in
-    cc (chars-append v (encode c) u, one, chars-nil)
+    grind (arith, chars_past_char (encode c) [] c (IsUtf8-encode c s), append-nil, chars-append, chars-nil)
 
 -- if nothing is written, the value of the whole text is left
 pub unescape_starts : (v r q : List ℕ) → v ≡ [] → r ≡ q
@@ -167,9 +157,8 @@ module _ (r r' v : List ℕ) {c : ℕ} {e : Bool} {whole : List ℕ} (u : IsUtf8
   unescape_pushes v' w g k = grind (arith, chars_past_char, cons_from_encodes, chars_push, append_assoc)
 
 -- if nothing is left, a '\' that would escape the next code point is a part of the value
-pub unescape_ends : (r v : List ℕ) {e : Bool} {whole : List ℕ} → length r ≡ 0
-    → chars v ++ unescaped e (chars r) ≡ whole → (e ≡ false → chars v ≡ whole)
-    × ((v' : List ℕ) → IsUtf8 v → e ≡ true → v' ≡ v ++ encode 92 → chars v' ≡ whole)
+pub unescape_ends : (r v : List ℕ) {e : Bool} {whole : List ℕ} → length r ≡ 0 → chars v ++ unescaped e (chars r) ≡ whole
+    → (e ≡ false → chars v ≡ whole) × ((v' : List ℕ) → IsUtf8 v → e ≡ true → v' ≡ v ++ encode 92 → chars v' ≡ whole)
 unescape_ends r v l h = grind (arith, append-nil, no_chars, chars_push)
 
 -- the lemmas for `read_plain`
@@ -184,10 +173,7 @@ has_mark bs rest c n u h e = grind (arith, chars_past_char bs (drop n bs) c u h.
 pub no_mark : (cs : List ℕ) (c : ℕ) → ((rest : List ℕ) → encode_utf8_all cs ≡ encode_utf8 c ++ rest → ⊥)
     → after_mark c cs ≡ None
 no_mark [] c n = refl
-no_mark (b ∷ cs) c n = elim (b == c) as (λ v. (b == c) ≡ v → cond v (Some cs) None ≡ None) [
-  | true ↦ λ e. absurd (n (encode_utf8_all cs) (ap (λ x. encode_utf8 x ++ encode_utf8_all cs) (eqb-true b c e)))
-  | false ↦ λ e. refl
-] refl
+no_mark (b ∷ cs) c n = grind (arith, eqb-true, n (encode_utf8_all cs))
 
 -- if a text is not empty and does not begin with ';', it does not begin parameters
 not_begins : (s : List ℕ) → after_mark 59 s ≡ None → (length s == 0) ≡ false → BeginsParameters s → ⊥
@@ -247,16 +233,7 @@ module _ {s t a x : List ℕ} (first : IsTokens t a x) (e : t ≡ trimmed_of is_
       pub is_head : BeginsParameters (chars bs) → IsHead s a b (chars bs)
       is_head begins = record {
         gap = front_of is_http_whitespace z;
-        joined = cc (
-          take-append-drop (prefix_len is_token t) t,
-          take-append-drop (prefix_len is_token y) y,
-          take-append-drop (prefix_len is_http_whitespace z) z,
-          mark_is 47 x y slash,
-          first.front,
-          first.after,
-          second.front,
-          second.after,
-        );
+        joined = grind (arith, take-append-drop, mark_is);
         is_type = first.token;
         is_subtype = second.token;
         in_gap = front_passes is_http_whitespace z;
@@ -264,18 +241,16 @@ module _ {s t a x : List ℕ} (first : IsTokens t a x) (e : t ≡ trimmed_of is_
       }
 
 -- the pair that is read
-pair_by : (s name : List ℕ) {r : Reading} (value : Option (List ℕ)) → r ≡ reading_in s
-    → name ≡ front_of in_name (named s) → value ≡ quotable_value r.value
-    → pair_if (map to_ascii_lowercase name) value ≡ valid_of (item_in s)
+pair_by : (s name : List ℕ) {r : Reading} (value : Option (List ℕ)) → r ≡ reading_in s → name ≡ front_of in_name
+    (named s) → value ≡ quotable_value r.value → pair_if (map to_ascii_lowercase name) value ≡ valid_of (item_in s)
 pair_by s name value e n v = grind arith
 
 -- the pair and the rest that are read from a text that is cut after a name
-pub parameter_by : (s : List ℕ) {t bytes front after : List ℕ} {n : ℕ} {o : Option (List ℕ)} → IsUtf8 t
-    → n ≡ prefix_len in_name bytes → bytes ≡ t → front ≡ take n t → after ≡ drop n t → chars t ≡ named s
-    → after_mark 61 (chars after) ≡ o → (value : Option (List ℕ))
-    → value ≡ quotable_value (reading (chars after) o).value
-    → (pair_if (map to_ascii_lowercase (chars front)) value ≡ valid_of (item_in s))
-    × ((reading (chars after) o).rest ≡ (reading_in s).rest)
+pub parameter_by : (s : List ℕ) {t bytes front after : List ℕ} {n : ℕ} {o : Option (List ℕ)} → IsUtf8 t → n
+    ≡ prefix_len in_name bytes → bytes ≡ t → front ≡ take n t → after ≡ drop n t → chars t ≡ named s
+    → after_mark 61 (chars after) ≡ o → (value : Option (List ℕ)) → value
+    ≡ quotable_value (reading (chars after) o).value → (pair_if (map to_ascii_lowercase (chars front)) value
+    ≡ valid_of (item_in s)) × ((reading (chars after) o).rest ≡ (reading_in s).rest)
 parameter_by s {front = front} {after = after} {o = o} u e f g h k m value v =
     let cut = cut_by names_steady u e f g h in
     let by : reading (chars after) o ≡ reading_in s = cc in
@@ -291,19 +266,14 @@ pub ends_after : (p : ℕ → _) (c : ℕ) (t : List ℕ) → p c ≡ false → 
 ends_after p c [] n h = n
 ends_after p c (d ∷ t) n h = h
 
--- if s is empty or begins with ';', "text/plain" ++ s has the type "text", the subtype "plain" and, as the text of its
--- parameters, s without HTTP whitespace at its end
+-- if s is empty or begins with ';', the parts of "text/plain" ++ s are "text", "plain" and s without its whitespace end
 pub plain_head_is : (s t : List ℕ) → BeginsParameters s → IsTrimmedEnd is_http_whitespace s t
     → IsHead (codes "text/plain" ++ s) (chars (codes "text")) (chars (codes "plain")) t
 unfolding on_literals chars
 plain_head_is s t b e = record {
   gap = [];
-  joined = sym (trimmed_end_is is_http_whitespace (codes "text/plain" ++ s) (codes "text/plain" ++ t) (record {
-    back = e.back;
-    joined = ap (λ x. codes "text/plain" ++ x) e.joined;
-    at_back = e.at_back;
-    ends = ends_after is_http_whitespace 110 t refl e.ends;
-  }));
+  joined = sym (trimmed_end_is is_http_whitespace (codes "text/plain" ++ s) (codes "text/plain" ++ t)
+      (search (arith, e, ends_after)));
   is_type = refl;
   is_subtype = refl;
   in_gap = tt;

@@ -143,8 +143,7 @@ closed_reading q v w h =
 pub open_reading : (q v : List ℕ) → QuotedOpen q v → quoted_reading q ≡ record { value = Some v; rest = [] }
 open_reading q v h =
     let o = quoted_open q v h in
-    let d : drop (suc (length q)) q ≡ [] = drop_of_length-le q {i = suc (length q)} (omega arith) in
-    cc (o.0, o.1, d, take-length q)
+    cc (o.0, o.1, drop_of_length-le q {i = suc (length q)} (omega arith), take-length q)
 
 -- the text with a backslash before it if the flag is true
 abbrev pub flagged : Bool → List ℕ → List ℕ
@@ -202,16 +201,14 @@ quoted_encodes : (e : Bool) (cs : List ℕ)
     → quoted_len e (encode_utf8_all cs) ≡ length (encode_utf8_all (take (quoted_len e cs) cs))
 quoted_encodes e [] = refl
 quoted_encodes true (c ∷ cs) = grind (arith, quoted_char, encode_utf8_all, length-append, quoted_encodes false cs)
-quoted_encodes false (c ∷ cs) =
-    grind (arith, quoted_char, encode_utf8_all, encode, length-append, quoted_encodes (c == 92) cs)
+quoted_encodes false (c ∷ cs) = grind (arith, quoted_char, length-append, quoted_encodes (c == 92) cs)
 
 -- a UTF-8 text is cut at its closing quote where its code points are
 pub cut_quote : (bs : List ℕ) → IsUtf8 bs → IsCutInto bs (quoted_len false bs)
     (take (quoted_len false (chars bs)) (chars bs)) (drop (quoted_len false (chars bs)) (chars bs))
 cut_quote bs u =
     let n = quoted_len false (chars bs) in
-    cut_into bs (take n (chars bs)) (drop n (chars bs)) (quoted_len false bs) u
-    (sym (take-append-drop n (chars bs)))
+    cut_into bs (take n (chars bs)) (drop n (chars bs)) (quoted_len false bs) u (sym (take-append-drop n (chars bs)))
     (ap (quoted_len false) (sym (encodes-chars bs u)) ∙ quoted_encodes false (chars bs))
 
 module _ {bs : List ℕ} {i : ℕ} (u : IsUtf8 bs) (l : i < length bs) (g : get_or bs i 0 ≡ 34)
@@ -225,18 +222,14 @@ module _ {bs : List ℕ} {i : ℕ} (u : IsUtf8 bs) (l : i < length bs) (g : get_
   after_quote =
       let cut = cut_quote bs u in
       let text = IsUtf8-drop bs i u (IsCharBoundary-before_ascii bs i l (omega arith)) in
-      let first = chars_past_char (drop i bs) (drop (suc i) bs) 34 text (cc (
-        drop-cons bs i 0 l,
-        encode_ascii 34
-            (omega arith),
-      )) in
+      let first = chars_past_char (drop i bs) (drop (suc i) bs) 34 text
+      (grind (arith, drop-cons, encode_ascii)) in
       let n = quoted_len false (chars bs) in
       cc (first, quote_at, cut.after, drop-drop 1 n (chars bs), add-one i, add-one n)
 
 -- if the search reaches the end of a text, there is no closing quote
 pub no_quote : {bs bytes : List ℕ} {i : ℕ} (e : Bool) → IsUtf8 bs → bytes ≡ bs → length bytes ≤ i
-    → i + quoted_len e (drop i bs) ≡ quoted_len false bs
-    → (chars bs ≡ take (quoted_len false (chars bs)) (chars bs))
+    → i + quoted_len e (drop i bs) ≡ quoted_len false bs → (chars bs ≡ take (quoted_len false (chars bs)) (chars bs))
     × (chars [] ≡ drop (suc (quoted_len false (chars bs))) (chars bs))
 no_quote {bs} {bytes} {i} e u b l h =
     let none : drop i bs ≡ [] = drop_of_length-le bs {i = i} (omega (arith, ap length b)) in

@@ -5,11 +5,8 @@ use Rattle.data_url.specs.Fetch.{with_plain}
 use Rattle.data_url.specs.Mime.{HasNoRecord}
 use Rattle.data_url.specs.MimeType.{record_of}
 use Rattle.data_url.proofs.mime.FirstNames.{no_record}
-use Rattle.data_url.proofs.header.Stages.{begins_at, chars_printable, default_for, parts_for, plain_added, plain_stays}
+use Rattle.data_url.proofs.header.Stages.{default_for, parts_for, plain_added, plain_stays}
 use Rattle.data_url.proofs.header.read_media.Goals as goal
-
-pub plain_head-requires : goal.plain_head-requires
-plain_head-requires c = grind (arith, chars_printable, begins_at)
 
 pub returns-then-starts_with : goal.returns-then-starts_with
 returns-then-starts_with c =

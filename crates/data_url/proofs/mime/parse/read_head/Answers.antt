@@ -9,9 +9,8 @@ returns-in_err-after_mark c =
     rw c.from_residual-in_err-after_mark.ensures (no_slash c.in_ok-type_.ensures (cc) c.in_err-after_mark.ensures)
 
 pub returns-in_err-subtype : goal.returns-in_err-subtype
-returns-in_err-subtype c =
-    rw c.from_residual-in_err-subtype.ensures (no_subtype c.in_ok-type_.ensures (cc) _ c.in_ok-after_mark.ensures
-    c.in_err-subtype.ensures)
+returns-in_err-subtype c = rw c.from_residual-in_err-subtype.ensures (no_subtype c.in_ok-type_.ensures
+    (cc) _ c.in_ok-after_mark.ensures c.in_err-subtype.ensures)
 
 pub returns-in_err-after_mark-2 : goal.returns-in_err-after_mark-2
 returns-in_err-after_mark-2 c =
