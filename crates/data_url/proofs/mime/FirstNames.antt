@@ -1,41 +1,28 @@
 -- Which parameters are kept: the first of each name. For `kept.rt`, and that a record is well formed.
-use Rattle.std.proofs.Common.{◌≡◌, ℕ, List, String, ap, length, map, min, sym, take, ◌∙◌, ◌<◌, ◌||◌, ◌&&◌, Bool, true}
+use Rattle.std.proofs.Common.{drop-cons, add-one, ◌+◌, append_assoc, append-nil, arith, ◌≤◌, not, string_bytes, ◌⊎◌}
 use Rattle.std.proofs.Common.{false, cond, [], ◌∷◌, ◌++◌, get_or, drop, Option, None, Some, refl, ap₂, subst, Global}
-use Rattle.std.proofs.Common.{drop-cons, add-one, ◌+◌, append_assoc, append-nil, arith, ◌≤◌, not}
-use Rattle.std.proofs.Common.{string_bytes, ◌⊎◌}
-use Rattle.std.proofs.lemmas.List.{length-map, take-map, take_min, get_or-take, length-take, map-append, drop-append-le}
-use Rattle.std.proofs.lemmas.List.{length-append, take-append-drop}
+use Rattle.std.proofs.Common.{get_or-take, length-take, length-append, take-append-drop, Decides}
+use Rattle.std.proofs.Common.{◌≡◌, ℕ, List, String, ap, length, map, min, sym, take, ◌∙◌, ◌<◌, ◌||◌, ◌&&◌, Bool, true}
+use Rattle.std.{proofs.Math.ListN.{drop_of_length-le}, proofs.lemmas.Map.Text.{btree_set_updates_text}}
+use Rattle.std.proofs.lemmas.Bool.{cond-true, not-false, not-true, agree_below_at, and_from, and_parts, cases_lt}
+use Rattle.std.{proofs.lemmas.Bool.{cond_both, false_from_ne_true}, proofs.lemmas.Bool.Decides.{same_from_decides}}
+use Rattle.std.proofs.lemmas.List.Folds.{list_all-append, list_all-map, list_all_at, list_any-append}
+use Rattle.std.proofs.lemmas.List.{length-map, take-map, take_min, map-append, drop-append-le}
+use Rattle.std.{proofs.lemmas.Slice.Eq.{bytes_eq-Decides}, specs.List.{list_all}, specs.Ordering.{nat_cmp}}
+use Rattle.std.proofs.lemmas.Str.Ascii.{IsAscii-map, lowercase-lowercase, lowercase_ascii, lowercase_is}
+use Rattle.std.{proofs.lemmas.Str.{chars-IsAscii, chars-nil, IsUtf8-string_bytes}, specs.Char.{to_ascii_lowercase}}
+use Rattle.std.specs.BTreeSet.{BTreeSet, UpdatesBy, contains, contains_text}
+use Rattle.std.{specs.Cmp.Lexicographic.{slice_cmp}, specs.Str.{IsUtf8, bytes_eq, chars}, specs.String.{string_cmp}}
+use Rattle.data_url.specs.{CodePoints.{is_quotable, is_token}, declared.mime.kept.TheConstants.{LOOKED_THROUGH}}
+use Rattle.data_url.specs.{Mime.{Parses, Record, has_distinct_names, IsRecordOfParts}, MimeType.{pair_of, code_points}}
 use Rattle.data_url.specs.Mime.{has_name, BeginsParameters, Item, Items, Pair, first_of_each_name, is_lowercase_name}
 use Rattle.data_url.specs.Mime.{is_token_text, kept_pairs, valid_of, valid_pairs, HasNoRecord, IsHead, IsWellformed}
-use Rattle.data_url.specs.Mime.{Parses, Record, has_distinct_names, IsRecordOfParts}
-use Rattle.data_url.specs.MimeType.{pair_of, code_points}
 use Rattle.data_url.specs.Steps.Kept.{first_of, pairs_of, HasLaterNames, IsIndexed}
-use Rattle.data_url.specs.declared.mime.kept.KeptParameters.{KeptParameters}
-use Rattle.data_url.specs.declared.mime.kept.TheConstants.{LOOKED_THROUGH}
-use Rattle.std.proofs.lemmas.Bool.{cond-true, not-false, not-true, agree_below_at, and_from, and_parts, cases_lt}
-use Rattle.std.proofs.lemmas.Bool.{cond_both, false_from_ne_true}
-use Rattle.std.proofs.lemmas.List.Folds.{list_all-append, list_all-map, list_all_at, list_any-append}
-use Rattle.std.proofs.lemmas.Slice.Eq.{bytes_eq-Decides}
-use Rattle.std.proofs.lemmas.Str.{chars-IsAscii, chars-nil, IsUtf8-string_bytes}
-use Rattle.std.proofs.lemmas.Str.Ascii.{IsAscii-map, lowercase-lowercase, lowercase_ascii, lowercase_is}
-use Rattle.std.proofs.lemmas.Bool.Decides.{same_from_decides}
-use Rattle.std.specs.Prelude.{Decides}
-use Rattle.std.specs.Char.{to_ascii_lowercase}
-use Rattle.std.specs.List.{list_all}
-use Rattle.std.specs.Str.{IsUtf8, bytes_eq, chars}
-use Rattle.data_url.specs.CodePoints.{is_quotable, is_token}
 use Rattle.data_url.specs.Steps.Parsing.{HasLowercaseNames, added_pairs, after_mark, item_in, pair_if, reading_in}
-use Rattle.data_url.specs.Steps.Parsing.{unless_named, HasNoHead}
-use Rattle.data_url.proofs.mime.Parsing.{mark_is}
-use Rattle.data_url.proofs.mime.TokenTexts.{bytes_of_ascii, token_text_ascii, token_text_chars}
-use Rattle.std.proofs.lemmas.Map.Text.{btree_set_updates_text}
-use Rattle.std.proofs.Math.ListN.{drop_of_length-le}
-use Rattle.std.specs.BTreeSet.{BTreeSet, UpdatesBy, contains, contains_text}
-use Rattle.std.specs.Cmp.Lexicographic.{slice_cmp}
-use Rattle.std.specs.Ordering.{nat_cmp}
-use Rattle.std.specs.String.{string_cmp}
+use Rattle.data_url.specs.{Steps.Parsing.{unless_named, HasNoHead}, declared.mime.kept.KeptParameters.{KeptParameters}}
 use Rattle.data_url.proofs.mime.Items.{has_items, has_parameter, items_are, items_in, rest_shorter}
-use Rattle.data_url.proofs.texts.CodePoints.{no_chars}
+use Rattle.data_url.proofs.{mime.Parsing.{mark_is}, texts.CodePoints.{no_chars}}
+use Rattle.data_url.proofs.mime.TokenTexts.{bytes_of_ascii, token_text_ascii, token_text_chars}
 
 -- the pairs that are searched one by one are the first ones
 pub among_first : (n : List ℕ) (items : List (String _ × String _)) (kept : KeptParameters) (k : ℕ)

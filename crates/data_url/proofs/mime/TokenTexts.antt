@@ -1,23 +1,19 @@
 -- Texts of token code points, and quoted strings. For `tokens.rt`, `values.rt` and `split_quote`.
-use Rattle.std.proofs.Common.{◌-◌, ◌≡◌, ℕ, ◌<◌, ◌≤◌, ◌==◌, ◌&&◌, nat_lt, codes, true, false, not, List, [], ◌∷◌, length}
-use Rattle.std.proofs.Common.{refl, sym, ap, subst, Bool, ◌∙◌, arith, take, drop, length-take-le, ◌+◌, cond, ◌++◌}
 use Rattle.std.proofs.Common.{append_assoc, append-nil, eqb-true, inl, inr, suc, get_or, encode_utf8_all}
-use Rattle.std.proofs.Common.{take-append-drop, drop-cons, add-one, drop_of_length-le, Some, nat_le}
+use Rattle.std.{proofs.Common.{drop-drop}, proofs.lemmas.Bool.{and_parts, and_from, cases_lt, eqb-false}}
+use Rattle.std.proofs.Common.{refl, sym, ap, subst, Bool, ◌∙◌, arith, take, drop, length-take-le, ◌+◌, cond, ◌++◌}
+use Rattle.std.proofs.Common.{take-append-drop, drop-cons, add-one, drop_of_length-le, Some, nat_le, length-append}
+use Rattle.std.proofs.Common.{◌-◌, ◌≡◌, ℕ, ◌<◌, ◌≤◌, ◌==◌, ◌&&◌, nat_lt, codes, true, false, not, List, [], ◌∷◌, length}
+use Rattle.std.{proofs.Math.Seq.{take-append_seam, take-length, drop-append-add}, specs.Str.{IsAscii, IsUtf8, chars}}
+use Rattle.std.{proofs.lemmas.List.Sums.{prefix_len-le-length}, specs.List.{list_all, list_any, prefix_len, suffix_len}}
 use Rattle.std.proofs.lemmas.Str.{chars-IsAscii, encodes-IsAscii, encodes-chars, chars-nil, chars_past_char}
 use Rattle.std.proofs.lemmas.Str.{encode_ascii, IsUtf8-drop, IsCharBoundary-before_ascii, IsCharBoundary-after_ascii}
-use Rattle.std.proofs.lemmas.Bool.{and_parts, and_from, cases_lt, eqb-false}
-use Rattle.std.proofs.lemmas.List.Sums.{prefix_len-le-length}
-use Rattle.std.specs.List.{list_all, list_any, prefix_len, suffix_len}
-use Rattle.std.specs.Str.{IsAscii, IsUtf8, chars}
-use Rattle.data_url.specs.CodePoints.{is_http_whitespace, is_token}
+use Rattle.data_url.specs.{CodePoints.{is_http_whitespace, is_token}, Url.{without_front}}
 use Rattle.data_url.specs.Mime.{Every, is_token_text, Quoted, QuotedOpen, after_backslash, nothing_quoted, as_itself}
 use Rattle.data_url.specs.Steps.Parsing.{IsTokens, in_name, in_value, quoted_len, quoted_reading, unescaped}
 use Rattle.data_url.proofs.texts.CodePoints.{IsCutInto, IsEnd, IsSteady, cut_end, cut_front, every_ascii, front_passes}
 use Rattle.data_url.proofs.texts.CodePoints.{cut_into}
-use Rattle.std.proofs.lemmas.List.{length-append, drop-drop}
-use Rattle.std.proofs.Math.Seq.{take-append_seam, take-length, drop-append-add}
 use lib.Utf8.{encode}
-use Rattle.data_url.specs.Url.{without_front}
 
 -- a code point that is not ASCII is none of some ASCII marks
 any_other : (c : ℕ) (marks : List ℕ) → list_all (λ m. nat_lt m 128) marks ≡ true → 128 ≤ c

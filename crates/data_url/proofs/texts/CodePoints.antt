@@ -1,21 +1,16 @@
 -- Texts of code points, cut at the first code point that does not pass, and where their bytes can be cut.
-use Rattle.std.proofs.Common.{◌≡◌, ℕ, ◌≤◌, ◌<◌, ◌+◌, ◌-◌, Bool, true, false, cond, List, [], ◌∷◌, ◌++◌, length, take}
+use Rattle.std.{proofs.Common.{append-nil, ◌==◌, take-append-drop, length-append}, specs.List.{prefix_len, suffix_len}}
 use Rattle.std.proofs.Common.{drop, refl, one-add, subst, sym, ap, ◌∙◌, arith, zero, suc, get_or, encode_utf8_all}
-use Rattle.std.proofs.Common.{append-nil, ◌==◌}
-use Rattle.std.specs.List.{prefix_len, suffix_len}
-use Rattle.std.specs.Str.{chars, IsCharBoundary, IsUtf8, all_scalars, IsAscii}
-use lib.Utf8.{encode}
-use mathlib.Core.List.{reverse_aux}
-use Rattle.std.proofs.Math.Seq.{take-append_seam, drop-append_seam}
-use Rattle.std.proofs.lemmas.List.{take-append-drop, length-append}
+use Rattle.std.proofs.Common.{◌≡◌, ℕ, ◌≤◌, ◌<◌, ◌+◌, ◌-◌, Bool, true, false, cond, List, [], ◌∷◌, ◌++◌, length, take}
+use Rattle.std.{proofs.Math.Seq.{take-append_seam, drop-append_seam}, proofs.lemmas.List.Sums.{suffix_len-le-length}}
+use Rattle.std.{proofs.lemmas.Str.Ascii.{IsAscii-nil}, specs.Str.{chars, IsCharBoundary, IsUtf8, all_scalars, IsAscii}}
+use Rattle.std.proofs.lemmas.Str.{IsUtf8-take, chars-append}
 use Rattle.std.proofs.lemmas.Str.{chars-encodes, encodes-append, encodes-chars, IsCharBoundary-at_seam, scalars-chars}
 use Rattle.std.proofs.lemmas.Str.{encode_ascii, chars-nil, length-le-encodes, chars-IsAscii, IsUtf8-from_ascii}
-use Rattle.std.proofs.lemmas.Str.{IsUtf8-take, chars-append}
-use Rattle.std.proofs.lemmas.Str.Ascii.{IsAscii-nil}
-use Rattle.data_url.specs.Mime.{DoesNotBegin, DoesNotEnd, Every}
-use Rattle.data_url.specs.Steps.Parsing.{IsTrimmedEnd, front_of}
-use Rattle.std.proofs.lemmas.List.Sums.{suffix_len-le-length}
+use Rattle.data_url.specs.{Mime.{DoesNotBegin, DoesNotEnd, Every}, Steps.Parsing.{IsTrimmedEnd, front_of}}
 use Rattle.data_url.specs.Url.{is_c0_control_or_space, without_end, without_front}
+use lib.Utf8.{encode}
+use mathlib.Core.List.{reverse_aux}
 
 -- if all of a passes, and b does not begin with a code point that passes, a is the longest prefix of a ++ b that passes
 pub front_len : (p : ℕ → Bool) (a b : List ℕ) → Every p a → DoesNotBegin p b → prefix_len p (a ++ b) ≡ length a

@@ -1,8 +1,6 @@
 -- What was added and what is left to add are together the whole text.
 use Rattle.std.proofs.Common.{drop, encode_utf8_all}
-use Rattle.data_url.specs.Mime.{printed}
-use Rattle.data_url.specs.MimeType.{record_of}
-use Rattle.data_url.specs.Steps.Printing.{IsHeld}
+use Rattle.data_url.specs.{Mime.{printed}, MimeType.{record_of}, Steps.Printing.{IsHeld}}
 use Rattle.data_url.proofs.mime.RoundTrips.{Prints, pairs_text}
 use Rattle.data_url.proofs.mime.MimeDisplay.fmt.Given as goal
 

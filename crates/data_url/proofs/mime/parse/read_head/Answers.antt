@@ -1,7 +1,5 @@
-use Rattle.std.proofs.Common.{◌≡◌, ◌==◌, arith, false, length}
-use Rattle.data_url.proofs.texts.CodePoints.{same_empty}
-use Rattle.std.specs.Str.{chars}
-use Rattle.data_url.proofs.mime.Parsing.{no_parameters, no_slash, no_subtype}
+use Rattle.std.{proofs.Common.{◌≡◌, ◌==◌, arith, false, length}, specs.Str.{chars}}
+use Rattle.data_url.proofs.{mime.Parsing.{no_parameters, no_slash, no_subtype}, texts.CodePoints.{same_empty}}
 use Rattle.data_url.proofs.mime.parse.read_head.Goals as goal
 
 pub returns-in_err-after_mark : goal.returns-in_err-after_mark

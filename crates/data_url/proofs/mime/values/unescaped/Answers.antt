@@ -1,6 +1,5 @@
-use Rattle.std.proofs.Common.{ap, string_bytes, ◌∙◌}
+use Rattle.std.{proofs.Common.{ap, string_bytes, ◌∙◌}, proofs.lemmas.Str.{IsUtf8-past_char, IsUtf8-string_bytes}}
 use Rattle.std.proofs.lemmas.Result.{IfOk-weaker}
-use Rattle.std.proofs.lemmas.Str.{IsUtf8-past_char, IsUtf8-string_bytes}
 use Rattle.data_url.specs.MimeType.{code_points}
 use Rattle.data_url.proofs.mime.Parsing.{copied, unescape_ends, unescape_pushes, unescape_skips}
 use Rattle.data_url.proofs.mime.values.unescaped.Goals.{then-escaped+in_ok-push-2, else-escaped}
